@@ -1,0 +1,15 @@
+-- The definitions of document 01, in reading order.
+pub mod Numbers
+pub mod Basics
+pub mod Text
+pub mod Encoding
+pub mod Structure
+pub mod Scope
+pub mod Check
+pub mod Table
+pub mod Copy
+pub mod Machine
+pub mod Sheet
+pub mod Call
+pub mod Evaluation
+pub mod Samples

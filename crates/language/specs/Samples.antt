@@ -1,0 +1,172 @@
+-- Sample scripts: those that document 01 marks *, and a few for rules that none of them would miss, in one table.
+-- `samples-hold` is the claim about all of them, for each engine; `computed-once` is the test that is computed.
+use Prim.Native.Nat.{ℕ, zero, suc, _+_, _-_, _*_, _/_, _<_}
+use native.Mathlib.Nat.{not-suc-le-zero, le-of-suc-le-suc}
+use mathlib.Core.Path.{_≡_, refl}
+use mathlib.Core.List.{List, [], _∷_, _++_, map, head-eq-of-cons-eq, tail-eq-of-cons-eq}
+use lib.IntN.{ℤ, pos, negsuc}
+use lib.ListN.{length, getD, replicate}
+use Rattle.language.specs.Encoding.{bytesOf, BK-mark, VR-mark, LB-mark, PR-mark, FM-mark, CL-mark, GO-mark, IF-mark, KN-mark, AR-mark, AD-mark, RM-mark, QY-mark}
+use Rattle.language.specs.Table.{Table}
+use Rattle.language.specs.Call.{Fed, Reply, Engine, copying, chain, display, reply}
+use Rattle.language.specs.Evaluation.{computed}
+use Rattle.language.specs.declared.Stop.the-variants.{ResultTooLarge, NoActivationLeft, NumberBelowOne, GroupFull, TableFull, ArgumentsDiffer}
+use Rattle.language.specs.declared.Refusal.the-variants.{ScriptLength, FieldRange, NameTwice, LimitRange, AreaTooShort, TableNotRight}
+use Rattle.language.specs.declared.End.{End}
+use Rattle.language.specs.declared.End.the-variants.{Finished, Spent, Stopped, Refused}
+use Rattle.language.specs.declared.Answer.{Answer}
+
+-- A row: script, D, N, G, table and looked-up name; then end, steps, offset, pairs in use, designator, sheet and table words.
+pub record Sample : Type 0 where
+  pub script : List ℕ
+  pub activations : ℕ
+  pub allowance : ℕ
+  pub group : ℕ
+  pub table : Table
+  pub name : ℕ
+  pub end : End
+  pub steps : ℕ
+  pub offset : ℕ
+  pub pairs : ℕ
+  pub designator : ℕ
+  pub links : ℕ
+  pub sheet : List ℤ
+  pub words : List ℤ
+
+-- the tally handed in, and what the lent sheet holds before
+unfoldable pub lentTally : ℕ
+lentTally = 100
+
+unfoldable pub lentWord : ℤ
+lentWord = pos 7
+
+pub data Method : Type 0 where
+  by-copying by-chain by-display : Method
+
+-- each engine with just the area that it is due
+unfoldable pub engineOf : Method → Sample → Engine
+engineOf by-copying r = copying (r .activations * (length (r .script) / 2))
+engineOf by-chain r = chain (r .activations)
+engineOf by-display r = display
+
+unfoldable pub linksFor : Method → Sample → ℕ
+linksFor by-copying r = 0
+linksFor by-chain r = r .links
+linksFor by-display r = 0
+
+unfoldable pub got : Method → Sample → Reply
+got m r =
+    reply (engineOf m r)
+    (record { script = r .script; activations = r .activations; allowance = r .allowance; group = r .group; tally = lentTally; table = r .table; name = r .name; sheet = replicate (r .activations * 34) lentWord })
+
+unfoldable pub wanted : Method → Sample → Reply
+wanted m r =
+    record { answer = record { end = r .end; steps = r .steps; offset = r .offset; pairs = r .pairs; sheet = length (r .sheet); tally = lentTally + r .steps; designator = r .designator; links = linksFor m r }; sheet = r .sheet ++ replicate (r .activations * 34 - length (r .sheet)) lentWord; table = r .words }
+
+unfoldable pub noPairs : ℕ → List ℤ
+noPairs n = replicate (n * 2) (pos 0)
+
+-- KN's value as two fields, low first; the two ends of the 32-bit range
+unfoldable pub script-empty : List ℕ
+script-empty = []
+
+unfoldable pub script-null : List ℕ
+script-null = bytesOf (BK-mark ∷ 0 ∷ 0 ∷ [])
+
+unfoldable pub script-A : List ℕ
+script-A =
+    bytesOf (BK-mark ∷ 2 ∷ 3 ∷ VR-mark ∷ 1 ∷ VR-mark ∷ 2 ∷ KN-mark ∷ 1 ∷ 5 ∷ 0 ∷ KN-mark ∷ 2 ∷ 7 ∷ 0 ∷ AD-mark ∷ 1 ∷ 2 ∷ [])
+
+unfoldable pub script-B : List ℕ
+script-B =
+    bytesOf
+    (BK-mark ∷ 3 ∷ 1 ∷ VR-mark ∷ 1 ∷ PR-mark ∷ 2 ∷ 0 ∷ BK-mark ∷ 0 ∷ 0 ∷ PR-mark ∷ 3 ∷ 1 ∷ FM-mark ∷ 4 ∷ 2 ∷ BK-mark ∷ 3 ∷ 6 ∷ VR-mark ∷ 5 ∷ PR-mark ∷ 6 ∷ 0 ∷ BK-mark ∷ 0 ∷ 1 ∷ KN-mark ∷ 5 ∷ 9 ∷ 0 ∷ LB-mark ∷ 7 ∷ 5 ∷ IF-mark ∷ 1 ∷ 7 ∷ KN-mark ∷ 1 ∷ 1 ∷ 0 ∷ KN-mark ∷ 5 ∷ 1 ∷ 0 ∷ CL-mark ∷ 3 ∷ 1 ∷ 6 ∷ KN-mark ∷ 5 ∷ 2 ∷ 0 ∷ CL-mark ∷ 4 ∷ 0 ∷ CL-mark ∷ 3 ∷ 1 ∷ 2 ∷ [])
+
+-- variable 1 := a, variable 2 := b, variable 1 := 1 o 2; a and b as two fields each
+unfoldable pub script-arithmetic : ℕ → ℕ → ℕ → ℕ → ℕ → List ℕ
+script-arithmetic a a′ b b′ o =
+    bytesOf
+    (BK-mark ∷ 2 ∷ 3 ∷ VR-mark ∷ 1 ∷ VR-mark ∷ 2 ∷ KN-mark ∷ 1 ∷ a ∷ a′ ∷ KN-mark ∷ 2 ∷ b ∷ b′ ∷ AR-mark ∷ 1 ∷ o ∷ 1 ∷ 2 ∷ [])
+
+-- a block inside the program
+unfoldable pub script-nested : List ℕ
+script-nested = bytesOf (BK-mark ∷ 0 ∷ 1 ∷ BK-mark ∷ 0 ∷ 0 ∷ [])
+
+-- a label beyond the statements that is also declared twice: 4 goes before 8
+unfoldable pub script-order : List ℕ
+script-order = bytesOf (BK-mark ∷ 2 ∷ 1 ∷ VR-mark ∷ 1 ∷ LB-mark ∷ 1 ∷ 2 ∷ GO-mark ∷ 1 ∷ [])
+
+-- a goto out of two blocks, to the statement after the outer one
+unfoldable pub script-goto : List ℕ
+script-goto =
+    bytesOf (BK-mark ∷ 2 ∷ 2 ∷ LB-mark ∷ 1 ∷ 2 ∷ VR-mark ∷ 2 ∷ BK-mark ∷ 0 ∷ 1 ∷ BK-mark ∷ 0 ∷ 1 ∷ GO-mark ∷ 1 ∷ KN-mark ∷ 2 ∷ 5 ∷ 0 ∷ [])
+
+-- a procedure with two formals of the same names as two variables, called with them crossed: each formal reads as its argument
+unfoldable pub script-crossed : List ℕ
+script-crossed =
+    bytesOf (BK-mark ∷ 3 ∷ 1 ∷ VR-mark ∷ 1 ∷ VR-mark ∷ 2 ∷ PR-mark ∷ 3 ∷ 2 ∷ FM-mark ∷ 1 ∷ 0 ∷ FM-mark ∷ 2 ∷ 0 ∷ BK-mark ∷ 0 ∷ 1 ∷ KN-mark ∷ 1 ∷ 6 ∷ 0 ∷ CL-mark ∷ 3 ∷ 2 ∷ 2 ∷ 1 ∷ [])
+
+-- a call that runs to its end, or stops, from an empty table of eight pairs
+unfoldable pub ends-with : List ℕ → ℕ → End → ℕ → ℕ → List ℤ → Sample
+ends-with script d e n o ws =
+    record { script = script; activations = d; allowance = 1000; group = 3; table = record { words = noPairs 8; used = 0 }; name = 9; end = e; steps = n; offset = o; pairs = 0; designator = 0; links = 0; sheet = ws; words = noPairs 8 }
+
+-- script A with group limit, table and its count; what comes of it
+unfoldable pub of-A : ℕ → List ℤ → ℕ → End → ℕ → ℕ → ℕ → List ℤ → List ℤ → Sample
+of-A g table used e n o pairs ws table′ =
+    record { script = script-A; activations = 16; allowance = 1000; group = g; table = record { words = table; used = used }; name = 9; end = e; steps = n; offset = o; pairs = pairs; designator = 0; links = 0; sheet = ws; words = table′ }
+
+-- script A stopped at its AD, which stands at offset 30
+unfoldable pub A-stopped : List ℤ
+A-stopped = pos 0 ∷ pos 3 ∷ pos 5 ∷ pos 7 ∷ []
+
+-- a spent run, with the looked-up name
+unfoldable pub spent-at : List ℕ → ℕ → ℕ → ℕ → ℕ → List ℤ → Sample
+spent-at script n name designator links ws =
+    record { script = script; activations = 16; allowance = n; group = 3; table = record { words = noPairs 8; used = 0 }; name = name; end = Spent; steps = n; offset = 0; pairs = 0; designator = designator; links = links; sheet = ws; words = noPairs 8 }
+
+unfoldable pub samples : List Sample
+samples =
+    ends-with script-empty 16 (Refused ScriptLength) 0 0 [] ∷
+    ends-with script-null 16 Finished 1 0 [] ∷
+    spent-at script-null 0 9 0 0 (pos 0 ∷ pos 1 ∷ []) ∷
+    of-A 3 (noPairs 8) 0 Finished 4 0 1 [] (pos 5 ∷ pos 7 ∷ noPairs 7) ∷
+    of-A 1 (pos 5 ∷ pos 8 ∷ noPairs 7) 1 (Stopped GroupFull) 2 30 1 A-stopped (pos 5 ∷ pos 8 ∷ noPairs 7) ∷
+    of-A 2 (pos 5 ∷ pos 8 ∷ noPairs 7) 1 Finished 4 0 2 [] (pos 5 ∷ pos 8 ∷ pos 5 ∷ pos 7 ∷ noPairs 6) ∷
+    of-A 1 (pos 5 ∷ pos 7 ∷ noPairs 7) 1 Finished 4 0 1 [] (pos 5 ∷ pos 7 ∷ noPairs 7) ∷
+    of-A 1 (noPairs 8) 0 Finished 4 0 1 [] (pos 5 ∷ pos 7 ∷ noPairs 7) ∷
+    of-A 3 (pos 6 ∷ pos 1 ∷ []) 1 (Stopped TableFull) 2 30 1 A-stopped (pos 6 ∷ pos 1 ∷ []) ∷
+    of-A 3 (pos 6 ∷ pos 1 ∷ noPairs 1) 1 Finished 4 0 2 [] (pos 6 ∷ pos 1 ∷ pos 5 ∷ pos 7 ∷ []) ∷
+    of-A 3 (pos 6 ∷ pos 0 ∷ []) 1 (Refused TableNotRight) 0 0 1 [] (pos 6 ∷ pos 0 ∷ []) ∷
+    of-A 0 (noPairs 8) 0 (Refused LimitRange) 0 0 0 [] (noPairs 8) ∷
+    spent-at script-B 9 5 130 1
+    (pos 0 ∷ pos 2 ∷ pos 1 ∷ pos 0 ∷ pos 0 ∷ pos 34 ∷ pos 5 ∷ pos 66 ∷ pos 9 ∷ pos 0 ∷ pos 0 ∷ pos 34 ∷ pos 7 ∷ pos 131 ∷ pos 2 ∷ pos 0 ∷ pos 0 ∷ pos 50 ∷ pos 2 ∷ []) ∷
+    ends-with (script-arithmetic 65535 32767 1 0 0) 16 (Stopped ResultTooLarge) 2 30 (pos 0 ∷ pos 3 ∷ pos 2147483647 ∷ pos 1 ∷ []) ∷
+    ends-with (script-arithmetic 0 32768 1 0 1) 16 (Stopped ResultTooLarge) 2 30 (pos 0 ∷ pos 3 ∷ negsuc 2147483647 ∷ pos 1 ∷ []) ∷
+    ends-with (script-arithmetic 65535 32767 0 0 0) 16 Finished 4 0 [] ∷
+    ends-with (script-arithmetic 0 32768 0 0 1) 16 Finished 4 0 [] ∷
+    ends-with script-nested 1 (Stopped NoActivationLeft) 0 6 (pos 0 ∷ pos 1 ∷ []) ∷
+    ends-with script-nested 2 Finished 3 0 [] ∷
+    ends-with script-order 16 (Refused FieldRange) 0 10 [] ∷
+    spent-at script-goto 3 2 66 0 (pos 0 ∷ pos 2 ∷ pos 0 ∷ pos 0 ∷ []) ∷
+    spent-at script-crossed 2 1 66 0 (pos 0 ∷ pos 2 ∷ pos 0 ∷ pos 6 ∷ pos 0 ∷ pos 32 ∷ pos 2 ∷ pos 66 ∷ pos 65 ∷ []) ∷ []
+
+-- the first row stands for what lies past the end
+unfoldable pub row : ℕ → Sample
+row k = getD samples k (ends-with script-empty 16 (Refused ScriptLength) 0 0 [])
+
+computed-once : (m : Method) → map (got m) samples ≡ map (wanted m) samples
+unfolding computed lentTally lentWord engineOf linksFor got wanted noPairs script-empty script-null script-A script-B script-arithmetic script-nested script-order script-goto script-crossed ends-with of-A A-stopped spent-at samples
+computed-once by-copying = refl
+computed-once by-chain = refl
+computed-once by-display = refl
+
+each : (f g : Sample → Reply) (rs : List Sample) (d : Sample) → map f rs ≡ map g rs → (k : ℕ) → k < length rs → f (getD rs k d) ≡ g (getD rs k d)
+each f g [] d e k h = absurd (not-suc-le-zero h)
+each f g (r ∷ rs) d e zero h = head-eq-of-cons-eq e
+each f g (r ∷ rs) d e (suc k) h = each f g rs d (tail-eq-of-cons-eq e) k (le-of-suc-le-suc h)
+
+-- Every row holds, of every engine: the whole reply is the one wanted.
+pub samples-hold : (m : Method) (k : ℕ) → k < length samples → got m (row k) ≡ wanted m (row k)
+unfolding row
+samples-hold m k h = each (got m) (wanted m) samples (ends-with script-empty 16 (Refused ScriptLength) 0 0 []) (computed-once m) k h
