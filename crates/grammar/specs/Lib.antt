@@ -1,3 +1,4 @@
 -- The script check accepts exactly the encodings of trees that keep document 01's rules.
 pub mod Rules
 pub mod Scoped
+pub mod Readers
