@@ -2,3 +2,5 @@
 pub mod Rules
 pub mod Scoped
 pub mod Readers
+pub mod Once
+pub mod Words
