@@ -4,3 +4,4 @@ pub mod Scoped
 pub mod Readers
 pub mod Once
 pub mod Words
+pub mod Reading

@@ -38,6 +38,20 @@ module _ {A B : Type 0} (m : Reader A) (f : A → Reader B) where
       go (read a o vs) e = rw (e, _>>=_)
       go (refuse c o) e = rw (e, _>>=_)
 
+  -- a first part of two readers
+  pub yields-part : {C : Type 0} (g : B → Reader C) (Q : C → ℕ → List ℕ → Type 0) (R : B → ℕ → List ℕ → Type 0) (at : ℕ) (ws : List ℕ)
+      → Yields R ((m >>= f) at ws) → ((b : B) (o : ℕ) (vs : List ℕ) → R b o vs → Yields Q (g b o vs)) → Yields Q ((m >>= λ a. f a >>= g) at ws)
+  unfolding _>>=_
+  yields-part g Q R at ws h k = go (m at ws) refl h
+    where
+      go : (x : Reading A) → m at ws ≡ x → Yields R ((m >>= f) at ws) → Yields Q ((m >>= λ a. f a >>= g) at ws)
+      go (read a o vs) e y = rw (e, _>>=_) (next (f a o vs) (rw (e, _>>=_) at y))
+        where
+          next : (x : Reading B) → Yields R x → Yields Q (elim x [ read b o vs ↦ g b o vs | refuse c o ↦ refuse c o ])
+          next (read b o vs) y = k b o vs y
+          next (refuse c o) y = tt
+      go (refuse c o) e y = rw (e, _>>=_) tt
+
 module _ {A : Type 0} (n : Reader A) where
   pub yields-require : (b : Bool) (c : Refusal) (r : ℕ) (Q : A → ℕ → List ℕ → Type 0) (at : ℕ) (ws : List ℕ)
       → (b ≡ true → Yields Q (n at ws)) → Yields Q ((require b c r >> n) at ws)
@@ -117,6 +131,11 @@ yields-take rows R at (w ∷ us) h =
     (yields-fit at w rows (λ r o vs. Yields R (filled at r o vs)) (at + 2) us
     (each-map (Marked at (w ∷ us) R) (λ r. w ≡ r .letters → Yields R (filled at r (at + 2) us)) rows (λ x k. yields-filled R at w us x k) h))
     (λ r o vs y. y)
+
+pub yields-marks : {M B : Type 0} (rows : List (Row M)) (f : Record M → Reader B) (Q : B → ℕ → List ℕ → Type 0) (at : ℕ) (us : List ℕ)
+    → Each (Marked at us (λ r o vs. Yields Q (f r o vs))) rows → Yields Q ((take-record rows >>= f) at us)
+yields-marks rows f Q at us h =
+    yields-bind (take-record rows) f Q (λ r o vs. Yields Q (f r o vs)) at us (yields-take rows (λ r o vs. Yields Q (f r o vs)) at us h) (λ r o vs y. y)
 
 filled-read : {M : Type 0} (x : Row M) (at : ℕ) (fs vs : List ℕ) → length fs ≡ x .count
     → filled at x (at + 2) (fs ++ vs) ≡ read (record { at = at; mark = x .mark; fields = fs }) (at + 2 * suc (x .count)) vs
