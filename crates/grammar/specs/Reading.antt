@@ -1,6 +1,6 @@
 -- Reading: whatever the reader gives is a tree whose fields were read, and that keeps the rules of Encoding and Bounds.
-use Prim.Native.Nat.{ℕ, zero, suc, _+_, _*_, _/_, _%_, _≤_, _<_}
-use mathlib.Core.Bool.{Bool, true, false, not, _&&_, and-eq-true-iff}
+use Prim.Native.Nat.{ℕ, zero, suc, _+_, _*_, _/_, _%_, _≤_}
+use mathlib.Core.Bool.{false, and-eq-true-iff}
 use mathlib.Core.List.{List, [], _∷_, _++_, map, append-assoc}
 use mathlib.Core.Path.{_≡_, refl, sym, subst, ap, _∙_}
 use native.Mathlib.Omega.{arith}
@@ -8,9 +8,9 @@ use borrow.Author.Tests.{leb-true, not-true}
 use lib.Dec.{leb}
 use lib.ListN.{length, length-append, length-map}
 use Rattle.language.specs.Basics.{among}
-use Rattle.language.specs.Text.{Kind, variable, label, procedure, Operation, plus, minus, less, Formal, Action, CL, GO, IF, KN, AR, AD, RM, QY, Block, block, Decl, VR, LB, PR, Stmt, BK, DO, Decls, no-decl, decl, Stmts, no-stmt, stmt, decls, stmts, declName, formalNames}
-use Rattle.language.specs.Encoding.{two, signed, unsigned, kindField, operationField, BK-mark, VR-mark, LB-mark, PR-mark, FM-mark, CL-mark, GO-mark, IF-mark, KN-mark, AR-mark, AD-mark, RM-mark, QY-mark, actionFields, formalsFields, blockFields, declFields, stmtFields, declsFields, stmtsFields}
-use Rattle.language.specs.Structure.{Reading, read, refuse, Reader, _>>=_, _>>_, give, here, require, fields, Row, DeclMark, isVR, isLB, isPR, StmtMark, isBK, isCL, isGO, isIF, isKN, isAR, isAD, isRM, isQY, blockMarks, formalMarks, declMarks, stmtMarks, fit, Record, take-record, kind, operation, formals, BlockReader, declared, declarations, action, stated, statements, blockWith, program}
+use Rattle.language.specs.Text.{Kind, variable, label, procedure, Operation, plus, minus, less, Formal, Action, CL, GO, IF, KN, AR, AD, RM, QY, Block, block, Decl, PR, Stmt, Decls, decl, Stmts, stmt, decls, stmts, declName, formalNames}
+use Rattle.language.specs.Encoding.{signed, kindField, operationField, BK-mark, VR-mark, LB-mark, PR-mark, FM-mark, CL-mark, GO-mark, IF-mark, KN-mark, AR-mark, AD-mark, RM-mark, QY-mark, actionFields, formalsFields, blockFields, declFields, stmtFields, declsFields, stmtsFields}
+use Rattle.language.specs.Structure.{Reader, _>>=_, give, fields, isVR, isLB, isPR, isBK, isCL, isGO, isIF, isKN, isAR, isAD, isRM, isQY, blockMarks, formalMarks, declMarks, stmtMarks, take-record, kind, operation, formals, BlockReader, declared, declarations, action, stated, statements, blockWith, program}
 use Rattle.grammar.specs.Rules.{Each, Distinct, Name, FormedAction, FormedFormals, FormedBlock, FormedDecl, FormedStmt, FormedDecls, FormedStmts}
 use Rattle.grammar.specs.Readers.{Yields, yields-bind, yields-part, yields-require, yields-fields, yields-marks}
 use Rattle.grammar.specs.Once.{Fresh, fresh-distinct, each-first, each-second}
