@@ -111,7 +111,10 @@ module _ (body : BlockReader) (level : ℕ) (below : ReadsBlocks body (suc level
 
   read-LB : (n i : ℕ) (vs : List ℕ) → us ≡ LB-mark ∷ n ∷ i ∷ vs → Yields (GotDecl level s seen at us) (declared body s seen isLB at (n ∷ i ∷ []) (at + 6) vs)
   unfolding declared give declFields FormedDecl declName
-  read-LB n i vs e = yields-require _ _ _ _ _ (at + 6) vs (λ r. yields-require _ _ _ _ _ (at + 6) vs (λ t. let q = (and-eq-true-iff (leb 1 i) (leb i s)) .0 r in
+  read-LB n i vs e =
+      yields-require _ _ _ _ _ (at + 6) vs (λ r.
+      yields-require _ _ _ _ _ (at + 6) vs (λ t.
+      let q = (and-eq-true-iff (leb 1 i) (leb i s)) .0 r in
       record {
         step = record { text = e; next = refl };
         formed = record { stands = refl; name = (subst (Each Name) e h) .1 .0; first = leb-true 1 i (q .0); last = leb-true i s (q .1) };
@@ -202,7 +205,8 @@ module _ (body : BlockReader) (level : ℕ) (below : ReadsBlocks body (suc level
       (λ b o ws k. record { step = rw e (k .step); formed = k .formed })
 
   -- an action whose fields are those read
-  got-action : (a : Action) (o : ℕ) (vs : List ℕ) → us ≡ actionFields a ++ vs → o ≡ at + 2 * length (actionFields a) → FormedAction a → Yields (GotStmt level at us) (action a at o vs)
+  got-action : (a : Action) (o : ℕ) (vs : List ℕ) → us ≡ actionFields a ++ vs → o ≡ at + 2 * length (actionFields a) → FormedAction a
+      → Yields (GotStmt level at us) (action a at o vs)
   unfolding action give stmtFields FormedStmt
   got-action a o vs e n f = record { step = record { text = e; next = n }; formed = record { stands = refl; action = f } }
 
@@ -211,8 +215,10 @@ module _ (body : BlockReader) (level : ℕ) (below : ReadsBlocks body (suc level
   read-CL p a vs e =
       yields-require _ _ _ _ _ (at + 6) vs (λ few.
       yields-bind (fields at a) _ (GotStmt level at us) Q (at + 6) vs
-      (yields-fields at a Q (at + 6) vs (λ xs ws l q. got-action (CL p xs) (at + 6 + 2 * a) ws (cc) (omega arith)
-      (let k = (subst (Each Name) e h) in record { called = k .1 .0; arguments = each-first Name xs ws (subst (Each Name) q (k .1 .1 .1)); few = omega (arith, leb-true a 32 few) })))
+      (yields-fields at a Q (at + 6) vs (λ xs ws l q.
+      let k = subst (Each Name) e h in
+      let names : Each Name xs = each-first Name xs ws (subst (Each Name) q (k .1 .1 .1)) in
+      got-action (CL p xs) (at + 6 + 2 * a) ws (cc) (omega arith) (record { called = k .1 .0; arguments = names; few = omega (arith, leb-true a 32 few) })))
       (λ xs o ws y. y))
     where
       Q : List ℕ → ℕ → List ℕ → Type 0

@@ -1,4 +1,5 @@
--- The rules of document 01 for a script, said of the tree and with no order in them. A reader of the theorem believes these.
+-- The rules of document 01 for a script, said of its tree and with no order in them. A reader of Exact.antt has to believe these definitions,
+-- and of `language` the tree (Text), `encode`, and of Scope `inside`, `kindIn` and `agree`.
 use Prim.Native.Nat.{ℕ, suc, _+_, _*_, _≤_, _<_}
 use mathlib.Core.Bool.{true}
 use mathlib.Core.List.{List, [], _∷_, _++_, map}
@@ -19,7 +20,7 @@ Each P (x ∷ xs) = P x × Each P xs
 abbrev pub Bytes : List ℕ → Type 0
 Bytes bs = Each (λ b. b < 256) bs
 
--- no number stands twice
+-- no number stands twice in the list
 abbrev pub Distinct : List ℕ → Type 0
 Distinct [] = Unit {0}
 Distinct (n ∷ ns) = Each (λ m. n ≢ m) ns × Distinct ns
@@ -28,7 +29,7 @@ Distinct (n ∷ ns) = Each (λ m. n ≢ m) ns × Distinct ns
 abbrev pub Name : ℕ → Type 0
 Name n = n < 65536
 
--- Encoding: CL's a is at most 32, KN's value is signed 32-bit.
+-- Encoding: every name is one; CL's a is at most 32; KN's value is signed 32-bit (`mag z` is n for n and for −(n + 1)).
 unfoldable pub FormedAction : Action → Type 0
 FormedAction (CL p xs) = record { called : Name p; arguments : Each Name xs; few : length xs ≤ 32 }
 FormedAction (GO l) = Name l
@@ -39,12 +40,13 @@ FormedAction (AD g m) = Name g × Name m
 FormedAction (RM g m) = Name g × Name m
 FormedAction (QY t g m) = Name t × Name g × Name m
 
--- Each record's offset is where it stands: `here` is that byte, and a field takes two bytes.
+-- Encoding: each record's offset in the tree is the byte at which it stands, `here`. A mark or a field takes two bytes.
 unfoldable pub FormedFormals : List Formal → ℕ → Type 0
 FormedFormals [] here = Unit {0}
 FormedFormals (f ∷ fs) here = record { stands : f .at ≡ here; name : Name (f .name); rest : FormedFormals fs (here + 6) }
 
--- Encoding and Bounds: a block at a level with its formals, and what stands in it.
+-- Bounds: nesting at most 16, a block or body one level below the block in which it stands; at most 32 names in a block, formals included.
+-- Causes and numbers (8): no name stands twice in a block or among its formals.
 unfoldable mutual
   pub FormedBlock : Block → ℕ → List Formal → ℕ → Type 0
   FormedBlock (block at ds ss) level fs here =
@@ -57,7 +59,7 @@ unfoldable mutual
         statements : FormedStmts ss level (here + 6 + 2 * length (declsFields ds));
       }
 
-  -- a declaration of a block at a level, with so many statements
+  -- Encoding: a declaration of a block at a level with s statements. A label's index is from 1 to s. Causes and numbers (7): p is at most 32.
   pub FormedDecl : Decl → ℕ → ℕ → ℕ → Type 0
   FormedDecl (VR at n) level s here = record { stands : at ≡ here; name : Name n }
   FormedDecl (LB at n i) level s here = record { stands : at ≡ here; name : Name n; first : 1 ≤ i; last : i ≤ s }
@@ -82,14 +84,15 @@ unfoldable mutual
   FormedStmts no-stmt level here = Unit {0}
   FormedStmts (stmt s ss) level here = FormedStmt s level here × FormedStmts ss level (here + 2 * length (stmtFields s))
 
--- Scope: a name used is visible, and of the kind wanted where one is.
+-- Scope: a name used is visible, and of the kind wanted where one is. The nearest declaration is the first in the scope.
 abbrev pub Visible : Scope → ℕ → Type 0
 Visible sc n = (m : Meaning) × (lookup n sc ≡ some m)
 
 abbrev pub Is : Kind → Scope → ℕ → Type 0
 Is k sc n = (m : Meaning) × (lookup n sc ≡ some m) × (m .kind ≡ k)
 
--- Target, left and right are variables; a called name is a procedure, and what is handed to a declared one agrees with its formals.
+-- Encoding: target, left, right, group and member are variables; a called name is a procedure.
+-- Causes and numbers (11): the arguments of a declared procedure are as many as its formals and of their kinds. A formal's are free here (26).
 unfoldable pub ScopedAction : Action → Scope → Type 0
 ScopedAction (CL p xs) sc =
     record {
@@ -105,7 +108,7 @@ ScopedAction (AD g m) sc = Is variable sc g × Is variable sc m
 ScopedAction (RM g m) sc = Is variable sc g × Is variable sc m
 ScopedAction (QY t g m) sc = Is variable sc t × Is variable sc g × Is variable sc m
 
--- a block with its formals, in the scope around it
+-- Scope: a block's own names and its formals are visible in all text inside it, procedure bodies included; formals belong to the body's block.
 unfoldable mutual
   pub ScopedBlock : Block → List Formal → Scope → Type 0
   ScopedBlock (block at ds ss) fs sc = ScopedDecls ds (inside fs ds sc) × ScopedStmts ss (inside fs ds sc)
@@ -127,7 +130,7 @@ unfoldable mutual
   ScopedStmts no-stmt sc = Unit {0}
   ScopedStmts (stmt s ss) sc = ScopedStmt s sc × ScopedStmts ss sc
 
--- a whole script: the program block is level 1 and stands at byte 0
+-- Bounds: at most 8,192 bytes (an encoding is even and not empty by itself); the program block is level 1, and stands at byte 0.
 pub record Keeps (t : Block) : Type 0 where
   pub size : length (encode t) ≤ 8192
   pub formed : FormedBlock t 1 [] 0

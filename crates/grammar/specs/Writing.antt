@@ -20,6 +20,13 @@ use Rattle.grammar.specs.Words.{low-high, signed-unsigned}
 moved : {A : Type 0} (a : A) (ws : List ℕ) {o o′ : ℕ} → o ≡ o′ → read a o ws ≡ read a o′ ws
 moved a ws e = ap (λ (p : ℕ). read a p ws) e
 
+-- two runs of fields end where both together do, also after a mark with two fields
+both-end : (o : ℕ) (xs ys : List ℕ) → o + 2 * length xs + 2 * length ys ≡ o + 2 * length (xs ++ ys)
+both-end o xs ys = omega (arith, length-append xs ys)
+
+marked-end : (o : ℕ) (xs ys : List ℕ) → o + 6 + 2 * length xs + 2 * length ys ≡ o + 2 * suc (suc (suc (length (xs ++ ys))))
+marked-end o xs ys = omega (arith, length-append xs ys)
+
 abbrev row : {M : Type 0} → ℕ → ℕ → M → Row M
 row l c m = record { letters = l; count = c; mark = m }
 
@@ -71,15 +78,18 @@ within-is (block at ds ss) = refl
 -- what is asked of a block: the reader of its level reads it
 abbrev Reads : ℕ → Block → List Formal → ℕ → Type 0
 Reads k b fs at =
-    (ws : List ℕ) → blockWith k at (length (blockDecls b)) (length (blockStmts b)) (formalNames fs) (at + 6) (within b ++ ws) ≡ read b (at + 2 * length (blockFields b)) ws
+    (ws : List ℕ) → blockWith k at (length (blockDecls b)) (length (blockStmts b)) (formalNames fs) (at + 6) (within b ++ ws)
+    ≡ read b (at + 2 * length (blockFields b)) ws
 
 -- the same with its BK, and what follows
+abbrev body-then : {B : Type 0} → ℕ → List Formal → (Block → Reader B) → Reader B
+body-then k fs f = take-record blockMarks >>= λ r. blockWith k (r .at) (getD (r .fields) 0 0) (getD (r .fields) 1 0) (formalNames fs) >>= f
+
 taken-block : {B : Type 0} (k : ℕ) (b : Block) (fs : List Formal) (at : ℕ) → Reads k b fs at → (f : Block → Reader B) (ws : List ℕ)
-    → (take-record blockMarks >>= λ r. blockWith k (r .at) (getD (r .fields) 0 0) (getD (r .fields) 1 0) (formalNames fs) >>= f) at (blockFields b ++ ws)
-    ≡ f b (at + 2 * length (blockFields b)) ws
+    → body-then k fs f at (blockFields b ++ ws) ≡ f b (at + 2 * length (blockFields b)) ws
 unfolding fit blockMarks give
 taken-block k b fs at h f ws =
-    ap (λ (l : List ℕ). (take-record blockMarks >>= λ r. blockWith k (r .at) (getD (r .fields) 0 0) (getD (r .fields) 1 0) (formalNames fs) >>= f) at (l ++ ws)) (within-is b)
+    ap (λ (l : List ℕ). body-then k fs f at (l ++ ws)) (within-is b)
     ∙ marked blockMarks _ (row BK-mark 2 true) at (length (blockDecls b) ∷ length (blockStmts b) ∷ []) (within b ++ ws) refl refl
     ∙ bind-read (blockWith k at (length (blockDecls b)) (length (blockStmts b)) (formalNames fs)) f b (at + 6) _ _ ws (h ws)
 
@@ -109,9 +119,10 @@ module _ (k s : ℕ) (seen : List ℕ) (at n : ℕ) (ws : List ℕ) (new-name : 
       ∙ marked declMarks _ (row PR-mark 2 isPR) at (n ∷ length fs ∷ []) (formalsFields fs ++ (blockFields b ++ ws)) refl refl
       ∙ require-read _ _ _ at (at + 6) _ (le-leb (length fs) 32 few)
       ∙ require-read _ _ _ at (at + 6) _ (new n seen new-name)
-      ∙ bind-read (formals (length fs) []) _ fs (at + 6) _ _ (blockFields b ++ ws) (write-formals fs [] (at + 6) (blockFields b ++ ws) h (distinct-fresh [] (formalNames fs) once))
+      ∙ bind-read (formals (length fs) []) _ fs (at + 6) _ _ (blockFields b ++ ws)
+      (write-formals fs [] (at + 6) (blockFields b ++ ws) h (distinct-fresh [] (formalNames fs) once))
       ∙ taken-block k b fs (at + 6 + 2 * length (formalsFields fs)) below _ ws
-      ∙ moved _ ws (omega (arith, length-append (formalsFields fs) (blockFields b)))
+      ∙ moved _ ws (marked-end at (formalsFields fs) (blockFields b))
 
 -- statements
 abbrev one-stmt : ℕ → Reader Stmt
@@ -157,12 +168,11 @@ add-decl : (k s d : ℕ) (seen : List ℕ) (at : ℕ) (x : Decl) (xs : Decls) (w
     ≡ read (decl x xs) (at + 2 * length (declFields x ++ declsFields xs)) ws
 unfolding declarations give
 add-decl k s d seen at x xs ws a b =
-    let e : at + 2 * length (declFields x) + 2 * length (declsFields xs) ≡ at + 2 * length (declFields x ++ declsFields xs) = omega (arith, length-append (declFields x) (declsFields xs)) in
     ap (λ (l : List ℕ). declarations (blockWith k) s (suc d) seen at l) (append-assoc (declFields x) (declsFields xs) ws)
     ∙ bind-assoc (take-record declMarks) (λ r. declared (blockWith k) s seen (r .mark) (r .at) (r .fields)) _ at _
     ∙ bind-read (one-decl k s seen) _ x at _ _ _ a
     ∙ bind-read (declarations (blockWith k) s d (declName x ∷ seen)) _ xs _ _ _ ws b
-    ∙ moved _ ws e
+    ∙ moved _ ws (both-end at (declFields x) (declsFields xs))
 
 add-stmt : (k s : ℕ) (at : ℕ) (x : Stmt) (xs : Stmts) (ws : List ℕ)
     → one-stmt k at (stmtFields x ++ (stmtsFields xs ++ ws)) ≡ read x (at + 2 * length (stmtFields x)) (stmtsFields xs ++ ws)
@@ -171,12 +181,11 @@ add-stmt : (k s : ℕ) (at : ℕ) (x : Stmt) (xs : Stmts) (ws : List ℕ)
     → statements (blockWith k) (suc s) at ((stmtFields x ++ stmtsFields xs) ++ ws) ≡ read (stmt x xs) (at + 2 * length (stmtFields x ++ stmtsFields xs)) ws
 unfolding statements give
 add-stmt k s at x xs ws a b =
-    let e : at + 2 * length (stmtFields x) + 2 * length (stmtsFields xs) ≡ at + 2 * length (stmtFields x ++ stmtsFields xs) = omega (arith, length-append (stmtFields x) (stmtsFields xs)) in
     ap (λ (l : List ℕ). statements (blockWith k) (suc s) at l) (append-assoc (stmtFields x) (stmtsFields xs) ws)
     ∙ bind-assoc (take-record stmtMarks) (λ r. stated (blockWith k) (r .mark) (r .at) (r .fields)) _ at _
     ∙ bind-read (one-stmt k) _ x at _ _ _ a
     ∙ bind-read (statements (blockWith k) s) _ xs _ _ _ ws b
-    ∙ moved _ ws e
+    ∙ moved _ ws (both-end at (stmtFields x) (stmtsFields xs))
 
 -- a block of its declarations and statements
 whole-block : (k : ℕ) (at : ℕ) (ds : Decls) (ss : Stmts) (ns : List ℕ) (ws : List ℕ) → length ns + length (decls ds) ≤ 32
@@ -188,12 +197,11 @@ whole-block : (k : ℕ) (at : ℕ) (ds : Decls) (ss : Stmts) (ns : List ℕ) (ws
     ≡ read (block at ds ss) (at + 2 * length (blockFields (block at ds ss))) ws
 unfolding blockWith give blockFields
 whole-block k at ds ss ns ws few a b =
-    let e : at + 6 + 2 * length (declsFields ds) + 2 * length (stmtsFields ss) ≡ at + 2 * length (blockFields (block at ds ss)) = omega (arith, length-append (declsFields ds) (stmtsFields ss)) in
     ap (λ (l : List ℕ). blockWith (suc k) at (length (decls ds)) (length (stmts ss)) ns (at + 6) l) (append-assoc (declsFields ds) (stmtsFields ss) ws)
     ∙ require-read _ _ _ at (at + 6) _ (le-leb (length ns + length (decls ds)) 32 few)
     ∙ bind-read (declarations (blockWith k) (length (stmts ss)) (length (decls ds)) ns) _ ds (at + 6) _ _ _ a
     ∙ bind-read (statements (blockWith k) (length (stmts ss))) _ ss _ _ _ ws b
-    ∙ moved _ ws e
+    ∙ moved _ ws (marked-end at (declsFields ds) (stmtsFields ss))
 
 few-names : (fs : List Formal) (d : ℕ) → length fs + d ≤ 32 → length (formalNames fs) + d ≤ 32
 unfolding formalNames
@@ -215,8 +223,8 @@ mutual
       (write-stmts ss k level (o + 6 + 2 * length (declsFields ds)) ws (omega arith) (h .statements))
       ∙ ap (λ (p : ℕ). read (block p ds ss) (o + 2 * length (blockFields (block at ds ss))) ws) (sym (h .stands))
 
-  write-decl : (d : Decl) (k level s : ℕ) (seen : List ℕ) (at : ℕ) (ws : List ℕ) → suc level + k ≡ 17 → FormedDecl d level s at → among (declName d) seen ≡ false
-      → one-decl k s seen at (declFields d ++ ws) ≡ read d (at + 2 * length (declFields d)) ws
+  write-decl : (d : Decl) (k level s : ℕ) (seen : List ℕ) (at : ℕ) (ws : List ℕ) → suc level + k ≡ 17 → FormedDecl d level s at
+      → among (declName d) seen ≡ false → one-decl k s seen at (declFields d ++ ws) ≡ read d (at + 2 * length (declFields d)) ws
   write-decl (VR at n) k level s seen o ws e h q =
       write-VR k s seen o n ws q ∙ ap (λ (p : ℕ). read (VR p n) (o + 4) ws) (sym (h .stands))
   write-decl (LB at n i) k level s seen o ws e h q =
@@ -232,8 +240,8 @@ mutual
   write-stmt (DO at a) k level o ws e h =
       write-action k a o ws (h .action) ∙ ap (λ (p : ℕ). read (DO p a) (o + 2 * length (actionFields a)) ws) (sym (h .stands))
 
-  write-decls : (ds : Decls) (k level s : ℕ) (seen : List ℕ) (at : ℕ) (ws : List ℕ) → suc level + k ≡ 17 → FormedDecls ds level s at → Fresh seen (map declName (decls ds))
-      → declarations (blockWith k) s (length (decls ds)) seen at (declsFields ds ++ ws) ≡ read ds (at + 2 * length (declsFields ds)) ws
+  write-decls : (ds : Decls) (k level s : ℕ) (seen : List ℕ) (at : ℕ) (ws : List ℕ) → suc level + k ≡ 17 → FormedDecls ds level s at
+      → Fresh seen (map declName (decls ds)) → declarations (blockWith k) s (length (decls ds)) seen at (declsFields ds ++ ws) ≡ read ds (at + 2 * length (declsFields ds)) ws
   write-decls no-decl k level s seen at ws e h n = moved no-decl ws (omega arith)
   write-decls (decl d ds) k level s seen at ws e h n =
       add-decl k s (length (decls ds)) seen at d ds ws (write-decl d k level s seen at (declsFields ds ++ ws) e (h .0) (n .0))
