@@ -1,0 +1,6 @@
+-- Theorems about the copy-rule machine of document 01, in reading order.
+pub mod Moves
+pub mod Account
+pub mod Steps
+pub mod Onward
+pub mod Stops
