@@ -4,3 +4,7 @@ pub mod Account
 pub mod Steps
 pub mod Onward
 pub mod Stops
+pub mod Pairs
+pub mod TakingOut
+pub mod Rightness
+pub mod TableLaws
