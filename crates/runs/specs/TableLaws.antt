@@ -1,7 +1,7 @@
 -- Adding and removing a pair: what the words then hold, how many members a group then has, and that a right table stays right.
 -- `run-right` is the theorem about runs; `add-right` and `remove-right` are its two cases.
 use Prim.Native.Nat.{ℕ, zero, suc, _+_, _*_, _%_, _≤_, _<_}
-use native.Mathlib.Nat.{not-suc-le-zero}
+use native.Mathlib.Nat.{not-suc-le-zero, add-zero}
 use native.Mathlib.Omega.{arith}
 use mathlib.Core.Logic.{_≢_, _⊎_, inl, inr}
 use mathlib.Core.Path.{_≡_, refl, sym, ap, ap₂, _∙_, subst}
@@ -15,7 +15,7 @@ use borrow.Author.Tests.{ltb-false}
 use Rattle.language.specs.Basics.{eqZ}
 use Rattle.language.specs.Table.{Table, find, isSome, holds, members, size, atLeastOne, right, full, add, takeOut, fewer, remove}
 use Rattle.language.specs.Machine.{State, Limits, Outcome, withLive, withTable, counted, store, enter, advance, run}
-use Rattle.runs.specs.Pairs.{eqZ-true, groupAt, memberAt, At, Place, below-or, find-some, find-absent, find-present, absent, counts, members-next, members-same}
+use Rattle.runs.specs.Pairs.{eqZ-true, groupAt, memberAt, At, Place, orElse, below-or, find-some, find-next, find-same, find-absent, find-present, absent, counts, members-next, members-same}
 use Rattle.runs.specs.TakingOut.{takeOut-length, takeOut-place-before, takeOut-place-after, takeOut-members}
 use Rattle.runs.specs.Rightness.{Right, right-means, right-holds}
 use Rattle.runs.specs.Moves.{Kept, run-keeps}
@@ -63,6 +63,15 @@ add-holds g m t f =
     let e : length ((add g m t) .words) ≡ length (t .words) = add-length g m t in
     let u : (add g m t) .used ≡ suc (t .used) = add-used g m t in
     find-present g m ((add g m t) .used) ((add g m t) .words) (t .used) (omega arith) (omega arith) (add-new g m t f)
+
+-- a pair is found where it stood before, or it is the new one
+pub add-find : (h n g m : ℤ) (t : Table) → 2 * suc (t .used) ≤ length (t .words) → find h n ((add g m t) .used) ((add g m t) .words) ≡ orElse (find h n (t .used) (t .words)) (eqZ g h && eqZ m n) (t .used)
+add-find h n g m t f =
+    let ws = (add g m t) .words in
+    let u = t .used in
+    let e : length ws ≡ length (t .words) = add-length g m t in
+    let a = add-new g m t f in
+    ap (λ k. find h n k ws) (add-used g m t) ∙ find-next h n u ws (omega arith) ∙ ap₂ (λ o b. orElse o b u) (find-same h n u ws (t .words) (omega arith) (omega arith) (λ i l. add-before g m t i l)) (ap₂ (λ x y. eqZ x h && eqZ y n) (a .0) (a .1))
 
 -- a place in use after adding is an old one or the new one
 old-or-new : (g m : ℤ) (t : Table) (i : ℕ) → i < (add g m t) .used → (i < t .used) ⊎ (i ≡ t .used)
@@ -208,6 +217,41 @@ pub remove-right : (limit : ℕ) (g m : ℤ) (t : Table) → right limit t ≡ t
 remove-right limit g m t r =
     let q = right-means limit t r in
     remove-cases (λ x. right limit x ≡ true) g m t (q .fits) r (λ i h. right-holds limit (without i t) (without-stays limit t q i h))
+
+-- the pair removed is in the table no more
+pub remove-holds : (limit : ℕ) (g m : ℤ) (t : Table) → right limit t ≡ true → holds g m (remove g m t) ≡ false
+unfolding holds isSome
+remove-holds limit g m t r = go (find g m (t .used) (t .words)) refl
+  where
+    q : Right limit t
+    q = right-means limit t r
+
+    gone : (i : ℕ) → i < t .used → At i (t .words) g m → (j : ℕ) → j < fewer (t .used) → At j (takeOut i (t .used) (t .words)) g m → ⊥
+    gone i h p j l b =
+        let a = from i (t .used) (t .words) j (q .fits) h l in
+        let e : a .was ≡ i = q .once (a .was) i (a .used) h (sym (a .same .0) ∙ b .0 ∙ sym (p .0), sym (a .same .1) ∙ b .1 ∙ sym (p .1)) in
+        on (a .side) e
+      where
+        on : {w : ℕ} → ((j < i) × (w ≡ j)) ⊎ ((i ≤ j) × (w ≡ suc j)) → w ≡ i → ⊥
+        on (inl s) e = omega arith
+        on (inr s) e = omega arith
+
+    go : (o : Option ℕ) → find g m (t .used) (t .words) ≡ o → isSome (find g m ((remove g m t) .used) ((remove g m t) .words)) ≡ false
+    go none e = ap (λ x. isSome (find g m (x .used) (x .words))) (remove-absent g m t e) ∙ ap isSome e
+    go (some i) e =
+        let p = find-some g m (t .used) (t .words) i (q .fits) e in
+        ap (λ x. isSome (find g m (x .used) (x .words))) (remove-present g m t i e) ∙ find-absent g m (fewer (t .used)) (takeOut i (t .used) (t .words)) (omega (arith, fewer-suc i (t .used) (p .0), takeOut-length i (t .used) (t .words), q .fits)) (gone i (p .0) (p .1))
+
+-- its group has one member fewer, where it was present
+pub remove-size : (h g m : ℤ) (t : Table) → 2 * t .used ≤ length (t .words) → size h t ≡ size h (remove g m t) + cond (holds g m t && eqZ g h) 1 0
+unfolding holds isSome size
+remove-size h g m t f = go (find g m (t .used) (t .words)) refl
+  where
+    go : (o : Option ℕ) → find g m (t .used) (t .words) ≡ o → members h (t .used) (t .words) ≡ members h ((remove g m t) .used) ((remove g m t) .words) + cond (isSome o && eqZ g h) 1 0
+    go none e = sym (add-zero (members h (t .used) (t .words))) ∙ ap (λ x. members h (x .used) (x .words) + 0) (sym (remove-absent g m t e))
+    go (some i) e =
+        let p = find-some g m (t .used) (t .words) i f e in
+        takeOut-members h i (t .used) (t .words) f (p .0) ∙ ap₂ (λ x a. members h (x .used) (x .words) + cond (eqZ a h) 1 0) (sym (remove-present g m t i e)) (p .1 .0)
 
 -- Running.
 right-kept : (l : Limits) → Kept l (λ s. right (l .group) (s .table) ≡ true)
