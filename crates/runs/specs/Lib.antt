@@ -8,3 +8,5 @@ pub mod Pairs
 pub mod TakingOut
 pub mod Rightness
 pub mod TableLaws
+pub mod Instances
+pub mod Bounds
