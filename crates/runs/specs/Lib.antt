@@ -10,3 +10,5 @@ pub mod Rightness
 pub mod TableLaws
 pub mod Instances
 pub mod Bounds
+pub mod Every
+pub mod Names
