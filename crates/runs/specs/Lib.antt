@@ -12,3 +12,4 @@ pub mod Instances
 pub mod Bounds
 pub mod Every
 pub mod Names
+pub mod Accepted
