@@ -13,3 +13,5 @@ pub mod Bounds
 pub mod Every
 pub mod Names
 pub mod Accepted
+pub mod SheetWords
+pub mod Calls
