@@ -1,21 +1,20 @@
 -- Every block of an accepted script has at most 32 names, formals included: `accepted-fits`.
 -- Read `Gives P m` as: whatever the reader m reads, from any place, has the property P.
-use Prim.Native.Nat.{ℕ, zero, suc, _+_, _*_, _≤_}
+use Prim.Native.Nat.{ℕ, zero, suc, _+_, _*_}
 use native.Mathlib.Omega.{arith}
-use mathlib.Core.Path.{_≡_, refl, sym, ap, _∙_, subst}
-use mathlib.Core.Bool.{Bool, true, false, not, _&&_}
+use mathlib.Core.Path.{_≡_, refl, ap, subst}
+use mathlib.Core.Bool.{Bool, true, false}
 use mathlib.Core.List.{List, [], _∷_}
-use lib.Dec.{eqb, leb}
+use lib.Dec.{leb}
 use lib.ListN.{length, getD, length-map}
 use borrow.Author.Tests.{leb-true}
-use Rattle.language.specs.Basics.{among}
-use Rattle.language.specs.Text.{Operation, Formal, Action, CL, GO, IF, KN, AR, AD, RM, QY, Block, block, Decl, VR, LB, PR, Stmt, BK, DO, Decls, no-decl, decl, Stmts, no-stmt, stmt, decls, declName, formalNames}
+use Rattle.language.specs.Text.{Formal, Action, CL, GO, IF, KN, AR, AD, RM, QY, Block, block, VR, LB, PR, BK, DO, Decls, no-decl, decl, no-stmt, stmt, decls, declName, formalNames}
 use Rattle.language.specs.Encoding.{fieldsOf, signed}
-use Rattle.language.specs.Structure.{Reading, read, refuse, Reader, _>>=_, _>>_, give, here, require, fields, Row, DeclMark, isVR, isLB, isPR, StmtMark, isBK, isCL, isGO, isIF, isKN, isAR, isAD, isRM, isQY, blockMarks, formalMarks, declMarks, stmtMarks, Record, take-record, kind, operation, formals, BlockReader, declared, declarations, action, stated, statements, blockWith, program}
+use Rattle.language.specs.Structure.{Reading, read, refuse, Reader, _>>=_, _>>_, give, require, fields, DeclMark, isVR, isLB, isPR, StmtMark, isBK, isCL, isGO, isIF, isKN, isAR, isAD, isRM, isQY, blockMarks, declMarks, stmtMarks, take-record, operation, formals, BlockReader, declared, declarations, action, stated, statements, blockWith, program}
 use Rattle.language.specs.Scope.{Verdict, fine, wrong, judgeBlock}
 use Rattle.language.specs.Check.{Checked, accepted, refused, lengthFits, judged, ended, check}
 use Rattle.language.specs.declared.Refusal.{Refusal}
-use Rattle.language.specs.declared.Refusal.the-variants.{TooManyNames, NameTwice, FieldRange, ScriptLength}
+use Rattle.language.specs.declared.Refusal.the-variants.{TooManyNames, ScriptLength}
 use Rattle.runs.specs.Names.{FitsBlock, FitsDecl, FitsStmt, FitsDecls, FitsStmts}
 
 abbrev pub Reads : {A : Type 0} → (A → Type 0) → Reading A → Type 0

@@ -1,19 +1,19 @@
 -- What a run never exceeds: at most D activations are live (`live-bound`, and `start-bound` from a run's start on), and the
 -- table's words keep their number (`words-kept`).
-use Prim.Native.Nat.{ℕ, zero, suc, pred, _+_, _-_, _≤_, _<_}
+use Prim.Native.Nat.{ℕ, suc, pred, _≤_}
 use native.Mathlib.Omega.{arith}
-use mathlib.Core.Path.{_≡_, refl, sym, ap, _∙_}
+use mathlib.Core.Path.{_≡_, refl, _∙_}
 use mathlib.Core.List.{List, [], _∷_, _++_}
-use mathlib.Core.Option.{Option, some}
+use mathlib.Core.Option.{some}
 use lib.ListN.{length, take, length-append, length-take}
-use Rattle.language.specs.Basics.{last?, butLast}
+use Rattle.language.specs.Basics.{last?}
 use Rattle.language.specs.Text.{Block, labelIndex, declFormals, declBody, formalNames}
-use Rattle.language.specs.Table.{Table, add, remove}
+use Rattle.language.specs.Table.{Table}
 use Rattle.language.specs.Copy.{Replacement}
-use Rattle.language.specs.Machine.{Activation, State, Instance, Limits, Outcome, withLive, withTable, counted, resume, store, activation, enter, advance, instance, run, start}
+use Rattle.language.specs.Machine.{Activation, State, Instance, Limits, withLive, withTable, counted, resume, store, activation, enter, advance, instance, run, start}
 use Rattle.runs.specs.Moves.{Kept, run-keeps}
 use Rattle.runs.specs.TableLaws.{add-length, remove-length}
-use Rattle.runs.specs.Instances.{butLast-length, replaced-length, Stands, instance-stands}
+use Rattle.runs.specs.Instances.{butLast-length, replaced-length, instance-stands}
 
 words-stay : (l : Limits) (w : ℕ) → Kept l (λ s. length (s .table .words) ≡ w)
 unfolding withLive withTable store enter advance

@@ -1,30 +1,28 @@
 -- The whole call `reply e f`: which refusal is due, what a refusal leaves, and that sheet and table keep their lengths in every case.
 -- Read `Due e f c o` as: in the paper's order of tests, the cause c with the offset o is the first that holds.
-use Prim.Native.Nat.{ℕ, zero, suc, _+_, _*_, _≤_, _<_}
+use Prim.Native.Nat.{ℕ, _+_, _*_, _≤_, zero-le}
 use native.Mathlib.Nat.{add-zero}
 use native.Mathlib.Omega.{arith}
-use mathlib.Core.Logic.{_≢_, _⊎_, inl, inr}
+use mathlib.Core.Logic.{_≢_}
 use mathlib.Core.Path.{_≡_, refl, sym, ap, _∙_, subst}
 use mathlib.Core.Bool.{Bool, true, false, _&&_, and-eq-true-iff}
-use mathlib.Core.List.{List, [], _∷_, _++_}
 use lib.Dec.{leb}
-use lib.IntN.{ℤ}
 use lib.ListN.{length, drop, length-append, length-drop}
+use lib.Seq.{drop-append-seam}
 use borrow.Author.Tests.{leb-true}
 use Rattle.language.specs.Text.{Block}
 use Rattle.language.specs.Check.{Checked, accepted, refused, check}
 use Rattle.language.specs.Table.{Table, right}
-use Rattle.language.specs.Machine.{State, Limits, Outcome, run, start, enter}
+use Rattle.language.specs.Machine.{Limits, run, start, enter}
 use Rattle.language.specs.Sheet.{sheetWords}
 use Rattle.language.specs.Call.{Engine, Fed, Reply, limitsFit, recordsFit, lentFits, areaFits, turnedAway, replied, runOf, checked, reply}
 use Rattle.language.specs.declared.Refusal.{Refusal}
 use Rattle.language.specs.declared.Refusal.the-variants.{LimitRange, AreaTooShort, TableNotRight}
-use Rattle.language.specs.declared.End.{End}
 use Rattle.language.specs.declared.End.the-variants.{Refused}
 use Rattle.runs.specs.Steps.{steps-at-most, never-refused}
 use Rattle.runs.specs.TableLaws.{run-right}
 use Rattle.runs.specs.Bounds.{words-kept, start-bound}
-use Rattle.runs.specs.Names.{FitsState, run-fits, start-fits}
+use Rattle.runs.specs.Names.{run-fits, start-fits}
 use Rattle.runs.specs.Accepted.{accepted-fits}
 use Rattle.runs.specs.SheetWords.{sheet-words-most}
 
@@ -169,3 +167,28 @@ ran-sheet e f t h =
 
 pub sheet-length : (e : Engine) (f : Fed) → length ((reply e f) .sheet) ≡ length (f .sheet)
 sheet-length e f = reply-cases (λ r. length (r .sheet) ≡ length (f .sheet)) e f (λ c o h. ap length ((away-untouched f c o) .sheet)) (λ t h. ran-sheet e f t h)
+
+-- What the answer reports, in every case: at most N steps, the tally given plus the steps, sheet words that fit what was lent.
+pub record Reported (f : Fed) (r : Reply) : Type 0 where
+  pub steps : r .answer .steps ≤ f .allowance
+  pub tally : r .answer .tally ≡ f .tally + r .answer .steps
+  pub words : r .answer .sheet ≤ length (f .sheet)
+  -- words past the sheet keep their contents
+  pub past : drop (r .answer .sheet) (r .sheet) ≡ drop (r .answer .sheet) (f .sheet)
+  -- a right table comes back right, with the count reported
+  pub table : right (f .group) (f .table) ≡ true → right (f .group) (record { words = r .table; used = r .answer .pairs }) ≡ true
+
+away-reported : (f : Fed) (c : Refusal) (o : ℕ) → Reported f (turnedAway f c o)
+unfolding turnedAway
+away-reported f c o = record { steps = zero-le; tally = sym (add-zero (f .tally)); words = zero-le; past = refl; table = λ h. h }
+
+ran-reported : (e : Engine) (f : Fed) (t : Block) → Runs e f t → Reported f (replied e f (runOf f t))
+unfolding replied runOf limitsOf
+ran-reported e f t h =
+    let n = f .allowance in
+    let s = start t (f .table) in
+    let ws = sheetWords ((run (limitsOf f) n s) .final) in
+    record { steps = omega (arith, steps-at-most (limitsOf f) n s, start-steps t (f .table)); tally = refl; words = omega (arith, sheet-fits e f t h, lent-sheet e f (h .lent)); past = drop-append-seam ws (drop (length ws) (f .sheet)); table = λ r. run-right (limitsOf f) n s (ap (right (f .group)) (start-table t (f .table)) ∙ r) }
+
+pub reported : (e : Engine) (f : Fed) → Reported f (reply e f)
+reported e f = reply-cases (Reported f) e f (λ c o h. away-reported f c o) (λ t h. ran-reported e f t h)

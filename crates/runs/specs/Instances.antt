@@ -1,10 +1,10 @@
 -- Laws of the last activation and of the declared instance of a name: where it stands among the live activations.
-use Prim.Native.Nat.{ℕ, zero, suc, pred, _+_, _-_, _≤_, _<_}
+use Prim.Native.Nat.{ℕ, suc, _+_, _-_, _≤_, _<_}
 use native.Mathlib.Omega.{arith}
 use mathlib.Core.Path.{_≡_, refl, sym, ap, _∙_, subst}
 use mathlib.Core.List.{List, [], _∷_, _++_}
 use mathlib.Core.Option.{Option, none, some, Option·none-ne-some, Option·some-injective}
-use lib.ListN.{length, take, drop, getElem?, length-append}
+use lib.ListN.{length, getElem?, length-append}
 use Rattle.language.specs.Basics.{last?, butLast}
 use Rattle.language.specs.Text.{Decl, blockDecls}
 use Rattle.language.specs.Machine.{Activation, State, Instance, declaredAt, instanceFrom, instance}

@@ -13,8 +13,7 @@ use borrow.Author.Tests.{ltb-true, leb-false}
 use Rattle.language.specs.Basics.{last?, butLast, eqZ}
 use Rattle.language.specs.Text.{Action, CL, GO, IF, KN, AR, AD, RM, QY, Block, Stmt, BK, DO, labelIndex, declFormals, declBody, formalNames, formalKinds}
 use Rattle.language.specs.Scope.{agree}
-use Rattle.language.specs.Copy.{Replacement}
-use Rattle.language.specs.Table.{Table, holds, size, atLeastOne, full, add, remove}
+use Rattle.language.specs.Table.{holds, size, atLeastOne, full, add, remove}
 use Rattle.language.specs.Machine.{Activation, State, Limits, Outcome, Instance, Done, did, stop, withLive, withTable, counted, resume, store, value, enter, instance, kindAt, enterIfRoom, call, jump, compute, storeIfFits, addPair, removePair, queryPair, doAction, doStmt, nextStmt, advance, stepIn, step, nextOffset, ends, run}
 use Rattle.language.specs.declared.Stop.the-variants.{ResultTooLarge, NoActivationLeft, NumberBelowOne, GroupFull, TableFull, ArgumentsDiffer}
 use Rattle.language.specs.declared.End.the-variants.{Finished, Spent, Stopped}

@@ -1,22 +1,22 @@
 -- Every block of an accepted script has at most 32 names, its formals with them, and so has every activation of a run of it.
 -- Read `FitsBlock b p` as: the block b, with p formals, has at most 32 names, and so has every block and body within.
-use Prim.Native.Nat.{ℕ, zero, suc, pred, _+_, _-_, _≤_}
+use Prim.Native.Nat.{ℕ, suc, pred, _+_, _-_, _≤_}
 use native.Mathlib.Omega.{arith}
 use mathlib.Core.Path.{_≡_, refl, sym, ap, _∙_, subst}
-use mathlib.Core.Bool.{Bool, true, false, _&&_, false≢true, and-eq-true-iff}
+use mathlib.Core.Bool.{Bool, true, false, false≢true, and-eq-true-iff}
 use mathlib.Core.List.{List, [], _∷_, _++_, map}
 use mathlib.Core.Option.{Option, none, some, Option·none-ne-some, Option·some-injective}
 use lib.Dec.{eqb}
-use lib.ListN.{length, take, getElem?, length-map}
+use lib.ListN.{length, take, length-map}
 use Rattle.language.specs.Basics.{last?, butLast}
 use Rattle.language.specs.Text.{Kind, Formal, Block, block, Decl, VR, LB, PR, Stmt, BK, DO, Decls, no-decl, decl, Stmts, no-stmt, stmt, decls, stmts, blockDecls, blockStmts, declName, labelIndex, declFormals, declBody, formalNames, formalKinds, declaredNames, sameKind}
 use Rattle.language.specs.Scope.{agree}
-use Rattle.language.specs.Copy.{Replacement, renameBlock, renameDecl, renameStmt, renameDecls, renameStmts, without, renamed}
+use Rattle.language.specs.Copy.{Replacement, renameBlock, renameDecl, renameStmt, renameDecls, renameStmts, without}
 use Rattle.language.specs.Table.{Table}
-use Rattle.language.specs.Machine.{Activation, State, Instance, Limits, Outcome, withLive, withTable, counted, resume, store, ownNames, activation, enter, advance, declaredAt, instance, kindAt, nextStmt, run, start}
+use Rattle.language.specs.Machine.{Activation, State, Instance, Limits, withLive, withTable, counted, resume, store, ownNames, activation, enter, advance, declaredAt, instance, kindAt, nextStmt, run, start}
 use Rattle.runs.specs.Moves.{Kept, run-keeps}
 use Rattle.runs.specs.Every.{Every, every-append, every-take, every-butLast, every-last, every-at}
-use Rattle.runs.specs.Instances.{Stands, instance-stands}
+use Rattle.runs.specs.Instances.{instance-stands}
 
 unfoldable mutual
   pub FitsBlock : Block → ℕ → Type 0

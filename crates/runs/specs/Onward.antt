@@ -1,11 +1,11 @@
 -- Running n steps and then m more from there is running n + m steps: `run-onward`.
 use Prim.Native.Nat.{ℕ, suc, _+_, _-_}
 use native.Mathlib.Omega.{arith}
-use mathlib.Core.Path.{_≡_, refl, sym, ap, _∙_}
+use mathlib.Core.Path.{_≡_, sym, ap, _∙_}
 use Rattle.language.specs.Machine.{State, Limits, Outcome, ends, run}
 use Rattle.language.specs.declared.End.{End}
 use Rattle.language.specs.declared.End.the-variants.{Finished, Spent, Stopped, Refused}
-use Rattle.runs.specs.Account.{Reached, Reason, Account, account, run-finished, run-stopped, run-reached}
+use Rattle.runs.specs.Account.{Reached, Reason, account, run-finished, run-stopped, run-reached}
 
 -- m steps more from the state left, where the steps allowed were spent; any other end is the end
 unfoldable pub onward : Limits → ℕ → Outcome → Outcome

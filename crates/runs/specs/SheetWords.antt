@@ -1,12 +1,12 @@
 -- The words of a sheet: at most 34 for each live activation that has at most 32 names.
-use Prim.Native.Nat.{ℕ, suc, _+_, _*_, _≤_}
+use Prim.Native.Nat.{ℕ, _+_, _*_, _≤_}
 use native.Mathlib.Omega.{arith}
-use mathlib.Core.Path.{_≡_, refl, sym, ap, _∙_}
+use mathlib.Core.Path.{_≡_}
 use mathlib.Core.List.{List, [], _∷_, _++_, map}
 use lib.IntN.{ℤ, pos}
 use lib.ListN.{length, length-append, length-map}
-use Rattle.language.specs.Text.{Block, Decl, blockAt, blockDecls}
-use Rattle.language.specs.Machine.{Activation, State, Limits, Outcome, run, start}
+use Rattle.language.specs.Text.{blockDecls}
+use Rattle.language.specs.Machine.{Activation, State}
 use Rattle.language.specs.Sheet.{designator, declWord, activationWords, wordsOf, sheetWords}
 use Rattle.runs.specs.Every.{Every}
 use Rattle.runs.specs.Names.{FitsActivation, FitsState, block-names}

@@ -1,17 +1,17 @@
 -- How a run of at most n steps from the state s ends, and how many steps it did.
 -- Read `(run l n s) .final` as the state left, `.end` as the answer's end and `.steps` as the count of steps done since the start.
-use Prim.Native.Nat.{ℕ, suc, _+_, _≤_, _<_}
+use Prim.Native.Nat.{ℕ, _+_, _≤_, _<_}
 use native.Mathlib.Omega.{arith}
 use mathlib.Core.Logic.{_≢_, _↔_}
 use mathlib.Core.Path.{_≡_, refl, sym, ap, _∙_}
 use mathlib.Core.List.{[]}
 use Rattle.language.specs.Numbers.{endNumber}
-use Rattle.language.specs.Machine.{State, Limits, Outcome, stop, step, run}
+use Rattle.language.specs.Machine.{State, Limits, stop, step, run}
 use Rattle.language.specs.declared.Stop.{Stop}
 use Rattle.language.specs.declared.Refusal.{Refusal}
 use Rattle.language.specs.declared.End.{End}
 use Rattle.language.specs.declared.End.the-variants.{Finished, Spent, Stopped, Refused}
-use Rattle.runs.specs.Account.{Reason, Account, account, reached-steps}
+use Rattle.runs.specs.Account.{Reason, account, reached-steps}
 
 -- the ends that differ in number are different
 pub clash : {X : Type 0} (e f : End) → endNumber e ≢ endNumber f → e ≡ f → X

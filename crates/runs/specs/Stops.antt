@@ -5,15 +5,14 @@ use Prim.Native.Nat.{ℕ, _+_, _<_}
 use native.Mathlib.Nat.{add-zero}
 use native.Mathlib.Omega.{arith}
 use mathlib.Core.Logic.{_≢_}
-use mathlib.Core.Path.{_≡_, refl, sym, ap, _∙_}
-use mathlib.Core.List.{List, []}
-use lib.IntN.{ℤ}
-use Rattle.language.specs.Machine.{State, Limits, Outcome, stop, step, nextOffset, ends, run}
+use mathlib.Core.Path.{_≡_, sym, ap, _∙_}
+use mathlib.Core.List.{[]}
+use Rattle.language.specs.Machine.{State, Limits, stop, step, nextOffset, ends, run}
 use Rattle.language.specs.Sheet.{sheetWords}
 use Rattle.language.specs.declared.Stop.{Stop}
 use Rattle.language.specs.declared.End.{End}
 use Rattle.language.specs.declared.End.the-variants.{Finished, Spent, Stopped, Refused}
-use Rattle.runs.specs.Account.{Reached, Reason, Account, account, run-spent, run-reached, reached-steps}
+use Rattle.runs.specs.Account.{Reached, Reason, account, run-spent, run-reached, reached-steps}
 use Rattle.runs.specs.Steps.{clash}
 
 pub record Before (l : Limits) (n : ℕ) (s : State) (c : Stop) (k : ℕ) : Type 0 where

@@ -5,8 +5,8 @@ use native.Mathlib.Nat.{not-suc-le-zero, add-zero}
 use native.Mathlib.Omega.{arith}
 use mathlib.Core.Logic.{_≢_, _⊎_, inl, inr}
 use mathlib.Core.Path.{_≡_, refl, sym, ap, ap₂, _∙_, subst}
-use mathlib.Core.Bool.{Bool, true, false, _&&_, cond, true≢false, and-eq-true-iff}
-use mathlib.Core.List.{List, [], _∷_}
+use mathlib.Core.Bool.{Bool, true, false, _&&_, cond, and-eq-true-iff}
+use mathlib.Core.List.{List}
 use mathlib.Core.Option.{Option, none, some}
 use lib.IntN.{ℤ, pos}
 use lib.ListN.{length, getD, set, length-set}
@@ -14,8 +14,8 @@ use lib.Seq.{getD-set-same, getD-set-other}
 use borrow.Author.Tests.{ltb-false}
 use Rattle.language.specs.Basics.{eqZ}
 use Rattle.language.specs.Table.{Table, find, isSome, holds, members, size, atLeastOne, right, full, add, takeOut, fewer, remove}
-use Rattle.language.specs.Machine.{State, Limits, Outcome, withLive, withTable, counted, store, enter, advance, run}
-use Rattle.runs.specs.Pairs.{eqZ-true, groupAt, memberAt, At, Place, orElse, below-or, find-some, find-next, find-same, find-absent, find-present, absent, counts, members-next, members-same}
+use Rattle.language.specs.Machine.{State, Limits, withLive, withTable, counted, store, enter, advance, run}
+use Rattle.runs.specs.Pairs.{eqZ-true, groupAt, memberAt, At, orElse, below-or, find-some, find-next, find-same, find-absent, find-present, absent, members-next, members-same}
 use Rattle.runs.specs.TakingOut.{takeOut-length, takeOut-place-before, takeOut-place-after, takeOut-members}
 use Rattle.runs.specs.Rightness.{Right, right-means, right-holds}
 use Rattle.runs.specs.Moves.{Kept, run-keeps}
