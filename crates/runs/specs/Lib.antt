@@ -1,6 +1,7 @@
 -- Theorems about the copy-rule machine of document 01, in reading order.
 pub mod Moves
 pub mod Account
+pub mod Reasons
 pub mod Steps
 pub mod Onward
 pub mod Stops

@@ -3,17 +3,15 @@
 -- statement there has the cause c to stop; the offset is that statement's. So values, table and sheet are those before it.
 use Prim.Native.Nat.{ℕ, _+_, _<_}
 use native.Mathlib.Nat.{add-zero}
-use native.Mathlib.Omega.{arith}
 use mathlib.Core.Logic.{_≢_}
 use mathlib.Core.Path.{_≡_, sym, ap, _∙_}
 use mathlib.Core.List.{[]}
 use Rattle.language.specs.Machine.{State, Limits, stop, step, nextOffset, ends, run}
 use Rattle.language.specs.Sheet.{sheetWords}
 use Rattle.language.specs.declared.Stop.{Stop}
-use Rattle.language.specs.declared.End.{End}
-use Rattle.language.specs.declared.End.the-variants.{Finished, Spent, Stopped, Refused}
-use Rattle.runs.specs.Account.{Reached, Reason, account, run-spent, run-reached, reached-steps}
-use Rattle.runs.specs.Steps.{clash}
+use Rattle.language.specs.declared.End.the-variants.{Spent, Stopped}
+use Rattle.runs.specs.Account.{Reached, account, run-spent, run-reached, reached-steps}
+use Rattle.runs.specs.Reasons.{stop-by}
 
 pub record Before (l : Limits) (n : ℕ) (s : State) (c : Stop) (k : ℕ) : Type 0 where
   pub fewer : k < n
@@ -25,12 +23,6 @@ pub record Before (l : Limits) (n : ℕ) (s : State) (c : Stop) (k : ℕ) : Type
 -- a state reached in k steps with an activation live is the state left by a run of k steps, which is spent
 pub reached-spent : (l : Limits) {s t : State} {k : ℕ} → Reached l s k t → t .live ≢ [] → run l k s ≡ ends Spent 0 t
 reached-spent l {s} {t} {k} r e = ap (λ i. run l i s) (sym (add-zero k)) ∙ run-reached l r 0 ∙ run-spent l t e
-
-stop-by : (l : Limits) (n k : ℕ) (e : End) (o : ℕ) (t : State) (c : Stop) → Reason l n k e o t → e ≡ Stopped c → (k < n) × (t .live ≢ []) × (o ≡ nextOffset t) × (step l t ≡ stop c)
-stop-by l n k Finished o t c h q = clash Finished (Stopped c) (omega arith) q
-stop-by l n k Spent o t c h q = clash Spent (Stopped c) (omega arith) q
-stop-by l n k (Stopped d) o t c h q = (h .0, h .1, h .2, h .3 ∙ cc)
-stop-by l n k (Refused d) o t c h q = absurd h
 
 pub stop-before : (l : Limits) (n : ℕ) (s : State) (c : Stop) → (run l n s) .end ≡ Stopped c → Before l n s c ((account l n s) .done)
 stop-before l n s c e =
