@@ -1,5 +1,6 @@
 -- The whole call `reply e f`: which refusal is due, what a refusal leaves, and that sheet and table keep their lengths in every case.
--- Read `Due e f c o` as: in the paper's order of tests, the cause c with the offset o is the first that holds.
+-- Read `Due e f c o` as: in the paper's order of tests, the cause c with the offset o is the first that holds. The theorems:
+-- `due-reply`, `runs-reply`, `refused-due`, `refused-untouched`, `table-length`, `sheet-length` and `reported`.
 use Prim.Native.Nat.{ℕ, _+_, _*_, _≤_, zero-le}
 use native.Mathlib.Nat.{add-zero}
 use native.Mathlib.Omega.{arith}
@@ -14,7 +15,7 @@ use Rattle.language.specs.Text.{Block}
 use Rattle.language.specs.Check.{Checked, accepted, refused, check}
 use Rattle.language.specs.Table.{Table, right}
 use Rattle.language.specs.Machine.{Limits, run, start, enter}
-use Rattle.language.specs.Sheet.{sheetWords}
+use Rattle.language.specs.Sheet.{sheetWords, lookedUpDesignator}
 use Rattle.language.specs.Call.{Engine, Fed, Reply, limitsFit, recordsFit, lentFits, areaFits, turnedAway, replied, runOf, checked, reply}
 use Rattle.language.specs.declared.Refusal.{Refusal}
 use Rattle.language.specs.declared.Refusal.the-variants.{LimitRange, AreaTooShort, TableNotRight}
@@ -22,8 +23,9 @@ use Rattle.language.specs.declared.End.the-variants.{Refused}
 use Rattle.runs.specs.Steps.{steps-at-most, never-refused}
 use Rattle.runs.specs.TableLaws.{run-right}
 use Rattle.runs.specs.Bounds.{words-kept, start-bound}
-use Rattle.runs.specs.Names.{run-fits, start-fits}
+use Rattle.runs.specs.Names.{FitsState, run-fits, start-fits}
 use Rattle.runs.specs.Accepted.{accepted-fits}
+use Rattle.runs.specs.Designators.{lookedUp-most}
 use Rattle.runs.specs.SheetWords.{sheet-words-most}
 
 -- 12, 13 for the sheet and records, 14, the check's, 13 for the copying area
@@ -151,13 +153,18 @@ lent-sheet : (e : Engine) (f : Fed) → lentFits e f ≡ true → f .activations
 unfolding lentFits
 lent-sheet e f h = leb-true (f .activations * 34) (length (f .sheet)) (((and-eq-true-iff (leb (f .activations * 34) (length (f .sheet))) (recordsFit e (f .activations))) .0 h) .0)
 
+-- every activation left by the run has at most 32 names, and at most D are live
+left-fits : (e : Engine) (f : Fed) (t : Block) → Runs e f t → FitsState ((runOf f t) .final) × (length ((runOf f t) .final .live) ≤ f .activations)
+unfolding runOf limitsOf
+left-fits e f t h =
+    (run-fits (limitsOf f) (f .allowance) (start t (f .table)) (start-fits t (f .table) (accepted-fits (f .script) t (h .script))), start-bound (limitsOf f) (f .allowance) t (f .table) (limits-live f (h .limits)))
+
 -- the words written fit the sheet: at most 34 for each of at most D activations
 sheet-fits : (e : Engine) (f : Fed) (t : Block) → Runs e f t → length (sheetWords ((runOf f t) .final)) ≤ f .activations * 34
-unfolding runOf limitsOf
-sheet-fits e f t h =
-    let n = f .allowance in
-    let s = start t (f .table) in
-    omega (arith, start-bound (limitsOf f) n t (f .table) (limits-live f (h .limits)), sheet-words-most ((run (limitsOf f) n s) .final) (run-fits (limitsOf f) n s (start-fits t (f .table) (accepted-fits (f .script) t (h .script)))))
+sheet-fits e f t h = let q = left-fits e f t h in omega (arith, q .1, sheet-words-most ((runOf f t) .final) (q .0))
+
+designator-fits : (e : Engine) (f : Fed) (t : Block) → Runs e f t → lookedUpDesignator ((runOf f t) .final) (f .name) ≤ f .activations * 64 + 32
+designator-fits e f t h = let q = left-fits e f t h in omega (arith, q .1, lookedUp-most ((runOf f t) .final) (f .name) (q .0))
 
 ran-sheet : (e : Engine) (f : Fed) (t : Block) → Runs e f t → length ((replied e f (runOf f t)) .sheet) ≡ length (f .sheet)
 unfolding replied
@@ -168,11 +175,13 @@ ran-sheet e f t h =
 pub sheet-length : (e : Engine) (f : Fed) → length ((reply e f) .sheet) ≡ length (f .sheet)
 sheet-length e f = reply-cases (λ r. length (r .sheet) ≡ length (f .sheet)) e f (λ c o h. ap length ((away-untouched f c o) .sheet)) (λ t h. ran-sheet e f t h)
 
--- What the answer reports, in every case: at most N steps, the tally given plus the steps, sheet words that fit what was lent.
+-- What the answer reports, in every case: at most N steps, the tally given plus the steps, at most 34 sheet words for each of D
+-- activations, and a designator of one of them.
 pub record Reported (f : Fed) (r : Reply) : Type 0 where
   pub steps : r .answer .steps ≤ f .allowance
   pub tally : r .answer .tally ≡ f .tally + r .answer .steps
-  pub words : r .answer .sheet ≤ length (f .sheet)
+  pub words : r .answer .sheet ≤ f .activations * 34
+  pub designator : r .answer .designator ≤ f .activations * 64 + 32
   -- words past the sheet keep their contents
   pub past : drop (r .answer .sheet) (r .sheet) ≡ drop (r .answer .sheet) (f .sheet)
   -- a right table comes back right, with the count reported
@@ -180,7 +189,7 @@ pub record Reported (f : Fed) (r : Reply) : Type 0 where
 
 away-reported : (f : Fed) (c : Refusal) (o : ℕ) → Reported f (turnedAway f c o)
 unfolding turnedAway
-away-reported f c o = record { steps = zero-le; tally = sym (add-zero (f .tally)); words = zero-le; past = refl; table = λ h. h }
+away-reported f c o = record { steps = zero-le; tally = sym (add-zero (f .tally)); words = zero-le; designator = zero-le; past = refl; table = λ h. h }
 
 ran-reported : (e : Engine) (f : Fed) (t : Block) → Runs e f t → Reported f (replied e f (runOf f t))
 unfolding replied runOf limitsOf
@@ -188,7 +197,7 @@ ran-reported e f t h =
     let n = f .allowance in
     let s = start t (f .table) in
     let ws = sheetWords ((run (limitsOf f) n s) .final) in
-    record { steps = omega (arith, steps-at-most (limitsOf f) n s, start-steps t (f .table)); tally = refl; words = omega (arith, sheet-fits e f t h, lent-sheet e f (h .lent)); past = drop-append-seam ws (drop (length ws) (f .sheet)); table = λ r. run-right (limitsOf f) n s (ap (right (f .group)) (start-table t (f .table)) ∙ r) }
+    record { steps = omega (arith, steps-at-most (limitsOf f) n s, start-steps t (f .table)); tally = refl; words = sheet-fits e f t h; designator = designator-fits e f t h; past = drop-append-seam ws (drop (length ws) (f .sheet)); table = λ r. run-right (limitsOf f) n s (ap (right (f .group)) (start-table t (f .table)) ∙ r) }
 
 pub reported : (e : Engine) (f : Fed) → Reported f (reply e f)
 reported e f = reply-cases (Reported f) e f (λ c o h. away-reported f c o) (λ t h. ran-reported e f t h)

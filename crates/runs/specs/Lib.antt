@@ -15,4 +15,5 @@ pub mod Every
 pub mod Names
 pub mod Accepted
 pub mod SheetWords
+pub mod Designators
 pub mod Calls

@@ -1,5 +1,6 @@
 -- Every block of an accepted script has at most 32 names, its formals with them, and so has every activation of a run of it.
--- Read `FitsBlock b p` as: the block b, with p formals, has at most 32 names, and so has every block and body within.
+-- Read `FitsBlock b p` as: the block b, with p formals, has at most 32 names, and so has every block and body within. `run-fits` is
+-- the theorem, `start-fits` where a run begins.
 use Prim.Native.Nat.{ℕ, suc, pred, _+_, _-_, _≤_}
 use native.Mathlib.Omega.{arith}
 use mathlib.Core.Path.{_≡_, refl, sym, ap, _∙_, subst}
@@ -123,10 +124,10 @@ FitsActivation a = FitsBlock (a .text) (length (a .arguments))
 abbrev pub FitsState : State → Type 0
 FitsState s = Every FitsActivation (s .live)
 
-instance-home : (s : State) (x : ℕ) (i : Instance) → instance s x ≡ some i → FitsState s → FitsActivation (i .home)
+pub instance-home : (s : State) (x : ℕ) (i : Instance) → instance s x ≡ some i → FitsState s → FitsActivation (i .home)
 instance-home s x i e h = every-at FitsActivation (s .live) (i .number - 1) (i .home) ((instance-stands s x i e) .home) h
 
-instance-decl : (s : State) (x : ℕ) (i : Instance) → instance s x ≡ some i → FitsState s → FitsDecl (i .decl)
+pub instance-decl : (s : State) (x : ℕ) (i : Instance) → instance s x ≡ some i → FitsState s → FitsDecl (i .decl)
 instance-decl s x i e h =
     declared-fits x (suc (length (i .home .arguments))) (blockDecls (i .home .text)) (i .position, i .decl) ((instance-stands s x i e) .declared) (block-decls (i .home .text) (length (i .home .arguments)) (instance-home s x i e h))
 
