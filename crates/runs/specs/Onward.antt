@@ -1,0 +1,28 @@
+-- Running n steps and then m more from there is running n + m steps: `run-onward`.
+use Prim.Native.Nat.{ℕ, suc, _+_, _-_}
+use native.Mathlib.Omega.{arith}
+use mathlib.Core.Path.{_≡_, sym, ap, _∙_}
+use Rattle.language.specs.Machine.{State, Limits, Outcome, ends, run}
+use Rattle.language.specs.declared.End.{End}
+use Rattle.language.specs.declared.End.the-variants.{Finished, Spent, Stopped, Refused}
+use Rattle.runs.specs.Account.{Reached, Reason, account, run-finished, run-stopped, run-reached}
+
+-- m steps more from the state left, where the steps allowed were spent; any other end is the end
+unfoldable pub onward : Limits → ℕ → Outcome → Outcome
+onward l m r = elim (r .end) [ Finished ↦ r | Spent ↦ run l m (r .final) | Stopped c ↦ r | Refused c ↦ r ]
+
+-- by the end e of the run so far, of which k steps were done
+onward-by : (l : Limits) (n m k : ℕ) (s t : State) (e : End) (o : ℕ) → Reached l s k t → Reason l n k e o t → run l (n + m) s ≡ onward l m (ends e o t)
+unfolding onward ends
+onward-by l n m k s t Finished o r h =
+    let j : k + (n - k + m) ≡ n + m = omega (arith, h .0) in
+    ap (λ i. run l i s) (sym j) ∙ run-reached l r (n - k + m) ∙ run-finished l (n - k + m) t (h .1) ∙ ap (λ i. ends Finished i t) (sym (h .2))
+onward-by l n m k s t Spent o r h = ap (λ i. run l (i + m) s) (sym (h .0)) ∙ run-reached l r m
+onward-by l n m k s t (Stopped c) o r h =
+    let j : k + suc (n - k - 1 + m) ≡ n + m = omega (arith, h .0) in
+    ap (λ i. run l i s) (sym j) ∙ run-reached l r (suc (n - k - 1 + m)) ∙ run-stopped l (n - k - 1 + m) t c (h .1) (h .3) ∙ ap (λ i. ends (Stopped c) i t) (sym (h .2))
+onward-by l n m k s t (Refused c) o r h = absurd h
+
+pub run-onward : (l : Limits) (n m : ℕ) (s : State) → run l (n + m) s ≡ onward l m (run l n s)
+unfolding ends
+run-onward l n m s = let r = run l n s in let a = account l n s in onward-by l n m (a .done) s (r .final) (r .end) (r .offset) (a .reached) (a .reason)

@@ -1,0 +1,1 @@
+// Theorems about the copy-rule machine alone: see specs/.
