@@ -1,0 +1,80 @@
+//! One step: replacing names throughout the text that they govern.
+
+use std::collections::BTreeMap;
+
+use crate::tree::{Action, Block, Declaration, Declared, Name, Procedure, Statement};
+
+/// What names read as. A name without an entry reads as itself.
+pub type Readings = BTreeMap<Name, Name>;
+
+/// A copy of a block that is being entered; its own names are among the readings.
+pub fn entered(block: &Block, readings: &Readings) -> Block {
+    Block {
+        offset: block.offset,
+        declarations: block.declarations.iter().map(|it| declaration(it, readings)).collect(),
+        statements: block.statements.iter().map(|it| statement(it, readings)).collect(),
+    }
+}
+
+fn name(name: Name, readings: &Readings) -> Name {
+    *readings.get(&name).unwrap_or(&name)
+}
+
+/// A name declared again nearer is not governed from outside.
+fn without(readings: &Readings, declared: impl Iterator<Item = Name>) -> Readings {
+    let mut inner = readings.clone();
+    for name in declared {
+        inner.remove(&name);
+    }
+    inner
+}
+
+fn inner_block(block: &Block, readings: &Readings) -> Block {
+    entered(block, &without(readings, block.declared_names()))
+}
+
+fn declaration(declaration: &Declaration, readings: &Readings) -> Declaration {
+    let declared = match &declaration.declared {
+        Declared::Procedure(it) => Declared::Procedure(procedure(it, readings)),
+        other => other.clone(),
+    };
+    Declaration { offset: declaration.offset, name: name(declaration.name, readings), declared }
+}
+
+fn procedure(procedure: &Procedure, readings: &Readings) -> Procedure {
+    let inner = without(readings, procedure.declared_names());
+    Procedure { formals: procedure.formals.clone(), body: entered(&procedure.body, &inner) }
+}
+
+fn statement(statement: &Statement, readings: &Readings) -> Statement {
+    Statement { offset: statement.offset, action: action(&statement.action, readings) }
+}
+
+fn action(action: &Action, readings: &Readings) -> Action {
+    let now = |it: &Name| name(*it, readings);
+    match action {
+        Action::Block(block) => Action::Block(inner_block(block, readings)),
+        Action::Call { procedure, arguments } => Action::Call {
+            procedure: now(procedure),
+            arguments: arguments.iter().map(now).collect(),
+        },
+        Action::Go { label } => Action::Go { label: now(label) },
+        Action::If { variable, label } => Action::If { variable: now(variable), label: now(label) },
+        Action::Constant { target, value } => {
+            Action::Constant { target: now(target), value: *value }
+        }
+        Action::Arithmetic { target, operation, left, right } => Action::Arithmetic {
+            target: now(target),
+            operation: *operation,
+            left: now(left),
+            right: now(right),
+        },
+        Action::Add { group, member } => Action::Add { group: now(group), member: now(member) },
+        Action::Remove { group, member } => {
+            Action::Remove { group: now(group), member: now(member) }
+        }
+        Action::Query { target, group, member } => {
+            Action::Query { target: now(target), group: now(group), member: now(member) }
+        }
+    }
+}

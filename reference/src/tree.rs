@@ -1,0 +1,96 @@
+//! Encoding: the text as a tree, each record with its byte offset.
+
+/// 16 bits in a script; the copy rule's new names lie above them.
+pub type Name = u32;
+
+#[derive(Clone, Copy, Debug, PartialEq, Eq)]
+pub enum Kind {
+    Variable,
+    Label,
+    Procedure,
+}
+
+#[derive(Clone, Debug, PartialEq, Eq)]
+pub struct Block {
+    pub offset: usize,
+    pub declarations: Vec<Declaration>,
+    pub statements: Vec<Statement>,
+}
+
+#[derive(Clone, Debug, PartialEq, Eq)]
+pub struct Declaration {
+    pub offset: usize,
+    pub name: Name,
+    pub declared: Declared,
+}
+
+#[derive(Clone, Debug, PartialEq, Eq)]
+pub enum Declared {
+    Variable,
+    /// The statement's index, from 1.
+    Label(usize),
+    Procedure(Procedure),
+}
+
+#[derive(Clone, Debug, PartialEq, Eq)]
+pub struct Procedure {
+    pub formals: Vec<Formal>,
+    pub body: Block,
+}
+
+#[derive(Clone, Copy, Debug, PartialEq, Eq)]
+pub struct Formal {
+    pub offset: usize,
+    pub name: Name,
+    pub kind: Kind,
+}
+
+#[derive(Clone, Debug, PartialEq, Eq)]
+pub struct Statement {
+    pub offset: usize,
+    pub action: Action,
+}
+
+#[derive(Clone, Debug, PartialEq, Eq)]
+pub enum Action {
+    Block(Block),
+    Call { procedure: Name, arguments: Vec<Name> },
+    Go { label: Name },
+    If { variable: Name, label: Name },
+    Constant { target: Name, value: i32 },
+    Arithmetic { target: Name, operation: Operation, left: Name, right: Name },
+    Add { group: Name, member: Name },
+    Remove { group: Name, member: Name },
+    Query { target: Name, group: Name, member: Name },
+}
+
+#[derive(Clone, Copy, Debug, PartialEq, Eq)]
+pub enum Operation {
+    Plus,
+    Minus,
+    Less,
+}
+
+impl Declaration {
+    pub fn kind(&self) -> Kind {
+        match self.declared {
+            Declared::Variable => Kind::Variable,
+            Declared::Label(_) => Kind::Label,
+            Declared::Procedure(_) => Kind::Procedure,
+        }
+    }
+}
+
+impl Block {
+    pub fn declared_names(&self) -> impl Iterator<Item = Name> + '_ {
+        self.declarations.iter().map(|declaration| declaration.name)
+    }
+}
+
+impl Procedure {
+    /// Formals belong to the body's block.
+    pub fn declared_names(&self) -> impl Iterator<Item = Name> + '_ {
+        let formals = self.formals.iter().map(|formal| formal.name);
+        formals.chain(self.body.declared_names())
+    }
+}

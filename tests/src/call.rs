@@ -1,0 +1,58 @@
+//! A call with all that it is fed and lent, and what an implementation makes of it.
+
+/// Numbered as the C exports stand.
+#[derive(Clone, Copy, Debug, PartialEq, Eq)]
+pub enum Engine {
+    Copying,
+    Chain,
+    Display,
+}
+
+#[derive(Clone, Debug, PartialEq, Eq)]
+pub struct Call {
+    pub engine: Engine,
+    pub script: Vec<u8>,
+    pub d: u32,
+    pub n: u32,
+    pub g: u32,
+    pub tally: u64,
+    pub count: usize,
+    pub name: u16,
+    pub table: Vec<i32>,
+    pub sheet: Vec<i32>,
+    /// The copying area, or the chain's records with three words each; empty for the display.
+    pub working: Vec<u32>,
+}
+
+/// The answer in the C interface's words, and what has become of all that was lent.
+#[derive(Clone, Debug, PartialEq, Eq)]
+pub struct Reply {
+    pub answer: [u64; 9],
+    pub table: Vec<i32>,
+    pub sheet: Vec<i32>,
+    pub working: Vec<u32>,
+}
+
+/// Number and offset of the script check.
+pub type Verdict = (u64, u64);
+
+const REFUSED: u64 = 3;
+
+impl Reply {
+    pub fn refused(&self) -> bool {
+        self.answer[0] == REFUSED
+    }
+
+    /// Working areas are fixed only on a refusal; after a run they keep their lengths.
+    pub fn agrees(&self, other: &Reply) -> bool {
+        let working = if self.refused() {
+            self.working == other.working
+        } else {
+            self.working.len() == other.working.len()
+        };
+        self.answer == other.answer
+            && self.table == other.table
+            && self.sheet == other.sheet
+            && working
+    }
+}

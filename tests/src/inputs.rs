@@ -1,0 +1,146 @@
+//! A whole call: a script with limits, a table and a looked-up name.
+
+use crate::call::{Call, Engine};
+use crate::damage::damage;
+use crate::edges;
+use crate::encode::encode;
+use crate::generate::program;
+use crate::lent;
+use crate::parties::fast;
+use crate::random::Random;
+use crate::shapes::at_a_bound;
+
+/// Case `number` of a seed.
+pub fn case(seed: u64, number: u64) -> Call {
+    let random = &mut Random::new(seed, number);
+    let script = script(random);
+    call(random, script)
+}
+
+pub fn script(random: &mut Random) -> Vec<u8> {
+    if random.chance(78) {
+        encode(&program(random)).bytes
+    } else {
+        unfit_script(random)
+    }
+}
+
+/// Most of these are refused.
+pub fn unfit_script(random: &mut Random) -> Vec<u8> {
+    match random.below(10) {
+        0..=4 => {
+            let script = encode(&program(random));
+            damage(random, &script)
+        }
+        5..=7 => edges::script(random),
+        _ => at_a_bound(random),
+    }
+}
+
+pub fn call(random: &mut Random, script: Vec<u8>) -> Call {
+    let engine = random.pick(&[Engine::Copying, Engine::Chain, Engine::Display]);
+    let d = activations(random);
+    let g = group_limit(random);
+    let (table, count) = table(random, g);
+    let length = script.len();
+    let mut call = Call {
+        engine,
+        script,
+        d,
+        n: allowance(random),
+        g,
+        tally: tally(random),
+        count,
+        name: name(random),
+        table,
+        sheet: lent::sheet(random, d),
+        working: lent::working(random, engine, d, length),
+    };
+    if random.chance(50) {
+        end_anywhere(random, &mut call);
+    }
+    call
+}
+
+/// An allowance up to the steps of the whole run, often one of the last, when most has happened.
+fn end_anywhere(random: &mut Random, call: &mut Call) {
+    let reply = (fast().run)(call);
+    if !reply.refused() {
+        let steps = reply.answer[2] as usize;
+        let least = if random.chance(60) { steps.saturating_sub(12) } else { 0 };
+        call.n = random.between(least, steps) as u32;
+    }
+}
+
+fn activations(random: &mut Random) -> u32 {
+    match random.below(100) {
+        0 => random.pick(&[0, 257, u32::MAX]),
+        1..=4 => 256,
+        5..=15 => random.between(1, 4) as u32,
+        _ => random.between(5, 40) as u32,
+    }
+}
+
+fn allowance(random: &mut Random) -> u32 {
+    match random.below(100) {
+        0 => random.pick(&[1_000_001, u32::MAX]),
+        1..=5 => random.between(0, 8) as u32,
+        6..=25 => random.between(9, 60) as u32,
+        _ => random.between(61, 400) as u32,
+    }
+}
+
+fn group_limit(random: &mut Random) -> u32 {
+    match random.below(100) {
+        0 => random.pick(&[0, 65_536, u32::MAX]),
+        1..=5 => random.pick(&[65_535, 60]),
+        _ => random.between(1, 3) as u32,
+    }
+}
+
+fn tally(random: &mut Random) -> u64 {
+    match random.below(100) {
+        0 => random.pick(&[1_000_000_000_001, u64::MAX]),
+        1..=4 => 1_000_000_000_000,
+        _ => random.number() % 1_000_000,
+    }
+}
+
+fn name(random: &mut Random) -> u16 {
+    if random.chance(10) {
+        return random.pick(&[0, 257, 258, 513, 65_534, 65_535, 40, 43]);
+    }
+    random.between(1, 15) as u16
+}
+
+/// Mostly right; past the pairs in use anything may stand.
+fn table(random: &mut Random, g: u32) -> (Vec<i32>, usize) {
+    let places = random.between(0, 8);
+    let mut pairs: Vec<(i32, i32)> = Vec::new();
+    for _ in 0..random.between(0, places) {
+        let pair = (random.between(1, 4) as i32, random.between(1, 5) as i32);
+        let members = pairs.iter().filter(|other| other.0 == pair.0).count();
+        if !pairs.contains(&pair) && members < g as usize {
+            pairs.push(pair);
+        }
+    }
+    let mut count = pairs.len();
+    let mut words: Vec<i32> = pairs.iter().flat_map(|pair| [pair.0, pair.1]).collect();
+    while words.len() < 2 * places {
+        words.push(random.between(0, 8) as i32 - 2);
+    }
+    if random.chance(3) {
+        spoil(random, &mut words, &mut count);
+    }
+    (words, count)
+}
+
+fn spoil(random: &mut Random, words: &mut Vec<i32>, count: &mut usize) {
+    match random.below(4) {
+        0 => words.push(1),
+        1 => *count = random.pick(&[words.len() / 2 + 1, usize::MAX]),
+        2 if *count > 0 => words[random.below(2 * *count)] = random.between(0, 2) as i32 - 1,
+        _ if *count > 1 => words.copy_within(0..2, 2 * random.between(1, *count - 1)),
+        _ => words.push(0),
+    }
+}

@@ -1,0 +1,20 @@
+//! Differential tests: the same generated calls to several implementations, every word compared.
+
+pub mod call;
+pub mod compare;
+pub mod damage;
+pub mod edges;
+pub mod encode;
+pub mod generate;
+pub mod inputs;
+pub mod lent;
+pub mod listing;
+pub mod names;
+pub mod parties;
+pub mod quiet;
+pub mod random;
+pub mod reduce;
+pub mod report;
+pub mod shapes;
+pub mod statements;
+pub mod table_work;

@@ -1,0 +1,84 @@
+//! The implementations. A further one is a name, a function from a call to a reply and one
+//! from a script to a verdict.
+
+use reference::fast::{run_flawed, Flaw};
+use reference::{Answer, Refused, Request};
+
+use crate::call::{Call, Engine, Reply, Verdict};
+use crate::quiet::quietly;
+
+pub type Run = Box<dyn Fn(&Call) -> Reply>;
+pub type Check = Box<dyn Fn(&[u8]) -> Verdict>;
+
+pub struct Party {
+    pub name: &'static str,
+    pub run: Run,
+    pub check: Check,
+}
+
+/// The yardstick against which the others are held.
+pub fn copy_rule() -> Party {
+    Party {
+        name: "copy rule",
+        run: Box::new(|call| reply(call, reference::run)),
+        check: Box::new(|script| verdict(reference::check(script).map(drop))),
+    }
+}
+
+pub fn fast() -> Party {
+    Party {
+        name: "fast",
+        run: Box::new(|call| reply(call, reference::fast::run)),
+        check: Box::new(|script| verdict(reference::fast::check(script))),
+    }
+}
+
+/// Wrong on purpose; going astray so far that it panics counts as a wrong reply.
+pub fn flawed(flaw: Flaw) -> Party {
+    Party {
+        name: "flawed",
+        run: Box::new(move |call| {
+            let run =
+                || reply(call, |request, table, sheet| run_flawed(flaw, request, table, sheet));
+            quietly(run).unwrap_or_else(|| no_reply(call))
+        }),
+        check: fast().check,
+    }
+}
+
+fn reply(call: &Call, run: impl Fn(&Request, &mut [i32], &mut [i32]) -> Answer) -> Reply {
+    let (mut table, mut sheet) = (call.table.clone(), call.sheet.clone());
+    let answer = run(&request(call), &mut table, &mut sheet).words();
+    Reply { answer, table, sheet, working: call.working.clone() }
+}
+
+fn no_reply(call: &Call) -> Reply {
+    Reply {
+        answer: [u64::MAX; 9],
+        table: call.table.clone(),
+        sheet: call.sheet.clone(),
+        working: call.working.clone(),
+    }
+}
+
+fn request(call: &Call) -> Request<'_> {
+    let engine = match call.engine {
+        Engine::Copying => reference::Engine::Copying { area: call.working.len() },
+        Engine::Chain => reference::Engine::Chain { records: call.working.len() / 3 },
+        Engine::Display => reference::Engine::Display,
+    };
+    Request {
+        engine,
+        script: &call.script,
+        d: call.d,
+        n: call.n,
+        g: call.g,
+        tally: call.tally,
+        count: call.count,
+        name: call.name,
+    }
+}
+
+fn verdict(result: Result<(), Refused>) -> Verdict {
+    result.map_or_else(|refused| (refused.cause as u64, refused.offset as u64), |()| (0, 0))
+}

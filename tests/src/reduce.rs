@@ -1,0 +1,148 @@
+//! Cuts a failing call down while it still fails.
+
+use reference::structure;
+use reference::tree::{Action, Block, Declared};
+
+use crate::call::Call;
+use crate::encode::encode;
+
+/// The last of ever smaller calls for which `fails` holds.
+pub fn reduce(call: &Call, fails: &dyn Fn(&Call) -> bool) -> Call {
+    let mut call = call.clone();
+    loop {
+        let found = smaller(&call).find(|candidate| fails(candidate));
+        match found {
+            Some(smaller) => call = smaller,
+            None => return call,
+        }
+    }
+}
+
+/// Each candidate has a shorter script, a shorter table or a lower number.
+fn smaller(call: &Call) -> impl Iterator<Item = Call> + '_ {
+    without_parts(call)
+        .chain(without_words(call))
+        .chain(without_pairs(call))
+        .chain(lower_numbers(call))
+        .chain(without_two_parts(call))
+}
+
+fn with_script(call: &Call, script: Vec<u8>) -> Call {
+    Call { script, ..call.clone() }
+}
+
+/// Where the script has a tree: without one declaration or statement.
+fn without_parts(call: &Call) -> impl Iterator<Item = Call> + '_ {
+    let program = structure::program(&call.script).ok().into_iter();
+    program.flat_map(move |program| {
+        (0..count_parts(&program)).map(move |part| without(call, &program, &[part]))
+    })
+}
+
+/// A declaration can often go only together with its use.
+fn without_two_parts(call: &Call) -> impl Iterator<Item = Call> + '_ {
+    let program = structure::program(&call.script).ok().into_iter();
+    program.flat_map(move |program| {
+        let parts = count_parts(&program);
+        let two = (0..parts).flat_map(move |later| (0..later).map(move |part| [later, part]));
+        two.map(move |two| without(call, &program, &two))
+    })
+}
+
+/// The parts are given in falling order, so that the numbers of those left stay.
+fn without(call: &Call, program: &Block, parts: &[usize]) -> Call {
+    let mut program = program.clone();
+    for &part in parts {
+        remove_part(&mut program, &mut part.clone());
+    }
+    with_script(call, encode(&program).bytes)
+}
+
+fn count_parts(block: &Block) -> usize {
+    let bodies = block.declarations.iter().map(|it| match &it.declared {
+        Declared::Procedure(procedure) => 1 + count_parts(&procedure.body),
+        _ => 1,
+    });
+    let statements = block.statements.iter().map(|it| match &it.action {
+        Action::Block(block) => 1 + count_parts(block),
+        _ => 1,
+    });
+    bodies.chain(statements).sum()
+}
+
+/// Counts `left` down over the parts in file order and takes out the one where it is 0.
+fn remove_part(block: &mut Block, left: &mut usize) -> bool {
+    for index in 0..block.declarations.len() {
+        if *left == 0 {
+            block.declarations.remove(index);
+            return true;
+        }
+        *left -= 1;
+        if let Declared::Procedure(procedure) = &mut block.declarations[index].declared {
+            if remove_part(&mut procedure.body, left) {
+                return true;
+            }
+        }
+    }
+    for index in 0..block.statements.len() {
+        if *left == 0 {
+            remove_statement(block, index);
+            return true;
+        }
+        *left -= 1;
+        if let Action::Block(inner) = &mut block.statements[index].action {
+            if remove_part(inner, left) {
+                return true;
+            }
+        }
+    }
+    false
+}
+
+/// Labels keep their statement, or take the one before if theirs is gone.
+fn remove_statement(block: &mut Block, index: usize) {
+    block.statements.remove(index);
+    let statements = block.statements.len();
+    for declaration in &mut block.declarations {
+        if let Declared::Label(target) = &mut declaration.declared {
+            if *target > index + 1 || *target > statements {
+                *target -= 1;
+            }
+        }
+    }
+}
+
+/// For scripts without a tree: without a run of words, long runs first.
+fn without_words(call: &Call) -> impl Iterator<Item = Call> + '_ {
+    let length = call.script.len();
+    let has_tree = structure::program(&call.script).is_ok();
+    let sizes = [256, 64, 16, 8, 6, 4, 2, 1].into_iter().filter(move |_| !has_tree);
+    sizes.flat_map(move |size| {
+        (0..(length + 1).saturating_sub(size)).step_by(if size == 1 { 1 } else { 2 }).map(
+            move |start| {
+                let mut script = call.script.clone();
+                script.drain(start..start + size);
+                with_script(call, script)
+            },
+        )
+    })
+}
+
+fn without_pairs(call: &Call) -> impl Iterator<Item = Call> + '_ {
+    (0..call.table.len() / 2).rev().map(move |place| {
+        let mut table = call.table.clone();
+        table.drain(2 * place..2 * place + 2);
+        let used = place < call.count;
+        Call { table, count: call.count - usize::from(used), ..call.clone() }
+    })
+}
+
+fn lower_numbers(call: &Call) -> impl Iterator<Item = Call> + '_ {
+    let lower = |now: u32| [now / 2, now.saturating_sub(1)].into_iter().filter(move |it| *it < now);
+    let allowances = lower(call.n).map(move |n| Call { n, ..call.clone() });
+    let activations = lower(call.d).map(move |d| Call { d, ..call.clone() });
+    let limits = lower(call.g).map(move |g| Call { g, ..call.clone() });
+    let names = (call.name > 0).then(|| Call { name: 0, ..call.clone() });
+    let tallies = (call.tally > 0).then(|| Call { tally: 0, ..call.clone() });
+    allowances.chain(activations).chain(limits).chain(names).chain(tallies)
+}

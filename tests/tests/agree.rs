@@ -1,0 +1,69 @@
+//! All implementations against the copy rule.
+
+use differential::call::Call;
+use differential::compare::assert_agree;
+use differential::parties::{copy_rule, fast, Party};
+use differential::random::Random;
+use differential::{inputs, table_work};
+
+/// Held against the copy rule; a further implementation is added here.
+fn parties() -> Vec<Party> {
+    vec![fast()]
+}
+
+fn hold(origin: &str, call: &Call) {
+    for party in parties() {
+        assert_agree(&copy_rule(), &party, origin, call);
+    }
+}
+
+#[test]
+fn generated_calls() {
+    for seed in 1..=4 {
+        for number in 0..10_000 {
+            hold(&format!("seed {seed}, case {number}"), &inputs::case(seed, number));
+        }
+    }
+}
+
+#[test]
+fn unfit_scripts() {
+    for number in 0..100_000 {
+        let script = inputs::unfit_script(&mut Random::new(10, number));
+        let right = (copy_rule().check)(&script);
+        for party in parties() {
+            let name = party.name;
+            assert_eq!(
+                (party.check)(&script),
+                right,
+                "{name}, seed 10, case {number}: {script:02x?}"
+            );
+        }
+    }
+}
+
+#[test]
+fn every_allowance_and_name() {
+    for number in 0..150 {
+        let call = inputs::case(11, number);
+        for n in 0..=call.n.min(60) {
+            let name = (n % 16) as u16;
+            hold(&format!("seed 11, case {number}"), &Call { n, name, ..call.clone() });
+        }
+    }
+}
+
+#[test]
+fn long_runs() {
+    for number in 0..200 {
+        let call = Call { n: 20_000, ..inputs::case(12, number) };
+        hold(&format!("seed 12, case {number}"), &call);
+    }
+}
+
+#[test]
+fn busy_tables() {
+    for number in 0..400 {
+        hold(&format!("table seed 13, case {number}"), &table_work::case(13, number));
+    }
+}
