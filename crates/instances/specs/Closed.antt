@@ -7,8 +7,9 @@ use mathlib.Core.Option.{Option, none, some}
 use mathlib.Core.Path.{_≡_, refl, sym, ap, _∙_}
 use native.Mathlib.Omega.{arith}
 use lib.Dec.{eqb}
+use lib.ListN.{length}
 use Rattle.language.specs.Basics.{among, lookup, zip}
-use Rattle.language.specs.Text.{Kind, variable, label, procedure, Formal, Action, CL, GO, IF, KN, AR, AD, RM, QY, Block, block, Decl, VR, LB, PR, Stmt, BK, DO, Decls, no-decl, decl, Stmts, no-stmt, stmt, decls, declName, declKind, formalNames, formalKinds, sameKind}
+use Rattle.language.specs.Text.{Kind, variable, label, procedure, Formal, Action, CL, GO, IF, KN, AR, AD, RM, QY, Block, block, Decl, VR, LB, PR, Stmt, BK, DO, Decls, no-decl, decl, Stmts, no-stmt, stmt, decls, stmts, declName, declKind, formalNames, formalKinds, sameKind}
 use Rattle.language.specs.Scope.{Meaning, Scope, formalMeaning, declMeaning, inside, Verdict, fine, wrong, _then_, ofKind, uses, visible, allVisible, judgeAction, judgeBlock, judgeDecl, judgeStmt, judgeDecls, judgeStmts}
 use Rattle.language.specs.declared.Refusal.{Refusal}
 use Rattle.instances.specs.Statement.{usesOf, Serves}
@@ -24,11 +25,22 @@ declKinds ds = zip (map declName ds) (map declKind ds)
 unfoldable pub ownKinds : List Formal → Decls → Kinds
 ownKinds fs ds = zip (formalNames fs) (formalKinds fs) ++ declKinds (decls ds)
 
--- a block's own names, as they are written: its formals' and its declarations'
-pub record Written (formals : List ℕ) (ds : Decls) : Type 0 where
+-- a label's index is the number of one of s statements
+unfoldable pub LabelIn : ℕ → Decl → Type 0
+LabelIn s (VR at n) = Unit {0}
+LabelIn s (LB at n i) = (1 ≤ i) × (i ≤ s)
+LabelIn s (PR at n fs b) = Unit {0}
+
+unfoldable pub LabelsIn : ℕ → Decls → Type 0
+LabelsIn s no-decl = Unit {0}
+LabelsIn s (decl d ds) = LabelIn s d × LabelsIn s ds
+
+-- a block's own names, as they are written, its formals' and its declarations'; and its labels
+pub record Written (formals : List ℕ) (ds : Decls) (ss : Stmts) : Type 0 where
   pub formals-small : Below formals
   pub small : Below (map declName (decls ds))
   pub apart : Apart formals (map declName (decls ds))
+  pub labels : LabelsIn (length (stmts ss)) ds
 
 -- a name used with the kind wanted is visible, of a kind that serves
 pub record Used (K : Kinds) (use-of : ℕ × Option Kind) : Type 0 where
@@ -40,14 +52,14 @@ abbrev pub AllUsed : Kinds → List (ℕ × Option Kind) → Type 0
 AllUsed K [] = Unit {0}
 AllUsed K (u ∷ us) = Used K u × AllUsed K us
 
--- text in which the names of K are visible; a label's index is at least 1
+-- text in which the names of K are visible
 unfoldable mutual
   pub InBlock : Block → List Formal → Kinds → Type 0
-  InBlock (block at ds ss) fs K = Written (formalNames fs) ds × InDecls ds (ownKinds fs ds ++ K) × InStmts ss (ownKinds fs ds ++ K)
+  InBlock (block at ds ss) fs K = Written (formalNames fs) ds ss × InDecls ds (ownKinds fs ds ++ K) × InStmts ss (ownKinds fs ds ++ K)
 
   pub InDecl : Decl → Kinds → Type 0
   InDecl (VR at n) K = Unit {0}
-  InDecl (LB at n i) K = 1 ≤ i
+  InDecl (LB at n i) K = Unit {0}
   InDecl (PR at n fs b) K = InBlock b fs K
 
   pub InStmt : Stmt → Kinds → Type 0
@@ -65,11 +77,11 @@ unfoldable mutual
 -- the part of that which reading alone gives
 unfoldable mutual
   pub SmallBlock : Block → List ℕ → Type 0
-  SmallBlock (block at ds ss) formals = Written formals ds × SmallDecls ds × SmallStmts ss
+  SmallBlock (block at ds ss) formals = Written formals ds ss × SmallDecls ds × SmallStmts ss
 
   pub SmallDecl : Decl → Type 0
   SmallDecl (VR at n) = Unit {0}
-  SmallDecl (LB at n i) = 1 ≤ i
+  SmallDecl (LB at n i) = Unit {0}
   SmallDecl (PR at n fs b) = SmallBlock b (formalNames fs)
 
   pub SmallStmt : Stmt → Type 0
@@ -125,7 +137,7 @@ unfolding _then_
 fine-second fine w e = e
 fine-second (wrong c o) w e = cc
 
-same-kind : (a b : Kind) → sameKind a b ≡ true → a ≡ b
+pub same-kind : (a b : Kind) → sameKind a b ≡ true → a ≡ b
 unfolding sameKind
 same-kind variable variable e = refl
 same-kind variable label e = cc
@@ -197,7 +209,7 @@ mutual
 
   closed-decl : (d : Decl) (sc : Scope) → judgeDecl d sc ≡ fine → SmallDecl d → InDecl d (kindsOf sc)
   closed-decl (VR at n) sc e w = tt
-  closed-decl (LB at n i) sc e w = w
+  closed-decl (LB at n i) sc e w = tt
   closed-decl (PR at n fs b) sc e w = closed-block b fs sc e w
 
   closed-stmt : (s : Stmt) (sc : Scope) → judgeStmt s sc ≡ fine → SmallStmt s → InStmt s (kindsOf sc)

@@ -92,6 +92,10 @@ pub renamed-some : (σ : Replacement) (n x : ℕ) → lookup n σ ≡ some x →
 unfolding renamed
 renamed-some σ n x e = rw (e, renamed)
 
+pub renamed-same : (σ τ : Replacement) (n : ℕ) → lookup n σ ≡ lookup n τ → renamed σ n ≡ renamed τ n
+unfolding renamed
+renamed-same σ τ n e = rw (e, renamed)
+
 without-in : (ns : List ℕ) (p : ℕ × ℕ) (σ : Replacement) → among (p .0) ns ≡ true → without ns (p ∷ σ) ≡ without ns σ
 unfolding without
 without-in ns p σ e = rw (e, without)
@@ -120,6 +124,17 @@ without-other n ns (p ∷ σ) e =
     (λ f. rw (without-in ns p σ h) (without-other n ns σ e ∙ sym (lookup-there n p σ f))))
     (λ h. rw (without-out ns p σ h) (split (eqb n (p .0)) (λ t. lookup-here n p (without ns σ) t ∙ sym (lookup-here n p σ t))
     (λ f. lookup-there n p (without ns σ) f ∙ without-other n ns σ e ∙ sym (lookup-there n p σ f))))
+
+pub among-right : (n : ℕ) (ms ns : List ℕ) → among n ns ≡ true → among n (ms ++ ns) ≡ true
+among-right n [] ns e = e
+among-right n (m ∷ ms) ns e = split (eqb n m) (λ t. among-here n m (ms ++ ns) t) (λ f. among-there n m (ms ++ ns) f ∙ among-right n ms ns e)
+
+pub among-neither : (n : ℕ) (ms ns : List ℕ) → among n (ms ++ ns) ≡ false → (among n ms ≡ false) × (among n ns ≡ false)
+unfolding among
+among-neither n [] ns e = (refl, e)
+among-neither n (m ∷ ms) ns e =
+    split (eqb n m) (λ t. true≢false (among-here n m (ms ++ ns) t) e)
+    (λ f. let r = among-neither n ms ns (sym (among-there n m (ms ++ ns) f) ∙ e) in (among-there n m ms f ∙ r .0, r .1))
 
 -- written names
 abbrev pub Below : List ℕ → Type 0

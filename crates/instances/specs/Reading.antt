@@ -1,4 +1,4 @@
--- What reading a script of bytes gives: names below 65,536, a block's own none twice, labels of index at least 1.
+-- What reading a script of bytes gives: names below 65,536, a block's own none twice, labels that name a statement.
 use Prim.Native.Nat.{ℕ, zero, suc, _+_, _*_, _≤_, _<_}
 use mathlib.Core.Bool.{Bool, true, false, not, _&&_}
 use mathlib.Core.List.{List, [], _∷_, _++_, map, List·Memᴰ, List·Memᴰ·head, List·Memᴰ·tail}
@@ -8,7 +8,7 @@ use borrow.Author.Tests.{leb-true, not-true}
 use lib.Dec.{eqb, leb}
 use lib.ListN.{length, getD, take, drop}
 use Rattle.language.specs.Basics.{among}
-use Rattle.language.specs.Text.{Kind, variable, label, procedure, Operation, plus, minus, less, Formal, Action, CL, GO, IF, KN, AR, AD, RM, QY, Block, block, Decl, VR, LB, PR, Stmt, BK, DO, Decls, no-decl, decl, Stmts, no-stmt, stmt, decls, declName, formalNames}
+use Rattle.language.specs.Text.{Kind, variable, label, procedure, Operation, plus, minus, less, Formal, Action, CL, GO, IF, KN, AR, AD, RM, QY, Block, block, Decl, VR, LB, PR, Stmt, BK, DO, Decls, no-decl, decl, Stmts, no-stmt, stmt, decls, stmts, declName, formalNames}
 use Rattle.language.specs.Encoding.{two, fieldsOf}
 use Rattle.language.specs.Structure.{Reading, read, refuse, Reader, _>>=_, _>>_, give, here, require, fields, Row, DeclMark, isVR, isLB, isPR, StmtMark, isBK, isCL, isGO, isIF, isKN, isAR, isAD, isRM, isQY, blockMarks, formalMarks, declMarks, stmtMarks, fit, Record, take-record, kind, operation, formals, BlockReader, declared, declarations, action, stated, statements, blockWith, program}
 use Rattle.language.specs.Scope.{Verdict, fine, wrong, judgeBlock}
@@ -16,7 +16,7 @@ use Rattle.language.specs.Check.{Checked, accepted, refused, lengthFits, judged
 use Rattle.language.specs.declared.Refusal.{Refusal}
 use Rattle.language.specs.declared.Refusal.the-variants.{PastTheEnd, MarkMisplaced, FieldRange, NestingDepth, TooManyNames, NameTwice}
 use Rattle.instances.specs.Lookup.{split, Below, Apart}
-use Rattle.instances.specs.Closed.{Written, SmallBlock, SmallDecl, SmallStmt, SmallDecls, SmallStmts, InBlock, kindsOf, closed-block}
+use Rattle.instances.specs.Closed.{LabelIn, LabelsIn, Written, SmallBlock, SmallDecl, SmallStmt, SmallDecls, SmallStmts, InBlock, kindsOf, closed-block}
 
 -- From fields below 65,536 a reader gives what P says, and leaves such fields.
 pub record Gives {A : Type 0} (P : A → Type 0) (m : Reader A) : Type 0 where
@@ -129,7 +129,8 @@ GoodBody : BlockReader → Type 0
 GoodBody body = (at d s : ℕ) (formals : List ℕ) → Below formals → Gives (λ (b : Block). SmallBlock b formals) (body at d s formals)
 
 -- a declaration where the names seen are declared before it
-record Another (seen : List ℕ) (d : Decl) : Type 0 where
+record Another (s : ℕ) (seen : List ℕ) (d : Decl) : Type 0 where
+  label-in : LabelIn s d
   small : declName d < 65536
   unseen : among (declName d) seen ≡ false
   inner : SmallDecl d
@@ -138,36 +139,47 @@ first-of-two : (a b : Bool) → a && b ≡ true → a ≡ true
 first-of-two true b e = refl
 first-of-two false b e = e
 
+second-of-two : (a b : Bool) → a && b ≡ true → b ≡ true
+second-of-two true b e = e
+second-of-two false b e = cc
+
 gives-declared : (body : BlockReader) → GoodBody body → (s : ℕ) (seen : List ℕ) (mark : DeclMark) (at : ℕ) (fs : List ℕ) → Below fs →
-    Gives (Another seen) (declared body s seen mark at fs)
-unfolding declared GoodBody declName SmallBlock
+    Gives (Another s seen) (declared body s seen mark at fs)
+unfolding declared GoodBody declName SmallBlock LabelIn
 gives-declared body good s seen isVR at fs w =
     gives-then (gives-require (not (among (getD fs 0 0) seen)) NameTwice at) λ b t.
-    gives-give _ (record { small = below-getD fs 0 w; unseen = not-true (among (getD fs 0 0) seen) t; inner = tt })
+    gives-give _ (record { label-in = tt; small = below-getD fs 0 w; unseen = not-true (among (getD fs 0 0) seen) t; inner = tt })
 gives-declared body good s seen isLB at fs w =
-    gives-then (gives-require (leb 1 (getD fs 1 0) && leb (getD fs 1 0) s) FieldRange at) λ b i.
+    let i : ℕ = getD fs 1 0 in
+    gives-then (gives-require (leb 1 i && leb i s) FieldRange at) λ b h.
     gives-then (gives-require (not (among (getD fs 0 0) seen)) NameTwice at) λ b′ t.
-    gives-give _ (record { small = below-getD fs 0 w; unseen = not-true (among (getD fs 0 0) seen) t; inner = leb-true 1 (getD fs 1 0) (first-of-two (leb 1 (getD fs 1 0)) (leb (getD fs 1 0) s) i) })
+    gives-give _ (record {
+      label-in = (leb-true 1 i (first-of-two (leb 1 i) (leb i s) h), leb-true i s (second-of-two (leb 1 i) (leb i s) h));
+      small = below-getD fs 0 w;
+      unseen = not-true (among (getD fs 0 0) seen) t;
+      inner = tt;
+    })
 gives-declared body good s seen isPR at fs w =
     gives-then (gives-require (leb (getD fs 1 0) 32) TooManyNames at) λ b i.
     gives-then (gives-require (not (among (getD fs 0 0) seen)) NameTwice at) λ b′ t.
     gives-bind (gives-formals (getD fs 1 0) []) λ ps small. gives-bind (gives-record blockMarks) λ r v.
     gives-bind (good (r .at) (getD (r .fields) 0 0) (getD (r .fields) 1 0) (formalNames ps) small) λ x in-x.
-    gives-give _ (record { small = below-getD fs 0 w; unseen = not-true (among (getD fs 0 0) seen) t; inner = in-x })
+    gives-give _ (record { label-in = tt; small = below-getD fs 0 w; unseen = not-true (among (getD fs 0 0) seen) t; inner = in-x })
 
 -- declarations where the names seen are declared before them
-record Others (seen : List ℕ) (ds : Decls) : Type 0 where
+record Others (s : ℕ) (seen : List ℕ) (ds : Decls) : Type 0 where
+  labels : LabelsIn s ds
   small : Below (map declName (decls ds))
   apart : Apart seen (map declName (decls ds))
   inner : SmallDecls ds
 
-gives-declarations : (body : BlockReader) → GoodBody body → (s d : ℕ) (seen : List ℕ) → Gives (Others seen) (declarations body s d seen)
-unfolding declarations decls SmallBlock
-gives-declarations body good s zero seen = gives-give no-decl (record { small = tt; apart = tt; inner = tt })
+gives-declarations : (body : BlockReader) → GoodBody body → (s d : ℕ) (seen : List ℕ) → Gives (Others s seen) (declarations body s d seen)
+unfolding declarations decls SmallBlock LabelsIn
+gives-declarations body good s zero seen = gives-give no-decl (record { labels = tt; small = tt; apart = tt; inner = tt })
 gives-declarations body good s (suc d) seen =
     gives-bind (gives-record declMarks) λ r w. gives-bind (gives-declared body good s seen (r .mark) (r .at) (r .fields) w) λ x h.
     gives-bind (gives-declarations body good s d (declName x ∷ seen)) λ xs hs.
-    gives-give (decl x xs) (record { small = (h .small, hs .small); apart = (h .unseen, hs .apart); inner = (h .inner, hs .inner) })
+    gives-give (decl x xs) (record { labels = (h .label-in, hs .labels); small = (h .small, hs .small); apart = (h .unseen, hs .apart); inner = (h .inner, hs .inner) })
 
 gives-action : (a : Action) (at : ℕ) → Gives SmallStmt (action a at)
 unfolding action SmallBlock
@@ -186,12 +198,12 @@ gives-stated body good isAD at fs = gives-action _ at
 gives-stated body good isRM at fs = gives-action _ at
 gives-stated body good isQY at fs = gives-action _ at
 
-gives-statements : (body : BlockReader) → GoodBody body → (s : ℕ) → Gives SmallStmts (statements body s)
-unfolding statements SmallBlock
-gives-statements body good zero = gives-give no-stmt tt
+gives-statements : (body : BlockReader) → GoodBody body → (s : ℕ) → Gives (λ (ss : Stmts). (length (stmts ss) ≡ s) × SmallStmts ss) (statements body s)
+unfolding statements SmallBlock stmts
+gives-statements body good zero = gives-give no-stmt (refl, tt)
 gives-statements body good (suc s) =
     gives-bind (gives-record stmtMarks) λ r w. gives-bind (gives-stated body good (r .mark) (r .at) (r .fields)) λ x h.
-    gives-bind (gives-statements body good s) λ xs hs. gives-give (stmt x xs) (h, hs)
+    gives-bind (gives-statements body good s) λ xs hs. gives-give (stmt x xs) (ap suc (hs .0), (h, hs .1))
 
 gives-block : (k : ℕ) → GoodBody (blockWith k)
 unfolding GoodBody blockWith SmallBlock
@@ -199,7 +211,7 @@ gives-block zero at d s fs w = gives-refuse NestingDepth at
 gives-block (suc k) at d s fs w =
     gives-then (gives-require (leb (length fs + d) 32) TooManyNames at) λ b t.
     gives-bind (gives-declarations (blockWith k) (gives-block k) s d fs) λ ds h. gives-bind (gives-statements (blockWith k) (gives-block k) s) λ ss hs.
-    gives-give (block at ds ss) (record { formals-small = w; small = h .small; apart = h .apart }, h .inner, hs)
+    gives-give (block at ds ss) (record { formals-small = w; small = h .small; apart = h .apart; labels = rw (hs .0) (h .labels) }, h .inner, hs .1)
 
 gives-program : Gives (λ (b : Block). SmallBlock b []) program
 unfolding program GoodBody
