@@ -1,19 +1,19 @@
 -- Closed text: every name that a text uses is visible there and of the kind wanted, and the blocks within it have names of their
 -- own below 65,536, none twice. What the check accepts is closed.
-use Prim.Native.Nat.{ℕ, _≤_, _<_}
-use mathlib.Core.Bool.{Bool, true, false}
+use Prim.Native.Nat.{ℕ, _≤_}
+use mathlib.Core.Bool.{true}
 use mathlib.Core.List.{List, [], _∷_, _++_, map, append-assoc}
 use mathlib.Core.Option.{Option, none, some}
 use mathlib.Core.Path.{_≡_, refl, sym, ap, _∙_}
 use native.Mathlib.Omega.{arith}
 use lib.Dec.{eqb}
 use lib.ListN.{length}
-use Rattle.language.specs.Basics.{among, lookup, zip}
+use Rattle.language.specs.Basics.{lookup, zip}
 use Rattle.language.specs.Text.{Kind, variable, label, procedure, Formal, Action, CL, GO, IF, KN, AR, AD, RM, QY, Block, block, Decl, VR, LB, PR, Stmt, BK, DO, Decls, no-decl, decl, Stmts, no-stmt, stmt, decls, stmts, declName, declKind, formalNames, formalKinds, sameKind}
 use Rattle.language.specs.Scope.{Meaning, Scope, formalMeaning, declMeaning, inside, Verdict, fine, wrong, _then_, ofKind, uses, visible, allVisible, judgeAction, judgeBlock, judgeDecl, judgeStmt, judgeDecls, judgeStmts}
 use Rattle.language.specs.declared.Refusal.{Refusal}
 use Rattle.instances.specs.Statement.{usesOf, Serves}
-use Rattle.instances.specs.Lookup.{split, true≢false, some≢none, some-injective, lookup-nil, lookup-here, lookup-there, Below, Apart}
+use Rattle.instances.specs.Lookup.{split, some-injective, lookup-nil, lookup-here, lookup-there, Below, Apart}
 
 -- the visible names with their kinds, nearest first
 abbrev pub Kinds : Type 0

@@ -1,20 +1,20 @@
 -- Entering a block keeps the invariant: the copy is closed, with new names above all others.
-use Prim.Native.Nat.{ℕ, zero, suc, _+_, _≤_, _<_}
-use mathlib.Core.Bool.{Bool, true, false, _&&_}
-use mathlib.Core.List.{List, [], _∷_, _++_, map, append-assoc}
+use Prim.Native.Nat.{ℕ, zero, suc, _≤_, _<_}
+use mathlib.Core.Bool.{true, false}
+use mathlib.Core.List.{List, [], _∷_, _++_, map}
 use mathlib.Core.Option.{Option, none, some}
 use mathlib.Core.Path.{_≡_, refl, sym, ap, subst, _∙_}
 use native.Mathlib.Omega.{arith}
 use lib.Dec.{eqb}
-use lib.ListN.{length, length-map}
+use lib.ListN.{length}
 use Rattle.language.specs.Basics.{among, lookup, zip, upFrom}
-use Rattle.language.specs.Text.{Kind, Formal, Block, block, Decl, Stmt, Decls, Stmts, decls, stmts, blockDecls, blockStmts, declName, declKind, formalNames, formalKinds, declaredNames, sameKind}
+use Rattle.language.specs.Text.{Kind, Formal, Block, block, Decls, Stmts, decls, blockDecls, blockStmts, declName, declKind, formalNames, formalKinds, declaredNames, sameKind}
 use Rattle.language.specs.Scope.{agree}
-use Rattle.language.specs.Copy.{Replacement, renamed, renameBlock, renameDecls, renameStmts}
-use Rattle.language.specs.Machine.{Activation, State, ownNames, activation, enter}
-use Rattle.instances.specs.Lookup.{split, true≢false, some≢none, some-injective, lookup-nil, lookup-here, lookup-there, lookup-left, lookup-right, either, keys, lookup-absent, among-here, among-there, among-neither, renamed-none, renamed-some, all-new, moved, lookup-upFrom}
-use Rattle.instances.specs.Closed.{Kinds, declKinds, ownKinds, Written, AllUsed, same-kind, InBlock, InDecls, InStmts}
-use Rattle.instances.specs.Renaming.{Keeps, keys-append, keys-zip, keys-own, renamed-names, renamed-kinds, renamed-labels, moved-decls, moved-stmts}
+use Rattle.language.specs.Copy.{Replacement, renamed, renameBlock, renameDecls}
+use Rattle.language.specs.Machine.{State, ownNames, activation, enter}
+use Rattle.instances.specs.Lookup.{split, true≢false, some-injective, lookup-nil, lookup-here, lookup-there, lookup-left, lookup-right, either, lookup-absent, among-here, among-there, among-neither, renamed-none, renamed-some, all-new, moved}
+use Rattle.instances.specs.Closed.{Kinds, declKinds, ownKinds, Written, same-kind, InBlock, InDecls, InStmts}
+use Rattle.instances.specs.Renaming.{Keeps, keys-zip, keys-own, renamed-names, renamed-kinds, renamed-labels, moved-decls, moved-stmts}
 use Rattle.instances.specs.Invariant.{kindsIn, liveKinds, CopyIn, AllSeen, Placed, Stacked, Invariant, stacked-bound, stacked-more, stacked-between}
 
 -- a name that is none of the formals is replaced by no argument

@@ -1,7 +1,7 @@
 -- A name's instance: it is found where the name is declared among the live activations, and has the kind declared there.
-use Prim.Native.Nat.{ℕ, zero, suc, pred, _+_, _≤_, _<_}
+use Prim.Native.Nat.{ℕ, zero, suc, pred, _+_}
 use mathlib.Core.Bool.{Bool, true, false}
-use mathlib.Core.List.{List, [], _∷_, _++_, map}
+use mathlib.Core.List.{List, [], _∷_, _++_}
 use mathlib.Core.Option.{Option, none, some}
 use mathlib.Core.Path.{_≡_, refl, sym, ap, subst, _∙_}
 use native.Mathlib.Omega.{arith}
@@ -10,11 +10,11 @@ use lib.Dec.{eqb}
 use lib.ListN.{length, take, getElem?}
 use lib.Seq.{take-at}
 use Rattle.language.specs.Basics.{lookup, zip}
-use Rattle.language.specs.Text.{Kind, Block, block, Decl, Stmt, Decls, no-decl, decl, Stmts, no-stmt, stmt, decls, stmts, blockDecls, blockStmts, declName, declKind}
+use Rattle.language.specs.Text.{Kind, Decl, Stmt, Decls, no-decl, decl, Stmts, no-stmt, stmt, decls, stmts, blockDecls, declName, declKind}
 use Rattle.language.specs.Machine.{Activation, State, Instance, declaredAt, instanceFrom, instance, kindAt}
 use Rattle.instances.specs.Lookup.{split, some≢none, some-injective, lookup-here, lookup-there, lookup-left, lookup-right}
 use Rattle.instances.specs.Closed.{Kinds, declKinds, LabelIn, LabelsIn, InDecl, InStmt, InDecls, InStmts}
-use Rattle.instances.specs.Invariant.{kindsIn, liveKinds, CopyIn}
+use Rattle.instances.specs.Invariant.{kindsIn, liveKinds}
 
 eqb-swap : (a b : ℕ) (t : Bool) → eqb a b ≡ t → eqb b a ≡ t
 eqb-swap a b true e = eq-eqb b a (sym (eqb-true a b e))

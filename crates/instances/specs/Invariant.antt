@@ -1,14 +1,14 @@
 -- What holds of every state that a run comes to, and the laws of the live activations that it is made of.
-use Prim.Native.Nat.{ℕ, zero, suc, _+_, _≤_, _<_}
+use Prim.Native.Nat.{ℕ, suc, _+_, _≤_, _<_}
 use mathlib.Core.List.{List, [], _∷_, _++_, map, append-assoc, append-nil}
-use mathlib.Core.Option.{Option, none, some}
-use mathlib.Core.Path.{_≡_, refl, sym, ap, subst, _∙_}
+use mathlib.Core.Option.{none, some}
+use mathlib.Core.Path.{_≡_, refl, sym, ap, _∙_}
 use native.Mathlib.Omega.{arith}
 use lib.ListN.{length}
 use Rattle.language.specs.Basics.{lookup, zip, upFrom}
-use Rattle.language.specs.Text.{Kind, Block, block, Decl, Stmt, Decls, Stmts, decls, stmts, blockDecls, blockStmts, declName, declKind, declaredNames}
+use Rattle.language.specs.Text.{Kind, Block, block, stmts, blockDecls, blockStmts, declKind, declaredNames}
 use Rattle.language.specs.Machine.{Activation, State, resume}
-use Rattle.instances.specs.Lookup.{some≢none, lookup-nil, lookup-left, lookup-right, either, lookup-upFrom}
+use Rattle.instances.specs.Lookup.{lookup-nil, either, lookup-upFrom}
 use Rattle.instances.specs.Closed.{Kinds, declKinds, LabelsIn, AllUsed, InDecls, InStmts}
 
 -- the kinds of the names that a text declares, and of those that activations declare, outermost first: the order in which the

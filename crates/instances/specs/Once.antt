@@ -1,8 +1,8 @@
 -- In a state with the invariant no name is declared at two places.
 use Prim.Native.Nat.{ℕ, zero, suc, _+_, _≤_, _<_}
-use mathlib.Core.List.{List, [], _∷_, _++_, map}
-use mathlib.Core.Option.{Option, none, some}
-use mathlib.Core.Path.{_≡_, refl, sym, ap, subst, _∙_}
+use mathlib.Core.List.{List, [], _∷_, _++_}
+use mathlib.Core.Option.{some}
+use mathlib.Core.Path.{_≡_, refl, sym, subst}
 use native.Mathlib.Omega.{arith}
 use lib.ListN.{length, getElem?}
 use Rattle.language.specs.Basics.{upFrom}
@@ -10,7 +10,7 @@ use Rattle.language.specs.Text.{declaredNames}
 use Rattle.language.specs.Machine.{Activation}
 use Rattle.instances.specs.Lookup.{some≢none, some-injective}
 use Rattle.instances.specs.Closed.{Kinds}
-use Rattle.instances.specs.Invariant.{kindsIn, Placed, Stacked, stacked-bound}
+use Rattle.instances.specs.Invariant.{kindsIn, Placed, Stacked}
 
 pub upFrom-at : (f c p x : ℕ) → getElem? (upFrom f c) p ≡ some x → (x ≡ f + p) × (p < c)
 unfolding upFrom

@@ -1,22 +1,23 @@
 -- What reading a script of bytes gives: names below 65,536, a block's own none twice, labels that name a statement.
-use Prim.Native.Nat.{ℕ, zero, suc, _+_, _*_, _≤_, _<_}
+use Prim.Native.Nat.{ℕ, zero, suc, _+_, _*_, _<_}
 use mathlib.Core.Bool.{Bool, true, false, not, _&&_}
-use mathlib.Core.List.{List, [], _∷_, _++_, map, List·Memᴰ, List·Memᴰ·head, List·Memᴰ·tail}
-use mathlib.Core.Path.{_≡_, refl, sym, ap, subst, _∙_}
+use mathlib.Core.List.{List, [], _∷_, map, List·Memᴰ·head, List·Memᴰ·tail}
+use mathlib.Core.Path.{_≡_, refl, ap, subst}
 use native.Mathlib.Omega.{arith}
 use borrow.Author.Tests.{leb-true, not-true}
 use lib.Dec.{eqb, leb}
 use lib.ListN.{length, getD, take, drop}
 use Rattle.language.specs.Basics.{among}
-use Rattle.language.specs.Text.{Kind, variable, label, procedure, Operation, plus, minus, less, Formal, Action, CL, GO, IF, KN, AR, AD, RM, QY, Block, block, Decl, VR, LB, PR, Stmt, BK, DO, Decls, no-decl, decl, Stmts, no-stmt, stmt, decls, stmts, declName, formalNames}
+use Rattle.language.specs.Text.{Kind, variable, label, procedure, Operation, plus, minus, less, Formal, Action, Block, block, Decl, BK, DO, Decls, no-decl, decl, Stmts, no-stmt, stmt, decls, stmts, declName, formalNames}
 use Rattle.language.specs.Encoding.{two, fieldsOf}
 use Rattle.language.specs.Structure.{Reading, read, refuse, Reader, _>>=_, _>>_, give, here, require, fields, Row, DeclMark, isVR, isLB, isPR, StmtMark, isBK, isCL, isGO, isIF, isKN, isAR, isAD, isRM, isQY, blockMarks, formalMarks, declMarks, stmtMarks, fit, Record, take-record, kind, operation, formals, BlockReader, declared, declarations, action, stated, statements, blockWith, program}
 use Rattle.language.specs.Scope.{Verdict, fine, wrong, judgeBlock}
-use Rattle.language.specs.Check.{Checked, accepted, refused, lengthFits, judged, ended, check}
+use Rattle.language.specs.Check.{accepted, refused, lengthFits, judged, ended, check}
 use Rattle.language.specs.declared.Refusal.{Refusal}
 use Rattle.language.specs.declared.Refusal.the-variants.{PastTheEnd, MarkMisplaced, FieldRange, NestingDepth, TooManyNames, NameTwice}
+use Rattle.instances.specs.Statement.{Bytes}
 use Rattle.instances.specs.Lookup.{split, Below, Apart}
-use Rattle.instances.specs.Closed.{LabelIn, LabelsIn, Written, SmallBlock, SmallDecl, SmallStmt, SmallDecls, SmallStmts, InBlock, kindsOf, closed-block}
+use Rattle.instances.specs.Closed.{LabelIn, LabelsIn, SmallBlock, SmallDecl, SmallStmt, SmallDecls, SmallStmts, InBlock, kindsOf, closed-block}
 
 -- From fields below 65,536 a reader gives what P says, and leaves such fields.
 pub record Gives {A : Type 0} (P : A → Type 0) (m : Reader A) : Type 0 where
@@ -222,7 +223,7 @@ both : {a b : ℕ} → a < 256 → b < 256 → two a b < 65536
 both p q = omega arith
 
 -- two bytes are below 65,536
-below-fields : (bs : List ℕ) → ((b : ℕ) → List·Memᴰ b bs → b < 256) → Below (fieldsOf bs)
+below-fields : (bs : List ℕ) → Bytes bs → Below (fieldsOf bs)
 unfolding fieldsOf
 below-fields [] h = tt
 below-fields (a ∷ []) h = tt
@@ -250,7 +251,7 @@ unfolding check
 accepted-fine bs t e =
     split (lengthFits bs) (λ y. ended-fine t (program 0 (fieldsOf bs)) (rw (y, check) at e)) (λ n. refused≢accepted (rw (n, check) at e))
 
-pub accepted-closed : (bs : List ℕ) (t : Block) → ((b : ℕ) → List·Memᴰ b bs → b < 256) → check bs ≡ accepted t → InBlock t [] []
+pub accepted-closed : (bs : List ℕ) (t : Block) → Bytes bs → check bs ≡ accepted t → InBlock t [] []
 unfolding kindsOf formalNames
 accepted-closed bs t h e =
     let a = accepted-fine bs t e in

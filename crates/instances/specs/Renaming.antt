@@ -1,17 +1,17 @@
 -- Renaming keeps text closed: a block within loses the names that it declares itself, and captures no new one.
-use Prim.Native.Nat.{ℕ, suc, _≤_, _<_}
-use mathlib.Core.Bool.{Bool, true, false}
+use Prim.Native.Nat.{ℕ, suc, _<_}
+use mathlib.Core.Bool.{true}
 use mathlib.Core.List.{List, [], _∷_, _++_, map}
 use mathlib.Core.Option.{Option, none, some}
-use mathlib.Core.Path.{_≡_, refl, sym, ap, subst, _∙_}
+use mathlib.Core.Path.{_≡_, refl, ap, _∙_}
 use borrow.Author.Tests.{eq-eqb}
 use lib.ListN.{length}
 use Rattle.language.specs.Basics.{among, lookup, zip}
 use Rattle.language.specs.Text.{Kind, variable, label, procedure, Formal, Action, CL, GO, IF, KN, AR, AD, RM, QY, Block, block, Decl, VR, LB, PR, Stmt, BK, DO, Decls, no-decl, decl, Stmts, no-stmt, stmt, decls, stmts, blockDecls, declName, declKind, formalNames, formalKinds, declaredNames}
 use Rattle.language.specs.Copy.{Replacement, renamed, without, renameAction, renameBlock, renameDecl, renameStmt, renameDecls, renameStmts}
 use Rattle.instances.specs.Statement.{usesOf}
-use Rattle.instances.specs.Lookup.{some≢none, lookup-left, lookup-right, either, keys, lookup-absent, lookup-present, renamed-none, renamed-same, without-own, without-other, among-here, among-right, Below, below-among, below-append, Apart}
-use Rattle.instances.specs.Closed.{Kinds, declKinds, ownKinds, LabelIn, LabelsIn, Written, Used, AllUsed, InBlock, InDecl, InStmt, InDecls, InStmts}
+use Rattle.instances.specs.Lookup.{lookup-left, lookup-right, either, keys, lookup-absent, lookup-present, renamed-none, renamed-same, without-own, without-other, among-here, among-right, Below, below-among, below-append}
+use Rattle.instances.specs.Closed.{Kinds, declKinds, ownKinds, LabelIn, LabelsIn, Written, AllUsed, InBlock, InDecl, InStmt, InDecls, InStmts}
 
 -- what is visible stays visible under its new name with its kind, and no name comes to be a written one but itself
 pub record Keeps (σ : Replacement) (K K′ : Kinds) : Type 0 where

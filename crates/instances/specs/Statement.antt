@@ -33,6 +33,9 @@ pub record Stands (s : State) (name : ℕ) (wanted : Option Kind) : Type 0 where
   pub found : instance s name ≡ some it
   pub serves : Serves wanted (declKind (it .decl))
 
+abbrev pub Bytes : List ℕ → Type 0
+Bytes bs = (b : ℕ) → List·Memᴰ b bs → b < 256
+
 -- the state that a run of an accepted script has come to after at most n steps
 abbrev pub after : Limits → ℕ → Block → Table → State
 after l n t table = run l n (start t table) .final
@@ -41,7 +44,7 @@ after l n t table = run l n (start t table) .final
 -- the next statement uses stands in that state. (The names are those of the copy that the innermost activation runs. A BK uses none.)
 abbrev pub EveryUseStands : Type 0
 EveryUseStands =
-    (bs : List ℕ) (t : Block) → ((b : ℕ) → List·Memᴰ b bs → b < 256) → check bs ≡ accepted t →
+    (bs : List ℕ) (t : Block) → Bytes bs → check bs ≡ accepted t →
     (l : Limits) (table : Table) (n : ℕ) (a : Activation) (at : ℕ) (x : Action) →
     last? (after l n t table .live) ≡ some a → nextStmt a ≡ some (DO at x) →
     (name : ℕ) (wanted : Option Kind) → List·Memᴰ (name, wanted) (usesOf x) → Stands (after l n t table) name wanted
@@ -49,7 +52,7 @@ EveryUseStands =
 -- And no name is declared at two places of the live activations: i and j are places among them, p and q among their declarations.
 abbrev pub DeclaredOnce : Type 0
 DeclaredOnce =
-    (bs : List ℕ) (t : Block) → ((b : ℕ) → List·Memᴰ b bs → b < 256) → check bs ≡ accepted t →
+    (bs : List ℕ) (t : Block) → Bytes bs → check bs ≡ accepted t →
     (l : Limits) (table : Table) (n : ℕ) (i j p q : ℕ) (a b : Activation) (name : ℕ) →
     getElem? (after l n t table .live) i ≡ some a → getElem? (declaredNames (a .text)) p ≡ some name →
     getElem? (after l n t table .live) j ≡ some b → getElem? (declaredNames (b .text)) q ≡ some name → (i ≡ j) × (p ≡ q)

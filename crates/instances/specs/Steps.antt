@@ -1,24 +1,24 @@
 -- Every step keeps the invariant, so every state that a run comes to has it.
-use Prim.Native.Nat.{ℕ, zero, suc, pred, _+_, _≤_, _<_}
+use Prim.Native.Nat.{ℕ, zero, suc, pred, _≤_, _<_}
 use mathlib.Core.Bool.{Bool, true, false, _&&_, cond}
 use mathlib.Core.List.{List, [], _∷_, _++_, map, append-assoc, append-nil}
 use mathlib.Core.Option.{Option, none, some}
 use mathlib.Core.Path.{_≡_, refl, sym, ap, subst, _∙_}
 use native.Mathlib.Omega.{arith}
-use lib.Dec.{eqb, leb, ltb}
+use lib.Dec.{leb, ltb}
 use lib.IntN.{ℤ, pos}
 use lib.ListN.{length, take, getElem?}
 use lib.Signed.{mag}
 use Rattle.language.specs.Basics.{lookup, last?, butLast, eqZ}
-use Rattle.language.specs.Text.{Kind, variable, label, procedure, Formal, Action, CL, GO, IF, KN, AR, AD, RM, QY, Block, block, Decl, VR, LB, PR, Stmt, BK, DO, Decls, no-decl, decl, Stmts, no-stmt, stmt, decls, stmts, blockDecls, blockStmts, declName, declKind, labelIndex, declFormals, declBody, formalNames, formalKinds}
+use Rattle.language.specs.Text.{Kind, label, Formal, Action, CL, GO, IF, KN, AR, AD, RM, QY, Block, block, Decl, VR, LB, PR, Stmt, BK, DO, decl, decls, stmts, blockDecls, blockStmts, declKind, labelIndex, declFormals, declBody, formalNames, formalKinds}
 use Rattle.language.specs.Scope.{agree}
 use Rattle.language.specs.Table.{Table, holds, size, atLeastOne, full, add, remove}
 use Rattle.language.specs.Copy.{Replacement}
-use Rattle.language.specs.Machine.{Activation, State, Limits, withLive, withTable, counted, resume, store, value, enter, Instance, declaredAt, instance, kindAt, Done, did, stop, enterIfRoom, call, jump, compute, storeIfFits, addPair, removePair, queryPair, doAction, doStmt, nextStmt, advance, stepIn, step, nextOffset, Outcome, run, ends, start}
+use Rattle.language.specs.Machine.{Activation, State, Limits, withLive, withTable, counted, resume, store, value, Instance, declaredAt, instance, kindAt, Done, did, stop, enterIfRoom, call, jump, compute, storeIfFits, addPair, removePair, queryPair, doAction, doStmt, nextStmt, advance, stepIn, step, nextOffset, Outcome, run, ends, start}
 use Rattle.language.specs.declared.End.the-variants.{Stopped}
 use Rattle.instances.specs.Statement.{usesOf}
 use Rattle.instances.specs.Lookup.{split, some≢none, some-injective}
-use Rattle.instances.specs.Closed.{Kinds, LabelIn, LabelsIn, Written, Used, AllUsed, InBlock, InDecl, InStmt}
+use Rattle.instances.specs.Closed.{Kinds, LabelIn, LabelsIn, Used, AllUsed, InBlock, InDecl, InStmt}
 use Rattle.instances.specs.Invariant.{kindsIn, liveKinds, CopyIn, AllSeen, Placed, Stacked, Invariant, stacked-before, stacked-at, stacked-resumed, liveKinds-append}
 use Rattle.instances.specs.Found.{kindAt-live, instance-of, FoundAt, found-at, found-before, decl-in, label-in, stmt-in}
 use Rattle.instances.specs.Entering.{entered}

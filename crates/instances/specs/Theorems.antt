@@ -1,14 +1,13 @@
 -- The theorems of Statement.antt.
-use Prim.Native.Nat.{ℕ, _<_}
+use Prim.Native.Nat.{ℕ}
 use mathlib.Core.List.{List, [], _∷_, List·Memᴰ, List·Memᴰ·head, List·Memᴰ·tail}
-use mathlib.Core.Option.{Option, none, some}
+use mathlib.Core.Option.{Option}
 use mathlib.Core.Path.{_≡_, sym, subst}
-use Rattle.language.specs.Basics.{lookup}
-use Rattle.language.specs.Text.{Kind, Block, DO, declKind}
+use Rattle.language.specs.Text.{Kind, Block, DO}
 use Rattle.language.specs.Check.{check, accepted}
 use Rattle.language.specs.Table.{Table}
 use Rattle.language.specs.Machine.{State, Limits, start}
-use Rattle.instances.specs.Statement.{usesOf, Serves, Stands, after, EveryUseStands, DeclaredOnce}
+use Rattle.instances.specs.Statement.{usesOf, Serves, Stands, Bytes, after, EveryUseStands, DeclaredOnce}
 use Rattle.instances.specs.Closed.{Kinds, Used, AllUsed, InStmt}
 use Rattle.instances.specs.Reading.{accepted-closed}
 use Rattle.instances.specs.Invariant.{liveKinds, Invariant, stacked-between}
@@ -17,7 +16,7 @@ use Rattle.instances.specs.Steps.{started, next-closed, run-keeps}
 use Rattle.instances.specs.Once.{one-place}
 
 -- every state that a run of an accepted script comes to has the invariant
-pub always : (bs : List ℕ) (t : Block) → ((b : ℕ) → List·Memᴰ b bs → b < 256) → check bs ≡ accepted t →
+pub always : (bs : List ℕ) (t : Block) → Bytes bs → check bs ≡ accepted t →
     (l : Limits) (table : Table) (n : ℕ) → Invariant (after l n t table)
 always bs t bytes e l table n = run-keeps l n (start t table) (started t table (accepted-closed bs t bytes e))
 
