@@ -127,15 +127,10 @@ lookup-kindsOf n (p ∷ sc) m e =
     (λ d. lookup-there n (p .0, p .1 .kind) (kindsOf sc) d ∙ lookup-kindsOf n sc m (sym (lookup-there n p sc d) ∙ e))
 
 -- a verdict that is fine was fine at each part
-fine-first : (v w : Verdict) → _then_ v w ≡ fine → v ≡ fine
+fine-both : (v w : Verdict) → _then_ v w ≡ fine → (v ≡ fine) × (w ≡ fine)
 unfolding _then_
-fine-first fine w e = refl
-fine-first (wrong c o) w e = e
-
-fine-second : (v w : Verdict) → _then_ v w ≡ fine → w ≡ fine
-unfolding _then_
-fine-second fine w e = e
-fine-second (wrong c o) w e = cc
+fine-both fine w e = (refl, e)
+fine-both (wrong c o) w e = (e, cc)
 
 pub same-kind : (a b : Kind) → sameKind a b ≡ true → a ≡ b
 unfolding sameKind
@@ -168,7 +163,9 @@ used sc o k n e = by (lookup n sc) refl e
 all-visible : (sc : Scope) (o : ℕ) (xs : List ℕ) → allVisible sc o xs ≡ fine → AllUsed (kindsOf sc) (map (λ (x : ℕ). (x, none)) xs)
 unfolding allVisible visible
 all-visible sc o [] e = tt
-all-visible sc o (x ∷ xs) e = (by (lookup x sc) refl (fine-first (visible o (lookup x sc)) (allVisible sc o xs) e), all-visible sc o xs (fine-second (visible o (lookup x sc)) (allVisible sc o xs) e))
+all-visible sc o (x ∷ xs) e =
+    let r = fine-both (visible o (lookup x sc)) (allVisible sc o xs) e in
+    (by (lookup x sc) refl (r .0), all-visible sc o xs (r .1))
   where
     by : (m : Option Meaning) → lookup x sc ≡ m → visible o m ≡ fine → Used (kindsOf sc) (x, none)
     by none h f = wrong≢fine f
@@ -176,23 +173,27 @@ all-visible sc o (x ∷ xs) e = (by (lookup x sc) refl (fine-first (visible o (l
 
 two-uses : (sc : Scope) (o : ℕ) (j k : Kind) (m n : ℕ) → _then_ (uses sc o j m) (uses sc o k n) ≡ fine →
     Used (kindsOf sc) (m, some j) × Used (kindsOf sc) (n, some k)
-two-uses sc o j k m n e = (used sc o j m (fine-first (uses sc o j m) (uses sc o k n) e), used sc o k n (fine-second (uses sc o j m) (uses sc o k n) e))
+two-uses sc o j k m n e = let r = fine-both (uses sc o j m) (uses sc o k n) e in (used sc o j m (r .0), used sc o k n (r .1))
+
+three-uses : (sc : Scope) (o a b c : ℕ) → _then_ (uses sc o variable a) (_then_ (uses sc o variable b) (uses sc o variable c)) ≡ fine →
+    AllUsed (kindsOf sc) ((a, some variable) ∷ (b, some variable) ∷ (c, some variable) ∷ [])
+three-uses sc o a b c e =
+    let r = fine-both (uses sc o variable a) _ e in
+    let two = two-uses sc o variable variable b c (r .1) in
+    (used sc o variable a (r .0), (two .0, (two .1, tt)))
 
 closed-action : (sc : Scope) (o : ℕ) (a : Action) → judgeAction sc o a ≡ fine → AllUsed (kindsOf sc) (usesOf a)
 unfolding judgeAction usesOf
 closed-action sc o (CL p xs) e =
-    (used sc o procedure p (fine-first (uses sc o procedure p) _ e), all-visible sc o xs (fine-first (allVisible sc o xs) _ (fine-second (uses sc o procedure p) _ e)))
+    let r = fine-both (uses sc o procedure p) _ e in
+    (used sc o procedure p (r .0), all-visible sc o xs (fine-both (allVisible sc o xs) _ (r .1) .0))
 closed-action sc o (GO l) e = (used sc o label l e, tt)
 closed-action sc o (IF v l) e = let r = two-uses sc o variable label v l e in (r .0, (r .1, tt))
 closed-action sc o (KN t z) e = (used sc o variable t e, tt)
-closed-action sc o (AR t p l r) e =
-    let two = two-uses sc o variable variable l r (fine-second (uses sc o variable t) _ e) in
-    (used sc o variable t (fine-first (uses sc o variable t) _ e), (two .0, (two .1, tt)))
+closed-action sc o (AR t p l r) e = three-uses sc o t l r e
 closed-action sc o (AD g m) e = let r = two-uses sc o variable variable g m e in (r .0, (r .1, tt))
 closed-action sc o (RM g m) e = let r = two-uses sc o variable variable g m e in (r .0, (r .1, tt))
-closed-action sc o (QY t g m) e =
-    let two = two-uses sc o variable variable g m (fine-second (uses sc o variable t) _ e) in
-    (used sc o variable t (fine-first (uses sc o variable t) _ e), (two .0, (two .1, tt)))
+closed-action sc o (QY t g m) e = three-uses sc o t g m e
 
 -- text whose names are written and whose verdict is fine is closed
 mutual
@@ -201,11 +202,9 @@ mutual
   pub closed-block : (b : Block) (fs : List Formal) (sc : Scope) → judgeBlock b fs sc ≡ fine → SmallBlock b (formalNames fs) → InBlock b fs (kindsOf sc)
   closed-block (block at ds ss) fs sc e w =
       let inner : Scope = inside fs ds sc in
-      let around : kindsOf inner ≡ ownKinds fs ds ++ kindsOf sc = kindsOf-inside fs ds sc in (
-        w .0,
-        rw around at (closed-decls ds inner (fine-first (judgeDecls ds inner) (judgeStmts ss inner) e) (w .1)),
-        rw around at (closed-stmts ss inner (fine-second (judgeDecls ds inner) (judgeStmts ss inner) e) (w .2)),
-      )
+      let around : kindsOf inner ≡ ownKinds fs ds ++ kindsOf sc = kindsOf-inside fs ds sc in
+      let r = fine-both (judgeDecls ds inner) (judgeStmts ss inner) e in
+      (w .0, rw around at (closed-decls ds inner (r .0) (w .1)), rw around at (closed-stmts ss inner (r .1) (w .2)))
 
   closed-decl : (d : Decl) (sc : Scope) → judgeDecl d sc ≡ fine → SmallDecl d → InDecl d (kindsOf sc)
   closed-decl (VR at n) sc e w = tt
@@ -218,8 +217,10 @@ mutual
 
   closed-decls : (ds : Decls) (sc : Scope) → judgeDecls ds sc ≡ fine → SmallDecls ds → InDecls ds (kindsOf sc)
   closed-decls no-decl sc e w = tt
-  closed-decls (decl d ds) sc e w = (closed-decl d sc (fine-first (judgeDecl d sc) (judgeDecls ds sc) e) (w .0), closed-decls ds sc (fine-second (judgeDecl d sc) (judgeDecls ds sc) e) (w .1))
+  closed-decls (decl d ds) sc e w =
+      let r = fine-both (judgeDecl d sc) (judgeDecls ds sc) e in (closed-decl d sc (r .0) (w .0), closed-decls ds sc (r .1) (w .1))
 
   closed-stmts : (ss : Stmts) (sc : Scope) → judgeStmts ss sc ≡ fine → SmallStmts ss → InStmts ss (kindsOf sc)
   closed-stmts no-stmt sc e w = tt
-  closed-stmts (stmt s ss) sc e w = (closed-stmt s sc (fine-first (judgeStmt s sc) (judgeStmts ss sc) e) (w .0), closed-stmts ss sc (fine-second (judgeStmt s sc) (judgeStmts ss sc) e) (w .1))
+  closed-stmts (stmt s ss) sc e w =
+      let r = fine-both (judgeStmt s sc) (judgeStmts ss sc) e in (closed-stmt s sc (r .0) (w .0), closed-stmts ss sc (r .1) (w .1))

@@ -20,11 +20,11 @@ eqb-swap : (a b : ℕ) (t : Bool) → eqb a b ≡ t → eqb b a ≡ t
 eqb-swap a b true e = eq-eqb b a (sym (eqb-true a b e))
 eqb-swap a b false e = ne-eqb b a (λ q. eqb-false a b e (sym q))
 
-declared-here : (x j : ℕ) (d : Decl) (ds : List Decl) → eqb (declName d) x ≡ true → declaredAt x j (d ∷ ds) ≡ some (j, d)
+pub declared-here : (x j : ℕ) (d : Decl) (ds : List Decl) → eqb (declName d) x ≡ true → declaredAt x j (d ∷ ds) ≡ some (j, d)
 unfolding declaredAt
 declared-here x j d ds e = rw (e, declaredAt)
 
-declared-there : (x j : ℕ) (d : Decl) (ds : List Decl) → eqb (declName d) x ≡ false → declaredAt x j (d ∷ ds) ≡ declaredAt x (suc j) ds
+pub declared-there : (x j : ℕ) (d : Decl) (ds : List Decl) → eqb (declName d) x ≡ false → declaredAt x j (d ∷ ds) ≡ declaredAt x (suc j) ds
 unfolding declaredAt
 declared-there x j d ds e = rw (e, declaredAt)
 
@@ -45,15 +45,15 @@ kindIs : Option Instance → Option Kind
 kindIs o = elim o [ none ↦ none | some i ↦ some (declKind (i .decl)) ]
 
 -- where an activation's own declarations are asked for a name: its arguments come first
-abbrev own : ℕ → Activation → Option (ℕ × Decl)
+abbrev pub own : ℕ → Activation → Option (ℕ × Decl)
 own x a = declaredAt x (suc (length (a .arguments))) (blockDecls (a .text))
 
-instance-here : (x n : ℕ) (a : Activation) (rest : List Activation) (p : ℕ × Decl) → own x a ≡ some p →
+pub instance-here : (x n : ℕ) (a : Activation) (rest : List Activation) (p : ℕ × Decl) → own x a ≡ some p →
     instanceFrom x n (a ∷ rest) ≡ some (record { number = n; position = p .0; home = a; decl = p .1 })
 unfolding instanceFrom
 instance-here x n a rest p e = rw (e, instanceFrom)
 
-instance-there : (x n : ℕ) (a : Activation) (rest : List Activation) → own x a ≡ none → instanceFrom x n (a ∷ rest) ≡ instanceFrom x (suc n) rest
+pub instance-there : (x n : ℕ) (a : Activation) (rest : List Activation) → own x a ≡ none → instanceFrom x n (a ∷ rest) ≡ instanceFrom x (suc n) rest
 unfolding instanceFrom
 instance-there x n a rest e = rw (e, instanceFrom)
 

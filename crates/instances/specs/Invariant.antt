@@ -108,8 +108,13 @@ stacked-between K lo (a ∷ rest) hi h x k e =
     let above : lo ≤ h .0 = h .1 in
     let bound = stacked-bound (K ++ kindsIn (a .text)) (h .0 + length (declaredNames (a .text))) rest hi (h .3) in
     either x (kindsIn (a .text)) (liveKinds rest) k e
-    (λ here. let r = lookup-upFrom x (h .0) (length (declaredNames (a .text))) (map declKind (blockDecls (a .text))) k (rw (kinds-placed K (h .0) a (h .2)) at here) in omega arith)
-    (λ absent there. let r = stacked-between (K ++ kindsIn (a .text)) (h .0 + length (declaredNames (a .text))) rest hi (h .3) x k there in omega arith)
+    (λ here.
+    let mine = rw (kinds-placed K (h .0) a (h .2)) at here in
+    let r = lookup-upFrom x (h .0) (length (declaredNames (a .text))) (map declKind (blockDecls (a .text))) k mine in
+    omega arith)
+    (λ absent there.
+    let r = stacked-between (K ++ kindsIn (a .text)) (h .0 + length (declaredNames (a .text))) rest hi (h .3) x k there in
+    omega arith)
 
 pub liveKinds-append : (as′ bs : List Activation) → liveKinds (as′ ++ bs) ≡ liveKinds as′ ++ liveKinds bs
 unfolding liveKinds

@@ -170,8 +170,11 @@ unfolding zip upFrom
 all-new pre seen [] f h a = refl
 all-new pre seen (n ∷ ns) f h a =
     let rest : Replacement = zip ns (upFrom (suc f) (length ns)) in
-    let first : renamed (pre ++ ((n, f) ∷ rest)) n ≡ f = renamed-some (pre ++ ((n, f) ∷ rest)) n f (lookup-right n pre ((n, f) ∷ rest) (h n (a .0)) ∙ lookup-here n (n, f) rest (eq-eqb n n refl)) in
-    let others : map (renamed (pre ++ ((n, f) ∷ rest))) ns ≡ upFrom (suc f) (length ns) = rw append-assoc at (all-new (pre ++ ((n, f) ∷ [])) (n ∷ seen) ns (suc f) (still-absent pre seen n f h) (a .1)) in
+    let σ : Replacement = pre ++ ((n, f) ∷ rest) in
+    let found : lookup n σ ≡ some f = lookup-right n pre ((n, f) ∷ rest) (h n (a .0)) ∙ lookup-here n (n, f) rest (eq-eqb n n refl) in
+    let first : renamed σ n ≡ f = renamed-some σ n f found in
+    let below = all-new (pre ++ ((n, f) ∷ [])) (n ∷ seen) ns (suc f) (still-absent pre seen n f h) (a .1) in
+    let others : map (renamed σ) ns ≡ upFrom (suc f) (length ns) = rw append-assoc at below in
     cc
 
 -- the kind of a name is the kind of what replaces it

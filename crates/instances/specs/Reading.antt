@@ -227,7 +227,8 @@ below-fields : (bs : List ℕ) → Bytes bs → Below (fieldsOf bs)
 unfolding fieldsOf
 below-fields [] h = tt
 below-fields (a ∷ []) h = tt
-below-fields (a ∷ b ∷ bs) h = (both (h a (List·Memᴰ·head refl)) (h b (List·Memᴰ·tail (List·Memᴰ·head refl))), below-fields bs (λ c m. h c (List·Memᴰ·tail (List·Memᴰ·tail m))))
+below-fields (a ∷ b ∷ bs) h =
+    (both (h a (List·Memᴰ·head refl)) (h b (List·Memᴰ·tail (List·Memᴰ·head refl))), below-fields bs (λ c m. h c (List·Memᴰ·tail (List·Memᴰ·tail m))))
 
 refused≢accepted : {X : Type 0} {c : Refusal} {o : ℕ} {t : Block} → refused c o ≡ accepted t → X
 refused≢accepted e = let z : _≡_ {A = ℕ} 0 1 = cc in absurd (omega arith)

@@ -41,7 +41,8 @@ abbrev pub after : Limits → ℕ → Block → Table → State
 after l n t table = run l n (start t table) .final
 
 -- Of every script of bytes that the check accepts, whatever the limits and the table, after any number of steps: each name that
--- the next statement uses stands in that state. (The names are those of the copy that the innermost activation runs. A BK uses none.)
+-- the next statement uses stands in that state. (The names are those of
+-- the copy that the innermost activation runs. A BK uses none, and where no activation is live there is no statement.)
 abbrev pub EveryUseStands : Type 0
 EveryUseStands =
     (bs : List ℕ) (t : Block) → Bytes bs → check bs ≡ accepted t →

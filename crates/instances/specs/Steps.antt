@@ -59,7 +59,9 @@ last-split (b ∷ c ∷ rest) a e = ap {B = List Activation} (λ r. b ∷ r) (la
 -- the innermost activation's next statement is closed
 last-kinds : (as′ : List Activation) (a : Activation) → last? as′ ≡ some a → liveKinds as′ ≡ liveKinds (butLast as′) ++ kindsIn (a .text)
 unfolding liveKinds
-last-kinds as′ a e = ap liveKinds (last-split as′ a e) ∙ liveKinds-append (butLast as′) (a ∷ []) ∙ ap {B = Kinds} (λ r. liveKinds (butLast as′) ++ r) (append-nil (kindsIn (a .text)))
+last-kinds as′ a e =
+    ap liveKinds (last-split as′ a e) ∙ liveKinds-append (butLast as′) (a ∷ []) ∙
+    ap {B = Kinds} (λ r. liveKinds (butLast as′) ++ r) (append-nil (kindsIn (a .text)))
 
 pub last-placed : (s : State) (a : Activation) → Invariant s → last? (s .live) ≡ some a → (first : ℕ) × Placed (liveKinds (butLast (s .live))) first a
 last-placed s a inv e =
