@@ -114,19 +114,19 @@ entered-if-room l s fs xs b around K more inv part seen agrees h =
     holds-if (ltb (length (s .live)) (l .activations)) _ _ (entered s fs xs b around K more inv part seen agrees h) tt
 
 -- the declaration of a name's instance, in the copy that has it
-record Home (s : State) (i : Instance) : Type 0 where
-  around : Kinds
-  above : Kinds
-  part : liveKinds (s .live) ≡ around ++ above
-  declaration : InDecl (i .decl) around
-  label-inside : LabelIn (length (blockStmts (i .home .text))) (i .decl)
+pub record Home (s : State) (i : Instance) : Type 0 where
+  pub around : Kinds
+  pub above : Kinds
+  pub part : liveKinds (s .live) ≡ around ++ above
+  pub declaration : InDecl (i .decl) around
+  pub label-inside : LabelIn (length (blockStmts (i .home .text))) (i .decl)
 
 decl-of-copy : (x j : ℕ) (b : Block) (K : Kinds) (p : ℕ × Decl) → declaredAt x j (blockDecls b) ≡ some p → CopyIn b K →
     InDecl (p .1) K × LabelIn (length (blockStmts b)) (p .1)
 unfolding blockDecls blockStmts CopyIn
 decl-of-copy x j (block at ds ss) K p e h = (decl-in x j ds K p e (h .1), label-in x j (length (stmts ss)) ds p e (h .0))
 
-home-of : (s : State) (x : ℕ) (i : Instance) → Invariant s → (f : FoundAt x 1 (s .live) i) → Home s i
+pub home-of : (s : State) (x : ℕ) (i : Instance) → Invariant s → (f : FoundAt x 1 (s .live) i) → Home s i
 unfolding liveKinds
 home-of s x i inv f =
     let p = stacked-at [] 65536 (f .before) (i .home) (f .after) (s .fresh) (subst (λ (as′ : List Activation). Stacked [] 65536 as′ (s .fresh)) (f .whole) (inv .stacked)) in
@@ -142,7 +142,7 @@ home-of s x i inv f =
       label-inside = d .1;
     }
 
-body-in : (d : Decl) (K : Kinds) → InDecl d K → InBlock (declBody d) (declFormals d) K
+pub body-in : (d : Decl) (K : Kinds) → InDecl d K → InBlock (declBody d) (declFormals d) K
 unfolding InBlock declBody declFormals formalNames decls LabelsIn
 body-in (VR at n) K h = (record { formals-small = tt; small = tt; apart = tt; labels = tt }, tt, tt)
 body-in (LB at n i) K h = (record { formals-small = tt; small = tt; apart = tt; labels = tt }, tt, tt)
