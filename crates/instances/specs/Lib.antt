@@ -1,0 +1,13 @@
+-- Every name that a statement uses as it is done is new and has one live declared instance, of the kind wanted: Statement says it,
+-- Theorems proves it, Invariant is what every state of a run has.
+pub mod Statement
+pub mod Lookup
+pub mod Closed
+pub mod Reading
+pub mod Renaming
+pub mod Invariant
+pub mod Found
+pub mod Entering
+pub mod Steps
+pub mod Once
+pub mod Theorems
