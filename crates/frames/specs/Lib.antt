@@ -1,3 +1,20 @@
--- The frame machine, and that it runs as the copy rule does.
+-- The frame machine, and that it runs as the copy rule does. Frame has the definitions, Theorem the claim; between them, in order,
+-- what the proof is made of.
 pub mod Frame
 pub mod Examples
+pub mod Theorem
+pub mod Lists
+pub mod Both
+pub mod Renaming
+pub mod Instances
+pub mod Related
+pub mod Cuts
+pub mod Find
+pub mod Designated
+pub mod Store
+pub mod Push
+pub mod Actions
+pub mod Transfers
+pub mod Steps
+pub mod Script
+pub mod Runs

@@ -1,0 +1,111 @@
+-- The relation between the two machines, which holds at the start and is kept by each step.
+use Prim.Native.Nat.{ℕ, zero, suc, pred, _+_, _*_, _≤_, _<_}
+use mathlib.Core.Path.{_≡_, refl, sym, ap, _∙_, subst}
+use mathlib.Core.List.{List, [], _∷_, _++_, map}
+use mathlib.Core.Option.{Option, none, some}
+use lib.IntN.{ℤ, pos}
+use lib.ListN.{length}
+use Rattle.language.specs.Basics.{lookup, zip}
+use Rattle.language.specs.Text.{Formal, Block, block, Decl, VR, LB, PR, Stmt, BK, DO, Decls, no-decl, decl, Stmts, no-stmt, stmt, decls, blockDecls, declName, formalNames, declaredNames}
+use Rattle.language.specs.Copy.{Replacement, renameBlock}
+use Rattle.language.specs.Table.{Table}
+use Rattle.language.specs.Machine.{Activation, State, Instance, instanceFrom}
+use Rattle.frames.specs.Frame.{Frame, Stack, numbered}
+use Rattle.frames.specs.Instances.{Rising}
+use Rattle.frames.specs.Renaming.{AllBelow, SmallBlock, Distinct}
+use Rattle.frames.specs.Both.{Both}
+
+-- what names read as in the activation of a number; nothing at 0
+unfoldable pub readsIn : Option Activation → List Replacement
+readsIn none = []
+readsIn (some a) = a .reads
+
+unfoldable pub readsAt : List Activation → ℕ → List Replacement
+readsAt l k = readsIn (numbered l k)
+
+-- all that names read as, nearest first
+unfoldable pub joined : List Replacement → Replacement
+joined [] = []
+joined (σ ∷ σs) = σ ++ joined σs
+
+-- the designator of a name, and a name's word, from the activations and the values alone
+unfoldable pub designatorFor : Option Instance → ℕ
+designatorFor none = 0
+designatorFor (some i) = i .number * 64 + i .position
+
+unfoldable pub designatorAt : List Activation → ℕ → ℕ
+designatorAt l x = designatorFor (instanceFrom x 1 l)
+
+unfoldable pub orZero : Option ℤ → ℤ
+orZero none = pos 0
+orZero (some z) = z
+
+unfoldable pub valueIn : List (ℕ × ℤ) → ℕ → ℤ
+valueIn vs x = orZero (lookup x vs)
+
+unfoldable pub wordIn : List (ℕ × ℤ) → Decl → ℤ
+wordIn vs (VR at n) = valueIn vs n
+wordIn vs (LB at n i) = pos 0
+wordIn vs (PR at n fs b) = pos 0
+
+-- every block of a text, with its formals, has at most 32 names, all different
+unfoldable mutual
+  pub TidyBlock : Block → List Formal → Type 0
+  TidyBlock (block at ds ss) fs = (length fs + length (decls ds) ≤ 32) × Distinct (formalNames fs ++ map declName (decls ds)) × TidyDecls ds × TidyStmts ss
+
+  pub TidyDecl : Decl → Type 0
+  TidyDecl (VR at n) = Unit {0}
+  TidyDecl (LB at n i) = Unit {0}
+  TidyDecl (PR at n fs b) = TidyBlock b fs
+
+  pub TidyStmt : Stmt → Type 0
+  TidyStmt (BK b) = TidyBlock b []
+  TidyStmt (DO at a) = Unit {0}
+
+  pub TidyDecls : Decls → Type 0
+  TidyDecls no-decl = Unit {0}
+  TidyDecls (decl d ds) = TidyDecl d × TidyDecls ds
+
+  pub TidyStmts : Stmts → Type 0
+  TidyStmts no-stmt = Unit {0}
+  TidyStmts (stmt s ss) = TidyStmt s × TidyStmts ss
+
+-- A block with its formals as an accepted script has them.
+pub record Fine (fs : List Formal) (b : Block) : Type 0 where
+  pub small : SmallBlock b
+  pub small-formals : AllBelow (formalNames fs)
+  pub tidy : TidyBlock b fs
+
+-- A name with a live declared instance whose number is at most k.
+pub record LiveBelow (l : List Activation) (k x : ℕ) : Type 0 where
+  pub instance : Instance
+  pub found : instanceFrom x 1 l ≡ some instance
+  pub below : instance .number ≤ k
+
+unfoldable pub AllLive : List Activation → ℕ → List ℕ → Type 0
+AllLive l k [] = Unit {0}
+AllLive l k (x ∷ xs) = LiveBelow l k x × AllLive l k xs
+
+-- what an activation's own names read as
+unfoldable pub ownOf : Frame → Activation → Replacement
+ownOf f a = zip (formalNames (f .formals)) (a .arguments) ++ zip (declaredNames (f .text)) (declaredNames (a .text))
+
+-- An activation and its frame, at index k: the copy is the original block renamed by what names read as there; what names read
+-- as is the enclosing activation's reading with the own names over it; a variable's value is the frame's word, a formal's word
+-- the designator of the name that it reads as.
+pub record Twin (l : List Activation) (vs : List (ℕ × ℤ)) (k : ℕ) (a : Activation) (f : Frame) : Type 0 where
+  pub fine : Fine (f .formals) (f .text)
+  pub as-many : length (a .arguments) ≡ length (f .formals)
+  pub reads-are : a .reads ≡ ownOf f a ∷ readsAt l (f .link)
+  pub text-is : a .text ≡ renameBlock (f .text) (joined (a .reads))
+  pub next-is : a .next ≡ f .next
+  pub link-below : f .link ≤ k
+  pub live-arguments : AllLive l k (a .arguments)
+  pub words-are : f .words ≡ map (λ (x : ℕ). pos (designatorAt l x)) (a .arguments) ++ map (wordIn vs) (blockDecls (a .text))
+
+-- New names rise with the activations, so a new name is one activation and one position.
+pub record Related (s : State) (t : Stack) : Type 0 where
+  pub twins : Both (Twin (s .live) (s .values)) 0 (s .live) (t .frames)
+  pub rising : Rising 65536 (s .live) (s .fresh)
+  pub table-is : s .table ≡ t .table
+  pub steps-are : s .steps ≡ t .steps

@@ -1,0 +1,252 @@
+-- Whole runs: from the start on, at every allowance, both machines come to the same end at related states; and related states show
+-- one sheet and find one looked-up name. So the replies are one.
+use Prim.Native.Nat.{ℕ, zero, suc, pred, _+_, _*_, _≤_, _<_}
+use native.Mathlib.Omega.{arith}
+use mathlib.Core.Bool.{Bool, true, false}
+use mathlib.Core.Path.{_≡_, refl, sym, ap, ap₂, _∙_, subst, subst₂}
+use mathlib.Core.Logic.{_≢_}
+use mathlib.Core.List.{List, [], _∷_, _++_, map, cons≢nil}
+use mathlib.Core.Option.{Option, none, some}
+use lib.IntN.{ℤ, pos}
+use lib.ListN.{length, drop, getElem?, length-append}
+use Rattle.language.specs.Basics.{lookup, last?, butLast}
+use Rattle.language.specs.Text.{Block, Decl, VR, LB, PR, blockAt, blockDecls, formalNames}
+use Rattle.language.specs.Check.{Checked, accepted, refused, check}
+use Rattle.language.specs.Table.{Table, right}
+use Rattle.language.specs.Copy.{Replacement, renameBlock, without}
+use Rattle.language.specs.Machine.{Activation, State, Limits, Done, did, stop, counted, enter, step, nextOffset, Outcome, ends, run, start, value, Instance, instance, instanceFrom}
+use Rattle.language.specs.Sheet.{Found, seek, designator, declWord, activationWords, wordsOf, sheetWords, lookedUp, lookedUpDesignator, lookedUpLinks}
+use Rattle.language.specs.Call.{Engine, copying, chain, display, Fed, Reply, limitsFit, lentFits, areaFits, turnedAway, linksOf, replied, runOf, checked, reply}
+use Rattle.language.specs.declared.Stop.{Stop}
+use Rattle.language.specs.declared.Refusal.the-variants.{AreaTooShort}
+use Rattle.language.specs.declared.End.{End}
+use Rattle.language.specs.declared.End.the-variants.{Finished, Spent, Stopped}
+use Rattle.grammar.specs.Rules.{Bytes}
+use Rattle.runs.specs.Account.{run-finished, run-spent, run-did, run-stopped}
+use Rattle.instances.specs.Invariant.{Invariant}
+use Rattle.instances.specs.Reading.{accepted-closed}
+use Rattle.instances.specs.Steps.{started, step-keeps, counted-invariant}
+use Rattle.frames.specs.Frame.{Frame, Stack, Acted, acted, halted, withFrames, stepped, numbered, newFrame, designates, linksFollowed, seekName, seekFrom, frameStep, frameOffset, Result, results, frameRun, frameStart, frameWords, frameSheet, frameLinks, frameReplied, frameRunOf, frameChecked, frameReply}
+use Rattle.frames.specs.Lists.{last-none, last-split, getElem-snoc, none≢some, map-alike}
+use Rattle.frames.specs.Instances.{Rising}
+use Rattle.frames.specs.Renaming.{blockAt-renamed}
+use Rattle.frames.specs.Both.{Both, both-length}
+use Rattle.frames.specs.Related.{readsAt, readsIn, joined, designatorFor, designatorAt, valueIn, orZero, wordIn, AllLive, Twin, Related}
+use Rattle.frames.specs.Push.{related-push}
+use Rattle.frames.specs.Find.{foundDesignator, passedIn, designates-found, links-found}
+use Rattle.frames.specs.Actions.{Alike, value-is}
+use Rattle.frames.specs.Steps.{step-alike, offset-alike}
+use Rattle.frames.specs.Script.{fine-script, bytes-below, rename-nothing}
+
+-- The clauses of the frame machine's run, as equations.
+module _ (l : Limits) (t : Stack) where
+  frames-finished : (n : ℕ) → t .frames ≡ [] → frameRun l n t ≡ results Finished 0 t
+  unfolding frameRun
+  frames-finished zero e = ap (λ fs. elim fs as (λ x. Result) [ [] ↦ results Finished 0 t | f ∷ rest ↦ results Spent 0 t ]) e
+  frames-finished (suc n) e = ap (λ fs. elim fs as (λ x. Result) [ [] ↦ results Finished 0 t | f ∷ rest ↦ elim (frameStep l t) [ acted t′ ↦ frameRun l n (stepped t′) | halted c ↦ results (Stopped c) (frameOffset t) t ] ]) e
+
+  frames-spent : (f : Frame) (fs : List Frame) → t .frames ≡ f ∷ fs → frameRun l 0 t ≡ results Spent 0 t
+  unfolding frameRun
+  frames-spent f fs e = ap (λ gs. elim gs as (λ x. Result) [ [] ↦ results Finished 0 t | f ∷ rest ↦ results Spent 0 t ]) e
+
+  after : ℕ → Acted → Result
+  after n (acted t′) = frameRun l n (stepped t′)
+  after n (halted c) = results (Stopped c) (frameOffset t) t
+
+  frames-tried : (n : ℕ) (f : Frame) (fs : List Frame) → t .frames ≡ f ∷ fs → frameRun l (suc n) t ≡ after n (frameStep l t)
+  unfolding frameRun after
+  frames-tried n f fs e =
+      ap (λ gs. elim gs as (λ x. Result) [ [] ↦ results Finished 0 t | f ∷ rest ↦ elim (frameStep l t) [ acted t′ ↦ frameRun l n (stepped t′) | halted c ↦ results (Stopped c) (frameOffset t) t ] ]) e ∙ go (frameStep l t)
+    where
+      go : (a : Acted) → elim a as (λ x. Result) [ acted t′ ↦ frameRun l n (stepped t′) | halted c ↦ results (Stopped c) (frameOffset t) t ] ≡ after n a
+      go (acted t′) = refl
+      go (halted c) = refl
+
+-- Two runs that come to the same.
+pub record Same (o : Outcome) (q : Result) : Type 0 where
+  pub end-is : o .end ≡ q .end
+  pub offset-is : o .offset ≡ q .offset
+  pub finals : Related (o .final) (q .final)
+
+counted-related : (s : State) (t : Stack) → Related s t → Related (counted s) (stepped t)
+unfolding counted stepped
+counted-related s t r = record { twins = r .twins; rising = r .rising; table-is = r .table-is; steps-are = ap suc (r .steps-are) }
+
+last-some : (a : Activation) (l : List Activation) → (b : Activation) × (last? (a ∷ l) ≡ some b)
+unfolding last?
+last-some a [] = (a, refl)
+last-some a (c ∷ l) = last-some c l
+
+abbrev RunsSame : Limits → ℕ → Type 0
+RunsSame l n = (s : State) (t : Stack) → Related s t → Invariant s → Same (run l n s) (frameRun l n t)
+
+module _ (l : Limits) (s : State) (t : Stack) (r : Related s t) (inv : Invariant s) where
+  depth-same : length (s .live) ≡ length (t .frames)
+  depth-same = both-length (Twin (s .live) (s .values)) 0 (s .live) (t .frames) (r .twins)
+
+  same-finished : (n : ℕ) → s .live ≡ [] → t .frames ≡ [] → Same (run l n s) (frameRun l n t)
+  unfolding ends results
+  same-finished n e e′ =
+      subst₂ Same (sym (run-finished l n s e)) (sym (frames-finished l t n e′)) (record { end-is = refl; offset-is = refl; finals = r })
+
+  -- neither machine has an activation, or both have one
+  by-depth : (X : Type 0) → (s .live ≡ [] → t .frames ≡ [] → X) → ((a : Activation) (rest : List Activation) (f : Frame) (fs : List Frame) → s .live ≡ a ∷ rest → t .frames ≡ f ∷ fs → X) → X
+  by-depth X none-live some-live = go (s .live) refl (t .frames) refl
+    where
+      go : (as′ : List Activation) → s .live ≡ as′ → (gs : List Frame) → t .frames ≡ gs → X
+      go [] e [] e′ = none-live e e′
+      go [] e (f ∷ fs) e′ = absurd (let z = ap length e in let z′ = ap length e′ in let d = depth-same in omega arith)
+      go (a ∷ rest) e [] e′ = absurd (let z = ap length e in let z′ = ap length e′ in let d = depth-same in omega arith)
+      go (a ∷ rest) e (f ∷ fs) e′ = some-live a rest f fs e e′
+
+  same-zero : Same (run l 0 s) (frameRun l 0 t)
+  unfolding ends results
+  same-zero =
+      by-depth (Same (run l 0 s) (frameRun l 0 t)) (same-finished 0)
+      (λ a rest f fs e e′. subst₂ Same (sym (run-spent l s (λ q. cons≢nil (sym e ∙ q)))) (sym (frames-spent l t f fs e′)) (record { end-is = refl; offset-is = refl; finals = r }))
+
+  same-tried : (n : ℕ) → RunsSame l n → (a b : Activation) (rest : List Activation) (f : Frame) (fs : List Frame) → s .live ≡ a ∷ rest → t .frames ≡ f ∷ fs → last? (s .live) ≡ some b → (d : Done) → step l s ≡ d → (q : Acted) → frameStep l t ≡ q → Alike d q → Same (run l (suc n) s) (frameRun l (suc n) t)
+  unfolding Alike ends results after
+  same-tried n ih a b rest f fs e e′ last (did s′) d (acted t′) q h =
+      subst₂ Same (sym (run-did l n s s′ (λ z. cons≢nil (sym e ∙ z)) d)) (sym (frames-tried l t n f fs e′ ∙ ap (after l t n) q))
+      (ih (counted s′) (stepped t′) (counted-related s′ t′ h) (counted-invariant s′ (step-keeps l s s′ inv d)))
+  same-tried n ih a b rest f fs e e′ last (did s′) d (halted c) q h = absurd h
+  same-tried n ih a b rest f fs e e′ last (stop c) d (acted t′) q h = absurd h
+  same-tried n ih a b rest f fs e e′ last (stop c) d (halted c′) q h =
+      subst₂ Same (sym (run-stopped l n s c (λ z. cons≢nil (sym e ∙ z)) d)) (sym (frames-tried l t n f fs e′ ∙ ap (after l t n) q))
+      (record { end-is = ap Stopped h; offset-is = offset-alike l s t r inv b last; finals = r })
+
+  same-step : (n : ℕ) → RunsSame l n → Same (run l (suc n) s) (frameRun l (suc n) t)
+  same-step n ih =
+      by-depth (Same (run l (suc n) s) (frameRun l (suc n) t)) (same-finished (suc n))
+      (λ a rest f fs e e′. let b = last-some a rest in let last : last? (s .live) ≡ some (b .0) = ap last? e ∙ b .1 in
+      same-tried n ih a (b .0) rest f fs e e′ last (step l s) refl (frameStep l t) refl (step-alike l s t r inv (b .0) last))
+
+-- Whole runs, at every allowance.
+pub runs-same : (l : Limits) (n : ℕ) → RunsSame l n
+runs-same l zero s t r inv = same-zero l s t r inv
+runs-same l (suc n) s t r inv = same-step l s t r inv n (runs-same l n)
+
+-- The two machines start related.
+nothing : Table → State
+nothing u = record { live = []; values = []; fresh = 65536; table = u; steps = 0 }
+
+no-frames : Table → Stack
+no-frames u = record { frames = []; table = u; steps = 0 }
+
+start-related : (bs : List ℕ) (p : Block) → Bytes bs → check bs ≡ accepted p → (u : Table) → Related (start p u) (frameStart p u)
+unfolding start frameStart nothing no-frames withFrames formalNames readsAt readsIn joined without Both Rising AllLive numbered
+start-related bs p bytes e u =
+    let r : Related (nothing u) (no-frames u) = record { twins = tt; rising = omega arith; table-is = refl; steps-are = refl } in
+    subst (λ (b : Block). Related (enter (nothing u) [] [] b []) (frameStart p u)) (rename-nothing p)
+    (related-push (nothing u) (no-frames u) r [] p (fine-script bs p bytes e) [] refl tt 0 (omega arith))
+
+-- The sheets are one.
+
+designator-is : (s : State) (x : ℕ) → designator s x ≡ designatorAt (s .live) x
+unfolding designator designatorAt designatorFor instance
+designator-is s x = go (instanceFrom x 1 (s .live)) refl
+  where
+    go : (o : Option Instance) → instanceFrom x 1 (s .live) ≡ o → designator s x ≡ designatorFor o
+    go none e = rw (e, designator)
+    go (some i) e = rw (e, designator)
+
+declWord-is : (s : State) (d : Decl) → declWord s d ≡ wordIn (s .values) d
+unfolding declWord wordIn
+declWord-is s (VR at n) = value-is s n
+declWord-is s (LB at n i) = refl
+declWord-is s (PR at n fs b) = refl
+
+words-same : (s : State) (k : ℕ) (a : Activation) (f : Frame) → Twin (s .live) (s .values) k a f → activationWords s a ≡ frameWords f
+unfolding activationWords frameWords
+words-same s k a f w =
+    λ i. pos ((ap blockAt (w .text-is) ∙ blockAt-renamed (f .text) (joined (a .reads))) i) ∷ pos (w .next-is i) ∷ (ap₂ _++_ (map-alike (λ (x : ℕ). pos (designator s x)) (λ (x : ℕ). pos (designatorAt (s .live) x)) (a .arguments) (λ j x e. ap pos (designator-is s x))) (map-alike (declWord s) (wordIn (s .values)) (blockDecls (a .text)) (λ j d e. declWord-is s d)) ∙ sym (w .words-are)) i
+
+sheets-same : (s : State) (k : ℕ) (l : List Activation) (fs : List Frame) → Both (Twin (s .live) (s .values)) k l fs → wordsOf s l ≡ frameSheet fs
+unfolding Both wordsOf frameSheet
+sheets-same s k [] [] h = refl
+sheets-same s k [] (f ∷ fs) h = absurd h
+sheets-same s k (a ∷ l) [] h = absurd h
+sheets-same s k (a ∷ l) (f ∷ fs) h = ap₂ _++_ (words-same s k a f (h .0)) (sheets-same s (suc k) l fs (h .1))
+
+sheet-same : (s : State) (t : Stack) → Related s t → sheetWords s ≡ frameSheet (t .frames)
+unfolding sheetWords
+sheet-same s t r = sheets-same s 0 (s .live) (t .frames) (r .twins)
+
+-- The looked-up name is one.
+module _ (s : State) (t : Stack) (r : Related s t) (n : ℕ) where
+  none-looked : s .live ≡ [] → t .frames ≡ []
+  none-looked e = go (t .frames) refl
+    where
+      go : (fs : List Frame) → t .frames ≡ fs → t .frames ≡ []
+      go [] q = q
+      go (f ∷ fs) q = absurd (let z = both-length (Twin (s .live) (s .values)) 0 (s .live) (t .frames) (r .twins) in let z′ = ap length e in let z″ = ap length q in omega arith)
+
+  found-designator : (o : Option Found) → lookedUp s n ≡ o → lookedUpDesignator s n ≡ foundDesignator (s .live) o
+  unfolding lookedUpDesignator foundDesignator
+  found-designator none e = rw (e, lookedUpDesignator)
+  found-designator (some d) e = rw (e, lookedUpDesignator) (designator-is s (d .name))
+
+  found-links : (o : Option Found) → lookedUp s n ≡ o → lookedUpLinks s n ≡ passedIn o
+  unfolding lookedUpLinks passedIn
+  found-links none e = rw (e, lookedUpLinks)
+  found-links (some d) e = rw (e, lookedUpLinks)
+
+  lookedUp-is : (a : Activation) → last? (s .live) ≡ some a → lookedUp s n ≡ seek n 0 (a .reads)
+  unfolding lookedUp
+  lookedUp-is a e = rw (e, lookedUp)
+
+  lookedUp-none : last? (s .live) ≡ none → lookedUp s n ≡ none
+  unfolding lookedUp
+  lookedUp-none e = rw (e, lookedUp)
+
+  looked : (o : Option Activation) → last? (s .live) ≡ o → (lookedUpDesignator s n ≡ designates (t .frames) n) × (lookedUpLinks s n ≡ linksFollowed (t .frames) n)
+  unfolding designates linksFollowed seekName seekFrom foundDesignator passedIn
+  looked none e =
+      let q = none-looked (last-none (s .live) e) in
+      (found-designator none (lookedUp-none e) ∙ sym (ap (λ (fs : List Frame). designates fs n) q), found-links none (lookedUp-none e) ∙ sym (ap (λ (fs : List Frame). linksFollowed fs n) q))
+  looked (some a) e =
+      let k = length (butLast (s .live)) in
+      let split = last-split (s .live) a e in
+      let deep : length (s .live) ≡ suc k = ap length split ∙ (length-append (butLast (s .live)) (a ∷ []) ∙ omega arith) in
+      let here : getElem? (s .live) k ≡ some a = ap (λ (m : List Activation). getElem? m k) split ∙ getElem-snoc (butLast (s .live)) a in
+      (found-designator (seek n 0 (a .reads)) (lookedUp-is a e) ∙ sym (designates-found s t r k a deep here n), found-links (seek n 0 (a .reads)) (lookedUp-is a e) ∙ sym (links-found s t r k a deep here n))
+
+-- The replies are one.
+
+links-same : (e : Engine) (s : State) (t : Stack) → Related s t → (n : ℕ) → frameLinks e (t .frames) n ≡ linksOf e s n
+unfolding frameLinks linksOf
+links-same (copying area) s t r n = refl
+links-same (chain records) s t r n = sym (looked s t r n (last? (s .live)) refl .1)
+links-same display s t r n = refl
+
+replied-same : (e : Engine) (f : Fed) (o : Outcome) (q : Result) → Same o q → frameReplied e f q ≡ replied e f o
+unfolding frameReplied replied
+replied-same e f o q h =
+    let s = o .final in
+    let t = q .final in
+    let r = h .finals in
+    let ws : frameSheet (t .frames) ≡ sheetWords s = sym (sheet-same s t r) in
+    let n : t .steps ≡ s .steps = sym (r .steps-are) in
+    let u : t .table ≡ s .table = sym (r .table-is) in
+    let d : designates (t .frames) (f .name) ≡ lookedUpDesignator s (f .name) = sym (looked s t r (f .name) (last? (s .live)) refl .0) in
+    let k = links-same e s t r (f .name) in
+    let x : q .end ≡ o .end = sym (h .end-is) in
+    let y : q .offset ≡ o .offset = sym (h .offset-is) in
+    λ i. record { answer = record { end = x i; steps = n i; offset = y i; pairs = u i .used; sheet = length (ws i); tally = f .tally + n i; designator = d i; links = k i }; sheet = ws i ++ drop (length (ws i)) (f .sheet); table = u i .words }
+
+runs-replied : (e : Engine) (f : Fed) → Bytes (f .script) → (t : Block) → check (f .script) ≡ accepted t → frameReplied e f (frameRunOf f t) ≡ replied e f (runOf f t)
+unfolding runOf frameRunOf
+runs-replied e f bytes t a =
+    let l : Limits = record { activations = f .activations; group = f .group } in
+    replied-same e f (runOf f t) (frameRunOf f t)
+    (runs-same l (f .allowance) (start t (f .table)) (frameStart t (f .table)) (start-related (f .script) t bytes a (f .table)) (started t (f .table) (accepted-closed (f .script) t (bytes-below (f .script) bytes) a)))
+
+pub checked-same : (e : Engine) (f : Fed) → Bytes (f .script) → (c : Checked) → check (f .script) ≡ c → frameChecked e f c ≡ checked e f c
+unfolding frameChecked checked
+checked-same e f bytes (refused c o) a = refl
+checked-same e f bytes (accepted t) a = go (areaFits e f) refl
+  where
+    go : (b : Bool) → areaFits e f ≡ b → frameChecked e f (accepted t) ≡ checked e f (accepted t)
+    go true q = rw (q, frameChecked, checked) (runs-replied e f bytes t a)
+    go false q = rw (q, frameChecked, checked)

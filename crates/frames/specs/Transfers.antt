@@ -1,0 +1,201 @@
+-- Gotos, calls and blocks entered: the relation is kept, or both machines stop for one cause.
+use Prim.Native.Nat.{ℕ, zero, suc, pred, _+_, _*_, _≤_, _<_}
+use native.Mathlib.Omega.{arith}
+use mathlib.Core.Bool.{Bool, true, false, _&&_, cond}
+use mathlib.Core.Path.{_≡_, refl, sym, ap, ap₂, _∙_, subst, subst₂}
+use mathlib.Core.List.{List, [], _∷_, _++_, map}
+use mathlib.Core.Option.{Option, none, some}
+use lib.Dec.{ltb, leb}
+use lib.IntN.{ℤ, pos}
+use lib.ListN.{length, take, getElem?, length-map}
+use Rattle.language.specs.Text.{Kind, variable, label, procedure, Formal, Block, block, Decl, VR, LB, PR, Decls, no-decl, decl, Stmts, no-stmt, stmt, Stmt, BK, DO, blockDecls, blockStmts, decls, stmts, declName, declKind, labelIndex, declFormals, declBody, formalNames, formalKinds, declaredNames, sameKind}
+use Rattle.language.specs.Scope.{agree}
+use Rattle.language.specs.Copy.{Replacement, renameBlock, without}
+use Rattle.language.specs.Machine.{Activation, State, Limits, Instance, instance, instanceFrom, Done, did, stop, withLive, resume, jump, kindAt, enter, enterIfRoom, call}
+use Rattle.language.specs.declared.Stop.the-variants.{NoActivationLeft, ArgumentsDiffer}
+use Rattle.instances.specs.Statement.{Serves, Stands}
+use Rattle.frames.specs.Frame.{Frame, Stack, Acted, acted, halted, numbered, continue, withFrames, frameNumber, declOf, kindOf, goTo, newFrame, pushFrame, callBy}
+use Rattle.frames.specs.Lists.{none≢some, some-inj, take-snoc, snoc-inj, getElem-bound, getElem-in}
+use Rattle.frames.specs.Instances.{instance-number}
+use Rattle.frames.specs.Renaming.{labelIndex-renamed, declFormals-renamed, declBody-renamed, small-decl-at, small-stmt-at, small-body, SmallBlock, SmallStmt, SmallDecl}
+use Rattle.frames.specs.Both.{both-length}
+use Rattle.frames.specs.Related.{readsIn, readsAt, joined, designatorAt, Fine, TidyBlock, TidyDecl, TidyStmt, TidyDecls, TidyStmts, LiveBelow, AllLive, Twin, Related}
+use Rattle.frames.specs.Cuts.{Top, top-of, related-take, related-resume}
+use Rattle.frames.specs.Designated.{Designated, designated, declOf-designated, kindOf-designated}
+use Rattle.frames.specs.Push.{related-push}
+use Rattle.frames.specs.Actions.{Alike}
+
+module _ (s : State) (t : Stack) (r : Related s t) where
+  -- the stack cut back to an activation, which goes on at another statement
+  cut-back : (k n : ℕ) (a : Activation) (f : Frame) → getElem? (s .live) k ≡ some a → getElem? (t .frames) k ≡ some f → Related (withLive s (take k (s .live) ++ (resume a n ∷ []))) (withFrames t (take k (t .frames) ++ (continue f n ∷ [])))
+  unfolding withLive withFrames top-of
+  cut-back k n a f e e′ =
+      let s₁ = withLive s (take (suc k) (s .live)) in
+      let t₁ = withFrames t (take (suc k) (t .frames)) in
+      let r₁ = related-take s t (suc k) r in
+      let top = top-of s₁ t₁ r₁ (take k (s .live)) a (take-snoc (s .live) k a e) in
+      let same = snoc-inj (top .below-frames) (take k (t .frames)) (top .frame) f (sym (top .frames-are) ∙ take-snoc (t .frames) k f e′) in
+      subst₂ (λ (fs : List Frame) (g : Frame). Related (withLive s (take k (s .live) ++ (resume a n ∷ []))) (withFrames t (fs ++ (continue g n ∷ []))))
+      (same .0) (same .1)
+      (related-resume s₁ t₁ r₁ top n)
+
+  module _ (x : ℕ) (i : Instance) (e : instance s x ≡ some i) (d : Designated s t x i) where
+    jump-is : jump s x ≡ withLive s (take (d .depth) (s .live) ++ (resume (i .home) (labelIndex (i .decl)) ∷ []))
+    unfolding jump
+    jump-is = rw (e, jump) (ap (λ (n : ℕ). withLive s (take (pred n) (s .live) ++ (resume (i .home) (labelIndex (i .decl)) ∷ []))) (d .number-is))
+
+    frame-is : numbered (t .frames) (frameNumber (designatorAt (s .live) x)) ≡ some (d .frame)
+    unfolding numbered
+    frame-is = rw (d .by-number) (d .frame-at)
+
+    goTo-is : goTo t (designatorAt (s .live) x) ≡ withFrames t (take (d .depth) (t .frames) ++ (continue (d .frame) (labelIndex (i .decl)) ∷ []))
+    unfolding goTo
+    goTo-is =
+        rw (frame-is, goTo) (rw (declOf-designated s t x i d)
+        (ap₂ (λ (n m : ℕ). withFrames t (take (pred n) (t .frames) ++ (continue (d .frame) m ∷ []))) (d .by-number) (sym (ap labelIndex (d .decl-is) ∙ labelIndex-renamed (d .original) (joined (i .home .reads))))))
+
+  pub jump-related : (x : ℕ) (w : Option Kind) → Stands s x w → Related (jump s x) (goTo t (designatorAt (s .live) x))
+  unfolding instance
+  jump-related x w v =
+      let i = v .it in
+      let d = designated s t r x i (v .found) in
+      subst₂ Related (sym (jump-is x i (v .found) d)) (sym (goTo-is x i (v .found) d))
+      (cut-back (d .depth) (labelIndex (i .decl)) (i .home) (d .frame) (d .home-at) (d .frame-at))
+
+-- What is fine stays so within.
+
+tidy-decls-at : (ds : Decls) (j : ℕ) (d : Decl) → TidyDecls ds → getElem? (decls ds) j ≡ some d → TidyDecl d
+unfolding TidyBlock decls
+tidy-decls-at no-decl j d h e = absurd (none≢some e)
+tidy-decls-at (decl c ds) zero d h e = subst TidyDecl (some-inj e) (h .0)
+tidy-decls-at (decl c ds) (suc j) d h e = tidy-decls-at ds j d (h .1) e
+
+tidy-stmts-at : (ss : Stmts) (j : ℕ) (x : Stmt) → TidyStmts ss → getElem? (stmts ss) j ≡ some x → TidyStmt x
+unfolding TidyBlock stmts
+tidy-stmts-at no-stmt j x h e = absurd (none≢some e)
+tidy-stmts-at (stmt c ss) zero x h e = subst TidyStmt (some-inj e) (h .0)
+tidy-stmts-at (stmt c ss) (suc j) x h e = tidy-stmts-at ss j x (h .1) e
+
+tidy-decl-at : (b : Block) (fs : List Formal) (j : ℕ) (d : Decl) → TidyBlock b fs → getElem? (blockDecls b) j ≡ some d → TidyDecl d
+unfolding TidyBlock blockDecls
+tidy-decl-at (block at ds ss) fs j d h e = tidy-decls-at ds j d (h .2) e
+
+tidy-stmt-at : (b : Block) (fs : List Formal) (j : ℕ) (x : Stmt) → TidyBlock b fs → getElem? (blockStmts b) j ≡ some x → TidyStmt x
+unfolding TidyBlock blockStmts
+tidy-stmt-at (block at ds ss) fs j x h e = tidy-stmts-at ss j x (h .3) e
+
+tidy-body : (d : Decl) → TidyDecl d → TidyBlock (declBody d) (declFormals d)
+unfolding TidyBlock declBody declFormals formalNames decls
+tidy-body (VR at n) h = (omega arith, tt, tt, tt)
+tidy-body (LB at n i) h = (omega arith, tt, tt, tt)
+tidy-body (PR at n fs b) h = h
+
+pub fine-body : (fs : List Formal) (b : Block) (j : ℕ) (d : Decl) → Fine fs b → getElem? (blockDecls b) j ≡ some d → Fine (declFormals d) (declBody d)
+fine-body fs b j d f e =
+    let h = small-body d (small-decl-at b j d (f .small) e) in
+    record { small = h .1; small-formals = h .0; tidy = tidy-body d (tidy-decl-at b fs j d (f .tidy) e) }
+
+pub fine-block : (fs : List Formal) (b : Block) (j : ℕ) (c : Block) → Fine fs b → getElem? (blockStmts b) j ≡ some (BK c) → Fine [] c
+unfolding SmallBlock TidyBlock formalNames
+fine-block fs b j c f e =
+    record { small = small-stmt-at b j (BK c) (f .small) e; small-formals = tt; tidy = tidy-stmt-at b fs j (BK c) (f .tidy) e }
+
+-- Entering
+
+agree-length : (ks : List Kind) (os : List (Option Kind)) → agree ks os ≡ true → length ks ≡ length os
+unfolding agree
+agree-length [] [] e = refl
+agree-length [] (x ∷ os) e = absurd (let z : _≡_ {A = ℕ} 0 1 = cc in omega arith)
+agree-length (k ∷ ks) [] e = absurd (let z : _≡_ {A = ℕ} 0 1 = cc in omega arith)
+agree-length (k ∷ ks) (none ∷ os) e = absurd (let z : _≡_ {A = ℕ} 0 1 = cc in omega arith)
+agree-length (k ∷ ks) (some x ∷ os) e = ap suc (agree-length ks os (and-right (sameKind k x) (agree ks os) e))
+  where
+    and-right : (a b : Bool) → (a && b) ≡ true → b ≡ true
+    and-right true b h = h
+    and-right false b h = absurd (let z : _≡_ {A = ℕ} 0 1 = cc in omega arith)
+
+-- arguments that stand in the state
+abbrev pub AllStand : State → List ℕ → Type 0
+AllStand s [] = Unit {0}
+AllStand s (x ∷ xs) = Stands s x none × AllStand s xs
+
+module _ (s : State) (t : Stack) (r : Related s t) where
+  all-live : (xs : List ℕ) → AllStand s xs → AllLive (s .live) (length (s .live)) xs
+  unfolding AllLive instance
+  all-live [] v = tt
+  all-live (x ∷ xs) v =
+      let n = instance-number x 1 (s .live) (v .0 .it) (v .0 .found) in
+      (record { instance = v .0 .it; found = v .0 .found; below = omega arith }, all-live xs (v .1))
+
+  kinds-same : (xs : List ℕ) → AllStand s xs → map (kindAt s) xs ≡ map (kindOf (t .frames)) (map (designatorAt (s .live)) xs)
+  unfolding instance kindAt
+  kinds-same [] v = refl
+  kinds-same (x ∷ xs) v =
+      ap₂ _∷_ (kind-is x (v .0 .it) (v .0 .found) ∙ sym (kindOf-designated s t x (v .0 .it) (designated s t r x (v .0 .it) (v .0 .found)))) (kinds-same xs (v .1))
+    where
+      kind-is : (x : ℕ) (i : Instance) → instance s x ≡ some i → kindAt s x ≡ some (declKind (i .decl))
+      kind-is x i e = rw (e, kindAt)
+
+  depths : length (s .live) ≡ length (t .frames)
+  depths = both-length (Twin (s .live) (s .values)) 0 (s .live) (t .frames) (r .twins)
+
+  -- a block entered, or no activation left
+  pub enter-alike : (l : Limits) (fs : List Formal) (b : Block) → Fine fs b → (xs : List ℕ) → length xs ≡ length fs → AllStand s xs → (m : ℕ) → m ≤ length (s .live) → Alike (enterIfRoom l s (formalNames fs) xs (renameBlock b (without (formalNames fs ++ declaredNames b) (joined (readsAt (s .live) m)))) (readsAt (s .live) m)) (pushFrame l t fs (map (designatorAt (s .live)) xs) b m)
+  unfolding enterIfRoom pushFrame Alike
+  enter-alike l fs b fine xs many v m deep = go (ltb (length (s .live)) (l .activations)) refl
+    where
+      go : (c : Bool) → ltb (length (s .live)) (l .activations) ≡ c → Alike (enterIfRoom l s (formalNames fs) xs (renameBlock b (without (formalNames fs ++ declaredNames b) (joined (readsAt (s .live) m)))) (readsAt (s .live) m)) (pushFrame l t fs (map (designatorAt (s .live)) xs) b m)
+      go true e = rw (e, subst (λ (n : ℕ). ltb n (l .activations) ≡ true) depths e, enterIfRoom, pushFrame) (related-push s t r fs b fine xs many (all-live xs v) m deep)
+      go false e = rw (e, subst (λ (n : ℕ). ltb n (l .activations) ≡ false) depths e, enterIfRoom, pushFrame)
+
+  pub reads-of : (k : ℕ) (a : Activation) → getElem? (s .live) k ≡ some a → readsAt (s .live) (suc k) ≡ a .reads
+  unfolding readsAt readsIn numbered
+  reads-of k a e = ap readsIn e
+
+  -- a call of a name that stands, with arguments that stand
+  pub call-alike : (l : Limits) (p : ℕ) (w : Option Kind) (xs : List ℕ) → Stands s p w → AllStand s xs → Alike (call l s p xs) (callBy l t (designatorAt (s .live) p) (map (designatorAt (s .live)) xs))
+  unfolding instance call callBy Alike formalKinds
+  call-alike l p w xs v vs = go (agree (formalKinds (declFormals (i .decl))) (map (kindAt s) xs)) refl
+    where
+      i : Instance
+      i = v .it
+
+      d : Designated s t p i
+      d = designated s t r p i (v .found)
+
+      σ : Replacement
+      σ = joined (i .home .reads)
+
+      formals-same : declFormals (i .decl) ≡ declFormals (d .original)
+      formals-same = ap declFormals (d .decl-is) ∙ declFormals-renamed (d .original) σ
+
+      body-same : declBody (i .decl) ≡ renameBlock (declBody (d .original)) (without (formalNames (declFormals (d .original)) ++ declaredNames (declBody (d .original))) σ)
+      body-same = ap declBody (d .decl-is) ∙ declBody-renamed (d .original) σ
+
+      fs : List Formal
+      fs = declFormals (d .original)
+
+      b : Block
+      b = declBody (d .original)
+
+      tests-same : agree (formalKinds (declFormals (i .decl))) (map (kindAt s) xs) ≡ agree (formalKinds fs) (map (kindOf (t .frames)) (map (designatorAt (s .live)) xs))
+      tests-same = ap₂ agree (ap formalKinds formals-same) (kinds-same xs vs)
+
+      many : agree (formalKinds (declFormals (i .decl))) (map (kindAt s) xs) ≡ true → length xs ≡ length fs
+      many e =
+          let n = agree-length (formalKinds (declFormals (i .decl))) (map (kindAt s) xs) e in
+          let n₁ = length-map (declFormals (i .decl)) (λ (f : Formal). f .kind) in
+          let n₂ = length-map xs (kindAt s) in
+          let n₃ = ap length formals-same in
+          omega arith
+
+      entered : length xs ≡ length fs → Alike (enterIfRoom l s (formalNames (declFormals (i .decl))) xs (declBody (i .decl)) (i .home .reads)) (pushFrame l t fs (map (designatorAt (s .live)) xs) b (frameNumber (designatorAt (s .live) p)))
+      entered n =
+          subst₂ Alike
+          (ap (λ (rs : List Replacement). enterIfRoom l s (formalNames fs) xs (renameBlock b (without (formalNames fs ++ declaredNames b) (joined rs))) rs) (reads-of (d .depth) (i .home) (d .home-at)) ∙ sym (ap₂ (λ (ns : List ℕ) (c : Block). enterIfRoom l s ns xs c (i .home .reads)) (ap formalNames formals-same) body-same))
+          (ap (pushFrame l t fs (map (designatorAt (s .live)) xs) b) (sym (d .by-number)))
+          (enter-alike l fs b (fine-body (d .frame .formals) (d .frame .text) (d .index) (d .original) (d .twin .fine) (d .original-at)) xs n vs (suc (d .depth)) (getElem-bound (s .live) (d .depth) (i .home) (d .home-at)))
+
+      go : (c : Bool) → agree (formalKinds (declFormals (i .decl))) (map (kindAt s) xs) ≡ c → Alike (call l s p xs) (callBy l t (designatorAt (s .live) p) (map (designatorAt (s .live)) xs))
+      go true e = rw (v .found, declOf-designated s t p i d, call, callBy) (rw (e, sym tests-same ∙ e) (entered (many e)))
+      go false e = rw (v .found, declOf-designated s t p i d, call, callBy) (rw (e, sym tests-same ∙ e))
