@@ -1,0 +1,2 @@
+-- Laws of the frame machine for the engines that run on frames, in reading order.
+pub mod Actions
