@@ -1,2 +1,4 @@
 -- Laws of the frame machine for the engines that run on frames, in reading order.
+pub mod Parts
 pub mod Actions
+pub mod Innermost
