@@ -5,7 +5,7 @@ use Prim.Native.Nat.{ℕ, zero, suc, pred, _+_, _-_, _*_}
 use mathlib.Core.Path.{_≡_, refl, sym, ap, _∙_}
 use mathlib.Core.Bool.{Bool, true, false, _&&_, cond}
 use mathlib.Core.List.{List, [], _∷_, _++_, map}
-use mathlib.Core.Option.{Option, none, some}
+use mathlib.Core.Option.{Option, none, some, Option·none-ne-some}
 use lib.Dec.{leb, ltb}
 use lib.IntN.{ℤ, pos}
 use lib.ListN.{length, take, getD, set, getElem?}
@@ -27,6 +27,13 @@ declOf-found fs x f e = rw (e, declOf)
 pub declOf-none : (fs : List Frame) (x : ℕ) → numbered fs (frameNumber x) ≡ none → declOf fs x ≡ none
 unfolding declOf
 declOf-none fs x e = rw (e, declOf)
+
+pub declOf-frame : (fs : List Frame) (x : ℕ) (d : Decl) → declOf fs x ≡ some d → (f : Frame) × (numbered fs (frameNumber x) ≡ some f)
+declOf-frame fs x d e = go (numbered fs (frameNumber x)) refl
+  where
+    go : (o : Option Frame) → numbered fs (frameNumber x) ≡ o → (f : Frame) × (numbered fs (frameNumber x) ≡ some f)
+    go none n = absurd (Option·none-ne-some d (sym (declOf-none fs x n) ∙ e))
+    go (some f) n = (f, n)
 
 pub kindOf-found : (fs : List Frame) (x : ℕ) (d : Decl) → declOf fs x ≡ some d → kindOf fs x ≡ some (declKind d)
 unfolding kindOf

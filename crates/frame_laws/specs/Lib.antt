@@ -2,3 +2,5 @@
 pub mod Parts
 pub mod Actions
 pub mod Innermost
+pub mod Cases
+pub mod Tables
