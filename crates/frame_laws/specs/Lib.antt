@@ -4,3 +4,4 @@ pub mod Actions
 pub mod Innermost
 pub mod Cases
 pub mod Tables
+pub mod Formed
