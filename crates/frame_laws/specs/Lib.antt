@@ -5,3 +5,5 @@ pub mod Innermost
 pub mod Cases
 pub mod Tables
 pub mod Formed
+pub mod Sound
+pub mod SoundFrames
