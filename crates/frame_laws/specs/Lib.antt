@@ -7,3 +7,4 @@ pub mod Tables
 pub mod Formed
 pub mod Sound
 pub mod SoundFrames
+pub mod Names
