@@ -6,7 +6,7 @@ use mathlib.Core.Path.{_≡_, refl, sym, ap, _∙_}
 use mathlib.Core.Bool.{Bool, true, false, _&&_, cond}
 use mathlib.Core.List.{List, [], _∷_, _++_, map}
 use mathlib.Core.Option.{Option, none, some, Option·none-ne-some}
-use lib.Dec.{leb, ltb}
+use lib.Dec.{eqb, leb, ltb}
 use lib.IntN.{ℤ, pos}
 use lib.ListN.{length, take, getD, set, getElem?}
 use lib.Signed.{mag}
@@ -16,7 +16,7 @@ use Rattle.language.specs.Scope.{agree}
 use Rattle.language.specs.Table.{holds, size, atLeastOne, full, add, remove}
 use Rattle.language.specs.Machine.{Limits, compute}
 use Rattle.language.specs.declared.Stop.the-variants.{ResultTooLarge, NoActivationLeft, NumberBelowOne, GroupFull, TableFull, ArgumentsDiffer}
-use Rattle.frames.specs.Frame.{Frame, Stack, Place, Acted, acted, halted, withFrames, tableChanged, continue, rewritten, numbered, seekName, designatorIn, finally, designates, linksFollowed, frameNumber, place, declOf, kindOf, wordAt, putWord, mapAction, newFrame, pushFrame, callBy, goTo, put, putIfFits, addTo, removeFrom, ask, act, actStmt}
+use Rattle.frames.specs.Frame.{Frame, Stack, Place, Acted, acted, halted, withFrames, tableChanged, continue, rewritten, numbered, frameNames, positionFrom, seekFrom, seekName, designatorIn, finally, designates, linksFollowed, frameNumber, place, declOf, kindOf, wordAt, putWord, mapAction, newFrame, pushFrame, callBy, goTo, put, putIfFits, addTo, removeFrom, ask, act, actStmt}
 
 -- Finding: a designator gives its frame's number and its name's place there
 
@@ -47,6 +47,10 @@ pub wordAt-found : (fs : List Frame) (x : ℕ) (f : Frame) → numbered fs (fram
 unfolding wordAt
 wordAt-found fs x f e = rw (e, wordAt)
 
+pub wordAt-none : (fs : List Frame) (x : ℕ) → numbered fs (frameNumber x) ≡ none → wordAt fs x ≡ pos 0
+unfolding wordAt
+wordAt-none fs x e = rw (e, wordAt)
+
 pub putWord-found : (fs : List Frame) (x : ℕ) (z : ℤ) (f : Frame) → numbered fs (frameNumber x) ≡ some f → putWord fs x z ≡ set fs (pred (frameNumber x)) (rewritten f (set (f .words) (place x) z))
 unfolding putWord
 putWord-found fs x z f e = rw (e, putWord)
@@ -54,6 +58,41 @@ putWord-found fs x z f e = rw (e, putWord)
 pub putWord-none : (fs : List Frame) (x : ℕ) (z : ℤ) → numbered fs (frameNumber x) ≡ none → putWord fs x z ≡ fs
 unfolding putWord
 putWord-none fs x z e = rw (e, putWord)
+
+-- a name in a list of names, where positions go on from i
+pub position-none : (n i : ℕ) → positionFrom n i [] ≡ none
+unfolding positionFrom
+position-none n i = refl
+
+pub position-here : (n i x : ℕ) (xs : List ℕ) → eqb n x ≡ true → positionFrom n i (x ∷ xs) ≡ some i
+unfolding positionFrom
+position-here n i x xs t = rw (positionFrom, t)
+
+pub position-on : (n i x : ℕ) (xs : List ℕ) → eqb n x ≡ false → positionFrom n i (x ∷ xs) ≡ positionFrom n (suc i) xs
+unfolding positionFrom
+position-on n i x xs t = rw (positionFrom, t)
+
+-- a name along the links from frame k, j links having been followed
+pub seekName-starts : (fs : List Frame) (n : ℕ) → seekName fs n ≡ seekFrom (length fs) fs (length fs) n 0
+unfolding seekName
+seekName-starts fs n = refl
+
+pub seek-spent : (fs : List Frame) (k n j : ℕ) → seekFrom 0 fs k n j ≡ none
+unfolding seekFrom
+seek-spent fs k n j = refl
+
+module _ (m : ℕ) (fs : List Frame) (k n j : ℕ) where
+  pub seek-none : numbered fs k ≡ none → seekFrom (suc m) fs k n j ≡ none
+  unfolding seekFrom
+  seek-none e = rw (seekFrom, e)
+
+  pub seek-here : (f : Frame) (p : ℕ) → numbered fs k ≡ some f → positionFrom n 1 (frameNames f) ≡ some p → seekFrom (suc m) fs k n j ≡ some (record { number = k; position = p; followed = j })
+  unfolding seekFrom
+  seek-here f p e q = rw (seekFrom, e, q)
+
+  pub seek-on : (f : Frame) → numbered fs k ≡ some f → positionFrom n 1 (frameNames f) ≡ none → seekFrom (suc m) fs k n j ≡ seekFrom m fs (f .link) n (suc j)
+  unfolding seekFrom
+  seek-on f e q = rw (seekFrom, e, q)
 
 -- a name of the text: what it designates, and the links followed to it
 pub designates-found : (fs : List Frame) (n : ℕ) (p : Place) → seekName fs n ≡ some p → designates fs n ≡ finally fs p
@@ -71,6 +110,10 @@ links-found fs n p e = rw (e, linksFollowed)
 pub links-none : (fs : List Frame) (n : ℕ) → seekName fs n ≡ none → linksFollowed fs n ≡ 0
 unfolding linksFollowed
 links-none fs n e = rw (e, linksFollowed)
+
+pub finally-none : (fs : List Frame) (p : Place) → numbered fs (p .number) ≡ none → finally fs p ≡ 0
+unfolding finally
+finally-none fs p e = rw (e, finally)
 
 pub finally-formal : (fs : List Frame) (p : Place) (f : Frame) → numbered fs (p .number) ≡ some f → leb (p .position) (length (f .formals)) ≡ true → finally fs p ≡ designatorIn (getD (f .words) (pred (p .position)) (pos 0))
 unfolding finally

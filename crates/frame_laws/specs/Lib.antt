@@ -8,3 +8,4 @@ pub mod Formed
 pub mod Sound
 pub mod SoundFrames
 pub mod Names
+pub mod Continuing
