@@ -9,3 +9,4 @@ pub mod Sound
 pub mod SoundFrames
 pub mod Names
 pub mod Continuing
+pub mod SoundSteps

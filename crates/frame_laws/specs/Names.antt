@@ -59,7 +59,7 @@ seekName-found fs n p e = seek-found (length fs) fs (length fs) n 0 p e
 
 -- In sound frames it designates a declared name
 
-numbered-sound : (fs : List Frame) (k : ℕ) (f : Frame) → SoundFrames fs → numbered fs k ≡ some f → FrameSound fs (pred k) f
+pub numbered-sound : (fs : List Frame) (k : ℕ) (f : Frame) → SoundFrames fs → numbered fs k ≡ some f → FrameSound fs (pred k) f
 unfolding numbered
 numbered-sound fs zero f h e = absurd (Option·none-ne-some f e)
 numbered-sound fs (suc k) f h e = h k f e

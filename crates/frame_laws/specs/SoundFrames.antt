@@ -114,8 +114,8 @@ alike-set : (fs : List Frame) (i : ℕ) (f g : Frame) (k : ℕ) → getElem? fs 
 alike-set fs i f g k e p q j h l d =
     by-test (eqb j i)
     (λ t. let c : j ≡ i = eqb-true j i t in
-      let r : f ≡ h = Option·some-injective f h (sym e ∙ ap (getElem? fs) (sym c) ∙ d) in
-      (g, ap (getElem? (set fs i g)) c ∙ getElem-set-same fs i f g e, p ∙ ap (λ (y : Frame). y .formals) r, q ∙ ap (λ (y : Frame). y .text) r))
+    let r : f ≡ h = Option·some-injective f h (sym e ∙ ap (getElem? fs) (sym c) ∙ d) in
+    (g, ap (getElem? (set fs i g)) c ∙ getElem-set-same fs i f g e, p ∙ ap (λ (y : Frame). y .formals) r, q ∙ ap (λ (y : Frame). y .text) r))
     (λ t. (h, getElem-set-other fs i j g (eqb-false j i t) ∙ d, refl, refl))
 
 pub sound-put : (fs : List Frame) (m i : ℕ) (f : Frame) (z : ℤ) → SoundFrames fs → getElem? fs m ≡ some f → length (f .formals) ≤ i → mag z < 2147483648 → SoundFrames (set fs m (rewritten f (set (f .words) i z)))
@@ -124,10 +124,10 @@ sound-put fs m i f z h e p q k x d =
     let g = rewritten f (set (f .words) i z) in
     frame-alike fs (set fs m g) k x (alike-set fs m f g k e refl refl)
     (by-test (eqb k m)
-      (λ t. let c : k ≡ m = eqb-true k m t in
-        let r : g ≡ x = Option·some-injective g x (sym (getElem-set-same fs m f g e) ∙ ap (getElem? (set fs m g)) (sym c) ∙ d) in
-        subst (λ y. FrameSound fs k y) r (frame-put fs k f i z (h k f (ap (getElem? fs) c ∙ e)) p q))
-      (λ t. h k x (sym (getElem-set-other fs m k g (eqb-false k m t)) ∙ d)))
+    (λ t. let c : k ≡ m = eqb-true k m t in
+    let r : g ≡ x = Option·some-injective g x (sym (getElem-set-same fs m f g e) ∙ ap (getElem? (set fs m g)) (sym c) ∙ d) in
+    subst (λ y. FrameSound fs k y) r (frame-put fs k f i z (h k f (ap (getElem? fs) c ∙ e)) p q))
+    (λ t. h k x (sym (getElem-set-other fs m k g (eqb-false k m t)) ∙ d)))
 
 -- A new frame, whose arguments point to declared names below
 
