@@ -10,3 +10,5 @@ pub mod SoundFrames
 pub mod Names
 pub mod Continuing
 pub mod SoundSteps
+pub mod SoundRuns
+pub mod SoundUses
