@@ -8,6 +8,7 @@ pub mod Formed
 pub mod Sound
 pub mod SoundFrames
 pub mod Names
+pub mod Likeness
 pub mod Continuing
 pub mod SoundSteps
 pub mod SoundRuns
