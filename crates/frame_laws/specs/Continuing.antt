@@ -10,8 +10,9 @@ use lib.ListN.{length, getElem?}
 use Rattle.language.specs.Text.{Action, CL, GO, IF, KN, AR, AD, RM, QY, Block, DO, BK}
 use Rattle.language.specs.Machine.{Limits}
 use Rattle.frames.specs.Frame.{Frame, Stack, numbered, designates, continue, frameNumber, declOf, kindOf, wordAt, mapAction, withFrames, act, actStmt, frameStmt, frameStep}
+use Rattle.frame_laws.specs.Lists.{snoc-length}
 use Rattle.frame_laws.specs.Actions.{wordAt-found, wordAt-none, does}
-use Rattle.frame_laws.specs.Innermost.{snoc-length, step-does}
+use Rattle.frame_laws.specs.Innermost.{step-does}
 use Rattle.frame_laws.specs.Cases.{by-lookup}
 use Rattle.frame_laws.specs.Sound.{OnLabel, JumpsToLabel}
 use Rattle.frame_laws.specs.Likeness.{Like, LikeFrames, numbered-none, designates-like, declOf-like, kindOf-like, mapAction-like}

@@ -1,6 +1,6 @@
 -- A step, an offset and a run in terms of the innermost frame: read `s .frames ≡ pre ++ (f ∷ [])` as "f is innermost, pre the frames
 -- below it". Then the clauses of a run, and the sheet of frames put end to end.
-use Prim.Native.Nat.{ℕ, zero, suc, _+_, _*_, _≤_, _<_}
+use Prim.Native.Nat.{ℕ, zero, suc, pred, _+_, _≤_}
 use native.Mathlib.Nat.{not-suc-le-zero}
 use native.Mathlib.Omega.{arith}
 use mathlib.Core.Path.{_≡_, refl, sym, ap, _∙_, subst}
@@ -15,50 +15,7 @@ use Rattle.language.specs.declared.Stop.{Stop}
 use Rattle.language.specs.declared.End.the-variants.{Finished, Spent, Stopped}
 use Rattle.runs.specs.Instances.{butLast-last}
 use Rattle.frames.specs.Frame.{Frame, Stack, Acted, acted, halted, withFrames, stepped, continue, numbered, actStmt, frameStmt, advanceFrame, actIn, frameStep, frameOffset, Result, results, frameRun, frameWords, frameSheet}
-
--- Lists by their last element
-
-module _ {A : Type 0} where
-  pub last-snoc : (xs : List A) (a : A) → last? (xs ++ (a ∷ [])) ≡ some a
-  unfolding last?
-  last-snoc [] a = refl
-  last-snoc (x ∷ []) a = refl
-  last-snoc (x ∷ y ∷ ys) a = last-snoc (y ∷ ys) a
-
-  pub butLast-snoc : (xs : List A) (a : A) → butLast (xs ++ (a ∷ [])) ≡ xs
-  unfolding butLast
-  butLast-snoc [] a = refl
-  butLast-snoc (x ∷ []) a = refl
-  butLast-snoc (x ∷ y ∷ ys) a = ap {B = List A} (λ zs. x ∷ zs) (butLast-snoc (y ∷ ys) a)
-
-  -- a list with an element has a last one
-  pub some-last : (xs : List A) → 1 ≤ length xs → (a : A) × (last? xs ≡ some a)
-  unfolding last?
-  some-last [] h = absurd (not-suc-le-zero h)
-  some-last (x ∷ []) h = (x, refl)
-  some-last (x ∷ y ∷ ys) h = some-last (y ∷ ys) (omega arith)
-
-  pub snoc-length : (xs : List A) (a : A) → length (xs ++ (a ∷ [])) ≡ suc (length xs)
-  snoc-length xs a = length-append xs (a ∷ []) ∙ omega arith
-
-  pub getElem-length : (xs : List A) (i : ℕ) (a : A) → getElem? xs i ≡ some a → i < length xs
-  getElem-length [] i a e = absurd (Option·none-ne-some a e)
-  getElem-length (x ∷ xs) zero a e = omega arith
-  getElem-length (x ∷ xs) (suc i) a e = omega (arith, getElem-length xs i a e)
-
-  pub getElem-some : (xs : List A) (i : ℕ) → i < length xs → (a : A) × (getElem? xs i ≡ some a)
-  getElem-some [] i h = absurd (not-suc-le-zero h)
-  getElem-some (x ∷ xs) zero h = (x, refl)
-  getElem-some (x ∷ xs) (suc i) h = getElem-some xs i (omega arith)
-
-  pub getElem-append : (xs ys : List A) (i : ℕ) → i < length xs → getElem? (xs ++ ys) i ≡ getElem? xs i
-  getElem-append [] ys i h = absurd (not-suc-le-zero h)
-  getElem-append (x ∷ xs) ys zero h = refl
-  getElem-append (x ∷ xs) ys (suc i) h = getElem-append xs ys i (omega arith)
-
-  pub getElem-seam : (xs : List A) (a : A) → getElem? (xs ++ (a ∷ [])) (length xs) ≡ some a
-  getElem-seam [] a = refl
-  getElem-seam (x ∷ xs) a = getElem-seam xs a
+use Rattle.frame_laws.specs.Lists.{last-snoc, butLast-snoc, some-last, getElem-length, getElem-some, getElem-append, getElem-seam}
 
 -- Frame numbers count from 1, and the innermost frame's is the number of frames
 
@@ -82,6 +39,11 @@ pub numbered-bounds : (fs : List Frame) (k : ℕ) (f : Frame) → numbered fs k 
 unfolding numbered
 numbered-bounds fs zero f e = absurd (Option·none-ne-some f e)
 numbered-bounds fs (suc k) f e = (omega arith, getElem-length fs k f e)
+
+pub numbered-index : (fs : List Frame) (k : ℕ) (f : Frame) → numbered fs k ≡ some f → getElem? fs (pred k) ≡ some f
+unfolding numbered
+numbered-index fs zero f e = absurd (Option·none-ne-some f e)
+numbered-index fs (suc k) f e = e
 
 pub numbered-some : (fs : List Frame) (k : ℕ) → 1 ≤ k → k ≤ length fs → (f : Frame) × (numbered fs k ≡ some f)
 unfolding numbered

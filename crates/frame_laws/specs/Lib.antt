@@ -1,4 +1,5 @@
 -- Laws of the frame machine for the engines that run on frames, in reading order.
+pub mod Lists
 pub mod Parts
 pub mod Actions
 pub mod Innermost
@@ -10,6 +11,7 @@ pub mod SoundFrames
 pub mod Names
 pub mod Likeness
 pub mod Continuing
+pub mod Storing
 pub mod SoundSteps
 pub mod SoundRuns
 pub mod SoundUses

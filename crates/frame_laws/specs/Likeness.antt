@@ -12,8 +12,9 @@ use lib.ListN.{length, getD, getElem?}
 use borrow.Author.Tests.{leb-true}
 use Rattle.language.specs.Text.{Action, Decl, blockDecls, formalNames, declaredNames}
 use Rattle.frames.specs.Frame.{Frame, Place, numbered, frameNames, positionFrom, seekFrom, seekName, designatorIn, finally, designates, linksFollowed, frameNumber, place, declOf, kindOf, mapAction}
+use Rattle.frame_laws.specs.Lists.{none-past, past-none}
 use Rattle.frame_laws.specs.Actions.{declOf-found, declOf-none, kindOf-found, kindOf-none, seekName-starts, seek-spent, seek-none, seek-here, seek-on, designates-found, designates-none, links-found, links-none, finally-none, finally-formal, finally-declared}
-use Rattle.frame_laws.specs.Innermost.{getElem-length, getElem-some, numbered-bounds, numbered-some}
+use Rattle.frame_laws.specs.Innermost.{numbered-bounds, numbered-some}
 use Rattle.frame_laws.specs.Cases.{by-test, by-lookup}
 use Rattle.frame_laws.specs.Names.{FoundAt, position-bounds, seekName-found}
 
@@ -33,16 +34,6 @@ like-same f = record { formals = refl; text = refl; link = refl; handed = λ i l
 names-like : (f g : Frame) → Like f g → frameNames g ≡ frameNames f
 unfolding frameNames
 names-like f g h = ap₂ (λ a b. formalNames a ++ declaredNames b) (h .formals) (h .text)
-
-none-past : {A : Type 0} (xs : List A) (i : ℕ) → getElem? xs i ≡ none → length xs ≤ i
-none-past [] i e = omega arith
-none-past (x ∷ xs) zero e = let z : _≡_ {A = ℕ} 0 1 = cc in absurd (omega arith)
-none-past (x ∷ xs) (suc i) e = omega (arith, none-past xs i e)
-
-past-none : {A : Type 0} (xs : List A) (i : ℕ) → length xs ≤ i → getElem? xs i ≡ none
-past-none [] i h = refl
-past-none (x ∷ xs) zero h = absurd (omega arith)
-past-none (x ∷ xs) (suc i) h = past-none xs i (omega arith)
 
 module _ (fs gs : List Frame) (like : LikeFrames fs gs) where
   pub numbered-none : (k : ℕ) → numbered fs k ≡ none → numbered gs k ≡ none

@@ -16,8 +16,9 @@ use lib.Signed.{mag}
 use borrow.Author.Tests.{eqb-true, eqb-false, ltb-true, ltb-false}
 use Rattle.language.specs.Text.{Formal, Block, Decl, blockDecls, blockStmts}
 use Rattle.frames.specs.Frame.{Frame, numbered, continue, rewritten, zeroWords, newFrame}
+use Rattle.frame_laws.specs.Lists.{snoc-length, getElem-length, getElem-append, getElem-seam, getElem-set-same, getElem-set-other, getD-set, getD-both}
 use Rattle.frame_laws.specs.Parts.{newFrame-length}
-use Rattle.frame_laws.specs.Innermost.{snoc-length, getElem-length, getElem-append, getElem-seam, getElem-some, numbered-suc, numbered-bounds}
+use Rattle.frame_laws.specs.Innermost.{numbered-suc, numbered-bounds}
 use Rattle.frame_laws.specs.Cases.{by-test}
 use Rattle.frame_laws.specs.Formed.{InForm, names-few}
 use Rattle.frame_laws.specs.Sound.{Points, FrameSound, SoundFrames}
@@ -80,35 +81,11 @@ sound-continued fs k f n h p q =
 
 -- Words
 
-getD-set : {A : Type 0} (P : A → Type 0) (ws : List A) (i j : ℕ) (z d : A) → P z → P (getD ws j d) → P (getD (set ws i z) j d)
-getD-set P [] i j z d p h = h
-getD-set P (w ∷ ws) zero zero z d p h = p
-getD-set P (w ∷ ws) zero (suc j) z d p h = h
-getD-set P (w ∷ ws) (suc i) zero z d p h = h
-getD-set P (w ∷ ws) (suc i) (suc j) z d p h = getD-set P ws i j z d p h
-
-getD-both : {A : Type 0} (P : A → Type 0) (xs ys : List A) (j : ℕ) (d : A) → ((i : ℕ) → P (getD xs i d)) → ((i : ℕ) → P (getD ys i d)) → P (getD (xs ++ ys) j d)
-getD-both P [] ys j d h k = k j
-getD-both P (x ∷ xs) ys zero d h k = h zero
-getD-both P (x ∷ xs) ys (suc j) d h k = getD-both P xs ys j d (λ i. h (suc i)) k
-
 -- a store past the formals, of a value within signed 32 bits
 pub frame-put : (fs : List Frame) (k : ℕ) (f : Frame) (i : ℕ) (z : ℤ) → FrameSound fs k f → length (f .formals) ≤ i → mag z < 2147483648 → FrameSound fs k (rewritten f (set (f .words) i z))
 unfolding rewritten
 frame-put fs k f i z h p q =
     record { text = h .text; next-first = h .next-first; next-last = h .next-last; link-last = h .link-last; link-first = h .link-first; words = length-set (f .words) i z ∙ h .words; few = omega (arith, length-set (f .words) i z, h .few); small = λ j. getD-set (λ w. mag w < 2147483648) (f .words) i j z (pos 0) q (h .small j); formals = λ j l. let r = h .formals j l in (r .0, getD-set-other (f .words) i j z (pos 0) (λ e. omega arith) ∙ r .1, r .2) }
-
-getElem-set-same : {A : Type 0} (xs : List A) (i : ℕ) (a b : A) → getElem? xs i ≡ some a → getElem? (set xs i b) i ≡ some b
-getElem-set-same [] i a b e = absurd (Option·none-ne-some a e)
-getElem-set-same (x ∷ xs) zero a b e = refl
-getElem-set-same (x ∷ xs) (suc i) a b e = getElem-set-same xs i a b e
-
-getElem-set-other : {A : Type 0} (xs : List A) (i j : ℕ) (b : A) → (j ≡ i → ⊥) → getElem? (set xs i b) j ≡ getElem? xs j
-getElem-set-other [] i j b h = refl
-getElem-set-other (x ∷ xs) zero zero b h = absurd (h refl)
-getElem-set-other (x ∷ xs) zero (suc j) b h = refl
-getElem-set-other (x ∷ xs) (suc i) zero b h = refl
-getElem-set-other (x ∷ xs) (suc i) (suc j) b h = getElem-set-other xs i j b (λ e. h (ap suc e))
 
 alike-set : (fs : List Frame) (i : ℕ) (f g : Frame) (k : ℕ) → getElem? fs i ≡ some f → g .formals ≡ f .formals → g .text ≡ f .text → Alike fs (set fs i g) k
 alike-set fs i f g k e p q j h l d =

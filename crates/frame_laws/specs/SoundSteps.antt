@@ -20,8 +20,9 @@ use Rattle.grammar.specs.Rules.{FormedAction}
 use Rattle.runs.specs.Names.{agree-length}
 use Rattle.runs.specs.Every.{Every}
 use Rattle.frames.specs.Frame.{Frame, Stack, Acted, acted, halted, withFrames, tableChanged, stepped, continue, numbered, designates, frameNumber, place, declOf, kindOf, putWord, mapAction, newFrame, act, actStmt, frameStmt, frameStep}
+use Rattle.frame_laws.specs.Lists.{snoc-length, getElem-length, split-getElem, every-getD}
 use Rattle.frame_laws.specs.Actions.{declOf-found, declOf-none, declOf-frame, kindOf-none, putWord-found, putWord-none, stores, does}
-use Rattle.frame_laws.specs.Innermost.{snoc-length, getElem-length, numbered-zero, numbered-suc, numbered-bounds}
+use Rattle.frame_laws.specs.Innermost.{numbered-zero, numbered-suc, numbered-bounds, numbered-index}
 use Rattle.frame_laws.specs.Cases.{by-lookup, After, enter-cases, call-cases, go-cases, if-cases, compute-cases, add-cases, remove-cases, ask-cases, step-cases}
 use Rattle.frame_laws.specs.Formed.{InForm, DeclInForm, StmtInForm, decl-in-form, stmt-in-form, body-in-form, label-in-form, block-in-form, action-in-form}
 use Rattle.frame_laws.specs.Sound.{Points, FrameSound, SoundFrames, Sound, Target, OnLabel, JumpsToLabel, Lands}
@@ -91,16 +92,6 @@ module _ (l : Limits) (s : Stack) (pre : List Frame) (f : Frame) where
 
 -- Gotos: the label's frame becomes innermost, at a statement of its block
 
-split-getElem : {A : Type 0} (xs : List A) (m : ℕ) (a : A) → getElem? xs m ≡ some a → xs ≡ take m xs ++ a ∷ drop (suc m) xs
-split-getElem [] m a e = absurd (Option·none-ne-some a e)
-split-getElem (x ∷ xs) zero a e = ap (λ y. y ∷ xs) (Option·some-injective x a e)
-split-getElem (x ∷ xs) (suc m) a e = ap (λ ys. x ∷ ys) (split-getElem xs m a e)
-
-numbered-index : (fs : List Frame) (k : ℕ) (f : Frame) → numbered fs k ≡ some f → getElem? fs (pred k) ≡ some f
-unfolding numbered
-numbered-index fs zero f e = absurd (Option·none-ne-some f e)
-numbered-index fs (suc k) f e = e
-
 pub take-sound : (fs : List Frame) (m : ℕ) (f : Frame) → SoundFrames fs → getElem? fs m ≡ some f → FrameSound (take m fs) (length (take m fs)) f
 take-sound fs m f h e = sound-after (take m fs) f (drop (suc m) fs) (subst SoundFrames (split-getElem fs m f e) h)
 
@@ -144,11 +135,6 @@ agree-kind r d (k ∷ ks) (x ∷ xs) e i l = go (λ f j m. agree-kind r d ks xs 
     go f none c a j m = absurd (false≢true a)
     go f (some q) c a zero m = (q, c)
     go f (some q) c a (suc j) m = f (((and-eq-true-iff (sameKind k q) (agree ks (map r xs))) .0 a) .1) j (omega arith)
-
-every-getD : {A : Type 0} (P : A → Type 0) (xs : List A) (i : ℕ) (d : A) → P d → Every P xs → P (getD xs i d)
-every-getD P [] i d p h = p
-every-getD P (x ∷ xs) zero d p h = h .0
-every-getD P (x ∷ xs) (suc i) d p h = every-getD P xs i d p (h .1)
 
 kinds-length : (fs : List Formal) → length (formalKinds fs) ≡ length fs
 unfolding formalKinds

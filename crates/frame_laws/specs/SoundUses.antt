@@ -12,8 +12,9 @@ use lib.ListN.{length, getD, getElem?, length-append}
 use lib.Signed.{mag}
 use Rattle.language.specs.Text.{Stmt, blockDecls, blockStmts}
 use Rattle.frames.specs.Frame.{Frame, Place, numbered, frameNames, positionFrom, seekFrom, seekName, designates, frameNumber, place, wordAt, frameStmt, frameWords, frameSheet}
+use Rattle.frame_laws.specs.Lists.{getElem-length, getElem-some}
 use Rattle.frame_laws.specs.Actions.{wordAt-found, wordAt-none, seekName-starts, seek-spent, seek-none, seek-here, seek-on}
-use Rattle.frame_laws.specs.Innermost.{getElem-length, getElem-some, numbered-zero, numbered-suc, numbered-bounds, frameWords-length}
+use Rattle.frame_laws.specs.Innermost.{numbered-zero, numbered-suc, numbered-bounds, frameWords-length}
 use Rattle.frame_laws.specs.Cases.{by-lookup}
 use Rattle.frame_laws.specs.Formed.{names-few}
 use Rattle.frame_laws.specs.Sound.{Points, FrameSound, SoundFrames, Target}
