@@ -1,9 +1,9 @@
 -- What each statement does to the frames, where its names are found. `act l s a` does the action a, whose names are designators;
 -- `designates` and `actStmt` say how a statement of the text becomes one. Read each law as: where these tests and lookups come out
 -- so, the action comes out so.
-use Prim.Native.Nat.{ℕ, zero, suc, pred, _+_, _-_, _*_}
+use Prim.Native.Nat.{ℕ, suc, pred, _+_, _-_, _*_}
 use mathlib.Core.Path.{_≡_, refl, sym, ap, _∙_}
-use mathlib.Core.Bool.{Bool, true, false, _&&_, cond}
+use mathlib.Core.Bool.{true, false, _&&_, cond}
 use mathlib.Core.List.{List, [], _∷_, _++_, map}
 use mathlib.Core.Option.{Option, none, some, Option·none-ne-some}
 use lib.Dec.{eqb, leb, ltb}
@@ -11,12 +11,12 @@ use lib.IntN.{ℤ, pos}
 use lib.ListN.{length, take, getD, set, getElem?}
 use lib.Signed.{mag}
 use Rattle.language.specs.Basics.{eqZ}
-use Rattle.language.specs.Text.{Kind, Operation, Formal, Action, CL, GO, IF, KN, AR, AD, RM, QY, Block, Decl, Stmt, BK, DO, blockDecls, declKind, labelIndex, declFormals, declBody, formalKinds}
+use Rattle.language.specs.Text.{Operation, Formal, Action, CL, GO, IF, KN, AR, AD, RM, QY, Block, Decl, BK, DO, blockDecls, declKind, labelIndex, declFormals, declBody, formalKinds}
 use Rattle.language.specs.Scope.{agree}
 use Rattle.language.specs.Table.{holds, size, atLeastOne, full, add, remove}
 use Rattle.language.specs.Machine.{Limits, compute}
 use Rattle.language.specs.declared.Stop.the-variants.{ResultTooLarge, NoActivationLeft, NumberBelowOne, GroupFull, TableFull, ArgumentsDiffer}
-use Rattle.frames.specs.Frame.{Frame, Stack, Place, Acted, acted, halted, withFrames, tableChanged, continue, rewritten, numbered, frameNames, positionFrom, seekFrom, seekName, designatorIn, finally, designates, linksFollowed, frameNumber, place, declOf, kindOf, wordAt, putWord, mapAction, newFrame, pushFrame, callBy, goTo, put, putIfFits, addTo, removeFrom, ask, act, actStmt}
+use Rattle.frames.specs.Frame.{Frame, Stack, Place, acted, halted, withFrames, tableChanged, continue, rewritten, numbered, frameNames, positionFrom, seekFrom, seekName, designatorIn, finally, designates, linksFollowed, frameNumber, place, declOf, kindOf, wordAt, putWord, mapAction, newFrame, pushFrame, callBy, goTo, put, putIfFits, addTo, removeFrom, ask, act, actStmt}
 
 -- Finding: a designator gives its frame's number and its name's place there
 

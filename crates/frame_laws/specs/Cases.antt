@@ -12,15 +12,15 @@ use lib.Signed.{mag}
 use borrow.Author.Tests.{ltb-true, leb-false}
 use native.Mathlib.Omega.{arith}
 use Rattle.language.specs.Basics.{eqZ}
-use Rattle.language.specs.Text.{Operation, Action, CL, GO, IF, KN, AR, AD, RM, QY, Block, Decl, Stmt, BK, DO, labelIndex, declFormals, declBody, formalKinds}
+use Rattle.language.specs.Text.{Operation, CL, GO, IF, AR, AD, RM, QY, Block, Decl, Stmt, BK, labelIndex, declFormals, declBody, formalKinds}
 use Rattle.language.specs.Scope.{agree}
 use Rattle.language.specs.Table.{holds, size, atLeastOne, full, add, remove}
 use Rattle.language.specs.Machine.{Limits, compute}
 use Rattle.language.specs.declared.Stop.{Stop}
 use Rattle.language.specs.declared.Stop.the-variants.{ResultTooLarge, NoActivationLeft, NumberBelowOne, GroupFull, TableFull, ArgumentsDiffer}
-use Rattle.frames.specs.Frame.{Frame, Stack, Acted, acted, halted, Result, withFrames, tableChanged, stepped, continue, numbered, frameNumber, declOf, kindOf, wordAt, putWord, newFrame, goTo, act, actStmt, frameStmt, frameStep, results, frameRun}
-use Rattle.frame_laws.specs.Actions.{declOf-frame, calls-nothing, calls-differing, calls-full, calls, goes, goes-nowhere, passes, jumps, stores, computes, computes-past, adds-below-one, adds-held, adds-group-full, adds-table-full, adds, removes-below-one, removes, asks-below-one, asks, enters, enters-full}
-use Rattle.frame_laws.specs.Innermost.{innermost, step-none, step-leaves, step-does, run-finished, run-spent, run-steps, run-stops}
+use Rattle.frames.specs.Frame.{Frame, Stack, Acted, acted, halted, Result, withFrames, tableChanged, stepped, continue, numbered, frameNumber, declOf, kindOf, wordAt, putWord, newFrame, act, actStmt, frameStmt, frameStep, results, frameRun}
+use Rattle.frame_laws.specs.Actions.{declOf-frame, calls-nothing, calls-differing, calls-full, calls, goes, goes-nowhere, passes, jumps, computes, computes-past, adds-below-one, adds-held, adds-group-full, adds-table-full, adds, removes-below-one, removes, asks-below-one, asks, enters, enters-full}
+use Rattle.frame_laws.specs.Innermost.{innermost, step-leaves, step-does, run-finished, run-spent, run-steps, run-stops}
 
 -- a test and a lookup with what they come to
 pub by-test : {R : Type 0} (b : Bool) → (b ≡ true → R) → (b ≡ false → R) → R

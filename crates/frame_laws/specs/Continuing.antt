@@ -3,13 +3,13 @@
 -- (`step-acts`), and then does the action with the number risen.
 -- Read `pre ++ (f ∷ [])` as the frames before, `pre ++ (continue f i ∷ [])` as the same with next statement number i.
 use Prim.Native.Nat.{ℕ, zero, suc}
-use mathlib.Core.Path.{_≡_, refl, sym, ap, _∙_, subst}
+use mathlib.Core.Path.{_≡_, refl, sym, ap, _∙_}
 use mathlib.Core.List.{List, [], _∷_, _++_}
-use mathlib.Core.Option.{Option, none, some, Option·none-ne-some, Option·some-injective}
-use lib.ListN.{length, getElem?}
-use Rattle.language.specs.Text.{Action, CL, GO, IF, KN, AR, AD, RM, QY, Block, DO, BK}
+use mathlib.Core.Option.{some, Option·none-ne-some, Option·some-injective}
+use lib.ListN.{getElem?}
+use Rattle.language.specs.Text.{Action, CL, GO, IF, KN, AR, AD, RM, QY, DO}
 use Rattle.language.specs.Machine.{Limits}
-use Rattle.frames.specs.Frame.{Frame, Stack, numbered, designates, continue, frameNumber, declOf, kindOf, wordAt, mapAction, withFrames, act, actStmt, frameStmt, frameStep}
+use Rattle.frames.specs.Frame.{Frame, Stack, numbered, designates, continue, frameNumber, declOf, kindOf, wordAt, mapAction, withFrames, act, frameStmt, frameStep}
 use Rattle.frame_laws.specs.Lists.{snoc-length}
 use Rattle.frame_laws.specs.Actions.{wordAt-found, wordAt-none, does}
 use Rattle.frame_laws.specs.Innermost.{step-does}

@@ -1,12 +1,12 @@
 -- A block in form, and what that says of its parts: read `InForm b fs` as "b, with the formals fs, keeps the rules of encoding and
 -- bounds at some level and byte". An accepted program is in form, and so is every block and body within a block in form.
-use Prim.Native.Nat.{ℕ, zero, suc, _+_, _*_, _≤_, _<_}
+use Prim.Native.Nat.{ℕ, zero, suc, _+_, _*_, _≤_}
 use mathlib.Core.Path.{_≡_, refl, subst}
-use mathlib.Core.List.{List, [], _∷_, _++_, map}
-use mathlib.Core.Option.{Option, some, Option·none-ne-some, Option·some-injective}
+use mathlib.Core.List.{List, [], _++_}
+use mathlib.Core.Option.{some, Option·none-ne-some, Option·some-injective}
 use native.Mathlib.Omega.{arith}
 use lib.ListN.{length, getElem?}
-use Rattle.language.specs.Text.{Kind, variable, label, procedure, Formal, Action, Block, block, Decl, VR, LB, PR, Stmt, BK, DO, Decls, no-decl, decl, Stmts, no-stmt, stmt, decls, stmts, blockDecls, blockStmts, declName, declKind, labelIndex, declFormals, declBody, formalNames, declaredNames}
+use Rattle.language.specs.Text.{label, Formal, Action, Block, block, Decl, VR, LB, PR, Stmt, BK, DO, Decls, no-decl, decl, Stmts, no-stmt, stmt, decls, stmts, blockDecls, blockStmts, declKind, labelIndex, declFormals, declBody, formalNames, declaredNames}
 use Rattle.language.specs.Encoding.{declFields, stmtFields, declsFields, formalsFields}
 use Rattle.grammar.specs.Rules.{Distinct, FormedAction, FormedBlock, FormedDecl, FormedStmt, FormedDecls, FormedStmts, Keeps}
 

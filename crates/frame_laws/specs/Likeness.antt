@@ -1,20 +1,18 @@
 -- What names and designators depend on. Read `LikeFrames fs gs` as: frame by frame, gs has the formals, text, link and formals' words
 -- that fs has. Then each name is found at the same place and designates the same, and each designator has the same declaration.
-use Prim.Native.Nat.{ℕ, zero, suc, pred, _-_, _≤_, _<_}
+use Prim.Native.Nat.{ℕ, zero, suc, pred, _-_, _<_}
 use native.Mathlib.Omega.{arith}
-use mathlib.Core.Bool.{Bool, true, false}
 use mathlib.Core.Path.{_≡_, refl, sym, ap, ap₂, _∙_, fun-ext}
-use mathlib.Core.List.{List, [], _∷_, _++_}
-use mathlib.Core.Option.{Option, none, some}
+use mathlib.Core.List.{List, _++_}
+use mathlib.Core.Option.{none, some}
 use lib.Dec.{leb}
-use lib.IntN.{ℤ, pos}
+use lib.IntN.{pos}
 use lib.ListN.{length, getD, getElem?}
 use borrow.Author.Tests.{leb-true}
-use Rattle.language.specs.Text.{Action, Decl, blockDecls, formalNames, declaredNames}
+use Rattle.language.specs.Text.{Action, blockDecls, formalNames, declaredNames}
 use Rattle.frames.specs.Frame.{Frame, Place, numbered, frameNames, positionFrom, seekFrom, seekName, designatorIn, finally, designates, linksFollowed, frameNumber, place, declOf, kindOf, mapAction}
 use Rattle.frame_laws.specs.Lists.{none-past, past-none}
-use Rattle.frame_laws.specs.Actions.{declOf-found, declOf-none, kindOf-found, kindOf-none, seekName-starts, seek-spent, seek-none, seek-here, seek-on, designates-found, designates-none, links-found, links-none, finally-none, finally-formal, finally-declared}
-use Rattle.frame_laws.specs.Innermost.{numbered-bounds, numbered-some}
+use Rattle.frame_laws.specs.Actions.{declOf-found, declOf-none, kindOf-found, kindOf-none, seekName-starts, seek-spent, seek-none, seek-here, seek-on, designates-found, designates-none, links-found, links-none, finally-formal, finally-declared}
 use Rattle.frame_laws.specs.Cases.{by-test, by-lookup}
 use Rattle.frame_laws.specs.Names.{FoundAt, position-bounds, seekName-found}
 

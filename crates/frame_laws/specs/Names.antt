@@ -1,22 +1,20 @@
 -- What a name designates in sound frames: nothing, or a declared name of a live frame (`designates-target`). And only the formals, text,
 -- link and words of the frames count for it: another next statement number changes nothing (`designates-continued` and its like).
-use Prim.Native.Nat.{ℕ, zero, suc, pred, _+_, _-_, _*_, _/_, _%_, _≤_, _<_}
-use native.Mathlib.Nat.{not-suc-le-zero}
+use Prim.Native.Nat.{ℕ, zero, suc, pred, _+_, _*_, _/_, _%_, _≤_, _<_}
 use native.Mathlib.Omega.{arith}
 use mathlib.Core.Bool.{Bool, true, false}
 use mathlib.Core.Path.{_≡_, refl, sym, ap, _∙_, subst}
-use mathlib.Core.Logic.{_⊎_, inl, inr}
-use mathlib.Core.List.{List, [], _∷_, _++_, map}
+use mathlib.Core.Logic.{inl, inr}
+use mathlib.Core.List.{List, [], _∷_}
 use mathlib.Core.Option.{Option, none, some, Option·none-ne-some, Option·some-injective}
 use lib.Dec.{eqb, leb}
-use lib.IntN.{ℤ, pos}
-use lib.ListN.{length, getD, getElem?}
+use lib.ListN.{length}
 use borrow.Author.Tests.{leb-true, leb-false}
-use Rattle.language.specs.Text.{Decl, blockDecls}
-use Rattle.frames.specs.Frame.{Frame, Place, numbered, frameNames, positionFrom, seekFrom, seekName, designatorIn, finally, designates, continue, frameNumber, place, declOf, kindOf, wordAt}
+use Rattle.language.specs.Text.{blockDecls}
+use Rattle.frames.specs.Frame.{Frame, Place, numbered, frameNames, positionFrom, seekFrom, seekName, designatorIn, finally, designates}
 use Rattle.frame_laws.specs.Parts.{frameNames-length}
-use Rattle.frame_laws.specs.Actions.{declOf-none, designates-found, designates-none, finally-formal, finally-declared}
-use Rattle.frame_laws.specs.Innermost.{numbered-suc, numbered-zero, numbered-bounds}
+use Rattle.frame_laws.specs.Actions.{designates-found, designates-none, finally-formal, finally-declared}
+use Rattle.frame_laws.specs.Innermost.{numbered-bounds}
 use Rattle.frame_laws.specs.Cases.{by-test, by-lookup}
 use Rattle.frame_laws.specs.Formed.{names-few}
 use Rattle.frame_laws.specs.Sound.{Points, FrameSound, SoundFrames, Target}

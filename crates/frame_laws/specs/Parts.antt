@@ -1,7 +1,7 @@
 -- The parts of a stack or frame made from another, as equations: `parts` is the set of them for simp.
 -- Read `withFrames-table` as: what is the table of `withFrames s fs`.
 use Prim.Native.Nat.{ℕ, suc, _+_}
-use mathlib.Core.Path.{_≡_, refl, ap, _∙_}
+use mathlib.Core.Path.{_≡_, refl, _∙_}
 use mathlib.Core.List.{List, [], _∷_, _++_, map}
 use lib.IntN.{ℤ, pos}
 use lib.ListN.{length, length-append, length-map}

@@ -5,7 +5,7 @@ use mathlib.Core.Path.{_≡_}
 use mathlib.Core.Logic.{_⊎_}
 use mathlib.Core.List.{List, [], _∷_, _++_}
 use mathlib.Core.Option.{some}
-use lib.IntN.{ℤ, pos}
+use lib.IntN.{pos}
 use lib.ListN.{length, getD, getElem?}
 use lib.Signed.{mag}
 use Rattle.language.specs.Text.{label, Action, CL, GO, IF, KN, AR, AD, RM, QY, Decl, DO, blockDecls, blockStmts, declKind}

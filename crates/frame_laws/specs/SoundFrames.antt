@@ -1,16 +1,15 @@
 -- How frames that are sound stay so: the first of them alone (`sound-first`), one more on top (`sound-more`), another next statement
 -- number (`sound-continued`), another word for a declared name (`sound-put`), and a new frame (`sound-new`).
-use Prim.Native.Nat.{ℕ, zero, suc, pred, _+_, _*_, _/_, _%_, _≤_, _<_}
+use Prim.Native.Nat.{ℕ, zero, suc, _+_, _/_, _≤_, _<_}
 use native.Mathlib.Nat.{not-suc-le-zero}
 use native.Mathlib.Omega.{arith}
 use mathlib.Core.Bool.{Bool, true, false}
 use mathlib.Core.Path.{_≡_, refl, sym, ap, _∙_, subst}
-use mathlib.Core.Logic.{_⊎_, inl, inr}
 use mathlib.Core.List.{List, [], _∷_, _++_, map}
-use mathlib.Core.Option.{Option, none, some, Option·none-ne-some, Option·some-injective}
+use mathlib.Core.Option.{some, Option·some-injective}
 use lib.Dec.{eqb, ltb}
 use lib.IntN.{ℤ, pos}
-use lib.ListN.{length, take, drop, getD, set, getElem?, length-append, length-set, length-map, take-append-drop, List·getD-append, List·getD-map}
+use lib.ListN.{length, getD, set, getElem?, length-set, length-map, List·getD-append, List·getD-map}
 use lib.Seq.{getD-set-other}
 use lib.Signed.{mag}
 use borrow.Author.Tests.{eqb-true, eqb-false, ltb-true, ltb-false}
@@ -18,7 +17,7 @@ use Rattle.language.specs.Text.{Formal, Block, Decl, blockDecls, blockStmts}
 use Rattle.frames.specs.Frame.{Frame, numbered, continue, rewritten, zeroWords, newFrame}
 use Rattle.frame_laws.specs.Lists.{snoc-length, getElem-length, getElem-append, getElem-seam, getElem-set-same, getElem-set-other, getD-set, getD-both}
 use Rattle.frame_laws.specs.Parts.{newFrame-length}
-use Rattle.frame_laws.specs.Innermost.{numbered-suc, numbered-bounds}
+use Rattle.frame_laws.specs.Innermost.{numbered-suc}
 use Rattle.frame_laws.specs.Cases.{by-test}
 use Rattle.frame_laws.specs.Formed.{InForm, names-few}
 use Rattle.frame_laws.specs.Sound.{Points, FrameSound, SoundFrames}

@@ -1,11 +1,11 @@
 -- Every stack of a run of an accepted script keeps the bounds of `Sound`, if D is from 1 to 256 and every goto on the way lands on a
 -- label (`Lands`). The stacks of a run are those that its shorter runs leave, so "for every n" covers them all.
 -- `run-sound` is for who proves landing from a property P that steps keep; `landing-sound` takes landing itself.
-use Prim.Native.Nat.{ℕ, zero, suc, _≤_}
+use Prim.Native.Nat.{ℕ, suc, _≤_}
 use native.Mathlib.Nat.{not-suc-le-zero}
 use native.Mathlib.Omega.{arith}
-use mathlib.Core.Path.{_≡_, refl, sym, ap, _∙_, subst}
-use mathlib.Core.List.{List, [], _∷_}
+use mathlib.Core.Path.{_≡_, refl, ap, subst}
+use mathlib.Core.List.{List, []}
 use mathlib.Core.Option.{Option·none-ne-some}
 use lib.ListN.{length}
 use Rattle.language.specs.Text.{Block}
@@ -14,11 +14,11 @@ use Rattle.language.specs.Table.{Table}
 use Rattle.language.specs.Machine.{Limits}
 use Rattle.grammar.specs.Rules.{Bytes, Keeps}
 use Rattle.grammar.specs.Exact.{accepts-exactly}
-use Rattle.frames.specs.Frame.{Frame, Stack, Acted, acted, halted, Result, stepped, newFrame, frameStart, frameStep, results, frameRun}
+use Rattle.frames.specs.Frame.{Stack, Acted, acted, halted, Result, stepped, newFrame, frameStart, frameStep, results, frameRun}
 use Rattle.frame_laws.specs.Innermost.{run-finished, run-spent, run-steps}
 use Rattle.frame_laws.specs.Cases.{by-frames, After, run-keeps}
 use Rattle.frame_laws.specs.Formed.{program-in-form}
-use Rattle.frame_laws.specs.Sound.{SoundFrames, Sound, Lands}
+use Rattle.frame_laws.specs.Sound.{Sound, Lands}
 use Rattle.frame_laws.specs.SoundFrames.{sound-new, sound-more}
 use Rattle.frame_laws.specs.SoundSteps.{step-sound}
 

@@ -1,18 +1,17 @@
 -- A step keeps Sound (`step-sound`), where the next statement lands: a goto goes to a label. Nothing else of scope is needed: a call
 -- of what is no procedure enters an empty block, and a store reaches no formal's word.
-use Prim.Native.Nat.{ℕ, zero, suc, pred, _+_, _-_, _*_, _/_, _%_, _≤_, _<_}
+use Prim.Native.Nat.{ℕ, zero, suc, pred, _-_, _/_, _%_, _≤_, _<_}
 use native.Mathlib.Nat.{not-suc-le-zero}
 use native.Mathlib.Omega.{arith}
-use mathlib.Core.Bool.{Bool, true, false, false≢true, and-eq-true-iff}
+use mathlib.Core.Bool.{true, false≢true, and-eq-true-iff}
 use mathlib.Core.Path.{_≡_, refl, sym, ap, _∙_, subst}
-use mathlib.Core.Logic.{_⊎_, inl, inr}
+use mathlib.Core.Logic.{inl, inr}
 use mathlib.Core.List.{List, [], _∷_, _++_, map}
-use mathlib.Core.Option.{Option, none, some, Option·none-ne-some, Option·some-injective}
-use lib.IntN.{ℤ, pos}
-use lib.ListN.{length, take, drop, getD, set, getElem?, length-map, length-set, length-take, take-append-drop}
+use mathlib.Core.Option.{Option, none, some, Option·none-ne-some}
+use lib.IntN.{ℤ}
+use lib.ListN.{length, take, drop, getD, getElem?, length-map, length-set, length-take, take-append-drop}
 use lib.Signed.{mag}
-use lib.Seq.{length-take-le}
-use Rattle.language.specs.Text.{Kind, Formal, Action, CL, GO, IF, KN, AR, AD, RM, QY, Block, Decl, Stmt, BK, DO, blockDecls, blockStmts, labelIndex, declFormals, declBody, formalKinds, sameKind}
+use Rattle.language.specs.Text.{Kind, Formal, Action, CL, GO, IF, KN, AR, AD, RM, QY, Block, Decl, Stmt, BK, DO, blockStmts, labelIndex, declFormals, declBody, formalKinds, sameKind}
 use Rattle.language.specs.Scope.{agree}
 use Rattle.language.specs.Table.{Table}
 use Rattle.language.specs.Machine.{Limits}
@@ -22,11 +21,11 @@ use Rattle.runs.specs.Every.{Every}
 use Rattle.frames.specs.Frame.{Frame, Stack, Acted, acted, halted, withFrames, tableChanged, stepped, continue, numbered, designates, frameNumber, place, declOf, kindOf, putWord, mapAction, newFrame, act, actStmt, frameStmt, frameStep}
 use Rattle.frame_laws.specs.Lists.{snoc-length, getElem-length, split-getElem, every-getD}
 use Rattle.frame_laws.specs.Actions.{declOf-found, declOf-none, declOf-frame, kindOf-none, putWord-found, putWord-none, stores, does}
-use Rattle.frame_laws.specs.Innermost.{numbered-zero, numbered-suc, numbered-bounds, numbered-index}
+use Rattle.frame_laws.specs.Innermost.{numbered-zero, numbered-bounds, numbered-index}
 use Rattle.frame_laws.specs.Cases.{by-lookup, After, enter-cases, call-cases, go-cases, if-cases, compute-cases, add-cases, remove-cases, ask-cases, step-cases}
 use Rattle.frame_laws.specs.Formed.{InForm, DeclInForm, StmtInForm, decl-in-form, stmt-in-form, body-in-form, label-in-form, block-in-form, action-in-form}
 use Rattle.frame_laws.specs.Sound.{Points, FrameSound, SoundFrames, Sound, Target, OnLabel, JumpsToLabel, Lands}
-use Rattle.frame_laws.specs.SoundFrames.{frame-alike, points-alike, sound-first, sound-after, sound-more, sound-continued, sound-put, sound-new}
+use Rattle.frame_laws.specs.SoundFrames.{sound-first, sound-after, sound-more, sound-continued, sound-put, sound-new}
 use Rattle.frame_laws.specs.Names.{numbered-sound, designates-target}
 use Rattle.frame_laws.specs.Continuing.{jumps-continued}
 

@@ -1,24 +1,23 @@
 -- What sound frames give an engine: bounds of words and designators, the sheet's length, that a next statement number past the last
 -- leaves, and that looking a name up follows links downwards, so that the frames' number bounds it.
-use Prim.Native.Nat.{ℕ, zero, suc, pred, _+_, _*_, _/_, _%_, _≤_, _<_}
-use native.Mathlib.Nat.{not-suc-le-zero, zero-add, suc-add}
+use Prim.Native.Nat.{ℕ, zero, suc, pred, _+_, _*_, _/_, _≤_, _<_}
+use native.Mathlib.Nat.{zero-add, suc-add}
 use native.Mathlib.Omega.{arith}
 use mathlib.Core.Path.{_≡_, refl, sym, ap, _∙_, subst}
-use mathlib.Core.Logic.{_⊎_, inl, inr}
-use mathlib.Core.List.{List, [], _∷_, _++_}
-use mathlib.Core.Option.{Option, none, some, Option·none-ne-some, Option·some-injective}
-use lib.IntN.{ℤ, pos}
-use lib.ListN.{length, getD, getElem?, length-append}
+use mathlib.Core.Logic.{inl, inr}
+use mathlib.Core.List.{List, [], _∷_}
+use mathlib.Core.Option.{none, some}
+use lib.IntN.{ℤ}
+use lib.ListN.{length, getElem?, length-append}
 use lib.Signed.{mag}
-use Rattle.language.specs.Text.{Stmt, blockDecls, blockStmts}
-use Rattle.frames.specs.Frame.{Frame, Place, numbered, frameNames, positionFrom, seekFrom, seekName, designates, frameNumber, place, wordAt, frameStmt, frameWords, frameSheet}
+use Rattle.language.specs.Text.{Stmt, blockStmts}
+use Rattle.frames.specs.Frame.{Frame, numbered, frameNames, positionFrom, seekFrom, designates, frameNumber, place, wordAt, frameStmt, frameWords, frameSheet}
 use Rattle.frame_laws.specs.Lists.{getElem-length, getElem-some}
-use Rattle.frame_laws.specs.Actions.{wordAt-found, wordAt-none, seekName-starts, seek-spent, seek-none, seek-here, seek-on}
-use Rattle.frame_laws.specs.Innermost.{numbered-zero, numbered-suc, numbered-bounds, frameWords-length}
+use Rattle.frame_laws.specs.Actions.{wordAt-found, wordAt-none, seek-spent, seek-none, seek-here, seek-on}
+use Rattle.frame_laws.specs.Innermost.{numbered-zero, numbered-bounds, frameWords-length}
 use Rattle.frame_laws.specs.Cases.{by-lookup}
 use Rattle.frame_laws.specs.Formed.{names-few}
 use Rattle.frame_laws.specs.Sound.{Points, FrameSound, SoundFrames, Target}
-use Rattle.frame_laws.specs.SoundFrames.{sound-after}
 use Rattle.frame_laws.specs.Names.{numbered-sound, designates-target}
 
 -- every word read is within signed 32 bits

@@ -1,24 +1,24 @@
 -- A store through what a name designates: it changes the word there and no other, and nothing that a name designates.
 -- Read `Target fs x` as "a name of the text designates x"; a store to 0 does nothing.
-use Prim.Native.Nat.{ℕ, zero, suc, pred, _/_, _%_, _≤_, _<_}
+use Prim.Native.Nat.{ℕ, zero, suc, pred, _/_, _%_, _≤_}
 use native.Mathlib.Omega.{arith}
 use mathlib.Core.Path.{_≡_, refl, sym, ap, _∙_, subst}
-use mathlib.Core.Logic.{_⊎_, inl, inr}
-use mathlib.Core.List.{List, [], _∷_}
-use mathlib.Core.Option.{Option, none, some, Option·some-injective, Option·none-ne-some}
+use mathlib.Core.Logic.{inl, inr}
+use mathlib.Core.List.{List}
+use mathlib.Core.Option.{some, Option·some-injective, Option·none-ne-some}
 use lib.Dec.{eqb}
 use lib.IntN.{ℤ, pos}
-use lib.ListN.{length, getD, set, getElem?, length-set}
+use lib.ListN.{length, set, getElem?, length-set}
 use lib.Seq.{getD-set-same, getD-set-other}
 use borrow.Author.Tests.{eqb-true, eqb-false}
-use Rattle.frames.specs.Frame.{Frame, rewritten, numbered, seekName, designates, linksFollowed, frameNumber, place, declOf, kindOf, wordAt, putWord}
+use Rattle.frames.specs.Frame.{Frame, rewritten, numbered, designates, linksFollowed, frameNumber, place, declOf, kindOf, wordAt, putWord}
 use Rattle.frame_laws.specs.Lists.{getElem-set-same, getElem-set-other}
 use Rattle.frame_laws.specs.Actions.{wordAt-found, wordAt-none, putWord-found, putWord-none}
 use Rattle.frame_laws.specs.Innermost.{numbered-zero, numbered-index}
 use Rattle.frame_laws.specs.Cases.{by-test, by-lookup}
-use Rattle.frame_laws.specs.Sound.{Points, FrameSound, SoundFrames, Target}
+use Rattle.frame_laws.specs.Sound.{Points, SoundFrames, Target}
 use Rattle.frame_laws.specs.Names.{numbered-sound}
-use Rattle.frame_laws.specs.Likeness.{Like, LikeFrames, like-same, seekName-like, linksFollowed-like, designates-like, declOf-like, kindOf-like}
+use Rattle.frame_laws.specs.Likeness.{Like, LikeFrames, like-same, linksFollowed-like, designates-like, declOf-like, kindOf-like}
 
 like-all : (fs : List Frame) → LikeFrames fs fs
 like-all fs = record { count = refl; each = λ k f e. (f, e, like-same f) }

@@ -3,14 +3,13 @@
 use Prim.Native.Nat.{ℕ, _≤_, _<_}
 use mathlib.Core.Path.{_≡_, refl, _∙_}
 use mathlib.Core.Bool.{true, false, _&&_}
-use mathlib.Core.List.{List, _∷_, []}
 use lib.IntN.{ℤ}
 use lib.ListN.{length}
 use Rattle.language.specs.Text.{Action, CL, GO, IF, KN, AR, AD, RM, QY, Stmt, BK, DO}
 use Rattle.language.specs.Table.{Table, holds, size, atLeastOne, full, add, remove, right}
 use Rattle.language.specs.Machine.{Limits}
 use Rattle.runs.specs.TableLaws.{add-length, add-right, remove-length, remove-right}
-use Rattle.frames.specs.Frame.{Stack, acted, withFrames, tableChanged, stepped, designates, mapAction, act, actStmt, frameStep, frameRun}
+use Rattle.frames.specs.Frame.{Stack, withFrames, tableChanged, stepped, designates, mapAction, act, actStmt, frameStep, frameRun}
 use Rattle.frame_laws.specs.Actions.{does, stores}
 use Rattle.frame_laws.specs.Cases.{After, enter-cases, call-cases, go-cases, if-cases, compute-cases, add-cases, remove-cases, ask-cases, step-cases, run-keeps}
 
