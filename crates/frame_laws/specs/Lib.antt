@@ -15,3 +15,4 @@ pub mod Storing
 pub mod SoundSteps
 pub mod SoundRuns
 pub mod SoundUses
+pub mod Chains
