@@ -1,15 +1,15 @@
 -- What frames above do not change: a chain of links from a frame, and a designator of a frame, look at no frame above it. So a name in
 -- a frame just entered is one of its own, or is looked up from its link in the frames below (`entered-own`, `entered-around`).
-use Prim.Native.Nat.{ℕ, zero, suc, pred, _+_, _-_, _≤_, _<_}
+use Prim.Native.Nat.{ℕ, zero, suc, _+_, _≤_, _<_}
 use native.Mathlib.Omega.{arith}
-use mathlib.Core.Path.{_≡_, refl, sym, ap, ap₂, _∙_}
+use mathlib.Core.Path.{_≡_, sym, ap, _∙_}
 use mathlib.Core.List.{List, [], _∷_, _++_}
-use mathlib.Core.Option.{Option, none, some, Option·none-ne-some, Option·some-injective}
+use mathlib.Core.Option.{none, some, Option·none-ne-some, Option·some-injective}
 use lib.ListN.{length}
 use Rattle.frames.specs.Frame.{Frame, Place, numbered, frameNames, positionFrom, seekFrom, seekName, linksFollowed, frameNumber, declOf, kindOf, wordAt}
 use Rattle.frame_laws.specs.Lists.{snoc-length}
 use Rattle.frame_laws.specs.Actions.{declOf-found, declOf-none, kindOf-found, kindOf-none, wordAt-found, wordAt-none, seekName-starts, seek-spent, seek-none, seek-here, seek-on, links-found, links-none}
-use Rattle.frame_laws.specs.Innermost.{numbered-below, numbered-last, numbered-bounds}
+use Rattle.frame_laws.specs.Innermost.{numbered-below, numbered-last}
 use Rattle.frame_laws.specs.Cases.{by-lookup}
 use Rattle.frame_laws.specs.Sound.{SoundFrames}
 use Rattle.frame_laws.specs.Names.{numbered-sound}

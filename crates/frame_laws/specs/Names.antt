@@ -77,7 +77,7 @@ module _ (fs : List Frame) (n : ℕ) (p : Place) (h : SoundFrames fs) (q : Found
       let s = numbered-sound fs (p .number) f h (q .stands) in
       let b = position-bounds n 1 (frameNames f) (p .position) (q .named) in
       let c = numbered-bounds fs (p .number) f (q .stands) in
-      let w = s .formals (pred (p .position)) (omega (arith, b .0, leb-true (p .position) (length (f .formals)) t)) in
+      let w = s .handed (pred (p .position)) (omega (arith, b .0, leb-true (p .position) (length (f .formals)) t)) in
       subst (Points fs (length fs)) (sym (finally-formal fs p f (q .stands) t ∙ ap designatorIn (w .1))) (points-weaker fs (pred (p .number)) (length fs) (w .0) (omega (arith, c .1)) (w .2))
 
   at-declared : leb (p .position) (length (q .frame .formals)) ≡ false → Points fs (length fs) (finally fs p)
@@ -85,7 +85,7 @@ module _ (fs : List Frame) (n : ℕ) (p : Place) (h : SoundFrames fs) (q : Found
       let f = q .frame in
       let s = numbered-sound fs (p .number) f h (q .stands) in
       let b = position-bounds n 1 (frameNames f) (p .position) (q .named) in
-      let few = names-few (f .text) (f .formals) (s .text) in
+      let few = names-few (f .text) (f .formals) (s .in-form) in
       let len = frameNames-length f in
       subst (Points fs (length fs)) (sym (finally-declared fs p f (q .stands) t)) (points-declared fs (p .number) (p .position) f (q .stands) (leb-false _ _ t) (omega (arith, b .1)) (omega (arith, b .1)))
 

@@ -26,22 +26,22 @@ pub record Points (fs : List Frame) (k x : ℕ) : Type 0 where
 -- link is the number of a frame below, 0 for the first frame alone, it has a word for each name, each within signed 32 bits, and
 -- a formal's word is the designator of a declared name below.
 pub record FrameSound (fs : List Frame) (k : ℕ) (f : Frame) : Type 0 where
-  pub text : InForm (f .text) (f .formals)
+  pub in-form : InForm (f .text) (f .formals)
   pub next-first : 1 ≤ f .next
   pub next-last : f .next ≤ suc (length (blockStmts (f .text)))
   pub link-last : f .link ≤ k
   pub link-first : 1 ≤ k → 1 ≤ f .link
-  pub words : length (f .words) ≡ length (f .formals) + length (blockDecls (f .text))
+  pub count : length (f .words) ≡ length (f .formals) + length (blockDecls (f .text))
   pub few : length (f .words) ≤ 32
   pub small : (i : ℕ) → mag (getD (f .words) i (pos 0)) < 2147483648
-  pub formals : (i : ℕ) → i < length (f .formals) → (x : ℕ) × (getD (f .words) i (pos 0) ≡ pos x) × Points fs k x
+  pub handed : (i : ℕ) → i < length (f .formals) → (x : ℕ) × (getD (f .words) i (pos 0) ≡ pos x) × Points fs k x
 
 abbrev pub SoundFrames : List Frame → Type 0
 SoundFrames fs = (k : ℕ) (f : Frame) → getElem? fs k ≡ some f → FrameSound fs k f
 
 pub record Sound (l : Limits) (s : Stack) : Type 0 where
   pub live : length (s .frames) ≤ l .activations
-  pub each : (k : ℕ) (f : Frame) → getElem? (s .frames) k ≡ some f → FrameSound (s .frames) k f
+  pub each : SoundFrames (s .frames)
 
 -- what a name designates: nothing, or a declared name of a live frame
 abbrev pub Target : List Frame → ℕ → Type 0

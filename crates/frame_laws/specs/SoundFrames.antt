@@ -40,7 +40,7 @@ points-weaker fs j k x h p = record { home = p .home; stands = p .stands; first 
 
 pub frame-alike : (fs gs : List Frame) (k : ℕ) (f : Frame) → Alike fs gs k → FrameSound fs k f → FrameSound gs k f
 frame-alike fs gs k f a h =
-    record { text = h .text; next-first = h .next-first; next-last = h .next-last; link-last = h .link-last; link-first = h .link-first; words = h .words; few = h .few; small = h .small; formals = λ i l. let q = h .formals i l in (q .0, q .1, points-alike fs gs k (q .0) a (q .2)) }
+    record { in-form = h .in-form; next-first = h .next-first; next-last = h .next-last; link-last = h .link-last; link-first = h .link-first; count = h .count; few = h .few; small = h .small; handed = λ i l. let q = h .handed i l in (q .0, q .1, points-alike fs gs k (q .0) a (q .2)) }
 
 -- lists that agree below k
 alike-same : (fs gs : List Frame) (k : ℕ) → ((j : ℕ) → j < k → getElem? gs j ≡ getElem? fs j) → Alike fs gs k
@@ -76,7 +76,7 @@ sound-more pre f h g k x e = frame-alike pre (pre ++ (f ∷ [])) k x (alike-same
 pub sound-continued : (fs : List Frame) (k : ℕ) (f : Frame) (n : ℕ) → FrameSound fs k f → 1 ≤ n → n ≤ suc (length (blockStmts (f .text))) → FrameSound fs k (continue f n)
 unfolding continue
 sound-continued fs k f n h p q =
-    record { text = h .text; next-first = p; next-last = q; link-last = h .link-last; link-first = h .link-first; words = h .words; few = h .few; small = h .small; formals = h .formals }
+    record { in-form = h .in-form; next-first = p; next-last = q; link-last = h .link-last; link-first = h .link-first; count = h .count; few = h .few; small = h .small; handed = h .handed }
 
 -- Words
 
@@ -84,7 +84,7 @@ sound-continued fs k f n h p q =
 pub frame-put : (fs : List Frame) (k : ℕ) (f : Frame) (i : ℕ) (z : ℤ) → FrameSound fs k f → length (f .formals) ≤ i → mag z < 2147483648 → FrameSound fs k (rewritten f (set (f .words) i z))
 unfolding rewritten
 frame-put fs k f i z h p q =
-    record { text = h .text; next-first = h .next-first; next-last = h .next-last; link-last = h .link-last; link-first = h .link-first; words = length-set (f .words) i z ∙ h .words; few = omega (arith, length-set (f .words) i z, h .few); small = λ j. getD-set (λ w. mag w < 2147483648) (f .words) i j z (pos 0) q (h .small j); formals = λ j l. let r = h .formals j l in (r .0, getD-set-other (f .words) i j z (pos 0) (λ e. omega arith) ∙ r .1, r .2) }
+    record { in-form = h .in-form; next-first = h .next-first; next-last = h .next-last; link-last = h .link-last; link-first = h .link-first; count = length-set (f .words) i z ∙ h .count; few = omega (arith, length-set (f .words) i z, h .few); small = λ j. getD-set (λ w. mag w < 2147483648) (f .words) i j z (pos 0) q (h .small j); handed = λ j l. let r = h .handed j l in (r .0, getD-set-other (f .words) i j z (pos 0) (λ e. omega arith) ∙ r .1, r .2) }
 
 alike-set : (fs : List Frame) (i : ℕ) (f g : Frame) (k : ℕ) → getElem? fs i ≡ some f → g .formals ≡ f .formals → g .text ≡ f .text → Alike fs (set fs i g) k
 alike-set fs i f g k e p q j h l d =
@@ -127,4 +127,4 @@ pub sound-new : (fs : List Frame) (formals : List Formal) (xs : List ℕ) (b : B
 unfolding newFrame
 sound-new fs formals xs b link t n p l m s =
     let c = newFrame-length formals xs b link in
-    record { text = t; next-first = omega arith; next-last = omega arith; link-last = l; link-first = m; words = c ∙ ap (λ k. k + length (blockDecls b)) n; few = omega (arith, c, n, names-few b formals t); small = λ i. getD-both (λ w. mag w < 2147483648) (map pos xs) (zeroWords (blockDecls b)) i (pos 0) (λ j. argument-words xs j (λ j r. points-small fs (length fs) (getD xs j 0) s (p j r))) (zero-words (blockDecls b)); formals = λ i r. (getD xs i 0, List·getD-append (map pos xs) (zeroWords (blockDecls b)) (pos 0) i (omega (arith, length-map xs pos)) ∙ List·getD-map pos xs i 0, p i (omega arith)) }
+    record { in-form = t; next-first = omega arith; next-last = omega arith; link-last = l; link-first = m; count = c ∙ ap (λ k. k + length (blockDecls b)) n; few = omega (arith, c, n, names-few b formals t); small = λ i. getD-both (λ w. mag w < 2147483648) (map pos xs) (zeroWords (blockDecls b)) i (pos 0) (λ j. argument-words xs j (λ j r. points-small fs (length fs) (getD xs j 0) s (p j r))) (zero-words (blockDecls b)); handed = λ i r. (getD xs i 0, List·getD-append (map pos xs) (zeroWords (blockDecls b)) (pos 0) i (omega (arith, length-map xs pos)) ∙ List·getD-map pos xs i 0, p i (omega arith)) }

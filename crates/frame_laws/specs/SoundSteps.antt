@@ -46,7 +46,7 @@ sound-stepped l s h = record { live = h .live; each = h .each }
 
 pub declOf-in-form : (fs : List Frame) (x : ℕ) (f : Frame) (d : Decl) → SoundFrames fs → numbered fs (frameNumber x) ≡ some f → declOf fs x ≡ some d → DeclInForm d (length (blockStmts (f .text)))
 declOf-in-form fs x f d h n e =
-    decl-in-form (f .text) (f .formals) (place x - length (f .formals)) d ((numbered-sound fs (frameNumber x) f h n) .text) (sym (declOf-found fs x f n) ∙ e)
+    decl-in-form (f .text) (f .formals) (place x - length (f .formals)) d ((numbered-sound fs (frameNumber x) f h n) .in-form) (sym (declOf-found fs x f n) ∙ e)
 
 declOf-zero : (fs : List Frame) → declOf fs 0 ≡ none
 unfolding frameNumber
@@ -70,7 +70,7 @@ frames-are s fs a h = h
 
 pub next-in-form : (pre : List Frame) (f : Frame) (x : Stmt) → SoundFrames (pre ++ (f ∷ [])) → frameStmt f ≡ some x → StmtInForm x
 unfolding frameStmt
-next-in-form pre f x h e = stmt-in-form (f .text) (f .formals) (pred (f .next)) x ((sound-after pre f [] h) .text) e
+next-in-form pre f x h e = stmt-in-form (f .text) (f .formals) (pred (f .next)) x ((sound-after pre f [] h) .in-form) e
 
 next-most : (f : Frame) (x : Stmt) → 1 ≤ f .next → frameStmt f ≡ some x → suc (f .next) ≤ suc (length (blockStmts (f .text)))
 unfolding frameStmt
@@ -139,7 +139,7 @@ kinds-length : (fs : List Formal) → length (formalKinds fs) ≡ length fs
 unfolding formalKinds
 kinds-length fs = length-map fs (λ (f : Formal). f .kind)
 
-module _ (l : Limits) (paper : l .activations ≤ 256) where
+module _ (l : Limits) (most : l .activations ≤ 256) where
   pub pushed-sound : (s : Stack) (f : Frame) → Sound l s → length (s .frames) < l .activations → FrameSound (s .frames) (length (s .frames)) f → Sound l (withFrames s (s .frames ++ (f ∷ [])))
   pushed-sound s f h r g = sound-with l s (s .frames ++ (f ∷ [])) (omega (arith, snoc-length (s .frames) f)) (sound-more (s .frames) f (h .each) g)
 

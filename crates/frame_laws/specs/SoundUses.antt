@@ -29,7 +29,7 @@ wordAt-small fs x h =
 -- a designator is at most that of the last name of the last frame
 pub points-most : (fs : List Frame) (k x : ℕ) → SoundFrames fs → Points fs k x → x ≤ k * 64 + 32
 points-most fs k x h p =
-    let few = names-few (p .home .text) (p .home .formals) ((numbered-sound fs (x / 64) (p .home) h (p .stands)) .text) in
+    let few = names-few (p .home .text) (p .home .formals) ((numbered-sound fs (x / 64) (p .home) h (p .stands)) .in-form) in
     omega (arith, p .last, p .within)
 
 pub designates-most : (fs : List Frame) (n : ℕ) → SoundFrames fs → designates fs n ≤ length fs * 64 + 32

@@ -75,7 +75,7 @@ wordAt-put-same fs k x z h p =
     let f = p .home in
     let g = rewritten f (set (f .words) (pred (x % 64)) z) in
     let s = numbered-sound fs (x / 64) f h (p .stands) in
-    ap (λ gs. wordAt gs x) (putWord-found fs x z f (p .stands)) ∙ wordAt-found (set fs (pred (x / 64)) g) x g (numbered-put fs (x / 64) f g (p .stands)) ∙ getD-set-same (f .words) (pred (x % 64)) z (pos 0) (omega (arith, s .words, p .past, p .within))
+    ap (λ gs. wordAt gs x) (putWord-found fs x z f (p .stands)) ∙ wordAt-found (set fs (pred (x / 64)) g) x g (numbered-put fs (x / 64) f g (p .stands)) ∙ getD-set-same (f .words) (pred (x % 64)) z (pos 0) (omega (arith, s .count, p .past, p .within))
 
 pub wordAt-put-other : (fs : List Frame) (k x y : ℕ) (z : ℤ) → Points fs k x → 1 ≤ y % 64 → (x ≡ y → ⊥) → wordAt (putWord fs x z) y ≡ wordAt fs y
 unfolding frameNumber place rewritten
