@@ -19,7 +19,8 @@ use Rattle.language.specs.Machine.{Limits, compute}
 use Rattle.language.specs.declared.Stop.{Stop}
 use Rattle.language.specs.declared.Stop.the-variants.{ResultTooLarge, NoActivationLeft, NumberBelowOne, GroupFull, TableFull, ArgumentsDiffer}
 use Rattle.frames.specs.Frame.{Frame, Stack, Acted, acted, halted, Result, withFrames, tableChanged, stepped, continue, numbered, frameNumber, declOf, kindOf, wordAt, putWord, newFrame, act, actStmt, frameStmt, frameStep, results, frameRun}
-use Rattle.frame_laws.specs.Actions.{declOf-frame, calls-nothing, calls-differing, calls-full, calls, goes, goes-nowhere, passes, jumps, computes, computes-past, adds-below-one, adds-held, adds-group-full, adds-table-full, adds, removes-below-one, removes, asks-below-one, asks, enters, enters-full}
+use Rattle.frame_laws.specs.Finding.{declOf-frame}
+use Rattle.frame_laws.specs.Actions.{calls-nothing, calls-differing, calls-full, calls, goes, goes-nowhere, passes, jumps, computes, computes-past, adds-below-one, adds-held, adds-group-full, adds-table-full, adds, removes-below-one, removes, asks-below-one, asks, enters, enters-full}
 use Rattle.frame_laws.specs.Innermost.{innermost, step-leaves, step-does, run-finished, run-spent, run-steps, run-stops}
 
 -- a test and a lookup with what they come to

@@ -8,7 +8,7 @@ use mathlib.Core.Option.{none, some, Option·none-ne-some, Option·some-injectiv
 use lib.ListN.{length}
 use Rattle.frames.specs.Frame.{Frame, Place, numbered, frameNames, positionFrom, seekFrom, seekName, linksFollowed, frameNumber, declOf, kindOf, wordAt}
 use Rattle.frame_laws.specs.Lists.{snoc-length}
-use Rattle.frame_laws.specs.Actions.{declOf-found, declOf-none, kindOf-found, kindOf-none, wordAt-found, wordAt-none, seekName-starts, seek-spent, seek-none, seek-here, seek-on, links-found, links-none}
+use Rattle.frame_laws.specs.Finding.{declOf-found, declOf-none, kindOf-found, kindOf-none, wordAt-found, wordAt-none, seekName-starts, seek-spent, seek-none, seek-here, seek-on, links-found, links-none}
 use Rattle.frame_laws.specs.Innermost.{numbered-below, numbered-last}
 use Rattle.frame_laws.specs.Cases.{by-lookup}
 use Rattle.frame_laws.specs.Sound.{SoundFrames}

@@ -12,7 +12,7 @@ use borrow.Author.Tests.{leb-true}
 use Rattle.language.specs.Text.{Action, blockDecls, formalNames, declaredNames}
 use Rattle.frames.specs.Frame.{Frame, Place, numbered, frameNames, positionFrom, seekFrom, seekName, designatorIn, finally, designates, linksFollowed, frameNumber, place, declOf, kindOf, mapAction}
 use Rattle.frame_laws.specs.Lists.{none-past, past-none}
-use Rattle.frame_laws.specs.Actions.{declOf-found, declOf-none, kindOf-found, kindOf-none, seekName-starts, seek-spent, seek-none, seek-here, seek-on, designates-found, designates-none, links-found, links-none, finally-formal, finally-declared}
+use Rattle.frame_laws.specs.Finding.{declOf-found, declOf-none, kindOf-found, kindOf-none, seekName-starts, seek-spent, seek-none, seek-here, seek-on, designates-found, designates-none, links-found, links-none, finally-formal, finally-declared}
 use Rattle.frame_laws.specs.Cases.{by-test, by-lookup}
 use Rattle.frame_laws.specs.Names.{FoundAt, position-bounds, seekName-found}
 

@@ -13,7 +13,7 @@ use borrow.Author.Tests.{leb-true, leb-false}
 use Rattle.language.specs.Text.{blockDecls}
 use Rattle.frames.specs.Frame.{Frame, Place, numbered, frameNames, positionFrom, seekFrom, seekName, designatorIn, finally, designates}
 use Rattle.frame_laws.specs.Parts.{frameNames-length}
-use Rattle.frame_laws.specs.Actions.{designates-found, designates-none, finally-formal, finally-declared}
+use Rattle.frame_laws.specs.Finding.{designates-found, designates-none, finally-formal, finally-declared}
 use Rattle.frame_laws.specs.Innermost.{numbered-bounds}
 use Rattle.frame_laws.specs.Cases.{by-test, by-lookup}
 use Rattle.frame_laws.specs.Formed.{names-few}

@@ -20,7 +20,8 @@ use Rattle.runs.specs.Names.{agree-length}
 use Rattle.runs.specs.Every.{Every}
 use Rattle.frames.specs.Frame.{Frame, Stack, Acted, acted, halted, withFrames, tableChanged, stepped, continue, numbered, designates, frameNumber, place, declOf, kindOf, putWord, mapAction, newFrame, act, actStmt, frameStmt, frameStep}
 use Rattle.frame_laws.specs.Lists.{snoc-length, getElem-length, split-getElem, every-getD}
-use Rattle.frame_laws.specs.Actions.{declOf-found, declOf-none, declOf-frame, kindOf-none, putWord-found, putWord-none, stores, does}
+use Rattle.frame_laws.specs.Finding.{declOf-found, declOf-none, declOf-frame, kindOf-none, putWord-found, putWord-none}
+use Rattle.frame_laws.specs.Actions.{stores, does}
 use Rattle.frame_laws.specs.Innermost.{numbered-zero, numbered-bounds, numbered-index}
 use Rattle.frame_laws.specs.Cases.{by-lookup, After, enter-cases, call-cases, go-cases, if-cases, compute-cases, add-cases, remove-cases, ask-cases, step-cases}
 use Rattle.frame_laws.specs.Formed.{InForm, DeclInForm, StmtInForm, decl-in-form, stmt-in-form, body-in-form, label-in-form, block-in-form, action-in-form}

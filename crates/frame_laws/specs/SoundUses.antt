@@ -13,7 +13,7 @@ use lib.Signed.{mag}
 use Rattle.language.specs.Text.{Stmt, blockStmts}
 use Rattle.frames.specs.Frame.{Frame, numbered, frameNames, positionFrom, seekFrom, designates, frameNumber, place, wordAt, frameStmt, frameWords, frameSheet}
 use Rattle.frame_laws.specs.Lists.{getElem-length, getElem-some}
-use Rattle.frame_laws.specs.Actions.{wordAt-found, wordAt-none, seek-spent, seek-none, seek-here, seek-on}
+use Rattle.frame_laws.specs.Finding.{wordAt-found, wordAt-none, seek-spent, seek-none, seek-here, seek-on}
 use Rattle.frame_laws.specs.Innermost.{numbered-zero, numbered-bounds, frameWords-length}
 use Rattle.frame_laws.specs.Cases.{by-lookup}
 use Rattle.frame_laws.specs.Formed.{names-few}

@@ -13,7 +13,7 @@ use lib.Seq.{getD-set-same, getD-set-other}
 use borrow.Author.Tests.{eqb-true, eqb-false}
 use Rattle.frames.specs.Frame.{Frame, rewritten, numbered, designates, linksFollowed, frameNumber, place, declOf, kindOf, wordAt, putWord}
 use Rattle.frame_laws.specs.Lists.{getElem-set-same, getElem-set-other}
-use Rattle.frame_laws.specs.Actions.{wordAt-found, wordAt-none, putWord-found, putWord-none}
+use Rattle.frame_laws.specs.Finding.{wordAt-found, wordAt-none, putWord-found, putWord-none}
 use Rattle.frame_laws.specs.Innermost.{numbered-zero, numbered-index}
 use Rattle.frame_laws.specs.Cases.{by-test, by-lookup}
 use Rattle.frame_laws.specs.Sound.{Points, SoundFrames, Target}
