@@ -6,7 +6,7 @@ use Prim.Native.Nat.{ℕ, zero, suc}
 use mathlib.Core.Path.{_≡_, refl, sym, ap, _∙_}
 use mathlib.Core.List.{List, [], _∷_, _++_}
 use mathlib.Core.Option.{some, Option·none-ne-some, Option·some-injective}
-use lib.ListN.{getElem?}
+use lib.ListN.{length, getElem?}
 use Rattle.language.specs.Text.{Action, CL, GO, IF, KN, AR, AD, RM, QY, DO}
 use Rattle.language.specs.Machine.{Limits}
 use Rattle.frames.specs.Frame.{Frame, Stack, numbered, designates, continue, frameNumber, declOf, kindOf, wordAt, mapAction, withFrames, act, frameStmt, frameStep}
@@ -80,6 +80,23 @@ module _ (pre : List Frame) (f : Frame) (i : ℕ) where
 frames-of : (s : Stack) (fs : List Frame) → (withFrames s fs) .frames ≡ fs
 unfolding withFrames
 frames-of s fs = refl
+
+module _ (s : Stack) (pre : List Frame) (f : Frame) (i : ℕ) (e : s .frames ≡ pre ++ (f ∷ [])) where
+  -- the stack with the innermost frame's next statement number set
+  abbrev on : Stack
+  on = withFrames s (pre ++ (continue f i ∷ []))
+
+  pub length-advanced : length (on .frames) ≡ length (s .frames)
+  length-advanced = ap length (frames-of s (pre ++ (continue f i ∷ []))) ∙ (like-continued pre f i) .count ∙ ap length (sym e)
+
+  pub declOf-advanced : (x : ℕ) → declOf (on .frames) x ≡ declOf (s .frames) x
+  declOf-advanced x = ap (λ (fs : List Frame). declOf fs x) (frames-of s (pre ++ (continue f i ∷ []))) ∙ declOf-continued pre f i x ∙ ap (λ (fs : List Frame). declOf fs x) (sym e)
+
+  pub kindOf-advanced : (x : ℕ) → kindOf (on .frames) x ≡ kindOf (s .frames) x
+  kindOf-advanced x = ap (λ (fs : List Frame). kindOf fs x) (frames-of s (pre ++ (continue f i ∷ []))) ∙ kindOf-continued pre f i x ∙ ap (λ (fs : List Frame). kindOf fs x) (sym e)
+
+  pub wordAt-advanced : (x : ℕ) → wordAt (on .frames) x ≡ wordAt (s .frames) x
+  wordAt-advanced x = ap (λ (fs : List Frame). wordAt fs x) (frames-of s (pre ++ (continue f i ∷ []))) ∙ wordAt-continued pre f i x ∙ ap (λ (fs : List Frame). wordAt fs x) (sym e)
 
 pub step-acts : (l : Limits) (s : Stack) (pre : List Frame) (f : Frame) (at : ℕ) (a : Action) → s .frames ≡ pre ++ (f ∷ []) → frameStmt f ≡ some (DO at a)
     → frameStep l s ≡ act l (withFrames s (pre ++ (continue f (suc (f .next)) ∷ []))) (mapAction (designates (s .frames)) a)
