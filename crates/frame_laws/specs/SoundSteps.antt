@@ -1,0 +1,200 @@
+-- A step keeps Sound (`step-sound`), where the next statement lands: a goto goes to a label. Nothing else of scope is needed: a call
+-- of what is no procedure enters an empty block, and a store reaches no formal's word.
+use Prim.Native.Nat.{ℕ, zero, suc, pred, _-_, _/_, _%_, _≤_, _<_}
+use native.Mathlib.Nat.{not-suc-le-zero}
+use native.Mathlib.Omega.{arith}
+use mathlib.Core.Bool.{true, false≢true, and-eq-true-iff}
+use mathlib.Core.Path.{_≡_, refl, sym, ap, _∙_, subst}
+use mathlib.Core.Logic.{inl, inr}
+use mathlib.Core.List.{List, [], _∷_, _++_, map}
+use mathlib.Core.Option.{Option, none, some, Option·none-ne-some}
+use lib.IntN.{ℤ}
+use lib.ListN.{length, take, drop, getD, getElem?, length-map, length-set, length-take, take-append-drop}
+use lib.Signed.{mag}
+use Rattle.language.specs.Text.{Kind, Formal, Action, CL, GO, IF, KN, AR, AD, RM, QY, Block, Decl, Stmt, BK, DO, blockStmts, labelIndex, declFormals, declBody, formalKinds, sameKind}
+use Rattle.language.specs.Scope.{agree}
+use Rattle.language.specs.Table.{Table}
+use Rattle.language.specs.Machine.{Limits}
+use Rattle.grammar.specs.Rules.{FormedAction}
+use Rattle.runs.specs.Names.{agree-length}
+use Rattle.runs.specs.Every.{Every}
+use Rattle.frames.specs.Frame.{Frame, Stack, Acted, acted, halted, withFrames, tableChanged, stepped, continue, numbered, designates, frameNumber, place, declOf, kindOf, putWord, mapAction, newFrame, act, actStmt, frameStmt, frameStep}
+use Rattle.frame_laws.specs.Lists.{snoc-length, getElem-length, split-getElem, every-getD}
+use Rattle.frame_laws.specs.Finding.{declOf-found, declOf-none, declOf-frame, kindOf-none, putWord-found, putWord-none}
+use Rattle.frame_laws.specs.Actions.{stores, does}
+use Rattle.frame_laws.specs.Innermost.{numbered-zero, numbered-bounds, numbered-index}
+use Rattle.frame_laws.specs.Cases.{by-lookup, After, enter-cases, call-cases, go-cases, if-cases, compute-cases, add-cases, remove-cases, ask-cases, step-cases}
+use Rattle.frame_laws.specs.Formed.{InForm, DeclInForm, StmtInForm, decl-in-form, stmt-in-form, body-in-form, label-in-form, block-in-form, action-in-form}
+use Rattle.frame_laws.specs.Sound.{Points, FrameSound, SoundFrames, Sound, Target, OnLabel, JumpsToLabel, Lands}
+use Rattle.frame_laws.specs.SoundFrames.{sound-first, sound-after, sound-more, sound-continued, sound-put, sound-new}
+use Rattle.frame_laws.specs.Names.{numbered-sound, designates-target}
+use Rattle.frame_laws.specs.Continuing.{jumps-continued}
+
+-- Sound is of the frames alone
+pub sound-with : (l : Limits) (s : Stack) (fs : List Frame) → length fs ≤ l .activations → SoundFrames fs → Sound l (withFrames s fs)
+unfolding withFrames
+sound-with l s fs n h = record { live = n; each = h }
+
+pub sound-table : (l : Limits) (s : Stack) (t : Table) → Sound l s → Sound l (tableChanged s t)
+unfolding tableChanged
+sound-table l s t h = record { live = h .live; each = h .each }
+
+pub sound-stepped : (l : Limits) (s : Stack) → Sound l s → Sound l (stepped s)
+unfolding stepped
+sound-stepped l s h = record { live = h .live; each = h .each }
+
+-- A declaration that a designator gives is in form, and the designator is not 0
+
+pub declOf-in-form : (fs : List Frame) (x : ℕ) (f : Frame) (d : Decl) → SoundFrames fs → numbered fs (frameNumber x) ≡ some f → declOf fs x ≡ some d → DeclInForm d (length (blockStmts (f .text)))
+declOf-in-form fs x f d h n e =
+    decl-in-form (f .text) (f .formals) (place x - length (f .formals)) d ((numbered-sound fs (frameNumber x) f h n) .in-form) (sym (declOf-found fs x f n) ∙ e)
+
+declOf-zero : (fs : List Frame) → declOf fs 0 ≡ none
+unfolding frameNumber
+declOf-zero fs = declOf-none fs 0 (numbered-zero fs)
+
+kind-points : (fs : List Frame) (x : ℕ) (k : Kind) → Target fs x → kindOf fs x ≡ some k → Points fs (length fs) x
+kind-points fs x k (inl z) e = absurd (Option·none-ne-some k (sym (kindOf-none fs x (ap (declOf fs) z ∙ declOf-zero fs)) ∙ e))
+kind-points fs x k (inr p) e = p
+
+-- The stack with other frames
+
+after-map : (P Q : Stack → Type 0) → ((s : Stack) → P s → Q s) → (d : Acted) → After P d → After Q d
+after-map P Q f (acted s) h = f s h
+after-map P Q f (halted c) h = tt
+
+frames-are : (s : Stack) (fs : List Frame) (a : Action) → JumpsToLabel fs (mapAction (designates fs) a) → JumpsToLabel ((withFrames s fs) .frames) (mapAction (designates ((withFrames s fs) .frames)) a)
+unfolding withFrames
+frames-are s fs a h = h
+
+-- Leaving, and going on to the next statement number
+
+pub next-in-form : (pre : List Frame) (f : Frame) (x : Stmt) → SoundFrames (pre ++ (f ∷ [])) → frameStmt f ≡ some x → StmtInForm x
+unfolding frameStmt
+next-in-form pre f x h e = stmt-in-form (f .text) (f .formals) (pred (f .next)) x ((sound-after pre f [] h) .in-form) e
+
+next-most : (f : Frame) (x : Stmt) → 1 ≤ f .next → frameStmt f ≡ some x → suc (f .next) ≤ suc (length (blockStmts (f .text)))
+unfolding frameStmt
+next-most f x n e = omega (arith, getElem-length (blockStmts (f .text)) (pred (f .next)) x e)
+
+module _ (l : Limits) (s : Stack) (pre : List Frame) (f : Frame) where
+  pub left-sound : Sound l s → s .frames ≡ pre ++ (f ∷ []) → Sound l (withFrames s pre)
+  left-sound h e =
+      sound-with l s pre (omega (arith, h .live, ap length e, snoc-length pre f)) (sound-first pre (f ∷ []) (subst SoundFrames e (h .each)))
+
+  pub advanced-sound : (x : Stmt) → Sound l s → s .frames ≡ pre ++ (f ∷ []) → frameStmt f ≡ some x → Sound l (withFrames s (pre ++ (continue f (suc (f .next)) ∷ [])))
+  advanced-sound x h e n =
+      let g = continue f (suc (f .next)) in
+      let each = subst SoundFrames e (h .each) in
+      let here = sound-after pre f [] each in
+      sound-with l s (pre ++ (g ∷ [])) (omega (arith, h .live, ap length e, snoc-length pre f, snoc-length pre g))
+      (sound-more pre g (sound-first pre (f ∷ []) each) (sound-continued pre (length pre) f (suc (f .next)) here (omega arith) (next-most f x (here .next-first) n)))
+
+-- Gotos: the label's frame becomes innermost, at a statement of its block
+
+pub take-sound : (fs : List Frame) (m : ℕ) (f : Frame) → SoundFrames fs → getElem? fs m ≡ some f → FrameSound (take m fs) (length (take m fs)) f
+take-sound fs m f h e = sound-after (take m fs) f (drop (suc m) fs) (subst SoundFrames (split-getElem fs m f e) h)
+
+pub go-sound : (l : Limits) (s : Stack) (x : ℕ) → Sound l s → OnLabel (s .frames) x → After (Sound l) (act l s (GO x))
+go-sound l s x h o = go-cases l s (After (Sound l)) (λ c. tt) x h to
+  where
+    to : (f : Frame) (d : Decl) → numbered (s .frames) (frameNumber x) ≡ some f → declOf (s .frames) x ≡ some d → Sound l (withFrames s (take (pred (frameNumber x)) (s .frames) ++ (continue f (labelIndex d) ∷ [])))
+    to f d n e =
+        let m = pred (frameNumber x) in
+        let g = continue f (labelIndex d) in
+        let at = numbered-index (s .frames) (frameNumber x) f n in
+        let i = label-in-form d (length (blockStmts (f .text))) (declOf-in-form (s .frames) x f d (h .each) n e) (o d e) in
+        sound-with l s (take m (s .frames) ++ (g ∷ [])) (omega (arith, h .live, snoc-length (take m (s .frames)) g, length-take m (s .frames), getElem-length (s .frames) m f at))
+        (sound-more (take m (s .frames)) g (sound-first (take m (s .frames)) (drop m (s .frames)) (subst SoundFrames (sym (take-append-drop m (s .frames))) (h .each)))
+        (sound-continued (take m (s .frames)) (length (take m (s .frames))) f (labelIndex d) (take-sound (s .frames) m f (h .each) at) (i .0) (omega (arith, i .1))))
+
+-- Stores, through what a name designates
+
+pub putWord-length : (fs : List Frame) (x : ℕ) (z : ℤ) → length (putWord fs x z) ≡ length fs
+putWord-length fs x z = by-lookup (numbered fs (frameNumber x)) (λ e. ap length (putWord-none fs x z e)) (λ f e. ap length (putWord-found fs x z f e) ∙ length-set fs _ _)
+
+putWord-sound : (fs : List Frame) (x : ℕ) (z : ℤ) → SoundFrames fs → Target fs x → mag z < 2147483648 → SoundFrames (putWord fs x z)
+unfolding frameNumber place
+putWord-sound fs x z h (inl e) q = subst SoundFrames (sym (ap (λ y. putWord fs y z) e ∙ putWord-none fs 0 z (numbered-zero fs))) h
+putWord-sound fs x z h (inr p) q =
+    subst SoundFrames (sym (putWord-found fs x z (p .home) (p .stands)))
+    (sound-put fs (pred (x / 64)) (pred (x % 64)) (p .home) z h (numbered-index fs (x / 64) (p .home) (p .stands)) (omega (arith, p .past)) q)
+
+pub put-sound : (l : Limits) (s : Stack) (x : ℕ) (z : ℤ) → Sound l s → Target (s .frames) x → mag z < 2147483648 → Sound l (withFrames s (putWord (s .frames) x z))
+put-sound l s x z h t q = sound-with l s (putWord (s .frames) x z) (omega (arith, h .live, putWord-length (s .frames) x z)) (putWord-sound (s .frames) x z (h .each) t q)
+
+-- Calls
+
+agree-kind : {A : Type 0} (r : A → Option Kind) (d : A) (ks : List Kind) (xs : List A) → agree ks (map r xs) ≡ true → (i : ℕ) → i < length xs → (k : Kind) × (r (getD xs i d) ≡ some k)
+unfolding agree
+agree-kind r d ks [] e i l = absurd (not-suc-le-zero l)
+agree-kind r d [] (x ∷ xs) e i l = absurd (false≢true e)
+agree-kind r d (k ∷ ks) (x ∷ xs) e i l = go (λ f j m. agree-kind r d ks xs f j m) (r x) refl e i l
+  where
+    go : (agree ks (map r xs) ≡ true → (j : ℕ) → j < length xs → (q : Kind) × (r (getD xs j d) ≡ some q)) → (o : Option Kind) → r x ≡ o → agree (k ∷ ks) (o ∷ map r xs) ≡ true → (j : ℕ) → j < suc (length xs) → (q : Kind) × (r (getD (x ∷ xs) j d) ≡ some q)
+    go f none c a j m = absurd (false≢true a)
+    go f (some q) c a zero m = (q, c)
+    go f (some q) c a (suc j) m = f (((and-eq-true-iff (sameKind k q) (agree ks (map r xs))) .0 a) .1) j (omega arith)
+
+kinds-length : (fs : List Formal) → length (formalKinds fs) ≡ length fs
+unfolding formalKinds
+kinds-length fs = length-map fs (λ (f : Formal). f .kind)
+
+module _ (l : Limits) (most : l .activations ≤ 256) where
+  pub pushed-sound : (s : Stack) (f : Frame) → Sound l s → length (s .frames) < l .activations → FrameSound (s .frames) (length (s .frames)) f → Sound l (withFrames s (s .frames ++ (f ∷ [])))
+  pushed-sound s f h r g = sound-with l s (s .frames ++ (f ∷ [])) (omega (arith, snoc-length (s .frames) f)) (sound-more (s .frames) f (h .each) g)
+
+  pub call-sound : (s : Stack) (p : ℕ) (xs : List ℕ) → Sound l s → Every (Target (s .frames)) xs → After (Sound l) (act l s (CL p xs))
+  call-sound s p xs h ts = call-cases l s (After (Sound l)) (λ c. tt) p xs h (λ d e a r. body d e a r)
+    where
+      body : (d : Decl) → declOf (s .frames) p ≡ some d → agree (formalKinds (declFormals d)) (map (kindOf (s .frames)) xs) ≡ true → length (s .frames) < l .activations → Sound l (withFrames s (s .frames ++ (newFrame (declFormals d) xs (declBody d) (frameNumber p) ∷ [])))
+      body d e a r =
+          let q = declOf-frame (s .frames) p d e in
+          let b = numbered-bounds (s .frames) (frameNumber p) (q .0) (q .1) in
+          let n : length xs ≡ length (declFormals d) = sym (length-map xs (kindOf (s .frames))) ∙ agree-length (formalKinds (declFormals d)) (map (kindOf (s .frames)) xs) a ∙ kinds-length (declFormals d) in
+          pushed-sound s (newFrame (declFormals d) xs (declBody d) (frameNumber p)) h r
+          (sound-new (s .frames) (declFormals d) xs (declBody d) (frameNumber p) (body-in-form d _ (declOf-in-form (s .frames) p (q .0) d (h .each) (q .1) e)) n
+          (λ i m. let k = agree-kind (kindOf (s .frames)) 0 (formalKinds (declFormals d)) xs a i m in
+          kind-points (s .frames) (getD xs i 0) (k .0) (every-getD (Target (s .frames)) xs i 0 (inl refl) ts) (k .1))
+          (b .1) (λ z. b .0) (omega arith))
+
+  pub enter-sound : (s : Stack) (b : Block) → Sound l s → InForm b [] → After (Sound l) (actStmt l s (BK b))
+  enter-sound s b h t =
+      enter-cases l s (After (Sound l)) (λ c. tt) b
+      (λ r. pushed-sound s (newFrame [] [] b (length (s .frames))) h r (sound-new (s .frames) [] [] b (length (s .frames)) t refl (λ i m. absurd (not-suc-le-zero m)) (omega arith) (λ z. z) (omega arith)))
+
+  -- An action with its names found
+
+  pub action-sound : (s : Stack) (a : Action) → Sound l s → FormedAction a → JumpsToLabel (s .frames) (mapAction (designates (s .frames)) a) → After (Sound l) (act l s (mapAction (designates (s .frames)) a))
+  unfolding mapAction FormedAction
+  action-sound s (CL p xs) h f j = call-sound s (designates (s .frames) p) (map (designates (s .frames)) xs) h (targets xs)
+    where
+      targets : (xs : List ℕ) → Every (Target (s .frames)) (map (designates (s .frames)) xs)
+      targets [] = tt
+      targets (x ∷ xs) = (designates-target (s .frames) x (h .each), targets xs)
+  action-sound s (GO x) h f j = go-sound l s (designates (s .frames) x) h j
+  action-sound s (IF v x) h f j = if-cases l s (After (Sound l)) (λ c. tt) (designates (s .frames) v) (designates (s .frames) x) h (go-sound l s (designates (s .frames) x) h j)
+  action-sound s (KN t z) h f j = rw (stores l s (designates (s .frames) t) z) (put-sound l s (designates (s .frames) t) z h (designates-target (s .frames) t (h .each)) (f .value))
+  action-sound s (AR t o a b) h f j = compute-cases l s (After (Sound l)) (λ c. tt) (designates (s .frames) t) o _ _ (λ z q. put-sound l s (designates (s .frames) t) z h (designates-target (s .frames) t (h .each)) q)
+  action-sound s (AD x y) h f j = add-cases l s (After (Sound l)) (λ c. tt) _ _ h (λ g m n a z u. sound-table l s _ h)
+  action-sound s (RM x y) h f j = remove-cases l s (After (Sound l)) (λ c. tt) _ _ (λ g m. sound-table l s _ h)
+  action-sound s (QY t x y) h f j = ask-cases l s (After (Sound l)) (λ c. tt) (designates (s .frames) t) _ _ (λ z q. put-sound l s (designates (s .frames) t) z h (designates-target (s .frames) t (h .each)) q)
+
+  pub stmt-sound : (s : Stack) (x : Stmt) → Sound l s → StmtInForm x → ((at : ℕ) (a : Action) → x ≡ DO at a → JumpsToLabel (s .frames) (mapAction (designates (s .frames)) a)) → After (Sound l) (actStmt l s x)
+  stmt-sound s (BK b) h f j = enter-sound s b h (block-in-form b f)
+  stmt-sound s (DO at a) h f j = rw (does l s at a) (action-sound s a h (action-in-form at a f) (j at a refl))
+
+  -- One step
+
+  pub step-sound : (s : Stack) → 1 ≤ length (s .frames) → Sound l s → Lands s → After (λ s′. Sound l (stepped s′)) (frameStep l s)
+  step-sound s n h lands =
+      step-cases l s (After (λ s′. Sound l (stepped s′))) n (λ pre f e q. sound-stepped l (withFrames s pre) (left-sound l s pre f h e))
+      (λ pre f x e q. after-map (Sound l) (λ s′. Sound l (stepped s′)) (sound-stepped l) (actStmt l (withFrames s (pre ++ (continue f (suc (f .next)) ∷ []))) x) (next pre f x e q))
+    where
+      landing : (pre : List Frame) (f : Frame) (at : ℕ) (a : Action) → s .frames ≡ pre ++ (f ∷ []) → frameStmt f ≡ some (DO at a) → JumpsToLabel (pre ++ (continue f (suc (f .next)) ∷ [])) (mapAction (designates (pre ++ (continue f (suc (f .next)) ∷ []))) a)
+      landing pre f at a e q = jumps-continued pre f (suc (f .next)) a (subst (λ (fs : List Frame). JumpsToLabel fs (mapAction (designates fs) a)) e (lands pre f at a e q))
+
+      next : (pre : List Frame) (f : Frame) (x : Stmt) → s .frames ≡ pre ++ (f ∷ []) → frameStmt f ≡ some x → After (Sound l) (actStmt l (withFrames s (pre ++ (continue f (suc (f .next)) ∷ []))) x)
+      next pre f x e q =
+          stmt-sound (withFrames s (pre ++ (continue f (suc (f .next)) ∷ []))) x (advanced-sound l s pre f x h e q) (next-in-form pre f x (subst SoundFrames e (h .each)) q)
+          (λ at a d. frames-are s (pre ++ (continue f (suc (f .next)) ∷ [])) a (landing pre f at a e (q ∙ ap some d)))

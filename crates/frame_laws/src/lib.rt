@@ -1,0 +1,1 @@
+// Theorems about the frame machine alone: see specs/.
