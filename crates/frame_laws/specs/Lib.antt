@@ -15,5 +15,6 @@ pub mod Continuing
 pub mod Storing
 pub mod SoundSteps
 pub mod SoundRuns
+pub mod Landing
 pub mod SoundUses
 pub mod Chains

@@ -48,7 +48,7 @@ abbrev pub Target : List Frame → ℕ → Type 0
 Target fs x = (x ≡ 0) ⊎ Points fs (length fs) x
 
 -- The one fact of scope that a step needs: where the next statement is a goto, the declaration that it goes to is a label. It is a
--- hypothesis of the theorems on Sound; that accepted scripts meet it is not proved here.
+-- hypothesis of the theorems on Sound; Landing.antt proves that accepted scripts meet it.
 abbrev pub OnLabel : List Frame → ℕ → Type 0
 OnLabel fs x = (d : Decl) → declOf fs x ≡ some d → declKind d ≡ label
 

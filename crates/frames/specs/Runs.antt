@@ -134,7 +134,7 @@ nothing u = record { live = []; values = []; fresh = 65536; table = u; steps = 0
 no-frames : Table → Stack
 no-frames u = record { frames = []; table = u; steps = 0 }
 
-start-related : (bs : List ℕ) (p : Block) → Bytes bs → check bs ≡ accepted p → (u : Table) → Related (start p u) (frameStart p u)
+pub start-related : (bs : List ℕ) (p : Block) → Bytes bs → check bs ≡ accepted p → (u : Table) → Related (start p u) (frameStart p u)
 unfolding start frameStart nothing no-frames withFrames formalNames readsAt readsIn joined without Both Rising AllLive numbered
 start-related bs p bytes e u =
     let r : Related (nothing u) (no-frames u) = record { twins = tt; rising = omega arith; table-is = refl; steps-are = refl } in

@@ -78,7 +78,7 @@ found-same s t σ h (RM g m) b = ap₂ RM (h g (b .0)) (h m (b .1))
 found-same s t σ h (QY x g m) b = λ i. QY (h x (b .0) i) (h g (b .1) i) (h m (b .2) i)
 
 -- the next statements are one, renamed
-next-renamed : (l : List Activation) (vs : List (ℕ × ℤ)) (k : ℕ) (a : Activation) (f : Frame) → Twin l vs k a f → nextStmt a ≡ Option·map (λ (x : Stmt). renameStmt x (joined (a .reads))) (frameStmt f)
+pub next-renamed : (l : List Activation) (vs : List (ℕ × ℤ)) (k : ℕ) (a : Activation) (f : Frame) → Twin l vs k a f → nextStmt a ≡ Option·map (λ (x : Stmt). renameStmt x (joined (a .reads))) (frameStmt f)
 unfolding nextStmt frameStmt
 next-renamed l vs k a f w =
     ap₂ (λ (xs : List Stmt) (n : ℕ). getElem? xs (pred n)) (ap blockStmts (w .text-is) ∙ blockStmts-renamed (f .text) (joined (a .reads))) (w .next-is) ∙
