@@ -1,0 +1,5 @@
+-- Names as coordinates: where the frame machine finds a name is known from the text, by level and position.
+pub mod Enclosure
+pub mod Chain
+pub mod Lists
+pub mod Along
