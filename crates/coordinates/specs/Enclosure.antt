@@ -2,12 +2,12 @@
 -- formals, innermost first; its level is its length, so the program's is 1. `coordinateOf` finds a name in it: the level of the block
 -- that declares it, and the name's position there. `Encloses t` says which lists are enclosures in the script t.
 use Prim.Native.Nat.{ℕ, suc, _-_}
-use mathlib.Core.List.{List, [], _∷_, _++_}
+use mathlib.Core.List.{List, [], _∷_, _++_, reverse}
 use mathlib.Core.Option.{Option, none, some}
 use mathlib.Core.Path.{_≡_}
 use lib.ListN.{length, getElem?}
 use Rattle.language.specs.Text.{Formal, Block, PR, BK, blockDecls, blockStmts, formalNames, declaredNames}
-use Rattle.frames.specs.Frame.{positionFrom}
+use Rattle.frames.specs.Frame.{numbered, positionFrom}
 
 -- A block with the formals of the procedure whose body it is (none for any other block).
 pub record Enclosing : Type 0 where
@@ -29,6 +29,10 @@ unfoldable pub coordinateOf : Enclosure → ℕ → Option Coordinate
 coordinateOf [] n = none
 coordinateOf (e ∷ es) n =
     elim (positionFrom n 1 (namesOf e)) [ some p ↦ some (record { level = suc (length es); position = p }) | none ↦ coordinateOf es n ]
+
+-- the block of a level
+unfoldable pub atLevel : Enclosure → ℕ → Option Enclosing
+atLevel es j = numbered (reverse es) j
 
 -- how many blocks further out a coordinate's block stands
 unfoldable pub outward : Enclosure → Coordinate → ℕ

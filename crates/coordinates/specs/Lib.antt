@@ -3,3 +3,7 @@ pub mod Enclosure
 pub mod Chain
 pub mod Lists
 pub mod Along
+pub mod Search
+pub mod Declared
+pub mod Coordinates
+pub mod Moves

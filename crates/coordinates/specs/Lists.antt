@@ -4,11 +4,11 @@ use native.Mathlib.Omega.{arith}
 use borrow.Author.Tests.{ltb-true, ltb-false}
 use mathlib.Core.Bool.{Bool, true, false}
 use mathlib.Core.List.{List, [], _∷_, _++_, reverse, reverse-cons}
-use mathlib.Core.Option.{Option, none, some, Option·none-ne-some}
+use mathlib.Core.Option.{Option, none, some, Option·none-ne-some, Option·some-injective}
 use mathlib.Core.Path.{_≡_, refl, sym, ap, _∙_, subst}
 use lib.Dec.{ltb}
 use lib.Seq.{take-all, take-append-le}
-use lib.ListN.{length, take, drop, set, getElem?, length-append, length-reverse}
+use lib.ListN.{length, take, drop, getD, getElem?, length-append, length-reverse}
 use Rattle.language.specs.Basics.{last?, butLast}
 use Rattle.frames.specs.Frame.{numbered}
 
@@ -107,6 +107,18 @@ module _ {A : Type 0} where
   unfolding numbered
   numbered-take n xs zero h = refl
   numbered-take n xs (suc k) h = at-take n xs k h
+
+  pub numbered-getD : (xs : List A) (k : ℕ) (a d : A) → numbered xs k ≡ some a → getD xs (pred k) d ≡ a
+  unfolding numbered
+  numbered-getD xs zero a d e = absurd (Option·none-ne-some a e)
+  numbered-getD [] (suc k) a d e = absurd (Option·none-ne-some a e)
+  numbered-getD (x ∷ xs) (suc zero) a d e = Option·some-injective x a e
+  numbered-getD (x ∷ xs) (suc (suc k)) a d e = numbered-getD xs (suc k) a d e
+
+  pub numbered-at : (xs : List A) (k : ℕ) → 1 ≤ k → numbered xs k ≡ getElem? xs (k - 1)
+  unfolding numbered
+  numbered-at xs zero h = absurd (omega arith)
+  numbered-at xs (suc k) h = let e : k ≡ suc k - 1 = omega arith in ap (getElem? xs) e
 
   -- a list written outermost first, read from the other end
   pub numbered-reverse : (xs : List A) (j : ℕ) → 1 ≤ j → j ≤ length xs → numbered (reverse xs) j ≡ getElem? xs (length xs - j)
