@@ -7,3 +7,4 @@ pub mod Search
 pub mod Declared
 pub mod Coordinates
 pub mod Moves
+pub mod Kept
