@@ -49,7 +49,7 @@ linked-alike t fs gs b a k f g h o (within u l n st) =
 
 -- A move keeps what the frames were
 
-entered-link : (s : Stack) (f : Frame) → Entered s f → f .link ≤ length (s .frames)
+pub entered-link : (s : Stack) (f : Frame) → Entered s f → f .link ≤ length (s .frames)
 entered-link s f (for-block g i l n b e) = omega arith
 entered-link s f (for-body g i d n b e t c) = numbered-high (s .frames) (f .link) g n
 
@@ -74,11 +74,12 @@ downward-alike fs gs b a down k g h n =
     let e : f .0 .link ≡ g .link = ap (λ (x : Enclosing × ℕ). x .1) (f .2) in
     omega (arith, down k (f .0) (f .1))
 
+pub downward-entered : (fs gs : List Frame) (f : Frame) → Alike (length fs) fs gs → length gs ≡ suc (length fs) → numbered gs (suc (length fs)) ≡ some f → f .link ≤ length fs → Downward fs → Downward gs
+downward-entered fs gs f a c n l down = by-frame fs gs f a c n (λ k g. g .link < k) (downward-alike fs gs (length fs) a down) (omega arith)
+
 pub moved-downward : (s s′ : Stack) → Moved s s′ → Downward (s .frames) → Downward (s′ .frames)
 moved-downward s s′ (kept h a) down = λ k g n. downward-alike (s .frames) (s′ .frames) (length (s′ .frames)) a down k g (numbered-high (s′ .frames) k g n) n
-moved-downward s s′ (entered f c a n x) down =
-    let l : f .link ≤ length (s .frames) = entered-link s f x in
-    by-frame (s .frames) (s′ .frames) f a c n (λ k g. g .link < k) (downward-alike (s .frames) (s′ .frames) (length (s .frames)) a down) (omega arith)
+moved-downward s s′ (entered f c a n x) down = downward-entered (s .frames) (s′ .frames) f a c n (entered-link s f x) down
 
 -- each block stands in its link's
 

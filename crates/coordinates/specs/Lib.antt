@@ -8,3 +8,5 @@ pub mod Declared
 pub mod Coordinates
 pub mod Moves
 pub mod Kept
+pub mod Display
+pub mod Levels

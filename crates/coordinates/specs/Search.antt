@@ -58,7 +58,7 @@ coordinate-high (x ∷ es) n c e = go (coordinate-high es n c) (positionFrom n 1
     go r none q = omega (arith, r (rw (q, coordinateOf) at e))
     go r (some p) q = let h : suc (length es) ≡ c .level = ap (λ (y : Coordinate). y .level) (Option·some-injective _ c (rw (q, coordinateOf) at e)) in omega arith
 
-enclosure-none : (fs : List Frame) (k : ℕ) → numbered fs k ≡ none → enclosureOf fs k ≡ []
+pub enclosure-none : (fs : List Frame) (k : ℕ) → numbered fs k ≡ none → enclosureOf fs k ≡ []
 unfolding enclosureOf
 enclosure-none fs k e = along-none (λ i e. e) k fs k e
 
