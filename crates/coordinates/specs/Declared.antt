@@ -44,17 +44,22 @@ pub level-at : (es : Enclosure) (j : ℕ) → 1 ≤ j → j ≤ length es → at
 unfolding atLevel
 level-at es j p h = numbered-reverse es j p h
 
-declares-here : (e : Enclosing) (es : Enclosure) (n p : ℕ) → positionFrom n 1 (namesOf e) ≡ some p → Declares (e ∷ es) n (record { level = suc (length es); position = p })
-declares-here e es n p q =
+pub level-here : (e : Enclosing) (es : Enclosure) → atLevel (e ∷ es) (suc (length es)) ≡ some e
+level-here e es =
     let z : suc (length es) - suc (length es) ≡ 0 = omega arith in
-    record { low = omega arith; high = omega arith; block = e; stands = level-at (e ∷ es) (suc (length es)) (omega arith) (omega arith) ∙ ap (getElem? (e ∷ es)) z; named = position-named n (namesOf e) p q }
+    level-at (e ∷ es) (suc (length es)) (omega arith) (omega arith) ∙ ap (getElem? (e ∷ es)) z
+
+pub level-further : (e : Enclosing) (es : Enclosure) (j : ℕ) → 1 ≤ j → j ≤ length es → atLevel (e ∷ es) j ≡ atLevel es j
+level-further e es j low high =
+    let z : suc (length es) - j ≡ suc (length es - j) = omega arith in
+    level-at (e ∷ es) j low (omega arith) ∙ ap (getElem? (e ∷ es)) z ∙ sym (level-at es j low high)
+
+declares-here : (e : Enclosing) (es : Enclosure) (n p : ℕ) → positionFrom n 1 (namesOf e) ≡ some p → Declares (e ∷ es) n (record { level = suc (length es); position = p })
+declares-here e es n p q = record { low = omega arith; high = omega arith; block = e; stands = level-here e es; named = position-named n (namesOf e) p q }
 
 declares-further : (e : Enclosing) (es : Enclosure) (n : ℕ) (c : Coordinate) → Declares es n c → Declares (e ∷ es) n c
 declares-further e es n c d =
-    let low : 1 ≤ c .level = d .low in
-    let high : c .level ≤ length es = d .high in
-    let z : suc (length es) - c .level ≡ suc (length es - c .level) = omega arith in
-    record { low = low; high = omega arith; block = d .block; stands = level-at (e ∷ es) (c .level) low (omega arith) ∙ ap (getElem? (e ∷ es)) z ∙ sym (level-at es (c .level) low high) ∙ d .stands; named = d .named }
+    record { low = d .low; high = omega (arith, d .high); block = d .block; stands = level-further e es (c .level) (d .low) (d .high) ∙ d .stands; named = d .named }
 
 pub coordinate-declares : (es : Enclosure) (n : ℕ) (c : Coordinate) → coordinateOf es n ≡ some c → Declares es n c
 unfolding coordinateOf

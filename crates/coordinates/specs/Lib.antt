@@ -10,3 +10,4 @@ pub mod Moves
 pub mod Kept
 pub mod Display
 pub mod Levels
+pub mod Visible
