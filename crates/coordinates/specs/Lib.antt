@@ -11,3 +11,5 @@ pub mod Kept
 pub mod Display
 pub mod Levels
 pub mod Visible
+pub mod Statement
+pub mod Examples

@@ -79,6 +79,11 @@ module _ {A : Type 0} where
   numbered-zero xs zero h = refl
   numbered-zero xs (suc k) h = absurd (omega arith)
 
+  pub numbered-past : (xs : List A) (k : ℕ) → length xs < k → numbered xs k ≡ none
+  unfolding numbered
+  numbered-past xs zero h = refl
+  numbered-past xs (suc k) h = at-past xs k (omega arith)
+
   pub numbered-low : (xs : List A) (k : ℕ) (a : A) → numbered xs k ≡ some a → 1 ≤ k
   unfolding numbered
   numbered-low xs zero a e = absurd (Option·none-ne-some a e)

@@ -58,9 +58,10 @@ cut-length fs n f g e =
     let k : length (take (pred n) fs) ≡ pred n = length-take-le (pred n) fs (omega arith) in
     length-append (take (pred n) fs) (g ∷ []) ∙ omega arith
 
--- the frames below number n, and another in its place
-pub alike-cut : (fs : List Frame) (n : ℕ) (f g : Frame) → numbered fs n ≡ some f → outline g ≡ outline f → Alike n fs (take (pred n) fs ++ (g ∷ []))
-alike-cut fs n f g e o i h = go (ltb i n) refl
+-- the frames below number n, and in its place another that agrees with it in what `h` reads
+pub cut-at : {B : Type 0} (h : Frame → B) (fs : List Frame) (n : ℕ) (f g : Frame) → numbered fs n ≡ some f → h g ≡ h f
+    → (i : ℕ) → i ≤ n → Option·map h (numbered fs i) ≡ Option·map h (numbered (take (pred n) fs ++ (g ∷ [])) i)
+cut-at {B} h fs n f g e o i p = go (ltb i n) refl
   where
     l : 1 ≤ n
     l = numbered-low fs n f e
@@ -68,15 +69,18 @@ alike-cut fs n f g e o i h = go (ltb i n) refl
     k : length (take (pred n) fs) ≡ pred n
     k = length-take-le (pred n) fs (omega (arith, l, numbered-high fs n f e))
 
-    go : (b : Bool) → ltb i n ≡ b → Option·map outline (numbered fs i) ≡ Option·map outline (numbered (take (pred n) fs ++ (g ∷ [])) i)
+    go : (b : Bool) → ltb i n ≡ b → Option·map h (numbered fs i) ≡ Option·map h (numbered (take (pred n) fs ++ (g ∷ [])) i)
     go true q =
         let j : i ≤ pred n = omega (arith, ltb-true i n q) in
-        ap (Option·map outline) (sym (numbered-append (take (pred n) fs) (g ∷ []) i (omega (arith, k)) ∙ numbered-take (pred n) fs i j))
+        ap (Option·map h) (sym (numbered-append (take (pred n) fs) (g ∷ []) i (omega (arith, k)) ∙ numbered-take (pred n) fs i j))
     go false q =
         let j : i ≡ n = omega (arith, ltb-false i n q) in
         let m : suc (length (take (pred n) fs)) ≡ i = omega (arith, k, l) in
-        ap (Option·map outline) (ap (numbered fs) j ∙ e) ∙ ap {B = Option (Enclosing × ℕ)} some (sym o)
-        ∙ sym (ap (Option·map outline) (ap (numbered (take (pred n) fs ++ (g ∷ []))) (sym m) ∙ numbered-seam (take (pred n) fs) g))
+        ap (Option·map h) (ap (numbered fs) j ∙ e) ∙ ap {B = Option B} some (sym o)
+        ∙ sym (ap (Option·map h) (ap (numbered (take (pred n) fs ++ (g ∷ []))) (sym m) ∙ numbered-seam (take (pred n) fs) g))
+
+pub alike-cut : (fs : List Frame) (n : ℕ) (f g : Frame) → numbered fs n ≡ some f → outline g ≡ outline f → Alike n fs (take (pred n) fs ++ (g ∷ []))
+alike-cut fs n f g e o = cut-at outline fs n f g e o
 
 -- a frame put in its own place
 at-set : (fs : List Frame) (n : ℕ) (f g : Frame) → getElem? fs n ≡ some f → outline g ≡ outline f → (i : ℕ) → Option·map outline (getElem? fs i) ≡ Option·map outline (getElem? (set fs n g) i)
