@@ -6,6 +6,7 @@ pub mod Along
 pub mod Search
 pub mod Declared
 pub mod Coordinates
+pub mod Walk
 pub mod Moves
 pub mod Kept
 pub mod Display

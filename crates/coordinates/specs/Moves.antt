@@ -2,27 +2,24 @@
 -- statement numbers (a store, a return, a goto), or all of them with one frame entered. `step-moved`: a step that acts moves so.
 use Prim.Native.Nat.{ℕ, zero, suc, pred, _-_, _≤_, _<_}
 use native.Mathlib.Omega.{arith}
-use mathlib.Core.Bool.{Bool, true, false, _&&_, cond}
-use mathlib.Core.List.{List, [], _∷_, _++_, map}
+use mathlib.Core.Bool.{Bool, true, false}
+use mathlib.Core.List.{List, [], _∷_, _++_}
 use mathlib.Core.Option.{Option, none, some, Option·map, Option·none-ne-some, Option·some-injective}
 use mathlib.Core.Path.{_≡_, refl, sym, ap, _∙_, subst}
 use borrow.Author.Tests.{ltb-true, ltb-false}
-use lib.Dec.{eqb, leb, ltb}
-use lib.IntN.{ℤ, pos}
+use lib.Dec.{ltb}
+use lib.IntN.{ℤ}
 use lib.ListN.{length, take, set, getElem?, length-append, length-set}
 use lib.Seq.{length-take-le}
-use lib.Signed.{mag}
-use Rattle.language.specs.Basics.{last?, butLast, eqZ}
-use Rattle.language.specs.Text.{Action, CL, GO, IF, KN, AR, AD, RM, QY, Formal, Block, Decl, Stmt, BK, DO, blockDecls, blockStmts, labelIndex, declFormals, declBody, formalKinds}
-use Rattle.language.specs.Scope.{agree}
-use Rattle.language.specs.Table.{Table, holds, size, atLeastOne, full, add, remove}
-use Rattle.language.specs.Machine.{Limits, compute}
-use Rattle.language.specs.declared.Stop.the-variants.{ResultTooLarge, NoActivationLeft, NumberBelowOne, GroupFull, TableFull, ArgumentsDiffer}
-use Rattle.frames.specs.Frame.{Frame, Stack, Acted, acted, halted, numbered, frameNumber, place, declOf, kindOf, wordAt, designates, withFrames, tableChanged, continue, rewritten, putWord, newFrame, pushFrame, callBy, goTo, put, putIfFits, addTo, removeFrom, ask, mapAction, act, actStmt, frameStmt, advanceFrame, actIn, frameStep}
+use Rattle.language.specs.Basics.{last?, butLast}
+use Rattle.language.specs.Text.{Action, CL, GO, IF, KN, AR, AD, RM, QY, Block, Decl, BK, DO, blockDecls, blockStmts, labelIndex, declFormals, declBody}
+use Rattle.language.specs.Machine.{Limits}
+use Rattle.frames.specs.Frame.{Frame, Stack, acted, numbered, frameNumber, place, declOf, designates, withFrames, tableChanged, continue, rewritten, putWord, newFrame, put, mapAction, frameStmt, advanceFrame, frameStep}
 use Rattle.coordinates.specs.Enclosure.{Enclosing}
 use Rattle.coordinates.specs.Chain.{enclosing, outline, Alike}
 use Rattle.coordinates.specs.Lists.{numbered-low, numbered-high, numbered-append, numbered-seam, numbered-take, last-numbered, butLast-take}
 use Rattle.coordinates.specs.Along.{alike-some}
+use Rattle.coordinates.specs.Walk.{After, Moves, Steps, step-by}
 
 -- The statement that comes next is a call of what is declared by d.
 pub record Called (s : Stack) (d : Decl) : Type 0 where
@@ -113,10 +110,6 @@ pub record Same (s u : Stack) : Type 0 where
   pub count : length (u .frames) ≡ length (s .frames)
   pub alike : Alike (length (s .frames)) (s .frames) (u .frames)
 
-abbrev pub After : (Stack → Type 0) → Acted → Type 0
-After P (acted s) = P s
-After P (halted c) = Unit {0}
-
 pub same-refl : (s : Stack) → Same s s
 same-refl s = record { count = refl; alike = λ i h. refl }
 
@@ -150,29 +143,14 @@ module _ (s u : Stack) (same : Same s u) where
       go none e = rw (put, putWord, e) (same-refl u)
       go (some f) e = rw (put, putWord, e) (record { count = length-set (u .frames) (pred (frameNumber x)) _; alike = alike-set (u .frames) (frameNumber x) f _ e (outline-rewritten f _) (length (u .frames)) })
 
-  goto-moved : (x : ℕ) → Moved s (goTo u x)
-  unfolding goTo
-  goto-moved x = go (numbered (u .frames) (frameNumber x)) refl (declOf (u .frames) x) refl
-    where
-      go : (o : Option Frame) → numbered (u .frames) (frameNumber x) ≡ o → (c : Option Decl) → declOf (u .frames) x ≡ c → Moved s (goTo u x)
-      go none e c q = rw (goTo, e) (same-moved u (same-refl u))
-      go (some f) e none q = rw (goTo, e, q) (same-moved u (same-refl u))
-      go (some f) e (some d) q = rw (goTo, e, q) (cut-moved (frameNumber x) f (continue f (labelIndex d)) e (outline-continue f (labelIndex d)))
-
-  push-moved : (l : Limits) (formals : List Formal) (xs : List ℕ) (b : Block) (link : ℕ) → Entered s (newFrame formals xs b link) → After (Moved s) (pushFrame l u formals xs b link)
-  unfolding pushFrame withFrames
-  push-moved l formals xs b link h = go (ltb (length (u .frames)) (l .activations)) refl
-    where
-      f : Frame
-      f = newFrame formals xs b link
-
-      go : (t : Bool) → ltb (length (u .frames)) (l .activations) ≡ t → After (Moved s) (pushFrame l u formals xs b link)
-      go false q = rw (pushFrame, q) tt
-      go true q =
-          let c : length (u .frames) ≡ length (s .frames) = same .count in
-          rw (pushFrame, q) (entered f (length-append (u .frames) (f ∷ []) ∙ omega arith)
-          (λ i p. same .alike i (omega arith) ∙ alike-append (u .frames) (f ∷ []) i (omega arith))
-          (ap (λ n. numbered (u .frames ++ (f ∷ [])) (suc n)) (sym c) ∙ numbered-seam (u .frames) f) h)
+  -- one frame more
+  push-moved : (f : Frame) → Entered s f → Moved s (withFrames u (u .frames ++ (f ∷ [])))
+  unfolding withFrames
+  push-moved f h =
+      let c : length (u .frames) ≡ length (s .frames) = same .count in
+      entered f (length-append (u .frames) (f ∷ []) ∙ omega arith)
+      (λ i p. same .alike i (omega arith) ∙ alike-append (u .frames) (f ∷ []) i (omega arith))
+      (ap (λ n. numbered (u .frames ++ (f ∷ [])) (suc n)) (sym c) ∙ numbered-seam (u .frames) f) h
 
   body-entered : (p : ℕ) (xs : List ℕ) (d : Decl) → declOf (u .frames) p ≡ some d → Called s d → Entered s (newFrame (declFormals d) xs (declBody d) (frameNumber p))
   unfolding newFrame outline enclosing
@@ -183,80 +161,16 @@ module _ (s u : Stack) (same : Same s u) where
       let h = alike-some (u .frames) (s .frames) (frameNumber p) (λ i j. sym (same .alike i (omega arith))) (frameNumber p) (g .0) (omega arith) (g .1) in
       for-body (h .0) (place p - length (g .0 .formals)) d (h .1) (ap (λ (o : Enclosing × ℕ). getElem? (blockDecls (o .0 .text)) (place p - length (g .0 .formals))) (h .2) ∙ g .2) refl refl k
 
-  call-moved : (l : Limits) (p : ℕ) (xs : List ℕ) → ((d : Decl) → declOf (u .frames) p ≡ some d → Called s d) → After (Moved s) (callBy l u p xs)
-  unfolding callBy
-  call-moved l p xs h = go (declOf (u .frames) p) refl
-    where
-      on : (d : Decl) → declOf (u .frames) p ≡ some d → (t : Bool) → agree (formalKinds (declFormals d)) (map (kindOf (u .frames)) xs) ≡ t → After (Moved s) (callBy l u p xs)
-      on d e true q = rw (callBy, e, q) (push-moved l (declFormals d) xs (declBody d) (frameNumber p) (body-entered p xs d e (h d e)))
-      on d e false q = rw (callBy, e, q) tt
-
-      go : (o : Option Decl) → declOf (u .frames) p ≡ o → After (Moved s) (callBy l u p xs)
-      go none e = rw (callBy, e) (same-moved u (same-refl u))
-      go (some d) e = on d e (agree (formalKinds (declFormals d)) (map (kindOf (u .frames)) xs)) refl
-
-  table-moved : (t : Table) → Moved s (tableChanged u t)
+  action-moves : (a : Action) → ((p : ℕ) (xs : List ℕ) (d : Decl) → a ≡ CL p xs → declOf (u .frames) p ≡ some d → Called s d) → Moves (Moved s) u a
   unfolding tableChanged
-  table-moved t = same-moved (tableChanged u t) (record { count = refl; alike = λ i h. refl })
-
-  stay : Moved s u
-  stay = same-moved u (same-refl u)
-
-  put-moved : (x : ℕ) (z : ℤ) → Moved s (put u x z)
-  put-moved x z = same-moved (put u x z) (put-same x z)
-
-  fits-moved : (x : ℕ) (z : ℤ) → After (Moved s) (putIfFits u x z)
-  unfolding putIfFits
-  fits-moved x z = go (ltb (mag z) 2147483648) refl
-    where
-      go : (t : Bool) → ltb (mag z) 2147483648 ≡ t → After (Moved s) (putIfFits u x z)
-      go true q = rw (putIfFits, q) (put-moved x z)
-      go false q = rw (putIfFits, q) tt
-
-  if-moved : (x : ℕ) (z : ℤ) → After (Moved s) (elim (eqZ z (pos 0)) [ true ↦ acted u | false ↦ acted (goTo u x) ])
-  if-moved x z = go (eqZ z (pos 0))
-    where
-      go : (t : Bool) → After (Moved s) (elim t [ true ↦ acted u | false ↦ acted (goTo u x) ])
-      go true = stay
-      go false = goto-moved x
-
-  add-moved : (l : Limits) (g m : ℤ) → After (Moved s) (addTo l u g m)
-  unfolding addTo
-  add-moved l g m = go (atLeastOne g && atLeastOne m) refl (holds g m (u .table)) refl (leb (l .group) (size g (u .table))) refl (full (u .table)) refl
-    where
-      go : (a : Bool) → (atLeastOne g && atLeastOne m) ≡ a → (b : Bool) → holds g m (u .table) ≡ b → (c : Bool) → leb (l .group) (size g (u .table)) ≡ c → (d : Bool) → full (u .table) ≡ d → After (Moved s) (addTo l u g m)
-      go false p b q c r d t = rw (addTo, p) tt
-      go true p true q c r d t = rw (addTo, p, q) stay
-      go true p false q true r d t = rw (addTo, p, q, r) tt
-      go true p false q false r true t = rw (addTo, p, q, r, t) tt
-      go true p false q false r false t = rw (addTo, p, q, r, t) (table-moved (add g m (u .table)))
-
-  remove-moved : (g m : ℤ) → After (Moved s) (removeFrom u g m)
-  unfolding removeFrom
-  remove-moved g m = go (atLeastOne g && atLeastOne m) refl
-    where
-      go : (a : Bool) → (atLeastOne g && atLeastOne m) ≡ a → After (Moved s) (removeFrom u g m)
-      go false p = rw (removeFrom, p) tt
-      go true p = rw (removeFrom, p) (table-moved (remove g m (u .table)))
-
-  ask-moved : (x : ℕ) (g m : ℤ) → After (Moved s) (ask u x g m)
-  unfolding ask
-  ask-moved x g m = go (atLeastOne g && atLeastOne m) refl
-    where
-      go : (a : Bool) → (atLeastOne g && atLeastOne m) ≡ a → After (Moved s) (ask u x g m)
-      go false p = rw (ask, p) tt
-      go true p = rw (ask, p) (put-moved x (cond (holds g m (u .table)) (pos 1) (pos 0)))
-
-  act-moved : (l : Limits) (a : Action) → ((p : ℕ) (xs : List ℕ) (d : Decl) → a ≡ CL p xs → declOf (u .frames) p ≡ some d → Called s d) → After (Moved s) (act l u a)
-  unfolding act
-  act-moved l (CL p xs) h = call-moved l p xs (λ d e. h p xs d refl e)
-  act-moved l (GO x) h = goto-moved x
-  act-moved l (IF v x) h = if-moved x (wordAt (u .frames) v)
-  act-moved l (KN t z) h = put-moved t z
-  act-moved l (AR t o a b) h = fits-moved t (compute o (wordAt (u .frames) a) (wordAt (u .frames) b))
-  act-moved l (AD g m) h = add-moved l (wordAt (u .frames) g) (wordAt (u .frames) m)
-  act-moved l (RM g m) h = remove-moved (wordAt (u .frames) g) (wordAt (u .frames) m)
-  act-moved l (QY t g m) h = ask-moved t (wordAt (u .frames) g) (wordAt (u .frames) m)
+  action-moves a h =
+      record {
+        stays = same-moved u (same-refl u);
+        tabled = λ t. same-moved (tableChanged u t) (record { count = refl; alike = λ i h. refl });
+        stored = λ x z r. same-moved (put u x z) (put-same x z);
+        jumped = λ x f d e q. cut-moved (frameNumber x) f (continue f (labelIndex d)) e (outline-continue f (labelIndex d));
+        called = λ p xs d r e q. push-moved (newFrame (declFormals d) xs (declBody d) (frameNumber p)) (body-entered p xs d e (h p xs d r e));
+      }
 
 -- The step
 
@@ -311,27 +225,14 @@ module _ (s : Stack) (f : Frame) (e : last? (s .frames) ≡ some f) where
   call-called at (RM g m) q p xs d r w = absurd (no-call r)
   call-called at (QY t g m) q p xs d r w = absurd (no-call r)
 
-  stmt-moved : (l : Limits) (x : Stmt) → frameStmt f ≡ some x → After (Moved s) (actStmt l (advanceFrame s f) x)
-  unfolding actStmt
-  stmt-moved l (BK b) q = push-moved s (advanceFrame s f) advance-same l [] [] b (length ((advanceFrame s f) .frames)) (block-entered b q)
-  stmt-moved l (DO at a) q = act-moved s (advanceFrame s f) advance-same l (mapAction (designates ((advanceFrame s f) .frames)) a) (λ p xs d r w. call-called at a q p xs d r w)
-
-  in-moved : (l : Limits) → After (Moved s) (actIn l s f)
-  unfolding actIn
-  in-moved l = go (frameStmt f) refl
-    where
-      go : (o : Option Stmt) → frameStmt f ≡ o → After (Moved s) (actIn l s f)
-      go none q = rw (actIn, q) leave-moved
-      go (some x) q = rw (actIn, q) (stmt-moved l x q)
-
--- after a step, where it did not stop
-pub after-step : (l : Limits) (s : Stack) → After (Moved s) (frameStep l s)
-unfolding frameStep
-after-step l s = go (last? (s .frames)) refl
-  where
-    go : (o : Option Frame) → last? (s .frames) ≡ o → After (Moved s) (frameStep l s)
-    go none e = rw (frameStep, e) (stay s s (same-refl s))
-    go (some f) e = rw (frameStep, e) (in-moved s f e l)
+step-moves : (s : Stack) → Steps (Moved s) s
+step-moves s =
+    record {
+      over = λ e. same-moved s s (same-refl s) s (same-refl s);
+      returned = λ f e q. leave-moved s f e;
+      opened = λ f b e q. push-moved s (advanceFrame s f) (advance-same s f e) (newFrame [] [] b (length ((advanceFrame s f) .frames))) (block-entered s f e b q);
+      done = λ f at a e q. action-moves s (advanceFrame s f) (advance-same s f e) (mapAction (designates ((advanceFrame s f) .frames)) a) (call-called s f e at a q);
+    }
 
 pub step-moved : (l : Limits) (s s′ : Stack) → frameStep l s ≡ acted s′ → Moved s s′
-step-moved l s s′ e = subst (After (Moved s)) e (after-step l s)
+step-moved l s s′ e = subst (After (Moved s)) e (step-by (Moved s) s l (step-moves s))
