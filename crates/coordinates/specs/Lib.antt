@@ -13,4 +13,5 @@ pub mod Display
 pub mod Levels
 pub mod Visible
 pub mod Statement
+pub mod Designated
 pub mod Examples

@@ -3,8 +3,8 @@ use Prim.Native.Nat.{ℕ, zero, suc, pred, _-_, _≤_, _<_}
 use native.Mathlib.Omega.{arith}
 use borrow.Author.Tests.{ltb-true, ltb-false}
 use mathlib.Core.Bool.{Bool, true, false}
-use mathlib.Core.List.{List, [], _∷_, _++_, reverse, reverse-cons}
-use mathlib.Core.Option.{Option, none, some, Option·none-ne-some, Option·some-injective}
+use mathlib.Core.List.{List, [], _∷_, _++_, map, reverse, reverse-cons}
+use mathlib.Core.Option.{Option, none, some, Option·map, Option·none-ne-some, Option·some-injective}
 use mathlib.Core.Path.{_≡_, refl, sym, ap, _∙_, subst}
 use lib.Dec.{ltb}
 use lib.Seq.{take-all, take-append-le}
@@ -144,3 +144,20 @@ module _ {A : Type 0} where
   butLast-take [] = refl
   butLast-take (x ∷ []) = refl
   butLast-take (x ∷ y ∷ ys) = ap (λ (l : List A). x ∷ l) (butLast-take (y ∷ ys))
+
+  pub at-after : (xs ys : List A) (i : ℕ) → length xs ≤ i → getElem? (xs ++ ys) i ≡ getElem? ys (i - length xs)
+  at-after [] ys i h = let e : i ≡ i - 0 = omega arith in ap (getElem? ys) e
+  at-after (x ∷ xs) ys zero h = absurd (omega arith)
+  at-after (x ∷ xs) ys (suc i) h =
+      let e : i - length xs ≡ suc i - suc (length xs) = omega arith in
+      at-after xs ys i (omega arith) ∙ ap (getElem? ys) e
+
+  pub at-getD : (xs : List A) (i : ℕ) (a d : A) → getElem? xs i ≡ some a → getD xs i d ≡ a
+  at-getD [] i a d e = absurd (Option·none-ne-some a e)
+  at-getD (x ∷ xs) zero a d e = Option·some-injective x a e
+  at-getD (x ∷ xs) (suc i) a d e = at-getD xs i a d e
+
+pub at-map : {A B : Type 0} (h : A → B) (xs : List A) (i : ℕ) → getElem? (map h xs) i ≡ Option·map h (getElem? xs i)
+at-map h [] i = refl
+at-map h (x ∷ xs) zero = refl
+at-map h (x ∷ xs) (suc i) = at-map h xs i
