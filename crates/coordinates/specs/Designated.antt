@@ -53,7 +53,7 @@ unfolding meaningsOf
 meaning-of-formal e p x q low h =
     let l = length-map (e .formals) formalMeaning in
     (map-eq-some-iff formalMeaning (getElem? (e .formals) (p - 1))) .0
-      (sym (at-map formalMeaning (e .formals) (p - 1)) ∙ sym (at-append (map formalMeaning (e .formals)) (map declMeaning (blockDecls (e .text))) (p - 1) (omega (arith, l))) ∙ sym (numbered-at (meaningsOf e) p low) ∙ q)
+    (sym (at-map formalMeaning (e .formals) (p - 1)) ∙ sym (at-append (map formalMeaning (e .formals)) (map declMeaning (blockDecls (e .text))) (p - 1) (omega (arith, l))) ∙ sym (numbered-at (meaningsOf e) p low) ∙ q)
 
 meaning-of-decl : (e : Enclosing) (p : ℕ) (x : ℕ × Meaning) → numbered (meaningsOf e) p ≡ some x → length (e .formals) < p → (d : Decl) × (getElem? (blockDecls (e .text)) (p - 1 - length (e .formals)) ≡ some d) × (declMeaning d ≡ x)
 unfolding meaningsOf
@@ -61,8 +61,8 @@ meaning-of-decl e p x q h =
     let l = length-map (e .formals) formalMeaning in
     let i : p - 1 - length (map formalMeaning (e .formals)) ≡ p - 1 - length (e .formals) = ap (λ n. p - 1 - n) l in
     (map-eq-some-iff declMeaning (getElem? (blockDecls (e .text)) (p - 1 - length (e .formals)))) .0
-      (sym (at-map declMeaning (blockDecls (e .text)) (p - 1 - length (e .formals))) ∙ ap (getElem? (map declMeaning (blockDecls (e .text)))) (sym i)
-        ∙ sym (at-after (map formalMeaning (e .formals)) (map declMeaning (blockDecls (e .text))) (p - 1) (omega (arith, l))) ∙ sym (numbered-at (meaningsOf e) p (omega arith)) ∙ q)
+    (sym (at-map declMeaning (blockDecls (e .text)) (p - 1 - length (e .formals))) ∙ ap (getElem? (map declMeaning (blockDecls (e .text)))) (sym i)
+    ∙ sym (at-after (map formalMeaning (e .formals)) (map declMeaning (blockDecls (e .text))) (p - 1) (omega (arith, l))) ∙ sym (numbered-at (meaningsOf e) p (omega arith)) ∙ q)
 
 formal-kind : (f : Formal) (n : ℕ) (m : Meaning) → formalMeaning f ≡ (n, m) → f .kind ≡ m .kind
 unfolding formalMeaning
@@ -127,7 +127,7 @@ instance-designated fs wired k p j g n m e q s true l =
     let f = meaning-of-formal (enclosing g) p (n, m) q (numbered-low (meaningsOf (enclosing g)) p (n, m) q) (leb-true p (length (g .formals)) l) in
     let w = wired k g e (p - 1) (f .0) (f .1) in
     subst (Designated fs (finally fs (instanceAt k p j))) (formal-kind (f .0) n m (f .2))
-      (subst (λ x. Designated fs x (f .0 .kind)) (sym (finally-formal fs k p j g (w .designator) e l (w .word))) (w .instance))
+    (subst (λ x. Designated fs x (f .0 .kind)) (sym (finally-formal fs k p j g (w .designator) e l (w .word))) (w .instance))
 instance-designated fs wired k p j g n m e q s false l =
     subst (λ x. Designated fs x (m .kind)) (sym (finally-declared fs k p j g e l)) (own-designated fs k p g n m e q (leb-false p (length (g .formals)) l) s)
 
@@ -142,7 +142,7 @@ designates-kind t h fs chain wired n m at =
     let few = names-bound t h fs chain k (d .frame) (d .stands) in
     let high = numbered-high (frameNames (d .frame)) (c .position) n (d .named) in
     subst (λ x. Designated fs x (m .kind)) (sym (designates-by-links fs down n c (at .found)))
-      (instance-designated fs wired k (c .position) (levelOf fs (length fs) - c .level) (d .frame) n m (d .stands) means (omega arith) (leb (c .position) (length (d .frame .formals))) refl)
+    (instance-designated fs wired k (c .position) (levelOf fs (length fs) - c .level) (d .frame) n m (d .stands) means (omega arith) (leb (c .position) (length (d .frame .formals))) refl)
 
 -- the scope in which the innermost frame's statements stand
 pub statement-scoped : (t : Block) → Keeps t → (fs : List Frame) → Chained t fs → (f : Frame) (at : ℕ) (a : Action) → last? fs ≡ some f → frameStmt f ≡ some (DO at a) → ScopedAction a (scopeOf (enclosureOf fs (length fs)))

@@ -55,7 +55,7 @@ entered-link s f (for-body g i d n b e t c) = numbered-high (s .frames) (f .link
 
 module _ (fs gs : List Frame) (f : Frame) (a : Alike (length fs) fs gs) (c : length gs ≡ suc (length fs)) (e : numbered gs (suc (length fs)) ≡ some f) where
   -- a property of each frame of gs: of those alike by one argument, of the new one by another
-  by-frame : (P : ℕ → Frame → Type 0) → ((k : ℕ) (g : Frame) → k ≤ length fs → numbered gs k ≡ some g → P k g) → P (suc (length fs)) f → (k : ℕ) (g : Frame) → numbered gs k ≡ some g → P k g
+  pub by-frame : (P : ℕ → Frame → Type 0) → ((k : ℕ) (g : Frame) → k ≤ length fs → numbered gs k ≡ some g → P k g) → P (suc (length fs)) f → (k : ℕ) (g : Frame) → numbered gs k ≡ some g → P k g
   by-frame P old new k g n = go (leb k (length fs)) refl
     where
       go : (b : Bool) → leb k (length fs) ≡ b → P k g

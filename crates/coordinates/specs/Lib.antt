@@ -14,4 +14,5 @@ pub mod Levels
 pub mod Visible
 pub mod Statement
 pub mod Designated
+pub mod Wiring
 pub mod Examples

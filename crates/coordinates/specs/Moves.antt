@@ -79,19 +79,22 @@ cut-at {B} h fs n f g e o i p = go (ltb i n) refl
 pub alike-cut : (fs : List Frame) (n : ℕ) (f g : Frame) → numbered fs n ≡ some f → outline g ≡ outline f → Alike n fs (take (pred n) fs ++ (g ∷ []))
 alike-cut fs n f g e o = cut-at outline fs n f g e o
 
--- a frame put in its own place
-at-set : (fs : List Frame) (n : ℕ) (f g : Frame) → getElem? fs n ≡ some f → outline g ≡ outline f → (i : ℕ) → Option·map outline (getElem? fs i) ≡ Option·map outline (getElem? (set fs n g) i)
-at-set [] n f g e o i = refl
-at-set (x ∷ fs) zero f g e o zero = ap {B = Option (Enclosing × ℕ)} some (ap outline (Option·some-injective x f e) ∙ sym o)
-at-set (x ∷ fs) zero f g e o (suc i) = refl
-at-set (x ∷ fs) (suc n) f g e o zero = refl
-at-set (x ∷ fs) (suc n) f g e o (suc i) = at-set fs n f g e o i
+-- a frame put in the place of one that it agrees with
+place-set : {B : Type 0} (h : Frame → B) (fs : List Frame) (n : ℕ) (f g : Frame) → getElem? fs n ≡ some f → h g ≡ h f → (i : ℕ) → Option·map h (getElem? fs i) ≡ Option·map h (getElem? (set fs n g) i)
+place-set h [] n f g e o i = refl
+place-set {B} h (x ∷ fs) zero f g e o zero = ap {B = Option B} some (ap h (Option·some-injective x f e) ∙ sym o)
+place-set h (x ∷ fs) zero f g e o (suc i) = refl
+place-set h (x ∷ fs) (suc n) f g e o zero = refl
+place-set h (x ∷ fs) (suc n) f g e o (suc i) = place-set h fs n f g e o i
+
+pub set-at : {B : Type 0} (h : Frame → B) (fs : List Frame) (n : ℕ) (f g : Frame) → numbered fs n ≡ some f → h g ≡ h f → (i : ℕ) → Option·map h (numbered fs i) ≡ Option·map h (numbered (set fs (pred n) g) i)
+unfolding numbered
+set-at h fs n f g e o zero = refl
+set-at h fs zero f g e o (suc i) = absurd (Option·none-ne-some f e)
+set-at h fs (suc n) f g e o (suc i) = place-set h fs n f g e o i
 
 pub alike-set : (fs : List Frame) (n : ℕ) (f g : Frame) → numbered fs n ≡ some f → outline g ≡ outline f → (b : ℕ) → Alike b fs (set fs (pred n) g)
-unfolding numbered
-alike-set fs n f g e o b zero h = refl
-alike-set fs zero f g e o b (suc i) h = absurd (Option·none-ne-some f e)
-alike-set fs (suc n) f g e o b (suc i) h = at-set fs n f g e o i
+alike-set fs n f g e o b i h = set-at outline fs n f g e o i
 
 -- a store, and a frame's next statement
 
@@ -174,7 +177,7 @@ module _ (s u : Stack) (same : Same s u) where
 
 -- The step
 
-abbrev IsCall : Action → Type 0
+abbrev pub IsCall : Action → Type 0
 IsCall (CL p xs) = Unit {0}
 IsCall (GO l) = ⊥
 IsCall (IF v l) = ⊥
@@ -184,7 +187,7 @@ IsCall (AD g m) = ⊥
 IsCall (RM g m) = ⊥
 IsCall (QY t g m) = ⊥
 
-no-call : {a : Action} {p : ℕ} {xs : List ℕ} → a ≡ CL p xs → IsCall a
+pub no-call : {a : Action} {p : ℕ} {xs : List ℕ} → a ≡ CL p xs → IsCall a
 no-call r = subst IsCall (sym r) tt
 
 module _ (s : Stack) (f : Frame) (e : last? (s .frames) ≡ some f) where

@@ -49,11 +49,11 @@ level-alike fs gs b a down k h = ap length (along-alike fs gs b a down (λ i e. 
 abbrev pub advanced : List Frame → Frame → ℕ → List Frame
 advanced fs f i = butLast fs ++ (continue f i ∷ [])
 
-advanced-length : (fs : List Frame) (f : Frame) (i : ℕ) → last? fs ≡ some f → length (advanced fs f i) ≡ length fs
+pub advanced-length : (fs : List Frame) (f : Frame) (i : ℕ) → last? fs ≡ some f → length (advanced fs f i) ≡ length fs
 advanced-length fs f i e = rw butLast-take (cut-length fs (length fs) f (continue f i) (sym (last-numbered fs) ∙ e))
 
 -- what `h` reads of each frame, unless it reads the statement number
-advanced-at : {B : Type 0} (h : Frame → B) (fs : List Frame) (f : Frame) (i : ℕ) → last? fs ≡ some f → h (continue f i) ≡ h f → (k : ℕ) → Option·map h (numbered fs k) ≡ Option·map h (numbered (advanced fs f i) k)
+pub advanced-at : {B : Type 0} (h : Frame → B) (fs : List Frame) (f : Frame) (i : ℕ) → last? fs ≡ some f → h (continue f i) ≡ h f → (k : ℕ) → Option·map h (numbered fs k) ≡ Option·map h (numbered (advanced fs f i) k)
 advanced-at h fs f i e o k = go (leb k (length fs)) refl
   where
     n : numbered fs (length fs) ≡ some f
