@@ -40,6 +40,14 @@ pub climb-zero : (fs : List Frame) (k : ℕ) → climb fs k 0 ≡ k
 unfolding climb
 climb-zero fs k = refl
 
+pub climb-bound : (fs : List Frame) → Downward fs → (k j : ℕ) → climb fs k j ≤ k
+climb-bound fs down k zero = omega (arith, climb-zero fs k)
+climb-bound fs down k (suc j) = go (λ i. climb-bound fs down i j) (numbered fs k) refl
+  where
+    go : ((i : ℕ) → climb fs i j ≤ i) → (o : Option Frame) → numbered fs k ≡ o → climb fs k (suc j) ≤ k
+    go r none e = omega (arith, climb-none fs k j e)
+    go r (some f) e = omega (arith, climb-some fs k j f e, r (f .link), down k f e)
+
 -- frames that are alike
 
 module _ (fs gs : List Frame) (b : ℕ) (same : Alike b fs gs) where

@@ -44,6 +44,15 @@ module _ (fs : List Frame) (down : Downward fs) where
       let e : levelOf fs k ≡ length (enclosureOf fs k) = level-of-text fs k in
       rw e (sym (level-at (enclosureOf fs k) j p (omega arith) ∙ along-at (λ i x. x) fs down k (length (enclosureOf fs k) - j)))
 
+  -- there is such a frame
+  pub frame-of-level : (k j : ℕ) → 1 ≤ j → j ≤ levelOf fs k → (g : Frame) × (numbered fs (climb fs k (levelOf fs k - j)) ≡ some g)
+  frame-of-level k j p h =
+      let es = enclosureOf fs k in
+      let l = level-of-text fs k in
+      let x = at-exists es (length es - j) (omega arith) in
+      let g = (map-eq-some-iff enclosing (numbered fs (climb fs k (levelOf fs k - j)))) .0 (frame-by-links k j p h ∙ level-at es j p (omega arith) ∙ x .1) in
+      (g .0, g .1)
+
   pub frame-by-display : (k j : ℕ) → 1 ≤ j → j ≤ levelOf fs k → numbered (displayFrom fs k) j ≡ some (climb fs k (levelOf fs k - j))
   unfolding displayFrom chainOf levelOf
   frame-by-display k j p h =

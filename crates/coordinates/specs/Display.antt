@@ -4,11 +4,12 @@
 -- Return: `display-after-return` (the display of the frame below). Goto: `display-after-goto` (that of the label's frame).
 -- Stores and statement numbers: `display-after-store`, `display-after-advance`: nothing changes. `display-prefix`: the display of a
 -- frame so many levels deep on the chain is a prefix, so that a called procedure or a label found by its own name at level j leaves the
--- first j entries. `entry-new`, `entries-kept`, `entries-shared` say it entry by entry, and `display-after-step` of a step.
+-- first j entries. `entry-new`, `entries-kept`, `entries-shared` say it entry by entry, `displays-meet` that
+-- two displays with one frame at a level agree up to there, and `display-after-step` what a step does.
 use Prim.Native.Nat.{ℕ, zero, suc, pred, _-_, _≤_, _<_}
 use native.Mathlib.Omega.{arith}
 use mathlib.Core.List.{List, [], _∷_, _++_, reverse, reverse-cons}
-use mathlib.Core.Option.{Option, none, some}
+use mathlib.Core.Option.{Option, none, some, Option·some-injective}
 use mathlib.Core.Path.{_≡_, refl, sym, ap, _∙_}
 use lib.IntN.{ℤ}
 use lib.ListN.{length, take, set, length-append, length-set, length-reverse}
@@ -19,8 +20,9 @@ use Rattle.language.specs.Machine.{Limits}
 use Rattle.frames.specs.Frame.{Frame, Stack, acted, numbered, frameNumber, place, continue, rewritten, putWord, newFrame, frameStep}
 use Rattle.coordinates.specs.Enclosure.{Enclosing}
 use Rattle.coordinates.specs.Chain.{enclosing, along, outline, Alike, chainOf, levelOf, climb, displayFrom, displayOf, Downward}
-use Rattle.coordinates.specs.Lists.{last-numbered, butLast-take, reverse-drop, numbered-seam, numbered-append, numbered-take}
-use Rattle.coordinates.specs.Along.{along-alike, along-step, along-climb}
+use Rattle.coordinates.specs.Lists.{numbered-low, numbered-high, last-numbered, butLast-take, reverse-drop, numbered-seam, numbered-append, numbered-take}
+use Rattle.coordinates.specs.Along.{climb-bound, along-alike, along-step, along-climb}
+use Rattle.coordinates.specs.Coordinates.{frame-of-level, frame-by-display}
 use Rattle.coordinates.specs.Moves.{alike-append, alike-take, alike-cut, alike-set, cut-length, outline-continue, outline-rewritten, Moved, kept, entered, step-moved}
 use Rattle.coordinates.specs.Kept.{entered-link, downward-entered}
 
@@ -37,6 +39,10 @@ display-step fs down k f e = ap reverse (along-step (λ i e. i) fs down k f e) �
 pub display-length : (fs : List Frame) (k : ℕ) → length (displayFrom fs k) ≡ levelOf fs k
 unfolding displayFrom levelOf
 display-length fs k = length-reverse (chainOf fs k)
+
+pub level-step : (fs : List Frame) → Downward fs → (k : ℕ) (f : Frame) → numbered fs k ≡ some f → levelOf fs k ≡ suc (levelOf fs (f .link))
+unfolding levelOf chainOf
+level-step fs down k f e = ap length (along-step (λ i e. i) fs down k f e)
 
 module _ (fs : List Frame) (down : Downward fs) where
   display-of : (gs : List Frame) (k : ℕ) → length gs ≡ k → Alike k fs gs → displayOf gs ≡ displayFrom fs k
@@ -105,6 +111,26 @@ module _ (fs : List Frame) (down : Downward fs) where
   -- the frame of level i on the chain of frame k has the same entries up to i
   pub entries-shared : (k i : ℕ) → i ≤ levelOf fs k → (j : ℕ) → j ≤ i → numbered (displayFrom fs (climb fs k (levelOf fs k - i))) j ≡ numbered (displayFrom fs k) j
   entries-shared k i h j p = ap (λ (l : List ℕ). numbered l j) (display-prefix k i h) ∙ numbered-take i (displayFrom fs k) j p
+
+  -- an entry's own display is what stands up to it, so that two displays that meet at a level are the same up to there
+  pub display-up-to : (k j m : ℕ) → numbered (displayFrom fs k) j ≡ some m → take j (displayFrom fs k) ≡ displayFrom fs m
+  display-up-to k j m e =
+      let low = numbered-low (displayFrom fs k) j m e in
+      let high : j ≤ levelOf fs k = omega (arith, numbered-high (displayFrom fs k) j m e, display-length fs k) in
+      let same : climb fs k (levelOf fs k - j) ≡ m = Option·some-injective (climb fs k (levelOf fs k - j)) m (sym (frame-by-display fs down k j low high) ∙ e) in
+      sym (display-prefix k j high) ∙ ap (displayFrom fs) same
+
+  pub displays-meet : (k l j m : ℕ) → numbered (displayFrom fs k) j ≡ some m → numbered (displayFrom fs l) j ≡ some m → take j (displayFrom fs k) ≡ take j (displayFrom fs l)
+  displays-meet k l j m p q = display-up-to k j m p ∙ sym (display-up-to l j m q)
+
+  -- every entry is a frame's number, at most that of the frame whose display it is
+  pub entry-bound : (k j m : ℕ) → numbered (displayFrom fs k) j ≡ some m → (1 ≤ m) × (m ≤ k)
+  entry-bound k j m e =
+      let low = numbered-low (displayFrom fs k) j m e in
+      let high : j ≤ levelOf fs k = omega (arith, numbered-high (displayFrom fs k) j m e, display-length fs k) in
+      let same : climb fs k (levelOf fs k - j) ≡ m = Option·some-injective (climb fs k (levelOf fs k - j)) m (sym (frame-by-display fs down k j low high) ∙ e) in
+      let g = frame-of-level fs down k j low high in
+      (omega (arith, numbered-low fs (climb fs k (levelOf fs k - j)) (g .0) (g .1)), omega (arith, climb-bound fs down k (levelOf fs k - j)))
 
 -- The display after a step: that of a frame that was there (a store, a return, a goto), or an entered frame's.
 pub data Redisplayed (s s′ : Stack) : Type 0 where
