@@ -79,11 +79,11 @@ decl-kind d n m e = decl-meaning-kind d ∙ ap (λ (x : ℕ × Meaning). x .1 .k
 
 -- a declared name's designator, taken apart
 
-number-of : (k p : ℕ) → p < 64 → frameNumber (k * 64 + p) ≡ k
+pub number-of : (k p : ℕ) → p < 64 → frameNumber (k * 64 + p) ≡ k
 unfolding frameNumber
 number-of k p h = omega arith
 
-place-of : (k p : ℕ) → p < 64 → place (k * 64 + p) ≡ p - 1
+pub place-of : (k p : ℕ) → p < 64 → place (k * 64 + p) ≡ p - 1
 unfolding place
 place-of k p h =
     let e : (k * 64 + p) % 64 ≡ p = omega arith in
@@ -110,13 +110,13 @@ own-designated fs k p g n m e q h s =
 
 -- a formal's word, and a declared name
 
-finally-formal : (fs : List Frame) (k p j : ℕ) (g : Frame) (x : ℕ) → numbered fs k ≡ some g → leb p (length (g .formals)) ≡ true → getElem? (g .words) (p - 1) ≡ some (pos x) → finally fs (instanceAt k p j) ≡ x
+pub finally-formal : (fs : List Frame) (k p j : ℕ) (g : Frame) (x : ℕ) → numbered fs k ≡ some g → leb p (length (g .formals)) ≡ true → getElem? (g .words) (p - 1) ≡ some (pos x) → finally fs (instanceAt k p j) ≡ x
 unfolding finally designatorIn
 finally-formal fs k p j g x e l w =
     let i : pred p ≡ p - 1 = omega arith in
     rw (finally, e, l) (ap (λ (z : ℤ). designatorIn z) (ap (λ n. getD (g .words) n (pos 0)) i ∙ at-getD (g .words) (p - 1) (pos x) (pos 0) w))
 
-finally-declared : (fs : List Frame) (k p j : ℕ) (g : Frame) → numbered fs k ≡ some g → leb p (length (g .formals)) ≡ false → finally fs (instanceAt k p j) ≡ k * 64 + p
+pub finally-declared : (fs : List Frame) (k p j : ℕ) (g : Frame) → numbered fs k ≡ some g → leb p (length (g .formals)) ≡ false → finally fs (instanceAt k p j) ≡ k * 64 + p
 unfolding finally
 finally-declared fs k p j g e l = rw (finally, e, l)
 

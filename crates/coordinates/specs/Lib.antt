@@ -15,4 +15,6 @@ pub mod Visible
 pub mod Statement
 pub mod Designated
 pub mod Wiring
+pub mod Own
+pub mod Sized
 pub mod Examples
