@@ -17,4 +17,5 @@ pub mod Designated
 pub mod Wiring
 pub mod Own
 pub mod Sized
+pub mod Index
 pub mod Examples
