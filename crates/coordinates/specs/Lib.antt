@@ -18,4 +18,5 @@ pub mod Wiring
 pub mod Own
 pub mod Sized
 pub mod Index
+pub mod Accepted
 pub mod Examples
