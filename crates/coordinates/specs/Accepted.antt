@@ -1,11 +1,11 @@
 -- All of it for a script that the check accepts, with no other condition. `accepted-sound`: every state of a run is `Sound`, its frames linked as
 -- the text says and formals' words right. `names-found`: for each name of the statement that comes next, its coordinate, with what the
 -- search, the links and the display make of it. `accepted-level`: no frame lies deeper than level 16.
-use Prim.Native.Nat.{ℕ, suc, pred, _-_, _≤_, _<_}
+use Prim.Native.Nat.{ℕ, pred, _-_, _≤_}
 use native.Mathlib.Omega.{arith}
-use mathlib.Core.List.{List, [], _∷_}
-use mathlib.Core.Option.{Option, none, some}
-use mathlib.Core.Path.{_≡_, sym, _∙_}
+use mathlib.Core.List.{List}
+use mathlib.Core.Option.{some}
+use mathlib.Core.Path.{_≡_}
 use lib.ListN.{length, getD}
 use Rattle.language.specs.Basics.{last?}
 use Rattle.language.specs.Text.{Action, Block, DO}
@@ -18,9 +18,9 @@ use Rattle.grammar.specs.Exact.{accepts-exactly}
 use Rattle.frames.specs.Frame.{Frame, numbered, frameNames, seekName, finally, designates, linksFollowed, frameStmt, frameRun, frameStart}
 use Rattle.coordinates.specs.Enclosure.{Coordinate, coordinateOf}
 use Rattle.coordinates.specs.Chain.{enclosureOf, levelOf, climb, displayOf}
-use Rattle.coordinates.specs.Lists.{numbered-low, numbered-high, last-numbered}
+use Rattle.coordinates.specs.Lists.{numbered-low, numbered-high}
 use Rattle.coordinates.specs.Declared.{coordinate-declares}
-use Rattle.coordinates.specs.Coordinates.{level-of-text, instanceAt, DeclaringFrame, declaring-frame, found, designates-by-links, designates-by-display, links-counted}
+use Rattle.coordinates.specs.Coordinates.{level-of-text, instanceAt, DeclaringFrame, declaring-frame, found, designates-by-display, links-counted}
 use Rattle.coordinates.specs.Kept.{chained-downward}
 use Rattle.coordinates.specs.Levels.{level-bound, names-bound}
 use Rattle.coordinates.specs.Visible.{actionNames, Located, each-map}

@@ -10,7 +10,7 @@ use lib.ListN.{length, drop, getElem?}
 use Rattle.frames.specs.Frame.{Frame, numbered}
 use Rattle.coordinates.specs.Enclosure.{Enclosing}
 use Rattle.coordinates.specs.Chain.{enclosing, along, climb, Downward, outline, Alike}
-use Rattle.coordinates.specs.Lists.{numbered-zero, numbered-low}
+use Rattle.coordinates.specs.Lists.{numbered-zero}
 
 -- one frame more
 

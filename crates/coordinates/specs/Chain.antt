@@ -3,7 +3,7 @@
 -- `Chained t` is what a run of the script t keeps true of its frames.
 use Prim.Native.Nat.{ℕ, zero, suc, _≤_, _<_}
 use mathlib.Core.List.{List, [], _∷_, reverse}
-use mathlib.Core.Option.{Option, none, some, Option·map}
+use mathlib.Core.Option.{none, some, Option·map}
 use mathlib.Core.Path.{_≡_}
 use lib.ListN.{length}
 use Rattle.language.specs.Text.{Block}

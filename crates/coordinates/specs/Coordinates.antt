@@ -4,15 +4,15 @@
 -- `frame-by-display`: it is the display's entry j; `declaring-frame`: at c's level it has the name at c's position;
 -- `sought-by-links`: the search ends there, at c's position, after so many links;
 -- `designates-by-links`, `designates-by-display`: and so for the designator; `hidden`: a name without coordinate designates nothing.
-use Prim.Native.Nat.{ℕ, zero, suc, pred, _+_, _-_, _≤_, _<_}
+use Prim.Native.Nat.{ℕ, pred, _+_, _-_, _≤_}
 use native.Mathlib.Omega.{arith}
-use mathlib.Core.List.{List, reverse}
+use mathlib.Core.List.{List}
 use mathlib.Core.Option.{Option, none, some, Option·map, Option·none-ne-some, map-eq-some-iff}
 use mathlib.Core.Path.{_≡_, refl, sym, ap, _∙_, subst}
 use lib.ListN.{length, getD, getElem?}
 use Rattle.frames.specs.Frame.{Frame, Place, numbered, frameNames, seekFrom, seekName, finally, designates, linksFollowed}
-use Rattle.coordinates.specs.Enclosure.{Enclosing, Enclosure, Coordinate, namesOf, coordinateOf, outward, atLevel}
-use Rattle.coordinates.specs.Chain.{enclosing, along, chainOf, enclosureOf, levelOf, climb, displayFrom, displayOf, Downward}
+use Rattle.coordinates.specs.Enclosure.{Enclosing, Coordinate, namesOf, coordinateOf, outward, atLevel}
+use Rattle.coordinates.specs.Chain.{enclosing, chainOf, enclosureOf, levelOf, climb, displayFrom, displayOf, Downward}
 use Rattle.coordinates.specs.Lists.{numbered-reverse, numbered-getD, at-exists}
 use Rattle.coordinates.specs.Along.{along-at, along-length}
 use Rattle.coordinates.specs.Search.{placeFrom, sought}

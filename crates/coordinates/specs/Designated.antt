@@ -2,27 +2,26 @@
 -- declared instance of kind k; `Wired fs` as: every formal's word is one, of the formal's kind and in a frame further out (a run keeps
 -- that: Wiring.antt). `designates-kind`: a name with a coordinate designates an instance of its kind. `calls-procedures`: so what is
 -- called is always a procedure.
-use Prim.Native.Nat.{ℕ, zero, suc, pred, _+_, _*_, _-_, _/_, _%_, _≤_, _<_}
+use Prim.Native.Nat.{ℕ, pred, _+_, _*_, _-_, _%_, _≤_, _<_}
 use native.Mathlib.Omega.{arith}
 use mathlib.Core.Bool.{Bool, true, false}
-use mathlib.Core.List.{List, [], _∷_, _++_, map}
-use mathlib.Core.Option.{Option, none, some, Option·map, map-eq-some-iff, Option·none-ne-some, Option·some-injective}
+use mathlib.Core.List.{List, map}
+use mathlib.Core.Option.{some, map-eq-some-iff, Option·some-injective}
 use mathlib.Core.Path.{_≡_, refl, sym, ap, _∙_, subst}
 use borrow.Author.Tests.{leb-true, leb-false}
 use lib.Dec.{leb}
 use lib.IntN.{ℤ, pos}
 use lib.ListN.{length, getD, getElem?, length-map}
 use Rattle.language.specs.Basics.{last?, lookup}
-use Rattle.language.specs.Text.{Kind, variable, label, procedure, Formal, Action, CL, Block, Decl, VR, LB, PR, DO, blockDecls, declKind}
-use Rattle.language.specs.Scope.{Meaning, Scope, formalMeaning, declMeaning}
+use Rattle.language.specs.Text.{Kind, procedure, Formal, Action, CL, Block, Decl, VR, LB, PR, DO, blockDecls, declKind}
+use Rattle.language.specs.Scope.{Meaning, formalMeaning, declMeaning}
 use Rattle.grammar.specs.Rules.{Is, ScopedAction, Keeps}
-use Rattle.frames.specs.Frame.{Frame, Stack, Place, numbered, frameNames, designatorIn, finally, designates, frameNumber, place, declOf, frameStmt}
-use Rattle.coordinates.specs.Enclosure.{Enclosing, Enclosure, Coordinate, Encloses}
-use Rattle.coordinates.specs.Chain.{enclosing, enclosureOf, levelOf, climb, Downward, Chained}
+use Rattle.frames.specs.Frame.{Frame, Stack, numbered, frameNames, designatorIn, finally, designates, frameNumber, place, declOf, frameStmt}
+use Rattle.coordinates.specs.Enclosure.{Enclosing, Enclosure, Encloses}
+use Rattle.coordinates.specs.Chain.{enclosing, enclosureOf, levelOf, climb, Chained}
 use Rattle.coordinates.specs.Lists.{at-append, at-after, at-map, at-getD, numbered-at, numbered-low, numbered-high, last-numbered}
 use Rattle.coordinates.specs.Search.{enclosure-step}
-use Rattle.coordinates.specs.Coordinates.{instanceAt, DeclaringFrame, declaring-frame, designates-by-links}
-use Rattle.coordinates.specs.Moves.{Called}
+use Rattle.coordinates.specs.Coordinates.{instanceAt, declaring-frame, designates-by-links}
 use Rattle.coordinates.specs.Kept.{Procedures, chained-downward}
 use Rattle.coordinates.specs.Levels.{enclosure-of-text, names-bound}
 use Rattle.coordinates.specs.Visible.{meaningsOf, scopeOf, Located, visible-coordinate, scoped-action}

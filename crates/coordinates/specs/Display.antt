@@ -6,7 +6,7 @@
 -- frame so many levels deep on the chain is a prefix, so that a called procedure or a label found by its own name at level j leaves the
 -- first j entries. `entry-new`, `entries-kept`, `entries-shared` say it entry by entry, `displays-meet` that
 -- two displays with one frame at a level agree up to there, and `display-after-step` what a step does.
-use Prim.Native.Nat.{ℕ, zero, suc, pred, _-_, _≤_, _<_}
+use Prim.Native.Nat.{ℕ, suc, pred, _-_, _≤_}
 use native.Mathlib.Omega.{arith}
 use mathlib.Core.List.{List, [], _∷_, _++_, reverse, reverse-cons}
 use mathlib.Core.Option.{Option, none, some, Option·some-injective}
@@ -15,11 +15,10 @@ use lib.IntN.{ℤ}
 use lib.ListN.{length, take, set, length-append, length-set, length-reverse}
 use lib.Seq.{length-take-le}
 use Rattle.language.specs.Basics.{last?, butLast}
-use Rattle.language.specs.Text.{Formal, Block, labelIndex}
+use Rattle.language.specs.Text.{Formal, Block}
 use Rattle.language.specs.Machine.{Limits}
 use Rattle.frames.specs.Frame.{Frame, Stack, acted, numbered, frameNumber, place, continue, rewritten, putWord, newFrame, frameStep}
-use Rattle.coordinates.specs.Enclosure.{Enclosing}
-use Rattle.coordinates.specs.Chain.{enclosing, along, outline, Alike, chainOf, levelOf, climb, displayFrom, displayOf, Downward}
+use Rattle.coordinates.specs.Chain.{along, Alike, chainOf, levelOf, climb, displayFrom, displayOf, Downward}
 use Rattle.coordinates.specs.Lists.{numbered-low, numbered-high, last-numbered, butLast-take, reverse-drop, numbered-seam, numbered-append, numbered-take}
 use Rattle.coordinates.specs.Along.{climb-bound, along-alike, along-step, along-climb}
 use Rattle.coordinates.specs.Coordinates.{frame-of-level, frame-by-display}

@@ -1,8 +1,8 @@
 -- Sample script B after nine steps: procedure 6 runs, declared in activation 2 and called from activation 3. Its chain passes by
 -- activation 3, and its name 5 is at level 2, position 2.
-use Prim.Native.Nat.{ℕ, zero, suc}
+use Prim.Native.Nat.{ℕ}
 use mathlib.Core.List.{List, [], _∷_}
-use mathlib.Core.Option.{Option, none, some}
+use mathlib.Core.Option.{Option, some}
 use mathlib.Core.Path.{_≡_, refl}
 use Rattle.language.specs.Check.{Checked, accepted, refused, check}
 use Rattle.language.specs.Samples.{noPairs, script-B}

@@ -1,23 +1,22 @@
 -- Links and blocks stay right. `start-chained`: a run of the script t begins with frames that are `Chained t`; `step-chained`: a step keeps
 -- that, if what a call names is declared as a procedure (`Procedures`; an accepted script sees to it); `run-chained`: so does a whole run.
 -- That links go down needs no such condition: `step-downward`, `run-downward`. `run-keeps` is for any property of the stack.
-use Prim.Native.Nat.{ℕ, zero, suc, pred, _-_, _≤_, _<_}
+use Prim.Native.Nat.{ℕ, zero, suc, _≤_, _<_}
 use native.Mathlib.Omega.{arith}
 use mathlib.Core.Bool.{Bool, true, false}
-use mathlib.Core.List.{List, [], _∷_, _++_}
-use mathlib.Core.Option.{Option, none, some, Option·none-ne-some, Option·some-injective}
+use mathlib.Core.List.{List, [], _∷_}
+use mathlib.Core.Option.{some, Option·none-ne-some, Option·some-injective}
 use mathlib.Core.Path.{_≡_, refl, sym, ap, _∙_, subst, subst₂}
 use borrow.Author.Tests.{leb-true, leb-false}
 use lib.Dec.{leb}
 use lib.ListN.{length, getElem?}
-use Rattle.language.specs.Text.{Kind, variable, label, procedure, Formal, Block, block, Decl, VR, LB, PR, BK, no-decl, no-stmt, blockDecls, blockStmts, declKind, declFormals, declBody}
+use Rattle.language.specs.Text.{procedure, Block, Decl, VR, LB, PR, blockDecls, declKind, declFormals, declBody}
 use Rattle.language.specs.Table.{Table}
 use Rattle.language.specs.Machine.{Limits}
-use Rattle.language.specs.declared.End.the-variants.{Finished, Spent, Stopped}
-use Rattle.frames.specs.Frame.{Frame, Stack, Acted, acted, halted, numbered, newFrame, stepped, frameStep, frameOffset, results, frameRun, frameStart}
+use Rattle.frames.specs.Frame.{Frame, Stack, Acted, acted, halted, numbered, newFrame, stepped, frameStep, results, frameRun, frameStart}
 use Rattle.coordinates.specs.Enclosure.{Enclosing, StandsIn, as-block, as-body, whole}
 use Rattle.coordinates.specs.Chain.{enclosing, outline, Alike, Downward, Linked, outermost, within, Chained}
-use Rattle.coordinates.specs.Lists.{numbered-low, numbered-high}
+use Rattle.coordinates.specs.Lists.{numbered-high}
 use Rattle.coordinates.specs.Along.{alike-some}
 use Rattle.coordinates.specs.Moves.{Called, Entered, for-block, for-body, Moved, kept, entered, step-moved}
 

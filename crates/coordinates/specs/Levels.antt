@@ -1,13 +1,13 @@
 -- A frame's enclosure is one of the text, and an accepted script's are at most 16 deep with at most 32 names a block.
 -- `enclosure-of-text`: the blocks along a frame's links enclose one another in the script. `level-bound`, `names-bound`: for a script that
 -- keeps the rules (Keeps, of grammar: what the check accepts) a frame's level is from 1 to 16, and a block has at most 32 names.
-use Prim.Native.Nat.{ℕ, zero, suc, _+_, _*_, _≤_, _<_}
+use Prim.Native.Nat.{ℕ, zero, suc, _+_, _*_, _≤_}
 use native.Mathlib.Omega.{arith}
 use mathlib.Core.List.{List, [], _∷_, _++_, map}
-use mathlib.Core.Option.{Option, none, some, Option·none-ne-some, Option·some-injective}
-use mathlib.Core.Path.{_≡_, refl, sym, ap, _∙_, subst, subst₂}
+use mathlib.Core.Option.{some, Option·none-ne-some, Option·some-injective}
+use mathlib.Core.Path.{_≡_, sym, ap, _∙_, subst}
 use lib.ListN.{length, getElem?, length-append, length-map}
-use Rattle.language.specs.Text.{Formal, Block, block, Decl, VR, LB, PR, Stmt, BK, DO, Decls, no-decl, decl, Stmts, no-stmt, stmt, decls, stmts, blockDecls, blockStmts, declName, formalNames, declaredNames}
+use Rattle.language.specs.Text.{Formal, Block, block, Decl, PR, Stmt, BK, Decls, no-decl, decl, Stmts, no-stmt, stmt, decls, stmts, blockDecls, blockStmts, declName, formalNames, declaredNames}
 use Rattle.language.specs.Encoding.{formalsFields, declFields, stmtFields, declsFields}
 use Rattle.grammar.specs.Rules.{FormedBlock, FormedDecl, FormedStmt, FormedDecls, FormedStmts, Keeps}
 use Rattle.frames.specs.Frame.{Frame, numbered, frameNames}

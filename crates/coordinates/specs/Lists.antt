@@ -4,11 +4,11 @@ use native.Mathlib.Omega.{arith}
 use borrow.Author.Tests.{ltb-true, ltb-false}
 use mathlib.Core.Bool.{Bool, true, false}
 use mathlib.Core.List.{List, [], _∷_, _++_, map, reverse, reverse-cons}
-use mathlib.Core.Option.{Option, none, some, Option·map, Option·none-ne-some, Option·some-injective}
-use mathlib.Core.Path.{_≡_, refl, sym, ap, _∙_, subst}
+use mathlib.Core.Option.{none, some, Option·map, Option·none-ne-some, Option·some-injective}
+use mathlib.Core.Path.{_≡_, refl, sym, ap, _∙_}
 use lib.Dec.{ltb}
 use lib.Seq.{take-all, take-append-le}
-use lib.ListN.{length, take, drop, getD, getElem?, length-append, length-reverse}
+use lib.ListN.{length, take, drop, getD, getElem?, length-reverse}
 use Rattle.language.specs.Basics.{last?, butLast}
 use Rattle.frames.specs.Frame.{numbered}
 

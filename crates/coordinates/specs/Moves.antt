@@ -1,6 +1,6 @@
 -- What a step does to blocks and links. Read `Moved fs gs` as: gs are the frames fs up to some number, changed at most in their words and
 -- statement numbers (a store, a return, a goto), or all of them with one frame entered. `step-moved`: a step that acts moves so.
-use Prim.Native.Nat.{ℕ, zero, suc, pred, _-_, _≤_, _<_}
+use Prim.Native.Nat.{ℕ, zero, suc, pred, _-_, _≤_}
 use native.Mathlib.Omega.{arith}
 use mathlib.Core.Bool.{Bool, true, false}
 use mathlib.Core.List.{List, [], _∷_, _++_}

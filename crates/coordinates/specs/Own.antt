@@ -2,17 +2,17 @@
 -- the formals of the block. `own-name`: a declared name's designator is frame number times 64 plus position; `own-word`: its word is the
 -- frame's at that position; `own-display`: a body or label found so is entered with the first entries of the display, as many as its
 -- level. `formal-name`: a formal's word is the designator.
-use Prim.Native.Nat.{ℕ, suc, pred, _+_, _*_, _-_, _≤_, _<_}
+use Prim.Native.Nat.{ℕ, pred, _+_, _*_, _-_, _≤_, _<_}
 use native.Mathlib.Omega.{arith}
 use mathlib.Core.Bool.{true}
 use mathlib.Core.List.{List}
-use mathlib.Core.Option.{Option, none, some}
-use mathlib.Core.Path.{_≡_, refl, sym, ap, _∙_}
+use mathlib.Core.Option.{some}
+use mathlib.Core.Path.{_≡_, ap, _∙_}
 use borrow.Author.Tests.{le-leb, lt-leb}
 use lib.Dec.{leb}
-use lib.IntN.{ℤ, pos}
+use lib.IntN.{pos}
 use lib.ListN.{length, getD, take}
-use Rattle.frames.specs.Frame.{Frame, Place, numbered, designatorIn, finally, designates, frameNumber, place, wordAt}
+use Rattle.frames.specs.Frame.{Frame, numbered, designatorIn, finally, designates, frameNumber, place, wordAt}
 use Rattle.coordinates.specs.Enclosure.{Coordinate, coordinateOf}
 use Rattle.coordinates.specs.Chain.{enclosureOf, levelOf, climb, displayFrom, displayOf, Downward}
 use Rattle.coordinates.specs.Declared.{coordinate-declares}

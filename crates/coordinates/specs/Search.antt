@@ -1,17 +1,17 @@
 -- The search along the links and the coordinate: `sought` says that searching for n from frame k finds what the coordinate of n in k's
 -- enclosure says, and nothing where it has none. It asks of the frames only that links go down.
-use Prim.Native.Nat.{ℕ, zero, suc, pred, _+_, _-_, _≤_, _<_}
+use Prim.Native.Nat.{ℕ, zero, suc, _+_, _-_, _≤_, _<_}
 use native.Mathlib.Omega.{arith}
-use mathlib.Core.List.{List, [], _∷_, _++_, reverse}
-use mathlib.Core.Option.{Option, none, some, Option·map, Option·none-ne-some, Option·some-injective}
-use mathlib.Core.Path.{_≡_, refl, sym, ap, _∙_, subst}
-use lib.ListN.{length, getD, getElem?}
+use mathlib.Core.List.{List, [], _∷_, _++_}
+use mathlib.Core.Option.{Option, none, some, Option·none-ne-some, Option·some-injective}
+use mathlib.Core.Path.{_≡_, refl, sym, ap, _∙_}
+use lib.ListN.{length}
 use Rattle.language.specs.Text.{formalNames, declaredNames}
-use Rattle.frames.specs.Frame.{Frame, Place, numbered, frameNames, positionFrom, seekFrom, seekName, finally, designates, linksFollowed}
+use Rattle.frames.specs.Frame.{Frame, Place, numbered, frameNames, positionFrom, seekFrom}
 use Rattle.coordinates.specs.Enclosure.{Enclosing, Enclosure, Coordinate, namesOf, coordinateOf, outward}
-use Rattle.coordinates.specs.Chain.{enclosing, along, chainOf, enclosureOf, levelOf, climb, displayFrom, displayOf, Downward, outline, Alike}
-use Rattle.coordinates.specs.Lists.{numbered-zero, numbered-reverse}
-use Rattle.coordinates.specs.Along.{along-none, along-step, along-at, along-length, climb-zero, climb-some, alike-none, alike-some}
+use Rattle.coordinates.specs.Chain.{enclosing, enclosureOf, climb, Downward, outline, Alike}
+use Rattle.coordinates.specs.Lists.{numbered-zero}
+use Rattle.coordinates.specs.Along.{along-none, along-step, climb-zero, climb-some, alike-none, alike-some}
 
 -- what a coordinate says of a search from frame k that has followed j links
 unfoldable pub placeFrom : List Frame → ℕ → ℕ → Option Coordinate → Option Place

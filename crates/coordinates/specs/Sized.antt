@@ -1,25 +1,25 @@
 -- One word a name. `Sized fs`: every frame has as many words as its block has names, formals included; a run of any script keeps that
 -- (`step-sized`, `run-sized`), so that the word at a coordinate's position is there.
-use Prim.Native.Nat.{ℕ, zero, suc, pred, _+_, _≤_, _<_}
+use Prim.Native.Nat.{ℕ, suc, pred, _+_, _≤_}
 use native.Mathlib.Omega.{arith}
-use mathlib.Core.Bool.{true, false, false≢true, and-eq-true-iff}
+use mathlib.Core.Bool.{true, false≢true, and-eq-true-iff}
 use mathlib.Core.List.{List, [], _∷_, _++_, map}
-use mathlib.Core.Option.{Option, none, some, Option·map, map-eq-some-iff, Option·none-ne-some}
+use mathlib.Core.Option.{Option, none, some, Option·map, map-eq-some-iff}
 use mathlib.Core.Path.{_≡_, refl, sym, ap, _∙_, subst, ap₂}
 use lib.IntN.{ℤ, pos}
 use lib.ListN.{length, take, set, length-append, length-map, length-set}
 use lib.Seq.{length-take-le}
 use Rattle.language.specs.Basics.{last?, butLast}
-use Rattle.language.specs.Text.{Kind, Formal, Action, Block, Decl, DO, blockDecls, declName, declFormals, declBody, labelIndex, formalNames, formalKinds, declaredNames, sameKind}
+use Rattle.language.specs.Text.{Kind, Formal, Action, Block, Decl, blockDecls, declName, declFormals, declBody, labelIndex, formalNames, formalKinds, declaredNames, sameKind}
 use Rattle.language.specs.Scope.{agree}
 use Rattle.language.specs.Table.{Table}
 use Rattle.language.specs.Machine.{Limits}
-use Rattle.frames.specs.Frame.{Frame, Stack, acted, numbered, frameNames, frameNumber, place, declOf, kindOf, designates, continue, rewritten, putWord, put, newFrame, zeroWords, withFrames, tableChanged, stepped, mapAction, advanceFrame, frameStmt, frameStep, frameRun, frameStart}
+use Rattle.frames.specs.Frame.{Frame, Stack, acted, numbered, frameNames, frameNumber, place, kindOf, designates, continue, rewritten, putWord, put, newFrame, zeroWords, withFrames, tableChanged, stepped, mapAction, advanceFrame, frameStep, frameRun, frameStart}
 use Rattle.coordinates.specs.Lists.{numbered-low, numbered-high, numbered-append, numbered-seam, numbered-take, butLast-take}
 use Rattle.coordinates.specs.Walk.{After, Moves, Steps, step-by}
 use Rattle.coordinates.specs.Moves.{cut-at, cut-length, set-at, alike-append}
 use Rattle.coordinates.specs.Kept.{by-frame, run-keeps}
-use Rattle.coordinates.specs.Statement.{advanced, advanced-at, advanced-length}
+use Rattle.coordinates.specs.Statement.{advanced, advanced-at}
 
 abbrev pub Sized : List Frame → Type 0
 Sized fs = (k : ℕ) (f : Frame) → numbered fs k ≡ some f → length (f .words) ≡ length (frameNames f)

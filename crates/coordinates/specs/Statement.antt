@@ -1,23 +1,23 @@
 -- The statement that comes next, by coordinates. `statement-coordinates`: for a script that keeps the rules, each name of the next
 -- statement has a coordinate in the innermost frame's enclosure. `designates-advanced`, `declared-advanced`: setting the statement
 -- number on, which the machine does before it looks names up, changes nothing of what they stand for.
-use Prim.Native.Nat.{ℕ, zero, suc, pred, _*_, _+_, _-_, _≤_, _<_}
+use Prim.Native.Nat.{ℕ, suc, pred, _*_, _+_, _-_, _≤_, _<_}
 use native.Mathlib.Omega.{arith}
 use mathlib.Core.Bool.{Bool, true, false}
 use mathlib.Core.List.{List, [], _∷_, _++_}
-use mathlib.Core.Option.{Option, none, some, Option·map, Option·none-ne-some, Option·some-injective}
+use mathlib.Core.Option.{Option, none, some, Option·map}
 use mathlib.Core.Path.{_≡_, refl, sym, ap, _∙_, subst}
 use borrow.Author.Tests.{leb-true, leb-false}
 use lib.Dec.{leb}
 use lib.IntN.{ℤ, pos}
-use lib.ListN.{length, getD, getElem?, take}
+use lib.ListN.{length, getD, getElem?}
 use Rattle.language.specs.Basics.{last?, butLast}
-use Rattle.language.specs.Text.{Action, Formal, Block, Decl, DO, blockDecls, blockStmts}
+use Rattle.language.specs.Text.{Action, Formal, Block, Decl, DO, blockDecls}
 use Rattle.language.specs.Scope.{Meaning}
 use Rattle.grammar.specs.Rules.{Each, Keeps}
 use Rattle.frames.specs.Frame.{Frame, Stack, Place, numbered, seekFrom, seekName, designatorIn, finally, designates, frameNumber, place, declOf, continue, withFrames, advanceFrame, frameStmt}
 use Rattle.coordinates.specs.Enclosure.{Enclosing, Enclosure, Encloses}
-use Rattle.coordinates.specs.Chain.{enclosing, along, chainOf, enclosureOf, levelOf, outline, Alike, Downward, Chained}
+use Rattle.coordinates.specs.Chain.{enclosing, chainOf, enclosureOf, levelOf, outline, Alike, Downward, Chained}
 use Rattle.coordinates.specs.Lists.{numbered-past, last-numbered, butLast-take}
 use Rattle.coordinates.specs.Along.{along-alike}
 use Rattle.coordinates.specs.Search.{seek-alike, enclosure-step}

@@ -1,7 +1,7 @@
 -- Every name that an accepted script uses has a coordinate. `names-have-coordinates`: the names of a statement have one in the statement's
 -- enclosure, worked out from the text alone; `visible-coordinate`: a visible name's coordinate leads to the formal or declaration
 -- that gives it its meaning, so that its kind is known from the text too.
-use Prim.Native.Nat.{ℕ, zero, suc, _-_, _≤_, _<_}
+use Prim.Native.Nat.{ℕ, zero, suc, _-_, _≤_}
 use native.Mathlib.Omega.{arith}
 use mathlib.Core.Bool.{Bool, true, false}
 use mathlib.Core.List.{List, [], _∷_, _++_, map, append-assoc}

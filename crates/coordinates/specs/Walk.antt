@@ -1,6 +1,6 @@
 -- What a step can do, move by move. `action-by`: what holds after each move that an action can make holds after the action, if it acts;
 -- `step-by` says so of a step.
-use Prim.Native.Nat.{ℕ, zero, suc, pred}
+use Prim.Native.Nat.{ℕ, pred}
 use mathlib.Core.Bool.{Bool, true, false, _&&_, cond}
 use mathlib.Core.List.{List, [], _∷_, _++_, map}
 use mathlib.Core.Option.{Option, none, some}

@@ -1,14 +1,14 @@
 -- The words of formals stay right in a run of a script that keeps the rules. Read `Sound t fs` as: the frames fs are linked as the text t
 -- says (`Chained`) and every formal's word designates an instance of its kind (`Wired`). `step-sound`: a step keeps it; `run-sound`: every
 -- state of a run of a script that keeps the rules has it, with no other condition.
-use Prim.Native.Nat.{ℕ, zero, suc, pred, _-_, _≤_, _<_}
+use Prim.Native.Nat.{ℕ, zero, suc, pred, _≤_, _<_}
 use native.Mathlib.Omega.{arith}
-use mathlib.Core.Bool.{Bool, true, false, _&&_, false≢true, and-eq-true-iff}
+use mathlib.Core.Bool.{true, false≢true, and-eq-true-iff}
 use mathlib.Core.List.{List, [], _∷_, _++_, map}
 use mathlib.Core.Option.{Option, none, some, Option·map, map-eq-some-iff, Option·none-ne-some, Option·some-injective}
 use mathlib.Core.Path.{_≡_, refl, sym, ap, _∙_, subst}
 use lib.IntN.{ℤ, pos}
-use lib.ListN.{length, take, set, getElem?, length-append, length-map, length-set}
+use lib.ListN.{length, take, set, getElem?, length-append, length-map}
 use lib.Seq.{length-take-le, take-set-le}
 use Rattle.language.specs.Basics.{last?, butLast, lookup}
 use Rattle.language.specs.Text.{Kind, variable, label, procedure, Formal, Action, CL, GO, IF, KN, AR, AD, RM, QY, Block, Decl, DO, declKind, declFormals, declBody, formalKinds, labelIndex, sameKind}
@@ -19,7 +19,7 @@ use Rattle.grammar.specs.Rules.{Each, Visible, Is, ScopedAction, Keeps}
 use Rattle.frames.specs.Frame.{Frame, Stack, acted, numbered, designates, frameNumber, place, declOf, kindOf, continue, rewritten, putWord, put, newFrame, zeroWords, withFrames, tableChanged, stepped, mapAction, advanceFrame, frameStmt, frameStep, frameRun, frameStart}
 use Rattle.coordinates.specs.Enclosure.{Enclosing}
 use Rattle.coordinates.specs.Chain.{enclosing, enclosureOf, outline, Alike, Chained}
-use Rattle.coordinates.specs.Lists.{at-within, at-take, at-append, at-map, numbered-low, numbered-high, numbered-append, numbered-seam, numbered-take, last-numbered, butLast-take}
+use Rattle.coordinates.specs.Lists.{at-within, at-take, at-append, at-map, numbered-low, numbered-high, numbered-append, numbered-seam, numbered-take, butLast-take}
 use Rattle.coordinates.specs.Along.{alike-some}
 use Rattle.coordinates.specs.Walk.{After, targetOf, Moves, Steps, step-by}
 use Rattle.coordinates.specs.Moves.{cut-at, cut-length, set-at, no-call}
