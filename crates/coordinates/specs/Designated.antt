@@ -17,13 +17,12 @@ use Rattle.language.specs.Text.{Kind, procedure, Formal, Action, CL, Block, Dec
 use Rattle.language.specs.Scope.{Meaning, formalMeaning, declMeaning}
 use Rattle.grammar.specs.Rules.{Is, ScopedAction, Keeps}
 use Rattle.frames.specs.Frame.{Frame, Stack, numbered, frameNames, designatorIn, finally, designates, frameNumber, place, declOf, frameStmt}
-use Rattle.coordinates.specs.Enclosure.{Enclosing, Enclosure, Encloses}
+use Rattle.coordinates.specs.Enclosure.{Enclosing}
 use Rattle.coordinates.specs.Chain.{enclosing, enclosureOf, levelOf, climb, Chained}
-use Rattle.coordinates.specs.Lists.{at-append, at-after, at-map, at-getD, numbered-at, numbered-low, numbered-high, last-numbered}
-use Rattle.coordinates.specs.Search.{enclosure-step}
+use Rattle.coordinates.specs.Lists.{at-append, at-after, at-map, at-getD, numbered-at, numbered-low, numbered-high}
 use Rattle.coordinates.specs.Coordinates.{instanceAt, declaring-frame, designates-by-links}
 use Rattle.coordinates.specs.Kept.{Procedures, chained-downward}
-use Rattle.coordinates.specs.Levels.{enclosure-of-text, names-bound}
+use Rattle.coordinates.specs.Levels.{in-innermost, names-bound}
 use Rattle.coordinates.specs.Visible.{meaningsOf, scopeOf, Located, visible-coordinate, scoped-action}
 use Rattle.coordinates.specs.Statement.{called-here}
 
@@ -147,10 +146,7 @@ designates-kind t h fs chain wired n m at =
 pub statement-scoped : (t : Block) → Keeps t → (fs : List Frame) → Chained t fs → (f : Frame) (at : ℕ) (a : Action) → last? fs ≡ some f → frameStmt f ≡ some (DO at a) → ScopedAction a (scopeOf (enclosureOf fs (length fs)))
 unfolding frameStmt enclosing
 statement-scoped t h fs chain f at a e q =
-    let n : numbered fs (length fs) ≡ some f = sym (last-numbered fs) ∙ e in
-    let s = enclosure-step fs (chained-downward t fs chain) (length fs) f n in
-    let w = subst (Encloses t) s (enclosure-of-text t fs chain (length fs) f n) in
-    subst (λ (es : Enclosure). ScopedAction a (scopeOf es)) (sym s) (scoped-action t h (enclosing f) (enclosureOf fs (f .link)) w (pred (f .next)) at a q)
+    in-innermost t fs chain f e (λ es. ScopedAction a (scopeOf es)) (λ es w. scoped-action t h (enclosing f) es w (pred (f .next)) at a q)
 
 pub name-designated : (t : Block) → Keeps t → (fs : List Frame) → Chained t fs → Wired fs → (n : ℕ) (m : Meaning) → lookup n (scopeOf (enclosureOf fs (length fs))) ≡ some m → Designated fs (designates fs n) (m .kind)
 name-designated t h fs chain wired n m e = designates-kind t h fs chain wired n m (visible-coordinate (enclosureOf fs (length fs)) n m e)

@@ -14,6 +14,9 @@ pub record Enclosing : Type 0 where
   pub formals : List Formal
   pub text : Block
 
+abbrev pub enclosed : List Formal → Block → Enclosing
+enclosed fs b = record { formals = fs; text = b }
+
 abbrev pub Enclosure : Type 0
 Enclosure = List Enclosing
 
@@ -44,7 +47,7 @@ pub data StandsIn (e : Enclosing) (t : Block) : Type 0 where
   as-body : (i at n : ℕ) → getElem? (blockDecls t) i ≡ some (PR at n (e .formals) (e .text)) → StandsIn e t
 
 unfoldable pub whole : Block → Enclosing
-whole t = record { formals = []; text = t }
+whole t = enclosed [] t
 
 abbrev pub Encloses : Block → Enclosure → Type 0
 Encloses t [] = ⊥

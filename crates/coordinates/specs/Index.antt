@@ -6,20 +6,17 @@ use native.Mathlib.Omega.{arith}
 use mathlib.Core.List.{List, [], _∷_, _++_, map, List·Memᴰ, List·Memᴰ·head, List·Memᴰ·not-nil, List·Memᴰ·cases-cons, Memᴰ·append-left, Memᴰ·append-right}
 use mathlib.Core.Logic.{_⊎_, inl, inr}
 use mathlib.Core.Option.{Option, some, Option·none-ne-some, Option·some-injective}
-use mathlib.Core.Path.{_≡_, refl, sym, ap, _∙_, subst}
+use mathlib.Core.Path.{_≡_, refl, sym, ap, subst}
 use borrow.Author.Tests.{eq-eqb, ne-eqb}
 use lib.ListN.{length, getElem?, length-append}
 use Rattle.language.specs.Basics.{last?, lookup}
 use Rattle.language.specs.Text.{Formal, Action, CL, GO, IF, KN, AR, AD, RM, QY, Block, block, Decl, VR, LB, PR, Stmt, BK, DO, Decls, no-decl, decl, Stmts, no-stmt, stmt, decls, stmts, blockDecls, blockStmts}
 use Rattle.language.specs.Encoding.{actionFields, formalsFields, blockFields, declFields, stmtFields, declsFields, stmtsFields}
 use Rattle.grammar.specs.Rules.{FormedBlock, FormedDecl, FormedStmt, FormedDecls, FormedStmts, Keeps}
-use Rattle.frames.specs.Frame.{Frame, numbered, frameStmt}
-use Rattle.coordinates.specs.Enclosure.{Enclosing, Enclosure, Coordinate, coordinateOf, StandsIn, as-block, as-body, whole, Encloses}
+use Rattle.frames.specs.Frame.{Frame, frameStmt}
+use Rattle.coordinates.specs.Enclosure.{Enclosing, enclosed, Enclosure, Coordinate, coordinateOf, StandsIn, as-block, as-body, whole, Encloses}
 use Rattle.coordinates.specs.Chain.{enclosing, enclosureOf, Chained}
-use Rattle.coordinates.specs.Lists.{last-numbered}
-use Rattle.coordinates.specs.Search.{enclosure-step}
-use Rattle.coordinates.specs.Kept.{chained-downward}
-use Rattle.coordinates.specs.Levels.{enclosure-of-text}
+use Rattle.coordinates.specs.Levels.{in-innermost}
 use Rattle.coordinates.specs.Visible.{actionNames}
 
 -- a statement's offset, and the coordinates of its names in the paper's order
@@ -33,7 +30,7 @@ coordinates es a = map (coordinateOf es) (actionNames a)
 unfoldable mutual
   pub indexBlock : Block → List Formal → Enclosure → List Entry
   indexBlock (block at ds ss) fs es =
-      indexDecls ds (record { formals = fs; text = block at ds ss } ∷ es) ++ indexStmts ss (record { formals = fs; text = block at ds ss } ∷ es)
+      indexDecls ds (enclosed fs (block at ds ss) ∷ es) ++ indexStmts ss (enclosed fs (block at ds ss) ∷ es)
 
   pub indexDecl : Decl → Enclosure → List Entry
   indexDecl (VR at n) es = []
@@ -68,9 +65,6 @@ unfolding decls indexBlock
 listed-decl no-decl es i d x e m = absurd (Option·none-ne-some d e)
 listed-decl (decl y ds) es zero d x e m = Memᴰ·append-left (indexDecls ds es) (subst (λ (z : Decl). List·Memᴰ x (indexDecl z es)) (sym (Option·some-injective y d e)) m)
 listed-decl (decl y ds) es (suc i) d x e m = Memᴰ·append-right (indexDecl y es) (listed-decl ds es i d x e m)
-
-abbrev enclosed : List Formal → Block → Enclosing
-enclosed fs b = record { formals = fs; text = b }
 
 in-stmt : (b : Block) (fs : List Formal) (es : Enclosure) (i : ℕ) (s : Stmt) (x : Entry) → getElem? (blockStmts b) i ≡ some s → List·Memᴰ x (indexStmt s (enclosed fs b ∷ es)) → List·Memᴰ x (indexBlock b fs es)
 unfolding blockStmts indexBlock
@@ -194,7 +188,4 @@ indexed t h e es w i at a q = span-lookup 0 (0 + 2 * length (blockFields t)) (in
 pub indexed-next : (t : Block) → Keeps t → (fs : List Frame) → Chained t fs → (f : Frame) (at : ℕ) (a : Action) → last? fs ≡ some f → frameStmt f ≡ some (DO at a) → lookup at (indexOf t) ≡ some (coordinates (enclosureOf fs (length fs)) a)
 unfolding frameStmt enclosing
 indexed-next t h fs chain f at a e q =
-    let n : numbered fs (length fs) ≡ some f = sym (last-numbered fs) ∙ e in
-    let s = enclosure-step fs (chained-downward t fs chain) (length fs) f n in
-    let w = subst (Encloses t) s (enclosure-of-text t fs chain (length fs) f n) in
-    subst (λ (es : Enclosure). lookup at (indexOf t) ≡ some (coordinates es a)) (sym s) (indexed t h (enclosing f) (enclosureOf fs (f .link)) w (pred (f .next)) at a q)
+    in-innermost t fs chain f e (λ es. lookup at (indexOf t) ≡ some (coordinates es a)) (λ es w. indexed t h (enclosing f) es w (pred (f .next)) at a q)

@@ -7,13 +7,14 @@ use mathlib.Core.List.{List, [], _∷_, _++_, map}
 use mathlib.Core.Option.{some, Option·none-ne-some, Option·some-injective}
 use mathlib.Core.Path.{_≡_, sym, ap, _∙_, subst}
 use lib.ListN.{length, getElem?, length-append, length-map}
+use Rattle.language.specs.Basics.{last?}
 use Rattle.language.specs.Text.{Formal, Block, block, Decl, PR, Stmt, BK, Decls, no-decl, decl, Stmts, no-stmt, stmt, decls, stmts, blockDecls, blockStmts, declName, formalNames, declaredNames}
 use Rattle.language.specs.Encoding.{formalsFields, declFields, stmtFields, declsFields}
 use Rattle.grammar.specs.Rules.{FormedBlock, FormedDecl, FormedStmt, FormedDecls, FormedStmts, Keeps}
 use Rattle.frames.specs.Frame.{Frame, numbered, frameNames}
 use Rattle.coordinates.specs.Enclosure.{Enclosing, Enclosure, StandsIn, as-block, as-body, whole, Encloses, namesOf}
 use Rattle.coordinates.specs.Chain.{enclosing, enclosureOf, levelOf, Downward, Linked, outermost, within, Chained}
-use Rattle.coordinates.specs.Lists.{numbered-zero}
+use Rattle.coordinates.specs.Lists.{numbered-zero, last-numbered}
 use Rattle.coordinates.specs.Search.{enclosure-none, enclosure-step}
 use Rattle.coordinates.specs.Coordinates.{level-of-text}
 use Rattle.coordinates.specs.Kept.{chained-downward}
@@ -38,6 +39,16 @@ encloses-by t fs chain (suc m) k f h e = go (λ j g p n. encloses-by t fs chain 
 
 pub enclosure-of-text : (t : Block) (fs : List Frame) → Chained t fs → (k : ℕ) (f : Frame) → numbered fs k ≡ some f → Encloses t (enclosureOf fs k)
 enclosure-of-text t fs chain k f e = encloses-by t fs chain k k f (omega arith) e
+
+pub frame-encloses : (t : Block) (fs : List Frame) → Chained t fs → (k : ℕ) (f : Frame) → numbered fs k ≡ some f → Encloses t (enclosing f ∷ enclosureOf fs (f .link))
+frame-encloses t fs chain k f e = subst (Encloses t) (enclosure-step fs (chained-downward t fs chain) k f e) (enclosure-of-text t fs chain k f e)
+
+-- what holds of every enclosure in the text whose innermost block is the innermost frame's holds of that frame's enclosure
+pub in-innermost : (t : Block) (fs : List Frame) → Chained t fs → (f : Frame) → last? fs ≡ some f → (P : Enclosure → Type 0)
+    → ((es : Enclosure) → Encloses t (enclosing f ∷ es) → P (enclosing f ∷ es)) → P (enclosureOf fs (length fs))
+in-innermost t fs chain f e P h =
+    let n : numbered fs (length fs) ≡ some f = sym (last-numbered fs) ∙ e in
+    subst P (sym (enclosure-step fs (chained-downward t fs chain) (length fs) f n)) (h (enclosureOf fs (f .link)) (frame-encloses t fs chain (length fs) f n))
 
 -- A block that keeps the rules at a level has inner blocks that keep them at the next
 
@@ -91,6 +102,4 @@ level-bound t h fs chain k f e = rw (level-of-text fs k) (enclosure-level t h (e
 
 pub names-bound : (t : Block) → Keeps t → (fs : List Frame) → Chained t fs → (k : ℕ) (f : Frame) → numbered fs k ≡ some f → length (frameNames f) ≤ 32
 unfolding frameNames namesOf enclosing
-names-bound t h fs chain k f e =
-    let w = subst (Encloses t) (enclosure-step fs (chained-downward t fs chain) k f e) (enclosure-of-text t fs chain k f e) in
-    enclosure-names t h (enclosing f) (enclosureOf fs (f .link)) w
+names-bound t h fs chain k f e = enclosure-names t h (enclosing f) (enclosureOf fs (f .link)) (frame-encloses t fs chain k f e)

@@ -1,4 +1,5 @@
--- Names as coordinates: where the frame machine finds a name is known from the text, by level and position.
+-- Names as coordinates: where the frame machine finds a name is known from the text, by level and position. The definitions are in Enclosure
+-- and Chain (and Index); a reader who wants the theorems alone reads Coordinates, Display, Index and Accepted.
 pub mod Enclosure
 pub mod Chain
 pub mod Lists

@@ -6,7 +6,7 @@ use native.Mathlib.Omega.{arith}
 use mathlib.Core.Bool.{Bool, true, false}
 use mathlib.Core.List.{List, [], _∷_, _++_}
 use mathlib.Core.Option.{Option, none, some, Option·map}
-use mathlib.Core.Path.{_≡_, refl, sym, ap, _∙_, subst}
+use mathlib.Core.Path.{_≡_, refl, sym, ap, _∙_}
 use borrow.Author.Tests.{leb-true, leb-false}
 use lib.Dec.{leb}
 use lib.IntN.{ℤ, pos}
@@ -16,25 +16,20 @@ use Rattle.language.specs.Text.{Action, Formal, Block, Decl, DO, blockDecls}
 use Rattle.language.specs.Scope.{Meaning}
 use Rattle.grammar.specs.Rules.{Each, Keeps}
 use Rattle.frames.specs.Frame.{Frame, Stack, Place, numbered, seekFrom, seekName, designatorIn, finally, designates, frameNumber, place, declOf, continue, withFrames, advanceFrame, frameStmt}
-use Rattle.coordinates.specs.Enclosure.{Enclosing, Enclosure, Encloses}
+use Rattle.coordinates.specs.Enclosure.{Enclosing}
 use Rattle.coordinates.specs.Chain.{enclosing, chainOf, enclosureOf, levelOf, outline, Alike, Downward, Chained}
 use Rattle.coordinates.specs.Lists.{numbered-past, last-numbered, butLast-take}
 use Rattle.coordinates.specs.Along.{along-alike}
-use Rattle.coordinates.specs.Search.{seek-alike, enclosure-step}
+use Rattle.coordinates.specs.Search.{seek-alike}
 use Rattle.coordinates.specs.Moves.{cut-at, cut-length, outline-continue, Called}
-use Rattle.coordinates.specs.Kept.{chained-downward}
-use Rattle.coordinates.specs.Levels.{enclosure-of-text}
+use Rattle.coordinates.specs.Levels.{in-innermost}
 use Rattle.coordinates.specs.Visible.{actionNames, Located, names-have-coordinates}
 
 pub statement-coordinates : (t : Block) → Keeps t → (fs : List Frame) → Chained t fs → (f : Frame) (at : ℕ) (a : Action) → last? fs ≡ some f → frameStmt f ≡ some (DO at a)
     → Each (λ n. (m : Meaning) × Located (enclosureOf fs (length fs)) n m) (actionNames a)
 unfolding frameStmt enclosing
 statement-coordinates t h fs chain f at a e q =
-    let n : numbered fs (length fs) ≡ some f = sym (last-numbered fs) ∙ e in
-    let s = enclosure-step fs (chained-downward t fs chain) (length fs) f n in
-    let w = subst (Encloses t) s (enclosure-of-text t fs chain (length fs) f n) in
-    subst (λ (es : Enclosure). Each (λ n. (m : Meaning) × Located es n m) (actionNames a)) (sym s)
-    (names-have-coordinates t h (enclosing f) (enclosureOf fs (f .link)) w (pred (f .next)) at a q)
+    in-innermost t fs chain f e (λ es. Each (λ n. (m : Meaning) × Located es n m) (actionNames a)) (λ es w. names-have-coordinates t h (enclosing f) es w (pred (f .next)) at a q)
 
 pub enclosure-alike : (fs gs : List Frame) (b : ℕ) → Alike b fs gs → Downward fs → (k : ℕ) → k ≤ b → enclosureOf gs k ≡ enclosureOf fs k
 unfolding enclosureOf

@@ -15,7 +15,7 @@ use Rattle.language.specs.Text.{Kind, variable, label, procedure, Formal, Actio
 use Rattle.language.specs.Scope.{Meaning, Scope, formalMeaning, declMeaning, inside}
 use Rattle.grammar.specs.Rules.{Each, Visible, Is, ScopedAction, ScopedBlock, ScopedDecl, ScopedStmt, ScopedDecls, ScopedStmts, Keeps}
 use Rattle.frames.specs.Frame.{numbered, positionFrom}
-use Rattle.coordinates.specs.Enclosure.{Enclosing, Enclosure, Coordinate, namesOf, coordinateOf, atLevel, StandsIn, as-block, as-body, whole, Encloses}
+use Rattle.coordinates.specs.Enclosure.{Enclosing, enclosed, Enclosure, Coordinate, namesOf, coordinateOf, atLevel, StandsIn, as-block, as-body, whole, Encloses}
 use Rattle.coordinates.specs.Lists.{numbered-at}
 use Rattle.coordinates.specs.Search.{coordinate-here, coordinate-further}
 use Rattle.coordinates.specs.Declared.{coordinate-declares, level-here, level-further}
@@ -123,9 +123,6 @@ unfolding ScopedBlock decls
 scoped-decl no-decl sc i d h e = absurd (Option·none-ne-some d e)
 scoped-decl (decl y ds) sc zero d h e = subst (λ (z : Decl). ScopedDecl z sc) (Option·some-injective y d e) (h .0)
 scoped-decl (decl y ds) sc (suc i) d h e = scoped-decl ds sc i d (h .1) e
-
-abbrev enclosed : List Formal → Block → Enclosing
-enclosed fs b = record { formals = fs; text = b }
 
 inside-meanings : (fs : List Formal) (at : ℕ) (ds : Decls) (ss : Stmts) (sc : Scope) → inside fs ds sc ≡ meaningsOf (enclosed fs (block at ds ss)) ++ sc
 unfolding inside meaningsOf blockDecls
