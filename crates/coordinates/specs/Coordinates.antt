@@ -2,11 +2,12 @@
 -- (`Downward`; a run keeps that: Kept.antt). With L the level of frame k and c the coordinate of a name in k's enclosure:
 -- `frame-by-links`: the frame j levels deep is L - j links up, and its block is the enclosing block of that level;
 -- `frame-by-display`: it is the display's entry j; `declaring-frame`: at c's level it has the name at c's position;
--- `sought-by-links`: the search ends there, at c's position, after so many links;
+-- `sought-by-links`: the search ends there, at c's position, after so many links; `sought-none-iff`: it finds nothing where c is none;
 -- `designates-by-links`, `designates-by-display`: and so for the designator; `hidden`: a name without coordinate designates nothing.
 use Prim.Native.Nat.{ℕ, pred, _+_, _-_, _≤_}
 use native.Mathlib.Omega.{arith}
 use mathlib.Core.List.{List}
+use mathlib.Core.Logic.{_↔_}
 use mathlib.Core.Option.{Option, none, some, Option·map, Option·none-ne-some, map-eq-some-iff}
 use mathlib.Core.Path.{_≡_, refl, sym, ap, _∙_, subst}
 use lib.ListN.{length, getD, getElem?}
@@ -73,6 +74,14 @@ module _ (fs : List Frame) (down : Downward fs) where
   pub sought-nowhere : (m k n j : ℕ) → k ≤ m → coordinateOf (enclosureOf fs k) n ≡ none → seekFrom m fs k n j ≡ none
   unfolding placeFrom
   sought-nowhere m k n j h e = sought fs down m k n j h ∙ ap (placeFrom fs k j) e
+
+  -- nothing is found exactly where there is no coordinate
+  pub sought-none-iff : (m k n j : ℕ) → k ≤ m → (seekFrom m fs k n j ≡ none) ↔ (coordinateOf (enclosureOf fs k) n ≡ none)
+  sought-none-iff m k n j h = (λ e. go e (coordinateOf (enclosureOf fs k) n) refl, sought-nowhere m k n j h)
+    where
+      go : seekFrom m fs k n j ≡ none → (o : Option Coordinate) → coordinateOf (enclosureOf fs k) n ≡ o → coordinateOf (enclosureOf fs k) n ≡ none
+      go e none q = q
+      go e (some c) q = absurd (Option·none-ne-some _ (sym e ∙ sought-by-links m k n j c h q))
 
   -- the frame that declares the name
   pub declaring-frame : (k n : ℕ) (c : Coordinate) → coordinateOf (enclosureOf fs k) n ≡ some c → DeclaringFrame fs k n c

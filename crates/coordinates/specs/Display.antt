@@ -1,7 +1,7 @@
 -- What a display must hold, as equations, for frames whose links go down. `displayOf fs` is the display of the innermost frame, `displayFrom
 -- fs k` that of frame k; entry j of either is the enclosing frame of level j.
 -- Entry: `display-entered` (the display of the new frame's link, and the new number), `display-after-block`, `display-after-call`.
--- Return: `display-after-return` (the display of the frame below). Goto: `display-after-goto` (that of the label's frame).
+-- Return: `display-after-return` (the display of the frame below), `display-after-block-return`. Goto: `display-after-goto` (that of the label's frame).
 -- Stores and statement numbers: `display-after-store`, `display-after-advance`: nothing changes. `display-prefix`: the display of a
 -- frame so many levels deep on the chain is a prefix, so that a called procedure or a label found by its own name at level j leaves the
 -- first j entries. `entry-new`, `entries-kept`, `entries-shared` say it entry by entry, `displays-meet` that
@@ -69,6 +69,12 @@ module _ (fs : List Frame) (down : Downward fs) where
 
   pub display-after-return : displayOf (butLast fs) ≡ displayFrom fs (pred (length fs))
   display-after-return = rw butLast-take (display-of (take (pred (length fs)) fs) (pred (length fs)) (length-take-le (pred (length fs)) fs (omega arith)) (alike-take (pred (length fs)) fs))
+
+  -- and for a frame that was entered from the one below, as a block is, only the last entry goes
+  pub display-after-block-return : (f : Frame) → last? fs ≡ some f → f .link ≡ pred (length fs) → displayOf fs ≡ displayOf (butLast fs) ++ (length fs ∷ [])
+  unfolding displayOf
+  display-after-block-return f e l =
+      display-step fs down (length fs) f (sym (last-numbered fs) ∙ e) ∙ ap (λ k. displayFrom fs k ++ (length fs ∷ [])) l ∙ ap (λ (d : List ℕ). d ++ (length fs ∷ [])) (sym display-after-return)
 
   pub display-after-goto : (k : ℕ) (f : Frame) (i : ℕ) → numbered fs k ≡ some f → displayOf (take (pred k) fs ++ (continue f i ∷ [])) ≡ displayFrom fs k
   display-after-goto k f i e = display-of (take (pred k) fs ++ (continue f i ∷ [])) k (cut-length fs k f (continue f i) e) (alike-cut fs k f (continue f i) e (outline-continue f i))
