@@ -1,0 +1,31 @@
+-- Sample script B after nine steps: procedure 6 runs, declared in activation 2 and called from activation 3. Its chain passes by
+-- activation 3, and its name 5 is at level 2, position 2.
+use Prim.Native.Nat.{ℕ}
+use mathlib.Core.List.{List, [], _∷_}
+use mathlib.Core.Option.{Option, some}
+use mathlib.Core.Path.{_≡_, refl}
+use Rattle.language.specs.Check.{Checked, accepted, refused, check}
+use Rattle.language.specs.Samples.{noPairs, script-B}
+use Rattle.language.specs.Evaluation.{computed}
+use Rattle.frames.specs.Frame.{Frame, withFrames, tableChanged, stepped, continue, rewritten, numbered, frameNames, positionFrom, seekFrom, seekName, designatorIn, finally, designates, linksFollowed, frameNumber, place, declOf, kindOf, wordAt, putWord, mapAction, zeroWords, newFrame, pushFrame, callBy, goTo, put, putIfFits, addTo, removeFrom, ask, act, actStmt, frameStmt, advanceFrame, actIn, frameStep, frameOffset, results, frameRun, frameStart}
+use Rattle.coordinates.specs.Enclosure.{Coordinate, namesOf, coordinateOf}
+use Rattle.coordinates.specs.Chain.{enclosing, along, chainOf, enclosureOf, climb, displayFrom, displayOf}
+
+framesAfter : ℕ → Checked → List Frame
+framesAfter n (accepted t) = (frameRun (record { activations = 16; group = 3 }) n (frameStart t (record { words = noPairs 8; used = 0 }))) .final .frames
+framesAfter n (refused c o) = []
+
+pub record Seen : Type 0 where
+  pub chain : List ℕ
+  pub display : List ℕ
+  pub coordinate : Option Coordinate
+  pub reached : ℕ
+  pub designator : ℕ
+
+look : List Frame → Seen
+look fs = record { chain = chainOf fs 4; display = displayOf fs; coordinate = coordinateOf (enclosureOf fs 4) 5; reached = climb fs 4 1; designator = designates fs 5 }
+
+sample-B : look (framesAfter 9 (check script-B))
+    ≡ record { chain = 4 ∷ 2 ∷ 1 ∷ []; display = 1 ∷ 2 ∷ 4 ∷ []; coordinate = some (record { level = 2; position = 2 }); reached = 2; designator = 130 }
+unfolding look framesAfter computed noPairs script-B withFrames tableChanged stepped continue rewritten numbered frameNames positionFrom seekFrom seekName designatorIn finally designates linksFollowed frameNumber place declOf kindOf wordAt putWord mapAction zeroWords newFrame pushFrame callBy goTo put putIfFits addTo removeFrom ask act actStmt frameStmt advanceFrame actIn frameStep frameOffset results frameRun frameStart namesOf coordinateOf enclosing along chainOf enclosureOf climb displayFrom displayOf
+sample-B = refl

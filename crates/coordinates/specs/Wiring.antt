@@ -1,0 +1,281 @@
+-- The words of formals stay right in a run of a script that keeps the rules. Read `Sound t fs` as: the frames fs are linked as the text t
+-- says (`Chained`) and every formal's word designates an instance of its kind (`Wired`). `step-sound`: a step keeps it; `run-sound`: every
+-- state of a run of a script that keeps the rules has it, with no other condition.
+use Prim.Native.Nat.{ℕ, zero, suc, pred, _≤_, _<_}
+use native.Mathlib.Omega.{arith}
+use mathlib.Core.Bool.{true, false≢true, and-eq-true-iff}
+use mathlib.Core.List.{List, [], _∷_, _++_, map}
+use mathlib.Core.Option.{Option, none, some, Option·map, map-eq-some-iff, Option·none-ne-some, Option·some-injective}
+use mathlib.Core.Path.{_≡_, refl, sym, ap, _∙_, subst}
+use lib.IntN.{ℤ, pos}
+use lib.ListN.{length, take, set, getElem?, length-append, length-map}
+use lib.Seq.{length-take-le, take-set-le}
+use Rattle.language.specs.Basics.{last?, butLast, lookup}
+use Rattle.language.specs.Text.{Kind, variable, label, procedure, Formal, Action, CL, GO, IF, KN, AR, AD, RM, QY, Block, Decl, DO, declKind, declFormals, declBody, formalKinds, labelIndex, sameKind}
+use Rattle.language.specs.Scope.{Meaning, Scope, agree}
+use Rattle.language.specs.Table.{Table}
+use Rattle.language.specs.Machine.{Limits}
+use Rattle.grammar.specs.Rules.{Each, Visible, Is, ScopedAction, Keeps}
+use Rattle.frames.specs.Frame.{Frame, Stack, acted, numbered, designates, frameNumber, place, declOf, kindOf, continue, rewritten, putWord, put, newFrame, zeroWords, withFrames, tableChanged, stepped, mapAction, advanceFrame, frameStmt, frameStep, frameRun, frameStart}
+use Rattle.coordinates.specs.Enclosure.{Enclosing}
+use Rattle.coordinates.specs.Chain.{enclosing, enclosureOf, outline, Alike, Chained}
+use Rattle.coordinates.specs.Lists.{at-within, at-take, at-append, at-map, numbered-low, numbered-high, numbered-append, numbered-seam, numbered-take, butLast-take}
+use Rattle.coordinates.specs.Along.{alike-some}
+use Rattle.coordinates.specs.Walk.{After, targetOf, Moves, Steps, step-by}
+use Rattle.coordinates.specs.Moves.{cut-at, cut-length, set-at, no-call}
+use Rattle.coordinates.specs.Kept.{chained-downward, by-frame, step-chained, run-keeps, start-chained}
+use Rattle.coordinates.specs.Visible.{scopeOf}
+use Rattle.coordinates.specs.Statement.{advanced, advanced-at, advanced-length, declared-alike, designates-advanced}
+use Rattle.coordinates.specs.Designated.{Designated, Wire, Wired, statement-scoped, name-designated, calls-procedures}
+
+-- what wiring reads of a frame: block, link, and the words of its formals
+wiring : Frame → (Enclosing × ℕ) × List ℤ
+wiring f = (outline f, take (length (f .formals)) (f .words))
+
+abbrev Rewired : ℕ → List Frame → List Frame → Type 0
+Rewired b fs gs = (i : ℕ) → i ≤ b → Option·map wiring (numbered fs i) ≡ Option·map wiring (numbered gs i)
+
+rewired-alike : (fs gs : List Frame) (b : ℕ) → Rewired b fs gs → Alike b fs gs
+unfolding wiring
+rewired-alike fs gs b a i h = sym (through (numbered fs i)) ∙ ap (Option·map (λ (w : (Enclosing × ℕ) × List ℤ). w .0)) (a i h) ∙ through (numbered gs i)
+  where
+    through : (o : Option Frame) → Option·map (λ (w : (Enclosing × ℕ) × List ℤ). w .0) (Option·map wiring o) ≡ Option·map outline o
+    through none = refl
+    through (some f) = refl
+
+designated-alike : (fs gs : List Frame) (b : ℕ) → Alike b fs gs → (x : ℕ) (k : Kind) → frameNumber x ≤ b → Designated fs x k → Designated gs x k
+unfolding outline enclosing
+designated-alike fs gs b a x k h d =
+    let g = alike-some fs gs b a (frameNumber x) (d .home) h (d .stands) in
+    let e : length (g .0 .formals) ≡ length (d .home .formals) = ap (λ (w : Enclosing × ℕ). length (w .0 .formals)) (g .2) in
+    record { home = g .0; stands = g .1; past = omega (arith, d .past, e); decl = d .decl; declared = declared-alike fs gs b a x h ∙ d .declared; kind = d .kind }
+
+wire-kept : (fs gs : List Frame) (b : ℕ) → Rewired b fs gs → Wired fs → (k : ℕ) (g : Frame) → k ≤ b → numbered gs k ≡ some g → (i : ℕ) (m : Formal) → getElem? (g .formals) i ≡ some m → Wire gs k g i m
+unfolding wiring outline enclosing
+wire-kept fs gs b a wired k g h n i m q =
+    let f = (map-eq-some-iff wiring (numbered fs k)) .0 (a k h ∙ ap (Option·map wiring) n) in
+    let e : f .0 .formals ≡ g .formals = ap (λ (w : (Enclosing × ℕ) × List ℤ). w .0 .0 .formals) (f .2) in
+    let w = wired k (f .0) (f .1) i m (ap (λ (l : List Formal). getElem? l i) e ∙ q) in
+    let s : i < length (g .formals) = at-within (g .formals) i m q in
+    let s′ : i < length (f .0 .formals) = subst (λ (l : List Formal). i < length l) (sym e) s in
+    let outer : frameNumber (w .designator) < k = w .outer in
+    record {
+      designator = w .designator;
+      word = sym (at-take (length (g .formals)) (g .words) i s) ∙ ap (λ (v : (Enclosing × ℕ) × List ℤ). getElem? (v .1) i) (sym (f .2)) ∙ at-take (length (f .0 .formals)) (f .0 .words) i s′ ∙ w .word;
+      outer = outer;
+      instance = designated-alike fs gs b (rewired-alike fs gs b a) (w .designator) (m .kind) (omega arith) (w .instance);
+    }
+
+wired-kept : (fs gs : List Frame) → Rewired (length gs) fs gs → Wired fs → Wired gs
+wired-kept fs gs a wired k g n = wire-kept fs gs (length gs) a wired k g (numbered-high gs k g n) n
+
+wired-entered : (fs : List Frame) (f : Frame) → Wired fs → ((i : ℕ) (m : Formal) → getElem? (f .formals) i ≡ some m → Wire (fs ++ (f ∷ [])) (suc (length fs)) f i m) → Wired (fs ++ (f ∷ []))
+wired-entered fs f wired new =
+    let gs = fs ++ (f ∷ []) in
+    let a : Rewired (length fs) fs gs = λ i h. sym (ap (Option·map wiring) (numbered-append fs (f ∷ []) i h)) in
+    by-frame fs gs f (rewired-alike fs gs (length fs) a) (length-append fs (f ∷ []) ∙ omega arith) (numbered-seam fs f)
+    (λ k g. (i : ℕ) (m : Formal) → getElem? (g .formals) i ≡ some m → Wire gs k g i m) (wire-kept fs gs (length fs) a wired) new
+
+-- A store goes past the formals
+
+wiring-rewritten : (f : Frame) (i : ℕ) (z : ℤ) → length (f .formals) ≤ i → wiring (rewritten f (set (f .words) i z)) ≡ wiring f
+unfolding wiring rewritten outline enclosing
+wiring-rewritten f i z h = ap (λ (l : List ℤ). (outline f, l)) (take-set-le (length (f .formals)) (f .words) i z h)
+
+stored-frames : (u : Stack) (x : ℕ) (z : ℤ) (f : Frame) → numbered (u .frames) (frameNumber x) ≡ some f → (put u x z) .frames ≡ set (u .frames) (pred (frameNumber x)) (rewritten f (set (f .words) (place x) z))
+unfolding put withFrames putWord
+stored-frames u x z f e = rw (putWord, e)
+
+put-wired : (u : Stack) (x : ℕ) (z : ℤ) (k : Kind) → Designated (u .frames) x k → Wired (u .frames) → Wired ((put u x z) .frames)
+put-wired u x z k d wired =
+    let f = d .home in
+    let g = rewritten f (set (f .words) (place x) z) in
+    subst Wired (sym (stored-frames u x z f (d .stands)))
+    (wired-kept (u .frames) (set (u .frames) (pred (frameNumber x)) g) (λ i h. set-at wiring (u .frames) (frameNumber x) f g (d .stands) (wiring-rewritten f (place x) z (d .past)) i) wired)
+
+-- A body's formals get what the arguments designate
+
+same-kind : (k l : Kind) → sameKind k l ≡ true → l ≡ k
+unfolding sameKind
+same-kind variable variable e = refl
+same-kind variable label e = absurd (false≢true e)
+same-kind variable procedure e = absurd (false≢true e)
+same-kind label variable e = absurd (false≢true e)
+same-kind label label e = refl
+same-kind label procedure e = absurd (false≢true e)
+same-kind procedure variable e = absurd (false≢true e)
+same-kind procedure label e = absurd (false≢true e)
+same-kind procedure procedure e = refl
+
+agree-at : (ms : List Formal) (os : List (Option Kind)) → agree (formalKinds ms) os ≡ true → (i : ℕ) (m : Formal) → getElem? ms i ≡ some m → getElem? os i ≡ some (some (m .kind))
+unfolding agree formalKinds
+agree-at [] os e i m q = absurd (Option·none-ne-some m q)
+agree-at (x ∷ ms) [] e i m q = absurd (false≢true e)
+agree-at (x ∷ ms) (none ∷ os) e i m q = absurd (false≢true e)
+agree-at (x ∷ ms) (some k ∷ os) e zero m q =
+    let h = (and-eq-true-iff (sameKind (x .kind) k) (agree (formalKinds ms) os)) .0 e in
+    ap {B = Option (Option Kind)} some (ap {B = Option Kind} some (same-kind (x .kind) k (h .0) ∙ ap (λ (y : Formal). y .kind) (Option·some-injective x m q)))
+agree-at (x ∷ ms) (some k ∷ os) e (suc i) m q =
+    agree-at ms os (((and-eq-true-iff (sameKind (x .kind) k) (agree (formalKinds ms) os)) .0 e) .1) i m q
+
+kind-known : (fs : List Frame) (x : ℕ) (d : Decl) → declOf fs x ≡ some d → kindOf fs x ≡ some (declKind d)
+unfolding kindOf
+kind-known fs x d e = rw (kindOf, e)
+
+each-at : {A : Type 0} (P : A → Type 0) (xs : List A) (i : ℕ) (a : A) → getElem? xs i ≡ some a → Each P xs → P a
+each-at P [] i a e h = absurd (Option·none-ne-some a e)
+each-at P (x ∷ xs) zero a e h = subst P (Option·some-injective x a e) (h .0)
+each-at P (x ∷ xs) (suc i) a e h = each-at P xs i a e (h .1)
+
+argument-words : (ms : List Formal) (xs : List ℕ) (b : Block) (k i x : ℕ) → getElem? xs i ≡ some x → getElem? ((newFrame ms xs b k) .words) i ≡ some (pos x)
+unfolding newFrame
+argument-words ms xs b k i x e =
+    let l = length-map xs pos in
+    at-append (map pos xs) (zeroWords _) i (omega (arith, at-within xs i x e)) ∙ at-map pos xs i ∙ ap (Option·map pos) e
+
+abbrev Some : List Frame → ℕ → Type 0
+Some fs x = (k : Kind) × Designated fs x k
+
+call-wired : (fs : List Frame) (ms : List Formal) (xs : List ℕ) (b : Block) (k : ℕ) → Each (Some fs) xs → agree (formalKinds ms) (map (kindOf fs) xs) ≡ true → Wired fs → Wired (fs ++ (newFrame ms xs b k ∷ []))
+unfolding newFrame
+call-wired fs ms xs b k each q wired = wired-entered fs (newFrame ms xs b k) wired (λ i m e. new i m e)
+  where
+    gs : List Frame
+    gs = fs ++ (newFrame ms xs b k ∷ [])
+
+    new : (i : ℕ) (m : Formal) → getElem? ms i ≡ some m → Wire gs (suc (length fs)) (newFrame ms xs b k) i m
+    new i m e =
+        let x = (map-eq-some-iff (kindOf fs) (getElem? xs i)) .0 (sym (at-map (kindOf fs) xs i) ∙ agree-at ms (map (kindOf fs) xs) q i m e) in
+        let d = each-at (Some fs) xs i (x .0) (x .1) each in
+        let n : frameNumber (x .0) ≤ length fs = numbered-high fs (frameNumber (x .0)) (d .1 .home) (d .1 .stands) in
+        let kind : d .0 ≡ m .kind = sym (d .1 .kind) ∙ Option·some-injective (declKind (d .1 .decl)) (m .kind) (sym (kind-known fs (x .0) (d .1 .decl) (d .1 .declared)) ∙ x .2) in
+        record {
+          designator = x .0;
+          word = argument-words ms xs b k i (x .0) (x .1);
+          outer = omega arith;
+          instance = designated-alike fs gs (length fs) (λ j h. sym (ap (Option·map outline) (numbered-append fs (newFrame ms xs b k ∷ []) j h))) (x .0) (m .kind) n (subst (Designated fs (x .0)) kind (d .1));
+        }
+
+-- The names of an action, once found
+
+module _ (fs : List Frame) (sc : Scope) (r : ℕ → ℕ) (found : (n : ℕ) (m : Meaning) → lookup n sc ≡ some m → Designated fs (r n) (m .kind)) where
+  found-of : (k : Kind) (n : ℕ) → Is k sc n → Designated fs (r n) k
+  found-of k n h = subst (Designated fs (r n)) (h .2) (found n (h .0) (h .1))
+
+  all-found : (ns : List ℕ) → Each (Visible sc) ns → Each (Some fs) (map r ns)
+  all-found [] h = tt
+  all-found (n ∷ ns) h = ((h .0 .0 .kind, found n (h .0 .0) (h .0 .1)), all-found ns (h .1))
+
+  target-found : (a : Action) → ScopedAction a sc → (x : ℕ) → targetOf (mapAction r a) ≡ some x → Designated fs x variable
+  unfolding targetOf mapAction ScopedAction
+  target-found (CL p xs) h x e = absurd (Option·none-ne-some x e)
+  target-found (GO l) h x e = absurd (Option·none-ne-some x e)
+  target-found (IF v l) h x e = absurd (Option·none-ne-some x e)
+  target-found (KN t z) h x e = subst (λ y. Designated fs y variable) (Option·some-injective (r t) x e) (found-of variable t h)
+  target-found (AR t o a b) h x e = subst (λ y. Designated fs y variable) (Option·some-injective (r t) x e) (found-of variable t (h .0))
+  target-found (AD g m) h x e = absurd (Option·none-ne-some x e)
+  target-found (RM g m) h x e = absurd (Option·none-ne-some x e)
+  target-found (QY t g m) h x e = subst (λ y. Designated fs y variable) (Option·some-injective (r t) x e) (found-of variable t (h .0))
+
+  arguments-found : (a : Action) → ScopedAction a sc → (p : ℕ) (xs : List ℕ) → mapAction r a ≡ CL p xs → Each (Some fs) xs
+  unfolding mapAction ScopedAction
+  arguments-found (CL q ys) h p xs e = let i : map r ys ≡ xs = cc in subst (Each (Some fs)) i (all-found ys (h .arguments))
+  arguments-found (GO l) h p xs e = absurd (no-call e)
+  arguments-found (IF v l) h p xs e = absurd (no-call e)
+  arguments-found (KN t z) h p xs e = absurd (no-call e)
+  arguments-found (AR t o a b) h p xs e = absurd (no-call e)
+  arguments-found (AD g m) h p xs e = absurd (no-call e)
+  arguments-found (RM g m) h p xs e = absurd (no-call e)
+  arguments-found (QY t g m) h p xs e = absurd (no-call e)
+
+-- a goto, a block entered, the start: no new formals
+
+jumped-wired : (fs : List Frame) (x : ℕ) (g : Frame) (i : ℕ) → numbered fs (frameNumber x) ≡ some g → Wired fs → Wired (take (pred (frameNumber x)) fs ++ (continue g i ∷ []))
+unfolding wiring continue outline enclosing
+jumped-wired fs x g i n w =
+    let gs = take (pred (frameNumber x)) fs ++ (continue g i ∷ []) in
+    let l = cut-length fs (frameNumber x) g (continue g i) n in
+    wired-kept fs gs (λ j h. cut-at wiring fs (frameNumber x) g (continue g i) n refl j (omega arith)) w
+
+block-wired : (fs : List Frame) (b : Block) (k : ℕ) → Wired fs → Wired (fs ++ (newFrame [] [] b k ∷ []))
+unfolding newFrame
+block-wired fs b k w = wired-entered fs (newFrame [] [] b k) w (λ i m e. absurd (Option·none-ne-some m e))
+
+start-wired : (t : Block) (tab : Table) → Wired ((frameStart t tab) .frames)
+unfolding frameStart
+start-wired t tab = block-wired [] t 0 (λ k f e. let h = numbered-low [] k f e in let l = numbered-high [] k f e in absurd (omega arith))
+
+-- The step
+
+module _ (t : Block) (keeps : Keeps t) (s : Stack) (chain : Chained t (s .frames)) (wired : Wired (s .frames)) where
+  returned-wired : Wired (butLast (s .frames))
+  returned-wired =
+      let n = pred (length (s .frames)) in
+      let l = length-take-le n (s .frames) (omega arith) in
+      rw butLast-take (wired-kept (s .frames) (take n (s .frames)) (λ i h. sym (ap (Option·map wiring) (numbered-take n (s .frames) i (omega arith)))) wired)
+
+  module _ (f : Frame) (e : last? (s .frames) ≡ some f) (i : ℕ) where
+    rewired : Rewired (length (s .frames)) (s .frames) (advanced (s .frames) f i)
+    unfolding wiring continue outline enclosing
+    rewired j h = advanced-at wiring (s .frames) f i e refl j
+
+    advanced-wired : Wired (advanced (s .frames) f i)
+    advanced-wired =
+        let l = advanced-length (s .frames) f i e in
+        wired-kept (s .frames) (advanced (s .frames) f i) (λ j h. rewired j (omega arith)) wired
+
+    advanced-found : (n : ℕ) (m : Meaning) → lookup n (scopeOf (enclosureOf (s .frames) (length (s .frames)))) ≡ some m → let fs = advanced (s .frames) f i in Designated fs (designates fs n) (m .kind)
+    advanced-found n m q =
+        let d = name-designated t keeps (s .frames) chain wired n m q in
+        let fs = advanced (s .frames) f i in
+        let x = designates (s .frames) n in
+        let h = numbered-high (s .frames) (frameNumber x) (d .home) (d .stands) in
+        subst (λ y. Designated fs y (m .kind)) (sym (designates-advanced (s .frames) (chained-downward t (s .frames) chain) f i e n))
+        (designated-alike (s .frames) fs (length (s .frames)) (rewired-alike (s .frames) fs (length (s .frames)) rewired) x (m .kind) h d)
+
+  action-wired : (f : Frame) (at : ℕ) (a : Action) → last? (s .frames) ≡ some f → frameStmt f ≡ some (DO at a) → let u = advanceFrame s f in Moves (λ v. Wired (v .frames)) u (mapAction (designates (u .frames)) a)
+  unfolding advanceFrame withFrames tableChanged
+  action-wired f at a e q =
+      let i = suc (f .next) in
+      let u = advanceFrame s f in
+      let fs = advanced (s .frames) f i in
+      let w = advanced-wired f e i in
+      let sc = scopeOf (enclosureOf (s .frames) (length (s .frames))) in
+      let scoped = statement-scoped t keeps (s .frames) chain f at a e q in
+      record {
+        stays = w;
+        tabled = λ tab. w;
+        stored = λ x z r. put-wired u x z variable (target-found fs sc (designates fs) (advanced-found f e i) a scoped x r) w;
+        jumped = λ x g d n c. jumped-wired fs x g (labelIndex d) n w;
+        called = λ p xs d r n c. call-wired fs (declFormals d) xs (declBody d) (frameNumber p) (arguments-found fs sc (designates fs) (advanced-found f e i) a scoped p xs r) c w;
+      }
+
+  step-wires : Steps (λ v. Wired (v .frames)) s
+  unfolding withFrames advanceFrame
+  step-wires =
+      record {
+        over = λ e. wired;
+        returned = λ f e q. returned-wired;
+        opened = λ f b e q. block-wired (advanced (s .frames) f (suc (f .next))) b _ (advanced-wired f e (suc (f .next)));
+        done = action-wired;
+      }
+
+pub step-wired : (t : Block) → Keeps t → (l : Limits) (s s′ : Stack) → frameStep l s ≡ acted s′ → Chained t (s .frames) → Wired (s .frames) → Wired (s′ .frames)
+step-wired t keeps l s s′ e chain wired = subst (After (λ v. Wired (v .frames))) e (step-by (λ v. Wired (v .frames)) s l (step-wires t keeps s chain wired))
+
+-- A run: what it begins with, and what every state of it has
+
+pub record Sound (t : Block) (fs : List Frame) : Type 0 where
+  pub chained : Chained t fs
+  pub wired : Wired fs
+
+pub step-sound : (t : Block) → Keeps t → (l : Limits) (s s′ : Stack) → frameStep l s ≡ acted s′ → Sound t (s .frames) → Sound t (s′ .frames)
+step-sound t keeps l s s′ e h =
+    record { chained = step-chained t l s s′ e (calls-procedures t keeps s (h .chained) (h .wired)) (h .chained); wired = step-wired t keeps l s s′ e (h .chained) (h .wired) }
+
+pub start-sound : (t : Block) (tab : Table) → Sound t ((frameStart t tab) .frames)
+start-sound t tab = record { chained = start-chained t tab; wired = start-wired t tab }
+
+pub run-sound : (t : Block) → Keeps t → (l : Limits) (tab : Table) (n : ℕ) → Sound t ((frameRun l n (frameStart t tab)) .final .frames)
+unfolding stepped
+run-sound t keeps l tab n = run-keeps l (λ s. Sound t (s .frames)) (λ s s′ e h. step-sound t keeps l s s′ e h) n (frameStart t tab) (start-sound t tab)

@@ -1,0 +1,1 @@
+// Theorems about where the frame machine finds a name: see specs/.
