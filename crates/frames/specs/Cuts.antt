@@ -1,21 +1,23 @@
 -- The relation where activations are dropped, resumed at another statement, or put above: what does not depend on them stays.
-use Prim.Native.Nat.{ℕ, zero, suc, pred, _+_, _*_, _≤_, _<_}
+use Prim.Native.Nat.{ℕ, zero, suc, _+_, _*_, _≤_}
 use native.Mathlib.Omega.{arith}
-use native.Mathlib.Nat.{zero-add, not-suc-le-zero, le-of-suc-le-suc}
+use native.Mathlib.Nat.{zero-add}
 use mathlib.Core.Path.{_≡_, refl, sym, ap, ap₂, _∙_, subst, subst₂}
 use mathlib.Core.List.{List, [], _∷_, _++_, map}
 use mathlib.Core.Option.{Option, none, some}
 use lib.IntN.{ℤ, pos}
-use lib.ListN.{length, take, getElem?, length-append, length-take}
+use lib.ListN.{length, take, getElem?, length-take}
 use lib.Seq.{take-append-seam}
-use Rattle.language.specs.Text.{Decl, VR, LB, PR, blockDecls, declName, declaredNames}
-use Rattle.language.specs.Copy.{Replacement, renameBlock}
-use Rattle.language.specs.Machine.{Activation, State, Instance, instanceFrom, declaredAt, resume, withLive}
+use Rattle.language.specs.Text.{Decl, blockDecls}
+use Rattle.language.specs.Copy.{Replacement}
+use Rattle.language.specs.Machine.{Activation, State, Instance, instanceFrom, resume, withLive}
+use Rattle.laws.specs.Tests.{none≢some, some-inj}
+use Rattle.laws.specs.Lists.{getElem-take}
+use Rattle.laws.specs.Instances.{instance-take, declaredBy, instance-here, instance-there, instanceIn}
+use Rattle.laws.specs.Rising.{Rising, rising-within}
 use Rattle.frames.specs.Frame.{Frame, Stack, numbered, continue, withFrames}
-use Rattle.frames.specs.Lists.{none≢some, some-inj, getElem-take, getElem-append, getElem-bound, take-snoc}
-use Rattle.frames.specs.Instances.{Rising, instance-take, instance-append, instance-number, rising-within, declaredBy, instance-here, instance-later, at}
 use Rattle.frames.specs.Both.{Both, both-map, both-take, both-snoc, both-length, both-unsnoc}
-use Rattle.frames.specs.Related.{readsIn, readsAt, joined, designatorFor, designatorAt, wordIn, LiveBelow, AllLive, ownOf, Twin, Related}
+use Rattle.frames.specs.Related.{readsIn, readsAt, designatorFor, designatorAt, wordIn, LiveBelow, AllLive, ownOf, Twin, Related}
 
 -- What of a stack of activations the twins at index k and below depend on: the readings and the instances up to number k.
 pub record SameBelow (l l′ : List Activation) (k : ℕ) : Type 0 where
@@ -88,23 +90,23 @@ module _ (a : Activation) (n : ℕ) where
   Alike x l i k = (i′ : Instance) × (instanceFrom x k l ≡ some i′) × (i′ .number ≡ i .number) × (i′ .position ≡ i .position)
 
   instance-resume : (x k : ℕ) (pre : List Activation) (i : Instance) → instanceFrom x k (pre ++ (a ∷ [])) ≡ some i → Alike x (pre ++ (resume a n ∷ [])) i k
-  unfolding instanceFrom declaredBy resume
+  unfolding instanceFrom resume
   instance-resume x k [] i e = go (declaredBy x a) refl
     where
       go : (o : Option (ℕ × Decl)) → declaredBy x a ≡ o → Alike x (resume a n ∷ []) i k
-      go none e′ = absurd (none≢some (sym (instance-later x k a [] e′) ∙ e))
+      go none e′ = absurd (none≢some (sym (instance-there x k a [] e′) ∙ e))
       go (some p) e′ =
-          let q : at k a p ≡ i = some-inj (sym (instance-here x k a [] p e′) ∙ e) in
-          (at k (resume a n) p, instance-here x k (resume a n) [] p e′, (λ t. q t .number), (λ t. q t .position))
+          let q : instanceIn k a p ≡ i = some-inj (sym (instance-here x k a [] p e′) ∙ e) in
+          (instanceIn k (resume a n) p, instance-here x k (resume a n) [] p e′, (λ t. q t .number), (λ t. q t .position))
   instance-resume x k (b ∷ pre) i e = go (declaredBy x b) refl (instance-resume x (suc k) pre i)
     where
       go : (o : Option (ℕ × Decl)) → declaredBy x b ≡ o → (instanceFrom x (suc k) (pre ++ (a ∷ [])) ≡ some i → Alike x (pre ++ (resume a n ∷ [])) i (suc k)) → Alike x (b ∷ (pre ++ (resume a n ∷ []))) i k
       go none e′ ih =
-          let r = ih (sym (instance-later x k b (pre ++ (a ∷ [])) e′) ∙ e) in
-          (r .0, instance-later x k b (pre ++ (resume a n ∷ [])) e′ ∙ r .1, r .2, r .3)
+          let r = ih (sym (instance-there x k b (pre ++ (a ∷ [])) e′) ∙ e) in
+          (r .0, instance-there x k b (pre ++ (resume a n ∷ [])) e′ ∙ r .1, r .2, r .3)
       go (some p) e′ ih =
-          let q : at k b p ≡ i = some-inj (sym (instance-here x k b (pre ++ (a ∷ [])) p e′) ∙ e) in
-          (at k b p, instance-here x k b (pre ++ (resume a n ∷ [])) p e′, (λ t. q t .number), (λ t. q t .position))
+          let q : instanceIn k b p ≡ i = some-inj (sym (instance-here x k b (pre ++ (a ∷ [])) p e′) ∙ e) in
+          (instanceIn k b p, instance-here x k b (pre ++ (resume a n ∷ [])) p e′, (λ t. q t .number), (λ t. q t .position))
 
   same-resume : (pre : List Activation) (k : ℕ) → SameBelow (pre ++ (a ∷ [])) (pre ++ (resume a n ∷ [])) k
   unfolding readsAt numbered

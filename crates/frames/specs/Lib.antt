@@ -3,10 +3,8 @@
 pub mod Frame
 pub mod Examples
 pub mod Theorem
-pub mod Lists
 pub mod Both
 pub mod Renaming
-pub mod Instances
 pub mod Related
 pub mod Cuts
 pub mod Find

@@ -1,25 +1,30 @@
 -- Entering a block or a body keeps the relation: one activation more, and one frame linked to the frame that encloses its text.
-use Prim.Native.Nat.{ℕ, zero, suc, pred, _+_, _*_, _≤_, _<_}
+use Prim.Native.Nat.{ℕ, zero, suc, _+_, _≤_, _<_}
 use native.Mathlib.Omega.{arith}
-use native.Mathlib.Nat.{zero-add, not-suc-le-zero, le-refl}
+use native.Mathlib.Nat.{zero-add, not-suc-le-zero}
 use mathlib.Core.Bool.{Bool, true, false}
 use mathlib.Core.Path.{_≡_, refl, sym, ap, ap₂, _∙_, subst}
 use mathlib.Core.List.{List, [], _∷_, _++_, map, head-eq-of-cons-eq, tail-eq-of-cons-eq}
 use mathlib.Core.Option.{Option, none, some}
 use lib.Dec.{eqb}
 use lib.IntN.{ℤ, pos}
-use lib.ListN.{length, getElem?, length-append, length-map}
+use lib.ListN.{length, getElem?, length-map}
 use borrow.Author.Tests.{eq-eqb, ne-eqb}
 use Rattle.language.specs.Basics.{lookup, zip, upFrom}
 use Rattle.language.specs.Text.{Formal, Block, Decl, VR, LB, PR, blockDecls, declName, formalNames, declaredNames}
-use Rattle.language.specs.Copy.{Replacement, renamed, renameBlock, renameDecl, without}
-use Rattle.language.specs.Machine.{Activation, State, Instance, instanceFrom, zeros, ownNames, activation, enter}
+use Rattle.language.specs.Copy.{Replacement, renamed, renameBlock, without}
+use Rattle.language.specs.Machine.{Activation, State, zeros, ownNames, activation, enter}
+use Rattle.laws.specs.Tests.{none≢some, some-inj}
+use Rattle.laws.specs.Lists.{getElem-in, getElem-bound, getElem-append, map-alike, map-map, constant}
+use Rattle.laws.specs.Each.{each-append}
+use Rattle.laws.specs.Lookup.{each-zip, AllNew, lookup-here, lookup-there, lookup-right, length-upFrom}
+use Rattle.laws.specs.Renaming.{Big, declaredNames-renamed}
+use Rattle.laws.specs.Instances.{instance-found, instance-append}
+use Rattle.laws.specs.Rising.{Rising, rising-name}
 use Rattle.frames.specs.Frame.{Frame, Stack, numbered, newFrame, zeroWords, withFrames}
-use Rattle.frames.specs.Lists.{none≢some, some-inj, getElem-in, getElem-bound, getElem-append, map-alike, map-map, constant}
-use Rattle.frames.specs.Instances.{Rising, Declared, instance-found, instance-append, instance-number, rising-within, rising-name}
-use Rattle.frames.specs.Renaming.{Big, big-append, big-zip, AllNew, lookup-hit, lookup-miss, lookup-append-some, lookup-append-none, entered-text, own-kept, declared-new, blockDecls-renamed, declaredNames-renamed, length-upFrom}
-use Rattle.frames.specs.Both.{Both, both-at, both-map, both-snoc, both-length}
-use Rattle.frames.specs.Related.{readsIn, readsAt, joined, designatorFor, designatorAt, orZero, valueIn, wordIn, Fine, LiveBelow, AllLive, ownOf, Twin, Related}
+use Rattle.frames.specs.Renaming.{entered-text, own-kept, declared-new}
+use Rattle.frames.specs.Both.{both-at, both-map, both-snoc}
+use Rattle.frames.specs.Related.{readsIn, readsAt, joined, designatorAt, orZero, valueIn, wordIn, Fine, LiveBelow, AllLive, ownOf, Twin, Related}
 use Rattle.frames.specs.Designated.{tidy-distinct}
 use Rattle.frames.specs.Cuts.{SameBelow, twin-same, all-live-same, designators-same}
 
@@ -51,7 +56,7 @@ ReadsNew s m = (k : ℕ) → k < m → (a : Activation) → getElem? (s .live) k
 reads-new-step : (s : State) (t : Stack) → Related s t → (m : ℕ) → ReadsNew s m → ReadsNew s (suc m)
 unfolding joined ownOf readsAt readsIn numbered
 reads-new-step s t r m ih k h a e =
-    subst (λ (σs : List Replacement). Big (joined σs)) (sym (w .reads-are)) (big-append (ownOf f a) (joined (readsAt (s .live) (f .link))) own (around (f .link) (w .link-below)))
+    subst (λ (σs : List Replacement). Big (joined σs)) (sym (w .reads-are)) (each-append (λ p. 65536 ≤ p .1) (ownOf f a) (joined (readsAt (s .live) (f .link))) own (around (f .link) (w .link-below)))
   where
     pair : (f : Frame) × (getElem? (t .frames) k ≡ some f) × Twin (s .live) (s .values) (0 + k) a f
     pair = both-at (Twin (s .live) (s .values)) 0 (s .live) (t .frames) (r .twins) k a e
@@ -64,9 +69,9 @@ reads-new-step s t r m ih k h a e =
 
     own : Big (ownOf f a)
     own =
-        big-append (zip (formalNames (f .formals)) (a .arguments)) (zip (declaredNames (f .text)) (declaredNames (a .text)))
-        (big-zip (formalNames (f .formals)) (a .arguments) (all-live-new (s .live) (s .fresh) k (a .arguments) (r .rising) (w .live-arguments)))
-        (big-zip (declaredNames (f .text)) (declaredNames (a .text)) (declared-all-new (s .live) (s .fresh) k a (r .rising) e))
+        each-append (λ p. 65536 ≤ p .1) (zip (formalNames (f .formals)) (a .arguments)) (zip (declaredNames (f .text)) (declaredNames (a .text)))
+        (each-zip (λ x. 65536 ≤ x) (formalNames (f .formals)) (a .arguments) (all-live-new (s .live) (s .fresh) k (a .arguments) (r .rising) (w .live-arguments)))
+        (each-zip (λ x. 65536 ≤ x) (declaredNames (f .text)) (declaredNames (a .text)) (declared-all-new (s .live) (s .fresh) k a (r .rising) e))
 
     around : (i : ℕ) → i ≤ k → Big (joined (readsAt (s .live) i))
     around zero b = tt
@@ -108,27 +113,27 @@ unfolding zeros lookup upFrom declName
 zeros-below n base [] e h = refl
 zeros-below n base (VR at m ∷ ds) e h =
     let q : m ≡ base = head-eq-of-cons-eq e in
-    lookup-miss n (m, pos 0) (zeros ds) (ne-eqb n m (λ p. omega arith)) ∙ zeros-below n (suc base) ds (tail-eq-of-cons-eq e) (omega arith)
+    lookup-there n (m, pos 0) (zeros ds) (ne-eqb n m (λ p. omega arith)) ∙ zeros-below n (suc base) ds (tail-eq-of-cons-eq e) (omega arith)
 zeros-below n base (LB at m i ∷ ds) e h = zeros-below n (suc base) ds (tail-eq-of-cons-eq e) (omega arith)
 zeros-below n base (PR at m fs b ∷ ds) e h = zeros-below n (suc base) ds (tail-eq-of-cons-eq e) (omega arith)
 
 word-kept : (vs : List (ℕ × ℤ)) (base : ℕ) (ds : List Decl) → map declName ds ≡ upFrom base (length ds) → (d : Decl) → declName d < base → wordIn (zeros ds ++ vs) d ≡ wordIn vs d
 unfolding wordIn valueIn declName
-word-kept vs base ds e (VR at n) h = ap orZero (lookup-append-none n (zeros ds) vs (zeros-below n base ds e h))
+word-kept vs base ds e (VR at n) h = ap orZero (lookup-right n (zeros ds) vs (zeros-below n base ds e h))
 word-kept vs base ds e (LB at n i) h = refl
 word-kept vs base ds e (PR at n fs b) h = refl
 
 zero-value : (vs : List (ℕ × ℤ)) (n at : ℕ) (ds : List Decl) (j : ℕ) → getElem? ds j ≡ some (VR at n) → valueIn (zeros ds ++ vs) n ≡ pos 0
 unfolding valueIn zeros orZero declName
-zero-value vs n at [] j e = absurd (none≢some e)
+zero-value vs n at [] j e = none≢some e
 zero-value vs n at (VR o m ∷ ds) zero e =
     let q : m ≡ n = ap declName (some-inj e) in
-    ap orZero (lookup-hit n (m, pos 0) (zeros ds ++ vs) (eq-eqb n m (sym q)))
+    ap orZero (lookup-here n (m, pos 0) (zeros ds ++ vs) (eq-eqb n m (sym q)))
 zero-value vs n at (VR o m ∷ ds) (suc j) e = go (eqb n m) refl (zero-value vs n at ds j e)
   where
     go : (b : Bool) → eqb n m ≡ b → valueIn (zeros ds ++ vs) n ≡ pos 0 → orZero (lookup n ((m, pos 0) ∷ (zeros ds ++ vs))) ≡ pos 0
-    go true q ih = ap orZero (lookup-hit n (m, pos 0) (zeros ds ++ vs) q)
-    go false q ih = ap orZero (lookup-miss n (m, pos 0) (zeros ds ++ vs) q) ∙ ih
+    go true q ih = ap orZero (lookup-here n (m, pos 0) (zeros ds ++ vs) q)
+    go false q ih = ap orZero (lookup-there n (m, pos 0) (zeros ds ++ vs) q) ∙ ih
 zero-value vs n at (LB o m i ∷ ds) zero e = absurd (let z : _≡_ {A = ℕ} 0 1 = cc in omega arith)
 zero-value vs n at (LB o m i ∷ ds) (suc j) e = zero-value vs n at ds j e
 zero-value vs n at (PR o m fs b ∷ ds) zero e = absurd (let z : _≡_ {A = ℕ} 0 1 = cc in omega arith)

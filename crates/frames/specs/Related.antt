@@ -1,6 +1,6 @@
 -- The relation between the two machines, which holds at the start and is kept by each step.
-use Prim.Native.Nat.{ℕ, zero, suc, pred, _+_, _*_, _≤_, _<_}
-use mathlib.Core.Path.{_≡_, refl, sym, ap, _∙_, subst}
+use Prim.Native.Nat.{ℕ, _+_, _*_, _≤_}
+use mathlib.Core.Path.{_≡_}
 use mathlib.Core.List.{List, [], _∷_, _++_, map}
 use mathlib.Core.Option.{Option, none, some}
 use lib.IntN.{ℤ, pos}
@@ -8,11 +8,12 @@ use lib.ListN.{length}
 use Rattle.language.specs.Basics.{lookup, zip}
 use Rattle.language.specs.Text.{Formal, Block, block, Decl, VR, LB, PR, Stmt, BK, DO, Decls, no-decl, decl, Stmts, no-stmt, stmt, decls, blockDecls, declName, formalNames, declaredNames}
 use Rattle.language.specs.Copy.{Replacement, renameBlock}
-use Rattle.language.specs.Table.{Table}
 use Rattle.language.specs.Machine.{Activation, State, Instance, instanceFrom}
+use Rattle.laws.specs.Distinct.{Distinct}
+use Rattle.laws.specs.Lookup.{AllBelow}
+use Rattle.laws.specs.Rising.{Rising}
 use Rattle.frames.specs.Frame.{Frame, Stack, numbered}
-use Rattle.frames.specs.Instances.{Rising}
-use Rattle.frames.specs.Renaming.{AllBelow, SmallBlock, Distinct}
+use Rattle.frames.specs.Renaming.{SmallBlock}
 use Rattle.frames.specs.Both.{Both}
 
 -- what names read as in the activation of a number; nothing at 0

@@ -1,37 +1,35 @@
 -- Whole runs: from the start on, at every allowance, both machines come to the same end at related states; and related states show
 -- one sheet and find one looked-up name. So the replies are one.
-use Prim.Native.Nat.{ℕ, zero, suc, pred, _+_, _*_, _≤_, _<_}
+use Prim.Native.Nat.{ℕ, zero, suc, _+_}
 use native.Mathlib.Omega.{arith}
 use mathlib.Core.Bool.{Bool, true, false}
 use mathlib.Core.Path.{_≡_, refl, sym, ap, ap₂, _∙_, subst, subst₂}
 use mathlib.Core.Logic.{_≢_}
-use mathlib.Core.List.{List, [], _∷_, _++_, map, cons≢nil}
+use mathlib.Core.List.{List, [], _∷_, _++_, cons≢nil}
 use mathlib.Core.Option.{Option, none, some}
-use lib.IntN.{ℤ, pos}
+use lib.IntN.{pos}
 use lib.ListN.{length, drop, getElem?, length-append}
-use Rattle.language.specs.Basics.{lookup, last?, butLast}
+use Rattle.language.specs.Basics.{last?, butLast}
 use Rattle.language.specs.Text.{Block, Decl, VR, LB, PR, blockAt, blockDecls, formalNames}
 use Rattle.language.specs.Check.{Checked, accepted, refused, check}
-use Rattle.language.specs.Table.{Table, right}
-use Rattle.language.specs.Copy.{Replacement, renameBlock, without}
-use Rattle.language.specs.Machine.{Activation, State, Limits, Done, did, stop, counted, enter, step, nextOffset, Outcome, ends, run, start, value, Instance, instance, instanceFrom}
+use Rattle.language.specs.Table.{Table}
+use Rattle.language.specs.Copy.{without}
+use Rattle.language.specs.Machine.{Activation, State, Limits, Done, did, stop, counted, enter, step, Outcome, ends, run, start, Instance, instance, instanceFrom}
 use Rattle.language.specs.Sheet.{Found, seek, designator, declWord, activationWords, wordsOf, sheetWords, lookedUp, lookedUpDesignator, lookedUpLinks}
-use Rattle.language.specs.Call.{Engine, copying, chain, display, Fed, Reply, limitsFit, lentFits, areaFits, turnedAway, linksOf, replied, runOf, checked, reply}
-use Rattle.language.specs.declared.Stop.{Stop}
-use Rattle.language.specs.declared.Refusal.the-variants.{AreaTooShort}
-use Rattle.language.specs.declared.End.{End}
+use Rattle.language.specs.Call.{Engine, copying, chain, display, Fed, areaFits, linksOf, replied, runOf, checked}
 use Rattle.language.specs.declared.End.the-variants.{Finished, Spent, Stopped}
+use Rattle.laws.specs.Tests.{split}
+use Rattle.laws.specs.Lists.{last-none, last-split, getElem-snoc, map-alike}
+use Rattle.laws.specs.Renaming.{blockAt-renamed}
+use Rattle.laws.specs.Rising.{Rising}
 use Rattle.grammar.specs.Rules.{Bytes}
 use Rattle.runs.specs.Account.{run-finished, run-spent, run-did, run-stopped}
 use Rattle.instances.specs.Invariant.{Invariant}
 use Rattle.instances.specs.Reading.{accepted-closed}
 use Rattle.instances.specs.Steps.{started, step-keeps, counted-invariant}
-use Rattle.frames.specs.Frame.{Frame, Stack, Acted, acted, halted, withFrames, stepped, numbered, newFrame, designates, linksFollowed, seekName, seekFrom, frameStep, frameOffset, Result, results, frameRun, frameStart, frameWords, frameSheet, frameLinks, frameReplied, frameRunOf, frameChecked, frameReply}
-use Rattle.frames.specs.Lists.{last-none, last-split, getElem-snoc, none≢some, map-alike}
-use Rattle.frames.specs.Instances.{Rising}
-use Rattle.frames.specs.Renaming.{blockAt-renamed}
+use Rattle.frames.specs.Frame.{Frame, Stack, Acted, acted, halted, withFrames, stepped, numbered, designates, linksFollowed, seekName, seekFrom, frameStep, frameOffset, Result, results, frameRun, frameStart, frameWords, frameSheet, frameLinks, frameReplied, frameRunOf, frameChecked}
 use Rattle.frames.specs.Both.{Both, both-length}
-use Rattle.frames.specs.Related.{readsAt, readsIn, joined, designatorFor, designatorAt, valueIn, orZero, wordIn, AllLive, Twin, Related}
+use Rattle.frames.specs.Related.{readsAt, readsIn, joined, designatorFor, designatorAt, wordIn, AllLive, Twin, Related}
 use Rattle.frames.specs.Push.{related-push}
 use Rattle.frames.specs.Find.{foundDesignator, passedIn, designates-found, links-found}
 use Rattle.frames.specs.Actions.{Alike, value-is}

@@ -1,40 +1,21 @@
 -- An accepted script's text is as the relation wants it: names below 65,536, at most 32 different ones in a block.
-use Prim.Native.Nat.{ℕ, zero, suc, _+_, _*_, _≤_, _<_}
-use native.Mathlib.Omega.{arith}
-use mathlib.Core.Bool.{Bool, true, false}
-use mathlib.Core.Path.{_≡_, refl, sym, ap, ap₂, _∙_, subst}
-use mathlib.Core.Logic.{_≢_}
-use mathlib.Core.List.{List, [], _∷_, _++_, map, List·Memᴰ, List·Memᴰ·head, List·Memᴰ·tail}
-use lib.Dec.{eqb}
-use lib.ListN.{length}
-use borrow.Author.Tests.{ne-eqb}
-use Rattle.language.specs.Basics.{among, lookup}
-use Rattle.language.specs.Text.{Formal, Action, CL, GO, IF, KN, AR, AD, RM, QY, Block, block, Decl, VR, LB, PR, Stmt, BK, DO, Decls, no-decl, decl, Stmts, no-stmt, stmt, decls, stmts, declName, formalNames, declaredNames}
+use Prim.Native.Nat.{ℕ, _+_, _<_}
+use mathlib.Core.Path.{_≡_, refl, sym, ap, ap₂, subst}
+use mathlib.Core.List.{List, [], _∷_, map, List·Memᴰ·head, List·Memᴰ·tail}
+use Rattle.language.specs.Basics.{lookup}
+use Rattle.language.specs.Text.{Formal, Action, CL, GO, IF, KN, AR, AD, RM, QY, Block, block, Decl, VR, LB, PR, Stmt, BK, DO, Decls, no-decl, decl, Stmts, no-stmt, stmt, formalNames}
 use Rattle.language.specs.Check.{check, accepted}
-use Rattle.language.specs.Copy.{Replacement, renamed, without, renameAction, renameBlock, renameDecl, renameStmt, renameDecls, renameStmts}
-use Rattle.grammar.specs.Rules as Rules
-use Rattle.grammar.specs.Rules.{Each, Bytes, Name, Keeps, FormedAction, FormedFormals, FormedBlock, FormedDecl, FormedStmt, FormedDecls, FormedStmts}
+use Rattle.language.specs.Copy.{renamed, without, renameAction, renameBlock, renameDecl, renameStmt, renameDecls, renameStmts}
+use Rattle.laws.specs.Lookup.{AllBelow}
+use Rattle.grammar.specs.Rules.{Bytes, FormedAction, FormedFormals, FormedBlock, FormedDecl, FormedStmt, FormedDecls, FormedStmts}
 use Rattle.grammar.specs.Exact.{accepts-exactly}
-use Rattle.instances.specs.Statement as Statement
-use Rattle.frames.specs.Renaming.{AllBelow, SmallAction, SmallBlock, SmallDecl, SmallStmt, SmallDecls, SmallStmts, Distinct, among-miss}
+use Rattle.frames.specs.Renaming.{SmallAction, SmallBlock, SmallDecl, SmallStmt, SmallDecls, SmallStmts}
 use Rattle.frames.specs.Related.{TidyBlock, TidyDecl, TidyStmt, TidyDecls, TidyStmts, Fine}
-
-names-below : (ns : List ℕ) → Each Name ns → AllBelow ns
-names-below [] h = tt
-names-below (n ∷ ns) h = (h .0, names-below ns (h .1))
-
-not-among : (n : ℕ) (ns : List ℕ) → Each (λ (m : ℕ). n ≢ m) ns → among n ns ≡ false
-unfolding among
-not-among n [] h = refl
-not-among n (m ∷ ns) h = among-miss n m ns (ne-eqb n m (h .0)) ∙ not-among n ns (h .1)
-
-distinct : (ns : List ℕ) → Rules.Distinct ns → Distinct ns
-distinct [] h = tt
-distinct (n ∷ ns) h = (not-among n ns (h .0), distinct ns (h .1))
+use Rattle.instances.specs.Statement as Statement
 
 small-action : (a : Action) → FormedAction a → SmallAction a
 unfolding FormedAction SmallAction
-small-action (CL p xs) h = (h .called, names-below xs (h .arguments))
+small-action (CL p xs) h = (h .called, h .arguments)
 small-action (GO x) h = h
 small-action (IF v x) h = h
 small-action (KN x z) h = h .target
@@ -75,7 +56,7 @@ mutual
   unfolding FormedBlock TidyBlock
 
   tidy-block : (b : Block) (level : ℕ) (fs : List Formal) (here : ℕ) → FormedBlock b level fs here → TidyBlock b fs
-  tidy-block (block at ds ss) level fs here h = (h .few, distinct (formalNames fs ++ map declName (decls ds)) (h .once), tidy-decls ds level _ _ (h .declarations), tidy-stmts ss level _ (h .statements))
+  tidy-block (block at ds ss) level fs here h = (h .few, h .once, tidy-decls ds level _ _ (h .declarations), tidy-stmts ss level _ (h .statements))
 
   tidy-decl : (d : Decl) (level s here : ℕ) → FormedDecl d level s here → TidyDecl d
   tidy-decl (VR at n) level s here h = tt

@@ -1,26 +1,28 @@
 -- One step, and a whole run: from related states both machines come to related states, or stop for one cause at one offset.
-use Prim.Native.Nat.{ℕ, zero, suc, pred, _+_, _*_, _≤_, _<_}
+use Prim.Native.Nat.{ℕ, suc, pred, _+_, _<_}
 use native.Mathlib.Omega.{arith}
-use mathlib.Core.Bool.{Bool, true, false, _&&_, cond}
+use mathlib.Core.Bool.{Bool, true, false}
 use mathlib.Core.Path.{_≡_, refl, sym, ap, ap₂, _∙_, subst, subst₂}
 use mathlib.Core.List.{List, [], _∷_, _++_, map}
 use mathlib.Core.Option.{Option, none, some, Option·map}
 use lib.IntN.{ℤ, pos}
-use lib.ListN.{length, take, getElem?, length-append}
+use lib.ListN.{length, getElem?, length-append}
 use Rattle.language.specs.Basics.{eqZ, last?, butLast}
-use Rattle.language.specs.Text.{Kind, variable, label, procedure, Operation, Action, CL, GO, IF, KN, AR, AD, RM, QY, Block, Decl, Stmt, BK, DO, blockStmts, stmtAt, formalNames, declaredNames}
+use Rattle.language.specs.Text.{Kind, variable, label, procedure, Action, CL, GO, IF, KN, AR, AD, RM, QY, Block, Stmt, BK, DO, blockStmts, stmtAt, formalNames, declaredNames}
 use Rattle.language.specs.Copy.{Replacement, renamed, renameAction, renameBlock, renameStmt, without}
-use Rattle.language.specs.Machine.{Activation, State, Limits, Instance, Done, did, stop, withLive, resume, value, compute, doAction, doStmt, enterIfRoom, nextStmt, advance, stepIn, step, nextOffset}
-use Rattle.instances.specs.Statement.{usesOf, Serves, Stands}
+use Rattle.language.specs.Machine.{Activation, State, Limits, withLive, resume, value, compute, doAction, doStmt, enterIfRoom, nextStmt, advance, stepIn, step, nextOffset}
+use Rattle.laws.specs.Lists.{last-snoc, butLast-snoc, last-split, getElem-snoc, getElem?-map}
+use Rattle.laws.specs.Lookup.{AllBelow}
+use Rattle.laws.specs.Renaming.{blockStmts-renamed, stmtAt-renamed}
+use Rattle.instances.specs.Statement.{usesOf, Stands}
 use Rattle.instances.specs.Closed.{Kinds, Used, AllUsed, InStmt}
 use Rattle.instances.specs.Invariant.{liveKinds, Invariant}
 use Rattle.instances.specs.Theorems.{stands}
 use Rattle.instances.specs.Steps.{next-closed, advanced, advanced-kinds}
-use Rattle.frames.specs.Frame.{Frame, Stack, Acted, acted, halted, continue, withFrames, wordAt, designates, mapAction, act, actStmt, pushFrame, frameStmt, advanceFrame, actIn, frameStep, frameOffset}
-use Rattle.frames.specs.Lists.{none≢some, some-inj, last-snoc, butLast-snoc, last-split, last-none, getElem-snoc}
-use Rattle.frames.specs.Renaming.{SmallAction, SmallStmt, SmallBlock, AllBelow, blockStmts-renamed, stmtAt-renamed, small-stmt-at, getElem?-map}
+use Rattle.frames.specs.Frame.{Frame, Stack, continue, withFrames, wordAt, designates, mapAction, act, actStmt, pushFrame, frameStmt, advanceFrame, actIn, frameStep, frameOffset}
+use Rattle.frames.specs.Renaming.{SmallAction, SmallBlock, small-stmt-at}
 use Rattle.frames.specs.Both.{both-length}
-use Rattle.frames.specs.Related.{readsIn, readsAt, joined, designatorAt, Fine, Twin, Related}
+use Rattle.frames.specs.Related.{readsAt, joined, designatorAt, Fine, Twin, Related}
 use Rattle.frames.specs.Cuts.{Top, top-of, related-pop, related-resume}
 use Rattle.frames.specs.Find.{designates-name}
 use Rattle.frames.specs.Actions.{Alike, word-is-value, store-alike, fits-alike, add-alike, remove-alike, query-alike}

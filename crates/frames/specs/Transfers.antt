@@ -1,26 +1,26 @@
 -- Gotos, calls and blocks entered: the relation is kept, or both machines stop for one cause.
-use Prim.Native.Nat.{ℕ, zero, suc, pred, _+_, _*_, _≤_, _<_}
+use Prim.Native.Nat.{ℕ, zero, suc, pred, _+_, _≤_}
 use native.Mathlib.Omega.{arith}
-use mathlib.Core.Bool.{Bool, true, false, _&&_, cond}
+use mathlib.Core.Bool.{Bool, true, false, _&&_}
 use mathlib.Core.Path.{_≡_, refl, sym, ap, ap₂, _∙_, subst, subst₂}
 use mathlib.Core.List.{List, [], _∷_, _++_, map}
 use mathlib.Core.Option.{Option, none, some}
-use lib.Dec.{ltb, leb}
-use lib.IntN.{ℤ, pos}
+use lib.Dec.{ltb}
 use lib.ListN.{length, take, getElem?, length-map}
-use Rattle.language.specs.Text.{Kind, variable, label, procedure, Formal, Block, block, Decl, VR, LB, PR, Decls, no-decl, decl, Stmts, no-stmt, stmt, Stmt, BK, DO, blockDecls, blockStmts, decls, stmts, declName, declKind, labelIndex, declFormals, declBody, formalNames, formalKinds, declaredNames, sameKind}
+use Rattle.language.specs.Text.{Kind, Formal, Block, block, Decl, VR, LB, PR, Decls, no-decl, decl, Stmts, no-stmt, stmt, Stmt, BK, blockDecls, blockStmts, decls, stmts, declKind, labelIndex, declFormals, declBody, formalNames, formalKinds, declaredNames, sameKind}
 use Rattle.language.specs.Scope.{agree}
 use Rattle.language.specs.Copy.{Replacement, renameBlock, without}
-use Rattle.language.specs.Machine.{Activation, State, Limits, Instance, instance, instanceFrom, Done, did, stop, withLive, resume, jump, kindAt, enter, enterIfRoom, call}
-use Rattle.language.specs.declared.Stop.the-variants.{NoActivationLeft, ArgumentsDiffer}
-use Rattle.instances.specs.Statement.{Serves, Stands}
-use Rattle.frames.specs.Frame.{Frame, Stack, Acted, acted, halted, numbered, continue, withFrames, frameNumber, declOf, kindOf, goTo, newFrame, pushFrame, callBy}
-use Rattle.frames.specs.Lists.{none≢some, some-inj, take-snoc, snoc-inj, getElem-bound, getElem-in}
-use Rattle.frames.specs.Instances.{instance-number}
-use Rattle.frames.specs.Renaming.{labelIndex-renamed, declFormals-renamed, declBody-renamed, small-decl-at, small-stmt-at, small-body, SmallBlock, SmallStmt, SmallDecl}
+use Rattle.language.specs.Machine.{Activation, State, Limits, Instance, instance, withLive, resume, jump, kindAt, enterIfRoom, call}
+use Rattle.laws.specs.Tests.{none≢some, some-inj}
+use Rattle.laws.specs.Lists.{take-snoc, snoc-inj, getElem-bound}
+use Rattle.laws.specs.Renaming.{labelIndex-renamed, declFormals-renamed, declBody-renamed}
+use Rattle.laws.specs.Instances.{instance-number}
+use Rattle.instances.specs.Statement.{Stands}
+use Rattle.frames.specs.Frame.{Frame, Stack, numbered, continue, withFrames, frameNumber, kindOf, goTo, pushFrame, callBy}
+use Rattle.frames.specs.Renaming.{small-decl-at, small-stmt-at, small-body, SmallBlock}
 use Rattle.frames.specs.Both.{both-length}
-use Rattle.frames.specs.Related.{readsIn, readsAt, joined, designatorAt, Fine, TidyBlock, TidyDecl, TidyStmt, TidyDecls, TidyStmts, LiveBelow, AllLive, Twin, Related}
-use Rattle.frames.specs.Cuts.{Top, top-of, related-take, related-resume}
+use Rattle.frames.specs.Related.{readsIn, readsAt, joined, designatorAt, Fine, TidyBlock, TidyDecl, TidyStmt, TidyDecls, TidyStmts, AllLive, Twin, Related}
+use Rattle.frames.specs.Cuts.{top-of, related-take, related-resume}
 use Rattle.frames.specs.Designated.{Designated, designated, declOf-designated, kindOf-designated}
 use Rattle.frames.specs.Push.{related-push}
 use Rattle.frames.specs.Actions.{Alike}
@@ -66,13 +66,13 @@ module _ (s : State) (t : Stack) (r : Related s t) where
 
 tidy-decls-at : (ds : Decls) (j : ℕ) (d : Decl) → TidyDecls ds → getElem? (decls ds) j ≡ some d → TidyDecl d
 unfolding TidyBlock decls
-tidy-decls-at no-decl j d h e = absurd (none≢some e)
+tidy-decls-at no-decl j d h e = none≢some e
 tidy-decls-at (decl c ds) zero d h e = subst TidyDecl (some-inj e) (h .0)
 tidy-decls-at (decl c ds) (suc j) d h e = tidy-decls-at ds j d (h .1) e
 
 tidy-stmts-at : (ss : Stmts) (j : ℕ) (x : Stmt) → TidyStmts ss → getElem? (stmts ss) j ≡ some x → TidyStmt x
 unfolding TidyBlock stmts
-tidy-stmts-at no-stmt j x h e = absurd (none≢some e)
+tidy-stmts-at no-stmt j x h e = none≢some e
 tidy-stmts-at (stmt c ss) zero x h e = subst TidyStmt (some-inj e) (h .0)
 tidy-stmts-at (stmt c ss) (suc j) x h e = tidy-stmts-at ss j x (h .1) e
 

@@ -2,7 +2,6 @@
 pub mod Rules
 pub mod Scoped
 pub mod Readers
-pub mod Once
 pub mod Words
 pub mod Reading
 pub mod Writing
