@@ -25,7 +25,7 @@ use Rattle.laws.specs.Rising.{Rising}
 use Rattle.grammar.specs.Rules.{Bytes}
 use Rattle.runs.specs.Account.{run-finished, run-spent, run-did, run-stopped}
 use Rattle.instances.specs.Invariant.{Invariant}
-use Rattle.instances.specs.Reading.{accepted-closed}
+use Rattle.instances.specs.Accepted.{accepted-closed}
 use Rattle.instances.specs.Steps.{started, step-keeps, counted-invariant}
 use Rattle.frames.specs.Frame.{Frame, Stack, Acted, acted, halted, withFrames, stepped, numbered, designates, linksFollowed, seekName, seekFrom, frameStep, frameOffset, Result, results, frameRun, frameStart, frameWords, frameSheet, frameLinks, frameReplied, frameRunOf, frameChecked}
 use Rattle.frames.specs.Both.{Both, both-length}
@@ -34,7 +34,7 @@ use Rattle.frames.specs.Push.{related-push}
 use Rattle.frames.specs.Find.{foundDesignator, passedIn, designates-found, links-found}
 use Rattle.frames.specs.Actions.{Alike, value-is}
 use Rattle.frames.specs.Steps.{step-alike, offset-alike}
-use Rattle.frames.specs.Script.{fine-script, bytes-below, rename-nothing}
+use Rattle.frames.specs.Script.{fine-script, rename-nothing}
 
 -- The clauses of the frame machine's run, as equations.
 module _ (l : Limits) (t : Stack) where
@@ -238,7 +238,7 @@ unfolding runOf frameRunOf
 runs-replied e f bytes t a =
     let l : Limits = record { activations = f .activations; group = f .group } in
     replied-same e f (runOf f t) (frameRunOf f t)
-    (runs-same l (f .allowance) (start t (f .table)) (frameStart t (f .table)) (start-related (f .script) t bytes a (f .table)) (started t (f .table) (accepted-closed (f .script) t (bytes-below (f .script) bytes) a)))
+    (runs-same l (f .allowance) (start t (f .table)) (frameStart t (f .table)) (start-related (f .script) t bytes a (f .table)) (started t (f .table) (accepted-closed (f .script) t bytes a)))
 
 pub checked-same : (e : Engine) (f : Fed) → Bytes (f .script) → (c : Checked) → check (f .script) ≡ c → frameChecked e f c ≡ checked e f c
 unfolding frameChecked checked

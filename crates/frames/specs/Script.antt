@@ -1,7 +1,7 @@
 -- An accepted script's text is as the relation wants it: names below 65,536, at most 32 different ones in a block.
-use Prim.Native.Nat.{ℕ, _+_, _<_}
-use mathlib.Core.Path.{_≡_, refl, sym, ap, ap₂, subst}
-use mathlib.Core.List.{List, [], _∷_, map, List·Memᴰ·head, List·Memᴰ·tail}
+use Prim.Native.Nat.{ℕ, _+_}
+use mathlib.Core.Path.{_≡_, refl, ap, ap₂}
+use mathlib.Core.List.{List, [], _∷_, map}
 use Rattle.language.specs.Basics.{lookup}
 use Rattle.language.specs.Text.{Formal, Action, CL, GO, IF, KN, AR, AD, RM, QY, Block, block, Decl, VR, LB, PR, Stmt, BK, DO, Decls, no-decl, decl, Stmts, no-stmt, stmt, formalNames}
 use Rattle.language.specs.Check.{check, accepted}
@@ -11,7 +11,6 @@ use Rattle.grammar.specs.Rules.{Bytes, FormedAction, FormedFormals, FormedBlock
 use Rattle.grammar.specs.Exact.{accepts-exactly}
 use Rattle.frames.specs.Renaming.{SmallAction, SmallBlock, SmallDecl, SmallStmt, SmallDecls, SmallStmts}
 use Rattle.frames.specs.Related.{TidyBlock, TidyDecl, TidyStmt, TidyDecls, TidyStmts, Fine}
-use Rattle.instances.specs.Statement as Statement
 
 small-action : (a : Action) → FormedAction a → SmallAction a
 unfolding FormedAction SmallAction
@@ -80,12 +79,6 @@ unfolding formalNames
 fine-script bs t bytes e =
     let k = accepts-exactly bs bytes t .0 e .1 in
     record { small = small-block t 1 [] 0 (k .formed); small-formals = tt; tidy = tidy-block t 1 [] 0 (k .formed) }
-
--- the same of bytes, said by membership
-pub bytes-below : (bs : List ℕ) → Bytes bs → Statement.Bytes bs
-bytes-below [] h b m = elim m [ ]
-bytes-below (x ∷ bs) h b (List·Memᴰ·head e) = subst (λ (y : ℕ). y < 256) (sym e) (h .0)
-bytes-below (x ∷ bs) h b (List·Memᴰ·tail m) = bytes-below bs (h .1) b m
 
 -- a text renamed by nothing is the text
 names-nothing : (xs : List ℕ) → map (renamed []) xs ≡ xs

@@ -8,7 +8,7 @@ use lib.ListN.{length}
 use Rattle.language.specs.Basics.{lookup, zip, upFrom}
 use Rattle.language.specs.Text.{Kind, Block, block, stmts, blockDecls, blockStmts, declKind, declaredNames}
 use Rattle.language.specs.Machine.{Activation, State, resume}
-use Rattle.instances.specs.Lookup.{lookup-nil, either, lookup-upFrom}
+use Rattle.laws.specs.Lookup.{lookup-nil, either, lookup-upFrom}
 use Rattle.instances.specs.Closed.{Kinds, declKinds, LabelsIn, AllUsed, InDecls, InStmts}
 
 -- the kinds of the names that a text declares, and of those that activations declare, outermost first: the order in which the

@@ -1,5 +1,5 @@
 -- Every step keeps the invariant, so every state that a run comes to has it.
-use Prim.Native.Nat.{ℕ, zero, suc, pred, _≤_, _<_}
+use Prim.Native.Nat.{ℕ, zero, suc, pred, _≤_}
 use mathlib.Core.Bool.{Bool, true, false, _&&_, cond}
 use mathlib.Core.List.{List, [], _∷_, _++_, map, append-assoc, append-nil}
 use mathlib.Core.Option.{Option, none, some}
@@ -7,20 +7,22 @@ use mathlib.Core.Path.{_≡_, refl, sym, ap, subst, _∙_}
 use native.Mathlib.Omega.{arith}
 use lib.Dec.{leb, ltb}
 use lib.IntN.{ℤ, pos}
-use lib.ListN.{length, take, getElem?}
+use lib.ListN.{length, take, drop, getElem?}
 use lib.Signed.{mag}
 use Rattle.language.specs.Basics.{lookup, last?, butLast, eqZ}
 use Rattle.language.specs.Text.{Kind, label, Formal, Action, CL, GO, IF, KN, AR, AD, RM, QY, Block, block, Decl, VR, LB, PR, Stmt, BK, DO, decl, decls, stmts, blockDecls, blockStmts, declKind, labelIndex, declFormals, declBody, formalNames, formalKinds}
 use Rattle.language.specs.Scope.{agree}
 use Rattle.language.specs.Table.{Table, holds, size, atLeastOne, full, add, remove}
 use Rattle.language.specs.Copy.{Replacement}
-use Rattle.language.specs.Machine.{Activation, State, Limits, withLive, withTable, counted, resume, store, value, Instance, declaredAt, instance, kindAt, Done, did, stop, enterIfRoom, call, jump, compute, storeIfFits, addPair, removePair, queryPair, doAction, doStmt, nextStmt, advance, stepIn, step, nextOffset, Outcome, run, ends, start}
+use Rattle.language.specs.Machine.{Activation, State, Limits, withLive, withTable, counted, resume, store, value, Instance, instance, kindAt, Done, did, stop, enterIfRoom, call, jump, compute, storeIfFits, addPair, removePair, queryPair, doAction, doStmt, nextStmt, advance, stepIn, step, nextOffset, Outcome, run, ends, start}
 use Rattle.language.specs.declared.End.the-variants.{Stopped}
+use Rattle.laws.specs.Tests.{split}
+use Rattle.laws.specs.Lists.{getElem-bound, getElem-split, last-split}
+use Rattle.laws.specs.Instances.{FoundAt, instance-found}
 use Rattle.instances.specs.Statement.{usesOf}
-use Rattle.instances.specs.Lookup.{split, some≢none, some-injective}
 use Rattle.instances.specs.Closed.{Kinds, LabelIn, LabelsIn, Used, AllUsed, InBlock, InDecl, InStmt}
 use Rattle.instances.specs.Invariant.{kindsIn, liveKinds, CopyIn, AllSeen, Placed, Stacked, Invariant, stacked-before, stacked-at, stacked-resumed, liveKinds-append}
-use Rattle.instances.specs.Found.{kindAt-live, instance-of, FoundAt, found-at, found-before, decl-in, label-in, stmt-in}
+use Rattle.instances.specs.Found.{kindAt-live, instance-of, decl-in, label-in, stmt-in}
 use Rattle.instances.specs.Entering.{entered}
 
 -- the state after, where there is one
@@ -50,12 +52,6 @@ pub counted-invariant : (s : State) → Invariant s → Invariant (counted s)
 unfolding counted
 counted-invariant s inv = record { stacked = inv .stacked }
 
-pub last-split : (as′ : List Activation) (a : Activation) → last? as′ ≡ some a → as′ ≡ butLast as′ ++ (a ∷ [])
-unfolding last? butLast
-last-split [] a e = some≢none (sym e)
-last-split (b ∷ []) a e = ap {B = List Activation} (λ (c : Activation). c ∷ []) (some-injective e)
-last-split (b ∷ c ∷ rest) a e = ap {B = List Activation} (λ r. b ∷ r) (last-split (c ∷ rest) a e)
-
 -- the innermost activation's next statement is closed
 last-kinds : (as′ : List Activation) (a : Activation) → last? as′ ≡ some a → liveKinds as′ ≡ liveKinds (butLast as′) ++ kindsIn (a .text)
 unfolding liveKinds
@@ -84,15 +80,10 @@ left s a inv e =
     record { stacked = stacked-before [] 65536 (butLast (s .live)) (a ∷ []) (s .fresh) (rw (last-split (s .live) a e) at (inv .stacked)) }
 
 -- going on to the next statement
-in-range : {A : Type 0} (l : List A) (i : ℕ) (x : A) → getElem? l i ≡ some x → i < length l
-in-range [] i x e = some≢none (sym e)
-in-range (y ∷ l) zero x e = omega arith
-in-range (y ∷ l) (suc i) x e = let r = in-range l i x e in omega arith
-
 pub advanced : (s : State) (a : Activation) (x : Stmt) → Invariant s → last? (s .live) ≡ some a → nextStmt a ≡ some x → Invariant (advance s a)
 unfolding advance withLive nextStmt
 advanced s a x inv e f =
-    let inside = in-range (blockStmts (a .text)) (pred (a .next)) x f in
+    let inside = getElem-bound (blockStmts (a .text)) (pred (a .next)) x f in
     record {
       stacked =
           stacked-resumed [] 65536 (butLast (s .live)) a [] (s .fresh) (suc (a .next)) (omega arith) (omega arith)
@@ -121,31 +112,37 @@ pub record Home (s : State) (i : Instance) : Type 0 where
   pub declaration : InDecl (i .decl) around
   pub label-inside : LabelIn (length (blockStmts (i .home .text))) (i .decl)
 
-decl-of-copy : (x j : ℕ) (b : Block) (K : Kinds) (p : ℕ × Decl) → declaredAt x j (blockDecls b) ≡ some p → CopyIn b K →
-    InDecl (p .1) K × LabelIn (length (blockStmts b)) (p .1)
+decl-of-copy : (b : Block) (j : ℕ) (K : Kinds) (d : Decl) → getElem? (blockDecls b) j ≡ some d → CopyIn b K → InDecl d K × LabelIn (length (blockStmts b)) d
 unfolding blockDecls blockStmts CopyIn
-decl-of-copy x j (block at ds ss) K p e h = (decl-in x j ds K p e (h .1), label-in x j (length (stmts ss)) ds p e (h .0))
+decl-of-copy (block at ds ss) j K d e h = (decl-in ds j K d e (h .1), label-in ds j (length (stmts ss)) d e (h .0))
+
+-- the activations before an instance's, that one, and those after it
+pub live-split : (s : State) (x : ℕ) (i : Instance) (f : FoundAt x 1 (s .live) i) →
+    s .live ≡ take (f .depth) (s .live) ++ (i .home ∷ drop (suc (f .depth)) (s .live))
+live-split s x i f = getElem-split (s .live) (f .depth) (i .home) (f .home-at)
 
 pub home-of : (s : State) (x : ℕ) (i : Instance) → Invariant s → (f : FoundAt x 1 (s .live) i) → Home s i
 unfolding liveKinds
 home-of s x i inv f =
-    let p = stacked-at [] 65536 (f .before) (i .home) (f .after) (s .fresh) (subst (λ (as′ : List Activation). Stacked [] 65536 as′ (s .fresh)) (f .whole) (inv .stacked)) in
-    let around : Kinds = liveKinds (f .before) ++ kindsIn (i .home .text) in
-    let d = decl-of-copy x (suc (length (i .home .arguments))) (i .home .text) around (i .position, i .decl) (f .declared) (p .1 .closed) in
+    let before = take (f .depth) (s .live) in
+    let after = drop (suc (f .depth)) (s .live) in
+    let p = stacked-at [] 65536 before (i .home) after (s .fresh) (subst (λ (as′ : List Activation). Stacked [] 65536 as′ (s .fresh)) (live-split s x i f) (inv .stacked)) in
+    let around : Kinds = liveKinds before ++ kindsIn (i .home .text) in
+    let d = decl-of-copy (i .home .text) (f .index) around (i .decl) (f .decl-at) (p .1 .closed) in
     record {
       around = around;
-      above = liveKinds (f .after);
+      above = liveKinds after;
       part =
-          ap liveKinds (f .whole) ∙ liveKinds-append (f .before) (i .home ∷ f .after) ∙
-          sym (append-assoc (liveKinds (f .before)) (kindsIn (i .home .text)) (liveKinds (f .after)));
+          ap liveKinds (live-split s x i f) ∙ liveKinds-append before (i .home ∷ after) ∙
+          sym (append-assoc (liveKinds before) (kindsIn (i .home .text)) (liveKinds after));
       declaration = d .0;
       label-inside = d .1;
     }
 
 pub body-in : (d : Decl) (K : Kinds) → InDecl d K → InBlock (declBody d) (declFormals d) K
 unfolding InBlock declBody declFormals formalNames decls LabelsIn
-body-in (VR at n) K h = (record { formals-small = tt; small = tt; apart = tt; labels = tt }, tt, tt)
-body-in (LB at n i) K h = (record { formals-small = tt; small = tt; apart = tt; labels = tt }, tt, tt)
+body-in (VR at n) K h = (record { formals-small = tt; small = tt; once = tt; labels = tt }, tt, tt)
+body-in (LB at n i) K h = (record { formals-small = tt; small = tt; once = tt; labels = tt }, tt, tt)
 body-in (PR at n fs b) K h = h
 
 kinds-of-arguments : (s : State) (xs : List ℕ) → map (kindAt s) xs ≡ map (λ (x : ℕ). lookup x (liveKinds (s .live))) xs
@@ -160,7 +157,7 @@ called-instance : (l : Limits) (s : State) (xs : List ℕ) (i : Instance) (x : �
     Holds (enterIfRoom l s (formalNames (declFormals (i .decl))) xs (declBody (i .decl)) (i .home .reads))
 unfolding instance
 called-instance l s xs i x inv e seen agrees =
-    let h = home-of s x i inv (found-at x 1 (s .live) i e) in
+    let h = home-of s x i inv (instance-found x 1 (s .live) i e) in
     entered-if-room l s (declFormals (i .decl)) xs (declBody (i .decl)) (i .home .reads) (h .around) (h .above) inv (h .part) seen
     (rw (kinds-of-arguments s xs) at agrees) (body-in (i .decl) (h .around) (h .declaration))
 
@@ -184,12 +181,13 @@ jumped-to : (s : State) (x : ℕ) (i : Instance) → Invariant s → instance s 
     Invariant (withLive s (take (pred (i .number)) (s .live) ++ (resume (i .home) (labelIndex (i .decl)) ∷ [])))
 unfolding instance withLive
 jumped-to s x i inv e k =
-    let f = found-at x 1 (s .live) i e in
+    let f = instance-found x 1 (s .live) i e in
     let b = label-bounds (i .decl) (length (blockStmts (i .home .text))) k (home-of s x i inv f .label-inside) in
+    let below : pred (i .number) ≡ f .depth = let n = f .number-is in omega arith in
     record {
       stacked =
-          rw (found-before x (s .live) i f) (stacked-resumed [] 65536 (f .before) (i .home) (f .after) (s .fresh) (labelIndex (i .decl)) (b .0) (omega arith)
-          (subst (λ (as′ : List Activation). Stacked [] 65536 as′ (s .fresh)) (f .whole) (inv .stacked)));
+          rw below (stacked-resumed [] 65536 (take (f .depth) (s .live)) (i .home) (drop (suc (f .depth)) (s .live)) (s .fresh) (labelIndex (i .decl)) (b .0) (omega arith)
+          (subst (λ (as′ : List Activation). Stacked [] 65536 as′ (s .fresh)) (live-split s x i f) (inv .stacked)));
     }
 
 pub jumped : (s : State) (x : ℕ) → Invariant s → lookup x (liveKinds (s .live)) ≡ some label → Invariant (jump s x)

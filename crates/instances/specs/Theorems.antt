@@ -7,9 +7,10 @@ use Rattle.language.specs.Text.{Kind, Block, DO}
 use Rattle.language.specs.Check.{check, accepted}
 use Rattle.language.specs.Table.{Table}
 use Rattle.language.specs.Machine.{State, Limits, start}
-use Rattle.instances.specs.Statement.{usesOf, Serves, Stands, Bytes, after, EveryUseStands, DeclaredOnce}
+use Rattle.grammar.specs.Rules.{Bytes}
+use Rattle.instances.specs.Statement.{usesOf, Serves, Stands, after, EveryUseStands, DeclaredOnce}
 use Rattle.instances.specs.Closed.{Kinds, Used, AllUsed, InStmt}
-use Rattle.instances.specs.Reading.{accepted-closed}
+use Rattle.instances.specs.Accepted.{accepted-closed}
 use Rattle.instances.specs.Invariant.{liveKinds, Invariant, stacked-between}
 use Rattle.instances.specs.Found.{instance-of}
 use Rattle.instances.specs.Steps.{started, next-closed, run-keeps}
@@ -45,4 +46,4 @@ every-use-stands bs t bytes e l table n a at x last next name wanted m =
 pub declared-once : DeclaredOnce
 declared-once bs t bytes e l table n i j p q a b name =
     let s : State = after l n t table in
-    one-place [] 65536 (s .live) (s .fresh) (always bs t bytes e l table n .stacked) i j p q a b name
+    one-place s (always bs t bytes e l table n) i j p q a b name
