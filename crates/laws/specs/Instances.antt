@@ -9,7 +9,7 @@ use borrow.Author.Tests.{eqb-true}
 use lib.Dec.{eqb}
 use lib.ListN.{length, take, getElem?}
 use Rattle.language.specs.Text.{Decl, blockDecls, declName}
-use Rattle.language.specs.Machine.{Activation, Instance, declaredAt, instanceFrom}
+use Rattle.language.specs.Machine.{Activation, State, Instance, declaredAt, instanceFrom, instance}
 use Rattle.laws.specs.Tests.{none≢some, some-inj}
 
 module _ (x j : ℕ) (d : Decl) (ds : List Decl) where
@@ -110,3 +110,7 @@ instance-found x n (a ∷ l) i e = go (declaredBy x a) refl (instance-found x (s
         let q : instanceIn n a p ≡ i = some-inj (sym (instance-here x n a l p e′) ∙ e) in
         subst (λ (j : Instance). FoundAt x n (a ∷ l) j) q
         (record { depth = 0; index = r .0; home-at = refl; number-is = omega arith; decl-at = r .1; position-is = r .2; name-is = r .3 })
+
+pub found : (s : State) (x : ℕ) (i : Instance) → instance s x ≡ some i → FoundAt x 1 (s .live) i
+unfolding instance
+found s x i e = instance-found x 1 (s .live) i e
