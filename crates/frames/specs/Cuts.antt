@@ -13,7 +13,7 @@ use Rattle.language.specs.Copy.{Replacement}
 use Rattle.language.specs.Machine.{Activation, State, Instance, instanceFrom, resume, withLive}
 use Rattle.laws.specs.Tests.{none≢some, some-inj}
 use Rattle.laws.specs.Lists.{getElem-take}
-use Rattle.laws.specs.Instances.{instance-take, declaredBy, instance-here, instance-there, instanceIn}
+use Rattle.laws.specs.Instances.{instance-take, declaredBy, instance-here, instance-there, instanceIn, found}
 use Rattle.laws.specs.Rising.{Rising, rising-within}
 use Rattle.frames.specs.Frame.{Frame, Stack, numbered, continue, withFrames}
 use Rattle.frames.specs.Both.{Both, both-map, both-take, both-snoc, both-length, both-unsnoc}

@@ -22,7 +22,7 @@ use Rattle.laws.specs.Lookup.{zip-append, lookup-left, lookup-right}
 use Rattle.laws.specs.Renaming.{renamed-some, renamed-none, declaredNames-renamed}
 use Rattle.laws.specs.Rising.{rising-instance, rising-none}
 use Rattle.frames.specs.Frame.{Frame, Stack, Place, numbered, frameNames, positionFrom, seekFrom, seekName, designatorIn, finally, designates, linksFollowed}
-use Rattle.frames.specs.Renaming.{lookup-position, lookup-no-position, position-range}
+use Rattle.frames.specs.Positions.{lookup-position, lookup-no-position, position-range}
 use Rattle.frames.specs.Both.{both-at, both-length}
 use Rattle.frames.specs.Related.{readsIn, readsAt, joined, designatorFor, designatorAt, wordIn, ownOf, Twin, Related}
 

@@ -5,6 +5,7 @@ pub mod Examples
 pub mod Theorem
 pub mod Both
 pub mod Renaming
+pub mod Positions
 pub mod Related
 pub mod Cuts
 pub mod Find

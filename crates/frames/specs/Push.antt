@@ -19,13 +19,13 @@ use Rattle.laws.specs.Lists.{getElem-in, getElem-bound, getElem-append, map-ali
 use Rattle.laws.specs.Each.{each-append}
 use Rattle.laws.specs.Lookup.{each-zip, AllNew, lookup-here, lookup-there, lookup-right, length-upFrom}
 use Rattle.laws.specs.Renaming.{Big, declaredNames-renamed}
-use Rattle.laws.specs.Instances.{instance-found, instance-append}
+use Rattle.laws.specs.Instances.{instance-found, instance-append, found}
 use Rattle.laws.specs.Rising.{Rising, rising-name}
+use Rattle.grammar.specs.Formed.{block-once}
 use Rattle.frames.specs.Frame.{Frame, Stack, numbered, newFrame, zeroWords, withFrames}
 use Rattle.frames.specs.Renaming.{entered-text, own-kept, declared-new}
 use Rattle.frames.specs.Both.{both-at, both-map, both-snoc}
 use Rattle.frames.specs.Related.{readsIn, readsAt, joined, designatorAt, orZero, valueIn, wordIn, Fine, LiveBelow, AllLive, ownOf, Twin, Related}
-use Rattle.frames.specs.Designated.{tidy-distinct}
 use Rattle.frames.specs.Cuts.{SameBelow, twin-same, all-live-same, designators-same}
 
 -- What names read as are new names, everywhere.
@@ -180,14 +180,14 @@ module _ (s : State) (t : Stack) (r : Related s t) (fs : List Formal) (b : Block
   many-names = length-map fs (λ (x : Formal). x .name) ∙ sym many
 
   text-is : a .text ≡ renameBlock b (own ++ σ)
-  text-is = entered-text names xs (s .fresh) b σ (readsAt l m) (fine .small) (fine .small-formals) many-names (reads-big s t r m deep)
+  text-is = entered-text names xs (s .fresh) b σ (readsAt l m) (fine .level) fs (fine .here) (fine .formed) (fine .small-formals) many-names (reads-big s t r m deep)
 
   reads-are : a .reads ≡ own ∷ readsAt l m
   unfolding activation
   reads-are = ap (_∷ readsAt l m) (own-kept names xs (s .fresh) b σ)
 
   names-new : declaredNames (a .text) ≡ upFrom (s .fresh) (length (declaredNames b))
-  names-new = ap declaredNames text-is ∙ declared-new names xs (s .fresh) b σ many-names (tidy-distinct b fs (fine .tidy))
+  names-new = ap declaredNames text-is ∙ declared-new names xs (s .fresh) b σ many-names (block-once (fine .level) fs (fine .here) b (fine .formed))
 
   as-many-decls : length (blockDecls (a .text)) ≡ length (declaredNames b)
   unfolding declaredNames

@@ -1,5 +1,5 @@
 -- Gotos, calls and blocks entered: the relation is kept, or both machines stop for one cause.
-use Prim.Native.Nat.{ℕ, zero, suc, pred, _+_, _≤_}
+use Prim.Native.Nat.{ℕ, suc, pred, _+_, _≤_}
 use native.Mathlib.Omega.{arith}
 use mathlib.Core.Bool.{Bool, true, false, _&&_}
 use mathlib.Core.Path.{_≡_, refl, sym, ap, ap₂, _∙_, subst, subst₂}
@@ -7,19 +7,19 @@ use mathlib.Core.List.{List, [], _∷_, _++_, map}
 use mathlib.Core.Option.{Option, none, some}
 use lib.Dec.{ltb}
 use lib.ListN.{length, take, getElem?, length-map}
-use Rattle.language.specs.Text.{Kind, Formal, Block, block, Decl, VR, LB, PR, Decls, no-decl, decl, Stmts, no-stmt, stmt, Stmt, BK, blockDecls, blockStmts, decls, stmts, declKind, labelIndex, declFormals, declBody, formalNames, formalKinds, declaredNames, sameKind}
+use Rattle.language.specs.Text.{Kind, Formal, Block, block, Decl, VR, LB, PR, decl, BK, blockDecls, blockStmts, decls, declKind, labelIndex, declFormals, declBody, formalNames, formalKinds, declaredNames, sameKind}
 use Rattle.language.specs.Scope.{agree}
 use Rattle.language.specs.Copy.{Replacement, renameBlock, without}
 use Rattle.language.specs.Machine.{Activation, State, Limits, Instance, instance, withLive, resume, jump, kindAt, enterIfRoom, call}
-use Rattle.laws.specs.Tests.{none≢some, some-inj}
 use Rattle.laws.specs.Lists.{take-snoc, snoc-inj, getElem-bound}
 use Rattle.laws.specs.Renaming.{labelIndex-renamed, declFormals-renamed, declBody-renamed}
-use Rattle.laws.specs.Instances.{instance-number}
+use Rattle.laws.specs.Instances.{instance-number, found}
+use Rattle.grammar.specs.Rules.{FormedBlock, FormedDecl}
+use Rattle.grammar.specs.Formed.{formal-names, decl-at, stmt-at}
 use Rattle.instances.specs.Statement.{Stands}
 use Rattle.frames.specs.Frame.{Frame, Stack, numbered, continue, withFrames, frameNumber, kindOf, goTo, pushFrame, callBy}
-use Rattle.frames.specs.Renaming.{small-decl-at, small-stmt-at, small-body, SmallBlock}
 use Rattle.frames.specs.Both.{both-length}
-use Rattle.frames.specs.Related.{readsIn, readsAt, joined, designatorAt, Fine, TidyBlock, TidyDecl, TidyStmt, TidyDecls, TidyStmts, AllLive, Twin, Related}
+use Rattle.frames.specs.Related.{readsIn, readsAt, joined, designatorAt, Fine, AllLive, Twin, Related}
 use Rattle.frames.specs.Cuts.{top-of, related-take, related-resume}
 use Rattle.frames.specs.Designated.{Designated, designated, declOf-designated, kindOf-designated}
 use Rattle.frames.specs.Push.{related-push}
@@ -62,43 +62,21 @@ module _ (s : State) (t : Stack) (r : Related s t) where
       subst₂ Related (sym (jump-is x i (v .found) d)) (sym (goTo-is x i (v .found) d))
       (cut-back (d .depth) (labelIndex (i .decl)) (i .home) (d .frame) (d .home-at) (d .frame-at))
 
--- What is fine stays so within.
-
-tidy-decls-at : (ds : Decls) (j : ℕ) (d : Decl) → TidyDecls ds → getElem? (decls ds) j ≡ some d → TidyDecl d
-unfolding TidyBlock decls
-tidy-decls-at no-decl j d h e = none≢some e
-tidy-decls-at (decl c ds) zero d h e = subst TidyDecl (some-inj e) (h .0)
-tidy-decls-at (decl c ds) (suc j) d h e = tidy-decls-at ds j d (h .1) e
-
-tidy-stmts-at : (ss : Stmts) (j : ℕ) (x : Stmt) → TidyStmts ss → getElem? (stmts ss) j ≡ some x → TidyStmt x
-unfolding TidyBlock stmts
-tidy-stmts-at no-stmt j x h e = none≢some e
-tidy-stmts-at (stmt c ss) zero x h e = subst TidyStmt (some-inj e) (h .0)
-tidy-stmts-at (stmt c ss) (suc j) x h e = tidy-stmts-at ss j x (h .1) e
-
-tidy-decl-at : (b : Block) (fs : List Formal) (j : ℕ) (d : Decl) → TidyBlock b fs → getElem? (blockDecls b) j ≡ some d → TidyDecl d
-unfolding TidyBlock blockDecls
-tidy-decl-at (block at ds ss) fs j d h e = tidy-decls-at ds j d (h .2) e
-
-tidy-stmt-at : (b : Block) (fs : List Formal) (j : ℕ) (x : Stmt) → TidyBlock b fs → getElem? (blockStmts b) j ≡ some x → TidyStmt x
-unfolding TidyBlock blockStmts
-tidy-stmt-at (block at ds ss) fs j x h e = tidy-stmts-at ss j x (h .3) e
-
-tidy-body : (d : Decl) → TidyDecl d → TidyBlock (declBody d) (declFormals d)
-unfolding TidyBlock declBody declFormals formalNames decls
-tidy-body (VR at n) h = (omega arith, tt, tt, tt)
-tidy-body (LB at n i) h = (omega arith, tt, tt, tt)
-tidy-body (PR at n fs b) h = h
+-- What is fine stays so within; what is no procedure has an empty body.
+formed-body : (d : Decl) (level s here : ℕ) → FormedDecl d level s here → Fine (declFormals d) (declBody d)
+unfolding FormedBlock declBody declFormals formalNames decls
+formed-body (VR at n) level s here h = record { level = 1; here = 0; formed = record { stands = refl; nesting = omega arith; few = omega arith; once = tt; declarations = tt; statements = tt }; small-formals = tt }
+formed-body (LB at n i) level s here h = record { level = 1; here = 0; formed = record { stands = refl; nesting = omega arith; few = omega arith; once = tt; declarations = tt; statements = tt }; small-formals = tt }
+formed-body (PR at n fs b) level s here h = record { level = _; here = _; formed = h .body; small-formals = formal-names fs _ (h .formals) }
 
 pub fine-body : (fs : List Formal) (b : Block) (j : ℕ) (d : Decl) → Fine fs b → getElem? (blockDecls b) j ≡ some d → Fine (declFormals d) (declBody d)
-fine-body fs b j d f e =
-    let h = small-body d (small-decl-at b j d (f .small) e) in
-    record { small = h .1; small-formals = h .0; tidy = tidy-body d (tidy-decl-at b fs j d (f .tidy) e) }
+fine-body fs b j d f e = let h = decl-at (f .level) fs (f .here) b j d (f .formed) e in formed-body d (f .level) _ (h .0) (h .1)
 
 pub fine-block : (fs : List Formal) (b : Block) (j : ℕ) (c : Block) → Fine fs b → getElem? (blockStmts b) j ≡ some (BK c) → Fine [] c
-unfolding SmallBlock TidyBlock formalNames
+unfolding FormedBlock formalNames
 fine-block fs b j c f e =
-    record { small = small-stmt-at b j (BK c) (f .small) e; small-formals = tt; tidy = tidy-stmt-at b fs j (BK c) (f .tidy) e }
+    let h = stmt-at (f .level) fs (f .here) b j (BK c) (f .formed) e in
+    record { level = _; here = h .0; formed = h .1; small-formals = tt }
 
 -- Entering
 
