@@ -1,5 +1,5 @@
 -- Every step keeps the invariant, so every state that a run comes to has it.
-use Prim.Native.Nat.{ℕ, zero, suc, pred, _≤_}
+use Prim.Native.Nat.{ℕ, suc, pred, _≤_}
 use mathlib.Core.Bool.{Bool, true, false, _&&_, cond}
 use mathlib.Core.List.{List, [], _∷_, _++_, map, append-assoc, append-nil}
 use mathlib.Core.Option.{Option, none, some}
@@ -14,21 +14,20 @@ use Rattle.language.specs.Text.{Kind, label, Formal, Action, CL, GO, IF, KN, AR
 use Rattle.language.specs.Scope.{agree}
 use Rattle.language.specs.Table.{Table, holds, size, atLeastOne, full, add, remove}
 use Rattle.language.specs.Copy.{Replacement}
-use Rattle.language.specs.Machine.{Activation, State, Limits, withLive, withTable, counted, resume, store, value, Instance, instance, kindAt, Done, did, stop, enterIfRoom, call, jump, compute, storeIfFits, addPair, removePair, queryPair, doAction, doStmt, nextStmt, advance, stepIn, step, nextOffset, Outcome, run, ends, start}
-use Rattle.language.specs.declared.End.the-variants.{Stopped}
+use Rattle.language.specs.Machine.{Activation, State, Limits, withLive, withTable, counted, resume, store, value, Instance, instance, kindAt, Done, did, enterIfRoom, call, jump, compute, storeIfFits, addPair, removePair, queryPair, doAction, doStmt, nextStmt, advance, stepIn, step, run, start}
 use Rattle.laws.specs.Tests.{split}
 use Rattle.laws.specs.Lists.{getElem-bound, getElem-split, last-split}
 use Rattle.laws.specs.Instances.{FoundAt, instance-found}
+use Rattle.runs.specs.Moves.{After, run-after}
 use Rattle.instances.specs.Statement.{usesOf}
 use Rattle.instances.specs.Closed.{Kinds, LabelIn, LabelsIn, Used, AllUsed, InBlock, InDecl, InStmt}
 use Rattle.instances.specs.Invariant.{kindsIn, liveKinds, CopyIn, AllSeen, Placed, Stacked, Invariant, stacked-before, stacked-at, stacked-resumed, liveKinds-append}
 use Rattle.instances.specs.Found.{kindAt-live, instance-of, decl-in, label-in, stmt-in}
 use Rattle.instances.specs.Entering.{entered}
 
--- the state after, where there is one
-unfoldable pub Holds : Done → Type 0
-Holds (did s) = Invariant s
-Holds (stop c) = Unit {0}
+-- of the state after, where there is one
+abbrev pub Holds : Done → Type 0
+Holds d = After Invariant d
 
 holds-if : (t : Bool) (d e : Done) → Holds d → Holds e → Holds (elim t as (λ x. Done) [ true ↦ d | false ↦ e ])
 holds-if true d e h h′ = h
@@ -100,7 +99,7 @@ advanced-kinds s a e =
 entered-if-room : (l : Limits) (s : State) (fs : List Formal) (xs : List ℕ) (b : Block) (around : List Replacement) (K more : Kinds) → Invariant s →
     liveKinds (s .live) ≡ K ++ more → AllSeen (liveKinds (s .live)) xs →
     agree (formalKinds fs) (map (λ (x : ℕ). lookup x (liveKinds (s .live))) xs) ≡ true → InBlock b fs K → Holds (enterIfRoom l s (formalNames fs) xs b around)
-unfolding enterIfRoom Holds
+unfolding enterIfRoom
 entered-if-room l s fs xs b around K more inv part seen agrees h =
     holds-if (ltb (length (s .live)) (l .activations)) _ _ (entered s fs xs b around K more inv part seen agrees h) tt
 
@@ -162,7 +161,7 @@ called-instance l s xs i x inv e seen agrees =
     (rw (kinds-of-arguments s xs) at agrees) (body-in (i .decl) (h .around) (h .declaration))
 
 pub called : (l : Limits) (s : State) (p : ℕ) (xs : List ℕ) → Invariant s → AllSeen (liveKinds (s .live)) xs → Holds (call l s p xs)
-unfolding call Holds
+unfolding call
 called l s p xs inv seen = by (instance s p) refl
   where
     by : (o : Option Instance) → instance s p ≡ o → Holds (call l s p xs)
@@ -201,11 +200,11 @@ label-seen : (K : Kinds) (x : ℕ) → Used K (x, some label) → lookup x K ≡
 label-seen K x u = u .seen ∙ ap {B = Option Kind} some (sym (u .serves))
 
 fits : (s : State) (x : ℕ) (z : ℤ) → Invariant s → Holds (storeIfFits s x z)
-unfolding storeIfFits Holds
+unfolding storeIfFits
 fits s x z inv = holds-if (ltb (mag z) 2147483648) _ _ (stored s x z inv) tt
 
 added : (l : Limits) (s : State) (g m : ℤ) → Invariant s → Holds (addPair l s g m)
-unfolding addPair Holds
+unfolding addPair
 added l s g m inv =
     holds-if (atLeastOne g && atLeastOne m) _ _
     (holds-if (holds g m (s .table)) _ _ inv
@@ -213,15 +212,15 @@ added l s g m inv =
     tt
 
 removed : (s : State) (g m : ℤ) → Invariant s → Holds (removePair s g m)
-unfolding removePair Holds
+unfolding removePair
 removed s g m inv = holds-if (atLeastOne g && atLeastOne m) _ _ (retabled s (remove g m (s .table)) inv) tt
 
 queried : (s : State) (x : ℕ) (g m : ℤ) → Invariant s → Holds (queryPair s x g m)
-unfolding queryPair Holds
+unfolding queryPair
 queried s x g m inv = holds-if (atLeastOne g && atLeastOne m) _ _ (stored s x (cond (holds g m (s .table)) (pos 1) (pos 0)) inv) tt
 
 pub acted : (l : Limits) (s : State) (a : Action) → Invariant s → AllUsed (liveKinds (s .live)) (usesOf a) → Holds (doAction l s a)
-unfolding doAction Holds usesOf
+unfolding doAction usesOf
 acted l s (CL p xs) inv h = called l s p xs inv (h .1)
 acted l s (GO x) inv h = jumped s x inv (label-seen (liveKinds (s .live)) x (h .0))
 acted l s (IF v x) inv h = holds-if (eqZ (value s v) (pos 0)) _ _ inv (jumped s x inv (label-seen (liveKinds (s .live)) x (h .1 .0)))
@@ -238,7 +237,7 @@ did-stmt l s a (DO at x) inv h = acted l s x inv h
 
 -- one step
 step-in : (l : Limits) (s : State) (a : Activation) → Invariant s → last? (s .live) ≡ some a → Holds (stepIn l s a)
-unfolding stepIn Holds
+unfolding stepIn
 step-in l s a inv e = by (nextStmt a) refl
   where
     by : (o : Option Stmt) → nextStmt a ≡ o → Holds (stepIn l s a)
@@ -247,7 +246,7 @@ step-in l s a inv e = by (nextStmt a) refl
         rw (f, stepIn) (did-stmt l (advance s a) a x (advanced s a x inv e f) (rw (advanced-kinds s a e) (next-closed s a x inv e f)))
 
 pub step-holds : (l : Limits) (s : State) → Invariant s → Holds (step l s)
-unfolding step Holds
+unfolding step
 step-holds l s inv = by (last? (s .live)) refl
   where
     by : (o : Option Activation) → last? (s .live) ≡ o → Holds (step l s)
@@ -255,30 +254,7 @@ step-holds l s inv = by (last? (s .live)) refl
     by (some a) e = rw (e, step) (step-in l s a inv e)
 
 pub step-keeps : (l : Limits) (s s′ : State) → Invariant s → step l s ≡ did s′ → Invariant s′
-unfolding Holds
 step-keeps l s s′ inv e = rw e at (step-holds l s inv)
 
--- a run
-run-zero : (l : Limits) (s : State) → Invariant s → Invariant (run l 0 s .final)
-unfolding run ends
-run-zero l s inv = by (s .live) refl
-  where
-    by : (as′ : List Activation) → s .live ≡ as′ → Invariant (run l 0 s .final)
-    by [] e = rw (e, run) inv
-    by (a ∷ rest) e = rw (e, run) inv
-
-run-more : (l : Limits) (n : ℕ) (s : State) → Invariant s → ((s′ : State) → Invariant s′ → Invariant (run l n s′ .final)) → Invariant (run l (suc n) s .final)
-unfolding run ends
-run-more l n s inv below = by (s .live) refl
-  where
-    then : (d : Done) → step l s ≡ d → Invariant ((elim d as (λ x. Outcome) [ did s′ ↦ run l n (counted s′) | stop c ↦ ends (Stopped c) (nextOffset s) s ]) .final)
-    then (did s′) e = below (counted s′) (counted-invariant s′ (step-keeps l s s′ inv e))
-    then (stop c) e = inv
-
-    by : (as′ : List Activation) → s .live ≡ as′ → Invariant (run l (suc n) s .final)
-    by [] e = rw (e, run) inv
-    by (a ∷ rest) e = rw (e, run) (then (step l s) refl)
-
 pub run-keeps : (l : Limits) (n : ℕ) (s : State) → Invariant s → Invariant (run l n s .final)
-run-keeps l zero s inv = run-zero l s inv
-run-keeps l (suc n) s inv = run-more l n s inv (λ s′ h. run-keeps l n s′ h)
+run-keeps l n s inv = run-after l Invariant (step-holds l) counted-invariant n s inv

@@ -35,6 +35,25 @@ abbrev pub After : (State → Type 0) → Done → Type 0
 After P (did s) = P s
 After P (stop c) = Unit {0}
 
+-- A property that a step keeps is kept by a run. `counts`: it does not depend on the count of steps.
+module _ (l : Limits) (P : State → Type 0) (keeps : (s : State) → P s → After P (step l s)) (counts : (s : State) → P s → P (counted s)) where
+  pub run-after : (n : ℕ) (s : State) → P s → P ((run l n s) .final)
+  unfolding run ends
+  run-after zero s h = go (s .live)
+    where
+      go : (as′ : List Activation) → P ((elim as′ as (λ x. Outcome) [ [] ↦ ends Finished 0 s | a ∷ rest ↦ ends Spent 0 s ]) .final)
+      go [] = h
+      go (a ∷ rest) = h
+  run-after (suc n) s h = go (λ (s′ : State) (q : P s′). run-after n (counted s′) (counts s′ q)) (s .live)
+    where
+      on : ((s′ : State) → P s′ → P ((run l n (counted s′)) .final)) → (d : Done) → After P d → P ((elim d as (λ x. Outcome) [ did s′ ↦ run l n (counted s′) | stop c ↦ ends (Stopped c) (nextOffset s) s ]) .final)
+      on f (did s′) q = f s′ q
+      on f (stop c) q = h
+
+      go : ((s′ : State) → P s′ → P ((run l n (counted s′)) .final)) → (as′ : List Activation) → P ((elim as′ as (λ x. Outcome) [ [] ↦ ends Finished 0 s | a ∷ rest ↦ elim (step l s) [ did s′ ↦ run l n (counted s′) | stop c ↦ ends (Stopped c) (nextOffset s) s ] ]) .final)
+      go f [] = h
+      go f (a ∷ rest) = on f (step l s) (keeps s h)
+
 module _ (l : Limits) (P : State → Type 0) (k : Kept l P) where
   jump-keeps : (s : State) (x : ℕ) → P s → P (jump s x)
   unfolding jump
@@ -148,20 +167,5 @@ module _ (l : Limits) (P : State → Type 0) (k : Kept l P) where
       go none e = h
       go (some a) e = stepIn-keeps s a e h
 
-  -- `counts`: the property does not depend on the count of steps
   pub run-keeps : ((s : State) → P s → P (counted s)) → (n : ℕ) (s : State) → P s → P ((run l n s) .final)
-  unfolding run ends
-  run-keeps counts zero s h = go (s .live)
-    where
-      go : (as′ : List Activation) → P ((elim as′ as (λ x. Outcome) [ [] ↦ ends Finished 0 s | a ∷ rest ↦ ends Spent 0 s ]) .final)
-      go [] = h
-      go (a ∷ rest) = h
-  run-keeps counts (suc n) s h = go (λ (s′ : State) (q : P s′). run-keeps counts n (counted s′) (counts s′ q)) (s .live)
-    where
-      on : ((s′ : State) → P s′ → P ((run l n (counted s′)) .final)) → (d : Done) → After P d → P ((elim d as (λ x. Outcome) [ did s′ ↦ run l n (counted s′) | stop c ↦ ends (Stopped c) (nextOffset s) s ]) .final)
-      on f (did s′) q = f s′ q
-      on f (stop c) q = h
-
-      go : ((s′ : State) → P s′ → P ((run l n (counted s′)) .final)) → (as′ : List Activation) → P ((elim as′ as (λ x. Outcome) [ [] ↦ ends Finished 0 s | a ∷ rest ↦ elim (step l s) [ did s′ ↦ run l n (counted s′) | stop c ↦ ends (Stopped c) (nextOffset s) s ] ]) .final)
-      go f [] = h
-      go f (a ∷ rest) = on f (step l s) (step-keeps s h)
+  run-keeps counts n s h = run-after l P step-keeps counts n s h
