@@ -12,7 +12,6 @@ use Rattle.language.specs.Basics.{lookup}
 use Rattle.language.specs.Text.{Kind, variable, Decl, VR, LB, PR, declName, declKind}
 use Rattle.language.specs.Table.{Table, holds, size, atLeastOne, full, add, remove}
 use Rattle.language.specs.Machine.{State, Limits, instance, Done, did, stop, store, value, withTable, storeIfFits, addPair, removePair, queryPair}
-use Rattle.laws.specs.Instances.{found}
 use Rattle.instances.specs.Statement.{Stands}
 use Rattle.frames.specs.Frame.{Stack, Acted, acted, halted, wordAt, put, putIfFits, addTo, removeFrom, ask, tableChanged}
 use Rattle.frames.specs.Related.{designatorAt, valueIn, orZero, wordIn, Related}

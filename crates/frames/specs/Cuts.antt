@@ -6,15 +6,15 @@ use mathlib.Core.Path.{_≡_, refl, sym, ap, ap₂, _∙_, subst, subst₂}
 use mathlib.Core.List.{List, [], _∷_, _++_, map}
 use mathlib.Core.Option.{Option, none, some}
 use lib.IntN.{ℤ, pos}
-use lib.ListN.{length, take, getElem?, length-take}
+use lib.ListN.{length, take, drop, take-append-drop, getElem?, length-take}
 use lib.Seq.{take-append-seam}
 use Rattle.language.specs.Text.{Decl, blockDecls}
 use Rattle.language.specs.Copy.{Replacement}
 use Rattle.language.specs.Machine.{Activation, State, Instance, instanceFrom, resume, withLive}
 use Rattle.laws.specs.Tests.{none≢some, some-inj}
 use Rattle.laws.specs.Lists.{getElem-take}
-use Rattle.laws.specs.Instances.{instance-take, declaredBy, instance-here, instance-there, instanceIn, found}
-use Rattle.laws.specs.Rising.{Rising, rising-within}
+use Rattle.laws.specs.Instances.{instance-take, declaredBy, instance-here, instance-there, instanceIn}
+use Rattle.laws.specs.Rising.{Rising, rising-before, rising-resumed}
 use Rattle.frames.specs.Frame.{Frame, Stack, numbered, continue, withFrames}
 use Rattle.frames.specs.Both.{Both, both-map, both-take, both-snoc, both-length, both-unsnoc}
 use Rattle.frames.specs.Related.{readsIn, readsAt, designatorFor, designatorAt, wordIn, LiveBelow, AllLive, ownOf, Twin, Related}
@@ -64,18 +64,11 @@ same-take : (l : List Activation) (m k : ℕ) → k ≤ m → SameBelow l (take 
 same-take l m k h =
     record { same-reads = λ j b. readsAt-take l m j (omega arith); same-instances = λ x i e b. (i, instance-take x 1 m l i e (omega arith), refl, refl) }
 
-rising-take : (low : ℕ) (l : List Activation) (fresh m : ℕ) → Rising low l fresh → Rising low (take m l) fresh
-unfolding Rising
-rising-take low [] fresh zero r = r
-rising-take low [] fresh (suc m) r = r
-rising-take low (a ∷ l) fresh zero r = rising-within low (a ∷ l) fresh r
-rising-take low (a ∷ l) fresh (suc m) r = (r .0, r .1, r .2, rising-take (r .0 + length (blockDecls (a .text))) l fresh m (r .3))
-
 pub related-take : (s : State) (t : Stack) (m : ℕ) → Related s t → Related (withLive s (take m (s .live))) (withFrames t (take m (t .frames)))
 unfolding withLive withFrames
 related-take s t m r =
     let l = s .live in
-    record { twins = both-map (Twin l (s .values)) (Twin (take m l) (s .values)) 0 (take m l) (take m (t .frames)) (λ j a f h e e′ w. twin-same (same-take l m (0 + j) (let b = length-take m l in omega arith)) (s .values) (s .values) a f refl w) (both-take (Twin l (s .values)) 0 m l (t .frames) (r .twins)); rising = rising-take 65536 l (s .fresh) m (r .rising); table-is = r .table-is; steps-are = r .steps-are }
+    record { twins = both-map (Twin l (s .values)) (Twin (take m l) (s .values)) 0 (take m l) (take m (t .frames)) (λ j a f h e e′ w. twin-same (same-take l m (0 + j) (let b = length-take m l in omega arith)) (s .values) (s .values) a f refl w) (both-take (Twin l (s .values)) 0 m l (t .frames) (r .twins)); rising = rising-before 65536 (take m l) (drop m l) (s .fresh) (rw take-append-drop (r .rising)); table-is = r .table-is; steps-are = r .steps-are }
 
 -- the last activation resumed at another statement
 module _ (a : Activation) (n : ℕ) where
@@ -116,11 +109,6 @@ module _ (a : Activation) (n : ℕ) where
       reads zero = refl
       reads (suc j) = readsAt-resume pre j
 
-  rising-resume : (low : ℕ) (pre : List Activation) (fresh : ℕ) → Rising low (pre ++ (a ∷ [])) fresh → Rising low (pre ++ (resume a n ∷ [])) fresh
-  unfolding Rising resume
-  rising-resume low [] fresh r = r
-  rising-resume low (b ∷ pre) fresh r = (r .0, r .1, r .2, rising-resume (r .0 + length (blockDecls (b .text))) pre fresh (r .3))
-
   twin-resume : (l : List Activation) (vs : List (ℕ × ℤ)) (k : ℕ) (f : Frame) → Twin l vs k a f → Twin l vs k (resume a n) (continue f n)
   unfolding resume continue ownOf
   twin-resume l vs k f t =
@@ -158,4 +146,4 @@ module _ (s : State) (t : Stack) (r : Related s t) (p : Top s t) where
   related-resume n =
       let l = p .below ++ (resume (p .activation) n ∷ []) in
       let same : (k : ℕ) → SameBelow (s .live) l k = λ k. subst (λ (m : List Activation). SameBelow m l k) (sym (p .live-is)) (same-resume (p .activation) n (p .below) k) in
-      record { twins = both-snoc (Twin l (s .values)) 0 (p .below) (p .below-frames) (resume (p .activation) n) (continue (p .frame) n) (both-map (Twin (s .live) (s .values)) (Twin l (s .values)) 0 (p .below) (p .below-frames) (λ j a f h e e′ w. twin-same (same (0 + j)) (s .values) (s .values) a f refl w) (p .twins-below)) (rw zero-add (twin-resume (p .activation) n l (s .values) (length (p .below)) (p .frame) (twin-same (same (length (p .below))) (s .values) (s .values) (p .activation) (p .frame) refl (p .twin)))); rising = rising-resume (p .activation) n 65536 (p .below) (s .fresh) (subst (λ (m : List Activation). Rising 65536 m (s .fresh)) (p .live-is) (r .rising)); table-is = r .table-is; steps-are = r .steps-are }
+      record { twins = both-snoc (Twin l (s .values)) 0 (p .below) (p .below-frames) (resume (p .activation) n) (continue (p .frame) n) (both-map (Twin (s .live) (s .values)) (Twin l (s .values)) 0 (p .below) (p .below-frames) (λ j a f h e e′ w. twin-same (same (0 + j)) (s .values) (s .values) a f refl w) (p .twins-below)) (rw zero-add (twin-resume (p .activation) n l (s .values) (length (p .below)) (p .frame) (twin-same (same (length (p .below))) (s .values) (s .values) (p .activation) (p .frame) refl (p .twin)))); rising = rising-resumed 65536 (p .below) (p .activation) [] (s .fresh) n (subst (λ (m : List Activation). Rising 65536 m (s .fresh)) (p .live-is) (r .rising)); table-is = r .table-is; steps-are = r .steps-are }

@@ -19,8 +19,8 @@ use Rattle.laws.specs.Lists.{getElem-in, getElem-bound, getElem-append, map-ali
 use Rattle.laws.specs.Each.{each-append}
 use Rattle.laws.specs.Lookup.{each-zip, AllNew, lookup-here, lookup-there, lookup-right, length-upFrom}
 use Rattle.laws.specs.Renaming.{Big, declaredNames-renamed}
-use Rattle.laws.specs.Instances.{instance-found, instance-append, found}
-use Rattle.laws.specs.Rising.{Rising, rising-name}
+use Rattle.laws.specs.Instances.{instance-found, instance-append}
+use Rattle.laws.specs.Rising.{Rising, rising-name, rising-more}
 use Rattle.grammar.specs.Formed.{block-once}
 use Rattle.frames.specs.Frame.{Frame, Stack, numbered, newFrame, zeroWords, withFrames}
 use Rattle.frames.specs.Renaming.{entered-text, own-kept, declared-new}
@@ -100,11 +100,6 @@ same-push l a k h = record { same-reads = λ j b. reads j (omega arith); same-in
     reads : (j : ℕ) → j ≤ length l → readsAt (l ++ (a ∷ [])) j ≡ readsAt l j
     reads zero b = refl
     reads (suc j) b = let c = getElem-in l j b in ap readsIn (getElem-append l (a ∷ []) j (c .0) (c .1) ∙ sym (c .1))
-
-rising-snoc : (low : ℕ) (l : List Activation) (fresh : ℕ) (a : Activation) → Rising low l fresh → declaredNames (a .text) ≡ upFrom fresh (length (blockDecls (a .text))) → Rising low (l ++ (a ∷ [])) (fresh + length (blockDecls (a .text)))
-unfolding Rising
-rising-snoc low [] fresh a r e = (fresh, r, e, omega arith)
-rising-snoc low (b ∷ l) fresh a r e = (r .0, r .1, r .2, rising-snoc (r .0 + length (blockDecls (b .text))) l fresh a (r .3) e)
 
 -- The new activation's variables are 0, and the others keep their values.
 
@@ -234,4 +229,4 @@ module _ (s : State) (t : Stack) (r : Related s t) (fs : List Formal) (b : Block
   pub related-push : Related (enter s names xs copied (readsAt l m)) (withFrames t (t .frames ++ (f ∷ [])))
   unfolding enter withFrames
   related-push =
-      record { twins = both-snoc (Twin (l ++ (a ∷ [])) vs) 0 l (t .frames) a f (both-map (Twin l (s .values)) (Twin (l ++ (a ∷ [])) vs) 0 l (t .frames) (λ k c g h e e′ w. below k c g h e w) (r .twins)) (rw zero-add twin); rising = subst (Rising 65536 (l ++ (a ∷ []))) fresh-is (rising-snoc 65536 l (s .fresh) a (r .rising) names-rise); table-is = r .table-is; steps-are = r .steps-are }
+      record { twins = both-snoc (Twin (l ++ (a ∷ [])) vs) 0 l (t .frames) a f (both-map (Twin l (s .values)) (Twin (l ++ (a ∷ [])) vs) 0 l (t .frames) (λ k c g h e e′ w. below k c g h e w) (r .twins)) (rw zero-add twin); rising = subst (Rising 65536 (l ++ (a ∷ []))) fresh-is (rising-more 65536 l (s .fresh) a (r .rising) names-rise); table-is = r .table-is; steps-are = r .steps-are }

@@ -18,7 +18,6 @@ use Rattle.language.specs.Machine.{Activation, State, Limits, Done, did, stop, 
 use Rattle.language.specs.Sheet.{Found, seek, designator, declWord, activationWords, wordsOf, sheetWords, lookedUp, lookedUpDesignator, lookedUpLinks}
 use Rattle.language.specs.Call.{Engine, copying, chain, display, Fed, areaFits, linksOf, replied, runOf, checked}
 use Rattle.language.specs.declared.End.the-variants.{Finished, Spent, Stopped}
-use Rattle.laws.specs.Tests.{split}
 use Rattle.laws.specs.Lists.{last-none, last-split, getElem-snoc, map-alike}
 use Rattle.laws.specs.Renaming.{blockAt-renamed}
 use Rattle.laws.specs.Rising.{Rising}

@@ -13,7 +13,7 @@ use Rattle.language.specs.Copy.{Replacement, renameBlock, without}
 use Rattle.language.specs.Machine.{Activation, State, Limits, Instance, instance, withLive, resume, jump, kindAt, enterIfRoom, call}
 use Rattle.laws.specs.Lists.{take-snoc, snoc-inj, getElem-bound}
 use Rattle.laws.specs.Renaming.{labelIndex-renamed, declFormals-renamed, declBody-renamed}
-use Rattle.laws.specs.Instances.{instance-number, found}
+use Rattle.laws.specs.Instances.{instance-number}
 use Rattle.grammar.specs.Rules.{FormedBlock, FormedDecl}
 use Rattle.grammar.specs.Formed.{formal-names, decl-at, stmt-at}
 use Rattle.instances.specs.Statement.{Stands}

@@ -16,9 +16,11 @@ use Rattle.laws.specs.Tests.{split, never, some-inj}
 use Rattle.laws.specs.Kinds.{agree-first, agree-length}
 use Rattle.laws.specs.Lookup.{lookup-nil, lookup-here, lookup-there, lookup-left, lookup-right, either, lookup-absent, among-neither, moved, each-found, each-zip, length-upFrom, new-upFrom, zip-absent}
 use Rattle.laws.specs.Renaming.{renamed-none, renamed-some, declKinds-renamed, declNames-renamed, own-new}
+use Rattle.laws.specs.Rising.{rising-more, rising-within}
 use Rattle.instances.specs.Closed.{Kinds, declKinds, ownKinds, Written, InBlock, InDecls, InStmts}
 use Rattle.instances.specs.Renaming.{Keeps, keys-images, keys-own, renamed-labels, moved-decls, moved-stmts}
-use Rattle.instances.specs.Invariant.{kindsIn, liveKinds, CopyIn, AllSeen, Placed, Stacked, Invariant, stacked-bound, stacked-more, stacked-between}
+use Rattle.instances.specs.Invariant.{kindsIn, liveKinds, CopyIn, AllSeen, Placed, Invariant, stacked-more}
+use Rattle.instances.specs.Found.{between}
 
 -- arguments that agree have the formals' kinds
 argument-of : (top : Kinds) (n : ℕ) (k : Kind) (fs : List Formal) (xs : List ℕ) → agree (formalKinds fs) (map (λ (x : ℕ). lookup x top) xs) ≡ true →
@@ -148,11 +150,10 @@ module _ (top : Kinds) (fs : List Formal) (xs : List ℕ) (new : ℕ) (ds : Decl
   copy-length = ap length copy-names ∙ length-upFrom new (length (map declName (decls ds)))
 
   entry-placed : (at : ℕ) (around : List Replacement) → InDecls ds (ownKinds fs ds ++ K) → InStmts ss (ownKinds fs ds ++ K) →
-      Placed top new (activation (formalNames fs) xs new (block at ds ss) around)
+      Placed top (activation (formalNames fs) xs new (block at ds ss) around)
   unfolding activation ownNames renameBlock declaredNames blockDecls blockStmts kindsIn CopyIn
   entry-placed at around hd hs =
       record {
-        names = copy-names ∙ ap (upFrom new) (sym copy-length);
         closed = (
           renamed-labels ds ss (replaced fs xs new ds) (replaced fs xs new ds) (E .written .labels),
           rw copy-kinds (moved-decls ds (replaced fs xs new ds) (ownKinds fs ds ++ K) after-entry entry-keeps hd),
@@ -164,9 +165,14 @@ module _ (top : Kinds) (fs : List Formal) (xs : List ℕ) (new : ℕ) (ds : Decl
       }
 
   entry-length : (at : ℕ) (around : List Replacement) →
-      length (declaredNames (activation (formalNames fs) xs new (block at ds ss) around .text)) ≡ length (declaredNames (block at ds ss))
+      length (blockDecls (activation (formalNames fs) xs new (block at ds ss) around .text)) ≡ length (declaredNames (block at ds ss))
   unfolding activation ownNames renameBlock declaredNames blockDecls
-  entry-length at around = copy-length
+  entry-length at around = sym (length-map (decls (renameDecls ds (replaced fs xs new ds))) declName) ∙ copy-length
+
+  entry-names : (at : ℕ) (around : List Replacement) →
+      declaredNames (activation (formalNames fs) xs new (block at ds ss) around .text) ≡ upFrom new (length (blockDecls (activation (formalNames fs) xs new (block at ds ss) around .text)))
+  unfolding activation ownNames renameBlock declaredNames blockDecls
+  entry-names at around = copy-names ∙ ap (upFrom new) (sym (entry-length at around))
 
 -- A block whose text is closed where the names of K are visible, entered with arguments of its formals' kinds.
 pub entered : (s : State) (fs : List Formal) (xs : List ℕ) (b : Block) (around : List Replacement) (K more : Kinds) → Invariant s →
@@ -175,19 +181,19 @@ pub entered : (s : State) (fs : List Formal) (xs : List ℕ) (b : Block) (around
 unfolding enter InBlock
 entered s fs xs (block at ds ss) around K more inv part seen agrees h =
     let top : Kinds = liveKinds (s .live) in
-    let stack : Stacked [] 65536 (s .live) (s .fresh) = inv .stacked in
     let E : Enters top fs xs (s .fresh) ds ss K more =
     record {
       part = part;
-      between = stacked-between [] 65536 (s .live) (s .fresh) stack;
-      high = stacked-bound [] 65536 (s .live) (s .fresh) stack;
+      between = between s inv;
+      high = rising-within 65536 (s .live) (s .fresh) (inv .rising);
       seen = seen;
       agrees = agrees;
       written = h .0;
     } in
+    let a = activation (formalNames fs) xs (s .fresh) (block at ds ss) around in
     record {
-      stacked =
+      rising =
           rw (entry-length top fs xs (s .fresh) ds ss K more E at around) at
-          (stacked-more [] 65536 (s .live) (s .fresh) (activation (formalNames fs) xs (s .fresh) (block at ds ss) around) stack
-          (entry-placed top fs xs (s .fresh) ds ss K more E at around (h .1) (h .2)));
+          (rising-more 65536 (s .live) (s .fresh) a (inv .rising) (entry-names top fs xs (s .fresh) ds ss K more E at around));
+      stacked = stacked-more [] (s .live) a (inv .stacked) (entry-placed top fs xs (s .fresh) ds ss K more E at around (h .1) (h .2));
     }

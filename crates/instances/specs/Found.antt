@@ -1,5 +1,6 @@
 -- A name's instance has the kind that the live activations declare it with, and what is found in a closed copy is closed.
-use Prim.Native.Nat.{ℕ, zero, suc, _+_}
+use Prim.Native.Nat.{ℕ, zero, suc, _+_, _≤_, _<_}
+use native.Mathlib.Omega.{arith}
 use mathlib.Core.Bool.{true, false}
 use mathlib.Core.List.{List, [], _∷_, _++_}
 use mathlib.Core.Option.{Option, none, some}
@@ -11,9 +12,10 @@ use Rattle.language.specs.Text.{Kind, Decl, Stmt, Decls, no-decl, decl, Stmts, 
 use Rattle.language.specs.Machine.{Activation, State, Instance, declaredAt, instanceFrom, instance, kindAt}
 use Rattle.laws.specs.Tests.{split, none≢some, eqb-swap, some-inj}
 use Rattle.laws.specs.Lookup.{lookup-here, lookup-there, lookup-left, lookup-right}
-use Rattle.laws.specs.Instances.{declared-here, declared-there, declaredBy, instance-here, instance-there}
+use Rattle.laws.specs.Instances.{declared-here, declared-there, declaredBy, instance-here, instance-there, found-at}
+use Rattle.laws.specs.Rising.{rising-name}
 use Rattle.instances.specs.Closed.{Kinds, declKinds, LabelIn, LabelsIn, InDecl, InStmt, InDecls, InStmts}
-use Rattle.instances.specs.Invariant.{kindsIn, liveKinds}
+use Rattle.instances.specs.Invariant.{kindsIn, liveKinds, Invariant}
 
 kindFound : Option (ℕ × Decl) → Option Kind
 kindFound o = elim o [ none ↦ none | some p ↦ some (declKind (p .1)) ]
@@ -59,6 +61,15 @@ instance-of s x k e = by (instance s x) refl
     by : (o : Option Instance) → instance s x ≡ o → (i : Instance) × (instance s x ≡ some i) × (declKind (i .decl) ≡ k)
     by none h = none≢some (sym (ap kindIs h) ∙ instance-kind x 1 (s .live) ∙ e)
     by (some i) h = (i, h, some-inj (sym (ap kindIs h) ∙ instance-kind x 1 (s .live) ∙ e))
+
+-- and is one of the new names
+pub between : (s : State) → Invariant s → (x : ℕ) (k : Kind) → lookup x (liveKinds (s .live)) ≡ some k → (65536 ≤ x) × (x < s .fresh)
+between s inv x k e =
+    let i = instance-of s x k e in
+    let f = found-at s x (i .0) (i .1) in
+    let n = f .name-is in
+    let r = rising-name 65536 (s .live) (s .fresh) (f .depth) (f .index) (i .0 .home) (i .0 .decl) (inv .rising) (f .home-at) (f .decl-at) in
+    omega arith
 
 -- what is found in a closed copy is closed
 pub decl-in : (ds : Decls) (j : ℕ) (K : Kinds) (d : Decl) → getElem? (decls ds) j ≡ some d → InDecls ds K → InDecl d K

@@ -1,28 +1,15 @@
 -- In a state with the invariant no name is declared at two places, so the instance of a declared name is its place.
 use Prim.Native.Nat.{ℕ, suc, _+_}
-use mathlib.Core.List.{List, [], _∷_}
 use mathlib.Core.Option.{Option, some}
-use mathlib.Core.Path.{_≡_, sym, ap, subst, _∙_}
+use mathlib.Core.Path.{_≡_, sym, ap, _∙_}
 use native.Mathlib.Omega.{arith}
-use lib.ListN.{length, length-map, getElem?}
-use Rattle.language.specs.Basics.{upFrom}
+use lib.ListN.{length, getElem?}
 use Rattle.language.specs.Text.{Decl, blockDecls, declName, declaredNames}
 use Rattle.language.specs.Machine.{Activation, State, Instance, instance}
 use Rattle.laws.specs.Lists.{image-at}
 use Rattle.laws.specs.Instances.{instanceIn}
-use Rattle.laws.specs.Rising.{Rising, rising-instance, same-declaration}
-use Rattle.instances.specs.Closed.{Kinds}
-use Rattle.instances.specs.Invariant.{Stacked, Invariant}
-
-stacked-rising : (K : Kinds) (lo : ℕ) (as′ : List Activation) (hi : ℕ) → Stacked K lo as′ hi → Rising lo as′ hi
-unfolding Stacked Rising declaredNames
-stacked-rising K lo [] hi h = h
-stacked-rising K lo (a ∷ rest) hi h =
-    let as-many = length-map (blockDecls (a .text)) declName in
-    (h .0, h .1, h .2 .names ∙ ap (upFrom (h .0)) as-many, subst (λ (n : ℕ). Rising (h .0 + n) rest hi) as-many (stacked-rising _ _ rest hi (h .3)))
-
-pub rising : (s : State) → Invariant s → Rising 65536 (s .live) (s .fresh)
-rising s inv = stacked-rising [] 65536 (s .live) (s .fresh) (inv .stacked)
+use Rattle.laws.specs.Rising.{rising-instance, same-declaration}
+use Rattle.instances.specs.Invariant.{Invariant}
 
 pub one-place : (s : State) → Invariant s → (i j p q : ℕ) (a b : Activation) (x : ℕ) →
     getElem? (s .live) i ≡ some a → getElem? (declaredNames (a .text)) p ≡ some x → getElem? (s .live) j ≡ some b → getElem? (declaredNames (b .text)) q ≡ some x →
@@ -31,7 +18,7 @@ unfolding declaredNames
 one-place s inv i j p q a b x e f e′ f′ =
     let c = image-at declName (blockDecls (a .text)) p x f in
     let d = image-at declName (blockDecls (b .text)) q x f′ in
-    same-declaration 65536 (s .live) (s .fresh) i p j q a b (c .0) (d .0) (rising s inv) e (c .1) e′ (d .1) (sym (c .2) ∙ d .2)
+    same-declaration 65536 (s .live) (s .fresh) i p j q a b (c .0) (d .0) (inv .rising) e (c .1) e′ (d .1) (sym (c .2) ∙ d .2)
 
 -- the declaration at position p of an activation's own, as an instance
 abbrev pub placeOf : ℕ → ℕ → Activation → Decl → Instance
@@ -42,4 +29,4 @@ pub instance-at : (s : State) → Invariant s → (i p : ℕ) (a : Activation) (
 unfolding instance
 instance-at s inv i p a d e f =
     let next : 1 + i ≡ suc i = omega arith in
-    rising-instance 65536 (s .live) (s .fresh) 1 i p a d (rising s inv) e f ∙ ap {B = Option Instance} (λ (k : ℕ). some (placeOf k p a d)) next
+    rising-instance 65536 (s .live) (s .fresh) 1 i p a d (inv .rising) e f ∙ ap {B = Option Instance} (λ (k : ℕ). some (placeOf k p a d)) next

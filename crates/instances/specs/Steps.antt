@@ -17,11 +17,12 @@ use Rattle.language.specs.Copy.{Replacement}
 use Rattle.language.specs.Machine.{Activation, State, Limits, withLive, withTable, counted, resume, store, value, Instance, instance, kindAt, Done, did, enterIfRoom, call, jump, compute, storeIfFits, addPair, removePair, queryPair, doAction, doStmt, nextStmt, advance, stepIn, step, run, start}
 use Rattle.laws.specs.Tests.{split}
 use Rattle.laws.specs.Lists.{getElem-bound, getElem-split, last-split}
-use Rattle.laws.specs.Instances.{FoundAt, instance-found}
+use Rattle.laws.specs.Instances.{FoundAt, found-at}
+use Rattle.laws.specs.Rising.{Rising, rising-before}
 use Rattle.runs.specs.Moves.{After, run-after}
 use Rattle.instances.specs.Statement.{usesOf}
 use Rattle.instances.specs.Closed.{Kinds, LabelIn, LabelsIn, Used, AllUsed, InBlock, InDecl, InStmt}
-use Rattle.instances.specs.Invariant.{kindsIn, liveKinds, CopyIn, AllSeen, Placed, Stacked, Invariant, stacked-before, stacked-at, stacked-resumed, liveKinds-append}
+use Rattle.instances.specs.Invariant.{kindsIn, liveKinds, CopyIn, AllSeen, Placed, Stacked, Invariant, stacked-before, stacked-at, resumed, liveKinds-append}
 use Rattle.instances.specs.Found.{kindAt-live, instance-of, decl-in, label-in, stmt-in}
 use Rattle.instances.specs.Entering.{entered}
 
@@ -35,21 +36,21 @@ holds-if false d e h h′ = h′
 
 -- the start
 pub started : (t : Block) (table : Table) → InBlock t [] [] → Invariant (start t table)
-unfolding start formalNames formalKinds agree liveKinds Stacked
-started t table h = entered (record { live = []; values = []; fresh = 65536; table = table; steps = 0 }) [] [] t [] [] [] (record { stacked = omega arith }) refl tt refl h
+unfolding start formalNames formalKinds agree liveKinds Stacked Rising
+started t table h = entered (record { live = []; values = []; fresh = 65536; table = table; steps = 0 }) [] [] t [] [] [] (record { rising = omega arith; stacked = tt }) refl tt refl h
 
 -- what changes neither the live activations nor the next new name
 pub stored : (s : State) (x : ℕ) (z : ℤ) → Invariant s → Invariant (store s x z)
 unfolding store
-stored s x z inv = record { stacked = inv .stacked }
+stored s x z inv = record { rising = inv .rising; stacked = inv .stacked }
 
 pub retabled : (s : State) (t : Table) → Invariant s → Invariant (withTable s t)
 unfolding withTable
-retabled s t inv = record { stacked = inv .stacked }
+retabled s t inv = record { rising = inv .rising; stacked = inv .stacked }
 
 pub counted-invariant : (s : State) → Invariant s → Invariant (counted s)
 unfolding counted
-counted-invariant s inv = record { stacked = inv .stacked }
+counted-invariant s inv = record { rising = inv .rising; stacked = inv .stacked }
 
 -- the innermost activation's next statement is closed
 last-kinds : (as′ : List Activation) (a : Activation) → last? as′ ≡ some a → liveKinds as′ ≡ liveKinds (butLast as′) ++ kindsIn (a .text)
@@ -58,9 +59,8 @@ last-kinds as′ a e =
     ap liveKinds (last-split as′ a e) ∙ liveKinds-append (butLast as′) (a ∷ []) ∙
     ap {B = Kinds} (λ r. liveKinds (butLast as′) ++ r) (append-nil (kindsIn (a .text)))
 
-pub last-placed : (s : State) (a : Activation) → Invariant s → last? (s .live) ≡ some a → (first : ℕ) × Placed (liveKinds (butLast (s .live))) first a
-last-placed s a inv e =
-    stacked-at [] 65536 (butLast (s .live)) a [] (s .fresh) (rw (last-split (s .live) a e) at (inv .stacked))
+pub last-placed : (s : State) (a : Activation) → Invariant s → last? (s .live) ≡ some a → Placed (liveKinds (butLast (s .live))) a
+last-placed s a inv e = stacked-at [] (butLast (s .live)) a [] (rw (last-split (s .live) a e) at (inv .stacked))
 
 stmt-of-copy : (b : Block) (i : ℕ) (K : Kinds) (x : Stmt) → getElem? (blockStmts b) i ≡ some x → CopyIn b K → InStmt x K
 unfolding blockStmts CopyIn
@@ -70,24 +70,23 @@ pub next-closed : (s : State) (a : Activation) (x : Stmt) → Invariant s → la
 unfolding nextStmt
 next-closed s a x inv e f =
     let p = last-placed s a inv e in
-    rw (last-kinds (s .live) a e) (stmt-of-copy (a .text) (pred (a .next)) (liveKinds (butLast (s .live)) ++ kindsIn (a .text)) x f (p .1 .closed))
+    rw (last-kinds (s .live) a e) (stmt-of-copy (a .text) (pred (a .next)) (liveKinds (butLast (s .live)) ++ kindsIn (a .text)) x f (p .closed))
 
 -- leaving
 pub left : (s : State) (a : Activation) → Invariant s → last? (s .live) ≡ some a → Invariant (withLive s (butLast (s .live)))
 unfolding withLive
 left s a inv e =
-    record { stacked = stacked-before [] 65536 (butLast (s .live)) (a ∷ []) (s .fresh) (rw (last-split (s .live) a e) at (inv .stacked)) }
+    record {
+      rising = rising-before 65536 (butLast (s .live)) (a ∷ []) (s .fresh) (rw (last-split (s .live) a e) at (inv .rising));
+      stacked = stacked-before [] (butLast (s .live)) (a ∷ []) (rw (last-split (s .live) a e) at (inv .stacked));
+    }
 
 -- going on to the next statement
 pub advanced : (s : State) (a : Activation) (x : Stmt) → Invariant s → last? (s .live) ≡ some a → nextStmt a ≡ some x → Invariant (advance s a)
-unfolding advance withLive nextStmt
+unfolding advance nextStmt
 advanced s a x inv e f =
     let inside = getElem-bound (blockStmts (a .text)) (pred (a .next)) x f in
-    record {
-      stacked =
-          stacked-resumed [] 65536 (butLast (s .live)) a [] (s .fresh) (suc (a .next)) (omega arith) (omega arith)
-          (rw (last-split (s .live) a e) at (inv .stacked));
-    }
+    resumed s (butLast (s .live)) a [] (suc (a .next)) (last-split (s .live) a e) (omega arith) (omega arith) inv
 
 pub advanced-kinds : (s : State) (a : Activation) → last? (s .live) ≡ some a → liveKinds (advance s a .live) ≡ liveKinds (s .live)
 unfolding advance withLive resume liveKinds
@@ -125,9 +124,9 @@ unfolding liveKinds
 home-of s x i inv f =
     let before = take (f .depth) (s .live) in
     let after = drop (suc (f .depth)) (s .live) in
-    let p = stacked-at [] 65536 before (i .home) after (s .fresh) (subst (λ (as′ : List Activation). Stacked [] 65536 as′ (s .fresh)) (live-split s x i f) (inv .stacked)) in
+    let p = stacked-at [] before (i .home) after (subst (Stacked []) (live-split s x i f) (inv .stacked)) in
     let around : Kinds = liveKinds before ++ kindsIn (i .home .text) in
-    let d = decl-of-copy (i .home .text) (f .index) around (i .decl) (f .decl-at) (p .1 .closed) in
+    let d = decl-of-copy (i .home .text) (f .index) around (i .decl) (f .decl-at) (p .closed) in
     record {
       around = around;
       above = liveKinds after;
@@ -154,9 +153,8 @@ kinds-of-arguments s (x ∷ xs) =
 called-instance : (l : Limits) (s : State) (xs : List ℕ) (i : Instance) (x : ℕ) → Invariant s → instance s x ≡ some i → AllSeen (liveKinds (s .live)) xs →
     agree (formalKinds (declFormals (i .decl))) (map (kindAt s) xs) ≡ true →
     Holds (enterIfRoom l s (formalNames (declFormals (i .decl))) xs (declBody (i .decl)) (i .home .reads))
-unfolding instance
 called-instance l s xs i x inv e seen agrees =
-    let h = home-of s x i inv (instance-found x 1 (s .live) i e) in
+    let h = home-of s x i inv (found-at s x i e) in
     entered-if-room l s (declFormals (i .decl)) xs (declBody (i .decl)) (i .home .reads) (h .around) (h .above) inv (h .part) seen
     (rw (kinds-of-arguments s xs) at agrees) (body-in (i .decl) (h .around) (h .declaration))
 
@@ -178,16 +176,12 @@ label-bounds (PR at n fs b) s e h = (let z : _≡_ {A = ℕ} 0 1 = cc in absurd 
 
 jumped-to : (s : State) (x : ℕ) (i : Instance) → Invariant s → instance s x ≡ some i → declKind (i .decl) ≡ label →
     Invariant (withLive s (take (pred (i .number)) (s .live) ++ (resume (i .home) (labelIndex (i .decl)) ∷ [])))
-unfolding instance withLive
+unfolding withLive
 jumped-to s x i inv e k =
-    let f = instance-found x 1 (s .live) i e in
+    let f = found-at s x i e in
     let b = label-bounds (i .decl) (length (blockStmts (i .home .text))) k (home-of s x i inv f .label-inside) in
     let below : pred (i .number) ≡ f .depth = let n = f .number-is in omega arith in
-    record {
-      stacked =
-          rw below (stacked-resumed [] 65536 (take (f .depth) (s .live)) (i .home) (drop (suc (f .depth)) (s .live)) (s .fresh) (labelIndex (i .decl)) (b .0) (omega arith)
-          (subst (λ (as′ : List Activation). Stacked [] 65536 as′ (s .fresh)) (live-split s x i f) (inv .stacked)));
-    }
+    rw below (resumed s (take (f .depth) (s .live)) (i .home) (drop (suc (f .depth)) (s .live)) (labelIndex (i .decl)) (live-split s x i f) (b .0) (omega arith) inv)
 
 pub jumped : (s : State) (x : ℕ) → Invariant s → lookup x (liveKinds (s .live)) ≡ some label → Invariant (jump s x)
 unfolding jump

@@ -11,8 +11,8 @@ use Rattle.grammar.specs.Rules.{Bytes}
 use Rattle.instances.specs.Statement.{usesOf, Serves, Stands, after, EveryUseStands, DeclaredOnce}
 use Rattle.instances.specs.Closed.{Kinds, Used, AllUsed, InStmt}
 use Rattle.instances.specs.Accepted.{accepted-closed}
-use Rattle.instances.specs.Invariant.{liveKinds, Invariant, stacked-between}
-use Rattle.instances.specs.Found.{instance-of}
+use Rattle.instances.specs.Invariant.{liveKinds, Invariant}
+use Rattle.instances.specs.Found.{instance-of, between}
 use Rattle.instances.specs.Steps.{started, next-closed, run-keeps}
 use Rattle.instances.specs.Once.{one-place}
 
@@ -30,7 +30,7 @@ pub stands : (s : State) (name : ℕ) (wanted : Option Kind) → Invariant s →
 stands s name wanted inv u =
     let i = instance-of s name (u .kind) (u .seen) in
     record {
-      new = stacked-between [] 65536 (s .live) (s .fresh) (inv .stacked) name (u .kind) (u .seen) .0;
+      new = between s inv name (u .kind) (u .seen) .0;
       it = i .0;
       found = i .1;
       serves = subst (λ (k : Kind). Serves wanted k) (sym (i .2)) (u .serves);

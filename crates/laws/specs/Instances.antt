@@ -111,6 +111,6 @@ instance-found x n (a ∷ l) i e = go (declaredBy x a) refl (instance-found x (s
         subst (λ (j : Instance). FoundAt x n (a ∷ l) j) q
         (record { depth = 0; index = r .0; home-at = refl; number-is = omega arith; decl-at = r .1; position-is = r .2; name-is = r .3 })
 
-pub found : (s : State) (x : ℕ) (i : Instance) → instance s x ≡ some i → FoundAt x 1 (s .live) i
+pub found-at : (s : State) (x : ℕ) (i : Instance) → instance s x ≡ some i → FoundAt x 1 (s .live) i
 unfolding instance
-found s x i e = instance-found x 1 (s .live) i e
+found-at s x i e = instance-found x 1 (s .live) i e

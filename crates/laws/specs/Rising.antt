@@ -3,13 +3,13 @@ use Prim.Native.Nat.{ℕ, zero, suc, _+_, _≤_, _<_}
 use native.Mathlib.Omega.{arith}
 use native.Mathlib.Nat.{add-zero, add-suc, suc-add}
 use mathlib.Core.Path.{_≡_, refl, sym, ap, _∙_}
-use mathlib.Core.List.{List, [], _∷_, map, head-eq-of-cons-eq, tail-eq-of-cons-eq}
+use mathlib.Core.List.{List, [], _∷_, _++_, map, head-eq-of-cons-eq, tail-eq-of-cons-eq}
 use mathlib.Core.Option.{none, some}
 use borrow.Author.Tests.{eq-eqb, ne-eqb}
 use lib.ListN.{length, getElem?}
 use Rattle.language.specs.Basics.{upFrom}
 use Rattle.language.specs.Text.{Decl, blockDecls, declName, declaredNames}
-use Rattle.language.specs.Machine.{Activation, Instance, declaredAt, instanceFrom}
+use Rattle.language.specs.Machine.{Activation, Instance, declaredAt, instanceFrom, resume}
 use Rattle.laws.specs.Tests.{none≢some, some-inj}
 use Rattle.laws.specs.Lists.{getElem-bound}
 use Rattle.laws.specs.Instances.{instanceIn, instance-here, instance-there}
@@ -108,3 +108,21 @@ same-declaration low l fresh k j k′ j′ a a′ d d′ r e g e′ g′ n =
     let h₁ : suc (length (a .arguments)) + j ≡ suc (length (a′ .arguments)) + j′ = ap (λ (i : Instance). i .position) q in
     let h₂ : length (a .arguments) ≡ length (a′ .arguments) = ap (λ (i : Instance). length (i .home .arguments)) q in
     (omega arith, omega arith)
+
+-- Rising stacks cut, and with one more on top
+
+pub rising-before : (low : ℕ) (before rest : List Activation) (fresh : ℕ) → Rising low (before ++ rest) fresh → Rising low before fresh
+unfolding Rising
+rising-before low [] rest fresh r = rising-within low rest fresh r
+rising-before low (a ∷ before) rest fresh r = (r .0, r .1, r .2, rising-before (r .0 + length (blockDecls (a .text))) before rest fresh (r .3))
+
+-- what is above an activation is dropped, and it goes on at another statement
+pub rising-resumed : (low : ℕ) (before : List Activation) (a : Activation) (rest : List Activation) (fresh n : ℕ) → Rising low (before ++ (a ∷ rest)) fresh → Rising low (before ++ (resume a n ∷ [])) fresh
+unfolding Rising resume
+rising-resumed low [] a rest fresh n r = (r .0, r .1, r .2, rising-within (r .0 + length (blockDecls (a .text))) rest fresh (r .3))
+rising-resumed low (b ∷ before) a rest fresh n r = (r .0, r .1, r .2, rising-resumed (r .0 + length (blockDecls (b .text))) before a rest fresh n (r .3))
+
+pub rising-more : (low : ℕ) (l : List Activation) (fresh : ℕ) (a : Activation) → Rising low l fresh → declaredNames (a .text) ≡ upFrom fresh (length (blockDecls (a .text))) → Rising low (l ++ (a ∷ [])) (fresh + length (blockDecls (a .text)))
+unfolding Rising
+rising-more low [] fresh a r e = (fresh, r, e, omega arith)
+rising-more low (b ∷ l) fresh a r e = (r .0, r .1, r .2, rising-more (r .0 + length (blockDecls (b .text))) l fresh a (r .3) e)

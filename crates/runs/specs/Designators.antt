@@ -8,13 +8,13 @@ use Rattle.language.specs.Text.{blockDecls}
 use Rattle.language.specs.Machine.{State, Instance, instance}
 use Rattle.language.specs.Sheet.{Found, designator, lookedUp, lookedUpDesignator}
 use Rattle.laws.specs.Lists.{getElem-bound}
-use Rattle.laws.specs.Instances.{found}
+use Rattle.laws.specs.Instances.{found-at}
 use Rattle.runs.specs.Names.{FitsState, block-names, instance-home}
 
 -- the number is of a live activation, from 1, and the position of one of its names, from 1
 pub instance-parts : (s : State) (x : ℕ) (i : Instance) → FitsState s → instance s x ≡ some i → (1 ≤ i .number) × (i .number ≤ length (s .live)) × (1 ≤ i .position) × (i .position ≤ 32)
 instance-parts s x i h e =
-    let f = found s x i e in
+    let f = found-at s x i e in
     let a = i .home in
     let n = f .number-is in
     let p = f .position-is in

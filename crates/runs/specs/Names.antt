@@ -17,7 +17,7 @@ use Rattle.language.specs.Machine.{Activation, State, Instance, Limits, withLiv
 use Rattle.laws.specs.Kinds.{agree-length}
 use Rattle.laws.specs.Each.{Each, each-append, each-take, each-butLast, each-last, each-at}
 use Rattle.laws.specs.Renaming.{decls-length}
-use Rattle.laws.specs.Instances.{found}
+use Rattle.laws.specs.Instances.{found-at}
 use Rattle.runs.specs.Moves.{Kept, run-keeps}
 
 unfoldable mutual
@@ -103,11 +103,11 @@ abbrev pub FitsState : State → Type 0
 FitsState s = Each FitsActivation (s .live)
 
 pub instance-home : (s : State) (x : ℕ) (i : Instance) → instance s x ≡ some i → FitsState s → FitsActivation (i .home)
-instance-home s x i e h = let f = found s x i e in each-at FitsActivation (s .live) (f .depth) (i .home) (f .home-at) h
+instance-home s x i e h = let f = found-at s x i e in each-at FitsActivation (s .live) (f .depth) (i .home) (f .home-at) h
 
 pub instance-decl : (s : State) (x : ℕ) (i : Instance) → instance s x ≡ some i → FitsState s → FitsDecl (i .decl)
 instance-decl s x i e h =
-    let f = found s x i e in
+    let f = found-at s x i e in
     each-at FitsDecl (blockDecls (i .home .text)) (f .index) (i .decl) (f .decl-at) (block-decls (i .home .text) (length (i .home .arguments)) (instance-home s x i e h))
 
 enter-fits : (s : State) (formals arguments : List ℕ) (b : Block) (around : List Replacement) → FitsBlock b (length arguments) → FitsState s → FitsState (enter s formals arguments b around)
