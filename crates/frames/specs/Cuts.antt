@@ -13,6 +13,7 @@ use Rattle.language.specs.Copy.{Replacement}
 use Rattle.language.specs.Machine.{Activation, State, Instance, instanceFrom, resume, withLive}
 use Rattle.laws.specs.Tests.{none≢some, some-inj}
 use Rattle.laws.specs.Lists.{getElem-take}
+use Rattle.laws.specs.Each.{each-map}
 use Rattle.laws.specs.Instances.{instance-take, declaredBy, instance-here, instance-there, instanceIn}
 use Rattle.laws.specs.Rising.{Rising, rising-before, rising-resumed}
 use Rattle.frames.specs.Frame.{Frame, Stack, numbered, continue, withFrames}
@@ -40,12 +41,9 @@ module _ {l l′ : List Activation} {k : ℕ} (h : SameBelow l l′ k) where
       rw (r .1, v .found) (ap₂ (λ (n p : ℕ). n * 64 + p) (r .2) (r .3))
 
   pub all-live-same : (xs : List ℕ) → AllLive l k xs → AllLive l′ k xs
-  unfolding AllLive
-  all-live-same [] v = tt
-  all-live-same (x ∷ xs) v = (live-same (v .0), all-live-same xs (v .1))
+  all-live-same xs v = each-map (LiveBelow l k) (LiveBelow l′ k) xs (λ x w. live-same w) v
 
   pub designators-same : (xs : List ℕ) → AllLive l k xs → map (λ (x : ℕ). pos (designatorAt l′ x)) xs ≡ map (λ (x : ℕ). pos (designatorAt l x)) xs
-  unfolding AllLive
   designators-same [] v = refl
   designators-same (x ∷ xs) v = ap₂ _∷_ (ap pos (designator-same x (v .0))) (designators-same xs (v .1))
 

@@ -16,7 +16,7 @@ use Rattle.language.specs.Copy.{Replacement, renamed, renameBlock, without}
 use Rattle.language.specs.Machine.{Activation, State, zeros, ownNames, activation, enter}
 use Rattle.laws.specs.Tests.{none≢some, some-inj}
 use Rattle.laws.specs.Lists.{getElem-in, getElem-bound, getElem-append, map-alike, map-map, constant}
-use Rattle.laws.specs.Each.{each-append}
+use Rattle.laws.specs.Each.{each-append, each-map}
 use Rattle.laws.specs.Lookup.{each-zip, AllNew, lookup-here, lookup-there, lookup-right, length-upFrom}
 use Rattle.laws.specs.Renaming.{Big, declaredNames-renamed}
 use Rattle.laws.specs.Instances.{instance-found, instance-append}
@@ -38,9 +38,7 @@ live-new l fresh k x r v =
     omega (arith, h .0)
 
 all-live-new : (l : List Activation) (fresh k : ℕ) (xs : List ℕ) → Rising 65536 l fresh → AllLive l k xs → AllNew xs
-unfolding AllLive
-all-live-new l fresh k [] r v = tt
-all-live-new l fresh k (x ∷ xs) r v = (live-new l fresh k x r (v .0), all-live-new l fresh k xs r (v .1))
+all-live-new l fresh k xs r v = each-map (LiveBelow l k) (λ x. 65536 ≤ x) xs (λ x w. live-new l fresh k x r w) v
 
 declared-all-new : (l : List Activation) (fresh k : ℕ) (a : Activation) → Rising 65536 l fresh → getElem? l k ≡ some a → AllNew (declaredNames (a .text))
 unfolding declaredNames

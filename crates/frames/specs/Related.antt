@@ -9,6 +9,7 @@ use Rattle.language.specs.Basics.{lookup, zip}
 use Rattle.language.specs.Text.{Formal, Block, block, Decl, VR, LB, PR, blockDecls, formalNames, declaredNames}
 use Rattle.language.specs.Copy.{Replacement, renameBlock}
 use Rattle.language.specs.Machine.{Activation, State, Instance, instanceFrom}
+use Rattle.laws.specs.Each.{Each}
 use Rattle.laws.specs.Lookup.{AllBelow}
 use Rattle.laws.specs.Rising.{Rising}
 use Rattle.grammar.specs.Rules.{FormedBlock}
@@ -61,9 +62,8 @@ pub record LiveBelow (l : List Activation) (k x : ℕ) : Type 0 where
   pub found : instanceFrom x 1 l ≡ some instance
   pub below : instance .number ≤ k
 
-unfoldable pub AllLive : List Activation → ℕ → List ℕ → Type 0
-AllLive l k [] = Unit {0}
-AllLive l k (x ∷ xs) = LiveBelow l k x × AllLive l k xs
+abbrev pub AllLive : List Activation → ℕ → List ℕ → Type 0
+AllLive l k xs = Each (LiveBelow l k) xs
 
 -- what an activation's own names read as
 unfoldable pub ownOf : Frame → Activation → Replacement

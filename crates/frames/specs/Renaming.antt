@@ -14,7 +14,7 @@ use Rattle.language.specs.Machine.{ownNames, activation}
 use Rattle.laws.specs.Lists.{lengths-append}
 use Rattle.laws.specs.Each.{each-append}
 use Rattle.laws.specs.Distinct.{Distinct}
-use Rattle.laws.specs.Lookup.{AllBelow, AllNew, among-right, each-zip, keys, keys-zip, length-upFrom, lookup-among, lookup-left, lookup-not-among, lookup-right, new-not-among, new-upFrom, zip-append}
+use Rattle.laws.specs.Lookup.{AllBelow, among-right, keys, keys-zip, length-upFrom, lookup-among, lookup-left, lookup-not-among, lookup-right, new-not-among, zip-append}
 use Rattle.laws.specs.Renaming.{Big, big-lookup, big-without, declared-kept, declaredNames-renamed, own-new, renamed-big, renamed-none, renamed-other, renamed-own, renamed-same, renamed-some}
 use Rattle.grammar.specs.Rules.{FormedAction, FormedFormals, FormedBlock, FormedDecl, FormedStmt, FormedDecls, FormedStmts}
 use Rattle.grammar.specs.Formed.{formal-names, block-names}
@@ -145,12 +145,6 @@ module _ (formals arguments : List ℕ) (new : ℕ) (b : Block) where
 
   pub own-keys : length formals ≡ length arguments → keys (ownNames formals arguments new b) ≡ formals ++ declaredNames b
   own-keys l = ap keys (own-zip l) ∙ keys-zip (formals ++ declaredNames b) (arguments ++ upFrom new (length (declaredNames b))) (own-lengths l)
-
-  pub own-big : AllNew arguments → 65536 ≤ new → Big (ownNames formals arguments new b)
-  unfolding ownNames
-  own-big h k =
-      each-append (λ p. 65536 ≤ p .1) (zip formals arguments) (zip (declaredNames b) (upFrom new (length (declaredNames b)))) (each-zip (λ x. 65536 ≤ x) formals arguments h)
-      (each-zip (λ x. 65536 ≤ x) (declaredNames b) (upFrom new (length (declaredNames b))) (new-upFrom new (length (declaredNames b)) k))
 
   -- a block's names are its own however its text was renamed around it
   pub own-kept : (σ : Replacement) → ownNames formals arguments new (renameBlock b (without (formals ++ declaredNames b) σ)) ≡ ownNames formals arguments new b

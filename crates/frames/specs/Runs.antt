@@ -18,6 +18,7 @@ use Rattle.language.specs.Machine.{Activation, State, Limits, Done, did, stop, 
 use Rattle.language.specs.Sheet.{Found, seek, designator, declWord, activationWords, wordsOf, sheetWords, lookedUp, lookedUpDesignator, lookedUpLinks}
 use Rattle.language.specs.Call.{Engine, copying, chain, display, Fed, areaFits, linksOf, replied, runOf, checked}
 use Rattle.language.specs.declared.End.the-variants.{Finished, Spent, Stopped}
+use Rattle.laws.specs.Tests.{split}
 use Rattle.laws.specs.Lists.{last-none, last-split, getElem-snoc, map-alike}
 use Rattle.laws.specs.Renaming.{blockAt-renamed}
 use Rattle.laws.specs.Rising.{Rising}
@@ -28,7 +29,7 @@ use Rattle.instances.specs.Accepted.{accepted-closed}
 use Rattle.instances.specs.Steps.{started, step-keeps, counted-invariant}
 use Rattle.frames.specs.Frame.{Frame, Stack, Acted, acted, halted, withFrames, stepped, numbered, designates, linksFollowed, seekName, seekFrom, frameStep, frameOffset, Result, results, frameRun, frameStart, frameWords, frameSheet, frameLinks, frameReplied, frameRunOf, frameChecked}
 use Rattle.frames.specs.Both.{Both, both-length}
-use Rattle.frames.specs.Related.{readsAt, readsIn, joined, designatorFor, designatorAt, wordIn, AllLive, Twin, Related}
+use Rattle.frames.specs.Related.{readsAt, readsIn, joined, designatorFor, designatorAt, wordIn, Twin, Related}
 use Rattle.frames.specs.Push.{related-push}
 use Rattle.frames.specs.Find.{foundDesignator, passedIn, designates-found, links-found}
 use Rattle.frames.specs.Actions.{Alike, value-is}
@@ -132,7 +133,7 @@ no-frames : Table → Stack
 no-frames u = record { frames = []; table = u; steps = 0 }
 
 start-related : (bs : List ℕ) (p : Block) → Bytes bs → check bs ≡ accepted p → (u : Table) → Related (start p u) (frameStart p u)
-unfolding start frameStart nothing no-frames withFrames formalNames readsAt readsIn joined without Both Rising AllLive numbered
+unfolding start frameStart nothing no-frames withFrames formalNames readsAt readsIn joined without Both Rising numbered
 start-related bs p bytes e u =
     let r : Related (nothing u) (no-frames u) = record { twins = tt; rising = omega arith; table-is = refl; steps-are = refl } in
     subst (λ (b : Block). Related (enter (nothing u) [] [] b []) (frameStart p u)) (rename-nothing p)

@@ -7,7 +7,7 @@ use mathlib.Core.Option.{some}
 use lib.IntN.{ℤ, pos}
 use lib.ListN.{length, set, getElem?, length-map}
 use borrow.Author.Tests.{eq-eqb, ne-eqb}
-use Rattle.language.specs.Text.{variable, label, Decl, VR, LB, PR, blockDecls, declName, declKind}
+use Rattle.language.specs.Text.{variable, Decl, VR, LB, PR, blockDecls, declName, declKind}
 use Rattle.language.specs.Machine.{Activation, State, Instance, instanceFrom, store}
 use Rattle.laws.specs.Tests.{some-inj}
 use Rattle.laws.specs.Lists.{map-alike, map-but-one, set-append-add}
@@ -24,9 +24,6 @@ unfolding wordIn valueIn declName
 word-other vs x z (VR at n) h = ap orZero (lookup-there n (x, z) vs (ne-eqb n x h))
 word-other vs x z (LB at n i) h = refl
 word-other vs x z (PR at n fs b) h = refl
-
-variable≢label : {A : Type 0} → variable ≡ label → A
-variable≢label e = absurd (let z : _≡_ {A = ℕ} 0 1 = cc in omega arith)
 
 word-this : (vs : List (ℕ × ℤ)) (x : ℕ) (z : ℤ) (d : Decl) → declName d ≡ x → declKind d ≡ variable → wordIn ((x, z) ∷ vs) d ≡ z
 unfolding wordIn valueIn declName declKind orZero

@@ -1,17 +1,19 @@
 -- Gotos, calls and blocks entered: the relation is kept, or both machines stop for one cause.
 use Prim.Native.Nat.{ℕ, suc, pred, _+_, _≤_}
 use native.Mathlib.Omega.{arith}
-use mathlib.Core.Bool.{Bool, true, false, _&&_}
+use mathlib.Core.Bool.{Bool, true, false}
 use mathlib.Core.Path.{_≡_, refl, sym, ap, ap₂, _∙_, subst, subst₂}
 use mathlib.Core.List.{List, [], _∷_, _++_, map}
 use mathlib.Core.Option.{Option, none, some}
 use lib.Dec.{ltb}
 use lib.ListN.{length, take, getElem?, length-map}
-use Rattle.language.specs.Text.{Kind, Formal, Block, block, Decl, VR, LB, PR, decl, BK, blockDecls, blockStmts, decls, declKind, labelIndex, declFormals, declBody, formalNames, formalKinds, declaredNames, sameKind}
+use Rattle.language.specs.Text.{Kind, Formal, Block, block, Decl, VR, LB, PR, decl, BK, blockDecls, blockStmts, decls, declKind, labelIndex, declFormals, declBody, formalNames, formalKinds, declaredNames}
 use Rattle.language.specs.Scope.{agree}
 use Rattle.language.specs.Copy.{Replacement, renameBlock, without}
 use Rattle.language.specs.Machine.{Activation, State, Limits, Instance, instance, withLive, resume, jump, kindAt, enterIfRoom, call}
+use Rattle.laws.specs.Kinds.{agree-length}
 use Rattle.laws.specs.Lists.{take-snoc, snoc-inj, getElem-bound}
+use Rattle.laws.specs.Each.{Each, each-map}
 use Rattle.laws.specs.Renaming.{labelIndex-renamed, declFormals-renamed, declBody-renamed}
 use Rattle.laws.specs.Instances.{instance-number}
 use Rattle.grammar.specs.Rules.{FormedBlock, FormedDecl}
@@ -19,7 +21,7 @@ use Rattle.grammar.specs.Formed.{formal-names, decl-at, stmt-at}
 use Rattle.instances.specs.Statement.{Stands}
 use Rattle.frames.specs.Frame.{Frame, Stack, numbered, continue, withFrames, frameNumber, kindOf, goTo, pushFrame, callBy}
 use Rattle.frames.specs.Both.{both-length}
-use Rattle.frames.specs.Related.{readsIn, readsAt, joined, designatorAt, Fine, AllLive, Twin, Related}
+use Rattle.frames.specs.Related.{readsIn, readsAt, joined, designatorAt, Fine, LiveBelow, AllLive, Twin, Related}
 use Rattle.frames.specs.Cuts.{top-of, related-take, related-resume}
 use Rattle.frames.specs.Designated.{Designated, designated, declOf-designated, kindOf-designated}
 use Rattle.frames.specs.Push.{related-push}
@@ -80,30 +82,16 @@ fine-block fs b j c f e =
 
 -- Entering
 
-agree-length : (ks : List Kind) (os : List (Option Kind)) → agree ks os ≡ true → length ks ≡ length os
-unfolding agree
-agree-length [] [] e = refl
-agree-length [] (x ∷ os) e = absurd (let z : _≡_ {A = ℕ} 0 1 = cc in omega arith)
-agree-length (k ∷ ks) [] e = absurd (let z : _≡_ {A = ℕ} 0 1 = cc in omega arith)
-agree-length (k ∷ ks) (none ∷ os) e = absurd (let z : _≡_ {A = ℕ} 0 1 = cc in omega arith)
-agree-length (k ∷ ks) (some x ∷ os) e = ap suc (agree-length ks os (and-right (sameKind k x) (agree ks os) e))
-  where
-    and-right : (a b : Bool) → (a && b) ≡ true → b ≡ true
-    and-right true b h = h
-    and-right false b h = absurd (let z : _≡_ {A = ℕ} 0 1 = cc in omega arith)
-
 -- arguments that stand in the state
 abbrev pub AllStand : State → List ℕ → Type 0
-AllStand s [] = Unit {0}
-AllStand s (x ∷ xs) = Stands s x none × AllStand s xs
+AllStand s xs = Each (λ x. Stands s x none) xs
 
 module _ (s : State) (t : Stack) (r : Related s t) where
   all-live : (xs : List ℕ) → AllStand s xs → AllLive (s .live) (length (s .live)) xs
-  unfolding AllLive instance
-  all-live [] v = tt
-  all-live (x ∷ xs) v =
-      let n = instance-number x 1 (s .live) (v .0 .it) (v .0 .found) in
-      (record { instance = v .0 .it; found = v .0 .found; below = omega arith }, all-live xs (v .1))
+  unfolding instance
+  all-live xs v =
+      each-map (λ x. Stands s x none) (LiveBelow (s .live) (length (s .live))) xs
+      (λ x h. let n = instance-number x 1 (s .live) (h .it) (h .found) in record { instance = h .it; found = h .found; below = omega arith }) v
 
   kinds-same : (xs : List ℕ) → AllStand s xs → map (kindAt s) xs ≡ map (kindOf (t .frames)) (map (designatorAt (s .live)) xs)
   unfolding instance kindAt
@@ -161,7 +149,7 @@ module _ (s : State) (t : Stack) (r : Related s t) where
 
       many : agree (formalKinds (declFormals (i .decl))) (map (kindAt s) xs) ≡ true → length xs ≡ length fs
       many e =
-          let n = agree-length (formalKinds (declFormals (i .decl))) (map (kindAt s) xs) e in
+          let n = sym (agree-length (formalKinds (declFormals (i .decl))) (map (kindAt s) xs) e) in
           let n₁ = length-map (declFormals (i .decl)) (λ (f : Formal). f .kind) in
           let n₂ = length-map xs (kindAt s) in
           let n₃ = ap length formals-same in

@@ -74,7 +74,7 @@ label-in (LB at n i) level s here h = (h .first, h .last)
 label-in (PR at n fs b) level s here h = tt
 
 labels-in : (ds : Decls) (level s here : ℕ) → FormedDecls ds level s here → LabelsIn s ds
-unfolding FormedBlock LabelsIn
+unfolding FormedBlock decls
 labels-in no-decl level s here h = tt
 labels-in (decl d ds) level s here h = (label-in d level s here (h .0), labels-in ds level s _ (h .1))
 

@@ -29,9 +29,8 @@ LabelIn s (VR at n) = Unit {0}
 LabelIn s (LB at n i) = (1 ≤ i) × (i ≤ s)
 LabelIn s (PR at n fs b) = Unit {0}
 
-unfoldable pub LabelsIn : ℕ → Decls → Type 0
-LabelsIn s no-decl = Unit {0}
-LabelsIn s (decl d ds) = LabelIn s d × LabelsIn s ds
+abbrev pub LabelsIn : ℕ → Decls → Type 0
+LabelsIn s ds = Each (LabelIn s) (decls ds)
 
 -- a block's own names, as they are written, its formals' and its declarations'; and its labels
 pub record Written (formals : List ℕ) (ds : Decls) (ss : Stmts) : Type 0 where

@@ -14,7 +14,7 @@ use Rattle.laws.specs.Tests.{split, none≢some, eqb-swap, some-inj}
 use Rattle.laws.specs.Lookup.{lookup-here, lookup-there, lookup-left, lookup-right}
 use Rattle.laws.specs.Instances.{declared-here, declared-there, declaredBy, instance-here, instance-there, found-at}
 use Rattle.laws.specs.Rising.{rising-name}
-use Rattle.instances.specs.Closed.{Kinds, declKinds, LabelIn, LabelsIn, InDecl, InStmt, InDecls, InStmts}
+use Rattle.instances.specs.Closed.{Kinds, declKinds, InDecl, InStmt, InDecls, InStmts}
 use Rattle.instances.specs.Invariant.{kindsIn, liveKinds, Invariant}
 
 kindFound : Option (ℕ × Decl) → Option Kind
@@ -77,12 +77,6 @@ unfolding decls InDecls
 decl-in no-decl j K d e h = none≢some e
 decl-in (decl c ds) zero K d e h = subst (λ (x : Decl). InDecl x K) (some-inj e) (h .0)
 decl-in (decl c ds) (suc j) K d e h = decl-in ds j K d e (h .1)
-
-pub label-in : (ds : Decls) (j s : ℕ) (d : Decl) → getElem? (decls ds) j ≡ some d → LabelsIn s ds → LabelIn s d
-unfolding decls LabelsIn
-label-in no-decl j s d e h = none≢some e
-label-in (decl c ds) zero s d e h = subst (LabelIn s) (some-inj e) (h .0)
-label-in (decl c ds) (suc j) s d e h = label-in ds j s d e (h .1)
 
 pub stmt-in : (ss : Stmts) (i : ℕ) (K : Kinds) (x : Stmt) → getElem? (stmts ss) i ≡ some x → InStmts ss K → InStmt x K
 unfolding stmts InStmts

@@ -71,7 +71,7 @@ kept-kinds fs ds σ =
     rw (kept-names (formalNames fs) ds σ, declKinds-renamed ds (without (formalNames fs ++ map declName (decls ds)) σ))
 
 renamed-labels-in : (s : ℕ) (ds : Decls) (σ : Replacement) → LabelsIn s ds → LabelsIn s (renameDecls ds σ)
-unfolding LabelIn LabelsIn renameBlock
+unfolding LabelIn renameBlock decls
 renamed-labels-in s no-decl σ h = tt
 renamed-labels-in s (decl (VR at n) ds) σ h = (tt, renamed-labels-in s ds σ (h .1))
 renamed-labels-in s (decl (LB at n i) ds) σ h = (h .0, renamed-labels-in s ds σ (h .1))

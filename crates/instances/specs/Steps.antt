@@ -17,13 +17,14 @@ use Rattle.language.specs.Copy.{Replacement}
 use Rattle.language.specs.Machine.{Activation, State, Limits, withLive, withTable, counted, resume, store, value, Instance, instance, kindAt, Done, did, enterIfRoom, call, jump, compute, storeIfFits, addPair, removePair, queryPair, doAction, doStmt, nextStmt, advance, stepIn, step, run, start}
 use Rattle.laws.specs.Tests.{split}
 use Rattle.laws.specs.Lists.{getElem-bound, getElem-split, last-split}
+use Rattle.laws.specs.Each.{each-at}
 use Rattle.laws.specs.Instances.{FoundAt, found-at}
 use Rattle.laws.specs.Rising.{Rising, rising-before}
 use Rattle.runs.specs.Moves.{After, run-after}
 use Rattle.instances.specs.Statement.{usesOf}
-use Rattle.instances.specs.Closed.{Kinds, LabelIn, LabelsIn, Used, AllUsed, InBlock, InDecl, InStmt}
+use Rattle.instances.specs.Closed.{Kinds, LabelIn, Used, AllUsed, InBlock, InDecl, InStmt}
 use Rattle.instances.specs.Invariant.{kindsIn, liveKinds, CopyIn, AllSeen, Placed, Stacked, Invariant, stacked-before, stacked-at, resumed, liveKinds-append}
-use Rattle.instances.specs.Found.{kindAt-live, instance-of, decl-in, label-in, stmt-in}
+use Rattle.instances.specs.Found.{kindAt-live, instance-of, decl-in, stmt-in}
 use Rattle.instances.specs.Entering.{entered}
 
 -- of the state after, where there is one
@@ -112,7 +113,7 @@ pub record Home (s : State) (i : Instance) : Type 0 where
 
 decl-of-copy : (b : Block) (j : ℕ) (K : Kinds) (d : Decl) → getElem? (blockDecls b) j ≡ some d → CopyIn b K → InDecl d K × LabelIn (length (blockStmts b)) d
 unfolding blockDecls blockStmts CopyIn
-decl-of-copy (block at ds ss) j K d e h = (decl-in ds j K d e (h .1), label-in ds j (length (stmts ss)) d e (h .0))
+decl-of-copy (block at ds ss) j K d e h = (decl-in ds j K d e (h .1), each-at (LabelIn (length (stmts ss))) (decls ds) j d e (h .0))
 
 -- the activations before an instance's, that one, and those after it
 pub live-split : (s : State) (x : ℕ) (i : Instance) (f : FoundAt x 1 (s .live) i) →
@@ -138,7 +139,7 @@ home-of s x i inv f =
     }
 
 pub body-in : (d : Decl) (K : Kinds) → InDecl d K → InBlock (declBody d) (declFormals d) K
-unfolding InBlock declBody declFormals formalNames decls LabelsIn
+unfolding InBlock declBody declFormals formalNames decls
 body-in (VR at n) K h = (record { formals-small = tt; small = tt; once = tt; labels = tt }, tt, tt)
 body-in (LB at n i) K h = (record { formals-small = tt; small = tt; once = tt; labels = tt }, tt, tt)
 body-in (PR at n fs b) K h = h

@@ -211,11 +211,6 @@ module _ (fs args ns news : List ℕ) (σ : Replacement) (lf : length fs ≡ len
       ∙ ap (λ (τ : Replacement). map (renamed (τ ++ σ)) (fs ++ ns)) (zip-append fs args ns news lf)
       ∙ renamed-zip (fs ++ ns) (args ++ news) σ (lengths-append fs ns args news lf ln) once
 
-  pub own-arguments : map (renamed (zip fs args ++ zip ns news ++ σ)) fs ≡ args
-  own-arguments =
-      let r : ℕ → ℕ = renamed (zip fs args ++ zip ns news ++ σ) in
-      sym (take-at (map r fs) (map r ns) (length args) (length-map fs r ∙ lf)) ∙ ap (take (length args)) own-all ∙ take-at args news (length args) refl
-
   pub own-new : map (renamed (zip fs args ++ zip ns news ++ σ)) ns ≡ news
   own-new =
       let r : ℕ → ℕ = renamed (zip fs args ++ zip ns news ++ σ) in
