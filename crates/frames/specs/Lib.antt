@@ -6,6 +6,7 @@ pub mod Theorem
 pub mod Both
 pub mod Renaming
 pub mod Positions
+pub mod Fine
 pub mod Related
 pub mod Cuts
 pub mod Find
@@ -15,5 +16,4 @@ pub mod Push
 pub mod Actions
 pub mod Transfers
 pub mod Steps
-pub mod Script
 pub mod Runs

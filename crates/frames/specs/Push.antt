@@ -25,7 +25,8 @@ use Rattle.grammar.specs.Formed.{block-once}
 use Rattle.frames.specs.Frame.{Frame, Stack, numbered, newFrame, zeroWords, withFrames}
 use Rattle.frames.specs.Renaming.{entered-text, own-kept, declared-new}
 use Rattle.frames.specs.Both.{both-at, both-map, both-snoc}
-use Rattle.frames.specs.Related.{readsIn, readsAt, joined, designatorAt, orZero, valueIn, wordIn, Fine, LiveBelow, AllLive, ownOf, Twin, Related}
+use Rattle.frames.specs.Related.{readsIn, readsAt, joined, designatorAt, orZero, valueIn, wordIn, LiveBelow, AllLive, ownOf, Twin, Related}
+use Rattle.frames.specs.Fine.{Fine}
 use Rattle.frames.specs.Cuts.{SameBelow, twin-same, all-live-same, designators-same}
 
 -- What names read as are new names, everywhere.

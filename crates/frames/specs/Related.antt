@@ -6,15 +6,14 @@ use mathlib.Core.Option.{Option, none, some}
 use lib.IntN.{ℤ, pos}
 use lib.ListN.{length}
 use Rattle.language.specs.Basics.{lookup, zip}
-use Rattle.language.specs.Text.{Formal, Block, block, Decl, VR, LB, PR, blockDecls, formalNames, declaredNames}
+use Rattle.language.specs.Text.{block, Decl, VR, LB, PR, blockDecls, formalNames, declaredNames}
 use Rattle.language.specs.Copy.{Replacement, renameBlock}
 use Rattle.language.specs.Machine.{Activation, State, Instance, instanceFrom}
 use Rattle.laws.specs.Each.{Each}
-use Rattle.laws.specs.Lookup.{AllBelow}
 use Rattle.laws.specs.Rising.{Rising}
-use Rattle.grammar.specs.Rules.{FormedBlock}
 use Rattle.frames.specs.Frame.{Frame, Stack, numbered}
 use Rattle.frames.specs.Both.{Both}
+use Rattle.frames.specs.Fine.{Fine}
 
 -- what names read as in the activation of a number; nothing at 0
 unfoldable pub readsIn : Option Activation → List Replacement
@@ -48,13 +47,6 @@ unfoldable pub wordIn : List (ℕ × ℤ) → Decl → ℤ
 wordIn vs (VR at n) = valueIn vs n
 wordIn vs (LB at n i) = pos 0
 wordIn vs (PR at n fs b) = pos 0
-
--- A block with its formals as an accepted script has them.
-pub record Fine (fs : List Formal) (b : Block) : Type 0 where
-  pub level : ℕ
-  pub here : ℕ
-  pub formed : FormedBlock b level fs here
-  pub small-formals : AllBelow (formalNames fs)
 
 -- A name with a live declared instance whose number is at most k.
 pub record LiveBelow (l : List Activation) (k x : ℕ) : Type 0 where

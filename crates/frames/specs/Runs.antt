@@ -20,7 +20,7 @@ use Rattle.language.specs.Call.{Engine, copying, chain, display, Fed, areaFits,
 use Rattle.language.specs.declared.End.the-variants.{Finished, Spent, Stopped}
 use Rattle.laws.specs.Tests.{split}
 use Rattle.laws.specs.Lists.{last-none, last-split, getElem-snoc, map-alike}
-use Rattle.laws.specs.Renaming.{blockAt-renamed}
+use Rattle.laws.specs.Renaming.{blockAt-renamed, rename-nothing}
 use Rattle.laws.specs.Rising.{Rising}
 use Rattle.grammar.specs.Rules.{Bytes}
 use Rattle.runs.specs.Account.{run-finished, run-spent, run-did, run-stopped}
@@ -34,7 +34,7 @@ use Rattle.frames.specs.Push.{related-push}
 use Rattle.frames.specs.Find.{foundDesignator, passedIn, designates-found, links-found}
 use Rattle.frames.specs.Actions.{Alike, value-is}
 use Rattle.frames.specs.Steps.{step-alike, offset-alike}
-use Rattle.frames.specs.Script.{fine-script, rename-nothing}
+use Rattle.frames.specs.Fine.{fine-script}
 
 -- The clauses of the frame machine's run, as equations.
 module _ (l : Limits) (t : Stack) where

@@ -23,11 +23,12 @@ use Rattle.instances.specs.Theorems.{stands}
 use Rattle.instances.specs.Steps.{next-closed, advanced, advanced-kinds}
 use Rattle.frames.specs.Frame.{Frame, Stack, continue, withFrames, wordAt, designates, mapAction, act, actStmt, pushFrame, frameStmt, advanceFrame, actIn, frameStep, frameOffset}
 use Rattle.frames.specs.Both.{both-length}
-use Rattle.frames.specs.Related.{readsAt, joined, designatorAt, Fine, Twin, Related}
+use Rattle.frames.specs.Related.{readsAt, joined, designatorAt, Twin, Related}
+use Rattle.frames.specs.Fine.{Fine, fine-block}
 use Rattle.frames.specs.Cuts.{Top, top-of, related-pop, related-resume}
 use Rattle.frames.specs.Find.{designates-name}
 use Rattle.frames.specs.Actions.{Alike, word-is-value, store-alike, fits-alike, add-alike, remove-alike, query-alike}
-use Rattle.frames.specs.Transfers.{jump-related, AllStand, call-alike, enter-alike, reads-of, fine-block}
+use Rattle.frames.specs.Transfers.{jump-related, AllStand, call-alike, enter-alike, reads-of}
 
 -- an action whose names are used as the text around it allows
 module _ (s : State) (t : Stack) (r : Related s t) (inv : Invariant s) where

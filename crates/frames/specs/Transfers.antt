@@ -7,7 +7,7 @@ use mathlib.Core.List.{List, [], _∷_, _++_, map}
 use mathlib.Core.Option.{Option, none, some}
 use lib.Dec.{ltb}
 use lib.ListN.{length, take, getElem?, length-map}
-use Rattle.language.specs.Text.{Kind, Formal, Block, block, Decl, VR, LB, PR, decl, BK, blockDecls, blockStmts, decls, declKind, labelIndex, declFormals, declBody, formalNames, formalKinds, declaredNames}
+use Rattle.language.specs.Text.{Kind, Formal, Block, block, decl, declKind, labelIndex, declFormals, declBody, formalNames, formalKinds, declaredNames}
 use Rattle.language.specs.Scope.{agree}
 use Rattle.language.specs.Copy.{Replacement, renameBlock, without}
 use Rattle.language.specs.Machine.{Activation, State, Limits, Instance, instance, withLive, resume, jump, kindAt, enterIfRoom, call}
@@ -16,12 +16,11 @@ use Rattle.laws.specs.Lists.{take-snoc, snoc-inj, getElem-bound}
 use Rattle.laws.specs.Each.{Each, each-map}
 use Rattle.laws.specs.Renaming.{labelIndex-renamed, declFormals-renamed, declBody-renamed}
 use Rattle.laws.specs.Instances.{instance-number}
-use Rattle.grammar.specs.Rules.{FormedBlock, FormedDecl}
-use Rattle.grammar.specs.Formed.{formal-names, decl-at, stmt-at}
 use Rattle.instances.specs.Statement.{Stands}
 use Rattle.frames.specs.Frame.{Frame, Stack, numbered, continue, withFrames, frameNumber, kindOf, goTo, pushFrame, callBy}
 use Rattle.frames.specs.Both.{both-length}
-use Rattle.frames.specs.Related.{readsIn, readsAt, joined, designatorAt, Fine, LiveBelow, AllLive, Twin, Related}
+use Rattle.frames.specs.Fine.{Fine, fine-body}
+use Rattle.frames.specs.Related.{readsIn, readsAt, joined, designatorAt, LiveBelow, AllLive, Twin, Related}
 use Rattle.frames.specs.Cuts.{top-of, related-take, related-resume}
 use Rattle.frames.specs.Designated.{Designated, designated, declOf-designated, kindOf-designated}
 use Rattle.frames.specs.Push.{related-push}
@@ -63,22 +62,6 @@ module _ (s : State) (t : Stack) (r : Related s t) where
       let d = designated s t r x i (v .found) in
       subst₂ Related (sym (jump-is x i (v .found) d)) (sym (goTo-is x i (v .found) d))
       (cut-back (d .depth) (labelIndex (i .decl)) (i .home) (d .frame) (d .home-at) (d .frame-at))
-
--- What is fine stays so within; what is no procedure has an empty body.
-formed-body : (d : Decl) (level s here : ℕ) → FormedDecl d level s here → Fine (declFormals d) (declBody d)
-unfolding FormedBlock declBody declFormals formalNames decls
-formed-body (VR at n) level s here h = record { level = 1; here = 0; formed = record { stands = refl; nesting = omega arith; few = omega arith; once = tt; declarations = tt; statements = tt }; small-formals = tt }
-formed-body (LB at n i) level s here h = record { level = 1; here = 0; formed = record { stands = refl; nesting = omega arith; few = omega arith; once = tt; declarations = tt; statements = tt }; small-formals = tt }
-formed-body (PR at n fs b) level s here h = record { level = _; here = _; formed = h .body; small-formals = formal-names fs _ (h .formals) }
-
-pub fine-body : (fs : List Formal) (b : Block) (j : ℕ) (d : Decl) → Fine fs b → getElem? (blockDecls b) j ≡ some d → Fine (declFormals d) (declBody d)
-fine-body fs b j d f e = let h = decl-at (f .level) fs (f .here) b j d (f .formed) e in formed-body d (f .level) _ (h .0) (h .1)
-
-pub fine-block : (fs : List Formal) (b : Block) (j : ℕ) (c : Block) → Fine fs b → getElem? (blockStmts b) j ≡ some (BK c) → Fine [] c
-unfolding FormedBlock formalNames
-fine-block fs b j c f e =
-    let h = stmt-at (f .level) fs (f .here) b j (BK c) (f .formed) e in
-    record { level = _; here = h .0; formed = h .1; small-formals = tt }
 
 -- Entering
 

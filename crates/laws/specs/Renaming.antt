@@ -11,8 +11,8 @@ use lib.Dec.{eqb}
 use lib.ListN.{length, take, drop, length-map}
 use lib.Seq.{take-at, drop-at}
 use Rattle.language.specs.Basics.{among, lookup, zip}
-use Rattle.language.specs.Text.{Kind, Block, block, Decl, VR, LB, PR, Stmt, BK, DO, Decls, no-decl, decl, Stmts, no-stmt, stmt, decls, stmts, blockAt, blockDecls, blockStmts, stmtAt, declName, declKind, labelIndex, declFormals, declBody, formalNames, declaredNames}
-use Rattle.language.specs.Copy.{Replacement, renamed, without, renameBlock, renameDecl, renameStmt, renameDecls, renameStmts}
+use Rattle.language.specs.Text.{Kind, Action, CL, GO, IF, KN, AR, AD, RM, QY, Block, block, Decl, VR, LB, PR, Stmt, BK, DO, Decls, no-decl, decl, Stmts, no-stmt, stmt, decls, stmts, blockAt, blockDecls, blockStmts, stmtAt, declName, declKind, labelIndex, declFormals, declBody, formalNames, declaredNames}
+use Rattle.language.specs.Copy.{Replacement, renamed, without, renameAction, renameBlock, renameDecl, renameStmt, renameDecls, renameStmts}
 use Rattle.laws.specs.Tests.{split, never}
 use Rattle.laws.specs.Lists.{lengths-append}
 use Rattle.laws.specs.Each.{Each}
@@ -215,3 +215,43 @@ module _ (fs args ns news : List ℕ) (σ : Replacement) (lf : length fs ≡ len
   own-new =
       let r : ℕ → ℕ = renamed (zip fs args ++ zip ns news ++ σ) in
       sym (drop-at (map r fs) (map r ns) (length args) (length-map fs r ∙ lf)) ∙ ap (drop (length args)) own-all ∙ drop-at args news (length args) refl
+
+-- A text renamed by nothing is the text
+names-nothing : (xs : List ℕ) → map (renamed []) xs ≡ xs
+unfolding renamed lookup
+names-nothing [] = refl
+names-nothing (x ∷ xs) = ap (x ∷_) (names-nothing xs)
+
+action-nothing : (a : Action) → renameAction [] a ≡ a
+unfolding renameAction renamed lookup
+action-nothing (CL p xs) = ap (CL p) (names-nothing xs)
+action-nothing (GO x) = refl
+action-nothing (IF v x) = refl
+action-nothing (KN x z) = refl
+action-nothing (AR x o a b) = refl
+action-nothing (AD g m) = refl
+action-nothing (RM g m) = refl
+action-nothing (QY x g m) = refl
+
+mutual
+  unfolding renameBlock renamed lookup without
+
+  pub rename-nothing : (b : Block) → renameBlock b [] ≡ b
+  rename-nothing (block at ds ss) = ap₂ (block at) (decls-nothing ds) (stmts-nothing ss)
+
+  decl-nothing : (d : Decl) → renameDecl d [] ≡ d
+  decl-nothing (VR at n) = refl
+  decl-nothing (LB at n i) = refl
+  decl-nothing (PR at n fs b) = ap (PR at n fs) (rename-nothing b)
+
+  stmt-nothing : (x : Stmt) → renameStmt x [] ≡ x
+  stmt-nothing (BK b) = ap BK (rename-nothing b)
+  stmt-nothing (DO at a) = ap (DO at) (action-nothing a)
+
+  decls-nothing : (ds : Decls) → renameDecls ds [] ≡ ds
+  decls-nothing no-decl = refl
+  decls-nothing (decl d ds) = ap₂ decl (decl-nothing d) (decls-nothing ds)
+
+  stmts-nothing : (ss : Stmts) → renameStmts ss [] ≡ ss
+  stmts-nothing no-stmt = refl
+  stmts-nothing (stmt x ss) = ap₂ stmt (stmt-nothing x) (stmts-nothing ss)
