@@ -98,7 +98,7 @@ same-push l a k h = record { same-reads = λ j b. reads j (omega arith); same-in
   where
     reads : (j : ℕ) → j ≤ length l → readsAt (l ++ (a ∷ [])) j ≡ readsAt l j
     reads zero b = refl
-    reads (suc j) b = let c = getElem-in l j b in ap readsIn (getElem-append l (a ∷ []) j (c .0) (c .1) ∙ sym (c .1))
+    reads (suc j) b = ap readsIn (getElem-append l (a ∷ []) j b)
 
 -- The new activation's variables are 0, and the others keep their values.
 

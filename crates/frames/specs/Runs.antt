@@ -19,7 +19,7 @@ use Rattle.language.specs.Sheet.{Found, seek, designator, declWord, activationW
 use Rattle.language.specs.Call.{Engine, copying, chain, display, Fed, areaFits, linksOf, replied, runOf, checked}
 use Rattle.language.specs.declared.End.the-variants.{Finished, Spent, Stopped}
 use Rattle.laws.specs.Tests.{split}
-use Rattle.laws.specs.Lists.{last-none, last-split, getElem-snoc, map-alike}
+use Rattle.laws.specs.Lists.{last-none, last-split, getElem-seam, map-alike}
 use Rattle.laws.specs.Renaming.{blockAt-renamed, rename-nothing}
 use Rattle.laws.specs.Rising.{Rising}
 use Rattle.grammar.specs.Rules.{Bytes}
@@ -207,7 +207,7 @@ module _ (s : State) (t : Stack) (r : Related s t) (n : ℕ) where
       let k = length (butLast (s .live)) in
       let split = last-split (s .live) a e in
       let deep : length (s .live) ≡ suc k = ap length split ∙ (length-append (butLast (s .live)) (a ∷ []) ∙ omega arith) in
-      let here : getElem? (s .live) k ≡ some a = ap (λ (m : List Activation). getElem? m k) split ∙ getElem-snoc (butLast (s .live)) a in
+      let here : getElem? (s .live) k ≡ some a = ap (λ (m : List Activation). getElem? m k) split ∙ getElem-seam (butLast (s .live)) a [] in
       (found-designator (seek n 0 (a .reads)) (lookedUp-is a e) ∙ sym (designates-found s t r k a deep here n), found-links (seek n 0 (a .reads)) (lookedUp-is a e) ∙ sym (links-found s t r k a deep here n))
 
 -- The replies are one.

@@ -11,7 +11,7 @@ use Rattle.language.specs.Basics.{eqZ, last?, butLast}
 use Rattle.language.specs.Text.{Kind, variable, label, procedure, Action, CL, GO, IF, KN, AR, AD, RM, QY, Block, Stmt, BK, DO, blockStmts, stmtAt, formalNames, declaredNames}
 use Rattle.language.specs.Copy.{Replacement, renamed, renameAction, renameBlock, renameStmt, without}
 use Rattle.language.specs.Machine.{Activation, State, Limits, withLive, resume, value, compute, doAction, doStmt, enterIfRoom, nextStmt, advance, stepIn, step, nextOffset}
-use Rattle.laws.specs.Lists.{last-snoc, butLast-snoc, last-split, getElem-snoc, getElem?-map}
+use Rattle.laws.specs.Lists.{last-snoc, butLast-snoc, last-split, getElem-seam, getElem?-map}
 use Rattle.laws.specs.Lookup.{AllBelow}
 use Rattle.laws.specs.Renaming.{blockStmts-renamed, stmtAt-renamed}
 use Rattle.grammar.specs.Rules.{FormedAction, FormedBlock}
@@ -126,7 +126,7 @@ module _ (l : Limits) (s : State) (t : Stack) (r : Related s t) (inv : Invariant
 
   top₁ : getElem? (advance s a .live) k ≡ some (resume a (suc (a .next)))
   unfolding advance withLive
-  top₁ = getElem-snoc (butLast (s .live)) (resume a (suc (a .next)))
+  top₁ = getElem-seam (butLast (s .live)) (resume a (suc (a .next))) []
 
   deep₁ : length (advance s a .live) ≡ suc k
   unfolding advance withLive

@@ -46,14 +46,14 @@ module _ {ℓ} {A : Type ℓ} where
   replaced-length l a b e = length-append (butLast l) (b ∷ []) ∙ sym (length-append (butLast l) (a ∷ [])) ∙ ap length (sym (last-split l a e))
 
   -- the element at an index
-  pub getElem-append : (l m : List A) (k : ℕ) (a : A) → getElem? l k ≡ some a → getElem? (l ++ m) k ≡ some a
-  getElem-append [] m k a e = none≢some e
-  getElem-append (x ∷ l) m zero a e = e
-  getElem-append (x ∷ l) m (suc k) a e = getElem-append l m k a e
+  pub getElem-append : (l m : List A) (k : ℕ) → k < length l → getElem? (l ++ m) k ≡ getElem? l k
+  getElem-append [] m k h = absurd (not-suc-le-zero h)
+  getElem-append (x ∷ l) m zero h = refl
+  getElem-append (x ∷ l) m (suc k) h = getElem-append l m k (le-of-suc-le-suc h)
 
-  pub getElem-snoc : (l : List A) (a : A) → getElem? (l ++ (a ∷ [])) (length l) ≡ some a
-  getElem-snoc [] a = refl
-  getElem-snoc (x ∷ l) a = getElem-snoc l a
+  pub getElem-seam : (l : List A) (a : A) (m : List A) → getElem? (l ++ (a ∷ m)) (length l) ≡ some a
+  getElem-seam [] a m = refl
+  getElem-seam (x ∷ l) a m = getElem-seam l a m
 
   pub getElem-take : (l : List A) (m k : ℕ) → k < m → getElem? (take m l) k ≡ getElem? l k
   getElem-take [] zero k h = refl
