@@ -13,7 +13,8 @@ use Rattle.language.specs.Scope.{Meaning}
 use Rattle.language.specs.Check.{accepted, check}
 use Rattle.language.specs.Table.{Table}
 use Rattle.language.specs.Machine.{Limits}
-use Rattle.grammar.specs.Rules.{Bytes, Each, Keeps}
+use Rattle.laws.specs.Each.{Each}
+use Rattle.grammar.specs.Rules.{Bytes, Keeps}
 use Rattle.grammar.specs.Exact.{accepts-exactly}
 use Rattle.frames.specs.Frame.{Frame, numbered, frameNames, seekName, finally, designates, linksFollowed, frameStmt, frameRun, frameStart}
 use Rattle.coordinates.specs.Enclosure.{Coordinate, coordinateOf}

@@ -14,7 +14,8 @@ use lib.ListN.{length, getD, getElem?}
 use Rattle.language.specs.Basics.{last?, butLast}
 use Rattle.language.specs.Text.{Action, Formal, Block, Decl, DO, blockDecls}
 use Rattle.language.specs.Scope.{Meaning}
-use Rattle.grammar.specs.Rules.{Each, Keeps}
+use Rattle.laws.specs.Each.{Each}
+use Rattle.grammar.specs.Rules.{Keeps}
 use Rattle.frames.specs.Frame.{Frame, Stack, Place, numbered, seekFrom, seekName, designatorIn, finally, designates, frameNumber, place, declOf, continue, withFrames, advanceFrame, frameStmt}
 use Rattle.coordinates.specs.Enclosure.{Enclosing}
 use Rattle.coordinates.specs.Chain.{enclosing, chainOf, enclosureOf, levelOf, outline, Alike, Downward, Chained}

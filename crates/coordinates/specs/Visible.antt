@@ -13,7 +13,8 @@ use lib.ListN.{length, getElem?}
 use Rattle.language.specs.Basics.{lookup}
 use Rattle.language.specs.Text.{Kind, variable, label, procedure, Formal, Action, CL, GO, IF, KN, AR, AD, RM, QY, Block, block, Decl, VR, LB, PR, Stmt, BK, DO, Decls, no-decl, decl, Stmts, no-stmt, stmt, decls, stmts, blockDecls, blockStmts, declName, formalNames, declaredNames}
 use Rattle.language.specs.Scope.{Meaning, Scope, formalMeaning, declMeaning, inside}
-use Rattle.grammar.specs.Rules.{Each, Visible, Is, ScopedAction, ScopedBlock, ScopedDecl, ScopedStmt, ScopedDecls, ScopedStmts, Keeps}
+use Rattle.laws.specs.Each.{Each}
+use Rattle.grammar.specs.Rules.{Visible, Is, ScopedAction, ScopedBlock, ScopedDecl, ScopedStmt, ScopedDecls, ScopedStmts, Keeps}
 use Rattle.frames.specs.Frame.{numbered, positionFrom}
 use Rattle.coordinates.specs.Enclosure.{Enclosing, enclosed, Enclosure, Coordinate, namesOf, coordinateOf, atLevel, StandsIn, as-block, as-body, whole, Encloses}
 use Rattle.coordinates.specs.Lists.{numbered-at}

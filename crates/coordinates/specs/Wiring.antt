@@ -15,7 +15,8 @@ use Rattle.language.specs.Text.{Kind, variable, label, procedure, Formal, Actio
 use Rattle.language.specs.Scope.{Meaning, Scope, agree}
 use Rattle.language.specs.Table.{Table}
 use Rattle.language.specs.Machine.{Limits}
-use Rattle.grammar.specs.Rules.{Each, Visible, Is, ScopedAction, Keeps}
+use Rattle.laws.specs.Each.{Each}
+use Rattle.grammar.specs.Rules.{Visible, Is, ScopedAction, Keeps}
 use Rattle.frames.specs.Frame.{Frame, Stack, acted, numbered, designates, frameNumber, place, declOf, kindOf, continue, rewritten, putWord, put, newFrame, zeroWords, withFrames, tableChanged, stepped, mapAction, advanceFrame, frameStmt, frameStep, frameRun, frameStart}
 use Rattle.coordinates.specs.Enclosure.{Enclosing}
 use Rattle.coordinates.specs.Chain.{enclosing, enclosureOf, outline, Alike, Chained}

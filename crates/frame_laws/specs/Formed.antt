@@ -8,7 +8,8 @@ use native.Mathlib.Omega.{arith}
 use lib.ListN.{length, getElem?}
 use Rattle.language.specs.Text.{label, Formal, Action, Block, block, Decl, VR, LB, PR, Stmt, BK, DO, Decls, no-decl, decl, Stmts, no-stmt, stmt, decls, stmts, blockDecls, blockStmts, declKind, labelIndex, declFormals, declBody, formalNames, declaredNames}
 use Rattle.language.specs.Encoding.{declFields, stmtFields, declsFields, formalsFields}
-use Rattle.grammar.specs.Rules.{Distinct, FormedAction, FormedBlock, FormedDecl, FormedStmt, FormedDecls, FormedStmts, Keeps}
+use Rattle.laws.specs.Distinct.{Distinct}
+use Rattle.grammar.specs.Rules.{FormedAction, FormedBlock, FormedDecl, FormedStmt, FormedDecls, FormedStmts, Keeps}
 
 pub record InForm (b : Block) (fs : List Formal) : Type 0 where
   pub level : ℕ

@@ -13,7 +13,7 @@ use Rattle.language.specs.Text.{Stmt, stmtAt}
 use Rattle.language.specs.Machine.{Limits}
 use Rattle.language.specs.declared.Stop.{Stop}
 use Rattle.language.specs.declared.End.the-variants.{Finished, Spent, Stopped}
-use Rattle.runs.specs.Instances.{butLast-last}
+use Rattle.laws.specs.Lists.{last-split}
 use Rattle.frames.specs.Frame.{Frame, Stack, Acted, acted, halted, withFrames, stepped, continue, numbered, actStmt, frameStmt, advanceFrame, actIn, frameStep, frameOffset, Result, results, frameRun, frameWords, frameSheet}
 use Rattle.frame_laws.specs.Lists.{last-snoc, butLast-snoc, some-last, getElem-length, getElem-some, getElem-append, getElem-seam}
 
@@ -53,7 +53,7 @@ numbered-some fs (suc k) p h = getElem-some fs k h
 -- One step
 
 pub innermost : (s : Stack) → 1 ≤ length (s .frames) → (pre : List Frame) × (f : Frame) × (s .frames ≡ pre ++ (f ∷ []))
-innermost s h = let q = some-last (s .frames) h in (butLast (s .frames), q .0, sym (butLast-last (s .frames) (q .0) (q .1)))
+innermost s h = let q = some-last (s .frames) h in (butLast (s .frames), q .0, last-split (s .frames) (q .0) (q .1))
 
 last-innermost : (s : Stack) (pre : List Frame) (f : Frame) → s .frames ≡ pre ++ (f ∷ []) → last? (s .frames) ≡ some f
 last-innermost s pre f e = ap last? e ∙ last-snoc pre f

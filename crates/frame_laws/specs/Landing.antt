@@ -2,36 +2,36 @@
 -- `call-sound` for what a call is fed.
 -- Each stack of the run is related to the copy-rule machine's state after as many steps (crate frames), where the label's name has
 -- a live declared instance that is a label (crate instances).
-use Prim.Native.Nat.{ℕ, zero, suc, pred, _≤_, _<_}
+use Prim.Native.Nat.{ℕ, suc, pred, _≤_, _<_}
 use native.Mathlib.Omega.{arith}
-use mathlib.Core.Bool.{Bool, true}
+use mathlib.Core.Bool.{true}
 use mathlib.Core.Path.{_≡_, refl, sym, ap, _∙_, subst}
-use mathlib.Core.List.{List, [], _∷_, _++_, map}
+use mathlib.Core.List.{List, [], _∷_, _++_}
 use mathlib.Core.Option.{Option, none, some, Option·map}
 use lib.ListN.{length, getElem?, length-append}
 use Rattle.language.specs.Basics.{last?, butLast}
-use Rattle.language.specs.Text.{Kind, label, Action, CL, GO, IF, KN, AR, AD, RM, QY, Block, Decl, Stmt, DO, blockStmts, declKind}
+use Rattle.language.specs.Text.{label, Action, CL, GO, IF, KN, AR, AD, RM, QY, Block, Stmt, DO, declKind}
 use Rattle.language.specs.Check.{accepted, check}
 use Rattle.language.specs.Table.{Table}
 use Rattle.language.specs.Copy.{Replacement, renamed, renameAction, renameStmt}
 use Rattle.language.specs.Machine.{Activation, State, Limits, instance, nextStmt, run, start}
 use Rattle.language.specs.Call.{Fed, limitsFit}
-use Rattle.grammar.specs.Rules.{Bytes}
-use Rattle.instances.specs.Statement.{usesOf, Stands}
+use Rattle.laws.specs.Tests.{some-inj}
+use Rattle.laws.specs.Lists.{last-split, last-none, snoc-inj, getElem-seam}
+use Rattle.grammar.specs.Rules.{Bytes, FormedAction, FormedBlock}
+use Rattle.grammar.specs.Formed.{stmt-at}
+use Rattle.instances.specs.Statement.{usesOf}
 use Rattle.instances.specs.Closed.{Used, AllUsed, InStmt}
 use Rattle.instances.specs.Invariant.{liveKinds, Invariant}
-use Rattle.instances.specs.Reading.{accepted-closed}
+use Rattle.instances.specs.Accepted.{accepted-closed}
 use Rattle.instances.specs.Steps.{started, next-closed, run-keeps}
 use Rattle.instances.specs.Theorems.{stands}
-use Rattle.frames.specs.Frame.{Frame, Stack, designates, mapAction, declOf, kindOf, frameStmt, frameRun, frameStart, frameRunOf}
-use Rattle.frames.specs.Lists.{last-snoc, last-split, last-none, snoc-inj, none≢some, some-inj, getElem-snoc}
-use Rattle.frames.specs.Renaming.{SmallAction, SmallBlock, small-stmt-at}
+use Rattle.frames.specs.Frame.{Frame, Stack, designates, mapAction, kindOf, frameStmt, frameRun, frameStart, frameRunOf}
 use Rattle.frames.specs.Both.{both-length}
 use Rattle.frames.specs.Related.{joined, designatorAt, Twin, Related}
-use Rattle.frames.specs.Cuts.{Top, top-of}
+use Rattle.frames.specs.Cuts.{top-of}
 use Rattle.frames.specs.Find.{designates-name}
 use Rattle.frames.specs.Designated.{designated, kindOf-designated}
-use Rattle.frames.specs.Script.{bytes-below}
 use Rattle.frames.specs.Steps.{next-renamed}
 use Rattle.frames.specs.Runs.{runs-same, start-related}
 use Rattle.frame_laws.specs.Sound.{Sound, OnLabel, JumpsToLabel, Lands}
@@ -51,8 +51,8 @@ module _ (s : State) (t : Stack) (r : Related s t) (inv : Invariant s) where
       let q : kindOf (t .frames) (designatorAt (s .live) x) ≡ some (declKind d) = rw (e, kindOf) in
       some-inj (sym q ∙ k) ∙ sym (v .serves)
 
-  jumps : (σ : Replacement) → ((n : ℕ) → n < 65536 → designates (t .frames) n ≡ designatorAt (s .live) (renamed σ n)) → (a : Action) → SmallAction a → AllUsed (liveKinds (s .live)) (usesOf (renameAction σ a)) → JumpsToLabel (t .frames) (mapAction (designates (t .frames)) a)
-  unfolding SmallAction usesOf renameAction mapAction
+  jumps : (σ : Replacement) → ((n : ℕ) → n < 65536 → designates (t .frames) n ≡ designatorAt (s .live) (renamed σ n)) → (a : Action) → FormedAction a → AllUsed (liveKinds (s .live)) (usesOf (renameAction σ a)) → JumpsToLabel (t .frames) (mapAction (designates (t .frames)) a)
+  unfolding FormedAction usesOf renameAction mapAction
   jumps σ h (CL p xs) b u = tt
   jumps σ h (GO x) b u = subst (OnLabel (t .frames)) (sym (h x b)) (on-label (renamed σ x) (u .0))
   jumps σ h (IF v x) b u = subst (OnLabel (t .frames)) (sym (h x (b .1))) (on-label (renamed σ x) (u .1 .0))
@@ -63,11 +63,11 @@ module _ (s : State) (t : Stack) (r : Related s t) (inv : Invariant s) where
   jumps σ h (QY x g m) b u = tt
 
   landing : (f : Frame) (at : ℕ) (a : Action) → frameStmt f ≡ some (DO at a) → (k : ℕ) (c : Activation) → last? (s .live) ≡ some c → length (s .live) ≡ suc k → getElem? (s .live) k ≡ some c → Twin (s .live) (s .values) k c f → JumpsToLabel (t .frames) (mapAction (designates (t .frames)) a)
-  unfolding frameStmt SmallBlock InStmt renameStmt
+  unfolding frameStmt FormedBlock InStmt renameStmt
   landing f at a stmt k c last deep here w =
       let σ = joined (c .reads) in
       let next : nextStmt c ≡ some (DO at (renameAction σ a)) = next-renamed (s .live) (s .values) k c f w ∙ ap (Option·map (λ (y : Stmt). renameStmt y σ)) stmt in
-      jumps σ (λ n h. designates-name s t r k c deep here n h) a (small-stmt-at (f .text) (pred (f .next)) (DO at a) (w .fine .small) stmt) (next-closed s c (DO at (renameAction σ a)) inv last next)
+      jumps σ (λ n h. designates-name s t r k c deep here n h) a (stmt-at (w .fine .level) (f .formals) (w .fine .here) (f .text) (pred (f .next)) (DO at a) (w .fine .formed) stmt .1 .action) (next-closed s c (DO at (renameAction σ a)) inv last next)
 
   lands : Lands t
   lands pre f at a e stmt = go (last? (s .live)) refl
@@ -85,12 +85,12 @@ module _ (s : State) (t : Stack) (r : Related s t) (inv : Invariant s) where
           let split = last-split (s .live) c q in
           let top = top-of s t r (butLast (s .live)) c split in
           let same = snoc-inj (top .below-frames) pre (top .frame) f (sym (top .frames-are) ∙ e) in
-          landing f at a stmt (length (butLast (s .live))) c q (ap length split ∙ (length-append (butLast (s .live)) (c ∷ []) ∙ omega arith)) (ap (λ (m : List Activation). getElem? m (length (butLast (s .live)))) split ∙ getElem-snoc (butLast (s .live)) c) (subst (λ (g : Frame). Twin (s .live) (s .values) (length (butLast (s .live))) c g) (same .1) (top-twin s t r c split))
+          landing f at a stmt (length (butLast (s .live))) c q (ap length split ∙ (length-append (butLast (s .live)) (c ∷ []) ∙ omega arith)) (ap (λ (m : List Activation). getElem? m (length (butLast (s .live)))) split ∙ getElem-seam (butLast (s .live)) c []) (subst (λ (g : Frame). Twin (s .live) (s .values) (length (butLast (s .live))) c g) (same .1) (top-twin s t r c split))
 
 -- every stack that a run of an accepted script comes to
 pub script-lands : (l : Limits) (bs : List ℕ) (t : Block) (table : Table) → Bytes bs → check bs ≡ accepted t → (i : ℕ) → Lands ((frameRun l i (frameStart t table)) .final)
 script-lands l bs t table b e i =
-    let inv = started t table (accepted-closed bs t (bytes-below bs b) e) in
+    let inv = started t table (accepted-closed bs t b e) in
     let same = runs-same l i (start t table) (frameStart t table) (start-related bs t b e table) inv in
     lands ((run l i (start t table)) .final) ((frameRun l i (frameStart t table)) .final) (same .finals) (run-keeps l i (start t table) inv)
 

@@ -7,7 +7,7 @@ use mathlib.Core.List.{List, [], _∷_, _++_}
 use mathlib.Core.Option.{none, some, Option·none-ne-some, Option·some-injective}
 use lib.ListN.{length, take, drop, getD, set, getElem?, length-append}
 use Rattle.language.specs.Basics.{last?, butLast}
-use Rattle.runs.specs.Every.{Every}
+use Rattle.laws.specs.Each.{Each}
 
 module _ {A : Type 0} where
   pub last-snoc : (xs : List A) (a : A) → last? (xs ++ (a ∷ [])) ≡ some a
@@ -90,7 +90,7 @@ module _ {A : Type 0} where
   getD-both P (x ∷ xs) ys zero d h k = h zero
   getD-both P (x ∷ xs) ys (suc j) d h k = getD-both P xs ys j d (λ i. h (suc i)) k
 
-  pub every-getD : (P : A → Type 0) (xs : List A) (i : ℕ) (d : A) → P d → Every P xs → P (getD xs i d)
+  pub every-getD : (P : A → Type 0) (xs : List A) (i : ℕ) (d : A) → P d → Each P xs → P (getD xs i d)
   every-getD P [] i d p h = p
   every-getD P (x ∷ xs) zero d p h = h .0
   every-getD P (x ∷ xs) (suc i) d p h = every-getD P xs i d p (h .1)

@@ -15,9 +15,9 @@ use Rattle.language.specs.Text.{Kind, Formal, Action, CL, GO, IF, KN, AR, AD, R
 use Rattle.language.specs.Scope.{agree}
 use Rattle.language.specs.Table.{Table}
 use Rattle.language.specs.Machine.{Limits}
+use Rattle.laws.specs.Kinds.{agree-length}
+use Rattle.laws.specs.Each.{Each}
 use Rattle.grammar.specs.Rules.{FormedAction}
-use Rattle.runs.specs.Names.{agree-length}
-use Rattle.runs.specs.Every.{Every}
 use Rattle.frames.specs.Frame.{Frame, Stack, Acted, acted, halted, withFrames, tableChanged, stepped, continue, numbered, designates, frameNumber, place, declOf, kindOf, putWord, mapAction, newFrame, act, actStmt, frameStmt, frameStep}
 use Rattle.frame_laws.specs.Lists.{snoc-length, getElem-length, split-getElem, every-getD}
 use Rattle.frame_laws.specs.Finding.{declOf-found, declOf-none, declOf-frame, kindOf-none, putWord-found, putWord-none}
@@ -144,7 +144,7 @@ module _ (l : Limits) (most : l .activations ≤ 256) where
   pub pushed-sound : (s : Stack) (f : Frame) → Sound l s → length (s .frames) < l .activations → FrameSound (s .frames) (length (s .frames)) f → Sound l (withFrames s (s .frames ++ (f ∷ [])))
   pushed-sound s f h r g = sound-with l s (s .frames ++ (f ∷ [])) (omega (arith, snoc-length (s .frames) f)) (sound-more (s .frames) f (h .each) g)
 
-  pub call-sound : (s : Stack) (p : ℕ) (xs : List ℕ) → Sound l s → Every (Target (s .frames)) xs → After (Sound l) (act l s (CL p xs))
+  pub call-sound : (s : Stack) (p : ℕ) (xs : List ℕ) → Sound l s → Each (Target (s .frames)) xs → After (Sound l) (act l s (CL p xs))
   call-sound s p xs h ts = call-cases l s (After (Sound l)) (λ c. tt) p xs h (λ d e a r. body d e a r)
     where
       body : (d : Decl) → declOf (s .frames) p ≡ some d → agree (formalKinds (declFormals d)) (map (kindOf (s .frames)) xs) ≡ true → length (s .frames) < l .activations → Sound l (withFrames s (s .frames ++ (newFrame (declFormals d) xs (declBody d) (frameNumber p) ∷ [])))
@@ -169,7 +169,7 @@ module _ (l : Limits) (most : l .activations ≤ 256) where
   unfolding mapAction FormedAction
   action-sound s (CL p xs) h f j = call-sound s (designates (s .frames) p) (map (designates (s .frames)) xs) h (targets xs)
     where
-      targets : (xs : List ℕ) → Every (Target (s .frames)) (map (designates (s .frames)) xs)
+      targets : (xs : List ℕ) → Each (Target (s .frames)) (map (designates (s .frames)) xs)
       targets [] = tt
       targets (x ∷ xs) = (designates-target (s .frames) x (h .each), targets xs)
   action-sound s (GO x) h f j = go-sound l s (designates (s .frames) x) h j

@@ -1,27 +1,21 @@
 -- Doing a statement: on related states both machines do the same, or stop for the same cause.
-use Prim.Native.Nat.{ℕ, zero, suc, pred, _+_, _*_, _≤_, _<_}
+use Prim.Native.Nat.{ℕ}
 use native.Mathlib.Omega.{arith}
 use mathlib.Core.Bool.{Bool, true, false, _&&_, cond}
-use mathlib.Core.Path.{_≡_, refl, sym, ap, ap₂, _∙_, subst, subst₂}
-use mathlib.Core.List.{List, [], _∷_, _++_, map}
+use mathlib.Core.Path.{_≡_, refl, sym, ap, _∙_, subst}
+use mathlib.Core.List.{List}
 use mathlib.Core.Option.{Option, none, some}
 use lib.Dec.{ltb, leb}
 use lib.IntN.{ℤ, pos}
-use lib.ListN.{length, take, getElem?}
 use lib.Signed.{mag}
-use Rattle.language.specs.Basics.{eqZ, lookup}
-use Rattle.language.specs.Text.{Kind, variable, label, procedure, Operation, Action, CL, GO, IF, KN, AR, AD, RM, QY, Decl, VR, LB, PR, declName, declKind, labelIndex}
+use Rattle.language.specs.Basics.{lookup}
+use Rattle.language.specs.Text.{Kind, variable, Decl, VR, LB, PR, declName, declKind}
 use Rattle.language.specs.Table.{Table, holds, size, atLeastOne, full, add, remove}
-use Rattle.language.specs.Machine.{Activation, State, Limits, Instance, instance, instanceFrom, Done, did, stop, store, value, withTable, compute, storeIfFits, addPair, removePair, queryPair, jump, call, doAction}
-use Rattle.language.specs.declared.Stop.{Stop}
-use Rattle.language.specs.declared.Stop.the-variants.{TableFull}
-use Rattle.instances.specs.Statement.{usesOf, Serves, Stands}
-use Rattle.instances.specs.Closed.{Kinds, Used, AllUsed}
-use Rattle.instances.specs.Invariant.{liveKinds, Invariant}
-use Rattle.instances.specs.Theorems.{stands}
-use Rattle.frames.specs.Frame.{Frame, Stack, Acted, acted, halted, wordAt, put, putIfFits, addTo, removeFrom, ask, goTo, callBy, act, mapAction, tableChanged}
-use Rattle.frames.specs.Related.{designatorAt, valueIn, orZero, wordIn, Twin, Related}
-use Rattle.frames.specs.Designated.{Designated, designated, wordAt-designated}
+use Rattle.language.specs.Machine.{State, Limits, instance, Done, did, stop, store, value, withTable, storeIfFits, addPair, removePair, queryPair}
+use Rattle.instances.specs.Statement.{Stands}
+use Rattle.frames.specs.Frame.{Stack, Acted, acted, halted, wordAt, put, putIfFits, addTo, removeFrom, ask, tableChanged}
+use Rattle.frames.specs.Related.{designatorAt, valueIn, orZero, wordIn, Related}
+use Rattle.frames.specs.Designated.{designated, wordAt-designated}
 use Rattle.frames.specs.Store.{related-store}
 
 -- both did, and the states are related; or both stopped, for one cause

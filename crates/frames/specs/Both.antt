@@ -1,12 +1,12 @@
 -- A property of the activations and the frames side by side, each pair with its index.
-use Prim.Native.Nat.{ℕ, zero, suc, pred, _+_, _≤_, _<_}
+use Prim.Native.Nat.{ℕ, zero, suc, _+_, _<_}
 use native.Mathlib.Omega.{arith}
-use native.Mathlib.Nat.{add-zero, add-suc, suc-add, not-suc-le-zero}
-use mathlib.Core.Path.{_≡_, refl, sym, ap, _∙_, subst}
-use mathlib.Core.List.{List, [], _∷_, _++_, map}
-use mathlib.Core.Option.{Option, none, some}
-use lib.ListN.{length, take, set, getElem?, length-append}
-use Rattle.frames.specs.Lists.{none≢some, some-inj}
+use native.Mathlib.Nat.{add-zero, add-suc, suc-add}
+use mathlib.Core.Path.{_≡_, refl, ap, subst}
+use mathlib.Core.List.{List, [], _∷_, _++_}
+use mathlib.Core.Option.{some}
+use lib.ListN.{length, take, set, getElem?}
+use Rattle.laws.specs.Tests.{none≢some, some-inj}
 
 unfoldable pub Both : {A B : Type 0} → (ℕ → A → B → Type 0) → ℕ → List A → List B → Type 0
 Both P k [] [] = Unit {0}
@@ -25,7 +25,7 @@ module _ {A B : Type 0} (P : ℕ → A → B → Type 0) where
   -- the pair at an index
   pub both-at : (k : ℕ) (l : List A) (fs : List B) → Both P k l fs → (j : ℕ) (a : A) → getElem? l j ≡ some a → (f : B) × (getElem? fs j ≡ some f) × P (k + j) a f
   unfolding Both
-  both-at k [] [] h j a e = absurd (none≢some e)
+  both-at k [] [] h j a e = none≢some e
   both-at k [] (f ∷ fs) h j a e = absurd h
   both-at k (b ∷ l) [] h j a e = absurd h
   both-at k (b ∷ l) (f ∷ fs) h zero a e = (f, refl, rw add-zero (subst (λ (x : A). P k x f) (some-inj e) (h .0)))
@@ -72,7 +72,7 @@ both-map P Q k (a ∷ l) (f ∷ fs) g h = (
 -- one of the second list's elements replaced
 pub both-set : {A B : Type 0} (P Q : ℕ → A → B → Type 0) (k j : ℕ) (l : List A) (fs : List B) (f f′ : B) → getElem? fs j ≡ some f → ((i : ℕ) (a : A) (g : B) → (i ≡ j → ⊥) → getElem? l i ≡ some a → P (k + i) a g → Q (k + i) a g) → ((a : A) → getElem? l j ≡ some a → P (k + j) a f → Q (k + j) a f′) → Both P k l fs → Both Q k l (set fs j f′)
 unfolding Both
-both-set P Q k j [] [] f f′ e others this h = absurd (none≢some e)
+both-set P Q k j [] [] f f′ e others this h = none≢some e
 both-set P Q k j [] (g ∷ fs) f f′ e others this h = absurd h
 both-set P Q k j (a ∷ l) [] f f′ e others this h = absurd h
 both-set {B = B} P Q k zero (a ∷ l) (g ∷ fs) f f′ e others this h = (

@@ -1,21 +1,24 @@
 -- The relation where activations are dropped, resumed at another statement, or put above: what does not depend on them stays.
-use Prim.Native.Nat.{ℕ, zero, suc, pred, _+_, _*_, _≤_, _<_}
+use Prim.Native.Nat.{ℕ, zero, suc, _+_, _*_, _≤_}
 use native.Mathlib.Omega.{arith}
-use native.Mathlib.Nat.{zero-add, not-suc-le-zero, le-of-suc-le-suc}
+use native.Mathlib.Nat.{zero-add}
 use mathlib.Core.Path.{_≡_, refl, sym, ap, ap₂, _∙_, subst, subst₂}
 use mathlib.Core.List.{List, [], _∷_, _++_, map}
 use mathlib.Core.Option.{Option, none, some}
 use lib.IntN.{ℤ, pos}
-use lib.ListN.{length, take, getElem?, length-append, length-take}
+use lib.ListN.{length, take, drop, take-append-drop, getElem?, length-take}
 use lib.Seq.{take-append-seam}
-use Rattle.language.specs.Text.{Decl, VR, LB, PR, blockDecls, declName, declaredNames}
-use Rattle.language.specs.Copy.{Replacement, renameBlock}
-use Rattle.language.specs.Machine.{Activation, State, Instance, instanceFrom, declaredAt, resume, withLive}
+use Rattle.language.specs.Text.{Decl, blockDecls}
+use Rattle.language.specs.Copy.{Replacement}
+use Rattle.language.specs.Machine.{Activation, State, Instance, instanceFrom, resume, withLive}
+use Rattle.laws.specs.Tests.{none≢some, some-inj}
+use Rattle.laws.specs.Lists.{getElem-take}
+use Rattle.laws.specs.Each.{each-map}
+use Rattle.laws.specs.Instances.{instance-take, declaredBy, instance-here, instance-there, instanceIn}
+use Rattle.laws.specs.Rising.{Rising, rising-before, rising-resumed}
 use Rattle.frames.specs.Frame.{Frame, Stack, numbered, continue, withFrames}
-use Rattle.frames.specs.Lists.{none≢some, some-inj, getElem-take, getElem-append, getElem-bound, take-snoc}
-use Rattle.frames.specs.Instances.{Rising, instance-take, instance-append, instance-number, rising-within, declaredBy, instance-here, instance-later, at}
 use Rattle.frames.specs.Both.{Both, both-map, both-take, both-snoc, both-length, both-unsnoc}
-use Rattle.frames.specs.Related.{readsIn, readsAt, joined, designatorFor, designatorAt, wordIn, LiveBelow, AllLive, ownOf, Twin, Related}
+use Rattle.frames.specs.Related.{readsIn, readsAt, designatorFor, designatorAt, wordIn, LiveBelow, AllLive, ownOf, Twin, Related}
 
 -- What of a stack of activations the twins at index k and below depend on: the readings and the instances up to number k.
 pub record SameBelow (l l′ : List Activation) (k : ℕ) : Type 0 where
@@ -38,12 +41,9 @@ module _ {l l′ : List Activation} {k : ℕ} (h : SameBelow l l′ k) where
       rw (r .1, v .found) (ap₂ (λ (n p : ℕ). n * 64 + p) (r .2) (r .3))
 
   pub all-live-same : (xs : List ℕ) → AllLive l k xs → AllLive l′ k xs
-  unfolding AllLive
-  all-live-same [] v = tt
-  all-live-same (x ∷ xs) v = (live-same (v .0), all-live-same xs (v .1))
+  all-live-same xs v = each-map (LiveBelow l k) (LiveBelow l′ k) xs (λ x w. live-same w) v
 
   pub designators-same : (xs : List ℕ) → AllLive l k xs → map (λ (x : ℕ). pos (designatorAt l′ x)) xs ≡ map (λ (x : ℕ). pos (designatorAt l x)) xs
-  unfolding AllLive
   designators-same [] v = refl
   designators-same (x ∷ xs) v = ap₂ _∷_ (ap pos (designator-same x (v .0))) (designators-same xs (v .1))
 
@@ -62,18 +62,11 @@ same-take : (l : List Activation) (m k : ℕ) → k ≤ m → SameBelow l (take 
 same-take l m k h =
     record { same-reads = λ j b. readsAt-take l m j (omega arith); same-instances = λ x i e b. (i, instance-take x 1 m l i e (omega arith), refl, refl) }
 
-rising-take : (low : ℕ) (l : List Activation) (fresh m : ℕ) → Rising low l fresh → Rising low (take m l) fresh
-unfolding Rising
-rising-take low [] fresh zero r = r
-rising-take low [] fresh (suc m) r = r
-rising-take low (a ∷ l) fresh zero r = rising-within low (a ∷ l) fresh r
-rising-take low (a ∷ l) fresh (suc m) r = (r .0, r .1, r .2, rising-take (r .0 + length (blockDecls (a .text))) l fresh m (r .3))
-
 pub related-take : (s : State) (t : Stack) (m : ℕ) → Related s t → Related (withLive s (take m (s .live))) (withFrames t (take m (t .frames)))
 unfolding withLive withFrames
 related-take s t m r =
     let l = s .live in
-    record { twins = both-map (Twin l (s .values)) (Twin (take m l) (s .values)) 0 (take m l) (take m (t .frames)) (λ j a f h e e′ w. twin-same (same-take l m (0 + j) (let b = length-take m l in omega arith)) (s .values) (s .values) a f refl w) (both-take (Twin l (s .values)) 0 m l (t .frames) (r .twins)); rising = rising-take 65536 l (s .fresh) m (r .rising); table-is = r .table-is; steps-are = r .steps-are }
+    record { twins = both-map (Twin l (s .values)) (Twin (take m l) (s .values)) 0 (take m l) (take m (t .frames)) (λ j a f h e e′ w. twin-same (same-take l m (0 + j) (let b = length-take m l in omega arith)) (s .values) (s .values) a f refl w) (both-take (Twin l (s .values)) 0 m l (t .frames) (r .twins)); rising = rising-before 65536 (take m l) (drop m l) (s .fresh) (rw take-append-drop (r .rising)); table-is = r .table-is; steps-are = r .steps-are }
 
 -- the last activation resumed at another statement
 module _ (a : Activation) (n : ℕ) where
@@ -88,23 +81,23 @@ module _ (a : Activation) (n : ℕ) where
   Alike x l i k = (i′ : Instance) × (instanceFrom x k l ≡ some i′) × (i′ .number ≡ i .number) × (i′ .position ≡ i .position)
 
   instance-resume : (x k : ℕ) (pre : List Activation) (i : Instance) → instanceFrom x k (pre ++ (a ∷ [])) ≡ some i → Alike x (pre ++ (resume a n ∷ [])) i k
-  unfolding instanceFrom declaredBy resume
+  unfolding instanceFrom resume
   instance-resume x k [] i e = go (declaredBy x a) refl
     where
       go : (o : Option (ℕ × Decl)) → declaredBy x a ≡ o → Alike x (resume a n ∷ []) i k
-      go none e′ = absurd (none≢some (sym (instance-later x k a [] e′) ∙ e))
+      go none e′ = absurd (none≢some (sym (instance-there x k a [] e′) ∙ e))
       go (some p) e′ =
-          let q : at k a p ≡ i = some-inj (sym (instance-here x k a [] p e′) ∙ e) in
-          (at k (resume a n) p, instance-here x k (resume a n) [] p e′, (λ t. q t .number), (λ t. q t .position))
+          let q : instanceIn k a p ≡ i = some-inj (sym (instance-here x k a [] p e′) ∙ e) in
+          (instanceIn k (resume a n) p, instance-here x k (resume a n) [] p e′, (λ t. q t .number), (λ t. q t .position))
   instance-resume x k (b ∷ pre) i e = go (declaredBy x b) refl (instance-resume x (suc k) pre i)
     where
       go : (o : Option (ℕ × Decl)) → declaredBy x b ≡ o → (instanceFrom x (suc k) (pre ++ (a ∷ [])) ≡ some i → Alike x (pre ++ (resume a n ∷ [])) i (suc k)) → Alike x (b ∷ (pre ++ (resume a n ∷ []))) i k
       go none e′ ih =
-          let r = ih (sym (instance-later x k b (pre ++ (a ∷ [])) e′) ∙ e) in
-          (r .0, instance-later x k b (pre ++ (resume a n ∷ [])) e′ ∙ r .1, r .2, r .3)
+          let r = ih (sym (instance-there x k b (pre ++ (a ∷ [])) e′) ∙ e) in
+          (r .0, instance-there x k b (pre ++ (resume a n ∷ [])) e′ ∙ r .1, r .2, r .3)
       go (some p) e′ ih =
-          let q : at k b p ≡ i = some-inj (sym (instance-here x k b (pre ++ (a ∷ [])) p e′) ∙ e) in
-          (at k b p, instance-here x k b (pre ++ (resume a n ∷ [])) p e′, (λ t. q t .number), (λ t. q t .position))
+          let q : instanceIn k b p ≡ i = some-inj (sym (instance-here x k b (pre ++ (a ∷ [])) p e′) ∙ e) in
+          (instanceIn k b p, instance-here x k b (pre ++ (resume a n ∷ [])) p e′, (λ t. q t .number), (λ t. q t .position))
 
   same-resume : (pre : List Activation) (k : ℕ) → SameBelow (pre ++ (a ∷ [])) (pre ++ (resume a n ∷ [])) k
   unfolding readsAt numbered
@@ -113,11 +106,6 @@ module _ (a : Activation) (n : ℕ) where
       reads : (j : ℕ) → readsAt (pre ++ (resume a n ∷ [])) j ≡ readsAt (pre ++ (a ∷ [])) j
       reads zero = refl
       reads (suc j) = readsAt-resume pre j
-
-  rising-resume : (low : ℕ) (pre : List Activation) (fresh : ℕ) → Rising low (pre ++ (a ∷ [])) fresh → Rising low (pre ++ (resume a n ∷ [])) fresh
-  unfolding Rising resume
-  rising-resume low [] fresh r = r
-  rising-resume low (b ∷ pre) fresh r = (r .0, r .1, r .2, rising-resume (r .0 + length (blockDecls (b .text))) pre fresh (r .3))
 
   twin-resume : (l : List Activation) (vs : List (ℕ × ℤ)) (k : ℕ) (f : Frame) → Twin l vs k a f → Twin l vs k (resume a n) (continue f n)
   unfolding resume continue ownOf
@@ -156,4 +144,4 @@ module _ (s : State) (t : Stack) (r : Related s t) (p : Top s t) where
   related-resume n =
       let l = p .below ++ (resume (p .activation) n ∷ []) in
       let same : (k : ℕ) → SameBelow (s .live) l k = λ k. subst (λ (m : List Activation). SameBelow m l k) (sym (p .live-is)) (same-resume (p .activation) n (p .below) k) in
-      record { twins = both-snoc (Twin l (s .values)) 0 (p .below) (p .below-frames) (resume (p .activation) n) (continue (p .frame) n) (both-map (Twin (s .live) (s .values)) (Twin l (s .values)) 0 (p .below) (p .below-frames) (λ j a f h e e′ w. twin-same (same (0 + j)) (s .values) (s .values) a f refl w) (p .twins-below)) (rw zero-add (twin-resume (p .activation) n l (s .values) (length (p .below)) (p .frame) (twin-same (same (length (p .below))) (s .values) (s .values) (p .activation) (p .frame) refl (p .twin)))); rising = rising-resume (p .activation) n 65536 (p .below) (s .fresh) (subst (λ (m : List Activation). Rising 65536 m (s .fresh)) (p .live-is) (r .rising)); table-is = r .table-is; steps-are = r .steps-are }
+      record { twins = both-snoc (Twin l (s .values)) 0 (p .below) (p .below-frames) (resume (p .activation) n) (continue (p .frame) n) (both-map (Twin (s .live) (s .values)) (Twin l (s .values)) 0 (p .below) (p .below-frames) (λ j a f h e e′ w. twin-same (same (0 + j)) (s .values) (s .values) a f refl w) (p .twins-below)) (rw zero-add (twin-resume (p .activation) n l (s .values) (length (p .below)) (p .frame) (twin-same (same (length (p .below))) (s .values) (s .values) (p .activation) (p .frame) refl (p .twin)))); rising = rising-resumed 65536 (p .below) (p .activation) [] (s .fresh) n (subst (λ (m : List Activation). Rising 65536 m (s .fresh)) (p .live-is) (r .rising)); table-is = r .table-is; steps-are = r .steps-are }

@@ -1,37 +1,23 @@
 -- A declared instance by its designator: the frame and the word that the frame machine takes for it.
-use Prim.Native.Nat.{ℕ, zero, suc, pred, _+_, _*_, _-_, _/_, _%_, _≤_, _<_}
+use Prim.Native.Nat.{ℕ, suc, pred, _+_, _*_, _-_, _%_, _<_}
 use native.Mathlib.Omega.{arith}
-use native.Mathlib.Nat.{zero-add, not-suc-le-zero, le-of-suc-le-suc}
-use mathlib.Core.Bool.{Bool, true, false}
-use mathlib.Core.Path.{_≡_, refl, sym, ap, ap₂, _∙_, subst}
-use mathlib.Core.List.{List, [], _∷_, _++_, map}
-use mathlib.Core.Option.{Option, none, some, Option·map}
+use native.Mathlib.Nat.{zero-add}
+use mathlib.Core.Path.{_≡_, sym, ap, ap₂, _∙_}
+use mathlib.Core.List.{List, map}
+use mathlib.Core.Option.{some, Option·map}
 use lib.IntN.{ℤ, pos}
-use lib.ListN.{length, getD, set, getElem?, length-append, length-map}
+use lib.ListN.{length, getD, getElem?, length-map}
 use lib.Seq.{getD-append-add}
-use Rattle.language.specs.Text.{Kind, Formal, Block, block, Decl, VR, LB, PR, blockDecls, decls, declName, declKind, formalNames, declaredNames}
-use Rattle.language.specs.Copy.{Replacement, renameBlock, renameDecl}
-use Rattle.language.specs.Machine.{Activation, State, Instance, instanceFrom}
+use Rattle.language.specs.Text.{Decl, blockDecls, declName, declKind}
+use Rattle.language.specs.Copy.{renameDecl}
+use Rattle.language.specs.Machine.{State, Instance, instanceFrom}
+use Rattle.laws.specs.Lists.{getElem-bound, getD-elem, getElem?-map, image-at}
+use Rattle.laws.specs.Renaming.{declKind-renamed, blockDecls-renamed}
+use Rattle.laws.specs.Instances.{instance-found}
+use Rattle.grammar.specs.Formed.{block-few}
 use Rattle.frames.specs.Frame.{Frame, Stack, numbered, frameNumber, place, declOf, kindOf, wordAt}
-use Rattle.frames.specs.Lists.{none≢some, some-inj, getElem-bound, getD-elem}
-use Rattle.frames.specs.Instances.{Declared, instance-found}
-use Rattle.frames.specs.Renaming.{Distinct, declKind-renamed, blockDecls-renamed, getElem?-map}
 use Rattle.frames.specs.Both.{both-at}
-use Rattle.frames.specs.Related.{readsAt, joined, designatorFor, designatorAt, wordIn, TidyBlock, Fine, Twin, Related}
-
-pub tidy-count : (b : Block) (fs : List Formal) → TidyBlock b fs → length fs + length (blockDecls b) ≤ 32
-unfolding TidyBlock blockDecls
-tidy-count (block at ds ss) fs h = h .0
-
-pub tidy-distinct : (b : Block) (fs : List Formal) → TidyBlock b fs → Distinct (formalNames fs ++ declaredNames b)
-unfolding TidyBlock blockDecls declaredNames
-tidy-distinct (block at ds ss) fs h = h .1
-
--- an element of a list's image comes from one of the list
-image-at : {A B : Type 0} (g : A → B) (l : List A) (k : ℕ) (b : B) → getElem? (map g l) k ≡ some b → (a : A) × (getElem? l k ≡ some a) × (b ≡ g a)
-image-at g [] k b e = absurd (none≢some e)
-image-at g (x ∷ l) zero b e = (x, refl, sym (some-inj e))
-image-at g (x ∷ l) (suc k) b e = image-at g l k b e
+use Rattle.frames.specs.Related.{joined, designatorFor, designatorAt, wordIn, Twin, Related}
 
 -- What an instance's designator leads to among the frames.
 pub record Designated (s : State) (t : Stack) (x : ℕ) (i : Instance) : Type 0 where
@@ -63,7 +49,7 @@ designated s t r x i e =
     let shape : blockDecls (i .home .text) ≡ map (λ (c : Decl). renameDecl c σ) (blockDecls (f .text)) = ap blockDecls (w .text-is) ∙ blockDecls-renamed (f .text) σ in
     let o = image-at (λ (c : Decl). renameDecl c σ) (blockDecls (f .text)) (d .index) (i .decl) (sym (ap (λ (l : List Decl). getElem? l (d .index)) shape) ∙ d .decl-at) in
     let bound = getElem-bound (blockDecls (f .text)) (d .index) (o .0) (o .1) in
-    let count = tidy-count (f .text) (f .formals) (w .fine .tidy) in
+    let count = block-few (w .fine .level) (f .formals) (w .fine .here) (f .text) (w .fine .formed) in
     let many = w .as-many in
     let number = d .number-is in
     let position = d .position-is in

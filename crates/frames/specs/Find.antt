@@ -1,39 +1,42 @@
 -- Finding a name: along the frames' static links it comes to the instance that the name reads as by the copy rule.
-use Prim.Native.Nat.{ℕ, zero, suc, pred, _+_, _*_, _-_, _≤_, _<_}
+use Prim.Native.Nat.{ℕ, zero, suc, pred, _+_, _-_, _≤_, _<_}
 use native.Mathlib.Omega.{arith}
 use native.Mathlib.Nat.{zero-add, not-suc-le-zero, le-of-suc-le-suc}
 use mathlib.Core.Bool.{Bool, true, false}
-use mathlib.Core.Path.{_≡_, refl, sym, ap, ap₂, _∙_, subst, subst₂}
+use mathlib.Core.Path.{_≡_, refl, sym, ap, _∙_, subst, subst₂}
 use mathlib.Core.List.{List, [], _∷_, _++_, map, append-nil}
 use mathlib.Core.Option.{Option, none, some, Option·map}
 use lib.Dec.{leb}
 use lib.IntN.{ℤ, pos}
-use lib.ListN.{length, getD, getElem?, length-append, length-map, List·getD-append, List·getD-map}
+use lib.ListN.{length, getD, getElem?, length-append, length-map, List·getD-append}
 use lib.Seq.{getD-append-add}
 use borrow.Author.Tests.{le-leb, lt-leb, leb-true, leb-false}
 use Rattle.language.specs.Basics.{lookup, zip}
 use Rattle.language.specs.Text.{Formal, Block, Decl, blockDecls, declName, formalNames, declaredNames}
 use Rattle.language.specs.Copy.{Replacement, renamed}
-use Rattle.language.specs.Machine.{Activation, State, Instance, instanceFrom}
+use Rattle.language.specs.Machine.{Activation, State}
 use Rattle.language.specs.Sheet.{Found, seek}
+use Rattle.laws.specs.Tests.{none≢some, some-inj}
+use Rattle.laws.specs.Lists.{getElem-in, getElem-bound, getD-elem, lengths-append, getElem?-map}
+use Rattle.laws.specs.Lookup.{zip-append, lookup-left, lookup-right}
+use Rattle.laws.specs.Renaming.{renamed-some, renamed-none, declaredNames-renamed}
+use Rattle.laws.specs.Rising.{rising-instance, rising-none}
 use Rattle.frames.specs.Frame.{Frame, Stack, Place, numbered, frameNames, positionFrom, seekFrom, seekName, designatorIn, finally, designates, linksFollowed}
-use Rattle.frames.specs.Lists.{none≢some, some-inj, getElem-in, getElem-bound, getD-elem}
-use Rattle.frames.specs.Instances.{Rising, rising-instance, rising-none}
-use Rattle.frames.specs.Renaming.{lookup-position, lookup-no-position, position-range, zip-append, lookup-append-some, lookup-append-none, renamed-some, renamed-none, declaredNames-renamed, lengths-append, getElem?-map}
+use Rattle.frames.specs.Positions.{lookup-position, lookup-no-position, position-range}
 use Rattle.frames.specs.Both.{both-at, both-length}
 use Rattle.frames.specs.Related.{readsIn, readsAt, joined, designatorFor, designatorAt, wordIn, ownOf, Twin, Related}
 
 -- what is sought in the readings is what the readings give all together
 pub seek-some : (n j : ℕ) (σs : List Replacement) (d : Found) → seek n j σs ≡ some d → lookup n (joined σs) ≡ some (d .name)
 unfolding seek joined
-seek-some n j [] d e = absurd (none≢some e)
+seek-some n j [] d e = none≢some e
 seek-some n j (σ ∷ σs) d e = go (lookup n σ) refl (seek-some n (suc j) σs d)
   where
     go : (o : Option ℕ) → lookup n σ ≡ o → (seek n (suc j) σs ≡ some d → lookup n (joined σs) ≡ some (d .name)) → lookup n (σ ++ joined σs) ≡ some (d .name)
-    go none q ih = lookup-append-none n σ (joined σs) q ∙ ih (rw (q, seek) at e)
+    go none q ih = lookup-right n σ (joined σs) q ∙ ih (rw (q, seek) at e)
     go (some x) q ih =
         let p : Path (Option Found) (some (record { name = x; passed = j })) (some d) = rw (q, seek) at e in
-        lookup-append-some n x σ (joined σs) q ∙ ap (λ (c : Found). some (c .name)) (some-inj p)
+        lookup-left n σ (joined σs) x q ∙ ap (λ (c : Found). some (c .name)) (some-inj p)
 
 pub seek-none : (n j : ℕ) (σs : List Replacement) → seek n j σs ≡ none → lookup n (joined σs) ≡ none
 unfolding seek joined lookup
@@ -41,7 +44,7 @@ seek-none n j [] e = refl
 seek-none n j (σ ∷ σs) e = go (lookup n σ) refl (seek-none n (suc j) σs)
   where
     go : (o : Option ℕ) → lookup n σ ≡ o → (seek n (suc j) σs ≡ none → lookup n (joined σs) ≡ none) → lookup n (σ ++ joined σs) ≡ none
-    go none q ih = lookup-append-none n σ (joined σs) q ∙ ih (rw (q, seek) at e)
+    go none q ih = lookup-right n σ (joined σs) q ∙ ih (rw (q, seek) at e)
     go (some x) q ih = absurd (none≢some (sym (rw (q, seek) at e)))
 
 -- Both searches find nothing, or both find: the place's designator is the name's, after as many blocks as links.

@@ -3,10 +3,10 @@
 pub mod Frame
 pub mod Examples
 pub mod Theorem
-pub mod Lists
 pub mod Both
 pub mod Renaming
-pub mod Instances
+pub mod Positions
+pub mod Fine
 pub mod Related
 pub mod Cuts
 pub mod Find
@@ -16,5 +16,4 @@ pub mod Push
 pub mod Actions
 pub mod Transfers
 pub mod Steps
-pub mod Script
 pub mod Runs

@@ -1,26 +1,32 @@
 -- Entering a block or a body keeps the relation: one activation more, and one frame linked to the frame that encloses its text.
-use Prim.Native.Nat.{ℕ, zero, suc, pred, _+_, _*_, _≤_, _<_}
+use Prim.Native.Nat.{ℕ, zero, suc, _+_, _≤_, _<_}
 use native.Mathlib.Omega.{arith}
-use native.Mathlib.Nat.{zero-add, not-suc-le-zero, le-refl}
+use native.Mathlib.Nat.{zero-add, not-suc-le-zero}
 use mathlib.Core.Bool.{Bool, true, false}
 use mathlib.Core.Path.{_≡_, refl, sym, ap, ap₂, _∙_, subst}
 use mathlib.Core.List.{List, [], _∷_, _++_, map, head-eq-of-cons-eq, tail-eq-of-cons-eq}
 use mathlib.Core.Option.{Option, none, some}
 use lib.Dec.{eqb}
 use lib.IntN.{ℤ, pos}
-use lib.ListN.{length, getElem?, length-append, length-map}
+use lib.ListN.{length, getElem?, length-map}
 use borrow.Author.Tests.{eq-eqb, ne-eqb}
 use Rattle.language.specs.Basics.{lookup, zip, upFrom}
 use Rattle.language.specs.Text.{Formal, Block, Decl, VR, LB, PR, blockDecls, declName, formalNames, declaredNames}
-use Rattle.language.specs.Copy.{Replacement, renamed, renameBlock, renameDecl, without}
-use Rattle.language.specs.Machine.{Activation, State, Instance, instanceFrom, zeros, ownNames, activation, enter}
+use Rattle.language.specs.Copy.{Replacement, renamed, renameBlock, without}
+use Rattle.language.specs.Machine.{Activation, State, zeros, ownNames, activation, enter}
+use Rattle.laws.specs.Tests.{none≢some, some-inj}
+use Rattle.laws.specs.Lists.{getElem-in, getElem-bound, getElem-append, map-alike, map-map, constant}
+use Rattle.laws.specs.Each.{each-append, each-map}
+use Rattle.laws.specs.Lookup.{each-zip, AllNew, lookup-here, lookup-there, lookup-right, length-upFrom}
+use Rattle.laws.specs.Renaming.{Big, declaredNames-renamed}
+use Rattle.laws.specs.Instances.{instance-found, instance-append}
+use Rattle.laws.specs.Rising.{Rising, rising-name, rising-more}
+use Rattle.grammar.specs.Formed.{block-once}
 use Rattle.frames.specs.Frame.{Frame, Stack, numbered, newFrame, zeroWords, withFrames}
-use Rattle.frames.specs.Lists.{none≢some, some-inj, getElem-in, getElem-bound, getElem-append, map-alike, map-map, constant}
-use Rattle.frames.specs.Instances.{Rising, Declared, instance-found, instance-append, instance-number, rising-within, rising-name}
-use Rattle.frames.specs.Renaming.{Big, big-append, big-zip, AllNew, lookup-hit, lookup-miss, lookup-append-some, lookup-append-none, entered-text, own-kept, declared-new, blockDecls-renamed, declaredNames-renamed, length-upFrom}
-use Rattle.frames.specs.Both.{Both, both-at, both-map, both-snoc, both-length}
-use Rattle.frames.specs.Related.{readsIn, readsAt, joined, designatorFor, designatorAt, orZero, valueIn, wordIn, Fine, LiveBelow, AllLive, ownOf, Twin, Related}
-use Rattle.frames.specs.Designated.{tidy-distinct}
+use Rattle.frames.specs.Renaming.{entered-text, own-kept, declared-new}
+use Rattle.frames.specs.Both.{both-at, both-map, both-snoc}
+use Rattle.frames.specs.Related.{readsIn, readsAt, joined, designatorAt, orZero, valueIn, wordIn, LiveBelow, AllLive, ownOf, Twin, Related}
+use Rattle.frames.specs.Fine.{Fine}
 use Rattle.frames.specs.Cuts.{SameBelow, twin-same, all-live-same, designators-same}
 
 -- What names read as are new names, everywhere.
@@ -33,9 +39,7 @@ live-new l fresh k x r v =
     omega (arith, h .0)
 
 all-live-new : (l : List Activation) (fresh k : ℕ) (xs : List ℕ) → Rising 65536 l fresh → AllLive l k xs → AllNew xs
-unfolding AllLive
-all-live-new l fresh k [] r v = tt
-all-live-new l fresh k (x ∷ xs) r v = (live-new l fresh k x r (v .0), all-live-new l fresh k xs r (v .1))
+all-live-new l fresh k xs r v = each-map (LiveBelow l k) (λ x. 65536 ≤ x) xs (λ x w. live-new l fresh k x r w) v
 
 declared-all-new : (l : List Activation) (fresh k : ℕ) (a : Activation) → Rising 65536 l fresh → getElem? l k ≡ some a → AllNew (declaredNames (a .text))
 unfolding declaredNames
@@ -51,7 +55,7 @@ ReadsNew s m = (k : ℕ) → k < m → (a : Activation) → getElem? (s .live) k
 reads-new-step : (s : State) (t : Stack) → Related s t → (m : ℕ) → ReadsNew s m → ReadsNew s (suc m)
 unfolding joined ownOf readsAt readsIn numbered
 reads-new-step s t r m ih k h a e =
-    subst (λ (σs : List Replacement). Big (joined σs)) (sym (w .reads-are)) (big-append (ownOf f a) (joined (readsAt (s .live) (f .link))) own (around (f .link) (w .link-below)))
+    subst (λ (σs : List Replacement). Big (joined σs)) (sym (w .reads-are)) (each-append (λ p. 65536 ≤ p .1) (ownOf f a) (joined (readsAt (s .live) (f .link))) own (around (f .link) (w .link-below)))
   where
     pair : (f : Frame) × (getElem? (t .frames) k ≡ some f) × Twin (s .live) (s .values) (0 + k) a f
     pair = both-at (Twin (s .live) (s .values)) 0 (s .live) (t .frames) (r .twins) k a e
@@ -64,9 +68,9 @@ reads-new-step s t r m ih k h a e =
 
     own : Big (ownOf f a)
     own =
-        big-append (zip (formalNames (f .formals)) (a .arguments)) (zip (declaredNames (f .text)) (declaredNames (a .text)))
-        (big-zip (formalNames (f .formals)) (a .arguments) (all-live-new (s .live) (s .fresh) k (a .arguments) (r .rising) (w .live-arguments)))
-        (big-zip (declaredNames (f .text)) (declaredNames (a .text)) (declared-all-new (s .live) (s .fresh) k a (r .rising) e))
+        each-append (λ p. 65536 ≤ p .1) (zip (formalNames (f .formals)) (a .arguments)) (zip (declaredNames (f .text)) (declaredNames (a .text)))
+        (each-zip (λ x. 65536 ≤ x) (formalNames (f .formals)) (a .arguments) (all-live-new (s .live) (s .fresh) k (a .arguments) (r .rising) (w .live-arguments)))
+        (each-zip (λ x. 65536 ≤ x) (declaredNames (f .text)) (declaredNames (a .text)) (declared-all-new (s .live) (s .fresh) k a (r .rising) e))
 
     around : (i : ℕ) → i ≤ k → Big (joined (readsAt (s .live) i))
     around zero b = tt
@@ -94,12 +98,7 @@ same-push l a k h = record { same-reads = λ j b. reads j (omega arith); same-in
   where
     reads : (j : ℕ) → j ≤ length l → readsAt (l ++ (a ∷ [])) j ≡ readsAt l j
     reads zero b = refl
-    reads (suc j) b = let c = getElem-in l j b in ap readsIn (getElem-append l (a ∷ []) j (c .0) (c .1) ∙ sym (c .1))
-
-rising-snoc : (low : ℕ) (l : List Activation) (fresh : ℕ) (a : Activation) → Rising low l fresh → declaredNames (a .text) ≡ upFrom fresh (length (blockDecls (a .text))) → Rising low (l ++ (a ∷ [])) (fresh + length (blockDecls (a .text)))
-unfolding Rising
-rising-snoc low [] fresh a r e = (fresh, r, e, omega arith)
-rising-snoc low (b ∷ l) fresh a r e = (r .0, r .1, r .2, rising-snoc (r .0 + length (blockDecls (b .text))) l fresh a (r .3) e)
+    reads (suc j) b = ap readsIn (getElem-append l (a ∷ []) j b)
 
 -- The new activation's variables are 0, and the others keep their values.
 
@@ -108,27 +107,27 @@ unfolding zeros lookup upFrom declName
 zeros-below n base [] e h = refl
 zeros-below n base (VR at m ∷ ds) e h =
     let q : m ≡ base = head-eq-of-cons-eq e in
-    lookup-miss n (m, pos 0) (zeros ds) (ne-eqb n m (λ p. omega arith)) ∙ zeros-below n (suc base) ds (tail-eq-of-cons-eq e) (omega arith)
+    lookup-there n (m, pos 0) (zeros ds) (ne-eqb n m (λ p. omega arith)) ∙ zeros-below n (suc base) ds (tail-eq-of-cons-eq e) (omega arith)
 zeros-below n base (LB at m i ∷ ds) e h = zeros-below n (suc base) ds (tail-eq-of-cons-eq e) (omega arith)
 zeros-below n base (PR at m fs b ∷ ds) e h = zeros-below n (suc base) ds (tail-eq-of-cons-eq e) (omega arith)
 
 word-kept : (vs : List (ℕ × ℤ)) (base : ℕ) (ds : List Decl) → map declName ds ≡ upFrom base (length ds) → (d : Decl) → declName d < base → wordIn (zeros ds ++ vs) d ≡ wordIn vs d
 unfolding wordIn valueIn declName
-word-kept vs base ds e (VR at n) h = ap orZero (lookup-append-none n (zeros ds) vs (zeros-below n base ds e h))
+word-kept vs base ds e (VR at n) h = ap orZero (lookup-right n (zeros ds) vs (zeros-below n base ds e h))
 word-kept vs base ds e (LB at n i) h = refl
 word-kept vs base ds e (PR at n fs b) h = refl
 
 zero-value : (vs : List (ℕ × ℤ)) (n at : ℕ) (ds : List Decl) (j : ℕ) → getElem? ds j ≡ some (VR at n) → valueIn (zeros ds ++ vs) n ≡ pos 0
 unfolding valueIn zeros orZero declName
-zero-value vs n at [] j e = absurd (none≢some e)
+zero-value vs n at [] j e = none≢some e
 zero-value vs n at (VR o m ∷ ds) zero e =
     let q : m ≡ n = ap declName (some-inj e) in
-    ap orZero (lookup-hit n (m, pos 0) (zeros ds ++ vs) (eq-eqb n m (sym q)))
+    ap orZero (lookup-here n (m, pos 0) (zeros ds ++ vs) (eq-eqb n m (sym q)))
 zero-value vs n at (VR o m ∷ ds) (suc j) e = go (eqb n m) refl (zero-value vs n at ds j e)
   where
     go : (b : Bool) → eqb n m ≡ b → valueIn (zeros ds ++ vs) n ≡ pos 0 → orZero (lookup n ((m, pos 0) ∷ (zeros ds ++ vs))) ≡ pos 0
-    go true q ih = ap orZero (lookup-hit n (m, pos 0) (zeros ds ++ vs) q)
-    go false q ih = ap orZero (lookup-miss n (m, pos 0) (zeros ds ++ vs) q) ∙ ih
+    go true q ih = ap orZero (lookup-here n (m, pos 0) (zeros ds ++ vs) q)
+    go false q ih = ap orZero (lookup-there n (m, pos 0) (zeros ds ++ vs) q) ∙ ih
 zero-value vs n at (LB o m i ∷ ds) zero e = absurd (let z : _≡_ {A = ℕ} 0 1 = cc in omega arith)
 zero-value vs n at (LB o m i ∷ ds) (suc j) e = zero-value vs n at ds j e
 zero-value vs n at (PR o m fs b ∷ ds) zero e = absurd (let z : _≡_ {A = ℕ} 0 1 = cc in omega arith)
@@ -175,14 +174,14 @@ module _ (s : State) (t : Stack) (r : Related s t) (fs : List Formal) (b : Block
   many-names = length-map fs (λ (x : Formal). x .name) ∙ sym many
 
   text-is : a .text ≡ renameBlock b (own ++ σ)
-  text-is = entered-text names xs (s .fresh) b σ (readsAt l m) (fine .small) (fine .small-formals) many-names (reads-big s t r m deep)
+  text-is = entered-text names xs (s .fresh) b σ (readsAt l m) (fine .level) fs (fine .here) (fine .formed) (fine .small-formals) many-names (reads-big s t r m deep)
 
   reads-are : a .reads ≡ own ∷ readsAt l m
   unfolding activation
   reads-are = ap (_∷ readsAt l m) (own-kept names xs (s .fresh) b σ)
 
   names-new : declaredNames (a .text) ≡ upFrom (s .fresh) (length (declaredNames b))
-  names-new = ap declaredNames text-is ∙ declared-new names xs (s .fresh) b σ many-names (tidy-distinct b fs (fine .tidy))
+  names-new = ap declaredNames text-is ∙ declared-new names xs (s .fresh) b σ many-names (block-once (fine .level) fs (fine .here) b (fine .formed))
 
   as-many-decls : length (blockDecls (a .text)) ≡ length (declaredNames b)
   unfolding declaredNames
@@ -229,4 +228,4 @@ module _ (s : State) (t : Stack) (r : Related s t) (fs : List Formal) (b : Block
   pub related-push : Related (enter s names xs copied (readsAt l m)) (withFrames t (t .frames ++ (f ∷ [])))
   unfolding enter withFrames
   related-push =
-      record { twins = both-snoc (Twin (l ++ (a ∷ [])) vs) 0 l (t .frames) a f (both-map (Twin l (s .values)) (Twin (l ++ (a ∷ [])) vs) 0 l (t .frames) (λ k c g h e e′ w. below k c g h e w) (r .twins)) (rw zero-add twin); rising = subst (Rising 65536 (l ++ (a ∷ []))) fresh-is (rising-snoc 65536 l (s .fresh) a (r .rising) names-rise); table-is = r .table-is; steps-are = r .steps-are }
+      record { twins = both-snoc (Twin (l ++ (a ∷ [])) vs) 0 l (t .frames) a f (both-map (Twin l (s .values)) (Twin (l ++ (a ∷ [])) vs) 0 l (t .frames) (λ k c g h e e′ w. below k c g h e w) (r .twins)) (rw zero-add twin); rising = subst (Rising 65536 (l ++ (a ∷ []))) fresh-is (rising-more 65536 l (s .fresh) a (r .rising) names-rise); table-is = r .table-is; steps-are = r .steps-are }

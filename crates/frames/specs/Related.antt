@@ -1,19 +1,19 @@
 -- The relation between the two machines, which holds at the start and is kept by each step.
-use Prim.Native.Nat.{ℕ, zero, suc, pred, _+_, _*_, _≤_, _<_}
-use mathlib.Core.Path.{_≡_, refl, sym, ap, _∙_, subst}
+use Prim.Native.Nat.{ℕ, _+_, _*_, _≤_}
+use mathlib.Core.Path.{_≡_}
 use mathlib.Core.List.{List, [], _∷_, _++_, map}
 use mathlib.Core.Option.{Option, none, some}
 use lib.IntN.{ℤ, pos}
 use lib.ListN.{length}
 use Rattle.language.specs.Basics.{lookup, zip}
-use Rattle.language.specs.Text.{Formal, Block, block, Decl, VR, LB, PR, Stmt, BK, DO, Decls, no-decl, decl, Stmts, no-stmt, stmt, decls, blockDecls, declName, formalNames, declaredNames}
+use Rattle.language.specs.Text.{block, Decl, VR, LB, PR, blockDecls, formalNames, declaredNames}
 use Rattle.language.specs.Copy.{Replacement, renameBlock}
-use Rattle.language.specs.Table.{Table}
 use Rattle.language.specs.Machine.{Activation, State, Instance, instanceFrom}
+use Rattle.laws.specs.Each.{Each}
+use Rattle.laws.specs.Rising.{Rising}
 use Rattle.frames.specs.Frame.{Frame, Stack, numbered}
-use Rattle.frames.specs.Instances.{Rising}
-use Rattle.frames.specs.Renaming.{AllBelow, SmallBlock, Distinct}
 use Rattle.frames.specs.Both.{Both}
+use Rattle.frames.specs.Fine.{Fine}
 
 -- what names read as in the activation of a number; nothing at 0
 unfoldable pub readsIn : Option Activation → List Replacement
@@ -48,43 +48,14 @@ wordIn vs (VR at n) = valueIn vs n
 wordIn vs (LB at n i) = pos 0
 wordIn vs (PR at n fs b) = pos 0
 
--- every block of a text, with its formals, has at most 32 names, all different
-unfoldable mutual
-  pub TidyBlock : Block → List Formal → Type 0
-  TidyBlock (block at ds ss) fs = (length fs + length (decls ds) ≤ 32) × Distinct (formalNames fs ++ map declName (decls ds)) × TidyDecls ds × TidyStmts ss
-
-  pub TidyDecl : Decl → Type 0
-  TidyDecl (VR at n) = Unit {0}
-  TidyDecl (LB at n i) = Unit {0}
-  TidyDecl (PR at n fs b) = TidyBlock b fs
-
-  pub TidyStmt : Stmt → Type 0
-  TidyStmt (BK b) = TidyBlock b []
-  TidyStmt (DO at a) = Unit {0}
-
-  pub TidyDecls : Decls → Type 0
-  TidyDecls no-decl = Unit {0}
-  TidyDecls (decl d ds) = TidyDecl d × TidyDecls ds
-
-  pub TidyStmts : Stmts → Type 0
-  TidyStmts no-stmt = Unit {0}
-  TidyStmts (stmt s ss) = TidyStmt s × TidyStmts ss
-
--- A block with its formals as an accepted script has them.
-pub record Fine (fs : List Formal) (b : Block) : Type 0 where
-  pub small : SmallBlock b
-  pub small-formals : AllBelow (formalNames fs)
-  pub tidy : TidyBlock b fs
-
 -- A name with a live declared instance whose number is at most k.
 pub record LiveBelow (l : List Activation) (k x : ℕ) : Type 0 where
   pub instance : Instance
   pub found : instanceFrom x 1 l ≡ some instance
   pub below : instance .number ≤ k
 
-unfoldable pub AllLive : List Activation → ℕ → List ℕ → Type 0
-AllLive l k [] = Unit {0}
-AllLive l k (x ∷ xs) = LiveBelow l k x × AllLive l k xs
+abbrev pub AllLive : List Activation → ℕ → List ℕ → Type 0
+AllLive l k xs = Each (LiveBelow l k) xs
 
 -- what an activation's own names read as
 unfoldable pub ownOf : Frame → Activation → Replacement

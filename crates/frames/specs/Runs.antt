@@ -1,42 +1,40 @@
 -- Whole runs: from the start on, at every allowance, both machines come to the same end at related states; and related states show
 -- one sheet and find one looked-up name. So the replies are one.
-use Prim.Native.Nat.{ℕ, zero, suc, pred, _+_, _*_, _≤_, _<_}
+use Prim.Native.Nat.{ℕ, zero, suc, _+_}
 use native.Mathlib.Omega.{arith}
 use mathlib.Core.Bool.{Bool, true, false}
 use mathlib.Core.Path.{_≡_, refl, sym, ap, ap₂, _∙_, subst, subst₂}
 use mathlib.Core.Logic.{_≢_}
-use mathlib.Core.List.{List, [], _∷_, _++_, map, cons≢nil}
+use mathlib.Core.List.{List, [], _∷_, _++_, cons≢nil}
 use mathlib.Core.Option.{Option, none, some}
-use lib.IntN.{ℤ, pos}
+use lib.IntN.{pos}
 use lib.ListN.{length, drop, getElem?, length-append}
-use Rattle.language.specs.Basics.{lookup, last?, butLast}
+use Rattle.language.specs.Basics.{last?, butLast}
 use Rattle.language.specs.Text.{Block, Decl, VR, LB, PR, blockAt, blockDecls, formalNames}
 use Rattle.language.specs.Check.{Checked, accepted, refused, check}
-use Rattle.language.specs.Table.{Table, right}
-use Rattle.language.specs.Copy.{Replacement, renameBlock, without}
-use Rattle.language.specs.Machine.{Activation, State, Limits, Done, did, stop, counted, enter, step, nextOffset, Outcome, ends, run, start, value, Instance, instance, instanceFrom}
+use Rattle.language.specs.Table.{Table}
+use Rattle.language.specs.Copy.{without}
+use Rattle.language.specs.Machine.{Activation, State, Limits, Done, did, stop, counted, enter, step, Outcome, ends, run, start, Instance, instance, instanceFrom}
 use Rattle.language.specs.Sheet.{Found, seek, designator, declWord, activationWords, wordsOf, sheetWords, lookedUp, lookedUpDesignator, lookedUpLinks}
-use Rattle.language.specs.Call.{Engine, copying, chain, display, Fed, Reply, limitsFit, lentFits, areaFits, turnedAway, linksOf, replied, runOf, checked, reply}
-use Rattle.language.specs.declared.Stop.{Stop}
-use Rattle.language.specs.declared.Refusal.the-variants.{AreaTooShort}
-use Rattle.language.specs.declared.End.{End}
+use Rattle.language.specs.Call.{Engine, copying, chain, display, Fed, areaFits, linksOf, replied, runOf, checked}
 use Rattle.language.specs.declared.End.the-variants.{Finished, Spent, Stopped}
+use Rattle.laws.specs.Tests.{split}
+use Rattle.laws.specs.Lists.{last-none, last-split, getElem-seam, map-alike}
+use Rattle.laws.specs.Renaming.{blockAt-renamed, rename-nothing}
+use Rattle.laws.specs.Rising.{Rising}
 use Rattle.grammar.specs.Rules.{Bytes}
 use Rattle.runs.specs.Account.{run-finished, run-spent, run-did, run-stopped}
 use Rattle.instances.specs.Invariant.{Invariant}
-use Rattle.instances.specs.Reading.{accepted-closed}
+use Rattle.instances.specs.Accepted.{accepted-closed}
 use Rattle.instances.specs.Steps.{started, step-keeps, counted-invariant}
-use Rattle.frames.specs.Frame.{Frame, Stack, Acted, acted, halted, withFrames, stepped, numbered, newFrame, designates, linksFollowed, seekName, seekFrom, frameStep, frameOffset, Result, results, frameRun, frameStart, frameWords, frameSheet, frameLinks, frameReplied, frameRunOf, frameChecked, frameReply}
-use Rattle.frames.specs.Lists.{last-none, last-split, getElem-snoc, none≢some, map-alike}
-use Rattle.frames.specs.Instances.{Rising}
-use Rattle.frames.specs.Renaming.{blockAt-renamed}
+use Rattle.frames.specs.Frame.{Frame, Stack, Acted, acted, halted, withFrames, stepped, numbered, designates, linksFollowed, seekName, seekFrom, frameStep, frameOffset, Result, results, frameRun, frameStart, frameWords, frameSheet, frameLinks, frameReplied, frameRunOf, frameChecked}
 use Rattle.frames.specs.Both.{Both, both-length}
-use Rattle.frames.specs.Related.{readsAt, readsIn, joined, designatorFor, designatorAt, valueIn, orZero, wordIn, AllLive, Twin, Related}
+use Rattle.frames.specs.Related.{readsAt, readsIn, joined, designatorFor, designatorAt, wordIn, Twin, Related}
 use Rattle.frames.specs.Push.{related-push}
 use Rattle.frames.specs.Find.{foundDesignator, passedIn, designates-found, links-found}
 use Rattle.frames.specs.Actions.{Alike, value-is}
 use Rattle.frames.specs.Steps.{step-alike, offset-alike}
-use Rattle.frames.specs.Script.{fine-script, bytes-below, rename-nothing}
+use Rattle.frames.specs.Fine.{fine-script}
 
 -- The clauses of the frame machine's run, as equations.
 module _ (l : Limits) (t : Stack) where
@@ -135,7 +133,7 @@ no-frames : Table → Stack
 no-frames u = record { frames = []; table = u; steps = 0 }
 
 pub start-related : (bs : List ℕ) (p : Block) → Bytes bs → check bs ≡ accepted p → (u : Table) → Related (start p u) (frameStart p u)
-unfolding start frameStart nothing no-frames withFrames formalNames readsAt readsIn joined without Both Rising AllLive numbered
+unfolding start frameStart nothing no-frames withFrames formalNames readsAt readsIn joined without Both Rising numbered
 start-related bs p bytes e u =
     let r : Related (nothing u) (no-frames u) = record { twins = tt; rising = omega arith; table-is = refl; steps-are = refl } in
     subst (λ (b : Block). Related (enter (nothing u) [] [] b []) (frameStart p u)) (rename-nothing p)
@@ -209,7 +207,7 @@ module _ (s : State) (t : Stack) (r : Related s t) (n : ℕ) where
       let k = length (butLast (s .live)) in
       let split = last-split (s .live) a e in
       let deep : length (s .live) ≡ suc k = ap length split ∙ (length-append (butLast (s .live)) (a ∷ []) ∙ omega arith) in
-      let here : getElem? (s .live) k ≡ some a = ap (λ (m : List Activation). getElem? m k) split ∙ getElem-snoc (butLast (s .live)) a in
+      let here : getElem? (s .live) k ≡ some a = ap (λ (m : List Activation). getElem? m k) split ∙ getElem-seam (butLast (s .live)) a [] in
       (found-designator (seek n 0 (a .reads)) (lookedUp-is a e) ∙ sym (designates-found s t r k a deep here n), found-links (seek n 0 (a .reads)) (lookedUp-is a e) ∙ sym (links-found s t r k a deep here n))
 
 -- The replies are one.
@@ -240,7 +238,7 @@ unfolding runOf frameRunOf
 runs-replied e f bytes t a =
     let l : Limits = record { activations = f .activations; group = f .group } in
     replied-same e f (runOf f t) (frameRunOf f t)
-    (runs-same l (f .allowance) (start t (f .table)) (frameStart t (f .table)) (start-related (f .script) t bytes a (f .table)) (started t (f .table) (accepted-closed (f .script) t (bytes-below (f .script) bytes) a)))
+    (runs-same l (f .allowance) (start t (f .table)) (frameStart t (f .table)) (start-related (f .script) t bytes a (f .table)) (started t (f .table) (accepted-closed (f .script) t bytes a)))
 
 pub checked-same : (e : Engine) (f : Fed) → Bytes (f .script) → (c : Checked) → check (f .script) ≡ c → frameChecked e f c ≡ checked e f c
 unfolding frameChecked checked

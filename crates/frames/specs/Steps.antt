@@ -1,30 +1,34 @@
 -- One step, and a whole run: from related states both machines come to related states, or stop for one cause at one offset.
-use Prim.Native.Nat.{ℕ, zero, suc, pred, _+_, _*_, _≤_, _<_}
+use Prim.Native.Nat.{ℕ, suc, pred, _+_, _<_}
 use native.Mathlib.Omega.{arith}
-use mathlib.Core.Bool.{Bool, true, false, _&&_, cond}
+use mathlib.Core.Bool.{Bool, true, false}
 use mathlib.Core.Path.{_≡_, refl, sym, ap, ap₂, _∙_, subst, subst₂}
 use mathlib.Core.List.{List, [], _∷_, _++_, map}
 use mathlib.Core.Option.{Option, none, some, Option·map}
 use lib.IntN.{ℤ, pos}
-use lib.ListN.{length, take, getElem?, length-append}
+use lib.ListN.{length, getElem?, length-append}
 use Rattle.language.specs.Basics.{eqZ, last?, butLast}
-use Rattle.language.specs.Text.{Kind, variable, label, procedure, Operation, Action, CL, GO, IF, KN, AR, AD, RM, QY, Block, Decl, Stmt, BK, DO, blockStmts, stmtAt, formalNames, declaredNames}
+use Rattle.language.specs.Text.{Kind, variable, label, procedure, Action, CL, GO, IF, KN, AR, AD, RM, QY, Block, Stmt, BK, DO, blockStmts, stmtAt, formalNames, declaredNames}
 use Rattle.language.specs.Copy.{Replacement, renamed, renameAction, renameBlock, renameStmt, without}
-use Rattle.language.specs.Machine.{Activation, State, Limits, Instance, Done, did, stop, withLive, resume, value, compute, doAction, doStmt, enterIfRoom, nextStmt, advance, stepIn, step, nextOffset}
-use Rattle.instances.specs.Statement.{usesOf, Serves, Stands}
+use Rattle.language.specs.Machine.{Activation, State, Limits, withLive, resume, value, compute, doAction, doStmt, enterIfRoom, nextStmt, advance, stepIn, step, nextOffset}
+use Rattle.laws.specs.Lists.{last-snoc, butLast-snoc, last-split, getElem-seam, getElem?-map}
+use Rattle.laws.specs.Lookup.{AllBelow}
+use Rattle.laws.specs.Renaming.{blockStmts-renamed, stmtAt-renamed}
+use Rattle.grammar.specs.Rules.{FormedAction, FormedBlock}
+use Rattle.grammar.specs.Formed.{stmt-at}
+use Rattle.instances.specs.Statement.{usesOf, Stands}
 use Rattle.instances.specs.Closed.{Kinds, Used, AllUsed, InStmt}
 use Rattle.instances.specs.Invariant.{liveKinds, Invariant}
 use Rattle.instances.specs.Theorems.{stands}
 use Rattle.instances.specs.Steps.{next-closed, advanced, advanced-kinds}
-use Rattle.frames.specs.Frame.{Frame, Stack, Acted, acted, halted, continue, withFrames, wordAt, designates, mapAction, act, actStmt, pushFrame, frameStmt, advanceFrame, actIn, frameStep, frameOffset}
-use Rattle.frames.specs.Lists.{none≢some, some-inj, last-snoc, butLast-snoc, last-split, last-none, getElem-snoc}
-use Rattle.frames.specs.Renaming.{SmallAction, SmallStmt, SmallBlock, AllBelow, blockStmts-renamed, stmtAt-renamed, small-stmt-at, getElem?-map}
+use Rattle.frames.specs.Frame.{Frame, Stack, continue, withFrames, wordAt, designates, mapAction, act, actStmt, pushFrame, frameStmt, advanceFrame, actIn, frameStep, frameOffset}
 use Rattle.frames.specs.Both.{both-length}
-use Rattle.frames.specs.Related.{readsIn, readsAt, joined, designatorAt, Fine, Twin, Related}
+use Rattle.frames.specs.Related.{readsAt, joined, designatorAt, Twin, Related}
+use Rattle.frames.specs.Fine.{Fine, fine-block}
 use Rattle.frames.specs.Cuts.{Top, top-of, related-pop, related-resume}
 use Rattle.frames.specs.Find.{designates-name}
 use Rattle.frames.specs.Actions.{Alike, word-is-value, store-alike, fits-alike, add-alike, remove-alike, query-alike}
-use Rattle.frames.specs.Transfers.{jump-related, AllStand, call-alike, enter-alike, reads-of, fine-block}
+use Rattle.frames.specs.Transfers.{jump-related, AllStand, call-alike, enter-alike, reads-of}
 
 -- an action whose names are used as the text around it allows
 module _ (s : State) (t : Stack) (r : Related s t) (inv : Invariant s) where
@@ -66,12 +70,12 @@ names-same : (s : State) (t : Stack) (σ : Replacement) → ((n : ℕ) → n < 6
 names-same s t σ h [] b = refl
 names-same s t σ h (x ∷ xs) b = ap₂ _∷_ (h x (b .0)) (names-same s t σ h xs (b .1))
 
-found-same : (s : State) (t : Stack) (σ : Replacement) → ((n : ℕ) → n < 65536 → designates (t .frames) n ≡ designatorAt (s .live) (renamed σ n)) → (x : Action) → SmallAction x → mapAction (designates (t .frames)) x ≡ mapAction (designatorAt (s .live)) (renameAction σ x)
-unfolding mapAction renameAction SmallAction
-found-same s t σ h (CL p xs) b = ap₂ CL (h p (b .0)) (names-same s t σ h xs (b .1))
+found-same : (s : State) (t : Stack) (σ : Replacement) → ((n : ℕ) → n < 65536 → designates (t .frames) n ≡ designatorAt (s .live) (renamed σ n)) → (x : Action) → FormedAction x → mapAction (designates (t .frames)) x ≡ mapAction (designatorAt (s .live)) (renameAction σ x)
+unfolding mapAction renameAction FormedAction
+found-same s t σ h (CL p xs) b = ap₂ CL (h p (b .called)) (names-same s t σ h xs (b .arguments))
 found-same s t σ h (GO x) b = ap GO (h x b)
 found-same s t σ h (IF v x) b = ap₂ IF (h v (b .0)) (h x (b .1))
-found-same s t σ h (KN x z) b = ap (λ (y : ℕ). KN y z) (h x b)
+found-same s t σ h (KN x z) b = ap (λ (y : ℕ). KN y z) (h x (b .target))
 found-same s t σ h (AR x o c d) b = λ i. AR (h x (b .0) i) o (h c (b .1) i) (h d (b .2) i)
 found-same s t σ h (AD g m) b = ap₂ AD (h g (b .0)) (h m (b .1))
 found-same s t σ h (RM g m) b = ap₂ RM (h g (b .0)) (h m (b .1))
@@ -122,7 +126,7 @@ module _ (l : Limits) (s : State) (t : Stack) (r : Related s t) (inv : Invariant
 
   top₁ : getElem? (advance s a .live) k ≡ some (resume a (suc (a .next)))
   unfolding advance withLive
-  top₁ = getElem-snoc (butLast (s .live)) (resume a (suc (a .next)))
+  top₁ = getElem-seam (butLast (s .live)) (resume a (suc (a .next))) []
 
   deep₁ : length (advance s a .live) ≡ suc k
   unfolding advance withLive
@@ -156,14 +160,14 @@ module _ (l : Limits) (s : State) (t : Stack) (r : Related s t) (inv : Invariant
 
   -- an action
   act-alike : (at : ℕ) (x : Action) → frameStmt f ≡ some (DO at x) → Alike (stepIn l s a) (actIn l t f)
-  unfolding stepIn actIn Alike doStmt actStmt frameStmt renameStmt SmallBlock InStmt resume
+  unfolding stepIn actIn Alike doStmt actStmt frameStmt renameStmt FormedBlock InStmt resume
   act-alike at x e =
       let next : nextStmt a ≡ some (DO at (renameAction (joined (a .reads)) x)) = next-stmt ∙ ap (Option·map (λ (y : Stmt). renameStmt y (joined (a .reads)))) e in
-      let small = small-stmt-at (f .text) (pred (f .next)) (DO at x) (fine-top .small) e in
+      let formed = stmt-at (fine-top .level) (f .formals) (fine-top .here) (f .text) (pred (f .next)) (DO at x) (fine-top .formed) e in
       let used = subst (λ (K : Kinds). AllUsed K (usesOf (renameAction (joined (a .reads)) x))) (sym (advanced-kinds s a last)) (next-closed s a (DO at (renameAction (joined (a .reads)) x)) inv last next) in
       rw (next, e, stepIn, actIn)
       (subst (λ (y : Action). Alike (doAction l (advance s a) (renameAction (joined (a .reads)) x)) (act l (advanceFrame t f) y))
-      (sym (found-same (advance s a) (advanceFrame t f) (joined (a .reads)) (λ n h. designates-name (advance s a) (advanceFrame t f) related₁ k (resume a (suc (a .next))) deep₁ top₁ n h) x small))
+      (sym (found-same (advance s a) (advanceFrame t f) (joined (a .reads)) (λ n h. designates-name (advance s a) (advanceFrame t f) related₁ k (resume a (suc (a .next))) deep₁ top₁ n h) x (formed .1 .action)))
       (action-alike (advance s a) (advanceFrame t f) related₁ (advanced s a (DO at (renameAction (joined (a .reads)) x)) inv last next) l (renameAction (joined (a .reads)) x) used))
 
   stmt-alike : (o : Option Stmt) → frameStmt f ≡ o → Alike (stepIn l s a) (actIn l t f)

@@ -1,51 +1,33 @@
 -- Storing a value keeps the relation: the word of the variable's frame is the only one that changes.
-use Prim.Native.Nat.{ℕ, zero, suc, pred, _+_, _*_, _≤_, _<_}
+use Prim.Native.Nat.{ℕ, pred, _+_}
 use native.Mathlib.Omega.{arith}
-use native.Mathlib.Nat.{zero-add}
-use mathlib.Core.Bool.{Bool, true, false}
 use mathlib.Core.Path.{_≡_, refl, sym, ap, ap₂, _∙_, subst}
-use mathlib.Core.List.{List, [], _∷_, _++_, map}
-use mathlib.Core.Option.{Option, none, some}
-use lib.Dec.{eqb}
+use mathlib.Core.List.{List, _∷_, _++_, map}
+use mathlib.Core.Option.{some}
 use lib.IntN.{ℤ, pos}
-use lib.ListN.{length, getD, set, getElem?, length-map}
+use lib.ListN.{length, set, getElem?, length-map}
 use borrow.Author.Tests.{eq-eqb, ne-eqb}
-use Rattle.language.specs.Basics.{lookup}
-use Rattle.language.specs.Text.{Kind, variable, label, procedure, Decl, VR, LB, PR, blockDecls, declName, declKind}
-use Rattle.language.specs.Copy.{Replacement}
+use Rattle.language.specs.Text.{variable, Decl, VR, LB, PR, blockDecls, declName, declKind}
 use Rattle.language.specs.Machine.{Activation, State, Instance, instanceFrom, store}
-use Rattle.frames.specs.Frame.{Frame, Stack, numbered, frameNumber, place, putWord, put, rewritten, withFrames}
-use Rattle.frames.specs.Lists.{none≢some, some-inj, map-alike, map-but-one, set-append-add}
-use Rattle.frames.specs.Instances.{Rising, rising-instance, at}
-use Rattle.frames.specs.Renaming.{lookup-hit, lookup-miss}
-use Rattle.frames.specs.Both.{Both, both-set}
-use Rattle.frames.specs.Related.{designatorFor, designatorAt, orZero, valueIn, wordIn, ownOf, Twin, Related}
+use Rattle.laws.specs.Tests.{some-inj}
+use Rattle.laws.specs.Lists.{map-alike, map-but-one, set-append-add}
+use Rattle.laws.specs.Lookup.{lookup-here, lookup-there}
+use Rattle.laws.specs.Rising.{same-declaration}
+use Rattle.frames.specs.Frame.{Frame, Stack, numbered, place, putWord, put, rewritten, withFrames}
+use Rattle.frames.specs.Both.{both-set}
+use Rattle.frames.specs.Related.{designatorAt, orZero, valueIn, wordIn, ownOf, Twin, Related}
 use Rattle.frames.specs.Designated.{Designated, designated}
-
--- two declarations of a rising stack with one name are one
-pub same-declaration : (l : List Activation) (fresh k j k′ j′ : ℕ) (a a′ : Activation) (d d′ : Decl) → Rising 65536 l fresh → getElem? l k ≡ some a → getElem? (blockDecls (a .text)) j ≡ some d → getElem? l k′ ≡ some a′ → getElem? (blockDecls (a′ .text)) j′ ≡ some d′ → declName d ≡ declName d′ → (k ≡ k′) × (j ≡ j′)
-same-declaration l fresh k j k′ j′ a a′ d d′ r e g e′ g′ n =
-    let p = rising-instance 65536 l fresh 1 k j a d r e g in
-    let p′ = rising-instance 65536 l fresh 1 k′ j′ a′ d′ r e′ g′ in
-    let q : at (1 + k) a (suc (length (a .arguments)) + j, d) ≡ at (1 + k′) a′ (suc (length (a′ .arguments)) + j′, d′) = some-inj (sym p ∙ (ap (λ (x : ℕ). instanceFrom x 1 l) n ∙ p′)) in
-    let h₀ : 1 + k ≡ 1 + k′ = ap (λ (i : Instance). i .number) q in
-    let h₁ : suc (length (a .arguments)) + j ≡ suc (length (a′ .arguments)) + j′ = ap (λ (i : Instance). i .position) q in
-    let h₂ : length (a .arguments) ≡ length (a′ .arguments) = ap (λ (i : Instance). length (i .home .arguments)) q in
-    (omega arith, omega arith)
 
 -- a declaration's word after a store
 word-other : (vs : List (ℕ × ℤ)) (x : ℕ) (z : ℤ) (d : Decl) → (declName d ≡ x → ⊥) → wordIn ((x, z) ∷ vs) d ≡ wordIn vs d
 unfolding wordIn valueIn declName
-word-other vs x z (VR at n) h = ap orZero (lookup-miss n (x, z) vs (ne-eqb n x h))
+word-other vs x z (VR at n) h = ap orZero (lookup-there n (x, z) vs (ne-eqb n x h))
 word-other vs x z (LB at n i) h = refl
 word-other vs x z (PR at n fs b) h = refl
 
-variable≢label : {A : Type 0} → variable ≡ label → A
-variable≢label e = absurd (let z : _≡_ {A = ℕ} 0 1 = cc in omega arith)
-
 word-this : (vs : List (ℕ × ℤ)) (x : ℕ) (z : ℤ) (d : Decl) → declName d ≡ x → declKind d ≡ variable → wordIn ((x, z) ∷ vs) d ≡ z
 unfolding wordIn valueIn declName declKind orZero
-word-this vs x z (VR at n) h k = ap orZero (lookup-hit n (x, z) vs (eq-eqb n x h))
+word-this vs x z (VR at n) h k = ap orZero (lookup-here n (x, z) vs (eq-eqb n x h))
 word-this vs x z (LB at n i) h k = absurd (let z : _≡_ {A = ℕ} 0 1 = cc in omega arith)
 word-this vs x z (PR at n fs b) h k = absurd (let z : _≡_ {A = ℕ} 0 1 = cc in omega arith)
 
@@ -56,14 +38,14 @@ module _ (s : State) (t : Stack) (r : Related s t) (x : ℕ) (z : ℤ) (i : Inst
   -- the activations other than the variable's keep their words
   others : (k : ℕ) (a : Activation) (f : Frame) → (k ≡ d .depth → ⊥) → getElem? (s .live) k ≡ some a → Twin (s .live) (s .values) (0 + k) a f → Twin (s .live) ((x, z) ∷ s .values) (0 + k) a f
   others k a f apart q w =
-      let same = map-alike (wordIn ((x, z) ∷ s .values)) (wordIn (s .values)) (blockDecls (a .text)) (λ j c g. word-other (s .values) x z c (λ n. apart (same-declaration (s .live) (s .fresh) k j (d .depth) (d .index) a (i .home) c (i .decl) (r .rising) q g (d .home-at) (d .decl-at) (n ∙ sym (d .name-is)) .0))) in
+      let same = map-alike (wordIn ((x, z) ∷ s .values)) (wordIn (s .values)) (blockDecls (a .text)) (λ j c g. word-other (s .values) x z c (λ n. apart (same-declaration 65536 (s .live) (s .fresh) k j (d .depth) (d .index) a (i .home) c (i .decl) (r .rising) q g (d .home-at) (d .decl-at) (n ∙ sym (d .name-is)) .0))) in
       record { fine = w .fine; as-many = w .as-many; reads-are = w .reads-are; text-is = w .text-is; next-is = w .next-is; link-below = w .link-below; live-arguments = w .live-arguments; words-are = w .words-are ∙ ap (map (λ (y : ℕ). pos (designatorAt (s .live) y)) (a .arguments) ++_) (sym same) }
 
   this-words : map (wordIn ((x, z) ∷ s .values)) (blockDecls (i .home .text)) ≡ set (map (wordIn (s .values)) (blockDecls (i .home .text))) (d .index) z
   this-words =
       map-but-one (wordIn ((x, z) ∷ s .values)) (wordIn (s .values)) (blockDecls (i .home .text)) (d .index) z
       (λ c g. let q : i .decl ≡ c = some-inj (sym (d .decl-at) ∙ g) in word-this (s .values) x z c (sym (ap declName q) ∙ d .name-is) (sym (ap declKind q) ∙ kind))
-      (λ j c apart g. word-other (s .values) x z c (λ n. apart (same-declaration (s .live) (s .fresh) (d .depth) j (d .depth) (d .index) (i .home) (i .home) c (i .decl) (r .rising) (d .home-at) g (d .home-at) (d .decl-at) (n ∙ sym (d .name-is)) .1)))
+      (λ j c apart g. word-other (s .values) x z c (λ n. apart (same-declaration 65536 (s .live) (s .fresh) (d .depth) j (d .depth) (d .index) (i .home) (i .home) c (i .decl) (r .rising) (d .home-at) g (d .home-at) (d .decl-at) (n ∙ sym (d .name-is)) .1)))
 
   new-words : set (d .frame .words) (place (designatorAt (s .live) x)) z ≡ map (λ (y : ℕ). pos (designatorAt (s .live) y)) (i .home .arguments) ++ map (wordIn ((x, z) ∷ s .values)) (blockDecls (i .home .text))
   new-words =

@@ -1,26 +1,27 @@
 -- Gotos, calls and blocks entered: the relation is kept, or both machines stop for one cause.
-use Prim.Native.Nat.{ℕ, zero, suc, pred, _+_, _*_, _≤_, _<_}
+use Prim.Native.Nat.{ℕ, suc, pred, _+_, _≤_}
 use native.Mathlib.Omega.{arith}
-use mathlib.Core.Bool.{Bool, true, false, _&&_, cond}
+use mathlib.Core.Bool.{Bool, true, false}
 use mathlib.Core.Path.{_≡_, refl, sym, ap, ap₂, _∙_, subst, subst₂}
 use mathlib.Core.List.{List, [], _∷_, _++_, map}
 use mathlib.Core.Option.{Option, none, some}
-use lib.Dec.{ltb, leb}
-use lib.IntN.{ℤ, pos}
+use lib.Dec.{ltb}
 use lib.ListN.{length, take, getElem?, length-map}
-use Rattle.language.specs.Text.{Kind, variable, label, procedure, Formal, Block, block, Decl, VR, LB, PR, Decls, no-decl, decl, Stmts, no-stmt, stmt, Stmt, BK, DO, blockDecls, blockStmts, decls, stmts, declName, declKind, labelIndex, declFormals, declBody, formalNames, formalKinds, declaredNames, sameKind}
+use Rattle.language.specs.Text.{Kind, Formal, Block, block, decl, declKind, labelIndex, declFormals, declBody, formalNames, formalKinds, declaredNames}
 use Rattle.language.specs.Scope.{agree}
 use Rattle.language.specs.Copy.{Replacement, renameBlock, without}
-use Rattle.language.specs.Machine.{Activation, State, Limits, Instance, instance, instanceFrom, Done, did, stop, withLive, resume, jump, kindAt, enter, enterIfRoom, call}
-use Rattle.language.specs.declared.Stop.the-variants.{NoActivationLeft, ArgumentsDiffer}
-use Rattle.instances.specs.Statement.{Serves, Stands}
-use Rattle.frames.specs.Frame.{Frame, Stack, Acted, acted, halted, numbered, continue, withFrames, frameNumber, declOf, kindOf, goTo, newFrame, pushFrame, callBy}
-use Rattle.frames.specs.Lists.{none≢some, some-inj, take-snoc, snoc-inj, getElem-bound, getElem-in}
-use Rattle.frames.specs.Instances.{instance-number}
-use Rattle.frames.specs.Renaming.{labelIndex-renamed, declFormals-renamed, declBody-renamed, small-decl-at, small-stmt-at, small-body, SmallBlock, SmallStmt, SmallDecl}
+use Rattle.language.specs.Machine.{Activation, State, Limits, Instance, instance, withLive, resume, jump, kindAt, enterIfRoom, call}
+use Rattle.laws.specs.Kinds.{agree-length}
+use Rattle.laws.specs.Lists.{take-snoc, snoc-inj, getElem-bound}
+use Rattle.laws.specs.Each.{Each, each-map}
+use Rattle.laws.specs.Renaming.{labelIndex-renamed, declFormals-renamed, declBody-renamed}
+use Rattle.laws.specs.Instances.{instance-number}
+use Rattle.instances.specs.Statement.{Stands}
+use Rattle.frames.specs.Frame.{Frame, Stack, numbered, continue, withFrames, frameNumber, kindOf, goTo, pushFrame, callBy}
 use Rattle.frames.specs.Both.{both-length}
-use Rattle.frames.specs.Related.{readsIn, readsAt, joined, designatorAt, Fine, TidyBlock, TidyDecl, TidyStmt, TidyDecls, TidyStmts, LiveBelow, AllLive, Twin, Related}
-use Rattle.frames.specs.Cuts.{Top, top-of, related-take, related-resume}
+use Rattle.frames.specs.Fine.{Fine, fine-body}
+use Rattle.frames.specs.Related.{readsIn, readsAt, joined, designatorAt, LiveBelow, AllLive, Twin, Related}
+use Rattle.frames.specs.Cuts.{top-of, related-take, related-resume}
 use Rattle.frames.specs.Designated.{Designated, designated, declOf-designated, kindOf-designated}
 use Rattle.frames.specs.Push.{related-push}
 use Rattle.frames.specs.Actions.{Alike}
@@ -62,70 +63,18 @@ module _ (s : State) (t : Stack) (r : Related s t) where
       subst₂ Related (sym (jump-is x i (v .found) d)) (sym (goTo-is x i (v .found) d))
       (cut-back (d .depth) (labelIndex (i .decl)) (i .home) (d .frame) (d .home-at) (d .frame-at))
 
--- What is fine stays so within.
-
-tidy-decls-at : (ds : Decls) (j : ℕ) (d : Decl) → TidyDecls ds → getElem? (decls ds) j ≡ some d → TidyDecl d
-unfolding TidyBlock decls
-tidy-decls-at no-decl j d h e = absurd (none≢some e)
-tidy-decls-at (decl c ds) zero d h e = subst TidyDecl (some-inj e) (h .0)
-tidy-decls-at (decl c ds) (suc j) d h e = tidy-decls-at ds j d (h .1) e
-
-tidy-stmts-at : (ss : Stmts) (j : ℕ) (x : Stmt) → TidyStmts ss → getElem? (stmts ss) j ≡ some x → TidyStmt x
-unfolding TidyBlock stmts
-tidy-stmts-at no-stmt j x h e = absurd (none≢some e)
-tidy-stmts-at (stmt c ss) zero x h e = subst TidyStmt (some-inj e) (h .0)
-tidy-stmts-at (stmt c ss) (suc j) x h e = tidy-stmts-at ss j x (h .1) e
-
-tidy-decl-at : (b : Block) (fs : List Formal) (j : ℕ) (d : Decl) → TidyBlock b fs → getElem? (blockDecls b) j ≡ some d → TidyDecl d
-unfolding TidyBlock blockDecls
-tidy-decl-at (block at ds ss) fs j d h e = tidy-decls-at ds j d (h .2) e
-
-tidy-stmt-at : (b : Block) (fs : List Formal) (j : ℕ) (x : Stmt) → TidyBlock b fs → getElem? (blockStmts b) j ≡ some x → TidyStmt x
-unfolding TidyBlock blockStmts
-tidy-stmt-at (block at ds ss) fs j x h e = tidy-stmts-at ss j x (h .3) e
-
-tidy-body : (d : Decl) → TidyDecl d → TidyBlock (declBody d) (declFormals d)
-unfolding TidyBlock declBody declFormals formalNames decls
-tidy-body (VR at n) h = (omega arith, tt, tt, tt)
-tidy-body (LB at n i) h = (omega arith, tt, tt, tt)
-tidy-body (PR at n fs b) h = h
-
-pub fine-body : (fs : List Formal) (b : Block) (j : ℕ) (d : Decl) → Fine fs b → getElem? (blockDecls b) j ≡ some d → Fine (declFormals d) (declBody d)
-fine-body fs b j d f e =
-    let h = small-body d (small-decl-at b j d (f .small) e) in
-    record { small = h .1; small-formals = h .0; tidy = tidy-body d (tidy-decl-at b fs j d (f .tidy) e) }
-
-pub fine-block : (fs : List Formal) (b : Block) (j : ℕ) (c : Block) → Fine fs b → getElem? (blockStmts b) j ≡ some (BK c) → Fine [] c
-unfolding SmallBlock TidyBlock formalNames
-fine-block fs b j c f e =
-    record { small = small-stmt-at b j (BK c) (f .small) e; small-formals = tt; tidy = tidy-stmt-at b fs j (BK c) (f .tidy) e }
-
 -- Entering
-
-agree-length : (ks : List Kind) (os : List (Option Kind)) → agree ks os ≡ true → length ks ≡ length os
-unfolding agree
-agree-length [] [] e = refl
-agree-length [] (x ∷ os) e = absurd (let z : _≡_ {A = ℕ} 0 1 = cc in omega arith)
-agree-length (k ∷ ks) [] e = absurd (let z : _≡_ {A = ℕ} 0 1 = cc in omega arith)
-agree-length (k ∷ ks) (none ∷ os) e = absurd (let z : _≡_ {A = ℕ} 0 1 = cc in omega arith)
-agree-length (k ∷ ks) (some x ∷ os) e = ap suc (agree-length ks os (and-right (sameKind k x) (agree ks os) e))
-  where
-    and-right : (a b : Bool) → (a && b) ≡ true → b ≡ true
-    and-right true b h = h
-    and-right false b h = absurd (let z : _≡_ {A = ℕ} 0 1 = cc in omega arith)
 
 -- arguments that stand in the state
 abbrev pub AllStand : State → List ℕ → Type 0
-AllStand s [] = Unit {0}
-AllStand s (x ∷ xs) = Stands s x none × AllStand s xs
+AllStand s xs = Each (λ x. Stands s x none) xs
 
 module _ (s : State) (t : Stack) (r : Related s t) where
   all-live : (xs : List ℕ) → AllStand s xs → AllLive (s .live) (length (s .live)) xs
-  unfolding AllLive instance
-  all-live [] v = tt
-  all-live (x ∷ xs) v =
-      let n = instance-number x 1 (s .live) (v .0 .it) (v .0 .found) in
-      (record { instance = v .0 .it; found = v .0 .found; below = omega arith }, all-live xs (v .1))
+  unfolding instance
+  all-live xs v =
+      each-map (λ x. Stands s x none) (LiveBelow (s .live) (length (s .live))) xs
+      (λ x h. let n = instance-number x 1 (s .live) (h .it) (h .found) in record { instance = h .it; found = h .found; below = omega arith }) v
 
   kinds-same : (xs : List ℕ) → AllStand s xs → map (kindAt s) xs ≡ map (kindOf (t .frames)) (map (designatorAt (s .live)) xs)
   unfolding instance kindAt
@@ -183,7 +132,7 @@ module _ (s : State) (t : Stack) (r : Related s t) where
 
       many : agree (formalKinds (declFormals (i .decl))) (map (kindAt s) xs) ≡ true → length xs ≡ length fs
       many e =
-          let n = agree-length (formalKinds (declFormals (i .decl))) (map (kindAt s) xs) e in
+          let n = sym (agree-length (formalKinds (declFormals (i .decl))) (map (kindAt s) xs) e) in
           let n₁ = length-map (declFormals (i .decl)) (λ (f : Formal). f .kind) in
           let n₂ = length-map xs (kindAt s) in
           let n₃ = ap length formals-same in

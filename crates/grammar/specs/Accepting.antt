@@ -42,12 +42,15 @@ well-ended Q t (read u o []) e y =
 well-ended Q t (read u o (w ∷ ws)) e y = not-accepted t _ o e
 well-ended Q t (refuse c o) e y = not-accepted t c o e
 
+-- What holds of whatever the program's reader reads holds of the tree.
+pub accepted-read : (Q : Block → ℕ → List ℕ → Type 0) (bs : List ℕ) (t : Block) → check bs ≡ accepted t → Yields Q (program 0 (fieldsOf bs)) → (o : ℕ) × Q t o [] × (judgeBlock t [] [] ≡ fine)
+accepted-read Q bs t e y = well-ended Q t (program 0 (fieldsOf bs)) (long-enough bs t (lengthFits bs) refl e .1) y
+
 pub accepted-keeps : (bs : List ℕ) → Bytes bs → (t : Block) → check bs ≡ accepted t → (bs ≡ encode t) × Keeps t
 unfolding encode lengthFits
 accepted-keeps bs h t e =
-    let a = long-enough bs t (lengthFits bs) refl e in
-    let k = well-ended (GotBlock 1 [] 0 (fieldsOf bs)) t (program 0 (fieldsOf bs)) (a .1) (read-program (fieldsOf bs) (fields-are-names bs h)) in
-    let f = (and-eq-true-iff (leb 1 (length bs) && leb (length bs) 8192) (eqb (length bs % 2) 0)) .0 (a .0) in
+    let k = accepted-read (GotBlock 1 [] 0 (fieldsOf bs)) bs t e (read-program (fieldsOf bs) (fields-are-names bs h)) in
+    let f = (and-eq-true-iff (leb 1 (length bs) && leb (length bs) 8192) (eqb (length bs % 2) 0)) .0 (long-enough bs t (lengthFits bs) refl e .0) in
     let g = (and-eq-true-iff (leb 1 (length bs)) (leb (length bs) 8192)) .0 (f .0) in
     let even : length bs % 2 ≡ 0 = eqb-true (length bs % 2) 0 (f .1) in
     let same : bs ≡ encode t = sym (bytes-of-fields bs h even) ∙ ap bytesOf (k .1 .step .text ∙ append-nil (blockFields t)) in (

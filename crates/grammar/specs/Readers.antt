@@ -10,7 +10,7 @@ use lib.ListN.{length, take, drop, take-append-drop}
 use lib.Seq.{take-at, drop-at}
 use Rattle.language.specs.Structure.{Reading, read, refuse, Reader, _>>=_, _>>_, give, here, require, fields, Row, fit, Record, take-record}
 use Rattle.language.specs.declared.Refusal.{Refusal}
-use Rattle.grammar.specs.Rules.{Each}
+use Rattle.laws.specs.Each.{Each, each-map}
 
 abbrev pub Yields : {A : Type 0} → (A → ℕ → List ℕ → Type 0) → Reading A → Type 0
 Yields Q (read a o ws) = Q a o ws
@@ -97,10 +97,6 @@ yields-fit r w (x ∷ rows) Q at ws h = go (eqb w (x .letters)) refl (yields-fit
     go : (b : Bool) → eqb w (x .letters) ≡ b → Yields Q (fit r w rows at ws) → Yields Q (fit r w (x ∷ rows) at ws)
     go true e y = rw (e, fit) (h .0 (eqb-true w (x .letters) e))
     go false e y = rw (e, fit) y
-
-pub each-map : {A : Type 0} (P Q : A → Type 0) (xs : List A) → ((x : A) → P x → Q x) → Each P xs → Each Q xs
-each-map P Q [] f h = tt
-each-map P Q (x ∷ xs) f h = (f x (h .0), each-map P Q xs f (h .1))
 
 -- what is to hold of each mark that may stand at a place, with its fields spelt out
 abbrev pub Marked : {M : Type 0} → ℕ → List ℕ → (Record M → ℕ → List ℕ → Type 0) → Row M → Type 0

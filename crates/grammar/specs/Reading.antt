@@ -11,9 +11,10 @@ use Rattle.language.specs.Basics.{among}
 use Rattle.language.specs.Text.{Kind, variable, label, procedure, Operation, plus, minus, less, Formal, Action, CL, GO, IF, KN, AR, AD, RM, QY, Block, block, Decl, PR, Stmt, Decls, decl, Stmts, stmt, decls, stmts, declName, formalNames}
 use Rattle.language.specs.Encoding.{signed, kindField, operationField, BK-mark, VR-mark, LB-mark, PR-mark, FM-mark, CL-mark, GO-mark, IF-mark, KN-mark, AR-mark, AD-mark, RM-mark, QY-mark, actionFields, formalsFields, blockFields, declFields, stmtFields, declsFields, stmtsFields}
 use Rattle.language.specs.Structure.{Reader, _>>=_, give, fields, isVR, isLB, isPR, isBK, isCL, isGO, isIF, isKN, isAR, isAD, isRM, isQY, blockMarks, formalMarks, declMarks, stmtMarks, take-record, kind, operation, formals, BlockReader, declared, declarations, action, stated, statements, blockWith, program}
-use Rattle.grammar.specs.Rules.{Each, Distinct, Name, FormedAction, FormedFormals, FormedBlock, FormedDecl, FormedStmt, FormedDecls, FormedStmts}
+use Rattle.laws.specs.Each.{Each, each-first, each-second}
+use Rattle.laws.specs.Distinct.{Distinct, Fresh, fresh-distinct}
+use Rattle.grammar.specs.Rules.{Name, FormedAction, FormedFormals, FormedBlock, FormedDecl, FormedStmt, FormedDecls, FormedStmts}
 use Rattle.grammar.specs.Readers.{Yields, yields-bind, yields-part, yields-require, yields-fields, yields-marks}
-use Rattle.grammar.specs.Once.{Fresh, fresh-distinct, each-first, each-second}
 use Rattle.grammar.specs.Words.{unsigned-signed, mag-signed}
 
 -- from byte `at` and the fields us, the fields xs are read: on from byte o with the fields ws

@@ -1,9 +1,8 @@
 -- The rules of document 01 for a script, said of its tree and with no order in them. A reader of Exact.antt has to believe these definitions,
--- and of `language` the tree (Text), `encode`, and of Scope `inside`, `kindIn` and `agree`.
+-- of `language` the tree (Text), `encode`, and of Scope `inside`, `kindIn` and `agree`, and of `laws` `Each` and `Distinct`.
 use Prim.Native.Nat.{ℕ, suc, _+_, _*_, _≤_, _<_}
 use mathlib.Core.Bool.{true}
 use mathlib.Core.List.{List, [], _∷_, _++_, map}
-use mathlib.Core.Logic.{_≢_}
 use mathlib.Core.Option.{some}
 use mathlib.Core.Path.{_≡_}
 use lib.ListN.{length}
@@ -12,18 +11,11 @@ use Rattle.language.specs.Basics.{lookup}
 use Rattle.language.specs.Text.{Kind, variable, label, procedure, Formal, Action, CL, GO, IF, KN, AR, AD, RM, QY, Block, block, Decl, VR, LB, PR, Stmt, BK, DO, Decls, no-decl, decl, Stmts, no-stmt, stmt, decls, stmts, declName, formalNames}
 use Rattle.language.specs.Encoding.{formalsFields, declFields, stmtFields, declsFields, encode}
 use Rattle.language.specs.Scope.{Meaning, Scope, inside, kindIn, agree}
-
-abbrev pub Each : {A : Type 0} → (A → Type 0) → List A → Type 0
-Each P [] = Unit {0}
-Each P (x ∷ xs) = P x × Each P xs
+use Rattle.laws.specs.Distinct.{Distinct}
+use Rattle.laws.specs.Each.{Each}
 
 abbrev pub Bytes : List ℕ → Type 0
 Bytes bs = Each (λ b. b < 256) bs
-
--- no number stands twice in the list
-abbrev pub Distinct : List ℕ → Type 0
-Distinct [] = Unit {0}
-Distinct (n ∷ ns) = Each (λ m. n ≢ m) ns × Distinct ns
 
 -- Encoding: a name is any 16-bit number.
 abbrev pub Name : ℕ → Type 0

@@ -4,14 +4,16 @@ use mathlib.Core.Bool.{Bool, true, false}
 use mathlib.Core.List.{List, [], _∷_, map}
 use mathlib.Core.Logic.{_↔_}
 use mathlib.Core.Option.{Option, none, some}
-use mathlib.Core.Path.{_≡_, refl}
+use mathlib.Core.Path.{_≡_, refl, sym}
 use native.Mathlib.Omega.{arith}
 use Rattle.language.specs.Basics.{lookup}
 use Rattle.language.specs.Text.{Kind, variable, label, procedure, Formal, Action, CL, GO, IF, KN, AR, AD, RM, QY, Block, block, Decl, VR, LB, PR, Stmt, BK, DO, Decls, no-decl, decl, Stmts, no-stmt, stmt, sameKind}
 use Rattle.language.specs.Scope.{Meaning, Scope, inside, Verdict, fine, wrong, _then_, ofKind, uses, visible, allVisible, kindIn, agree, agrees, judgeAction, judgeBlock, judgeDecl, judgeStmt, judgeDecls, judgeStmts}
 use Rattle.language.specs.declared.Refusal.{Refusal}
 use Rattle.language.specs.declared.Refusal.the-variants.{NotVisible, WrongKind, CallMismatch}
-use Rattle.grammar.specs.Rules.{Each, Visible, Is, ScopedAction, ScopedBlock, ScopedDecl, ScopedStmt, ScopedDecls, ScopedStmts}
+use Rattle.laws.specs.Kinds.{same-kind}
+use Rattle.laws.specs.Each.{Each}
+use Rattle.grammar.specs.Rules.{Visible, Is, ScopedAction, ScopedBlock, ScopedDecl, ScopedStmt, ScopedDecls, ScopedStmts}
 
 abbrev Fine : Verdict → Type 0 → Type 0
 Fine v A = (v ≡ fine) ↔ A
@@ -44,18 +46,6 @@ three {u = u} {v = v} {w = w} a b c = (
   λ k. then-both u (_then_ v w) (a .1 k.0) (then-both v w (b .1 k.1) (c .1 k.2)),
 )
 
-same-kind : (k l : Kind) → sameKind k l ≡ true → l ≡ k
-unfolding sameKind
-same-kind variable variable e = refl
-same-kind variable label e = cc
-same-kind variable procedure e = cc
-same-kind label variable e = cc
-same-kind label label e = refl
-same-kind label procedure e = cc
-same-kind procedure variable e = cc
-same-kind procedure label e = cc
-same-kind procedure procedure e = refl
-
 kind-same : (k : Kind) → sameKind k k ≡ true
 unfolding sameKind
 kind-same variable = refl
@@ -71,7 +61,7 @@ not-fine c o e = let z : _≡_ {A = ℕ} 0 1 = cc in absurd (omega arith)
 -- a name that is to be of a kind
 of-kind-same : (k : Kind) (o : ℕ) (m : Meaning) (b : Bool) → sameKind k (m .kind) ≡ b → ofKind k o (some m) ≡ fine → m .kind ≡ k
 unfolding ofKind
-of-kind-same k o m true t e = same-kind k (m .kind) t
+of-kind-same k o m true t e = sym (same-kind k (m .kind) t)
 of-kind-same k o m false t e = not-fine WrongKind o (rw (t, ofKind) at e)
 
 of-kind : (k : Kind) (o : ℕ) (v : Option Meaning) → ofKind k o v ≡ fine → (m : Meaning) × (v ≡ some m) × (m .kind ≡ k)

@@ -10,7 +10,8 @@ use lib.IntN.{ℤ, pos, negsuc}
 use lib.ListN.{length}
 use lib.Signed.{mag}
 use Rattle.language.specs.Encoding.{two, unsigned, signed, bytesOf, fieldsOf}
-use Rattle.grammar.specs.Rules.{Each, Bytes, Name}
+use Rattle.laws.specs.Each.{Each}
+use Rattle.grammar.specs.Rules.{Bytes, Name}
 
 pub fields-of-bytes : (ws : List ℕ) → fieldsOf (bytesOf ws) ≡ ws
 unfolding fieldsOf bytesOf

@@ -12,9 +12,9 @@ use Rattle.language.specs.Basics.{among}
 use Rattle.language.specs.Text.{Kind, variable, label, procedure, Operation, plus, minus, less, Formal, Action, CL, GO, IF, KN, AR, AD, RM, QY, Block, block, Decl, VR, LB, PR, Stmt, BK, DO, Decls, no-decl, decl, Stmts, no-stmt, stmt, decls, stmts, blockDecls, blockStmts, declName, formalNames}
 use Rattle.language.specs.Encoding.{signed, unsigned, kindField, operationField, BK-mark, VR-mark, LB-mark, PR-mark, FM-mark, CL-mark, GO-mark, IF-mark, KN-mark, AR-mark, AD-mark, RM-mark, QY-mark, actionFields, formalsFields, blockFields, declFields, stmtFields, declsFields, stmtsFields}
 use Rattle.language.specs.Structure.{read, Reader, _>>=_, give, fields, Row, isVR, isLB, isPR, isBK, isCL, isGO, isIF, isKN, isAR, isAD, isRM, isQY, blockMarks, formalMarks, declMarks, stmtMarks, fit, Record, take-record, kind, operation, formals, declared, declarations, action, stated, statements, blockWith, program}
-use Rattle.grammar.specs.Rules.{Distinct, FormedAction, FormedFormals, FormedBlock, FormedDecl, FormedStmt, FormedDecls, FormedStmts}
+use Rattle.laws.specs.Distinct.{Distinct, Fresh, distinct-fresh, distinct-first}
+use Rattle.grammar.specs.Rules.{FormedAction, FormedFormals, FormedBlock, FormedDecl, FormedStmt, FormedDecls, FormedStmts}
 use Rattle.grammar.specs.Readers.{bind-read, bind-assoc, require-read, fields-read, take-read}
-use Rattle.grammar.specs.Once.{Fresh, distinct-fresh, distinct-first}
 use Rattle.grammar.specs.Words.{low-high, signed-unsigned}
 
 moved : {A : Type 0} (a : A) (ws : List ℕ) {o o′ : ℕ} → o ≡ o′ → read a o ws ≡ read a o′ ws

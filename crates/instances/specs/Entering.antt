@@ -1,43 +1,33 @@
 -- Entering a block keeps the invariant: the copy is closed, with new names above all others.
-use Prim.Native.Nat.{ℕ, zero, suc, _≤_, _<_}
-use mathlib.Core.Bool.{true, false}
-use mathlib.Core.List.{List, [], _∷_, _++_, map}
+use Prim.Native.Nat.{ℕ, _≤_, _<_}
+use mathlib.Core.Bool.{true}
+use mathlib.Core.List.{List, [], _∷_, _++_, map, append-nil}
 use mathlib.Core.Option.{Option, none, some}
 use mathlib.Core.Path.{_≡_, refl, sym, ap, subst, _∙_}
 use native.Mathlib.Omega.{arith}
 use lib.Dec.{eqb}
-use lib.ListN.{length}
-use Rattle.language.specs.Basics.{among, lookup, zip, upFrom}
-use Rattle.language.specs.Text.{Kind, Formal, Block, block, Decls, Stmts, decls, blockDecls, blockStmts, declName, declKind, formalNames, formalKinds, declaredNames, sameKind}
+use lib.ListN.{length, length-map}
+use Rattle.language.specs.Basics.{lookup, zip, upFrom}
+use Rattle.language.specs.Text.{Kind, Formal, Block, block, Decls, Stmts, decls, blockDecls, blockStmts, declName, declKind, formalNames, formalKinds, declaredNames}
 use Rattle.language.specs.Scope.{agree}
 use Rattle.language.specs.Copy.{Replacement, renamed, renameBlock, renameDecls}
 use Rattle.language.specs.Machine.{State, ownNames, activation, enter}
-use Rattle.instances.specs.Lookup.{split, true≢false, some-injective, lookup-nil, lookup-here, lookup-there, lookup-left, lookup-right, either, lookup-absent, among-here, among-there, among-neither, renamed-none, renamed-some, all-new, moved}
-use Rattle.instances.specs.Closed.{Kinds, declKinds, ownKinds, Written, same-kind, InBlock, InDecls, InStmts}
-use Rattle.instances.specs.Renaming.{Keeps, keys-zip, keys-own, renamed-names, renamed-kinds, renamed-labels, moved-decls, moved-stmts}
-use Rattle.instances.specs.Invariant.{kindsIn, liveKinds, CopyIn, AllSeen, Placed, Stacked, Invariant, stacked-bound, stacked-more, stacked-between}
-
--- a name that is none of the formals is replaced by no argument
-zip-absent : {A : Type 0} (n : ℕ) (ns : List ℕ) (xs : List A) → among n ns ≡ false → lookup n (zip ns xs) ≡ none
-unfolding zip lookup
-zip-absent n [] xs e = refl
-zip-absent n (m ∷ ns) [] e = refl
-zip-absent n (m ∷ ns) (x ∷ xs) e =
-    split (eqb n m) (λ t. true≢false (among-here n m ns t) e)
-    (λ f. lookup-there n (m, x) (zip ns xs) f ∙ zip-absent n ns xs (sym (among-there n m ns f) ∙ e))
+use Rattle.laws.specs.Tests.{split, never, some-inj}
+use Rattle.laws.specs.Kinds.{agree-first, agree-length}
+use Rattle.laws.specs.Lookup.{lookup-nil, lookup-here, lookup-there, lookup-left, lookup-right, either, lookup-absent, among-neither, moved, each-found, each-zip, length-upFrom, new-upFrom, zip-absent}
+use Rattle.laws.specs.Renaming.{renamed-none, renamed-some, declKinds-renamed, declNames-renamed, own-new}
+use Rattle.laws.specs.Rising.{rising-more, rising-within}
+use Rattle.instances.specs.Closed.{Kinds, declKinds, ownKinds, Written, InBlock, InDecls, InStmts}
+use Rattle.instances.specs.Renaming.{Keeps, keys-images, keys-own, renamed-labels, moved-decls, moved-stmts}
+use Rattle.instances.specs.Invariant.{kindsIn, liveKinds, CopyIn, AllSeen, Placed, Invariant, stacked-more}
+use Rattle.instances.specs.Found.{between}
 
 -- arguments that agree have the formals' kinds
-agree-first : (k : Kind) (ks : List Kind) (o : Option Kind) (os : List (Option Kind)) → agree (k ∷ ks) (o ∷ os) ≡ true → (o ≡ some k) × (agree ks os ≡ true)
-unfolding agree
-agree-first k ks none os e = true≢false e refl
-agree-first k ks (some j) os e =
-    split (sameKind k j) (λ t. (ap {B = Option Kind} some (sym (same-kind k j t)), rw t at e)) (λ f. true≢false (rw f at e) refl)
-
 argument-of : (top : Kinds) (n : ℕ) (k : Kind) (fs : List Formal) (xs : List ℕ) → agree (formalKinds fs) (map (λ (x : ℕ). lookup x top) xs) ≡ true →
     lookup n (zip (formalNames fs) (formalKinds fs)) ≡ some k → (x : ℕ) × (lookup n (zip (formalNames fs) xs) ≡ some x) × (lookup x top ≡ some k)
 unfolding zip formalNames formalKinds agree
 argument-of top n k [] xs m e = lookup-nil n k e
-argument-of top n k (f ∷ fs) [] m e = true≢false m refl
+argument-of top n k (f ∷ fs) [] m e = never m refl
 argument-of top n k (f ∷ fs) (x ∷ xs) m e =
     let a = agree-first (f .kind) (formalKinds fs) (lookup x top) (map (λ (y : ℕ). lookup y top) xs) m in
     split (eqb n (f .name))
@@ -53,21 +43,8 @@ seen-of top n x [] xs h e = lookup-nil n x e
 seen-of top n x (m ∷ ns) [] h e = lookup-nil n x e
 seen-of top n x (m ∷ ns) (y ∷ xs) h e =
     split (eqb n m)
-    (λ t. (h .0 .kind, subst (λ (z : ℕ). lookup z top ≡ some (h .0 .kind)) (some-injective (sym (lookup-here n (m, y) (zip ns xs) t) ∙ e)) (h .0 .seen)))
+    (λ t. (h .0 .kind, subst (λ (z : ℕ). lookup z top ≡ some (h .0 .kind)) (some-inj (sym (lookup-here n (m, y) (zip ns xs) t) ∙ e)) (h .0 .seen)))
     (λ f. seen-of top n x ns xs (h .1) (sym (lookup-there n (m, y) (zip ns xs) f) ∙ e))
-
-zip-upFrom : (n x : ℕ) (ns : List ℕ) (f c : ℕ) → lookup n (zip ns (upFrom f c)) ≡ some x → f ≤ x
-unfolding zip upFrom
-zip-upFrom n x [] f c e = lookup-nil n x e
-zip-upFrom n x (m ∷ ns) f zero e = lookup-nil n x e
-zip-upFrom n x (m ∷ ns) f (suc c) e =
-    split (eqb n m) (λ t. let q : f ≡ x = some-injective (sym (lookup-here n (m, f) (zip ns (upFrom (suc f) c)) t) ∙ e) in omega arith)
-    (λ d. let r = zip-upFrom n x ns (suc f) c (sym (lookup-there n (m, f) (zip ns (upFrom (suc f) c)) d) ∙ e) in omega arith)
-
-length-upFrom : (f c : ℕ) → length (upFrom f c) ≡ c
-unfolding upFrom
-length-upFrom f zero = refl
-length-upFrom f (suc c) = ap suc (length-upFrom (suc f) c)
 
 -- A body with its formals is taken from where the names of K are visible, which is a part of all that is visible, `top`. Its new
 -- names are to go on from `new`.
@@ -86,14 +63,20 @@ abbrev replaced : List Formal → List ℕ → ℕ → Decls → Replacement
 replaced fs xs new ds = zip (formalNames fs) xs ++ zip (map declName (decls ds)) (news new ds)
 
 module _ (top : Kinds) (fs : List Formal) (xs : List ℕ) (new : ℕ) (ds : Decls) (ss : Stmts) (K more : Kinds) (E : Enters top fs xs new ds ss K more) where
+  as-many : length (formalNames fs) ≡ length xs
+  unfolding formalNames formalKinds
+  as-many =
+      length-map fs (λ (f : Formal). f .name) ∙ sym (length-map fs (λ (f : Formal). f .kind)) ∙
+      sym (agree-length (formalKinds fs) (map (λ (x : ℕ). lookup x top) xs) (E .agrees)) ∙ length-map xs (λ (x : ℕ). lookup x top)
+
   copy-names : map declName (decls (renameDecls ds (replaced fs xs new ds))) ≡ news new ds
   copy-names =
-      renamed-names ds (replaced fs xs new ds) ∙
-      all-new (zip (formalNames fs) xs) (formalNames fs) (map declName (decls ds)) new (λ n e. zip-absent n (formalNames fs) xs e) (E .written .apart)
+      declNames-renamed ds (replaced fs xs new ds) ∙
+      (rw append-nil at (own-new (formalNames fs) xs (map declName (decls ds)) (news new ds) [] as-many (sym (length-upFrom new (length (map declName (decls ds))))) (E .written .once)))
 
   copy-kinds : declKinds (decls (renameDecls ds (replaced fs xs new ds))) ≡ zip (news new ds) (map declKind (decls ds))
   unfolding declKinds
-  copy-kinds = rw (copy-names, renamed-kinds ds (replaced fs xs new ds))
+  copy-kinds = rw (copy-names, declKinds-renamed ds (replaced fs xs new ds))
 
   abbrev after-entry : Kinds
   after-entry = top ++ zip (news new ds) (map declKind (decls ds))
@@ -108,7 +91,7 @@ module _ (top : Kinds) (fs : List Formal) (xs : List ℕ) (new : ℕ) (ds : Decl
   unfolding formalNames formalKinds
   no-formal n e =
       zip-absent n (formalNames fs) xs
-      (rw (keys-zip (λ (f : Formal). f .name) (λ (f : Formal). f .kind) fs) at (lookup-absent n (zip (formalNames fs) (formalKinds fs)) e))
+      (rw (keys-images (λ (f : Formal). f .name) (λ (f : Formal). f .kind) fs) at (lookup-absent n (zip (formalNames fs) (formalKinds fs)) e))
 
   not-in-top : (x : ℕ) → new ≤ x → lookup x top ≡ none
   not-in-top x h = by (lookup x top) refl
@@ -148,7 +131,7 @@ module _ (top : Kinds) (fs : List Formal) (xs : List ℕ) (new : ℕ) (ds : Decl
   replaced-high n x e =
       either n (zip (formalNames fs) xs) (zip (map declName (decls ds)) (news new ds)) x e
       (λ h. let r = seen-of top n x (formalNames fs) xs (E .seen) h in E .between x (r .0) (r .1) .0)
-      (λ h h′. let low = zip-upFrom n x (map declName (decls ds)) new (length (map declName (decls ds))) h′ in let high = E .high in omega arith)
+      (λ h h′. each-found (λ y. 65536 ≤ y) n x (zip (map declName (decls ds)) (news new ds)) (each-zip (λ y. 65536 ≤ y) (map declName (decls ds)) (news new ds) (new-upFrom new (length (map declName (decls ds))) (E .high))) h′)
 
   entry-high : (n : ℕ) → renamed (replaced fs xs new ds) n < 65536 → renamed (replaced fs xs new ds) n ≡ n
   entry-high n b = by (lookup n (replaced fs xs new ds)) refl
@@ -167,11 +150,10 @@ module _ (top : Kinds) (fs : List Formal) (xs : List ℕ) (new : ℕ) (ds : Decl
   copy-length = ap length copy-names ∙ length-upFrom new (length (map declName (decls ds)))
 
   entry-placed : (at : ℕ) (around : List Replacement) → InDecls ds (ownKinds fs ds ++ K) → InStmts ss (ownKinds fs ds ++ K) →
-      Placed top new (activation (formalNames fs) xs new (block at ds ss) around)
+      Placed top (activation (formalNames fs) xs new (block at ds ss) around)
   unfolding activation ownNames renameBlock declaredNames blockDecls blockStmts kindsIn CopyIn
   entry-placed at around hd hs =
       record {
-        names = copy-names ∙ ap (upFrom new) (sym copy-length);
         closed = (
           renamed-labels ds ss (replaced fs xs new ds) (replaced fs xs new ds) (E .written .labels),
           rw copy-kinds (moved-decls ds (replaced fs xs new ds) (ownKinds fs ds ++ K) after-entry entry-keeps hd),
@@ -183,9 +165,14 @@ module _ (top : Kinds) (fs : List Formal) (xs : List ℕ) (new : ℕ) (ds : Decl
       }
 
   entry-length : (at : ℕ) (around : List Replacement) →
-      length (declaredNames (activation (formalNames fs) xs new (block at ds ss) around .text)) ≡ length (declaredNames (block at ds ss))
+      length (blockDecls (activation (formalNames fs) xs new (block at ds ss) around .text)) ≡ length (declaredNames (block at ds ss))
   unfolding activation ownNames renameBlock declaredNames blockDecls
-  entry-length at around = copy-length
+  entry-length at around = sym (length-map (decls (renameDecls ds (replaced fs xs new ds))) declName) ∙ copy-length
+
+  entry-names : (at : ℕ) (around : List Replacement) →
+      declaredNames (activation (formalNames fs) xs new (block at ds ss) around .text) ≡ upFrom new (length (blockDecls (activation (formalNames fs) xs new (block at ds ss) around .text)))
+  unfolding activation ownNames renameBlock declaredNames blockDecls
+  entry-names at around = copy-names ∙ ap (upFrom new) (sym (entry-length at around))
 
 -- A block whose text is closed where the names of K are visible, entered with arguments of its formals' kinds.
 pub entered : (s : State) (fs : List Formal) (xs : List ℕ) (b : Block) (around : List Replacement) (K more : Kinds) → Invariant s →
@@ -194,19 +181,19 @@ pub entered : (s : State) (fs : List Formal) (xs : List ℕ) (b : Block) (around
 unfolding enter InBlock
 entered s fs xs (block at ds ss) around K more inv part seen agrees h =
     let top : Kinds = liveKinds (s .live) in
-    let stack : Stacked [] 65536 (s .live) (s .fresh) = inv .stacked in
     let E : Enters top fs xs (s .fresh) ds ss K more =
     record {
       part = part;
-      between = stacked-between [] 65536 (s .live) (s .fresh) stack;
-      high = stacked-bound [] 65536 (s .live) (s .fresh) stack;
+      between = between s inv;
+      high = rising-within 65536 (s .live) (s .fresh) (inv .rising);
       seen = seen;
       agrees = agrees;
       written = h .0;
     } in
+    let a = activation (formalNames fs) xs (s .fresh) (block at ds ss) around in
     record {
-      stacked =
+      rising =
           rw (entry-length top fs xs (s .fresh) ds ss K more E at around) at
-          (stacked-more [] 65536 (s .live) (s .fresh) (activation (formalNames fs) xs (s .fresh) (block at ds ss) around) stack
-          (entry-placed top fs xs (s .fresh) ds ss K more E at around (h .1) (h .2)));
+          (rising-more 65536 (s .live) (s .fresh) a (inv .rising) (entry-names top fs xs (s .fresh) ds ss K more E at around));
+      stacked = stacked-more [] (s .live) a (inv .stacked) (entry-placed top fs xs (s .fresh) ds ss K more E at around (h .1) (h .2));
     }

@@ -1,14 +1,12 @@
 -- What holds of every state that a run comes to, and the laws of the live activations that it is made of.
-use Prim.Native.Nat.{ℕ, suc, _+_, _≤_, _<_}
+use Prim.Native.Nat.{ℕ, suc, _+_, _≤_}
 use mathlib.Core.List.{List, [], _∷_, _++_, map, append-assoc, append-nil}
-use mathlib.Core.Option.{none, some}
+use mathlib.Core.Option.{none}
 use mathlib.Core.Path.{_≡_, refl, sym, ap, _∙_}
-use native.Mathlib.Omega.{arith}
 use lib.ListN.{length}
-use Rattle.language.specs.Basics.{lookup, zip, upFrom}
-use Rattle.language.specs.Text.{Kind, Block, block, stmts, blockDecls, blockStmts, declKind, declaredNames}
-use Rattle.language.specs.Machine.{Activation, State, resume}
-use Rattle.instances.specs.Lookup.{lookup-nil, either, lookup-upFrom}
+use Rattle.language.specs.Text.{Block, block, stmts, blockDecls, blockStmts}
+use Rattle.language.specs.Machine.{Activation, State, resume, withLive}
+use Rattle.laws.specs.Rising.{Rising, rising-resumed}
 use Rattle.instances.specs.Closed.{Kinds, declKinds, LabelsIn, AllUsed, InDecls, InStmts}
 
 -- the kinds of the names that a text declares, and of those that activations declare, outermost first: the order in which the
@@ -27,94 +25,57 @@ CopyIn (block at ds ss) K = LabelsIn (length (stmts ss)) ds × InDecls ds K × I
 abbrev pub AllSeen : Kinds → List ℕ → Type 0
 AllSeen K xs = AllUsed K (map (λ (x : ℕ). (x, none)) xs)
 
--- An activation above others that declare the names of K: its own new names are consecutive, from `first` on; its copy is closed;
--- its arguments are among the names of K; its next statement is one of its own or the end.
-pub record Placed (K : Kinds) (first : ℕ) (a : Activation) : Type 0 where
-  pub names : declaredNames (a .text) ≡ upFrom first (length (declaredNames (a .text)))
+-- An activation above others that declare the names of K: its copy is closed; its arguments are among the names of K; its next
+-- statement is one of its own or the end.
+pub record Placed (K : Kinds) (a : Activation) : Type 0 where
   pub closed : CopyIn (a .text) (K ++ kindsIn (a .text))
   pub given : AllSeen K (a .arguments)
   pub begun : 1 ≤ a .next
   pub within : a .next ≤ suc (length (blockStmts (a .text)))
 
--- Activations above those that declare the names of K, all below lo: the new names of each lie above those of the ones before it,
--- and all below hi.
-unfoldable pub Stacked : Kinds → ℕ → List Activation → ℕ → Type 0
-Stacked K lo [] hi = lo ≤ hi
-Stacked K lo (a ∷ rest) hi =
-    (first : ℕ) × (lo ≤ first) × Placed K first a × Stacked (K ++ kindsIn (a .text)) (first + length (declaredNames (a .text))) rest hi
+-- activations above those that declare the names of K
+unfoldable pub Stacked : Kinds → List Activation → Type 0
+Stacked K [] = Unit {0}
+Stacked K (a ∷ rest) = Placed K a × Stacked (K ++ kindsIn (a .text)) rest
 
--- the invariant
+-- The invariant: the new names of each activation are consecutive and lie above those of the ones before it, and each is placed.
 pub record Invariant (s : State) : Type 0 where
-  pub stacked : Stacked [] 65536 (s .live) (s .fresh)
-
-pub stacked-bound : (K : Kinds) (lo : ℕ) (as′ : List Activation) (hi : ℕ) → Stacked K lo as′ hi → lo ≤ hi
-unfolding Stacked
-stacked-bound K lo [] hi h = h
-stacked-bound K lo (a ∷ rest) hi h =
-    let up : lo ≤ h .0 = h .1 in
-    let r = stacked-bound (K ++ kindsIn (a .text)) (h .0 + length (declaredNames (a .text))) rest hi (h .3) in
-    omega arith
+  pub rising : Rising 65536 (s .live) (s .fresh)
+  pub stacked : Stacked [] (s .live)
 
 -- the activations before a place are stacked
-pub stacked-before : (K : Kinds) (lo : ℕ) (before rest : List Activation) (hi : ℕ) → Stacked K lo (before ++ rest) hi → Stacked K lo before hi
+pub stacked-before : (K : Kinds) (before rest : List Activation) → Stacked K (before ++ rest) → Stacked K before
 unfolding Stacked
-stacked-before K lo [] rest hi h = stacked-bound K lo rest hi h
-stacked-before K lo (a ∷ before) rest hi h =
-    (h .0, h .1, h .2, stacked-before (K ++ kindsIn (a .text)) (h .0 + length (declaredNames (a .text))) before rest hi (h .3))
+stacked-before K [] rest h = tt
+stacked-before K (a ∷ before) rest h = (h .0, stacked-before (K ++ kindsIn (a .text)) before rest (h .1))
 
 -- the activation at a place is placed above those before it
-pub stacked-at : (K : Kinds) (lo : ℕ) (before : List Activation) (a : Activation) (rest : List Activation) (hi : ℕ) →
-    Stacked K lo (before ++ (a ∷ rest)) hi → (first : ℕ) × Placed (K ++ liveKinds before) first a
+pub stacked-at : (K : Kinds) (before : List Activation) (a : Activation) (rest : List Activation) → Stacked K (before ++ (a ∷ rest)) → Placed (K ++ liveKinds before) a
 unfolding Stacked liveKinds
-stacked-at K lo [] a rest hi h = (h .0, rw append-nil (h .2))
-stacked-at K lo (b ∷ before) a rest hi h =
-    let r = stacked-at (K ++ kindsIn (b .text)) (h .0 + length (declaredNames (b .text))) before a rest hi (h .3) in
-    (r .0, rw append-assoc at (r .1))
+stacked-at K [] a rest h = rw append-nil (h .0)
+stacked-at K (b ∷ before) a rest h = rw append-assoc at (stacked-at (K ++ kindsIn (b .text)) before a rest (h .1))
 
-placed-resumed : (K : Kinds) (first : ℕ) (a : Activation) (n : ℕ) → 1 ≤ n → n ≤ suc (length (blockStmts (a .text))) →
-    Placed K first a → Placed K first (resume a n)
-unfolding resume
-placed-resumed K first a n b w p = record { names = p .names; closed = p .closed; given = p .given; begun = b; within = w }
+stacked-resumed : (K : Kinds) (before : List Activation) (a : Activation) (rest : List Activation) (n : ℕ) → 1 ≤ n → n ≤ suc (length (blockStmts (a .text))) →
+    Stacked K (before ++ (a ∷ rest)) → Stacked K (before ++ (resume a n ∷ []))
+unfolding Stacked resume
+stacked-resumed K [] a rest n b w h = let p = h .0 in (record { closed = p .closed; given = p .given; begun = b; within = w }, tt)
+stacked-resumed K (c ∷ before) a rest n b w h = (h .0, stacked-resumed (K ++ kindsIn (c .text)) before a rest n b w (h .1))
 
 -- dropping what is above an activation and going on in it at another statement
-pub stacked-resumed : (K : Kinds) (lo : ℕ) (before : List Activation) (a : Activation) (rest : List Activation) (hi n : ℕ) →
-    1 ≤ n → n ≤ suc (length (blockStmts (a .text))) → Stacked K lo (before ++ (a ∷ rest)) hi → Stacked K lo (before ++ (resume a n ∷ [])) hi
-unfolding Stacked resume
-stacked-resumed K lo [] a rest hi n b w h =
-    (h .0, h .1, placed-resumed K (h .0) a n b w (h .2), stacked-bound (K ++ kindsIn (a .text)) (h .0 + length (declaredNames (a .text))) rest hi (h .3))
-stacked-resumed K lo (c ∷ before) a rest hi n b w h =
-    (h .0, h .1, h .2, stacked-resumed (K ++ kindsIn (c .text)) (h .0 + length (declaredNames (c .text))) before a rest hi n b w (h .3))
+pub resumed : (s : State) (before : List Activation) (a : Activation) (rest : List Activation) (n : ℕ) → s .live ≡ before ++ (a ∷ rest) →
+    1 ≤ n → n ≤ suc (length (blockStmts (a .text))) → Invariant s → Invariant (withLive s (before ++ (resume a n ∷ [])))
+unfolding withLive
+resumed s before a rest n e b w inv =
+    record {
+      rising = rising-resumed 65536 before a rest (s .fresh) n (rw e at (inv .rising));
+      stacked = stacked-resumed [] before a rest n b w (rw e at (inv .stacked));
+    }
 
 -- one more on top
-pub stacked-more : (K : Kinds) (lo : ℕ) (as′ : List Activation) (hi : ℕ) (a : Activation) → Stacked K lo as′ hi →
-    Placed (K ++ liveKinds as′) hi a → Stacked K lo (as′ ++ (a ∷ [])) (hi + length (declaredNames (a .text)))
+pub stacked-more : (K : Kinds) (as′ : List Activation) (a : Activation) → Stacked K as′ → Placed (K ++ liveKinds as′) a → Stacked K (as′ ++ (a ∷ []))
 unfolding Stacked liveKinds
-stacked-more K lo [] hi a h p = (hi, h, rw append-nil at p, omega arith)
-stacked-more K lo (c ∷ rest) hi a h p =
-    (h .0, h .1, h .2, stacked-more (K ++ kindsIn (c .text)) (h .0 + length (declaredNames (c .text))) rest hi a (h .3) (rw append-assoc p))
-
--- the kinds of a text's own names, at their numbers
-kinds-placed : (K : Kinds) (first : ℕ) (a : Activation) → Placed K first a →
-    kindsIn (a .text) ≡ zip (upFrom first (length (declaredNames (a .text)))) (map declKind (blockDecls (a .text)))
-unfolding kindsIn declKinds declaredNames
-kinds-placed K first a p = ap {B = Kinds} (λ ns. zip ns (map declKind (blockDecls (a .text)))) (p .names)
-
--- every new name that is declared lies between the bounds
-pub stacked-between : (K : Kinds) (lo : ℕ) (as′ : List Activation) (hi : ℕ) → Stacked K lo as′ hi →
-    (x : ℕ) (k : Kind) → lookup x (liveKinds as′) ≡ some k → (lo ≤ x) × (x < hi)
-unfolding Stacked liveKinds
-stacked-between K lo [] hi h x k e = lookup-nil x k e
-stacked-between K lo (a ∷ rest) hi h x k e =
-    let above : lo ≤ h .0 = h .1 in
-    let bound = stacked-bound (K ++ kindsIn (a .text)) (h .0 + length (declaredNames (a .text))) rest hi (h .3) in
-    either x (kindsIn (a .text)) (liveKinds rest) k e
-    (λ here.
-    let mine = rw (kinds-placed K (h .0) a (h .2)) at here in
-    let r = lookup-upFrom x (h .0) (length (declaredNames (a .text))) (map declKind (blockDecls (a .text))) k mine in
-    omega arith)
-    (λ absent there.
-    let r = stacked-between (K ++ kindsIn (a .text)) (h .0 + length (declaredNames (a .text))) rest hi (h .3) x k there in
-    omega arith)
+stacked-more K [] a h p = (rw append-nil at p, tt)
+stacked-more K (c ∷ rest) a h p = (h .0, stacked-more (K ++ kindsIn (c .text)) rest a (h .1) (rw append-assoc p))
 
 pub liveKinds-append : (as′ bs : List Activation) → liveKinds (as′ ++ bs) ≡ liveKinds as′ ++ liveKinds bs
 unfolding liveKinds

@@ -1,16 +1,16 @@
 -- Renaming keeps text closed: a block within loses the names that it declares itself, and captures no new one.
-use Prim.Native.Nat.{ℕ, suc, _<_}
-use mathlib.Core.Bool.{true}
+use Prim.Native.Nat.{ℕ, _<_}
 use mathlib.Core.List.{List, [], _∷_, _++_, map}
 use mathlib.Core.Option.{Option, none, some}
-use mathlib.Core.Path.{_≡_, refl, ap, _∙_}
-use borrow.Author.Tests.{eq-eqb}
-use lib.ListN.{length}
-use Rattle.language.specs.Basics.{among, lookup, zip}
-use Rattle.language.specs.Text.{Kind, variable, label, procedure, Formal, Action, CL, GO, IF, KN, AR, AD, RM, QY, Block, block, Decl, VR, LB, PR, Stmt, BK, DO, Decls, no-decl, decl, Stmts, no-stmt, stmt, decls, stmts, blockDecls, declName, declKind, formalNames, formalKinds, declaredNames}
+use mathlib.Core.Path.{_≡_, refl, sym, ap, _∙_}
+use lib.ListN.{length, length-map}
+use Rattle.language.specs.Basics.{lookup, zip}
+use Rattle.language.specs.Text.{Kind, procedure, Formal, Action, CL, GO, IF, KN, AR, AD, RM, QY, Block, block, Decl, VR, LB, PR, Stmt, BK, DO, Decls, no-decl, decl, Stmts, no-stmt, stmt, decls, stmts, blockDecls, declName, declKind, formalNames, formalKinds, declaredNames}
 use Rattle.language.specs.Copy.{Replacement, renamed, without, renameAction, renameBlock, renameDecl, renameStmt, renameDecls, renameStmts}
+use Rattle.laws.specs.Each.{each-append}
+use Rattle.laws.specs.Lookup.{lookup-left, lookup-right, either, keys, lookup-absent, lookup-present, among-right, AllBelow, below-among, keys-append, keys-zip}
+use Rattle.laws.specs.Renaming.{renamed-none, renamed-same, without-own, without-other, declKinds-renamed, declNames-renamed, names-kept, stmts-length}
 use Rattle.instances.specs.Statement.{usesOf}
-use Rattle.instances.specs.Lookup.{lookup-left, lookup-right, either, keys, lookup-absent, lookup-present, renamed-none, renamed-same, without-own, without-other, among-here, among-right, Below, below-among, below-append}
 use Rattle.instances.specs.Closed.{Kinds, declKinds, ownKinds, LabelIn, LabelsIn, Written, AllUsed, InBlock, InDecl, InStmt, InDecls, InStmts}
 
 -- what is visible stays visible under its new name with its kind, and no name comes to be a written one but itself
@@ -18,7 +18,7 @@ pub record Keeps (σ : Replacement) (K K′ : Kinds) : Type 0 where
   pub carries : (n : ℕ) (k : Kind) → lookup n K ≡ some k → lookup (renamed σ n) K′ ≡ some k
   pub high : (n : ℕ) → renamed σ n < 65536 → renamed σ n ≡ n
 
-module _ (σ : Replacement) (K K′ own : Kinds) (keeps : Keeps σ K K′) (small : Below (keys own)) where
+module _ (σ : Replacement) (K K′ own : Kinds) (keeps : Keeps σ K K′) (small : AllBelow (keys own)) where
   own-name : (n : ℕ) (k : Kind) → lookup n own ≡ some k → renamed (without (keys own) σ) n ≡ n
   own-name n k e = renamed-none (without (keys own) σ) n (without-own n (keys own) σ (lookup-present n own k e))
 
@@ -50,69 +50,35 @@ module _ (σ : Replacement) (K K′ own : Kinds) (keeps : Keeps σ K K′) (smal
   keeps-inside = record { carries = inside-carries; high = inside-high }
 
 -- the names of a block's own kinds
-pub keys-append : (ps qs : Kinds) → keys (ps ++ qs) ≡ keys ps ++ keys qs
-keys-append [] qs = refl
-keys-append (p ∷ ps) qs = ap {B = List ℕ} (λ r. p .0 ∷ r) (keys-append ps qs)
-
-pub keys-zip : {A : Type 0} (f : A → ℕ) (g : A → Kind) (xs : List A) → keys (zip (map f xs) (map g xs)) ≡ map f xs
-unfolding zip
-keys-zip f g [] = refl
-keys-zip f g (x ∷ xs) = ap {B = List ℕ} (λ r. f x ∷ r) (keys-zip f g xs)
+pub keys-images : {A : Type 0} (f : A → ℕ) (g : A → Kind) (xs : List A) → keys (zip (map f xs) (map g xs)) ≡ map f xs
+keys-images f g xs = keys-zip (map f xs) (map g xs) (length-map xs f ∙ sym (length-map xs g))
 
 pub keys-own : (fs : List Formal) (ds : Decls) → keys (ownKinds fs ds) ≡ formalNames fs ++ map declName (decls ds)
 unfolding ownKinds declKinds formalNames formalKinds
-keys-own fs ds = rw (keys-append, keys-zip (λ (f : Formal). f .name) (λ (f : Formal). f .kind) fs, keys-zip declName declKind (decls ds))
-
--- declarations under renaming: their names are renamed, their kinds stay
-pub renamed-names : (ds : Decls) (σ : Replacement) → map declName (decls (renameDecls ds σ)) ≡ map (renamed σ) (map declName (decls ds))
-unfolding decls declName renameBlock
-renamed-names no-decl σ = refl
-renamed-names (decl (VR at n) ds) σ = ap {B = List ℕ} (λ r. renamed σ n ∷ r) (renamed-names ds σ)
-renamed-names (decl (LB at n i) ds) σ = ap {B = List ℕ} (λ r. renamed σ n ∷ r) (renamed-names ds σ)
-renamed-names (decl (PR at n fs b) ds) σ = ap {B = List ℕ} (λ r. renamed σ n ∷ r) (renamed-names ds σ)
-
-pub renamed-kinds : (ds : Decls) (σ : Replacement) → map declKind (decls (renameDecls ds σ)) ≡ map declKind (decls ds)
-unfolding decls declKind renameBlock
-renamed-kinds no-decl σ = refl
-renamed-kinds (decl (VR at n) ds) σ = ap {B = List Kind} (λ r. variable ∷ r) (renamed-kinds ds σ)
-renamed-kinds (decl (LB at n i) ds) σ = ap {B = List Kind} (λ r. label ∷ r) (renamed-kinds ds σ)
-renamed-kinds (decl (PR at n fs b) ds) σ = ap {B = List Kind} (λ r. procedure ∷ r) (renamed-kinds ds σ)
-
-unchanged : (σ : Replacement) (ns : List ℕ) → ((n : ℕ) → among n ns ≡ true → renamed σ n ≡ n) → map (renamed σ) ns ≡ ns
-unchanged σ [] h = refl
-unchanged σ (n ∷ ns) h =
-    let first : renamed σ n ≡ n = h n (among-here n n ns (eq-eqb n n refl)) in
-    let rest : map (renamed σ) ns ≡ ns = unchanged σ ns (λ m t. h m (among-right m (n ∷ []) ns t)) in
-    cc
+keys-own fs ds = rw (keys-append, keys-images (λ (f : Formal). f .name) (λ (f : Formal). f .kind) fs, keys-images declName declKind (decls ds))
 
 -- a block within keeps its names
 kept-names : (formals : List ℕ) (ds : Decls) (σ : Replacement) →
     map declName (decls (renameDecls ds (without (formals ++ map declName (decls ds)) σ))) ≡ map declName (decls ds)
 kept-names formals ds σ =
-    let τ : Replacement = without (formals ++ map declName (decls ds)) σ in
-    renamed-names ds τ ∙ unchanged τ (map declName (decls ds))
-    (λ n t. renamed-none τ n (without-own n (formals ++ map declName (decls ds)) σ (among-right n formals (map declName (decls ds)) t)))
+    let names : List ℕ = map declName (decls ds) in
+    declNames-renamed ds (without (formals ++ names) σ) ∙ names-kept names (formals ++ names) σ (λ n t. among-right n formals names t)
 
 kept-kinds : (fs : List Formal) (ds : Decls) (σ : Replacement) →
     ownKinds fs (renameDecls ds (without (formalNames fs ++ map declName (decls ds)) σ)) ≡ ownKinds fs ds
 unfolding ownKinds declKinds
 kept-kinds fs ds σ =
-    rw (kept-names (formalNames fs) ds σ, renamed-kinds ds (without (formalNames fs ++ map declName (decls ds)) σ))
-
-renamed-length : (ss : Stmts) (σ : Replacement) → length (stmts (renameStmts ss σ)) ≡ length (stmts ss)
-unfolding stmts renameBlock
-renamed-length no-stmt σ = refl
-renamed-length (stmt s ss) σ = ap suc (renamed-length ss σ)
+    rw (kept-names (formalNames fs) ds σ, declKinds-renamed ds (without (formalNames fs ++ map declName (decls ds)) σ))
 
 renamed-labels-in : (s : ℕ) (ds : Decls) (σ : Replacement) → LabelsIn s ds → LabelsIn s (renameDecls ds σ)
-unfolding LabelIn LabelsIn renameBlock
+unfolding LabelIn renameBlock decls
 renamed-labels-in s no-decl σ h = tt
 renamed-labels-in s (decl (VR at n) ds) σ h = (tt, renamed-labels-in s ds σ (h .1))
 renamed-labels-in s (decl (LB at n i) ds) σ h = (h .0, renamed-labels-in s ds σ (h .1))
 renamed-labels-in s (decl (PR at n fs b) ds) σ h = (tt, renamed-labels-in s ds σ (h .1))
 
 pub renamed-labels : (ds : Decls) (ss : Stmts) (σ τ : Replacement) → LabelsIn (length (stmts ss)) ds → LabelsIn (length (stmts (renameStmts ss σ))) (renameDecls ds τ)
-renamed-labels ds ss σ τ h = rw (renamed-length ss σ) (renamed-labels-in (length (stmts ss)) ds τ h)
+renamed-labels ds ss σ τ h = rw (stmts-length ss σ) (renamed-labels-in (length (stmts ss)) ds τ h)
 
 kept-written : (formals : List ℕ) (ds : Decls) (ss : Stmts) (σ : Replacement) → Written formals ds ss →
     Written formals (renameDecls ds (without (formals ++ map declName (decls ds)) σ)) (renameStmts ss (without (formals ++ map declName (decls ds)) σ))
@@ -121,7 +87,7 @@ kept-written formals ds ss σ w =
     record {
       formals-small = w .formals-small;
       small = rw (kept-names formals ds σ) (w .small);
-      apart = rw (kept-names formals ds σ) (w .apart);
+      once = rw (kept-names formals ds σ) (w .once);
       labels = renamed-labels ds ss τ τ (w .labels);
     }
 
@@ -156,7 +122,7 @@ keeps-block : (fs : List Formal) (ds : Decls) (ss : Stmts) (σ : Replacement) (K
     Keeps (without (formalNames fs ++ map declName (decls ds)) σ) (ownKinds fs ds ++ K) (ownKinds fs ds ++ K′)
 keeps-block fs ds ss σ K K′ keeps w =
     rw (keys-own fs ds) at (keeps-inside σ K K′ (ownKinds fs ds) keeps
-    (rw (keys-own fs ds) (below-append (formalNames fs) (map declName (decls ds)) (w .formals-small) (w .small))))
+    (rw (keys-own fs ds) (each-append (λ n. n < 65536) (formalNames fs) (map declName (decls ds)) (w .formals-small) (w .small))))
 
 -- renaming keeps text closed
 mutual

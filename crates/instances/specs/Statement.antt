@@ -1,5 +1,5 @@
 -- What is proved of every name that a statement uses as it is done, and how it is said. Theorems.antt proves it.
-use Prim.Native.Nat.{ℕ, _≤_, _<_}
+use Prim.Native.Nat.{ℕ, _≤_}
 use mathlib.Core.List.{List, [], _∷_, map, List·Memᴰ}
 use mathlib.Core.Option.{Option, none, some}
 use mathlib.Core.Path.{_≡_}
@@ -9,6 +9,7 @@ use Rattle.language.specs.Text.{Kind, variable, label, procedure, Action, CL, G
 use Rattle.language.specs.Check.{check, accepted}
 use Rattle.language.specs.Table.{Table}
 use Rattle.language.specs.Machine.{Activation, State, Limits, Instance, instance, nextStmt, run, start}
+use Rattle.grammar.specs.Rules.{Bytes}
 
 -- the names that a statement uses, each with the kind wanted; of CL's arguments any kind will do
 unfoldable pub usesOf : Action → List (ℕ × Option Kind)
@@ -32,9 +33,6 @@ pub record Stands (s : State) (name : ℕ) (wanted : Option Kind) : Type 0 where
   pub it : Instance
   pub found : instance s name ≡ some it
   pub serves : Serves wanted (declKind (it .decl))
-
-abbrev pub Bytes : List ℕ → Type 0
-Bytes bs = (b : ℕ) → List·Memᴰ b bs → b < 256
 
 -- the state that a run of an accepted script has come to after at most n steps
 abbrev pub after : Limits → ℕ → Block → Table → State

@@ -7,11 +7,12 @@ use Rattle.language.specs.Text.{Kind, Block, DO}
 use Rattle.language.specs.Check.{check, accepted}
 use Rattle.language.specs.Table.{Table}
 use Rattle.language.specs.Machine.{State, Limits, start}
-use Rattle.instances.specs.Statement.{usesOf, Serves, Stands, Bytes, after, EveryUseStands, DeclaredOnce}
+use Rattle.grammar.specs.Rules.{Bytes}
+use Rattle.instances.specs.Statement.{usesOf, Serves, Stands, after, EveryUseStands, DeclaredOnce}
 use Rattle.instances.specs.Closed.{Kinds, Used, AllUsed, InStmt}
-use Rattle.instances.specs.Reading.{accepted-closed}
-use Rattle.instances.specs.Invariant.{liveKinds, Invariant, stacked-between}
-use Rattle.instances.specs.Found.{instance-of}
+use Rattle.instances.specs.Accepted.{accepted-closed}
+use Rattle.instances.specs.Invariant.{liveKinds, Invariant}
+use Rattle.instances.specs.Found.{instance-of, between}
 use Rattle.instances.specs.Steps.{started, next-closed, run-keeps}
 use Rattle.instances.specs.Once.{one-place}
 
@@ -29,7 +30,7 @@ pub stands : (s : State) (name : ℕ) (wanted : Option Kind) → Invariant s →
 stands s name wanted inv u =
     let i = instance-of s name (u .kind) (u .seen) in
     record {
-      new = stacked-between [] 65536 (s .live) (s .fresh) (inv .stacked) name (u .kind) (u .seen) .0;
+      new = between s inv name (u .kind) (u .seen) .0;
       it = i .0;
       found = i .1;
       serves = subst (λ (k : Kind). Serves wanted k) (sym (i .2)) (u .serves);
@@ -45,4 +46,4 @@ every-use-stands bs t bytes e l table n a at x last next name wanted m =
 pub declared-once : DeclaredOnce
 declared-once bs t bytes e l table n i j p q a b name =
     let s : State = after l n t table in
-    one-place [] 65536 (s .live) (s .fresh) (always bs t bytes e l table n .stacked) i j p q a b name
+    one-place s (always bs t bytes e l table n) i j p q a b name

@@ -3,7 +3,7 @@
 use Prim.Native.Nat.{ℕ, zero, suc, _+_, _*_}
 use native.Mathlib.Omega.{arith}
 use mathlib.Core.Path.{_≡_, refl, ap, subst}
-use mathlib.Core.Bool.{Bool, true, false}
+use mathlib.Core.Bool.{Bool, true}
 use mathlib.Core.List.{List, [], _∷_}
 use lib.Dec.{leb}
 use lib.ListN.{length, getD, length-map}
@@ -11,25 +11,22 @@ use borrow.Author.Tests.{leb-true}
 use Rattle.language.specs.Text.{Formal, Action, CL, GO, IF, KN, AR, AD, RM, QY, Block, block, VR, LB, PR, BK, DO, Decls, no-decl, decl, no-stmt, stmt, decls, declName, formalNames}
 use Rattle.language.specs.Encoding.{fieldsOf, signed}
 use Rattle.language.specs.Structure.{Reading, read, refuse, Reader, _>>=_, _>>_, give, require, fields, DeclMark, isVR, isLB, isPR, StmtMark, isBK, isCL, isGO, isIF, isKN, isAR, isAD, isRM, isQY, blockMarks, declMarks, stmtMarks, take-record, operation, formals, BlockReader, declared, declarations, action, stated, statements, blockWith, program}
-use Rattle.language.specs.Scope.{Verdict, fine, wrong, judgeBlock}
-use Rattle.language.specs.Check.{Checked, accepted, refused, lengthFits, judged, ended, check}
+use Rattle.language.specs.Check.{accepted, check}
 use Rattle.language.specs.declared.Refusal.{Refusal}
-use Rattle.language.specs.declared.Refusal.the-variants.{TooManyNames, ScriptLength}
+use Rattle.language.specs.declared.Refusal.the-variants.{TooManyNames}
+use Rattle.grammar.specs.Readers.{Yields, yields-bind, yields-require}
+use Rattle.grammar.specs.Accepting.{accepted-read}
 use Rattle.runs.specs.Names.{FitsBlock, FitsDecl, FitsStmt, FitsDecls, FitsStmts}
 
-abbrev pub Reads : {A : Type 0} → (A → Type 0) → Reading A → Type 0
-Reads P (read a at ws) = P a
-Reads P (refuse c o) = Unit {0}
-
 abbrev pub Gives : {A : Type 0} → (A → Type 0) → Reader A → Type 0
-Gives P m = (at : ℕ) (ws : List ℕ) → Reads P (m at ws)
+Gives P m = (at : ℕ) (ws : List ℕ) → Yields (λ a o vs. P a) (m at ws)
 
 module _ {A : Type 0} where
   anything : (m : Reader A) → Gives (λ a. Unit {0}) m
   anything m at ws = go (m at ws)
     where
-      go : (r : Reading A) → Reads (λ a. Unit {0}) r
-      go (read a at′ ws′) = tt
+      go : (r : Reading A) → Yields (λ a o vs. Unit {0}) r
+      go (read a o vs) = tt
       go (refuse c o) = tt
 
   gives : (P : A → Type 0) (a : A) → P a → Gives P (give a)
@@ -38,12 +35,7 @@ module _ {A : Type 0} where
 
   module _ {B : Type 0} where
     gives-then : (P : A → Type 0) (Q : B → Type 0) (m : Reader A) (f : A → Reader B) → Gives P m → ((a : A) → P a → Gives Q (f a)) → Gives Q (m >>= f)
-    unfolding _>>=_
-    gives-then P Q m f h k at ws = go (m at ws) (h at ws)
-      where
-        go : (r : Reading A) → Reads P r → Reads Q (elim r as (λ x. Reading B) [ read a at′ ws′ ↦ f a at′ ws′ | refuse c o ↦ refuse c o ])
-        go (read a at′ ws′) p = k a p at′ ws′
-        go (refuse c o) p = tt
+    gives-then P Q m f h k at ws = yields-bind m f (λ b o vs. Q b) (λ a o vs. P a) at ws (h at ws) (λ a o vs p. k a p o vs)
 
     -- a record's reading whose value does not matter
     gives-any : (Q : B → Type 0) (m : Reader A) (f : A → Reader B) → ((a : A) → Gives Q (f a)) → Gives Q (m >>= f)
@@ -55,9 +47,7 @@ module _ {A : Type 0} where
 
 -- what is read after a test is read where it holds
 gives-required : {B : Type 0} (Q : B → Type 0) (t : Bool) (c : Refusal) (o : ℕ) (n : Reader B) → (t ≡ true → Gives Q n) → Gives Q (require t c o >> n)
-unfolding _>>_ _>>=_ require
-gives-required Q true c o n h = h refl
-gives-required Q false c o n h = λ at ws. tt
+gives-required Q t c o n h at ws = yields-require n t c o (λ b r vs. Q b) at ws (λ e. h e at ws)
 
 -- a reader of blocks that gives blocks that fit
 abbrev FitsReader : BlockReader → Type 0
@@ -128,29 +118,5 @@ program-fits : Gives (λ b. FitsBlock b 0) program
 unfolding program
 program-fits = gives-any (λ b. FitsBlock b 0) (take-record blockMarks) _ (λ b. blockWith-fits 16 (b .at) (getD (b .fields) 0 0) (getD (b .fields) 1 0) [])
 
--- a property of the program, where it is accepted
-abbrev Accepts : (Block → Type 0) → Checked → Type 0
-Accepts P (accepted t) = P t
-Accepts P (refused c o) = Unit {0}
-
-judged-fits : (t : Block) → FitsBlock t 0 → (v : Verdict) → Accepts (λ b. FitsBlock b 0) (judged t v)
-unfolding judged
-judged-fits t h fine = h
-judged-fits t h (wrong c o) = tt
-
-ended-fits : (r : Reading Block) → Reads (λ b. FitsBlock b 0) r → Accepts (λ b. FitsBlock b 0) (ended r)
-unfolding ended
-ended-fits (read t at []) h = judged-fits t h (judgeBlock t [] [])
-ended-fits (read t at (w ∷ ws)) h = tt
-ended-fits (refuse c o) h = tt
-
-check-fits : (bs : List ℕ) → Accepts (λ b. FitsBlock b 0) (check bs)
-unfolding check
-check-fits bs = go (lengthFits bs)
-  where
-    go : (t : Bool) → Accepts (λ b. FitsBlock b 0) (elim t as (λ x. Checked) [ true ↦ ended (program 0 (fieldsOf bs)) | false ↦ refused ScriptLength 0 ])
-    go true = ended-fits (program 0 (fieldsOf bs)) (program-fits 0 (fieldsOf bs))
-    go false = tt
-
 pub accepted-fits : (bs : List ℕ) (t : Block) → check bs ≡ accepted t → FitsBlock t 0
-accepted-fits bs t e = subst (Accepts (λ b. FitsBlock b 0)) e (check-fits bs)
+accepted-fits bs t e = accepted-read (λ b o ws. FitsBlock b 0) bs t e (program-fits 0 (fieldsOf bs)) .1

@@ -11,9 +11,10 @@ use Rattle.language.specs.Text.{Block, labelIndex, declFormals, declBody, forma
 use Rattle.language.specs.Table.{Table}
 use Rattle.language.specs.Copy.{Replacement}
 use Rattle.language.specs.Machine.{Activation, State, Instance, Limits, withLive, withTable, counted, resume, store, activation, enter, advance, instance, run, start}
+use Rattle.laws.specs.Lists.{butLast-length, replaced-length, getElem-bound}
+use Rattle.laws.specs.Instances.{found-at}
 use Rattle.runs.specs.Moves.{Kept, run-keeps}
 use Rattle.runs.specs.TableLaws.{add-length, remove-length}
-use Rattle.runs.specs.Instances.{butLast-length, replaced-length, instance-stands}
 
 words-stay : (l : Limits) (w : ℕ) → Kept l (λ s. length (s .table .words) ≡ w)
 unfolding withLive withTable store enter advance
@@ -35,8 +36,10 @@ enter-length s formals arguments b around = length-append (s .live) (activation 
 -- a jump drops what is above the label's instance, and that is live
 pub jump-length : (s : State) (x : ℕ) (i : Instance) (a : Activation) → instance s x ≡ some i → length (take (pred (i .number)) (s .live) ++ (a ∷ [])) ≤ length (s .live)
 jump-length s x i a e =
-    let h = instance-stands s x i e in
-    simp (length-append, length-take) (omega (arith, h .low, h .high))
+    let h = found-at s x i e in
+    let n = h .number-is in
+    let b = getElem-bound (s .live) (h .depth) (i .home) (h .home-at) in
+    simp (length-append, length-take) (omega arith)
 
 live-stays : (l : Limits) → Kept l (λ s. length (s .live) ≤ l .activations)
 unfolding withLive withTable store

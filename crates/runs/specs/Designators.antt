@@ -1,35 +1,27 @@
 -- A designator is at most 64 for each live activation plus 32, and its two parts can be told apart: the position is from 1 to 32.
-use Prim.Native.Nat.{ℕ, suc, _+_, _*_, _≤_, _<_}
+use Prim.Native.Nat.{ℕ, _+_, _*_, _≤_}
 use native.Mathlib.Omega.{arith}
-use mathlib.Core.Path.{_≡_, refl, subst}
-use mathlib.Core.Bool.{Bool, true, false}
-use mathlib.Core.List.{List, [], _∷_}
-use mathlib.Core.Option.{Option, none, some, Option·none-ne-some, Option·some-injective}
-use lib.Dec.{eqb}
+use mathlib.Core.Path.{_≡_, refl}
+use mathlib.Core.Option.{Option, none, some}
 use lib.ListN.{length}
-use Rattle.language.specs.Text.{Decl, blockDecls, declName}
-use Rattle.language.specs.Machine.{State, Instance, declaredAt, instance}
+use Rattle.language.specs.Text.{blockDecls}
+use Rattle.language.specs.Machine.{State, Instance, instance}
 use Rattle.language.specs.Sheet.{Found, designator, lookedUp, lookedUpDesignator}
-use Rattle.runs.specs.Instances.{instance-stands}
+use Rattle.laws.specs.Lists.{getElem-bound}
+use Rattle.laws.specs.Instances.{found-at}
 use Rattle.runs.specs.Names.{FitsState, block-names, instance-home}
-
-declaredAt-position : (x i : ℕ) (ds : List Decl) (p : ℕ × Decl) → declaredAt x i ds ≡ some p → (i ≤ p .0) × (p .0 < i + length ds)
-unfolding declaredAt
-declaredAt-position x i [] p e = absurd (Option·none-ne-some p e)
-declaredAt-position x i (d ∷ ds) p e = go (λ q. declaredAt-position x (suc i) ds p q) (eqb (declName d) x) e
-  where
-    go : (declaredAt x (suc i) ds ≡ some p → (suc i ≤ p .0) × (p .0 < suc i + length ds)) → (t : Bool) → elim t as (λ y. Option (ℕ × Decl)) [ true ↦ some (i, d) | false ↦ declaredAt x (suc i) ds ] ≡ some p → (i ≤ p .0) × (p .0 < i + suc (length ds))
-    go f true q = subst (λ (y : ℕ × Decl). (i ≤ y .0) × (y .0 < i + suc (length ds))) (Option·some-injective (i, d) p q) (omega arith, omega arith)
-    go f false q = let h = f q in (omega (arith, h .0), omega (arith, h .1))
 
 -- the number is of a live activation, from 1, and the position of one of its names, from 1
 pub instance-parts : (s : State) (x : ℕ) (i : Instance) → FitsState s → instance s x ≡ some i → (1 ≤ i .number) × (i .number ≤ length (s .live)) × (1 ≤ i .position) × (i .position ≤ 32)
 instance-parts s x i h e =
-    let st = instance-stands s x i e in
+    let f = found-at s x i e in
     let a = i .home in
-    let q = declaredAt-position x (suc (length (a .arguments))) (blockDecls (a .text)) (i .position, i .decl) (st .declared) in
+    let n = f .number-is in
+    let p = f .position-is in
+    let d = getElem-bound (s .live) (f .depth) a (f .home-at) in
+    let j = getElem-bound (blockDecls (a .text)) (f .index) (i .decl) (f .decl-at) in
     let b = block-names (a .text) (length (a .arguments)) (instance-home s x i e h) in
-    (st .low, omega (arith, st .high), omega (arith, q .0), omega (arith, q .1, b))
+    (omega arith, omega arith, omega arith, omega arith)
 
 pub designator-most : (s : State) (x : ℕ) → FitsState s → designator s x ≤ length (s .live) * 64 + 32
 unfolding designator

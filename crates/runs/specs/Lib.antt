@@ -9,9 +9,7 @@ pub mod Pairs
 pub mod TakingOut
 pub mod Rightness
 pub mod TableLaws
-pub mod Instances
 pub mod Bounds
-pub mod Every
 pub mod Names
 pub mod Accepted
 pub mod SheetWords

@@ -1,5 +1,6 @@
 -- What a step can do to the state: a property that each of the machine's moves keeps is kept by a step, and by a whole run.
--- `run-keeps` is the theorem: give a `Kept` for a property, and it holds of a run's final state if it held at first.
+-- `run-keeps` is the theorem: give a `Kept` for a property, and it holds of a run's final state if it held at first. `Known` is for a
+-- property that also says something, `U`, of each action as it is done.
 use Prim.Native.Nat.{ℕ, zero, suc, pred, _<_}
 use mathlib.Core.Path.{_≡_, refl}
 use mathlib.Core.Bool.{Bool, true, false, _&&_, cond}
@@ -30,43 +31,74 @@ pub record Kept (l : Limits) (P : State → Type 0) : Type 0 where
   pub added : (s : State) (g m : ℤ) → atLeastOne g && atLeastOne m ≡ true → holds g m (s .table) ≡ false → size g (s .table) < l .group → full (s .table) ≡ false → P s → P (withTable s (add g m (s .table)))
   pub removed : (s : State) (g m : ℤ) → P s → P (withTable s (remove g m (s .table)))
 
+pub record Known (l : Limits) (P : State → Type 0) (U : State → Action → Type 0) : Type 0 where
+  pub left : (s : State) (a : Activation) → last? (s .live) ≡ some a → P s → P (withLive s (butLast (s .live)))
+  pub advanced : (s : State) (a : Activation) (at : ℕ) (x : Action) → last? (s .live) ≡ some a → nextStmt a ≡ some (DO at x) → P s → P (advance s a) × U (advance s a) x
+  pub stored : (s : State) (x : ℕ) (z : ℤ) → P s → P (store s x z)
+  pub entered : (s : State) (a : Activation) (b : Block) → last? (s .live) ≡ some a → nextStmt a ≡ some (BK b) → length ((advance s a) .live) < l .activations → P s → P (enter (advance s a) [] [] b (a .reads))
+  pub called : (s : State) (p : ℕ) (xs : List ℕ) (i : Instance) → U s (CL p xs) → instance s p ≡ some i → agree (formalKinds (declFormals (i .decl))) (map (kindAt s) xs) ≡ true → length (s .live) < l .activations → P s → P (enter s (formalNames (declFormals (i .decl))) xs (declBody (i .decl)) (i .home .reads))
+  pub jumped : (s : State) (x : ℕ) (i : Instance) → U s (GO x) → instance s x ≡ some i → P s → P (withLive s (take (pred (i .number)) (s .live) ++ (resume (i .home) (labelIndex (i .decl)) ∷ [])))
+  -- an IF asks of its label what a GO does
+  pub branched : (s : State) (v x : ℕ) → U s (IF v x) → U s (GO x)
+  pub added : (s : State) (g m : ℤ) → atLeastOne g && atLeastOne m ≡ true → holds g m (s .table) ≡ false → size g (s .table) < l .group → full (s .table) ≡ false → P s → P (withTable s (add g m (s .table)))
+  pub removed : (s : State) (g m : ℤ) → P s → P (withTable s (remove g m (s .table)))
+
 -- a property of the state after a statement, where it did not stop
 abbrev pub After : (State → Type 0) → Done → Type 0
 After P (did s) = P s
 After P (stop c) = Unit {0}
 
-module _ (l : Limits) (P : State → Type 0) (k : Kept l P) where
-  jump-keeps : (s : State) (x : ℕ) → P s → P (jump s x)
+-- A property that a step keeps is kept by a run. `counts`: it does not depend on the count of steps.
+module _ (l : Limits) (P : State → Type 0) (keeps : (s : State) → P s → After P (step l s)) (counts : (s : State) → P s → P (counted s)) where
+  pub run-after : (n : ℕ) (s : State) → P s → P ((run l n s) .final)
+  unfolding run ends
+  run-after zero s h = go (s .live)
+    where
+      go : (as′ : List Activation) → P ((elim as′ as (λ x. Outcome) [ [] ↦ ends Finished 0 s | a ∷ rest ↦ ends Spent 0 s ]) .final)
+      go [] = h
+      go (a ∷ rest) = h
+  run-after (suc n) s h = go (λ (s′ : State) (q : P s′). run-after n (counted s′) (counts s′ q)) (s .live)
+    where
+      on : ((s′ : State) → P s′ → P ((run l n (counted s′)) .final)) → (d : Done) → After P d → P ((elim d as (λ x. Outcome) [ did s′ ↦ run l n (counted s′) | stop c ↦ ends (Stopped c) (nextOffset s) s ]) .final)
+      on f (did s′) q = f s′ q
+      on f (stop c) q = h
+
+      go : ((s′ : State) → P s′ → P ((run l n (counted s′)) .final)) → (as′ : List Activation) → P ((elim as′ as (λ x. Outcome) [ [] ↦ ends Finished 0 s | a ∷ rest ↦ elim (step l s) [ did s′ ↦ run l n (counted s′) | stop c ↦ ends (Stopped c) (nextOffset s) s ] ]) .final)
+      go f [] = h
+      go f (a ∷ rest) = on f (step l s) (keeps s h)
+
+module _ (l : Limits) (P : State → Type 0) (U : State → Action → Type 0) (k : Known l P U) where
+  jump-keeps : (s : State) (x : ℕ) → U s (GO x) → P s → P (jump s x)
   unfolding jump
-  jump-keeps s x h = go (instance s x) refl
+  jump-keeps s x u h = go (instance s x) refl
     where
       go : (o : Option Instance) → instance s x ≡ o → P (elim o [ none ↦ s | some i ↦ withLive s (take (pred (i .number)) (s .live) ++ (resume (i .home) (labelIndex (i .decl)) ∷ [])) ])
       go none e = h
-      go (some i) e = k .jumped s x i e h
+      go (some i) e = k .jumped s x i u e h
 
-  call-enters : (s : State) (p : ℕ) (xs : List ℕ) (i : Instance) → instance s p ≡ some i → agree (formalKinds (declFormals (i .decl))) (map (kindAt s) xs) ≡ true → P s → After P (enterIfRoom l s (formalNames (declFormals (i .decl))) xs (declBody (i .decl)) (i .home .reads))
+  call-enters : (s : State) (p : ℕ) (xs : List ℕ) (i : Instance) → U s (CL p xs) → instance s p ≡ some i → agree (formalKinds (declFormals (i .decl))) (map (kindAt s) xs) ≡ true → P s → After P (enterIfRoom l s (formalNames (declFormals (i .decl))) xs (declBody (i .decl)) (i .home .reads))
   unfolding enterIfRoom
-  call-enters s p xs i e a h = go (ltb (length (s .live)) (l .activations)) refl
+  call-enters s p xs i u e a h = go (ltb (length (s .live)) (l .activations)) refl
     where
       go : (t : Bool) → ltb (length (s .live)) (l .activations) ≡ t → After P (elim t [ true ↦ did (enter s (formalNames (declFormals (i .decl))) xs (declBody (i .decl)) (i .home .reads)) | false ↦ stop NoActivationLeft ])
-      go true r = k .called s p xs i e a (ltb-true _ _ r) h
+      go true r = k .called s p xs i u e a (ltb-true _ _ r) h
       go false r = tt
 
-  call-keeps : (s : State) (p : ℕ) (xs : List ℕ) → P s → After P (call l s p xs)
+  call-keeps : (s : State) (p : ℕ) (xs : List ℕ) → U s (CL p xs) → P s → After P (call l s p xs)
   unfolding call
-  call-keeps s p xs h = go (instance s p) refl
+  call-keeps s p xs u h = go (instance s p) refl
     where
       on : (i : Instance) → instance s p ≡ some i → (t : Bool) → agree (formalKinds (declFormals (i .decl))) (map (kindAt s) xs) ≡ t → After P (elim t [ true ↦ enterIfRoom l s (formalNames (declFormals (i .decl))) xs (declBody (i .decl)) (i .home .reads) | false ↦ stop ArgumentsDiffer ])
-      on i e true r = call-enters s p xs i e r h
+      on i e true r = call-enters s p xs i u e r h
       on i e false r = tt
 
       go : (o : Option Instance) → instance s p ≡ o → After P (elim o [ none ↦ did s | some i ↦ elim (agree (formalKinds (declFormals (i .decl))) (map (kindAt s) xs)) [ true ↦ enterIfRoom l s (formalNames (declFormals (i .decl))) xs (declBody (i .decl)) (i .home .reads) | false ↦ stop ArgumentsDiffer ] ])
       go none e = h
       go (some i) e = on i e (agree (formalKinds (declFormals (i .decl))) (map (kindAt s) xs)) refl
 
-  if-keeps : (s : State) (x : ℕ) → P s → (t : Bool) → After P (elim t [ true ↦ did s | false ↦ did (jump s x) ])
-  if-keeps s x h true = h
-  if-keeps s x h false = jump-keeps s x h
+  if-keeps : (s : State) (x : ℕ) → U s (GO x) → P s → (t : Bool) → After P (elim t [ true ↦ did s | false ↦ did (jump s x) ])
+  if-keeps s x u h true = h
+  if-keeps s x u h false = jump-keeps s x u h
 
   storeIfFits-keeps : (s : State) (x : ℕ) (z : ℤ) → P s → After P (storeIfFits s x z)
   unfolding storeIfFits
@@ -112,16 +144,16 @@ module _ (l : Limits) (P : State → Type 0) (k : Kept l P) where
       go false = tt
       go true = k .stored s x (cond (holds g m (s .table)) (pos 1) (pos 0)) h
 
-  doAction-keeps : (s : State) (a : Action) → P s → After P (doAction l s a)
+  doAction-keeps : (s : State) (a : Action) → U s a → P s → After P (doAction l s a)
   unfolding doAction
-  doAction-keeps s (CL p xs) h = call-keeps s p xs h
-  doAction-keeps s (GO x) h = jump-keeps s x h
-  doAction-keeps s (IF v x) h = if-keeps s x h (eqZ (value s v) (pos 0))
-  doAction-keeps s (KN t z) h = k .stored s t z h
-  doAction-keeps s (AR t o a b) h = storeIfFits-keeps s t (compute o (value s a) (value s b)) h
-  doAction-keeps s (AD g m) h = addPair-keeps s (value s g) (value s m) h
-  doAction-keeps s (RM g m) h = removePair-keeps s (value s g) (value s m) h
-  doAction-keeps s (QY t g m) h = queryPair-keeps s t (value s g) (value s m) h
+  doAction-keeps s (CL p xs) u h = call-keeps s p xs u h
+  doAction-keeps s (GO x) u h = jump-keeps s x u h
+  doAction-keeps s (IF v x) u h = if-keeps s x (k .branched s v x u) h (eqZ (value s v) (pos 0))
+  doAction-keeps s (KN t z) u h = k .stored s t z h
+  doAction-keeps s (AR t o a b) u h = storeIfFits-keeps s t (compute o (value s a) (value s b)) h
+  doAction-keeps s (AD g m) u h = addPair-keeps s (value s g) (value s m) h
+  doAction-keeps s (RM g m) u h = removePair-keeps s (value s g) (value s m) h
+  doAction-keeps s (QY t g m) u h = queryPair-keeps s t (value s g) (value s m) h
 
   doStmt-keeps : (s : State) (a : Activation) (x : Stmt) → last? (s .live) ≡ some a → nextStmt a ≡ some x → P s → After P (doStmt l (advance s a) a x)
   unfolding doStmt enterIfRoom
@@ -130,38 +162,31 @@ module _ (l : Limits) (P : State → Type 0) (k : Kept l P) where
       go : (t : Bool) → ltb (length ((advance s a) .live)) (l .activations) ≡ t → After P (elim t [ true ↦ did (enter (advance s a) [] [] b (a .reads)) | false ↦ stop NoActivationLeft ])
       go true r = k .entered s a b e n (ltb-true _ _ r) h
       go false r = tt
-  doStmt-keeps s a (DO at x) e n h = doAction-keeps (advance s a) x (k .advanced s a e h)
+  doStmt-keeps s a (DO at x) e n h = let r = k .advanced s a at x e n h in doAction-keeps (advance s a) x (r .1) (r .0)
 
   stepIn-keeps : (s : State) (a : Activation) → last? (s .live) ≡ some a → P s → After P (stepIn l s a)
   unfolding stepIn
   stepIn-keeps s a e h = go (nextStmt a) refl
     where
       go : (o : Option Stmt) → nextStmt a ≡ o → After P (elim o [ none ↦ did (withLive s (butLast (s .live))) | some x ↦ doStmt l (advance s a) a x ])
-      go none n = k .left s h
+      go none n = k .left s a e h
       go (some x) n = doStmt-keeps s a x e n h
 
-  pub step-keeps : (s : State) → P s → After P (step l s)
+  pub step-knows : (s : State) → P s → After P (step l s)
   unfolding step
-  step-keeps s h = go (last? (s .live)) refl
+  step-knows s h = go (last? (s .live)) refl
     where
       go : (o : Option Activation) → last? (s .live) ≡ o → After P (elim o [ none ↦ did s | some a ↦ stepIn l s a ])
       go none e = h
       go (some a) e = stepIn-keeps s a e h
 
-  -- `counts`: the property does not depend on the count of steps
-  pub run-keeps : ((s : State) → P s → P (counted s)) → (n : ℕ) (s : State) → P s → P ((run l n s) .final)
-  unfolding run ends
-  run-keeps counts zero s h = go (s .live)
-    where
-      go : (as′ : List Activation) → P ((elim as′ as (λ x. Outcome) [ [] ↦ ends Finished 0 s | a ∷ rest ↦ ends Spent 0 s ]) .final)
-      go [] = h
-      go (a ∷ rest) = h
-  run-keeps counts (suc n) s h = go (λ (s′ : State) (q : P s′). run-keeps counts n (counted s′) (counts s′ q)) (s .live)
-    where
-      on : ((s′ : State) → P s′ → P ((run l n (counted s′)) .final)) → (d : Done) → After P d → P ((elim d as (λ x. Outcome) [ did s′ ↦ run l n (counted s′) | stop c ↦ ends (Stopped c) (nextOffset s) s ]) .final)
-      on f (did s′) q = f s′ q
-      on f (stop c) q = h
+module _ (l : Limits) (P : State → Type 0) (k : Kept l P) where
+  known : Known l P (λ s a. Unit {0})
+  known =
+      record { left = λ s a e h. k .left s h; advanced = λ s a at x e n h. (k .advanced s a e h, tt); stored = k .stored; entered = k .entered; called = λ s p xs i u e g r h. k .called s p xs i e g r h; jumped = λ s x i u e h. k .jumped s x i e h; branched = λ s v x u. tt; added = k .added; removed = k .removed }
 
-      go : ((s′ : State) → P s′ → P ((run l n (counted s′)) .final)) → (as′ : List Activation) → P ((elim as′ as (λ x. Outcome) [ [] ↦ ends Finished 0 s | a ∷ rest ↦ elim (step l s) [ did s′ ↦ run l n (counted s′) | stop c ↦ ends (Stopped c) (nextOffset s) s ] ]) .final)
-      go f [] = h
-      go f (a ∷ rest) = on f (step l s) (step-keeps s h)
+  pub step-keeps : (s : State) → P s → After P (step l s)
+  step-keeps s h = step-knows l P (λ s′ a. Unit {0}) known s h
+
+  pub run-keeps : ((s : State) → P s → P (counted s)) → (n : ℕ) (s : State) → P s → P ((run l n s) .final)
+  run-keeps counts n s h = run-after l P step-keeps counts n s h

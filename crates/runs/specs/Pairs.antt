@@ -6,38 +6,16 @@ use native.Mathlib.Nat.{not-suc-le-zero, le-of-suc-le-suc}
 use native.Mathlib.Omega.{arith}
 use mathlib.Core.Logic.{_≢_, _⊎_, inl, inr}
 use mathlib.Core.Path.{_≡_, refl, sym, ap, ap₂, _∙_, subst}
-use mathlib.Core.Bool.{Bool, true, false, _&&_, cond, true≢false, false≢true, and-eq-true-iff}
+use mathlib.Core.Bool.{Bool, true, false, _&&_, cond, true≢false, and-eq-true-iff}
 use mathlib.Core.List.{List, [], _∷_}
 use mathlib.Core.Option.{Option, none, some}
 use lib.Dec.{leb}
-use lib.IntN.{ℤ, pos, negsuc}
+use lib.IntN.{ℤ, pos}
 use lib.ListN.{length, getD}
-use borrow.Author.Tests.{eqb-true, eq-eqb, leb-true, leb-false}
+use borrow.Author.Tests.{leb-true, leb-false}
 use Rattle.language.specs.Basics.{eqZ}
 use Rattle.language.specs.Table.{find, isSome, members}
-
--- Equality of numbers, as a test.
-pub eqZ-true : (a b : ℤ) → eqZ a b ≡ true → a ≡ b
-unfolding eqZ
-eqZ-true (pos a) (pos b) e = ap pos (eqb-true a b e)
-eqZ-true (pos a) (negsuc b) e = absurd (false≢true e)
-eqZ-true (negsuc a) (pos b) e = absurd (false≢true e)
-eqZ-true (negsuc a) (negsuc b) e = ap negsuc (eqb-true a b e)
-
-pub eqZ-refl : (a : ℤ) → eqZ a a ≡ true
-unfolding eqZ
-eqZ-refl (pos a) = eq-eqb a a refl
-eqZ-refl (negsuc a) = eq-eqb a a refl
-
-pub eqZ-false : (a b : ℤ) → eqZ a b ≡ false → a ≢ b
-eqZ-false a b e q = true≢false (sym (eqZ-refl a) ∙ ap (eqZ a) q ∙ e)
-
-pub ne-eqZ : (a b : ℤ) → a ≢ b → eqZ a b ≡ false
-ne-eqZ a b h = go (eqZ a b) refl
-  where
-    go : (t : Bool) → eqZ a b ≡ t → t ≡ false
-    go true e = absurd (h (eqZ-true a b e))
-    go false e = refl
+use Rattle.laws.specs.Tests.{eqZ-refl, eqZ-true, ne-eqZ}
 
 -- the two words of place i
 abbrev pub groupAt : ℕ → List ℤ → ℤ

@@ -8,7 +8,7 @@ use lib.ListN.{length, length-append, length-map}
 use Rattle.language.specs.Text.{blockDecls}
 use Rattle.language.specs.Machine.{Activation, State}
 use Rattle.language.specs.Sheet.{designator, declWord, activationWords, wordsOf, sheetWords}
-use Rattle.runs.specs.Every.{Every}
+use Rattle.laws.specs.Each.{Each}
 use Rattle.runs.specs.Names.{FitsActivation, FitsState, block-names}
 
 -- its BK's offset, its next statement number, and a word for each name
@@ -25,7 +25,7 @@ activation-words s a =
 pub activation-words-most : (s : State) (a : Activation) → FitsActivation a → length (activationWords s a) ≤ 34
 activation-words-most s a h = omega (arith, activation-words s a, block-names (a .text) (length (a .arguments)) h)
 
-words-most : (s : State) (as′ : List Activation) → Every FitsActivation as′ → length (wordsOf s as′) ≤ length as′ * 34
+words-most : (s : State) (as′ : List Activation) → Each FitsActivation as′ → length (wordsOf s as′) ≤ length as′ * 34
 unfolding wordsOf
 words-most s [] h = omega arith
 words-most s (a ∷ rest) h = omega (arith, length-append (activationWords s a) (wordsOf s rest), activation-words-most s a (h .0), words-most s rest (h .1))

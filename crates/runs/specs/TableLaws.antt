@@ -15,7 +15,8 @@ use borrow.Author.Tests.{ltb-false}
 use Rattle.language.specs.Basics.{eqZ}
 use Rattle.language.specs.Table.{Table, find, isSome, holds, members, size, atLeastOne, right, full, add, takeOut, fewer, remove}
 use Rattle.language.specs.Machine.{State, Limits, withLive, withTable, counted, store, enter, advance, run}
-use Rattle.runs.specs.Pairs.{eqZ-true, groupAt, memberAt, At, orElse, below-or, find-some, find-next, find-same, find-absent, find-present, absent, members-next, members-same}
+use Rattle.laws.specs.Tests.{eqZ-true}
+use Rattle.runs.specs.Pairs.{groupAt, memberAt, At, orElse, below-or, find-some, find-next, find-same, find-absent, find-present, absent, members-next, members-same}
 use Rattle.runs.specs.TakingOut.{takeOut-length, takeOut-place-before, takeOut-place-after, takeOut-members}
 use Rattle.runs.specs.Rightness.{Right, right-means, right-holds}
 use Rattle.runs.specs.Moves.{Kept, run-keeps}

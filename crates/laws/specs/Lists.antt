@@ -1,20 +1,15 @@
--- Laws of lists that the relation between the two machines leans on.
+-- Laws of lists: the last element, the element at an index, images.
 use Prim.Native.Nat.{ℕ, zero, suc, pred, _+_, _≤_, _<_}
 use native.Mathlib.Omega.{arith}
 use native.Mathlib.Nat.{not-suc-le-zero, le-of-suc-le-suc, zero-add, add-suc, suc-add}
 use mathlib.Core.Path.{_≡_, refl, sym, ap, ap₂, _∙_, subst}
 use mathlib.Core.List.{List, [], _∷_, _++_, map}
-use mathlib.Core.Option.{Option, none, some}
-use lib.ListN.{length, take, getD, set, getElem?, length-append}
+use mathlib.Core.Option.{Option, none, some, Option·map}
+use lib.ListN.{length, take, drop, getD, set, getElem?, length-append}
 use Rattle.language.specs.Basics.{last?, butLast}
+use Rattle.laws.specs.Tests.{none≢some, some-inj}
 
 module _ {ℓ} {A : Type ℓ} where
-  pub none≢some : {a : A} → Path (Option A) none (some a) → ⊥
-  none≢some e = let z : _≡_ {A = ℕ} 0 1 = cc in omega arith
-
-  pub some-inj : {a b : A} → Path (Option A) (some a) (some b) → a ≡ b
-  some-inj e = cc
-
   pub last-snoc : (l : List A) (a : A) → last? (l ++ (a ∷ [])) ≡ some a
   unfolding last?
   last-snoc [] a = refl
@@ -30,25 +25,35 @@ module _ {ℓ} {A : Type ℓ} where
   -- a list with a last element is all before it, and that one
   pub last-split : (l : List A) (a : A) → last? l ≡ some a → l ≡ butLast l ++ (a ∷ [])
   unfolding last? butLast
-  last-split [] a e = absurd (none≢some e)
+  last-split [] a e = none≢some e
   last-split (x ∷ []) a e = ap (_∷ []) (some-inj e)
   last-split (x ∷ y ∷ l) a e = ap (x ∷_) (last-split (y ∷ l) a e)
 
   pub last-none : (l : List A) → last? l ≡ none → l ≡ []
   unfolding last?
   last-none [] e = refl
-  last-none (x ∷ []) e = absurd (none≢some (sym e))
+  last-none (x ∷ []) e = none≢some (sym e)
   last-none (x ∷ y ∷ l) e = let h = last-none (y ∷ l) e in let z : _≡_ {A = ℕ} 0 1 = cc in absurd (omega arith)
 
-  -- the element at an index
-  pub getElem-append : (l m : List A) (k : ℕ) (a : A) → getElem? l k ≡ some a → getElem? (l ++ m) k ≡ some a
-  getElem-append [] m k a e = absurd (none≢some e)
-  getElem-append (x ∷ l) m zero a e = e
-  getElem-append (x ∷ l) m (suc k) a e = getElem-append l m k a e
+  pub butLast-length : (l : List A) → length (butLast l) ≤ length l
+  unfolding butLast
+  butLast-length [] = omega arith
+  butLast-length (x ∷ []) = omega arith
+  butLast-length (x ∷ y ∷ l) = omega (arith, butLast-length (y ∷ l))
 
-  pub getElem-snoc : (l : List A) (a : A) → getElem? (l ++ (a ∷ [])) (length l) ≡ some a
-  getElem-snoc [] a = refl
-  getElem-snoc (x ∷ l) a = getElem-snoc l a
+  -- replacing the last element keeps the length
+  pub replaced-length : (l : List A) (a b : A) → last? l ≡ some a → length (butLast l ++ (b ∷ [])) ≡ length l
+  replaced-length l a b e = length-append (butLast l) (b ∷ []) ∙ sym (length-append (butLast l) (a ∷ [])) ∙ ap length (sym (last-split l a e))
+
+  -- the element at an index
+  pub getElem-append : (l m : List A) (k : ℕ) → k < length l → getElem? (l ++ m) k ≡ getElem? l k
+  getElem-append [] m k h = absurd (not-suc-le-zero h)
+  getElem-append (x ∷ l) m zero h = refl
+  getElem-append (x ∷ l) m (suc k) h = getElem-append l m k (le-of-suc-le-suc h)
+
+  pub getElem-seam : (l : List A) (a : A) (m : List A) → getElem? (l ++ (a ∷ m)) (length l) ≡ some a
+  getElem-seam [] a m = refl
+  getElem-seam (x ∷ l) a m = getElem-seam l a m
 
   pub getElem-take : (l : List A) (m k : ℕ) → k < m → getElem? (take m l) k ≡ getElem? l k
   getElem-take [] zero k h = refl
@@ -58,7 +63,7 @@ module _ {ℓ} {A : Type ℓ} where
   getElem-take (x ∷ l) (suc m) (suc k) h = getElem-take l m k (le-of-suc-le-suc h)
 
   pub getElem-bound : (l : List A) (k : ℕ) (a : A) → getElem? l k ≡ some a → k < length l
-  getElem-bound [] k a e = absurd (none≢some e)
+  getElem-bound [] k a e = none≢some e
   getElem-bound (x ∷ l) zero a e = omega arith
   getElem-bound (x ∷ l) (suc k) a e = let h = getElem-bound l k a e in omega arith
 
@@ -68,12 +73,18 @@ module _ {ℓ} {A : Type ℓ} where
   getElem-in (x ∷ l) (suc k) h = getElem-in l k (le-of-suc-le-suc h)
 
   pub take-snoc : (l : List A) (k : ℕ) (a : A) → getElem? l k ≡ some a → take (suc k) l ≡ take k l ++ (a ∷ [])
-  take-snoc [] k a e = absurd (none≢some e)
+  take-snoc [] k a e = none≢some e
   take-snoc (x ∷ l) zero a e = ap (_∷ []) (some-inj e)
   take-snoc (x ∷ l) (suc k) a e = ap (x ∷_) (take-snoc l k a e)
 
+  -- a list is what is before an element, that one, and what is after it
+  pub getElem-split : (l : List A) (k : ℕ) (a : A) → getElem? l k ≡ some a → l ≡ take k l ++ (a ∷ drop (suc k) l)
+  getElem-split [] k a e = none≢some e
+  getElem-split (x ∷ l) zero a e = ap (_∷ l) (some-inj e)
+  getElem-split (x ∷ l) (suc k) a e = ap (x ∷_) (getElem-split l k a e)
+
   pub getD-elem : (l : List A) (k : ℕ) (a d : A) → getElem? l k ≡ some a → getD l k d ≡ a
-  getD-elem [] k a d e = absurd (none≢some e)
+  getD-elem [] k a d e = none≢some e
   getD-elem (x ∷ l) zero a d e = some-inj e
   getD-elem (x ∷ l) (suc k) a d e = getD-elem l k a d e
 
@@ -85,6 +96,21 @@ module _ {ℓ} {A : Type ℓ} where
   pub set-append-add : (xs ys : List A) (n : ℕ) (z : A) → set (xs ++ ys) (length xs + n) z ≡ xs ++ set ys n z
   set-append-add [] ys n z = rw zero-add
   set-append-add (x ∷ xs) ys n z = rw suc-add (ap (x ∷_) (set-append-add xs ys n z))
+
+pub lengths-append {ℓ} : {A B : Type ℓ} (xs xs′ : List A) (ys ys′ : List B) → length xs ≡ length ys → length xs′ ≡ length ys′ → length (xs ++ xs′) ≡ length (ys ++ ys′)
+lengths-append xs xs′ ys ys′ p q = rw (length-append xs xs′, length-append ys ys′) (omega arith)
+
+-- images
+module _ {A B : Type 0} (g : A → B) where
+  pub getElem?-map : (l : List A) (k : ℕ) → getElem? (map g l) k ≡ Option·map g (getElem? l k)
+  getElem?-map [] k = refl
+  getElem?-map (x ∷ l) zero = refl
+  getElem?-map (x ∷ l) (suc k) = getElem?-map l k
+
+  pub image-at : (l : List A) (k : ℕ) (b : B) → getElem? (map g l) k ≡ some b → (a : A) × (getElem? l k ≡ some a) × (b ≡ g a)
+  image-at [] k b e = none≢some e
+  image-at (x ∷ l) zero b e = (x, refl, sym (some-inj e))
+  image-at (x ∷ l) (suc k) b e = image-at l k b e
 
 -- images of a list under two functions that agree at its elements, all of them or all but one
 module _ {A B : Type 0} where

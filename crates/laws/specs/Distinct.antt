@@ -1,4 +1,4 @@
--- Names once: the reader asks of each name that it is not among those seen, the rule says that all of them are distinct.
+-- No number stands twice in a list: said of all of them together, or of each as it is met, that it is not among those seen.
 use Prim.Native.Nat.{ℕ}
 use mathlib.Core.Bool.{Bool, true, false, false≢true}
 use mathlib.Core.List.{List, [], _∷_, _++_}
@@ -7,36 +7,26 @@ use mathlib.Core.Path.{_≡_, refl, sym}
 use borrow.Author.Tests.{eqb-false, ne-eqb}
 use lib.Dec.{eqb}
 use Rattle.language.specs.Basics.{among}
-use Rattle.grammar.specs.Rules.{Each, Distinct}
-use Rattle.grammar.specs.Readers.{each-map}
+use Rattle.laws.specs.Each.{Each, each-map, each-pair, each-swap, each-append, each-first, each-second}
+
+abbrev pub Distinct : List ℕ → Type 0
+Distinct [] = Unit {0}
+Distinct (n ∷ ns) = Each (λ m. n ≢ m) ns × Distinct ns
 
 -- each is new where it is read, after those seen
 abbrev pub Fresh : List ℕ → List ℕ → Type 0
 Fresh seen [] = Unit {0}
 Fresh seen (n ∷ ns) = (among n seen ≡ false) × Fresh (n ∷ seen) ns
 
-abbrev Apart : ℕ → List ℕ → Type 0
+abbrev pub Apart : ℕ → List ℕ → Type 0
 Apart n ns = Each (λ m. n ≢ m) ns
-
-each-pair : {A : Type 0} (P Q : A → Type 0) (xs : List A) → Each P xs → Each Q xs → Each (λ x. P x × Q x) xs
-each-pair P Q [] h k = tt
-each-pair P Q (x ∷ xs) h k = ((h .0, k .0), each-pair P Q xs (h .1) (k .1))
-
-each-unit : {A : Type 0} (xs : List A) → Each (λ x. Unit {0}) xs
-each-unit [] = tt
-each-unit (x ∷ xs) = (tt, each-unit xs)
-
--- rows against columns
-each-swap : (R : ℕ → ℕ → Type 0) (xs ys : List ℕ) → Each (λ x. Each (λ y. R x y) ys) xs → Each (λ y. Each (λ x. R x y) xs) ys
-each-swap R [] ys h = each-unit ys
-each-swap R (x ∷ xs) ys h = each-pair (λ y. R x y) (λ y. Each (λ x′. R x′ y) xs) ys (h .0) (each-swap R xs ys (h .1))
 
 apart-swap : (xs ys : List ℕ) → Each (λ x. Apart x ys) xs → Each (λ y. Apart y xs) ys
 apart-swap xs ys h =
     each-map (λ y. Each (λ x. x ≢ y) xs) (λ y. Apart y xs) ys (λ y k. each-map (λ x. x ≢ y) (λ x. y ≢ x) xs (λ x n e. n (sym e)) k)
     (each-swap (λ x y. x ≢ y) xs ys h)
 
-among-apart : (n : ℕ) (xs : List ℕ) → among n xs ≡ false → Apart n xs
+pub among-apart : (n : ℕ) (xs : List ℕ) → among n xs ≡ false → Apart n xs
 unfolding among
 among-apart n [] e = tt
 among-apart n (x ∷ xs) e = go (eqb n x) refl (among-apart n xs)
@@ -45,7 +35,7 @@ among-apart n (x ∷ xs) e = go (eqb n x) refl (among-apart n xs)
     go true t k = absurd (false≢true (sym (rw (t, among) at e)))
     go false t k = (eqb-false n x t, k (rw (t, among) at e))
 
-apart-among : (n : ℕ) (xs : List ℕ) → Apart n xs → among n xs ≡ false
+pub apart-among : (n : ℕ) (xs : List ℕ) → Apart n xs → among n xs ≡ false
 unfolding among
 apart-among n [] h = refl
 apart-among n (x ∷ xs) h = rw (ne-eqb n x (h .0), among) (apart-among n xs (h .1))
@@ -66,20 +56,7 @@ apart-fresh seen (n ∷ ns) h d = (
   apart-fresh (n ∷ seen) ns (each-pair (λ m. m ≢ n) (λ m. Apart m seen) ns (each-map (λ m. n ≢ m) (λ m. m ≢ n) ns (λ m k e. k (sym e)) (d .0)) (h .1)) (d .1),
 )
 
--- a list of two parts
-each-append : (P : ℕ → Type 0) (xs ys : List ℕ) → Each P xs → Each P ys → Each P (xs ++ ys)
-each-append P [] ys h k = k
-each-append P (x ∷ xs) ys h k = (h .0, each-append P xs ys (h .1) k)
-
-pub each-first : (P : ℕ → Type 0) (xs ys : List ℕ) → Each P (xs ++ ys) → Each P xs
-each-first P [] ys h = tt
-each-first P (x ∷ xs) ys h = (h .0, each-first P xs ys (h .1))
-
-pub each-second : (P : ℕ → Type 0) (xs ys : List ℕ) → Each P (xs ++ ys) → Each P ys
-each-second P [] ys h = h
-each-second P (x ∷ xs) ys h = each-second P xs ys (h .1)
-
-distinct-append : (xs ys : List ℕ) → Distinct xs → Distinct ys → Each (λ x. Apart x ys) xs → Distinct (xs ++ ys)
+pub distinct-append : (xs ys : List ℕ) → Distinct xs → Distinct ys → Each (λ x. Apart x ys) xs → Distinct (xs ++ ys)
 distinct-append [] ys d e h = e
 distinct-append (x ∷ xs) ys d e h = (each-append (λ m. x ≢ m) xs ys (d .0) (h .0), distinct-append xs ys (d .1) e (h .1))
 
@@ -87,11 +64,11 @@ pub distinct-first : (xs ys : List ℕ) → Distinct (xs ++ ys) → Distinct xs
 distinct-first [] ys d = tt
 distinct-first (x ∷ xs) ys d = (each-first (λ m. x ≢ m) xs ys (d .0), distinct-first xs ys (d .1))
 
-distinct-second : (xs ys : List ℕ) → Distinct (xs ++ ys) → Distinct ys
+pub distinct-second : (xs ys : List ℕ) → Distinct (xs ++ ys) → Distinct ys
 distinct-second [] ys d = d
 distinct-second (x ∷ xs) ys d = distinct-second xs ys (d .1)
 
-distinct-apart : (xs ys : List ℕ) → Distinct (xs ++ ys) → Each (λ x. Apart x ys) xs
+pub distinct-apart : (xs ys : List ℕ) → Distinct (xs ++ ys) → Each (λ x. Apart x ys) xs
 distinct-apart [] ys d = tt
 distinct-apart (x ∷ xs) ys d = (each-second (λ m. x ≢ m) xs ys (d .0), distinct-apart xs ys (d .1))
 

@@ -1,0 +1,10 @@
+-- Laws of lists, options and tests, and of the small functions of `language`, that more than one crate of theorems leans on.
+pub mod Tests
+pub mod Kinds
+pub mod Lists
+pub mod Each
+pub mod Distinct
+pub mod Lookup
+pub mod Renaming
+pub mod Instances
+pub mod Rising
