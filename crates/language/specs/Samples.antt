@@ -1,4 +1,5 @@
 -- Sample scripts: those that document 01 marks *, and a few for rules that none of them would miss, in one table.
+-- docs/READINGS.md has the wrong readings that the rows rule out.
 -- `samples-hold` is the claim about all of them, for each engine; `computed-once` is the test that is computed.
 use Prim.Native.Nat.{ℕ, zero, suc, _+_, _-_, _*_, _/_, _<_}
 use native.Mathlib.Nat.{not-suc-le-zero, le-of-suc-le-suc}
