@@ -1,4 +1,5 @@
 -- Sample scripts: those that document 01 marks *, and a few for rules that none of them would miss, in one table.
+-- docs/READINGS.md has the wrong readings that the rows rule out.
 -- `samples-hold` is the claim about all of them, for each engine; `computed-once` is the test that is computed.
 use Prim.Native.Nat.{ℕ, zero, suc, _+_, _-_, _*_, _/_, _<_}
 use native.Mathlib.Nat.{not-suc-le-zero, le-of-suc-le-suc}
@@ -11,17 +12,26 @@ use Rattle.language.specs.Table.{Table}
 use Rattle.language.specs.Call.{Fed, Reply, Engine, copying, chain, display, reply}
 use Rattle.language.specs.Evaluation.{computed}
 use Rattle.language.specs.declared.Stop.the-variants.{ResultTooLarge, NoActivationLeft, NumberBelowOne, GroupFull, TableFull, ArgumentsDiffer}
-use Rattle.language.specs.declared.Refusal.the-variants.{ScriptLength, FieldRange, NameTwice, LimitRange, AreaTooShort, TableNotRight}
+use Rattle.language.specs.declared.Refusal.{Refusal}
+use Rattle.language.specs.declared.Refusal.the-variants.{ScriptLength, FieldRange, NestingDepth, TooManyNames, NameTwice, NotVisible, WrongKind, LimitRange, AreaTooShort, TableNotRight}
 use Rattle.language.specs.declared.End.{End}
 use Rattle.language.specs.declared.End.the-variants.{Finished, Spent, Stopped, Refused}
 use Rattle.language.specs.declared.Answer.{Answer}
 
--- A row: script, D, N, G, table and looked-up name; then end, steps, offset, pairs in use, designator, sheet and table words.
+-- What is lent to the engines of a row: to each just what it is due, or the row is about one engine, with so much of its own.
+pub data Lent : Type 0 where
+  in-full : Lent
+  only : Engine → Lent
+
+-- A row: script, D, N, G, what is lent and how many words the sheet is short, table and looked-up name; then end, steps, offset,
+-- pairs in use, designator, sheet and table words.
 pub record Sample : Type 0 where
   pub script : List ℕ
   pub activations : ℕ
   pub allowance : ℕ
   pub group : ℕ
+  pub lent : Lent
+  pub short : ℕ
   pub table : Table
   pub name : ℕ
   pub end : End
@@ -44,24 +54,32 @@ pub data Method : Type 0 where
   by-copying by-chain by-display : Method
 
 -- each engine with just the area that it is due
+unfoldable pub inFull : Method → Sample → Engine
+inFull by-copying r = copying (r .activations * (length (r .script) / 2))
+inFull by-chain r = chain (r .activations)
+inFull by-display r = display
+
 unfoldable pub engineOf : Method → Sample → Engine
-engineOf by-copying r = copying (r .activations * (length (r .script) / 2))
-engineOf by-chain r = chain (r .activations)
-engineOf by-display r = display
+engineOf m r = elim (r .lent) [ in-full ↦ inFull m r | only e ↦ e ]
 
 unfoldable pub linksFor : Method → Sample → ℕ
 linksFor by-copying r = 0
 linksFor by-chain r = r .links
 linksFor by-display r = 0
 
+unfoldable pub lentSheet : Sample → ℕ
+lentSheet r = r .activations * 34 - r .short
+
+unfoldable pub fed : Sample → Fed
+fed r =
+    record { script = r .script; activations = r .activations; allowance = r .allowance; group = r .group; tally = lentTally; table = r .table; name = r .name; sheet = replicate (lentSheet r) lentWord }
+
 unfoldable pub got : Method → Sample → Reply
-got m r =
-    reply (engineOf m r)
-    (record { script = r .script; activations = r .activations; allowance = r .allowance; group = r .group; tally = lentTally; table = r .table; name = r .name; sheet = replicate (r .activations * 34) lentWord })
+got m r = reply (engineOf m r) (fed r)
 
 unfoldable pub wanted : Method → Sample → Reply
 wanted m r =
-    record { answer = record { end = r .end; steps = r .steps; offset = r .offset; pairs = r .pairs; sheet = length (r .sheet); tally = lentTally + r .steps; designator = r .designator; links = linksFor m r }; sheet = r .sheet ++ replicate (r .activations * 34 - length (r .sheet)) lentWord; table = r .words }
+    record { answer = record { end = r .end; steps = r .steps; offset = r .offset; pairs = r .pairs; sheet = length (r .sheet); tally = lentTally + r .steps; designator = r .designator; links = linksFor m r }; sheet = r .sheet ++ replicate (lentSheet r - length (r .sheet)) lentWord; table = r .words }
 
 unfoldable pub noPairs : ℕ → List ℤ
 noPairs n = replicate (n * 2) (pos 0)
@@ -106,15 +124,48 @@ unfoldable pub script-crossed : List ℕ
 script-crossed =
     bytesOf (BK-mark ∷ 3 ∷ 1 ∷ VR-mark ∷ 1 ∷ VR-mark ∷ 2 ∷ PR-mark ∷ 3 ∷ 2 ∷ FM-mark ∷ 1 ∷ 0 ∷ FM-mark ∷ 2 ∷ 0 ∷ BK-mark ∷ 0 ∷ 1 ∷ KN-mark ∷ 1 ∷ 6 ∷ 0 ∷ CL-mark ∷ 3 ∷ 2 ∷ 2 ∷ 1 ∷ [])
 
+-- a procedure of name n and p formals after variable 1; the second formal stands twice and has no kind
+unfoldable pub script-procedure : ℕ → ℕ → List ℕ
+script-procedure n p =
+    bytesOf
+    (BK-mark ∷ 2 ∷ 0 ∷ VR-mark ∷ 1 ∷ PR-mark ∷ n ∷ p ∷ FM-mark ∷ 2 ∷ 0 ∷ FM-mark ∷ 2 ∷ 3 ∷ BK-mark ∷ 0 ∷ 0 ∷ [])
+
+-- a block of too many names inside k blocks
+unfoldable pub inside-blocks : ℕ → List ℕ
+inside-blocks zero = BK-mark ∷ 33 ∷ 0 ∷ []
+inside-blocks (suc k) = BK-mark ∷ 0 ∷ 1 ∷ inside-blocks k
+
+-- label 2 and one statement, at offset 12
+unfoldable pub script-use : List ℕ → List ℕ
+script-use statement = bytesOf (BK-mark ∷ 1 ∷ 1 ∷ LB-mark ∷ 2 ∷ 1 ∷ statement)
+
+-- variables 1 and 2 are 5 and 7; 3 := whether the pair is present; the pair taken out
+unfoldable pub script-pair : List ℕ
+script-pair =
+    bytesOf
+    (BK-mark ∷ 3 ∷ 4 ∷ VR-mark ∷ 1 ∷ VR-mark ∷ 2 ∷ VR-mark ∷ 3 ∷ KN-mark ∷ 1 ∷ 5 ∷ 0 ∷ KN-mark ∷ 2 ∷ 7 ∷ 0 ∷ QY-mark ∷ 3 ∷ 1 ∷ 2 ∷ RM-mark ∷ 1 ∷ 2 ∷ [])
+
+-- procedure 1 calls its formal with one argument, procedure 3 has no formals and is handed to 1
+unfoldable pub script-formal : List ℕ
+script-formal =
+    bytesOf
+    (BK-mark ∷ 2 ∷ 1 ∷ PR-mark ∷ 1 ∷ 1 ∷ FM-mark ∷ 2 ∷ 2 ∷ BK-mark ∷ 0 ∷ 1 ∷ CL-mark ∷ 2 ∷ 1 ∷ 2 ∷ PR-mark ∷ 3 ∷ 0 ∷ BK-mark ∷ 0 ∷ 0 ∷ CL-mark ∷ 1 ∷ 1 ∷ 3 ∷ [])
+
+-- in a block that declares the highest name: outer variable 1 := −1, then 1 := 1 < 65535
+unfoldable pub script-highest : List ℕ
+script-highest =
+    bytesOf
+    (BK-mark ∷ 1 ∷ 1 ∷ VR-mark ∷ 1 ∷ BK-mark ∷ 1 ∷ 2 ∷ VR-mark ∷ 65535 ∷ KN-mark ∷ 1 ∷ 65535 ∷ 65535 ∷ AR-mark ∷ 1 ∷ 2 ∷ 1 ∷ 65535 ∷ [])
+
 -- a call that runs to its end, or stops, from an empty table of eight pairs
 unfoldable pub ends-with : List ℕ → ℕ → End → ℕ → ℕ → List ℤ → Sample
 ends-with script d e n o ws =
-    record { script = script; activations = d; allowance = 1000; group = 3; table = record { words = noPairs 8; used = 0 }; name = 9; end = e; steps = n; offset = o; pairs = 0; designator = 0; links = 0; sheet = ws; words = noPairs 8 }
+    record { script = script; activations = d; allowance = 1000; group = 3; lent = in-full; short = 0; table = record { words = noPairs 8; used = 0 }; name = 9; end = e; steps = n; offset = o; pairs = 0; designator = 0; links = 0; sheet = ws; words = noPairs 8 }
 
 -- script A with group limit, table and its count; what comes of it
 unfoldable pub of-A : ℕ → List ℤ → ℕ → End → ℕ → ℕ → ℕ → List ℤ → List ℤ → Sample
 of-A g table used e n o pairs ws table′ =
-    record { script = script-A; activations = 16; allowance = 1000; group = g; table = record { words = table; used = used }; name = 9; end = e; steps = n; offset = o; pairs = pairs; designator = 0; links = 0; sheet = ws; words = table′ }
+    record { script = script-A; activations = 16; allowance = 1000; group = g; lent = in-full; short = 0; table = record { words = table; used = used }; name = 9; end = e; steps = n; offset = o; pairs = pairs; designator = 0; links = 0; sheet = ws; words = table′ }
 
 -- script A stopped at its AD, which stands at offset 30
 unfoldable pub A-stopped : List ℤ
@@ -123,7 +174,21 @@ A-stopped = pos 0 ∷ pos 3 ∷ pos 5 ∷ pos 7 ∷ []
 -- a spent run, with the looked-up name
 unfoldable pub spent-at : List ℕ → ℕ → ℕ → ℕ → ℕ → List ℤ → Sample
 spent-at script n name designator links ws =
-    record { script = script; activations = 16; allowance = n; group = 3; table = record { words = noPairs 8; used = 0 }; name = name; end = Spent; steps = n; offset = 0; pairs = 0; designator = designator; links = links; sheet = ws; words = noPairs 8 }
+    record { script = script; activations = 16; allowance = n; group = 3; lent = in-full; short = 0; table = record { words = noPairs 8; used = 0 }; name = name; end = Spent; steps = n; offset = 0; pairs = 0; designator = designator; links = links; sheet = ws; words = noPairs 8 }
+
+-- a refused call with N at its highest: script, G, what is lent, words short, table; cause and offset
+unfoldable pub refused-with : List ℕ → ℕ → Lent → ℕ → Table → Refusal → ℕ → Sample
+refused-with script g lent short t c o =
+    record { script = script; activations = 16; allowance = 1000000; group = g; lent = lent; short = short; table = t; name = 9; end = Refused c; steps = 0; offset = o; pairs = t .used; designator = 0; links = 0; sheet = []; words = t .words }
+
+-- the script is empty and a number of the table is 0; G, what is lent and words short vary
+unfoldable pub all-wrong : ℕ → Lent → ℕ → Refusal → Sample
+all-wrong g lent short c = refused-with script-empty g lent short (record { words = pos 6 ∷ pos 0 ∷ []; used = 1 }) c 0
+
+-- the first of three pairs in use taken out of four places
+unfoldable pub pair-taken-out : Sample
+pair-taken-out =
+    record { script = script-pair; activations = 16; allowance = 4; group = 3; lent = in-full; short = 0; table = record { words = pos 5 ∷ pos 7 ∷ pos 6 ∷ pos 1 ∷ pos 6 ∷ pos 2 ∷ pos 8 ∷ pos 9 ∷ []; used = 3 }; name = 3; end = Spent; steps = 4; offset = 0; pairs = 2; designator = 67; links = 0; sheet = pos 0 ∷ pos 5 ∷ pos 5 ∷ pos 7 ∷ pos 1 ∷ []; words = pos 6 ∷ pos 1 ∷ pos 6 ∷ pos 2 ∷ pos 0 ∷ pos 0 ∷ pos 8 ∷ pos 9 ∷ [] }
 
 unfoldable pub samples : List Sample
 samples =
@@ -138,7 +203,20 @@ samples =
     of-A 3 (pos 6 ∷ pos 1 ∷ []) 1 (Stopped TableFull) 2 30 1 A-stopped (pos 6 ∷ pos 1 ∷ []) ∷
     of-A 3 (pos 6 ∷ pos 1 ∷ noPairs 1) 1 Finished 4 0 2 [] (pos 6 ∷ pos 1 ∷ pos 5 ∷ pos 7 ∷ []) ∷
     of-A 3 (pos 6 ∷ pos 0 ∷ []) 1 (Refused TableNotRight) 0 0 1 [] (pos 6 ∷ pos 0 ∷ []) ∷
-    of-A 0 (noPairs 8) 0 (Refused LimitRange) 0 0 0 [] (noPairs 8) ∷
+    -- 14 for a pair that stands twice, and for a group above G
+    of-A 3 (pos 5 ∷ pos 7 ∷ pos 5 ∷ pos 7 ∷ []) 2 (Refused TableNotRight) 0 0 2 [] (pos 5 ∷ pos 7 ∷ pos 5 ∷ pos 7 ∷ []) ∷
+    of-A 1 (pos 6 ∷ pos 1 ∷ pos 6 ∷ pos 2 ∷ []) 2 (Refused TableNotRight) 0 0 2 [] (pos 6 ∷ pos 1 ∷ pos 6 ∷ pos 2 ∷ []) ∷
+    -- 24 before 25
+    of-A 1 (pos 5 ∷ pos 8 ∷ []) 1 (Stopped GroupFull) 2 30 1 A-stopped (pos 5 ∷ pos 8 ∷ []) ∷
+    -- group before member; later pairs keep their order, words past the count their places
+    pair-taken-out ∷
+    -- 12 before 13; 13 for one word of sheet or one record too few, before 14 and 1
+    all-wrong 0 (only (chain 15)) 1 LimitRange ∷
+    all-wrong 65535 in-full 1 AreaTooShort ∷
+    all-wrong 65535 (only (chain 15)) 0 AreaTooShort ∷
+    -- 13 for a copying area one word too short; 9 before it
+    refused-with script-A 65535 (only (copying 287)) 0 (record { words = []; used = 0 }) AreaTooShort 0 ∷
+    refused-with (script-use (GO-mark ∷ 9 ∷ [])) 65535 (only (copying 0)) 0 (record { words = []; used = 0 }) NotVisible 12 ∷
     spent-at script-B 9 5 130 1
     (pos 0 ∷ pos 2 ∷ pos 1 ∷ pos 0 ∷ pos 0 ∷ pos 34 ∷ pos 5 ∷ pos 66 ∷ pos 9 ∷ pos 0 ∷ pos 0 ∷ pos 34 ∷ pos 7 ∷ pos 131 ∷ pos 2 ∷ pos 0 ∷ pos 0 ∷ pos 50 ∷ pos 2 ∷ []) ∷
     ends-with (script-arithmetic 65535 32767 1 0 0) 16 (Stopped ResultTooLarge) 2 30 (pos 0 ∷ pos 3 ∷ pos 2147483647 ∷ pos 1 ∷ []) ∷
@@ -148,15 +226,27 @@ samples =
     ends-with script-nested 1 (Stopped NoActivationLeft) 0 6 (pos 0 ∷ pos 1 ∷ []) ∷
     ends-with script-nested 2 Finished 3 0 [] ∷
     ends-with script-order 16 (Refused FieldRange) 0 10 [] ∷
+    -- PR: 7 before 8, and both before its formals; FM: 4 before 8; 6 before 7
+    ends-with (script-procedure 1 33) 16 (Refused TooManyNames) 0 10 [] ∷
+    ends-with (script-procedure 1 2) 16 (Refused NameTwice) 0 10 [] ∷
+    ends-with (script-procedure 3 2) 16 (Refused FieldRange) 0 22 [] ∷
+    ends-with (bytesOf (inside-blocks 16)) 16 (Refused NestingDepth) 0 96 [] ∷
+    -- left to right, each name by 9 and then 10: the first is no variable, or no procedure, the second not visible
+    ends-with (script-use (IF-mark ∷ 2 ∷ 9 ∷ [])) 16 (Refused WrongKind) 0 12 [] ∷
+    ends-with (script-use (CL-mark ∷ 2 ∷ 1 ∷ 9 ∷ [])) 16 (Refused WrongKind) 0 12 [] ∷
+    -- 26 before 22
+    ends-with script-formal 2 (Stopped ArgumentsDiffer) 1 24 (pos 0 ∷ pos 2 ∷ pos 0 ∷ pos 0 ∷ pos 18 ∷ pos 1 ∷ pos 66 ∷ []) ∷
     spent-at script-goto 3 2 66 0 (pos 0 ∷ pos 2 ∷ pos 0 ∷ pos 0 ∷ []) ∷
-    spent-at script-crossed 2 1 66 0 (pos 0 ∷ pos 2 ∷ pos 0 ∷ pos 6 ∷ pos 0 ∷ pos 32 ∷ pos 2 ∷ pos 66 ∷ pos 65 ∷ []) ∷ []
+    spent-at script-crossed 2 1 66 0 (pos 0 ∷ pos 2 ∷ pos 0 ∷ pos 6 ∷ pos 0 ∷ pos 32 ∷ pos 2 ∷ pos 66 ∷ pos 65 ∷ []) ∷
+    -- new names lie above 65,535; less goes by sign
+    spent-at script-highest 3 65535 129 0 (pos 0 ∷ pos 2 ∷ pos 1 ∷ pos 10 ∷ pos 3 ∷ pos 0 ∷ []) ∷ []
 
 -- the first row stands for what lies past the end
 unfoldable pub row : ℕ → Sample
 row k = getD samples k (ends-with script-empty 16 (Refused ScriptLength) 0 0 [])
 
 computed-once : (m : Method) → map (got m) samples ≡ map (wanted m) samples
-unfolding computed lentTally lentWord engineOf linksFor got wanted noPairs script-empty script-null script-A script-B script-arithmetic script-nested script-order script-goto script-crossed ends-with of-A A-stopped spent-at samples
+unfolding computed lentTally lentWord inFull engineOf linksFor lentSheet fed got wanted noPairs script-empty script-null script-A script-B script-arithmetic script-nested script-order script-goto script-crossed script-procedure inside-blocks script-use script-pair script-formal script-highest ends-with of-A A-stopped spent-at refused-with all-wrong pair-taken-out samples
 computed-once by-copying = refl
 computed-once by-chain = refl
 computed-once by-display = refl
