@@ -2,7 +2,7 @@
 -- Assumes nothing.
 use mathlib.Core.Path.{_≡_, refl, sym, _∙_, ap, subst}
 use mathlib.Core.List.{List}
-use Prim.Native.Nat.{ℕ, _+_, _*_, _<_, _≤_}
+use Prim.Native.Nat.{ℕ, _+_, _*_, _%_, _<_, _≤_}
 use native.Mathlib.Omega.{arith}
 use native.Mathlib.Decide.{decLe}
 use lib.ListN.{length, getD, take}
@@ -19,8 +19,8 @@ use Rattle.records.specs.declared.Reading.the-variants.{Taken, Refused}
 use Rattle.records.proofs.Taking.{no-mark, misplaced, cut-off, whole}
 
 -- what is left after a record is what stands from its end on
-abbrev Sound : {M : Type 0} → List ℕ → ℕ → Outcome (Record M) → Type 0
-Sound bs at (read r next ws) = (r .at ≡ at) × (ws ≡ unread bs next) × (at + 2 ≤ next) × (next ≤ length bs)
+abbrev pub Sound : {M : Type 0} → List ℕ → ℕ → Outcome (Record M) → Type 0
+Sound bs at (read r next ws) = (r .at ≡ at) × (ws ≡ unread bs next) × (at + 2 ≤ next) × (next ≤ length bs) × (next % 2 ≡ at % 2)
 Sound bs at (refuse c o) = Unit {0}
 
 module _ {M : Type 0} (rows : List (Row M)) (bs : List ℕ) (at : ℕ) where
@@ -29,7 +29,7 @@ module _ {M : Type 0} (rows : List (Row M)) (bs : List ℕ) (at : ℕ) where
 
   -- by whether the mark is there, whether it fits, and whether its fields are there
   by-fields : (n : ℕ) (m : Mark) → at + 2 ≤ length bs → fitIn anyMark (two (getD bs at 0) (getD bs (at + 1) 0)) rows ≡ Found n m → Dec (at + 2 + 2 * n ≤ length bs) → Sound bs at (take-record rows at (unread bs at))
-  by-fields n m h e (yes fits) = rw (whole rows bs at anyMark n m h e fits) (refl, refl, omega arith, fits)
+  by-fields n m h e (yes fits) = rw (whole rows bs at anyMark n m h e fits) (refl, refl, omega arith, fits, omega arith)
   by-fields n m h e (no short) = rw (cut-off rows bs at anyMark n m h e (omega arith)) tt
 
   by-fit : (x : Fit) → at + 2 ≤ length bs → fitIn anyMark (two (getD bs at 0) (getD bs (at + 1) 0)) rows ≡ x → Sound bs at (take-record rows at (unread bs at))
@@ -40,7 +40,7 @@ module _ {M : Type 0} (rows : List (Row M)) (bs : List ℕ) (at : ℕ) where
   by-mark (yes h) = by-fit (fitIn anyMark (two (getD bs at 0) (getD bs (at + 1) 0)) rows) h refl
   by-mark (no h) = rw (no-mark rows bs at (omega arith)) tt
 
-  sound : Sound bs at (take-record rows at (unread bs at))
+  pub sound : Sound bs at (take-record rows at (unread bs at))
   sound = by-mark (decLe (at + 2) (length bs))
 
 -- the definitions' record behind the code's

@@ -76,6 +76,10 @@ Within n at (Taken m next f0 f1 f2 f3) =
 Within n at (Refused c o) = Unit {0}
 
 -- where reading goes on, whatever was read
+abbrev pub progressOf : Reading → Progress
+progressOf (Taken m next f0 f1 f2 f3) = Progress.At next
+progressOf (Refused c o) = Progress.Refused c o
+
 unfoldable pub forget : {A : Type 0} → Outcome A → Progress
 forget (read a at ws) = Progress.At at
 forget (refuse c o) = Progress.Refused c o

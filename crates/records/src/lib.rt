@@ -5,7 +5,7 @@ ghost use Prim.Native.Nat.{_+_, _*_, _<_, _≤_};
 ghost use lib.ListN.{length, getD, take};
 ghost use Rattle.language.specs.Encoding.{two};
 ghost use Rattle.language.specs.Structure.{fields};
-ghost use Rattle.records.specs.Taking.{unread, entryFits, fitAt, recordAt, Within, forget};
+ghost use Rattle.records.specs.Taking.{unread, entryFits, fitAt, recordAt, Within, progressOf, forget};
 
 pub enum Mark {
     BK,
@@ -279,6 +279,23 @@ pub fn read_record(script: &[u8], at: usize, place: Place) -> Reading
         f1,
         f2,
         f3,
+    }
+}
+
+// Where a reading goes on.
+pub fn onward(r: Reading) -> Progress
+    ensures { λ p. ⌜ p ≡ progressOf r ⌝ }
+{
+    match r {
+        Reading::Taken {
+            mark: _,
+            next,
+            f0: _,
+            f1: _,
+            f2: _,
+            f3: _,
+        } => Progress::At(next),
+        Reading::Refused(c, o) => Progress::Refused(c, o),
     }
 }
 
