@@ -1,0 +1,132 @@
+-- `vetting::formals` meets its contract: the formals done, whose names are held, come before those that are left. Assumes nothing.
+use mathlib.Core.Path.{_≡_, _∙_, sym, refl, ap}
+use mathlib.Core.List.{[], _++_, append-nil}
+use Prim.Native.Nat.{ℕ, _≤_, _+_, _-_}
+use native.Mathlib.Omega.{arith}
+use borrow.Author.Needs.{needs}
+use borrow.Author.Tests.{eq-eqb}
+use lib.ListN.{length, take, set, length-set}
+use Rattle.language.specs.Text.{formalNames}
+use Rattle.language.specs.Structure as definitions
+use Rattle.records.specs.declared.Progress.{Progress}
+use Rattle.records.specs.Taking.{unread, progressOf}
+use Rattle.vetting.specs.Naming.{namesAt}
+use Rattle.vetting.proofs.Names.{front-set}
+use Rattle.vetting.proofs.FormalLaws.{SoFar, at-start, refused-there, wrong-kind, named-twice, one-more, all-read, post-refused, post-read}
+use Rattle.vetting.proofs.formals.Statement.{statement}
+use Rattle.vetting.proofs.formals.Tie as tie
+
+abbrev Inv-loop : tie.InvT-loop
+Inv-loop script names₀ start p base at₀ i₀ names at i =
+    (i ≤ p) × (length names ≡ length names₀) × (take base names ≡ take base names₀) × SoFar script p start base names at i
+
+abbrev μ-loop : tie.MeasureT-loop
+μ-loop script names₀ start p base at₀ i₀ names at i = p - i
+
+loop-holds : tie.Need-loop-holds Inv-loop μ-loop
+loop-holds c = (search needs, refl, refl, at-start _ _ _ _ _)
+
+read-record-requires : tie.Need-read-record-requires Inv-loop μ-loop
+read-record-requires c κs = search needs
+
+enum-known-reading : tie.Need-enum-known-reading Inv-loop μ-loop
+enum-known-reading c = search needs
+
+enum-told : tie.Need-enum-told Inv-loop μ-loop
+enum-told c = search needs
+
+onward-requires : tie.Need-onward-requires Inv-loop μ-loop
+onward-requires c κs = search needs
+
+same-length : tie.Need-same-length Inv-loop μ-loop
+same-length c = c .before .before .before .before .before .loop .inv .1
+
+returns : tie.Need-returns Inv-loop μ-loop
+returns c =
+    let a = c .before .before .before .before .before .before .before .before .args in
+    let w = refused-there (a .script .now) (a .p) (a .start) (a .base) (c .before .before .before .before .before .loop .names) (c .before .before .before .before .before .loop .at) (c .before .before .before .before .before .loop .i) (c .before .before .before .before .before .loop .inv .3) (c .before .before .before .before .loop-test .taken) (sym (c .before .before .before .read-record .ensures .0) ∙ c .before .enum-told .given .1) in
+    let q = post-refused _ (namesAt (c .before .before .before .before .before .loop .names) (a .base) (a .p)) w in
+    (c .onward .ensures ∙ ap progressOf (c .before .enum-told .given .1) ∙ q .0, (q .1, c .before .before .before .before .before .loop .inv .2))
+
+same-length-2 : tie.Need-same-length-2 Inv-loop μ-loop
+same-length-2 c = c .before .before .before .before .before .before .loop .inv .1
+
+returns-2 : tie.Need-returns-2 Inv-loop μ-loop
+returns-2 c =
+    let a = c .before .before .before .before .before .before .before .before .before .args in
+    let w = wrong-kind (a .script .now) (a .p) (a .start) (a .base) (c .before .before .before .before .before .before .loop .names) (c .before .before .before .before .before .before .loop .at) (c .before .before .before .before .before .before .loop .i) (c .before .before .before .before .before .before .loop .inv .3) (c .before .before .before .before .before .loop-test .taken) (sym (c .before .before .before .before .read-record .ensures .0) ∙ c .before .before .reading .given .1) (c .if1 .taken) in
+    let q = post-refused _ (namesAt (c .before .before .before .before .before .before .loop .names) (a .base) (a .p)) w in
+    (q .0, (q .1, c .before .before .before .before .before .before .loop .inv .2))
+
+seen-requires : tie.Need-seen-requires Inv-loop μ-loop
+seen-requires c κs = omega (arith, c .before .before .before .before .before .before .before .loop .inv)
+
+same-length-3 : tie.Need-same-length-3 Inv-loop μ-loop
+same-length-3 c = c .before .before .before .before .before .before .before .before .before .loop .inv .1
+
+returns-3 : tie.Need-returns-3 Inv-loop μ-loop
+returns-3 c =
+    let a = c .before .before .before .before .before .before .before .before .before .before .before .before .args in
+    let w = named-twice (a .script .now) (a .p) (a .start) (a .base) (c .before .before .before .before .before .before .before .before .before .loop .names) (c .before .before .before .before .before .before .before .before .before .loop .at) (c .before .before .before .before .before .before .before .before .before .loop .i) (c .before .before .before .before .before .before .before .before .before .loop .inv .3) (c .before .before .before .before .before .before .before .before .loop-test .taken) (sym (c .before .before .before .before .before .before .before .read-record .ensures .0) ∙ c .before .before .before .before .before .reading .given .1) (c .before .before .before .if1 .left) (sym (c .before .seen .ensures) ∙ c .if2 .taken) in
+    let q = post-refused _ (namesAt (c .before .before .before .before .before .before .before .before .before .loop .names) (a .base) (a .p)) w in
+    (q .0, (q .1, c .before .before .before .before .before .before .before .before .before .loop .inv .2))
+
+add-names : tie.Need-add-names Inv-loop μ-loop
+add-names c = search needs
+
+mul-names : tie.Need-mul-names Inv-loop μ-loop
+mul-names c = omega (arith, c .before .before .before .before .before .before .before .before .before .before .before .before .good .1 .0, c .before .before .before .before .before .before .before .before .before .loop .inv, c .before .before .before .before .before .before .before .before .before .before .before .before .pre)
+
+slice-write-names : tie.Need-slice-write-names Inv-loop μ-loop
+slice-write-names c = search needs
+
+add-i : tie.Need-add-i Inv-loop μ-loop
+add-i c = search needs
+
+loop-less : tie.Need-loop-less Inv-loop μ-loop
+loop-less c = search needs
+
+loop-again : tie.Need-loop-again Inv-loop μ-loop
+loop-again c =
+    let a = c .before .before .before .before .before .before .before .before .before .before .before .before .args in
+    let so = one-more (a .script .now) (a .p) (a .start) (a .base) (c .before .before .before .before .before .before .before .before .before .loop .names) (c .before .before .before .before .before .before .before .before .before .loop .at) (c .before .before .before .before .before .before .before .before .before .loop .i) (c .before .before .before .before .before .before .before .before .before .loop .inv .3) (c .before .before .before .before .before .before .before .before .loop-test .taken) (sym (c .before .before .before .before .before .before .before .read-record .ensures .0) ∙ c .before .before .before .before .before .reading .given .1) (c .before .before .before .if1 .left) (sym (c .before .seen .ensures) ∙ c .if2 .left) (omega (arith, c .before .before .before .before .before .before .before .before .before .loop .inv, c .before .before .before .before .before .before .before .before .before .before .before .before .pre)) in
+    (search needs, length-set (c .before .before .before .before .before .before .before .before .before .loop .names) (a .base + c .before .before .before .before .before .before .before .before .before .loop .i) (c .before .before .before .before .before .reading .given .0 .1 .1 .0) ∙ c .before .before .before .before .before .before .before .before .before .loop .inv .1, front-set (c .before .before .before .before .before .before .before .before .before .loop .names) (a .base) (c .before .before .before .before .before .before .before .before .before .loop .i) (c .before .before .before .before .before .reading .given .0 .1 .1 .0) ∙ c .before .before .before .before .before .before .before .before .before .loop .inv .2, so)
+
+same-length-4 : tie.Need-same-length-4 Inv-loop μ-loop
+same-length-4 c = c .before .loop .inv .1
+
+returns-4 : tie.Need-returns-4 Inv-loop μ-loop
+returns-4 c =
+    let a = c .before .before .before .before .args in
+    let so = c .before .loop .inv .3 in
+    let e : c .before .loop .i ≡ a .p = omega arith in
+    let w = all-read (a .script .now) (a .p) (a .start) (a .base) (c .before .loop .names) (c .before .loop .at) (c .before .loop .i) (c .before .loop .inv .3) (c .loop-test .left) in
+    let q = post-read _ (namesAt (c .before .loop .names) (a .base) (a .p)) w (rw (← e) (so .names-are) ∙ ap formalNames (sym (append-nil (so .done)))) in
+    (q .0, (q .1, c .before .loop .inv .2))
+
+pub formals-spec : {M : Type 1} → statement M
+formals-spec =
+    tie.close
+    (tie.spec
+    Inv-loop
+    μ-loop
+    loop-holds
+    read-record-requires
+    enum-known-reading
+    enum-told
+    onward-requires
+    same-length
+    returns
+    same-length-2
+    returns-2
+    seen-requires
+    same-length-3
+    returns-3
+    add-names
+    mul-names
+    slice-write-names
+    add-i
+    loop-less
+    loop-again
+    same-length-4
+    returns-4)
