@@ -11,3 +11,4 @@ pub mod BlockLaws
 pub mod Loops
 pub mod Shapes
 pub mod Whole
+pub mod Half

@@ -78,22 +78,22 @@ fn formals(script: &[u8], names: &mut [u32], start: usize, p: usize, base: usize
 }
 
 // A declaration's second field: 4 for a label's index, 7 for a procedure's p.
-fn ranged(mark: Mark, at: usize, next: usize, f1: u32, s: usize) -> Progress
-    ensures { λ r. ⌜ r ≡ rangedOf (declMarkOf mark) at next f1 s ⌝ }
+fn ranged(mark: Mark, here: usize, next: usize, f1: u32, s: usize) -> Progress
+    ensures { λ r. ⌜ r ≡ rangedOf (declMarkOf mark) here next f1 s ⌝ }
 {
     match mark {
         Mark::LB => {
             if f1 == 0 {
-                return Progress::Refused(Refusal::FieldRange, at);
+                return Progress::Refused(Refusal::FieldRange, here);
             }
             if s < wide(f1) {
-                return Progress::Refused(Refusal::FieldRange, at);
+                return Progress::Refused(Refusal::FieldRange, here);
             }
             Progress::At(next)
         }
         Mark::PR => {
             if 32 < f1 {
-                return Progress::Refused(Refusal::TooManyNames, at);
+                return Progress::Refused(Refusal::TooManyNames, here);
             }
             Progress::At(next)
         }
@@ -163,10 +163,11 @@ fn block(
     ensures reads { λ r. ⌜ r ≡ forget (definitions.blockWith left at d s (namesAt (now (names .entry)) (512 - 32 * left) held) next (unread (now (script .entry)) next)) ⌝ }
     ensures keeps { λ r. ⌜ take (512 - 32 * left) (now (names .exit)) ≡ take (512 - 32 * left) (now (names .entry)) ⌝ }
 {
+    let room = 32 - held;
     if left == 0 {
         return Progress::Refused(Refusal::NestingDepth, at);
     }
-    if 32 - held < d {
+    if room < d {
         return Progress::Refused(Refusal::TooManyNames, at);
     }
     let declared = declarations(script, names, next, d, s, held, left - 1);

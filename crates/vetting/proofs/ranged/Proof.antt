@@ -16,7 +16,7 @@ returns : tie.Need-returns
 unfolding declMarkOf
 returns c =
     let a = c .before .before .before .args in
-    sym (ap (λ (m : Mark). rangedOf (declMarkOf m) (a .at) (a .next) (a .f1) (a .s)) (c .before .enum-told .given .1) ∙ label-zero (a .at) (a .next) (a .f1) (a .s) (c .if1 .taken))
+    sym (ap (λ (m : Mark). rangedOf (declMarkOf m) (a .here) (a .next) (a .f1) (a .s)) (c .before .enum-told .given .1) ∙ label-zero (a .here) (a .next) (a .f1) (a .s) (c .if1 .taken))
 
 wide-requires : tie.Need-wide-requires
 wide-requires c κs = search needs
@@ -25,7 +25,7 @@ returns-2 : tie.Need-returns-2
 unfolding declMarkOf
 returns-2 c =
     let a = c .before .before .before .before .before .args in
-    sym (ap (λ (m : Mark). rangedOf (declMarkOf m) (a .at) (a .next) (a .f1) (a .s)) (c .before .before .before .enum-told .given .1) ∙ label-past (a .at) (a .next) (a .f1) (a .s) (c .before .before .if1 .left) (omega arith))
+    sym (ap (λ (m : Mark). rangedOf (declMarkOf m) (a .here) (a .next) (a .f1) (a .s)) (c .before .before .before .enum-told .given .1) ∙ label-past (a .here) (a .next) (a .f1) (a .s) (c .before .before .if1 .left) (omega arith))
 
 enum-told-2 : tie.Need-enum-told-2
 enum-told-2 c = search needs
@@ -34,22 +34,22 @@ returns-3 : tie.Need-returns-3
 unfolding declMarkOf
 returns-3 c =
     let a = c .before .before .before .args in
-    sym (ap (λ (m : Mark). rangedOf (declMarkOf m) (a .at) (a .next) (a .f1) (a .s)) (c .before .enum-told2 .given .1) ∙ formals-many (a .at) (a .next) (a .f1) (a .s) (c .if3 .taken))
+    sym (ap (λ (m : Mark). rangedOf (declMarkOf m) (a .here) (a .next) (a .f1) (a .s)) (c .before .enum-told2 .given .1) ∙ formals-many (a .here) (a .next) (a .f1) (a .s) (c .if3 .taken))
 
 returns-4 : tie.Need-returns-4
 unfolding declMarkOf
 returns-4 c =
     let a = c .before .before .before .before .before .args in
-    sym (ap (λ (m : Mark). rangedOf (declMarkOf m) (a .at) (a .next) (a .f1) (a .s)) (c .before .before .before .enum-told .given .1) ∙ label-fits (a .at) (a .next) (a .f1) (a .s) (c .before .before .if1 .left) (omega arith))
+    sym (ap (λ (m : Mark). rangedOf (declMarkOf m) (a .here) (a .next) (a .f1) (a .s)) (c .before .before .before .enum-told .given .1) ∙ label-fits (a .here) (a .next) (a .f1) (a .s) (c .before .before .if1 .left) (omega arith))
 
 returns-5 : tie.Need-returns-5
 unfolding declMarkOf
 returns-5 c =
     let a = c .before .before .before .args in
-    sym (ap (λ (m : Mark). rangedOf (declMarkOf m) (a .at) (a .next) (a .f1) (a .s)) (c .before .enum-told2 .given .1) ∙ formals-fit (a .at) (a .next) (a .f1) (a .s) (c .if3 .left))
+    sym (ap (λ (m : Mark). rangedOf (declMarkOf m) (a .here) (a .next) (a .f1) (a .s)) (c .before .enum-told2 .given .1) ∙ formals-fit (a .here) (a .next) (a .f1) (a .s) (c .if3 .left))
 
 returns-6 : tie.Need-returns-6
-returns-6 c = sym (others-fit (c .before .args .at) (c .before .args .next) (c .before .args .f1) (c .before .args .s) (c .before .args .mark) (c .match .keys3))
+returns-6 c = sym (others-fit (c .before .args .here) (c .before .args .next) (c .before .args .f1) (c .before .args .s) (c .before .args .mark) (c .match .keys3))
 
 pub ranged-spec : {M : Type 1} → statement M
 ranged-spec =

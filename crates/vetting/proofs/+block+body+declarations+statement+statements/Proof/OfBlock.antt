@@ -14,12 +14,12 @@ use Rattle.vetting.proofs.declarations.Reads as declarations
 use Rattle.vetting.proofs.statements.Reads as statements
 use Rattle.vetting.proofs.+block+body+declarations+statement+statements.Proof.Measures.{block-at, declarations-below, statements-below}
 
+pub block-sub-room : (t : ℕ) → block-lts.Need-sub-room (declarations-below t, declarations.Post, statements-below t, statements.Post) (block-at t) block.Post
+block-sub-room t c = omega (arith, c .before .before .pre)
+
 pub block-returns : (t : ℕ) → block-lts.Need-returns (declarations-below t, declarations.Post, statements-below t, statements.Post) (block-at t) block.Post
 block-returns t c = let a = c .before .before .before .args in
     (too-deep (a .script .now) (a .names .now) (a .left) (a .at) (a .d) (a .s) (a .held) (a .next) (c .if1 .taken), refl)
-
-pub block-sub-if2 : (t : ℕ) → block-lts.Need-sub-if2 (declarations-below t, declarations.Post, statements-below t, statements.Post) (block-at t) block.Post
-block-sub-if2 t c = omega (arith, c .before .before .before .pre)
 
 pub block-returns-2 : (t : ℕ) → block-lts.Need-returns-2 (declarations-below t, declarations.Post, statements-below t, statements.Post) (block-at t) block.Post
 block-returns-2 t c = let a = c .before .before .before .before .args in
