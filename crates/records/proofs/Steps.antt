@@ -1,11 +1,11 @@
 -- What a caller of the record reader learns of the definitions' reader: the record that it gives, and where it goes on.
 -- Assumes nothing.
-use mathlib.Core.Path.{_≡_, refl, sym, _∙_, ap, subst}
+use mathlib.Core.Path.{_≡_, refl}
 use mathlib.Core.List.{List}
-use Prim.Native.Nat.{ℕ, _+_, _*_, _%_, _<_, _≤_}
+use Prim.Native.Nat.{ℕ, _+_, _*_, _%_, _≤_}
 use native.Mathlib.Omega.{arith}
 use native.Mathlib.Decide.{decLe}
-use lib.ListN.{length, getD, take}
+use lib.ListN.{length, getD}
 use Rattle.language.specs.Encoding.{two}
 use Rattle.language.specs.Structure.{Reading as Outcome, read, refuse, Row, Record, take-record}
 use Rattle.language.specs.declared.Refusal.{Refusal}
@@ -14,7 +14,6 @@ use Rattle.records.specs.declared.Mark.{Mark}
 use Rattle.records.specs.declared.Mark.the-variants.{BK}
 use Rattle.records.specs.declared.Fit.{Fit}
 use Rattle.records.specs.declared.Fit.the-variants.{Found, Nothing}
-use Rattle.records.specs.declared.Reading.{Reading}
 use Rattle.records.specs.declared.Reading.the-variants.{Taken, Refused}
 use Rattle.records.proofs.Taking.{no-mark, misplaced, cut-off, whole}
 

@@ -1,9 +1,9 @@
 -- One record, read by the definitions over the fields from an offset on: each case of the code's reading, and where reading goes on.
 -- Assumes nothing.
-use mathlib.Core.Path.{_≡_, refl, sym, _∙_, ap, subst}
+use mathlib.Core.Path.{_≡_, refl, sym, _∙_, ap}
 use mathlib.Core.Bool.{Bool, true, false}
 use mathlib.Core.List.{List, [], _∷_}
-use Prim.Native.Nat.{ℕ, zero, suc, _+_, _*_, _<_, _≤_}
+use Prim.Native.Nat.{ℕ, _+_, _*_, _<_, _≤_}
 use native.Mathlib.Omega.{arith}
 use lib.Dec.{eqb}
 use lib.ListN.{length, getD, drop, take, length-take}
@@ -11,16 +11,13 @@ use lib.Seq.{getD-take}
 use borrow.Author.Tests.{eq-eqb, ne-eqb}
 use Rattle.language.specs.Encoding.{two}
 use Rattle.language.specs.Structure.{Reading as Outcome, read, refuse, Row, Record, Reader, _>>=_, give, here, fields, fit, take-record}
-use Rattle.language.specs.declared.Refusal.{Refusal}
 use Rattle.language.specs.declared.Refusal.the-variants.{PastTheEnd, MarkMisplaced}
-use Rattle.records.specs.Taking.{unread, fitIn, taken}
+use Rattle.records.specs.Taking.{unread, fitIn}
 use Rattle.records.specs.declared.Mark.{Mark}
 use Rattle.records.specs.declared.Fit.{Fit}
 use Rattle.records.specs.declared.Fit.the-variants.{Found, Nothing}
-use Rattle.records.specs.declared.Reading.{Reading}
-use Rattle.records.specs.declared.Reading.the-variants.{Taken, Refused}
 use Rattle.records.proofs.Binds.{bind-read, bind-refuse}
-use Rattle.records.proofs.Unread.{unread-drop, unread-enough, unread-short, unread-fits, unread-at}
+use Rattle.records.proofs.Unread.{unread-drop, unread-enough, unread-short, unread-at}
 
 -- the next k fields, where they are there and where they are not
 pub fields-all : (o k at : ℕ) (ws : List ℕ) → k ≤ length ws → fields o k at ws ≡ read (take k ws) (at + 2 * k) (drop k ws)

@@ -1,11 +1,10 @@
 -- The fields from an offset on: their number, each of them, and what is left of them after some.
 -- Assumes nothing.
-use mathlib.Core.Path.{_≡_, refl, sym, _∙_, ap, subst}
+use mathlib.Core.Path.{_≡_, refl, _∙_, ap}
 use mathlib.Core.List.{List, [], _∷_}
-use Prim.Native.Nat.{ℕ, zero, suc, _+_, _*_, _-_, _/_, _<_, _≤_}
-use native.Mathlib.Numerals.{add-one}
+use Prim.Native.Nat.{ℕ, zero, suc, _+_, _*_, _<_, _≤_}
 use native.Mathlib.Omega.{arith}
-use lib.ListN.{length, getD, drop, take, length-drop}
+use lib.ListN.{length, getD, drop, length-drop}
 use lib.Seq.{drop-nil, drop-drop, getD-drop}
 use Rattle.language.specs.Encoding.{two, fieldsOf}
 use Rattle.records.specs.Taking.{unread}

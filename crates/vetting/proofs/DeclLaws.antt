@@ -1,16 +1,16 @@
 -- The declarations of a block, one after the other, each with its own record and, of a procedure, its formals and body.
 -- Assumes nothing.
 use mathlib.Core.Path.{_≡_, refl, sym, _∙_, ap, ap₂, subst}
-use mathlib.Core.Bool.{Bool, true, false, not, _&&_}
+use mathlib.Core.Bool.{Bool, true, false, _&&_}
 use mathlib.Core.List.{List, [], _∷_}
-use Prim.Native.Nat.{ℕ, zero, suc, _+_, _<_, _≤_, _%_}
+use Prim.Native.Nat.{ℕ, zero, suc, _≤_}
 use native.Mathlib.Omega.{arith}
 use lib.Dec.{leb}
 use lib.ListN.{getD}
 use borrow.Author.Tests.{leb-true, leb-false}
 use Rattle.language.specs.Basics.{among}
-use Rattle.language.specs.Text.{Decl, Decls, VR, LB, PR, decl, declName, formalNames}
-use Rattle.language.specs.Structure.{Reading as Outcome, read, refuse, Reader, _>>=_, _>>_, give, require, Record, DeclMark, isVR, isLB, isPR, blockMarks, declMarks, take-record, formals, BlockReader, declared, declarations}
+use Rattle.language.specs.Text.{Decl, Decls, PR, decl, declName, formalNames}
+use Rattle.language.specs.Structure.{Reading as Outcome, read, refuse, Reader, _>>=_, _>>_, give, Record, DeclMark, isVR, isLB, isPR, blockMarks, declMarks, take-record, formals, BlockReader, declared, declarations}
 use Rattle.language.specs.declared.Refusal.{Refusal}
 use Rattle.language.specs.declared.Refusal.the-variants.{FieldRange, TooManyNames, NameTwice}
 use Rattle.records.specs.declared.Mark.{Mark}
@@ -23,7 +23,7 @@ use Rattle.records.specs.Taking.{unread, declMark, recordAt, forget}
 use Rattle.records.proofs.Binds.{bind-read, bind-refuse}
 use Rattle.records.proofs.Steps.{Step, stepped, stopped}
 use Rattle.vetting.specs.Progress.{declMarkOf, rangedOf, onceAt, FewFormals, bodyOf, belowOf}
-use Rattle.vetting.proofs.Lands.{Lands, Landed, landed, turned-away, Tracks, AllTrack, tracks-declared}
+use Rattle.vetting.proofs.Lands.{Landed, landed, turned-away, AllTrack, tracks-declared}
 use Rattle.vetting.proofs.Tests.{passes, fails}
 use Rattle.vetting.proofs.Marks.{ranged-label, ranged-no-label, formals-fit, formals-many}
 use Rattle.vetting.proofs.Forget.{forget-give, forget-bind, Named, named-bind}

@@ -3,7 +3,7 @@ use mathlib.Core.Path.{_≡_, refl, sym, _∙_, ap}
 use mathlib.Core.List.{List}
 use Prim.Native.Nat.{ℕ}
 use Rattle.language.specs.Text.{Decl, declName}
-use Rattle.language.specs.Structure.{Reading as Outcome, read, refuse, Reader, _>>=_, _>>_, give}
+use Rattle.language.specs.Structure.{Reading as Outcome, read, refuse, Reader, _>>=_, give}
 use Rattle.records.specs.Taking.{forget}
 use Rattle.records.proofs.Binds.{bind-read, bind-refuse}
 

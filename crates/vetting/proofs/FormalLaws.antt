@@ -1,7 +1,7 @@
 -- The formals of a procedure, one after the other. Assumes nothing.
 use mathlib.Core.Path.{_≡_, refl, sym, _∙_, ap}
 use mathlib.Core.Bool.{Bool, true, false, not}
-use mathlib.Core.List.{List, [], _∷_, _++_, append-assoc, map}
+use mathlib.Core.List.{List, [], _∷_, _++_, append-assoc}
 use Prim.Native.Nat.{ℕ, zero, suc, _+_, _-_, _<_, _≤_}
 use native.Mathlib.Omega.{arith}
 use lib.ListN.{length, getD, set}
@@ -14,11 +14,10 @@ use Rattle.records.specs.declared.Mark.{Mark}
 use Rattle.records.specs.declared.Mark.the-variants.{FM}
 use Rattle.records.specs.declared.Place.the-variants.{Formal as AFormal}
 use Rattle.records.specs.declared.Reading.the-variants.{Taken, Refused}
-use Rattle.records.specs.Taking.{unread, onlyMark, recordAt, taken}
+use Rattle.records.specs.Taking.{unread, onlyMark, recordAt, forget}
 use Rattle.records.proofs.Binds.{bind-read, bind-refuse}
 use Rattle.records.proofs.Steps.{Step, stepped, stopped}
 use Rattle.records.specs.declared.Progress.{Progress}
-use Rattle.records.specs.Taking.{forget}
 use Rattle.vetting.specs.Naming.{namesAt}
 use Rattle.vetting.specs.Progress.{NamesOf}
 use Rattle.vetting.proofs.Names.{names-added}

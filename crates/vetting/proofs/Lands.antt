@@ -1,16 +1,14 @@
 -- Every reader of a script's structure goes forward by whole fields and leaves what stands from its end on: so an offset says all that
 -- the code has to hold of what is unread. Assumes nothing.
-use mathlib.Core.Path.{_≡_, refl, sym, _∙_, ap}
+use mathlib.Core.Path.{_≡_, refl, _∙_}
 use mathlib.Core.Bool.{Bool, true, false}
-use mathlib.Core.List.{List, [], _∷_}
-use Prim.Native.Nat.{ℕ, zero, suc, _+_, _*_, _%_, _<_, _≤_}
+use mathlib.Core.List.{List, []}
+use Prim.Native.Nat.{ℕ, zero, suc, _%_, _≤_}
 use native.Mathlib.Omega.{arith}
 use native.Mathlib.Decide.{decLe}
-use lib.ListN.{length, getD}
-use Rattle.language.specs.Text.{Kind, Operation, Formal, Block, Decl, Stmt, Decls, Stmts}
+use lib.ListN.{length}
 use Rattle.language.specs.Structure.{Reading as Outcome, read, refuse, Reader, _>>=_, _>>_, give, require, fields, Row, Record, DeclMark, isVR, isLB, isPR, StmtMark, isBK, isCL, isGO, isIF, isKN, isAR, isAD, isRM, isQY, take-record, kind, operation, formals, BlockReader, declared, declarations, action, stated, statements, blockWith}
 use Rattle.language.specs.declared.Refusal.{Refusal}
-use Rattle.records.specs.declared.Progress.{Progress}
 use Rattle.records.specs.declared.Progress.the-variants.{At, Refused}
 use Rattle.records.specs.Taking.{unread, forget}
 use Rattle.records.proofs.Binds.{bind-read, bind-refuse}

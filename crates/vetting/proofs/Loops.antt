@@ -1,11 +1,11 @@
 -- Where the loops over a block's declarations and statements stand: what is left to read goes on as the whole does. Assumes nothing.
-use mathlib.Core.Path.{_≡_, refl, sym, _∙_, ap}
+use mathlib.Core.Path.{_≡_, sym, _∙_, ap}
 use mathlib.Core.List.{List, [], _∷_, _++_}
-use Prim.Native.Nat.{ℕ, zero, suc, _+_, _-_, _<_, _≤_}
+use Prim.Native.Nat.{ℕ, suc, _+_, _-_, _<_, _≤_}
 use native.Mathlib.Omega.{arith}
 use lib.ListN.{length, set}
 use Rattle.language.specs.Basics.{among}
-use Rattle.language.specs.Structure.{Reading as Outcome, read, refuse, Reader, BlockReader, declarations, statements}
+use Rattle.language.specs.Structure.{refuse, Reader, BlockReader, declarations, statements}
 use Rattle.language.specs.declared.Refusal.{Refusal}
 use Rattle.records.specs.declared.Mark.{Mark}
 use Rattle.records.specs.declared.Place.the-variants.{Declaration, Statement}

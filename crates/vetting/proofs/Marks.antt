@@ -1,7 +1,7 @@
 -- A mark by its case: which of the definitions' marks it is, and what that says of the record's own fields. Assumes nothing.
-use mathlib.Core.Path.{_≡_, refl, sym, _∙_, ap, ap₂, subst}
+use mathlib.Core.Path.{_≡_, refl, sym, ap, ap₂, subst}
 use mathlib.Core.Bool.{Bool, true, false, _&&_}
-use mathlib.Core.Logic.{_⊎_, ⊎-elim}
+use mathlib.Core.Logic.{⊎-elim}
 use mathlib.Core.List.{List, [], _∷_}
 use Prim.Native.Nat.{ℕ, _<_, _≤_}
 use native.Mathlib.Omega.{arith}
@@ -9,7 +9,7 @@ use lib.Dec.{T, eqb, leb}
 use borrow.Author.Tests.{le-leb, lt-leb, eq-eqb}
 use types.Run.{OneOf}
 use denote.Enum.Declared.{tagOf}
-use Rattle.language.specs.Structure.{Reading as Outcome, fields, DeclMark, isVR, isLB, isPR, StmtMark, isCL, isAR, BlockReader}
+use Rattle.language.specs.Structure.{fields, isLB, isPR, isCL, isAR, BlockReader}
 use Rattle.language.specs.declared.Refusal.{Refusal}
 use Rattle.language.specs.declared.Refusal.the-variants.{FieldRange, TooManyNames, NameTwice}
 use Rattle.records.proofs.Mark as M
@@ -17,7 +17,7 @@ use Rattle.records.specs.declared.Mark.{Mark}
 use Rattle.records.specs.declared.Mark.the-variants.{BK, VR, LB, PR, FM, CL, GO, IF, KN, AR, AD, RM, QY}
 use Rattle.records.specs.declared.Progress.{Progress}
 use Rattle.records.specs.declared.Progress.the-variants.{At, Refused}
-use Rattle.records.specs.Taking.{unread, forget}
+use Rattle.records.specs.Taking.{forget}
 use Rattle.vetting.specs.Progress.{declMarkOf, stmtMarkOf, rangedOf, onceAt, actionOf, FewFormals, bodyOf, belowOf, statedOf}
 
 abbrev either : Bool → Bool → Bool

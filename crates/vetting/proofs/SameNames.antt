@@ -1,13 +1,13 @@
 -- The definitions ask of the names seen only which they are, not in what order. Assumes nothing.
 use mathlib.Core.Path.{_≡_, refl, sym, _∙_, ap, fun-ext}
-use mathlib.Core.Bool.{Bool, true, false, not}
+use mathlib.Core.Bool.{Bool, true, false}
 use mathlib.Core.List.{List, [], _∷_, _++_}
 use Prim.Native.Nat.{ℕ, zero, suc}
 use lib.Dec.{eqb}
 use lib.ListN.{getD}
 use Rattle.language.specs.Basics.{among}
 use Rattle.language.specs.Text.{declName}
-use Rattle.language.specs.Structure.{Reader, _>>=_, _>>_, Record, DeclMark, isVR, isLB, isPR, formalMarks, declMarks, take-record, kind, formals, BlockReader, declared, declarations}
+use Rattle.language.specs.Structure.{Reader, _>>=_, _>>_, DeclMark, isVR, isLB, isPR, formalMarks, declMarks, take-record, kind, formals, BlockReader, declared, declarations}
 
 abbrev pub Same : List ℕ → List ℕ → Type 0
 Same xs ys = (n : ℕ) → among n xs ≡ among n ys

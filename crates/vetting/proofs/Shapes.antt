@@ -1,11 +1,11 @@
 -- A block and a procedure's body in the shape of the code: levels counted down, names by their base. Assumes nothing.
-use mathlib.Core.Path.{_≡_, refl, sym, _∙_, ap, subst}
-use mathlib.Core.List.{List, [], _∷_}
-use Prim.Native.Nat.{ℕ, zero, suc, _+_, _-_, _*_, _<_, _≤_}
+use mathlib.Core.Path.{_≡_, sym, _∙_, ap, subst}
+use mathlib.Core.List.{List, []}
+use Prim.Native.Nat.{ℕ, suc, _+_, _-_, _*_, _<_, _≤_}
 use native.Mathlib.Omega.{arith}
 use lib.ListN.{length}
 use Rattle.language.specs.Text.{Formal, Decls, formalNames}
-use Rattle.language.specs.Structure.{Reading as Outcome, read, refuse, BlockReader, formals, declarations, statements, blockWith}
+use Rattle.language.specs.Structure.{Reading as Outcome, BlockReader, formals, declarations, statements, blockWith}
 use Rattle.language.specs.declared.Refusal.{Refusal}
 use Rattle.language.specs.declared.Refusal.the-variants.{NestingDepth, TooManyNames}
 use Rattle.records.specs.declared.Mark.{Mark}

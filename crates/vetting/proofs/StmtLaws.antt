@@ -1,20 +1,19 @@
 -- The statements of a block, one after the other. Assumes nothing.
 use mathlib.Core.Path.{_≡_, refl, sym, _∙_, ap}
 use mathlib.Core.Bool.{Bool, true, false}
-use mathlib.Core.List.{List, [], _∷_}
-use Prim.Native.Nat.{ℕ, zero, suc, _<_, _≤_}
+use mathlib.Core.List.{List, []}
+use Prim.Native.Nat.{ℕ, zero, suc, _≤_}
 use native.Mathlib.Omega.{arith}
 use native.Mathlib.Decide.{decLe}
 use lib.Dec.{leb}
 use lib.ListN.{getD}
 use borrow.Author.Tests.{leb-true, leb-false}
-use Rattle.language.specs.Text.{Stmt, Stmts, BK, AR, stmt}
-use Rattle.language.specs.Structure.{Reading as Outcome, read, refuse, Reader, _>>=_, _>>_, give, require, fields, Record, StmtMark, isBK, isCL, isGO, isIF, isKN, isAR, isAD, isRM, isQY, stmtMarks, take-record, operation, BlockReader, action, stated, statements}
+use Rattle.language.specs.Text.{Stmt, Stmts, BK, stmt}
+use Rattle.language.specs.Structure.{Reading as Outcome, refuse, Reader, _>>=_, give, fields, Record, StmtMark, isBK, isCL, isGO, isIF, isKN, isAR, isAD, isRM, isQY, stmtMarks, take-record, operation, BlockReader, action, stated, statements}
 use Rattle.language.specs.declared.Refusal.{Refusal}
 use Rattle.language.specs.declared.Refusal.the-variants.{FieldRange}
 use Rattle.records.specs.declared.Mark.{Mark}
 use Rattle.records.specs.declared.Place.the-variants.{Statement}
-use Rattle.records.specs.declared.Progress.{Progress}
 use Rattle.records.specs.declared.Progress.the-variants.{At, Refused}
 use Rattle.records.specs.declared.Reading.{Reading}
 use Rattle.records.specs.declared.Reading.the-variants.{Taken}

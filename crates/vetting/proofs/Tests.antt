@@ -1,14 +1,12 @@
 -- What a test inside a reader comes to: `require`, a formal's kind, an operation. Assumes nothing.
-use mathlib.Core.Path.{_≡_, refl, sym, _∙_, ap}
+use mathlib.Core.Path.{_≡_, refl}
 use mathlib.Core.Bool.{Bool, true, false}
 use mathlib.Core.List.{List}
 use Prim.Native.Nat.{ℕ, zero, suc, _<_, _≤_}
 use native.Mathlib.Omega.{arith}
-use Rattle.language.specs.Text.{Kind, Operation}
-use Rattle.language.specs.Structure.{Reading as Outcome, read, refuse, Reader, _>>=_, _>>_, give, require, kind, operation}
+use Rattle.language.specs.Structure.{read, refuse, Reader, _>>=_, _>>_, give, require, kind, operation}
 use Rattle.language.specs.declared.Refusal.{Refusal}
 use Rattle.language.specs.declared.Refusal.the-variants.{FieldRange}
-use Rattle.records.proofs.Binds.{bind-read, bind-refuse}
 
 module _ {A : Type 0} (b : Bool) (c : Refusal) (o : ℕ) (m : Reader A) (at : ℕ) (ws : List ℕ) where
   pub passes : b ≡ true → (require b c o >> m) at ws ≡ m at ws

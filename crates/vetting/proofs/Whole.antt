@@ -1,16 +1,15 @@
 -- The whole structure: the length first, the program, then bytes after it. Assumes nothing.
-use mathlib.Core.Path.{_≡_, refl, sym, _∙_, ap, ap₂}
+use mathlib.Core.Path.{_≡_, refl, sym, _∙_, ap}
 use mathlib.Core.Bool.{Bool, true, false, _&&_}
 use mathlib.Core.List.{List, [], _∷_}
-use Prim.Native.Nat.{ℕ, zero, suc, _+_, _*_, _%_, _<_, _≤_}
+use Prim.Native.Nat.{ℕ, _%_, _<_, _≤_}
 use native.Mathlib.Omega.{arith}
 use native.Mathlib.Decide.{decLt}
-use lib.Dec.{eqb, leb, ltb}
-use lib.ListN.{length, getD}
+use lib.Dec.{eqb, leb}
+use lib.ListN.{length}
 use borrow.Author.Tests.{lt-ltb, le-ltb, le-leb, lt-leb, eq-eqb, ne-eqb}
 use Rattle.language.specs.Text.{Block}
-use Rattle.language.specs.Encoding.{fieldsOf}
-use Rattle.language.specs.Structure.{Reading as Outcome, read, refuse, _>>=_, take-record, blockMarks, blockWith, program}
+use Rattle.language.specs.Structure.{Reading as Outcome, read, refuse, blockMarks, blockWith, program}
 use Rattle.language.specs.Check.{lengthFits}
 use Rattle.language.specs.declared.Refusal.{Refusal}
 use Rattle.language.specs.declared.Refusal.the-variants.{ScriptLength, BytesAfter}
@@ -25,7 +24,7 @@ use Rattle.records.proofs.Unread.{unread-enough, unread-short}
 use Rattle.vetting.specs.declared.Verdict.{Verdict}
 use Rattle.vetting.specs.Progress.{endedOf, closing, structureOf}
 use Rattle.vetting.proofs.Lands.{Lands, Tracks, tracks-bind, tracks-take, tracks-block}
-use Rattle.vetting.proofs.BlockLaws.{headed, head-stops, head-goes-on}
+use Rattle.vetting.proofs.BlockLaws.{head-stops, head-goes-on}
 
 pub closing-more : (end n : ℕ) → end < n → closing (At end) n ≡ Verdict.Refused BytesAfter end
 unfolding closing

@@ -1,8 +1,7 @@
 -- `records::find_mark` meets its contract: what is left of the table from `i` on gives what the whole table gives, which is what the
 -- definitions' rows give (`table-rule`). Assumes nothing.
 use mathlib.Core.Path.{_≡_, _∙_, sym, ap}
-use Prim.Native.Nat.{ℕ, _≤_, _-_}
-use native.Mathlib.Omega.{arith}
+use Prim.Native.Nat.{_≤_, _-_}
 use borrow.Author.Needs.{needs}
 use mathlib.Core.Logic.{⊎-elim}
 use lib.ListN.{drop, drop-of-length-le}

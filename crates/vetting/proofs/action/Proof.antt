@@ -1,6 +1,5 @@
 -- `vetting::action` meets its contract, mark by mark. Assumes nothing.
-use mathlib.Core.Path.{_≡_, _∙_, sym, ap}
-use native.Mathlib.Omega.{arith}
+use mathlib.Core.Path.{_∙_, sym, ap}
 use Prim.Native.Nat.{ℕ}
 use Rattle.language.specs.Structure.{fields}
 use Rattle.records.specs.declared.Mark.{Mark}

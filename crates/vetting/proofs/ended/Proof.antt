@@ -1,5 +1,5 @@
 -- `vetting::ended` meets its contract. Assumes nothing.
-use mathlib.Core.Path.{_≡_, _∙_, sym, ap}
+use mathlib.Core.Path.{_∙_, sym, ap}
 use Rattle.records.specs.declared.Progress.{Progress}
 use Rattle.vetting.specs.Progress.{closing}
 use Rattle.vetting.proofs.Whole.{closing-more, closing-none, closing-refused}

@@ -1,15 +1,12 @@
 -- `vetting::formals` meets its contract: the formals done, whose names are held, come before those that are left. Assumes nothing.
 use mathlib.Core.Path.{_≡_, _∙_, sym, refl, ap}
-use mathlib.Core.List.{[], _++_, append-nil}
-use Prim.Native.Nat.{ℕ, _≤_, _+_, _-_}
+use mathlib.Core.List.{append-nil}
+use Prim.Native.Nat.{_≤_, _+_, _-_}
 use native.Mathlib.Omega.{arith}
 use borrow.Author.Needs.{needs}
-use borrow.Author.Tests.{eq-eqb}
-use lib.ListN.{length, take, set, length-set}
+use lib.ListN.{length, take, length-set}
 use Rattle.language.specs.Text.{formalNames}
-use Rattle.language.specs.Structure as definitions
-use Rattle.records.specs.declared.Progress.{Progress}
-use Rattle.records.specs.Taking.{unread, progressOf}
+use Rattle.records.specs.Taking.{progressOf}
 use Rattle.vetting.specs.Naming.{namesAt}
 use Rattle.vetting.proofs.Names.{front-set}
 use Rattle.vetting.proofs.FormalLaws.{SoFar, at-start, refused-there, wrong-kind, named-twice, one-more, all-read, post-refused, post-read}

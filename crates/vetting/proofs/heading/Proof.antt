@@ -1,7 +1,6 @@
 -- `vetting::heading` meets its contract. Assumes nothing.
-use mathlib.Core.Path.{_≡_, _∙_, sym, ap, ap₂}
-use native.Mathlib.Omega.{arith}
-use mathlib.Core.Bool.{Bool, true, false}
+use mathlib.Core.Path.{_∙_, sym, ap, ap₂}
+use mathlib.Core.Bool.{Bool}
 use Rattle.language.specs.Basics.{among}
 use Rattle.vetting.specs.Naming.{namesAt}
 use Rattle.records.specs.declared.Progress.{Progress}

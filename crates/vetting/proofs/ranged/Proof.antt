@@ -1,7 +1,6 @@
 -- `vetting::ranged` meets its contract, mark by mark. Assumes nothing.
-use mathlib.Core.Path.{_≡_, _∙_, sym, ap, subst}
+use mathlib.Core.Path.{_∙_, sym, ap}
 use native.Mathlib.Omega.{arith}
-use Prim.Native.Nat.{_<_, _≤_}
 use Rattle.records.specs.declared.Mark.{Mark}
 use Rattle.vetting.specs.Progress.{declMarkOf, rangedOf}
 use Rattle.vetting.proofs.Marks.{label-zero, label-past, label-fits, formals-fit, formals-many, others-fit}

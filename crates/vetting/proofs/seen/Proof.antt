@@ -1,9 +1,9 @@
 -- `vetting::seen` meets its contract: the name is among all names held exactly where it is among those from `i` on. Assumes nothing.
-use mathlib.Core.Path.{_≡_, _∙_, sym, ap}
+use mathlib.Core.Path.{_≡_, _∙_, sym}
 use Prim.Native.Nat.{_≤_, _+_, _-_}
 use native.Mathlib.Omega.{arith}
 use borrow.Author.Needs.{needs}
-use lib.ListN.{length, take, drop}
+use lib.ListN.{take, drop}
 use Rattle.language.specs.Basics.{among}
 use Rattle.vetting.specs.Naming.{namesAt}
 use Rattle.vetting.proofs.Names.{seen-start, seen-hit, seen-miss, seen-none}

@@ -1,11 +1,9 @@
 -- `vetting::block` in the cycle of the check. Assumes nothing.
-use mathlib.Core.Path.{_≡_, _∙_, sym, refl, ap, subst}
-use mathlib.Core.List.{List}
-use Prim.Native.Nat.{_-_, _*_}
+use mathlib.Core.Path.{_≡_, _∙_, sym, refl, subst}
+use Prim.Native.Nat.{_-_, _*_, ℕ}
 use lib.ListN.{length, take}
 use Rattle.vetting.proofs.Names.{front-kept}
 use Rattle.vetting.proofs.Shapes.{level, too-deep, too-many, decls-refused, rest-onward, rest-is}
-use Prim.Native.Nat.{ℕ}
 use borrow.Author.Needs.{needs}
 use native.Mathlib.Omega.{arith}
 use Rattle.vetting.proofs.+block+body+declarations+statement+statements.Lts-block as block-lts

@@ -1,14 +1,12 @@
 -- `vetting::body` in the cycle of the check. Assumes nothing.
 use mathlib.Core.Path.{_≡_, _∙_, sym, refl, ap, subst}
-use mathlib.Core.List.{List}
-use Prim.Native.Nat.{_-_, _*_, _≤_}
-use lib.ListN.{length, take}
+use Prim.Native.Nat.{_-_, _*_, ℕ}
+use lib.ListN.{length}
 use Rattle.language.specs.Structure as definitions
 use Rattle.records.specs.Taking.{unread, progressOf, Within}
 use Rattle.vetting.specs.Naming.{namesAt}
 use Rattle.vetting.proofs.Marks.{others-below, body-below, few-formals}
 use Rattle.vetting.proofs.Shapes.{same-block, formals-refused, formals-onward, head-refused, body-is}
-use Prim.Native.Nat.{ℕ}
 use borrow.Author.Needs.{needs}
 use native.Mathlib.Omega.{arith}
 use Rattle.vetting.proofs.+block+body+declarations+statement+statements.Lts-body as body-lts

@@ -1,7 +1,6 @@
 -- `vetting::declarations` in the cycle of the check. Assumes nothing.
 use mathlib.Core.Path.{_≡_, _∙_, sym, refl, ap, subst}
-use mathlib.Core.List.{List}
-use Prim.Native.Nat.{_+_, _-_, _*_, _≤_, _<_}
+use Prim.Native.Nat.{_+_, _-_, _*_, _≤_, ℕ}
 use lib.ListN.{length, take, length-set}
 use Rattle.language.specs.Basics.{among}
 use Rattle.language.specs.Structure as definitions
@@ -12,7 +11,6 @@ use Rattle.vetting.proofs.Names.{names-kept, front-kept, front-set}
 use Rattle.vetting.proofs.Lands.{tracks-block}
 use Rattle.vetting.proofs.DeclLaws.{own-at}
 use Rattle.vetting.proofs.Loops.{DeclsLeft, decls-start, decl-refused, own-refused, below-refused, decls-again, decls-end}
-use Prim.Native.Nat.{ℕ}
 use borrow.Author.Needs.{needs}
 use native.Mathlib.Omega.{arith}
 use Rattle.vetting.proofs.+block+body+declarations+statement+statements.Lts-declarations as declarations-lts

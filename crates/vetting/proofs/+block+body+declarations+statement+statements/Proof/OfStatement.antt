@@ -1,12 +1,11 @@
 -- `vetting::statement` in the cycle of the check. Assumes nothing.
-use mathlib.Core.Path.{_≡_, _∙_, sym, refl, ap}
-use Prim.Native.Nat.{_-_, _*_}
+use mathlib.Core.Path.{_∙_, refl}
+use Prim.Native.Nat.{_-_, _*_, ℕ}
 use Rattle.language.specs.Structure as definitions
 use Rattle.records.specs.Taking.{unread}
 use Rattle.vetting.proofs.Marks.{others-stated, block-stated}
 use Rattle.vetting.proofs.Names.{names-none}
 use Rattle.vetting.proofs.Shapes.{same-block}
-use Prim.Native.Nat.{ℕ}
 use borrow.Author.Needs.{needs}
 use native.Mathlib.Omega.{arith}
 use Rattle.vetting.proofs.+block+body+declarations+statement+statements.Lts-statement as statement-lts

@@ -1,13 +1,11 @@
 -- `vetting::statements` in the cycle of the check. Assumes nothing.
 use mathlib.Core.Path.{_≡_, _∙_, sym, refl, ap, subst}
-use mathlib.Core.List.{List}
-use Prim.Native.Nat.{_-_, _*_, _≤_}
+use Prim.Native.Nat.{_-_, _*_, _≤_, ℕ}
 use lib.ListN.{length, take}
 use Rattle.language.specs.Structure as definitions
-use Rattle.records.specs.Taking.{unread, progressOf, Within}
+use Rattle.records.specs.Taking.{progressOf, Within}
 use Rattle.vetting.proofs.Lands.{tracks-block}
 use Rattle.vetting.proofs.Loops.{StmtsLeft, stmts-start, stmt-refused, inner-refused, stmts-again, stmts-end}
-use Prim.Native.Nat.{ℕ}
 use borrow.Author.Needs.{needs}
 use native.Mathlib.Omega.{arith}
 use Rattle.vetting.proofs.+block+body+declarations+statement+statements.Lts-statements as statements-lts
