@@ -147,48 +147,48 @@ module _ (bs : List ℕ) (p start base : ℕ) where
       less-none : p - 0 ≡ p
       less-none = omega arith
 
-  module _ (names : List ℕ) (at i : ℕ) (so : SoFar bs p start base names at i) where
-    -- one more to read
-    one-of : i < p → formals p [] start (unread bs start) ≡ after (so .done) (formals (suc (p - (i + 1))) (namesAt names base i) at (unread bs at))
-    one-of h = so .rest ∙ ap (λ k. after (so .done) (formals k (namesAt names base i) at (unread bs at))) fewer
-      where
-        fewer : p - i ≡ suc (p - (i + 1))
-        fewer = omega arith
+module _ {bs : List ℕ} {p start base : ℕ} {names : List ℕ} {at i : ℕ} (so : SoFar bs p start base names at i) where
+  -- one more to read
+  one-of : i < p → formals p [] start (unread bs start) ≡ after (so .done) (formals (suc (p - (i + 1))) (namesAt names base i) at (unread bs at))
+  one-of h = so .rest ∙ ap (λ k. after (so .done) (formals k (namesAt names base i) at (unread bs at))) fewer
+    where
+      fewer : p - i ≡ suc (p - (i + 1))
+      fewer = omega arith
 
-    ends-at : {c : Refusal} {o : ℕ} → i < p → formals (suc (p - (i + 1))) (namesAt names base i) at (unread bs at) ≡ refuse c o → formals p [] start (unread bs start) ≡ refuse c o
-    unfolding after
-    ends-at h e = one-of h ∙ ap (after (so .done)) e
+  ends-at : {c : Refusal} {o : ℕ} → i < p → formals (suc (p - (i + 1))) (namesAt names base i) at (unread bs at) ≡ refuse c o → formals p [] start (unread bs start) ≡ refuse c o
+  unfolding after
+  ends-at h e = one-of h ∙ ap (after (so .done)) e
 
-    pub refused-there : {c : Refusal} {o : ℕ} → i < p → recordAt AFormal bs at ≡ Refused c o → formals p [] start (unread bs start) ≡ refuse c o
-    refused-there {c} {o} h e = ends-at h (formal-stops (p - (i + 1)) (namesAt names base i) bs at c o e)
+  pub refused-there : {c : Refusal} {o : ℕ} → i < p → recordAt AFormal bs at ≡ Refused c o → formals p [] start (unread bs start) ≡ refuse c o
+  refused-there {c} {o} h e = ends-at h (formal-stops (p - (i + 1)) (namesAt names base i) bs at c o e)
 
-    module _ {m : Mark} {next f0 f1 f2 f3 : ℕ} (h : i < p) (e : recordAt AFormal bs at ≡ Taken m next f0 f1 f2 f3) where
-      pub wrong-kind : 2 < f1 → formals p [] start (unread bs start) ≡ refuse FieldRange at
-      wrong-kind k = ends-at h (formal-kind (p - (i + 1)) (namesAt names base i) bs at e k)
+  module _ {m : Mark} {next f0 f1 f2 f3 : ℕ} (h : i < p) (e : recordAt AFormal bs at ≡ Taken m next f0 f1 f2 f3) where
+    pub wrong-kind : 2 < f1 → formals p [] start (unread bs start) ≡ refuse FieldRange at
+    wrong-kind k = ends-at h (formal-kind (p - (i + 1)) (namesAt names base i) bs at e k)
 
-      pub named-twice : f1 ≤ 2 → among f0 (namesAt names base i) ≡ true → formals p [] start (unread bs start) ≡ refuse NameTwice at
-      named-twice k t = ends-at h (formal-twice (p - (i + 1)) (namesAt names base i) bs at e k t)
+    pub named-twice : f1 ≤ 2 → among f0 (namesAt names base i) ≡ true → formals p [] start (unread bs start) ≡ refuse NameTwice at
+    named-twice k t = ends-at h (formal-twice (p - (i + 1)) (namesAt names base i) bs at e k t)
 
-      pub one-more : f1 ≤ 2 → among f0 (namesAt names base i) ≡ false → base + i < length names → SoFar bs p start base (set names (base + i) f0) next (i + 1)
-      one-more k t room =
-          let g = formal-more (p - (i + 1)) (namesAt names base i) bs at e k t in
-          let added = names-added names base i f0 room in
-          record {
-            done = so .done ++ (g .first ∷ []);
-            names-are = added ∙ ap (λ ns. ns ++ (f0 ∷ [])) (so .names-are) ∙ ap (λ n. formalNames (so .done) ++ (n ∷ [])) (sym (g .name-is)) ∙ sym (names-snoc (so .done) (g .first));
-            rest =
-                one-of h ∙ ap (after (so .done)) (g .goes-on) ∙ after-after (so .done) (g .first ∷ []) _
-                ∙ ap (λ (r : Reader (List Formal)). after (so .done ++ (g .first ∷ [])) (r next (unread bs next)))
-                (formals-same (p - (i + 1)) (f0 ∷ namesAt names base i) (namesAt names base i ++ (f0 ∷ [])) (same-snoc (namesAt names base i) f0)
-                ∙ ap (formals (p - (i + 1))) (sym added));
-          }
+    pub one-more : f1 ≤ 2 → among f0 (namesAt names base i) ≡ false → base + i < length names → SoFar bs p start base (set names (base + i) f0) next (i + 1)
+    one-more k t room =
+        let g = formal-more (p - (i + 1)) (namesAt names base i) bs at e k t in
+        let added = names-added names base i f0 room in
+        record {
+          done = so .done ++ (g .first ∷ []);
+          names-are = added ∙ ap (λ ns. ns ++ (f0 ∷ [])) (so .names-are) ∙ ap (λ n. formalNames (so .done) ++ (n ∷ [])) (sym (g .name-is)) ∙ sym (names-snoc (so .done) (g .first));
+          rest =
+              one-of h ∙ ap (after (so .done)) (g .goes-on) ∙ after-after (so .done) (g .first ∷ []) _
+              ∙ ap (λ (r : Reader (List Formal)). after (so .done ++ (g .first ∷ [])) (r next (unread bs next)))
+              (formals-same (p - (i + 1)) (f0 ∷ namesAt names base i) (namesAt names base i ++ (f0 ∷ [])) (same-snoc (namesAt names base i) f0)
+              ∙ ap (formals (p - (i + 1))) (sym added));
+        }
 
-    pub all-read : p ≤ i → formals p [] start (unread bs start) ≡ read (so .done ++ []) at (unread bs at)
-    unfolding after
-    all-read h = so .rest ∙ ap (λ k. after (so .done) (formals k (namesAt names base i) at (unread bs at))) none-left ∙ ap (after (so .done)) (formal-none (namesAt names base i) at (unread bs at))
-      where
-        none-left : p - i ≡ 0
-        none-left = omega arith
+  pub all-read : p ≤ i → formals p [] start (unread bs start) ≡ read (so .done ++ []) at (unread bs at)
+  unfolding after
+  all-read h = so .rest ∙ ap (λ k. after (so .done) (formals k (namesAt names base i) at (unread bs at))) none-left ∙ ap (after (so .done)) (formal-none (namesAt names base i) at (unread bs at))
+    where
+      none-left : p - i ≡ 0
+      none-left = omega arith
 
 -- what the code ensures of the formals, from how the definitions' outcome is known
 module _ (x : Outcome (List Formal)) (ns : List ℕ) where

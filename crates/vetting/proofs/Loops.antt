@@ -47,7 +47,7 @@ module _ (body : BlockReader) (s d : ℕ) (bs : List ℕ) (start base held : ℕ
       held-all : held + 0 ≡ held
       held-all = omega arith
 
-module _ (body : BlockReader) (s d : ℕ) (seen bs : List ℕ) (start : ℕ) (names : List ℕ) (base held at i : ℕ) (h : AllTrack bs body) (l : DeclsLeft body s d seen bs start names base held at i) where
+module _ {body : BlockReader} {s d : ℕ} {seen bs : List ℕ} {start : ℕ} {names : List ℕ} {base held at i : ℕ} (h : AllTrack bs body) (l : DeclsLeft body s d seen bs start names base held at i) where
   abbrev names-so-far : List ℕ
   names-so-far = namesAt names base (held + i)
 
@@ -110,7 +110,7 @@ stmts-start body s bs start =
       rest = sym (ap (λ k. forget (statements body k start (unread bs start))) (less-none s));
     }
 
-module _ (body : BlockReader) (s : ℕ) (bs : List ℕ) (start at i : ℕ) (h : AllTrack bs body) (l : StmtsLeft body s bs start at i) where
+module _ {body : BlockReader} {s : ℕ} {bs : List ℕ} {start at i : ℕ} (h : AllTrack bs body) (l : StmtsLeft body s bs start at i) where
   module _ (more : i < s) where
     one-stmt : forget (statements body s start (unread bs start)) ≡ forget (statements body (suc (s - (i + 1))) at (unread bs at))
     one-stmt = l .rest ∙ ap (λ k. forget (statements body k at (unread bs at))) (fewer s i more)

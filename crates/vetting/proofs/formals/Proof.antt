@@ -41,9 +41,12 @@ same-length c = c .before .before .before .before .before .loop .inv .1
 returns : tie.Need-returns Inv-loop μ-loop
 returns c =
     let a = c .before .before .before .before .before .before .before .before .args in
-    let w = refused-there (a .script .now) (a .p) (a .start) (a .base) (c .before .before .before .before .before .loop .names) (c .before .before .before .before .before .loop .at) (c .before .before .before .before .before .loop .i) (c .before .before .before .before .before .loop .inv .3) (c .before .before .before .before .loop-test .taken) (sym (c .before .before .before .read-record .ensures .0) ∙ c .before .enum-told .given .1) in
-    let q = post-refused _ (namesAt (c .before .before .before .before .before .loop .names) (a .base) (a .p)) w in
-    (c .onward .ensures ∙ ap progressOf (c .before .enum-told .given .1) ∙ q .0, (q .1, c .before .before .before .before .before .loop .inv .2))
+    let lp = c .before .before .before .before .before .loop in
+    let rr = c .before .before .before .read-record in
+    let told = c .before .enum-told in
+    let w = refused-there (lp .inv .3) (c .before .before .before .before .loop-test .taken) (sym (rr .ensures .0) ∙ told .given .1) in
+    let q = post-refused _ (namesAt (lp .names) (a .base) (a .p)) w in
+    (c .onward .ensures ∙ ap progressOf (told .given .1) ∙ q .0, (q .1, lp .inv .2))
 
 same-length-2 : tie.Need-same-length-2 Inv-loop μ-loop
 same-length-2 c = c .before .before .before .before .before .before .loop .inv .1
@@ -51,9 +54,12 @@ same-length-2 c = c .before .before .before .before .before .before .loop .inv .
 returns-2 : tie.Need-returns-2 Inv-loop μ-loop
 returns-2 c =
     let a = c .before .before .before .before .before .before .before .before .before .args in
-    let w = wrong-kind (a .script .now) (a .p) (a .start) (a .base) (c .before .before .before .before .before .before .loop .names) (c .before .before .before .before .before .before .loop .at) (c .before .before .before .before .before .before .loop .i) (c .before .before .before .before .before .before .loop .inv .3) (c .before .before .before .before .before .loop-test .taken) (sym (c .before .before .before .before .read-record .ensures .0) ∙ c .before .before .reading .given .1) (c .if1 .taken) in
-    let q = post-refused _ (namesAt (c .before .before .before .before .before .before .loop .names) (a .base) (a .p)) w in
-    (q .0, (q .1, c .before .before .before .before .before .before .loop .inv .2))
+    let lp = c .before .before .before .before .before .before .loop in
+    let rr = c .before .before .before .before .read-record in
+    let r = c .before .before .reading in
+    let w = wrong-kind (lp .inv .3) (c .before .before .before .before .before .loop-test .taken) (sym (rr .ensures .0) ∙ r .given .1) (c .if1 .taken) in
+    let q = post-refused _ (namesAt (lp .names) (a .base) (a .p)) w in
+    (q .0, (q .1, lp .inv .2))
 
 seen-requires : tie.Need-seen-requires Inv-loop μ-loop
 seen-requires c κs = omega (arith, c .before .before .before .before .before .before .before .loop .inv)
@@ -64,9 +70,12 @@ same-length-3 c = c .before .before .before .before .before .before .before .bef
 returns-3 : tie.Need-returns-3 Inv-loop μ-loop
 returns-3 c =
     let a = c .before .before .before .before .before .before .before .before .before .before .before .before .args in
-    let w = named-twice (a .script .now) (a .p) (a .start) (a .base) (c .before .before .before .before .before .before .before .before .before .loop .names) (c .before .before .before .before .before .before .before .before .before .loop .at) (c .before .before .before .before .before .before .before .before .before .loop .i) (c .before .before .before .before .before .before .before .before .before .loop .inv .3) (c .before .before .before .before .before .before .before .before .loop-test .taken) (sym (c .before .before .before .before .before .before .before .read-record .ensures .0) ∙ c .before .before .before .before .before .reading .given .1) (c .before .before .before .if1 .left) (sym (c .before .seen .ensures) ∙ c .if2 .taken) in
-    let q = post-refused _ (namesAt (c .before .before .before .before .before .before .before .before .before .loop .names) (a .base) (a .p)) w in
-    (q .0, (q .1, c .before .before .before .before .before .before .before .before .before .loop .inv .2))
+    let lp = c .before .before .before .before .before .before .before .before .before .loop in
+    let rr = c .before .before .before .before .before .before .before .read-record in
+    let r = c .before .before .before .before .before .reading in
+    let w = named-twice (lp .inv .3) (c .before .before .before .before .before .before .before .before .loop-test .taken) (sym (rr .ensures .0) ∙ r .given .1) (c .before .before .before .if1 .left) (sym (c .before .seen .ensures) ∙ c .if2 .taken) in
+    let q = post-refused _ (namesAt (lp .names) (a .base) (a .p)) w in
+    (q .0, (q .1, lp .inv .2))
 
 add-names : tie.Need-add-names Inv-loop μ-loop
 add-names c = search needs
@@ -86,8 +95,11 @@ loop-less c = search needs
 loop-again : tie.Need-loop-again Inv-loop μ-loop
 loop-again c =
     let a = c .before .before .before .before .before .before .before .before .before .before .before .before .args in
-    let so = one-more (a .script .now) (a .p) (a .start) (a .base) (c .before .before .before .before .before .before .before .before .before .loop .names) (c .before .before .before .before .before .before .before .before .before .loop .at) (c .before .before .before .before .before .before .before .before .before .loop .i) (c .before .before .before .before .before .before .before .before .before .loop .inv .3) (c .before .before .before .before .before .before .before .before .loop-test .taken) (sym (c .before .before .before .before .before .before .before .read-record .ensures .0) ∙ c .before .before .before .before .before .reading .given .1) (c .before .before .before .if1 .left) (sym (c .before .seen .ensures) ∙ c .if2 .left) (omega (arith, c .before .before .before .before .before .before .before .before .before .loop .inv, c .before .before .before .before .before .before .before .before .before .before .before .before .pre)) in
-    (search needs, length-set (c .before .before .before .before .before .before .before .before .before .loop .names) (a .base + c .before .before .before .before .before .before .before .before .before .loop .i) (c .before .before .before .before .before .reading .given .0 .1 .1 .0) ∙ c .before .before .before .before .before .before .before .before .before .loop .inv .1, front-set (c .before .before .before .before .before .before .before .before .before .loop .names) (a .base) (c .before .before .before .before .before .before .before .before .before .loop .i) (c .before .before .before .before .before .reading .given .0 .1 .1 .0) ∙ c .before .before .before .before .before .before .before .before .before .loop .inv .2, so)
+    let lp = c .before .before .before .before .before .before .before .before .before .loop in
+    let rr = c .before .before .before .before .before .before .before .read-record in
+    let r = c .before .before .before .before .before .reading in
+    let so = one-more (lp .inv .3) (c .before .before .before .before .before .before .before .before .loop-test .taken) (sym (rr .ensures .0) ∙ r .given .1) (c .before .before .before .if1 .left) (sym (c .before .seen .ensures) ∙ c .if2 .left) (omega (arith, lp .inv, c .before .before .before .before .before .before .before .before .before .before .before .before .pre)) in
+    (omega (arith, c .before .before .before .before .before .before .before .before .loop-test .taken), length-set (lp .names) (a .base + lp .i) (r .given .0 .1 .1 .0) ∙ lp .inv .1, front-set (lp .names) (a .base) (lp .i) (r .given .0 .1 .1 .0) ∙ lp .inv .2, so)
 
 same-length-4 : tie.Need-same-length-4 Inv-loop μ-loop
 same-length-4 c = c .before .loop .inv .1
@@ -95,11 +107,12 @@ same-length-4 c = c .before .loop .inv .1
 returns-4 : tie.Need-returns-4 Inv-loop μ-loop
 returns-4 c =
     let a = c .before .before .before .before .args in
-    let so = c .before .loop .inv .3 in
-    let e : c .before .loop .i ≡ a .p = omega arith in
-    let w = all-read (a .script .now) (a .p) (a .start) (a .base) (c .before .loop .names) (c .before .loop .at) (c .before .loop .i) (c .before .loop .inv .3) (c .loop-test .left) in
-    let q = post-read _ (namesAt (c .before .loop .names) (a .base) (a .p)) w (rw (← e) (so .names-are) ∙ ap formalNames (sym (append-nil (so .done)))) in
-    (q .0, (q .1, c .before .loop .inv .2))
+    let lp = c .before .loop in
+    let so = lp .inv .3 in
+    let e : lp .i ≡ a .p = omega arith in
+    let w = all-read (lp .inv .3) (c .loop-test .left) in
+    let q = post-read _ (namesAt (lp .names) (a .base) (a .p)) w (rw (← e) (so .names-are) ∙ ap formalNames (sym (append-nil (so .done)))) in
+    (q .0, (q .1, lp .inv .2))
 
 pub formals-spec : {M : Type 1} → statement M
 formals-spec =

@@ -39,29 +39,36 @@ pub block-same-length : (t : ℕ) → block-lts.Need-same-length (declarations-b
 block-same-length t c = c .before .before .before .before .declarations .kept .1 .0
 
 pub block-returns-3 : (t : ℕ) → block-lts.Need-returns-3 (declarations-below t, declarations.Post, statements-below t, statements.Post) (block-at t) block.Post
-block-returns-3 t c = let a = c .before .before .before .before .before .before .before .before .before .before .args in (
-  c .enum-told .given .1
-      ∙ decls-refused (a .script .now) (a .names .now) (a .left) (a .at) (a .d) (a .s) (a .held) (a .next) (c .before .before .before .before .before .before .before .if1 .left)
-      (omega (arith, c .before .before .before .before .before .before .before .before .before .before .pre)) (omega (arith, c .before .before .before .before .before .before .before .before .before .before .pre)) (sym (c .before .before .before .before .declarations .ensures .0) ∙ c .enum-told .given .1),
-  subst (λ b. take b (c .before .before .before .before .declarations .last .1 .0) ≡ take b (a .names .now)) (level (a .left) (c .before .before .before .before .before .before .before .if1 .left)) (c .before .before .before .before .declarations .ensures .1),
-)
+block-returns-3 t c = let a = c .before .before .before .before .before .before .before .before .before .before .args in
+    let ds = c .before .before .before .before .declarations in
+    let told = c .enum-told in (
+      told .given .1
+          ∙ decls-refused (a .script .now) (a .names .now) (a .left) (a .at) (a .d) (a .s) (a .held) (a .next) (c .before .before .before .before .before .before .before .if1 .left)
+          (omega (arith, c .before .before .before .before .before .before .before .before .before .before .pre)) (omega (arith, c .before .before .before .before .before .before .before .before .before .before .pre)) (sym (ds .ensures .0) ∙ told .given .1),
+      subst (λ b. take b (ds .last .1 .0) ≡ take b (a .names .now)) (level (a .left) (c .before .before .before .before .before .before .before .if1 .left)) (ds .ensures .1),
+    )
 
 pub block-sub-statements : (t : ℕ) → block-lts.Need-sub-statements (declarations-below t, declarations.Post, statements-below t, statements.Post) (block-at t) block.Post
 block-sub-statements t c = omega (arith, c .before .before .before .before .before .before .before .before .before .before .before .before .pre)
 
 pub block-statements-requires : (t : ℕ) → block-lts.Need-statements-requires (declarations-below t, declarations.Post, statements-below t, statements.Post) (block-at t) block.Post
 block-statements-requires t c κs = let a = c .before .before .before .before .before .before .before .before .before .before .before .before .args in
-    let on = rest-onward (a .script .now) (a .names .now) (a .left) (a .at) (a .d) (a .s) (a .held) (a .next) (c .before .before .before .before .before .before .before .before .before .if1 .left) (omega (arith, c .before .before .before .before .before .before .before .before .before .before .before .before .pre)) (omega (arith, c .before .before .before .before .before .before .before .before .before .before .before .before .pre, c .before .before .before .before .before .before .before .before .if2 .left)) (sym (c .before .before .before .before .before .before .declarations .ensures .0) ∙ c .before .before .declared .given .1) in
-    let l : length (c .before .before .before .before .before .before .declarations .last .1 .0) ≡ length (a .names .now) = c .before .before .before .before .before .before .declarations .kept .1 .0 in
+    let ds = c .before .before .before .before .before .before .declarations in
+    let dd = c .before .before .declared in
+    let on = rest-onward (a .script .now) (a .names .now) (a .left) (a .at) (a .d) (a .s) (a .held) (a .next) (c .before .before .before .before .before .before .before .before .before .if1 .left) (omega (arith, c .before .before .before .before .before .before .before .before .before .before .before .before .pre)) (omega (arith, c .before .before .before .before .before .before .before .before .before .before .before .before .pre, c .before .before .before .before .before .before .before .before .if2 .left)) (sym (ds .ensures .0) ∙ dd .given .1) in
+    let l : length (ds .last .1 .0) ≡ length (a .names .now) = ds .kept .1 .0 in
     omega (arith, c .before .before .before .before .before .before .before .before .before .before .before .before .pre, on)
 
 pub block-same-length-2 : (t : ℕ) → block-lts.Need-same-length-2 (declarations-below t, declarations.Post, statements-below t, statements.Post) (block-at t) block.Post
 block-same-length-2 t c = c .before .before .statements .kept .1 .0 ∙ c .before .before .before .before .before .before .before .before .before .declarations .kept .1 .0
 
 pub block-returns-4 : (t : ℕ) → block-lts.Need-returns-4 (declarations-below t, declarations.Post, statements-below t, statements.Post) (block-at t) block.Post
-block-returns-4 t c = let a = c .before .before .before .before .before .before .before .before .before .before .before .before .before .before .before .args in (
-  c .before .before .statements .ensures .0
-      ∙ rest-is (a .script .now) (a .names .now) (a .left) (a .at) (a .d) (a .s) (a .held) (a .next) (c .before .before .before .before .before .before .before .before .before .before .before .before .if1 .left) (omega (arith, c .before .before .before .before .before .before .before .before .before .before .before .before .before .before .before .pre)) (omega (arith, c .before .before .before .before .before .before .before .before .before .before .before .before .before .before .before .pre, c .before .before .before .before .before .before .before .before .before .before .before .if2 .left)) (sym (c .before .before .before .before .before .before .before .before .before .declarations .ensures .0) ∙ c .before .before .before .before .before .declared .given .1),
-  front-kept (c .before .before .before .before .before .before .before .before .before .declarations .last .1 .0) (c .before .before .statements .last .1 .0) (512 - 32 * a .left) (512 - 32 * (a .left - 1)) (omega arith) (c .before .before .statements .ensures .1)
-      ∙ subst (λ b. take b (c .before .before .before .before .before .before .before .before .before .declarations .last .1 .0) ≡ take b (a .names .now)) (level (a .left) (c .before .before .before .before .before .before .before .before .before .before .before .before .if1 .left)) (c .before .before .before .before .before .before .before .before .before .declarations .ensures .1),
-)
+block-returns-4 t c = let a = c .before .before .before .before .before .before .before .before .before .before .before .before .before .before .before .args in
+    let ss = c .before .before .statements in
+    let ds = c .before .before .before .before .before .before .before .before .before .declarations in
+    let dd = c .before .before .before .before .before .declared in (
+      ss .ensures .0
+          ∙ rest-is (a .script .now) (a .names .now) (a .left) (a .at) (a .d) (a .s) (a .held) (a .next) (c .before .before .before .before .before .before .before .before .before .before .before .before .if1 .left) (omega (arith, c .before .before .before .before .before .before .before .before .before .before .before .before .before .before .before .pre)) (omega (arith, c .before .before .before .before .before .before .before .before .before .before .before .before .before .before .before .pre, c .before .before .before .before .before .before .before .before .before .before .before .if2 .left)) (sym (ds .ensures .0) ∙ dd .given .1),
+      front-kept (ds .last .1 .0) (ss .last .1 .0) (512 - 32 * a .left) (512 - 32 * (a .left - 1)) (omega arith) (ss .ensures .1)
+          ∙ subst (λ b. take b (ds .last .1 .0) ≡ take b (a .names .now)) (level (a .left) (c .before .before .before .before .before .before .before .before .before .before .before .before .if1 .left)) (ds .ensures .1),
+    )

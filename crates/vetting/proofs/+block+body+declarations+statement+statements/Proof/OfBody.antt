@@ -33,8 +33,10 @@ body-sub-formals t c = omega (arith, c .before .before .before .before .before .
 
 pub body-formals-requires : (t : ℕ) → body-lts.Need-formals-requires (formals-reads.Asked, formals-reads.Learnt, read-record-reads.Asked, read-record-reads.Learnt, onward-reads.Asked, onward-reads.Learnt, wide-reads.Asked, wide-reads.Learnt, block-below t, block.Post) (body-at t) body.Post
 body-formals-requires t c κs = let a = c .before .before .before .before .before .args in
-    let h = few-formals (a .p) (a .mark) (c .before .enum-told .given .1) (c .before .before .before .before .before .pre .1 .1) in
-    omega (arith, c .before .before .before .before .before .pre, h)
+    let told = c .before .enum-told in
+    let pre = c .before .before .before .before .before .pre in
+    let h = few-formals (a .p) (a .mark) (told .given .1) (pre .1 .1) in
+    omega (arith, pre, h)
 
 pub body-enum-known-formal : (t : ℕ) → body-lts.Need-enum-known-formal (formals-reads.Asked, formals-reads.Learnt, read-record-reads.Asked, read-record-reads.Learnt, onward-reads.Asked, onward-reads.Learnt, wide-reads.Asked, wide-reads.Learnt, block-below t, block.Post) (body-at t) body.Post
 body-enum-known-formal t c = search needs
@@ -46,12 +48,15 @@ pub body-same-length : (t : ℕ) → body-lts.Need-same-length (formals-reads.As
 body-same-length t c = c .before .before .before .before .formals .kept .1 .0
 
 pub body-returns-2 : (t : ℕ) → body-lts.Need-returns-2 (formals-reads.Asked, formals-reads.Learnt, read-record-reads.Asked, read-record-reads.Learnt, onward-reads.Asked, onward-reads.Learnt, wide-reads.Asked, wide-reads.Learnt, block-below t, block.Post) (body-at t) body.Post
-body-returns-2 t c = let a = c .before .before .before .before .before .before .before .before .before .before .args in (
-  c .enum-told2 .given .1
-      ∙ formals-refused (definitions.blockWith (a .below)) (a .p) (a .script .now) (a .start) (sym (c .before .before .before .before .formals .ensures .0) ∙ c .enum-told2 .given .1)
-      ∙ body-below (definitions.blockWith (a .below)) (a .p) (a .start) (unread (a .script .now) (a .start)) (a .mark) (c .before .before .before .before .before .before .enum-told .given .1),
-  c .before .before .before .before .formals .ensures .1 .1,
-)
+body-returns-2 t c = let a = c .before .before .before .before .before .before .before .before .before .before .args in
+    let fo = c .before .before .before .before .formals in
+    let told = c .before .before .before .before .before .before .enum-told in
+    let told2 = c .enum-told2 in (
+      told2 .given .1
+          ∙ formals-refused (definitions.blockWith (a .below)) (a .p) (a .script .now) (a .start) (sym (fo .ensures .0) ∙ told2 .given .1)
+          ∙ body-below (definitions.blockWith (a .below)) (a .p) (a .start) (unread (a .script .now) (a .start)) (a .mark) (told .given .1),
+      fo .ensures .1 .1,
+    )
 
 pub body-read-record-requires : (t : ℕ) → body-lts.Need-read-record-requires (formals-reads.Asked, formals-reads.Learnt, read-record-reads.Asked, read-record-reads.Learnt, onward-reads.Asked, onward-reads.Learnt, wide-reads.Asked, wide-reads.Learnt, block-below t, block.Post) (body-at t) body.Post
 body-read-record-requires t c κs = search needs
@@ -69,12 +74,17 @@ pub body-same-length-2 : (t : ℕ) → body-lts.Need-same-length-2 (formals-read
 body-same-length-2 t c = c .before .before .before .before .before .before .before .before .before .formals .kept .1 .0
 
 pub body-returns-3 : (t : ℕ) → body-lts.Need-returns-3 (formals-reads.Asked, formals-reads.Learnt, read-record-reads.Asked, read-record-reads.Learnt, onward-reads.Asked, onward-reads.Learnt, wide-reads.Asked, wide-reads.Learnt, block-below t, block.Post) (body-at t) body.Post
-body-returns-3 t c = let a = c .before .before .before .before .before .before .before .before .before .before .before .before .before .before .before .args in (
-  c .onward .ensures ∙ ap progressOf (c .before .enum-told3 .given .1)
-      ∙ head-refused (definitions.blockWith (a .below)) (a .p) (a .script .now) (a .start) (sym (c .before .before .before .before .before .before .before .before .before .formals .ensures .0) ∙ c .before .before .before .before .before .formal .given .1) (sym (c .before .before .before .read-record .ensures .0) ∙ c .before .enum-told3 .given .1)
-      ∙ body-below (definitions.blockWith (a .below)) (a .p) (a .start) (unread (a .script .now) (a .start)) (a .mark) (c .before .before .before .before .before .before .before .before .before .before .before .enum-told .given .1),
-  c .before .before .before .before .before .before .before .before .before .formals .ensures .1 .1,
-)
+body-returns-3 t c = let a = c .before .before .before .before .before .before .before .before .before .before .before .before .before .before .before .args in
+    let rr = c .before .before .before .read-record in
+    let fo = c .before .before .before .before .before .before .before .before .before .formals in
+    let fm = c .before .before .before .before .before .formal in
+    let told = c .before .before .before .before .before .before .before .before .before .before .before .enum-told in
+    let told3 = c .before .enum-told3 in (
+      c .onward .ensures ∙ ap progressOf (told3 .given .1)
+          ∙ head-refused (definitions.blockWith (a .below)) (a .p) (a .script .now) (a .start) (sym (fo .ensures .0) ∙ fm .given .1) (sym (rr .ensures .0) ∙ told3 .given .1)
+          ∙ body-below (definitions.blockWith (a .below)) (a .p) (a .start) (unread (a .script .now) (a .start)) (a .mark) (told .given .1),
+      fo .ensures .1 .1,
+    )
 
 pub body-wide-requires : (t : ℕ) → body-lts.Need-wide-requires (formals-reads.Asked, formals-reads.Learnt, read-record-reads.Asked, read-record-reads.Learnt, onward-reads.Asked, onward-reads.Learnt, wide-reads.Asked, wide-reads.Learnt, block-below t, block.Post) (body-at t) body.Post
 body-wide-requires t c κs = search needs
@@ -84,21 +94,35 @@ body-wide-requires-2 t c κs = search needs
 
 pub body-block-requires : (t : ℕ) → body-lts.Need-block-requires (formals-reads.Asked, formals-reads.Learnt, read-record-reads.Asked, read-record-reads.Learnt, onward-reads.Asked, onward-reads.Learnt, wide-reads.Asked, wide-reads.Learnt, block-below t, block.Post) (body-at t) body.Post
 body-block-requires t c κs = let a = c .before .before .before .before .before .before .before .before .before .before .before .before .before .before .before .before .before .before .args in
-    let h = few-formals (a .p) (a .mark) (c .before .before .before .before .before .before .before .before .before .before .before .before .before .before .enum-told .given .1) (c .before .before .before .before .before .before .before .before .before .before .before .before .before .before .before .before .before .before .pre .1 .1) in
-    let on = formals-onward (definitions.blockWith (a .below)) (a .p) (a .script .now) (a .start) (sym (c .before .before .before .before .before .before .before .before .before .before .before .before .formals .ensures .0) ∙ c .before .before .before .before .before .before .before .before .formal .given .1) in
-    let within = subst (Within (length (a .script .now)) (c .before .before .before .before .before .before .before .before .formal .given .0 .0)) (c .before .before .before .before .reading .given .1) (c .before .before .before .before .before .before .read-record .ensures .1) in
-    let l : length (c .before .before .before .before .before .before .before .before .before .before .before .before .formals .last .1 .0) ≡ length (a .names .now) = c .before .before .before .before .before .before .before .before .before .before .before .before .formals .kept .1 .0 in
-    omega (arith, c .before .before .before .before .before .before .before .before .before .before .before .before .before .before .before .before .before .before .pre, h, on, within)
+    let rr = c .before .before .before .before .before .before .read-record in
+    let r = c .before .before .before .before .reading in
+    let fo = c .before .before .before .before .before .before .before .before .before .before .before .before .formals in
+    let fm = c .before .before .before .before .before .before .before .before .formal in
+    let told = c .before .before .before .before .before .before .before .before .before .before .before .before .before .before .enum-told in
+    let pre = c .before .before .before .before .before .before .before .before .before .before .before .before .before .before .before .before .before .before .pre in
+    let h = few-formals (a .p) (a .mark) (told .given .1) (pre .1 .1) in
+    let on = formals-onward (definitions.blockWith (a .below)) (a .p) (a .script .now) (a .start) (sym (fo .ensures .0) ∙ fm .given .1) in
+    let within = subst (Within (length (a .script .now)) (fm .given .0 .0)) (r .given .1) (rr .ensures .1) in
+    let l : length (fo .last .1 .0) ≡ length (a .names .now) = fo .kept .1 .0 in
+    omega (arith, pre, h, on, within)
 
 pub body-same-length-3 : (t : ℕ) → body-lts.Need-same-length-3 (formals-reads.Asked, formals-reads.Learnt, read-record-reads.Asked, read-record-reads.Learnt, onward-reads.Asked, onward-reads.Learnt, wide-reads.Asked, wide-reads.Learnt, block-below t, block.Post) (body-at t) body.Post
 body-same-length-3 t c = c .before .before .block .kept .1 .0 ∙ c .before .before .before .before .before .before .before .before .before .before .before .before .before .before .before .formals .kept .1 .0
 
 pub body-returns-4 : (t : ℕ) → body-lts.Need-returns-4 (formals-reads.Asked, formals-reads.Learnt, read-record-reads.Asked, read-record-reads.Learnt, onward-reads.Asked, onward-reads.Learnt, wide-reads.Asked, wide-reads.Learnt, block-below t, block.Post) (body-at t) body.Post
 body-returns-4 t c = let a = c .before .before .before .before .before .before .before .before .before .before .before .before .before .before .before .before .before .before .before .before .before .args in
+    let rr = c .before .before .before .before .before .before .before .before .before .read-record in
+    let r = c .before .before .before .before .before .before .before .reading in
+    let w = c .before .before .before .before .wide in
+    let w2 = c .before .before .before .wide2 in
+    let fo = c .before .before .before .before .before .before .before .before .before .before .before .before .before .before .before .formals in
+    let fm = c .before .before .before .before .before .before .before .before .before .before .before .formal in
+    let bk = c .before .before .block in
+    let told = c .before .before .before .before .before .before .before .before .before .before .before .before .before .before .before .before .before .enum-told in
     let k = definitions.blockWith (a .below) in (
-      c .before .before .block .ensures .0
-          ∙ same-block (a .below) (c .before .before .before .before .before .before .before .before .before .before .before .formal .given .0 .0) (c .before .before .before .before .before .before .before .reading .given .0 .1 .0) (unread (a .script .now) (c .before .before .before .before .before .before .before .reading .given .0 .1 .0)) (c .before .before .before .before .wide .ensures) (c .before .before .before .wide2 .ensures) refl
-          ∙ body-is k (a .p) (a .script .now) (a .start) (sym (c .before .before .before .before .before .before .before .before .before .before .before .before .before .before .before .formals .ensures .0) ∙ c .before .before .before .before .before .before .before .before .before .before .before .formal .given .1) (namesAt (c .before .before .before .before .before .before .before .before .before .before .before .before .before .before .before .formals .last .1 .0) (512 - 32 * a .below) (a .p)) (sym (c .before .before .before .before .before .before .before .before .before .read-record .ensures .0) ∙ c .before .before .before .before .before .before .before .reading .given .1) (c .before .before .before .before .before .before .before .before .before .before .before .before .before .before .before .formals .ensures .1 .0)
-          ∙ body-below k (a .p) (a .start) (unread (a .script .now) (a .start)) (a .mark) (c .before .before .before .before .before .before .before .before .before .before .before .before .before .before .before .before .before .enum-told .given .1),
-      c .before .before .block .ensures .1 ∙ c .before .before .before .before .before .before .before .before .before .before .before .before .before .before .before .formals .ensures .1 .1,
+      bk .ensures .0
+          ∙ same-block (a .below) (fm .given .0 .0) (r .given .0 .1 .0) (unread (a .script .now) (r .given .0 .1 .0)) (w .ensures) (w2 .ensures) refl
+          ∙ body-is k (a .p) (a .script .now) (a .start) (sym (fo .ensures .0) ∙ fm .given .1) (namesAt (fo .last .1 .0) (512 - 32 * a .below) (a .p)) (sym (rr .ensures .0) ∙ r .given .1) (fo .ensures .1 .0)
+          ∙ body-below k (a .p) (a .start) (unread (a .script .now) (a .start)) (a .mark) (told .given .1),
+      bk .ensures .1 ∙ fo .ensures .1 .1,
     )

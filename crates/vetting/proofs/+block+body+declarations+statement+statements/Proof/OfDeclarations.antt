@@ -53,11 +53,14 @@ pub declarations-same-length : (t : ℕ) → declarations-lts.Need-same-length (
 declarations-same-length t c = c .before .before .before .before .before .loop .inv .1 ∙ sym (c .before .before .before .before .before .before .before .before .pre .1 .2)
 
 pub declarations-returns : (t : ℕ) → declarations-lts.Need-returns (read-record-reads.Asked, read-record-reads.Learnt, onward-reads.Asked, onward-reads.Learnt, heading-reads.Asked, heading-reads.Learnt, wide-reads.Asked, wide-reads.Learnt, body-below t, body.Post) (declarations-at t) declarations.Post declarations-Inv-loop declarations-μ-loop
-declarations-returns t c = let a = c .before .before .before .before .before .before .before .before .args in (
-  c .onward .ensures ∙ ap progressOf (c .before .enum-told .given .1)
-      ∙ decl-refused (definitions.blockWith (a .below)) (a .s) (a .d) (namesAt (a .names .now) (480 - 32 * a .below) (a .held)) (a .script .now) (a .start) (c .before .before .before .before .before .loop .names) (480 - 32 * a .below) (a .held) (c .before .before .before .before .before .loop .at) (c .before .before .before .before .before .loop .i) (tracks-block (a .script .now) (a .below)) (c .before .before .before .before .before .loop .inv .3) (c .before .before .before .before .loop-test .taken) (sym (c .before .before .before .read-record .ensures .0) ∙ c .before .enum-told .given .1),
-  c .before .before .before .before .before .loop .inv .2,
-)
+declarations-returns t c = let a = c .before .before .before .before .before .before .before .before .args in
+    let lp = c .before .before .before .before .before .loop in
+    let rr = c .before .before .before .read-record in
+    let told = c .before .enum-told in (
+      c .onward .ensures ∙ ap progressOf (told .given .1)
+          ∙ decl-refused (tracks-block (a .script .now) (a .below)) (lp .inv .3) (c .before .before .before .before .loop-test .taken) (sym (rr .ensures .0) ∙ told .given .1),
+      lp .inv .2,
+    )
 
 pub declarations-add-count : (t : ℕ) → declarations-lts.Need-add-count (read-record-reads.Asked, read-record-reads.Learnt, onward-reads.Asked, onward-reads.Learnt, heading-reads.Asked, heading-reads.Learnt, wide-reads.Asked, wide-reads.Learnt, body-below t, body.Post) (declarations-at t) declarations.Post declarations-Inv-loop declarations-μ-loop
 declarations-add-count t c = omega (arith, c .before .before .before .before .before .before .before .before .pre, c .before .before .before .before .before .loop .inv .0)
@@ -75,23 +78,35 @@ pub declarations-same-length-2 : (t : ℕ) → declarations-lts.Need-same-length
 declarations-same-length-2 t c = c .before .before .before .before .before .before .before .before .before .loop .inv .1 ∙ sym (c .before .before .before .before .before .before .before .before .before .before .before .before .pre .1 .2)
 
 pub declarations-returns-2 : (t : ℕ) → declarations-lts.Need-returns-2 (read-record-reads.Asked, read-record-reads.Learnt, onward-reads.Asked, onward-reads.Learnt, heading-reads.Asked, heading-reads.Learnt, wide-reads.Asked, wide-reads.Learnt, body-below t, body.Post) (declarations-at t) declarations.Post declarations-Inv-loop declarations-μ-loop
-declarations-returns-2 t c = let a = c .before .before .before .before .before .before .before .before .before .before .before .before .args in (
-  c .enum-told2 .given .1
-      ∙ own-refused (definitions.blockWith (a .below)) (a .s) (a .d) (namesAt (a .names .now) (480 - 32 * a .below) (a .held)) (a .script .now) (a .start) (c .before .before .before .before .before .before .before .before .before .loop .names) (480 - 32 * a .below) (a .held) (c .before .before .before .before .before .before .before .before .before .loop .at) (c .before .before .before .before .before .before .before .before .before .loop .i) (tracks-block (a .script .now) (a .below)) (c .before .before .before .before .before .before .before .before .before .loop .inv .3) (c .before .before .before .before .before .before .before .before .loop-test .taken) (sym (c .before .before .before .before .before .before .before .read-record .ensures .0) ∙ c .before .before .before .before .before .reading .given .1) (sym (c .before .before .heading .ensures) ∙ c .enum-told2 .given .1),
-  c .before .before .before .before .before .before .before .before .before .loop .inv .2,
-)
+declarations-returns-2 t c = let a = c .before .before .before .before .before .before .before .before .before .before .before .before .args in
+    let lp = c .before .before .before .before .before .before .before .before .before .loop in
+    let rr = c .before .before .before .before .before .before .before .read-record in
+    let r = c .before .before .before .before .before .reading in
+    let hd = c .before .before .heading in
+    let told2 = c .enum-told2 in (
+      told2 .given .1
+          ∙ own-refused (tracks-block (a .script .now) (a .below)) (lp .inv .3) (c .before .before .before .before .before .before .before .before .loop-test .taken) (sym (rr .ensures .0) ∙ r .given .1) (sym (hd .ensures) ∙ told2 .given .1),
+      lp .inv .2,
+    )
 
 pub declarations-wide-requires : (t : ℕ) → declarations-lts.Need-wide-requires (read-record-reads.Asked, read-record-reads.Learnt, onward-reads.Asked, onward-reads.Learnt, heading-reads.Asked, heading-reads.Learnt, wide-reads.Asked, wide-reads.Learnt, body-below t, body.Post) (declarations-at t) declarations.Post declarations-Inv-loop declarations-μ-loop
 declarations-wide-requires t c κs = search needs
 
 pub declarations-body-requires : (t : ℕ) → declarations-lts.Need-body-requires (read-record-reads.Asked, read-record-reads.Learnt, onward-reads.Asked, onward-reads.Learnt, heading-reads.Asked, heading-reads.Learnt, wide-reads.Asked, wide-reads.Learnt, body-below t, body.Post) (declarations-at t) declarations.Post declarations-Inv-loop declarations-μ-loop
 declarations-body-requires t c κs = let a = c .before .before .before .before .before .before .before .before .before .before .before .before .before .before .before .args in
-    let on = c .before .before .before .before .before .before .before .before .before .before .before .before .loop .inv .3 .onward in
-    let within = subst (Within (length (a .script .now)) (c .before .before .before .before .before .before .before .before .before .before .before .before .loop .at)) (c .before .before .before .before .before .before .before .before .reading .given .1) (c .before .before .before .before .before .before .before .before .before .before .read-record .ensures .1) in
-    let own = own-at (declMarkOf (c .before .before .before .before .before .before .before .before .reading .given .0 .0)) (c .before .before .before .before .before .before .before .before .before .before .before .before .loop .at) (c .before .before .before .before .before .before .before .before .reading .given .0 .1 .0) (c .before .before .before .before .before .before .before .before .reading .given .0 .1 .1 .1 .0) (a .s) (c .before .before .before .own .given .0 .0) (among (c .before .before .before .before .before .before .before .before .reading .given .0 .1 .1 .0) (namesAt (c .before .before .before .before .before .before .before .before .before .before .before .before .loop .names) (480 - 32 * a .below) (a .held + c .before .before .before .before .before .before .before .before .before .before .before .before .loop .i))) (sym (c .before .before .before .before .before .heading .ensures) ∙ c .before .before .before .own .given .1) in
+    let lp = c .before .before .before .before .before .before .before .before .before .before .before .before .loop in
+    let rr = c .before .before .before .before .before .before .before .before .before .before .read-record in
+    let r = c .before .before .before .before .before .before .before .before .reading in
+    let hd = c .before .before .before .before .before .heading in
+    let ow = c .before .before .before .own in
+    let w = c .wide in
+    let pre = c .before .before .before .before .before .before .before .before .before .before .before .before .before .before .before .pre in
+    let on = lp .inv .3 .onward in
+    let within = subst (Within (length (a .script .now)) (lp .at)) (r .given .1) (rr .ensures .1) in
+    let own = own-at (declMarkOf (r .given .0 .0)) (lp .at) (r .given .0 .1 .0) (r .given .0 .1 .1 .1 .0) (a .s) (ow .given .0 .0) (among (r .given .0 .1 .1 .0) (namesAt (lp .names) (480 - 32 * a .below) (a .held + lp .i))) (sym (hd .ensures) ∙ ow .given .1) in
     let from = own .0 in (
-      omega (arith, c .before .before .before .before .before .before .before .before .before .before .before .before .before .before .before .pre, on, within, from),
-      (c .before .before .before .before .before .before .before .before .before .before .before .before .before .before .before .pre .1 .0, subst (λ k. FewFormals (declMarkOf (c .before .before .before .before .before .before .before .before .reading .given .0 .0)) k) (sym (c .wide .ensures)) (own .1), c .before .before .before .before .before .before .before .before .before .before .before .before .loop .inv .1),
+      omega (arith, pre, on, within, from),
+      (pre .1 .0, subst (λ k. FewFormals (declMarkOf (r .given .0 .0)) k) (sym (w .ensures)) (own .1), lp .inv .1),
     )
 
 pub declarations-enum-known-after : (t : ℕ) → declarations-lts.Need-enum-known-after (read-record-reads.Asked, read-record-reads.Learnt, onward-reads.Asked, onward-reads.Learnt, heading-reads.Asked, heading-reads.Learnt, wide-reads.Asked, wide-reads.Learnt, body-below t, body.Post) (declarations-at t) declarations.Post declarations-Inv-loop declarations-μ-loop
@@ -104,11 +119,19 @@ pub declarations-same-length-3 : (t : ℕ) → declarations-lts.Need-same-length
 declarations-same-length-3 t c = c .before .before .before .before .body .kept .1 .0 ∙ c .before .before .before .before .before .before .before .before .before .before .before .before .before .before .before .before .before .loop .inv .1 ∙ sym (c .before .before .before .before .before .before .before .before .before .before .before .before .before .before .before .before .before .before .before .before .pre .1 .2)
 
 pub declarations-returns-3 : (t : ℕ) → declarations-lts.Need-returns-3 (read-record-reads.Asked, read-record-reads.Learnt, onward-reads.Asked, onward-reads.Learnt, heading-reads.Asked, heading-reads.Learnt, wide-reads.Asked, wide-reads.Learnt, body-below t, body.Post) (declarations-at t) declarations.Post declarations-Inv-loop declarations-μ-loop
-declarations-returns-3 t c = let a = c .before .before .before .before .before .before .before .before .before .before .before .before .before .before .before .before .before .before .before .before .args in (
-  c .enum-told3 .given .1
-      ∙ below-refused (definitions.blockWith (a .below)) (a .s) (a .d) (namesAt (a .names .now) (480 - 32 * a .below) (a .held)) (a .script .now) (a .start) (c .before .before .before .before .before .before .before .before .before .before .before .before .before .before .before .before .before .loop .names) (480 - 32 * a .below) (a .held) (c .before .before .before .before .before .before .before .before .before .before .before .before .before .before .before .before .before .loop .at) (c .before .before .before .before .before .before .before .before .before .before .before .before .before .before .before .before .before .loop .i) (tracks-block (a .script .now) (a .below)) (c .before .before .before .before .before .before .before .before .before .before .before .before .before .before .before .before .before .loop .inv .3) (c .before .before .before .before .before .before .before .before .before .before .before .before .before .before .before .before .loop-test .taken) (sym (c .before .before .before .before .before .before .before .before .before .before .before .before .before .before .before .read-record .ensures .0) ∙ c .before .before .before .before .before .before .before .before .before .before .before .before .before .reading .given .1) (sym (c .before .before .before .before .before .before .before .before .before .before .heading .ensures) ∙ c .before .before .before .before .before .before .before .before .own .given .1) (ap (λ k. belowOf (definitions.blockWith (a .below)) (declMarkOf (c .before .before .before .before .before .before .before .before .before .before .before .before .before .reading .given .0 .0)) k (c .before .before .before .before .before .before .before .before .own .given .0 .0) (unread (a .script .now) (c .before .before .before .before .before .before .before .before .own .given .0 .0))) (sym (c .before .before .before .before .before .wide .ensures)) ∙ sym (c .before .before .before .before .body .ensures .0) ∙ c .enum-told3 .given .1),
-  front-kept (c .before .before .before .before .before .before .before .before .before .before .before .before .before .before .before .before .before .loop .names) (c .before .before .before .before .body .last .1 .0) (480 - 32 * a .below) (512 - 32 * a .below) (omega (arith, c .before .before .before .before .before .before .before .before .before .before .before .before .before .before .before .before .before .before .before .before .pre)) (c .before .before .before .before .body .ensures .1) ∙ c .before .before .before .before .before .before .before .before .before .before .before .before .before .before .before .before .before .loop .inv .2,
-)
+declarations-returns-3 t c = let a = c .before .before .before .before .before .before .before .before .before .before .before .before .before .before .before .before .before .before .before .before .args in
+    let lp = c .before .before .before .before .before .before .before .before .before .before .before .before .before .before .before .before .before .loop in
+    let rr = c .before .before .before .before .before .before .before .before .before .before .before .before .before .before .before .read-record in
+    let r = c .before .before .before .before .before .before .before .before .before .before .before .before .before .reading in
+    let hd = c .before .before .before .before .before .before .before .before .before .before .heading in
+    let ow = c .before .before .before .before .before .before .before .before .own in
+    let bd = c .before .before .before .before .body in
+    let w = c .before .before .before .before .before .wide in
+    let told3 = c .enum-told3 in (
+      told3 .given .1
+          ∙ below-refused (tracks-block (a .script .now) (a .below)) (lp .inv .3) (c .before .before .before .before .before .before .before .before .before .before .before .before .before .before .before .before .loop-test .taken) (sym (rr .ensures .0) ∙ r .given .1) (sym (hd .ensures) ∙ ow .given .1) (ap (λ k. belowOf (definitions.blockWith (a .below)) (declMarkOf (r .given .0 .0)) k (ow .given .0 .0) (unread (a .script .now) (ow .given .0 .0))) (sym (w .ensures)) ∙ sym (bd .ensures .0) ∙ told3 .given .1),
+      front-kept (lp .names) (bd .last .1 .0) (480 - 32 * a .below) (512 - 32 * a .below) (omega (arith, c .before .before .before .before .before .before .before .before .before .before .before .before .before .before .before .before .before .before .before .before .pre)) (bd .ensures .1) ∙ lp .inv .2,
+    )
 
 pub declarations-add-names : (t : ℕ) → declarations-lts.Need-add-names (read-record-reads.Asked, read-record-reads.Learnt, onward-reads.Asked, onward-reads.Learnt, heading-reads.Asked, heading-reads.Learnt, wide-reads.Asked, wide-reads.Learnt, body-below t, body.Post) (declarations-at t) declarations.Post declarations-Inv-loop declarations-μ-loop
 declarations-add-names t c = omega (arith, c .before .before .before .before .before .before .before .before .before .before .before .before .before .before .before .before .before .before .before .before .before .pre, c .before .before .before .before .before .before .before .before .before .before .before .before .before .before .before .before .before .before .loop .inv, c .before .before .before .before .before .before .before .before .before .before .before .before .before .before .before .before .before .loop-test .taken)
@@ -128,14 +151,21 @@ declarations-loop-less t c = search needs
 
 pub declarations-loop-again : (t : ℕ) → declarations-lts.Need-loop-again (read-record-reads.Asked, read-record-reads.Learnt, onward-reads.Asked, onward-reads.Learnt, heading-reads.Asked, heading-reads.Learnt, wide-reads.Asked, wide-reads.Learnt, body-below t, body.Post) (declarations-at t) declarations.Post declarations-Inv-loop declarations-μ-loop
 declarations-loop-again t c = let a = c .before .before .before .before .before .before .before .before .before .before .before .before .before .before .before .before .before .before .before .before .before .args in
-    let within = subst (Within (length (a .script .now)) (c .before .before .before .before .before .before .before .before .before .before .before .before .before .before .before .before .before .before .loop .at)) (c .before .before .before .before .before .before .before .before .before .before .before .before .before .before .reading .given .1) (c .before .before .before .before .before .before .before .before .before .before .before .before .before .before .before .before .read-record .ensures .1) in
-    let l : length (c .before .before .before .before .before .body .last .1 .0) ≡ length (c .before .before .before .before .before .before .before .before .before .before .before .before .before .before .before .before .before .before .loop .names) = c .before .before .before .before .before .body .kept .1 .0 in
+    let lp = c .before .before .before .before .before .before .before .before .before .before .before .before .before .before .before .before .before .before .loop in
+    let rr = c .before .before .before .before .before .before .before .before .before .before .before .before .before .before .before .before .read-record in
+    let r = c .before .before .before .before .before .before .before .before .before .before .before .before .before .before .reading in
+    let hd = c .before .before .before .before .before .before .before .before .before .before .before .heading in
+    let ow = c .before .before .before .before .before .before .before .before .before .own in
+    let bd = c .before .before .before .before .before .body in
+    let w = c .before .before .before .before .before .before .wide in
+    let within = subst (Within (length (a .script .now)) (lp .at)) (r .given .1) (rr .ensures .1) in
+    let l : length (bd .last .1 .0) ≡ length (lp .names) = bd .kept .1 .0 in
     let next-level : 512 - 32 * a .below ≡ 480 - 32 * a .below + 32 = omega (arith, c .before .before .before .before .before .before .before .before .before .before .before .before .before .before .before .before .before .before .before .before .before .pre) in
-    let kept = names-kept (c .before .before .before .before .before .before .before .before .before .before .before .before .before .before .before .before .before .before .loop .names) (c .before .before .before .before .before .body .last .1 .0) (480 - 32 * a .below) 32 (a .held + c .before .before .before .before .before .before .before .before .before .before .before .before .before .before .before .before .before .before .loop .i) (omega (arith, c .before .before .before .before .before .before .before .before .before .before .before .before .before .before .before .before .before .before .loop .inv)) (omega (arith, c .before .before .before .before .before .before .before .before .before .before .before .before .before .before .before .before .before .before .loop .inv, l)) (omega (arith, c .before .before .before .before .before .before .before .before .before .before .before .before .before .before .before .before .before .before .before .before .before .pre, c .before .before .before .before .before .before .before .before .before .before .before .before .before .before .before .before .before .loop-test .taken)) (subst (λ b. take b (c .before .before .before .before .before .body .last .1 .0) ≡ take b (c .before .before .before .before .before .before .before .before .before .before .before .before .before .before .before .before .before .before .loop .names)) next-level (c .before .before .before .before .before .body .ensures .1)) in (
-      search needs,
-      length-set (c .before .before .before .before .before .body .last .1 .0) (480 - 32 * a .below + (a .held + c .before .before .before .before .before .before .before .before .before .before .before .before .before .before .before .before .before .before .loop .i)) (c .before .before .before .before .before .before .before .before .before .before .before .before .before .before .reading .given .0 .1 .1 .0) ∙ l ∙ c .before .before .before .before .before .before .before .before .before .before .before .before .before .before .before .before .before .before .loop .inv .1,
-      front-set (c .before .before .before .before .before .body .last .1 .0) (480 - 32 * a .below) (a .held + c .before .before .before .before .before .before .before .before .before .before .before .before .before .before .before .before .before .before .loop .i) (c .before .before .before .before .before .before .before .before .before .before .before .before .before .before .reading .given .0 .1 .1 .0) ∙ front-kept (c .before .before .before .before .before .before .before .before .before .before .before .before .before .before .before .before .before .before .loop .names) (c .before .before .before .before .before .body .last .1 .0) (480 - 32 * a .below) (512 - 32 * a .below) (omega (arith, c .before .before .before .before .before .before .before .before .before .before .before .before .before .before .before .before .before .before .before .before .before .pre)) (c .before .before .before .before .before .body .ensures .1) ∙ c .before .before .before .before .before .before .before .before .before .before .before .before .before .before .before .before .before .before .loop .inv .2,
-      decls-again (definitions.blockWith (a .below)) (a .s) (a .d) (namesAt (a .names .now) (480 - 32 * a .below) (a .held)) (a .script .now) (a .start) (c .before .before .before .before .before .before .before .before .before .before .before .before .before .before .before .before .before .before .loop .names) (480 - 32 * a .below) (a .held) (c .before .before .before .before .before .before .before .before .before .before .before .before .before .before .before .before .before .before .loop .at) (c .before .before .before .before .before .before .before .before .before .before .before .before .before .before .before .before .before .before .loop .i) (tracks-block (a .script .now) (a .below)) (c .before .before .before .before .before .before .before .before .before .before .before .before .before .before .before .before .before .before .loop .inv .3) (c .before .before .before .before .before .before .before .before .before .before .before .before .before .before .before .before .before .loop-test .taken) (sym (c .before .before .before .before .before .before .before .before .before .before .before .before .before .before .before .before .read-record .ensures .0) ∙ c .before .before .before .before .before .before .before .before .before .before .before .before .before .before .reading .given .1) (sym (c .before .before .before .before .before .before .before .before .before .before .before .heading .ensures) ∙ c .before .before .before .before .before .before .before .before .before .own .given .1) (c .before .before .before .before .before .body .last .1 .0) (omega (arith, within)) (ap (λ k. belowOf (definitions.blockWith (a .below)) (declMarkOf (c .before .before .before .before .before .before .before .before .before .before .before .before .before .before .reading .given .0 .0)) k (c .before .before .before .before .before .before .before .before .before .own .given .0 .0) (unread (a .script .now) (c .before .before .before .before .before .before .before .before .before .own .given .0 .0))) (sym (c .before .before .before .before .before .before .wide .ensures)) ∙ sym (c .before .before .before .before .before .body .ensures .0) ∙ c .before .after .given .1) kept (omega (arith, c .before .before .before .before .before .before .before .before .before .before .before .before .before .before .before .before .before .before .before .before .before .pre, c .before .before .before .before .before .before .before .before .before .before .before .before .before .before .before .before .before .before .loop .inv, c .before .before .before .before .before .before .before .before .before .before .before .before .before .before .before .before .before .loop-test .taken, l)),
+    let kept = names-kept (lp .names) (bd .last .1 .0) (480 - 32 * a .below) 32 (a .held + lp .i) (omega (arith, lp .inv)) (omega (arith, lp .inv, l)) (omega (arith, c .before .before .before .before .before .before .before .before .before .before .before .before .before .before .before .before .before .before .before .before .before .pre, c .before .before .before .before .before .before .before .before .before .before .before .before .before .before .before .before .before .loop-test .taken)) (subst (λ b. take b (bd .last .1 .0) ≡ take b (lp .names)) next-level (bd .ensures .1)) in (
+      omega (arith, c .before .before .before .before .before .before .before .before .before .before .before .before .before .before .before .before .before .loop-test .taken),
+      length-set (bd .last .1 .0) (480 - 32 * a .below + (a .held + lp .i)) (r .given .0 .1 .1 .0) ∙ l ∙ lp .inv .1,
+      front-set (bd .last .1 .0) (480 - 32 * a .below) (a .held + lp .i) (r .given .0 .1 .1 .0) ∙ front-kept (lp .names) (bd .last .1 .0) (480 - 32 * a .below) (512 - 32 * a .below) (omega (arith, c .before .before .before .before .before .before .before .before .before .before .before .before .before .before .before .before .before .before .before .before .before .pre)) (bd .ensures .1) ∙ lp .inv .2,
+      decls-again (tracks-block (a .script .now) (a .below)) (lp .inv .3) (c .before .before .before .before .before .before .before .before .before .before .before .before .before .before .before .before .before .loop-test .taken) (sym (rr .ensures .0) ∙ r .given .1) (sym (hd .ensures) ∙ ow .given .1) (bd .last .1 .0) (omega (arith, within)) (ap (λ k. belowOf (definitions.blockWith (a .below)) (declMarkOf (r .given .0 .0)) k (ow .given .0 .0) (unread (a .script .now) (ow .given .0 .0))) (sym (w .ensures)) ∙ sym (bd .ensures .0) ∙ c .before .after .given .1) kept (omega (arith, c .before .before .before .before .before .before .before .before .before .before .before .before .before .before .before .before .before .before .before .before .before .pre, lp .inv, c .before .before .before .before .before .before .before .before .before .before .before .before .before .before .before .before .before .loop-test .taken, l)),
     )
 
 pub declarations-same-length-4 : (t : ℕ) → declarations-lts.Need-same-length-4 (read-record-reads.Asked, read-record-reads.Learnt, onward-reads.Asked, onward-reads.Learnt, heading-reads.Asked, heading-reads.Learnt, wide-reads.Asked, wide-reads.Learnt, body-below t, body.Post) (declarations-at t) declarations.Post declarations-Inv-loop declarations-μ-loop
@@ -143,4 +173,5 @@ declarations-same-length-4 t c = c .before .loop .inv .1 ∙ sym (c .before .bef
 
 pub declarations-returns-4 : (t : ℕ) → declarations-lts.Need-returns-4 (read-record-reads.Asked, read-record-reads.Learnt, onward-reads.Asked, onward-reads.Learnt, heading-reads.Asked, heading-reads.Learnt, wide-reads.Asked, wide-reads.Learnt, body-below t, body.Post) (declarations-at t) declarations.Post declarations-Inv-loop declarations-μ-loop
 declarations-returns-4 t c = let a = c .before .before .before .before .args in
-    (decls-end (definitions.blockWith (a .below)) (a .s) (a .d) (namesAt (a .names .now) (480 - 32 * a .below) (a .held)) (a .script .now) (a .start) (c .before .loop .names) (480 - 32 * a .below) (a .held) (c .before .loop .at) (c .before .loop .i) (tracks-block (a .script .now) (a .below)) (c .before .loop .inv .3) (c .loop-test .left), c .before .loop .inv .2)
+    let lp = c .before .loop in
+    (decls-end (tracks-block (a .script .now) (a .below)) (lp .inv .3) (c .loop-test .left), lp .inv .2)

@@ -42,9 +42,13 @@ statement-same-length t c = c .before .before .block .kept .1 .0
 
 pub statement-returns-2 : (t : ℕ) → statement-lts.Need-returns-2 (action-reads.Asked, action-reads.Learnt, wide-reads.Asked, wide-reads.Learnt, block-below t, block.Post) (statement-at t) statement′.Post
 statement-returns-2 t c = let a = c .before .before .before .before .before .before .before .before .before .before .args in
+    let w = c .before .before .before .before .wide in
+    let w2 = c .before .before .before .wide2 in
+    let bk = c .before .before .block in
+    let told = c .before .before .before .before .before .before .enum-told in
     let ws = unread (a .script .now) (a .next) in (
-      c .before .before .block .ensures .0
-          ∙ same-block (a .below) (a .at) (a .next) ws (c .before .before .before .before .wide .ensures) (c .before .before .before .wide2 .ensures) (names-none (a .names .now) (512 - 32 * a .below))
-          ∙ block-stated (definitions.blockWith (a .below)) (a .at) (a .f0) (a .f1) (a .next) ws (a .mark) (c .before .before .before .before .before .before .enum-told .given .1),
-      c .before .before .block .ensures .1,
+      bk .ensures .0
+          ∙ same-block (a .below) (a .at) (a .next) ws (w .ensures) (w2 .ensures) (names-none (a .names .now) (512 - 32 * a .below))
+          ∙ block-stated (definitions.blockWith (a .below)) (a .at) (a .f0) (a .f1) (a .next) ws (a .mark) (told .given .1),
+      bk .ensures .1,
     )

@@ -40,17 +40,23 @@ pub statements-same-length : (t : ℕ) → statements-lts.Need-same-length (read
 statements-same-length t c = c .before .before .before .before .before .loop .inv .1 ∙ sym (c .before .before .before .before .before .before .before .before .pre .1 .1)
 
 pub statements-returns : (t : ℕ) → statements-lts.Need-returns (read-record-reads.Asked, read-record-reads.Learnt, onward-reads.Asked, onward-reads.Learnt, statement-below t, statement′.Post) (statements-at t) statements.Post statements-Inv-loop statements-μ-loop
-statements-returns t c = let a = c .before .before .before .before .before .before .before .before .args in (
-  c .onward .ensures ∙ ap progressOf (c .before .enum-told .given .1)
-      ∙ stmt-refused (definitions.blockWith (a .below)) (a .s) (a .script .now) (a .start) (c .before .before .before .before .before .loop .at) (c .before .before .before .before .before .loop .i) (tracks-block (a .script .now) (a .below)) (c .before .before .before .before .before .loop .inv .3) (c .before .before .before .before .loop-test .taken) (sym (c .before .before .before .read-record .ensures .0) ∙ c .before .enum-told .given .1),
-  c .before .before .before .before .before .loop .inv .2,
-)
+statements-returns t c = let a = c .before .before .before .before .before .before .before .before .args in
+    let lp = c .before .before .before .before .before .loop in
+    let rr = c .before .before .before .read-record in
+    let told = c .before .enum-told in (
+      c .onward .ensures ∙ ap progressOf (told .given .1)
+          ∙ stmt-refused (tracks-block (a .script .now) (a .below)) (lp .inv .3) (c .before .before .before .before .loop-test .taken) (sym (rr .ensures .0) ∙ told .given .1),
+      lp .inv .2,
+    )
 
 pub statements-statement-requires : (t : ℕ) → statements-lts.Need-statement-requires (read-record-reads.Asked, read-record-reads.Learnt, onward-reads.Asked, onward-reads.Learnt, statement-below t, statement′.Post) (statements-at t) statements.Post statements-Inv-loop statements-μ-loop
 statements-statement-requires t c κs = let a = c .before .before .before .before .before .before .before .before .before .args in
-    let on = c .before .before .before .before .before .before .loop .inv .3 .onward in
-    let within = subst (Within (length (a .script .now)) (c .before .before .before .before .before .before .loop .at)) (c .before .before .reading .given .1) (c .before .before .before .before .read-record .ensures .1) in
-    let l = c .before .before .before .before .before .before .loop .inv .1 in
+    let lp = c .before .before .before .before .before .before .loop in
+    let rr = c .before .before .before .before .read-record in
+    let r = c .before .before .reading in
+    let on = lp .inv .3 .onward in
+    let within = subst (Within (length (a .script .now)) (lp .at)) (r .given .1) (rr .ensures .1) in
+    let l = lp .inv .1 in
     omega (arith, c .before .before .before .before .before .before .before .before .before .pre, on, within, l)
 
 pub statements-enum-known-after : (t : ℕ) → statements-lts.Need-enum-known-after (read-record-reads.Asked, read-record-reads.Learnt, onward-reads.Asked, onward-reads.Learnt, statement-below t, statement′.Post) (statements-at t) statements.Post statements-Inv-loop statements-μ-loop
@@ -63,11 +69,16 @@ pub statements-same-length-2 : (t : ℕ) → statements-lts.Need-same-length-2 (
 statements-same-length-2 t c = c .before .before .before .before .statement .kept .1 .0 ∙ c .before .before .before .before .before .before .before .before .before .before .before .loop .inv .1 ∙ sym (c .before .before .before .before .before .before .before .before .before .before .before .before .before .before .pre .1 .1)
 
 pub statements-returns-2 : (t : ℕ) → statements-lts.Need-returns-2 (read-record-reads.Asked, read-record-reads.Learnt, onward-reads.Asked, onward-reads.Learnt, statement-below t, statement′.Post) (statements-at t) statements.Post statements-Inv-loop statements-μ-loop
-statements-returns-2 t c = let a = c .before .before .before .before .before .before .before .before .before .before .before .before .before .before .args in (
-  c .enum-told2 .given .1
-      ∙ inner-refused (definitions.blockWith (a .below)) (a .s) (a .script .now) (a .start) (c .before .before .before .before .before .before .before .before .before .before .before .loop .at) (c .before .before .before .before .before .before .before .before .before .before .before .loop .i) (tracks-block (a .script .now) (a .below)) (c .before .before .before .before .before .before .before .before .before .before .before .loop .inv .3) (c .before .before .before .before .before .before .before .before .before .before .loop-test .taken) (sym (c .before .before .before .before .before .before .before .before .before .read-record .ensures .0) ∙ c .before .before .before .before .before .before .before .reading .given .1) (sym (c .before .before .before .before .statement .ensures .0) ∙ c .enum-told2 .given .1),
-  c .before .before .before .before .statement .ensures .1 ∙ c .before .before .before .before .before .before .before .before .before .before .before .loop .inv .2,
-)
+statements-returns-2 t c = let a = c .before .before .before .before .before .before .before .before .before .before .before .before .before .before .args in
+    let lp = c .before .before .before .before .before .before .before .before .before .before .before .loop in
+    let rr = c .before .before .before .before .before .before .before .before .before .read-record in
+    let r = c .before .before .before .before .before .before .before .reading in
+    let sm = c .before .before .before .before .statement in
+    let told2 = c .enum-told2 in (
+      told2 .given .1
+          ∙ inner-refused (tracks-block (a .script .now) (a .below)) (lp .inv .3) (c .before .before .before .before .before .before .before .before .before .before .loop-test .taken) (sym (rr .ensures .0) ∙ r .given .1) (sym (sm .ensures .0) ∙ told2 .given .1),
+      sm .ensures .1 ∙ lp .inv .2,
+    )
 
 pub statements-add-i : (t : ℕ) → statements-lts.Need-add-i (read-record-reads.Asked, read-record-reads.Learnt, onward-reads.Asked, onward-reads.Learnt, statement-below t, statement′.Post) (statements-at t) statements.Post statements-Inv-loop statements-μ-loop
 statements-add-i t c = search needs
@@ -77,18 +88,23 @@ statements-loop-less t c = search needs
 
 pub statements-loop-again : (t : ℕ) → statements-lts.Need-loop-again (read-record-reads.Asked, read-record-reads.Learnt, onward-reads.Asked, onward-reads.Learnt, statement-below t, statement′.Post) (statements-at t) statements.Post statements-Inv-loop statements-μ-loop
 statements-loop-again t c = let a = c .before .before .before .before .before .before .before .before .before .before .before .before .before .before .before .args in
-    let within = subst (Within (length (a .script .now)) (c .before .before .before .before .before .before .before .before .before .before .before .before .loop .at)) (c .before .before .before .before .before .before .before .before .reading .given .1) (c .before .before .before .before .before .before .before .before .before .before .read-record .ensures .1) in (
-      search needs,
-      c .before .before .before .before .before .statement .kept .1 .0 ∙ c .before .before .before .before .before .before .before .before .before .before .before .before .loop .inv .1,
-      c .before .before .before .before .before .statement .ensures .1 ∙ c .before .before .before .before .before .before .before .before .before .before .before .before .loop .inv .2,
-      stmts-again (definitions.blockWith (a .below)) (a .s) (a .script .now) (a .start) (c .before .before .before .before .before .before .before .before .before .before .before .before .loop .at) (c .before .before .before .before .before .before .before .before .before .before .before .before .loop .i) (tracks-block (a .script .now) (a .below)) (c .before .before .before .before .before .before .before .before .before .before .before .before .loop .inv .3) (c .before .before .before .before .before .before .before .before .before .before .before .loop-test .taken) (sym (c .before .before .before .before .before .before .before .before .before .before .read-record .ensures .0) ∙ c .before .before .before .before .before .before .before .before .reading .given .1) (omega (arith, within)) (sym (c .before .before .before .before .before .statement .ensures .0) ∙ c .before .after .given .1),
+    let lp = c .before .before .before .before .before .before .before .before .before .before .before .before .loop in
+    let rr = c .before .before .before .before .before .before .before .before .before .before .read-record in
+    let r = c .before .before .before .before .before .before .before .before .reading in
+    let sm = c .before .before .before .before .before .statement in
+    let within = subst (Within (length (a .script .now)) (lp .at)) (r .given .1) (rr .ensures .1) in (
+      omega (arith, c .before .before .before .before .before .before .before .before .before .before .before .loop-test .taken),
+      sm .kept .1 .0 ∙ lp .inv .1,
+      sm .ensures .1 ∙ lp .inv .2,
+      stmts-again (tracks-block (a .script .now) (a .below)) (lp .inv .3) (c .before .before .before .before .before .before .before .before .before .before .before .loop-test .taken) (sym (rr .ensures .0) ∙ r .given .1) (omega (arith, within)) (sym (sm .ensures .0) ∙ c .before .after .given .1),
     )
 
 pub statements-same-length-3 : (t : ℕ) → statements-lts.Need-same-length-3 (read-record-reads.Asked, read-record-reads.Learnt, onward-reads.Asked, onward-reads.Learnt, statement-below t, statement′.Post) (statements-at t) statements.Post statements-Inv-loop statements-μ-loop
 statements-same-length-3 t c = c .before .loop .inv .1 ∙ sym (c .before .before .before .before .pre .1 .1)
 
 pub statements-returns-3 : (t : ℕ) → statements-lts.Need-returns-3 (read-record-reads.Asked, read-record-reads.Learnt, onward-reads.Asked, onward-reads.Learnt, statement-below t, statement′.Post) (statements-at t) statements.Post statements-Inv-loop statements-μ-loop
-statements-returns-3 t c = let a = c .before .before .before .before .args in (
-  stmts-end (definitions.blockWith (a .below)) (a .s) (a .script .now) (a .start) (c .before .loop .at) (c .before .loop .i) (tracks-block (a .script .now) (a .below)) (c .before .loop .inv .3) (c .loop-test .left),
-  c .before .loop .inv .2,
-)
+statements-returns-3 t c = let a = c .before .before .before .before .args in
+    let lp = c .before .loop in (
+      stmts-end (tracks-block (a .script .now) (a .below)) (lp .inv .3) (c .loop-test .left),
+      lp .inv .2,
+    )
