@@ -1,0 +1,2 @@
+-- What the walk of the scope check keeps and gives, over the bytes of the script.
+pub mod Entries
