@@ -6,9 +6,9 @@ use mathlib.Core.List.{List, [], _∷_, map}
 use mathlib.Core.Option.{Option, none, some}
 use lib.Dec.{eqb}
 use lib.ListN.{getD}
-use Rattle.language.specs.Text.{Kind, variable, label, procedure}
-use Rattle.language.specs.Encoding.{two, LB-mark, PR-mark, FM-mark}
-use Rattle.language.specs.Scope.{Meaning, Scope, fine, wrong}
+use Rattle.language.specs.Text.{Kind, variable, label, procedure, CL}
+use Rattle.language.specs.Encoding.{two, LB-mark, PR-mark, FM-mark, CL-mark, GO-mark, IF-mark, KN-mark, AR-mark, QY-mark}
+use Rattle.language.specs.Scope.{Meaning, Scope, fine, wrong, _then_, uses, judgeAction}
 use Rattle.language.specs.Scope as definitions
 use Rattle.scoping.specs.declared.Verdict.{Verdict}
 use Rattle.scoping.specs.declared.Verdict.the-variants.{Fit, Refused}
@@ -64,3 +64,46 @@ scopeOf bs es = map (λ (e : ℕ). (e % 65536, meaningAt bs (e / 65536))) es
 unfoldable pub verdictOf : definitions.Verdict → Verdict
 verdictOf fine = Fit
 verdictOf (wrong c o) = Refused c o
+
+-- two names of one record, and three variables, left to right
+unfoldable pub pairJudged : Scope → ℕ → Kind → ℕ → Kind → ℕ → definitions.Verdict
+pairJudged sc at k n j m = _then_ (uses sc at k n) (uses sc at j m)
+
+unfoldable pub tripleJudged : Scope → ℕ → ℕ → ℕ → ℕ → definitions.Verdict
+tripleJudged sc at n m l = _then_ (uses sc at variable n) (pairJudged sc at variable m variable l)
+
+-- which names a statement has, by its mark
+pub data Shape : Type 0 where
+  isCL isGO isIF isKN isAR isQY isTwo : Shape
+
+unfoldable pub shapeOf : ℕ → Shape
+shapeOf w =
+    elim (eqb w CL-mark) [
+      | true ↦ isCL
+      | false ↦ elim (eqb w GO-mark) [
+        | true ↦ isGO
+        | false ↦ elim (eqb w IF-mark) [
+          | true ↦ isIF
+          | false ↦ elim (eqb w KN-mark) [
+            | true ↦ isKN
+            | false ↦ elim (eqb w AR-mark) [
+              | true ↦ isAR
+              | false ↦ elim (eqb w QY-mark) [
+                | true ↦ isQY
+                | false ↦ isTwo
+              ]
+            ]
+          ]
+        ]
+      ]
+    ]
+
+-- a statement other than BK, judged by its shape
+unfoldable pub judgedAs : Shape → Scope → List ℕ → ℕ → definitions.Verdict
+judgedAs isCL sc bs at = judgeAction sc at (CL (wordAt bs (at + 2)) (wordsAt bs (at + 6) (wordAt bs (at + 4))))
+judgedAs isGO sc bs at = uses sc at label (wordAt bs (at + 2))
+judgedAs isIF sc bs at = pairJudged sc at variable (wordAt bs (at + 2)) label (wordAt bs (at + 4))
+judgedAs isKN sc bs at = uses sc at variable (wordAt bs (at + 2))
+judgedAs isAR sc bs at = tripleJudged sc at (wordAt bs (at + 2)) (wordAt bs (at + 6)) (wordAt bs (at + 8))
+judgedAs isQY sc bs at = tripleJudged sc at (wordAt bs (at + 2)) (wordAt bs (at + 4)) (wordAt bs (at + 6))
+judgedAs isTwo sc bs at = pairJudged sc at variable (wordAt bs (at + 2)) variable (wordAt bs (at + 4))

@@ -1,2 +1,3 @@
 -- What the walk of the scope check keeps and gives, over the bytes of the script.
 pub mod Entries
+pub mod Standing

@@ -11,7 +11,7 @@ ghost use lib.ListN.{length, getD, drop};
 ghost use Rattle.language.specs.Text.{CL};
 ghost use Rattle.language.specs.Encoding.{kindField};
 ghost use Rattle.language.specs.Scope as definitions;
-ghost use Rattle.scoping.specs.Entries.{wordAt, wordsAt, kindOf, meaningAt, kindsAt, foundIn, Near, scopeOf, verdictOf};
+ghost use Rattle.scoping.specs.Entries.{wordAt, wordsAt, kindOf, meaningAt, kindsAt, foundIn, Near, scopeOf, verdictOf, pairJudged, tripleJudged, shapeOf, judgedAs};
 
 pub enum Verdict {
     Fit,
@@ -131,4 +131,158 @@ fn uses(
         return Verdict::Fit;
     }
     Verdict::Refused(Refusal::WrongKind, at)
+}
+
+// The arguments of the call at an offset are visible, whatever their kind.
+fn visible(script: &[u8], entries: &[usize], top: usize, at: usize, count: usize) -> Verdict
+    requires { ⌜ (at < 2 ^ 32) × (count < 65536) ⌝ }
+    ensures { λ r. ⌜ r ≡ verdictOf (definitions.allVisible (scopeOf (now (script .entry)) (drop top (now (entries .entry)))) at (wordsAt (now (script .entry)) (at + 6) count)) ⌝ }
+{
+    let mut i = 0;
+    while i < count {
+        let Found::At(_) = find(entries, top, word(script, at + 6 + 2 * i)) else {
+            return Verdict::Refused(Refusal::NotVisible, at);
+        };
+        i += 1;
+    }
+    Verdict::Fit
+}
+
+// The arguments of the call at an offset are of the kinds of so many formals, one by one.
+fn matching(
+    script: &[u8],
+    entries: &[usize],
+    top: usize,
+    at: usize,
+    formals: usize,
+    count: usize,
+) -> bool
+    requires { ⌜ (at < 2 ^ 32) × (formals < 2 ^ 50) × (count < 65536) ⌝ }
+    ensures { λ r. ⌜ r ≡ definitions.agree (kindsAt (now (script .entry)) formals count) (map (definitions.kindIn (scopeOf (now (script .entry)) (drop top (now (entries .entry))))) (wordsAt (now (script .entry)) (at + 6) count)) ⌝ }
+{
+    let mut i = 0;
+    while i < count {
+        let Found::At(place) = find(entries, top, word(script, at + 6 + 2 * i)) else {
+            return false;
+        };
+        let wanted = kind_number(word(script, formals + 4 + 6 * i));
+        if kind_at(script, place) != wanted {
+            return false;
+        }
+        i += 1;
+    }
+    true
+}
+
+// 11 is for a declared procedure.
+fn agrees(
+    script: &[u8],
+    entries: &[usize],
+    top: usize,
+    at: usize,
+    place: usize,
+    count: usize,
+) -> Verdict
+    requires { ⌜ (at < 2 ^ 32) × (place < 2 ^ 48) × (count < 65536) ⌝ }
+    ensures { λ r. ⌜ r ≡ verdictOf (definitions.agrees at (some (meaningAt (now (script .entry)) place)) (map (definitions.kindIn (scopeOf (now (script .entry)) (drop top (now (entries .entry))))) (wordsAt (now (script .entry)) (at + 6) count))) ⌝ }
+{
+    if word(script, place) != PR {
+        return Verdict::Fit;
+    }
+    if word(script, place + 4) != count {
+        return Verdict::Refused(Refusal::CallMismatch, at);
+    }
+    if matching(script, entries, top, at, place + 6, count) {
+        return Verdict::Fit;
+    }
+    Verdict::Refused(Refusal::CallMismatch, at)
+}
+
+// CL: the name called, then its arguments, then 11.
+fn call(script: &[u8], entries: &[usize], top: usize, at: usize) -> Verdict
+    requires { ⌜ at < 2 ^ 32 ⌝ }
+    ensures { λ r. ⌜ r ≡ verdictOf (definitions.judgeAction (scopeOf (now (script .entry)) (drop top (now (entries .entry)))) at (CL (wordAt (now (script .entry)) (at + 2)) (wordsAt (now (script .entry)) (at + 6) (wordAt (now (script .entry)) (at + 4))))) ⌝ }
+{
+    let name = word(script, at + 2);
+    let count = word(script, at + 4);
+    let called = uses(script, entries, top, at, 2, name);
+    let Verdict::Fit = called else {
+        return called;
+    };
+    let all = visible(script, entries, top, at, count);
+    let Verdict::Fit = all else {
+        return all;
+    };
+    let Found::At(place) = find(entries, top, name) else {
+        return Verdict::Fit;
+    };
+    agrees(script, entries, top, at, place, count)
+}
+
+// Two names of the record at an offset, left to right, and the kinds wanted.
+fn both(
+    script: &[u8],
+    entries: &[usize],
+    top: usize,
+    at: usize,
+    kind: usize,
+    first: usize,
+    other: usize,
+    second: usize,
+) -> Verdict
+    requires { ⌜ (kind ≤ 2) × (other ≤ 2) × (first < 2 ^ 33) × (second < 2 ^ 33) ⌝ }
+    ensures { λ r. ⌜ r ≡ verdictOf (pairJudged (scopeOf (now (script .entry)) (drop top (now (entries .entry)))) at (kindOf kind) (wordAt (now (script .entry)) first) (kindOf other) (wordAt (now (script .entry)) second)) ⌝ }
+{
+    let one = uses(script, entries, top, at, kind, word(script, first));
+    let Verdict::Fit = one else {
+        return one;
+    };
+    uses(script, entries, top, at, other, word(script, second))
+}
+
+// Three variables.
+fn three(
+    script: &[u8],
+    entries: &[usize],
+    top: usize,
+    at: usize,
+    first: usize,
+    second: usize,
+    third: usize,
+) -> Verdict
+    requires { ⌜ (first < 2 ^ 33) × (second < 2 ^ 33) × (third < 2 ^ 33) ⌝ }
+    ensures { λ r. ⌜ r ≡ verdictOf (tripleJudged (scopeOf (now (script .entry)) (drop top (now (entries .entry)))) at (wordAt (now (script .entry)) first) (wordAt (now (script .entry)) second) (wordAt (now (script .entry)) third)) ⌝ }
+{
+    let one = uses(script, entries, top, at, 0, word(script, first));
+    let Verdict::Fit = one else {
+        return one;
+    };
+    both(script, entries, top, at, 0, second, 0, third)
+}
+
+// A statement other than BK: its names left to right.
+fn action(script: &[u8], entries: &[usize], top: usize, at: usize) -> Verdict
+    requires { ⌜ at < 2 ^ 32 ⌝ }
+    ensures { λ r. ⌜ r ≡ verdictOf (judgedAs (shapeOf (wordAt (now (script .entry)) at)) (scopeOf (now (script .entry)) (drop top (now (entries .entry)))) (now (script .entry)) at) ⌝ }
+{
+    let mark = word(script, at);
+    if mark == CL {
+        return call(script, entries, top, at);
+    }
+    if mark == GO {
+        return uses(script, entries, top, at, 1, word(script, at + 2));
+    }
+    if mark == IF {
+        return both(script, entries, top, at, 0, at + 2, 1, at + 4);
+    }
+    if mark == KN {
+        return uses(script, entries, top, at, 0, word(script, at + 2));
+    }
+    if mark == AR {
+        return three(script, entries, top, at, at + 2, at + 6, at + 8);
+    }
+    if mark == QY {
+        return three(script, entries, top, at, at + 2, at + 4, at + 6);
+    }
+    both(script, entries, top, at, 0, at + 2, 0, at + 4)
 }
