@@ -5,13 +5,16 @@ use language::Refusal;
 use records::Progress;
 ghost use mathlib.Core.Path.{_≡_};
 ghost use mathlib.Core.Option.{some};
-ghost use mathlib.Core.List.{map};
+ghost use mathlib.Core.List.{List, map};
 ghost use Prim.Native.Nat.{_+_, _*_, _^_, _<_, _≤_};
-ghost use lib.ListN.{length, getD, drop};
+ghost use lib.ListN.{length, getD, take, drop};
 ghost use Rattle.language.specs.Text.{CL};
 ghost use Rattle.language.specs.Encoding.{kindField};
 ghost use Rattle.language.specs.Scope as definitions;
 ghost use Rattle.scoping.specs.Entries.{wordAt, wordsAt, kindOf, meaningAt, kindsAt, foundIn, Near, scopeOf, verdictOf, pairJudged, tripleJudged, shapeOf, judgedAs};
+ghost use Rattle.scoping.specs.Items.{Item, itemsFields, sizeOf, entriesOf};
+ghost use Rattle.scoping.specs.Standing.{Stands};
+ghost use Rattle.scoping.specs.Passing.{Passed, Skipped};
 
 pub enum Verdict {
     Fit,
@@ -285,4 +288,94 @@ fn action(script: &[u8], entries: &[usize], top: usize, at: usize) -> Verdict
         return three(script, entries, top, at, at + 2, at + 4, at + 6);
     }
     both(script, entries, top, at, 0, at + 2, 0, at + 4)
+}
+
+// A record passed: where the next one begins, and how many records stand inside this one.
+pub struct Step {
+    pub next: usize,
+    pub more: usize,
+}
+
+// How many bytes a record has that holds no other and no list.
+fn size(mark: usize) -> usize
+    ensures { λ r. ⌜ (r ≡ sizeOf mark) × (4 ≤ r) × (r ≤ 10) ⌝ }
+{
+    if mark == VR {
+        return 4;
+    }
+    if mark == GO {
+        return 4;
+    }
+    if mark == KN {
+        return 8;
+    }
+    if mark == QY {
+        return 8;
+    }
+    if mark == AR {
+        return 10;
+    }
+    6
+}
+
+fn pass(script: &[u8], at: usize) -> Step
+    requires { ⌜ at < 2 ^ 32 ⌝ }
+    ensures { λ r. ⌜ Passed (now (script .entry)) at r ⌝ }
+{
+    let mark = word(script, at);
+    if mark == BK {
+        return Step {
+            next: at + 6,
+            more: word(script, at + 2) + word(script, at + 4),
+        };
+    }
+    if mark == PR {
+        return Step {
+            next: at + 6,
+            more: word(script, at + 4) + 1,
+        };
+    }
+    if mark == CL {
+        return Step {
+            next: at + 6 + 2 * word(script, at + 4),
+            more: 0,
+        };
+    }
+    Step {
+        next: at + size(mark),
+        more: 0,
+    }
+}
+
+// Where the record at an offset ends, with all that stands inside it.
+fn skip(script: &[u8], at: usize) -> usize
+    requires { ⌜ (length (now script) ≤ 8192) × (at ≤ 1000000) ⌝ }
+    ensures { λ r. ⌜ Skipped (now (script .entry)) at r ⌝ }
+{
+    let mut here = at;
+    let mut pending = 1;
+    while 0 < pending {
+        if script.len() <= here {
+            return here;
+        }
+        let s = pass(script, here);
+        pending = pending - 1 + s.more;
+        here = s.next;
+    }
+    here
+}
+
+// So many records from an offset on declare names: their entries are put from `base` on.
+fn push(script: &[u8], entries: &mut [usize], at: usize, count: usize, base: usize)
+    requires { ⌜ (length (now script) ≤ 8192) × (at ≤ 1000000) × (base + count ≤ length (now entries)) ⌝ }
+    ensures pushed { λ _. ⌜ ((xs : List Item) → length xs ≡ count → Stands (now (script .entry)) at (itemsFields xs) → take count (drop base (now (entries .exit))) ≡ entriesOf (now (script .entry)) xs at) ⌝ }
+    ensures kept { λ _. ⌜ drop (base + count) (now (entries .exit)) ≡ drop (base + count) (now (entries .entry)) ⌝ }
+{
+    let mut here = at;
+    let mut i = 0;
+    while i < count {
+        entries[base + i] = word(script, here + 2) + 65536 * here;
+        here = skip(script, here);
+        i += 1;
+    }
 }
