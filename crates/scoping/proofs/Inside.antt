@@ -43,12 +43,12 @@ unfolding itemsFields
 items-append [] ys = refl
 items-append (x ∷ xs) ys = ap (λ (l : List ℕ). itemFields x ++ l) (items-append xs ys) ∙ sym (append-assoc (itemFields x) (itemsFields xs) (itemsFields ys))
 
-formal-items : (fs : List Formal) → formalsFields fs ≡ itemsFields (map formal fs)
+pub formal-items : (fs : List Formal) → formalsFields fs ≡ itemsFields (map formal fs)
 unfolding formalsFields itemsFields itemFields
 formal-items [] = refl
 formal-items (f ∷ fs) = rw (formal-items fs)
 
-decl-items : (ds : Decls) → declsFields ds ≡ itemsFields (map declared (decls ds))
+pub decl-items : (ds : Decls) → declsFields ds ≡ itemsFields (map declared (decls ds))
 unfolding declsFields itemsFields itemFields decls
 decl-items no-decl = refl
 decl-items (decl d ds) = rw (decl-items ds)

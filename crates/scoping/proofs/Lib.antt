@@ -4,3 +4,7 @@ pub mod Judging
 pub mod Inside
 pub mod Skipping
 pub mod Pushing
+pub mod Names
+pub mod Walking
+pub mod Statements
+pub mod Blocks

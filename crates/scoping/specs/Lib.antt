@@ -3,3 +3,4 @@ pub mod Entries
 pub mod Standing
 pub mod Items
 pub mod Passing
+pub mod Walking

@@ -6,14 +6,15 @@ use records::Progress;
 ghost use mathlib.Core.Path.{_≡_};
 ghost use mathlib.Core.Option.{some};
 ghost use mathlib.Core.List.{List, map};
-ghost use Prim.Native.Nat.{_+_, _*_, _^_, _<_, _≤_};
+ghost use Prim.Native.Nat.{ℕ, _+_, _*_, _^_, _<_, _≤_};
 ghost use lib.ListN.{length, getD, take, drop};
-ghost use Rattle.language.specs.Text.{CL};
-ghost use Rattle.language.specs.Encoding.{kindField};
+ghost use Rattle.language.specs.Text.{CL, Formal, Block};
+ghost use Rattle.language.specs.Encoding.{kindField, blockFields};
 ghost use Rattle.language.specs.Scope as definitions;
 ghost use Rattle.scoping.specs.Entries.{wordAt, wordsAt, kindOf, meaningAt, kindsAt, foundIn, Near, scopeOf, verdictOf, pairJudged, tripleJudged, shapeOf, judgedAs};
-ghost use Rattle.scoping.specs.Items.{Item, itemsFields, sizeOf, entriesOf};
+ghost use Rattle.scoping.specs.Items.{Item, itemFields, itemsFields, sizeOf, entriesOf};
 ghost use Rattle.scoping.specs.Standing.{Stands};
+ghost use Rattle.scoping.specs.Walking.{progressOf, onwardOf, Ahead, judgeItem, judgeItems, BlockHere, ItemsHere, ItemHere};
 ghost use Rattle.scoping.specs.Passing.{Passed, Skipped};
 
 pub enum Verdict {
@@ -378,4 +379,83 @@ fn push(script: &[u8], entries: &mut [usize], at: usize, count: usize, base: usi
         here = skip(script, here);
         i += 1;
     }
+}
+
+// Where the walk goes on after a verdict.
+fn onward(v: Verdict, next: usize) -> Progress
+    ensures { λ r. ⌜ r ≡ onwardOf v next ⌝ }
+{
+    match v {
+        Verdict::Fit => Progress::At(next),
+        Verdict::Refused(c, o) => Progress::Refused(c, o),
+    }
+}
+
+// So many formals at an offset and their block after them. Its names are put below `top` before any of its text is judged.
+fn block(script: &[u8], entries: &mut [usize], at: usize, count: usize, top: usize) -> Progress
+    requires { ⌜ (length (now script) ≤ 8192) × (at ≤ 500000) × (count < 65536) × (top ≤ length (now entries)) ⌝ }
+    ensures judged { λ r. ⌜ ((b : Block) (fs : List Formal) (level : ℕ) → BlockHere (now (script .entry)) at count top b fs level → r ≡ progressOf (definitions.judgeBlock b fs (scopeOf (now (script .entry)) (drop top (now (entries .entry))))) (at + 6 * count + 2 * length (blockFields b))) ⌝ }
+    ensures ahead { λ r. ⌜ Ahead at (length (now (script .entry))) r ⌝ }
+    ensures kept { λ r. ⌜ drop top (now (entries .exit)) ≡ drop top (now (entries .entry)) ⌝ }
+{
+    let start = at + 6 * count;
+    if word(script, start) != BK {
+        return Progress::Refused(Refusal::MarkMisplaced, start);
+    }
+    let d = word(script, start + 2);
+    let s = word(script, start + 4);
+    if top < count + d {
+        return Progress::Refused(Refusal::TooManyNames, start);
+    }
+    let base = top - (count + d);
+    push(script, entries, start + 6, d, base + count);
+    push(script, entries, at, count, base);
+    items(script, entries, start + 6, d + s, base)
+}
+
+// So many declarations and statements from an offset on.
+fn items(script: &[u8], entries: &mut [usize], at: usize, count: usize, top: usize) -> Progress
+    requires { ⌜ (length (now script) ≤ 8192) × (at ≤ length (now script) + 131076) × (count ≤ 131070) × (top ≤ length (now entries)) ⌝ }
+    ensures judged { λ r. ⌜ ((xs : List Item) (level s : ℕ) → ItemsHere (now (script .entry)) at count top xs level s → r ≡ progressOf (judgeItems xs (scopeOf (now (script .entry)) (drop top (now (entries .entry))))) (at + 2 * length (itemsFields xs))) ⌝ }
+    ensures ahead { λ r. ⌜ Ahead at (length (now (script .entry))) r ⌝ }
+    ensures kept { λ r. ⌜ drop top (now (entries .exit)) ≡ drop top (now (entries .entry)) ⌝ }
+{
+    let mut here = at;
+    let mut i = 0;
+    while i < count {
+        if script.len() <= here {
+            return Progress::Refused(Refusal::PastTheEnd, here);
+        }
+        let judged = item(script, entries, here, top);
+        let Progress::At(next) = judged else {
+            return judged;
+        };
+        here = next;
+        i += 1;
+    }
+    Progress::At(here)
+}
+
+// One declaration or statement.
+fn item(script: &[u8], entries: &mut [usize], at: usize, top: usize) -> Progress
+    requires { ⌜ (length (now script) ≤ 8192) × (at < length (now script)) × (top ≤ length (now entries)) ⌝ }
+    ensures judged { λ r. ⌜ ((x : Item) (level s : ℕ) → ItemHere (now (script .entry)) at top x level s → r ≡ progressOf (judgeItem x (scopeOf (now (script .entry)) (drop top (now (entries .entry))))) (at + 2 * length (itemFields x))) ⌝ }
+    ensures ahead { λ r. ⌜ Ahead at (length (now (script .entry))) r ⌝ }
+    ensures kept { λ r. ⌜ drop top (now (entries .exit)) ≡ drop top (now (entries .entry)) ⌝ }
+{
+    let mark = word(script, at);
+    if mark == PR {
+        return block(script, entries, at + 6, word(script, at + 4), top);
+    }
+    if mark == BK {
+        return block(script, entries, at, 0, top);
+    }
+    let passed = pass(script, at);
+    if mark == VR {
+        return Progress::At(passed.next);
+    }
+    if mark == LB {
+        return Progress::At(passed.next);
+    }
+    onward(action(script, entries, top, at), passed.next)
 }
