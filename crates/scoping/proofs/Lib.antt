@@ -8,3 +8,4 @@ pub mod Names
 pub mod Walking
 pub mod Statements
 pub mod Blocks
+pub mod Whole

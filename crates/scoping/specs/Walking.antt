@@ -73,3 +73,13 @@ pub record ItemHere (bs : List ℕ) (at top : ℕ) (x : Item) (level s : ℕ) : 
   pub stand : Stands bs at (itemFields x)
   pub formed : FormedItem x level s at
   pub room : 512 ≤ top + 32 * level
+
+unfoldable pub settledOf : Progress → Verdict
+settledOf (At end) = Fit
+settledOf (Refused c o) = verdicts.Refused c o
+
+-- the definitions' verdict, for a script that they read whole
+abbrev pub Judged : structure.Reading Block → Verdict → Type 0
+Judged (structure.read t at []) r = r ≡ verdictOf (judgeBlock t [] [])
+Judged (structure.read t at (w ∷ ws)) r = Unit {0}
+Judged (structure.refuse c o) r = Unit {0}

@@ -9,12 +9,13 @@ ghost use mathlib.Core.List.{List, map};
 ghost use Prim.Native.Nat.{ℕ, _+_, _*_, _^_, _<_, _≤_};
 ghost use lib.ListN.{length, getD, take, drop};
 ghost use Rattle.language.specs.Text.{CL, Formal, Block};
-ghost use Rattle.language.specs.Encoding.{kindField, blockFields};
+ghost use Rattle.language.specs.Encoding.{kindField, blockFields, fieldsOf};
+ghost use Rattle.language.specs.Structure.{program};
 ghost use Rattle.language.specs.Scope as definitions;
 ghost use Rattle.scoping.specs.Entries.{wordAt, wordsAt, kindOf, meaningAt, kindsAt, foundIn, Near, scopeOf, verdictOf, pairJudged, tripleJudged, shapeOf, judgedAs};
 ghost use Rattle.scoping.specs.Items.{Item, itemFields, itemsFields, sizeOf, entriesOf};
 ghost use Rattle.scoping.specs.Standing.{Stands};
-ghost use Rattle.scoping.specs.Walking.{progressOf, onwardOf, Ahead, judgeItem, judgeItems, BlockHere, ItemsHere, ItemHere};
+ghost use Rattle.scoping.specs.Walking.{progressOf, onwardOf, settledOf, Judged, Ahead, judgeItem, judgeItems, BlockHere, ItemsHere, ItemHere};
 ghost use Rattle.scoping.specs.Passing.{Passed, Skipped};
 
 pub enum Verdict {
@@ -458,4 +459,22 @@ fn item(script: &[u8], entries: &mut [usize], at: usize, top: usize) -> Progress
         return Progress::At(passed.next);
     }
     onward(action(script, entries, top, at), passed.next)
+}
+
+fn settled(p: Progress) -> Verdict
+    ensures { λ r. ⌜ r ≡ settledOf p ⌝ }
+{
+    match p {
+        Progress::At(_) => Verdict::Fit,
+        Progress::Refused(c, o) => Verdict::Refused(c, o),
+    }
+}
+
+// 9 to 11. The answer is the definitions' wherever they read the script whole; any other script gets some refusal or none.
+pub fn scope_verdict(script: &[u8]) -> Verdict
+    requires { ⌜ length (now script) ≤ 8192 ⌝ }
+    ensures { λ r. ⌜ Judged (program 0 (fieldsOf (now (script .entry)))) r ⌝ }
+{
+    let mut entries = [0usize; 512];
+    settled(block(script, &mut entries, 0, 0, 512))
 }
