@@ -17,8 +17,8 @@ use Rattle.language.specs.Scope as definitions
 use Rattle.language.specs.declared.Refusal.{Refusal}
 use Rattle.language.specs.declared.Refusal.the-variants.{CallMismatch}
 use Rattle.scoping.specs.Entries.{wordAt, wordsAt, kindOf, kindsAt, meaningAt, foundIn, scopeOf, verdictOf, Shape, isTwo, shapeOf, judgedAs}
-use Rattle.scoping.specs.declared.Verdict.{Verdict}
-use Rattle.scoping.specs.declared.Verdict.the-variants.{Fit, Refused}
+use Rattle.language.specs.declared.Verdict.{Verdict}
+use Rattle.language.specs.declared.Verdict.the-variants.{Fit, Refused}
 use Rattle.scoping.specs.declared.Found.the-variants.{At, Nothing}
 use Rattle.scoping.proofs.Meanings.{found-lookup, means-PR}
 

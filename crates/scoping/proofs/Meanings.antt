@@ -18,7 +18,7 @@ use Rattle.language.specs.Scope.{Meaning, Scope, fine, wrong, ofKind}
 use Rattle.language.specs.Scope as definitions
 use Rattle.language.specs.declared.Refusal.the-variants.{NotVisible, WrongKind}
 use Rattle.scoping.specs.Entries.{wordAt, kindOf, kindsAt, meaningAt, foundIn, Near, scopeOf, verdictOf}
-use Rattle.scoping.specs.declared.Verdict.the-variants.{Fit, Refused}
+use Rattle.language.specs.declared.Verdict.the-variants.{Fit, Refused}
 use Rattle.scoping.specs.declared.Found.{Found}
 use Rattle.scoping.specs.declared.Found.the-variants.{At, Nothing}
 

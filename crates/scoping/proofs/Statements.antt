@@ -18,9 +18,9 @@ use Rattle.scoping.specs.Items.{Item, formal, body, declared, stated, it
 use Rattle.scoping.specs.Passing.{Passed}
 use Rattle.scoping.specs.Walking.{progressOf, onwardOf, Ahead, judgeItem, FormedItem, BlockHere, ItemHere}
 use Rattle.scoping.specs.declared.Step.{Step}
-use Rattle.scoping.specs.declared.Verdict.{Verdict}
-use Rattle.scoping.specs.declared.Verdict.the-variants.{Fit}
-use Rattle.scoping.specs.declared.Verdict.the-variants as verdicts
+use Rattle.language.specs.declared.Verdict.{Verdict}
+use Rattle.language.specs.declared.Verdict.the-variants.{Fit}
+use Rattle.language.specs.declared.Verdict.the-variants as verdicts
 use Rattle.scoping.proofs.Inside.{stands-first, stands-second, stands-words, third-is, item-opens, head-size}
 
 -- the fourth and the fifth field

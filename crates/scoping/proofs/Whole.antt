@@ -19,7 +19,7 @@ use Rattle.grammar.specs.Reading.{GotBlock, read-program}
 use Rattle.scoping.specs.Entries.{wordAt, scopeOf, verdictOf}
 use Rattle.scoping.specs.Standing.{Stands}
 use Rattle.scoping.specs.Walking.{progressOf, settledOf, Judged, BlockHere}
-use Rattle.scoping.specs.declared.Verdict.{Verdict}
+use Rattle.language.specs.declared.Verdict.{Verdict}
 use Rattle.scoping.proofs.Inside.{stands-first}
 
 stands-from : (front bs : List ℕ) → Stands (front ++ bs) (length front) (fieldsOf bs)

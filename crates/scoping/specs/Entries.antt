@@ -10,8 +10,8 @@ use Rattle.language.specs.Text.{Kind, variable, label, procedure, CL}
 use Rattle.language.specs.Encoding.{two, LB-mark, PR-mark, FM-mark, CL-mark, GO-mark, IF-mark, KN-mark, AR-mark, QY-mark}
 use Rattle.language.specs.Scope.{Meaning, Scope, fine, wrong, _then_, uses, judgeAction}
 use Rattle.language.specs.Scope as definitions
-use Rattle.scoping.specs.declared.Verdict.{Verdict}
-use Rattle.scoping.specs.declared.Verdict.the-variants.{Fit, Refused}
+use Rattle.language.specs.declared.Verdict.{Verdict}
+use Rattle.language.specs.declared.Verdict.the-variants.{Fit, Refused}
 use Rattle.scoping.specs.declared.Found.{Found}
 use Rattle.scoping.specs.declared.Found.the-variants.{At, Nothing}
 

@@ -14,9 +14,9 @@ use Rattle.grammar.specs.Rules.{FormedFormals, FormedBlock, FormedDecl, FormedS
 use Rattle.scoping.specs.Entries.{verdictOf}
 use Rattle.scoping.specs.Standing.{Stands}
 use Rattle.scoping.specs.Items.{Item, formal, body, declared, stated, itemFields, itemsFields}
-use Rattle.scoping.specs.declared.Verdict.{Verdict}
-use Rattle.scoping.specs.declared.Verdict.the-variants.{Fit}
-use Rattle.scoping.specs.declared.Verdict.the-variants as verdicts
+use Rattle.language.specs.declared.Verdict.{Verdict}
+use Rattle.language.specs.declared.Verdict.the-variants.{Fit}
+use Rattle.language.specs.declared.Verdict.the-variants as verdicts
 
 -- a verdict, with where the walk goes on
 unfoldable pub progressOf : definitions.Verdict → ℕ → Progress

@@ -2,6 +2,7 @@
 // array, nearest declaration first, in the order of the definitions' scope. The walk is safe on any bytes: only its answer asks for a
 // script that is fit in structure.
 use language::Refusal;
+use language::Verdict;
 use records::Progress;
 ghost use mathlib.Core.Path.{_≡_};
 ghost use mathlib.Core.Option.{some};
@@ -17,11 +18,6 @@ ghost use Rattle.scoping.specs.Items.{Item, itemFields, itemsFields, siz
 ghost use Rattle.scoping.specs.Standing.{Stands};
 ghost use Rattle.scoping.specs.Walking.{progressOf, onwardOf, settledOf, Judged, Ahead, judgeItem, judgeItems, BlockHere, ItemsHere, ItemHere};
 ghost use Rattle.scoping.specs.Passing.{Passed, Skipped};
-
-pub enum Verdict {
-    Fit,
-    Refused(Refusal, usize),
-}
 
 // Where the record that declares a name begins.
 pub enum Found {

@@ -12,7 +12,7 @@ use Rattle.language.specs.Scope.{judgeBlock}
 use Rattle.language.specs.Check.{refused, lengthFits, judged, ended, check}
 use Rattle.language.specs.declared.Refusal.{Refusal}
 use Rattle.language.specs.declared.Refusal.the-variants.{ScriptLength}
-use Rattle.vetting.specs.declared.Verdict.{Verdict}
+use Rattle.language.specs.declared.Verdict.{Verdict}
 use Rattle.vetting.specs.Progress.{endedOf, structureOf}
 
 refused-there : (x : Outcome Block) (c : Refusal) (o : ℕ) → endedOf x ≡ Verdict.Refused c o → ended x ≡ refused c o

@@ -21,7 +21,7 @@ use Rattle.records.specs.declared.Reading.{Reading}
 use Rattle.records.specs.declared.Reading.the-variants.{Taken}
 use Rattle.records.specs.Taking.{unread, recordAt, forget}
 use Rattle.records.proofs.Unread.{unread-enough, unread-short}
-use Rattle.vetting.specs.declared.Verdict.{Verdict}
+use Rattle.language.specs.declared.Verdict.{Verdict}
 use Rattle.vetting.specs.Progress.{endedOf, closing, structureOf}
 use Rattle.vetting.proofs.Lands.{Lands, Tracks, tracks-bind, tracks-take, tracks-block}
 use Rattle.vetting.proofs.BlockLaws.{head-stops, head-goes-on}

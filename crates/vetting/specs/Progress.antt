@@ -15,7 +15,7 @@ use Rattle.records.specs.declared.Mark.the-variants.{BK, VR, LB, PR, FM, CL, GO
 use Rattle.records.specs.declared.Progress.{Progress}
 use Rattle.records.specs.declared.Progress.the-variants.{At, Refused}
 use Rattle.records.specs.Taking.{forget}
-use Rattle.vetting.specs.declared.Verdict.{Verdict}
+use Rattle.language.specs.declared.Verdict.{Verdict}
 
 -- the definitions' name of each mark; one that may not stand there is taken as the first
 unfoldable pub declMarkOf : Mark → DeclMark

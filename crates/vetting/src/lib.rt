@@ -2,6 +2,7 @@
 // refused before the next one is touched. The names of each level stand in one array, 32 places a level, outermost first; the
 // seventeenth level is for the formals of a procedure whose body is then refused as too deep.
 use language::Refusal;
+use language::Verdict;
 use records::Mark;
 use records::Place;
 use records::Progress;
@@ -15,11 +16,6 @@ ghost use Rattle.language.specs.Structure as definitions;
 ghost use Rattle.records.specs.Taking.{unread, forget};
 ghost use Rattle.vetting.specs.Naming.{namesAt};
 ghost use Rattle.vetting.specs.Progress.{declMarkOf, stmtMarkOf, NamesOf, rangedOf, onceAt, actionOf, FewFormals, belowOf, statedOf, closing, structureOf};
-
-pub enum Verdict {
-    Fit,
-    Refused(Refusal, usize),
-}
 
 fn wide(x: u32) -> usize
     ensures { λ r. ⌜ r ≡ x ⌝ }

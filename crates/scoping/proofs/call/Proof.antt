@@ -4,7 +4,7 @@ use native.Mathlib.Omega.{arith}
 use lib.ListN.{drop}
 use Rattle.language.specs.Scope.{fine}
 use Rattle.scoping.specs.Entries.{kindOf, verdictOf}
-use Rattle.scoping.specs.declared.Verdict.the-variants.{Fit}
+use Rattle.language.specs.declared.Verdict.the-variants.{Fit}
 use Rattle.scoping.proofs.Meanings.{near-place}
 use Rattle.scoping.proofs.Judging.{call-stops, call-hides, call-judges, agrees-found, agrees-unfound}
 use borrow.Author.Needs.{needs}

@@ -1,7 +1,7 @@
 -- `scoping::onward` meets its contract. Assumes nothing.
 use mathlib.Core.Path.{sym, ap}
 use Rattle.scoping.specs.Walking.{onwardOf}
-use Rattle.scoping.specs.declared.Verdict.{Verdict}
+use Rattle.language.specs.declared.Verdict.{Verdict}
 use borrow.Author.Needs.{needs}
 use Rattle.scoping.proofs.onward.Statement.{statement}
 use Rattle.scoping.proofs.onward.Tie as tie
