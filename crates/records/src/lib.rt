@@ -287,14 +287,7 @@ pub fn onward(r: Reading) -> Progress
     ensures { λ p. ⌜ p ≡ progressOf r ⌝ }
 {
     match r {
-        Reading::Taken {
-            mark: _,
-            next,
-            f0: _,
-            f1: _,
-            f2: _,
-            f3: _,
-        } => Progress::At(next),
+        Reading::Taken { next, .. } => Progress::At(next),
         Reading::Refused(c, o) => Progress::Refused(c, o),
     }
 }

@@ -49,15 +49,7 @@ fn formals(script: &[u8], names: &mut [u32], start: usize, p: usize, base: usize
     let mut i = 0;
     while i < p {
         let reading = records::read_record(script, at, Place::Formal);
-        let Reading::Taken {
-            mark: _,
-            next,
-            f0,
-            f1,
-            f2: _,
-            f3: _,
-        } = reading
-        else {
+        let Reading::Taken { next, f0, f1, .. } = reading else {
             return records::onward(reading);
         };
         if 2 < f1 {
@@ -197,8 +189,7 @@ fn declarations(
             next,
             f0,
             f1,
-            f2: _,
-            f3: _,
+            ..
         } = reading
         else {
             return records::onward(reading);
@@ -240,15 +231,7 @@ fn body(
         return formal;
     };
     let reading = records::read_record(script, at, Place::Block);
-    let Reading::Taken {
-        mark: _,
-        next,
-        f0,
-        f1,
-        f2: _,
-        f3: _,
-    } = reading
-    else {
+    let Reading::Taken { next, f0, f1, .. } = reading else {
         return records::onward(reading);
     };
     block(script, names, at, next, wide(f0), wide(f1), p, below)
@@ -269,8 +252,7 @@ fn statements(script: &[u8], names: &mut [u32], start: usize, s: usize, below: u
             next,
             f0,
             f1,
-            f2: _,
-            f3: _,
+            ..
         } = reading
         else {
             return records::onward(reading);
@@ -321,15 +303,7 @@ pub fn structure(script: &[u8]) -> Verdict
         return Verdict::Refused(Refusal::ScriptLength, 0);
     }
     let reading = records::read_record(script, 0, Place::Block);
-    let Reading::Taken {
-        mark: _,
-        next,
-        f0,
-        f1,
-        f2: _,
-        f3: _,
-    } = reading
-    else {
+    let Reading::Taken { next, f0, f1, .. } = reading else {
         return ended(records::onward(reading), n);
     };
     let mut names = [0u32; 544];
