@@ -30,6 +30,12 @@ pub enum Refusal {
     TableNotRight,
 }
 
+// What the script check says: fit to run, or refused with the cause and the byte offset of the record at fault.
+pub enum Verdict {
+    Fit,
+    Refused(Refusal, usize),
+}
+
 pub enum End {
     Finished,
     Spent,

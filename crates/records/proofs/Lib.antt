@@ -1,0 +1,6 @@
+pub mod Unread
+pub mod Table
+pub mod Binds
+pub mod Taking
+pub mod Places
+pub mod Steps

@@ -1,0 +1,74 @@
+-- The record at an offset, at each place: the cases of `recordAt`.
+-- Assumes nothing.
+use mathlib.Core.Path.{_≡_, _∙_, ap}
+use mathlib.Core.List.{List}
+use Prim.Native.Nat.{ℕ, _+_, _*_, _<_, _≤_}
+use lib.ListN.{length, getD, take}
+use Rattle.language.specs.Encoding.{two}
+use Rattle.language.specs.Structure.{Row, blockMarks, formalMarks, declMarks, stmtMarks, take-record}
+use Rattle.language.specs.declared.Refusal.the-variants.{PastTheEnd, MarkMisplaced}
+use Rattle.records.specs.Taking.{unread, declMark, stmtMark, onlyMark, fitIn, fitAt, taken, recordAt}
+use Rattle.records.specs.declared.Mark.{Mark}
+use Rattle.records.specs.declared.Mark.the-variants.{BK, FM}
+use Rattle.records.specs.declared.Place.{Place}
+use Rattle.records.specs.declared.Place.the-variants.{Block, Formal, Declaration, Statement}
+use Rattle.records.specs.declared.Fit.the-variants.{Found, Nothing}
+use Rattle.records.specs.declared.Reading.{Reading}
+use Rattle.records.specs.declared.Reading.the-variants.{Taken, Refused}
+use Rattle.records.proofs.Taking.{fitted, no-mark, misplaced, cut-off, whole}
+
+-- a record of n fields with the mark m, its fields from an offset on
+abbrev pub takenAt : Mark → ℕ → List ℕ → ℕ → Reading
+takenAt m n bs from =
+    Taken m (from + 2 * n) (getD (take n (unread bs from)) 0 0) (getD (take n (unread bs from)) 1 0)
+    (getD (take n (unread bs from)) 2 0) (getD (take n (unread bs from)) 3 0)
+
+module _ (bs : List ℕ) (at : ℕ) where
+  abbrev letters : ℕ
+  letters = two (getD bs at 0) (getD bs (at + 1) 0)
+
+  module _ {M : Type 0} (f : M → Mark) (rows : List (Row M)) where
+    none-of : length bs < at + 2 → taken f (take-record rows at (unread bs at)) ≡ Refused PastTheEnd at
+    unfolding taken
+    none-of h = ap (taken f) (no-mark rows bs at h)
+
+    stray-of : at + 2 ≤ length bs → fitIn f letters rows ≡ Nothing → taken f (take-record rows at (unread bs at)) ≡ Refused MarkMisplaced at
+    unfolding taken
+    stray-of h e = ap (taken f) (misplaced rows bs at f h e)
+
+    cut-of : (n : ℕ) (m : Mark) → at + 2 ≤ length bs → fitIn f letters rows ≡ Found n m → length bs < at + 2 + 2 * n → taken f (take-record rows at (unread bs at)) ≡ Refused PastTheEnd at
+    unfolding taken
+    cut-of n m h e short = ap (taken f) (cut-off rows bs at f n m h e short)
+
+    whole-of : (n : ℕ) (m : Mark) → at + 2 ≤ length bs → fitIn f letters rows ≡ Found n m → at + 2 + 2 * n ≤ length bs → taken f (take-record rows at (unread bs at)) ≡ takenAt m n bs (at + 2)
+    unfolding taken
+    whole-of n m h e fits =
+        ap (taken f) (whole rows bs at f n m h e fits) ∙ ap (λ (x : Mark). takenAt x n bs (at + 2)) (fitted f letters rows n m e .mark-is)
+
+  pub at-none : (p : Place) → length bs < at + 2 → recordAt p bs at ≡ Refused PastTheEnd at
+  unfolding recordAt
+  at-none Block = none-of (onlyMark BK) blockMarks
+  at-none Formal = none-of (onlyMark FM) formalMarks
+  at-none Declaration = none-of declMark declMarks
+  at-none Statement = none-of stmtMark stmtMarks
+
+  pub at-stray : (p : Place) → at + 2 ≤ length bs → fitAt p letters ≡ Nothing → recordAt p bs at ≡ Refused MarkMisplaced at
+  unfolding recordAt fitAt
+  at-stray Block = stray-of (onlyMark BK) blockMarks
+  at-stray Formal = stray-of (onlyMark FM) formalMarks
+  at-stray Declaration = stray-of declMark declMarks
+  at-stray Statement = stray-of stmtMark stmtMarks
+
+  pub at-cut : (p : Place) (n : ℕ) (m : Mark) → at + 2 ≤ length bs → fitAt p letters ≡ Found n m → length bs < at + 2 + 2 * n → recordAt p bs at ≡ Refused PastTheEnd at
+  unfolding recordAt fitAt
+  at-cut Block = cut-of (onlyMark BK) blockMarks
+  at-cut Formal = cut-of (onlyMark FM) formalMarks
+  at-cut Declaration = cut-of declMark declMarks
+  at-cut Statement = cut-of stmtMark stmtMarks
+
+  pub at-whole : (p : Place) (n : ℕ) (m : Mark) → at + 2 ≤ length bs → fitAt p letters ≡ Found n m → at + 2 + 2 * n ≤ length bs → recordAt p bs at ≡ takenAt m n bs (at + 2)
+  unfolding recordAt fitAt
+  at-whole Block = whole-of (onlyMark BK) blockMarks
+  at-whole Formal = whole-of (onlyMark FM) formalMarks
+  at-whole Declaration = whole-of declMark declMarks
+  at-whole Statement = whole-of stmtMark stmtMarks

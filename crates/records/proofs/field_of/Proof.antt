@@ -1,0 +1,42 @@
+-- `records::field_of` meets its contract. Assumes nothing.
+use mathlib.Core.Path.{_∙_, sym}
+use Prim.Native.Nat.{_<_}
+use native.Mathlib.Omega.{arith}
+use lib.ListN.{take, length-take, List·getD-eq-default}
+use lib.Seq.{getD-take}
+use Rattle.records.specs.Taking.{unread}
+use Rattle.records.proofs.Unread.{unread-at}
+use borrow.Author.Needs.{needs}
+use Rattle.records.proofs.field_of.Statement.{statement}
+use Rattle.records.proofs.field_of.Tie as tie
+
+mul-field-at : tie.Need-mul-field-at
+mul-field-at c = search needs
+
+add-field-at : tie.Need-add-field-at
+add-field-at c = search needs
+
+field-at-requires : tie.Need-field-at-requires
+field-at-requires c κs = search needs
+
+returns : tie.Need-returns
+returns c =
+    let a = c .before .before .before .args in
+    let h : a .k < a .count = omega arith in (
+      c .field-at .ensures .0
+          ∙ sym (unread-at (a .script .now) (a .at) (a .k) (omega arith))
+          ∙ sym (getD-take (a .count) (unread (a .script .now) (a .at)) (a .k) 0 h),
+      search needs,
+    )
+
+returns-2 : tie.Need-returns-2
+returns-2 c =
+    let a = c .before .before .args in (
+      sym
+          (List·getD-eq-default (take (a .count) (unread (a .script .now) (a .at))) 0
+          (omega (arith, length-take (a .count) (unread (a .script .now) (a .at))))),
+      search needs,
+    )
+
+pub field-of-spec : {M : Type 1} → statement M
+field-of-spec = tie.close (tie.spec mul-field-at add-field-at field-at-requires returns returns-2)

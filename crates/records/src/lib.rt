@@ -1,0 +1,304 @@
+// Reading one record of a script: its mark is looked for in a constant table, then its fields are taken.
+use language::Refusal;
+ghost use mathlib.Core.Path.{_≡_};
+ghost use Prim.Native.Nat.{_+_, _*_, _<_, _≤_};
+ghost use lib.ListN.{length, getD, take};
+ghost use Rattle.language.specs.Encoding.{two};
+ghost use Rattle.language.specs.Structure.{fields};
+ghost use Rattle.records.specs.Taking.{unread, entryFits, fitAt, recordAt, Within, progressOf, forget};
+
+pub enum Mark {
+    BK,
+    VR,
+    LB,
+    PR,
+    FM,
+    CL,
+    GO,
+    IF,
+    KN,
+    AR,
+    AD,
+    RM,
+    QY,
+}
+
+// Where a record may stand.
+pub enum Place {
+    Block,
+    Formal,
+    Declaration,
+    Statement,
+}
+
+// A mark: its two letters as a field, low byte first, how many fields come after it, and the places allowed.
+pub struct Entry {
+    pub letters: u32,
+    pub count: u8,
+    pub mark: Mark,
+    pub block: bool,
+    pub formal: bool,
+    pub declaration: bool,
+    pub statement: bool,
+}
+
+const MARKS: [Entry; 13] = [
+    Entry {
+        letters: 0x4b42,
+        count: 2,
+        mark: Mark::BK,
+        block: true,
+        formal: false,
+        declaration: false,
+        statement: true,
+    },
+    Entry {
+        letters: 0x5256,
+        count: 1,
+        mark: Mark::VR,
+        block: false,
+        formal: false,
+        declaration: true,
+        statement: false,
+    },
+    Entry {
+        letters: 0x424c,
+        count: 2,
+        mark: Mark::LB,
+        block: false,
+        formal: false,
+        declaration: true,
+        statement: false,
+    },
+    Entry {
+        letters: 0x5250,
+        count: 2,
+        mark: Mark::PR,
+        block: false,
+        formal: false,
+        declaration: true,
+        statement: false,
+    },
+    Entry {
+        letters: 0x4d46,
+        count: 2,
+        mark: Mark::FM,
+        block: false,
+        formal: true,
+        declaration: false,
+        statement: false,
+    },
+    Entry {
+        letters: 0x4c43,
+        count: 2,
+        mark: Mark::CL,
+        block: false,
+        formal: false,
+        declaration: false,
+        statement: true,
+    },
+    Entry {
+        letters: 0x4f47,
+        count: 1,
+        mark: Mark::GO,
+        block: false,
+        formal: false,
+        declaration: false,
+        statement: true,
+    },
+    Entry {
+        letters: 0x4649,
+        count: 2,
+        mark: Mark::IF,
+        block: false,
+        formal: false,
+        declaration: false,
+        statement: true,
+    },
+    Entry {
+        letters: 0x4e4b,
+        count: 3,
+        mark: Mark::KN,
+        block: false,
+        formal: false,
+        declaration: false,
+        statement: true,
+    },
+    Entry {
+        letters: 0x5241,
+        count: 4,
+        mark: Mark::AR,
+        block: false,
+        formal: false,
+        declaration: false,
+        statement: true,
+    },
+    Entry {
+        letters: 0x4441,
+        count: 2,
+        mark: Mark::AD,
+        block: false,
+        formal: false,
+        declaration: false,
+        statement: true,
+    },
+    Entry {
+        letters: 0x4d52,
+        count: 2,
+        mark: Mark::RM,
+        block: false,
+        formal: false,
+        declaration: false,
+        statement: true,
+    },
+    Entry {
+        letters: 0x5951,
+        count: 3,
+        mark: Mark::QY,
+        block: false,
+        formal: false,
+        declaration: false,
+        statement: true,
+    },
+];
+
+pub enum Fit {
+    Found { count: u8, mark: Mark },
+    Nothing,
+}
+
+// A record with its fields, 0 past its count, and where the next one begins; or the refusal with its offset.
+pub enum Reading {
+    Taken {
+        mark: Mark,
+        next: usize,
+        f0: u32,
+        f1: u32,
+        f2: u32,
+        f3: u32,
+    },
+    Refused(Refusal, usize),
+}
+
+// Where the next record begins, or the refusal with its offset.
+pub enum Progress {
+    At(usize),
+    Refused(Refusal, usize),
+}
+
+fn allowed(e: Entry, place: Place) -> bool
+    ensures { λ r. ⌜ r ≡ entryFits place e ⌝ }
+{
+    match place {
+        Place::Block => e.block,
+        Place::Formal => e.formal,
+        Place::Declaration => e.declaration,
+        Place::Statement => e.statement,
+    }
+}
+
+// The mark with these letters, of those that may stand at a place.
+pub fn find_mark(letters: u32, place: Place) -> Fit
+    ensures { λ r. ⌜ r ≡ fitAt place letters ⌝ }
+{
+    let mut i = 0;
+    while i < 13 {
+        let e = MARKS[i];
+        if allowed(e, place) {
+            if e.letters == letters {
+                let mark = e.mark;
+                return Fit::Found {
+                    count: e.count,
+                    mark,
+                };
+            }
+        }
+        i += 1;
+    }
+    Fit::Nothing
+}
+
+fn wide(x: u8) -> u32
+    ensures { λ r. ⌜ (r ≡ x) × (r < 256) ⌝ }
+{
+    x as u32
+}
+
+fn size(x: u8) -> usize
+    ensures { λ r. ⌜ (r ≡ x) × (r < 256) ⌝ }
+{
+    x as usize
+}
+
+// The 16-bit field at an offset, low byte first.
+pub fn field_at(script: &[u8], at: usize) -> u32
+    requires { ⌜ at + 1 < length (now script) ⌝ }
+    ensures { λ r. ⌜ (r ≡ two (getD (now (script .entry)) at 0) (getD (now (script .entry)) (at + 1) 0)) × (r < 65536) ⌝ }
+{
+    wide(script[at]) + 256 * wide(script[at + 1])
+}
+
+// Field k of the count fields from an offset on; 0 where there are fewer.
+pub fn field_of(script: &[u8], at: usize, count: usize, k: usize) -> u32
+    requires { ⌜ at + 2 * count ≤ length (now script) ⌝ }
+    ensures { λ r. ⌜ (r ≡ getD (take count (unread (now (script .entry)) at)) k 0) × (r < 65536) ⌝ }
+{
+    if k < count {
+        return field_at(script, at + 2 * k);
+    }
+    0
+}
+
+// In this order: mark present (2), mark fit (3), fields present (2).
+pub fn read_record(script: &[u8], at: usize, place: Place) -> Reading
+    ensures { λ r. ⌜ (r ≡ recordAt place (now (script .entry)) at) × Within (length (now (script .entry))) at r ⌝ }
+{
+    let n = script.len();
+    if n < 2 {
+        return Reading::Refused(Refusal::PastTheEnd, at);
+    }
+    if n - 2 < at {
+        return Reading::Refused(Refusal::PastTheEnd, at);
+    }
+    let Fit::Found { count, mark } = find_mark(field_at(script, at), place) else {
+        return Reading::Refused(Refusal::MarkMisplaced, at);
+    };
+    let from = at + 2;
+    let k = size(count);
+    if n - from < 2 * k {
+        return Reading::Refused(Refusal::PastTheEnd, at);
+    }
+    let f0 = field_of(script, from, k, 0);
+    let f1 = field_of(script, from, k, 1);
+    let f2 = field_of(script, from, k, 2);
+    let f3 = field_of(script, from, k, 3);
+    Reading::Taken {
+        mark,
+        next: from + 2 * k,
+        f0,
+        f1,
+        f2,
+        f3,
+    }
+}
+
+// Where a reading goes on.
+pub fn onward(r: Reading) -> Progress
+    ensures { λ p. ⌜ p ≡ progressOf r ⌝ }
+{
+    match r {
+        Reading::Taken { next, .. } => Progress::At(next),
+        Reading::Refused(c, o) => Progress::Refused(c, o),
+    }
+}
+
+// The count fields from an offset on, passed over as part of the record at `at`; 2 where they run past the end.
+pub fn pass_fields(script: &[u8], at: usize, from: usize, count: usize) -> Progress
+    requires { ⌜ (from ≤ length (now script)) × (count < 65536) ⌝ }
+    ensures { λ r. ⌜ r ≡ forget (fields at count from (unread (now (script .entry)) from)) ⌝ }
+{
+    if script.len() - from < 2 * count {
+        return Progress::Refused(Refusal::PastTheEnd, at);
+    }
+    Progress::At(from + 2 * count)
+}

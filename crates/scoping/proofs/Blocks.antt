@@ -1,0 +1,209 @@
+-- A block with its formals: its names in the array, and its records judged among them.
+-- Assumes nothing.
+use mathlib.Core.Path.{_≡_, refl, sym, _∙_, ap, subst}
+use mathlib.Core.Bool.{Bool, true, false}
+use mathlib.Core.List.{List, [], _∷_, _++_, map, append-nil, append-assoc}
+use Prim.Native.Nat.{ℕ, zero, suc, _+_, _*_, _-_, _<_, _≤_}
+use native.Mathlib.Omega.{arith}
+use lib.Dec.{leb}
+use lib.ListN.{length, take, drop, length-append, length-map, take-append-drop}
+use lib.Seq.{drop-drop}
+use borrow.Author.Tests.{leb-true, leb-false}
+use Rattle.language.specs.Text.{Formal, Block, block, Decls, no-decl, decl, Stmts, no-stmt, stmt, decls, stmts}
+use Rattle.language.specs.Encoding.{blockFields, formalsFields, declFields, stmtFields, declsFields, stmtsFields, BK-mark}
+use Rattle.language.specs.Scope.{Scope, fine, wrong, _then_, inside, formalMeaning, declMeaning, judgeBlock, judgeDecls, judgeStmts}
+use Rattle.language.specs.Scope as definitions
+use Rattle.records.specs.declared.Progress.{Progress}
+use Rattle.records.specs.declared.Progress.the-variants.{At, Refused}
+use Rattle.language.specs.declared.Refusal.{Refusal}
+use Rattle.grammar.specs.Rules.{FormedBlock, FormedDecls, FormedStmts}
+use Rattle.scoping.specs.Entries.{wordAt, scopeOf}
+use Rattle.scoping.specs.Standing.{Stands}
+use Rattle.scoping.specs.Items.{Item, formal, declared, stated, itemFields, itemsFields, inBlock, blockHead, entriesOf}
+use Rattle.scoping.specs.Walking.{progressOf, judgeItem, judgeItems, FormedItem, FormedItems, Ahead, BlockHere, ItemsHere}
+use Rattle.scoping.proofs.Meanings.{word-inside}
+use Rattle.scoping.proofs.Inside.{stands-first, stands-second, third-is, items-append, block-opens, formal-items, decl-items}
+use Rattle.scoping.proofs.Names.{formals-mean, decls-mean}
+
+pub word-within : (bs : List ℕ) (at : ℕ) → 0 < wordAt bs at → at < length bs
+word-within bs at p = go (leb (length bs) at) refl
+  where
+    go : (b : Bool) → leb (length bs) at ≡ b → at < length bs
+    go true e = absurd (word-inside bs at p (leb-true (length bs) at e))
+    go false e = leb-false (length bs) at e
+
+pub ahead-from : (at o n : ℕ) (r : Progress) → at ≤ o → Ahead o n r → Ahead at n r
+ahead-from at o n (At e) h a = (omega arith, a .1)
+ahead-from at o n (Refused c p) h a = tt
+
+-- declarations and statements as records
+then-assoc : (u v w : definitions.Verdict) → _then_ (_then_ u v) w ≡ _then_ u (_then_ v w)
+unfolding _then_
+then-assoc fine v w = refl
+then-assoc (wrong c o) v w = refl
+
+stmts-judged : (ss : Stmts) (sc : Scope) → judgeStmts ss sc ≡ judgeItems (map stated (stmts ss)) sc
+unfolding judgeStmts judgeItems judgeItem stmts
+stmts-judged no-stmt sc = refl
+stmts-judged (stmt x ss) sc = rw (stmts-judged ss sc)
+
+decls-judged : (ds : Decls) (xs : List Item) (sc : Scope) → _then_ (judgeDecls ds sc) (judgeItems xs sc) ≡ judgeItems (map declared (decls ds) ++ xs) sc
+unfolding judgeDecls judgeItems judgeItem decls _then_
+decls-judged no-decl xs sc = refl
+decls-judged (decl d ds) xs sc = then-assoc (definitions.judgeDecl d sc) (judgeDecls ds sc) (judgeItems xs sc) ∙ rw (decls-judged ds xs sc)
+
+formed-stmts : (ss : Stmts) (level s here : ℕ) → FormedStmts ss level here → FormedItems (map stated (stmts ss)) level s here
+unfolding FormedStmts FormedItems FormedItem stmts itemFields
+formed-stmts no-stmt level s here h = tt
+formed-stmts (stmt x ss) level s here h = (h .0, formed-stmts ss level s (here + 2 * length (stmtFields x)) (h .1))
+
+formed-decls : (ds : Decls) (xs : List Item) (level s here : ℕ) → FormedDecls ds level s here → FormedItems xs level s (here + 2 * length (declsFields ds)) → FormedItems (map declared (decls ds) ++ xs) level s here
+unfolding FormedDecls FormedItems FormedItem decls itemFields declsFields
+formed-decls no-decl xs level s here h g = subst (λ (o : ℕ). FormedItems xs level s o) none g
+  where
+    none : here + 2 * 0 ≡ here
+    none = omega arith
+formed-decls (decl d ds) xs level s here h g =
+    (h .0, formed-decls ds xs level s (here + 2 * length (declFields d)) (h .1) (subst (λ (o : ℕ). FormedItems xs level s o) more g))
+  where
+    more : here + 2 * length (declFields d ++ declsFields ds) ≡ here + 2 * length (declFields d) + 2 * length (declsFields ds)
+    more = omega (arith, length-append (declFields d) (declsFields ds))
+
+-- what was put, read back as a whole
+module _ (es₀ es₁ es₂ : List ℕ) (base count d top : ℕ) (whole : base + (count + d) ≡ top) where
+  front : (l : List ℕ) (b n : ℕ) → drop b l ≡ take n (drop b l) ++ drop (b + n) l
+  front l b n = sym (ap (λ (r : List ℕ). take n (drop b l) ++ r) (sym (drop-drop n b l)) ∙ take-append-drop n (drop b l))
+
+  regroup : base + (count + d) ≡ base + count + d
+  regroup = omega arith
+
+  end-is : base + count + d ≡ top
+  end-is = omega arith
+
+  module _ (kept : drop (base + count) es₂ ≡ drop (base + count) es₁) (before : drop (base + count + d) es₁ ≡ drop (base + count + d) es₀) where
+    pub stacked : drop base es₂ ≡ take count (drop base es₂) ++ (take d (drop (base + count) es₁) ++ drop top es₀)
+    stacked =
+        front es₂ base count
+        ∙ ap (λ (r : List ℕ). take count (drop base es₂) ++ r)
+        (kept ∙ front es₁ (base + count) d
+        ∙ ap (λ (r : List ℕ). take d (drop (base + count) es₁) ++ r) (before ∙ ap (λ (k : ℕ). drop k es₀) end-is))
+
+    pub kept-below : (es₃ : List ℕ) → drop base es₃ ≡ drop base es₂ → drop top es₃ ≡ drop top es₀
+    kept-below es₃ e =
+        ap (λ (k : ℕ). drop k es₃) (sym whole) ∙ sym (drop-drop (count + d) base es₃) ∙ ap (drop (count + d)) e
+        ∙ drop-drop (count + d) base es₂ ∙ ap (λ (k : ℕ). drop k es₂) regroup
+        ∙ sym (drop-drop d (base + count) es₂) ∙ ap (drop d) kept ∙ drop-drop d (base + count) es₁ ∙ before
+        ∙ ap (λ (k : ℕ). drop k es₀) end-is
+
+scope-append : (bs xs ys : List ℕ) → scopeOf bs (xs ++ ys) ≡ scopeOf bs xs ++ scopeOf bs ys
+unfolding scopeOf
+scope-append bs [] ys = refl
+scope-append bs (x ∷ xs) ys = rw (scope-append bs xs ys)
+
+module _ (bs : List ℕ) (at count top : ℕ) where
+  abbrev start : ℕ
+  start = at + 6 * count
+
+  pub block-room : (b : Block) (fs : List Formal) (level : ℕ) → BlockHere bs at count top b fs level → count + wordAt bs (start + 2) ≤ top
+  unfolding blockFields FormedBlock
+  block-room (block o ds ss) fs level h = omega (arith, h .stand .1 .0, h .number, h .formed .few, h .formed .nesting, h .room)
+
+  -- the block's records stand after its head
+  module _ (o : ℕ) (ds : Decls) (ss : Stmts) (fs : List Formal) (level : ℕ) (h : BlockHere bs at count top (block o ds ss) fs level) where
+    opened : Stands bs start (blockHead (block o ds ss) ++ itemsFields (inBlock (block o ds ss)))
+    opened = subst (Stands bs start) (block-opens (block o ds ss)) (h .stand)
+
+    body-stands : Stands bs (start + 6) (itemsFields (inBlock (block o ds ss)))
+    unfolding blockHead
+    body-stands = stands-second bs start (blockHead (block o ds ss)) (itemsFields (inBlock (block o ds ss))) opened
+
+    decls-stand : Stands bs (start + 6) (itemsFields (map declared (decls ds)))
+    unfolding inBlock
+    decls-stand =
+        stands-first bs (start + 6) (itemsFields (map declared (decls ds))) (itemsFields (map stated (stmts ss)))
+        (subst (Stands bs (start + 6)) (items-append (map declared (decls ds)) (map stated (stmts ss))) body-stands)
+
+    d-is : wordAt bs (start + 2) ≡ length (decls ds)
+    unfolding blockHead
+    d-is = opened .1 .0
+
+    s-is : wordAt bs (start + 4) ≡ length (stmts ss)
+    unfolding blockHead
+    s-is = third-is bs start BK-mark (length (decls ds)) (length (stmts ss)) (itemsFields (inBlock (block o ds ss))) opened
+
+    counted : length (inBlock (block o ds ss)) ≡ length (decls ds) + length (stmts ss)
+    unfolding inBlock
+    counted = simp (length-append, length-map)
+
+    all-formed : FormedItems (inBlock (block o ds ss)) level (length (stmts ss)) (start + 6)
+    unfolding FormedBlock inBlock
+    all-formed =
+        formed-decls ds (map stated (stmts ss)) level (length (stmts ss)) (start + 6) (h .formed .declarations)
+        (formed-stmts ss level (length (stmts ss)) (start + 6 + 2 * length (declsFields ds)) (h .formed .statements))
+
+    few : count + length (decls ds) ≤ 32
+    unfolding FormedBlock
+    few = omega (arith, h .number, h .formed .few)
+
+    formed-in-place : FormedDecls ds level (length (stmts ss)) (start + 6)
+    unfolding FormedBlock
+    formed-in-place = h .formed .declarations
+
+    reaches : start + 6 + 2 * length (itemsFields (inBlock (block o ds ss))) ≡ start + 2 * length (blockFields (block o ds ss))
+    unfolding blockHead
+    reaches = omega (arith, ap length (block-opens (block o ds ss)))
+
+    judged-block : (sc : Scope) → judgeItems (inBlock (block o ds ss)) (inside fs ds sc) ≡ judgeBlock (block o ds ss) fs sc
+    unfolding judgeBlock inBlock
+    judged-block sc =
+        sym (ap (_then_ (judgeDecls ds (inside fs ds sc))) (stmts-judged ss (inside fs ds sc)) ∙ decls-judged ds (map stated (stmts ss)) (inside fs ds sc))
+
+    formals-stand : Stands bs at (itemsFields (map formal fs))
+    formals-stand = subst (Stands bs at) (formal-items fs) (h .formals)
+
+    names-mean : (rest : List ℕ) → scopeOf bs (entriesOf bs (map formal fs) at ++ (entriesOf bs (map declared (decls ds)) (start + 6) ++ rest)) ≡ inside fs ds (scopeOf bs rest)
+    unfolding inside
+    names-mean rest =
+        scope-append bs (entriesOf bs (map formal fs) at) (entriesOf bs (map declared (decls ds)) (start + 6) ++ rest)
+        ∙ rw (
+          scope-append bs (entriesOf bs (map declared (decls ds)) (start + 6)) rest,
+          formals-mean bs at fs (h .formals) (h .named),
+          decls-mean bs (start + 6) level (length (stmts ss)) ds (subst (Stands bs (start + 6)) (sym (decl-items ds)) decls-stand) formed-in-place,
+        )
+
+    module _ (d s base : ℕ) (d-read : d ≡ wordAt bs (start + 2)) (s-read : s ≡ wordAt bs (start + 4)) (whole : base + (count + d) ≡ top) where
+      items-here : ItemsHere bs (start + 6) (d + s) base (inBlock (block o ds ss)) level (length (stmts ss))
+      items-here = record {
+        number = omega (arith, counted, d-is, s-is);
+        stand = body-stands;
+        formed = all-formed;
+        room = omega (arith, few, d-is, h .room);
+      }
+
+      module _ (es₀ es₁ es₂ : List ℕ) (kept : drop (base + count) es₂ ≡ drop (base + count) es₁) (before : drop (base + count + d) es₁ ≡ drop (base + count + d) es₀)
+          (declared-there : (xs : List Item) → length xs ≡ d → Stands bs (start + 6) (itemsFields xs) → take d (drop (base + count) es₁) ≡ entriesOf bs xs (start + 6))
+          (formals-there : (xs : List Item) → length xs ≡ count → Stands bs at (itemsFields xs) → take count (drop base es₂) ≡ entriesOf bs xs at) where
+        scope-is : scopeOf bs (drop base es₂) ≡ inside fs ds (scopeOf bs (drop top es₀))
+        scope-is =
+            ap (scopeOf bs) (stacked es₀ es₁ es₂ base count d top whole kept before)
+            ∙ rw (
+              formals-there (map formal fs) (length-map fs formal ∙ h .number) formals-stand,
+              declared-there (map declared (decls ds)) (length-map (decls ds) declared ∙ sym (d-read ∙ d-is)) decls-stand,
+            )
+            (names-mean (drop top es₀))
+
+        judged-here : (r : Progress) → ((xs : List Item) (k n : ℕ) → ItemsHere bs (start + 6) (d + s) base xs k n → r ≡ progressOf (judgeItems xs (scopeOf bs (drop base es₂))) (start + 6 + 2 * length (itemsFields xs))) → r ≡ progressOf (judgeBlock (block o ds ss) fs (scopeOf bs (drop top es₀))) (start + 2 * length (blockFields (block o ds ss)))
+        judged-here r j =
+            j (inBlock (block o ds ss)) level (length (stmts ss)) items-here
+            ∙ ap (progressOf (judgeItems (inBlock (block o ds ss)) (scopeOf bs (drop base es₂)))) reaches
+            ∙ ap (λ (v : definitions.Verdict). progressOf v (start + 2 * length (blockFields (block o ds ss))))
+            (ap (judgeItems (inBlock (block o ds ss))) scope-is ∙ judged-block (scopeOf bs (drop top es₀)))
+
+  module _ (d s base : ℕ) (d-read : d ≡ wordAt bs (start + 2)) (s-read : s ≡ wordAt bs (start + 4)) (whole : base + (count + d) ≡ top)
+      (es₀ es₁ es₂ : List ℕ) (kept : drop (base + count) es₂ ≡ drop (base + count) es₁) (before : drop (base + count + d) es₁ ≡ drop (base + count + d) es₀)
+      (declared-there : (xs : List Item) → length xs ≡ d → Stands bs (start + 6) (itemsFields xs) → take d (drop (base + count) es₁) ≡ entriesOf bs xs (start + 6))
+      (formals-there : (xs : List Item) → length xs ≡ count → Stands bs at (itemsFields xs) → take count (drop base es₂) ≡ entriesOf bs xs at)
+      (r : Progress) (judged : (xs : List Item) (k n : ℕ) → ItemsHere bs (start + 6) (d + s) base xs k n → r ≡ progressOf (judgeItems xs (scopeOf bs (drop base es₂))) (start + 6 + 2 * length (itemsFields xs))) where
+    pub block-judged : (b : Block) (fs : List Formal) (level : ℕ) → BlockHere bs at count top b fs level → r ≡ progressOf (judgeBlock b fs (scopeOf bs (drop top es₀))) (start + 2 * length (blockFields b))
+    block-judged (block o ds ss) fs level h =
+        judged-here o ds ss fs level h d s base d-read s-read whole es₀ es₁ es₂ kept before declared-there formals-there r judged

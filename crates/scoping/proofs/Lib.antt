@@ -1,0 +1,11 @@
+pub mod Meanings
+pub mod Calls
+pub mod Judging
+pub mod Inside
+pub mod Skipping
+pub mod Pushing
+pub mod Names
+pub mod Walking
+pub mod Statements
+pub mod Blocks
+pub mod Whole

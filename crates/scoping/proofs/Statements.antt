@@ -1,0 +1,185 @@
+-- One declaration or statement, by its mark.
+-- Assumes nothing.
+use mathlib.Core.Path.{_≡_, refl, sym, _∙_, ap, subst}
+use mathlib.Core.List.{List, [], _∷_, _++_, map, append-nil}
+use Prim.Native.Nat.{ℕ, zero, suc, _+_, _*_, _-_, _<_, _≤_}
+use native.Mathlib.Omega.{arith}
+use lib.ListN.{length, length-append}
+use Rattle.language.specs.Text.{Formal, Action, CL, GO, IF, KN, AR, AD, RM, QY, Block, block, Decl, VR, LB, PR, Stmt, BK, DO, decls, stmts}
+use Rattle.language.specs.Encoding.{actionFields, formalsFields, blockFields, declFields, stmtFields, BK-mark, VR-mark, LB-mark, PR-mark, CL-mark, IF-mark, AR-mark, AD-mark, RM-mark, QY-mark, operationField}
+use Rattle.language.specs.Scope.{Scope, fine, wrong, judgeAction, judgeBlock, judgeDecl, judgeStmt}
+use Rattle.language.specs.Scope as definitions
+use Rattle.records.specs.declared.Progress.{Progress}
+use Rattle.records.specs.declared.Progress.the-variants.{At, Refused}
+use Rattle.grammar.specs.Rules.{FormedBlock, FormedDecl, FormedStmt, FormedFormals}
+use Rattle.scoping.specs.Entries.{wordAt, wordsAt, verdictOf, pairJudged, tripleJudged, shapeOf, judgedAs}
+use Rattle.scoping.specs.Standing.{Stands}
+use Rattle.scoping.specs.Items.{Item, formal, body, declared, stated, itemFields, itemsFields, kids, headFields}
+use Rattle.scoping.specs.Passing.{Passed}
+use Rattle.scoping.specs.Walking.{progressOf, onwardOf, Ahead, judgeItem, FormedItem, BlockHere, ItemHere}
+use Rattle.scoping.specs.declared.Step.{Step}
+use Rattle.language.specs.declared.Verdict.{Verdict}
+use Rattle.language.specs.declared.Verdict.the-variants.{Fit}
+use Rattle.language.specs.declared.Verdict.the-variants as verdicts
+use Rattle.scoping.proofs.Inside.{stands-first, stands-second, stands-words, third-is, item-opens, head-size}
+
+-- the fourth and the fifth field
+fourth-is : (bs : List ℕ) (at a b c d : ℕ) (ws : List ℕ) → Stands bs at (a ∷ b ∷ c ∷ d ∷ ws) → wordAt bs (at + 6) ≡ d
+fourth-is bs at a b c d ws h = subst (λ (o : ℕ). wordAt bs o ≡ d) six (h .1 .1 .1 .0)
+  where
+    six : at + 2 + 2 + 2 ≡ at + 6
+    six = omega arith
+
+fifth-is : (bs : List ℕ) (at a b c d e : ℕ) (ws : List ℕ) → Stands bs at (a ∷ b ∷ c ∷ d ∷ e ∷ ws) → wordAt bs (at + 8) ≡ e
+fifth-is bs at a b c d e ws h = subst (λ (o : ℕ). wordAt bs o ≡ e) eight (h .1 .1 .1 .1 .0)
+  where
+    eight : at + 2 + 2 + 2 + 2 ≡ at + 8
+    eight = omega arith
+
+pub judged-action : (bs : List ℕ) (sc : Scope) (at : ℕ) (a : Action) → Stands bs at (actionFields a) → judgedAs (shapeOf (wordAt bs at)) sc bs at ≡ judgeAction sc at a
+unfolding judgedAs shapeOf judgeAction actionFields pairJudged tripleJudged
+judged-action bs sc at (CL p xs) h =
+    rw (h .0) (rw (h .1 .0, third-is bs at CL-mark p (length xs) xs h, stands-words bs (at + 6) xs (stands-second bs at (CL-mark ∷ p ∷ length xs ∷ []) xs h)))
+judged-action bs sc at (GO l) h = rw (h .0) (rw (h .1 .0))
+judged-action bs sc at (IF v l) h = rw (h .0) (rw (h .1 .0, third-is bs at IF-mark v l [] h))
+judged-action bs sc at (KN t z) h = rw (h .0) (rw (h .1 .0))
+judged-action bs sc at (AR t o l r) h =
+    rw (h .0) (rw (h .1 .0, fourth-is bs at AR-mark t (operationField o) l (r ∷ []) h, fifth-is bs at AR-mark t (operationField o) l r [] h))
+judged-action bs sc at (AD g m) h = rw (h .0) (rw (h .1 .0, third-is bs at AD-mark g m [] h))
+judged-action bs sc at (RM g m) h = rw (h .0) (rw (h .1 .0, third-is bs at RM-mark g m [] h))
+judged-action bs sc at (QY t g m) h =
+    rw (h .0) (rw (h .1 .0, third-is bs at QY-mark t g (m ∷ []) h, fourth-is bs at QY-mark t g m [] h))
+
+pub onward-progress : (v : definitions.Verdict) (next : ℕ) → onwardOf (verdictOf v) next ≡ progressOf v next
+unfolding onwardOf verdictOf progressOf
+onward-progress fine next = refl
+onward-progress (wrong c o) next = refl
+
+-- a statement other than BK has none of these marks
+record Plain (w : ℕ) : Type 0 where
+  no-PR : w ≡ PR-mark → ⊥
+  no-BK : w ≡ BK-mark → ⊥
+  no-VR : w ≡ VR-mark → ⊥
+  no-LB : w ≡ LB-mark → ⊥
+
+plain : (bs : List ℕ) (at : ℕ) (a : Action) → Stands bs at (actionFields a) → Plain (wordAt bs at)
+unfolding actionFields
+plain bs at (CL p xs) h = let e = h .0 in omega arith
+plain bs at (GO l) h = let e = h .0 in omega arith
+plain bs at (IF v l) h = let e = h .0 in omega arith
+plain bs at (KN t z) h = let e = h .0 in omega arith
+plain bs at (AR t o l r) h = let e = h .0 in omega arith
+plain bs at (AD g m) h = let e = h .0 in omega arith
+plain bs at (RM g m) h = let e = h .0 in omega arith
+plain bs at (QY t g m) h = let e = h .0 in omega arith
+
+pub block-mark : (bs : List ℕ) (at : ℕ) (b : Block) → Stands bs at (blockFields b) → wordAt bs at ≡ BK-mark
+unfolding blockFields
+block-mark bs at (block o ds ss) h = h .0
+
+formals-length : (fs : List Formal) → length (formalsFields fs) ≡ 3 * length fs
+unfolding formalsFields
+formals-length [] = refl
+formals-length (f ∷ fs) = let e = formals-length fs in omega arith
+
+module _ (bs : List ℕ) (sc : Scope) (at top : ℕ) where
+  -- a procedure
+  module _ (marked : wordAt bs at ≡ PR-mark) (count : ℕ) (is : count ≡ wordAt bs (at + 4)) (r : Progress) (judged : (b : Block) (fs : List Formal) (level : ℕ) → BlockHere bs (at + 6) count top b fs level → r ≡ progressOf (judgeBlock b fs sc) (at + 6 + 6 * count + 2 * length (blockFields b))) where
+    pub item-PR : (x : Item) (level s : ℕ) → ItemHere bs at top x level s → r ≡ progressOf (judgeItem x sc) (at + 2 * length (itemFields x))
+    unfolding judgeItem judgeDecl itemFields declFields stmtFields FormedItem FormedDecl
+    item-PR (formal f) level s h = absurd (h .formed)
+    item-PR (body b) level s h = absurd (h .formed)
+    item-PR (declared (VR o n)) level s h = absurd (let e = h .stand .0 in omega arith)
+    item-PR (declared (LB o n i)) level s h = absurd (let e = h .stand .0 in omega arith)
+    item-PR (declared (PR o n fs b)) level s h =
+        let third = third-is bs at PR-mark n (length fs) (formalsFields fs ++ blockFields b) (h .stand) in
+        let inner = stands-second bs at (PR-mark ∷ n ∷ length fs ∷ []) (formalsFields fs ++ blockFields b) (h .stand) in
+        let long = formals-length fs in
+        let start : at + 6 + 2 * length (formalsFields fs) ≡ at + 6 + 6 * count = omega arith in
+        let whole = length-append (formalsFields fs) (blockFields b) in
+        let end : at + 6 + 6 * count + 2 * length (blockFields b) ≡ at + 2 * suc (suc (suc (length (formalsFields fs ++ blockFields b)))) = omega arith in
+        judged b fs (suc level)
+        (record {
+          number = sym (is ∙ third);
+          formals = stands-first bs (at + 6) (formalsFields fs) (blockFields b) inner;
+          named = h .formed .formals;
+          stand = subst (λ (k : ℕ). Stands bs k (blockFields b)) start (stands-second bs (at + 6) (formalsFields fs) (blockFields b) inner);
+          formed = subst (λ (k : ℕ). FormedBlock b (suc level) fs k) start (h .formed .body);
+          room = omega (arith, h .room);
+        })
+        ∙ ap (progressOf (judgeBlock b fs sc)) end
+    item-PR (stated (BK b)) level s h = absurd (let e = block-mark bs at b (h .stand) in omega arith)
+    item-PR (stated (DO o a)) level s h = absurd (plain bs at a (h .stand) .no-PR marked)
+
+  -- a block
+  module _ (marked : wordAt bs at ≡ BK-mark) (r : Progress) (judged : (b : Block) (fs : List Formal) (level : ℕ) → BlockHere bs at 0 top b fs level → r ≡ progressOf (judgeBlock b fs sc) (at + 6 * 0 + 2 * length (blockFields b))) where
+    pub item-BK : (x : Item) (level s : ℕ) → ItemHere bs at top x level s → r ≡ progressOf (judgeItem x sc) (at + 2 * length (itemFields x))
+    unfolding judgeItem judgeStmt itemFields declFields stmtFields FormedItem FormedStmt formalsFields FormedFormals
+    item-BK (formal f) level s h = absurd (h .formed)
+    item-BK (body b) level s h = absurd (h .formed)
+    item-BK (declared (VR o n)) level s h = absurd (let e = h .stand .0 in omega arith)
+    item-BK (declared (LB o n i)) level s h = absurd (let e = h .stand .0 in omega arith)
+    item-BK (declared (PR o n fs b)) level s h = absurd (let e = h .stand .0 in omega arith)
+    item-BK (stated (BK b)) level s h =
+        let start : at ≡ at + 6 * 0 = omega arith in
+        judged b [] (suc level)
+        (record {
+          number = refl;
+          formals = tt;
+          named = tt;
+          stand = subst (λ (k : ℕ). Stands bs k (blockFields b)) start (h .stand);
+          formed = subst (λ (k : ℕ). FormedBlock b (suc level) [] k) start (h .formed);
+          room = omega (arith, h .room);
+        })
+        ∙ ap (λ (k : ℕ). progressOf (judgeBlock b [] sc) (k + 2 * length (blockFields b))) (sym start)
+    item-BK (stated (DO o a)) level s h = absurd (plain bs at a (h .stand) .no-BK marked)
+
+  -- where the next record begins, after one with nothing inside it
+  alone : (p : Step) → Passed bs at p → (x : Item) → kids x ≡ [] → Stands bs at (itemFields x) → p .next ≡ at + 2 * length (itemFields x)
+  unfolding itemsFields
+  alone p q x none h =
+      let e : itemFields x ≡ headFields x ++ [] = item-opens x ∙ ap (λ (l : List Item). headFields x ++ itemsFields l) none in
+      q .next-is ∙ ap (λ (k : ℕ). at + k) (head-size bs at [] x (subst (Stands bs at) e h) ∙ ap (λ (l : List ℕ). 2 * length l) (sym (e ∙ append-nil (headFields x))))
+
+  module _ (p : Step) (q : Passed bs at p) where
+    pub item-VR : wordAt bs at ≡ VR-mark → (x : Item) (level s : ℕ) → ItemHere bs at top x level s → At (p .next) ≡ progressOf (judgeItem x sc) (at + 2 * length (itemFields x))
+    unfolding judgeItem judgeDecl itemFields declFields stmtFields FormedItem progressOf kids
+    item-VR marked (formal f) level s h = absurd (h .formed)
+    item-VR marked (body b) level s h = absurd (h .formed)
+    item-VR marked (declared (VR o n)) level s h = ap At (alone p q (declared (VR o n)) refl (h .stand))
+    item-VR marked (declared (LB o n i)) level s h = absurd (let e = h .stand .0 in omega arith)
+    item-VR marked (declared (PR o n fs b)) level s h = absurd (let e = h .stand .0 in omega arith)
+    item-VR marked (stated (BK b)) level s h = absurd (let e = block-mark bs at b (h .stand) in omega arith)
+    item-VR marked (stated (DO o a)) level s h = absurd (plain bs at a (h .stand) .no-VR marked)
+
+    pub item-LB : wordAt bs at ≡ LB-mark → (x : Item) (level s : ℕ) → ItemHere bs at top x level s → At (p .next) ≡ progressOf (judgeItem x sc) (at + 2 * length (itemFields x))
+    unfolding judgeItem judgeDecl itemFields declFields stmtFields FormedItem progressOf kids
+    item-LB marked (formal f) level s h = absurd (h .formed)
+    item-LB marked (body b) level s h = absurd (h .formed)
+    item-LB marked (declared (VR o n)) level s h = absurd (let e = h .stand .0 in omega arith)
+    item-LB marked (declared (LB o n i)) level s h = ap At (alone p q (declared (LB o n i)) refl (h .stand))
+    item-LB marked (declared (PR o n fs b)) level s h = absurd (let e = h .stand .0 in omega arith)
+    item-LB marked (stated (BK b)) level s h = absurd (let e = block-mark bs at b (h .stand) in omega arith)
+    item-LB marked (stated (DO o a)) level s h = absurd (plain bs at a (h .stand) .no-LB marked)
+
+    module _ (no-PR : wordAt bs at ≡ PR-mark → ⊥) (no-BK : wordAt bs at ≡ BK-mark → ⊥) (no-VR : wordAt bs at ≡ VR-mark → ⊥) (no-LB : wordAt bs at ≡ LB-mark → ⊥) (v : Verdict) (is : v ≡ verdictOf (judgedAs (shapeOf (wordAt bs at)) sc bs at)) where
+      pub item-action : (x : Item) (level s : ℕ) → ItemHere bs at top x level s → onwardOf v (p .next) ≡ progressOf (judgeItem x sc) (at + 2 * length (itemFields x))
+      unfolding judgeItem judgeStmt itemFields declFields stmtFields FormedItem FormedStmt kids
+      item-action (formal f) level s h = absurd (h .formed)
+      item-action (body b) level s h = absurd (h .formed)
+      item-action (declared (VR o n)) level s h = absurd (no-VR (h .stand .0))
+      item-action (declared (LB o n i)) level s h = absurd (no-LB (h .stand .0))
+      item-action (declared (PR o n fs b)) level s h = absurd (no-PR (h .stand .0))
+      item-action (stated (BK b)) level s h = absurd (no-BK (block-mark bs at b (h .stand)))
+      item-action (stated (DO o a)) level s h =
+          ap (λ (w : Verdict). onwardOf w (p .next)) (is ∙ ap verdictOf (judged-action bs sc at a (h .stand)))
+          ∙ onward-progress (judgeAction sc at a) (p .next)
+          ∙ rw (h .formed .stands, alone p q (stated (DO o a)) refl (h .stand))
+
+pub ahead-onward : (at n next : ℕ) (v : Verdict) (r : Progress) → r ≡ onwardOf v next → at ≤ next → next ≤ n + 131076 → Ahead at n r
+unfolding onwardOf
+ahead-onward at n next v r e low high = subst (Ahead at n) (sym e) (go v)
+  where
+    go : (w : Verdict) → Ahead at n (onwardOf w next)
+    go Fit = (low, high)
+    go (verdicts.Refused c o) = tt

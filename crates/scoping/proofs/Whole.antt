@@ -1,0 +1,70 @@
+-- A script that the definitions read whole: its tree stands in its bytes from the start.
+-- Assumes nothing.
+use mathlib.Core.Path.{_≡_, refl, sym, _∙_, ap, subst}
+use mathlib.Core.List.{List, [], _∷_, _++_, append-nil, append-assoc}
+use Prim.Native.Nat.{ℕ, zero, suc, _+_, _*_, _<_, _≤_}
+use native.Mathlib.Omega.{arith}
+use lib.ListN.{length, getD, drop, length-append, drop-of-length-le}
+use lib.Seq.{getD-append-seam, getD-append-add}
+use Rattle.language.specs.Text.{Formal, Block}
+use Rattle.language.specs.Encoding.{blockFields, formalsFields, fieldsOf}
+use Rattle.language.specs.Structure.{Reading, read, refuse, program}
+use Rattle.language.specs.Scope.{fine, wrong, judgeBlock}
+use Rattle.language.specs.Scope as definitions
+use Rattle.records.specs.declared.Progress.{Progress}
+use Rattle.grammar.specs.Rules.{Bytes, FormedFormals}
+use Rattle.grammar.specs.Readers.{Yields}
+use Rattle.grammar.specs.Words.{fields-are-names}
+use Rattle.grammar.specs.Reading.{GotBlock, read-program}
+use Rattle.scoping.specs.Entries.{wordAt, scopeOf, verdictOf}
+use Rattle.scoping.specs.Standing.{Stands}
+use Rattle.scoping.specs.Walking.{progressOf, settledOf, Judged, BlockHere}
+use Rattle.language.specs.declared.Verdict.{Verdict}
+use Rattle.scoping.proofs.Inside.{stands-first}
+
+stands-from : (front bs : List ℕ) → Stands (front ++ bs) (length front) (fieldsOf bs)
+unfolding fieldsOf wordAt
+stands-from front [] = tt
+stands-from front (a ∷ []) = tt
+stands-from front (a ∷ b ∷ bs) = (
+  rw (getD-append-seam front a (b ∷ bs) 0, getD-append-add front (a ∷ b ∷ bs) 1 0),
+  subst (λ (l : List ℕ). Stands l (length front + 2) (fieldsOf bs)) (append-assoc front (a ∷ b ∷ []) bs)
+      (subst (λ (k : ℕ). Stands ((front ++ (a ∷ b ∷ [])) ++ bs) k (fieldsOf bs)) (length-append front (a ∷ b ∷ [])) (stands-from (front ++ (a ∷ b ∷ [])) bs)),
+)
+
+pub bytes-are : (bs : List ℕ) → ((i : ℕ) → getD bs i 0 < 256) → Bytes bs
+bytes-are [] h = tt
+bytes-are (b ∷ bs) h = (h 0, bytes-are bs (λ i. h (suc i)))
+
+settled-verdict : (v : definitions.Verdict) (end : ℕ) → settledOf (progressOf v end) ≡ verdictOf v
+unfolding settledOf progressOf verdictOf
+settled-verdict fine end = refl
+settled-verdict (wrong c o) end = refl
+
+module _ (bs : List ℕ) (bytes : Bytes bs) (es : List ℕ) (long : length es ≤ 512) (p : Progress) (judged : (b : Block) (fs : List Formal) (level : ℕ) → BlockHere bs 0 0 512 b fs level → p ≡ progressOf (judgeBlock b fs (scopeOf bs (drop 512 es))) (0 + 6 * 0 + 2 * length (blockFields b))) where
+  nothing-yet : scopeOf bs (drop 512 es) ≡ []
+  unfolding scopeOf
+  nothing-yet = rw (drop-of-length-le es long)
+
+  here : (t : Block) (end : ℕ) → GotBlock 1 [] 0 (fieldsOf bs) t end [] → BlockHere bs 0 0 512 t [] 1
+  unfolding formalsFields FormedFormals
+  here t end g = record {
+    number = refl;
+    formals = tt;
+    named = tt;
+    stand = stands-first bs 0 (blockFields t) [] (subst (Stands bs 0) (g .step .text) (stands-from [] bs));
+    formed = g .formed;
+    room = omega arith;
+  }
+
+  by-reading : (r : Reading Block) → Yields (GotBlock 1 [] 0 (fieldsOf bs)) r → Judged r (settledOf p)
+  by-reading (read t end []) y =
+      ap settledOf (judged t [] 1 (here t end y)) ∙ settled-verdict (judgeBlock t [] (scopeOf bs (drop 512 es))) _
+      ∙ ap (λ (sc : definitions.Scope). verdictOf (judgeBlock t [] sc)) nothing-yet
+  by-reading (read t end (w ∷ ws)) y = tt
+  by-reading (refuse c o) y = tt
+
+  pub whole-judged : (r : Verdict) → r ≡ settledOf p → Judged (program 0 (fieldsOf bs)) r
+  whole-judged r e =
+      subst (Judged (program 0 (fieldsOf bs))) (sym e)
+      (by-reading (program 0 (fieldsOf bs)) (read-program (fieldsOf bs) (fields-are-names bs bytes)))

@@ -1,0 +1,85 @@
+-- The walk over a block's records: what it is given, and what it answers.
+use Prim.Native.Nat.{ℕ, _+_, _*_, _≤_}
+use mathlib.Core.List.{List, [], _∷_}
+use mathlib.Core.Path.{_≡_}
+use lib.ListN.{length}
+use Rattle.language.specs.Text.{Formal, Block}
+use Rattle.language.specs.Encoding.{formalsFields, blockFields}
+use Rattle.language.specs.Structure as structure
+use Rattle.language.specs.Scope.{Scope, fine, wrong, _then_, judgeBlock, judgeDecl, judgeStmt}
+use Rattle.language.specs.Scope as definitions
+use Rattle.records.specs.declared.Progress.{Progress}
+use Rattle.records.specs.declared.Progress.the-variants.{At, Refused}
+use Rattle.grammar.specs.Rules.{FormedFormals, FormedBlock, FormedDecl, FormedStmt}
+use Rattle.scoping.specs.Entries.{verdictOf}
+use Rattle.scoping.specs.Standing.{Stands}
+use Rattle.scoping.specs.Items.{Item, formal, body, declared, stated, itemFields, itemsFields}
+use Rattle.language.specs.declared.Verdict.{Verdict}
+use Rattle.language.specs.declared.Verdict.the-variants.{Fit}
+use Rattle.language.specs.declared.Verdict.the-variants as verdicts
+
+-- a verdict, with where the walk goes on
+unfoldable pub progressOf : definitions.Verdict → ℕ → Progress
+progressOf fine end = At end
+progressOf (wrong c o) end = Refused c o
+
+unfoldable pub onwardOf : Verdict → ℕ → Progress
+onwardOf Fit end = At end
+onwardOf (verdicts.Refused c o) end = Refused c o
+
+-- where the walk goes on, it does not go back, nor far past the n bytes
+abbrev pub Ahead : ℕ → ℕ → Progress → Type 0
+Ahead at n (At end) = (at ≤ end) × (end ≤ n + 131076)
+Ahead at n (Refused c o) = Unit {0}
+
+-- declarations and statements
+unfoldable pub judgeItem : Item → Scope → definitions.Verdict
+judgeItem (formal f) sc = fine
+judgeItem (body b) sc = fine
+judgeItem (declared d) sc = judgeDecl d sc
+judgeItem (stated s) sc = judgeStmt s sc
+
+unfoldable pub judgeItems : List Item → Scope → definitions.Verdict
+judgeItems [] sc = fine
+judgeItems (x ∷ xs) sc = _then_ (judgeItem x sc) (judgeItems xs sc)
+
+unfoldable pub FormedItem : Item → ℕ → ℕ → ℕ → Type 0
+FormedItem (formal f) level s here = ⊥
+FormedItem (body b) level s here = ⊥
+FormedItem (declared d) level s here = FormedDecl d level s here
+FormedItem (stated x) level s here = FormedStmt x level here
+
+unfoldable pub FormedItems : List Item → ℕ → ℕ → ℕ → Type 0
+FormedItems [] level s here = Unit {0}
+FormedItems (x ∷ xs) level s here = FormedItem x level s here × FormedItems xs level s (here + 2 * length (itemFields x))
+
+-- so many formals stand at an offset, and their block after them; 32 entries are free for each level left
+pub record BlockHere (bs : List ℕ) (at count top : ℕ) (b : Block) (fs : List Formal) (level : ℕ) : Type 0 where
+  pub number : length fs ≡ count
+  pub formals : Stands bs at (formalsFields fs)
+  pub named : FormedFormals fs at
+  pub stand : Stands bs (at + 6 * count) (blockFields b)
+  pub formed : FormedBlock b level fs (at + 6 * count)
+  pub room : 544 ≤ top + 32 * level
+
+-- records of a block with s statements
+pub record ItemsHere (bs : List ℕ) (at count top : ℕ) (xs : List Item) (level s : ℕ) : Type 0 where
+  pub number : length xs ≡ count
+  pub stand : Stands bs at (itemsFields xs)
+  pub formed : FormedItems xs level s at
+  pub room : 512 ≤ top + 32 * level
+
+pub record ItemHere (bs : List ℕ) (at top : ℕ) (x : Item) (level s : ℕ) : Type 0 where
+  pub stand : Stands bs at (itemFields x)
+  pub formed : FormedItem x level s at
+  pub room : 512 ≤ top + 32 * level
+
+unfoldable pub settledOf : Progress → Verdict
+settledOf (At end) = Fit
+settledOf (Refused c o) = verdicts.Refused c o
+
+-- the definitions' verdict, for a script that they read whole
+abbrev pub Judged : structure.Reading Block → Verdict → Type 0
+Judged (structure.read t at []) r = r ≡ verdictOf (judgeBlock t [] [])
+Judged (structure.read t at (w ∷ ws)) r = Unit {0}
+Judged (structure.refuse c o) r = Unit {0}

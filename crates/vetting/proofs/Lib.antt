@@ -1,0 +1,14 @@
+pub mod Names
+pub mod Lands
+pub mod Tests
+pub mod SameNames
+pub mod FormalLaws
+pub mod Marks
+pub mod Forget
+pub mod DeclLaws
+pub mod StmtLaws
+pub mod BlockLaws
+pub mod Loops
+pub mod Shapes
+pub mod Whole
+pub mod Half

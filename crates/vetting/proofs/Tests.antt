@@ -1,0 +1,54 @@
+-- What a test inside a reader comes to: `require`, a formal's kind, an operation. Assumes nothing.
+use mathlib.Core.Path.{_≡_, refl}
+use mathlib.Core.Bool.{Bool, true, false}
+use mathlib.Core.List.{List}
+use Prim.Native.Nat.{ℕ, zero, suc, _<_, _≤_}
+use native.Mathlib.Omega.{arith}
+use Rattle.language.specs.Structure.{read, refuse, Reader, _>>=_, _>>_, give, require, kind, operation}
+use Rattle.language.specs.declared.Refusal.{Refusal}
+use Rattle.language.specs.declared.Refusal.the-variants.{FieldRange}
+
+module _ {A : Type 0} (b : Bool) (c : Refusal) (o : ℕ) (m : Reader A) (at : ℕ) (ws : List ℕ) where
+  pub passes : b ≡ true → (require b c o >> m) at ws ≡ m at ws
+  unfolding require _>>_ _>>=_
+  passes e = rw e
+
+  pub fails : b ≡ false → (require b c o >> m) at ws ≡ refuse c o
+  unfolding require _>>_ _>>=_
+  fails e = rw e
+
+pub record Gives {A : Type 0} (m : Reader A) : Type 0 where
+  pub value : A
+  pub gives : (at : ℕ) (ws : List ℕ) → m at ws ≡ read value at ws
+
+given : {A : Type 0} (a : A) → Gives (give a)
+unfolding give
+given a = record { value = a; gives = λ at ws. refl }
+
+pub kind-known : (o n : ℕ) → n ≤ 2 → Gives (kind o n)
+unfolding kind
+kind-known o zero h = given _
+kind-known o (suc zero) h = given _
+kind-known o (suc (suc zero)) h = given _
+kind-known o (suc (suc (suc n))) h = absurd (omega arith)
+
+pub kind-unknown : (o n at : ℕ) (ws : List ℕ) → 2 < n → kind o n at ws ≡ refuse FieldRange o
+unfolding kind
+kind-unknown o zero at ws h = absurd (omega arith)
+kind-unknown o (suc zero) at ws h = absurd (omega arith)
+kind-unknown o (suc (suc zero)) at ws h = absurd (omega arith)
+kind-unknown o (suc (suc (suc n))) at ws h = refl
+
+pub operation-known : (o n : ℕ) → n ≤ 2 → Gives (operation o n)
+unfolding operation
+operation-known o zero h = given _
+operation-known o (suc zero) h = given _
+operation-known o (suc (suc zero)) h = given _
+operation-known o (suc (suc (suc n))) h = absurd (omega arith)
+
+pub operation-unknown : (o n at : ℕ) (ws : List ℕ) → 2 < n → operation o n at ws ≡ refuse FieldRange o
+unfolding operation
+operation-unknown o zero at ws h = absurd (omega arith)
+operation-unknown o (suc zero) at ws h = absurd (omega arith)
+operation-unknown o (suc (suc zero)) at ws h = absurd (omega arith)
+operation-unknown o (suc (suc (suc n))) at ws h = refl
