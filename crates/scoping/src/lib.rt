@@ -24,7 +24,7 @@ pub enum Verdict {
 }
 
 // Where the record that declares a name begins.
-pub enum Found {
+enum Found {
     At(usize),
     Nothing,
 }
@@ -293,9 +293,9 @@ fn action(script: &[u8], entries: &[usize], top: usize, at: usize) -> Verdict
 }
 
 // A record passed: where the next one begins, and how many records stand inside this one.
-pub struct Step {
-    pub next: usize,
-    pub more: usize,
+struct Step {
+    next: usize,
+    more: usize,
 }
 
 // How many bytes a record has that holds no other and no list.
