@@ -2,20 +2,19 @@
 -- Assumes nothing.
 use mathlib.Core.Path.{_≡_, refl, sym, _∙_, ap, subst}
 use mathlib.Core.Bool.{Bool, true, false}
-use mathlib.Core.List.{List, [], _∷_, _++_, map, append-nil, append-assoc}
-use Prim.Native.Nat.{ℕ, zero, suc, _+_, _*_, _-_, _<_, _≤_}
+use mathlib.Core.List.{List, [], _∷_, _++_, map}
+use Prim.Native.Nat.{ℕ, _+_, _*_, _<_, _≤_}
 use native.Mathlib.Omega.{arith}
 use lib.Dec.{leb}
 use lib.ListN.{length, take, drop, length-append, length-map, take-append-drop}
 use lib.Seq.{drop-drop}
 use borrow.Author.Tests.{leb-true, leb-false}
 use Rattle.language.specs.Text.{Formal, Block, block, Decls, no-decl, decl, Stmts, no-stmt, stmt, decls, stmts}
-use Rattle.language.specs.Encoding.{blockFields, formalsFields, declFields, stmtFields, declsFields, stmtsFields, BK-mark}
-use Rattle.language.specs.Scope.{Scope, fine, wrong, _then_, inside, formalMeaning, declMeaning, judgeBlock, judgeDecls, judgeStmts}
+use Rattle.language.specs.Encoding.{blockFields, declFields, stmtFields, declsFields, BK-mark}
+use Rattle.language.specs.Scope.{Scope, fine, wrong, _then_, inside, judgeBlock, judgeDecls, judgeStmts}
 use Rattle.language.specs.Scope as definitions
 use Rattle.records.specs.declared.Progress.{Progress}
 use Rattle.records.specs.declared.Progress.the-variants.{At, Refused}
-use Rattle.language.specs.declared.Refusal.{Refusal}
 use Rattle.grammar.specs.Rules.{FormedBlock, FormedDecls, FormedStmts}
 use Rattle.scoping.specs.Entries.{wordAt, scopeOf}
 use Rattle.scoping.specs.Standing.{Stands}

@@ -1,19 +1,18 @@
 -- A call's arguments, one by one: visible, and of the kinds of the formals.
 -- Assumes nothing.
-use mathlib.Core.Path.{_≡_, refl, sym, _∙_, ap}
-use mathlib.Core.Bool.{Bool, true, false, _&&_}
+use mathlib.Core.Path.{_≡_, sym, _∙_, ap}
+use mathlib.Core.Bool.{Bool, true, false}
 use mathlib.Core.List.{List, [], _∷_, map}
 use mathlib.Core.Option.{Option, none, some}
-use Prim.Native.Nat.{ℕ, zero, suc, _+_, _*_, _-_, _<_, _≤_}
+use Prim.Native.Nat.{ℕ, suc, _+_, _*_, _-_, _<_, _≤_}
 use native.Mathlib.Omega.{arith}
-use lib.ListN.{length}
-use Rattle.language.specs.Text.{Kind, procedure, sameKind}
-use Rattle.language.specs.Encoding.{kindField, PR-mark}
-use Rattle.language.specs.Scope.{Meaning, Scope, fine, wrong, visible, allVisible, kindIn, agree, agrees, _then_}
-use Rattle.language.specs.declared.Refusal.the-variants.{NotVisible, CallMismatch}
+use Rattle.language.specs.Text.{Kind}
+use Rattle.language.specs.Encoding.{kindField}
+use Rattle.language.specs.Scope.{Scope, fine, wrong, visible, allVisible, kindIn, agree, _then_}
+use Rattle.language.specs.declared.Refusal.the-variants.{NotVisible}
 use Rattle.scoping.specs.Entries.{wordAt, wordsAt, kindOf, kindsAt, meaningAt, foundIn, scopeOf}
 use Rattle.scoping.specs.declared.Found.the-variants.{At, Nothing}
-use Rattle.scoping.proofs.Meanings.{found-lookup, kinds-agree, kinds-differ, means-PR}
+use Rattle.scoping.proofs.Meanings.{found-lookup, kinds-agree, kinds-differ}
 
 one-less : (count i : ℕ) → i < count → count - i ≡ suc (count - (i + 1))
 one-less count i h = omega arith

@@ -1,14 +1,12 @@
 -- Fields that stand in the bytes, taken apart record by record.
 -- Assumes nothing.
 use mathlib.Core.Path.{_≡_, refl, sym, _∙_, ap, subst}
-use mathlib.Core.Bool.{true, false}
 use mathlib.Core.List.{List, [], _∷_, _++_, map, append-nil, append-assoc}
-use Prim.Native.Nat.{ℕ, zero, suc, _+_, _*_, _<_, _≤_}
+use Prim.Native.Nat.{ℕ, suc, _+_, _*_, _<_}
 use native.Mathlib.Omega.{arith}
 use lib.ListN.{length, length-append, length-map}
-use borrow.Author.Tests.{ne-eqb}
-use Rattle.language.specs.Text.{Formal, Action, CL, GO, IF, KN, AR, AD, RM, QY, Block, block, Decl, VR, LB, PR, Stmt, BK, DO, Decls, no-decl, decl, Stmts, no-stmt, stmt, decls, stmts}
-use Rattle.language.specs.Encoding.{actionFields, formalsFields, blockFields, declFields, stmtFields, declsFields, stmtsFields, BK-mark, VR-mark, LB-mark, PR-mark, FM-mark, CL-mark, GO-mark, IF-mark, KN-mark, AR-mark, AD-mark, RM-mark, QY-mark}
+use Rattle.language.specs.Text.{Formal, Action, CL, GO, IF, KN, AR, AD, RM, QY, Block, block, VR, LB, PR, BK, DO, Decls, no-decl, decl, Stmts, no-stmt, stmt, decls, stmts}
+use Rattle.language.specs.Encoding.{actionFields, formalsFields, blockFields, declFields, declsFields, stmtsFields, BK-mark, PR-mark, CL-mark}
 use Rattle.scoping.specs.Entries.{wordAt, wordsAt}
 use Rattle.scoping.specs.Standing.{Stands}
 use Rattle.scoping.specs.Items.{Item, formal, body, declared, stated, itemFields, itemsFields, inBlock, kids, blockHead, headFields, sizeOf, headSize, kidsCount}

@@ -4,19 +4,19 @@ use mathlib.Core.Path.{_≡_, refl, sym, _∙_, ap}
 use mathlib.Core.Bool.{Bool, true, false, _&&_}
 use mathlib.Core.List.{List, [], _∷_, map}
 use mathlib.Core.Option.{Option, none, some}
-use Prim.Native.Nat.{ℕ, zero, suc, _+_, _*_, _-_, _<_, _≤_}
+use Prim.Native.Nat.{ℕ, zero, suc, _+_}
 use native.Mathlib.Omega.{arith}
 use lib.Dec.{eqb}
 use lib.ListN.{length, length-map}
-use borrow.Author.Tests.{ne-eqb, eq-eqb}
+use borrow.Author.Tests.{ne-eqb}
 use Rattle.language.specs.Basics.{lookup}
 use Rattle.language.specs.Text.{Kind, procedure, sameKind, CL}
 use Rattle.language.specs.Encoding.{LB-mark, PR-mark, FM-mark, CL-mark, GO-mark, IF-mark, KN-mark, AR-mark, QY-mark}
-use Rattle.language.specs.Scope.{Meaning, Scope, fine, wrong, allVisible, kindIn, agree, agrees, _then_, judgeAction, uses}
+use Rattle.language.specs.Scope.{Scope, fine, wrong, allVisible, kindIn, agree, agrees, _then_, judgeAction, uses}
 use Rattle.language.specs.Scope as definitions
 use Rattle.language.specs.declared.Refusal.{Refusal}
 use Rattle.language.specs.declared.Refusal.the-variants.{CallMismatch}
-use Rattle.scoping.specs.Entries.{wordAt, wordsAt, kindOf, kindsAt, meaningAt, foundIn, scopeOf, verdictOf, Shape, isTwo, shapeOf, judgedAs}
+use Rattle.scoping.specs.Entries.{wordAt, wordsAt, kindsAt, meaningAt, foundIn, scopeOf, verdictOf, Shape, isTwo, shapeOf, judgedAs}
 use Rattle.language.specs.declared.Verdict.{Verdict}
 use Rattle.language.specs.declared.Verdict.the-variants.{Fit, Refused}
 use Rattle.scoping.specs.declared.Found.the-variants.{At, Nothing}

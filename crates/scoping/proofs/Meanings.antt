@@ -1,10 +1,10 @@
 -- What is found among the entries is what the definitions look up; the meaning that each mark gives.
 -- Assumes nothing.
-use mathlib.Core.Path.{_≡_, refl, sym, _∙_, ap}
+use mathlib.Core.Path.{_≡_, refl, sym, _∙_}
 use mathlib.Core.Bool.{Bool, true, false}
-use mathlib.Core.List.{List, [], _∷_, map}
+use mathlib.Core.List.{List, [], _∷_}
 use mathlib.Core.Option.{Option, none, some}
-use Prim.Native.Nat.{ℕ, zero, suc, _+_, _*_, _/_, _%_, _<_, _≤_, _^_}
+use Prim.Native.Nat.{ℕ, zero, suc, _+_, _/_, _%_, _<_, _≤_, _^_}
 use native.Mathlib.Numerals.{add-one}
 use native.Mathlib.Omega.{arith}
 use lib.Dec.{eqb}
@@ -14,11 +14,10 @@ use borrow.Author.Tests.{eq-eqb, ne-eqb}
 use Rattle.language.specs.Basics.{lookup}
 use Rattle.language.specs.Text.{Kind, variable, label, procedure, sameKind}
 use Rattle.language.specs.Encoding.{kindField, LB-mark, PR-mark, FM-mark}
-use Rattle.language.specs.Scope.{Meaning, Scope, fine, wrong, ofKind}
+use Rattle.language.specs.Scope.{Meaning, fine, wrong, ofKind}
 use Rattle.language.specs.Scope as definitions
 use Rattle.language.specs.declared.Refusal.the-variants.{NotVisible, WrongKind}
-use Rattle.scoping.specs.Entries.{wordAt, kindOf, kindsAt, meaningAt, foundIn, Near, scopeOf, verdictOf}
-use Rattle.language.specs.declared.Verdict.the-variants.{Fit, Refused}
+use Rattle.scoping.specs.Entries.{wordAt, kindOf, kindsAt, meaningAt, foundIn, Near, scopeOf}
 use Rattle.scoping.specs.declared.Found.{Found}
 use Rattle.scoping.specs.declared.Found.the-variants.{At, Nothing}
 
@@ -55,11 +54,12 @@ unfolding foundIn scopeOf lookup
 found-lookup bs n [] = refl
 found-lookup bs n (e ∷ es) = found-case bs n e es (eqb n (e % 65536)) refl (found-lookup bs n es)
 
-pub kind-small : (x : ℕ) → x < 2 → x ≡ kindField (kindOf x)
+pub kind-is : (x : ℕ) → x ≤ 2 → x ≡ kindField (kindOf x)
 unfolding kindField kindOf
-kind-small zero h = refl
-kind-small (suc zero) h = refl
-kind-small (suc (suc x)) h = absurd (omega arith)
+kind-is zero h = refl
+kind-is (suc zero) h = refl
+kind-is (suc (suc zero)) h = refl
+kind-is (suc (suc (suc x))) h = absurd (omega arith)
 
 pub kind-large : (x : ℕ) → 2 ≤ x → 2 ≡ kindField (kindOf x)
 unfolding kindField kindOf
@@ -115,13 +115,6 @@ module _ (bs : List ℕ) (es : List ℕ) (at : ℕ) (k : Kind) (n : ℕ) where
   pub use-wrong : (place : ℕ) → foundIn n es ≡ At place → (kindField (meaningAt bs place .kind) ≡ kindField k → ⊥) → definitions.uses (scopeOf bs es) at k n ≡ wrong WrongKind at
   unfolding definitions.uses ofKind
   use-wrong place e f = rw (found-lookup bs n es, e, kinds-differ k (meaningAt bs place .kind) f, ofKind)
-
-pub kind-is : (x : ℕ) → x ≤ 2 → x ≡ kindField (kindOf x)
-unfolding kindField kindOf
-kind-is zero h = refl
-kind-is (suc zero) h = refl
-kind-is (suc (suc zero)) h = refl
-kind-is (suc (suc (suc x))) h = absurd (omega arith)
 
 pub near-place : (r : Found) (place : ℕ) → r ≡ At place → Near r → place < 2 ^ 48
 near-place r place e h = rw e at h

@@ -1,15 +1,15 @@
 -- The entries of a block's formals and declarations mean what the definitions say.
 -- Assumes nothing.
-use mathlib.Core.Path.{_≡_, refl, sym, _∙_, ap, subst}
+use mathlib.Core.Path.{_≡_, refl, _∙_, ap}
 use mathlib.Core.List.{List, [], _∷_, _++_, map}
-use mathlib.Core.Option.{Option, none, some}
-use Prim.Native.Nat.{ℕ, zero, suc, _+_, _*_, _/_, _%_, _<_, _≤_}
+use mathlib.Core.Option.{none}
+use Prim.Native.Nat.{ℕ, _+_, _*_, _/_, _%_, _<_}
 use native.Mathlib.Omega.{arith}
-use lib.ListN.{length, length-append}
-use Rattle.language.specs.Text.{Kind, variable, label, procedure, Formal, Block, Decl, VR, LB, PR, Decls, no-decl, decl, decls, formalKinds}
-use Rattle.language.specs.Encoding.{kindField, formalsFields, blockFields, declFields, declsFields, VR-mark, LB-mark, PR-mark, FM-mark}
-use Rattle.language.specs.Scope.{Meaning, Scope, formalMeaning, declMeaning}
-use Rattle.grammar.specs.Rules.{Name, FormedFormals, FormedDecl, FormedDecls}
+use lib.ListN.{length}
+use Rattle.language.specs.Text.{Kind, variable, label, procedure, Formal, Decl, VR, LB, PR, Decls, no-decl, decl, decls, formalKinds}
+use Rattle.language.specs.Encoding.{kindField, formalsFields, blockFields, declFields, declsFields, PR-mark, FM-mark}
+use Rattle.language.specs.Scope.{Meaning, formalMeaning, declMeaning}
+use Rattle.grammar.specs.Rules.{FormedFormals, FormedDecl, FormedDecls}
 use Rattle.scoping.specs.Entries.{wordAt, kindOf, kindsAt, meaningAt, scopeOf}
 use Rattle.scoping.specs.Standing.{Stands}
 use Rattle.scoping.specs.Items.{formal, declared, itemFields, entriesOf}

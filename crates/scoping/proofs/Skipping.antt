@@ -2,12 +2,11 @@
 -- Assumes nothing.
 use mathlib.Core.Path.{_≡_, refl, sym, _∙_, ap, subst}
 use mathlib.Core.List.{List, [], _∷_, _++_, append-nil, append-assoc}
-use Prim.Native.Nat.{ℕ, zero, suc, _+_, _*_, _-_, _<_, _≤_}
+use Prim.Native.Nat.{ℕ, _+_, _*_, _-_, _<_, _≤_}
 use native.Mathlib.Omega.{arith}
 use lib.ListN.{length, length-append}
 use borrow.Author.Tests.{ne-eqb}
 use Rattle.language.specs.Encoding.{BK-mark, VR-mark, PR-mark, CL-mark, GO-mark, KN-mark, AR-mark, QY-mark}
-use Rattle.scoping.specs.Entries.{wordAt}
 use Rattle.scoping.specs.Standing.{Stands}
 use Rattle.scoping.specs.Items.{Item, itemFields, itemsFields, kids, headFields, sizeOf, headSize, kidsCount}
 use Rattle.scoping.specs.Passing.{Passed}

@@ -1,18 +1,18 @@
 -- One declaration or statement, by its mark.
 -- Assumes nothing.
 use mathlib.Core.Path.{_≡_, refl, sym, _∙_, ap, subst}
-use mathlib.Core.List.{List, [], _∷_, _++_, map, append-nil}
-use Prim.Native.Nat.{ℕ, zero, suc, _+_, _*_, _-_, _<_, _≤_}
+use mathlib.Core.List.{List, [], _∷_, _++_, append-nil}
+use Prim.Native.Nat.{ℕ, suc, _+_, _*_, _≤_}
 use native.Mathlib.Omega.{arith}
 use lib.ListN.{length, length-append}
-use Rattle.language.specs.Text.{Formal, Action, CL, GO, IF, KN, AR, AD, RM, QY, Block, block, Decl, VR, LB, PR, Stmt, BK, DO, decls, stmts}
+use Rattle.language.specs.Text.{Formal, Action, CL, GO, IF, KN, AR, AD, RM, QY, Block, block, VR, LB, PR, BK, DO}
 use Rattle.language.specs.Encoding.{actionFields, formalsFields, blockFields, declFields, stmtFields, BK-mark, VR-mark, LB-mark, PR-mark, CL-mark, IF-mark, AR-mark, AD-mark, RM-mark, QY-mark, operationField}
 use Rattle.language.specs.Scope.{Scope, fine, wrong, judgeAction, judgeBlock, judgeDecl, judgeStmt}
 use Rattle.language.specs.Scope as definitions
 use Rattle.records.specs.declared.Progress.{Progress}
 use Rattle.records.specs.declared.Progress.the-variants.{At, Refused}
 use Rattle.grammar.specs.Rules.{FormedBlock, FormedDecl, FormedStmt, FormedFormals}
-use Rattle.scoping.specs.Entries.{wordAt, wordsAt, verdictOf, pairJudged, tripleJudged, shapeOf, judgedAs}
+use Rattle.scoping.specs.Entries.{wordAt, verdictOf, pairJudged, tripleJudged, shapeOf, judgedAs}
 use Rattle.scoping.specs.Standing.{Stands}
 use Rattle.scoping.specs.Items.{Item, formal, body, declared, stated, itemFields, itemsFields, kids, headFields}
 use Rattle.scoping.specs.Passing.{Passed}

@@ -1,21 +1,32 @@
 -- The walk over records, one after the other.
 -- Assumes nothing.
 use mathlib.Core.Path.{_≡_, refl, sym, _∙_, ap, subst}
-use mathlib.Core.List.{List, [], _∷_, _++_, map, append-nil, append-assoc}
-use Prim.Native.Nat.{ℕ, zero, suc, _+_, _*_, _-_, _<_, _≤_}
+use mathlib.Core.List.{List, [], _∷_, _++_}
+use Prim.Native.Nat.{ℕ, _+_, _*_, _<_, _≤_}
 use native.Mathlib.Omega.{arith}
 use lib.ListN.{length, drop, length-append}
-use Rattle.language.specs.Scope.{Scope, fine, wrong, _then_}
+use Rattle.language.specs.Scope.{fine, wrong, _then_}
 use Rattle.language.specs.Scope as definitions
 use Rattle.language.specs.declared.Refusal.{Refusal}
 use Rattle.records.specs.declared.Progress.{Progress}
 use Rattle.records.specs.declared.Progress.the-variants.{At, Refused}
-use Rattle.scoping.specs.Entries.{wordAt, scopeOf}
+use Rattle.scoping.specs.Entries.{scopeOf}
 use Rattle.scoping.specs.Standing.{Stands}
 use Rattle.scoping.specs.Items.{Item, itemFields, itemsFields}
-use Rattle.scoping.specs.Walking.{progressOf, judgeItem, judgeItems, FormedItem, FormedItems, ItemsHere, ItemHere, Ahead}
+use Rattle.scoping.specs.Walking.{progressOf, judgeItem, judgeItems, FormedItems, ItemsHere, ItemHere}
 use Rattle.scoping.proofs.Meanings.{word-inside}
 use Rattle.scoping.proofs.Inside.{stands-first, stands-second, item-opens, head-marked}
+
+-- a verdict, then another: where the first refuses, and where it does not
+stops : (r : Progress) (v w : definitions.Verdict) (c : Refusal) (o e e′ : ℕ) → r ≡ progressOf v e → r ≡ Refused c o → r ≡ progressOf (_then_ v w) e′
+unfolding progressOf _then_
+stops r fine w c o e e′ p q = absurd (let z : _≡_ {A = ℕ} 0 1 = cc in omega arith)
+stops r (wrong d n) w c o e e′ p q = p
+
+goes : (r : Progress) (v w : definitions.Verdict) (next e e′ : ℕ) → r ≡ progressOf v e → r ≡ At next → (next ≡ e) × (progressOf w e′ ≡ progressOf (_then_ v w) e′)
+unfolding progressOf _then_
+goes r fine w next e e′ p q = (cc, refl)
+goes r (wrong d n) w next e e′ p q = absurd (let z : _≡_ {A = ℕ} 0 1 = cc in omega arith)
 
 -- the records still to judge: all before them are right
 pub record Remaining (bs es : List ℕ) (at here i count top : ℕ) (xs : List Item) (level s : ℕ) : Type 0 where
@@ -61,23 +72,12 @@ module _ (bs es : List ℕ) (at count top : ℕ) (xs : List Item) (level s : ℕ
       remaining-inside r = head-inside (r .left) (r .number) (r .rest .stand)
 
       module _ (r : Progress) (judged : (x : Item) (k n : ℕ) → ItemHere bs here top x k n → r ≡ progressOf (judgeItem x (scopeOf bs (drop top es))) (here + 2 * length (itemFields x))) where
-        stop : (y : Item) (ys : List Item) (v : definitions.Verdict) (c : Refusal) (o e e′ : ℕ) → r ≡ progressOf v e → r ≡ Refused c o → (w : definitions.Verdict) → r ≡ progressOf (_then_ v w) e′
-        unfolding progressOf _then_
-        stop y ys fine c o e e′ p q w = absurd (let z : _≡_ {A = ℕ} 0 1 = cc in omega arith)
-        stop y ys (wrong d n) c o e e′ p q w = p
-
-        go : (v : definitions.Verdict) (next e e′ : ℕ) → r ≡ progressOf v e → r ≡ At next → (w : definitions.Verdict) → (next ≡ e) × (progressOf w e′ ≡ progressOf (_then_ v w) e′)
-        unfolding progressOf _then_
-        go fine next e e′ p q w = (cc, refl)
-        go (wrong d n) next e e′ p q w = absurd (let z : _≡_ {A = ℕ} 0 1 = cc in omega arith)
-
         stop-at : (c : Refusal) (o : ℕ) → r ≡ Refused c o → (l : List Item) → length l + i ≡ count → ItemsHere bs here (length l) top l level s → progressOf (judgeItems l (scopeOf bs (drop top es))) (here + 2 * length (itemsFields l)) ≡ answer → r ≡ answer
         unfolding judgeItems itemsFields FormedItems
         stop-at c o q [] n h v = absurd (omega arith)
         stop-at c o q (y ∷ ys) n h v =
-            stop y ys (judgeItem y (scopeOf bs (drop top es))) c o _ _
-            (judged y level s (record { stand = stands-first bs here (itemFields y) (itemsFields ys) (h .stand); formed = h .formed .0; room = h .room }))
-            q (judgeItems ys (scopeOf bs (drop top es)))
+            stops r (judgeItem y (scopeOf bs (drop top es))) (judgeItems ys (scopeOf bs (drop top es))) c o _ _
+            (judged y level s (record { stand = stands-first bs here (itemFields y) (itemsFields ys) (h .stand); formed = h .formed .0; room = h .room })) q
             ∙ v
 
         pub remaining-stop : (c : Refusal) (o : ℕ) → r ≡ Refused c o → Remaining bs es at here i count top xs level s → r ≡ answer
@@ -90,7 +90,7 @@ module _ (bs es : List ℕ) (at count top : ℕ) (xs : List Item) (level s : ℕ
             let sc = scopeOf bs (drop top es) in
             let j = judged y level s (record { stand = stands-first bs here (itemFields y) (itemsFields ys) (h .stand); formed = h .formed .0; room = h .room }) in
             let end = here + 2 * length (itemFields y ++ itemsFields ys) in
-            let g = go (judgeItem y sc) next (here + 2 * length (itemFields y)) end j q (judgeItems ys sc) in
+            let g = goes r (judgeItem y sc) (judgeItems ys sc) next (here + 2 * length (itemFields y)) end j q in
             let e : here + 2 * length (itemFields y) + 2 * length (itemsFields ys) ≡ end = omega (arith, length-append (itemFields y) (itemsFields ys)) in
             record {
               left = ys;

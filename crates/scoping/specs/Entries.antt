@@ -1,9 +1,9 @@
 -- The visible names as the code keeps them: a list of entries, nearest first. An entry is a name and, times 65536, the offset of the
 -- record that declares it, from whose bytes the name's meaning is read.
-use Prim.Native.Nat.{ℕ, zero, suc, _+_, _*_, _/_, _%_, _<_, _^_}
-use mathlib.Core.Bool.{Bool, true, false}
+use Prim.Native.Nat.{ℕ, zero, suc, _+_, _/_, _%_, _<_, _^_}
+use mathlib.Core.Bool.{true, false}
 use mathlib.Core.List.{List, [], _∷_, map}
-use mathlib.Core.Option.{Option, none, some}
+use mathlib.Core.Option.{none, some}
 use lib.Dec.{eqb}
 use lib.ListN.{getD}
 use Rattle.language.specs.Text.{Kind, variable, label, procedure, CL}

@@ -4,7 +4,7 @@ use mathlib.Core.Bool.{true, false}
 use mathlib.Core.List.{List, [], _∷_, _++_, map}
 use lib.Dec.{eqb}
 use lib.ListN.{length}
-use Rattle.language.specs.Text.{Formal, Action, Block, block, Decl, VR, LB, PR, Stmt, BK, DO, decls, stmts}
+use Rattle.language.specs.Text.{Formal, Block, block, Decl, VR, LB, PR, Stmt, BK, DO, decls, stmts}
 use Rattle.language.specs.Encoding.{kindField, actionFields, blockFields, declFields, stmtFields, BK-mark, VR-mark, LB-mark, PR-mark, FM-mark, CL-mark, GO-mark, KN-mark, AR-mark, QY-mark}
 use Rattle.scoping.specs.Entries.{wordAt}
 

@@ -20,7 +20,7 @@ ghost use Rattle.scoping.specs.Walking.{progressOf, onwardOf, settledOf,
 ghost use Rattle.scoping.specs.Passing.{Passed, Skipped};
 
 // Where the record that declares a name begins.
-pub enum Found {
+enum Found {
     At(usize),
     Nothing,
 }
@@ -289,9 +289,9 @@ fn action(script: &[u8], entries: &[usize], top: usize, at: usize) -> Verdict
 }
 
 // A record passed: where the next one begins, and how many records stand inside this one.
-pub struct Step {
-    pub next: usize,
-    pub more: usize,
+struct Step {
+    next: usize,
+    more: usize,
 }
 
 // How many bytes a record has that holds no other and no list.

@@ -60,44 +60,37 @@ items-at t = and 2 items-kinds.ps (is 2 items-kinds.ps μ-items t) items.Pre
 abbrev items-below : ℕ → In 2 items-kinds.ps
 items-below t = and 2 items-kinds.ps (falls 2 items-kinds.ps _<_ μ-items t) items.Pre
 
-block-mul-start : (t : ℕ) → block-lts.Need-mul-start (
+-- what each may use of those that it calls
+abbrev block-claims : ℕ → block-lts.Claims
+block-claims t = (word-reads.Asked, word-reads.Learnt, push-reads.Asked, push-reads.Learnt, items-below t, items.Post)
+
+abbrev item-claims : ℕ → item-lts.Claims
+item-claims t = (
   word-reads.Asked,
   word-reads.Learnt,
-  push-reads.Asked,
-  push-reads.Learnt,
-  items-below t,
-  items.Post,
-) (block-at t) block.Post
+  block-below t,
+  block.Post,
+  pass-reads.Asked,
+  pass-reads.Learnt,
+  action-reads.Asked,
+  action-reads.Learnt,
+  onward-reads.Asked,
+  onward-reads.Learnt,
+)
+
+abbrev items-claims : ℕ → items-lts.Claims
+items-claims t = (item-below t, item.Post)
+
+block-mul-start : (t : ℕ) → block-lts.Need-mul-start (block-claims t) (block-at t) block.Post
 block-mul-start t c = search needs
 
-block-add-start : (t : ℕ) → block-lts.Need-add-start (
-  word-reads.Asked,
-  word-reads.Learnt,
-  push-reads.Asked,
-  push-reads.Learnt,
-  items-below t,
-  items.Post,
-) (block-at t) block.Post
+block-add-start : (t : ℕ) → block-lts.Need-add-start (block-claims t) (block-at t) block.Post
 block-add-start t c = search needs
 
-block-word-requires : (t : ℕ) → block-lts.Need-word-requires (
-  word-reads.Asked,
-  word-reads.Learnt,
-  push-reads.Asked,
-  push-reads.Learnt,
-  items-below t,
-  items.Post,
-) (block-at t) block.Post
+block-word-requires : (t : ℕ) → block-lts.Need-word-requires (block-claims t) (block-at t) block.Post
 block-word-requires t c κs = search needs
 
-block-returns : (t : ℕ) → block-lts.Need-returns (
-  word-reads.Asked,
-  word-reads.Learnt,
-  push-reads.Asked,
-  push-reads.Learnt,
-  items-below t,
-  items.Post,
-) (block-at t) block.Post
+block-returns : (t : ℕ) → block-lts.Need-returns (block-claims t) (block-at t) block.Post
 block-returns t c =
     let w = c .before in
     let a = w .before .before .before .args in (
@@ -105,64 +98,22 @@ block-returns t c =
       (tt, refl),
     )
 
-block-add-word : (t : ℕ) → block-lts.Need-add-word (
-  word-reads.Asked,
-  word-reads.Learnt,
-  push-reads.Asked,
-  push-reads.Learnt,
-  items-below t,
-  items.Post,
-) (block-at t) block.Post
+block-add-word : (t : ℕ) → block-lts.Need-add-word (block-claims t) (block-at t) block.Post
 block-add-word t c = search needs
 
-block-word-requires-2 : (t : ℕ) → block-lts.Need-word-requires-2 (
-  word-reads.Asked,
-  word-reads.Learnt,
-  push-reads.Asked,
-  push-reads.Learnt,
-  items-below t,
-  items.Post,
-) (block-at t) block.Post
+block-word-requires-2 : (t : ℕ) → block-lts.Need-word-requires-2 (block-claims t) (block-at t) block.Post
 block-word-requires-2 t c κs = search needs
 
-block-add-word-2 : (t : ℕ) → block-lts.Need-add-word-2 (
-  word-reads.Asked,
-  word-reads.Learnt,
-  push-reads.Asked,
-  push-reads.Learnt,
-  items-below t,
-  items.Post,
-) (block-at t) block.Post
+block-add-word-2 : (t : ℕ) → block-lts.Need-add-word-2 (block-claims t) (block-at t) block.Post
 block-add-word-2 t c = search needs
 
-block-word-requires-3 : (t : ℕ) → block-lts.Need-word-requires-3 (
-  word-reads.Asked,
-  word-reads.Learnt,
-  push-reads.Asked,
-  push-reads.Learnt,
-  items-below t,
-  items.Post,
-) (block-at t) block.Post
+block-word-requires-3 : (t : ℕ) → block-lts.Need-word-requires-3 (block-claims t) (block-at t) block.Post
 block-word-requires-3 t c κs = search needs
 
-block-add-if2 : (t : ℕ) → block-lts.Need-add-if2 (
-  word-reads.Asked,
-  word-reads.Learnt,
-  push-reads.Asked,
-  push-reads.Learnt,
-  items-below t,
-  items.Post,
-) (block-at t) block.Post
+block-add-if2 : (t : ℕ) → block-lts.Need-add-if2 (block-claims t) (block-at t) block.Post
 block-add-if2 t c = search needs
 
-block-returns-2 : (t : ℕ) → block-lts.Need-returns-2 (
-  word-reads.Asked,
-  word-reads.Learnt,
-  push-reads.Asked,
-  push-reads.Learnt,
-  items-below t,
-  items.Post,
-) (block-at t) block.Post
+block-returns-2 : (t : ℕ) → block-lts.Need-returns-2 (block-claims t) (block-at t) block.Post
 block-returns-2 t c =
     let w = c .before .before in
     let a = w .before .before .before .before .before .args in (
@@ -171,94 +122,31 @@ block-returns-2 t c =
       (tt, refl),
     )
 
-block-add-base : (t : ℕ) → block-lts.Need-add-base (
-  word-reads.Asked,
-  word-reads.Learnt,
-  push-reads.Asked,
-  push-reads.Learnt,
-  items-below t,
-  items.Post,
-) (block-at t) block.Post
+block-add-base : (t : ℕ) → block-lts.Need-add-base (block-claims t) (block-at t) block.Post
 block-add-base t c = search needs
 
-block-sub-base : (t : ℕ) → block-lts.Need-sub-base (
-  word-reads.Asked,
-  word-reads.Learnt,
-  push-reads.Asked,
-  push-reads.Learnt,
-  items-below t,
-  items.Post,
-) (block-at t) block.Post
+block-sub-base : (t : ℕ) → block-lts.Need-sub-base (block-claims t) (block-at t) block.Post
 block-sub-base t c = search needs
 
-block-push-requires : (t : ℕ) → block-lts.Need-push-requires (
-  word-reads.Asked,
-  word-reads.Learnt,
-  push-reads.Asked,
-  push-reads.Learnt,
-  items-below t,
-  items.Post,
-) (block-at t) block.Post
+block-push-requires : (t : ℕ) → block-lts.Need-push-requires (block-claims t) (block-at t) block.Post
 block-push-requires t c κs = search needs
 
-block-add-push : (t : ℕ) → block-lts.Need-add-push (
-  word-reads.Asked,
-  word-reads.Learnt,
-  push-reads.Asked,
-  push-reads.Learnt,
-  items-below t,
-  items.Post,
-) (block-at t) block.Post
+block-add-push : (t : ℕ) → block-lts.Need-add-push (block-claims t) (block-at t) block.Post
 block-add-push t c = search needs
 
-block-add-push-2 : (t : ℕ) → block-lts.Need-add-push-2 (
-  word-reads.Asked,
-  word-reads.Learnt,
-  push-reads.Asked,
-  push-reads.Learnt,
-  items-below t,
-  items.Post,
-) (block-at t) block.Post
+block-add-push-2 : (t : ℕ) → block-lts.Need-add-push-2 (block-claims t) (block-at t) block.Post
 block-add-push-2 t c = search needs
 
-block-push-requires-2 : (t : ℕ) → block-lts.Need-push-requires-2 (
-  word-reads.Asked,
-  word-reads.Learnt,
-  push-reads.Asked,
-  push-reads.Learnt,
-  items-below t,
-  items.Post,
-) (block-at t) block.Post
+block-push-requires-2 : (t : ℕ) → block-lts.Need-push-requires-2 (block-claims t) (block-at t) block.Post
 block-push-requires-2 t c κs = search needs
 
-block-add-items : (t : ℕ) → block-lts.Need-add-items (
-  word-reads.Asked,
-  word-reads.Learnt,
-  push-reads.Asked,
-  push-reads.Learnt,
-  items-below t,
-  items.Post,
-) (block-at t) block.Post
+block-add-items : (t : ℕ) → block-lts.Need-add-items (block-claims t) (block-at t) block.Post
 block-add-items t c = search needs
 
-block-add-items-2 : (t : ℕ) → block-lts.Need-add-items-2 (
-  word-reads.Asked,
-  word-reads.Learnt,
-  push-reads.Asked,
-  push-reads.Learnt,
-  items-below t,
-  items.Post,
-) (block-at t) block.Post
+block-add-items-2 : (t : ℕ) → block-lts.Need-add-items-2 (block-claims t) (block-at t) block.Post
 block-add-items-2 t c = search needs
 
-block-items-requires : (t : ℕ) → block-lts.Need-items-requires (
-  word-reads.Asked,
-  word-reads.Learnt,
-  push-reads.Asked,
-  push-reads.Learnt,
-  items-below t,
-  items.Post,
-) (block-at t) block.Post
+block-items-requires : (t : ℕ) → block-lts.Need-items-requires (block-claims t) (block-at t) block.Post
 block-items-requires t c κs =
     let st = c .before .before .before .before .before .before .before .before .before .before .before .before .before .before .before .before in
     let a = st .args in
@@ -273,24 +161,10 @@ block-items-requires t c κs =
       ),
     )
 
-block-same-length : (t : ℕ) → block-lts.Need-same-length (
-  word-reads.Asked,
-  word-reads.Learnt,
-  push-reads.Asked,
-  push-reads.Learnt,
-  items-below t,
-  items.Post,
-) (block-at t) block.Post
+block-same-length : (t : ℕ) → block-lts.Need-same-length (block-claims t) (block-at t) block.Post
 block-same-length t c = search needs
 
-block-returns-3 : (t : ℕ) → block-lts.Need-returns-3 (
-  word-reads.Asked,
-  word-reads.Learnt,
-  push-reads.Asked,
-  push-reads.Learnt,
-  items-below t,
-  items.Post,
-) (block-at t) block.Post
+block-returns-3 : (t : ℕ) → block-lts.Need-returns-3 (block-claims t) (block-at t) block.Post
 block-returns-3 t c =
     let i = c .before .before in
     let p₂ = c .before .before .before .before .before .before in
@@ -311,102 +185,25 @@ block-returns-3 t c =
       ),
     )
 
-item-word-requires : (t : ℕ) → item-lts.Need-word-requires (
-  word-reads.Asked,
-  word-reads.Learnt,
-  block-below t,
-  block.Post,
-  pass-reads.Asked,
-  pass-reads.Learnt,
-  action-reads.Asked,
-  action-reads.Learnt,
-  onward-reads.Asked,
-  onward-reads.Learnt,
-) (item-at t) item.Post
+item-word-requires : (t : ℕ) → item-lts.Need-word-requires (item-claims t) (item-at t) item.Post
 item-word-requires t c κs = search needs
 
-item-add-block : (t : ℕ) → item-lts.Need-add-block (
-  word-reads.Asked,
-  word-reads.Learnt,
-  block-below t,
-  block.Post,
-  pass-reads.Asked,
-  pass-reads.Learnt,
-  action-reads.Asked,
-  action-reads.Learnt,
-  onward-reads.Asked,
-  onward-reads.Learnt,
-) (item-at t) item.Post
+item-add-block : (t : ℕ) → item-lts.Need-add-block (item-claims t) (item-at t) item.Post
 item-add-block t c = search needs
 
-item-add-word : (t : ℕ) → item-lts.Need-add-word (
-  word-reads.Asked,
-  word-reads.Learnt,
-  block-below t,
-  block.Post,
-  pass-reads.Asked,
-  pass-reads.Learnt,
-  action-reads.Asked,
-  action-reads.Learnt,
-  onward-reads.Asked,
-  onward-reads.Learnt,
-) (item-at t) item.Post
+item-add-word : (t : ℕ) → item-lts.Need-add-word (item-claims t) (item-at t) item.Post
 item-add-word t c = search needs
 
-item-word-requires-2 : (t : ℕ) → item-lts.Need-word-requires-2 (
-  word-reads.Asked,
-  word-reads.Learnt,
-  block-below t,
-  block.Post,
-  pass-reads.Asked,
-  pass-reads.Learnt,
-  action-reads.Asked,
-  action-reads.Learnt,
-  onward-reads.Asked,
-  onward-reads.Learnt,
-) (item-at t) item.Post
+item-word-requires-2 : (t : ℕ) → item-lts.Need-word-requires-2 (item-claims t) (item-at t) item.Post
 item-word-requires-2 t c κs = search needs
 
-item-block-requires : (t : ℕ) → item-lts.Need-block-requires (
-  word-reads.Asked,
-  word-reads.Learnt,
-  block-below t,
-  block.Post,
-  pass-reads.Asked,
-  pass-reads.Learnt,
-  action-reads.Asked,
-  action-reads.Learnt,
-  onward-reads.Asked,
-  onward-reads.Learnt,
-) (item-at t) item.Post
+item-block-requires : (t : ℕ) → item-lts.Need-block-requires (item-claims t) (item-at t) item.Post
 item-block-requires t c κs = search needs
 
-item-same-length : (t : ℕ) → item-lts.Need-same-length (
-  word-reads.Asked,
-  word-reads.Learnt,
-  block-below t,
-  block.Post,
-  pass-reads.Asked,
-  pass-reads.Learnt,
-  action-reads.Asked,
-  action-reads.Learnt,
-  onward-reads.Asked,
-  onward-reads.Learnt,
-) (item-at t) item.Post
+item-same-length : (t : ℕ) → item-lts.Need-same-length (item-claims t) (item-at t) item.Post
 item-same-length t c = search needs
 
-item-returns : (t : ℕ) → item-lts.Need-returns (
-  word-reads.Asked,
-  word-reads.Learnt,
-  block-below t,
-  block.Post,
-  pass-reads.Asked,
-  pass-reads.Learnt,
-  action-reads.Asked,
-  action-reads.Learnt,
-  onward-reads.Asked,
-  onward-reads.Learnt,
-) (item-at t) item.Post
+item-returns : (t : ℕ) → item-lts.Need-returns (item-claims t) (item-at t) item.Post
 item-returns t c =
     let b = c .before .before in
     let w = c .before .before .before .before .before .before in
@@ -417,46 +214,13 @@ item-returns t c =
       (ahead-from (a .at) (a .at + 6) (length (a .script .now)) (b .block .result) (omega arith) (b .block .ensures .1 .0), b .block .ensures .1 .1),
     )
 
-item-block-requires-2 : (t : ℕ) → item-lts.Need-block-requires-2 (
-  word-reads.Asked,
-  word-reads.Learnt,
-  block-below t,
-  block.Post,
-  pass-reads.Asked,
-  pass-reads.Learnt,
-  action-reads.Asked,
-  action-reads.Learnt,
-  onward-reads.Asked,
-  onward-reads.Learnt,
-) (item-at t) item.Post
+item-block-requires-2 : (t : ℕ) → item-lts.Need-block-requires-2 (item-claims t) (item-at t) item.Post
 item-block-requires-2 t c κs = search needs
 
-item-same-length-2 : (t : ℕ) → item-lts.Need-same-length-2 (
-  word-reads.Asked,
-  word-reads.Learnt,
-  block-below t,
-  block.Post,
-  pass-reads.Asked,
-  pass-reads.Learnt,
-  action-reads.Asked,
-  action-reads.Learnt,
-  onward-reads.Asked,
-  onward-reads.Learnt,
-) (item-at t) item.Post
+item-same-length-2 : (t : ℕ) → item-lts.Need-same-length-2 (item-claims t) (item-at t) item.Post
 item-same-length-2 t c = search needs
 
-item-returns-2 : (t : ℕ) → item-lts.Need-returns-2 (
-  word-reads.Asked,
-  word-reads.Learnt,
-  block-below t,
-  block.Post,
-  pass-reads.Asked,
-  pass-reads.Learnt,
-  action-reads.Asked,
-  action-reads.Learnt,
-  onward-reads.Asked,
-  onward-reads.Learnt,
-) (item-at t) item.Post
+item-returns-2 : (t : ℕ) → item-lts.Need-returns-2 (item-claims t) (item-at t) item.Post
 item-returns-2 t c =
     let b = c .before .before in
     let w = c .before .before .before .before .before .before in
@@ -466,32 +230,10 @@ item-returns-2 t c =
       (b .block2 .ensures .1 .0, b .block2 .ensures .1 .1),
     )
 
-item-pass-requires : (t : ℕ) → item-lts.Need-pass-requires (
-  word-reads.Asked,
-  word-reads.Learnt,
-  block-below t,
-  block.Post,
-  pass-reads.Asked,
-  pass-reads.Learnt,
-  action-reads.Asked,
-  action-reads.Learnt,
-  onward-reads.Asked,
-  onward-reads.Learnt,
-) (item-at t) item.Post
+item-pass-requires : (t : ℕ) → item-lts.Need-pass-requires (item-claims t) (item-at t) item.Post
 item-pass-requires t c κs = search needs
 
-item-returns-3 : (t : ℕ) → item-lts.Need-returns-3 (
-  word-reads.Asked,
-  word-reads.Learnt,
-  block-below t,
-  block.Post,
-  pass-reads.Asked,
-  pass-reads.Learnt,
-  action-reads.Asked,
-  action-reads.Learnt,
-  onward-reads.Asked,
-  onward-reads.Learnt,
-) (item-at t) item.Post
+item-returns-3 : (t : ℕ) → item-lts.Need-returns-3 (item-claims t) (item-at t) item.Post
 item-returns-3 t c =
     let w = c .before .before .before .before in
     let p = c .before in
@@ -501,18 +243,7 @@ item-returns-3 t c =
       ((omega (arith, p .pass .ensures .on), omega (arith, p .pass .ensures .near, c .before .before .before .before .before .before .before .pre .1 .1)), refl),
     )
 
-item-returns-4 : (t : ℕ) → item-lts.Need-returns-4 (
-  word-reads.Asked,
-  word-reads.Learnt,
-  block-below t,
-  block.Post,
-  pass-reads.Asked,
-  pass-reads.Learnt,
-  action-reads.Asked,
-  action-reads.Learnt,
-  onward-reads.Asked,
-  onward-reads.Learnt,
-) (item-at t) item.Post
+item-returns-4 : (t : ℕ) → item-lts.Need-returns-4 (item-claims t) (item-at t) item.Post
 item-returns-4 t c =
     let w = c .before .before .before .before .before in
     let p = c .before .before in
@@ -522,60 +253,16 @@ item-returns-4 t c =
       ((omega (arith, p .pass .ensures .on), omega (arith, p .pass .ensures .near, c .before .before .before .before .before .before .before .before .pre .1 .1)), refl),
     )
 
-item-action-requires : (t : ℕ) → item-lts.Need-action-requires (
-  word-reads.Asked,
-  word-reads.Learnt,
-  block-below t,
-  block.Post,
-  pass-reads.Asked,
-  pass-reads.Learnt,
-  action-reads.Asked,
-  action-reads.Learnt,
-  onward-reads.Asked,
-  onward-reads.Learnt,
-) (item-at t) item.Post
+item-action-requires : (t : ℕ) → item-lts.Need-action-requires (item-claims t) (item-at t) item.Post
 item-action-requires t c κs = search needs
 
-item-onward-requires : (t : ℕ) → item-lts.Need-onward-requires (
-  word-reads.Asked,
-  word-reads.Learnt,
-  block-below t,
-  block.Post,
-  pass-reads.Asked,
-  pass-reads.Learnt,
-  action-reads.Asked,
-  action-reads.Learnt,
-  onward-reads.Asked,
-  onward-reads.Learnt,
-) (item-at t) item.Post
+item-onward-requires : (t : ℕ) → item-lts.Need-onward-requires (item-claims t) (item-at t) item.Post
 item-onward-requires t c κs = search needs
 
-item-same-length-3 : (t : ℕ) → item-lts.Need-same-length-3 (
-  word-reads.Asked,
-  word-reads.Learnt,
-  block-below t,
-  block.Post,
-  pass-reads.Asked,
-  pass-reads.Learnt,
-  action-reads.Asked,
-  action-reads.Learnt,
-  onward-reads.Asked,
-  onward-reads.Learnt,
-) (item-at t) item.Post
+item-same-length-3 : (t : ℕ) → item-lts.Need-same-length-3 (item-claims t) (item-at t) item.Post
 item-same-length-3 t c = search needs
 
-item-returns-5 : (t : ℕ) → item-lts.Need-returns-5 (
-  word-reads.Asked,
-  word-reads.Learnt,
-  block-below t,
-  block.Post,
-  pass-reads.Asked,
-  pass-reads.Learnt,
-  action-reads.Asked,
-  action-reads.Learnt,
-  onward-reads.Asked,
-  onward-reads.Learnt,
-) (item-at t) item.Post
+item-returns-5 : (t : ℕ) → item-lts.Need-returns-5 (item-claims t) (item-at t) item.Post
 item-returns-5 t c =
     let w = c .before .before .before .before .before .before .before .before in
     let p = c .before .before .before .before .before in
@@ -606,14 +293,7 @@ items-Inv-loop script entries₀ at count top here₀ i₀ entries here i =
 abbrev items-μ-loop : items-lts.MeasureT-loop
 items-μ-loop script entries₀ at count top here₀ i₀ entries here i = count - i
 
-items-loop-holds :
-    (t : ℕ) →
-    items-lts.Need-loop-holds
-    (item-below t, item.Post)
-    (items-at t)
-    items.Post
-    items-Inv-loop
-    items-μ-loop
+items-loop-holds : (t : ℕ) → items-lts.Need-loop-holds (items-claims t) (items-at t) items.Post items-Inv-loop items-μ-loop
 items-loop-holds t c =
     let a = c .before .before .args in (
       omega arith,
@@ -624,24 +304,10 @@ items-loop-holds t c =
       λ xs level s h. remaining-start (a .script .now) (a .entries .now) (a .at) (a .count) (a .top) xs level s h,
     )
 
-items-same-length :
-    (t : ℕ) →
-    items-lts.Need-same-length
-    (item-below t, item.Post)
-    (items-at t)
-    items.Post
-    items-Inv-loop
-    items-μ-loop
+items-same-length : (t : ℕ) → items-lts.Need-same-length (items-claims t) (items-at t) items.Post items-Inv-loop items-μ-loop
 items-same-length t c = search needs
 
-items-returns :
-    (t : ℕ) →
-    items-lts.Need-returns
-    (item-below t, item.Post)
-    (items-at t)
-    items.Post
-    items-Inv-loop
-    items-μ-loop
+items-returns : (t : ℕ) → items-lts.Need-returns (items-claims t) (items-at t) items.Post items-Inv-loop items-μ-loop
 items-returns t c =
     let l = c .before .before .loop in
     let a = c .before .before .before .before .before .args in (
@@ -651,54 +317,19 @@ items-returns t c =
       (tt, l .inv .4),
     )
 
-items-item-requires :
-    (t : ℕ) →
-    items-lts.Need-item-requires
-    (item-below t, item.Post)
-    (items-at t)
-    items.Post
-    items-Inv-loop
-    items-μ-loop
+items-item-requires : (t : ℕ) → items-lts.Need-item-requires (items-claims t) (items-at t) items.Post items-Inv-loop items-μ-loop
 items-item-requires t c κs = search needs
 
-items-enum-known-judged :
-    (t : ℕ) →
-    items-lts.Need-enum-known-judged
-    (item-below t, item.Post)
-    (items-at t)
-    items.Post
-    items-Inv-loop
-    items-μ-loop
+items-enum-known-judged : (t : ℕ) → items-lts.Need-enum-known-judged (items-claims t) (items-at t) items.Post items-Inv-loop items-μ-loop
 items-enum-known-judged t c = search needs
 
-items-enum-told :
-    (t : ℕ) →
-    items-lts.Need-enum-told
-    (item-below t, item.Post)
-    (items-at t)
-    items.Post
-    items-Inv-loop
-    items-μ-loop
+items-enum-told : (t : ℕ) → items-lts.Need-enum-told (items-claims t) (items-at t) items.Post items-Inv-loop items-μ-loop
 items-enum-told t c = search needs
 
-items-same-length-2 :
-    (t : ℕ) →
-    items-lts.Need-same-length-2
-    (item-below t, item.Post)
-    (items-at t)
-    items.Post
-    items-Inv-loop
-    items-μ-loop
+items-same-length-2 : (t : ℕ) → items-lts.Need-same-length-2 (items-claims t) (items-at t) items.Post items-Inv-loop items-μ-loop
 items-same-length-2 t c = search needs
 
-items-returns-2 :
-    (t : ℕ) →
-    items-lts.Need-returns-2
-    (item-below t, item.Post)
-    (items-at t)
-    items.Post
-    items-Inv-loop
-    items-μ-loop
+items-returns-2 : (t : ℕ) → items-lts.Need-returns-2 (items-claims t) (items-at t) items.Post items-Inv-loop items-μ-loop
 items-returns-2 t c =
     let r = c .before .before .before .before in
     let l = c .before .before .before .before .before .before .before .before .loop in
@@ -710,34 +341,13 @@ items-returns-2 t c =
       (ahead-from (a .at) (l .here) (length (a .script .now)) (r .item .result) (l .inv .1) (r .item .ensures .1 .0), r .item .ensures .1 .1 ∙ l .inv .4),
     )
 
-items-add-i :
-    (t : ℕ) →
-    items-lts.Need-add-i
-    (item-below t, item.Post)
-    (items-at t)
-    items.Post
-    items-Inv-loop
-    items-μ-loop
+items-add-i : (t : ℕ) → items-lts.Need-add-i (items-claims t) (items-at t) items.Post items-Inv-loop items-μ-loop
 items-add-i t c = search needs
 
-items-loop-less :
-    (t : ℕ) →
-    items-lts.Need-loop-less
-    (item-below t, item.Post)
-    (items-at t)
-    items.Post
-    items-Inv-loop
-    items-μ-loop
+items-loop-less : (t : ℕ) → items-lts.Need-loop-less (items-claims t) (items-at t) items.Post items-Inv-loop items-μ-loop
 items-loop-less t c = search needs
 
-items-loop-again :
-    (t : ℕ) →
-    items-lts.Need-loop-again
-    (item-below t, item.Post)
-    (items-at t)
-    items.Post
-    items-Inv-loop
-    items-μ-loop
+items-loop-again : (t : ℕ) → items-lts.Need-loop-again (items-claims t) (items-at t) items.Post items-Inv-loop items-μ-loop
 items-loop-again t c =
     let r = c .before .before .before .before .before in
     let l = c .before .before .before .before .before .before .before .before .before .loop in
@@ -755,24 +365,10 @@ items-loop-again t c =
           next (c .before .judged .given .1) (l .inv .5 xs level s h),
     )
 
-items-same-length-3 :
-    (t : ℕ) →
-    items-lts.Need-same-length-3
-    (item-below t, item.Post)
-    (items-at t)
-    items.Post
-    items-Inv-loop
-    items-μ-loop
+items-same-length-3 : (t : ℕ) → items-lts.Need-same-length-3 (items-claims t) (items-at t) items.Post items-Inv-loop items-μ-loop
 items-same-length-3 t c = search needs
 
-items-returns-3 :
-    (t : ℕ) →
-    items-lts.Need-returns-3
-    (item-below t, item.Post)
-    (items-at t)
-    items.Post
-    items-Inv-loop
-    items-μ-loop
+items-returns-3 : (t : ℕ) → items-lts.Need-returns-3 (items-claims t) (items-at t) items.Post items-Inv-loop items-μ-loop
 items-returns-3 t c =
     let l = c .before .loop in
     let a = c .before .before .before .before .args in (
@@ -782,14 +378,7 @@ items-returns-3 t c =
     )
 
 pub +block+item+items-spec : {M : Type 1} → statement M
-+block+item+items-spec = close μ-block μ-item μ-items (λ t. block-lts.spec (
-  word-reads.Asked,
-  word-reads.Learnt,
-  push-reads.Asked,
-  push-reads.Learnt,
-  items-below t,
-  items.Post,
-)
++block+item+items-spec = close μ-block μ-item μ-items (λ t. block-lts.spec (block-claims t)
     (block-at t)
     block.Post
     (block-mul-start t)
@@ -813,18 +402,7 @@ pub +block+item+items-spec : {M : Type 1} → statement M
     (block-items-requires t)
     (block-same-length t)
     (block-returns-3 t))
-    (λ t. item-lts.spec (
-      word-reads.Asked,
-      word-reads.Learnt,
-      block-below t,
-      block.Post,
-      pass-reads.Asked,
-      pass-reads.Learnt,
-      action-reads.Asked,
-      action-reads.Learnt,
-      onward-reads.Asked,
-      onward-reads.Learnt,
-    )
+    (λ t. item-lts.spec (item-claims t)
     (item-at t)
     item.Post
     (item-word-requires t)
@@ -844,8 +422,7 @@ pub +block+item+items-spec : {M : Type 1} → statement M
     (item-onward-requires t)
     (item-same-length-3 t)
     (item-returns-5 t))
-    λ t. items-lts.spec
-    (item-below t, item.Post)
+    λ t. items-lts.spec (items-claims t)
     (items-at t)
     items.Post
     items-Inv-loop

@@ -9,13 +9,6 @@ use Rattle.scoping.proofs.Judging.{shape-two, shaped}
 use borrow.Author.Needs.{needs}
 use Rattle.scoping.proofs.action.Statement.{statement}
 use Rattle.scoping.proofs.action.Tie as tie
-use Rattle.scoping.proofs.action.Reads as reads
-use Rattle.scoping.proofs.action.Lts as lts
-use Rattle.scoping.proofs.both.Reads as both-reads
-use Rattle.scoping.proofs.call.Reads as call-reads
-use Rattle.scoping.proofs.three.Reads as three-reads
-use Rattle.scoping.proofs.uses.Reads as uses-reads
-use Rattle.scoping.proofs.word.Reads as word-reads
 
 word-requires : tie.Need-word-requires
 word-requires c κs = search needs

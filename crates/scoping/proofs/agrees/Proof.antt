@@ -6,10 +6,6 @@ use Rattle.scoping.proofs.Judging.{agrees-free, agrees-count, agrees-by
 use borrow.Author.Needs.{needs}
 use Rattle.scoping.proofs.agrees.Statement.{statement}
 use Rattle.scoping.proofs.agrees.Tie as tie
-use Rattle.scoping.proofs.agrees.Reads as reads
-use Rattle.scoping.proofs.agrees.Lts as lts
-use Rattle.scoping.proofs.matching.Reads as matching-reads
-use Rattle.scoping.proofs.word.Reads as word-reads
 
 word-requires : tie.Need-word-requires
 word-requires c κs = search needs

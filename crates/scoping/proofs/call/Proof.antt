@@ -1,6 +1,5 @@
 -- `scoping::call` meets its contract: the name called, then the arguments, then 11. Assumes nothing.
 use mathlib.Core.Path.{refl, sym, _∙_}
-use native.Mathlib.Omega.{arith}
 use lib.ListN.{drop}
 use Rattle.language.specs.Scope.{fine}
 use Rattle.scoping.specs.Entries.{kindOf, verdictOf}
@@ -10,13 +9,6 @@ use Rattle.scoping.proofs.Judging.{call-stops, call-hides, call-judges,
 use borrow.Author.Needs.{needs}
 use Rattle.scoping.proofs.call.Statement.{statement}
 use Rattle.scoping.proofs.call.Tie as tie
-use Rattle.scoping.proofs.call.Reads as reads
-use Rattle.scoping.proofs.call.Lts as lts
-use Rattle.scoping.proofs.agrees.Reads as agrees-reads
-use Rattle.scoping.proofs.find.Reads as find-reads
-use Rattle.scoping.proofs.uses.Reads as uses-reads
-use Rattle.scoping.proofs.visible.Reads as visible-reads
-use Rattle.scoping.proofs.word.Reads as word-reads
 
 add-word : tie.Need-add-word
 add-word c = search needs

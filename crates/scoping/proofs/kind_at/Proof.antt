@@ -8,10 +8,6 @@ use Rattle.scoping.proofs.Meanings.{means-PR, means-LB, means-FM, means
 use borrow.Author.Needs.{needs}
 use Rattle.scoping.proofs.kind_at.Statement.{statement}
 use Rattle.scoping.proofs.kind_at.Tie as tie
-use Rattle.scoping.proofs.kind_at.Reads as reads
-use Rattle.scoping.proofs.kind_at.Lts as lts
-use Rattle.scoping.proofs.kind_number.Reads as kind-number-reads
-use Rattle.scoping.proofs.word.Reads as word-reads
 
 -- src/lib.rt:93:9
 word-requires : tie.Need-word-requires

@@ -1,6 +1,6 @@
 -- `scoping::matching` meets its contract: what is left of the arguments agrees exactly where all of them do. Assumes nothing.
-use mathlib.Core.Path.{_≡_, refl, sym, ap, _∙_}
-use mathlib.Core.List.{List, map}
+use mathlib.Core.Path.{_≡_, sym, ap, _∙_}
+use mathlib.Core.List.{map}
 use Prim.Native.Nat.{ℕ, _≤_, _+_, _*_, _-_}
 use native.Mathlib.Omega.{arith}
 use lib.ListN.{drop}
@@ -12,12 +12,6 @@ use Rattle.scoping.proofs.Calls.{words-all, kinds-all, match-on, match-
 use borrow.Author.Needs.{needs}
 use Rattle.scoping.proofs.matching.Statement.{statement}
 use Rattle.scoping.proofs.matching.Tie as tie
-use Rattle.scoping.proofs.matching.Reads as reads
-use Rattle.scoping.proofs.matching.Lts as lts
-use Rattle.scoping.proofs.find.Reads as find-reads
-use Rattle.scoping.proofs.kind_at.Reads as kind-at-reads
-use Rattle.scoping.proofs.kind_number.Reads as kind-number-reads
-use Rattle.scoping.proofs.word.Reads as word-reads
 
 abbrev Inv-loop : tie.InvT-loop
 Inv-loop script entries top at formals count i₀ i =

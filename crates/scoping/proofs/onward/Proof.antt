@@ -5,8 +5,6 @@ use Rattle.language.specs.declared.Verdict.{Verdict}
 use borrow.Author.Needs.{needs}
 use Rattle.scoping.proofs.onward.Statement.{statement}
 use Rattle.scoping.proofs.onward.Tie as tie
-use Rattle.scoping.proofs.onward.Reads as reads
-use Rattle.scoping.proofs.onward.Lts as lts
 
 enum-told : tie.Need-enum-told
 enum-told c = search needs

@@ -9,10 +9,6 @@ use Rattle.scoping.proofs.Skipping.{head-other, kids-other}
 use borrow.Author.Needs.{needs}
 use Rattle.scoping.proofs.pass.Statement.{statement}
 use Rattle.scoping.proofs.pass.Tie as tie
-use Rattle.scoping.proofs.pass.Reads as reads
-use Rattle.scoping.proofs.pass.Lts as lts
-use Rattle.scoping.proofs.size.Reads as size-reads
-use Rattle.scoping.proofs.word.Reads as word-reads
 
 word-requires : tie.Need-word-requires
 word-requires c κs = search needs

@@ -1,19 +1,15 @@
 use borrow.Author.Needs.{needs}
 -- `scoping::push` meets its contract: the entries put so far with those still to come are those of the records. Assumes nothing.
-use mathlib.Core.Path.{_≡_, refl, sym, ap, _∙_}
+use mathlib.Core.Path.{_≡_, refl, ap, _∙_}
 use mathlib.Core.List.{List}
 use Prim.Native.Nat.{ℕ, _+_, _*_, _-_, _≤_, max}
 use native.Mathlib.Omega.{arith}
-use lib.ListN.{length, drop, set, length-set}
+use lib.ListN.{length, drop, length-set}
 use Rattle.scoping.specs.Standing.{Stands}
 use Rattle.scoping.specs.Items.{Item, itemsFields}
 use Rattle.scoping.proofs.Pushing.{Rest, push-start, push-step, push-end, kept-step}
 use Rattle.scoping.proofs.push.Statement.{statement}
 use Rattle.scoping.proofs.push.Tie as tie
-use Rattle.scoping.proofs.push.Reads as reads
-use Rattle.scoping.proofs.push.Lts as lts
-use Rattle.scoping.proofs.skip.Reads as skip-reads
-use Rattle.scoping.proofs.word.Reads as word-reads
 
 abbrev Inv-loop : tie.InvT-loop
 Inv-loop script entries₀ at count base here₀ i₀ entries here i =

@@ -6,10 +6,6 @@ use Rattle.scoping.proofs.Whole.{bytes-are, whole-judged}
 use borrow.Author.Needs.{needs}
 use Rattle.scoping.proofs.scope_verdict.Statement.{statement}
 use Rattle.scoping.proofs.scope_verdict.Tie as tie
-use Rattle.scoping.proofs.scope_verdict.Reads as reads
-use Rattle.scoping.proofs.scope_verdict.Lts as lts
-use Rattle.scoping.proofs.block.Reads as block-reads
-use Rattle.scoping.proofs.settled.Reads as settled-reads
 
 slice-aggregate-block : tie.Need-slice-aggregate-block
 slice-aggregate-block c = search needs

@@ -4,8 +4,6 @@ use Rattle.scoping.specs.Walking.{settledOf}
 use borrow.Author.Needs.{needs}
 use Rattle.scoping.proofs.settled.Statement.{statement}
 use Rattle.scoping.proofs.settled.Tie as tie
-use Rattle.scoping.proofs.settled.Reads as reads
-use Rattle.scoping.proofs.settled.Lts as lts
 
 enum-told : tie.Need-enum-told
 enum-told c = search needs

@@ -5,8 +5,6 @@ use Rattle.scoping.specs.Items.{sizeOf}
 use Rattle.scoping.proofs.Skipping.{size-six}
 use Rattle.scoping.proofs.size.Statement.{statement}
 use Rattle.scoping.proofs.size.Tie as tie
-use Rattle.scoping.proofs.size.Reads as reads
-use Rattle.scoping.proofs.size.Lts as lts
 
 returns : tie.Need-returns
 unfolding sizeOf

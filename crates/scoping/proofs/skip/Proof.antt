@@ -9,9 +9,6 @@ use Rattle.scoping.specs.Items.{Item, itemFields}
 use Rattle.scoping.proofs.Skipping.{Left, left-start, left-step, left-end, left-inside}
 use Rattle.scoping.proofs.skip.Statement.{statement}
 use Rattle.scoping.proofs.skip.Tie as tie
-use Rattle.scoping.proofs.skip.Reads as reads
-use Rattle.scoping.proofs.skip.Lts as lts
-use Rattle.scoping.proofs.pass.Reads as pass-reads
 
 abbrev Inv-loop : tie.InvT-loop
 Inv-loop script at here₀ pending₀ here pending =

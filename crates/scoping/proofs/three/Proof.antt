@@ -9,11 +9,6 @@ use Rattle.scoping.proofs.Judging.{then-stop, then-go}
 use borrow.Author.Needs.{needs}
 use Rattle.scoping.proofs.three.Statement.{statement}
 use Rattle.scoping.proofs.three.Tie as tie
-use Rattle.scoping.proofs.three.Reads as reads
-use Rattle.scoping.proofs.three.Lts as lts
-use Rattle.scoping.proofs.both.Reads as both-reads
-use Rattle.scoping.proofs.uses.Reads as uses-reads
-use Rattle.scoping.proofs.word.Reads as word-reads
 
 word-requires : tie.Need-word-requires
 word-requires c κs = search needs

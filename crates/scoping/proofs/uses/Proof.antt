@@ -7,10 +7,6 @@ use Rattle.scoping.proofs.Meanings.{use-none, use-right, use-wrong, kin
 use borrow.Author.Needs.{needs}
 use Rattle.scoping.proofs.uses.Statement.{statement}
 use Rattle.scoping.proofs.uses.Tie as tie
-use Rattle.scoping.proofs.uses.Reads as reads
-use Rattle.scoping.proofs.uses.Lts as lts
-use Rattle.scoping.proofs.find.Reads as find-reads
-use Rattle.scoping.proofs.kind_at.Reads as kind-at-reads
 
 -- src/lib.rt:110:28
 find-requires : tie.Need-find-requires

@@ -1,7 +1,6 @@
 -- `scoping::visible` meets its contract: what is left of the arguments is judged as all of them. Assumes nothing.
-use mathlib.Core.Path.{_≡_, refl, sym, ap, _∙_}
+use mathlib.Core.Path.{_≡_, sym, ap, _∙_}
 use Prim.Native.Nat.{_≤_, _+_, _*_, _-_}
-use native.Mathlib.Omega.{arith}
 use lib.ListN.{drop}
 use Rattle.language.specs.Scope.{allVisible}
 use Rattle.scoping.specs.Entries.{wordsAt, scopeOf, verdictOf}
@@ -9,10 +8,6 @@ use Rattle.scoping.proofs.Calls.{words-all, visible-on, visible-stop, v
 use borrow.Author.Needs.{needs}
 use Rattle.scoping.proofs.visible.Statement.{statement}
 use Rattle.scoping.proofs.visible.Tie as tie
-use Rattle.scoping.proofs.visible.Reads as reads
-use Rattle.scoping.proofs.visible.Lts as lts
-use Rattle.scoping.proofs.find.Reads as find-reads
-use Rattle.scoping.proofs.word.Reads as word-reads
 
 abbrev Inv-loop : tie.InvT-loop
 Inv-loop script entries top at count i₀ i =

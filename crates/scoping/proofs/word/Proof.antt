@@ -4,9 +4,6 @@ use Rattle.scoping.specs.Entries.{wordAt}
 use borrow.Author.Needs.{needs}
 use Rattle.scoping.proofs.word.Statement.{statement}
 use Rattle.scoping.proofs.word.Tie as tie
-use Rattle.scoping.proofs.word.Reads as reads
-use Rattle.scoping.proofs.word.Lts as lts
-use Rattle.scoping.proofs.byte.Reads as byte-reads
 
 -- src/lib.rt:60:5
 byte-requires : tie.Need-byte-requires
