@@ -3,3 +3,5 @@ pub mod Signed
 pub mod Pairs
 pub mod TakeOut
 pub mod Statements
+pub mod Keys
+pub mod TableRight

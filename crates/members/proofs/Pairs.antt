@@ -40,7 +40,7 @@ pairIs g m i ws = eqZ (groupAt i ws) g && eqZ (memberAt i ws) m
 -- ---- find
 
 -- the first place of two: the pair at the front, then what was found behind it
-front : Bool → Option ℕ → Option ℕ
+unfoldable pub front : Bool → Option ℕ → Option ℕ
 front true r = some 0
 front false none = none
 front false (some i) = some (suc i)
@@ -51,7 +51,7 @@ behind none true i = some i
 behind none false i = none
 behind (some j) t i = some j
 
-find-front : (g m : ℤ) (k : ℕ) (a b : ℤ) (ws : List ℤ) → find g m (suc k) (a ∷ b ∷ ws) ≡ front (eqZ a g && eqZ b m) (find g m k ws)
+pub find-front : (g m : ℤ) (k : ℕ) (a b : ℤ) (ws : List ℤ) → find g m (suc k) (a ∷ b ∷ ws) ≡ front (eqZ a g && eqZ b m) (find g m k ws)
 unfolding find front
 find-front g m k a b ws = go (eqZ a g && eqZ b m) (find g m k ws)
   where

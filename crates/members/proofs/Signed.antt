@@ -1,7 +1,7 @@
 -- Tests of signed words: what the machine computes from their bits is what the definitions say of the numbers.
 use Prim.Native.Nat.{ℕ, suc, _-_, _<_, _^_}
-use mathlib.Core.Path.{_≡_, refl, sym, _∙_, ap, subst}
-use mathlib.Core.Bool.{Bool, true, false}
+use mathlib.Core.Path.{_≡_, refl, _∙_, ap, ap₂}
+use mathlib.Core.Bool.{Bool, true, false, _&&_}
 use native.Mathlib.Omega.{arith}
 use borrow.Author.Tests.{eq-eqb, ne-eqb, eqb-true, eqb-false}
 use lib.Dec.{eqb}
@@ -52,5 +52,8 @@ eqZ-same (negsuc a) = eq-eqb a a refl
 pub back : (z : ℤ) → mag z < 2147483648 → toZ w32 (ofZ w32 z) ≡ z
 back z h = toZ-ofZ (record { sfits = h })
 
-pub same-words : {r : Bool} {x y z : ℤ} → r ≡ eqZ (toZ w32 (ofZ w32 x)) (toZ w32 (ofZ w32 y)) → mag x < 2147483648 → SFits w32 y → x ≡ z → r ≡ eqZ z y
-same-words {x} {y} e h f q = e ∙ ap (λ (k : ℤ). eqZ k (toZ w32 (ofZ w32 y))) (back x h ∙ q) ∙ ap (eqZ _) (toZ-ofZ f)
+pub same-words : {r : Bool} {x y a b : ℤ} → r ≡ eqZ (toZ w32 (ofZ w32 x)) (toZ w32 (ofZ w32 y)) → mag x < 2147483648 → mag y < 2147483648 → x ≡ a → y ≡ b → r ≡ eqZ a b
+same-words {x} {y} e h k p q = e ∙ ap₂ eqZ (back x h ∙ p) (back y k ∙ q)
+
+pub number-words : {r : Bool} {x y a b : ℤ} → r ≡ (atLeastOne (toZ w32 (ofZ w32 x)) && atLeastOne (toZ w32 (ofZ w32 y))) → mag x < 2147483648 → mag y < 2147483648 → x ≡ a → y ≡ b → r ≡ (atLeastOne a && atLeastOne b)
+number-words {x} {y} e h k p q = e ∙ ap₂ (λ (u v : ℤ). atLeastOne u && atLeastOne v) (back x h ∙ p) (back y k ∙ q)

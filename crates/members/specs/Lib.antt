@@ -1,3 +1,4 @@
 -- What the contracts of the membership table cite besides the definitions of document 01.
 pub mod Places
 pub mod Outcomes
+pub mod Keys

@@ -5,10 +5,12 @@ ghost use Prim.Native.Nat.{_+_, _*_, _/_, _≤_, _<_, min};
 ghost use lib.ListN.{length};
 ghost use Rattle.language.specs.Basics.{eqZ};
 ghost use Rattle.language.specs.Table.{find, members, atLeastOne};
-ghost use Rattle.language.specs.Table.{add, takeOut};
+ghost use Rattle.language.specs.Table.{add, takeOut, right};
 ghost use Rattle.members.specs.Places.{groupAt, memberAt, placed};
 ghost use Rattle.members.specs.Outcomes.{tableOf, added, removed, queried, changeOf, valueOf, wordsAfter};
 use language::Stop;
+
+mod right;
 
 // Where a pair stands, counted in pairs from 0.
 pub enum Place {
@@ -186,4 +188,27 @@ pub fn query_pair(table: &[i32], count: usize, group: i32, member: i32) -> Query
         return Query::Value(1);
     }
     Query::Value(0)
+}
+
+// Whether the table is right for a group limit.
+pub fn table_right(table: &[i32], count: usize, limit: u32) -> bool
+    ensures { λ r. ⌜ r ≡ right limit (tableOf (now (table .entry)) count) ⌝ }
+{
+    if table.len() % 2 != 0 {
+        return false;
+    }
+    if table.len() / 2 < count {
+        return false;
+    }
+    if !right::numbers_right(table, count) {
+        return false;
+    }
+    if !right::few_alike(table, count, true, 1) {
+        return false;
+    }
+    // A group is no larger than the table.
+    if count <= limit as usize {
+        return true;
+    }
+    right::few_alike(table, count, false, limit)
 }
