@@ -127,12 +127,12 @@ noneTwice-each ws n f = each-is (newAt ws) (λ i. noneTwice i ws) n refl (λ i h
 
 -- ---- keys
 
-same-self : (whole : Bool) (g m : ℤ) → same whole g m g m ≡ true
+pub same-self : (whole : Bool) (g m : ℤ) → same whole g m g m ≡ true
 unfolding same
 same-self true g m = rw (eqZ-same g, eqZ-same m)
 same-self false g m = eqZ-same g
 
-both : (s t : Bool) → (s && t) ≡ true → (s ≡ true) × (t ≡ true)
+pub both : (s t : Bool) → (s && t) ≡ true → (s ≡ true) × (t ≡ true)
 both true t e = (refl, e)
 both false t e = clash e refl
 
@@ -291,3 +291,11 @@ differ false g m a b e = sym e
 
 abbrev pub rankFits : Bool → ℕ → List ℤ → ℕ → Bool
 rankFits whole limit ws i = leb (rankAt whole i ws) limit
+
+-- below the next number: below this one, or this one
+pub below-next {ℓ} : {X : Type ℓ} (x n : ℕ) → (x < n → X) → (x ≡ n → X) → x < n + 1 → X
+below-next {X} x n f g h = go (ltb x n) refl
+  where
+    go : (t : Bool) → ltb x n ≡ t → X
+    go true e = f (ltb-true x n e)
+    go false e = g (omega (arith, ltb-false x n e))

@@ -5,3 +5,5 @@ pub mod TakeOut
 pub mod Statements
 pub mod Keys
 pub mod TableRight
+pub mod SlotLaws
+pub mod Passes

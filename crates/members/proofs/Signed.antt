@@ -3,15 +3,16 @@ use Prim.Native.Nat.{ℕ, suc, _-_, _<_, _^_}
 use mathlib.Core.Path.{_≡_, refl, _∙_, ap, ap₂}
 use mathlib.Core.Bool.{Bool, true, false, _&&_}
 use native.Mathlib.Omega.{arith}
-use borrow.Author.Tests.{eq-eqb, ne-eqb, eqb-true, eqb-false}
-use lib.Dec.{eqb}
-use lib.IntN.{ℤ, pos, negsuc}
-use lib.Signed.{mag, leZ}
-use mir.Val.{SFits, ofZ, toZ}
-use mir.Syntax.{w32}
+use borrow.Author.Tests.{eq-eqb, ne-eqb, eqb-true, eqb-false, ltb-true}
+use lib.Dec.{T, eqb}
+use lib.IntN.{ℤ, pos, negsuc, natAbs}
+use lib.Signed.{mag, leZ, ltZ, nonNeg}
+use mir.Val.{Fits, SFits, ofZ, toZ}
+use mir.Syntax.{w32, w64}
 use mir.Facts.{toZ-ofZ}
 use Rattle.language.specs.Basics.{eqZ}
 use Rattle.language.specs.Table.{atLeastOne}
+use Rattle.members.specs.Slots.{weightOf}
 
 negative-bits : (a b : ℕ) → a < 2147483648 → b < 2147483648 → (t : Bool) → eqb a b ≡ t → eqb (4294967296 - suc a) (4294967296 - suc b) ≡ t
 negative-bits a b ha hb true e = eq-eqb (4294967296 - suc a) (4294967296 - suc b) (ap (λ (k : ℕ). 4294967296 - suc k) (eqb-true a b e))
@@ -57,3 +58,31 @@ same-words {x} {y} e h k p q = e ∙ ap₂ eqZ (back x h ∙ p) (back y k ∙ q)
 
 pub number-words : {r : Bool} {x y a b : ℤ} → r ≡ (atLeastOne (toZ w32 (ofZ w32 x)) && atLeastOne (toZ w32 (ofZ w32 y))) → mag x < 2147483648 → mag y < 2147483648 → x ≡ a → y ≡ b → r ≡ (atLeastOne a && atLeastOne b)
 number-words {x} {y} e h k p q = e ∙ ap₂ (λ (u v : ℤ). atLeastOne u && atLeastOne v) (back x h ∙ p) (back y k ∙ q)
+
+-- ---- a word as it is hashed
+
+negative : (z : ℤ) → ltZ z (pos 0) ≡ true → 0 ≡ weightOf z
+unfolding weightOf
+negative (pos n) e = absurd (omega (arith, ltb-true n 0 e))
+negative (negsuc n) e = refl
+
+not-negative : (z : ℤ) → mag z < 2147483648 → ltZ z (pos 0) ≡ false → T (nonNeg z) × (natAbs z ≡ weightOf z) × (natAbs z < 2147483648)
+unfolding weightOf
+not-negative (pos n) h e = (tt, refl, h)
+not-negative (negsuc n) h e = absurd (let z : _≡_ {A = ℕ} 0 1 = cc in omega arith)
+
+pub negative-weight : (z : ℤ) → mag z < 2147483648 → ltZ (toZ w32 (ofZ w32 z)) (pos 0) ≡ true → 0 ≡ weightOf z
+negative-weight z h e = negative z (rw (back z h) at e)
+
+pub whole-cast :
+    (z : ℤ) → mag z < 2147483648 → ltZ (toZ w32 (ofZ w32 z)) (pos 0) ≡ false → T (nonNeg (toZ w32 (ofZ w32 z))) × Fits w64 (natAbs (toZ w32 (ofZ w32 z)))
+whole-cast z h e =
+    let n = not-negative z h (rw (back z h) at e) in
+    rw (back z h) (n .0, record { fits = omega (arith, n .2) })
+
+pub whole-weight :
+    (z : ℤ) → mag z < 2147483648 → ltZ (toZ w32 (ofZ w32 z)) (pos 0) ≡ false →
+    (natAbs (toZ w32 (ofZ w32 z)) ≡ weightOf z) × (natAbs (toZ w32 (ofZ w32 z)) < 2147483648)
+whole-weight z h e =
+    let n = not-negative z h (rw (back z h) at e) in
+    rw (back z h) (n .1, n .2)

@@ -18,6 +18,10 @@ unfoldable pub same : Bool → ℤ → ℤ → ℤ → ℤ → Bool
 same true g m a b = eqZ a g && eqZ b m
 same false g m a b = eqZ a g
 
+-- whether the pair at place j has the key of the one at i
+unfoldable pub sameAt : Bool → List ℤ → ℕ → ℕ → Bool
+sameAt whole ws i j = same whole (groupAt i ws) (memberAt i ws) (groupAt j ws) (memberAt j ws)
+
 unfoldable pub more : Bool → ℕ → ℕ
 more true n = suc n
 more false n = n

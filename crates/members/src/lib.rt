@@ -10,7 +10,9 @@ ghost use Rattle.members.specs.Places.{groupAt, memberAt, placed};
 ghost use Rattle.members.specs.Outcomes.{tableOf, added, removed, queried, changeOf, valueOf, wordsAfter};
 use language::Stop;
 
+mod alike;
 mod right;
+mod slots;
 
 // Where a pair stands, counted in pairs from 0.
 pub enum Place {

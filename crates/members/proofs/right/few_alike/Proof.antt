@@ -1,56 +1,54 @@
--- `few_alike` meets its contract. The loop's invariant: the pairs passed have ranks within the limit.
-use Prim.Native.Nat.{_<_, _≤_, _-_}
+-- `few_alike` meets its contract. The loop's invariant: the ranks of the classes passed are within the limit.
+use Prim.Native.Nat.{ℕ, _≤_, _<_, _-_, _/_, _+_}
 use mathlib.Core.Path.{_≡_, sym}
-use mathlib.Core.Bool.{true}
-use native.Mathlib.Numerals.{add-one}
 use native.Mathlib.Omega.{arith}
-use borrow.Author.Tests.{le-leb, lt-leb}
-use Rattle.members.specs.Keys.{each, rankAt, within}
-use Rattle.members.proofs.Keys.{rankFits, each-none, each-next, each-false}
+use borrow.Author.Tests.{not-true, not-false, le-leb}
+use Rattle.members.specs.Keys.{rankAt, within}
+use Rattle.members.specs.Slots.{classAt}
+use Rattle.members.proofs.Keys.{rankFits, each-true, below-next}
+use Rattle.members.proofs.Passes.{class-below}
 use Rattle.members.proofs.right.few_alike.Statement.{statement}
 use Rattle.members.proofs.right.few_alike.Tie as tie
 
 abbrev Inv-loop : tie.InvT-loop
-Inv-loop table count whole limit i₀ i = (i ≤ count) × (each (rankFits whole limit table) i ≡ true)
+Inv-loop table count whole limit classes class₀ class =
+    (class ≤ classes) × ((j : ℕ) → j < count → classAt whole table classes j < class → rankAt whole j table ≤ limit)
 
 abbrev μ-loop : tie.MeasureT-loop
-μ-loop table count whole limit i₀ i = count - i
+μ-loop table count whole limit classes class₀ class = classes - class
+
+add-classes : tie.Need-add-classes Inv-loop μ-loop
+add-classes c = omega arith
 
 loop-holds : tie.Need-loop-holds Inv-loop μ-loop
-loop-holds c = (omega arith, each-none _)
+loop-holds c = (omega arith, λ j l h. absurd (omega arith))
 
-rank-requires : tie.Need-rank-requires Inv-loop μ-loop
-rank-requires c κs = omega arith
+pass-requires : tie.Need-pass-requires Inv-loop μ-loop
+pass-requires c κs = (c .before .before .pre, omega arith)
 
 returns : tie.Need-returns Inv-loop μ-loop
-unfolding within
-returns c =
-    let r = c .before in
-    let l = r .before .before in
-    let s = l .before in
-    let h : s .args .limit < rankAt (s .args .whole) (l .loop .i) (s .args .table .now) = omega arith in
-    sym (each-false (rankFits (s .args .whole) (s .args .limit) (s .args .table .now)) (s .args .count) (l .loop .i) (omega arith) (lt-leb _ _ h))
+returns c = sym (c .before .pass .ensures .1 (not-true _ (c .if1 .taken)))
 
-add-i : tie.Need-add-i Inv-loop μ-loop
-add-i c = omega arith
+add-class : tie.Need-add-class Inv-loop μ-loop
+add-class c = omega arith
 
 loop-less : tie.Need-loop-less Inv-loop μ-loop
 loop-less c = omega arith
 
 loop-again : tie.Need-loop-again Inv-loop μ-loop
 loop-again c =
-    let r = c .before in
-    let l = r .before .before in
+    let k = c .before in
+    let l = k .before .before in
     let s = l .before in
-    let h : rankAt (s .args .whole) (l .loop .i) (s .args .table .now) ≤ s .args .limit = omega arith in
-    (omega arith, rw (add-one (l .loop .i)) (each-next _ (l .loop .i) (l .loop .inv .1) (le-leb _ _ h)))
+    (omega arith, λ j h b. below-next (classAt (s .args .whole) (s .args .table .now) (s .args .count / 8192 + 1) j) (l .loop .class) (l .loop .inv .1 j h) (k .pass .ensures .0 (not-false _ (c .if1 .left)) j h) b)
 
 returns-2 : tie.Need-returns-2 Inv-loop μ-loop
 unfolding within
 returns-2 c =
     let l = c .before in
-    let e : l .loop .i ≡ l .before .args .count = omega arith in
-    sym (rw e at (l .loop .inv .1))
+    let s = l .before in
+    sym (each-true (rankFits (s .args .whole) (s .args .limit) (s .args .table .now)) (s .args .count)
+    (λ j h. le-leb _ _ (l .loop .inv .1 j h (omega (arith, class-below (s .args .whole) (s .args .table .now) (s .args .count / 8192 + 1) j (omega arith))))))
 
 pub few-alike-spec : {M : Type 1} → statement M
 few-alike-spec =
@@ -58,10 +56,11 @@ few-alike-spec =
     (tie.spec
     Inv-loop
     μ-loop
+    add-classes
     loop-holds
-    rank-requires
+    pass-requires
     returns
-    add-i
+    add-class
     loop-less
     loop-again
     returns-2)

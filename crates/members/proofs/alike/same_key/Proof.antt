@@ -4,12 +4,12 @@ use mathlib.Core.Bool.{Bool, true, false}
 use lib.IntN.{ℤ}
 use Rattle.language.specs.Basics.{eqZ}
 use Rattle.members.specs.Places.{groupAt}
-use Rattle.members.specs.Keys.{same}
+use Rattle.members.specs.Keys.{same, sameAt}
 use Rattle.members.proofs.Signed.{same-words}
 use Rattle.members.proofs.Keys.{differ}
 use borrow.Author.Needs.{needs}
-use Rattle.members.proofs.right.same_key.Statement.{statement}
-use Rattle.members.proofs.right.same_key.Tie as tie
+use Rattle.members.proofs.alike.same_key.Statement.{statement}
+use Rattle.members.proofs.alike.same_key.Tie as tie
 
 group-at-requires : tie.Need-group-at-requires
 group-at-requires c κs = search needs
@@ -37,7 +37,7 @@ groups c =
     same-words (c .same-number .ensures) (d .before .group-at .ok) (d .group-at2 .ok) (d .before .group-at .ensures) (d .group-at2 .ensures)
 
 returns : tie.Need-returns
-unfolding same
+unfolding same sameAt
 returns c =
     let d = c .before in
     let w = d .before .before in
@@ -45,11 +45,11 @@ returns c =
     (same-words (c .same-number2 .ensures) (d .before .member-at .ok) (d .member-at2 .ok) (d .before .member-at .ensures) (d .member-at2 .ensures))
 
 returns-2 : tie.Need-returns-2
-unfolding same
+unfolding same sameAt
 returns-2 c = rw (c .if2 .left, sym (groups (c .before .before)) ∙ c .before .if1 .taken)
 
 returns-3 : tie.Need-returns-3
-unfolding same
+unfolding same sameAt
 returns-3 c = differ (c .before .before .before .before .args .whole) _ _ _ _ (sym (groups (c .before)) ∙ c .if1 .left)
 
 pub same-key-spec : {M : Type 1} → statement M

@@ -5,10 +5,10 @@ use mathlib.Core.Logic.{⊎-elim}
 use native.Mathlib.Numerals.{add-one}
 use native.Mathlib.Omega.{arith}
 use Rattle.members.specs.Places.{groupAt, memberAt}
-use Rattle.members.specs.Keys.{alike, rankAt}
+use Rattle.members.specs.Keys.{sameAt, alike, rankAt}
 use Rattle.members.proofs.Keys.{alike-none, alike-hit, alike-miss, alike-within}
-use Rattle.members.proofs.right.rank.Statement.{statement}
-use Rattle.members.proofs.right.rank.Tie as tie
+use Rattle.members.proofs.alike.rank.Statement.{statement}
+use Rattle.members.proofs.alike.rank.Tie as tie
 
 abbrev Inv-loop : tie.InvT-loop
 Inv-loop table whole i found₀ j₀ found j = (j ≤ suc i) × (found ≡ alike whole (groupAt i table) (memberAt i table) j table)
@@ -36,6 +36,7 @@ loop-less : tie.Need-loop-less Inv-loop μ-loop
 loop-less c = omega arith
 
 loop-again : tie.Need-loop-again Inv-loop μ-loop
+unfolding sameAt
 loop-again c =
     let k = c .before in
     let l = k .before .before in
