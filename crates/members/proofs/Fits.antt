@@ -1,19 +1,31 @@
 -- A count that fits its words still fits after AD and RM: what RM's `requires` asks of the next statement's caller.
-use Prim.Native.Nat.{ℕ, zero, suc, _*_, _≤_}
+use Prim.Native.Nat.{ℕ, zero, suc, _*_, _≤_, _%_}
 use mathlib.Core.Path.{_≡_, refl, sym, ap}
 use mathlib.Core.Bool.{Bool, true, false, _&&_}
 use mathlib.Core.List.{List, [], _∷_}
 use mathlib.Core.Option.{Option, none, some}
 use native.Mathlib.Omega.{arith}
-use borrow.Author.Tests.{ltb-false}
-use lib.Dec.{leb}
+use borrow.Author.Tests.{ltb-false, leb-true}
+use lib.Dec.{eqb, leb}
 use lib.IntN.{ℤ}
 use lib.ListN.{length, length-append, length-take, length-drop, length-set}
-use Rattle.language.specs.Table.{Table, find, holds, size, atLeastOne, full, add, remove, takeOut, fewer}
+use Rattle.language.specs.Table.{Table, numbersRight, noneTwice, groupsWithin, right, find, holds, size, atLeastOne, full, add, remove, takeOut, fewer}
 use Rattle.language.specs.declared.Stop.{Stop}
 use Rattle.language.specs.declared.Stop.the-variants.{NumberBelowOne, GroupFull, TableFull}
 use Rattle.members.specs.declared.Change.the-variants.{Done}
 use Rattle.members.specs.Outcomes.{tableOf, Outcome, leaves, halts, added, removed, changeOf, wordsAfter}
+use Rattle.members.proofs.Keys.{both}
+
+-- a right table fits
+pub right-fits : (limit : ℕ) (t : Table) → right limit t ≡ true → 2 * t .used ≤ length (t .words)
+unfolding right
+right-fits limit t e =
+    let a = eqb (length (t .words) % 2) 0 in
+    let b = leb (2 * t .used) (length (t .words)) in
+    let n = numbersRight (t .used) (t .words) in
+    let d = noneTwice (t .used) (t .words) in
+    let g = groupsWithin limit t (t .used) (t .words) in
+    leb-true (2 * t .used) (length (t .words)) (both a b (both (a && b) n (both (a && b && n) d (both (a && b && n && d) g e .0) .0) .0) .1)
 
 pub takeOut-length : (i k : ℕ) (ws : List ℤ) → length (takeOut i k ws) ≡ length ws
 unfolding takeOut
