@@ -13,7 +13,7 @@ use borrow.Author.Tests.{ltb-true, ltb-false, eqb-true, eqb-false}
 use Rattle.language.specs.Basics.{eqZ}
 use Rattle.members.specs.Places.{groupAt, memberAt}
 use Rattle.members.specs.Keys.{same, sameAt, alike, rankAt}
-use Rattle.members.specs.Slots.{mixed, hashAt, classOf, classAt, slotAt, Passed, EndsEmpty, EndsHeld, Good}
+use Rattle.members.specs.Slots.{hashAt, classOf, classAt, slotOf, slotAt, Passed, EndsEmpty, EndsHeld, Good}
 use Rattle.members.proofs.Signed.{eqZ-true}
 use Rattle.members.proofs.Keys.{both, same-self, same-key, alike-key, alike-hit, alike-miss, alike-none, rank-next}
 use Rattle.members.proofs.SlotLaws as laws
@@ -62,11 +62,11 @@ class-key whole ws classes i j e = ap (classOf classes) (hash-key whole ws i j e
 
 slot-key : (whole : Bool) (ws : List ℤ) (i j : ℕ) → sameAt whole ws i j ≡ true → slotAt whole ws i ≡ slotAt whole ws j
 unfolding slotAt
-slot-key whole ws i j e = ap (λ (h : ℕ). h % 16384) (hash-key whole ws i j e)
+slot-key whole ws i j e = ap slotOf (hash-key whole ws i j e)
 
-slot-below : (whole : Bool) (ws : List ℤ) (i : ℕ) → slotAt whole ws i < 16384
-unfolding slotAt
-slot-below whole ws i = omega arith
+slot-below : (whole : Bool) (ws : List ℤ) (i : ℕ) → slotAt whole ws i < 32640
+unfolding slotAt slotOf
+slot-below whole ws i = mod-lt _ (omega arith)
 
 module _ (whole : Bool) (ws : List ℤ) (classes class i : ℕ) (first number : List ℕ) (good : Good whole ws classes class i first number) where
   abbrev Mine : ℕ → Type 0
@@ -105,7 +105,7 @@ module _ (whole : Bool) (ws : List ℤ) (classes class i : ℕ) (first number : 
       laws.known (sameAt whole ws) (slotAt whole ws) Mine (counted whole ws) (self whole ws) (key whole ws) (slot-key whole ws) mine-key (counted-key whole ws)
       (counted-hit whole ws) (counted-miss whole ws) (λ j. none-of whole ws j j) i first number (good .kept) m (good .low) r
 
-  pub held-below : {q : ℕ} → EndsHeld (sameAt whole ws i) (slotAt whole ws i) first q → q < 16448
+  pub held-below : {q : ℕ} → EndsHeld (sameAt whole ws i) (slotAt whole ws i) first q → q < 32704
   held-below r = omega (arith, r .there, r .within, slot-below whole ws i)
 
   pub good-held :
@@ -120,7 +120,7 @@ module _ (whole : Bool) (ws : List ℤ) (classes class i : ℕ) (first number : 
             (counted-hit whole ws) (counted-miss whole ws) (λ j. none-of whole ws j j) i first number (good .kept) r (omega (arith, held-below r, good .numbers)) (getD number q 0) (held-count m r);
       }
 
-  pub empty-below : {q : ℕ} → EndsEmpty (sameAt whole ws i) (slotAt whole ws i) first q → q < 16448
+  pub empty-below : {q : ℕ} → EndsEmpty (sameAt whole ws i) (slotAt whole ws i) first q → q < 32704
   empty-below r = omega (arith, r .there, r .within, slot-below whole ws i)
 
   pub empty-count : {q : ℕ} → Mine i → EndsEmpty (sameAt whole ws i) (slotAt whole ws i) first q → counted whole ws i i ≡ 0
@@ -157,25 +157,20 @@ zeros zero q = refl
 zeros (suc n) zero = refl
 zeros (suc n) (suc q) = zeros n q
 
-pub good-start : (whole : Bool) (ws : List ℤ) (classes class : ℕ) → Good whole ws classes class 0 (replicate 16448 0) (replicate 16448 0)
+pub good-start : (whole : Bool) (ws : List ℤ) (classes class : ℕ) → Good whole ws classes class 0 (replicate 32704 0) (replicate 32704 0)
 good-start whole ws classes class =
     record {
-      firsts = length-replicate {A = ℕ} 16448 0;
-      numbers = length-replicate {A = ℕ} 16448 0;
-      low = λ q. rw (zeros 16448 q) (omega arith);
+      firsts = length-replicate {A = ℕ} 32704 0;
+      numbers = length-replicate {A = ℕ} 32704 0;
+      low = λ q. rw (zeros 32704 q) (omega arith);
       kept = λ j l. absurd (omega arith);
     }
 
 -- ---- each place has a class
 
-pub hash-below : (whole : Bool) (ws : List ℤ) (i : ℕ) → hashAt whole ws i < 1073741824
-unfolding hashAt mixed
-hash-below true ws i = mod-lt _ (omega arith)
-hash-below false ws i = mod-lt _ (omega arith)
-
 pub class-below : (whole : Bool) (ws : List ℤ) (classes i : ℕ) → 0 < classes → classAt whole ws classes i < classes
 unfolding classAt classOf
 class-below whole ws classes i h =
-    let x = hashAt whole ws i / 16384 in
-    let l : x < 65536 = omega (arith, hash-below whole ws i) in
+    let x = hashAt whole ws i / 65536 % 65536 in
+    let l : x < 65536 = mod-lt _ (omega arith) in
     div-lt-iff-lt-mul {k = 65536} {x = x * classes} {y = classes} (omega arith) .1 (omega (arith, mul-lt-mul-of-pos-right {k = classes} l h))

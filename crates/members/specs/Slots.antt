@@ -16,24 +16,24 @@ unfoldable pub weightOf : ℤ → ℕ
 weightOf (pos n) = n
 weightOf (negsuc n) = 0
 
-unfoldable pub mixed : ℕ → ℕ → ℕ
-mixed g m =
-    let sum = g * 1640531527 + m * 1540483477 in
-    let folded = sum % 4294967296 + sum / 4294967296 in
-    folded * 668265263 / 65536 % 1073741824
+unfoldable pub spread : ℕ → ℕ → ℕ
+spread g m = g * 1640531527 + m * 1540483477
 
 unfoldable pub hashAt : Bool → List ℤ → ℕ → ℕ
-hashAt true ws i = mixed (weightOf (groupAt i ws)) (weightOf (memberAt i ws))
-hashAt false ws i = mixed (weightOf (groupAt i ws)) 0
+hashAt true ws i = spread (weightOf (groupAt i ws)) (weightOf (memberAt i ws))
+hashAt false ws i = spread (weightOf (groupAt i ws)) 0
 
 unfoldable pub classOf : ℕ → ℕ → ℕ
-classOf classes h = h / 16384 * classes / 65536
+classOf classes h = h / 65536 % 65536 * classes / 65536
 
 unfoldable pub classAt : Bool → List ℤ → ℕ → ℕ → ℕ
 classAt whole ws classes i = classOf classes (hashAt whole ws i)
 
+unfoldable pub slotOf : ℕ → ℕ
+slotOf h = (h % 4294967296 + h / 4294967296) * 668265263 / 65536 % 32640
+
 unfoldable pub slotAt : Bool → List ℤ → ℕ → ℕ
-slotAt whole ws i = hashAt whole ws i % 16384
+slotAt whole ws i = slotOf (hashAt whole ws i)
 
 -- ---- a search for a key, from its slot on
 
@@ -70,8 +70,8 @@ Kept alikes slot first number n =
     (getD first (slot + t) 0 ≡ 0 → ⊥) × (alikes (getD first (slot + t) 0 - 1) ≡ true → getD number (slot + t) 0 ≡ n)
 
 pub record Good (whole : Bool) (ws : List ℤ) (classes class i : ℕ) (first number : List ℕ) : Type 0 where
-  pub firsts : length first ≡ 16448
-  pub numbers : length number ≡ 16448
+  pub firsts : length first ≡ 32704
+  pub numbers : length number ≡ 32704
   pub low : (q : ℕ) → getD first q 0 ≤ i
   pub kept :
       (j : ℕ) → j < i → classAt whole ws classes j ≡ class →

@@ -3,7 +3,7 @@ ghost use mathlib.Core.Path.{_≡_};
 ghost use Prim.Native.Nat.{_+_, _*_, _<_};
 ghost use lib.ListN.{length};
 ghost use Rattle.members.specs.Keys.{sameAt, rankAt};
-ghost use Rattle.members.specs.Slots.{weightOf, mixed, hashAt};
+ghost use Rattle.members.specs.Slots.{weightOf, spread, hashAt};
 use super::group_at;
 use super::member_at;
 use super::same_number;
@@ -50,15 +50,12 @@ fn weight(number: i32) -> u64
     number as u64
 }
 
-// Two numbers spread over 30 bits: products with odd constants, folded between them.
 fn mix(group: u64, member: u64) -> u64
     requires { ⌜ group < 2147483648 ⌝ }
     requires { ⌜ member < 2147483648 ⌝ }
-    ensures { λ r. ⌜ r ≡ mixed group member ⌝ }
+    ensures { λ r. ⌜ r ≡ spread group member ⌝ }
 {
-    let sum = group * 1640531527 + member * 1540483477;
-    let folded = sum % 4294967296 + sum / 4294967296;
-    folded * 668265263 / 65536 % 1073741824
+    group * 1640531527 + member * 1540483477
 }
 
 // Equal keys have equal hashes.

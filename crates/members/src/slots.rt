@@ -18,17 +18,16 @@ pub enum Slot {
 }
 
 fn class_of(hash: u64, classes: u64) -> u64
-    requires { ⌜ hash < 1073741824 ⌝ }
     requires { ⌜ classes < 281474976710656 ⌝ }
     ensures { λ r. ⌜ r ≡ classOf classes hash ⌝ }
 {
-    hash / 16384 * classes / 65536
+    hash / 65536 % 65536 * classes / 65536
 }
 
 // A slot holds the place of the first pair with its key, plus 1; 0 where it is empty.
-fn seek(table: &[i32], whole: bool, i: usize, first: &[usize; 16448], slot: usize) -> Slot
+fn seek(table: &[i32], whole: bool, i: usize, first: &[u32; 32704], slot: usize) -> Slot
     requires { ⌜ 2 * i + 1 < length (now table) ⌝ }
-    requires { ⌜ slot < 16384 ⌝ }
+    requires { ⌜ slot < 32640 ⌝ }
     requires { ⌜ ((q : ℕ) → getD (now first) q 0 ≤ i) ⌝ }
     ensures { λ r. ⌜ Sought whole (now (table .entry)) i (now (first .entry)) slot r ⌝ }
 {
@@ -38,7 +37,7 @@ fn seek(table: &[i32], whole: bool, i: usize, first: &[usize; 16448], slot: usiz
         if f == 0 {
             return Slot::Empty(slot + t);
         }
-        if same_key(table, whole, i, f - 1) {
+        if same_key(table, whole, i, f as usize - 1) {
             return Slot::Held(slot + t);
         }
         t += 1;
@@ -54,10 +53,11 @@ fn step(
     class: u64,
     classes: u64,
     i: usize,
-    first: &mut [usize; 16448],
-    number: &mut [u32; 16448],
+    first: &mut [u32; 32704],
+    number: &mut [u32; 32704],
 ) -> bool
     requires { ⌜ 2 * i + 1 < length (now table) ⌝ }
+    requires { ⌜ i < 4294967295 ⌝ }
     requires { ⌜ classes < 281474976710656 ⌝ }
     requires { ⌜ Good whole (now table) classes class i (now first) (now number) ⌝ }
     ensures { λ r. ⌜ (r ≡ true → Good whole (now (table .entry)) classes class (i + 1) (now (first .exit)) (now (number .exit))) ⌝ }
@@ -68,14 +68,15 @@ fn step(
     if class_of(h, classes) != class {
         return true;
     }
-    let slot = (h % 16384) as usize;
+    let folded = h % 4294967296 + h / 4294967296;
+    let slot = (folded * 668265263 / 65536 % 32640) as usize;
     let found = seek(table, whole, i, first, slot);
     match found {
         Slot::Empty(q) => {
             if limit == 0 {
                 return false;
             }
-            first[q] = i + 1;
+            first[q] = (i + 1) as u32;
             number[q] = 1;
             true
         }
@@ -94,12 +95,13 @@ fn step(
 // Whether the pairs of one class have ranks within the limit.
 pub fn pass(table: &[i32], count: usize, whole: bool, limit: u32, class: u64, classes: u64) -> bool
     requires { ⌜ 2 * count ≤ length (now table) ⌝ }
+    requires { ⌜ count ≤ 4294967295 ⌝ }
     requires { ⌜ classes < 281474976710656 ⌝ }
     ensures { λ r. ⌜ (r ≡ true → (i : ℕ) → i < count → classAt whole (now (table .entry)) classes i ≡ class → rankAt whole i (now (table .entry)) ≤ limit) ⌝ }
     ensures { λ r. ⌜ (r ≡ false → within whole limit count (now (table .entry)) ≡ false) ⌝ }
 {
-    let mut first = [0usize; 16448];
-    let mut number = [0u32; 16448];
+    let mut first = [0u32; 32704];
+    let mut number = [0u32; 32704];
     let mut i = 0;
     while i < count {
         if !step(

@@ -2,7 +2,7 @@
 use Prim.Native.Nat.{ℕ}
 use mathlib.Core.Path.{_≡_, _∙_, ap, ap₂}
 use Rattle.members.specs.Places.{groupAt}
-use Rattle.members.specs.Slots.{weightOf, mixed, hashAt}
+use Rattle.members.specs.Slots.{weightOf, spread, hashAt}
 use Rattle.members.proofs.Signed.{back}
 use borrow.Author.Needs.{needs}
 use Rattle.members.proofs.alike.hash.Statement.{statement}
@@ -32,7 +32,7 @@ returns c =
     let w = c .before in
     let d = w .before .before in
     rw (d .if1 .taken)
-    (c .mix .ensures ∙ ap₂ mixed (group-weight (d .before)) (w .weight2 .ensures .0 ∙ ap weightOf (back _ (w .before .member-at .ok) ∙ w .before .member-at .ensures)))
+    (c .mix .ensures ∙ ap₂ spread (group-weight (d .before)) (w .weight2 .ensures .0 ∙ ap weightOf (back _ (w .before .member-at .ok) ∙ w .before .member-at .ensures)))
 
 mix-requires-2 : tie.Need-mix-requires-2
 mix-requires-2 c κs = search needs
@@ -41,7 +41,7 @@ returns-2 : tie.Need-returns-2
 unfolding hashAt
 returns-2 c =
     let d = c .before in
-    rw (d .if1 .left) (c .mix2 .ensures ∙ ap (λ (w : ℕ). mixed w 0) (group-weight (d .before)))
+    rw (d .if1 .left) (c .mix2 .ensures ∙ ap (λ (w : ℕ). spread w 0) (group-weight (d .before)))
 
 pub hash-spec : {M : Type 1} → statement M
 hash-spec =

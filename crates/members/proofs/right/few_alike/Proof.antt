@@ -17,6 +17,12 @@ Inv-loop table count whole limit classes class₀ class =
 abbrev μ-loop : tie.MeasureT-loop
 μ-loop table count whole limit classes class₀ class = classes - class
 
+few-by-reading-requires : tie.Need-few-by-reading-requires Inv-loop μ-loop
+few-by-reading-requires c κs = c .before .pre
+
+returns : tie.Need-returns Inv-loop μ-loop
+returns c = c .few-by-reading .ensures
+
 add-classes : tie.Need-add-classes Inv-loop μ-loop
 add-classes c = omega arith
 
@@ -24,10 +30,10 @@ loop-holds : tie.Need-loop-holds Inv-loop μ-loop
 loop-holds c = (omega arith, λ j l h. absurd (omega arith))
 
 pass-requires : tie.Need-pass-requires Inv-loop μ-loop
-pass-requires c κs = (c .before .before .pre, omega arith)
+pass-requires c κs = (c .before .before .before .pre, (c .before .before .if1 .left, omega arith))
 
-returns : tie.Need-returns Inv-loop μ-loop
-returns c = sym (c .before .pass .ensures .1 (not-true _ (c .if1 .taken)))
+returns-2 : tie.Need-returns-2 Inv-loop μ-loop
+returns-2 c = sym (c .before .pass .ensures .1 (not-true _ (c .if2 .taken)))
 
 add-class : tie.Need-add-class Inv-loop μ-loop
 add-class c = omega arith
@@ -39,16 +45,16 @@ loop-again : tie.Need-loop-again Inv-loop μ-loop
 loop-again c =
     let k = c .before in
     let l = k .before .before in
-    let s = l .before in
-    (omega arith, λ j h b. below-next (classAt (s .args .whole) (s .args .table .now) (s .args .count / 10240 + 1) j) (l .loop .class) (l .loop .inv .1 j h) (k .pass .ensures .0 (not-false _ (c .if1 .left)) j h) b)
+    let s = l .before .before in
+    (omega arith, λ j h b. below-next (classAt (s .args .whole) (s .args .table .now) (s .args .count / 20480 + 1) j) (l .loop .class) (l .loop .inv .1 j h) (k .pass .ensures .0 (not-false _ (c .if2 .left)) j h) b)
 
-returns-2 : tie.Need-returns-2 Inv-loop μ-loop
+returns-3 : tie.Need-returns-3 Inv-loop μ-loop
 unfolding within
-returns-2 c =
+returns-3 c =
     let l = c .before in
-    let s = l .before in
+    let s = l .before .before in
     sym (each-true (rankFits (s .args .whole) (s .args .limit) (s .args .table .now)) (s .args .count)
-    (λ j h. le-leb _ _ (l .loop .inv .1 j h (omega (arith, class-below (s .args .whole) (s .args .table .now) (s .args .count / 10240 + 1) j (omega arith))))))
+    (λ j h. le-leb _ _ (l .loop .inv .1 j h (omega (arith, class-below (s .args .whole) (s .args .table .now) (s .args .count / 20480 + 1) j (omega arith))))))
 
 pub few-alike-spec : {M : Type 1} → statement M
 few-alike-spec =
@@ -56,11 +62,13 @@ few-alike-spec =
     (tie.spec
     Inv-loop
     μ-loop
+    few-by-reading-requires
+    returns
     add-classes
     loop-holds
     pass-requires
-    returns
+    returns-2
     add-class
     loop-less
     loop-again
-    returns-2)
+    returns-3)

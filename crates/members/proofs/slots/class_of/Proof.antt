@@ -1,5 +1,5 @@
 -- `class_of` meets its contract.
-use Prim.Native.Nat.{_≤_, _/_}
+use Prim.Native.Nat.{_≤_, _/_, _%_}
 use mathlib.Core.Path.{refl}
 use native.Mathlib.Nat.{mul-le-mul-right}
 use native.Mathlib.Omega.{arith}
@@ -9,7 +9,7 @@ use Rattle.members.proofs.slots.class_of.Tie as tie
 
 mul-result : tie.Need-mul-result
 mul-result c =
-    let h : c .args .hash / 16384 ≤ 65535 = omega arith in
+    let h : c .args .hash / 65536 % 65536 ≤ 65535 = omega arith in
     omega (arith, mul-le-mul-right (c .args .classes) h)
 
 returns : tie.Need-returns

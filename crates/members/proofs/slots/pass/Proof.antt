@@ -24,7 +24,7 @@ loop-holds c = (omega arith, good-start _ _ _ _, λ j l. absurd (omega arith))
 step-requires : tie.Need-step-requires Inv-loop μ-loop
 step-requires c κs =
     let l = c .before .before .before in
-    (omega arith, (l .before .pre .1, l .loop .inv .1))
+    (omega arith, (omega arith, (l .before .pre .1 .1, l .loop .inv .1)))
 
 returns : tie.Need-returns Inv-loop μ-loop
 unfolding within

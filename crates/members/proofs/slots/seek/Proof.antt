@@ -34,6 +34,12 @@ returns c =
     let l = c .before .before .before in
     record { steps = l .loop .t; within = omega arith; there = refl; passed = l .loop .inv .1; empty = c .if1 .taken }
 
+cast-same-key : tie.Need-cast-same-key Inv-loop μ-loop
+cast-same-key c =
+    let l = c .before .before .before in
+    let s = l .before in
+    omega (arith, s .pre .1 .1 (s .args .slot + l .loop .t))
+
 sub-same-key : tie.Need-sub-same-key Inv-loop μ-loop
 sub-same-key c = omega arith
 
@@ -81,6 +87,7 @@ seek-spec =
     element-copy-out-f
     add-t14
     returns
+    cast-same-key
     sub-same-key
     same-key-requires
     add-t16

@@ -1,16 +1,17 @@
 -- `step` meets its contract: each way through the slots keeps them good.
-use Prim.Native.Nat.{ℕ, suc, _%_, _<_}
+use Prim.Native.Nat.{ℕ, suc, _<_}
 use mathlib.Core.Path.{_≡_, refl, sym, _∙_, ap, subst}
+use native.Mathlib.Nat.{mod-lt}
 use native.Mathlib.Numerals.{add-one}
 use native.Mathlib.Omega.{arith}
 use borrow.Author.Tests.{leb-true, leb-false}
 use lib.ListN.{getD}
 use Rattle.members.specs.Keys.{rankAt}
-use Rattle.members.specs.Slots.{classOf, classAt, slotAt, Sought}
+use Rattle.members.specs.Slots.{classOf, classAt, slotOf, slotAt, Sought}
 use Rattle.members.specs.declared.slots.Slot.{Slot}
 use Rattle.members.specs.declared.slots.Slot.the-variants.{Empty, Held, Full}
 use Rattle.members.proofs.Keys.{clash}
-use Rattle.members.proofs.Passes.{counted, rank-counted, hash-below, good-skip, good-full, good-held, good-new, held-below, empty-below, held-count, empty-count}
+use Rattle.members.proofs.Passes.{counted, rank-counted, good-skip, good-full, good-held, good-new, held-below, empty-below, held-count, empty-count}
 use borrow.Author.Needs.{needs}
 use Rattle.members.proofs.slots.step.Statement.{statement}
 use Rattle.members.proofs.slots.step.Tie as tie
@@ -36,10 +37,10 @@ mine : (c : tie.Else1) → Mine (c .before .before .before)
 mine c = sym (classed (c .before)) ∙ c .if1 .left
 
 sought : (c : tie.After-seek) → Ends (c .before .before .before .before .before) (c .seek .result)
-unfolding slotAt
+unfolding slotAt slotOf
 sought c =
     let s = c .before .before .before .before .before in
-    subst (λ (h : ℕ). Sought (s .args .whole) (s .args .table .now) (s .args .i) (s .args .first .now) (h % 16384) (c .seek .result)) (c .before .before .before .before .hash .ensures) (c .seek .ensures)
+    subst (λ (h : ℕ). Sought (s .args .whole) (s .args .table .now) (s .args .i) (s .args .first .now) (slotOf h) (c .seek .result)) (c .before .before .before .before .hash .ensures) (c .seek .ensures)
 
 at-empty : (c : tie.After-found) → Ends (c .before .before .before .before .before .before .before) (Empty (c .found .given .0 .0))
 at-empty c = subst (Ends (c .before .before .before .before .before .before .before)) (c .found .given .1) (sought (c .before .before))
@@ -50,36 +51,42 @@ at-held c = subst (Ends (c .before .before .before .before .before .before .befo
 at-full : (c : tie.After-enum-told) → Ends (c .before .before .before .before .before .before .before) Full
 at-full c = subst (Ends (c .before .before .before .before .before .before .before)) (c .enum-told .given .1) (sought (c .before .before))
 
-empty-fits : (c : tie.After-found) → c .found .given .0 .0 < 16448
+empty-fits : (c : tie.After-found) → c .found .given .0 .0 < 32704
 empty-fits c =
     let s = c .before .before .before .before .before .before .before in
-    empty-below (s .args .whole) (s .args .table .now) (s .args .classes) (s .args .class) (s .args .i) (s .args .first .now) (s .args .number .now) (s .pre .1 .1) (at-empty c)
+    empty-below (s .args .whole) (s .args .table .now) (s .args .classes) (s .args .class) (s .args .i) (s .args .first .now) (s .args .number .now) (s .pre .1 .1 .1) (at-empty c)
 
-held-fits : (c : tie.After-found2) → c .found2 .given .0 .0 < 16448
+held-fits : (c : tie.After-found2) → c .found2 .given .0 .0 < 32704
 held-fits c =
     let s = c .before .before .before .before .before .before .before in
-    held-below (s .args .whole) (s .args .table .now) (s .args .classes) (s .args .class) (s .args .i) (s .args .first .now) (s .args .number .now) (s .pre .1 .1) (at-held c)
+    held-below (s .args .whole) (s .args .table .now) (s .args .classes) (s .args .class) (s .args .i) (s .args .first .now) (s .args .number .now) (s .pre .1 .1 .1) (at-held c)
 
 held-counts : (c : tie.After-found2) → let s = c .before .before .before .before .before .before .before in
     getD (s .args .number .now) (c .found2 .given .0 .0) 0 ≡ counted (s .args .whole) (s .args .table .now) (s .args .i) (s .args .i)
 held-counts c =
     let s = c .before .before .before .before .before .before .before in
-    held-count (s .args .whole) (s .args .table .now) (s .args .classes) (s .args .class) (s .args .i) (s .args .first .now) (s .args .number .now) (s .pre .1 .1) (mine (c .before .before .before .before)) (at-held c)
+    held-count (s .args .whole) (s .args .table .now) (s .args .classes) (s .args .class) (s .args .i) (s .args .first .now) (s .args .number .now) (s .pre .1 .1 .1) (mine (c .before .before .before .before)) (at-held c)
 
 hash-requires : tie.Need-hash-requires
 hash-requires c κs = search needs
 
 class-of-requires : tie.Need-class-of-requires
-class-of-requires c κs = (rw (c .hash .ensures) (hash-below _ _ _), c .before .pre .1 .0)
+class-of-requires c κs = search needs
 
 returns : tie.Need-returns
 returns c =
     let s = c .before .before .before in
     let other : Mine s → ⊥ = λ m. c .if1 .taken (classed (c .before) ∙ m) in
-    (λ e. rw (add-one (s .args .i)) (good-skip (s .args .whole) (s .args .table .now) (s .args .classes) (s .args .class) (s .args .i) (s .args .first .now) (s .args .number .now) (s .pre .1 .1) other), (λ e m. absurd (other m), λ e. clash refl e))
+    (λ e. rw (add-one (s .args .i)) (good-skip (s .args .whole) (s .args .table .now) (s .args .classes) (s .args .class) (s .args .i) (s .args .first .now) (s .args .number .now) (s .pre .1 .1 .1) other), (λ e m. absurd (other m), λ e. clash refl e))
+
+add-folded : tie.Need-add-folded
+add-folded c = search needs
+
+mul-slot : tie.Need-mul-slot
+mul-slot c = search needs
 
 seek-requires : tie.Need-seek-requires
-seek-requires c κs = search needs
+seek-requires c κs = (omega arith, (mod-lt _ (omega arith), c .before .before .before .before .pre .1 .1 .1 .low))
 
 enum-known-found : tie.Need-enum-known-found
 enum-known-found c = search needs
@@ -91,6 +98,9 @@ returns-2 c =
 
 add-first : tie.Need-add-first
 add-first c = search needs
+
+cast-first : tie.Need-cast-first
+cast-first c = search needs
 
 mul-first : tie.Need-mul-first
 mul-first c = omega (arith, empty-fits (c .before .before))
@@ -139,8 +149,8 @@ returns-4 c =
     let f = c .before .before in
     let d = f .before .before .before .before in
     let s = d .before .before .before in (
-      λ e. rw (add-one (s .args .i)) (good-new (s .args .whole) (s .args .table .now) (s .args .classes) (s .args .class) (s .args .i) (s .args .first .now) (s .args .number .now) (s .pre .1 .1) (mine d) (at-empty f)),
-      (λ e m. omega (arith, ranked s, empty-count (s .args .whole) (s .args .table .now) (s .args .classes) (s .args .class) (s .args .i) (s .args .first .now) (s .args .number .now) (s .pre .1 .1) (mine d) (at-empty f), c .if2 .left), λ e. clash refl e),
+      λ e. rw (add-one (s .args .i)) (good-new (s .args .whole) (s .args .table .now) (s .args .classes) (s .args .class) (s .args .i) (s .args .first .now) (s .args .number .now) (s .pre .1 .1 .1) (mine d) (at-empty f)),
+      (λ e m. omega (arith, ranked s, empty-count (s .args .whole) (s .args .table .now) (s .args .classes) (s .args .class) (s .args .i) (s .args .first .now) (s .args .number .now) (s .pre .1 .1 .1) (mine d) (at-empty f), c .if2 .left), λ e. clash refl e),
     )
 
 returns-5 : tie.Need-returns-5
@@ -148,7 +158,7 @@ returns-5 c =
     let f = c .before .before .before in
     let d = f .before .before .before .before in
     let s = d .before .before .before in (
-      λ e. rw (add-one (s .args .i), add-one (getD (s .args .number .now) (f .found2 .given .0 .0) 0)) (good-held (s .args .whole) (s .args .table .now) (s .args .classes) (s .args .class) (s .args .i) (s .args .first .now) (s .args .number .now) (s .pre .1 .1) (mine d) (at-held f)),
+      λ e. rw (add-one (s .args .i), add-one (getD (s .args .number .now) (f .found2 .given .0 .0) 0)) (good-held (s .args .whole) (s .args .table .now) (s .args .classes) (s .args .class) (s .args .i) (s .args .first .now) (s .args .number .now) (s .pre .1 .1 .1) (mine d) (at-held f)),
       (λ e m. omega (arith, ranked s, held-counts f, c .if3 .left), λ e. clash refl e),
     )
 
@@ -156,7 +166,7 @@ returns-6 : tie.Need-returns-6
 returns-6 c =
     let f = c .before in
     let s = f .before .before .before .before .before .before .before in (
-      λ e. rw (add-one (s .args .i)) (good-full (s .args .whole) (s .args .table .now) (s .args .classes) (s .args .class) (s .args .i) (s .args .first .now) (s .args .number .now) (s .pre .1 .1) (at-full f)),
+      λ e. rw (add-one (s .args .i)) (good-full (s .args .whole) (s .args .table .now) (s .args .classes) (s .args .class) (s .args .i) (s .args .first .now) (s .args .number .now) (s .pre .1 .1 .1) (at-full f)),
       (λ e m. omega (arith, leb-true (c .rank .result) (s .args .limit) e, c .rank .ensures), λ e. omega (arith, leb-false (c .rank .result) (s .args .limit) e, c .rank .ensures)),
     )
 
@@ -167,10 +177,13 @@ step-spec =
     hash-requires
     class-of-requires
     returns
+    add-folded
+    mul-slot
     seek-requires
     enum-known-found
     returns-2
     add-first
+    cast-first
     mul-first
     element-write-first
     mul-number
