@@ -1,5 +1,5 @@
-// Counting pairs by key in one go over the table, in slots found by a hash. A local table has room for some thousand keys, so
-// the keys are parted into classes, and each class has a pass of its own.
+// Counting pairs by key in one go over the table, in slots found by a hash: 32,640 of them, and 64 more for the window of the
+// last. They have room for some thousand keys, so the keys are parted into classes, and each class has a pass of its own.
 ghost use mathlib.Core.Path.{_≡_};
 ghost use mathlib.Core.Bool.{true, false};
 ghost use Prim.Native.Nat.{ℕ, _+_, _*_, _≤_, _<_};
@@ -24,7 +24,8 @@ fn class_of(hash: u64, classes: u64) -> u64
     hash / 65536 % 65536 * classes / 65536
 }
 
-// A slot holds the place of the first pair with its key, plus 1; 0 where it is empty.
+// In `first` a slot has the place of the first pair with its key, plus 1; 0 where it is empty. In `number` it has how many
+// pairs with the key were passed.
 fn seek(table: &[i32], whole: bool, i: usize, first: &[u32; 32704], slot: usize) -> Slot
     requires { ⌜ 2 * i + 1 < length (now table) ⌝ }
     requires { ⌜ slot < 32640 ⌝ }
