@@ -1,0 +1,301 @@
+-- The rules of a right table, said of each place: the numbers, the pairs and the groups.
+use Prim.Native.Nat.{ℕ, zero, suc, _+_, _*_, _<_, _≤_}
+use mathlib.Core.Path.{_≡_, refl, sym, _∙_, ap, ap₂}
+use mathlib.Core.Bool.{Bool, true, false, not, _&&_, _||_, and-true, and-false, and-assoc, or-true, or-false}
+use mathlib.Core.List.{List, [], _∷_}
+use mathlib.Core.Option.{Option, none, some}
+use native.Mathlib.Omega.{arith}
+use borrow.Author.Tests.{le-leb, lt-leb, leb-true, leb-false, ltb-true, ltb-false, lt-ltb, le-ltb}
+use lib.Dec.{leb, ltb}
+use lib.IntN.{ℤ, pos}
+use lib.ListN.{length}
+use Rattle.language.specs.Basics.{eqZ}
+use Rattle.language.specs.Table.{Table, find, isSome, members, size, atLeastOne, numbersRight, noneTwice, groupsWithin}
+use Rattle.members.specs.Places.{groupAt, memberAt}
+use Rattle.members.specs.Outcomes.{tableOf}
+use Rattle.members.specs.Keys.{each, same, more, alike, rankAt, within}
+use Rattle.members.proofs.Signed.{eqZ-true, eqZ-same}
+use Rattle.members.proofs.Pairs.{Room, here, next, room, pairIs, groupAt-suc, memberAt-suc, behind, front, find-more, find-front, find-zero, members-more, members-zero, one}
+
+pub clash {ℓ} : {X : Type ℓ} {t : Bool} → t ≡ true → t ≡ false → X
+clash p q = absurd (let z : _≡_ {A = ℕ} 0 1 = cc in omega arith)
+
+-- ---- each
+
+module _ (p : ℕ → Bool) where
+  pub each-false : (n i : ℕ) → i < n → p i ≡ false → each p n ≡ false
+  unfolding each
+  each-false zero i h e = absurd (omega arith)
+  each-false (suc k) i h e = go (λ l. each-false k i l e) (ltb i k) refl
+    where
+      go : (i < k → each p k ≡ false) → (t : Bool) → ltb i k ≡ t → (each p k && p k) ≡ false
+      go ih true q = rw (ih (ltb-true i k q))
+      go ih false q = let z : k ≡ i = omega (arith, ltb-false i k q) in rw (z, e) (and-false (each p i))
+
+  pub each-true : (n : ℕ) → ((i : ℕ) → i < n → p i ≡ true) → each p n ≡ true
+  unfolding each
+  each-true zero h = refl
+  each-true (suc k) h = rw (each-true k (λ i l. h i (omega arith)), h k (omega arith))
+
+  pub each-at : (n i : ℕ) → each p n ≡ true → i < n → p i ≡ true
+  each-at n i e h = go (p i) refl
+    where
+      go : (t : Bool) → p i ≡ t → t ≡ true
+      go true q = refl
+      go false q = clash e (each-false n i h q)
+
+  pub each-next : (n : ℕ) → each p n ≡ true → p n ≡ true → each p (suc n) ≡ true
+  unfolding each
+  each-next n e q = rw (e, q)
+
+  pub each-is : (f : ℕ → Bool) (n : ℕ) → f 0 ≡ true → ((i : ℕ) → i < n → f (suc i) ≡ (f i && p i)) → f n ≡ each p n
+  unfolding each
+  each-is f zero e h = e
+  each-is f (suc k) e h = h k (omega arith) ∙ ap (λ (t : Bool). t && p k) (each-is f k e (λ i l. h i (omega arith)))
+
+pub each-same : (p q : ℕ → Bool) (n : ℕ) → ((i : ℕ) → i < n → p i ≡ q i) → each p n ≡ each q n
+unfolding each
+each-same p q zero h = refl
+each-same p q (suc k) h = rw (each-same p q k (λ i l. h i (omega arith)), h k (omega arith))
+
+pub both-ways : (a b : Bool) → (a ≡ true → b ≡ true) → (b ≡ true → a ≡ true) → a ≡ b
+both-ways true b h k = sym (h refl)
+both-ways false true h k = k refl
+both-ways false false h k = refl
+
+at-place : (ws : List ℤ) (n i : ℕ) → 2 * n ≤ length ws → i < n → Room i ws
+at-place ws n i f h = room i ws (omega arith)
+
+-- ---- every number is at least 1
+
+abbrev pub numbersAt : List ℤ → ℕ → Bool
+numbersAt ws i = atLeastOne (groupAt i ws) && atLeastOne (memberAt i ws)
+
+numbers-more : {i : ℕ} {ws : List ℤ} → Room i ws → numbersRight (suc i) ws ≡ (numbersRight i ws && numbersAt ws i)
+unfolding numbersRight
+numbers-more (here {a} {b} {ws}) = and-true (atLeastOne a && atLeastOne b)
+numbers-more (next {i} {a} {b} {ws} r) =
+    ap (λ (t : Bool). atLeastOne a && atLeastOne b && t) (numbers-more r) ∙ rw (groupAt-suc, memberAt-suc) (sym (and-assoc (atLeastOne a && atLeastOne b) (numbersRight i ws) (numbersAt ws i)))
+
+pub numbers-each : (ws : List ℤ) (n : ℕ) → 2 * n ≤ length ws → numbersRight n ws ≡ each (numbersAt ws) n
+unfolding numbersRight
+numbers-each ws n f = each-is (numbersAt ws) (λ i. numbersRight i ws) n refl (λ i h. numbers-more (at-place ws n i f h))
+
+-- ---- no pair stands twice
+
+abbrev newAt : List ℤ → ℕ → Bool
+newAt ws i = not (isSome (find (groupAt i ws) (memberAt i ws) i ws))
+
+eqZ-sym : (a b : ℤ) → eqZ a b ≡ eqZ b a
+eqZ-sym a b =
+    both-ways (eqZ a b) (eqZ b a) (λ e. rw (eqZ-true a b e) (eqZ-same b)) (λ e. rw (eqZ-true b a e) (eqZ-same a))
+
+some-behind : (r : Option ℕ) (t : Bool) (i : ℕ) → isSome (behind r t i) ≡ (isSome r || t)
+unfolding isSome behind
+some-behind none true i = refl
+some-behind none false i = refl
+some-behind (some j) t i = refl
+
+some-front : (t : Bool) (r : Option ℕ) → isSome (front t r) ≡ (t || isSome r)
+unfolding isSome front
+some-front true r = refl
+some-front false none = refl
+some-front false (some i) = refl
+
+turned : (p q x y : Bool) → (not (p || q) && (x && not y)) ≡ ((not p && x) && not (q || y))
+turned true q x y = refl
+turned false true x y = sym (and-false x)
+turned false false x y = refl
+
+twice-more : {i : ℕ} {ws : List ℤ} → Room i ws → noneTwice (suc i) ws ≡ (noneTwice i ws && newAt ws i)
+unfolding noneTwice isSome
+twice-more (here {a} {b} {ws}) = rw (find-zero a b ws, find-zero a b (a ∷ b ∷ ws))
+twice-more (next {i} {a} {b} {ws} r) =
+    let g = groupAt i ws in
+    let m = memberAt i ws in
+    let e = ap isSome (find-more a b r) ∙ some-behind (find a b i ws) (pairIs a b i ws) i in
+    let f =
+    ap isSome (find-front g m i a b ws) ∙ some-front (eqZ a g && eqZ b m) (find g m i ws) ∙
+    ap (λ (t : Bool). t || isSome (find g m i ws)) (ap₂ _&&_ (eqZ-sym a g) (eqZ-sym b m))
+    in
+    ap₂ (λ (s t : Bool). not s && t) e (twice-more r) ∙ turned (isSome (find a b i ws)) (pairIs a b i ws) (noneTwice i ws) (isSome (find g m i ws)) ∙
+    rw (groupAt-suc, memberAt-suc) (sym (ap (λ (s : Bool). (not (isSome (find a b i ws)) && noneTwice i ws) && not s) f))
+
+noneTwice-each : (ws : List ℤ) (n : ℕ) → 2 * n ≤ length ws → noneTwice n ws ≡ each (newAt ws) n
+unfolding noneTwice
+noneTwice-each ws n f = each-is (newAt ws) (λ i. noneTwice i ws) n refl (λ i h. twice-more (at-place ws n i f h))
+
+-- ---- keys
+
+pub same-self : (whole : Bool) (g m : ℤ) → same whole g m g m ≡ true
+unfolding same
+same-self true g m = rw (eqZ-same g, eqZ-same m)
+same-self false g m = eqZ-same g
+
+pub both : (s t : Bool) → (s && t) ≡ true → (s ≡ true) × (t ≡ true)
+both true t e = (refl, e)
+both false t e = clash e refl
+
+-- pairs with one key have it with the same pairs
+pub same-key : (whole : Bool) (g m a b : ℤ) → same whole g m a b ≡ true → (x y : ℤ) → same whole g m x y ≡ same whole a b x y
+unfolding same
+same-key true g m a b e x y =
+    let h = both (eqZ a g) (eqZ b m) e in
+    rw (eqZ-true a g (h .0), eqZ-true b m (h .1))
+same-key false g m a b e x y = rw (eqZ-true a g e)
+
+pub alike-key : (whole : Bool) (g m a b : ℤ) → same whole g m a b ≡ true → (k : ℕ) (ws : List ℤ) → alike whole g m k ws ≡ alike whole a b k ws
+unfolding alike
+alike-key whole g m a b e zero ws = refl
+alike-key whole g m a b e (suc k) ws = rw (same-key whole g m a b e (groupAt k ws) (memberAt k ws), alike-key whole g m a b e k ws)
+
+pub alike-hit : (whole : Bool) (g m : ℤ) (k : ℕ) (ws : List ℤ) → same whole g m (groupAt k ws) (memberAt k ws) ≡ true → alike whole g m (suc k) ws ≡ suc (alike whole g m k ws)
+unfolding alike more
+alike-hit whole g m k ws e = rw e
+
+pub alike-miss : (whole : Bool) (g m : ℤ) (k : ℕ) (ws : List ℤ) → same whole g m (groupAt k ws) (memberAt k ws) ≡ false → alike whole g m (suc k) ws ≡ alike whole g m k ws
+unfolding alike more
+alike-miss whole g m k ws e = rw e
+
+pub alike-none : (whole : Bool) (g m : ℤ) (ws : List ℤ) → alike whole g m 0 ws ≡ 0
+unfolding alike
+alike-none whole g m ws = refl
+
+more-rises : (t : Bool) (n : ℕ) → n ≤ more t n
+unfolding more
+more-rises true n = omega arith
+more-rises false n = omega arith
+
+more-by-one : (t : Bool) {n k : ℕ} → n ≤ k → more t n ≤ suc k
+unfolding more
+more-by-one true h = omega arith
+more-by-one false h = omega arith
+
+pub alike-rises : (whole : Bool) (g m : ℤ) (ws : List ℤ) (i n : ℕ) → i ≤ n → alike whole g m i ws ≤ alike whole g m n ws
+unfolding alike
+alike-rises whole g m ws i zero h = let z : i ≡ 0 = omega arith in rw z (omega arith)
+alike-rises whole g m ws i (suc n) h = go (leb i n) refl (alike-rises whole g m ws i n)
+  where
+    go : (t : Bool) → leb i n ≡ t → (i ≤ n → alike whole g m i ws ≤ alike whole g m n ws) → alike whole g m i ws ≤ alike whole g m (suc n) ws
+    go true q ih = omega (arith, ih (leb-true i n q), more-rises (same whole g m (groupAt n ws) (memberAt n ws)) (alike whole g m n ws))
+    go false q ih = let z : i ≡ suc n = omega (arith, leb-false i n q) in rw z (omega arith)
+
+pub alike-within : (whole : Bool) (g m : ℤ) (k : ℕ) (ws : List ℤ) → alike whole g m k ws ≤ k
+unfolding alike
+alike-within whole g m zero ws = omega arith
+alike-within whole g m (suc k) ws = more-by-one (same whole g m (groupAt k ws) (memberAt k ws)) (alike-within whole g m k ws)
+
+pub rank-next : (whole : Bool) (i : ℕ) (ws : List ℤ) → rankAt whole i ws ≡ suc (alike whole (groupAt i ws) (memberAt i ws) i ws)
+unfolding rankAt alike more
+rank-next whole i ws = rw (same-self whole (groupAt i ws) (memberAt i ws))
+
+pub rank-rises : (whole : Bool) (i n : ℕ) (ws : List ℤ) → i < n → rankAt whole i ws ≤ alike whole (groupAt i ws) (memberAt i ws) n ws
+unfolding rankAt
+rank-rises whole i n ws h = alike-rises whole (groupAt i ws) (memberAt i ws) ws (suc i) n h
+
+-- ---- no pair stands twice
+
+some-alike : (g m : ℤ) (ws : List ℤ) (n : ℕ) → 2 * n ≤ length ws → isSome (find g m n ws) ≡ ltb 0 (alike true g m n ws)
+unfolding isSome alike same more
+some-alike g m ws zero f = rw (find-zero g m ws)
+some-alike g m ws (suc n) f =
+    ap isSome (find-more g m (room n ws (omega arith))) ∙ some-behind (find g m n ws) (pairIs g m n ws) n ∙ go (pairIs g m n ws) (some-alike g m ws n (omega arith))
+  where
+    go : (t : Bool) → isSome (find g m n ws) ≡ ltb 0 (alike true g m n ws) → (isSome (find g m n ws) || t) ≡ ltb 0 (more t (alike true g m n ws))
+    go true e = or-true (isSome (find g m n ws)) ∙ sym (lt-ltb 0 (suc (alike true g m n ws)) (omega arith))
+    go false e = or-false (isSome (find g m n ws)) ∙ e
+
+new-rank : (ws : List ℤ) (i : ℕ) → 2 * i ≤ length ws → newAt ws i ≡ leb (rankAt true i ws) 1
+new-rank ws i f =
+    ap not (some-alike (groupAt i ws) (memberAt i ws) ws i f) ∙ go (alike true (groupAt i ws) (memberAt i ws) i ws) ∙ ap (λ (n : ℕ). leb n 1) (sym (rank-next true i ws))
+  where
+    go : (x : ℕ) → not (ltb 0 x) ≡ leb (suc x) 1
+    go zero = refl
+    go (suc x) = rw (lt-ltb 0 (suc x) (omega arith), lt-leb (suc (suc x)) 1 (omega arith))
+
+pub twice-within : (ws : List ℤ) (n : ℕ) → 2 * n ≤ length ws → noneTwice n ws ≡ within true 1 n ws
+unfolding within
+twice-within ws n f = noneTwice-each ws n f ∙ each-same (newAt ws) (λ i. leb (rankAt true i ws) 1) n (λ i h. new-rank ws i (omega arith))
+
+-- ---- no group is too large
+
+members-alike : (g m : ℤ) (ws : List ℤ) (n : ℕ) → 2 * n ≤ length ws → members g n ws ≡ alike false g m n ws
+unfolding alike same more one
+members-alike g m ws zero f = members-zero g ws
+members-alike g m ws (suc n) f = members-more g (room n ws (omega arith)) ∙ go (eqZ (groupAt n ws) g) ∙ ap (more (eqZ (groupAt n ws) g)) (members-alike g m ws n (omega arith))
+  where
+    go : (t : Bool) → one t (members g n ws) ≡ more t (members g n ws)
+    go true = refl
+    go false = refl
+
+groups-more : (limit : ℕ) (t : Table) {i : ℕ} {ws : List ℤ} → Room i ws → groupsWithin limit t (suc i) ws ≡ (groupsWithin limit t i ws && leb (size (groupAt i ws) t) limit)
+unfolding groupsWithin
+groups-more limit t (here {a} {b} {ws}) = and-true (leb (size a t) limit)
+groups-more limit t (next {i} {a} {b} {ws} r) =
+    ap (λ (s : Bool). leb (size a t) limit && s) (groups-more limit t r) ∙ rw groupAt-suc (sym (and-assoc (leb (size a t) limit) (groupsWithin limit t i ws) (leb (size (groupAt i ws) t) limit)))
+
+abbrev sizeAt : ℕ → Table → List ℤ → ℕ → Bool
+sizeAt limit t ws i = leb (size (groupAt i ws) t) limit
+
+groups-each : (limit : ℕ) (t : Table) (ws : List ℤ) (n : ℕ) → 2 * n ≤ length ws → groupsWithin limit t n ws ≡ each (sizeAt limit t ws) n
+unfolding groupsWithin
+groups-each limit t ws n f = each-is (sizeAt limit t ws) (λ i. groupsWithin limit t i ws) n refl (λ i h. groups-more limit t (at-place ws n i f h))
+
+-- The last pair with a key has the largest rank.
+bounded :
+    (whole : Bool) (limit : ℕ) (ws : List ℤ) (n : ℕ) → ((i : ℕ) → i < n → rankAt whole i ws ≤ limit) → (g m : ℤ) (k : ℕ) → k ≤ n → alike whole g m k ws ≤ limit
+unfolding alike rankAt more
+bounded whole limit ws n h g m zero l = omega arith
+bounded whole limit ws n h g m (suc k) l = go (same whole g m (groupAt k ws) (memberAt k ws)) refl (bounded whole limit ws n h g m k (omega arith))
+  where
+    go : (t : Bool) → same whole g m (groupAt k ws) (memberAt k ws) ≡ t → alike whole g m k ws ≤ limit → alike whole g m (suc k) ws ≤ limit
+    go true e ih = rw (alike-key whole g m (groupAt k ws) (memberAt k ws) e (suc k) ws) (h k l)
+    go false e ih = rw e ih
+
+pub groups-within : (limit : ℕ) (ws : List ℤ) (n : ℕ) → 2 * n ≤ length ws → groupsWithin limit (tableOf ws n) n ws ≡ within false limit n ws
+unfolding within size
+groups-within limit ws n f =
+    groups-each limit (tableOf ws n) ws n f ∙ both-ways (each sizes n) (each ranks n)
+    (λ e. each-true ranks n (λ i h. le-leb (rankAt false i ws) limit (omega (arith, rises i h, sized i, leb-true (size (groupAt i ws) (tableOf ws n)) limit (each-at sizes n i e h)))))
+    (λ e. each-true sizes n (λ i h. le-leb (size (groupAt i ws) (tableOf ws n)) limit
+    (omega (arith, sized i, bounded false limit ws n (λ j l. leb-true (rankAt false j ws) limit (each-at ranks n j e l)) (groupAt i ws) (memberAt i ws) n (omega arith)))))
+  where
+    sizes : ℕ → Bool
+    sizes = sizeAt limit (tableOf ws n) ws
+
+    ranks : ℕ → Bool
+    ranks i = leb (rankAt false i ws) limit
+
+    sized : (i : ℕ) → size (groupAt i ws) (tableOf ws n) ≡ alike false (groupAt i ws) (memberAt i ws) n ws
+    sized i = members-alike (groupAt i ws) (memberAt i ws) ws n f
+
+    rises : (i : ℕ) → i < n → rankAt false i ws ≤ alike false (groupAt i ws) (memberAt i ws) n ws
+    rises i h = rank-rises false i n ws h
+
+-- no group is larger than the table
+pub small-within : (whole : Bool) (limit : ℕ) (ws : List ℤ) (n : ℕ) → n ≤ limit → within whole limit n ws ≡ true
+unfolding within rankAt
+small-within whole limit ws n l =
+    each-true (λ i. leb (rankAt whole i ws) limit) n
+    (λ i h. le-leb (rankAt whole i ws) limit (omega (arith, alike-within whole (groupAt i ws) (memberAt i ws) (suc i) ws)))
+
+pub each-none : (p : ℕ → Bool) → each p 0 ≡ true
+unfolding each
+each-none p = refl
+
+-- another group is another key
+pub differ : (whole : Bool) (g m a b : ℤ) → eqZ a g ≡ false → false ≡ same whole g m a b
+unfolding same
+differ true g m a b e = rw e
+differ false g m a b e = sym e
+
+abbrev pub rankFits : Bool → ℕ → List ℤ → ℕ → Bool
+rankFits whole limit ws i = leb (rankAt whole i ws) limit
+
+-- below the next number: below this one, or this one
+pub below-next {ℓ} : {X : Type ℓ} (x n : ℕ) → (x < n → X) → (x ≡ n → X) → x < n + 1 → X
+below-next {X} x n f g h = go (ltb x n) refl
+  where
+    go : (t : Bool) → ltb x n ≡ t → X
+    go true e = f (ltb-true x n e)
+    go false e = g (omega (arith, ltb-false x n e))

@@ -1,0 +1,9 @@
+-- Laws that the proofs of several functions cite.
+pub mod Signed
+pub mod Pairs
+pub mod TakeOut
+pub mod Statements
+pub mod Keys
+pub mod TableRight
+pub mod SlotLaws
+pub mod Passes

@@ -1,0 +1,88 @@
+-- Tests of signed words: what the machine computes from their bits is what the definitions say of the numbers.
+use Prim.Native.Nat.{ℕ, suc, _-_, _<_, _^_}
+use mathlib.Core.Path.{_≡_, refl, _∙_, ap, ap₂}
+use mathlib.Core.Bool.{Bool, true, false, _&&_}
+use native.Mathlib.Omega.{arith}
+use borrow.Author.Tests.{eq-eqb, ne-eqb, eqb-true, eqb-false, ltb-true}
+use lib.Dec.{T, eqb}
+use lib.IntN.{ℤ, pos, negsuc, natAbs}
+use lib.Signed.{mag, leZ, ltZ, nonNeg}
+use mir.Val.{Fits, SFits, ofZ, toZ}
+use mir.Syntax.{w32, w64}
+use mir.Facts.{toZ-ofZ}
+use Rattle.language.specs.Basics.{eqZ}
+use Rattle.language.specs.Table.{atLeastOne}
+use Rattle.members.specs.Slots.{weightOf}
+
+negative-bits : (a b : ℕ) → a < 2147483648 → b < 2147483648 → (t : Bool) → eqb a b ≡ t → eqb (4294967296 - suc a) (4294967296 - suc b) ≡ t
+negative-bits a b ha hb true e = eq-eqb (4294967296 - suc a) (4294967296 - suc b) (ap (λ (k : ℕ). 4294967296 - suc k) (eqb-true a b e))
+negative-bits a b ha hb false e =
+    ne-eqb (4294967296 - suc a) (4294967296 - suc b) (λ q. eqb-false a b e (omega arith))
+
+pub same-bits : (a b : ℤ) → SFits w32 a → SFits w32 b → eqb (ofZ w32 a) (ofZ w32 b) ≡ eqZ a b
+unfolding eqZ
+same-bits (pos a) (pos b) fa fb = refl
+same-bits (pos a) (negsuc b) fa fb = ne-eqb a (4294967296 - suc b) (λ q. let h : a < 2147483648 = fa .sfits in let k : b < 2147483648 = fb .sfits in omega arith)
+same-bits (negsuc a) (pos b) fa fb = ne-eqb (4294967296 - suc a) b (λ q. let h : a < 2147483648 = fa .sfits in let k : b < 2147483648 = fb .sfits in omega arith)
+same-bits (negsuc a) (negsuc b) fa fb = negative-bits a b (fa .sfits) (fb .sfits) (eqb a b) refl
+
+pub from-one : (a : ℤ) → SFits w32 a → leZ (pos 1) (toZ w32 (ofZ w32 a)) ≡ atLeastOne a
+unfolding atLeastOne
+from-one a f = ap (leZ (pos 1)) (toZ-ofZ f)
+
+-- two words that the test finds equal are equal
+pub eqZ-true : (a b : ℤ) → eqZ a b ≡ true → a ≡ b
+unfolding eqZ
+eqZ-true (pos a) (pos b) e = ap pos (eqb-true a b e)
+eqZ-true (pos a) (negsuc b) e = absurd (false≢true e)
+  where
+    false≢true : false ≡ true → ⊥
+    false≢true q = let z : _≡_ {A = ℕ} 0 1 = cc in omega arith
+eqZ-true (negsuc a) (pos b) e = absurd (false≢true e)
+  where
+    false≢true : false ≡ true → ⊥
+    false≢true q = let z : _≡_ {A = ℕ} 0 1 = cc in omega arith
+eqZ-true (negsuc a) (negsuc b) e = ap negsuc (eqb-true a b e)
+
+pub eqZ-same : (a : ℤ) → eqZ a a ≡ true
+unfolding eqZ
+eqZ-same (pos a) = eq-eqb a a refl
+eqZ-same (negsuc a) = eq-eqb a a refl
+
+-- A word in a local is held as its bits.
+pub back : (z : ℤ) → mag z < 2147483648 → toZ w32 (ofZ w32 z) ≡ z
+back z h = toZ-ofZ (record { sfits = h })
+
+pub same-words : {r : Bool} {x y a b : ℤ} → r ≡ eqZ (toZ w32 (ofZ w32 x)) (toZ w32 (ofZ w32 y)) → mag x < 2147483648 → mag y < 2147483648 → x ≡ a → y ≡ b → r ≡ eqZ a b
+same-words {x} {y} e h k p q = e ∙ ap₂ eqZ (back x h ∙ p) (back y k ∙ q)
+
+pub number-words : {r : Bool} {x y a b : ℤ} → r ≡ (atLeastOne (toZ w32 (ofZ w32 x)) && atLeastOne (toZ w32 (ofZ w32 y))) → mag x < 2147483648 → mag y < 2147483648 → x ≡ a → y ≡ b → r ≡ (atLeastOne a && atLeastOne b)
+number-words {x} {y} e h k p q = e ∙ ap₂ (λ (u v : ℤ). atLeastOne u && atLeastOne v) (back x h ∙ p) (back y k ∙ q)
+
+-- ---- a word as it is hashed
+
+negative : (z : ℤ) → ltZ z (pos 0) ≡ true → 0 ≡ weightOf z
+unfolding weightOf
+negative (pos n) e = absurd (omega (arith, ltb-true n 0 e))
+negative (negsuc n) e = refl
+
+not-negative : (z : ℤ) → mag z < 2147483648 → ltZ z (pos 0) ≡ false → T (nonNeg z) × (natAbs z ≡ weightOf z) × (natAbs z < 2147483648)
+unfolding weightOf
+not-negative (pos n) h e = (tt, refl, h)
+not-negative (negsuc n) h e = absurd (let z : _≡_ {A = ℕ} 0 1 = cc in omega arith)
+
+pub negative-weight : (z : ℤ) → mag z < 2147483648 → ltZ (toZ w32 (ofZ w32 z)) (pos 0) ≡ true → 0 ≡ weightOf z
+negative-weight z h e = negative z (rw (back z h) at e)
+
+pub whole-cast :
+    (z : ℤ) → mag z < 2147483648 → ltZ (toZ w32 (ofZ w32 z)) (pos 0) ≡ false → T (nonNeg (toZ w32 (ofZ w32 z))) × Fits w64 (natAbs (toZ w32 (ofZ w32 z)))
+whole-cast z h e =
+    let n = not-negative z h (rw (back z h) at e) in
+    rw (back z h) (n .0, record { fits = omega (arith, n .2) })
+
+pub whole-weight :
+    (z : ℤ) → mag z < 2147483648 → ltZ (toZ w32 (ofZ w32 z)) (pos 0) ≡ false →
+    (natAbs (toZ w32 (ofZ w32 z)) ≡ weightOf z) × (natAbs (toZ w32 (ofZ w32 z)) < 2147483648)
+whole-weight z h e =
+    let n = not-negative z h (rw (back z h) at e) in
+    rw (back z h) (n .1, n .2)

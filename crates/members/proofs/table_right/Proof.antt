@@ -1,0 +1,81 @@
+-- `table_right` meets its contract.
+use mathlib.Core.Path.{_≡_, sym, _∙_}
+use mathlib.Core.Bool.{true, false, _&&_}
+use borrow.Author.Tests.{not-true, not-false}
+use Rattle.language.specs.Table.{numbersRight, right}
+use Rattle.members.specs.Outcomes.{tableOf}
+use Rattle.members.specs.Keys.{within}
+use Rattle.members.proofs.Keys.{small-within}
+use Rattle.members.proofs.TableRight.{right-odd, right-short, right-is}
+use borrow.Author.Needs.{needs}
+use Rattle.members.proofs.table_right.Statement.{statement}
+use Rattle.members.proofs.table_right.Tie as tie
+
+-- what is left to be tested once the length is even and the count fits
+rest :
+    (c : tie.Else2) → let s = c .before .before in let ws = s .args .table .now in let n = s .args .count in
+    right (s .args .limit) (tableOf ws n) ≡ (numbersRight n ws && within true 1 n ws && within false (s .args .limit) n ws)
+rest c =
+    let s = c .before .before in
+    right-is (s .args .limit) (s .args .table .now) (s .args .count) (c .before .if1 .left) (c .if2 .left)
+
+returns : tie.Need-returns
+returns c = sym (right-odd (c .before .args .limit) (c .before .args .table .now) (c .before .args .count) (c .if1 .taken))
+
+returns-2 : tie.Need-returns-2
+returns-2 c =
+    let s = c .before .before in
+    sym (right-short (s .args .limit) (s .args .table .now) (s .args .count) (c .before .if1 .left) (c .if2 .taken))
+
+numbers-right-requires : tie.Need-numbers-right-requires
+numbers-right-requires c κs = search needs
+
+returns-3 : tie.Need-returns-3
+returns-3 c =
+    let k = c .before in
+    rw (rest (k .before), sym (k .numbers-right .ensures) ∙ not-true _ (c .if3 .taken))
+
+few-alike-requires : tie.Need-few-alike-requires
+few-alike-requires c κs = search needs
+
+returns-4 : tie.Need-returns-4
+returns-4 c =
+    let f = c .before in
+    let d = f .before in
+    rw (rest (d .before .before), sym (d .before .numbers-right .ensures) ∙ not-false _ (d .if3 .left), sym (f .few-alike .ensures) ∙ not-true _ (c .if4 .taken))
+
+returns-5 : tie.Need-returns-5
+returns-5 c =
+    let f = c .before .before in
+    let d = f .before in
+    let s = d .before .before .before .before in
+    rw (
+      rest (d .before .before),
+      sym (d .before .numbers-right .ensures) ∙ not-false _ (d .if3 .left),
+      sym (f .few-alike .ensures) ∙ not-false _ (c .before .if4 .left),
+      small-within false (s .args .limit) (s .args .table .now) (s .args .count) (c .if5 .taken),
+    )
+
+few-alike-requires-2 : tie.Need-few-alike-requires-2
+few-alike-requires-2 c κs = search needs
+
+returns-6 : tie.Need-returns-6
+returns-6 c =
+    let f = c .before .before .before in
+    let d = f .before in
+    rw (rest (d .before .before), sym (d .before .numbers-right .ensures) ∙ not-false _ (d .if3 .left), sym (f .few-alike .ensures) ∙ not-false _ (c .before .before .if4 .left))
+    (c .few-alike2 .ensures)
+
+pub table-right-spec : {M : Type 1} → statement M
+table-right-spec =
+    tie.close
+    (tie.spec
+    returns
+    returns-2
+    numbers-right-requires
+    returns-3
+    few-alike-requires
+    returns-4
+    returns-5
+    few-alike-requires-2
+    returns-6)

@@ -1,0 +1,5 @@
+-- What the contracts of the membership table cite besides the definitions of document 01.
+pub mod Places
+pub mod Outcomes
+pub mod Keys
+pub mod Slots

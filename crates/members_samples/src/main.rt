@@ -1,0 +1,173 @@
+// The membership table on small cases, each result in plain words.
+use members::Change;
+use members::Query;
+
+fn say(text: &[u8]) {
+    io::write_all(1, text);
+}
+
+fn word(number: i32) {
+    if number < 0 {
+        say(b"below 0");
+        return;
+    }
+    io::print_decimal(1, number as u64);
+}
+
+fn next_word(number: i32) {
+    say(b" ");
+    word(number);
+}
+
+fn all_words(table: &[i32]) {
+    let mut i = 0;
+    while i < table.len() {
+        next_word(table[i]);
+        i += 1;
+    }
+}
+
+fn words(table: &[i32]) {
+    say(b"  words:");
+    all_words(table);
+    say(b"\n");
+}
+
+fn right(name: &[u8], table: &[i32], count: usize, limit: u32) {
+    say(name);
+    if members::table_right(table, count, limit) {
+        say(b": right\n");
+    } else {
+        say(b": not right\n");
+    }
+}
+
+fn change(c: Change) {
+    match c {
+        Change::Done(count) => {
+            say(b": done, pairs ");
+            io::print_decimal(1, count as u64);
+        }
+        Change::Stopped(cause) => {
+            say(b": stopped by cause ");
+            io::print_decimal(1, language::stop_number(cause) as u64);
+        }
+    }
+    say(b"\n");
+}
+
+fn add(name: &[u8], table: &mut [i32], count: usize, limit: u32, group: i32, member: i32) {
+    say(name);
+    change(members::add_pair(table, count, limit, group, member));
+    words(table);
+}
+
+fn remove(name: &[u8], table: &mut [i32], count: usize, group: i32, member: i32) {
+    say(name);
+    if table.len() / 2 < count {
+        return;
+    }
+    change(members::remove_pair(table, count, group, member));
+    words(table);
+}
+
+fn query(name: &[u8], table: &[i32], count: usize, group: i32, member: i32) {
+    say(name);
+    match members::query_pair(table, count, group, member) {
+        Query::Value(value) => {
+            say(b": ");
+            word(value);
+        }
+        Query::Halted(cause) => {
+            say(b": stopped by cause ");
+            io::print_decimal(1, language::stop_number(cause) as u64);
+        }
+    }
+    say(b"\n");
+}
+
+fn lengths_and_counts() {
+    let mut none = [9, 9];
+    right(b"no words, count 0", &none[..0], 0, 1);
+    right(b"no words, count 1", &none[..0], 1, 1);
+    add(b"no words, AD 5 7", &mut none[..0], 0, 1, 5, 7);
+    query(b"no words, QY 5 7", &none[..0], 0, 5, 7);
+    right(b"odd length", &[1, 2, 3], 1, 1);
+    right(b"count past the end", &[1, 2, 3, 4], 3, 3);
+    right(b"count at the end", &[1, 2, 3, 4], 2, 3);
+}
+
+fn one_place() {
+    let mut table = [0, 0];
+    right(b"one place, free", &table, 0, 1);
+    add(b"one place, AD 5 7", &mut table, 0, 1, 5, 7);
+    add(b"one place, AD 5 7 again", &mut table, 1, 1, 5, 7);
+    add(b"one place, AD 5 8 with G 1", &mut table, 1, 1, 5, 8);
+    add(b"one place, AD 5 8 with G 2", &mut table, 1, 2, 5, 8);
+    query(b"one place, QY 5 7", &table, 1, 5, 7);
+    query(b"one place, QY 5 8", &table, 1, 5, 8);
+    remove(b"one place, RM 5 8, absent", &mut table, 1, 5, 8);
+    remove(b"one place, RM 5 7, the only pair", &mut table, 1, 5, 7);
+}
+
+fn pairs_and_groups() {
+    let twice = [5, 7, 6, 1, 5, 7];
+    right(b"a pair at the first and the last place", &twice, 3, 9);
+    right(b"the same without the last place", &twice, 2, 9);
+    let group = [5, 1, 5, 2, 5, 3];
+    right(b"a group of 3 with G 3", &group, 3, 3);
+    right(b"a group of 3 with G 2", &group, 3, 2);
+    let mut table = [5, 1, 5, 2, 6, 1, 0, 0];
+    add(b"AD 5 3 to a group of 2 with G 2", &mut table, 3, 2, 5, 3);
+    add(b"AD 5 3 to a group of 2 with G 3", &mut table, 3, 3, 5, 3);
+}
+
+fn numbers() {
+    right(b"group 0", &[0, 1], 1, 1);
+    right(b"member 0", &[1, 0], 1, 1);
+    right(b"group -1", &[-1, 1], 1, 1);
+    right(b"a free place is not looked at", &[1, 1, -1, 0], 1, 1);
+    right(
+        b"group and member 2147483647",
+        &[2147483647, 2147483647],
+        1,
+        1,
+    );
+    let mut table = [0, 0];
+    add(b"AD 0 7", &mut table, 0, 1, 0, 7);
+    add(b"AD 7 -1", &mut table, 0, 1, 7, -1);
+    add(
+        b"AD 2147483647 2147483647",
+        &mut table,
+        0,
+        1,
+        2147483647,
+        2147483647,
+    );
+    remove(b"RM 0 7", &mut table, 1, 0, 7);
+    query(b"QY 7 -1", &table, 1, 7, -1);
+    query(
+        b"QY 2147483647 2147483647",
+        &table,
+        1,
+        2147483647,
+        2147483647,
+    );
+}
+
+fn removals() {
+    let mut first = [1, 1, 2, 2, 3, 3, 9, 9];
+    remove(b"RM of the first of 3", &mut first, 3, 1, 1);
+    let mut last = [1, 1, 2, 2, 3, 3, 9, 9];
+    remove(b"RM of the last of 3", &mut last, 3, 3, 3);
+    let mut middle = [1, 1, 2, 2, 3, 3, 9, 9];
+    remove(b"RM of the middle of 3", &mut middle, 3, 2, 2);
+}
+
+fn main() {
+    lengths_and_counts();
+    one_place();
+    pairs_and_groups();
+    numbers();
+    removals();
+}
