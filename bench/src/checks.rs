@@ -24,13 +24,13 @@ pub fn rows() -> Vec<Row> {
 
 fn row(workload: &'static str, script: Vec<u8>) -> Row {
     assert_eq!(reference::fast::check(&script), Ok(()), "{workload}");
-    assert_eq!(binding::check(&script), [0, 0], "{workload}");
+    assert_eq!(binding::enrol::check(&script), [0, 0], "{workload}");
     let same = script.clone();
     Row {
         workload,
         size: format!("{} bytes", script.len()),
         library: Box::new(move || {
-            black_box(binding::check(black_box(&script)));
+            black_box(binding::enrol::check(black_box(&script)));
         }),
         reference: Box::new(move || {
             let _ = black_box(reference::fast::check(black_box(&same)));

@@ -2,7 +2,9 @@
 
 use std::time::{Duration, Instant};
 
-const ROUNDS: usize = 200;
+/// As many rounds as fit into the time of a row, but not fewer or more than these.
+const ROUNDS: (usize, usize) = (7, 200);
+const ROW: Duration = Duration::from_secs(2);
 /// A batch of calls takes about this long, so that reading the clock costs nothing.
 const BATCH: Duration = Duration::from_millis(1);
 
@@ -16,7 +18,7 @@ pub struct Row {
 }
 
 /// Times of one call.
-pub struct Measured {
+struct Measured {
     workload: &'static str,
     size: String,
     library: Duration,
@@ -25,10 +27,11 @@ pub struct Measured {
 
 impl Row {
     /// Best of several rounds in which the two take turns, so that both meet the same disturbances.
-    pub fn measure(mut self) -> Measured {
+    fn measure(mut self) -> Measured {
         let calls = (calls_in_a_batch(&mut self.library), calls_in_a_batch(&mut self.reference));
         let (mut library, mut reference) = (Duration::MAX, Duration::MAX);
-        for _ in 0..ROUNDS {
+        let start = Instant::now();
+        for _ in (0..ROUNDS.1).take_while(|&round| round < ROUNDS.0 || start.elapsed() < ROW) {
             library = library.min(time(&mut self.library, calls.0));
             reference = reference.min(time(&mut self.reference, calls.1));
         }
@@ -53,12 +56,18 @@ fn time(work: &mut Work, calls: u32) -> Duration {
     start.elapsed() / calls
 }
 
+pub fn print(rows: impl IntoIterator<Item = Row>) {
+    for row in rows {
+        row.measure().print();
+    }
+}
+
 pub fn print_heading() {
     print_line("workload", "size", "library", "reference", "ratio");
 }
 
 impl Measured {
-    pub fn print(&self) {
+    fn print(&self) {
         let ratio = self.library.as_secs_f64() / self.reference.as_secs_f64();
         print_line(
             self.workload,

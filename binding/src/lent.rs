@@ -35,17 +35,17 @@ impl<T: Copy + PartialEq> Lent<T> {
         self.words.as_mut_ptr().wrapping_add(GUARD)
     }
 
-    pub fn len(&self) -> usize {
+    pub fn length(&self) -> usize {
         self.words.len() - 2 * GUARD
     }
 
     pub fn contents(&self) -> &[T] {
-        &self.words[GUARD..][..self.len()]
+        &self.words[GUARD..][..self.length()]
     }
 
     /// Of a slice that may be written: neither guard has changed.
     pub fn guards_hold(&self) -> Result<(), Strayed> {
-        let within = GUARD..GUARD + self.len();
+        let within = GUARD..GUARD + self.length();
         self.changed(|word| !within.contains(&word))
     }
 

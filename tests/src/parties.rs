@@ -34,9 +34,9 @@ pub fn fast() -> Party {
 }
 
 /// The proved library's script check, through its C interface.
-#[cfg(feature = "library")]
+#[cfg(feature = "enrol")]
 pub fn library_check() -> Check {
-    Box::new(|script| match binding::guarded::check(script) {
+    Box::new(|script| match binding::enrol::guarded_check(script) {
         Ok([number, offset]) => Ok((number, offset)),
         Err(strayed) => Err(strayed.to_string()),
     })

@@ -26,7 +26,7 @@ fn checks(script: &[u8]) {
     for party in [copy_rule(), fast()] {
         say(party.name, (party.check)(script));
     }
-    #[cfg(feature = "library")]
+    #[cfg(feature = "enrol")]
     say("library", differential::parties::library_check()(script));
 }
 
