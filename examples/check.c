@@ -51,7 +51,8 @@ static int say(const uint8_t *script, size_t length)
         printf("accepted: %zu bytes\n", length);
         return 0;
     }
-    printf("refused: %" PRIu64 ", %s, at byte %" PRIu64 "\n", answer[0], causes[answer[0]], answer[1]);
+    const char *cause = answer[0] < sizeof causes / sizeof causes[0] ? causes[answer[0]] : "a cause not known here";
+    printf("refused: %" PRIu64 ", %s, at byte %" PRIu64 "\n", answer[0], cause, answer[1]);
     return 1;
 }
 
