@@ -2,12 +2,12 @@
 use Prim.Native.Nat.{ℕ, zero, suc, _+_, _*_, _<_, _≤_}
 use mathlib.Core.Path.{_≡_, refl, sym, _∙_, ap, ap₂}
 use mathlib.Core.Bool.{Bool, true, false, not, _&&_, _||_, and-true, and-false, and-assoc, or-true, or-false}
-use mathlib.Core.List.{List, [], _∷_}
+use mathlib.Core.List.{List, _∷_}
 use mathlib.Core.Option.{Option, none, some}
 use native.Mathlib.Omega.{arith}
-use borrow.Author.Tests.{le-leb, lt-leb, leb-true, leb-false, ltb-true, ltb-false, lt-ltb, le-ltb}
+use borrow.Author.Tests.{le-leb, lt-leb, leb-true, leb-false, ltb-true, ltb-false, lt-ltb}
 use lib.Dec.{leb, ltb}
-use lib.IntN.{ℤ, pos}
+use lib.IntN.{ℤ}
 use lib.ListN.{length}
 use Rattle.language.specs.Basics.{eqZ}
 use Rattle.language.specs.Table.{Table, find, isSome, members, size, atLeastOne, numbersRight, noneTwice, groupsWithin}
@@ -21,6 +21,18 @@ pub clash {ℓ} : {X : Type ℓ} {t : Bool} → t ≡ true → t ≡ false → X
 clash p q = absurd (let z : _≡_ {A = ℕ} 0 1 = cc in omega arith)
 
 -- ---- each
+
+pub each-none : (p : ℕ → Bool) → each p 0 ≡ true
+unfolding each
+each-none p = refl
+
+-- below the next number: below this one, or this one
+pub below-next {ℓ} : {X : Type ℓ} (x n : ℕ) → (x < n → X) → (x ≡ n → X) → x < n + 1 → X
+below-next {X} x n f g h = go (ltb x n) refl
+  where
+    go : (t : Bool) → ltb x n ≡ t → X
+    go true e = f (ltb-true x n e)
+    go false e = g (omega (arith, ltb-false x n e))
 
 module _ (p : ℕ → Bool) where
   pub each-false : (n i : ℕ) → i < n → p i ≡ false → each p n ≡ false
@@ -136,6 +148,12 @@ pub both : (s t : Bool) → (s && t) ≡ true → (s ≡ true) × (t ≡ true)
 both true t e = (refl, e)
 both false t e = clash e refl
 
+-- another group is another key
+pub differ : (whole : Bool) (g m a b : ℤ) → eqZ a g ≡ false → false ≡ same whole g m a b
+unfolding same
+differ true g m a b e = rw e
+differ false g m a b e = sym e
+
 -- pairs with one key have it with the same pairs
 pub same-key : (whole : Bool) (g m a b : ℤ) → same whole g m a b ≡ true → (x y : ℤ) → same whole g m x y ≡ same whole a b x y
 unfolding same
@@ -184,6 +202,9 @@ pub alike-within : (whole : Bool) (g m : ℤ) (k : ℕ) (ws : List ℤ) → alik
 unfolding alike
 alike-within whole g m zero ws = omega arith
 alike-within whole g m (suc k) ws = more-by-one (same whole g m (groupAt k ws) (memberAt k ws)) (alike-within whole g m k ws)
+
+abbrev pub rankFits : Bool → ℕ → List ℤ → ℕ → Bool
+rankFits whole limit ws i = leb (rankAt whole i ws) limit
 
 pub rank-next : (whole : Bool) (i : ℕ) (ws : List ℤ) → rankAt whole i ws ≡ suc (alike whole (groupAt i ws) (memberAt i ws) i ws)
 unfolding rankAt alike more
@@ -278,24 +299,3 @@ unfolding within rankAt
 small-within whole limit ws n l =
     each-true (λ i. leb (rankAt whole i ws) limit) n
     (λ i h. le-leb (rankAt whole i ws) limit (omega (arith, alike-within whole (groupAt i ws) (memberAt i ws) (suc i) ws)))
-
-pub each-none : (p : ℕ → Bool) → each p 0 ≡ true
-unfolding each
-each-none p = refl
-
--- another group is another key
-pub differ : (whole : Bool) (g m a b : ℤ) → eqZ a g ≡ false → false ≡ same whole g m a b
-unfolding same
-differ true g m a b e = rw e
-differ false g m a b e = sym e
-
-abbrev pub rankFits : Bool → ℕ → List ℤ → ℕ → Bool
-rankFits whole limit ws i = leb (rankAt whole i ws) limit
-
--- below the next number: below this one, or this one
-pub below-next {ℓ} : {X : Type ℓ} (x n : ℕ) → (x < n → X) → (x ≡ n → X) → x < n + 1 → X
-below-next {X} x n f g h = go (ltb x n) refl
-  where
-    go : (t : Bool) → ltb x n ≡ t → X
-    go true e = f (ltb-true x n e)
-    go false e = g (omega (arith, ltb-false x n e))

@@ -7,3 +7,4 @@ pub mod Keys
 pub mod TableRight
 pub mod SlotLaws
 pub mod Passes
+pub mod Fits

@@ -1,7 +1,7 @@
 -- The slots of a pass over a table: the laws of counting by key at the keys of pairs.
-use Prim.Native.Nat.{ℕ, zero, suc, _+_, _*_, _-_, _/_, _%_, _≤_, _<_}
-use mathlib.Core.Path.{_≡_, refl, sym, _∙_, ap, subst}
-use mathlib.Core.Bool.{Bool, true, false, _&&_}
+use Prim.Native.Nat.{ℕ, zero, suc, _*_, _/_, _%_, _≤_, _<_}
+use mathlib.Core.Path.{_≡_, refl, sym, _∙_, ap}
+use mathlib.Core.Bool.{Bool, true, false}
 use mathlib.Core.List.{List}
 use native.Mathlib.Nat.{mod-lt, div-lt-iff-lt-mul, mul-lt-mul-of-pos-right}
 use native.Mathlib.Omega.{arith}
@@ -12,8 +12,8 @@ use lib.Seq.{getD-set-same, getD-set-other, set-out}
 use borrow.Author.Tests.{ltb-true, ltb-false, eqb-true, eqb-false}
 use Rattle.language.specs.Basics.{eqZ}
 use Rattle.members.specs.Places.{groupAt, memberAt}
-use Rattle.members.specs.Keys.{same, sameAt, more, alike, rankAt}
-use Rattle.members.specs.Slots.{weightOf, mixed, hashAt, classOf, classAt, slotAt, Passed, EndsEmpty, EndsHeld, Kept, Good}
+use Rattle.members.specs.Keys.{same, sameAt, alike, rankAt}
+use Rattle.members.specs.Slots.{mixed, hashAt, classOf, classAt, slotAt, Passed, EndsEmpty, EndsHeld, Good}
 use Rattle.members.proofs.Signed.{eqZ-true}
 use Rattle.members.proofs.Keys.{both, same-self, same-key, alike-key, alike-hit, alike-miss, alike-none, rank-next}
 use Rattle.members.proofs.SlotLaws as laws

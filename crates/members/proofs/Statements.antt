@@ -6,7 +6,6 @@ use mathlib.Core.List.{List}
 use mathlib.Core.Option.{Option, none, some}
 use native.Mathlib.Omega.{arith}
 use borrow.Author.Tests.{le-leb, lt-leb, lt-ltb, le-ltb}
-use lib.Dec.{leb}
 use lib.IntN.{ℤ, pos}
 use lib.ListN.{length}
 use mir.Val.{SFits, toZ, ofZ}
@@ -15,7 +14,7 @@ use mir.Facts.{toZ-ofZ}
 use Rattle.language.specs.Table.{Table, find, isSome, holds, members, size, atLeastOne, full, add, remove, takeOut, fewer}
 use Rattle.language.specs.declared.Stop.the-variants.{NumberBelowOne, GroupFull, TableFull}
 use Rattle.members.specs.Places.{placed}
-use Rattle.members.specs.Outcomes.{tableOf, Outcome, leaves, halts, Asked, gives, refuses, added, removed, queried}
+use Rattle.members.specs.Outcomes.{tableOf, leaves, halts, gives, refuses, added, removed, queried}
 use Rattle.members.specs.declared.Place.{Place}
 use Rattle.members.specs.declared.Place.the-variants.{At, Absent}
 

@@ -1,14 +1,13 @@
 -- A right table: from the tests that the code made to the definition.
 use Prim.Native.Nat.{ℕ, _*_, _/_, _%_, _<_, _≤_}
-use mathlib.Core.Path.{_≡_, refl, sym, _∙_, ap}
-use mathlib.Core.Bool.{Bool, true, false, _&&_}
+use mathlib.Core.Path.{_≡_}
+use mathlib.Core.Bool.{true, false, _&&_}
 use mathlib.Core.List.{List}
 use native.Mathlib.Omega.{arith}
 use borrow.Author.Tests.{ne-eqb, eq-eqb, le-leb, lt-leb}
-use lib.Dec.{eqb, leb}
 use lib.IntN.{ℤ}
 use lib.ListN.{length}
-use Rattle.language.specs.Table.{Table, numbersRight, noneTwice, groupsWithin, right}
+use Rattle.language.specs.Table.{numbersRight, right}
 use Rattle.members.specs.Outcomes.{tableOf}
 use Rattle.members.specs.Keys.{within}
 use Rattle.members.proofs.Keys.{twice-within, groups-within}

@@ -12,7 +12,7 @@ use Rattle.language.specs.declared.Stop.the-variants.{NumberBelowOne, GroupFull
 use Rattle.members.specs.declared.Change.{Change}
 use Rattle.members.specs.declared.Change.the-variants.{Done as Count, Stopped}
 use Rattle.members.specs.declared.Query.{Query}
-use Rattle.members.specs.declared.Query.the-variants.{Value, Halted}
+use Rattle.members.specs.declared.Query.the-variants.{Value, Stopped as Refused}
 
 abbrev pub tableOf : List ℤ → ℕ → Table
 tableOf ws k = record { words = ws; used = k }
@@ -60,7 +60,7 @@ wordsAfter ws (halts c) = ws
 
 unfoldable pub valueOf : Asked → Query
 valueOf (gives z) = Value z
-valueOf (refuses c) = Halted c
+valueOf (refuses c) = Refused c
 
 -- ---- as the machine goes on
 

@@ -29,7 +29,7 @@ pub enum Change {
 // What QY comes to: the value that it stores, or the cause to stop.
 pub enum Query {
     Value(i32),
-    Halted(Stop),
+    Stopped(Stop),
 }
 
 // How many pairs are read: `count`, or as many as `len` words hold.
@@ -184,7 +184,7 @@ pub fn query_pair(table: &[i32], count: usize, group: i32, member: i32) -> Query
     ensures { λ r. ⌜ r ≡ valueOf (queried group member (tableOf (now (table .entry)) count)) ⌝ }
 {
     if !numbers_fit(group, member) {
-        return Query::Halted(Stop::NumberBelowOne);
+        return Query::Stopped(Stop::NumberBelowOne);
     }
     if let Place::At(_) = place_of(table, count, group, member) {
         return Query::Value(1);

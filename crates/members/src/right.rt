@@ -28,8 +28,8 @@ pub fn few_alike(table: &[i32], count: usize, whole: bool, limit: u32) -> bool
     requires { ⌜ 2 * count ≤ length (now table) ⌝ }
     ensures { λ r. ⌜ r ≡ within whole limit count (now (table .entry)) ⌝ }
 {
-    // Half of the slots of a pass stay empty.
-    let classes = (count / 8192) as u64 + 1;
+    // Some 10,000 keys to the 16,384 slots of a pass: few windows fill up.
+    let classes = (count / 10240) as u64 + 1;
     let mut class: u64 = 0;
     while class < classes {
         if !pass(table, count, whole, limit, class, classes) {

@@ -78,7 +78,7 @@ fn query(name: &[u8], table: &[i32], count: usize, group: i32, member: i32) {
             say(b": ");
             word(value);
         }
-        Query::Halted(cause) => {
+        Query::Stopped(cause) => {
             say(b": stopped by cause ");
             io::print_decimal(1, language::stop_number(cause) as u64);
         }

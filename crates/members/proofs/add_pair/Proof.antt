@@ -2,17 +2,16 @@
 use borrow.Author.Needs.{needs}
 use Rattle.members.proofs.add_pair.Statement.{statement}
 use Rattle.members.proofs.add_pair.Tie as tie
-use Prim.Native.Nat.{_≤_, _<_, _/_}
+use Prim.Native.Nat.{_≤_, _<_}
 use mathlib.Core.Path.{_≡_, sym, _∙_, ap}
 use mathlib.Core.Bool.{Bool, true, _&&_}
 use mathlib.Core.Option.{none}
 use native.Mathlib.Numerals.{add-one}
 use native.Mathlib.Omega.{arith}
 use borrow.Author.Tests.{not-true, not-false}
-use lib.ListN.{length}
 use mir.Facts.{toZ-ofZ}
 use Rattle.language.specs.Table.{Table, find, size, atLeastOne, add}
-use Rattle.members.specs.Outcomes.{Outcome, tableOf, added, changeOf, wordsAfter}
+use Rattle.members.specs.Outcomes.{tableOf, changeOf, wordsAfter}
 use Rattle.members.proofs.Statements.{fits-read, present, absent, size-read, added-below, added-present, added-crowded, added-full, added-new}
 
 abbrev lent : tie.Start → Table

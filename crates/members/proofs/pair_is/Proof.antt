@@ -1,7 +1,6 @@
 -- `pair_is` meets its contract: the member is read only where the group is the same.
 use borrow.Author.Needs.{needs}
 use mathlib.Core.Path.{_≡_, refl, sym, _∙_}
-use mathlib.Core.Bool.{true, false}
 use Rattle.language.specs.Basics.{eqZ}
 use Rattle.members.specs.Places.{groupAt}
 use Rattle.members.proofs.pair_is.Statement.{statement}

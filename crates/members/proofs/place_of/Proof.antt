@@ -1,7 +1,6 @@
 -- `place_of` meets its contract. The loop's invariant: the pair is not found among those passed.
 use Prim.Native.Nat.{ℕ, _≤_, _-_, _/_, min}
 use mathlib.Core.Path.{_≡_, refl, sym, _∙_, ap}
-use mathlib.Core.Bool.{true, false}
 use mathlib.Core.List.{List}
 use mathlib.Core.Option.{Option, none}
 use native.Mathlib.Numerals.{add-one}
@@ -15,7 +14,7 @@ use Rattle.language.specs.Table.{find}
 use Rattle.members.specs.Places.{placed}
 use Rattle.members.proofs.place_of.Statement.{statement}
 use Rattle.members.proofs.place_of.Tie as tie
-use Rattle.members.proofs.Pairs.{room, pairIs, find-zero, find-fresh, find-hit, find-clamped}
+use Rattle.members.proofs.Pairs.{room, find-zero, find-fresh, find-hit, find-clamped}
 
 abbrev Inv-loop : tie.InvT-loop
 Inv-loop table count group member n i₀ i = (i ≤ n) × (find (toZ w32 group) (toZ w32 member) i table ≡ none)

@@ -1,5 +1,5 @@
 -- `take_out` meets its contract. The loop's invariant: taking out the pair at i, of the words as they are, gives what is to come out.
-use Prim.Native.Nat.{suc, _<_, _≤_, _-_}
+use Prim.Native.Nat.{suc, _<_, _-_}
 use mathlib.Core.Path.{_≡_, refl, sym, _∙_}
 use native.Mathlib.Numerals.{add-one}
 use native.Mathlib.Omega.{arith}

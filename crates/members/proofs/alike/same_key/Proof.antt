@@ -1,7 +1,5 @@
 -- `same_key` meets its contract.
 use mathlib.Core.Path.{_≡_, sym, _∙_}
-use mathlib.Core.Bool.{Bool, true, false}
-use lib.IntN.{ℤ}
 use Rattle.language.specs.Basics.{eqZ}
 use Rattle.members.specs.Places.{groupAt}
 use Rattle.members.specs.Keys.{same, sameAt}

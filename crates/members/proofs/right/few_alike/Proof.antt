@@ -1,6 +1,6 @@
 -- `few_alike` meets its contract. The loop's invariant: the ranks of the classes passed are within the limit.
 use Prim.Native.Nat.{ℕ, _≤_, _<_, _-_, _/_, _+_}
-use mathlib.Core.Path.{_≡_, sym}
+use mathlib.Core.Path.{sym}
 use native.Mathlib.Omega.{arith}
 use borrow.Author.Tests.{not-true, not-false, le-leb}
 use Rattle.members.specs.Keys.{rankAt, within}
@@ -40,7 +40,7 @@ loop-again c =
     let k = c .before in
     let l = k .before .before in
     let s = l .before in
-    (omega arith, λ j h b. below-next (classAt (s .args .whole) (s .args .table .now) (s .args .count / 8192 + 1) j) (l .loop .class) (l .loop .inv .1 j h) (k .pass .ensures .0 (not-false _ (c .if1 .left)) j h) b)
+    (omega arith, λ j h b. below-next (classAt (s .args .whole) (s .args .table .now) (s .args .count / 10240 + 1) j) (l .loop .class) (l .loop .inv .1 j h) (k .pass .ensures .0 (not-false _ (c .if1 .left)) j h) b)
 
 returns-2 : tie.Need-returns-2 Inv-loop μ-loop
 unfolding within
@@ -48,7 +48,7 @@ returns-2 c =
     let l = c .before in
     let s = l .before in
     sym (each-true (rankFits (s .args .whole) (s .args .limit) (s .args .table .now)) (s .args .count)
-    (λ j h. le-leb _ _ (l .loop .inv .1 j h (omega (arith, class-below (s .args .whole) (s .args .table .now) (s .args .count / 8192 + 1) j (omega arith))))))
+    (λ j h. le-leb _ _ (l .loop .inv .1 j h (omega (arith, class-below (s .args .whole) (s .args .table .now) (s .args .count / 10240 + 1) j (omega arith))))))
 
 pub few-alike-spec : {M : Type 1} → statement M
 few-alike-spec =

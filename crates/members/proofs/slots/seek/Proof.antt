@@ -4,7 +4,7 @@ use mathlib.Core.Path.{refl, sym, _∙_}
 use native.Mathlib.Omega.{arith}
 use borrow.Author.Count.{below-more}
 use Rattle.members.specs.Keys.{sameAt}
-use Rattle.members.specs.Slots.{Passed, Sought}
+use Rattle.members.specs.Slots.{Passed}
 use Rattle.members.proofs.slots.seek.Statement.{statement}
 use Rattle.members.proofs.slots.seek.Tie as tie
 

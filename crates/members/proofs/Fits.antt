@@ -1,0 +1,101 @@
+-- A count that fits its words still fits after AD and RM: what RM's `requires` asks of the next statement's caller.
+use Prim.Native.Nat.{ℕ, zero, suc, _*_, _≤_, _%_}
+use mathlib.Core.Path.{_≡_, refl, sym, ap}
+use mathlib.Core.Bool.{Bool, true, false, _&&_}
+use mathlib.Core.List.{List, [], _∷_}
+use mathlib.Core.Option.{Option, none, some}
+use native.Mathlib.Omega.{arith}
+use borrow.Author.Tests.{ltb-false, leb-true}
+use lib.Dec.{eqb, leb}
+use lib.IntN.{ℤ}
+use lib.ListN.{length, length-append, length-take, length-drop, length-set}
+use Rattle.language.specs.Table.{Table, numbersRight, noneTwice, groupsWithin, right, find, holds, size, atLeastOne, full, add, remove, takeOut, fewer}
+use Rattle.language.specs.declared.Stop.{Stop}
+use Rattle.language.specs.declared.Stop.the-variants.{NumberBelowOne, GroupFull, TableFull}
+use Rattle.members.specs.declared.Change.the-variants.{Done}
+use Rattle.members.specs.Outcomes.{tableOf, Outcome, leaves, halts, added, removed, changeOf, wordsAfter}
+use Rattle.members.proofs.Keys.{both}
+
+-- a right table fits
+pub right-fits : (limit : ℕ) (t : Table) → right limit t ≡ true → 2 * t .used ≤ length (t .words)
+unfolding right
+right-fits limit t e =
+    let a = eqb (length (t .words) % 2) 0 in
+    let b = leb (2 * t .used) (length (t .words)) in
+    let n = numbersRight (t .used) (t .words) in
+    let d = noneTwice (t .used) (t .words) in
+    let g = groupsWithin limit t (t .used) (t .words) in
+    leb-true (2 * t .used) (length (t .words)) (both a b (both (a && b) n (both (a && b && n) d (both (a && b && n && d) g e .0) .0) .0) .1)
+
+pub takeOut-length : (i k : ℕ) (ws : List ℤ) → length (takeOut i k ws) ≡ length ws
+unfolding takeOut
+takeOut-length i zero ws = refl
+takeOut-length i (suc k) [] = refl
+takeOut-length i (suc k) (a ∷ []) = refl
+takeOut-length zero (suc k) (a ∷ b ∷ ws) = simp (length-append, length-take, length-drop) (omega arith)
+takeOut-length (suc i) (suc k) (a ∷ b ∷ ws) = ap (λ (n : ℕ). suc (suc n)) (takeOut-length i k ws)
+
+-- the table that an outcome leaves, of one that fits, fits
+abbrev pub Keeps : Table → Outcome → Type 0
+Keeps t o = (u : Table) → o ≡ leaves u → (2 * u .used ≤ length (u .words)) × (length (u .words) ≡ length (t .words))
+
+module _ (t : Table) (fit : 2 * t .used ≤ length (t .words)) where
+  keeps-cause : (o : Outcome) {c : Stop} → o ≡ halts c → Keeps t o
+  keeps-cause o e u q = absurd (let z : _≡_ {A = ℕ} 0 1 = cc in omega arith)
+
+  keeps-table : (o : Outcome) (v : Table) → o ≡ leaves v → 2 * v .used ≤ length (v .words) → length (v .words) ≡ length (t .words) → Keeps t o
+  keeps-table o v e f l u q =
+      let z : v ≡ u = cc in
+      (rw (sym z) f, rw (sym z) l)
+
+  full-not : full t ≡ false → 2 * suc (t .used) ≤ length (t .words)
+  unfolding full
+  full-not e = ltb-false (length (t .words)) (2 * suc (t .used)) e
+
+  new-length : (g m : ℤ) → length (add g m t .words) ≡ length (t .words)
+  unfolding add
+  new-length g m = simp length-set
+
+  new-count : (g m : ℤ) → add g m t .used ≡ suc (t .used)
+  unfolding add
+  new-count g m = refl
+
+  pub added-keeps : (limit : ℕ) (g m : ℤ) → Keeps t (added limit g m t)
+  unfolding added
+  added-keeps limit g m = go (atLeastOne g && atLeastOne m) (holds g m t) (leb limit (size g t)) (full t) refl refl refl refl
+    where
+      go :
+          (a b c d : Bool) → (atLeastOne g && atLeastOne m) ≡ a → holds g m t ≡ b → leb limit (size g t) ≡ c → full t ≡ d → Keeps t (added limit g m t)
+      go false b c d ea eb ec ed = keeps-cause _ {c = NumberBelowOne} (rw (ea, added))
+      go true true c d ea eb ec ed = keeps-table _ t (rw (ea, eb, added)) fit refl
+      go true false true d ea eb ec ed = keeps-cause _ {c = GroupFull} (rw (ea, eb, ec, added))
+      go true false false true ea eb ec ed = keeps-cause _ {c = TableFull} (rw (ea, eb, ec, ed, added))
+      go true false false false ea eb ec ed =
+          keeps-table _ (add g m t) (rw (ea, eb, ec, ed, added)) (omega (arith, full-not ed, new-length g m, new-count g m)) (new-length g m)
+
+  fewer-fit : 2 * fewer (t .used) ≤ 2 * t .used
+  unfolding fewer
+  fewer-fit = go (t .used)
+    where
+      go : (k : ℕ) → 2 * fewer k ≤ 2 * k
+      go zero = omega arith
+      go (suc k) = omega arith
+
+  pub removed-keeps : (g m : ℤ) → Keeps t (removed g m t)
+  unfolding removed remove
+  removed-keeps g m = go (atLeastOne g && atLeastOne m) (find g m (t .used) (t .words)) refl refl
+    where
+      go : (a : Bool) (r : Option ℕ) → (atLeastOne g && atLeastOne m) ≡ a → find g m (t .used) (t .words) ≡ r → Keeps t (removed g m t)
+      go false r ea er = keeps-cause _ {c = NumberBelowOne} (rw (ea, removed))
+      go true none ea er = keeps-table _ t (rw (ea, removed) (rw (er, remove))) fit refl
+      go true (some i) ea er =
+          keeps-table _ (tableOf (takeOut i (t .used) (t .words)) (fewer (t .used))) (rw (ea, removed) (rw (er, remove)))
+          (omega (arith, fewer-fit, takeOut-length i (t .used) (t .words))) (takeOut-length i (t .used) (t .words))
+
+-- As a caller of `add_pair` or `remove_pair` learns it.
+pub fits-after :
+    (t : Table) (o : Outcome) (n : ℕ) → Keeps t o → changeOf o ≡ Done n →
+    (2 * n ≤ length (wordsAfter (t .words) o)) × (length (wordsAfter (t .words) o) ≡ length (t .words))
+unfolding changeOf wordsAfter
+fits-after t (leaves u) n k e = let z : u .used ≡ n = cc in (rw (sym z) (k u refl .0), k u refl .1)
+fits-after t (halts c) n k e = absurd (let z : _≡_ {A = ℕ} 0 1 = cc in omega arith)
