@@ -1,4 +1,5 @@
-//! Links the static libraries asked for, of the repository or of the folder that ENROL_STATICLIB names.
+//! Links the static libraries asked for, of the repository or of the folder that
+//! ENROL_STATICLIB names.
 
 use std::env;
 use std::path::PathBuf;
