@@ -33,8 +33,8 @@ pub struct Reply {
     pub working: Vec<u32>,
 }
 
-/// Number and offset of the script check.
-pub type Verdict = (u64, u64);
+/// Number and offset of the script check, or what it changed and may not.
+pub type Verdict = Result<(u64, u64), String>;
 
 const REFUSED: u64 = 3;
 

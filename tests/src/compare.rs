@@ -4,9 +4,9 @@ use std::fmt::Display;
 
 use crate::call::{Call, Reply};
 use crate::listing::listing;
-use crate::parties::Party;
-use crate::reduce::reduce;
-use crate::report::line;
+use crate::parties::{Check, Party};
+use crate::reduce::{reduce, reduce_script};
+use crate::report::{hex, line};
 
 /// How a party's verdict on the script, or its reply to the call, differs from the judge's.
 pub fn difference(judge: &Party, party: &Party, call: &Call) -> Option<String> {
@@ -61,6 +61,19 @@ pub fn assert_agree(judge: &Party, party: &Party, origin: &str, call: &Call) {
         listing(&small.script),
         self::difference(judge, party, &small).expect("it still differs"),
     );
+}
+
+/// Panics with the script and both verdicts, whole and cut down. For a party that has only a check.
+pub fn assert_same_verdict(judge: &Party, name: &str, check: &Check, origin: &str, script: &[u8]) {
+    if (judge.check)(script) == check(script) {
+        return;
+    }
+    let small = reduce_script(script, &|smaller| (judge.check)(smaller) != check(smaller));
+    let verdicts = |script| {
+        let (right, other) = ((judge.check)(script), check(script));
+        format!("{}\n{}: {right:?}\n{name}: {other:?}", hex(script), judge.name)
+    };
+    panic!("{origin}\n{}\ncut down\n{}\n{}", verdicts(script), verdicts(&small), listing(&small),);
 }
 
 /// How many calls a party gets wrong.

@@ -33,6 +33,15 @@ pub fn fast() -> Party {
     }
 }
 
+/// The proved library's script check, through its C interface.
+#[cfg(feature = "enrol")]
+pub fn library_check() -> Check {
+    Box::new(|script| match binding::enrol::guarded_check(script) {
+        Ok([number, offset]) => Ok((number, offset)),
+        Err(strayed) => Err(strayed.to_string()),
+    })
+}
+
 /// Wrong on purpose; going astray so far that it panics counts as a wrong reply.
 pub fn flawed(flaw: Flaw) -> Party {
     Party {
@@ -80,5 +89,6 @@ fn request(call: &Call) -> Request<'_> {
 }
 
 fn verdict(result: Result<(), Refused>) -> Verdict {
-    result.map_or_else(|refused| (refused.cause as u64, refused.offset as u64), |()| (0, 0))
+    let refused = |it: Refused| (it.cause as u64, it.offset as u64);
+    Ok(result.map_or_else(refused, |()| (0, 0)))
 }

@@ -1,4 +1,4 @@
-//! Cuts a failing call down while it still fails.
+//! Cuts a failing call or script down while it still fails.
 
 use reference::structure;
 use reference::tree::{Action, Block, Declared};
@@ -6,56 +6,73 @@ use reference::tree::{Action, Block, Declared};
 use crate::call::Call;
 use crate::encode::encode;
 
+type Candidates<'a, T> = Box<dyn Iterator<Item = T> + 'a>;
+
 /// The last of ever smaller calls for which `fails` holds.
 pub fn reduce(call: &Call, fails: &dyn Fn(&Call) -> bool) -> Call {
-    let mut call = call.clone();
+    cut(call.clone(), smaller, fails)
+}
+
+/// The last of ever shorter scripts for which `fails` holds.
+pub fn reduce_script(script: &[u8], fails: &dyn Fn(&[u8]) -> bool) -> Vec<u8> {
+    cut(script.to_vec(), |script| shorter(script), &|script| fails(script))
+}
+
+fn cut<T>(
+    mut failing: T,
+    candidates: impl Fn(&T) -> Candidates<T>,
+    fails: &dyn Fn(&T) -> bool,
+) -> T {
     loop {
-        let found = smaller(&call).find(|candidate| fails(candidate));
+        let found = candidates(&failing).find(|candidate| fails(candidate));
         match found {
-            Some(smaller) => call = smaller,
-            None => return call,
+            Some(smaller) => failing = smaller,
+            None => return failing,
         }
     }
 }
 
 /// Each candidate has a shorter script, a shorter table or a lower number.
-fn smaller(call: &Call) -> impl Iterator<Item = Call> + '_ {
-    without_parts(call)
-        .chain(without_words(call))
+fn smaller(call: &Call) -> Candidates<'_, Call> {
+    let with = |script| Call { script, ..call.clone() };
+    let candidates = without_parts(&call.script)
+        .chain(without_words(&call.script))
+        .map(with)
         .chain(without_pairs(call))
         .chain(lower_numbers(call))
-        .chain(without_two_parts(call))
+        .chain(without_two_parts(&call.script).map(with));
+    Box::new(candidates)
 }
 
-fn with_script(call: &Call, script: Vec<u8>) -> Call {
-    Call { script, ..call.clone() }
+fn shorter(script: &[u8]) -> Candidates<'_, Vec<u8>> {
+    let one = without_parts(script).chain(without_words(script));
+    Box::new(one.chain(without_two_parts(script)))
 }
 
 /// Where the script has a tree: without one declaration or statement.
-fn without_parts(call: &Call) -> impl Iterator<Item = Call> + '_ {
-    let program = structure::program(&call.script).ok().into_iter();
-    program.flat_map(move |program| {
-        (0..count_parts(&program)).map(move |part| without(call, &program, &[part]))
-    })
+fn without_parts(script: &[u8]) -> impl Iterator<Item = Vec<u8>> + '_ {
+    let program = structure::program(script).ok().into_iter();
+    program
+        .flat_map(|program| (0..count_parts(&program)).map(move |part| without(&program, &[part])))
 }
 
 /// A declaration can often go only together with its use.
-fn without_two_parts(call: &Call) -> impl Iterator<Item = Call> + '_ {
-    let program = structure::program(&call.script).ok().into_iter();
-    program.flat_map(move |program| {
+fn without_two_parts(script: &[u8]) -> impl Iterator<Item = Vec<u8>> + '_ {
+    let program = structure::program(script).ok().into_iter();
+    program.flat_map(|program| {
         let parts = count_parts(&program);
         let two = (0..parts).flat_map(move |later| (0..later).map(move |part| [later, part]));
-        two.map(move |two| without(call, &program, &two))
+        two.map(move |two| without(&program, &two))
     })
 }
 
 /// The parts are given in falling order, so that the numbers of those left stay.
-fn without(call: &Call, program: &Block, parts: &[usize]) -> Call {
+fn without(program: &Block, parts: &[usize]) -> Vec<u8> {
     let mut program = program.clone();
     for &part in parts {
         remove_part(&mut program, &mut part.clone());
     }
-    with_script(call, encode(&program).bytes)
+    encode(&program).bytes
 }
 
 fn count_parts(block: &Block) -> usize {
@@ -113,18 +130,16 @@ fn remove_statement(block: &mut Block, index: usize) {
 }
 
 /// For scripts without a tree: without a run of words, long runs first.
-fn without_words(call: &Call) -> impl Iterator<Item = Call> + '_ {
-    let length = call.script.len();
-    let has_tree = structure::program(&call.script).is_ok();
+fn without_words(script: &[u8]) -> impl Iterator<Item = Vec<u8>> + '_ {
+    let has_tree = structure::program(script).is_ok();
     let sizes = [256, 64, 16, 8, 6, 4, 2, 1].into_iter().filter(move |_| !has_tree);
     sizes.flat_map(move |size| {
-        (0..(length + 1).saturating_sub(size)).step_by(if size == 1 { 1 } else { 2 }).map(
-            move |start| {
-                let mut script = call.script.clone();
-                script.drain(start..start + size);
-                with_script(call, script)
-            },
-        )
+        let starts = 0..(script.len() + 1).saturating_sub(size);
+        starts.step_by(if size == 1 { 1 } else { 2 }).map(move |start| {
+            let mut script = script.to_vec();
+            script.drain(start..start + size);
+            script
+        })
     })
 }
 

@@ -5,7 +5,7 @@ use std::fmt::Write;
 use crate::call::{Call, Engine};
 use crate::lent::pattern;
 
-fn hex(bytes: &[u8]) -> String {
+pub fn hex(bytes: &[u8]) -> String {
     if bytes.is_empty() {
         return "-".into();
     }
@@ -60,7 +60,7 @@ pub fn parse(line: &str) -> Option<Call> {
     })
 }
 
-fn bytes(hex: &str) -> Option<Vec<u8>> {
+pub fn bytes(hex: &str) -> Option<Vec<u8>> {
     let hex = if hex == "-" { "" } else { hex };
     let byte = |at| u8::from_str_radix(hex.get(at..at + 2)?, 16).ok();
     (0..hex.len()).step_by(2).map(byte).collect()

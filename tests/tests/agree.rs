@@ -1,7 +1,7 @@
 //! All implementations against the copy rule.
 
 use differential::call::Call;
-use differential::compare::assert_agree;
+use differential::compare::{assert_agree, assert_same_verdict};
 use differential::parties::{copy_rule, fast, Party};
 use differential::random::Random;
 use differential::{inputs, table_work};
@@ -30,14 +30,9 @@ fn generated_calls() {
 fn unfit_scripts() {
     for number in 0..100_000 {
         let script = inputs::unfit_script(&mut Random::new(10, number));
-        let right = (copy_rule().check)(&script);
         for party in parties() {
-            let name = party.name;
-            assert_eq!(
-                (party.check)(&script),
-                right,
-                "{name}, seed 10, case {number}: {script:02x?}"
-            );
+            let origin = format!("seed 10, case {number}");
+            assert_same_verdict(&copy_rule(), party.name, &party.check, &origin, &script);
         }
     }
 }

@@ -15,6 +15,7 @@ mod sheet;
 mod slots;
 
 pub use flaw::Flaw;
+pub use right::is_right;
 
 use crate::answer::{Answer, End};
 use crate::cause::{Refusal, Refused};

@@ -1,20 +1,40 @@
-//! Runs a reported line again and prints each implementation's verdict and reply.
+//! Runs a reported case again, a call as one line or a script in hex, and prints what each
+//! implementation makes of it.
 
+use differential::call::{Call, Verdict};
 use differential::listing::listing;
 use differential::parties::{copy_rule, fast};
-use differential::report::parse;
+use differential::report::{bytes, parse};
 
 fn main() {
     let line = std::env::args().skip(1).collect::<Vec<_>>().join(" ");
-    let Some(call) = parse(&line) else {
+    if let Some(call) = parse(&line) {
+        checks(&call.script);
+        runs(&call);
+    } else if let Some(script) = bytes(line.trim()) {
+        checks(&script);
+    } else {
         eprintln!("engine script d n g tally count name table sheet-length working-length");
+        eprintln!("or: script");
         std::process::exit(2);
-    };
-    println!("{}", listing(&call.script));
+    }
+}
+
+fn checks(script: &[u8]) {
+    let say = |name: &str, verdict: Verdict| println!("{name}: check {verdict:?}");
+    println!("{}", listing(script));
     for party in [copy_rule(), fast()] {
-        let reply = (party.run)(&call);
+        say(party.name, (party.check)(script));
+    }
+    #[cfg(feature = "enrol")]
+    say("library", differential::parties::library_check()(script));
+}
+
+fn runs(call: &Call) {
+    for party in [copy_rule(), fast()] {
+        let reply = (party.run)(call);
         let sheet = &reply.sheet[..reply.answer[5] as usize];
-        println!("{}: check {:?}", party.name, (party.check)(&call.script));
-        println!("  answer {:?}\n  sheet {sheet:?}\n  table {:?}", reply.answer, reply.table);
+        println!("{}: answer {:?}", party.name, reply.answer);
+        println!("  sheet {sheet:?}\n  table {:?}", reply.table);
     }
 }

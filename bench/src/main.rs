@@ -1,0 +1,18 @@
+//! The proved libraries beside the reference's fast implementation, in one process. One table,
+//! a row for each workload; no time is asserted.
+
+#[cfg(feature = "enrol")]
+mod checks;
+mod row;
+#[cfg(feature = "enrol")]
+mod scripts;
+#[cfg(feature = "measure")]
+mod tables;
+
+fn main() {
+    row::print_heading();
+    #[cfg(feature = "enrol")]
+    row::print(checks::rows());
+    #[cfg(feature = "measure")]
+    row::print(tables::rows());
+}
