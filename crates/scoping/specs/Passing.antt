@@ -1,6 +1,5 @@
 -- What passing over a record gives.
-use Prim.Native.Nat.{ℕ, _+_, _*_, _≤_}
-use Prim.Native.Nat.{max}
+use Prim.Native.Nat.{ℕ, _+_, _*_, _≤_, max}
 use mathlib.Core.List.{List}
 use mathlib.Core.Path.{_≡_}
 use lib.ListN.{length, take, drop}
