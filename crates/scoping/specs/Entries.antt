@@ -3,12 +3,12 @@
 use Prim.Native.Nat.{ℕ, zero, suc, _+_, _/_, _%_, _<_, _^_}
 use mathlib.Core.Bool.{true, false}
 use mathlib.Core.List.{List, [], _∷_, map}
-use mathlib.Core.Option.{none, some}
+use mathlib.Core.Option.{Option, none, some}
 use lib.Dec.{eqb}
-use lib.ListN.{getD}
-use Rattle.language.specs.Text.{Kind, variable, label, procedure, CL}
+use lib.ListN.{getD, drop}
+use Rattle.language.specs.Text.{Kind, variable, label, procedure, Action, CL}
 use Rattle.language.specs.Encoding.{two, LB-mark, PR-mark, FM-mark, CL-mark, GO-mark, IF-mark, KN-mark, AR-mark, QY-mark}
-use Rattle.language.specs.Scope.{Meaning, Scope, fine, wrong, _then_, uses, judgeAction}
+use Rattle.language.specs.Scope.{Meaning, Scope, kindIn, fine, wrong, _then_, uses, judgeAction}
 use Rattle.language.specs.Scope as definitions
 use Rattle.language.specs.declared.Verdict.{Verdict}
 use Rattle.language.specs.declared.Verdict.the-variants.{Fit, Refused}
@@ -22,6 +22,10 @@ wordAt bs at = two (getD bs at 0) (getD bs (at + 1) 0)
 unfoldable pub wordsAt : List ℕ → ℕ → ℕ → List ℕ
 wordsAt bs from zero = []
 wordsAt bs from (suc k) = wordAt bs from ∷ wordsAt bs (from + 2) k
+
+-- so many argument names of the CL at an offset
+abbrev pub namesAt : List ℕ → ℕ → ℕ → List ℕ
+namesAt bs at count = wordsAt bs (at + 6) count
 
 unfoldable pub kindOf : ℕ → Kind
 kindOf zero = variable
@@ -60,6 +64,14 @@ Near Nothing = Unit {0}
 unfoldable pub scopeOf : List ℕ → List ℕ → Scope
 scopeOf bs es = map (λ (e : ℕ). (e % 65536, meaningAt bs (e / 65536))) es
 
+-- the entries from `top` on are in use
+abbrev pub scopeFrom : List ℕ → List ℕ → ℕ → Scope
+scopeFrom bs es top = scopeOf bs (drop top es)
+
+-- the kinds of so many arguments of the CL at an offset
+abbrev pub argumentsAt : List ℕ → List ℕ → ℕ → ℕ → ℕ → List (Option Kind)
+argumentsAt bs es top at count = map (kindIn (scopeFrom bs es top)) (namesAt bs at count)
+
 -- a verdict as the code gives it
 unfoldable pub verdictOf : definitions.Verdict → Verdict
 verdictOf fine = Fit
@@ -71,6 +83,10 @@ pairJudged sc at k n j m = _then_ (uses sc at k n) (uses sc at j m)
 
 unfoldable pub tripleJudged : Scope → ℕ → ℕ → ℕ → ℕ → definitions.Verdict
 tripleJudged sc at n m l = _then_ (uses sc at variable n) (pairJudged sc at variable m variable l)
+
+-- the CL at an offset
+abbrev pub callAt : List ℕ → ℕ → Action
+callAt bs at = CL (wordAt bs (at + 2)) (namesAt bs at (wordAt bs (at + 4)))
 
 -- which names a statement has, by its mark
 pub data Shape : Type 0 where
@@ -100,7 +116,7 @@ shapeOf w =
 
 -- a statement other than BK, judged by its shape
 unfoldable pub judgedAs : Shape → Scope → List ℕ → ℕ → definitions.Verdict
-judgedAs isCL sc bs at = judgeAction sc at (CL (wordAt bs (at + 2)) (wordsAt bs (at + 6) (wordAt bs (at + 4))))
+judgedAs isCL sc bs at = judgeAction sc at (callAt bs at)
 judgedAs isGO sc bs at = uses sc at label (wordAt bs (at + 2))
 judgedAs isIF sc bs at = pairJudged sc at variable (wordAt bs (at + 2)) label (wordAt bs (at + 4))
 judgedAs isKN sc bs at = uses sc at variable (wordAt bs (at + 2))

@@ -1,12 +1,11 @@
 -- What passing over a record gives.
-use Prim.Native.Nat.{ℕ, _+_, _*_, _≤_}
-use Prim.Native.Nat.{max}
+use Prim.Native.Nat.{ℕ, _+_, _*_, _≤_, max}
 use mathlib.Core.List.{List}
 use mathlib.Core.Path.{_≡_}
-use lib.ListN.{length}
+use lib.ListN.{length, take, drop}
 use Rattle.scoping.specs.Entries.{wordAt}
 use Rattle.scoping.specs.Standing.{Stands}
-use Rattle.scoping.specs.Items.{Item, itemFields, headSize, kidsCount}
+use Rattle.scoping.specs.Items.{Item, itemFields, itemsFields, headSize, kidsCount, entriesOf}
 use Rattle.scoping.specs.declared.Step.{Step}
 
 -- one record's head
@@ -22,3 +21,8 @@ pub record Skipped (bs : List ℕ) (at end : ℕ) : Type 0 where
   pub ends : (x : Item) → Stands bs at (itemFields x) → end ≡ at + 2 * length (itemFields x)
   pub onward : at ≤ end
   pub close : end ≤ max at (length bs + 131076)
+
+-- the entries of so many records, put from `base` on
+abbrev pub Pushed : List ℕ → ℕ → ℕ → ℕ → List ℕ → Type 0
+Pushed bs at count base es =
+    (xs : List Item) → length xs ≡ count → Stands bs at (itemsFields xs) → take count (drop base es) ≡ entriesOf bs xs at

@@ -11,7 +11,7 @@ use Rattle.language.specs.Scope as definitions
 use Rattle.records.specs.declared.Progress.{Progress}
 use Rattle.records.specs.declared.Progress.the-variants.{At, Refused}
 use Rattle.grammar.specs.Rules.{FormedFormals, FormedBlock, FormedDecl, FormedStmt}
-use Rattle.scoping.specs.Entries.{verdictOf}
+use Rattle.scoping.specs.Entries.{verdictOf, scopeFrom}
 use Rattle.scoping.specs.Standing.{Stands}
 use Rattle.scoping.specs.Items.{Item, formal, body, declared, stated, itemFields, itemsFields}
 use Rattle.language.specs.declared.Verdict.{Verdict}
@@ -83,3 +83,19 @@ abbrev pub Judged : structure.Reading Block → Verdict → Type 0
 Judged (structure.read t at []) r = r ≡ verdictOf (judgeBlock t [] [])
 Judged (structure.read t at (w ∷ ws)) r = Unit {0}
 Judged (structure.refuse c o) r = Unit {0}
+
+-- what the walk of a block, of records and of one record answers, with the entries as they were
+abbrev pub BlockJudged : List ℕ → List ℕ → ℕ → ℕ → ℕ → Progress → Type 0
+BlockJudged bs es at count top r =
+    (b : Block) (fs : List Formal) (level : ℕ) → BlockHere bs at count top b fs level →
+    r ≡ progressOf (judgeBlock b fs (scopeFrom bs es top)) (at + 6 * count + 2 * length (blockFields b))
+
+abbrev pub ItemsJudged : List ℕ → List ℕ → ℕ → ℕ → ℕ → Progress → Type 0
+ItemsJudged bs es at count top r =
+    (xs : List Item) (level s : ℕ) → ItemsHere bs at count top xs level s →
+    r ≡ progressOf (judgeItems xs (scopeFrom bs es top)) (at + 2 * length (itemsFields xs))
+
+abbrev pub ItemJudged : List ℕ → List ℕ → ℕ → ℕ → Progress → Type 0
+ItemJudged bs es at top r =
+    (x : Item) (level s : ℕ) → ItemHere bs at top x level s →
+    r ≡ progressOf (judgeItem x (scopeFrom bs es top)) (at + 2 * length (itemFields x))

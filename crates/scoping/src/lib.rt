@@ -6,18 +6,16 @@ use language::Verdict;
 use records::Progress;
 ghost use mathlib.Core.Path.{_≡_};
 ghost use mathlib.Core.Option.{some};
-ghost use mathlib.Core.List.{List, map};
-ghost use Prim.Native.Nat.{ℕ, _+_, _*_, _^_, _<_, _≤_};
-ghost use lib.ListN.{length, getD, take, drop};
-ghost use Rattle.language.specs.Text.{CL, Formal, Block};
-ghost use Rattle.language.specs.Encoding.{kindField, blockFields, fieldsOf};
+ghost use Prim.Native.Nat.{_+_, _^_, _<_, _≤_};
+ghost use lib.ListN.{length, getD, drop};
+ghost use Rattle.language.specs.Encoding.{kindField, fieldsOf};
 ghost use Rattle.language.specs.Structure.{program};
 ghost use Rattle.language.specs.Scope as definitions;
-ghost use Rattle.scoping.specs.Entries.{wordAt, wordsAt, kindOf, meaningAt, kindsAt, foundIn, Near, scopeOf, verdictOf, pairJudged, tripleJudged, shapeOf, judgedAs};
-ghost use Rattle.scoping.specs.Items.{Item, itemFields, itemsFields, sizeOf, entriesOf};
-ghost use Rattle.scoping.specs.Standing.{Stands};
-ghost use Rattle.scoping.specs.Walking.{progressOf, onwardOf, settledOf, Judged, Ahead, judgeItem, judgeItems, BlockHere, ItemsHere, ItemHere};
-ghost use Rattle.scoping.specs.Passing.{Passed, Skipped};
+ghost use Rattle.scoping.specs.Entries.{wordAt, namesAt, kindOf, meaningAt, kindsAt, foundIn, Near, scopeFrom, argumentsAt};
+ghost use Rattle.scoping.specs.Entries.{verdictOf, pairJudged, tripleJudged, callAt, shapeOf, judgedAs};
+ghost use Rattle.scoping.specs.Items.{sizeOf};
+ghost use Rattle.scoping.specs.Passing.{Passed, Skipped, Pushed};
+ghost use Rattle.scoping.specs.Walking.{onwardOf, settledOf, Judged, Ahead, BlockJudged, ItemsJudged, ItemJudged};
 
 // Where the record that declares a name begins.
 enum Found {
@@ -71,7 +69,8 @@ fn word(script: &[u8], at: usize) -> usize
     byte(script, at) + 256 * byte(script, at + 1)
 }
 
-// An entry is a name and, times 65536, the offset of the record that declares it. This is the offset of the first entry from `top` on.
+// An entry is a name and, times 65536, the offset of the record that declares it. This gives the offset for a name: the first entry
+// from `top` on that has it.
 fn find(entries: &[usize], top: usize, name: usize) -> Found
     ensures { λ r. ⌜ (r ≡ foundIn name (drop top (now (entries .entry)))) × Near r ⌝ }
 {
@@ -123,7 +122,7 @@ fn uses(
     name: usize,
 ) -> Verdict
     requires { ⌜ kind ≤ 2 ⌝ }
-    ensures { λ r. ⌜ r ≡ verdictOf (definitions.uses (scopeOf (now (script .entry)) (drop top (now (entries .entry)))) at (kindOf kind) name) ⌝ }
+    ensures { λ r. ⌜ r ≡ verdictOf (definitions.uses (scopeFrom (now (script .entry)) (now (entries .entry)) top) at (kindOf kind) name) ⌝ }
 {
     let Found::At(place) = find(entries, top, name) else {
         return Verdict::Refused(Refusal::NotVisible, at);
@@ -137,7 +136,9 @@ fn uses(
 // The arguments of the call at an offset are visible, whatever their kind.
 fn visible(script: &[u8], entries: &[usize], top: usize, at: usize, count: usize) -> Verdict
     requires { ⌜ (at < 2 ^ 32) × (count < 65536) ⌝ }
-    ensures { λ r. ⌜ r ≡ verdictOf (definitions.allVisible (scopeOf (now (script .entry)) (drop top (now (entries .entry)))) at (wordsAt (now (script .entry)) (at + 6) count)) ⌝ }
+    ensures { λ r.
+        ⌜ r ≡ verdictOf (definitions.allVisible
+        (scopeFrom (now (script .entry)) (now (entries .entry)) top) at (namesAt (now (script .entry)) at count)) ⌝ }
 {
     let mut i = 0;
     while i < count {
@@ -159,7 +160,8 @@ fn matching(
     count: usize,
 ) -> bool
     requires { ⌜ (at < 2 ^ 32) × (formals < 2 ^ 50) × (count < 65536) ⌝ }
-    ensures { λ r. ⌜ r ≡ definitions.agree (kindsAt (now (script .entry)) formals count) (map (definitions.kindIn (scopeOf (now (script .entry)) (drop top (now (entries .entry))))) (wordsAt (now (script .entry)) (at + 6) count)) ⌝ }
+    ensures { λ r. ⌜ r ≡ definitions.agree (kindsAt (now (script .entry)) formals count)
+        (argumentsAt (now (script .entry)) (now (entries .entry)) top at count) ⌝ }
 {
     let mut i = 0;
     while i < count {
@@ -185,7 +187,9 @@ fn agrees(
     count: usize,
 ) -> Verdict
     requires { ⌜ (at < 2 ^ 32) × (place < 2 ^ 48) × (count < 65536) ⌝ }
-    ensures { λ r. ⌜ r ≡ verdictOf (definitions.agrees at (some (meaningAt (now (script .entry)) place)) (map (definitions.kindIn (scopeOf (now (script .entry)) (drop top (now (entries .entry))))) (wordsAt (now (script .entry)) (at + 6) count))) ⌝ }
+    ensures { λ r.
+        ⌜ r ≡ verdictOf (definitions.agrees at (some (meaningAt (now (script .entry)) place))
+        (argumentsAt (now (script .entry)) (now (entries .entry)) top at count)) ⌝ }
 {
     if word(script, place) != PR {
         return Verdict::Fit;
@@ -202,7 +206,8 @@ fn agrees(
 // CL: the name called, then its arguments, then 11.
 fn call(script: &[u8], entries: &[usize], top: usize, at: usize) -> Verdict
     requires { ⌜ at < 2 ^ 32 ⌝ }
-    ensures { λ r. ⌜ r ≡ verdictOf (definitions.judgeAction (scopeOf (now (script .entry)) (drop top (now (entries .entry)))) at (CL (wordAt (now (script .entry)) (at + 2)) (wordsAt (now (script .entry)) (at + 6) (wordAt (now (script .entry)) (at + 4))))) ⌝ }
+    ensures { λ r.
+        ⌜ r ≡ verdictOf (definitions.judgeAction (scopeFrom (now (script .entry)) (now (entries .entry)) top) at (callAt (now (script .entry)) at)) ⌝ }
 {
     let name = word(script, at + 2);
     let count = word(script, at + 4);
@@ -232,7 +237,9 @@ fn both(
     second: usize,
 ) -> Verdict
     requires { ⌜ (kind ≤ 2) × (other ≤ 2) × (first < 2 ^ 33) × (second < 2 ^ 33) ⌝ }
-    ensures { λ r. ⌜ r ≡ verdictOf (pairJudged (scopeOf (now (script .entry)) (drop top (now (entries .entry)))) at (kindOf kind) (wordAt (now (script .entry)) first) (kindOf other) (wordAt (now (script .entry)) second)) ⌝ }
+    ensures { λ r.
+        ⌜ r ≡ verdictOf (pairJudged (scopeFrom (now (script .entry)) (now (entries .entry)) top) at
+        (kindOf kind) (wordAt (now (script .entry)) first) (kindOf other) (wordAt (now (script .entry)) second)) ⌝ }
 {
     let one = uses(script, entries, top, at, kind, word(script, first));
     let Verdict::Fit = one else {
@@ -252,7 +259,9 @@ fn three(
     third: usize,
 ) -> Verdict
     requires { ⌜ (first < 2 ^ 33) × (second < 2 ^ 33) × (third < 2 ^ 33) ⌝ }
-    ensures { λ r. ⌜ r ≡ verdictOf (tripleJudged (scopeOf (now (script .entry)) (drop top (now (entries .entry)))) at (wordAt (now (script .entry)) first) (wordAt (now (script .entry)) second) (wordAt (now (script .entry)) third)) ⌝ }
+    ensures { λ r.
+        ⌜ r ≡ verdictOf (tripleJudged (scopeFrom (now (script .entry)) (now (entries .entry)) top) at
+        (wordAt (now (script .entry)) first) (wordAt (now (script .entry)) second) (wordAt (now (script .entry)) third)) ⌝ }
 {
     let one = uses(script, entries, top, at, 0, word(script, first));
     let Verdict::Fit = one else {
@@ -264,7 +273,9 @@ fn three(
 // A statement other than BK: its names left to right.
 fn action(script: &[u8], entries: &[usize], top: usize, at: usize) -> Verdict
     requires { ⌜ at < 2 ^ 32 ⌝ }
-    ensures { λ r. ⌜ r ≡ verdictOf (judgedAs (shapeOf (wordAt (now (script .entry)) at)) (scopeOf (now (script .entry)) (drop top (now (entries .entry)))) (now (script .entry)) at) ⌝ }
+    ensures { λ r.
+        ⌜ r ≡ verdictOf (judgedAs (shapeOf (wordAt (now (script .entry)) at))
+        (scopeFrom (now (script .entry)) (now (entries .entry)) top) (now (script .entry)) at) ⌝ }
 {
     let mark = word(script, at);
     if mark == CL {
@@ -366,7 +377,7 @@ fn skip(script: &[u8], at: usize) -> usize
 // So many records from an offset on declare names: their entries are put from `base` on.
 fn push(script: &[u8], entries: &mut [usize], at: usize, count: usize, base: usize)
     requires { ⌜ (length (now script) ≤ 8192) × (at ≤ 1000000) × (base + count ≤ length (now entries)) ⌝ }
-    ensures pushed { λ _. ⌜ ((xs : List Item) → length xs ≡ count → Stands (now (script .entry)) at (itemsFields xs) → take count (drop base (now (entries .exit))) ≡ entriesOf (now (script .entry)) xs at) ⌝ }
+    ensures pushed { λ _. ⌜ Pushed (now (script .entry)) at count base (now (entries .exit)) ⌝ }
     ensures kept { λ _. ⌜ drop (base + count) (now (entries .exit)) ≡ drop (base + count) (now (entries .entry)) ⌝ }
 {
     let mut here = at;
@@ -391,7 +402,7 @@ fn onward(v: Verdict, next: usize) -> Progress
 // So many formals at an offset and their block after them. Its names are put below `top` before any of its text is judged.
 fn block(script: &[u8], entries: &mut [usize], at: usize, count: usize, top: usize) -> Progress
     requires { ⌜ (length (now script) ≤ 8192) × (at ≤ 500000) × (count < 65536) × (top ≤ length (now entries)) ⌝ }
-    ensures judged { λ r. ⌜ ((b : Block) (fs : List Formal) (level : ℕ) → BlockHere (now (script .entry)) at count top b fs level → r ≡ progressOf (definitions.judgeBlock b fs (scopeOf (now (script .entry)) (drop top (now (entries .entry))))) (at + 6 * count + 2 * length (blockFields b))) ⌝ }
+    ensures judged { λ r. ⌜ BlockJudged (now (script .entry)) (now (entries .entry)) at count top r ⌝ }
     ensures ahead { λ r. ⌜ Ahead at (length (now (script .entry))) r ⌝ }
     ensures kept { λ r. ⌜ drop top (now (entries .exit)) ≡ drop top (now (entries .entry)) ⌝ }
 {
@@ -413,7 +424,7 @@ fn block(script: &[u8], entries: &mut [usize], at: usize, count: usize, top: usi
 // So many declarations and statements from an offset on.
 fn items(script: &[u8], entries: &mut [usize], at: usize, count: usize, top: usize) -> Progress
     requires { ⌜ (length (now script) ≤ 8192) × (at ≤ length (now script) + 131076) × (count ≤ 131070) × (top ≤ length (now entries)) ⌝ }
-    ensures judged { λ r. ⌜ ((xs : List Item) (level s : ℕ) → ItemsHere (now (script .entry)) at count top xs level s → r ≡ progressOf (judgeItems xs (scopeOf (now (script .entry)) (drop top (now (entries .entry))))) (at + 2 * length (itemsFields xs))) ⌝ }
+    ensures judged { λ r. ⌜ ItemsJudged (now (script .entry)) (now (entries .entry)) at count top r ⌝ }
     ensures ahead { λ r. ⌜ Ahead at (length (now (script .entry))) r ⌝ }
     ensures kept { λ r. ⌜ drop top (now (entries .exit)) ≡ drop top (now (entries .entry)) ⌝ }
 {
@@ -436,7 +447,7 @@ fn items(script: &[u8], entries: &mut [usize], at: usize, count: usize, top: usi
 // One declaration or statement.
 fn item(script: &[u8], entries: &mut [usize], at: usize, top: usize) -> Progress
     requires { ⌜ (length (now script) ≤ 8192) × (at < length (now script)) × (top ≤ length (now entries)) ⌝ }
-    ensures judged { λ r. ⌜ ((x : Item) (level s : ℕ) → ItemHere (now (script .entry)) at top x level s → r ≡ progressOf (judgeItem x (scopeOf (now (script .entry)) (drop top (now (entries .entry))))) (at + 2 * length (itemFields x))) ⌝ }
+    ensures judged { λ r. ⌜ ItemJudged (now (script .entry)) (now (entries .entry)) at top r ⌝ }
     ensures ahead { λ r. ⌜ Ahead at (length (now (script .entry))) r ⌝ }
     ensures kept { λ r. ⌜ drop top (now (entries .exit)) ≡ drop top (now (entries .entry)) ⌝ }
 {

@@ -1,7 +1,6 @@
 use borrow.Author.Needs.{needs}
 -- `scoping::skip` meets its contract: what is left stands from `here` on, and reaches where the record ends. Assumes nothing.
-use Prim.Native.Nat.{_+_, _*_, _-_, _≤_}
-use Prim.Native.Nat.{max}
+use Prim.Native.Nat.{_+_, _*_, _-_, _≤_, max}
 use native.Mathlib.Omega.{arith}
 use lib.ListN.{length}
 use Rattle.scoping.specs.Standing.{Stands}
