@@ -17,9 +17,9 @@ use Rattle.laws.specs.Each.{Each}
 use Rattle.grammar.specs.Rules.{Bytes, Keeps}
 use Rattle.grammar.specs.Exact.{accepts-exactly}
 use Rattle.frames.specs.Frame.{Frame, numbered, frameNames, seekName, finally, designates, linksFollowed, frameStmt, frameRun, frameStart}
+use Rattle.frames.specs.Numbered.{numbered-low, numbered-high}
 use Rattle.coordinates.specs.Enclosure.{Coordinate, coordinateOf}
 use Rattle.coordinates.specs.Chain.{enclosureOf, levelOf, climb, displayOf}
-use Rattle.coordinates.specs.Lists.{numbered-low, numbered-high}
 use Rattle.coordinates.specs.Declared.{coordinate-declares}
 use Rattle.coordinates.specs.Coordinates.{level-of-text, instanceAt, DeclaringFrame, declaring-frame, found, designates-by-display, links-counted}
 use Rattle.coordinates.specs.Kept.{chained-downward}

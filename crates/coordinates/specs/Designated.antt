@@ -15,11 +15,12 @@ use lib.ListN.{length, getD, getElem?, length-map}
 use Rattle.language.specs.Basics.{last?, lookup}
 use Rattle.language.specs.Text.{Kind, procedure, Formal, Action, CL, Block, Decl, VR, LB, PR, DO, blockDecls, declKind}
 use Rattle.language.specs.Scope.{Meaning, formalMeaning, declMeaning}
+use Rattle.laws.specs.Lists.{getElem-append, getElem-after, getElem?-map, getD-elem}
 use Rattle.grammar.specs.Rules.{Is, ScopedAction, Keeps}
 use Rattle.frames.specs.Frame.{Frame, Stack, numbered, frameNames, designatorIn, finally, designates, frameNumber, place, declOf, frameStmt}
+use Rattle.frames.specs.Numbered.{numbered-at, numbered-low, numbered-high}
 use Rattle.coordinates.specs.Enclosure.{Enclosing}
 use Rattle.coordinates.specs.Chain.{enclosing, enclosureOf, levelOf, climb, Chained}
-use Rattle.coordinates.specs.Lists.{at-append, at-after, at-map, at-getD, numbered-at, numbered-low, numbered-high}
 use Rattle.coordinates.specs.Coordinates.{instanceAt, declaring-frame, designates-by-links}
 use Rattle.coordinates.specs.Kept.{Procedures, chained-downward}
 use Rattle.coordinates.specs.Levels.{in-innermost, names-bound}
@@ -51,7 +52,7 @@ unfolding meaningsOf
 meaning-of-formal e p x q low h =
     let l = length-map (e .formals) formalMeaning in
     (map-eq-some-iff formalMeaning (getElem? (e .formals) (p - 1))) .0
-    (sym (at-map formalMeaning (e .formals) (p - 1)) ∙ sym (at-append (map formalMeaning (e .formals)) (map declMeaning (blockDecls (e .text))) (p - 1) (omega (arith, l))) ∙ sym (numbered-at (meaningsOf e) p low) ∙ q)
+    (sym (getElem?-map formalMeaning (e .formals) (p - 1)) ∙ sym (getElem-append (map formalMeaning (e .formals)) (map declMeaning (blockDecls (e .text))) (p - 1) (omega (arith, l))) ∙ sym (numbered-at (meaningsOf e) p low) ∙ q)
 
 meaning-of-decl : (e : Enclosing) (p : ℕ) (x : ℕ × Meaning) → numbered (meaningsOf e) p ≡ some x → length (e .formals) < p → (d : Decl) × (getElem? (blockDecls (e .text)) (p - 1 - length (e .formals)) ≡ some d) × (declMeaning d ≡ x)
 unfolding meaningsOf
@@ -59,8 +60,8 @@ meaning-of-decl e p x q h =
     let l = length-map (e .formals) formalMeaning in
     let i : p - 1 - length (map formalMeaning (e .formals)) ≡ p - 1 - length (e .formals) = ap (λ n. p - 1 - n) l in
     (map-eq-some-iff declMeaning (getElem? (blockDecls (e .text)) (p - 1 - length (e .formals)))) .0
-    (sym (at-map declMeaning (blockDecls (e .text)) (p - 1 - length (e .formals))) ∙ ap (getElem? (map declMeaning (blockDecls (e .text)))) (sym i)
-    ∙ sym (at-after (map formalMeaning (e .formals)) (map declMeaning (blockDecls (e .text))) (p - 1) (omega (arith, l))) ∙ sym (numbered-at (meaningsOf e) p (omega arith)) ∙ q)
+    (sym (getElem?-map declMeaning (blockDecls (e .text)) (p - 1 - length (e .formals))) ∙ ap (getElem? (map declMeaning (blockDecls (e .text)))) (sym i)
+    ∙ sym (getElem-after (map formalMeaning (e .formals)) (map declMeaning (blockDecls (e .text))) (p - 1) (omega (arith, l))) ∙ sym (numbered-at (meaningsOf e) p (omega arith)) ∙ q)
 
 formal-kind : (f : Formal) (n : ℕ) (m : Meaning) → formalMeaning f ≡ (n, m) → f .kind ≡ m .kind
 unfolding formalMeaning
@@ -112,7 +113,7 @@ pub finally-formal : (fs : List Frame) (k p j : ℕ) (g : Frame) (x : ℕ) → n
 unfolding finally designatorIn
 finally-formal fs k p j g x e l w =
     let i : pred p ≡ p - 1 = omega arith in
-    rw (finally, e, l) (ap (λ (z : ℤ). designatorIn z) (ap (λ n. getD (g .words) n (pos 0)) i ∙ at-getD (g .words) (p - 1) (pos x) (pos 0) w))
+    rw (finally, e, l) (ap (λ (z : ℤ). designatorIn z) (ap (λ n. getD (g .words) n (pos 0)) i ∙ getD-elem (g .words) (p - 1) (pos x) (pos 0) w))
 
 pub finally-declared : (fs : List Frame) (k p j : ℕ) (g : Frame) → numbered fs k ≡ some g → leb p (length (g .formals)) ≡ false → finally fs (instanceAt k p j) ≡ k * 64 + p
 unfolding finally

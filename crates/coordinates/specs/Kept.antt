@@ -14,9 +14,9 @@ use Rattle.language.specs.Text.{procedure, Block, Decl, VR, LB, PR, blockDecls,
 use Rattle.language.specs.Table.{Table}
 use Rattle.language.specs.Machine.{Limits}
 use Rattle.frames.specs.Frame.{Frame, Stack, Acted, acted, halted, numbered, newFrame, stepped, frameStep, results, frameRun, frameStart}
+use Rattle.frames.specs.Numbered.{numbered-high}
 use Rattle.coordinates.specs.Enclosure.{Enclosing, StandsIn, as-block, as-body, whole}
 use Rattle.coordinates.specs.Chain.{enclosing, outline, Alike, Downward, Linked, outermost, within, Chained}
-use Rattle.coordinates.specs.Lists.{numbered-high}
 use Rattle.coordinates.specs.Along.{alike-some}
 use Rattle.coordinates.specs.Moves.{Called, Entered, for-block, for-body, Moved, kept, entered, step-moved}
 

@@ -14,10 +14,11 @@ use lib.Seq.{length-take-le}
 use Rattle.language.specs.Basics.{last?, butLast}
 use Rattle.language.specs.Text.{Action, CL, GO, IF, KN, AR, AD, RM, QY, Block, Decl, BK, DO, blockDecls, blockStmts, labelIndex, declFormals, declBody}
 use Rattle.language.specs.Machine.{Limits}
+use Rattle.laws.specs.Lists.{butLast-take}
 use Rattle.frames.specs.Frame.{Frame, Stack, acted, numbered, frameNumber, place, declOf, designates, withFrames, tableChanged, continue, rewritten, putWord, newFrame, put, mapAction, frameStmt, advanceFrame, frameStep}
+use Rattle.frames.specs.Numbered.{numbered-low, numbered-high, numbered-append, numbered-seam, numbered-take, last-numbered}
 use Rattle.coordinates.specs.Enclosure.{Enclosing}
 use Rattle.coordinates.specs.Chain.{enclosing, outline, Alike}
-use Rattle.coordinates.specs.Lists.{numbered-low, numbered-high, numbered-append, numbered-seam, numbered-take, last-numbered, butLast-take}
 use Rattle.coordinates.specs.Along.{alike-some}
 use Rattle.coordinates.specs.Walk.{After, Moves, Steps, step-by}
 

@@ -8,9 +8,9 @@ use mathlib.Core.Path.{_≡_, refl, sym, ap, _∙_}
 use lib.ListN.{length}
 use Rattle.language.specs.Text.{formalNames, declaredNames}
 use Rattle.frames.specs.Frame.{Frame, Place, numbered, frameNames, positionFrom, seekFrom}
+use Rattle.frames.specs.Numbered.{numbered-zero}
 use Rattle.coordinates.specs.Enclosure.{Enclosing, Enclosure, Coordinate, namesOf, coordinateOf, outward}
 use Rattle.coordinates.specs.Chain.{enclosing, enclosureOf, climb, Downward, outline, Alike}
-use Rattle.coordinates.specs.Lists.{numbered-zero}
 use Rattle.coordinates.specs.Along.{along-none, along-step, climb-zero, climb-some, alike-none, alike-some}
 
 -- what a coordinate says of a search from frame k that has followed j links

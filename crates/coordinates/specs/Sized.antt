@@ -14,8 +14,9 @@ use Rattle.language.specs.Text.{Kind, Formal, Action, Block, Decl, blockDecls, 
 use Rattle.language.specs.Scope.{agree}
 use Rattle.language.specs.Table.{Table}
 use Rattle.language.specs.Machine.{Limits}
+use Rattle.laws.specs.Lists.{butLast-take}
 use Rattle.frames.specs.Frame.{Frame, Stack, acted, numbered, frameNames, frameNumber, place, kindOf, designates, continue, rewritten, putWord, put, newFrame, zeroWords, withFrames, tableChanged, stepped, mapAction, advanceFrame, frameStep, frameRun, frameStart}
-use Rattle.coordinates.specs.Lists.{numbered-low, numbered-high, numbered-append, numbered-seam, numbered-take, butLast-take}
+use Rattle.frames.specs.Numbered.{numbered-low, numbered-high, numbered-append, numbered-seam, numbered-take}
 use Rattle.coordinates.specs.Walk.{After, Moves, Steps, step-by}
 use Rattle.coordinates.specs.Moves.{cut-at, cut-length, set-at, alike-append}
 use Rattle.coordinates.specs.Kept.{by-frame, run-keeps}

@@ -15,11 +15,12 @@ use Rattle.language.specs.Basics.{last?, butLast}
 use Rattle.language.specs.Text.{Action, Formal, Block, Decl, DO, blockDecls}
 use Rattle.language.specs.Scope.{Meaning}
 use Rattle.laws.specs.Each.{Each}
+use Rattle.laws.specs.Lists.{butLast-take}
 use Rattle.grammar.specs.Rules.{Keeps}
 use Rattle.frames.specs.Frame.{Frame, Stack, Place, numbered, seekFrom, seekName, designatorIn, finally, designates, frameNumber, place, declOf, continue, withFrames, advanceFrame, frameStmt}
+use Rattle.frames.specs.Numbered.{numbered-past, last-numbered}
 use Rattle.coordinates.specs.Enclosure.{Enclosing}
 use Rattle.coordinates.specs.Chain.{enclosing, chainOf, enclosureOf, levelOf, outline, Alike, Downward, Chained}
-use Rattle.coordinates.specs.Lists.{numbered-past, last-numbered, butLast-take}
 use Rattle.coordinates.specs.Along.{along-alike}
 use Rattle.coordinates.specs.Search.{seek-alike}
 use Rattle.coordinates.specs.Moves.{cut-at, cut-length, outline-continue, Called}

@@ -16,8 +16,8 @@ use Rattle.language.specs.Scope.{Meaning, Scope, formalMeaning, declMeaning, in
 use Rattle.laws.specs.Each.{Each}
 use Rattle.grammar.specs.Rules.{Visible, Is, ScopedAction, ScopedBlock, ScopedDecl, ScopedStmt, ScopedDecls, ScopedStmts, Keeps}
 use Rattle.frames.specs.Frame.{numbered, positionFrom}
+use Rattle.frames.specs.Numbered.{numbered-at}
 use Rattle.coordinates.specs.Enclosure.{Enclosing, enclosed, Enclosure, Coordinate, namesOf, coordinateOf, atLevel, StandsIn, as-block, as-body, whole, Encloses}
-use Rattle.coordinates.specs.Lists.{numbered-at}
 use Rattle.coordinates.specs.Search.{coordinate-here, coordinate-further}
 use Rattle.coordinates.specs.Declared.{coordinate-declares, level-here, level-further}
 

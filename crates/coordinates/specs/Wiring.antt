@@ -16,11 +16,12 @@ use Rattle.language.specs.Scope.{Meaning, Scope, agree}
 use Rattle.language.specs.Table.{Table}
 use Rattle.language.specs.Machine.{Limits}
 use Rattle.laws.specs.Each.{Each}
+use Rattle.laws.specs.Lists.{getElem-bound, getElem-take, getElem-append, getElem?-map, butLast-take}
 use Rattle.grammar.specs.Rules.{Visible, Is, ScopedAction, Keeps}
 use Rattle.frames.specs.Frame.{Frame, Stack, acted, numbered, designates, frameNumber, place, declOf, kindOf, continue, rewritten, putWord, put, newFrame, zeroWords, withFrames, tableChanged, stepped, mapAction, advanceFrame, frameStmt, frameStep, frameRun, frameStart}
+use Rattle.frames.specs.Numbered.{numbered-low, numbered-high, numbered-append, numbered-seam, numbered-take}
 use Rattle.coordinates.specs.Enclosure.{Enclosing}
 use Rattle.coordinates.specs.Chain.{enclosing, enclosureOf, outline, Alike, Chained}
-use Rattle.coordinates.specs.Lists.{at-within, at-take, at-append, at-map, numbered-low, numbered-high, numbered-append, numbered-seam, numbered-take, butLast-take}
 use Rattle.coordinates.specs.Along.{alike-some}
 use Rattle.coordinates.specs.Walk.{After, targetOf, Moves, Steps, step-by}
 use Rattle.coordinates.specs.Moves.{cut-at, cut-length, set-at, no-call}
@@ -57,12 +58,12 @@ wire-kept fs gs b a wired k g h n i m q =
     let f = (map-eq-some-iff wiring (numbered fs k)) .0 (a k h ∙ ap (Option·map wiring) n) in
     let e : f .0 .formals ≡ g .formals = ap (λ (w : (Enclosing × ℕ) × List ℤ). w .0 .0 .formals) (f .2) in
     let w = wired k (f .0) (f .1) i m (ap (λ (l : List Formal). getElem? l i) e ∙ q) in
-    let s : i < length (g .formals) = at-within (g .formals) i m q in
+    let s : i < length (g .formals) = getElem-bound (g .formals) i m q in
     let s′ : i < length (f .0 .formals) = subst (λ (l : List Formal). i < length l) (sym e) s in
     let outer : frameNumber (w .designator) < k = w .outer in
     record {
       designator = w .designator;
-      word = sym (at-take (length (g .formals)) (g .words) i s) ∙ ap (λ (v : (Enclosing × ℕ) × List ℤ). getElem? (v .1) i) (sym (f .2)) ∙ at-take (length (f .0 .formals)) (f .0 .words) i s′ ∙ w .word;
+      word = sym (getElem-take (g .words) (length (g .formals)) i s) ∙ ap (λ (v : (Enclosing × ℕ) × List ℤ). getElem? (v .1) i) (sym (f .2)) ∙ getElem-take (f .0 .words) (length (f .0 .formals)) i s′ ∙ w .word;
       outer = outer;
       instance = designated-alike fs gs b (rewired-alike fs gs b a) (w .designator) (m .kind) (omega arith) (w .instance);
     }
@@ -132,7 +133,7 @@ argument-words : (ms : List Formal) (xs : List ℕ) (b : Block) (k i x : ℕ) �
 unfolding newFrame
 argument-words ms xs b k i x e =
     let l = length-map xs pos in
-    at-append (map pos xs) (zeroWords _) i (omega (arith, at-within xs i x e)) ∙ at-map pos xs i ∙ ap (Option·map pos) e
+    getElem-append (map pos xs) (zeroWords _) i (omega (arith, getElem-bound xs i x e)) ∙ getElem?-map pos xs i ∙ ap (Option·map pos) e
 
 abbrev Some : List Frame → ℕ → Type 0
 Some fs x = (k : Kind) × Designated fs x k
@@ -146,7 +147,7 @@ call-wired fs ms xs b k each q wired = wired-entered fs (newFrame ms xs b k) wir
 
     new : (i : ℕ) (m : Formal) → getElem? ms i ≡ some m → Wire gs (suc (length fs)) (newFrame ms xs b k) i m
     new i m e =
-        let x = (map-eq-some-iff (kindOf fs) (getElem? xs i)) .0 (sym (at-map (kindOf fs) xs i) ∙ agree-at ms (map (kindOf fs) xs) q i m e) in
+        let x = (map-eq-some-iff (kindOf fs) (getElem? xs i)) .0 (sym (getElem?-map (kindOf fs) xs i) ∙ agree-at ms (map (kindOf fs) xs) q i m e) in
         let d = each-at (Some fs) xs i (x .0) (x .1) each in
         let n : frameNumber (x .0) ≤ length fs = numbered-high fs (frameNumber (x .0)) (d .1 .home) (d .1 .stands) in
         let kind : d .0 ≡ m .kind = sym (d .1 .kind) ∙ Option·some-injective (declKind (d .1 .decl)) (m .kind) (sym (kind-known fs (x .0) (d .1 .decl) (d .1 .declared)) ∙ x .2) in

@@ -1,6 +1,6 @@
 -- How to prove a property of whatever a step comes to: give it for each outcome, with what is known there.
--- `step-cases` takes a step apart, and then a rule for each statement; `run-keeps` carries what every step keeps through a run.
-use Prim.Native.Nat.{ℕ, zero, suc, pred, _≤_, _<_}
+-- `step-cases` takes a step apart, and then a rule for each statement.
+use Prim.Native.Nat.{ℕ, suc, pred, _≤_, _<_}
 use mathlib.Core.Path.{_≡_, refl, sym, subst}
 use mathlib.Core.Bool.{Bool, true, false, _&&_, cond}
 use mathlib.Core.List.{List, [], _∷_, _++_, map}
@@ -18,10 +18,10 @@ use Rattle.language.specs.Table.{holds, size, atLeastOne, full, add, remove}
 use Rattle.language.specs.Machine.{Limits, compute}
 use Rattle.language.specs.declared.Stop.{Stop}
 use Rattle.language.specs.declared.Stop.the-variants.{ResultTooLarge, NoActivationLeft, NumberBelowOne, GroupFull, TableFull, ArgumentsDiffer}
-use Rattle.frames.specs.Frame.{Frame, Stack, Acted, acted, halted, Result, withFrames, tableChanged, stepped, continue, numbered, frameNumber, declOf, kindOf, wordAt, putWord, newFrame, act, actStmt, frameStmt, frameStep, results, frameRun}
+use Rattle.frames.specs.Frame.{Frame, Stack, Acted, acted, halted, withFrames, tableChanged, continue, numbered, frameNumber, declOf, kindOf, wordAt, putWord, newFrame, act, actStmt, frameStmt, frameStep}
 use Rattle.frame_laws.specs.Finding.{declOf-frame}
 use Rattle.frame_laws.specs.Actions.{calls-nothing, calls-differing, calls-full, calls, goes, goes-nowhere, passes, jumps, computes, computes-past, adds-below-one, adds-held, adds-group-full, adds-table-full, adds, removes-below-one, removes, asks-below-one, asks, enters, enters-full}
-use Rattle.frame_laws.specs.Innermost.{innermost, step-leaves, step-does, run-finished, run-spent, run-steps, run-stops}
+use Rattle.frame_laws.specs.Innermost.{innermost, step-leaves, step-does}
 
 -- a test and a lookup with what they come to
 pub by-test : {R : Type 0} (b : Bool) → (b ≡ true → R) → (b ≡ false → R) → R
@@ -31,15 +31,6 @@ by-test false p q = q refl
 pub by-lookup : {A R : Type 0} (o : Option A) → (o ≡ none → R) → ((a : A) → o ≡ some a → R) → R
 by-lookup none p q = p refl
 by-lookup (some a) p q = q a refl
-
-pub by-frames : {A R : Type 0} (xs : List A) → (xs ≡ [] → R) → (1 ≤ length xs → R) → R
-by-frames [] p q = p refl
-by-frames (x ∷ xs) p q = q (omega arith)
-
--- a property of the stack that a statement leaves, where it did not stop
-abbrev pub After : (Stack → Type 0) → Acted → Type 0
-After P (acted s) = P s
-After P (halted c) = Unit {0}
 
 module _ (l : Limits) (s : Stack) (Q : Acted → Type 0) (stops : (c : Stop) → Q (halted c)) where
   pub enter-cases : (b : Block) → (length (s .frames) < l .activations → Q (acted (withFrames s (s .frames ++ (newFrame [] [] b (length (s .frames)) ∷ []))))) → Q (actStmt l s (BK b))
@@ -107,17 +98,3 @@ pub step-cases : (l : Limits) (s : Stack) (Q : Acted → Type 0) → 1 ≤ lengt
 step-cases l s Q h leave does =
     let q = innermost s h in
     by-lookup (frameStmt (q .1)) (λ e. subst Q (sym (step-leaves l s (q .0) (q .1) (q .2) e)) (leave (q .0) (q .1) (q .2) e)) (λ x e. subst Q (sym (step-does l s (q .0) (q .1) x (q .2) e)) (does (q .0) (q .1) x (q .2) e))
-
--- what every step keeps holds of the stack that a run leaves; the stacks of a run are those that its shorter runs leave
-module _ (l : Limits) (P : Stack → Type 0) (keeps : (s : Stack) → 1 ≤ length (s .frames) → P s → After (λ s′. P (stepped s′)) (frameStep l s)) where
-  run-on : (n : ℕ) (s : Stack) → 1 ≤ length (s .frames) → P s → (d : Acted) → frameStep l s ≡ d → After (λ s′. P (stepped s′)) d → ((s′ : Stack) → P s′ → P ((frameRun l n s′) .final)) → P ((frameRun l (suc n) s) .final)
-  unfolding results
-  run-on n s h p (acted s′) e q f = subst (λ (r : Result). P (r .final)) (sym (run-steps l s n s′ h e)) (f (stepped s′) q)
-  run-on n s h p (halted c) e q f = subst (λ (r : Result). P (r .final)) (sym (run-stops l s n c h e)) p
-
-  pub run-keeps : (n : ℕ) (s : Stack) → P s → P ((frameRun l n s) .final)
-  unfolding results
-  run-keeps zero s p =
-      by-frames (s .frames) (λ e. subst (λ (r : Result). P (r .final)) (sym (run-finished l s 0 e)) p) (λ h. subst (λ (r : Result). P (r .final)) (sym (run-spent l s h)) p)
-  run-keeps (suc n) s p =
-      by-frames (s .frames) (λ e. subst (λ (r : Result). P (r .final)) (sym (run-finished l s (suc n) e)) p) (λ h. run-on n s h p (frameStep l s) refl (keeps s h p) (run-keeps n))

@@ -10,7 +10,7 @@ use lib.ListN.{length, getElem?}
 use Rattle.language.specs.Text.{Action, CL, GO, IF, KN, AR, AD, RM, QY, DO}
 use Rattle.language.specs.Machine.{Limits}
 use Rattle.frames.specs.Frame.{Frame, Stack, numbered, designates, continue, frameNumber, declOf, kindOf, wordAt, mapAction, withFrames, act, frameStmt, frameStep}
-use Rattle.frame_laws.specs.Lists.{snoc-length}
+use Rattle.laws.specs.Lists.{snoc-length}
 use Rattle.frame_laws.specs.Finding.{wordAt-found, wordAt-none}
 use Rattle.frame_laws.specs.Actions.{does}
 use Rattle.frame_laws.specs.Innermost.{step-does}

@@ -2,34 +2,26 @@
 -- link and words of the frames count for it: another next statement number changes nothing (`designates-continued` and its like).
 use Prim.Native.Nat.{ℕ, zero, suc, pred, _+_, _*_, _/_, _%_, _≤_, _<_}
 use native.Mathlib.Omega.{arith}
-use mathlib.Core.Bool.{Bool, true, false}
+use mathlib.Core.Bool.{true, false}
 use mathlib.Core.Path.{_≡_, refl, sym, ap, _∙_, subst}
 use mathlib.Core.Logic.{inl, inr}
-use mathlib.Core.List.{List, [], _∷_}
+use mathlib.Core.List.{List}
 use mathlib.Core.Option.{Option, none, some, Option·none-ne-some, Option·some-injective}
-use lib.Dec.{eqb, leb}
+use lib.Dec.{leb}
 use lib.ListN.{length}
 use borrow.Author.Tests.{leb-true, leb-false}
 use Rattle.language.specs.Text.{blockDecls}
 use Rattle.frames.specs.Frame.{Frame, Place, numbered, frameNames, positionFrom, seekFrom, seekName, designatorIn, finally, designates}
+use Rattle.frames.specs.Numbered.{numbered-bounds}
+use Rattle.frames.specs.Positions.{position-range}
 use Rattle.frame_laws.specs.Parts.{frameNames-length}
 use Rattle.frame_laws.specs.Finding.{designates-found, designates-none, finally-formal, finally-declared}
-use Rattle.frame_laws.specs.Innermost.{numbered-bounds}
 use Rattle.frame_laws.specs.Cases.{by-test, by-lookup}
 use Rattle.frame_laws.specs.Formed.{names-few}
 use Rattle.frame_laws.specs.Sound.{Points, FrameSound, SoundFrames, Target}
 use Rattle.frame_laws.specs.SoundFrames.{points-weaker}
 
 -- A name is found at a position of the frame found
-
-pub position-bounds : (n i : ℕ) (xs : List ℕ) (p : ℕ) → positionFrom n i xs ≡ some p → (i ≤ p) × (p < i + length xs)
-unfolding positionFrom
-position-bounds n i [] p e = absurd (Option·none-ne-some p e)
-position-bounds n i (x ∷ xs) p e = go (position-bounds n (suc i) xs p) (eqb n x) e
-  where
-    go : (positionFrom n (suc i) xs ≡ some p → (suc i ≤ p) × (p < suc i + length xs)) → (t : Bool) → elim t as (λ y. Option ℕ) [ true ↦ some i | false ↦ positionFrom n (suc i) xs ] ≡ some p → (i ≤ p) × (p < i + suc (length xs))
-    go f true q = let r : i ≡ p = Option·some-injective i p q in omega arith
-    go f false q = let r = f q in omega (arith, r .0, r .1)
 
 pub record FoundAt (fs : List Frame) (n : ℕ) (p : Place) : Type 0 where
   pub frame : Frame
@@ -75,7 +67,7 @@ module _ (fs : List Frame) (n : ℕ) (p : Place) (h : SoundFrames fs) (q : Found
   at-formal t =
       let f = q .frame in
       let s = numbered-sound fs (p .number) f h (q .stands) in
-      let b = position-bounds n 1 (frameNames f) (p .position) (q .named) in
+      let b = position-range n 1 (p .position) (frameNames f) (q .named) in
       let c = numbered-bounds fs (p .number) f (q .stands) in
       let w = s .handed (pred (p .position)) (omega (arith, b .0, leb-true (p .position) (length (f .formals)) t)) in
       subst (Points fs (length fs)) (sym (finally-formal fs p f (q .stands) t ∙ ap designatorIn (w .1))) (points-weaker fs (pred (p .number)) (length fs) (w .0) (omega (arith, c .1)) (w .2))
@@ -84,7 +76,7 @@ module _ (fs : List Frame) (n : ℕ) (p : Place) (h : SoundFrames fs) (q : Found
   at-declared t =
       let f = q .frame in
       let s = numbered-sound fs (p .number) f h (q .stands) in
-      let b = position-bounds n 1 (frameNames f) (p .position) (q .named) in
+      let b = position-range n 1 (p .position) (frameNames f) (q .named) in
       let few = names-few (f .text) (f .formals) (s .in-form) in
       let len = frameNames-length f in
       subst (Points fs (length fs)) (sym (finally-declared fs p f (q .stands) t)) (points-declared fs (p .number) (p .position) f (q .stands) (leb-false _ _ t) (omega (arith, b .1)) (omega (arith, b .1)))

@@ -12,9 +12,9 @@ use lib.ListN.{length, set, getElem?, length-set}
 use lib.Seq.{getD-set-same, getD-set-other}
 use borrow.Author.Tests.{eqb-true, eqb-false}
 use Rattle.frames.specs.Frame.{Frame, rewritten, numbered, designates, linksFollowed, frameNumber, place, declOf, kindOf, wordAt, putWord}
-use Rattle.frame_laws.specs.Lists.{getElem-set-same, getElem-set-other}
+use Rattle.laws.specs.Lists.{getElem-set-same, getElem-set-other}
 use Rattle.frame_laws.specs.Finding.{wordAt-found, wordAt-none, putWord-found, putWord-none}
-use Rattle.frame_laws.specs.Innermost.{numbered-zero, numbered-index}
+use Rattle.frames.specs.Numbered.{numbered-zero, numbered-index}
 use Rattle.frame_laws.specs.Cases.{by-test, by-lookup}
 use Rattle.frame_laws.specs.Sound.{Points, SoundFrames, Target}
 use Rattle.frame_laws.specs.Names.{numbered-sound}
@@ -39,7 +39,7 @@ like-set fs m f g e h = record { count = length-set fs m g; each = at }
 
 pub like-put : (fs : List Frame) (x : ℕ) (z : ℤ) → Target fs x → LikeFrames fs (putWord fs x z)
 unfolding frameNumber place
-like-put fs x z (inl e) = subst (LikeFrames fs) (sym (ap (λ y. putWord fs y z) e ∙ putWord-none fs 0 z (numbered-zero fs))) (like-all fs)
+like-put fs x z (inl e) = subst (LikeFrames fs) (sym (ap (λ y. putWord fs y z) e ∙ putWord-none fs 0 z (numbered-zero fs 0 (omega arith)))) (like-all fs)
 like-put fs x z (inr p) =
     subst (LikeFrames fs) (sym (putWord-found fs x z (p .home) (p .stands)))
     (like-set fs (pred (x / 64)) (p .home) _ (numbered-index fs (x / 64) (p .home) (p .stands)) (like-rewritten (p .home) (pred (x % 64)) z (omega (arith, p .past))))

@@ -6,6 +6,8 @@ pub mod Theorem
 pub mod Both
 pub mod Renaming
 pub mod Positions
+pub mod Numbered
+pub mod Running
 pub mod Fine
 pub mod Related
 pub mod Cuts

@@ -3,7 +3,7 @@ use Prim.Native.Nat.{ℕ, zero, suc}
 use mathlib.Core.Path.{_≡_, subst}
 use mathlib.Core.List.{List, [], _∷_, _++_}
 use mathlib.Core.Option.{some}
-use lib.ListN.{take, getElem?}
+use lib.ListN.{take, getD, getElem?}
 use Rattle.language.specs.Basics.{last?, butLast}
 use Rattle.laws.specs.Tests.{none≢some, some-inj}
 
@@ -64,3 +64,8 @@ module _ {A : Type 0} where
     each-at [] n a e h = none≢some e
     each-at (x ∷ xs) zero a e h = subst P (some-inj e) (h .0)
     each-at (x ∷ xs) (suc n) a e h = each-at xs n a e (h .1)
+
+    pub each-getD : (xs : List A) (n : ℕ) (d : A) → P d → Each P xs → P (getD xs n d)
+    each-getD [] n d p h = p
+    each-getD (x ∷ xs) zero d p h = h .0
+    each-getD (x ∷ xs) (suc n) d p h = each-getD xs n d p (h .1)
