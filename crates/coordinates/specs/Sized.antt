@@ -2,24 +2,27 @@
 -- (`step-sized`, `run-sized`), so that the word at a coordinate's position is there.
 use Prim.Native.Nat.{ℕ, suc, pred, _+_, _≤_}
 use native.Mathlib.Omega.{arith}
-use mathlib.Core.Bool.{true, false≢true, and-eq-true-iff}
+use mathlib.Core.Bool.{true}
 use mathlib.Core.List.{List, [], _∷_, _++_, map}
 use mathlib.Core.Option.{Option, none, some, Option·map, map-eq-some-iff}
-use mathlib.Core.Path.{_≡_, refl, sym, ap, _∙_, subst, ap₂}
-use lib.IntN.{ℤ, pos}
+use mathlib.Core.Path.{_≡_, refl, sym, ap, _∙_, subst}
+use lib.IntN.{ℤ}
 use lib.ListN.{length, take, set, length-append, length-map, length-set}
 use lib.Seq.{length-take-le}
 use Rattle.language.specs.Basics.{last?, butLast}
-use Rattle.language.specs.Text.{Kind, Formal, Action, Block, Decl, blockDecls, declName, declFormals, declBody, labelIndex, formalNames, formalKinds, declaredNames, sameKind}
+use Rattle.language.specs.Text.{Formal, Action, Block, Decl, blockDecls, declFormals, declBody, labelIndex, formalKinds}
 use Rattle.language.specs.Scope.{agree}
 use Rattle.language.specs.Table.{Table}
 use Rattle.language.specs.Machine.{Limits}
 use Rattle.laws.specs.Lists.{butLast-take}
-use Rattle.frames.specs.Frame.{Frame, Stack, acted, numbered, frameNames, frameNumber, place, kindOf, designates, continue, rewritten, putWord, put, newFrame, zeroWords, withFrames, tableChanged, stepped, mapAction, advanceFrame, frameStep, frameRun, frameStart}
+use Rattle.frames.specs.Frame.{Frame, Stack, acted, numbered, frameNames, frameNumber, place, kindOf, designates, continue, rewritten, putWord, put, newFrame, withFrames, tableChanged, stepped, mapAction, advanceFrame, frameStep, frameRun, frameStart}
 use Rattle.frames.specs.Numbered.{numbered-low, numbered-high, numbered-append, numbered-seam, numbered-take}
-use Rattle.coordinates.specs.Walk.{After, Moves, Steps, step-by}
+use Rattle.frames.specs.Running.{After, run-keeps}
+use Rattle.laws.specs.Kinds.{agree-length}
+use Rattle.frame_laws.specs.Parts.{newFrame-length, frameNames-length}
+use Rattle.coordinates.specs.Walk.{Moves, Steps, step-by}
 use Rattle.coordinates.specs.Moves.{cut-at, cut-length, set-at, alike-append}
-use Rattle.coordinates.specs.Kept.{by-frame, run-keeps}
+use Rattle.coordinates.specs.Kept.{by-frame}
 use Rattle.coordinates.specs.Statement.{advanced, advanced-at}
 
 abbrev pub Sized : List Frame → Type 0
@@ -43,19 +46,9 @@ sized-entered fs f sized new =
     by-frame fs gs f (alike-append fs (f ∷ [])) (length-append fs (f ∷ []) ∙ omega arith) (numbered-seam fs f) (λ k g. length (g .words) ≡ length (frameNames g))
     (sized-by fs gs (length fs) (λ i h. sym (ap (Option·map sizes) (numbered-append fs (f ∷ []) i h))) sized) new
 
-agree-length : (ks : List Kind) (xs : List (Option Kind)) → agree ks xs ≡ true → length xs ≡ length ks
-unfolding agree
-agree-length [] [] e = refl
-agree-length [] (x ∷ xs) e = absurd (false≢true e)
-agree-length (k ∷ ks) [] e = absurd (false≢true e)
-agree-length (k ∷ ks) (none ∷ xs) e = absurd (false≢true e)
-agree-length (k ∷ ks) (some x ∷ xs) e = ap suc (agree-length ks xs (((and-eq-true-iff (sameKind k x) (agree ks xs)) .0 e) .1))
-
 new-sized : (ms : List Formal) (xs : List ℕ) (b : Block) (k : ℕ) → length xs ≡ length ms → length ((newFrame ms xs b k) .words) ≡ length (frameNames (newFrame ms xs b k))
-unfolding newFrame frameNames zeroWords formalNames declaredNames
-new-sized ms xs b k e =
-    length-append (map pos xs) (map (λ (d : Decl). pos 0) (blockDecls b)) ∙ ap₂ (λ (x y : ℕ). x + y) (length-map xs pos ∙ e ∙ sym (length-map ms (λ (f : Formal). f .name))) (length-map (blockDecls b) (λ (d : Decl). pos 0) ∙ sym (length-map (blockDecls b) declName))
-    ∙ sym (length-append (map (λ (f : Formal). f .name) ms) (map declName (blockDecls b)))
+unfolding newFrame
+new-sized ms xs b k e = newFrame-length ms xs b k ∙ ap (λ n. n + length (blockDecls b)) e ∙ sym (frameNames-length (newFrame ms xs b k))
 
 arguments-count : (fs : List Frame) (d : Decl) (xs : List ℕ) → agree (formalKinds (declFormals d)) (map (kindOf fs) xs) ≡ true → length xs ≡ length (declFormals d)
 unfolding formalKinds
@@ -124,4 +117,4 @@ start-sized t tab = sized-entered [] (newFrame [] [] t 0) (λ k f e. let h = num
 
 pub run-sized : (l : Limits) (n : ℕ) (s : Stack) → Sized (s .frames) → Sized ((frameRun l n s) .final .frames)
 unfolding stepped
-run-sized l n s h = run-keeps l (λ u. Sized (u .frames)) (λ u u′ e k. step-sized l u u′ e k) n s h
+run-sized l n s h = run-keeps l (λ u. Sized (u .frames)) (λ u u′ live e k. step-sized l u u′ e k) n s h

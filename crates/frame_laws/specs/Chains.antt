@@ -6,11 +6,11 @@ use mathlib.Core.Path.{_≡_, sym, ap, _∙_}
 use mathlib.Core.List.{List, [], _∷_, _++_}
 use mathlib.Core.Option.{none, some, Option·none-ne-some, Option·some-injective}
 use lib.ListN.{length}
+use Rattle.laws.specs.Tests.{by-lookup}
 use Rattle.frames.specs.Frame.{Frame, Place, numbered, frameNames, positionFrom, seekFrom, seekName, linksFollowed, frameNumber, declOf, kindOf, wordAt}
 use Rattle.laws.specs.Lists.{snoc-length}
 use Rattle.frame_laws.specs.Finding.{declOf-found, declOf-none, kindOf-found, kindOf-none, wordAt-found, wordAt-none, seekName-starts, seek-spent, seek-none, seek-here, seek-on, links-found, links-none}
 use Rattle.frames.specs.Numbered.{numbered-append, numbered-seam}
-use Rattle.frame_laws.specs.Cases.{by-lookup}
 use Rattle.frame_laws.specs.Sound.{SoundFrames}
 use Rattle.frame_laws.specs.Names.{numbered-sound}
 
@@ -34,7 +34,7 @@ module _ (pre rest : List Frame) where
   seek-below h zero k n j l = seek-spent (pre ++ rest) k n j ∙ sym (seek-spent pre k n j)
   seek-below h (suc m) k n j l =
       let b = numbered-append pre rest k l in
-      by-lookup (numbered pre k) (λ e. seek-none m (pre ++ rest) k n j (b ∙ e) ∙ sym (seek-none m pre k n j e))
+      by-lookup (numbered pre k) (λ e. seek-none (suc m) (pre ++ rest) k n j (b ∙ e) ∙ sym (seek-none (suc m) pre k n j e))
       (λ f e. by-lookup (positionFrom n 1 (frameNames f))
       (λ p. seek-on m (pre ++ rest) k n j f (b ∙ e) p ∙ seek-below h m (f .link) n (suc j) (omega (arith, (numbered-sound pre k f h e) .link-last)) ∙ sym (seek-on m pre k n j f e p))
       (λ i p. seek-here m (pre ++ rest) k n j f i (b ∙ e) p ∙ sym (seek-here m pre k n j f i e p)))
@@ -55,7 +55,7 @@ module _ (fs : List Frame) (g : Frame) (n : ℕ) where
 followed-most : (m : ℕ) (fs : List Frame) (k n j : ℕ) (p : Place) → seekFrom m fs k n j ≡ some p → p .followed < j + m
 followed-most zero fs k n j p e = absurd (Option·none-ne-some p (sym (seek-spent fs k n j) ∙ e))
 followed-most (suc m) fs k n j p e =
-    by-lookup (numbered fs k) (λ q. absurd (Option·none-ne-some p (sym (seek-none m fs k n j q) ∙ e)))
+    by-lookup (numbered fs k) (λ q. absurd (Option·none-ne-some p (sym (seek-none (suc m) fs k n j q) ∙ e)))
     (λ f q. by-lookup (positionFrom n 1 (frameNames f)) (λ r. omega (arith, followed-most m fs (f .link) n (suc j) p (sym (seek-on m fs k n j f q r) ∙ e)))
     (λ i r. let c = ap (λ (x : Place). x .followed) (Option·some-injective _ p (sym (seek-here m fs k n j f i q r) ∙ e)) in omega (arith, c)))
 

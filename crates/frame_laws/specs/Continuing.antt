@@ -9,12 +9,12 @@ use mathlib.Core.Option.{some, Option·none-ne-some, Option·some-injective}
 use lib.ListN.{length, getElem?}
 use Rattle.language.specs.Text.{Action, CL, GO, IF, KN, AR, AD, RM, QY, DO}
 use Rattle.language.specs.Machine.{Limits}
+use Rattle.laws.specs.Tests.{by-lookup}
 use Rattle.frames.specs.Frame.{Frame, Stack, numbered, designates, continue, frameNumber, declOf, kindOf, wordAt, mapAction, withFrames, act, frameStmt, frameStep}
 use Rattle.laws.specs.Lists.{snoc-length}
 use Rattle.frame_laws.specs.Finding.{wordAt-found, wordAt-none}
 use Rattle.frame_laws.specs.Actions.{does}
 use Rattle.frame_laws.specs.Innermost.{step-does}
-use Rattle.frame_laws.specs.Cases.{by-lookup}
 use Rattle.frame_laws.specs.Sound.{OnLabel, JumpsToLabel}
 use Rattle.frame_laws.specs.Likeness.{Like, LikeFrames, numbered-none, designates-like, declOf-like, kindOf-like, mapAction-like}
 

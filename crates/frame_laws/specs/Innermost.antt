@@ -18,10 +18,10 @@ use Rattle.frames.specs.Frame.{Frame, Stack, Acted, acted, withFrames, continue
 pub innermost : (s : Stack) → 1 ≤ length (s .frames) → (pre : List Frame) × (f : Frame) × (s .frames ≡ pre ++ (f ∷ []))
 innermost s h = let q = some-last (s .frames) h in (butLast (s .frames), q .0, last-split (s .frames) (q .0) (q .1))
 
-last-innermost : (s : Stack) (pre : List Frame) (f : Frame) → s .frames ≡ pre ++ (f ∷ []) → last? (s .frames) ≡ some f
+pub last-innermost : (s : Stack) (pre : List Frame) (f : Frame) → s .frames ≡ pre ++ (f ∷ []) → last? (s .frames) ≡ some f
 last-innermost s pre f e = ap last? e ∙ last-snoc pre f
 
-butLast-innermost : (s : Stack) (pre : List Frame) (f : Frame) → s .frames ≡ pre ++ (f ∷ []) → butLast (s .frames) ≡ pre
+pub butLast-innermost : (s : Stack) (pre : List Frame) (f : Frame) → s .frames ≡ pre ++ (f ∷ []) → butLast (s .frames) ≡ pre
 butLast-innermost s pre f e = ap butLast e ∙ butLast-snoc pre f
 
 pub advanced : (s : Stack) (pre : List Frame) (f : Frame) → s .frames ≡ pre ++ (f ∷ []) → advanceFrame s f ≡ withFrames s (pre ++ (continue f (suc (f .next)) ∷ []))

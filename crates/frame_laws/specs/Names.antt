@@ -11,12 +11,12 @@ use lib.Dec.{leb}
 use lib.ListN.{length}
 use borrow.Author.Tests.{leb-true, leb-false}
 use Rattle.language.specs.Text.{blockDecls}
+use Rattle.laws.specs.Tests.{split, by-lookup}
 use Rattle.frames.specs.Frame.{Frame, Place, numbered, frameNames, positionFrom, seekFrom, seekName, designatorIn, finally, designates}
 use Rattle.frames.specs.Numbered.{numbered-bounds}
 use Rattle.frames.specs.Positions.{position-range}
 use Rattle.frame_laws.specs.Parts.{frameNames-length}
 use Rattle.frame_laws.specs.Finding.{designates-found, designates-none, finally-formal, finally-declared}
-use Rattle.frame_laws.specs.Cases.{by-test, by-lookup}
 use Rattle.frame_laws.specs.Formed.{names-few}
 use Rattle.frame_laws.specs.Sound.{Points, FrameSound, SoundFrames, Target}
 use Rattle.frame_laws.specs.SoundFrames.{points-weaker}
@@ -82,7 +82,7 @@ module _ (fs : List Frame) (n : ℕ) (p : Place) (h : SoundFrames fs) (q : Found
       subst (Points fs (length fs)) (sym (finally-declared fs p f (q .stands) t)) (points-declared fs (p .number) (p .position) f (q .stands) (leb-false _ _ t) (omega (arith, b .1)) (omega (arith, b .1)))
 
   found-target : Points fs (length fs) (finally fs p)
-  found-target = by-test (leb (p .position) (length (q .frame .formals))) at-formal at-declared
+  found-target = split (leb (p .position) (length (q .frame .formals))) at-formal at-declared
 
 pub designates-target : (fs : List Frame) (n : ℕ) → SoundFrames fs → Target fs (designates fs n)
 designates-target fs n h = by-lookup (seekName fs n) (λ e. inl (designates-none fs n e)) (λ p e. inr (subst (Points fs (length fs)) (sym (designates-found fs n p e)) (found-target fs n p h (seekName-found fs n p e))))

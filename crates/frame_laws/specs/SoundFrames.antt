@@ -14,11 +14,11 @@ use lib.Seq.{getD-set-other}
 use lib.Signed.{mag}
 use borrow.Author.Tests.{eqb-true, eqb-false, ltb-true, ltb-false}
 use Rattle.language.specs.Text.{Formal, Block, Decl, blockDecls, blockStmts}
+use Rattle.laws.specs.Tests.{split}
 use Rattle.frames.specs.Frame.{Frame, numbered, continue, rewritten, zeroWords, newFrame}
 use Rattle.laws.specs.Lists.{snoc-length, getElem-bound, getElem-append, getElem-seam, getElem-set-same, getElem-set-other, getD-set, getD-both}
 use Rattle.frame_laws.specs.Parts.{newFrame-length}
 use Rattle.frames.specs.Numbered.{numbered-suc}
-use Rattle.frame_laws.specs.Cases.{by-test}
 use Rattle.frame_laws.specs.Formed.{InForm, names-few}
 use Rattle.frame_laws.specs.Sound.{Points, FrameSound, SoundFrames}
 
@@ -84,7 +84,7 @@ frame-put fs k f i z h p q =
 
 alike-set : (fs : List Frame) (i : ℕ) (f g : Frame) (k : ℕ) → getElem? fs i ≡ some f → g .formals ≡ f .formals → g .text ≡ f .text → Alike fs (set fs i g) k
 alike-set fs i f g k e p q j h l d =
-    by-test (eqb j i)
+    split (eqb j i)
     (λ t. let c : j ≡ i = eqb-true j i t in
     let r : f ≡ h = Option·some-injective f h (sym e ∙ ap (getElem? fs) (sym c) ∙ d) in
     (g, ap (getElem? (set fs i g)) c ∙ getElem-set-same fs i f g e, p ∙ ap (λ (y : Frame). y .formals) r, q ∙ ap (λ (y : Frame). y .text) r))
@@ -95,7 +95,7 @@ unfolding rewritten
 sound-put fs m i f z h e p q k x d =
     let g = rewritten f (set (f .words) i z) in
     frame-alike fs (set fs m g) k x (alike-set fs m f g k e refl refl)
-    (by-test (eqb k m)
+    (split (eqb k m)
     (λ t. let c : k ≡ m = eqb-true k m t in
     let r : g ≡ x = Option·some-injective g x (sym (getElem-set-same fs m f g e) ∙ ap (getElem? (set fs m g)) (sym c) ∙ d) in
     subst (λ y. FrameSound fs k y) r (frame-put fs k f i z (h k f (ap (getElem? fs) c ∙ e)) p q))

@@ -16,10 +16,11 @@ use Rattle.language.specs.Check.{accepted, check}
 use Rattle.language.specs.Table.{Table}
 use Rattle.language.specs.Machine.{Limits}
 use Rattle.language.specs.Call.{Fed, limitsFit}
+use Rattle.laws.specs.Lists.{by-elements}
 use Rattle.grammar.specs.Rules.{Bytes, Keeps}
 use Rattle.grammar.specs.Exact.{accepts-exactly}
 use Rattle.frames.specs.Frame.{Stack, Acted, acted, halted, Result, stepped, newFrame, frameStart, frameStep, results, frameRun, frameRunOf}
-use Rattle.frames.specs.Running.{After, by-frames, run-finished, run-spent, run-steps, run-keeps}
+use Rattle.frames.specs.Running.{After, run-finished, run-spent, run-steps, run-keeps}
 use Rattle.frame_laws.specs.Formed.{program-in-form}
 use Rattle.frame_laws.specs.Sound.{Sound, Lands}
 use Rattle.frame_laws.specs.SoundFrames.{sound-new, sound-more}
@@ -41,7 +42,7 @@ module _ (l : Limits) (most : l .activations ≤ 256) where
 
   run-none : (s : Stack) → (frameRun l 0 s) .final ≡ s
   unfolding results
-  run-none s = by-frames (s .frames) (λ e. ap (λ (r : Result). r .final) (run-finished l s 0 e)) (λ e. ap (λ (r : Result). r .final) (run-spent l s e))
+  run-none s = by-elements (s .frames) (λ e. ap (λ (r : Result). r .final) (run-finished l s 0 e)) (λ e. ap (λ (r : Result). r .final) (run-spent l s e))
 
   landing-on : (s : Stack) → 1 ≤ length (s .frames) → ((i : ℕ) → Lands ((frameRun l i s) .final)) → (d : Acted) → frameStep l s ≡ d → After (λ s′. (i : ℕ) → Lands ((frameRun l i (stepped s′)) .final)) d
   landing-on s n f (acted s′) e = λ i. subst (λ (r : Result). Lands (r .final)) (run-steps l s i s′ n e) (f (suc i))

@@ -15,6 +15,7 @@ use Rattle.language.specs.Text.{Kind, Formal, Action, CL, GO, IF, KN, AR, AD, R
 use Rattle.language.specs.Scope.{agree}
 use Rattle.language.specs.Table.{Table}
 use Rattle.language.specs.Machine.{Limits}
+use Rattle.laws.specs.Tests.{by-lookup}
 use Rattle.laws.specs.Kinds.{agree-length}
 use Rattle.laws.specs.Each.{Each, each-getD}
 use Rattle.grammar.specs.Rules.{FormedAction}
@@ -24,7 +25,7 @@ use Rattle.frame_laws.specs.Finding.{declOf-found, declOf-none, declOf-f
 use Rattle.frame_laws.specs.Actions.{stores, does}
 use Rattle.frames.specs.Running.{After}
 use Rattle.frames.specs.Numbered.{numbered-zero, numbered-bounds, numbered-index}
-use Rattle.frame_laws.specs.Cases.{by-lookup, enter-cases, call-cases, go-cases, if-cases, compute-cases, add-cases, remove-cases, ask-cases, step-cases}
+use Rattle.frame_laws.specs.Cases.{enter-cases, call-cases, go-cases, if-cases, compute-cases, add-cases, remove-cases, ask-cases, step-cases}
 use Rattle.frame_laws.specs.Formed.{InForm, DeclInForm, StmtInForm, decl-in-form, stmt-in-form, body-in-form, label-in-form, block-in-form, action-in-form}
 use Rattle.frame_laws.specs.Sound.{Points, FrameSound, SoundFrames, Sound, Target, OnLabel, JumpsToLabel, Lands}
 use Rattle.frame_laws.specs.SoundFrames.{sound-first, sound-after, sound-more, sound-continued, sound-put, sound-new}

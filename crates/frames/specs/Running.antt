@@ -2,13 +2,13 @@
 -- a run are those that its shorter runs leave.
 use Prim.Native.Nat.{ℕ, zero, suc, _≤_}
 use native.Mathlib.Nat.{not-suc-le-zero}
-use native.Mathlib.Omega.{arith}
 use mathlib.Core.Path.{_≡_, refl, sym, ap, _∙_, subst}
 use mathlib.Core.List.{List, [], _∷_}
 use lib.ListN.{length}
 use Rattle.language.specs.Machine.{Limits}
 use Rattle.language.specs.declared.Stop.{Stop}
 use Rattle.language.specs.declared.End.the-variants.{Finished, Spent, Stopped}
+use Rattle.laws.specs.Lists.{by-elements}
 use Rattle.frames.specs.Frame.{Frame, Stack, Acted, acted, halted, stepped, frameStep, frameOffset, Result, results, frameRun}
 
 module _ (l : Limits) (s : Stack) where
@@ -43,11 +43,6 @@ module _ (l : Limits) (s : Stack) where
   pub run-stops : (n : ℕ) (c : Stop) → 1 ≤ length (s .frames) → frameStep l s ≡ halted c → frameRun l (suc n) s ≡ results (Stopped c) (frameOffset s) s
   run-stops n c h e = run-by-step n h ∙ ap (on-step n) e
 
--- no frame is left, or some are
-pub by-frames : {A R : Type 0} (xs : List A) → (xs ≡ [] → R) → (1 ≤ length xs → R) → R
-by-frames [] p q = p refl
-by-frames (x ∷ xs) p q = q (omega arith)
-
 -- a property of the stack that a statement or a step leaves, where it did not stop
 abbrev pub After : (Stack → Type 0) → Acted → Type 0
 After P (acted s) = P s
@@ -64,5 +59,5 @@ module _ (l : Limits) (P : Stack → Type 0) (keeps : (s s′ : Stack) → 1 ≤
 
   pub run-keeps : (n : ℕ) (s : Stack) → P s → P ((frameRun l n s) .final)
   unfolding results leaves
-  run-keeps zero s p = by-frames (s .frames) (λ e. subst leaves (sym (run-finished l s 0 e)) p) (λ h. subst leaves (sym (run-spent l s h)) p)
-  run-keeps (suc n) s p = by-frames (s .frames) (λ e. subst leaves (sym (run-finished l s (suc n) e)) p) (λ h. run-on n s h p (run-keeps n) (frameStep l s) refl)
+  run-keeps zero s p = by-elements (s .frames) (λ e. subst leaves (sym (run-finished l s 0 e)) p) (λ h. subst leaves (sym (run-spent l s h)) p)
+  run-keeps (suc n) s p = by-elements (s .frames) (λ e. subst leaves (sym (run-finished l s (suc n) e)) p) (λ h. run-on n s h p (run-keeps n) (frameStep l s) refl)

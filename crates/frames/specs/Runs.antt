@@ -19,7 +19,7 @@ use Rattle.language.specs.Sheet.{Found, seek, designator, declWord, activationW
 use Rattle.language.specs.Call.{Engine, copying, chain, display, Fed, areaFits, linksOf, replied, runOf, checked}
 use Rattle.language.specs.declared.End.the-variants.{Stopped}
 use Rattle.laws.specs.Tests.{split}
-use Rattle.laws.specs.Lists.{some-last, last-none, last-split, getElem-seam, map-alike}
+use Rattle.laws.specs.Lists.{by-elements, some-last, last-none, last-split, getElem-seam, map-alike}
 use Rattle.laws.specs.Renaming.{blockAt-renamed, rename-nothing}
 use Rattle.laws.specs.Rising.{Rising}
 use Rattle.grammar.specs.Rules.{Bytes}
@@ -34,7 +34,6 @@ use Rattle.frames.specs.Push.{related-push}
 use Rattle.frames.specs.Find.{foundDesignator, passedIn, designates-found, links-found}
 use Rattle.frames.specs.Actions.{Alike, value-is}
 use Rattle.frames.specs.Running as framed
-use Rattle.frames.specs.Running.{by-frames}
 use Rattle.frames.specs.Steps.{step-alike, offset-alike}
 use Rattle.frames.specs.Fine.{fine-script}
 
@@ -63,7 +62,7 @@ module _ (l : Limits) (s : State) (t : Stack) (r : Related s t) (inv : Invariant
   -- neither machine has an activation, or both have one
   by-depth : {X : Type 0} → (s .live ≡ [] → t .frames ≡ [] → X) → ((b : Activation) → last? (s .live) ≡ some b → s .live ≢ [] → 1 ≤ length (t .frames) → X) → X
   by-depth none-live some-live =
-      by-frames (s .live) (λ e. none-live e (by-frames (t .frames) (λ q. q) (λ h. absurd (omega (arith, ap length e, depth-same)))))
+      by-elements (s .live) (λ e. none-live e (by-elements (t .frames) (λ q. q) (λ h. absurd (omega (arith, ap length e, depth-same)))))
       (λ h. let b = some-last (s .live) h in some-live (b .0) (b .1) (λ q. omega (arith, ap length q)) (omega (arith, depth-same)))
 
   same-zero : Same (run l 0 s) (frameRun l 0 t)
@@ -140,7 +139,7 @@ sheet-same s t r = sheets-same s 0 (s .live) (t .frames) (r .twins)
 -- The looked-up name is one.
 module _ (s : State) (t : Stack) (r : Related s t) (n : ℕ) where
   none-looked : s .live ≡ [] → t .frames ≡ []
-  none-looked e = by-frames (t .frames) (λ q. q) (λ h. absurd (omega (arith, ap length e, both-length (Twin (s .live) (s .values)) 0 (s .live) (t .frames) (r .twins))))
+  none-looked e = by-elements (t .frames) (λ q. q) (λ h. absurd (omega (arith, ap length e, both-length (Twin (s .live) (s .values)) 0 (s .live) (t .frames) (r .twins))))
 
   found-designator : (o : Option Found) → lookedUp s n ≡ o → lookedUpDesignator s n ≡ foundDesignator (s .live) o
   unfolding lookedUpDesignator foundDesignator

@@ -60,6 +60,11 @@ module _ {ℓ} {A : Type ℓ} where
   pub replaced-length : (l : List A) (a b : A) → last? l ≡ some a → length (butLast l ++ (b ∷ [])) ≡ length l
   replaced-length l a b e = length-append (butLast l) (b ∷ []) ∙ sym (length-append (butLast l) (a ∷ [])) ∙ ap length (sym (last-split l a e))
 
+  -- a list has no element, or some
+  pub by-elements {ℓ′} : {X : Type ℓ′} (l : List A) → (l ≡ [] → X) → (1 ≤ length l → X) → X
+  by-elements [] f g = f refl
+  by-elements (x ∷ l) f g = g (omega arith)
+
   -- the element at an index
   pub getElem-append : (l m : List A) (k : ℕ) → k < length l → getElem? (l ++ m) k ≡ getElem? l k
   getElem-append [] m k h = absurd (not-suc-le-zero h)
