@@ -1,19 +1,17 @@
 -- One word a name. `Sized fs`: every frame has as many words as its block has names, formals included; a run of any script keeps that
 -- (`step-sized`, `run-sized`), so that the word at a coordinate's position is there (`sized-at`).
 use Prim.Native.Nat.{ℕ, suc, pred, _+_}
-use mathlib.Core.Bool.{true}
-use mathlib.Core.List.{List, [], _∷_, _++_, map}
+use mathlib.Core.List.{List, [], _∷_, _++_}
 use mathlib.Core.Option.{some}
 use mathlib.Core.Path.{_≡_, refl, sym, ap, _∙_, subst}
 use lib.IntN.{ℤ}
-use lib.ListN.{length, take, set, length-map, length-set}
+use lib.ListN.{length, take, set, length-set}
 use Rattle.language.specs.Basics.{last?, butLast}
-use Rattle.language.specs.Text.{Formal, Action, Block, Decl, blockDecls, declFormals, declBody, labelIndex, formalKinds}
-use Rattle.language.specs.Scope.{agree}
+use Rattle.language.specs.Text.{Formal, Action, Block, blockDecls, declFormals, declBody, labelIndex}
 use Rattle.language.specs.Table.{Table}
 use Rattle.language.specs.Machine.{Limits}
 use Rattle.laws.specs.Tests.{by-lookup}
-use Rattle.laws.specs.Kinds.{agree-length}
+use Rattle.laws.specs.Kinds.{agree-many}
 use Rattle.laws.specs.Each.{Each, each-append, each-take, each-set, each-butLast, each-last, each-at}
 use Rattle.frames.specs.Frame.{Frame, Stack, acted, numbered, frameNames, frameNumber, place, kindOf, designates, continue, rewritten, putWord, put, newFrame, withFrames, tableChanged, stepped, mapAction, advanceFrame, frameStep, frameRun, frameStart}
 use Rattle.frames.specs.Numbered.{numbered-index}
@@ -38,10 +36,6 @@ topped fs f h q = each-append Full fs (f ∷ []) h (q, tt)
 new-sized : (ms : List Formal) (xs : List ℕ) (b : Block) (k : ℕ) → length xs ≡ length ms → Full (newFrame ms xs b k)
 unfolding newFrame
 new-sized ms xs b k e = newFrame-length ms xs b k ∙ ap (λ n. n + length (blockDecls b)) e ∙ sym (frameNames-length (newFrame ms xs b k))
-
-arguments-count : (fs : List Frame) (d : Decl) (xs : List ℕ) → agree (formalKinds (declFormals d)) (map (kindOf fs) xs) ≡ true → length xs ≡ length (declFormals d)
-unfolding formalKinds
-arguments-count fs d xs q = sym (length-map xs (kindOf fs)) ∙ agree-length (formalKinds (declFormals d)) (map (kindOf fs) xs) q ∙ length-map (declFormals d) (λ (f : Formal). f .kind)
 
 continued-full : (f : Frame) (i : ℕ) → Full f → Full (continue f i)
 unfolding continue frameNames
@@ -69,7 +63,7 @@ module _ (s : Stack) (sized : Sized (s .frames)) where
         tabled = λ t. w;
         stored = λ x z r. put-sized (u .frames) x z w;
         jumped = λ x g d n c. topped (take (pred (frameNumber x)) (u .frames)) _ (each-take Full (pred (frameNumber x)) (u .frames) w) (continued-full g (labelIndex d) (sized-at (u .frames) w (frameNumber x) g n));
-        called = λ p xs d r n c. topped (u .frames) _ w (new-sized (declFormals d) xs (declBody d) (frameNumber p) (arguments-count (u .frames) d xs c));
+        called = λ p xs d r n c. topped (u .frames) _ w (new-sized (declFormals d) xs (declBody d) (frameNumber p) (agree-many (kindOf (u .frames)) (declFormals d) xs c));
       }
 
   step-sizes : Steps (λ v. Sized (v .frames)) s

@@ -1,9 +1,9 @@
 -- The words of formals stay right in a run of a script that keeps the rules. Read `Sound t fs` as: the frames fs are linked as the text t
 -- says (`Chained`) and every formal's word designates an instance of its kind (`Wired`). `step-sound`: a step keeps it; `run-sound`: every
 -- state of a run of a script that keeps the rules has it, with no other condition.
-use Prim.Native.Nat.{ℕ, zero, suc, pred, _≤_, _<_}
+use Prim.Native.Nat.{ℕ, suc, pred, _≤_, _<_}
 use native.Mathlib.Omega.{arith}
-use mathlib.Core.Bool.{true, false≢true}
+use mathlib.Core.Bool.{true}
 use mathlib.Core.List.{List, [], _∷_, _++_, map}
 use mathlib.Core.Option.{Option, none, some, Option·map, map-eq-some-iff, Option·none-ne-some, Option·some-injective}
 use mathlib.Core.Path.{_≡_, refl, sym, ap, _∙_, subst}
@@ -15,7 +15,7 @@ use Rattle.language.specs.Text.{Kind, variable, Formal, Action, CL, GO, IF, KN,
 use Rattle.language.specs.Scope.{Meaning, Scope, agree}
 use Rattle.language.specs.Table.{Table}
 use Rattle.language.specs.Machine.{Limits}
-use Rattle.laws.specs.Kinds.{agree-first}
+use Rattle.laws.specs.Kinds.{agree-at}
 use Rattle.laws.specs.Each.{Each, each-at}
 use Rattle.laws.specs.Lists.{getElem-bound, getElem-take, getElem-append, getElem?-map, butLast-take}
 use Rattle.grammar.specs.Rules.{Visible, Is, ScopedAction, Keeps}
@@ -99,13 +99,6 @@ put-wired u x z k d wired =
     (wired-kept (u .frames) (set (u .frames) (pred (frameNumber x)) g) (λ i h. set-at wiring (u .frames) (frameNumber x) f g (d .stands) (wiring-rewritten f (place x) z (d .past)) i) wired)
 
 -- A body's formals get what the arguments designate
-
-agree-at : (ks : List Kind) (os : List (Option Kind)) → agree ks os ≡ true → (i : ℕ) (k : Kind) → getElem? ks i ≡ some k → getElem? os i ≡ some (some k)
-unfolding agree
-agree-at [] os e i k q = absurd (Option·none-ne-some k q)
-agree-at (x ∷ ks) [] e i k q = absurd (false≢true e)
-agree-at (x ∷ ks) (o ∷ os) e zero k q = ap {B = Option (Option Kind)} some ((agree-first x ks o os e) .0 ∙ q)
-agree-at (x ∷ ks) (o ∷ os) e (suc i) k q = agree-at ks os ((agree-first x ks o os e) .1) i k q
 
 argument-words : (ms : List Formal) (xs : List ℕ) (b : Block) (k i x : ℕ) → getElem? xs i ≡ some x → getElem? ((newFrame ms xs b k) .words) i ≡ some (pos x)
 unfolding newFrame

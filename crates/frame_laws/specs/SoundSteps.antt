@@ -1,22 +1,22 @@
 -- A step keeps Sound (`step-sound`), where the next statement lands: a goto goes to a label. Nothing else of scope is needed: a call
 -- of what is no procedure enters an empty block, and a store reaches no formal's word.
-use Prim.Native.Nat.{ℕ, zero, suc, pred, _-_, _/_, _%_, _≤_, _<_}
+use Prim.Native.Nat.{ℕ, suc, pred, _-_, _/_, _%_, _≤_, _<_}
 use native.Mathlib.Nat.{not-suc-le-zero}
 use native.Mathlib.Omega.{arith}
-use mathlib.Core.Bool.{true, false≢true, and-eq-true-iff}
+use mathlib.Core.Bool.{true}
 use mathlib.Core.Path.{_≡_, refl, sym, ap, _∙_, subst}
 use mathlib.Core.Logic.{inl, inr}
 use mathlib.Core.List.{List, [], _∷_, _++_, map}
-use mathlib.Core.Option.{Option, none, some, Option·none-ne-some}
+use mathlib.Core.Option.{none, some, Option·none-ne-some}
 use lib.IntN.{ℤ}
-use lib.ListN.{length, take, drop, getD, getElem?, length-map, length-set, length-take, take-append-drop}
+use lib.ListN.{length, take, drop, getD, getElem?, length-set, length-take, take-append-drop}
 use lib.Signed.{mag}
-use Rattle.language.specs.Text.{Kind, Formal, Action, CL, GO, IF, KN, AR, AD, RM, QY, Block, Decl, Stmt, BK, DO, blockStmts, labelIndex, declFormals, declBody, formalKinds, sameKind}
+use Rattle.language.specs.Text.{Kind, Action, CL, GO, IF, KN, AR, AD, RM, QY, Block, Decl, Stmt, BK, DO, blockStmts, labelIndex, declFormals, declBody, formalKinds}
 use Rattle.language.specs.Scope.{agree}
 use Rattle.language.specs.Table.{Table}
 use Rattle.language.specs.Machine.{Limits}
 use Rattle.laws.specs.Tests.{by-lookup}
-use Rattle.laws.specs.Kinds.{agree-length}
+use Rattle.laws.specs.Kinds.{agree-many, agree-known}
 use Rattle.laws.specs.Each.{Each, each-getD}
 use Rattle.grammar.specs.Rules.{FormedAction}
 use Rattle.frames.specs.Frame.{Frame, Stack, Acted, acted, halted, withFrames, tableChanged, stepped, continue, numbered, designates, frameNumber, place, declOf, kindOf, putWord, mapAction, newFrame, act, actStmt, frameStmt, frameStep}
@@ -127,21 +127,6 @@ put-sound l s x z h t q = sound-with l s (putWord (s .frames) x z) (omega (arith
 
 -- Calls
 
-agree-kind : {A : Type 0} (r : A → Option Kind) (d : A) (ks : List Kind) (xs : List A) → agree ks (map r xs) ≡ true → (i : ℕ) → i < length xs → (k : Kind) × (r (getD xs i d) ≡ some k)
-unfolding agree
-agree-kind r d ks [] e i l = absurd (not-suc-le-zero l)
-agree-kind r d [] (x ∷ xs) e i l = absurd (false≢true e)
-agree-kind r d (k ∷ ks) (x ∷ xs) e i l = go (λ f j m. agree-kind r d ks xs f j m) (r x) refl e i l
-  where
-    go : (agree ks (map r xs) ≡ true → (j : ℕ) → j < length xs → (q : Kind) × (r (getD xs j d) ≡ some q)) → (o : Option Kind) → r x ≡ o → agree (k ∷ ks) (o ∷ map r xs) ≡ true → (j : ℕ) → j < suc (length xs) → (q : Kind) × (r (getD (x ∷ xs) j d) ≡ some q)
-    go f none c a j m = absurd (false≢true a)
-    go f (some q) c a zero m = (q, c)
-    go f (some q) c a (suc j) m = f (((and-eq-true-iff (sameKind k q) (agree ks (map r xs))) .0 a) .1) j (omega arith)
-
-kinds-length : (fs : List Formal) → length (formalKinds fs) ≡ length fs
-unfolding formalKinds
-kinds-length fs = length-map fs (λ (f : Formal). f .kind)
-
 module _ (l : Limits) (most : l .activations ≤ 256) where
   pub pushed-sound : (s : Stack) (f : Frame) → Sound l s → length (s .frames) < l .activations → FrameSound (s .frames) (length (s .frames)) f → Sound l (withFrames s (s .frames ++ (f ∷ [])))
   pushed-sound s f h r g = sound-with l s (s .frames ++ (f ∷ [])) (omega (arith, snoc-length (s .frames) f)) (sound-more (s .frames) f (h .each) g)
@@ -153,10 +138,10 @@ module _ (l : Limits) (most : l .activations ≤ 256) where
       body d e a r =
           let q = declOf-frame (s .frames) p d e in
           let b = numbered-bounds (s .frames) (frameNumber p) (q .0) (q .1) in
-          let n : length xs ≡ length (declFormals d) = sym (length-map xs (kindOf (s .frames))) ∙ agree-length (formalKinds (declFormals d)) (map (kindOf (s .frames)) xs) a ∙ kinds-length (declFormals d) in
+          let n : length xs ≡ length (declFormals d) = agree-many (kindOf (s .frames)) (declFormals d) xs a in
           pushed-sound s (newFrame (declFormals d) xs (declBody d) (frameNumber p)) h r
           (sound-new (s .frames) (declFormals d) xs (declBody d) (frameNumber p) (body-in-form d _ (declOf-in-form (s .frames) p (q .0) d (h .each) (q .1) e)) n
-          (λ i m. let k = agree-kind (kindOf (s .frames)) 0 (formalKinds (declFormals d)) xs a i m in
+          (λ i m. let k = agree-known (kindOf (s .frames)) 0 (formalKinds (declFormals d)) xs a i m in
           kind-points (s .frames) (getD xs i 0) (k .0) (each-getD (Target (s .frames)) xs i 0 (inl refl) ts) (k .1))
           (b .1) (λ z. b .0) (omega arith))
 

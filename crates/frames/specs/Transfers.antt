@@ -1,17 +1,17 @@
 -- Gotos, calls and blocks entered: the relation is kept, or both machines stop for one cause.
-use Prim.Native.Nat.{ℕ, suc, pred, _+_, _≤_}
+use Prim.Native.Nat.{ℕ, suc, pred, _≤_}
 use native.Mathlib.Omega.{arith}
 use mathlib.Core.Bool.{Bool, true, false}
 use mathlib.Core.Path.{_≡_, refl, sym, ap, ap₂, _∙_, subst, subst₂}
 use mathlib.Core.List.{List, [], _∷_, _++_, map}
 use mathlib.Core.Option.{Option, none, some}
 use lib.Dec.{ltb}
-use lib.ListN.{length, take, getElem?, length-map}
-use Rattle.language.specs.Text.{Kind, Formal, Block, block, decl, declKind, labelIndex, declFormals, declBody, formalNames, formalKinds, declaredNames}
+use lib.ListN.{length, take, getElem?}
+use Rattle.language.specs.Text.{Kind, Formal, Block, decl, declKind, labelIndex, declFormals, declBody, formalNames, formalKinds, declaredNames}
 use Rattle.language.specs.Scope.{agree}
 use Rattle.language.specs.Copy.{Replacement, renameBlock, without}
 use Rattle.language.specs.Machine.{Activation, State, Limits, Instance, instance, withLive, resume, jump, kindAt, enterIfRoom, call}
-use Rattle.laws.specs.Kinds.{agree-length}
+use Rattle.laws.specs.Kinds.{agree-many}
 use Rattle.laws.specs.Lists.{take-snoc, snoc-inj, getElem-bound}
 use Rattle.laws.specs.Each.{Each, each-map}
 use Rattle.laws.specs.Renaming.{labelIndex-renamed, declFormals-renamed, declBody-renamed}
@@ -131,12 +131,7 @@ module _ (s : State) (t : Stack) (r : Related s t) where
       tests-same = ap₂ agree (ap formalKinds formals-same) (kinds-same xs vs)
 
       many : agree (formalKinds (declFormals (i .decl))) (map (kindAt s) xs) ≡ true → length xs ≡ length fs
-      many e =
-          let n = sym (agree-length (formalKinds (declFormals (i .decl))) (map (kindAt s) xs) e) in
-          let n₁ = length-map (declFormals (i .decl)) (λ (f : Formal). f .kind) in
-          let n₂ = length-map xs (kindAt s) in
-          let n₃ = ap length formals-same in
-          omega arith
+      many e = agree-many (kindAt s) (declFormals (i .decl)) xs e ∙ ap length formals-same
 
       entered : length xs ≡ length fs → Alike (enterIfRoom l s (formalNames (declFormals (i .decl))) xs (declBody (i .decl)) (i .home .reads)) (pushFrame l t fs (map (designatorAt (s .live)) xs) b (frameNumber (designatorAt (s .live) p)))
       entered n =
