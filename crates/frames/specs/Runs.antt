@@ -28,8 +28,8 @@ use Rattle.instances.specs.Invariant.{Invariant}
 use Rattle.instances.specs.Accepted.{accepted-closed}
 use Rattle.instances.specs.Steps.{started, step-keeps, counted-invariant}
 use Rattle.frames.specs.Frame.{Frame, Stack, Acted, acted, halted, withFrames, stepped, numbered, designates, linksFollowed, seekName, seekFrom, frameStep, Result, results, frameRun, frameStart, frameWords, frameSheet, frameLinks, frameReplied, frameRunOf, frameChecked}
-use Rattle.frames.specs.Both.{Both, both-length}
-use Rattle.frames.specs.Related.{readsAt, readsIn, joined, designatorFor, designatorAt, wordIn, Twin, Related}
+use Rattle.frames.specs.Both.{Both}
+use Rattle.frames.specs.Related.{readsAt, readsIn, joined, designatorFor, designatorAt, wordIn, Twin, Related, as-deep}
 use Rattle.frames.specs.Push.{related-push}
 use Rattle.frames.specs.Find.{foundDesignator, passedIn, designates-found, links-found}
 use Rattle.frames.specs.Actions.{Alike, value-is}
@@ -51,9 +51,6 @@ abbrev RunsSame : Limits → ℕ → Type 0
 RunsSame l n = (s : State) (t : Stack) → Related s t → Invariant s → Same (run l n s) (frameRun l n t)
 
 module _ (l : Limits) (s : State) (t : Stack) (r : Related s t) (inv : Invariant s) where
-  depth-same : length (s .live) ≡ length (t .frames)
-  depth-same = both-length (Twin (s .live) (s .values)) 0 (s .live) (t .frames) (r .twins)
-
   same-finished : (n : ℕ) → s .live ≡ [] → t .frames ≡ [] → Same (run l n s) (frameRun l n t)
   unfolding ends results
   same-finished n e e′ =
@@ -62,8 +59,8 @@ module _ (l : Limits) (s : State) (t : Stack) (r : Related s t) (inv : Invariant
   -- neither machine has an activation, or both have one
   by-depth : {X : Type 0} → (s .live ≡ [] → t .frames ≡ [] → X) → ((b : Activation) → last? (s .live) ≡ some b → s .live ≢ [] → 1 ≤ length (t .frames) → X) → X
   by-depth none-live some-live =
-      by-elements (s .live) (λ e. none-live e (by-elements (t .frames) (λ q. q) (λ h. absurd (omega (arith, ap length e, depth-same)))))
-      (λ h. let b = some-last (s .live) h in some-live (b .0) (b .1) (λ q. omega (arith, ap length q)) (omega (arith, depth-same)))
+      by-elements (s .live) (λ e. none-live e (by-elements (t .frames) (λ q. q) (λ h. absurd (omega (arith, ap length e, as-deep s t r)))))
+      (λ h. let b = some-last (s .live) h in some-live (b .0) (b .1) (λ q. omega (arith, ap length q)) (omega (arith, as-deep s t r)))
 
   same-zero : Same (run l 0 s) (frameRun l 0 t)
   unfolding ends results
@@ -139,7 +136,7 @@ sheet-same s t r = sheets-same s 0 (s .live) (t .frames) (r .twins)
 -- The looked-up name is one.
 module _ (s : State) (t : Stack) (r : Related s t) (n : ℕ) where
   none-looked : s .live ≡ [] → t .frames ≡ []
-  none-looked e = by-elements (t .frames) (λ q. q) (λ h. absurd (omega (arith, ap length e, both-length (Twin (s .live) (s .values)) 0 (s .live) (t .frames) (r .twins))))
+  none-looked e = by-elements (t .frames) (λ q. q) (λ h. absurd (omega (arith, ap length e, as-deep s t r)))
 
   found-designator : (o : Option Found) → lookedUp s n ≡ o → lookedUpDesignator s n ≡ foundDesignator (s .live) o
   unfolding lookedUpDesignator foundDesignator
