@@ -1,5 +1,4 @@
--- What a name designates in sound frames: nothing, or a declared name of a live frame (`designates-target`). And only the formals, text,
--- link and words of the frames count for it: another next statement number changes nothing (`designates-continued` and its like).
+-- What a name designates in sound frames: nothing, or a declared name of a live frame (`designates-target`).
 use Prim.Native.Nat.{ℕ, zero, suc, pred, _+_, _*_, _/_, _%_, _≤_, _<_}
 use native.Mathlib.Omega.{arith}
 use mathlib.Core.Bool.{true, false}

@@ -9,7 +9,7 @@ use mathlib.Core.Path.{_≡_, refl, ap}
 use lib.ListN.{length, take, getD, getElem?}
 use Rattle.language.specs.Basics.{last?}
 use Rattle.laws.specs.Tests.{none≢some}
-use Rattle.laws.specs.Lists.{getElem-none, getElem-bound, getElem-append, getElem-seam, getElem-take, getD-elem}
+use Rattle.laws.specs.Lists.{getElem-none, getElem-bound, getElem-in, getElem-append, getElem-seam, getElem-take, getD-elem}
 use Rattle.laws.specs.Reversed.{reverse-at}
 use Rattle.frames.specs.Frame.{numbered}
 
@@ -40,6 +40,11 @@ module _ {A : Type 0} where
 
   pub numbered-bounds : (xs : List A) (k : ℕ) (a : A) → numbered xs k ≡ some a → (1 ≤ k) × (k ≤ length xs)
   numbered-bounds xs k a e = (numbered-low xs k a e, numbered-high xs k a e)
+
+  pub numbered-exists : (xs : List A) (k : ℕ) → 1 ≤ k → k ≤ length xs → (a : A) × (numbered xs k ≡ some a)
+  unfolding numbered
+  numbered-exists xs zero p h = absurd (not-suc-le-zero p)
+  numbered-exists xs (suc k) p h = getElem-in xs k h
 
   pub numbered-index : (xs : List A) (k : ℕ) (a : A) → numbered xs k ≡ some a → getElem? xs (pred k) ≡ some a
   unfolding numbered
