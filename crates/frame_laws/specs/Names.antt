@@ -2,20 +2,20 @@
 use Prim.Native.Nat.{ℕ, zero, suc, pred, _+_, _*_, _/_, _%_, _≤_, _<_}
 use native.Mathlib.Omega.{arith}
 use mathlib.Core.Bool.{true, false}
-use mathlib.Core.Path.{_≡_, refl, sym, ap, _∙_, subst}
+use mathlib.Core.Path.{_≡_, sym, ap, _∙_, subst}
 use mathlib.Core.Logic.{inl, inr}
 use mathlib.Core.List.{List}
-use mathlib.Core.Option.{Option, none, some, Option·none-ne-some, Option·some-injective}
+use mathlib.Core.Option.{some, Option·none-ne-some}
 use lib.Dec.{leb}
 use lib.ListN.{length}
 use borrow.Author.Tests.{leb-true, leb-false}
 use Rattle.language.specs.Text.{blockDecls}
-use Rattle.laws.specs.Tests.{split, by-lookup}
+use Rattle.laws.specs.Tests.{split, by-lookup, none≢some, some-inj}
 use Rattle.frames.specs.Frame.{Frame, Place, numbered, frameNames, positionFrom, seekFrom, seekName, designatorIn, finally, designates}
 use Rattle.frames.specs.Numbered.{numbered-bounds}
 use Rattle.frames.specs.Positions.{position-range}
 use Rattle.frame_laws.specs.Parts.{frameNames-length}
-use Rattle.frame_laws.specs.Finding.{designates-found, designates-none, finally-formal, finally-declared}
+use Rattle.frame_laws.specs.Finding.{seek-spent, seek-none, seek-here, seek-on, designates-found, designates-none, finally-formal, finally-declared}
 use Rattle.frame_laws.specs.Formed.{names-few}
 use Rattle.frame_laws.specs.Sound.{Points, FrameSound, SoundFrames, Target}
 use Rattle.frame_laws.specs.SoundFrames.{points-weaker}
@@ -28,19 +28,11 @@ pub record FoundAt (fs : List Frame) (n : ℕ) (p : Place) : Type 0 where
   pub named : positionFrom n 1 (frameNames frame) ≡ some (p .position)
 
 seek-found : (m : ℕ) (fs : List Frame) (k n j : ℕ) (p : Place) → seekFrom m fs k n j ≡ some p → FoundAt fs n p
-unfolding seekFrom
-seek-found zero fs k n j p e = absurd (Option·none-ne-some p e)
-seek-found (suc m) fs k n j p e = go (λ i q. seek-found m fs i n (suc j) p q) (numbered fs k) refl e
-  where
-    there : (f : Frame) → numbered fs k ≡ some f → ((i : ℕ) → seekFrom m fs i n (suc j) ≡ some p → FoundAt fs n p) → (o : Option ℕ) → positionFrom n 1 (frameNames f) ≡ o → elim o as (λ y. Option Place) [ some i ↦ some (record { number = k; position = i; followed = j }) | none ↦ seekFrom m fs (f .link) n (suc j) ] ≡ some p → FoundAt fs n p
-    there f c r none d q = r (f .link) q
-    there f c r (some i) d q =
-        let g : record { number = k; position = i; followed = j } ≡ p = Option·some-injective _ p q in
-        subst (FoundAt fs n) g (record { frame = f; stands = c; named = d })
-
-    go : ((i : ℕ) → seekFrom m fs i n (suc j) ≡ some p → FoundAt fs n p) → (o : Option Frame) → numbered fs k ≡ o → elim o as (λ y. Option Place) [ none ↦ none | some f ↦ elim (positionFrom n 1 (frameNames f)) [ some i ↦ some (record { number = k; position = i; followed = j }) | none ↦ seekFrom m fs (f .link) n (suc j) ] ] ≡ some p → FoundAt fs n p
-    go r none c q = absurd (Option·none-ne-some p q)
-    go r (some f) c q = there f c r (positionFrom n 1 (frameNames f)) refl q
+seek-found zero fs k n j p e = none≢some (sym (seek-spent fs k n j) ∙ e)
+seek-found (suc m) fs k n j p e =
+    by-lookup (numbered fs k) (λ c. none≢some (sym (seek-none (suc m) fs k n j c) ∙ e))
+    (λ f c. by-lookup (positionFrom n 1 (frameNames f)) (λ d. seek-found m fs (f .link) n (suc j) p (sym (seek-on m fs k n j f c d) ∙ e))
+    (λ i d. subst (FoundAt fs n) (some-inj (sym (seek-here m fs k n j f i c d) ∙ e)) (record { frame = f; stands = c; named = d })))
 
 pub seekName-found : (fs : List Frame) (n : ℕ) (p : Place) → seekName fs n ≡ some p → FoundAt fs n p
 unfolding seekName
