@@ -13,18 +13,18 @@ use Rattle.language.specs.Scope.{Meaning}
 use Rattle.language.specs.Check.{accepted, check}
 use Rattle.language.specs.Table.{Table}
 use Rattle.language.specs.Machine.{Limits}
-use Rattle.laws.specs.Each.{Each}
+use Rattle.laws.specs.Each.{Each, each-map}
 use Rattle.grammar.specs.Rules.{Bytes, Keeps}
 use Rattle.grammar.specs.Exact.{accepts-exactly}
 use Rattle.frames.specs.Frame.{Frame, numbered, frameNames, seekName, finally, designates, linksFollowed, frameStmt, frameRun, frameStart}
+use Rattle.frames.specs.Numbered.{numbered-low, numbered-high}
 use Rattle.coordinates.specs.Enclosure.{Coordinate, coordinateOf}
 use Rattle.coordinates.specs.Chain.{enclosureOf, levelOf, climb, displayOf}
-use Rattle.coordinates.specs.Lists.{numbered-low, numbered-high}
 use Rattle.coordinates.specs.Declared.{coordinate-declares}
 use Rattle.coordinates.specs.Coordinates.{level-of-text, instanceAt, DeclaringFrame, declaring-frame, found, designates-by-display, links-counted}
 use Rattle.coordinates.specs.Kept.{chained-downward}
 use Rattle.coordinates.specs.Levels.{level-bound, names-bound}
-use Rattle.coordinates.specs.Visible.{actionNames, Located, each-map}
+use Rattle.coordinates.specs.Visible.{actionNames, Located}
 use Rattle.coordinates.specs.Statement.{statement-coordinates}
 use Rattle.coordinates.specs.Designated.{Designated, designates-kind}
 use Rattle.coordinates.specs.Wiring.{Sound, run-sound}
@@ -69,7 +69,7 @@ name-found t keeps fs sound n at =
 
 pub names-found : (t : Block) → Keeps t → (fs : List Frame) → Sound t fs → (f : Frame) (at : ℕ) (a : Action) → last? fs ≡ some f → frameStmt f ≡ some (DO at a) → Each (Found fs) (actionNames a)
 names-found t keeps fs sound f at a e q =
-    each-map (λ n. (m : Meaning) × Located (enclosureOf fs (length fs)) n m) (Found fs) (name-found t keeps fs sound) (actionNames a) (statement-coordinates t keeps fs (sound .chained) f at a e q)
+    each-map (λ n. (m : Meaning) × Located (enclosureOf fs (length fs)) n m) (Found fs) (actionNames a) (name-found t keeps fs sound) (statement-coordinates t keeps fs (sound .chained) f at a e q)
 
 pub accepted-keeps-rules : (bs : List ℕ) → Bytes bs → (t : Block) → check bs ≡ accepted t → Keeps t
 accepted-keeps-rules bs h t e = ((accepts-exactly bs h t) .0 e) .1

@@ -8,9 +8,9 @@ use mathlib.Core.Option.{Option, none, some, Option·map, map-eq-none-iff, map-e
 use mathlib.Core.Path.{_≡_, refl, sym, ap, _∙_}
 use lib.ListN.{length, drop, getElem?}
 use Rattle.frames.specs.Frame.{Frame, numbered}
+use Rattle.frames.specs.Numbered.{numbered-zero}
 use Rattle.coordinates.specs.Enclosure.{Enclosing}
 use Rattle.coordinates.specs.Chain.{enclosing, along, climb, Downward, outline, Alike}
-use Rattle.coordinates.specs.Lists.{numbered-zero}
 
 -- one frame more
 

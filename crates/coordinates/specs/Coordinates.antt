@@ -11,10 +11,11 @@ use mathlib.Core.Logic.{_↔_}
 use mathlib.Core.Option.{Option, none, some, Option·map, Option·none-ne-some, map-eq-some-iff}
 use mathlib.Core.Path.{_≡_, refl, sym, ap, _∙_, subst}
 use lib.ListN.{length, getD, getElem?}
+use Rattle.laws.specs.Lists.{getElem-in}
 use Rattle.frames.specs.Frame.{Frame, Place, numbered, frameNames, seekFrom, seekName, finally, designates, linksFollowed}
+use Rattle.frames.specs.Numbered.{numbered-reverse, numbered-getD}
 use Rattle.coordinates.specs.Enclosure.{Enclosing, Coordinate, namesOf, coordinateOf, outward, atLevel}
 use Rattle.coordinates.specs.Chain.{enclosing, chainOf, enclosureOf, levelOf, climb, displayFrom, displayOf, Downward}
-use Rattle.coordinates.specs.Lists.{numbered-reverse, numbered-getD, at-exists}
 use Rattle.coordinates.specs.Along.{along-at, along-length}
 use Rattle.coordinates.specs.Search.{placeFrom, sought}
 use Rattle.coordinates.specs.Declared.{level-at, coordinate-declares}
@@ -50,7 +51,7 @@ module _ (fs : List Frame) (down : Downward fs) where
   frame-of-level k j p h =
       let es = enclosureOf fs k in
       let l = level-of-text fs k in
-      let x = at-exists es (length es - j) (omega arith) in
+      let x = getElem-in es (length es - j) (omega arith) in
       let g = (map-eq-some-iff enclosing (numbered fs (climb fs k (levelOf fs k - j)))) .0 (frame-by-links k j p h ∙ level-at es j p (omega arith) ∙ x .1) in
       (g .0, g .1)
 
@@ -58,7 +59,7 @@ module _ (fs : List Frame) (down : Downward fs) where
   unfolding displayFrom chainOf levelOf
   frame-by-display k j p h =
       let i = length (chainOf fs k) - j in
-      let x = at-exists (chainOf fs k) i (omega arith) in
+      let x = getElem-in (chainOf fs k) i (omega arith) in
       let e : getElem? (chainOf fs k) i ≡ Option·map (λ f. climb fs k i) (numbered fs (climb fs k i)) = along-at (λ i x. i) fs down k i in
       numbered-reverse (chainOf fs k) j p h ∙ e ∙ constant-map (climb fs k i) (numbered fs (climb fs k i)) (x .0) (sym e ∙ x .1)
 

@@ -10,8 +10,8 @@ use borrow.Author.Tests.{eqb-true}
 use lib.Dec.{eqb}
 use lib.ListN.{length, getElem?}
 use Rattle.frames.specs.Frame.{numbered, positionFrom}
+use Rattle.frames.specs.Numbered.{numbered-at, numbered-reverse}
 use Rattle.coordinates.specs.Enclosure.{Enclosing, Enclosure, Coordinate, namesOf, coordinateOf, atLevel}
-use Rattle.coordinates.specs.Lists.{numbered-at, numbered-reverse}
 use Rattle.coordinates.specs.Search.{coordinate-here, coordinate-further}
 
 pub record Declares (es : Enclosure) (n : ℕ) (c : Coordinate) : Type 0 where

@@ -10,16 +10,18 @@ use mathlib.Core.Option.{some, map-eq-some-iff, Option·some-injective}
 use mathlib.Core.Path.{_≡_, refl, sym, ap, _∙_, subst}
 use borrow.Author.Tests.{leb-true, leb-false}
 use lib.Dec.{leb}
-use lib.IntN.{ℤ, pos}
+use lib.IntN.{pos}
 use lib.ListN.{length, getD, getElem?, length-map}
 use Rattle.language.specs.Basics.{last?, lookup}
 use Rattle.language.specs.Text.{Kind, procedure, Formal, Action, CL, Block, Decl, VR, LB, PR, DO, blockDecls, declKind}
 use Rattle.language.specs.Scope.{Meaning, formalMeaning, declMeaning}
+use Rattle.laws.specs.Lists.{getElem-append, getElem-after, getElem?-map, getD-elem}
 use Rattle.grammar.specs.Rules.{Is, ScopedAction, Keeps}
 use Rattle.frames.specs.Frame.{Frame, Stack, numbered, frameNames, designatorIn, finally, designates, frameNumber, place, declOf, frameStmt}
+use Rattle.frames.specs.Numbered.{numbered-at, numbered-low, numbered-high}
+use Rattle.frame_laws.specs.Finding.{declOf-found, finally-formal, finally-declared}
 use Rattle.coordinates.specs.Enclosure.{Enclosing}
 use Rattle.coordinates.specs.Chain.{enclosing, enclosureOf, levelOf, climb, Chained}
-use Rattle.coordinates.specs.Lists.{at-append, at-after, at-map, at-getD, numbered-at, numbered-low, numbered-high}
 use Rattle.coordinates.specs.Coordinates.{instanceAt, declaring-frame, designates-by-links}
 use Rattle.coordinates.specs.Kept.{Procedures, chained-downward}
 use Rattle.coordinates.specs.Levels.{in-innermost, names-bound}
@@ -51,7 +53,7 @@ unfolding meaningsOf
 meaning-of-formal e p x q low h =
     let l = length-map (e .formals) formalMeaning in
     (map-eq-some-iff formalMeaning (getElem? (e .formals) (p - 1))) .0
-    (sym (at-map formalMeaning (e .formals) (p - 1)) ∙ sym (at-append (map formalMeaning (e .formals)) (map declMeaning (blockDecls (e .text))) (p - 1) (omega (arith, l))) ∙ sym (numbered-at (meaningsOf e) p low) ∙ q)
+    (sym (getElem?-map formalMeaning (e .formals) (p - 1)) ∙ sym (getElem-append (map formalMeaning (e .formals)) (map declMeaning (blockDecls (e .text))) (p - 1) (omega (arith, l))) ∙ sym (numbered-at (meaningsOf e) p low) ∙ q)
 
 meaning-of-decl : (e : Enclosing) (p : ℕ) (x : ℕ × Meaning) → numbered (meaningsOf e) p ≡ some x → length (e .formals) < p → (d : Decl) × (getElem? (blockDecls (e .text)) (p - 1 - length (e .formals)) ≡ some d) × (declMeaning d ≡ x)
 unfolding meaningsOf
@@ -59,8 +61,8 @@ meaning-of-decl e p x q h =
     let l = length-map (e .formals) formalMeaning in
     let i : p - 1 - length (map formalMeaning (e .formals)) ≡ p - 1 - length (e .formals) = ap (λ n. p - 1 - n) l in
     (map-eq-some-iff declMeaning (getElem? (blockDecls (e .text)) (p - 1 - length (e .formals)))) .0
-    (sym (at-map declMeaning (blockDecls (e .text)) (p - 1 - length (e .formals))) ∙ ap (getElem? (map declMeaning (blockDecls (e .text)))) (sym i)
-    ∙ sym (at-after (map formalMeaning (e .formals)) (map declMeaning (blockDecls (e .text))) (p - 1) (omega (arith, l))) ∙ sym (numbered-at (meaningsOf e) p (omega arith)) ∙ q)
+    (sym (getElem?-map declMeaning (blockDecls (e .text)) (p - 1 - length (e .formals))) ∙ ap (getElem? (map declMeaning (blockDecls (e .text)))) (sym i)
+    ∙ sym (getElem-after (map formalMeaning (e .formals)) (map declMeaning (blockDecls (e .text))) (p - 1) (omega (arith, l))) ∙ sym (numbered-at (meaningsOf e) p (omega arith)) ∙ q)
 
 formal-kind : (f : Formal) (n : ℕ) (m : Meaning) → formalMeaning f ≡ (n, m) → f .kind ≡ m .kind
 unfolding formalMeaning
@@ -88,10 +90,6 @@ place-of k p h =
     let i : pred p ≡ p - 1 = omega arith in
     ap pred e ∙ i
 
-declared-at : (fs : List Frame) (x : ℕ) (g : Frame) → numbered fs (frameNumber x) ≡ some g → declOf fs x ≡ getElem? (blockDecls (g .text)) (place x - length (g .formals))
-unfolding declOf
-declared-at fs x g e = rw (declOf, e)
-
 own-designated : (fs : List Frame) (k p : ℕ) (g : Frame) (n : ℕ) (m : Meaning) → numbered fs k ≡ some g → numbered (meaningsOf (enclosing g)) p ≡ some (n, m) → length (g .formals) < p → p < 64 → Designated fs (k * 64 + p) (m .kind)
 unfolding enclosing
 own-designated fs k p g n m e q h s =
@@ -102,21 +100,17 @@ own-designated fs k p g n m e q h s =
       stands = stands;
       past = omega (arith, place-of k p s);
       decl = d .0;
-      declared = declared-at fs (k * 64 + p) g stands ∙ ap (λ i. getElem? (blockDecls (g .text)) (i - length (g .formals))) (place-of k p s) ∙ d .1;
+      declared = declOf-found fs (k * 64 + p) g stands ∙ ap (λ i. getElem? (blockDecls (g .text)) (i - length (g .formals))) (place-of k p s) ∙ d .1;
       kind = decl-kind (d .0) n m (d .2);
     }
 
 -- a formal's word, and a declared name
 
-pub finally-formal : (fs : List Frame) (k p j : ℕ) (g : Frame) (x : ℕ) → numbered fs k ≡ some g → leb p (length (g .formals)) ≡ true → getElem? (g .words) (p - 1) ≡ some (pos x) → finally fs (instanceAt k p j) ≡ x
-unfolding finally designatorIn
-finally-formal fs k p j g x e l w =
+formal-designates : (fs : List Frame) (k p j : ℕ) (g : Frame) (x : ℕ) → numbered fs k ≡ some g → leb p (length (g .formals)) ≡ true → getElem? (g .words) (p - 1) ≡ some (pos x) → finally fs (instanceAt k p j) ≡ x
+unfolding designatorIn
+formal-designates fs k p j g x e l w =
     let i : pred p ≡ p - 1 = omega arith in
-    rw (finally, e, l) (ap (λ (z : ℤ). designatorIn z) (ap (λ n. getD (g .words) n (pos 0)) i ∙ at-getD (g .words) (p - 1) (pos x) (pos 0) w))
-
-pub finally-declared : (fs : List Frame) (k p j : ℕ) (g : Frame) → numbered fs k ≡ some g → leb p (length (g .formals)) ≡ false → finally fs (instanceAt k p j) ≡ k * 64 + p
-unfolding finally
-finally-declared fs k p j g e l = rw (finally, e, l)
+    finally-formal fs (instanceAt k p j) g e l ∙ ap designatorIn (ap (λ n. getD (g .words) n (pos 0)) i ∙ getD-elem (g .words) (p - 1) (pos x) (pos 0) w)
 
 instance-designated : (fs : List Frame) → Wired fs → (k p j : ℕ) (g : Frame) (n : ℕ) (m : Meaning) → numbered fs k ≡ some g → numbered (meaningsOf (enclosing g)) p ≡ some (n, m) → p < 64
     → (b : Bool) → leb p (length (g .formals)) ≡ b → Designated fs (finally fs (instanceAt k p j)) (m .kind)
@@ -125,9 +119,9 @@ instance-designated fs wired k p j g n m e q s true l =
     let f = meaning-of-formal (enclosing g) p (n, m) q (numbered-low (meaningsOf (enclosing g)) p (n, m) q) (leb-true p (length (g .formals)) l) in
     let w = wired k g e (p - 1) (f .0) (f .1) in
     subst (Designated fs (finally fs (instanceAt k p j))) (formal-kind (f .0) n m (f .2))
-    (subst (λ x. Designated fs x (f .0 .kind)) (sym (finally-formal fs k p j g (w .designator) e l (w .word))) (w .instance))
+    (subst (λ x. Designated fs x (f .0 .kind)) (sym (formal-designates fs k p j g (w .designator) e l (w .word))) (w .instance))
 instance-designated fs wired k p j g n m e q s false l =
-    subst (λ x. Designated fs x (m .kind)) (sym (finally-declared fs k p j g e l)) (own-designated fs k p g n m e q (leb-false p (length (g .formals)) l) s)
+    subst (λ x. Designated fs x (m .kind)) (sym (finally-declared fs (instanceAt k p j) g e l)) (own-designated fs k p g n m e q (leb-false p (length (g .formals)) l) s)
 
 pub designates-kind : (t : Block) → Keeps t → (fs : List Frame) → Chained t fs → Wired fs → (n : ℕ) (m : Meaning) → Located (enclosureOf fs (length fs)) n m → Designated fs (designates fs n) (m .kind)
 designates-kind t h fs chain wired n m at =
@@ -160,4 +154,4 @@ pub calls-procedures : (t : Block) → Keeps t → (s : Stack) → Chained t (s 
 unfolding ScopedAction
 calls-procedures t h s chain wired d c =
     let a = statement-scoped t h (s .frames) chain (c .caller) (c .at) (CL (c .name) (c .arguments)) (c .innermost) (c .statement) in
-    called-procedure t h (s .frames) chain wired (c .name) d (a .called) (called-here s d (chained-downward t (s .frames) chain) c)
+    called-procedure t h (s .frames) chain wired (c .name) d (a .called) (called-here s d c)

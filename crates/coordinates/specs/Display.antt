@@ -17,9 +17,11 @@ use lib.Seq.{length-take-le}
 use Rattle.language.specs.Basics.{last?, butLast}
 use Rattle.language.specs.Text.{Formal, Block}
 use Rattle.language.specs.Machine.{Limits}
+use Rattle.laws.specs.Lists.{butLast-take}
+use Rattle.laws.specs.Reversed.{reverse-drop}
 use Rattle.frames.specs.Frame.{Frame, Stack, acted, numbered, frameNumber, place, continue, rewritten, putWord, newFrame, frameStep}
+use Rattle.frames.specs.Numbered.{numbered-low, numbered-high, last-numbered, numbered-seam, numbered-append, numbered-take}
 use Rattle.coordinates.specs.Chain.{along, Alike, chainOf, levelOf, climb, displayFrom, displayOf, Downward}
-use Rattle.coordinates.specs.Lists.{numbered-low, numbered-high, last-numbered, butLast-take, reverse-drop, numbered-seam, numbered-append, numbered-take}
 use Rattle.coordinates.specs.Along.{climb-bound, along-alike, along-step, along-climb}
 use Rattle.coordinates.specs.Coordinates.{frame-of-level, frame-by-display}
 use Rattle.coordinates.specs.Moves.{alike-append, alike-take, alike-cut, alike-set, cut-length, outline-continue, outline-rewritten, Moved, kept, entered, step-moved}

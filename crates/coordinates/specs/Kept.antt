@@ -1,6 +1,6 @@
 -- Links and blocks stay right. `start-chained`: a run of the script t begins with frames that are `Chained t`; `step-chained`: a step keeps
 -- that, if what a call names is declared as a procedure (`Procedures`; an accepted script sees to it); `run-chained`: so does a whole run.
--- That links go down needs no such condition: `step-downward`, `run-downward`. `run-keeps` is for any property of the stack.
+-- That links go down needs no such condition: `step-downward`, `run-downward`.
 use Prim.Native.Nat.{ℕ, zero, suc, _≤_, _<_}
 use native.Mathlib.Omega.{arith}
 use mathlib.Core.Bool.{Bool, true, false}
@@ -13,10 +13,11 @@ use lib.ListN.{length, getElem?}
 use Rattle.language.specs.Text.{procedure, Block, Decl, VR, LB, PR, blockDecls, declKind, declFormals, declBody}
 use Rattle.language.specs.Table.{Table}
 use Rattle.language.specs.Machine.{Limits}
-use Rattle.frames.specs.Frame.{Frame, Stack, Acted, acted, halted, numbered, newFrame, stepped, frameStep, results, frameRun, frameStart}
+use Rattle.frames.specs.Frame.{Frame, Stack, acted, numbered, newFrame, stepped, frameStep, frameRun, frameStart}
+use Rattle.frames.specs.Numbered.{numbered-high}
+use Rattle.frames.specs.Running.{run-keeps}
 use Rattle.coordinates.specs.Enclosure.{Enclosing, StandsIn, as-block, as-body, whole}
 use Rattle.coordinates.specs.Chain.{enclosing, outline, Alike, Downward, Linked, outermost, within, Chained}
-use Rattle.coordinates.specs.Lists.{numbered-high}
 use Rattle.coordinates.specs.Along.{alike-some}
 use Rattle.coordinates.specs.Moves.{Called, Entered, for-block, for-body, Moved, kept, entered, step-moved}
 
@@ -118,37 +119,16 @@ step-downward l s s′ e down = moved-downward s s′ (step-moved l s s′ e) do
 pub step-chained : (t : Block) (l : Limits) (s s′ : Stack) → frameStep l s ≡ acted s′ → Procedures s → Chained t (s .frames) → Chained t (s′ .frames)
 step-chained t l s s′ e proc chain = moved-chained t s s′ proc (step-moved l s s′ e) chain
 
-run-start : (l : Limits) (P : Stack → Type 0) (s : Stack) → P s → P ((frameRun l zero s) .final)
-unfolding frameRun results
-run-start l P s h = go (s .frames) refl
-  where
-    go : (fs : List Frame) → s .frames ≡ fs → P ((frameRun l zero s) .final)
-    go [] e = rw (frameRun, e) h
-    go (f ∷ fs) e = rw (frameRun, e) h
-
-run-on : (l : Limits) (P : Stack → Type 0) (n : ℕ) (s : Stack) → P s → ((s′ : Stack) → frameStep l s ≡ acted s′ → P ((frameRun l n (stepped s′)) .final)) → P ((frameRun l (suc n) s) .final)
-unfolding frameRun results
-run-on l P n s h r = go (s .frames) refl (frameStep l s) refl
-  where
-    go : (fs : List Frame) → s .frames ≡ fs → (a : Acted) → frameStep l s ≡ a → P ((frameRun l (suc n) s) .final)
-    go [] e a q = rw (frameRun, e) h
-    go (f ∷ fs) e (acted s′) q = rw (frameRun, e, q) (r s′ q)
-    go (f ∷ fs) e (halted c) q = rw (frameRun, e, q) h
-
-pub run-keeps : (l : Limits) (P : Stack → Type 0) → ((s s′ : Stack) → frameStep l s ≡ acted s′ → P s → P (stepped s′)) → (n : ℕ) (s : Stack) → P s → P ((frameRun l n s) .final)
-run-keeps l P step zero s h = run-start l P s h
-run-keeps l P step (suc n) s h = run-on l P n s h (λ s′ e. run-keeps l P step n (stepped s′) (step s s′ e h))
-
 pub run-downward : (l : Limits) (n : ℕ) (s : Stack) → Downward (s .frames) → Downward ((frameRun l n s) .final .frames)
 unfolding stepped
-run-downward l n s h = run-keeps l (λ u. Downward (u .frames)) (λ u u′ e k. step-downward l u u′ e k) n s h
+run-downward l n s h = run-keeps l (λ u. Downward (u .frames)) (λ u u′ live e k. step-downward l u u′ e k) n s h
 
 -- with a property Q of the stack that steps keep and that says what is called
 pub run-chained : (t : Block) (l : Limits) (Q : Stack → Type 0) → ((s s′ : Stack) → frameStep l s ≡ acted s′ → Q s → Q (stepped s′)) → ((s : Stack) → Q s → Procedures s)
     → (n : ℕ) (s : Stack) → Q s → Chained t (s .frames) → Chained t ((frameRun l n s) .final .frames)
 unfolding stepped
 run-chained t l Q step proc n s q h =
-    (run-keeps l (λ u. Q u × Chained t (u .frames)) (λ u u′ e k. (step u u′ e (k .0), step-chained t l u u′ e (proc u (k .0)) (k .1))) n s (q, h)) .1
+    (run-keeps l (λ u. Q u × Chained t (u .frames)) (λ u u′ live e k. (step u u′ e (k .0), step-chained t l u u′ e (proc u (k .0)) (k .1))) n s (q, h)) .1
 
 pub start-chained : (t : Block) (tab : Table) → Chained t ((frameStart t tab) .frames)
 unfolding frameStart newFrame enclosing whole numbered

@@ -12,9 +12,9 @@ use Rattle.language.specs.Text.{Formal, Block, block, Decl, PR, Stmt, BK, Decls
 use Rattle.language.specs.Encoding.{formalsFields, declFields, stmtFields, declsFields}
 use Rattle.grammar.specs.Rules.{FormedBlock, FormedDecl, FormedStmt, FormedDecls, FormedStmts, Keeps}
 use Rattle.frames.specs.Frame.{Frame, numbered, frameNames}
+use Rattle.frames.specs.Numbered.{numbered-zero, last-numbered}
 use Rattle.coordinates.specs.Enclosure.{Enclosing, Enclosure, StandsIn, as-block, as-body, whole, Encloses, namesOf}
 use Rattle.coordinates.specs.Chain.{enclosing, enclosureOf, levelOf, Downward, Linked, outermost, within, Chained}
-use Rattle.coordinates.specs.Lists.{numbered-zero, last-numbered}
 use Rattle.coordinates.specs.Search.{enclosure-none, enclosure-step}
 use Rattle.coordinates.specs.Coordinates.{level-of-text}
 use Rattle.coordinates.specs.Kept.{chained-downward}

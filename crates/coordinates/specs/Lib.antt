@@ -2,7 +2,6 @@
 -- and Chain (and Index); a reader who wants the theorems alone reads Coordinates, Display, Index and Accepted.
 pub mod Enclosure
 pub mod Chain
-pub mod Lists
 pub mod Along
 pub mod Search
 pub mod Declared

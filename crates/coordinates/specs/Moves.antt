@@ -14,12 +14,15 @@ use lib.Seq.{length-take-le}
 use Rattle.language.specs.Basics.{last?, butLast}
 use Rattle.language.specs.Text.{Action, CL, GO, IF, KN, AR, AD, RM, QY, Block, Decl, BK, DO, blockDecls, blockStmts, labelIndex, declFormals, declBody}
 use Rattle.language.specs.Machine.{Limits}
+use Rattle.laws.specs.Lists.{butLast-take}
 use Rattle.frames.specs.Frame.{Frame, Stack, acted, numbered, frameNumber, place, declOf, designates, withFrames, tableChanged, continue, rewritten, putWord, newFrame, put, mapAction, frameStmt, advanceFrame, frameStep}
+use Rattle.frames.specs.Numbered.{numbered-low, numbered-high, numbered-append, numbered-seam, numbered-take, last-numbered}
+use Rattle.frames.specs.Running.{After}
+use Rattle.frame_laws.specs.Finding.{declOf-found, declOf-frame}
 use Rattle.coordinates.specs.Enclosure.{Enclosing}
 use Rattle.coordinates.specs.Chain.{enclosing, outline, Alike}
-use Rattle.coordinates.specs.Lists.{numbered-low, numbered-high, numbered-append, numbered-seam, numbered-take, last-numbered, butLast-take}
 use Rattle.coordinates.specs.Along.{alike-some}
-use Rattle.coordinates.specs.Walk.{After, Moves, Steps, step-by}
+use Rattle.coordinates.specs.Walk.{Moves, Steps, step-by}
 
 -- The statement that comes next is a call of what is declared by d.
 pub record Called (s : Stack) (d : Decl) : Type 0 where
@@ -117,12 +120,7 @@ pub same-refl : (s : Stack) → Same s s
 same-refl s = record { count = refl; alike = λ i h. refl }
 
 pub declared-in : (fs : List Frame) (x : ℕ) (d : Decl) → declOf fs x ≡ some d → (g : Frame) × (numbered fs (frameNumber x) ≡ some g) × (getElem? (blockDecls (g .text)) (place x - length (g .formals)) ≡ some d)
-unfolding declOf
-declared-in fs x d e = go (numbered fs (frameNumber x)) refl
-  where
-    go : (o : Option Frame) → numbered fs (frameNumber x) ≡ o → (g : Frame) × (numbered fs (frameNumber x) ≡ some g) × (getElem? (blockDecls (g .text)) (place x - length (g .formals)) ≡ some d)
-    go none q = absurd (Option·none-ne-some d (rw (q, declOf) at e))
-    go (some g) q = (g, q, rw (q, declOf) at e)
+declared-in fs x d e = let f = declOf-frame fs x d e in (f .0, f .1, sym (declOf-found fs x (f .0) (f .1)) ∙ e)
 
 module _ (s u : Stack) (same : Same s u) where
   same-moved : (v : Stack) → Same u v → Moved s v

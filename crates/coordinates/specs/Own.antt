@@ -4,29 +4,20 @@
 -- level. `formal-name`: a formal's word is the designator.
 use Prim.Native.Nat.{ℕ, pred, _+_, _*_, _-_, _≤_, _<_}
 use native.Mathlib.Omega.{arith}
-use mathlib.Core.Bool.{true}
 use mathlib.Core.List.{List}
 use mathlib.Core.Option.{some}
 use mathlib.Core.Path.{_≡_, ap, _∙_}
 use borrow.Author.Tests.{le-leb, lt-leb}
-use lib.Dec.{leb}
 use lib.IntN.{pos}
 use lib.ListN.{length, getD, take}
-use Rattle.frames.specs.Frame.{Frame, numbered, designatorIn, finally, designates, frameNumber, place, wordAt}
+use Rattle.frames.specs.Frame.{Frame, numbered, designatorIn, designates, frameNumber, place, wordAt}
+use Rattle.frame_laws.specs.Finding.{wordAt-found, finally-formal, finally-declared}
 use Rattle.coordinates.specs.Enclosure.{Coordinate, coordinateOf}
 use Rattle.coordinates.specs.Chain.{enclosureOf, levelOf, climb, displayFrom, displayOf, Downward}
 use Rattle.coordinates.specs.Declared.{coordinate-declares}
 use Rattle.coordinates.specs.Coordinates.{level-of-text, instanceAt, DeclaringFrame, declaring-frame, designates-by-links}
 use Rattle.coordinates.specs.Display.{display-prefix}
-use Rattle.coordinates.specs.Designated.{number-of, place-of, finally-declared}
-
-formal-word : (fs : List Frame) (k p j : ℕ) (g : Frame) → numbered fs k ≡ some g → leb p (length (g .formals)) ≡ true → finally fs (instanceAt k p j) ≡ designatorIn (getD (g .words) (pred p) (pos 0))
-unfolding finally
-formal-word fs k p j g e l = rw (finally, e, l)
-
-word-there : (fs : List Frame) (x : ℕ) (g : Frame) → numbered fs (frameNumber x) ≡ some g → wordAt fs x ≡ getD (g .words) (place x) (pos 0)
-unfolding wordAt
-word-there fs x g e = rw (wordAt, e)
+use Rattle.coordinates.specs.Designated.{number-of, place-of}
 
 module _ (fs : List Frame) (down : Downward fs) (n : ℕ) (c : Coordinate) (here : coordinateOf (enclosureOf fs (length fs)) n ≡ some c) where
   -- the frame that declares the name, and its number
@@ -38,11 +29,11 @@ module _ (fs : List Frame) (down : Downward fs) (n : ℕ) (c : Coordinate) (here
 
   pub formal-name : c .position ≤ length (declarer .frame .formals) → designates fs n ≡ designatorIn (getD (declarer .frame .words) (pred (c .position)) (pos 0))
   formal-name h =
-      designates-by-links fs down n c here ∙ formal-word fs number (c .position) (levelOf fs (length fs) - c .level) (declarer .frame) (declarer .stands) (le-leb (c .position) (length (declarer .frame .formals)) h)
+      designates-by-links fs down n c here ∙ finally-formal fs (instanceAt number (c .position) (levelOf fs (length fs) - c .level)) (declarer .frame) (declarer .stands) (le-leb (c .position) (length (declarer .frame .formals)) h)
 
   pub own-name : length (declarer .frame .formals) < c .position → designates fs n ≡ number * 64 + c .position
   own-name h =
-      designates-by-links fs down n c here ∙ finally-declared fs number (c .position) (levelOf fs (length fs) - c .level) (declarer .frame) (declarer .stands) (lt-leb (c .position) (length (declarer .frame .formals)) h)
+      designates-by-links fs down n c here ∙ finally-declared fs (instanceAt number (c .position) (levelOf fs (length fs) - c .level)) (declarer .frame) (declarer .stands) (lt-leb (c .position) (length (declarer .frame .formals)) h)
 
   -- positions are at most 32 in a script that keeps the rules
   pub own-number : length (declarer .frame .formals) < c .position → c .position < 64 → frameNumber (designates fs n) ≡ number
@@ -50,7 +41,7 @@ module _ (fs : List Frame) (down : Downward fs) (n : ℕ) (c : Coordinate) (here
 
   pub own-word : length (declarer .frame .formals) < c .position → c .position < 64 → wordAt fs (designates fs n) ≡ getD (declarer .frame .words) (c .position - 1) (pos 0)
   own-word h s =
-      word-there fs (designates fs n) (declarer .frame) (ap (numbered fs) (own-number h s) ∙ declarer .stands)
+      wordAt-found fs (designates fs n) (declarer .frame) (ap (numbered fs) (own-number h s) ∙ declarer .stands)
       ∙ ap (λ i. getD (declarer .frame .words) i (pos 0)) (ap place (own-name h) ∙ place-of number (c .position) s)
 
   pub own-display : length (declarer .frame .formals) < c .position → c .position < 64 → displayFrom fs (frameNumber (designates fs n)) ≡ take (c .level) (displayOf fs)

@@ -2,16 +2,16 @@
 -- enclosure says, and nothing where it has none. It asks of the frames only that links go down.
 use Prim.Native.Nat.{ℕ, zero, suc, _+_, _-_, _≤_, _<_}
 use native.Mathlib.Omega.{arith}
-use mathlib.Core.List.{List, [], _∷_, _++_}
+use mathlib.Core.List.{List, [], _∷_}
 use mathlib.Core.Option.{Option, none, some, Option·none-ne-some, Option·some-injective}
 use mathlib.Core.Path.{_≡_, refl, sym, ap, _∙_}
 use lib.ListN.{length}
-use Rattle.language.specs.Text.{formalNames, declaredNames}
 use Rattle.frames.specs.Frame.{Frame, Place, numbered, frameNames, positionFrom, seekFrom}
+use Rattle.frames.specs.Numbered.{numbered-zero}
+use Rattle.frame_laws.specs.Finding.{seek-none, seek-here, seek-on}
 use Rattle.coordinates.specs.Enclosure.{Enclosing, Enclosure, Coordinate, namesOf, coordinateOf, outward}
-use Rattle.coordinates.specs.Chain.{enclosing, enclosureOf, climb, Downward, outline, Alike}
-use Rattle.coordinates.specs.Lists.{numbered-zero}
-use Rattle.coordinates.specs.Along.{along-none, along-step, climb-zero, climb-some, alike-none, alike-some}
+use Rattle.coordinates.specs.Chain.{enclosing, enclosureOf, climb, Downward}
+use Rattle.coordinates.specs.Along.{along-none, along-step, climb-zero, climb-some}
 
 -- what a coordinate says of a search from frame k that has followed j links
 unfoldable pub placeFrom : List Frame → ℕ → ℕ → Option Coordinate → Option Place
@@ -20,44 +20,6 @@ placeFrom fs k j (some c) =
     let links = outward (enclosureOf fs k) c in some (record { number = climb fs k links; position = c .position; followed = j + links })
 
 -- one step of the search, and one of the coordinate
-
-seek-zero : (fs : List Frame) (k n j : ℕ) → seekFrom zero fs k n j ≡ none
-unfolding seekFrom
-seek-zero fs k n j = refl
-
-seek-none : (m : ℕ) (fs : List Frame) (k n j : ℕ) → numbered fs k ≡ none → seekFrom m fs k n j ≡ none
-unfolding seekFrom
-seek-none zero fs k n j e = refl
-seek-none (suc m) fs k n j e = rw (e, seekFrom)
-
-seek-here : (m : ℕ) (fs : List Frame) (k : ℕ) (f : Frame) (n j p : ℕ) → numbered fs k ≡ some f → positionFrom n 1 (frameNames f) ≡ some p → seekFrom (suc m) fs k n j ≡ some (record { number = k; position = p; followed = j })
-unfolding seekFrom
-seek-here m fs k f n j p e q = rw (e, seekFrom, q)
-
-seek-further : (m : ℕ) (fs : List Frame) (k : ℕ) (f : Frame) (n j : ℕ) → numbered fs k ≡ some f → positionFrom n 1 (frameNames f) ≡ none → seekFrom (suc m) fs k n j ≡ seekFrom m fs (f .link) n (suc j)
-unfolding seekFrom
-seek-further m fs k f n j e q = rw (e, seekFrom, q)
-
--- a search reads no more than blocks and links
-pub seek-alike : (fs gs : List Frame) (b : ℕ) → Alike b fs gs → Downward fs → (m k n j : ℕ) → k ≤ b → seekFrom m gs k n j ≡ seekFrom m fs k n j
-unfolding outline enclosing frameNames
-seek-alike fs gs b a down zero k n j h = seek-zero gs k n j ∙ sym (seek-zero fs k n j)
-seek-alike fs gs b a down (suc m) k n j h = go (λ i p. seek-alike fs gs b a down m i n (suc j) p) (numbered fs k) refl
-  where
-    on : ((i : ℕ) → i ≤ b → seekFrom m gs i n (suc j) ≡ seekFrom m fs i n (suc j)) → (f g : Frame) → numbered fs k ≡ some f → numbered gs k ≡ some g → outline g ≡ outline f
-        → (o : Option ℕ) → positionFrom n 1 (frameNames f) ≡ o → seekFrom (suc m) gs k n j ≡ seekFrom (suc m) fs k n j
-    on r f g e d q (some p) w =
-        let v : frameNames g ≡ frameNames f = ap (λ (x : Enclosing × ℕ). formalNames (x .0 .formals) ++ declaredNames (x .0 .text)) q in
-        seek-here m gs k g n j p d (ap (positionFrom n 1) v ∙ w) ∙ sym (seek-here m fs k f n j p e w)
-    on r f g e d q none w =
-        let v : frameNames g ≡ frameNames f = ap (λ (x : Enclosing × ℕ). formalNames (x .0 .formals) ++ declaredNames (x .0 .text)) q in
-        let l : g .link ≡ f .link = ap (λ (x : Enclosing × ℕ). x .1) q in
-        let u : f .link < k = down k f e in
-        seek-further m gs k g n j d (ap (positionFrom n 1) v ∙ w) ∙ ap (λ i. seekFrom m gs i n (suc j)) l ∙ r (f .link) (omega arith) ∙ sym (seek-further m fs k f n j e w)
-
-    go : ((i : ℕ) → i ≤ b → seekFrom m gs i n (suc j) ≡ seekFrom m fs i n (suc j)) → (o : Option Frame) → numbered fs k ≡ o → seekFrom (suc m) gs k n j ≡ seekFrom (suc m) fs k n j
-    go r none e = seek-none (suc m) gs k n j (alike-none fs gs b a k h e) ∙ sym (seek-none (suc m) fs k n j e)
-    go r (some f) e = let g = alike-some fs gs b a k f h e in on r f (g .0) e (g .1) (g .2) (positionFrom n 1 (frameNames f)) refl
 
 pub coordinate-here : (e : Enclosing) (es : Enclosure) (n p : ℕ) → positionFrom n 1 (namesOf e) ≡ some p → coordinateOf (e ∷ es) n ≡ some (record { level = suc (length es); position = p })
 unfolding coordinateOf
@@ -118,11 +80,11 @@ module _ (fs : List Frame) (down : Downward fs) where
       → (o : Option ℕ) → positionFrom n 1 (frameNames f) ≡ o → seekFrom (suc m) fs k n j ≡ placeFrom fs k j (coordinateOf (enclosureOf fs k) n)
   sought-in m k f n j e r none q =
       let es = enclosureOf fs (f .link) in
-      seek-further m fs k f n j e q ∙ r ∙ further k f n j e (coordinateOf es n) refl
+      seek-on m fs k n j f e q ∙ r ∙ further k f n j e (coordinateOf es n) refl
       ∙ ap (placeFrom fs k j) (sym (ap (λ (x : Enclosure). coordinateOf x n) (enclosure-step fs down k f e) ∙ coordinate-further (enclosing f) es n (sym (names-same f n) ∙ q)))
   sought-in m k f n j e r (some p) q =
       let es = enclosureOf fs (f .link) in
-      seek-here m fs k f n j p e q ∙ here k f p j e
+      seek-here m fs k n j f p e q ∙ here k f p j e
       ∙ ap (placeFrom fs k j) (sym (ap (λ (x : Enclosure). coordinateOf x n) (enclosure-step fs down k f e) ∙ coordinate-here (enclosing f) es n p (sym (names-same f n) ∙ q)))
 
   sought-none : (m k n j : ℕ) → numbered fs k ≡ none → seekFrom m fs k n j ≡ placeFrom fs k j (coordinateOf (enclosureOf fs k) n)

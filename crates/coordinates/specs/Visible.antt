@@ -13,11 +13,11 @@ use lib.ListN.{length, getElem?}
 use Rattle.language.specs.Basics.{lookup}
 use Rattle.language.specs.Text.{Kind, variable, label, procedure, Formal, Action, CL, GO, IF, KN, AR, AD, RM, QY, Block, block, Decl, VR, LB, PR, Stmt, BK, DO, Decls, no-decl, decl, Stmts, no-stmt, stmt, decls, stmts, blockDecls, blockStmts, declName, formalNames, declaredNames}
 use Rattle.language.specs.Scope.{Meaning, Scope, formalMeaning, declMeaning, inside}
-use Rattle.laws.specs.Each.{Each}
+use Rattle.laws.specs.Each.{Each, each-map}
 use Rattle.grammar.specs.Rules.{Visible, Is, ScopedAction, ScopedBlock, ScopedDecl, ScopedStmt, ScopedDecls, ScopedStmts, Keeps}
 use Rattle.frames.specs.Frame.{numbered, positionFrom}
+use Rattle.frames.specs.Numbered.{numbered-at}
 use Rattle.coordinates.specs.Enclosure.{Enclosing, enclosed, Enclosure, Coordinate, namesOf, coordinateOf, atLevel, StandsIn, as-block, as-body, whole, Encloses}
-use Rattle.coordinates.specs.Lists.{numbered-at}
 use Rattle.coordinates.specs.Search.{coordinate-here, coordinate-further}
 use Rattle.coordinates.specs.Declared.{coordinate-declares, level-here, level-further}
 
@@ -166,11 +166,7 @@ names-visible (AD g m) sc h = (seen variable sc g (h .0), (seen variable sc m (h
 names-visible (RM g m) sc h = (seen variable sc g (h .0), (seen variable sc m (h .1), tt))
 names-visible (QY t g m) sc h = (seen variable sc t (h .0), (seen variable sc g (h .1), (seen variable sc m (h .2), tt)))
 
-pub each-map : {A : Type 0} (P Q : A → Type 0) → ((x : A) → P x → Q x) → (xs : List A) → Each P xs → Each Q xs
-each-map P Q f [] h = tt
-each-map P Q f (x ∷ xs) h = (f x (h .0), each-map P Q f xs (h .1))
-
 pub names-have-coordinates : (t : Block) → Keeps t → (e : Enclosing) (es : Enclosure) → Encloses t (e ∷ es) → (i at : ℕ) (a : Action) → getElem? (blockStmts (e .text)) i ≡ some (DO at a)
     → Each (λ n. (m : Meaning) × Located (e ∷ es) n m) (actionNames a)
 names-have-coordinates t h e es w i at a q =
-    each-map (Visible (scopeOf (e ∷ es))) (λ n. (m : Meaning) × Located (e ∷ es) n m) (λ n v. (v .0, visible-coordinate (e ∷ es) n (v .0) (v .1))) (actionNames a) (names-visible a (scopeOf (e ∷ es)) (scoped-action t h e es w i at a q))
+    each-map (Visible (scopeOf (e ∷ es))) (λ n. (m : Meaning) × Located (e ∷ es) n m) (actionNames a) (λ n v. (v .0, visible-coordinate (e ∷ es) n (v .0) (v .1))) (names-visible a (scopeOf (e ∷ es)) (scoped-action t h e es w i at a q))

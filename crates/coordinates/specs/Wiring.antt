@@ -1,9 +1,9 @@
 -- The words of formals stay right in a run of a script that keeps the rules. Read `Sound t fs` as: the frames fs are linked as the text t
 -- says (`Chained`) and every formal's word designates an instance of its kind (`Wired`). `step-sound`: a step keeps it; `run-sound`: every
 -- state of a run of a script that keeps the rules has it, with no other condition.
-use Prim.Native.Nat.{ℕ, zero, suc, pred, _≤_, _<_}
+use Prim.Native.Nat.{ℕ, suc, pred, _≤_, _<_}
 use native.Mathlib.Omega.{arith}
-use mathlib.Core.Bool.{true, false≢true, and-eq-true-iff}
+use mathlib.Core.Bool.{true}
 use mathlib.Core.List.{List, [], _∷_, _++_, map}
 use mathlib.Core.Option.{Option, none, some, Option·map, map-eq-some-iff, Option·none-ne-some, Option·some-injective}
 use mathlib.Core.Path.{_≡_, refl, sym, ap, _∙_, subst}
@@ -11,20 +11,24 @@ use lib.IntN.{ℤ, pos}
 use lib.ListN.{length, take, set, getElem?, length-append, length-map}
 use lib.Seq.{length-take-le, take-set-le}
 use Rattle.language.specs.Basics.{last?, butLast, lookup}
-use Rattle.language.specs.Text.{Kind, variable, label, procedure, Formal, Action, CL, GO, IF, KN, AR, AD, RM, QY, Block, Decl, DO, declKind, declFormals, declBody, formalKinds, labelIndex, sameKind}
+use Rattle.language.specs.Text.{Kind, variable, Formal, Action, CL, GO, IF, KN, AR, AD, RM, QY, Block, DO, declKind, declFormals, declBody, formalKinds, labelIndex}
 use Rattle.language.specs.Scope.{Meaning, Scope, agree}
 use Rattle.language.specs.Table.{Table}
 use Rattle.language.specs.Machine.{Limits}
-use Rattle.laws.specs.Each.{Each}
+use Rattle.laws.specs.Kinds.{agree-at}
+use Rattle.laws.specs.Each.{Each, each-at}
+use Rattle.laws.specs.Lists.{getElem-bound, getElem-take, getElem-append, getElem?-map, butLast-take}
 use Rattle.grammar.specs.Rules.{Visible, Is, ScopedAction, Keeps}
-use Rattle.frames.specs.Frame.{Frame, Stack, acted, numbered, designates, frameNumber, place, declOf, kindOf, continue, rewritten, putWord, put, newFrame, zeroWords, withFrames, tableChanged, stepped, mapAction, advanceFrame, frameStmt, frameStep, frameRun, frameStart}
+use Rattle.frames.specs.Frame.{Frame, Stack, acted, numbered, designates, frameNumber, place, kindOf, continue, rewritten, put, newFrame, zeroWords, withFrames, tableChanged, stepped, mapAction, advanceFrame, frameStmt, frameStep, frameRun, frameStart}
+use Rattle.frames.specs.Numbered.{numbered-low, numbered-high, numbered-append, numbered-seam, numbered-take}
+use Rattle.frames.specs.Running.{After, run-keeps}
+use Rattle.frame_laws.specs.Finding.{kindOf-found, putWord-found}
 use Rattle.coordinates.specs.Enclosure.{Enclosing}
 use Rattle.coordinates.specs.Chain.{enclosing, enclosureOf, outline, Alike, Chained}
-use Rattle.coordinates.specs.Lists.{at-within, at-take, at-append, at-map, numbered-low, numbered-high, numbered-append, numbered-seam, numbered-take, butLast-take}
 use Rattle.coordinates.specs.Along.{alike-some}
-use Rattle.coordinates.specs.Walk.{After, targetOf, Moves, Steps, step-by}
+use Rattle.coordinates.specs.Walk.{targetOf, Moves, Steps, step-by}
 use Rattle.coordinates.specs.Moves.{cut-at, cut-length, set-at, no-call}
-use Rattle.coordinates.specs.Kept.{chained-downward, by-frame, step-chained, run-keeps, start-chained}
+use Rattle.coordinates.specs.Kept.{by-frame, step-chained, start-chained}
 use Rattle.coordinates.specs.Visible.{scopeOf}
 use Rattle.coordinates.specs.Statement.{advanced, advanced-at, advanced-length, declared-alike, designates-advanced}
 use Rattle.coordinates.specs.Designated.{Designated, Wire, Wired, statement-scoped, name-designated, calls-procedures}
@@ -57,12 +61,12 @@ wire-kept fs gs b a wired k g h n i m q =
     let f = (map-eq-some-iff wiring (numbered fs k)) .0 (a k h ∙ ap (Option·map wiring) n) in
     let e : f .0 .formals ≡ g .formals = ap (λ (w : (Enclosing × ℕ) × List ℤ). w .0 .0 .formals) (f .2) in
     let w = wired k (f .0) (f .1) i m (ap (λ (l : List Formal). getElem? l i) e ∙ q) in
-    let s : i < length (g .formals) = at-within (g .formals) i m q in
+    let s : i < length (g .formals) = getElem-bound (g .formals) i m q in
     let s′ : i < length (f .0 .formals) = subst (λ (l : List Formal). i < length l) (sym e) s in
     let outer : frameNumber (w .designator) < k = w .outer in
     record {
       designator = w .designator;
-      word = sym (at-take (length (g .formals)) (g .words) i s) ∙ ap (λ (v : (Enclosing × ℕ) × List ℤ). getElem? (v .1) i) (sym (f .2)) ∙ at-take (length (f .0 .formals)) (f .0 .words) i s′ ∙ w .word;
+      word = sym (getElem-take (g .words) (length (g .formals)) i s) ∙ ap (λ (v : (Enclosing × ℕ) × List ℤ). getElem? (v .1) i) (sym (f .2)) ∙ getElem-take (f .0 .words) (length (f .0 .formals)) i s′ ∙ w .word;
       outer = outer;
       instance = designated-alike fs gs b (rewired-alike fs gs b a) (w .designator) (m .kind) (omega arith) (w .instance);
     }
@@ -84,8 +88,8 @@ unfolding wiring rewritten outline enclosing
 wiring-rewritten f i z h = ap (λ (l : List ℤ). (outline f, l)) (take-set-le (length (f .formals)) (f .words) i z h)
 
 stored-frames : (u : Stack) (x : ℕ) (z : ℤ) (f : Frame) → numbered (u .frames) (frameNumber x) ≡ some f → (put u x z) .frames ≡ set (u .frames) (pred (frameNumber x)) (rewritten f (set (f .words) (place x) z))
-unfolding put withFrames putWord
-stored-frames u x z f e = rw (putWord, e)
+unfolding put withFrames
+stored-frames u x z f e = putWord-found (u .frames) x z f e
 
 put-wired : (u : Stack) (x : ℕ) (z : ℤ) (k : Kind) → Designated (u .frames) x k → Wired (u .frames) → Wired ((put u x z) .frames)
 put-wired u x z k d wired =
@@ -96,49 +100,17 @@ put-wired u x z k d wired =
 
 -- A body's formals get what the arguments designate
 
-same-kind : (k l : Kind) → sameKind k l ≡ true → l ≡ k
-unfolding sameKind
-same-kind variable variable e = refl
-same-kind variable label e = absurd (false≢true e)
-same-kind variable procedure e = absurd (false≢true e)
-same-kind label variable e = absurd (false≢true e)
-same-kind label label e = refl
-same-kind label procedure e = absurd (false≢true e)
-same-kind procedure variable e = absurd (false≢true e)
-same-kind procedure label e = absurd (false≢true e)
-same-kind procedure procedure e = refl
-
-agree-at : (ms : List Formal) (os : List (Option Kind)) → agree (formalKinds ms) os ≡ true → (i : ℕ) (m : Formal) → getElem? ms i ≡ some m → getElem? os i ≡ some (some (m .kind))
-unfolding agree formalKinds
-agree-at [] os e i m q = absurd (Option·none-ne-some m q)
-agree-at (x ∷ ms) [] e i m q = absurd (false≢true e)
-agree-at (x ∷ ms) (none ∷ os) e i m q = absurd (false≢true e)
-agree-at (x ∷ ms) (some k ∷ os) e zero m q =
-    let h = (and-eq-true-iff (sameKind (x .kind) k) (agree (formalKinds ms) os)) .0 e in
-    ap {B = Option (Option Kind)} some (ap {B = Option Kind} some (same-kind (x .kind) k (h .0) ∙ ap (λ (y : Formal). y .kind) (Option·some-injective x m q)))
-agree-at (x ∷ ms) (some k ∷ os) e (suc i) m q =
-    agree-at ms os (((and-eq-true-iff (sameKind (x .kind) k) (agree (formalKinds ms) os)) .0 e) .1) i m q
-
-kind-known : (fs : List Frame) (x : ℕ) (d : Decl) → declOf fs x ≡ some d → kindOf fs x ≡ some (declKind d)
-unfolding kindOf
-kind-known fs x d e = rw (kindOf, e)
-
-each-at : {A : Type 0} (P : A → Type 0) (xs : List A) (i : ℕ) (a : A) → getElem? xs i ≡ some a → Each P xs → P a
-each-at P [] i a e h = absurd (Option·none-ne-some a e)
-each-at P (x ∷ xs) zero a e h = subst P (Option·some-injective x a e) (h .0)
-each-at P (x ∷ xs) (suc i) a e h = each-at P xs i a e (h .1)
-
 argument-words : (ms : List Formal) (xs : List ℕ) (b : Block) (k i x : ℕ) → getElem? xs i ≡ some x → getElem? ((newFrame ms xs b k) .words) i ≡ some (pos x)
 unfolding newFrame
 argument-words ms xs b k i x e =
     let l = length-map xs pos in
-    at-append (map pos xs) (zeroWords _) i (omega (arith, at-within xs i x e)) ∙ at-map pos xs i ∙ ap (Option·map pos) e
+    getElem-append (map pos xs) (zeroWords _) i (omega (arith, getElem-bound xs i x e)) ∙ getElem?-map pos xs i ∙ ap (Option·map pos) e
 
 abbrev Some : List Frame → ℕ → Type 0
 Some fs x = (k : Kind) × Designated fs x k
 
 call-wired : (fs : List Frame) (ms : List Formal) (xs : List ℕ) (b : Block) (k : ℕ) → Each (Some fs) xs → agree (formalKinds ms) (map (kindOf fs) xs) ≡ true → Wired fs → Wired (fs ++ (newFrame ms xs b k ∷ []))
-unfolding newFrame
+unfolding newFrame formalKinds
 call-wired fs ms xs b k each q wired = wired-entered fs (newFrame ms xs b k) wired (λ i m e. new i m e)
   where
     gs : List Frame
@@ -146,10 +118,10 @@ call-wired fs ms xs b k each q wired = wired-entered fs (newFrame ms xs b k) wir
 
     new : (i : ℕ) (m : Formal) → getElem? ms i ≡ some m → Wire gs (suc (length fs)) (newFrame ms xs b k) i m
     new i m e =
-        let x = (map-eq-some-iff (kindOf fs) (getElem? xs i)) .0 (sym (at-map (kindOf fs) xs i) ∙ agree-at ms (map (kindOf fs) xs) q i m e) in
+        let x = (map-eq-some-iff (kindOf fs) (getElem? xs i)) .0 (sym (getElem?-map (kindOf fs) xs i) ∙ agree-at (formalKinds ms) (map (kindOf fs) xs) q i (m .kind) (getElem?-map (λ (f : Formal). f .kind) ms i ∙ ap (Option·map (λ (f : Formal). f .kind)) e)) in
         let d = each-at (Some fs) xs i (x .0) (x .1) each in
         let n : frameNumber (x .0) ≤ length fs = numbered-high fs (frameNumber (x .0)) (d .1 .home) (d .1 .stands) in
-        let kind : d .0 ≡ m .kind = sym (d .1 .kind) ∙ Option·some-injective (declKind (d .1 .decl)) (m .kind) (sym (kind-known fs (x .0) (d .1 .decl) (d .1 .declared)) ∙ x .2) in
+        let kind : d .0 ≡ m .kind = sym (d .1 .kind) ∙ Option·some-injective (declKind (d .1 .decl)) (m .kind) (sym (kindOf-found fs (x .0) (d .1 .decl) (d .1 .declared)) ∙ x .2) in
         record {
           designator = x .0;
           word = argument-words ms xs b k i (x .0) (x .1);
@@ -231,7 +203,7 @@ module _ (t : Block) (keeps : Keeps t) (s : Stack) (chain : Chained t (s .frames
         let fs = advanced (s .frames) f i in
         let x = designates (s .frames) n in
         let h = numbered-high (s .frames) (frameNumber x) (d .home) (d .stands) in
-        subst (λ y. Designated fs y (m .kind)) (sym (designates-advanced (s .frames) (chained-downward t (s .frames) chain) f i e n))
+        subst (λ y. Designated fs y (m .kind)) (sym (designates-advanced (s .frames) f i e n))
         (designated-alike (s .frames) fs (length (s .frames)) (rewired-alike (s .frames) fs (length (s .frames)) rewired) x (m .kind) h d)
 
   action-wired : (f : Frame) (at : ℕ) (a : Action) → last? (s .frames) ≡ some f → frameStmt f ≡ some (DO at a) → let u = advanceFrame s f in Moves (λ v. Wired (v .frames)) u (mapAction (designates (u .frames)) a)
@@ -279,4 +251,4 @@ start-sound t tab = record { chained = start-chained t tab; wired = start-wired 
 
 pub run-sound : (t : Block) → Keeps t → (l : Limits) (tab : Table) (n : ℕ) → Sound t ((frameRun l n (frameStart t tab)) .final .frames)
 unfolding stepped
-run-sound t keeps l tab n = run-keeps l (λ s. Sound t (s .frames)) (λ s s′ e h. step-sound t keeps l s s′ e h) n (frameStart t tab) (start-sound t tab)
+run-sound t keeps l tab n = run-keeps l (λ s. Sound t (s .frames)) (λ s s′ live e h. step-sound t keeps l s s′ e h) n (frameStart t tab) (start-sound t tab)

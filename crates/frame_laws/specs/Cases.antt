@@ -1,10 +1,10 @@
 -- How to prove a property of whatever a step comes to: give it for each outcome, with what is known there.
--- `step-cases` takes a step apart, and then a rule for each statement; `run-keeps` carries what every step keeps through a run.
-use Prim.Native.Nat.{ℕ, zero, suc, pred, _≤_, _<_}
+-- `step-cases` takes a step apart, and then a rule for each statement.
+use Prim.Native.Nat.{ℕ, suc, pred, _≤_, _<_}
 use mathlib.Core.Path.{_≡_, refl, sym, subst}
 use mathlib.Core.Bool.{Bool, true, false, _&&_, cond}
 use mathlib.Core.List.{List, [], _∷_, _++_, map}
-use mathlib.Core.Option.{Option, none, some}
+use mathlib.Core.Option.{none, some}
 use lib.Dec.{leb, ltb}
 use lib.IntN.{ℤ, pos}
 use lib.ListN.{length, take}
@@ -18,41 +18,24 @@ use Rattle.language.specs.Table.{holds, size, atLeastOne, full, add, remove}
 use Rattle.language.specs.Machine.{Limits, compute}
 use Rattle.language.specs.declared.Stop.{Stop}
 use Rattle.language.specs.declared.Stop.the-variants.{ResultTooLarge, NoActivationLeft, NumberBelowOne, GroupFull, TableFull, ArgumentsDiffer}
-use Rattle.frames.specs.Frame.{Frame, Stack, Acted, acted, halted, Result, withFrames, tableChanged, stepped, continue, numbered, frameNumber, declOf, kindOf, wordAt, putWord, newFrame, act, actStmt, frameStmt, frameStep, results, frameRun}
+use Rattle.laws.specs.Tests.{split, by-lookup}
+use Rattle.frames.specs.Frame.{Frame, Stack, Acted, acted, halted, withFrames, tableChanged, continue, numbered, frameNumber, declOf, kindOf, wordAt, putWord, newFrame, act, actStmt, frameStmt, frameStep}
 use Rattle.frame_laws.specs.Finding.{declOf-frame}
 use Rattle.frame_laws.specs.Actions.{calls-nothing, calls-differing, calls-full, calls, goes, goes-nowhere, passes, jumps, computes, computes-past, adds-below-one, adds-held, adds-group-full, adds-table-full, adds, removes-below-one, removes, asks-below-one, asks, enters, enters-full}
-use Rattle.frame_laws.specs.Innermost.{innermost, step-leaves, step-does, run-finished, run-spent, run-steps, run-stops}
-
--- a test and a lookup with what they come to
-pub by-test : {R : Type 0} (b : Bool) → (b ≡ true → R) → (b ≡ false → R) → R
-by-test true p q = p refl
-by-test false p q = q refl
-
-pub by-lookup : {A R : Type 0} (o : Option A) → (o ≡ none → R) → ((a : A) → o ≡ some a → R) → R
-by-lookup none p q = p refl
-by-lookup (some a) p q = q a refl
-
-pub by-frames : {A R : Type 0} (xs : List A) → (xs ≡ [] → R) → (1 ≤ length xs → R) → R
-by-frames [] p q = p refl
-by-frames (x ∷ xs) p q = q (omega arith)
-
--- a property of the stack that a statement leaves, where it did not stop
-abbrev pub After : (Stack → Type 0) → Acted → Type 0
-After P (acted s) = P s
-After P (halted c) = Unit {0}
+use Rattle.frame_laws.specs.Innermost.{innermost, step-leaves, step-does}
 
 module _ (l : Limits) (s : Stack) (Q : Acted → Type 0) (stops : (c : Stop) → Q (halted c)) where
   pub enter-cases : (b : Block) → (length (s .frames) < l .activations → Q (acted (withFrames s (s .frames ++ (newFrame [] [] b (length (s .frames)) ∷ []))))) → Q (actStmt l s (BK b))
   enter-cases b h =
-      by-test (ltb (length (s .frames)) (l .activations)) (λ t. subst Q (sym (enters l s b t)) (h (ltb-true _ _ t))) (λ t. subst Q (sym (enters-full l s b t)) (stops NoActivationLeft))
+      split (ltb (length (s .frames)) (l .activations)) (λ t. subst Q (sym (enters l s b t)) (h (ltb-true _ _ t))) (λ t. subst Q (sym (enters-full l s b t)) (stops NoActivationLeft))
 
   pub call-cases : (p : ℕ) (xs : List ℕ) → Q (acted s)
       → ((d : Decl) → declOf (s .frames) p ≡ some d → agree (formalKinds (declFormals d)) (map (kindOf (s .frames)) xs) ≡ true → length (s .frames) < l .activations → Q (acted (withFrames s (s .frames ++ (newFrame (declFormals d) xs (declBody d) (frameNumber p) ∷ [])))))
       → Q (act l s (CL p xs))
   call-cases p xs n h =
       by-lookup (declOf (s .frames) p) (λ e. subst Q (sym (calls-nothing l s p xs e)) n)
-      (λ d e. by-test (agree (formalKinds (declFormals d)) (map (kindOf (s .frames)) xs))
-      (λ a. by-test (ltb (length (s .frames)) (l .activations)) (λ t. subst Q (sym (calls l s p xs d e a t)) (h d e a (ltb-true _ _ t))) (λ t. subst Q (sym (calls-full l s p xs d e a t)) (stops NoActivationLeft)))
+      (λ d e. split (agree (formalKinds (declFormals d)) (map (kindOf (s .frames)) xs))
+      (λ a. split (ltb (length (s .frames)) (l .activations)) (λ t. subst Q (sym (calls l s p xs d e a t)) (h d e a (ltb-true _ _ t))) (λ t. subst Q (sym (calls-full l s p xs d e a t)) (stops NoActivationLeft)))
       (λ a. subst Q (sym (calls-differing l s p xs d e a)) (stops ArgumentsDiffer)))
 
   pub go-cases : (x : ℕ) → Q (acted s)
@@ -64,11 +47,11 @@ module _ (l : Limits) (s : Stack) (Q : Acted → Type 0) (stops : (c : Stop) →
 
   pub if-cases : (v x : ℕ) → Q (acted s) → Q (act l s (GO x)) → Q (act l s (IF v x))
   if-cases v x n h =
-      by-test (eqZ (wordAt (s .frames) v) (pos 0)) (λ t. subst Q (sym (passes l s v x _ refl t)) n) (λ t. subst Q (sym (jumps l s v x _ refl t)) h)
+      split (eqZ (wordAt (s .frames) v) (pos 0)) (λ t. subst Q (sym (passes l s v x _ refl t)) n) (λ t. subst Q (sym (jumps l s v x _ refl t)) h)
 
   pub compute-cases : (t : ℕ) (o : Operation) (a b : ℕ) → ((z : ℤ) → mag z < 2147483648 → Q (acted (withFrames s (putWord (s .frames) t z)))) → Q (act l s (AR t o a b))
   compute-cases t o a b h =
-      by-test (ltb (mag (compute o (wordAt (s .frames) a) (wordAt (s .frames) b))) 2147483648) (λ e. subst Q (sym (computes l s t o a b _ _ refl refl e)) (h _ (ltb-true _ _ e))) (λ e. subst Q (sym (computes-past l s t o a b _ _ refl refl e)) (stops ResultTooLarge))
+      split (ltb (mag (compute o (wordAt (s .frames) a) (wordAt (s .frames) b))) 2147483648) (λ e. subst Q (sym (computes l s t o a b _ _ refl refl e)) (h _ (ltb-true _ _ e))) (λ e. subst Q (sym (computes-past l s t o a b _ _ refl refl e)) (stops ResultTooLarge))
 
   pub add-cases : (x y : ℕ) → Q (acted s)
       → ((g m : ℤ) → atLeastOne g && atLeastOne m ≡ true → holds g m (s .table) ≡ false → size g (s .table) < l .group → full (s .table) ≡ false → Q (acted (tableChanged s (add g m (s .table)))))
@@ -76,10 +59,10 @@ module _ (l : Limits) (s : Stack) (Q : Acted → Type 0) (stops : (c : Stop) →
   add-cases x y n h =
       let g = wordAt (s .frames) x in
       let m = wordAt (s .frames) y in
-      by-test (atLeastOne g && atLeastOne m)
-      (λ e. by-test (holds g m (s .table)) (λ i. subst Q (sym (adds-held l s x y g m refl refl e i)) n)
-      (λ i. by-test (leb (l .group) (size g (s .table))) (λ z. subst Q (sym (adds-group-full l s x y g m refl refl e i z)) (stops GroupFull))
-      (λ z. by-test (full (s .table)) (λ f. subst Q (sym (adds-table-full l s x y g m refl refl e i z f)) (stops TableFull))
+      split (atLeastOne g && atLeastOne m)
+      (λ e. split (holds g m (s .table)) (λ i. subst Q (sym (adds-held l s x y g m refl refl e i)) n)
+      (λ i. split (leb (l .group) (size g (s .table))) (λ z. subst Q (sym (adds-group-full l s x y g m refl refl e i z)) (stops GroupFull))
+      (λ z. split (full (s .table)) (λ f. subst Q (sym (adds-table-full l s x y g m refl refl e i z f)) (stops TableFull))
       (λ f. subst Q (sym (adds l s x y g m refl refl e i z f)) (h g m e i (leb-false _ _ z) f)))))
       (λ e. subst Q (sym (adds-below-one l s x y g m refl refl e)) (stops NumberBelowOne))
 
@@ -87,7 +70,7 @@ module _ (l : Limits) (s : Stack) (Q : Acted → Type 0) (stops : (c : Stop) →
   remove-cases x y h =
       let g = wordAt (s .frames) x in
       let m = wordAt (s .frames) y in
-      by-test (atLeastOne g && atLeastOne m) (λ e. subst Q (sym (removes l s x y g m refl refl e)) (h g m)) (λ e. subst Q (sym (removes-below-one l s x y g m refl refl e)) (stops NumberBelowOne))
+      split (atLeastOne g && atLeastOne m) (λ e. subst Q (sym (removes l s x y g m refl refl e)) (h g m)) (λ e. subst Q (sym (removes-below-one l s x y g m refl refl e)) (stops NumberBelowOne))
 
   small : (b : Bool) → mag (cond b (pos 1) (pos 0)) < 2147483648
   small true = omega arith
@@ -97,7 +80,7 @@ module _ (l : Limits) (s : Stack) (Q : Acted → Type 0) (stops : (c : Stop) →
   ask-cases t x y h =
       let g = wordAt (s .frames) x in
       let m = wordAt (s .frames) y in
-      by-test (atLeastOne g && atLeastOne m) (λ e. subst Q (sym (asks l s x y g m refl refl t e)) (h _ (small (holds g m (s .table))))) (λ e. subst Q (sym (asks-below-one l s x y g m refl refl t e)) (stops NumberBelowOne))
+      split (atLeastOne g && atLeastOne m) (λ e. subst Q (sym (asks l s x y g m refl refl t e)) (h _ (small (holds g m (s .table))))) (λ e. subst Q (sym (asks-below-one l s x y g m refl refl t e)) (stops NumberBelowOne))
 
 -- a step leaves the innermost frame or does its next statement
 pub step-cases : (l : Limits) (s : Stack) (Q : Acted → Type 0) → 1 ≤ length (s .frames)
@@ -107,17 +90,3 @@ pub step-cases : (l : Limits) (s : Stack) (Q : Acted → Type 0) → 1 ≤ lengt
 step-cases l s Q h leave does =
     let q = innermost s h in
     by-lookup (frameStmt (q .1)) (λ e. subst Q (sym (step-leaves l s (q .0) (q .1) (q .2) e)) (leave (q .0) (q .1) (q .2) e)) (λ x e. subst Q (sym (step-does l s (q .0) (q .1) x (q .2) e)) (does (q .0) (q .1) x (q .2) e))
-
--- what every step keeps holds of the stack that a run leaves; the stacks of a run are those that its shorter runs leave
-module _ (l : Limits) (P : Stack → Type 0) (keeps : (s : Stack) → 1 ≤ length (s .frames) → P s → After (λ s′. P (stepped s′)) (frameStep l s)) where
-  run-on : (n : ℕ) (s : Stack) → 1 ≤ length (s .frames) → P s → (d : Acted) → frameStep l s ≡ d → After (λ s′. P (stepped s′)) d → ((s′ : Stack) → P s′ → P ((frameRun l n s′) .final)) → P ((frameRun l (suc n) s) .final)
-  unfolding results
-  run-on n s h p (acted s′) e q f = subst (λ (r : Result). P (r .final)) (sym (run-steps l s n s′ h e)) (f (stepped s′) q)
-  run-on n s h p (halted c) e q f = subst (λ (r : Result). P (r .final)) (sym (run-stops l s n c h e)) p
-
-  pub run-keeps : (n : ℕ) (s : Stack) → P s → P ((frameRun l n s) .final)
-  unfolding results
-  run-keeps zero s p =
-      by-frames (s .frames) (λ e. subst (λ (r : Result). P (r .final)) (sym (run-finished l s 0 e)) p) (λ h. subst (λ (r : Result). P (r .final)) (sym (run-spent l s h)) p)
-  run-keeps (suc n) s p =
-      by-frames (s .frames) (λ e. subst (λ (r : Result). P (r .final)) (sym (run-finished l s (suc n) e)) p) (λ h. run-on n s h p (frameStep l s) refl (keeps s h p) (run-keeps n))

@@ -6,18 +6,18 @@ use mathlib.Core.Path.{_≡_, sym, ap, _∙_}
 use mathlib.Core.List.{List, [], _∷_, _++_}
 use mathlib.Core.Option.{none, some, Option·none-ne-some, Option·some-injective}
 use lib.ListN.{length}
+use Rattle.laws.specs.Tests.{by-lookup}
 use Rattle.frames.specs.Frame.{Frame, Place, numbered, frameNames, positionFrom, seekFrom, seekName, linksFollowed, frameNumber, declOf, kindOf, wordAt}
-use Rattle.frame_laws.specs.Lists.{snoc-length}
+use Rattle.laws.specs.Lists.{snoc-length}
 use Rattle.frame_laws.specs.Finding.{declOf-found, declOf-none, kindOf-found, kindOf-none, wordAt-found, wordAt-none, seekName-starts, seek-spent, seek-none, seek-here, seek-on, links-found, links-none}
-use Rattle.frame_laws.specs.Innermost.{numbered-below, numbered-last}
-use Rattle.frame_laws.specs.Cases.{by-lookup}
+use Rattle.frames.specs.Numbered.{numbered-append, numbered-seam}
 use Rattle.frame_laws.specs.Sound.{SoundFrames}
 use Rattle.frame_laws.specs.Names.{numbered-sound}
 
 module _ (pre rest : List Frame) where
   pub declOf-below : (x : ℕ) → frameNumber x ≤ length pre → declOf (pre ++ rest) x ≡ declOf pre x
   declOf-below x h =
-      let b = numbered-below pre rest (frameNumber x) h in
+      let b = numbered-append pre rest (frameNumber x) h in
       by-lookup (numbered pre (frameNumber x)) (λ e. declOf-none (pre ++ rest) x (b ∙ e) ∙ sym (declOf-none pre x e)) (λ f e. declOf-found (pre ++ rest) x f (b ∙ e) ∙ sym (declOf-found pre x f e))
 
   pub kindOf-below : (x : ℕ) → frameNumber x ≤ length pre → kindOf (pre ++ rest) x ≡ kindOf pre x
@@ -27,14 +27,14 @@ module _ (pre rest : List Frame) where
 
   pub wordAt-below : (x : ℕ) → frameNumber x ≤ length pre → wordAt (pre ++ rest) x ≡ wordAt pre x
   wordAt-below x h =
-      let b = numbered-below pre rest (frameNumber x) h in
+      let b = numbered-append pre rest (frameNumber x) h in
       by-lookup (numbered pre (frameNumber x)) (λ e. wordAt-none (pre ++ rest) x (b ∙ e) ∙ sym (wordAt-none pre x e)) (λ f e. wordAt-found (pre ++ rest) x f (b ∙ e) ∙ sym (wordAt-found pre x f e))
 
   pub seek-below : SoundFrames pre → (m k n j : ℕ) → k ≤ length pre → seekFrom m (pre ++ rest) k n j ≡ seekFrom m pre k n j
   seek-below h zero k n j l = seek-spent (pre ++ rest) k n j ∙ sym (seek-spent pre k n j)
   seek-below h (suc m) k n j l =
-      let b = numbered-below pre rest k l in
-      by-lookup (numbered pre k) (λ e. seek-none m (pre ++ rest) k n j (b ∙ e) ∙ sym (seek-none m pre k n j e))
+      let b = numbered-append pre rest k l in
+      by-lookup (numbered pre k) (λ e. seek-none (suc m) (pre ++ rest) k n j (b ∙ e) ∙ sym (seek-none (suc m) pre k n j e))
       (λ f e. by-lookup (positionFrom n 1 (frameNames f))
       (λ p. seek-on m (pre ++ rest) k n j f (b ∙ e) p ∙ seek-below h m (f .link) n (suc j) (omega (arith, (numbered-sound pre k f h e) .link-last)) ∙ sym (seek-on m pre k n j f e p))
       (λ i p. seek-here m (pre ++ rest) k n j f i (b ∙ e) p ∙ sym (seek-here m pre k n j f i e p)))
@@ -45,17 +45,17 @@ module _ (fs : List Frame) (g : Frame) (n : ℕ) where
   innermost-first = seekName-starts (fs ++ (g ∷ [])) n ∙ ap (λ m. seekFrom m (fs ++ (g ∷ [])) m n 0) (snoc-length fs g)
 
   pub entered-own : (p : ℕ) → positionFrom n 1 (frameNames g) ≡ some p → seekName (fs ++ (g ∷ [])) n ≡ some (record { number = suc (length fs); position = p; followed = 0 })
-  entered-own p e = innermost-first ∙ seek-here (length fs) (fs ++ (g ∷ [])) (suc (length fs)) n 0 g p (numbered-last fs g) e
+  entered-own p e = innermost-first ∙ seek-here (length fs) (fs ++ (g ∷ [])) (suc (length fs)) n 0 g p (numbered-seam fs g) e
 
   pub entered-around : SoundFrames fs → g .link ≤ length fs → positionFrom n 1 (frameNames g) ≡ none → seekName (fs ++ (g ∷ [])) n ≡ seekFrom (length fs) fs (g .link) n 1
   entered-around h l e =
-      innermost-first ∙ seek-on (length fs) (fs ++ (g ∷ [])) (suc (length fs)) n 0 g (numbered-last fs g) e ∙ seek-below fs (g ∷ []) h (length fs) (g .link) n 1 l
+      innermost-first ∙ seek-on (length fs) (fs ++ (g ∷ [])) (suc (length fs)) n 0 g (numbered-seam fs g) e ∙ seek-below fs (g ∷ []) h (length fs) (g .link) n 1 l
 
 -- fewer links are followed than there are frames
 followed-most : (m : ℕ) (fs : List Frame) (k n j : ℕ) (p : Place) → seekFrom m fs k n j ≡ some p → p .followed < j + m
 followed-most zero fs k n j p e = absurd (Option·none-ne-some p (sym (seek-spent fs k n j) ∙ e))
 followed-most (suc m) fs k n j p e =
-    by-lookup (numbered fs k) (λ q. absurd (Option·none-ne-some p (sym (seek-none m fs k n j q) ∙ e)))
+    by-lookup (numbered fs k) (λ q. absurd (Option·none-ne-some p (sym (seek-none (suc m) fs k n j q) ∙ e)))
     (λ f q. by-lookup (positionFrom n 1 (frameNames f)) (λ r. omega (arith, followed-most m fs (f .link) n (suc j) p (sym (seek-on m fs k n j f q r) ∙ e)))
     (λ i r. let c = ap (λ (x : Place). x .followed) (Option·some-injective _ p (sym (seek-here m fs k n j f i q r) ∙ e)) in omega (arith, c)))
 

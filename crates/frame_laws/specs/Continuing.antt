@@ -9,12 +9,13 @@ use mathlib.Core.Option.{some, Option·none-ne-some, Option·some-injective}
 use lib.ListN.{length, getElem?}
 use Rattle.language.specs.Text.{Action, CL, GO, IF, KN, AR, AD, RM, QY, DO}
 use Rattle.language.specs.Machine.{Limits}
+use Rattle.laws.specs.Tests.{by-lookup}
 use Rattle.frames.specs.Frame.{Frame, Stack, numbered, designates, continue, frameNumber, declOf, kindOf, wordAt, mapAction, withFrames, act, frameStmt, frameStep}
-use Rattle.frame_laws.specs.Lists.{snoc-length}
+use Rattle.laws.specs.Lists.{snoc-length}
+use Rattle.frame_laws.specs.Parts.{withFrames-frames}
 use Rattle.frame_laws.specs.Finding.{wordAt-found, wordAt-none}
 use Rattle.frame_laws.specs.Actions.{does}
 use Rattle.frame_laws.specs.Innermost.{step-does}
-use Rattle.frame_laws.specs.Cases.{by-lookup}
 use Rattle.frame_laws.specs.Sound.{OnLabel, JumpsToLabel}
 use Rattle.frame_laws.specs.Likeness.{Like, LikeFrames, numbered-none, designates-like, declOf-like, kindOf-like, mapAction-like}
 
@@ -77,30 +78,26 @@ module _ (pre : List Frame) (f : Frame) (i : ℕ) where
 
 -- One step of the innermost frame f, whose next statement is an action
 
-frames-of : (s : Stack) (fs : List Frame) → (withFrames s fs) .frames ≡ fs
-unfolding withFrames
-frames-of s fs = refl
-
 module _ (s : Stack) (pre : List Frame) (f : Frame) (i : ℕ) (e : s .frames ≡ pre ++ (f ∷ [])) where
   -- the stack with the innermost frame's next statement number set
   abbrev on : Stack
   on = withFrames s (pre ++ (continue f i ∷ []))
 
   pub length-advanced : length (on .frames) ≡ length (s .frames)
-  length-advanced = ap length (frames-of s (pre ++ (continue f i ∷ []))) ∙ (like-continued pre f i) .count ∙ ap length (sym e)
+  length-advanced = ap length (withFrames-frames s (pre ++ (continue f i ∷ []))) ∙ (like-continued pre f i) .count ∙ ap length (sym e)
 
   pub declOf-advanced : (x : ℕ) → declOf (on .frames) x ≡ declOf (s .frames) x
-  declOf-advanced x = ap (λ (fs : List Frame). declOf fs x) (frames-of s (pre ++ (continue f i ∷ []))) ∙ declOf-continued pre f i x ∙ ap (λ (fs : List Frame). declOf fs x) (sym e)
+  declOf-advanced x = ap (λ (fs : List Frame). declOf fs x) (withFrames-frames s (pre ++ (continue f i ∷ []))) ∙ declOf-continued pre f i x ∙ ap (λ (fs : List Frame). declOf fs x) (sym e)
 
   pub kindOf-advanced : (x : ℕ) → kindOf (on .frames) x ≡ kindOf (s .frames) x
-  kindOf-advanced x = ap (λ (fs : List Frame). kindOf fs x) (frames-of s (pre ++ (continue f i ∷ []))) ∙ kindOf-continued pre f i x ∙ ap (λ (fs : List Frame). kindOf fs x) (sym e)
+  kindOf-advanced x = ap (λ (fs : List Frame). kindOf fs x) (withFrames-frames s (pre ++ (continue f i ∷ []))) ∙ kindOf-continued pre f i x ∙ ap (λ (fs : List Frame). kindOf fs x) (sym e)
 
   pub wordAt-advanced : (x : ℕ) → wordAt (on .frames) x ≡ wordAt (s .frames) x
-  wordAt-advanced x = ap (λ (fs : List Frame). wordAt fs x) (frames-of s (pre ++ (continue f i ∷ []))) ∙ wordAt-continued pre f i x ∙ ap (λ (fs : List Frame). wordAt fs x) (sym e)
+  wordAt-advanced x = ap (λ (fs : List Frame). wordAt fs x) (withFrames-frames s (pre ++ (continue f i ∷ []))) ∙ wordAt-continued pre f i x ∙ ap (λ (fs : List Frame). wordAt fs x) (sym e)
 
 pub step-acts : (l : Limits) (s : Stack) (pre : List Frame) (f : Frame) (at : ℕ) (a : Action) → s .frames ≡ pre ++ (f ∷ []) → frameStmt f ≡ some (DO at a)
     → frameStep l s ≡ act l (withFrames s (pre ++ (continue f (suc (f .next)) ∷ []))) (mapAction (designates (s .frames)) a)
 step-acts l s pre f at a e n =
     let fs = pre ++ (continue f (suc (f .next)) ∷ []) in
     step-does l s pre f (DO at a) e n ∙ does l (withFrames s fs) at a
-    ∙ ap (act l (withFrames s fs)) (ap (λ (gs : List Frame). mapAction (designates gs) a) (frames-of s fs) ∙ mapAction-like (pre ++ (f ∷ [])) fs (like-continued pre f (suc (f .next))) a ∙ ap (λ (gs : List Frame). mapAction (designates gs) a) (sym e))
+    ∙ ap (act l (withFrames s fs)) (ap (λ (gs : List Frame). mapAction (designates gs) a) (withFrames-frames s fs) ∙ mapAction-like (pre ++ (f ∷ [])) fs (like-continued pre f (suc (f .next))) a ∙ ap (λ (gs : List Frame). mapAction (designates gs) a) (sym e))

@@ -1,11 +1,11 @@
 -- Finding: what a designator gives, its frame's number and its name's place there; and what a name designates, looked up along the
 -- links. Read each law as: where the frame or the name is found so, the lookup comes out so.
-use Prim.Native.Nat.{ℕ, suc, pred, _+_, _-_, _*_}
+use Prim.Native.Nat.{ℕ, zero, suc, pred, _+_, _-_, _*_}
 use mathlib.Core.Path.{_≡_, refl, sym, _∙_}
 use mathlib.Core.Bool.{true, false}
-use mathlib.Core.List.{List, [], _∷_}
+use mathlib.Core.List.{List}
 use mathlib.Core.Option.{Option, none, some, Option·none-ne-some}
-use lib.Dec.{eqb, leb}
+use lib.Dec.{leb}
 use lib.IntN.{ℤ, pos}
 use lib.ListN.{length, getD, set, getElem?}
 use Rattle.language.specs.Text.{Decl, blockDecls, declKind}
@@ -50,19 +50,6 @@ pub putWord-none : (fs : List Frame) (x : ℕ) (z : ℤ) → numbered fs (frameN
 unfolding putWord
 putWord-none fs x z e = rw (e, putWord)
 
--- a name in a list of names, where positions go on from i
-pub position-none : (n i : ℕ) → positionFrom n i [] ≡ none
-unfolding positionFrom
-position-none n i = refl
-
-pub position-here : (n i x : ℕ) (xs : List ℕ) → eqb n x ≡ true → positionFrom n i (x ∷ xs) ≡ some i
-unfolding positionFrom
-position-here n i x xs t = rw (positionFrom, t)
-
-pub position-on : (n i x : ℕ) (xs : List ℕ) → eqb n x ≡ false → positionFrom n i (x ∷ xs) ≡ positionFrom n (suc i) xs
-unfolding positionFrom
-position-on n i x xs t = rw (positionFrom, t)
-
 -- a name along the links from frame k, j links having been followed
 pub seekName-starts : (fs : List Frame) (n : ℕ) → seekName fs n ≡ seekFrom (length fs) fs (length fs) n 0
 unfolding seekName
@@ -72,11 +59,12 @@ pub seek-spent : (fs : List Frame) (k n j : ℕ) → seekFrom 0 fs k n j ≡ non
 unfolding seekFrom
 seek-spent fs k n j = refl
 
-module _ (m : ℕ) (fs : List Frame) (k n j : ℕ) where
-  pub seek-none : numbered fs k ≡ none → seekFrom (suc m) fs k n j ≡ none
-  unfolding seekFrom
-  seek-none e = rw (seekFrom, e)
+pub seek-none : (m : ℕ) (fs : List Frame) (k n j : ℕ) → numbered fs k ≡ none → seekFrom m fs k n j ≡ none
+unfolding seekFrom
+seek-none zero fs k n j e = refl
+seek-none (suc m) fs k n j e = rw (seekFrom, e)
 
+module _ (m : ℕ) (fs : List Frame) (k n j : ℕ) where
   pub seek-here : (f : Frame) (p : ℕ) → numbered fs k ≡ some f → positionFrom n 1 (frameNames f) ≡ some p → seekFrom (suc m) fs k n j ≡ some (record { number = k; position = p; followed = j })
   unfolding seekFrom
   seek-here f p e q = rw (seekFrom, e, q)

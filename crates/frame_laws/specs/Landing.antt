@@ -27,8 +27,7 @@ use Rattle.instances.specs.Accepted.{accepted-closed}
 use Rattle.instances.specs.Steps.{started, next-closed, run-keeps}
 use Rattle.instances.specs.Theorems.{stands}
 use Rattle.frames.specs.Frame.{Frame, Stack, designates, mapAction, kindOf, frameStmt, frameRun, frameStart, frameRunOf}
-use Rattle.frames.specs.Both.{both-length}
-use Rattle.frames.specs.Related.{joined, designatorAt, Twin, Related}
+use Rattle.frames.specs.Related.{joined, designatorAt, Twin, Related, as-deep}
 use Rattle.frames.specs.Cuts.{top-of}
 use Rattle.frames.specs.Find.{designates-name}
 use Rattle.frames.specs.Designated.{designated, kindOf-designated}
@@ -73,7 +72,7 @@ module _ (s : State) (t : Stack) (r : Related s t) (inv : Invariant s) where
   lands pre f at a e stmt = go (last? (s .live)) refl
     where
       deep : length (s .live) ≡ length (t .frames)
-      deep = both-length (Twin (s .live) (s .values)) 0 (s .live) (t .frames) (r .twins)
+      deep = as-deep s t r
 
       go : (o : Option Activation) → last? (s .live) ≡ o → JumpsToLabel (t .frames) (mapAction (designates (t .frames)) a)
       go none q =

@@ -1,5 +1,4 @@
 -- Laws of the frame machine for the engines that run on frames, in reading order.
-pub mod Lists
 pub mod Parts
 pub mod Finding
 pub mod Actions

@@ -10,11 +10,12 @@ use lib.IntN.{pos}
 use lib.ListN.{length, getD, getElem?}
 use borrow.Author.Tests.{leb-true}
 use Rattle.language.specs.Text.{Action, blockDecls, formalNames, declaredNames}
+use Rattle.laws.specs.Tests.{split, by-lookup}
 use Rattle.frames.specs.Frame.{Frame, Place, numbered, frameNames, positionFrom, seekFrom, seekName, designatorIn, finally, designates, linksFollowed, frameNumber, place, declOf, kindOf, mapAction}
-use Rattle.frame_laws.specs.Lists.{none-past, past-none}
+use Rattle.laws.specs.Lists.{getElem-past, getElem-none}
 use Rattle.frame_laws.specs.Finding.{declOf-found, declOf-none, kindOf-found, kindOf-none, seekName-starts, seek-spent, seek-none, seek-here, seek-on, designates-found, designates-none, links-found, links-none, finally-formal, finally-declared}
-use Rattle.frame_laws.specs.Cases.{by-test, by-lookup}
-use Rattle.frame_laws.specs.Names.{FoundAt, position-bounds, seekName-found}
+use Rattle.frames.specs.Positions.{position-range}
+use Rattle.frame_laws.specs.Names.{FoundAt, seekName-found}
 
 pub record Like (f g : Frame) : Type 0 where
   pub formals : g .formals ≡ f .formals
@@ -37,7 +38,7 @@ module _ (fs gs : List Frame) (like : LikeFrames fs gs) where
   pub numbered-none : (k : ℕ) → numbered fs k ≡ none → numbered gs k ≡ none
   unfolding numbered
   numbered-none zero e = refl
-  numbered-none (suc k) e = past-none gs k (omega (arith, none-past fs k e, like .count))
+  numbered-none (suc k) e = getElem-none gs k (omega (arith, getElem-past fs k e, like .count))
 
   pub numbered-like : (k : ℕ) (f : Frame) → numbered fs k ≡ some f → (g : Frame) × (numbered gs k ≡ some g) × Like f g
   unfolding numbered
@@ -47,7 +48,7 @@ module _ (fs gs : List Frame) (like : LikeFrames fs gs) where
   seek-like : (m k n j : ℕ) → seekFrom m gs k n j ≡ seekFrom m fs k n j
   seek-like zero k n j = seek-spent gs k n j ∙ sym (seek-spent fs k n j)
   seek-like (suc m) k n j =
-      by-lookup (numbered fs k) (λ e. seek-none m gs k n j (numbered-none k e) ∙ sym (seek-none m fs k n j e))
+      by-lookup (numbered fs k) (λ e. seek-none (suc m) gs k n j (numbered-none k e) ∙ sym (seek-none (suc m) fs k n j e))
       (λ f e. let q = numbered-like k f e in
       let names = ap (positionFrom n 1) (names-like f (q .0) (q .2)) in
       by-lookup (positionFrom n 1 (frameNames f))
@@ -66,9 +67,9 @@ module _ (fs gs : List Frame) (like : LikeFrames fs gs) where
   finally-like n p h =
       let f = h .frame in
       let q = numbered-like (p .number) f (h .stands) in
-      let b = position-bounds n 1 (frameNames f) (p .position) (h .named) in
+      let b = position-range n 1 (p .position) (frameNames f) (h .named) in
       let c = ap (λ x. leb (p .position) (length x)) (q .2 .formals) in
-      by-test (leb (p .position) (length (f .formals)))
+      split (leb (p .position) (length (f .formals)))
       (λ t. finally-formal gs p (q .0) (q .1) (c ∙ t) ∙ ap designatorIn (q .2 .handed (pred (p .position)) (omega (arith, b .0, leb-true (p .position) (length (f .formals)) t))) ∙ sym (finally-formal fs p f (h .stands) t))
       (λ t. finally-declared gs p (q .0) (q .1) (c ∙ t) ∙ sym (finally-declared fs p f (h .stands) t))
 

@@ -1,35 +1,26 @@
--- What a name designates in sound frames: nothing, or a declared name of a live frame (`designates-target`). And only the formals, text,
--- link and words of the frames count for it: another next statement number changes nothing (`designates-continued` and its like).
+-- What a name designates in sound frames: nothing, or a declared name of a live frame (`designates-target`).
 use Prim.Native.Nat.{ℕ, zero, suc, pred, _+_, _*_, _/_, _%_, _≤_, _<_}
 use native.Mathlib.Omega.{arith}
-use mathlib.Core.Bool.{Bool, true, false}
-use mathlib.Core.Path.{_≡_, refl, sym, ap, _∙_, subst}
+use mathlib.Core.Bool.{true, false}
+use mathlib.Core.Path.{_≡_, sym, ap, _∙_, subst}
 use mathlib.Core.Logic.{inl, inr}
-use mathlib.Core.List.{List, [], _∷_}
-use mathlib.Core.Option.{Option, none, some, Option·none-ne-some, Option·some-injective}
-use lib.Dec.{eqb, leb}
+use mathlib.Core.List.{List}
+use mathlib.Core.Option.{some, Option·none-ne-some}
+use lib.Dec.{leb}
 use lib.ListN.{length}
 use borrow.Author.Tests.{leb-true, leb-false}
 use Rattle.language.specs.Text.{blockDecls}
+use Rattle.laws.specs.Tests.{split, by-lookup, none≢some, some-inj}
 use Rattle.frames.specs.Frame.{Frame, Place, numbered, frameNames, positionFrom, seekFrom, seekName, designatorIn, finally, designates}
+use Rattle.frames.specs.Numbered.{numbered-bounds}
+use Rattle.frames.specs.Positions.{position-range}
 use Rattle.frame_laws.specs.Parts.{frameNames-length}
-use Rattle.frame_laws.specs.Finding.{designates-found, designates-none, finally-formal, finally-declared}
-use Rattle.frame_laws.specs.Innermost.{numbered-bounds}
-use Rattle.frame_laws.specs.Cases.{by-test, by-lookup}
+use Rattle.frame_laws.specs.Finding.{seek-spent, seek-none, seek-here, seek-on, designates-found, designates-none, finally-formal, finally-declared}
 use Rattle.frame_laws.specs.Formed.{names-few}
 use Rattle.frame_laws.specs.Sound.{Points, FrameSound, SoundFrames, Target}
 use Rattle.frame_laws.specs.SoundFrames.{points-weaker}
 
 -- A name is found at a position of the frame found
-
-pub position-bounds : (n i : ℕ) (xs : List ℕ) (p : ℕ) → positionFrom n i xs ≡ some p → (i ≤ p) × (p < i + length xs)
-unfolding positionFrom
-position-bounds n i [] p e = absurd (Option·none-ne-some p e)
-position-bounds n i (x ∷ xs) p e = go (position-bounds n (suc i) xs p) (eqb n x) e
-  where
-    go : (positionFrom n (suc i) xs ≡ some p → (suc i ≤ p) × (p < suc i + length xs)) → (t : Bool) → elim t as (λ y. Option ℕ) [ true ↦ some i | false ↦ positionFrom n (suc i) xs ] ≡ some p → (i ≤ p) × (p < i + suc (length xs))
-    go f true q = let r : i ≡ p = Option·some-injective i p q in omega arith
-    go f false q = let r = f q in omega (arith, r .0, r .1)
 
 pub record FoundAt (fs : List Frame) (n : ℕ) (p : Place) : Type 0 where
   pub frame : Frame
@@ -37,19 +28,11 @@ pub record FoundAt (fs : List Frame) (n : ℕ) (p : Place) : Type 0 where
   pub named : positionFrom n 1 (frameNames frame) ≡ some (p .position)
 
 seek-found : (m : ℕ) (fs : List Frame) (k n j : ℕ) (p : Place) → seekFrom m fs k n j ≡ some p → FoundAt fs n p
-unfolding seekFrom
-seek-found zero fs k n j p e = absurd (Option·none-ne-some p e)
-seek-found (suc m) fs k n j p e = go (λ i q. seek-found m fs i n (suc j) p q) (numbered fs k) refl e
-  where
-    there : (f : Frame) → numbered fs k ≡ some f → ((i : ℕ) → seekFrom m fs i n (suc j) ≡ some p → FoundAt fs n p) → (o : Option ℕ) → positionFrom n 1 (frameNames f) ≡ o → elim o as (λ y. Option Place) [ some i ↦ some (record { number = k; position = i; followed = j }) | none ↦ seekFrom m fs (f .link) n (suc j) ] ≡ some p → FoundAt fs n p
-    there f c r none d q = r (f .link) q
-    there f c r (some i) d q =
-        let g : record { number = k; position = i; followed = j } ≡ p = Option·some-injective _ p q in
-        subst (FoundAt fs n) g (record { frame = f; stands = c; named = d })
-
-    go : ((i : ℕ) → seekFrom m fs i n (suc j) ≡ some p → FoundAt fs n p) → (o : Option Frame) → numbered fs k ≡ o → elim o as (λ y. Option Place) [ none ↦ none | some f ↦ elim (positionFrom n 1 (frameNames f)) [ some i ↦ some (record { number = k; position = i; followed = j }) | none ↦ seekFrom m fs (f .link) n (suc j) ] ] ≡ some p → FoundAt fs n p
-    go r none c q = absurd (Option·none-ne-some p q)
-    go r (some f) c q = there f c r (positionFrom n 1 (frameNames f)) refl q
+seek-found zero fs k n j p e = none≢some (sym (seek-spent fs k n j) ∙ e)
+seek-found (suc m) fs k n j p e =
+    by-lookup (numbered fs k) (λ c. none≢some (sym (seek-none (suc m) fs k n j c) ∙ e))
+    (λ f c. by-lookup (positionFrom n 1 (frameNames f)) (λ d. seek-found m fs (f .link) n (suc j) p (sym (seek-on m fs k n j f c d) ∙ e))
+    (λ i d. subst (FoundAt fs n) (some-inj (sym (seek-here m fs k n j f i c d) ∙ e)) (record { frame = f; stands = c; named = d })))
 
 pub seekName-found : (fs : List Frame) (n : ℕ) (p : Place) → seekName fs n ≡ some p → FoundAt fs n p
 unfolding seekName
@@ -75,7 +58,7 @@ module _ (fs : List Frame) (n : ℕ) (p : Place) (h : SoundFrames fs) (q : Found
   at-formal t =
       let f = q .frame in
       let s = numbered-sound fs (p .number) f h (q .stands) in
-      let b = position-bounds n 1 (frameNames f) (p .position) (q .named) in
+      let b = position-range n 1 (p .position) (frameNames f) (q .named) in
       let c = numbered-bounds fs (p .number) f (q .stands) in
       let w = s .handed (pred (p .position)) (omega (arith, b .0, leb-true (p .position) (length (f .formals)) t)) in
       subst (Points fs (length fs)) (sym (finally-formal fs p f (q .stands) t ∙ ap designatorIn (w .1))) (points-weaker fs (pred (p .number)) (length fs) (w .0) (omega (arith, c .1)) (w .2))
@@ -84,13 +67,13 @@ module _ (fs : List Frame) (n : ℕ) (p : Place) (h : SoundFrames fs) (q : Found
   at-declared t =
       let f = q .frame in
       let s = numbered-sound fs (p .number) f h (q .stands) in
-      let b = position-bounds n 1 (frameNames f) (p .position) (q .named) in
+      let b = position-range n 1 (p .position) (frameNames f) (q .named) in
       let few = names-few (f .text) (f .formals) (s .in-form) in
       let len = frameNames-length f in
       subst (Points fs (length fs)) (sym (finally-declared fs p f (q .stands) t)) (points-declared fs (p .number) (p .position) f (q .stands) (leb-false _ _ t) (omega (arith, b .1)) (omega (arith, b .1)))
 
   found-target : Points fs (length fs) (finally fs p)
-  found-target = by-test (leb (p .position) (length (q .frame .formals))) at-formal at-declared
+  found-target = split (leb (p .position) (length (q .frame .formals))) at-formal at-declared
 
 pub designates-target : (fs : List Frame) (n : ℕ) → SoundFrames fs → Target fs (designates fs n)
 designates-target fs n h = by-lookup (seekName fs n) (λ e. inl (designates-none fs n e)) (λ p e. inr (subst (Points fs (length fs)) (sym (designates-found fs n p e)) (found-target fs n p h (seekName-found fs n p e))))

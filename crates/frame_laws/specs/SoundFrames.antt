@@ -14,11 +14,11 @@ use lib.Seq.{getD-set-other}
 use lib.Signed.{mag}
 use borrow.Author.Tests.{eqb-true, eqb-false, ltb-true, ltb-false}
 use Rattle.language.specs.Text.{Formal, Block, Decl, blockDecls, blockStmts}
+use Rattle.laws.specs.Tests.{split}
 use Rattle.frames.specs.Frame.{Frame, numbered, continue, rewritten, zeroWords, newFrame}
-use Rattle.frame_laws.specs.Lists.{snoc-length, getElem-length, getElem-append, getElem-seam, getElem-set-same, getElem-set-other, getD-set, getD-both}
+use Rattle.laws.specs.Lists.{snoc-length, getElem-bound, getElem-append, getElem-seam, getElem-set-same, getElem-set-other, getD-set, getD-both}
 use Rattle.frame_laws.specs.Parts.{newFrame-length}
-use Rattle.frame_laws.specs.Innermost.{numbered-suc}
-use Rattle.frame_laws.specs.Cases.{by-test}
+use Rattle.frames.specs.Numbered.{numbered-suc}
 use Rattle.frame_laws.specs.Formed.{InForm, names-few}
 use Rattle.frame_laws.specs.Sound.{Points, FrameSound, SoundFrames}
 
@@ -48,29 +48,25 @@ alike-same fs gs k h j f l e = (f, h j l ∙ e, refl, refl)
 
 pub sound-first : (pre rest : List Frame) → SoundFrames (pre ++ rest) → SoundFrames pre
 sound-first pre rest h k f e =
-    let l = getElem-length pre k f e in
+    let l = getElem-bound pre k f e in
     frame-alike (pre ++ rest) pre k f (alike-same (pre ++ rest) pre k (λ j m. sym (getElem-append pre rest j (omega arith)))) (h k f (getElem-append pre rest k l ∙ e))
 
 -- the frame after the first ones, seen from below
 pub sound-after : (pre : List Frame) (f : Frame) (rest : List Frame) → SoundFrames (pre ++ f ∷ rest) → FrameSound pre (length pre) f
 sound-after pre f rest h =
-    frame-alike (pre ++ f ∷ rest) pre (length pre) f (alike-same (pre ++ f ∷ rest) pre (length pre) (λ j m. sym (getElem-append pre (f ∷ rest) j m))) (h (length pre) f (seam pre f rest))
-  where
-    seam : (xs : List Frame) (f : Frame) (rest : List Frame) → getElem? (xs ++ f ∷ rest) (length xs) ≡ some f
-    seam [] f rest = refl
-    seam (x ∷ xs) f rest = seam xs f rest
+    frame-alike (pre ++ f ∷ rest) pre (length pre) f (alike-same (pre ++ f ∷ rest) pre (length pre) (λ j m. sym (getElem-append pre (f ∷ rest) j m))) (h (length pre) f (getElem-seam pre f rest))
 
 pub sound-more : (pre : List Frame) (f : Frame) → SoundFrames pre → FrameSound pre (length pre) f → SoundFrames (pre ++ (f ∷ []))
 sound-more pre f h g k x e = frame-alike pre (pre ++ (f ∷ [])) k x (alike-same pre (pre ++ (f ∷ [])) k (λ j m. getElem-append pre (f ∷ []) j (omega (arith, l)))) (at (ltb k (length pre)) refl)
   where
     l : k ≤ length pre
-    l = omega (arith, getElem-length (pre ++ (f ∷ [])) k x e, snoc-length pre f)
+    l = omega (arith, getElem-bound (pre ++ (f ∷ [])) k x e, snoc-length pre f)
 
     at : (t : Bool) → ltb k (length pre) ≡ t → FrameSound pre k x
     at true t = h k x (sym (getElem-append pre (f ∷ []) k (ltb-true _ _ t)) ∙ e)
     at false t =
         let q : k ≡ length pre = omega (arith, l, ltb-false k (length pre) t) in
-        let r : f ≡ x = Option·some-injective f x (sym (getElem-seam pre f) ∙ ap (getElem? (pre ++ (f ∷ []))) (sym q) ∙ e) in
+        let r : f ≡ x = Option·some-injective f x (sym (getElem-seam pre f []) ∙ ap (getElem? (pre ++ (f ∷ []))) (sym q) ∙ e) in
         subst (λ y. FrameSound pre k y) r (subst (λ n. FrameSound pre n f) (sym q) g)
 
 pub sound-continued : (fs : List Frame) (k : ℕ) (f : Frame) (n : ℕ) → FrameSound fs k f → 1 ≤ n → n ≤ suc (length (blockStmts (f .text))) → FrameSound fs k (continue f n)
@@ -88,7 +84,7 @@ frame-put fs k f i z h p q =
 
 alike-set : (fs : List Frame) (i : ℕ) (f g : Frame) (k : ℕ) → getElem? fs i ≡ some f → g .formals ≡ f .formals → g .text ≡ f .text → Alike fs (set fs i g) k
 alike-set fs i f g k e p q j h l d =
-    by-test (eqb j i)
+    split (eqb j i)
     (λ t. let c : j ≡ i = eqb-true j i t in
     let r : f ≡ h = Option·some-injective f h (sym e ∙ ap (getElem? fs) (sym c) ∙ d) in
     (g, ap (getElem? (set fs i g)) c ∙ getElem-set-same fs i f g e, p ∙ ap (λ (y : Frame). y .formals) r, q ∙ ap (λ (y : Frame). y .text) r))
@@ -99,7 +95,7 @@ unfolding rewritten
 sound-put fs m i f z h e p q k x d =
     let g = rewritten f (set (f .words) i z) in
     frame-alike fs (set fs m g) k x (alike-set fs m f g k e refl refl)
-    (by-test (eqb k m)
+    (split (eqb k m)
     (λ t. let c : k ≡ m = eqb-true k m t in
     let r : g ≡ x = Option·some-injective g x (sym (getElem-set-same fs m f g e) ∙ ap (getElem? (set fs m g)) (sym c) ∙ d) in
     subst (λ y. FrameSound fs k y) r (frame-put fs k f i z (h k f (ap (getElem? fs) c ∙ e)) p q))

@@ -16,11 +16,11 @@ use Rattle.language.specs.Check.{accepted, check}
 use Rattle.language.specs.Table.{Table}
 use Rattle.language.specs.Machine.{Limits}
 use Rattle.language.specs.Call.{Fed, limitsFit}
+use Rattle.laws.specs.Lists.{by-elements}
 use Rattle.grammar.specs.Rules.{Bytes, Keeps}
 use Rattle.grammar.specs.Exact.{accepts-exactly}
 use Rattle.frames.specs.Frame.{Stack, Acted, acted, halted, Result, stepped, newFrame, frameStart, frameStep, results, frameRun, frameRunOf}
-use Rattle.frame_laws.specs.Innermost.{run-finished, run-spent, run-steps}
-use Rattle.frame_laws.specs.Cases.{by-frames, After, run-keeps}
+use Rattle.frames.specs.Running.{After, run-finished, run-spent, run-steps, run-keeps}
 use Rattle.frame_laws.specs.Formed.{program-in-form}
 use Rattle.frame_laws.specs.Sound.{Sound, Lands}
 use Rattle.frame_laws.specs.SoundFrames.{sound-new, sound-more}
@@ -33,20 +33,16 @@ start-sound l t table d k =
     record { live = d; each = sound-more [] (newFrame [] [] t 0) (λ i f e. absurd (Option·none-ne-some f e)) (sound-new [] [] [] t 0 (program-in-form t k) refl (λ i m. absurd (not-suc-le-zero m)) (omega arith) (λ m. absurd (not-suc-le-zero m)) (omega arith)) }
 
 module _ (l : Limits) (most : l .activations ≤ 256) where
-  after-both : (P Q : Stack → Type 0) (d : Acted) → After P d → After Q d → After (λ s. P s × Q s) d
-  after-both P Q (acted s) p q = (p, q)
-  after-both P Q (halted c) p q = tt
-
   pub run-sound : (P : Stack → Type 0) → ((s : Stack) → Sound l s → P s → Lands s)
       → ((s : Stack) → 1 ≤ length (s .frames) → Sound l s → P s → After (λ s′. P (stepped s′)) (frameStep l s))
       → (n : ℕ) (s : Stack) → Sound l s → P s → Sound l ((frameRun l n s) .final) × P ((frameRun l n s) .final)
   run-sound P lands keeps n s h p =
       run-keeps l (λ s. Sound l s × P s)
-      (λ s live q. after-both (λ s′. Sound l (stepped s′)) (λ s′. P (stepped s′)) (frameStep l s) (step-sound l most s live (q .0) (lands s (q .0) (q .1))) (keeps s live (q .0) (q .1))) n s (h, p)
+      (λ s s′ live e q. (subst (After (λ v. Sound l (stepped v))) e (step-sound l most s live (q .0) (lands s (q .0) (q .1))), subst (After (λ v. P (stepped v))) e (keeps s live (q .0) (q .1)))) n s (h, p)
 
   run-none : (s : Stack) → (frameRun l 0 s) .final ≡ s
   unfolding results
-  run-none s = by-frames (s .frames) (λ e. ap (λ (r : Result). r .final) (run-finished l s 0 e)) (λ e. ap (λ (r : Result). r .final) (run-spent l s e))
+  run-none s = by-elements (s .frames) (λ e. ap (λ (r : Result). r .final) (run-finished l s 0 e)) (λ e. ap (λ (r : Result). r .final) (run-spent l s e))
 
   landing-on : (s : Stack) → 1 ≤ length (s .frames) → ((i : ℕ) → Lands ((frameRun l i s) .final)) → (d : Acted) → frameStep l s ≡ d → After (λ s′. (i : ℕ) → Lands ((frameRun l i (stepped s′)) .final)) d
   landing-on s n f (acted s′) e = λ i. subst (λ (r : Result). Lands (r .final)) (run-steps l s i s′ n e) (f (suc i))

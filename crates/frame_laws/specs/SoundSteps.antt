@@ -1,29 +1,31 @@
 -- A step keeps Sound (`step-sound`), where the next statement lands: a goto goes to a label. Nothing else of scope is needed: a call
 -- of what is no procedure enters an empty block, and a store reaches no formal's word.
-use Prim.Native.Nat.{ℕ, zero, suc, pred, _-_, _/_, _%_, _≤_, _<_}
+use Prim.Native.Nat.{ℕ, suc, pred, _-_, _/_, _%_, _≤_, _<_}
 use native.Mathlib.Nat.{not-suc-le-zero}
 use native.Mathlib.Omega.{arith}
-use mathlib.Core.Bool.{true, false≢true, and-eq-true-iff}
+use mathlib.Core.Bool.{true}
 use mathlib.Core.Path.{_≡_, refl, sym, ap, _∙_, subst}
 use mathlib.Core.Logic.{inl, inr}
 use mathlib.Core.List.{List, [], _∷_, _++_, map}
-use mathlib.Core.Option.{Option, none, some, Option·none-ne-some}
+use mathlib.Core.Option.{none, some, Option·none-ne-some}
 use lib.IntN.{ℤ}
-use lib.ListN.{length, take, drop, getD, getElem?, length-map, length-set, length-take, take-append-drop}
+use lib.ListN.{length, take, drop, getD, getElem?, length-set, length-take, take-append-drop}
 use lib.Signed.{mag}
-use Rattle.language.specs.Text.{Kind, Formal, Action, CL, GO, IF, KN, AR, AD, RM, QY, Block, Decl, Stmt, BK, DO, blockStmts, labelIndex, declFormals, declBody, formalKinds, sameKind}
+use Rattle.language.specs.Text.{Kind, Action, CL, GO, IF, KN, AR, AD, RM, QY, Block, Decl, Stmt, BK, DO, blockStmts, labelIndex, declFormals, declBody, formalKinds}
 use Rattle.language.specs.Scope.{agree}
 use Rattle.language.specs.Table.{Table}
 use Rattle.language.specs.Machine.{Limits}
-use Rattle.laws.specs.Kinds.{agree-length}
-use Rattle.laws.specs.Each.{Each}
+use Rattle.laws.specs.Tests.{by-lookup}
+use Rattle.laws.specs.Kinds.{agree-many, agree-known}
+use Rattle.laws.specs.Each.{Each, each-getD}
 use Rattle.grammar.specs.Rules.{FormedAction}
 use Rattle.frames.specs.Frame.{Frame, Stack, Acted, acted, halted, withFrames, tableChanged, stepped, continue, numbered, designates, frameNumber, place, declOf, kindOf, putWord, mapAction, newFrame, act, actStmt, frameStmt, frameStep}
-use Rattle.frame_laws.specs.Lists.{snoc-length, getElem-length, split-getElem, every-getD}
+use Rattle.laws.specs.Lists.{snoc-length, getElem-bound, getElem-split}
 use Rattle.frame_laws.specs.Finding.{declOf-found, declOf-none, declOf-frame, kindOf-none, putWord-found, putWord-none}
 use Rattle.frame_laws.specs.Actions.{stores, does}
-use Rattle.frame_laws.specs.Innermost.{numbered-zero, numbered-bounds, numbered-index}
-use Rattle.frame_laws.specs.Cases.{by-lookup, After, enter-cases, call-cases, go-cases, if-cases, compute-cases, add-cases, remove-cases, ask-cases, step-cases}
+use Rattle.frames.specs.Running.{After}
+use Rattle.frames.specs.Numbered.{numbered-zero, numbered-bounds, numbered-index}
+use Rattle.frame_laws.specs.Cases.{enter-cases, call-cases, go-cases, if-cases, compute-cases, add-cases, remove-cases, ask-cases, step-cases}
 use Rattle.frame_laws.specs.Formed.{InForm, DeclInForm, StmtInForm, decl-in-form, stmt-in-form, body-in-form, label-in-form, block-in-form, action-in-form}
 use Rattle.frame_laws.specs.Sound.{Points, FrameSound, SoundFrames, Sound, Target, OnLabel, JumpsToLabel, Lands}
 use Rattle.frame_laws.specs.SoundFrames.{sound-first, sound-after, sound-more, sound-continued, sound-put, sound-new}
@@ -51,7 +53,7 @@ declOf-in-form fs x f d h n e =
 
 declOf-zero : (fs : List Frame) → declOf fs 0 ≡ none
 unfolding frameNumber
-declOf-zero fs = declOf-none fs 0 (numbered-zero fs)
+declOf-zero fs = declOf-none fs 0 (numbered-zero fs 0 (omega arith))
 
 kind-points : (fs : List Frame) (x : ℕ) (k : Kind) → Target fs x → kindOf fs x ≡ some k → Points fs (length fs) x
 kind-points fs x k (inl z) e = absurd (Option·none-ne-some k (sym (kindOf-none fs x (ap (declOf fs) z ∙ declOf-zero fs)) ∙ e))
@@ -75,7 +77,7 @@ next-in-form pre f x h e = stmt-in-form (f .text) (f .formals) (pred (f .next)) 
 
 next-most : (f : Frame) (x : Stmt) → 1 ≤ f .next → frameStmt f ≡ some x → suc (f .next) ≤ suc (length (blockStmts (f .text)))
 unfolding frameStmt
-next-most f x n e = omega (arith, getElem-length (blockStmts (f .text)) (pred (f .next)) x e)
+next-most f x n e = omega (arith, getElem-bound (blockStmts (f .text)) (pred (f .next)) x e)
 
 module _ (l : Limits) (s : Stack) (pre : List Frame) (f : Frame) where
   pub left-sound : Sound l s → s .frames ≡ pre ++ (f ∷ []) → Sound l (withFrames s pre)
@@ -93,7 +95,7 @@ module _ (l : Limits) (s : Stack) (pre : List Frame) (f : Frame) where
 -- Gotos: the label's frame becomes innermost, at a statement of its block
 
 pub take-sound : (fs : List Frame) (m : ℕ) (f : Frame) → SoundFrames fs → getElem? fs m ≡ some f → FrameSound (take m fs) (length (take m fs)) f
-take-sound fs m f h e = sound-after (take m fs) f (drop (suc m) fs) (subst SoundFrames (split-getElem fs m f e) h)
+take-sound fs m f h e = sound-after (take m fs) f (drop (suc m) fs) (subst SoundFrames (getElem-split fs m f e) h)
 
 pub go-sound : (l : Limits) (s : Stack) (x : ℕ) → Sound l s → OnLabel (s .frames) x → After (Sound l) (act l s (GO x))
 go-sound l s x h o = go-cases l s (After (Sound l)) (λ c. tt) x h to
@@ -104,7 +106,7 @@ go-sound l s x h o = go-cases l s (After (Sound l)) (λ c. tt) x h to
         let g = continue f (labelIndex d) in
         let at = numbered-index (s .frames) (frameNumber x) f n in
         let i = label-in-form d (length (blockStmts (f .text))) (declOf-in-form (s .frames) x f d (h .each) n e) (o d e) in
-        sound-with l s (take m (s .frames) ++ (g ∷ [])) (omega (arith, h .live, snoc-length (take m (s .frames)) g, length-take m (s .frames), getElem-length (s .frames) m f at))
+        sound-with l s (take m (s .frames) ++ (g ∷ [])) (omega (arith, h .live, snoc-length (take m (s .frames)) g, length-take m (s .frames), getElem-bound (s .frames) m f at))
         (sound-more (take m (s .frames)) g (sound-first (take m (s .frames)) (drop m (s .frames)) (subst SoundFrames (sym (take-append-drop m (s .frames))) (h .each)))
         (sound-continued (take m (s .frames)) (length (take m (s .frames))) f (labelIndex d) (take-sound (s .frames) m f (h .each) at) (i .0) (omega (arith, i .1))))
 
@@ -115,7 +117,7 @@ putWord-length fs x z = by-lookup (numbered fs (frameNumber x)) (λ e. ap length
 
 putWord-sound : (fs : List Frame) (x : ℕ) (z : ℤ) → SoundFrames fs → Target fs x → mag z < 2147483648 → SoundFrames (putWord fs x z)
 unfolding frameNumber place
-putWord-sound fs x z h (inl e) q = subst SoundFrames (sym (ap (λ y. putWord fs y z) e ∙ putWord-none fs 0 z (numbered-zero fs))) h
+putWord-sound fs x z h (inl e) q = subst SoundFrames (sym (ap (λ y. putWord fs y z) e ∙ putWord-none fs 0 z (numbered-zero fs 0 (omega arith)))) h
 putWord-sound fs x z h (inr p) q =
     subst SoundFrames (sym (putWord-found fs x z (p .home) (p .stands)))
     (sound-put fs (pred (x / 64)) (pred (x % 64)) (p .home) z h (numbered-index fs (x / 64) (p .home) (p .stands)) (omega (arith, p .past)) q)
@@ -124,21 +126,6 @@ pub put-sound : (l : Limits) (s : Stack) (x : ℕ) (z : ℤ) → Sound l s → T
 put-sound l s x z h t q = sound-with l s (putWord (s .frames) x z) (omega (arith, h .live, putWord-length (s .frames) x z)) (putWord-sound (s .frames) x z (h .each) t q)
 
 -- Calls
-
-agree-kind : {A : Type 0} (r : A → Option Kind) (d : A) (ks : List Kind) (xs : List A) → agree ks (map r xs) ≡ true → (i : ℕ) → i < length xs → (k : Kind) × (r (getD xs i d) ≡ some k)
-unfolding agree
-agree-kind r d ks [] e i l = absurd (not-suc-le-zero l)
-agree-kind r d [] (x ∷ xs) e i l = absurd (false≢true e)
-agree-kind r d (k ∷ ks) (x ∷ xs) e i l = go (λ f j m. agree-kind r d ks xs f j m) (r x) refl e i l
-  where
-    go : (agree ks (map r xs) ≡ true → (j : ℕ) → j < length xs → (q : Kind) × (r (getD xs j d) ≡ some q)) → (o : Option Kind) → r x ≡ o → agree (k ∷ ks) (o ∷ map r xs) ≡ true → (j : ℕ) → j < suc (length xs) → (q : Kind) × (r (getD (x ∷ xs) j d) ≡ some q)
-    go f none c a j m = absurd (false≢true a)
-    go f (some q) c a zero m = (q, c)
-    go f (some q) c a (suc j) m = f (((and-eq-true-iff (sameKind k q) (agree ks (map r xs))) .0 a) .1) j (omega arith)
-
-kinds-length : (fs : List Formal) → length (formalKinds fs) ≡ length fs
-unfolding formalKinds
-kinds-length fs = length-map fs (λ (f : Formal). f .kind)
 
 module _ (l : Limits) (most : l .activations ≤ 256) where
   pub pushed-sound : (s : Stack) (f : Frame) → Sound l s → length (s .frames) < l .activations → FrameSound (s .frames) (length (s .frames)) f → Sound l (withFrames s (s .frames ++ (f ∷ [])))
@@ -151,11 +138,11 @@ module _ (l : Limits) (most : l .activations ≤ 256) where
       body d e a r =
           let q = declOf-frame (s .frames) p d e in
           let b = numbered-bounds (s .frames) (frameNumber p) (q .0) (q .1) in
-          let n : length xs ≡ length (declFormals d) = sym (length-map xs (kindOf (s .frames))) ∙ agree-length (formalKinds (declFormals d)) (map (kindOf (s .frames)) xs) a ∙ kinds-length (declFormals d) in
+          let n : length xs ≡ length (declFormals d) = agree-many (kindOf (s .frames)) (declFormals d) xs a in
           pushed-sound s (newFrame (declFormals d) xs (declBody d) (frameNumber p)) h r
           (sound-new (s .frames) (declFormals d) xs (declBody d) (frameNumber p) (body-in-form d _ (declOf-in-form (s .frames) p (q .0) d (h .each) (q .1) e)) n
-          (λ i m. let k = agree-kind (kindOf (s .frames)) 0 (formalKinds (declFormals d)) xs a i m in
-          kind-points (s .frames) (getD xs i 0) (k .0) (every-getD (Target (s .frames)) xs i 0 (inl refl) ts) (k .1))
+          (λ i m. let k = agree-known (kindOf (s .frames)) 0 (formalKinds (declFormals d)) xs a i m in
+          kind-points (s .frames) (getD xs i 0) (k .0) (each-getD (Target (s .frames)) xs i 0 (inl refl) ts) (k .1))
           (b .1) (λ z. b .0) (omega arith))
 
   pub enter-sound : (s : Stack) (b : Block) → Sound l s → InForm b [] → After (Sound l) (actStmt l s (BK b))

@@ -11,11 +11,12 @@ use lib.IntN.{ℤ}
 use lib.ListN.{length, getElem?, length-append}
 use lib.Signed.{mag}
 use Rattle.language.specs.Text.{Stmt, blockStmts}
+use Rattle.laws.specs.Tests.{by-lookup}
 use Rattle.frames.specs.Frame.{Frame, numbered, frameNames, positionFrom, seekFrom, designates, frameNumber, place, wordAt, frameStmt, frameWords, frameSheet}
-use Rattle.frame_laws.specs.Lists.{getElem-length, getElem-some}
+use Rattle.laws.specs.Lists.{getElem-bound, getElem-in}
 use Rattle.frame_laws.specs.Finding.{wordAt-found, wordAt-none, seek-spent, seek-none, seek-here, seek-on}
-use Rattle.frame_laws.specs.Innermost.{numbered-zero, numbered-bounds, frameWords-length}
-use Rattle.frame_laws.specs.Cases.{by-lookup}
+use Rattle.frames.specs.Numbered.{numbered-zero, numbered-bounds}
+use Rattle.frame_laws.specs.Innermost.{frameWords-length}
 use Rattle.frame_laws.specs.Formed.{names-few}
 use Rattle.frame_laws.specs.Sound.{Points, FrameSound, SoundFrames, Target}
 use Rattle.frame_laws.specs.Names.{numbered-sound, designates-target}
@@ -52,21 +53,18 @@ sheet-most fs h = sheet-words fs (λ k f e. (h k f e) .few)
 -- the next statement number names a statement, or is one past the last and the frame is left
 pub next-some : (fs : List Frame) (k : ℕ) (f : Frame) → FrameSound fs k f → f .next ≤ length (blockStmts (f .text)) → (x : Stmt) × (frameStmt f ≡ some x)
 unfolding frameStmt
-next-some fs k f h n = getElem-some (blockStmts (f .text)) (pred (f .next)) (omega (arith, h .next-first))
+next-some fs k f h n = getElem-in (blockStmts (f .text)) (pred (f .next)) (omega (arith, h .next-first))
 
 pub next-none : (fs : List Frame) (k : ℕ) (f : Frame) → FrameSound fs k f → length (blockStmts (f .text)) < f .next → frameStmt f ≡ none
 unfolding frameStmt
-next-none fs k f h n = by-lookup (frameStmt f) (λ e. e) (λ x e. absurd (omega (arith, getElem-length (blockStmts (f .text)) (pred (f .next)) x e)))
+next-none fs k f h n = by-lookup (frameStmt f) (λ e. e) (λ x e. absurd (omega (arith, getElem-bound (blockStmts (f .text)) (pred (f .next)) x e)))
 
 -- A chain of links goes down: from frame k it has at most k frames
 
 pub seek-enough : (fs : List Frame) → SoundFrames fs → (m k n j : ℕ) → k ≤ m → seekFrom (suc m) fs k n j ≡ seekFrom m fs k n j
-seek-enough fs h zero k n j l = seek-none zero fs k n j (ap (numbered fs) (zero-of k l) ∙ numbered-zero fs) ∙ sym (seek-spent fs k n j)
-  where
-    zero-of : (k : ℕ) → k ≤ 0 → k ≡ 0
-    zero-of k l = omega arith
+seek-enough fs h zero k n j l = seek-none 1 fs k n j (numbered-zero fs k l) ∙ sym (seek-spent fs k n j)
 seek-enough fs h (suc m) k n j l =
-    by-lookup (numbered fs k) (λ e. seek-none (suc m) fs k n j e ∙ sym (seek-none m fs k n j e))
+    by-lookup (numbered fs k) (λ e. seek-none (suc (suc m)) fs k n j e ∙ sym (seek-none (suc m) fs k n j e))
     (λ f e. by-lookup (positionFrom n 1 (frameNames f))
     (λ p. let b = (numbered-sound fs k f h e) .link-last in
     let c = (numbered-bounds fs k f e) .0 in

@@ -11,11 +11,11 @@ use lib.IntN.{ℤ, pos}
 use lib.ListN.{length, set, getElem?, length-set}
 use lib.Seq.{getD-set-same, getD-set-other}
 use borrow.Author.Tests.{eqb-true, eqb-false}
+use Rattle.laws.specs.Tests.{split, by-lookup}
 use Rattle.frames.specs.Frame.{Frame, rewritten, numbered, designates, linksFollowed, frameNumber, place, declOf, kindOf, wordAt, putWord}
-use Rattle.frame_laws.specs.Lists.{getElem-set-same, getElem-set-other}
+use Rattle.laws.specs.Lists.{getElem-set-same, getElem-set-other}
 use Rattle.frame_laws.specs.Finding.{wordAt-found, wordAt-none, putWord-found, putWord-none}
-use Rattle.frame_laws.specs.Innermost.{numbered-zero, numbered-index}
-use Rattle.frame_laws.specs.Cases.{by-test, by-lookup}
+use Rattle.frames.specs.Numbered.{numbered-zero, numbered-index}
 use Rattle.frame_laws.specs.Sound.{Points, SoundFrames, Target}
 use Rattle.frame_laws.specs.Names.{numbered-sound}
 use Rattle.frame_laws.specs.Likeness.{Like, LikeFrames, like-same, linksFollowed-like, designates-like, declOf-like, kindOf-like}
@@ -32,14 +32,14 @@ like-set fs m f g e h = record { count = length-set fs m g; each = at }
   where
     at : (k : ℕ) (x : Frame) → getElem? fs k ≡ some x → (y : Frame) × (getElem? (set fs m g) k ≡ some y) × Like x y
     at k x d =
-        by-test (eqb k m)
+        split (eqb k m)
         (λ t. let c = eqb-true k m t in
         (g, ap (getElem? (set fs m g)) c ∙ getElem-set-same fs m f g e, subst (λ (y : Frame). Like y g) (Option·some-injective f x (sym e ∙ ap (getElem? fs) (sym c) ∙ d)) h))
         (λ t. (x, getElem-set-other fs m k g (eqb-false k m t) ∙ d, like-same x))
 
 pub like-put : (fs : List Frame) (x : ℕ) (z : ℤ) → Target fs x → LikeFrames fs (putWord fs x z)
 unfolding frameNumber place
-like-put fs x z (inl e) = subst (LikeFrames fs) (sym (ap (λ y. putWord fs y z) e ∙ putWord-none fs 0 z (numbered-zero fs))) (like-all fs)
+like-put fs x z (inl e) = subst (LikeFrames fs) (sym (ap (λ y. putWord fs y z) e ∙ putWord-none fs 0 z (numbered-zero fs 0 (omega arith)))) (like-all fs)
 like-put fs x z (inr p) =
     subst (LikeFrames fs) (sym (putWord-found fs x z (p .home) (p .stands)))
     (like-set fs (pred (x / 64)) (p .home) _ (numbered-index fs (x / 64) (p .home) (p .stands)) (like-rewritten (p .home) (pred (x % 64)) z (omega (arith, p .past))))
@@ -85,7 +85,7 @@ wordAt-put-other fs k x y z p one differ =
     let g = rewritten f (set (f .words) i z) in
     let gs = set fs (pred (x / 64)) g in
     ap (λ hs. wordAt hs y) (putWord-found fs x z f (p .stands))
-    ∙ by-test (eqb (y / 64) (x / 64))
+    ∙ split (eqb (y / 64) (x / 64))
     (λ t. let c : y / 64 ≡ x / 64 = eqb-true (y / 64) (x / 64) t in
     wordAt-found gs y g (ap (numbered gs) c ∙ numbered-put fs (x / 64) f g (p .stands)) ∙ getD-set-other (f .words) i (pred (y % 64)) z (pos 0) (λ e. differ (omega (arith, p .past))) ∙ sym (wordAt-found fs y f (ap (numbered fs) c ∙ p .stands)))
     (λ t. let same = numbered-put-other fs (x / 64) (y / 64) g (p .first) (eqb-false (y / 64) (x / 64) t) in

@@ -1,7 +1,7 @@
 -- The table of a run: `table-length`, it keeps its length, and `table-right`, it stays right. `step-table` carries through a step any
 -- property of tables that adding and removing a pair keep, where they are done.
 use Prim.Native.Nat.{ℕ, _≤_, _<_}
-use mathlib.Core.Path.{_≡_, refl, _∙_}
+use mathlib.Core.Path.{_≡_, refl, _∙_, subst}
 use mathlib.Core.Bool.{true, false, _&&_}
 use lib.IntN.{ℤ}
 use lib.ListN.{length}
@@ -11,7 +11,8 @@ use Rattle.language.specs.Machine.{Limits}
 use Rattle.runs.specs.TableLaws.{add-length, add-right, remove-length, remove-right}
 use Rattle.frames.specs.Frame.{Stack, withFrames, tableChanged, stepped, designates, mapAction, act, actStmt, frameStep, frameRun}
 use Rattle.frame_laws.specs.Actions.{does, stores}
-use Rattle.frame_laws.specs.Cases.{After, enter-cases, call-cases, go-cases, if-cases, compute-cases, add-cases, remove-cases, ask-cases, step-cases, run-keeps}
+use Rattle.frames.specs.Running.{After, run-keeps}
+use Rattle.frame_laws.specs.Cases.{enter-cases, call-cases, go-cases, if-cases, compute-cases, add-cases, remove-cases, ask-cases, step-cases}
 
 pub record TableKept (l : Limits) (P : Table → Type 0) : Type 0 where
   pub added : (g m : ℤ) (t : Table) → atLeastOne g && atLeastOne m ≡ true → holds g m t ≡ false → size g t < l .group → full t ≡ false → P t → P (add g m t)
@@ -42,7 +43,7 @@ module _ (l : Limits) (P : Table → Type 0) (k : TableKept l P) where
   step-table s n h = step-cases l s (After Good) n (λ pre f e q. h) (λ pre f x e q. stmt-table (withFrames s _) x h)
 
   pub run-table : (n : ℕ) (s : Stack) → P (s .table) → P ((frameRun l n s) .final .table)
-  run-table n s h = run-keeps l Good step-table n s h
+  run-table n s h = run-keeps l Good (λ v v′ live e q. subst (After (λ w. P ((stepped w) .table))) e (step-table v live q)) n s h
 
 pub table-length : (l : Limits) (n : ℕ) (s : Stack) → length ((frameRun l n s) .final .table .words) ≡ length (s .table .words)
 table-length l n s =

@@ -1,7 +1,6 @@
 -- A declared instance by its designator: the frame and the word that the frame machine takes for it.
 use Prim.Native.Nat.{ℕ, suc, pred, _+_, _*_, _-_, _%_, _<_}
 use native.Mathlib.Omega.{arith}
-use native.Mathlib.Nat.{zero-add}
 use mathlib.Core.Path.{_≡_, sym, ap, ap₂, _∙_}
 use mathlib.Core.List.{List, map}
 use mathlib.Core.Option.{some, Option·map}
@@ -16,8 +15,7 @@ use Rattle.laws.specs.Renaming.{declKind-renamed, blockDecls-renamed}
 use Rattle.laws.specs.Instances.{instance-found}
 use Rattle.grammar.specs.Formed.{block-few}
 use Rattle.frames.specs.Frame.{Frame, Stack, numbered, frameNumber, place, declOf, kindOf, wordAt}
-use Rattle.frames.specs.Both.{both-at}
-use Rattle.frames.specs.Related.{joined, designatorFor, designatorAt, wordIn, Twin, Related}
+use Rattle.frames.specs.Related.{joined, designatorFor, designatorAt, wordIn, Twin, Related, twin-at}
 
 -- What an instance's designator leads to among the frames.
 pub record Designated (s : State) (t : Stack) (x : ℕ) (i : Instance) : Type 0 where
@@ -42,9 +40,9 @@ pub designated : (s : State) (t : Stack) → Related s t → (x : ℕ) (i : Inst
 unfolding frameNumber place designatorAt designatorFor
 designated s t r x i e =
     let d = instance-found x 1 (s .live) i e in
-    let p = both-at (Twin (s .live) (s .values)) 0 (s .live) (t .frames) (r .twins) (d .depth) (i .home) (d .home-at) in
+    let p = twin-at s t r (d .depth) (i .home) (d .home-at) in
     let f = p .0 in
-    let w : Twin (s .live) (s .values) (d .depth) (i .home) f = rw zero-add at (p .2) in
+    let w : Twin (s .live) (s .values) (d .depth) (i .home) f = p .2 in
     let σ = joined (i .home .reads) in
     let shape : blockDecls (i .home .text) ≡ map (λ (c : Decl). renameDecl c σ) (blockDecls (f .text)) = ap blockDecls (w .text-is) ∙ blockDecls-renamed (f .text) σ in
     let o = image-at (λ (c : Decl). renameDecl c σ) (blockDecls (f .text)) (d .index) (i .decl) (sym (ap (λ (l : List Decl). getElem? l (d .index)) shape) ∙ d .decl-at) in
@@ -58,7 +56,7 @@ designated s t r x i e =
     record { depth = d .depth; index = d .index; frame = f; original = o .0; number-is = omega arith; position-is = omega arith; name-is = d .name-is; home-at = d .home-at; decl-at = d .decl-at; frame-at = p .1; twin = w; original-at = o .1; decl-is = o .2; within = omega arith; by-number = omega arith; by-place = ap pred remainder }
 
 module _ (s : State) (t : Stack) (x : ℕ) (i : Instance) (d : Designated s t x i) where
-  found-frame : numbered (t .frames) (frameNumber (designatorAt (s .live) x)) ≡ some (d .frame)
+  pub found-frame : numbered (t .frames) (frameNumber (designatorAt (s .live) x)) ≡ some (d .frame)
   unfolding numbered
   found-frame = rw (d .by-number) (d .frame-at)
 

@@ -1,7 +1,7 @@
 -- Finding a name: along the frames' static links it comes to the instance that the name reads as by the copy rule.
 use Prim.Native.Nat.{ℕ, zero, suc, pred, _+_, _-_, _≤_, _<_}
 use native.Mathlib.Omega.{arith}
-use native.Mathlib.Nat.{zero-add, not-suc-le-zero, le-of-suc-le-suc}
+use native.Mathlib.Nat.{not-suc-le-zero, le-of-suc-le-suc}
 use mathlib.Core.Bool.{Bool, true, false}
 use mathlib.Core.Path.{_≡_, refl, sym, ap, _∙_, subst, subst₂}
 use mathlib.Core.List.{List, [], _∷_, _++_, map, append-nil}
@@ -23,8 +23,7 @@ use Rattle.laws.specs.Renaming.{renamed-some, renamed-none, declaredNames-renam
 use Rattle.laws.specs.Rising.{rising-instance, rising-none}
 use Rattle.frames.specs.Frame.{Frame, Stack, Place, numbered, frameNames, positionFrom, seekFrom, seekName, designatorIn, finally, designates, linksFollowed}
 use Rattle.frames.specs.Positions.{lookup-position, lookup-no-position, position-range}
-use Rattle.frames.specs.Both.{both-at, both-length}
-use Rattle.frames.specs.Related.{readsIn, readsAt, joined, designatorFor, designatorAt, wordIn, ownOf, Twin, Related}
+use Rattle.frames.specs.Related.{readsIn, readsAt, joined, designatorFor, designatorAt, wordIn, ownOf, Twin, Related, as-deep, twin-at}
 
 -- what is sought in the readings is what the readings give all together
 pub seek-some : (n j : ℕ) (σs : List Replacement) (d : Found) → seek n j σs ≡ some d → lookup n (joined σs) ≡ some (d .name)
@@ -180,14 +179,14 @@ find-step : (s : State) (t : Stack) → Related s t → (m : ℕ) → FindAgrees
 unfolding numbered readsAt readsIn seek Agree
 find-step s t r m ih k j n h a e = go (positionFrom n 1 (frameNames f)) refl
   where
-    pair : (f : Frame) × (getElem? (t .frames) k ≡ some f) × Twin (s .live) (s .values) (0 + k) a f
-    pair = both-at (Twin (s .live) (s .values)) 0 (s .live) (t .frames) (r .twins) k a e
+    pair : (f : Frame) × (getElem? (t .frames) k ≡ some f) × Twin (s .live) (s .values) k a f
+    pair = twin-at s t r k a e
 
     f : Frame
     f = pair .0
 
     w : Twin (s .live) (s .values) k a f
-    w = rw zero-add at (pair .2)
+    w = pair .2
 
     around : (i : ℕ) → i ≤ k → Agree (s .live) (t .frames) (seek n (suc j) (readsAt (s .live) i)) (seekFrom m (t .frames) i n (suc j))
     around zero b = subst (Agree (s .live) (t .frames) none) (sym (from-nowhere m (t .frames) n (suc j))) tt
@@ -261,7 +260,7 @@ passed-agreed l fs (some d) (some p) h = h .1
 -- What the looked-up name, or a name in the innermost frame's text, stands for.
 module _ (s : State) (t : Stack) (r : Related s t) (k : ℕ) (a : Activation) (deep : length (s .live) ≡ suc k) (e : getElem? (s .live) k ≡ some a) where
   depth : length (t .frames) ≡ suc k
-  depth = sym (both-length (Twin (s .live) (s .values)) 0 (s .live) (t .frames) (r .twins)) ∙ deep
+  depth = sym (as-deep s t r) ∙ deep
 
   top-agrees : (n : ℕ) → Agree (s .live) (t .frames) (seek n 0 (a .reads)) (seekName (t .frames) n)
   unfolding seekName

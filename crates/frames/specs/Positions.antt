@@ -11,6 +11,10 @@ use Rattle.language.specs.Basics.{among, lookup, zip}
 use Rattle.laws.specs.Lookup.{among-there, keys-zip, lookup-here, lookup-not-among, lookup-right, lookup-there}
 use Rattle.frames.specs.Frame.{positionFrom}
 
+pub position-empty : (n i : ℕ) → positionFrom n i [] ≡ none
+unfolding positionFrom
+position-empty n i = refl
+
 module _ (n i x : ℕ) (xs : List ℕ) where
   pub position-hit : eqb n x ≡ true → positionFrom n i (x ∷ xs) ≡ some i
   unfolding positionFrom

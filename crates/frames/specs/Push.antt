@@ -24,8 +24,8 @@ use Rattle.laws.specs.Rising.{Rising, rising-name, rising-more}
 use Rattle.grammar.specs.Formed.{block-once}
 use Rattle.frames.specs.Frame.{Frame, Stack, numbered, newFrame, zeroWords, withFrames}
 use Rattle.frames.specs.Renaming.{entered-text, own-kept, declared-new}
-use Rattle.frames.specs.Both.{both-at, both-map, both-snoc}
-use Rattle.frames.specs.Related.{readsIn, readsAt, joined, designatorAt, orZero, valueIn, wordIn, LiveBelow, AllLive, ownOf, Twin, Related}
+use Rattle.frames.specs.Both.{both-map, both-snoc}
+use Rattle.frames.specs.Related.{readsIn, readsAt, joined, designatorAt, orZero, valueIn, wordIn, LiveBelow, AllLive, ownOf, Twin, Related, twin-at}
 use Rattle.frames.specs.Fine.{Fine}
 use Rattle.frames.specs.Cuts.{SameBelow, twin-same, all-live-same, designators-same}
 
@@ -57,14 +57,14 @@ unfolding joined ownOf readsAt readsIn numbered
 reads-new-step s t r m ih k h a e =
     subst (λ (σs : List Replacement). Big (joined σs)) (sym (w .reads-are)) (each-append (λ p. 65536 ≤ p .1) (ownOf f a) (joined (readsAt (s .live) (f .link))) own (around (f .link) (w .link-below)))
   where
-    pair : (f : Frame) × (getElem? (t .frames) k ≡ some f) × Twin (s .live) (s .values) (0 + k) a f
-    pair = both-at (Twin (s .live) (s .values)) 0 (s .live) (t .frames) (r .twins) k a e
+    pair : (f : Frame) × (getElem? (t .frames) k ≡ some f) × Twin (s .live) (s .values) k a f
+    pair = twin-at s t r k a e
 
     f : Frame
     f = pair .0
 
     w : Twin (s .live) (s .values) k a f
-    w = rw zero-add at (pair .2)
+    w = pair .2
 
     own : Big (ownOf f a)
     own =

@@ -1,18 +1,19 @@
 -- The relation between the two machines, which holds at the start and is kept by each step.
 use Prim.Native.Nat.{ℕ, _+_, _*_, _≤_}
-use mathlib.Core.Path.{_≡_}
+use native.Mathlib.Nat.{zero-add}
+use mathlib.Core.Path.{_≡_, subst}
 use mathlib.Core.List.{List, [], _∷_, _++_, map}
 use mathlib.Core.Option.{Option, none, some}
 use lib.IntN.{ℤ, pos}
-use lib.ListN.{length}
+use lib.ListN.{length, getElem?}
 use Rattle.language.specs.Basics.{lookup, zip}
-use Rattle.language.specs.Text.{block, Decl, VR, LB, PR, blockDecls, formalNames, declaredNames}
+use Rattle.language.specs.Text.{Decl, VR, LB, PR, blockDecls, formalNames, declaredNames}
 use Rattle.language.specs.Copy.{Replacement, renameBlock}
 use Rattle.language.specs.Machine.{Activation, State, Instance, instanceFrom}
 use Rattle.laws.specs.Each.{Each}
 use Rattle.laws.specs.Rising.{Rising}
 use Rattle.frames.specs.Frame.{Frame, Stack, numbered}
-use Rattle.frames.specs.Both.{Both}
+use Rattle.frames.specs.Both.{Both, both-at, both-length}
 use Rattle.frames.specs.Fine.{Fine}
 
 -- what names read as in the activation of a number; nothing at 0
@@ -80,3 +81,13 @@ pub record Related (s : State) (t : Stack) : Type 0 where
   pub rising : Rising 65536 (s .live) (s .fresh)
   pub table-is : s .table ≡ t .table
   pub steps-are : s .steps ≡ t .steps
+
+-- as many activations as frames, and each with the frame at its place
+module _ (s : State) (t : Stack) (r : Related s t) where
+  pub as-deep : length (s .live) ≡ length (t .frames)
+  as-deep = both-length (Twin (s .live) (s .values)) 0 (s .live) (t .frames) (r .twins)
+
+  pub twin-at : (k : ℕ) (a : Activation) → getElem? (s .live) k ≡ some a → (f : Frame) × (getElem? (t .frames) k ≡ some f) × Twin (s .live) (s .values) k a f
+  twin-at k a e =
+      let p = both-at (Twin (s .live) (s .values)) 0 (s .live) (t .frames) (r .twins) k a e in
+      (p .0, p .1, subst (λ (n : ℕ). Twin (s .live) (s .values) n a (p .0)) (zero-add k) (p .2))

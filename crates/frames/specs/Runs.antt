@@ -1,11 +1,11 @@
 -- Whole runs: from the start on, at every allowance, both machines come to the same end at related states; and related states show
 -- one sheet and find one looked-up name. So the replies are one.
-use Prim.Native.Nat.{ℕ, zero, suc, _+_}
+use Prim.Native.Nat.{ℕ, zero, suc, _+_, _≤_}
 use native.Mathlib.Omega.{arith}
 use mathlib.Core.Bool.{Bool, true, false}
 use mathlib.Core.Path.{_≡_, refl, sym, ap, ap₂, _∙_, subst, subst₂}
 use mathlib.Core.Logic.{_≢_}
-use mathlib.Core.List.{List, [], _∷_, _++_, cons≢nil}
+use mathlib.Core.List.{List, [], _∷_, _++_}
 use mathlib.Core.Option.{Option, none, some}
 use lib.IntN.{pos}
 use lib.ListN.{length, drop, getElem?, length-append}
@@ -17,9 +17,9 @@ use Rattle.language.specs.Copy.{without}
 use Rattle.language.specs.Machine.{Activation, State, Limits, Done, did, stop, counted, enter, step, Outcome, ends, run, start, Instance, instance, instanceFrom}
 use Rattle.language.specs.Sheet.{Found, seek, designator, declWord, activationWords, wordsOf, sheetWords, lookedUp, lookedUpDesignator, lookedUpLinks}
 use Rattle.language.specs.Call.{Engine, copying, chain, display, Fed, areaFits, linksOf, replied, runOf, checked}
-use Rattle.language.specs.declared.End.the-variants.{Finished, Spent, Stopped}
+use Rattle.language.specs.declared.End.the-variants.{Stopped}
 use Rattle.laws.specs.Tests.{split}
-use Rattle.laws.specs.Lists.{last-none, last-split, getElem-seam, map-alike}
+use Rattle.laws.specs.Lists.{by-elements, some-last, last-none, last-split, getElem-seam, map-alike}
 use Rattle.laws.specs.Renaming.{blockAt-renamed, rename-nothing}
 use Rattle.laws.specs.Rising.{Rising}
 use Rattle.grammar.specs.Rules.{Bytes}
@@ -27,38 +27,15 @@ use Rattle.runs.specs.Account.{run-finished, run-spent, run-did, run-stopped}
 use Rattle.instances.specs.Invariant.{Invariant}
 use Rattle.instances.specs.Accepted.{accepted-closed}
 use Rattle.instances.specs.Steps.{started, step-keeps, counted-invariant}
-use Rattle.frames.specs.Frame.{Frame, Stack, Acted, acted, halted, withFrames, stepped, numbered, designates, linksFollowed, seekName, seekFrom, frameStep, frameOffset, Result, results, frameRun, frameStart, frameWords, frameSheet, frameLinks, frameReplied, frameRunOf, frameChecked}
-use Rattle.frames.specs.Both.{Both, both-length}
-use Rattle.frames.specs.Related.{readsAt, readsIn, joined, designatorFor, designatorAt, wordIn, Twin, Related}
+use Rattle.frames.specs.Frame.{Frame, Stack, Acted, acted, halted, withFrames, stepped, numbered, designates, linksFollowed, seekName, seekFrom, frameStep, Result, results, frameRun, frameStart, frameWords, frameSheet, frameLinks, frameReplied, frameRunOf, frameChecked}
+use Rattle.frames.specs.Both.{Both}
+use Rattle.frames.specs.Related.{readsAt, readsIn, joined, designatorFor, designatorAt, wordIn, Twin, Related, as-deep}
 use Rattle.frames.specs.Push.{related-push}
 use Rattle.frames.specs.Find.{foundDesignator, passedIn, designates-found, links-found}
 use Rattle.frames.specs.Actions.{Alike, value-is}
+use Rattle.frames.specs.Running as framed
 use Rattle.frames.specs.Steps.{step-alike, offset-alike}
 use Rattle.frames.specs.Fine.{fine-script}
-
--- The clauses of the frame machine's run, as equations.
-module _ (l : Limits) (t : Stack) where
-  frames-finished : (n : ℕ) → t .frames ≡ [] → frameRun l n t ≡ results Finished 0 t
-  unfolding frameRun
-  frames-finished zero e = ap (λ fs. elim fs as (λ x. Result) [ [] ↦ results Finished 0 t | f ∷ rest ↦ results Spent 0 t ]) e
-  frames-finished (suc n) e = ap (λ fs. elim fs as (λ x. Result) [ [] ↦ results Finished 0 t | f ∷ rest ↦ elim (frameStep l t) [ acted t′ ↦ frameRun l n (stepped t′) | halted c ↦ results (Stopped c) (frameOffset t) t ] ]) e
-
-  frames-spent : (f : Frame) (fs : List Frame) → t .frames ≡ f ∷ fs → frameRun l 0 t ≡ results Spent 0 t
-  unfolding frameRun
-  frames-spent f fs e = ap (λ gs. elim gs as (λ x. Result) [ [] ↦ results Finished 0 t | f ∷ rest ↦ results Spent 0 t ]) e
-
-  after : ℕ → Acted → Result
-  after n (acted t′) = frameRun l n (stepped t′)
-  after n (halted c) = results (Stopped c) (frameOffset t) t
-
-  frames-tried : (n : ℕ) (f : Frame) (fs : List Frame) → t .frames ≡ f ∷ fs → frameRun l (suc n) t ≡ after n (frameStep l t)
-  unfolding frameRun after
-  frames-tried n f fs e =
-      ap (λ gs. elim gs as (λ x. Result) [ [] ↦ results Finished 0 t | f ∷ rest ↦ elim (frameStep l t) [ acted t′ ↦ frameRun l n (stepped t′) | halted c ↦ results (Stopped c) (frameOffset t) t ] ]) e ∙ go (frameStep l t)
-    where
-      go : (a : Acted) → elim a as (λ x. Result) [ acted t′ ↦ frameRun l n (stepped t′) | halted c ↦ results (Stopped c) (frameOffset t) t ] ≡ after n a
-      go (acted t′) = refl
-      go (halted c) = refl
 
 -- Two runs that come to the same.
 pub record Same (o : Outcome) (q : Result) : Type 0 where
@@ -70,55 +47,40 @@ counted-related : (s : State) (t : Stack) → Related s t → Related (counted s
 unfolding counted stepped
 counted-related s t r = record { twins = r .twins; rising = r .rising; table-is = r .table-is; steps-are = ap suc (r .steps-are) }
 
-last-some : (a : Activation) (l : List Activation) → (b : Activation) × (last? (a ∷ l) ≡ some b)
-unfolding last?
-last-some a [] = (a, refl)
-last-some a (c ∷ l) = last-some c l
-
 abbrev RunsSame : Limits → ℕ → Type 0
 RunsSame l n = (s : State) (t : Stack) → Related s t → Invariant s → Same (run l n s) (frameRun l n t)
 
 module _ (l : Limits) (s : State) (t : Stack) (r : Related s t) (inv : Invariant s) where
-  depth-same : length (s .live) ≡ length (t .frames)
-  depth-same = both-length (Twin (s .live) (s .values)) 0 (s .live) (t .frames) (r .twins)
-
   same-finished : (n : ℕ) → s .live ≡ [] → t .frames ≡ [] → Same (run l n s) (frameRun l n t)
   unfolding ends results
   same-finished n e e′ =
-      subst₂ Same (sym (run-finished l n s e)) (sym (frames-finished l t n e′)) (record { end-is = refl; offset-is = refl; finals = r })
+      subst₂ Same (sym (run-finished l n s e)) (sym (framed.run-finished l t n e′)) (record { end-is = refl; offset-is = refl; finals = r })
 
   -- neither machine has an activation, or both have one
-  by-depth : (X : Type 0) → (s .live ≡ [] → t .frames ≡ [] → X) → ((a : Activation) (rest : List Activation) (f : Frame) (fs : List Frame) → s .live ≡ a ∷ rest → t .frames ≡ f ∷ fs → X) → X
-  by-depth X none-live some-live = go (s .live) refl (t .frames) refl
-    where
-      go : (as′ : List Activation) → s .live ≡ as′ → (gs : List Frame) → t .frames ≡ gs → X
-      go [] e [] e′ = none-live e e′
-      go [] e (f ∷ fs) e′ = absurd (let z = ap length e in let z′ = ap length e′ in let d = depth-same in omega arith)
-      go (a ∷ rest) e [] e′ = absurd (let z = ap length e in let z′ = ap length e′ in let d = depth-same in omega arith)
-      go (a ∷ rest) e (f ∷ fs) e′ = some-live a rest f fs e e′
+  by-depth : {X : Type 0} → (s .live ≡ [] → t .frames ≡ [] → X) → ((b : Activation) → last? (s .live) ≡ some b → s .live ≢ [] → 1 ≤ length (t .frames) → X) → X
+  by-depth none-live some-live =
+      by-elements (s .live) (λ e. none-live e (by-elements (t .frames) (λ q. q) (λ h. absurd (omega (arith, ap length e, as-deep s t r)))))
+      (λ h. let b = some-last (s .live) h in some-live (b .0) (b .1) (λ q. omega (arith, ap length q)) (omega (arith, as-deep s t r)))
 
   same-zero : Same (run l 0 s) (frameRun l 0 t)
   unfolding ends results
   same-zero =
-      by-depth (Same (run l 0 s) (frameRun l 0 t)) (same-finished 0)
-      (λ a rest f fs e e′. subst₂ Same (sym (run-spent l s (λ q. cons≢nil (sym e ∙ q)))) (sym (frames-spent l t f fs e′)) (record { end-is = refl; offset-is = refl; finals = r }))
+      by-depth (same-finished 0)
+      (λ b last e e′. subst₂ Same (sym (run-spent l s e)) (sym (framed.run-spent l t e′)) (record { end-is = refl; offset-is = refl; finals = r }))
 
-  same-tried : (n : ℕ) → RunsSame l n → (a b : Activation) (rest : List Activation) (f : Frame) (fs : List Frame) → s .live ≡ a ∷ rest → t .frames ≡ f ∷ fs → last? (s .live) ≡ some b → (d : Done) → step l s ≡ d → (q : Acted) → frameStep l t ≡ q → Alike d q → Same (run l (suc n) s) (frameRun l (suc n) t)
-  unfolding Alike ends results after
-  same-tried n ih a b rest f fs e e′ last (did s′) d (acted t′) q h =
-      subst₂ Same (sym (run-did l n s s′ (λ z. cons≢nil (sym e ∙ z)) d)) (sym (frames-tried l t n f fs e′ ∙ ap (after l t n) q))
-      (ih (counted s′) (stepped t′) (counted-related s′ t′ h) (counted-invariant s′ (step-keeps l s s′ inv d)))
-  same-tried n ih a b rest f fs e e′ last (did s′) d (halted c) q h = absurd h
-  same-tried n ih a b rest f fs e e′ last (stop c) d (acted t′) q h = absurd h
-  same-tried n ih a b rest f fs e e′ last (stop c) d (halted c′) q h =
-      subst₂ Same (sym (run-stopped l n s c (λ z. cons≢nil (sym e ∙ z)) d)) (sym (frames-tried l t n f fs e′ ∙ ap (after l t n) q))
-      (record { end-is = ap Stopped h; offset-is = offset-alike l s t r inv b last; finals = r })
+  same-tried : (n : ℕ) → RunsSame l n → (b : Activation) → last? (s .live) ≡ some b → s .live ≢ [] → 1 ≤ length (t .frames) → (d : Done) → step l s ≡ d → (q : Acted) → frameStep l t ≡ q → Alike d q → Same (run l (suc n) s) (frameRun l (suc n) t)
+  unfolding Alike ends results
+  same-tried n ih b last e e′ (did s′) d (acted t′) q h =
+      subst₂ Same (sym (run-did l n s s′ e d)) (sym (framed.run-steps l t n t′ e′ q)) (ih (counted s′) (stepped t′) (counted-related s′ t′ h) (counted-invariant s′ (step-keeps l s s′ inv d)))
+  same-tried n ih b last e e′ (did s′) d (halted c) q h = absurd h
+  same-tried n ih b last e e′ (stop c) d (acted t′) q h = absurd h
+  same-tried n ih b last e e′ (stop c) d (halted c′) q h =
+      subst₂ Same (sym (run-stopped l n s c e d)) (sym (framed.run-stops l t n c′ e′ q)) (record { end-is = ap Stopped h; offset-is = offset-alike l s t r inv b last; finals = r })
 
   same-step : (n : ℕ) → RunsSame l n → Same (run l (suc n) s) (frameRun l (suc n) t)
   same-step n ih =
-      by-depth (Same (run l (suc n) s) (frameRun l (suc n) t)) (same-finished (suc n))
-      (λ a rest f fs e e′. let b = last-some a rest in let last : last? (s .live) ≡ some (b .0) = ap last? e ∙ b .1 in
-      same-tried n ih a (b .0) rest f fs e e′ last (step l s) refl (frameStep l t) refl (step-alike l s t r inv (b .0) last))
+      by-depth (same-finished (suc n))
+      (λ b last e e′. same-tried n ih b last e e′ (step l s) refl (frameStep l t) refl (step-alike l s t r inv b last))
 
 -- Whole runs, at every allowance.
 pub runs-same : (l : Limits) (n : ℕ) → RunsSame l n
@@ -174,11 +136,7 @@ sheet-same s t r = sheets-same s 0 (s .live) (t .frames) (r .twins)
 -- The looked-up name is one.
 module _ (s : State) (t : Stack) (r : Related s t) (n : ℕ) where
   none-looked : s .live ≡ [] → t .frames ≡ []
-  none-looked e = go (t .frames) refl
-    where
-      go : (fs : List Frame) → t .frames ≡ fs → t .frames ≡ []
-      go [] q = q
-      go (f ∷ fs) q = absurd (let z = both-length (Twin (s .live) (s .values)) 0 (s .live) (t .frames) (r .twins) in let z′ = ap length e in let z″ = ap length q in omega arith)
+  none-looked e = by-elements (t .frames) (λ q. q) (λ h. absurd (omega (arith, ap length e, as-deep s t r)))
 
   found-designator : (o : Option Found) → lookedUp s n ≡ o → lookedUpDesignator s n ≡ foundDesignator (s .live) o
   unfolding lookedUpDesignator foundDesignator

@@ -1,5 +1,5 @@
 -- One step, and a whole run: from related states both machines come to related states, or stop for one cause at one offset.
-use Prim.Native.Nat.{ℕ, suc, pred, _+_, _<_}
+use Prim.Native.Nat.{ℕ, suc, pred, _<_}
 use native.Mathlib.Omega.{arith}
 use mathlib.Core.Bool.{Bool, true, false}
 use mathlib.Core.Path.{_≡_, refl, sym, ap, ap₂, _∙_, subst, subst₂}
@@ -22,8 +22,7 @@ use Rattle.instances.specs.Invariant.{liveKinds, Invariant}
 use Rattle.instances.specs.Theorems.{stands}
 use Rattle.instances.specs.Steps.{next-closed, advanced, advanced-kinds}
 use Rattle.frames.specs.Frame.{Frame, Stack, continue, withFrames, wordAt, designates, mapAction, act, actStmt, pushFrame, frameStmt, advanceFrame, actIn, frameStep, frameOffset}
-use Rattle.frames.specs.Both.{both-length}
-use Rattle.frames.specs.Related.{readsAt, joined, designatorAt, Twin, Related}
+use Rattle.frames.specs.Related.{readsAt, joined, designatorAt, Twin, Related, as-deep}
 use Rattle.frames.specs.Fine.{Fine, fine-block}
 use Rattle.frames.specs.Cuts.{Top, top-of, related-pop, related-resume}
 use Rattle.frames.specs.Find.{designates-name}
@@ -133,7 +132,7 @@ module _ (l : Limits) (s : State) (t : Stack) (r : Related s t) (inv : Invariant
   deep₁ = length-append (butLast (s .live)) (resume a (suc (a .next)) ∷ []) ∙ omega arith
 
   frames₁ : length (advanceFrame t f .frames) ≡ suc k
-  frames₁ = sym (both-length (Twin (advance s a .live) (advance s a .values)) 0 (advance s a .live) (advanceFrame t f .frames) (related₁ .twins)) ∙ deep₁
+  frames₁ = sym (as-deep (advance s a) (advanceFrame t f) related₁) ∙ deep₁
 
   reads₁ : readsAt (advance s a .live) (suc k) ≡ a .reads
   unfolding resume

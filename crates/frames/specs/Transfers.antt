@@ -1,28 +1,27 @@
 -- Gotos, calls and blocks entered: the relation is kept, or both machines stop for one cause.
-use Prim.Native.Nat.{ℕ, suc, pred, _+_, _≤_}
+use Prim.Native.Nat.{ℕ, suc, pred, _≤_}
 use native.Mathlib.Omega.{arith}
 use mathlib.Core.Bool.{Bool, true, false}
 use mathlib.Core.Path.{_≡_, refl, sym, ap, ap₂, _∙_, subst, subst₂}
 use mathlib.Core.List.{List, [], _∷_, _++_, map}
 use mathlib.Core.Option.{Option, none, some}
 use lib.Dec.{ltb}
-use lib.ListN.{length, take, getElem?, length-map}
-use Rattle.language.specs.Text.{Kind, Formal, Block, block, decl, declKind, labelIndex, declFormals, declBody, formalNames, formalKinds, declaredNames}
+use lib.ListN.{length, take, getElem?}
+use Rattle.language.specs.Text.{Kind, Formal, Block, decl, declKind, labelIndex, declFormals, declBody, formalNames, formalKinds, declaredNames}
 use Rattle.language.specs.Scope.{agree}
 use Rattle.language.specs.Copy.{Replacement, renameBlock, without}
 use Rattle.language.specs.Machine.{Activation, State, Limits, Instance, instance, withLive, resume, jump, kindAt, enterIfRoom, call}
-use Rattle.laws.specs.Kinds.{agree-length}
+use Rattle.laws.specs.Kinds.{agree-many}
 use Rattle.laws.specs.Lists.{take-snoc, snoc-inj, getElem-bound}
 use Rattle.laws.specs.Each.{Each, each-map}
 use Rattle.laws.specs.Renaming.{labelIndex-renamed, declFormals-renamed, declBody-renamed}
 use Rattle.laws.specs.Instances.{instance-number}
 use Rattle.instances.specs.Statement.{Stands}
 use Rattle.frames.specs.Frame.{Frame, Stack, numbered, continue, withFrames, frameNumber, kindOf, goTo, pushFrame, callBy}
-use Rattle.frames.specs.Both.{both-length}
 use Rattle.frames.specs.Fine.{Fine, fine-body}
-use Rattle.frames.specs.Related.{readsIn, readsAt, joined, designatorAt, LiveBelow, AllLive, Twin, Related}
+use Rattle.frames.specs.Related.{readsIn, readsAt, joined, designatorAt, LiveBelow, AllLive, Related, as-deep}
 use Rattle.frames.specs.Cuts.{top-of, related-take, related-resume}
-use Rattle.frames.specs.Designated.{Designated, designated, declOf-designated, kindOf-designated}
+use Rattle.frames.specs.Designated.{Designated, designated, declOf-designated, kindOf-designated, found-frame}
 use Rattle.frames.specs.Push.{related-push}
 use Rattle.frames.specs.Actions.{Alike}
 
@@ -45,14 +44,10 @@ module _ (s : State) (t : Stack) (r : Related s t) where
     unfolding jump
     jump-is = rw (e, jump) (ap (λ (n : ℕ). withLive s (take (pred n) (s .live) ++ (resume (i .home) (labelIndex (i .decl)) ∷ []))) (d .number-is))
 
-    frame-is : numbered (t .frames) (frameNumber (designatorAt (s .live) x)) ≡ some (d .frame)
-    unfolding numbered
-    frame-is = rw (d .by-number) (d .frame-at)
-
     goTo-is : goTo t (designatorAt (s .live) x) ≡ withFrames t (take (d .depth) (t .frames) ++ (continue (d .frame) (labelIndex (i .decl)) ∷ []))
     unfolding goTo
     goTo-is =
-        rw (frame-is, goTo) (rw (declOf-designated s t x i d)
+        rw (found-frame s t x i d, goTo) (rw (declOf-designated s t x i d)
         (ap₂ (λ (n m : ℕ). withFrames t (take (pred n) (t .frames) ++ (continue (d .frame) m ∷ []))) (d .by-number) (sym (ap labelIndex (d .decl-is) ∙ labelIndex-renamed (d .original) (joined (i .home .reads))))))
 
   pub jump-related : (x : ℕ) (w : Option Kind) → Stands s x w → Related (jump s x) (goTo t (designatorAt (s .live) x))
@@ -85,17 +80,14 @@ module _ (s : State) (t : Stack) (r : Related s t) where
       kind-is : (x : ℕ) (i : Instance) → instance s x ≡ some i → kindAt s x ≡ some (declKind (i .decl))
       kind-is x i e = rw (e, kindAt)
 
-  depths : length (s .live) ≡ length (t .frames)
-  depths = both-length (Twin (s .live) (s .values)) 0 (s .live) (t .frames) (r .twins)
-
   -- a block entered, or no activation left
   pub enter-alike : (l : Limits) (fs : List Formal) (b : Block) → Fine fs b → (xs : List ℕ) → length xs ≡ length fs → AllStand s xs → (m : ℕ) → m ≤ length (s .live) → Alike (enterIfRoom l s (formalNames fs) xs (renameBlock b (without (formalNames fs ++ declaredNames b) (joined (readsAt (s .live) m)))) (readsAt (s .live) m)) (pushFrame l t fs (map (designatorAt (s .live)) xs) b m)
   unfolding enterIfRoom pushFrame Alike
   enter-alike l fs b fine xs many v m deep = go (ltb (length (s .live)) (l .activations)) refl
     where
       go : (c : Bool) → ltb (length (s .live)) (l .activations) ≡ c → Alike (enterIfRoom l s (formalNames fs) xs (renameBlock b (without (formalNames fs ++ declaredNames b) (joined (readsAt (s .live) m)))) (readsAt (s .live) m)) (pushFrame l t fs (map (designatorAt (s .live)) xs) b m)
-      go true e = rw (e, subst (λ (n : ℕ). ltb n (l .activations) ≡ true) depths e, enterIfRoom, pushFrame) (related-push s t r fs b fine xs many (all-live xs v) m deep)
-      go false e = rw (e, subst (λ (n : ℕ). ltb n (l .activations) ≡ false) depths e, enterIfRoom, pushFrame)
+      go true e = rw (e, subst (λ (n : ℕ). ltb n (l .activations) ≡ true) (as-deep s t r) e, enterIfRoom, pushFrame) (related-push s t r fs b fine xs many (all-live xs v) m deep)
+      go false e = rw (e, subst (λ (n : ℕ). ltb n (l .activations) ≡ false) (as-deep s t r) e, enterIfRoom, pushFrame)
 
   pub reads-of : (k : ℕ) (a : Activation) → getElem? (s .live) k ≡ some a → readsAt (s .live) (suc k) ≡ a .reads
   unfolding readsAt readsIn numbered
@@ -131,12 +123,7 @@ module _ (s : State) (t : Stack) (r : Related s t) where
       tests-same = ap₂ agree (ap formalKinds formals-same) (kinds-same xs vs)
 
       many : agree (formalKinds (declFormals (i .decl))) (map (kindAt s) xs) ≡ true → length xs ≡ length fs
-      many e =
-          let n = sym (agree-length (formalKinds (declFormals (i .decl))) (map (kindAt s) xs) e) in
-          let n₁ = length-map (declFormals (i .decl)) (λ (f : Formal). f .kind) in
-          let n₂ = length-map xs (kindAt s) in
-          let n₃ = ap length formals-same in
-          omega arith
+      many e = agree-many (kindAt s) (declFormals (i .decl)) xs e ∙ ap length formals-same
 
       entered : length xs ≡ length fs → Alike (enterIfRoom l s (formalNames (declFormals (i .decl))) xs (declBody (i .decl)) (i .home .reads)) (pushFrame l t fs (map (designatorAt (s .live)) xs) b (frameNumber (designatorAt (s .live) p)))
       entered n =

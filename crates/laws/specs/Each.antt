@@ -3,7 +3,7 @@ use Prim.Native.Nat.{ℕ, zero, suc}
 use mathlib.Core.Path.{_≡_, subst}
 use mathlib.Core.List.{List, [], _∷_, _++_}
 use mathlib.Core.Option.{some}
-use lib.ListN.{take, getElem?}
+use lib.ListN.{take, getD, set, getElem?}
 use Rattle.language.specs.Basics.{last?, butLast}
 use Rattle.laws.specs.Tests.{none≢some, some-inj}
 
@@ -48,6 +48,11 @@ module _ {A : Type 0} where
     each-take (suc n) [] h = tt
     each-take (suc n) (x ∷ xs) h = (h .0, each-take n xs (h .1))
 
+    pub each-set : (xs : List A) (n : ℕ) (a : A) → P a → Each P xs → Each P (set xs n a)
+    each-set [] n a p h = tt
+    each-set (x ∷ xs) zero a p h = (p, h .1)
+    each-set (x ∷ xs) (suc n) a p h = (h .0, each-set xs n a p (h .1))
+
     pub each-butLast : (xs : List A) → Each P xs → Each P (butLast xs)
     unfolding butLast
     each-butLast [] h = tt
@@ -64,3 +69,8 @@ module _ {A : Type 0} where
     each-at [] n a e h = none≢some e
     each-at (x ∷ xs) zero a e h = subst P (some-inj e) (h .0)
     each-at (x ∷ xs) (suc n) a e h = each-at xs n a e (h .1)
+
+    pub each-getD : (xs : List A) (n : ℕ) (d : A) → P d → Each P xs → P (getD xs n d)
+    each-getD [] n d p h = p
+    each-getD (x ∷ xs) zero d p h = h .0
+    each-getD (x ∷ xs) (suc n) d p h = each-getD xs n d p (h .1)

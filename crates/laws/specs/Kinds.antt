@@ -1,12 +1,14 @@
 -- Laws of kinds: two of them compared, and arguments that agree with formals.
-use Prim.Native.Nat.{suc}
-use mathlib.Core.Bool.{true, false, _&&_, and-eq-true-iff, false≢true}
-use mathlib.Core.List.{List, [], _∷_}
+use Prim.Native.Nat.{ℕ, zero, suc, _<_}
+use native.Mathlib.Nat.{not-suc-le-zero, le-of-suc-le-suc}
+use mathlib.Core.Bool.{true, and-eq-true-iff, false≢true}
+use mathlib.Core.List.{List, [], _∷_, map}
 use mathlib.Core.Option.{Option, none, some}
-use mathlib.Core.Path.{_≡_, refl, sym, ap}
-use lib.ListN.{length}
-use Rattle.language.specs.Text.{Kind, variable, label, procedure, sameKind}
+use mathlib.Core.Path.{_≡_, refl, sym, ap, _∙_}
+use lib.ListN.{length, getD, getElem?, length-map}
+use Rattle.language.specs.Text.{Kind, variable, label, procedure, Formal, formalKinds, sameKind}
 use Rattle.language.specs.Scope.{agree}
+use Rattle.laws.specs.Tests.{none≢some}
 
 pub same-kind : (k l : Kind) → sameKind k l ≡ true → k ≡ l
 unfolding sameKind
@@ -34,3 +36,23 @@ agree-length [] [] e = refl
 agree-length [] (o ∷ os) e = absurd (false≢true e)
 agree-length (k ∷ ks) [] e = absurd (false≢true e)
 agree-length (k ∷ ks) (o ∷ os) e = ap suc (agree-length ks os (agree-first k ks o os e .1))
+
+pub agree-at : (ks : List Kind) (os : List (Option Kind)) → agree ks os ≡ true → (i : ℕ) (k : Kind) → getElem? ks i ≡ some k → getElem? os i ≡ some (some k)
+unfolding agree
+agree-at [] os e i k q = none≢some q
+agree-at (x ∷ ks) [] e i k q = absurd (false≢true e)
+agree-at (x ∷ ks) (o ∷ os) e zero k q = ap {B = Option (Option Kind)} some (agree-first x ks o os e .0 ∙ q)
+agree-at (x ∷ ks) (o ∷ os) e (suc i) k q = agree-at ks os (agree-first x ks o os e .1) i k q
+
+-- arguments whose kinds are looked up
+module _ {A : Type 0} (r : A → Option Kind) where
+  pub agree-many : (fs : List Formal) (xs : List A) → agree (formalKinds fs) (map r xs) ≡ true → length xs ≡ length fs
+  unfolding formalKinds
+  agree-many fs xs e = sym (length-map xs r) ∙ agree-length (formalKinds fs) (map r xs) e ∙ length-map fs (λ (f : Formal). f .kind)
+
+  pub agree-known : (d : A) (ks : List Kind) (xs : List A) → agree ks (map r xs) ≡ true → (i : ℕ) → i < length xs → (k : Kind) × (r (getD xs i d) ≡ some k)
+  unfolding agree
+  agree-known d ks [] e i l = absurd (not-suc-le-zero l)
+  agree-known d [] (x ∷ xs) e i l = absurd (false≢true e)
+  agree-known d (k ∷ ks) (x ∷ xs) e zero l = (k, agree-first k ks (r x) (map r xs) e .0)
+  agree-known d (k ∷ ks) (x ∷ xs) e (suc i) l = agree-known d ks xs (agree-first k ks (r x) (map r xs) e .1) i (le-of-suc-le-suc l)

@@ -2,6 +2,7 @@
 pub mod Tests
 pub mod Kinds
 pub mod Lists
+pub mod Reversed
 pub mod Each
 pub mod Distinct
 pub mod Lookup

@@ -1,10 +1,10 @@
--- Laws of lists: the last element, the element at an index, images.
-use Prim.Native.Nat.{ℕ, zero, suc, pred, _+_, _≤_, _<_}
+-- Laws of lists: the last element, the element at an index, also after a store, images.
+use Prim.Native.Nat.{ℕ, zero, suc, pred, _+_, _-_, _≤_, _<_}
 use native.Mathlib.Omega.{arith}
-use native.Mathlib.Nat.{not-suc-le-zero, le-of-suc-le-suc, zero-add, add-suc, suc-add}
-use mathlib.Core.Path.{_≡_, refl, sym, ap, ap₂, _∙_, subst}
+use native.Mathlib.Nat.{not-suc-le-zero, le-of-suc-le-suc, zero-add, suc-add}
+use mathlib.Core.Path.{_≡_, refl, sym, ap, ap₂, _∙_}
 use mathlib.Core.List.{List, [], _∷_, _++_, map}
-use mathlib.Core.Option.{Option, none, some, Option·map}
+use mathlib.Core.Option.{none, some, Option·map}
 use lib.ListN.{length, take, drop, getD, set, getElem?, length-append}
 use Rattle.language.specs.Basics.{last?, butLast}
 use Rattle.laws.specs.Tests.{none≢some, some-inj}
@@ -35,6 +35,21 @@ module _ {ℓ} {A : Type ℓ} where
   last-none (x ∷ []) e = none≢some (sym e)
   last-none (x ∷ y ∷ l) e = let h = last-none (y ∷ l) e in let z : _≡_ {A = ℕ} 0 1 = cc in absurd (omega arith)
 
+  pub some-last : (l : List A) → 1 ≤ length l → (a : A) × (last? l ≡ some a)
+  unfolding last?
+  some-last [] h = absurd (not-suc-le-zero h)
+  some-last (x ∷ []) h = (x, refl)
+  some-last (x ∷ y ∷ l) h = some-last (y ∷ l) (omega arith)
+
+  pub snoc-length : (l : List A) (a : A) → length (l ++ (a ∷ [])) ≡ suc (length l)
+  snoc-length l a = length-append l (a ∷ []) ∙ omega arith
+
+  pub butLast-take : (l : List A) → butLast l ≡ take (pred (length l)) l
+  unfolding butLast
+  butLast-take [] = refl
+  butLast-take (x ∷ []) = refl
+  butLast-take (x ∷ y ∷ l) = ap (x ∷_) (butLast-take (y ∷ l))
+
   pub butLast-length : (l : List A) → length (butLast l) ≤ length l
   unfolding butLast
   butLast-length [] = omega arith
@@ -45,11 +60,23 @@ module _ {ℓ} {A : Type ℓ} where
   pub replaced-length : (l : List A) (a b : A) → last? l ≡ some a → length (butLast l ++ (b ∷ [])) ≡ length l
   replaced-length l a b e = length-append (butLast l) (b ∷ []) ∙ sym (length-append (butLast l) (a ∷ [])) ∙ ap length (sym (last-split l a e))
 
+  -- a list has no element, or some
+  pub by-elements {ℓ′} : {X : Type ℓ′} (l : List A) → (l ≡ [] → X) → (1 ≤ length l → X) → X
+  by-elements [] f g = f refl
+  by-elements (x ∷ l) f g = g (omega arith)
+
   -- the element at an index
   pub getElem-append : (l m : List A) (k : ℕ) → k < length l → getElem? (l ++ m) k ≡ getElem? l k
   getElem-append [] m k h = absurd (not-suc-le-zero h)
   getElem-append (x ∷ l) m zero h = refl
   getElem-append (x ∷ l) m (suc k) h = getElem-append l m k (le-of-suc-le-suc h)
+
+  pub getElem-after : (l m : List A) (k : ℕ) → length l ≤ k → getElem? (l ++ m) k ≡ getElem? m (k - length l)
+  getElem-after [] m k h = let e : k ≡ k - 0 = omega arith in ap (getElem? m) e
+  getElem-after (x ∷ l) m zero h = absurd (not-suc-le-zero h)
+  getElem-after (x ∷ l) m (suc k) h =
+      let e : k - length l ≡ suc k - suc (length l) = omega arith in
+      getElem-after l m k (le-of-suc-le-suc h) ∙ ap (getElem? m) e
 
   pub getElem-seam : (l : List A) (a : A) (m : List A) → getElem? (l ++ (a ∷ m)) (length l) ≡ some a
   getElem-seam [] a m = refl
@@ -93,9 +120,41 @@ module _ {ℓ} {A : Type ℓ} where
   getElem-none (x ∷ l) zero h = absurd (not-suc-le-zero h)
   getElem-none (x ∷ l) (suc k) h = getElem-none l k (le-of-suc-le-suc h)
 
+  pub getElem-past : (l : List A) (k : ℕ) → getElem? l k ≡ none → length l ≤ k
+  getElem-past [] k e = omega arith
+  getElem-past (x ∷ l) zero e = none≢some (sym e)
+  getElem-past (x ∷ l) (suc k) e = omega (arith, getElem-past l k e)
+
+  -- after a store
+  pub getElem-set-same : (l : List A) (i : ℕ) (a b : A) → getElem? l i ≡ some a → getElem? (set l i b) i ≡ some b
+  getElem-set-same [] i a b e = none≢some e
+  getElem-set-same (x ∷ l) zero a b e = refl
+  getElem-set-same (x ∷ l) (suc i) a b e = getElem-set-same l i a b e
+
+  pub getElem-set-other : (l : List A) (i j : ℕ) (b : A) → (j ≡ i → ⊥) → getElem? (set l i b) j ≡ getElem? l j
+  getElem-set-other [] i j b h = refl
+  getElem-set-other (x ∷ l) zero zero b h = absurd (h refl)
+  getElem-set-other (x ∷ l) zero (suc j) b h = refl
+  getElem-set-other (x ∷ l) (suc i) zero b h = refl
+  getElem-set-other (x ∷ l) (suc i) (suc j) b h = getElem-set-other l i j b (λ e. h (ap suc e))
+
   pub set-append-add : (xs ys : List A) (n : ℕ) (z : A) → set (xs ++ ys) (length xs + n) z ≡ xs ++ set ys n z
   set-append-add [] ys n z = rw zero-add
   set-append-add (x ∷ xs) ys n z = rw suc-add (ap (x ∷_) (set-append-add xs ys n z))
+
+-- what each element has, the default included
+module _ {A : Type 0} (P : A → Type 0) where
+  pub getD-set : (l : List A) (i j : ℕ) (z d : A) → P z → P (getD l j d) → P (getD (set l i z) j d)
+  getD-set [] i j z d p h = h
+  getD-set (x ∷ l) zero zero z d p h = p
+  getD-set (x ∷ l) zero (suc j) z d p h = h
+  getD-set (x ∷ l) (suc i) zero z d p h = h
+  getD-set (x ∷ l) (suc i) (suc j) z d p h = getD-set l i j z d p h
+
+  pub getD-both : (l m : List A) (j : ℕ) (d : A) → ((i : ℕ) → P (getD l i d)) → ((i : ℕ) → P (getD m i d)) → P (getD (l ++ m) j d)
+  getD-both [] m j d h k = k j
+  getD-both (x ∷ l) m zero d h k = h zero
+  getD-both (x ∷ l) m (suc j) d h k = getD-both l m j d (λ i. h (suc i)) k
 
 pub lengths-append {ℓ} : {A B : Type ℓ} (xs xs′ : List A) (ys ys′ : List B) → length xs ≡ length ys → length xs′ ≡ length ys′ → length (xs ++ xs′) ≡ length (ys ++ ys′)
 lengths-append xs xs′ ys ys′ p q = rw (length-append xs xs′, length-append ys ys′) (omega arith)

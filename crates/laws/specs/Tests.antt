@@ -15,6 +15,11 @@ pub split {ℓ} : {X : Type ℓ} (t : Bool) → (t ≡ true → X) → (t ≡ fa
 split true f g = f refl
 split false f g = g refl
 
+-- an option and its value
+pub by-lookup {ℓ ℓ′} : {A : Type ℓ} {X : Type ℓ′} (o : Option A) → (o ≡ none → X) → ((a : A) → o ≡ some a → X) → X
+by-lookup none f g = f refl
+by-lookup (some a) f g = g a refl
+
 pub never {ℓ} : {X : Type ℓ} {t : Bool} → t ≡ true → t ≡ false → X
 never e f = let z : _≡_ {A = ℕ} 0 1 = cc in absurd (omega arith)
 

@@ -4,4 +4,3 @@ pub mod Standing
 pub mod Items
 pub mod Passing
 pub mod Walking
-pub mod Checking
