@@ -63,12 +63,15 @@ fn byte(script: &[u8], at: usize) -> usize
     0
 }
 
-// The 16-bit field at an offset, low byte first.
+// The 16-bit field at an offset, low byte first. Where both its bytes are there, they are one load.
 fn word(script: &[u8], at: usize) -> usize
     requires { ⌜ at < 2 ^ 60 ⌝ }
     ensures { λ r. ⌜ (r ≡ wordAt (now (script .entry)) at) × (r < 65536) ⌝ }
 {
-    byte(script, at) + 256 * byte(script, at + 1)
+    if at + 1 < script.len() {
+        return wide(script[at]) + 256 * wide(script[at + 1]);
+    }
+    byte(script, at)
 }
 
 // The first entry from `top` on that can have a name.
