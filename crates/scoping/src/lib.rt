@@ -357,13 +357,12 @@ fn three(
 }
 
 // A statement other than BK: its names left to right.
-fn action(script: &[u8], entries: &[usize], top: usize, at: usize) -> Verdict
-    requires { ⌜ (at < 2 ^ 32) × Hung (now entries) top ⌝ }
+fn action(script: &[u8], entries: &[usize], top: usize, at: usize, mark: usize) -> Verdict
+    requires { ⌜ (at < 2 ^ 32) × Hung (now entries) top × (mark ≡ wordAt (now script) at) ⌝ }
     ensures { λ r.
         ⌜ r ≡ verdictOf (judgedAs (shapeOf (wordAt (now (script .entry)) at))
         (scopeFrom (now (script .entry)) (now (entries .entry)) top) (now (script .entry)) at) ⌝ }
 {
-    let mark = word(script, at);
     if mark == CL {
         return call(script, entries, top, at);
     }
@@ -413,11 +412,10 @@ fn size(mark: usize) -> usize
     6
 }
 
-fn pass(script: &[u8], at: usize) -> Step
-    requires { ⌜ at < 2 ^ 32 ⌝ }
+fn pass(script: &[u8], at: usize, mark: usize) -> Step
+    requires { ⌜ (at < 2 ^ 32) × (mark ≡ wordAt (now script) at) ⌝ }
     ensures { λ r. ⌜ Passed (now (script .entry)) at r ⌝ }
 {
-    let mark = word(script, at);
     if mark == BK {
         return Step {
             next: at + 6,
@@ -453,7 +451,7 @@ fn skip(script: &[u8], at: usize) -> usize
         if script.len() <= here {
             return here;
         }
-        let s = pass(script, here);
+        let s = pass(script, here, word(script, here));
         pending = pending - 1 + s.more;
         here = s.next;
     }
@@ -551,14 +549,14 @@ fn item(script: &[u8], entries: &mut [usize], at: usize, top: usize) -> Progress
     if mark == BK {
         return block(script, entries, at, 0, top);
     }
-    let passed = pass(script, at);
+    let passed = pass(script, at, mark);
     if mark == VR {
         return Progress::At(passed.next);
     }
     if mark == LB {
         return Progress::At(passed.next);
     }
-    onward(action(script, entries, top, at), passed.next)
+    onward(action(script, entries, top, at, mark), passed.next)
 }
 
 fn settled(p: Progress) -> Verdict
