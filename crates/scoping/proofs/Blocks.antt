@@ -103,7 +103,7 @@ module _ (bs : List ℕ) (at count top : ℕ) where
   abbrev start : ℕ
   start = at + 6 * count
 
-  pub block-room : (b : Block) (fs : List Formal) (level : ℕ) → BlockHere bs at count top b fs level → count + wordAt bs (start + 2) ≤ top
+  pub block-room : (b : Block) (fs : List Formal) (level : ℕ) → BlockHere bs at count top b fs level → 768 + (count + wordAt bs (start + 2)) ≤ top
   unfolding blockFields FormedBlock
   block-room (block o ds ss) fs level h = omega (arith, h .stand .1 .0, h .number, h .formed .few, h .formed .nesting, h .room)
 

@@ -1,4 +1,5 @@
 pub mod Meanings
+pub mod Chains
 pub mod Calls
 pub mod Judging
 pub mod Inside

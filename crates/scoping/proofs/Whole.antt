@@ -41,12 +41,12 @@ unfolding settledOf progressOf verdictOf
 settled-verdict fine end = refl
 settled-verdict (wrong c o) end = refl
 
-module _ (bs : List ℕ) (bytes : Bytes bs) (es : List ℕ) (long : length es ≤ 512) (p : Progress) (judged : (b : Block) (fs : List Formal) (level : ℕ) → BlockHere bs 0 0 512 b fs level → p ≡ progressOf (judgeBlock b fs (scopeOf bs (drop 512 es))) (0 + 6 * 0 + 2 * length (blockFields b))) where
-  nothing-yet : scopeOf bs (drop 512 es) ≡ []
+module _ (bs : List ℕ) (bytes : Bytes bs) (es : List ℕ) (long : length es ≤ 1280) (p : Progress) (judged : (b : Block) (fs : List Formal) (level : ℕ) → BlockHere bs 0 0 1280 b fs level → p ≡ progressOf (judgeBlock b fs (scopeOf bs (drop 1280 es))) (0 + 6 * 0 + 2 * length (blockFields b))) where
+  nothing-yet : scopeOf bs (drop 1280 es) ≡ []
   unfolding scopeOf
   nothing-yet = rw (drop-of-length-le es long)
 
-  here : (t : Block) (end : ℕ) → GotBlock 1 [] 0 (fieldsOf bs) t end [] → BlockHere bs 0 0 512 t [] 1
+  here : (t : Block) (end : ℕ) → GotBlock 1 [] 0 (fieldsOf bs) t end [] → BlockHere bs 0 0 1280 t [] 1
   unfolding formalsFields FormedFormals
   here t end g = record {
     number = refl;
@@ -59,7 +59,7 @@ module _ (bs : List ℕ) (bytes : Bytes bs) (es : List ℕ) (long : length es �
 
   by-reading : (r : Reading Block) → Yields (GotBlock 1 [] 0 (fieldsOf bs)) r → Judged r (settledOf p)
   by-reading (read t end []) y =
-      ap settledOf (judged t [] 1 (here t end y)) ∙ settled-verdict (judgeBlock t [] (scopeOf bs (drop 512 es))) _
+      ap settledOf (judged t [] 1 (here t end y)) ∙ settled-verdict (judgeBlock t [] (scopeOf bs (drop 1280 es))) _
       ∙ ap (λ (sc : definitions.Scope). verdictOf (judgeBlock t [] sc)) nothing-yet
   by-reading (read t end (w ∷ ws)) y = tt
   by-reading (refuse c o) y = tt

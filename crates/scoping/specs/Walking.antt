@@ -60,19 +60,19 @@ pub record BlockHere (bs : List ℕ) (at count top : ℕ) (b : Block) (fs : List
   pub named : FormedFormals fs at
   pub stand : Stands bs (at + 6 * count) (blockFields b)
   pub formed : FormedBlock b level fs (at + 6 * count)
-  pub room : 544 ≤ top + 32 * level
+  pub room : 1312 ≤ top + 32 * level
 
 -- records of a block with s statements
 pub record ItemsHere (bs : List ℕ) (at count top : ℕ) (xs : List Item) (level s : ℕ) : Type 0 where
   pub number : length xs ≡ count
   pub stand : Stands bs at (itemsFields xs)
   pub formed : FormedItems xs level s at
-  pub room : 512 ≤ top + 32 * level
+  pub room : 1280 ≤ top + 32 * level
 
 pub record ItemHere (bs : List ℕ) (at top : ℕ) (x : Item) (level s : ℕ) : Type 0 where
   pub stand : Stands bs at (itemFields x)
   pub formed : FormedItem x level s at
-  pub room : 512 ≤ top + 32 * level
+  pub room : 1280 ≤ top + 32 * level
 
 unfoldable pub settledOf : Progress → Verdict
 settledOf (At end) = Fit

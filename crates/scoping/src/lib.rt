@@ -1,18 +1,20 @@
 // The script check's second half: what each name used stands for, refusals 9 to 11, in file order. The visible names stand in one
-// array, nearest declaration first, in the order of the definitions' scope. The walk is safe on any bytes: only its answer asks for a
-// script that is fit in structure.
+// array, nearest declaration first, in the order of the definitions' scope, and below them, in the same array, chains of those whose
+// names have the same remainder by 256, so that a use is found in a step or two. The walk is safe on any bytes: only its answer asks for
+// a script that is fit in structure.
 use language::Refusal;
 use language::Verdict;
 use records::Progress;
 ghost use mathlib.Core.Path.{_≡_};
 ghost use mathlib.Core.Option.{some};
-ghost use Prim.Native.Nat.{_+_, _^_, _<_, _≤_};
-ghost use lib.ListN.{length, getD, drop};
+ghost use Prim.Native.Nat.{_+_, _%_, _^_, _<_, _≤_, max};
+ghost use lib.ListN.{length, getD, take, drop};
 ghost use Rattle.language.specs.Encoding.{kindField, fieldsOf};
 ghost use Rattle.language.specs.Structure.{program};
 ghost use Rattle.language.specs.Scope as definitions;
 ghost use Rattle.scoping.specs.Entries.{wordAt, namesAt, kindOf, meaningAt, kindsAt, foundIn, Near, scopeFrom, argumentsAt};
 ghost use Rattle.scoping.specs.Entries.{verdictOf, pairJudged, tripleJudged, callAt, shapeOf, judgedAs};
+ghost use Rattle.scoping.specs.Chains.{Hung};
 ghost use Rattle.scoping.specs.Items.{sizeOf};
 ghost use Rattle.scoping.specs.Passing.{Passed, Skipped, Pushed};
 ghost use Rattle.scoping.specs.Walking.{onwardOf, settledOf, Judged, Ahead, BlockJudged, ItemsJudged, ItemJudged};
@@ -61,28 +63,112 @@ fn byte(script: &[u8], at: usize) -> usize
     0
 }
 
-// The 16-bit field at an offset, low byte first.
+// The 16-bit field at an offset, low byte first. Where both its bytes are there, they are one load.
 fn word(script: &[u8], at: usize) -> usize
     requires { ⌜ at < 2 ^ 60 ⌝ }
     ensures { λ r. ⌜ (r ≡ wordAt (now (script .entry)) at) × (r < 65536) ⌝ }
 {
-    byte(script, at) + 256 * byte(script, at + 1)
+    if at + 1 < script.len() {
+        return wide(script[at]) + 256 * wide(script[at + 1]);
+    }
+    byte(script, at)
+}
+
+// The first entry from `top` on that can have a name.
+fn first(entries: &[usize], top: usize, name: usize) -> usize
+    requires { ⌜ Hung (now entries) top ⌝ }
+    ensures { λ r. ⌜ (top ≤ r) × (foundIn name (drop r (now (entries .entry))) ≡ foundIn name (drop top (now (entries .entry)))) ⌝ }
+{
+    let i = entries[name % 256];
+    if i < top {
+        return top;
+    }
+    i
+}
+
+// The next entry after one with another name that can have this one.
+fn after(entries: &[usize], top: usize, at: usize, name: usize) -> usize
+    requires { ⌜ Hung (now entries) top × (top ≤ at) × (at < length (now entries)) × (getD (now entries) at 0 % 65536 ≡ name → ⊥) ⌝ }
+    ensures { λ r. ⌜ (at < r) × (foundIn name (drop r (now (entries .entry))) ≡ foundIn name (drop at (now (entries .entry)))) ⌝ }
+{
+    if entries[at] % 256 == name % 256 {
+        return entries[at - 512];
+    }
+    at + 1
 }
 
 // An entry is a name and, times 65536, the offset of the record that declares it. This gives the offset for a name: the first entry
 // from `top` on that has it.
 fn find(entries: &[usize], top: usize, name: usize) -> Found
+    requires { ⌜ Hung (now entries) top ⌝ }
     ensures { λ r. ⌜ (r ≡ foundIn name (drop top (now (entries .entry)))) × Near r ⌝ }
 {
-    let mut i = top;
+    let mut i = first(entries, top, name);
     while i < entries.len() {
         let e = entries[i];
         if e % 65536 == name {
             return Found::At(e / 65536);
         }
-        i += 1;
+        i = after(entries, top, i, name);
     }
     Found::Nothing
+}
+
+fn later(i: usize, at: usize) -> usize
+    requires { ⌜ at < 2 ^ 32 ⌝ }
+    ensures { λ r. ⌜ (at < r) × (r ≤ max i (at + 1)) ⌝ }
+{
+    if i <= at {
+        return at + 1;
+    }
+    i
+}
+
+// An entry becomes the first of its chain.
+fn hang_one(entries: &mut [usize], at: usize)
+    requires { ⌜ Hung (now entries) (at + 1) × (768 ≤ at) × (at < 1280) ⌝ }
+    ensures hung { λ _. ⌜ Hung (now (entries .exit)) at ⌝ }
+    ensures kept { λ _. ⌜ drop 768 (now (entries .exit)) ≡ drop 768 (now (entries .entry)) ⌝ }
+{
+    let h = entries[at] % 256;
+    let i = entries[h];
+    entries[at - 512] = later(i, at);
+    entries[h] = at;
+}
+
+// The entries from `base` to `top`, the last one first.
+fn hang(entries: &mut [usize], base: usize, top: usize)
+    requires { ⌜ Hung (now entries) top × (768 ≤ base) × (base ≤ top) × (top ≤ 1280) ⌝ }
+    ensures hung { λ _. ⌜ Hung (now (entries .exit)) base ⌝ }
+    ensures kept { λ _. ⌜ drop 768 (now (entries .exit)) ≡ drop 768 (now (entries .entry)) ⌝ }
+{
+    let mut i = top;
+    while base < i {
+        i -= 1;
+        hang_one(entries, i);
+    }
+}
+
+// The nearest entry leaves its chain.
+fn free_one(entries: &mut [usize], at: usize)
+    requires { ⌜ Hung (now entries) at × (at < 1280) ⌝ }
+    ensures hung { λ _. ⌜ Hung (now (entries .exit)) (at + 1) ⌝ }
+    ensures kept { λ _. ⌜ drop 768 (now (entries .exit)) ≡ drop 768 (now (entries .entry)) ⌝ }
+{
+    let h = entries[at] % 256;
+    entries[h] = entries[at - 512];
+}
+
+fn free(entries: &mut [usize], base: usize, top: usize)
+    requires { ⌜ Hung (now entries) base × (base ≤ top) × (top ≤ 1280) ⌝ }
+    ensures hung { λ _. ⌜ Hung (now (entries .exit)) top ⌝ }
+    ensures kept { λ _. ⌜ drop 768 (now (entries .exit)) ≡ drop 768 (now (entries .entry)) ⌝ }
+{
+    let mut i = base;
+    while i < top {
+        free_one(entries, i);
+        i += 1;
+    }
 }
 
 fn kind_number(x: usize) -> usize
@@ -121,7 +207,7 @@ fn uses(
     kind: usize,
     name: usize,
 ) -> Verdict
-    requires { ⌜ kind ≤ 2 ⌝ }
+    requires { ⌜ (kind ≤ 2) × Hung (now entries) top ⌝ }
     ensures { λ r. ⌜ r ≡ verdictOf (definitions.uses (scopeFrom (now (script .entry)) (now (entries .entry)) top) at (kindOf kind) name) ⌝ }
 {
     let Found::At(place) = find(entries, top, name) else {
@@ -135,7 +221,7 @@ fn uses(
 
 // The arguments of the call at an offset are visible, whatever their kind.
 fn visible(script: &[u8], entries: &[usize], top: usize, at: usize, count: usize) -> Verdict
-    requires { ⌜ (at < 2 ^ 32) × (count < 65536) ⌝ }
+    requires { ⌜ (at < 2 ^ 32) × (count < 65536) × Hung (now entries) top ⌝ }
     ensures { λ r.
         ⌜ r ≡ verdictOf (definitions.allVisible
         (scopeFrom (now (script .entry)) (now (entries .entry)) top) at (namesAt (now (script .entry)) at count)) ⌝ }
@@ -159,7 +245,7 @@ fn matching(
     formals: usize,
     count: usize,
 ) -> bool
-    requires { ⌜ (at < 2 ^ 32) × (formals < 2 ^ 50) × (count < 65536) ⌝ }
+    requires { ⌜ (at < 2 ^ 32) × (formals < 2 ^ 50) × (count < 65536) × Hung (now entries) top ⌝ }
     ensures { λ r. ⌜ r ≡ definitions.agree (kindsAt (now (script .entry)) formals count)
         (argumentsAt (now (script .entry)) (now (entries .entry)) top at count) ⌝ }
 {
@@ -186,7 +272,7 @@ fn agrees(
     place: usize,
     count: usize,
 ) -> Verdict
-    requires { ⌜ (at < 2 ^ 32) × (place < 2 ^ 48) × (count < 65536) ⌝ }
+    requires { ⌜ (at < 2 ^ 32) × (place < 2 ^ 48) × (count < 65536) × Hung (now entries) top ⌝ }
     ensures { λ r.
         ⌜ r ≡ verdictOf (definitions.agrees at (some (meaningAt (now (script .entry)) place))
         (argumentsAt (now (script .entry)) (now (entries .entry)) top at count)) ⌝ }
@@ -205,7 +291,7 @@ fn agrees(
 
 // CL: the name called, then its arguments, then 11.
 fn call(script: &[u8], entries: &[usize], top: usize, at: usize) -> Verdict
-    requires { ⌜ at < 2 ^ 32 ⌝ }
+    requires { ⌜ (at < 2 ^ 32) × Hung (now entries) top ⌝ }
     ensures { λ r.
         ⌜ r ≡ verdictOf (definitions.judgeAction (scopeFrom (now (script .entry)) (now (entries .entry)) top) at (callAt (now (script .entry)) at)) ⌝ }
 {
@@ -236,7 +322,7 @@ fn both(
     other: usize,
     second: usize,
 ) -> Verdict
-    requires { ⌜ (kind ≤ 2) × (other ≤ 2) × (first < 2 ^ 33) × (second < 2 ^ 33) ⌝ }
+    requires { ⌜ (kind ≤ 2) × (other ≤ 2) × (first < 2 ^ 33) × (second < 2 ^ 33) × Hung (now entries) top ⌝ }
     ensures { λ r.
         ⌜ r ≡ verdictOf (pairJudged (scopeFrom (now (script .entry)) (now (entries .entry)) top) at
         (kindOf kind) (wordAt (now (script .entry)) first) (kindOf other) (wordAt (now (script .entry)) second)) ⌝ }
@@ -258,7 +344,7 @@ fn three(
     second: usize,
     third: usize,
 ) -> Verdict
-    requires { ⌜ (first < 2 ^ 33) × (second < 2 ^ 33) × (third < 2 ^ 33) ⌝ }
+    requires { ⌜ (first < 2 ^ 33) × (second < 2 ^ 33) × (third < 2 ^ 33) × Hung (now entries) top ⌝ }
     ensures { λ r.
         ⌜ r ≡ verdictOf (tripleJudged (scopeFrom (now (script .entry)) (now (entries .entry)) top) at
         (wordAt (now (script .entry)) first) (wordAt (now (script .entry)) second) (wordAt (now (script .entry)) third)) ⌝ }
@@ -271,13 +357,12 @@ fn three(
 }
 
 // A statement other than BK: its names left to right.
-fn action(script: &[u8], entries: &[usize], top: usize, at: usize) -> Verdict
-    requires { ⌜ at < 2 ^ 32 ⌝ }
+fn action(script: &[u8], entries: &[usize], top: usize, at: usize, mark: usize) -> Verdict
+    requires { ⌜ (at < 2 ^ 32) × Hung (now entries) top × (mark ≡ wordAt (now script) at) ⌝ }
     ensures { λ r.
         ⌜ r ≡ verdictOf (judgedAs (shapeOf (wordAt (now (script .entry)) at))
         (scopeFrom (now (script .entry)) (now (entries .entry)) top) (now (script .entry)) at) ⌝ }
 {
-    let mark = word(script, at);
     if mark == CL {
         return call(script, entries, top, at);
     }
@@ -327,11 +412,10 @@ fn size(mark: usize) -> usize
     6
 }
 
-fn pass(script: &[u8], at: usize) -> Step
-    requires { ⌜ at < 2 ^ 32 ⌝ }
+fn pass(script: &[u8], at: usize, mark: usize) -> Step
+    requires { ⌜ (at < 2 ^ 32) × (mark ≡ wordAt (now script) at) ⌝ }
     ensures { λ r. ⌜ Passed (now (script .entry)) at r ⌝ }
 {
-    let mark = word(script, at);
     if mark == BK {
         return Step {
             next: at + 6,
@@ -367,7 +451,7 @@ fn skip(script: &[u8], at: usize) -> usize
         if script.len() <= here {
             return here;
         }
-        let s = pass(script, here);
+        let s = pass(script, here, word(script, here));
         pending = pending - 1 + s.more;
         here = s.next;
     }
@@ -379,6 +463,7 @@ fn push(script: &[u8], entries: &mut [usize], at: usize, count: usize, base: usi
     requires { ⌜ (length (now script) ≤ 8192) × (at ≤ 1000000) × (base + count ≤ length (now entries)) ⌝ }
     ensures pushed { λ _. ⌜ Pushed (now (script .entry)) at count base (now (entries .exit)) ⌝ }
     ensures kept { λ _. ⌜ drop (base + count) (now (entries .exit)) ≡ drop (base + count) (now (entries .entry)) ⌝ }
+    ensures below { λ _. ⌜ take base (now (entries .exit)) ≡ take base (now (entries .entry)) ⌝ }
 {
     let mut here = at;
     let mut i = 0;
@@ -401,10 +486,11 @@ fn onward(v: Verdict, next: usize) -> Progress
 
 // So many formals at an offset and their block after them. Its names are put below `top` before any of its text is judged.
 fn block(script: &[u8], entries: &mut [usize], at: usize, count: usize, top: usize) -> Progress
-    requires { ⌜ (length (now script) ≤ 8192) × (at ≤ 500000) × (count < 65536) × (top ≤ length (now entries)) ⌝ }
+    requires { ⌜ (length (now script) ≤ 8192) × (at ≤ 500000) × (count < 65536) × (top ≤ length (now entries)) × Hung (now entries) top ⌝ }
     ensures judged { λ r. ⌜ BlockJudged (now (script .entry)) (now (entries .entry)) at count top r ⌝ }
     ensures ahead { λ r. ⌜ Ahead at (length (now (script .entry))) r ⌝ }
     ensures kept { λ r. ⌜ drop top (now (entries .exit)) ≡ drop top (now (entries .entry)) ⌝ }
+    ensures hung { λ r. ⌜ Hung (now (entries .exit)) top ⌝ }
 {
     let start = at + 6 * count;
     if word(script, start) != BK {
@@ -412,21 +498,25 @@ fn block(script: &[u8], entries: &mut [usize], at: usize, count: usize, top: usi
     }
     let d = word(script, start + 2);
     let s = word(script, start + 4);
-    if top < count + d {
+    if top < 768 + (count + d) {
         return Progress::Refused(Refusal::TooManyNames, start);
     }
     let base = top - (count + d);
     push(script, entries, start + 6, d, base + count);
     push(script, entries, at, count, base);
-    items(script, entries, start + 6, d + s, base)
+    hang(entries, base, top);
+    let judged = items(script, entries, start + 6, d + s, base);
+    free(entries, base, top);
+    judged
 }
 
 // So many declarations and statements from an offset on.
 fn items(script: &[u8], entries: &mut [usize], at: usize, count: usize, top: usize) -> Progress
-    requires { ⌜ (length (now script) ≤ 8192) × (at ≤ length (now script) + 131076) × (count ≤ 131070) × (top ≤ length (now entries)) ⌝ }
+    requires { ⌜ (length (now script) ≤ 8192) × (at ≤ length (now script) + 131076) × (count ≤ 131070) × (top ≤ length (now entries)) × Hung (now entries) top ⌝ }
     ensures judged { λ r. ⌜ ItemsJudged (now (script .entry)) (now (entries .entry)) at count top r ⌝ }
     ensures ahead { λ r. ⌜ Ahead at (length (now (script .entry))) r ⌝ }
     ensures kept { λ r. ⌜ drop top (now (entries .exit)) ≡ drop top (now (entries .entry)) ⌝ }
+    ensures hung { λ r. ⌜ Hung (now (entries .exit)) top ⌝ }
 {
     let mut here = at;
     let mut i = 0;
@@ -446,10 +536,11 @@ fn items(script: &[u8], entries: &mut [usize], at: usize, count: usize, top: usi
 
 // One declaration or statement.
 fn item(script: &[u8], entries: &mut [usize], at: usize, top: usize) -> Progress
-    requires { ⌜ (length (now script) ≤ 8192) × (at < length (now script)) × (top ≤ length (now entries)) ⌝ }
+    requires { ⌜ (length (now script) ≤ 8192) × (at < length (now script)) × (top ≤ length (now entries)) × Hung (now entries) top ⌝ }
     ensures judged { λ r. ⌜ ItemJudged (now (script .entry)) (now (entries .entry)) at top r ⌝ }
     ensures ahead { λ r. ⌜ Ahead at (length (now (script .entry))) r ⌝ }
     ensures kept { λ r. ⌜ drop top (now (entries .exit)) ≡ drop top (now (entries .entry)) ⌝ }
+    ensures hung { λ r. ⌜ Hung (now (entries .exit)) top ⌝ }
 {
     let mark = word(script, at);
     if mark == PR {
@@ -458,14 +549,14 @@ fn item(script: &[u8], entries: &mut [usize], at: usize, top: usize) -> Progress
     if mark == BK {
         return block(script, entries, at, 0, top);
     }
-    let passed = pass(script, at);
+    let passed = pass(script, at, mark);
     if mark == VR {
         return Progress::At(passed.next);
     }
     if mark == LB {
         return Progress::At(passed.next);
     }
-    onward(action(script, entries, top, at), passed.next)
+    onward(action(script, entries, top, at, mark), passed.next)
 }
 
 fn settled(p: Progress) -> Verdict
@@ -482,6 +573,6 @@ pub fn scope_verdict(script: &[u8]) -> Verdict
     requires { ⌜ length (now script) ≤ 8192 ⌝ }
     ensures { λ r. ⌜ Judged (program 0 (fieldsOf (now (script .entry)))) r ⌝ }
 {
-    let mut entries = [0usize; 512];
-    settled(block(script, &mut entries, 0, 0, 512))
+    let mut entries = [1280usize; 1280];
+    settled(block(script, &mut entries, 0, 0, 1280))
 }

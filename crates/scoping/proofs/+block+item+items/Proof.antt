@@ -8,10 +8,12 @@ use native.Mathlib.Omega.{arith}
 use lib.ListN.{length, drop}
 use Rattle.language.specs.Encoding.{BK-mark}
 use Rattle.scoping.specs.Entries.{wordAt, scopeOf}
-use Rattle.scoping.specs.Items.{Item, itemFields}
-use Rattle.scoping.specs.Walking.{progressOf, judgeItem, Ahead, ItemsHere}
+use Rattle.scoping.specs.Chains.{Hung}
+use Rattle.scoping.specs.Items.{Item, itemFields, itemsFields}
+use Rattle.scoping.specs.Walking.{progressOf, judgeItem, judgeItems, Ahead, ItemsHere}
 use Rattle.scoping.proofs.Statements.{block-mark, item-PR, item-BK, item-VR, item-LB, item-action, ahead-onward}
 use Rattle.scoping.proofs.Walking.{Remaining, remaining-start, remaining-step, remaining-stop, remaining-inside, remaining-end}
+use Rattle.scoping.proofs.Chains.{kept-from, pushed-hung}
 use Rattle.scoping.proofs.Blocks.{word-within, ahead-from, kept-below, block-room, block-judged}
 use Prim.Native.Nat.{ℕ, _<_}
 use borrow.Fn.Kinds.{In}
@@ -30,6 +32,8 @@ use Rattle.scoping.proofs.onward.Reads as onward-reads
 use Rattle.scoping.proofs.pass.Reads as pass-reads
 use Rattle.scoping.proofs.push.Reads as push-reads
 use Rattle.scoping.proofs.word.Reads as word-reads
+use Rattle.scoping.proofs.hang.Reads as hang-reads
+use Rattle.scoping.proofs.free.Reads as free-reads
 use Rattle.scoping.proofs.+block+item+items.{statement}
 use Rattle.scoping.proofs.+block+item+items.Tie.{close}
 
@@ -62,7 +66,7 @@ items-below t = and 2 items-kinds.ps (falls 2 items-kinds.ps _<_ μ-items t) ite
 
 -- what each may use of those that it calls
 abbrev block-claims : ℕ → block-lts.Claims
-block-claims t = (word-reads.Asked, word-reads.Learnt, push-reads.Asked, push-reads.Learnt, items-below t, items.Post)
+block-claims t = (word-reads.Asked, word-reads.Learnt, push-reads.Asked, push-reads.Learnt, hang-reads.Asked, hang-reads.Learnt, items-below t, items.Post, free-reads.Asked, free-reads.Learnt)
 
 abbrev item-claims : ℕ → item-lts.Claims
 item-claims t = (
@@ -95,7 +99,7 @@ block-returns t c =
     let w = c .before in
     let a = w .before .before .before .args in (
       λ b fs level h. absurd (c .if1 .taken (w .word .ensures .0 ∙ block-mark (a .script .now) (a .at + 6 * a .count) b (h .stand))),
-      (tt, refl),
+      (tt, (refl, w .before .before .before .pre .1 .4)),
     )
 
 block-add-word : (t : ℕ) → block-lts.Need-add-word (block-claims t) (block-at t) block.Post
@@ -113,13 +117,16 @@ block-word-requires-3 t c κs = search needs
 block-add-if2 : (t : ℕ) → block-lts.Need-add-if2 (block-claims t) (block-at t) block.Post
 block-add-if2 t c = search needs
 
+block-add-if2-2 : (t : ℕ) → block-lts.Need-add-if2-2 (block-claims t) (block-at t) block.Post
+block-add-if2-2 t c = search needs
+
 block-returns-2 : (t : ℕ) → block-lts.Need-returns-2 (block-claims t) (block-at t) block.Post
 block-returns-2 t c =
     let w = c .before .before in
     let a = w .before .before .before .before .before .args in (
       λ b fs level h. absurd
           (omega (arith, c .if2 .taken, w .word2 .ensures .0, block-room (a .script .now) (a .at) (a .count) (a .top) b fs level h)),
-      (tt, refl),
+      (tt, (refl, w .before .before .before .before .before .pre .1 .4)),
     )
 
 block-add-base : (t : ℕ) → block-lts.Need-add-base (block-claims t) (block-at t) block.Post
@@ -146,42 +153,76 @@ block-add-items t c = search needs
 block-add-items-2 : (t : ℕ) → block-lts.Need-add-items-2 (block-claims t) (block-at t) block.Post
 block-add-items-2 t c = search needs
 
-block-items-requires : (t : ℕ) → block-lts.Need-items-requires (block-claims t) (block-at t) block.Post
-block-items-requires t c κs =
+block-hang-requires : (t : ℕ) → block-lts.Need-hang-requires (block-claims t) (block-at t) block.Post
+block-hang-requires t c κs =
+    let p₂ = c .before .before .before in
+    let p₁ = c .before .before .before .before .before .before .before in
+    let d = c .before .before .before .before .before .before .before .before .before .before .before .word2 .result in
     let st = c .before .before .before .before .before .before .before .before .before .before .before .before .before .before .before .before in
     let a = st .args in
-    let w : wordAt (a .script .now) (a .at + 6 * a .count) ≡ BK-mark = sym (c .before .before .before .before .before .before .before .before .before .before .before .before .before .word .ensures .0) ∙ c .before .before .before .before .before .before .before .before .before .before .before .before .if1 .left in
-    let inside = word-within (a .script .now) (a .at + 6 * a .count) (omega (arith, w)) in (
+    let base = a .top - (a .count + d) in
+    let l : 768 + (a .count + d) ≤ a .top = c .before .before .before .before .before .before .before .before .before .if2 .left in
+    let whole : base + (a .count + d) ≡ a .top = omega arith in (
+      pushed-hung (a .entries .now) (p₁ .push .last .1 .0) (p₂ .push2 .last .1 .0) base (a .count) d (a .top) (omega arith) whole
+          (p₁ .push .kept .1 .0) (p₂ .push2 .kept .1 .0) (p₁ .push .ensures .1 .1) (p₁ .push .ensures .1 .0)
+          (p₂ .push2 .ensures .1 .1) (p₂ .push2 .ensures .1 .0) (st .pre .1 .4),
+      omega arith,
+      omega arith,
+      omega (arith, st .pre .1 .3, st .pre .1 .4 .long),
+    )
+
+block-items-requires : (t : ℕ) → block-lts.Need-items-requires (block-claims t) (block-at t) block.Post
+block-items-requires t c κs =
+    let st = c .before .before .before .before .before .before .before .before .before .before .before .before .before .before .before .before .before .before .before .before in
+    let a = st .args in
+    let w : wordAt (a .script .now) (a .at + 6 * a .count) ≡ BK-mark = sym (c .before .before .before .before .before .before .before .before .before .before .before .before .before .before .before .before .before .word .ensures .0) ∙ c .before .before .before .before .before .before .before .before .before .before .before .before .before .before .before .before .if1 .left in
+    let inside = word-within (a .script .now) (a .at + 6 * a .count) (omega (arith, w)) in
+    let hang = c .before .before .before .hang in (
       omega (arith, inside, st .pre .0),
       (
         st .pre .1 .0,
         omega (arith, inside),
-        omega (arith, c .before .before .before .before .before .before .before .before .before .before .before .word2 .ensures .1, c .before .before .before .before .before .before .before .before .before .before .word3 .ensures .1),
-        omega (arith, st .pre .1 .3, c .before .before .before .push2 .kept .1 .0, c .before .before .before .before .before .before .before .push .kept .1 .0),
+        omega (arith, c .before .before .before .before .before .before .before .before .before .before .before .before .before .before .before .word2 .ensures .1, c .before .before .before .before .before .before .before .before .before .before .before .before .before .before .word3 .ensures .1),
+        omega (arith, st .pre .1 .3, st .pre .1 .4 .long, hang .ensures .0 .long),
+        hang .ensures .0,
       ),
     )
+
+block-free-requires : (t : ℕ) → block-lts.Need-free-requires (block-claims t) (block-at t) block.Post
+block-free-requires t c κs =
+    let st = c .before .before .before .before .before .before .before .before .before .before .before .before .before .before .before .before .before .before .before .before .before .before .before .before in
+    (c .before .before .before .items .ensures .1 .1 .1, omega arith, omega (arith, st .pre .1 .3, st .pre .1 .4 .long))
 
 block-same-length : (t : ℕ) → block-lts.Need-same-length (block-claims t) (block-at t) block.Post
 block-same-length t c = search needs
 
 block-returns-3 : (t : ℕ) → block-lts.Need-returns-3 (block-claims t) (block-at t) block.Post
 block-returns-3 t c =
-    let i = c .before .before in
-    let p₂ = c .before .before .before .before .before .before in
-    let p₁ = c .before .before .before .before .before .before .before .before .before .before in
-    let e = c .before .before .before .before .before .before .before .before .before .before .before .before in
-    let a = c .before .before .before .before .before .before .before .before .before .before .before .before .before .before .before .before .before .before .before .args in
+    let f = c .before .before .free in
+    let i = c .before .before .before .before .before .before .items in
+    let g = c .before .before .before .before .before .before .before .before .before .before .hang in
+    let p₂ = c .before .before .before .before .before .before .before .before .before .before .before .before .before .before .push2 in
+    let p₁ = c .before .before .before .before .before .before .before .before .before .before .before .before .before .before .before .before .before .before .push in
+    let e = c .before .before .before .before .before .before .before .before .before .before .before .before .before .before .before .before .before .before .before .before in
+    let a = c .before .before .before .before .before .before .before .before .before .before .before .before .before .before .before .before .before .before .before .before .before .before .before .before .before .before .before .args in
     let d = e .before .before .word2 .result in
     let s = e .before .word3 .result in
     let base = a .top - (a .count + d) in
-    let whole : base + (a .count + d) ≡ a .top = omega (arith, e .if2 .left) in (
+    let whole : base + (a .count + d) ≡ a .top = omega (arith, e .if2 .left) in
+    let hung : drop base (g .last .0) ≡ drop base (p₂ .last .1 .0) = kept-from (g .last .0) (p₂ .last .1 .0) 768 base (omega (arith, e .if2 .left)) (g .ensures .1) in (
       block-judged (a .script .now) (a .at) (a .count) (a .top) d s base (e .before .before .word2 .ensures .0) (e .before .word3 .ensures .0) whole
-          (a .entries .now) (p₁ .push .last .1 .0) (p₂ .push2 .last .1 .0) (p₂ .push2 .ensures .1) (p₁ .push .ensures .1)
-          (p₁ .push .ensures .0) (p₂ .push2 .ensures .0) (i .items .result) (i .items .ensures .0),
+          (a .entries .now) (p₁ .last .1 .0) (p₂ .last .1 .0) (p₂ .ensures .1 .0) (p₁ .ensures .1 .0)
+          (p₁ .ensures .0) (p₂ .ensures .0) (i .result)
+          (λ xs level n h. i .ensures .0 xs level n h
+          ∙ ap (λ (l : List ℕ). progressOf (judgeItems xs (scopeOf (a .script .now) l)) (a .at + 6 * a .count + 6 + 2 * length (itemsFields xs))) hung),
       (
-        ahead-from (a .at) (a .at + 6 * a .count + 6) (length (a .script .now)) (i .items .result) (omega arith) (i .items .ensures .1 .0),
-        kept-below (a .entries .now) (p₁ .push .last .1 .0) (p₂ .push2 .last .1 .0) base (a .count) d (a .top) whole (p₂ .push2 .ensures .1)
-            (p₁ .push .ensures .1) (i .items .last .1 .0) (i .items .ensures .1 .1),
+        ahead-from (a .at) (a .at + 6 * a .count + 6) (length (a .script .now)) (i .result) (omega arith) (i .ensures .1 .0),
+        (
+          kept-from (f .last .0) (i .last .1 .0) 768 (a .top) (omega (arith, e .if2 .left)) (f .ensures .1)
+              ∙ kept-below (a .entries .now) (p₁ .last .1 .0) (p₂ .last .1 .0) base (a .count) d (a .top) whole (p₂ .ensures .1 .0)
+              (p₁ .ensures .1 .0) (i .last .1 .0) (i .ensures .1 .1 .0 ∙ hung),
+          f .ensures .0,
+        ),
       ),
     )
 
@@ -227,7 +268,7 @@ item-returns-2 t c =
     let a = c .before .before .before .before .before .before .before .before .before .args in
     let sc = scopeOf (a .script .now) (drop (a .top) (a .entries .now)) in (
       item-BK (a .script .now) sc (a .at) (a .top) (sym (w .word .ensures .0) ∙ c .before .before .before .before .if2 .taken) (b .block2 .result) (b .block2 .ensures .0),
-      (b .block2 .ensures .1 .0, b .block2 .ensures .1 .1),
+      b .block2 .ensures .1,
     )
 
 item-pass-requires : (t : ℕ) → item-lts.Need-pass-requires (item-claims t) (item-at t) item.Post
@@ -240,7 +281,7 @@ item-returns-3 t c =
     let a = c .before .before .before .before .before .before .before .args in
     let sc = scopeOf (a .script .now) (drop (a .top) (a .entries .now)) in (
       item-VR (a .script .now) sc (a .at) (a .top) (p .pass .result) (p .pass .ensures) (sym (w .word .ensures .0) ∙ c .if3 .taken),
-      ((omega (arith, p .pass .ensures .on), omega (arith, p .pass .ensures .near, c .before .before .before .before .before .before .before .pre .1 .1)), refl),
+      ((omega (arith, p .pass .ensures .on), omega (arith, p .pass .ensures .near, c .before .before .before .before .before .before .before .pre .1 .1)), (refl, c .before .before .before .before .before .before .before .pre .1 .3)),
     )
 
 item-returns-4 : (t : ℕ) → item-lts.Need-returns-4 (item-claims t) (item-at t) item.Post
@@ -250,7 +291,7 @@ item-returns-4 t c =
     let a = c .before .before .before .before .before .before .before .before .args in
     let sc = scopeOf (a .script .now) (drop (a .top) (a .entries .now)) in (
       item-LB (a .script .now) sc (a .at) (a .top) (p .pass .result) (p .pass .ensures) (sym (w .word .ensures .0) ∙ c .if4 .taken),
-      ((omega (arith, p .pass .ensures .on), omega (arith, p .pass .ensures .near, c .before .before .before .before .before .before .before .before .pre .1 .1)), refl),
+      ((omega (arith, p .pass .ensures .on), omega (arith, p .pass .ensures .near, c .before .before .before .before .before .before .before .before .pre .1 .1)), (refl, c .before .before .before .before .before .before .before .before .pre .1 .3)),
     )
 
 item-action-requires : (t : ℕ) → item-lts.Need-action-requires (item-claims t) (item-at t) item.Post
@@ -277,7 +318,7 @@ item-returns-5 t c =
       (
         ahead-onward (a .at) (length (a .script .now)) (p .pass .result .next) (v .action .result) (c .onward .result) (c .onward .ensures)
             (omega (arith, p .pass .ensures .on)) (omega (arith, p .pass .ensures .near, c .before .before .before .before .before .before .before .before .before .before .before .pre .1 .1)),
-        refl,
+        (refl, c .before .before .before .before .before .before .before .before .before .before .before .pre .1 .3),
       ),
     )
 
@@ -289,6 +330,7 @@ items-Inv-loop script entries₀ at count top here₀ i₀ entries here i =
     × (length entries ≡ length entries₀)
     × (drop top entries ≡ drop top entries₀)
     × ((xs : List Item) (level s : ℕ) → ItemsHere script at count top xs level s → Remaining script entries₀ at here i count top xs level s)
+    × Hung entries top
 
 abbrev items-μ-loop : items-lts.MeasureT-loop
 items-μ-loop script entries₀ at count top here₀ i₀ entries here i = count - i
@@ -302,6 +344,7 @@ items-loop-holds t c =
       refl,
       refl,
       λ xs level s h. remaining-start (a .script .now) (a .entries .now) (a .at) (a .count) (a .top) xs level s h,
+      c .before .before .pre .1 .4,
     )
 
 items-same-length : (t : ℕ) → items-lts.Need-same-length (items-claims t) (items-at t) items.Post items-Inv-loop items-μ-loop
@@ -314,7 +357,7 @@ items-returns t c =
       λ xs level s h. absurd
           (remaining-inside (a .script .now) (a .entries .now) (a .at) (a .count) (a .top) xs level s (l .here) (l .i) (c .before .loop-test .taken)
           (l .inv .5 xs level s h) (c .if1 .taken)),
-      (tt, l .inv .4),
+      (tt, (l .inv .4, l .inv .6)),
     )
 
 items-item-requires : (t : ℕ) → items-lts.Need-item-requires (items-claims t) (items-at t) items.Post items-Inv-loop items-μ-loop
@@ -338,7 +381,7 @@ items-returns-2 t c =
           (c .before .before .before .before .before .before .before .loop-test .taken) (r .item .result)
           (λ x k n g. r .item .ensures .0 x k n g ∙ ap (λ (es : List ℕ). progressOf (judgeItem x (scopeOf (a .script .now) es)) (l .here + 2 * length (itemFields x))) (l .inv .4))
           _ _ (c .enum-told .given .1) (l .inv .5 xs level s h),
-      (ahead-from (a .at) (l .here) (length (a .script .now)) (r .item .result) (l .inv .1) (r .item .ensures .1 .0), r .item .ensures .1 .1 ∙ l .inv .4),
+      (ahead-from (a .at) (l .here) (length (a .script .now)) (r .item .result) (l .inv .1) (r .item .ensures .1 .0), (r .item .ensures .1 .1 .0 ∙ l .inv .4, r .item .ensures .1 .1 .1)),
     )
 
 items-add-i : (t : ℕ) → items-lts.Need-add-i (items-claims t) (items-at t) items.Post items-Inv-loop items-μ-loop
@@ -358,11 +401,12 @@ items-loop-again t c =
       omega (arith, on .0, l .inv .1),
       on .1,
       r .item .kept .1 .0 ∙ l .inv .3,
-      r .item .ensures .1 .1 ∙ l .inv .4,
+      r .item .ensures .1 .1 .0 ∙ l .inv .4,
       λ xs level s h. remaining-step (a .script .now) (a .entries .now) (a .at) (a .count) (a .top) xs level s (l .here) (l .i)
           (c .before .before .before .before .before .before .before .before .loop-test .taken) (r .item .result)
           (λ x k n g. r .item .ensures .0 x k n g ∙ ap (λ (es : List ℕ). progressOf (judgeItem x (scopeOf (a .script .now) es)) (l .here + 2 * length (itemFields x))) (l .inv .4))
           next (c .before .judged .given .1) (l .inv .5 xs level s h),
+      r .item .ensures .1 .1 .1,
     )
 
 items-same-length-3 : (t : ℕ) → items-lts.Need-same-length-3 (items-claims t) (items-at t) items.Post items-Inv-loop items-μ-loop
@@ -374,7 +418,7 @@ items-returns-3 t c =
     let a = c .before .before .before .before .args in (
       λ xs level s h. remaining-end (a .script .now) (a .entries .now) (a .at) (a .count) (a .top) xs level s (l .here) (l .i) (c .loop-test .left)
           (l .inv .5 xs level s h),
-      ((l .inv .1, l .inv .2), l .inv .4),
+      ((l .inv .1, l .inv .2), (l .inv .4, l .inv .6)),
     )
 
 pub +block+item+items-spec : {M : Type 1} → statement M
@@ -390,6 +434,7 @@ pub +block+item+items-spec : {M : Type 1} → statement M
     (block-add-word-2 t)
     (block-word-requires-3 t)
     (block-add-if2 t)
+    (block-add-if2-2 t)
     (block-returns-2 t)
     (block-add-base t)
     (block-sub-base t)
@@ -397,9 +442,11 @@ pub +block+item+items-spec : {M : Type 1} → statement M
     (block-add-push-2 t)
     (block-push-requires t)
     (block-push-requires-2 t)
+    (block-hang-requires t)
     (block-add-items t)
     (block-add-items-2 t)
     (block-items-requires t)
+    (block-free-requires t)
     (block-same-length t)
     (block-returns-3 t))
     (λ t. item-lts.spec (item-claims t)

@@ -10,26 +10,23 @@ use borrow.Author.Needs.{needs}
 use Rattle.scoping.proofs.action.Statement.{statement}
 use Rattle.scoping.proofs.action.Tie as tie
 
-word-requires : tie.Need-word-requires
-word-requires c κs = search needs
-
 call-requires : tie.Need-call-requires
 call-requires c κs = search needs
 
 returns : tie.Need-returns
 unfolding shapeOf judgedAs kindOf
 returns c =
-    let w = c .before .before in
-    let a = w .before .before .before .args in
+    let st = c .before .before .before .before in
+    let a = st .args in
     let sc = scopeOf (a .script .now) (drop (a .top) (a .entries .now)) in
-    shaped (a .script .now) sc (a .at) (w .word .result) isCL _ (w .word .ensures .0) (ap shapeOf (c .before .if1 .taken))
+    shaped (a .script .now) sc (a .at) (a .mark) isCL _ (st .pre .2) (ap shapeOf (c .before .if1 .taken))
     (c .call .ensures)
 
 add-word : tie.Need-add-word
 add-word c = search needs
 
-word-requires-2 : tie.Need-word-requires-2
-word-requires-2 c κs = search needs
+word-requires : tie.Need-word-requires
+word-requires c κs = search needs
 
 uses-requires : tie.Need-uses-requires
 uses-requires c κs = search needs
@@ -37,11 +34,11 @@ uses-requires c κs = search needs
 returns-2 : tie.Need-returns-2
 unfolding shapeOf judgedAs kindOf
 returns-2 c =
-    let w = c .before .before .before .before in
-    let a = w .before .before .before .args in
+    let st = c .before .before .before .before .before .before in
+    let a = st .args in
     let sc = scopeOf (a .script .now) (drop (a .top) (a .entries .now)) in
-    shaped (a .script .now) sc (a .at) (w .word .result) isGO _ (w .word .ensures .0) (ap shapeOf (c .before .before .if2 .taken))
-    (c .uses .ensures ∙ ap (λ (n : ℕ). verdictOf (uses sc (a .at) label n)) (c .before .word2 .ensures .0))
+    shaped (a .script .now) sc (a .at) (a .mark) isGO _ (st .pre .2) (ap shapeOf (c .before .before .if2 .taken))
+    (c .uses .ensures ∙ ap (λ (n : ℕ). verdictOf (uses sc (a .at) label n)) (c .before .word .ensures .0))
 
 add-both : tie.Need-add-both
 add-both c = search needs
@@ -55,17 +52,17 @@ both-requires c κs = search needs
 returns-3 : tie.Need-returns-3
 unfolding shapeOf judgedAs kindOf
 returns-3 c =
-    let w = c .before .before .before .before in
-    let a = w .before .before .before .args in
+    let st = c .before .before .before .before .before .before in
+    let a = st .args in
     let sc = scopeOf (a .script .now) (drop (a .top) (a .entries .now)) in
-    shaped (a .script .now) sc (a .at) (w .word .result) isIF _ (w .word .ensures .0) (ap shapeOf (c .before .if3 .taken))
+    shaped (a .script .now) sc (a .at) (a .mark) isIF _ (st .pre .2) (ap shapeOf (c .before .if3 .taken))
     (c .both .ensures)
 
 add-word-2 : tie.Need-add-word-2
 add-word-2 c = search needs
 
-word-requires-3 : tie.Need-word-requires-3
-word-requires-3 c κs = search needs
+word-requires-2 : tie.Need-word-requires-2
+word-requires-2 c κs = search needs
 
 uses-requires-2 : tie.Need-uses-requires-2
 uses-requires-2 c κs = search needs
@@ -73,11 +70,11 @@ uses-requires-2 c κs = search needs
 returns-4 : tie.Need-returns-4
 unfolding shapeOf judgedAs kindOf
 returns-4 c =
-    let w = c .before .before .before .before .before .before in
-    let a = w .before .before .before .args in
+    let st = c .before .before .before .before .before .before .before .before in
+    let a = st .args in
     let sc = scopeOf (a .script .now) (drop (a .top) (a .entries .now)) in
-    shaped (a .script .now) sc (a .at) (w .word .result) isKN _ (w .word .ensures .0) (ap shapeOf (c .before .before .if4 .taken))
-    (c .uses2 .ensures ∙ ap (λ (n : ℕ). verdictOf (uses sc (a .at) variable n)) (c .before .word3 .ensures .0))
+    shaped (a .script .now) sc (a .at) (a .mark) isKN _ (st .pre .2) (ap shapeOf (c .before .before .if4 .taken))
+    (c .uses2 .ensures ∙ ap (λ (n : ℕ). verdictOf (uses sc (a .at) variable n)) (c .before .word2 .ensures .0))
 
 add-three : tie.Need-add-three
 add-three c = search needs
@@ -94,10 +91,10 @@ three-requires c κs = search needs
 returns-5 : tie.Need-returns-5
 unfolding shapeOf judgedAs kindOf
 returns-5 c =
-    let w = c .before .before .before .before .before .before in
-    let a = w .before .before .before .args in
+    let st = c .before .before .before .before .before .before .before .before in
+    let a = st .args in
     let sc = scopeOf (a .script .now) (drop (a .top) (a .entries .now)) in
-    shaped (a .script .now) sc (a .at) (w .word .result) isAR _ (w .word .ensures .0) (ap shapeOf (c .before .if5 .taken))
+    shaped (a .script .now) sc (a .at) (a .mark) isAR _ (st .pre .2) (ap shapeOf (c .before .if5 .taken))
     (c .three .ensures)
 
 add-three-4 : tie.Need-add-three-4
@@ -115,10 +112,10 @@ three-requires-2 c κs = search needs
 returns-6 : tie.Need-returns-6
 unfolding shapeOf judgedAs kindOf
 returns-6 c =
-    let w = c .before .before .before .before .before .before .before in
-    let a = w .before .before .before .args in
+    let st = c .before .before .before .before .before .before .before .before .before in
+    let a = st .args in
     let sc = scopeOf (a .script .now) (drop (a .top) (a .entries .now)) in
-    shaped (a .script .now) sc (a .at) (w .word .result) isQY _ (w .word .ensures .0) (ap shapeOf (c .before .if6 .taken))
+    shaped (a .script .now) sc (a .at) (a .mark) isQY _ (st .pre .2) (ap shapeOf (c .before .if6 .taken))
     (c .three2 .ensures)
 
 add-both-3 : tie.Need-add-both-3
@@ -133,21 +130,20 @@ both-requires-2 c κs = search needs
 returns-7 : tie.Need-returns-7
 unfolding shapeOf judgedAs kindOf
 returns-7 c =
-    let w = c .before .before .before .before .before .before .before in
-    let a = w .before .before .before .args in
+    let st = c .before .before .before .before .before .before .before .before .before in
+    let a = st .args in
     let sc = scopeOf (a .script .now) (drop (a .top) (a .entries .now)) in
-    shaped (a .script .now) sc (a .at) (w .word .result) isTwo _ (w .word .ensures .0) (shape-two (w .word .result) (c .before .before .before .before .before .before .if1 .left) (c .before .before .before .before .before .if2 .left) (c .before .before .before .before .if3 .left) (c .before .before .before .if4 .left) (c .before .before .if5 .left) (c .before .if6 .left))
+    shaped (a .script .now) sc (a .at) (a .mark) isTwo _ (st .pre .2) (shape-two (a .mark) (c .before .before .before .before .before .before .if1 .left) (c .before .before .before .before .before .if2 .left) (c .before .before .before .before .if3 .left) (c .before .before .before .if4 .left) (c .before .before .if5 .left) (c .before .if6 .left))
     (c .both2 .ensures)
 
 pub action-spec : {M : Type 1} → statement M
 action-spec =
     tie.close
     (tie.spec
-    word-requires
     call-requires
     returns
     add-word
-    word-requires-2
+    word-requires
     uses-requires
     returns-2
     add-both
@@ -155,7 +151,7 @@ action-spec =
     both-requires
     returns-3
     add-word-2
-    word-requires-3
+    word-requires-2
     uses-requires-2
     returns-4
     add-three

@@ -80,7 +80,7 @@ returns-3 c =
 agrees-requires : tie.Need-agrees-requires
 agrees-requires c κs =
     let h = near-place (c .before .before .before .find .result) _ (c .before .place .given .1) (c .before .before .before .find .ensures .1) in
-    (c .before .before .before .before .before .before .before .before .before .before .before .before .before .before .pre, h, c .before .before .before .before .before .before .before .before .before .before .word2 .ensures .1)
+    (c .before .before .before .before .before .before .before .before .before .before .before .before .before .before .pre .0, h, c .before .before .before .before .before .before .before .before .before .before .word2 .ensures .1, c .before .before .before .before .before .before .before .before .before .before .before .before .before .before .pre .1)
 
 returns-4 : tie.Need-returns-4
 unfolding kindOf

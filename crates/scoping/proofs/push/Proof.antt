@@ -4,7 +4,8 @@ use mathlib.Core.Path.{_≡_, refl, ap, _∙_}
 use mathlib.Core.List.{List}
 use Prim.Native.Nat.{ℕ, _+_, _*_, _-_, _≤_, max}
 use native.Mathlib.Omega.{arith}
-use lib.ListN.{length, drop, length-set}
+use lib.ListN.{length, take, drop, length-set}
+use lib.Seq.{take-set-le}
 use Rattle.scoping.specs.Standing.{Stands}
 use Rattle.scoping.specs.Items.{Item, itemsFields}
 use Rattle.scoping.proofs.Pushing.{Rest, push-start, push-step, push-end, kept-step}
@@ -18,12 +19,13 @@ Inv-loop script entries₀ at count base here₀ i₀ entries here i =
     × (length entries ≡ length entries₀)
     × (drop (base + i) entries ≡ drop (base + i) entries₀)
     × ((xs : List Item) → length xs ≡ count → Stands script at (itemsFields xs) → Rest script entries base at here i count xs)
+    × (take base entries ≡ take base entries₀)
 
 abbrev μ-loop : tie.MeasureT-loop
 μ-loop script entries₀ at count base here₀ i₀ entries here i = count - i
 
 loop-holds : tie.Need-loop-holds Inv-loop μ-loop
-loop-holds c = (omega arith, omega arith, refl, refl, λ xs n h. push-start _ _ _ _ _ xs n h)
+loop-holds c = (omega arith, omega arith, refl, refl, λ xs n h. push-start _ _ _ _ _ xs n h, refl)
 
 add-word : tie.Need-add-word Inv-loop μ-loop
 add-word c = search needs
@@ -66,6 +68,7 @@ loop-again c =
       λ xs n h. push-step (a .script .now) (l .entries) (a .base) (a .at) (l .here) (l .i) (a .count) (c .before .word .result + 65536 * l .here) xs
           (omega (arith, l .inv .2, c .before .before .before .before .before .before .pre .2)) (c .before .before .loop-test .taken)
           (ap (λ (w : ℕ). w + 65536 * l .here) (c .before .word .ensures .0)) (c .skip .result) (c .skip .ensures) (l .inv .4 xs n h),
+      take-set-le (a .base) (l .entries) (a .base + l .i) (c .before .word .result + 65536 * l .here) (omega arith) ∙ l .inv .5,
     )
 
 same-length : tie.Need-same-length Inv-loop μ-loop
@@ -77,7 +80,7 @@ returns c =
     let a = c .before .before .before .before .args in
     let e : l .i ≡ a .count = omega arith in (
       λ xs n h. push-end (a .script .now) (l .entries) (a .base) (a .at) (l .here) (l .i) (a .count) xs e (l .inv .4 xs n h),
-      rw e at (l .inv .3),
+      (rw e at (l .inv .3), l .inv .5),
     )
 
 pub push-spec : {M : Type 1} → statement M

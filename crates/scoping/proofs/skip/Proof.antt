@@ -32,6 +32,9 @@ returns c =
       close = l .inv .1;
     }
 
+word-requires : tie.Need-word-requires Inv-loop μ-loop
+word-requires c κs = search needs
+
 pass-requires : tie.Need-pass-requires Inv-loop μ-loop
 pass-requires c κs = search needs
 
@@ -47,12 +50,12 @@ loop-less c = search needs
 loop-again : tie.Need-loop-again Inv-loop μ-loop
 loop-again c =
     let q = c .before in
-    let l = c .before .before .before .before .loop in
-    let a = c .before .before .before .before .before .before .args in (
+    let l = c .before .before .before .before .before .loop in
+    let a = c .before .before .before .before .before .before .before .args in (
       omega arith,
       omega arith,
       omega arith,
-      λ x h. left-step (a .script .now) (a .at) x (l .here) (l .pending) (q .before .before .loop-test .taken) (q .pass .result)
+      λ x h. left-step (a .script .now) (a .at) x (l .here) (l .pending) (q .before .before .before .loop-test .taken) (q .pass .result)
           (q .pass .ensures) (l .inv .3 x h),
     )
 
@@ -74,6 +77,7 @@ skip-spec =
     μ-loop
     loop-holds
     returns
+    word-requires
     pass-requires
     sub-pending
     add-pending

@@ -47,7 +47,7 @@ returns-2 c =
     (ap verdictOf
     (use-right (a .script .now) (drop (a .top) (a .entries .now)) (a .at) (kindOf (a .kind)) (a .name) (b .before .before .place .given .0 .0)
     (sym (f .find .ensures .0) ∙ b .before .before .place .given .1)
-    (sym (b .kind-at .ensures) ∙ c .if1 .taken ∙ kind-is (a .kind) (a′ .pre))))
+    (sym (b .kind-at .ensures) ∙ c .if1 .taken ∙ kind-is (a .kind) (a′ .pre .0))))
 
 -- src/lib.rt:106:1
 returns-3 : tie.Need-returns-3
@@ -61,7 +61,7 @@ returns-3 c =
     (ap verdictOf
     (use-wrong (a .script .now) (drop (a .top) (a .entries .now)) (a .at) (kindOf (a .kind)) (a .name) (b .before .before .place .given .0 .0)
     (sym (f .find .ensures .0) ∙ b .before .before .place .given .1)
-    (λ e. c .if1 .left (b .kind-at .ensures ∙ e ∙ sym (kind-is (a .kind) (a′ .pre))))))
+    (λ e. c .if1 .left (b .kind-at .ensures ∙ e ∙ sym (kind-is (a .kind) (a′ .pre .0))))))
 
 pub uses-spec : {M : Type 1} → statement M
 uses-spec =

@@ -1,35 +1,62 @@
 -- `scoping::word` meets its contract. Assumes nothing.
+use Prim.Native.Nat.{_+_}
 use native.Mathlib.Omega.{arith}
+use lib.ListN.{List·getD-eq-default}
 use Rattle.scoping.specs.Entries.{wordAt}
 use borrow.Author.Needs.{needs}
 use Rattle.scoping.proofs.word.Statement.{statement}
 use Rattle.scoping.proofs.word.Tie as tie
 
--- src/lib.rt:60:5
-byte-requires : tie.Need-byte-requires
-byte-requires c κs = search needs
+add-if1 : tie.Need-add-if1
+add-if1 c = search needs
 
--- src/lib.rt:60:43
-add-byte : tie.Need-add-byte
-add-byte c = search needs
+shared-slice-read-wide : tie.Need-shared-slice-read-wide
+shared-slice-read-wide c = search needs
 
--- src/lib.rt:60:30
-byte-requires-2 : tie.Need-byte-requires-2
-byte-requires-2 c κs = search needs
+wide-requires : tie.Need-wide-requires
+wide-requires c κs = search needs
 
--- src/lib.rt:60:24
+add-wide : tie.Need-add-wide
+add-wide c = search needs
+
+shared-slice-read-wide-2 : tie.Need-shared-slice-read-wide-2
+shared-slice-read-wide-2 c = search needs
+
+wide-requires-2 : tie.Need-wide-requires-2
+wide-requires-2 c κs = search needs
+
 mul-result : tie.Need-mul-result
 mul-result c = search needs
 
--- src/lib.rt:60:5
 add-result : tie.Need-add-result
 add-result c = search needs
 
--- src/lib.rt:56:1
 returns : tie.Need-returns
 unfolding wordAt
-returns c = (let p = c .before .byte .ensures .0 in let q = c .byte2 .ensures .0 in cc, omega arith)
+returns c = (omega (arith, c .before .before .wide .ensures .0, c .wide2 .ensures .0), omega arith)
+
+byte-requires : tie.Need-byte-requires
+byte-requires c κs = search needs
+
+returns-2 : tie.Need-returns-2
+unfolding wordAt
+returns-2 c =
+    let a = c .before .before .before .args in
+    let none = List·getD-eq-default (a .script .now) 0 {n = a .at + 1} (c .before .if1 .left) in
+    (omega (arith, none), omega arith)
 
 pub word-spec : {M : Type 1} → statement M
 word-spec =
-    tie.close (tie.spec byte-requires add-byte byte-requires-2 mul-result add-result returns)
+    tie.close
+    (tie.spec
+    add-if1
+    shared-slice-read-wide
+    wide-requires
+    add-wide
+    shared-slice-read-wide-2
+    wide-requires-2
+    mul-result
+    add-result
+    returns
+    byte-requires
+    returns-2)
