@@ -4,7 +4,6 @@
 use language::Refusal;
 use language::Verdict;
 use records::Mark;
-use records::Place;
 use records::Progress;
 use records::Reading;
 ghost use mathlib.Core.Path.{_≡_};
@@ -48,7 +47,7 @@ fn formals(script: &[u8], names: &mut [u32], start: usize, p: usize, base: usize
     let mut at = start;
     let mut i = 0;
     while i < p {
-        let reading = records::read_record(script, at, Place::Formal);
+        let reading = records::read_formal(script, at);
         let Reading::Taken { next, f0, f1, .. } = reading else {
             return records::onward(reading);
         };
@@ -183,7 +182,7 @@ fn declarations(
     let mut at = start;
     let mut i = 0;
     while i < d {
-        let reading = records::read_record(script, at, Place::Declaration);
+        let reading = records::read_declaration(script, at);
         let Reading::Taken {
             mark,
             next,
@@ -230,7 +229,7 @@ fn body(
     let Progress::At(at) = formal else {
         return formal;
     };
-    let reading = records::read_record(script, at, Place::Block);
+    let reading = records::read_block(script, at);
     let Reading::Taken { next, f0, f1, .. } = reading else {
         return records::onward(reading);
     };
@@ -246,7 +245,7 @@ fn statements(script: &[u8], names: &mut [u32], start: usize, s: usize, below: u
     let mut at = start;
     let mut i = 0;
     while i < s {
-        let reading = records::read_record(script, at, Place::Statement);
+        let reading = records::read_statement(script, at);
         let Reading::Taken {
             mark,
             next,
@@ -302,7 +301,7 @@ pub fn structure(script: &[u8]) -> Verdict
     if n % 2 == 1 {
         return Verdict::Refused(Refusal::ScriptLength, 0);
     }
-    let reading = records::read_record(script, 0, Place::Block);
+    let reading = records::read_block(script, 0);
     let Reading::Taken { next, f0, f1, .. } = reading else {
         return ended(records::onward(reading), n);
     };
