@@ -22,19 +22,21 @@ fn wide(x: u32) -> usize
     x as usize
 }
 
-// Whether a name is among the count names from a base on.
+// Whether a name is among the count names from a base on. All are looked at, without a way out of the loop, so that several can be
+// compared at once.
 fn seen(names: &[u32], base: usize, count: usize, n: u32) -> bool
     requires { ⌜ base + count ≤ length (now names) ⌝ }
     ensures { λ r. ⌜ r ≡ among n (namesAt (now (names .entry)) base count) ⌝ }
 {
+    let mut found = false;
     let mut i = 0;
     while i < count {
         if names[base + i] == n {
-            return true;
+            found = true;
         }
         i += 1;
     }
-    false
+    found
 }
 
 // p formals. Their names are put from a base on.
