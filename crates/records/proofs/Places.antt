@@ -1,27 +1,27 @@
 -- The record at an offset, at each place: the cases of `recordAt`.
 -- Assumes nothing.
-use mathlib.Core.Path.{_≡_, _∙_, ap}
+use mathlib.Core.Path.{_≡_, refl, sym, _∙_, ap}
+use mathlib.Core.Bool.{Bool, true, false}
 use mathlib.Core.List.{List}
 use Prim.Native.Nat.{ℕ, _+_, _*_, _<_, _≤_}
-use lib.ListN.{length, getD, take}
+use native.Mathlib.Omega.{arith}
+use native.Mathlib.Decide.{decLe}
+use lib.Dec.{leb}
+use lib.ListN.{length, getD}
+use borrow.Author.Tests.{leb-true, leb-false, le-leb, lt-leb}
 use Rattle.language.specs.Encoding.{two}
 use Rattle.language.specs.Structure.{Row, blockMarks, formalMarks, declMarks, stmtMarks, take-record}
 use Rattle.language.specs.declared.Refusal.the-variants.{PastTheEnd, MarkMisplaced}
-use Rattle.records.specs.Taking.{unread, declMark, stmtMark, onlyMark, fitIn, fitAt, taken, recordAt}
+use Rattle.records.specs.Taking.{unread, declMark, stmtMark, onlyMark, fitIn, fitAt, taken, takenAt, restAt, recordAt}
 use Rattle.records.specs.declared.Mark.{Mark}
 use Rattle.records.specs.declared.Mark.the-variants.{BK, FM}
 use Rattle.records.specs.declared.Place.{Place}
 use Rattle.records.specs.declared.Place.the-variants.{Block, Formal, Declaration, Statement}
+use Rattle.records.specs.declared.Fit.{Fit}
 use Rattle.records.specs.declared.Fit.the-variants.{Found, Nothing}
 use Rattle.records.specs.declared.Reading.{Reading}
 use Rattle.records.specs.declared.Reading.the-variants.{Taken, Refused}
 use Rattle.records.proofs.Taking.{fitted, no-mark, misplaced, cut-off, whole}
-
--- a record of n fields with the mark m, its fields from an offset on
-abbrev pub takenAt : Mark → ℕ → List ℕ → ℕ → Reading
-takenAt m n bs from =
-    Taken m (from + 2 * n) (getD (take n (unread bs from)) 0 0) (getD (take n (unread bs from)) 1 0)
-    (getD (take n (unread bs from)) 2 0) (getD (take n (unread bs from)) 3 0)
 
 module _ (bs : List ℕ) (at : ℕ) where
   abbrev letters : ℕ
@@ -72,3 +72,40 @@ module _ (bs : List ℕ) (at : ℕ) where
   at-whole Formal = whole-of (onlyMark FM) formalMarks
   at-whole Declaration = whole-of declMark declMarks
   at-whole Statement = whole-of stmtMark stmtMarks
+
+-- what comes after a mark, by the room that is left
+module _ (n : ℕ) (m : Mark) (bs : List ℕ) (at : ℕ) where
+  pub rest-whole : at + 2 + 2 * n ≤ length bs → restAt (Found n m) bs at ≡ takenAt m n bs (at + 2)
+  unfolding restAt
+  rest-whole h = rw (le-leb (at + 2 + 2 * n) (length bs) h, restAt)
+
+  pub rest-cut : length bs < at + 2 + 2 * n → restAt (Found n m) bs at ≡ Refused PastTheEnd at
+  unfolding restAt
+  rest-cut h = rw (lt-leb (at + 2 + 2 * n) (length bs) h, restAt)
+
+pub rest-stray : (bs : List ℕ) (at : ℕ) → restAt Nothing bs at ≡ Refused MarkMisplaced at
+unfolding restAt
+rest-stray bs at = refl
+
+module _ (p : Place) (bs : List ℕ) (at : ℕ) (h : at + 2 ≤ length bs) where
+  by-room : (n : ℕ) (m : Mark) → fitAt p (letters bs at) ≡ Found n m → Dec (at + 2 + 2 * n ≤ length bs) → restAt (Found n m) bs at ≡ recordAt p bs at
+  by-room n m e (yes fits) = rest-whole n m bs at fits ∙ sym (at-whole bs at p n m h e fits)
+  by-room n m e (no short) = rest-cut n m bs at (omega arith) ∙ sym (at-cut bs at p n m h e (omega arith))
+
+  by-row : (x : Fit) → fitAt p (letters bs at) ≡ x → restAt x bs at ≡ recordAt p bs at
+  by-row (Found n m) e = by-room n m e (decLe (at + 2 + 2 * n) (length bs))
+  by-row Nothing e = rest-stray bs at ∙ sym (at-stray bs at p h e)
+
+  pub at-rest : restAt (fitAt p (letters bs at)) bs at ≡ recordAt p bs at
+  at-rest = by-row (fitAt p (letters bs at)) refl
+
+-- the same by the code's test whether a mark is there
+module _ (bs : List ℕ) (at : ℕ) {b : Bool} (e : b ≡ leb (at + 2) (length bs)) where
+  pub present : b ≡ true → at + 2 ≤ length bs
+  present t = leb-true (at + 2) (length bs) (sym e ∙ t)
+
+  pub at-present : (p : Place) {w : ℕ} {x : Fit} {r : Reading} → b ≡ true → w ≡ letters bs at → x ≡ fitAt p w → r ≡ restAt x bs at → r ≡ recordAt p bs at
+  at-present p t q f s = s ∙ ap (λ (x : Fit). restAt x bs at) (f ∙ ap (fitAt p) q) ∙ at-rest p bs at (present t)
+
+  pub at-absent : (p : Place) → b ≡ false → Refused PastTheEnd at ≡ recordAt p bs at
+  at-absent p t = let h = leb-false (at + 2) (length bs) (sym e ∙ t) in sym (at-none bs at p (omega arith))

@@ -1,16 +1,16 @@
 -- What reading one record gives, as the code's enums have it: the definitions' readers over the bytes from an offset on.
-use Prim.Native.Nat.{ℕ, _+_, _≤_, _<_}
+use Prim.Native.Nat.{ℕ, _+_, _*_, _≤_, _<_}
 use mathlib.Core.Bool.{Bool, true, false}
 use mathlib.Core.List.{List, [], _∷_}
-use lib.Dec.{eqb}
-use lib.ListN.{getD, drop}
+use lib.Dec.{eqb, leb}
+use lib.ListN.{length, getD, take, drop}
 use Rattle.language.specs.Encoding.{fieldsOf}
 use Rattle.language.specs.Structure.{Reading as Outcome, read, refuse, Row, Record, DeclMark, isVR, isLB, isPR, StmtMark, isBK, isCL, isGO, isIF, isKN, isAR, isAD, isRM, isQY, blockMarks, formalMarks, declMarks, stmtMarks, take-record}
+use Rattle.language.specs.declared.Refusal.the-variants.{PastTheEnd, MarkMisplaced}
 use Rattle.records.specs.declared.Mark.{Mark}
 use Rattle.records.specs.declared.Mark.the-variants.{BK, VR, LB, PR, FM, CL, GO, IF, KN, AR, AD, RM, QY}
 use Rattle.records.specs.declared.Place.{Place}
 use Rattle.records.specs.declared.Place.the-variants.{Block, Formal, Declaration, Statement}
-use Rattle.records.specs.declared.Entry.{Entry}
 use Rattle.records.specs.declared.Fit.{Fit}
 use Rattle.records.specs.declared.Fit.the-variants.{Found, Nothing}
 use Rattle.records.specs.declared.Reading.{Reading}
@@ -41,11 +41,18 @@ stmtMark isQY = QY
 unfoldable pub onlyMark : Mark → Bool → Mark
 onlyMark m b = m
 
-abbrev pub entryFits : Place → Entry → Bool
-entryFits Block e = e .block
-entryFits Formal e = e .formal
-entryFits Declaration e = e .declaration
-entryFits Statement e = e .statement
+-- the rows of the code's table that are of a place
+abbrev pub firstOf : Place → ℕ
+firstOf Block = 4
+firstOf Formal = 0
+firstOf Declaration = 1
+firstOf Statement = 4
+
+abbrev pub endOf : Place → ℕ
+endOf Block = 5
+endOf Formal = 1
+endOf Declaration = 4
+endOf Statement = 13
 
 -- the first row with these letters
 unfoldable pub fitIn : {M : Type 0} → (M → Mark) → ℕ → List (Row M) → Fit
@@ -68,6 +75,17 @@ recordAt Block bs at = taken (onlyMark BK) (take-record blockMarks at (unread bs
 recordAt Formal bs at = taken (onlyMark FM) (take-record formalMarks at (unread bs at))
 recordAt Declaration bs at = taken declMark (take-record declMarks at (unread bs at))
 recordAt Statement bs at = taken stmtMark (take-record stmtMarks at (unread bs at))
+
+-- a record of n fields with the mark m, its fields from an offset on
+abbrev pub takenAt : Mark → ℕ → List ℕ → ℕ → Reading
+takenAt m n bs from =
+    Taken m (from + 2 * n) (getD (take n (unread bs from)) 0 0) (getD (take n (unread bs from)) 1 0)
+    (getD (take n (unread bs from)) 2 0) (getD (take n (unread bs from)) 3 0)
+
+-- what comes after the mark at an offset, once its row is known
+unfoldable pub restAt : Fit → List ℕ → ℕ → Reading
+restAt Nothing bs at = Refused MarkMisplaced at
+restAt (Found n m) bs at = elim (leb (at + 2 + 2 * n) (length bs)) [ true ↦ takenAt m n bs (at + 2) | false ↦ Refused PastTheEnd at ]
 
 -- a record taken lies in the n bytes of the script, and its fields are of 16 bits
 abbrev pub Within : ℕ → ℕ → Reading → Type 0

@@ -2,10 +2,11 @@
 use language::Refusal;
 ghost use mathlib.Core.Path.{_≡_};
 ghost use Prim.Native.Nat.{_+_, _*_, _<_, _≤_};
+ghost use lib.Dec.{leb};
 ghost use lib.ListN.{length, getD, take};
 ghost use Rattle.language.specs.Encoding.{two};
 ghost use Rattle.language.specs.Structure.{fields};
-ghost use Rattle.records.specs.Taking.{unread, entryFits, fitAt, recordAt, Within, progressOf, forget};
+ghost use Rattle.records.specs.Taking.{unread, firstOf, endOf, fitAt, restAt, recordAt, Within, progressOf, forget};
 
 pub enum Mark {
     BK,
@@ -31,136 +32,87 @@ pub enum Place {
     Statement,
 }
 
-// A mark: its two letters as a field, low byte first, how many fields come after it, and the places allowed.
+// A mark: its two letters as a field, low byte first, and how many fields come after it.
 pub struct Entry {
     pub letters: u32,
     pub count: u8,
     pub mark: Mark,
-    pub block: bool,
-    pub formal: bool,
-    pub declaration: bool,
-    pub statement: bool,
 }
 
+// In the order of the places allowed: the rows of a place stand together. BK, a block's and the first of the statements', has two.
 const MARKS: [Entry; 13] = [
     Entry {
-        letters: 0x4b42,
+        letters: 0x4d46,
         count: 2,
-        mark: Mark::BK,
-        block: true,
-        formal: false,
-        declaration: false,
-        statement: true,
+        mark: Mark::FM,
     },
     Entry {
         letters: 0x5256,
         count: 1,
         mark: Mark::VR,
-        block: false,
-        formal: false,
-        declaration: true,
-        statement: false,
     },
     Entry {
         letters: 0x424c,
         count: 2,
         mark: Mark::LB,
-        block: false,
-        formal: false,
-        declaration: true,
-        statement: false,
     },
     Entry {
         letters: 0x5250,
         count: 2,
         mark: Mark::PR,
-        block: false,
-        formal: false,
-        declaration: true,
-        statement: false,
     },
     Entry {
-        letters: 0x4d46,
+        letters: 0x4b42,
         count: 2,
-        mark: Mark::FM,
-        block: false,
-        formal: true,
-        declaration: false,
-        statement: false,
+        mark: Mark::BK,
     },
     Entry {
         letters: 0x4c43,
         count: 2,
         mark: Mark::CL,
-        block: false,
-        formal: false,
-        declaration: false,
-        statement: true,
     },
     Entry {
         letters: 0x4f47,
         count: 1,
         mark: Mark::GO,
-        block: false,
-        formal: false,
-        declaration: false,
-        statement: true,
     },
     Entry {
         letters: 0x4649,
         count: 2,
         mark: Mark::IF,
-        block: false,
-        formal: false,
-        declaration: false,
-        statement: true,
     },
     Entry {
         letters: 0x4e4b,
         count: 3,
         mark: Mark::KN,
-        block: false,
-        formal: false,
-        declaration: false,
-        statement: true,
     },
     Entry {
         letters: 0x5241,
         count: 4,
         mark: Mark::AR,
-        block: false,
-        formal: false,
-        declaration: false,
-        statement: true,
     },
     Entry {
         letters: 0x4441,
         count: 2,
         mark: Mark::AD,
-        block: false,
-        formal: false,
-        declaration: false,
-        statement: true,
     },
     Entry {
         letters: 0x4d52,
         count: 2,
         mark: Mark::RM,
-        block: false,
-        formal: false,
-        declaration: false,
-        statement: true,
     },
     Entry {
         letters: 0x5951,
         count: 3,
         mark: Mark::QY,
-        block: false,
-        formal: false,
-        declaration: false,
-        statement: true,
     },
 ];
+
+// From one row of the table up to another.
+pub struct Rows {
+    pub first: usize,
+    pub end: usize,
+}
 
 pub enum Fit {
     Found { count: u8, mark: Mark },
@@ -186,32 +138,35 @@ pub enum Progress {
     Refused(Refusal, usize),
 }
 
-fn allowed(e: Entry, place: Place) -> bool
-    ensures { λ r. ⌜ r ≡ entryFits place e ⌝ }
+// The rows of a place.
+fn rows_of(place: Place) -> Rows
+    ensures { λ r. ⌜ (r .first ≡ firstOf place) × (r .end ≡ endOf place) ⌝ }
 {
     match place {
-        Place::Block => e.block,
-        Place::Formal => e.formal,
-        Place::Declaration => e.declaration,
-        Place::Statement => e.statement,
+        Place::Block => Rows { first: 4, end: 5 },
+        Place::Formal => Rows { first: 0, end: 1 },
+        Place::Declaration => Rows { first: 1, end: 4 },
+        Place::Statement => Rows { first: 4, end: 13 },
     }
 }
 
-// The mark with these letters, of those that may stand at a place.
+// The mark with these letters, of those that may stand at a place. The table is copied once, before the loop: a place that is known
+// when the call is compiled then leaves a few comparisons of it.
 pub fn find_mark(letters: u32, place: Place) -> Fit
     ensures { λ r. ⌜ r ≡ fitAt place letters ⌝ }
 {
-    let mut i = 0;
-    while i < 13 {
-        let e = MARKS[i];
-        if allowed(e, place) {
-            if e.letters == letters {
-                let mark = e.mark;
-                return Fit::Found {
-                    count: e.count,
-                    mark,
-                };
-            }
+    let marks = MARKS;
+    let r = rows_of(place);
+    let end = r.end;
+    let mut i = r.first;
+    while i < end {
+        let e = marks[i];
+        if e.letters == letters {
+            let mark = e.mark;
+            return Fit::Found {
+                count: e.count,
+                mark,
+            };
         }
         i += 1;
     }
@@ -249,23 +204,31 @@ pub fn field_of(script: &[u8], at: usize, count: usize, k: usize) -> u32
     0
 }
 
-// In this order: mark present (2), mark fit (3), fields present (2).
-pub fn read_record(script: &[u8], at: usize, place: Place) -> Reading
-    ensures { λ r. ⌜ (r ≡ recordAt place (now (script .entry)) at) × Within (length (now (script .entry))) at r ⌝ }
+// Whether a mark is there.
+fn marked(script: &[u8], at: usize) -> bool
+    ensures { λ r. ⌜ r ≡ leb (at + 2) (length (now (script .entry))) ⌝ }
 {
     let n = script.len();
     if n < 2 {
-        return Reading::Refused(Refusal::PastTheEnd, at);
+        return false;
     }
     if n - 2 < at {
-        return Reading::Refused(Refusal::PastTheEnd, at);
+        return false;
     }
-    let Fit::Found { count, mark } = find_mark(field_at(script, at), place) else {
+    true
+}
+
+// What comes after a mark that is there, by its row.
+fn take_record(script: &[u8], at: usize, fit: Fit) -> Reading
+    requires { ⌜ at + 2 ≤ length (now script) ⌝ }
+    ensures { λ r. ⌜ (r ≡ restAt fit (now (script .entry)) at) × Within (length (now (script .entry))) at r ⌝ }
+{
+    let Fit::Found { count, mark } = fit else {
         return Reading::Refused(Refusal::MarkMisplaced, at);
     };
     let from = at + 2;
     let k = size(count);
-    if n - from < 2 * k {
+    if script.len() - from < 2 * k {
         return Reading::Refused(Refusal::PastTheEnd, at);
     }
     let f0 = field_of(script, from, k, 0);
@@ -280,6 +243,52 @@ pub fn read_record(script: &[u8], at: usize, place: Place) -> Reading
         f2,
         f3,
     }
+}
+
+// A record at each place, in this order: mark present (2), mark fit (3), fields present (2). A function for each place, so that the
+// rows searched are known when it is compiled.
+pub fn read_block(script: &[u8], at: usize) -> Reading
+    ensures { λ r. ⌜ (r ≡ recordAt Place.Block (now (script .entry)) at) × Within (length (now (script .entry))) at r ⌝ }
+{
+    if marked(script, at) {
+        return take_record(script, at, find_mark(field_at(script, at), Place::Block));
+    }
+    Reading::Refused(Refusal::PastTheEnd, at)
+}
+
+pub fn read_formal(script: &[u8], at: usize) -> Reading
+    ensures { λ r. ⌜ (r ≡ recordAt Place.Formal (now (script .entry)) at) × Within (length (now (script .entry))) at r ⌝ }
+{
+    if marked(script, at) {
+        return take_record(script, at, find_mark(field_at(script, at), Place::Formal));
+    }
+    Reading::Refused(Refusal::PastTheEnd, at)
+}
+
+pub fn read_declaration(script: &[u8], at: usize) -> Reading
+    ensures { λ r. ⌜ (r ≡ recordAt Place.Declaration (now (script .entry)) at) × Within (length (now (script .entry))) at r ⌝ }
+{
+    if marked(script, at) {
+        return take_record(
+            script,
+            at,
+            find_mark(field_at(script, at), Place::Declaration),
+        );
+    }
+    Reading::Refused(Refusal::PastTheEnd, at)
+}
+
+pub fn read_statement(script: &[u8], at: usize) -> Reading
+    ensures { λ r. ⌜ (r ≡ recordAt Place.Statement (now (script .entry)) at) × Within (length (now (script .entry))) at r ⌝ }
+{
+    if marked(script, at) {
+        return take_record(
+            script,
+            at,
+            find_mark(field_at(script, at), Place::Statement),
+        );
+    }
+    Reading::Refused(Refusal::PastTheEnd, at)
 }
 
 // Where a reading goes on.

@@ -4,7 +4,6 @@
 use language::Refusal;
 use language::Verdict;
 use records::Mark;
-use records::Place;
 use records::Progress;
 use records::Reading;
 ghost use mathlib.Core.Path.{_≡_};
@@ -23,19 +22,21 @@ fn wide(x: u32) -> usize
     x as usize
 }
 
-// Whether a name is among the count names from a base on.
+// Whether a name is among the count names from a base on. All are looked at, without a way out of the loop, so that several can be
+// compared at once.
 fn seen(names: &[u32], base: usize, count: usize, n: u32) -> bool
     requires { ⌜ base + count ≤ length (now names) ⌝ }
     ensures { λ r. ⌜ r ≡ among n (namesAt (now (names .entry)) base count) ⌝ }
 {
+    let mut found = false;
     let mut i = 0;
     while i < count {
         if names[base + i] == n {
-            return true;
+            found = true;
         }
         i += 1;
     }
-    false
+    found
 }
 
 // p formals. Their names are put from a base on.
@@ -48,7 +49,7 @@ fn formals(script: &[u8], names: &mut [u32], start: usize, p: usize, base: usize
     let mut at = start;
     let mut i = 0;
     while i < p {
-        let reading = records::read_record(script, at, Place::Formal);
+        let reading = records::read_formal(script, at);
         let Reading::Taken { next, f0, f1, .. } = reading else {
             return records::onward(reading);
         };
@@ -183,7 +184,7 @@ fn declarations(
     let mut at = start;
     let mut i = 0;
     while i < d {
-        let reading = records::read_record(script, at, Place::Declaration);
+        let reading = records::read_declaration(script, at);
         let Reading::Taken {
             mark,
             next,
@@ -230,7 +231,7 @@ fn body(
     let Progress::At(at) = formal else {
         return formal;
     };
-    let reading = records::read_record(script, at, Place::Block);
+    let reading = records::read_block(script, at);
     let Reading::Taken { next, f0, f1, .. } = reading else {
         return records::onward(reading);
     };
@@ -246,7 +247,7 @@ fn statements(script: &[u8], names: &mut [u32], start: usize, s: usize, below: u
     let mut at = start;
     let mut i = 0;
     while i < s {
-        let reading = records::read_record(script, at, Place::Statement);
+        let reading = records::read_statement(script, at);
         let Reading::Taken {
             mark,
             next,
@@ -302,7 +303,7 @@ pub fn structure(script: &[u8]) -> Verdict
     if n % 2 == 1 {
         return Verdict::Refused(Refusal::ScriptLength, 0);
     }
-    let reading = records::read_record(script, 0, Place::Block);
+    let reading = records::read_block(script, 0);
     let Reading::Taken { next, f0, f1, .. } = reading else {
         return ended(records::onward(reading), n);
     };

@@ -23,8 +23,8 @@ abbrev μ-loop : tie.MeasureT-loop
 loop-holds : tie.Need-loop-holds Inv-loop μ-loop
 loop-holds c = (search needs, refl, refl, at-start _ _ _ _ _)
 
-read-record-requires : tie.Need-read-record-requires Inv-loop μ-loop
-read-record-requires c κs = search needs
+read-formal-requires : tie.Need-read-formal-requires Inv-loop μ-loop
+read-formal-requires c κs = search needs
 
 enum-known-reading : tie.Need-enum-known-reading Inv-loop μ-loop
 enum-known-reading c = search needs
@@ -42,7 +42,7 @@ returns : tie.Need-returns Inv-loop μ-loop
 returns c =
     let a = c .before .before .before .before .before .before .before .before .args in
     let lp = c .before .before .before .before .before .loop in
-    let rr = c .before .before .before .read-record in
+    let rr = c .before .before .before .read-formal in
     let told = c .before .enum-told in
     let w = refused-there (lp .inv .3) (c .before .before .before .before .loop-test .taken) (sym (rr .ensures .0) ∙ told .given .1) in
     let q = post-refused _ (namesAt (lp .names) (a .base) (a .p)) w in
@@ -55,7 +55,7 @@ returns-2 : tie.Need-returns-2 Inv-loop μ-loop
 returns-2 c =
     let a = c .before .before .before .before .before .before .before .before .before .args in
     let lp = c .before .before .before .before .before .before .loop in
-    let rr = c .before .before .before .before .read-record in
+    let rr = c .before .before .before .before .read-formal in
     let r = c .before .before .reading in
     let w = wrong-kind (lp .inv .3) (c .before .before .before .before .before .loop-test .taken) (sym (rr .ensures .0) ∙ r .given .1) (c .if1 .taken) in
     let q = post-refused _ (namesAt (lp .names) (a .base) (a .p)) w in
@@ -71,7 +71,7 @@ returns-3 : tie.Need-returns-3 Inv-loop μ-loop
 returns-3 c =
     let a = c .before .before .before .before .before .before .before .before .before .before .before .before .args in
     let lp = c .before .before .before .before .before .before .before .before .before .loop in
-    let rr = c .before .before .before .before .before .before .before .read-record in
+    let rr = c .before .before .before .before .before .before .before .read-formal in
     let r = c .before .before .before .before .before .reading in
     let w = named-twice (lp .inv .3) (c .before .before .before .before .before .before .before .before .loop-test .taken) (sym (rr .ensures .0) ∙ r .given .1) (c .before .before .before .if1 .left) (sym (c .before .seen .ensures) ∙ c .if2 .taken) in
     let q = post-refused _ (namesAt (lp .names) (a .base) (a .p)) w in
@@ -96,7 +96,7 @@ loop-again : tie.Need-loop-again Inv-loop μ-loop
 loop-again c =
     let a = c .before .before .before .before .before .before .before .before .before .before .before .before .args in
     let lp = c .before .before .before .before .before .before .before .before .before .loop in
-    let rr = c .before .before .before .before .before .before .before .read-record in
+    let rr = c .before .before .before .before .before .before .before .read-formal in
     let r = c .before .before .before .before .before .reading in
     let so = one-more (lp .inv .3) (c .before .before .before .before .before .before .before .before .loop-test .taken) (sym (rr .ensures .0) ∙ r .given .1) (c .before .before .before .if1 .left) (sym (c .before .seen .ensures) ∙ c .if2 .left) (omega (arith, lp .inv, c .before .before .before .before .before .before .before .before .before .before .before .before .pre)) in
     (omega (arith, c .before .before .before .before .before .before .before .before .loop-test .taken), length-set (lp .names) (a .base + lp .i) (r .given .0 .1 .1 .0) ∙ lp .inv .1, front-set (lp .names) (a .base) (lp .i) (r .given .0 .1 .1 .0) ∙ lp .inv .2, so)
@@ -121,7 +121,7 @@ formals-spec =
     Inv-loop
     μ-loop
     loop-holds
-    read-record-requires
+    read-formal-requires
     enum-known-reading
     enum-told
     onward-requires

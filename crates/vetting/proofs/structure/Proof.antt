@@ -21,8 +21,8 @@ returns-3 : tie.Need-returns-3
 returns-3 c =
     misfit (c .before .before .before .before .args .script .now) (length-odd (c .before .before .before .before .args .script .now) (c .before .before .if1 .left) (c .before .if2 .left) (c .if3 .taken))
 
-read-record-requires : tie.Need-read-record-requires
-read-record-requires c κs = search needs
+read-block-requires : tie.Need-read-block-requires
+read-block-requires c κs = search needs
 
 enum-known-reading : tie.Need-enum-known-reading
 enum-known-reading c = search needs
@@ -43,7 +43,7 @@ returns-4 c =
     c .ended .ensures
     ∙ whole-is bs (c .before .before .before .before .before .before .before .if1 .left) (c .before .before .before .before .before .before .if2 .left) (omega arith) (c .before .onward .result)
     (c .before .onward .ensures ∙ ap progressOf (c .before .before .enum-told .given .1)
-    ∙ program-stops bs (sym (c .before .before .before .before .read-record .ensures .0) ∙ c .before .before .enum-told .given .1))
+    ∙ program-stops bs (sym (c .before .before .before .before .read-block .ensures .0) ∙ c .before .before .enum-told .given .1))
 
 slice-aggregate-block : tie.Need-slice-aggregate-block
 slice-aggregate-block c = search needs
@@ -69,7 +69,7 @@ returns-5 c =
     ∙ whole-is bs (c .before .before .before .before .before .before .before .before .before .before .before .before .if1 .left) (c .before .before .before .before .before .before .before .before .before .before .before .if2 .left) (omega arith) (c .before .before .block .result)
     (c .before .before .block .ensures .0
     ∙ same-block 16 0 next (unread bs next) (c .before .before .before .before .wide .ensures) (c .before .before .before .wide2 .ensures) (names-none _ 0)
-    ∙ program-goes-on bs (sym (c .before .before .before .before .before .before .before .before .before .read-record .ensures .0) ∙ c .before .before .before .before .before .before .before .reading .given .1))
+    ∙ program-goes-on bs (sym (c .before .before .before .before .before .before .before .before .before .read-block .ensures .0) ∙ c .before .before .before .before .before .before .before .reading .given .1))
 
 pub structure-spec : {M : Type 1} → statement M
 structure-spec =
@@ -78,7 +78,7 @@ structure-spec =
     returns
     returns-2
     returns-3
-    read-record-requires
+    read-block-requires
     enum-known-reading
     enum-told
     onward-requires

@@ -16,7 +16,7 @@ use native.Mathlib.Omega.{arith}
 use Rattle.vetting.proofs.+block+body+declarations+statement+statements.Lts-declarations as declarations-lts
 use Rattle.vetting.proofs.declarations.Reads as declarations
 use Rattle.vetting.proofs.body.Reads as body
-use Rattle.records.proofs.read_record.Reads as read-record-reads
+use Rattle.records.proofs.read_declaration.Reads as read-declaration-reads
 use Rattle.records.proofs.onward.Reads as onward-reads
 use Rattle.vetting.proofs.heading.Reads as heading-reads
 use Rattle.vetting.proofs.wide.Reads as wide-reads
@@ -28,59 +28,59 @@ declarations-Inv-loop script names₀ start d s held below base at₀ i₀ names
 abbrev pub declarations-μ-loop : declarations-lts.MeasureT-loop
 declarations-μ-loop script names₀ start d s held below base at₀ i₀ names at i = d - i
 
-pub declarations-mul-base : (t : ℕ) → declarations-lts.Need-mul-base (read-record-reads.Asked, read-record-reads.Learnt, onward-reads.Asked, onward-reads.Learnt, heading-reads.Asked, heading-reads.Learnt, wide-reads.Asked, wide-reads.Learnt, body-below t, body.Post) (declarations-at t) declarations.Post declarations-Inv-loop declarations-μ-loop
+pub declarations-mul-base : (t : ℕ) → declarations-lts.Need-mul-base (read-declaration-reads.Asked, read-declaration-reads.Learnt, onward-reads.Asked, onward-reads.Learnt, heading-reads.Asked, heading-reads.Learnt, wide-reads.Asked, wide-reads.Learnt, body-below t, body.Post) (declarations-at t) declarations.Post declarations-Inv-loop declarations-μ-loop
 declarations-mul-base t c = omega (arith, c .before .before .pre)
 
-pub declarations-sub-base : (t : ℕ) → declarations-lts.Need-sub-base (read-record-reads.Asked, read-record-reads.Learnt, onward-reads.Asked, onward-reads.Learnt, heading-reads.Asked, heading-reads.Learnt, wide-reads.Asked, wide-reads.Learnt, body-below t, body.Post) (declarations-at t) declarations.Post declarations-Inv-loop declarations-μ-loop
+pub declarations-sub-base : (t : ℕ) → declarations-lts.Need-sub-base (read-declaration-reads.Asked, read-declaration-reads.Learnt, onward-reads.Asked, onward-reads.Learnt, heading-reads.Asked, heading-reads.Learnt, wide-reads.Asked, wide-reads.Learnt, body-below t, body.Post) (declarations-at t) declarations.Post declarations-Inv-loop declarations-μ-loop
 declarations-sub-base t c = omega (arith, c .before .before .pre)
 
-pub declarations-loop-holds : (t : ℕ) → declarations-lts.Need-loop-holds (read-record-reads.Asked, read-record-reads.Learnt, onward-reads.Asked, onward-reads.Learnt, heading-reads.Asked, heading-reads.Learnt, wide-reads.Asked, wide-reads.Learnt, body-below t, body.Post) (declarations-at t) declarations.Post declarations-Inv-loop declarations-μ-loop
+pub declarations-loop-holds : (t : ℕ) → declarations-lts.Need-loop-holds (read-declaration-reads.Asked, read-declaration-reads.Learnt, onward-reads.Asked, onward-reads.Learnt, heading-reads.Asked, heading-reads.Learnt, wide-reads.Asked, wide-reads.Learnt, body-below t, body.Post) (declarations-at t) declarations.Post declarations-Inv-loop declarations-μ-loop
 declarations-loop-holds t c = (search needs, c .before .before .pre .1 .2, refl, decls-start _ _ _ _ _ _ _ _)
 
-pub declarations-read-record-requires : (t : ℕ) → declarations-lts.Need-read-record-requires (read-record-reads.Asked, read-record-reads.Learnt, onward-reads.Asked, onward-reads.Learnt, heading-reads.Asked, heading-reads.Learnt, wide-reads.Asked, wide-reads.Learnt, body-below t, body.Post) (declarations-at t) declarations.Post declarations-Inv-loop declarations-μ-loop
-declarations-read-record-requires t c κs = search needs
+pub declarations-read-declaration-requires : (t : ℕ) → declarations-lts.Need-read-declaration-requires (read-declaration-reads.Asked, read-declaration-reads.Learnt, onward-reads.Asked, onward-reads.Learnt, heading-reads.Asked, heading-reads.Learnt, wide-reads.Asked, wide-reads.Learnt, body-below t, body.Post) (declarations-at t) declarations.Post declarations-Inv-loop declarations-μ-loop
+declarations-read-declaration-requires t c κs = search needs
 
-pub declarations-enum-known-reading : (t : ℕ) → declarations-lts.Need-enum-known-reading (read-record-reads.Asked, read-record-reads.Learnt, onward-reads.Asked, onward-reads.Learnt, heading-reads.Asked, heading-reads.Learnt, wide-reads.Asked, wide-reads.Learnt, body-below t, body.Post) (declarations-at t) declarations.Post declarations-Inv-loop declarations-μ-loop
+pub declarations-enum-known-reading : (t : ℕ) → declarations-lts.Need-enum-known-reading (read-declaration-reads.Asked, read-declaration-reads.Learnt, onward-reads.Asked, onward-reads.Learnt, heading-reads.Asked, heading-reads.Learnt, wide-reads.Asked, wide-reads.Learnt, body-below t, body.Post) (declarations-at t) declarations.Post declarations-Inv-loop declarations-μ-loop
 declarations-enum-known-reading t c = search needs
 
-pub declarations-enum-told : (t : ℕ) → declarations-lts.Need-enum-told (read-record-reads.Asked, read-record-reads.Learnt, onward-reads.Asked, onward-reads.Learnt, heading-reads.Asked, heading-reads.Learnt, wide-reads.Asked, wide-reads.Learnt, body-below t, body.Post) (declarations-at t) declarations.Post declarations-Inv-loop declarations-μ-loop
+pub declarations-enum-told : (t : ℕ) → declarations-lts.Need-enum-told (read-declaration-reads.Asked, read-declaration-reads.Learnt, onward-reads.Asked, onward-reads.Learnt, heading-reads.Asked, heading-reads.Learnt, wide-reads.Asked, wide-reads.Learnt, body-below t, body.Post) (declarations-at t) declarations.Post declarations-Inv-loop declarations-μ-loop
 declarations-enum-told t c = search needs
 
-pub declarations-onward-requires : (t : ℕ) → declarations-lts.Need-onward-requires (read-record-reads.Asked, read-record-reads.Learnt, onward-reads.Asked, onward-reads.Learnt, heading-reads.Asked, heading-reads.Learnt, wide-reads.Asked, wide-reads.Learnt, body-below t, body.Post) (declarations-at t) declarations.Post declarations-Inv-loop declarations-μ-loop
+pub declarations-onward-requires : (t : ℕ) → declarations-lts.Need-onward-requires (read-declaration-reads.Asked, read-declaration-reads.Learnt, onward-reads.Asked, onward-reads.Learnt, heading-reads.Asked, heading-reads.Learnt, wide-reads.Asked, wide-reads.Learnt, body-below t, body.Post) (declarations-at t) declarations.Post declarations-Inv-loop declarations-μ-loop
 declarations-onward-requires t c κs = search needs
 
-pub declarations-same-length : (t : ℕ) → declarations-lts.Need-same-length (read-record-reads.Asked, read-record-reads.Learnt, onward-reads.Asked, onward-reads.Learnt, heading-reads.Asked, heading-reads.Learnt, wide-reads.Asked, wide-reads.Learnt, body-below t, body.Post) (declarations-at t) declarations.Post declarations-Inv-loop declarations-μ-loop
+pub declarations-same-length : (t : ℕ) → declarations-lts.Need-same-length (read-declaration-reads.Asked, read-declaration-reads.Learnt, onward-reads.Asked, onward-reads.Learnt, heading-reads.Asked, heading-reads.Learnt, wide-reads.Asked, wide-reads.Learnt, body-below t, body.Post) (declarations-at t) declarations.Post declarations-Inv-loop declarations-μ-loop
 declarations-same-length t c = c .before .before .before .before .before .loop .inv .1 ∙ sym (c .before .before .before .before .before .before .before .before .pre .1 .2)
 
-pub declarations-returns : (t : ℕ) → declarations-lts.Need-returns (read-record-reads.Asked, read-record-reads.Learnt, onward-reads.Asked, onward-reads.Learnt, heading-reads.Asked, heading-reads.Learnt, wide-reads.Asked, wide-reads.Learnt, body-below t, body.Post) (declarations-at t) declarations.Post declarations-Inv-loop declarations-μ-loop
+pub declarations-returns : (t : ℕ) → declarations-lts.Need-returns (read-declaration-reads.Asked, read-declaration-reads.Learnt, onward-reads.Asked, onward-reads.Learnt, heading-reads.Asked, heading-reads.Learnt, wide-reads.Asked, wide-reads.Learnt, body-below t, body.Post) (declarations-at t) declarations.Post declarations-Inv-loop declarations-μ-loop
 declarations-returns t c = let a = c .before .before .before .before .before .before .before .before .args in
     let lp = c .before .before .before .before .before .loop in
-    let rr = c .before .before .before .read-record in
+    let rr = c .before .before .before .read-declaration in
     let told = c .before .enum-told in (
       c .onward .ensures ∙ ap progressOf (told .given .1)
           ∙ decl-refused (tracks-block (a .script .now) (a .below)) (lp .inv .3) (c .before .before .before .before .loop-test .taken) (sym (rr .ensures .0) ∙ told .given .1),
       lp .inv .2,
     )
 
-pub declarations-add-count : (t : ℕ) → declarations-lts.Need-add-count (read-record-reads.Asked, read-record-reads.Learnt, onward-reads.Asked, onward-reads.Learnt, heading-reads.Asked, heading-reads.Learnt, wide-reads.Asked, wide-reads.Learnt, body-below t, body.Post) (declarations-at t) declarations.Post declarations-Inv-loop declarations-μ-loop
+pub declarations-add-count : (t : ℕ) → declarations-lts.Need-add-count (read-declaration-reads.Asked, read-declaration-reads.Learnt, onward-reads.Asked, onward-reads.Learnt, heading-reads.Asked, heading-reads.Learnt, wide-reads.Asked, wide-reads.Learnt, body-below t, body.Post) (declarations-at t) declarations.Post declarations-Inv-loop declarations-μ-loop
 declarations-add-count t c = omega (arith, c .before .before .before .before .before .before .before .before .pre, c .before .before .before .before .before .loop .inv .0)
 
-pub declarations-heading-requires : (t : ℕ) → declarations-lts.Need-heading-requires (read-record-reads.Asked, read-record-reads.Learnt, onward-reads.Asked, onward-reads.Learnt, heading-reads.Asked, heading-reads.Learnt, wide-reads.Asked, wide-reads.Learnt, body-below t, body.Post) (declarations-at t) declarations.Post declarations-Inv-loop declarations-μ-loop
+pub declarations-heading-requires : (t : ℕ) → declarations-lts.Need-heading-requires (read-declaration-reads.Asked, read-declaration-reads.Learnt, onward-reads.Asked, onward-reads.Learnt, heading-reads.Asked, heading-reads.Learnt, wide-reads.Asked, wide-reads.Learnt, body-below t, body.Post) (declarations-at t) declarations.Post declarations-Inv-loop declarations-μ-loop
 declarations-heading-requires t c κs = omega (arith, c .before .before .before .before .before .before .before .before .before .pre, c .before .before .before .before .before .before .loop .inv, c .before .before .before .before .before .loop-test .taken)
 
-pub declarations-enum-known-own : (t : ℕ) → declarations-lts.Need-enum-known-own (read-record-reads.Asked, read-record-reads.Learnt, onward-reads.Asked, onward-reads.Learnt, heading-reads.Asked, heading-reads.Learnt, wide-reads.Asked, wide-reads.Learnt, body-below t, body.Post) (declarations-at t) declarations.Post declarations-Inv-loop declarations-μ-loop
+pub declarations-enum-known-own : (t : ℕ) → declarations-lts.Need-enum-known-own (read-declaration-reads.Asked, read-declaration-reads.Learnt, onward-reads.Asked, onward-reads.Learnt, heading-reads.Asked, heading-reads.Learnt, wide-reads.Asked, wide-reads.Learnt, body-below t, body.Post) (declarations-at t) declarations.Post declarations-Inv-loop declarations-μ-loop
 declarations-enum-known-own t c = search needs
 
-pub declarations-enum-told-2 : (t : ℕ) → declarations-lts.Need-enum-told-2 (read-record-reads.Asked, read-record-reads.Learnt, onward-reads.Asked, onward-reads.Learnt, heading-reads.Asked, heading-reads.Learnt, wide-reads.Asked, wide-reads.Learnt, body-below t, body.Post) (declarations-at t) declarations.Post declarations-Inv-loop declarations-μ-loop
+pub declarations-enum-told-2 : (t : ℕ) → declarations-lts.Need-enum-told-2 (read-declaration-reads.Asked, read-declaration-reads.Learnt, onward-reads.Asked, onward-reads.Learnt, heading-reads.Asked, heading-reads.Learnt, wide-reads.Asked, wide-reads.Learnt, body-below t, body.Post) (declarations-at t) declarations.Post declarations-Inv-loop declarations-μ-loop
 declarations-enum-told-2 t c = search needs
 
-pub declarations-same-length-2 : (t : ℕ) → declarations-lts.Need-same-length-2 (read-record-reads.Asked, read-record-reads.Learnt, onward-reads.Asked, onward-reads.Learnt, heading-reads.Asked, heading-reads.Learnt, wide-reads.Asked, wide-reads.Learnt, body-below t, body.Post) (declarations-at t) declarations.Post declarations-Inv-loop declarations-μ-loop
+pub declarations-same-length-2 : (t : ℕ) → declarations-lts.Need-same-length-2 (read-declaration-reads.Asked, read-declaration-reads.Learnt, onward-reads.Asked, onward-reads.Learnt, heading-reads.Asked, heading-reads.Learnt, wide-reads.Asked, wide-reads.Learnt, body-below t, body.Post) (declarations-at t) declarations.Post declarations-Inv-loop declarations-μ-loop
 declarations-same-length-2 t c = c .before .before .before .before .before .before .before .before .before .loop .inv .1 ∙ sym (c .before .before .before .before .before .before .before .before .before .before .before .before .pre .1 .2)
 
-pub declarations-returns-2 : (t : ℕ) → declarations-lts.Need-returns-2 (read-record-reads.Asked, read-record-reads.Learnt, onward-reads.Asked, onward-reads.Learnt, heading-reads.Asked, heading-reads.Learnt, wide-reads.Asked, wide-reads.Learnt, body-below t, body.Post) (declarations-at t) declarations.Post declarations-Inv-loop declarations-μ-loop
+pub declarations-returns-2 : (t : ℕ) → declarations-lts.Need-returns-2 (read-declaration-reads.Asked, read-declaration-reads.Learnt, onward-reads.Asked, onward-reads.Learnt, heading-reads.Asked, heading-reads.Learnt, wide-reads.Asked, wide-reads.Learnt, body-below t, body.Post) (declarations-at t) declarations.Post declarations-Inv-loop declarations-μ-loop
 declarations-returns-2 t c = let a = c .before .before .before .before .before .before .before .before .before .before .before .before .args in
     let lp = c .before .before .before .before .before .before .before .before .before .loop in
-    let rr = c .before .before .before .before .before .before .before .read-record in
+    let rr = c .before .before .before .before .before .before .before .read-declaration in
     let r = c .before .before .before .before .before .reading in
     let hd = c .before .before .heading in
     let told2 = c .enum-told2 in (
@@ -89,13 +89,13 @@ declarations-returns-2 t c = let a = c .before .before .before .before .before .
       lp .inv .2,
     )
 
-pub declarations-wide-requires : (t : ℕ) → declarations-lts.Need-wide-requires (read-record-reads.Asked, read-record-reads.Learnt, onward-reads.Asked, onward-reads.Learnt, heading-reads.Asked, heading-reads.Learnt, wide-reads.Asked, wide-reads.Learnt, body-below t, body.Post) (declarations-at t) declarations.Post declarations-Inv-loop declarations-μ-loop
+pub declarations-wide-requires : (t : ℕ) → declarations-lts.Need-wide-requires (read-declaration-reads.Asked, read-declaration-reads.Learnt, onward-reads.Asked, onward-reads.Learnt, heading-reads.Asked, heading-reads.Learnt, wide-reads.Asked, wide-reads.Learnt, body-below t, body.Post) (declarations-at t) declarations.Post declarations-Inv-loop declarations-μ-loop
 declarations-wide-requires t c κs = search needs
 
-pub declarations-body-requires : (t : ℕ) → declarations-lts.Need-body-requires (read-record-reads.Asked, read-record-reads.Learnt, onward-reads.Asked, onward-reads.Learnt, heading-reads.Asked, heading-reads.Learnt, wide-reads.Asked, wide-reads.Learnt, body-below t, body.Post) (declarations-at t) declarations.Post declarations-Inv-loop declarations-μ-loop
+pub declarations-body-requires : (t : ℕ) → declarations-lts.Need-body-requires (read-declaration-reads.Asked, read-declaration-reads.Learnt, onward-reads.Asked, onward-reads.Learnt, heading-reads.Asked, heading-reads.Learnt, wide-reads.Asked, wide-reads.Learnt, body-below t, body.Post) (declarations-at t) declarations.Post declarations-Inv-loop declarations-μ-loop
 declarations-body-requires t c κs = let a = c .before .before .before .before .before .before .before .before .before .before .before .before .before .before .before .args in
     let lp = c .before .before .before .before .before .before .before .before .before .before .before .before .loop in
-    let rr = c .before .before .before .before .before .before .before .before .before .before .read-record in
+    let rr = c .before .before .before .before .before .before .before .before .before .before .read-declaration in
     let r = c .before .before .before .before .before .before .before .before .reading in
     let hd = c .before .before .before .before .before .heading in
     let ow = c .before .before .before .own in
@@ -109,19 +109,19 @@ declarations-body-requires t c κs = let a = c .before .before .before .before .
       (pre .1 .0, subst (λ k. FewFormals (declMarkOf (r .given .0 .0)) k) (sym (w .ensures)) (own .1), lp .inv .1),
     )
 
-pub declarations-enum-known-after : (t : ℕ) → declarations-lts.Need-enum-known-after (read-record-reads.Asked, read-record-reads.Learnt, onward-reads.Asked, onward-reads.Learnt, heading-reads.Asked, heading-reads.Learnt, wide-reads.Asked, wide-reads.Learnt, body-below t, body.Post) (declarations-at t) declarations.Post declarations-Inv-loop declarations-μ-loop
+pub declarations-enum-known-after : (t : ℕ) → declarations-lts.Need-enum-known-after (read-declaration-reads.Asked, read-declaration-reads.Learnt, onward-reads.Asked, onward-reads.Learnt, heading-reads.Asked, heading-reads.Learnt, wide-reads.Asked, wide-reads.Learnt, body-below t, body.Post) (declarations-at t) declarations.Post declarations-Inv-loop declarations-μ-loop
 declarations-enum-known-after t c = search needs
 
-pub declarations-enum-told-3 : (t : ℕ) → declarations-lts.Need-enum-told-3 (read-record-reads.Asked, read-record-reads.Learnt, onward-reads.Asked, onward-reads.Learnt, heading-reads.Asked, heading-reads.Learnt, wide-reads.Asked, wide-reads.Learnt, body-below t, body.Post) (declarations-at t) declarations.Post declarations-Inv-loop declarations-μ-loop
+pub declarations-enum-told-3 : (t : ℕ) → declarations-lts.Need-enum-told-3 (read-declaration-reads.Asked, read-declaration-reads.Learnt, onward-reads.Asked, onward-reads.Learnt, heading-reads.Asked, heading-reads.Learnt, wide-reads.Asked, wide-reads.Learnt, body-below t, body.Post) (declarations-at t) declarations.Post declarations-Inv-loop declarations-μ-loop
 declarations-enum-told-3 t c = search needs
 
-pub declarations-same-length-3 : (t : ℕ) → declarations-lts.Need-same-length-3 (read-record-reads.Asked, read-record-reads.Learnt, onward-reads.Asked, onward-reads.Learnt, heading-reads.Asked, heading-reads.Learnt, wide-reads.Asked, wide-reads.Learnt, body-below t, body.Post) (declarations-at t) declarations.Post declarations-Inv-loop declarations-μ-loop
+pub declarations-same-length-3 : (t : ℕ) → declarations-lts.Need-same-length-3 (read-declaration-reads.Asked, read-declaration-reads.Learnt, onward-reads.Asked, onward-reads.Learnt, heading-reads.Asked, heading-reads.Learnt, wide-reads.Asked, wide-reads.Learnt, body-below t, body.Post) (declarations-at t) declarations.Post declarations-Inv-loop declarations-μ-loop
 declarations-same-length-3 t c = c .before .before .before .before .body .kept .1 .0 ∙ c .before .before .before .before .before .before .before .before .before .before .before .before .before .before .before .before .before .loop .inv .1 ∙ sym (c .before .before .before .before .before .before .before .before .before .before .before .before .before .before .before .before .before .before .before .before .pre .1 .2)
 
-pub declarations-returns-3 : (t : ℕ) → declarations-lts.Need-returns-3 (read-record-reads.Asked, read-record-reads.Learnt, onward-reads.Asked, onward-reads.Learnt, heading-reads.Asked, heading-reads.Learnt, wide-reads.Asked, wide-reads.Learnt, body-below t, body.Post) (declarations-at t) declarations.Post declarations-Inv-loop declarations-μ-loop
+pub declarations-returns-3 : (t : ℕ) → declarations-lts.Need-returns-3 (read-declaration-reads.Asked, read-declaration-reads.Learnt, onward-reads.Asked, onward-reads.Learnt, heading-reads.Asked, heading-reads.Learnt, wide-reads.Asked, wide-reads.Learnt, body-below t, body.Post) (declarations-at t) declarations.Post declarations-Inv-loop declarations-μ-loop
 declarations-returns-3 t c = let a = c .before .before .before .before .before .before .before .before .before .before .before .before .before .before .before .before .before .before .before .before .args in
     let lp = c .before .before .before .before .before .before .before .before .before .before .before .before .before .before .before .before .before .loop in
-    let rr = c .before .before .before .before .before .before .before .before .before .before .before .before .before .before .before .read-record in
+    let rr = c .before .before .before .before .before .before .before .before .before .before .before .before .before .before .before .read-declaration in
     let r = c .before .before .before .before .before .before .before .before .before .before .before .before .before .reading in
     let hd = c .before .before .before .before .before .before .before .before .before .before .heading in
     let ow = c .before .before .before .before .before .before .before .before .own in
@@ -133,26 +133,26 @@ declarations-returns-3 t c = let a = c .before .before .before .before .before .
       front-kept (lp .names) (bd .last .1 .0) (480 - 32 * a .below) (512 - 32 * a .below) (omega (arith, c .before .before .before .before .before .before .before .before .before .before .before .before .before .before .before .before .before .before .before .before .pre)) (bd .ensures .1) ∙ lp .inv .2,
     )
 
-pub declarations-add-names : (t : ℕ) → declarations-lts.Need-add-names (read-record-reads.Asked, read-record-reads.Learnt, onward-reads.Asked, onward-reads.Learnt, heading-reads.Asked, heading-reads.Learnt, wide-reads.Asked, wide-reads.Learnt, body-below t, body.Post) (declarations-at t) declarations.Post declarations-Inv-loop declarations-μ-loop
+pub declarations-add-names : (t : ℕ) → declarations-lts.Need-add-names (read-declaration-reads.Asked, read-declaration-reads.Learnt, onward-reads.Asked, onward-reads.Learnt, heading-reads.Asked, heading-reads.Learnt, wide-reads.Asked, wide-reads.Learnt, body-below t, body.Post) (declarations-at t) declarations.Post declarations-Inv-loop declarations-μ-loop
 declarations-add-names t c = omega (arith, c .before .before .before .before .before .before .before .before .before .before .before .before .before .before .before .before .before .before .before .before .before .pre, c .before .before .before .before .before .before .before .before .before .before .before .before .before .before .before .before .before .before .loop .inv, c .before .before .before .before .before .before .before .before .before .before .before .before .before .before .before .before .before .loop-test .taken)
 
-pub declarations-mul-names : (t : ℕ) → declarations-lts.Need-mul-names (read-record-reads.Asked, read-record-reads.Learnt, onward-reads.Asked, onward-reads.Learnt, heading-reads.Asked, heading-reads.Learnt, wide-reads.Asked, wide-reads.Learnt, body-below t, body.Post) (declarations-at t) declarations.Post declarations-Inv-loop declarations-μ-loop
+pub declarations-mul-names : (t : ℕ) → declarations-lts.Need-mul-names (read-declaration-reads.Asked, read-declaration-reads.Learnt, onward-reads.Asked, onward-reads.Learnt, heading-reads.Asked, heading-reads.Learnt, wide-reads.Asked, wide-reads.Learnt, body-below t, body.Post) (declarations-at t) declarations.Post declarations-Inv-loop declarations-μ-loop
 declarations-mul-names t c = omega (arith, c .before .before .before .before .before .before .before .before .before .before .before .before .before .before .before .before .before .before .before .before .before .pre, c .before .before .before .before .before .before .before .before .before .before .before .before .before .before .before .before .before .before .loop .inv, c .before .before .before .before .before .before .before .before .before .before .before .before .before .before .before .before .before .loop-test .taken)
 
-pub declarations-slice-write-names : (t : ℕ) → declarations-lts.Need-slice-write-names (read-record-reads.Asked, read-record-reads.Learnt, onward-reads.Asked, onward-reads.Learnt, heading-reads.Asked, heading-reads.Learnt, wide-reads.Asked, wide-reads.Learnt, body-below t, body.Post) (declarations-at t) declarations.Post declarations-Inv-loop declarations-μ-loop
+pub declarations-slice-write-names : (t : ℕ) → declarations-lts.Need-slice-write-names (read-declaration-reads.Asked, read-declaration-reads.Learnt, onward-reads.Asked, onward-reads.Learnt, heading-reads.Asked, heading-reads.Learnt, wide-reads.Asked, wide-reads.Learnt, body-below t, body.Post) (declarations-at t) declarations.Post declarations-Inv-loop declarations-μ-loop
 declarations-slice-write-names t c = let l : length (c .before .before .before .before .before .body .last .1 .0) ≡ length (c .before .before .before .before .before .before .before .before .before .before .before .before .before .before .before .before .before .before .loop .names) = c .before .before .before .before .before .body .kept .1 .0 in
     omega (arith, c .before .before .before .before .before .before .before .before .before .before .before .before .before .before .before .before .before .before .before .before .before .pre, c .before .before .before .before .before .before .before .before .before .before .before .before .before .before .before .before .before .before .loop .inv, c .before .before .before .before .before .before .before .before .before .before .before .before .before .before .before .before .before .loop-test .taken, l)
 
-pub declarations-add-i : (t : ℕ) → declarations-lts.Need-add-i (read-record-reads.Asked, read-record-reads.Learnt, onward-reads.Asked, onward-reads.Learnt, heading-reads.Asked, heading-reads.Learnt, wide-reads.Asked, wide-reads.Learnt, body-below t, body.Post) (declarations-at t) declarations.Post declarations-Inv-loop declarations-μ-loop
+pub declarations-add-i : (t : ℕ) → declarations-lts.Need-add-i (read-declaration-reads.Asked, read-declaration-reads.Learnt, onward-reads.Asked, onward-reads.Learnt, heading-reads.Asked, heading-reads.Learnt, wide-reads.Asked, wide-reads.Learnt, body-below t, body.Post) (declarations-at t) declarations.Post declarations-Inv-loop declarations-μ-loop
 declarations-add-i t c = omega (arith, c .before .before .before .before .before .before .before .before .before .before .before .before .before .before .before .before .before .before .before .before .before .pre, c .before .before .before .before .before .before .before .before .before .before .before .before .before .before .before .before .before .loop-test .taken)
 
-pub declarations-loop-less : (t : ℕ) → declarations-lts.Need-loop-less (read-record-reads.Asked, read-record-reads.Learnt, onward-reads.Asked, onward-reads.Learnt, heading-reads.Asked, heading-reads.Learnt, wide-reads.Asked, wide-reads.Learnt, body-below t, body.Post) (declarations-at t) declarations.Post declarations-Inv-loop declarations-μ-loop
+pub declarations-loop-less : (t : ℕ) → declarations-lts.Need-loop-less (read-declaration-reads.Asked, read-declaration-reads.Learnt, onward-reads.Asked, onward-reads.Learnt, heading-reads.Asked, heading-reads.Learnt, wide-reads.Asked, wide-reads.Learnt, body-below t, body.Post) (declarations-at t) declarations.Post declarations-Inv-loop declarations-μ-loop
 declarations-loop-less t c = search needs
 
-pub declarations-loop-again : (t : ℕ) → declarations-lts.Need-loop-again (read-record-reads.Asked, read-record-reads.Learnt, onward-reads.Asked, onward-reads.Learnt, heading-reads.Asked, heading-reads.Learnt, wide-reads.Asked, wide-reads.Learnt, body-below t, body.Post) (declarations-at t) declarations.Post declarations-Inv-loop declarations-μ-loop
+pub declarations-loop-again : (t : ℕ) → declarations-lts.Need-loop-again (read-declaration-reads.Asked, read-declaration-reads.Learnt, onward-reads.Asked, onward-reads.Learnt, heading-reads.Asked, heading-reads.Learnt, wide-reads.Asked, wide-reads.Learnt, body-below t, body.Post) (declarations-at t) declarations.Post declarations-Inv-loop declarations-μ-loop
 declarations-loop-again t c = let a = c .before .before .before .before .before .before .before .before .before .before .before .before .before .before .before .before .before .before .before .before .before .args in
     let lp = c .before .before .before .before .before .before .before .before .before .before .before .before .before .before .before .before .before .before .loop in
-    let rr = c .before .before .before .before .before .before .before .before .before .before .before .before .before .before .before .before .read-record in
+    let rr = c .before .before .before .before .before .before .before .before .before .before .before .before .before .before .before .before .read-declaration in
     let r = c .before .before .before .before .before .before .before .before .before .before .before .before .before .before .reading in
     let hd = c .before .before .before .before .before .before .before .before .before .before .before .heading in
     let ow = c .before .before .before .before .before .before .before .before .before .own in
@@ -168,10 +168,10 @@ declarations-loop-again t c = let a = c .before .before .before .before .before 
       decls-again (tracks-block (a .script .now) (a .below)) (lp .inv .3) (c .before .before .before .before .before .before .before .before .before .before .before .before .before .before .before .before .before .loop-test .taken) (sym (rr .ensures .0) ∙ r .given .1) (sym (hd .ensures) ∙ ow .given .1) (bd .last .1 .0) (omega (arith, within)) (ap (λ k. belowOf (definitions.blockWith (a .below)) (declMarkOf (r .given .0 .0)) k (ow .given .0 .0) (unread (a .script .now) (ow .given .0 .0))) (sym (w .ensures)) ∙ sym (bd .ensures .0) ∙ c .before .after .given .1) kept (omega (arith, c .before .before .before .before .before .before .before .before .before .before .before .before .before .before .before .before .before .before .before .before .before .pre, lp .inv, c .before .before .before .before .before .before .before .before .before .before .before .before .before .before .before .before .before .loop-test .taken, l)),
     )
 
-pub declarations-same-length-4 : (t : ℕ) → declarations-lts.Need-same-length-4 (read-record-reads.Asked, read-record-reads.Learnt, onward-reads.Asked, onward-reads.Learnt, heading-reads.Asked, heading-reads.Learnt, wide-reads.Asked, wide-reads.Learnt, body-below t, body.Post) (declarations-at t) declarations.Post declarations-Inv-loop declarations-μ-loop
+pub declarations-same-length-4 : (t : ℕ) → declarations-lts.Need-same-length-4 (read-declaration-reads.Asked, read-declaration-reads.Learnt, onward-reads.Asked, onward-reads.Learnt, heading-reads.Asked, heading-reads.Learnt, wide-reads.Asked, wide-reads.Learnt, body-below t, body.Post) (declarations-at t) declarations.Post declarations-Inv-loop declarations-μ-loop
 declarations-same-length-4 t c = c .before .loop .inv .1 ∙ sym (c .before .before .before .before .pre .1 .2)
 
-pub declarations-returns-4 : (t : ℕ) → declarations-lts.Need-returns-4 (read-record-reads.Asked, read-record-reads.Learnt, onward-reads.Asked, onward-reads.Learnt, heading-reads.Asked, heading-reads.Learnt, wide-reads.Asked, wide-reads.Learnt, body-below t, body.Post) (declarations-at t) declarations.Post declarations-Inv-loop declarations-μ-loop
+pub declarations-returns-4 : (t : ℕ) → declarations-lts.Need-returns-4 (read-declaration-reads.Asked, read-declaration-reads.Learnt, onward-reads.Asked, onward-reads.Learnt, heading-reads.Asked, heading-reads.Learnt, wide-reads.Asked, wide-reads.Learnt, body-below t, body.Post) (declarations-at t) declarations.Post declarations-Inv-loop declarations-μ-loop
 declarations-returns-4 t c = let a = c .before .before .before .before .args in
     let lp = c .before .loop in
     (decls-end (tracks-block (a .script .now) (a .below)) (lp .inv .3) (c .loop-test .left), lp .inv .2)

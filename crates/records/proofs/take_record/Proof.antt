@@ -1,0 +1,104 @@
+-- `records::take_record` meets its contract: each way out is a case of `restAt`. Assumes nothing.
+use mathlib.Core.Path.{_≡_, refl, _∙_, sym, ap}
+use Prim.Native.Nat.{ℕ, _+_, _*_}
+use native.Mathlib.Omega.{arith}
+use borrow.Author.Needs.{needs}
+use Rattle.records.specs.Taking.{restAt}
+use Rattle.records.specs.declared.Mark.{Mark}
+use Rattle.records.specs.declared.Fit.{Fit}
+use Rattle.records.specs.declared.Fit.the-variants.{Found}
+use Rattle.records.specs.declared.Reading.the-variants.{Taken}
+use Rattle.records.proofs.Places.{rest-whole, rest-cut, rest-stray}
+use Rattle.records.proofs.take_record.Statement.{statement}
+use Rattle.records.proofs.take_record.Tie as tie
+
+same-fields : (m : Mark) (next : ℕ) {a a′ b b′ c c′ d d′ : ℕ} → a ≡ a′ → b ≡ b′ → c ≡ c′ → d ≡ d′ → Taken m next a b c d ≡ Taken m next a′ b′ c′ d′
+same-fields m next p q r s = cc
+
+enum-known-fit : tie.Need-enum-known-fit
+enum-known-fit c = search needs
+
+enum-told : tie.Need-enum-told
+enum-told c = search needs
+
+returns : tie.Need-returns
+returns c =
+    let a = c .before .before .before .args in
+    (sym (ap (λ (x : Fit). restAt x (a .script .now) (a .at)) (c .enum-told .given .1) ∙ rest-stray (a .script .now) (a .at)), tt)
+
+add-from : tie.Need-add-from
+add-from c = search needs
+
+size-requires : tie.Need-size-requires
+size-requires c κs = search needs
+
+sub-if1 : tie.Need-sub-if1
+sub-if1 c = search needs
+
+mul-if1 : tie.Need-mul-if1
+mul-if1 c = search needs
+
+returns-2 : tie.Need-returns-2
+returns-2 c =
+    let a = c .before .before .before .before .before .before .args in
+    let known = c .before .before .before .fit .given in (
+      sym
+          (ap (λ (x : Fit). restAt x (a .script .now) (a .at))
+          (known .1 ∙ ap (λ (k : ℕ). Found k (known .0 .1 .0)) (sym (c .before .size .ensures .0)))
+          ∙ rest-cut (c .before .size .result) (known .0 .1 .0) (a .script .now) (a .at) (omega arith)),
+      tt,
+    )
+
+field-of-requires : tie.Need-field-of-requires
+field-of-requires c κs = search needs
+
+field-of-requires-2 : tie.Need-field-of-requires-2
+field-of-requires-2 c κs = search needs
+
+field-of-requires-3 : tie.Need-field-of-requires-3
+field-of-requires-3 c κs = search needs
+
+field-of-requires-4 : tie.Need-field-of-requires-4
+field-of-requires-4 c κs = search needs
+
+mul-t13 : tie.Need-mul-t13
+mul-t13 c = search needs
+
+add-t14 : tie.Need-add-t14
+add-t14 c = search needs
+
+returns-3 : tie.Need-returns-3
+returns-3 c =
+    let b = c .before .before .before .before in
+    let a = b .before .before .before .before .before .before .args in
+    let known = b .before .before .before .fit .given in
+    let k = b .before .size in (
+      same-fields (known .0 .1 .0) (a .at + 2 + 2 * k .result)
+          (c .before .before .before .field-of .ensures .0) (c .before .before .field-of2 .ensures .0)
+          (c .before .field-of3 .ensures .0) (c .field-of4 .ensures .0)
+          ∙ sym
+          (ap (λ (x : Fit). restAt x (a .script .now) (a .at))
+          (known .1 ∙ ap (λ (n : ℕ). Found n (known .0 .1 .0)) (sym (k .ensures .0)))
+          ∙ rest-whole (k .result) (known .0 .1 .0) (a .script .now) (a .at) (omega (arith, b))),
+      (omega arith, omega (arith, b), search needs, search needs, search needs, search needs),
+    )
+
+pub take-record-spec : {M : Type 1} → statement M
+take-record-spec =
+    tie.close
+    (tie.spec
+    enum-known-fit
+    enum-told
+    returns
+    add-from
+    size-requires
+    sub-if1
+    mul-if1
+    returns-2
+    field-of-requires
+    field-of-requires-2
+    field-of-requires-3
+    field-of-requires-4
+    mul-t13
+    add-t14
+    returns-3)
