@@ -11,8 +11,8 @@ use lib.ListN.{length, length-map}
 use borrow.Author.Tests.{ne-eqb}
 use Rattle.language.specs.Basics.{lookup}
 use Rattle.language.specs.Text.{Kind, procedure, sameKind, CL}
-use Rattle.language.specs.Encoding.{LB-mark, PR-mark, FM-mark, CL-mark, GO-mark, IF-mark, KN-mark, AR-mark, QY-mark}
-use Rattle.language.specs.Scope.{Scope, fine, wrong, allVisible, kindIn, agree, agrees, _then_, judgeAction, uses}
+use Rattle.language.specs.Encoding.{kindField, LB-mark, PR-mark, FM-mark, CL-mark, GO-mark, IF-mark, KN-mark, AR-mark, QY-mark}
+use Rattle.language.specs.Scope.{Scope, Meaning, fine, wrong, allVisible, kindIn, agree, agrees, _then_, judgeAction, uses}
 use Rattle.language.specs.Scope as definitions
 use Rattle.language.specs.declared.Refusal.{Refusal}
 use Rattle.language.specs.declared.Refusal.the-variants.{CallMismatch}
@@ -20,7 +20,7 @@ use Rattle.scoping.specs.Entries.{wordAt, wordsAt, kindsAt, meaningAt, f
 use Rattle.language.specs.declared.Verdict.{Verdict}
 use Rattle.language.specs.declared.Verdict.the-variants.{Fit, Refused}
 use Rattle.scoping.specs.declared.Found.the-variants.{At, Nothing}
-use Rattle.scoping.proofs.Meanings.{found-lookup, means-PR}
+use Rattle.scoping.proofs.Meanings.{found-lookup, means-PR, use-right}
 
 fit-refused : {A : Type 0} (r : Verdict) (c : Refusal) (o : ℕ) → r ≡ Fit → r ≡ Refused c o → A
 fit-refused r c o p q = let z : _≡_ {A = ℕ} 0 1 = cc in absurd (omega arith)
@@ -119,6 +119,35 @@ module _ (bs es : List ℕ) (at n m : ℕ) (name : n ≡ wordAt bs (at + 2)) (nu
       pub call-judges : (t : Verdict) (v : definitions.Verdict) → t ≡ verdictOf v → agrees at (lookup n sc) (map (kindIn sc) xs) ≡ v → t ≡ whole
       call-judges t v e f =
           e ∙ sym (ap verdictOf f) ∙ then-go (allVisible sc at xs) _ s q seen ∙ then-go (uses sc at procedure n) _ r p fits ∙ opened
+
+-- arguments that agree with formals are visible
+pub no-true : {A : Type 0} → false ≡ true → A
+no-true e = let z : _≡_ {A = ℕ} 0 1 = cc in absurd (omega arith)
+
+and-right : (b c : Bool) → (b && c) ≡ true → c ≡ true
+and-right true c e = e
+and-right false c e = no-true e
+
+agree-first : (sc : Scope) (at : ℕ) (k : Kind) (ks : List Kind) (n : ℕ) (ns : List ℕ) (m : Option Meaning) → lookup n sc ≡ m → agree (k ∷ ks) (map (kindIn sc) (n ∷ ns)) ≡ true → (agree ks (map (kindIn sc) ns) ≡ true) × (definitions.visible at (lookup n sc) ≡ fine)
+unfolding agree kindIn definitions.visible
+agree-first sc at k ks n ns none e f = no-true (rw (e, kindIn, agree) at f)
+agree-first sc at k ks n ns (some m) e f = (and-right (sameKind k (m .kind)) _ (rw (e, kindIn, agree) at f), rw e)
+
+agree-visible : (sc : Scope) (at : ℕ) (ks : List Kind) (ns : List ℕ) → agree ks (map (kindIn sc) ns) ≡ true → allVisible sc at ns ≡ fine
+unfolding agree allVisible _then_
+agree-visible sc at ks [] e = refl
+agree-visible sc at [] (n ∷ ns) e = no-true e
+agree-visible sc at (k ∷ ks) (n ∷ ns) e =
+    let f = agree-first sc at k ks n ns (lookup n sc) refl e in
+    ap (λ (v : definitions.Verdict). _then_ v (allVisible sc at ns)) (f .1) ∙ agree-visible sc at ks ns (f .0)
+
+pub suited : (bs es : List ℕ) (at n m place : ℕ) → n ≡ wordAt bs (at + 2) → m ≡ wordAt bs (at + 4) → foundIn n es ≡ At place → wordAt bs place ≡ PR-mark → wordAt bs (place + 4) ≡ m → agree (kindsAt bs (place + 6) m) (map (kindIn (scopeOf bs es)) (wordsAt bs (at + 6) m)) ≡ true → Fit ≡ verdictOf (judgeAction (scopeOf bs es) at (CL (wordAt bs (at + 2)) (wordsAt bs (at + 6) (wordAt bs (at + 4)))))
+unfolding verdictOf
+suited bs es at n m place name number found marked same e =
+    call-judges bs es at n m name number Fit
+    (sym (ap verdictOf (use-right bs es at procedure n place found (ap (λ (x : Meaning). kindField (x .kind)) (means-PR bs place marked)))))
+    refl Fit (sym (ap verdictOf (agree-visible (scopeOf bs es) at (kindsAt bs (place + 6) m) (wordsAt bs (at + 6) m) e))) refl Fit fine refl
+    (agrees-found bs es at n place _ found ∙ agrees-by bs at place marked _ m true same e)
 
 -- a statement's shape by its mark
 pub shape-two : (w : ℕ) → (w ≡ CL-mark → ⊥) → (w ≡ GO-mark → ⊥) → (w ≡ IF-mark → ⊥) → (w ≡ KN-mark → ⊥) → (w ≡ AR-mark → ⊥) → (w ≡ QY-mark → ⊥) → shapeOf w ≡ isTwo

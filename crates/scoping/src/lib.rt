@@ -6,6 +6,7 @@ use language::Refusal;
 use language::Verdict;
 use records::Progress;
 ghost use mathlib.Core.Path.{_≡_};
+ghost use mathlib.Core.Bool.{true};
 ghost use mathlib.Core.Option.{some};
 ghost use Prim.Native.Nat.{_+_, _%_, _^_, _<_, _≤_, max};
 ghost use lib.ListN.{length, getD, take, drop};
@@ -290,7 +291,7 @@ fn agrees(
 }
 
 // CL: the name called, then its arguments, then 11.
-fn call(script: &[u8], entries: &[usize], top: usize, at: usize) -> Verdict
+fn judge_call(script: &[u8], entries: &[usize], top: usize, at: usize) -> Verdict
     requires { ⌜ (at < 2 ^ 32) × Hung (now entries) top ⌝ }
     ensures { λ r.
         ⌜ r ≡ verdictOf (definitions.judgeAction (scopeFrom (now (script .entry)) (now (entries .entry)) top) at (callAt (now (script .entry)) at)) ⌝ }
@@ -309,6 +310,38 @@ fn call(script: &[u8], entries: &[usize], top: usize, at: usize) -> Verdict
         return Verdict::Fit;
     };
     agrees(script, entries, top, at, place, count)
+}
+
+// Whether a declared procedure is called with arguments of its formals' kinds: then they are visible too, and nothing is refused.
+fn suits(script: &[u8], entries: &[usize], top: usize, at: usize) -> bool
+    requires { ⌜ (at < 2 ^ 32) × Hung (now entries) top ⌝ }
+    ensures { λ r.
+        ⌜ (r ≡ true → Verdict.Fit ≡ verdictOf (definitions.judgeAction (scopeFrom (now (script .entry)) (now (entries .entry)) top) at (callAt (now (script .entry)) at))) ⌝ }
+{
+    let name = word(script, at + 2);
+    let count = word(script, at + 4);
+    let Found::At(place) = find(entries, top, name) else {
+        return false;
+    };
+    if word(script, place) != PR {
+        return false;
+    }
+    if word(script, place + 4) != count {
+        return false;
+    }
+    matching(script, entries, top, at, place + 6, count)
+}
+
+// CL. A call that suits its procedure looks each argument up once.
+fn call(script: &[u8], entries: &[usize], top: usize, at: usize) -> Verdict
+    requires { ⌜ (at < 2 ^ 32) × Hung (now entries) top ⌝ }
+    ensures { λ r.
+        ⌜ r ≡ verdictOf (definitions.judgeAction (scopeFrom (now (script .entry)) (now (entries .entry)) top) at (callAt (now (script .entry)) at)) ⌝ }
+{
+    if suits(script, entries, top, at) {
+        return Verdict::Fit;
+    }
+    judge_call(script, entries, top, at)
 }
 
 // Two names of the record at an offset, left to right, and the kinds wanted.
