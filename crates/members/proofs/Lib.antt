@@ -8,3 +8,5 @@ pub mod TableRight
 pub mod SlotLaws
 pub mod Passes
 pub mod Fits
+pub mod Filters
+pub mod Tallies

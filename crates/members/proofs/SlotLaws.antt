@@ -13,7 +13,7 @@ use Rattle.members.proofs.Keys.{clash}
 
 -- ---- one key, told by two of its places
 
-passed-key : (first : List ℕ) (t : ℕ) (f h : ℕ → Bool) {a b : ℕ} → a ≡ b → ((k : ℕ) → f k ≡ h k) → Passed f a first t → Passed h b first t
+pub passed-key : (first : List ℕ) (t : ℕ) (f h : ℕ → Bool) {a b : ℕ} → a ≡ b → ((k : ℕ) → f k ≡ h k) → Passed f a first t → Passed h b first t
 passed-key first t f h e k p s l =
     subst (λ (x : ℕ). (getD first (x + s) 0 ≡ 0 → ⊥) × (h (getD first (x + s) 0 - 1) ≡ false)) e (p s l .0, sym (k _) ∙ p s l .1)
 

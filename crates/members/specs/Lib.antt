@@ -3,3 +3,5 @@ pub mod Places
 pub mod Outcomes
 pub mod Keys
 pub mod Slots
+pub mod Filter
+pub mod Tally

@@ -30,7 +30,7 @@ unfoldable pub classAt : Bool → List ℤ → ℕ → ℕ → ℕ
 classAt whole ws classes i = classOf classes (hashAt whole ws i)
 
 unfoldable pub slotOf : ℕ → ℕ
-slotOf h = (h % 4294967296 + h / 4294967296) * 668265263 / 65536 % 32640
+slotOf h = (h % 4294967296 + h / 4294967296) * 668265263 / 65536 % 16320
 
 unfoldable pub slotAt : Bool → List ℤ → ℕ → ℕ
 slotAt whole ws i = slotOf (hashAt whole ws i)
@@ -70,8 +70,8 @@ Kept alikes slot first number n =
     (getD first (slot + t) 0 ≡ 0 → ⊥) × (alikes (getD first (slot + t) 0 - 1) ≡ true → getD number (slot + t) 0 ≡ n)
 
 pub record Good (whole : Bool) (ws : List ℤ) (classes class i : ℕ) (first number : List ℕ) : Type 0 where
-  pub firsts : length first ≡ 32704
-  pub numbers : length number ≡ 32704
+  pub firsts : length first ≡ 16384
+  pub numbers : length number ≡ 16384
   pub low : (q : ℕ) → getD first q 0 ≤ i
   pub kept :
       (j : ℕ) → j < i → classAt whole ws classes j ≡ class →

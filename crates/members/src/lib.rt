@@ -10,8 +10,10 @@ ghost use Rattle.members.specs.Outcomes.{tableOf, added, removed, querie
 use language::Stop;
 
 mod alike;
+mod filter;
 mod right;
 mod slots;
+mod tally;
 
 // Where a pair stands, counted in pairs from 0.
 pub enum Place {
@@ -204,12 +206,12 @@ pub fn table_right(table: &[i32], count: usize, limit: u32) -> bool
     if !right::numbers_right(table, count) {
         return false;
     }
-    if !right::few_alike(table, count, true, 1) {
+    if !right::none_twice(table, count) {
         return false;
     }
     // A group is no larger than the table.
     if count <= limit as usize {
         return true;
     }
-    right::few_alike(table, count, false, limit)
+    right::groups_fit(table, count, limit)
 }

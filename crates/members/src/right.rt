@@ -1,14 +1,18 @@
 // Whether a table is right.
 ghost use mathlib.Core.Path.{_≡_};
-ghost use Prim.Native.Nat.{_*_, _≤_};
+ghost use mathlib.Core.Bool.{true, false};
+ghost use Prim.Native.Nat.{ℕ, _*_, _≤_, _<_};
 ghost use lib.ListN.{length};
 ghost use Rattle.language.specs.Table.{numbersRight};
-ghost use Rattle.members.specs.Keys.{within};
+ghost use Rattle.members.specs.Keys.{rankAt, within};
+ghost use Rattle.members.specs.Slots.{classAt};
 use super::alike::rank;
+use super::filter::once;
 use super::group_at;
 use super::member_at;
 use super::numbers_fit;
 use super::slots::pass;
+use super::tally::tally;
 
 pub fn numbers_right(table: &[i32], count: usize) -> bool
     requires { ⌜ 2 * count ≤ length (now table) ⌝ }
@@ -39,22 +43,75 @@ fn few_by_reading(table: &[i32], count: usize, whole: bool, limit: u32) -> bool
     true
 }
 
-// The same by passes over the table. A slot holds places below 2 ^ 32.
-pub fn few_alike(table: &[i32], count: usize, whole: bool, limit: u32) -> bool
+// Whether the pairs of one class have ranks within the limit.
+fn class_fits(
+    table: &[i32],
+    count: usize,
+    whole: bool,
+    limit: u32,
+    class: u64,
+    classes: u64,
+) -> bool
     requires { ⌜ 2 * count ≤ length (now table) ⌝ }
+    requires { ⌜ count ≤ 4294967295 ⌝ }
+    requires { ⌜ classes < 281474976710656 ⌝ }
+    ensures { λ r. ⌜ (r ≡ true → (i : ℕ) → i < count → classAt whole (now (table .entry)) classes i ≡ class → rankAt whole i (now (table .entry)) ≤ limit) ⌝ }
+    ensures { λ r. ⌜ (r ≡ false → within whole limit count (now (table .entry)) ≡ false) ⌝ }
+{
+    if whole {
+        if limit == 1 {
+            return once(table, count, class, classes);
+        }
+    }
+    pass(table, count, whole, limit, class, classes)
+}
+
+// The same as by reading, one class of keys after the other. A slot holds places below 2 ^ 32; a few pairs are read sooner than
+// the slots are cleared.
+fn few_alike(table: &[i32], count: usize, whole: bool, limit: u32, classes: u64) -> bool
+    requires { ⌜ 2 * count ≤ length (now table) ⌝ }
+    requires { ⌜ 0 < classes ⌝ }
+    requires { ⌜ classes < 281474976710656 ⌝ }
     ensures { λ r. ⌜ r ≡ within whole limit count (now (table .entry)) ⌝ }
 {
     if 4294967295 < count {
         return few_by_reading(table, count, whole, limit);
     }
-    // Some 20,000 keys to the 32,640 slots of a pass: few windows fill up.
-    let classes = (count / 20480) as u64 + 1;
+    if count < 64 {
+        return few_by_reading(table, count, whole, limit);
+    }
     let mut class: u64 = 0;
     while class < classes {
-        if !pass(table, count, whole, limit, class, classes) {
+        if !class_fits(table, count, whole, limit, class, classes) {
             return false;
         }
         class += 1;
     }
     true
+}
+
+// Some 200,000 pairs to a class: about one in thirty is suspected.
+pub fn none_twice(table: &[i32], count: usize) -> bool
+    requires { ⌜ 2 * count ≤ length (now table) ⌝ }
+    ensures { λ r. ⌜ r ≡ within true 1 count (now (table .entry)) ⌝ }
+{
+    few_alike(table, count, true, 1, (count / 204800) as u64 + 1)
+}
+
+// Some 8,000 groups to the 16,320 slots of a pass, where the buckets do not tell: few windows fill up.
+pub fn groups_fit(table: &[i32], count: usize, limit: u32) -> bool
+    requires { ⌜ 2 * count ≤ length (now table) ⌝ }
+    ensures { λ r. ⌜ r ≡ within false limit count (now (table .entry)) ⌝ }
+{
+    if 4294967295 < count {
+        return few_by_reading(table, count, false, limit);
+    }
+    if count < 64 {
+        return few_by_reading(table, count, false, limit);
+    }
+    let groups = tally(table, count, limit);
+    if groups == 0 {
+        return true;
+    }
+    few_alike(table, count, false, limit, groups / 8192 + 1)
 }

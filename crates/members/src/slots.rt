@@ -1,11 +1,11 @@
-// Counting pairs by key in one go over the table, in slots found by a hash: 32,640 of them, and 64 more for the window of the
+// Counting pairs by key in one go over the table, in slots found by a hash: 16,320 of them, and 64 more for the window of the
 // last. They have room for some thousand keys, so the keys are parted into classes, and each class has a pass of its own.
 ghost use mathlib.Core.Path.{_≡_};
 ghost use mathlib.Core.Bool.{true, false};
 ghost use Prim.Native.Nat.{ℕ, _+_, _*_, _≤_, _<_};
 ghost use lib.ListN.{length, getD};
 ghost use Rattle.members.specs.Keys.{rankAt, within};
-ghost use Rattle.members.specs.Slots.{classOf, classAt, Sought, Good};
+ghost use Rattle.members.specs.Slots.{classOf, classAt, slotOf, Sought, Good};
 use super::alike::hash;
 use super::alike::rank;
 use super::alike::same_key;
@@ -17,19 +17,27 @@ pub enum Slot {
     Full,
 }
 
-fn class_of(hash: u64, classes: u64) -> u64
+pub fn class_of(hash: u64, classes: u64) -> u64
     requires { ⌜ classes < 281474976710656 ⌝ }
     ensures { λ r. ⌜ r ≡ classOf classes hash ⌝ }
 {
     hash / 65536 % 65536 * classes / 65536
 }
 
+pub fn slot_of(hash: u64) -> usize
+    ensures { λ r. ⌜ r ≡ slotOf hash ⌝ }
+    ensures { λ r. ⌜ r < 16320 ⌝ }
+{
+    let folded = hash % 4294967296 + hash / 4294967296;
+    (folded * 668265263 / 65536 % 16320) as usize
+}
+
 // In `first` a slot has the place of the first pair with its key, plus 1; 0 where it is empty. In `number` it has how many
 // pairs with the key were passed.
-fn seek(table: &[i32], whole: bool, i: usize, first: &[u32; 32704], slot: usize) -> Slot
+pub fn seek(table: &[i32], whole: bool, i: usize, first: &[u32; 16384], slot: usize) -> Slot
     requires { ⌜ 2 * i + 1 < length (now table) ⌝ }
-    requires { ⌜ slot < 32640 ⌝ }
-    requires { ⌜ ((q : ℕ) → getD (now first) q 0 ≤ i) ⌝ }
+    requires { ⌜ slot < 16320 ⌝ }
+    requires { ⌜ ((q : ℕ) → 2 * getD (now first) q 0 ≤ length (now table)) ⌝ }
     ensures { λ r. ⌜ Sought whole (now (table .entry)) i (now (first .entry)) slot r ⌝ }
 {
     let mut t = 0;
@@ -54,8 +62,8 @@ fn step(
     class: u64,
     classes: u64,
     i: usize,
-    first: &mut [u32; 32704],
-    number: &mut [u32; 32704],
+    first: &mut [u32; 16384],
+    number: &mut [u32; 16384],
 ) -> bool
     requires { ⌜ 2 * i + 1 < length (now table) ⌝ }
     requires { ⌜ i < 4294967295 ⌝ }
@@ -69,8 +77,7 @@ fn step(
     if class_of(h, classes) != class {
         return true;
     }
-    let folded = h % 4294967296 + h / 4294967296;
-    let slot = (folded * 668265263 / 65536 % 32640) as usize;
+    let slot = slot_of(h);
     let found = seek(table, whole, i, first, slot);
     match found {
         Slot::Empty(q) => {
@@ -101,8 +108,8 @@ pub fn pass(table: &[i32], count: usize, whole: bool, limit: u32, class: u64, cl
     ensures { λ r. ⌜ (r ≡ true → (i : ℕ) → i < count → classAt whole (now (table .entry)) classes i ≡ class → rankAt whole i (now (table .entry)) ≤ limit) ⌝ }
     ensures { λ r. ⌜ (r ≡ false → within whole limit count (now (table .entry)) ≡ false) ⌝ }
 {
-    let mut first = [0u32; 32704];
-    let mut number = [0u32; 32704];
+    let mut first = [0u32; 16384];
+    let mut number = [0u32; 16384];
     let mut i = 0;
     while i < count {
         if !step(

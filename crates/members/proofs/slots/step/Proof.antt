@@ -1,7 +1,6 @@
 -- `step` meets its contract: each way through the slots keeps them good.
 use Prim.Native.Nat.{ℕ, suc, _<_}
 use mathlib.Core.Path.{_≡_, refl, sym, _∙_, ap, subst}
-use native.Mathlib.Nat.{mod-lt}
 use native.Mathlib.Numerals.{add-one}
 use native.Mathlib.Omega.{arith}
 use borrow.Author.Tests.{leb-true, leb-false}
@@ -36,36 +35,37 @@ classed c = c .class-of .ensures ∙ ap (classOf (c .before .before .args .class
 mine : (c : tie.Else1) → Mine (c .before .before .before)
 mine c = sym (classed (c .before)) ∙ c .if1 .left
 
-sought : (c : tie.After-seek) → Ends (c .before .before .before .before .before) (c .seek .result)
+sought : (c : tie.After-seek) → Ends (c .before .before .before .before .before .before) (c .seek .result)
 unfolding slotAt slotOf
 sought c =
-    let s = c .before .before .before .before .before in
-    subst (λ (h : ℕ). Sought (s .args .whole) (s .args .table .now) (s .args .i) (s .args .first .now) (slotOf h) (c .seek .result)) (c .before .before .before .before .hash .ensures) (c .seek .ensures)
+    let s = c .before .before .before .before .before .before in
+    let k = c .before .before in
+    subst (λ (q : ℕ). Sought (s .args .whole) (s .args .table .now) (s .args .i) (s .args .first .now) q (c .seek .result)) (k .slot-of .ensures .0 ∙ ap slotOf (k .before .before .before .hash .ensures)) (c .seek .ensures)
 
-at-empty : (c : tie.After-found) → Ends (c .before .before .before .before .before .before .before) (Empty (c .found .given .0 .0))
-at-empty c = subst (Ends (c .before .before .before .before .before .before .before)) (c .found .given .1) (sought (c .before .before))
+at-empty : (c : tie.After-found) → Ends (c .before .before .before .before .before .before .before .before) (Empty (c .found .given .0 .0))
+at-empty c = subst (Ends (c .before .before .before .before .before .before .before .before)) (c .found .given .1) (sought (c .before .before))
 
-at-held : (c : tie.After-found2) → Ends (c .before .before .before .before .before .before .before) (Held (c .found2 .given .0 .0))
-at-held c = subst (Ends (c .before .before .before .before .before .before .before)) (c .found2 .given .1) (sought (c .before .before))
+at-held : (c : tie.After-found2) → Ends (c .before .before .before .before .before .before .before .before) (Held (c .found2 .given .0 .0))
+at-held c = subst (Ends (c .before .before .before .before .before .before .before .before)) (c .found2 .given .1) (sought (c .before .before))
 
-at-full : (c : tie.After-enum-told) → Ends (c .before .before .before .before .before .before .before) Full
-at-full c = subst (Ends (c .before .before .before .before .before .before .before)) (c .enum-told .given .1) (sought (c .before .before))
+at-full : (c : tie.After-enum-told) → Ends (c .before .before .before .before .before .before .before .before) Full
+at-full c = subst (Ends (c .before .before .before .before .before .before .before .before)) (c .enum-told .given .1) (sought (c .before .before))
 
-empty-fits : (c : tie.After-found) → c .found .given .0 .0 < 32704
+empty-fits : (c : tie.After-found) → c .found .given .0 .0 < 16384
 empty-fits c =
-    let s = c .before .before .before .before .before .before .before in
+    let s = c .before .before .before .before .before .before .before .before in
     empty-below (s .args .whole) (s .args .table .now) (s .args .classes) (s .args .class) (s .args .i) (s .args .first .now) (s .args .number .now) (s .pre .1 .1 .1) (at-empty c)
 
-held-fits : (c : tie.After-found2) → c .found2 .given .0 .0 < 32704
+held-fits : (c : tie.After-found2) → c .found2 .given .0 .0 < 16384
 held-fits c =
-    let s = c .before .before .before .before .before .before .before in
+    let s = c .before .before .before .before .before .before .before .before in
     held-below (s .args .whole) (s .args .table .now) (s .args .classes) (s .args .class) (s .args .i) (s .args .first .now) (s .args .number .now) (s .pre .1 .1 .1) (at-held c)
 
-held-counts : (c : tie.After-found2) → let s = c .before .before .before .before .before .before .before in
+held-counts : (c : tie.After-found2) → let s = c .before .before .before .before .before .before .before .before in
     getD (s .args .number .now) (c .found2 .given .0 .0) 0 ≡ counted (s .args .whole) (s .args .table .now) (s .args .i) (s .args .i)
 held-counts c =
-    let s = c .before .before .before .before .before .before .before in
-    held-count (s .args .whole) (s .args .table .now) (s .args .classes) (s .args .class) (s .args .i) (s .args .first .now) (s .args .number .now) (s .pre .1 .1 .1) (mine (c .before .before .before .before)) (at-held c)
+    let s = c .before .before .before .before .before .before .before .before in
+    held-count (s .args .whole) (s .args .table .now) (s .args .classes) (s .args .class) (s .args .i) (s .args .first .now) (s .args .number .now) (s .pre .1 .1 .1) (mine (c .before .before .before .before .before)) (at-held c)
 
 hash-requires : tie.Need-hash-requires
 hash-requires c κs = search needs
@@ -79,21 +79,20 @@ returns c =
     let other : Mine s → ⊥ = λ m. c .if1 .taken (classed (c .before) ∙ m) in
     (λ e. rw (add-one (s .args .i)) (good-skip (s .args .whole) (s .args .table .now) (s .args .classes) (s .args .class) (s .args .i) (s .args .first .now) (s .args .number .now) (s .pre .1 .1 .1) other), (λ e m. absurd (other m), λ e. clash refl e))
 
-add-folded : tie.Need-add-folded
-add-folded c = search needs
-
-mul-slot : tie.Need-mul-slot
-mul-slot c = search needs
+slot-of-requires : tie.Need-slot-of-requires
+slot-of-requires c κs = search needs
 
 seek-requires : tie.Need-seek-requires
-seek-requires c κs = (omega arith, (mod-lt _ (omega arith), c .before .before .before .before .pre .1 .1 .1 .low))
+seek-requires c κs =
+    let s = c .before .before .before .before .before in
+    (omega arith, (omega (arith, c .before .slot-of .ensures .1), λ q. omega (arith, s .pre .1 .1 .1 .low q)))
 
 enum-known-found : tie.Need-enum-known-found
 enum-known-found c = search needs
 
 returns-2 : tie.Need-returns-2
 returns-2 c =
-    let s = c .before .before .before .before .before .before .before .before .before in
+    let s = c .before .before .before .before .before .before .before .before .before .before in
     (λ e. clash e refl, (λ e. clash e refl, λ e. omega (arith, ranked s, c .if2 .taken)))
 
 add-first : tie.Need-add-first
@@ -126,7 +125,7 @@ element-copy-out-n c = held-fits (c .before)
 returns-3 : tie.Need-returns-3
 returns-3 c =
     let f = c .before .before .before in
-    let s = f .before .before .before .before .before .before .before in
+    let s = f .before .before .before .before .before .before .before .before in
     (λ e. clash e refl, (λ e. clash e refl, λ e. omega (arith, ranked s, held-counts f, c .if3 .taken)))
 
 add-number : tie.Need-add-number
@@ -147,7 +146,7 @@ rank-requires c κs = search needs
 returns-4 : tie.Need-returns-4
 returns-4 c =
     let f = c .before .before in
-    let d = f .before .before .before .before in
+    let d = f .before .before .before .before .before in
     let s = d .before .before .before in (
       λ e. rw (add-one (s .args .i)) (good-new (s .args .whole) (s .args .table .now) (s .args .classes) (s .args .class) (s .args .i) (s .args .first .now) (s .args .number .now) (s .pre .1 .1 .1) (mine d) (at-empty f)),
       (λ e m. omega (arith, ranked s, empty-count (s .args .whole) (s .args .table .now) (s .args .classes) (s .args .class) (s .args .i) (s .args .first .now) (s .args .number .now) (s .pre .1 .1 .1) (mine d) (at-empty f), c .if2 .left), λ e. clash refl e),
@@ -156,7 +155,7 @@ returns-4 c =
 returns-5 : tie.Need-returns-5
 returns-5 c =
     let f = c .before .before .before in
-    let d = f .before .before .before .before in
+    let d = f .before .before .before .before .before in
     let s = d .before .before .before in (
       λ e. rw (add-one (s .args .i), add-one (getD (s .args .number .now) (f .found2 .given .0 .0) 0)) (good-held (s .args .whole) (s .args .table .now) (s .args .classes) (s .args .class) (s .args .i) (s .args .first .now) (s .args .number .now) (s .pre .1 .1 .1) (mine d) (at-held f)),
       (λ e m. omega (arith, ranked s, held-counts f, c .if3 .left), λ e. clash refl e),
@@ -165,7 +164,7 @@ returns-5 c =
 returns-6 : tie.Need-returns-6
 returns-6 c =
     let f = c .before in
-    let s = f .before .before .before .before .before .before .before in (
+    let s = f .before .before .before .before .before .before .before .before in (
       λ e. rw (add-one (s .args .i)) (good-full (s .args .whole) (s .args .table .now) (s .args .classes) (s .args .class) (s .args .i) (s .args .first .now) (s .args .number .now) (s .pre .1 .1 .1) (at-full f)),
       (λ e m. omega (arith, leb-true (c .rank .result) (s .args .limit) e, c .rank .ensures), λ e. omega (arith, leb-false (c .rank .result) (s .args .limit) e, c .rank .ensures)),
     )
@@ -177,8 +176,7 @@ step-spec =
     hash-requires
     class-of-requires
     returns
-    add-folded
-    mul-slot
+    slot-of-requires
     seek-requires
     enum-known-found
     returns-2

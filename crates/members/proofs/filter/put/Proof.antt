@@ -1,0 +1,38 @@
+-- `put` meets its contract.
+use Prim.Native.Nat.{ℕ}
+use mathlib.Core.Path.{ap}
+use lib.ListN.{set}
+use borrow.Author.Needs.{needs}
+use Rattle.members.proofs.filter.put.Statement.{statement}
+use Rattle.members.proofs.filter.put.Tie as tie
+
+mul-joined : tie.Need-mul-joined
+mul-joined c = search needs
+
+element-copy-out-joined : tie.Need-element-copy-out-joined
+element-copy-out-joined c = search needs
+
+joined-requires : tie.Need-joined-requires
+joined-requires c κs = search needs
+
+mul-bits : tie.Need-mul-bits
+mul-bits c = search needs
+
+element-write-bits : tie.Need-element-write-bits
+element-write-bits c = search needs
+
+returns : tie.Need-returns
+returns c =
+    let s = c .before .before in
+    ap (λ (w : ℕ). set (s .args .bits .now) (s .args .q) w) (c .joined .ensures)
+
+pub put-spec : {M : Type 1} → statement M
+put-spec =
+    tie.close
+    (tie.spec
+    mul-joined
+    element-copy-out-joined
+    joined-requires
+    mul-bits
+    element-write-bits
+    returns)
