@@ -39,13 +39,15 @@ pub struct Entry {
     pub mark: Mark,
 }
 
-// In the order of the places allowed: the rows of a place stand together. BK, a block's and the first of the statements', has two.
+// The marks with their counts, in the order of the places allowed: the rows of a place stand together, and `rows_of` gives them.
 const MARKS: [Entry; 13] = [
+    // formals
     Entry {
         letters: 0x4d46,
         count: 2,
         mark: Mark::FM,
     },
+    // declarations
     Entry {
         letters: 0x5256,
         count: 1,
@@ -61,11 +63,13 @@ const MARKS: [Entry; 13] = [
         count: 2,
         mark: Mark::PR,
     },
+    // blocks and statements
     Entry {
         letters: 0x4b42,
         count: 2,
         mark: Mark::BK,
     },
+    // statements
     Entry {
         letters: 0x4c43,
         count: 2,
