@@ -20,7 +20,7 @@ use Rattle.records.specs.declared.Place.the-variants.{Block, Formal, Dec
 use Rattle.records.specs.declared.Fit.{Fit}
 use Rattle.records.specs.declared.Fit.the-variants.{Found, Nothing}
 use Rattle.records.specs.declared.Reading.{Reading}
-use Rattle.records.specs.declared.Reading.the-variants.{Taken, Refused}
+use Rattle.records.specs.declared.Reading.the-variants.{Refused}
 use Rattle.records.proofs.Taking.{fitted, no-mark, misplaced, cut-off, whole}
 
 module _ (bs : List ℕ) (at : ℕ) where

@@ -3,7 +3,6 @@ use mathlib.Core.Path.{sym}
 use Prim.Native.Nat.{_+_}
 use native.Mathlib.Omega.{arith}
 use lib.ListN.{length}
-use borrow.Author.Needs.{needs}
 use borrow.Author.Tests.{le-leb, lt-leb}
 use Rattle.records.proofs.marked.Statement.{statement}
 use Rattle.records.proofs.marked.Tie as tie
