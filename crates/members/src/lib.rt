@@ -206,12 +206,12 @@ pub fn table_right(table: &[i32], count: usize, limit: u32) -> bool
     if !right::numbers_right(table, count) {
         return false;
     }
-    if !right::none_twice(table, count) {
+    if !right::few_alike(table, count, true, 1) {
         return false;
     }
     // A group is no larger than the table.
     if count <= limit as usize {
         return true;
     }
-    right::groups_fit(table, count, limit)
+    right::few_alike(table, count, false, limit)
 }

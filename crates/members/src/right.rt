@@ -66,12 +66,28 @@ fn class_fits(
     pass(table, count, whole, limit, class, classes)
 }
 
+// Into how many classes the keys are parted; 0 where the buckets show that each has few pairs. Some 200,000 pairs to a class: about
+// one in thirty is suspected. Some 8,000 groups to the 16,320 slots of a pass: few windows fill up.
+fn classes_of(table: &[i32], count: usize, whole: bool, limit: u32) -> u64
+    requires { ⌜ 2 * count ≤ length (now table) ⌝ }
+    requires { ⌜ count ≤ 4294967295 ⌝ }
+    ensures { λ r. ⌜ (r ≡ 0 → within whole limit count (now (table .entry)) ≡ true) ⌝ }
+    ensures { λ r. ⌜ r < 281474976710656 ⌝ }
+{
+    if whole {
+        return (count / 204800) as u64 + 1;
+    }
+    let groups = tally(table, count, limit);
+    if groups == 0 {
+        return 0;
+    }
+    groups / 8192 + 1
+}
+
 // The same as by reading, one class of keys after the other. A slot holds places below 2 ^ 32; a few pairs are read sooner than
 // the slots are cleared.
-fn few_alike(table: &[i32], count: usize, whole: bool, limit: u32, classes: u64) -> bool
+pub fn few_alike(table: &[i32], count: usize, whole: bool, limit: u32) -> bool
     requires { ⌜ 2 * count ≤ length (now table) ⌝ }
-    requires { ⌜ 0 < classes ⌝ }
-    requires { ⌜ classes < 281474976710656 ⌝ }
     ensures { λ r. ⌜ r ≡ within whole limit count (now (table .entry)) ⌝ }
 {
     if 4294967295 < count {
@@ -80,6 +96,7 @@ fn few_alike(table: &[i32], count: usize, whole: bool, limit: u32, classes: u64)
     if count < 64 {
         return few_by_reading(table, count, whole, limit);
     }
+    let classes = classes_of(table, count, whole, limit);
     let mut class: u64 = 0;
     while class < classes {
         if !class_fits(table, count, whole, limit, class, classes) {
@@ -88,30 +105,4 @@ fn few_alike(table: &[i32], count: usize, whole: bool, limit: u32, classes: u64)
         class += 1;
     }
     true
-}
-
-// Some 200,000 pairs to a class: about one in thirty is suspected.
-pub fn none_twice(table: &[i32], count: usize) -> bool
-    requires { ⌜ 2 * count ≤ length (now table) ⌝ }
-    ensures { λ r. ⌜ r ≡ within true 1 count (now (table .entry)) ⌝ }
-{
-    few_alike(table, count, true, 1, (count / 204800) as u64 + 1)
-}
-
-// Some 8,000 groups to the 16,320 slots of a pass, where the buckets do not tell: few windows fill up.
-pub fn groups_fit(table: &[i32], count: usize, limit: u32) -> bool
-    requires { ⌜ 2 * count ≤ length (now table) ⌝ }
-    ensures { λ r. ⌜ r ≡ within false limit count (now (table .entry)) ⌝ }
-{
-    if 4294967295 < count {
-        return few_by_reading(table, count, false, limit);
-    }
-    if count < 64 {
-        return few_by_reading(table, count, false, limit);
-    }
-    let groups = tally(table, count, limit);
-    if groups == 0 {
-        return true;
-    }
-    few_alike(table, count, false, limit, groups / 8192 + 1)
 }

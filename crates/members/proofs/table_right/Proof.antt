@@ -35,14 +35,14 @@ returns-3 c =
     let k = c .before in
     rw (rest (k .before), sym (k .numbers-right .ensures) ∙ not-true _ (c .if3 .taken))
 
-none-twice-requires : tie.Need-none-twice-requires
-none-twice-requires c κs = search needs
+few-alike-requires : tie.Need-few-alike-requires
+few-alike-requires c κs = search needs
 
 returns-4 : tie.Need-returns-4
 returns-4 c =
     let f = c .before in
     let d = f .before in
-    rw (rest (d .before .before), sym (d .before .numbers-right .ensures) ∙ not-false _ (d .if3 .left), sym (f .none-twice .ensures) ∙ not-true _ (c .if4 .taken))
+    rw (rest (d .before .before), sym (d .before .numbers-right .ensures) ∙ not-false _ (d .if3 .left), sym (f .few-alike .ensures) ∙ not-true _ (c .if4 .taken))
 
 returns-5 : tie.Need-returns-5
 returns-5 c =
@@ -52,19 +52,19 @@ returns-5 c =
     rw (
       rest (d .before .before),
       sym (d .before .numbers-right .ensures) ∙ not-false _ (d .if3 .left),
-      sym (f .none-twice .ensures) ∙ not-false _ (c .before .if4 .left),
+      sym (f .few-alike .ensures) ∙ not-false _ (c .before .if4 .left),
       small-within false (s .args .limit) (s .args .table .now) (s .args .count) (c .if5 .taken),
     )
 
-groups-fit-requires : tie.Need-groups-fit-requires
-groups-fit-requires c κs = search needs
+few-alike-requires-2 : tie.Need-few-alike-requires-2
+few-alike-requires-2 c κs = search needs
 
 returns-6 : tie.Need-returns-6
 returns-6 c =
     let f = c .before .before .before in
     let d = f .before in
-    rw (rest (d .before .before), sym (d .before .numbers-right .ensures) ∙ not-false _ (d .if3 .left), sym (f .none-twice .ensures) ∙ not-false _ (c .before .before .if4 .left))
-    (c .groups-fit .ensures)
+    rw (rest (d .before .before), sym (d .before .numbers-right .ensures) ∙ not-false _ (d .if3 .left), sym (f .few-alike .ensures) ∙ not-false _ (c .before .before .if4 .left))
+    (c .few-alike2 .ensures)
 
 pub table-right-spec : {M : Type 1} → statement M
 table-right-spec =
@@ -74,8 +74,8 @@ table-right-spec =
     returns-2
     numbers-right-requires
     returns-3
-    none-twice-requires
+    few-alike-requires
     returns-4
     returns-5
-    groups-fit-requires
+    few-alike-requires-2
     returns-6)

@@ -1,8 +1,10 @@
 -- `few_alike` meets its contract. The loop's invariant: the ranks of the classes passed are within the limit.
 use Prim.Native.Nat.{ℕ, _≤_, _<_, _-_}
-use mathlib.Core.Path.{sym}
+use mathlib.Core.Path.{_≡_, refl, sym}
+use mathlib.Core.Bool.{Bool, true, false}
 use native.Mathlib.Omega.{arith}
-use borrow.Author.Tests.{not-true, not-false, le-leb}
+use borrow.Author.Tests.{not-true, not-false, le-leb, ltb-true, ltb-false}
+use lib.Dec.{ltb}
 use Rattle.members.specs.Keys.{rankAt, within}
 use Rattle.members.specs.Slots.{classAt}
 use Rattle.members.proofs.Keys.{rankFits, each-true, below-next}
@@ -18,24 +20,28 @@ abbrev μ-loop : tie.MeasureT-loop
 μ-loop table count whole limit classes class₀ class = classes - class
 
 few-by-reading-requires : tie.Need-few-by-reading-requires Inv-loop μ-loop
-few-by-reading-requires c κs = c .before .pre .0
+few-by-reading-requires c κs = c .before .pre
 
 returns : tie.Need-returns Inv-loop μ-loop
 returns c = c .few-by-reading .ensures
 
 few-by-reading-requires-2 : tie.Need-few-by-reading-requires-2 Inv-loop μ-loop
-few-by-reading-requires-2 c κs = c .before .before .pre .0
+few-by-reading-requires-2 c κs = c .before .before .pre
 
 returns-2 : tie.Need-returns-2 Inv-loop μ-loop
 returns-2 c = c .few-by-reading2 .ensures
+
+classes-of-requires : tie.Need-classes-of-requires Inv-loop μ-loop
+classes-of-requires c κs = (c .before .before .pre, c .before .if1 .left)
 
 loop-holds : tie.Need-loop-holds Inv-loop μ-loop
 loop-holds c = (omega arith, λ j l h. absurd (omega arith))
 
 class-fits-requires : tie.Need-class-fits-requires Inv-loop μ-loop
 class-fits-requires c κs =
-    let s = c .before .before .before .before in
-    (s .pre .0, (c .before .before .before .if1 .left, s .pre .1 .1))
+    let n = c .before .before in
+    let s = n .before .before .before in
+    (s .pre, (n .before .before .if1 .left, n .classes-of .ensures .1))
 
 returns-3 : tie.Need-returns-3 Inv-loop μ-loop
 returns-3 c = sym (c .before .class-fits .ensures .1 (not-true _ (c .if3 .taken)))
@@ -50,16 +56,25 @@ loop-again : tie.Need-loop-again Inv-loop μ-loop
 loop-again c =
     let k = c .before in
     let l = k .before .before in
-    let s = l .before .before .before in
-    (omega arith, λ j h b. below-next (classAt (s .args .whole) (s .args .table .now) (s .args .classes) j) (l .loop .class) (l .loop .inv .1 j h) (k .class-fits .ensures .0 (not-false _ (c .if3 .left)) j h) b)
+    let n = l .before in
+    let s = n .before .before .before in
+    (omega arith, λ j h b. below-next (classAt (s .args .whole) (s .args .table .now) (n .classes-of .result) j) (l .loop .class) (l .loop .inv .1 j h) (k .class-fits .ensures .0 (not-false _ (c .if3 .left)) j h) b)
 
 returns-4 : tie.Need-returns-4 Inv-loop μ-loop
 unfolding within
-returns-4 c =
-    let l = c .before in
-    let s = l .before .before .before in
-    sym (each-true (rankFits (s .args .whole) (s .args .limit) (s .args .table .now)) (s .args .count)
-    (λ j h. le-leb _ _ (l .loop .inv .1 j h (omega (arith, class-below (s .args .whole) (s .args .table .now) (s .args .classes) j (s .pre .1 .0))))))
+returns-4 c = go (ltb 0 (n .classes-of .result)) refl
+  where
+    n : tie.After-classes-of Inv-loop μ-loop
+    n = c .before .before
+
+    s : tie.Start Inv-loop μ-loop
+    s = n .before .before .before
+
+    go : (b : Bool) → ltb 0 (n .classes-of .result) ≡ b → true ≡ within (s .args .whole) (s .args .limit) (s .args .count) (s .args .table .now)
+    go true p =
+        sym (each-true (rankFits (s .args .whole) (s .args .limit) (s .args .table .now)) (s .args .count)
+        (λ j h. le-leb _ _ (c .before .loop .inv .1 j h (omega (arith, class-below (s .args .whole) (s .args .table .now) (n .classes-of .result) j (ltb-true 0 (n .classes-of .result) p))))))
+    go false p = sym (n .classes-of .ensures .0 (omega (arith, ltb-false 0 (n .classes-of .result) p)))
 
 pub few-alike-spec : {M : Type 1} → statement M
 few-alike-spec =
@@ -71,6 +86,7 @@ few-alike-spec =
     returns
     few-by-reading-requires-2
     returns-2
+    classes-of-requires
     loop-holds
     class-fits-requires
     returns-3
