@@ -221,7 +221,7 @@ module _ (ws : List ℤ) where
             clash (subst (λ (s : ℕ). Has bits (seenOf s) (maskOf s)) (sym (scatter-key true ws i j e)) (met .seen j l (sym (class-key true ws classes i j e) ∙ m))) h
 
     pub met-new :
-        Mine i → seenAt ws i < 24320 → covers (getD bits (seenAt ws i) 0) (maskAt ws i) ≡ false → Met ws classes class (i + 1) (putIn bits (seenAt ws i) (maskAt ws i)) first
+        Mine i → seenAt ws i < 24321 → covers (getD bits (seenAt ws i) 0) (maskAt ws i) ≡ false → Met ws classes class (i + 1) (putIn bits (seenAt ws i) (maskAt ws i)) first
     met-new m b h =
         record {
           words = length-set bits (seenAt ws i) _ ∙ met .words;
@@ -233,16 +233,28 @@ module _ (ws : List ℤ) where
               (λ z. inl (subst (λ (x : ℕ). rankAt true x ws ≤ 1) (sym z) (fresh m h))) l;
         }
 
+    -- bits are set
+    pub met-put : (p c : ℕ) → Met ws classes class i (putIn bits p c) first
+    met-put p c =
+        record {
+          words = length-set bits p _ ∙ met .words;
+          firsts = met .firsts;
+          low = met .low;
+          seen = λ j l n. has-more bits p c (seenAt ws j) (maskAt ws j) (met .seen j l n);
+          told = λ j l n. ⊎-elim inl (λ f. inr (f .0, has-more bits p c (markAt ws j) (maskAt ws j) (f .1))) (met .told j l n);
+        }
+
     -- the bits were set: the pair is suspected
     pub met-kept :
-        (after : List ℕ) → Mine i → markAt ws i < 24320 → covers (getD bits (seenAt ws i) 0) (maskAt ws i) ≡ true → Keeps ws i first after →
+        (after : List ℕ) → (Mine i → Has bits (seenAt ws i) (maskAt ws i)) → markAt ws i < 24321 → Keeps ws i first after →
         Met ws classes class (i + 1) (putIn bits (markAt ws i) (maskAt ws i)) after
-    met-kept after m b h k =
+    met-kept after h b k =
         record {
           words = length-set bits (markAt ws i) _ ∙ met .words;
           firsts = k .firsts;
           low = k .low;
-          seen = λ j l n. has-more bits (markAt ws i) (maskAt ws i) (seenAt ws j) (maskAt ws j) (below-next j i (λ o. met .seen j o n) (λ z. subst (λ (x : ℕ). Has bits (seenAt ws x) (maskAt ws x)) (sym z) h) l);
+          seen = λ j l n. has-more bits (markAt ws i) (maskAt ws i) (seenAt ws j) (maskAt ws j)
+              (below-next j i (λ o. met .seen j o n) (λ z. subst (λ (x : ℕ). Has bits (seenAt ws x) (maskAt ws x)) (sym z) (h (subst Mine z n))) l);
           told = λ j l n. below-next j i
               (λ o. ⊎-elim inl (λ f. inr (k .older j (f .0), has-more bits (markAt ws i) (maskAt ws i) (markAt ws j) (maskAt ws j) (f .1))) (met .told j o n))
               (λ z. subst (λ (x : ℕ). (rankAt true x ws ≤ 1) ⊎ (Filed ws after x × Has (putIn bits (markAt ws i) (maskAt ws i)) (markAt ws x) (maskAt ws x))) (sym z)
@@ -257,10 +269,10 @@ module _ (ws : List ℤ) where
         go f k h false e = refl
         go f k h true e = absurd (omega (arith, alone k (omega arith) j (f .0) (f .1) e))
 
-  pub met-start : (classes class : ℕ) → Met ws classes class 0 (replicate 24320 0) (replicate 16384 0)
+  pub met-start : (classes class : ℕ) → Met ws classes class 0 (replicate 24321 0) (replicate 16384 0)
   met-start classes class =
       record {
-        words = length-replicate {A = ℕ} 24320 0;
+        words = length-replicate {A = ℕ} 24321 0;
         firsts = length-replicate {A = ℕ} 16384 0;
         low = λ q. rw (zeros 16384 q) (omega arith);
         seen = λ j l. absurd (omega arith);

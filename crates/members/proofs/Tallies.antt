@@ -18,15 +18,15 @@ use Rattle.members.proofs.Keys.{rankFits, each-true, alike-none, rank-r
 use Rattle.members.proofs.Passes.{counted, counted-hit, counted-miss, scatter-key, set-low, zeros}
 
 module _ (ws : List ℤ) where
-  pub tally-start : (most : ℕ) → Tallied ws most 0 (replicate 130816 0)
+  pub tally-start : (most : ℕ) → Tallied ws most 0 (replicate 97280 0)
   tally-start most =
       record {
-        size = length-replicate {A = ℕ} 130816 0;
-        low = λ q. rw (zeros 130816 q) (omega arith);
+        size = length-replicate {A = ℕ} 97280 0;
+        low = λ q. rw (zeros 97280 q) (omega arith);
         held = λ j. omega (arith, alike-none false (groupAt j ws) (memberAt j ws) ws);
       }
 
-  module _ (most i : ℕ) (buckets : List ℕ) (t : Tallied ws most i buckets) (inside : bucketAt ws i < 130816) (room : getD buckets (bucketAt ws i) 0 < most) where
+  module _ (most i : ℕ) (buckets : List ℕ) (t : Tallied ws most i buckets) (inside : bucketAt ws i < 97280) (room : getD buckets (bucketAt ws i) 0 < most) where
     abbrev b : ℕ
     b = bucketAt ws i
 

@@ -67,7 +67,7 @@ pub record Keeps (ws : List ℤ) (i : ℕ) (first after : List ℕ) : Type 0 whe
 -- ---- after i pairs of the first go
 
 pub record Met (ws : List ℤ) (classes class i : ℕ) (bits first : List ℕ) : Type 0 where
-  pub words : length bits ≡ 24320
+  pub words : length bits ≡ 24321
   pub firsts : length first ≡ 16384
   pub low : (q : ℕ) → getD first q 0 ≤ i
   pub seen : (j : ℕ) → j < i → classAt true ws classes j ≡ class → Has bits (seenAt ws j) (maskAt ws j)

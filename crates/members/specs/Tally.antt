@@ -10,13 +10,13 @@ use Rattle.members.specs.Keys.{alike}
 use Rattle.members.specs.Filter.{scatterAt}
 
 unfoldable pub bucketOf : ℕ → ℕ
-bucketOf s = s / 1048576 % 4294967296 * 130816 / 4294967296
+bucketOf s = s / 1048576 % 4294967296 * 97280 / 4294967296
 
 abbrev pub bucketAt : List ℤ → ℕ → ℕ
 bucketAt ws i = bucketOf (scatterAt false ws i)
 
 -- after i pairs: a bucket counts the pairs of each of its groups, and others
 pub record Tallied (ws : List ℤ) (most i : ℕ) (buckets : List ℕ) : Type 0 where
-  pub size : length buckets ≡ 130816
+  pub size : length buckets ≡ 97280
   pub low : (q : ℕ) → getD buckets q 0 ≤ most
   pub held : (j : ℕ) → alike false (groupAt j ws) (memberAt j ws) i ws ≤ getD buckets (bucketAt ws j) 0

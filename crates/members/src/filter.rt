@@ -30,14 +30,14 @@ fn mask_of(s: u64) -> u64
 
 fn seen_word(s: u64) -> usize
     ensures { λ r. ⌜ r ≡ seenOf s ⌝ }
-    ensures { λ r. ⌜ r < 24320 ⌝ }
+    ensures { λ r. ⌜ r < 24321 ⌝ }
 {
     (s / 1048576 % 4294967296 * 20224 / 4294967296) as usize
 }
 
 fn mark_word(s: u64) -> usize
     ensures { λ r. ⌜ r ≡ markOf s ⌝ }
-    ensures { λ r. ⌜ r < 24320 ⌝ }
+    ensures { λ r. ⌜ r < 24321 ⌝ }
 {
     20224 + (s / 256 % 4096) as usize
 }
@@ -55,8 +55,8 @@ fn joined(word: u64, mask: u64) -> u64
 }
 
 // A mask's bits are set in a word.
-fn put(bits: &mut [u64; 24320], q: usize, mask: u64)
-    requires { ⌜ q < 24320 ⌝ }
+fn put(bits: &mut [u64; 24321], q: usize, mask: u64)
+    requires { ⌜ q < 24321 ⌝ }
     ensures { λ _. ⌜ now (bits .exit) ≡ set (now (bits .entry)) q (join (getD (now (bits .entry)) q 0) mask) ⌝ }
 {
     let word = joined(bits[q], mask);
@@ -84,13 +84,34 @@ fn keep(table: &[i32], i: usize, hash: u64, first: &mut [u32; 16384]) -> bool
     }
 }
 
+// A pair of another class sets no bits, in a word that no pair uses: a choice of numbers is quicker than a branch that is not foreseen.
+fn word_for(own: bool, s: u64) -> usize
+    ensures { λ r. ⌜ (own ≡ true → r ≡ seenOf s) ⌝ }
+    ensures { λ r. ⌜ r < 24321 ⌝ }
+{
+    let q = seen_word(s);
+    if own {
+        return q;
+    }
+    24320
+}
+
+fn mask_for(own: bool, mask: u64) -> u64
+    ensures { λ r. ⌜ (own ≡ true → r ≡ mask) ⌝ }
+{
+    if own {
+        return mask;
+    }
+    0
+}
+
 // The pair at `i` is met, if its key is of the class: false where it is known to stand twice.
 fn meet(
     table: &[i32],
     class: u64,
     classes: u64,
     i: usize,
-    bits: &mut [u64; 24320],
+    bits: &mut [u64; 24321],
     first: &mut [u32; 16384],
 ) -> bool
     requires { ⌜ 2 * i + 1 < length (now table) ⌝ }
@@ -101,15 +122,13 @@ fn meet(
     ensures { λ r. ⌜ (r ≡ false → 1 < rankAt true i (now (table .entry))) ⌝ }
 {
     let h = hash(table, true, i);
-    if class_of(h, classes) != class {
-        return true;
-    }
     let s = scattered(h);
     let mask = mask_of(s);
-    let q = seen_word(s);
+    let own = class_of(h, classes) == class;
+    let q = word_for(own, s);
     let word = bits[q];
+    put(bits, q, mask_for(own, mask));
     if !is_covered(word, mask) {
-        put(bits, q, mask);
         return true;
     }
     put(bits, mark_word(s), mask);
@@ -117,7 +136,7 @@ fn meet(
 }
 
 // Whether the pair at `i` is filed at no other place.
-fn alone(table: &[i32], count: usize, i: usize, bits: &[u64; 24320], first: &[u32; 16384]) -> bool
+fn alone(table: &[i32], count: usize, i: usize, bits: &[u64; 24321], first: &[u32; 16384]) -> bool
     requires { ⌜ 2 * count ≤ length (now table) ⌝ }
     requires { ⌜ i < count ⌝ }
     requires { ⌜ ((q : ℕ) → getD (now first) q 0 ≤ count) ⌝ }
@@ -144,7 +163,7 @@ fn meet_all(
     count: usize,
     class: u64,
     classes: u64,
-    bits: &mut [u64; 24320],
+    bits: &mut [u64; 24321],
     first: &mut [u32; 16384],
 ) -> bool
     requires { ⌜ 2 * count ≤ length (now table) ⌝ }
@@ -165,7 +184,7 @@ fn meet_all(
 }
 
 // The second go.
-fn all_alone(table: &[i32], count: usize, bits: &[u64; 24320], first: &[u32; 16384]) -> bool
+fn all_alone(table: &[i32], count: usize, bits: &[u64; 24321], first: &[u32; 16384]) -> bool
     requires { ⌜ 2 * count ≤ length (now table) ⌝ }
     requires { ⌜ ((q : ℕ) → getD (now first) q 0 ≤ count) ⌝ }
     ensures { λ r. ⌜ (r ≡ true → (k : ℕ) → k < count → Alone (now (table .entry)) (now (bits .entry)) (now (first .entry)) k) ⌝ }
@@ -189,7 +208,7 @@ pub fn once(table: &[i32], count: usize, class: u64, classes: u64) -> bool
     ensures { λ r. ⌜ (r ≡ true → (i : ℕ) → i < count → classAt true (now (table .entry)) classes i ≡ class → rankAt true i (now (table .entry)) ≤ 1) ⌝ }
     ensures { λ r. ⌜ (r ≡ false → within true 1 count (now (table .entry)) ≡ false) ⌝ }
 {
-    let mut bits = [0u64; 24320];
+    let mut bits = [0u64; 24321];
     let mut first = [0u32; 16384];
     if !meet_all(table, count, class, classes, &mut bits, &mut first) {
         return false;

@@ -10,9 +10,9 @@ use super::filter::scattered;
 
 fn bucket_of(s: u64) -> usize
     ensures { λ r. ⌜ r ≡ bucketOf s ⌝ }
-    ensures { λ r. ⌜ r < 130816 ⌝ }
+    ensures { λ r. ⌜ r < 97280 ⌝ }
 {
-    (s / 1048576 % 4294967296 * 130816 / 4294967296) as usize
+    (s / 1048576 % 4294967296 * 97280 / 4294967296) as usize
 }
 
 // How far a bucket counts.
@@ -26,8 +26,8 @@ fn most_of(limit: u32) -> u16
 }
 
 // One pair more in a bucket, unless it is full: what it held.
-fn raise(buckets: &mut [u16; 130816], b: usize, most: u16) -> u16
-    requires { ⌜ b < 130816 ⌝ }
+fn raise(buckets: &mut [u16; 97280], b: usize, most: u16) -> u16
+    requires { ⌜ b < 97280 ⌝ }
     ensures { λ r. ⌜ r ≡ getD (now (buckets .entry)) b 0 ⌝ }
     ensures { λ r. ⌜ (r < most → now (buckets .exit) ≡ set (now (buckets .entry)) b (r + 1)) ⌝ }
 {
@@ -65,7 +65,7 @@ pub fn tally(table: &[i32], count: usize, limit: u32) -> u64
     ensures { λ r. ⌜ r ≤ count + 1 ⌝ }
 {
     let most = most_of(limit);
-    let mut buckets = [0u16; 130816];
+    let mut buckets = [0u16; 97280];
     let mut used: u64 = 0;
     let mut full: u64 = 0;
     let mut i = 0;

@@ -39,7 +39,7 @@ counted-on c e f =
     let b = bucket-is k in
     subst (Tallied ws most (l .loop .i + 1))
     (sym (r .raise .ensures .1 room ∙ ap (λ (h : ℕ). set buckets (k .bucket-of .result) (h + 1)) held ∙ ap (λ (q : ℕ). set buckets q (getD buckets q 0 + 1)) b))
-    (tally-next ws most (l .loop .i) buckets (l .loop .inv .3 e) (subst (λ (q : ℕ). q < 130816) b (k .bucket-of .ensures .1))
+    (tally-next ws most (l .loop .i) buckets (l .loop .inv .3 e) (subst (λ (q : ℕ). q < 97280) b (k .bucket-of .ensures .1))
     (subst (λ (q : ℕ). getD buckets q 0 < most) b (subst (λ (h : ℕ). h < most) held room)))
 
 most-of-requires : tie.Need-most-of-requires Inv-loop μ-loop

@@ -1,0 +1,18 @@
+-- `word_for` meets its contract.
+use native.Mathlib.Omega.{arith}
+use Rattle.members.proofs.Keys.{clash}
+use borrow.Author.Needs.{needs}
+use Rattle.members.proofs.filter.word_for.Statement.{statement}
+use Rattle.members.proofs.filter.word_for.Tie as tie
+
+seen-word-requires : tie.Need-seen-word-requires
+seen-word-requires c κs = search needs
+
+returns : tie.Need-returns
+returns c = search needs
+
+returns-2 : tie.Need-returns-2
+returns-2 c = (λ e. clash e (c .if1 .left), omega arith)
+
+pub word-for-spec : {M : Type 1} → statement M
+word-for-spec = tie.close (tie.spec seen-word-requires returns returns-2)
