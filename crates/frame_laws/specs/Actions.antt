@@ -13,10 +13,10 @@ use lib.Signed.{mag}
 use Rattle.language.specs.Basics.{eqZ}
 use Rattle.language.specs.Text.{Operation, Formal, Action, CL, GO, IF, KN, AR, AD, RM, QY, Block, Decl, BK, DO, labelIndex, declFormals, declBody, formalKinds}
 use Rattle.language.specs.Scope.{agree}
-use Rattle.language.specs.Table.{holds, size, atLeastOne, full, add, remove}
+use Rattle.language.specs.Table.{holds, size, atLeastOne, full, add, remove, added, removed, queried}
 use Rattle.language.specs.Machine.{Limits, compute}
 use Rattle.language.specs.declared.Stop.the-variants.{ResultTooLarge, NoActivationLeft, NumberBelowOne, GroupFull, TableFull, ArgumentsDiffer}
-use Rattle.frames.specs.Frame.{Frame, Stack, acted, halted, withFrames, tableChanged, continue, numbered, designates, frameNumber, declOf, kindOf, wordAt, putWord, mapAction, newFrame, pushFrame, callBy, goTo, put, putIfFits, addTo, removeFrom, ask, act, actStmt}
+use Rattle.frames.specs.Frame.{Frame, Stack, acted, halted, withFrames, tableChanged, continue, numbered, designates, frameNumber, declOf, kindOf, wordAt, putWord, mapAction, newFrame, pushFrame, callBy, goTo, put, putIfFits, asActed, asPut, addTo, removeFrom, ask, act, actStmt}
 
 -- of values, whatever they were found at
 module _ (l : Limits) (s : Stack) where
@@ -30,40 +30,40 @@ module _ (l : Limits) (s : Stack) where
 
   module _ (g m : ℤ) where
     below-one : atLeastOne g && atLeastOne m ≡ false → addTo l s g m ≡ halted NumberBelowOne
-    unfolding addTo
-    below-one n = rw (addTo, n)
+    unfolding addTo added asActed
+    below-one n = rw (added, n)
 
     held : atLeastOne g && atLeastOne m ≡ true → holds g m (s .table) ≡ true → addTo l s g m ≡ acted s
-    unfolding addTo
-    held n h = rw (addTo, n, h)
+    unfolding addTo added asActed tableChanged
+    held n h = rw (added, n, h)
 
     group-full : atLeastOne g && atLeastOne m ≡ true → holds g m (s .table) ≡ false → leb (l .group) (size g (s .table)) ≡ true → addTo l s g m ≡ halted GroupFull
-    unfolding addTo
-    group-full n h z = rw (addTo, n, h, z)
+    unfolding addTo added asActed
+    group-full n h z = rw (added, n, h, z)
 
     table-full : atLeastOne g && atLeastOne m ≡ true → holds g m (s .table) ≡ false → leb (l .group) (size g (s .table)) ≡ false → full (s .table) ≡ true → addTo l s g m ≡ halted TableFull
-    unfolding addTo
-    table-full n h z f = rw (addTo, n, h, z, f)
+    unfolding addTo added asActed
+    table-full n h z f = rw (added, n, h, z, f)
 
-    added : atLeastOne g && atLeastOne m ≡ true → holds g m (s .table) ≡ false → leb (l .group) (size g (s .table)) ≡ false → full (s .table) ≡ false → addTo l s g m ≡ acted (tableChanged s (add g m (s .table)))
-    unfolding addTo
-    added n h z f = rw (addTo, n, h, z, f)
+    appended : atLeastOne g && atLeastOne m ≡ true → holds g m (s .table) ≡ false → leb (l .group) (size g (s .table)) ≡ false → full (s .table) ≡ false → addTo l s g m ≡ acted (tableChanged s (add g m (s .table)))
+    unfolding addTo added asActed
+    appended n h z f = rw (added, n, h, z, f)
 
-    removed-not : atLeastOne g && atLeastOne m ≡ false → removeFrom s g m ≡ halted NumberBelowOne
-    unfolding removeFrom
-    removed-not n = rw (removeFrom, n)
+    taken-out-not : atLeastOne g && atLeastOne m ≡ false → removeFrom s g m ≡ halted NumberBelowOne
+    unfolding removeFrom removed asActed
+    taken-out-not n = rw (removed, n)
 
-    removed : atLeastOne g && atLeastOne m ≡ true → removeFrom s g m ≡ acted (tableChanged s (remove g m (s .table)))
-    unfolding removeFrom
-    removed n = rw (removeFrom, n)
+    taken-out : atLeastOne g && atLeastOne m ≡ true → removeFrom s g m ≡ acted (tableChanged s (remove g m (s .table)))
+    unfolding removeFrom removed asActed
+    taken-out n = rw (removed, n)
 
     asked-not : (t : ℕ) → atLeastOne g && atLeastOne m ≡ false → ask s t g m ≡ halted NumberBelowOne
-    unfolding ask
-    asked-not t n = rw (ask, n)
+    unfolding ask queried asPut
+    asked-not t n = rw (queried, n)
 
     asked : (t : ℕ) → atLeastOne g && atLeastOne m ≡ true → ask s t g m ≡ acted (withFrames s (putWord (s .frames) t (cond (holds g m (s .table)) (pos 1) (pos 0))))
-    unfolding ask put
-    asked t n = rw (ask, n)
+    unfolding ask queried asPut put
+    asked t n = rw (queried, n)
 
 -- Entering: the new frame is innermost, or cause 22
 module _ (l : Limits) (s : Stack) where
@@ -175,15 +175,15 @@ module _ (l : Limits) (s : Stack) where
     pub adds : atLeastOne g && atLeastOne m ≡ true → holds g m (s .table) ≡ false → leb (l .group) (size g (s .table)) ≡ false → full (s .table) ≡ false
         → act l s (AD x y) ≡ acted (tableChanged s (add g m (s .table)))
     unfolding act
-    adds n h z f = rw (eg, em) (added l s g m n h z f)
+    adds n h z f = rw (eg, em) (appended l s g m n h z f)
 
     pub removes-below-one : atLeastOne g && atLeastOne m ≡ false → act l s (RM x y) ≡ halted NumberBelowOne
     unfolding act
-    removes-below-one n = rw (eg, em) (removed-not l s g m n)
+    removes-below-one n = rw (eg, em) (taken-out-not l s g m n)
 
     pub removes : atLeastOne g && atLeastOne m ≡ true → act l s (RM x y) ≡ acted (tableChanged s (remove g m (s .table)))
     unfolding act
-    removes n = rw (eg, em) (removed l s g m n)
+    removes n = rw (eg, em) (taken-out l s g m n)
 
     pub asks-below-one : (t : ℕ) → atLeastOne g && atLeastOne m ≡ false → act l s (QY t x y) ≡ halted NumberBelowOne
     unfolding act

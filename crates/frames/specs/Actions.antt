@@ -1,19 +1,19 @@
 -- Doing a statement: on related states both machines do the same, or stop for the same cause.
 use Prim.Native.Nat.{ℕ}
 use native.Mathlib.Omega.{arith}
-use mathlib.Core.Bool.{Bool, true, false, _&&_, cond}
+use mathlib.Core.Bool.{Bool, true, false}
 use mathlib.Core.Path.{_≡_, refl, sym, ap, _∙_, subst}
 use mathlib.Core.List.{List}
 use mathlib.Core.Option.{Option, none, some}
-use lib.Dec.{ltb, leb}
-use lib.IntN.{ℤ, pos}
+use lib.Dec.{ltb}
+use lib.IntN.{ℤ}
 use lib.Signed.{mag}
 use Rattle.language.specs.Basics.{lookup}
 use Rattle.language.specs.Text.{Kind, variable, Decl, VR, LB, PR, declName, declKind}
-use Rattle.language.specs.Table.{Table, holds, size, atLeastOne, full, add, remove}
-use Rattle.language.specs.Machine.{State, Limits, instance, Done, did, stop, store, value, withTable, storeIfFits, addPair, removePair, queryPair}
+use Rattle.language.specs.Table.{Table, Effect, leaves, halts, Asked, gives, refuses, added, removed, queried}
+use Rattle.language.specs.Machine.{State, Limits, instance, Done, did, stop, store, value, withTable, storeIfFits, asDone, asStored, addPair, removePair, queryPair}
 use Rattle.instances.specs.Statement.{Stands}
-use Rattle.frames.specs.Frame.{Stack, Acted, acted, halted, wordAt, put, putIfFits, addTo, removeFrom, ask, tableChanged}
+use Rattle.frames.specs.Frame.{Stack, Acted, acted, halted, wordAt, put, putIfFits, asActed, asPut, addTo, removeFrom, ask, tableChanged}
 use Rattle.frames.specs.Related.{designatorAt, valueIn, orZero, wordIn, Related}
 use Rattle.frames.specs.Designated.{designated, wordAt-designated}
 use Rattle.frames.specs.Store.{related-store}
@@ -68,43 +68,26 @@ module _ (s : State) (t : Stack) (r : Related s t) where
   unfolding withTable tableChanged
   table-alike u = record { twins = r .twins; rising = r .rising; table-is = refl; steps-are = r .steps-are }
 
-  -- the frames' table is the machine's: where the two stand side by side, it may stand in its place
-  one-table : tableChanged t (s .table) ≡ t
-  unfolding tableChanged
-  one-table = λ i. record { frames = t .frames; table = r .table-is i; steps = t .steps }
+  -- the same effect on the same table, or the same cause
+  effect-alike : (o : Effect) → Alike (asDone s o) (asActed t o)
+  unfolding asDone asActed Alike
+  effect-alike (leaves u) = table-alike u
+  effect-alike (halts c) = refl
 
+  answer-alike : (x : ℕ) → Live s x variable → (o : Asked) → Alike (asStored s x o) (asPut t (designatorAt (s .live) x) o)
+  unfolding asStored asPut Alike
+  answer-alike x v (gives z) = store-alike x z v
+  answer-alike x v (refuses c) = refl
+
+  -- the frames' table is the machine's: what comes of the one comes of the other
   pub add-alike : (l : Limits) (g m : ℤ) → Alike (addPair l s g m) (addTo l t g m)
-  unfolding addPair addTo Alike tableChanged withTable
-  add-alike l g m = subst (λ (u : Stack). Alike (addPair l s g m) (addTo l u g m)) one-table (numbers (atLeastOne g && atLeastOne m) refl)
-    where
-      t′ : Stack
-      t′ = tableChanged t (s .table)
-
-      room : (n : Bool) → (atLeastOne g && atLeastOne m) ≡ n → (h : Bool) → holds g m (s .table) ≡ h → (q : Bool) → leb (l .group) (size g (s .table)) ≡ q → (b : Bool) → full (s .table) ≡ b → Alike (addPair l s g m) (addTo l t′ g m)
-      room false n h h′ q q′ b b′ = rw (n, addPair, addTo)
-      room true n true h q q′ b b′ = rw (n, addPair, addTo) (rw h (table-alike (s .table)))
-      room true n false h true q b b′ = rw (n, addPair, addTo) (rw h (rw q))
-      room true n false h false q true b = rw (n, addPair, addTo) (rw h (rw q (rw b)))
-      room true n false h false q false b = rw (n, addPair, addTo) (rw h (rw q (rw b (table-alike (add g m (s .table))))))
-
-      numbers : (b : Bool) → (atLeastOne g && atLeastOne m) ≡ b → Alike (addPair l s g m) (addTo l t′ g m)
-      numbers b e = room b e (holds g m (s .table)) refl (leb (l .group) (size g (s .table))) refl (full (s .table)) refl
+  unfolding addPair addTo
+  add-alike l g m = subst (λ (u : Table). Alike (addPair l s g m) (asActed t (added (l .group) g m u))) (r .table-is) (effect-alike (added (l .group) g m (s .table)))
 
   pub remove-alike : (g m : ℤ) → Alike (removePair s g m) (removeFrom t g m)
-  unfolding removePair removeFrom Alike tableChanged withTable
-  remove-alike g m = subst (λ (u : Stack). Alike (removePair s g m) (removeFrom u g m)) one-table (go (atLeastOne g && atLeastOne m) refl)
-    where
-      go : (b : Bool) → (atLeastOne g && atLeastOne m) ≡ b → Alike (removePair s g m) (removeFrom (tableChanged t (s .table)) g m)
-      go true e = rw (e, removePair, removeFrom) (table-alike (remove g m (s .table)))
-      go false e = rw (e, removePair, removeFrom)
+  unfolding removePair removeFrom
+  remove-alike g m = subst (λ (u : Table). Alike (removePair s g m) (asActed t (removed g m u))) (r .table-is) (effect-alike (removed g m (s .table)))
 
   pub query-alike : (x : ℕ) (g m : ℤ) → Live s x variable → Alike (queryPair s x g m) (ask t (designatorAt (s .live) x) g m)
-  unfolding queryPair ask Alike
-  query-alike x g m v = go (atLeastOne g && atLeastOne m) refl
-    where
-      same : cond (holds g m (s .table)) (pos 1) (pos 0) ≡ cond (holds g m (t .table)) (pos 1) (pos 0)
-      same = ap (λ (u : Table). cond (holds g m u) (pos 1) (pos 0)) (r .table-is)
-
-      go : (b : Bool) → (atLeastOne g && atLeastOne m) ≡ b → Alike (queryPair s x g m) (ask t (designatorAt (s .live) x) g m)
-      go true e = rw (e, queryPair, ask) (subst (λ (z : ℤ). Related (store s x (cond (holds g m (s .table)) (pos 1) (pos 0))) (put t (designatorAt (s .live) x) z)) same (store-alike x (cond (holds g m (s .table)) (pos 1) (pos 0)) v))
-      go false e = rw (e, queryPair, ask)
+  unfolding queryPair ask
+  query-alike x g m v = subst (λ (u : Table). Alike (queryPair s x g m) (asPut t (designatorAt (s .live) x) (queried g m u))) (r .table-is) (answer-alike x v (queried g m (s .table)))

@@ -1,7 +1,7 @@
 -- The frame machine: the static-link model that the fast engines share. A frame holds the block as the script has it and no copied
 -- text; a name is found along static links, and a declared instance is known by its designator alone.
 use Prim.Native.Nat.{ℕ, zero, suc, pred, _+_, _-_, _*_, _/_, _%_}
-use mathlib.Core.Bool.{Bool, true, false, _&&_, cond}
+use mathlib.Core.Bool.{true, false}
 use mathlib.Core.List.{List, [], _∷_, _++_, map}
 use mathlib.Core.Option.{Option, none, some}
 use lib.Dec.{eqb, leb, ltb}
@@ -12,11 +12,11 @@ use Rattle.language.specs.Basics.{last?, butLast, eqZ}
 use Rattle.language.specs.Text.{Kind, Formal, Action, CL, GO, IF, KN, AR, AD, RM, QY, Block, Decl, Stmt, BK, DO, blockAt, blockDecls, blockStmts, stmtAt, declKind, labelIndex, declFormals, declBody, formalNames, formalKinds, declaredNames}
 use Rattle.language.specs.Scope.{agree}
 use Rattle.language.specs.Check.{Checked, accepted, refused, check}
-use Rattle.language.specs.Table.{Table, holds, size, atLeastOne, full, add, remove, right}
+use Rattle.language.specs.Table.{Table, right, Effect, leaves, halts, Asked, gives, refuses, added, removed, queried}
 use Rattle.language.specs.Machine.{Limits, compute}
 use Rattle.language.specs.Call.{Engine, copying, chain, display, Fed, Reply, limitsFit, lentFits, areaFits, turnedAway}
 use Rattle.language.specs.declared.Stop.{Stop}
-use Rattle.language.specs.declared.Stop.the-variants.{ResultTooLarge, NoActivationLeft, NumberBelowOne, GroupFull, TableFull, ArgumentsDiffer}
+use Rattle.language.specs.declared.Stop.the-variants.{ResultTooLarge, NoActivationLeft, ArgumentsDiffer}
 use Rattle.language.specs.declared.Refusal.the-variants.{LimitRange, AreaTooShort, TableNotRight}
 use Rattle.language.specs.declared.End.{End}
 use Rattle.language.specs.declared.End.the-variants.{Finished, Spent, Stopped, Refused}
@@ -192,29 +192,23 @@ put s x z = withFrames s (putWord (s .frames) x z)
 unfoldable pub putIfFits : Stack → ℕ → ℤ → Acted
 putIfFits s x z = elim (ltb (mag z) 2147483648) [ true ↦ acted (put s x z) | false ↦ halted ResultTooLarge ]
 
+-- AD, RM and QY do to the table what they do in the copy-rule machine
+unfoldable pub asActed : Stack → Effect → Acted
+asActed s (leaves t) = acted (tableChanged s t)
+asActed s (halts c) = halted c
+
+unfoldable pub asPut : Stack → ℕ → Asked → Acted
+asPut s x (gives z) = acted (put s x z)
+asPut s x (refuses c) = halted c
+
 unfoldable pub addTo : Limits → Stack → ℤ → ℤ → Acted
-addTo l s g m =
-    elim (atLeastOne g && atLeastOne m) [
-      | false ↦ halted NumberBelowOne
-      | true ↦ elim (holds g m (s .table)) [
-        | true ↦ acted s
-        | false ↦ elim (leb (l .group) (size g (s .table))) [
-          | true ↦ halted GroupFull
-          | false ↦ elim (full (s .table)) [ true ↦ halted TableFull | false ↦ acted (tableChanged s (add g m (s .table))) ]
-        ]
-      ]
-    ]
+addTo l s g m = asActed s (added (l .group) g m (s .table))
 
 unfoldable pub removeFrom : Stack → ℤ → ℤ → Acted
-removeFrom s g m =
-    elim (atLeastOne g && atLeastOne m) [ false ↦ halted NumberBelowOne | true ↦ acted (tableChanged s (remove g m (s .table))) ]
+removeFrom s g m = asActed s (removed g m (s .table))
 
 unfoldable pub ask : Stack → ℕ → ℤ → ℤ → Acted
-ask s x g m =
-    elim (atLeastOne g && atLeastOne m) [
-      | false ↦ halted NumberBelowOne
-      | true ↦ acted (put s x (cond (holds g m (s .table)) (pos 1) (pos 0)))
-    ]
+ask s x g m = asPut s x (queried g m (s .table))
 
 -- an action once its names are found
 unfoldable pub act : Limits → Stack → Action → Acted

@@ -1,19 +1,19 @@
 -- One step, and The copy rule, written out: the machine that every engine is held to.
 use Prim.Native.Nat.{ℕ, zero, suc, pred, _+_, _-_}
-use mathlib.Core.Bool.{Bool, true, false, not, _&&_, cond}
+use mathlib.Core.Bool.{true, false}
 use mathlib.Core.List.{List, [], _∷_, _++_, map}
 use mathlib.Core.Option.{Option, none, some}
-use lib.Dec.{eqb, leb, ltb}
+use lib.Dec.{eqb, ltb}
 use lib.IntN.{ℤ, pos, negsuc, _+ℤ_, _-ℤ_}
 use lib.ListN.{length, take, getElem?}
 use lib.Signed.{mag, ltZ}
 use Rattle.language.specs.Basics.{lookup, zip, upFrom, last?, butLast, eqZ}
 use Rattle.language.specs.Text.{Kind, Operation, plus, minus, less, Action, CL, GO, IF, KN, AR, AD, RM, QY, Block, Decl, VR, LB, PR, Stmt, BK, DO, blockAt, blockDecls, blockStmts, stmtAt, declName, declKind, labelIndex, declFormals, declBody, formalNames, formalKinds, declaredNames}
 use Rattle.language.specs.Scope.{agree}
-use Rattle.language.specs.Table.{Table, holds, size, atLeastOne, full, add, remove}
+use Rattle.language.specs.Table.{Table, Effect, leaves, halts, Asked, gives, refuses, added, removed, queried}
 use Rattle.language.specs.Copy.{Replacement, renameBlock}
 use Rattle.language.specs.declared.Stop.{Stop}
-use Rattle.language.specs.declared.Stop.the-variants.{ResultTooLarge, NoActivationLeft, NumberBelowOne, GroupFull, TableFull, ArgumentsDiffer}
+use Rattle.language.specs.declared.Stop.the-variants.{ResultTooLarge, NoActivationLeft, ArgumentsDiffer}
 use Rattle.language.specs.declared.End.{End}
 use Rattle.language.specs.declared.End.the-variants.{Finished, Spent, Stopped, Refused}
 
@@ -145,30 +145,23 @@ compute less a b = elim (ltZ a b) [ true ↦ pos 1 | false ↦ pos 0 ]
 unfoldable pub storeIfFits : State → ℕ → ℤ → Done
 storeIfFits s x z = elim (ltb (mag z) 2147483648) [ true ↦ did (store s x z) | false ↦ stop ResultTooLarge ]
 
--- 23, 24, 25 in this order; G is tested before the pair is written
+-- AD, RM and QY: what they do to the table, or the cause to stop, is said there
+unfoldable pub asDone : State → Effect → Done
+asDone s (leaves t) = did (withTable s t)
+asDone s (halts c) = stop c
+
+unfoldable pub asStored : State → ℕ → Asked → Done
+asStored s x (gives z) = did (store s x z)
+asStored s x (refuses c) = stop c
+
 unfoldable pub addPair : Limits → State → ℤ → ℤ → Done
-addPair l s g m =
-    elim (atLeastOne g && atLeastOne m) [
-      | false ↦ stop NumberBelowOne
-      | true ↦ elim (holds g m (s .table)) [
-        | true ↦ did s
-        | false ↦ elim (leb (l .group) (size g (s .table))) [
-          | true ↦ stop GroupFull
-          | false ↦ elim (full (s .table)) [ true ↦ stop TableFull | false ↦ did (withTable s (add g m (s .table))) ]
-        ]
-      ]
-    ]
+addPair l s g m = asDone s (added (l .group) g m (s .table))
 
 unfoldable pub removePair : State → ℤ → ℤ → Done
-removePair s g m =
-    elim (atLeastOne g && atLeastOne m) [ false ↦ stop NumberBelowOne | true ↦ did (withTable s (remove g m (s .table))) ]
+removePair s g m = asDone s (removed g m (s .table))
 
 unfoldable pub queryPair : State → ℕ → ℤ → ℤ → Done
-queryPair s x g m =
-    elim (atLeastOne g && atLeastOne m) [
-      | false ↦ stop NumberBelowOne
-      | true ↦ did (store s x (cond (holds g m (s .table)) (pos 1) (pos 0)))
-    ]
+queryPair s x g m = asStored s x (queried g m (s .table))
 
 unfoldable pub doAction : Limits → State → Action → Done
 doAction l s (CL p xs) = call l s p xs

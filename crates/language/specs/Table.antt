@@ -1,6 +1,6 @@
 -- Bounds and One step: the membership table, two words for a pair (group, member), of which the first pairs are in use.
 use Prim.Native.Nat.{ℕ, zero, suc, _+_, _*_, _%_}
-use mathlib.Core.Bool.{Bool, true, false, not, _&&_}
+use mathlib.Core.Bool.{Bool, true, false, not, _&&_, cond}
 use mathlib.Core.List.{List, [], _∷_, _++_}
 use mathlib.Core.Option.{Option, none, some}
 use lib.Dec.{eqb, leb, ltb}
@@ -8,6 +8,8 @@ use lib.IntN.{ℤ, pos, negsuc}
 use lib.ListN.{length, take, drop, set}
 use lib.Signed.{leZ}
 use Rattle.language.specs.Basics.{eqZ}
+use Rattle.language.specs.declared.Stop.{Stop}
+use Rattle.language.specs.declared.Stop.the-variants.{NumberBelowOne, GroupFull, TableFull}
 
 pub record Table : Type 0 where
   pub words : List ℤ
@@ -96,3 +98,37 @@ remove g m t =
       | none ↦ t
       | some i ↦ record { words = takeOut i (t .used) (t .words); used = fewer (t .used) }
     ]
+
+-- AD and RM come to the table after them, or to the cause to stop.
+pub data Effect : Type 0 where
+  leaves : Table → Effect
+  halts : Stop → Effect
+
+-- QY comes to the value that it stores, or to the cause to stop.
+pub data Asked : Type 0 where
+  gives : ℤ → Asked
+  refuses : Stop → Asked
+
+-- AD adds the pair at the end unless present. In this order: 23, number below 1; 24, pair absent and its group has limit members;
+-- 25, pair absent and the table is full. All are tested before the pair is written.
+unfoldable pub added : ℕ → ℤ → ℤ → Table → Effect
+added limit g m t =
+    elim (atLeastOne g && atLeastOne m) [
+      | false ↦ halts NumberBelowOne
+      | true ↦ elim (holds g m t) [
+        | true ↦ leaves t
+        | false ↦ elim (leb limit (size g t)) [
+          | true ↦ halts GroupFull
+          | false ↦ elim (full t) [ true ↦ halts TableFull | false ↦ leaves (add g m t) ]
+        ]
+      ]
+    ]
+
+-- RM takes the pair out; 23, number below 1
+unfoldable pub removed : ℤ → ℤ → Table → Effect
+removed g m t = elim (atLeastOne g && atLeastOne m) [ false ↦ halts NumberBelowOne | true ↦ leaves (remove g m t) ]
+
+-- QY stores 1 if the pair is present, else 0; 23, number below 1
+unfoldable pub queried : ℤ → ℤ → Table → Asked
+queried g m t =
+    elim (atLeastOne g && atLeastOne m) [ false ↦ refuses NumberBelowOne | true ↦ gives (cond (holds g m t) (pos 1) (pos 0)) ]

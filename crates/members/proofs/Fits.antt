@@ -9,11 +9,11 @@ use borrow.Author.Tests.{ltb-false, leb-true}
 use lib.Dec.{eqb, leb}
 use lib.IntN.{ℤ}
 use lib.ListN.{length, length-append, length-take, length-drop, length-set}
-use Rattle.language.specs.Table.{Table, numbersRight, noneTwice, groupsWithin, right, find, holds, size, atLeastOne, full, add, remove, takeOut, fewer}
+use Rattle.language.specs.Table.{Table, numbersRight, noneTwice, groupsWithin, right, find, holds, size, atLeastOne, full, add, remove, takeOut, fewer, Effect, leaves, halts, added, removed}
 use Rattle.language.specs.declared.Stop.{Stop}
 use Rattle.language.specs.declared.Stop.the-variants.{NumberBelowOne, GroupFull, TableFull}
 use Rattle.members.specs.declared.Change.the-variants.{Done}
-use Rattle.members.specs.Outcomes.{tableOf, Outcome, leaves, halts, added, removed, changeOf, wordsAfter}
+use Rattle.members.specs.Outcomes.{tableOf, changeOf, wordsAfter}
 use Rattle.members.proofs.Keys.{both}
 
 -- a right table fits
@@ -36,14 +36,14 @@ takeOut-length zero (suc k) (a ∷ b ∷ ws) = simp (length-append, length-take,
 takeOut-length (suc i) (suc k) (a ∷ b ∷ ws) = ap (λ (n : ℕ). suc (suc n)) (takeOut-length i k ws)
 
 -- the table that an outcome leaves, of one that fits, fits
-abbrev pub Keeps : Table → Outcome → Type 0
+abbrev pub Keeps : Table → Effect → Type 0
 Keeps t o = (u : Table) → o ≡ leaves u → (2 * u .used ≤ length (u .words)) × (length (u .words) ≡ length (t .words))
 
 module _ (t : Table) (fit : 2 * t .used ≤ length (t .words)) where
-  keeps-cause : (o : Outcome) {c : Stop} → o ≡ halts c → Keeps t o
+  keeps-cause : (o : Effect) {c : Stop} → o ≡ halts c → Keeps t o
   keeps-cause o e u q = absurd (let z : _≡_ {A = ℕ} 0 1 = cc in omega arith)
 
-  keeps-table : (o : Outcome) (v : Table) → o ≡ leaves v → 2 * v .used ≤ length (v .words) → length (v .words) ≡ length (t .words) → Keeps t o
+  keeps-table : (o : Effect) (v : Table) → o ≡ leaves v → 2 * v .used ≤ length (v .words) → length (v .words) ≡ length (t .words) → Keeps t o
   keeps-table o v e f l u q =
       let z : v ≡ u = cc in
       (rw (sym z) f, rw (sym z) l)
@@ -94,7 +94,7 @@ module _ (t : Table) (fit : 2 * t .used ≤ length (t .words)) where
 
 -- As a caller of `add_pair` or `remove_pair` learns it.
 pub fits-after :
-    (t : Table) (o : Outcome) (n : ℕ) → Keeps t o → changeOf o ≡ Done n →
+    (t : Table) (o : Effect) (n : ℕ) → Keeps t o → changeOf o ≡ Done n →
     (2 * n ≤ length (wordsAfter (t .words) o)) × (length (wordsAfter (t .words) o) ≡ length (t .words))
 unfolding changeOf wordsAfter
 fits-after t (leaves u) n k e = let z : u .used ≡ n = cc in (rw (sym z) (k u refl .0), k u refl .1)

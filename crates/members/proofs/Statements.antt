@@ -11,10 +11,10 @@ use lib.ListN.{length}
 use mir.Val.{SFits, toZ, ofZ}
 use mir.Syntax.{w32}
 use mir.Facts.{toZ-ofZ}
-use Rattle.language.specs.Table.{Table, find, isSome, holds, members, size, atLeastOne, full, add, remove, takeOut, fewer}
+use Rattle.language.specs.Table.{Table, find, isSome, holds, members, size, atLeastOne, full, add, remove, takeOut, fewer, leaves, halts, gives, refuses, added, removed, queried}
 use Rattle.language.specs.declared.Stop.the-variants.{NumberBelowOne, GroupFull, TableFull}
 use Rattle.members.specs.Places.{placed}
-use Rattle.members.specs.Outcomes.{tableOf, leaves, halts, gives, refuses, added, removed, queried}
+use Rattle.members.specs.Outcomes.{tableOf}
 use Rattle.members.specs.declared.Place.{Place}
 use Rattle.members.specs.declared.Place.the-variants.{At, Absent}
 

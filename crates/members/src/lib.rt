@@ -4,9 +4,9 @@ ghost use mathlib.Core.Bool.{_&&_};
 ghost use Prim.Native.Nat.{_+_, _*_, _/_, _≤_, _<_, min};
 ghost use lib.ListN.{length};
 ghost use Rattle.language.specs.Basics.{eqZ};
-ghost use Rattle.language.specs.Table.{find, members, atLeastOne, right, add, takeOut};
+ghost use Rattle.language.specs.Table.{find, members, atLeastOne, right, add, takeOut, added, removed, queried};
 ghost use Rattle.members.specs.Places.{groupAt, memberAt, placed};
-ghost use Rattle.members.specs.Outcomes.{tableOf, added, removed, queried, changeOf, valueOf, wordsAfter};
+ghost use Rattle.members.specs.Outcomes.{tableOf, changeOf, valueOf, wordsAfter};
 use language::Stop;
 
 mod alike;

@@ -3,7 +3,7 @@
 -- property that also says something, `U`, of each action as it is done.
 use Prim.Native.Nat.{ℕ, zero, suc, pred, _<_}
 use mathlib.Core.Path.{_≡_, refl}
-use mathlib.Core.Bool.{Bool, true, false, _&&_, cond}
+use mathlib.Core.Bool.{Bool, true, false, _&&_}
 use mathlib.Core.List.{List, [], _∷_, _++_, map}
 use mathlib.Core.Option.{Option, none, some}
 use lib.Dec.{leb, ltb}
@@ -14,9 +14,9 @@ use borrow.Author.Tests.{ltb-true, leb-false}
 use Rattle.language.specs.Basics.{last?, butLast, eqZ}
 use Rattle.language.specs.Text.{Action, CL, GO, IF, KN, AR, AD, RM, QY, Block, Stmt, BK, DO, labelIndex, declFormals, declBody, formalNames, formalKinds}
 use Rattle.language.specs.Scope.{agree}
-use Rattle.language.specs.Table.{holds, size, atLeastOne, full, add, remove}
-use Rattle.language.specs.Machine.{Activation, State, Limits, Outcome, Instance, Done, did, stop, withLive, withTable, counted, resume, store, value, enter, instance, kindAt, enterIfRoom, call, jump, compute, storeIfFits, addPair, removePair, queryPair, doAction, doStmt, nextStmt, advance, stepIn, step, nextOffset, ends, run}
-use Rattle.language.specs.declared.Stop.the-variants.{ResultTooLarge, NoActivationLeft, NumberBelowOne, GroupFull, TableFull, ArgumentsDiffer}
+use Rattle.language.specs.Table.{holds, size, atLeastOne, full, add, remove, leaves, halts, Asked, gives, refuses, added, removed, queried}
+use Rattle.language.specs.Machine.{Activation, State, Limits, Outcome, Instance, Done, did, stop, withLive, withTable, counted, resume, store, value, enter, instance, kindAt, enterIfRoom, call, jump, compute, storeIfFits, asDone, asStored, addPair, removePair, queryPair, doAction, doStmt, nextStmt, advance, stepIn, step, nextOffset, ends, run}
+use Rattle.language.specs.declared.Stop.the-variants.{ResultTooLarge, NoActivationLeft, NumberBelowOne, ArgumentsDiffer}
 use Rattle.language.specs.declared.End.the-variants.{Finished, Spent, Stopped}
 
 -- the machine's moves, each with what is known where it is made
@@ -109,40 +109,31 @@ module _ (l : Limits) (P : State → Type 0) (U : State → Action → Type 0) (
       go false = tt
 
   addPair-keeps : (s : State) (g m : ℤ) → P s → After P (addPair l s g m)
-  unfolding addPair
-  addPair-keeps s g m h = numbers (atLeastOne g && atLeastOne m) refl
+  unfolding addPair added asDone withTable
+  addPair-keeps s g m h = go (atLeastOne g && atLeastOne m) refl (holds g m (s .table)) refl (leb (l .group) (size g (s .table))) refl (full (s .table)) refl
     where
-      room : atLeastOne g && atLeastOne m ≡ true → holds g m (s .table) ≡ false → leb (l .group) (size g (s .table)) ≡ false → (t : Bool) → full (s .table) ≡ t → After P (elim t [ true ↦ stop TableFull | false ↦ did (withTable s (add g m (s .table))) ])
-      room n a z true e = tt
-      room n a z false e = k .added s g m n a (leb-false _ _ z) e h
-
-      group : atLeastOne g && atLeastOne m ≡ true → holds g m (s .table) ≡ false → (t : Bool) → leb (l .group) (size g (s .table)) ≡ t → After P (elim t [ true ↦ stop GroupFull | false ↦ elim (full (s .table)) [ true ↦ stop TableFull | false ↦ did (withTable s (add g m (s .table))) ] ])
-      group n a true e = tt
-      group n a false e = room n a e (full (s .table)) refl
-
-      absent : atLeastOne g && atLeastOne m ≡ true → (t : Bool) → holds g m (s .table) ≡ t → After P (elim t [ true ↦ did s | false ↦ elim (leb (l .group) (size g (s .table))) [ true ↦ stop GroupFull | false ↦ elim (full (s .table)) [ true ↦ stop TableFull | false ↦ did (withTable s (add g m (s .table))) ] ] ])
-      absent n true e = h
-      absent n false e = group n e (leb (l .group) (size g (s .table))) refl
-
-      numbers : (t : Bool) → atLeastOne g && atLeastOne m ≡ t → After P (elim t [ false ↦ stop NumberBelowOne | true ↦ elim (holds g m (s .table)) [ true ↦ did s | false ↦ elim (leb (l .group) (size g (s .table))) [ true ↦ stop GroupFull | false ↦ elim (full (s .table)) [ true ↦ stop TableFull | false ↦ did (withTable s (add g m (s .table))) ] ] ] ])
-      numbers false e = tt
-      numbers true e = absent e (holds g m (s .table)) refl
+      go : (n : Bool) → atLeastOne g && atLeastOne m ≡ n → (a : Bool) → holds g m (s .table) ≡ a → (z : Bool) → leb (l .group) (size g (s .table)) ≡ z → (f : Bool) → full (s .table) ≡ f → After P (addPair l s g m)
+      go false n a a′ z z′ f f′ = rw (n, added) tt
+      go true n true a z z′ f f′ = rw (n, a, added) h
+      go true n false a true z f f′ = rw (n, a, z, added) tt
+      go true n false a false z true f = rw (n, a, z, f, added) tt
+      go true n false a false z false f = rw (n, a, z, f, added) (k .added s g m n a (leb-false _ _ z) f h)
 
   removePair-keeps : (s : State) (g m : ℤ) → P s → After P (removePair s g m)
-  unfolding removePair
+  unfolding removePair removed asDone
   removePair-keeps s g m h = go (atLeastOne g && atLeastOne m)
     where
-      go : (t : Bool) → After P (elim t [ false ↦ stop NumberBelowOne | true ↦ did (withTable s (remove g m (s .table))) ])
+      go : (t : Bool) → After P (asDone s (elim t [ false ↦ halts NumberBelowOne | true ↦ leaves (remove g m (s .table)) ]))
       go false = tt
       go true = k .removed s g m h
 
   queryPair-keeps : (s : State) (x : ℕ) (g m : ℤ) → P s → After P (queryPair s x g m)
-  unfolding queryPair
-  queryPair-keeps s x g m h = go (atLeastOne g && atLeastOne m)
+  unfolding queryPair asStored
+  queryPair-keeps s x g m h = go (queried g m (s .table))
     where
-      go : (t : Bool) → After P (elim t [ false ↦ stop NumberBelowOne | true ↦ did (store s x (cond (holds g m (s .table)) (pos 1) (pos 0))) ])
-      go false = tt
-      go true = k .stored s x (cond (holds g m (s .table)) (pos 1) (pos 0)) h
+      go : (o : Asked) → After P (asStored s x o)
+      go (gives z) = k .stored s x z h
+      go (refuses c) = tt
 
   doAction-keeps : (s : State) (a : Action) → U s a → P s → After P (doAction l s a)
   unfolding doAction
