@@ -11,15 +11,13 @@ use lib.Signed.{mag}
 use Rattle.language.specs.Basics.{last?, butLast, eqZ}
 use Rattle.language.specs.Text.{Kind, Formal, Action, CL, GO, IF, KN, AR, AD, RM, QY, Block, Decl, Stmt, BK, DO, blockAt, blockDecls, blockStmts, stmtAt, declKind, labelIndex, declFormals, declBody, formalNames, formalKinds, declaredNames}
 use Rattle.language.specs.Scope.{agree}
-use Rattle.language.specs.Check.{Checked, accepted, refused, check}
-use Rattle.language.specs.Table.{Table, right, Effect, leaves, halts, Asked, gives, refuses, added, removed, queried}
+use Rattle.language.specs.Table.{Table, Effect, leaves, halts, Asked, gives, refuses, added, removed, queried}
 use Rattle.language.specs.Machine.{Limits, compute}
-use Rattle.language.specs.Call.{Engine, copying, chain, display, Fed, Reply, limitsFit, lentFits, areaFits, turnedAway}
+use Rattle.language.specs.Call.{Engine, copying, chain, display, Fed, Reply, unlessRefused}
 use Rattle.language.specs.declared.Stop.{Stop}
 use Rattle.language.specs.declared.Stop.the-variants.{ResultTooLarge, NoActivationLeft, ArgumentsDiffer}
-use Rattle.language.specs.declared.Refusal.the-variants.{LimitRange, AreaTooShort, TableNotRight}
 use Rattle.language.specs.declared.End.{End}
-use Rattle.language.specs.declared.End.the-variants.{Finished, Spent, Stopped, Refused}
+use Rattle.language.specs.declared.End.the-variants.{Finished, Spent, Stopped}
 use Rattle.language.specs.declared.Answer.{Answer}
 
 -- A frame: the formals of the procedure whose body its block is (none for a block), the block, its next statement number, its
@@ -283,20 +281,6 @@ frameReplied e f r =
 unfoldable pub frameRunOf : Fed → Block → Result
 frameRunOf f t = frameRun (record { activations = f .activations; group = f .group }) (f .allowance) (frameStart t (f .table))
 
-unfoldable pub frameChecked : Engine → Fed → Checked → Reply
-frameChecked e f (refused c o) = turnedAway f c o
-frameChecked e f (accepted t) = elim (areaFits e f) [ true ↦ frameReplied e f (frameRunOf f t) | false ↦ turnedAway f AreaTooShort 0 ]
-
 -- The whole call, run on frames.
 unfoldable pub frameReply : Engine → Fed → Reply
-frameReply e f =
-    elim (limitsFit f) [
-      | false ↦ turnedAway f LimitRange 0
-      | true ↦ elim (lentFits e f) [
-        | false ↦ turnedAway f AreaTooShort 0
-        | true ↦ elim (right (f .group) (f .table)) [
-          | false ↦ turnedAway f TableNotRight 0
-          | true ↦ frameChecked e f (check (f .script))
-        ]
-      ]
-    ]
+frameReply e f = unlessRefused e f (λ t. frameReplied e f (frameRunOf f t))

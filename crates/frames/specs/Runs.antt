@@ -2,7 +2,6 @@
 -- one sheet and find one looked-up name. So the replies are one.
 use Prim.Native.Nat.{ℕ, zero, suc, _+_, _≤_}
 use native.Mathlib.Omega.{arith}
-use mathlib.Core.Bool.{Bool, true, false}
 use mathlib.Core.Path.{_≡_, refl, sym, ap, ap₂, _∙_, subst, subst₂}
 use mathlib.Core.Logic.{_≢_}
 use mathlib.Core.List.{List, [], _∷_, _++_}
@@ -11,12 +10,12 @@ use lib.IntN.{pos}
 use lib.ListN.{length, drop, getElem?, length-append}
 use Rattle.language.specs.Basics.{last?, butLast}
 use Rattle.language.specs.Text.{Block, Decl, VR, LB, PR, blockAt, blockDecls, formalNames}
-use Rattle.language.specs.Check.{Checked, accepted, refused, check}
+use Rattle.language.specs.Check.{accepted, check}
 use Rattle.language.specs.Table.{Table}
 use Rattle.language.specs.Copy.{without}
 use Rattle.language.specs.Machine.{Activation, State, Limits, Done, did, stop, counted, enter, step, Outcome, ends, run, start, Instance, instance, instanceFrom}
 use Rattle.language.specs.Sheet.{Found, seek, designator, declWord, activationWords, wordsOf, sheetWords, lookedUp, lookedUpDesignator, lookedUpLinks}
-use Rattle.language.specs.Call.{Engine, copying, chain, display, Fed, areaFits, linksOf, replied, runOf, checked}
+use Rattle.language.specs.Call.{Engine, copying, chain, display, Fed, linksOf, replied, runOf}
 use Rattle.language.specs.declared.End.the-variants.{Stopped}
 use Rattle.laws.specs.Tests.{split}
 use Rattle.laws.specs.Lists.{by-elements, some-last, last-none, last-split, getElem-seam, map-alike}
@@ -27,7 +26,7 @@ use Rattle.runs.specs.Account.{run-finished, run-spent, run-did, run-stopped}
 use Rattle.instances.specs.Invariant.{Invariant}
 use Rattle.instances.specs.Accepted.{accepted-closed}
 use Rattle.instances.specs.Steps.{started, step-keeps, counted-invariant}
-use Rattle.frames.specs.Frame.{Frame, Stack, Acted, acted, halted, withFrames, stepped, numbered, designates, linksFollowed, seekName, seekFrom, frameStep, Result, results, frameRun, frameStart, frameWords, frameSheet, frameLinks, frameReplied, frameRunOf, frameChecked}
+use Rattle.frames.specs.Frame.{Frame, Stack, Acted, acted, halted, withFrames, stepped, numbered, designates, linksFollowed, seekName, seekFrom, frameStep, Result, results, frameRun, frameStart, frameWords, frameSheet, frameLinks, frameReplied, frameRunOf}
 use Rattle.frames.specs.Both.{Both}
 use Rattle.frames.specs.Related.{readsAt, readsIn, joined, designatorFor, designatorAt, wordIn, Twin, Related, as-deep}
 use Rattle.frames.specs.Push.{related-push}
@@ -191,18 +190,9 @@ replied-same e f o q h =
     let y : q .offset ≡ o .offset = sym (h .offset-is) in
     λ i. record { answer = record { end = x i; steps = n i; offset = y i; pairs = u i .used; sheet = length (ws i); tally = f .tally + n i; designator = d i; links = k i }; sheet = ws i ++ drop (length (ws i)) (f .sheet); table = u i .words }
 
-runs-replied : (e : Engine) (f : Fed) → Bytes (f .script) → (t : Block) → check (f .script) ≡ accepted t → frameReplied e f (frameRunOf f t) ≡ replied e f (runOf f t)
+pub runs-replied : (e : Engine) (f : Fed) → Bytes (f .script) → (t : Block) → check (f .script) ≡ accepted t → frameReplied e f (frameRunOf f t) ≡ replied e f (runOf f t)
 unfolding runOf frameRunOf
 runs-replied e f bytes t a =
     let l : Limits = record { activations = f .activations; group = f .group } in
     replied-same e f (runOf f t) (frameRunOf f t)
     (runs-same l (f .allowance) (start t (f .table)) (frameStart t (f .table)) (start-related (f .script) t bytes a (f .table)) (started t (f .table) (accepted-closed (f .script) t bytes a)))
-
-pub checked-same : (e : Engine) (f : Fed) → Bytes (f .script) → (c : Checked) → check (f .script) ≡ c → frameChecked e f c ≡ checked e f c
-unfolding frameChecked checked
-checked-same e f bytes (refused c o) a = refl
-checked-same e f bytes (accepted t) a = go (areaFits e f) refl
-  where
-    go : (b : Bool) → areaFits e f ≡ b → frameChecked e f (accepted t) ≡ checked e f (accepted t)
-    go true q = rw (q, frameChecked, checked) (runs-replied e f bytes t a)
-    go false q = rw (q, frameChecked, checked)

@@ -81,21 +81,25 @@ replied e f r =
 unfoldable pub runOf : Fed → Block → Outcome
 runOf f t = run (record { activations = f .activations; group = f .group }) (f .allowance) (start t (f .table))
 
--- the check's verdict, then the copying area, then the run
-unfoldable pub checked : Engine → Fed → Checked → Reply
-checked e f (refused c o) = turnedAway f c o
-checked e f (accepted t) = elim (areaFits e f) [ true ↦ replied e f (runOf f t) | false ↦ turnedAway f AreaTooShort 0 ]
+-- the check's verdict, then the copying area; `ran t` is what comes of the program t once it is accepted
+unfoldable pub checked : Engine → Fed → (Block → Reply) → Checked → Reply
+checked e f ran (refused c o) = turnedAway f c o
+checked e f ran (accepted t) = elim (areaFits e f) [ true ↦ ran t | false ↦ turnedAway f AreaTooShort 0 ]
 
--- Order: 12, 13 for the sheet and records, 14, 1 to 11; last, 13 for the copying area.
-unfoldable pub reply : Engine → Fed → Reply
-reply e f =
+-- Order: 12, 13 for the sheet and records, 14, 1 to 11; last, 13 for the copying area. Where none of them holds, the machine is run.
+unfoldable pub unlessRefused : Engine → Fed → (Block → Reply) → Reply
+unlessRefused e f ran =
     elim (limitsFit f) [
       | false ↦ turnedAway f LimitRange 0
       | true ↦ elim (lentFits e f) [
         | false ↦ turnedAway f AreaTooShort 0
         | true ↦ elim (right (f .group) (f .table)) [
           | false ↦ turnedAway f TableNotRight 0
-          | true ↦ checked e f (check (f .script))
+          | true ↦ checked e f ran (check (f .script))
         ]
       ]
     ]
+
+-- The whole call.
+unfoldable pub reply : Engine → Fed → Reply
+reply e f = unlessRefused e f (λ t. replied e f (runOf f t))

@@ -1,6 +1,7 @@
 -- The whole call `reply e f`: which refusal is due, what a refusal leaves, and that sheet and table keep their lengths in every case.
 -- Read `Due e f c o` as: in the paper's order of tests, the cause c with the offset o is the first that holds. The theorems:
--- `due-reply`, `runs-reply`, `refused-due`, `refused-untouched`, `table-length`, `sheet-length` and `reported`.
+-- `due-reply`, `runs-reply`, `refused-due`, `refused-untouched`, `table-length`, `sheet-length` and `reported`; `called-same` is for
+-- another machine's whole call.
 use Prim.Native.Nat.{ℕ, _+_, _*_, _≤_, zero-le}
 use native.Mathlib.Nat.{add-zero}
 use native.Mathlib.Omega.{arith}
@@ -16,7 +17,7 @@ use Rattle.language.specs.Check.{Checked, accepted, refused, check}
 use Rattle.language.specs.Table.{Table, right}
 use Rattle.language.specs.Machine.{Limits, run, start, enter}
 use Rattle.language.specs.Sheet.{sheetWords, lookedUpDesignator}
-use Rattle.language.specs.Call.{Engine, Fed, Reply, limitsFit, recordsFit, lentFits, areaFits, turnedAway, replied, runOf, checked, reply}
+use Rattle.language.specs.Call.{Engine, Fed, Reply, limitsFit, recordsFit, lentFits, areaFits, turnedAway, replied, runOf, checked, unlessRefused, reply}
 use Rattle.language.specs.declared.Refusal.{Refusal}
 use Rattle.language.specs.declared.Refusal.the-variants.{LimitRange, AreaTooShort, TableNotRight}
 use Rattle.language.specs.declared.End.the-variants.{Refused}
@@ -44,43 +45,62 @@ pub record Runs (e : Engine) (f : Fed) (t : Block) : Type 0 where
   pub script : check (f .script) ≡ accepted t
   pub area : areaFits e f ≡ true
 
+-- Whatever comes of an accepted program (`ran`): the call is refused or run, each on its cause.
+module _ (e : Engine) (f : Fed) (ran : Block → Reply) where
+  pub called-cases : (P : Reply → Type 0) → ((c : Refusal) (o : ℕ) → Due e f c o → P (turnedAway f c o)) → ((t : Block) → Runs e f t → P (ran t)) → P (unlessRefused e f ran)
+  unfolding unlessRefused checked
+  called-cases P away runs = limits (limitsFit f) refl
+    where
+      area : (t : Block) → limitsFit f ≡ true → lentFits e f ≡ true → right (f .group) (f .table) ≡ true → check (f .script) ≡ accepted t → (b : Bool) → areaFits e f ≡ b → P (elim b as (λ x. Reply) [ true ↦ ran t | false ↦ turnedAway f AreaTooShort 0 ])
+      area t p q r k true h = runs t (record { limits = p; lent = q; table = r; script = k; area = h })
+      area t p q r k false h = away AreaTooShort 0 (by-area p q r k h)
+
+      script : limitsFit f ≡ true → lentFits e f ≡ true → right (f .group) (f .table) ≡ true → (k : Checked) → check (f .script) ≡ k → P (checked e f ran k)
+      script p q r (refused c o) h = away c o (by-check p q r h)
+      script p q r (accepted t) h = area t p q r h (areaFits e f) refl
+
+      table : limitsFit f ≡ true → lentFits e f ≡ true → (b : Bool) → right (f .group) (f .table) ≡ b → P (elim b as (λ x. Reply) [ false ↦ turnedAway f TableNotRight 0 | true ↦ checked e f ran (check (f .script)) ])
+      table p q false h = away TableNotRight 0 (by-table p q h)
+      table p q true h = script p q h (check (f .script)) refl
+
+      lent : limitsFit f ≡ true → (b : Bool) → lentFits e f ≡ b → P (elim b as (λ x. Reply) [ false ↦ turnedAway f AreaTooShort 0 | true ↦ elim (right (f .group) (f .table)) [ false ↦ turnedAway f TableNotRight 0 | true ↦ checked e f ran (check (f .script)) ] ])
+      lent p false h = away AreaTooShort 0 (by-lent p h)
+      lent p true h = table p h (right (f .group) (f .table)) refl
+
+      limits : (b : Bool) → limitsFit f ≡ b → P (elim b as (λ x. Reply) [ false ↦ turnedAway f LimitRange 0 | true ↦ elim (lentFits e f) [ false ↦ turnedAway f AreaTooShort 0 | true ↦ elim (right (f .group) (f .table)) [ false ↦ turnedAway f TableNotRight 0 | true ↦ checked e f ran (check (f .script)) ] ] ])
+      limits false h = away LimitRange 0 (by-limits h)
+      limits true h = lent h (lentFits e f) refl
+
+  due-called : {c : Refusal} {o : ℕ} → Due e f c o → unlessRefused e f ran ≡ turnedAway f c o
+  unfolding unlessRefused checked
+  due-called (by-limits p) = rw (p, unlessRefused)
+  due-called (by-lent p q) = rw (p, q, unlessRefused)
+  due-called (by-table p q r) = rw (p, q, r, unlessRefused)
+  due-called (by-check p q r h) = rw (p, q, r, h, unlessRefused)
+  due-called (by-area p q r h a) = rw (p, q, r, h, unlessRefused) (rw (a, checked))
+
+  runs-called : (t : Block) → Runs e f t → unlessRefused e f ran ≡ ran t
+  unfolding unlessRefused checked
+  runs-called t h = rw (h .limits, h .lent, h .table, h .script, unlessRefused) (rw (h .area, checked))
+
+-- calls that run every accepted program alike are alike
+pub called-same : (e : Engine) (f : Fed) (ran ran′ : Block → Reply) → ((t : Block) → check (f .script) ≡ accepted t → ran t ≡ ran′ t) → unlessRefused e f ran ≡ unlessRefused e f ran′
+called-same e f ran ran′ same =
+    called-cases e f ran (λ r. r ≡ unlessRefused e f ran′) (λ c o h. sym (due-called e f ran′ h)) (λ t h. same t (h .script) ∙ sym (runs-called e f ran′ t h))
+
 -- A property of every reply, from the two kinds there are.
 pub reply-cases : (P : Reply → Type 0) (e : Engine) (f : Fed) → ((c : Refusal) (o : ℕ) → Due e f c o → P (turnedAway f c o)) → ((t : Block) → Runs e f t → P (replied e f (runOf f t))) → P (reply e f)
-unfolding reply checked
-reply-cases P e f away runs = limits (limitsFit f) refl
-  where
-    area : (t : Block) → limitsFit f ≡ true → lentFits e f ≡ true → right (f .group) (f .table) ≡ true → check (f .script) ≡ accepted t → (b : Bool) → areaFits e f ≡ b → P (elim b as (λ x. Reply) [ true ↦ replied e f (runOf f t) | false ↦ turnedAway f AreaTooShort 0 ])
-    area t p q r k true h = runs t (record { limits = p; lent = q; table = r; script = k; area = h })
-    area t p q r k false h = away AreaTooShort 0 (by-area p q r k h)
-
-    script : limitsFit f ≡ true → lentFits e f ≡ true → right (f .group) (f .table) ≡ true → (k : Checked) → check (f .script) ≡ k → P (checked e f k)
-    script p q r (refused c o) h = away c o (by-check p q r h)
-    script p q r (accepted t) h = area t p q r h (areaFits e f) refl
-
-    table : limitsFit f ≡ true → lentFits e f ≡ true → (b : Bool) → right (f .group) (f .table) ≡ b → P (elim b as (λ x. Reply) [ false ↦ turnedAway f TableNotRight 0 | true ↦ checked e f (check (f .script)) ])
-    table p q false h = away TableNotRight 0 (by-table p q h)
-    table p q true h = script p q h (check (f .script)) refl
-
-    lent : limitsFit f ≡ true → (b : Bool) → lentFits e f ≡ b → P (elim b as (λ x. Reply) [ false ↦ turnedAway f AreaTooShort 0 | true ↦ elim (right (f .group) (f .table)) [ false ↦ turnedAway f TableNotRight 0 | true ↦ checked e f (check (f .script)) ] ])
-    lent p false h = away AreaTooShort 0 (by-lent p h)
-    lent p true h = table p h (right (f .group) (f .table)) refl
-
-    limits : (b : Bool) → limitsFit f ≡ b → P (elim b as (λ x. Reply) [ false ↦ turnedAway f LimitRange 0 | true ↦ elim (lentFits e f) [ false ↦ turnedAway f AreaTooShort 0 | true ↦ elim (right (f .group) (f .table)) [ false ↦ turnedAway f TableNotRight 0 | true ↦ checked e f (check (f .script)) ] ] ])
-    limits false h = away LimitRange 0 (by-limits h)
-    limits true h = lent h (lentFits e f) refl
+unfolding reply
+reply-cases P e f away runs = called-cases e f (λ t. replied e f (runOf f t)) P away runs
 
 -- The two kinds, each on its cause.
 pub due-reply : (e : Engine) (f : Fed) {c : Refusal} {o : ℕ} → Due e f c o → reply e f ≡ turnedAway f c o
-unfolding reply checked
-due-reply e f (by-limits p) = rw (p, reply)
-due-reply e f (by-lent p q) = rw (p, q, reply)
-due-reply e f (by-table p q r) = rw (p, q, r, reply)
-due-reply e f (by-check p q r h) = rw (p, q, r, h, reply)
-due-reply e f (by-area p q r h a) = rw (p, q, r, h, reply) (rw (a, checked))
+unfolding reply
+due-reply e f h = due-called e f (λ t. replied e f (runOf f t)) h
 
 pub runs-reply : (e : Engine) (f : Fed) (t : Block) → Runs e f t → reply e f ≡ replied e f (runOf f t)
-unfolding reply checked
-runs-reply e f t h = rw (h .limits, h .lent, h .table, h .script, reply) (rw (h .area, checked))
+unfolding reply
+runs-reply e f t h = runs-called e f (λ t′. replied e f (runOf f t′)) t h
 
 -- A refusal leaves everything lent as it was, and reports 0 steps, the count and tally given, 0 sheet words, designator 0.
 pub record Untouched (f : Fed) (r : Reply) : Type 0 where
