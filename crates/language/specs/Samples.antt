@@ -1,4 +1,4 @@
--- Sample scripts: those that document 01 marks *, and a few for rules that none of them would miss, in one table.
+-- Sample scripts: those that document 01 marks *, and rows for readings that nothing else rules out, in one table.
 -- docs/READINGS.md has the wrong readings that the rows rule out.
 -- `samples-hold` is the claim about all of them, for each engine; `computed-once` is the test that is computed.
 use Prim.Native.Nat.{ℕ, zero, suc, _+_, _-_, _*_, _/_, _<_}
@@ -84,7 +84,6 @@ wanted m r =
 unfoldable pub noPairs : ℕ → List ℤ
 noPairs n = replicate (n * 2) (pos 0)
 
--- KN's value as two fields, low first; the two ends of the 32-bit range
 unfoldable pub script-empty : List ℕ
 script-empty = []
 
@@ -100,7 +99,7 @@ script-B =
     bytesOf
     (BK-mark ∷ 3 ∷ 1 ∷ VR-mark ∷ 1 ∷ PR-mark ∷ 2 ∷ 0 ∷ BK-mark ∷ 0 ∷ 0 ∷ PR-mark ∷ 3 ∷ 1 ∷ FM-mark ∷ 4 ∷ 2 ∷ BK-mark ∷ 3 ∷ 6 ∷ VR-mark ∷ 5 ∷ PR-mark ∷ 6 ∷ 0 ∷ BK-mark ∷ 0 ∷ 1 ∷ KN-mark ∷ 5 ∷ 9 ∷ 0 ∷ LB-mark ∷ 7 ∷ 5 ∷ IF-mark ∷ 1 ∷ 7 ∷ KN-mark ∷ 1 ∷ 1 ∷ 0 ∷ KN-mark ∷ 5 ∷ 1 ∷ 0 ∷ CL-mark ∷ 3 ∷ 1 ∷ 6 ∷ KN-mark ∷ 5 ∷ 2 ∷ 0 ∷ CL-mark ∷ 4 ∷ 0 ∷ CL-mark ∷ 3 ∷ 1 ∷ 2 ∷ [])
 
--- variable 1 := a, variable 2 := b, variable 1 := 1 o 2; a and b as two fields each
+-- variable 1 := a, variable 2 := b, variable 1 := 1 o 2; a and b are KN's values, two fields each, low first
 unfoldable pub script-arithmetic : ℕ → ℕ → ℕ → ℕ → ℕ → List ℕ
 script-arithmetic a a′ b b′ o =
     bytesOf
@@ -157,10 +156,13 @@ script-highest =
     bytesOf
     (BK-mark ∷ 1 ∷ 1 ∷ VR-mark ∷ 1 ∷ BK-mark ∷ 1 ∷ 2 ∷ VR-mark ∷ 65535 ∷ KN-mark ∷ 1 ∷ 65535 ∷ 65535 ∷ AR-mark ∷ 1 ∷ 2 ∷ 1 ∷ 65535 ∷ [])
 
--- a call that runs to its end, or stops, from an empty table of eight pairs
+-- a call that runs to its end, stops or is refused, with N, from an empty table of eight pairs
+unfoldable pub ends-within : ℕ → List ℕ → ℕ → End → ℕ → ℕ → List ℤ → Sample
+ends-within allowance script d e n o ws =
+    record { script = script; activations = d; allowance = allowance; group = 3; lent = in-full; short = 0; table = record { words = noPairs 8; used = 0 }; name = 9; end = e; steps = n; offset = o; pairs = 0; designator = 0; links = 0; sheet = ws; words = noPairs 8 }
+
 unfoldable pub ends-with : List ℕ → ℕ → End → ℕ → ℕ → List ℤ → Sample
-ends-with script d e n o ws =
-    record { script = script; activations = d; allowance = 1000; group = 3; lent = in-full; short = 0; table = record { words = noPairs 8; used = 0 }; name = 9; end = e; steps = n; offset = o; pairs = 0; designator = 0; links = 0; sheet = ws; words = noPairs 8 }
+ends-with script d e n o ws = ends-within 1000 script d e n o ws
 
 -- script A with group limit, table and its count; what comes of it
 unfoldable pub of-A : ℕ → List ℤ → ℕ → End → ℕ → ℕ → ℕ → List ℤ → List ℤ → Sample
@@ -194,6 +196,8 @@ unfoldable pub samples : List Sample
 samples =
     ends-with script-empty 16 (Refused ScriptLength) 0 0 [] ∷
     ends-with script-null 16 Finished 1 0 [] ∷
+    -- finished goes before spent
+    ends-within 1 script-null 16 Finished 1 0 [] ∷
     spent-at script-null 0 9 0 0 (pos 0 ∷ pos 1 ∷ []) ∷
     of-A 3 (noPairs 8) 0 Finished 4 0 1 [] (pos 5 ∷ pos 7 ∷ noPairs 7) ∷
     of-A 1 (pos 5 ∷ pos 8 ∷ noPairs 7) 1 (Stopped GroupFull) 2 30 1 A-stopped (pos 5 ∷ pos 8 ∷ noPairs 7) ∷
@@ -246,7 +250,7 @@ unfoldable pub row : ℕ → Sample
 row k = getD samples k (ends-with script-empty 16 (Refused ScriptLength) 0 0 [])
 
 computed-once : (m : Method) → map (got m) samples ≡ map (wanted m) samples
-unfolding computed lentTally lentWord inFull engineOf linksFor lentSheet fed got wanted noPairs script-empty script-null script-A script-B script-arithmetic script-nested script-order script-goto script-crossed script-procedure inside-blocks script-use script-pair script-formal script-highest ends-with of-A A-stopped spent-at refused-with all-wrong pair-taken-out samples
+unfolding computed lentTally lentWord inFull engineOf linksFor lentSheet fed got wanted noPairs script-empty script-null script-A script-B script-arithmetic script-nested script-order script-goto script-crossed script-procedure inside-blocks script-use script-pair script-formal script-highest ends-within ends-with of-A A-stopped spent-at refused-with all-wrong pair-taken-out samples
 computed-once by-copying = refl
 computed-once by-chain = refl
 computed-once by-display = refl
