@@ -196,7 +196,7 @@ pub sheet-length : (e : Engine) (f : Fed) → length ((reply e f) .sheet) ≡ le
 sheet-length e f = reply-cases (λ r. length (r .sheet) ≡ length (f .sheet)) e f (λ c o h. ap length ((away-untouched f c o) .sheet)) (λ t h. ran-sheet e f t h)
 
 -- What the answer reports, in every case: at most N steps, the tally given plus the steps, at most 34 sheet words for each of D
--- activations, and a designator of one of them.
+-- activations, and a designator of one of them. (The links are at most 15 where the script is of bytes: `links-most` of coordinates.)
 pub record Reported (f : Fed) (r : Reply) : Type 0 where
   pub steps : r .answer .steps ≤ f .allowance
   pub tally : r .answer .tally ≡ f .tally + r .answer .steps
