@@ -145,7 +145,7 @@ compute less a b = elim (ltZ a b) [ true ↦ pos 1 | false ↦ pos 0 ]
 unfoldable pub storeIfFits : State → ℕ → ℤ → Done
 storeIfFits s x z = elim (ltb (mag z) 2147483648) [ true ↦ did (store s x z) | false ↦ stop ResultTooLarge ]
 
--- AD, RM and QY: what they do to the table, or the cause to stop, is said there
+-- AD, RM and QY: Table.antt says what they come to (added, removed, queried), with 23, 24 and 25 in their order
 unfoldable pub asDone : State → Effect → Done
 asDone s (leaves t) = did (withTable s t)
 asDone s (halts c) = stop c
