@@ -41,18 +41,12 @@ stmtMark isQY = QY
 unfoldable pub onlyMark : Mark → Bool → Mark
 onlyMark m b = m
 
--- the rows of the code's table that are of a place
-abbrev pub firstOf : Place → ℕ
-firstOf Block = 4
-firstOf Formal = 0
-firstOf Declaration = 1
-firstOf Statement = 4
-
-abbrev pub endOf : Place → ℕ
-endOf Block = 5
-endOf Formal = 1
-endOf Declaration = 4
-endOf Statement = 13
+-- a place's bit in the code's table of marks
+abbrev pub bitOf : Place → ℕ
+bitOf Block = 1
+bitOf Formal = 2
+bitOf Declaration = 4
+bitOf Statement = 8
 
 -- the first row with these letters
 unfoldable pub fitIn : {M : Type 0} → (M → Mark) → ℕ → List (Row M) → Fit

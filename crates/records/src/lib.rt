@@ -6,7 +6,7 @@ ghost use lib.Dec.{leb};
 ghost use lib.ListN.{length, getD, take};
 ghost use Rattle.language.specs.Encoding.{two};
 ghost use Rattle.language.specs.Structure.{fields};
-ghost use Rattle.records.specs.Taking.{unread, firstOf, endOf, fitAt, restAt, recordAt, Within, progressOf, forget};
+ghost use Rattle.records.specs.Taking.{unread, bitOf, fitAt, restAt, recordAt, Within, progressOf, forget};
 
 pub enum Mark {
     BK,
@@ -32,91 +32,104 @@ pub enum Place {
     Statement,
 }
 
-// A mark: its two letters as a field, low byte first, and how many fields come after it.
+// A place's bit in the table of marks.
+const BLOCK: u8 = 1;
+
+const FORMAL: u8 = 2;
+
+const DECLARATION: u8 = 4;
+
+const STATEMENT: u8 = 8;
+
+// A mark: its two letters as a field, low byte first, how many fields come after it, and the bits of the places where it may stand.
 pub struct Entry {
     pub letters: u32,
     pub count: u8,
+    pub places: u8,
     pub mark: Mark,
 }
 
-// The marks with their counts, in the order of the places allowed: the rows of a place stand together, and `rows_of` gives them.
+// The marks with their field counts and the places allowed.
 const MARKS: [Entry; 13] = [
-    // formals
     Entry {
-        letters: 0x4d46,
+        letters: 0x4b42,
         count: 2,
-        mark: Mark::FM,
+        places: BLOCK + STATEMENT,
+        mark: Mark::BK,
     },
-    // declarations
     Entry {
         letters: 0x5256,
         count: 1,
+        places: DECLARATION,
         mark: Mark::VR,
     },
     Entry {
         letters: 0x424c,
         count: 2,
+        places: DECLARATION,
         mark: Mark::LB,
     },
     Entry {
         letters: 0x5250,
         count: 2,
+        places: DECLARATION,
         mark: Mark::PR,
     },
-    // blocks and statements
     Entry {
-        letters: 0x4b42,
+        letters: 0x4d46,
         count: 2,
-        mark: Mark::BK,
+        places: FORMAL,
+        mark: Mark::FM,
     },
-    // statements
     Entry {
         letters: 0x4c43,
         count: 2,
+        places: STATEMENT,
         mark: Mark::CL,
     },
     Entry {
         letters: 0x4f47,
         count: 1,
+        places: STATEMENT,
         mark: Mark::GO,
     },
     Entry {
         letters: 0x4649,
         count: 2,
+        places: STATEMENT,
         mark: Mark::IF,
     },
     Entry {
         letters: 0x4e4b,
         count: 3,
+        places: STATEMENT,
         mark: Mark::KN,
     },
     Entry {
         letters: 0x5241,
         count: 4,
+        places: STATEMENT,
         mark: Mark::AR,
     },
     Entry {
         letters: 0x4441,
         count: 2,
+        places: STATEMENT,
         mark: Mark::AD,
     },
     Entry {
         letters: 0x4d52,
         count: 2,
+        places: STATEMENT,
         mark: Mark::RM,
     },
     Entry {
         letters: 0x5951,
         count: 3,
+        places: STATEMENT,
         mark: Mark::QY,
     },
 ];
-
-// From one row of the table up to another.
-pub struct Rows {
-    pub first: usize,
-    pub end: usize,
-}
 
 pub enum Fit {
     Found { count: u8, mark: Mark },
@@ -142,35 +155,35 @@ pub enum Progress {
     Refused(Refusal, usize),
 }
 
-// The rows of a place.
-fn rows_of(place: Place) -> Rows
-    ensures { λ r. ⌜ (r .first ≡ firstOf place) × (r .end ≡ endOf place) ⌝ }
+fn bit_of(place: Place) -> u8
+    ensures { λ r. ⌜ (r ≡ bitOf place) × (0 < r) ⌝ }
 {
     match place {
-        Place::Block => Rows { first: 4, end: 5 },
-        Place::Formal => Rows { first: 0, end: 1 },
-        Place::Declaration => Rows { first: 1, end: 4 },
-        Place::Statement => Rows { first: 4, end: 13 },
+        Place::Block => BLOCK,
+        Place::Formal => FORMAL,
+        Place::Declaration => DECLARATION,
+        Place::Statement => STATEMENT,
     }
 }
 
-// The mark with these letters, of those that may stand at a place. The table is copied once, before the loop: a place that is known
-// when the call is compiled then leaves a few comparisons of it.
-pub fn find_mark(letters: u32, place: Place) -> Fit
+// The mark with these letters, of those that may stand at a place. The table is copied once, before the loop: where the place is known
+// when the call is compiled, a comparison for each of its marks is left.
+fn find_mark(letters: u32, place: Place) -> Fit
     ensures { λ r. ⌜ r ≡ fitAt place letters ⌝ }
 {
     let marks = MARKS;
-    let r = rows_of(place);
-    let end = r.end;
-    let mut i = r.first;
-    while i < end {
+    let bit = bit_of(place);
+    let mut i = 0;
+    while i < 13 {
         let e = marks[i];
-        if e.letters == letters {
-            let mark = e.mark;
-            return Fit::Found {
-                count: e.count,
-                mark,
-            };
+        if e.places / bit % 2 == 1 {
+            if e.letters == letters {
+                let mark = e.mark;
+                return Fit::Found {
+                    count: e.count,
+                    mark,
+                };
+            }
         }
         i += 1;
     }
@@ -190,7 +203,7 @@ fn size(x: u8) -> usize
 }
 
 // The 16-bit field at an offset, low byte first.
-pub fn field_at(script: &[u8], at: usize) -> u32
+fn field_at(script: &[u8], at: usize) -> u32
     requires { ⌜ at + 1 < length (now script) ⌝ }
     ensures { λ r. ⌜ (r ≡ two (getD (now (script .entry)) at 0) (getD (now (script .entry)) (at + 1) 0)) × (r < 65536) ⌝ }
 {
@@ -198,7 +211,7 @@ pub fn field_at(script: &[u8], at: usize) -> u32
 }
 
 // Field k of the count fields from an offset on; 0 where there are fewer.
-pub fn field_of(script: &[u8], at: usize, count: usize, k: usize) -> u32
+fn field_of(script: &[u8], at: usize, count: usize, k: usize) -> u32
     requires { ⌜ at + 2 * count ≤ length (now script) ⌝ }
     ensures { λ r. ⌜ (r ≡ getD (take count (unread (now (script .entry)) at)) k 0) × (r < 65536) ⌝ }
 {
@@ -250,7 +263,7 @@ fn take_record(script: &[u8], at: usize, fit: Fit) -> Reading
 }
 
 // A record at each place, in this order: mark present (2), mark fit (3), fields present (2). A function for each place, so that the
-// rows searched are known when it is compiled.
+// place is known when it is compiled.
 pub fn read_block(script: &[u8], at: usize) -> Reading
     ensures { λ r. ⌜ (r ≡ recordAt Place.Block (now (script .entry)) at) × Within (length (now (script .entry))) at r ⌝ }
 {

@@ -6,6 +6,7 @@ pub mod FormalLaws
 pub mod Marks
 pub mod Forget
 pub mod DeclLaws
+pub mod HeadLaws
 pub mod StmtLaws
 pub mod BlockLaws
 pub mod Loops

@@ -1,5 +1,5 @@
 -- Where the loops over a block's declarations and statements stand: what is left to read goes on as the whole does. Assumes nothing.
-use mathlib.Core.Path.{_≡_, sym, _∙_, ap}
+use mathlib.Core.Path.{_≡_, refl, sym, _∙_, ap}
 use mathlib.Core.List.{List, [], _∷_, _++_}
 use Prim.Native.Nat.{ℕ, suc, _+_, _-_, _<_, _≤_}
 use native.Mathlib.Omega.{arith}
@@ -12,14 +12,15 @@ use Rattle.records.specs.declared.Place.the-variants.{Declaration, Statement}
 use Rattle.records.specs.declared.Progress.{Progress}
 use Rattle.records.specs.declared.Progress.the-variants.{At, Refused}
 use Rattle.records.specs.declared.Reading.{Reading}
-use Rattle.records.specs.declared.Reading.the-variants.{Taken}
+use Rattle.records.specs.declared.Reading.the-variants.{Taken, Refused as Untaken}
 use Rattle.records.specs.Taking.{unread, recordAt, forget}
 use Rattle.vetting.specs.Naming.{namesAt}
-use Rattle.vetting.specs.Progress.{declMarkOf, stmtMarkOf, rangedOf, onceAt, belowOf, statedOf}
+use Rattle.vetting.specs.Progress.{declMarkOf, stmtMarkOf, rangedOf, onceAt, headed, headingAt, belowOf, statedOf}
 use Rattle.vetting.proofs.Lands.{AllTrack}
 use Rattle.vetting.proofs.Names.{names-added}
 use Rattle.vetting.proofs.SameNames.{declarations-same, same-snoc}
 use Rattle.vetting.proofs.DeclLaws.{decls-stop, own-stops, below-stops, decl-onward, decls-more, decls-none}
+use Rattle.vetting.proofs.HeadLaws.{judged-refused}
 use Rattle.vetting.proofs.StmtLaws.{stmts-stop, stmt-stops, stmt-onward, stmts-more, stmts-none}
 
 less-none : (d : ℕ) → d - 0 ≡ d
@@ -59,14 +60,14 @@ module _ {body : BlockReader} {s d : ℕ} {seen bs : List ℕ} {start : ℕ} {na
     unfolding forget
     ends e = sym (one-of ∙ ap forget e)
 
-    pub decl-refused : {c : Refusal} {o : ℕ} → recordAt Declaration bs at ≡ Reading.Refused c o → Refused c o ≡ forget (declarations body s d seen start (unread bs start))
+    decl-refused : {c : Refusal} {o : ℕ} → recordAt Declaration bs at ≡ Reading.Refused c o → Refused c o ≡ forget (declarations body s d seen start (unread bs start))
     decl-refused {c} {o} e = ends (decls-stop body s (d - (i + 1)) names-so-far bs at h c o e)
 
     module _ {m : Mark} {next f0 f1 f2 f3 : ℕ} (e : recordAt Declaration bs at ≡ Taken m next f0 f1 f2 f3) where
       abbrev own-record : Progress
       own-record = onceAt (rangedOf (declMarkOf m) at next f1 s) (among f0 names-so-far) at
 
-      pub own-refused : {c : Refusal} {o : ℕ} → own-record ≡ Refused c o → Refused c o ≡ forget (declarations body s d seen start (unread bs start))
+      own-refused : {c : Refusal} {o : ℕ} → own-record ≡ Refused c o → Refused c o ≡ forget (declarations body s d seen start (unread bs start))
       own-refused q = ends (own-stops body s (d - (i + 1)) names-so-far bs at h e q)
 
       module _ {from : ℕ} (q : own-record ≡ At from) where
@@ -94,6 +95,14 @@ module _ {body : BlockReader} {s d : ℕ} {seen bs : List ℕ} {start : ℕ} {na
             added =
                 ap (namesAt (set names′ (base + (held + i)) f0) base) one-more
                 ∙ names-added names′ base (held + i) f0 room ∙ ap (λ ns. ns ++ (f0 ∷ [])) kept
+
+    refused-as : {c : Refusal} {o : ℕ} (r : Reading) → recordAt Declaration bs at ≡ r → headed r at s names-so-far ≡ Reading.Refused c o → Refused c o ≡ forget (declarations body s d seen start (unread bs start))
+    unfolding headed
+    refused-as (Taken m next f0 f1 f2 f3) e q = own-refused e (judged-refused _ m next f0 f1 f2 f3 q)
+    refused-as (Untaken c o) e q = decl-refused (e ∙ q)
+
+    pub head-refused : {c : Refusal} {o : ℕ} → headingAt bs at s names-so-far ≡ Reading.Refused c o → Refused c o ≡ forget (declarations body s d seen start (unread bs start))
+    head-refused q = refused-as (recordAt Declaration bs at) refl q
 
   pub decls-end : d ≤ i → At at ≡ forget (declarations body s d seen start (unread bs start))
   decls-end h = sym (l .rest ∙ ap (λ k. forget (declarations body s k names-so-far at (unread bs at))) (none-left d i h) ∙ decls-none body s names-so-far at (unread bs at))

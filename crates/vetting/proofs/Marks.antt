@@ -10,15 +10,14 @@ use borrow.Author.Tests.{le-leb, lt-leb, eq-eqb}
 use types.Run.{OneOf}
 use denote.Enum.Declared.{tagOf}
 use Rattle.language.specs.Structure.{fields, isLB, isPR, isCL, isAR, BlockReader}
-use Rattle.language.specs.declared.Refusal.{Refusal}
-use Rattle.language.specs.declared.Refusal.the-variants.{FieldRange, TooManyNames, NameTwice}
+use Rattle.language.specs.declared.Refusal.the-variants.{FieldRange, TooManyNames}
 use Rattle.records.proofs.Mark as M
 use Rattle.records.specs.declared.Mark.{Mark}
 use Rattle.records.specs.declared.Mark.the-variants.{BK, VR, LB, PR, FM, CL, GO, IF, KN, AR, AD, RM, QY}
 use Rattle.records.specs.declared.Progress.{Progress}
 use Rattle.records.specs.declared.Progress.the-variants.{At, Refused}
 use Rattle.records.specs.Taking.{forget}
-use Rattle.vetting.specs.Progress.{declMarkOf, stmtMarkOf, rangedOf, onceAt, actionOf, FewFormals, bodyOf, belowOf, statedOf}
+use Rattle.vetting.specs.Progress.{declMarkOf, stmtMarkOf, rangedOf, actionOf, FewFormals, bodyOf, belowOf, statedOf}
 
 abbrev either : Bool → Bool → Bool
 either true b = true
@@ -120,20 +119,6 @@ module _ (o f1 at : ℕ) (ws : List ℕ) where
   others-pass AD h = refl
   others-pass RM h = refl
   others-pass QY h = refl
-
-module _ (next at : ℕ) where
-  pub once-twice : onceAt (At next) true at ≡ Refused NameTwice at
-  unfolding onceAt
-  once-twice = refl
-
-  pub once-new : onceAt (At next) false at ≡ At next
-  unfolding onceAt
-  once-new = refl
-
-pub once-refused : (p : Progress) (twice : Bool) (at : ℕ) (c : Refusal) (o : ℕ) → p ≡ Refused c o → onceAt p twice at ≡ p
-unfolding onceAt
-once-refused (At next) twice at c o e = let z : _≡_ {A = ℕ} 0 1 = cc in absurd (omega arith)
-once-refused (Refused d q) twice at c o e = refl
 
 -- a mark that is no PR, and one that is no BK
 module _ (body : BlockReader) (p at : ℕ) (ws : List ℕ) where

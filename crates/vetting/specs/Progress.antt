@@ -5,6 +5,7 @@ use mathlib.Core.Bool.{Bool, true, false, _&&_}
 use mathlib.Core.List.{List, [], _∷_}
 use lib.Dec.{leb, ltb}
 use lib.ListN.{getD}
+use Rattle.language.specs.Basics.{among}
 use Rattle.language.specs.Text.{Formal, Block, formalNames}
 use Rattle.language.specs.Encoding.{fieldsOf}
 use Rattle.language.specs.Structure.{Reading as Outcome, read, refuse, Reader, _>>=_, DeclMark, isVR, isLB, isPR, StmtMark, isBK, isCL, isGO, isIF, isKN, isAR, isAD, isRM, isQY, fields, blockMarks, take-record, formals, BlockReader, program}
@@ -14,7 +15,10 @@ use Rattle.records.specs.declared.Mark.{Mark}
 use Rattle.records.specs.declared.Mark.the-variants.{BK, VR, LB, PR, FM, CL, GO, IF, KN, AR, AD, RM, QY}
 use Rattle.records.specs.declared.Progress.{Progress}
 use Rattle.records.specs.declared.Progress.the-variants.{At, Refused}
-use Rattle.records.specs.Taking.{forget}
+use Rattle.records.specs.declared.Place.the-variants.{Declaration}
+use Rattle.records.specs.declared.Reading.{Reading}
+use Rattle.records.specs.declared.Reading.the-variants.{Taken, Refused as Untaken}
+use Rattle.records.specs.Taking.{forget, recordAt}
 use Rattle.language.specs.declared.Verdict.{Verdict}
 
 -- the definitions' name of each mark; one that may not stand there is taken as the first
@@ -64,6 +68,19 @@ unfoldable pub onceAt : Progress → Bool → ℕ → Progress
 onceAt (At next) true at = Refused NameTwice at
 onceAt (At next) false at = At next
 onceAt (Refused c o) twice at = Refused c o
+
+-- the record as it was read, or the refusal by a test of it
+unfoldable pub judged : Progress → Reading → Reading
+judged (At next) r = r
+judged (Refused c o) r = Untaken c o
+
+unfoldable pub headed : Reading → ℕ → ℕ → List ℕ → Reading
+headed (Taken m next f0 f1 f2 f3) at s ns = judged (onceAt (rangedOf (declMarkOf m) at next f1 s) (among f0 ns) at) (Taken m next f0 f1 f2 f3)
+headed (Untaken c o) at s ns = Untaken c o
+
+-- a declaration's own record at an offset, read and judged
+abbrev pub headingAt : List ℕ → ℕ → ℕ → List ℕ → Reading
+headingAt bs at s ns = headed (recordAt Declaration bs at) at s ns
 
 -- a procedure has at most 32 formals
 abbrev pub FewFormals : DeclMark → ℕ → Type 0

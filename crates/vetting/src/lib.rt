@@ -12,9 +12,9 @@ ghost use Prim.Native.Nat.{_+_, _-_, _*_, _<_, _≤_};
 ghost use lib.ListN.{length, take};
 ghost use Rattle.language.specs.Basics.{among};
 ghost use Rattle.language.specs.Structure as definitions;
-ghost use Rattle.records.specs.Taking.{unread, forget};
+ghost use Rattle.records.specs.Taking.{unread, forget, Within};
 ghost use Rattle.vetting.specs.Naming.{namesAt};
-ghost use Rattle.vetting.specs.Progress.{declMarkOf, stmtMarkOf, NamesOf, rangedOf, onceAt, actionOf, FewFormals, belowOf, statedOf, closing, structureOf};
+ghost use Rattle.vetting.specs.Progress.{declMarkOf, stmtMarkOf, NamesOf, rangedOf, headingAt, actionOf, FewFormals, belowOf, statedOf, closing, structureOf};
 
 fn wide(x: u32) -> usize
     ensures { λ r. ⌜ r ≡ x ⌝ }
@@ -90,29 +90,32 @@ fn ranged(mark: Mark, here: usize, next: usize, f1: u32, s: usize) -> Progress
     }
 }
 
-// A declaration's own record: its second field, then 8 where its name is among those before it.
-fn heading(
-    names: &[u32],
-    mark: Mark,
-    at: usize,
-    next: usize,
-    f0: u32,
-    f1: u32,
-    s: usize,
-    base: usize,
-    count: usize,
-) -> Progress
+// A declaration's own record, read and judged: its second field, then 8 where its name is among those before it.
+fn heading(script: &[u8], names: &[u32], at: usize, s: usize, base: usize, count: usize) -> Reading
     requires { ⌜ base + count ≤ length (now names) ⌝ }
-    ensures { λ r. ⌜ r ≡ onceAt (rangedOf (declMarkOf mark) at next f1 s) (among f0 (namesAt (now (names .entry)) base count)) at ⌝ }
+    ensures { λ r. ⌜ (r ≡ headingAt (now (script .entry)) at s (namesAt (now (names .entry)) base count)) × Within (length (now (script .entry))) at r ⌝ }
 {
-    let fit = ranged(mark, at, next, f1, s);
-    let Progress::At(_) = fit else {
-        return fit;
+    let reading = records::read_declaration(script, at);
+    let Reading::Taken {
+        mark,
+        next,
+        f0,
+        f1,
+        ..
+    } = reading
+    else {
+        return reading;
     };
-    if seen(names, base, count, f0) {
-        return Progress::Refused(Refusal::NameTwice, at);
+    let fit = ranged(mark, at, next, f1, s);
+    match fit {
+        Progress::At(_) => {
+            if seen(names, base, count, f0) {
+                return Reading::Refused(Refusal::NameTwice, at);
+            }
+            reading
+        }
+        Progress::Refused(c, o) => Reading::Refused(c, o),
     }
-    fit
 }
 
 // A statement other than BK.
@@ -184,7 +187,8 @@ fn declarations(
     let mut at = start;
     let mut i = 0;
     while i < d {
-        let reading = records::read_declaration(script, at);
+        let count = held + i;
+        let reading = heading(script, names, at, s, base, count);
         let Reading::Taken {
             mark,
             next,
@@ -195,12 +199,7 @@ fn declarations(
         else {
             return records::onward(reading);
         };
-        let count = held + i;
-        let own = heading(names, mark, at, next, f0, f1, s, base, count);
-        let Progress::At(from) = own else {
-            return own;
-        };
-        let after = body(script, names, mark, from, wide(f1), below);
+        let after = body(script, names, mark, next, wide(f1), below);
         let Progress::At(end) = after else {
             return after;
         };
