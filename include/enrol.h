@@ -22,13 +22,16 @@ extern "C" {
  * answer[0]   0 where the script is accepted, else the refusal's number
  * answer[1]   where accepted 0, else the byte offset in the script that the refusal is about
  *
+ * The offset may be script_len itself, where there is no byte to read: for 2 when the record is missing (BK 0 65535
+ * and nothing after it gives 2 at 6), and for 1 when the length is 0.
+ *
  * Both words of the answer are always written, and nothing else is, whether the script is accepted or refused.
  *
  * A script is refused for the first of these that holds, in the order given below the table.
  *
  *  Number  Cause                                                       Offset of
  *       1  the length is odd, 0 or above 8,192                         0
- *       2  a record or mark runs past the end                          the record
+ *       2  a record or mark runs past the end                          the record, or where it would begin
  *       3  a mark that may not stand there                             the record
  *       4  a kind, operation, label index or argument count out of     the record
  *          range

@@ -1,4 +1,4 @@
-//! Every line of the shared vectors.
+//! Every line of the repository's tests/vectors: both checks, both runs, all three engines.
 
 mod support;
 

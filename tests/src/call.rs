@@ -1,6 +1,5 @@
 //! A call with all that it is fed and lent, and what an implementation makes of it.
 
-/// Numbered as the C exports stand.
 #[derive(Clone, Copy, Debug, PartialEq, Eq)]
 pub enum Engine {
     Copying,

@@ -1,4 +1,4 @@
-// The table test and the search of a pair, exported for the benchmark alone.
+// The table test and the search of a pair, exported for the benchmark and its tests alone.
 ghost use mathlib.Core.Path.{_≡_};
 ghost use Rattle.language.specs.Table.{find, right};
 ghost use Rattle.members.specs.Outcomes.{tableOf};

@@ -118,7 +118,7 @@ fn heading(script: &[u8], names: &[u32], at: usize, s: usize, base: usize, count
     }
 }
 
-// A statement other than BK.
+// A statement other than BK: 4 for AR's operation and for CL's a, which goes before 2 for its argument names.
 fn action(script: &[u8], mark: Mark, at: usize, next: usize, f1: u32) -> Progress
     requires { ⌜ next ≤ length (now script) ⌝ }
     ensures { λ r. ⌜ r ≡ actionOf (stmtMarkOf mark) at f1 next (unread (now (script .entry)) next) ⌝ }
@@ -237,7 +237,6 @@ fn body(
     block(script, names, at, next, wide(f0), wide(f1), p, below)
 }
 
-// s statements of a block.
 fn statements(script: &[u8], names: &mut [u32], start: usize, s: usize, below: usize) -> Progress
     requires { ⌜ (below ≤ 15) × (length (now names) ≡ 544) ⌝ }
     ensures reads { λ r. ⌜ r ≡ forget (definitions.statements (definitions.blockWith below) s start (unread (now (script .entry)) start)) ⌝ }

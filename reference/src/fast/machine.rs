@@ -76,17 +76,9 @@ impl<'a> Machine<'a> {
                 self.leave();
                 return Ok(());
             }
-            Operation::Enter { block } => {
-                self.room()?;
-                let link = self.live;
-                self.enter(block, link);
-                return Ok(());
-            }
+            Operation::Enter { block } => return self.enter_inner(block),
             Operation::Call { body, level, arguments } => {
-                self.room()?;
-                let link = self.display[usize::from(level)];
-                self.call::<V>(body, link.into(), arguments.into());
-                return Ok(());
+                return self.call_declared::<V>(body, level.into(), arguments.into());
             }
             Operation::CallFormal { procedure, arguments, count } => {
                 return self.call_formal::<V>(procedure, arguments.into(), count.into());
@@ -102,29 +94,30 @@ impl<'a> Machine<'a> {
                 }
             }
             Operation::Constant { target, value } => self.store(target, value),
-            Operation::Plus { target, left, right } => {
-                let sum = self.value(left).checked_add(self.value(right));
-                self.store(target, sum.ok_or(Stop::Overflow)?);
-            }
-            Operation::Minus { target, left, right } => {
-                let difference = self.value(left).checked_sub(self.value(right));
-                self.store(target, difference.ok_or(Stop::Overflow)?);
-            }
+            Operation::Plus { target, left, right } => self.plus(target, left, right)?,
+            Operation::Minus { target, left, right } => self.minus(target, left, right)?,
             Operation::Less { target, left, right } => {
                 self.store(target, i32::from(self.value(left) < self.value(right)));
             }
             Operation::Add { group, member } => self.add::<V>(group, member)?,
-            Operation::Remove { group, member } => {
-                let (group, member) = self.pair(group, member)?;
-                self.members.remove(group, member);
-            }
-            Operation::Query { target, group, member } => {
-                let (group, member) = self.pair(group, member)?;
-                let present = self.members.standing(group, member).present;
-                self.store(target, i32::from(present));
-            }
+            Operation::Remove { group, member } => self.remove(group, member)?,
+            Operation::Query { target, group, member } => self.query(target, group, member)?,
         }
         self.next += 1;
+        Ok(())
+    }
+
+    #[inline(always)]
+    fn plus(&mut self, target: Place, left: Place, right: Place) -> Result<(), Stop> {
+        let sum = self.value(left).checked_add(self.value(right));
+        self.store(target, sum.ok_or(Stop::Overflow)?);
+        Ok(())
+    }
+
+    #[inline(always)]
+    fn minus(&mut self, target: Place, left: Place, right: Place) -> Result<(), Stop> {
+        let difference = self.value(left).checked_sub(self.value(right));
+        self.store(target, difference.ok_or(Stop::Overflow)?);
         Ok(())
     }
 
@@ -181,6 +174,13 @@ impl<'a> Machine<'a> {
         self.activations[self.live].level.into()
     }
 
+    #[inline(always)]
+    fn enter_inner(&mut self, block: u16) -> Result<(), Stop> {
+        self.room()?;
+        self.enter(block, self.live);
+        Ok(())
+    }
+
     fn enter(&mut self, block: u16, link: usize) {
         self.activations[self.live].next = self.next as u16 + 1;
         self.push(block, link);
@@ -203,6 +203,19 @@ impl<'a> Machine<'a> {
         self.live -= 1;
         self.next = self.activations[self.live].next.into();
         self.display_from(self.live, level);
+    }
+
+    #[inline(always)]
+    fn call_declared<V: Variant>(
+        &mut self,
+        body: u16,
+        level: usize,
+        arguments: usize,
+    ) -> Result<(), Stop> {
+        self.room()?;
+        let link = self.display[level].into();
+        self.call::<V>(body, link, arguments);
+        Ok(())
     }
 
     /// Arguments are read by the caller's display before it is changed.
@@ -284,5 +297,20 @@ impl<'a> Machine<'a> {
             self.members.add(group, member);
         }
         no_room.map_or(Ok(()), Err)
+    }
+
+    #[inline(always)]
+    fn remove(&mut self, group: Place, member: Place) -> Result<(), Stop> {
+        let (group, member) = self.pair(group, member)?;
+        self.members.remove(group, member);
+        Ok(())
+    }
+
+    #[inline(always)]
+    fn query(&mut self, target: Place, group: Place, member: Place) -> Result<(), Stop> {
+        let (group, member) = self.pair(group, member)?;
+        let present = self.members.standing(group, member).present;
+        self.store(target, i32::from(present));
+        Ok(())
     }
 }

@@ -121,17 +121,9 @@ impl Pass<'_> {
                 let (label, to) = self.label(2)?;
                 (Operation::If { variable, label, to }, 6)
             }
-            KN => {
-                let target = self.variable(1)?;
-                let value = u32::from(self.field(2)) | u32::from(self.field(3)) << 16;
-                (Operation::Constant { target, value: value as i32 }, 8)
-            }
+            KN => (self.constant()?, 8),
             AR => (self.arithmetic()?, 10),
-            QY => {
-                let target = self.variable(1)?;
-                let (group, member) = (self.variable(2)?, self.variable(3)?);
-                (Operation::Query { target, group, member }, 8)
-            }
+            QY => (self.query()?, 8),
             AD => {
                 let (group, member) = (self.variable(1)?, self.variable(2)?);
                 (Operation::Add { group, member }, 6)
@@ -144,6 +136,18 @@ impl Pass<'_> {
         };
         self.at += bytes;
         Ok(operation)
+    }
+
+    fn constant(&self) -> Result<Operation, Refused> {
+        let target = self.variable(1)?;
+        let value = u32::from(self.field(2)) | u32::from(self.field(3)) << 16;
+        Ok(Operation::Constant { target, value: value as i32 })
+    }
+
+    fn query(&self) -> Result<Operation, Refused> {
+        let target = self.variable(1)?;
+        let (group, member) = (self.variable(2)?, self.variable(3)?);
+        Ok(Operation::Query { target, group, member })
     }
 
     fn arithmetic(&self) -> Result<Operation, Refused> {
