@@ -1,8 +1,8 @@
 // The membership table: a lent slice of signed words, two for a pair (group, member), of which the first `count` pairs are in use.
 ghost use mathlib.Core.Path.{_≡_};
 ghost use mathlib.Core.Bool.{_&&_};
-ghost use Prim.Native.Nat.{_+_, _*_, _/_, _≤_, _<_, min};
-ghost use lib.ListN.{length};
+ghost use Prim.Native.Nat.{_+_, _*_, _/_, _<_, min};
+ghost use lib.ListN.{length, set};
 ghost use Rattle.language.specs.Basics.{eqZ};
 ghost use Rattle.language.specs.Table.{find, members, atLeastOne, right, add, takeOut, added, removed, queried};
 ghost use Rattle.members.specs.Places.{groupAt, memberAt, placed};
@@ -38,6 +38,13 @@ fn pairs_in(len: usize, count: usize) -> usize
     ensures { λ r. ⌜ r ≡ min count (len / 2) ⌝ }
 {
     if count <= len / 2 { count } else { len / 2 }
+}
+
+// How many words `count` pairs take, of `len`.
+fn words_in(len: usize, count: usize) -> usize
+    ensures { λ r. ⌜ r ≡ min (2 * count) len ⌝ }
+{
+    if count <= len / 2 { 2 * count } else { len }
 }
 
 fn same_number(a: i32, b: i32) -> bool
@@ -116,31 +123,41 @@ pub fn group_size(table: &[i32], count: usize, group: i32) -> usize
     found
 }
 
-// The pair is written behind the last one.
-pub fn append(table: &mut [i32], count: usize, group: i32, member: i32)
-    requires { ⌜ 2 * count + 1 < length (now table) ⌝ }
-    ensures { λ _. ⌜ now (table .exit) ≡ add group member (tableOf (now (table .entry)) count) .words ⌝ }
+// The word at `i` is written, if the table has one there.
+fn write_word(table: &mut [i32], i: usize, word: i32)
+    ensures { λ _. ⌜ now (table .exit) ≡ set (now (table .entry)) i word ⌝ }
 {
-    table[2 * count] = group;
-    table[2 * count + 1] = member;
+    if i < table.len() {
+        table[i] = word;
+    }
 }
 
-// The pair at `place` is taken out: later pairs move down by one and the place freed last is set to 0, 0.
+// The pair is written behind the last one, as much of it as the table has words for.
+pub fn append(table: &mut [i32], count: usize, group: i32, member: i32)
+    ensures { λ _. ⌜ now (table .exit) ≡ add group member (tableOf (now (table .entry)) count) .words ⌝ }
+{
+    if count <= table.len() / 2 {
+        write_word(table, 2 * count, group);
+        write_word(table, 2 * count + 1, member);
+    }
+}
+
+// The pair at `place` is taken out: later pairs move down by one and the place freed last is set to 0, 0. The words move one by one,
+// since words that end before `count` pairs may end with half a pair, which moves too.
 pub fn take_out(table: &mut [i32], count: usize, place: usize)
-    requires { ⌜ 2 * count ≤ length (now table) ⌝ }
-    requires { ⌜ place < count ⌝ }
     ensures { λ _. ⌜ now (table .exit) ≡ takeOut place count (now (table .entry)) ⌝ }
 {
-    let mut i = place;
-    while i + 1 < count {
-        let group = table[2 * i + 2];
-        let member = table[2 * i + 3];
-        table[2 * i] = group;
-        table[2 * i + 1] = member;
+    let end = words_in(table.len(), count);
+    if end / 2 <= place {
+        return;
+    }
+    let mut i = 2 * place;
+    while i + 2 < end {
+        table[i] = table[i + 2];
         i += 1;
     }
-    table[2 * i] = 0;
-    table[2 * i + 1] = 0;
+    table[i] = 0;
+    table[i + 1] = 0;
 }
 
 // AD. The causes are tested in document 01's order, each before anything is written.
@@ -166,7 +183,6 @@ pub fn add_pair(table: &mut [i32], count: usize, limit: u32, group: i32, member:
 
 // RM. An absent pair changes nothing.
 pub fn remove_pair(table: &mut [i32], count: usize, group: i32, member: i32) -> Change
-    requires { ⌜ 2 * count ≤ length (now table) ⌝ }
     ensures { λ r. ⌜ r ≡ changeOf (removed group member (tableOf (now (table .entry)) count)) ⌝ }
     ensures { λ _. ⌜ now (table .exit) ≡ wordsAfter (now (table .entry)) (removed group member (tableOf (now (table .entry)) count)) ⌝ }
 {

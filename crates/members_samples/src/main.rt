@@ -64,10 +64,21 @@ fn add(name: &[u8], table: &mut [i32], count: usize, limit: u32, group: i32, mem
 
 fn remove(name: &[u8], table: &mut [i32], count: usize, group: i32, member: i32) {
     say(name);
-    if table.len() / 2 < count {
-        return;
-    }
     change(members::remove_pair(table, count, group, member));
+    words(table);
+}
+
+fn append(name: &[u8], table: &mut [i32], count: usize, group: i32, member: i32) {
+    say(name);
+    say(b"\n");
+    members::append(table, count, group, member);
+    words(table);
+}
+
+fn take_out(name: &[u8], table: &mut [i32], count: usize, place: usize) {
+    say(name);
+    say(b"\n");
+    members::take_out(table, count, place);
     words(table);
 }
 
@@ -164,10 +175,48 @@ fn removals() {
     remove(b"RM of the middle of 3", &mut middle, 3, 2, 2);
 }
 
+// What the definition says where the count does not fit or the length is odd.
+fn ill_fitting() {
+    let mut largest = [1, 1, 2, 2, 3, 3];
+    remove(
+        b"RM of the first, largest count",
+        &mut largest,
+        18446744073709551615,
+        1,
+        1,
+    );
+    let mut whole = [1, 1, 2, 2, 3];
+    remove(b"RM of the first, odd length, count 2", &mut whole, 2, 1, 1);
+    let mut half = [1, 1, 2, 2, 3];
+    remove(b"RM of the first, odd length, count 3", &mut half, 3, 1, 1);
+    let mut second = [1, 1, 2, 2, 3];
+    remove(
+        b"RM of the second, odd length, count 3",
+        &mut second,
+        3,
+        2,
+        2,
+    );
+    let mut unused = [1, 1, 2, 2];
+    take_out(b"take out place 1 of 1 in use", &mut unused, 1, 1);
+    take_out(b"take out place 2 of 2 places, count 3", &mut unused, 3, 2);
+    append(b"append to a full table", &mut unused, 2, 5, 7);
+    append(
+        b"append at the largest count",
+        &mut unused,
+        18446744073709551615,
+        5,
+        7,
+    );
+    let mut odd = [1, 1, 9];
+    append(b"append where one word is left", &mut odd, 1, 5, 7);
+}
+
 fn main() {
     lengths_and_counts();
     one_place();
     pairs_and_groups();
     numbers();
     removals();
+    ill_fitting();
 }

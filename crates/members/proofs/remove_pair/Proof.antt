@@ -70,7 +70,7 @@ returns-2 c =
     (sym (ap changeOf e), sym (ap (wordsAfter (s .args .table .now)) e))
 
 take-out-requires : tie.Need-take-out-requires
-take-out-requires c κs = (c .before .before .before .before .before .before .before .before .pre, in-use (c .before .before))
+take-out-requires c κs = search needs
 
 sub-t15 : tie.Need-sub-t15
 sub-t15 c = omega (arith, in-use (c .before .before .before .before))
