@@ -12,47 +12,75 @@ use reference::table::Table;
 use crate::row::Row;
 
 const COUNTS: [usize; 4] = [50_000, 100_000, 200_000, 400_000];
-/// Members of a group: about so many, and the limit that all of them keep.
-const MEMBERS: usize = 16;
-const LIMIT: u32 = 80;
 /// Stands in no table.
 const ABSENT: (i32, i32) = (i32::MAX, i32::MAX);
 
-pub fn rows() -> Vec<Row> {
-    let tables: Vec<Rc<Vec<i32>>> = COUNTS.map(|count| Rc::new(table(count))).into();
-    let tests = tables.iter().map(|table| test(table.clone()));
-    tests.chain(tables.iter().map(|table| search(table.clone()))).collect()
+/// Tables of any size, and a limit that all of them keep.
+struct Kind {
+    workload: &'static str,
+    limit: u32,
+    pair: fn(&mut Random, usize, usize) -> (i32, i32),
 }
 
-fn table(count: usize) -> Vec<i32> {
+const KINDS: [Kind; 3] = [
+    Kind { workload: "table test", limit: 80, pair: random_pair },
+    Kind { workload: "table test, numbers in sequence", limit: 65_535, pair: pair_in_sequence },
+    Kind { workload: "table test, groups of G = 3", limit: 3, pair: pair_of_three },
+];
+
+/// Groups of about 16.
+fn random_pair(random: &mut Random, count: usize, _: usize) -> (i32, i32) {
+    (random.between(1, count / 16) as i32, member(random))
+}
+
+/// A thousand groups, each with the members 1, 2, 3 and so on.
+fn pair_in_sequence(_: &mut Random, _: usize, at: usize) -> (i32, i32) {
+    ((at % 1_000) as i32 + 1, (at / 1_000) as i32 + 1)
+}
+
+/// Three members a group, not beside each other.
+fn pair_of_three(random: &mut Random, count: usize, at: usize) -> (i32, i32) {
+    ((at % count.div_ceil(3)) as i32 + 1, member(random))
+}
+
+fn member(random: &mut Random) -> i32 {
+    random.between(1, i32::MAX as usize - 1) as i32
+}
+
+pub fn rows() -> Vec<Row> {
+    let tests = KINDS.iter().flat_map(|kind| COUNTS.map(|count| test(kind, table(kind, count))));
+    let searches = COUNTS.map(|count| search(table(&KINDS[0], count)));
+    tests.chain(searches).collect()
+}
+
+fn table(kind: &Kind, count: usize) -> Rc<Vec<i32>> {
     let random = &mut Random::new(1, count as u64);
     let (mut seen, mut words) = (HashSet::new(), Vec::new());
     while seen.len() < count {
-        let group = random.between(1, count / MEMBERS) as i32;
-        let member = random.between(1, i32::MAX as usize - 1) as i32;
+        let (group, member) = (kind.pair)(random, count, seen.len());
         if seen.insert((group, member)) {
             words.extend([group, member]);
         }
     }
-    words
+    Rc::new(words)
 }
 
 fn size(table: &[i32]) -> String {
     format!("{} pairs", table.len() / 2)
 }
 
-fn test(table: Rc<Vec<i32>>) -> Row {
-    let count = table.len() / 2;
-    assert!(measure::right(&table, count, LIMIT) && is_right(&table, count, LIMIT));
+fn test(kind: &Kind, table: Rc<Vec<i32>>) -> Row {
+    let (count, limit) = (table.len() / 2, kind.limit);
+    assert!(measure::right(&table, count, limit) && is_right(&table, count, limit));
     let same = table.clone();
     Row {
-        workload: "table test",
+        workload: kind.workload,
         size: size(&table),
         library: Box::new(move || {
-            black_box(measure::right(black_box(&table), count, LIMIT));
+            black_box(measure::right(black_box(&table), count, limit));
         }),
         reference: Box::new(move || {
-            black_box(is_right(black_box(&same), count, LIMIT));
+            black_box(is_right(black_box(&same), count, limit));
         }),
     }
 }

@@ -5,8 +5,10 @@ pub mod TakeOut
 pub mod Statements
 pub mod Keys
 pub mod TableRight
+pub mod Fits
+pub mod Ranks
+pub mod Hashing
+pub mod Filters
+pub mod Counting
 pub mod SlotLaws
 pub mod Passes
-pub mod Fits
-pub mod Filters
-pub mod Tallies

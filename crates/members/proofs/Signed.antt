@@ -12,7 +12,7 @@ use mir.Syntax.{w32, w64}
 use mir.Facts.{toZ-ofZ}
 use Rattle.language.specs.Basics.{eqZ}
 use Rattle.language.specs.Table.{atLeastOne}
-use Rattle.members.specs.Slots.{weightOf}
+use Rattle.members.specs.Hashes.{weightOf}
 
 negative-bits : (a b : ℕ) → a < 2147483648 → b < 2147483648 → (t : Bool) → eqb a b ≡ t → eqb (4294967296 - suc a) (4294967296 - suc b) ≡ t
 negative-bits a b ha hb true e = eq-eqb (4294967296 - suc a) (4294967296 - suc b) (ap (λ (k : ℕ). 4294967296 - suc k) (eqb-true a b e))

@@ -73,7 +73,7 @@ module _
     skipped h = assemble i first number (λ m. absurd (h m)) (λ j l m e. all j l m)
 
     -- the window is full of other keys
-    pub filled : Passed (same i) (slot i) first 64 → All (suc i) first number
+    pub filled : Passed (same i) (slot i) first 256 → All (suc i) first number
     filled p = assemble i first number (λ m t l q. (p t l .0, λ o. clash o (p t l .1))) (λ j l m e. all j l m)
 
     -- an empty slot: the key is new
@@ -132,7 +132,7 @@ module _
       unchanged x h = getD-set-other first q x v 0 h
 
       away :
-          (j : ℕ) → Kept (same j) (slot j) first number (counted j i) → (t : ℕ) → t < 64 → Passed (same j) (slot j) (set first q v) t →
+          (j : ℕ) → Kept (same j) (slot j) first number (counted j i) → (t : ℕ) → t < 256 → Passed (same j) (slot j) (set first q v) t →
           (s : ℕ) → s ≤ t → slot j + s ≡ q → ⊥
       away j k t l p s h z = k s (omega arith) old .0 (subst (λ (x : ℕ). getD first x 0 ≡ 0) (sym (z ∙ r .there)) (r .empty))
         where

@@ -2,6 +2,7 @@
 pub mod Places
 pub mod Outcomes
 pub mod Keys
-pub mod Slots
+pub mod Hashes
 pub mod Filter
-pub mod Tally
+pub mod Slots
+pub mod Counters

@@ -3,7 +3,6 @@ ghost use mathlib.Core.Path.{_≡_};
 ghost use Prim.Native.Nat.{_+_, _*_, _<_};
 ghost use lib.ListN.{length};
 ghost use Rattle.members.specs.Keys.{sameAt, rankAt};
-ghost use Rattle.members.specs.Slots.{weightOf, spread, hashAt};
 use super::group_at;
 use super::member_at;
 use super::same_number;
@@ -37,35 +36,4 @@ pub fn rank(table: &[i32], whole: bool, i: usize) -> usize
         j += 1;
     }
     found
-}
-
-// A number as it is hashed.
-fn weight(number: i32) -> u64
-    ensures { λ r. ⌜ r ≡ weightOf number ⌝ }
-    ensures { λ r. ⌜ r < 2147483648 ⌝ }
-{
-    if number < 0 {
-        return 0;
-    }
-    number as u64
-}
-
-fn mix(group: u64, member: u64) -> u64
-    requires { ⌜ group < 2147483648 ⌝ }
-    requires { ⌜ member < 2147483648 ⌝ }
-    ensures { λ r. ⌜ r ≡ spread group member ⌝ }
-{
-    group * 1640531527 + member * 1540483477
-}
-
-// Equal keys have equal hashes.
-pub fn hash(table: &[i32], whole: bool, i: usize) -> u64
-    requires { ⌜ 2 * i + 1 < length (now table) ⌝ }
-    ensures { λ r. ⌜ r ≡ hashAt whole (now (table .entry)) i ⌝ }
-{
-    let group = weight(group_at(table, i));
-    if whole {
-        return mix(group, weight(member_at(table, i)));
-    }
-    mix(group, 0)
 }

@@ -1,46 +1,16 @@
-// Whether a pair of one class stands twice, in two goes over the table. In the first each pair has two bits set in a word that
-// its hash chooses: where one of them is clear, the pair is new. The others are suspected, and their places are filed in slots.
-// In the second go each pair is searched for in the slots: only there where it is filed itself may it be found.
+// Which pairs may have the key of one before them. Each pair has three bits set in a word that its hash chooses: where one of them
+// is clear, no pair before has its key. The others are suspected, and their bits are set among the marks, in fewer words.
 ghost use mathlib.Core.Path.{_≡_};
-ghost use mathlib.Core.Bool.{true, false};
+ghost use mathlib.Core.Bool.{true};
 ghost use Prim.Native.Nat.{ℕ, _+_, _*_, _≤_, _<_};
 ghost use lib.ListN.{length, getD, set};
-ghost use Rattle.members.specs.Keys.{rankAt, within};
-ghost use Rattle.members.specs.Slots.{hashAt, classAt};
-ghost use Rattle.members.specs.Filter.{scatter, maskOf, seenOf, markOf, covers, join, Keeps, Met, Alone};
-use super::alike::hash;
-use super::alike::rank;
-use super::slots::Slot;
-use super::slots::class_of;
-use super::slots::seek;
-use super::slots::slot_of;
-
-pub fn scattered(hash: u64) -> u64
-    ensures { λ r. ⌜ r ≡ scatter hash ⌝ }
-{
-    let folded = hash % 4294967296 + hash / 4294967296;
-    folded * 668265263 / 65536 % 4294967296 * 2246822519
-}
-
-fn mask_of(s: u64) -> u64
-    ensures { λ r. ⌜ r ≡ maskOf s ⌝ }
-{
-    (1u64 << (s / 16777216 % 64)) | (1u64 << (s / 1073741824 % 64))
-}
-
-fn seen_word(s: u64) -> usize
-    ensures { λ r. ⌜ r ≡ seenOf s ⌝ }
-    ensures { λ r. ⌜ r < 24321 ⌝ }
-{
-    (s / 1048576 % 4294967296 * 20224 / 4294967296) as usize
-}
-
-fn mark_word(s: u64) -> usize
-    ensures { λ r. ⌜ r ≡ markOf s ⌝ }
-    ensures { λ r. ⌜ r < 24321 ⌝ }
-{
-    20224 + (s / 256 % 4096) as usize
-}
+ghost use Rattle.members.specs.Hashes.{hashAt, spot};
+ghost use Rattle.members.specs.Filter.{covers, join, suspected, OfClass, Cleared, Met};
+use super::hashes::class_of;
+use super::hashes::hash;
+use super::hashes::mark_of;
+use super::hashes::mask_of;
+use super::hashes::spot_of;
 
 fn is_covered(word: u64, mask: u64) -> bool
     ensures { λ r. ⌜ r ≡ covers word mask ⌝ }
@@ -55,45 +25,33 @@ fn joined(word: u64, mask: u64) -> u64
 }
 
 // A mask's bits are set in a word.
-fn put(bits: &mut [u64; 24321], q: usize, mask: u64)
-    requires { ⌜ q < 24321 ⌝ }
+pub fn put(bits: &mut [u64], q: usize, mask: u64)
+    requires { ⌜ q < length (now bits) ⌝ }
     ensures { λ _. ⌜ now (bits .exit) ≡ set (now (bits .entry)) q (join (getD (now (bits .entry)) q 0) mask) ⌝ }
 {
     let word = joined(bits[q], mask);
     bits[q] = word;
 }
 
-// The suspected pair at `i` is filed: false where an equal pair is.
-fn keep(table: &[i32], i: usize, hash: u64, first: &mut [u32; 16384]) -> bool
-    requires { ⌜ 2 * i + 1 < length (now table) ⌝ }
-    requires { ⌜ i < 4294967295 ⌝ }
-    requires { ⌜ hash ≡ hashAt true (now table) i ⌝ }
-    requires { ⌜ length (now first) ≡ 16384 ⌝ }
-    requires { ⌜ ((q : ℕ) → getD (now first) q 0 ≤ i) ⌝ }
-    ensures { λ r. ⌜ (r ≡ true → Keeps (now (table .entry)) i (now (first .entry)) (now (first .exit))) ⌝ }
-    ensures { λ r. ⌜ (r ≡ false → 1 < rankAt true i (now (table .entry))) ⌝ }
+// Whether the bits of the pair at `i`, whose hash is known, are set among the marks.
+pub fn is_suspected(table: &[i32], whole: bool, i: usize, h: u64, marks: &[u64]) -> bool
+    requires { ⌜ h ≡ hashAt whole (now table) i ⌝ }
+    requires { ⌜ length (now marks) ≡ 4096 ⌝ }
+    ensures { λ r. ⌜ r ≡ suspected whole (now (table .entry)) (now (marks .entry)) i ⌝ }
 {
-    let found = seek(table, true, i, first, slot_of(hash));
-    match found {
-        Slot::Empty(q) => {
-            first[q] = (i + 1) as u32;
-            true
-        }
-        Slot::Held(_) => false,
-        Slot::Full => rank(table, true, i) <= 1,
-    }
+    is_covered(marks[mark_of(h)], mask_of(h))
 }
 
 // A pair of another class sets no bits, in a word that no pair uses: a choice of numbers is quicker than a branch that is not foreseen.
-fn word_for(own: bool, s: u64) -> usize
-    ensures { λ r. ⌜ (own ≡ true → r ≡ seenOf s) ⌝ }
-    ensures { λ r. ⌜ r < 24321 ⌝ }
+fn word_for(own: bool, h: u64) -> usize
+    ensures { λ r. ⌜ (own ≡ true → r ≡ spot 28160 h) ⌝ }
+    ensures { λ r. ⌜ r < 28161 ⌝ }
 {
-    let q = seen_word(s);
+    let q = spot_of(28160, h);
     if own {
         return q;
     }
-    24320
+    28160
 }
 
 fn mask_for(own: bool, mask: u64) -> u64
@@ -105,113 +63,61 @@ fn mask_for(own: bool, mask: u64) -> u64
     0
 }
 
-// The pair at `i` is met, if its key is of the class: false where it is known to stand twice.
+// The pair at `i` is met, if its key is of the class.
 fn meet(
     table: &[i32],
+    whole: bool,
     class: u64,
     classes: u64,
     i: usize,
-    bits: &mut [u64; 24321],
-    first: &mut [u32; 16384],
-) -> bool
+    seen: &mut [u64],
+    marks: &mut [u64],
+)
     requires { ⌜ 2 * i + 1 < length (now table) ⌝ }
-    requires { ⌜ i < 4294967295 ⌝ }
     requires { ⌜ classes < 281474976710656 ⌝ }
-    requires { ⌜ Met (now table) classes class i (now bits) (now first) ⌝ }
-    ensures { λ r. ⌜ (r ≡ true → Met (now (table .entry)) classes class (i + 1) (now (bits .exit)) (now (first .exit))) ⌝ }
-    ensures { λ r. ⌜ (r ≡ false → 1 < rankAt true i (now (table .entry))) ⌝ }
+    requires { ⌜ Met whole (now table) classes class i (now seen) (now marks) ⌝ }
+    ensures { λ _. ⌜ Met whole (now (table .entry)) classes class (i + 1) (now (seen .exit)) (now (marks .exit)) ⌝ }
 {
-    let h = hash(table, true, i);
-    let s = scattered(h);
-    let mask = mask_of(s);
+    let h = hash(table, whole, i);
+    let mask = mask_of(h);
     let own = class_of(h, classes) == class;
-    let q = word_for(own, s);
-    let word = bits[q];
-    put(bits, q, mask_for(own, mask));
-    if !is_covered(word, mask) {
-        return true;
+    let q = word_for(own, h);
+    let word = seen[q];
+    put(seen, q, mask_for(own, mask));
+    if is_covered(word, mask) {
+        put(marks, mark_of(h), mask);
     }
-    put(bits, mark_word(s), mask);
-    keep(table, i, h, first)
 }
 
-// Whether the pair at `i` is filed at no other place.
-fn alone(table: &[i32], count: usize, i: usize, bits: &[u64; 24321], first: &[u32; 16384]) -> bool
-    requires { ⌜ 2 * count ≤ length (now table) ⌝ }
-    requires { ⌜ i < count ⌝ }
-    requires { ⌜ ((q : ℕ) → getD (now first) q 0 ≤ count) ⌝ }
-    ensures { λ r. ⌜ (r ≡ true → Alone (now (table .entry)) (now (bits .entry)) (now (first .entry)) i) ⌝ }
-    ensures { λ r. ⌜ (r ≡ false → within true 1 count (now (table .entry)) ≡ false) ⌝ }
+pub fn clear(marks: &mut [u64])
+    requires { ⌜ length (now marks) ≡ 4096 ⌝ }
+    ensures { λ _. ⌜ ((q : ℕ) → getD (now (marks .exit)) q 0 ≡ 0) ⌝ }
 {
-    let h = hash(table, true, i);
-    let s = scattered(h);
-    let word = bits[mark_word(s)];
-    if !is_covered(word, mask_of(s)) {
-        return true;
-    }
-    let found = seek(table, true, i, first, slot_of(h));
-    match found {
-        Slot::Held(q) => first[q] as usize == i + 1,
-        Slot::Empty(_) => true,
-        Slot::Full => true,
+    let mut i = 0;
+    while i < 4096 {
+        marks[i] = 0;
+        i += 1;
     }
 }
 
-// The first go.
-fn meet_all(
+// The pairs of a class that are not suspected have a key that no pair before them has.
+pub fn meet_all(
     table: &[i32],
     count: usize,
+    whole: bool,
     class: u64,
     classes: u64,
-    bits: &mut [u64; 24321],
-    first: &mut [u32; 16384],
-) -> bool
+    marks: &mut [u64],
+)
     requires { ⌜ 2 * count ≤ length (now table) ⌝ }
-    requires { ⌜ count ≤ 4294967295 ⌝ }
     requires { ⌜ classes < 281474976710656 ⌝ }
-    requires { ⌜ Met (now table) classes class 0 (now bits) (now first) ⌝ }
-    ensures { λ r. ⌜ (r ≡ true → Met (now (table .entry)) classes class count (now (bits .exit)) (now (first .exit))) ⌝ }
-    ensures { λ r. ⌜ (r ≡ false → within true 1 count (now (table .entry)) ≡ false) ⌝ }
+    requires { ⌜ length (now marks) ≡ 4096 ⌝ }
+    ensures { λ _. ⌜ ((j : ℕ) → j < count → OfClass whole (now (table .entry)) classes class j → Cleared whole (now (table .entry)) 1 (now (marks .exit)) j) ⌝ }
 {
+    let mut seen = [0u64; 28161];
     let mut i = 0;
     while i < count {
-        if !meet(table, class, classes, i, bits, first) {
-            return false;
-        }
+        meet(table, whole, class, classes, i, &mut seen, marks);
         i += 1;
     }
-    true
-}
-
-// The second go.
-fn all_alone(table: &[i32], count: usize, bits: &[u64; 24321], first: &[u32; 16384]) -> bool
-    requires { ⌜ 2 * count ≤ length (now table) ⌝ }
-    requires { ⌜ ((q : ℕ) → getD (now first) q 0 ≤ count) ⌝ }
-    ensures { λ r. ⌜ (r ≡ true → (k : ℕ) → k < count → Alone (now (table .entry)) (now (bits .entry)) (now (first .entry)) k) ⌝ }
-    ensures { λ r. ⌜ (r ≡ false → within true 1 count (now (table .entry)) ≡ false) ⌝ }
-{
-    let mut i = 0;
-    while i < count {
-        if !alone(table, count, i, bits, first) {
-            return false;
-        }
-        i += 1;
-    }
-    true
-}
-
-// Whether no pair of one class stands twice.
-pub fn once(table: &[i32], count: usize, class: u64, classes: u64) -> bool
-    requires { ⌜ 2 * count ≤ length (now table) ⌝ }
-    requires { ⌜ count ≤ 4294967295 ⌝ }
-    requires { ⌜ classes < 281474976710656 ⌝ }
-    ensures { λ r. ⌜ (r ≡ true → (i : ℕ) → i < count → classAt true (now (table .entry)) classes i ≡ class → rankAt true i (now (table .entry)) ≤ 1) ⌝ }
-    ensures { λ r. ⌜ (r ≡ false → within true 1 count (now (table .entry)) ≡ false) ⌝ }
-{
-    let mut bits = [0u64; 24321];
-    let mut first = [0u32; 16384];
-    if !meet_all(table, count, class, classes, &mut bits, &mut first) {
-        return false;
-    }
-    all_alone(table, count, &bits, &first)
 }

@@ -10,10 +10,11 @@ ghost use Rattle.members.specs.Outcomes.{tableOf, changeOf, valueOf, wor
 use language::Stop;
 
 mod alike;
+mod counters;
 mod filter;
+mod hashes;
 mod right;
 mod slots;
-mod tally;
 
 // Where a pair stands, counted in pairs from 0.
 pub enum Place {

@@ -1,18 +1,19 @@
-// Whether a table is right.
+// Whether a table is right: its numbers, and how many pairs have one key.
 ghost use mathlib.Core.Path.{_≡_};
 ghost use mathlib.Core.Bool.{true, false};
 ghost use Prim.Native.Nat.{ℕ, _*_, _≤_, _<_};
 ghost use lib.ListN.{length};
 ghost use Rattle.language.specs.Table.{numbersRight};
 ghost use Rattle.members.specs.Keys.{rankAt, within};
-ghost use Rattle.members.specs.Slots.{classAt};
+ghost use Rattle.members.specs.Filter.{OfClass, Cleared};
 use super::alike::rank;
-use super::filter::once;
+use super::counters::suspects;
+use super::filter::clear;
+use super::filter::meet_all;
 use super::group_at;
 use super::member_at;
 use super::numbers_fit;
 use super::slots::pass;
-use super::tally::tally;
 
 pub fn numbers_right(table: &[i32], count: usize) -> bool
     requires { ⌜ 2 * count ≤ length (now table) ⌝ }
@@ -43,7 +44,29 @@ fn few_by_reading(table: &[i32], count: usize, whole: bool, limit: u32) -> bool
     true
 }
 
-// Whether the pairs of one class have ranks within the limit.
+// Where a key may have one pair, each class has marks of its own; else the marks are those of all pairs.
+fn mark_class(
+    table: &[i32],
+    count: usize,
+    whole: bool,
+    limit: u32,
+    class: u64,
+    classes: u64,
+    marks: &mut [u64],
+)
+    requires { ⌜ 2 * count ≤ length (now table) ⌝ }
+    requires { ⌜ classes < 281474976710656 ⌝ }
+    requires { ⌜ length (now marks) ≡ 4096 ⌝ }
+    ensures { λ _. ⌜ (limit ≡ 1 → (j : ℕ) → j < count → OfClass whole (now (table .entry)) classes class j → Cleared whole (now (table .entry)) 1 (now (marks .exit)) j) ⌝ }
+    ensures { λ _. ⌜ ((limit ≡ 1 → ⊥) → now (marks .exit) ≡ now (marks .entry)) ⌝ }
+{
+    if limit == 1 {
+        clear(marks);
+        meet_all(table, count, whole, class, classes, marks);
+    }
+}
+
+// Whether each key of one class has at most `limit` pairs.
 fn class_fits(
     table: &[i32],
     count: usize,
@@ -51,41 +74,57 @@ fn class_fits(
     limit: u32,
     class: u64,
     classes: u64,
+    marks: &mut [u64],
 ) -> bool
     requires { ⌜ 2 * count ≤ length (now table) ⌝ }
     requires { ⌜ count ≤ 4294967295 ⌝ }
+    requires { ⌜ 0 < limit ⌝ }
     requires { ⌜ classes < 281474976710656 ⌝ }
-    ensures { λ r. ⌜ (r ≡ true → (i : ℕ) → i < count → classAt whole (now (table .entry)) classes i ≡ class → rankAt whole i (now (table .entry)) ≤ limit) ⌝ }
+    requires { ⌜ length (now marks) ≡ 4096 ⌝ }
+    requires { ⌜ ((limit ≡ 1 → ⊥) → (j : ℕ) → j < count → Cleared whole (now table) limit (now marks) j) ⌝ }
+    ensures { λ r. ⌜ (r ≡ true → (j : ℕ) → j < count → OfClass whole (now (table .entry)) classes class j → rankAt whole j (now (table .entry)) ≤ limit) ⌝ }
     ensures { λ r. ⌜ (r ≡ false → within whole limit count (now (table .entry)) ≡ false) ⌝ }
+    ensures { λ _. ⌜ ((limit ≡ 1 → ⊥) → now (marks .exit) ≡ now (marks .entry)) ⌝ }
 {
-    if whole {
-        if limit == 1 {
-            return once(table, count, class, classes);
-        }
-    }
-    pass(table, count, whole, limit, class, classes)
+    mark_class(table, count, whole, limit, class, classes, marks);
+    pass(table, count, whole, limit, class, classes, marks)
 }
 
-// Into how many classes the keys are parted; 0 where the buckets show that each has few pairs. Some 200,000 pairs to a class: about
-// one in thirty is suspected. Some 8,000 groups to the 16,320 slots of a pass: few windows fill up.
-fn classes_of(table: &[i32], count: usize, whole: bool, limit: u32) -> u64
+// Into how many classes the keys are parted; 0 where each has few pairs. Of some 400,000 pairs about one in twenty is suspected.
+fn classes_of(table: &[i32], count: usize, whole: bool, limit: u32, marks: &mut [u64]) -> u64
     requires { ⌜ 2 * count ≤ length (now table) ⌝ }
     requires { ⌜ count ≤ 4294967295 ⌝ }
-    ensures { λ r. ⌜ (r ≡ 0 → within whole limit count (now (table .entry)) ≡ true) ⌝ }
+    requires { ⌜ length (now marks) ≡ 4096 ⌝ }
+    ensures { λ r. ⌜ (r ≡ 0 → (j : ℕ) → j < count → rankAt whole j (now (table .entry)) ≤ limit) ⌝ }
+    ensures { λ r. ⌜ ((limit ≡ 1 → ⊥) → (j : ℕ) → j < count → Cleared whole (now (table .entry)) limit (now (marks .exit)) j) ⌝ }
     ensures { λ r. ⌜ r < 281474976710656 ⌝ }
 {
-    if whole {
-        return (count / 204800) as u64 + 1;
+    if limit == 1 {
+        return (count / 409600) as u64 + 1;
     }
-    let groups = tally(table, count, limit);
-    if groups == 0 {
-        return 0;
-    }
-    groups / 8192 + 1
+    suspects(table, count, whole, limit, marks)
 }
 
-// The same as by reading, one class of keys after the other. A slot holds places below 2 ^ 32; a few pairs are read sooner than
-// the slots are cleared.
+// Whether each key has at most `limit` pairs. The marks are all that is kept from one go over the table to the next.
+fn few_hashed(table: &[i32], count: usize, whole: bool, limit: u32) -> bool
+    requires { ⌜ 2 * count ≤ length (now table) ⌝ }
+    requires { ⌜ count ≤ 4294967295 ⌝ }
+    requires { ⌜ 0 < limit ⌝ }
+    ensures { λ r. ⌜ r ≡ within whole limit count (now (table .entry)) ⌝ }
+{
+    let mut marks = [0u64; 4096];
+    let classes = classes_of(table, count, whole, limit, &mut marks);
+    let mut class: u64 = 0;
+    while class < classes {
+        if !class_fits(table, count, whole, limit, class, classes, &mut marks) {
+            return false;
+        }
+        class += 1;
+    }
+    true
+}
+
+// The same as by reading. A slot holds places below 2 ^ 32; a few pairs are read sooner than words are cleared.
 pub fn few_alike(table: &[i32], count: usize, whole: bool, limit: u32) -> bool
     requires { ⌜ 2 * count ≤ length (now table) ⌝ }
     ensures { λ r. ⌜ r ≡ within whole limit count (now (table .entry)) ⌝ }
@@ -96,13 +135,8 @@ pub fn few_alike(table: &[i32], count: usize, whole: bool, limit: u32) -> bool
     if count < 64 {
         return few_by_reading(table, count, whole, limit);
     }
-    let classes = classes_of(table, count, whole, limit);
-    let mut class: u64 = 0;
-    while class < classes {
-        if !class_fits(table, count, whole, limit, class, classes) {
-            return false;
-        }
-        class += 1;
+    if limit == 0 {
+        return few_by_reading(table, count, whole, limit);
     }
-    true
+    few_hashed(table, count, whole, limit)
 }

@@ -1,52 +1,51 @@
-// Counting pairs by key in one go over the table, in slots found by a hash: 16,320 of them, and 64 more for the window of the
-// last. They have room for some thousand keys, so the keys are parted into classes, and each class has a pass of its own.
+// Counting suspected pairs by key in one go over the table, in slots found by a hash: 27,904 of them, and 256 more for the window of
+// the last. They have room for some twenty thousand keys, so the keys are parted into classes, and each class has a pass of its own.
 ghost use mathlib.Core.Path.{_≡_};
 ghost use mathlib.Core.Bool.{true, false};
 ghost use Prim.Native.Nat.{ℕ, _+_, _*_, _≤_, _<_};
 ghost use lib.ListN.{length, getD};
 ghost use Rattle.members.specs.Keys.{rankAt, within};
-ghost use Rattle.members.specs.Slots.{classOf, classAt, slotOf, Sought, Good};
-use super::alike::hash;
+ghost use Rattle.members.specs.Hashes.{hashAt};
+ghost use Rattle.members.specs.Slots.{placeIn, numberIn, firsts, Sought, Good, wanted, Counted, TooMany};
 use super::alike::rank;
 use super::alike::same_key;
+use super::filter::is_suspected;
+use super::hashes::class_of;
+use super::hashes::hash;
+use super::hashes::spot_of;
 
-// Where a search for a key among the slots ends: at an empty slot, at the key's own, or nowhere in the window of 64.
+// Where a search for a key among the slots ends: at an empty slot, at the key's own, or nowhere in the window.
 pub enum Slot {
     Empty(usize),
     Held(usize),
     Full,
 }
 
-pub fn class_of(hash: u64, classes: u64) -> u64
-    requires { ⌜ classes < 281474976710656 ⌝ }
-    ensures { λ r. ⌜ r ≡ classOf classes hash ⌝ }
+fn place_in(v: u64) -> usize
+    ensures { λ r. ⌜ r ≡ placeIn v ⌝ }
 {
-    hash / 65536 % 65536 * classes / 65536
+    (v % 4294967296) as usize
 }
 
-pub fn slot_of(hash: u64) -> usize
-    ensures { λ r. ⌜ r ≡ slotOf hash ⌝ }
-    ensures { λ r. ⌜ r < 16320 ⌝ }
+fn number_in(v: u64) -> u64
+    ensures { λ r. ⌜ r ≡ numberIn v ⌝ }
 {
-    let folded = hash % 4294967296 + hash / 4294967296;
-    (folded * 668265263 / 65536 % 16320) as usize
+    v / 4294967296
 }
 
-// In `first` a slot has the place of the first pair with its key, plus 1; 0 where it is empty. In `number` it has how many
-// pairs with the key were passed.
-pub fn seek(table: &[i32], whole: bool, i: usize, first: &[u32; 16384], slot: usize) -> Slot
+fn seek(table: &[i32], whole: bool, i: usize, slots: &[u64], slot: usize) -> Slot
     requires { ⌜ 2 * i + 1 < length (now table) ⌝ }
-    requires { ⌜ slot < 16320 ⌝ }
-    requires { ⌜ ((q : ℕ) → 2 * getD (now first) q 0 ≤ length (now table)) ⌝ }
-    ensures { λ r. ⌜ Sought whole (now (table .entry)) i (now (first .entry)) slot r ⌝ }
+    requires { ⌜ slot + 256 ≤ length (now slots) ⌝ }
+    requires { ⌜ ((q : ℕ) → 2 * getD (firsts (now slots)) q 0 ≤ length (now table)) ⌝ }
+    ensures { λ r. ⌜ Sought whole (now (table .entry)) i (firsts (now (slots .entry))) slot r ⌝ }
 {
     let mut t = 0;
-    while t < 64 {
-        let f = first[slot + t];
+    while t < 256 {
+        let f = place_in(slots[slot + t]);
         if f == 0 {
             return Slot::Empty(slot + t);
         }
-        if same_key(table, whole, i, f as usize - 1) {
+        if same_key(table, whole, i, f - 1) {
             return Slot::Held(slot + t);
         }
         t += 1;
@@ -54,74 +53,88 @@ pub fn seek(table: &[i32], whole: bool, i: usize, first: &[u32; 16384], slot: us
     Slot::Full
 }
 
-// The pair at `i` is counted, if its key is of the class: whether its rank is within the limit.
-fn step(
-    table: &[i32],
-    whole: bool,
-    limit: u32,
-    class: u64,
-    classes: u64,
-    i: usize,
-    first: &mut [u32; 16384],
-    number: &mut [u32; 16384],
-) -> bool
+// The pair at `i` is counted: whether its rank is within the limit.
+fn step(table: &[i32], whole: bool, limit: u32, i: usize, h: u64, slots: &mut [u64]) -> bool
     requires { ⌜ 2 * i + 1 < length (now table) ⌝ }
     requires { ⌜ i < 4294967295 ⌝ }
-    requires { ⌜ classes < 281474976710656 ⌝ }
-    requires { ⌜ Good whole (now table) classes class i (now first) (now number) ⌝ }
-    ensures { λ r. ⌜ (r ≡ true → Good whole (now (table .entry)) classes class (i + 1) (now (first .exit)) (now (number .exit))) ⌝ }
-    ensures { λ r. ⌜ (r ≡ true → classAt whole (now (table .entry)) classes i ≡ class → rankAt whole i (now (table .entry)) ≤ limit) ⌝ }
-    ensures { λ r. ⌜ (r ≡ false → limit < rankAt whole i (now (table .entry))) ⌝ }
+    requires { ⌜ 0 < limit ⌝ }
+    requires { ⌜ h ≡ hashAt whole (now table) i ⌝ }
+    requires { ⌜ length (now slots) ≡ 28160 ⌝ }
+    requires { ⌜ ((q : ℕ) → getD (firsts (now slots)) q 0 ≤ i) ⌝ }
+    ensures { λ r. ⌜ (r ≡ true → Counted whole (now (table .entry)) limit i (now (slots .entry)) (now (slots .exit))) ⌝ }
+    ensures { λ r. ⌜ (r ≡ false → TooMany whole (now (table .entry)) limit i (now (slots .entry))) ⌝ }
 {
-    let h = hash(table, whole, i);
-    if class_of(h, classes) != class {
-        return true;
-    }
-    let slot = slot_of(h);
-    let found = seek(table, whole, i, first, slot);
+    let found = seek(table, whole, i, slots, spot_of(27904, h));
     match found {
         Slot::Empty(q) => {
-            if limit == 0 {
-                return false;
-            }
-            first[q] = (i + 1) as u32;
-            number[q] = 1;
+            slots[q] = (i + 1) as u64 + 4294967296;
             true
         }
         Slot::Held(q) => {
-            let n = number[q];
-            if limit <= n {
+            let v = slots[q];
+            if limit as u64 <= number_in(v) {
                 return false;
             }
-            number[q] = n + 1;
+            slots[q] = v + 4294967296;
             true
         }
         Slot::Full => rank(table, whole, i) <= limit as usize,
     }
 }
 
-// Whether the pairs of one class have ranks within the limit.
-pub fn pass(table: &[i32], count: usize, whole: bool, limit: u32, class: u64, classes: u64) -> bool
+// The pair at `i` is counted, if it is suspected and its key is of the class.
+fn sift(
+    table: &[i32],
+    whole: bool,
+    limit: u32,
+    class: u64,
+    classes: u64,
+    i: usize,
+    marks: &[u64],
+    slots: &mut [u64],
+) -> bool
+    requires { ⌜ 2 * i + 1 < length (now table) ⌝ }
+    requires { ⌜ i < 4294967295 ⌝ }
+    requires { ⌜ 0 < limit ⌝ }
+    requires { ⌜ classes < 281474976710656 ⌝ }
+    requires { ⌜ length (now marks) ≡ 4096 ⌝ }
+    requires { ⌜ Good whole (now table) (wanted whole (now table) classes class (now marks)) i (now slots) ⌝ }
+    ensures { λ r. ⌜ (r ≡ true → Good whole (now (table .entry)) (wanted whole (now (table .entry)) classes class (now (marks .entry))) (i + 1) (now (slots .exit))) ⌝ }
+    ensures { λ r. ⌜ (r ≡ true → wanted whole (now (table .entry)) classes class (now (marks .entry)) i ≡ true → rankAt whole i (now (table .entry)) ≤ limit) ⌝ }
+    ensures { λ r. ⌜ (r ≡ false → limit < rankAt whole i (now (table .entry))) ⌝ }
+{
+    let h = hash(table, whole, i);
+    if !is_suspected(table, whole, i, h, marks) {
+        return true;
+    }
+    if class_of(h, classes) != class {
+        return true;
+    }
+    step(table, whole, limit, i, h, slots)
+}
+
+// Whether the suspected pairs of one class have ranks within the limit.
+pub fn pass(
+    table: &[i32],
+    count: usize,
+    whole: bool,
+    limit: u32,
+    class: u64,
+    classes: u64,
+    marks: &[u64],
+) -> bool
     requires { ⌜ 2 * count ≤ length (now table) ⌝ }
     requires { ⌜ count ≤ 4294967295 ⌝ }
+    requires { ⌜ 0 < limit ⌝ }
     requires { ⌜ classes < 281474976710656 ⌝ }
-    ensures { λ r. ⌜ (r ≡ true → (i : ℕ) → i < count → classAt whole (now (table .entry)) classes i ≡ class → rankAt whole i (now (table .entry)) ≤ limit) ⌝ }
+    requires { ⌜ length (now marks) ≡ 4096 ⌝ }
+    ensures { λ r. ⌜ (r ≡ true → (j : ℕ) → j < count → wanted whole (now (table .entry)) classes class (now (marks .entry)) j ≡ true → rankAt whole j (now (table .entry)) ≤ limit) ⌝ }
     ensures { λ r. ⌜ (r ≡ false → within whole limit count (now (table .entry)) ≡ false) ⌝ }
 {
-    let mut first = [0u32; 16384];
-    let mut number = [0u32; 16384];
+    let mut slots = [0u64; 28160];
     let mut i = 0;
     while i < count {
-        if !step(
-            table,
-            whole,
-            limit,
-            class,
-            classes,
-            i,
-            &mut first,
-            &mut number,
-        ) {
+        if !sift(table, whole, limit, class, classes, i, marks, &mut slots) {
             return false;
         }
         i += 1;

@@ -1,38 +1,44 @@
--- `meet` meets its contract: each way keeps what is known of the pairs met.
+-- `meet` meets its contract: whether the pair is of the class or not, and whether its bits were set or not, the next pair may come.
 use Prim.Native.Nat.{ℕ, _+_, _<_}
 use mathlib.Core.Path.{_≡_, refl, sym, _∙_, ap, ap₂, subst}
 use mathlib.Core.Bool.{Bool, true, false}
 use mathlib.Core.List.{List}
-use borrow.Author.Tests.{not-true, not-false, eqb-true, eqb-false, eq-eqb}
+use mathlib.Core.Logic.{inl, inr}
+use native.Mathlib.Omega.{arith}
+use borrow.Author.Tests.{eq-eqb, eqb-true}
 use lib.Dec.{eqb}
-use lib.ListN.{getD}
-use Rattle.members.specs.Slots.{classOf, classAt}
-use Rattle.members.specs.Filter.{scatter, scatterAt, maskOf, seenOf, markOf, seenAt, markAt, maskAt, covers, Has, Met}
+use lib.ListN.{length, getD}
+use Rattle.members.specs.Hashes.{classOf, classAt, spot, maskOf, markOf, spotAt, markAt, maskAt}
+use Rattle.members.specs.Filter.{covers, OfClass, Cleared, Met}
 use Rattle.members.proofs.Keys.{clash}
-use Rattle.members.proofs.Filters.{putIn, has-more, met-skip, met-new, met-put, met-kept}
+use Rattle.members.proofs.Filters.{putIn, suspected-own, Grown, grown-same, grown-put, fresh, met-skip, met-next}
 use borrow.Author.Needs.{needs}
 use Rattle.members.proofs.filter.meet.Statement.{statement}
 use Rattle.members.proofs.filter.meet.Tie as tie
 
 abbrev Mine : tie.Start → Type 0
-Mine s = classAt true (s .args .table .now) (s .args .classes) (s .args .i) ≡ s .args .class
+Mine s = OfClass (s .args .whole) (s .args .table .now) (s .args .classes) (s .args .class) (s .args .i)
 
-scattered-is : (c : tie.After-scattered) → let s = c .before .before in c .scattered .result ≡ scatterAt true (s .args .table .now) (s .args .i)
-unfolding scatterAt
-scattered-is c = c .scattered .ensures ∙ ap scatter (c .before .hash .ensures)
+abbrev Next : tie.Start → List ℕ → List ℕ → Type 0
+Next s = Met (s .args .whole) (s .args .table .now) (s .args .classes) (s .args .class) (s .args .i + 1)
 
-mask-is : (c : tie.After-mask-of) → let s = c .before .before .before in c .mask-of .result ≡ maskAt (s .args .table .now) (s .args .i)
-mask-is c = c .mask-of .ensures ∙ ap maskOf (scattered-is (c .before))
+abbrev Grows : tie.Start → List ℕ → Type 0
+Grows s = Grown (s .args .whole) (s .args .table .now) (s .args .classes) (s .args .class) (s .args .i) (s .args .seen .now) (s .args .marks .now) (s .pre .1 .1)
+
+mask-is : (c : tie.After-mask-of) → let s = c .before .before .before .before in c .mask-of .result ≡ maskAt (s .args .whole) (s .args .table .now) (s .args .i)
+mask-is c = c .mask-of .ensures ∙ ap maskOf (c .before .hash .ensures)
+
+-- ---- whether the pair is of the class
 
 abbrev startOf : tie.After-class-of → tie.Start
-startOf c = c .before .before .before .before
+startOf c = c .before .before .before .before .before
 
 abbrev own : tie.After-class-of → Bool
 own c = eqb (c .class-of .result) (startOf c .args .class)
 
-classed : (c : tie.After-class-of) → c .class-of .result ≡ classAt true (startOf c .args .table .now) (startOf c .args .classes) (startOf c .args .i)
+classed : (c : tie.After-class-of) → c .class-of .result ≡ classAt (startOf c .args .whole) (startOf c .args .table .now) (startOf c .args .classes) (startOf c .args .i)
 unfolding classAt
-classed c = c .class-of .ensures ∙ ap (classOf (startOf c .args .classes)) (c .before .before .before .hash .ensures)
+classed c = c .class-of .ensures ∙ ap (classOf (startOf c .args .classes)) (c .before .before .hash .ensures)
 
 own-mine : (c : tie.After-class-of) → own c ≡ true → Mine (startOf c)
 own-mine c e = sym (classed c) ∙ eqb-true (c .class-of .result) (startOf c .args .class) e
@@ -40,23 +46,50 @@ own-mine c e = sym (classed c) ∙ eqb-true (c .class-of .result) (startOf c .ar
 mine-own : (c : tie.After-class-of) → Mine (startOf c) → own c ≡ true
 mine-own c m = eq-eqb (c .class-of .result) (startOf c .args .class) (classed c ∙ m)
 
-seen-is : (c : tie.After-word-for) → own (c .before) ≡ true → let s = startOf (c .before) in c .word-for .result ≡ seenAt (s .args .table .now) (s .args .i)
-seen-is c e = c .word-for .ensures .0 e ∙ ap seenOf (scattered-is (c .before .before .before))
+seen-is : (c : tie.After-word-for) → own (c .before) ≡ true → let s = startOf (c .before) in c .word-for .result ≡ spotAt 28160 (s .args .whole) (s .args .table .now) (s .args .i)
+seen-is c e = c .word-for .ensures .0 e ∙ ap (spot 28160) (c .before .before .before .hash .ensures)
+
+-- ---- the bits
+
+abbrev putOf : tie.After-is-covered → tie.After-put
+putOf c = c .before .before .before
+
+abbrev wordOf : tie.After-is-covered → tie.After-word-for
+wordOf c = putOf c .before .before .before .before
+
+abbrev first : tie.After-is-covered → tie.Start
+first c = startOf (wordOf c .before)
 
 -- for a pair of the class: the test of its bits
 tested :
-    (c : tie.After-is-covered) → let w = c .before .before .before .before .before in let s = startOf (w .before) in own (w .before) ≡ true →
-    c .is-covered .result ≡ covers (getD (s .args .bits .now) (seenAt (s .args .table .now) (s .args .i)) 0) (maskAt (s .args .table .now) (s .args .i))
-tested c e =
-    let w = c .before .before .before .before .before in
-    let s = startOf (w .before) in
-    c .is-covered .ensures ∙ ap₂ (λ (q m : ℕ). covers (getD (s .args .bits .now) q 0) m) (seen-is w e) (mask-is (w .before .before))
+    (c : tie.After-is-covered) → own (wordOf c .before) ≡ true →
+    c .is-covered .result ≡ covers (getD (first c .args .seen .now) (spotAt 28160 (first c .args .whole) (first c .args .table .now) (first c .args .i)) 0) (maskAt (first c .args .whole) (first c .args .table .now) (first c .args .i))
+tested c e = c .is-covered .ensures ∙ ap₂ (λ (q m : ℕ). covers (getD (first c .args .seen .now) q 0) m) (seen-is (wordOf c) e) (mask-is (wordOf c .before .before))
+
+met :
+    (c : tie.After-is-covered) (after : List ℕ) → Grows (first c) after →
+    (Mine (first c) → Cleared (first c .args .whole) (first c .args .table .now) 1 after (first c .args .i)) →
+    Next (first c) (putOf c .put .last .0) after
+met c after g told = go (own k) refl
+  where
+    s : tie.Start
+    s = first c
+
+    k : tie.After-class-of
+    k = wordOf c .before
+
+    go : (b : Bool) → own k ≡ b → Next s (putOf c .put .last .0) after
+    go true e =
+        subst (λ (seen : List ℕ). Next s seen after)
+        (sym (putOf c .put .ensures ∙ ap₂ (putIn (s .args .seen .now)) (seen-is (wordOf c) e) (putOf c .before .mask-for .ensures e ∙ mask-is (k .before))))
+        (met-next (s .args .whole) (s .args .table .now) (s .args .classes) (s .args .class) (s .args .i) (s .args .seen .now) (s .args .marks .now) (s .pre .1 .1) after g (told (own-mine k e)))
+    go false e =
+        subst (λ (seen : List ℕ). Next s seen after) (sym (putOf c .put .ensures))
+        (met-skip (s .args .whole) (s .args .table .now) (s .args .classes) (s .args .class) (s .args .i) (s .args .seen .now) (s .args .marks .now) (s .pre .1 .1) (wordOf c .word-for .result) (putOf c .before .mask-for .result) after g
+        (λ m. clash (mine-own k m) e))
 
 hash-requires : tie.Need-hash-requires
 hash-requires c κs = search needs
-
-scattered-requires : tie.Need-scattered-requires
-scattered-requires c κs = search needs
 
 mask-of-requires : tie.Need-mask-of-requires
 mask-of-requires c κs = search needs
@@ -70,8 +103,8 @@ word-for-requires c κs = search needs
 mul-word : tie.Need-mul-word
 mul-word c = search needs
 
-element-copy-out-word : tie.Need-element-copy-out-word
-element-copy-out-word c = search needs
+slice-read-word : tie.Need-slice-read-word
+slice-read-word c = search needs
 
 mask-for-requires : tie.Need-mask-for-requires
 mask-for-requires c κs = search needs
@@ -82,103 +115,60 @@ put-requires c κs = search needs
 is-covered-requires : tie.Need-is-covered-requires
 is-covered-requires c κs = search needs
 
-returns : tie.Need-returns
-returns c = (λ e. go (own k) refl, λ e. clash refl e)
-  where
-    p : tie.After-put
-    p = c .before .before
-
-    w : tie.After-word-for
-    w = p .before .before .before .before
-
-    k : tie.After-class-of
-    k = w .before
-
-    s : tie.Start
-    s = startOf k
-
-    go : (b : Bool) → own k ≡ b → Met (s .args .table .now) (s .args .classes) (s .args .class) (s .args .i + 1) (p .put .last .0) (s .args .first .now)
-    go true e =
-        subst (λ (bits : List ℕ). Met (s .args .table .now) (s .args .classes) (s .args .class) (s .args .i + 1) bits (s .args .first .now))
-        (sym (p .put .ensures ∙ ap₂ (putIn (s .args .bits .now)) (seen-is w e) (p .before .mask-for .ensures e ∙ mask-is (k .before))))
-        (met-new (s .args .table .now) (s .args .classes) (s .args .class) (s .args .i) (s .args .bits .now) (s .args .first .now) (s .pre .1 .1 .1) (own-mine k e)
-        (subst (λ (q : ℕ). q < 24321) (seen-is w e) (w .word-for .ensures .1)) (sym (tested (c .before) e) ∙ not-true _ (c .if1 .taken)))
-    go false e =
-        subst (λ (bits : List ℕ). Met (s .args .table .now) (s .args .classes) (s .args .class) (s .args .i + 1) bits (s .args .first .now)) (sym (p .put .ensures))
-        (met-skip (s .args .table .now) (s .args .classes) (s .args .class) (s .args .i) (putIn (s .args .bits .now) (w .word-for .result) (p .before .mask-for .result)) (s .args .first .now)
-        (met-put (s .args .table .now) (s .args .classes) (s .args .class) (s .args .i) (s .args .bits .now) (s .args .first .now) (s .pre .1 .1 .1) (w .word-for .result) (p .before .mask-for .result))
-        (λ m. clash (mine-own k m) e))
-
-mark-word-requires : tie.Need-mark-word-requires
-mark-word-requires c κs = search needs
+mark-of-requires : tie.Need-mark-of-requires
+mark-of-requires c κs = search needs
 
 put-requires-2 : tie.Need-put-requires-2
 put-requires-2 c κs = search needs
 
-keep-requires : tie.Need-keep-requires
-keep-requires c κs =
-    let h = c .before .before .before .before .before .before .before .before .before .before .before .before .before .before in
-    let s = h .before in
-    (s .pre .0, (s .pre .1 .0, (h .hash .ensures, (s .pre .1 .1 .1 .firsts, s .pre .1 .1 .1 .low))))
+same-length : tie.Need-same-length
+same-length c = search needs
+
+same-length-2 : tie.Need-same-length-2
+same-length-2 c = search needs
+
+returns : tie.Need-returns
+returns c =
+    let p = c .before .before in
+    let k = p .before .before .before .before in
+    let s = first k in
+    let ws = s .args .table .now in
+    let marks = s .args .marks .now in
+    let marked : p .before .mark-of .result ≡ markAt (s .args .whole) ws (s .args .i) = p .before .mark-of .ensures .0 ∙ ap markOf (wordOf k .before .before .before .hash .ensures) in
+    let fits : markAt (s .args .whole) ws (s .args .i) < length marks = subst (λ (q : ℕ). q < length marks) marked (omega (arith, p .before .mark-of .ensures .1, s .pre .1 .1 .size)) in
+    subst (Next s (putOf k .put .last .0)) (sym (p .put2 .ensures ∙ ap₂ (putIn marks) marked (mask-is (wordOf k .before .before))))
+    (met k (putIn marks (markAt (s .args .whole) ws (s .args .i)) (maskAt (s .args .whole) ws (s .args .i)))
+    (grown-put (s .args .whole) ws (s .args .classes) (s .args .class) (s .args .i) (s .args .seen .now) marks (s .pre .1 .1) (markAt (s .args .whole) ws (s .args .i)) (maskAt (s .args .whole) ws (s .args .i)))
+    (λ m. inr (suspected-own (s .args .whole) ws marks (s .args .i) fits)))
+
+same-length-3 : tie.Need-same-length-3
+same-length-3 c = search needs
 
 returns-2 : tie.Need-returns-2
-returns-2 c = (λ e. done e, c .keep .ensures .1)
-  where
-    m : tie.After-mark-word
-    m = c .before .before .before
-
-    d : tie.Else1
-    d = m .before .before
-
-    p : tie.After-put
-    p = d .before .before
-
-    w : tie.After-word-for
-    w = p .before .before .before .before
-
-    k : tie.After-class-of
-    k = w .before
-
-    s : tie.Start
-    s = startOf k
-
-    bits : List ℕ
-    bits = putIn (s .args .bits .now) (w .word-for .result) (p .before .mask-for .result)
-
-    marked : m .mark-word .result ≡ markAt (s .args .table .now) (s .args .i)
-    marked = m .mark-word .ensures .0 ∙ ap markOf (scattered-is (k .before .before))
-
-    put-is : c .before .before .put2 .last .0 ≡ putIn bits (markAt (s .args .table .now) (s .args .i)) (maskAt (s .args .table .now) (s .args .i))
-    put-is =
-        c .before .before .put2 .ensures ∙ ap (λ (l : List ℕ). putIn l (m .mark-word .result) (k .before .mask-of .result)) (p .put .ensures) ∙
-        ap₂ (putIn bits) marked (mask-is (k .before))
-
-    done : c .keep .result ≡ true → Met (s .args .table .now) (s .args .classes) (s .args .class) (s .args .i + 1) (c .before .before .put2 .last .0) (c .keep .last .1 .1 .1 .0)
-    done e =
-        subst (λ (l : List ℕ). Met (s .args .table .now) (s .args .classes) (s .args .class) (s .args .i + 1) l (c .keep .last .1 .1 .1 .0)) (sym put-is)
-        (met-kept (s .args .table .now) (s .args .classes) (s .args .class) (s .args .i) bits (s .args .first .now)
-        (met-put (s .args .table .now) (s .args .classes) (s .args .class) (s .args .i) (s .args .bits .now) (s .args .first .now) (s .pre .1 .1 .1) (w .word-for .result) (p .before .mask-for .result))
-        (c .keep .last .1 .1 .1 .0)
-        (λ o. has-more (s .args .bits .now) (w .word-for .result) (p .before .mask-for .result) (seenAt (s .args .table .now) (s .args .i)) (maskAt (s .args .table .now) (s .args .i))
-        (sym (tested (d .before) (mine-own k o)) ∙ not-false _ (d .if1 .left)))
-        (subst (λ (q : ℕ). q < 24321) marked (m .mark-word .ensures .1)) (c .keep .ensures .0 e))
+returns-2 c =
+    let k = c .before in
+    let s = first k in
+    met k (s .args .marks .now) (grown-same (s .args .whole) (s .args .table .now) (s .args .classes) (s .args .class) (s .args .i) (s .args .seen .now) (s .args .marks .now) (s .pre .1 .1))
+    (λ m. inl (fresh (s .args .whole) (s .args .table .now) (s .args .classes) (s .args .class) (s .args .i) (s .args .seen .now) (s .args .marks .now) (s .pre .1 .1) m
+    (sym (tested k (mine-own (wordOf k .before) m)) ∙ c .if1 .left)))
 
 pub meet-spec : {M : Type 1} → statement M
 meet-spec =
     tie.close
     (tie.spec
     hash-requires
-    scattered-requires
     mask-of-requires
     class-of-requires
     word-for-requires
     mul-word
-    element-copy-out-word
+    slice-read-word
     mask-for-requires
     put-requires
     is-covered-requires
-    returns
-    mark-word-requires
+    mark-of-requires
     put-requires-2
-    keep-requires
+    same-length
+    same-length-2
+    returns
+    same-length-3
     returns-2)

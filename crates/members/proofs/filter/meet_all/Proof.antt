@@ -1,36 +1,30 @@
 -- `meet_all` meets its contract. The loop's invariant: the pairs passed are met.
-use Prim.Native.Nat.{ℕ, _≤_, _-_}
-use mathlib.Core.Path.{_≡_, refl, subst}
-use mathlib.Core.Bool.{true}
+use Prim.Native.Nat.{_≤_, _-_}
+use mathlib.Core.Path.{sym, _∙_}
 use native.Mathlib.Omega.{arith}
-use borrow.Author.Tests.{not-true, not-false, lt-leb}
-use Rattle.members.specs.Keys.{within}
 use Rattle.members.specs.Filter.{Met}
-use Rattle.members.proofs.Keys.{clash, rankFits, each-false}
+use Rattle.members.proofs.Filters.{met-start}
 use Rattle.members.proofs.filter.meet_all.Statement.{statement}
 use Rattle.members.proofs.filter.meet_all.Tie as tie
 
 abbrev Inv-loop : tie.InvT-loop
-Inv-loop table count class classes bits₀ first₀ i₀ bits first i = (i ≤ count) × Met table classes class i bits first
+Inv-loop table count whole class classes marks₀ seen₀ i₀ marks seen i = (i ≤ count) × Met whole table classes class i seen marks
 
 abbrev μ-loop : tie.MeasureT-loop
-μ-loop table count class classes bits₀ first₀ i₀ bits first i = count - i
+μ-loop table count whole class classes marks₀ seen₀ i₀ marks seen i = count - i
 
 loop-holds : tie.Need-loop-holds Inv-loop μ-loop
-loop-holds c = (omega arith, c .pre .1 .1 .1)
+loop-holds c =
+    let s = c .before in
+    (omega arith, met-start (s .args .whole) (s .args .table .now) (s .args .classes) (s .args .class) (s .args .marks .now) (s .pre .1 .1))
+
+slice-aggregate-meet : tie.Need-slice-aggregate-meet Inv-loop μ-loop
+slice-aggregate-meet c = sym (c .before .before .loop .inv .1 .words)
 
 meet-requires : tie.Need-meet-requires Inv-loop μ-loop
 meet-requires c κs =
     let l = c .before .before .before in
-    (omega arith, (omega arith, (l .before .pre .1 .1 .0, l .loop .inv .1)))
-
-returns : tie.Need-returns Inv-loop μ-loop
-unfolding within
-returns c =
-    let k = c .before in
-    let l = k .before .before .before .before in
-    let s = l .before in
-    (λ e. clash e refl, λ e. each-false (rankFits true 1 (s .args .table .now)) (s .args .count) (l .loop .i) (omega arith) (lt-leb _ _ (k .meet .ensures .1 (not-true _ (c .if1 .taken)))))
+    (omega arith, (l .before .before .pre .1 .0, l .loop .inv .1))
 
 add-i : tie.Need-add-i Inv-loop μ-loop
 add-i c = omega arith
@@ -39,14 +33,13 @@ loop-less : tie.Need-loop-less Inv-loop μ-loop
 loop-less c = omega arith
 
 loop-again : tie.Need-loop-again Inv-loop μ-loop
-loop-again c = (omega arith, c .before .meet .ensures .0 (not-false _ (c .if1 .left)))
+loop-again c = (omega arith, c .before .before .before .meet .ensures)
 
-returns-2 : tie.Need-returns-2 Inv-loop μ-loop
-returns-2 c =
-    let l = c .before in
-    let s = l .before in
-    let e : l .loop .i ≡ s .args .count = omega arith in
-    (λ d. subst (λ (n : ℕ). Met (s .args .table .now) (s .args .classes) (s .args .class) n (l .loop .bits) (l .loop .first)) e (l .loop .inv .1), λ d. clash refl d)
+same-length : tie.Need-same-length Inv-loop μ-loop
+same-length c = c .before .loop .inv .1 .size ∙ sym (c .before .before .before .pre .1 .1)
+
+returns : tie.Need-returns Inv-loop μ-loop
+returns c = λ j l. c .before .loop .inv .1 .told j (omega arith)
 
 pub meet-all-spec : {M : Type 1} → statement M
 meet-all-spec =
@@ -55,9 +48,10 @@ meet-all-spec =
     Inv-loop
     μ-loop
     loop-holds
+    slice-aggregate-meet
     meet-requires
-    returns
     add-i
     loop-less
     loop-again
-    returns-2)
+    same-length
+    returns)

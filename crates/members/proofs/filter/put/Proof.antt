@@ -9,8 +9,8 @@ use Rattle.members.proofs.filter.put.Tie as tie
 mul-joined : tie.Need-mul-joined
 mul-joined c = search needs
 
-element-copy-out-joined : tie.Need-element-copy-out-joined
-element-copy-out-joined c = search needs
+slice-read-joined : tie.Need-slice-read-joined
+slice-read-joined c = search needs
 
 joined-requires : tie.Need-joined-requires
 joined-requires c κs = search needs
@@ -18,12 +18,15 @@ joined-requires c κs = search needs
 mul-bits : tie.Need-mul-bits
 mul-bits c = search needs
 
-element-write-bits : tie.Need-element-write-bits
-element-write-bits c = search needs
+slice-write-bits : tie.Need-slice-write-bits
+slice-write-bits c = search needs
+
+same-length : tie.Need-same-length
+same-length c = search needs
 
 returns : tie.Need-returns
 returns c =
-    let s = c .before .before in
+    let s = c .before .before .before in
     ap (λ (w : ℕ). set (s .args .bits .now) (s .args .q) w) (c .joined .ensures)
 
 pub put-spec : {M : Type 1} → statement M
@@ -31,8 +34,9 @@ put-spec =
     tie.close
     (tie.spec
     mul-joined
-    element-copy-out-joined
+    slice-read-joined
     joined-requires
     mul-bits
-    element-write-bits
+    slice-write-bits
+    same-length
     returns)

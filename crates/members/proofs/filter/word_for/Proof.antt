@@ -5,8 +5,8 @@ use borrow.Author.Needs.{needs}
 use Rattle.members.proofs.filter.word_for.Statement.{statement}
 use Rattle.members.proofs.filter.word_for.Tie as tie
 
-seen-word-requires : tie.Need-seen-word-requires
-seen-word-requires c κs = search needs
+spot-of-requires : tie.Need-spot-of-requires
+spot-of-requires c κs = search needs
 
 returns : tie.Need-returns
 returns c = search needs
@@ -15,4 +15,4 @@ returns-2 : tie.Need-returns-2
 returns-2 c = (λ e. clash e (c .if1 .left), omega arith)
 
 pub word-for-spec : {M : Type 1} → statement M
-word-for-spec = tie.close (tie.spec seen-word-requires returns returns-2)
+word-for-spec = tie.close (tie.spec spot-of-requires returns returns-2)

@@ -1,39 +1,45 @@
 -- `pass` meets its contract. The loop's invariant: the slots are good, and the ranks passed are within the limit.
 use Prim.Native.Nat.{ℕ, _≤_, _<_, _-_}
-use mathlib.Core.Path.{_≡_, refl}
+use mathlib.Core.Path.{_≡_, refl, sym}
+use mathlib.Core.Bool.{true}
 use native.Mathlib.Omega.{arith}
 use borrow.Author.Count.{below-more}
 use borrow.Author.Tests.{not-true, not-false, lt-leb}
 use Rattle.members.specs.Keys.{rankAt, within}
-use Rattle.members.specs.Slots.{classAt, Good}
+use Rattle.members.specs.Slots.{Good, wanted}
 use Rattle.members.proofs.Keys.{clash, rankFits, each-false}
 use Rattle.members.proofs.Passes.{good-start}
 use Rattle.members.proofs.slots.pass.Statement.{statement}
 use Rattle.members.proofs.slots.pass.Tie as tie
 
 abbrev Inv-loop : tie.InvT-loop
-Inv-loop table count whole limit class classes first₀ number₀ i₀ first number i =
-    (i ≤ count) × Good whole table classes class i first number × ((j : ℕ) → j < i → classAt whole table classes j ≡ class → rankAt whole j table ≤ limit)
+Inv-loop table count whole limit class classes marks slots₀ i₀ slots i =
+    (i ≤ count) × Good whole table (wanted whole table classes class marks) i slots ×
+    ((j : ℕ) → j < i → wanted whole table classes class marks j ≡ true → rankAt whole j table ≤ limit)
 
 abbrev μ-loop : tie.MeasureT-loop
-μ-loop table count whole limit class classes first₀ number₀ i₀ first number i = count - i
+μ-loop table count whole limit class classes marks slots₀ i₀ slots i = count - i
 
 loop-holds : tie.Need-loop-holds Inv-loop μ-loop
-loop-holds c = (omega arith, good-start _ _ _ _, λ j l. absurd (omega arith))
+loop-holds c = (omega arith, good-start _ _ _, λ j l. absurd (omega arith))
 
-step-requires : tie.Need-step-requires Inv-loop μ-loop
-step-requires c κs =
-    let l = c .before .before .before in
-    (omega arith, (omega arith, (l .before .pre .1 .1, l .loop .inv .1)))
+slice-aggregate-sift : tie.Need-slice-aggregate-sift Inv-loop μ-loop
+slice-aggregate-sift c = sym (c .before .before .loop .inv .1 .size)
+
+sift-requires : tie.Need-sift-requires Inv-loop μ-loop
+sift-requires c κs =
+    let l = c .before .before in
+    let s = l .before .before in
+    (omega arith, (omega arith, (s .pre .1 .1 .0, (s .pre .1 .1 .1 .0, (s .pre .1 .1 .1 .1, l .loop .inv .1)))))
 
 returns : tie.Need-returns Inv-loop μ-loop
 unfolding within
 returns c =
-    let k = c .before in
-    let l = k .before .before .before .before in
-    let s = l .before in (
+    let k = c .before .before in
+    let l = k .before .before .before in
+    let s = l .before .before in (
       λ e. clash e refl,
-      λ e. each-false (rankFits (s .args .whole) (s .args .limit) (s .args .table .now)) (s .args .count) (l .loop .i) (omega arith) (lt-leb _ _ (k .step .ensures .1 .1 (not-true _ (c .if1 .taken)))),
+      λ e. each-false (rankFits (s .args .whole) (s .args .limit) (s .args .table .now)) (s .args .count) (l .loop .i) (omega arith) (lt-leb _ _ (k .sift .ensures .1 .1 (not-true _ (c .if1 .taken)))),
     )
 
 add-i : tie.Need-add-i Inv-loop μ-loop
@@ -44,10 +50,10 @@ loop-less c = omega arith
 
 loop-again : tie.Need-loop-again Inv-loop μ-loop
 loop-again c =
-    let k = c .before in
-    let l = k .before .before .before .before in
+    let k = c .before .before in
+    let l = k .before .before .before in
     let done = not-false _ (c .if1 .left) in
-    (omega arith, k .step .ensures .0 done, below-more _ _ (l .loop .inv .2) (k .step .ensures .1 .0 done))
+    (omega arith, k .sift .ensures .0 done, below-more _ _ (l .loop .inv .2) (k .sift .ensures .1 .0 done))
 
 returns-2 : tie.Need-returns-2 Inv-loop μ-loop
 returns-2 c = (λ e j l m. c .before .loop .inv .2 j (omega arith) m, λ e. clash refl e)
@@ -59,7 +65,8 @@ pass-spec =
     Inv-loop
     μ-loop
     loop-holds
-    step-requires
+    slice-aggregate-sift
+    sift-requires
     returns
     add-i
     loop-less

@@ -1,0 +1,19 @@
+-- `stirred` meets its contract.
+use mathlib.Core.Path.{refl}
+use Rattle.members.specs.Hashes.{stir}
+use borrow.Author.Needs.{needs}
+use Rattle.members.proofs.hashes.stirred.Statement.{statement}
+use Rattle.members.proofs.hashes.stirred.Tie as tie
+
+mul-b : tie.Need-mul-b
+mul-b c = search needs
+
+mul-result : tie.Need-mul-result
+mul-result c = search needs
+
+returns : tie.Need-returns
+unfolding stir
+returns c = refl
+
+pub stirred-spec : {M : Type 1} → statement M
+stirred-spec = tie.close (tie.spec mul-b mul-result returns)

@@ -1,0 +1,185 @@
+// Which pairs may have a key of which there are too many. The pairs are counted by hash, in counters that stop when they are full:
+// where a pair's counter is not full, it bounds the number of pairs with its key. The others are suspected.
+ghost use mathlib.Core.Path.{_≡_};
+ghost use Prim.Native.Nat.{ℕ, _+_, _*_, _≤_, _<_, min};
+ghost use lib.ListN.{length};
+ghost use Rattle.members.specs.Keys.{rankAt};
+ghost use Rattle.members.specs.Filter.{Cleared};
+ghost use Rattle.members.specs.Counters.{placesOf, roomOf, heldAt, raised, Bounded, Told, Marked};
+use super::filter::is_suspected;
+use super::filter::put;
+use super::hashes::hash;
+use super::hashes::mark_of;
+use super::hashes::mask_of;
+use super::hashes::spot_of;
+
+// When a counter is full: where it tells of more pairs than the limit, if it can count so far.
+fn most_of(limit: u32) -> u16
+    ensures { λ r. ⌜ r ≡ min (limit + 1) 65535 ⌝ }
+{
+    if limit < 65535 {
+        return (limit + 1) as u16;
+    }
+    65535
+}
+
+fn places(packed: bool) -> u64
+    ensures { λ r. ⌜ r ≡ placesOf packed ⌝ }
+{
+    if packed {
+        return 450560;
+    }
+    112640
+}
+
+fn held_at(counters: &[u16], packed: bool, q: usize) -> u16
+    requires { ⌜ length (now counters) ≡ 112640 ⌝ }
+    requires { ⌜ q < placesOf packed ⌝ }
+    ensures { λ r. ⌜ r ≡ heldAt packed (now (counters .entry)) q ⌝ }
+{
+    if packed {
+        return (counters[q / 4] >> (4 * (q % 4))) % 16;
+    }
+    counters[q]
+}
+
+fn raise(counters: &mut [u16], packed: bool, q: usize)
+    requires { ⌜ length (now counters) ≡ 112640 ⌝ }
+    requires { ⌜ q < placesOf packed ⌝ }
+    requires { ⌜ heldAt packed (now counters) q < roomOf packed ⌝ }
+    ensures { λ _. ⌜ now (counters .exit) ≡ raised packed (now (counters .entry)) q ⌝ }
+{
+    if packed {
+        counters[q / 4] = counters[q / 4] + (1u16 << (4 * (q % 4)));
+        return;
+    }
+    counters[q] = counters[q] + 1;
+}
+
+// The pair at `i` is counted: 1 where its counter is full now, else 0.
+fn count_one(
+    table: &[i32],
+    whole: bool,
+    i: usize,
+    packed: bool,
+    most: u16,
+    counters: &mut [u16],
+) -> u64
+    requires { ⌜ 2 * i + 1 < length (now table) ⌝ }
+    requires { ⌜ most ≤ roomOf packed ⌝ }
+    requires { ⌜ Bounded whole (now table) packed most i (now counters) ⌝ }
+    ensures { λ _. ⌜ Bounded whole (now (table .entry)) packed most (i + 1) (now (counters .exit)) ⌝ }
+    ensures { λ r. ⌜ (r ≡ 0 → ((q : ℕ) → heldAt packed (now (counters .entry)) q < most) → (q : ℕ) → heldAt packed (now (counters .exit)) q < most) ⌝ }
+    ensures { λ r. ⌜ r ≤ 1 ⌝ }
+{
+    let q = spot_of(places(packed), hash(table, whole, i));
+    let held = held_at(counters, packed, q);
+    if most <= held {
+        return 1;
+    }
+    raise(counters, packed, q);
+    if held + 1 == most {
+        return 1;
+    }
+    0
+}
+
+// All pairs are counted: 0 where no counter is full now.
+fn count_all(
+    table: &[i32],
+    count: usize,
+    whole: bool,
+    packed: bool,
+    most: u16,
+    counters: &mut [u16],
+) -> u64
+    requires { ⌜ 2 * count ≤ length (now table) ⌝ }
+    requires { ⌜ most ≤ roomOf packed ⌝ }
+    requires { ⌜ Bounded whole (now table) packed most 0 (now counters) ⌝ }
+    requires { ⌜ ((q : ℕ) → heldAt packed (now counters) q < most) ⌝ }
+    ensures { λ _. ⌜ Bounded whole (now (table .entry)) packed most count (now (counters .exit)) ⌝ }
+    ensures { λ r. ⌜ (r ≡ 0 → (q : ℕ) → heldAt packed (now (counters .exit)) q < most) ⌝ }
+{
+    let mut full: u64 = 0;
+    let mut i = 0;
+    while i < count {
+        full += count_one(table, whole, i, packed, most, counters);
+        i += 1;
+    }
+    full
+}
+
+// The pair at `i` is suspected, if its counter is full: 1 where it was not before, else 0.
+fn mark_one(
+    table: &[i32],
+    whole: bool,
+    i: usize,
+    packed: bool,
+    most: u16,
+    counters: &[u16],
+    marks: &mut [u64],
+) -> u64
+    requires { ⌜ 2 * i + 1 < length (now table) ⌝ }
+    requires { ⌜ length (now counters) ≡ 112640 ⌝ }
+    requires { ⌜ length (now marks) ≡ 4096 ⌝ }
+    ensures { λ _. ⌜ Marked whole (now (table .entry)) packed most (now (counters .entry)) i (now (marks .entry)) (now (marks .exit)) ⌝ }
+    ensures { λ r. ⌜ r ≤ 1 ⌝ }
+{
+    let h = hash(table, whole, i);
+    if held_at(counters, packed, spot_of(places(packed), h)) < most {
+        return 0;
+    }
+    if is_suspected(table, whole, i, h, marks) {
+        return 0;
+    }
+    put(marks, mark_of(h), mask_of(h));
+    1
+}
+
+// The pairs with full counters are suspected: how many were not by the bits of others.
+fn mark_all(
+    table: &[i32],
+    count: usize,
+    whole: bool,
+    packed: bool,
+    most: u16,
+    counters: &[u16],
+    marks: &mut [u64],
+) -> u64
+    requires { ⌜ 2 * count ≤ length (now table) ⌝ }
+    requires { ⌜ length (now counters) ≡ 112640 ⌝ }
+    requires { ⌜ length (now marks) ≡ 4096 ⌝ }
+    ensures { λ _. ⌜ ((j : ℕ) → j < count → Told whole (now (table .entry)) packed most (now (counters .entry)) (now (marks .exit)) j) ⌝ }
+    ensures { λ r. ⌜ r ≤ count ⌝ }
+{
+    let mut new: u64 = 0;
+    let mut i = 0;
+    while i < count {
+        new += mark_one(table, whole, i, packed, most, counters, marks);
+        i += 1;
+    }
+    new
+}
+
+// Into how many classes the suspected pairs are to be parted, some ten thousand keys to each; 0 where there are none. Where most
+// bits are set, all pairs may be suspected.
+pub fn suspects(table: &[i32], count: usize, whole: bool, limit: u32, marks: &mut [u64]) -> u64
+    requires { ⌜ 2 * count ≤ length (now table) ⌝ }
+    requires { ⌜ count ≤ 4294967295 ⌝ }
+    requires { ⌜ length (now marks) ≡ 4096 ⌝ }
+    ensures { λ r. ⌜ (r ≡ 0 → (j : ℕ) → j < count → rankAt whole j (now (table .entry)) ≤ limit) ⌝ }
+    ensures { λ r. ⌜ ((j : ℕ) → j < count → Cleared whole (now (table .entry)) limit (now (marks .exit)) j) ⌝ }
+    ensures { λ r. ⌜ r < 281474976710656 ⌝ }
+{
+    let packed = limit < 15;
+    let most = most_of(limit);
+    let mut counters = [0u16; 112640];
+    if count_all(table, count, whole, packed, most, &mut counters) == 0 {
+        return 0;
+    }
+    let new = mark_all(table, count, whole, packed, most, &counters, marks);
+    if 98304 < new {
+        return (count / 16384) as u64 + 1;
+    }
+    new / 10240 + 1
+}
