@@ -17,8 +17,7 @@ spread g m = g * 1640531527 + m * 1540483477
 unfoldable pub stir : ℕ → ℕ
 stir h =
     let a = bitXor h (h / 4294967296) in
-    let b = bitXor a (a / 65536) % 4294967296 * 2246822507 % 4294967296 in
-    bitXor b (b / 8192) % 4294967296 * 3266489909
+    bitXor a (a / 65536) % 4294967296 * 3266489909
 
 unfoldable pub hashAt : Bool → List ℤ → ℕ → ℕ
 hashAt true ws i = stir (spread (weightOf (groupAt i ws)) (weightOf (memberAt i ws)))

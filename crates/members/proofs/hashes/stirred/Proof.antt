@@ -5,9 +5,6 @@ use borrow.Author.Needs.{needs}
 use Rattle.members.proofs.hashes.stirred.Statement.{statement}
 use Rattle.members.proofs.hashes.stirred.Tie as tie
 
-mul-b : tie.Need-mul-b
-mul-b c = search needs
-
 mul-result : tie.Need-mul-result
 mul-result c = search needs
 
@@ -16,4 +13,4 @@ unfolding stir
 returns c = refl
 
 pub stirred-spec : {M : Type 1} → statement M
-stirred-spec = tie.close (tie.spec mul-b mul-result returns)
+stirred-spec = tie.close (tie.spec mul-result returns)
