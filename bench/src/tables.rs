@@ -23,7 +23,7 @@ struct Kind {
 }
 
 const KINDS: [Kind; 3] = [
-    Kind { workload: "table test", limit: 80, pair: random_pair },
+    Kind { workload: "table test", limit: 200, pair: random_pair },
     Kind { workload: "table test, numbers in sequence", limit: 65_535, pair: pair_in_sequence },
     Kind { workload: "table test, groups of G = 3", limit: 3, pair: pair_of_three },
 ];

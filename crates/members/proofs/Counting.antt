@@ -6,8 +6,8 @@ use mathlib.Core.List.{List}
 use native.Mathlib.Nat.{zero-div}
 use native.Mathlib.Numerals.{add-one}
 use native.Mathlib.Omega.{arith}
-use borrow.Author.Tests.{eqb-true, eqb-false, ltb-true}
-use lib.Dec.{eqb, ltb}
+use borrow.Author.Tests.{eqb-true, eqb-false}
+use lib.Dec.{eqb}
 use lib.IntN.{ℤ}
 use lib.ListN.{length, getD, set, replicate, length-set, length-replicate}
 use lib.Seq.{getD-set-same, getD-set-other}
@@ -15,7 +15,7 @@ use Rattle.members.specs.Places.{groupAt, memberAt}
 use Rattle.members.specs.Keys.{sameAt, rankAt}
 use Rattle.members.specs.Hashes.{spot}
 use Rattle.members.specs.Counters.{placesOf, roomOf, heldAt, raised, counterAt, Bounded}
-use Rattle.members.proofs.Keys.{clash, alike-none, rank-rises}
+use Rattle.members.proofs.Keys.{alike-none, rank-rises}
 use Rattle.members.proofs.Ranks.{counted, counted-hit, counted-miss}
 use Rattle.members.proofs.Hashing.{hash-key}
 use Rattle.members.proofs.Passes.{zeros}
@@ -53,179 +53,238 @@ digit-other (suc (suc zero)) (suc (suc (suc (suc s)))) w l m n h = absurd (omega
 digit-other (suc (suc (suc zero))) (suc (suc (suc (suc s)))) w l m n h = absurd (omega arith)
 digit-other (suc (suc (suc (suc r)))) s w l m n h = absurd (omega arith)
 
+-- the same of two counters in a word
+half-own : (r w : ℕ) → r < 2 → w / 2 ^ (8 * r) % 256 < 255 → (w + 2 ^ (8 * r)) / 2 ^ (8 * r) % 256 ≡ w / 2 ^ (8 * r) % 256 + 1
+half-own zero w l h = omega arith
+half-own (suc zero) w l h = omega arith
+half-own (suc (suc r)) w l h = absurd (omega arith)
+
+half-other : (r s w : ℕ) → r < 2 → s < 2 → (s ≡ r → ⊥) → w / 2 ^ (8 * r) % 256 < 255 → (w + 2 ^ (8 * r)) / 2 ^ (8 * s) % 256 ≡ w / 2 ^ (8 * s) % 256
+half-other zero zero w l m n h = absurd (n refl)
+half-other zero (suc zero) w l m n h = omega arith
+half-other zero (suc (suc s)) w l m n h = absurd (omega arith)
+half-other (suc zero) zero w l m n h = omega arith
+half-other (suc zero) (suc zero) w l m n h = absurd (n refl)
+half-other (suc zero) (suc (suc s)) w l m n h = absurd (omega arith)
+half-other (suc (suc r)) s w l m n h = absurd (omega arith)
+
+half-fits : (r w : ℕ) → r < 2 → w < 65536 → w / 2 ^ (8 * r) % 256 < 255 → w + 2 ^ (8 * r) < 65536
+half-fits zero w l b h = omega arith
+half-fits (suc zero) w l b h = omega arith
+half-fits (suc (suc r)) w l b h = absurd (omega arith)
+
 -- a full word has no counter that is not
-pub digit-fits : (r w : ℕ) → r < 4 → w < 65536 → w / 2 ^ (4 * r) % 16 < 15 → w + 2 ^ (4 * r) < 65536
+digit-fits : (r w : ℕ) → r < 4 → w < 65536 → w / 2 ^ (4 * r) % 16 < 15 → w + 2 ^ (4 * r) < 65536
 digit-fits zero w l b h = omega arith
 digit-fits (suc zero) w l b h = omega arith
 digit-fits (suc (suc zero)) w l b h = omega arith
 digit-fits (suc (suc (suc zero))) w l b h = omega arith
 digit-fits (suc (suc (suc (suc r)))) w l b h = absurd (omega arith)
 
-zero-digit : (n : ℕ) → 0 / n % 16 ≡ 0
-zero-digit n = ap (λ (w : ℕ). w % 16) (zero-div n)
+-- ---- the share
 
-pub shift-below : (q : ℕ) → 4 * (q % 4) < 16
-shift-below q = omega arith
+pub places-range : (share : ℕ) → (placesOf share ≤ 4294967296) × (0 < placesOf share)
+unfolding placesOf
+places-range zero = (omega arith, omega arith)
+places-range (suc zero) = (omega arith, omega arith)
+places-range (suc (suc share)) = (omega arith, omega arith)
 
-room-packed : roomOf true ≡ 15
+pub room-of : (share limit : ℕ) → (share ≡ 2 → limit < 15) → (share ≡ 1 → limit < 255) → share ≤ 2 → min (limit + 1) 65535 ≤ roomOf share
 unfolding roomOf
-room-packed = refl
+room-of zero limit f g l = omega arith
+room-of (suc zero) limit f g l = omega (arith, g refl)
+room-of (suc (suc zero)) limit f g l = omega (arith, f refl)
+room-of (suc (suc (suc share))) limit f g l = absurd (omega arith)
 
-room-open : roomOf false ≡ 65535
-unfolding roomOf
-room-open = refl
+-- the share is neither 0 nor 1
+abbrev pub Most : ℕ → Type 0
+Most share = (share ≡ 0 → ⊥) × (share ≡ 1 → ⊥)
 
-pub places-range : (packed : Bool) → (placesOf packed ≤ 4294967296) × (0 < placesOf packed)
+pub places-0 : (share : ℕ) → share ≡ 0 → placesOf share ≡ 112640
 unfolding placesOf
-places-range true = (omega arith, omega arith)
-places-range false = (omega arith, omega arith)
+places-0 share e = rw e refl
 
-pub most-fits : (limit : ℕ) → min (limit + 1) 65535 ≤ roomOf (ltb limit 15)
-most-fits limit = go (ltb limit 15) refl
-  where
-    go : (b : Bool) → ltb limit 15 ≡ b → min (limit + 1) 65535 ≤ roomOf b
-    go true e = omega (arith, room-packed, ltb-true limit 15 e)
-    go false e = omega (arith, room-open)
-
--- where a counter's word is
-pub packed-fits : (packed : Bool) (q : ℕ) → packed ≡ true → q < placesOf packed → q / 4 < 112640
+pub places-1 : (share : ℕ) → share ≡ 1 → placesOf share ≡ 225280
 unfolding placesOf
-packed-fits true q e l = omega arith
-packed-fits false q e l = clash e refl
+places-1 share e = rw e refl
 
-pub open-fits : (packed : Bool) (q : ℕ) → packed ≡ false → q < placesOf packed → q < 112640
+pub places-2 : (share : ℕ) → Most share → placesOf share ≡ 450560
 unfolding placesOf
-open-fits false q e l = l
-open-fits true q e l = clash refl e
+places-2 zero m = absurd (m .0 refl)
+places-2 (suc zero) m = absurd (m .1 refl)
+places-2 (suc (suc share)) m = refl
 
--- the room that is left in a counter is room in its word
-unit-is : (r : ℕ) → r < 4 → 1 * 2 ^ (4 * r) % 65536 ≡ 2 ^ (4 * r)
-unit-is zero l = refl
-unit-is (suc zero) l = refl
-unit-is (suc (suc zero)) l = refl
-unit-is (suc (suc (suc zero))) l = refl
-unit-is (suc (suc (suc (suc r)))) l = absurd (omega arith)
+pub held-2 : (share : ℕ) (counters : List ℕ) (q : ℕ) → Most share → getD counters (q / 4) 0 / 2 ^ (4 * (q % 4)) % 16 ≡ heldAt share counters q
+unfolding heldAt
+held-2 zero counters q m = absurd (m .0 refl)
+held-2 (suc zero) counters q m = absurd (m .1 refl)
+held-2 (suc (suc share)) counters q m = refl
 
-pub packed-room :
-    (packed : Bool) (counters : List ℕ) (q : ℕ) → packed ≡ true → heldAt packed counters q < roomOf packed → getD counters (q / 4) 0 < 65536 →
+-- ---- the room that is left in a counter is room in its word
+
+unit-4 : (r : ℕ) → r < 4 → 1 * 2 ^ (4 * r) % 65536 ≡ 2 ^ (4 * r)
+unit-4 zero l = refl
+unit-4 (suc zero) l = refl
+unit-4 (suc (suc zero)) l = refl
+unit-4 (suc (suc (suc zero))) l = refl
+unit-4 (suc (suc (suc (suc r)))) l = absurd (omega arith)
+
+unit-8 : (r : ℕ) → r < 2 → 1 * 2 ^ (8 * r) % 65536 ≡ 2 ^ (8 * r)
+unit-8 zero l = refl
+unit-8 (suc zero) l = refl
+unit-8 (suc (suc r)) l = absurd (omega arith)
+
+module _ (share : ℕ) (counters : List ℕ) (q : ℕ) where
+  pub room-0 : share ≡ 0 → heldAt share counters q < roomOf share → getD counters q 0 < 65535
+  unfolding heldAt roomOf
+  room-0 e l = rw e at l
+
+  pub room-1 : share ≡ 1 → heldAt share counters q < roomOf share → getD counters (q / 2) 0 < 65536 → getD counters (q / 2) 0 + 1 * 2 ^ (8 * (q % 2)) % 65536 < 65536
+  unfolding heldAt roomOf
+  room-1 e l h = rw (unit-8 (q % 2) (omega arith)) (half-fits (q % 2) (getD counters (q / 2) 0) (omega arith) h (rw e at l))
+
+  pub raised-0 : share ≡ 0 → set counters q (getD counters q 0 + 1) ≡ raised share counters q
+  unfolding raised
+  raised-0 e = rw e refl
+
+  pub raised-1 : share ≡ 1 → set counters (q / 2) (getD counters (q / 2) 0 + 1 * 2 ^ (8 * (q % 2)) % 65536) ≡ raised share counters q
+  unfolding raised
+  raised-1 e = rw (e, unit-8 (q % 2) (omega arith)) refl
+
+pub room-2 :
+    (share : ℕ) (counters : List ℕ) (q : ℕ) → Most share → heldAt share counters q < roomOf share → getD counters (q / 4) 0 < 65536 →
     getD counters (q / 4) 0 + 1 * 2 ^ (4 * (q % 4)) % 65536 < 65536
 unfolding heldAt roomOf
-packed-room true counters q e l h = rw (unit-is (q % 4) (omega arith)) (digit-fits (q % 4) (getD counters (q / 4) 0) (omega arith) h l)
-packed-room false counters q e l h = clash e refl
+room-2 zero counters q m l h = absurd (m .0 refl)
+room-2 (suc zero) counters q m l h = absurd (m .1 refl)
+room-2 (suc (suc share)) counters q m l h = rw (unit-4 (q % 4) (omega arith)) (digit-fits (q % 4) (getD counters (q / 4) 0) (omega arith) h l)
 
-pub open-room : (packed : Bool) (counters : List ℕ) (q : ℕ) → packed ≡ false → heldAt packed counters q < roomOf packed → getD counters q 0 < 65535
-unfolding heldAt roomOf
-open-room false counters q e l = l
-open-room true counters q e l = clash refl e
-
-pub packed-raised : (packed : Bool) (counters : List ℕ) (q : ℕ) → packed ≡ true → set counters (q / 4) (getD counters (q / 4) 0 + 1 * 2 ^ (4 * (q % 4)) % 65536) ≡ raised packed counters q
+pub raised-2 : (share : ℕ) (counters : List ℕ) (q : ℕ) → Most share → set counters (q / 4) (getD counters (q / 4) 0 + 1 * 2 ^ (4 * (q % 4)) % 65536) ≡ raised share counters q
 unfolding raised
-packed-raised true counters q e = rw (unit-is (q % 4) (omega arith)) refl
-packed-raised false counters q e = clash e refl
-
-pub open-raised : (packed : Bool) (counters : List ℕ) (q : ℕ) → packed ≡ false → set counters q (getD counters q 0 + 1) ≡ raised packed counters q
-unfolding raised
-open-raised false counters q e = refl
-open-raised true counters q e = clash refl e
+raised-2 zero counters q m = absurd (m .0 refl)
+raised-2 (suc zero) counters q m = absurd (m .1 refl)
+raised-2 (suc (suc share)) counters q m = rw (unit-4 (q % 4) (omega arith)) refl
 
 -- ---- one more in a counter
 
 module _ (counters : List ℕ) (q : ℕ) where
-  abbrev word : ℕ
-  word = getD counters (q / 4) 0
-
-  pub raised-length : (packed : Bool) → length (raised packed counters q) ≡ length counters
+  pub raised-length : (share : ℕ) → length (raised share counters q) ≡ length counters
   unfolding raised
-  raised-length true = length-set counters (q / 4) _
-  raised-length false = length-set counters q _
+  raised-length zero = length-set counters q _
+  raised-length (suc zero) = length-set counters (q / 2) _
+  raised-length (suc (suc share)) = length-set counters (q / 4) _
 
-  pub held-own : (packed : Bool) → length counters ≡ 112640 → q < placesOf packed → heldAt packed counters q < roomOf packed → heldAt packed (raised packed counters q) q ≡ heldAt packed counters q + 1
+  pub held-own : (share : ℕ) → length counters ≡ 112640 → q < placesOf share → heldAt share counters q < roomOf share → heldAt share (raised share counters q) q ≡ heldAt share counters q + 1
   unfolding raised heldAt placesOf roomOf
-  held-own true e l h =
-      ap (λ (w : ℕ). w / 2 ^ (4 * (q % 4)) % 16) (getD-set-same counters (q / 4) (word + 2 ^ (4 * (q % 4))) 0 (omega arith)) ∙
-      digit-own (q % 4) word (omega arith) h
-  held-own false e l h = getD-set-same counters q (getD counters q 0 + 1) 0 (omega arith)
+  held-own zero e l h = getD-set-same counters q (getD counters q 0 + 1) 0 (omega arith)
+  held-own (suc zero) e l h =
+      ap (λ (w : ℕ). w / 2 ^ (8 * (q % 2)) % 256) (getD-set-same counters (q / 2) (getD counters (q / 2) 0 + 2 ^ (8 * (q % 2))) 0 (omega arith)) ∙
+      half-own (q % 2) (getD counters (q / 2) 0) (omega arith) h
+  held-own (suc (suc share)) e l h =
+      ap (λ (w : ℕ). w / 2 ^ (4 * (q % 4)) % 16) (getD-set-same counters (q / 4) (getD counters (q / 4) 0 + 2 ^ (4 * (q % 4))) 0 (omega arith)) ∙
+      digit-own (q % 4) (getD counters (q / 4) 0) (omega arith) h
 
-  pub held-other : (packed : Bool) (x : ℕ) → length counters ≡ 112640 → q < placesOf packed → heldAt packed counters q < roomOf packed → (x ≡ q → ⊥) → heldAt packed (raised packed counters q) x ≡ heldAt packed counters x
+  -- in another word, or in the same one
+  module _ (x : ℕ) (e : length counters ≡ 112640) (n : x ≡ q → ⊥) where
+    other-2 : q < 225280 → getD counters (q / 2) 0 / 2 ^ (8 * (q % 2)) % 256 < 255 →
+        getD (set counters (q / 2) (getD counters (q / 2) 0 + 2 ^ (8 * (q % 2)))) (x / 2) 0 / 2 ^ (8 * (x % 2)) % 256 ≡ getD counters (x / 2) 0 / 2 ^ (8 * (x % 2)) % 256
+    other-2 l h = go (eqb (x / 2) (q / 2)) refl
+      where
+        go : (b : Bool) → eqb (x / 2) (q / 2) ≡ b → getD (set counters (q / 2) (getD counters (q / 2) 0 + 2 ^ (8 * (q % 2)))) (x / 2) 0 / 2 ^ (8 * (x % 2)) % 256 ≡ getD counters (x / 2) 0 / 2 ^ (8 * (x % 2)) % 256
+        go true b =
+            let z : x / 2 ≡ q / 2 = eqb-true (x / 2) (q / 2) b in
+            let apart : x % 2 ≡ q % 2 → ⊥ = λ y. n (omega arith) in
+            rw z
+            (ap (λ (w : ℕ). w / 2 ^ (8 * (x % 2)) % 256) (getD-set-same counters (q / 2) (getD counters (q / 2) 0 + 2 ^ (8 * (q % 2))) 0 (omega arith)) ∙
+            half-other (q % 2) (x % 2) (getD counters (q / 2) 0) (omega arith) (omega arith) apart h)
+        go false b = ap (λ (w : ℕ). w / 2 ^ (8 * (x % 2)) % 256) (getD-set-other counters (q / 2) (x / 2) (getD counters (q / 2) 0 + 2 ^ (8 * (q % 2))) 0 (eqb-false (x / 2) (q / 2) b))
+
+    other-4 : q < 450560 → getD counters (q / 4) 0 / 2 ^ (4 * (q % 4)) % 16 < 15 →
+        getD (set counters (q / 4) (getD counters (q / 4) 0 + 2 ^ (4 * (q % 4)))) (x / 4) 0 / 2 ^ (4 * (x % 4)) % 16 ≡ getD counters (x / 4) 0 / 2 ^ (4 * (x % 4)) % 16
+    other-4 l h = go (eqb (x / 4) (q / 4)) refl
+      where
+        go : (b : Bool) → eqb (x / 4) (q / 4) ≡ b → getD (set counters (q / 4) (getD counters (q / 4) 0 + 2 ^ (4 * (q % 4)))) (x / 4) 0 / 2 ^ (4 * (x % 4)) % 16 ≡ getD counters (x / 4) 0 / 2 ^ (4 * (x % 4)) % 16
+        go true b =
+            let z : x / 4 ≡ q / 4 = eqb-true (x / 4) (q / 4) b in
+            let apart : x % 4 ≡ q % 4 → ⊥ = λ y. n (omega arith) in
+            rw z
+            (ap (λ (w : ℕ). w / 2 ^ (4 * (x % 4)) % 16) (getD-set-same counters (q / 4) (getD counters (q / 4) 0 + 2 ^ (4 * (q % 4))) 0 (omega arith)) ∙
+            digit-other (q % 4) (x % 4) (getD counters (q / 4) 0) (omega arith) (omega arith) apart h)
+        go false b = ap (λ (w : ℕ). w / 2 ^ (4 * (x % 4)) % 16) (getD-set-other counters (q / 4) (x / 4) (getD counters (q / 4) 0 + 2 ^ (4 * (q % 4))) 0 (eqb-false (x / 4) (q / 4) b))
+
+  pub held-other : (share x : ℕ) → length counters ≡ 112640 → q < placesOf share → heldAt share counters q < roomOf share → (x ≡ q → ⊥) → heldAt share (raised share counters q) x ≡ heldAt share counters x
   unfolding raised heldAt placesOf roomOf
-  held-other true x e l h n = go (eqb (x / 4) (q / 4)) refl
-    where
-      go : (b : Bool) → eqb (x / 4) (q / 4) ≡ b → getD (set counters (q / 4) (word + 2 ^ (4 * (q % 4)))) (x / 4) 0 / 2 ^ (4 * (x % 4)) % 16 ≡ getD counters (x / 4) 0 / 2 ^ (4 * (x % 4)) % 16
-      go true b =
-          let z : x / 4 ≡ q / 4 = eqb-true (x / 4) (q / 4) b in
-          let apart : x % 4 ≡ q % 4 → ⊥ = λ y. n (omega arith) in
-          rw z
-          (ap (λ (w : ℕ). w / 2 ^ (4 * (x % 4)) % 16) (getD-set-same counters (q / 4) (word + 2 ^ (4 * (q % 4))) 0 (omega arith)) ∙
-          digit-other (q % 4) (x % 4) word (omega arith) (omega arith) apart h)
-      go false b = ap (λ (w : ℕ). w / 2 ^ (4 * (x % 4)) % 16) (getD-set-other counters (q / 4) (x / 4) (word + 2 ^ (4 * (q % 4))) 0 (eqb-false (x / 4) (q / 4) b))
-  held-other false x e l h n = getD-set-other counters q x (getD counters q 0 + 1) 0 n
+  held-other zero x e l h n = getD-set-other counters q x (getD counters q 0 + 1) 0 n
+  held-other (suc zero) x e l h n = other-2 x e n l h
+  held-other (suc (suc share)) x e l h n = other-4 x e n l h
 
-pub held-none : (packed : Bool) (q : ℕ) → heldAt packed (replicate 112640 0) q ≡ 0
+pub held-none : (share q : ℕ) → heldAt share (replicate 112640 0) q ≡ 0
 unfolding heldAt
-held-none true q = ap (λ (w : ℕ). w / 2 ^ (4 * (q % 4)) % 16) (zeros 112640 (q / 4)) ∙ zero-digit (2 ^ (4 * (q % 4)))
-held-none false q = zeros 112640 q
+held-none zero q = zeros 112640 q
+held-none (suc zero) q = ap (λ (w : ℕ). w / 2 ^ (8 * (q % 2)) % 256) (zeros 112640 (q / 2)) ∙ ap (λ (w : ℕ). w % 256) (zero-div (2 ^ (8 * (q % 2))))
+held-none (suc (suc share)) q = ap (λ (w : ℕ). w / 2 ^ (4 * (q % 4)) % 16) (zeros 112640 (q / 4)) ∙ ap (λ (w : ℕ). w % 16) (zero-div (2 ^ (4 * (q % 4))))
 
 -- ---- the pairs
 
-module _ (whole : Bool) (ws : List ℤ) (packed : Bool) (most : ℕ) where
-  counter-key : (j i : ℕ) → sameAt whole ws j i ≡ true → counterAt packed whole ws j ≡ counterAt packed whole ws i
-  counter-key j i e = ap (spot (placesOf packed)) (hash-key whole ws j i e)
+module _ (whole : Bool) (ws : List ℤ) (share most : ℕ) where
+  counter-key : (j i : ℕ) → sameAt whole ws j i ≡ true → counterAt share whole ws j ≡ counterAt share whole ws i
+  counter-key j i e = ap (spot (placesOf share)) (hash-key whole ws j i e)
 
-  module _ (i : ℕ) (counters : List ℕ) (b : Bounded whole ws packed most i counters) where
+  module _ (i : ℕ) (counters : List ℕ) (b : Bounded whole ws share most i counters) where
     abbrev q : ℕ
-    q = counterAt packed whole ws i
+    q = counterAt share whole ws i
 
     -- a full counter tells nothing
-    pub bounded-full : (heldAt packed counters q < most → ⊥) → Bounded whole ws packed most (i + 1) counters
+    pub bounded-full : (heldAt share counters q < most → ⊥) → Bounded whole ws share most (i + 1) counters
     bounded-full f = record { size = b .size; bound = λ j. go j (sameAt whole ws j i) refl }
       where
-        go : (j : ℕ) (s : Bool) → sameAt whole ws j i ≡ s → heldAt packed counters (counterAt packed whole ws j) < most →
-            counted whole ws j (i + 1) ≤ heldAt packed counters (counterAt packed whole ws j)
-        go j true e h = absurd (f (subst (λ (x : ℕ). heldAt packed counters x < most) (counter-key j i e) h))
+        go : (j : ℕ) (s : Bool) → sameAt whole ws j i ≡ s → heldAt share counters (counterAt share whole ws j) < most →
+            counted whole ws j (i + 1) ≤ heldAt share counters (counterAt share whole ws j)
+        go j true e h = absurd (f (subst (λ (x : ℕ). heldAt share counters x < most) (counter-key j i e) h))
         go j false e h = rw (add-one i) (omega (arith, counted-miss whole ws j i e, b .bound j h))
 
-    module _ (inside : q < placesOf packed) (room : heldAt packed counters q < roomOf packed) (less : heldAt packed counters q < most) where
+    module _ (inside : q < placesOf share) (room : heldAt share counters q < roomOf share) (less : heldAt share counters q < most) where
       abbrev after : List ℕ
-      after = raised packed counters q
+      after = raised share counters q
 
-      own : heldAt packed after q ≡ heldAt packed counters q + 1
-      own = held-own counters q packed (b .size) inside room
+      own : heldAt share after q ≡ heldAt share counters q + 1
+      own = held-own counters q share (b .size) inside room
 
-      other : (x : ℕ) → (x ≡ q → ⊥) → heldAt packed after x ≡ heldAt packed counters x
-      other x = held-other counters q packed x (b .size) inside room
+      other : (x : ℕ) → (x ≡ q → ⊥) → heldAt share after x ≡ heldAt share counters x
+      other x = held-other counters q share x (b .size) inside room
 
-      bound-at : (j : ℕ) (t : Bool) → eqb (counterAt packed whole ws j) q ≡ t → (s : Bool) → sameAt whole ws j i ≡ s →
-          heldAt packed after (counterAt packed whole ws j) < most → counted whole ws j (i + 1) ≤ heldAt packed after (counterAt packed whole ws j)
+      bound-at : (j : ℕ) (t : Bool) → eqb (counterAt share whole ws j) q ≡ t → (s : Bool) → sameAt whole ws j i ≡ s →
+          heldAt share after (counterAt share whole ws j) < most → counted whole ws j (i + 1) ≤ heldAt share after (counterAt share whole ws j)
       bound-at j true t true e h =
-          let z = eqb-true (counterAt packed whole ws j) q t in
-          let l = subst (λ (x : ℕ). heldAt packed counters x < most → counted whole ws j i ≤ heldAt packed counters x) z (b .bound j) less in
-          subst (λ (x : ℕ). counted whole ws j (i + 1) ≤ heldAt packed after x) (sym z) (rw (add-one i) (omega (arith, own, counted-hit whole ws j i e, l)))
+          let z = eqb-true (counterAt share whole ws j) q t in
+          let l = subst (λ (x : ℕ). heldAt share counters x < most → counted whole ws j i ≤ heldAt share counters x) z (b .bound j) less in
+          subst (λ (x : ℕ). counted whole ws j (i + 1) ≤ heldAt share after x) (sym z) (rw (add-one i) (omega (arith, own, counted-hit whole ws j i e, l)))
       bound-at j true t false e h =
-          let z = eqb-true (counterAt packed whole ws j) q t in
-          let l = subst (λ (x : ℕ). heldAt packed counters x < most → counted whole ws j i ≤ heldAt packed counters x) z (b .bound j) less in
-          subst (λ (x : ℕ). counted whole ws j (i + 1) ≤ heldAt packed after x) (sym z) (rw (add-one i) (omega (arith, own, counted-miss whole ws j i e, l)))
-      bound-at j false t true e h = absurd (eqb-false (counterAt packed whole ws j) q t (counter-key j i e))
+          let z = eqb-true (counterAt share whole ws j) q t in
+          let l = subst (λ (x : ℕ). heldAt share counters x < most → counted whole ws j i ≤ heldAt share counters x) z (b .bound j) less in
+          subst (λ (x : ℕ). counted whole ws j (i + 1) ≤ heldAt share after x) (sym z) (rw (add-one i) (omega (arith, own, counted-miss whole ws j i e, l)))
+      bound-at j false t true e h = absurd (eqb-false (counterAt share whole ws j) q t (counter-key j i e))
       bound-at j false t false e h =
-          let z = other (counterAt packed whole ws j) (eqb-false (counterAt packed whole ws j) q t) in
+          let z = other (counterAt share whole ws j) (eqb-false (counterAt share whole ws j) q t) in
           let l = b .bound j (subst (λ (x : ℕ). x < most) z h) in
           rw (add-one i) (omega (arith, z, counted-miss whole ws j i e, l))
 
-      pub bounded-next : Bounded whole ws packed most (i + 1) after
+      pub bounded-next : Bounded whole ws share most (i + 1) after
       bounded-next =
           record {
-            size = raised-length counters q packed ∙ b .size;
-            bound = λ j. bound-at j (eqb (counterAt packed whole ws j) q) refl (sameAt whole ws j i) refl;
+            size = raised-length counters q share ∙ b .size;
+            bound = λ j. bound-at j (eqb (counterAt share whole ws j) q) refl (sameAt whole ws j i) refl;
           }
 
       -- it is not full yet
-      pub below-next : heldAt packed counters q + 1 < most → ((x : ℕ) → heldAt packed counters x < most) → (x : ℕ) → heldAt packed after x < most
+      pub below-next : heldAt share counters q + 1 < most → ((x : ℕ) → heldAt share counters x < most) → (x : ℕ) → heldAt share after x < most
       below-next l low x = go (eqb x q) refl
         where
-          go : (t : Bool) → eqb x q ≡ t → heldAt packed after x < most
-          go true t = subst (λ (y : ℕ). heldAt packed after y < most) (sym (eqb-true x q t)) (omega (arith, own))
+          go : (t : Bool) → eqb x q ≡ t → heldAt share after x < most
+          go true t = subst (λ (y : ℕ). heldAt share after y < most) (sym (eqb-true x q t)) (omega (arith, own))
           go false t = omega (arith, other x (eqb-false x q t), low x)
 
-  pub bounded-start : Bounded whole ws packed most 0 (replicate 112640 0)
+  pub bounded-start : Bounded whole ws share most 0 (replicate 112640 0)
   bounded-start =
       record {
         size = length-replicate {A = ℕ} 112640 0;
@@ -234,6 +293,6 @@ module _ (whole : Bool) (ws : List ℤ) (packed : Bool) (most : ℕ) where
 
   -- what a counter that is not full says of a pair's rank
   pub bounded-rank :
-      (n limit : ℕ) (counters : List ℕ) → Bounded whole ws packed most n counters → most ≤ limit + 1 → (j : ℕ) → j < n →
-      heldAt packed counters (counterAt packed whole ws j) < most → rankAt whole j ws ≤ limit
+      (n limit : ℕ) (counters : List ℕ) → Bounded whole ws share most n counters → most ≤ limit + 1 → (j : ℕ) → j < n →
+      heldAt share counters (counterAt share whole ws j) < most → rankAt whole j ws ≤ limit
   bounded-rank n limit counters b m j l h = omega (arith, rank-rises whole j n ws l, b .bound j h)

@@ -1,7 +1,7 @@
 -- Counters of the pairs by hash: one that is not full bounds the number of pairs with each of its keys.
-use Prim.Native.Nat.{ℕ, _+_, _*_, _/_, _%_, _^_, _≤_, _<_}
+use Prim.Native.Nat.{ℕ, zero, suc, _+_, _*_, _/_, _%_, _^_, _≤_, _<_}
 use mathlib.Core.Path.{_≡_}
-use mathlib.Core.Bool.{Bool, true, false}
+use mathlib.Core.Bool.{Bool, true}
 use mathlib.Core.List.{List}
 use mathlib.Core.Logic.{_⊎_}
 use lib.IntN.{ℤ}
@@ -11,43 +11,47 @@ use Rattle.members.specs.Keys.{alike}
 use Rattle.members.specs.Hashes.{spotAt}
 use Rattle.members.specs.Filter.{suspected}
 
--- Packed, four counters share a word of 16 bits.
-unfoldable pub placesOf : Bool → ℕ
-placesOf true = 450560
-placesOf false = 112640
+-- One, two or four counters share a word of 16 bits, at a share of 0, 1 or 2.
+unfoldable pub placesOf : ℕ → ℕ
+placesOf zero = 112640
+placesOf (suc zero) = 225280
+placesOf (suc (suc share)) = 450560
 
 -- what a counter can hold
-unfoldable pub roomOf : Bool → ℕ
-roomOf true = 15
-roomOf false = 65535
+unfoldable pub roomOf : ℕ → ℕ
+roomOf zero = 65535
+roomOf (suc zero) = 255
+roomOf (suc (suc share)) = 15
 
-unfoldable pub heldAt : Bool → List ℕ → ℕ → ℕ
-heldAt true counters q = getD counters (q / 4) 0 / 2 ^ (4 * (q % 4)) % 16
-heldAt false counters q = getD counters q 0
+unfoldable pub heldAt : ℕ → List ℕ → ℕ → ℕ
+heldAt zero counters q = getD counters q 0
+heldAt (suc zero) counters q = getD counters (q / 2) 0 / 2 ^ (8 * (q % 2)) % 256
+heldAt (suc (suc share)) counters q = getD counters (q / 4) 0 / 2 ^ (4 * (q % 4)) % 16
 
 -- one more in a counter
-unfoldable pub raised : Bool → List ℕ → ℕ → List ℕ
-raised true counters q = set counters (q / 4) (getD counters (q / 4) 0 + 2 ^ (4 * (q % 4)))
-raised false counters q = set counters q (getD counters q 0 + 1)
+unfoldable pub raised : ℕ → List ℕ → ℕ → List ℕ
+raised zero counters q = set counters q (getD counters q 0 + 1)
+raised (suc zero) counters q = set counters (q / 2) (getD counters (q / 2) 0 + 2 ^ (8 * (q % 2)))
+raised (suc (suc share)) counters q = set counters (q / 4) (getD counters (q / 4) 0 + 2 ^ (4 * (q % 4)))
 
-abbrev pub counterAt : Bool → Bool → List ℤ → ℕ → ℕ
-counterAt packed whole ws j = spotAt (placesOf packed) whole ws j
+abbrev pub counterAt : ℕ → Bool → List ℤ → ℕ → ℕ
+counterAt share whole ws j = spotAt (placesOf share) whole ws j
 
 -- after i pairs
-pub record Bounded (whole : Bool) (ws : List ℤ) (packed : Bool) (most i : ℕ) (counters : List ℕ) : Type 0 where
+pub record Bounded (whole : Bool) (ws : List ℤ) (share most i : ℕ) (counters : List ℕ) : Type 0 where
   pub size : length counters ≡ 112640
   pub bound :
-      (j : ℕ) → heldAt packed counters (counterAt packed whole ws j) < most →
-      alike whole (groupAt j ws) (memberAt j ws) i ws ≤ heldAt packed counters (counterAt packed whole ws j)
+      (j : ℕ) → heldAt share counters (counterAt share whole ws j) < most →
+      alike whole (groupAt j ws) (memberAt j ws) i ws ≤ heldAt share counters (counterAt share whole ws j)
 
 -- ---- the marks
 
 -- the counter of the pair at j is not full, or the pair is suspected
-abbrev pub Told : Bool → List ℤ → Bool → ℕ → List ℕ → List ℕ → ℕ → Type 0
-Told whole ws packed most counters marks j = (heldAt packed counters (counterAt packed whole ws j) < most) ⊎ (suspected whole ws marks j ≡ true)
+abbrev pub Told : Bool → List ℤ → ℕ → ℕ → List ℕ → List ℕ → ℕ → Type 0
+Told whole ws share most counters marks j = (heldAt share counters (counterAt share whole ws j) < most) ⊎ (suspected whole ws marks j ≡ true)
 
 -- the pair at i is told of, and no suspicion is lost
-pub record Marked (whole : Bool) (ws : List ℤ) (packed : Bool) (most : ℕ) (counters : List ℕ) (i : ℕ) (marks after : List ℕ) : Type 0 where
+pub record Marked (whole : Bool) (ws : List ℤ) (share most : ℕ) (counters : List ℕ) (i : ℕ) (marks after : List ℕ) : Type 0 where
   pub size : length after ≡ 4096
-  pub told : Told whole ws packed most counters after i
+  pub told : Told whole ws share most counters after i
   pub older : (j : ℕ) → suspected whole ws marks j ≡ true → suspected whole ws after j ≡ true

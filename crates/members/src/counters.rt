@@ -23,37 +23,60 @@ fn most_of(limit: u32) -> u16
     65535
 }
 
-fn places(packed: bool) -> u64
-    ensures { λ r. ⌜ r ≡ placesOf packed ⌝ }
+// How many counters share a word, as a power of 2: the lower the limit, the more counters there are.
+fn share_of(limit: u32) -> u32
+    ensures { λ r. ⌜ min (limit + 1) 65535 ≤ roomOf r ⌝ }
 {
-    if packed {
-        return 450560;
+    if limit < 15 {
+        return 2;
     }
-    112640
+    if limit < 255 {
+        return 1;
+    }
+    0
 }
 
-fn held_at(counters: &[u16], packed: bool, q: usize) -> u16
-    requires { ⌜ length (now counters) ≡ 112640 ⌝ }
-    requires { ⌜ q < placesOf packed ⌝ }
-    ensures { λ r. ⌜ r ≡ heldAt packed (now (counters .entry)) q ⌝ }
+fn places(share: u32) -> u64
+    ensures { λ r. ⌜ r ≡ placesOf share ⌝ }
 {
-    if packed {
-        return (counters[q / 4] >> (4 * (q % 4))) % 16;
+    if share == 0 {
+        return 112640;
     }
-    counters[q]
+    if share == 1 {
+        return 225280;
+    }
+    450560
 }
 
-fn raise(counters: &mut [u16], packed: bool, q: usize)
+fn held_at(counters: &[u16], share: u32, q: usize) -> u16
     requires { ⌜ length (now counters) ≡ 112640 ⌝ }
-    requires { ⌜ q < placesOf packed ⌝ }
-    requires { ⌜ heldAt packed (now counters) q < roomOf packed ⌝ }
-    ensures { λ _. ⌜ now (counters .exit) ≡ raised packed (now (counters .entry)) q ⌝ }
+    requires { ⌜ q < placesOf share ⌝ }
+    ensures { λ r. ⌜ r ≡ heldAt share (now (counters .entry)) q ⌝ }
 {
-    if packed {
-        counters[q / 4] = counters[q / 4] + (1u16 << (4 * (q % 4)));
+    if share == 0 {
+        return counters[q];
+    }
+    if share == 1 {
+        return (counters[q / 2] >> (8 * (q % 2))) % 256;
+    }
+    (counters[q / 4] >> (4 * (q % 4))) % 16
+}
+
+fn raise(counters: &mut [u16], share: u32, q: usize)
+    requires { ⌜ length (now counters) ≡ 112640 ⌝ }
+    requires { ⌜ q < placesOf share ⌝ }
+    requires { ⌜ heldAt share (now counters) q < roomOf share ⌝ }
+    ensures { λ _. ⌜ now (counters .exit) ≡ raised share (now (counters .entry)) q ⌝ }
+{
+    if share == 0 {
+        counters[q] = counters[q] + 1;
         return;
     }
-    counters[q] = counters[q] + 1;
+    if share == 1 {
+        counters[q / 2] = counters[q / 2] + (1u16 << (8 * (q % 2)));
+        return;
+    }
+    counters[q / 4] = counters[q / 4] + (1u16 << (4 * (q % 4)));
 }
 
 // The pair at `i` is counted: 1 where its counter is full now, else 0.
@@ -61,23 +84,23 @@ fn count_one(
     table: &[i32],
     whole: bool,
     i: usize,
-    packed: bool,
+    share: u32,
     most: u16,
     counters: &mut [u16],
 ) -> u64
     requires { ⌜ 2 * i + 1 < length (now table) ⌝ }
-    requires { ⌜ most ≤ roomOf packed ⌝ }
-    requires { ⌜ Bounded whole (now table) packed most i (now counters) ⌝ }
-    ensures { λ _. ⌜ Bounded whole (now (table .entry)) packed most (i + 1) (now (counters .exit)) ⌝ }
-    ensures { λ r. ⌜ (r ≡ 0 → ((q : ℕ) → heldAt packed (now (counters .entry)) q < most) → (q : ℕ) → heldAt packed (now (counters .exit)) q < most) ⌝ }
+    requires { ⌜ most ≤ roomOf share ⌝ }
+    requires { ⌜ Bounded whole (now table) share most i (now counters) ⌝ }
+    ensures { λ _. ⌜ Bounded whole (now (table .entry)) share most (i + 1) (now (counters .exit)) ⌝ }
+    ensures { λ r. ⌜ (r ≡ 0 → ((q : ℕ) → heldAt share (now (counters .entry)) q < most) → (q : ℕ) → heldAt share (now (counters .exit)) q < most) ⌝ }
     ensures { λ r. ⌜ r ≤ 1 ⌝ }
 {
-    let q = spot_of(places(packed), hash(table, whole, i));
-    let held = held_at(counters, packed, q);
+    let q = spot_of(places(share), hash(table, whole, i));
+    let held = held_at(counters, share, q);
     if most <= held {
         return 1;
     }
-    raise(counters, packed, q);
+    raise(counters, share, q);
     if held + 1 == most {
         return 1;
     }
@@ -89,21 +112,21 @@ fn count_all(
     table: &[i32],
     count: usize,
     whole: bool,
-    packed: bool,
+    share: u32,
     most: u16,
     counters: &mut [u16],
 ) -> u64
     requires { ⌜ 2 * count ≤ length (now table) ⌝ }
-    requires { ⌜ most ≤ roomOf packed ⌝ }
-    requires { ⌜ Bounded whole (now table) packed most 0 (now counters) ⌝ }
-    requires { ⌜ ((q : ℕ) → heldAt packed (now counters) q < most) ⌝ }
-    ensures { λ _. ⌜ Bounded whole (now (table .entry)) packed most count (now (counters .exit)) ⌝ }
-    ensures { λ r. ⌜ (r ≡ 0 → (q : ℕ) → heldAt packed (now (counters .exit)) q < most) ⌝ }
+    requires { ⌜ most ≤ roomOf share ⌝ }
+    requires { ⌜ Bounded whole (now table) share most 0 (now counters) ⌝ }
+    requires { ⌜ ((q : ℕ) → heldAt share (now counters) q < most) ⌝ }
+    ensures { λ _. ⌜ Bounded whole (now (table .entry)) share most count (now (counters .exit)) ⌝ }
+    ensures { λ r. ⌜ (r ≡ 0 → (q : ℕ) → heldAt share (now (counters .exit)) q < most) ⌝ }
 {
     let mut full: u64 = 0;
     let mut i = 0;
     while i < count {
-        full += count_one(table, whole, i, packed, most, counters);
+        full += count_one(table, whole, i, share, most, counters);
         i += 1;
     }
     full
@@ -114,7 +137,7 @@ fn mark_one(
     table: &[i32],
     whole: bool,
     i: usize,
-    packed: bool,
+    share: u32,
     most: u16,
     counters: &[u16],
     marks: &mut [u64],
@@ -122,11 +145,11 @@ fn mark_one(
     requires { ⌜ 2 * i + 1 < length (now table) ⌝ }
     requires { ⌜ length (now counters) ≡ 112640 ⌝ }
     requires { ⌜ length (now marks) ≡ 4096 ⌝ }
-    ensures { λ _. ⌜ Marked whole (now (table .entry)) packed most (now (counters .entry)) i (now (marks .entry)) (now (marks .exit)) ⌝ }
+    ensures { λ _. ⌜ Marked whole (now (table .entry)) share most (now (counters .entry)) i (now (marks .entry)) (now (marks .exit)) ⌝ }
     ensures { λ r. ⌜ r ≤ 1 ⌝ }
 {
     let h = hash(table, whole, i);
-    if held_at(counters, packed, spot_of(places(packed), h)) < most {
+    if held_at(counters, share, spot_of(places(share), h)) < most {
         return 0;
     }
     if is_suspected(table, whole, i, h, marks) {
@@ -141,7 +164,7 @@ fn mark_all(
     table: &[i32],
     count: usize,
     whole: bool,
-    packed: bool,
+    share: u32,
     most: u16,
     counters: &[u16],
     marks: &mut [u64],
@@ -149,13 +172,13 @@ fn mark_all(
     requires { ⌜ 2 * count ≤ length (now table) ⌝ }
     requires { ⌜ length (now counters) ≡ 112640 ⌝ }
     requires { ⌜ length (now marks) ≡ 4096 ⌝ }
-    ensures { λ _. ⌜ ((j : ℕ) → j < count → Told whole (now (table .entry)) packed most (now (counters .entry)) (now (marks .exit)) j) ⌝ }
+    ensures { λ _. ⌜ ((j : ℕ) → j < count → Told whole (now (table .entry)) share most (now (counters .entry)) (now (marks .exit)) j) ⌝ }
     ensures { λ r. ⌜ r ≤ count ⌝ }
 {
     let mut new: u64 = 0;
     let mut i = 0;
     while i < count {
-        new += mark_one(table, whole, i, packed, most, counters, marks);
+        new += mark_one(table, whole, i, share, most, counters, marks);
         i += 1;
     }
     new
@@ -171,13 +194,13 @@ pub fn suspects(table: &[i32], count: usize, whole: bool, limit: u32, marks: &mu
     ensures { λ r. ⌜ ((j : ℕ) → j < count → Cleared whole (now (table .entry)) limit (now (marks .exit)) j) ⌝ }
     ensures { λ r. ⌜ r < 281474976710656 ⌝ }
 {
-    let packed = limit < 15;
+    let share = share_of(limit);
     let most = most_of(limit);
     let mut counters = [0u16; 112640];
-    if count_all(table, count, whole, packed, most, &mut counters) == 0 {
+    if count_all(table, count, whole, share, most, &mut counters) == 0 {
         return 0;
     }
-    let new = mark_all(table, count, whole, packed, most, &counters, marks);
+    let new = mark_all(table, count, whole, share, most, &counters, marks);
     if 98304 < new {
         return (count / 16384) as u64 + 1;
     }

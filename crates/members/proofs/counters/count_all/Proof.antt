@@ -7,11 +7,11 @@ use Rattle.members.proofs.counters.count_all.Statement.{statement}
 use Rattle.members.proofs.counters.count_all.Tie as tie
 
 abbrev Inv-loop : tie.InvT-loop
-Inv-loop table count whole packed most counters₀ full₀ i₀ counters full i =
-    (i ≤ count) × (full ≤ i) × Bounded whole table packed most i counters × (full ≡ 0 → (q : ℕ) → heldAt packed counters q < most)
+Inv-loop table count whole share most counters₀ full₀ i₀ counters full i =
+    (i ≤ count) × (full ≤ i) × Bounded whole table share most i counters × (full ≡ 0 → (q : ℕ) → heldAt share counters q < most)
 
 abbrev μ-loop : tie.MeasureT-loop
-μ-loop table count whole packed most counters₀ full₀ i₀ counters full i = count - i
+μ-loop table count whole share most counters₀ full₀ i₀ counters full i = count - i
 
 loop-holds : tie.Need-loop-holds Inv-loop μ-loop
 loop-holds c = let s = c .before in (omega arith, omega arith, s .pre .1 .1 .0, λ e. s .pre .1 .1 .1)
@@ -47,7 +47,7 @@ returns c =
     let l = c .before in
     let s = l .before .before in
     let e : l .loop .i ≡ s .args .count = omega arith in
-    (subst (λ (n : ℕ). Bounded (s .args .whole) (s .args .table .now) (s .args .packed) (s .args .most) n (l .loop .counters)) e (l .loop .inv .2), l .loop .inv .3)
+    (subst (λ (n : ℕ). Bounded (s .args .whole) (s .args .table .now) (s .args .share) (s .args .most) n (l .loop .counters)) e (l .loop .inv .2), l .loop .inv .3)
 
 pub count-all-spec : {M : Type 1} → statement M
 count-all-spec =

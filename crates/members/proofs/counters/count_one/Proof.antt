@@ -14,12 +14,12 @@ abbrev startOf : tie.After-spot-of → tie.Start
 startOf c = c .before .before .before .before
 
 abbrev counterOf : tie.Start → ℕ
-counterOf s = counterAt (s .args .packed) (s .args .whole) (s .args .table .now) (s .args .i)
+counterOf s = counterAt (s .args .share) (s .args .whole) (s .args .table .now) (s .args .i)
 
 counter-is : (c : tie.After-spot-of) → c .spot-of .result ≡ counterOf (startOf c)
 counter-is c = c .spot-of .ensures .0 ∙ ap₂ spot (c .before .before .places .ensures) (c .before .hash .ensures)
 
-inside : (c : tie.After-spot-of) → c .spot-of .result < placesOf (startOf c .args .packed)
+inside : (c : tie.After-spot-of) → c .spot-of .result < placesOf (startOf c .args .share)
 inside c = subst (λ (n : ℕ). c .spot-of .result < n) (c .before .before .places .ensures) (c .spot-of .ensures .1)
 
 abbrev spotOf : tie.After-held-at → tie.After-spot-of
@@ -29,11 +29,11 @@ abbrev begin : tie.After-held-at → tie.Start
 begin c = startOf (spotOf c)
 
 -- what the pair's counter holds
-held-is : (c : tie.After-held-at) → c .held-at .result ≡ heldAt (begin c .args .packed) (begin c .args .counters .now) (counterOf (begin c))
-held-is c = c .held-at .ensures ∙ ap (heldAt (begin c .args .packed) (begin c .args .counters .now)) (counter-is (spotOf c))
+held-is : (c : tie.After-held-at) → c .held-at .result ≡ heldAt (begin c .args .share) (begin c .args .counters .now) (counterOf (begin c))
+held-is c = c .held-at .ensures ∙ ap (heldAt (begin c .args .share) (begin c .args .counters .now)) (counter-is (spotOf c))
 
 abbrev Next : tie.Start → List ℕ → Type 0
-Next s = Bounded (s .args .whole) (s .args .table .now) (s .args .packed) (s .args .most) (s .args .i + 1)
+Next s = Bounded (s .args .whole) (s .args .table .now) (s .args .share) (s .args .most) (s .args .i + 1)
 
 places-requires : tie.Need-places-requires
 places-requires c κs = search needs
@@ -44,7 +44,7 @@ hash-requires c κs = search needs
 spot-of-requires : tie.Need-spot-of-requires
 spot-of-requires c κs =
     let p = c .before in
-    subst (λ (n : ℕ). (n ≤ 4294967296) × (0 < n)) (sym (p .places .ensures)) (places-range (p .before .before .args .packed))
+    subst (λ (n : ℕ). (n ≤ 4294967296) × (0 < n)) (sym (p .places .ensures)) (places-range (p .before .before .args .share))
 
 held-at-requires : tie.Need-held-at-requires
 held-at-requires c κs =
@@ -58,7 +58,7 @@ returns : tie.Need-returns
 returns c =
     let k = c .before in
     let s = begin k in (
-      bounded-full (s .args .whole) (s .args .table .now) (s .args .packed) (s .args .most) (s .args .i) (s .args .counters .now) (s .pre .1 .1)
+      bounded-full (s .args .whole) (s .args .table .now) (s .args .share) (s .args .most) (s .args .i) (s .args .counters .now) (s .pre .1 .1)
           (λ l. omega (arith, held-is k, c .if1 .taken)),
       (λ e. absurd (omega arith), omega arith),
     )
@@ -66,23 +66,23 @@ returns c =
 abbrev heldOf : tie.After-raise → tie.After-held-at
 heldOf c = c .before .before .before
 
-less : (c : tie.After-raise) → let s = begin (heldOf c) in heldAt (s .args .packed) (s .args .counters .now) (counterOf s) < s .args .most
+less : (c : tie.After-raise) → let s = begin (heldOf c) in heldAt (s .args .share) (s .args .counters .now) (counterOf s) < s .args .most
 less c = omega (arith, held-is (heldOf c), c .before .before .if1 .left)
 
-room : (c : tie.After-raise) → let s = begin (heldOf c) in heldAt (s .args .packed) (s .args .counters .now) (counterOf s) < roomOf (s .args .packed)
+room : (c : tie.After-raise) → let s = begin (heldOf c) in heldAt (s .args .share) (s .args .counters .now) (counterOf s) < roomOf (s .args .share)
 room c = omega (arith, less c, begin (heldOf c) .pre .1 .0)
 
-fits : (c : tie.After-raise) → counterOf (begin (heldOf c)) < placesOf (begin (heldOf c) .args .packed)
-fits c = subst (λ (q : ℕ). q < placesOf (begin (heldOf c) .args .packed)) (counter-is (spotOf (heldOf c))) (inside (spotOf (heldOf c)))
+fits : (c : tie.After-raise) → counterOf (begin (heldOf c)) < placesOf (begin (heldOf c) .args .share)
+fits c = subst (λ (q : ℕ). q < placesOf (begin (heldOf c) .args .share)) (counter-is (spotOf (heldOf c))) (inside (spotOf (heldOf c)))
 
-raised-is : (c : tie.After-raise) → let s = begin (heldOf c) in c .raise .last .0 ≡ raised (s .args .packed) (s .args .counters .now) (counterOf s)
-raised-is c = let s = begin (heldOf c) in c .raise .ensures ∙ ap (raised (s .args .packed) (s .args .counters .now)) (counter-is (spotOf (heldOf c)))
+raised-is : (c : tie.After-raise) → let s = begin (heldOf c) in c .raise .last .0 ≡ raised (s .args .share) (s .args .counters .now) (counterOf s)
+raised-is c = let s = begin (heldOf c) in c .raise .ensures ∙ ap (raised (s .args .share) (s .args .counters .now)) (counter-is (spotOf (heldOf c)))
 
 next : (c : tie.After-raise) → Next (begin (heldOf c)) (c .raise .last .0)
 next c =
     let s = begin (heldOf c) in
     subst (Next s) (sym (raised-is c))
-    (bounded-next (s .args .whole) (s .args .table .now) (s .args .packed) (s .args .most) (s .args .i) (s .args .counters .now) (s .pre .1 .1) (fits c) (room c) (less c))
+    (bounded-next (s .args .whole) (s .args .table .now) (s .args .share) (s .args .most) (s .args .i) (s .args .counters .now) (s .pre .1 .1) (fits c) (room c) (less c))
 
 raise-requires : tie.Need-raise-requires
 raise-requires c κs =
@@ -112,8 +112,8 @@ returns-3 c =
     let s = begin h in (
       next k,
       (
-        λ e low. subst (λ (l : List ℕ). (q : ℕ) → heldAt (s .args .packed) l q < s .args .most) (sym (raised-is k))
-            (below-next (s .args .whole) (s .args .table .now) (s .args .packed) (s .args .most) (s .args .i) (s .args .counters .now) (s .pre .1 .1) (fits k) (room k) (less k)
+        λ e low. subst (λ (l : List ℕ). (q : ℕ) → heldAt (s .args .share) l q < s .args .most) (sym (raised-is k))
+            (below-next (s .args .whole) (s .args .table .now) (s .args .share) (s .args .most) (s .args .i) (s .args .counters .now) (s .pre .1 .1) (fits k) (room k) (less k)
             (omega (arith, less k, held-is h, c .if2 .left)) low),
         omega arith,
       ),

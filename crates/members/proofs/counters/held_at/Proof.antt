@@ -2,19 +2,29 @@
 use mathlib.Core.Path.{refl}
 use native.Mathlib.Omega.{arith}
 use Rattle.members.specs.Counters.{heldAt}
-use Rattle.members.proofs.Counting.{packed-fits, open-fits}
+use Rattle.members.proofs.Counting.{places-0, places-1, places-2, held-2}
 use borrow.Author.Needs.{needs}
 use Rattle.members.proofs.counters.held_at.Statement.{statement}
 use Rattle.members.proofs.counters.held_at.Tie as tie
 
 mul-result : tie.Need-mul-result
-mul-result c = search needs
+mul-result c = let s = c .before in omega (arith, places-0 (s .args .share) (c .if1 .taken), s .pre .1)
 
 shared-slice-read-result : tie.Need-shared-slice-read-result
-shared-slice-read-result c = let s = c .before .before in omega (arith, packed-fits (s .args .packed) (s .args .q) (c .before .if1 .taken) (s .pre .1), s .pre .0)
+shared-slice-read-result c = let s = c .before .before in omega (arith, places-0 (s .args .share) (c .before .if1 .taken), s .pre .0, s .pre .1)
+
+returns : tie.Need-returns
+unfolding heldAt
+returns c = rw (c .before .if1 .taken) refl
 
 mul-result-2 : tie.Need-mul-result-2
 mul-result-2 c = search needs
+
+shared-slice-read-result-2 : tie.Need-shared-slice-read-result-2
+shared-slice-read-result-2 c = let s = c .before .before .before in omega (arith, places-1 (s .args .share) (c .before .if2 .taken), s .pre .0, s .pre .1)
+
+mul-result-3 : tie.Need-mul-result-3
+mul-result-3 c = search needs
 
 cast-result : tie.Need-cast-result
 cast-result c = search needs
@@ -22,19 +32,27 @@ cast-result c = search needs
 shr-result : tie.Need-shr-result
 shr-result c = search needs
 
-returns : tie.Need-returns
-unfolding heldAt
-returns c = rw (c .before .if1 .taken) refl
-
-mul-result-3 : tie.Need-mul-result-3
-mul-result-3 c = let s = c .before in omega (arith, open-fits (s .args .packed) (s .args .q) (c .if1 .left) (s .pre .1))
-
-shared-slice-read-result-2 : tie.Need-shared-slice-read-result-2
-shared-slice-read-result-2 c = let s = c .before .before in omega (arith, open-fits (s .args .packed) (s .args .q) (c .before .if1 .left) (s .pre .1), s .pre .0)
-
 returns-2 : tie.Need-returns-2
 unfolding heldAt
-returns-2 c = rw (c .before .if1 .left) refl
+returns-2 c = rw (c .before .if2 .taken) refl
+
+mul-result-4 : tie.Need-mul-result-4
+mul-result-4 c = search needs
+
+shared-slice-read-result-3 : tie.Need-shared-slice-read-result-3
+shared-slice-read-result-3 c = let d = c .before in let s = d .before .before in omega (arith, places-2 (s .args .share) (d .before .if1 .left, d .if2 .left), s .pre .0, s .pre .1)
+
+mul-result-5 : tie.Need-mul-result-5
+mul-result-5 c = search needs
+
+cast-result-2 : tie.Need-cast-result-2
+cast-result-2 c = search needs
+
+shr-result-2 : tie.Need-shr-result-2
+shr-result-2 c = search needs
+
+returns-3 : tie.Need-returns-3
+returns-3 c = let d = c .before in let s = d .before .before in held-2 (s .args .share) (s .args .counters .now) (s .args .q) (d .before .if1 .left, d .if2 .left)
 
 pub held-at-spec : {M : Type 1} → statement M
 held-at-spec =
@@ -42,10 +60,16 @@ held-at-spec =
     (tie.spec
     mul-result
     shared-slice-read-result
+    returns
     mul-result-2
+    shared-slice-read-result-2
+    mul-result-3
     cast-result
     shr-result
-    returns
-    mul-result-3
-    shared-slice-read-result-2
-    returns-2)
+    returns-2
+    mul-result-4
+    shared-slice-read-result-3
+    mul-result-5
+    cast-result-2
+    shr-result-2
+    returns-3)

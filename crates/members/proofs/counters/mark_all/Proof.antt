@@ -10,11 +10,11 @@ use Rattle.members.proofs.counters.mark_all.Statement.{statement}
 use Rattle.members.proofs.counters.mark_all.Tie as tie
 
 abbrev Inv-loop : tie.InvT-loop
-Inv-loop table count whole packed most counters marks₀ new₀ i₀ marks new i =
-    (i ≤ count) × (new ≤ i) × (length marks ≡ 4096) × ((j : ℕ) → j < i → Told whole table packed most counters marks j)
+Inv-loop table count whole share most counters marks₀ new₀ i₀ marks new i =
+    (i ≤ count) × (new ≤ i) × (length marks ≡ 4096) × ((j : ℕ) → j < i → Told whole table share most counters marks j)
 
 abbrev μ-loop : tie.MeasureT-loop
-μ-loop table count whole packed most counters marks₀ new₀ i₀ marks new i = count - i
+μ-loop table count whole share most counters marks₀ new₀ i₀ marks new i = count - i
 
 loop-holds : tie.Need-loop-holds Inv-loop μ-loop
 loop-holds c = (omega arith, omega arith, c .before .before .pre .1 .1, λ j l. absurd (omega arith))
@@ -45,7 +45,7 @@ loop-again c =
       omega (arith, k .mark-one .ensures .1, l .loop .inv .1),
       m .size,
       λ j h. below-next j (l .loop .i) (λ o. ⊎-elim inl (λ t. inr (m .older j t)) (l .loop .inv .3 j o))
-          (λ z. subst (Told (s .args .whole) (s .args .table .now) (s .args .packed) (s .args .most) (s .args .counters .now) (k .mark-one .last .1 .1 .1 .1 .1 .1 .0)) (sym z) (m .told)) h,
+          (λ z. subst (Told (s .args .whole) (s .args .table .now) (s .args .share) (s .args .most) (s .args .counters .now) (k .mark-one .last .1 .1 .1 .1 .1 .1 .0)) (sym z) (m .told)) h,
     )
 
 same-length : tie.Need-same-length Inv-loop μ-loop

@@ -25,14 +25,14 @@ begin c = startOf (hashOf c)
 -- what the pair's counter holds
 held-is :
     (c : tie.After-held-at) → let s = begin c in
-    c .held-at .result ≡ heldAt (s .args .packed) (s .args .counters .now) (counterAt (s .args .packed) (s .args .whole) (s .args .table .now) (s .args .i))
+    c .held-at .result ≡ heldAt (s .args .share) (s .args .counters .now) (counterAt (s .args .share) (s .args .whole) (s .args .table .now) (s .args .i))
 held-is c =
     let s = begin c in
     let k = c .before in
-    c .held-at .ensures ∙ ap (heldAt (s .args .packed) (s .args .counters .now)) (k .spot-of .ensures .0 ∙ ap₂ spot (k .before .places .ensures) (hashOf c .hash .ensures))
+    c .held-at .ensures ∙ ap (heldAt (s .args .share) (s .args .counters .now)) (k .spot-of .ensures .0 ∙ ap₂ spot (k .before .places .ensures) (hashOf c .hash .ensures))
 
 abbrev Gives : tie.Start → List ℕ → Type 0
-Gives s = Marked (s .args .whole) (s .args .table .now) (s .args .packed) (s .args .most) (s .args .counters .now) (s .args .i) (s .args .marks .now)
+Gives s = Marked (s .args .whole) (s .args .table .now) (s .args .share) (s .args .most) (s .args .counters .now) (s .args .i) (s .args .marks .now)
 
 hash-requires : tie.Need-hash-requires
 hash-requires c κs = search needs
@@ -41,7 +41,7 @@ places-requires : tie.Need-places-requires
 places-requires c κs = search needs
 
 spot-of-requires : tie.Need-spot-of-requires
-spot-of-requires c κs = subst (λ (n : ℕ). (n ≤ 4294967296) × (0 < n)) (sym (c .places .ensures)) (places-range (startOf (c .before) .args .packed))
+spot-of-requires c κs = subst (λ (n : ℕ). (n ≤ 4294967296) × (0 < n)) (sym (c .places .ensures)) (places-range (startOf (c .before) .args .share))
 
 held-at-requires : tie.Need-held-at-requires
 held-at-requires c κs =

@@ -2,27 +2,32 @@
 use Prim.Native.Nat.{ℕ, _≤_, _<_}
 use mathlib.Core.Logic.{inl, inr, ⊎-elim}
 use native.Mathlib.Omega.{arith}
-use lib.Dec.{ltb}
 use Rattle.members.specs.Keys.{rankAt}
 use Rattle.members.specs.Counters.{heldAt, counterAt}
-use Rattle.members.proofs.Counting.{most-fits, held-none, bounded-start, bounded-rank}
+use Rattle.members.proofs.Counting.{held-none, bounded-start, bounded-rank}
 use borrow.Author.Needs.{needs}
 use Rattle.members.proofs.counters.suspects.Statement.{statement}
 use Rattle.members.proofs.counters.suspects.Tie as tie
 
+abbrev shareOf : tie.After-count-all → ℕ
+shareOf c = c .before .before .before .share-of .result
+
 abbrev startOf : tie.After-count-all → tie.Start
-startOf c = c .before .before .before .before
+startOf c = c .before .before .before .before .before
 
 -- what a counter that is not full says
 ranked :
     (c : tie.After-count-all) (j : ℕ) → let s = startOf c in j < s .args .count →
-    heldAt (ltb (s .args .limit) 15) (c .count-all .last .1 .1 .1 .1 .1 .0) (counterAt (ltb (s .args .limit) 15) (s .args .whole) (s .args .table .now) j) < c .before .before .most-of .result →
+    heldAt (shareOf c) (c .count-all .last .1 .1 .1 .1 .1 .0) (counterAt (shareOf c) (s .args .whole) (s .args .table .now) j) < c .before .before .most-of .result →
     rankAt (s .args .whole) j (s .args .table .now) ≤ s .args .limit
 ranked c j l h =
     let s = startOf c in
     let m = c .before .before in
-    bounded-rank (s .args .whole) (s .args .table .now) (ltb (s .args .limit) 15) (m .most-of .result) (s .args .count) (s .args .limit) (c .count-all .last .1 .1 .1 .1 .1 .0)
+    bounded-rank (s .args .whole) (s .args .table .now) (shareOf c) (m .most-of .result) (s .args .count) (s .args .limit) (c .count-all .last .1 .1 .1 .1 .1 .0)
     (c .count-all .ensures .0) (omega (arith, m .most-of .ensures)) j l h
+
+share-of-requires : tie.Need-share-of-requires
+share-of-requires c κs = search needs
 
 most-of-requires : tie.Need-most-of-requires
 most-of-requires c κs = search needs
@@ -33,14 +38,14 @@ slice-aggregate-count-all c = search needs
 count-all-requires : tie.Need-count-all-requires
 count-all-requires c κs =
     let m = c .before in
-    let s = m .before .before in
-    let packed = ltb (s .args .limit) 15 in (
+    let h = m .before in
+    let s = h .before .before in (
       s .pre .0,
       (
-        omega (arith, m .most-of .ensures, most-fits (s .args .limit)),
+        omega (arith, m .most-of .ensures, h .share-of .ensures),
         (
-          bounded-start (s .args .whole) (s .args .table .now) packed (m .most-of .result),
-          λ q. omega (arith, held-none packed q, m .most-of .ensures),
+          bounded-start (s .args .whole) (s .args .table .now) (h .share-of .result) (m .most-of .result),
+          λ q. omega (arith, held-none (h .share-of .result) q, m .most-of .ensures),
         ),
       ),
     )
@@ -94,6 +99,7 @@ pub suspects-spec : {M : Type 1} → statement M
 suspects-spec =
     tie.close
     (tie.spec
+    share-of-requires
     most-of-requires
     slice-aggregate-count-all
     count-all-requires
