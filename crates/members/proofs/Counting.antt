@@ -11,11 +11,12 @@ use lib.Dec.{eqb, ltb}
 use lib.IntN.{ℤ}
 use lib.ListN.{length, getD, set, replicate, length-set, length-replicate}
 use lib.Seq.{getD-set-same, getD-set-other}
+use Rattle.laws.specs.Tests.{never}
 use Rattle.members.specs.Places.{groupAt, memberAt}
 use Rattle.members.specs.Keys.{sameAt, rankAt}
 use Rattle.members.specs.Hashes.{spot}
 use Rattle.members.specs.Counters.{placesOf, roomOf, heldAt, raised, counterAt, Bounded}
-use Rattle.members.proofs.Keys.{clash, alike-none, rank-rises}
+use Rattle.members.proofs.Keys.{alike-none, rank-rises}
 use Rattle.members.proofs.Ranks.{counted, counted-hit, counted-miss}
 use Rattle.members.proofs.Hashing.{hash-key}
 use Rattle.members.proofs.Passes.{zeros}
@@ -91,12 +92,12 @@ most-fits limit = go (ltb limit 15) refl
 pub packed-fits : (packed : Bool) (q : ℕ) → packed ≡ true → q < placesOf packed → q / 4 < 112640
 unfolding placesOf
 packed-fits true q e l = omega arith
-packed-fits false q e l = clash e refl
+packed-fits false q e l = never e refl
 
 pub open-fits : (packed : Bool) (q : ℕ) → packed ≡ false → q < placesOf packed → q < 112640
 unfolding placesOf
 open-fits false q e l = l
-open-fits true q e l = clash refl e
+open-fits true q e l = never refl e
 
 -- the room that is left in a counter is room in its word
 unit-is : (r : ℕ) → r < 4 → 1 * 2 ^ (4 * r) % 65536 ≡ 2 ^ (4 * r)
@@ -111,22 +112,22 @@ pub packed-room :
     getD counters (q / 4) 0 + 1 * 2 ^ (4 * (q % 4)) % 65536 < 65536
 unfolding heldAt roomOf
 packed-room true counters q e l h = rw (unit-is (q % 4) (omega arith)) (digit-fits (q % 4) (getD counters (q / 4) 0) (omega arith) h l)
-packed-room false counters q e l h = clash e refl
+packed-room false counters q e l h = never e refl
 
 pub open-room : (packed : Bool) (counters : List ℕ) (q : ℕ) → packed ≡ false → heldAt packed counters q < roomOf packed → getD counters q 0 < 65535
 unfolding heldAt roomOf
 open-room false counters q e l = l
-open-room true counters q e l = clash refl e
+open-room true counters q e l = never refl e
 
 pub packed-raised : (packed : Bool) (counters : List ℕ) (q : ℕ) → packed ≡ true → set counters (q / 4) (getD counters (q / 4) 0 + 1 * 2 ^ (4 * (q % 4)) % 65536) ≡ raised packed counters q
 unfolding raised
 packed-raised true counters q e = rw (unit-is (q % 4) (omega arith)) refl
-packed-raised false counters q e = clash e refl
+packed-raised false counters q e = never e refl
 
 pub open-raised : (packed : Bool) (counters : List ℕ) (q : ℕ) → packed ≡ false → set counters q (getD counters q 0 + 1) ≡ raised packed counters q
 unfolding raised
 open-raised false counters q e = refl
-open-raised true counters q e = clash refl e
+open-raised true counters q e = never refl e
 
 -- ---- one more in a counter
 

@@ -11,14 +11,11 @@ use lib.IntN.{ℤ}
 use lib.ListN.{length}
 use Rattle.language.specs.Basics.{eqZ}
 use Rattle.language.specs.Table.{Table, find, isSome, members, size, atLeastOne, numbersRight, noneTwice, groupsWithin}
+use Rattle.laws.specs.Tests.{never, eqZ-true, eqZ-refl}
 use Rattle.members.specs.Places.{groupAt, memberAt}
 use Rattle.members.specs.Outcomes.{tableOf}
 use Rattle.members.specs.Keys.{each, same, more, alike, rankAt, within}
-use Rattle.members.proofs.Signed.{eqZ-true, eqZ-same}
 use Rattle.members.proofs.Pairs.{Room, here, next, room, pairIs, groupAt-suc, memberAt-suc, behind, front, find-more, find-front, find-zero, members-more, members-zero, one}
-
-pub clash {ℓ} : {X : Type ℓ} {t : Bool} → t ≡ true → t ≡ false → X
-clash p q = absurd (let z : _≡_ {A = ℕ} 0 1 = cc in omega arith)
 
 -- ---- each
 
@@ -54,7 +51,7 @@ module _ (p : ℕ → Bool) where
     where
       go : (t : Bool) → p i ≡ t → t ≡ true
       go true q = refl
-      go false q = clash e (each-false n i h q)
+      go false q = never e (each-false n i h q)
 
   pub each-next : (n : ℕ) → each p n ≡ true → p n ≡ true → each p (suc n) ≡ true
   unfolding each
@@ -100,7 +97,7 @@ newAt ws i = not (isSome (find (groupAt i ws) (memberAt i ws) i ws))
 
 eqZ-sym : (a b : ℤ) → eqZ a b ≡ eqZ b a
 eqZ-sym a b =
-    both-ways (eqZ a b) (eqZ b a) (λ e. rw (eqZ-true a b e) (eqZ-same b)) (λ e. rw (eqZ-true b a e) (eqZ-same a))
+    both-ways (eqZ a b) (eqZ b a) (λ e. rw (eqZ-true a b e) (eqZ-refl b)) (λ e. rw (eqZ-true b a e) (eqZ-refl a))
 
 some-behind : (r : Option ℕ) (t : Bool) (i : ℕ) → isSome (behind r t i) ≡ (isSome r || t)
 unfolding isSome behind
@@ -141,12 +138,12 @@ noneTwice-each ws n f = each-is (newAt ws) (λ i. noneTwice i ws) n refl (λ i h
 
 pub same-self : (whole : Bool) (g m : ℤ) → same whole g m g m ≡ true
 unfolding same
-same-self true g m = rw (eqZ-same g, eqZ-same m)
-same-self false g m = eqZ-same g
+same-self true g m = rw (eqZ-refl g, eqZ-refl m)
+same-self false g m = eqZ-refl g
 
 pub both : (s t : Bool) → (s && t) ≡ true → (s ≡ true) × (t ≡ true)
 both true t e = (refl, e)
-both false t e = clash e refl
+both false t e = never e refl
 
 -- another group is another key
 pub differ : (whole : Bool) (g m a b : ℤ) → eqZ a g ≡ false → false ≡ same whole g m a b
