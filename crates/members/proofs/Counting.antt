@@ -12,7 +12,7 @@ use lib.IntN.{ℤ}
 use lib.ListN.{length, getD, set, replicate, length-set, length-replicate}
 use lib.Seq.{getD-set-same, getD-set-other}
 use Rattle.laws.specs.Tests.{never}
-use Rattle.members.specs.Places.{groupAt, memberAt}
+use Rattle.laws.specs.Tables.{groupAt, memberAt}
 use Rattle.members.specs.Keys.{sameAt, rankAt}
 use Rattle.members.specs.Hashes.{spot}
 use Rattle.members.specs.Counters.{placesOf, roomOf, heldAt, raised, counterAt, Bounded}

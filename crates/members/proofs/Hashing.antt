@@ -8,7 +8,7 @@ use native.Mathlib.Omega.{arith}
 use lib.IntN.{ℤ}
 use Rattle.language.specs.Basics.{eqZ}
 use Rattle.laws.specs.Tests.{eqZ-true}
-use Rattle.members.specs.Places.{groupAt, memberAt}
+use Rattle.laws.specs.Tables.{groupAt, memberAt}
 use Rattle.members.specs.Keys.{same, sameAt}
 use Rattle.members.specs.Hashes.{hashAt, classOf, classAt, spot}
 use Rattle.members.proofs.Keys.{both}
