@@ -7,12 +7,11 @@ use mathlib.Core.Path.{_≡_, ap, _∙_, subst}
 use lib.ListN.{length}
 use Rattle.language.specs.Text.{Block}
 use Rattle.language.specs.Check.{accepted, check}
-use Rattle.language.specs.Machine.{Limits}
 use Rattle.language.specs.Call.{Engine, copying, chain, display, Fed, Reply, turnedAway, reply}
 use Rattle.language.specs.declared.Refusal.{Refusal}
 use Rattle.laws.specs.Tests.{by-lookup}
 use Rattle.grammar.specs.Rules.{Bytes, Keeps}
-use Rattle.runs.specs.Calls.{reply-cases}
+use Rattle.runs.specs.Calls.{limitsOf, reply-cases}
 use Rattle.frames.specs.Frame.{Frame, numbered, linksFollowed, frameStart, frameRun, frameLinks, frameReplied, frameRunOf}
 use Rattle.frames.specs.Runs.{runs-replied}
 use Rattle.frame_laws.specs.Finding.{seekName-starts, links-none}
@@ -53,7 +52,7 @@ away-links f c o = omega arith
 ran-links : (e : Engine) (f : Fed) → Bytes (f .script) → (t : Block) → check (f .script) ≡ accepted t → (frameReplied e f (frameRunOf f t)) .answer .links ≤ 15
 unfolding frameReplied frameRunOf
 ran-links e f bytes t a =
-    let l : Limits = record { activations = f .activations; group = f .group } in
+    let l = limitsOf f in
     let fs = (frameRun l (f .allowance) (frameStart t (f .table))) .final .frames in
     engine-links e fs (f .name) (followed-most t (accepted-keeps-rules (f .script) bytes t a) fs (accepted-sound (f .script) bytes t a l (f .table) (f .allowance)) (f .name))
 

@@ -20,6 +20,7 @@ use Rattle.laws.specs.Tests.{some-inj}
 use Rattle.laws.specs.Lists.{last-split, last-none, snoc-inj, getElem-seam}
 use Rattle.grammar.specs.Rules.{Bytes, FormedAction, FormedBlock}
 use Rattle.grammar.specs.Formed.{stmt-at}
+use Rattle.runs.specs.Calls.{limitsOf}
 use Rattle.instances.specs.Statement.{usesOf}
 use Rattle.instances.specs.Closed.{Used, AllUsed, InStmt}
 use Rattle.instances.specs.Invariant.{liveKinds, Invariant}
@@ -34,7 +35,7 @@ use Rattle.frames.specs.Designated.{designated, kindOf-designated}
 use Rattle.frames.specs.Steps.{next-renamed}
 use Rattle.frames.specs.Runs.{runs-same, start-related}
 use Rattle.frame_laws.specs.Sound.{Sound, OnLabel, JumpsToLabel, Lands}
-use Rattle.frame_laws.specs.SoundRuns.{limitsOf, accepted-sound, fed-sound}
+use Rattle.frame_laws.specs.SoundRuns.{accepted-sound, fed-sound}
 
 top-twin : (s : State) (t : Stack) (r : Related s t) (c : Activation) (e : s .live ≡ butLast (s .live) ++ (c ∷ [])) → Twin (s .live) (s .values) (length (butLast (s .live))) c (top-of s t r (butLast (s .live)) c e .frame)
 unfolding top-of

@@ -4,13 +4,11 @@
 use Prim.Native.Nat.{ℕ, suc, _≤_}
 use native.Mathlib.Nat.{not-suc-le-zero}
 use native.Mathlib.Omega.{arith}
-use mathlib.Core.Bool.{Bool, true, _&&_, and-eq-true-iff}
+use mathlib.Core.Bool.{true}
 use mathlib.Core.Path.{_≡_, refl, ap, subst}
 use mathlib.Core.List.{List, []}
 use mathlib.Core.Option.{Option·none-ne-some}
-use lib.Dec.{leb}
 use lib.ListN.{length}
-use borrow.Author.Tests.{leb-true}
 use Rattle.language.specs.Text.{Block}
 use Rattle.language.specs.Check.{accepted, check}
 use Rattle.language.specs.Table.{Table}
@@ -19,6 +17,7 @@ use Rattle.language.specs.Call.{Fed, limitsFit}
 use Rattle.laws.specs.Lists.{by-elements}
 use Rattle.grammar.specs.Rules.{Bytes, Keeps}
 use Rattle.grammar.specs.Exact.{accepts-exactly}
+use Rattle.runs.specs.Calls.{limitsOf, activations-fit}
 use Rattle.frames.specs.Frame.{Stack, Acted, acted, halted, Result, stepped, newFrame, frameStart, frameStep, results, frameRun, frameRunOf}
 use Rattle.frames.specs.Running.{After, run-finished, run-spent, run-steps, run-keeps}
 use Rattle.frame_laws.specs.Formed.{program-in-form}
@@ -58,18 +57,6 @@ pub accepted-sound : (l : Limits) (bs : List ℕ) (t : Block) (table : Table) �
 accepted-sound l bs t table b e one most lands n = landing-sound l most n (frameStart t table) (start-sound l t table one (((accepts-exactly bs b t) .0 e) .1)) lands
 
 -- and for what a call is fed, once its limits fit
-abbrev pub limitsOf : Fed → Limits
-limitsOf f = record { activations = f .activations; group = f .group }
-
-first : (a b : Bool) → a && b ≡ true → a ≡ true
-first a b e = ((and-eq-true-iff a b) .0 e) .0
-
-pub activations-fit : (f : Fed) → limitsFit f ≡ true → (1 ≤ f .activations) × (f .activations ≤ 256)
-unfolding limitsFit
-activations-fit f e =
-    let q = (and-eq-true-iff (leb 1 (f .activations)) (leb (f .activations) 256)) .0 (first _ (leb (f .allowance) 1000000) (first _ (leb 1 (f .group)) (first _ (leb (f .group) 65535) (first _ (leb (f .tally) 1000000000000) e)))) in
-    (leb-true 1 (f .activations) (q .0), leb-true (f .activations) 256 (q .1))
-
 pub fed-sound : (f : Fed) (t : Block) → Bytes (f .script) → limitsFit f ≡ true → check (f .script) ≡ accepted t
     → ((i : ℕ) → Lands ((frameRun (limitsOf f) i (frameStart t (f .table))) .final)) → Sound (limitsOf f) ((frameRunOf f t) .final)
 unfolding frameRunOf

@@ -23,6 +23,7 @@ use Rattle.laws.specs.Renaming.{blockAt-renamed, rename-nothing}
 use Rattle.laws.specs.Rising.{Rising}
 use Rattle.grammar.specs.Rules.{Bytes}
 use Rattle.runs.specs.Account.{run-finished, run-spent, run-did, run-stopped}
+use Rattle.runs.specs.Calls.{limitsOf}
 use Rattle.instances.specs.Invariant.{Invariant}
 use Rattle.instances.specs.Accepted.{accepted-closed}
 use Rattle.instances.specs.Steps.{started, step-keeps, counted-invariant}
@@ -193,6 +194,5 @@ replied-same e f o q h =
 pub runs-replied : (e : Engine) (f : Fed) → Bytes (f .script) → (t : Block) → check (f .script) ≡ accepted t → frameReplied e f (frameRunOf f t) ≡ replied e f (runOf f t)
 unfolding runOf frameRunOf
 runs-replied e f bytes t a =
-    let l : Limits = record { activations = f .activations; group = f .group } in
     replied-same e f (runOf f t) (frameRunOf f t)
-    (runs-same l (f .allowance) (start t (f .table)) (frameStart t (f .table)) (start-related (f .script) t bytes a (f .table)) (started t (f .table) (accepted-closed (f .script) t bytes a)))
+    (runs-same (limitsOf f) (f .allowance) (start t (f .table)) (frameStart t (f .table)) (start-related (f .script) t bytes a (f .table)) (started t (f .table) (accepted-closed (f .script) t bytes a)))

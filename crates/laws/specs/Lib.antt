@@ -2,6 +2,7 @@
 pub mod Tests
 pub mod Kinds
 pub mod Lists
+pub mod Tables
 pub mod Reversed
 pub mod Each
 pub mod Distinct

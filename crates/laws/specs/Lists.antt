@@ -1,5 +1,5 @@
--- Laws of lists: the last element, the element at an index, also after a store, images.
-use Prim.Native.Nat.{ℕ, zero, suc, pred, _+_, _-_, _≤_, _<_}
+-- Laws of lists: the last element, the element at an index, also after a store, images; the indices of a list that is read two by two.
+use Prim.Native.Nat.{ℕ, zero, suc, pred, _+_, _-_, _*_, _≤_, _<_}
 use native.Mathlib.Omega.{arith}
 use native.Mathlib.Nat.{not-suc-le-zero, le-of-suc-le-suc, zero-add, suc-add}
 use mathlib.Core.Path.{_≡_, refl, sym, ap, ap₂, _∙_}
@@ -195,3 +195,10 @@ constant c (x ∷ l) (y ∷ m) e = ap (c ∷_) (constant c l m (omega arith))
 pub snoc-inj : {A : Type 0} (l m : List A) (a b : A) → l ++ (a ∷ []) ≡ m ++ (b ∷ []) → (l ≡ m) × (a ≡ b)
 snoc-inj l m a b e =
     (sym (butLast-snoc l a) ∙ (ap butLast e ∙ butLast-snoc m b), some-inj (sym (last-snoc l a) ∙ (ap last? e ∙ last-snoc m b)))
+
+-- the two elements of place k of a list that is read two by two
+pub twice-suc : (k : ℕ) → 2 * suc k ≡ suc (suc (2 * k))
+twice-suc k = omega arith
+
+pub twice-suc-one : (k : ℕ) → 2 * suc k + 1 ≡ suc (suc (2 * k + 1))
+twice-suc-one k = omega arith

@@ -1,5 +1,5 @@
 -- Laws of renaming: what a name is replaced by, and the shape of a renamed text.
-use Prim.Native.Nat.{ℕ, zero, suc, _≤_, _<_}
+use Prim.Native.Nat.{ℕ, _≤_}
 use native.Mathlib.Omega.{arith}
 use mathlib.Core.Bool.{true, false}
 use mathlib.Core.List.{List, [], _∷_, _++_, map, map-append}
@@ -8,8 +8,8 @@ use mathlib.Core.Option.{Option, none, some}
 use mathlib.Core.Path.{_≡_, refl, sym, ap, ap₂, _∙_}
 use borrow.Author.Tests.{eqb-true, eq-eqb, ne-eqb}
 use lib.Dec.{eqb}
-use lib.ListN.{length, take, drop, length-map}
-use lib.Seq.{take-at, drop-at}
+use lib.ListN.{length, drop, length-map}
+use lib.Seq.{drop-at}
 use Rattle.language.specs.Basics.{among, lookup, zip}
 use Rattle.language.specs.Text.{Kind, Action, CL, GO, IF, KN, AR, AD, RM, QY, Block, block, Decl, VR, LB, PR, Stmt, BK, DO, Decls, no-decl, decl, Stmts, no-stmt, stmt, decls, stmts, blockAt, blockDecls, blockStmts, stmtAt, declName, declKind, labelIndex, declFormals, declBody, formalNames, declaredNames}
 use Rattle.language.specs.Copy.{Replacement, renamed, without, renameAction, renameBlock, renameDecl, renameStmt, renameDecls, renameStmts}

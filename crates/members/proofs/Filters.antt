@@ -13,10 +13,11 @@ use lib.Dec.{eqb, ltb}
 use lib.IntN.{ℤ}
 use lib.ListN.{length, getD, set, replicate, length-set, length-replicate}
 use lib.Seq.{getD-set-same, getD-set-other, set-out}
+use Rattle.laws.specs.Tests.{never}
 use Rattle.members.specs.Keys.{sameAt, rankAt}
 use Rattle.members.specs.Hashes.{hashAt, spot, maskOf, markOf, spotAt, maskAt, markAt}
 use Rattle.members.specs.Filter.{covers, join, Has, suspected, OfClass, Cleared, Met}
-use Rattle.members.proofs.Keys.{clash, below-next}
+use Rattle.members.proofs.Keys.{below-next}
 use Rattle.members.proofs.Ranks.{rank-one}
 use Rattle.members.proofs.Hashing.{hash-key, class-key, spot-below}
 
@@ -96,7 +97,7 @@ module _ (whole : Bool) (ws : List ℤ) where
     pub fresh : Mine i → covers (getD seen (spotAt 28160 whole ws i) 0) (maskAt whole ws i) ≡ false → rankAt whole i ws ≤ 1
     fresh m h =
         rank-one whole ws i
-        (λ j l e. clash (subst (λ (x : ℕ). Has seen (spot 28160 x) (maskOf x)) (sym (hash-key whole ws i j e)) (met .met j l (sym (class-key whole ws classes i j e) ∙ m))) h)
+        (λ j l e. never (subst (λ (x : ℕ). Has seen (spot 28160 x) (maskOf x)) (sym (hash-key whole ws i j e)) (met .met j l (sym (class-key whole ws classes i j e) ∙ m))) h)
 
     abbrev pub Grown : List ℕ → Type 0
     Grown after = (length after ≡ 4096) × ((j : ℕ) → suspected whole ws marks j ≡ true → suspected whole ws after j ≡ true)

@@ -1,17 +1,17 @@
 -- A count that fits its words still fits after AD and RM: what RM's `requires` asks of the next statement's caller.
 use Prim.Native.Nat.{ℕ, zero, suc, _*_, _≤_, _%_}
-use mathlib.Core.Path.{_≡_, refl, sym, ap}
+use mathlib.Core.Path.{_≡_, refl, sym}
 use mathlib.Core.Bool.{Bool, true, false, _&&_}
-use mathlib.Core.List.{List, [], _∷_}
 use mathlib.Core.Option.{Option, none, some}
 use native.Mathlib.Omega.{arith}
 use borrow.Author.Tests.{ltb-false, leb-true}
 use lib.Dec.{eqb, leb}
 use lib.IntN.{ℤ}
-use lib.ListN.{length, length-append, length-take, length-drop, length-set}
+use lib.ListN.{length, length-set}
 use Rattle.language.specs.Table.{Table, numbersRight, noneTwice, groupsWithin, right, find, holds, size, atLeastOne, full, add, remove, takeOut, fewer, Effect, leaves, halts, added, removed}
 use Rattle.language.specs.declared.Stop.{Stop}
 use Rattle.language.specs.declared.Stop.the-variants.{NumberBelowOne, GroupFull, TableFull}
+use Rattle.laws.specs.Tables.{takeOut-length}
 use Rattle.members.specs.declared.Change.the-variants.{Done}
 use Rattle.members.specs.Outcomes.{tableOf, changeOf, wordsAfter}
 use Rattle.members.proofs.Keys.{both}
@@ -26,14 +26,6 @@ right-fits limit t e =
     let d = noneTwice (t .used) (t .words) in
     let g = groupsWithin limit t (t .used) (t .words) in
     leb-true (2 * t .used) (length (t .words)) (both a b (both (a && b) n (both (a && b && n) d (both (a && b && n && d) g e .0) .0) .0) .1)
-
-pub takeOut-length : (i k : ℕ) (ws : List ℤ) → length (takeOut i k ws) ≡ length ws
-unfolding takeOut
-takeOut-length i zero ws = refl
-takeOut-length i (suc k) [] = refl
-takeOut-length i (suc k) (a ∷ []) = refl
-takeOut-length zero (suc k) (a ∷ b ∷ ws) = simp (length-append, length-take, length-drop) (omega arith)
-takeOut-length (suc i) (suc k) (a ∷ b ∷ ws) = ap (λ (n : ℕ). suc (suc n)) (takeOut-length i k ws)
 
 -- the table that an outcome leaves, of one that fits, fits
 abbrev pub Keeps : Table → Effect → Type 0

@@ -7,10 +7,10 @@ use native.Mathlib.Nat.{mod-lt, div-lt-iff-lt-mul, mul-lt-mul-of-pos-right}
 use native.Mathlib.Omega.{arith}
 use lib.IntN.{ℤ}
 use Rattle.language.specs.Basics.{eqZ}
-use Rattle.members.specs.Places.{groupAt, memberAt}
+use Rattle.laws.specs.Tests.{eqZ-true}
+use Rattle.laws.specs.Tables.{groupAt, memberAt}
 use Rattle.members.specs.Keys.{same, sameAt}
 use Rattle.members.specs.Hashes.{hashAt, classOf, classAt, spot}
-use Rattle.members.proofs.Signed.{eqZ-true}
 use Rattle.members.proofs.Keys.{both}
 
 pub hash-key : (whole : Bool) (ws : List ℤ) (i j : ℕ) → sameAt whole ws i j ≡ true → hashAt whole ws i ≡ hashAt whole ws j

@@ -1,7 +1,7 @@
 -- The rules of a right table, said of each place: the numbers, the pairs and the groups.
 use Prim.Native.Nat.{ℕ, zero, suc, _+_, _*_, _<_, _≤_}
 use mathlib.Core.Path.{_≡_, refl, sym, _∙_, ap, ap₂}
-use mathlib.Core.Bool.{Bool, true, false, not, _&&_, _||_, and-true, and-false, and-assoc, or-true, or-false}
+use mathlib.Core.Bool.{Bool, true, false, not, _&&_, _||_, cond, and-true, and-false, and-assoc, or-true, or-false}
 use mathlib.Core.List.{List, _∷_}
 use mathlib.Core.Option.{Option, none, some}
 use native.Mathlib.Omega.{arith}
@@ -11,14 +11,11 @@ use lib.IntN.{ℤ}
 use lib.ListN.{length}
 use Rattle.language.specs.Basics.{eqZ}
 use Rattle.language.specs.Table.{Table, find, isSome, members, size, atLeastOne, numbersRight, noneTwice, groupsWithin}
-use Rattle.members.specs.Places.{groupAt, memberAt}
+use Rattle.laws.specs.Tests.{never, eqZ-true, eqZ-refl}
+use Rattle.laws.specs.Tables.{groupAt, memberAt, groupAt-suc, memberAt-suc, pairIs, front, orElse, find-front, find-zero, find-next, members-zero, members-next}
 use Rattle.members.specs.Outcomes.{tableOf}
 use Rattle.members.specs.Keys.{each, same, more, alike, rankAt, within}
-use Rattle.members.proofs.Signed.{eqZ-true, eqZ-same}
-use Rattle.members.proofs.Pairs.{Room, here, next, room, pairIs, groupAt-suc, memberAt-suc, behind, front, find-more, find-front, find-zero, members-more, members-zero, one}
-
-pub clash {ℓ} : {X : Type ℓ} {t : Bool} → t ≡ true → t ≡ false → X
-clash p q = absurd (let z : _≡_ {A = ℕ} 0 1 = cc in omega arith)
+use Rattle.members.proofs.Pairs.{Room, here, next, room, room-fits}
 
 -- ---- each
 
@@ -54,7 +51,7 @@ module _ (p : ℕ → Bool) where
     where
       go : (t : Bool) → p i ≡ t → t ≡ true
       go true q = refl
-      go false q = clash e (each-false n i h q)
+      go false q = never e (each-false n i h q)
 
   pub each-next : (n : ℕ) → each p n ≡ true → p n ≡ true → each p (suc n) ≡ true
   unfolding each
@@ -100,16 +97,16 @@ newAt ws i = not (isSome (find (groupAt i ws) (memberAt i ws) i ws))
 
 eqZ-sym : (a b : ℤ) → eqZ a b ≡ eqZ b a
 eqZ-sym a b =
-    both-ways (eqZ a b) (eqZ b a) (λ e. rw (eqZ-true a b e) (eqZ-same b)) (λ e. rw (eqZ-true b a e) (eqZ-same a))
+    both-ways (eqZ a b) (eqZ b a) (λ e. rw (eqZ-true a b e) (eqZ-refl b)) (λ e. rw (eqZ-true b a e) (eqZ-refl a))
 
-some-behind : (r : Option ℕ) (t : Bool) (i : ℕ) → isSome (behind r t i) ≡ (isSome r || t)
-unfolding isSome behind
-some-behind none true i = refl
-some-behind none false i = refl
-some-behind (some j) t i = refl
+some-orElse : (r : Option ℕ) (t : Bool) (i : ℕ) → isSome (orElse r t i) ≡ (isSome r || t)
+unfolding isSome
+some-orElse none true i = refl
+some-orElse none false i = refl
+some-orElse (some j) t i = refl
 
 some-front : (t : Bool) (r : Option ℕ) → isSome (front t r) ≡ (t || isSome r)
-unfolding isSome front
+unfolding isSome
 some-front true r = refl
 some-front false none = refl
 some-front false (some i) = refl
@@ -125,7 +122,7 @@ twice-more (here {a} {b} {ws}) = rw (find-zero a b ws, find-zero a b (a ∷ b �
 twice-more (next {i} {a} {b} {ws} r) =
     let g = groupAt i ws in
     let m = memberAt i ws in
-    let e = ap isSome (find-more a b r) ∙ some-behind (find a b i ws) (pairIs a b i ws) i in
+    let e = ap isSome (find-next a b i ws (room-fits r)) ∙ some-orElse (find a b i ws) (pairIs a b i ws) i in
     let f =
     ap isSome (find-front g m i a b ws) ∙ some-front (eqZ a g && eqZ b m) (find g m i ws) ∙
     ap (λ (t : Bool). t || isSome (find g m i ws)) (ap₂ _&&_ (eqZ-sym a g) (eqZ-sym b m))
@@ -141,12 +138,12 @@ noneTwice-each ws n f = each-is (newAt ws) (λ i. noneTwice i ws) n refl (λ i h
 
 pub same-self : (whole : Bool) (g m : ℤ) → same whole g m g m ≡ true
 unfolding same
-same-self true g m = rw (eqZ-same g, eqZ-same m)
-same-self false g m = eqZ-same g
+same-self true g m = rw (eqZ-refl g, eqZ-refl m)
+same-self false g m = eqZ-refl g
 
 pub both : (s t : Bool) → (s && t) ≡ true → (s ≡ true) × (t ≡ true)
 both true t e = (refl, e)
-both false t e = clash e refl
+both false t e = never e refl
 
 -- another group is another key
 pub differ : (whole : Bool) (g m a b : ℤ) → eqZ a g ≡ false → false ≡ same whole g m a b
@@ -220,7 +217,7 @@ some-alike : (g m : ℤ) (ws : List ℤ) (n : ℕ) → 2 * n ≤ length ws → i
 unfolding isSome alike same more
 some-alike g m ws zero f = rw (find-zero g m ws)
 some-alike g m ws (suc n) f =
-    ap isSome (find-more g m (room n ws (omega arith))) ∙ some-behind (find g m n ws) (pairIs g m n ws) n ∙ go (pairIs g m n ws) (some-alike g m ws n (omega arith))
+    ap isSome (find-next g m n ws f) ∙ some-orElse (find g m n ws) (pairIs g m n ws) n ∙ go (pairIs g m n ws) (some-alike g m ws n (omega arith))
   where
     go : (t : Bool) → isSome (find g m n ws) ≡ ltb 0 (alike true g m n ws) → (isSome (find g m n ws) || t) ≡ ltb 0 (more t (alike true g m n ws))
     go true e = or-true (isSome (find g m n ws)) ∙ sym (lt-ltb 0 (suc (alike true g m n ws)) (omega arith))
@@ -241,13 +238,13 @@ twice-within ws n f = noneTwice-each ws n f ∙ each-same (newAt ws) (λ i. leb 
 -- ---- no group is too large
 
 members-alike : (g m : ℤ) (ws : List ℤ) (n : ℕ) → 2 * n ≤ length ws → members g n ws ≡ alike false g m n ws
-unfolding alike same more one
+unfolding alike same more
 members-alike g m ws zero f = members-zero g ws
-members-alike g m ws (suc n) f = members-more g (room n ws (omega arith)) ∙ go (eqZ (groupAt n ws) g) ∙ ap (more (eqZ (groupAt n ws) g)) (members-alike g m ws n (omega arith))
+members-alike g m ws (suc n) f = members-next g n ws f ∙ go (eqZ (groupAt n ws) g) ∙ ap (more (eqZ (groupAt n ws) g)) (members-alike g m ws n (omega arith))
   where
-    go : (t : Bool) → one t (members g n ws) ≡ more t (members g n ws)
-    go true = refl
-    go false = refl
+    go : (t : Bool) → members g n ws + cond t 1 0 ≡ more t (members g n ws)
+    go true = omega arith
+    go false = omega arith
 
 groups-more : (limit : ℕ) (t : Table) {i : ℕ} {ws : List ℤ} → Room i ws → groupsWithin limit t (suc i) ws ≡ (groupsWithin limit t i ws && leb (size (groupAt i ws) t) limit)
 unfolding groupsWithin

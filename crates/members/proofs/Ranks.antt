@@ -5,7 +5,7 @@ use mathlib.Core.Bool.{Bool, true, false}
 use mathlib.Core.List.{List}
 use native.Mathlib.Omega.{arith}
 use lib.IntN.{ℤ}
-use Rattle.members.specs.Places.{groupAt, memberAt}
+use Rattle.laws.specs.Tables.{groupAt, memberAt}
 use Rattle.members.specs.Keys.{sameAt, alike, rankAt}
 use Rattle.members.proofs.Keys.{same-self, same-key, alike-key, alike-hit, alike-miss, alike-none, rank-next}
 

@@ -30,25 +30,6 @@ pub from-one : (a : ℤ) → SFits w32 a → leZ (pos 1) (toZ w32 (ofZ w32 a)) �
 unfolding atLeastOne
 from-one a f = ap (leZ (pos 1)) (toZ-ofZ f)
 
--- two words that the test finds equal are equal
-pub eqZ-true : (a b : ℤ) → eqZ a b ≡ true → a ≡ b
-unfolding eqZ
-eqZ-true (pos a) (pos b) e = ap pos (eqb-true a b e)
-eqZ-true (pos a) (negsuc b) e = absurd (false≢true e)
-  where
-    false≢true : false ≡ true → ⊥
-    false≢true q = let z : _≡_ {A = ℕ} 0 1 = cc in omega arith
-eqZ-true (negsuc a) (pos b) e = absurd (false≢true e)
-  where
-    false≢true : false ≡ true → ⊥
-    false≢true q = let z : _≡_ {A = ℕ} 0 1 = cc in omega arith
-eqZ-true (negsuc a) (negsuc b) e = ap negsuc (eqb-true a b e)
-
-pub eqZ-same : (a : ℤ) → eqZ a a ≡ true
-unfolding eqZ
-eqZ-same (pos a) = eq-eqb a a refl
-eqZ-same (negsuc a) = eq-eqb a a refl
-
 -- A word in a local is held as its bits.
 pub back : (z : ℤ) → mag z < 2147483648 → toZ w32 (ofZ w32 z) ≡ z
 back z h = toZ-ofZ (record { sfits = h })

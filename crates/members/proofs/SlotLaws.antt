@@ -8,8 +8,8 @@ use borrow.Author.Tests.{ltb-true, ltb-false}
 use lib.Dec.{ltb}
 use lib.ListN.{length, getD, set}
 use lib.Seq.{getD-set-same, getD-set-other}
+use Rattle.laws.specs.Tests.{never}
 use Rattle.members.specs.Slots.{Passed, EndsEmpty, EndsHeld, Kept}
-use Rattle.members.proofs.Keys.{clash}
 
 -- ---- one key, told by two of its places
 
@@ -30,7 +30,7 @@ before : (f : ℕ → Bool) (a : ℕ) (first : List ℕ) (t u : ℕ) → f (getD
 before f a first t u own p = go (ltb t u) refl
   where
     go : (b : Bool) → ltb t u ≡ b → u ≤ t
-    go true q = clash own (p t (ltb-true t u q) .1)
+    go true q = never own (p t (ltb-true t u q) .1)
     go false q = ltb-false t u q
 
 module _
@@ -65,7 +65,7 @@ module _
           other true q = ltb-true j i q
           other false q =
               let z : j ≡ i = omega (arith, ltb-false j i q) in
-              clash (self j) (subst (λ (k : ℕ). same j k ≡ false) (sym z) e)
+              never (self j) (subst (λ (k : ℕ). same j k ≡ false) (sym z) e)
 
   module _ (i : ℕ) (first number : List ℕ) (all : All i first number) where
     -- a place of another class
@@ -74,7 +74,7 @@ module _
 
     -- the window is full of other keys
     pub filled : Passed (same i) (slot i) first 256 → All (suc i) first number
-    filled p = assemble i first number (λ m t l q. (p t l .0, λ o. clash o (p t l .1))) (λ j l m e. all j l m)
+    filled p = assemble i first number (λ m t l q. (p t l .0, λ o. never o (p t l .1))) (λ j l m e. all j l m)
 
     -- an empty slot: the key is new
     pub new : {q : ℕ} → mine i → EndsEmpty (same i) (slot i) first q → (j : ℕ) → j < i → same i j ≡ false
@@ -105,7 +105,7 @@ module _
         there = subst (λ (x : ℕ). getD (set number q (suc n)) x 0 ≡ suc n) (r .there) (getD-set-same number q (suc n) 0 h) ∙ ap suc e ∙ sym (counted-hit i i (self i))
 
         go : (b : Bool) → ltb t (r .steps) ≡ b → (getD first (slot i + t) 0 ≡ 0 → ⊥) × (same i (getD first (slot i + t) 0 - 1) ≡ true → getD (set number q (suc n)) (slot i + t) 0 ≡ counted i (suc i))
-        go true b = let k = r .passed t (ltb-true t (r .steps) b) in (k .0, λ o. clash o (k .1))
+        go true b = let k = r .passed t (ltb-true t (r .steps) b) in (k .0, λ o. never o (k .1))
         go false b =
             let z : t ≡ r .steps = omega (arith, ltb-false t (r .steps) b, before (same i) (slot i) first (r .steps) t (r .own) p) in
             rw z (r .held, λ o. there)
@@ -114,7 +114,7 @@ module _
         {q : ℕ} (r : EndsHeld (same i) (slot i) first q) (v j : ℕ) → same j i ≡ false → Kept (same j) (slot j) first number (counted j i) →
         Kept (same j) (slot j) first (set number q v) (counted j i)
     other-kept {q} r v j e k t l p =
-        (k t l p .0, λ o. getD-set-other number q (slot j + t) v 0 (λ z. clash (shared (z ∙ r .there) o) e) ∙ k t l p .1 o)
+        (k t l p .0, λ o. getD-set-other number q (slot j + t) v 0 (λ z. never (shared (z ∙ r .there) o) e) ∙ k t l p .1 o)
       where
         shared : slot j + t ≡ slot i + r .steps → same j (getD first (slot j + t) 0 - 1) ≡ true → same j i ≡ true
         shared z o =
@@ -174,7 +174,7 @@ module _
             let h = ltb-true t (r .steps) b in
             let k = r .passed t h in
             let e = getD-set-other first q (slot i + t) (suc i) 0 (λ z. omega (arith, r .there)) in
-            (λ z. k .0 (sym e ∙ z), λ o. clash (subst (λ (x : ℕ). same i (x - 1) ≡ true) e o) (k .1))
+            (λ z. k .0 (sym e ∙ z), λ o. never (subst (λ (x : ℕ). same i (x - 1) ≡ true) e o) (k .1))
         go false b =
             let z : t ≡ r .steps = omega (arith, ltb-false t (r .steps) b, before (same i) (slot i) first′ (r .steps) t own p) in
             rw z (λ y. omega (arith, taken), λ o. there)

@@ -7,6 +7,7 @@ use native.Mathlib.Omega.{arith}
 use lib.IntN.{ℤ, pos}
 use lib.ListN.{length, take, drop, getD, set}
 use Rattle.language.specs.Table.{takeOut}
+use Rattle.laws.specs.Lists.{twice-suc}
 
 -- the two words at i taken out: the n words behind them move down by two and the two words after those are set to 0
 unfoldable pub cut : ℕ → ℕ → List ℤ → List ℤ
@@ -37,9 +38,6 @@ cut-last (suc i) (a ∷ ws) h = rw (up i 1) (ap (a ∷_) (cut-last i ws (omega a
 
 -- ---- the definition's pairs as words
 
-up0 : (i : ℕ) → 2 * suc i ≡ suc (suc (2 * i))
-up0 i = omega arith
-
 -- no more words move than there are
 clamped : (n : ℕ) (ws : List ℤ) → take n ws ++ (pos 0 ∷ pos 0 ∷ drop n ws) ≡ take (min n (length ws)) ws ++ (pos 0 ∷ pos 0 ∷ drop (min n (length ws)) ws)
 clamped zero ws = rw (zero-min (length ws))
@@ -56,7 +54,7 @@ takeOut-cut zero (suc k) e (a ∷ b ∷ ws) h f =
     rw q (clamped (2 * k) ws)
 takeOut-cut (suc i) (suc k) e (a ∷ b ∷ ws) h f =
     let q : e - (2 * suc i + 2) ≡ min (2 * k) (length ws) - (2 * i + 2) = omega arith in
-    rw (q, up0 i) (ap (λ (l : List ℤ). a ∷ b ∷ l) (takeOut-cut i k (min (2 * k) (length ws)) ws refl (omega arith)))
+    rw (q, twice-suc i) (ap (λ (l : List ℤ). a ∷ b ∷ l) (takeOut-cut i k (min (2 * k) (length ws)) ws refl (omega arith)))
 
 pub takeOut-past : (i k : ℕ) (ws : List ℤ) → min (2 * k) (length ws) / 2 ≤ i → ws ≡ takeOut i k ws
 unfolding takeOut

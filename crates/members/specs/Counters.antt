@@ -6,7 +6,7 @@ use mathlib.Core.List.{List}
 use mathlib.Core.Logic.{_⊎_}
 use lib.IntN.{ℤ}
 use lib.ListN.{length, getD, set}
-use Rattle.members.specs.Places.{groupAt, memberAt}
+use Rattle.laws.specs.Tables.{groupAt, memberAt}
 use Rattle.members.specs.Keys.{alike}
 use Rattle.members.specs.Hashes.{spotAt}
 use Rattle.members.specs.Filter.{suspected}

@@ -4,7 +4,7 @@ use mathlib.Core.Bool.{Bool, true, false}
 use mathlib.Core.List.{List}
 use lib.Bits.{bitOr, bitXor}
 use lib.IntN.{ℤ, pos, negsuc}
-use Rattle.members.specs.Places.{groupAt, memberAt}
+use Rattle.laws.specs.Tables.{groupAt, memberAt}
 
 unfoldable pub weightOf : ℤ → ℕ
 weightOf (pos n) = n

@@ -6,7 +6,7 @@ use mathlib.Core.List.{List}
 use lib.Dec.{leb}
 use lib.IntN.{ℤ}
 use Rattle.language.specs.Basics.{eqZ}
-use Rattle.members.specs.Places.{groupAt, memberAt}
+use Rattle.laws.specs.Tables.{groupAt, memberAt}
 
 -- whether each of the first k numbers passes
 unfoldable pub each : (ℕ → Bool) → ℕ → Bool

@@ -6,7 +6,7 @@ use mathlib.Core.List.{List, map}
 use lib.Dec.{eqb}
 use lib.IntN.{ℤ}
 use lib.ListN.{length, getD}
-use Rattle.members.specs.Places.{groupAt, memberAt}
+use Rattle.laws.specs.Tables.{groupAt, memberAt}
 use Rattle.members.specs.Keys.{sameAt, rankAt, alike}
 use Rattle.members.specs.Hashes.{classAt, spotAt}
 use Rattle.members.specs.Filter.{suspected}

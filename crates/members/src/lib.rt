@@ -5,7 +5,8 @@ ghost use Prim.Native.Nat.{_+_, _*_, _/_, _<_, min};
 ghost use lib.ListN.{length, set};
 ghost use Rattle.language.specs.Basics.{eqZ};
 ghost use Rattle.language.specs.Table.{find, members, atLeastOne, right, add, takeOut, added, removed, queried};
-ghost use Rattle.members.specs.Places.{groupAt, memberAt, placed};
+ghost use Rattle.laws.specs.Tables.{groupAt, memberAt};
+ghost use Rattle.members.specs.Places.{placed};
 ghost use Rattle.members.specs.Outcomes.{tableOf, changeOf, valueOf, wordsAfter};
 use language::Stop;
 

@@ -7,6 +7,7 @@ use native.Mathlib.Omega.{arith}
 use lib.ListN.{length, getD, drop, length-drop}
 use lib.Seq.{drop-nil, drop-drop, getD-drop}
 use Rattle.language.specs.Encoding.{two, fieldsOf}
+use Rattle.laws.specs.Lists.{twice-suc, twice-suc-one}
 use Rattle.records.specs.Taking.{unread}
 
 fields-length : (bs : List ℕ) → 2 * length (fieldsOf bs) ≤ length bs
@@ -20,12 +21,6 @@ unfolding fieldsOf
 fields-most [] = omega arith
 fields-most (a ∷ []) = omega arith
 fields-most (a ∷ b ∷ bs) = let h = fields-most bs in omega arith
-
-twice-suc : (k : ℕ) → 2 * suc k ≡ suc (suc (2 * k))
-twice-suc k = omega arith
-
-twice-suc-one : (k : ℕ) → 2 * suc k + 1 ≡ suc (suc (2 * k + 1))
-twice-suc-one k = omega arith
 
 fields-at : (bs : List ℕ) (k : ℕ) → 2 * k + 1 < length bs → getD (fieldsOf bs) k 0 ≡ two (getD bs (2 * k) 0) (getD bs (2 * k + 1) 0)
 unfolding fieldsOf

@@ -45,6 +45,10 @@ pub record Runs (e : Engine) (f : Fed) (t : Block) : Type 0 where
   pub script : check (f .script) ≡ accepted t
   pub area : areaFits e f ≡ true
 
+-- the limits that a call is fed
+abbrev pub limitsOf : Fed → Limits
+limitsOf f = record { activations = f .activations; group = f .group }
+
 -- Whatever comes of an accepted program (`ran`): the call is refused or run, each on its cause.
 module _ (e : Engine) (f : Fed) (ran : Block → Reply) where
   pub called-cases : (P : Reply → Type 0) → ((c : Refusal) (o : ℕ) → Due e f c o → P (turnedAway f c o)) → ((t : Block) → Runs e f t → P (ran t)) → P (unlessRefused e f ran)
@@ -123,7 +127,7 @@ away-end f c o = (refl, refl)
 
 run-end : (e : Engine) (f : Fed) (t : Block) (c : Refusal) → (replied e f (runOf f t)) .answer .end ≢ Refused c
 unfolding replied runOf
-run-end e f t c = never-refused (record { activations = f .activations; group = f .group }) (f .allowance) (start t (f .table)) c
+run-end e f t c = never-refused (limitsOf f) (f .allowance) (start t (f .table)) c
 
 -- a reply that says refused is due with its offset, and leaves everything
 pub refused-due : (e : Engine) (f : Fed) (c : Refusal) → (reply e f) .answer .end ≡ Refused c → Due e f c ((reply e f) .answer .offset)
@@ -147,27 +151,22 @@ start-steps : (t : Block) (tb : Table) → (start t tb) .steps ≡ 0
 unfolding start enter
 start-steps t tb = refl
 
-limitsOf : Fed → Limits
-limitsOf f = record { activations = f .activations; group = f .group }
-
 ran-table : (e : Engine) (f : Fed) (t : Block) → length ((replied e f (runOf f t)) .table) ≡ length (f .table .words)
-unfolding replied runOf limitsOf
+unfolding replied runOf
 ran-table e f t = words-kept (limitsOf f) (f .allowance) (start t (f .table)) ∙ ap (λ x. length (x .words)) (start-table t (f .table))
 
 pub table-length : (e : Engine) (f : Fed) → length ((reply e f) .table) ≡ length (f .table .words)
 table-length e f = reply-cases (λ r. length (r .table) ≡ length (f .table .words)) e f (λ c o h. ap length ((away-untouched f c o) .table)) (λ t h. ran-table e f t)
 
 -- what the tests that passed say
-limits-live : (f : Fed) → limitsFit f ≡ true → 1 ≤ f .activations
+first : (a b : Bool) → a && b ≡ true → a ≡ true
+first a b e = ((and-eq-true-iff a b) .0 e) .0
+
+pub activations-fit : (f : Fed) → limitsFit f ≡ true → (1 ≤ f .activations) × (f .activations ≤ 256)
 unfolding limitsFit
-limits-live f e =
-    let d = f .activations in
-    let p5 = (and-eq-true-iff (leb 1 d && leb d 256 && leb (f .allowance) 1000000 && leb 1 (f .group) && leb (f .group) 65535) (leb (f .tally) 1000000000000)) .0 e in
-    let p4 = (and-eq-true-iff (leb 1 d && leb d 256 && leb (f .allowance) 1000000 && leb 1 (f .group)) (leb (f .group) 65535)) .0 (p5 .0) in
-    let p3 = (and-eq-true-iff (leb 1 d && leb d 256 && leb (f .allowance) 1000000) (leb 1 (f .group))) .0 (p4 .0) in
-    let p2 = (and-eq-true-iff (leb 1 d && leb d 256) (leb (f .allowance) 1000000)) .0 (p3 .0) in
-    let p1 = (and-eq-true-iff (leb 1 d) (leb d 256)) .0 (p2 .0) in
-    leb-true 1 d (p1 .0)
+activations-fit f e =
+    let q = (and-eq-true-iff (leb 1 (f .activations)) (leb (f .activations) 256)) .0 (first _ (leb (f .allowance) 1000000) (first _ (leb 1 (f .group)) (first _ (leb (f .group) 65535) (first _ (leb (f .tally) 1000000000000) e)))) in
+    (leb-true 1 (f .activations) (q .0), leb-true (f .activations) 256 (q .1))
 
 lent-sheet : (e : Engine) (f : Fed) → lentFits e f ≡ true → f .activations * 34 ≤ length (f .sheet)
 unfolding lentFits
@@ -175,9 +174,9 @@ lent-sheet e f h = leb-true (f .activations * 34) (length (f .sheet)) (((and-eq-
 
 -- every activation left by the run has at most 32 names, and at most D are live
 left-fits : (e : Engine) (f : Fed) (t : Block) → Runs e f t → FitsState ((runOf f t) .final) × (length ((runOf f t) .final .live) ≤ f .activations)
-unfolding runOf limitsOf
+unfolding runOf
 left-fits e f t h =
-    (run-fits (limitsOf f) (f .allowance) (start t (f .table)) (start-fits t (f .table) (accepted-fits (f .script) t (h .script))), start-bound (limitsOf f) (f .allowance) t (f .table) (limits-live f (h .limits)))
+    (run-fits (limitsOf f) (f .allowance) (start t (f .table)) (start-fits t (f .table) (accepted-fits (f .script) t (h .script))), start-bound (limitsOf f) (f .allowance) t (f .table) (activations-fit f (h .limits) .0))
 
 -- the words written fit the sheet: at most 34 for each of at most D activations
 sheet-fits : (e : Engine) (f : Fed) (t : Block) → Runs e f t → length (sheetWords ((runOf f t) .final)) ≤ f .activations * 34
@@ -212,7 +211,7 @@ unfolding turnedAway
 away-reported f c o = record { steps = zero-le; tally = sym (add-zero (f .tally)); words = zero-le; designator = zero-le; past = refl; table = λ h. h }
 
 ran-reported : (e : Engine) (f : Fed) (t : Block) → Runs e f t → Reported f (replied e f (runOf f t))
-unfolding replied runOf limitsOf
+unfolding replied runOf
 ran-reported e f t h =
     let n = f .allowance in
     let s = start t (f .table) in

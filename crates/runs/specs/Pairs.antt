@@ -1,6 +1,6 @@
 -- Laws of finding a pair and of counting a group's members, for any number k of pairs that the words hold.
 -- Read `At i ws g m` as: place i of the words ws, from 0, holds the pair (g, m). `find-place` says what `find` gives, `find-is` that
--- nothing else meets it; `find-next` and `members-next` are the laws of one place more, for a loop over the places.
+-- nothing else meets it; `find-next` and `members-next` of laws say what one place more gives.
 use Prim.Native.Nat.{ℕ, zero, suc, _+_, _*_, _≤_, _<_}
 use native.Mathlib.Nat.{not-suc-le-zero, le-of-suc-le-suc}
 use native.Mathlib.Omega.{arith}
@@ -10,31 +10,16 @@ use mathlib.Core.Bool.{Bool, true, false, _&&_, cond, true≢false, and-eq-true-
 use mathlib.Core.List.{List, [], _∷_}
 use mathlib.Core.Option.{Option, none, some}
 use lib.Dec.{leb}
-use lib.IntN.{ℤ, pos}
-use lib.ListN.{length, getD}
+use lib.IntN.{ℤ}
+use lib.ListN.{length}
 use borrow.Author.Tests.{leb-true, leb-false}
 use Rattle.language.specs.Basics.{eqZ}
 use Rattle.language.specs.Table.{find, isSome, members}
 use Rattle.laws.specs.Tests.{eqZ-refl, eqZ-true, ne-eqZ}
-
--- the two words of place i
-abbrev pub groupAt : ℕ → List ℤ → ℤ
-groupAt i ws = getD ws (2 * i) (pos 0)
-
-abbrev pub memberAt : ℕ → List ℤ → ℤ
-memberAt i ws = getD ws (suc (2 * i)) (pos 0)
+use Rattle.laws.specs.Tables.{groupAt, memberAt, groupAt-suc, memberAt-suc, front, counts, members-zero, members-next}
 
 abbrev pub At : ℕ → List ℤ → ℤ → ℤ → Type 0
 At i ws g m = (groupAt i ws ≡ g) × (memberAt i ws ≡ m)
-
-two-suc : (i : ℕ) → 2 * suc i ≡ suc (suc (2 * i))
-two-suc i = omega arith
-
-pub groupAt-suc : (i : ℕ) (a b : ℤ) (ws : List ℤ) → groupAt (suc i) (a ∷ b ∷ ws) ≡ groupAt i ws
-groupAt-suc i a b ws = ap (λ n. getD (a ∷ b ∷ ws) n (pos 0)) (two-suc i)
-
-pub memberAt-suc : (i : ℕ) (a b : ℤ) (ws : List ℤ) → memberAt (suc i) (a ∷ b ∷ ws) ≡ memberAt i ws
-memberAt-suc i a b ws = ap (λ n. getD (a ∷ b ∷ ws) (suc n) (pos 0)) (two-suc i)
 
 at-up : (i : ℕ) (a b : ℤ) (ws : List ℤ) (g m : ℤ) → At i ws g m → At (suc i) (a ∷ b ∷ ws) g m
 at-up i a b ws g m p = (groupAt-suc i a b ws ∙ p .0, memberAt-suc i a b ws ∙ p .1)
@@ -58,10 +43,7 @@ absent-up : (k : ℕ) (a b : ℤ) (ws : List ℤ) (g m : ℤ) → eqZ a g && eqZ
 absent-up k a b ws g m e h zero l p = at-false a b g m e (p .0) (p .1)
 absent-up k a b ws g m e h (suc i) l p = h i (le-of-suc-le-suc l) (at-down i a b ws g m p)
 
-abbrev step-of : Bool → Option ℕ → Option ℕ
-step-of t o = elim t [ true ↦ some 0 | false ↦ elim o [ none ↦ none | some i ↦ some (suc i) ] ]
-
-place-up : (g m : ℤ) (k : ℕ) (a b : ℤ) (ws : List ℤ) (t : Bool) → eqZ a g && eqZ b m ≡ t → (o : Option ℕ) → Place g m k ws o → Place g m (suc k) (a ∷ b ∷ ws) (step-of t o)
+place-up : (g m : ℤ) (k : ℕ) (a b : ℤ) (ws : List ℤ) (t : Bool) → eqZ a g && eqZ b m ≡ t → (o : Option ℕ) → Place g m k ws o → Place g m (suc k) (a ∷ b ∷ ws) (front t o)
 place-up g m k a b ws true e o p = (omega arith, at-true a b g m e, λ j h. absurd (not-suc-le-zero h))
 place-up g m k a b ws false e none p = absent-up k a b ws g m e p
 place-up g m k a b ws false e (some i) p = (omega (arith, p .0), at-up i a b ws g m (p .1), absent-up i a b ws g m e (p .2))
@@ -124,67 +106,12 @@ find-present g m k ws i h l p = go (find g m k ws) (find-place g m k ws h)
     go none q = absurd (q i l p)
     go (some j) q = refl
 
--- one place more: found before it, or there, or not at all
-abbrev pub orElse : Option ℕ → Bool → ℕ → Option ℕ
-orElse none t k = cond t (some k) none
-orElse (some i) t k = some i
-
-pub find-next : (g m : ℤ) (k : ℕ) (ws : List ℤ) → 2 * suc k ≤ length ws → find g m (suc k) ws ≡ orElse (find g m k ws) (eqZ (groupAt k ws) g && eqZ (memberAt k ws) m) k
-find-next g m k ws h = find-is g m (suc k) ws _ h (go (find g m k ws) (find-place g m k ws (omega arith)) (eqZ (groupAt k ws) g && eqZ (memberAt k ws) m) refl)
-  where
-    last-too : ((i : ℕ) → i < k → At i ws g m → ⊥) → (At k ws g m → ⊥) → (i : ℕ) → i < suc k → At i ws g m → ⊥
-    last-too p q i l a = on (below-or i k)
-      where
-        on : (i ≡ k) ⊎ ((i < k) ⊎ (k < i)) → ⊥
-        on (inl e) = q (subst (λ j. At j ws g m) e a)
-        on (inr (inl b)) = p i b a
-        on (inr (inr b)) = omega arith
-
-    go : (o : Option ℕ) → Place g m k ws o → (t : Bool) → eqZ (groupAt k ws) g && eqZ (memberAt k ws) m ≡ t → Place g m (suc k) ws (orElse o t k)
-    go (some i) p t e = (omega (arith, p .0), p .1, p .2)
-    go none p true e = (omega arith, at-true (groupAt k ws) (memberAt k ws) g m e, p)
-    go none p false e = last-too p (λ a. at-false (groupAt k ws) (memberAt k ws) g m e (a .0) (a .1))
-
--- 1 where place i is of group g, else 0
-abbrev pub counts : ℤ → ℕ → List ℤ → ℕ
-counts g i ws = cond (eqZ (groupAt i ws) g) 1 0
-
-pub members-next : (g : ℤ) (k : ℕ) (ws : List ℤ) → 2 * suc k ≤ length ws → members g (suc k) ws ≡ members g k ws + counts g k ws
-unfolding members
-members-next g k [] h = absurd (omega arith)
-members-next g k (a ∷ []) h = absurd (omega arith)
-members-next g zero (a ∷ b ∷ ws) h = go (eqZ a g)
-  where
-    go : (t : Bool) → elim t as (λ x. ℕ) [ true ↦ 1 | false ↦ 0 ] ≡ 0 + cond t 1 0
-    go true = refl
-    go false = refl
-members-next g (suc k) (a ∷ b ∷ ws) h = rw (groupAt-suc k a b ws) (go (members-next g k ws (omega arith)) (eqZ a g))
-  where
-    go : members g (suc k) ws ≡ members g k ws + counts g k ws → (t : Bool) → elim t as (λ x. ℕ) [ true ↦ suc (members g (suc k) ws) | false ↦ members g (suc k) ws ] ≡ elim t as (λ x. ℕ) [ true ↦ suc (members g k ws) | false ↦ members g k ws ] + counts g k ws
-    go q true = omega arith
-    go q false = q
-
-pub members-zero : (g : ℤ) (ws : List ℤ) → members g 0 ws ≡ 0
-unfolding members
-members-zero g ws = refl
-
 -- a place of the group counts
 pub counts-one : (g : ℤ) (i : ℕ) (ws : List ℤ) → groupAt i ws ≡ g → counts g i ws ≡ 1
 counts-one g i ws e = ap (λ t. cond t 1 0) (ap (λ a. eqZ a g) e ∙ eqZ-refl g)
 
 pub counts-none : (g : ℤ) (i : ℕ) (ws : List ℤ) → groupAt i ws ≢ g → counts g i ws ≡ 0
 counts-none g i ws e = ap (λ t. cond t 1 0) (ne-eqZ (groupAt i ws) g e)
-
-pub counts-small : (g : ℤ) (i : ℕ) (ws : List ℤ) → counts g i ws ≤ 1
-counts-small g i ws = go (eqZ (groupAt i ws) g)
-  where
-    go : (t : Bool) → cond t 1 0 ≤ 1
-    go true = omega arith
-    go false = omega arith
-
-pub members-small : (g : ℤ) (k : ℕ) (ws : List ℤ) → 2 * k ≤ length ws → members g k ws ≤ k
-members-small g zero ws h = omega (arith, members-zero g ws)
-members-small g (suc k) ws h = omega (arith, members-next g k ws h, members-small g k ws (omega arith), counts-small g k ws)
 
 -- more places, no fewer members
 pub members-more : (g : ℤ) (k : ℕ) (ws : List ℤ) → 2 * suc k ≤ length ws → members g k ws ≤ members g (suc k) ws

@@ -11,7 +11,8 @@ use lib.IntN.{ℤ}
 use lib.ListN.{length}
 use borrow.Author.Tests.{eqb-true, eq-eqb, leb-true, le-leb, not-true}
 use Rattle.language.specs.Table.{Table, find, isSome, members, size, atLeastOne, numbersRight, noneTwice, groupsWithin, right}
-use Rattle.runs.specs.Pairs.{groupAt, memberAt, At, groupAt-suc, memberAt-suc, below-or, absent, find-absent, members-where}
+use Rattle.laws.specs.Tables.{groupAt, memberAt, groupAt-suc, memberAt-suc}
+use Rattle.runs.specs.Pairs.{At, below-or, absent, find-absent, members-where}
 
 -- Of the pairs in use: both numbers are at least 1, equal pairs are at the same place, and no group has more than limit members.
 pub record Right (limit : ℕ) (t : Table) : Type 0 where

@@ -16,8 +16,9 @@ use Rattle.language.specs.Basics.{eqZ}
 use Rattle.language.specs.Table.{Table, find, isSome, holds, members, size, atLeastOne, right, full, add, takeOut, fewer, remove}
 use Rattle.language.specs.Machine.{State, Limits, withLive, withTable, counted, store, enter, advance, run}
 use Rattle.laws.specs.Tests.{eqZ-true}
-use Rattle.runs.specs.Pairs.{groupAt, memberAt, At, orElse, below-or, find-some, find-next, find-same, find-absent, find-present, absent, members-next, members-same}
-use Rattle.runs.specs.TakingOut.{takeOut-length, takeOut-place-before, takeOut-place-after, takeOut-members}
+use Rattle.laws.specs.Tables.{groupAt, memberAt, orElse, find-next, members-next, takeOut-length}
+use Rattle.runs.specs.Pairs.{At, below-or, find-some, find-same, find-absent, find-present, absent, members-same}
+use Rattle.runs.specs.TakingOut.{takeOut-place-before, takeOut-place-after, takeOut-members}
 use Rattle.runs.specs.Rightness.{Right, right-means, right-holds}
 use Rattle.runs.specs.Moves.{Kept, run-keeps}
 
@@ -40,7 +41,7 @@ unfolding add
 add-word g m t n d p q = getD-set-other (set (t .words) (2 * t .used) g) (suc (2 * t .used)) n m d q ∙ getD-set-other (t .words) (2 * t .used) n g d p
 
 pub add-before : (g m : ℤ) (t : Table) (i : ℕ) → i < t .used → At i ((add g m t) .words) (groupAt i (t .words)) (memberAt i (t .words))
-add-before g m t i h = (add-word g m t (2 * i) (pos 0) (omega arith) (omega arith), add-word g m t (suc (2 * i)) (pos 0) (omega arith) (omega arith))
+add-before g m t i h = (add-word g m t (2 * i) (pos 0) (omega arith) (omega arith), add-word g m t (2 * i + 1) (pos 0) (omega arith) (omega arith))
 
 pub add-new : (g m : ℤ) (t : Table) → 2 * suc (t .used) ≤ length (t .words) → At (t .used) ((add g m t) .words) g m
 unfolding add
@@ -48,7 +49,8 @@ add-new g m t h =
     let u = t .used in
     let vs = set (t .words) (2 * u) g in
     let e : length vs ≡ length (t .words) = length-set (t .words) (2 * u) g in
-    (getD-set-other vs (suc (2 * u)) (2 * u) m (pos 0) (omega arith) ∙ getD-set-same (t .words) (2 * u) g (pos 0) (omega arith), getD-set-same vs (suc (2 * u)) m (pos 0) (omega arith))
+    let o : 2 * u + 1 ≡ suc (2 * u) = omega arith in
+    (getD-set-other vs (suc (2 * u)) (2 * u) m (pos 0) (omega arith) ∙ getD-set-same (t .words) (2 * u) g (pos 0) (omega arith), ap (λ n. getD (set vs (suc (2 * u)) m) n (pos 0)) o ∙ getD-set-same vs (suc (2 * u)) m (pos 0) (omega arith))
 
 -- the pair's group has one member more, the others as many as before
 pub add-size : (h g m : ℤ) (t : Table) → 2 * suc (t .used) ≤ length (t .words) → size h (add g m t) ≡ size h t + cond (eqZ g h) 1 0

@@ -6,19 +6,13 @@ use mathlib.Core.Path.{_≡_, refl, sym, ap, _∙_}
 use mathlib.Core.Bool.{Bool, true, false, cond}
 use mathlib.Core.List.{List, [], _∷_, _++_}
 use lib.IntN.{ℤ, pos}
-use lib.ListN.{length, getD, take, drop, length-append, length-take, length-drop, List·getD-append}
+use lib.ListN.{length, getD, take, drop, length-take, List·getD-append}
 use lib.Seq.{getD-append-add, getD-take, getD-drop}
 use Rattle.language.specs.Basics.{eqZ}
 use Rattle.language.specs.Table.{members, takeOut, fewer}
-use Rattle.runs.specs.Pairs.{groupAt, memberAt, At, groupAt-suc, counts, members-same}
-
-pub takeOut-length : (i k : ℕ) (ws : List ℤ) → length (takeOut i k ws) ≡ length ws
-unfolding takeOut
-takeOut-length i zero ws = refl
-takeOut-length i (suc k) [] = refl
-takeOut-length i (suc k) (a ∷ []) = refl
-takeOut-length zero (suc k) (a ∷ b ∷ ws) = simp (length-append, length-take, length-drop) (omega arith)
-takeOut-length (suc i) (suc k) (a ∷ b ∷ ws) = ap (λ n. suc (suc n)) (takeOut-length i k ws)
+use Rattle.laws.specs.Lists.{twice-suc, twice-suc-one}
+use Rattle.laws.specs.Tables.{groupAt, memberAt, groupAt-suc, counts, takeOut-length}
+use Rattle.runs.specs.Pairs.{At, members-same}
 
 -- the words before the place stay
 pub takeOut-before : (i k : ℕ) (ws : List ℤ) (n : ℕ) (d : ℤ) → n < 2 * i → getD (takeOut i k ws) n d ≡ getD ws n d
@@ -81,12 +75,11 @@ takeOut-beyond (suc i) (suc k) (a ∷ b ∷ ws) (suc (suc n)) d f h = takeOut-be
 
 -- the same, place by place
 pub takeOut-place-before : (i k : ℕ) (ws : List ℤ) (j : ℕ) → j < i → At j (takeOut i k ws) (groupAt j ws) (memberAt j ws)
-takeOut-place-before i k ws j h = (takeOut-before i k ws (2 * j) (pos 0) (omega arith), takeOut-before i k ws (suc (2 * j)) (pos 0) (omega arith))
+takeOut-place-before i k ws j h = (takeOut-before i k ws (2 * j) (pos 0) (omega arith), takeOut-before i k ws (2 * j + 1) (pos 0) (omega arith))
 
 pub takeOut-place-after : (i k : ℕ) (ws : List ℤ) (j : ℕ) → 2 * k ≤ length ws → i ≤ j → suc j < k → At j (takeOut i k ws) (groupAt (suc j) ws) (memberAt (suc j) ws)
 takeOut-place-after i k ws j f h l =
-    let e : suc (suc (2 * j)) ≡ 2 * suc j = omega arith in
-    (takeOut-after i k ws (2 * j) (pos 0) f (omega arith) (omega arith) ∙ ap (λ n. getD ws n (pos 0)) e, takeOut-after i k ws (suc (2 * j)) (pos 0) f (omega arith) (omega arith) ∙ ap (λ n. getD ws (suc n) (pos 0)) e)
+    (takeOut-after i k ws (2 * j) (pos 0) f (omega arith) (omega arith) ∙ ap (λ n. getD ws n (pos 0)) (sym (twice-suc j)), takeOut-after i k ws (2 * j + 1) (pos 0) f (omega arith) (omega arith) ∙ ap (λ n. getD ws n (pos 0)) (sym (twice-suc-one j)))
 
 -- the group of the pair taken out has one member fewer, the others as many as before
 pub takeOut-members : (g : ℤ) (i k : ℕ) (ws : List ℤ) → 2 * k ≤ length ws → i < k → members g k ws ≡ members g (fewer k) (takeOut i k ws) + counts g i ws

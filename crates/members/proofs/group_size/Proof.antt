@@ -11,11 +11,11 @@ use mir.Syntax.{w32}
 use mir.Facts.{toZ-ofZ}
 use Rattle.language.specs.Basics.{eqZ}
 use Rattle.language.specs.Table.{members}
-use Rattle.members.specs.Places.{groupAt}
+use Rattle.laws.specs.Tables.{groupAt, members-zero, members-within}
 use Rattle.members.proofs.group_size.Statement.{statement}
 use Rattle.members.proofs.group_size.Tie as tie
 use Rattle.members.proofs.Signed.{back}
-use Rattle.members.proofs.Pairs.{room, members-zero, members-hit, members-miss, members-within, members-clamped}
+use Rattle.members.proofs.Pairs.{room, members-hit, members-miss, members-clamped}
 
 abbrev Inv-loop : tie.InvT-loop
 Inv-loop table count group n found₀ i₀ found i = (i ≤ n) × (found ≡ members (toZ w32 group) i table)

@@ -2,7 +2,7 @@
 use borrow.Author.Needs.{needs}
 use mathlib.Core.Path.{_≡_, refl, sym, _∙_}
 use Rattle.language.specs.Basics.{eqZ}
-use Rattle.members.specs.Places.{groupAt}
+use Rattle.laws.specs.Tables.{groupAt}
 use Rattle.members.proofs.pair_is.Statement.{statement}
 use Rattle.members.proofs.pair_is.Tie as tie
 use Rattle.members.proofs.Signed.{same-words}

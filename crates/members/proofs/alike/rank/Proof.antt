@@ -4,7 +4,7 @@ use mathlib.Core.Path.{_≡_, sym, _∙_, ap}
 use mathlib.Core.Logic.{⊎-elim}
 use native.Mathlib.Numerals.{add-one}
 use native.Mathlib.Omega.{arith}
-use Rattle.members.specs.Places.{groupAt, memberAt}
+use Rattle.laws.specs.Tables.{groupAt, memberAt}
 use Rattle.members.specs.Keys.{sameAt, alike, rankAt}
 use Rattle.members.proofs.Keys.{alike-none, alike-hit, alike-miss, alike-within}
 use Rattle.members.proofs.alike.rank.Statement.{statement}

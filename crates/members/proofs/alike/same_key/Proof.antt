@@ -1,7 +1,7 @@
 -- `same_key` meets its contract.
 use mathlib.Core.Path.{_≡_, sym, _∙_}
 use Rattle.language.specs.Basics.{eqZ}
-use Rattle.members.specs.Places.{groupAt}
+use Rattle.laws.specs.Tables.{groupAt}
 use Rattle.members.specs.Keys.{same, sameAt}
 use Rattle.members.proofs.Signed.{same-words}
 use Rattle.members.proofs.Keys.{differ}

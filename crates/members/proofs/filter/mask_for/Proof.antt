@@ -1,6 +1,6 @@
 -- `mask_for` meets its contract.
-use Rattle.members.proofs.Keys.{clash}
 use borrow.Author.Needs.{needs}
+use Rattle.laws.specs.Tests.{never}
 use Rattle.members.proofs.filter.mask_for.Statement.{statement}
 use Rattle.members.proofs.filter.mask_for.Tie as tie
 
@@ -8,7 +8,7 @@ returns : tie.Need-returns
 returns c = search needs
 
 returns-2 : tie.Need-returns-2
-returns-2 c = λ e. clash e (c .if1 .left)
+returns-2 c = λ e. never e (c .if1 .left)
 
 pub mask-for-spec : {M : Type 1} → statement M
 mask-for-spec = tie.close (tie.spec returns returns-2)

@@ -8,9 +8,9 @@ use native.Mathlib.Omega.{arith}
 use borrow.Author.Tests.{eq-eqb, eqb-true}
 use lib.Dec.{eqb}
 use lib.ListN.{length, getD}
+use Rattle.laws.specs.Tests.{never}
 use Rattle.members.specs.Hashes.{classOf, classAt, spot, maskOf, markOf, spotAt, markAt, maskAt}
 use Rattle.members.specs.Filter.{covers, OfClass, Cleared, Met}
-use Rattle.members.proofs.Keys.{clash}
 use Rattle.members.proofs.Filters.{putIn, suspected-own, Grown, grown-same, grown-put, fresh, met-skip, met-next}
 use borrow.Author.Needs.{needs}
 use Rattle.members.proofs.filter.meet.Statement.{statement}
@@ -86,7 +86,7 @@ met c after g told = go (own k) refl
     go false e =
         subst (λ (seen : List ℕ). Next s seen after) (sym (putOf c .put .ensures))
         (met-skip (s .args .whole) (s .args .table .now) (s .args .classes) (s .args .class) (s .args .i) (s .args .seen .now) (s .args .marks .now) (s .pre .1 .1) (wordOf c .word-for .result) (putOf c .before .mask-for .result) after g
-        (λ m. clash (mine-own k m) e))
+        (λ m. never (mine-own k m) e))
 
 hash-requires : tie.Need-hash-requires
 hash-requires c κs = search needs

@@ -1,7 +1,7 @@
 -- `word_for` meets its contract.
 use native.Mathlib.Omega.{arith}
-use Rattle.members.proofs.Keys.{clash}
 use borrow.Author.Needs.{needs}
+use Rattle.laws.specs.Tests.{never}
 use Rattle.members.proofs.filter.word_for.Statement.{statement}
 use Rattle.members.proofs.filter.word_for.Tie as tie
 
@@ -12,7 +12,7 @@ returns : tie.Need-returns
 returns c = search needs
 
 returns-2 : tie.Need-returns-2
-returns-2 c = (λ e. clash e (c .if1 .left), omega arith)
+returns-2 c = (λ e. never e (c .if1 .left), omega arith)
 
 pub word-for-spec : {M : Type 1} → statement M
 word-for-spec = tie.close (tie.spec spot-of-requires returns returns-2)

@@ -1,7 +1,7 @@
 -- `hash` meets its contract.
 use Prim.Native.Nat.{ℕ}
 use mathlib.Core.Path.{_≡_, _∙_, ap, ap₂}
-use Rattle.members.specs.Places.{groupAt}
+use Rattle.laws.specs.Tables.{groupAt}
 use Rattle.members.specs.Hashes.{weightOf, spread, stir, hashAt}
 use Rattle.members.proofs.Signed.{back}
 use borrow.Author.Needs.{needs}

@@ -5,9 +5,10 @@ use mathlib.Core.Bool.{true}
 use native.Mathlib.Omega.{arith}
 use borrow.Author.Count.{below-more}
 use borrow.Author.Tests.{not-true, not-false, lt-leb}
+use Rattle.laws.specs.Tests.{never}
 use Rattle.members.specs.Keys.{rankAt, within}
 use Rattle.members.specs.Slots.{Good, wanted}
-use Rattle.members.proofs.Keys.{clash, rankFits, each-false}
+use Rattle.members.proofs.Keys.{rankFits, each-false}
 use Rattle.members.proofs.Passes.{good-start}
 use Rattle.members.proofs.slots.pass.Statement.{statement}
 use Rattle.members.proofs.slots.pass.Tie as tie
@@ -38,7 +39,7 @@ returns c =
     let k = c .before .before in
     let l = k .before .before .before in
     let s = l .before .before in (
-      λ e. clash e refl,
+      λ e. never e refl,
       λ e. each-false (rankFits (s .args .whole) (s .args .limit) (s .args .table .now)) (s .args .count) (l .loop .i) (omega arith) (lt-leb _ _ (k .sift .ensures .1 .1 (not-true _ (c .if1 .taken)))),
     )
 
@@ -56,7 +57,7 @@ loop-again c =
     (omega arith, k .sift .ensures .0 done, below-more _ _ (l .loop .inv .2) (k .sift .ensures .1 .0 done))
 
 returns-2 : tie.Need-returns-2 Inv-loop μ-loop
-returns-2 c = (λ e j l m. c .before .loop .inv .2 j (omega arith) m, λ e. clash refl e)
+returns-2 c = (λ e j l m. c .before .loop .inv .2 j (omega arith) m, λ e. never refl e)
 
 pub pass-spec : {M : Type 1} → statement M
 pass-spec =

@@ -4,10 +4,10 @@ use mathlib.Core.Path.{_≡_, refl, sym, _∙_, ap, ap₂}
 use mathlib.Core.Bool.{Bool, true, false, _&&_}
 use borrow.Author.Tests.{not-true, not-false, eq-eqb, ne-eqb}
 use lib.Dec.{eqb}
+use Rattle.laws.specs.Tests.{never}
 use Rattle.members.specs.Hashes.{classOf, classAt}
 use Rattle.members.specs.Filter.{suspected}
 use Rattle.members.specs.Slots.{Good, wanted}
-use Rattle.members.proofs.Keys.{clash}
 use Rattle.members.proofs.Passes.{wanted-key, good-skip}
 use borrow.Author.Needs.{needs}
 use Rattle.members.proofs.slots.sift.Statement.{statement}
@@ -45,8 +45,8 @@ returns c =
     let k = c .before in
     let s = startOf k in
     let no = wants-is s {a = false} {b = eqb (classAt (s .args .whole) (s .args .table .now) (s .args .classes) (s .args .i)) (s .args .class)} (sym (k .is-suspected .ensures) ∙ not-true _ (c .if1 .taken)) refl in (
-      λ e. good-skip (s .args .whole) (s .args .table .now) (wants s) (wanted-key _ _ _ _ _) (s .args .i) (s .args .slots .now) (good s) (λ m. clash m no),
-      (λ e m. clash m no, λ e. clash refl e),
+      λ e. good-skip (s .args .whole) (s .args .table .now) (wants s) (wanted-key _ _ _ _ _) (s .args .i) (s .args .slots .now) (good s) (λ m. never m no),
+      (λ e m. never m no, λ e. never refl e),
     )
 
 class-of-requires : tie.Need-class-of-requires
@@ -58,8 +58,8 @@ returns-2 c =
     let d = k .before in
     let s = startOf (d .before) in
     let no = wants-is s {a = true} {b = false} (sym (d .before .is-suspected .ensures) ∙ not-false _ (d .if1 .left)) (ne-eqb _ _ (λ z. c .if2 .taken (classed k ∙ z))) in (
-      λ e. good-skip (s .args .whole) (s .args .table .now) (wants s) (wanted-key _ _ _ _ _) (s .args .i) (s .args .slots .now) (good s) (λ m. clash m no),
-      (λ e m. clash m no, λ e. clash refl e),
+      λ e. good-skip (s .args .whole) (s .args .table .now) (wants s) (wanted-key _ _ _ _ _) (s .args .i) (s .args .slots .now) (good s) (λ m. never m no),
+      (λ e m. never m no, λ e. never refl e),
     )
 
 step-requires : tie.Need-step-requires

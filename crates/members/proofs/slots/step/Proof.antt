@@ -4,11 +4,11 @@ use mathlib.Core.Path.{_≡_, refl, _∙_, ap, subst}
 use native.Mathlib.Omega.{arith}
 use borrow.Author.Tests.{leb-true, leb-false}
 use lib.ListN.{length, getD}
+use Rattle.laws.specs.Tests.{never}
 use Rattle.members.specs.Hashes.{spot}
 use Rattle.members.specs.Slots.{firsts, slotAt, Sought}
 use Rattle.members.specs.declared.slots.Slot.{Slot}
 use Rattle.members.specs.declared.slots.Slot.the-variants.{Empty, Held, Full}
-use Rattle.members.proofs.Keys.{clash}
 use Rattle.members.proofs.Ranks.{rank-counted}
 use Rattle.members.proofs.Passes.{slot-below, number-room, good-new, good-held, good-full, held-count, empty-count}
 use borrow.Author.Needs.{needs}
@@ -93,7 +93,7 @@ returns : tie.Need-returns
 returns c =
     let f = c .before .before .before .before in
     let s = startOf (f .before .before) in (
-      λ e. clash e refl,
+      λ e. never e refl,
       λ e mine keyed m g. omega (arith, rank-counted (s .args .whole) (s .args .table .now) (s .args .i), held-count (s .args .whole) (s .args .table .now) mine keyed (s .args .i) (s .args .slots .now) g m (at-held f), c .before .number-in .ensures, c .if1 .taken),
     )
 
@@ -126,7 +126,7 @@ returns-2 c =
         good-new (s .args .whole) (s .args .table .now) mine keyed (s .args .i) (s .args .slots .now) g (s .pre .1 .0) m (at-empty f),
         omega (arith, rank-counted (s .args .whole) (s .args .table .now) (s .args .i), empty-count (s .args .whole) (s .args .table .now) mine keyed (s .args .i) (s .args .slots .now) g m (at-empty f), s .pre .1 .1 .0),
       ),
-      λ e. clash refl e,
+      λ e. never refl e,
     )
 
 same-length-3 : tie.Need-same-length-3
@@ -140,7 +140,7 @@ returns-3 c =
         good-held (s .args .whole) (s .args .table .now) mine keyed (s .args .i) (s .args .slots .now) g m (at-held f),
         omega (arith, rank-counted (s .args .whole) (s .args .table .now) (s .args .i), held-count (s .args .whole) (s .args .table .now) mine keyed (s .args .i) (s .args .slots .now) g m (at-held f), c .before .number-in .ensures, c .if1 .left),
       ),
-      λ e. clash refl e,
+      λ e. never refl e,
     )
 
 same-length-4 : tie.Need-same-length-4
