@@ -11,7 +11,7 @@ use Rattle.language.specs.Encoding.{kindField}
 use Rattle.language.specs.Scope.{Scope, fine, wrong, visible, allVisible, kindIn, agree, _then_}
 use Rattle.language.specs.declared.Refusal.the-variants.{NotVisible}
 use Rattle.scoping.specs.Entries.{wordAt, wordsAt, kindOf, kindsAt, meaningAt, foundIn, scopeOf}
-use Rattle.scoping.specs.declared.Found.the-variants.{At, Nothing}
+use Rattle.scoping.specs.declared.scope.Found.the-variants.{At, Nothing}
 use Rattle.scoping.proofs.Meanings.{found-lookup, kinds-agree, kinds-differ}
 
 one-less : (count i : ℕ) → i < count → count - i ≡ suc (count - (i + 1))

@@ -19,7 +19,7 @@ use Rattle.language.specs.declared.Refusal.the-variants.{CallMismatch}
 use Rattle.scoping.specs.Entries.{wordAt, wordsAt, kindsAt, meaningAt, foundIn, scopeOf, verdictOf, Shape, isTwo, shapeOf, judgedAs}
 use Rattle.language.specs.declared.Verdict.{Verdict}
 use Rattle.language.specs.declared.Verdict.the-variants.{Fit, Refused}
-use Rattle.scoping.specs.declared.Found.the-variants.{At, Nothing}
+use Rattle.scoping.specs.declared.scope.Found.the-variants.{At, Nothing}
 use Rattle.scoping.proofs.Meanings.{found-lookup, means-PR, use-right}
 
 fit-refused : {A : Type 0} (r : Verdict) (c : Refusal) (o : ℕ) → r ≡ Fit → r ≡ Refused c o → A

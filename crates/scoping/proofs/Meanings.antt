@@ -18,8 +18,8 @@ use Rattle.language.specs.Scope.{Meaning, fine, wrong, ofKind}
 use Rattle.language.specs.Scope as definitions
 use Rattle.language.specs.declared.Refusal.the-variants.{NotVisible, WrongKind}
 use Rattle.scoping.specs.Entries.{wordAt, kindOf, kindsAt, meaningAt, foundIn, Near, scopeOf}
-use Rattle.scoping.specs.declared.Found.{Found}
-use Rattle.scoping.specs.declared.Found.the-variants.{At, Nothing}
+use Rattle.scoping.specs.declared.scope.Found.{Found}
+use Rattle.scoping.specs.declared.scope.Found.the-variants.{At, Nothing}
 
 -- a field that is not 0 begins inside the script
 pub word-inside : (bs : List ℕ) (at : ℕ) → 0 < wordAt bs at → length bs ≤ at → ⊥

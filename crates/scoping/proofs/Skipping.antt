@@ -10,7 +10,7 @@ use Rattle.language.specs.Encoding.{BK-mark, VR-mark, PR-mark, CL-mark, GO-mark
 use Rattle.scoping.specs.Standing.{Stands}
 use Rattle.scoping.specs.Items.{Item, itemFields, itemsFields, kids, headFields, sizeOf, headSize, kidsCount}
 use Rattle.scoping.specs.Passing.{Passed}
-use Rattle.scoping.specs.declared.Step.{Step}
+use Rattle.scoping.specs.declared.passing.Step.{Step}
 use Rattle.scoping.proofs.Meanings.{word-inside}
 use Rattle.scoping.proofs.Inside.{stands-second, items-append, item-opens, head-size, kids-count, head-marked}
 

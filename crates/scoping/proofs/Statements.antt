@@ -17,7 +17,7 @@ use Rattle.scoping.specs.Standing.{Stands}
 use Rattle.scoping.specs.Items.{Item, formal, body, declared, stated, itemFields, itemsFields, kids, headFields}
 use Rattle.scoping.specs.Passing.{Passed}
 use Rattle.scoping.specs.Walking.{progressOf, onwardOf, Ahead, judgeItem, FormedItem, BlockHere, ItemHere}
-use Rattle.scoping.specs.declared.Step.{Step}
+use Rattle.scoping.specs.declared.passing.Step.{Step}
 use Rattle.language.specs.declared.Verdict.{Verdict}
 use Rattle.language.specs.declared.Verdict.the-variants.{Fit}
 use Rattle.language.specs.declared.Verdict.the-variants as verdicts

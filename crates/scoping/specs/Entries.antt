@@ -12,8 +12,8 @@ use Rattle.language.specs.Scope.{Meaning, Scope, kindIn, fine, wrong, _then_, u
 use Rattle.language.specs.Scope as definitions
 use Rattle.language.specs.declared.Verdict.{Verdict}
 use Rattle.language.specs.declared.Verdict.the-variants.{Fit, Refused}
-use Rattle.scoping.specs.declared.Found.{Found}
-use Rattle.scoping.specs.declared.Found.the-variants.{At, Nothing}
+use Rattle.scoping.specs.declared.scope.Found.{Found}
+use Rattle.scoping.specs.declared.scope.Found.the-variants.{At, Nothing}
 
 -- the field at an offset; a byte past the end counts as 0
 unfoldable pub wordAt : List ℕ → ℕ → ℕ

@@ -6,7 +6,7 @@ use lib.ListN.{length, take, drop}
 use Rattle.scoping.specs.Entries.{wordAt}
 use Rattle.scoping.specs.Standing.{Stands}
 use Rattle.scoping.specs.Items.{Item, itemFields, itemsFields, headSize, kidsCount, entriesOf}
-use Rattle.scoping.specs.declared.Step.{Step}
+use Rattle.scoping.specs.declared.passing.Step.{Step}
 
 -- one record's head
 pub record Passed (bs : List ℕ) (at : ℕ) (s : Step) : Type 0 where

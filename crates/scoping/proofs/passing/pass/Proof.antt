@@ -1,0 +1,151 @@
+-- `scoping::passing::pass` meets its contract: a case for each mark. Assumes nothing.
+use Prim.Native.Nat.{ℕ, _+_}
+use mathlib.Core.Path.{_≡_, sym, ap, _∙_}
+use native.Mathlib.Omega.{arith}
+use Rattle.language.specs.Encoding.{BK-mark, PR-mark, CL-mark}
+use Rattle.scoping.specs.Entries.{wordAt}
+use Rattle.scoping.specs.Items.{sizeOf, headSize, kidsCount}
+use Rattle.scoping.proofs.Skipping.{head-other, kids-other}
+use borrow.Author.Needs.{needs}
+use Rattle.scoping.proofs.passing.pass.Statement.{statement}
+use Rattle.scoping.proofs.passing.pass.Tie as tie
+
+add-t5 : tie.Need-add-t5
+add-t5 c = search needs
+
+add-word : tie.Need-add-word
+add-word c = search needs
+
+word-requires : tie.Need-word-requires
+word-requires c κs = search needs
+
+add-word-2 : tie.Need-add-word-2
+add-word-2 c = search needs
+
+word-requires-2 : tie.Need-word-requires-2
+word-requires-2 c κs = search needs
+
+add-t10 : tie.Need-add-t10
+add-t10 c = search needs
+
+returns : tie.Need-returns
+unfolding headSize kidsCount
+returns c =
+    let st = c .before .before .before .before in
+    let a = st .args in
+    let bs = a .script .now in
+    let m : wordAt bs (a .at) ≡ BK-mark = sym (st .pre .1) ∙ c .before .before .if1 .taken in
+    record {
+      next-is = sym (ap (λ (x : ℕ). a .at + headSize x (wordAt bs (a .at + 4))) m);
+      more-is = (let p = c .before .word .ensures .0 in let q = c .word2 .ensures .0 in cc) ∙ sym (ap (λ (x : ℕ). kidsCount x (wordAt bs (a .at + 2)) (wordAt bs (a .at + 4))) m);
+      on = omega arith;
+      near = omega arith;
+      few = omega arith;
+    }
+
+add-t11 : tie.Need-add-t11
+add-t11 c = search needs
+
+add-word-3 : tie.Need-add-word-3
+add-word-3 c = search needs
+
+word-requires-3 : tie.Need-word-requires-3
+word-requires-3 c κs = search needs
+
+add-t14 : tie.Need-add-t14
+add-t14 c = search needs
+
+returns-2 : tie.Need-returns-2
+unfolding headSize kidsCount
+returns-2 c =
+    let st = c .before .before .before .before in
+    let a = st .args in
+    let bs = a .script .now in
+    let m : wordAt bs (a .at) ≡ PR-mark = sym (st .pre .1) ∙ c .before .if2 .taken in
+    record {
+      next-is = sym (ap (λ (x : ℕ). a .at + headSize x (wordAt bs (a .at + 4))) m);
+      more-is = ap (λ (x : ℕ). x + 1) (c .word3 .ensures .0) ∙ sym (ap (λ (x : ℕ). kidsCount x (wordAt bs (a .at + 2)) (wordAt bs (a .at + 4))) m);
+      on = omega arith;
+      near = omega arith;
+      few = omega arith;
+    }
+
+add-t15 : tie.Need-add-t15
+add-t15 c = search needs
+
+add-word-4 : tie.Need-add-word-4
+add-word-4 c = search needs
+
+word-requires-4 : tie.Need-word-requires-4
+word-requires-4 c κs = search needs
+
+mul-t18 : tie.Need-mul-t18
+mul-t18 c = search needs
+
+add-t19 : tie.Need-add-t19
+add-t19 c = search needs
+
+returns-3 : tie.Need-returns-3
+unfolding headSize kidsCount
+returns-3 c =
+    let st = c .before .before .before .before .before in
+    let a = st .args in
+    let bs = a .script .now in
+    let m : wordAt bs (a .at) ≡ CL-mark = sym (st .pre .1) ∙ c .before .if3 .taken in
+    let v = c .word4 .ensures .0 in
+    record {
+      next-is = omega arith ∙ sym (ap (λ (x : ℕ). a .at + headSize x (wordAt bs (a .at + 4))) m);
+      more-is = sym (ap (λ (x : ℕ). kidsCount x (wordAt bs (a .at + 2)) (wordAt bs (a .at + 4))) m);
+      on = omega arith;
+      near = omega arith;
+      few = omega arith;
+    }
+
+size-requires : tie.Need-size-requires
+size-requires c κs = search needs
+
+add-t21 : tie.Need-add-t21
+add-t21 c = search needs
+
+returns-4 : tie.Need-returns-4
+returns-4 c =
+    let st = c .before .before .before .before .before in
+    let a = st .args in
+    let bs = a .script .now in
+    let e = st .pre .1 in
+    let nBK : wordAt bs (a .at) ≡ BK-mark → ⊥ = λ p. c .before .before .before .if1 .left (e ∙ p) in
+    let nPR : wordAt bs (a .at) ≡ PR-mark → ⊥ = λ p. c .before .before .if2 .left (e ∙ p) in
+    let nCL : wordAt bs (a .at) ≡ CL-mark → ⊥ = λ p. c .before .if3 .left (e ∙ p) in
+    record {
+      next-is = ap (λ (x : ℕ). a .at + x) (c .size .ensures .0 ∙ ap sizeOf e ∙ sym (head-other (wordAt bs (a .at)) (wordAt bs (a .at + 4)) nBK nPR nCL));
+      more-is = sym (kids-other (wordAt bs (a .at)) (wordAt bs (a .at + 2)) (wordAt bs (a .at + 4)) nBK nPR);
+      on = omega arith;
+      near = omega arith;
+      few = omega arith;
+    }
+
+pub pass-spec : {M : Type 1} → statement M
+pass-spec =
+    tie.close
+    (tie.spec
+    add-t5
+    add-word
+    word-requires
+    add-word-2
+    word-requires-2
+    add-t10
+    returns
+    add-t11
+    add-word-3
+    word-requires-3
+    add-t14
+    returns-2
+    add-t15
+    add-word-4
+    word-requires-4
+    mul-t18
+    add-t19
+    returns-3
+    size-requires
+    add-t21
+    returns-4)

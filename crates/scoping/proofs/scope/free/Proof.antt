@@ -1,0 +1,67 @@
+-- `scoping::scope::free` meets its contract: the entries before `i` are free. Assumes nothing.
+use Prim.Native.Nat.{ℕ, _≤_, _+_, _-_}
+use mathlib.Core.Path.{_≡_, refl, sym, subst, _∙_}
+use native.Mathlib.Omega.{arith}
+use lib.ListN.{length, drop}
+use borrow.Author.Needs.{needs}
+use Rattle.scoping.specs.Chains.{Hung}
+use Rattle.scoping.proofs.scope.free.Statement.{statement}
+use Rattle.scoping.proofs.scope.free.Tie as tie
+
+abbrev Inv-loop : tie.InvT-loop
+Inv-loop entries₀ base top i₀ entries i =
+    (base ≤ i)
+    × (i ≤ top)
+    × (length entries ≡ length entries₀)
+    × (drop 768 entries ≡ drop 768 entries₀)
+    × Hung entries i
+
+abbrev μ-loop : tie.MeasureT-loop
+μ-loop entries₀ base top i₀ entries i = top - i
+
+loop-holds : tie.Need-loop-holds Inv-loop μ-loop
+loop-holds c = (search needs, search needs, refl, refl, search needs)
+
+free-one-requires : tie.Need-free-one-requires Inv-loop μ-loop
+free-one-requires c κs = (c .before .before .loop .inv .4, omega arith)
+
+add-i : tie.Need-add-i Inv-loop μ-loop
+add-i c = search needs
+
+loop-less : tie.Need-loop-less Inv-loop μ-loop
+loop-less c = search needs
+
+loop-again : tie.Need-loop-again Inv-loop μ-loop
+loop-again c =
+    let l = c .before .before .before .before .before .loop in
+    let o = c .before .before in (
+      omega arith,
+      omega arith,
+      o .free-one .kept .0 ∙ l .inv .2,
+      o .free-one .ensures .1 ∙ l .inv .3,
+      o .free-one .ensures .0,
+    )
+
+same-length : tie.Need-same-length Inv-loop μ-loop
+same-length c = c .before .loop .inv .2
+
+returns : tie.Need-returns Inv-loop μ-loop
+returns c =
+    let l = c .before .loop in
+    let a = c .before .before .before .args in
+    let e : l .i ≡ a .top = omega arith in
+    (subst (Hung (l .entries)) e (l .inv .4), l .inv .3)
+
+pub free-spec : {M : Type 1} → statement M
+free-spec =
+    tie.close
+    (tie.spec
+    Inv-loop
+    μ-loop
+    loop-holds
+    free-one-requires
+    add-i
+    loop-less
+    loop-again
+    same-length
+    returns)
