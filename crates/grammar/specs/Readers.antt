@@ -11,6 +11,7 @@ use lib.Seq.{take-at, drop-at}
 use Rattle.language.specs.Structure.{Reading, read, refuse, Reader, _>>=_, _>>_, give, here, require, fields, Row, fit, Record, take-record}
 use Rattle.language.specs.declared.Refusal.{Refusal}
 use Rattle.laws.specs.Each.{Each, each-map}
+use Rattle.laws.specs.Readers.{bind-read, filled}
 
 abbrev pub Yields : {A : Type 0} → (A → ℕ → List ℕ → Type 0) → Reading A → Type 0
 Yields Q (read a o ws) = Q a o ws
@@ -25,10 +26,6 @@ module _ {A B : Type 0} (m : Reader A) (f : A → Reader B) where
       go : (x : Reading A) → m at ws ≡ x → Yields R x → Yields Q ((m >>= f) at ws)
       go (read a o vs) e y = rw (e, _>>=_) (k a o vs y)
       go (refuse c o) e y = rw (e, _>>=_) tt
-
-  pub bind-read : (a : A) (at o : ℕ) (ws vs : List ℕ) → m at ws ≡ read a o vs → (m >>= f) at ws ≡ f a o vs
-  unfolding _>>=_
-  bind-read a at o ws vs e = rw (e, _>>=_)
 
   pub bind-assoc : {C : Type 0} (g : B → Reader C) (at : ℕ) (ws : List ℕ) → (m >>= λ a. f a >>= g) at ws ≡ ((m >>= f) >>= g) at ws
   unfolding _>>=_
@@ -58,10 +55,6 @@ module _ {A : Type 0} (n : Reader A) where
   unfolding _>>=_ _>>_ require
   yields-require true c r Q at ws k = k refl
   yields-require false c r Q at ws k = tt
-
-  pub require-read : (b : Bool) (c : Refusal) (r at : ℕ) (ws : List ℕ) → b ≡ true → (require b c r >> n) at ws ≡ n at ws
-  unfolding _>>=_ _>>_ require
-  require-read b c r at ws e = rw e
 
 -- k fields, one after the other
 abbrev pub Fields : ℕ → (List ℕ → Type 0) → Type 0
@@ -103,10 +96,6 @@ abbrev pub Marked : {M : Type 0} → ℕ → List ℕ → (Record M → ℕ → 
 Marked at us R x =
     Fields (x .count) (λ fs. (vs : List ℕ) → us ≡ x .letters ∷ (fs ++ vs) → R (record { at = at; mark = x .mark; fields = fs }) (at + 2 * suc (x .count)) vs)
 
--- a row's fields and what is made of them
-unfoldable filled : {M : Type 0} → ℕ → Row M → Reader (Record M)
-filled at r = fields at (r .count) >>= λ fs. give (record { at = at; mark = r .mark; fields = fs })
-
 yields-filled : {M : Type 0} (R : Record M → ℕ → List ℕ → Type 0) (at w : ℕ) (us : List ℕ) (x : Row M) → Marked at (w ∷ us) R x
     → w ≡ x .letters → Yields R (filled at x (at + 2) us)
 unfolding filled give _>>=_
@@ -137,7 +126,7 @@ filled-read : {M : Type 0} (x : Row M) (at : ℕ) (fs vs : List ℕ) → length 
     → filled at x (at + 2) (fs ++ vs) ≡ read (record { at = at; mark = x .mark; fields = fs }) (at + 2 * suc (x .count)) vs
 unfolding filled give
 filled-read x at fs vs l =
-    bind-read (fields at (x .count)) (λ xs. give (record { at = at; mark = x .mark; fields = xs })) fs (at + 2) (at + 2 + 2 * x .count) (fs ++ vs) vs
+    bind-read (fields at (x .count)) (λ xs. give (record { at = at; mark = x .mark; fields = xs })) (at + 2) (fs ++ vs)
     (fields-read at (at + 2) fs vs (x .count) l)
     ∙ ap (λ (o : ℕ). read (record { at = at; mark = x .mark; fields = fs }) o vs) (omega arith)
 

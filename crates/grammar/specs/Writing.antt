@@ -13,8 +13,9 @@ use Rattle.language.specs.Text.{Kind, variable, label, procedure, Operation, pl
 use Rattle.language.specs.Encoding.{signed, unsigned, kindField, operationField, BK-mark, VR-mark, LB-mark, PR-mark, FM-mark, CL-mark, GO-mark, IF-mark, KN-mark, AR-mark, AD-mark, RM-mark, QY-mark, actionFields, formalsFields, blockFields, declFields, stmtFields, declsFields, stmtsFields}
 use Rattle.language.specs.Structure.{read, Reader, _>>=_, give, fields, Row, isVR, isLB, isPR, isBK, isCL, isGO, isIF, isKN, isAR, isAD, isRM, isQY, blockMarks, formalMarks, declMarks, stmtMarks, fit, Record, take-record, kind, operation, formals, declared, declarations, action, stated, statements, blockWith, program}
 use Rattle.laws.specs.Distinct.{Distinct, Fresh, distinct-fresh, distinct-first}
+use Rattle.laws.specs.Readers.{bind-read, passes}
 use Rattle.grammar.specs.Rules.{FormedAction, FormedFormals, FormedBlock, FormedDecl, FormedStmt, FormedDecls, FormedStmts}
-use Rattle.grammar.specs.Readers.{bind-read, bind-assoc, require-read, fields-read, take-read}
+use Rattle.grammar.specs.Readers.{bind-assoc, fields-read, take-read}
 use Rattle.grammar.specs.Words.{low-high, signed-unsigned}
 
 moved : {A : Type 0} (a : A) (ws : List ℕ) {o o′ : ℕ} → o ≡ o′ → read a o ws ≡ read a o′ ws
@@ -35,7 +36,7 @@ marked : {M B : Type 0} (rows : List (Row M)) (f : Record M → Reader B) (x : R
     → fit at (x .letters) rows ≡ give x
     → (take-record rows >>= f) at (x .letters ∷ (fs ++ ws)) ≡ f (record { at = at; mark = x .mark; fields = fs }) (at + 2 * suc (x .count)) ws
 marked rows f x at fs ws l e =
-    bind-read (take-record rows) f _ at (at + 2 * suc (x .count)) _ ws (take-read rows x at fs ws l e)
+    bind-read (take-record rows) f at _ (take-read rows x at fs ws l e)
 
 -- formals
 kind-read : {B : Type 0} (r : ℕ) (k : Kind) (f : Kind → Reader B) (at : ℕ) (ws : List ℕ) → (kind r (kindField k) >>= f) at ws ≡ f k at ws
@@ -62,8 +63,8 @@ write-formals (f ∷ fs) seen at ws h n =
     let k = write-formals fs (f .name ∷ seen) (at + 6) ws (h .rest) (n .1) in
     marked formalMarks _ (row FM-mark 2 true) at (f .name ∷ kindField (f .kind) ∷ []) (formalsFields fs ++ ws) refl refl
     ∙ kind-read at (f .kind) _ (at + 6) (formalsFields fs ++ ws)
-    ∙ require-read _ _ _ at (at + 6) (formalsFields fs ++ ws) (new (f .name) seen (n .0))
-    ∙ bind-read (formals (length fs) (f .name ∷ seen)) _ fs (at + 6) _ _ ws k
+    ∙ passes _ _ at _ (at + 6) (formalsFields fs ++ ws) (new (f .name) seen (n .0))
+    ∙ bind-read (formals (length fs) (f .name ∷ seen)) _ (at + 6) _ k
     ∙ moved _ ws (omega arith)
     ∙ ap (λ (p : ℕ). read (record { at = p; name = f .name; kind = f .kind } ∷ fs) (at + 2 * length (formalsFields (f ∷ fs))) ws) (sym (h .stands))
 
@@ -91,7 +92,7 @@ unfolding fit blockMarks give
 taken-block k b fs at h f ws =
     ap (λ (l : List ℕ). body-then k fs f at (l ++ ws)) (within-is b)
     ∙ marked blockMarks _ (row BK-mark 2 true) at (length (blockDecls b) ∷ length (blockStmts b) ∷ []) (within b ++ ws) refl refl
-    ∙ bind-read (blockWith k at (length (blockDecls b)) (length (blockStmts b)) (formalNames fs)) f b (at + 6) _ _ ws (h ws)
+    ∙ bind-read (blockWith k at (length (blockDecls b)) (length (blockStmts b)) (formalNames fs)) f (at + 6) _ (h ws)
 
 -- declarations
 abbrev one-decl : ℕ → ℕ → List ℕ → Reader Decl
@@ -101,14 +102,14 @@ module _ (k s : ℕ) (seen : List ℕ) (at n : ℕ) (ws : List ℕ) (new-name : 
   write-VR : one-decl k s seen at (declFields (VR at n) ++ ws) ≡ read (VR at n) (at + 4) ws
   unfolding declFields fit declMarks give declared
   write-VR =
-      marked declMarks _ (row VR-mark 1 isVR) at (n ∷ []) ws refl refl ∙ require-read _ _ _ at (at + 4) ws (new n seen new-name)
+      marked declMarks _ (row VR-mark 1 isVR) at (n ∷ []) ws refl refl ∙ passes _ _ at _ (at + 4) ws (new n seen new-name)
 
   write-LB : (i : ℕ) → 1 ≤ i → i ≤ s → one-decl k s seen at (declFields (LB at n i) ++ ws) ≡ read (LB at n i) (at + 6) ws
   unfolding declFields fit declMarks give declared
   write-LB i p q =
       marked declMarks _ (row LB-mark 2 isLB) at (n ∷ i ∷ []) ws refl refl
-      ∙ require-read _ _ _ at (at + 6) ws ((and-eq-true-iff (leb 1 i) (leb i s)) .1 (le-leb 1 i p, le-leb i s q))
-      ∙ require-read _ _ _ at (at + 6) ws (new n seen new-name)
+      ∙ passes _ _ at _ (at + 6) ws ((and-eq-true-iff (leb 1 i) (leb i s)) .1 (le-leb 1 i p, le-leb i s q))
+      ∙ passes _ _ at _ (at + 6) ws (new n seen new-name)
 
   write-PR : (fs : List Formal) (b : Block) → length fs ≤ 32 → FormedFormals fs (at + 6) → Distinct (formalNames fs)
       → Reads k b fs (at + 6 + 2 * length (formalsFields fs))
@@ -117,9 +118,9 @@ module _ (k s : ℕ) (seen : List ℕ) (at n : ℕ) (ws : List ℕ) (new-name : 
   write-PR fs b few h once below =
       ap (λ (l : List ℕ). one-decl k s seen at (PR-mark ∷ n ∷ length fs ∷ l)) (append-assoc (formalsFields fs) (blockFields b) ws)
       ∙ marked declMarks _ (row PR-mark 2 isPR) at (n ∷ length fs ∷ []) (formalsFields fs ++ (blockFields b ++ ws)) refl refl
-      ∙ require-read _ _ _ at (at + 6) _ (le-leb (length fs) 32 few)
-      ∙ require-read _ _ _ at (at + 6) _ (new n seen new-name)
-      ∙ bind-read (formals (length fs) []) _ fs (at + 6) _ _ (blockFields b ++ ws)
+      ∙ passes _ _ at _ (at + 6) _ (le-leb (length fs) 32 few)
+      ∙ passes _ _ at _ (at + 6) _ (new n seen new-name)
+      ∙ bind-read (formals (length fs) []) _ (at + 6) _
       (write-formals fs [] (at + 6) (blockFields b ++ ws) h (distinct-fresh [] (formalNames fs) once))
       ∙ taken-block k b fs (at + 6 + 2 * length (formalsFields fs)) below _ ws
       ∙ moved _ ws (marked-end at (formalsFields fs) (blockFields b))
@@ -133,15 +134,15 @@ unfolding fit stmtMarks give stated formalNames
 write-BK k b at ws h =
     ap (λ (l : List ℕ). one-stmt k at (l ++ ws)) (within-is b)
     ∙ marked stmtMarks _ (row BK-mark 2 isBK) at (length (blockDecls b) ∷ length (blockStmts b) ∷ []) (within b ++ ws) refl refl
-    ∙ bind-read (blockWith k at (length (blockDecls b)) (length (blockStmts b)) []) _ b (at + 6) _ _ ws (h ws)
+    ∙ bind-read (blockWith k at (length (blockDecls b)) (length (blockStmts b)) []) _ (at + 6) _ (h ws)
 
 write-CL : (k p : ℕ) (xs : List ℕ) (at : ℕ) (ws : List ℕ) → length xs ≤ 32
     → one-stmt k at (actionFields (CL p xs) ++ ws) ≡ read (DO at (CL p xs)) (at + 2 * length (actionFields (CL p xs))) ws
 unfolding fit stmtMarks give stated action actionFields
 write-CL k p xs at ws few =
     marked stmtMarks _ (row CL-mark 2 isCL) at (p ∷ length xs ∷ []) (xs ++ ws) refl refl
-    ∙ require-read _ _ _ at (at + 6) _ (le-leb (length xs) 32 few)
-    ∙ bind-read (fields at (length xs)) _ xs (at + 6) _ _ ws (fields-read at (at + 6) xs ws (length xs) refl)
+    ∙ passes _ _ at _ (at + 6) _ (le-leb (length xs) 32 few)
+    ∙ bind-read (fields at (length xs)) _ (at + 6) _ (fields-read at (at + 6) xs ws (length xs) refl)
     ∙ moved _ ws (omega arith)
 
 write-action : (k : ℕ) (a : Action) (at : ℕ) (ws : List ℕ) → FormedAction a
@@ -170,8 +171,8 @@ unfolding declarations give
 add-decl k s d seen at x xs ws a b =
     ap (λ (l : List ℕ). declarations (blockWith k) s (suc d) seen at l) (append-assoc (declFields x) (declsFields xs) ws)
     ∙ bind-assoc (take-record declMarks) (λ r. declared (blockWith k) s seen (r .mark) (r .at) (r .fields)) _ at _
-    ∙ bind-read (one-decl k s seen) _ x at _ _ _ a
-    ∙ bind-read (declarations (blockWith k) s d (declName x ∷ seen)) _ xs _ _ _ ws b
+    ∙ bind-read (one-decl k s seen) _ at _ a
+    ∙ bind-read (declarations (blockWith k) s d (declName x ∷ seen)) _ _ _ b
     ∙ moved _ ws (both-end at (declFields x) (declsFields xs))
 
 add-stmt : (k s : ℕ) (at : ℕ) (x : Stmt) (xs : Stmts) (ws : List ℕ)
@@ -183,8 +184,8 @@ unfolding statements give
 add-stmt k s at x xs ws a b =
     ap (λ (l : List ℕ). statements (blockWith k) (suc s) at l) (append-assoc (stmtFields x) (stmtsFields xs) ws)
     ∙ bind-assoc (take-record stmtMarks) (λ r. stated (blockWith k) (r .mark) (r .at) (r .fields)) _ at _
-    ∙ bind-read (one-stmt k) _ x at _ _ _ a
-    ∙ bind-read (statements (blockWith k) s) _ xs _ _ _ ws b
+    ∙ bind-read (one-stmt k) _ at _ a
+    ∙ bind-read (statements (blockWith k) s) _ _ _ b
     ∙ moved _ ws (both-end at (stmtFields x) (stmtsFields xs))
 
 -- a block of its declarations and statements
@@ -198,9 +199,9 @@ whole-block : (k : ℕ) (at : ℕ) (ds : Decls) (ss : Stmts) (ns : List ℕ) (ws
 unfolding blockWith give blockFields
 whole-block k at ds ss ns ws few a b =
     ap (λ (l : List ℕ). blockWith (suc k) at (length (decls ds)) (length (stmts ss)) ns (at + 6) l) (append-assoc (declsFields ds) (stmtsFields ss) ws)
-    ∙ require-read _ _ _ at (at + 6) _ (le-leb (length ns + length (decls ds)) 32 few)
-    ∙ bind-read (declarations (blockWith k) (length (stmts ss)) (length (decls ds)) ns) _ ds (at + 6) _ _ _ a
-    ∙ bind-read (statements (blockWith k) (length (stmts ss))) _ ss _ _ _ ws b
+    ∙ passes _ _ at _ (at + 6) _ (le-leb (length ns + length (decls ds)) 32 few)
+    ∙ bind-read (declarations (blockWith k) (length (stmts ss)) (length (decls ds)) ns) _ (at + 6) _ a
+    ∙ bind-read (statements (blockWith k) (length (stmts ss))) _ _ _ b
     ∙ moved _ ws (marked-end at (declsFields ds) (stmtsFields ss))
 
 few-names : (fs : List Formal) (d : ℕ) → length fs + d ≤ 32 → length (formalNames fs) + d ≤ 32

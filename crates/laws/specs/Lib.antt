@@ -1,8 +1,9 @@
--- Laws of lists, options and tests, and of the small functions of `language`, that more than one crate of theorems leans on.
+-- Laws of lists, options and tests, and of the small functions of `language`, that more than one crate leans on.
 pub mod Tests
 pub mod Kinds
 pub mod Lists
 pub mod Tables
+pub mod Readers
 pub mod Reversed
 pub mod Each
 pub mod Distinct

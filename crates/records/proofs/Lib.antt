@@ -1,6 +1,5 @@
 pub mod Unread
 pub mod Table
-pub mod Binds
 pub mod Taking
 pub mod Places
 pub mod Steps

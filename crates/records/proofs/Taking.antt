@@ -12,11 +12,11 @@ use borrow.Author.Tests.{eq-eqb, ne-eqb}
 use Rattle.language.specs.Encoding.{two}
 use Rattle.language.specs.Structure.{Reading as Outcome, read, refuse, Row, Record, Reader, _>>=_, give, here, fields, fit, take-record}
 use Rattle.language.specs.declared.Refusal.the-variants.{PastTheEnd, MarkMisplaced}
+use Rattle.laws.specs.Readers.{bind-read, bind-refuse, filled}
 use Rattle.records.specs.Taking.{unread, fitIn}
 use Rattle.records.specs.declared.Mark.{Mark}
 use Rattle.records.specs.declared.Fit.{Fit}
 use Rattle.records.specs.declared.Fit.the-variants.{Found, Nothing}
-use Rattle.records.proofs.Binds.{bind-read, bind-refuse}
 use Rattle.records.proofs.Unread.{unread-drop, unread-enough, unread-short, unread-at}
 
 -- the next k fields, where they are there and where they are not
@@ -77,16 +77,13 @@ module _ {M : Type 0} (f : M → Mark) (w : ℕ) where
   fitted [] n m e = absurd (found-nothing Nothing e refl)
   fitted (r ∷ rs) n m e = fitted-cons n m r rs (eqb w (r .letters)) refl e (fitted rs n m)
 
--- what comes after the mark's field, and after its row
-finish : {M : Type 0} → ℕ → Row M → Reader (Record M)
-finish at r = fields at (r .count) >>= λ fs. give (record { at = at; mark = r .mark; fields = fs })
-
+-- what comes after the mark's field
 after-mark : {M : Type 0} → List (Row M) → ℕ → List ℕ → Reader (Record M)
-after-mark rows at w = fit at (getD w 0 0) rows >>= finish at
+after-mark rows at w = fit at (getD w 0 0) rows >>= filled at
 
 module _ {M : Type 0} (rows : List (Row M)) (bs : List ℕ) (at : ℕ) where
   opened : take-record rows at (unread bs at) ≡ (fields at 1 >>= after-mark rows at) at (unread bs at)
-  unfolding take-record _>>=_ here after-mark finish
+  unfolding take-record _>>=_ here after-mark filled
   opened = refl
 
   pub no-mark : length bs < at + 2 → take-record rows at (unread bs at) ≡ refuse PastTheEnd at
@@ -104,7 +101,7 @@ module _ {M : Type 0} (rows : List (Row M)) (bs : List ℕ) (at : ℕ) where
   abbrev letters : ℕ
   letters = two (getD bs at 0) (getD bs (at + 1) 0)
 
-  marked : at + 2 ≤ length bs → take-record rows at (unread bs at) ≡ (fit at letters rows >>= finish at) (at + 2) (unread bs (at + 2))
+  marked : at + 2 ≤ length bs → take-record rows at (unread bs at) ≡ (fit at letters rows >>= filled at) (at + 2) (unread bs (at + 2))
   unfolding after-mark
   marked h =
       opened
@@ -113,17 +110,17 @@ module _ {M : Type 0} (rows : List (Row M)) (bs : List ℕ) (at : ℕ) where
       ∙ rw (first-field h, unread-drop bs at 1)
 
   pub misplaced : (f : M → Mark) → at + 2 ≤ length bs → fitIn f letters rows ≡ Nothing → take-record rows at (unread bs at) ≡ refuse MarkMisplaced at
-  misplaced f h e = marked h ∙ bind-refuse (fit at letters rows) (finish at) (at + 2) (unread bs (at + 2)) (unfit f letters rows e at (at + 2) (unread bs (at + 2)))
+  misplaced f h e = marked h ∙ bind-refuse (fit at letters rows) (filled at) (at + 2) (unread bs (at + 2)) (unfit f letters rows e at (at + 2) (unread bs (at + 2)))
 
   module _ (f : M → Mark) (n : ℕ) (m : Mark) (h : at + 2 ≤ length bs) (e : fitIn f letters rows ≡ Found n m) where
-    rowed : take-record rows at (unread bs at) ≡ finish at (fitted f letters rows n m e .row) (at + 2) (unread bs (at + 2))
+    rowed : take-record rows at (unread bs at) ≡ filled at (fitted f letters rows n m e .row) (at + 2) (unread bs (at + 2))
     rowed =
         marked h
-        ∙ bind-read (fit at letters rows) (finish at) (at + 2) (unread bs (at + 2))
+        ∙ bind-read (fit at letters rows) (filled at) (at + 2) (unread bs (at + 2))
         (fitted f letters rows n m e .fits at (at + 2) (unread bs (at + 2)))
 
     pub cut-off : length bs < at + 2 + 2 * n → take-record rows at (unread bs at) ≡ refuse PastTheEnd at
-    unfolding finish
+    unfolding filled
     cut-off short =
         rowed
         ∙ bind-refuse _ _ (at + 2) (unread bs (at + 2))
@@ -137,5 +134,5 @@ module _ {M : Type 0} (rows : List (Row M)) (bs : List ℕ) (at : ℕ) where
         ∙ ap (read (take n (unread bs (at + 2))) (at + 2 + 2 * n)) (unread-drop bs (at + 2) n))
 
     pub whole : at + 2 + 2 * n ≤ length bs → take-record rows at (unread bs at) ≡ read (record { at = at; mark = fitted f letters rows n m e .row .mark; fields = take n (unread bs (at + 2)) }) (at + 2 + 2 * n) (unread bs (at + 2 + 2 * n))
-    unfolding finish give
+    unfolding filled give
     whole fits = rowed ∙ bind-read _ _ (at + 2) (unread bs (at + 2)) (all-there fits)

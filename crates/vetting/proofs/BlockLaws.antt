@@ -10,6 +10,7 @@ use Rattle.language.specs.Text.{Formal, Block, Decls, block, formalNames}
 use Rattle.language.specs.Structure.{Reading as Outcome, read, refuse, Reader, _>>=_, _>>_, give, require, Record, blockMarks, take-record, formals, BlockReader, declarations, statements, blockWith}
 use Rattle.language.specs.declared.Refusal.{Refusal}
 use Rattle.language.specs.declared.Refusal.the-variants.{NestingDepth, TooManyNames}
+use Rattle.laws.specs.Readers.{bind-read, bind-refuse, passes, fails}
 use Rattle.records.specs.declared.Mark.{Mark}
 use Rattle.records.specs.declared.Mark.the-variants.{BK}
 use Rattle.records.specs.declared.Place.the-variants.{Block as ABlock}
@@ -17,11 +18,9 @@ use Rattle.records.specs.declared.Progress.the-variants.{At, Refused}
 use Rattle.records.specs.declared.Reading.{Reading}
 use Rattle.records.specs.declared.Reading.the-variants.{Taken}
 use Rattle.records.specs.Taking.{unread, onlyMark, recordAt, forget}
-use Rattle.records.proofs.Binds.{bind-read, bind-refuse}
 use Rattle.records.proofs.Steps.{Step, stepped, stopped}
 use Rattle.vetting.specs.Progress.{bodyOf}
 use Rattle.vetting.proofs.Lands.{Landed, landed, turned-away, tracks-block, tracks-declarations}
-use Rattle.vetting.proofs.Tests.{passes, fails}
 use Rattle.vetting.proofs.Forget.{forget-give}
 
 pub block-deep : (at d s : ℕ) (fs : List ℕ) (o : ℕ) (ws : List ℕ) → forget (blockWith zero at d s fs o ws) ≡ Refused NestingDepth at

@@ -13,6 +13,7 @@ use Rattle.language.specs.Text.{Decl, Decls, PR, decl, declName, formalNames}
 use Rattle.language.specs.Structure.{Reading as Outcome, read, refuse, Reader, _>>=_, _>>_, give, Record, DeclMark, isVR, isLB, isPR, blockMarks, declMarks, take-record, formals, BlockReader, declared, declarations}
 use Rattle.language.specs.declared.Refusal.{Refusal}
 use Rattle.language.specs.declared.Refusal.the-variants.{FieldRange, TooManyNames, NameTwice}
+use Rattle.laws.specs.Readers.{bind-read, bind-refuse, passes, fails}
 use Rattle.records.specs.declared.Mark.{Mark}
 use Rattle.records.specs.declared.Place.the-variants.{Declaration}
 use Rattle.records.specs.declared.Progress.{Progress}
@@ -20,11 +21,9 @@ use Rattle.records.specs.declared.Progress.the-variants.{At, Refused}
 use Rattle.records.specs.declared.Reading.{Reading}
 use Rattle.records.specs.declared.Reading.the-variants.{Taken}
 use Rattle.records.specs.Taking.{unread, declMark, recordAt, forget}
-use Rattle.records.proofs.Binds.{bind-read, bind-refuse}
 use Rattle.records.proofs.Steps.{Step, stepped, stopped}
 use Rattle.vetting.specs.Progress.{declMarkOf, rangedOf, onceAt, FewFormals, bodyOf, belowOf}
 use Rattle.vetting.proofs.Lands.{Landed, landed, turned-away, AllTrack, tracks-declared}
-use Rattle.vetting.proofs.Tests.{passes, fails}
 use Rattle.vetting.proofs.Marks.{ranged-label, ranged-no-label, formals-fit, formals-many}
 use Rattle.vetting.proofs.Forget.{forget-give, forget-bind, Named, named-bind}
 

@@ -4,8 +4,8 @@ use mathlib.Core.List.{List}
 use Prim.Native.Nat.{ℕ}
 use Rattle.language.specs.Text.{Decl, declName}
 use Rattle.language.specs.Structure.{Reading as Outcome, read, refuse, Reader, _>>=_, give}
+use Rattle.laws.specs.Readers.{bind-read, bind-refuse}
 use Rattle.records.specs.Taking.{forget}
-use Rattle.records.proofs.Binds.{bind-read, bind-refuse}
 
 module _ {A : Type 0} (m : Reader A) (at : ℕ) (ws : List ℕ) where
   give-from : {B : Type 0} (k : A → B) (x : Outcome A) → m at ws ≡ x → forget ((m >>= λ a. give (k a)) at ws) ≡ forget x

@@ -10,19 +10,19 @@ use Rattle.language.specs.Text.{Kind, Formal, formalNames}
 use Rattle.language.specs.Structure.{Reading as Outcome, read, refuse, Reader, _>>=_, _>>_, give, require, Record, formalMarks, take-record, kind, formals}
 use Rattle.language.specs.declared.Refusal.{Refusal}
 use Rattle.language.specs.declared.Refusal.the-variants.{FieldRange, NameTwice}
+use Rattle.laws.specs.Readers.{bind-read, bind-refuse, passes, fails}
 use Rattle.records.specs.declared.Mark.{Mark}
 use Rattle.records.specs.declared.Mark.the-variants.{FM}
 use Rattle.records.specs.declared.Place.the-variants.{Formal as AFormal}
 use Rattle.records.specs.declared.Reading.the-variants.{Taken, Refused}
 use Rattle.records.specs.Taking.{unread, onlyMark, recordAt, forget}
-use Rattle.records.proofs.Binds.{bind-read, bind-refuse}
 use Rattle.records.proofs.Steps.{Step, stepped, stopped}
 use Rattle.records.specs.declared.Progress.{Progress}
 use Rattle.vetting.specs.Naming.{namesAt}
 use Rattle.vetting.specs.Progress.{NamesOf}
 use Rattle.vetting.proofs.Names.{names-added}
 use Rattle.vetting.proofs.SameNames.{formals-same, same-snoc}
-use Rattle.vetting.proofs.Tests.{passes, fails, Gives, kind-known, kind-unknown}
+use Rattle.vetting.proofs.Tests.{Gives, kind-known, kind-unknown}
 
 -- formals read before the rest
 unfoldable pub after : List Formal → Outcome (List Formal) → Outcome (List Formal)

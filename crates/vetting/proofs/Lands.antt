@@ -9,9 +9,9 @@ use native.Mathlib.Decide.{decLe}
 use lib.ListN.{length}
 use Rattle.language.specs.Structure.{Reading as Outcome, read, refuse, Reader, _>>=_, _>>_, give, require, fields, Row, Record, DeclMark, isVR, isLB, isPR, StmtMark, isBK, isCL, isGO, isIF, isKN, isAR, isAD, isRM, isQY, take-record, kind, operation, formals, BlockReader, declared, declarations, action, stated, statements, blockWith}
 use Rattle.language.specs.declared.Refusal.{Refusal}
+use Rattle.laws.specs.Readers.{bind-read, bind-refuse}
 use Rattle.records.specs.declared.Progress.the-variants.{At, Refused}
 use Rattle.records.specs.Taking.{unread, forget}
-use Rattle.records.proofs.Binds.{bind-read, bind-refuse}
 use Rattle.records.proofs.Unread.{unread-drop}
 use Rattle.records.proofs.Taking.{fields-all, fields-none}
 use Rattle.records.proofs.Steps.{Sound, sound}

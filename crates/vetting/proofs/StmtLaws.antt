@@ -12,17 +12,17 @@ use Rattle.language.specs.Text.{Stmt, Stmts, BK, stmt}
 use Rattle.language.specs.Structure.{Reading as Outcome, refuse, Reader, _>>=_, give, fields, Record, StmtMark, isBK, isCL, isGO, isIF, isKN, isAR, isAD, isRM, isQY, stmtMarks, take-record, operation, BlockReader, action, stated, statements}
 use Rattle.language.specs.declared.Refusal.{Refusal}
 use Rattle.language.specs.declared.Refusal.the-variants.{FieldRange}
+use Rattle.laws.specs.Readers.{bind-read, bind-refuse, passes, fails}
 use Rattle.records.specs.declared.Mark.{Mark}
 use Rattle.records.specs.declared.Place.the-variants.{Statement}
 use Rattle.records.specs.declared.Progress.the-variants.{At, Refused}
 use Rattle.records.specs.declared.Reading.{Reading}
 use Rattle.records.specs.declared.Reading.the-variants.{Taken}
 use Rattle.records.specs.Taking.{unread, stmtMark, recordAt, forget}
-use Rattle.records.proofs.Binds.{bind-read, bind-refuse}
 use Rattle.records.proofs.Steps.{Step, stepped, stopped}
 use Rattle.vetting.specs.Progress.{stmtMarkOf, actionOf, statedOf}
 use Rattle.vetting.proofs.Lands.{Landed, landed, turned-away, AllTrack, tracks-stated}
-use Rattle.vetting.proofs.Tests.{passes, fails, operation-known, operation-unknown}
+use Rattle.vetting.proofs.Tests.{operation-known, operation-unknown}
 use Rattle.vetting.proofs.Marks.{call-fits, call-many, operation-fits, operation-none}
 use Rattle.vetting.proofs.Forget.{forget-give}
 

@@ -1,21 +1,10 @@
--- What a test inside a reader comes to: `require`, a formal's kind, an operation. Assumes nothing.
+-- What a test inside a reader comes to: a formal's kind, an operation. Assumes nothing.
 use mathlib.Core.Path.{_≡_, refl}
-use mathlib.Core.Bool.{Bool, true, false}
 use mathlib.Core.List.{List}
 use Prim.Native.Nat.{ℕ, zero, suc, _<_, _≤_}
 use native.Mathlib.Omega.{arith}
-use Rattle.language.specs.Structure.{read, refuse, Reader, _>>=_, _>>_, give, require, kind, operation}
-use Rattle.language.specs.declared.Refusal.{Refusal}
+use Rattle.language.specs.Structure.{read, refuse, Reader, give, kind, operation}
 use Rattle.language.specs.declared.Refusal.the-variants.{FieldRange}
-
-module _ {A : Type 0} (b : Bool) (c : Refusal) (o : ℕ) (m : Reader A) (at : ℕ) (ws : List ℕ) where
-  pub passes : b ≡ true → (require b c o >> m) at ws ≡ m at ws
-  unfolding require _>>_ _>>=_
-  passes e = rw e
-
-  pub fails : b ≡ false → (require b c o >> m) at ws ≡ refuse c o
-  unfolding require _>>_ _>>=_
-  fails e = rw e
 
 pub record Gives {A : Type 0} (m : Reader A) : Type 0 where
   pub value : A
