@@ -3,15 +3,16 @@
 use std::hint::black_box;
 
 use crate::row::Row;
-use crate::scripts::{calls, flat, many_names, nested};
+use crate::scripts::{calls, flat, many_names, nested, procedures};
 
 type OfLength = fn(usize) -> Vec<u8>;
 
 const LENGTHS: [usize; 2] = [4_096, 8_192];
 
 pub fn rows() -> Vec<Row> {
-    let workloads: [(&str, OfLength); 4] = [
+    let workloads: [(&str, OfLength); 5] = [
         ("check, deep nesting", nested),
+        ("check, procedures inside each other", procedures),
         ("check, many names and uses", many_names),
         ("check, calls with 32 arguments", calls),
         ("check, one long list of statements", flat),

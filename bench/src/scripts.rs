@@ -86,6 +86,23 @@ pub fn many_names(length: usize) -> Vec<u8> {
     filled(variables([FIRST].into_iter()), tower, length)
 }
 
+/// Procedures inside each other down to the last level, whose body has nearly all the bytes.
+pub fn procedures(length: usize) -> Vec<u8> {
+    let program = |bytes: usize| {
+        let innermost = block(Vec::new(), filling(bytes));
+        let outermost = (FIRST + 1..=LEVELS as Name).rev().fold(innermost, |body, name| {
+            let procedure = Procedure { formals: Vec::new(), body };
+            block(vec![declaration(name, Declared::Procedure(procedure))], Vec::new())
+        });
+        let mut declarations = variables([FIRST].into_iter());
+        declarations.extend(outermost.declarations);
+        encode(&block(declarations, Vec::new())).bytes
+    };
+    let script = program(length - program(0).len());
+    assert_eq!(script.len(), length);
+    script
+}
+
 /// One procedure with as many formals as there may be, called over and over.
 pub fn calls(length: usize) -> Vec<u8> {
     let procedure = NAMES as Name;

@@ -52,7 +52,7 @@ module _ (es : List ℕ) (top : ℕ) (h : Hung es top) where
       (λ k a b c p. h .links i k t (omega arith) (omega (arith, h .long)) c (remainder _ n p ∙ sym same))
       ∙ sym (found-later n es i l other)
 
-same-or-other : (g r : ℕ) → (g ≡ r) ⊎ (g ≡ r → ⊥)
+pub same-or-other : (g r : ℕ) → (g ≡ r) ⊎ (g ≡ r → ⊥)
 same-or-other g r =
     ⊎-elim (λ z. inl (omega arith)) (λ p. inr (λ e. omega arith)) (eq-zero-or-pos ((g - r) + (r - g)))
 

@@ -4,6 +4,7 @@ pub mod Calls
 pub mod Judging
 pub mod Inside
 pub mod Skipping
+pub mod Noting
 pub mod Pushing
 pub mod Names
 pub mod Walking

@@ -6,13 +6,14 @@ use Prim.Native.Nat.{ℕ, _+_, _*_, _-_, _<_, _≤_}
 use native.Mathlib.Omega.{arith}
 use lib.ListN.{length, length-append}
 use borrow.Author.Tests.{ne-eqb}
-use Rattle.language.specs.Encoding.{BK-mark, VR-mark, PR-mark, CL-mark, GO-mark, KN-mark, AR-mark, QY-mark}
+use Rattle.language.specs.Encoding.{BK-mark, VR-mark, LB-mark, PR-mark, CL-mark, GO-mark, KN-mark, AR-mark, QY-mark}
+use Rattle.scoping.specs.Entries.{wordAt}
 use Rattle.scoping.specs.Standing.{Stands}
 use Rattle.scoping.specs.Items.{Item, itemFields, itemsFields, kids, headFields, sizeOf, headSize, kidsCount}
-use Rattle.scoping.specs.Passing.{Passed}
+use Rattle.scoping.specs.Passing.{Passed, Skipped, Left, Stepped}
 use Rattle.scoping.specs.declared.passing.Step.{Step}
 use Rattle.scoping.proofs.Meanings.{word-inside}
-use Rattle.scoping.proofs.Inside.{stands-second, items-append, item-opens, head-size, kids-count, head-marked}
+use Rattle.scoping.proofs.Inside.{stands-first, stands-second, items-append, item-opens, head-size, kids-count, head-marked}
 
 pub size-six : (w : ℕ) → (w ≡ VR-mark → ⊥) → (w ≡ GO-mark → ⊥) → (w ≡ KN-mark → ⊥) → (w ≡ QY-mark → ⊥) → (w ≡ AR-mark → ⊥) → sizeOf w ≡ 6
 unfolding sizeOf
@@ -26,13 +27,6 @@ head-other w a e f g = rw (ne-eqb w BK-mark e, ne-eqb w PR-mark f, ne-eqb w CL-m
 pub kids-other : (w d a : ℕ) → (w ≡ BK-mark → ⊥) → (w ≡ PR-mark → ⊥) → kidsCount w d a ≡ 0
 unfolding kidsCount
 kids-other w d a e f = rw (ne-eqb w BK-mark e, ne-eqb w PR-mark f, kidsCount)
-
--- the records still to pass, from an offset on, of those that begin with a record
-pub record Left (bs : List ℕ) (at here pending : ℕ) (x : Item) : Type 0 where
-  pub items : List Item
-  pub stand : Stands bs here (itemsFields items)
-  pub number : length items ≡ pending
-  pub reach : here + 2 * length (itemsFields items) ≡ at + 2 * length (itemFields x)
 
 module _ (bs : List ℕ) (at : ℕ) (x : Item) where
   alone : itemsFields (x ∷ []) ≡ itemFields x
@@ -85,3 +79,68 @@ module _ (bs : List ℕ) (at : ℕ) (x : Item) where
 
     pub left-step : Left bs at here pending x → Left bs at (s .next) (pending - 1 + s .more) x
     left-step l = step-on (l .items) (l .number) (l .stand) (l .reach)
+
+  pub left-first : (s : Step) → Passed bs at s → Stands bs at (itemFields x) → Left bs at (s .next) (s .more) x
+  left-first s p h =
+      let e : 1 - 1 + s .more ≡ s .more = omega arith in
+      subst (λ (k : ℕ). Left bs at (s .next) k x) e (left-step at 1 (omega arith) s p (left-start h))
+
+  -- all of the next record at once
+  module _ (here pending end : ℕ) (more : 0 < pending) (s : Skipped bs here end) where
+    whole-on : (xs : List Item) → length xs ≡ pending → Stands bs here (itemsFields xs) → here + 2 * length (itemsFields xs) ≡ at + 2 * length (itemFields x) → Left bs at end (pending - 1 + 0) x
+    unfolding itemsFields
+    whole-on [] n h r = absurd (omega arith)
+    whole-on (y ∷ ys) n h r =
+        let e : end ≡ here + 2 * length (itemFields y) = s .ends y (stands-first bs here (itemFields y) (itemsFields ys) h) in
+        record {
+          items = ys;
+          stand = subst (λ (o : ℕ). Stands bs o (itemsFields ys)) (sym e) (stands-second bs here (itemFields y) (itemsFields ys) h);
+          number = omega arith;
+          reach = omega (arith, length-append (itemFields y) (itemsFields ys));
+        }
+
+    pub left-whole : Left bs at here pending x → Left bs at end (pending - 1 + 0) x
+    left-whole l = whole-on (l .items) (l .number) (l .stand) (l .reach)
+
+-- declarations that hold no other record, by their marks
+module _ (bs : List ℕ) (at : ℕ) where
+  passed-alone : (w size : ℕ) → wordAt bs at ≡ w → ((a : ℕ) → headSize w a ≡ size) → ((d a : ℕ) → kidsCount w d a ≡ 0) → 4 ≤ size → size ≤ 131076 → Passed bs at (record { next = at + size; more = 0 })
+  passed-alone w size m head kids low high = record {
+    next-is = ap (λ (k : ℕ). at + k) (sym (ap (λ (x : ℕ). headSize x (wordAt bs (at + 4))) m ∙ head (wordAt bs (at + 4))));
+    more-is = sym (ap (λ (x : ℕ). kidsCount x (wordAt bs (at + 2)) (wordAt bs (at + 4))) m ∙ kids (wordAt bs (at + 2)) (wordAt bs (at + 4)));
+    on = omega arith;
+    near = omega arith;
+    few = omega arith;
+  }
+
+  pub passed-VR : wordAt bs at ≡ VR-mark → Passed bs at (record { next = at + 4; more = 0 })
+  unfolding headSize sizeOf kidsCount
+  passed-VR m = passed-alone VR-mark 4 m (λ a. refl) (λ d a. refl) (omega arith) (omega arith)
+
+  pub passed-LB : wordAt bs at ≡ LB-mark → Passed bs at (record { next = at + 6; more = 0 })
+  unfolding headSize sizeOf kidsCount
+  passed-LB m = passed-alone LB-mark 6 m (λ a. refl) (λ d a. refl) (omega arith) (omega arith)
+
+-- past the end of the script, and where nothing stands inside
+pub skipped-out : (bs : List ℕ) (at : ℕ) → length bs ≤ at → Skipped bs at at
+skipped-out bs at out = record {
+  ends = λ x h. absurd (left-inside bs at x at 1 (omega arith) (left-start bs at x h) out);
+  onward = omega arith;
+  close = omega arith;
+}
+
+module _ (bs : List ℕ) (at : ℕ) (inside : at < length bs) (s : Step) (p : Passed bs at s) where
+  pub skipped-head : s .more ≡ 0 → Skipped bs at (s .next)
+  skipped-head none = record {
+    ends = λ x h. left-end bs at x (s .next) (s .more) (omega arith) (left-first bs at x s p h);
+    onward = omega (arith, p .on);
+    close = omega (arith, p .near);
+  }
+
+  pub stepped-head : Stepped bs at s
+  stepped-head = record {
+    steps = λ from pending x more l. left-step bs from x at pending more s p l;
+    on = p .on;
+    near = omega (arith, p .near);
+    few = p .few;
+  }

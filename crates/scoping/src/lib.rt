@@ -10,8 +10,9 @@ ghost use Rattle.language.specs.Encoding.{fieldsOf};
 ghost use Rattle.language.specs.Structure.{program};
 ghost use Rattle.scoping.specs.Walking.{settledOf, Judged};
 
-// In reading order: words, scope, uses, call, passing, walk.
+// In reading order: words, scope, uses, call, passing, ends, walk.
 mod call;
+mod ends;
 mod passing;
 mod scope;
 mod uses;
@@ -33,5 +34,6 @@ pub fn scope_verdict(script: &[u8]) -> Verdict
     ensures { λ r. ⌜ Judged (program 0 (fieldsOf (now (script .entry)))) r ⌝ }
 {
     let mut entries = [1280usize; 1280];
-    settled(block(script, &mut entries, 0, 0, 1280))
+    let mut ends = [0u32; 683];
+    settled(block(script, &mut entries, &mut ends, 0, 0, 1280))
 }

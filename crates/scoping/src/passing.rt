@@ -1,4 +1,4 @@
-// Passing over records, and putting the entries of those that declare names.
+// Passing over one record, or over its head where it holds others.
 use super::words::AR;
 use super::words::BK;
 use super::words::CL;
@@ -9,11 +9,11 @@ use super::words::QY;
 use super::words::VR;
 use super::words::word;
 ghost use mathlib.Core.Path.{_≡_};
-ghost use Prim.Native.Nat.{_+_, _^_, _<_, _≤_};
-ghost use lib.ListN.{length, take, drop};
+ghost use Prim.Native.Nat.{_^_, _<_, _≤_};
+ghost use Rattle.language.specs.Encoding.{BK-mark, PR-mark};
 ghost use Rattle.scoping.specs.Entries.{wordAt};
 ghost use Rattle.scoping.specs.Items.{sizeOf};
-ghost use Rattle.scoping.specs.Passing.{Passed, Skipped, Pushed};
+ghost use Rattle.scoping.specs.Passing.{Passed, Alone};
 
 // A record passed: where the next one begins, and how many records stand inside this one.
 pub struct Step {
@@ -43,6 +43,18 @@ fn size(mark: usize) -> usize
     6
 }
 
+// Past a record that holds no other.
+pub fn past(script: &[u8], at: usize, mark: usize) -> usize
+    requires { ⌜ (at < 2 ^ 32) × (mark ≡ wordAt (now script) at) × (mark ≡ BK-mark → ⊥) × (mark ≡ PR-mark → ⊥) ⌝ }
+    ensures { λ r. ⌜ Alone (now (script .entry)) at r ⌝ }
+{
+    if mark == CL {
+        return at + 6 + 2 * word(script, at + 4);
+    }
+    at + size(mark)
+}
+
+// Past the head of a record.
 pub fn pass(script: &[u8], at: usize, mark: usize) -> Step
     requires { ⌜ (at < 2 ^ 32) × (mark ≡ wordAt (now script) at) ⌝ }
     ensures { λ r. ⌜ Passed (now (script .entry)) at r ⌝ }
@@ -59,48 +71,8 @@ pub fn pass(script: &[u8], at: usize, mark: usize) -> Step
             more: word(script, at + 4) + 1,
         };
     }
-    if mark == CL {
-        return Step {
-            next: at + 6 + 2 * word(script, at + 4),
-            more: 0,
-        };
-    }
     Step {
-        next: at + size(mark),
+        next: past(script, at, mark),
         more: 0,
-    }
-}
-
-// Where the record at an offset ends, with all that stands inside it.
-fn skip(script: &[u8], at: usize) -> usize
-    requires { ⌜ (length (now script) ≤ 8192) × (at ≤ 1000000) ⌝ }
-    ensures { λ r. ⌜ Skipped (now (script .entry)) at r ⌝ }
-{
-    let mut here = at;
-    let mut pending = 1;
-    while 0 < pending {
-        if script.len() <= here {
-            return here;
-        }
-        let s = pass(script, here, word(script, here));
-        pending = pending - 1 + s.more;
-        here = s.next;
-    }
-    here
-}
-
-// So many records from an offset on declare names: their entries are put from `base` on.
-pub fn push(script: &[u8], entries: &mut [usize], at: usize, count: usize, base: usize)
-    requires { ⌜ (length (now script) ≤ 8192) × (at ≤ 1000000) × (base + count ≤ length (now entries)) ⌝ }
-    ensures pushed { λ _. ⌜ Pushed (now (script .entry)) at count base (now (entries .exit)) ⌝ }
-    ensures kept { λ _. ⌜ drop (base + count) (now (entries .exit)) ≡ drop (base + count) (now (entries .entry)) ⌝ }
-    ensures below { λ _. ⌜ take base (now (entries .exit)) ≡ take base (now (entries .entry)) ⌝ }
-{
-    let mut here = at;
-    let mut i = 0;
-    while i < count {
-        entries[base + i] = word(script, here + 2) + 65536 * here;
-        here = skip(script, here);
-        i += 1;
     }
 }

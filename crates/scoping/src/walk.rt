@@ -1,7 +1,7 @@
 // The walk over a script's records in file order. It is safe on any bytes.
 use super::call::call;
-use super::passing::pass;
-use super::passing::push;
+use super::ends::skip;
+use super::passing::past;
 use super::scope::free;
 use super::scope::hang;
 use super::uses::both;
@@ -23,10 +23,35 @@ use language::Verdict;
 use records::Progress;
 ghost use mathlib.Core.Path.{_≡_};
 ghost use Prim.Native.Nat.{_+_, _^_, _<_, _≤_};
-ghost use lib.ListN.{length, drop};
+ghost use lib.ListN.{length, take, drop};
 ghost use Rattle.scoping.specs.Entries.{wordAt, scopeFrom, verdictOf, shapeOf, judgedAs};
 ghost use Rattle.scoping.specs.Chains.{Hung};
+ghost use Rattle.scoping.specs.Passing.{Ends, Pushed};
 ghost use Rattle.scoping.specs.Walking.{onwardOf, Ahead, BlockJudged, ItemsJudged, ItemJudged};
+
+// So many records from an offset on declare names: their entries are put from `base` on.
+fn push(
+    script: &[u8],
+    entries: &mut [usize],
+    ends: &mut [u32; 683],
+    at: usize,
+    count: usize,
+    base: usize,
+)
+    requires { ⌜ (length (now script) ≤ 8192) × (at ≤ 1000000) × (base + count ≤ length (now entries)) × Ends (now script) (now ends) ⌝ }
+    ensures pushed { λ _. ⌜ Pushed (now (script .entry)) at count base (now (entries .exit)) ⌝ }
+    ensures kept { λ _. ⌜ drop (base + count) (now (entries .exit)) ≡ drop (base + count) (now (entries .entry)) ⌝ }
+    ensures below { λ _. ⌜ take base (now (entries .exit)) ≡ take base (now (entries .entry)) ⌝ }
+    ensures noted { λ _. ⌜ Ends (now (script .entry)) (now (ends .exit)) ⌝ }
+{
+    let mut here = at;
+    let mut i = 0;
+    while i < count {
+        entries[base + i] = word(script, here + 2) + 65536 * here;
+        here = skip(script, ends, here);
+        i += 1;
+    }
+}
 
 // A statement other than BK: its names left to right.
 fn action(script: &[u8], entries: &[usize], top: usize, at: usize, mark: usize) -> Verdict
@@ -67,12 +92,20 @@ fn onward(v: Verdict, next: usize) -> Progress
 }
 
 // So many formals at an offset and their block after them. Its names are put below `top` before any of its text is judged.
-pub fn block(script: &[u8], entries: &mut [usize], at: usize, count: usize, top: usize) -> Progress
-    requires { ⌜ (length (now script) ≤ 8192) × (at ≤ 500000) × (count < 65536) × (top ≤ length (now entries)) × Hung (now entries) top ⌝ }
+pub fn block(
+    script: &[u8],
+    entries: &mut [usize],
+    ends: &mut [u32; 683],
+    at: usize,
+    count: usize,
+    top: usize,
+) -> Progress
+    requires { ⌜ (length (now script) ≤ 8192) × (at ≤ 500000) × (count < 65536) × (top ≤ length (now entries)) × Hung (now entries) top × Ends (now script) (now ends) ⌝ }
     ensures judged { λ r. ⌜ BlockJudged (now (script .entry)) (now (entries .entry)) at count top r ⌝ }
     ensures ahead { λ r. ⌜ Ahead at (length (now (script .entry))) r ⌝ }
     ensures kept { λ r. ⌜ drop top (now (entries .exit)) ≡ drop top (now (entries .entry)) ⌝ }
     ensures hung { λ r. ⌜ Hung (now (entries .exit)) top ⌝ }
+    ensures noted { λ r. ⌜ Ends (now (script .entry)) (now (ends .exit)) ⌝ }
 {
     let start = at + 6 * count;
     if word(script, start) != BK {
@@ -84,21 +117,29 @@ pub fn block(script: &[u8], entries: &mut [usize], at: usize, count: usize, top:
         return Progress::Refused(Refusal::TooManyNames, start);
     }
     let base = top - (count + d);
-    push(script, entries, start + 6, d, base + count);
-    push(script, entries, at, count, base);
+    push(script, entries, ends, start + 6, d, base + count);
+    push(script, entries, ends, at, count, base);
     hang(entries, base, top);
-    let judged = items(script, entries, start + 6, d + s, base);
+    let judged = items(script, entries, ends, start + 6, d + s, base);
     free(entries, base, top);
     judged
 }
 
 // So many declarations and statements from an offset on.
-fn items(script: &[u8], entries: &mut [usize], at: usize, count: usize, top: usize) -> Progress
-    requires { ⌜ (length (now script) ≤ 8192) × (at ≤ length (now script) + 131076) × (count ≤ 131070) × (top ≤ length (now entries)) × Hung (now entries) top ⌝ }
+fn items(
+    script: &[u8],
+    entries: &mut [usize],
+    ends: &mut [u32; 683],
+    at: usize,
+    count: usize,
+    top: usize,
+) -> Progress
+    requires { ⌜ (length (now script) ≤ 8192) × (at ≤ length (now script) + 131076) × (count ≤ 131070) × (top ≤ length (now entries)) × Hung (now entries) top × Ends (now script) (now ends) ⌝ }
     ensures judged { λ r. ⌜ ItemsJudged (now (script .entry)) (now (entries .entry)) at count top r ⌝ }
     ensures ahead { λ r. ⌜ Ahead at (length (now (script .entry))) r ⌝ }
     ensures kept { λ r. ⌜ drop top (now (entries .exit)) ≡ drop top (now (entries .entry)) ⌝ }
     ensures hung { λ r. ⌜ Hung (now (entries .exit)) top ⌝ }
+    ensures noted { λ r. ⌜ Ends (now (script .entry)) (now (ends .exit)) ⌝ }
 {
     let mut here = at;
     let mut i = 0;
@@ -106,7 +147,7 @@ fn items(script: &[u8], entries: &mut [usize], at: usize, count: usize, top: usi
         if script.len() <= here {
             return Progress::Refused(Refusal::PastTheEnd, here);
         }
-        let judged = item(script, entries, here, top);
+        let judged = item(script, entries, ends, here, top);
         let Progress::At(next) = judged else {
             return judged;
         };
@@ -117,26 +158,33 @@ fn items(script: &[u8], entries: &mut [usize], at: usize, count: usize, top: usi
 }
 
 // One declaration or statement.
-fn item(script: &[u8], entries: &mut [usize], at: usize, top: usize) -> Progress
-    requires { ⌜ (length (now script) ≤ 8192) × (at < length (now script)) × (top ≤ length (now entries)) × Hung (now entries) top ⌝ }
+fn item(
+    script: &[u8],
+    entries: &mut [usize],
+    ends: &mut [u32; 683],
+    at: usize,
+    top: usize,
+) -> Progress
+    requires { ⌜ (length (now script) ≤ 8192) × (at < length (now script)) × (top ≤ length (now entries)) × Hung (now entries) top × Ends (now script) (now ends) ⌝ }
     ensures judged { λ r. ⌜ ItemJudged (now (script .entry)) (now (entries .entry)) at top r ⌝ }
     ensures ahead { λ r. ⌜ Ahead at (length (now (script .entry))) r ⌝ }
     ensures kept { λ r. ⌜ drop top (now (entries .exit)) ≡ drop top (now (entries .entry)) ⌝ }
     ensures hung { λ r. ⌜ Hung (now (entries .exit)) top ⌝ }
+    ensures noted { λ r. ⌜ Ends (now (script .entry)) (now (ends .exit)) ⌝ }
 {
     let mark = word(script, at);
     if mark == PR {
-        return block(script, entries, at + 6, word(script, at + 4), top);
+        return block(script, entries, ends, at + 6, word(script, at + 4), top);
     }
     if mark == BK {
-        return block(script, entries, at, 0, top);
+        return block(script, entries, ends, at, 0, top);
     }
-    let passed = pass(script, at, mark);
     if mark == VR {
-        return Progress::At(passed.next);
+        return Progress::At(at + 4);
     }
     if mark == LB {
-        return Progress::At(passed.next);
+        return Progress::At(at + 6);
     }
-    onward(action(script, entries, top, at, mark), passed.next)
+    let judged = action(script, entries, top, at, mark);
+    onward(judged, past(script, at, mark))
 }

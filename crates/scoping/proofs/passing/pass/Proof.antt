@@ -2,10 +2,9 @@
 use Prim.Native.Nat.{ℕ, _+_}
 use mathlib.Core.Path.{_≡_, sym, ap, _∙_}
 use native.Mathlib.Omega.{arith}
-use Rattle.language.specs.Encoding.{BK-mark, PR-mark, CL-mark}
+use Rattle.language.specs.Encoding.{BK-mark, PR-mark}
 use Rattle.scoping.specs.Entries.{wordAt}
-use Rattle.scoping.specs.Items.{sizeOf, headSize, kidsCount}
-use Rattle.scoping.proofs.Skipping.{head-other, kids-other}
+use Rattle.scoping.specs.Items.{headSize, kidsCount}
 use borrow.Author.Needs.{needs}
 use Rattle.scoping.proofs.passing.pass.Statement.{statement}
 use Rattle.scoping.proofs.passing.pass.Tie as tie
@@ -70,59 +69,11 @@ returns-2 c =
       few = omega arith;
     }
 
-add-t15 : tie.Need-add-t15
-add-t15 c = search needs
-
-add-word-4 : tie.Need-add-word-4
-add-word-4 c = search needs
-
-word-requires-4 : tie.Need-word-requires-4
-word-requires-4 c κs = search needs
-
-mul-t18 : tie.Need-mul-t18
-mul-t18 c = search needs
-
-add-t19 : tie.Need-add-t19
-add-t19 c = search needs
+past-requires : tie.Need-past-requires
+past-requires c κs = search needs
 
 returns-3 : tie.Need-returns-3
-unfolding headSize kidsCount
-returns-3 c =
-    let st = c .before .before .before .before .before in
-    let a = st .args in
-    let bs = a .script .now in
-    let m : wordAt bs (a .at) ≡ CL-mark = sym (st .pre .1) ∙ c .before .if3 .taken in
-    let v = c .word4 .ensures .0 in
-    record {
-      next-is = omega arith ∙ sym (ap (λ (x : ℕ). a .at + headSize x (wordAt bs (a .at + 4))) m);
-      more-is = sym (ap (λ (x : ℕ). kidsCount x (wordAt bs (a .at + 2)) (wordAt bs (a .at + 4))) m);
-      on = omega arith;
-      near = omega arith;
-      few = omega arith;
-    }
-
-size-requires : tie.Need-size-requires
-size-requires c κs = search needs
-
-add-t21 : tie.Need-add-t21
-add-t21 c = search needs
-
-returns-4 : tie.Need-returns-4
-returns-4 c =
-    let st = c .before .before .before .before .before in
-    let a = st .args in
-    let bs = a .script .now in
-    let e = st .pre .1 in
-    let nBK : wordAt bs (a .at) ≡ BK-mark → ⊥ = λ p. c .before .before .before .if1 .left (e ∙ p) in
-    let nPR : wordAt bs (a .at) ≡ PR-mark → ⊥ = λ p. c .before .before .if2 .left (e ∙ p) in
-    let nCL : wordAt bs (a .at) ≡ CL-mark → ⊥ = λ p. c .before .if3 .left (e ∙ p) in
-    record {
-      next-is = ap (λ (x : ℕ). a .at + x) (c .size .ensures .0 ∙ ap sizeOf e ∙ sym (head-other (wordAt bs (a .at)) (wordAt bs (a .at + 4)) nBK nPR nCL));
-      more-is = sym (kids-other (wordAt bs (a .at)) (wordAt bs (a .at + 2)) (wordAt bs (a .at + 4)) nBK nPR);
-      on = omega arith;
-      near = omega arith;
-      few = omega arith;
-    }
+returns-3 c = search needs
 
 pub pass-spec : {M : Type 1} → statement M
 pass-spec =
@@ -140,12 +91,5 @@ pass-spec =
     word-requires-3
     add-t14
     returns-2
-    add-t15
-    add-word-4
-    word-requires-4
-    mul-t18
-    add-t19
-    returns-3
-    size-requires
-    add-t21
-    returns-4)
+    past-requires
+    returns-3)

@@ -9,37 +9,30 @@ use borrow.Author.Needs.{needs}
 use Rattle.scoping.proofs.uses.kind_at.Statement.{statement}
 use Rattle.scoping.proofs.uses.kind_at.Tie as tie
 
--- src/lib.rt:93:9
 word-requires : tie.Need-word-requires
 word-requires c κs = search needs
 
--- src/lib.rt:95:9
 returns : tie.Need-returns
 unfolding kindField
 returns c =
     let a = c .before .before .before .args in
     rw (means-PR (a .script .now) (a .place) (sym (c .before .word .ensures .0) ∙ c .if1 .taken))
 
--- src/lib.rt:98:9
 returns-2 : tie.Need-returns-2
 unfolding kindField
 returns-2 c =
     let a = c .before .before .before .before .args in
     rw (means-LB (a .script .now) (a .place) (sym (c .before .before .word .ensures .0) ∙ c .if2 .taken))
 
--- src/lib.rt:101:41
 add-word : tie.Need-add-word
 add-word c = search needs
 
--- src/lib.rt:101:28
 word-requires-2 : tie.Need-word-requires-2
 word-requires-2 c κs = search needs
 
--- src/lib.rt:101:9
 kind-number-requires : tie.Need-kind-number-requires
 kind-number-requires c κs = search needs
 
--- src/lib.rt:101:9
 returns-3 : tie.Need-returns-3
 returns-3 c =
     let b = c .before .before in
@@ -47,7 +40,6 @@ returns-3 c =
     c .kind-number .ensures ∙ ap (λ (x : ℕ). kindField (kindOf x)) (c .before .word2 .ensures .0)
     ∙ sym (ap (λ (m : Meaning). kindField (m .kind)) (means-FM (a .script .now) (a .place) (sym (b .before .before .before .word .ensures .0) ∙ b .if3 .taken)))
 
--- src/lib.rt:89:1
 returns-4 : tie.Need-returns-4
 unfolding kindField
 returns-4 c =

@@ -8,19 +8,15 @@ use borrow.Author.Needs.{needs}
 use Rattle.scoping.proofs.uses.uses.Statement.{statement}
 use Rattle.scoping.proofs.uses.uses.Tie as tie
 
--- src/lib.rt:110:28
 find-requires : tie.Need-find-requires
 find-requires c κs = search needs
 
--- src/lib.rt:110:19
 enum-known-place : tie.Need-enum-known-place
 enum-known-place c = search needs
 
--- src/lib.rt:111:33
 enum-told : tie.Need-enum-told
 enum-told c = search needs
 
--- src/lib.rt:111:9
 returns : tie.Need-returns
 unfolding verdictOf
 returns c =
@@ -31,11 +27,9 @@ returns c =
     (use-none (a .script .now) (drop (a .top) (a .entries .now)) (a .at) (kindOf (a .kind)) (a .name)
     (sym (f .find .ensures .0) ∙ c .enum-told .given .1)))
 
--- src/lib.rt:113:8
 kind-at-requires : tie.Need-kind-at-requires
 kind-at-requires c κs = omega (arith, near-place (c .before .before .before .find .result) _ (c .before .place .given .1) (c .before .before .before .find .ensures .1))
 
--- src/lib.rt:114:9
 returns-2 : tie.Need-returns-2
 unfolding verdictOf
 returns-2 c =
@@ -49,7 +43,6 @@ returns-2 c =
     (sym (f .find .ensures .0) ∙ b .before .before .place .given .1)
     (sym (b .kind-at .ensures) ∙ c .if1 .taken ∙ kind-is (a .kind) (a′ .pre .0))))
 
--- src/lib.rt:106:1
 returns-3 : tie.Need-returns-3
 unfolding verdictOf
 returns-3 c =

@@ -10,7 +10,9 @@ use Rattle.language.specs.Encoding.{BK-mark}
 use Rattle.scoping.specs.Entries.{wordAt, scopeOf}
 use Rattle.scoping.specs.Chains.{Hung}
 use Rattle.scoping.specs.Items.{Item, itemFields, itemsFields}
+use Rattle.scoping.specs.Passing.{Ends}
 use Rattle.scoping.specs.Walking.{progressOf, judgeItem, judgeItems, Ahead, ItemsHere}
+use Rattle.scoping.proofs.Skipping.{passed-VR, passed-LB}
 use Rattle.scoping.proofs.Statements.{block-mark, item-PR, item-BK, item-VR, item-LB, item-action, ahead-onward}
 use Rattle.scoping.proofs.Walking.{Remaining, remaining-start, remaining-step, remaining-stop, remaining-inside, remaining-end}
 use Rattle.scoping.proofs.Chains.{kept-from, pushed-hung}
@@ -29,40 +31,40 @@ use Rattle.scoping.proofs.walk.items.Kinds as items-kinds
 use Rattle.scoping.proofs.walk.+block+item+items.Lts-items as items-lts
 use Rattle.scoping.proofs.walk.action.Reads as action-reads
 use Rattle.scoping.proofs.walk.onward.Reads as onward-reads
-use Rattle.scoping.proofs.passing.pass.Reads as pass-reads
-use Rattle.scoping.proofs.passing.push.Reads as push-reads
+use Rattle.scoping.proofs.passing.past.Reads as past-reads
+use Rattle.scoping.proofs.walk.push.Reads as push-reads
 use Rattle.scoping.proofs.words.word.Reads as word-reads
 use Rattle.scoping.proofs.scope.hang.Reads as hang-reads
 use Rattle.scoping.proofs.scope.free.Reads as free-reads
 use Rattle.scoping.proofs.walk.+block+item+items.{statement}
 use Rattle.scoping.proofs.walk.+block+item+items.Tie.{close}
 
-abbrev μ-block : Measures 2 block-kinds.ps ℕ
-μ-block κs a = 3 * (length (a .0 .now) - (a .1 .1 .0 + 6 * a .1 .1 .1 .0))
+abbrev μ-block : Measures 3 block-kinds.ps ℕ
+μ-block κs a = 3 * (length (a .0 .now) - (a .1 .1 .1 .0 + 6 * a .1 .1 .1 .1 .0))
 
-abbrev μ-item : Measures 2 item-kinds.ps ℕ
-μ-item κs a = 3 * (length (a .0 .now) - a .1 .1 .0) + 1
+abbrev μ-item : Measures 3 item-kinds.ps ℕ
+μ-item κs a = 3 * (length (a .0 .now) - a .1 .1 .1 .0) + 1
 
-abbrev μ-items : Measures 2 items-kinds.ps ℕ
-μ-items κs a = 3 * (length (a .0 .now) - a .1 .1 .0) + 2
+abbrev μ-items : Measures 3 items-kinds.ps ℕ
+μ-items κs a = 3 * (length (a .0 .now) - a .1 .1 .1 .0) + 2
 
-abbrev block-at : ℕ → In 2 block-kinds.ps
-block-at t = and 2 block-kinds.ps (is 2 block-kinds.ps μ-block t) block.Pre
+abbrev block-at : ℕ → In 3 block-kinds.ps
+block-at t = and 3 block-kinds.ps (is 3 block-kinds.ps μ-block t) block.Pre
 
-abbrev block-below : ℕ → In 2 block-kinds.ps
-block-below t = and 2 block-kinds.ps (falls 2 block-kinds.ps _<_ μ-block t) block.Pre
+abbrev block-below : ℕ → In 3 block-kinds.ps
+block-below t = and 3 block-kinds.ps (falls 3 block-kinds.ps _<_ μ-block t) block.Pre
 
-abbrev item-at : ℕ → In 2 item-kinds.ps
-item-at t = and 2 item-kinds.ps (is 2 item-kinds.ps μ-item t) item.Pre
+abbrev item-at : ℕ → In 3 item-kinds.ps
+item-at t = and 3 item-kinds.ps (is 3 item-kinds.ps μ-item t) item.Pre
 
-abbrev item-below : ℕ → In 2 item-kinds.ps
-item-below t = and 2 item-kinds.ps (falls 2 item-kinds.ps _<_ μ-item t) item.Pre
+abbrev item-below : ℕ → In 3 item-kinds.ps
+item-below t = and 3 item-kinds.ps (falls 3 item-kinds.ps _<_ μ-item t) item.Pre
 
-abbrev items-at : ℕ → In 2 items-kinds.ps
-items-at t = and 2 items-kinds.ps (is 2 items-kinds.ps μ-items t) items.Pre
+abbrev items-at : ℕ → In 3 items-kinds.ps
+items-at t = and 3 items-kinds.ps (is 3 items-kinds.ps μ-items t) items.Pre
 
-abbrev items-below : ℕ → In 2 items-kinds.ps
-items-below t = and 2 items-kinds.ps (falls 2 items-kinds.ps _<_ μ-items t) items.Pre
+abbrev items-below : ℕ → In 3 items-kinds.ps
+items-below t = and 3 items-kinds.ps (falls 3 items-kinds.ps _<_ μ-items t) items.Pre
 
 -- what each may use of those that it calls
 abbrev block-claims : ℕ → block-lts.Claims
@@ -74,10 +76,10 @@ item-claims t = (
   word-reads.Learnt,
   block-below t,
   block.Post,
-  pass-reads.Asked,
-  pass-reads.Learnt,
   action-reads.Asked,
   action-reads.Learnt,
+  past-reads.Asked,
+  past-reads.Learnt,
   onward-reads.Asked,
   onward-reads.Learnt,
 )
@@ -97,9 +99,10 @@ block-word-requires t c κs = search needs
 block-returns : (t : ℕ) → block-lts.Need-returns (block-claims t) (block-at t) block.Post
 block-returns t c =
     let w = c .before in
-    let a = w .before .before .before .args in (
+    let st = c .before .before .before .before in
+    let a = st .args in (
       λ b fs level h. absurd (c .if1 .taken (w .word .ensures .0 ∙ block-mark (a .script .now) (a .at + 6 * a .count) b (h .stand))),
-      (tt, (refl, w .before .before .before .pre .1 .4)),
+      (tt, (refl, (st .pre .1 .4, st .pre .1 .5))),
     )
 
 block-add-word : (t : ℕ) → block-lts.Need-add-word (block-claims t) (block-at t) block.Post
@@ -122,11 +125,11 @@ block-add-if2-2 t c = search needs
 
 block-returns-2 : (t : ℕ) → block-lts.Need-returns-2 (block-claims t) (block-at t) block.Post
 block-returns-2 t c =
-    let w = c .before .before in
-    let a = w .before .before .before .before .before .args in (
+    let st = c .before .before .before .before .before .before .before in
+    let a = st .args in (
       λ b fs level h. absurd
-          (omega (arith, c .if2 .taken, w .word2 .ensures .0, block-room (a .script .now) (a .at) (a .count) (a .top) b fs level h)),
-      (tt, (refl, w .before .before .before .before .before .pre .1 .4)),
+          (omega (arith, c .if2 .taken, c .before .before .word2 .ensures .0, block-room (a .script .now) (a .at) (a .count) (a .top) b fs level h)),
+      (tt, (refl, (st .pre .1 .4, st .pre .1 .5))),
     )
 
 block-add-base : (t : ℕ) → block-lts.Need-add-base (block-claims t) (block-at t) block.Post
@@ -148,7 +151,9 @@ block-push-requires-2 : (t : ℕ) → block-lts.Need-push-requires-2 (block-clai
 block-push-requires-2 t c κs = search needs
 
 block-add-items : (t : ℕ) → block-lts.Need-add-items (block-claims t) (block-at t) block.Post
-block-add-items t c = search needs
+block-add-items t c =
+    let st = c .before .before .before .before .before .before .before .before .before .before .before .before .before .before .before .before .before .before .before .before .before .before .before in
+    omega (arith, st .pre .1 .1, st .pre .1 .2)
 
 block-add-items-2 : (t : ℕ) → block-lts.Need-add-items-2 (block-claims t) (block-at t) block.Post
 block-add-items-2 t c = search needs
@@ -156,16 +161,16 @@ block-add-items-2 t c = search needs
 block-hang-requires : (t : ℕ) → block-lts.Need-hang-requires (block-claims t) (block-at t) block.Post
 block-hang-requires t c κs =
     let p₂ = c .before .before .before in
-    let p₁ = c .before .before .before .before .before .before .before in
-    let d = c .before .before .before .before .before .before .before .before .before .before .before .word2 .result in
-    let st = c .before .before .before .before .before .before .before .before .before .before .before .before .before .before .before .before in
+    let p₁ = c .before .before .before .before .before .before .before .before in
+    let d = c .before .before .before .before .before .before .before .before .before .before .before .before .before .word2 .result in
+    let st = c .before .before .before .before .before .before .before .before .before .before .before .before .before .before .before .before .before .before in
     let a = st .args in
     let base = a .top - (a .count + d) in
-    let l : 768 + (a .count + d) ≤ a .top = c .before .before .before .before .before .before .before .before .before .if2 .left in
+    let l : 768 + (a .count + d) ≤ a .top = c .before .before .before .before .before .before .before .before .before .before .before .if2 .left in
     let whole : base + (a .count + d) ≡ a .top = omega arith in (
       pushed-hung (a .entries .now) (p₁ .push .last .1 .0) (p₂ .push2 .last .1 .0) base (a .count) d (a .top) (omega arith) whole
-          (p₁ .push .kept .1 .0) (p₂ .push2 .kept .1 .0) (p₁ .push .ensures .1 .1) (p₁ .push .ensures .1 .0)
-          (p₂ .push2 .ensures .1 .1) (p₂ .push2 .ensures .1 .0) (st .pre .1 .4),
+          (p₁ .push .kept .1 .0) (p₂ .push2 .kept .1 .0) (p₁ .push .ensures .1 .1 .0) (p₁ .push .ensures .1 .0)
+          (p₂ .push2 .ensures .1 .1 .0) (p₂ .push2 .ensures .1 .0) (st .pre .1 .4),
       omega arith,
       omega arith,
       omega (arith, st .pre .1 .3, st .pre .1 .4 .long),
@@ -173,25 +178,26 @@ block-hang-requires t c κs =
 
 block-items-requires : (t : ℕ) → block-lts.Need-items-requires (block-claims t) (block-at t) block.Post
 block-items-requires t c κs =
-    let st = c .before .before .before .before .before .before .before .before .before .before .before .before .before .before .before .before .before .before .before .before in
+    let st = c .before .before .before .before .before .before .before .before .before .before .before .before .before .before .before .before .before .before .before .before .before .before .before in
     let a = st .args in
-    let w : wordAt (a .script .now) (a .at + 6 * a .count) ≡ BK-mark = sym (c .before .before .before .before .before .before .before .before .before .before .before .before .before .before .before .before .before .word .ensures .0) ∙ c .before .before .before .before .before .before .before .before .before .before .before .before .before .before .before .before .if1 .left in
+    let w : wordAt (a .script .now) (a .at + 6 * a .count) ≡ BK-mark = sym (c .before .before .before .before .before .before .before .before .before .before .before .before .before .before .before .before .before .before .before .before .word .ensures .0) ∙ c .before .before .before .before .before .before .before .before .before .before .before .before .before .before .before .before .before .before .before .if1 .left in
     let inside = word-within (a .script .now) (a .at + 6 * a .count) (omega (arith, w)) in
-    let hang = c .before .before .before .hang in (
+    let hang = c .before .before .before .before .hang in (
       omega (arith, inside, st .pre .0),
       (
         st .pre .1 .0,
         omega (arith, inside),
-        omega (arith, c .before .before .before .before .before .before .before .before .before .before .before .before .before .before .before .word2 .ensures .1, c .before .before .before .before .before .before .before .before .before .before .before .before .before .before .word3 .ensures .1),
+        omega (arith, c .before .before .before .before .before .before .before .before .before .before .before .before .before .before .before .before .before .before .word2 .ensures .1, c .before .before .before .before .before .before .before .before .before .before .before .before .before .before .before .before .before .word3 .ensures .1),
         omega (arith, st .pre .1 .3, st .pre .1 .4 .long, hang .ensures .0 .long),
         hang .ensures .0,
+        c .before .before .before .before .before .before .before .before .push2 .ensures .1 .1 .1,
       ),
     )
 
 block-free-requires : (t : ℕ) → block-lts.Need-free-requires (block-claims t) (block-at t) block.Post
 block-free-requires t c κs =
-    let st = c .before .before .before .before .before .before .before .before .before .before .before .before .before .before .before .before .before .before .before .before .before .before .before .before in
-    (c .before .before .before .items .ensures .1 .1 .1, omega arith, omega (arith, st .pre .1 .3, st .pre .1 .4 .long))
+    let st = c .before .before .before .before .before .before .before .before .before .before .before .before .before .before .before .before .before .before .before .before .before .before .before .before .before .before .before in
+    (c .before .before .before .items .ensures .1 .1 .1 .0, omega arith, omega (arith, st .pre .1 .3, st .pre .1 .4 .long))
 
 block-same-length : (t : ℕ) → block-lts.Need-same-length (block-claims t) (block-at t) block.Post
 block-same-length t c = search needs
@@ -200,11 +206,11 @@ block-returns-3 : (t : ℕ) → block-lts.Need-returns-3 (block-claims t) (block
 block-returns-3 t c =
     let f = c .before .before .free in
     let i = c .before .before .before .before .before .before .items in
-    let g = c .before .before .before .before .before .before .before .before .before .before .hang in
-    let p₂ = c .before .before .before .before .before .before .before .before .before .before .before .before .before .before .push2 in
-    let p₁ = c .before .before .before .before .before .before .before .before .before .before .before .before .before .before .before .before .before .before .push in
-    let e = c .before .before .before .before .before .before .before .before .before .before .before .before .before .before .before .before .before .before .before .before in
-    let a = c .before .before .before .before .before .before .before .before .before .before .before .before .before .before .before .before .before .before .before .before .before .before .before .before .before .before .before .args in
+    let g = c .before .before .before .before .before .before .before .before .before .before .before .hang in
+    let p₂ = c .before .before .before .before .before .before .before .before .before .before .before .before .before .before .before .push2 in
+    let p₁ = c .before .before .before .before .before .before .before .before .before .before .before .before .before .before .before .before .before .before .before .before .push in
+    let e = c .before .before .before .before .before .before .before .before .before .before .before .before .before .before .before .before .before .before .before .before .before .before .before in
+    let a = c .before .before .before .before .before .before .before .before .before .before .before .before .before .before .before .before .before .before .before .before .before .before .before .before .before .before .before .before .before .before .args in
     let d = e .before .before .word2 .result in
     let s = e .before .word3 .result in
     let base = a .top - (a .count + d) in
@@ -221,7 +227,7 @@ block-returns-3 t c =
           kept-from (f .last .0) (i .last .1 .0) 768 (a .top) (omega (arith, e .if2 .left)) (f .ensures .1)
               ∙ kept-below (a .entries .now) (p₁ .last .1 .0) (p₂ .last .1 .0) base (a .count) d (a .top) whole (p₂ .ensures .1 .0)
               (p₁ .ensures .1 .0) (i .last .1 .0) (i .ensures .1 .1 .0 ∙ hung),
-          f .ensures .0,
+          (f .ensures .0, i .ensures .1 .1 .1 .1),
         ),
       ),
     )
@@ -239,7 +245,11 @@ item-word-requires-2 : (t : ℕ) → item-lts.Need-word-requires-2 (item-claims 
 item-word-requires-2 t c κs = search needs
 
 item-block-requires : (t : ℕ) → item-lts.Need-block-requires (item-claims t) (item-at t) item.Post
-item-block-requires t c κs = search needs
+item-block-requires t c κs =
+    let st = c .before .before .before .before .before .before .before in (
+      omega (arith, st .pre .0, st .pre .1 .1),
+      (st .pre .1 .0, omega (arith, st .pre .1 .0, st .pre .1 .1), c .word2 .ensures .1, st .pre .1 .2, st .pre .1 .3, st .pre .1 .4),
+    )
 
 item-same-length : (t : ℕ) → item-lts.Need-same-length (item-claims t) (item-at t) item.Post
 item-same-length t c = search needs
@@ -247,16 +257,20 @@ item-same-length t c = search needs
 item-returns : (t : ℕ) → item-lts.Need-returns (item-claims t) (item-at t) item.Post
 item-returns t c =
     let b = c .before .before in
-    let w = c .before .before .before .before .before .before in
-    let a = c .before .before .before .before .before .before .before .before .before .args in
+    let w = c .before .before .before .before .before .before .before in
+    let a = c .before .before .before .before .before .before .before .before .before .before .args in
     let sc = scopeOf (a .script .now) (drop (a .top) (a .entries .now)) in (
-      item-PR (a .script .now) sc (a .at) (a .top) (sym (w .word .ensures .0) ∙ c .before .before .before .before .before .if1 .taken) (b .before .word2 .result)
+      item-PR (a .script .now) sc (a .at) (a .top) (sym (w .word .ensures .0) ∙ c .before .before .before .before .before .before .if1 .taken) (b .before .word2 .result)
           (b .before .word2 .ensures .0) (b .block .result) (b .block .ensures .0),
       (ahead-from (a .at) (a .at + 6) (length (a .script .now)) (b .block .result) (omega arith) (b .block .ensures .1 .0), b .block .ensures .1 .1),
     )
 
 item-block-requires-2 : (t : ℕ) → item-lts.Need-block-requires-2 (item-claims t) (item-at t) item.Post
-item-block-requires-2 t c κs = search needs
+item-block-requires-2 t c κs =
+    let st = c .before .before .before .before .before .before .before in (
+      omega (arith, st .pre .0),
+      (st .pre .1 .0, omega (arith, st .pre .1 .0, st .pre .1 .1), omega arith, st .pre .1 .2, st .pre .1 .3, st .pre .1 .4),
+    )
 
 item-same-length-2 : (t : ℕ) → item-lts.Need-same-length-2 (item-claims t) (item-at t) item.Post
 item-same-length-2 t c = search needs
@@ -264,38 +278,44 @@ item-same-length-2 t c = search needs
 item-returns-2 : (t : ℕ) → item-lts.Need-returns-2 (item-claims t) (item-at t) item.Post
 item-returns-2 t c =
     let b = c .before .before in
-    let w = c .before .before .before .before .before .before in
-    let a = c .before .before .before .before .before .before .before .before .before .args in
+    let w = c .before .before .before .before .before .before .before in
+    let a = c .before .before .before .before .before .before .before .before .before .before .args in
     let sc = scopeOf (a .script .now) (drop (a .top) (a .entries .now)) in (
-      item-BK (a .script .now) sc (a .at) (a .top) (sym (w .word .ensures .0) ∙ c .before .before .before .before .if2 .taken) (b .block2 .result) (b .block2 .ensures .0),
+      item-BK (a .script .now) sc (a .at) (a .top) (sym (w .word .ensures .0) ∙ c .before .before .before .before .before .if2 .taken) (b .block2 .result) (b .block2 .ensures .0),
       b .block2 .ensures .1,
     )
 
-item-pass-requires : (t : ℕ) → item-lts.Need-pass-requires (item-claims t) (item-at t) item.Post
-item-pass-requires t c κs = search needs
+item-add-t18 : (t : ℕ) → item-lts.Need-add-t18 (item-claims t) (item-at t) item.Post
+item-add-t18 t c = search needs
 
 item-returns-3 : (t : ℕ) → item-lts.Need-returns-3 (item-claims t) (item-at t) item.Post
 item-returns-3 t c =
-    let w = c .before .before .before .before in
-    let p = c .before in
-    let a = c .before .before .before .before .before .before .before .args in
-    let sc = scopeOf (a .script .now) (drop (a .top) (a .entries .now)) in (
-      item-VR (a .script .now) sc (a .at) (a .top) (p .pass .result) (p .pass .ensures) (sym (w .word .ensures .0) ∙ c .if3 .taken),
-      ((omega (arith, p .pass .ensures .on), omega (arith, p .pass .ensures .near, c .before .before .before .before .before .before .before .pre .1 .1)), (refl, c .before .before .before .before .before .before .before .pre .1 .3)),
+    let st = c .before .before .before .before .before .before in
+    let a = st .args in
+    let sc = scopeOf (a .script .now) (drop (a .top) (a .entries .now)) in
+    let m = sym (c .before .before .before .word .ensures .0) ∙ c .if3 .taken in (
+      item-VR (a .script .now) sc (a .at) (a .top) (record { next = a .at + 4; more = 0 }) (passed-VR (a .script .now) (a .at) m) m,
+      ((omega arith, omega (arith, st .pre .1 .1)), (refl, (st .pre .1 .3, st .pre .1 .4))),
     )
+
+item-add-t19 : (t : ℕ) → item-lts.Need-add-t19 (item-claims t) (item-at t) item.Post
+item-add-t19 t c = search needs
 
 item-returns-4 : (t : ℕ) → item-lts.Need-returns-4 (item-claims t) (item-at t) item.Post
 item-returns-4 t c =
-    let w = c .before .before .before .before .before in
-    let p = c .before .before in
-    let a = c .before .before .before .before .before .before .before .before .args in
-    let sc = scopeOf (a .script .now) (drop (a .top) (a .entries .now)) in (
-      item-LB (a .script .now) sc (a .at) (a .top) (p .pass .result) (p .pass .ensures) (sym (w .word .ensures .0) ∙ c .if4 .taken),
-      ((omega (arith, p .pass .ensures .on), omega (arith, p .pass .ensures .near, c .before .before .before .before .before .before .before .before .pre .1 .1)), (refl, c .before .before .before .before .before .before .before .before .pre .1 .3)),
+    let st = c .before .before .before .before .before .before .before in
+    let a = st .args in
+    let sc = scopeOf (a .script .now) (drop (a .top) (a .entries .now)) in
+    let m = sym (c .before .before .before .before .word .ensures .0) ∙ c .if4 .taken in (
+      item-LB (a .script .now) sc (a .at) (a .top) (record { next = a .at + 6; more = 0 }) (passed-LB (a .script .now) (a .at) m) m,
+      ((omega arith, omega (arith, st .pre .1 .1)), (refl, (st .pre .1 .3, st .pre .1 .4))),
     )
 
 item-action-requires : (t : ℕ) → item-lts.Need-action-requires (item-claims t) (item-at t) item.Post
 item-action-requires t c κs = search needs
+
+item-past-requires : (t : ℕ) → item-lts.Need-past-requires (item-claims t) (item-at t) item.Post
+item-past-requires t c κs = search needs
 
 item-onward-requires : (t : ℕ) → item-lts.Need-onward-requires (item-claims t) (item-at t) item.Post
 item-onward-requires t c κs = search needs
@@ -305,25 +325,25 @@ item-same-length-3 t c = search needs
 
 item-returns-5 : (t : ℕ) → item-lts.Need-returns-5 (item-claims t) (item-at t) item.Post
 item-returns-5 t c =
-    let w = c .before .before .before .before .before .before .before .before in
-    let p = c .before .before .before .before .before in
-    let v = c .before in
-    let a = c .before .before .before .before .before .before .before .before .before .before .before .args in
-    let sc = scopeOf (a .script .now) (drop (a .top) (a .entries .now)) in
-    let q = w .word .ensures .0 in (
+    let p = c .before in
+    let v = c .before .before in
+    let q = c .before .before .before .before .before .before .before .before .word .ensures .0 in
+    let st = c .before .before .before .before .before .before .before .before .before .before .before in
+    let a = st .args in
+    let sc = scopeOf (a .script .now) (drop (a .top) (a .entries .now)) in (
       λ x level s h. c .onward .ensures
-          ∙ item-action (a .script .now) sc (a .at) (a .top) (p .pass .result) (p .pass .ensures) (λ m. c .before .before .before .before .before .before .before .if1 .left (q ∙ m))
-          (λ m. c .before .before .before .before .before .before .if2 .left (q ∙ m)) (λ m. c .before .before .before .before .if3 .left (q ∙ m)) (λ m. c .before .before .before .if4 .left (q ∙ m)) (v .action .result) (v .action .ensures)
+          ∙ item-action (a .script .now) sc (a .at) (a .top) (record { next = p .past .result; more = 0 }) (p .past .ensures) (λ m. c .before .before .before .before .before .before .before .if1 .left (q ∙ m))
+          (λ m. c .before .before .before .before .before .before .if2 .left (q ∙ m)) (λ m. c .before .before .before .before .before .if3 .left (q ∙ m)) (λ m. c .before .before .before .before .if4 .left (q ∙ m)) (v .action .result) (v .action .ensures)
           x level s h,
       (
-        ahead-onward (a .at) (length (a .script .now)) (p .pass .result .next) (v .action .result) (c .onward .result) (c .onward .ensures)
-            (omega (arith, p .pass .ensures .on)) (omega (arith, p .pass .ensures .near, c .before .before .before .before .before .before .before .before .before .before .before .pre .1 .1)),
-        (refl, c .before .before .before .before .before .before .before .before .before .before .before .pre .1 .3),
+        ahead-onward (a .at) (length (a .script .now)) (p .past .result) (v .action .result) (c .onward .result) (c .onward .ensures)
+            (omega (arith, p .past .ensures .on)) (omega (arith, p .past .ensures .near, st .pre .1 .1)),
+        (refl, (st .pre .1 .3, st .pre .1 .4)),
       ),
     )
 
 abbrev items-Inv-loop : items-lts.InvT-loop
-items-Inv-loop script entries₀ at count top here₀ i₀ entries here i =
+items-Inv-loop script entries₀ ends₀ at count top here₀ i₀ entries ends here i =
     (i ≤ count)
     × (at ≤ here)
     × (here ≤ length script + 131076)
@@ -331,20 +351,23 @@ items-Inv-loop script entries₀ at count top here₀ i₀ entries here i =
     × (drop top entries ≡ drop top entries₀)
     × ((xs : List Item) (level s : ℕ) → ItemsHere script at count top xs level s → Remaining script entries₀ at here i count top xs level s)
     × Hung entries top
+    × Ends script ends
 
 abbrev items-μ-loop : items-lts.MeasureT-loop
-items-μ-loop script entries₀ at count top here₀ i₀ entries here i = count - i
+items-μ-loop script entries₀ ends₀ at count top here₀ i₀ entries ends here i = count - i
 
 items-loop-holds : (t : ℕ) → items-lts.Need-loop-holds (items-claims t) (items-at t) items.Post items-Inv-loop items-μ-loop
 items-loop-holds t c =
-    let a = c .before .before .args in (
+    let st = c .before .before in
+    let a = st .args in (
       omega arith,
       omega arith,
-      c .before .before .pre .1 .1,
+      st .pre .1 .1,
       refl,
       refl,
       λ xs level s h. remaining-start (a .script .now) (a .entries .now) (a .at) (a .count) (a .top) xs level s h,
-      c .before .before .pre .1 .4,
+      st .pre .1 .4,
+      st .pre .1 .5,
     )
 
 items-same-length : (t : ℕ) → items-lts.Need-same-length (items-claims t) (items-at t) items.Post items-Inv-loop items-μ-loop
@@ -357,11 +380,16 @@ items-returns t c =
       λ xs level s h. absurd
           (remaining-inside (a .script .now) (a .entries .now) (a .at) (a .count) (a .top) xs level s (l .here) (l .i) (c .before .loop-test .taken)
           (l .inv .5 xs level s h) (c .if1 .taken)),
-      (tt, (l .inv .4, l .inv .6)),
+      (tt, (l .inv .4, (l .inv .6, l .inv .7))),
     )
 
 items-item-requires : (t : ℕ) → items-lts.Need-item-requires (items-claims t) (items-at t) items.Post items-Inv-loop items-μ-loop
-items-item-requires t c κs = search needs
+items-item-requires t c κs =
+    let l = c .before .before .before .before .loop in
+    let st = c .before .before .before .before .before .before .before in (
+      omega (arith, st .pre .0, l .inv .1, c .before .before .if1 .left),
+      (st .pre .1 .0, c .before .before .if1 .left, omega (arith, st .pre .1 .3, l .inv .3), l .inv .6, l .inv .7),
+    )
 
 items-enum-known-judged : (t : ℕ) → items-lts.Need-enum-known-judged (items-claims t) (items-at t) items.Post items-Inv-loop items-μ-loop
 items-enum-known-judged t c = search needs
@@ -375,13 +403,16 @@ items-same-length-2 t c = search needs
 items-returns-2 : (t : ℕ) → items-lts.Need-returns-2 (items-claims t) (items-at t) items.Post items-Inv-loop items-μ-loop
 items-returns-2 t c =
     let r = c .before .before .before .before in
-    let l = c .before .before .before .before .before .before .before .before .loop in
-    let a = c .before .before .before .before .before .before .before .before .before .before .before .args in (
+    let l = c .before .before .before .before .before .before .before .before .before .loop in
+    let a = c .before .before .before .before .before .before .before .before .before .before .before .before .args in (
       λ xs level s h. remaining-stop (a .script .now) (a .entries .now) (a .at) (a .count) (a .top) xs level s (l .here) (l .i)
-          (c .before .before .before .before .before .before .before .loop-test .taken) (r .item .result)
+          (c .before .before .before .before .before .before .before .before .loop-test .taken) (r .item .result)
           (λ x k n g. r .item .ensures .0 x k n g ∙ ap (λ (es : List ℕ). progressOf (judgeItem x (scopeOf (a .script .now) es)) (l .here + 2 * length (itemFields x))) (l .inv .4))
           _ _ (c .enum-told .given .1) (l .inv .5 xs level s h),
-      (ahead-from (a .at) (l .here) (length (a .script .now)) (r .item .result) (l .inv .1) (r .item .ensures .1 .0), (r .item .ensures .1 .1 .0 ∙ l .inv .4, r .item .ensures .1 .1 .1)),
+      (
+        ahead-from (a .at) (l .here) (length (a .script .now)) (r .item .result) (l .inv .1) (r .item .ensures .1 .0),
+        (r .item .ensures .1 .1 .0 ∙ l .inv .4, r .item .ensures .1 .1 .1),
+      ),
     )
 
 items-add-i : (t : ℕ) → items-lts.Need-add-i (items-claims t) (items-at t) items.Post items-Inv-loop items-μ-loop
@@ -393,20 +424,21 @@ items-loop-less t c = search needs
 items-loop-again : (t : ℕ) → items-lts.Need-loop-again (items-claims t) (items-at t) items.Post items-Inv-loop items-μ-loop
 items-loop-again t c =
     let r = c .before .before .before .before .before in
-    let l = c .before .before .before .before .before .before .before .before .before .loop in
-    let a = c .before .before .before .before .before .before .before .before .before .before .before .before .args in
+    let l = c .before .before .before .before .before .before .before .before .before .before .loop in
+    let a = c .before .before .before .before .before .before .before .before .before .before .before .before .before .args in
     let next = c .before .judged .given .0 .0 in
     let on : (l .here ≤ next) × (next ≤ length (a .script .now) + 131076) = subst (Ahead (l .here) (length (a .script .now))) (c .before .judged .given .1) (r .item .ensures .1 .0) in (
-      omega (arith, c .before .before .before .before .before .before .before .before .loop-test .taken),
+      omega (arith, c .before .before .before .before .before .before .before .before .before .loop-test .taken),
       omega (arith, on .0, l .inv .1),
       on .1,
       r .item .kept .1 .0 ∙ l .inv .3,
       r .item .ensures .1 .1 .0 ∙ l .inv .4,
       λ xs level s h. remaining-step (a .script .now) (a .entries .now) (a .at) (a .count) (a .top) xs level s (l .here) (l .i)
-          (c .before .before .before .before .before .before .before .before .loop-test .taken) (r .item .result)
+          (c .before .before .before .before .before .before .before .before .before .loop-test .taken) (r .item .result)
           (λ x k n g. r .item .ensures .0 x k n g ∙ ap (λ (es : List ℕ). progressOf (judgeItem x (scopeOf (a .script .now) es)) (l .here + 2 * length (itemFields x))) (l .inv .4))
           next (c .before .judged .given .1) (l .inv .5 xs level s h),
-      r .item .ensures .1 .1 .1,
+      r .item .ensures .1 .1 .1 .0,
+      r .item .ensures .1 .1 .1 .1,
     )
 
 items-same-length-3 : (t : ℕ) → items-lts.Need-same-length-3 (items-claims t) (items-at t) items.Post items-Inv-loop items-μ-loop
@@ -418,7 +450,7 @@ items-returns-3 t c =
     let a = c .before .before .before .before .args in (
       λ xs level s h. remaining-end (a .script .now) (a .entries .now) (a .at) (a .count) (a .top) xs level s (l .here) (l .i) (c .loop-test .left)
           (l .inv .5 xs level s h),
-      ((l .inv .1, l .inv .2), (l .inv .4, l .inv .6)),
+      ((l .inv .1, l .inv .2), (l .inv .4, (l .inv .6, l .inv .7))),
     )
 
 pub +block+item+items-spec : {M : Type 1} → statement M
@@ -462,10 +494,12 @@ pub +block+item+items-spec : {M : Type 1} → statement M
     (item-block-requires-2 t)
     (item-same-length-2 t)
     (item-returns-2 t)
-    (item-pass-requires t)
+    (item-add-t18 t)
     (item-returns-3 t)
+    (item-add-t19 t)
     (item-returns-4 t)
     (item-action-requires t)
+    (item-past-requires t)
     (item-onward-requires t)
     (item-same-length-3 t)
     (item-returns-5 t))
