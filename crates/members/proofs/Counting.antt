@@ -167,6 +167,16 @@ raised-2 (suc (suc share)) counters q m = rw (unit-4 (q % 4) (omega arith)) refl
 
 -- ---- one more in a counter
 
+-- what is read of a list in which the word i is written: of the others what was there, of i what the part that is read shows
+read-other : (part : ℕ → ℕ) (l : List ℕ) (i j w : ℕ) → i < length l → (j ≡ i → part w ≡ part (getD l i 0)) → part (getD (set l i w) j 0) ≡ part (getD l j 0)
+read-other part l i j w h same = go (eqb j i) refl
+  where
+    go : (b : Bool) → eqb j i ≡ b → part (getD (set l i w) j 0) ≡ part (getD l j 0)
+    go true b =
+        let z = eqb-true j i b in
+        subst (λ (k : ℕ). part (getD (set l i w) k 0) ≡ part (getD l k 0)) (sym z) (ap part (getD-set-same l i w 0 h) ∙ same z)
+    go false b = ap part (getD-set-other l i j w 0 (eqb-false j i b))
+
 module _ (counters : List ℕ) (q : ℕ) where
   pub raised-length : (share : ℕ) → length (raised share counters q) ≡ length counters
   unfolding raised
@@ -184,39 +194,15 @@ module _ (counters : List ℕ) (q : ℕ) where
       ap (λ (w : ℕ). w / 2 ^ (4 * (q % 4)) % 16) (getD-set-same counters (q / 4) (getD counters (q / 4) 0 + 2 ^ (4 * (q % 4))) 0 (omega arith)) ∙
       digit-own (q % 4) (getD counters (q / 4) 0) (omega arith) h
 
-  -- in another word, or in the same one
-  module _ (x : ℕ) (e : length counters ≡ 112640) (n : x ≡ q → ⊥) where
-    other-2 : q < 225280 → getD counters (q / 2) 0 / 2 ^ (8 * (q % 2)) % 256 < 255 →
-        getD (set counters (q / 2) (getD counters (q / 2) 0 + 2 ^ (8 * (q % 2)))) (x / 2) 0 / 2 ^ (8 * (x % 2)) % 256 ≡ getD counters (x / 2) 0 / 2 ^ (8 * (x % 2)) % 256
-    other-2 l h = go (eqb (x / 2) (q / 2)) refl
-      where
-        go : (b : Bool) → eqb (x / 2) (q / 2) ≡ b → getD (set counters (q / 2) (getD counters (q / 2) 0 + 2 ^ (8 * (q % 2)))) (x / 2) 0 / 2 ^ (8 * (x % 2)) % 256 ≡ getD counters (x / 2) 0 / 2 ^ (8 * (x % 2)) % 256
-        go true b =
-            let z : x / 2 ≡ q / 2 = eqb-true (x / 2) (q / 2) b in
-            let apart : x % 2 ≡ q % 2 → ⊥ = λ y. n (omega arith) in
-            rw z
-            (ap (λ (w : ℕ). w / 2 ^ (8 * (x % 2)) % 256) (getD-set-same counters (q / 2) (getD counters (q / 2) 0 + 2 ^ (8 * (q % 2))) 0 (omega arith)) ∙
-            half-other (q % 2) (x % 2) (getD counters (q / 2) 0) (omega arith) (omega arith) apart h)
-        go false b = ap (λ (w : ℕ). w / 2 ^ (8 * (x % 2)) % 256) (getD-set-other counters (q / 2) (x / 2) (getD counters (q / 2) 0 + 2 ^ (8 * (q % 2))) 0 (eqb-false (x / 2) (q / 2) b))
-
-    other-4 : q < 450560 → getD counters (q / 4) 0 / 2 ^ (4 * (q % 4)) % 16 < 15 →
-        getD (set counters (q / 4) (getD counters (q / 4) 0 + 2 ^ (4 * (q % 4)))) (x / 4) 0 / 2 ^ (4 * (x % 4)) % 16 ≡ getD counters (x / 4) 0 / 2 ^ (4 * (x % 4)) % 16
-    other-4 l h = go (eqb (x / 4) (q / 4)) refl
-      where
-        go : (b : Bool) → eqb (x / 4) (q / 4) ≡ b → getD (set counters (q / 4) (getD counters (q / 4) 0 + 2 ^ (4 * (q % 4)))) (x / 4) 0 / 2 ^ (4 * (x % 4)) % 16 ≡ getD counters (x / 4) 0 / 2 ^ (4 * (x % 4)) % 16
-        go true b =
-            let z : x / 4 ≡ q / 4 = eqb-true (x / 4) (q / 4) b in
-            let apart : x % 4 ≡ q % 4 → ⊥ = λ y. n (omega arith) in
-            rw z
-            (ap (λ (w : ℕ). w / 2 ^ (4 * (x % 4)) % 16) (getD-set-same counters (q / 4) (getD counters (q / 4) 0 + 2 ^ (4 * (q % 4))) 0 (omega arith)) ∙
-            digit-other (q % 4) (x % 4) (getD counters (q / 4) 0) (omega arith) (omega arith) apart h)
-        go false b = ap (λ (w : ℕ). w / 2 ^ (4 * (x % 4)) % 16) (getD-set-other counters (q / 4) (x / 4) (getD counters (q / 4) 0 + 2 ^ (4 * (q % 4))) 0 (eqb-false (x / 4) (q / 4) b))
-
   pub held-other : (share x : ℕ) → length counters ≡ 112640 → q < placesOf share → heldAt share counters q < roomOf share → (x ≡ q → ⊥) → heldAt share (raised share counters q) x ≡ heldAt share counters x
   unfolding raised heldAt placesOf roomOf
   held-other zero x e l h n = getD-set-other counters q x (getD counters q 0 + 1) 0 n
-  held-other (suc zero) x e l h n = other-2 x e n l h
-  held-other (suc (suc share)) x e l h n = other-4 x e n l h
+  held-other (suc zero) x e l h n =
+      read-other (λ w. w / 2 ^ (8 * (x % 2)) % 256) counters (q / 2) (x / 2) (getD counters (q / 2) 0 + 2 ^ (8 * (q % 2))) (omega arith)
+      (λ z. half-other (q % 2) (x % 2) (getD counters (q / 2) 0) (omega arith) (omega arith) (λ y. n (omega arith)) h)
+  held-other (suc (suc share)) x e l h n =
+      read-other (λ w. w / 2 ^ (4 * (x % 4)) % 16) counters (q / 4) (x / 4) (getD counters (q / 4) 0 + 2 ^ (4 * (q % 4))) (omega arith)
+      (λ z. digit-other (q % 4) (x % 4) (getD counters (q / 4) 0) (omega arith) (omega arith) (λ y. n (omega arith)) h)
 
 pub held-none : (share q : ℕ) → heldAt share (replicate 112640 0) q ≡ 0
 unfolding heldAt
