@@ -1,0 +1,2 @@
+-- The resolved script, in reading order.
+pub mod Resolved
