@@ -1,2 +1,3 @@
 -- The resolved script, in reading order.
 pub mod Resolved
+pub mod Lengths
