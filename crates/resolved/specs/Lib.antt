@@ -1,3 +1,4 @@
 -- The resolved script, in reading order.
 pub mod Resolved
 pub mod Lengths
+pub mod Places
