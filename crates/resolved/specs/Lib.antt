@@ -2,3 +2,4 @@
 pub mod Resolved
 pub mod Lengths
 pub mod Places
+pub mod NameWords
