@@ -3,3 +3,4 @@ pub mod Resolved
 pub mod Lengths
 pub mod Places
 pub mod NameWords
+pub mod Standing
