@@ -4,3 +4,4 @@ pub mod Lengths
 pub mod Places
 pub mod NameWords
 pub mod Standing
+pub mod Words
