@@ -2,20 +2,20 @@
 -- stands the block's resolved text, so `head-stands`, `bounds-stands` and `looked-up-stands`: its three first words; `stmt-covered`: at the
 -- place of a statement stands its resolved text, in the statement's own enclosure; `formals-covered`: before a procedure's body stand its
 -- formals, so `formal-kind-stands`: the kind of formal i.
-use Prim.Native.Nat.{ℕ, zero, suc, _+_, _*_, _-_, _≤_, _<_}
+use Prim.Native.Nat.{ℕ, zero, suc, _+_, _*_, _-_, _≤_}
 use native.Mathlib.Omega.{arith}
 use mathlib.Core.List.{List, [], _∷_, _++_}
 use mathlib.Core.Option.{some}
-use mathlib.Core.Path.{_≡_, refl, sym, ap, _∙_, subst}
-use lib.ListN.{length, getD, getElem?, length-append}
+use mathlib.Core.Path.{_≡_, sym, ap, _∙_, subst}
+use lib.ListN.{length, getD, getElem?}
 use Rattle.language.specs.Text.{Formal, Action, Block, block, Decl, PR, Stmt, BK, DO, Decls, no-decl, decl, Stmts, no-stmt, stmt, decls, stmts, blockAt, blockDecls, blockStmts, stmtAt}
-use Rattle.language.specs.Encoding.{kindField, formalsFields, blockFields, declFields, stmtFields, declsFields}
+use Rattle.language.specs.Encoding.{kindField, formalsFields, declFields, stmtFields, declsFields}
 use Rattle.laws.specs.Tests.{none≢some, some-inj}
-use Rattle.grammar.specs.Rules.{FormedBlock, Keeps}
+use Rattle.grammar.specs.Rules.{Keeps}
 use Rattle.coordinates.specs.Enclosure.{Enclosing, enclosed, Enclosure, StandsIn, as-block, as-body, whole, Encloses}
 use Rattle.resolved.specs.Resolved.{placeOf, nameWord, headWord, boundsWord, header, resolvedAction, resolvedFormals, resolvedBlock, resolvedDecl, resolvedStmt, resolvedDecls, resolvedStmts, resolvedOf, Covers}
 use Rattle.resolved.specs.Lengths.{formals-length, formals-fields, stmt-length, decl-length, decls-length, covers-first, covers-second}
-use Rattle.resolved.specs.Places.{stmtsBefore, declsBefore, before, beforeBody, block-place, stmt-stands, body-stands, Placed, enclosed-placed, enclosed-formed}
+use Rattle.resolved.specs.Places.{stmtsBefore, declsBefore, before, beforeBody, block-place, stmt-stands, body-stands, enclosed-formed}
 
 -- words that stand at a place stand at an equal one
 moved : (code : List ℕ) (p q : ℕ) (ws : List ℕ) → p ≡ q → Covers code p ws → Covers code q ws

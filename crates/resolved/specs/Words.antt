@@ -1,28 +1,27 @@
 -- A block's first words taken apart, and the size of all words. `head-*`, `bounds-*`: what headWord and boundsWord hold, in an enclosure of
 -- a script that keeps the rules. `words-small`: every word of the resolved script is below 2^32.
-use Prim.Native.Nat.{ℕ, zero, suc, pred, _+_, _*_, _-_, _/_, _%_, _≤_, _<_}
+use Prim.Native.Nat.{ℕ, zero, suc, _+_, _/_, _%_, _≤_, _<_}
 use native.Mathlib.Omega.{arith}
 use mathlib.Core.Bool.{Bool, true, false}
 use mathlib.Core.List.{List, [], _∷_, _++_, map}
 use mathlib.Core.Option.{Option, none, some}
-use mathlib.Core.Path.{_≡_, refl, sym, ap, _∙_, subst}
+use mathlib.Core.Path.{_≡_, refl}
 use borrow.Author.Tests.{ltb-true, ltb-false}
 use lib.Dec.{ltb}
 use lib.IntN.{ℤ, pos, negsuc}
 use lib.ListN.{length, getElem?}
 use lib.Signed.{mag}
 use Rattle.language.specs.Text.{Operation, plus, minus, less, Formal, Action, CL, GO, IF, KN, AR, AD, RM, QY, Block, block, Decl, VR, LB, PR, Stmt, BK, DO, Decls, no-decl, decl, Stmts, no-stmt, stmt, decls, stmts, blockAt, blockDecls, blockStmts}
-use Rattle.language.specs.Encoding.{kindField, operationField, unsigned, blockFields}
+use Rattle.language.specs.Encoding.{operationField, unsigned}
 use Rattle.laws.specs.Each.{Each, each-append}
-use Rattle.laws.specs.Lists.{getElem-bound}
-use Rattle.grammar.specs.Rules.{FormedAction, FormedBlock, FormedDecl, FormedStmt, FormedDecls, FormedStmts, Keeps}
+use Rattle.grammar.specs.Rules.{FormedAction, FormedBlock, Keeps}
 use Rattle.grammar.specs.Formed.{block-few}
-use Rattle.coordinates.specs.Enclosure.{Enclosing, enclosed, Enclosure, Coordinate, coordinateOf, StandsIn, as-block, as-body, whole, Encloses}
+use Rattle.coordinates.specs.Enclosure.{Enclosing, enclosed, Enclosure, Coordinate, coordinateOf, as-block, as-body, whole, Encloses}
 use Rattle.coordinates.specs.Declared.{Declares, coordinate-declares}
 use Rattle.coordinates.specs.Levels.{enclosure-level}
-use Rattle.resolved.specs.Resolved.{placeOf, endPlace, stmtPlace, packed, declTarget, declKindField, nameWord, direct, chosen, resolvedAction, headWord, boundsWord, header, resolvedFormals, resolvedBlock, resolvedDecl, resolvedStmt, resolvedDecls, resolvedStmts, resolvedOf}
+use Rattle.resolved.specs.Resolved.{placeOf, endPlace, stmtPlace, packed, declTarget, nameWord, chosen, resolvedAction, headWord, boundsWord, header, resolvedFormals, resolvedBlock, resolvedDecl, resolvedStmt, resolvedDecls, resolvedStmts, resolvedOf}
 use Rattle.resolved.specs.Places.{stmt-formed, body-stands, body-within, end-is, enclosed-formed, end-bound, place-bound}
-use Rattle.resolved.specs.NameWords.{kind-small, decl-kind-small, word-none, formal-there, decl-there, formal-word, declared-word, position-bounds, position-few, level-few, enclosed-at}
+use Rattle.resolved.specs.NameWords.{kind-small, decl-kind-small, word-none, formal-there, decl-there, formal-word, declared-word, position-few, level-few, enclosed-at}
 
 -- A block's first words
 
@@ -76,7 +75,7 @@ module _ (t : Block) (keeps : Keeps t) (e : Enclosing) (es : Enclosure) (within 
   pub target-small : (k : ℕ) (d : Decl) → getElem? (blockDecls (e .text)) k ≡ some d → declTarget (e .text) d ≤ 4096
   unfolding declTarget
   target-small k (VR at n) q = omega arith
-  target-small k (LB at n i) q = label-small i
+  target-small k (LB at n i) q = label-small _
     where
       label-small : (i : ℕ) → stmtPlace (e .text) i ≤ 4096
       label-small zero = omega (arith, place-zero (e .text), place-bound t keeps e es within 1 (omega arith))
