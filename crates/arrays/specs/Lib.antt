@@ -2,3 +2,4 @@
 pub mod Holds
 pub mod Cells
 pub mod Storing
+pub mod Moves
