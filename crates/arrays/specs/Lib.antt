@@ -3,3 +3,4 @@ pub mod Holds
 pub mod Cells
 pub mod Storing
 pub mod Moves
+pub mod Displays
