@@ -1,2 +1,5 @@
 -- The resolved script, in reading order.
 pub mod Resolved
+pub mod Lengths
+pub mod Places
+pub mod NameWords
