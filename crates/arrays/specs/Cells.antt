@@ -100,11 +100,11 @@ pub target-found : (fs : List Frame) (x : ℕ) (f : Frame) (d : Decl) → number
 unfolding targetOf
 target-found fs x f d e q = rw (e, targetOf, q)
 
-target-no-frame : (fs : List Frame) (x : ℕ) → numbered fs (frameNumber x) ≡ none → targetOf fs x ≡ 0
+pub target-no-frame : (fs : List Frame) (x : ℕ) → numbered fs (frameNumber x) ≡ none → targetOf fs x ≡ 0
 unfolding targetOf
 target-no-frame fs x e = rw (e, targetOf)
 
-target-no-decl : (fs : List Frame) (x : ℕ) (f : Frame) → numbered fs (frameNumber x) ≡ some f → declOf fs x ≡ none → targetOf fs x ≡ 0
+pub target-no-decl : (fs : List Frame) (x : ℕ) (f : Frame) → numbered fs (frameNumber x) ≡ some f → declOf fs x ≡ none → targetOf fs x ≡ 0
 unfolding targetOf
 target-no-decl fs x f e q = rw (e, targetOf, q)
 

@@ -1,6 +1,7 @@
 -- A stack of frames held in arrays, and what each move of the frame machine is on the arrays, in reading order.
 pub mod Holds
 pub mod Cells
+pub mod Targets
 pub mod Storing
 pub mod Moves
 pub mod Displays
