@@ -5,3 +5,4 @@ pub mod Targets
 pub mod Storing
 pub mod Moves
 pub mod Displays
+pub mod Names
