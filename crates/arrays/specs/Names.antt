@@ -5,13 +5,14 @@
 -- display is already that of the declaring frame, as far as it goes.
 use Prim.Native.Nat.{ℕ, zero, suc, pred, _+_, _*_, _-_, _%_, _/_, _≤_, _<_}
 use native.Mathlib.Omega.{arith}
-use mathlib.Core.List.{List}
+use mathlib.Core.List.{List, []}
 use mathlib.Core.Option.{some}
 use mathlib.Core.Path.{_≡_, refl, sym, ap, _∙_, subst}
 use borrow.Author.Tests.{leb-true, leb-false, le-leb, lt-leb}
 use lib.Dec.{leb}
 use lib.IntN.{ℤ, pos}
 use lib.ListN.{length, getD, getElem?}
+use lib.Seq.{length-take-le}
 use Rattle.language.specs.Text.{Kind, variable, label, procedure, Formal, Block, Decl, VR, LB, PR, blockDecls, declKind}
 use Rattle.language.specs.Encoding.{kindField}
 use Rattle.laws.specs.Tests.{split, by-lookup, some-inj, none≢some}
@@ -19,16 +20,18 @@ use Rattle.laws.specs.Lists.{getD-elem}
 use Rattle.grammar.specs.Rules.{Keeps}
 use Rattle.frames.specs.Frame.{Frame, numbered, designatorIn, designates, linksFollowed, frameNumber, place, declOf, finally}
 use Rattle.frames.specs.Numbered.{numbered-low, numbered-high, numbered-index, numbered-exists}
-use Rattle.frame_laws.specs.Finding.{declOf-found, finally-formal, finally-declared}
+use Rattle.frame_laws.specs.Finding.{seekName-starts, seek-spent, designates-none, links-none, declOf-found, finally-formal, finally-declared}
 use Rattle.frame_laws.specs.Sound.{Points, SoundFrames}
+use Rattle.frame_laws.specs.SoundFrames.{points-weaker}
+use Rattle.frame_laws.specs.Names.{numbered-sound, points-declared}
 use Rattle.coordinates.specs.Enclosure.{Enclosing, Coordinate, coordinateOf, Encloses}
-use Rattle.coordinates.specs.Chain.{enclosing, enclosureOf, levelOf, climb, Downward, Chained}
+use Rattle.coordinates.specs.Chain.{enclosing, enclosureOf, levelOf, climb, displayFrom, Downward, Chained}
 use Rattle.coordinates.specs.Along.{climb-zero, climb-some, climb-bound}
 use Rattle.coordinates.specs.Declared.{coordinate-declares}
 use Rattle.coordinates.specs.Coordinates.{level-of-text, frame-of-level, instanceAt, DeclaringFrame, declaring-frame, designates-by-links, links-counted, hidden}
 use Rattle.coordinates.specs.Kept.{chained-downward}
 use Rattle.coordinates.specs.Levels.{enclosure-of-text}
-use Rattle.coordinates.specs.Display.{level-step}
+use Rattle.coordinates.specs.Display.{display-length, display-prefix, level-step}
 use Rattle.coordinates.specs.Designated.{Designated, Wired, number-of, place-of}
 use Rattle.resolved.specs.Resolved.{positionIn, formalIn, kindIn, levelIn, targetIn, declKindField, declTarget, nameWord}
 use Rattle.resolved.specs.NameWords.{NameIs, name-is, formal-there, decl-there, position-few, position-bounds, word-none-iff}
@@ -44,6 +47,15 @@ pub record NameAt (fs : List Frame) (words : List ℤ) (n w first : ℕ) : Type 
   pub direct-target : formalIn w ≡ 0 → targetIn w ≡ targetOf fs (designates fs n)
   pub formal-word : formalIn w ≡ 1 → getD words (first + positionIn w) (pos 0) ≡ pos (formalWord fs (designates fs n))
   pub kind : (k : Kind) → Designated fs (designates fs n) k → kindIn w ≡ kindField k
+
+-- the frame of a level on a chain has that level
+pub level-outward : (fs : List Frame) → Downward fs → (k j : ℕ) → j ≤ levelOf fs k → levelOf fs (climb fs k (levelOf fs k - j)) ≡ j
+level-outward fs down k j h =
+    sym (display-length fs (climb fs k (levelOf fs k - j))) ∙ ap length (display-prefix fs down k j h) ∙ length-take-le j (displayFrom fs k) (omega (arith, display-length fs k))
+
+-- a frame's level is one more than the blocks around its own
+pub frame-level : (fs : List Frame) → Downward fs → (k : ℕ) (f : Frame) → numbered fs k ≡ some f → levelOf fs k ≡ suc (length (enclosureOf fs (f .link)))
+frame-level fs down k f e = level-step fs down k f e ∙ ap suc (level-of-text fs (f .link))
 
 -- the activation so many links further out
 unfoldable pub follow : List ℕ → ℕ → ℕ → ℕ
@@ -215,7 +227,33 @@ module _ (t : Block) (keeps : Keeps t) (fs : List Frame) (chain : Chained t fs) 
       ap (λ j. follow links (pred (length fs)) (levelOf fs (length fs) - j)) (word-is .level)
       ∙ follow-climbs fs down blocks nexts links words holds up (length fs) (f .0) (f .1) (omega (arith, level-bounds .0, level-bounds .1))
 
+  -- What it designates is a declared name of a live frame
+
+  direct-points : SoundFrames fs → length (home .frame .formals) < c .position → Points fs (length fs) (designates fs n)
+  unfolding enclosing
+  direct-points sound h =
+      let b = position-bounds (enclosureOf fs (length fs)) n c found (enclosing (home .frame)) (home .block) in
+      subst (Points fs (length fs)) (sym (direct-designates h)) (points-declared fs holder (c .position) (home .frame) home-stands h (b .1) (omega (arith, position-range .1)))
+
+  formal-points : SoundFrames fs → c .position ≤ length (home .frame .formals) → Points fs (length fs) (designates fs n)
+  unfolding designatorIn
+  formal-points sound h =
+      let s = numbered-sound fs holder (home .frame) sound home-stands in
+      let v = s .handed (pred (c .position)) (omega (arith, position-range .0)) in
+      subst (Points fs (length fs)) (sym (formal-designates h ∙ ap designatorIn (v .1))) (points-weaker fs (pred holder) (length fs) (v .0) (omega (arith, holder-bounds .1)) (v .2))
+
 -- The laws
+
+-- the word that a name that is no formal hands over as an argument
+pub handed-word : (fs : List Frame) (words : List ℤ) (n w first : ℕ) → NameAt fs words n w first → formalIn w ≡ 0 → first + positionIn w + 8192 * targetIn w ≡ formalWord fs (designates fs n)
+unfolding formalWord
+handed-word fs words n w first h z = omega (arith, h .direct-cell z, h .direct-target z)
+
+-- with no frame live, nothing is found
+pub nothing-live : (n : ℕ) → (designates [] n ≡ 0) × (linksFollowed [] n ≡ 0)
+nothing-live n =
+    let e = seekName-starts [] n ∙ seek-spent [] 0 n 0 in
+    (designates-none [] n e, links-none [] n e)
 
 module _ (t : Block) (keeps : Keeps t) (fs : List Frame) (chain : Chained t fs) where
   abbrev wordOf : ℕ → ℕ
@@ -241,6 +279,19 @@ module _ (t : Block) (keeps : Keeps t) (fs : List Frame) (chain : Chained t fs) 
       pub named-by-links : NameAt fs words n (wordOf n) (32 * follow links (pred (length fs)) (levelOf fs (length fs) - levelIn (wordOf n)))
       unfolding w
       named-by-links = named t keeps fs chain n c found wired blocks nexts links words holds _ (ap (λ a. 32 * a) (followed-is t keeps fs chain n c found blocks nexts links words holds))
+
+    pub named-points : SoundFrames fs → Points fs (length fs) (designates fs n)
+    named-points sound =
+        let g = (home t keeps fs chain n c found) .frame in
+        split (leb (c .position) (length (g .formals))) (λ q. formal-points t keeps fs chain n c found sound (leb-true (c .position) (length (g .formals)) q))
+        (λ q. direct-points t keeps fs chain n c found sound (leb-false (c .position) (length (g .formals)) q))
+
+    -- the level of the declaring frame, for a name that is no formal
+    pub direct-level : formalIn (wordOf n) ≡ 0 → levelOf fs (frameNumber (designates fs n)) ≡ levelIn (wordOf n)
+    unfolding w holder
+    direct-level z =
+        ap (levelOf fs) (direct-number t keeps fs chain n c found (not-formal t keeps fs chain n c found z))
+        ∙ level-outward fs (chained-downward t fs chain) (length fs) (c .level) ((level-bounds t keeps fs chain n c found) .1) ∙ sym (word-is t keeps fs chain n c found .level)
 
     -- the display of the declaring frame, for a goto or a call by a name that is no formal
     pub direct-shows : (display : List ℕ) → Shows fs display → formalIn (wordOf n) ≡ 0 → ShowsFrom fs (frameNumber (designates fs n)) display
