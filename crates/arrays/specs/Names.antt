@@ -3,7 +3,7 @@
 -- `named-by-links`: following the links as many levels out leads to that activation. `unseen`: a word of 0 is that of a name that is not
 -- visible, which designates nothing; `seen`: any other is that of a name with a coordinate. `direct-shows`: for a name that is no formal the
 -- display is already that of the declaring frame, as far as it goes.
-use Prim.Native.Nat.{ℕ, zero, suc, pred, _+_, _*_, _-_, _%_, _/_, _≤_, _<_}
+use Prim.Native.Nat.{ℕ, zero, suc, pred, _+_, _*_, _-_, _≤_, _<_}
 use native.Mathlib.Omega.{arith}
 use mathlib.Core.List.{List, []}
 use mathlib.Core.Option.{some}
@@ -13,29 +13,29 @@ use lib.Dec.{leb}
 use lib.IntN.{ℤ, pos}
 use lib.ListN.{length, getD, getElem?}
 use lib.Seq.{length-take-le}
-use Rattle.language.specs.Text.{Kind, variable, label, procedure, Formal, Block, Decl, VR, LB, PR, blockDecls, declKind}
+use Rattle.language.specs.Text.{Kind, Block, Decl, VR, LB, PR, blockDecls, declKind}
 use Rattle.language.specs.Encoding.{kindField}
-use Rattle.laws.specs.Tests.{split, by-lookup, some-inj, none≢some}
+use Rattle.laws.specs.Tests.{split, by-lookup, some-inj}
 use Rattle.laws.specs.Lists.{getD-elem}
 use Rattle.grammar.specs.Rules.{Keeps}
-use Rattle.frames.specs.Frame.{Frame, numbered, designatorIn, designates, linksFollowed, frameNumber, place, declOf, finally}
+use Rattle.frames.specs.Frame.{Frame, numbered, designatorIn, designates, linksFollowed, frameNumber, place, declOf}
 use Rattle.frames.specs.Numbered.{numbered-low, numbered-high, numbered-index, numbered-exists}
 use Rattle.frame_laws.specs.Finding.{seekName-starts, seek-spent, designates-none, links-none, declOf-found, finally-formal, finally-declared}
 use Rattle.frame_laws.specs.Sound.{Points, SoundFrames}
 use Rattle.frame_laws.specs.SoundFrames.{points-weaker}
 use Rattle.frame_laws.specs.Names.{numbered-sound, points-declared}
-use Rattle.coordinates.specs.Enclosure.{Enclosing, Coordinate, coordinateOf, Encloses}
+use Rattle.coordinates.specs.Enclosure.{Coordinate, coordinateOf, Encloses}
 use Rattle.coordinates.specs.Chain.{enclosing, enclosureOf, levelOf, climb, displayFrom, Downward, Chained}
-use Rattle.coordinates.specs.Along.{climb-zero, climb-some, climb-bound}
+use Rattle.coordinates.specs.Along.{climb-zero, climb-some}
 use Rattle.coordinates.specs.Declared.{coordinate-declares}
 use Rattle.coordinates.specs.Coordinates.{level-of-text, frame-of-level, instanceAt, DeclaringFrame, declaring-frame, designates-by-links, links-counted, hidden}
 use Rattle.coordinates.specs.Kept.{chained-downward}
 use Rattle.coordinates.specs.Levels.{enclosure-of-text}
 use Rattle.coordinates.specs.Display.{display-length, display-prefix, level-step}
 use Rattle.coordinates.specs.Designated.{Designated, Wired, number-of, place-of}
-use Rattle.resolved.specs.Resolved.{positionIn, formalIn, kindIn, levelIn, targetIn, declKindField, declTarget, nameWord}
+use Rattle.resolved.specs.Resolved.{positionIn, formalIn, kindIn, levelIn, targetIn, declKindField, nameWord}
 use Rattle.resolved.specs.NameWords.{NameIs, name-is, formal-there, decl-there, position-few, position-bounds, word-none-iff}
-use Rattle.arrays.specs.Holds.{cellOf, targetOf, formalWord, HoldsFrame, Holds, Shows}
+use Rattle.arrays.specs.Holds.{cellOf, targetOf, formalWord, Holds, Shows}
 use Rattle.arrays.specs.Cells.{target-found}
 use Rattle.arrays.specs.Displays.{ShowsFrom, shows-innermost, shows-entry, shows-outer}
 

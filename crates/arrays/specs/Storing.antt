@@ -1,19 +1,18 @@
 -- Words read and stored. `word-held`: the word of a declared name stands in its cell. `holds-stored`: storing a value there is what the frame
 -- machine's store is. `holds-agreeing`: arrays that agree with these as far as the stack goes hold it too.
-use Prim.Native.Nat.{ℕ, suc, pred, _+_, _*_, _%_, _/_, _≤_, _<_}
+use Prim.Native.Nat.{ℕ, pred, _+_, _*_, _%_, _/_, _≤_, _<_}
 use native.Mathlib.Omega.{arith}
 use mathlib.Core.List.{List}
 use mathlib.Core.Option.{some}
-use mathlib.Core.Path.{_≡_, refl, sym, ap, _∙_, subst, subst₂}
+use mathlib.Core.Path.{_≡_, sym, ap, _∙_, subst, subst₂}
 use borrow.Author.Tests.{eqb-true, eqb-false}
 use lib.Dec.{eqb}
 use lib.IntN.{ℤ, pos}
 use lib.ListN.{length, getD, set, getElem?, length-set}
 use lib.Seq.{getD-set-same, getD-set-other}
-use Rattle.language.specs.Text.{blockDecls}
 use Rattle.laws.specs.Tests.{split, some-inj}
 use Rattle.laws.specs.Lists.{getElem-bound, getElem-set-same, getElem-set-other}
-use Rattle.frames.specs.Frame.{Frame, numbered, designatorIn, frameNumber, place, wordAt, putWord, rewritten}
+use Rattle.frames.specs.Frame.{Frame, designatorIn, frameNumber, place, wordAt, putWord, rewritten}
 use Rattle.frames.specs.Numbered.{numbered-high, numbered-index}
 use Rattle.frame_laws.specs.Finding.{wordAt-found, putWord-found}
 use Rattle.frame_laws.specs.Sound.{Points, FrameSound, SoundFrames}

@@ -3,9 +3,9 @@ use Prim.Native.Nat.{ℕ, zero, suc, _≤_, _<_}
 use native.Mathlib.Omega.{arith}
 use mathlib.Core.List.{List, _∷_}
 use mathlib.Core.Option.{some}
-use mathlib.Core.Path.{_≡_, refl, sym, ap, _∙_}
-use lib.ListN.{length, getElem?}
-use Rattle.language.specs.Text.{Formal, Block, Decl, VR, LB, PR, blockAt, blockDecls}
+use mathlib.Core.Path.{_≡_}
+use lib.ListN.{getElem?}
+use Rattle.language.specs.Text.{Block, Decl, VR, LB, PR, blockDecls}
 use Rattle.laws.specs.Tests.{by-lookup}
 use Rattle.grammar.specs.Rules.{Keeps}
 use Rattle.frames.specs.Frame.{Frame, numbered, frameNumber, declOf}
@@ -13,7 +13,7 @@ use Rattle.coordinates.specs.Enclosure.{Enclosing, enclosed, Enclosure, as-body
 use Rattle.coordinates.specs.Chain.{enclosing, enclosureOf, Chained}
 use Rattle.coordinates.specs.Levels.{frame-encloses}
 use Rattle.coordinates.specs.Moves.{declared-in}
-use Rattle.resolved.specs.Resolved.{placeOf, endPlace, stmtPlace, declTarget}
+use Rattle.resolved.specs.Resolved.{endPlace, stmtPlace, declTarget}
 use Rattle.resolved.specs.Places.{end-bound, place-bound}
 use Rattle.arrays.specs.Holds.{targetOf, formalWord}
 use Rattle.arrays.specs.Cells.{Celled, word-bound, target-found, target-no-frame, target-no-decl}
