@@ -3,10 +3,10 @@
 use Prim.Native.Nat.{ℕ, zero, suc, _+_, _*_, _<_}
 use native.Mathlib.Omega.{arith}
 use native.Mathlib.Nat.{not-suc-le-zero, le-of-suc-le-suc}
-use mathlib.Core.List.{List, [], _∷_, _++_, map}
+use mathlib.Core.List.{List, [], _∷_, _++_}
 use mathlib.Core.Logic.{_↔_}
-use mathlib.Core.Path.{_≡_, refl, sym, ap, _∙_, subst}
-use lib.ListN.{length, getD, length-append, length-map}
+use mathlib.Core.Path.{_≡_, refl, ap, _∙_, subst}
+use lib.ListN.{length, getD, length-map}
 use Rattle.language.specs.Text.{Formal, Action, CL, GO, IF, KN, AR, AD, RM, QY, Block, block, Decl, VR, LB, PR, Stmt, BK, DO, Decls, no-decl, decl, Stmts, no-stmt, stmt}
 use Rattle.language.specs.Encoding.{actionFields, formalsFields, blockFields, declFields, stmtFields, declsFields, stmtsFields}
 use Rattle.laws.specs.Lists.{lengths-append}

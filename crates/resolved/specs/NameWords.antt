@@ -5,7 +5,7 @@ use Prim.Native.Nat.{ℕ, zero, suc, pred, _+_, _*_, _-_, _≤_, _<_}
 use native.Mathlib.Omega.{arith}
 use native.Mathlib.Nat.{zero-add}
 use mathlib.Core.Bool.{Bool, true, false}
-use mathlib.Core.List.{List, [], _∷_, _++_, map}
+use mathlib.Core.List.{List, [], _∷_, _++_}
 use mathlib.Core.Logic.{_↔_}
 use mathlib.Core.Option.{Option, none, some}
 use mathlib.Core.Path.{_≡_, refl, sym, ap, _∙_, subst}
@@ -17,10 +17,10 @@ use Rattle.language.specs.Text.{Kind, variable, label, procedure, Formal, Block
 use Rattle.language.specs.Encoding.{kindField}
 use Rattle.laws.specs.Tests.{none≢some, some-inj}
 use Rattle.laws.specs.Lists.{getElem-in, getElem-bound, getElem-append, getElem-after}
-use Rattle.laws.specs.Lookup.{lookup-here, lookup-there, lookup-left, lookup-right, lookup-nil}
+use Rattle.laws.specs.Lookup.{lookup-here, lookup-there, lookup-left, lookup-right}
 use Rattle.grammar.specs.Rules.{Keeps}
 use Rattle.frames.specs.Frame.{numbered, positionFrom}
-use Rattle.frames.specs.Numbered.{numbered-bounds, numbered-reverse}
+use Rattle.frames.specs.Numbered.{numbered-bounds}
 use Rattle.coordinates.specs.Enclosure.{Enclosing, Enclosure, Coordinate, namesOf, coordinateOf, atLevel, Encloses}
 use Rattle.coordinates.specs.Search.{coordinate-here, coordinate-further}
 use Rattle.coordinates.specs.Declared.{coordinate-declares, position-named, level-here, level-further}

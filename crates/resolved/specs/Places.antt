@@ -1,20 +1,20 @@
--- Where the parts of a script stand. A place is half a byte offset, and loses nothing: every offset of a script that keeps the rules is even.
--- Of a block that is formed at place p (`module _`): `block-place`, `stmt-stands`, `body-stands`: the places of its BK, of a statement and of
--- a body it declares. `next-place`: behind a statement stands the next one, behind the last the end; `stmt-before-end`: a statement stands
--- before the end, so that a place is the end's exactly behind the last one (`end-iff`); `places-rise`.
--- Of an enclosed block (`enclosed-placed`): it is formed at its place and ends within the script, which has at most 4,096 fields
--- (`end-bound`).
-use Prim.Native.Nat.{ℕ, zero, suc, pred, _+_, _*_, _≤_, _<_}
+-- Where the parts of a script stand. A place is half a byte offset and loses nothing, since every offset of a script that keeps the rules is
+-- even (`even-block`, `even-stmt`). Of a block that is formed at place p: `block-place`, `stmt-stands`, `body-stands`: the places of its BK,
+-- of a statement and of a body that it declares; `stmt-place`, `end-place`: what stmtPlace is; `next-place`: behind a statement stands the
+-- next one, or the end; `place-rises`, `stmt-before-end`, `end-iff`: a statement number's place is the end exactly behind the last one.
+-- Of an enclosed block (`enclosed-placed`): it is formed at its place and ends within the script's at most 4,096 fields (`end-bound`); the laws
+-- on statements are `enclosed-next`, `enclosed-after-block`, `enclosed-before-end`, `enclosed-end-iff`.
+use Prim.Native.Nat.{ℕ, zero, suc, _+_, _*_, _≤_, _<_}
 use native.Mathlib.Omega.{arith}
-use mathlib.Core.List.{List, [], _∷_, _++_}
+use mathlib.Core.List.{List, [], _∷_}
 use mathlib.Core.Bool.{Bool, true, false}
 use mathlib.Core.Logic.{_↔_}
 use borrow.Author.Tests.{ltb-true, ltb-false}
 use lib.Dec.{ltb}
 use mathlib.Core.Option.{Option, none, some}
-use mathlib.Core.Path.{_≡_, refl, sym, ap, _∙_, subst}
+use mathlib.Core.Path.{_≡_, refl, sym, ap, subst}
 use lib.ListN.{length, getElem?, length-append}
-use Rattle.language.specs.Text.{Formal, Action, CL, GO, IF, KN, AR, AD, RM, QY, Block, block, Decl, VR, LB, PR, Stmt, BK, DO, Decls, no-decl, decl, Stmts, no-stmt, stmt, decls, stmts, blockAt, blockDecls, blockStmts, stmtAt}
+use Rattle.language.specs.Text.{Formal, Action, CL, GO, IF, KN, AR, AD, RM, QY, Block, block, Decl, PR, Stmt, BK, DO, Decls, no-decl, decl, Stmts, no-stmt, stmt, decls, stmts, blockAt, blockDecls, blockStmts, stmtAt}
 use Rattle.language.specs.Encoding.{actionFields, formalsFields, blockFields, declFields, stmtFields, declsFields, stmtsFields, encode}
 use Rattle.laws.specs.Tests.{none≢some, some-inj}
 use Rattle.laws.specs.Lists.{getElem-none, getElem-in, getElem-past}
@@ -22,7 +22,6 @@ use Rattle.grammar.specs.Rules.{FormedBlock, FormedDecl, FormedStmt, FormedDecl
 use Rattle.grammar.specs.Words.{length-bytes}
 use Rattle.coordinates.specs.Enclosure.{Enclosing, Enclosure, StandsIn, as-block, as-body, whole, Encloses}
 use Rattle.resolved.specs.Resolved.{placeOf, endPlace, stmtPlace}
-use Rattle.resolved.specs.Lengths.{formals-fields}
 
 -- Every statement has a field
 
