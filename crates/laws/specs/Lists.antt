@@ -5,7 +5,7 @@ use native.Mathlib.Nat.{not-suc-le-zero, le-of-suc-le-suc, zero-add, suc-add}
 use mathlib.Core.Path.{_≡_, refl, sym, ap, ap₂, _∙_}
 use mathlib.Core.List.{List, [], _∷_, _++_, map}
 use mathlib.Core.Option.{none, some, Option·map}
-use lib.ListN.{length, take, drop, getD, set, getElem?, length-append}
+use lib.ListN.{length, take, drop, getD, set, replicate, getElem?, length-append}
 use Rattle.language.specs.Basics.{last?, butLast}
 use Rattle.laws.specs.Tests.{none≢some, some-inj}
 
@@ -195,6 +195,11 @@ constant c (x ∷ l) (y ∷ m) e = ap (c ∷_) (constant c l m (omega arith))
 pub snoc-inj : {A : Type 0} (l m : List A) (a b : A) → l ++ (a ∷ []) ≡ m ++ (b ∷ []) → (l ≡ m) × (a ≡ b)
 snoc-inj l m a b e =
     (sym (butLast-snoc l a) ∙ (ap butLast e ∙ butLast-snoc m b), some-inj (sym (last-snoc l a) ∙ (ap last? e ∙ last-snoc m b)))
+
+pub zeros : (n q : ℕ) → _≡_ {A = ℕ} (getD (replicate n 0) q 0) 0
+zeros zero q = refl
+zeros (suc n) zero = refl
+zeros (suc n) (suc q) = zeros n q
 
 -- the two elements of place k of a list that is read two by two
 pub twice-suc : (k : ℕ) → 2 * suc k ≡ suc (suc (2 * k))

@@ -1,5 +1,5 @@
--- Laws of the membership table: the two words of a place, one pair more at the front and one place more at the end, and the length that
--- taking a pair out keeps.
+-- Laws of the membership table: the two words of a place, one pair more at the front and one place more at the end, and the length, which
+-- adding a pair and taking one out keep.
 use Prim.Native.Nat.{ℕ, zero, suc, _+_, _*_, _≤_}
 use native.Mathlib.Omega.{arith}
 use mathlib.Core.Bool.{Bool, true, false, _&&_, cond}
@@ -7,9 +7,10 @@ use mathlib.Core.List.{List, [], _∷_}
 use mathlib.Core.Option.{Option, none, some}
 use mathlib.Core.Path.{_≡_, refl, sym, ap, _∙_}
 use lib.IntN.{ℤ, pos}
-use lib.ListN.{length, getD, length-append, length-take, length-drop}
+use lib.ListN.{length, getD, set, length-set, length-append, length-take, length-drop}
+use borrow.Author.Tests.{ltb-false}
 use Rattle.language.specs.Basics.{eqZ}
-use Rattle.language.specs.Table.{find, members, takeOut}
+use Rattle.language.specs.Table.{Table, find, members, full, add, takeOut}
 use Rattle.laws.specs.Lists.{twice-suc, twice-suc-one}
 
 -- the two words of place i, from 0
@@ -113,3 +114,17 @@ takeOut-length i (suc k) [] = refl
 takeOut-length i (suc k) (a ∷ []) = refl
 takeOut-length zero (suc k) (a ∷ b ∷ ws) = simp (length-append, length-take, length-drop) (omega arith)
 takeOut-length (suc i) (suc k) (a ∷ b ∷ ws) = ap (λ (n : ℕ). suc (suc n)) (takeOut-length i k ws)
+
+-- ---- add
+
+pub full-room : (t : Table) → full t ≡ false → 2 * suc (t .used) ≤ length (t .words)
+unfolding full
+full-room t e = ltb-false (length (t .words)) (2 * suc (t .used)) e
+
+pub add-length : (g m : ℤ) (t : Table) → length ((add g m t) .words) ≡ length (t .words)
+unfolding add
+add-length g m t = length-set (set (t .words) (2 * t .used) g) (suc (2 * t .used)) m ∙ length-set (t .words) (2 * t .used) g
+
+pub add-used : (g m : ℤ) (t : Table) → (add g m t) .used ≡ suc (t .used)
+unfolding add
+add-used g m t = refl

@@ -1,7 +1,7 @@
 -- What a test or an option is and cannot be.
 use Prim.Native.Nat.{ℕ}
 use native.Mathlib.Omega.{arith}
-use mathlib.Core.Bool.{Bool, true, false, true≢false, false≢true}
+use mathlib.Core.Bool.{Bool, true, false, true≢false, false≢true, _&&_, and-eq-true-iff}
 use mathlib.Core.Logic.{_≢_}
 use mathlib.Core.Option.{Option, none, some}
 use mathlib.Core.Path.{_≡_, refl, sym, ap, _∙_}
@@ -14,6 +14,10 @@ use Rattle.language.specs.Basics.{eqZ}
 pub split {ℓ} : {X : Type ℓ} (t : Bool) → (t ≡ true → X) → (t ≡ false → X) → X
 split true f g = f refl
 split false f g = g refl
+
+-- two tests that hold together
+pub both : (s t : Bool) → s && t ≡ true → (s ≡ true) × (t ≡ true)
+both s t = (and-eq-true-iff s t) .0
 
 -- an option and its value
 pub by-lookup {ℓ ℓ′} : {A : Type ℓ} {X : Type ℓ′} (o : Option A) → (o ≡ none → X) → ((a : A) → o ≡ some a → X) → X

@@ -9,9 +9,9 @@ use mir.Val.{SFits, toZ, ofZ}
 use mir.Syntax.{w32}
 use mir.Facts.{toZ-ofZ}
 use Rattle.language.specs.Table.{find}
-use Rattle.members.specs.Places.{placed}
-use Rattle.members.specs.declared.Place.{Place}
-use Rattle.members.specs.declared.Place.the-variants.{At, Absent}
+use Rattle.pairs.specs.Places.{placed}
+use Rattle.pairs.specs.declared.Place.{Place}
+use Rattle.pairs.specs.declared.Place.the-variants.{At, Absent}
 use Rattle.measure.specs.Found.{placeOr}
 
 placed-at : (other : ℕ) (r : Option ℕ) (i : ℕ) → placed r ≡ At i → i ≡ placeOr other r

@@ -1,11 +1,11 @@
 // The table test and the search of a pair, exported for the benchmark and its tests alone.
 ghost use mathlib.Core.Path.{_≡_};
 ghost use Rattle.language.specs.Table.{find, right};
-ghost use Rattle.members.specs.Outcomes.{tableOf};
+ghost use Rattle.pairs.specs.Outcomes.{tableOf};
 ghost use Rattle.measure.specs.Found.{placeOr};
-use members::Place;
-use members::place_of;
 use members::table_right;
+use pairs::Place;
+use pairs::place_of;
 
 // Whether the table is right for a group limit.
 #[no_mangle]

@@ -8,9 +8,9 @@ use borrow.Author.Tests.{ne-eqb, eq-eqb, le-leb, lt-leb}
 use lib.IntN.{ℤ}
 use lib.ListN.{length}
 use Rattle.language.specs.Table.{numbersRight, right}
-use Rattle.members.specs.Outcomes.{tableOf}
-use Rattle.members.specs.Keys.{within}
-use Rattle.members.proofs.Keys.{twice-within, groups-within}
+use Rattle.pairs.specs.Outcomes.{tableOf}
+use Rattle.keys.specs.Keys.{within}
+use Rattle.members.proofs.Rules.{twice-within, groups-within}
 
 module _ (limit : ℕ) (ws : List ℤ) (n : ℕ) where
   pub right-odd : (length ws % 2 ≡ 0 → ⊥) → right limit (tableOf ws n) ≡ false

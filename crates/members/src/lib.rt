@@ -1,214 +1,145 @@
-// The membership table: a lent slice of signed words, two for a pair (group, member), of which the first `count` pairs are in use.
+// Whether a table is right: its numbers, and how many pairs have one key.
 ghost use mathlib.Core.Path.{_≡_};
-ghost use mathlib.Core.Bool.{_&&_};
-ghost use Prim.Native.Nat.{_+_, _*_, _/_, _<_, min};
-ghost use lib.ListN.{length, set};
-ghost use Rattle.language.specs.Basics.{eqZ};
-ghost use Rattle.language.specs.Table.{find, members, atLeastOne, right, add, takeOut, added, removed, queried};
-ghost use Rattle.laws.specs.Tables.{groupAt, memberAt};
-ghost use Rattle.members.specs.Places.{placed};
-ghost use Rattle.members.specs.Outcomes.{tableOf, changeOf, valueOf, wordsAfter};
-use language::Stop;
+ghost use mathlib.Core.Bool.{true, false};
+ghost use Prim.Native.Nat.{ℕ, _*_, _≤_, _<_};
+ghost use lib.ListN.{length};
+ghost use Rattle.language.specs.Table.{numbersRight, right};
+ghost use Rattle.pairs.specs.Outcomes.{tableOf};
+ghost use Rattle.keys.specs.Keys.{rankAt, within};
+ghost use Rattle.filtering.specs.Filter.{OfClass, Cleared};
+use counting::suspects;
+use filtering::clear_marks;
+use filtering::insert_all;
+use keys::rank;
+use pairs::group_at;
+use pairs::member_at;
+use pairs::numbers_fit;
+use probing::count_class;
 
-mod alike;
-mod counters;
-mod filter;
-mod hashes;
-mod right;
-mod slots;
-
-// Where a pair stands, counted in pairs from 0.
-pub enum Place {
-    At(usize),
-    Absent,
-}
-
-// What AD or RM comes to: the count of pairs after it, or the cause to stop.
-pub enum Change {
-    Done(usize),
-    Stopped(Stop),
-}
-
-// What QY comes to: the value that it stores, or the cause to stop.
-pub enum Query {
-    Value(i32),
-    Stopped(Stop),
-}
-
-// How many pairs are read: `count`, or as many as `len` words hold.
-fn pairs_in(len: usize, count: usize) -> usize
-    ensures { λ r. ⌜ r ≡ min count (len / 2) ⌝ }
+fn numbers_right(table: &[i32], count: usize) -> bool
+    requires { ⌜ 2 * count ≤ length (now table) ⌝ }
+    ensures { λ r. ⌜ r ≡ numbersRight count (now (table .entry)) ⌝ }
 {
-    if count <= len / 2 { count } else { len / 2 }
-}
-
-// How many words `count` pairs take, of `len`.
-fn words_in(len: usize, count: usize) -> usize
-    ensures { λ r. ⌜ r ≡ min (2 * count) len ⌝ }
-{
-    if count <= len / 2 { 2 * count } else { len }
-}
-
-fn same_number(a: i32, b: i32) -> bool
-    ensures { λ r. ⌜ r ≡ eqZ a b ⌝ }
-{
-    a == b
-}
-
-fn group_at(table: &[i32], i: usize) -> i32
-    requires { ⌜ 2 * i + 1 < length (now table) ⌝ }
-    ensures { λ r. ⌜ r ≡ groupAt i (now (table .entry)) ⌝ }
-{
-    table[2 * i]
-}
-
-fn member_at(table: &[i32], i: usize) -> i32
-    requires { ⌜ 2 * i + 1 < length (now table) ⌝ }
-    ensures { λ r. ⌜ r ≡ memberAt i (now (table .entry)) ⌝ }
-{
-    table[2 * i + 1]
-}
-
-fn pair_is(table: &[i32], i: usize, group: i32, member: i32) -> bool
-    requires { ⌜ 2 * i + 1 < length (now table) ⌝ }
-    ensures { λ r. ⌜ r ≡ (eqZ (groupAt i (now (table .entry))) group && eqZ (memberAt i (now (table .entry))) member) ⌝ }
-{
-    if same_number(group_at(table, i), group) {
-        return same_number(member_at(table, i), member);
-    }
-    false
-}
-
-pub fn at_least_one(number: i32) -> bool
-    ensures { λ r. ⌜ r ≡ atLeastOne number ⌝ }
-{
-    1 <= number
-}
-
-fn numbers_fit(group: i32, member: i32) -> bool
-    ensures { λ r. ⌜ r ≡ (atLeastOne group && atLeastOne member) ⌝ }
-{
-    if at_least_one(group) {
-        return at_least_one(member);
-    }
-    false
-}
-
-// The first place among the first `count` pairs.
-pub fn place_of(table: &[i32], count: usize, group: i32, member: i32) -> Place
-    ensures { λ r. ⌜ r ≡ placed (find group member count (now (table .entry))) ⌝ }
-{
-    let n = pairs_in(table.len(), count);
     let mut i = 0;
-    while i < n {
-        if pair_is(table, i, group, member) {
-            return Place::At(i);
+    while i < count {
+        if !numbers_fit(group_at(table, i), member_at(table, i)) {
+            return false;
         }
         i += 1;
     }
-    Place::Absent
+    true
 }
 
-// How many of the first `count` pairs are of the group.
-pub fn group_size(table: &[i32], count: usize, group: i32) -> usize
-    ensures { λ r. ⌜ r ≡ members group count (now (table .entry)) ⌝ }
+// Whether each key has at most `limit` pairs: for each pair all before it are read.
+fn few_by_reading(table: &[i32], count: usize, whole: bool, limit: u32) -> bool
+    requires { ⌜ 2 * count ≤ length (now table) ⌝ }
+    ensures { λ r. ⌜ r ≡ within whole limit count (now (table .entry)) ⌝ }
 {
-    let n = pairs_in(table.len(), count);
-    let mut found: usize = 0;
     let mut i = 0;
-    while i < n {
-        if same_number(group_at(table, i), group) {
-            found += 1;
+    while i < count {
+        if (limit as usize) < rank(table, whole, i) {
+            return false;
         }
         i += 1;
     }
-    found
+    true
 }
 
-// The word at `i` is written, if the table has one there.
-fn write_word(table: &mut [i32], i: usize, word: i32)
-    ensures { λ _. ⌜ now (table .exit) ≡ set (now (table .entry)) i word ⌝ }
+// Where a key may have one pair, each class has marks of its own; else the marks are those of all pairs.
+fn mark_class(
+    table: &[i32],
+    count: usize,
+    whole: bool,
+    limit: u32,
+    class: u64,
+    classes: u64,
+    marks: &mut [u64],
+)
+    requires { ⌜ 2 * count ≤ length (now table) ⌝ }
+    requires { ⌜ classes < 281474976710656 ⌝ }
+    requires { ⌜ length (now marks) ≡ 4096 ⌝ }
+    ensures { λ _. ⌜ (limit ≡ 1 → (j : ℕ) → j < count → OfClass whole (now (table .entry)) classes class j → Cleared whole (now (table .entry)) 1 (now (marks .exit)) j) ⌝ }
+    ensures { λ _. ⌜ ((limit ≡ 1 → ⊥) → now (marks .exit) ≡ now (marks .entry)) ⌝ }
 {
-    if i < table.len() {
-        table[i] = word;
+    if limit == 1 {
+        clear_marks(marks);
+        insert_all(table, count, whole, class, classes, marks);
     }
 }
 
-// The pair is written behind the last one, as much of it as the table has words for.
-pub fn append(table: &mut [i32], count: usize, group: i32, member: i32)
-    ensures { λ _. ⌜ now (table .exit) ≡ add group member (tableOf (now (table .entry)) count) .words ⌝ }
+// Whether each key of one class has at most `limit` pairs.
+fn class_fits(
+    table: &[i32],
+    count: usize,
+    whole: bool,
+    limit: u32,
+    class: u64,
+    classes: u64,
+    marks: &mut [u64],
+) -> bool
+    requires { ⌜ 2 * count ≤ length (now table) ⌝ }
+    requires { ⌜ count ≤ 4294967295 ⌝ }
+    requires { ⌜ 0 < limit ⌝ }
+    requires { ⌜ classes < 281474976710656 ⌝ }
+    requires { ⌜ length (now marks) ≡ 4096 ⌝ }
+    requires { ⌜ ((limit ≡ 1 → ⊥) → (j : ℕ) → j < count → Cleared whole (now table) limit (now marks) j) ⌝ }
+    ensures { λ r. ⌜ (r ≡ true → (j : ℕ) → j < count → OfClass whole (now (table .entry)) classes class j → rankAt whole j (now (table .entry)) ≤ limit) ⌝ }
+    ensures { λ r. ⌜ (r ≡ false → within whole limit count (now (table .entry)) ≡ false) ⌝ }
+    ensures { λ _. ⌜ ((limit ≡ 1 → ⊥) → now (marks .exit) ≡ now (marks .entry)) ⌝ }
 {
-    if count <= table.len() / 2 {
-        write_word(table, 2 * count, group);
-        write_word(table, 2 * count + 1, member);
-    }
+    mark_class(table, count, whole, limit, class, classes, marks);
+    count_class(table, count, whole, limit, class, classes, marks)
 }
 
-// The pair at `place` is taken out: later pairs move down by one and the place freed last is set to 0, 0. The words move one by one,
-// since words that end before `count` pairs may end with half a pair, which moves too.
-pub fn take_out(table: &mut [i32], count: usize, place: usize)
-    ensures { λ _. ⌜ now (table .exit) ≡ takeOut place count (now (table .entry)) ⌝ }
+// Into how many classes the keys are parted; 0 where each has few pairs. Of some 400,000 pairs about one in twenty is suspected.
+fn classes_of(table: &[i32], count: usize, whole: bool, limit: u32, marks: &mut [u64]) -> u64
+    requires { ⌜ 2 * count ≤ length (now table) ⌝ }
+    requires { ⌜ count ≤ 4294967295 ⌝ }
+    requires { ⌜ length (now marks) ≡ 4096 ⌝ }
+    ensures { λ r. ⌜ (r ≡ 0 → (j : ℕ) → j < count → rankAt whole j (now (table .entry)) ≤ limit) ⌝ }
+    ensures { λ r. ⌜ ((limit ≡ 1 → ⊥) → (j : ℕ) → j < count → Cleared whole (now (table .entry)) limit (now (marks .exit)) j) ⌝ }
+    ensures { λ r. ⌜ r < 281474976710656 ⌝ }
 {
-    let end = words_in(table.len(), count);
-    if end / 2 <= place {
-        return;
+    if limit == 1 {
+        return (count / 409600) as u64 + 1;
     }
-    let mut i = 2 * place;
-    while i + 2 < end {
-        table[i] = table[i + 2];
-        i += 1;
-    }
-    table[i] = 0;
-    table[i + 1] = 0;
+    suspects(table, count, whole, limit, marks)
 }
 
-// AD. The causes are tested in document 01's order, each before anything is written.
-pub fn add_pair(table: &mut [i32], count: usize, limit: u32, group: i32, member: i32) -> Change
-    ensures { λ r. ⌜ r ≡ changeOf (added limit group member (tableOf (now (table .entry)) count)) ⌝ }
-    ensures { λ _. ⌜ now (table .exit) ≡ wordsAfter (now (table .entry)) (added limit group member (tableOf (now (table .entry)) count)) ⌝ }
+// Whether each key has at most `limit` pairs. The marks are all that is kept from one go over the table to the next.
+fn few_hashed(table: &[i32], count: usize, whole: bool, limit: u32) -> bool
+    requires { ⌜ 2 * count ≤ length (now table) ⌝ }
+    requires { ⌜ count ≤ 4294967295 ⌝ }
+    requires { ⌜ 0 < limit ⌝ }
+    ensures { λ r. ⌜ r ≡ within whole limit count (now (table .entry)) ⌝ }
 {
-    if !numbers_fit(group, member) {
-        return Change::Stopped(Stop::NumberBelowOne);
+    let mut marks = [0u64; 4096];
+    let classes = classes_of(table, count, whole, limit, &mut marks);
+    let mut class: u64 = 0;
+    while class < classes {
+        if !class_fits(table, count, whole, limit, class, classes, &mut marks) {
+            return false;
+        }
+        class += 1;
     }
-    if let Place::At(_) = place_of(table, count, group, member) {
-        return Change::Done(count);
-    }
-    if limit as usize <= group_size(table, count, group) {
-        return Change::Stopped(Stop::GroupFull);
-    }
-    if table.len() / 2 <= count {
-        return Change::Stopped(Stop::TableFull);
-    }
-    append(table, count, group, member);
-    Change::Done(count + 1)
+    true
 }
 
-// RM. An absent pair changes nothing.
-pub fn remove_pair(table: &mut [i32], count: usize, group: i32, member: i32) -> Change
-    ensures { λ r. ⌜ r ≡ changeOf (removed group member (tableOf (now (table .entry)) count)) ⌝ }
-    ensures { λ _. ⌜ now (table .exit) ≡ wordsAfter (now (table .entry)) (removed group member (tableOf (now (table .entry)) count)) ⌝ }
+// The same as by reading. A slot holds places below 2 ^ 32; a few pairs are read sooner than words are cleared.
+fn few_alike(table: &[i32], count: usize, whole: bool, limit: u32) -> bool
+    requires { ⌜ 2 * count ≤ length (now table) ⌝ }
+    ensures { λ r. ⌜ r ≡ within whole limit count (now (table .entry)) ⌝ }
 {
-    if !numbers_fit(group, member) {
-        return Change::Stopped(Stop::NumberBelowOne);
+    if 4294967295 < count {
+        return few_by_reading(table, count, whole, limit);
     }
-    let Place::At(place) = place_of(table, count, group, member) else {
-        return Change::Done(count);
-    };
-    take_out(table, count, place);
-    Change::Done(count - 1)
-}
-
-// QY. The value is 1 where the pair is present, else 0.
-pub fn query_pair(table: &[i32], count: usize, group: i32, member: i32) -> Query
-    ensures { λ r. ⌜ r ≡ valueOf (queried group member (tableOf (now (table .entry)) count)) ⌝ }
-{
-    if !numbers_fit(group, member) {
-        return Query::Stopped(Stop::NumberBelowOne);
+    if count < 64 {
+        return few_by_reading(table, count, whole, limit);
     }
-    if let Place::At(_) = place_of(table, count, group, member) {
-        return Query::Value(1);
+    if limit == 0 {
+        return few_by_reading(table, count, whole, limit);
     }
-    Query::Value(0)
+    few_hashed(table, count, whole, limit)
 }
 
 // Whether the table is right for a group limit.
@@ -221,15 +152,15 @@ pub fn table_right(table: &[i32], count: usize, limit: u32) -> bool
     if table.len() / 2 < count {
         return false;
     }
-    if !right::numbers_right(table, count) {
+    if !numbers_right(table, count) {
         return false;
     }
-    if !right::few_alike(table, count, true, 1) {
+    if !few_alike(table, count, true, 1) {
         return false;
     }
     // A group is no larger than the table.
     if count <= limit as usize {
         return true;
     }
-    right::few_alike(table, count, false, limit)
+    few_alike(table, count, false, limit)
 }

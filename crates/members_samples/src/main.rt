@@ -1,6 +1,6 @@
 // The membership table on small cases, each result in plain words.
-use members::Change;
-use members::Query;
+use pairs::Change;
+use pairs::Query;
 
 fn say(text: &[u8]) {
     io::write_all(1, text);
@@ -58,33 +58,33 @@ fn change(c: Change) {
 
 fn add(name: &[u8], table: &mut [i32], count: usize, limit: u32, group: i32, member: i32) {
     say(name);
-    change(members::add_pair(table, count, limit, group, member));
+    change(pairs::add_pair(table, count, limit, group, member));
     words(table);
 }
 
 fn remove(name: &[u8], table: &mut [i32], count: usize, group: i32, member: i32) {
     say(name);
-    change(members::remove_pair(table, count, group, member));
+    change(pairs::remove_pair(table, count, group, member));
     words(table);
 }
 
 fn append(name: &[u8], table: &mut [i32], count: usize, group: i32, member: i32) {
     say(name);
     say(b"\n");
-    members::append(table, count, group, member);
+    pairs::append(table, count, group, member);
     words(table);
 }
 
 fn take_out(name: &[u8], table: &mut [i32], count: usize, place: usize) {
     say(name);
     say(b"\n");
-    members::take_out(table, count, place);
+    pairs::take_out(table, count, place);
     words(table);
 }
 
 fn query(name: &[u8], table: &[i32], count: usize, group: i32, member: i32) {
     say(name);
-    match members::query_pair(table, count, group, member) {
+    match pairs::query_pair(table, count, group, member) {
         Query::Value(value) => {
             say(b": ");
             word(value);

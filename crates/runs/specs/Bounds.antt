@@ -12,9 +12,10 @@ use Rattle.language.specs.Table.{Table}
 use Rattle.language.specs.Copy.{Replacement}
 use Rattle.language.specs.Machine.{Activation, State, Instance, Limits, withLive, withTable, counted, resume, store, activation, enter, advance, instance, run, start}
 use Rattle.laws.specs.Lists.{butLast-length, replaced-length, getElem-bound}
+use Rattle.laws.specs.Tables.{add-length}
 use Rattle.laws.specs.Instances.{found-at}
 use Rattle.runs.specs.Moves.{Kept, run-keeps}
-use Rattle.runs.specs.TableLaws.{add-length, remove-length}
+use Rattle.runs.specs.TableLaws.{remove-length}
 
 words-stay : (l : Limits) (w : ℕ) → Kept l (λ s. length (s .table .words) ≡ w)
 unfolding withLive withTable store enter advance

@@ -11,6 +11,7 @@ use lib.IntN.{ℤ}
 use lib.ListN.{length}
 use borrow.Author.Tests.{eqb-true, eq-eqb, leb-true, le-leb, not-true}
 use Rattle.language.specs.Table.{Table, find, isSome, members, size, atLeastOne, numbersRight, noneTwice, groupsWithin, right}
+use Rattle.laws.specs.Tests.{both}
 use Rattle.laws.specs.Tables.{groupAt, memberAt, groupAt-suc, memberAt-suc}
 use Rattle.runs.specs.Pairs.{At, below-or, absent, find-absent, members-where}
 
@@ -21,9 +22,6 @@ pub record Right (limit : ℕ) (t : Table) : Type 0 where
   pub numbers : (i : ℕ) → i < t .used → (atLeastOne (groupAt i (t .words)) ≡ true) × (atLeastOne (memberAt i (t .words)) ≡ true)
   pub once : (i j : ℕ) → i < t .used → j < t .used → At i (t .words) (groupAt j (t .words)) (memberAt j (t .words)) → i ≡ j
   pub within : (g : ℤ) → size g t ≤ limit
-
-both : (a b : Bool) → a && b ≡ true → (a ≡ true) × (b ≡ true)
-both a b = (and-eq-true-iff a b) .0
 
 and : (a b : Bool) → a ≡ true → b ≡ true → a && b ≡ true
 and a b p q = (and-eq-true-iff a b) .1 (p, q)

@@ -11,30 +11,17 @@ use mathlib.Core.Option.{Option, none, some}
 use lib.IntN.{ℤ, pos}
 use lib.ListN.{length, getD, set, length-set}
 use lib.Seq.{getD-set-same, getD-set-other}
-use borrow.Author.Tests.{ltb-false}
 use Rattle.language.specs.Basics.{eqZ}
 use Rattle.language.specs.Table.{Table, find, isSome, holds, members, size, atLeastOne, right, full, add, takeOut, fewer, remove}
 use Rattle.language.specs.Machine.{State, Limits, withLive, withTable, counted, store, enter, advance, run}
 use Rattle.laws.specs.Tests.{eqZ-true}
-use Rattle.laws.specs.Tables.{groupAt, memberAt, orElse, find-next, members-next, takeOut-length}
+use Rattle.laws.specs.Tables.{groupAt, memberAt, orElse, find-next, members-next, full-room, add-length, add-used, takeOut-length}
 use Rattle.runs.specs.Pairs.{At, below-or, find-some, find-same, find-absent, find-present, absent, members-same}
 use Rattle.runs.specs.TakingOut.{takeOut-place-before, takeOut-place-after, takeOut-members}
 use Rattle.runs.specs.Rightness.{Right, right-means, right-holds}
 use Rattle.runs.specs.Moves.{Kept, run-keeps}
 
 -- Adding.
-pub full-room : (t : Table) → full t ≡ false → 2 * suc (t .used) ≤ length (t .words)
-unfolding full
-full-room t e = ltb-false (length (t .words)) (2 * suc (t .used)) e
-
-pub add-length : (g m : ℤ) (t : Table) → length ((add g m t) .words) ≡ length (t .words)
-unfolding add
-add-length g m t = length-set (set (t .words) (2 * t .used) g) (suc (2 * t .used)) m ∙ length-set (t .words) (2 * t .used) g
-
-pub add-used : (g m : ℤ) (t : Table) → (add g m t) .used ≡ suc (t .used)
-unfolding add
-add-used g m t = refl
-
 -- the words before the new pair stay, and so do those after it
 pub add-word : (g m : ℤ) (t : Table) (n : ℕ) (d : ℤ) → n ≢ 2 * t .used → n ≢ suc (2 * t .used) → getD ((add g m t) .words) n d ≡ getD (t .words) n d
 unfolding add

@@ -3,9 +3,9 @@ use mathlib.Core.Path.{_≡_, sym, _∙_}
 use mathlib.Core.Bool.{true, false, _&&_}
 use borrow.Author.Tests.{not-true, not-false}
 use Rattle.language.specs.Table.{numbersRight, right}
-use Rattle.members.specs.Outcomes.{tableOf}
-use Rattle.members.specs.Keys.{within}
-use Rattle.members.proofs.Keys.{small-within}
+use Rattle.pairs.specs.Outcomes.{tableOf}
+use Rattle.keys.specs.Keys.{within}
+use Rattle.members.proofs.Rules.{small-within}
 use Rattle.members.proofs.TableRight.{right-odd, right-short, right-is}
 use borrow.Author.Needs.{needs}
 use Rattle.members.proofs.table_right.Statement.{statement}

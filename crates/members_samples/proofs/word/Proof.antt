@@ -1,6 +1,6 @@
 -- `word` meets its contract: a word that is not negative is a number.
 use borrow.Author.Needs.{needs}
-use Rattle.members.proofs.Signed.{whole-cast}
+use Rattle.hashing.proofs.Weights.{whole-cast}
 use Rattle.members_samples.proofs.word.Statement.{statement}
 use Rattle.members_samples.proofs.word.Tie as tie
 

@@ -1,0 +1,114 @@
+-- `suspects` meets its contract: a pair whose counter is not full has a rank within the limit, and the others are marked.
+use Prim.Native.Nat.{ℕ, _≤_, _<_}
+use mathlib.Core.Logic.{inl, inr, ⊎-elim}
+use native.Mathlib.Omega.{arith}
+use Rattle.keys.specs.Keys.{rankAt}
+use Rattle.counting.specs.Counters.{heldAt, counterAt}
+use Rattle.counting.proofs.Counting.{held-none, bounded-start, bounded-rank}
+use borrow.Author.Needs.{needs}
+use Rattle.counting.proofs.suspects.Statement.{statement}
+use Rattle.counting.proofs.suspects.Tie as tie
+
+abbrev shareOf : tie.After-count-all → ℕ
+shareOf c = c .before .before .before .share-of .result
+
+abbrev startOf : tie.After-count-all → tie.Start
+startOf c = c .before .before .before .before .before
+
+-- what a counter that is not full says
+ranked :
+    (c : tie.After-count-all) (j : ℕ) → let s = startOf c in j < s .args .count →
+    heldAt (shareOf c) (c .count-all .last .1 .1 .1 .1 .1 .0) (counterAt (shareOf c) (s .args .whole) (s .args .table .now) j) < c .before .before .most-of .result →
+    rankAt (s .args .whole) j (s .args .table .now) ≤ s .args .limit
+ranked c j l h =
+    let s = startOf c in
+    let m = c .before .before in
+    bounded-rank (s .args .whole) (s .args .table .now) (shareOf c) (m .most-of .result) (s .args .count) (s .args .limit) (c .count-all .last .1 .1 .1 .1 .1 .0)
+    (c .count-all .ensures .0) (omega (arith, m .most-of .ensures)) j l h
+
+share-of-requires : tie.Need-share-of-requires
+share-of-requires c κs = search needs
+
+most-of-requires : tie.Need-most-of-requires
+most-of-requires c κs = search needs
+
+slice-aggregate-count-all : tie.Need-slice-aggregate-count-all
+slice-aggregate-count-all c = search needs
+
+count-all-requires : tie.Need-count-all-requires
+count-all-requires c κs =
+    let m = c .before in
+    let h = m .before in
+    let s = h .before .before in (
+      s .pre .0,
+      (
+        omega (arith, m .most-of .ensures, h .share-of .ensures),
+        (
+          bounded-start (s .args .whole) (s .args .table .now) (h .share-of .result) (m .most-of .result),
+          λ q. omega (arith, held-none (h .share-of .result) q, m .most-of .ensures),
+        ),
+      ),
+    )
+
+returns : tie.Need-returns
+returns c =
+    let k = c .before .before in
+    let low = k .count-all .ensures .1 (c .if1 .taken) in (
+      λ e j l. ranked k j l (low _),
+      (λ j l. inl (ranked k j l (low _)), omega arith),
+    )
+
+slice-aggregate-mark-all : tie.Need-slice-aggregate-mark-all
+slice-aggregate-mark-all c = search needs
+
+mark-all-requires : tie.Need-mark-all-requires
+mark-all-requires c κs =
+    let k = c .before .before .before .before in
+    let s = startOf k in
+    (s .pre .0, (k .count-all .ensures .0 .counter-words, s .pre .1 .1))
+
+add-result : tie.Need-add-result
+add-result c = search needs
+
+same-length : tie.Need-same-length
+same-length c = search needs
+
+returns-2 : tie.Need-returns-2
+returns-2 c =
+    let n = c .before .before .before in
+    let k = n .before .before .before .before .before in (
+      λ e. absurd (omega arith),
+      (λ j l. ⊎-elim (λ h. inl (ranked k j l h)) inr (n .mark-all .ensures .0 j l), omega arith),
+    )
+
+add-result-2 : tie.Need-add-result-2
+add-result-2 c = search needs
+
+same-length-2 : tie.Need-same-length-2
+same-length-2 c = search needs
+
+returns-3 : tie.Need-returns-3
+returns-3 c =
+    let n = c .before .before .before in
+    let k = n .before .before .before .before .before in (
+      λ e. absurd (omega arith),
+      (λ j l. ⊎-elim (λ h. inl (ranked k j l h)) inr (n .mark-all .ensures .0 j l), omega arith),
+    )
+
+pub suspects-spec : {M : Type 1} → statement M
+suspects-spec =
+    tie.close
+    (tie.spec
+    share-of-requires
+    most-of-requires
+    slice-aggregate-count-all
+    count-all-requires
+    returns
+    slice-aggregate-mark-all
+    mark-all-requires
+    add-result
+    same-length
+    returns-2
+    add-result-2
+    same-length-2
+    returns-3)

@@ -1,0 +1,2 @@
+// The display engine.
+mod names;

@@ -1,0 +1,43 @@
+-- `is_suspected` meets its contract.
+use Prim.Native.Nat.{ℕ}
+use mathlib.Core.Path.{_∙_, ap, ap₂}
+use lib.ListN.{getD}
+use Rattle.hashing.specs.Hashes.{markOf, maskOf}
+use Rattle.filtering.specs.Filter.{covers, suspected}
+use borrow.Author.Needs.{needs}
+use Rattle.filtering.proofs.is_suspected.Statement.{statement}
+use Rattle.filtering.proofs.is_suspected.Tie as tie
+
+mark-of-requires : tie.Need-mark-of-requires
+mark-of-requires c κs = search needs
+
+mul-is-covered : tie.Need-mul-is-covered
+mul-is-covered c = search needs
+
+shared-slice-read-is-covered : tie.Need-shared-slice-read-is-covered
+shared-slice-read-is-covered c = search needs
+
+mask-of-requires : tie.Need-mask-of-requires
+mask-of-requires c κs = search needs
+
+is-covered-requires : tie.Need-is-covered-requires
+is-covered-requires c κs = search needs
+
+returns : tie.Need-returns
+unfolding suspected
+returns c =
+    let m = c .before in
+    let k = m .before .before in
+    let s = k .before .before in
+    c .is-covered .ensures ∙ ap₂ (λ (q n : ℕ). covers (getD (s .args .marks .now) q 0) n) (k .mark-of .ensures .0 ∙ ap markOf (s .pre .0)) (m .mask-of .ensures ∙ ap maskOf (s .pre .0))
+
+pub is-suspected-spec : {M : Type 1} → statement M
+is-suspected-spec =
+    tie.close
+    (tie.spec
+    mark-of-requires
+    mul-is-covered
+    shared-slice-read-is-covered
+    mask-of-requires
+    is-covered-requires
+    returns)

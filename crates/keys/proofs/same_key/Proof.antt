@@ -1,0 +1,65 @@
+-- `same_key` meets its contract.
+use mathlib.Core.Path.{_≡_, sym, _∙_}
+use Rattle.language.specs.Basics.{eqZ}
+use Rattle.laws.specs.Tables.{groupAt}
+use Rattle.keys.specs.Keys.{same, sameAt}
+use Rattle.pairs.proofs.Signed.{same-words}
+use Rattle.keys.proofs.Keys.{differ}
+use borrow.Author.Needs.{needs}
+use Rattle.keys.proofs.same_key.Statement.{statement}
+use Rattle.keys.proofs.same_key.Tie as tie
+
+group-at-requires : tie.Need-group-at-requires
+group-at-requires c κs = search needs
+
+group-at-requires-2 : tie.Need-group-at-requires-2
+group-at-requires-2 c κs = search needs
+
+same-number-requires : tie.Need-same-number-requires
+same-number-requires c κs = search needs
+
+member-at-requires : tie.Need-member-at-requires
+member-at-requires c κs = search needs
+
+member-at-requires-2 : tie.Need-member-at-requires-2
+member-at-requires-2 c κs = search needs
+
+same-number-requires-2 : tie.Need-same-number-requires-2
+same-number-requires-2 c κs = search needs
+
+groups :
+    (c : tie.After-same-number) → let s = c .before .before .before in
+    c .same-number .result ≡ eqZ (groupAt (s .args .j) (s .args .table .now)) (groupAt (s .args .i) (s .args .table .now))
+groups c =
+    let d = c .before in
+    same-words (c .same-number .ensures) (d .before .group-at .ok) (d .group-at2 .ok) (d .before .group-at .ensures) (d .group-at2 .ensures)
+
+returns : tie.Need-returns
+unfolding same sameAt
+returns c =
+    let d = c .before in
+    let w = d .before .before in
+    rw (w .if2 .taken, sym (groups (w .before .before)) ∙ w .before .if1 .taken)
+    (same-words (c .same-number2 .ensures) (d .before .member-at .ok) (d .member-at2 .ok) (d .before .member-at .ensures) (d .member-at2 .ensures))
+
+returns-2 : tie.Need-returns-2
+unfolding same sameAt
+returns-2 c = rw (c .if2 .left, sym (groups (c .before .before)) ∙ c .before .if1 .taken)
+
+returns-3 : tie.Need-returns-3
+unfolding same sameAt
+returns-3 c = differ (c .before .before .before .before .args .whole) _ _ _ _ (sym (groups (c .before)) ∙ c .if1 .left)
+
+pub same-key-spec : {M : Type 1} → statement M
+same-key-spec =
+    tie.close
+    (tie.spec
+    group-at-requires
+    group-at-requires-2
+    same-number-requires
+    member-at-requires
+    member-at-requires-2
+    same-number-requires-2
+    returns
+    returns-2
+    returns-3)

@@ -1,0 +1,30 @@
+-- `mark_class` meets its contract.
+use mathlib.Core.Path.{refl}
+use borrow.Author.Needs.{needs}
+use Rattle.members.proofs.mark_class.Statement.{statement}
+use Rattle.members.proofs.mark_class.Tie as tie
+
+clear-marks-requires : tie.Need-clear-marks-requires
+clear-marks-requires c κs = search needs
+
+insert-all-requires : tie.Need-insert-all-requires
+insert-all-requires c κs = search needs
+
+same-length : tie.Need-same-length
+same-length c = search needs
+
+returns : tie.Need-returns
+returns c = (λ e. c .before .before .insert-all .ensures, λ n. absurd (n (c .before .before .before .before .before .before .before .before .if1 .taken)))
+
+returns-2 : tie.Need-returns-2
+returns-2 c = (λ e. absurd (c .if1 .left e), λ n. refl)
+
+pub mark-class-spec : {M : Type 1} → statement M
+mark-class-spec =
+    tie.close
+    (tie.spec
+    clear-marks-requires
+    insert-all-requires
+    same-length
+    returns
+    returns-2)

@@ -1,0 +1,79 @@
+-- `numbers_right` meets its contract. The loop's invariant: the pairs passed have numbers of at least 1.
+use Prim.Native.Nat.{_≤_, _-_}
+use mathlib.Core.Path.{_≡_, sym, _∙_}
+use mathlib.Core.Bool.{true}
+use native.Mathlib.Numerals.{add-one}
+use native.Mathlib.Omega.{arith}
+use borrow.Author.Tests.{not-true, not-false}
+use Rattle.keys.specs.Keys.{each}
+use Rattle.pairs.proofs.Signed.{number-words}
+use Rattle.keys.proofs.Each.{each-none, each-next, each-false}
+use Rattle.members.proofs.Rules.{numbersAt, numbers-each}
+use Rattle.members.proofs.numbers_right.Statement.{statement}
+use Rattle.members.proofs.numbers_right.Tie as tie
+
+abbrev Inv-loop : tie.InvT-loop
+Inv-loop table count i₀ i = (i ≤ count) × (each (numbersAt table) i ≡ true)
+
+abbrev μ-loop : tie.MeasureT-loop
+μ-loop table count i₀ i = count - i
+
+loop-holds : tie.Need-loop-holds Inv-loop μ-loop
+loop-holds c = (omega arith, each-none _)
+
+group-at-requires : tie.Need-group-at-requires Inv-loop μ-loop
+group-at-requires c κs = omega arith
+
+member-at-requires : tie.Need-member-at-requires Inv-loop μ-loop
+member-at-requires c κs = omega arith
+
+numbers-fit-requires : tie.Need-numbers-fit-requires Inv-loop μ-loop
+numbers-fit-requires c κs = tt
+
+tested :
+    (c : tie.After-numbers-fit Inv-loop μ-loop) → let l = c .before .before .before .before in
+    c .numbers-fit .result ≡ numbersAt (l .before .args .table .now) (l .loop .i)
+tested c =
+    let m = c .before in
+    number-words (c .numbers-fit .ensures) (m .before .group-at .ok) (m .member-at .ok) (m .before .group-at .ensures) (m .member-at .ensures)
+
+returns : tie.Need-returns Inv-loop μ-loop
+returns c =
+    let l = c .before .before .before .before .before in
+    let s = l .before in
+    sym (numbers-each (s .args .table .now) (s .args .count) (s .pre)
+    ∙ each-false (numbersAt (s .args .table .now)) (s .args .count) (l .loop .i) (omega arith) (sym (tested (c .before)) ∙ not-true _ (c .if1 .taken)))
+
+add-i : tie.Need-add-i Inv-loop μ-loop
+add-i c = omega arith
+
+loop-less : tie.Need-loop-less Inv-loop μ-loop
+loop-less c = omega arith
+
+loop-again : tie.Need-loop-again Inv-loop μ-loop
+loop-again c =
+    let l = c .before .before .before .before .before in
+    (omega arith, rw add-one (each-next _ (l .loop .i) (l .loop .inv .1) (sym (tested (c .before)) ∙ not-false _ (c .if1 .left))))
+
+returns-2 : tie.Need-returns-2 Inv-loop μ-loop
+returns-2 c =
+    let l = c .before in
+    let s = l .before in
+    let e : l .loop .i ≡ s .args .count = omega arith in
+    sym (numbers-each (s .args .table .now) (s .args .count) (s .pre) ∙ (rw e at (l .loop .inv .1)))
+
+pub numbers-right-spec : {M : Type 1} → statement M
+numbers-right-spec =
+    tie.close
+    (tie.spec
+    Inv-loop
+    μ-loop
+    loop-holds
+    group-at-requires
+    member-at-requires
+    numbers-fit-requires
+    returns
+    add-i
+    loop-less
+    loop-again
+    returns-2)

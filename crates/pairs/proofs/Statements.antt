@@ -1,0 +1,119 @@
+-- AD, RM and QY: from the tests that the code made to the case of the definition that they choose.
+use Prim.Native.Nat.{ℕ, zero, suc, _*_, _-_, _/_, _≤_, _<_}
+use mathlib.Core.Path.{_≡_, refl, sym, _∙_, ap}
+use mathlib.Core.Bool.{Bool, true, false, _&&_}
+use mathlib.Core.List.{List}
+use mathlib.Core.Option.{Option, none, some}
+use native.Mathlib.Omega.{arith}
+use borrow.Author.Tests.{le-leb, lt-leb, lt-ltb, le-ltb}
+use lib.IntN.{ℤ, pos}
+use lib.ListN.{length}
+use mir.Val.{SFits, toZ, ofZ}
+use mir.Syntax.{w32}
+use mir.Facts.{toZ-ofZ}
+use Rattle.language.specs.Table.{Table, find, isSome, holds, members, size, atLeastOne, full, add, remove, takeOut, fewer, leaves, halts, gives, refuses, added, removed, queried}
+use Rattle.language.specs.declared.Stop.the-variants.{NumberBelowOne, GroupFull, TableFull}
+use Rattle.pairs.specs.Places.{placed}
+use Rattle.pairs.specs.Outcomes.{tableOf}
+use Rattle.pairs.specs.declared.Place.{Place}
+use Rattle.pairs.specs.declared.Place.the-variants.{At, Absent}
+
+placed-at : (r : Option ℕ) (i : ℕ) → placed r ≡ At i → r ≡ some i
+unfolding placed
+placed-at none i e = absurd (let z : _≡_ {A = ℕ} 0 1 = cc in omega arith)
+placed-at (some j) i e = let z : j ≡ i = cc in ap some z
+
+placed-absent : (r : Option ℕ) → placed r ≡ Absent → r ≡ none
+unfolding placed
+placed-absent none e = refl
+placed-absent (some j) e = absurd (let z : _≡_ {A = ℕ} 0 1 = cc in omega arith)
+
+-- the words in locals are read back from their bits
+module _ {g m : ℤ} (fg : SFits w32 g) (fm : SFits w32 m) where
+  pub fits-read : {r v : Bool} → r ≡ (atLeastOne (toZ w32 (ofZ w32 g)) && atLeastOne (toZ w32 (ofZ w32 m))) → r ≡ v → (atLeastOne g && atLeastOne m) ≡ v
+  fits-read e q = (rw (toZ-ofZ fg, toZ-ofZ fm) at (sym e)) ∙ q
+
+  pub present : (k : ℕ) (ws : List ℤ) {p : Place} {i : ℕ} → p ≡ placed (find (toZ w32 (ofZ w32 g)) (toZ w32 (ofZ w32 m)) k ws) → p ≡ At i → find g m k ws ≡ some i
+  present k ws {p} {i} e q = placed-at (find g m k ws) i ((rw (toZ-ofZ fg, toZ-ofZ fm) at (sym e)) ∙ q)
+
+  pub absent : (k : ℕ) (ws : List ℤ) {p : Place} → p ≡ placed (find (toZ w32 (ofZ w32 g)) (toZ w32 (ofZ w32 m)) k ws) → p ≡ Absent → find g m k ws ≡ none
+  absent k ws {p} e q = placed-absent (find g m k ws) ((rw (toZ-ofZ fg, toZ-ofZ fm) at (sym e)) ∙ q)
+
+module _ (g m : ℤ) (t : Table) where
+  holds-at : {i : ℕ} → find g m (t .used) (t .words) ≡ some i → holds g m t ≡ true
+  unfolding holds isSome
+  holds-at e = rw e
+
+  holds-not : find g m (t .used) (t .words) ≡ none → holds g m t ≡ false
+  unfolding holds isSome
+  holds-not e = rw e
+
+  full-yes : length (t .words) / 2 ≤ t .used → full t ≡ true
+  unfolding full
+  full-yes h = lt-ltb (length (t .words)) (2 * suc (t .used)) (omega arith)
+
+  full-no : t .used < length (t .words) / 2 → full t ≡ false
+  unfolding full
+  full-no h = le-ltb (length (t .words)) (2 * suc (t .used)) (omega arith)
+
+module _ (limit : ℕ) (g m : ℤ) (t : Table) where
+  pub added-below : (atLeastOne g && atLeastOne m) ≡ false → added limit g m t ≡ halts NumberBelowOne
+  unfolding added
+  added-below e = rw (e, added)
+
+  pub added-present : {i : ℕ} → (atLeastOne g && atLeastOne m) ≡ true → find g m (t .used) (t .words) ≡ some i → added limit g m t ≡ leaves t
+  unfolding added
+  added-present e f = rw (e, holds-at g m t f, added)
+
+  pub added-crowded :
+      (atLeastOne g && atLeastOne m) ≡ true → find g m (t .used) (t .words) ≡ none → limit ≤ size g t → added limit g m t ≡ halts GroupFull
+  unfolding added
+  added-crowded e f h = rw (e, holds-not g m t f, le-leb limit (size g t) h, added)
+
+  pub added-full :
+      (atLeastOne g && atLeastOne m) ≡ true → find g m (t .used) (t .words) ≡ none → size g t < limit → length (t .words) / 2 ≤ t .used →
+      added limit g m t ≡ halts TableFull
+  unfolding added
+  added-full e f h k = rw (e, holds-not g m t f, lt-leb limit (size g t) h, full-yes g m t k, added)
+
+  pub added-new :
+      (atLeastOne g && atLeastOne m) ≡ true → find g m (t .used) (t .words) ≡ none → size g t < limit → t .used < length (t .words) / 2 →
+      added limit g m t ≡ leaves (add g m t)
+  unfolding added
+  added-new e f h k = rw (e, holds-not g m t f, lt-leb limit (size g t) h, full-no g m t k, added)
+
+module _ (g m : ℤ) (t : Table) where
+  pub removed-below : (atLeastOne g && atLeastOne m) ≡ false → removed g m t ≡ halts NumberBelowOne
+  unfolding removed
+  removed-below e = rw (e, removed)
+
+  pub removed-absent : (atLeastOne g && atLeastOne m) ≡ true → find g m (t .used) (t .words) ≡ none → removed g m t ≡ leaves t
+  unfolding removed remove
+  removed-absent e f = rw (e, removed) (rw (f, remove))
+
+  pub removed-found :
+      {i : ℕ} → (atLeastOne g && atLeastOne m) ≡ true → find g m (t .used) (t .words) ≡ some i →
+      removed g m t ≡ leaves (tableOf (takeOut i (t .used) (t .words)) (fewer (t .used)))
+  unfolding removed remove
+  removed-found e f = rw (e, removed) (rw (f, remove))
+
+  pub queried-below : (atLeastOne g && atLeastOne m) ≡ false → queried g m t ≡ refuses NumberBelowOne
+  unfolding queried
+  queried-below e = rw (e, queried)
+
+  pub queried-yes : {i : ℕ} → (atLeastOne g && atLeastOne m) ≡ true → find g m (t .used) (t .words) ≡ some i → queried g m t ≡ gives (pos 1)
+  unfolding queried
+  queried-yes e f = rw (e, holds-at g m t f, queried)
+
+  pub queried-no : (atLeastOne g && atLeastOne m) ≡ true → find g m (t .used) (t .words) ≡ none → queried g m t ≡ gives (pos 0)
+  unfolding queried
+  queried-no e f = rw (e, holds-not g m t f, queried)
+
+pub size-read : {g : ℤ} → SFits w32 g → (k : ℕ) (ws : List ℤ) {n : ℕ} → n ≡ members (toZ w32 (ofZ w32 g)) k ws → n ≡ size g (tableOf ws k)
+unfolding size
+size-read fg k ws e = rw (toZ-ofZ fg) at e
+
+pub one-fewer : (k : ℕ) → k - 1 ≡ fewer k
+unfolding fewer
+one-fewer zero = refl
+one-fewer (suc k) = omega arith

@@ -1,0 +1,56 @@
+-- `append` meets its contract: past the end `set` changes nothing.
+use Prim.Native.Nat.{suc, _*_}
+use mathlib.Core.Path.{sym, _∙_}
+use native.Mathlib.Numerals.{add-one}
+use native.Mathlib.Omega.{arith}
+use borrow.Author.Needs.{needs}
+use lib.ListN.{set, length-set}
+use lib.Seq.{set-out}
+use mir.Facts.{toZ-ofZ}
+use Rattle.language.specs.Table.{add}
+use Rattle.pairs.proofs.append.Statement.{statement}
+use Rattle.pairs.proofs.append.Tie as tie
+
+mul-write-word : tie.Need-mul-write-word
+mul-write-word c = search needs
+
+write-word-requires : tie.Need-write-word-requires
+write-word-requires c κs = search needs
+
+mul-write-word-2 : tie.Need-mul-write-word-2
+mul-write-word-2 c = search needs
+
+add-write-word : tie.Need-add-write-word
+add-write-word c = search needs
+
+write-word-requires-2 : tie.Need-write-word-requires-2
+write-word-requires-2 c κs = search needs
+
+same-length : tie.Need-same-length
+same-length c = search needs
+
+returns : tie.Need-returns
+unfolding add
+returns c =
+    let s = c .before .before .before .before .before .before .before in
+    rw (c .before .before .before .before .write-word .ensures, toZ-ofZ (s .fits .group), toZ-ofZ (s .fits .member), add-one) at (c .before .write-word2 .ensures)
+
+returns-2 : tie.Need-returns-2
+unfolding add
+returns-2 c =
+    let s = c .before .args in
+    sym (set-out (set (s .table .now) (2 * s .count) (s .group)) (suc (2 * s .count)) (s .member) (simp length-set (omega arith)) ∙
+    set-out (s .table .now) (2 * s .count) (s .group) (omega arith))
+
+pub append-spec : {M : Type 1} → statement M
+append-spec =
+    tie.close
+    (tie.spec
+    mul-write-word
+    write-word-requires
+    mul-write-word-2
+    add-write-word
+    write-word-requires-2
+    same-length
+    returns
+    returns-2)

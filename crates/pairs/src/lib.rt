@@ -1,0 +1,205 @@
+// The membership table: a lent slice of signed words, two for a pair (group, member), of which the first `count` pairs are in use.
+ghost use mathlib.Core.Path.{_≡_};
+ghost use mathlib.Core.Bool.{_&&_};
+ghost use Prim.Native.Nat.{_+_, _*_, _/_, _<_, min};
+ghost use lib.ListN.{length, set};
+ghost use Rattle.language.specs.Basics.{eqZ};
+ghost use Rattle.language.specs.Table.{find, members, atLeastOne, add, takeOut, added, removed, queried};
+ghost use Rattle.laws.specs.Tables.{groupAt, memberAt};
+ghost use Rattle.pairs.specs.Places.{placed};
+ghost use Rattle.pairs.specs.Outcomes.{tableOf, changeOf, valueOf, wordsAfter};
+use language::Stop;
+
+// Where a pair stands, counted in pairs from 0.
+pub enum Place {
+    At(usize),
+    Absent,
+}
+
+// What AD or RM comes to: the count of pairs after it, or the cause to stop.
+pub enum Change {
+    Done(usize),
+    Stopped(Stop),
+}
+
+// What QY comes to: the value that it stores, or the cause to stop.
+pub enum Query {
+    Value(i32),
+    Stopped(Stop),
+}
+
+// How many pairs are read: `count`, or as many as `len` words hold.
+fn pairs_in(len: usize, count: usize) -> usize
+    ensures { λ r. ⌜ r ≡ min count (len / 2) ⌝ }
+{
+    if count <= len / 2 { count } else { len / 2 }
+}
+
+// How many words `count` pairs take, of `len`.
+fn words_in(len: usize, count: usize) -> usize
+    ensures { λ r. ⌜ r ≡ min (2 * count) len ⌝ }
+{
+    if count <= len / 2 { 2 * count } else { len }
+}
+
+pub fn same_number(a: i32, b: i32) -> bool
+    ensures { λ r. ⌜ r ≡ eqZ a b ⌝ }
+{
+    a == b
+}
+
+pub fn group_at(table: &[i32], i: usize) -> i32
+    requires { ⌜ 2 * i + 1 < length (now table) ⌝ }
+    ensures { λ r. ⌜ r ≡ groupAt i (now (table .entry)) ⌝ }
+{
+    table[2 * i]
+}
+
+pub fn member_at(table: &[i32], i: usize) -> i32
+    requires { ⌜ 2 * i + 1 < length (now table) ⌝ }
+    ensures { λ r. ⌜ r ≡ memberAt i (now (table .entry)) ⌝ }
+{
+    table[2 * i + 1]
+}
+
+fn pair_is(table: &[i32], i: usize, group: i32, member: i32) -> bool
+    requires { ⌜ 2 * i + 1 < length (now table) ⌝ }
+    ensures { λ r. ⌜ r ≡ (eqZ (groupAt i (now (table .entry))) group && eqZ (memberAt i (now (table .entry))) member) ⌝ }
+{
+    if same_number(group_at(table, i), group) {
+        return same_number(member_at(table, i), member);
+    }
+    false
+}
+
+pub fn at_least_one(number: i32) -> bool
+    ensures { λ r. ⌜ r ≡ atLeastOne number ⌝ }
+{
+    1 <= number
+}
+
+pub fn numbers_fit(group: i32, member: i32) -> bool
+    ensures { λ r. ⌜ r ≡ (atLeastOne group && atLeastOne member) ⌝ }
+{
+    if at_least_one(group) {
+        return at_least_one(member);
+    }
+    false
+}
+
+// The first place among the first `count` pairs.
+pub fn place_of(table: &[i32], count: usize, group: i32, member: i32) -> Place
+    ensures { λ r. ⌜ r ≡ placed (find group member count (now (table .entry))) ⌝ }
+{
+    let n = pairs_in(table.len(), count);
+    let mut i = 0;
+    while i < n {
+        if pair_is(table, i, group, member) {
+            return Place::At(i);
+        }
+        i += 1;
+    }
+    Place::Absent
+}
+
+// How many of the first `count` pairs are of the group.
+pub fn group_size(table: &[i32], count: usize, group: i32) -> usize
+    ensures { λ r. ⌜ r ≡ members group count (now (table .entry)) ⌝ }
+{
+    let n = pairs_in(table.len(), count);
+    let mut found: usize = 0;
+    let mut i = 0;
+    while i < n {
+        if same_number(group_at(table, i), group) {
+            found += 1;
+        }
+        i += 1;
+    }
+    found
+}
+
+// The word at `i` is written, if the table has one there.
+fn write_word(table: &mut [i32], i: usize, word: i32)
+    ensures { λ _. ⌜ now (table .exit) ≡ set (now (table .entry)) i word ⌝ }
+{
+    if i < table.len() {
+        table[i] = word;
+    }
+}
+
+// The pair is written behind the last one, as much of it as the table has words for.
+pub fn append(table: &mut [i32], count: usize, group: i32, member: i32)
+    ensures { λ _. ⌜ now (table .exit) ≡ add group member (tableOf (now (table .entry)) count) .words ⌝ }
+{
+    if count <= table.len() / 2 {
+        write_word(table, 2 * count, group);
+        write_word(table, 2 * count + 1, member);
+    }
+}
+
+// The pair at `place` is taken out: later pairs move down by one and the place freed last is set to 0, 0. The words move one by one,
+// since words that end before `count` pairs may end with half a pair, which moves too.
+pub fn take_out(table: &mut [i32], count: usize, place: usize)
+    ensures { λ _. ⌜ now (table .exit) ≡ takeOut place count (now (table .entry)) ⌝ }
+{
+    let end = words_in(table.len(), count);
+    if end / 2 <= place {
+        return;
+    }
+    let mut i = 2 * place;
+    while i + 2 < end {
+        table[i] = table[i + 2];
+        i += 1;
+    }
+    table[i] = 0;
+    table[i + 1] = 0;
+}
+
+// AD. The causes are tested in document 01's order, each before anything is written.
+pub fn add_pair(table: &mut [i32], count: usize, limit: u32, group: i32, member: i32) -> Change
+    ensures { λ r. ⌜ r ≡ changeOf (added limit group member (tableOf (now (table .entry)) count)) ⌝ }
+    ensures { λ _. ⌜ now (table .exit) ≡ wordsAfter (now (table .entry)) (added limit group member (tableOf (now (table .entry)) count)) ⌝ }
+{
+    if !numbers_fit(group, member) {
+        return Change::Stopped(Stop::NumberBelowOne);
+    }
+    if let Place::At(_) = place_of(table, count, group, member) {
+        return Change::Done(count);
+    }
+    if limit as usize <= group_size(table, count, group) {
+        return Change::Stopped(Stop::GroupFull);
+    }
+    if table.len() / 2 <= count {
+        return Change::Stopped(Stop::TableFull);
+    }
+    append(table, count, group, member);
+    Change::Done(count + 1)
+}
+
+// RM. An absent pair changes nothing.
+pub fn remove_pair(table: &mut [i32], count: usize, group: i32, member: i32) -> Change
+    ensures { λ r. ⌜ r ≡ changeOf (removed group member (tableOf (now (table .entry)) count)) ⌝ }
+    ensures { λ _. ⌜ now (table .exit) ≡ wordsAfter (now (table .entry)) (removed group member (tableOf (now (table .entry)) count)) ⌝ }
+{
+    if !numbers_fit(group, member) {
+        return Change::Stopped(Stop::NumberBelowOne);
+    }
+    let Place::At(place) = place_of(table, count, group, member) else {
+        return Change::Done(count);
+    };
+    take_out(table, count, place);
+    Change::Done(count - 1)
+}
+
+// QY. The value is 1 where the pair is present, else 0.
+pub fn query_pair(table: &[i32], count: usize, group: i32, member: i32) -> Query
+    ensures { λ r. ⌜ r ≡ valueOf (queried group member (tableOf (now (table .entry)) count)) ⌝ }
+{
+    if !numbers_fit(group, member) {
+        return Query::Stopped(Stop::NumberBelowOne);
+    }
+    if let Place::At(_) = place_of(table, count, group, member) {
+        return Query::Value(1);
+    }
+    Query::Value(0)
+}

@@ -1,0 +1,2 @@
+-- What statements do to words once their names are found, in reading order.
+pub mod Effects
