@@ -1,5 +1,5 @@
 -- Cells of declared instances. `Celled x` says that the designator x is one of 256 activations with 32 names each. `points-celled`: so is
--- the designator of a declared name in sound frames; `name-points`: what a name designates is one of those. Its cell is one of 8,192
+-- the designator of a declared name in bounded frames; `name-points`: what a name designates is one of those. Its cell is one of 8,192
 -- (`cell-bound`) and gives the designator back (`designator-of-cell`), so that no two have the same (`cell-injective`); activation and
 -- position are the quotient and the remainder by 32. A formal's word is taken apart so too: `word-cell`, `word-target`. What a name leads
 -- to depends on blocks and links alone: `target-alike`, `word-alike`.
@@ -14,10 +14,10 @@ use Rattle.language.specs.Text.{Kind, Decl}
 use Rattle.laws.specs.Tests.{by-lookup, none≢some}
 use Rattle.frames.specs.Frame.{Frame, numbered, designates, frameNumber, place, declOf}
 use Rattle.frames.specs.Numbered.{numbered-zero, numbered-high}
-use Rattle.frame_laws.specs.Sound.{Points, SoundFrames, Target}
-use Rattle.frame_laws.specs.Names.{numbered-sound, designates-target}
+use Rattle.frame_laws.specs.Bounds.{Points, BoundedFrames, Target}
+use Rattle.frame_laws.specs.Names.{numbered-bounded, designates-target}
 use Rattle.coordinates.specs.Enclosure.{Enclosing}
-use Rattle.coordinates.specs.Chain.{enclosing, outline, Alike}
+use Rattle.coordinates.specs.Chain.{enclosing, outline, SameOutlines}
 use Rattle.coordinates.specs.Along.{alike-none, alike-some}
 use Rattle.coordinates.specs.Statement.{declared-alike}
 use Rattle.coordinates.specs.Designated.{Designated}
@@ -30,9 +30,9 @@ pub record Celled (x : ℕ) : Type 0 where
   pub place-low : 1 ≤ x % 64
   pub place-high : x % 64 ≤ 32
 
-pub points-celled : (fs : List Frame) (k x : ℕ) → SoundFrames fs → length fs ≤ 256 → Points fs k x → Celled x
-points-celled fs k x sound h p =
-    let s = numbered-sound fs (x / 64) (p .home) sound (p .stands) in
+pub points-celled : (fs : List Frame) (k x : ℕ) → BoundedFrames fs → length fs ≤ 256 → Points fs k x → Celled x
+points-celled fs k x bounded h p =
+    let s = numbered-bounded fs (x / 64) (p .home) bounded (p .stands) in
     record {
       number-low = p .first;
       number-high = omega (arith, numbered-high fs (x / 64) (p .home) (p .stands));
@@ -41,9 +41,9 @@ points-celled fs k x sound h p =
     }
 
 -- what a name that stands for an instance designates is such a one
-pub name-points : (fs : List Frame) (n : ℕ) (k : Kind) → SoundFrames fs → Designated fs (designates fs n) k → Points fs (length fs) (designates fs n)
+pub name-points : (fs : List Frame) (n : ℕ) (k : Kind) → BoundedFrames fs → Designated fs (designates fs n) k → Points fs (length fs) (designates fs n)
 unfolding frameNumber
-name-points fs n k sound d = go (designates-target fs n sound)
+name-points fs n k bounded d = go (designates-target fs n bounded)
   where
     go : Target fs (designates fs n) → Points fs (length fs) (designates fs n)
     go (inl e) = none≢some (sym (numbered-zero fs (designates fs n / 64) (omega arith)) ∙ d .stands)
@@ -108,7 +108,7 @@ pub target-no-decl : (fs : List Frame) (x : ℕ) (f : Frame) → numbered fs (fr
 unfolding targetOf
 target-no-decl fs x f e q = rw (e, targetOf, q)
 
-module _ (fs gs : List Frame) (b : ℕ) (a : Alike b fs gs) (x : ℕ) (h : frameNumber x ≤ b) where
+module _ (fs gs : List Frame) (b : ℕ) (a : SameOutlines b fs gs) (x : ℕ) (h : frameNumber x ≤ b) where
   pub target-alike : targetOf gs x ≡ targetOf fs x
   unfolding outline enclosing
   target-alike =

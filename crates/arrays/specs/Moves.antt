@@ -18,13 +18,13 @@ use Rattle.laws.specs.Tests.{split, none≢some, some-inj}
 use Rattle.laws.specs.Lists.{getElem-bound, getElem-append, getElem-seam, getElem-take, butLast-take}
 use Rattle.frames.specs.Frame.{Frame, numbered, designatorIn, frameNumber, continue, newFrame, zeroWords}
 use Rattle.frames.specs.Numbered.{numbered-low, numbered-high, numbered-index, last-numbered}
-use Rattle.frame_laws.specs.Sound.{SoundFrames}
-use Rattle.coordinates.specs.Chain.{Alike}
+use Rattle.frame_laws.specs.Bounds.{BoundedFrames}
+use Rattle.coordinates.specs.Chain.{SameOutlines}
 use Rattle.coordinates.specs.Moves.{alike-append, alike-take, alike-cut, outline-continue}
 use Rattle.resolved.specs.Resolved.{placeOf, stmtPlace}
 use Rattle.arrays.specs.Holds.{formalWord, HoldsFrame, Holds}
 use Rattle.arrays.specs.Cells.{word-alike}
-use Rattle.arrays.specs.Storing.{Outer, sound-outer, frame-over, frame-words}
+use Rattle.arrays.specs.Storing.{Outer, bounded-outer, frame-over, frame-words}
 
 -- the frames before a last one, and that one
 snoc-frames : (gs : List Frame) (g : Frame) (P : ℕ → Frame → Type 0) → ((k : ℕ) (f : Frame) → k < length gs → getElem? gs k ≡ some f → P k f) → P (length gs) g
@@ -38,7 +38,7 @@ snoc-frames gs g P old new k f e =
     (λ t. let c : length gs ≡ k = omega (arith, ltb-false k (length gs) t) in
     subst₂ P c (some-inj (sym (getElem-seam gs g []) ∙ ap (getElem? (gs ++ (g ∷ []))) c ∙ e)) new)
 
-module _ (fs : List Frame) (blocks nexts links : List ℕ) (words : List ℤ) (sound : SoundFrames fs) (holds : Holds fs blocks nexts links words) where
+module _ (fs : List Frame) (blocks nexts links : List ℕ) (words : List ℤ) (bounded : BoundedFrames fs) (holds : Holds fs blocks nexts links words) where
   -- Frames left
 
   pub holds-taken : (n : ℕ) → n ≤ length fs → Holds (take n fs) blocks nexts links words
@@ -46,7 +46,7 @@ module _ (fs : List Frame) (blocks nexts links : List ℕ) (words : List ℤ) (s
       let l = length-take-le n fs h in
       let s : k < n = omega (arith, getElem-bound (take n fs) k f e) in
       let q : getElem? fs k ≡ some f = sym (getElem-take fs n k s) ∙ e in
-      frame-over fs (take n fs) n (alike-take n fs) words (getD blocks k 0) (getD nexts k 0) (getD links k 0) k f (omega arith) (sound-outer fs k f (sound k f q)) (holds k f q)
+      frame-over fs (take n fs) n (alike-take n fs) words (getD blocks k 0) (getD nexts k 0) (getD links k 0) k f (omega arith) (bounded-outer fs k f (bounded k f q)) (holds k f q)
 
   pub holds-left : Holds (butLast fs) blocks nexts links words
   holds-left = rw butLast-take (holds-taken (pred (length fs)) (omega arith))
@@ -75,7 +75,7 @@ module _ (fs : List Frame) (blocks nexts links : List ℕ) (words : List ℤ) (s
 
     outer-here : Outer (pred n) (continue f i)
     unfolding continue
-    outer-here = sound-outer fs (pred n) f (sound (pred n) f (numbered-index fs n f e))
+    outer-here = bounded-outer fs (pred n) f (bounded (pred n) f (numbered-index fs n f e))
 
     abbrev Kept : ℕ → Frame → Type 0
     Kept k g = (k ≤ n) × Outer k g × HoldsFrame fs words (getD blocks k 0) (getD nexts′ k 0) (getD links k 0) k g
@@ -86,7 +86,7 @@ module _ (fs : List Frame) (blocks nexts links : List ℕ) (words : List ℤ) (s
         let l : length (take (pred n) fs) ≡ pred n = length-take-le (pred n) fs (omega (arith, numbered-high fs n f e)) in
         snoc-frames (take (pred n) fs) (continue f i) Kept
         (λ k g s q. let r : getElem? fs k ≡ some g = sym (getElem-take fs (pred n) k (omega arith)) ∙ q in
-        (omega arith, sound-outer fs k g (sound k g r), below k g (omega arith) r))
+        (omega arith, bounded-outer fs k g (bounded k g r), below k g (omega arith) r))
         (subst (λ j. Kept j (continue f i)) (sym l) (omega arith, outer-here, here))
 
     pub holds-resumed : Holds (take (pred n) fs ++ (continue f i ∷ [])) blocks (set nexts (pred n) (stmtPlace (f .text) i)) links words
@@ -137,7 +137,7 @@ module _ (formals : List Formal) (xs : List ℕ) (b : Block) (link : ℕ) where
   unfolding newFrame zeroWords
   words-length = length-append (map pos xs) (zeroWords (blockDecls b)) ∙ omega (arith, length-map xs pos, length-map (blockDecls b) (λ (d : Decl). pos 0))
 
-module _ (fs : List Frame) (blocks nexts links : List ℕ) (words : List ℤ) (sound : SoundFrames fs) (holds : Holds fs blocks nexts links words)
+module _ (fs : List Frame) (blocks nexts links : List ℕ) (words : List ℤ) (bounded : BoundedFrames fs) (holds : Holds fs blocks nexts links words)
     (formals : List Formal) (xs : List ℕ) (b : Block) (link : ℕ) (count : length xs ≡ length formals) (given : (i : ℕ) → i < length xs → frameNumber (getD xs i 0) ≤ length fs)
     (blocks′ nexts′ links′ : List ℕ) (words′ : List ℤ) (new : Enters fs xs b link blocks nexts links words blocks′ nexts′ links′ words′) where
   f : Frame
@@ -146,7 +146,7 @@ module _ (fs : List Frame) (blocks nexts links : List ℕ) (words : List ℤ) (s
   gs : List Frame
   gs = fs ++ (f ∷ [])
 
-  alike : Alike (length fs) fs gs
+  alike : SameOutlines (length fs) fs gs
   unfolding gs
   alike = alike-append fs (f ∷ [])
 
@@ -165,9 +165,9 @@ module _ (fs : List Frame) (blocks nexts links : List ℕ) (words : List ℤ) (s
 
   older : (k : ℕ) (g : Frame) → k < length fs → getElem? fs k ≡ some g → HoldsFrame gs words′ (getD blocks′ k 0) (getD nexts′ k 0) (getD links′ k 0) k g
   older k g p e =
-      let s = sound k g e in
+      let s = bounded k g e in
       let h = frame-words fs words (getD blocks k 0) (getD nexts k 0) (getD links k 0) k g s (holds k g e) words′ (λ i q. new .words-below (32 * k + i) (omega arith)) in
-      let o = frame-over fs gs (length fs) alike words′ (getD blocks k 0) (getD nexts k 0) (getD links k 0) k g (omega arith) (sound-outer fs k g s) h in
+      let o = frame-over fs gs (length fs) alike words′ (getD blocks k 0) (getD nexts k 0) (getD links k 0) k g (omega arith) (bounded-outer fs k g s) h in
       record { block-is = new .blocks-below k p ∙ o .block-is; next-is = new .nexts-below k p ∙ o .next-is; link-is = new .links-below k p ∙ o .link-is; formals-are = o .formals-are; others-are = o .others-are }
 
   pub holds-entered : Holds (fs ++ (newFrame formals xs b link ∷ [])) blocks′ nexts′ links′ words′

@@ -21,9 +21,9 @@ use Rattle.grammar.specs.Rules.{Keeps}
 use Rattle.frames.specs.Frame.{Frame, numbered, designatorIn, designates, linksFollowed, frameNumber, place, declOf}
 use Rattle.frames.specs.Numbered.{numbered-low, numbered-high, numbered-index, numbered-exists}
 use Rattle.frame_laws.specs.Finding.{seekName-starts, seek-spent, designates-none, links-none, declOf-found, finally-formal, finally-declared}
-use Rattle.frame_laws.specs.Sound.{Points, SoundFrames}
-use Rattle.frame_laws.specs.SoundFrames.{points-weaker}
-use Rattle.frame_laws.specs.Names.{numbered-sound, points-declared}
+use Rattle.frame_laws.specs.Bounds.{Points, BoundedFrames}
+use Rattle.frame_laws.specs.BoundedFrames.{points-weaker}
+use Rattle.frame_laws.specs.Names.{numbered-bounded, points-declared}
 use Rattle.coordinates.specs.Enclosure.{Coordinate, coordinateOf, Encloses}
 use Rattle.coordinates.specs.Chain.{enclosing, enclosureOf, levelOf, climb, displayFrom, Downward, Chained}
 use Rattle.coordinates.specs.Along.{climb-zero, climb-some}
@@ -229,16 +229,16 @@ module _ (t : Block) (keeps : Keeps t) (fs : List Frame) (chain : Chained t fs) 
 
   -- What it designates is a declared name of a live frame
 
-  direct-points : SoundFrames fs → length (home .frame .formals) < c .position → Points fs (length fs) (designates fs n)
+  direct-points : BoundedFrames fs → length (home .frame .formals) < c .position → Points fs (length fs) (designates fs n)
   unfolding enclosing
-  direct-points sound h =
+  direct-points bounded h =
       let b = position-bounds (enclosureOf fs (length fs)) n c found (enclosing (home .frame)) (home .block) in
       subst (Points fs (length fs)) (sym (direct-designates h)) (points-declared fs holder (c .position) (home .frame) home-stands h (b .1) (omega (arith, position-range .1)))
 
-  formal-points : SoundFrames fs → c .position ≤ length (home .frame .formals) → Points fs (length fs) (designates fs n)
+  formal-points : BoundedFrames fs → c .position ≤ length (home .frame .formals) → Points fs (length fs) (designates fs n)
   unfolding designatorIn
-  formal-points sound h =
-      let s = numbered-sound fs holder (home .frame) sound home-stands in
+  formal-points bounded h =
+      let s = numbered-bounded fs holder (home .frame) bounded home-stands in
       let v = s .handed (pred (c .position)) (omega (arith, position-range .0)) in
       subst (Points fs (length fs)) (sym (formal-designates h ∙ ap designatorIn (v .1))) (points-weaker fs (pred holder) (length fs) (v .0) (omega (arith, holder-bounds .1)) (v .2))
 
@@ -280,11 +280,11 @@ module _ (t : Block) (keeps : Keeps t) (fs : List Frame) (chain : Chained t fs) 
       unfolding w
       named-by-links = named t keeps fs chain n c found wired blocks nexts links words holds _ (ap (λ a. 32 * a) (followed-is t keeps fs chain n c found blocks nexts links words holds))
 
-    pub named-points : SoundFrames fs → Points fs (length fs) (designates fs n)
-    named-points sound =
+    pub named-points : BoundedFrames fs → Points fs (length fs) (designates fs n)
+    named-points bounded =
         let g = (home t keeps fs chain n c found) .frame in
-        split (leb (c .position) (length (g .formals))) (λ q. formal-points t keeps fs chain n c found sound (leb-true (c .position) (length (g .formals)) q))
-        (λ q. direct-points t keeps fs chain n c found sound (leb-false (c .position) (length (g .formals)) q))
+        split (leb (c .position) (length (g .formals))) (λ q. formal-points t keeps fs chain n c found bounded (leb-true (c .position) (length (g .formals)) q))
+        (λ q. direct-points t keeps fs chain n c found bounded (leb-false (c .position) (length (g .formals)) q))
 
     -- the level of the declaring frame, for a name that is no formal
     pub direct-level : formalIn (wordOf n) ≡ 0 → levelOf fs (frameNumber (designates fs n)) ≡ levelIn (wordOf n)

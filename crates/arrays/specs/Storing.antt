@@ -15,8 +15,8 @@ use Rattle.laws.specs.Lists.{getElem-bound, getElem-set-same, getElem-set-other
 use Rattle.frames.specs.Frame.{Frame, designatorIn, frameNumber, place, wordAt, putWord, rewritten}
 use Rattle.frames.specs.Numbered.{numbered-high, numbered-index}
 use Rattle.frame_laws.specs.Finding.{wordAt-found, putWord-found}
-use Rattle.frame_laws.specs.Sound.{Points, FrameSound, SoundFrames}
-use Rattle.coordinates.specs.Chain.{Alike}
+use Rattle.frame_laws.specs.Bounds.{Points, FrameBounded, BoundedFrames}
+use Rattle.coordinates.specs.Chain.{SameOutlines}
 use Rattle.coordinates.specs.Moves.{alike-set, outline-rewritten}
 use Rattle.arrays.specs.Holds.{cellOf, formalWord, HoldsFrame, Holds}
 use Rattle.arrays.specs.Cells.{word-alike}
@@ -25,12 +25,12 @@ use Rattle.arrays.specs.Cells.{word-alike}
 abbrev pub Outer : ℕ → Frame → Type 0
 Outer b f = (i : ℕ) → i < length (f .formals) → frameNumber (designatorIn (getD (f .words) i (pos 0))) ≤ b
 
-pub sound-outer : (fs : List Frame) (k : ℕ) (f : Frame) → FrameSound fs k f → Outer k f
+pub bounded-outer : (fs : List Frame) (k : ℕ) (f : Frame) → FrameBounded fs k f → Outer k f
 unfolding frameNumber designatorIn
-sound-outer fs k f s i h = let w = s .handed i h in subst (λ (z : ℤ). designatorIn z / 64 ≤ k) (sym (w .1)) (w .2 .last)
+bounded-outer fs k f s i h = let w = s .handed i h in subst (λ (z : ℤ). designatorIn z / 64 ≤ k) (sym (w .1)) (w .2 .last)
 
 -- a frame depends on the stack only through what its formals lead to
-pub frame-over : (fs gs : List Frame) (b : ℕ) → Alike b fs gs → (words : List ℤ) (block next link k : ℕ) (f : Frame) → k ≤ b → Outer k f → HoldsFrame fs words block next link k f → HoldsFrame gs words block next link k f
+pub frame-over : (fs gs : List Frame) (b : ℕ) → SameOutlines b fs gs → (words : List ℤ) (block next link k : ℕ) (f : Frame) → k ≤ b → Outer k f → HoldsFrame fs words block next link k f → HoldsFrame gs words block next link k f
 frame-over fs gs b a words block next link k f l outer h =
     record {
       block-is = h .block-is;
@@ -40,7 +40,7 @@ frame-over fs gs b a words block next link k f l outer h =
       others-are = h .others-are;
     }
 
-module _ (fs : List Frame) (words : List ℤ) (block next link k : ℕ) (f : Frame) (s : FrameSound fs k f) (h : HoldsFrame fs words block next link k f) where
+module _ (fs : List Frame) (words : List ℤ) (block next link k : ℕ) (f : Frame) (s : FrameBounded fs k f) (h : HoldsFrame fs words block next link k f) where
   -- and on the words of its own names alone
   pub frame-words : (words′ : List ℤ) → ((i : ℕ) → i < 32 → getD words′ (32 * k + i) (pos 0) ≡ getD words (32 * k + i) (pos 0)) → HoldsFrame fs words′ block next link k f
   frame-words words′ same =
@@ -54,17 +54,17 @@ module _ (fs : List Frame) (words : List ℤ) (block next link k : ℕ) (f : Fra
 
 -- Arrays that agree as far as the stack goes
 
-pub holds-agreeing : (fs : List Frame) (blocks blocks′ nexts nexts′ links links′ : List ℕ) (words words′ : List ℤ) → SoundFrames fs
+pub holds-agreeing : (fs : List Frame) (blocks blocks′ nexts nexts′ links links′ : List ℕ) (words words′ : List ℤ) → BoundedFrames fs
     → ((k : ℕ) → k < length fs → getD blocks′ k 0 ≡ getD blocks k 0) → ((k : ℕ) → k < length fs → getD nexts′ k 0 ≡ getD nexts k 0) → ((k : ℕ) → k < length fs → getD links′ k 0 ≡ getD links k 0)
     → ((c : ℕ) → c < 32 * length fs → getD words′ c (pos 0) ≡ getD words c (pos 0)) → Holds fs blocks nexts links words → Holds fs blocks′ nexts′ links′ words′
-holds-agreeing fs blocks blocks′ nexts nexts′ links links′ words words′ sound b n l w h k f e =
+holds-agreeing fs blocks blocks′ nexts nexts′ links links′ words words′ bounded b n l w h k f e =
     let p = getElem-bound fs k f e in
-    let g = frame-words fs words (getD blocks k 0) (getD nexts k 0) (getD links k 0) k f (sound k f e) (h k f e) words′ (λ i q. w (32 * k + i) (omega arith)) in
+    let g = frame-words fs words (getD blocks k 0) (getD nexts k 0) (getD links k 0) k f (bounded k f e) (h k f e) words′ (λ i q. w (32 * k + i) (omega arith)) in
     record { block-is = b k p ∙ g .block-is; next-is = n k p ∙ g .next-is; link-is = l k p ∙ g .link-is; formals-are = g .formals-are; others-are = g .others-are }
 
 -- The word of a declared name
 
-module _ (fs : List Frame) (blocks nexts links : List ℕ) (words : List ℤ) (sound : SoundFrames fs) (holds : Holds fs blocks nexts links words) (m x : ℕ) (p : Points fs m x) where
+module _ (fs : List Frame) (blocks nexts links : List ℕ) (words : List ℤ) (bounded : BoundedFrames fs) (holds : Holds fs blocks nexts links words) (m x : ℕ) (p : Points fs m x) where
   home-index : getElem? fs (pred (frameNumber x)) ≡ some (p .home)
   unfolding frameNumber
   home-index = numbered-index fs (x / 64) (p .home) (p .stands)
@@ -72,8 +72,8 @@ module _ (fs : List Frame) (blocks nexts links : List ℕ) (words : List ℤ) (s
   home-held : HoldsFrame fs words (getD blocks (pred (frameNumber x)) 0) (getD nexts (pred (frameNumber x)) 0) (getD links (pred (frameNumber x)) 0) (pred (frameNumber x)) (p .home)
   home-held = holds (pred (frameNumber x)) (p .home) home-index
 
-  home-sound : FrameSound fs (pred (frameNumber x)) (p .home)
-  home-sound = sound (pred (frameNumber x)) (p .home) home-index
+  home-bounded : FrameBounded fs (pred (frameNumber x)) (p .home)
+  home-bounded = bounded (pred (frameNumber x)) (p .home) home-index
 
   -- its place is past the formals, and within the frame's words
   past-formals : length (p .home .formals) ≤ place x
@@ -82,7 +82,7 @@ module _ (fs : List Frame) (blocks nexts links : List ℕ) (words : List ℤ) (s
 
   within-words : place x < length (p .home .words)
   unfolding place
-  within-words = let e : pred (x % 64) < length (p .home .words) = omega (arith, p .past, p .within, home-sound .count) in e
+  within-words = let e : pred (x % 64) < length (p .home .words) = omega (arith, p .past, p .within, home-bounded .count) in e
 
   pub word-held : getD words (cellOf x) (pos 0) ≡ wordAt fs x
   unfolding cellOf frameNumber
@@ -97,7 +97,7 @@ module _ (fs : List Frame) (blocks nexts links : List ℕ) (words : List ℤ) (s
     after : List Frame
     after = set fs (pred (frameNumber x)) stored
 
-    alike : Alike (length fs) fs after
+    alike : SameOutlines (length fs) fs after
     unfolding stored after frameNumber
     alike = alike-set fs (x / 64) (p .home) stored (p .stands) (outline-rewritten (p .home) (set (p .home .words) (place x) z)) (length fs)
 
@@ -105,7 +105,7 @@ module _ (fs : List Frame) (blocks nexts links : List ℕ) (words : List ℤ) (s
     unfolding cellOf frameNumber
     cell-room =
         let h : x / 64 ≤ length fs = numbered-high fs (x / 64) (p .home) (p .stands) in
-        let e : 32 * pred (x / 64) + place x < length words = omega (arith, p .first, within-words, home-sound .few) in
+        let e : 32 * pred (x / 64) + place x < length words = omega (arith, p .first, within-words, home-bounded .few) in
         e
 
     home-stored : HoldsFrame fs (set words (cellOf x) z) (getD blocks (pred (frameNumber x)) 0) (getD nexts (pred (frameNumber x)) 0) (getD links (pred (frameNumber x)) 0) (pred (frameNumber x)) stored
@@ -134,14 +134,14 @@ module _ (fs : List Frame) (blocks nexts links : List ℕ) (words : List ℤ) (s
     other-stored : (k : ℕ) (f : Frame) → getElem? fs k ≡ some f → (k ≡ pred (frameNumber x) → ⊥) → HoldsFrame fs (set words (cellOf x) z) (getD blocks k 0) (getD nexts k 0) (getD links k 0) k f
     unfolding cellOf
     other-stored k f e d =
-        frame-words fs words (getD blocks k 0) (getD nexts k 0) (getD links k 0) k f (sound k f e) (holds k f e) (set words (cellOf x) z)
-        (λ i q. getD-set-other words (32 * pred (frameNumber x) + place x) (32 * k + i) z (pos 0) (λ j. d (omega (arith, within-words, home-sound .few))))
+        frame-words fs words (getD blocks k 0) (getD nexts k 0) (getD links k 0) k f (bounded k f e) (holds k f e) (set words (cellOf x) z)
+        (λ i q. getD-set-other words (32 * pred (frameNumber x) + place x) (32 * k + i) z (pos 0) (λ j. d (omega (arith, within-words, home-bounded .few))))
 
     outer-stored : Outer (pred (frameNumber x)) stored
     unfolding stored rewritten
     outer-stored i q =
         subst (λ (y : ℤ). frameNumber (designatorIn y) ≤ pred (frameNumber x)) (sym (getD-set-other (p .home .words) (place x) i z (pos 0) (λ e. omega (arith, past-formals))))
-        (sound-outer fs (pred (frameNumber x)) (p .home) home-sound i q)
+        (bounded-outer fs (pred (frameNumber x)) (p .home) home-bounded i q)
 
     by-stored : (P : ℕ → Frame → Type 0) → P (pred (frameNumber x)) stored → ((k : ℕ) (f : Frame) → getElem? fs k ≡ some f → (k ≡ pred (frameNumber x) → ⊥) → P k f)
         → (k : ℕ) (f : Frame) → getElem? after k ≡ some f → P k f
@@ -160,7 +160,7 @@ module _ (fs : List Frame) (blocks nexts links : List ℕ) (words : List ℤ) (s
     frames-kept : (k : ℕ) (f : Frame) → getElem? after k ≡ some f → Kept k f
     frames-kept =
         by-stored Kept (getElem-bound fs (pred (frameNumber x)) (p .home) home-index, outer-stored, home-stored)
-        (λ k f e d. (getElem-bound fs k f e, sound-outer fs k f (sound k f e), other-stored k f e d))
+        (λ k f e d. (getElem-bound fs k f e, bounded-outer fs k f (bounded k f e), other-stored k f e d))
 
     pub holds-stored : Holds (putWord fs x z) blocks nexts links (set words (cellOf x) z)
     unfolding after stored frameNumber
