@@ -6,3 +6,4 @@ pub mod Storing
 pub mod Moves
 pub mod Displays
 pub mod Names
+pub mod Found

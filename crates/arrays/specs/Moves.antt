@@ -3,7 +3,6 @@
 -- the new activation behind the old ones (`Enters`); `holds-started`: the program is entered first.
 use Prim.Native.Nat.{ℕ, zero, suc, pred, _+_, _-_, _*_, _≤_, _<_}
 use native.Mathlib.Omega.{arith}
-use native.Mathlib.Nat.{not-suc-le-zero}
 use mathlib.Core.List.{List, [], _∷_, _++_, map}
 use mathlib.Core.Option.{some}
 use mathlib.Core.Path.{_≡_, refl, sym, ap, _∙_, subst, subst₂}
@@ -15,7 +14,7 @@ use lib.Seq.{length-take-le, getD-set-same, getD-set-other, getD-append-add}
 use Rattle.language.specs.Basics.{last?, butLast}
 use Rattle.language.specs.Text.{Formal, Block, Decl, blockAt, blockDecls}
 use Rattle.laws.specs.Tests.{split, none≢some, some-inj}
-use Rattle.laws.specs.Lists.{getElem-bound, getElem-append, getElem-seam, getElem-take, butLast-take}
+use Rattle.laws.specs.Lists.{getElem-bound, getElem-in, getD-elem, getElem-append, getElem-seam, getElem-take, butLast-take}
 use Rattle.frames.specs.Frame.{Frame, numbered, designatorIn, frameNumber, continue, newFrame, zeroWords}
 use Rattle.frames.specs.Numbered.{numbered-low, numbered-high, numbered-index, last-numbered}
 use Rattle.frame_laws.specs.Bounds.{BoundedFrames}
@@ -98,6 +97,11 @@ module _ (fs : List Frame) (blocks nexts links : List ℕ) (words : List ℤ) (b
   pub holds-advanced : (f : Frame) → last? fs ≡ some f → (i : ℕ) → length fs ≤ length nexts → Holds (butLast fs ++ (continue f i ∷ [])) blocks (set nexts (pred (length fs)) (stmtPlace (f .text) i)) links words
   holds-advanced f e i room = rw butLast-take (holds-resumed (length fs) f (sym (last-numbered fs) ∙ e) i room)
 
+-- what a formal's word is does not change as a frame goes on
+pub word-advanced : (fs : List Frame) (f : Frame) → last? fs ≡ some f → (i x : ℕ) → frameNumber x ≤ length fs → formalWord (butLast fs ++ (continue f i ∷ [])) x ≡ formalWord fs x
+word-advanced fs f e i x h =
+    rw butLast-take (word-alike fs (take (pred (length fs)) fs ++ (continue f i ∷ [])) (length fs) (alike-cut fs (length fs) f (continue f i) (sym (last-numbered fs) ∙ e) (outline-continue f i)) x h)
+
 -- Entering
 
 -- The arrays on the right have behind the activations of the stack fs a new one, for the block b: its formals' words are the arguments' and
@@ -110,7 +114,7 @@ pub record Enters (fs : List Frame) (xs : List ℕ) (b : Block) (link : ℕ) (bl
   pub block-new : getD blocks′ (length fs) 0 ≡ placeOf (blockAt b)
   pub next-new : getD nexts′ (length fs) 0 ≡ stmtPlace b 1
   pub link-new : getD links′ (length fs) 0 ≡ pred link
-  pub arguments : (i : ℕ) → i < length xs → getD words′ (32 * length fs + i) (pos 0) ≡ pos (formalWord fs (getD xs i 0))
+  pub arguments : (i x : ℕ) → getElem? xs i ≡ some x → getD words′ (32 * length fs + i) (pos 0) ≡ pos (formalWord fs x)
   pub others : (i : ℕ) → length xs ≤ i → i < length xs + length (blockDecls b) → getD words′ (32 * length fs + i) (pos 0) ≡ pos 0
 
 zero-at : (ds : List Decl) (j : ℕ) → getD (zeroWords ds) j (pos 0) ≡ pos 0
@@ -120,11 +124,11 @@ zero-at (d ∷ ds) zero = refl
 zero-at (d ∷ ds) (suc j) = zero-at ds j
 
 module _ (formals : List Formal) (xs : List ℕ) (b : Block) (link : ℕ) where
-  argument-word : (i : ℕ) → i < length xs → designatorIn (getD ((newFrame formals xs b link) .words) i (pos 0)) ≡ getD xs i 0
+  argument-word : (i x : ℕ) → getElem? xs i ≡ some x → designatorIn (getD ((newFrame formals xs b link) .words) i (pos 0)) ≡ x
   unfolding newFrame designatorIn
-  argument-word i h =
+  argument-word i x e =
       let l = length-map xs pos in
-      ap designatorIn (List·getD-append (map pos xs) (zeroWords (blockDecls b)) (pos 0) i (omega arith) ∙ List·getD-map pos xs i 0)
+      ap designatorIn (List·getD-append (map pos xs) (zeroWords (blockDecls b)) (pos 0) i (omega (arith, getElem-bound xs i x e)) ∙ List·getD-map pos xs i 0) ∙ getD-elem xs i x 0 e
 
   other-word : (i : ℕ) → length xs ≤ i → getD ((newFrame formals xs b link) .words) i (pos 0) ≡ pos 0
   unfolding newFrame
@@ -138,7 +142,7 @@ module _ (formals : List Formal) (xs : List ℕ) (b : Block) (link : ℕ) where
   words-length = length-append (map pos xs) (zeroWords (blockDecls b)) ∙ omega (arith, length-map xs pos, length-map (blockDecls b) (λ (d : Decl). pos 0))
 
 module _ (fs : List Frame) (blocks nexts links : List ℕ) (words : List ℤ) (bounded : BoundedFrames fs) (holds : Holds fs blocks nexts links words)
-    (formals : List Formal) (xs : List ℕ) (b : Block) (link : ℕ) (count : length xs ≡ length formals) (given : (i : ℕ) → i < length xs → frameNumber (getD xs i 0) ≤ length fs)
+    (formals : List Formal) (xs : List ℕ) (b : Block) (link : ℕ) (count : length xs ≡ length formals) (given : (i x : ℕ) → getElem? xs i ≡ some x → frameNumber x ≤ length fs)
     (blocks′ nexts′ links′ : List ℕ) (words′ : List ℤ) (new : Enters fs xs b link blocks nexts links words blocks′ nexts′ links′ words′) where
   f : Frame
   f = newFrame formals xs b link
@@ -158,8 +162,8 @@ module _ (fs : List Frame) (blocks nexts links : List ℕ) (words : List ℤ) (b
         next-is = new .next-new;
         link-is = new .link-new;
         formals-are = λ i p.
-            let q : i < length xs = omega arith in
-            new .arguments i q ∙ ap pos (sym (word-alike fs gs (length fs) alike (getD xs i 0) (given i q))) ∙ ap (λ y. pos (formalWord gs y)) (sym (argument-word formals xs b link i q));
+            let x = getElem-in xs i (omega arith) in
+            new .arguments i (x .0) (x .1) ∙ ap pos (sym (word-alike fs gs (length fs) alike (x .0) (given i (x .0) (x .1)))) ∙ ap (λ y. pos (formalWord gs y)) (sym (argument-word formals xs b link i (x .0) (x .1)));
         others-are = λ i p q. new .others i (omega arith) (omega (arith, words-length formals xs b link)) ∙ sym (other-word formals xs b link i (omega arith));
       }
 
@@ -178,7 +182,7 @@ module _ (fs : List Frame) (blocks nexts links : List ℕ) (words : List ℤ) (b
 pub holds-started : (t : Block) (blocks nexts links : List ℕ) (words : List ℤ) → getD blocks 0 0 ≡ placeOf (blockAt t) → getD nexts 0 0 ≡ stmtPlace t 1 → getD links 0 0 ≡ 0
     → ((i : ℕ) → i < length (blockDecls t) → getD words i (pos 0) ≡ pos 0) → Holds (newFrame [] [] t 0 ∷ []) blocks nexts links words
 holds-started t blocks nexts links words b n l w =
-    holds-entered [] blocks nexts links words (λ k f e. none≢some e) (λ k f e. none≢some e) [] [] t 0 refl (λ i h. absurd (not-suc-le-zero h)) blocks nexts links words
+    holds-entered [] blocks nexts links words (λ k f e. none≢some e) (λ k f e. none≢some e) [] [] t 0 refl (λ i x e. none≢some e) blocks nexts links words
     (record {
       blocks-below = λ k h. refl;
       nexts-below = λ k h. refl;
@@ -187,6 +191,6 @@ holds-started t blocks nexts links words b n l w =
       block-new = b;
       next-new = n;
       link-new = l;
-      arguments = λ i h. absurd (not-suc-le-zero h);
+      arguments = λ i x e. none≢some e;
       others = λ i p q. let e : 32 * 0 + i ≡ i = omega arith in ap (λ j. getD words j (pos 0)) e ∙ w i (omega arith);
     })

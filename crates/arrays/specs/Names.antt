@@ -3,7 +3,7 @@
 -- `named-by-links`: following the links as many levels out leads to that activation. `unseen`: a word of 0 is that of a name that is not
 -- visible, which designates nothing; `seen`: any other is that of a name with a coordinate. `direct-shows`: for a name that is no formal the
 -- display is already that of the declaring frame, as far as it goes.
-use Prim.Native.Nat.{ℕ, zero, suc, pred, _+_, _*_, _-_, _≤_, _<_}
+use Prim.Native.Nat.{ℕ, zero, suc, pred, _+_, _*_, _-_, _%_, _≤_, _<_}
 use native.Mathlib.Omega.{arith}
 use mathlib.Core.List.{List, []}
 use mathlib.Core.Option.{some}
@@ -42,6 +42,7 @@ use Rattle.arrays.specs.Displays.{ShowsFrom, shows-innermost, shows-entr
 pub record NameAt (fs : List Frame) (words : List ℤ) (n w first : ℕ) : Type 0 where
   pub level-low : 1 ≤ levelIn w
   pub level-high : levelIn w ≤ levelOf fs (length fs)
+  pub whole : first % 32 ≡ 0
   pub within : first + 32 ≤ 32 * length fs
   pub direct-cell : formalIn w ≡ 0 → first + positionIn w ≡ cellOf (designates fs n)
   pub direct-target : formalIn w ≡ 0 → targetIn w ≡ targetOf fs (designates fs n)
@@ -204,6 +205,7 @@ module _ (t : Block) (keeps : Keeps t) (fs : List Frame) (chain : Chained t fs) 
       record {
         level-low = omega (arith, word-is .level, level-bounds .0);
         level-high = omega (arith, word-is .level, level-bounds .1);
+        whole = omega arith;
         within = omega (arith, holder-bounds .0, holder-bounds .1);
         direct-cell = λ z. ap (λ i. i + positionIn w) e ∙ cell-is (not-formal z);
         direct-target = λ z. target-is (not-formal z);
