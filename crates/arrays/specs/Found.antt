@@ -1,0 +1,91 @@
+-- What an engine makes of a name's word w, once it has the first cell of the activation that declares the name, whichever way it found that:
+-- the cell of the declared name that the name finally stands for (`cellBy`), the activation there (`homeBy`), what it leads to (`targetBy`),
+-- and what a call hands on of it (`handedBy`). `finds`: these are what the frame machine has of what the name designates.
+use Prim.Native.Nat.{ℕ, zero, suc, pred, _+_, _*_, _%_, _/_, _<_}
+use native.Mathlib.Omega.{arith}
+use mathlib.Core.Bool.{Bool, true, false}
+use mathlib.Core.List.{List}
+use mathlib.Core.Path.{_≡_, refl, ap, _∙_}
+use borrow.Author.Tests.{eqb-true, eqb-false}
+use lib.IntN.{ℤ, pos}
+use lib.ListN.{length, getD}
+use Rattle.frames.specs.Frame.{Frame, designatorIn, designates, frameNumber}
+use Rattle.resolved.specs.Resolved.{positionIn, formalIn, targetIn, direct}
+use Rattle.arrays.specs.Holds.{cellOf, targetOf, formalWord}
+use Rattle.arrays.specs.Cells.{Celled, cell-activation, word-cell, word-target}
+use Rattle.arrays.specs.Names.{NameAt, handed-word}
+
+-- what a formal's word holds
+unfoldable pub heldBy : List ℤ → ℕ → ℕ → ℕ
+heldBy words first w = designatorIn (getD words (first + positionIn w) (pos 0))
+
+unfoldable pub cellBy : List ℤ → ℕ → ℕ → ℕ
+cellBy words first w = elim (direct w) [ true ↦ first + positionIn w | false ↦ heldBy words first w % 8192 ]
+
+unfoldable pub homeBy : List ℤ → ℕ → ℕ → ℕ
+homeBy words first w = elim (direct w) [ true ↦ first / 32 | false ↦ heldBy words first w % 8192 / 32 ]
+
+unfoldable pub targetBy : List ℤ → ℕ → ℕ → ℕ
+targetBy words first w = elim (direct w) [ true ↦ targetIn w | false ↦ heldBy words first w / 8192 ]
+
+unfoldable pub handedBy : List ℤ → ℕ → ℕ → ℤ
+handedBy words first w =
+    elim (direct w) [ true ↦ pos (first + positionIn w + 8192 * targetIn w) | false ↦ getD words (first + positionIn w) (pos 0) ]
+
+pub record Finds (fs : List Frame) (words : List ℤ) (n w first : ℕ) : Type 0 where
+  pub cell : cellBy words first w ≡ cellOf (designates fs n)
+  pub home : homeBy words first w ≡ pred (frameNumber (designates fs n))
+  pub target : targetBy words first w ≡ targetOf fs (designates fs n)
+  pub handed : handedBy words first w ≡ pos (formalWord fs (designates fs n))
+
+pub direct-is : (w : ℕ) → direct w ≡ true → formalIn w ≡ 0
+unfolding direct
+direct-is w e = eqb-true (formalIn w) 0 e
+
+pub formal-is : (w : ℕ) → direct w ≡ false → formalIn w ≡ 1
+unfolding direct
+formal-is w e = one (formalIn w) (omega arith) (eqb-false (formalIn w) 0 e)
+  where
+    one : (b : ℕ) → b < 2 → (b ≡ 0 → ⊥) → b ≡ 1
+    one zero h d = absurd (d refl)
+    one (suc zero) h d = refl
+    one (suc (suc b)) h d = absurd (omega arith)
+
+module _ (fs : List Frame) (words : List ℤ) (n w first : ℕ) (at : NameAt fs words n w first) (c : Celled (designates fs n)) where
+  -- the name's own cell is one of the stack's
+  pub own-cell-bound : first + positionIn w < 32 * length fs
+  own-cell-bound = omega (arith, at .within)
+
+  home-direct : formalIn w ≡ 0 → first / 32 ≡ pred (frameNumber (designates fs n))
+  home-direct z =
+      let e : first / 32 ≡ cellOf (designates fs n) / 32 = omega (arith, at .direct-cell z, at .whole) in
+      e ∙ cell-activation (designates fs n) c
+
+  pub held-is : formalIn w ≡ 1 → heldBy words first w ≡ formalWord fs (designates fs n)
+  unfolding heldBy designatorIn
+  held-is z = ap designatorIn (at .formal-word z)
+
+  cell-formal : formalIn w ≡ 1 → heldBy words first w % 8192 ≡ cellOf (designates fs n)
+  cell-formal z = ap (λ v. v % 8192) (held-is z) ∙ word-cell fs (designates fs n) c
+
+  found : (b : Bool) → direct w ≡ b → Finds fs words n w first
+  unfolding cellBy homeBy targetBy handedBy
+  found true e =
+      let z = direct-is w e in
+      record {
+        cell = rw (cellBy, e) (at .direct-cell z);
+        home = rw (homeBy, e) (home-direct z);
+        target = rw (targetBy, e) (at .direct-target z);
+        handed = rw (handedBy, e) (ap pos (handed-word fs words n w first at z));
+      }
+  found false e =
+      let z = formal-is w e in
+      record {
+        cell = rw (cellBy, e) (cell-formal z);
+        home = rw (homeBy, e) (ap (λ v. v / 32) (cell-formal z) ∙ cell-activation (designates fs n) c);
+        target = rw (targetBy, e) (ap (λ v. v / 8192) (held-is z) ∙ word-target fs (designates fs n) c);
+        handed = rw (handedBy, e) (at .formal-word z);
+      }
+
+  pub finds : Finds fs words n w first
+  finds = found (direct w) refl
