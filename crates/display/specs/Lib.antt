@@ -1,2 +1,2 @@
 -- The display engine, in reading order.
-pub mod Cells
+pub mod Finding

@@ -1,5 +1,5 @@
 // The statements, each with its names found by the display. `at` is the place of the statement's operation. A statement none of whose
-// names is a formal has a function of its own.
+// names is a formal has a function of its own. Each does what its definition in Acting says.
 use super::names::cell;
 use super::names::first_cell;
 use super::names::held;
@@ -11,20 +11,26 @@ use pairs::Change;
 use pairs::Query;
 use stepping::code_at;
 ghost use mathlib.Core.Path.{_≡_};
-ghost use Prim.Native.Nat.{_+_, _*_, _<_, _≤_};
-ghost use lib.ListN.{length, getD};
-ghost use Rattle.display.specs.Arms.{Arm, KnDirect, KnFormal, ArDirect, ArFormal, GoDirect, GoFormal, IfDirect, IfFormal, Blocks, CallDirect, CallFormal, Paired, Queried};
+ghost use Prim.Native.Nat.{_+_, _*_, _<_, _≤_, _%_, _/_};
+ghost use lib.ListN.{length, getD, set};
+ghost use Rattle.language.specs.Encoding.{signed};
+ghost use Rattle.language.specs.Table.{added, removed};
+ghost use Rattle.language.specs.Text.{plus, minus, less};
+ghost use Rattle.resolved.specs.Resolved.{targetIn};
+ghost use Rattle.arrays.specs.Found.{cellBy, heldBy};
+ghost use Rattle.acting.specs.Acting.{arithmeticMove, doConstant, doArithmetic, operationOf, doGoto, doBranch, doBlock, doCall, doCallFormal, doAdd, doRemove, doQuery, argumentsFrom, setAll};
+ghost use Rattle.display.specs.Finding.{firstCell, ownCell, byDisplay, only-words, without-table, with-table, Reachable, Direct, ThroughFormal, ArgumentsReachable, FormalsBefore, enteredBy, blockMove, moveAfter, moveChanged};
 
 fn own_at(code: &[u32; 4096], display: &[u16; 256], place: usize) -> usize
     requires { ⌜ place < 4096 ⌝ }
-    ensures { λ r. ⌜ r ≡ cellIn (now (display .entry)) (getD (now (code .entry)) place 0) ⌝ }
+    ensures { λ r. ⌜ r ≡ ownCell (now (display .entry)) (getD (now (code .entry)) place 0) ⌝ }
 {
     own_cell(display, code_at(code, place))
 }
 
 fn cell_at(code: &[u32; 4096], words: &[i32; 8224], display: &[u16; 256], place: usize) -> usize
-    requires { ⌜ (place < 4096) × Reached (now words) (now display) (getD (now code) place 0) ⌝ }
-    ensures { λ r. ⌜ r ≡ cellThrough (now (words .entry)) (now (display .entry)) (getD (now (code .entry)) place 0) ⌝ }
+    requires { ⌜ (place < 4096) × Reachable (now words) (now display) (getD (now code) place 0) ⌝ }
+    ensures { λ r. ⌜ r ≡ cellBy (now (words .entry)) (firstCell (now (display .entry)) (getD (now (code .entry)) place 0)) (getD (now (code .entry)) place 0) ⌝ }
 {
     cell(words, display, code_at(code, place))
 }
@@ -43,7 +49,11 @@ pub fn do_constant(
     words: &mut [i32; 8224],
     display: &[u16; 256],
     at: usize,
-) -> Move {
+) -> Move
+    requires { ⌜ (at + 4 ≤ 4096) × Direct (now words) (now display) (getD (now code) (at + 1) 0) ⌝ }
+    ensures { λ r. ⌜ r ≡ (doConstant (byDisplay (now (words .entry)) (now (display .entry))) (only-words (now (code .entry)) (now (words .entry)) at)) .move ⌝ }
+    ensures { λ _. ⌜ now (words .exit) ≡ (doConstant (byDisplay (now (words .entry)) (now (display .entry))) (only-words (now (code .entry)) (now (words .entry)) at)) .words ⌝ }
+{
     constant(code, words, own_at(code, display, at + 1), at)
 }
 
@@ -52,24 +62,29 @@ pub fn do_constant_formal(
     words: &mut [i32; 8224],
     display: &[u16; 256],
     at: usize,
-) -> Move {
+) -> Move
+    requires { ⌜ (at + 4 ≤ 4096) × Reachable (now words) (now display) (getD (now code) (at + 1) 0) ⌝ }
+    ensures { λ r. ⌜ r ≡ (doConstant (byDisplay (now (words .entry)) (now (display .entry))) (only-words (now (code .entry)) (now (words .entry)) at)) .move ⌝ }
+    ensures { λ _. ⌜ now (words .exit) ≡ (doConstant (byDisplay (now (words .entry)) (now (display .entry))) (only-words (now (code .entry)) (now (words .entry)) at)) .words ⌝ }
+{
     constant(code, words, cell_at(code, words, display, at + 1), at)
 }
 
 // AR
-fn computed(effect: Effect, at: usize) -> Move {
+fn computed(effect: Effect, at: usize) -> Move
+    ensures { λ r. ⌜ r ≡ moveAfter effect (at + 5) ⌝ }
+{
     match effect {
         Effect::Done => Move::On(at + 5),
         Effect::Stopped(cause) => Move::Stop(cause),
     }
 }
 
-pub fn do_add(
-    code: &[u32; 4096],
-    words: &mut [i32; 8224],
-    display: &[u16; 256],
-    at: usize,
-) -> Move {
+pub fn do_add(code: &[u32; 4096], words: &mut [i32; 8224], display: &[u16; 256], at: usize) -> Move
+    requires { ⌜ (at + 5 ≤ 4096) × Direct (now words) (now display) (getD (now code) (at + 1) 0) × Direct (now words) (now display) (getD (now code) (at + 3) 0) × Direct (now words) (now display) (getD (now code) (at + 4) 0) ⌝ }
+    ensures { λ r. ⌜ r ≡ (doArithmetic (byDisplay (now (words .entry)) (now (display .entry))) (only-words (now (code .entry)) (now (words .entry)) at) plus) .move ⌝ }
+    ensures { λ _. ⌜ now (words .exit) ≡ (doArithmetic (byDisplay (now (words .entry)) (now (display .entry))) (only-words (now (code .entry)) (now (words .entry)) at) plus) .words ⌝ }
+{
     let target = own_at(code, display, at + 1);
     let left = own_at(code, display, at + 3);
     let right = own_at(code, display, at + 4);
@@ -81,7 +96,11 @@ pub fn do_subtract(
     words: &mut [i32; 8224],
     display: &[u16; 256],
     at: usize,
-) -> Move {
+) -> Move
+    requires { ⌜ (at + 5 ≤ 4096) × Direct (now words) (now display) (getD (now code) (at + 1) 0) × Direct (now words) (now display) (getD (now code) (at + 3) 0) × Direct (now words) (now display) (getD (now code) (at + 4) 0) ⌝ }
+    ensures { λ r. ⌜ r ≡ (doArithmetic (byDisplay (now (words .entry)) (now (display .entry))) (only-words (now (code .entry)) (now (words .entry)) at) minus) .move ⌝ }
+    ensures { λ _. ⌜ now (words .exit) ≡ (doArithmetic (byDisplay (now (words .entry)) (now (display .entry))) (only-words (now (code .entry)) (now (words .entry)) at) minus) .words ⌝ }
+{
     let target = own_at(code, display, at + 1);
     let left = own_at(code, display, at + 3);
     let right = own_at(code, display, at + 4);
@@ -93,7 +112,11 @@ pub fn do_compare(
     words: &mut [i32; 8224],
     display: &[u16; 256],
     at: usize,
-) -> Move {
+) -> Move
+    requires { ⌜ (at + 5 ≤ 4096) × Direct (now words) (now display) (getD (now code) (at + 1) 0) × Direct (now words) (now display) (getD (now code) (at + 3) 0) × Direct (now words) (now display) (getD (now code) (at + 4) 0) ⌝ }
+    ensures { λ r. ⌜ r ≡ (doArithmetic (byDisplay (now (words .entry)) (now (display .entry))) (only-words (now (code .entry)) (now (words .entry)) at) less) .move ⌝ }
+    ensures { λ _. ⌜ now (words .exit) ≡ (doArithmetic (byDisplay (now (words .entry)) (now (display .entry))) (only-words (now (code .entry)) (now (words .entry)) at) less) .words ⌝ }
+{
     let target = own_at(code, display, at + 1);
     let left = own_at(code, display, at + 3);
     let right = own_at(code, display, at + 4);
@@ -106,7 +129,11 @@ pub fn do_arithmetic_formal(
     words: &mut [i32; 8224],
     display: &[u16; 256],
     at: usize,
-) -> Move {
+) -> Move
+    requires { ⌜ (at + 5 ≤ 4096) × Reachable (now words) (now display) (getD (now code) (at + 1) 0) × Reachable (now words) (now display) (getD (now code) (at + 3) 0) × Reachable (now words) (now display) (getD (now code) (at + 4) 0) ⌝ }
+    ensures { λ r. ⌜ r ≡ (doArithmetic (byDisplay (now (words .entry)) (now (display .entry))) (only-words (now (code .entry)) (now (words .entry)) at) (operationOf (getD (now (code .entry)) (at + 2) 0))) .move ⌝ }
+    ensures { λ _. ⌜ now (words .exit) ≡ (doArithmetic (byDisplay (now (words .entry)) (now (display .entry))) (only-words (now (code .entry)) (now (words .entry)) at) (operationOf (getD (now (code .entry)) (at + 2) 0))) .words ⌝ }
+{
     let target = cell_at(code, words, display, at + 1);
     let left = cell_at(code, words, display, at + 3);
     let right = cell_at(code, words, display, at + 4);
@@ -122,7 +149,10 @@ pub fn do_arithmetic_formal(
 }
 
 // GO
-pub fn do_goto(code: &[u32; 4096], display: &[u16; 256], at: usize) -> Move {
+pub fn do_goto(code: &[u32; 4096], display: &[u16; 256], at: usize) -> Move
+    requires { ⌜ at + 2 ≤ 4096 ⌝ }
+    ensures { λ r. ⌜ r ≡ Move.Jump (firstCell (now (display .entry)) (getD (now (code .entry)) (at + 1) 0) / 32) (targetIn (getD (now (code .entry)) (at + 1) 0)) ⌝ }
+{
     let label = code_at(code, at + 1);
     Move::Jump(first_cell(display, label) / 32, label / 65536)
 }
@@ -132,13 +162,19 @@ pub fn do_goto_formal(
     words: &[i32; 8224],
     display: &[u16; 256],
     at: usize,
-) -> Move {
+) -> Move
+    requires { ⌜ (at + 2 ≤ 4096) × ThroughFormal (now words) (now display) (getD (now code) (at + 1) 0) ⌝ }
+    ensures { λ r. ⌜ r ≡ (doGoto (byDisplay (now (words .entry)) (now (display .entry))) (only-words (now (code .entry)) (now (words .entry)) at)) .move ⌝ }
+{
     let to = held(words, display, code_at(code, at + 1));
     Move::Jump(to % 8192 / 32, to / 8192)
 }
 
 // IF
-pub fn do_branch(code: &[u32; 4096], words: &[i32; 8224], display: &[u16; 256], at: usize) -> Move {
+pub fn do_branch(code: &[u32; 4096], words: &[i32; 8224], display: &[u16; 256], at: usize) -> Move
+    requires { ⌜ (at + 3 ≤ 4096) × Direct (now words) (now display) (getD (now code) (at + 1) 0) × Direct (now words) (now display) (getD (now code) (at + 2) 0) ⌝ }
+    ensures { λ r. ⌜ r ≡ (doBranch (byDisplay (now (words .entry)) (now (display .entry))) (only-words (now (code .entry)) (now (words .entry)) at)) .move ⌝ }
+{
     if words[own_at(code, display, at + 2)] == 0 {
         return Move::On(at + 3);
     }
@@ -150,7 +186,10 @@ pub fn do_branch_formal(
     words: &[i32; 8224],
     display: &[u16; 256],
     at: usize,
-) -> Move {
+) -> Move
+    requires { ⌜ (at + 3 ≤ 4096) × Reachable (now words) (now display) (getD (now code) (at + 1) 0) × Reachable (now words) (now display) (getD (now code) (at + 2) 0) ⌝ }
+    ensures { λ r. ⌜ r ≡ (doBranch (byDisplay (now (words .entry)) (now (display .entry))) (only-words (now (code .entry)) (now (words .entry)) at)) .move ⌝ }
+{
     if words[cell_at(code, words, display, at + 2)] == 0 {
         return Move::On(at + 3);
     }
@@ -161,7 +200,10 @@ pub fn do_branch_formal(
 }
 
 // BK: the new activation is linked to the innermost one.
-pub fn do_block(code: &[u32; 4096], limit: usize, live: usize, at: usize) -> Move {
+pub fn do_block(code: &[u32; 4096], limit: usize, live: usize, at: usize) -> Move
+    requires { ⌜ (at + 2 ≤ 4096) × (live ≤ 255) ⌝ }
+    ensures { λ r. ⌜ r ≡ blockMove (now (code .entry)) limit live at ⌝ }
+{
     if limit <= live + 1 {
         return Move::Stop(Stop::NoActivationLeft);
     }
@@ -176,7 +218,10 @@ fn arguments(
     live: usize,
     at: usize,
     count: usize,
-) {
+)
+    requires { ⌜ (live ≤ 254) × ArgumentsReachable (now code) (now display) live at count ⌝ }
+    ensures { λ _. ⌜ now (words .exit) ≡ setAll (now (words .entry)) (32 * live + 32) (argumentsFrom (byDisplay (now (words .entry)) (now (display .entry))) (only-words (now (code .entry)) (now (words .entry)) at) at count) ⌝ }
+{
     let first = 32 * live + 32;
     let mut i = 0;
     while i < count {
@@ -196,7 +241,11 @@ fn enter_body(
     at: usize,
     home: usize,
     body: usize,
-) -> Move {
+) -> Move
+    requires { ⌜ (limit ≤ 256) × (at + 3 ≤ 4096) × ArgumentsReachable (now code) (now display) live (at + 3) (getD (now code) (at + 2) 0) ⌝ }
+    ensures { λ r. ⌜ r ≡ (enteredBy (now (code .entry)) (now (words .entry)) (now (display .entry)) limit live at home body) .move ⌝ }
+    ensures { λ _. ⌜ now (words .exit) ≡ (enteredBy (now (code .entry)) (now (words .entry)) (now (display .entry)) limit live at home body) .words ⌝ }
+{
     if limit <= live + 1 {
         return Move::Stop(Stop::NoActivationLeft);
     }
@@ -212,7 +261,11 @@ pub fn do_call(
     limit: usize,
     live: usize,
     at: usize,
-) -> Move {
+) -> Move
+    requires { ⌜ (limit ≤ 256) × (at + 3 ≤ 4096) × ArgumentsReachable (now code) (now display) live (at + 3) (getD (now code) (at + 2) 0) × Direct (now words) (now display) (getD (now code) (at + 1) 0) ⌝ }
+    ensures { λ r. ⌜ r ≡ (doCall (byDisplay (now (words .entry)) (now (display .entry))) (without-table (now (code .entry)) (now (words .entry)) limit live at)) .move ⌝ }
+    ensures { λ _. ⌜ now (words .exit) ≡ (doCall (byDisplay (now (words .entry)) (now (display .entry))) (without-table (now (code .entry)) (now (words .entry)) limit live at)) .words ⌝ }
+{
     let procedure = code_at(code, at + 1);
     let home = first_cell(display, procedure) / 32;
     enter_body(
@@ -235,7 +288,11 @@ pub fn do_call_formal(
     limit: usize,
     live: usize,
     at: usize,
-) -> Move {
+) -> Move
+    requires { ⌜ (limit ≤ 256) × (at + 3 ≤ 4096) × ArgumentsReachable (now code) (now display) live (at + 3) (getD (now code) (at + 2) 0) × ThroughFormal (now words) (now display) (getD (now code) (at + 1) 0) × FormalsBefore (now code) (heldBy (now words) (firstCell (now display) (getD (now code) (at + 1) 0)) (getD (now code) (at + 1) 0) / 8192) ⌝ }
+    ensures { λ r. ⌜ r ≡ (doCallFormal (byDisplay (now (words .entry)) (now (display .entry))) (without-table (now (code .entry)) (now (words .entry)) limit live at)) .move ⌝ }
+    ensures { λ _. ⌜ now (words .exit) ≡ (doCallFormal (byDisplay (now (words .entry)) (now (display .entry))) (without-table (now (code .entry)) (now (words .entry)) limit live at)) .words ⌝ }
+{
     let procedure = held(words, display, code_at(code, at + 1));
     let body = procedure / 8192;
     let count = code_at(code, at + 2);
@@ -258,7 +315,9 @@ pub fn do_call_formal(
 }
 
 // AD and RM
-fn changed(change: Change, at: usize) -> Move {
+fn changed(change: Change, at: usize) -> Move
+    ensures { λ r. ⌜ r ≡ moveChanged change (at + 3) ⌝ }
+{
     match change {
         Change::Done(pairs) => Move::Pairs(at + 3, pairs),
         Change::Stopped(cause) => Move::Stop(cause),
@@ -273,7 +332,11 @@ pub fn do_add_pair(
     pairs: usize,
     group_limit: u32,
     at: usize,
-) -> Move {
+) -> Move
+    requires { ⌜ (at + 3 ≤ 4096) × Reachable (now words) (now display) (getD (now code) (at + 1) 0) × Reachable (now words) (now display) (getD (now code) (at + 2) 0) ⌝ }
+    ensures { λ r. ⌜ r ≡ (doAdd (byDisplay (now (words .entry)) (now (display .entry))) (with-table (now (code .entry)) (now (words .entry)) (now (table .entry)) pairs group_limit at)) .move ⌝ }
+    ensures { λ _. ⌜ now (table .exit) ≡ (doAdd (byDisplay (now (words .entry)) (now (display .entry))) (with-table (now (code .entry)) (now (words .entry)) (now (table .entry)) pairs group_limit at)) .table ⌝ }
+{
     let group = words[cell_at(code, words, display, at + 1)];
     let member = words[cell_at(code, words, display, at + 2)];
     changed(
@@ -289,7 +352,11 @@ pub fn do_remove_pair(
     table: &mut [i32],
     pairs: usize,
     at: usize,
-) -> Move {
+) -> Move
+    requires { ⌜ (at + 3 ≤ 4096) × Reachable (now words) (now display) (getD (now code) (at + 1) 0) × Reachable (now words) (now display) (getD (now code) (at + 2) 0) ⌝ }
+    ensures { λ r. ⌜ r ≡ (doRemove (byDisplay (now (words .entry)) (now (display .entry))) (with-table (now (code .entry)) (now (words .entry)) (now (table .entry)) pairs 0 at)) .move ⌝ }
+    ensures { λ _. ⌜ now (table .exit) ≡ (doRemove (byDisplay (now (words .entry)) (now (display .entry))) (with-table (now (code .entry)) (now (words .entry)) (now (table .entry)) pairs 0 at)) .table ⌝ }
+{
     let group = words[cell_at(code, words, display, at + 1)];
     let member = words[cell_at(code, words, display, at + 2)];
     changed(pairs::remove_pair(table, pairs, group, member), at)
@@ -303,7 +370,11 @@ pub fn do_query(
     table: &[i32],
     pairs: usize,
     at: usize,
-) -> Move {
+) -> Move
+    requires { ⌜ (at + 4 ≤ 4096) × Reachable (now words) (now display) (getD (now code) (at + 1) 0) × Reachable (now words) (now display) (getD (now code) (at + 2) 0) × Reachable (now words) (now display) (getD (now code) (at + 3) 0) ⌝ }
+    ensures { λ r. ⌜ r ≡ (doQuery (byDisplay (now (words .entry)) (now (display .entry))) (with-table (now (code .entry)) (now (words .entry)) (now (table .entry)) pairs 0 at)) .move ⌝ }
+    ensures { λ _. ⌜ now (words .exit) ≡ (doQuery (byDisplay (now (words .entry)) (now (display .entry))) (with-table (now (code .entry)) (now (words .entry)) (now (table .entry)) pairs 0 at)) .words ⌝ }
+{
     let target = cell_at(code, words, display, at + 1);
     let group = words[cell_at(code, words, display, at + 2)];
     let member = words[cell_at(code, words, display, at + 3)];

@@ -1,2 +1,3 @@
 // The display engine.
+mod arms;
 mod names;

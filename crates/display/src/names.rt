@@ -1,11 +1,10 @@
 // Where a name lies, by the display: entry j is the first cell of the enclosing activation of level j.
 ghost use mathlib.Core.Path.{_≡_};
 ghost use mathlib.Core.Bool.{false};
-ghost use Prim.Native.Nat.{_+_, _*_, _<_, _≤_, _^_};
-ghost use lib.IntN.{pos};
-ghost use lib.ListN.{getD};
-ghost use Rattle.resolved.specs.Resolved.{levelIn};
-ghost use Rattle.display.specs.Cells.{cellIn, heldIn, cellThrough, Within, Reached};
+ghost use Prim.Native.Nat.{_+_, _<_};
+ghost use Rattle.resolved.specs.Resolved.{direct};
+ghost use Rattle.arrays.specs.Found.{cellBy, heldBy};
+ghost use Rattle.display.specs.Finding.{firstCell, ownCell, Reachable, ThroughFormal};
 
 fn wide(x: u16) -> usize
     ensures { λ r. ⌜ (r ≡ x) × (r < 65536) ⌝ }
@@ -15,30 +14,30 @@ fn wide(x: u16) -> usize
 
 // The first cell of the activation in which the name with this word is declared.
 pub fn first_cell(display: &[u16; 256], word: usize) -> usize
-    ensures { λ r. ⌜ (r ≡ getD (now (display .entry)) (levelIn word) 0) × (r < 65536) ⌝ }
+    ensures { λ r. ⌜ (r ≡ firstCell (now (display .entry)) word) × (r < 65536) ⌝ }
 {
     wide(display[word / 256 % 256])
 }
 
 // The name's own cell.
 pub fn own_cell(display: &[u16; 256], word: usize) -> usize
-    ensures { λ r. ⌜ r ≡ cellIn (now (display .entry)) word ⌝ }
+    ensures { λ r. ⌜ (r ≡ ownCell (now (display .entry)) word) × (r < 65568) ⌝ }
 {
     first_cell(display, word) + word % 32
 }
 
 // What a formal holds: the cell of the name that it finally stands for, and what that leads to.
 pub fn held(words: &[i32; 8224], display: &[u16; 256], word: usize) -> usize
-    requires { ⌜ Within (now words) (now display) word ⌝ }
-    ensures { λ r. ⌜ (r ≡ heldIn (now (words .entry)) (now (display .entry)) word) × (r < 2147483648) ⌝ }
+    requires { ⌜ ThroughFormal (now words) (now display) word ⌝ }
+    ensures { λ r. ⌜ (r ≡ heldBy (now (words .entry)) (firstCell (now (display .entry)) word) word) × (r < 2147483648) ⌝ }
 {
     stepping::whole(words[own_cell(display, word)])
 }
 
 // The cell of the declared name that the name with this word finally stands for.
 pub fn cell(words: &[i32; 8224], display: &[u16; 256], word: usize) -> usize
-    requires { ⌜ Reached (now words) (now display) word ⌝ }
-    ensures { λ r. ⌜ r ≡ cellThrough (now (words .entry)) (now (display .entry)) word ⌝ }
+    requires { ⌜ Reachable (now words) (now display) word ⌝ }
+    ensures { λ r. ⌜ r ≡ cellBy (now (words .entry)) (firstCell (now (display .entry)) word) word ⌝ }
 {
     if word / 32 % 2 == 0 {
         return own_cell(display, word);

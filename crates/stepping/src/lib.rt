@@ -14,12 +14,18 @@ ghost use Rattle.acting.specs.Effects.{effectOf, wordsOf, sameKinds, handedWord
 use acting::Effect;
 use language::Stop;
 
+fn wide(x: u32) -> usize
+    ensures { λ r. ⌜ (r ≡ x) × (r < 2 ^ 32) ⌝ }
+{
+    x as usize
+}
+
 // A word of the resolved script.
 pub fn code_at(code: &[u32; 4096], at: usize) -> usize
     requires { ⌜ at < 4096 ⌝ }
     ensures { λ r. ⌜ (r ≡ getD (now (code .entry)) at 0) × (r < 2 ^ 32) ⌝ }
 {
-    code[at] as usize
+    wide(code[at])
 }
 
 fn sum(a: i32, b: i32) -> i64
@@ -35,7 +41,7 @@ fn difference(a: i32, b: i32) -> i64
 }
 
 // Whether a value fits a word.
-fn fits(v: i64) -> bool
+fn fits_word(v: i64) -> bool
     ensures { λ r. ⌜ r ≡ ltb (mag v) 2147483648 ⌝ }
 {
     if v < 0 - 2147483648 {
@@ -88,7 +94,7 @@ fn keep(words: &mut [i32; 8224], cell: usize, value: i64) -> Effect
     requires { ⌜ cell < 8192 ⌝ }
     ensures { λ r. ⌜ (r ≡ effectOf value) × (now (words .exit) ≡ wordsOf (now (words .entry)) cell value) ⌝ }
 {
-    if fits(value) {
+    if fits_word(value) {
         words[cell] = narrowed(value);
         return Effect::Done;
     }
