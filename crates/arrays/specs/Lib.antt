@@ -7,3 +7,4 @@ pub mod Moves
 pub mod Displays
 pub mod Names
 pub mod Found
+pub mod Reading
