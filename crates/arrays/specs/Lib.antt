@@ -8,3 +8,4 @@ pub mod Displays
 pub mod Names
 pub mod Found
 pub mod Reading
+pub mod Running
