@@ -2,7 +2,7 @@
 -- (`formals-read`, `names-read`), where its text ends (`end-read`) and the looked-up name's word (`looked-up-read`). At its next statement's
 -- place: the statement (`action-read`, `block-read`), or the end of the text exactly where there is none (`none-read`, `some-read`);
 -- `next-read` and `after-block-read` say where the statement behind it stands.
-use Prim.Native.Nat.{ℕ, suc, pred, _+_, _*_, _%_, _/_, _≤_, _<_}
+use Prim.Native.Nat.{ℕ, suc, pred, _+_, _%_, _/_, _≤_, _<_}
 use native.Mathlib.Omega.{arith}
 use mathlib.Core.List.{List, [], _∷_}
 use mathlib.Core.Option.{none, some}
@@ -16,14 +16,14 @@ use Rattle.grammar.specs.Rules.{Keeps}
 use Rattle.frames.specs.Frame.{Frame, numbered, frameStmt}
 use Rattle.frames.specs.Numbered.{numbered-suc}
 use Rattle.coordinates.specs.Enclosure.{Enclosure, Encloses}
-use Rattle.coordinates.specs.Chain.{enclosing, enclosureOf, levelOf, Downward, Chained}
+use Rattle.coordinates.specs.Chain.{enclosing, enclosureOf, levelOf, Chained}
 use Rattle.coordinates.specs.Search.{enclosure-step}
 use Rattle.coordinates.specs.Kept.{chained-downward}
 use Rattle.coordinates.specs.Levels.{frame-encloses}
 use Rattle.resolved.specs.Resolved.{placeOf, endPlace, stmtPlace, nameWord, resolvedOf, resolvedAction, resolvedBlock, Covers}
 use Rattle.resolved.specs.Places.{place-bound, enclosed-next, enclosed-after-block, enclosed-before-end}
 use Rattle.resolved.specs.Standing.{stmt-covered, action-covered, head-stands, bounds-stands, looked-up-stands}
-use Rattle.resolved.specs.Words.{head-level, head-formals, head-names, bounds-end, bounds-first}
+use Rattle.resolved.specs.Words.{head-level, head-formals, head-names, bounds-end}
 use Rattle.arrays.specs.Holds.{Holds}
 use Rattle.arrays.specs.Names.{frame-level}
 

@@ -6,11 +6,11 @@ use Prim.Native.Nat.{ℕ, suc, pred, _+_, _*_, _≤_, _<_}
 use native.Mathlib.Omega.{arith}
 use mathlib.Core.List.{List, [], _∷_, _++_}
 use mathlib.Core.Option.{some}
-use mathlib.Core.Path.{_≡_, refl, sym, ap, _∙_, subst}
+use mathlib.Core.Path.{_≡_, sym, ap, _∙_, subst}
 use borrow.Author.Tests.{eqb-true, eqb-false}
 use lib.Dec.{eqb}
 use lib.IntN.{ℤ, pos}
-use lib.ListN.{length, take, getD, set, getElem?, length-append, length-set}
+use lib.ListN.{length, take, getD, set, getElem?, length-set}
 use lib.Seq.{length-take-le, getD-set-same, getD-set-other, set-set, set-getD}
 use Rattle.language.specs.Basics.{last?, butLast}
 use Rattle.language.specs.Text.{Formal, Block, blockAt, blockDecls}
