@@ -1,8 +1,8 @@
 -- The moves with the innermost activation's next statement kept apart: an engine has its place `at` in a local, and what `nexts` has there is
--- free. So the arrays hold the stack with `at` set in its place, live being the innermost activation. `holds-on`: it goes on elsewhere;
--- `holds-back`: it is left, and the one below goes on where `nexts` says; `holds-jumped`: one further out goes on; `holds-pushed`: it
--- goes on behind the statement and a new one is entered, which is three stores and the new words.
-use Prim.Native.Nat.{ℕ, suc, pred, _+_, _*_, _≤_, _<_}
+-- free. So the arrays hold the stack with `at` set in its place; live is the innermost activation. `holds-on`: it goes on elsewhere, and
+-- `holds-on-stored`: a value is stored; `holds-back`: it is left, and the one below goes on where `nexts` says; `holds-jumped`: one further
+-- out goes on; `holds-pushed`: it goes on behind the statement and a new one is entered, which is three stores and the new words.
+use Prim.Native.Nat.{ℕ, suc, pred, _+_, _*_, _/_, _≤_, _<_}
 use native.Mathlib.Omega.{arith}
 use mathlib.Core.List.{List, [], _∷_, _++_}
 use mathlib.Core.Option.{some}
@@ -16,12 +16,15 @@ use Rattle.language.specs.Basics.{last?, butLast}
 use Rattle.language.specs.Text.{Formal, Block, blockAt, blockDecls}
 use Rattle.laws.specs.Tests.{split}
 use Rattle.laws.specs.Lists.{getElem-bound, butLast-take, replaced-length}
-use Rattle.frames.specs.Frame.{Frame, numbered, frameNumber, continue, newFrame}
-use Rattle.frames.specs.Numbered.{numbered-high}
-use Rattle.frame_laws.specs.Bounds.{BoundedFrames}
-use Rattle.coordinates.specs.Moves.{cut-length}
+use Rattle.frames.specs.Frame.{Frame, numbered, frameNumber, continue, putWord, newFrame}
+use Rattle.frames.specs.Numbered.{numbered-high, last-numbered}
+use Rattle.frame_laws.specs.Bounds.{Points, BoundedFrames}
+use Rattle.coordinates.specs.Chain.{SameOutlines}
+use Rattle.coordinates.specs.Moves.{alike-cut, outline-continue, cut-length}
 use Rattle.resolved.specs.Resolved.{placeOf, stmtPlace}
-use Rattle.arrays.specs.Holds.{formalWord, Holds}
+use Rattle.arrays.specs.Holds.{cellOf, formalWord, Holds}
+use Rattle.arrays.specs.Cells.{points-over}
+use Rattle.arrays.specs.Storing.{holds-stored}
 use Rattle.arrays.specs.Moves.{holds-left, holds-resumed, holds-advanced, word-advanced, Enters, holds-entered}
 
 -- what stands for no frame is free
@@ -41,6 +44,15 @@ module _ (fs : List Frame) (blocks nexts links : List ℕ) (words : List ℤ) (b
       subst (λ (l : List ℕ). Holds (butLast fs ++ (continue f i ∷ [])) blocks l links words)
       (ap (λ n. set (set nexts live at) n (stmtPlace (f .text) i)) z ∙ set-set nexts live at (stmtPlace (f .text) i))
       (holds-advanced fs blocks (set nexts live at) links words bounded holds f e i (omega (arith, long)))
+
+  -- and a value is stored
+  pub holds-on-stored : (f : Frame) → last? fs ≡ some f → (i : ℕ) → BoundedFrames (butLast fs ++ (continue f i ∷ [])) → (m x : ℕ) → Points fs m x → (z : ℤ) → 32 * length fs ≤ length words
+      → Holds (putWord (butLast fs ++ (continue f i ∷ [])) x z) blocks (set nexts live (stmtPlace (f .text) i)) links (set words (cellOf x) z)
+  holds-on-stored f e i bounded′ m x p z fits =
+      let gs = butLast fs ++ (continue f i ∷ []) in
+      let n : length gs ≡ length fs = replaced-length fs f (continue f i) e in
+      let a : SameOutlines (length fs) fs gs = rw butLast-take (alike-cut fs (length fs) f (continue f i) (sym (last-numbered fs) ∙ e) (outline-continue f i)) in
+      holds-stored gs blocks (set nexts live (stmtPlace (f .text) i)) links words bounded′ (holds-on f e i) m x (points-over fs gs (length fs) m x a (numbered-high fs (x / 64) (p .home) (p .stands)) p) z (omega arith)
 
   pub holds-back : Holds (butLast fs) blocks (set nexts (pred live) (getD nexts (pred live) 0)) links words
   holds-back =
