@@ -8,7 +8,8 @@ use lib.ListN.{length}
 use Rattle.language.specs.Text.{Action, CL, GO, IF, KN, AR, AD, RM, QY, Stmt, BK, DO}
 use Rattle.language.specs.Table.{Table, holds, size, atLeastOne, full, add, remove, right}
 use Rattle.language.specs.Machine.{Limits}
-use Rattle.runs.specs.TableLaws.{add-length, add-right, remove-length, remove-right}
+use Rattle.laws.specs.Tables.{add-length}
+use Rattle.runs.specs.TableLaws.{add-right, remove-length, remove-right}
 use Rattle.frames.specs.Frame.{Stack, withFrames, tableChanged, stepped, designates, mapAction, act, actStmt, frameStep, frameRun}
 use Rattle.frame_laws.specs.Actions.{does, stores}
 use Rattle.frames.specs.Running.{After, run-keeps}

@@ -74,7 +74,8 @@ unfolding declWords
 decls-many b level i [] = refl
 decls-many b level i (d ∷ ds) = ap suc (decls-many b level (suc i) ds)
 
-formals-at : (level i : ℕ) (fs : List Formal) (k : ℕ) (m : Formal) → getElem? fs k ≡ some m → getElem? (formalWords level i fs) k ≡ some (packed (i + k) 1 (kindField (m .kind)) level 0)
+formals-at : (level i : ℕ) (fs : List Formal) (k : ℕ) (m : Formal) → getElem? fs k ≡ some m
+    → getElem? (formalWords level i fs) k ≡ some (packed (i + k) 1 (kindField (m .kind)) level 0)
 unfolding formalWords
 formals-at level i [] k m e = none≢some e
 formals-at level i (f ∷ fs) zero m e =
@@ -85,7 +86,8 @@ formals-at level i (f ∷ fs) (suc k) m e =
     let z : suc i + k ≡ i + suc k = omega arith in
     formals-at level (suc i) fs k m e ∙ ap (λ j. some (packed j 1 (kindField (m .kind)) level 0)) z
 
-decls-at : (b : Block) (level i : ℕ) (ds : List Decl) (k : ℕ) (d : Decl) → getElem? ds k ≡ some d → getElem? (declWords b level i ds) k ≡ some (packed (i + k) 0 (declKindField d) level (declTarget b d))
+decls-at : (b : Block) (level i : ℕ) (ds : List Decl) (k : ℕ) (d : Decl) → getElem? ds k ≡ some d
+    → getElem? (declWords b level i ds) k ≡ some (packed (i + k) 0 (declKindField d) level (declTarget b d))
 unfolding declWords
 decls-at b level i [] k d e = none≢some e
 decls-at b level i (c ∷ ds) zero d e =
@@ -106,14 +108,17 @@ unfolding ownWords
 own-many e level =
     omega (arith, length-append (formalWords level 0 (e .formals)) (declWords (e .text) level (length (e .formals)) (blockDecls (e .text))), formals-many level 0 (e .formals), decls-many (e .text) level (length (e .formals)) (blockDecls (e .text)), names-many e)
 
-own-formal : (e : Enclosing) (level k : ℕ) (m : Formal) → getElem? (e .formals) k ≡ some m → getElem? (ownWords e level) k ≡ some (packed k 1 (kindField (m .kind)) level 0)
+own-formal : (e : Enclosing) (level k : ℕ) (m : Formal) → getElem? (e .formals) k ≡ some m
+    → getElem? (ownWords e level) k ≡ some (packed k 1 (kindField (m .kind)) level 0)
 unfolding ownWords
 own-formal e level k m q =
     let l : k < length (formalWords level 0 (e .formals)) = omega (arith, formals-many level 0 (e .formals), getElem-bound (e .formals) k m q) in
     getElem-append (formalWords level 0 (e .formals)) (declWords (e .text) level (length (e .formals)) (blockDecls (e .text))) k l
     ∙ formals-at level 0 (e .formals) k m q ∙ ap (λ j. some (packed j 1 (kindField (m .kind)) level 0)) (zero-add k)
 
-own-declared : (e : Enclosing) (level k : ℕ) (d : Decl) → length (e .formals) ≤ k → getElem? (blockDecls (e .text)) (k - length (e .formals)) ≡ some d → getElem? (ownWords e level) k ≡ some (packed k 0 (declKindField d) level (declTarget (e .text) d))
+own-declared : (e : Enclosing) (level k : ℕ) (d : Decl) → length (e .formals) ≤ k
+    → getElem? (blockDecls (e .text)) (k - length (e .formals)) ≡ some d
+    → getElem? (ownWords e level) k ≡ some (packed k 0 (declKindField d) level (declTarget (e .text) d))
 unfolding ownWords
 own-declared e level k d h q =
     let n = length (e .formals) in
@@ -136,7 +141,8 @@ zip-found n i (x ∷ ns) [] p e = go (λ r. (zip-found n (suc i) ns [] p r) .0) 
     go r false q = (omega (arith, r (rw (q, positionFrom) at e)), refl)
 zip-found n i (x ∷ ns) (w ∷ ws) p e = go (zip-found n (suc i) ns ws p) (eqb n x) refl
   where
-    go : (positionFrom n (suc i) ns ≡ some p → (suc i ≤ p) × (lookup n (zip ns ws) ≡ getElem? ws (p - suc i))) → (b : Bool) → eqb n x ≡ b → (i ≤ p) × (lookup n ((x, w) ∷ zip ns ws) ≡ getElem? (w ∷ ws) (p - i))
+    go : (positionFrom n (suc i) ns ≡ some p → (suc i ≤ p) × (lookup n (zip ns ws) ≡ getElem? ws (p - suc i))) → (b : Bool) → eqb n x ≡ b
+        → (i ≤ p) × (lookup n ((x, w) ∷ zip ns ws) ≡ getElem? (w ∷ ws) (p - i))
     go r true q =
         let h : i ≡ p = some-inj (rw (q, positionFrom) at e) in
         let z : 0 ≡ p - i = omega arith in
@@ -156,7 +162,8 @@ zip-missed n i (x ∷ ns) (w ∷ ws) e = go (zip-missed n (suc i) ns ws) (eqb n 
     go r true q = none≢some (sym (rw (q, positionFrom) at e))
     go r false q = lookup-there n (x, w) (zip ns ws) q ∙ r (rw (q, positionFrom) at e)
 
-visible-word : (es : Enclosure) (n : ℕ) (c : Coordinate) → coordinateOf es n ≡ some c → (y : Enclosing) → atLevel es (c .level) ≡ some y → lookup n (visibleWords es) ≡ getElem? (ownWords y (c .level)) (pred (c .position))
+visible-word : (es : Enclosure) (n : ℕ) (c : Coordinate) → coordinateOf es n ≡ some c → (y : Enclosing) → atLevel es (c .level) ≡ some y
+    → lookup n (visibleWords es) ≡ getElem? (ownWords y (c .level)) (pred (c .position))
 unfolding coordinateOf visibleWords
 visible-word [] n c e y a = none≢some e
 visible-word (x ∷ es) n c e y a = go (visible-word es n c) (positionFrom n 1 (namesOf x)) refl
@@ -188,7 +195,8 @@ visible-none (x ∷ es) n e = go (visible-none es n) (positionFrom n 1 (namesOf 
     own : List ℕ
     own = ownWords x (suc (length es))
 
-    go : (coordinateOf es n ≡ none → lookup n (visibleWords es) ≡ none) → (o : Option ℕ) → positionFrom n 1 (namesOf x) ≡ o → lookup n (zip (namesOf x) own ++ visibleWords es) ≡ none
+    go : (coordinateOf es n ≡ none → lookup n (visibleWords es) ≡ none) → (o : Option ℕ) → positionFrom n 1 (namesOf x) ≡ o
+        → lookup n (zip (namesOf x) own ++ visibleWords es) ≡ none
     go r none q = lookup-right n (zip (namesOf x) own) (visibleWords es) (zip-missed n 1 (namesOf x) own q) ∙ r (sym (coordinate-further x es n q) ∙ e)
     go r (some p) q = none≢some (sym e ∙ coordinate-here x es n p q)
 
@@ -203,7 +211,8 @@ word-none es n e = rw (visible-none es n e, nameWord)
 -- Words by coordinate
 
 module _ (es : Enclosure) (n : ℕ) (c : Coordinate) (found : coordinateOf es n ≡ some c) (e : Enclosing) (stands : atLevel es (c .level) ≡ some e) where
-  pub formal-word : (m : Formal) → getElem? (e .formals) (pred (c .position)) ≡ some m → nameWord es n ≡ packed (pred (c .position)) 1 (kindField (m .kind)) (c .level) 0
+  pub formal-word : (m : Formal) → getElem? (e .formals) (pred (c .position)) ≡ some m
+      → nameWord es n ≡ packed (pred (c .position)) 1 (kindField (m .kind)) (c .level) 0
   formal-word m q = word-some es n _ (visible-word es n c found e stands ∙ own-formal e (c .level) (pred (c .position)) m q)
 
   pub declared-word : (d : Decl) → length (e .formals) < c .position → getElem? (blockDecls (e .text)) (pred (c .position) - length (e .formals)) ≡ some d
@@ -252,7 +261,8 @@ word-none-iff es n = (λ z. go z (coordinateOf es n) refl, word-none es n)
 
 -- Blocks by level, of an enclosure of the text
 
-pub enclosed-at : (t : Block) (es : Enclosure) → Encloses t es → (j : ℕ) (y : Enclosing) → 1 ≤ j → j ≤ length es → atLevel es j ≡ some y → (os : Enclosure) × Encloses t (y ∷ os) × (suc (length os) ≡ j)
+pub enclosed-at : (t : Block) (es : Enclosure) → Encloses t es → (j : ℕ) (y : Enclosing) → 1 ≤ j → j ≤ length es → atLevel es j ≡ some y
+    → (os : Enclosure) × Encloses t (y ∷ os) × (suc (length os) ≡ j)
 enclosed-at t [] w j y l h a = absurd w
 enclosed-at t (e ∷ []) w j y l h a =
     let z : 1 ≡ j = omega arith in
@@ -260,7 +270,8 @@ enclosed-at t (e ∷ []) w j y l h a =
     ([], subst (λ (x : Enclosing). Encloses t (x ∷ [])) same w, z)
 enclosed-at t (e ∷ o ∷ es) w j y l h a = go (enclosed-at t (o ∷ es) (w .1) j y l) (eqb j (suc (suc (length es)))) refl
   where
-    go : (j ≤ suc (length es) → atLevel (o ∷ es) j ≡ some y → (os : Enclosure) × Encloses t (y ∷ os) × (suc (length os) ≡ j)) → (b : Bool) → eqb j (suc (suc (length es))) ≡ b → (os : Enclosure) × Encloses t (y ∷ os) × (suc (length os) ≡ j)
+    go : (j ≤ suc (length es) → atLevel (o ∷ es) j ≡ some y → (os : Enclosure) × Encloses t (y ∷ os) × (suc (length os) ≡ j)) → (b : Bool)
+        → eqb j (suc (suc (length es))) ≡ b → (os : Enclosure) × Encloses t (y ∷ os) × (suc (length os) ≡ j)
     go r true q =
         let z : j ≡ suc (suc (length es)) = eqb-true j (suc (suc (length es))) q in
         let same : e ≡ y = some-inj (sym (level-here e (o ∷ es)) ∙ ap (atLevel (e ∷ o ∷ es)) (sym z) ∙ a) in
@@ -277,8 +288,10 @@ pub record NameIs (w : ℕ) (c : Coordinate) (e : Enclosing) : Type 0 where
   pub declared : length (e .formals) < c .position → formalIn w ≡ 0
   pub formal-kind : (m : Formal) → getElem? (e .formals) (pred (c .position)) ≡ some m → kindIn w ≡ kindField (m .kind)
   pub formal-target : c .position ≤ length (e .formals) → targetIn w ≡ 0
-  pub declared-kind : (d : Decl) → length (e .formals) < c .position → getElem? (blockDecls (e .text)) (pred (c .position) - length (e .formals)) ≡ some d → kindIn w ≡ declKindField d
-  pub declared-target : (d : Decl) → length (e .formals) < c .position → getElem? (blockDecls (e .text)) (pred (c .position) - length (e .formals)) ≡ some d → targetIn w ≡ declTarget (e .text) d
+  pub declared-kind : (d : Decl) → length (e .formals) < c .position
+      → getElem? (blockDecls (e .text)) (pred (c .position) - length (e .formals)) ≡ some d → kindIn w ≡ declKindField d
+  pub declared-target : (d : Decl) → length (e .formals) < c .position
+      → getElem? (blockDecls (e .text)) (pred (c .position) - length (e .formals)) ≡ some d → targetIn w ≡ declTarget (e .text) d
 
 module _ (t : Block) (keeps : Keeps t) (es : Enclosure) (within : Encloses t es) (n : ℕ) (c : Coordinate) (found : coordinateOf es n ≡ some c) (e : Enclosing) (stands : atLevel es (c .level) ≡ some e) where
   pub position-few : c .position ≤ 32
@@ -293,7 +306,14 @@ module _ (t : Block) (keeps : Keeps t) (es : Enclosure) (within : Encloses t es)
       (d .low, omega (arith, d .high, (enclosure-level t keeps es within) .1))
 
   Parts : ℕ → ℕ → ℕ → Type 0
-  Parts formal kind target = record { at : positionIn (nameWord es n) ≡ pred (c .position); in-level : levelIn (nameWord es n) ≡ c .level; is-formal : formalIn (nameWord es n) ≡ formal; of-kind : kindIn (nameWord es n) ≡ kind; leads : targetIn (nameWord es n) ≡ target }
+  Parts formal kind target =
+      record {
+        at : positionIn (nameWord es n) ≡ pred (c .position);
+        in-level : levelIn (nameWord es n) ≡ c .level;
+        is-formal : formalIn (nameWord es n) ≡ formal;
+        of-kind : kindIn (nameWord es n) ≡ kind;
+        leads : targetIn (nameWord es n) ≡ target;
+      }
 
   parts : (formal kind target : ℕ) → formal < 2 → kind < 3 → nameWord es n ≡ packed (pred (c .position)) formal kind (c .level) target → Parts formal kind target
   unfolding Parts
@@ -313,7 +333,8 @@ module _ (t : Block) (keeps : Keeps t) (es : Enclosure) (within : Encloses t es)
   formal-parts : (m : Formal) → getElem? (e .formals) (pred (c .position)) ≡ some m → Parts 1 (kindField (m .kind)) 0
   formal-parts m q = parts 1 (kindField (m .kind)) 0 (omega arith) (kind-small (m .kind)) (formal-word es n c found e stands m q)
 
-  declared-parts : (d : Decl) → length (e .formals) < c .position → getElem? (blockDecls (e .text)) (pred (c .position) - length (e .formals)) ≡ some d → Parts 0 (declKindField d) (declTarget (e .text) d)
+  declared-parts : (d : Decl) → length (e .formals) < c .position
+      → getElem? (blockDecls (e .text)) (pred (c .position) - length (e .formals)) ≡ some d → Parts 0 (declKindField d) (declTarget (e .text) d)
   declared-parts d h q = parts 0 (declKindField d) (declTarget (e .text) d) (omega arith) (decl-kind-small d) (declared-word es n c found e stands d h q)
 
   pub name-is : NameIs (nameWord es n) c e

@@ -104,14 +104,16 @@ pub before-within : (b : Block) (i : ℕ) → before b i ≤ length (blockFields
 unfolding before blockFields
 before-within (block at ds ss) i = omega (arith, stmts-within ss i, length-append (declsFields ds) (stmtsFields ss))
 
-pub body-within : (b : Block) (i at n : ℕ) (fs : List Formal) (body : Block) → getElem? (blockDecls b) i ≡ some (PR at n fs body) → beforeBody b i fs + length (blockFields body) ≤ length (blockFields b)
+pub body-within : (b : Block) (i at n : ℕ) (fs : List Formal) (body : Block) → getElem? (blockDecls b) i ≡ some (PR at n fs body)
+    → beforeBody b i fs + length (blockFields body) ≤ length (blockFields b)
 unfolding blockDecls beforeBody blockFields
 body-within (block a ds ss) i at n fs body e =
     omega (arith, decls-within ds i (PR at n fs body) e, length-append (declsFields ds) (stmtsFields ss), length-append (formalsFields fs) (blockFields body))
 
 -- What is formed at a place
 
-stmts-formed : (ss : Stmts) (level q i : ℕ) (x : Stmt) → FormedStmts ss level (2 * q) → getElem? (stmts ss) i ≡ some x → FormedStmt x level (2 * (q + stmtsBefore ss i))
+stmts-formed : (ss : Stmts) (level q i : ℕ) (x : Stmt) → FormedStmts ss level (2 * q) → getElem? (stmts ss) i ≡ some x
+    → FormedStmt x level (2 * (q + stmtsBefore ss i))
 unfolding FormedBlock stmts stmtsBefore
 stmts-formed no-stmt level q i x h e = none≢some e
 stmts-formed (stmt y ss) level q zero x h e =
@@ -123,7 +125,8 @@ stmts-formed (stmt y ss) level q (suc i) x h e =
     let z : 2 * (q + n + stmtsBefore ss i) ≡ 2 * (q + (n + stmtsBefore ss i)) = omega arith in
     subst (FormedStmt x level) z (stmts-formed ss level (q + n) i x (subst (FormedStmts ss level) a (h .1)) e)
 
-decls-formed : (ds : Decls) (level s q i : ℕ) (d : Decl) → FormedDecls ds level s (2 * q) → getElem? (decls ds) i ≡ some d → FormedDecl d level s (2 * (q + declsBefore ds i))
+decls-formed : (ds : Decls) (level s q i : ℕ) (d : Decl) → FormedDecls ds level s (2 * q) → getElem? (decls ds) i ≡ some d
+    → FormedDecl d level s (2 * (q + declsBefore ds i))
 unfolding FormedBlock decls declsBefore
 decls-formed no-decl level s q i d h e = none≢some e
 decls-formed (decl c ds) level s q zero d h e =
@@ -144,7 +147,8 @@ unfolding FormedBlock stmtAt
 stmt-stands-at (BK b) level here h = block-stands b (suc level) [] here h
 stmt-stands-at (DO at a) level here h = h .stands
 
-pub stmt-formed : (b : Block) (level : ℕ) (fs : List Formal) (p : ℕ) → FormedBlock b level fs (2 * p) → (i : ℕ) (x : Stmt) → getElem? (blockStmts b) i ≡ some x → FormedStmt x level (2 * (p + before b i))
+pub stmt-formed : (b : Block) (level : ℕ) (fs : List Formal) (p : ℕ) → FormedBlock b level fs (2 * p) → (i : ℕ) (x : Stmt)
+    → getElem? (blockStmts b) i ≡ some x → FormedStmt x level (2 * (p + before b i))
 unfolding FormedBlock blockStmts before
 stmt-formed (block at ds ss) level fs p h i x e =
     let n = length (declsFields ds) in
@@ -152,7 +156,8 @@ stmt-formed (block at ds ss) level fs p h i x e =
     let z : 2 * (p + 3 + n + stmtsBefore ss i) ≡ 2 * (p + (3 + (n + stmtsBefore ss i))) = omega arith in
     subst (FormedStmt x level) z (stmts-formed ss level (p + 3 + n) i x (subst (FormedStmts ss level) a (h .statements)) e)
 
-pub decl-formed : (b : Block) (level : ℕ) (fs : List Formal) (p : ℕ) → FormedBlock b level fs (2 * p) → (i at n : ℕ) (gs : List Formal) (body : Block) → getElem? (blockDecls b) i ≡ some (PR at n gs body)
+pub decl-formed : (b : Block) (level : ℕ) (fs : List Formal) (p : ℕ) → FormedBlock b level fs (2 * p)
+    → (i at n : ℕ) (gs : List Formal) (body : Block) → getElem? (blockDecls b) i ≡ some (PR at n gs body)
     → FormedBlock body (suc level) gs (2 * (p + beforeBody b i gs))
 unfolding FormedBlock blockDecls beforeBody
 decl-formed (block a ds ss) level fs p h i at n gs body e =
@@ -241,7 +246,8 @@ pub record Placed (t : Block) (e : Enclosing) (es : Enclosure) : Type 0 where
   pub formed : FormedBlock (e .text) (suc (length es)) (e .formals) (2 * place)
   pub within : place + length (blockFields (e .text)) ≤ length (blockFields t)
 
-block-inside : (b : Block) (i : ℕ) (c : Block) → getElem? (blockStmts b) i ≡ some (BK c) → (p m : ℕ) → p + length (blockFields b) ≤ m → p + before b i + length (blockFields c) ≤ m
+block-inside : (b : Block) (i : ℕ) (c : Block) → getElem? (blockStmts b) i ≡ some (BK c) → (p m : ℕ) → p + length (blockFields b) ≤ m
+    → p + before b i + length (blockFields c) ≤ m
 unfolding blockFields
 block-inside b i c e p m h =
     let n : before b (suc i) ≡ before b i + length (blockFields c) = before-next b i (BK c) e in
@@ -290,7 +296,8 @@ module _ (t : Block) (keeps : Keeps t) (e : Enclosing) (es : Enclosure) (within 
   end-bound =
       omega (arith, end-is (e .text) (suc (length es)) (e .formals) (placed .place) (placed .formed), placed .within, keeps .size, length-bytes (blockFields t))
 
-  pub enclosed-next : (i : ℕ) (x : Stmt) → getElem? (blockStmts (e .text)) i ≡ some x → stmtPlace (e .text) (suc (suc i)) ≡ placeOf (stmtAt x) + length (stmtFields x)
+  pub enclosed-next : (i : ℕ) (x : Stmt) → getElem? (blockStmts (e .text)) i ≡ some x
+      → stmtPlace (e .text) (suc (suc i)) ≡ placeOf (stmtAt x) + length (stmtFields x)
   enclosed-next i x q = next-place (e .text) (suc (length es)) (e .formals) (placed .place) (placed .formed) i x q
 
   pub enclosed-after-block : (i : ℕ) (c : Block) → getElem? (blockStmts (e .text)) i ≡ some (BK c) → stmtPlace (e .text) (suc (suc i)) ≡ endPlace c

@@ -24,7 +24,8 @@ moved code p q ws e h = subst (λ x. Covers code x ws) e h
 -- In a block's resolved text
 
 module _ (code : List ℕ) (name : ℕ) where
-  stmts-cover : (ss : Stmts) (es : Enclosure) (q i : ℕ) (x : Stmt) → Covers code q (resolvedStmts name ss es) → getElem? (stmts ss) i ≡ some x → Covers code (q + stmtsBefore ss i) (resolvedStmt name x es)
+  stmts-cover : (ss : Stmts) (es : Enclosure) (q i : ℕ) (x : Stmt) → Covers code q (resolvedStmts name ss es) → getElem? (stmts ss) i ≡ some x
+      → Covers code (q + stmtsBefore ss i) (resolvedStmt name x es)
   unfolding resolvedBlock stmts stmtsBefore
   stmts-cover no-stmt es q i x h e = none≢some e
   stmts-cover (stmt y ss) es q zero x h e =
@@ -36,7 +37,8 @@ module _ (code : List ℕ) (name : ℕ) where
       let z : q + n + stmtsBefore ss i ≡ q + (n + stmtsBefore ss i) = omega arith in
       moved code _ _ (resolvedStmt name x es) z (stmts-cover ss es (q + n) i x (moved code _ _ (resolvedStmts name ss es) a (covers-second code q (resolvedStmt name y es) (resolvedStmts name ss es) h)) e)
 
-  decls-cover : (ds : Decls) (es : Enclosure) (q i : ℕ) (d : Decl) → Covers code q (resolvedDecls name ds es) → getElem? (decls ds) i ≡ some d → Covers code (q + declsBefore ds i) (resolvedDecl name d es)
+  decls-cover : (ds : Decls) (es : Enclosure) (q i : ℕ) (d : Decl) → Covers code q (resolvedDecls name ds es) → getElem? (decls ds) i ≡ some d
+      → Covers code (q + declsBefore ds i) (resolvedDecl name d es)
   unfolding resolvedBlock decls declsBefore
   decls-cover no-decl es q i d h e = none≢some e
   decls-cover (decl c ds) es q zero d h e =
@@ -48,7 +50,8 @@ module _ (code : List ℕ) (name : ℕ) where
       let z : q + n + declsBefore ds i ≡ q + (n + declsBefore ds i) = omega arith in
       moved code _ _ (resolvedDecl name d es) z (decls-cover ds es (q + n) i d (moved code _ _ (resolvedDecls name ds es) a (covers-second code q (resolvedDecl name c es) (resolvedDecls name ds es) h)) e)
 
-  inner-stmt : (b : Block) (fs : List Formal) (es : Enclosure) (p i : ℕ) (x : Stmt) → Covers code p (resolvedBlock name b fs es) → getElem? (blockStmts b) i ≡ some x → Covers code (p + before b i) (resolvedStmt name x (enclosed fs b ∷ es))
+  inner-stmt : (b : Block) (fs : List Formal) (es : Enclosure) (p i : ℕ) (x : Stmt) → Covers code p (resolvedBlock name b fs es)
+      → getElem? (blockStmts b) i ≡ some x → Covers code (p + before b i) (resolvedStmt name x (enclosed fs b ∷ es))
   unfolding resolvedBlock header blockStmts before
   inner-stmt (block at ds ss) fs es p i x h e =
       let os = enclosed fs (block at ds ss) ∷ es in
@@ -57,7 +60,8 @@ module _ (code : List ℕ) (name : ℕ) where
       let z : p + 3 + n + stmtsBefore ss i ≡ p + (3 + (n + stmtsBefore ss i)) = omega arith in
       moved code _ _ (resolvedStmt name x os) z (stmts-cover ss os (p + 3 + n) i x (moved code _ _ (resolvedStmts name ss os) a (covers-second code (p + 1 + 1 + 1) (resolvedDecls name ds os) (resolvedStmts name ss os) (h .1 .1 .1))) e)
 
-  inner-decl : (b : Block) (fs : List Formal) (es : Enclosure) (p i at n : ℕ) (gs : List Formal) (body : Block) → Covers code p (resolvedBlock name b fs es) → getElem? (blockDecls b) i ≡ some (PR at n gs body)
+  inner-decl : (b : Block) (fs : List Formal) (es : Enclosure) (p i at n : ℕ) (gs : List Formal) (body : Block)
+      → Covers code p (resolvedBlock name b fs es) → getElem? (blockDecls b) i ≡ some (PR at n gs body)
       → Covers code (p + beforeBody b i gs - length (formalsFields gs)) (resolvedFormals gs ++ resolvedBlock name body gs (enclosed fs b ∷ es))
   unfolding resolvedBlock header blockDecls beforeBody
   inner-decl (block a ds ss) fs es p i at n gs body h e =
@@ -68,7 +72,8 @@ module _ (code : List ℕ) (name : ℕ) where
       let c : Covers code (p + 1 + 1 + 1 + k) (resolvedDecl name (PR at n gs body) os) = decls-cover ds os (p + 1 + 1 + 1) i (PR at n gs body) (covers-first code (p + 1 + 1 + 1) (resolvedDecls name ds os) (resolvedStmts name ss os) (h .1 .1 .1)) e in
       moved code _ _ (resolvedFormals gs ++ resolvedBlock name body gs os) z (c .1 .1 .1)
 
-  inner-body : (b : Block) (fs : List Formal) (es : Enclosure) (p i at n : ℕ) (gs : List Formal) (body : Block) → Covers code p (resolvedBlock name b fs es) → getElem? (blockDecls b) i ≡ some (PR at n gs body)
+  inner-body : (b : Block) (fs : List Formal) (es : Enclosure) (p i at n : ℕ) (gs : List Formal) (body : Block)
+      → Covers code p (resolvedBlock name b fs es) → getElem? (blockDecls b) i ≡ some (PR at n gs body)
       → Covers code (p + beforeBody b i gs) (resolvedBlock name body gs (enclosed fs b ∷ es))
   unfolding beforeBody
   inner-body (block a ds ss) fs es p i at n gs body h e =
@@ -82,7 +87,8 @@ module _ (code : List ℕ) (name : ℕ) where
       let e = enclosed fs (block at ds ss) in
       covers-first code p (header name e es) (resolvedDecls name ds (e ∷ es) ++ resolvedStmts name ss (e ∷ es)) h
 
-kind-covered : (code : List ℕ) (fs : List Formal) (p k : ℕ) (m : Formal) → Covers code p (resolvedFormals fs) → getElem? fs k ≡ some m → getD code (p + 3 * k + 2) 0 ≡ kindField (m .kind)
+kind-covered : (code : List ℕ) (fs : List Formal) (p k : ℕ) (m : Formal) → Covers code p (resolvedFormals fs) → getElem? fs k ≡ some m
+    → getD code (p + 3 * k + 2) 0 ≡ kindField (m .kind)
 unfolding resolvedFormals
 kind-covered code [] p k m h e = none≢some e
 kind-covered code (f ∷ fs) p zero m h e =
@@ -100,7 +106,9 @@ body-far (block at ds ss) i fs = omega arith
 
 module _ (code : List ℕ) (name : ℕ) (t : Block) (keeps : Keeps t) (covered : Covers code 0 (resolvedOf name t)) where
   -- the place of a block that stands in another
-  inside : (o e : Enclosing) (es : Enclosure) → Encloses t (o ∷ es) → Covers code (placeOf (blockAt (o .text))) (resolvedBlock name (o .text) (o .formals) es) → StandsIn e (o .text) → Covers code (placeOf (blockAt (e .text))) (resolvedBlock name (e .text) (e .formals) (o ∷ es))
+  inside : (o e : Enclosing) (es : Enclosure) → Encloses t (o ∷ es)
+      → Covers code (placeOf (blockAt (o .text))) (resolvedBlock name (o .text) (o .formals) es) → StandsIn e (o .text)
+      → Covers code (placeOf (blockAt (e .text))) (resolvedBlock name (e .text) (e .formals) (o ∷ es))
   unfolding resolvedBlock stmtAt
   inside o e es w h (as-block i q r) =
       let p = placeOf (blockAt (o .text)) in
@@ -118,7 +126,8 @@ module _ (code : List ℕ) (name : ℕ) (t : Block) (keeps : Keeps t) (covered :
   unfolding resolvedOf
   program = moved code 0 (placeOf (blockAt t)) (resolvedBlock name t [] []) (sym (block-place t 1 [] 0 (keeps .formed))) covered
 
-  pub block-covered : (e : Enclosing) (es : Enclosure) → Encloses t (e ∷ es) → Covers code (placeOf (blockAt (e .text))) (resolvedBlock name (e .text) (e .formals) es)
+  pub block-covered : (e : Enclosing) (es : Enclosure) → Encloses t (e ∷ es)
+      → Covers code (placeOf (blockAt (e .text))) (resolvedBlock name (e .text) (e .formals) es)
   unfolding whole
   block-covered e [] w = subst (λ (x : Enclosing). Covers code (placeOf (blockAt (x .text))) (resolvedBlock name (x .text) (x .formals) [])) (sym w) program
   block-covered e (o ∷ es) w = inside o e es (w .1) (block-covered o es (w .1)) (w .0)
@@ -154,7 +163,8 @@ module _ (code : List ℕ) (name : ℕ) (t : Block) (keeps : Keeps t) (covered :
         ap (λ q. getD code q 0) z ∙ header-covered .1 .1 .0
 
     -- a procedure that the block declares: its body's formals
-    pub formals-covered : (i at n : ℕ) (gs : List Formal) (body : Block) → getElem? (blockDecls (e .text)) i ≡ some (PR at n gs body) → Covers code (placeOf (blockAt body) - 3 * length gs) (resolvedFormals gs)
+    pub formals-covered : (i at n : ℕ) (gs : List Formal) (body : Block) → getElem? (blockDecls (e .text)) i ≡ some (PR at n gs body)
+        → Covers code (placeOf (blockAt body) - 3 * length gs) (resolvedFormals gs)
     formals-covered i at n gs body q =
         let b = e .text in
         let p = placeOf (blockAt b) in
@@ -163,14 +173,16 @@ module _ (code : List ℕ) (name : ℕ) (t : Block) (keeps : Keeps t) (covered :
         moved code _ _ (resolvedFormals gs) z (covers-first code _ (resolvedFormals gs) (resolvedBlock name body gs (e ∷ es)) (inner-decl code name b (e .formals) es p i at n gs body (block-covered e es within) q))
 
     -- formals stand behind the declaring PR, so the place is no cut difference
-    pub formals-before : (i at n : ℕ) (gs : List Formal) (body : Block) → getElem? (blockDecls (e .text)) i ≡ some (PR at n gs body) → 3 * length gs ≤ placeOf (blockAt body)
+    pub formals-before : (i at n : ℕ) (gs : List Formal) (body : Block) → getElem? (blockDecls (e .text)) i ≡ some (PR at n gs body)
+        → 3 * length gs ≤ placeOf (blockAt body)
     formals-before i at n gs body q =
         let b = e .text in
         let p = placeOf (blockAt b) in
         let s : blockAt body ≡ 2 * (p + beforeBody b i gs) = body-stands b (suc (length es)) (e .formals) p (enclosed-formed t keeps e es within) i at n gs body q in
         omega (arith, body-far b i gs, formals-fields gs)
 
-    pub formal-kind-stands : (i at n : ℕ) (gs : List Formal) (body : Block) → getElem? (blockDecls (e .text)) i ≡ some (PR at n gs body) → (k : ℕ) (m : Formal) → getElem? gs k ≡ some m
+    pub formal-kind-stands : (i at n : ℕ) (gs : List Formal) (body : Block) → getElem? (blockDecls (e .text)) i ≡ some (PR at n gs body)
+        → (k : ℕ) (m : Formal) → getElem? gs k ≡ some m
         → getD code (placeOf (blockAt body) - 3 * length gs + 3 * k + 2) 0 ≡ kindField (m .kind)
     formal-kind-stands i at n gs body q k m r = kind-covered code gs (placeOf (blockAt body) - 3 * length gs) k m (formals-covered i at n gs body q) r
 

@@ -162,7 +162,8 @@ module _ (t : Block) (keeps : Keeps t) where
   action-small es w (RM g m) h = (omega arith, (name-small t keeps es w g, (name-small t keeps es w m, tt)))
   action-small es w (QY g l m) h = (omega arith, (name-small t keeps es w g, (name-small t keeps es w l, (name-small t keeps es w m, tt))))
 
-  formed-action : (o : Enclosing) (es : Enclosure) → Encloses t (o ∷ es) → (i at : ℕ) (a : Action) → getElem? (blockStmts (o .text)) i ≡ some (DO at a) → FormedAction a
+  formed-action : (o : Enclosing) (es : Enclosure) → Encloses t (o ∷ es) → (i at : ℕ) (a : Action)
+      → getElem? (blockStmts (o .text)) i ≡ some (DO at a) → FormedAction a
   unfolding FormedBlock
   formed-action o es w i at a q = (stmt-formed (o .text) (suc (length es)) (o .formals) _ (enclosed-formed t keeps o es w) i (DO at a) q) .action
 
@@ -180,23 +181,29 @@ module _ (t : Block) (keeps : Keeps t) where
           each-append Small (header name e es) (resolvedDecls name ds (e ∷ es) ++ resolvedStmts name ss (e ∷ es)) (header-small name e es w)
           (each-append Small (resolvedDecls name ds (e ∷ es)) (resolvedStmts name ss (e ∷ es)) (decls-small ds e es w (λ i d q. (i, q))) (stmts-small ss e es w (λ i x q. (i, q))))
 
-      decl-small : (d : Decl) (o : Enclosing) (es : Enclosure) → Encloses t (o ∷ es) → (i : ℕ) → getElem? (blockDecls (o .text)) i ≡ some d → Each Small (resolvedDecl name d (o ∷ es))
+      decl-small : (d : Decl) (o : Enclosing) (es : Enclosure) → Encloses t (o ∷ es) → (i : ℕ) → getElem? (blockDecls (o .text)) i ≡ some d
+          → Each Small (resolvedDecl name d (o ∷ es))
       decl-small (VR at n) o es w i q = (omega arith, (omega arith, tt))
       decl-small (LB at n k) o es w i q = (omega arith, (omega arith, (omega arith, tt)))
       decl-small (PR at n fs b) o es w i q =
           (omega arith, (omega arith, (omega arith, each-append Small (resolvedFormals fs) (resolvedBlock name b fs (o ∷ es)) (formals-small fs) (block-small b fs (o ∷ es) (as-body i at n q, w)))))
 
-      stmt-small : (x : Stmt) (o : Enclosing) (es : Enclosure) → Encloses t (o ∷ es) → (i : ℕ) → getElem? (blockStmts (o .text)) i ≡ some x → Each Small (resolvedStmt name x (o ∷ es))
+      stmt-small : (x : Stmt) (o : Enclosing) (es : Enclosure) → Encloses t (o ∷ es) → (i : ℕ) → getElem? (blockStmts (o .text)) i ≡ some x
+          → Each Small (resolvedStmt name x (o ∷ es))
       stmt-small (BK b) o es w i q = block-small b [] (o ∷ es) (as-block i q refl, w)
       stmt-small (DO at a) o es w i q = action-small (o ∷ es) w a (formed-action o es w i at a q)
 
       -- the declarations, and the statements, are among the block's
-      decls-small : (ds : Decls) (o : Enclosing) (es : Enclosure) → Encloses t (o ∷ es) → ((i : ℕ) (d : Decl) → getElem? (decls ds) i ≡ some d → (j : ℕ) × (getElem? (blockDecls (o .text)) j ≡ some d)) → Each Small (resolvedDecls name ds (o ∷ es))
+      decls-small : (ds : Decls) (o : Enclosing) (es : Enclosure) → Encloses t (o ∷ es)
+          → ((i : ℕ) (d : Decl) → getElem? (decls ds) i ≡ some d → (j : ℕ) × (getElem? (blockDecls (o .text)) j ≡ some d))
+          → Each Small (resolvedDecls name ds (o ∷ es))
       decls-small no-decl o es w g = tt
       decls-small (decl d ds) o es w g =
           each-append Small (resolvedDecl name d (o ∷ es)) (resolvedDecls name ds (o ∷ es)) (decl-small d o es w ((g 0 d refl) .0) ((g 0 d refl) .1)) (decls-small ds o es w (λ i c q. g (suc i) c q))
 
-      stmts-small : (ss : Stmts) (o : Enclosing) (es : Enclosure) → Encloses t (o ∷ es) → ((i : ℕ) (x : Stmt) → getElem? (stmts ss) i ≡ some x → (j : ℕ) × (getElem? (blockStmts (o .text)) j ≡ some x)) → Each Small (resolvedStmts name ss (o ∷ es))
+      stmts-small : (ss : Stmts) (o : Enclosing) (es : Enclosure) → Encloses t (o ∷ es)
+          → ((i : ℕ) (x : Stmt) → getElem? (stmts ss) i ≡ some x → (j : ℕ) × (getElem? (blockStmts (o .text)) j ≡ some x))
+          → Each Small (resolvedStmts name ss (o ∷ es))
       stmts-small no-stmt o es w g = tt
       stmts-small (stmt x ss) o es w g =
           each-append Small (resolvedStmt name x (o ∷ es)) (resolvedStmts name ss (o ∷ es)) (stmt-small x o es w ((g 0 x refl) .0) ((g 0 x refl) .1)) (stmts-small ss o es w (λ i y q. g (suc i) y q))

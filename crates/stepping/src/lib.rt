@@ -10,14 +10,9 @@ ghost use lib.Signed.{mag, ltZ};
 ghost use Rattle.language.specs.Encoding as encoding;
 ghost use Rattle.language.specs.Text.{plus, minus, less};
 ghost use Rattle.language.specs.Machine.{compute};
-ghost use Rattle.stepping.specs.Effects.{effectOf, wordsOf, sameKinds, handedWord, Cleared};
+ghost use Rattle.acting.specs.Effects.{effectOf, wordsOf, sameKinds, handedWord, Cleared};
+use acting::Effect;
 use language::Stop;
-
-// What a statement comes to: it is done, or there is a cause to stop.
-pub enum Effect {
-    Done,
-    Stopped(Stop),
-}
 
 // A word of the resolved script.
 pub fn code_at(code: &[u32; 4096], at: usize) -> usize

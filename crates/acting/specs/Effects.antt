@@ -9,8 +9,8 @@ use lib.ListN.{length, getD, set}
 use lib.Signed.{mag}
 use Rattle.language.specs.declared.Stop.the-variants.{ResultTooLarge}
 use Rattle.resolved.specs.Resolved.{kindIn, targetIn, direct}
-use Rattle.stepping.specs.declared.Effect.{Effect}
-use Rattle.stepping.specs.declared.Effect.the-variants.{Done, Stopped}
+use Rattle.acting.specs.declared.Effect.{Effect}
+use Rattle.acting.specs.declared.Effect.the-variants.{Done, Stopped}
 
 -- AR's value is stored where it fits signed 32 bits; else 21
 unfoldable pub effectOf : ℤ → Effect

@@ -1,0 +1,317 @@
+// The statements, each with its names found by the display. `at` is the place of the statement's operation. A statement none of whose
+// names is a formal has a function of its own.
+use super::names::cell;
+use super::names::first_cell;
+use super::names::held;
+use super::names::own_cell;
+use acting::Effect;
+use acting::Move;
+use language::Stop;
+use pairs::Change;
+use pairs::Query;
+use stepping::code_at;
+ghost use mathlib.Core.Path.{_≡_};
+ghost use Prim.Native.Nat.{_+_, _*_, _<_, _≤_};
+ghost use lib.ListN.{length, getD};
+ghost use Rattle.display.specs.Arms.{Arm, KnDirect, KnFormal, ArDirect, ArFormal, GoDirect, GoFormal, IfDirect, IfFormal, Blocks, CallDirect, CallFormal, Paired, Queried};
+
+fn own_at(code: &[u32; 4096], display: &[u16; 256], place: usize) -> usize
+    requires { ⌜ place < 4096 ⌝ }
+    ensures { λ r. ⌜ r ≡ cellIn (now (display .entry)) (getD (now (code .entry)) place 0) ⌝ }
+{
+    own_cell(display, code_at(code, place))
+}
+
+fn cell_at(code: &[u32; 4096], words: &[i32; 8224], display: &[u16; 256], place: usize) -> usize
+    requires { ⌜ (place < 4096) × Reached (now words) (now display) (getD (now code) place 0) ⌝ }
+    ensures { λ r. ⌜ r ≡ cellThrough (now (words .entry)) (now (display .entry)) (getD (now (code .entry)) place 0) ⌝ }
+{
+    cell(words, display, code_at(code, place))
+}
+
+// KN
+fn constant(code: &[u32; 4096], words: &mut [i32; 8224], target: usize, at: usize) -> Move
+    requires { ⌜ (target < 8192) × (at + 4 ≤ 4096) ⌝ }
+    ensures { λ r. ⌜ (r ≡ Move.On (at + 4)) × (now (words .exit) ≡ set (now (words .entry)) target (signed (getD (now (code .entry)) (at + 2) 0))) ⌝ }
+{
+    stepping::store(words, target, stepping::signed(code_at(code, at + 2)));
+    Move::On(at + 4)
+}
+
+pub fn do_constant(
+    code: &[u32; 4096],
+    words: &mut [i32; 8224],
+    display: &[u16; 256],
+    at: usize,
+) -> Move {
+    constant(code, words, own_at(code, display, at + 1), at)
+}
+
+pub fn do_constant_formal(
+    code: &[u32; 4096],
+    words: &mut [i32; 8224],
+    display: &[u16; 256],
+    at: usize,
+) -> Move {
+    constant(code, words, cell_at(code, words, display, at + 1), at)
+}
+
+// AR
+fn computed(effect: Effect, at: usize) -> Move {
+    match effect {
+        Effect::Done => Move::On(at + 5),
+        Effect::Stopped(cause) => Move::Stop(cause),
+    }
+}
+
+pub fn do_add(
+    code: &[u32; 4096],
+    words: &mut [i32; 8224],
+    display: &[u16; 256],
+    at: usize,
+) -> Move {
+    let target = own_at(code, display, at + 1);
+    let left = own_at(code, display, at + 3);
+    let right = own_at(code, display, at + 4);
+    computed(stepping::add(words, target, left, right), at)
+}
+
+pub fn do_subtract(
+    code: &[u32; 4096],
+    words: &mut [i32; 8224],
+    display: &[u16; 256],
+    at: usize,
+) -> Move {
+    let target = own_at(code, display, at + 1);
+    let left = own_at(code, display, at + 3);
+    let right = own_at(code, display, at + 4);
+    computed(stepping::subtract(words, target, left, right), at)
+}
+
+pub fn do_compare(
+    code: &[u32; 4096],
+    words: &mut [i32; 8224],
+    display: &[u16; 256],
+    at: usize,
+) -> Move {
+    let target = own_at(code, display, at + 1);
+    let left = own_at(code, display, at + 3);
+    let right = own_at(code, display, at + 4);
+    stepping::compare(words, target, left, right);
+    Move::On(at + 5)
+}
+
+pub fn do_arithmetic_formal(
+    code: &[u32; 4096],
+    words: &mut [i32; 8224],
+    display: &[u16; 256],
+    at: usize,
+) -> Move {
+    let target = cell_at(code, words, display, at + 1);
+    let left = cell_at(code, words, display, at + 3);
+    let right = cell_at(code, words, display, at + 4);
+    let operation = code_at(code, at + 2);
+    if operation == 0 {
+        return computed(stepping::add(words, target, left, right), at);
+    }
+    if operation == 1 {
+        return computed(stepping::subtract(words, target, left, right), at);
+    }
+    stepping::compare(words, target, left, right);
+    Move::On(at + 5)
+}
+
+// GO
+pub fn do_goto(code: &[u32; 4096], display: &[u16; 256], at: usize) -> Move {
+    let label = code_at(code, at + 1);
+    Move::Jump(first_cell(display, label) / 32, label / 65536)
+}
+
+pub fn do_goto_formal(
+    code: &[u32; 4096],
+    words: &[i32; 8224],
+    display: &[u16; 256],
+    at: usize,
+) -> Move {
+    let to = held(words, display, code_at(code, at + 1));
+    Move::Jump(to % 8192 / 32, to / 8192)
+}
+
+// IF
+pub fn do_branch(code: &[u32; 4096], words: &[i32; 8224], display: &[u16; 256], at: usize) -> Move {
+    if words[own_at(code, display, at + 2)] == 0 {
+        return Move::On(at + 3);
+    }
+    do_goto(code, display, at)
+}
+
+pub fn do_branch_formal(
+    code: &[u32; 4096],
+    words: &[i32; 8224],
+    display: &[u16; 256],
+    at: usize,
+) -> Move {
+    if words[cell_at(code, words, display, at + 2)] == 0 {
+        return Move::On(at + 3);
+    }
+    if code_at(code, at + 1) / 32 % 2 == 0 {
+        return do_goto(code, display, at);
+    }
+    do_goto_formal(code, words, display, at)
+}
+
+// BK: the new activation is linked to the innermost one.
+pub fn do_block(code: &[u32; 4096], limit: usize, live: usize, at: usize) -> Move {
+    if limit <= live + 1 {
+        return Move::Stop(Stop::NoActivationLeft);
+    }
+    Move::Enter(at, live, code_at(code, at + 1) % 65536)
+}
+
+// What the arguments hand on goes to the first cells of the next activation.
+fn arguments(
+    code: &[u32; 4096],
+    words: &mut [i32; 8224],
+    display: &[u16; 256],
+    live: usize,
+    at: usize,
+    count: usize,
+) {
+    let first = 32 * live + 32;
+    let mut i = 0;
+    while i < count {
+        let word = code_at(code, at + i);
+        words[first + i] = stepping::handed(words, word, own_cell(display, word));
+        i += 1;
+    }
+}
+
+// CL, once the procedure is found: the activation that declares it and the place of its body.
+fn enter_body(
+    code: &[u32; 4096],
+    words: &mut [i32; 8224],
+    display: &[u16; 256],
+    limit: usize,
+    live: usize,
+    at: usize,
+    home: usize,
+    body: usize,
+) -> Move {
+    if limit <= live + 1 {
+        return Move::Stop(Stop::NoActivationLeft);
+    }
+    let count = code_at(code, at + 2);
+    arguments(code, words, display, live, at + 3, count);
+    Move::Enter(body, home, at + 3 + count)
+}
+
+pub fn do_call(
+    code: &[u32; 4096],
+    words: &mut [i32; 8224],
+    display: &[u16; 256],
+    limit: usize,
+    live: usize,
+    at: usize,
+) -> Move {
+    let procedure = code_at(code, at + 1);
+    let home = first_cell(display, procedure) / 32;
+    enter_body(
+        code,
+        words,
+        display,
+        limit,
+        live,
+        at,
+        home,
+        procedure / 65536,
+    )
+}
+
+// 26 goes before 22.
+pub fn do_call_formal(
+    code: &[u32; 4096],
+    words: &mut [i32; 8224],
+    display: &[u16; 256],
+    limit: usize,
+    live: usize,
+    at: usize,
+) -> Move {
+    let procedure = held(words, display, code_at(code, at + 1));
+    let body = procedure / 8192;
+    let count = code_at(code, at + 2);
+    if code_at(code, body) / 65536 % 256 != count {
+        return Move::Stop(Stop::ArgumentsDiffer);
+    }
+    if !stepping::kinds_agree(code, at + 3, body - 3 * count, count) {
+        return Move::Stop(Stop::ArgumentsDiffer);
+    }
+    enter_body(
+        code,
+        words,
+        display,
+        limit,
+        live,
+        at,
+        procedure % 8192 / 32,
+        body,
+    )
+}
+
+// AD and RM
+fn changed(change: Change, at: usize) -> Move {
+    match change {
+        Change::Done(pairs) => Move::Pairs(at + 3, pairs),
+        Change::Stopped(cause) => Move::Stop(cause),
+    }
+}
+
+pub fn do_add_pair(
+    code: &[u32; 4096],
+    words: &[i32; 8224],
+    display: &[u16; 256],
+    table: &mut [i32],
+    pairs: usize,
+    group_limit: u32,
+    at: usize,
+) -> Move {
+    let group = words[cell_at(code, words, display, at + 1)];
+    let member = words[cell_at(code, words, display, at + 2)];
+    changed(
+        pairs::add_pair(table, pairs, group_limit, group, member),
+        at,
+    )
+}
+
+pub fn do_remove_pair(
+    code: &[u32; 4096],
+    words: &[i32; 8224],
+    display: &[u16; 256],
+    table: &mut [i32],
+    pairs: usize,
+    at: usize,
+) -> Move {
+    let group = words[cell_at(code, words, display, at + 1)];
+    let member = words[cell_at(code, words, display, at + 2)];
+    changed(pairs::remove_pair(table, pairs, group, member), at)
+}
+
+// QY
+pub fn do_query(
+    code: &[u32; 4096],
+    words: &mut [i32; 8224],
+    display: &[u16; 256],
+    table: &[i32],
+    pairs: usize,
+    at: usize,
+) -> Move {
+    let target = cell_at(code, words, display, at + 1);
+    let group = words[cell_at(code, words, display, at + 2)];
+    let member = words[cell_at(code, words, display, at + 3)];
+    match pairs::query_pair(table, pairs, group, member) {
+        Query::Value(value) => {
+            stepping::store(words, target, value);
+            Move::On(at + 4)
+        }
+        Query::Stopped(cause) => Move::Stop(cause),
+    }
+}

@@ -1,2 +1,0 @@
--- What statements do to words once their names are found, in reading order.
-pub mod Effects

@@ -1,0 +1,3 @@
+-- A step on an engine's arrays is a step of the frame machine, in reading order.
+pub mod Standing
+pub mod Means

@@ -1,0 +1,71 @@
+-- What a move means: which step the frame machine makes from the stack that the arrays hold, and what the arrays then hold. `Means w h` says it
+-- of whatever a statement comes to (`acting`); where an activation is entered or left, the engine still has its records to put right.
+use Prim.Native.Nat.{ℕ, suc, _+_, _*_, _≤_, _<_}
+use mathlib.Core.List.{List, [], _∷_, _++_}
+use mathlib.Core.Option.{some}
+use mathlib.Core.Path.{_≡_}
+use lib.IntN.{ℤ, pos}
+use lib.ListN.{length, getD, take, getElem?}
+use Rattle.language.specs.Text.{Kind, Formal, Block, blockAt}
+use Rattle.language.specs.Machine.{Limits}
+use Rattle.frames.specs.Frame.{Frame, Stack, acted, halted, numbered, continue, withFrames, newFrame, frameStep, frameRun, designatorIn}
+use Rattle.coordinates.specs.Enclosure.{enclosed, Encloses}
+use Rattle.coordinates.specs.Chain.{enclosureOf, displayOf}
+use Rattle.coordinates.specs.Designated.{Designated}
+use Rattle.resolved.specs.Resolved.{placeOf, stmtPlace}
+use Rattle.arrays.specs.Holds.{formalWord}
+use Rattle.acting.specs.declared.Move.{Move}
+use Rattle.acting.specs.declared.Move.the-variants.{On, Pairs, Jump, Enter, Stop}
+use Rattle.acting.specs.Acting.{Happened}
+use Rattle.steps.specs.Standing.{Standing}
+
+module _ {code : List ℕ} {l : Limits} {words : List ℤ} {blocks nexts links : List ℕ} {table : List ℤ} {pairs live at end : ℕ} (w : Standing code l words blocks nexts links table pairs live at end) where
+  abbrev pub frames : List Frame
+  frames = w .stack .frames
+
+  -- an engine that stands behind one step of this one, for the same script
+  pub record Follows (v : Stack) (program : Block) (name : ℕ) : Type 0 where
+    pub runs : (n : ℕ) → frameRun l (suc n) (w .stack) ≡ frameRun l n v
+    pub same-program : program ≡ w .program
+    pub same-name : name ≡ w .name
+
+  -- the innermost activation goes on, and the display is as it was
+  pub record GoesOn (words′ table′ : List ℤ) (pairs′ at′ : ℕ) : Type 0 where
+    pub standing : Standing code l words′ blocks nexts links table′ pairs′ live at′ end
+    pub follows : Follows (standing .stack) (standing .program) (standing .name)
+    pub same-display : displayOf (standing .stack .frames) ≡ displayOf frames
+
+  -- activation `home` becomes the innermost one and goes on at a place
+  pub record JumpsTo (home at′ : ℕ) : Type 0 where
+    pub frame : Frame
+    pub index : ℕ
+    pub stands : numbered frames (suc home) ≡ some frame
+    pub place-is : at′ ≡ stmtPlace (frame .text) index
+    pub steps : frameStep l (w .stack) ≡ acted (withFrames (w .stack) (take home frames ++ (continue frame index ∷ [])))
+
+  -- a block is entered; the arguments stand in the first cells of the next activation
+  pub record EntersAt (body link back : ℕ) (words′ : List ℤ) : Type 0 where
+    pub formals : List Formal
+    pub arguments : List ℕ
+    pub text : Block
+    pub room : suc (suc live) ≤ l .activations
+    pub link-high : link ≤ live
+    pub body-is : body ≡ placeOf (blockAt text)
+    pub back-is : back ≡ stmtPlace (w .frame .text) (suc (w .frame .next))
+    pub encloses : Encloses (w .program) (enclosed formals text ∷ enclosureOf frames (suc link))
+    pub steps : frameStep l (w .stack) ≡ acted (withFrames (w .stack) ((w .below ++ (continue (w .frame) (suc (w .frame .next)) ∷ [])) ++ (newFrame formals arguments text (suc link) ∷ [])))
+    pub count : length arguments ≡ length formals
+    pub designate : (i x : ℕ) → getElem? arguments i ≡ some x → (k : Kind) × Designated frames x k
+    pub as-long : length words′ ≡ length words
+    pub kept : (i : ℕ) → i < 32 * suc live → getD words′ i (pos 0) ≡ getD words i (pos 0)
+    pub handed : (i x : ℕ) → getElem? arguments i ≡ some x → getD words′ (32 * suc live + i) (pos 0) ≡ pos (formalWord frames x)
+
+  abbrev pub MoveMeans : Move → List ℤ → List ℤ → Type 0
+  MoveMeans (On p) words′ table′ = GoesOn words′ table′ pairs p × (table′ ≡ table)
+  MoveMeans (Pairs p n) words′ table′ = GoesOn words′ table′ n p × (words′ ≡ words)
+  MoveMeans (Jump home p) words′ table′ = JumpsTo home p × (words′ ≡ words) × (table′ ≡ table)
+  MoveMeans (Enter body link back) words′ table′ = EntersAt body link back words′ × (table′ ≡ table)
+  MoveMeans (Stop c) words′ table′ = (frameStep l (w .stack) ≡ halted c) × (words′ ≡ words) × (table′ ≡ table)
+
+  abbrev pub Means : Happened → Type 0
+  Means h = MoveMeans (h .move) (h .words) (h .table)
