@@ -10,7 +10,7 @@ use mathlib.Core.Logic.{inl, inr}
 use mathlib.Core.Option.{none, some}
 use mathlib.Core.Path.{_≡_, sym, ap, _∙_}
 use lib.ListN.{length}
-use Rattle.language.specs.Text.{Kind, Decl}
+use Rattle.language.specs.Text.{Kind, Decl, blockDecls}
 use Rattle.laws.specs.Tests.{by-lookup, none≢some}
 use Rattle.frames.specs.Frame.{Frame, numbered, designates, frameNumber, place, declOf}
 use Rattle.frames.specs.Numbered.{numbered-zero, numbered-high}
@@ -48,6 +48,15 @@ name-points fs n k bounded d = go (designates-target fs n bounded)
     go : Target fs (designates fs n) → Points fs (length fs) (designates fs n)
     go (inl e) = none≢some (sym (numbered-zero fs (designates fs n / 64) (omega arith)) ∙ d .stands)
     go (inr p) = p
+
+-- in frames with the same blocks it is one too
+pub points-over : (fs gs : List Frame) (b k x : ℕ) → SameOutlines b fs gs → x / 64 ≤ b → Points fs k x → Points gs k x
+unfolding outline enclosing
+points-over fs gs b k x a h p =
+    let g = alike-some fs gs b a (x / 64) (p .home) h (p .stands) in
+    let m : length (g .0 .formals) ≡ length (p .home .formals) = ap (λ (o : Enclosing × ℕ). length (o .0 .formals)) (g .2) in
+    let d : length (blockDecls (g .0 .text)) ≡ length (blockDecls (p .home .text)) = ap (λ (o : Enclosing × ℕ). length (blockDecls (o .0 .text))) (g .2) in
+    record { home = g .0; stands = g .1; first = p .first; last = p .last; past = omega (arith, p .past); within = omega (arith, p .within) }
 
 -- the cell as a sum, with nothing taken away
 pub cell-sum : (x : ℕ) → Celled x → cellOf x + 33 ≡ 32 * (x / 64) + x % 64

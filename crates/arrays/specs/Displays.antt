@@ -1,7 +1,7 @@
 -- The display in its array after each move. `ShowsFrom fs k display`: it is that of frame k. A store and another statement number change nothing
--- (`shows-stored`, `shows-advanced`); after an entry the display of the link has one entry more (`shows-entered`); after a return or a goto it
--- must be that of the frame below or the label's (`shows-left`, `shows-resumed`). A frame further out on the chain needs no writing:
--- `shows-outer`, `shows-link`. For any other it is put right along the links, from the innermost level out: `Restoring`, with
+-- (`shows-stored`, `shows-advanced`); after an entry the display of the link has one entry more (`shows-entered`, `shows-pushed`); after a
+-- return or a goto it must be that of the frame below or the label's (`shows-left`, `shows-resumed`). A frame further out on the chain needs
+-- no writing: `shows-outer`, `shows-link`. For any other it is put right along the links, from the innermost level out: `Restoring`, with
 -- `restoring-starts`, `restoring-step`, and two ends, `restoring-through` and `restoring-meets`.
 use Prim.Native.Nat.{ℕ, zero, suc, pred, _-_, _*_, _≤_, _<_}
 use native.Mathlib.Omega.{arith}
@@ -12,17 +12,21 @@ use mathlib.Core.Path.{_≡_, refl, sym, ap, _∙_, subst}
 use borrow.Author.Tests.{leb-true, leb-false, ltb-true, ltb-false, eqb-true, eqb-false}
 use lib.Dec.{leb, ltb, eqb}
 use lib.IntN.{ℤ}
-use lib.ListN.{length, take, getD, set, length-append}
+use lib.ListN.{length, take, getD, set, getElem?, length-append}
 use lib.Seq.{length-take-le, getD-set-same, getD-set-other}
 use Rattle.language.specs.Basics.{last?, butLast}
 use Rattle.language.specs.Text.{Formal, Block}
 use Rattle.laws.specs.Tests.{split, by-lookup, none≢some, some-inj}
+use Rattle.laws.specs.Lists.{butLast-take, replaced-length}
 use Rattle.frames.specs.Frame.{Frame, numbered, continue, putWord, newFrame}
-use Rattle.frames.specs.Numbered.{numbered-zero, numbered-low, numbered-high, numbered-index, numbered-append, numbered-seam, numbered-take}
-use Rattle.coordinates.specs.Chain.{levelOf, climb, displayFrom, displayOf, Downward}
-use Rattle.coordinates.specs.Along.{climb-some, climb-none, climb-zero, climb-bound}
+use Rattle.frames.specs.Numbered.{numbered-zero, numbered-low, numbered-high, numbered-index, numbered-append, numbered-seam, numbered-take, last-numbered}
+use Rattle.coordinates.specs.Enclosure.{Enclosing}
+use Rattle.coordinates.specs.Chain.{outline, SameOutlines, levelOf, climb, displayFrom, displayOf, Downward}
+use Rattle.coordinates.specs.Along.{alike-some, climb-some, climb-none, climb-zero, climb-bound}
 use Rattle.coordinates.specs.Coordinates.{frame-of-level, frame-by-display}
-use Rattle.coordinates.specs.Display.{display-length, display-step, display-after-call, display-after-return, display-after-goto, display-after-advance, display-after-store, display-prefix, displays-meet, entry-bound}
+use Rattle.coordinates.specs.Moves.{alike-cut, outline-continue}
+use Rattle.coordinates.specs.Statement.{level-alike}
+use Rattle.coordinates.specs.Display.{display-alike, display-length, display-step, display-after-call, display-after-return, display-after-goto, display-after-advance, display-after-store, display-prefix, displays-meet, entry-bound}
 use Rattle.arrays.specs.Holds.{Holds, Shows}
 
 abbrev pub ShowsFrom : List Frame → ℕ → List ℕ → Type 0
@@ -84,6 +88,37 @@ module _ (fs : List Frame) (down : Downward fs) (display : List ℕ) where
       let d = displayFrom fs (f .link) in
       shows j m (ap (λ (ms : List ℕ). numbered ms j) (display-step fs down k f e) ∙ numbered-append d (k ∷ []) j (numbered-high d j m q) ∙ q)
 
+-- an entry behind the statement that makes it: the innermost frame has gone on before
+module _ (fs : List Frame) (down : Downward fs) (f : Frame) (last : last? fs ≡ some f) (i : ℕ) where
+  gs : List Frame
+  gs = butLast fs ++ (continue f i ∷ [])
+
+  alike : SameOutlines (length fs) fs gs
+  unfolding gs
+  alike = rw butLast-take (alike-cut fs (length fs) f (continue f i) (sym (last-numbered fs) ∙ last) (outline-continue f i))
+
+  gs-length : length gs ≡ length fs
+  unfolding gs
+  gs-length = replaced-length fs f (continue f i) last
+
+  gs-downward : Downward gs
+  unfolding outline
+  gs-downward k g e =
+      let h : k ≤ length fs = omega (arith, numbered-high gs k g e, gs-length) in
+      let o = alike-some gs fs (length fs) (λ j p. sym (alike j p)) k g h e in
+      let l : o .0 .link ≡ g .link = ap (λ (x : Enclosing × ℕ). x .1) (o .2) in
+      omega (arith, down k (o .0) (o .1))
+
+  pub shows-pushed : (display : List ℕ) (formals : List Formal) (xs : List ℕ) (b : Block) (k : ℕ) → k ≤ length fs → suc (levelOf fs k) < length display → ShowsFrom fs k display
+      → Shows ((butLast fs ++ (continue f i ∷ [])) ++ (newFrame formals xs b k ∷ [])) (set display (suc (levelOf fs k)) (32 * length fs))
+  unfolding gs
+  shows-pushed display formals xs b k h room shows =
+      let l : levelOf gs k ≡ levelOf fs k = level-alike fs gs (length fs) alike down k h in
+      let n = gs-length in
+      let d : displayFrom gs k ≡ displayFrom fs k = display-alike fs gs (length fs) alike down k h in
+      subst (λ (m : List ℕ). Shows (gs ++ (newFrame formals xs b k ∷ [])) m) (λ j. set display (suc (l j)) (32 * n j))
+      (shows-entered gs gs-downward display formals xs b k (omega arith) (omega arith) (subst (Entries display) (sym d) shows))
+
 -- the entry of a level is the enclosing activation's first cell
 pub shows-entry : (fs : List Frame) → Downward fs → (display : List ℕ) (k j : ℕ) → 1 ≤ j → j ≤ levelOf fs k → ShowsFrom fs k display → getD display j 0 ≡ 32 * pred (climb fs k (levelOf fs k - j))
 shows-entry fs down display k j p h shows = shows j (climb fs k (levelOf fs k - j)) (frame-by-display fs down k j p h)
@@ -96,6 +131,13 @@ apart j l d h = go (ltb l j) refl
     go : (t : Bool) → ltb l j ≡ t → l < j
     go true t = ltb-true l j t
     go false t = absurd (d (omega (arith, ltb-false l j t)))
+
+-- the links of the activations
+abbrev pub LinksOf : List Frame → List ℕ → Type 0
+LinksOf fs links = (k : ℕ) (f : Frame) → getElem? fs k ≡ some f → getD links k 0 ≡ pred (f .link)
+
+pub holds-links : (fs : List Frame) (blocks nexts links : List ℕ) (words : List ℤ) → Holds fs blocks nexts links words → LinksOf fs links
+holds-links fs blocks nexts links words holds k f e = (holds k f e) .link-is
 
 -- one link more
 pub climb-on : (fs : List Frame) (k j : ℕ) (g : Frame) → numbered fs (climb fs k j) ≡ some g → climb fs k (suc j) ≡ g .link
@@ -143,11 +185,10 @@ module _ (fs : List Frame) (down : Downward fs) (o k : ℕ) where
     entry-here : 1 ≤ l → numbered (displayFrom fs k) l ≡ some (suc a)
     entry-here p = frame-by-display fs down k l p (r .within) ∙ ap (λ n. some n) (r .reached p)
 
-    pub restoring-step : (blocks nexts links : List ℕ) (words : List ℤ) → Holds fs blocks nexts links words → 1 ≤ l → l < length display
-        → Restoring fs o k (set display l (32 * a)) (getD links a 0) (l - 1)
-    restoring-step blocks nexts links words holds p room =
+    pub restoring-step : (links : List ℕ) → LinksOf fs links → 1 ≤ l → l < length display → Restoring fs o k (set display l (32 * a)) (getD links a 0) (l - 1)
+    restoring-step links linked p room =
         let g = reached-frame p in
-        let link : getD links a 0 ≡ pred (g .0 .link) = (holds a (g .0) (numbered-index fs (suc a) (g .0) (g .1))) .link-is in
+        let link : getD links a 0 ≡ pred (g .0 .link) = linked a (g .0) (numbered-index fs (suc a) (g .0) (g .1)) in
         record {
           within = omega (arith, r .within);
           reached = λ q.

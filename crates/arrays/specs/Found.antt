@@ -1,19 +1,27 @@
 -- What an engine makes of a name's word w, once it has the first cell of the activation that declares the name, whichever way it found that:
 -- the cell of the declared name that the name finally stands for (`cellBy`), the activation there (`homeBy`), what it leads to (`targetBy`),
--- and what a call hands on of it (`handedBy`). `finds`: these are what the frame machine has of what the name designates.
-use Prim.Native.Nat.{ℕ, zero, suc, pred, _+_, _*_, _%_, _/_, _<_}
+-- and what a call hands on of it (`handedBy`). `finds`: these are what the frame machine has of what the name designates; in a run,
+-- `found-by-display` and `found-by-links`.
+use Prim.Native.Nat.{ℕ, zero, suc, pred, _+_, _*_, _-_, _%_, _/_, _<_}
 use native.Mathlib.Omega.{arith}
 use mathlib.Core.Bool.{Bool, true, false}
 use mathlib.Core.List.{List}
+use mathlib.Core.Option.{some}
 use mathlib.Core.Path.{_≡_, refl, ap, _∙_}
 use borrow.Author.Tests.{eqb-true, eqb-false}
 use lib.IntN.{ℤ, pos}
 use lib.ListN.{length, getD}
-use Rattle.frames.specs.Frame.{Frame, designatorIn, designates, frameNumber}
-use Rattle.resolved.specs.Resolved.{positionIn, formalIn, targetIn, direct}
-use Rattle.arrays.specs.Holds.{cellOf, targetOf, formalWord}
-use Rattle.arrays.specs.Cells.{Celled, cell-activation, word-cell, word-target}
-use Rattle.arrays.specs.Names.{NameAt, handed-word}
+use Rattle.language.specs.Text.{Block}
+use Rattle.language.specs.Machine.{Limits}
+use Rattle.grammar.specs.Rules.{Keeps}
+use Rattle.frames.specs.Frame.{Frame, Stack, designatorIn, designates, frameNumber}
+use Rattle.coordinates.specs.Enclosure.{Coordinate, coordinateOf}
+use Rattle.coordinates.specs.Chain.{enclosureOf, levelOf}
+use Rattle.coordinates.specs.Sound.{Sound}
+use Rattle.resolved.specs.Resolved.{positionIn, formalIn, levelIn, targetIn, nameWord, direct}
+use Rattle.arrays.specs.Holds.{cellOf, targetOf, formalWord, Holds, Shows}
+use Rattle.arrays.specs.Cells.{Celled, points-celled, cell-activation, word-cell, word-target}
+use Rattle.arrays.specs.Names.{NameAt, handed-word, follow, named-points, named-by-display, named-by-links}
 
 -- what a formal's word holds
 unfoldable pub heldBy : List ℤ → ℕ → ℕ → ℕ
@@ -89,3 +97,25 @@ module _ (fs : List Frame) (words : List ℤ) (n w first : ℕ) (at : NameAt fs 
 
   pub finds : Finds fs words n w first
   finds = found (direct w) refl
+
+-- The two ways, from the invariant of a run
+
+module _ (l : Limits) (t : Block) (keeps : Keeps t) (s : Stack) (sound : Sound l t s) (blocks nexts links : List ℕ) (words : List ℤ) (holds : Holds (s .frames) blocks nexts links words)
+    (n : ℕ) (c : Coordinate) (here : coordinateOf (enclosureOf (s .frames) (length (s .frames))) n ≡ some c) where
+  abbrev fs : List Frame
+  fs = s .frames
+
+  abbrev w : ℕ
+  w = nameWord (enclosureOf fs (length fs)) n
+
+  -- what it designates has a cell
+  pub named-celled : Celled (designates fs n)
+  named-celled =
+      points-celled fs (length fs) (designates fs n) (sound .bounded .each) (omega (arith, sound .bounded .live, sound .limit)) (named-points t keeps fs (sound .chained) n c here (sound .bounded .each))
+
+  pub found-by-display : (display : List ℕ) → Shows fs display → Finds fs words n w (getD display (levelIn w) 0)
+  found-by-display display shows =
+      finds fs words n w (getD display (levelIn w) 0) (named-by-display t keeps fs (sound .chained) n c here (sound .wired) blocks nexts links words holds display shows) named-celled
+
+  pub found-by-links : Finds fs words n w (32 * follow links (pred (length fs)) (levelOf fs (length fs) - levelIn w))
+  found-by-links = finds fs words n w _ (named-by-links t keeps fs (sound .chained) n c here (sound .wired) blocks nexts links words holds) named-celled

@@ -7,3 +7,5 @@ pub mod Moves
 pub mod Displays
 pub mod Names
 pub mod Found
+pub mod Reading
+pub mod Running

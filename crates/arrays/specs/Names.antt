@@ -37,7 +37,7 @@ use Rattle.resolved.specs.Resolved.{positionIn, formalIn, kindIn, levelIn, targ
 use Rattle.resolved.specs.NameWords.{NameIs, name-is, formal-there, decl-there, position-few, position-bounds, word-none-iff}
 use Rattle.arrays.specs.Holds.{cellOf, targetOf, formalWord, Holds, Shows}
 use Rattle.arrays.specs.Cells.{target-found}
-use Rattle.arrays.specs.Displays.{ShowsFrom, shows-innermost, shows-entry, shows-outer}
+use Rattle.arrays.specs.Displays.{ShowsFrom, LinksOf, holds-links, shows-innermost, shows-entry, shows-outer}
 
 pub record NameAt (fs : List Frame) (words : List ℤ) (n w first : ℕ) : Type 0 where
   pub level-low : 1 ≤ levelIn w
@@ -63,17 +63,17 @@ unfoldable pub follow : List ℕ → ℕ → ℕ → ℕ
 follow links a zero = a
 follow links a (suc j) = follow links (getD links a 0) j
 
-pub follow-climbs : (fs : List Frame) → Downward fs → (blocks nexts links : List ℕ) (words : List ℤ) → Holds fs blocks nexts links words → (j k : ℕ) (f : Frame) → numbered fs k ≡ some f → j < levelOf fs k
+pub follow-climbs : (fs : List Frame) → Downward fs → (links : List ℕ) → LinksOf fs links → (j k : ℕ) (f : Frame) → numbered fs k ≡ some f → j < levelOf fs k
     → follow links (pred k) j ≡ pred (climb fs k j)
 unfolding follow
-follow-climbs fs down blocks nexts links words holds zero k f e h = ap pred (sym (climb-zero fs k))
-follow-climbs fs down blocks nexts links words holds (suc j) k f e h =
+follow-climbs fs down links linked zero k f e h = ap pred (sym (climb-zero fs k))
+follow-climbs fs down links linked (suc j) k f e h =
     let l : levelOf fs k ≡ suc (levelOf fs (f .link)) = level-step fs down k f e in
     let z : levelOf fs (f .link) - levelOf fs (f .link) ≡ 0 = omega arith in
     let g = frame-of-level fs down (f .link) (levelOf fs (f .link)) (omega arith) (omega arith) in
     let q : numbered fs (f .link) ≡ some (g .0) = ap (numbered fs) (sym (ap (climb fs (f .link)) z ∙ climb-zero fs (f .link))) ∙ g .1 in
-    ap (λ a. follow links a j) ((holds (pred k) f (numbered-index fs k f e)) .link-is)
-    ∙ follow-climbs fs down blocks nexts links words holds j (f .link) (g .0) q (omega arith) ∙ ap pred (sym (climb-some fs k j f e))
+    ap (λ a. follow links a j) (linked (pred k) f (numbered-index fs k f e))
+    ∙ follow-climbs fs down links linked j (f .link) (g .0) q (omega arith) ∙ ap pred (sym (climb-some fs k j f e))
 
 -- the kind of a declaration, as a field
 decl-kind-field : (d : Decl) → declKindField d ≡ kindField (declKind d)
@@ -227,7 +227,7 @@ module _ (t : Block) (keeps : Keeps t) (fs : List Frame) (chain : Chained t fs) 
   followed-is blocks nexts links words holds =
       let f = numbered-exists fs (length fs) (omega (arith, holder-bounds .0, holder-bounds .1)) (omega arith) in
       ap (λ j. follow links (pred (length fs)) (levelOf fs (length fs) - j)) (word-is .level)
-      ∙ follow-climbs fs down blocks nexts links words holds up (length fs) (f .0) (f .1) (omega (arith, level-bounds .0, level-bounds .1))
+      ∙ follow-climbs fs down links (holds-links fs blocks nexts links words holds) up (length fs) (f .0) (f .1) (omega (arith, level-bounds .0, level-bounds .1))
 
   -- What it designates is a declared name of a live frame
 
