@@ -2,17 +2,18 @@
 -- `reported` of runs, which bounds the other numbers of an answer, and hangs on what is known here, that only procedures are called.
 use Prim.Native.Nat.{ℕ, _≤_}
 use native.Mathlib.Omega.{arith}
+use mathlib.Core.Bool.{Bool, true, false}
 use mathlib.Core.List.{List}
 use mathlib.Core.Path.{_≡_, ap, _∙_, subst}
 use lib.ListN.{length}
 use Rattle.language.specs.Text.{Block}
 use Rattle.language.specs.Check.{accepted, check}
-use Rattle.language.specs.Call.{Engine, copying, chain, display, Fed, Reply, turnedAway, reply}
+use Rattle.language.specs.Call.{Engine, Fed, Reply, limitsOf, linksOf, turnedAway, reply}
 use Rattle.language.specs.declared.Refusal.{Refusal}
 use Rattle.laws.specs.Tests.{by-lookup}
 use Rattle.grammar.specs.Rules.{Bytes, Keeps}
-use Rattle.runs.specs.Calls.{limitsOf, reply-cases}
-use Rattle.frames.specs.Frame.{Frame, numbered, linksFollowed, frameStart, frameRun, frameLinks, frameReplied, frameRunOf}
+use Rattle.runs.specs.Calls.{reply-cases}
+use Rattle.frames.specs.Frame.{Frame, numbered, linksFollowed, frameStart, frameRun, frameReplied, frameRunOf}
 use Rattle.frames.specs.Runs.{runs-replied}
 use Rattle.frame_laws.specs.Finding.{seekName-starts, links-none}
 use Rattle.coordinates.specs.Enclosure.{coordinateOf}
@@ -38,12 +39,14 @@ followed-most t keeps fs sound n =
     (λ e. omega (arith, links-none fs n (seekName-starts fs n ∙ sought-nowhere fs down (length fs) (length fs) n 0 (omega arith) e)))
     (λ c e. omega (arith, links-counted fs down n c e, (coordinate-declares (enclosureOf fs (length fs)) n c e) .low, level-most t keeps fs sound))
 
--- only the chain engine reports any
-engine-links : (e : Engine) (fs : List Frame) (n : ℕ) → linksFollowed fs n ≤ 15 → frameLinks e fs n ≤ 15
-unfolding frameLinks
-engine-links (copying area) fs n h = omega arith
-engine-links (chain records) fs n h = h
-engine-links display fs n h = omega arith
+-- an engine reports those followed, or none
+reported-most : (e : Engine) (k : ℕ) → k ≤ 15 → linksOf e k ≤ 15
+unfolding linksOf
+reported-most e k h = go (e .links)
+  where
+    go : (b : Bool) → (elim b as (λ x. ℕ) [ true ↦ k | false ↦ 0 ]) ≤ 15
+    go true = h
+    go false = omega arith
 
 away-links : (f : Fed) (c : Refusal) (o : ℕ) → (turnedAway f c o) .answer .links ≤ 15
 unfolding turnedAway
@@ -53,8 +56,8 @@ ran-links : (e : Engine) (f : Fed) → Bytes (f .script) → (t : Block) → che
 unfolding frameReplied frameRunOf
 ran-links e f bytes t a =
     let l = limitsOf f in
-    let fs = (frameRun l (f .allowance) (frameStart t (f .table))) .final .frames in
-    engine-links e fs (f .name) (followed-most t (accepted-keeps-rules (f .script) bytes t a) fs (accepted-sound (f .script) bytes t a l (f .table) (f .allowance)) (f .name))
+    let fs = (frameRun l (f .allowance) (frameStart t (f .lent .table))) .final .frames in
+    reported-most e (linksFollowed fs (f .name)) (followed-most t (accepted-keeps-rules (f .script) bytes t a) fs (accepted-sound (f .script) bytes t a l (f .lent .table) (f .allowance)) (f .name))
 
 -- whatever engine is called on whatever it is fed
 pub links-most : (e : Engine) (f : Fed) → Bytes (f .script) → (reply e f) .answer .links ≤ 15

@@ -15,12 +15,11 @@ use Rattle.language.specs.Check.{accepted, check}
 use Rattle.language.specs.Table.{Table}
 use Rattle.language.specs.Copy.{Replacement, renamed, renameAction, renameStmt}
 use Rattle.language.specs.Machine.{Activation, State, Limits, instance, nextStmt, run, start}
-use Rattle.language.specs.Call.{Fed, limitsFit}
+use Rattle.language.specs.Call.{Fed, limitsOf, limitsFit}
 use Rattle.laws.specs.Tests.{some-inj}
 use Rattle.laws.specs.Lists.{last-split, last-none, snoc-inj, getElem-seam}
 use Rattle.grammar.specs.Rules.{Bytes, FormedAction, FormedBlock}
 use Rattle.grammar.specs.Formed.{stmt-at}
-use Rattle.runs.specs.Calls.{limitsOf}
 use Rattle.instances.specs.Statement.{usesOf}
 use Rattle.instances.specs.Closed.{Used, AllUsed, InStmt}
 use Rattle.instances.specs.Invariant.{liveKinds, Invariant}
@@ -100,4 +99,4 @@ script-sound l bs t table b e one most n = accepted-sound l bs t table b e one m
 
 -- and for what a call is fed, once its limits fit
 pub call-sound : (f : Fed) (t : Block) → Bytes (f .script) → limitsFit f ≡ true → check (f .script) ≡ accepted t → Sound (limitsOf f) ((frameRunOf f t) .final)
-call-sound f t b e c = fed-sound f t b e c (script-lands (limitsOf f) (f .script) t (f .table) b c)
+call-sound f t b e c = fed-sound f t b e c (script-lands (limitsOf f) (f .script) t (f .lent .table) b c)

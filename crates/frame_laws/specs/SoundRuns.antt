@@ -13,11 +13,11 @@ use Rattle.language.specs.Text.{Block}
 use Rattle.language.specs.Check.{accepted, check}
 use Rattle.language.specs.Table.{Table}
 use Rattle.language.specs.Machine.{Limits}
-use Rattle.language.specs.Call.{Fed, limitsFit}
+use Rattle.language.specs.Call.{Fed, limitsOf, limitsFit}
 use Rattle.laws.specs.Lists.{by-elements}
 use Rattle.grammar.specs.Rules.{Bytes, Keeps}
 use Rattle.grammar.specs.Exact.{accepts-exactly}
-use Rattle.runs.specs.Calls.{limitsOf, activations-fit}
+use Rattle.runs.specs.Admission.{activations-fit}
 use Rattle.frames.specs.Frame.{Stack, Acted, acted, halted, Result, stepped, newFrame, frameStart, frameStep, results, frameRun, frameRunOf}
 use Rattle.frames.specs.Running.{After, run-finished, run-spent, run-steps, run-keeps}
 use Rattle.frame_laws.specs.Formed.{program-in-form}
@@ -58,8 +58,8 @@ accepted-sound l bs t table b e one most lands n = landing-sound l most n (frame
 
 -- and for what a call is fed, once its limits fit
 pub fed-sound : (f : Fed) (t : Block) → Bytes (f .script) → limitsFit f ≡ true → check (f .script) ≡ accepted t
-    → ((i : ℕ) → Lands ((frameRun (limitsOf f) i (frameStart t (f .table))) .final)) → Sound (limitsOf f) ((frameRunOf f t) .final)
+    → ((i : ℕ) → Lands ((frameRun (limitsOf f) i (frameStart t (f .lent .table))) .final)) → Sound (limitsOf f) ((frameRunOf f t) .final)
 unfolding frameRunOf
 fed-sound f t b e c lands =
     let d = activations-fit f e in
-    accepted-sound (limitsOf f) (f .script) t (f .table) b c (d .0) (d .1) lands (f .allowance)
+    accepted-sound (limitsOf f) (f .script) t (f .lent .table) b c (d .0) (d .1) lands (f .allowance)

@@ -6,14 +6,15 @@ use mathlib.Core.List.{List, [], _∷_, _++_, map}
 use mathlib.Core.Option.{Option, none, some}
 use lib.Dec.{eqb, leb, ltb}
 use lib.IntN.{ℤ, pos, negsuc}
-use lib.ListN.{length, take, drop, getD, set, getElem?}
+use lib.ListN.{length, take, getD, set, getElem?}
 use lib.Signed.{mag}
 use Rattle.language.specs.Basics.{last?, butLast, eqZ}
 use Rattle.language.specs.Text.{Kind, Formal, Action, CL, GO, IF, KN, AR, AD, RM, QY, Block, Decl, Stmt, BK, DO, blockAt, blockDecls, blockStmts, stmtAt, declKind, labelIndex, declFormals, declBody, formalNames, formalKinds, declaredNames}
 use Rattle.language.specs.Scope.{agree}
+use Rattle.language.specs.Check.{accepted, refused}
 use Rattle.language.specs.Table.{Table, Effect, leaves, halts, Asked, gives, refuses, added, removed, queried}
 use Rattle.language.specs.Machine.{Limits, compute}
-use Rattle.language.specs.Call.{Engine, copying, chain, display, Fed, Reply, unlessRefused}
+use Rattle.language.specs.Call.{Engine, Fed, Reply, limitsOf, admission, turnedAway, linksOf, written}
 use Rattle.language.specs.declared.Stop.{Stop}
 use Rattle.language.specs.declared.Stop.the-variants.{ResultTooLarge, NoActivationLeft, ArgumentsDiffer}
 use Rattle.language.specs.declared.End.{End}
@@ -268,19 +269,14 @@ unfoldable pub frameSheet : List Frame → List ℤ
 frameSheet [] = []
 frameSheet (f ∷ fs) = frameWords f ++ frameSheet fs
 
-unfoldable pub frameLinks : Engine → List Frame → ℕ → ℕ
-frameLinks (copying area) fs n = 0
-frameLinks (chain records) fs n = linksFollowed fs n
-frameLinks display fs n = 0
-
 unfoldable pub frameReplied : Engine → Fed → Result → Reply
 frameReplied e f r =
     let s = r .final in let ws = frameSheet (s .frames) in
-    record { answer = record { end = r .end; steps = s .steps; offset = r .offset; pairs = s .table .used; sheet = length ws; tally = f .tally + s .steps; designator = designates (s .frames) (f .name); links = frameLinks e (s .frames) (f .name) }; sheet = ws ++ drop (length ws) (f .sheet); table = s .table .words }
+    record { answer = record { end = r .end; steps = s .steps; offset = r .offset; pairs = s .table .used; sheet = length ws; tally = f .tally + s .steps; designator = designates (s .frames) (f .name); links = linksOf e (linksFollowed (s .frames) (f .name)) }; lent = record { sheet = written ws (f .lent .sheet); table = s .table } }
 
 unfoldable pub frameRunOf : Fed → Block → Result
-frameRunOf f t = frameRun (record { activations = f .activations; group = f .group }) (f .allowance) (frameStart t (f .table))
+frameRunOf f t = frameRun (limitsOf f) (f .allowance) (frameStart t (f .lent .table))
 
 -- The whole call, run on frames.
 unfoldable pub frameReply : Engine → Fed → Reply
-frameReply e f = unlessRefused e f (λ t. frameReplied e f (frameRunOf f t))
+frameReply e f = elim (admission e f) [ refused c o ↦ turnedAway f c o | accepted t ↦ frameReplied e f (frameRunOf f t) ]

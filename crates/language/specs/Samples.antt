@@ -1,6 +1,6 @@
 -- Sample scripts: those that document 01 marks *, and rows for readings that nothing else rules out, in one table.
 -- docs/READINGS.md has the wrong readings that the rows rule out.
--- `samples-hold` is the claim about all of them, for each engine; `computed-once` is the test that is computed.
+-- `samples-hold` is the claim about all of them, for each engine that a row is about; `computed-once` is the test that is computed.
 use Prim.Native.Nat.{ℕ, zero, suc, _+_, _-_, _*_, _/_, _<_}
 use native.Mathlib.Nat.{not-suc-le-zero, le-of-suc-le-suc}
 use mathlib.Core.Path.{_≡_, refl}
@@ -18,19 +18,20 @@ use Rattle.language.specs.declared.End.{End}
 use Rattle.language.specs.declared.End.the-variants.{Finished, Spent, Stopped, Refused}
 use Rattle.language.specs.declared.Answer.{Answer}
 
--- What is lent to the engines of a row: to each just what it is due, or the row is about one engine, with so much of its own.
-pub data Lent : Type 0 where
-  in-full : Lent
-  only : Engine → Lent
+-- Which engines a row is about: all three, each lent what it is due of its own, or one with so much of its own.
+pub data About : Type 0 where
+  all : About
+  only : Engine → About
 
--- A row: script, D, N, G, what is lent and how many words the sheet is short, table and looked-up name; then end, steps, offset,
--- pairs in use, designator, sheet and table words.
+-- A row: script, D, N, G, engines, how many words the sheet lent is too short, table and looked-up name; then what must come back: end,
+-- steps, offset, pairs in use, designator, the links that an engine gives which gives them, the sheet's words and every word of the table.
+-- The rest of a reply follows from these: the count of sheet words, the tally given plus the steps, and past the sheet what was there.
 pub record Sample : Type 0 where
   pub script : List ℕ
   pub activations : ℕ
   pub allowance : ℕ
   pub group : ℕ
-  pub lent : Lent
+  pub about : About
   pub short : ℕ
   pub table : Table
   pub name : ℕ
@@ -50,36 +51,35 @@ lentTally = 100
 unfoldable pub lentWord : ℤ
 lentWord = pos 7
 
-pub data Method : Type 0 where
-  by-copying by-chain by-display : Method
-
--- each engine with just the area that it is due
-unfoldable pub inFull : Method → Sample → Engine
-inFull by-copying r = copying (r .activations * (length (r .script) / 2))
-inFull by-chain r = chain (r .activations)
-inFull by-display r = display
-
-unfoldable pub engineOf : Method → Sample → Engine
-engineOf m r = elim (r .lent) [ in-full ↦ inFull m r | only e ↦ e ]
-
-unfoldable pub linksFor : Method → Sample → ℕ
-linksFor by-copying r = 0
-linksFor by-chain r = r .links
-linksFor by-display r = 0
-
+-- the words of sheet that document 01 asks for each activation, and those lent in a row
 unfoldable pub lentSheet : Sample → ℕ
 lentSheet r = r .activations * 34 - r .short
 
 unfoldable pub fed : Sample → Fed
 fed r =
-    record { script = r .script; activations = r .activations; allowance = r .allowance; group = r .group; tally = lentTally; table = r .table; name = r .name; sheet = replicate (lentSheet r) lentWord }
+    record { script = r .script; activations = r .activations; allowance = r .allowance; group = r .group; tally = lentTally; name = r .name; lent = record { sheet = replicate (lentSheet r) lentWord; table = r .table } }
 
-unfoldable pub got : Method → Sample → Reply
-got m r = reply (engineOf m r) (fed r)
+-- An engine of a row, with the links that it must give.
+pub record Party : Type 0 where
+  pub engine : Engine
+  pub links : ℕ
 
-unfoldable pub wanted : Method → Sample → Reply
-wanted m r =
-    record { answer = record { end = r .end; steps = r .steps; offset = r .offset; pairs = r .pairs; sheet = length (r .sheet); tally = lentTally + r .steps; designator = r .designator; links = linksFor m r }; sheet = r .sheet ++ replicate (lentSheet r - length (r .sheet)) lentWord; table = r .words }
+unfoldable pub parties : Sample → List Party
+parties r =
+    elim (r .about) [
+      | all ↦
+          record { engine = copying (r .activations * (length (r .script) / 2)); links = 0 } ∷
+          record { engine = chain (r .activations); links = r .links } ∷
+          record { engine = display; links = 0 } ∷ []
+      | only e ↦ record { engine = e; links = r .links } ∷ []
+    ]
+
+unfoldable pub got : Sample → Party → Reply
+got r p = reply (p .engine) (fed r)
+
+unfoldable pub wanted : Sample → Party → Reply
+wanted r p =
+    record { answer = record { end = r .end; steps = r .steps; offset = r .offset; pairs = r .pairs; sheet = length (r .sheet); tally = lentTally + r .steps; designator = r .designator; links = p .links }; lent = record { sheet = r .sheet ++ replicate (lentSheet r - length (r .sheet)) lentWord; table = record { words = r .words; used = r .pairs } } }
 
 unfoldable pub noPairs : ℕ → List ℤ
 noPairs n = replicate (n * 2) (pos 0)
@@ -159,7 +159,7 @@ script-highest =
 -- a call that runs to its end, stops or is refused, with N, from an empty table of eight pairs
 unfoldable pub ends-within : ℕ → List ℕ → ℕ → End → ℕ → ℕ → List ℤ → Sample
 ends-within allowance script d e n o ws =
-    record { script = script; activations = d; allowance = allowance; group = 3; lent = in-full; short = 0; table = record { words = noPairs 8; used = 0 }; name = 9; end = e; steps = n; offset = o; pairs = 0; designator = 0; links = 0; sheet = ws; words = noPairs 8 }
+    record { script = script; activations = d; allowance = allowance; group = 3; about = all; short = 0; table = record { words = noPairs 8; used = 0 }; name = 9; end = e; steps = n; offset = o; pairs = 0; designator = 0; links = 0; sheet = ws; words = noPairs 8 }
 
 unfoldable pub ends-with : List ℕ → ℕ → End → ℕ → ℕ → List ℤ → Sample
 ends-with script d e n o ws = ends-within 1000 script d e n o ws
@@ -167,7 +167,7 @@ ends-with script d e n o ws = ends-within 1000 script d e n o ws
 -- script A with group limit, table and its count; what comes of it
 unfoldable pub of-A : ℕ → List ℤ → ℕ → End → ℕ → ℕ → ℕ → List ℤ → List ℤ → Sample
 of-A g table used e n o pairs ws table′ =
-    record { script = script-A; activations = 16; allowance = 1000; group = g; lent = in-full; short = 0; table = record { words = table; used = used }; name = 9; end = e; steps = n; offset = o; pairs = pairs; designator = 0; links = 0; sheet = ws; words = table′ }
+    record { script = script-A; activations = 16; allowance = 1000; group = g; about = all; short = 0; table = record { words = table; used = used }; name = 9; end = e; steps = n; offset = o; pairs = pairs; designator = 0; links = 0; sheet = ws; words = table′ }
 
 -- script A stopped at its AD, which stands at offset 30
 unfoldable pub A-stopped : List ℤ
@@ -176,21 +176,21 @@ A-stopped = pos 0 ∷ pos 3 ∷ pos 5 ∷ pos 7 ∷ []
 -- a spent run, with the looked-up name
 unfoldable pub spent-at : List ℕ → ℕ → ℕ → ℕ → ℕ → List ℤ → Sample
 spent-at script n name designator links ws =
-    record { script = script; activations = 16; allowance = n; group = 3; lent = in-full; short = 0; table = record { words = noPairs 8; used = 0 }; name = name; end = Spent; steps = n; offset = 0; pairs = 0; designator = designator; links = links; sheet = ws; words = noPairs 8 }
+    record { script = script; activations = 16; allowance = n; group = 3; about = all; short = 0; table = record { words = noPairs 8; used = 0 }; name = name; end = Spent; steps = n; offset = 0; pairs = 0; designator = designator; links = links; sheet = ws; words = noPairs 8 }
 
--- a refused call with N at its highest: script, G, what is lent, words short, table; cause and offset
-unfoldable pub refused-with : List ℕ → ℕ → Lent → ℕ → Table → Refusal → ℕ → Sample
-refused-with script g lent short t c o =
-    record { script = script; activations = 16; allowance = 1000000; group = g; lent = lent; short = short; table = t; name = 9; end = Refused c; steps = 0; offset = o; pairs = t .used; designator = 0; links = 0; sheet = []; words = t .words }
+-- a refused call with N at its highest: script, G, engines, words short, table; cause and offset
+unfoldable pub refused-with : List ℕ → ℕ → About → ℕ → Table → Refusal → ℕ → Sample
+refused-with script g about short t c o =
+    record { script = script; activations = 16; allowance = 1000000; group = g; about = about; short = short; table = t; name = 9; end = Refused c; steps = 0; offset = o; pairs = t .used; designator = 0; links = 0; sheet = []; words = t .words }
 
--- the script is empty and a number of the table is 0; G, what is lent and words short vary
-unfoldable pub all-wrong : ℕ → Lent → ℕ → Refusal → Sample
-all-wrong g lent short c = refused-with script-empty g lent short (record { words = pos 6 ∷ pos 0 ∷ []; used = 1 }) c 0
+-- the script is empty and a number of the table is 0; G, engines and words short vary
+unfoldable pub all-wrong : ℕ → About → ℕ → Refusal → Sample
+all-wrong g about short c = refused-with script-empty g about short (record { words = pos 6 ∷ pos 0 ∷ []; used = 1 }) c 0
 
 -- the first of three pairs in use taken out of four places
 unfoldable pub pair-taken-out : Sample
 pair-taken-out =
-    record { script = script-pair; activations = 16; allowance = 4; group = 3; lent = in-full; short = 0; table = record { words = pos 5 ∷ pos 7 ∷ pos 6 ∷ pos 1 ∷ pos 6 ∷ pos 2 ∷ pos 8 ∷ pos 9 ∷ []; used = 3 }; name = 3; end = Spent; steps = 4; offset = 0; pairs = 2; designator = 67; links = 0; sheet = pos 0 ∷ pos 5 ∷ pos 5 ∷ pos 7 ∷ pos 1 ∷ []; words = pos 6 ∷ pos 1 ∷ pos 6 ∷ pos 2 ∷ pos 0 ∷ pos 0 ∷ pos 8 ∷ pos 9 ∷ [] }
+    record { script = script-pair; activations = 16; allowance = 4; group = 3; about = all; short = 0; table = record { words = pos 5 ∷ pos 7 ∷ pos 6 ∷ pos 1 ∷ pos 6 ∷ pos 2 ∷ pos 8 ∷ pos 9 ∷ []; used = 3 }; name = 3; end = Spent; steps = 4; offset = 0; pairs = 2; designator = 67; links = 0; sheet = pos 0 ∷ pos 5 ∷ pos 5 ∷ pos 7 ∷ pos 1 ∷ []; words = pos 6 ∷ pos 1 ∷ pos 6 ∷ pos 2 ∷ pos 0 ∷ pos 0 ∷ pos 8 ∷ pos 9 ∷ [] }
 
 unfoldable pub samples : List Sample
 samples =
@@ -216,7 +216,7 @@ samples =
     pair-taken-out ∷
     -- 12 before 13; 13 for one word of sheet or one record too few, before 14 and 1
     all-wrong 0 (only (chain 15)) 1 LimitRange ∷
-    all-wrong 65535 in-full 1 AreaTooShort ∷
+    all-wrong 65535 all 1 AreaTooShort ∷
     all-wrong 65535 (only (chain 15)) 0 AreaTooShort ∷
     -- 13 for a copying area one word too short; 9 before it
     refused-with script-A 65535 (only (copying 287)) 0 (record { words = []; used = 0 }) AreaTooShort 0 ∷
@@ -249,18 +249,20 @@ samples =
 unfoldable pub row : ℕ → Sample
 row k = getD samples k (ends-with script-empty 16 (Refused ScriptLength) 0 0 [])
 
-computed-once : (m : Method) → map (got m) samples ≡ map (wanted m) samples
-unfolding computed lentTally lentWord inFull engineOf linksFor lentSheet fed got wanted noPairs script-empty script-null script-A script-B script-arithmetic script-nested script-order script-goto script-crossed script-procedure inside-blocks script-use script-pair script-formal script-highest ends-within ends-with of-A A-stopped spent-at refused-with all-wrong pair-taken-out samples
-computed-once by-copying = refl
-computed-once by-chain = refl
-computed-once by-display = refl
+-- the replies to a row, those got and those wanted
+unfoldable pub replies : (Sample → Party → Reply) → Sample → List Reply
+replies f r = map (f r) (parties r)
 
-each : (f g : Sample → Reply) (rs : List Sample) (d : Sample) → map f rs ≡ map g rs → (k : ℕ) → k < length rs → f (getD rs k d) ≡ g (getD rs k d)
+computed-once : map (replies got) samples ≡ map (replies wanted) samples
+unfolding computed lentTally lentWord lentSheet fed parties got wanted replies noPairs script-empty script-null script-A script-B script-arithmetic script-nested script-order script-goto script-crossed script-procedure inside-blocks script-use script-pair script-formal script-highest ends-within ends-with of-A A-stopped spent-at refused-with all-wrong pair-taken-out samples
+computed-once = refl
+
+each {ℓ} : {A : Type ℓ} {B : Type 0} (f g : A → B) (xs : List A) (d : A) → map f xs ≡ map g xs → (k : ℕ) → k < length xs → f (getD xs k d) ≡ g (getD xs k d)
 each f g [] d e k h = absurd (not-suc-le-zero h)
-each f g (r ∷ rs) d e zero h = head-eq-of-cons-eq e
-each f g (r ∷ rs) d e (suc k) h = each f g rs d (tail-eq-of-cons-eq e) k (le-of-suc-le-suc h)
+each f g (x ∷ xs) d e zero h = head-eq-of-cons-eq e
+each f g (x ∷ xs) d e (suc k) h = each f g xs d (tail-eq-of-cons-eq e) k (le-of-suc-le-suc h)
 
--- Every row holds, of every engine: the whole reply is the one wanted.
-pub samples-hold : (m : Method) (k : ℕ) → k < length samples → got m (row k) ≡ wanted m (row k)
+-- Every row holds, of every engine that it is about: the whole reply is the one wanted.
+pub samples-hold : (k : ℕ) → k < length samples → replies got (row k) ≡ replies wanted (row k)
 unfolding row
-samples-hold m k h = each (got m) (wanted m) samples (ends-with script-empty 16 (Refused ScriptLength) 0 0 []) (computed-once m) k h
+samples-hold k h = each (replies got) (replies wanted) samples (ends-with script-empty 16 (Refused ScriptLength) 0 0 []) computed-once k h

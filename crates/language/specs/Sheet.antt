@@ -19,6 +19,10 @@ declWord s (VR at n) = value s n
 declWord s (LB at n i) = pos 0
 declWord s (PR at n fs b) = pos 0
 
+-- the words of sheet that are lent for each activation: two, and one for each of 32 names
+abbrev pub sheetShare : ℕ
+sheetShare = 34
+
 -- byte offset of its BK, next statement number, then a word per name: a formal the designator of the declared name that it
 -- finally stands for, which is the name that it reads as
 unfoldable pub activationWords : State → Activation → List ℤ

@@ -6,6 +6,7 @@ pub mod Tables
 pub mod Readers
 pub mod Reversed
 pub mod Each
+pub mod Order
 pub mod Distinct
 pub mod Lookup
 pub mod Renaming

@@ -14,4 +14,5 @@ pub mod Names
 pub mod Accepted
 pub mod SheetWords
 pub mod Designators
+pub mod Admission
 pub mod Calls
