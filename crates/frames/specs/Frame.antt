@@ -21,9 +21,9 @@ use Rattle.language.specs.declared.End.{End}
 use Rattle.language.specs.declared.End.the-variants.{Finished, Spent, Stopped}
 use Rattle.language.specs.declared.Answer.{Answer}
 
--- A frame: the formals of the procedure whose body its block is (none for a block), the block, its next statement number, its
--- static link (the number of the frame that encloses its text, 0 for the program), and a word for each name, formals first: a
--- variable's value, 0 for a label or procedure, for a formal the designator of the declared name that it finally stands for.
+-- A frame: the formals of the procedure whose body its block is (none for another block), the block, where it goes on, its static link
+-- (the number of the frame that encloses its text, 0 for the program), and a word for each name, formals first. A variable's word is its
+-- value, a formal's is the designator of the instance behind it, any other is 0.
 pub record Frame : Type 0 where
   pub formals : List Formal
   pub text : Block
@@ -31,7 +31,7 @@ pub record Frame : Type 0 where
   pub link : ℕ
   pub words : List ℤ
 
--- The frames, outermost first, the table with its count, and the steps done.
+-- The frames stand outermost first.
 pub record Stack : Type 0 where
   pub frames : List Frame
   pub table : Table
@@ -88,7 +88,7 @@ seekFrom (suc m) fs k n j =
 unfoldable pub seekName : List Frame → ℕ → Option Place
 seekName fs n = seekFrom (length fs) fs (length fs) n 0
 
--- a formal's word is the designator of the declared name that it finally stands for
+-- a formal's word, read as the designator that it is
 unfoldable pub designatorIn : ℤ → ℕ
 designatorIn (pos n) = n
 designatorIn (negsuc n) = 0
@@ -103,14 +103,14 @@ finally fs p =
       ]
     ]
 
--- the designator of the declared name that a name stands for in the innermost frame; 0 where it is not visible
+-- the instance that a name leads to from the innermost frame, by its designator; 0 where the name is not found
 unfoldable pub designates : List Frame → ℕ → ℕ
 designates fs n = elim (seekName fs n) [ none ↦ 0 | some p ↦ finally fs p ]
 
 unfoldable pub linksFollowed : List Frame → ℕ → ℕ
 linksFollowed fs n = elim (seekName fs n) [ none ↦ 0 | some p ↦ p .followed ]
 
--- Declared instances by designator: activation number times 64 plus position
+-- Declared instances by designator, 64 numbers to a frame
 
 unfoldable pub frameNumber : ℕ → ℕ
 frameNumber x = x / 64

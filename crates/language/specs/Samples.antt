@@ -1,6 +1,8 @@
 -- Sample scripts: those that document 01 marks *, and rows for readings that nothing else rules out, in one table.
 -- docs/READINGS.md has the wrong readings that the rows rule out.
--- `samples-hold` is the claim about all of them, for each engine that a row is about; `computed-once` is the test that is computed.
+-- A row compares whole replies: end with cause, steps, offset, pairs in use, count of sheet words, tally, designator and links of the answer,
+-- and every word of sheet and table. `samples-hold` is the claim about all rows, each for every engine that it is about and no other;
+-- `computed-once` is the test that is computed. A script's length is stated where document 01 gives it (`bytes-A`, `bytes-B`).
 use Prim.Native.Nat.{ℕ, zero, suc, _+_, _-_, _*_, _/_, _<_}
 use native.Mathlib.Nat.{not-suc-le-zero, le-of-suc-le-suc}
 use mathlib.Core.Path.{_≡_, refl}
@@ -23,9 +25,9 @@ pub data About : Type 0 where
   all : About
   only : Engine → About
 
--- A row: script, D, N, G, engines, how many words the sheet lent is too short, table and looked-up name; then what must come back: end,
--- steps, offset, pairs in use, designator, the links that an engine gives which gives them, the sheet's words and every word of the table.
--- The rest of a reply follows from these: the count of sheet words, the tally given plus the steps, and past the sheet what was there.
+-- A row: what is fed (`short`: how many words of sheet are lent too few), and from `end` on what must come back. `links` are those of the
+-- engine that reports them, `sheet` has the words written. The rest of a reply follows: the count of these words, the tally handed in and
+-- the steps together, and past the words written what was there.
 pub record Sample : Type 0 where
   pub script : List ℕ
   pub activations : ℕ
@@ -51,7 +53,7 @@ lentTally = 100
 unfoldable pub lentWord : ℤ
 lentWord = pos 7
 
--- the words of sheet that document 01 asks for each activation, and those lent in a row
+-- 34 is written out here, so that the rows judge `sheetShare`
 unfoldable pub lentSheet : Sample → ℕ
 lentSheet r = r .activations * 34 - r .short
 
@@ -105,7 +107,7 @@ script-arithmetic a a′ b b′ o =
     bytesOf
     (BK-mark ∷ 2 ∷ 3 ∷ VR-mark ∷ 1 ∷ VR-mark ∷ 2 ∷ KN-mark ∷ 1 ∷ a ∷ a′ ∷ KN-mark ∷ 2 ∷ b ∷ b′ ∷ AR-mark ∷ 1 ∷ o ∷ 1 ∷ 2 ∷ [])
 
--- a block inside the program
+-- a program whose one statement is a block
 unfoldable pub script-nested : List ℕ
 script-nested = bytesOf (BK-mark ∷ 0 ∷ 1 ∷ BK-mark ∷ 0 ∷ 0 ∷ [])
 
@@ -173,6 +175,11 @@ of-A g table used e n o pairs ws table′ =
 unfoldable pub A-stopped : List ℤ
 A-stopped = pos 0 ∷ pos 3 ∷ pos 5 ∷ pos 7 ∷ []
 
+-- script B after nine steps
+unfoldable pub B-spent : List ℤ
+B-spent =
+    pos 0 ∷ pos 2 ∷ pos 1 ∷ pos 0 ∷ pos 0 ∷ pos 34 ∷ pos 5 ∷ pos 66 ∷ pos 9 ∷ pos 0 ∷ pos 0 ∷ pos 34 ∷ pos 7 ∷ pos 131 ∷ pos 2 ∷ pos 0 ∷ pos 0 ∷ pos 50 ∷ pos 2 ∷ []
+
 -- a spent run, with the looked-up name
 unfoldable pub spent-at : List ℕ → ℕ → ℕ → ℕ → ℕ → List ℤ → Sample
 spent-at script n name designator links ws =
@@ -221,8 +228,7 @@ samples =
     -- 13 for a copying area one word too short; 9 before it
     refused-with script-A 65535 (only (copying 287)) 0 (record { words = []; used = 0 }) AreaTooShort 0 ∷
     refused-with (script-use (GO-mark ∷ 9 ∷ [])) 65535 (only (copying 0)) 0 (record { words = []; used = 0 }) NotVisible 12 ∷
-    spent-at script-B 9 5 130 1
-    (pos 0 ∷ pos 2 ∷ pos 1 ∷ pos 0 ∷ pos 0 ∷ pos 34 ∷ pos 5 ∷ pos 66 ∷ pos 9 ∷ pos 0 ∷ pos 0 ∷ pos 34 ∷ pos 7 ∷ pos 131 ∷ pos 2 ∷ pos 0 ∷ pos 0 ∷ pos 50 ∷ pos 2 ∷ []) ∷
+    spent-at script-B 9 5 130 1 B-spent ∷
     ends-with (script-arithmetic 65535 32767 1 0 0) 16 (Stopped ResultTooLarge) 2 30 (pos 0 ∷ pos 3 ∷ pos 2147483647 ∷ pos 1 ∷ []) ∷
     ends-with (script-arithmetic 0 32768 1 0 1) 16 (Stopped ResultTooLarge) 2 30 (pos 0 ∷ pos 3 ∷ negsuc 2147483647 ∷ pos 1 ∷ []) ∷
     ends-with (script-arithmetic 65535 32767 0 0 0) 16 Finished 4 0 [] ∷
@@ -235,7 +241,7 @@ samples =
     ends-with (script-procedure 1 2) 16 (Refused NameTwice) 0 10 [] ∷
     ends-with (script-procedure 3 2) 16 (Refused FieldRange) 0 22 [] ∷
     ends-with (bytesOf (inside-blocks 16)) 16 (Refused NestingDepth) 0 96 [] ∷
-    -- left to right, each name by 9 and then 10: the first is no variable, or no procedure, the second not visible
+    -- one name after another: the first is no variable, or no procedure (10), the second not visible (9)
     ends-with (script-use (IF-mark ∷ 2 ∷ 9 ∷ [])) 16 (Refused WrongKind) 0 12 [] ∷
     ends-with (script-use (CL-mark ∷ 2 ∷ 1 ∷ 9 ∷ [])) 16 (Refused WrongKind) 0 12 [] ∷
     -- 26 before 22
@@ -243,7 +249,9 @@ samples =
     spent-at script-goto 3 2 66 0 (pos 0 ∷ pos 2 ∷ pos 0 ∷ pos 0 ∷ []) ∷
     spent-at script-crossed 2 1 66 0 (pos 0 ∷ pos 2 ∷ pos 0 ∷ pos 6 ∷ pos 0 ∷ pos 32 ∷ pos 2 ∷ pos 66 ∷ pos 65 ∷ []) ∷
     -- new names lie above 65,535; less goes by sign
-    spent-at script-highest 3 65535 129 0 (pos 0 ∷ pos 2 ∷ pos 1 ∷ pos 10 ∷ pos 3 ∷ pos 0 ∷ []) ∷ []
+    spent-at script-highest 3 65535 129 0 (pos 0 ∷ pos 2 ∷ pos 1 ∷ pos 10 ∷ pos 3 ∷ pos 0 ∷ []) ∷
+    -- a name is looked up as written: 65,536 is the new name of the program's variable, and none of the script's
+    spent-at script-B 9 65536 0 0 B-spent ∷ []
 
 -- the first row stands for what lies past the end
 unfoldable pub row : ℕ → Sample
@@ -253,9 +261,22 @@ row k = getD samples k (ends-with script-empty 16 (Refused ScriptLength) 0 0 [])
 unfoldable pub replies : (Sample → Party → Reply) → Sample → List Reply
 replies f r = map (f r) (parties r)
 
+-- The definitions of this table, to be computed with those of `computed`.
+unfoldable pub tabled : Unit {0}
+unfolding lentTally lentWord lentSheet fed parties got wanted replies noPairs script-empty script-null script-A script-B script-arithmetic script-nested script-order script-goto script-crossed script-procedure inside-blocks script-use script-pair script-formal script-highest ends-within ends-with of-A A-stopped B-spent spent-at refused-with all-wrong pair-taken-out samples
+tabled = tt
+
 computed-once : map (replies got) samples ≡ map (replies wanted) samples
-unfolding computed lentTally lentWord lentSheet fed parties got wanted replies noPairs script-empty script-null script-A script-B script-arithmetic script-nested script-order script-goto script-crossed script-procedure inside-blocks script-use script-pair script-formal script-highest ends-within ends-with of-A A-stopped spent-at refused-with all-wrong pair-taken-out samples
+unfolding computed tabled
 computed-once = refl
+
+pub bytes-A : length script-A ≡ 36
+unfolding computed tabled
+bytes-A = refl
+
+pub bytes-B : length script-B ≡ 122
+unfolding computed tabled
+bytes-B = refl
 
 each {ℓ} : {A : Type ℓ} {B : Type 0} (f g : A → B) (xs : List A) (d : A) → map f xs ≡ map g xs → (k : ℕ) → k < length xs → f (getD xs k d) ≡ g (getD xs k d)
 each f g [] d e k h = absurd (not-suc-le-zero h)

@@ -14,7 +14,7 @@ use Rattle.language.specs.Text.{Block}
 use Rattle.language.specs.Check.{Checked, accepted, refused, check}
 use Rattle.language.specs.Table.{right}
 use Rattle.language.specs.Sheet.{sheetShare}
-use Rattle.language.specs.Call.{Engine, Fed, recordsIn, limitsFit, sheetFits, recordsFit, areaFits, firstFailing, testsBefore, testsAfter, admission}
+use Rattle.language.specs.Call.{Engine, Fed, recordsIn, limitsFit, sheetFits, recordsFit, areaFits, firstFailing, testsBefore, testsAfter, admission, Leaves}
 use Rattle.language.specs.declared.Refusal.{Refusal}
 use Rattle.laws.specs.Tests.{by-lookup}
 use Rattle.laws.specs.Order.{AllHold, FailsFirst, due-exactly, none-exactly}
@@ -94,6 +94,17 @@ module _ (e : Engine) (f : Fed) where
 
       clash : (d : Refusal) (p : ℕ) → refused d p ≡ accepted t → Admitted e f t
       clash d p q = let z : _≡_ {A = ℕ} 0 1 = cc in absurd (omega arith)
+
+-- An engine's own area: not written where the call is refused, or of the same length where the program is admitted.
+module _ {A : Type 0} (e : Engine) (f : Fed) where
+  pub leaves-all : (area : List A) → Leaves e f area area
+  leaves-all area = record { as-long = refl; untouched = λ c o q. refl }
+
+  pub leaves-length : {before after : List A} {t : Block} → admission e f ≡ accepted t → length after ≡ length before → Leaves e f before after
+  leaves-length {before} {after} {t} a h = record { as-long = h; untouched = λ c o q. clash c o (sym a ∙ q) }
+    where
+      clash : (c : Refusal) (o : ℕ) → accepted t ≡ refused c o → after ≡ before
+      clash c o q = let z : _≡_ {A = ℕ} 0 1 = cc in absurd (omega arith)
 
 -- What the tests that held say.
 module _ {e : Engine} {f : Fed} {t : Block} (h : Admitted e f t) where

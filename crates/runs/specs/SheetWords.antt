@@ -11,7 +11,7 @@ use Rattle.language.specs.Sheet.{sheetShare, designator, declWord, activationWo
 use Rattle.laws.specs.Each.{Each}
 use Rattle.runs.specs.Names.{FitsActivation, FitsState, block-names}
 
--- its BK's offset, its next statement number, and a word for each name
+-- two words, and one for each name
 pub activation-words : (s : State) (a : Activation) → length (activationWords s a) ≡ 2 + (length (a .arguments) + length (blockDecls (a .text)))
 unfolding activationWords
 activation-words s a =
