@@ -1,6 +1,6 @@
 -- The invariant of the frame machine: `Sound l t s`. `start-sound`: a run of the script t begins with it; `step-sound`: a step keeps it, from
--- any stack that has it; `run-sound`: so whatever a run leaves has it, from any such stack. `accepted-sound` and `call-sound` say it of runs of
--- a script that the check accepts and of what a call is fed.
+-- any stack that has it; `run-sound`: so whatever a run leaves has it, from any such stack. `accepted-sound` says it of runs
+-- of a script that the check accepts, `admitted-sound` and `call-sound` of what a call is fed.
 use Prim.Native.Nat.{ℕ, _≤_}
 use mathlib.Core.Bool.{true}
 use mathlib.Core.List.{List, []}
@@ -10,11 +10,11 @@ use Rattle.language.specs.Text.{label, Action, CL, GO, IF, KN, AR, AD, RM, QY, 
 use Rattle.language.specs.Check.{accepted, check}
 use Rattle.language.specs.Table.{Table, right}
 use Rattle.language.specs.Machine.{Limits}
-use Rattle.language.specs.Call.{Fed, limitsFit}
+use Rattle.language.specs.Call.{Engine, Fed, limitsOf}
 use Rattle.laws.specs.Lists.{by-elements}
 use Rattle.grammar.specs.Rules.{Bytes, Is, ScopedAction, Keeps}
 use Rattle.grammar.specs.Exact.{accepts-exactly}
-use Rattle.runs.specs.Calls.{limitsOf, activations-fit}
+use Rattle.runs.specs.Admission.{Admitted, limits-fit, table-right, activations-fit}
 use Rattle.frames.specs.Frame.{Frame, Stack, acted, designates, mapAction, stepped, frameStart, frameStep, frameRun, frameRunOf}
 use Rattle.frames.specs.Running.{After, run-keeps}
 use Rattle.frame_laws.specs.Innermost.{last-innermost, step-none}
@@ -102,8 +102,13 @@ accepted-sound bs h t e l one most tab r n =
     let keeps = accepted-keeps-rules bs h t e in
     run-sound t keeps l n (frameStart t tab) (start-sound l t tab one most r keeps)
 
-pub call-sound : (f : Fed) (t : Block) → Bytes (f .script) → limitsFit f ≡ true → right (f .group) (f .table) ≡ true → check (f .script) ≡ accepted t → Sound (limitsOf f) t ((frameRunOf f t) .final)
-unfolding frameRunOf
-call-sound f t b e r c =
-    let d = activations-fit f e in
-    accepted-sound (f .script) b t c (limitsOf f) (d .0) (d .1) (f .table) r (f .allowance)
+-- what a call is fed, where no refusal is due: the start, and what the run leaves
+module _ (e : Engine) (f : Fed) (t : Block) (b : Bytes (f .script)) (h : Admitted e f t) where
+  pub admitted-sound : Sound (limitsOf f) t (frameStart t (f .lent .table))
+  admitted-sound =
+      let d = activations-fit f (limits-fit h) in
+      start-sound (limitsOf f) t (f .lent .table) (d .0) (d .1) (table-right h) (accepted-keeps-rules (f .script) b t (h .script))
+
+  pub call-sound : Sound (limitsOf f) t ((frameRunOf f t) .final)
+  unfolding frameRunOf
+  call-sound = run-sound t (accepted-keeps-rules (f .script) b t (h .script)) (limitsOf f) (f .allowance) (frameStart t (f .lent .table)) admitted-sound

@@ -6,23 +6,24 @@ use mathlib.Core.List.{List, [], _∷_, _++_, map}
 use mathlib.Core.Option.{Option, none, some}
 use lib.Dec.{eqb, leb, ltb}
 use lib.IntN.{ℤ, pos, negsuc}
-use lib.ListN.{length, take, drop, getD, set, getElem?}
+use lib.ListN.{length, take, getD, set, getElem?}
 use lib.Signed.{mag}
 use Rattle.language.specs.Basics.{last?, butLast, eqZ}
 use Rattle.language.specs.Text.{Kind, Formal, Action, CL, GO, IF, KN, AR, AD, RM, QY, Block, Decl, Stmt, BK, DO, blockAt, blockDecls, blockStmts, stmtAt, declKind, labelIndex, declFormals, declBody, formalNames, formalKinds, declaredNames}
 use Rattle.language.specs.Scope.{agree}
+use Rattle.language.specs.Check.{accepted, refused}
 use Rattle.language.specs.Table.{Table, Effect, leaves, halts, Asked, gives, refuses, added, removed, queried}
 use Rattle.language.specs.Machine.{Limits, compute}
-use Rattle.language.specs.Call.{Engine, copying, chain, display, Fed, Reply, unlessRefused}
+use Rattle.language.specs.Call.{Engine, Fed, Reply, limitsOf, admission, turnedAway, linksOf, written}
 use Rattle.language.specs.declared.Stop.{Stop}
 use Rattle.language.specs.declared.Stop.the-variants.{ResultTooLarge, NoActivationLeft, ArgumentsDiffer}
 use Rattle.language.specs.declared.End.{End}
 use Rattle.language.specs.declared.End.the-variants.{Finished, Spent, Stopped}
 use Rattle.language.specs.declared.Answer.{Answer}
 
--- A frame: the formals of the procedure whose body its block is (none for a block), the block, its next statement number, its
--- static link (the number of the frame that encloses its text, 0 for the program), and a word for each name, formals first: a
--- variable's value, 0 for a label or procedure, for a formal the designator of the declared name that it finally stands for.
+-- A frame: the formals of the procedure whose body its block is (none for another block), the block, where it goes on, its static link
+-- (the number of the frame that encloses its text, 0 for the program), and a word for each name, formals first. A variable's word is its
+-- value, a formal's is the designator of the instance behind it, any other is 0.
 pub record Frame : Type 0 where
   pub formals : List Formal
   pub text : Block
@@ -30,7 +31,7 @@ pub record Frame : Type 0 where
   pub link : ℕ
   pub words : List ℤ
 
--- The frames, outermost first, the table with its count, and the steps done.
+-- The frames stand outermost first.
 pub record Stack : Type 0 where
   pub frames : List Frame
   pub table : Table
@@ -67,13 +68,13 @@ positionFrom n i [] = none
 positionFrom n i (x ∷ xs) = elim (eqb n x) [ true ↦ some i | false ↦ positionFrom n (suc i) xs ]
 
 -- Where a name was found: frame, position from 1, and the links followed to it.
-pub record Place : Type 0 where
+pub record NamePlace : Type 0 where
   pub number : ℕ
   pub position : ℕ
   pub followed : ℕ
 
 -- the frame's own names, and then its link's; a chain has no more links than there are frames
-unfoldable pub seekFrom : ℕ → List Frame → ℕ → ℕ → ℕ → Option Place
+unfoldable pub seekFrom : ℕ → List Frame → ℕ → ℕ → ℕ → Option NamePlace
 seekFrom zero fs k n j = none
 seekFrom (suc m) fs k n j =
     elim (numbered fs k) [
@@ -84,15 +85,15 @@ seekFrom (suc m) fs k n j =
       ]
     ]
 
-unfoldable pub seekName : List Frame → ℕ → Option Place
+unfoldable pub seekName : List Frame → ℕ → Option NamePlace
 seekName fs n = seekFrom (length fs) fs (length fs) n 0
 
--- a formal's word is the designator of the declared name that it finally stands for
+-- a formal's word, read as the designator that it is
 unfoldable pub designatorIn : ℤ → ℕ
 designatorIn (pos n) = n
 designatorIn (negsuc n) = 0
 
-unfoldable pub finally : List Frame → Place → ℕ
+unfoldable pub finally : List Frame → NamePlace → ℕ
 finally fs p =
     elim (numbered fs (p .number)) [
       | none ↦ 0
@@ -102,14 +103,14 @@ finally fs p =
       ]
     ]
 
--- the designator of the declared name that a name stands for in the innermost frame; 0 where it is not visible
+-- the instance that a name leads to from the innermost frame, by its designator; 0 where the name is not found
 unfoldable pub designates : List Frame → ℕ → ℕ
 designates fs n = elim (seekName fs n) [ none ↦ 0 | some p ↦ finally fs p ]
 
 unfoldable pub linksFollowed : List Frame → ℕ → ℕ
 linksFollowed fs n = elim (seekName fs n) [ none ↦ 0 | some p ↦ p .followed ]
 
--- Declared instances by designator: activation number times 64 plus position
+-- Declared instances by designator, 64 numbers to a frame
 
 unfoldable pub frameNumber : ℕ → ℕ
 frameNumber x = x / 64
@@ -268,19 +269,14 @@ unfoldable pub frameSheet : List Frame → List ℤ
 frameSheet [] = []
 frameSheet (f ∷ fs) = frameWords f ++ frameSheet fs
 
-unfoldable pub frameLinks : Engine → List Frame → ℕ → ℕ
-frameLinks (copying area) fs n = 0
-frameLinks (chain records) fs n = linksFollowed fs n
-frameLinks display fs n = 0
-
 unfoldable pub frameReplied : Engine → Fed → Result → Reply
 frameReplied e f r =
     let s = r .final in let ws = frameSheet (s .frames) in
-    record { answer = record { end = r .end; steps = s .steps; offset = r .offset; pairs = s .table .used; sheet = length ws; tally = f .tally + s .steps; designator = designates (s .frames) (f .name); links = frameLinks e (s .frames) (f .name) }; sheet = ws ++ drop (length ws) (f .sheet); table = s .table .words }
+    record { answer = record { end = r .end; steps = s .steps; offset = r .offset; pairs = s .table .used; sheet = length ws; tally = f .tally + s .steps; designator = designates (s .frames) (f .name); links = linksOf e (linksFollowed (s .frames) (f .name)) }; lent = record { sheet = written ws (f .lent .sheet); table = s .table } }
 
 unfoldable pub frameRunOf : Fed → Block → Result
-frameRunOf f t = frameRun (record { activations = f .activations; group = f .group }) (f .allowance) (frameStart t (f .table))
+frameRunOf f t = frameRun (limitsOf f) (f .allowance) (frameStart t (f .lent .table))
 
 -- The whole call, run on frames.
 unfoldable pub frameReply : Engine → Fed → Reply
-frameReply e f = unlessRefused e f (λ t. frameReplied e f (frameRunOf f t))
+frameReply e f = elim (admission e f) [ refused c o ↦ turnedAway f c o | accepted t ↦ frameReplied e f (frameRunOf f t) ]

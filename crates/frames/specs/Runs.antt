@@ -7,7 +7,7 @@ use mathlib.Core.Logic.{_≢_}
 use mathlib.Core.List.{List, [], _∷_, _++_}
 use mathlib.Core.Option.{Option, none, some}
 use lib.IntN.{pos}
-use lib.ListN.{length, drop, getElem?, length-append}
+use lib.ListN.{length, getElem?, length-append}
 use Rattle.language.specs.Basics.{last?, butLast}
 use Rattle.language.specs.Text.{Block, Decl, VR, LB, PR, blockAt, blockDecls, formalNames}
 use Rattle.language.specs.Check.{accepted, check}
@@ -15,7 +15,7 @@ use Rattle.language.specs.Table.{Table}
 use Rattle.language.specs.Copy.{without}
 use Rattle.language.specs.Machine.{Activation, State, Limits, Done, did, stop, counted, enter, step, Outcome, ends, run, start, Instance, instance, instanceFrom}
 use Rattle.language.specs.Sheet.{Found, seek, designator, declWord, activationWords, wordsOf, sheetWords, lookedUp, lookedUpDesignator, lookedUpLinks}
-use Rattle.language.specs.Call.{Engine, copying, chain, display, Fed, linksOf, replied, runOf}
+use Rattle.language.specs.Call.{Engine, Fed, limitsOf, linksOf, written, replied, runOf}
 use Rattle.language.specs.declared.End.the-variants.{Stopped}
 use Rattle.laws.specs.Tests.{split}
 use Rattle.laws.specs.Lists.{by-elements, some-last, last-none, last-split, getElem-seam, map-alike}
@@ -23,11 +23,10 @@ use Rattle.laws.specs.Renaming.{blockAt-renamed, rename-nothing}
 use Rattle.laws.specs.Rising.{Rising}
 use Rattle.grammar.specs.Rules.{Bytes}
 use Rattle.runs.specs.Account.{run-finished, run-spent, run-did, run-stopped}
-use Rattle.runs.specs.Calls.{limitsOf}
 use Rattle.instances.specs.Invariant.{Invariant}
 use Rattle.instances.specs.Accepted.{accepted-closed}
 use Rattle.instances.specs.Steps.{started, step-keeps, counted-invariant}
-use Rattle.frames.specs.Frame.{Frame, Stack, Acted, acted, halted, withFrames, stepped, numbered, designates, linksFollowed, seekName, seekFrom, frameStep, Result, results, frameRun, frameStart, frameWords, frameSheet, frameLinks, frameReplied, frameRunOf}
+use Rattle.frames.specs.Frame.{Frame, Stack, Acted, acted, halted, withFrames, stepped, numbered, designates, linksFollowed, seekName, seekFrom, frameStep, Result, results, frameRun, frameStart, frameWords, frameSheet, frameReplied, frameRunOf}
 use Rattle.frames.specs.Both.{Both}
 use Rattle.frames.specs.Related.{readsAt, readsIn, joined, designatorFor, designatorAt, wordIn, Twin, Related, as-deep}
 use Rattle.frames.specs.Push.{related-push}
@@ -170,12 +169,6 @@ module _ (s : State) (t : Stack) (r : Related s t) (n : ℕ) where
 
 -- The replies are one.
 
-links-same : (e : Engine) (s : State) (t : Stack) → Related s t → (n : ℕ) → frameLinks e (t .frames) n ≡ linksOf e s n
-unfolding frameLinks linksOf
-links-same (copying area) s t r n = refl
-links-same (chain records) s t r n = sym (looked s t r n (last? (s .live)) refl .1)
-links-same display s t r n = refl
-
 replied-same : (e : Engine) (f : Fed) (o : Outcome) (q : Result) → Same o q → frameReplied e f q ≡ replied e f o
 unfolding frameReplied replied
 replied-same e f o q h =
@@ -186,13 +179,13 @@ replied-same e f o q h =
     let n : t .steps ≡ s .steps = sym (r .steps-are) in
     let u : t .table ≡ s .table = sym (r .table-is) in
     let d : designates (t .frames) (f .name) ≡ lookedUpDesignator s (f .name) = sym (looked s t r (f .name) (last? (s .live)) refl .0) in
-    let k = links-same e s t r (f .name) in
+    let k : linksFollowed (t .frames) (f .name) ≡ lookedUpLinks s (f .name) = sym (looked s t r (f .name) (last? (s .live)) refl .1) in
     let x : q .end ≡ o .end = sym (h .end-is) in
     let y : q .offset ≡ o .offset = sym (h .offset-is) in
-    λ i. record { answer = record { end = x i; steps = n i; offset = y i; pairs = u i .used; sheet = length (ws i); tally = f .tally + n i; designator = d i; links = k i }; sheet = ws i ++ drop (length (ws i)) (f .sheet); table = u i .words }
+    λ i. record { answer = record { end = x i; steps = n i; offset = y i; pairs = u i .used; sheet = length (ws i); tally = f .tally + n i; designator = d i; links = linksOf e (k i) }; lent = record { sheet = written (ws i) (f .lent .sheet); table = u i } }
 
 pub runs-replied : (e : Engine) (f : Fed) → Bytes (f .script) → (t : Block) → check (f .script) ≡ accepted t → frameReplied e f (frameRunOf f t) ≡ replied e f (runOf f t)
 unfolding runOf frameRunOf
 runs-replied e f bytes t a =
     replied-same e f (runOf f t) (frameRunOf f t)
-    (runs-same (limitsOf f) (f .allowance) (start t (f .table)) (frameStart t (f .table)) (start-related (f .script) t bytes a (f .table)) (started t (f .table) (accepted-closed (f .script) t bytes a)))
+    (runs-same (limitsOf f) (f .allowance) (start t (f .lent .table)) (frameStart t (f .lent .table)) (start-related (f .script) t bytes a (f .lent .table)) (started t (f .lent .table) (accepted-closed (f .script) t bytes a)))

@@ -7,7 +7,7 @@
 use mathlib.Core.Path.{_≡_}
 use Rattle.language.specs.Call.{Engine, Fed, replied, runOf, reply}
 use Rattle.grammar.specs.Rules.{Bytes}
-use Rattle.runs.specs.Calls.{called-same}
+use Rattle.runs.specs.Calls.{answered-same}
 use Rattle.frames.specs.Frame.{frameReplied, frameRunOf, frameReply}
 use Rattle.frames.specs.Runs.{runs-replied}
 
@@ -16,4 +16,4 @@ RunsAsCopies = (e : Engine) (f : Fed) → Bytes (f .script) → frameReply e f �
 
 pub frames-run-as-copies : RunsAsCopies
 unfolding frameReply reply
-frames-run-as-copies e f bytes = called-same e f (λ t. frameReplied e f (frameRunOf f t)) (λ t. replied e f (runOf f t)) (λ t a. runs-replied e f bytes t a)
+frames-run-as-copies e f bytes = answered-same e f (λ t. frameReplied e f (frameRunOf f t)) (λ t. replied e f (runOf f t)) (λ t a. runs-replied e f bytes t a)

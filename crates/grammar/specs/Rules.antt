@@ -17,11 +17,11 @@ use Rattle.laws.specs.Each.{Each}
 abbrev pub Bytes : List ℕ → Type 0
 Bytes bs = Each (λ b. b < 256) bs
 
--- Encoding: a name is any 16-bit number.
+-- Encoding: what a field can hold.
 abbrev pub Name : ℕ → Type 0
 Name n = n < 65536
 
--- Encoding: every name is one; CL's a is at most 32; KN's value is signed 32-bit (`mag z` is n for n and for −(n + 1)).
+-- Encoding: the ranges of a statement's fields (`mag z` is n for n and for −(n + 1)).
 unfoldable pub FormedAction : Action → Type 0
 FormedAction (CL p xs) = record { called : Name p; arguments : Each Name xs; few : length xs ≤ 32 }
 FormedAction (GO l) = Name l
@@ -37,8 +37,8 @@ unfoldable pub FormedFormals : List Formal → ℕ → Type 0
 FormedFormals [] here = Unit {0}
 FormedFormals (f ∷ fs) here = record { stands : f .at ≡ here; name : Name (f .name); rest : FormedFormals fs (here + 6) }
 
--- Bounds: nesting at most 16, a block or body one level below the block in which it stands; at most 32 names in a block, formals included.
--- Causes and numbers (8): no name stands twice in a block or among its formals.
+-- Bounds (6, 7) and Causes and numbers (8): how deep a block may lie, how many names it may have with its formals, and that these are
+-- distinct.
 unfoldable mutual
   pub FormedBlock : Block → ℕ → List Formal → ℕ → Type 0
   FormedBlock (block at ds ss) level fs here =
@@ -51,7 +51,7 @@ unfoldable mutual
         statements : FormedStmts ss level (here + 6 + 2 * length (declsFields ds));
       }
 
-  -- Encoding: a declaration of a block at a level with s statements. A label's index is from 1 to s. Causes and numbers (7): p is at most 32.
+  -- Encoding (4) and Causes and numbers (7): a declaration of a block with s statements.
   pub FormedDecl : Decl → ℕ → ℕ → ℕ → Type 0
   FormedDecl (VR at n) level s here = record { stands : at ≡ here; name : Name n }
   FormedDecl (LB at n i) level s here = record { stands : at ≡ here; name : Name n; first : 1 ≤ i; last : i ≤ s }
@@ -83,8 +83,8 @@ Visible sc n = (m : Meaning) × (lookup n sc ≡ some m)
 abbrev pub Is : Kind → Scope → ℕ → Type 0
 Is k sc n = (m : Meaning) × (lookup n sc ≡ some m) × (m .kind ≡ k)
 
--- Encoding: target, left, right, group and member are variables; a called name is a procedure.
--- Causes and numbers (11): the arguments of a declared procedure are as many as its formals and of their kinds. A formal's are free here (26).
+-- Encoding (10): the kind that each field asks for. Causes and numbers (11): a call's arguments suit the procedure, where it is a declared
+-- one; through a formal they are left to the run (26).
 unfoldable pub ScopedAction : Action → Scope → Type 0
 ScopedAction (CL p xs) sc =
     record {
@@ -100,7 +100,7 @@ ScopedAction (AD g m) sc = Is variable sc g × Is variable sc m
 ScopedAction (RM g m) sc = Is variable sc g × Is variable sc m
 ScopedAction (QY t g m) sc = Is variable sc t × Is variable sc g × Is variable sc m
 
--- Scope: a block's own names and its formals are visible in all text inside it, procedure bodies included; formals belong to the body's block.
+-- Scope: what stands inside a block is judged with the block's own names and formals before those around it.
 unfoldable mutual
   pub ScopedBlock : Block → List Formal → Scope → Type 0
   ScopedBlock (block at ds ss) fs sc = ScopedDecls ds (inside fs ds sc) × ScopedStmts ss (inside fs ds sc)
@@ -122,7 +122,7 @@ unfoldable mutual
   ScopedStmts no-stmt sc = Unit {0}
   ScopedStmts (stmt s ss) sc = ScopedStmt s sc × ScopedStmts ss sc
 
--- Bounds: at most 8,192 bytes (an encoding is even and not empty by itself); the program block is level 1, and stands at byte 0.
+-- Bounds: the length (an encoding is even and not empty by itself), and the program as the outermost level, at byte 0.
 pub record Keeps (t : Block) : Type 0 where
   pub size : length (encode t) ≤ 8192
   pub formed : FormedBlock t 1 [] 0

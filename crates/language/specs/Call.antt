@@ -1,7 +1,9 @@
--- Bounds, and Causes and numbers: the whole call of an engine, with the refusals in their order.
-use Prim.Native.Nat.{ℕ, zero, suc, _+_, _*_, _/_}
+-- Bounds, and Causes and numbers: the whole call of an engine. Which refusal is due is one thing (`admission`), what comes back is another.
+use Prim.Native.Nat.{ℕ, _+_, _*_, _/_}
 use mathlib.Core.Bool.{Bool, true, false, _&&_}
 use mathlib.Core.List.{List, [], _∷_, _++_}
+use mathlib.Core.Option.{Option, none, some}
+use mathlib.Core.Path.{_≡_}
 use lib.Dec.{leb}
 use lib.IntN.{ℤ}
 use lib.ListN.{length, drop}
@@ -9,97 +11,136 @@ use Rattle.language.specs.Text.{Block}
 use Rattle.language.specs.Check.{Checked, accepted, refused, check}
 use Rattle.language.specs.Table.{Table, right}
 use Rattle.language.specs.Machine.{State, Limits, Outcome, run, start}
-use Rattle.language.specs.Sheet.{sheetWords, lookedUpDesignator, lookedUpLinks}
+use Rattle.language.specs.Sheet.{sheetShare, sheetWords, lookedUpDesignator, lookedUpLinks}
 use Rattle.language.specs.declared.Refusal.{Refusal}
 use Rattle.language.specs.declared.Refusal.the-variants.{LimitRange, AreaTooShort, TableNotRight}
 use Rattle.language.specs.declared.End.{End}
 use Rattle.language.specs.declared.End.the-variants.{Refused}
 use Rattle.language.specs.declared.Answer.{Answer}
 
--- What an engine is lent beside sheet and table: the copying engine an area of so many 32-bit words, the chain engine so many
--- activation records.
-pub data Engine : Type 0 where
-  copying : ℕ → Engine
-  chain : ℕ → Engine
-  display : Engine
+-- What every engine is lent, as it finds it and as it leaves it.
+pub record Lent : Type 0 where
+  pub sheet : List ℤ
+  pub table : Table
 
--- What a call is fed, with the contents of the sheet lent.
+-- An engine: how many activation records and how many words of copying area it is lent beside that (`none`: it uses no such area), and
+-- whether it reports links.
+pub record Engine : Type 0 where
+  pub records : Option ℕ
+  pub area : Option ℕ
+  pub links : Bool
+
+abbrev pub copying : ℕ → Engine
+copying words = record { records = none; area = some words; links = false }
+
+abbrev pub chain : ℕ → Engine
+chain activations = record { records = some activations; area = none; links = true }
+
+abbrev pub display : Engine
+display = record { records = none; area = none; links = false }
+
+-- the activation records that a lent slice of 32-bit words holds, three words each
+unfoldable pub recordsIn : ℕ → ℕ
+recordsIn words = words / 3
+
+-- What a call is fed; D, N and G are `activations`, `allowance` and `group`.
 pub record Fed : Type 0 where
   pub script : List ℕ
   pub activations : ℕ
   pub allowance : ℕ
   pub group : ℕ
   pub tally : ℕ
-  pub table : Table
   pub name : ℕ
-  pub sheet : List ℤ
+  pub lent : Lent
 
--- What comes back: the answer, and what sheet and table then hold.
 pub record Reply : Type 0 where
   pub answer : Answer
-  pub sheet : List ℤ
-  pub table : List ℤ
+  pub lent : Lent
 
--- 12: D from 1 to 256, N to 1,000,000, G from 1 to 65,535, tally to 1,000,000,000,000
+abbrev pub limitsOf : Fed → Limits
+limitsOf f = record { activations = f .activations; group = f .group }
+
+-- Which refusal is due
+
+-- 12
 unfoldable pub limitsFit : Fed → Bool
 limitsFit f =
     leb 1 (f .activations) && leb (f .activations) 256 && leb (f .allowance) 1000000 && leb 1 (f .group) &&
     leb (f .group) 65535 && leb (f .tally) 1000000000000
 
--- 13: the sheet, D × 34 words, and the chain engine's records, D
-unfoldable pub recordsFit : Engine → ℕ → Bool
-recordsFit (copying area) d = true
-recordsFit (chain records) d = leb d records
-recordsFit display d = true
+-- 13: an area that an engine uses holds what is asked
+unfoldable pub holdsAtLeast : ℕ → Option ℕ → Bool
+holdsAtLeast asked none = true
+holdsAtLeast asked (some held) = leb asked held
 
-unfoldable pub lentFits : Engine → Fed → Bool
-lentFits e f = leb (f .activations * 34) (length (f .sheet)) && recordsFit e (f .activations)
+unfoldable pub sheetFits : Fed → Bool
+sheetFits f = leb (f .activations * sheetShare) (length (f .lent .sheet))
 
--- 13, last: the copying area, D × (script bytes / 2) words
+unfoldable pub recordsFit : Engine → Fed → Bool
+recordsFit e f = holdsAtLeast (f .activations) (e .records)
+
 unfoldable pub areaFits : Engine → Fed → Bool
-areaFits (copying area) f = leb (f .activations * (length (f .script) / 2)) area
-areaFits (chain records) f = true
-areaFits display f = true
+areaFits e f = holdsAtLeast (f .activations * (length (f .script) / 2)) (e .area)
 
--- A refusal reports 0 steps, the count and tally given, 0 sheet words, designator 0; nothing lent changes.
-unfoldable pub turnedAway : Fed → Refusal → ℕ → Reply
-turnedAway f c o =
-    record { answer = record { end = Refused c; steps = 0; offset = o; pairs = f .table .used; sheet = 0; tally = f .tally; designator = 0; links = 0 }; sheet = f .sheet; table = f .table .words }
+-- A test, and the refusal that is due where it fails.
+pub record Test : Type 0 where
+  pub holds : Bool
+  pub otherwise : Refusal
 
--- the chain engine gives the links followed for the looked-up name; the others give 0
-unfoldable pub linksOf : Engine → State → ℕ → ℕ
-linksOf (copying area) s n = 0
-linksOf (chain records) s n = lookedUpLinks s n
-linksOf display s n = 0
+unfoldable pub firstFailing : List Test → Option Refusal
+firstFailing [] = none
+firstFailing (t ∷ ts) = elim (t .holds) [ true ↦ firstFailing ts | false ↦ some (t .otherwise) ]
 
--- words past the sheet keep their contents
-unfoldable pub replied : Engine → Fed → Outcome → Reply
-replied e f r =
-    let s = r .final in let ws = sheetWords s in
-    record { answer = record { end = r .end; steps = s .steps; offset = r .offset; pairs = s .table .used; sheet = length ws; tally = f .tally + s .steps; designator = lookedUpDesignator s (f .name); links = linksOf e s (f .name) }; sheet = ws ++ drop (length ws) (f .sheet); table = s .table .words }
+-- The order of refusals: these tests, the script check, the tests after it.
+unfoldable pub testsBefore : Engine → Fed → List Test
+testsBefore e f =
+    record { holds = limitsFit f; otherwise = LimitRange } ∷
+    record { holds = sheetFits f; otherwise = AreaTooShort } ∷
+    record { holds = recordsFit e f; otherwise = AreaTooShort } ∷
+    record { holds = right (f .group) (f .lent .table); otherwise = TableNotRight } ∷ []
 
-unfoldable pub runOf : Fed → Block → Outcome
-runOf f t = run (record { activations = f .activations; group = f .group }) (f .allowance) (start t (f .table))
+unfoldable pub testsAfter : Engine → Fed → List Test
+testsAfter e f = record { holds = areaFits e f; otherwise = AreaTooShort } ∷ []
 
--- the check's verdict, then the copying area; `ran t` is what comes of the program t once it is accepted
-unfoldable pub checked : Engine → Fed → (Block → Reply) → Checked → Reply
-checked e f ran (refused c o) = turnedAway f c o
-checked e f ran (accepted t) = elim (areaFits e f) [ true ↦ ran t | false ↦ turnedAway f AreaTooShort 0 ]
-
--- Order: 12, 13 for the sheet and records, 14, 1 to 11; last, 13 for the copying area. Where none of them holds, the machine is run.
-unfoldable pub unlessRefused : Engine → Fed → (Block → Reply) → Reply
-unlessRefused e f ran =
-    elim (limitsFit f) [
-      | false ↦ turnedAway f LimitRange 0
-      | true ↦ elim (lentFits e f) [
-        | false ↦ turnedAway f AreaTooShort 0
-        | true ↦ elim (right (f .group) (f .table)) [
-          | false ↦ turnedAway f TableNotRight 0
-          | true ↦ checked e f ran (check (f .script))
-        ]
+-- the refusal due, with its offset, or the program to run
+unfoldable pub admission : Engine → Fed → Checked
+admission e f =
+    elim (firstFailing (testsBefore e f)) [
+      | some c ↦ refused c 0
+      | none ↦ elim (check (f .script)) [
+        | refused c o ↦ refused c o
+        | accepted t ↦ elim (firstFailing (testsAfter e f)) [ some c ↦ refused c 0 | none ↦ accepted t ]
       ]
     ]
 
+-- What comes back
+
+unfoldable pub turnedAway : Fed → Refusal → ℕ → Reply
+turnedAway f c o =
+    record { answer = record { end = Refused c; steps = 0; offset = o; pairs = f .lent .table .used; sheet = 0; tally = f .tally; designator = 0; links = 0 }; lent = f .lent }
+
+-- of the links followed, those that the engine reports
+unfoldable pub linksOf : Engine → ℕ → ℕ
+linksOf e followed = elim (e .links) [ true ↦ followed | false ↦ 0 ]
+
+-- the sheet's words, and past them what was there
+unfoldable pub written : List ℤ → List ℤ → List ℤ
+written ws sheet = ws ++ drop (length ws) sheet
+
+unfoldable pub replied : Engine → Fed → Outcome → Reply
+replied e f r =
+    let s = r .final in let ws = sheetWords s in
+    record { answer = record { end = r .end; steps = s .steps; offset = r .offset; pairs = s .table .used; sheet = length ws; tally = f .tally + s .steps; designator = lookedUpDesignator s (f .name); links = linksOf e (lookedUpLinks s (f .name)) }; lent = record { sheet = written ws (f .lent .sheet); table = s .table } }
+
+unfoldable pub runOf : Fed → Block → Outcome
+runOf f t = run (limitsOf f) (f .allowance) (start t (f .lent .table))
+
 -- The whole call.
 unfoldable pub reply : Engine → Fed → Reply
-reply e f = unlessRefused e f (λ t. replied e f (runOf f t))
+reply e f = elim (admission e f) [ refused c o ↦ turnedAway f c o | accepted t ↦ replied e f (runOf f t) ]
+
+-- What an engine leaves of an area that it alone is lent, be it of words or of records: its length always, and every element where the
+-- call is refused.
+pub record Leaves {A : Type 0} (e : Engine) (f : Fed) (before after : List A) : Type 0 where
+  pub as-long : length after ≡ length before
+  pub untouched : (c : Refusal) (o : ℕ) → admission e f ≡ refused c o → after ≡ before

@@ -1,4 +1,4 @@
--- Causes and numbers: the script check alone, 1 to 11 with the offset, in the paper's order.
+-- Causes and numbers: the script check by itself, refusals 1 to 11 in their order.
 use Prim.Native.Nat.{ℕ, zero, _%_}
 use mathlib.Core.Bool.{Bool, true, false, _&&_}
 use mathlib.Core.List.{List, [], _∷_}
@@ -15,7 +15,7 @@ pub data Checked : Type 0 where
   accepted : Block → Checked
   refused : Refusal → ℕ → Checked
 
--- 1 to 8,192 bytes and even
+-- 1, by the length under Bounds
 unfoldable pub lengthFits : List ℕ → Bool
 lengthFits bs = leb 1 (length bs) && leb (length bs) 8192 && eqb (length bs % 2) 0
 
@@ -23,7 +23,7 @@ unfoldable pub judged : Block → Verdict → Checked
 judged t fine = accepted t
 judged t (wrong c o) = refused c o
 
--- after the program: 5 where bytes are left, then 9 to 11
+-- 5 where something is left over, else the names are judged
 unfoldable pub ended : Reading Block → Checked
 ended (read t at []) = judged t (judgeBlock t [] [])
 ended (read t at (w ∷ ws)) = refused BytesAfter at

@@ -1,4 +1,4 @@
--- The copy rule, written out: replacing names throughout the text that they govern.
+-- The copy rule, written out: a text with names replaced, wherever no nearer declaration hides them.
 use Prim.Native.Nat.{ℕ}
 use mathlib.Core.Bool.{Bool, true, false}
 use mathlib.Core.List.{List, [], _∷_, _++_, map}

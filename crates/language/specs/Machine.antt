@@ -17,16 +17,15 @@ use Rattle.language.specs.declared.Stop.the-variants.{ResultTooLarge, No
 use Rattle.language.specs.declared.End.{End}
 use Rattle.language.specs.declared.End.the-variants.{Finished, Spent, Stopped, Refused}
 
--- An activation: its own copy of the block's text, which has the BK's offset; the names that its formals were replaced by;
--- its next statement number; and what each name visible there reads as, a part for each block around its text, its own first.
+-- An activation. No other shares its text; `arguments` are the names put for its formals; `reads` says how the names in sight of the
+-- text now read, in one part for each block around it, its own part first.
 pub record Activation : Type 0 where
   pub text : Block
   pub arguments : List ℕ
   pub next : ℕ
   pub reads : List Replacement
 
--- The machine: the activations in order, outermost first; a value for each new name of a variable; the next new name; the table
--- with its count; the steps done.
+-- All that the machine holds: activations outermost first, values newest first, and `fresh`, the name to be given out next.
 pub record State : Type 0 where
   pub live : List Activation
   pub values : List (ℕ × ℤ)
@@ -51,7 +50,7 @@ counted s = record { live = s .live; values = s .values; fresh = s .fresh; table
 unfoldable pub resume : Activation → ℕ → Activation
 resume a n = record { text = a .text; arguments = a .arguments; next = n; reads = a .reads }
 
--- KN stores. The newest value of a name is its value; a variable has one, 0, from its activation's entry on.
+-- The newest value of a name is its value; a variable has one, 0, from its activation's entry on.
 unfoldable pub store : State → ℕ → ℤ → State
 store s x z = record { live = s .live; values = (x, z) ∷ s .values; fresh = s .fresh; table = s .table; steps = s .steps }
 
@@ -64,11 +63,11 @@ zeros (VR at n ∷ ds) = (n, pos 0) ∷ zeros ds
 zeros (LB at n i ∷ ds) = zeros ds
 zeros (PR at n fs b ∷ ds) = zeros ds
 
--- what the formals and the declared names of a block read as: the arguments' names, and new ones
+-- how a block's own names read: a formal as its argument, a declared name as a fresh number
 unfoldable pub ownNames : List ℕ → List ℕ → ℕ → Block → Replacement
 ownNames formals arguments new b = zip formals arguments ++ zip (declaredNames b) (upFrom new (length (declaredNames b)))
 
--- Entering copies the text anew. The text is taken from where names read as `around`.
+-- a block entered, out of a text in which names read as `around`; no copy is used twice
 unfoldable pub activation : List ℕ → List ℕ → ℕ → Block → List Replacement → Activation
 activation formals arguments new b around =
     let own = ownNames formals arguments new b in
@@ -79,7 +78,7 @@ enter s formals arguments b around =
     let a = activation formals arguments (s .fresh) b around in
     record { live = s .live ++ (a ∷ []); values = zeros (blockDecls (a .text)) ++ s .values; fresh = s .fresh + length (declaredNames b); table = s .table; steps = s .steps }
 
--- The declared instance of a new name: the activation and position that declared it, with the declaration in that copy.
+-- The declared instance of a new name: where among the live activations it is declared, and the declaration as that copy has it.
 pub record Instance : Type 0 where
   pub number : ℕ
   pub position : ℕ
@@ -116,7 +115,7 @@ unfoldable pub enterIfRoom : Limits → State → List ℕ → List ℕ → Bloc
 enterIfRoom l s formals arguments b around =
     elim (ltb (length (s .live)) (l .activations)) [ true ↦ did (enter s formals arguments b around) | false ↦ stop NoActivationLeft ]
 
--- CL enters the body, copied from the activation that declared the called name; 26 is tested before 22. (A name of no instance
+-- CL: the text of the body is its declaring activation's; 26 is tested before 22. (A name of no instance
 -- calls nothing: no accepted script comes there.)
 unfoldable pub call : Limits → State → ℕ → List ℕ → Done
 call l s p xs =
@@ -128,7 +127,7 @@ call l s p xs =
       ]
     ]
 
--- GO finds the label's instance, drops every activation above it and sets the next statement to the index.
+-- GO: the label's activation becomes the innermost, and goes on at the label's index
 unfoldable pub jump : State → ℕ → State
 jump s x =
     elim (instance s x) [
@@ -141,7 +140,7 @@ compute plus a b = a +ℤ b
 compute minus a b = a -ℤ b
 compute less a b = elim (ltZ a b) [ true ↦ pos 1 | false ↦ pos 0 ]
 
--- 21 outside signed 32 bits: mag z is z, or −z − 1 where z is negative
+-- 21: mag z is z, or −z − 1 where z is negative
 unfoldable pub storeIfFits : State → ℕ → ℤ → Done
 storeIfFits s x z = elim (ltb (mag z) 2147483648) [ true ↦ did (store s x z) | false ↦ stop ResultTooLarge ]
 
@@ -182,7 +181,7 @@ doStmt l s a (DO at x) = doAction l s x
 unfoldable pub nextStmt : Activation → Option Stmt
 nextStmt a = getElem? (blockStmts (a .text)) (pred (a .next))
 
--- the next statement number rises by one
+-- past the statement that is about to be done
 unfoldable pub advance : State → Activation → State
 advance s a = withLive s (butLast (s .live) ++ (resume a (suc (a .next)) ∷ []))
 
@@ -193,11 +192,11 @@ stepIn l s a = elim (nextStmt a) [ none ↦ did (withLive s (butLast (s .live)))
 unfoldable pub step : Limits → State → Done
 step l s = elim (last? (s .live)) [ none ↦ did s | some a ↦ stepIn l s a ]
 
--- the offset of the next statement; 0 where there is none
+-- where the next statement stands; 0 if no statement is next
 unfoldable pub nextOffset : State → ℕ
 nextOffset s = elim (last? (s .live)) [ none ↦ 0 | some a ↦ elim (nextStmt a) [ none ↦ 0 | some x ↦ stmtAt x ] ]
 
--- How a run ends: the end with its cause, the offset of the record at fault and the state.
+-- How a run ends: the end with its cause, the offset to report and the state.
 pub record Outcome : Type 0 where
   pub end : End
   pub offset : ℕ
@@ -206,8 +205,7 @@ pub record Outcome : Type 0 where
 unfoldable pub ends : End → ℕ → State → Outcome
 ends e o s = record { end = e; offset = o; final = s }
 
--- Before each step: if no activation is live, finished; else if N steps are done, spent; else if the next statement has a cause
--- to stop, stopped, with all as before it. Else the step is done and counted.
+-- Finished is asked before spent, and spent before stopped, which leaves the state that it found; only a step that is done counts.
 unfoldable pub run : Limits → ℕ → State → Outcome
 run l zero s = elim (s .live) [ [] ↦ ends Finished 0 s | a ∷ rest ↦ ends Spent 0 s ]
 run l (suc n) s =
@@ -216,6 +214,6 @@ run l (suc n) s =
       | a ∷ rest ↦ elim (step l s) [ did s′ ↦ run l n (counted s′) | stop c ↦ ends (Stopped c) (nextOffset s) s ]
     ]
 
--- A run starts with the program block entered. New names are taken from the numbers above 65,535.
+-- The program is entered before the first step. Names as written have 16 bits, so new ones begin at 65,536.
 unfoldable pub start : Block → Table → State
 start program t = enter (record { live = []; values = []; fresh = 65536; table = t; steps = 0 }) [] [] program []

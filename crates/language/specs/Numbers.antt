@@ -1,11 +1,13 @@
 -- Causes and numbers: the paper's number for each case of the answer's enums.
 use Prim.Native.Nat.{ℕ}
+use mathlib.Core.List.{List, [], _∷_}
 use Rattle.language.specs.declared.Stop.{Stop}
 use Rattle.language.specs.declared.Stop.the-variants.{ResultTooLarge, NoActivationLeft, NumberBelowOne, GroupFull, TableFull, ArgumentsDiffer}
 use Rattle.language.specs.declared.Refusal.{Refusal}
 use Rattle.language.specs.declared.Refusal.the-variants.{ScriptLength, PastTheEnd, MarkMisplaced, FieldRange, BytesAfter, NestingDepth, TooManyNames, NameTwice, NotVisible, WrongKind, CallMismatch, LimitRange, AreaTooShort, TableNotRight}
 use Rattle.language.specs.declared.End.{End}
 use Rattle.language.specs.declared.End.the-variants.{Finished, Spent, Stopped, Refused}
+use Rattle.language.specs.declared.Answer.{Answer}
 
 abbrev pub stopNumber : Stop → ℕ
 stopNumber ResultTooLarge = 21
@@ -44,3 +46,8 @@ causeNumber Finished = 0
 causeNumber Spent = 0
 causeNumber (Stopped s) = stopNumber s
 causeNumber (Refused r) = refusalNumber r
+
+-- an answer as the C interface writes it
+unfoldable pub answerWords : Answer → List ℕ
+answerWords a =
+    endNumber (a .end) ∷ causeNumber (a .end) ∷ a .steps ∷ a .offset ∷ a .pairs ∷ a .sheet ∷ a .tally ∷ a .designator ∷ a .links ∷ []

@@ -1,6 +1,8 @@
 -- Sample scripts: those that document 01 marks *, and rows for readings that nothing else rules out, in one table.
 -- docs/READINGS.md has the wrong readings that the rows rule out.
--- `samples-hold` is the claim about all of them, for each engine; `computed-once` is the test that is computed.
+-- A row compares whole replies: end with cause, steps, offset, pairs in use, count of sheet words, tally, designator and links of the answer,
+-- and every word of sheet and table. `samples-hold` is the claim about all rows, each for every engine that it is about and no other;
+-- `computed-once` is the test that is computed. A script's length is stated where document 01 gives it (`bytes-A`, `bytes-B`).
 use Prim.Native.Nat.{ℕ, zero, suc, _+_, _-_, _*_, _/_, _<_}
 use native.Mathlib.Nat.{not-suc-le-zero, le-of-suc-le-suc}
 use mathlib.Core.Path.{_≡_, refl}
@@ -18,19 +20,20 @@ use Rattle.language.specs.declared.End.{End}
 use Rattle.language.specs.declared.End.the-variants.{Finished, Spent, Stopped, Refused}
 use Rattle.language.specs.declared.Answer.{Answer}
 
--- What is lent to the engines of a row: to each just what it is due, or the row is about one engine, with so much of its own.
-pub data Lent : Type 0 where
-  in-full : Lent
-  only : Engine → Lent
+-- Which engines a row is about: all three, each lent what it is due of its own, or one with so much of its own.
+pub data About : Type 0 where
+  all : About
+  only : Engine → About
 
--- A row: script, D, N, G, what is lent and how many words the sheet is short, table and looked-up name; then end, steps, offset,
--- pairs in use, designator, sheet and table words.
+-- A row: what is fed (`short`: how many words of sheet are lent too few), and from `end` on what must come back. `links` are those of the
+-- engine that reports them, `sheet` has the words written. The rest of a reply follows: the count of these words, the tally handed in and
+-- the steps together, and past the words written what was there.
 pub record Sample : Type 0 where
   pub script : List ℕ
   pub activations : ℕ
   pub allowance : ℕ
   pub group : ℕ
-  pub lent : Lent
+  pub about : About
   pub short : ℕ
   pub table : Table
   pub name : ℕ
@@ -50,36 +53,35 @@ lentTally = 100
 unfoldable pub lentWord : ℤ
 lentWord = pos 7
 
-pub data Method : Type 0 where
-  by-copying by-chain by-display : Method
-
--- each engine with just the area that it is due
-unfoldable pub inFull : Method → Sample → Engine
-inFull by-copying r = copying (r .activations * (length (r .script) / 2))
-inFull by-chain r = chain (r .activations)
-inFull by-display r = display
-
-unfoldable pub engineOf : Method → Sample → Engine
-engineOf m r = elim (r .lent) [ in-full ↦ inFull m r | only e ↦ e ]
-
-unfoldable pub linksFor : Method → Sample → ℕ
-linksFor by-copying r = 0
-linksFor by-chain r = r .links
-linksFor by-display r = 0
-
+-- 34 is written out here, so that the rows judge `sheetShare`
 unfoldable pub lentSheet : Sample → ℕ
 lentSheet r = r .activations * 34 - r .short
 
 unfoldable pub fed : Sample → Fed
 fed r =
-    record { script = r .script; activations = r .activations; allowance = r .allowance; group = r .group; tally = lentTally; table = r .table; name = r .name; sheet = replicate (lentSheet r) lentWord }
+    record { script = r .script; activations = r .activations; allowance = r .allowance; group = r .group; tally = lentTally; name = r .name; lent = record { sheet = replicate (lentSheet r) lentWord; table = r .table } }
 
-unfoldable pub got : Method → Sample → Reply
-got m r = reply (engineOf m r) (fed r)
+-- An engine of a row, with the links that it must give.
+pub record Party : Type 0 where
+  pub engine : Engine
+  pub links : ℕ
 
-unfoldable pub wanted : Method → Sample → Reply
-wanted m r =
-    record { answer = record { end = r .end; steps = r .steps; offset = r .offset; pairs = r .pairs; sheet = length (r .sheet); tally = lentTally + r .steps; designator = r .designator; links = linksFor m r }; sheet = r .sheet ++ replicate (lentSheet r - length (r .sheet)) lentWord; table = r .words }
+unfoldable pub parties : Sample → List Party
+parties r =
+    elim (r .about) [
+      | all ↦
+          record { engine = copying (r .activations * (length (r .script) / 2)); links = 0 } ∷
+          record { engine = chain (r .activations); links = r .links } ∷
+          record { engine = display; links = 0 } ∷ []
+      | only e ↦ record { engine = e; links = r .links } ∷ []
+    ]
+
+unfoldable pub got : Sample → Party → Reply
+got r p = reply (p .engine) (fed r)
+
+unfoldable pub wanted : Sample → Party → Reply
+wanted r p =
+    record { answer = record { end = r .end; steps = r .steps; offset = r .offset; pairs = r .pairs; sheet = length (r .sheet); tally = lentTally + r .steps; designator = r .designator; links = p .links }; lent = record { sheet = r .sheet ++ replicate (lentSheet r - length (r .sheet)) lentWord; table = record { words = r .words; used = r .pairs } } }
 
 unfoldable pub noPairs : ℕ → List ℤ
 noPairs n = replicate (n * 2) (pos 0)
@@ -105,7 +107,7 @@ script-arithmetic a a′ b b′ o =
     bytesOf
     (BK-mark ∷ 2 ∷ 3 ∷ VR-mark ∷ 1 ∷ VR-mark ∷ 2 ∷ KN-mark ∷ 1 ∷ a ∷ a′ ∷ KN-mark ∷ 2 ∷ b ∷ b′ ∷ AR-mark ∷ 1 ∷ o ∷ 1 ∷ 2 ∷ [])
 
--- a block inside the program
+-- a program whose one statement is a block
 unfoldable pub script-nested : List ℕ
 script-nested = bytesOf (BK-mark ∷ 0 ∷ 1 ∷ BK-mark ∷ 0 ∷ 0 ∷ [])
 
@@ -159,7 +161,7 @@ script-highest =
 -- a call that runs to its end, stops or is refused, with N, from an empty table of eight pairs
 unfoldable pub ends-within : ℕ → List ℕ → ℕ → End → ℕ → ℕ → List ℤ → Sample
 ends-within allowance script d e n o ws =
-    record { script = script; activations = d; allowance = allowance; group = 3; lent = in-full; short = 0; table = record { words = noPairs 8; used = 0 }; name = 9; end = e; steps = n; offset = o; pairs = 0; designator = 0; links = 0; sheet = ws; words = noPairs 8 }
+    record { script = script; activations = d; allowance = allowance; group = 3; about = all; short = 0; table = record { words = noPairs 8; used = 0 }; name = 9; end = e; steps = n; offset = o; pairs = 0; designator = 0; links = 0; sheet = ws; words = noPairs 8 }
 
 unfoldable pub ends-with : List ℕ → ℕ → End → ℕ → ℕ → List ℤ → Sample
 ends-with script d e n o ws = ends-within 1000 script d e n o ws
@@ -167,30 +169,35 @@ ends-with script d e n o ws = ends-within 1000 script d e n o ws
 -- script A with group limit, table and its count; what comes of it
 unfoldable pub of-A : ℕ → List ℤ → ℕ → End → ℕ → ℕ → ℕ → List ℤ → List ℤ → Sample
 of-A g table used e n o pairs ws table′ =
-    record { script = script-A; activations = 16; allowance = 1000; group = g; lent = in-full; short = 0; table = record { words = table; used = used }; name = 9; end = e; steps = n; offset = o; pairs = pairs; designator = 0; links = 0; sheet = ws; words = table′ }
+    record { script = script-A; activations = 16; allowance = 1000; group = g; about = all; short = 0; table = record { words = table; used = used }; name = 9; end = e; steps = n; offset = o; pairs = pairs; designator = 0; links = 0; sheet = ws; words = table′ }
 
 -- script A stopped at its AD, which stands at offset 30
 unfoldable pub A-stopped : List ℤ
 A-stopped = pos 0 ∷ pos 3 ∷ pos 5 ∷ pos 7 ∷ []
 
+-- script B after nine steps
+unfoldable pub B-spent : List ℤ
+B-spent =
+    pos 0 ∷ pos 2 ∷ pos 1 ∷ pos 0 ∷ pos 0 ∷ pos 34 ∷ pos 5 ∷ pos 66 ∷ pos 9 ∷ pos 0 ∷ pos 0 ∷ pos 34 ∷ pos 7 ∷ pos 131 ∷ pos 2 ∷ pos 0 ∷ pos 0 ∷ pos 50 ∷ pos 2 ∷ []
+
 -- a spent run, with the looked-up name
 unfoldable pub spent-at : List ℕ → ℕ → ℕ → ℕ → ℕ → List ℤ → Sample
 spent-at script n name designator links ws =
-    record { script = script; activations = 16; allowance = n; group = 3; lent = in-full; short = 0; table = record { words = noPairs 8; used = 0 }; name = name; end = Spent; steps = n; offset = 0; pairs = 0; designator = designator; links = links; sheet = ws; words = noPairs 8 }
+    record { script = script; activations = 16; allowance = n; group = 3; about = all; short = 0; table = record { words = noPairs 8; used = 0 }; name = name; end = Spent; steps = n; offset = 0; pairs = 0; designator = designator; links = links; sheet = ws; words = noPairs 8 }
 
--- a refused call with N at its highest: script, G, what is lent, words short, table; cause and offset
-unfoldable pub refused-with : List ℕ → ℕ → Lent → ℕ → Table → Refusal → ℕ → Sample
-refused-with script g lent short t c o =
-    record { script = script; activations = 16; allowance = 1000000; group = g; lent = lent; short = short; table = t; name = 9; end = Refused c; steps = 0; offset = o; pairs = t .used; designator = 0; links = 0; sheet = []; words = t .words }
+-- a refused call with N at its highest: script, G, engines, words short, table; cause and offset
+unfoldable pub refused-with : List ℕ → ℕ → About → ℕ → Table → Refusal → ℕ → Sample
+refused-with script g about short t c o =
+    record { script = script; activations = 16; allowance = 1000000; group = g; about = about; short = short; table = t; name = 9; end = Refused c; steps = 0; offset = o; pairs = t .used; designator = 0; links = 0; sheet = []; words = t .words }
 
--- the script is empty and a number of the table is 0; G, what is lent and words short vary
-unfoldable pub all-wrong : ℕ → Lent → ℕ → Refusal → Sample
-all-wrong g lent short c = refused-with script-empty g lent short (record { words = pos 6 ∷ pos 0 ∷ []; used = 1 }) c 0
+-- the script is empty and a number of the table is 0; G, engines and words short vary
+unfoldable pub all-wrong : ℕ → About → ℕ → Refusal → Sample
+all-wrong g about short c = refused-with script-empty g about short (record { words = pos 6 ∷ pos 0 ∷ []; used = 1 }) c 0
 
 -- the first of three pairs in use taken out of four places
 unfoldable pub pair-taken-out : Sample
 pair-taken-out =
-    record { script = script-pair; activations = 16; allowance = 4; group = 3; lent = in-full; short = 0; table = record { words = pos 5 ∷ pos 7 ∷ pos 6 ∷ pos 1 ∷ pos 6 ∷ pos 2 ∷ pos 8 ∷ pos 9 ∷ []; used = 3 }; name = 3; end = Spent; steps = 4; offset = 0; pairs = 2; designator = 67; links = 0; sheet = pos 0 ∷ pos 5 ∷ pos 5 ∷ pos 7 ∷ pos 1 ∷ []; words = pos 6 ∷ pos 1 ∷ pos 6 ∷ pos 2 ∷ pos 0 ∷ pos 0 ∷ pos 8 ∷ pos 9 ∷ [] }
+    record { script = script-pair; activations = 16; allowance = 4; group = 3; about = all; short = 0; table = record { words = pos 5 ∷ pos 7 ∷ pos 6 ∷ pos 1 ∷ pos 6 ∷ pos 2 ∷ pos 8 ∷ pos 9 ∷ []; used = 3 }; name = 3; end = Spent; steps = 4; offset = 0; pairs = 2; designator = 67; links = 0; sheet = pos 0 ∷ pos 5 ∷ pos 5 ∷ pos 7 ∷ pos 1 ∷ []; words = pos 6 ∷ pos 1 ∷ pos 6 ∷ pos 2 ∷ pos 0 ∷ pos 0 ∷ pos 8 ∷ pos 9 ∷ [] }
 
 unfoldable pub samples : List Sample
 samples =
@@ -216,13 +223,12 @@ samples =
     pair-taken-out ∷
     -- 12 before 13; 13 for one word of sheet or one record too few, before 14 and 1
     all-wrong 0 (only (chain 15)) 1 LimitRange ∷
-    all-wrong 65535 in-full 1 AreaTooShort ∷
+    all-wrong 65535 all 1 AreaTooShort ∷
     all-wrong 65535 (only (chain 15)) 0 AreaTooShort ∷
     -- 13 for a copying area one word too short; 9 before it
     refused-with script-A 65535 (only (copying 287)) 0 (record { words = []; used = 0 }) AreaTooShort 0 ∷
     refused-with (script-use (GO-mark ∷ 9 ∷ [])) 65535 (only (copying 0)) 0 (record { words = []; used = 0 }) NotVisible 12 ∷
-    spent-at script-B 9 5 130 1
-    (pos 0 ∷ pos 2 ∷ pos 1 ∷ pos 0 ∷ pos 0 ∷ pos 34 ∷ pos 5 ∷ pos 66 ∷ pos 9 ∷ pos 0 ∷ pos 0 ∷ pos 34 ∷ pos 7 ∷ pos 131 ∷ pos 2 ∷ pos 0 ∷ pos 0 ∷ pos 50 ∷ pos 2 ∷ []) ∷
+    spent-at script-B 9 5 130 1 B-spent ∷
     ends-with (script-arithmetic 65535 32767 1 0 0) 16 (Stopped ResultTooLarge) 2 30 (pos 0 ∷ pos 3 ∷ pos 2147483647 ∷ pos 1 ∷ []) ∷
     ends-with (script-arithmetic 0 32768 1 0 1) 16 (Stopped ResultTooLarge) 2 30 (pos 0 ∷ pos 3 ∷ negsuc 2147483647 ∷ pos 1 ∷ []) ∷
     ends-with (script-arithmetic 65535 32767 0 0 0) 16 Finished 4 0 [] ∷
@@ -235,7 +241,7 @@ samples =
     ends-with (script-procedure 1 2) 16 (Refused NameTwice) 0 10 [] ∷
     ends-with (script-procedure 3 2) 16 (Refused FieldRange) 0 22 [] ∷
     ends-with (bytesOf (inside-blocks 16)) 16 (Refused NestingDepth) 0 96 [] ∷
-    -- left to right, each name by 9 and then 10: the first is no variable, or no procedure, the second not visible
+    -- one name after another: the first is no variable, or no procedure (10), the second not visible (9)
     ends-with (script-use (IF-mark ∷ 2 ∷ 9 ∷ [])) 16 (Refused WrongKind) 0 12 [] ∷
     ends-with (script-use (CL-mark ∷ 2 ∷ 1 ∷ 9 ∷ [])) 16 (Refused WrongKind) 0 12 [] ∷
     -- 26 before 22
@@ -243,24 +249,41 @@ samples =
     spent-at script-goto 3 2 66 0 (pos 0 ∷ pos 2 ∷ pos 0 ∷ pos 0 ∷ []) ∷
     spent-at script-crossed 2 1 66 0 (pos 0 ∷ pos 2 ∷ pos 0 ∷ pos 6 ∷ pos 0 ∷ pos 32 ∷ pos 2 ∷ pos 66 ∷ pos 65 ∷ []) ∷
     -- new names lie above 65,535; less goes by sign
-    spent-at script-highest 3 65535 129 0 (pos 0 ∷ pos 2 ∷ pos 1 ∷ pos 10 ∷ pos 3 ∷ pos 0 ∷ []) ∷ []
+    spent-at script-highest 3 65535 129 0 (pos 0 ∷ pos 2 ∷ pos 1 ∷ pos 10 ∷ pos 3 ∷ pos 0 ∷ []) ∷
+    -- a name is looked up as written: 65,536 is the new name of the program's variable, and none of the script's
+    spent-at script-B 9 65536 0 0 B-spent ∷ []
 
 -- the first row stands for what lies past the end
 unfoldable pub row : ℕ → Sample
 row k = getD samples k (ends-with script-empty 16 (Refused ScriptLength) 0 0 [])
 
-computed-once : (m : Method) → map (got m) samples ≡ map (wanted m) samples
-unfolding computed lentTally lentWord inFull engineOf linksFor lentSheet fed got wanted noPairs script-empty script-null script-A script-B script-arithmetic script-nested script-order script-goto script-crossed script-procedure inside-blocks script-use script-pair script-formal script-highest ends-within ends-with of-A A-stopped spent-at refused-with all-wrong pair-taken-out samples
-computed-once by-copying = refl
-computed-once by-chain = refl
-computed-once by-display = refl
+-- the replies to a row, those got and those wanted
+unfoldable pub replies : (Sample → Party → Reply) → Sample → List Reply
+replies f r = map (f r) (parties r)
 
-each : (f g : Sample → Reply) (rs : List Sample) (d : Sample) → map f rs ≡ map g rs → (k : ℕ) → k < length rs → f (getD rs k d) ≡ g (getD rs k d)
+-- The definitions of this table, to be computed with those of `computed`.
+unfoldable pub tabled : Unit {0}
+unfolding lentTally lentWord lentSheet fed parties got wanted replies noPairs script-empty script-null script-A script-B script-arithmetic script-nested script-order script-goto script-crossed script-procedure inside-blocks script-use script-pair script-formal script-highest ends-within ends-with of-A A-stopped B-spent spent-at refused-with all-wrong pair-taken-out samples
+tabled = tt
+
+computed-once : map (replies got) samples ≡ map (replies wanted) samples
+unfolding computed tabled
+computed-once = refl
+
+pub bytes-A : length script-A ≡ 36
+unfolding computed tabled
+bytes-A = refl
+
+pub bytes-B : length script-B ≡ 122
+unfolding computed tabled
+bytes-B = refl
+
+each {ℓ} : {A : Type ℓ} {B : Type 0} (f g : A → B) (xs : List A) (d : A) → map f xs ≡ map g xs → (k : ℕ) → k < length xs → f (getD xs k d) ≡ g (getD xs k d)
 each f g [] d e k h = absurd (not-suc-le-zero h)
-each f g (r ∷ rs) d e zero h = head-eq-of-cons-eq e
-each f g (r ∷ rs) d e (suc k) h = each f g rs d (tail-eq-of-cons-eq e) k (le-of-suc-le-suc h)
+each f g (x ∷ xs) d e zero h = head-eq-of-cons-eq e
+each f g (x ∷ xs) d e (suc k) h = each f g xs d (tail-eq-of-cons-eq e) k (le-of-suc-le-suc h)
 
--- Every row holds, of every engine: the whole reply is the one wanted.
-pub samples-hold : (m : Method) (k : ℕ) → k < length samples → got m (row k) ≡ wanted m (row k)
+-- Every row holds, of every engine that it is about: the whole reply is the one wanted.
+pub samples-hold : (k : ℕ) → k < length samples → replies got (row k) ≡ replies wanted (row k)
 unfolding row
-samples-hold m k h = each (got m) (wanted m) samples (ends-with script-empty 16 (Refused ScriptLength) 0 0 []) (computed-once m) k h
+samples-hold k h = each (replies got) (replies wanted) samples (ends-with script-empty 16 (Refused ScriptLength) 0 0 []) computed-once k h

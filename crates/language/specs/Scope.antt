@@ -1,4 +1,4 @@
--- Scope: what each name used stands for, refusals 9 to 11, in file order.
+-- Scope: what each name used stands for, and refusals 9 to 11 where they come first in the script.
 use Prim.Native.Nat.{ℕ}
 use mathlib.Core.Bool.{Bool, true, false, _&&_}
 use mathlib.Core.List.{List, [], _∷_, _++_, map}
@@ -25,7 +25,7 @@ declMeaning (VR at n) = (n, record { kind = variable; takes = none })
 declMeaning (LB at n i) = (n, record { kind = label; takes = none })
 declMeaning (PR at n fs b) = (n, record { kind = procedure; takes = some (formalKinds fs) })
 
--- Formals belong to the body's block, and a name declared nearer hides the outer one.
+-- The names inside a block: its own and its procedure's formals, and then those around it, which they hide.
 unfoldable pub inside : List Formal → Decls → Scope → Scope
 inside fs ds sc = map formalMeaning fs ++ (map declMeaning (decls ds) ++ sc)
 
@@ -66,12 +66,12 @@ agree (k ∷ ks) [] = false
 agree (k ∷ ks) (none ∷ xs) = false
 agree (k ∷ ks) (some x ∷ xs) = sameKind k x && agree ks xs
 
--- 11 is for a declared procedure; a call through a formal is judged as it is done (26)
+-- 11; what a formal stands for is known to the run alone, which judges the call then (26)
 unfoldable pub agrees : ℕ → Option Meaning → List (Option Kind) → Verdict
 agrees o none xs = fine
 agrees o (some m) xs = elim (m .takes) [ none ↦ fine | some ks ↦ elim (agree ks xs) [ true ↦ fine | false ↦ wrong CallMismatch o ] ]
 
--- a record's names left to right
+-- in the order in which a record has its names
 unfoldable pub judgeAction : Scope → ℕ → Action → Verdict
 judgeAction sc o (CL p xs) =
     _then_ (uses sc o procedure p) (_then_ (allVisible sc o xs) (agrees o (lookup p sc) (map (kindIn sc) xs)))

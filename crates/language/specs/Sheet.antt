@@ -9,18 +9,21 @@ use Rattle.language.specs.Text.{Block, Decl, VR, LB, PR, blockAt, blockD
 use Rattle.language.specs.Copy.{Replacement}
 use Rattle.language.specs.Machine.{Activation, State, Instance, instance, value}
 
--- activation number, from 1, times 64, plus the name's position, from 1; 0 for a name of no instance
+-- 64 numbers to an activation, so that its number and the position can both be read off; 0 for a name of no instance
 unfoldable pub designator : State → ℕ → ℕ
 designator s x = elim (instance s x) [ none ↦ 0 | some i ↦ i .number * 64 + i .position ]
 
--- a variable gives its value, a label or procedure 0
+-- of what is declared only variables have something to show
 unfoldable pub declWord : State → Decl → ℤ
 declWord s (VR at n) = value s n
 declWord s (LB at n i) = pos 0
 declWord s (PR at n fs b) = pos 0
 
--- byte offset of its BK, next statement number, then a word per name: a formal the designator of the declared name that it
--- finally stands for, which is the name that it reads as
+-- the words of sheet lent for each activation: two, and one for each of 32 names
+abbrev pub sheetShare : ℕ
+sheetShare = 34
+
+-- where its block stands, where it goes on, and its names, formals first; a formal shows the instance of the name that it reads as
 unfoldable pub activationWords : State → Activation → List ℤ
 activationWords s a =
     pos (blockAt (a .text)) ∷ pos (a .next) ∷
@@ -30,7 +33,7 @@ unfoldable pub wordsOf : State → List Activation → List ℤ
 wordsOf s [] = []
 wordsOf s (a ∷ rest) = activationWords s a ++ wordsOf s rest
 
--- from the outermost activation
+-- outermost activation first
 unfoldable pub sheetWords : State → List ℤ
 sheetWords s = wordsOf s (s .live)
 
@@ -44,13 +47,13 @@ seek n k [] = none
 seek n k (own ∷ around) =
     elim (lookup n own) [ some x ↦ some (record { name = x; passed = k }) | none ↦ seek n (suc k) around ]
 
--- the looked-up name is taken in the innermost live block
+-- a name as the innermost activation has it
 unfoldable pub lookedUp : State → ℕ → Option Found
 lookedUp s n = elim (last? (s .live)) [ none ↦ none | some a ↦ seek n 0 (a .reads) ]
 
 unfoldable pub lookedUpDesignator : State → ℕ → ℕ
 lookedUpDesignator s n = elim (lookedUp s n) [ none ↦ 0 | some f ↦ designator s (f .name) ]
 
--- level of the innermost block minus level of the block that declares the name as written
+-- how many levels further out the block lies that has the name, which for a formal is its body's block
 unfoldable pub lookedUpLinks : State → ℕ → ℕ
 lookedUpLinks s n = elim (lookedUp s n) [ none ↦ 0 | some f ↦ f .passed ]

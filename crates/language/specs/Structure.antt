@@ -1,5 +1,5 @@
 -- Encoding and Bounds: reading a script record by record, refusals 2 to 8.
--- A reader goes on from a byte offset and the fields unread, and each record is read or refused before the next one is touched.
+-- A reader goes on from a byte offset and the fields unread, and looks no further than the first record at fault.
 use Prim.Native.Nat.{ℕ, zero, suc, _+_, _*_, _≤_}
 use mathlib.Core.Bool.{Bool, true, false, not, _&&_}
 use mathlib.Core.List.{List, [], _∷_, map}
@@ -77,7 +77,7 @@ stmtMarks =
     record { letters = AD-mark; count = 2; mark = isAD } ∷ record { letters = RM-mark; count = 2; mark = isRM } ∷
     record { letters = QY-mark; count = 3; mark = isQY } ∷ []
 
--- the row of a mark; 3 where it may not stand there
+-- the row of a mark; 3 where the table has none
 unfoldable pub fit : {M : Type 0} → ℕ → ℕ → List (Row M) → Reader (Row M)
 fit o w [] = λ at ws. refuse MarkMisplaced o
 fit o w (r ∷ rs) = elim (eqb w (r .letters)) [ true ↦ give r | false ↦ fit o w rs ]
@@ -88,7 +88,7 @@ pub record Record (M : Type 0) : Type 0 where
   pub mark : M
   pub fields : List ℕ
 
--- in this order: mark present (2), mark fit (3), fields present (2)
+-- 2 for the mark, then 3, then 2 for the fields
 unfoldable pub take-record : {M : Type 0} → List (Row M) → Reader (Record M)
 take-record rows = do
   at ← here
@@ -188,7 +188,7 @@ blockWith (suc k) at d s fs = do
   ss ← statements (blockWith k) s
   give (block at ds ss)
 
--- the program is one BK, at level 1 of 16
+-- a block with all 16 levels left
 unfoldable pub program : Reader Block
 program = do
   b ← take-record blockMarks

@@ -1,4 +1,4 @@
--- Bounds and One step: the membership table, two words for a pair (group, member), of which the first pairs are in use.
+-- Bounds and One step: the membership table. Two words make a pair, first its group, and the pairs in use come first.
 use Prim.Native.Nat.{ℕ, zero, suc, _+_, _*_, _%_}
 use mathlib.Core.Bool.{Bool, true, false, not, _&&_, cond}
 use mathlib.Core.List.{List, [], _∷_, _++_}
@@ -43,7 +43,7 @@ size g t = members g (t .used) (t .words)
 unfoldable pub atLeastOne : ℤ → Bool
 atLeastOne z = leZ (pos 1) z
 
--- of the first k pairs: every number is at least 1
+-- of the first k pairs: no number is below 1
 unfoldable pub numbersRight : ℕ → List ℤ → Bool
 numbersRight zero ws = true
 numbersRight (suc k) [] = true
@@ -64,8 +64,7 @@ groupsWithin limit t (suc k) [] = true
 groupsWithin limit t (suc k) (a ∷ []) = true
 groupsWithin limit t (suc k) (a ∷ b ∷ ws) = leb (size a t) limit && groupsWithin limit t k ws
 
--- The table is right when its length is even, the count fits, every number in use is at least 1, no pair stands twice and no
--- group has more than limit members.
+-- Rightness, under Bounds: whole pairs, a count within them, and of the pairs in use the three properties above.
 unfoldable pub right : ℕ → Table → Bool
 right limit t =
     eqb (length (t .words) % 2) 0 && leb (2 * t .used) (length (t .words)) && numbersRight (t .used) (t .words) &&
@@ -79,7 +78,7 @@ full t = ltb (length (t .words)) (2 * suc (t .used))
 unfoldable pub add : ℤ → ℤ → Table → Table
 add g m t = record { words = set (set (t .words) (2 * t .used) g) (suc (2 * t .used)) m; used = suc (t .used) }
 
--- the pair at place i taken out: later pairs move down by one and the place freed last is set to 0, 0
+-- the pair at place i of k taken out: those after it close the gap, and zeros take the place that they leave
 unfoldable pub takeOut : ℕ → ℕ → List ℤ → List ℤ
 takeOut i zero ws = ws
 takeOut i (suc k) [] = []
@@ -91,7 +90,7 @@ unfoldable pub fewer : ℕ → ℕ
 fewer zero = zero
 fewer (suc k) = k
 
--- an absent pair changes nothing
+-- the same table where the pair is not in it
 unfoldable pub remove : ℤ → ℤ → Table → Table
 remove g m t =
     elim (find g m (t .used) (t .words)) [
@@ -109,8 +108,7 @@ pub data Asked : Type 0 where
   gives : ℤ → Asked
   refuses : Stop → Asked
 
--- AD adds the pair at the end unless present. In this order: 23, number below 1; 24, pair absent and its group has limit members;
--- 25, pair absent and the table is full. All are tested before the pair is written.
+-- AD: 23, 24 and 25 in this order, the last two for a pair not in the table alone, and all of them judged on the table as it was.
 unfoldable pub added : ℕ → ℤ → ℤ → Table → Effect
 added limit g m t =
     elim (atLeastOne g && atLeastOne m) [
@@ -124,11 +122,11 @@ added limit g m t =
       ]
     ]
 
--- RM takes the pair out; 23, number below 1
+-- RM: 23, else the pair is in the table no more
 unfoldable pub removed : ℤ → ℤ → Table → Effect
 removed g m t = elim (atLeastOne g && atLeastOne m) [ false ↦ halts NumberBelowOne | true ↦ leaves (remove g m t) ]
 
--- QY stores 1 if the pair is present, else 0; 23, number below 1
+-- QY: 23, else whether the table has the pair
 unfoldable pub queried : ℤ → ℤ → Table → Asked
 queried g m t =
     elim (atLeastOne g && atLeastOne m) [ false ↦ refuses NumberBelowOne | true ↦ gives (cond (holds g m t) (pos 1) (pos 0)) ]

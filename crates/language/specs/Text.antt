@@ -4,11 +4,11 @@ use mathlib.Core.Bool.{Bool, true, false}
 use mathlib.Core.List.{List, [], _∷_, _++_, map}
 use lib.IntN.{ℤ}
 
--- a formal's kind: 0 variable, 1 label, 2 procedure
+-- the kinds, in the order of FM's numbers
 pub data Kind : Type 0 where
   variable label procedure : Kind
 
--- AR's operation: 0 left + right, 1 left − right, 2 whether left < right
+-- AR's operations, in the order of their numbers; `less` asks whether the left value is the smaller
 pub data Operation : Type 0 where
   plus minus less : Operation
 
@@ -28,7 +28,7 @@ pub data Action : Type 0 where
   AD RM : ℕ → ℕ → Action
   QY : ℕ → ℕ → ℕ → Action
 
--- Declarations are VR, LB, PR. A block holds declarations and statements, a procedure declaration holds a block.
+-- Blocks stand in blocks: as statements, and as the bodies of declared procedures.
 mutual
   pub data Block : Type 0 where
     block : ℕ → Decls → Stmts → Block

@@ -30,7 +30,7 @@ pub enum Refusal {
     TableNotRight,
 }
 
-// What the script check says: fit to run, or refused with the cause and the byte offset of the record at fault.
+// What the script check says: fit to run, or refused with the cause and the offset to report.
 pub enum Verdict {
     Fit,
     Refused(Refusal, usize),

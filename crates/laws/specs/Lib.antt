@@ -4,10 +4,13 @@ pub mod Kinds
 pub mod Lists
 pub mod Tables
 pub mod Readers
+pub mod Fields
 pub mod Reversed
 pub mod Each
+pub mod Order
 pub mod Distinct
 pub mod Lookup
 pub mod Renaming
+pub mod RenamedFields
 pub mod Instances
 pub mod Rising

@@ -203,7 +203,7 @@ renamed-zip (k ∷ ks) (y ∷ ys) σ l h =
     ap₂ {C = List ℕ} _∷_ (renamed-some ((k, y) ∷ τ) k y (lookup-here k (k, y) τ (eq-eqb k k refl)))
     (names-alike ks ((k, y) ∷ τ) τ (λ n m. lookup-there n (k, y) τ (ne-eqb n k (among-differ n k ks m (apart-among k ks (h .0))))) ∙ renamed-zip ks ys σ (omega arith) (h .1))
 
--- formals read as the arguments, and declared names as new ones
+-- each formal reads as its argument, each declared name as its new one
 module _ (fs args ns news : List ℕ) (σ : Replacement) (lf : length fs ≡ length args) (ln : length ns ≡ length news) (once : Distinct (fs ++ ns)) where
   own-all : map (renamed (zip fs args ++ zip ns news ++ σ)) fs ++ map (renamed (zip fs args ++ zip ns news ++ σ)) ns ≡ args ++ news
   own-all =

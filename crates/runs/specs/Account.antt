@@ -12,7 +12,7 @@ use Rattle.language.specs.declared.End.{End}
 use Rattle.language.specs.declared.End.the-variants.{Finished, Spent, Stopped, Refused}
 use Rattle.runs.specs.Moves.{Kept, After, step-keeps}
 
--- no activation is live: finished, whatever is allowed
+-- with nothing live a run is finished, whatever is allowed
 pub run-finished : (l : Limits) (n : ℕ) (s : State) → s .live ≡ [] → run l n s ≡ ends Finished 0 s
 unfolding run
 run-finished l zero s e = ap (λ as′. elim as′ as (λ x. Outcome) [ [] ↦ ends Finished 0 s | a ∷ rest ↦ ends Spent 0 s ]) e

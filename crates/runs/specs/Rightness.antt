@@ -15,7 +15,7 @@ use Rattle.laws.specs.Tests.{both}
 use Rattle.laws.specs.Tables.{groupAt, memberAt, groupAt-suc, memberAt-suc}
 use Rattle.runs.specs.Pairs.{At, below-or, absent, find-absent, members-where}
 
--- Of the pairs in use: both numbers are at least 1, equal pairs are at the same place, and no group has more than limit members.
+-- Of the pairs in use: both numbers are at least 1, equal pairs are at the same place, and each group has at most limit members.
 pub record Right (limit : ℕ) (t : Table) : Type 0 where
   pub even : length (t .words) % 2 ≡ 0
   pub fits : 2 * t .used ≤ length (t .words)

@@ -37,7 +37,7 @@ takeOut-after (suc i) (suc k) (a ∷ b ∷ ws) zero d f h l = absurd (omega arit
 takeOut-after (suc i) (suc k) (a ∷ b ∷ ws) (suc zero) d f h l = absurd (omega arith)
 takeOut-after (suc i) (suc k) (a ∷ b ∷ ws) (suc (suc n)) d f h l = takeOut-after i k ws n d (omega arith) (omega arith) (omega arith)
 
--- the place freed last is set to 0, 0
+-- zeros stand at the last place that was in use
 pub takeOut-freed : (i k : ℕ) (ws : List ℤ) (n : ℕ) (d : ℤ) → 2 * k ≤ length ws → i < k → 2 * k ≤ suc (suc n) → n < 2 * k → getD (takeOut i k ws) n d ≡ pos 0
 unfolding takeOut
 takeOut-freed i zero ws n d f q h l = absurd (omega arith)
@@ -56,7 +56,7 @@ takeOut-freed (suc i) (suc k) (a ∷ b ∷ ws) zero d f q h l = absurd (omega ar
 takeOut-freed (suc i) (suc k) (a ∷ b ∷ ws) (suc zero) d f q h l = absurd (omega arith)
 takeOut-freed (suc i) (suc k) (a ∷ b ∷ ws) (suc (suc n)) d f q h l = takeOut-freed i k ws n d (omega arith) (omega arith) (omega arith) (omega arith)
 
--- words past those in use keep their contents
+-- words past those in use stay
 pub takeOut-beyond : (i k : ℕ) (ws : List ℤ) (n : ℕ) (d : ℤ) → 2 * k ≤ length ws → 2 * k ≤ n → getD (takeOut i k ws) n d ≡ getD ws n d
 unfolding takeOut
 takeOut-beyond i zero ws n d f h = refl
