@@ -10,7 +10,7 @@ use lib.ListN.{length, drop, getElem?}
 use Rattle.frames.specs.Frame.{Frame, numbered}
 use Rattle.frames.specs.Numbered.{numbered-zero}
 use Rattle.coordinates.specs.Enclosure.{Enclosing}
-use Rattle.coordinates.specs.Chain.{enclosing, along, climb, Downward, outline, Alike}
+use Rattle.coordinates.specs.Chain.{enclosing, along, climb, Downward, outline, SameOutlines}
 
 -- one frame more
 
@@ -50,7 +50,7 @@ climb-bound fs down k (suc j) = go (λ i. climb-bound fs down i j) (numbered fs 
 
 -- frames that are alike
 
-module _ (fs gs : List Frame) (b : ℕ) (same : Alike b fs gs) where
+module _ (fs gs : List Frame) (b : ℕ) (same : SameOutlines b fs gs) where
   pub alike-none : (k : ℕ) → k ≤ b → numbered fs k ≡ none → numbered gs k ≡ none
   alike-none k h e = (map-eq-none-iff outline (numbered gs k)) .0 (sym (same k h) ∙ ap (Option·map outline) e)
 

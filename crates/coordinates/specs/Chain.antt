@@ -57,5 +57,5 @@ Chained t fs = (k : ℕ) (f : Frame) → numbered fs k ≡ some f → Linked t f
 unfoldable pub outline : Frame → Enclosing × ℕ
 outline f = (enclosing f, f .link)
 
-abbrev pub Alike : ℕ → List Frame → List Frame → Type 0
-Alike k fs gs = (i : ℕ) → i ≤ k → Option·map outline (numbered fs i) ≡ Option·map outline (numbered gs i)
+abbrev pub SameOutlines : ℕ → List Frame → List Frame → Type 0
+SameOutlines k fs gs = (i : ℕ) → i ≤ k → Option·map outline (numbered fs i) ≡ Option·map outline (numbered gs i)

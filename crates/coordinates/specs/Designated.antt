@@ -145,13 +145,15 @@ statement-scoped t h fs chain f at a e q =
 pub name-designated : (t : Block) → Keeps t → (fs : List Frame) → Chained t fs → Wired fs → (n : ℕ) (m : Meaning) → lookup n (scopeOf (enclosureOf fs (length fs))) ≡ some m → Designated fs (designates fs n) (m .kind)
 name-designated t h fs chain wired n m e = designates-kind t h fs chain wired n m (visible-coordinate (enclosureOf fs (length fs)) n m e)
 
-called-procedure : (t : Block) → Keeps t → (fs : List Frame) → Chained t fs → Wired fs → (p : ℕ) (d : Decl) → Is procedure (scopeOf (enclosureOf fs (length fs))) p → declOf fs (designates fs p) ≡ some d → declKind d ≡ procedure
-called-procedure t h fs chain wired p d is e =
-    let x = name-designated t h fs chain wired p (is .0) (is .1) in
-    ap declKind (Option·some-injective d (x .decl) (sym e ∙ x .declared)) ∙ x .kind ∙ is .2
+-- so a name used as a k is declared as one
+pub designates-a : (t : Block) → Keeps t → (fs : List Frame) → Chained t fs → Wired fs → (k : Kind) (n : ℕ) → Is k (scopeOf (enclosureOf fs (length fs))) n → Designated fs (designates fs n) k
+designates-a t h fs chain wired k n is = subst (Designated fs (designates fs n)) (is .2) (name-designated t h fs chain wired n (is .0) (is .1))
+
+pub declared-kind : (fs : List Frame) (x : ℕ) (k : Kind) (d : Decl) → Designated fs x k → declOf fs x ≡ some d → declKind d ≡ k
+declared-kind fs x k d h e = ap declKind (Option·some-injective d (h .decl) (sym e ∙ h .declared)) ∙ h .kind
 
 pub calls-procedures : (t : Block) → Keeps t → (s : Stack) → Chained t (s .frames) → Wired (s .frames) → Procedures s
 unfolding ScopedAction
 calls-procedures t h s chain wired d c =
     let a = statement-scoped t h (s .frames) chain (c .caller) (c .at) (CL (c .name) (c .arguments)) (c .innermost) (c .statement) in
-    called-procedure t h (s .frames) chain wired (c .name) d (a .called) (called-here s d c)
+    declared-kind (s .frames) (designates (s .frames) (c .name)) procedure d (designates-a t h (s .frames) chain wired procedure (c .name) (a .called)) (called-here s d c)

@@ -21,14 +21,14 @@ use Rattle.laws.specs.Lists.{butLast-take}
 use Rattle.laws.specs.Reversed.{reverse-drop}
 use Rattle.frames.specs.Frame.{Frame, Stack, acted, numbered, frameNumber, place, continue, rewritten, putWord, newFrame, frameStep}
 use Rattle.frames.specs.Numbered.{numbered-low, numbered-high, last-numbered, numbered-seam, numbered-append, numbered-take}
-use Rattle.coordinates.specs.Chain.{along, Alike, chainOf, levelOf, climb, displayFrom, displayOf, Downward}
+use Rattle.coordinates.specs.Chain.{along, SameOutlines, chainOf, levelOf, climb, displayFrom, displayOf, Downward}
 use Rattle.coordinates.specs.Along.{climb-bound, along-alike, along-step, along-climb}
 use Rattle.coordinates.specs.Coordinates.{frame-of-level, frame-by-display}
 use Rattle.coordinates.specs.Moves.{alike-append, alike-take, alike-cut, alike-set, cut-length, outline-continue, outline-rewritten, Moved, kept, entered, step-moved}
 use Rattle.coordinates.specs.Kept.{entered-link, downward-entered}
 
 -- the display depends on no more than blocks and links up to its frame
-pub display-alike : (fs gs : List Frame) (b : ℕ) → Alike b fs gs → Downward fs → (k : ℕ) → k ≤ b → displayFrom gs k ≡ displayFrom fs k
+pub display-alike : (fs gs : List Frame) (b : ℕ) → SameOutlines b fs gs → Downward fs → (k : ℕ) → k ≤ b → displayFrom gs k ≡ displayFrom fs k
 unfolding displayFrom chainOf
 display-alike fs gs b a down k h = ap reverse (along-alike fs gs b a down (λ i e. i) k k h)
 
@@ -46,11 +46,11 @@ unfolding levelOf chainOf
 level-step fs down k f e = ap length (along-step (λ i e. i) fs down k f e)
 
 module _ (fs : List Frame) (down : Downward fs) where
-  display-of : (gs : List Frame) (k : ℕ) → length gs ≡ k → Alike k fs gs → displayOf gs ≡ displayFrom fs k
+  display-of : (gs : List Frame) (k : ℕ) → length gs ≡ k → SameOutlines k fs gs → displayOf gs ≡ displayFrom fs k
   unfolding displayOf
   display-of gs k e a = ap (displayFrom gs) e ∙ display-alike fs gs k a down k (omega arith)
 
-  display-on : (gs : List Frame) (f : Frame) → Alike (length fs) fs gs → length gs ≡ suc (length fs) → numbered gs (suc (length fs)) ≡ some f → f .link ≤ length fs → displayOf gs ≡ displayFrom fs (f .link) ++ (suc (length fs) ∷ [])
+  display-on : (gs : List Frame) (f : Frame) → SameOutlines (length fs) fs gs → length gs ≡ suc (length fs) → numbered gs (suc (length fs)) ≡ some f → f .link ≤ length fs → displayOf gs ≡ displayFrom fs (f .link) ++ (suc (length fs) ∷ [])
   unfolding displayOf
   display-on gs f a c n h =
       ap (displayFrom gs) c ∙ display-step gs (downward-entered fs gs f a c n h down) (suc (length fs)) f n

@@ -1,5 +1,5 @@
 -- Names as coordinates: where the frame machine finds a name is known from the text, by level and position. The definitions are in Enclosure
--- and Chain (and Index); a reader who wants the theorems alone reads Coordinates, Display, Index, Accepted and Links.
+-- and Chain (and Index); a reader who wants the theorems alone reads Coordinates, Display, Index, Sound, Next and Links.
 pub mod Enclosure
 pub mod Chain
 pub mod Along
@@ -15,9 +15,9 @@ pub mod Visible
 pub mod Statement
 pub mod Designated
 pub mod Wiring
+pub mod Sound
 pub mod Own
-pub mod Sized
 pub mod Index
-pub mod Accepted
+pub mod Next
 pub mod Links
 pub mod Examples

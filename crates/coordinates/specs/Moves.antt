@@ -20,7 +20,7 @@ use Rattle.frames.specs.Numbered.{numbered-low, numbered-high, numbered-append,
 use Rattle.frames.specs.Running.{After}
 use Rattle.frame_laws.specs.Finding.{declOf-found, declOf-frame}
 use Rattle.coordinates.specs.Enclosure.{Enclosing}
-use Rattle.coordinates.specs.Chain.{enclosing, outline, Alike}
+use Rattle.coordinates.specs.Chain.{enclosing, outline, SameOutlines}
 use Rattle.coordinates.specs.Along.{alike-some}
 use Rattle.coordinates.specs.Walk.{Moves, Steps, step-by}
 
@@ -40,15 +40,15 @@ pub data Entered (s : Stack) (f : Frame) : Type 0 where
   for-body : (g : Frame) (i : ℕ) (d : Decl) → numbered (s .frames) (f .link) ≡ some g → getElem? (blockDecls (g .text)) i ≡ some d → f .formals ≡ declFormals d → f .text ≡ declBody d → Called s d → Entered s f
 
 pub data Moved (s s′ : Stack) : Type 0 where
-  kept : length (s′ .frames) ≤ length (s .frames) → Alike (length (s′ .frames)) (s .frames) (s′ .frames) → Moved s s′
-  entered : (f : Frame) → length (s′ .frames) ≡ suc (length (s .frames)) → Alike (length (s .frames)) (s .frames) (s′ .frames) → numbered (s′ .frames) (suc (length (s .frames))) ≡ some f → Entered s f → Moved s s′
+  kept : length (s′ .frames) ≤ length (s .frames) → SameOutlines (length (s′ .frames)) (s .frames) (s′ .frames) → Moved s s′
+  entered : (f : Frame) → length (s′ .frames) ≡ suc (length (s .frames)) → SameOutlines (length (s .frames)) (s .frames) (s′ .frames) → numbered (s′ .frames) (suc (length (s .frames))) ≡ some f → Entered s f → Moved s s′
 
 -- Frames that are alike
 
-pub alike-append : (fs gs : List Frame) → Alike (length fs) fs (fs ++ gs)
+pub alike-append : (fs gs : List Frame) → SameOutlines (length fs) fs (fs ++ gs)
 alike-append fs gs i h = sym (ap (Option·map outline) (numbered-append fs gs i h))
 
-pub alike-take : (n : ℕ) (fs : List Frame) → Alike n fs (take n fs)
+pub alike-take : (n : ℕ) (fs : List Frame) → SameOutlines n fs (take n fs)
 alike-take n fs i h = sym (ap (Option·map outline) (numbered-take n fs i h))
 
 pub cut-length : (fs : List Frame) (n : ℕ) (f g : Frame) → numbered fs n ≡ some f → length (take (pred n) fs ++ (g ∷ [])) ≡ n
@@ -79,7 +79,7 @@ cut-at {B} h fs n f g e o i p = go (ltb i n) refl
         ap (Option·map h) (ap (numbered fs) j ∙ e) ∙ ap {B = Option B} some (sym o)
         ∙ sym (ap (Option·map h) (ap (numbered (take (pred n) fs ++ (g ∷ []))) (sym m) ∙ numbered-seam (take (pred n) fs) g))
 
-pub alike-cut : (fs : List Frame) (n : ℕ) (f g : Frame) → numbered fs n ≡ some f → outline g ≡ outline f → Alike n fs (take (pred n) fs ++ (g ∷ []))
+pub alike-cut : (fs : List Frame) (n : ℕ) (f g : Frame) → numbered fs n ≡ some f → outline g ≡ outline f → SameOutlines n fs (take (pred n) fs ++ (g ∷ []))
 alike-cut fs n f g e o = cut-at outline fs n f g e o
 
 -- a frame put in the place of one that it agrees with
@@ -96,7 +96,7 @@ set-at h fs n f g e o zero = refl
 set-at h fs zero f g e o (suc i) = absurd (Option·none-ne-some f e)
 set-at h fs (suc n) f g e o (suc i) = place-set h fs n f g e o i
 
-pub alike-set : (fs : List Frame) (n : ℕ) (f g : Frame) → numbered fs n ≡ some f → outline g ≡ outline f → (b : ℕ) → Alike b fs (set fs (pred n) g)
+pub alike-set : (fs : List Frame) (n : ℕ) (f g : Frame) → numbered fs n ≡ some f → outline g ≡ outline f → (b : ℕ) → SameOutlines b fs (set fs (pred n) g)
 alike-set fs n f g e o b i h = set-at outline fs n f g e o i
 
 -- a store, and a frame's next statement
@@ -114,7 +114,7 @@ outline-rewritten f ws = refl
 -- stacks that differ at most in words, statement numbers, table and steps
 pub record Same (s u : Stack) : Type 0 where
   pub count : length (u .frames) ≡ length (s .frames)
-  pub alike : Alike (length (s .frames)) (s .frames) (u .frames)
+  pub alike : SameOutlines (length (s .frames)) (s .frames) (u .frames)
 
 pub same-refl : (s : Stack) → Same s s
 same-refl s = record { count = refl; alike = λ i h. refl }

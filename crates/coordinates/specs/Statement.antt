@@ -22,7 +22,7 @@ use Rattle.frames.specs.Numbered.{numbered-past, last-numbered}
 use Rattle.frame_laws.specs.Finding.{declOf-found, declOf-none}
 use Rattle.frame_laws.specs.Continuing.{designates-continued, declOf-continued}
 use Rattle.coordinates.specs.Enclosure.{Enclosing}
-use Rattle.coordinates.specs.Chain.{enclosing, chainOf, enclosureOf, levelOf, outline, Alike, Downward, Chained}
+use Rattle.coordinates.specs.Chain.{enclosing, chainOf, enclosureOf, levelOf, outline, SameOutlines, Downward, Chained}
 use Rattle.coordinates.specs.Along.{along-alike, alike-none, alike-some}
 use Rattle.coordinates.specs.Moves.{cut-at, Called}
 use Rattle.coordinates.specs.Levels.{in-innermost}
@@ -34,11 +34,11 @@ unfolding frameStmt enclosing
 statement-coordinates t h fs chain f at a e q =
     in-innermost t fs chain f e (λ es. Each (λ n. (m : Meaning) × Located es n m) (actionNames a)) (λ es w. names-have-coordinates t h (enclosing f) es w (pred (f .next)) at a q)
 
-pub enclosure-alike : (fs gs : List Frame) (b : ℕ) → Alike b fs gs → Downward fs → (k : ℕ) → k ≤ b → enclosureOf gs k ≡ enclosureOf fs k
+pub enclosure-alike : (fs gs : List Frame) (b : ℕ) → SameOutlines b fs gs → Downward fs → (k : ℕ) → k ≤ b → enclosureOf gs k ≡ enclosureOf fs k
 unfolding enclosureOf
 enclosure-alike fs gs b a down k h = along-alike fs gs b a down (λ i e. e) k k h
 
-pub level-alike : (fs gs : List Frame) (b : ℕ) → Alike b fs gs → Downward fs → (k : ℕ) → k ≤ b → levelOf gs k ≡ levelOf fs k
+pub level-alike : (fs gs : List Frame) (b : ℕ) → SameOutlines b fs gs → Downward fs → (k : ℕ) → k ≤ b → levelOf gs k ≡ levelOf fs k
 unfolding levelOf chainOf
 level-alike fs gs b a down k h = ap length (along-alike fs gs b a down (λ i e. i) k k h)
 
@@ -64,7 +64,7 @@ advanced-at h fs f i e o k = go (leb k (length fs)) refl
         ap (Option·map h) (numbered-past fs k l ∙ sym (numbered-past (advanced fs f i) k (omega (arith, advanced-length fs f i e))))
 
 -- a declaration is read off the formals and the block of its frame
-pub declared-alike : (fs gs : List Frame) (b : ℕ) → Alike b fs gs → (x : ℕ) → frameNumber x ≤ b → declOf gs x ≡ declOf fs x
+pub declared-alike : (fs gs : List Frame) (b : ℕ) → SameOutlines b fs gs → (x : ℕ) → frameNumber x ≤ b → declOf gs x ≡ declOf fs x
 unfolding outline enclosing
 declared-alike fs gs b a x h =
     by-lookup (numbered fs (frameNumber x)) (λ e. declOf-none gs x (alike-none fs gs b a (frameNumber x) h e) ∙ sym (declOf-none fs x e))

@@ -1,6 +1,5 @@
--- The words of formals stay right in a run of a script that keeps the rules. Read `Sound t fs` as: the frames fs are linked as the text t
--- says (`Chained`) and every formal's word designates an instance of its kind (`Wired`). `step-sound`: a step keeps it; `run-sound`: every
--- state of a run of a script that keeps the rules has it, with no other condition.
+-- The words of formals stay right: where the frames are linked as the text says (`Chained`) and every formal's word designates an instance of
+-- its kind (`Wired`), a step of a script that keeps the rules keeps both (`step-wired`, `step-linked`). A run begins so (`start-wired`).
 use Prim.Native.Nat.{ℕ, suc, pred, _≤_, _<_}
 use native.Mathlib.Omega.{arith}
 use mathlib.Core.Bool.{true}
@@ -19,16 +18,16 @@ use Rattle.laws.specs.Kinds.{agree-at}
 use Rattle.laws.specs.Each.{Each, each-at}
 use Rattle.laws.specs.Lists.{getElem-bound, getElem-take, getElem-append, getElem?-map, butLast-take}
 use Rattle.grammar.specs.Rules.{Visible, Is, ScopedAction, Keeps}
-use Rattle.frames.specs.Frame.{Frame, Stack, acted, numbered, designates, frameNumber, place, kindOf, continue, rewritten, put, newFrame, zeroWords, withFrames, tableChanged, stepped, mapAction, advanceFrame, frameStmt, frameStep, frameRun, frameStart}
+use Rattle.frames.specs.Frame.{Frame, Stack, acted, numbered, designates, frameNumber, place, kindOf, continue, rewritten, put, newFrame, zeroWords, withFrames, tableChanged, mapAction, advanceFrame, frameStmt, frameStep, frameStart}
 use Rattle.frames.specs.Numbered.{numbered-low, numbered-high, numbered-append, numbered-seam, numbered-take}
-use Rattle.frames.specs.Running.{After, run-keeps}
+use Rattle.frames.specs.Running.{After}
 use Rattle.frame_laws.specs.Finding.{kindOf-found, putWord-found}
 use Rattle.coordinates.specs.Enclosure.{Enclosing}
-use Rattle.coordinates.specs.Chain.{enclosing, enclosureOf, outline, Alike, Chained}
+use Rattle.coordinates.specs.Chain.{enclosing, enclosureOf, outline, SameOutlines, Chained}
 use Rattle.coordinates.specs.Along.{alike-some}
 use Rattle.coordinates.specs.Walk.{targetOf, Moves, Steps, step-by}
 use Rattle.coordinates.specs.Moves.{cut-at, cut-length, set-at, no-call}
-use Rattle.coordinates.specs.Kept.{by-frame, step-chained, start-chained}
+use Rattle.coordinates.specs.Kept.{by-frame, step-chained}
 use Rattle.coordinates.specs.Visible.{scopeOf}
 use Rattle.coordinates.specs.Statement.{advanced, advanced-at, advanced-length, declared-alike, designates-advanced}
 use Rattle.coordinates.specs.Designated.{Designated, Wire, Wired, statement-scoped, name-designated, calls-procedures}
@@ -40,7 +39,7 @@ wiring f = (outline f, take (length (f .formals)) (f .words))
 abbrev Rewired : ℕ → List Frame → List Frame → Type 0
 Rewired b fs gs = (i : ℕ) → i ≤ b → Option·map wiring (numbered fs i) ≡ Option·map wiring (numbered gs i)
 
-rewired-alike : (fs gs : List Frame) (b : ℕ) → Rewired b fs gs → Alike b fs gs
+rewired-alike : (fs gs : List Frame) (b : ℕ) → Rewired b fs gs → SameOutlines b fs gs
 unfolding wiring
 rewired-alike fs gs b a i h = sym (through (numbered fs i)) ∙ ap (Option·map (λ (w : (Enclosing × ℕ) × List ℤ). w .0)) (a i h) ∙ through (numbered gs i)
   where
@@ -48,7 +47,7 @@ rewired-alike fs gs b a i h = sym (through (numbered fs i)) ∙ ap (Option·map 
     through none = refl
     through (some f) = refl
 
-designated-alike : (fs gs : List Frame) (b : ℕ) → Alike b fs gs → (x : ℕ) (k : Kind) → frameNumber x ≤ b → Designated fs x k → Designated gs x k
+designated-alike : (fs gs : List Frame) (b : ℕ) → SameOutlines b fs gs → (x : ℕ) (k : Kind) → frameNumber x ≤ b → Designated fs x k → Designated gs x k
 unfolding outline enclosing
 designated-alike fs gs b a x k h d =
     let g = alike-some fs gs b a (frameNumber x) (d .home) h (d .stands) in
@@ -174,7 +173,7 @@ block-wired : (fs : List Frame) (b : Block) (k : ℕ) → Wired fs → Wired (fs
 unfolding newFrame
 block-wired fs b k w = wired-entered fs (newFrame [] [] b k) w (λ i m e. absurd (Option·none-ne-some m e))
 
-start-wired : (t : Block) (tab : Table) → Wired ((frameStart t tab) .frames)
+pub start-wired : (t : Block) (tab : Table) → Wired ((frameStart t tab) .frames)
 unfolding frameStart
 start-wired t tab = block-wired [] t 0 (λ k f e. let h = numbered-low [] k f e in let l = numbered-high [] k f e in absurd (omega arith))
 
@@ -236,19 +235,5 @@ module _ (t : Block) (keeps : Keeps t) (s : Stack) (chain : Chained t (s .frames
 pub step-wired : (t : Block) → Keeps t → (l : Limits) (s s′ : Stack) → frameStep l s ≡ acted s′ → Chained t (s .frames) → Wired (s .frames) → Wired (s′ .frames)
 step-wired t keeps l s s′ e chain wired = subst (After (λ v. Wired (v .frames))) e (step-by (λ v. Wired (v .frames)) s l (step-wires t keeps s chain wired))
 
--- A run: what it begins with, and what every state of it has
-
-pub record Sound (t : Block) (fs : List Frame) : Type 0 where
-  pub chained : Chained t fs
-  pub wired : Wired fs
-
-pub step-sound : (t : Block) → Keeps t → (l : Limits) (s s′ : Stack) → frameStep l s ≡ acted s′ → Sound t (s .frames) → Sound t (s′ .frames)
-step-sound t keeps l s s′ e h =
-    record { chained = step-chained t l s s′ e (calls-procedures t keeps s (h .chained) (h .wired)) (h .chained); wired = step-wired t keeps l s s′ e (h .chained) (h .wired) }
-
-pub start-sound : (t : Block) (tab : Table) → Sound t ((frameStart t tab) .frames)
-start-sound t tab = record { chained = start-chained t tab; wired = start-wired t tab }
-
-pub run-sound : (t : Block) → Keeps t → (l : Limits) (tab : Table) (n : ℕ) → Sound t ((frameRun l n (frameStart t tab)) .final .frames)
-unfolding stepped
-run-sound t keeps l tab n = run-keeps l (λ s. Sound t (s .frames)) (λ s s′ live e h. step-sound t keeps l s s′ e h) n (frameStart t tab) (start-sound t tab)
+pub step-linked : (t : Block) → Keeps t → (l : Limits) (s s′ : Stack) → frameStep l s ≡ acted s′ → Chained t (s .frames) → Wired (s .frames) → Chained t (s′ .frames)
+step-linked t keeps l s s′ e chain wired = step-chained t l s s′ e (calls-procedures t keeps s chain wired) chain

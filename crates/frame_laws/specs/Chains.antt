@@ -11,8 +11,8 @@ use Rattle.frames.specs.Frame.{Frame, Place, numbered, frameNames, positionFrom
 use Rattle.laws.specs.Lists.{snoc-length}
 use Rattle.frame_laws.specs.Finding.{declOf-found, declOf-none, kindOf-found, kindOf-none, wordAt-found, wordAt-none, seekName-starts, seek-spent, seek-none, seek-here, seek-on, links-found, links-none}
 use Rattle.frames.specs.Numbered.{numbered-append, numbered-seam}
-use Rattle.frame_laws.specs.Sound.{SoundFrames}
-use Rattle.frame_laws.specs.Names.{numbered-sound}
+use Rattle.frame_laws.specs.Bounds.{BoundedFrames}
+use Rattle.frame_laws.specs.Names.{numbered-bounded}
 
 module _ (pre rest : List Frame) where
   pub declOf-below : (x : ℕ) → frameNumber x ≤ length pre → declOf (pre ++ rest) x ≡ declOf pre x
@@ -30,13 +30,13 @@ module _ (pre rest : List Frame) where
       let b = numbered-append pre rest (frameNumber x) h in
       by-lookup (numbered pre (frameNumber x)) (λ e. wordAt-none (pre ++ rest) x (b ∙ e) ∙ sym (wordAt-none pre x e)) (λ f e. wordAt-found (pre ++ rest) x f (b ∙ e) ∙ sym (wordAt-found pre x f e))
 
-  pub seek-below : SoundFrames pre → (m k n j : ℕ) → k ≤ length pre → seekFrom m (pre ++ rest) k n j ≡ seekFrom m pre k n j
+  pub seek-below : BoundedFrames pre → (m k n j : ℕ) → k ≤ length pre → seekFrom m (pre ++ rest) k n j ≡ seekFrom m pre k n j
   seek-below h zero k n j l = seek-spent (pre ++ rest) k n j ∙ sym (seek-spent pre k n j)
   seek-below h (suc m) k n j l =
       let b = numbered-append pre rest k l in
       by-lookup (numbered pre k) (λ e. seek-none (suc m) (pre ++ rest) k n j (b ∙ e) ∙ sym (seek-none (suc m) pre k n j e))
       (λ f e. by-lookup (positionFrom n 1 (frameNames f))
-      (λ p. seek-on m (pre ++ rest) k n j f (b ∙ e) p ∙ seek-below h m (f .link) n (suc j) (omega (arith, (numbered-sound pre k f h e) .link-last)) ∙ sym (seek-on m pre k n j f e p))
+      (λ p. seek-on m (pre ++ rest) k n j f (b ∙ e) p ∙ seek-below h m (f .link) n (suc j) (omega (arith, (numbered-bounded pre k f h e) .link-last)) ∙ sym (seek-on m pre k n j f e p))
       (λ i p. seek-here m (pre ++ rest) k n j f i (b ∙ e) p ∙ sym (seek-here m pre k n j f i e p)))
 
 -- a name in the frame g, innermost above fs
@@ -47,7 +47,7 @@ module _ (fs : List Frame) (g : Frame) (n : ℕ) where
   pub entered-own : (p : ℕ) → positionFrom n 1 (frameNames g) ≡ some p → seekName (fs ++ (g ∷ [])) n ≡ some (record { number = suc (length fs); position = p; followed = 0 })
   entered-own p e = innermost-first ∙ seek-here (length fs) (fs ++ (g ∷ [])) (suc (length fs)) n 0 g p (numbered-seam fs g) e
 
-  pub entered-around : SoundFrames fs → g .link ≤ length fs → positionFrom n 1 (frameNames g) ≡ none → seekName (fs ++ (g ∷ [])) n ≡ seekFrom (length fs) fs (g .link) n 1
+  pub entered-around : BoundedFrames fs → g .link ≤ length fs → positionFrom n 1 (frameNames g) ≡ none → seekName (fs ++ (g ∷ [])) n ≡ seekFrom (length fs) fs (g .link) n 1
   entered-around h l e =
       innermost-first ∙ seek-on (length fs) (fs ++ (g ∷ [])) (suc (length fs)) n 0 g (numbered-seam fs g) e ∙ seek-below fs (g ∷ []) h (length fs) (g .link) n 1 l
 

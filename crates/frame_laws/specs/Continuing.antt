@@ -16,7 +16,7 @@ use Rattle.frame_laws.specs.Parts.{withFrames-frames}
 use Rattle.frame_laws.specs.Finding.{wordAt-found, wordAt-none}
 use Rattle.frame_laws.specs.Actions.{does}
 use Rattle.frame_laws.specs.Innermost.{step-does}
-use Rattle.frame_laws.specs.Sound.{OnLabel, JumpsToLabel}
+use Rattle.frame_laws.specs.Bounds.{OnLabel, JumpsToLabel}
 use Rattle.frame_laws.specs.Likeness.{Like, LikeFrames, numbered-none, designates-like, declOf-like, kindOf-like, mapAction-like}
 
 continued-at : (pre : List Frame) (f : Frame) (i k : ℕ) (g : Frame) → getElem? (pre ++ (f ∷ [])) k ≡ some g → (j : ℕ) × (getElem? (pre ++ (continue f i ∷ [])) k ≡ some (continue g j))

@@ -1,4 +1,4 @@
--- What a name designates in sound frames: nothing, or a declared name of a live frame (`designates-target`).
+-- What a name designates in bounded frames: nothing, or a declared name of a live frame (`designates-target`).
 use Prim.Native.Nat.{ℕ, zero, suc, pred, _+_, _*_, _/_, _%_, _≤_, _<_}
 use native.Mathlib.Omega.{arith}
 use mathlib.Core.Bool.{true, false}
@@ -17,8 +17,8 @@ use Rattle.frames.specs.Positions.{position-range}
 use Rattle.frame_laws.specs.Parts.{frameNames-length}
 use Rattle.frame_laws.specs.Finding.{seek-spent, seek-none, seek-here, seek-on, designates-found, designates-none, finally-formal, finally-declared}
 use Rattle.frame_laws.specs.Formed.{names-few}
-use Rattle.frame_laws.specs.Sound.{Points, FrameSound, SoundFrames, Target}
-use Rattle.frame_laws.specs.SoundFrames.{points-weaker}
+use Rattle.frame_laws.specs.Bounds.{Points, FrameBounded, BoundedFrames, Target}
+use Rattle.frame_laws.specs.BoundedFrames.{points-weaker}
 
 -- A name is found at a position of the frame found
 
@@ -38,12 +38,12 @@ pub seekName-found : (fs : List Frame) (n : ℕ) (p : Place) → seekName fs n �
 unfolding seekName
 seekName-found fs n p e = seek-found (length fs) fs (length fs) n 0 p e
 
--- In sound frames it designates a declared name
+-- In bounded frames it designates a declared name
 
-pub numbered-sound : (fs : List Frame) (k : ℕ) (f : Frame) → SoundFrames fs → numbered fs k ≡ some f → FrameSound fs (pred k) f
+pub numbered-bounded : (fs : List Frame) (k : ℕ) (f : Frame) → BoundedFrames fs → numbered fs k ≡ some f → FrameBounded fs (pred k) f
 unfolding numbered
-numbered-sound fs zero f h e = absurd (Option·none-ne-some f e)
-numbered-sound fs (suc k) f h e = h k f e
+numbered-bounded fs zero f h e = absurd (Option·none-ne-some f e)
+numbered-bounded fs (suc k) f h e = h k f e
 
 pub points-declared : (fs : List Frame) (k p : ℕ) (f : Frame) → numbered fs k ≡ some f → length (f .formals) < p → p ≤ length (f .formals) + length (blockDecls (f .text)) → p < 64 → Points fs (length fs) (k * 64 + p)
 points-declared fs k p f e a b c =
@@ -52,12 +52,12 @@ points-declared fs k p f e a b c =
     let q = numbered-bounds fs k f e in
     record { home = f; stands = ap (numbered fs) d ∙ e; first = omega (arith, q .0); last = omega (arith, q .1); past = omega arith; within = omega arith }
 
-module _ (fs : List Frame) (n : ℕ) (p : Place) (h : SoundFrames fs) (q : FoundAt fs n p) where
+module _ (fs : List Frame) (n : ℕ) (p : Place) (h : BoundedFrames fs) (q : FoundAt fs n p) where
   at-formal : leb (p .position) (length (q .frame .formals)) ≡ true → Points fs (length fs) (finally fs p)
   unfolding designatorIn
   at-formal t =
       let f = q .frame in
-      let s = numbered-sound fs (p .number) f h (q .stands) in
+      let s = numbered-bounded fs (p .number) f h (q .stands) in
       let b = position-range n 1 (p .position) (frameNames f) (q .named) in
       let c = numbered-bounds fs (p .number) f (q .stands) in
       let w = s .handed (pred (p .position)) (omega (arith, b .0, leb-true (p .position) (length (f .formals)) t)) in
@@ -66,7 +66,7 @@ module _ (fs : List Frame) (n : ℕ) (p : Place) (h : SoundFrames fs) (q : Found
   at-declared : leb (p .position) (length (q .frame .formals)) ≡ false → Points fs (length fs) (finally fs p)
   at-declared t =
       let f = q .frame in
-      let s = numbered-sound fs (p .number) f h (q .stands) in
+      let s = numbered-bounded fs (p .number) f h (q .stands) in
       let b = position-range n 1 (p .position) (frameNames f) (q .named) in
       let few = names-few (f .text) (f .formals) (s .in-form) in
       let len = frameNames-length f in
@@ -75,5 +75,5 @@ module _ (fs : List Frame) (n : ℕ) (p : Place) (h : SoundFrames fs) (q : Found
   found-target : Points fs (length fs) (finally fs p)
   found-target = split (leb (p .position) (length (q .frame .formals))) at-formal at-declared
 
-pub designates-target : (fs : List Frame) (n : ℕ) → SoundFrames fs → Target fs (designates fs n)
+pub designates-target : (fs : List Frame) (n : ℕ) → BoundedFrames fs → Target fs (designates fs n)
 designates-target fs n h = by-lookup (seekName fs n) (λ e. inl (designates-none fs n e)) (λ p e. inr (subst (Points fs (length fs)) (sym (designates-found fs n p e)) (found-target fs n p h (seekName-found fs n p e))))

@@ -16,8 +16,8 @@ use Rattle.frames.specs.Frame.{Frame, rewritten, numbered, designates, linksFol
 use Rattle.laws.specs.Lists.{getElem-set-same, getElem-set-other}
 use Rattle.frame_laws.specs.Finding.{wordAt-found, wordAt-none, putWord-found, putWord-none}
 use Rattle.frames.specs.Numbered.{numbered-zero, numbered-index}
-use Rattle.frame_laws.specs.Sound.{Points, SoundFrames, Target}
-use Rattle.frame_laws.specs.Names.{numbered-sound}
+use Rattle.frame_laws.specs.Bounds.{Points, BoundedFrames, Target}
+use Rattle.frame_laws.specs.Names.{numbered-bounded}
 use Rattle.frame_laws.specs.Likeness.{Like, LikeFrames, like-same, linksFollowed-like, designates-like, declOf-like, kindOf-like}
 
 like-all : (fs : List Frame) → LikeFrames fs fs
@@ -69,12 +69,12 @@ unfolding numbered
 numbered-put-other fs m zero g h d = refl
 numbered-put-other fs m (suc k) g h d = getElem-set-other fs (pred m) k g (λ e. d (omega arith))
 
-pub wordAt-put-same : (fs : List Frame) (k x : ℕ) (z : ℤ) → SoundFrames fs → Points fs k x → wordAt (putWord fs x z) x ≡ z
+pub wordAt-put-same : (fs : List Frame) (k x : ℕ) (z : ℤ) → BoundedFrames fs → Points fs k x → wordAt (putWord fs x z) x ≡ z
 unfolding frameNumber place rewritten
 wordAt-put-same fs k x z h p =
     let f = p .home in
     let g = rewritten f (set (f .words) (pred (x % 64)) z) in
-    let s = numbered-sound fs (x / 64) f h (p .stands) in
+    let s = numbered-bounded fs (x / 64) f h (p .stands) in
     ap (λ gs. wordAt gs x) (putWord-found fs x z f (p .stands)) ∙ wordAt-found (set fs (pred (x / 64)) g) x g (numbered-put fs (x / 64) f g (p .stands)) ∙ getD-set-same (f .words) (pred (x % 64)) z (pos 0) (omega (arith, s .count, p .past, p .within))
 
 pub wordAt-put-other : (fs : List Frame) (k x y : ℕ) (z : ℤ) → Points fs k x → 1 ≤ y % 64 → (x ≡ y → ⊥) → wordAt (putWord fs x z) y ≡ wordAt fs y

@@ -19,36 +19,41 @@ pub record TableKept (l : Limits) (P : Table → Type 0) : Type 0 where
   pub removed : (g m : ℤ) (t : Table) → P t → P (remove g m t)
 
 module _ (l : Limits) (P : Table → Type 0) (k : TableKept l P) where
-  abbrev Good : Stack → Type 0
-  Good s = P (s .table)
+  abbrev Tabled : Stack → Type 0
+  Tabled s = P (s .table)
 
-  act-table : (s : Stack) (a : Action) → P (s .table) → After Good (act l s a)
+  act-table : (s : Stack) (a : Action) → P (s .table) → After Tabled (act l s a)
   unfolding withFrames tableChanged
-  act-table s (CL p xs) h = call-cases l s (After Good) (λ c. tt) p xs h (λ d e a r. h)
-  act-table s (GO x) h = go-cases l s (After Good) (λ c. tt) x h (λ f d e g. h)
-  act-table s (IF v x) h = if-cases l s (After Good) (λ c. tt) v x h (go-cases l s (After Good) (λ c. tt) x h (λ f d e g. h))
+  act-table s (CL p xs) h = call-cases l s (After Tabled) (λ c. tt) p xs h (λ d e a r. h)
+  act-table s (GO x) h = go-cases l s (After Tabled) (λ c. tt) x h (λ f d e g. h)
+  act-table s (IF v x) h = if-cases l s (After Tabled) (λ c. tt) v x h (go-cases l s (After Tabled) (λ c. tt) x h (λ f d e g. h))
   act-table s (KN t z) h = rw (stores l s t z) h
-  act-table s (AR t o a b) h = compute-cases l s (After Good) (λ c. tt) t o a b (λ z q. h)
-  act-table s (AD x y) h = add-cases l s (After Good) (λ c. tt) x y h (λ g m n a z f. k .added g m (s .table) n a z f h)
-  act-table s (RM x y) h = remove-cases l s (After Good) (λ c. tt) x y (λ g m. k .removed g m (s .table) h)
-  act-table s (QY t x y) h = ask-cases l s (After Good) (λ c. tt) t x y (λ z q. h)
+  act-table s (AR t o a b) h = compute-cases l s (After Tabled) (λ c. tt) t o a b (λ z q. h)
+  act-table s (AD x y) h = add-cases l s (After Tabled) (λ c. tt) x y h (λ g m n a z f. k .added g m (s .table) n a z f h)
+  act-table s (RM x y) h = remove-cases l s (After Tabled) (λ c. tt) x y (λ g m. k .removed g m (s .table) h)
+  act-table s (QY t x y) h = ask-cases l s (After Tabled) (λ c. tt) t x y (λ z q. h)
 
-  stmt-table : (s : Stack) (x : Stmt) → P (s .table) → After Good (actStmt l s x)
+  stmt-table : (s : Stack) (x : Stmt) → P (s .table) → After Tabled (actStmt l s x)
   unfolding withFrames
-  stmt-table s (BK b) h = enter-cases l s (After Good) (λ c. tt) b (λ r. h)
+  stmt-table s (BK b) h = enter-cases l s (After Tabled) (λ c. tt) b (λ r. h)
   stmt-table s (DO at a) h = rw (does l s at a) (act-table s (mapAction (designates (s .frames)) a) h)
 
   pub step-table : (s : Stack) → 1 ≤ length (s .frames) → P (s .table) → After (λ s′. P ((stepped s′) .table)) (frameStep l s)
   unfolding withFrames stepped
-  step-table s n h = step-cases l s (After Good) n (λ pre f e q. h) (λ pre f x e q. stmt-table (withFrames s _) x h)
+  step-table s n h = step-cases l s (After Tabled) n (λ pre f e q. h) (λ pre f x e q. stmt-table (withFrames s _) x h)
 
   pub run-table : (n : ℕ) (s : Stack) → P (s .table) → P ((frameRun l n s) .final .table)
-  run-table n s h = run-keeps l Good (λ v v′ live e q. subst (After (λ w. P ((stepped w) .table))) e (step-table v live q)) n s h
+  run-table n s h = run-keeps l Tabled (λ v v′ live e q. subst (After (λ w. P ((stepped w) .table))) e (step-table v live q)) n s h
 
 pub table-length : (l : Limits) (n : ℕ) (s : Stack) → length ((frameRun l n s) .final .table .words) ≡ length (s .table .words)
 table-length l n s =
     run-table l (λ t. length (t .words) ≡ length (s .table .words)) (record { added = λ g m t a b c d h. add-length g m t ∙ h; removed = λ g m t h. remove-length g m t ∙ h }) n s refl
 
+kept-right : (l : Limits) → TableKept l (λ t. right (l .group) t ≡ true)
+kept-right l = record { added = λ g m t a b c d q. add-right (l .group) g m t q a b c d; removed = λ g m t q. remove-right (l .group) g m t q }
+
+pub step-right : (l : Limits) (s : Stack) → 1 ≤ length (s .frames) → right (l .group) (s .table) ≡ true → After (λ s′. right (l .group) ((stepped s′) .table) ≡ true) (frameStep l s)
+step-right l s n h = step-table l (λ t. right (l .group) t ≡ true) (kept-right l) s n h
+
 pub table-right : (l : Limits) (n : ℕ) (s : Stack) → right (l .group) (s .table) ≡ true → right (l .group) ((frameRun l n s) .final .table) ≡ true
-table-right l n s h =
-    run-table l (λ t. right (l .group) t ≡ true) (record { added = λ g m t a b c d q. add-right (l .group) g m t q a b c d; removed = λ g m t q. remove-right (l .group) g m t q }) n s h
+table-right l n s h = run-table l (λ t. right (l .group) t ≡ true) (kept-right l) n s h

@@ -1,4 +1,5 @@
--- `Sound l s`: the bounds that the frames of every stack of a run of an accepted script keep. It is proved in SoundRuns.antt.
+-- `Bounded l s`: the bounds that the frames of a stack keep. The start has them (`start-bounded`), and a step that lands keeps them
+-- (`step-bounded`); they are a part of the invariant of whole runs (`Sound`, in crate coordinates).
 -- Frames are numbered from 1: the frame at index k of the list is number k + 1, and the frames below it are numbers 1 to k.
 use Prim.Native.Nat.{ℕ, suc, _+_, _/_, _%_, _≤_, _<_}
 use mathlib.Core.Path.{_≡_}
@@ -25,7 +26,7 @@ pub record Points (fs : List Frame) (k x : ℕ) : Type 0 where
 -- the frame f at index k of fs: its text is in form, its next statement number is that of a statement or one past the last, its
 -- link is the number of a frame below, 0 for the first frame alone, it has a word for each name, each within signed 32 bits, and
 -- a formal's word is the designator of a declared name below.
-pub record FrameSound (fs : List Frame) (k : ℕ) (f : Frame) : Type 0 where
+pub record FrameBounded (fs : List Frame) (k : ℕ) (f : Frame) : Type 0 where
   pub in-form : InForm (f .text) (f .formals)
   pub next-first : 1 ≤ f .next
   pub next-last : f .next ≤ suc (length (blockStmts (f .text)))
@@ -36,19 +37,19 @@ pub record FrameSound (fs : List Frame) (k : ℕ) (f : Frame) : Type 0 where
   pub small : (i : ℕ) → mag (getD (f .words) i (pos 0)) < 2147483648
   pub handed : (i : ℕ) → i < length (f .formals) → (x : ℕ) × (getD (f .words) i (pos 0) ≡ pos x) × Points fs k x
 
-abbrev pub SoundFrames : List Frame → Type 0
-SoundFrames fs = (k : ℕ) (f : Frame) → getElem? fs k ≡ some f → FrameSound fs k f
+abbrev pub BoundedFrames : List Frame → Type 0
+BoundedFrames fs = (k : ℕ) (f : Frame) → getElem? fs k ≡ some f → FrameBounded fs k f
 
-pub record Sound (l : Limits) (s : Stack) : Type 0 where
+pub record Bounded (l : Limits) (s : Stack) : Type 0 where
   pub live : length (s .frames) ≤ l .activations
-  pub each : SoundFrames (s .frames)
+  pub each : BoundedFrames (s .frames)
 
 -- what a name designates: nothing, or a declared name of a live frame
 abbrev pub Target : List Frame → ℕ → Type 0
 Target fs x = (x ≡ 0) ⊎ Points fs (length fs) x
 
 -- The one fact of scope that a step needs: where the next statement is a goto, the declaration that it goes to is a label. It is a
--- hypothesis of the theorems on Sound; Landing.antt proves that accepted scripts meet it.
+-- hypothesis of `step-bounded`; the scope rules see to it (`landing`, in crate coordinates).
 abbrev pub OnLabel : List Frame → ℕ → Type 0
 OnLabel fs x = (d : Decl) → declOf fs x ≡ some d → declKind d ≡ label
 
