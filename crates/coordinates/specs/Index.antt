@@ -1,28 +1,36 @@
--- The coordinates of a script's statements by byte offset, worked out once from the text. `indexOf t` lists, in file order, each statement other
--- than BK by its offset, with the coordinate of each name that it uses. `indexed`: looking up a statement of the text by its offset gives
--- the coordinates of its names in its own enclosure; `indexed-next`: so it does in a run for the statement that comes next.
+-- A script's blocks and other statements by byte offset. `indexOf t` lists, in file order, each BK, bodies included, with its formals and the blocks
+-- around it, and each other statement with the blocks around it. `indexed-block`, `indexed-action`: looking one up by its offset gives that; so
+-- an offset settles them (`block-settled`, `action-settled`). `indexed-next`, `indexed-frame`: in a run, for the statement that comes next and for
+-- each frame. `coordinates` has the coordinate of each name of a statement.
 use Prim.Native.Nat.{ℕ, zero, suc, pred, _+_, _*_, _≤_}
 use native.Mathlib.Omega.{arith}
-use mathlib.Core.List.{List, [], _∷_, _++_, map, List·Memᴰ, List·Memᴰ·head, List·Memᴰ·not-nil, List·Memᴰ·cases-cons, Memᴰ·append-left, Memᴰ·append-right}
+use mathlib.Core.List.{List, [], _∷_, _++_, map, List·Memᴰ, List·Memᴰ·head, List·Memᴰ·tail, List·Memᴰ·not-nil, List·Memᴰ·cases-cons, Memᴰ·append-left, Memᴰ·append-right}
 use mathlib.Core.Logic.{_⊎_, inl, inr}
 use mathlib.Core.Option.{Option, some, Option·none-ne-some, Option·some-injective}
 use mathlib.Core.Path.{_≡_, refl, sym, ap, subst}
 use borrow.Author.Tests.{eq-eqb, ne-eqb}
 use lib.ListN.{length, getElem?, length-append}
 use Rattle.language.specs.Basics.{last?, lookup}
-use Rattle.language.specs.Text.{Formal, Action, CL, GO, IF, KN, AR, AD, RM, QY, Block, block, Decl, VR, LB, PR, Stmt, BK, DO, Decls, no-decl, decl, Stmts, no-stmt, stmt, decls, stmts, blockDecls, blockStmts}
+use Rattle.language.specs.Text.{Formal, Action, CL, GO, IF, KN, AR, AD, RM, QY, Block, block, Decl, VR, LB, PR, Stmt, BK, DO, Decls, no-decl, decl, Stmts, no-stmt, stmt, decls, stmts, blockAt, blockDecls, blockStmts}
 use Rattle.language.specs.Encoding.{actionFields, formalsFields, blockFields, declFields, stmtFields, declsFields, stmtsFields}
 use Rattle.grammar.specs.Rules.{FormedBlock, FormedDecl, FormedStmt, FormedDecls, FormedStmts, Keeps}
-use Rattle.frames.specs.Frame.{Frame, frameStmt}
+use Rattle.frames.specs.Frame.{Frame, numbered, frameStmt}
 use Rattle.coordinates.specs.Enclosure.{Enclosing, enclosed, Enclosure, Coordinate, coordinateOf, StandsIn, as-block, as-body, whole, Encloses}
 use Rattle.coordinates.specs.Chain.{enclosing, enclosureOf, Chained}
-use Rattle.coordinates.specs.Levels.{in-innermost}
+use Rattle.coordinates.specs.Search.{enclosure-step}
+use Rattle.coordinates.specs.Kept.{chained-downward}
+use Rattle.coordinates.specs.Levels.{in-innermost, frame-encloses}
 use Rattle.coordinates.specs.Visible.{actionNames}
 
--- a statement's offset, and the coordinates of its names in the paper's order
-abbrev pub Entry : Type 0
-Entry = ℕ × List (Option Coordinate)
+-- a BK, its own block with its formals first, and another statement
+pub data Indexed : Type 0 where
+  is-block : Enclosure → Indexed
+  is-action : Enclosure → Action → Indexed
 
+abbrev pub Entry : Type 0
+Entry = ℕ × Indexed
+
+-- the coordinates of a statement's names, in the paper's order
 unfoldable pub coordinates : Enclosure → Action → List (Option Coordinate)
 coordinates es a = map (coordinateOf es) (actionNames a)
 
@@ -30,7 +38,8 @@ coordinates es a = map (coordinateOf es) (actionNames a)
 unfoldable mutual
   pub indexBlock : Block → List Formal → Enclosure → List Entry
   indexBlock (block at ds ss) fs es =
-      indexDecls ds (enclosed fs (block at ds ss) ∷ es) ++ indexStmts ss (enclosed fs (block at ds ss) ∷ es)
+      let os = enclosed fs (block at ds ss) ∷ es in
+      (at, is-block os) ∷ (indexDecls ds os ++ indexStmts ss os)
 
   pub indexDecl : Decl → Enclosure → List Entry
   indexDecl (VR at n) es = []
@@ -39,7 +48,7 @@ unfoldable mutual
 
   pub indexStmt : Stmt → Enclosure → List Entry
   indexStmt (BK b) es = indexBlock b [] es
-  indexStmt (DO at a) es = (at, coordinates es a) ∷ []
+  indexStmt (DO at a) es = (at, is-action es a) ∷ []
 
   pub indexDecls : Decls → Enclosure → List Entry
   indexDecls no-decl es = []
@@ -52,7 +61,7 @@ unfoldable mutual
 unfoldable pub indexOf : Block → List Entry
 indexOf t = indexBlock t [] []
 
--- Every statement is listed
+-- Every block and statement is listed
 
 listed-stmt : (ss : Stmts) (es : Enclosure) (i : ℕ) (s : Stmt) (x : Entry) → getElem? (stmts ss) i ≡ some s → List·Memᴰ x (indexStmt s es) → List·Memᴰ x (indexStmts ss es)
 unfolding stmts indexBlock
@@ -68,11 +77,11 @@ listed-decl (decl y ds) es (suc i) d x e m = Memᴰ·append-right (indexDecl y e
 
 in-stmt : (b : Block) (fs : List Formal) (es : Enclosure) (i : ℕ) (s : Stmt) (x : Entry) → getElem? (blockStmts b) i ≡ some s → List·Memᴰ x (indexStmt s (enclosed fs b ∷ es)) → List·Memᴰ x (indexBlock b fs es)
 unfolding blockStmts indexBlock
-in-stmt (block at ds ss) fs es i s x e m = Memᴰ·append-right (indexDecls ds (enclosed fs (block at ds ss) ∷ es)) (listed-stmt ss (enclosed fs (block at ds ss) ∷ es) i s x e m)
+in-stmt (block at ds ss) fs es i s x e m = List·Memᴰ·tail (Memᴰ·append-right (indexDecls ds (enclosed fs (block at ds ss) ∷ es)) (listed-stmt ss (enclosed fs (block at ds ss) ∷ es) i s x e m))
 
 in-decl : (b : Block) (fs : List Formal) (es : Enclosure) (i : ℕ) (d : Decl) (x : Entry) → getElem? (blockDecls b) i ≡ some d → List·Memᴰ x (indexDecl d (enclosed fs b ∷ es)) → List·Memᴰ x (indexBlock b fs es)
 unfolding blockDecls indexBlock
-in-decl (block at ds ss) fs es i d x e m = Memᴰ·append-left (indexStmts ss (enclosed fs (block at ds ss) ∷ es)) (listed-decl ds (enclosed fs (block at ds ss) ∷ es) i d x e m)
+in-decl (block at ds ss) fs es i d x e m = List·Memᴰ·tail (Memᴰ·append-left (indexStmts ss (enclosed fs (block at ds ss) ∷ es)) (listed-decl ds (enclosed fs (block at ds ss) ∷ es) i d x e m))
 
 -- what an inner block lists, the outer one lists
 outward-listed : (o e : Enclosing) (es : Enclosure) (x : Entry) → StandsIn e (o .text) → List·Memᴰ x (indexBlock (e .text) (e .formals) (o ∷ es)) → List·Memᴰ x (indexBlock (o .text) (o .formals) es)
@@ -86,9 +95,16 @@ unfolding indexOf whole
 enclosed-listed t e [] x w m = subst (λ (y : Enclosing). List·Memᴰ x (indexBlock (y .text) (y .formals) [])) w m
 enclosed-listed t e (o ∷ es) x w m = enclosed-listed t o es x (w .1) (outward-listed o e es x (w .0) m)
 
-pub listed : (t : Block) (e : Enclosing) (es : Enclosure) → Encloses t (e ∷ es) → (i at : ℕ) (a : Action) → getElem? (blockStmts (e .text)) i ≡ some (DO at a) → List·Memᴰ (at, coordinates (e ∷ es) a) (indexOf t)
+action-listed : (t : Block) (e : Enclosing) (es : Enclosure) → Encloses t (e ∷ es) → (i at : ℕ) (a : Action) → getElem? (blockStmts (e .text)) i ≡ some (DO at a) → List·Memᴰ (at, is-action (e ∷ es) a) (indexOf t)
 unfolding indexBlock
-listed t e es w i at a q = enclosed-listed t e es (at, coordinates (e ∷ es) a) w (in-stmt (e .text) (e .formals) es i (DO at a) (at, coordinates (e ∷ es) a) q (List·Memᴰ·head refl))
+action-listed t e es w i at a q = enclosed-listed t e es (at, is-action (e ∷ es) a) w (in-stmt (e .text) (e .formals) es i (DO at a) (at, is-action (e ∷ es) a) q (List·Memᴰ·head refl))
+
+own-listed : (b : Block) (fs : List Formal) (es : Enclosure) → List·Memᴰ (blockAt b, is-block (enclosed fs b ∷ es)) (indexBlock b fs es)
+unfolding indexBlock blockAt
+own-listed (block at ds ss) fs es = List·Memᴰ·head refl
+
+block-listed : (t : Block) (e : Enclosing) (es : Enclosure) → Encloses t (e ∷ es) → List·Memᴰ (blockAt (e .text), is-block (e ∷ es)) (indexOf t)
+block-listed t e es w = enclosed-listed t e es (blockAt (e .text), is-block (e ∷ es)) w (own-listed (e .text) (e .formals) es)
 
 -- Offsets rise, so that none stands twice
 
@@ -147,9 +163,11 @@ mutual
       let os = enclosed fs (block at ds ss) ∷ es in
       let mid = here + 6 + 2 * length (declsFields ds) in
       let end = mid + 2 * length (stmtsFields ss) in
-      let n = length-append (declsFields ds) (stmtsFields ss) in
-      span-within here (here + 6) (here + 2 * length (blockFields (block at ds ss))) end (indexDecls ds os ++ indexStmts ss os) (omega arith) (omega arith)
-      (span-append (here + 6) mid end (indexDecls ds os) (indexStmts ss os) (span-decls ds level (length (stmts ss)) (here + 6) os (h .declarations)) (span-stmts ss level mid os (h .statements)))
+      let n = length-append (declsFields ds) (stmtsFields ss) in (
+        omega (arith, h .stands),
+        span-within (suc at) (here + 6) (here + 2 * length (blockFields (block at ds ss))) end (indexDecls ds os ++ indexStmts ss os) (omega (arith, h .stands)) (omega arith)
+            (span-append (here + 6) mid end (indexDecls ds os) (indexStmts ss os) (span-decls ds level (length (stmts ss)) (here + 6) os (h .declarations)) (span-stmts ss level mid os (h .statements))),
+      )
 
   span-decl : (d : Decl) (level s here : ℕ) (es : Enclosure) → FormedDecl d level s here → Span here (here + 2 * length (declFields d)) (indexDecl d es)
   span-decl (VR at n) level s here es h = omega arith
@@ -179,13 +197,37 @@ mutual
       span-within here here (here + 2 * length (stmtsFields (stmt s ss))) (mid + 2 * length (stmtsFields ss)) (indexStmt s es ++ indexStmts ss es) (omega arith) (omega arith)
       (span-append here mid (mid + 2 * length (stmtsFields ss)) (indexStmt s es) (indexStmts ss es) (span-stmt s level here es (h .0)) (span-stmts ss level mid es (h .1)))
 
--- The theorem
+-- The theorems
 
-pub indexed : (t : Block) → Keeps t → (e : Enclosing) (es : Enclosure) → Encloses t (e ∷ es) → (i at : ℕ) (a : Action) → getElem? (blockStmts (e .text)) i ≡ some (DO at a) → lookup at (indexOf t) ≡ some (coordinates (e ∷ es) a)
+index-rises : (t : Block) → Keeps t → Span 0 (0 + 2 * length (blockFields t)) (indexOf t)
 unfolding indexOf
-indexed t h e es w i at a q = span-lookup 0 (0 + 2 * length (blockFields t)) (indexOf t) (at, coordinates (e ∷ es) a) (span-block t 1 [] 0 [] (h .formed)) (listed t e es w i at a q)
+index-rises t h = span-block t 1 [] 0 [] (h .formed)
 
-pub indexed-next : (t : Block) → Keeps t → (fs : List Frame) → Chained t fs → (f : Frame) (at : ℕ) (a : Action) → last? fs ≡ some f → frameStmt f ≡ some (DO at a) → lookup at (indexOf t) ≡ some (coordinates (enclosureOf fs (length fs)) a)
+module _ (t : Block) (h : Keeps t) (e : Enclosing) (es : Enclosure) (w : Encloses t (e ∷ es)) where
+  pub indexed-block : lookup (blockAt (e .text)) (indexOf t) ≡ some (is-block (e ∷ es))
+  indexed-block = span-lookup 0 (0 + 2 * length (blockFields t)) (indexOf t) (blockAt (e .text), is-block (e ∷ es)) (index-rises t h) (block-listed t e es w)
+
+  pub indexed-action : (i at : ℕ) (a : Action) → getElem? (blockStmts (e .text)) i ≡ some (DO at a) → lookup at (indexOf t) ≡ some (is-action (e ∷ es) a)
+  indexed-action i at a q = span-lookup 0 (0 + 2 * length (blockFields t)) (indexOf t) (at, is-action (e ∷ es) a) (index-rises t h) (action-listed t e es w i at a q)
+
+module _ (t : Block) (h : Keeps t) (e e′ : Enclosing) (es es′ : Enclosure) (w : Encloses t (e ∷ es)) (w′ : Encloses t (e′ ∷ es′)) where
+  -- the offset of a BK settles its block, its formals and what encloses it
+  pub block-settled : blockAt (e .text) ≡ blockAt (e′ .text) → _≡_ {A = Enclosure} (e ∷ es) (e′ ∷ es′)
+  block-settled o = let p = indexed-block t h e es w in let q = indexed-block t h e′ es′ w′ in cc
+
+  -- and that of another statement the statement and what encloses it
+  pub action-settled : (i j at : ℕ) (a b : Action) → getElem? (blockStmts (e .text)) i ≡ some (DO at a) → getElem? (blockStmts (e′ .text)) j ≡ some (DO at b) → (a ≡ b) × (_≡_ {A = Enclosure} (e ∷ es) (e′ ∷ es′))
+  action-settled i j at a b p q = let x = indexed-action t h e es w i at a p in let y = indexed-action t h e′ es′ w′ j at b q in (cc, cc)
+
+-- In a run
+
+pub indexed-next : (t : Block) → Keeps t → (fs : List Frame) → Chained t fs → (f : Frame) (at : ℕ) (a : Action) → last? fs ≡ some f → frameStmt f ≡ some (DO at a) → lookup at (indexOf t) ≡ some (is-action (enclosureOf fs (length fs)) a)
 unfolding frameStmt enclosing
 indexed-next t h fs chain f at a e q =
-    in-innermost t fs chain f e (λ es. lookup at (indexOf t) ≡ some (coordinates es a)) (λ es w. indexed t h (enclosing f) es w (pred (f .next)) at a q)
+    in-innermost t fs chain f e (λ es. lookup at (indexOf t) ≡ some (is-action es a)) (λ es w. indexed-action t h (enclosing f) es w (pred (f .next)) at a q)
+
+pub indexed-frame : (t : Block) → Keeps t → (fs : List Frame) → Chained t fs → (k : ℕ) (f : Frame) → numbered fs k ≡ some f → lookup (blockAt (f .text)) (indexOf t) ≡ some (is-block (enclosureOf fs k))
+unfolding enclosing
+indexed-frame t h fs chain k f e =
+    subst (λ (es : Enclosure). lookup (blockAt (f .text)) (indexOf t) ≡ some (is-block es)) (sym (enclosure-step fs (chained-downward t fs chain) k f e))
+    (indexed-block t h (enclosing f) (enclosureOf fs (f .link)) (frame-encloses t fs chain k f e))

@@ -18,6 +18,7 @@ pub mod Wiring
 pub mod Sound
 pub mod Own
 pub mod Index
+pub mod Standing
 pub mod Next
 pub mod Links
 pub mod Examples

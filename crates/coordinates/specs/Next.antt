@@ -27,7 +27,7 @@ use Rattle.coordinates.specs.Levels.{level-bound, names-bound, in-innerm
 use Rattle.coordinates.specs.Visible.{actionNames, scopeOf, Located}
 use Rattle.coordinates.specs.Statement.{statement-coordinates}
 use Rattle.coordinates.specs.Designated.{Designated, Wired, designates-kind, designates-a, statement-scoped}
-use Rattle.coordinates.specs.Index.{coordinates, indexOf, indexed-next}
+use Rattle.coordinates.specs.Index.{is-action, indexOf, indexed-next}
 use Rattle.coordinates.specs.Sound.{Sound}
 
 -- what is known of a name n of the next statement
@@ -87,7 +87,7 @@ pub record NextAction (t : Block) (fs : List Frame) (f : Frame) (at : ℕ) (a : 
   pub scoped : ScopedAction a (scopeOf (enclosureOf fs (length fs)))
   pub names : Each (Resolved fs) (actionNames a)
   pub kinds : Kinds fs a
-  pub listed : lookup at (indexOf t) ≡ some (coordinates (enclosureOf fs (length fs)) a)
+  pub listed : lookup at (indexOf t) ≡ some (is-action (enclosureOf fs (length fs)) a)
 
 -- The innermost frame f is about to enter the block b, which lies one level deeper.
 pub record NextBlock (t : Block) (fs : List Frame) (f : Frame) (b : Block) : Type 0 where

@@ -4,6 +4,7 @@ pub mod Kinds
 pub mod Lists
 pub mod Tables
 pub mod Readers
+pub mod Fields
 pub mod Reversed
 pub mod Each
 pub mod Order

@@ -34,21 +34,21 @@ at-true a b g m e = let q = (and-eq-true-iff (eqZ a g) (eqZ b m)) .0 e in (eqZ-t
 pub at-false : (a b g m : ℤ) → eqZ a g && eqZ b m ≡ false → a ≡ g → b ≡ m → ⊥
 at-false a b g m e p q = true≢false (sym ((and-eq-true-iff (eqZ a g) (eqZ b m)) .1 (ap (λ x. eqZ x g) p ∙ eqZ-refl g, ap (λ x. eqZ x m) q ∙ eqZ-refl m)) ∙ e)
 
--- `Place g m k ws o`: o is the first place of (g, m) among the first k, or none where there is none
-abbrev pub Place : ℤ → ℤ → ℕ → List ℤ → Option ℕ → Type 0
-Place g m k ws none = (i : ℕ) → i < k → At i ws g m → ⊥
-Place g m k ws (some i) = (i < k) × At i ws g m × ((j : ℕ) → j < i → At j ws g m → ⊥)
+-- `FirstPlace g m k ws o`: o is the first place of (g, m) among the first k, or none where there is none
+abbrev pub FirstPlace : ℤ → ℤ → ℕ → List ℤ → Option ℕ → Type 0
+FirstPlace g m k ws none = (i : ℕ) → i < k → At i ws g m → ⊥
+FirstPlace g m k ws (some i) = (i < k) × At i ws g m × ((j : ℕ) → j < i → At j ws g m → ⊥)
 
 absent-up : (k : ℕ) (a b : ℤ) (ws : List ℤ) (g m : ℤ) → eqZ a g && eqZ b m ≡ false → ((i : ℕ) → i < k → At i ws g m → ⊥) → (i : ℕ) → i < suc k → At i (a ∷ b ∷ ws) g m → ⊥
 absent-up k a b ws g m e h zero l p = at-false a b g m e (p .0) (p .1)
 absent-up k a b ws g m e h (suc i) l p = h i (le-of-suc-le-suc l) (at-down i a b ws g m p)
 
-place-up : (g m : ℤ) (k : ℕ) (a b : ℤ) (ws : List ℤ) (t : Bool) → eqZ a g && eqZ b m ≡ t → (o : Option ℕ) → Place g m k ws o → Place g m (suc k) (a ∷ b ∷ ws) (front t o)
+place-up : (g m : ℤ) (k : ℕ) (a b : ℤ) (ws : List ℤ) (t : Bool) → eqZ a g && eqZ b m ≡ t → (o : Option ℕ) → FirstPlace g m k ws o → FirstPlace g m (suc k) (a ∷ b ∷ ws) (front t o)
 place-up g m k a b ws true e o p = (omega arith, at-true a b g m e, λ j h. absurd (not-suc-le-zero h))
 place-up g m k a b ws false e none p = absent-up k a b ws g m e p
 place-up g m k a b ws false e (some i) p = (omega (arith, p .0), at-up i a b ws g m (p .1), absent-up i a b ws g m e (p .2))
 
-pub find-place : (g m : ℤ) (k : ℕ) (ws : List ℤ) → 2 * k ≤ length ws → Place g m k ws (find g m k ws)
+pub find-place : (g m : ℤ) (k : ℕ) (ws : List ℤ) → 2 * k ≤ length ws → FirstPlace g m k ws (find g m k ws)
 unfolding find
 find-place g m zero ws h = λ i l. absurd (not-suc-le-zero l)
 find-place g m (suc k) [] h = absurd (omega arith)
@@ -65,7 +65,7 @@ below-or i j = go (leb i j) refl (leb j i) refl
     go false e u f = inr (inr (leb-false i j e))
 
 -- there is one first place at most
-place-same : (g m : ℤ) (k : ℕ) (ws : List ℤ) (o p : Option ℕ) → Place g m k ws o → Place g m k ws p → o ≡ p
+place-same : (g m : ℤ) (k : ℕ) (ws : List ℤ) (o p : Option ℕ) → FirstPlace g m k ws o → FirstPlace g m k ws p → o ≡ p
 place-same g m k ws none none a b = refl
 place-same g m k ws none (some j) a b = absurd (a j (b .0) (b .1))
 place-same g m k ws (some i) none a b = absurd (b i (a .0) (a .1))
@@ -76,21 +76,21 @@ place-same g m k ws (some i) (some j) a b = go (below-or i j)
     go (inr (inl h)) = absurd (b .2 i h (a .1))
     go (inr (inr h)) = absurd (a .2 j h (b .1))
 
-pub find-is : (g m : ℤ) (k : ℕ) (ws : List ℤ) (o : Option ℕ) → 2 * k ≤ length ws → Place g m k ws o → find g m k ws ≡ o
+pub find-is : (g m : ℤ) (k : ℕ) (ws : List ℤ) (o : Option ℕ) → 2 * k ≤ length ws → FirstPlace g m k ws o → find g m k ws ≡ o
 find-is g m k ws o h p = place-same g m k ws (find g m k ws) o (find-place g m k ws h) p
 
 pub find-none : (g m : ℤ) (k : ℕ) (ws : List ℤ) → 2 * k ≤ length ws → find g m k ws ≡ none → (i : ℕ) → i < k → At i ws g m → ⊥
-find-none g m k ws h e = subst (Place g m k ws) e (find-place g m k ws h)
+find-none g m k ws h e = subst (FirstPlace g m k ws) e (find-place g m k ws h)
 
-pub find-some : (g m : ℤ) (k : ℕ) (ws : List ℤ) (i : ℕ) → 2 * k ≤ length ws → find g m k ws ≡ some i → Place g m k ws (some i)
-find-some g m k ws i h e = subst (Place g m k ws) e (find-place g m k ws h)
+pub find-some : (g m : ℤ) (k : ℕ) (ws : List ℤ) (i : ℕ) → 2 * k ≤ length ws → find g m k ws ≡ some i → FirstPlace g m k ws (some i)
+find-some g m k ws i h e = subst (FirstPlace g m k ws) e (find-place g m k ws h)
 
 -- absent and present, as the test of a find
 pub absent : (g m : ℤ) (k : ℕ) (ws : List ℤ) → 2 * k ≤ length ws → isSome (find g m k ws) ≡ false → (i : ℕ) → i < k → At i ws g m → ⊥
 unfolding isSome
 absent g m k ws h = go (find g m k ws) (find-place g m k ws h)
   where
-    go : (o : Option ℕ) → Place g m k ws o → isSome o ≡ false → (i : ℕ) → i < k → At i ws g m → ⊥
+    go : (o : Option ℕ) → FirstPlace g m k ws o → isSome o ≡ false → (i : ℕ) → i < k → At i ws g m → ⊥
     go none p e = p
     go (some i) p e = absurd (true≢false e)
 
@@ -102,7 +102,7 @@ pub find-present : (g m : ℤ) (k : ℕ) (ws : List ℤ) (i : ℕ) → 2 * k ≤
 unfolding isSome
 find-present g m k ws i h l p = go (find g m k ws) (find-place g m k ws h)
   where
-    go : (o : Option ℕ) → Place g m k ws o → isSome o ≡ true
+    go : (o : Option ℕ) → FirstPlace g m k ws o → isSome o ≡ true
     go none q = absurd (q i l p)
     go (some j) q = refl
 
@@ -151,6 +151,6 @@ find-same g m k ws vs h h′ e = find-is g m k ws (find g m k vs) h (go (find g 
     back : (i : ℕ) → i < k → At i vs g m → At i ws g m
     back i l p = ((e i l) .0 ∙ p .0, (e i l) .1 ∙ p .1)
 
-    go : (o : Option ℕ) → Place g m k vs o → Place g m k ws o
+    go : (o : Option ℕ) → FirstPlace g m k vs o → FirstPlace g m k ws o
     go none p = λ i l a. p i l (over i l a)
     go (some i) p = (p .0, back i (p .0) (p .1), λ j l a. p .2 j l (over j (omega (arith, p .0)) a))
