@@ -11,7 +11,9 @@ use lib.ListN.{length, getElem?, length-append}
 use Rattle.language.specs.Text.{Formal, Block, block, Decl, VR, LB, PR, Stmt, BK, DO, Decls, no-decl, decl, Stmts, no-stmt, stmt, decls, stmts, blockAt, blockDecls, blockStmts, stmtAt}
 use Rattle.language.specs.Encoding.{BK-mark, PR-mark, formalsFields, blockFields, declFields, stmtFields, declsFields, stmtsFields, fieldsOf, encode}
 use Rattle.language.specs.Check.{accepted, check}
+use Rattle.language.specs.Copy.{Replacement, renameBlock, renameDecl}
 use Rattle.laws.specs.Tests.{none≢some, some-inj}
+use Rattle.laws.specs.RenamedFields.{declsFields-renamed}
 use Rattle.laws.specs.Fields.{fieldAt, FieldsStand, fields-first, fields-after, fields-third, fields-past-head, fields-stand}
 use Rattle.grammar.specs.Rules.{Bytes, FormedBlock, FormedDecl, FormedStmt, FormedDecls, FormedStmts, Keeps}
 use Rattle.grammar.specs.Words.{fields-of-bytes, length-bytes}
@@ -232,3 +234,15 @@ module _ (level : ℕ) (fs : List Formal) (here : ℕ) where
   pub next-stmt : (b : Block) (i : ℕ) (x y : Stmt) → FormedBlock b level fs here → getElem? (blockStmts b) i ≡ some x → getElem? (blockStmts b) (suc i) ≡ some y → stmtAt y ≡ stmtAt x + 2 * length (stmtFields x)
   unfolding FormedBlock blockStmts
   next-stmt (block at ds ss) i x y h e g = next-stmt-in ss level (here + 6 + 2 * length (declsFields ds)) i x y (h .statements) e g
+
+-- Renaming moves no record
+
+pub declAt-renamed : (d : Decl) (σ : Replacement) → declAt (renameDecl d σ) ≡ declAt d
+unfolding declAt renameDecl
+declAt-renamed (VR at n) σ = refl
+declAt-renamed (LB at n i) σ = refl
+declAt-renamed (PR at n fs b) σ = refl
+
+pub stmtsAt-renamed : (b : Block) (σ : Replacement) → stmtsAt (renameBlock b σ) ≡ stmtsAt b
+unfolding stmtsAt renameBlock
+stmtsAt-renamed (block at ds ss) σ = ap (λ (n : ℕ). at + 6 + 2 * n) (declsFields-renamed ds σ)

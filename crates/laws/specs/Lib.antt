@@ -11,5 +11,6 @@ pub mod Order
 pub mod Distinct
 pub mod Lookup
 pub mod Renaming
+pub mod RenamedFields
 pub mod Instances
 pub mod Rising

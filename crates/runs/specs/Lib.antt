@@ -12,6 +12,7 @@ pub mod TableLaws
 pub mod Bounds
 pub mod Names
 pub mod Accepted
+pub mod Fresh
 pub mod SheetWords
 pub mod Designators
 pub mod Admission

@@ -110,12 +110,12 @@ instance-decl s x i e h =
     let f = found-at s x i e in
     each-at FitsDecl (blockDecls (i .home .text)) (f .index) (i .decl) (f .decl-at) (block-decls (i .home .text) (length (i .home .arguments)) (instance-home s x i e h))
 
-enter-fits : (s : State) (formals arguments : List ℕ) (b : Block) (around : List Replacement) → FitsBlock b (length arguments) → FitsState s → FitsState (enter s formals arguments b around)
+pub enter-fits : (s : State) (formals arguments : List ℕ) (b : Block) (around : List Replacement) → FitsBlock b (length arguments) → FitsState s → FitsState (enter s formals arguments b around)
 unfolding enter activation
 enter-fits s formals arguments b around h k =
     each-append FitsActivation (s .live) (activation formals arguments (s .fresh) b around ∷ []) k (renamed-fits b (ownNames formals arguments (s .fresh) b) (length arguments) h, tt)
 
-advance-fits : (s : State) (a : Activation) → last? (s .live) ≡ some a → FitsState s → FitsState (advance s a)
+pub advance-fits : (s : State) (a : Activation) → last? (s .live) ≡ some a → FitsState s → FitsState (advance s a)
 unfolding advance withLive resume
 advance-fits s a e h = each-append FitsActivation (butLast (s .live)) (resume a (suc (a .next)) ∷ []) (each-butLast FitsActivation (s .live) h) (each-last FitsActivation (s .live) a e h, tt)
 
@@ -128,18 +128,18 @@ stmt-entered : (b : Block) → FitsStmt (BK b) → FitsBlock b 0
 unfolding FitsBlock
 stmt-entered b h = h
 
-entered-fits : (s : State) (a : Activation) (b : Block) → last? (s .live) ≡ some a → nextStmt a ≡ some (BK b) → FitsState s → FitsBlock b 0
+pub entered-fits : (s : State) (a : Activation) (b : Block) → last? (s .live) ≡ some a → nextStmt a ≡ some (BK b) → FitsState s → FitsBlock b 0
 unfolding nextStmt
 entered-fits s a b e n h =
     stmt-entered b (each-at FitsStmt (blockStmts (a .text)) (pred (a .next)) (BK b) n (block-stmts (a .text) (length (a .arguments)) (each-last FitsActivation (s .live) a e h)))
 
-called-fits : (s : State) (p : ℕ) (xs : List ℕ) (i : Instance) → instance s p ≡ some i → agree (formalKinds (declFormals (i .decl))) (map (kindAt s) xs) ≡ true → FitsState s → FitsBlock (declBody (i .decl)) (length xs)
+pub called-fits : (s : State) (p : ℕ) (xs : List ℕ) (i : Instance) → instance s p ≡ some i → agree (formalKinds (declFormals (i .decl))) (map (kindAt s) xs) ≡ true → FitsState s → FitsBlock (declBody (i .decl)) (length xs)
 unfolding formalKinds
 called-fits s p xs i e g h =
     let q : length xs ≡ length (declFormals (i .decl)) = sym (length-map xs (kindAt s)) ∙ agree-length (formalKinds (declFormals (i .decl))) (map (kindAt s) xs) g ∙ length-map (declFormals (i .decl)) (λ (f : Formal). f .kind) in
     subst (FitsBlock (declBody (i .decl))) (sym q) (body-fits (i .decl) (instance-decl s p i e h))
 
-fits-kept : (l : Limits) → Kept l FitsState
+pub fits-kept : (l : Limits) → Kept l FitsState
 unfolding withLive withTable store
 fits-kept l =
     record { left = λ s h. each-butLast FitsActivation (s .live) h; advanced = advance-fits; stored = λ s x z h. h; entered = λ s a b e n r h. enter-fits (advance s a) [] [] b (a .reads) (entered-fits s a b e n h) (advance-fits s a e h); called = λ s p xs i e g r h. enter-fits s (formalNames (declFormals (i .decl))) xs (declBody (i .decl)) (i .home .reads) (called-fits s p xs i e g h) h; jumped = jump-fits; added = λ s g m n a z f h. h; removed = λ s g m h. h }
