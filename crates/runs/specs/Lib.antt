@@ -17,3 +17,5 @@ pub mod SheetWords
 pub mod Designators
 pub mod Admission
 pub mod Calls
+pub mod Causes
+pub mod Stopping
