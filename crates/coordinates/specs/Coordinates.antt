@@ -12,7 +12,7 @@ use mathlib.Core.Option.{Option, none, some, Option·map, Option·none-ne-some, 
 use mathlib.Core.Path.{_≡_, refl, sym, ap, _∙_, subst}
 use lib.ListN.{length, getD, getElem?}
 use Rattle.laws.specs.Lists.{getElem-in}
-use Rattle.frames.specs.Frame.{Frame, Place, numbered, frameNames, seekFrom, seekName, finally, designates, linksFollowed}
+use Rattle.frames.specs.Frame.{Frame, NamePlace, numbered, frameNames, seekFrom, seekName, finally, designates, linksFollowed}
 use Rattle.frames.specs.Numbered.{numbered-reverse, numbered-getD}
 use Rattle.coordinates.specs.Enclosure.{Enclosing, Coordinate, namesOf, coordinateOf, outward, atLevel}
 use Rattle.coordinates.specs.Chain.{enclosing, chainOf, enclosureOf, levelOf, climb, displayFrom, displayOf, Downward}
@@ -30,7 +30,7 @@ constant-map b none c e = absurd (Option·none-ne-some c e)
 constant-map b (some a) c e = refl
 
 -- the instance at a position of frame k
-abbrev pub instanceAt : ℕ → ℕ → ℕ → Place
+abbrev pub instanceAt : ℕ → ℕ → ℕ → NamePlace
 instanceAt k p j = record { number = k; position = p; followed = j }
 
 pub record DeclaringFrame (fs : List Frame) (k n : ℕ) (c : Coordinate) : Type 0 where

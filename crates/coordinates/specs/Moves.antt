@@ -112,18 +112,18 @@ outline-rewritten f ws = refl
 -- Each move
 
 -- stacks that differ at most in words, statement numbers, table and steps
-pub record Same (s u : Stack) : Type 0 where
+pub record SameFrames (s u : Stack) : Type 0 where
   pub count : length (u .frames) ≡ length (s .frames)
   pub alike : SameOutlines (length (s .frames)) (s .frames) (u .frames)
 
-pub same-refl : (s : Stack) → Same s s
+pub same-refl : (s : Stack) → SameFrames s s
 same-refl s = record { count = refl; alike = λ i h. refl }
 
 pub declared-in : (fs : List Frame) (x : ℕ) (d : Decl) → declOf fs x ≡ some d → (g : Frame) × (numbered fs (frameNumber x) ≡ some g) × (getElem? (blockDecls (g .text)) (place x - length (g .formals)) ≡ some d)
 declared-in fs x d e = let f = declOf-frame fs x d e in (f .0, f .1, sym (declOf-found fs x (f .0) (f .1)) ∙ e)
 
-module _ (s u : Stack) (same : Same s u) where
-  same-moved : (v : Stack) → Same u v → Moved s v
+module _ (s u : Stack) (same : SameFrames s u) where
+  same-moved : (v : Stack) → SameFrames u v → Moved s v
   same-moved v w =
       let e : length (v .frames) ≡ length (s .frames) = w .count ∙ same .count in
       kept (omega arith) (λ i h. same .alike i (omega arith) ∙ w .alike i (omega arith))
@@ -136,11 +136,11 @@ module _ (s u : Stack) (same : Same s u) where
       let c = same .count in
       kept (omega arith) (λ i p. same .alike i (omega arith) ∙ alike-cut (u .frames) n f g e o i (omega arith))
 
-  put-same : (x : ℕ) (z : ℤ) → Same u (put u x z)
+  put-same : (x : ℕ) (z : ℤ) → SameFrames u (put u x z)
   unfolding put withFrames putWord
   put-same x z = go (numbered (u .frames) (frameNumber x)) refl
     where
-      go : (o : Option Frame) → numbered (u .frames) (frameNumber x) ≡ o → Same u (put u x z)
+      go : (o : Option Frame) → numbered (u .frames) (frameNumber x) ≡ o → SameFrames u (put u x z)
       go none e = rw (put, putWord, e) (same-refl u)
       go (some f) e = rw (put, putWord, e) (record { count = length-set (u .frames) (pred (frameNumber x)) _; alike = alike-set (u .frames) (frameNumber x) f _ e (outline-rewritten f _) (length (u .frames)) })
 
@@ -192,7 +192,7 @@ module _ (s : Stack) (f : Frame) (e : last? (s .frames) ≡ some f) where
   last-number : numbered (s .frames) (length (s .frames)) ≡ some f
   last-number = sym (last-numbered (s .frames)) ∙ e
 
-  advance-same : Same s (advanceFrame s f)
+  advance-same : SameFrames s (advanceFrame s f)
   unfolding advanceFrame withFrames
   advance-same =
       let g = continue f (suc (f .next)) in

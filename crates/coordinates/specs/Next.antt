@@ -69,15 +69,15 @@ name-resolved t keeps fs chain wired n at =
     }
 
 -- the kind of instance that each name of an action designates; an argument may be of any kind
-abbrev pub Kinds : List Frame → Action → Type 0
-Kinds fs (CL p xs) = Designated fs (designates fs p) procedure
-Kinds fs (GO x) = Designated fs (designates fs x) label
-Kinds fs (IF v x) = Designated fs (designates fs v) variable × Designated fs (designates fs x) label
-Kinds fs (KN x z) = Designated fs (designates fs x) variable
-Kinds fs (AR x o a b) = Designated fs (designates fs x) variable × Designated fs (designates fs a) variable × Designated fs (designates fs b) variable
-Kinds fs (AD g m) = Designated fs (designates fs g) variable × Designated fs (designates fs m) variable
-Kinds fs (RM g m) = Designated fs (designates fs g) variable × Designated fs (designates fs m) variable
-Kinds fs (QY x g m) = Designated fs (designates fs x) variable × Designated fs (designates fs g) variable × Designated fs (designates fs m) variable
+abbrev pub OfKinds : List Frame → Action → Type 0
+OfKinds fs (CL p xs) = Designated fs (designates fs p) procedure
+OfKinds fs (GO x) = Designated fs (designates fs x) label
+OfKinds fs (IF v x) = Designated fs (designates fs v) variable × Designated fs (designates fs x) label
+OfKinds fs (KN x z) = Designated fs (designates fs x) variable
+OfKinds fs (AR x o a b) = Designated fs (designates fs x) variable × Designated fs (designates fs a) variable × Designated fs (designates fs b) variable
+OfKinds fs (AD g m) = Designated fs (designates fs g) variable × Designated fs (designates fs m) variable
+OfKinds fs (RM g m) = Designated fs (designates fs g) variable × Designated fs (designates fs m) variable
+OfKinds fs (QY x g m) = Designated fs (designates fs x) variable × Designated fs (designates fs g) variable × Designated fs (designates fs m) variable
 
 -- The innermost frame f is about to do the action a at offset `at`.
 pub record NextAction (t : Block) (fs : List Frame) (f : Frame) (at : ℕ) (a : Action) : Type 0 where
@@ -86,7 +86,7 @@ pub record NextAction (t : Block) (fs : List Frame) (f : Frame) (at : ℕ) (a : 
   pub formed : FormedAction a
   pub scoped : ScopedAction a (scopeOf (enclosureOf fs (length fs)))
   pub names : Each (Resolved fs) (actionNames a)
-  pub kinds : Kinds fs a
+  pub kinds : OfKinds fs a
   pub listed : lookup at (indexOf t) ≡ some (is-action (enclosureOf fs (length fs)) a)
 
 -- The innermost frame f is about to enter the block b, which lies one level deeper.
@@ -107,7 +107,7 @@ module _ (l : Limits) (t : Block) (keeps : Keeps t) (s : Stack) (sound : Sound l
   variable-of : (n : ℕ) → Is variable (scopeOf (enclosureOf (s .frames) (length (s .frames)))) n → Designated (s .frames) (designates (s .frames) n) variable
   variable-of = designates-a t keeps (s .frames) (sound .chained) (sound .wired) variable
 
-  kinds-of : (a : Action) → ScopedAction a (scopeOf (enclosureOf (s .frames) (length (s .frames)))) → Kinds (s .frames) a
+  kinds-of : (a : Action) → ScopedAction a (scopeOf (enclosureOf (s .frames) (length (s .frames)))) → OfKinds (s .frames) a
   unfolding ScopedAction
   kinds-of (CL p xs) h = designates-a t keeps (s .frames) (sound .chained) (sound .wired) procedure p (h .called)
   kinds-of (GO x) h = designates-a t keeps (s .frames) (sound .chained) (sound .wired) label x h

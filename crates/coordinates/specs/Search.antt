@@ -6,7 +6,7 @@ use mathlib.Core.List.{List, [], _∷_}
 use mathlib.Core.Option.{Option, none, some, Option·none-ne-some, Option·some-injective}
 use mathlib.Core.Path.{_≡_, refl, sym, ap, _∙_}
 use lib.ListN.{length}
-use Rattle.frames.specs.Frame.{Frame, Place, numbered, frameNames, positionFrom, seekFrom}
+use Rattle.frames.specs.Frame.{Frame, NamePlace, numbered, frameNames, positionFrom, seekFrom}
 use Rattle.frames.specs.Numbered.{numbered-zero}
 use Rattle.frame_laws.specs.Finding.{seek-none, seek-here, seek-on}
 use Rattle.coordinates.specs.Enclosure.{Enclosing, Enclosure, Coordinate, namesOf, coordinateOf, outward}
@@ -14,7 +14,7 @@ use Rattle.coordinates.specs.Chain.{enclosing, enclosureOf, climb, Downw
 use Rattle.coordinates.specs.Along.{along-none, along-step, climb-zero, climb-some}
 
 -- what a coordinate says of a search from frame k that has followed j links
-unfoldable pub placeFrom : List Frame → ℕ → ℕ → Option Coordinate → Option Place
+unfoldable pub placeFrom : List Frame → ℕ → ℕ → Option Coordinate → Option NamePlace
 placeFrom fs k j none = none
 placeFrom fs k j (some c) =
     let links = outward (enclosureOf fs k) c in some (record { number = climb fs k links; position = c .position; followed = j + links })
@@ -54,7 +54,7 @@ pub enclosure-step : (fs : List Frame) → Downward fs → (k : ℕ) (f : Frame)
 unfolding enclosureOf
 enclosure-step fs down k f e = along-step (λ i e. e) fs down k f e
 
-place-path : (a b c x y z : ℕ) → a ≡ x → b ≡ y → c ≡ z → _≡_ {A = Option Place} (some (record { number = a; position = b; followed = c })) (some (record { number = x; position = y; followed = z }))
+place-path : (a b c x y z : ℕ) → a ≡ x → b ≡ y → c ≡ z → _≡_ {A = Option NamePlace} (some (record { number = a; position = b; followed = c })) (some (record { number = x; position = y; followed = z }))
 place-path a b c x y z p q r = λ i. some (record { number = p i; position = q i; followed = r i })
 
 module _ (fs : List Frame) (down : Downward fs) where

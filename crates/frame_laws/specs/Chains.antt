@@ -7,7 +7,7 @@ use mathlib.Core.List.{List, [], _∷_, _++_}
 use mathlib.Core.Option.{none, some, Option·none-ne-some, Option·some-injective}
 use lib.ListN.{length}
 use Rattle.laws.specs.Tests.{by-lookup}
-use Rattle.frames.specs.Frame.{Frame, Place, numbered, frameNames, positionFrom, seekFrom, seekName, linksFollowed, frameNumber, declOf, kindOf, wordAt}
+use Rattle.frames.specs.Frame.{Frame, NamePlace, numbered, frameNames, positionFrom, seekFrom, seekName, linksFollowed, frameNumber, declOf, kindOf, wordAt}
 use Rattle.laws.specs.Lists.{snoc-length}
 use Rattle.frame_laws.specs.Finding.{declOf-found, declOf-none, kindOf-found, kindOf-none, wordAt-found, wordAt-none, seekName-starts, seek-spent, seek-none, seek-here, seek-on, links-found, links-none}
 use Rattle.frames.specs.Numbered.{numbered-append, numbered-seam}
@@ -52,12 +52,12 @@ module _ (fs : List Frame) (g : Frame) (n : ℕ) where
       innermost-first ∙ seek-on (length fs) (fs ++ (g ∷ [])) (suc (length fs)) n 0 g (numbered-seam fs g) e ∙ seek-below fs (g ∷ []) h (length fs) (g .link) n 1 l
 
 -- fewer links are followed than there are frames
-followed-most : (m : ℕ) (fs : List Frame) (k n j : ℕ) (p : Place) → seekFrom m fs k n j ≡ some p → p .followed < j + m
+followed-most : (m : ℕ) (fs : List Frame) (k n j : ℕ) (p : NamePlace) → seekFrom m fs k n j ≡ some p → p .followed < j + m
 followed-most zero fs k n j p e = absurd (Option·none-ne-some p (sym (seek-spent fs k n j) ∙ e))
 followed-most (suc m) fs k n j p e =
     by-lookup (numbered fs k) (λ q. absurd (Option·none-ne-some p (sym (seek-none (suc m) fs k n j q) ∙ e)))
     (λ f q. by-lookup (positionFrom n 1 (frameNames f)) (λ r. omega (arith, followed-most m fs (f .link) n (suc j) p (sym (seek-on m fs k n j f q r) ∙ e)))
-    (λ i r. let c = ap (λ (x : Place). x .followed) (Option·some-injective _ p (sym (seek-here m fs k n j f i q r) ∙ e)) in omega (arith, c)))
+    (λ i r. let c = ap (λ (x : NamePlace). x .followed) (Option·some-injective _ p (sym (seek-here m fs k n j f i q r) ∙ e)) in omega (arith, c)))
 
 pub linksFollowed-most : (fs : List Frame) (n : ℕ) → linksFollowed fs n ≤ length fs
 linksFollowed-most fs n =

@@ -9,7 +9,7 @@ use lib.Dec.{leb}
 use lib.IntN.{ℤ, pos}
 use lib.ListN.{length, getD, set, getElem?}
 use Rattle.language.specs.Text.{Decl, blockDecls, declKind}
-use Rattle.frames.specs.Frame.{Frame, Place, rewritten, numbered, frameNames, positionFrom, seekFrom, seekName, designatorIn, finally, designates, linksFollowed, frameNumber, place, declOf, kindOf, wordAt, putWord}
+use Rattle.frames.specs.Frame.{Frame, NamePlace, rewritten, numbered, frameNames, positionFrom, seekFrom, seekName, designatorIn, finally, designates, linksFollowed, frameNumber, place, declOf, kindOf, wordAt, putWord}
 
 pub declOf-found : (fs : List Frame) (x : ℕ) (f : Frame) → numbered fs (frameNumber x) ≡ some f → declOf fs x ≡ getElem? (blockDecls (f .text)) (place x - length (f .formals))
 unfolding declOf
@@ -74,7 +74,7 @@ module _ (m : ℕ) (fs : List Frame) (k n j : ℕ) where
   seek-on f e q = rw (seekFrom, e, q)
 
 -- a name of the text: what it designates, and the links followed to it
-pub designates-found : (fs : List Frame) (n : ℕ) (p : Place) → seekName fs n ≡ some p → designates fs n ≡ finally fs p
+pub designates-found : (fs : List Frame) (n : ℕ) (p : NamePlace) → seekName fs n ≡ some p → designates fs n ≡ finally fs p
 unfolding designates
 designates-found fs n p e = rw (e, designates)
 
@@ -82,7 +82,7 @@ pub designates-none : (fs : List Frame) (n : ℕ) → seekName fs n ≡ none →
 unfolding designates
 designates-none fs n e = rw (e, designates)
 
-pub links-found : (fs : List Frame) (n : ℕ) (p : Place) → seekName fs n ≡ some p → linksFollowed fs n ≡ p .followed
+pub links-found : (fs : List Frame) (n : ℕ) (p : NamePlace) → seekName fs n ≡ some p → linksFollowed fs n ≡ p .followed
 unfolding linksFollowed
 links-found fs n p e = rw (e, linksFollowed)
 
@@ -90,14 +90,14 @@ pub links-none : (fs : List Frame) (n : ℕ) → seekName fs n ≡ none → link
 unfolding linksFollowed
 links-none fs n e = rw (e, linksFollowed)
 
-pub finally-none : (fs : List Frame) (p : Place) → numbered fs (p .number) ≡ none → finally fs p ≡ 0
+pub finally-none : (fs : List Frame) (p : NamePlace) → numbered fs (p .number) ≡ none → finally fs p ≡ 0
 unfolding finally
 finally-none fs p e = rw (e, finally)
 
-pub finally-formal : (fs : List Frame) (p : Place) (f : Frame) → numbered fs (p .number) ≡ some f → leb (p .position) (length (f .formals)) ≡ true → finally fs p ≡ designatorIn (getD (f .words) (pred (p .position)) (pos 0))
+pub finally-formal : (fs : List Frame) (p : NamePlace) (f : Frame) → numbered fs (p .number) ≡ some f → leb (p .position) (length (f .formals)) ≡ true → finally fs p ≡ designatorIn (getD (f .words) (pred (p .position)) (pos 0))
 unfolding finally
 finally-formal fs p f e t = rw (e, finally, t)
 
-pub finally-declared : (fs : List Frame) (p : Place) (f : Frame) → numbered fs (p .number) ≡ some f → leb (p .position) (length (f .formals)) ≡ false → finally fs p ≡ p .number * 64 + p .position
+pub finally-declared : (fs : List Frame) (p : NamePlace) (f : Frame) → numbered fs (p .number) ≡ some f → leb (p .position) (length (f .formals)) ≡ false → finally fs p ≡ p .number * 64 + p .position
 unfolding finally
 finally-declared fs p f e t = rw (e, finally, t)

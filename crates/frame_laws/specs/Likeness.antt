@@ -11,11 +11,11 @@ use lib.ListN.{length, getD, getElem?}
 use borrow.Author.Tests.{leb-true}
 use Rattle.language.specs.Text.{Action, blockDecls, formalNames, declaredNames}
 use Rattle.laws.specs.Tests.{split, by-lookup}
-use Rattle.frames.specs.Frame.{Frame, Place, numbered, frameNames, positionFrom, seekFrom, seekName, designatorIn, finally, designates, linksFollowed, frameNumber, place, declOf, kindOf, mapAction}
+use Rattle.frames.specs.Frame.{Frame, NamePlace, numbered, frameNames, positionFrom, seekFrom, seekName, designatorIn, finally, designates, linksFollowed, frameNumber, place, declOf, kindOf, mapAction}
 use Rattle.laws.specs.Lists.{getElem-past, getElem-none}
 use Rattle.frame_laws.specs.Finding.{declOf-found, declOf-none, kindOf-found, kindOf-none, seekName-starts, seek-spent, seek-none, seek-here, seek-on, designates-found, designates-none, links-found, links-none, finally-formal, finally-declared}
 use Rattle.frames.specs.Positions.{position-range}
-use Rattle.frame_laws.specs.Names.{FoundAt, seekName-found}
+use Rattle.frame_laws.specs.Names.{NameFound, seekName-found}
 
 pub record Like (f g : Frame) : Type 0 where
   pub formals : g .formals ≡ f .formals
@@ -63,7 +63,7 @@ module _ (fs gs : List Frame) (like : LikeFrames fs gs) where
   linksFollowed-like n =
       by-lookup (seekName fs n) (λ e. links-none gs n (seekName-like n ∙ e) ∙ sym (links-none fs n e)) (λ p e. links-found gs n p (seekName-like n ∙ e) ∙ sym (links-found fs n p e))
 
-  finally-like : (n : ℕ) (p : Place) → FoundAt fs n p → finally gs p ≡ finally fs p
+  finally-like : (n : ℕ) (p : NamePlace) → NameFound fs n p → finally gs p ≡ finally fs p
   finally-like n p h =
       let f = h .frame in
       let q = numbered-like (p .number) f (h .stands) in

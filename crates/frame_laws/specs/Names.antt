@@ -11,7 +11,7 @@ use lib.ListN.{length}
 use borrow.Author.Tests.{leb-true, leb-false}
 use Rattle.language.specs.Text.{blockDecls}
 use Rattle.laws.specs.Tests.{split, by-lookup, none≢some, some-inj}
-use Rattle.frames.specs.Frame.{Frame, Place, numbered, frameNames, positionFrom, seekFrom, seekName, designatorIn, finally, designates}
+use Rattle.frames.specs.Frame.{Frame, NamePlace, numbered, frameNames, positionFrom, seekFrom, seekName, designatorIn, finally, designates}
 use Rattle.frames.specs.Numbered.{numbered-bounds}
 use Rattle.frames.specs.Positions.{position-range}
 use Rattle.frame_laws.specs.Parts.{frameNames-length}
@@ -22,19 +22,19 @@ use Rattle.frame_laws.specs.BoundedFrames.{points-weaker}
 
 -- A name is found at a position of the frame found
 
-pub record FoundAt (fs : List Frame) (n : ℕ) (p : Place) : Type 0 where
+pub record NameFound (fs : List Frame) (n : ℕ) (p : NamePlace) : Type 0 where
   pub frame : Frame
   pub stands : numbered fs (p .number) ≡ some frame
   pub named : positionFrom n 1 (frameNames frame) ≡ some (p .position)
 
-seek-found : (m : ℕ) (fs : List Frame) (k n j : ℕ) (p : Place) → seekFrom m fs k n j ≡ some p → FoundAt fs n p
+seek-found : (m : ℕ) (fs : List Frame) (k n j : ℕ) (p : NamePlace) → seekFrom m fs k n j ≡ some p → NameFound fs n p
 seek-found zero fs k n j p e = none≢some (sym (seek-spent fs k n j) ∙ e)
 seek-found (suc m) fs k n j p e =
     by-lookup (numbered fs k) (λ c. none≢some (sym (seek-none (suc m) fs k n j c) ∙ e))
     (λ f c. by-lookup (positionFrom n 1 (frameNames f)) (λ d. seek-found m fs (f .link) n (suc j) p (sym (seek-on m fs k n j f c d) ∙ e))
-    (λ i d. subst (FoundAt fs n) (some-inj (sym (seek-here m fs k n j f i c d) ∙ e)) (record { frame = f; stands = c; named = d })))
+    (λ i d. subst (NameFound fs n) (some-inj (sym (seek-here m fs k n j f i c d) ∙ e)) (record { frame = f; stands = c; named = d })))
 
-pub seekName-found : (fs : List Frame) (n : ℕ) (p : Place) → seekName fs n ≡ some p → FoundAt fs n p
+pub seekName-found : (fs : List Frame) (n : ℕ) (p : NamePlace) → seekName fs n ≡ some p → NameFound fs n p
 unfolding seekName
 seekName-found fs n p e = seek-found (length fs) fs (length fs) n 0 p e
 
@@ -52,7 +52,7 @@ points-declared fs k p f e a b c =
     let q = numbered-bounds fs k f e in
     record { home = f; stands = ap (numbered fs) d ∙ e; first = omega (arith, q .0); last = omega (arith, q .1); past = omega arith; within = omega arith }
 
-module _ (fs : List Frame) (n : ℕ) (p : Place) (h : BoundedFrames fs) (q : FoundAt fs n p) where
+module _ (fs : List Frame) (n : ℕ) (p : NamePlace) (h : BoundedFrames fs) (q : NameFound fs n p) where
   at-formal : leb (p .position) (length (q .frame .formals)) ≡ true → Points fs (length fs) (finally fs p)
   unfolding designatorIn
   at-formal t =

@@ -18,7 +18,7 @@ use Rattle.frames.specs.Frame.{Frame, Stack, numbered, frameNumber, plac
 use Rattle.frames.specs.Related.{joined, designatorFor, designatorAt, wordIn, Twin, Related, twin-at}
 
 -- What an instance's designator leads to among the frames.
-pub record Designated (s : State) (t : Stack) (x : ℕ) (i : Instance) : Type 0 where
+pub record InstanceFrame (s : State) (t : Stack) (x : ℕ) (i : Instance) : Type 0 where
   pub depth : ℕ
   pub index : ℕ
   pub frame : Frame
@@ -36,7 +36,7 @@ pub record Designated (s : State) (t : Stack) (x : ℕ) (i : Instance) : Type 0 
   pub by-number : frameNumber (designatorAt (s .live) x) ≡ suc depth
   pub by-place : place (designatorAt (s .live) x) ≡ length (frame .formals) + index
 
-pub designated : (s : State) (t : Stack) → Related s t → (x : ℕ) (i : Instance) → instanceFrom x 1 (s .live) ≡ some i → Designated s t x i
+pub designated : (s : State) (t : Stack) → Related s t → (x : ℕ) (i : Instance) → instanceFrom x 1 (s .live) ≡ some i → InstanceFrame s t x i
 unfolding frameNumber place designatorAt designatorFor
 designated s t r x i e =
     let d = instance-found x 1 (s .live) i e in
@@ -55,7 +55,7 @@ designated s t r x i e =
     let remainder : designatorFor (instanceFrom x 1 (s .live)) % 64 ≡ suc (length (f .formals) + d .index) = omega arith in
     record { depth = d .depth; index = d .index; frame = f; original = o .0; number-is = omega arith; position-is = omega arith; name-is = d .name-is; home-at = d .home-at; decl-at = d .decl-at; frame-at = p .1; twin = w; original-at = o .1; decl-is = o .2; within = omega arith; by-number = omega arith; by-place = ap pred remainder }
 
-module _ (s : State) (t : Stack) (x : ℕ) (i : Instance) (d : Designated s t x i) where
+module _ (s : State) (t : Stack) (x : ℕ) (i : Instance) (d : InstanceFrame s t x i) where
   pub found-frame : numbered (t .frames) (frameNumber (designatorAt (s .live) x)) ≡ some (d .frame)
   unfolding numbered
   found-frame = rw (d .by-number) (d .frame-at)

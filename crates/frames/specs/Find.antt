@@ -21,7 +21,7 @@ use Rattle.laws.specs.Lists.{getElem-in, getElem-bound, getD-elem, lengths-appe
 use Rattle.laws.specs.Lookup.{zip-append, lookup-left, lookup-right}
 use Rattle.laws.specs.Renaming.{renamed-some, renamed-none, declaredNames-renamed}
 use Rattle.laws.specs.Rising.{rising-instance, rising-none}
-use Rattle.frames.specs.Frame.{Frame, Stack, Place, numbered, frameNames, positionFrom, seekFrom, seekName, designatorIn, finally, designates, linksFollowed}
+use Rattle.frames.specs.Frame.{Frame, Stack, NamePlace, numbered, frameNames, positionFrom, seekFrom, seekName, designatorIn, finally, designates, linksFollowed}
 use Rattle.frames.specs.Positions.{lookup-position, lookup-no-position, position-range}
 use Rattle.frames.specs.Related.{readsIn, readsAt, joined, designatorFor, designatorAt, wordIn, ownOf, Twin, Related, as-deep, twin-at}
 
@@ -47,7 +47,7 @@ seek-none n j (σ ∷ σs) e = go (lookup n σ) refl (seek-none n (suc j) σs)
     go (some x) q ih = absurd (none≢some (sym (rw (q, seek) at e)))
 
 -- Both searches find nothing, or both find: the place's designator is the name's, after as many blocks as links.
-unfoldable pub Agree : List Activation → List Frame → Option Found → Option Place → Type 0
+unfoldable pub Agree : List Activation → List Frame → Option Found → Option NamePlace → Type 0
 Agree l fs none none = Unit {0}
 Agree l fs none (some p) = ⊥
 Agree l fs (some d) none = ⊥
@@ -223,11 +223,11 @@ unfoldable pub passedIn : Option Found → ℕ
 passedIn none = 0
 passedIn (some d) = d .passed
 
-unfoldable placeDesignator : List Frame → Option Place → ℕ
+unfoldable placeDesignator : List Frame → Option NamePlace → ℕ
 placeDesignator fs none = 0
 placeDesignator fs (some p) = finally fs p
 
-unfoldable followedIn : Option Place → ℕ
+unfoldable followedIn : Option NamePlace → ℕ
 followedIn none = 0
 followedIn (some p) = p .followed
 
@@ -235,7 +235,7 @@ designates-is : (fs : List Frame) (n : ℕ) → designates fs n ≡ placeDesigna
 unfolding designates placeDesignator
 designates-is fs n = go (seekName fs n) refl
   where
-    go : (o : Option Place) → seekName fs n ≡ o → designates fs n ≡ placeDesignator fs o
+    go : (o : Option NamePlace) → seekName fs n ≡ o → designates fs n ≡ placeDesignator fs o
     go none q = rw (q, designates)
     go (some p) q = rw (q, designates)
 
@@ -243,14 +243,14 @@ links-is : (fs : List Frame) (n : ℕ) → linksFollowed fs n ≡ followedIn (se
 unfolding linksFollowed followedIn
 links-is fs n = refl
 
-agreed : (l : List Activation) (fs : List Frame) (o : Option Found) (p : Option Place) → Agree l fs o p → placeDesignator fs p ≡ foundDesignator l o
+agreed : (l : List Activation) (fs : List Frame) (o : Option Found) (p : Option NamePlace) → Agree l fs o p → placeDesignator fs p ≡ foundDesignator l o
 unfolding Agree placeDesignator foundDesignator
 agreed l fs none none h = refl
 agreed l fs none (some p) h = absurd h
 agreed l fs (some d) none h = absurd h
 agreed l fs (some d) (some p) h = h .0
 
-passed-agreed : (l : List Activation) (fs : List Frame) (o : Option Found) (p : Option Place) → Agree l fs o p → followedIn p ≡ passedIn o
+passed-agreed : (l : List Activation) (fs : List Frame) (o : Option Found) (p : Option NamePlace) → Agree l fs o p → followedIn p ≡ passedIn o
 unfolding Agree followedIn passedIn
 passed-agreed l fs none none h = refl
 passed-agreed l fs none (some p) h = absurd h

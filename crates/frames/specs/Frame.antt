@@ -68,13 +68,13 @@ positionFrom n i [] = none
 positionFrom n i (x ∷ xs) = elim (eqb n x) [ true ↦ some i | false ↦ positionFrom n (suc i) xs ]
 
 -- Where a name was found: frame, position from 1, and the links followed to it.
-pub record Place : Type 0 where
+pub record NamePlace : Type 0 where
   pub number : ℕ
   pub position : ℕ
   pub followed : ℕ
 
 -- the frame's own names, and then its link's; a chain has no more links than there are frames
-unfoldable pub seekFrom : ℕ → List Frame → ℕ → ℕ → ℕ → Option Place
+unfoldable pub seekFrom : ℕ → List Frame → ℕ → ℕ → ℕ → Option NamePlace
 seekFrom zero fs k n j = none
 seekFrom (suc m) fs k n j =
     elim (numbered fs k) [
@@ -85,7 +85,7 @@ seekFrom (suc m) fs k n j =
       ]
     ]
 
-unfoldable pub seekName : List Frame → ℕ → Option Place
+unfoldable pub seekName : List Frame → ℕ → Option NamePlace
 seekName fs n = seekFrom (length fs) fs (length fs) n 0
 
 -- a formal's word, read as the designator that it is
@@ -93,7 +93,7 @@ unfoldable pub designatorIn : ℤ → ℕ
 designatorIn (pos n) = n
 designatorIn (negsuc n) = 0
 
-unfoldable pub finally : List Frame → Place → ℕ
+unfoldable pub finally : List Frame → NamePlace → ℕ
 finally fs p =
     elim (numbered fs (p .number)) [
       | none ↦ 0

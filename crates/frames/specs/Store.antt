@@ -16,7 +16,7 @@ use Rattle.laws.specs.Rising.{same-declaration}
 use Rattle.frames.specs.Frame.{Frame, Stack, numbered, place, putWord, put, rewritten, withFrames}
 use Rattle.frames.specs.Both.{both-set}
 use Rattle.frames.specs.Related.{designatorAt, orZero, valueIn, wordIn, ownOf, Twin, Related}
-use Rattle.frames.specs.Designated.{Designated, designated}
+use Rattle.frames.specs.Designated.{InstanceFrame, designated}
 
 -- a declaration's word after a store
 word-other : (vs : List (ℕ × ℤ)) (x : ℕ) (z : ℤ) (d : Decl) → (declName d ≡ x → ⊥) → wordIn ((x, z) ∷ vs) d ≡ wordIn vs d
@@ -32,7 +32,7 @@ word-this vs x z (LB at n i) h k = absurd (let z : _≡_ {A = ℕ} 0 1 = cc in o
 word-this vs x z (PR at n fs b) h k = absurd (let z : _≡_ {A = ℕ} 0 1 = cc in omega arith)
 
 module _ (s : State) (t : Stack) (r : Related s t) (x : ℕ) (z : ℤ) (i : Instance) (e : instanceFrom x 1 (s .live) ≡ some i) (kind : declKind (i .decl) ≡ variable) where
-  d : Designated s t x i
+  d : InstanceFrame s t x i
   d = designated s t r x i e
 
   -- the activations other than the variable's keep their words

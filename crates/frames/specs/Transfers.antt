@@ -21,7 +21,7 @@ use Rattle.frames.specs.Frame.{Frame, Stack, numbered, continue, withFra
 use Rattle.frames.specs.Fine.{Fine, fine-body}
 use Rattle.frames.specs.Related.{readsIn, readsAt, joined, designatorAt, LiveBelow, AllLive, Related, as-deep}
 use Rattle.frames.specs.Cuts.{top-of, related-take, related-resume}
-use Rattle.frames.specs.Designated.{Designated, designated, declOf-designated, kindOf-designated, found-frame}
+use Rattle.frames.specs.Designated.{InstanceFrame, designated, declOf-designated, kindOf-designated, found-frame}
 use Rattle.frames.specs.Push.{related-push}
 use Rattle.frames.specs.Actions.{Alike}
 
@@ -39,7 +39,7 @@ module _ (s : State) (t : Stack) (r : Related s t) where
       (same .0) (same .1)
       (related-resume s₁ t₁ r₁ top n)
 
-  module _ (x : ℕ) (i : Instance) (e : instance s x ≡ some i) (d : Designated s t x i) where
+  module _ (x : ℕ) (i : Instance) (e : instance s x ≡ some i) (d : InstanceFrame s t x i) where
     jump-is : jump s x ≡ withLive s (take (d .depth) (s .live) ++ (resume (i .home) (labelIndex (i .decl)) ∷ []))
     unfolding jump
     jump-is = rw (e, jump) (ap (λ (n : ℕ). withLive s (take (pred n) (s .live) ++ (resume (i .home) (labelIndex (i .decl)) ∷ []))) (d .number-is))
@@ -101,7 +101,7 @@ module _ (s : State) (t : Stack) (r : Related s t) where
       i : Instance
       i = v .it
 
-      d : Designated s t p i
+      d : InstanceFrame s t p i
       d = designated s t r p i (v .found)
 
       σ : Replacement

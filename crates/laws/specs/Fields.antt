@@ -47,10 +47,10 @@ module _ (bs : List ℕ) where
       (g .0, fields-both (at + 2) xs ys (g .1) (fields-moved (at + 2 * suc (length xs)) (at + 2 + 2 * length xs) ys (omega arith) h))
 
   -- what stands is what is read
-  pub fields-read : (at : ℕ) (xs : List ℕ) → FieldsStand bs at xs → fieldsAt bs at (length xs) ≡ xs
+  pub fields-are : (at : ℕ) (xs : List ℕ) → FieldsStand bs at xs → fieldsAt bs at (length xs) ≡ xs
   unfolding fieldsAt
-  fields-read at [] h = refl
-  fields-read at (x ∷ xs) h = rw (h .0, fields-read (at + 2) xs (h .1))
+  fields-are at [] h = refl
+  fields-are at (x ∷ xs) h = rw (h .0, fields-are (at + 2) xs (h .1))
 
   pub fields-third : (at w v u : ℕ) (ws : List ℕ) → FieldsStand bs at (w ∷ v ∷ u ∷ ws) → fieldAt bs (at + 4) ≡ u
   fields-third at w v u ws h = subst (λ (o : ℕ). fieldAt bs o ≡ u) four (h .1 .1 .0)
