@@ -6,14 +6,14 @@ use Prim.Native.Nat.{ℕ, pred, _+_, _*_, _-_, _%_, _≤_, _<_}
 use native.Mathlib.Omega.{arith}
 use mathlib.Core.Bool.{Bool, true, false}
 use mathlib.Core.List.{List, map}
-use mathlib.Core.Option.{some, map-eq-some-iff, Option·some-injective}
+use mathlib.Core.Option.{none, some, map-eq-some-iff, Option·none-ne-some, Option·some-injective}
 use mathlib.Core.Path.{_≡_, refl, sym, ap, _∙_, subst}
 use borrow.Author.Tests.{leb-true, leb-false}
 use lib.Dec.{leb}
 use lib.IntN.{pos}
 use lib.ListN.{length, getD, getElem?, length-map}
 use Rattle.language.specs.Basics.{last?, lookup}
-use Rattle.language.specs.Text.{Kind, procedure, Formal, Action, CL, Block, Decl, VR, LB, PR, DO, blockDecls, declKind}
+use Rattle.language.specs.Text.{Kind, procedure, Formal, Action, CL, Block, Decl, VR, LB, PR, DO, blockDecls, declKind, declFormals, formalKinds}
 use Rattle.language.specs.Scope.{Meaning, formalMeaning, declMeaning}
 use Rattle.laws.specs.Lists.{getElem-append, getElem-after, getElem?-map, getD-elem}
 use Rattle.grammar.specs.Rules.{Is, ScopedAction, Keeps}
@@ -90,19 +90,18 @@ place-of k p h =
     let i : pred p ≡ p - 1 = omega arith in
     ap pred e ∙ i
 
-own-designated : (fs : List Frame) (k p : ℕ) (g : Frame) (n : ℕ) (m : Meaning) → numbered fs k ≡ some g → numbered (meaningsOf (enclosing g)) p ≡ some (n, m) → length (g .formals) < p → p < 64 → Designated fs (k * 64 + p) (m .kind)
+-- the declaration there, and what it means
+own-declared : (fs : List Frame) (k p : ℕ) (g : Frame) (n : ℕ) (m : Meaning) → numbered fs k ≡ some g → numbered (meaningsOf (enclosing g)) p ≡ some (n, m) → length (g .formals) < p → p < 64 → (d : Decl) × (declOf fs (k * 64 + p) ≡ some d) × (declMeaning d ≡ (n, m))
 unfolding enclosing
-own-designated fs k p g n m e q h s =
+own-declared fs k p g n m e q h s =
     let d = meaning-of-decl (enclosing g) p (n, m) q h in
     let stands : numbered fs (frameNumber (k * 64 + p)) ≡ some g = ap (numbered fs) (number-of k p s) ∙ e in
-    record {
-      home = g;
-      stands = stands;
-      past = omega (arith, place-of k p s);
-      decl = d .0;
-      declared = declOf-found fs (k * 64 + p) g stands ∙ ap (λ i. getElem? (blockDecls (g .text)) (i - length (g .formals))) (place-of k p s) ∙ d .1;
-      kind = decl-kind (d .0) n m (d .2);
-    }
+    (d .0, declOf-found fs (k * 64 + p) g stands ∙ ap (λ i. getElem? (blockDecls (g .text)) (i - length (g .formals))) (place-of k p s) ∙ d .1, d .2)
+
+own-designated : (fs : List Frame) (k p : ℕ) (g : Frame) (n : ℕ) (m : Meaning) → numbered fs k ≡ some g → numbered (meaningsOf (enclosing g)) p ≡ some (n, m) → length (g .formals) < p → p < 64 → Designated fs (k * 64 + p) (m .kind)
+own-designated fs k p g n m e q h s =
+    let d = own-declared fs k p g n m e q h s in
+    record { home = g; stands = ap (numbered fs) (number-of k p s) ∙ e; past = omega (arith, place-of k p s); decl = d .0; declared = d .1; kind = decl-kind (d .0) n m (d .2) }
 
 -- a formal's word, and a declared name
 
@@ -123,18 +122,71 @@ instance-designated fs wired k p j g n m e q s true l =
 instance-designated fs wired k p j g n m e q s false l =
     subst (λ x. Designated fs x (m .kind)) (sym (finally-declared fs (instanceAt k p j) g e l)) (own-designated fs k p g n m e q (leb-false p (length (g .formals)) l) s)
 
-pub designates-kind : (t : Block) → Keeps t → (fs : List Frame) → Chained t fs → Wired fs → (n : ℕ) (m : Meaning) → Located (enclosureOf fs (length fs)) n m → Designated fs (designates fs n) (m .kind)
-designates-kind t h fs chain wired n m at =
+-- the frame and the position that a name's coordinate leads to
+record Home (fs : List Frame) (n : ℕ) (m : Meaning) : Type 0 where
+  number : ℕ
+  position : ℕ
+  links : ℕ
+  frame : Frame
+  stands : numbered fs number ≡ some frame
+  means : numbered (meaningsOf (enclosing frame)) position ≡ some (n, m)
+  small : position < 64
+  designated : designates fs n ≡ finally fs (instanceAt number position links)
+
+home-of : (t : Block) → Keeps t → (fs : List Frame) → Chained t fs → (n : ℕ) (m : Meaning) → Located (enclosureOf fs (length fs)) n m → Home fs n m
+home-of t h fs chain n m at =
     let down = chained-downward t fs chain in
     let c = at .coordinate in
     let d = declaring-frame fs down (length fs) n c (at .found) in
-    let k = climb fs (length fs) (levelOf fs (length fs) - c .level) in
+    let links = levelOf fs (length fs) - c .level in
+    let k = climb fs (length fs) links in
     let same : at .block ≡ enclosing (d .frame) = Option·some-injective (at .block) (enclosing (d .frame)) (sym (at .stands) ∙ d .block) in
-    let means = subst (λ (e : Enclosing). numbered (meaningsOf e) (c .position) ≡ some (n, m)) same (at .means) in
     let few = names-bound t h fs chain k (d .frame) (d .stands) in
     let high = numbered-high (frameNames (d .frame)) (c .position) n (d .named) in
-    subst (λ x. Designated fs x (m .kind)) (sym (designates-by-links fs down n c (at .found)))
-    (instance-designated fs wired k (c .position) (levelOf fs (length fs) - c .level) (d .frame) n m (d .stands) means (omega arith) (leb (c .position) (length (d .frame .formals))) refl)
+    record {
+      number = k;
+      position = c .position;
+      links = links;
+      frame = d .frame;
+      stands = d .stands;
+      means = subst (λ (e : Enclosing). numbered (meaningsOf e) (c .position) ≡ some (n, m)) same (at .means);
+      small = omega arith;
+      designated = designates-by-links fs down n c (at .found);
+    }
+
+pub designates-kind : (t : Block) → Keeps t → (fs : List Frame) → Chained t fs → Wired fs → (n : ℕ) (m : Meaning) → Located (enclosureOf fs (length fs)) n m → Designated fs (designates fs n) (m .kind)
+designates-kind t h fs chain wired n m at =
+    let o = home-of t h fs chain n m at in
+    subst (λ x. Designated fs x (m .kind)) (sym (o .designated))
+    (instance-designated fs wired (o .number) (o .position) (o .links) (o .frame) n m (o .stands) (o .means) (o .small) (leb (o .position) (length (o .frame .formals))) refl)
+
+-- a name that means a declared procedure designates that procedure: a formal's meaning says nothing of what it takes
+
+formal-takes : (f : Formal) (n : ℕ) (m : Meaning) → formalMeaning f ≡ (n, m) → m .takes ≡ none
+unfolding formalMeaning
+formal-takes f n m e = sym (ap (λ (x : ℕ × Meaning). x .1 .takes) e)
+
+decl-takes : (d : Decl) (n : ℕ) (m : Meaning) (ks : List Kind) → declMeaning d ≡ (n, m) → m .takes ≡ some ks → formalKinds (declFormals d) ≡ ks
+unfolding declMeaning declFormals
+decl-takes (VR at x) n m ks e q = absurd (Option·none-ne-some ks (ap (λ (y : ℕ × Meaning). y .1 .takes) e ∙ q))
+decl-takes (LB at x i) n m ks e q = absurd (Option·none-ne-some ks (ap (λ (y : ℕ × Meaning). y .1 .takes) e ∙ q))
+decl-takes (PR at x fs b) n m ks e q = Option·some-injective (formalKinds fs) ks (ap (λ (y : ℕ × Meaning). y .1 .takes) e ∙ q)
+
+pub designates-procedure : (t : Block) → Keeps t → (fs : List Frame) → Chained t fs → (n : ℕ) (m : Meaning) (ks : List Kind) → lookup n (scopeOf (enclosureOf fs (length fs))) ≡ some m → m .takes ≡ some ks
+    → (d : Decl) × (declOf fs (designates fs n) ≡ some d) × (formalKinds (declFormals d) ≡ ks)
+unfolding enclosing
+designates-procedure t h fs chain n m ks e q = go (leb (o .position) (length (o .frame .formals))) refl
+  where
+    o : Home fs n m
+    o = home-of t h fs chain n m (visible-coordinate (enclosureOf fs (length fs)) n m e)
+
+    go : (b : Bool) → leb (o .position) (length (o .frame .formals)) ≡ b → (d : Decl) × (declOf fs (designates fs n) ≡ some d) × (formalKinds (declFormals d) ≡ ks)
+    go true l =
+        let f = meaning-of-formal (enclosing (o .frame)) (o .position) (n, m) (o .means) (numbered-low (meaningsOf (enclosing (o .frame))) (o .position) (n, m) (o .means)) (leb-true (o .position) (length (o .frame .formals)) l) in
+        absurd (Option·none-ne-some ks (sym (formal-takes (f .0) n m (f .2)) ∙ q))
+    go false l =
+        let d = own-declared fs (o .number) (o .position) (o .frame) n m (o .stands) (o .means) (leb-false (o .position) (length (o .frame .formals)) l) (o .small) in
+        (d .0, ap (declOf fs) (o .designated ∙ finally-declared fs (instanceAt (o .number) (o .position) (o .links)) (o .frame) (o .stands) l) ∙ d .1, decl-takes (d .0) n m ks (d .2) q)
 
 -- the scope in which the innermost frame's statements stand
 pub statement-scoped : (t : Block) → Keeps t → (fs : List Frame) → Chained t fs → (f : Frame) (at : ℕ) (a : Action) → last? fs ≡ some f → frameStmt f ≡ some (DO at a) → ScopedAction a (scopeOf (enclosureOf fs (length fs)))

@@ -20,5 +20,6 @@ pub mod Own
 pub mod Index
 pub mod Standing
 pub mod Next
+pub mod Called
 pub mod Links
 pub mod Examples
