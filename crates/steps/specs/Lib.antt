@@ -1,3 +1,5 @@
 -- A step on an engine's arrays is a step of the frame machine, in reading order.
 pub mod Standing
 pub mod Means
+pub mod Here
+pub mod Ops
