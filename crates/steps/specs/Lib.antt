@@ -3,3 +3,4 @@ pub mod Standing
 pub mod Means
 pub mod Here
 pub mod Ops
+pub mod Loop

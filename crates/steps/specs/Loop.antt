@@ -1,0 +1,246 @@
+-- The laws of an engine's loop. At the end of a text the innermost activation is left (`leaves`), or the run has finished where no other is live
+-- (`finishes`); with no step left it is spent (`spent`), and where a statement has a cause to stop it stops there (`stops`). `jumped`: after
+-- a jump the engine stands in the label's activation. `begins`: arrays of zeros are where a run starts, and `shows-begun`: so is the display.
+use Prim.Native.Nat.{ℕ, zero, suc, pred, _+_, _-_, _*_, _≤_, _<_}
+use native.Mathlib.Omega.{arith}
+use mathlib.Core.Bool.{true}
+use mathlib.Core.List.{List, [], _∷_, _++_}
+use mathlib.Core.Option.{none, some}
+use mathlib.Core.Path.{_≡_, refl, sym, ap, _∙_, subst}
+use borrow.Author.Tests.{eqb-true, eqb-false}
+use lib.Dec.{eqb}
+use lib.IntN.{ℤ, pos}
+use lib.ListN.{length, take, getD, set, getElem?, length-set}
+use lib.Seq.{set-getD, getD-set-same, getD-set-other, length-take-le}
+use Rattle.language.specs.Basics.{last?, butLast}
+use Rattle.language.specs.Text.{Block, blockAt, blockDecls}
+use Rattle.language.specs.Table.{Table, right}
+use Rattle.language.specs.Machine.{Limits}
+use Rattle.language.specs.declared.Stop.{Stop}
+use Rattle.language.specs.declared.End.the-variants.{Finished, Spent, Stopped}
+use Rattle.laws.specs.Tests.{split, by-lookup, none≢some}
+use Rattle.laws.specs.Lists.{some-last, last-split, snoc-length, getElem-append, getElem-seam, butLast-snoc, getElem-bound}
+use Rattle.grammar.specs.Rules.{Keeps}
+use Rattle.frames.specs.Frame.{Frame, Stack, Acted, acted, halted, numbered, continue, withFrames, stepped, newFrame, frameStmt, frameStep, frameOffset, results, frameRun, frameStart}
+use Rattle.frames.specs.Numbered.{numbered-suc, numbered-low, numbered-high}
+use Rattle.frames.specs.Running.{run-finished, run-spent, run-steps, run-stops}
+use Rattle.frame_laws.specs.Innermost.{step-leaves, offset-does}
+use Rattle.frame_laws.specs.Bounds.{BoundedFrames}
+use Rattle.coordinates.specs.Chain.{along, chainOf, levelOf, displayFrom, displayOf, Downward}
+use Rattle.coordinates.specs.Display.{display-after-return, display-after-goto, display-length}
+use Rattle.coordinates.specs.Sound.{Sound, start-sound, step-sound}
+use Rattle.resolved.specs.Resolved.{placeOf, endPlace, stmtPlace, resolvedOf, Covers}
+use Rattle.resolved.specs.Places.{block-place}
+use Rattle.arrays.specs.Holds.{Holds, Shows}
+use Rattle.arrays.specs.Storing.{holds-agreeing}
+use Rattle.arrays.specs.Moves.{holds-left, holds-resumed, holds-started}
+use Rattle.arrays.specs.Displays.{shows-entered}
+use Rattle.steps.specs.Standing.{Standing}
+use Rattle.steps.specs.Means.{Follows, JumpsTo}
+use Rattle.steps.specs.Here.{many, last-is, numbered-here, live-few, downward, ended, even-at}
+
+module _ {code : List ℕ} {l : Limits} {words : List ℤ} {blocks nexts links : List ℕ} {table : List ℤ} {pairs live at end : ℕ} (w : Standing code l words blocks nexts links table pairs live at end) where
+  some-live : 1 ≤ length (w .stack .frames)
+  some-live = omega (arith, many w)
+
+  -- No step left, or a cause to stop
+
+  pub spent : frameRun l 0 (w .stack) ≡ results Spent 0 (w .stack)
+  spent = run-spent l (w .stack) some-live
+
+  leaving : at ≡ end → frameStep l (w .stack) ≡ acted (withFrames (w .stack) (w .below))
+  leaving e = step-leaves l (w .stack) (w .below) (w .frame) (w .frames-are) (ended w e)
+
+  pub stops : (n : ℕ) (c : Stop) → frameStep l (w .stack) ≡ halted c → frameRun l (suc n) (w .stack) ≡ results (Stopped c) (2 * at) (w .stack)
+  stops n c e =
+      by-lookup (frameStmt (w .frame))
+      (λ q. let z : _≡_ {A = ℕ} 0 1 = cc (step-leaves l (w .stack) (w .below) (w .frame) (w .frames-are) q) in absurd (omega arith))
+      (λ x q. run-stops l (w .stack) n c some-live e ∙ ap (λ i. results (Stopped c) i (w .stack)) (offset-does (w .stack) (w .below) (w .frame) x (w .frames-are) q ∙ sym (even-at w x q)))
+
+  -- a step done
+  pub follows-step : (v : Stack) → frameStep l (w .stack) ≡ acted v → Follows w (stepped v) (w .program) (w .name)
+  follows-step v e = record { runs = λ n. run-steps l (w .stack) n v some-live e; same-program = refl; same-name = refl }
+
+  pub sound-after : (v : Stack) → frameStep l (w .stack) ≡ acted v → Sound l (w .program) (stepped v)
+  sound-after v e = step-sound (w .program) (w .keeps) l (w .stack) v (w .sound) e
+
+  -- The end of the text
+
+  pub finishes : at ≡ end → live ≡ 0 → (n : ℕ)
+      → frameRun l (suc n) (w .stack) ≡ results Finished 0 (record { frames = []; table = record { words = table; used = pairs }; steps = suc (w .stack .steps) })
+  unfolding stepped withFrames
+  finishes e z n =
+      let none-below : w .below ≡ [] = no-frames (w .below) (w .depth ∙ z) in
+      run-steps l (w .stack) n (withFrames (w .stack) (w .below)) some-live (leaving e)
+      ∙ ap (frameRun l n) (λ i. record { frames = none-below i; table = w .table-is i; steps = suc (w .stack .steps) })
+      ∙ run-finished l _ n refl
+    where
+      no-frames : (fs : List Frame) → length fs ≡ 0 → fs ≡ []
+      no-frames [] h = refl
+      no-frames (f ∷ fs) h = absurd (omega arith)
+
+  -- the activation below becomes the innermost one
+  pub record Leaves : Type 0 where
+    pub frame : Frame
+    pub stands : numbered (w .stack .frames) live ≡ some frame
+    pub standing : Standing code l words blocks nexts links table pairs (live - 1) (getD nexts (live - 1) 0) (endPlace (frame .text))
+    pub follows : Follows w (standing .stack) (standing .program) (standing .name)
+    pub display : displayOf (standing .stack .frames) ≡ displayFrom (w .stack .frames) live
+
+  pub leaves : at ≡ end → 1 ≤ live → Leaves
+  unfolding stepped withFrames
+  leaves e h =
+      let f = some-last (w .below) (omega (arith, w .depth)) in
+      let v = withFrames (w .stack) (w .below) in
+      let sound = sound-after v (leaving e) in
+      let under : butLast (w .stack .frames) ≡ w .below = ap butLast (w .frames-are) ∙ butLast-snoc (w .below) (w .frame) in
+      let parts : w .below ≡ butLast (w .below) ++ (f .0 ∷ []) = last-split (w .below) (f .0) (f .1) in
+      let deep : length (butLast (w .below)) ≡ live - 1 = omega (arith, w .depth, ap length parts, snoc-length (butLast (w .below)) (f .0)) in
+      let held : Holds (w .below) blocks (set nexts live at) links words = subst (λ (fs : List Frame). Holds fs blocks (set nexts live at) links words) under (holds-left (w .stack .frames) blocks (set nexts live at) links words (w .sound .bounded .each) (w .holds)) in
+      let same : set nexts (live - 1) (getD nexts (live - 1) 0) ≡ nexts = set-getD nexts (live - 1) 0 in
+      record {
+        frame = f .0;
+        stands = numbered-below (f .0) deep parts;
+        standing = record {
+          name = w .name;
+          program = w .program;
+          keeps = w .keeps;
+          covers = w .covers;
+          stack = stepped v;
+          sound = sound;
+          below = butLast (w .below);
+          frame = f .0;
+          frames-are = parts;
+          depth = deep;
+          table-is = w .table-is;
+          holds = subst (λ (ns : List ℕ). Holds (w .below) blocks ns links words) (sym same)
+              (holds-agreeing (w .below) blocks blocks (set nexts live at) nexts links links words words (sound .bounded .each) (λ k p. refl)
+              (λ k p. sym (getD-set-other nexts live k at 0 (λ c. omega (arith, w .depth)))) (λ k p. refl) (λ c p. refl) held);
+          end-is = refl;
+          words-long = w .words-long;
+          blocks-long = w .blocks-long;
+          nexts-long = w .nexts-long;
+          links-long = w .links-long;
+        };
+        follows = follows-step v (leaving e);
+        display = ap displayOf (sym under) ∙ display-after-return (w .stack .frames) (downward w) ∙ ap (displayFrom (w .stack .frames)) (ap pred (many w));
+      }
+    where
+      numbered-below : (f : Frame) → length (butLast (w .below)) ≡ live - 1 → w .below ≡ butLast (w .below) ++ (f ∷ []) → numbered (w .stack .frames) live ≡ some f
+      numbered-below f deep parts =
+          let i : live ≡ suc (length (butLast (w .below))) = omega arith in
+          ap (numbered (w .stack .frames)) i ∙ numbered-suc (w .stack .frames) (length (butLast (w .below)))
+          ∙ ap (λ (fs : List Frame). getElem? fs (length (butLast (w .below)))) (w .frames-are)
+          ∙ getElem-append (w .below) (w .frame ∷ []) (length (butLast (w .below))) (omega (arith, w .depth))
+          ∙ ap (λ (fs : List Frame). getElem? fs (length (butLast (w .below)))) parts ∙ getElem-seam (butLast (w .below)) f []
+
+  -- A jump
+
+  pub record Jumped (home at′ : ℕ) : Type 0 where
+    pub frame : Frame
+    pub stands : numbered (w .stack .frames) (suc home) ≡ some frame
+    pub home-high : home ≤ live
+    pub standing : Standing code l words blocks nexts links table pairs home at′ (endPlace (frame .text))
+    pub follows : Follows w (standing .stack) (standing .program) (standing .name)
+    pub display : displayOf (standing .stack .frames) ≡ displayFrom (w .stack .frames) (suc home)
+
+  pub jumped : (home at′ : ℕ) → JumpsTo w home at′ → Jumped home at′
+  unfolding stepped withFrames continue
+  jumped home at′ j =
+      let fs = w .stack .frames in
+      let gs = take home fs ++ (continue (j .frame) (j .index) ∷ []) in
+      let v = withFrames (w .stack) gs in
+      let sound = sound-after v (j .steps) in
+      let high : suc home ≤ length fs = numbered-high fs (suc home) (j .frame) (j .stands) in
+      let deep : length (take home fs) ≡ home = length-take-le home fs (omega arith) in
+      let count : length gs ≡ suc home = snoc-length (take home fs) (continue (j .frame) (j .index)) ∙ ap suc deep in
+      let room : suc home ≤ 256 = omega (arith, many w, live-few w) in
+      let long : suc home ≤ length (set nexts live at) = omega (arith, length-set nexts live at, w .nexts-long) in
+      let held : Holds gs blocks (set (set nexts live at) home (stmtPlace (j .frame .text) (j .index))) links words = holds-resumed fs blocks (set nexts live at) links words (w .sound .bounded .each) (w .holds) (suc home) (j .frame) (j .stands) (j .index) long in
+      record {
+        frame = j .frame;
+        stands = j .stands;
+        home-high = omega (arith, many w);
+        standing = record {
+          name = w .name;
+          program = w .program;
+          keeps = w .keeps;
+          covers = w .covers;
+          stack = stepped v;
+          sound = sound;
+          below = take home fs;
+          frame = continue (j .frame) (j .index);
+          frames-are = refl;
+          depth = deep;
+          table-is = w .table-is;
+          holds = holds-agreeing gs blocks blocks (set (set nexts live at) home (stmtPlace (j .frame .text) (j .index))) (set nexts home at′) links links words words (sound .bounded .each) (λ k p. refl)
+              (λ k p. next-same k (omega arith) long (omega (arith, w .nexts-long)) (omega (arith, many w)) (j .place-is)) (λ k p. refl) (λ c p. refl) held;
+          end-is = refl;
+          words-long = w .words-long;
+          blocks-long = w .blocks-long;
+          nexts-long = w .nexts-long;
+          links-long = w .links-long;
+        };
+        follows = follows-step v (j .steps);
+        display = display-after-goto fs (downward w) (suc home) (j .frame) (j .index) (j .stands);
+      }
+    where
+      next-same : (k : ℕ) → k ≤ home → suc home ≤ length (set nexts live at) → home < length nexts → home ≤ live → {place : ℕ} → at′ ≡ place → getD (set nexts home at′) k 0 ≡ getD (set (set nexts live at) home place) k 0
+      next-same k p long room high {place} e =
+          split (eqb k home)
+          (λ t. let c : k ≡ home = eqb-true k home t in
+          ap (λ i. getD (set nexts home at′) i 0) c ∙ getD-set-same nexts home at′ 0 room ∙ e
+          ∙ sym (ap (λ i. getD (set (set nexts live at) home place) i 0) c ∙ getD-set-same (set nexts live at) home place 0 long))
+          (λ t. let d = eqb-false k home t in
+          getD-set-other nexts home k at′ 0 d
+          ∙ sym (getD-set-other (set nexts live at) home k place 0 d ∙ getD-set-other nexts live k at 0 (λ c. d (omega arith))))
+
+-- The start
+
+pub begins : (code : List ℕ) (l : Limits) (t : Block) (name : ℕ) (words : List ℤ) (blocks nexts links : List ℕ) (table : List ℤ) (pairs : ℕ)
+    → Keeps t → Covers code 0 (resolvedOf name t) → 1 ≤ l .activations → l .activations ≤ 256 → right (l .group) (record { words = table; used = pairs }) ≡ true
+    → length words ≡ 8224 → length blocks ≡ 256 → length nexts ≡ 256 → length links ≡ 256
+    → ((i : ℕ) → i < 32 → getD words i (pos 0) ≡ pos 0) → getD blocks 0 0 ≡ 0 → getD links 0 0 ≡ 0
+    → (w : Standing code l words blocks nexts links table pairs 0 (stmtPlace t 1) (endPlace t)) × (w .stack ≡ frameStart t (record { words = table; used = pairs })) × (w .program ≡ t) × (w .name ≡ name)
+unfolding frameStart newFrame
+begins code l t name words blocks nexts links table pairs keeps covers one most ok wl bl nl ll zeros b0 k0 =
+    let tab : Table = record { words = table; used = pairs } in
+    let sound = start-sound l t tab one most ok keeps in
+    let few = (sound .bounded .each 0 (newFrame [] [] t 0) refl) .few in
+    let count = (sound .bounded .each 0 (newFrame [] [] t 0) refl) .count in (
+      record {
+        name = name;
+        program = t;
+        keeps = keeps;
+        covers = covers;
+        stack = frameStart t tab;
+        sound = sound;
+        below = [];
+        frame = newFrame [] [] t 0;
+        frames-are = refl;
+        depth = refl;
+        table-is = refl;
+        holds = holds-started t blocks (set nexts 0 (stmtPlace t 1)) links words (b0 ∙ sym (block-place t 1 [] 0 (keeps .formed)))
+            (getD-set-same nexts 0 (stmtPlace t 1) 0 (omega arith)) k0 (λ i h. zeros i (omega arith));
+        end-is = refl;
+        words-long = wl;
+        blocks-long = bl;
+        nexts-long = nl;
+        links-long = ll;
+      },
+      refl,
+      refl,
+      refl,
+    )
+
+none-level : levelOf [] 0 ≡ 0
+unfolding levelOf chainOf along
+none-level = refl
+
+pub shows-begun : (t : Block) (tab : Table) (display : List ℕ) → 1 < length display → getD display 1 0 ≡ 0 → Shows ((frameStart t tab) .frames) display
+unfolding frameStart
+shows-begun t tab display h z =
+    let one : suc (levelOf [] 0) ≡ 1 = ap suc none-level in
+    let down : Downward [] = λ k f e. absurd (omega (arith, numbered-high [] k f e, numbered-low [] k f e)) in
+    let same : set display (suc (levelOf [] 0)) (32 * 0) ≡ display = ap (λ i. set display i (32 * 0)) one ∙ ap (set display 1) (sym z) ∙ set-getD display 1 0 in
+    subst (Shows (newFrame [] [] t 0 ∷ [])) same (shows-entered [] down display [] [] t 0 (omega arith) (omega arith) (λ j m e. absurd (omega (arith, numbered-high (displayFrom [] 0) j m e, numbered-low (displayFrom [] 0) j m e, display-length [] 0, none-level))))
