@@ -4,3 +4,4 @@ pub mod Means
 pub mod Here
 pub mod Ops
 pub mod Loop
+pub mod Going
