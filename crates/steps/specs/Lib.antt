@@ -5,3 +5,4 @@ pub mod Here
 pub mod Ops
 pub mod Loop
 pub mod Going
+pub mod Values
