@@ -6,3 +6,4 @@ pub mod Ops
 pub mod Loop
 pub mod Going
 pub mod Values
+pub mod Pairs
