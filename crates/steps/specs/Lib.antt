@@ -7,3 +7,4 @@ pub mod Loop
 pub mod Going
 pub mod Values
 pub mod Pairs
+pub mod Jumps
