@@ -8,3 +8,4 @@ pub mod Going
 pub mod Values
 pub mod Pairs
 pub mod Jumps
+pub mod Entries
