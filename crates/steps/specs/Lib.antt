@@ -9,3 +9,4 @@ pub mod Values
 pub mod Pairs
 pub mod Jumps
 pub mod Entries
+pub mod Arguments
