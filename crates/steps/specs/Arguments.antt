@@ -179,8 +179,8 @@ module _ (t : Block) (keeps : Keeps t) (fs : List Frame) (chain : Chained t fs) 
       let means = subst (λ (x : Enclosing). numbered (meaningsOf x) (c .position) ≡ some (p, m)) same (v .means) in
       let word = name-is t keeps es within p c (v .found) (enclosing f) (g .block) in
       let past : length (f .formals) < c .position = split (leb (c .position) (length (f .formals)))
-          (λ q. absurd (omega (arith, direct-is (wordOf p) dir, word .formal (leb-true (c .position) (length (f .formals)) q))))
-          (λ q. leb-false (c .position) (length (f .formals)) q) in
+      (λ q. absurd (omega (arith, direct-is (wordOf p) dir, word .formal (leb-true (c .position) (length (f .formals)) q))))
+      (λ q. leb-false (c .position) (length (f .formals)) q) in
       let few : c .position < 64 = omega (arith, names-bound t keeps fs chain holder f (g .stands), numbered-high (frameNames f) (c .position) p (g .named)) in
       let x : designates fs p ≡ holder * 64 + c .position = designates-by-links fs down p c (v .found) ∙ finally-declared fs (instanceAt holder (c .position) up) f (g .stands) (lt-leb (c .position) (length (f .formals)) past) in
       let stands : numbered fs (frameNumber (holder * 64 + c .position)) ≡ some f = ap (numbered fs) (number-of holder (c .position) few) ∙ g .stands in

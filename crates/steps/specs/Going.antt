@@ -57,13 +57,16 @@ like-trans fs gs hs p q =
       count = q .count ∙ p .count;
       each = λ k f e.
           let g = p .each k f e in
-          let h = q .each k (g .0) (g .1) in
-          (h .0, h .1, record {
-            formals = h .2 .formals ∙ g .2 .formals;
-            text = h .2 .text ∙ g .2 .text;
-            link = h .2 .link ∙ g .2 .link;
-            handed = λ i s. h .2 .handed i (omega (arith, ap length (g .2 .formals))) ∙ g .2 .handed i s;
-          });
+          let h = q .each k (g .0) (g .1) in (
+            h .0,
+            h .1,
+            record {
+              formals = h .2 .formals ∙ g .2 .formals;
+              text = h .2 .text ∙ g .2 .text;
+              link = h .2 .link ∙ g .2 .link;
+              handed = λ i s. h .2 .handed i (omega (arith, ap length (g .2 .formals))) ∙ g .2 .handed i s;
+            },
+          );
     }
 
 module _ {code : List ℕ} {l : Limits} {words : List ℤ} {blocks nexts links : List ℕ} {table : List ℤ} {pairs live at end : ℕ} (w : Standing code l words blocks nexts links table pairs live at end) where

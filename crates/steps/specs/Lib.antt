@@ -10,3 +10,5 @@ pub mod Pairs
 pub mod Jumps
 pub mod Entries
 pub mod Arguments
+pub mod Calls
+pub mod Acts
