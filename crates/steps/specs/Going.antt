@@ -86,6 +86,16 @@ module _ {code : List ℕ} {l : Limits} {words : List ℤ} {blocks nexts links :
   pub ahead-many : length ahead ≡ suc live
   ahead-many = ahead-like .count ∙ many w
 
+  pub ahead-held : Holds ahead blocks (set nexts live (stmtPlace (w .frame .text) (suc (w .frame .next)))) links words
+  ahead-held =
+      let i = suc (w .frame .next) in
+      let under : butLast (w .stack .frames) ≡ w .below = ap butLast (w .frames-are) ∙ butLast-snoc (w .below) (w .frame) in
+      let long : length (w .stack .frames) ≤ length (set nexts live at) = omega (arith, length-set nexts live at, w .nexts-long, many w, live-few w) in
+      let h : Holds (butLast (w .stack .frames) ++ (continue (w .frame) i ∷ [])) blocks (set (set nexts live at) (pred (length (w .stack .frames))) (stmtPlace (w .frame .text) i)) links words = holds-advanced (w .stack .frames) blocks (set nexts live at) links words (w .sound .bounded .each) (w .holds) (w .frame) (last-is w) i long in
+      let n : set (set nexts live at) (pred (length (w .stack .frames))) (stmtPlace (w .frame .text) i) ≡ set nexts live (stmtPlace (w .frame .text) i) = ap (λ k. set (set nexts live at) (pred k) (stmtPlace (w .frame .text) i)) (many w) ∙ set-set nexts live at (stmtPlace (w .frame .text) i) in
+      subst (λ (ns : List ℕ). Holds ahead blocks ns links words) n
+      (subst (λ (fs : List Frame). Holds (fs ++ (continue (w .frame) i ∷ [])) blocks (set (set nexts live at) (pred (length (w .stack .frames))) (stmtPlace (w .frame .text) i)) links words) under h)
+
   -- The engine after a step
 
   module _ (v : Stack) (step : frameStep l (w .stack) ≡ acted v) (like : LikeFrames (w .stack .frames) (v .frames)) where
@@ -135,14 +145,7 @@ module _ {code : List ℕ} {l : Limits} {words : List ℤ} {blocks nexts links :
     ahead-bounded = (advanced-bounded l (w .stack) (w .below) (w .frame) x (w .sound .bounded) (w .frames-are) q) .each
 
     pub ahead-holds : Holds ahead blocks (set nexts live (at + length (stmtFields x))) links words
-    ahead-holds =
-        let i = suc (w .frame .next) in
-        let under : butLast (w .stack .frames) ≡ w .below = ap butLast (w .frames-are) ∙ butLast-snoc (w .below) (w .frame) in
-        let long : length (w .stack .frames) ≤ length (set nexts live at) = omega (arith, length-set nexts live at, w .nexts-long, many w, live-few w) in
-        let h : Holds (butLast (w .stack .frames) ++ (continue (w .frame) i ∷ [])) blocks (set (set nexts live at) (pred (length (w .stack .frames))) (stmtPlace (w .frame .text) i)) links words = holds-advanced (w .stack .frames) blocks (set nexts live at) links words (w .sound .bounded .each) (w .holds) (w .frame) (last-is w) i long in
-        let n : set (set nexts live at) (pred (length (w .stack .frames))) (stmtPlace (w .frame .text) i) ≡ set nexts live (at + length (stmtFields x)) = ap (λ k. set (set nexts live at) (pred k) (stmtPlace (w .frame .text) i)) (many w) ∙ set-set nexts live at (stmtPlace (w .frame .text) i) ∙ ap (set nexts live) (goes-on-at w x q) in
-        subst (λ (ns : List ℕ). Holds ahead blocks ns links words) n
-        (subst (λ (fs : List Frame). Holds (fs ++ (continue (w .frame) i ∷ [])) blocks (set (set nexts live at) (pred (length (w .stack .frames))) (stmtPlace (w .frame .text) i)) links words) under h)
+    ahead-holds = subst (λ i. Holds ahead blocks (set nexts live i) links words) (goes-on-at w x q) ahead-held
 
     pub points-ahead : (k y : ℕ) → Points (w .stack .frames) k y → Points ahead k y
     points-ahead k y p = points-alike (w .stack .frames) ahead k y (λ j f s e. let g = ahead-like .each j f e in (g .0, g .1, g .2 .formals, g .2 .text)) p

@@ -12,3 +12,4 @@ pub mod Entries
 pub mod Arguments
 pub mod Calls
 pub mod Acts
+pub mod Entered
