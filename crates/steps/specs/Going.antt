@@ -9,7 +9,6 @@ use mathlib.Core.Option.{none, some, Option·map}
 use mathlib.Core.Path.{_≡_, refl, sym, ap, _∙_, subst}
 use lib.IntN.{ℤ, pos}
 use lib.ListN.{length, getD, set, getElem?, length-set}
-use lib.Seq.{set-set}
 use Rattle.language.specs.Basics.{last?, butLast}
 use Rattle.language.specs.Text.{Kind, Stmt}
 use Rattle.language.specs.Encoding.{stmtFields}
@@ -33,7 +32,7 @@ use Rattle.resolved.specs.Resolved.{endPlace, stmtPlace, nameWord}
 use Rattle.arrays.specs.Holds.{cellOf, targetOf, Holds}
 use Rattle.arrays.specs.Cells.{name-points}
 use Rattle.arrays.specs.Storing.{word-held, holds-stored}
-use Rattle.arrays.specs.Moves.{holds-advanced}
+use Rattle.arrays.specs.Running.{holds-on}
 use Rattle.acting.specs.Acting.{Finding, Scene}
 use Rattle.steps.specs.Standing.{Standing, FindsName, Finds}
 use Rattle.steps.specs.Means.{Follows, GoesOn}
@@ -90,11 +89,8 @@ module _ {code : List ℕ} {l : Limits} {words : List ℤ} {blocks nexts links :
   ahead-held =
       let i = suc (w .frame .next) in
       let under : butLast (w .stack .frames) ≡ w .below = ap butLast (w .frames-are) ∙ butLast-snoc (w .below) (w .frame) in
-      let long : length (w .stack .frames) ≤ length (set nexts live at) = omega (arith, length-set nexts live at, w .nexts-long, many w, live-few w) in
-      let h : Holds (butLast (w .stack .frames) ++ (continue (w .frame) i ∷ [])) blocks (set (set nexts live at) (pred (length (w .stack .frames))) (stmtPlace (w .frame .text) i)) links words = holds-advanced (w .stack .frames) blocks (set nexts live at) links words (w .sound .bounded .each) (w .holds) (w .frame) (last-is w) i long in
-      let n : set (set nexts live at) (pred (length (w .stack .frames))) (stmtPlace (w .frame .text) i) ≡ set nexts live (stmtPlace (w .frame .text) i) = ap (λ k. set (set nexts live at) (pred k) (stmtPlace (w .frame .text) i)) (many w) ∙ set-set nexts live at (stmtPlace (w .frame .text) i) in
-      subst (λ (ns : List ℕ). Holds ahead blocks ns links words) n
-      (subst (λ (fs : List Frame). Holds (fs ++ (continue (w .frame) i ∷ [])) blocks (set (set nexts live at) (pred (length (w .stack .frames))) (stmtPlace (w .frame .text) i)) links words) under h)
+      subst (λ (fs : List Frame). Holds (fs ++ (continue (w .frame) i ∷ [])) blocks (set nexts live (stmtPlace (w .frame .text) i)) links words) under
+      (holds-on (w .stack .frames) blocks nexts links words (w .sound .bounded .each) live at (many w) (omega (arith, w .nexts-long, live-few w)) (w .holds) (w .frame) (last-is w) i)
 
   -- The engine after a step
 

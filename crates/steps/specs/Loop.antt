@@ -7,8 +7,6 @@ use mathlib.Core.Bool.{true}
 use mathlib.Core.List.{List, [], _∷_, _++_}
 use mathlib.Core.Option.{none, some}
 use mathlib.Core.Path.{_≡_, refl, sym, ap, _∙_, subst}
-use borrow.Author.Tests.{eqb-true, eqb-false}
-use lib.Dec.{eqb}
 use lib.IntN.{ℤ, pos}
 use lib.ListN.{length, take, getD, set, getElem?, length-set}
 use lib.Seq.{set-getD, getD-set-same, getD-set-other, length-take-le}
@@ -18,7 +16,7 @@ use Rattle.language.specs.Table.{Table, right}
 use Rattle.language.specs.Machine.{Limits}
 use Rattle.language.specs.declared.Stop.{Stop}
 use Rattle.language.specs.declared.End.the-variants.{Finished, Spent, Stopped}
-use Rattle.laws.specs.Tests.{split, by-lookup, none≢some}
+use Rattle.laws.specs.Tests.{by-lookup}
 use Rattle.laws.specs.Lists.{some-last, last-split, snoc-length, getElem-append, getElem-seam, butLast-snoc, getElem-bound}
 use Rattle.grammar.specs.Rules.{Keeps}
 use Rattle.frames.specs.Frame.{Frame, Stack, Acted, acted, halted, numbered, continue, withFrames, stepped, newFrame, frameStmt, frameStep, frameOffset, results, frameRun, frameStart}
@@ -32,8 +30,8 @@ use Rattle.coordinates.specs.Sound.{Sound, start-sound, step-sound}
 use Rattle.resolved.specs.Resolved.{placeOf, endPlace, stmtPlace, resolvedOf, Covers}
 use Rattle.resolved.specs.Places.{block-place}
 use Rattle.arrays.specs.Holds.{Holds, Shows}
-use Rattle.arrays.specs.Storing.{holds-agreeing}
-use Rattle.arrays.specs.Moves.{holds-left, holds-resumed, holds-started}
+use Rattle.arrays.specs.Moves.{holds-started}
+use Rattle.arrays.specs.Running.{holds-back, holds-jumped}
 use Rattle.arrays.specs.Displays.{shows-entered}
 use Rattle.steps.specs.Standing.{Standing}
 use Rattle.steps.specs.Means.{Follows, JumpsTo}
@@ -96,8 +94,8 @@ module _ {code : List ℕ} {l : Limits} {words : List ℤ} {blocks nexts links :
       let under : butLast (w .stack .frames) ≡ w .below = ap butLast (w .frames-are) ∙ butLast-snoc (w .below) (w .frame) in
       let parts : w .below ≡ butLast (w .below) ++ (f .0 ∷ []) = last-split (w .below) (f .0) (f .1) in
       let deep : length (butLast (w .below)) ≡ live - 1 = omega (arith, w .depth, ap length parts, snoc-length (butLast (w .below)) (f .0)) in
-      let held : Holds (w .below) blocks (set nexts live at) links words = subst (λ (fs : List Frame). Holds fs blocks (set nexts live at) links words) under (holds-left (w .stack .frames) blocks (set nexts live at) links words (w .sound .bounded .each) (w .holds)) in
-      let same : set nexts (live - 1) (getD nexts (live - 1) 0) ≡ nexts = set-getD nexts (live - 1) 0 in
+      let held : Holds (butLast (w .stack .frames)) blocks (set nexts (pred live) (getD nexts (pred live) 0)) links words = holds-back (w .stack .frames) blocks nexts links words (w .sound .bounded .each) live at (many w) (omega (arith, w .nexts-long, live-few w)) (w .holds) in
+      let one : pred live ≡ live - 1 = omega arith in
       record {
         frame = f .0;
         stands = numbered-below (f .0) deep parts;
@@ -113,9 +111,8 @@ module _ {code : List ℕ} {l : Limits} {words : List ℤ} {blocks nexts links :
           frames-are = parts;
           depth = deep;
           table-is = w .table-is;
-          holds = subst (λ (ns : List ℕ). Holds (w .below) blocks ns links words) (sym same)
-              (holds-agreeing (w .below) blocks blocks (set nexts live at) nexts links links words words (sound .bounded .each) (λ k p. refl)
-              (λ k p. sym (getD-set-other nexts live k at 0 (λ c. omega (arith, w .depth)))) (λ k p. refl) (λ c p. refl) held);
+          holds = subst (λ (fs : List Frame). Holds fs blocks (set nexts (live - 1) (getD nexts (live - 1) 0)) links words) under
+              (subst (λ k. Holds (butLast (w .stack .frames)) blocks (set nexts k (getD nexts k 0)) links words) one held);
           end-is = refl;
           words-long = w .words-long;
           blocks-long = w .blocks-long;
@@ -153,10 +150,7 @@ module _ {code : List ℕ} {l : Limits} {words : List ℤ} {blocks nexts links :
       let sound = sound-after v (j .steps) in
       let high : suc home ≤ length fs = numbered-high fs (suc home) (j .frame) (j .stands) in
       let deep : length (take home fs) ≡ home = length-take-le home fs (omega arith) in
-      let count : length gs ≡ suc home = snoc-length (take home fs) (continue (j .frame) (j .index)) ∙ ap suc deep in
-      let room : suc home ≤ 256 = omega (arith, many w, live-few w) in
-      let long : suc home ≤ length (set nexts live at) = omega (arith, length-set nexts live at, w .nexts-long) in
-      let held : Holds gs blocks (set (set nexts live at) home (stmtPlace (j .frame .text) (j .index))) links words = holds-resumed fs blocks (set nexts live at) links words (w .sound .bounded .each) (w .holds) (suc home) (j .frame) (j .stands) (j .index) long in
+      let held : Holds gs blocks (set nexts home (stmtPlace (j .frame .text) (j .index))) links words = holds-jumped fs blocks nexts links words (w .sound .bounded .each) live at (many w) (omega (arith, w .nexts-long, live-few w)) (w .holds) home (j .frame) (j .stands) (j .index) in
       record {
         frame = j .frame;
         stands = j .stands;
@@ -173,8 +167,7 @@ module _ {code : List ℕ} {l : Limits} {words : List ℤ} {blocks nexts links :
           frames-are = refl;
           depth = deep;
           table-is = w .table-is;
-          holds = holds-agreeing gs blocks blocks (set (set nexts live at) home (stmtPlace (j .frame .text) (j .index))) (set nexts home at′) links links words words (sound .bounded .each) (λ k p. refl)
-              (λ k p. next-same k (omega arith) long (omega (arith, w .nexts-long)) (omega (arith, many w)) (j .place-is)) (λ k p. refl) (λ c p. refl) held;
+          holds = subst (λ i. Holds gs blocks (set nexts home i) links words) (sym (j .place-is)) held;
           end-is = refl;
           words-long = w .words-long;
           blocks-long = w .blocks-long;
@@ -184,16 +177,6 @@ module _ {code : List ℕ} {l : Limits} {words : List ℤ} {blocks nexts links :
         follows = follows-step v (j .steps);
         display = display-after-goto fs (downward w) (suc home) (j .frame) (j .index) (j .stands);
       }
-    where
-      next-same : (k : ℕ) → k ≤ home → suc home ≤ length (set nexts live at) → home < length nexts → home ≤ live → {place : ℕ} → at′ ≡ place → getD (set nexts home at′) k 0 ≡ getD (set (set nexts live at) home place) k 0
-      next-same k p long room high {place} e =
-          split (eqb k home)
-          (λ t. let c : k ≡ home = eqb-true k home t in
-          ap (λ i. getD (set nexts home at′) i 0) c ∙ getD-set-same nexts home at′ 0 room ∙ e
-          ∙ sym (ap (λ i. getD (set (set nexts live at) home place) i 0) c ∙ getD-set-same (set nexts live at) home place 0 long))
-          (λ t. let d = eqb-false k home t in
-          getD-set-other nexts home k at′ 0 d
-          ∙ sym (getD-set-other (set nexts live at) home k place 0 d ∙ getD-set-other nexts live k at 0 (λ c. d (omega arith))))
 
 -- The start
 
