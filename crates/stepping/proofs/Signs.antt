@@ -9,8 +9,15 @@ use lib.IntN.{ℤ, pos, negsuc, negℤ, natAbs, _+ℤ_, _-ℤ_}
 use lib.Signed.{mag, ltZ, leZ, nonNeg}
 use mir.Val.{Fits, SFits, ofZ, toZ}
 use mir.Syntax.{w32, w64}
-use mir.Facts.{toZ-ofZ, sfits-widen}
+use mir.Facts.{toZ-ofZ, toZ-pos, sfits-widen}
 use Rattle.language.specs.Encoding as encoding
+
+-- A word in a local is held as its bits.
+pub read-back : (z : ℤ) → mag z < 2147483648 → toZ w32 (ofZ w32 z) ≡ z
+read-back z h = toZ-ofZ (record { sfits = h })
+
+pub read-back-wide : (z : ℤ) → mag z < 9223372036854775808 → toZ w64 (ofZ w64 z) ≡ z
+read-back-wide z h = toZ-ofZ (record { sfits = h })
 
 pub widened : (z : ℤ) → SFits w32 z → SFits w64 (toZ w32 (ofZ w32 z))
 widened z f = subst (λ (v : ℤ). SFits w64 v) (sym (toZ-ofZ f)) (sfits-widen tt f)
@@ -50,6 +57,34 @@ sum-read x y f g = toZ-ofZ (sum-fits x y f g) ∙ rw (back x f, back y g)
 
 pub difference-read : (x y : ℤ) → SFits w32 x → SFits w32 y → toZ w64 (ofZ w64 (toZ w64 (ofZ w64 (toZ w32 (ofZ w32 x))) -ℤ toZ w64 (ofZ w64 (toZ w32 (ofZ w32 y))))) ≡ x -ℤ y
 difference-read x y f g = toZ-ofZ (difference-fits x y f g) ∙ rw (back x f, back y g)
+
+pub sum-of-words : {r : ℤ} (a b : ℤ) → r ≡ toZ w32 (ofZ w32 a) +ℤ toZ w32 (ofZ w32 b) → mag r < 9223372036854775808 → mag a < 2147483648 → mag b < 2147483648 → toZ w64 (ofZ w64 r) ≡ a +ℤ b
+sum-of-words {r} a b e h ha hb = read-back-wide r h ∙ e ∙ rw (read-back a ha, read-back b hb)
+
+pub difference-of-words : {r : ℤ} (a b : ℤ) → r ≡ toZ w32 (ofZ w32 a) -ℤ toZ w32 (ofZ w32 b) → mag r < 9223372036854775808 → mag a < 2147483648 → mag b < 2147483648 → toZ w64 (ofZ w64 r) ≡ a -ℤ b
+difference-of-words {r} a b e h ha hb = read-back-wide r h ∙ e ∙ rw (read-back a ha, read-back b hb)
+
+-- A signed number from its bits
+
+pub signed-low : (b : ℕ) → b < 2147483648 → toZ w32 b ≡ encoding.signed b
+unfolding encoding.signed
+signed-low b h = toZ-pos w32 h ∙ rw (lt-ltb b 2147483648 h, encoding.signed)
+
+less-by-all : (b : ℕ) → 2147483648 ≤ b → b < 4294967296 → toZ w64 b -ℤ pos 4294967296 ≡ negsuc (4294967295 - b)
+less-by-all b low h =
+    let e : 4294967296 - suc b ≡ 4294967295 - b = omega arith in
+    rw (toZ-pos w64 {n = b} (omega arith), lt-ltb b 4294967296 h) (ap negsuc e)
+
+pub high-wide : (b : ℕ) → 2147483648 ≤ b → b < 4294967296 → SFits w64 (toZ w64 b -ℤ pos 4294967296)
+high-wide b low h = rw (less-by-all b low h) (record { sfits = omega arith })
+
+pub high-fits : (b : ℕ) → 2147483648 ≤ b → b < 4294967296 → SFits w32 (toZ w64 (ofZ w64 (toZ w64 b -ℤ pos 4294967296)))
+high-fits b low h = rw (toZ-ofZ (high-wide b low h), less-by-all b low h) (record { sfits = omega arith })
+
+pub signed-high : (b : ℕ) → 2147483648 ≤ b → b < 4294967296 → toZ w32 (ofZ w32 (toZ w64 (ofZ w64 (toZ w64 b -ℤ pos 4294967296)))) ≡ encoding.signed b
+unfolding encoding.signed
+signed-high b low h =
+    toZ-ofZ (high-fits b low h) ∙ toZ-ofZ (high-wide b low h) ∙ less-by-all b low h ∙ rw (le-ltb b 2147483648 low, encoding.signed)
 
 -- Which values fit
 

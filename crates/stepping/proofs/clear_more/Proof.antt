@@ -1,41 +1,43 @@
+-- `clear_more` meets its contract. The loop's invariant: the cells from the first to i are cleared.
+use Prim.Native.Nat.{_-_, _≤_}
+use native.Mathlib.Omega.{arith}
+use borrow.Author.Needs.{needs}
+use Rattle.acting.specs.Effects.{Cleared}
+use Rattle.stepping.proofs.Kept.{cleared-none, cleared-less, cleared-more}
 use Rattle.stepping.proofs.clear_more.Statement.{statement}
 use Rattle.stepping.proofs.clear_more.Tie as tie
-use Rattle.stepping.proofs.clear_more.Reads as reads
-use Rattle.stepping.proofs.clear_more.Lts as lts
 
 abbrev Inv-loop : tie.InvT-loop
-Inv-loop words₀ from to i₀ words i = ?
+Inv-loop words₀ from to i₀ words i = (from ≤ i) × Cleared words₀ from i words
 
 abbrev μ-loop : tie.MeasureT-loop
-μ-loop words₀ from to i₀ words i = ?
+μ-loop words₀ from to i₀ words i = to - i
 
--- src/lib.rt:159:5
 loop-holds : tie.Need-loop-holds Inv-loop μ-loop
-loop-holds c = ?
+loop-holds c = (omega arith, cleared-none (c .args .words .now) (c .args .from))
 
--- src/lib.rt:160:9
 mul-words : tie.Need-mul-words Inv-loop μ-loop
-mul-words c = ?
+mul-words c = search needs
 
--- src/lib.rt:160:9
 element-set-of-words : tie.Need-element-set-of-words Inv-loop μ-loop
-element-set-of-words c = ?
+element-set-of-words c = search needs
 
--- src/lib.rt:161:9
 add-i : tie.Need-add-i Inv-loop μ-loop
-add-i c = ?
+add-i c = search needs
 
--- src/lib.rt:159:5
 loop-less : tie.Need-loop-less Inv-loop μ-loop
-loop-less c = ?
+loop-less c = search needs
 
--- src/lib.rt:159:5
 loop-again : tie.Need-loop-again Inv-loop μ-loop
-loop-again c = ?
+loop-again c =
+    let l = c .before .loop in
+    (omega arith, cleared-more (c .before .before .args .words .now) (l .words) (c .before .before .args .from) (l .i) (l .inv .0) (l .inv .1))
 
--- src/lib.rt:154:1
 returns : tie.Need-returns Inv-loop μ-loop
-returns c = ?
+returns c =
+    let s = c .before .before .args in
+    let l = c .before .loop in
+    cleared-less (s .words .now) (l .words) (s .from) (l .i) (s .to) (omega arith) (l .inv .1)
 
 pub clear-more-spec : {M : Type 1} → statement M
 clear-more-spec =

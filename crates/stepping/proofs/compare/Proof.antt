@@ -1,56 +1,59 @@
-use native.Mathlib.Omega.{arith}
-use mathlib.Core.Path.{_≡_, refl, sym, ap, _∙_}
-use mir.Facts.{toZ-ofZ, toZ-pos}
-use mir.Syntax.{w32, w64}
-use lib.ListN.{set}
+-- `compare` meets its contract.
+use mathlib.Core.Bool.{Bool}
+use mathlib.Core.Path.{_≡_, ap}
 use lib.IntN.{ℤ, pos}
-use borrow.Author.Tests.{ltb-true}
-use Rattle.stepping.proofs.Kept.{effect-fits, effect-past, words-fits, words-past, compared-less, compared-not, handed-direct, handed-formal}
+use lib.ListN.{getD, set}
+use lib.Signed.{ltZ}
+use mir.Syntax.{w32}
+use mir.Val.{toZ, ofZ}
+use Rattle.stepping.proofs.Signs.{read-back}
+use Rattle.stepping.proofs.Kept.{compared-less, compared-not}
 use borrow.Author.Needs.{needs}
 use Rattle.stepping.proofs.compare.Statement.{statement}
 use Rattle.stepping.proofs.compare.Tie as tie
-use Rattle.stepping.proofs.compare.Reads as reads
-use Rattle.stepping.proofs.compare.Lts as lts
 
--- src/lib.rt:121:8
 mul-if1 : tie.Need-mul-if1
 mul-if1 c = search needs
 
--- src/lib.rt:121:8
 element-copy-out-if1 : tie.Need-element-copy-out-if1
 element-copy-out-if1 c = search needs
 
--- src/lib.rt:121:22
 mul-if1-2 : tie.Need-mul-if1-2
 mul-if1-2 c = search needs
 
--- src/lib.rt:121:22
 element-copy-out-if1-2 : tie.Need-element-copy-out-if1-2
 element-copy-out-if1-2 c = search needs
 
--- src/lib.rt:122:9
 mul-words : tie.Need-mul-words
 mul-words c = search needs
 
--- src/lib.rt:122:9
 element-set-of-words : tie.Need-element-set-of-words
 element-set-of-words c = search needs
 
--- src/lib.rt:124:9
 mul-words-2 : tie.Need-mul-words-2
 mul-words-2 c = search needs
 
--- src/lib.rt:124:9
 element-set-of-words-2 : tie.Need-element-set-of-words-2
 element-set-of-words-2 c = search needs
 
--- src/lib.rt:117:1
-returns : tie.Need-returns
-returns c = ap (λ (z : ℤ). set _ _ z) (compared-less _ _ (c .if1 .taken))
+abbrev left : tie.After-if13 → ℤ
+left c = let s = c .before .before .args in getD (s .words .now) (s .left) (pos 0)
 
--- src/lib.rt:117:1
+abbrev right : tie.After-if13 → ℤ
+right c = let s = c .before .before .args in getD (s .words .now) (s .right) (pos 0)
+
+tested : (c : tie.After-if13) {b : Bool} → ltZ (toZ w32 (ofZ w32 (left c))) (toZ w32 (ofZ w32 (right c))) ≡ b → ltZ (left c) (right c) ≡ b
+tested c e = rw (read-back (left c) (c .before .if12 .given), read-back (right c) (c .if13 .given)) at e
+
+returns : tie.Need-returns
+returns c =
+    let s = c .before .before .before .args in
+    ap (λ (z : ℤ). set (s .words .now) (s .target) z) (compared-less (left (c .before)) (right (c .before)) (tested (c .before) (c .if1 .taken)))
+
 returns-2 : tie.Need-returns-2
-returns-2 c = ap (λ (z : ℤ). set _ _ z) (compared-not _ _ (c .if1 .left))
+returns-2 c =
+    let s = c .before .before .before .args in
+    ap (λ (z : ℤ). set (s .words .now) (s .target) z) (compared-not (left (c .before)) (right (c .before)) (tested (c .before) (c .if1 .left)))
 
 pub compare-spec : {M : Type 1} → statement M
 compare-spec =

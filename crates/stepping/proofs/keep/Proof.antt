@@ -1,42 +1,36 @@
-use native.Mathlib.Omega.{arith}
-use mathlib.Core.Path.{_≡_, refl, sym, ap, _∙_}
-use mir.Facts.{toZ-ofZ, toZ-pos}
-use mir.Syntax.{w32, w64}
-use lib.ListN.{set}
-use lib.IntN.{ℤ, pos}
+-- `keep` meets its contract: a value that fits is stored as it is.
+use mathlib.Core.Path.{sym, _∙_}
+use mir.Facts.{toZ-ofZ}
 use borrow.Author.Tests.{ltb-true}
-use Rattle.stepping.proofs.Kept.{effect-fits, effect-past, words-fits, words-past, compared-less, compared-not, handed-direct, handed-formal}
+use Rattle.stepping.proofs.Signs.{read-back}
+use Rattle.stepping.proofs.Kept.{effect-fits, effect-past, words-fits, words-past}
 use borrow.Author.Needs.{needs}
 use Rattle.stepping.proofs.keep.Statement.{statement}
 use Rattle.stepping.proofs.keep.Tie as tie
-use Rattle.stepping.proofs.keep.Reads as reads
-use Rattle.stepping.proofs.keep.Lts as lts
-use Rattle.stepping.proofs.fits_word.Reads as fits-word-reads
-use Rattle.stepping.proofs.narrowed.Reads as narrowed-reads
 
--- src/lib.rt:97:8
 fits-word-requires : tie.Need-fits-word-requires
 fits-word-requires c κs = search needs
 
--- src/lib.rt:98:23
 narrowed-requires : tie.Need-narrowed-requires
 narrowed-requires c κs = rw (toZ-ofZ (c .before .before .fits .value)) (ltb-true _ _ (sym (rw (toZ-ofZ (c .before .before .fits .value)) at (c .before .fits-word .ensures)) ∙ c .if1 .taken))
 
--- src/lib.rt:98:9
 mul-t6 : tie.Need-mul-t6
 mul-t6 c = search needs
 
--- src/lib.rt:98:9
 element-set-from-words : tie.Need-element-set-from-words
 element-set-from-words c = search needs
 
--- src/lib.rt:99:9
 returns : tie.Need-returns
-returns c = (?, ?)
+returns c =
+    let s = c .before .before .before in
+    let e = sym (rw (toZ-ofZ (s .fits .value)) at (c .before .before .fits-word .ensures)) ∙ c .before .if1 .taken in
+    (effect-fits (s .args .value) e, rw (read-back (c .narrowed .result) (c .narrowed .ok), c .narrowed .ensures, toZ-ofZ (s .fits .value)) (words-fits _ _ _ e))
 
--- src/lib.rt:93:1
 returns-2 : tie.Need-returns-2
-returns-2 c = (?, ?)
+returns-2 c =
+    let s = c .before .before in
+    let e = sym (rw (toZ-ofZ (s .fits .value)) at (c .before .fits-word .ensures)) ∙ c .if1 .left in
+    (effect-past (s .args .value) e, words-past _ _ _ e)
 
 pub keep-spec : {M : Type 1} → statement M
 keep-spec =

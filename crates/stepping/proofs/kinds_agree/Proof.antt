@@ -1,62 +1,74 @@
+-- `kinds_agree` meets its contract. The loop's invariant: the kinds from i on agree exactly where all do.
+use Prim.Native.Nat.{_+_, _*_, _-_, _/_, _%_, _≤_}
+use mathlib.Core.Path.{_≡_, sym, ap, _∙_}
+use native.Mathlib.Omega.{arith}
+use borrow.Author.Needs.{needs}
+use lib.ListN.{getD}
+use Rattle.resolved.specs.Resolved.{kindIn}
+use Rattle.acting.specs.Effects.{sameKinds}
+use Rattle.stepping.proofs.Kept.{kinds-done, kinds-differ, kinds-same}
 use Rattle.stepping.proofs.kinds_agree.Statement.{statement}
 use Rattle.stepping.proofs.kinds_agree.Tie as tie
-use Rattle.stepping.proofs.kinds_agree.Reads as reads
-use Rattle.stepping.proofs.kinds_agree.Lts as lts
-use Rattle.stepping.proofs.code_at.Reads as code-at-reads
 
 abbrev Inv-loop : tie.InvT-loop
-Inv-loop code arguments formals count i₀ i = ?
+Inv-loop code arguments formals count i₀ i =
+    (i ≤ count) × (sameKinds code (arguments + i) (formals + 3 * i) (count - i) ≡ sameKinds code arguments formals count)
 
 abbrev μ-loop : tie.MeasureT-loop
-μ-loop code arguments formals count i₀ i = ?
+μ-loop code arguments formals count i₀ i = count - i
 
--- src/lib.rt:145:5
 loop-holds : tie.Need-loop-holds Inv-loop μ-loop
-loop-holds c = ?
+loop-holds c =
+    let s = c .args in
+    let a : s .arguments + 0 ≡ s .arguments = omega arith in
+    let f : s .formals + 3 * 0 ≡ s .formals = omega arith in
+    let n : s .count - 0 ≡ s .count = omega arith in
+    (omega arith, rw (a, f, n))
 
--- src/lib.rt:146:26
 add-code-at : tie.Need-add-code-at Inv-loop μ-loop
-add-code-at c = ?
+add-code-at c = search needs
 
--- src/lib.rt:146:12
 code-at-requires : tie.Need-code-at-requires Inv-loop μ-loop
-code-at-requires c κs = ?
+code-at-requires c κs = search needs
 
--- src/lib.rt:146:77
 mul-code-at : tie.Need-mul-code-at Inv-loop μ-loop
-mul-code-at c = ?
+mul-code-at c = search needs
 
--- src/lib.rt:146:67
 add-code-at-2 : tie.Need-add-code-at-2 Inv-loop μ-loop
-add-code-at-2 c = ?
+add-code-at-2 c = search needs
 
--- src/lib.rt:146:67
 add-code-at-3 : tie.Need-add-code-at-3 Inv-loop μ-loop
-add-code-at-3 c = ?
+add-code-at-3 c = search needs
 
--- src/lib.rt:146:53
 code-at-requires-2 : tie.Need-code-at-requires-2 Inv-loop μ-loop
-code-at-requires-2 c κs = ?
+code-at-requires-2 c κs = search needs
 
--- src/lib.rt:147:13
+read : (c : tie.After-code-at Inv-loop μ-loop) → let l = c .before .before in let s = l .before .args in c .code-at .result / 64 % 4 ≡ kindIn (getD (s .code .now) (s .arguments + l .loop .i) 0)
+read c = ap kindIn (c .code-at .ensures .0)
+
 returns : tie.Need-returns Inv-loop μ-loop
-returns c = ?
+returns c =
+    let l = c .before .before .before .before in
+    let s = l .before .args in
+    let d : kindIn (getD (s .code .now) (s .arguments + l .loop .i) 0) ≡ getD (s .code .now) (s .formals + 3 * l .loop .i + 2) 0 → ⊥ = λ e. c .if1 .taken (read (c .before .before) ∙ e ∙ sym (c .before .code-at2 .ensures .0)) in
+    kinds-differ (s .code .now) (s .arguments) (s .formals) (s .count) (l .loop .i) (c .before .before .before .loop-test .taken) d ∙ l .loop .inv .1
 
--- src/lib.rt:149:9
 add-i : tie.Need-add-i Inv-loop μ-loop
-add-i c = ?
+add-i c = search needs
 
--- src/lib.rt:145:5
 loop-less : tie.Need-loop-less Inv-loop μ-loop
-loop-less c = ?
+loop-less c = search needs
 
--- src/lib.rt:145:5
 loop-again : tie.Need-loop-again Inv-loop μ-loop
-loop-again c = ?
+loop-again c =
+    let l = c .before .before .before .before in
+    let s = l .before .args in
+    (omega arith, kinds-same (s .code .now) (s .arguments) (s .formals) (s .count) (l .loop .i) (c .before .before .before .loop-test .taken) (sym (read (c .before .before)) ∙ c .if1 .left ∙ c .before .code-at2 .ensures .0) ∙ l .loop .inv .1)
 
--- src/lib.rt:140:1
 returns-2 : tie.Need-returns-2 Inv-loop μ-loop
-returns-2 c = ?
+returns-2 c =
+    let s = c .before .before .args in
+    kinds-done (s .code .now) (s .arguments) (s .formals) (s .count) (c .before .loop .i) (c .loop-test .left) ∙ c .before .loop .inv .1
 
 pub kinds-agree-spec : {M : Type 1} → statement M
 kinds-agree-spec =

@@ -1,32 +1,27 @@
+-- `signed` meets its contract: bits from half of all on stand for the numbers that are less by all.
+use native.Mathlib.Omega.{arith}
+use Rattle.stepping.proofs.Signs.{signed-low, high-wide, high-fits, signed-high}
 use borrow.Author.Needs.{needs}
 use Rattle.stepping.proofs.signed.Statement.{statement}
 use Rattle.stepping.proofs.signed.Tie as tie
-use Rattle.stepping.proofs.signed.Reads as reads
-use Rattle.stepping.proofs.signed.Lts as lts
 
--- src/lib.rt:75:16
 cast-result : tie.Need-cast-result
 cast-result c = search needs
 
--- src/lib.rt:75:9
 returns : tie.Need-returns
-returns c = ?
+returns c = signed-low (c .before .args .bits) (c .if1 .taken)
 
--- src/lib.rt:77:6
 cast-result-2 : tie.Need-cast-result-2
 cast-result-2 c = search needs
 
--- src/lib.rt:77:6
 sub-result : tie.Need-sub-result
-sub-result c = ?
+sub-result c = high-wide (c .before .args .bits) (omega arith) (omega arith)
 
--- src/lib.rt:77:5
 cast-result-3 : tie.Need-cast-result-3
-cast-result-3 c = ?
+cast-result-3 c = high-fits (c .before .args .bits) (omega arith) (omega arith)
 
--- src/lib.rt:70:1
 returns-2 : tie.Need-returns-2
-returns-2 c = ?
+returns-2 c = signed-high (c .before .args .bits) (omega arith) (omega arith)
 
 pub signed-spec : {M : Type 1} → statement M
 signed-spec =
