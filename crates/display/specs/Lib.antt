@@ -1,2 +1,3 @@
 -- The display engine, in reading order.
 pub mod Finding
+pub mod Running
