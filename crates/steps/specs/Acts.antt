@@ -8,7 +8,6 @@ use mathlib.Core.Path.{_≡_, sym, ap, _∙_, subst}
 use lib.IntN.{ℤ}
 use lib.ListN.{length, getD}
 use Rattle.language.specs.Text.{Stmt, Operation, AR, DO}
-use Rattle.language.specs.Encoding.{operationField}
 use Rattle.language.specs.Machine.{Limits}
 use Rattle.frames.specs.Frame.{frameStmt}
 use Rattle.coordinates.specs.Chain.{enclosureOf}

@@ -1,5 +1,5 @@
 -- CL: what the arrays come to is what the frame machine does. `call-means`: by a name that is no formal, where the script check has seen to the
--- arguments; `call-formal-means`: by a formal, where number and kinds are compared first (26 before 22).
+-- arguments; `call-formal-means`: by a formal, where number and kinds are compared first (26 before 22). `body-bounds`: where the body stands.
 use Prim.Native.Nat.{ℕ, suc, pred, _+_, _-_, _*_, _/_, _%_, _≤_, _<_}
 use native.Mathlib.Omega.{arith}
 use mathlib.Core.Bool.{Bool, true, false, _&&_}
@@ -12,7 +12,7 @@ use lib.IntN.{ℤ, pos}
 use lib.ListN.{length, getD, set, getElem?, length-map}
 use Rattle.language.specs.Text.{Kind, procedure, Formal, Block, Decl, VR, LB, PR, CL, DO, blockAt, blockDecls, declKind, declFormals, declBody, formalKinds}
 use Rattle.language.specs.Encoding.{actionFields, stmtFields}
-use Rattle.language.specs.Scope.{agree, kindIn as kindInScope}
+use Rattle.language.specs.Scope.{agree}
 use Rattle.language.specs.Machine.{Limits}
 use Rattle.language.specs.declared.Stop.the-variants.{NoActivationLeft, ArgumentsDiffer}
 use Rattle.laws.specs.Tests.{split}
@@ -20,23 +20,25 @@ use Rattle.laws.specs.Lists.{getD-elem, getElem-bound, getElem?-map, image-at}
 use Rattle.laws.specs.Kinds.{agree-many}
 use Rattle.laws.specs.Each.{Each, each-at}
 use Rattle.grammar.specs.Rules.{FormedAction, ScopedAction}
-use Rattle.frames.specs.Frame.{Frame, acted, halted, numbered, designates, frameNumber, place, declOf, kindOf, mapAction, newFrame, withFrames, frameStmt, frameStep}
+use Rattle.frames.specs.Frame.{Frame, acted, numbered, designates, frameNumber, place, declOf, kindOf, mapAction, newFrame, withFrames, frameStmt}
 use Rattle.frames.specs.Numbered.{numbered-low, numbered-high}
 use Rattle.frame_laws.specs.Actions.{calls, calls-full, calls-differing}
 use Rattle.frame_laws.specs.Continuing.{declOf-advanced, kindOf-advanced, step-acts}
-use Rattle.coordinates.specs.Enclosure.{Enclosing, enclosed, Enclosure, as-body, Encloses}
+use Rattle.coordinates.specs.Enclosure.{enclosed, Enclosure, as-body, Encloses}
 use Rattle.coordinates.specs.Chain.{enclosing, enclosureOf}
 use Rattle.coordinates.specs.Search.{enclosure-step}
 use Rattle.coordinates.specs.Levels.{enclosure-of-text, frame-encloses}
 use Rattle.coordinates.specs.Moves.{declared-in}
 use Rattle.coordinates.specs.Designated.{Designated}
+use Rattle.coordinates.specs.Called.{declared-agrees}
 use Rattle.coordinates.specs.Visible.{actionNames}
 use Rattle.coordinates.specs.Next.{Resolved, NextAction, next-action}
-use Rattle.resolved.specs.Resolved.{placeOf, stmtPlace, declTarget, direct, nameWord, headWord, resolvedFormals, resolvedAction, resolvedStmt, Covers}
+use Rattle.resolved.specs.Resolved.{placeOf, endPlace, stmtPlace, declTarget, direct, nameWord, resolvedFormals, resolvedAction, resolvedStmt, Covers}
 use Rattle.resolved.specs.Lengths.{covers-at}
 use Rattle.resolved.specs.Words.{head-formals}
-use Rattle.resolved.specs.Standing.{head-stands, formals-covered}
-use Rattle.arrays.specs.Holds.{targetOf, formalWord}
+use Rattle.resolved.specs.Standing.{head-stands, formals-covered, formals-before}
+use Rattle.resolved.specs.Places.{block-fields, end-bound}
+use Rattle.arrays.specs.Holds.{formalWord}
 use Rattle.arrays.specs.Cells as cells
 use Rattle.acting.specs.declared.Move.the-variants.{Enter, Stop}
 use Rattle.acting.specs.Effects.{sameKinds}
@@ -46,7 +48,7 @@ use Rattle.steps.specs.Means.{EntersAt, Means}
 use Rattle.steps.specs.Here.{many, numbered-here, live-few, last-is, downward, covered, goes-on-at}
 use Rattle.steps.specs.Going.{sceneOf, ahead, aheadStack, home-found, target-found}
 use Rattle.steps.specs.Entries.{room-none, room-left}
-use Rattle.steps.specs.Arguments.{written-length, written-below, written-at, handed-length, handed-at, kinds-agree, kinds-stand, kinds-known, declared-takes}
+use Rattle.steps.specs.Arguments.{written-length, written-below, written-at, handed-length, handed-at, kinds-agree, kinds-stand, declared-takes}
 
 -- a procedure is declared by a PR
 is-procedure : (d : Decl) → declKind d ≡ procedure → (at n : ℕ) × (gs : List Formal) × (b : Block) × (d ≡ PR at n gs b)
@@ -238,12 +240,11 @@ module _ {code : List ℕ} {l : Limits} {words : List ℤ} {blocks nexts links :
   -- By a name that is no formal
 
   agreed-declared : direct (nameWord es p) ≡ true → agreed ≡ true
-  unfolding ScopedAction
+  unfolding ScopedAction declFormals
   agreed-declared d =
       let m = next .scoped .called in
       let takes = declared-takes (w .program) (w .keeps) fs (w .sound .chained) (w .sound .wired) (enclosure-of-text (w .program) fs (w .sound .chained) (length fs) (w .frame) (ap (numbered fs) (many w) ∙ numbered-here w)) p (m .0) (m .1) d (found .0) (found .1) gs body declared in
-      ap (agree (formalKinds gs)) (sym (kinds-known (w .program) (w .keeps) fs (w .sound .chained) (w .sound .wired) xs (next .scoped .arguments)))
-      ∙ next .scoped .agreed (m .0) (formalKinds gs) (m .1) takes
+      declared-agrees l (w .program) (w .keeps) (w .stack) (w .sound) (w .frame) (last-is w) o p xs q (m .0) (formalKinds gs) (m .1) takes (PR (found .0) (found .1) gs body) declared
 
   pub call-means : direct (nameWord es p) ≡ true → Means w (doCall F (sceneOf w))
   call-means d = agreeing-means (agreed-declared d)
@@ -254,6 +255,15 @@ module _ {code : List ℕ} {l : Limits} {words : List ℤ} {blocks nexts links :
   formals-are =
       ap (λ v. v / 65536 % 256) (head-stands code (w .name) (w .program) (w .keeps) (w .covers) (enclosed gs body) (enclosing (home .0) ∷ enclosureOf fs (home .0 .link)) body-encloses)
       ∙ head-formals (w .program) (w .keeps) (enclosed gs body) (enclosing (home .0) ∷ enclosureOf fs (home .0 .link)) body-encloses
+
+  -- the body stands in the script, behind its formals
+  pub body-bounds : (F .target (getD code (at + 1) 0) < 4096) × (3 * (getD code (F .target (getD code (at + 1) 0)) 0 / 65536 % 256) ≤ F .target (getD code (at + 1) 0))
+  unfolding enclosing endPlace
+  body-bounds =
+      let heads : getD code (F .target (getD code (at + 1) 0)) 0 / 65536 % 256 ≡ length gs = ap (λ k. getD code k 0 / 65536 % 256) target-is ∙ formals-are in
+      let last = end-bound (w .program) (w .keeps) (enclosed gs body) (enclosing (home .0) ∷ enclosureOf fs (home .0 .link)) body-encloses in
+      let behind = formals-before code (w .name) (w .program) (w .keeps) (w .covers) (enclosing (home .0)) (enclosureOf fs (home .0 .link)) around (place x - length (home .0 .formals)) (found .0) (found .1) gs body (home .2) in
+      (omega (arith, target-is, block-fields body), omega (arith, target-is))
 
   formals-stand : Covers code (placeOf (blockAt body) - 3 * length gs) (resolvedFormals gs)
   unfolding enclosing

@@ -1,7 +1,7 @@
 -- After an entry. `body-head`: what stands at the place of the block that is entered. `entered`: with the records of the new activation written
 -- and its own names' words cleared, the engine stands at the first statement of the block; `shows`, there: the display of the link with one
 -- entry more is the display then.
-use Prim.Native.Nat.{ℕ, suc, pred, _+_, _*_, _/_, _%_, _≤_, _<_}
+use Prim.Native.Nat.{ℕ, suc, _+_, _*_, _/_, _%_, _≤_, _<_}
 use native.Mathlib.Omega.{arith}
 use mathlib.Core.List.{List, [], _∷_, _++_}
 use mathlib.Core.Option.{some}
@@ -9,22 +9,22 @@ use mathlib.Core.Path.{_≡_, refl, sym, ap, _∙_, subst}
 use lib.IntN.{ℤ, pos}
 use lib.ListN.{length, getD, set, getElem?, length-set}
 use Rattle.language.specs.Basics.{butLast}
-use Rattle.language.specs.Text.{Block, blockAt, blockDecls}
+use Rattle.language.specs.Text.{blockDecls}
 use Rattle.language.specs.Machine.{Limits}
 use Rattle.laws.specs.Lists.{getElem-bound}
-use Rattle.frames.specs.Frame.{Frame, Stack, acted, numbered, frameNumber, continue, newFrame, withFrames, stepped, frameStep}
+use Rattle.frames.specs.Frame.{Frame, Stack, frameNumber, continue, newFrame, withFrames, stepped}
 use Rattle.frames.specs.Numbered.{numbered-high}
 use Rattle.frame_laws.specs.Bounds.{BoundedFrames}
 use Rattle.frame_laws.specs.BoundedFrames.{bounded-first}
 use Rattle.frame_laws.specs.Innermost.{butLast-innermost}
-use Rattle.coordinates.specs.Enclosure.{Enclosing, enclosed, Enclosure, Encloses}
+use Rattle.coordinates.specs.Enclosure.{enclosed}
 use Rattle.coordinates.specs.Chain.{enclosureOf, levelOf}
 use Rattle.coordinates.specs.Coordinates.{level-of-text}
 use Rattle.coordinates.specs.Sound.{Sound}
-use Rattle.resolved.specs.Resolved.{placeOf, endPlace, stmtPlace, headWord, boundsWord}
+use Rattle.resolved.specs.Resolved.{endPlace, stmtPlace, headWord, boundsWord}
 use Rattle.resolved.specs.Standing.{head-stands, bounds-stands}
 use Rattle.resolved.specs.Words.{head-level, head-formals, head-names, bounds-end, bounds-first}
-use Rattle.arrays.specs.Holds.{formalWord, Holds, Shows}
+use Rattle.arrays.specs.Holds.{Holds, Shows}
 use Rattle.arrays.specs.Running.{holds-pushed}
 use Rattle.arrays.specs.Displays.{ShowsFrom, shows-pushed}
 use Rattle.acting.specs.Effects.{Cleared}

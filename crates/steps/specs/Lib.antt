@@ -13,3 +13,5 @@ pub mod Arguments
 pub mod Calls
 pub mod Acts
 pub mod Entered
+pub mod Reads
+pub mod Finding

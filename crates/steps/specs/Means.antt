@@ -8,7 +8,7 @@ use lib.IntN.{ℤ, pos}
 use lib.ListN.{length, getD, take, getElem?}
 use Rattle.language.specs.Text.{Kind, Formal, Block, blockAt}
 use Rattle.language.specs.Machine.{Limits}
-use Rattle.frames.specs.Frame.{Frame, Stack, acted, halted, numbered, continue, withFrames, newFrame, frameStep, frameRun, designatorIn}
+use Rattle.frames.specs.Frame.{Frame, Stack, acted, halted, numbered, continue, withFrames, newFrame, frameStep, frameRun}
 use Rattle.coordinates.specs.Enclosure.{enclosed, Encloses}
 use Rattle.coordinates.specs.Chain.{enclosureOf, displayOf}
 use Rattle.coordinates.specs.Designated.{Designated}
