@@ -99,11 +99,11 @@ module _ {code : List ℕ} {l : Limits} {words : List ℤ} {blocks nexts links :
         let n = many w in
         let z : 32 * length fs ≡ 32 * suc live = ap (λ k. 32 * k) n in
         let h = holds-pushed fs blocks nexts links words (w .sound .bounded .each) live at n (omega (arith, w .nexts-long)) (w .holds) (w .frame) (last-is w) (suc (w .frame .next))
-            (subst (λ (ps : List Frame). BoundedFrames (ps ++ (continue (w .frame) (suc (w .frame .next)) ∷ []))) (sym under) bounded) (j .formals) (j .arguments) (j .text) (suc link) (j .count) given words″
-            (λ c p. cleared .kept c (omega arith) ∙ j .kept c (omega arith))
-            (λ i x e. ap (λ c. getD words″ (c + i) (pos 0)) z ∙ cleared .kept (32 * suc live + i) (omega (arith, getElem-bound (j .arguments) i x e, j .count)) ∙ j .handed i x e)
-            (λ i p q. ap (λ c. getD words″ (c + i) (pos 0)) z ∙ cleared .zeros (32 * suc live + i) (omega (arith, j .count)) (omega (arith, j .count)))
-            (omega (arith, room, w .blocks-long)) (omega (arith, room, w .nexts-long)) (omega (arith, room, w .links-long)) in
+        (subst (λ (ps : List Frame). BoundedFrames (ps ++ (continue (w .frame) (suc (w .frame .next)) ∷ []))) (sym under) bounded) (j .formals) (j .arguments) (j .text) (suc link) (j .count) given words″
+        (λ c p. cleared .kept c (omega arith) ∙ j .kept c (omega arith))
+        (λ i x e. ap (λ c. getD words″ (c + i) (pos 0)) z ∙ cleared .kept (32 * suc live + i) (omega (arith, getElem-bound (j .arguments) i x e, j .count)) ∙ j .handed i x e)
+        (λ i p q. ap (λ c. getD words″ (c + i) (pos 0)) z ∙ cleared .zeros (32 * suc live + i) (omega (arith, j .count)) (omega (arith, j .count)))
+        (omega (arith, room, w .blocks-long)) (omega (arith, room, w .nexts-long)) (omega (arith, room, w .links-long)) in
         subst (λ (T : Type 0). T)
         (λ i. Holds ((under i ++ (continue (w .frame) (suc (w .frame .next)) ∷ [])) ++ (new ∷ [])) (set blocks (one i) (sym (j .body-is) i)) (set (set nexts live (sym (j .back-is) i)) (one i) (stmtPlace (j .text) 1)) (set links (one i) link) words″) h
 

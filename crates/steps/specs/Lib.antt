@@ -15,3 +15,4 @@ pub mod Acts
 pub mod Entered
 pub mod Reads
 pub mod Finding
+pub mod Fields
