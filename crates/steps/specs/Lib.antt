@@ -3,6 +3,7 @@ pub mod Standing
 pub mod Means
 pub mod Here
 pub mod Ops
+pub mod Counts
 pub mod Loop
 pub mod Going
 pub mod Values

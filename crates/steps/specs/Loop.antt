@@ -34,6 +34,7 @@ use Rattle.arrays.specs.Running.{holds-back, holds-jumped}
 use Rattle.arrays.specs.Displays.{shows-entered}
 use Rattle.steps.specs.Standing.{Standing}
 use Rattle.steps.specs.Means.{Follows, JumpsTo}
+use Rattle.steps.specs.Counts.{step-counts}
 use Rattle.steps.specs.Here.{many, live-few, downward, ended, even-at}
 
 module _ {code : List ℕ} {l : Limits} {words : List ℤ} {blocks nexts links : List ℕ} {table : List ℤ} {pairs live at end : ℕ} (w : Standing code l words blocks nexts links table pairs live at end) where
@@ -56,7 +57,8 @@ module _ {code : List ℕ} {l : Limits} {words : List ℤ} {blocks nexts links :
 
   -- a step done
   pub follows-step : (v : Stack) → frameStep l (w .stack) ≡ acted v → Follows w (stepped v) (w .program) (w .name)
-  follows-step v e = record { runs = λ n. run-steps l (w .stack) n v some-live e; same-program = refl; same-name = refl }
+  unfolding stepped
+  follows-step v e = record { runs = λ n. run-steps l (w .stack) n v some-live e; counts = ap suc (step-counts l (w .stack) v some-live e); same-program = refl; same-name = refl }
 
   pub sound-after : (v : Stack) → frameStep l (w .stack) ≡ acted v → Sound l (w .program) (stepped v)
   sound-after v e = step-sound (w .program) (w .keeps) l (w .stack) v (w .sound) e
