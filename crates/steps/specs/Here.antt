@@ -15,7 +15,7 @@ use Rattle.language.specs.Basics.{last?}
 use Rattle.language.specs.Text.{Stmt, blockStmts, stmtAt}
 use Rattle.language.specs.Encoding.{stmtFields}
 use Rattle.language.specs.Machine.{Limits}
-use Rattle.laws.specs.Tests.{split}
+use Rattle.laws.specs.Tests.{split, some-inj}
 use Rattle.laws.specs.Lists.{snoc-length, getElem-seam, getElem-none, getElem-in}
 use Rattle.frames.specs.Frame.{Frame, numbered, frameStmt}
 use Rattle.frames.specs.Numbered.{numbered-suc}
@@ -43,6 +43,9 @@ module _ {code : List ℕ} {l : Limits} {words : List ℤ} {blocks nexts links :
 
   pub numbered-here : numbered (w .stack .frames) (suc live) ≡ some (w .frame)
   numbered-here = numbered-suc (w .stack .frames) live ∙ here
+
+  pub same-end : (f : Frame) → numbered (w .stack .frames) (suc live) ≡ some f → endPlace (f .text) ≡ end
+  same-end f e = ap (λ (g : Frame). endPlace (g .text)) (some-inj (sym e ∙ numbered-here)) ∙ sym (w .end-is)
 
   pub within-limit : suc live ≤ l .activations
   within-limit = omega (arith, many, w .sound .bounded .live)

@@ -1,6 +1,7 @@
 -- The laws of an engine's loop. At the end of a text the innermost activation is left (`leaves`), or the run has finished where no other is live
 -- (`finishes`); with no step left it is spent (`spent`), and where a statement has a cause to stop it stops there (`stops`). `jumped`: after
--- a jump the engine stands in the label's activation. `begins`: arrays of zeros are where a run starts, and `shows-begun`: so is the display.
+-- a jump the engine stands in the label's activation; `shows-by`: what the display must then be. `begins`: arrays of zeros are where a run
+-- starts, and `shows-begun`: so is the display.
 use Prim.Native.Nat.{ℕ, suc, pred, _-_, _*_, _≤_, _<_}
 use native.Mathlib.Omega.{arith}
 use mathlib.Core.Bool.{true}
@@ -31,11 +32,15 @@ use Rattle.resolved.specs.Places.{block-place}
 use Rattle.arrays.specs.Holds.{Holds, Shows}
 use Rattle.arrays.specs.Moves.{holds-started}
 use Rattle.arrays.specs.Running.{holds-back, holds-jumped}
-use Rattle.arrays.specs.Displays.{shows-entered}
+use Rattle.arrays.specs.Displays.{ShowsFrom, shows-entered}
 use Rattle.steps.specs.Standing.{Standing}
 use Rattle.steps.specs.Means.{Follows, JumpsTo}
 use Rattle.steps.specs.Counts.{step-counts}
 use Rattle.steps.specs.Here.{many, live-few, downward, ended, even-at}
+
+-- the display of one frame is that of other frames' innermost one
+pub shows-by : (fs gs : List Frame) (k : ℕ) (display : List ℕ) → displayOf gs ≡ displayFrom fs k → ShowsFrom fs k display → Shows gs display
+shows-by fs gs k display e h j m q = h j m (ap (λ (ms : List ℕ). numbered ms j) (sym e) ∙ q)
 
 module _ {code : List ℕ} {l : Limits} {words : List ℤ} {blocks nexts links : List ℕ} {table : List ℤ} {pairs live at end : ℕ} (w : Standing code l words blocks nexts links table pairs live at end) where
   some-live : 1 ≤ length (w .stack .frames)
