@@ -6,9 +6,10 @@ use mathlib.Core.Logic.{inl, inr}
 use native.Mathlib.Omega.{arith}
 use lib.ListN.{length, length-set}
 use Rattle.hashing.specs.Hashes.{bucket, markOf, maskOf, markAt, maskAt}
-use Rattle.counting.specs.Counters.{heldAt, counterAt, Marked}
+use Rattle.counters.specs.Counters.{heldAt}
+use Rattle.counting.specs.Bounds.{counterAt, Marked}
 use Rattle.filtering.proofs.Filters.{putIn, suspected-more, suspected-own}
-use Rattle.counting.proofs.Counting.{counters-range}
+use Rattle.counters.proofs.Packed.{counters-range}
 use borrow.Author.Needs.{needs}
 use Rattle.counting.proofs.mark_one.Statement.{statement}
 use Rattle.counting.proofs.mark_one.Tie as tie

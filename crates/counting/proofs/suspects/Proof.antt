@@ -3,8 +3,10 @@ use Prim.Native.Nat.{ℕ, _≤_, _<_}
 use mathlib.Core.Logic.{inl, inr, ⊎-elim}
 use native.Mathlib.Omega.{arith}
 use Rattle.keys.specs.Keys.{rankAt}
-use Rattle.counting.specs.Counters.{heldAt, counterAt}
-use Rattle.counting.proofs.Counting.{held-none, bounded-start, bounded-rank}
+use Rattle.counters.specs.Counters.{heldAt}
+use Rattle.counting.specs.Bounds.{counterAt}
+use Rattle.counters.proofs.Packed.{held-none}
+use Rattle.counting.proofs.Counting.{bounded-start, bounded-rank}
 use borrow.Author.Needs.{needs}
 use Rattle.counting.proofs.suspects.Statement.{statement}
 use Rattle.counting.proofs.suspects.Tie as tie
