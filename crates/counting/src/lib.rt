@@ -5,7 +5,12 @@ ghost use Prim.Native.Nat.{ℕ, _+_, _*_, _≤_, _<_, min};
 ghost use lib.ListN.{length};
 ghost use Rattle.keys.specs.Keys.{rankAt};
 ghost use Rattle.filtering.specs.Filter.{Cleared};
-ghost use Rattle.counting.specs.Counters.{countersOf, roomOf, heldAt, raised, Bounded, Accounted, Marked};
+ghost use Rattle.counters.specs.Counters.{roomOf, heldAt};
+ghost use Rattle.counting.specs.Bounds.{Bounded, Accounted, Marked};
+use counters::counters_for;
+use counters::held_at;
+use counters::raise;
+use counters::share_of;
 use filtering::is_suspected;
 use filtering::put;
 use hashing::bucket_of;
@@ -21,62 +26,6 @@ fn most_of(limit: u32) -> u16
         return (limit + 1) as u16;
     }
     65535
-}
-
-// How many counters share a word, as a power of 2: the lower the limit, the more counters there are.
-fn share_of(limit: u32) -> u32
-    ensures { λ r. ⌜ min (limit + 1) 65535 ≤ roomOf r ⌝ }
-{
-    if limit < 15 {
-        return 2;
-    }
-    if limit < 255 {
-        return 1;
-    }
-    0
-}
-
-fn counters_for(share: u32) -> u64
-    ensures { λ r. ⌜ r ≡ countersOf share ⌝ }
-{
-    if share == 0 {
-        return 112640;
-    }
-    if share == 1 {
-        return 225280;
-    }
-    450560
-}
-
-fn held_at(counters: &[u16], share: u32, q: usize) -> u16
-    requires { ⌜ length (now counters) ≡ 112640 ⌝ }
-    requires { ⌜ q < countersOf share ⌝ }
-    ensures { λ r. ⌜ r ≡ heldAt share (now (counters .entry)) q ⌝ }
-{
-    if share == 0 {
-        return counters[q];
-    }
-    if share == 1 {
-        return (counters[q / 2] >> (8 * (q % 2))) % 256;
-    }
-    (counters[q / 4] >> (4 * (q % 4))) % 16
-}
-
-fn raise(counters: &mut [u16], share: u32, q: usize)
-    requires { ⌜ length (now counters) ≡ 112640 ⌝ }
-    requires { ⌜ q < countersOf share ⌝ }
-    requires { ⌜ heldAt share (now counters) q < roomOf share ⌝ }
-    ensures { λ _. ⌜ now (counters .exit) ≡ raised share (now (counters .entry)) q ⌝ }
-{
-    if share == 0 {
-        counters[q] = counters[q] + 1;
-        return;
-    }
-    if share == 1 {
-        counters[q / 2] = counters[q / 2] + (1u16 << (8 * (q % 2)));
-        return;
-    }
-    counters[q / 4] = counters[q / 4] + (1u16 << (4 * (q % 4)));
 }
 
 // The pair at `i` is counted: 1 where its counter is full now, else 0.

@@ -1,6 +1,6 @@
 -- AD, RM and QY: from the tests that the code made to the case of the definition that they choose.
 use Prim.Native.Nat.{ℕ, zero, suc, _*_, _-_, _/_, _≤_, _<_}
-use mathlib.Core.Path.{_≡_, refl, sym, _∙_, ap}
+use mathlib.Core.Path.{_≡_, refl, sym, _∙_, ap, subst}
 use mathlib.Core.Bool.{Bool, true, false, _&&_}
 use mathlib.Core.List.{List}
 use mathlib.Core.Option.{Option, none, some}
@@ -13,10 +13,12 @@ use mir.Syntax.{w32}
 use mir.Facts.{toZ-ofZ}
 use Rattle.language.specs.Table.{Table, find, isSome, holds, members, size, atLeastOne, full, add, remove, takeOut, fewer, leaves, halts, gives, refuses, added, removed, queried}
 use Rattle.language.specs.declared.Stop.the-variants.{NumberBelowOne, GroupFull, TableFull}
-use Rattle.pairs.specs.Places.{placed}
-use Rattle.pairs.specs.Outcomes.{tableOf}
+use Rattle.pairs.specs.Places.{placed, searchOf}
+use Rattle.pairs.specs.Outcomes.{tableOf, addedAbsent}
 use Rattle.pairs.specs.declared.Place.{Place}
 use Rattle.pairs.specs.declared.Place.the-variants.{At, Absent}
+use Rattle.pairs.specs.declared.Search.{Search}
+use Rattle.pairs.specs.declared.Search.the-variants.{BelowOne, At as Found, Absent as Missing}
 
 placed-at : (r : Option ℕ) (i : ℕ) → placed r ≡ At i → r ≡ some i
 unfolding placed
@@ -33,11 +35,46 @@ module _ {g m : ℤ} (fg : SFits w32 g) (fm : SFits w32 m) where
   pub fits-read : {r v : Bool} → r ≡ (atLeastOne (toZ w32 (ofZ w32 g)) && atLeastOne (toZ w32 (ofZ w32 m))) → r ≡ v → (atLeastOne g && atLeastOne m) ≡ v
   fits-read e q = (rw (toZ-ofZ fg, toZ-ofZ fm) at (sym e)) ∙ q
 
-  pub present : (k : ℕ) (ws : List ℤ) {p : Place} {i : ℕ} → p ≡ placed (find (toZ w32 (ofZ w32 g)) (toZ w32 (ofZ w32 m)) k ws) → p ≡ At i → find g m k ws ≡ some i
-  present k ws {p} {i} e q = placed-at (find g m k ws) i ((rw (toZ-ofZ fg, toZ-ofZ fm) at (sym e)) ∙ q)
+  pub place-read :
+      (k : ℕ) (ws : List ℤ) {p q : Place} → p ≡ placed (find (toZ w32 (ofZ w32 g)) (toZ w32 (ofZ w32 m)) k ws) → p ≡ q → placed (find g m k ws) ≡ q
+  place-read k ws e q = (rw (toZ-ofZ fg, toZ-ofZ fm) at (sym e)) ∙ q
 
-  pub absent : (k : ℕ) (ws : List ℤ) {p : Place} → p ≡ placed (find (toZ w32 (ofZ w32 g)) (toZ w32 (ofZ w32 m)) k ws) → p ≡ Absent → find g m k ws ≡ none
-  absent k ws {p} e q = placed-absent (find g m k ws) ((rw (toZ-ofZ fg, toZ-ofZ fm) at (sym e)) ∙ q)
+  pub search-read :
+      (k : ℕ) (ws : List ℤ) {p q : Search} → p ≡ searchOf (toZ w32 (ofZ w32 g)) (toZ w32 (ofZ w32 m)) k ws → p ≡ q → searchOf g m k ws ≡ q
+  search-read k ws e q = (rw (toZ-ofZ fg, toZ-ofZ fm) at (sym e)) ∙ q
+
+-- ---- the search
+
+module _ (g m : ℤ) (k : ℕ) (ws : List ℤ) where
+  abbrev pub Fit : Bool → Type 0
+  Fit b = (atLeastOne g && atLeastOne m) ≡ b
+
+  pub searched-below : Fit false → BelowOne ≡ searchOf g m k ws
+  unfolding searchOf
+  searched-below e = rw (e, searchOf)
+
+  pub searched-at : {i : ℕ} → Fit true → placed (find g m k ws) ≡ At i → Found i ≡ searchOf g m k ws
+  unfolding searchOf
+  searched-at {i} e q = rw (e, searchOf) (rw (placed-at (find g m k ws) i q))
+
+  pub searched-absent : Fit true → placed (find g m k ws) ≡ Absent → Missing ≡ searchOf g m k ws
+  unfolding searchOf
+  searched-absent e q = rw (e, searchOf) (rw (placed-absent (find g m k ws) q))
+
+  -- what an outcome of the search says
+  abbrev pub Says : Search → Type 0
+  Says BelowOne = Fit false
+  Says Missing = Fit true × (find g m k ws ≡ none)
+  Says (Found i) = Fit true × (find g m k ws ≡ some i)
+
+  pub says : (s : Search) → searchOf g m k ws ≡ s → Says s
+  unfolding placed
+  says s e = subst Says e (go (atLeastOne g && atLeastOne m) refl (find g m k ws) refl)
+    where
+      go : (b : Bool) → Fit b → (o : Option ℕ) → find g m k ws ≡ o → Says (searchOf g m k ws)
+      go false f o q = subst Says (searched-below f) f
+      go true f none q = subst Says (searched-absent f (ap placed q)) (f, q)
+      go true f (some i) q = subst Says (searched-at f (ap placed q)) (f, q)
 
 module _ (g m : ℤ) (t : Table) where
   holds-at : {i : ℕ} → find g m (t .used) (t .words) ≡ some i → holds g m t ≡ true
@@ -57,6 +94,18 @@ module _ (g m : ℤ) (t : Table) where
   full-no h = le-ltb (length (t .words)) (2 * suc (t .used)) (omega arith)
 
 module _ (limit : ℕ) (g m : ℤ) (t : Table) where
+  pub absent-crowded : limit ≤ size g t → addedAbsent limit g m t ≡ halts GroupFull
+  unfolding addedAbsent
+  absent-crowded h = rw (le-leb limit (size g t) h, addedAbsent)
+
+  pub absent-full : size g t < limit → length (t .words) / 2 ≤ t .used → addedAbsent limit g m t ≡ halts TableFull
+  unfolding addedAbsent
+  absent-full h k = rw (lt-leb limit (size g t) h, full-yes g m t k, addedAbsent)
+
+  pub absent-new : size g t < limit → t .used < length (t .words) / 2 → addedAbsent limit g m t ≡ leaves (add g m t)
+  unfolding addedAbsent
+  absent-new h k = rw (lt-leb limit (size g t) h, full-no g m t k, addedAbsent)
+
   pub added-below : (atLeastOne g && atLeastOne m) ≡ false → added limit g m t ≡ halts NumberBelowOne
   unfolding added
   added-below e = rw (e, added)
@@ -65,22 +114,9 @@ module _ (limit : ℕ) (g m : ℤ) (t : Table) where
   unfolding added
   added-present e f = rw (e, holds-at g m t f, added)
 
-  pub added-crowded :
-      (atLeastOne g && atLeastOne m) ≡ true → find g m (t .used) (t .words) ≡ none → limit ≤ size g t → added limit g m t ≡ halts GroupFull
-  unfolding added
-  added-crowded e f h = rw (e, holds-not g m t f, le-leb limit (size g t) h, added)
-
-  pub added-full :
-      (atLeastOne g && atLeastOne m) ≡ true → find g m (t .used) (t .words) ≡ none → size g t < limit → length (t .words) / 2 ≤ t .used →
-      added limit g m t ≡ halts TableFull
-  unfolding added
-  added-full e f h k = rw (e, holds-not g m t f, lt-leb limit (size g t) h, full-yes g m t k, added)
-
-  pub added-new :
-      (atLeastOne g && atLeastOne m) ≡ true → find g m (t .used) (t .words) ≡ none → size g t < limit → t .used < length (t .words) / 2 →
-      added limit g m t ≡ leaves (add g m t)
-  unfolding added
-  added-new e f h k = rw (e, holds-not g m t f, lt-leb limit (size g t) h, full-no g m t k, added)
+  pub added-absent : (atLeastOne g && atLeastOne m) ≡ true → find g m (t .used) (t .words) ≡ none → added limit g m t ≡ addedAbsent limit g m t
+  unfolding added addedAbsent
+  added-absent e f = rw (e, holds-not g m t f, added) refl
 
 module _ (g m : ℤ) (t : Table) where
   pub removed-below : (atLeastOne g && atLeastOne m) ≡ false → removed g m t ≡ halts NumberBelowOne

@@ -6,14 +6,21 @@ ghost use lib.ListN.{length, set};
 ghost use Rattle.language.specs.Basics.{eqZ};
 ghost use Rattle.language.specs.Table.{find, members, atLeastOne, add, takeOut, added, removed, queried};
 ghost use Rattle.laws.specs.Tables.{groupAt, memberAt};
-ghost use Rattle.pairs.specs.Places.{placed};
-ghost use Rattle.pairs.specs.Outcomes.{tableOf, changeOf, valueOf, wordsAfter};
+ghost use Rattle.pairs.specs.Places.{placed, searchOf};
+ghost use Rattle.pairs.specs.Outcomes.{tableOf, addedAbsent, changeOf, valueOf, wordsAfter};
 use language::Stop;
 
 // Where a pair stands, counted in pairs from 0.
 pub enum Place {
     At(usize),
     Absent,
+}
+
+// Where a statement's pair stands: its numbers are judged before it is looked for.
+enum Search {
+    BelowOne,
+    Absent,
+    At(usize),
 }
 
 // What AD or RM comes to: the count of pairs after it, or the cause to stop.
@@ -155,17 +162,25 @@ pub fn take_out(table: &mut [i32], count: usize, place: usize)
     table[i + 1] = 0;
 }
 
-// AD. The causes are tested in document 01's order, each before anything is written.
-pub fn add_pair(table: &mut [i32], count: usize, limit: u32, group: i32, member: i32) -> Change
-    ensures { λ r. ⌜ r ≡ changeOf (added limit group member (tableOf (now (table .entry)) count)) ⌝ }
-    ensures { λ _. ⌜ now (table .exit) ≡ wordsAfter (now (table .entry)) (added limit group member (tableOf (now (table .entry)) count)) ⌝ }
+// The pair of AD, RM or QY.
+fn searched(table: &[i32], count: usize, group: i32, member: i32) -> Search
+    ensures { λ r. ⌜ r ≡ searchOf group member count (now (table .entry)) ⌝ }
 {
     if !numbers_fit(group, member) {
-        return Change::Stopped(Stop::NumberBelowOne);
+        return Search::BelowOne;
     }
-    if let Place::At(_) = place_of(table, count, group, member) {
-        return Change::Done(count);
+    let found = place_of(table, count, group, member);
+    match found {
+        Place::At(place) => Search::At(place),
+        Place::Absent => Search::Absent,
     }
+}
+
+// A pair that is absent is added, or stops the run: the group is judged before the table, and both before anything is written.
+fn add_absent(table: &mut [i32], count: usize, limit: u32, group: i32, member: i32) -> Change
+    ensures { λ r. ⌜ r ≡ changeOf (addedAbsent limit group member (tableOf (now (table .entry)) count)) ⌝ }
+    ensures { λ _. ⌜ now (table .exit) ≡ wordsAfter (now (table .entry)) (addedAbsent limit group member (tableOf (now (table .entry)) count)) ⌝ }
+{
     if limit as usize <= group_size(table, count, group) {
         return Change::Stopped(Stop::GroupFull);
     }
@@ -176,30 +191,43 @@ pub fn add_pair(table: &mut [i32], count: usize, limit: u32, group: i32, member:
     Change::Done(count + 1)
 }
 
+// AD
+pub fn add_pair(table: &mut [i32], count: usize, limit: u32, group: i32, member: i32) -> Change
+    ensures { λ r. ⌜ r ≡ changeOf (added limit group member (tableOf (now (table .entry)) count)) ⌝ }
+    ensures { λ _. ⌜ now (table .exit) ≡ wordsAfter (now (table .entry)) (added limit group member (tableOf (now (table .entry)) count)) ⌝ }
+{
+    let found = searched(table, count, group, member);
+    match found {
+        Search::BelowOne => Change::Stopped(Stop::NumberBelowOne),
+        Search::At(_) => Change::Done(count),
+        Search::Absent => add_absent(table, count, limit, group, member),
+    }
+}
+
 // RM. An absent pair changes nothing.
 pub fn remove_pair(table: &mut [i32], count: usize, group: i32, member: i32) -> Change
     ensures { λ r. ⌜ r ≡ changeOf (removed group member (tableOf (now (table .entry)) count)) ⌝ }
     ensures { λ _. ⌜ now (table .exit) ≡ wordsAfter (now (table .entry)) (removed group member (tableOf (now (table .entry)) count)) ⌝ }
 {
-    if !numbers_fit(group, member) {
-        return Change::Stopped(Stop::NumberBelowOne);
+    let found = searched(table, count, group, member);
+    match found {
+        Search::BelowOne => Change::Stopped(Stop::NumberBelowOne),
+        Search::Absent => Change::Done(count),
+        Search::At(place) => {
+            take_out(table, count, place);
+            Change::Done(count - 1)
+        }
     }
-    let Place::At(place) = place_of(table, count, group, member) else {
-        return Change::Done(count);
-    };
-    take_out(table, count, place);
-    Change::Done(count - 1)
 }
 
 // QY. The value is 1 where the pair is present, else 0.
 pub fn query_pair(table: &[i32], count: usize, group: i32, member: i32) -> Query
     ensures { λ r. ⌜ r ≡ valueOf (queried group member (tableOf (now (table .entry)) count)) ⌝ }
 {
-    if !numbers_fit(group, member) {
-        return Query::Stopped(Stop::NumberBelowOne);
+    let found = searched(table, count, group, member);
+    match found {
+        Search::BelowOne => Query::Stopped(Stop::NumberBelowOne),
+        Search::At(_) => Query::Value(1),
+        Search::Absent => Query::Value(0),
     }
-    if let Place::At(_) = place_of(table, count, group, member) {
-        return Query::Value(1);
-    }
-    Query::Value(0)
 }

@@ -2,7 +2,8 @@
 use Prim.Native.Nat.{ℕ, _≤_, _<_, _-_}
 use mathlib.Core.Path.{_≡_, sym, _∙_, subst}
 use native.Mathlib.Omega.{arith}
-use Rattle.counting.specs.Counters.{heldAt, Bounded}
+use Rattle.counters.specs.Counters.{heldAt}
+use Rattle.counting.specs.Bounds.{Bounded}
 use Rattle.counting.proofs.count_all.Statement.{statement}
 use Rattle.counting.proofs.count_all.Tie as tie
 

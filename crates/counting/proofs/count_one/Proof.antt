@@ -4,8 +4,10 @@ use mathlib.Core.Path.{_≡_, sym, _∙_, ap, ap₂, subst}
 use mathlib.Core.List.{List}
 use native.Mathlib.Omega.{arith}
 use Rattle.hashing.specs.Hashes.{bucket}
-use Rattle.counting.specs.Counters.{countersOf, roomOf, heldAt, raised, counterAt, Bounded}
-use Rattle.counting.proofs.Counting.{counters-range, bounded-full, bounded-next, not-full-next}
+use Rattle.counters.specs.Counters.{countersOf, roomOf, heldAt, raised}
+use Rattle.counting.specs.Bounds.{counterAt, Bounded}
+use Rattle.counters.proofs.Packed.{counters-range}
+use Rattle.counting.proofs.Counting.{bounded-full, bounded-next, not-full-next}
 use borrow.Author.Needs.{needs}
 use Rattle.counting.proofs.count_one.Statement.{statement}
 use Rattle.counting.proofs.count_one.Tie as tie

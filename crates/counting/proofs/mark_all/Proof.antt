@@ -4,7 +4,7 @@ use mathlib.Core.Path.{_≡_, sym, _∙_, subst}
 use mathlib.Core.Logic.{inl, inr, ⊎-elim}
 use native.Mathlib.Omega.{arith}
 use lib.ListN.{length}
-use Rattle.counting.specs.Counters.{Accounted}
+use Rattle.counting.specs.Bounds.{Accounted}
 use Rattle.keys.proofs.Each.{below-next}
 use Rattle.counting.proofs.mark_all.Statement.{statement}
 use Rattle.counting.proofs.mark_all.Tie as tie

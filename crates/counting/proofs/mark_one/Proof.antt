@@ -6,9 +6,10 @@ use mathlib.Core.Logic.{inl, inr}
 use native.Mathlib.Omega.{arith}
 use lib.ListN.{length, length-set}
 use Rattle.hashing.specs.Hashes.{bucket, markOf, maskOf, markAt, maskAt}
-use Rattle.counting.specs.Counters.{heldAt, counterAt, Marked}
+use Rattle.counters.specs.Counters.{heldAt}
+use Rattle.counting.specs.Bounds.{counterAt, Marked}
 use Rattle.filtering.proofs.Filters.{putIn, suspected-more, suspected-own}
-use Rattle.counting.proofs.Counting.{counters-range}
+use Rattle.counters.proofs.Packed.{counters-range}
 use borrow.Author.Needs.{needs}
 use Rattle.counting.proofs.mark_one.Statement.{statement}
 use Rattle.counting.proofs.mark_one.Tie as tie
@@ -67,6 +68,9 @@ returns-2 c =
     let s = begin (k .before .before .before) in
     (record { mark-words = s .pre .1 .1; accounted = inr (sym (k .is-suspected .ensures) ∙ c .if2 .taken); older = λ j h. h }, omega arith)
 
+abbrev heldOf : tie.Else2 → tie.After-held-at
+heldOf c = c .before .before .before .before
+
 mark-of-requires : tie.Need-mark-of-requires
 mark-of-requires c κs = search needs
 
@@ -76,7 +80,7 @@ mask-of-requires c κs = search needs
 put-requires : tie.Need-put-requires
 put-requires c κs =
     let q = c .before in
-    let h = hashOf (q .before .before .before .before .before .before) in
+    let h = hashOf (heldOf (q .before .before)) in
     omega (arith, q .mark-of .ensures .1, startOf h .pre .1 .1)
 
 same-length-2 : tie.Need-same-length-2
@@ -88,7 +92,7 @@ returns-3 c =
     let m = p .before in
     let q = m .before in
     let d = q .before .before in
-    let h = hashOf (d .before .before .before .before) in
+    let h = hashOf (heldOf d) in
     let s = startOf h in
     let ws = s .args .table .now in
     let marks = s .args .marks .now in

@@ -3,17 +3,28 @@ use Prim.Native.Nat.{ℕ, _≤_, _<_}
 use mathlib.Core.Logic.{inl, inr, ⊎-elim}
 use native.Mathlib.Omega.{arith}
 use Rattle.keys.specs.Keys.{rankAt}
-use Rattle.counting.specs.Counters.{heldAt, counterAt}
-use Rattle.counting.proofs.Counting.{held-none, bounded-start, bounded-rank}
+use Rattle.counters.specs.Counters.{heldAt}
+use Rattle.counting.specs.Bounds.{counterAt}
+use Rattle.counters.proofs.Packed.{held-none}
+use Rattle.counting.proofs.Counting.{bounded-start, bounded-rank}
 use borrow.Author.Needs.{needs}
 use Rattle.counting.proofs.suspects.Statement.{statement}
 use Rattle.counting.proofs.suspects.Tie as tie
 
+abbrev sharedOf : tie.After-count-all → tie.After-share-of
+sharedOf c = c .before .before .before
+
+abbrev elseOf : tie.After-mark-all → tie.Else1
+elseOf c = c .before .before .before
+
+abbrev countedOf : tie.After-mark-all → tie.After-count-all
+countedOf c = elseOf c .before .before
+
 abbrev shareOf : tie.After-count-all → ℕ
-shareOf c = c .before .before .before .share-of .result
+shareOf c = sharedOf c .share-of .result
 
 abbrev startOf : tie.After-count-all → tie.Start
-startOf c = c .before .before .before .before .before
+startOf c = sharedOf c .before .before
 
 -- what a counter that is not full says
 ranked :
@@ -76,7 +87,7 @@ same-length c = search needs
 returns-2 : tie.Need-returns-2
 returns-2 c =
     let n = c .before .before .before in
-    let k = n .before .before .before .before .before in (
+    let k = countedOf n in (
       λ e. absurd (omega arith),
       (λ j l. ⊎-elim (λ h. inl (ranked k j l h)) inr (n .mark-all .ensures .0 j l), omega arith),
     )
@@ -90,7 +101,7 @@ same-length-2 c = search needs
 returns-3 : tie.Need-returns-3
 returns-3 c =
     let n = c .before .before .before in
-    let k = n .before .before .before .before .before in (
+    let k = countedOf n in (
       λ e. absurd (omega arith),
       (λ j l. ⊎-elim (λ h. inl (ranked k j l h)) inr (n .mark-all .ensures .0 j l), omega arith),
     )

@@ -25,13 +25,16 @@ Next s = Inserted (s .args .whole) (s .args .table .now) (s .args .classes) (s .
 abbrev Grows : tie.Start → List ℕ → Type 0
 Grows s = Grown (s .args .whole) (s .args .table .now) (s .args .classes) (s .args .class) (s .args .i) (s .args .seen .now) (s .args .marks .now) (s .pre .1 .1)
 
-mask-is : (c : tie.After-mask-of) → let s = c .before .before .before .before in c .mask-of .result ≡ maskAt (s .args .whole) (s .args .table .now) (s .args .i)
+abbrev beginOf : tie.After-mask-of → tie.Start
+beginOf c = c .before .before .before .before
+
+mask-is : (c : tie.After-mask-of) → let s = beginOf c in c .mask-of .result ≡ maskAt (s .args .whole) (s .args .table .now) (s .args .i)
 mask-is c = c .mask-of .ensures ∙ ap maskOf (c .before .hash .ensures)
 
 -- ---- whether the pair is of the class
 
 abbrev startOf : tie.After-class-of → tie.Start
-startOf c = c .before .before .before .before .before
+startOf c = beginOf (c .before)
 
 abbrev own : tie.After-class-of → Bool
 own c = eqb (c .class-of .result) (startOf c .args .class)

@@ -4,6 +4,12 @@ use borrow.Author.Needs.{needs}
 use Rattle.members.proofs.mark_class.Statement.{statement}
 use Rattle.members.proofs.mark_class.Tie as tie
 
+abbrev clearedOf : tie.After-insert-all → tie.After-clear-marks
+clearedOf c = c .before .before .before .before
+
+abbrev thenOf : tie.After-clear-marks → tie.Then1
+thenOf c = c .before .before
+
 clear-marks-requires : tie.Need-clear-marks-requires
 clear-marks-requires c κs = search needs
 
@@ -14,7 +20,7 @@ same-length : tie.Need-same-length
 same-length c = search needs
 
 returns : tie.Need-returns
-returns c = (λ e. c .before .before .insert-all .ensures, λ n. absurd (n (c .before .before .before .before .before .before .before .before .if1 .taken)))
+returns c = let a = c .before .before in (λ e. a .insert-all .ensures, λ n. absurd (n (thenOf (clearedOf a) .if1 .taken)))
 
 returns-2 : tie.Need-returns-2
 returns-2 c = (λ e. absurd (c .if1 .left e), λ n. refl)

@@ -30,8 +30,11 @@ member-at-requires c κs = omega arith
 numbers-fit-requires : tie.Need-numbers-fit-requires Inv-loop μ-loop
 numbers-fit-requires c κs = tt
 
+abbrev loopOf : tie.After-numbers-fit Inv-loop μ-loop → tie.At-loop Inv-loop μ-loop
+loopOf c = c .before .before .before .before
+
 tested :
-    (c : tie.After-numbers-fit Inv-loop μ-loop) → let l = c .before .before .before .before in
+    (c : tie.After-numbers-fit Inv-loop μ-loop) → let l = loopOf c in
     c .numbers-fit .result ≡ numbersAt (l .before .args .table .now) (l .loop .i)
 tested c =
     let m = c .before in
@@ -39,7 +42,7 @@ tested c =
 
 returns : tie.Need-returns Inv-loop μ-loop
 returns c =
-    let l = c .before .before .before .before .before in
+    let l = loopOf (c .before) in
     let s = l .before in
     sym (numbers-each (s .args .table .now) (s .args .count) (s .pre)
     ∙ each-false (numbersAt (s .args .table .now)) (s .args .count) (l .loop .i) (omega arith) (sym (tested (c .before)) ∙ not-true _ (c .if1 .taken)))
@@ -52,7 +55,7 @@ loop-less c = omega arith
 
 loop-again : tie.Need-loop-again Inv-loop μ-loop
 loop-again c =
-    let l = c .before .before .before .before .before in
+    let l = loopOf (c .before) in
     (omega arith, rw add-one (each-next _ (l .loop .i) (l .loop .inv .1) (sym (tested (c .before)) ∙ not-false _ (c .if1 .left))))
 
 returns-2 : tie.Need-returns-2 Inv-loop μ-loop

@@ -1,147 +1,90 @@
--- `add_pair` meets its contract: each way out is a case of the definition.
+-- `add_pair` meets its contract: each outcome of the search is a case of the definition.
+use mathlib.Core.Path.{_≡_, sym, _∙_, ap}
 use borrow.Author.Needs.{needs}
+use mir.Facts.{toZ-ofZ}
+use Rattle.language.specs.Table.{Table}
+use Rattle.pairs.specs.Outcomes.{tableOf, changeOf, wordsAfter}
+use Rattle.pairs.specs.declared.Search.{Search}
+use Rattle.pairs.proofs.Statements.{search-read, Says, says, added-below, added-present, added-absent}
 use Rattle.pairs.proofs.add_pair.Statement.{statement}
 use Rattle.pairs.proofs.add_pair.Tie as tie
-use Prim.Native.Nat.{_≤_, _<_}
-use mathlib.Core.Path.{_≡_, sym, _∙_, ap}
-use mathlib.Core.Bool.{Bool, true, _&&_}
-use mathlib.Core.Option.{none}
-use native.Mathlib.Numerals.{add-one}
-use native.Mathlib.Omega.{arith}
-use borrow.Author.Tests.{not-true, not-false}
-use mir.Facts.{toZ-ofZ}
-use Rattle.language.specs.Table.{Table, find, size, atLeastOne, add}
-use Rattle.pairs.specs.Outcomes.{tableOf, changeOf, wordsAfter}
-use Rattle.pairs.proofs.Statements.{fits-read, present, absent, size-read, added-below, added-present, added-crowded, added-full, added-new}
+
+abbrev startOf : tie.After-searched → tie.Start
+startOf c = c .before .before
 
 abbrev lent : tie.Start → Table
 lent s = tableOf (s .args .table .now) (s .args .count)
 
-numbers : (c : tie.After-numbers-fit) {v : Bool} → c .numbers-fit .result ≡ v → (atLeastOne (c .before .args .group) && atLeastOne (c .before .args .member)) ≡ v
-numbers c q = fits-read (c .before .fits .group) (c .before .fits .member) (c .numbers-fit .ensures) q
+known : (c : tie.After-searched) (r : Search) → c .searched .result ≡ r → let s = startOf c in Says (s .args .group) (s .args .member) (s .args .count) (s .args .table .now) r
+known c r q =
+    let s = startOf c in
+    says (s .args .group) (s .args .member) (s .args .count) (s .args .table .now) r
+    (search-read (s .fits .group) (s .fits .member) (s .args .count) (s .args .table .now) (c .searched .ensures) q)
 
-right-numbers : (c : tie.Else1) → (atLeastOne (c .before .before .args .group) && atLeastOne (c .before .before .args .member)) ≡ true
-right-numbers c = numbers (c .before) (not-false _ (c .if1 .left))
-
-missing :
-    (c : tie.After-enum-told2) → let s = c .before .before .before .before .before .before in
-    find (s .args .group) (s .args .member) (s .args .count) (s .args .table .now) ≡ none
-missing c =
-    let p = c .before .before in
-    let s = p .before .before .before .before in
-    absent (s .fits .group) (s .fits .member) (s .args .count) (s .args .table .now) (p .place-of .ensures) (c .enum-told2 .given .1)
-
-counted :
-    (c : tie.After-group-size) → let s = c .before .before .before .before .before .before .before .before in
-    c .group-size .result ≡ size (s .args .group) (lent s)
-counted c =
-    let s = c .before .before .before .before .before .before .before .before in
-    size-read (s .fits .group) (s .args .count) (s .args .table .now) (c .group-size .ensures)
-
-roomy :
-    (c : tie.Else2) → let s = c .before .before .before .before .before .before .before .before .before in
-    size (s .args .group) (lent s) < s .args .limit
-roomy c = omega (arith, counted (c .before))
-
-numbers-fit-requires : tie.Need-numbers-fit-requires
-numbers-fit-requires c κs = search needs
-
-returns : tie.Need-returns
-unfolding changeOf wordsAfter
-returns c =
-    let s = c .before .before in
-    let e = added-below (s .args .limit) (s .args .group) (s .args .member) (lent s) (numbers (c .before) (not-true _ (c .if1 .taken))) in
-    (sym (ap changeOf e), sym (ap (wordsAfter (s .args .table .now)) e))
-
-place-of-requires : tie.Need-place-of-requires
-place-of-requires c κs = search needs
+searched-requires : tie.Need-searched-requires
+searched-requires c κs = search needs
 
 enum-told : tie.Need-enum-told
 enum-told c = search needs
 
-same-length : tie.Need-same-length
-same-length c = search needs
-
-returns-2 : tie.Need-returns-2
-unfolding changeOf wordsAfter
-returns-2 c =
-    let p = c .before .before in
-    let d = p .before .before in
-    let s = d .before .before in
-    let e =
-    added-present (s .args .limit) (s .args .group) (s .args .member) (lent s) (right-numbers d)
-    (present (s .fits .group) (s .fits .member) (s .args .count) (s .args .table .now) (p .place-of .ensures) (c .enum-told .given .1))
-    in
-    (sym (ap changeOf e), sym (ap (wordsAfter (s .args .table .now)) e))
-
 enum-told-2 : tie.Need-enum-told-2
 enum-told-2 c = search needs
 
-group-size-requires : tie.Need-group-size-requires
-group-size-requires c κs = search needs
+enum-told-3 : tie.Need-enum-told-3
+enum-told-3 c = search needs
+
+add-absent-requires : tie.Need-add-absent-requires
+add-absent-requires c κs = search needs
+
+same-length : tie.Need-same-length
+same-length c = search needs
+
+returns : tie.Need-returns
+unfolding changeOf wordsAfter
+returns c =
+    let k = c .before .before in
+    let s = startOf k in
+    let e = added-below (s .args .limit) (s .args .group) (s .args .member) (lent s) (known k _ (c .enum-told .given .1)) in
+    (sym (ap changeOf e), sym (ap (wordsAfter (s .args .table .now)) e))
 
 same-length-2 : tie.Need-same-length-2
 same-length-2 c = search needs
 
-returns-3 : tie.Need-returns-3
+returns-2 : tie.Need-returns-2
 unfolding changeOf wordsAfter
-returns-3 c =
-    let n = c .before .before .before in
-    let d = n .before .before .before .before in
-    let s = d .before .before in
-    let h : s .args .limit ≤ size (s .args .group) (lent s) = omega (arith, counted (c .before)) in
-    let e = added-crowded (s .args .limit) (s .args .group) (s .args .member) (lent s) (right-numbers d) (missing n) h in
+returns-2 c =
+    let k = c .before .before in
+    let s = startOf k in
+    let h = known k _ (c .enum-told2 .given .1) in
+    let e = added-present (s .args .limit) (s .args .group) (s .args .member) (lent s) (h .0) (h .1) in
     (sym (ap changeOf e), sym (ap (wordsAfter (s .args .table .now)) e))
 
 same-length-3 : tie.Need-same-length-3
 same-length-3 c = search needs
 
-returns-4 : tie.Need-returns-4
-unfolding changeOf wordsAfter
-returns-4 c =
-    let n = c .before .before .before .before in
-    let d = n .before .before .before .before in
-    let s = d .before .before in
-    let e = added-full (s .args .limit) (s .args .group) (s .args .member) (lent s) (right-numbers d) (missing n) (roomy (c .before)) (c .if3 .taken) in
-    (sym (ap changeOf e), sym (ap (wordsAfter (s .args .table .now)) e))
-
-append-requires : tie.Need-append-requires
-append-requires c κs = search needs
-
-add-t12 : tie.Need-add-t12
-add-t12 c = search needs
-
-same-length-4 : tie.Need-same-length-4
-same-length-4 c = search needs
-
-returns-5 : tie.Need-returns-5
-unfolding changeOf wordsAfter add
-returns-5 c =
+returns-3 : tie.Need-returns-3
+returns-3 c =
     let a = c .before in
-    let k = a .before .before in
-    let n = k .before .before .before .before in
-    let d = n .before .before .before .before in
-    let s = d .before .before in
-    let e = added-new (s .args .limit) (s .args .group) (s .args .member) (lent s) (right-numbers d) (missing n) (roomy (k .before)) (k .if3 .left) in
-    (rw add-one (sym (ap changeOf e)), (rw (toZ-ofZ (s .fits .group), toZ-ofZ (s .fits .member)) at (a .append .ensures)) ∙ sym (ap (wordsAfter (s .args .table .now)) e))
+    let t = a .before .before in
+    let k = t .before .before in
+    let s = startOf k in
+    let h = known k _ (t .enum-told3 .given .1) in
+    let e = added-absent (s .args .limit) (s .args .group) (s .args .member) (lent s) (h .0) (h .1) in
+    let r = rw (toZ-ofZ (s .fits .group), toZ-ofZ (s .fits .member)) at (a .add-absent .ensures) in
+    (r .0 ∙ sym (ap changeOf e), r .1 ∙ sym (ap (wordsAfter (s .args .table .now)) e))
 
 pub add-pair-spec : {M : Type 1} → statement M
 add-pair-spec =
     tie.close
     (tie.spec
-    numbers-fit-requires
-    returns
-    place-of-requires
+    searched-requires
     enum-told
-    same-length
-    returns-2
     enum-told-2
-    group-size-requires
+    enum-told-3
+    add-absent-requires
+    same-length
+    returns
     same-length-2
-    returns-3
+    returns-2
     same-length-3
-    returns-4
-    append-requires
-    add-t12
-    same-length-4
-    returns-5)
+    returns-3)

@@ -11,6 +11,9 @@ use Rattle.language.specs.Table.{add}
 use Rattle.pairs.proofs.append.Statement.{statement}
 use Rattle.pairs.proofs.append.Tie as tie
 
+abbrev firstOf : tie.After-table2 → tie.After-write-word
+firstOf c = c .before .before .before .before
+
 mul-write-word : tie.Need-mul-write-word
 mul-write-word c = search needs
 
@@ -32,8 +35,9 @@ same-length c = search needs
 returns : tie.Need-returns
 unfolding add
 returns c =
-    let s = c .before .before .before .before .before .before .before in
-    rw (c .before .before .before .before .write-word .ensures, toZ-ofZ (s .fits .group), toZ-ofZ (s .fits .member), add-one) at (c .before .write-word2 .ensures)
+    let w = firstOf c in
+    let s = w .before .before .before in
+    rw (w .write-word .ensures, toZ-ofZ (s .fits .group), toZ-ofZ (s .fits .member), add-one) at (c .before .write-word2 .ensures)
 
 returns-2 : tie.Need-returns-2
 unfolding add

@@ -23,6 +23,12 @@ Inv-loop table count group n found₀ i₀ found i = (i ≤ n) × (found ≡ mem
 abbrev μ-loop : tie.MeasureT-loop
 μ-loop table count group n found₀ i₀ found i = n - i
 
+abbrev startOf : tie.At-loop Inv-loop μ-loop → tie.Start Inv-loop μ-loop
+startOf c = c .before .before
+
+abbrev loopOf : tie.After-same-number Inv-loop μ-loop → tie.At-loop Inv-loop μ-loop
+loopOf c = c .before .before .before
+
 pairs-in-requires : tie.Need-pairs-in-requires Inv-loop μ-loop
 pairs-in-requires c κs = tt
 
@@ -37,8 +43,9 @@ same-number-requires c κs = tt
 
 add-found : tie.Need-add-found Inv-loop μ-loop
 add-found c =
-    let l = c .before .before .before .before .loop in
-    let s = c .before .before .before .before .before .before in
+    let k = loopOf (c .before) in
+    let l = k .loop in
+    let s = startOf k in
     omega (arith, members-within (toZ w32 (ofZ w32 (s .args .group))) (l .i) (s .args .table .now))
 
 add-i : tie.Need-add-i Inv-loop μ-loop
@@ -47,16 +54,19 @@ add-i c = omega arith
 loop-less : tie.Need-loop-less Inv-loop μ-loop
 loop-less c = omega arith
 
-tested : (c : tie.After-same-number Inv-loop μ-loop) → c .same-number .result ≡ eqZ (groupAt (c .before .before .before .loop .i) (c .before .before .before .before .before .args .table .now)) (toZ w32 (ofZ w32 (c .before .before .before .before .before .args .group)))
+tested :
+    (c : tie.After-same-number Inv-loop μ-loop) → let l = loopOf c in let s = startOf l in
+    c .same-number .result ≡ eqZ (groupAt (l .loop .i) (s .args .table .now)) (toZ w32 (ofZ w32 (s .args .group)))
 tested c =
-    let g = toZ w32 (ofZ w32 (c .before .before .before .before .before .args .group)) in
+    let g = toZ w32 (ofZ w32 (startOf (loopOf c) .args .group)) in
     c .same-number .ensures ∙ ap (λ (k : ℤ). eqZ k g) (back _ (c .before .group-at .ok) ∙ c .before .group-at .ensures)
 
 loop-again : tie.Need-loop-again Inv-loop μ-loop
 loop-again c =
-    let l = c .before .before .before .before .loop in
+    let k = loopOf (c .before) in
+    let l = k .loop in
     let t = tested (c .before) in
-    let r = room (l .i) (c .before .before .before .before .before .before .args .table .now) (omega arith) in (
+    let r = room (l .i) (startOf k .args .table .now) (omega arith) in (
       omega arith,
       rw add-one (⊎-elim
           (λ w. w .1 ∙ add-one (l .found) ∙ ap suc (l .inv .1) ∙ sym (members-hit _ r (sym t ∙ w .0 .taken)))
@@ -66,7 +76,7 @@ loop-again c =
 
 returns : tie.Need-returns Inv-loop μ-loop
 returns c =
-    let s = c .before .before .before in
+    let s = startOf (c .before) in
     let l = c .before .loop in
     let e : l .i ≡ min (s .args .count) (length (s .args .table .now) / 2) = omega arith in
     l .inv .1 ∙ rw (e, toZ-ofZ (s .fits .group)) (members-clamped (s .args .group) (s .args .count) (s .args .table .now))

@@ -23,6 +23,12 @@ Inv-loop table count group member n i₀ i = (i ≤ n) × (find (toZ w32 group) 
 abbrev μ-loop : tie.MeasureT-loop
 μ-loop table count group member n i₀ i = n - i
 
+abbrev startOf : tie.At-loop Inv-loop μ-loop → tie.Start Inv-loop μ-loop
+startOf c = c .before .before
+
+abbrev loopOf : tie.After-pair-is Inv-loop μ-loop → tie.At-loop Inv-loop μ-loop
+loopOf c = c .before .before
+
 pairs-in-requires : tie.Need-pairs-in-requires Inv-loop μ-loop
 pairs-in-requires c κs = tt
 
@@ -38,9 +44,10 @@ answer {g} {m} fg fm count ws i h e q = ap placed (sym q ∙ rw (h, e, toZ-ofZ f
 returns : tie.Need-returns Inv-loop μ-loop
 unfolding placed
 returns c =
-    let s = c .before .before .before .before .before in
-    let l = c .before .before .before .loop in
-    let n = c .before .before .before .before .pairs-in in
+    let k = loopOf (c .before) in
+    let s = startOf k in
+    let l = k .loop in
+    let n = k .before .pairs-in in
     answer (s .fits .group) (s .fits .member) (s .args .count) (s .args .table .now) (n .result) refl (n .ensures)
     (find-hit _ _ (n .result) (room (l .i) _ (omega arith)) (l .inv .1) (sym (c .before .pair-is .ensures) ∙ c .if1 .taken) (omega arith))
 
@@ -51,12 +58,12 @@ loop-less : tie.Need-loop-less Inv-loop μ-loop
 loop-less c = omega arith
 
 loop-again : tie.Need-loop-again Inv-loop μ-loop
-loop-again c = (omega arith, rw add-one (find-fresh _ _ (room _ _ (omega arith)) (c .before .before .before .loop .inv .1) (sym (c .before .pair-is .ensures) ∙ c .if1 .left)))
+loop-again c = (omega arith, rw add-one (find-fresh _ _ (room _ _ (omega arith)) (loopOf (c .before) .loop .inv .1) (sym (c .before .pair-is .ensures) ∙ c .if1 .left)))
 
 returns-2 : tie.Need-returns-2 Inv-loop μ-loop
 unfolding placed
 returns-2 c =
-    let s = c .before .before .before in
+    let s = startOf (c .before) in
     let l = c .before .loop in
     answer (s .fits .group) (s .fits .member) (s .args .count) (s .args .table .now) (l .i) (omega arith) (c .before .before .pairs-in .ensures) (l .inv .1)
 

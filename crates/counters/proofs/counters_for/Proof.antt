@@ -1,8 +1,8 @@
 -- `counters_for` meets its contract.
 use mathlib.Core.Path.{sym}
-use Rattle.counting.proofs.Counting.{counters-0, counters-1, counters-2}
-use Rattle.counting.proofs.counters_for.Statement.{statement}
-use Rattle.counting.proofs.counters_for.Tie as tie
+use Rattle.counters.proofs.Packed.{counters-0, counters-1, counters-2}
+use Rattle.counters.proofs.counters_for.Statement.{statement}
+use Rattle.counters.proofs.counters_for.Tie as tie
 
 returns : tie.Need-returns
 returns c = sym (counters-0 (c .before .args .share) (c .if1 .taken))

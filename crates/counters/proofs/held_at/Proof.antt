@@ -1,11 +1,11 @@
 -- `held_at` meets its contract.
 use mathlib.Core.Path.{refl}
 use native.Mathlib.Omega.{arith}
-use Rattle.counting.specs.Counters.{heldAt}
-use Rattle.counting.proofs.Counting.{counters-0, counters-1, counters-2, held-2}
+use Rattle.counters.specs.Counters.{heldAt}
+use Rattle.counters.proofs.Packed.{counters-0, counters-1, counters-2, held-2}
 use borrow.Author.Needs.{needs}
-use Rattle.counting.proofs.held_at.Statement.{statement}
-use Rattle.counting.proofs.held_at.Tie as tie
+use Rattle.counters.proofs.held_at.Statement.{statement}
+use Rattle.counters.proofs.held_at.Tie as tie
 
 mul-result : tie.Need-mul-result
 mul-result c = let s = c .before in omega (arith, counters-0 (s .args .share) (c .if1 .taken), s .pre .1)

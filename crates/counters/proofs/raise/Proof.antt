@@ -1,10 +1,10 @@
 -- `raise` meets its contract.
 use Prim.Native.Nat.{_/_}
 use native.Mathlib.Omega.{arith}
-use Rattle.counting.proofs.Counting.{counters-0, counters-1, counters-2, room-0, room-1, room-2, raised-0, raised-1, raised-2}
+use Rattle.counters.proofs.Packed.{counters-0, counters-1, counters-2, room-0, room-1, room-2, raised-0, raised-1, raised-2}
 use borrow.Author.Needs.{needs}
-use Rattle.counting.proofs.raise.Statement.{statement}
-use Rattle.counting.proofs.raise.Tie as tie
+use Rattle.counters.proofs.raise.Statement.{statement}
+use Rattle.counters.proofs.raise.Tie as tie
 
 mul-counters : tie.Need-mul-counters
 mul-counters c = let s = c .before in omega (arith, counters-0 (s .args .share) (c .if1 .taken), s .pre .1 .0)

@@ -1,8 +1,8 @@
 -- `share_of` meets its contract.
 use native.Mathlib.Omega.{arith}
-use Rattle.counting.proofs.Counting.{room-of}
-use Rattle.counting.proofs.share_of.Statement.{statement}
-use Rattle.counting.proofs.share_of.Tie as tie
+use Rattle.counters.proofs.Packed.{room-of}
+use Rattle.counters.proofs.share_of.Statement.{statement}
+use Rattle.counters.proofs.share_of.Tie as tie
 
 returns : tie.Need-returns
 returns c = room-of 2 (c .before .args .limit) (λ e. c .if1 .taken) (λ e. absurd (omega arith)) (omega arith)
