@@ -5,8 +5,8 @@ use native.Mathlib.Omega.{arith}
 use native.Mathlib.Nat.{mul-le-mul-left}
 use mathlib.Core.Bool.{Bool, true, false, _&&_}
 use mathlib.Core.List.{List}
-use mathlib.Core.Option.{Option, none, some}
-use mathlib.Core.Path.{_≡_, refl, sym, ap, _∙_, subst}
+use mathlib.Core.Option.{Option}
+use mathlib.Core.Path.{_≡_, refl, sym, ap, _∙_}
 use mir.Syntax.{w32, w64}
 use mir.Val.{Fits}
 use lib.Dec.{leb, eqb}
@@ -22,7 +22,7 @@ use Rattle.language.specs.declared.Verdict.{Verdict}
 use Rattle.language.specs.declared.Verdict.the-variants.{Fit, Refused}
 use Rattle.laws.specs.Tests.{split, both, by-lookup}
 use Rattle.laws.specs.Order.{fails-here, holds-here, all-hold, AllHold, FailsFirst, due-exactly, none-exactly}
-use Rattle.runs.specs.Admission.{Due, before-check, by-check, after-check, Admitted, due-refused, admitted-accepted}
+use Rattle.runs.specs.Admission.{before-check, by-check, after-check, due-refused, admitted-accepted}
 use Rattle.checking.specs.Verdicts.{verdictOf}
 use Rattle.admission.specs.Lent.{dueOf, checkedThen}
 
