@@ -69,7 +69,7 @@ do-goto-formal-requires : tie.Need-do-goto-formal-requires
 do-goto-formal-requires c κs =
     let k = c .before in
     let s = k .before .before .before .before in
-    (omega arith, record { reachable = s .pre .1; is = sym (ap direct (k .code-at .ensures .0)) ∙ is-formal (k .code-at .result) (c .if2 .left) })
+    (omega arith, record { reachable = s .pre .1 .0; is = sym (ap direct (k .code-at .ensures .0)) ∙ is-formal (k .code-at .result) (c .if2 .left) })
 
 returns-3 : tie.Need-returns-3
 returns-3 c = c .do-goto-formal .ensures ∙ goes (c .before .before .before)
