@@ -72,6 +72,7 @@ pub fn do_constant_formal(
 
 // AR
 fn computed(effect: Effect, at: usize) -> Move
+    requires { ⌜ at + 5 ≤ 4096 ⌝ }
     ensures { λ r. ⌜ r ≡ moveAfter effect (at + 5) ⌝ }
 {
     match effect {
@@ -81,7 +82,10 @@ fn computed(effect: Effect, at: usize) -> Move
 }
 
 pub fn do_add(code: &[u32; 4096], words: &mut [i32; 8224], display: &[u16; 256], at: usize) -> Move
-    requires { ⌜ (at + 5 ≤ 4096) × Direct (now words) (now display) (getD (now code) (at + 1) 0) × Direct (now words) (now display) (getD (now code) (at + 3) 0) × Direct (now words) (now display) (getD (now code) (at + 4) 0) ⌝ }
+    requires { ⌜ at + 5 ≤ 4096 ⌝ }
+    requires { ⌜ Direct (now words) (now display) (getD (now code) (at + 1) 0) ⌝ }
+    requires { ⌜ Direct (now words) (now display) (getD (now code) (at + 3) 0) ⌝ }
+    requires { ⌜ Direct (now words) (now display) (getD (now code) (at + 4) 0) ⌝ }
     ensures { λ r. ⌜ r ≡ (doArithmetic (byDisplay (now (words .entry)) (now (display .entry))) (only-words (now (code .entry)) (now (words .entry)) at) plus) .move ⌝ }
     ensures { λ _. ⌜ now (words .exit) ≡ (doArithmetic (byDisplay (now (words .entry)) (now (display .entry))) (only-words (now (code .entry)) (now (words .entry)) at) plus) .words ⌝ }
 {
@@ -97,7 +101,10 @@ pub fn do_subtract(
     display: &[u16; 256],
     at: usize,
 ) -> Move
-    requires { ⌜ (at + 5 ≤ 4096) × Direct (now words) (now display) (getD (now code) (at + 1) 0) × Direct (now words) (now display) (getD (now code) (at + 3) 0) × Direct (now words) (now display) (getD (now code) (at + 4) 0) ⌝ }
+    requires { ⌜ at + 5 ≤ 4096 ⌝ }
+    requires { ⌜ Direct (now words) (now display) (getD (now code) (at + 1) 0) ⌝ }
+    requires { ⌜ Direct (now words) (now display) (getD (now code) (at + 3) 0) ⌝ }
+    requires { ⌜ Direct (now words) (now display) (getD (now code) (at + 4) 0) ⌝ }
     ensures { λ r. ⌜ r ≡ (doArithmetic (byDisplay (now (words .entry)) (now (display .entry))) (only-words (now (code .entry)) (now (words .entry)) at) minus) .move ⌝ }
     ensures { λ _. ⌜ now (words .exit) ≡ (doArithmetic (byDisplay (now (words .entry)) (now (display .entry))) (only-words (now (code .entry)) (now (words .entry)) at) minus) .words ⌝ }
 {
@@ -113,7 +120,10 @@ pub fn do_compare(
     display: &[u16; 256],
     at: usize,
 ) -> Move
-    requires { ⌜ (at + 5 ≤ 4096) × Direct (now words) (now display) (getD (now code) (at + 1) 0) × Direct (now words) (now display) (getD (now code) (at + 3) 0) × Direct (now words) (now display) (getD (now code) (at + 4) 0) ⌝ }
+    requires { ⌜ at + 5 ≤ 4096 ⌝ }
+    requires { ⌜ Direct (now words) (now display) (getD (now code) (at + 1) 0) ⌝ }
+    requires { ⌜ Direct (now words) (now display) (getD (now code) (at + 3) 0) ⌝ }
+    requires { ⌜ Direct (now words) (now display) (getD (now code) (at + 4) 0) ⌝ }
     ensures { λ r. ⌜ r ≡ (doArithmetic (byDisplay (now (words .entry)) (now (display .entry))) (only-words (now (code .entry)) (now (words .entry)) at) less) .move ⌝ }
     ensures { λ _. ⌜ now (words .exit) ≡ (doArithmetic (byDisplay (now (words .entry)) (now (display .entry))) (only-words (now (code .entry)) (now (words .entry)) at) less) .words ⌝ }
 {
@@ -130,7 +140,10 @@ pub fn do_arithmetic_formal(
     display: &[u16; 256],
     at: usize,
 ) -> Move
-    requires { ⌜ (at + 5 ≤ 4096) × Reachable (now words) (now display) (getD (now code) (at + 1) 0) × Reachable (now words) (now display) (getD (now code) (at + 3) 0) × Reachable (now words) (now display) (getD (now code) (at + 4) 0) ⌝ }
+    requires { ⌜ at + 5 ≤ 4096 ⌝ }
+    requires { ⌜ Reachable (now words) (now display) (getD (now code) (at + 1) 0) ⌝ }
+    requires { ⌜ Reachable (now words) (now display) (getD (now code) (at + 3) 0) ⌝ }
+    requires { ⌜ Reachable (now words) (now display) (getD (now code) (at + 4) 0) ⌝ }
     ensures { λ r. ⌜ r ≡ (doArithmetic (byDisplay (now (words .entry)) (now (display .entry))) (only-words (now (code .entry)) (now (words .entry)) at) (operationOf (getD (now (code .entry)) (at + 2) 0))) .move ⌝ }
     ensures { λ _. ⌜ now (words .exit) ≡ (doArithmetic (byDisplay (now (words .entry)) (now (display .entry))) (only-words (now (code .entry)) (now (words .entry)) at) (operationOf (getD (now (code .entry)) (at + 2) 0))) .words ⌝ }
 {
@@ -172,7 +185,9 @@ pub fn do_goto_formal(
 
 // IF
 pub fn do_branch(code: &[u32; 4096], words: &[i32; 8224], display: &[u16; 256], at: usize) -> Move
-    requires { ⌜ (at + 3 ≤ 4096) × Direct (now words) (now display) (getD (now code) (at + 1) 0) × Direct (now words) (now display) (getD (now code) (at + 2) 0) ⌝ }
+    requires { ⌜ at + 3 ≤ 4096 ⌝ }
+    requires { ⌜ Direct (now words) (now display) (getD (now code) (at + 1) 0) ⌝ }
+    requires { ⌜ Direct (now words) (now display) (getD (now code) (at + 2) 0) ⌝ }
     ensures { λ r. ⌜ r ≡ (doBranch (byDisplay (now (words .entry)) (now (display .entry))) (only-words (now (code .entry)) (now (words .entry)) at)) .move ⌝ }
 {
     if words[own_at(code, display, at + 2)] == 0 {
@@ -187,7 +202,9 @@ pub fn do_branch_formal(
     display: &[u16; 256],
     at: usize,
 ) -> Move
-    requires { ⌜ (at + 3 ≤ 4096) × Reachable (now words) (now display) (getD (now code) (at + 1) 0) × Reachable (now words) (now display) (getD (now code) (at + 2) 0) ⌝ }
+    requires { ⌜ at + 3 ≤ 4096 ⌝ }
+    requires { ⌜ Reachable (now words) (now display) (getD (now code) (at + 1) 0) ⌝ }
+    requires { ⌜ Reachable (now words) (now display) (getD (now code) (at + 2) 0) ⌝ }
     ensures { λ r. ⌜ r ≡ (doBranch (byDisplay (now (words .entry)) (now (display .entry))) (only-words (now (code .entry)) (now (words .entry)) at)) .move ⌝ }
 {
     if words[cell_at(code, words, display, at + 2)] == 0 {
@@ -242,9 +259,12 @@ fn enter_body(
     home: usize,
     body: usize,
 ) -> Move
-    requires { ⌜ (limit ≤ 256) × (at + 3 ≤ 4096) × ArgumentsReachable (now code) (now display) live (at + 3) (getD (now code) (at + 2) 0) ⌝ }
-    ensures { λ r. ⌜ r ≡ (enteredBy (now (code .entry)) (now (words .entry)) (now (display .entry)) limit live at home body) .move ⌝ }
-    ensures { λ _. ⌜ now (words .exit) ≡ (enteredBy (now (code .entry)) (now (words .entry)) (now (display .entry)) limit live at home body) .words ⌝ }
+    requires { ⌜ limit ≤ 256 ⌝ }
+    requires { ⌜ live ≤ 255 ⌝ }
+    requires { ⌜ at + 3 ≤ 4096 ⌝ }
+    requires { ⌜ ArgumentsReachable (now code) (now display) live (at + 3) (getD (now code) (at + 2) 0) ⌝ }
+    ensures { λ r. ⌜ r ≡ (enteredBy (byDisplay (now (words .entry)) (now (display .entry))) (without-table (now (code .entry)) (now (words .entry)) limit live at) home body) .move ⌝ }
+    ensures { λ _. ⌜ now (words .exit) ≡ (enteredBy (byDisplay (now (words .entry)) (now (display .entry))) (without-table (now (code .entry)) (now (words .entry)) limit live at) home body) .words ⌝ }
 {
     if limit <= live + 1 {
         return Move::Stop(Stop::NoActivationLeft);
@@ -262,7 +282,11 @@ pub fn do_call(
     live: usize,
     at: usize,
 ) -> Move
-    requires { ⌜ (limit ≤ 256) × (at + 3 ≤ 4096) × ArgumentsReachable (now code) (now display) live (at + 3) (getD (now code) (at + 2) 0) × Direct (now words) (now display) (getD (now code) (at + 1) 0) ⌝ }
+    requires { ⌜ limit ≤ 256 ⌝ }
+    requires { ⌜ live ≤ 255 ⌝ }
+    requires { ⌜ at + 3 ≤ 4096 ⌝ }
+    requires { ⌜ ArgumentsReachable (now code) (now display) live (at + 3) (getD (now code) (at + 2) 0) ⌝ }
+    requires { ⌜ Direct (now words) (now display) (getD (now code) (at + 1) 0) ⌝ }
     ensures { λ r. ⌜ r ≡ (doCall (byDisplay (now (words .entry)) (now (display .entry))) (without-table (now (code .entry)) (now (words .entry)) limit live at)) .move ⌝ }
     ensures { λ _. ⌜ now (words .exit) ≡ (doCall (byDisplay (now (words .entry)) (now (display .entry))) (without-table (now (code .entry)) (now (words .entry)) limit live at)) .words ⌝ }
 {
@@ -289,7 +313,12 @@ pub fn do_call_formal(
     live: usize,
     at: usize,
 ) -> Move
-    requires { ⌜ (limit ≤ 256) × (at + 3 ≤ 4096) × ArgumentsReachable (now code) (now display) live (at + 3) (getD (now code) (at + 2) 0) × ThroughFormal (now words) (now display) (getD (now code) (at + 1) 0) × FormalsBefore (now code) (heldBy (now words) (firstCell (now display) (getD (now code) (at + 1) 0)) (getD (now code) (at + 1) 0) / 8192) ⌝ }
+    requires { ⌜ limit ≤ 256 ⌝ }
+    requires { ⌜ live ≤ 255 ⌝ }
+    requires { ⌜ at + 3 ≤ 4096 ⌝ }
+    requires { ⌜ ArgumentsReachable (now code) (now display) live (at + 3) (getD (now code) (at + 2) 0) ⌝ }
+    requires { ⌜ ThroughFormal (now words) (now display) (getD (now code) (at + 1) 0) ⌝ }
+    requires { ⌜ FormalsBefore (now code) (heldBy (now words) (firstCell (now display) (getD (now code) (at + 1) 0)) (getD (now code) (at + 1) 0) / 8192) ⌝ }
     ensures { λ r. ⌜ r ≡ (doCallFormal (byDisplay (now (words .entry)) (now (display .entry))) (without-table (now (code .entry)) (now (words .entry)) limit live at)) .move ⌝ }
     ensures { λ _. ⌜ now (words .exit) ≡ (doCallFormal (byDisplay (now (words .entry)) (now (display .entry))) (without-table (now (code .entry)) (now (words .entry)) limit live at)) .words ⌝ }
 {
@@ -316,6 +345,7 @@ pub fn do_call_formal(
 
 // AD and RM
 fn changed(change: Change, at: usize) -> Move
+    requires { ⌜ at + 3 ≤ 4096 ⌝ }
     ensures { λ r. ⌜ r ≡ moveChanged change (at + 3) ⌝ }
 {
     match change {
@@ -330,19 +360,18 @@ pub fn do_add_pair(
     display: &[u16; 256],
     table: &mut [i32],
     pairs: usize,
-    group_limit: u32,
+    limit: u32,
     at: usize,
 ) -> Move
-    requires { ⌜ (at + 3 ≤ 4096) × Reachable (now words) (now display) (getD (now code) (at + 1) 0) × Reachable (now words) (now display) (getD (now code) (at + 2) 0) ⌝ }
-    ensures { λ r. ⌜ r ≡ (doAdd (byDisplay (now (words .entry)) (now (display .entry))) (with-table (now (code .entry)) (now (words .entry)) (now (table .entry)) pairs group_limit at)) .move ⌝ }
-    ensures { λ _. ⌜ now (table .exit) ≡ (doAdd (byDisplay (now (words .entry)) (now (display .entry))) (with-table (now (code .entry)) (now (words .entry)) (now (table .entry)) pairs group_limit at)) .table ⌝ }
+    requires { ⌜ at + 3 ≤ 4096 ⌝ }
+    requires { ⌜ Reachable (now words) (now display) (getD (now code) (at + 1) 0) ⌝ }
+    requires { ⌜ Reachable (now words) (now display) (getD (now code) (at + 2) 0) ⌝ }
+    ensures { λ r. ⌜ r ≡ (doAdd (byDisplay (now (words .entry)) (now (display .entry))) (with-table (now (code .entry)) (now (words .entry)) (now (table .entry)) pairs limit at)) .move ⌝ }
+    ensures { λ _. ⌜ now (table .exit) ≡ (doAdd (byDisplay (now (words .entry)) (now (display .entry))) (with-table (now (code .entry)) (now (words .entry)) (now (table .entry)) pairs limit at)) .table ⌝ }
 {
     let group = words[cell_at(code, words, display, at + 1)];
     let member = words[cell_at(code, words, display, at + 2)];
-    changed(
-        pairs::add_pair(table, pairs, group_limit, group, member),
-        at,
-    )
+    changed(pairs::add_pair(table, pairs, limit, group, member), at)
 }
 
 pub fn do_remove_pair(
@@ -353,7 +382,9 @@ pub fn do_remove_pair(
     pairs: usize,
     at: usize,
 ) -> Move
-    requires { ⌜ (at + 3 ≤ 4096) × Reachable (now words) (now display) (getD (now code) (at + 1) 0) × Reachable (now words) (now display) (getD (now code) (at + 2) 0) ⌝ }
+    requires { ⌜ at + 3 ≤ 4096 ⌝ }
+    requires { ⌜ Reachable (now words) (now display) (getD (now code) (at + 1) 0) ⌝ }
+    requires { ⌜ Reachable (now words) (now display) (getD (now code) (at + 2) 0) ⌝ }
     ensures { λ r. ⌜ r ≡ (doRemove (byDisplay (now (words .entry)) (now (display .entry))) (with-table (now (code .entry)) (now (words .entry)) (now (table .entry)) pairs 0 at)) .move ⌝ }
     ensures { λ _. ⌜ now (table .exit) ≡ (doRemove (byDisplay (now (words .entry)) (now (display .entry))) (with-table (now (code .entry)) (now (words .entry)) (now (table .entry)) pairs 0 at)) .table ⌝ }
 {
@@ -371,7 +402,10 @@ pub fn do_query(
     pairs: usize,
     at: usize,
 ) -> Move
-    requires { ⌜ (at + 4 ≤ 4096) × Reachable (now words) (now display) (getD (now code) (at + 1) 0) × Reachable (now words) (now display) (getD (now code) (at + 2) 0) × Reachable (now words) (now display) (getD (now code) (at + 3) 0) ⌝ }
+    requires { ⌜ at + 4 ≤ 4096 ⌝ }
+    requires { ⌜ Reachable (now words) (now display) (getD (now code) (at + 1) 0) ⌝ }
+    requires { ⌜ Reachable (now words) (now display) (getD (now code) (at + 2) 0) ⌝ }
+    requires { ⌜ Reachable (now words) (now display) (getD (now code) (at + 3) 0) ⌝ }
     ensures { λ r. ⌜ r ≡ (doQuery (byDisplay (now (words .entry)) (now (display .entry))) (with-table (now (code .entry)) (now (words .entry)) (now (table .entry)) pairs 0 at)) .move ⌝ }
     ensures { λ _. ⌜ now (words .exit) ≡ (doQuery (byDisplay (now (words .entry)) (now (display .entry))) (with-table (now (code .entry)) (now (words .entry)) (now (table .entry)) pairs 0 at)) .words ⌝ }
 {
