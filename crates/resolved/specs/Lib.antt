@@ -1,2 +1,8 @@
--- The resolved script, in reading order.
+-- The resolved script, in reading order: the definition, then laws of it. A proof about an engine cites Places, Standing, Words and NameWords.
 pub mod Resolved
+pub mod Lengths
+pub mod Places
+pub mod Standing
+pub mod NameWords
+pub mod Words
+pub mod Examples
