@@ -26,7 +26,7 @@ unfolding declsFields itemsFields itemFields decls
 decl-items no-decl = refl
 decl-items (decl d ds) = rw (decl-items ds)
 
-stmt-items : (ss : Stmts) → stmtsFields ss ≡ itemsFields (map stated (stmts ss))
+pub stmt-items : (ss : Stmts) → stmtsFields ss ≡ itemsFields (map stated (stmts ss))
 unfolding stmtsFields itemsFields itemFields stmts
 stmt-items no-stmt = refl
 stmt-items (stmt s ss) = rw (stmt-items ss)
