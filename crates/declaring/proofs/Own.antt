@@ -149,6 +149,9 @@ module _ (bs : List ℕ) (at count d base level : ℕ) where
       stated-here : Stated (block o ds ss) d st₂
       stated-here = stated-there o ds ss level first stmts-formed d st₂ stmts-there
 
+      first-near : f ≤ 8192
+      first-near = omega (arith, f-is, reach)
+
       first-leads : f / 2 ≡ stmtPlace (block o ds ss) 1
       first-leads =
           ap (λ (x : ℕ). x / 2) f-is ∙ ap (λ (x : ℕ). (x + 6 + 2 * length (declsFields ds)) / 2) (sym o-is)
@@ -198,5 +201,5 @@ module _ (bs : List ℕ) (at count d base level : ℕ) where
       show (block o ds ss) fs encl h depth within shown =
           shown-here o ds ss fs h within s dr sr st₁ st₂ l₁ l₂ f e p₁ p₂ ks encl depth es₀ es₁ es₂ shown pd pf kept before
 
-      lead : (b : Block) (fs : List Formal) → BlockHere bs at count top b fs level → start + 2 * length (blockFields b) ≤ 8192 → f / 2 ≡ stmtPlace b 1
-      lead (block o ds ss) fs h within = first-leads o ds ss fs h within s dr sr st₁ st₂ l₁ l₂ f e p₁ p₂ ks
+      lead : (b : Block) (fs : List Formal) → BlockHere bs at count top b fs level → start + 2 * length (blockFields b) ≤ 8192 → (f ≤ 8192) × (f / 2 ≡ stmtPlace b 1)
+      lead (block o ds ss) fs h within = (first-near o ds ss fs h within s dr sr st₁ st₂ l₁ l₂ f e p₁ p₂ ks, first-leads o ds ss fs h within s dr sr st₁ st₂ l₁ l₂ f e p₁ p₂ ks)

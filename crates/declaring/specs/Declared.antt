@@ -57,4 +57,4 @@ pub record Declares (bs es es′ : List ℕ) (at count d base level first : ℕ)
       at + 6 * count + 2 * length (blockFields b) ≤ 8192 → Shown encl (drop (base + (count + d)) es) → Shown (enclosed fs b ∷ encl) (drop base es′)
   pub leads :
       (b : Block) (fs : List Formal) → BlockHere bs at count (base + (count + d)) b fs level → at + 6 * count + 2 * length (blockFields b) ≤ 8192 →
-      first / 2 ≡ stmtPlace b 1
+      (first ≤ 8192) × (first / 2 ≡ stmtPlace b 1)

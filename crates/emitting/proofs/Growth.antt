@@ -6,6 +6,7 @@ use Prim.Native.Nat.{ℕ, zero, suc, _+_, _*_, _-_, _/_, _%_, _<_, _≤_}
 use native.Mathlib.Omega.{arith}
 use lib.ListN.{length, replicate, set, length-append}
 use lib.Seq.{set-at}
+use Rattle.laws.specs.Lists.{set-append-add}
 use Rattle.emitting.specs.Growth.{Grown}
 use Rattle.emitting.specs.Emitted.{Short}
 
@@ -68,3 +69,30 @@ grown-more {at = at} {o = o} q g h = grown-then (q ∙ two) g h
   where
     two : at + 2 ≡ at + 2 * 1
     two = omega arith
+
+-- a word that was left 0 is written later
+set-inside :
+    (done f : List ℕ) (a z v : ℕ) (ws rest : List ℕ) (k : ℕ) → k ≡ length done + (length f + 1) →
+    set (done ++ ((f ++ (a ∷ z ∷ ws)) ++ rest)) k v ≡ done ++ ((f ++ (a ∷ v ∷ ws)) ++ rest)
+set-inside done f a z v ws rest k e =
+    ap (λ (i : ℕ). set (done ++ ((f ++ (a ∷ z ∷ ws)) ++ rest)) i v) e
+    ∙ set-append-add done ((f ++ (a ∷ z ∷ ws)) ++ rest) (length f + 1) v
+    ∙ ap (λ (l : List ℕ). done ++ l)
+    (ap (λ (l : List ℕ). set l (length f + 1) v) (append-assoc f (a ∷ z ∷ ws) rest) ∙ set-append-add f ((a ∷ z ∷ ws) ++ rest) 1 v
+    ∙ sym (append-assoc f (a ∷ v ∷ ws) rest))
+
+pub grown-patched :
+    {c d e : List ℕ} {at : ℕ} (f : List ℕ) (a v : ℕ) (ws : List ℕ) (o : ℕ) → o ≡ at + 2 * length f + 2 → Short v → e ≡ set d (o / 2) (v % 4294967296) →
+    Grown c d at (f ++ (a ∷ 0 ∷ ws)) → Grown c e at (f ++ (a ∷ v ∷ ws))
+grown-patched {c} {d} {e} {at} f a v ws o q short p g =
+    record {
+      grown = λ done n h s l.
+          let x = length-append f (a ∷ 0 ∷ ws) in
+          let y = length-append f (a ∷ v ∷ ws) in
+          let same : n - length (f ++ (a ∷ 0 ∷ ws)) ≡ n - length (f ++ (a ∷ v ∷ ws)) = omega arith in
+          let low : v % 4294967296 ≡ v = omega arith in
+          p ∙ ap (λ (w : List ℕ). set w (o / 2) (v % 4294967296)) (g .grown done n h s (omega arith))
+          ∙ set-inside done f a 0 (v % 4294967296) ws (replicate (n - length (f ++ (a ∷ 0 ∷ ws))) 0) (o / 2) (omega arith)
+          ∙ ap (λ (w : ℕ). done ++ ((f ++ (a ∷ w ∷ ws)) ++ replicate (n - length (f ++ (a ∷ 0 ∷ ws))) 0)) low
+          ∙ ap (λ (k : ℕ). done ++ ((f ++ (a ∷ v ∷ ws)) ++ replicate k 0)) same;
+    }

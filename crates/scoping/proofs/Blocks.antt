@@ -148,7 +148,7 @@ module _ (bs : List ℕ) (at count top : ℕ) where
     unfolding FormedBlock
     formed-in-place = h .formed .declarations
 
-    reaches : start + 6 + 2 * length (itemsFields (inBlock (block o ds ss))) ≡ start + 2 * length (blockFields (block o ds ss))
+    pub reaches : start + 6 + 2 * length (itemsFields (inBlock (block o ds ss))) ≡ start + 2 * length (blockFields (block o ds ss))
     unfolding blockHead
     reaches = omega (arith, ap length (block-opens (block o ds ss)))
 
@@ -171,7 +171,7 @@ module _ (bs : List ℕ) (at count top : ℕ) where
         )
 
     module _ (d s base : ℕ) (d-read : d ≡ wordAt bs (start + 2)) (s-read : s ≡ wordAt bs (start + 4)) (whole : base + (count + d) ≡ top) where
-      items-here : ItemsHere bs (start + 6) (d + s) base (inBlock (block o ds ss)) level (length (stmts ss))
+      pub items-here : ItemsHere bs (start + 6) (d + s) base (inBlock (block o ds ss)) level (length (stmts ss))
       items-here = record {
         number = omega (arith, counted, d-is, s-is);
         stand = body-stands;

@@ -58,13 +58,13 @@ onward-progress fine next = refl
 onward-progress (wrong c o) next = refl
 
 -- a statement other than BK has none of these marks
-record Plain (w : ℕ) : Type 0 where
-  no-PR : w ≡ PR-mark → ⊥
-  no-BK : w ≡ BK-mark → ⊥
-  no-VR : w ≡ VR-mark → ⊥
-  no-LB : w ≡ LB-mark → ⊥
+pub record Plain (w : ℕ) : Type 0 where
+  pub no-PR : w ≡ PR-mark → ⊥
+  pub no-BK : w ≡ BK-mark → ⊥
+  pub no-VR : w ≡ VR-mark → ⊥
+  pub no-LB : w ≡ LB-mark → ⊥
 
-plain : (bs : List ℕ) (at : ℕ) (a : Action) → Stands bs at (actionFields a) → Plain (wordAt bs at)
+pub plain : (bs : List ℕ) (at : ℕ) (a : Action) → Stands bs at (actionFields a) → Plain (wordAt bs at)
 unfolding actionFields
 plain bs at (CL p xs) h = let e = h .0 in omega arith
 plain bs at (GO l) h = let e = h .0 in omega arith
@@ -137,7 +137,7 @@ module _ (bs : List ℕ) (sc : Scope) (at top : ℕ) where
     item-BK (stated (DO o a)) level s h = absurd (plain bs at a (h .stand) .no-BK marked)
 
   -- where the next record begins, after one with nothing inside it
-  alone : (p : Step) → Passed bs at p → (x : Item) → children x ≡ [] → Stands bs at (itemFields x) → p .next ≡ at + 2 * length (itemFields x)
+  pub alone : (p : Step) → Passed bs at p → (x : Item) → children x ≡ [] → Stands bs at (itemFields x) → p .next ≡ at + 2 * length (itemFields x)
   unfolding itemsFields
   alone p q x none h =
       let e : itemFields x ≡ headFields x ++ [] = item-opens x ∙ ap (λ (l : List Item). headFields x ++ itemsFields l) none in

@@ -22,7 +22,7 @@ use Rattle.scoping.specs.Walking.{progressOf, settledOf, Judged, BlockHe
 use Rattle.language.specs.declared.Verdict.{Verdict}
 use Rattle.words.proofs.Standing.{stands-first}
 
-stands-from : (front bs : List ℕ) → Stands (front ++ bs) (length front) (fieldsOf bs)
+pub stands-from : (front bs : List ℕ) → Stands (front ++ bs) (length front) (fieldsOf bs)
 unfolding fieldsOf wordAt
 stands-from front [] = tt
 stands-from front (a ∷ []) = tt
