@@ -21,7 +21,7 @@ use Rattle.language.specs.declared.Verdict.the-variants.{Fit, Refused}
 use Rattle.vetting.specs.Progress.{structureOf}
 use Rattle.vetting.proofs.Half.{refuses, fit-is-read}
 use Rattle.scoping.specs.Walking.{Judged}
-use Rattle.scoping.specs.Entries as entries
+use Rattle.uses.specs.Meanings as entries
 use Rattle.checking.specs.Verdicts.{verdictOf}
 
 as-judged : (t : Block) (v : definitions.Verdict) → verdictOf (judged t v) ≡ entries.verdictOf v

@@ -24,6 +24,29 @@ pub enum Mark {
     QY,
 }
 
+// The letters of the marks that the walks ask for, as fields.
+pub const BK: usize = 0x4b42;
+
+pub const VR: usize = 0x5256;
+
+pub const LB: usize = 0x424c;
+
+pub const PR: usize = 0x5250;
+
+pub const FM: usize = 0x4d46;
+
+pub const CL: usize = 0x4c43;
+
+pub const GO: usize = 0x4f47;
+
+pub const IF: usize = 0x4649;
+
+pub const KN: usize = 0x4e4b;
+
+pub const AR: usize = 0x5241;
+
+pub const QY: usize = 0x5951;
+
 // Where a record may stand.
 pub enum Place {
     Block,

@@ -16,12 +16,12 @@ use Rattle.language.specs.Scope as definitions
 use Rattle.records.specs.declared.Progress.{Progress}
 use Rattle.records.specs.declared.Progress.the-variants.{At, Refused}
 use Rattle.grammar.specs.Rules.{FormedBlock, FormedDecls, FormedStmts}
-use Rattle.scoping.specs.Entries.{wordAt, scopeOf}
-use Rattle.scoping.specs.Standing.{Stands}
-use Rattle.scoping.specs.Items.{Item, formal, declared, stated, itemFields, itemsFields, inBlock, blockHead, entriesOf}
+use Rattle.words.specs.Words.{wordAt, Stands}
+use Rattle.uses.specs.Meanings.{scopeOf}
+use Rattle.extents.specs.Items.{Item, formal, declared, stated, itemFields, itemsFields, inBlock, blockHead, entriesOf}
 use Rattle.scoping.specs.Walking.{progressOf, judgeItem, judgeItems, FormedItem, FormedItems, Ahead, BlockHere, ItemsHere}
-use Rattle.scoping.proofs.Meanings.{word-inside}
-use Rattle.scoping.proofs.Inside.{stands-first, stands-second, third-is, items-append, block-opens, formal-items, decl-items}
+use Rattle.words.proofs.Standing.{word-inside, stands-first, stands-second, third-is}
+use Rattle.extents.proofs.Inside.{items-append, block-opens, formal-items, decl-items}
 use Rattle.scoping.proofs.Names.{formals-mean, decls-mean}
 
 pub word-within : (bs : List ℕ) (at : ℕ) → 0 < wordAt bs at → at < length bs
@@ -148,7 +148,7 @@ module _ (bs : List ℕ) (at count top : ℕ) where
     unfolding FormedBlock
     formed-in-place = h .formed .declarations
 
-    reaches : start + 6 + 2 * length (itemsFields (inBlock (block o ds ss))) ≡ start + 2 * length (blockFields (block o ds ss))
+    pub reaches : start + 6 + 2 * length (itemsFields (inBlock (block o ds ss))) ≡ start + 2 * length (blockFields (block o ds ss))
     unfolding blockHead
     reaches = omega (arith, ap length (block-opens (block o ds ss)))
 
@@ -171,7 +171,7 @@ module _ (bs : List ℕ) (at count top : ℕ) where
         )
 
     module _ (d s base : ℕ) (d-read : d ≡ wordAt bs (start + 2)) (s-read : s ≡ wordAt bs (start + 4)) (whole : base + (count + d) ≡ top) where
-      items-here : ItemsHere bs (start + 6) (d + s) base (inBlock (block o ds ss)) level (length (stmts ss))
+      pub items-here : ItemsHere bs (start + 6) (d + s) base (inBlock (block o ds ss)) level (length (stmts ss))
       items-here = record {
         number = omega (arith, counted, d-is, s-is);
         stand = body-stands;

@@ -1,11 +1,3 @@
-pub mod Meanings
-pub mod Chains
-pub mod Calls
-pub mod Judging
-pub mod Inside
-pub mod Skipping
-pub mod Noting
-pub mod Pushing
 pub mod Names
 pub mod Walking
 pub mod Statements

@@ -10,11 +10,11 @@ use Rattle.language.specs.Text.{Kind, variable, label, procedure, Formal, Decl,
 use Rattle.language.specs.Encoding.{kindField, formalsFields, blockFields, declFields, declsFields, PR-mark, FM-mark}
 use Rattle.language.specs.Scope.{Meaning, formalMeaning, declMeaning}
 use Rattle.grammar.specs.Rules.{FormedFormals, FormedDecl, FormedDecls}
-use Rattle.scoping.specs.Entries.{wordAt, kindOf, kindsAt, meaningAt, scopeOf}
-use Rattle.scoping.specs.Standing.{Stands}
-use Rattle.scoping.specs.Items.{formal, declared, itemFields, entriesOf}
-use Rattle.scoping.proofs.Meanings.{means-PR, means-LB, means-FM, means-other}
-use Rattle.scoping.proofs.Inside.{stands-first, stands-second, third-is}
+use Rattle.words.specs.Words.{wordAt, Stands}
+use Rattle.uses.specs.Meanings.{kindOf, kindsAt, meaningAt, scopeOf}
+use Rattle.extents.specs.Items.{formal, declared, itemFields, entriesOf}
+use Rattle.uses.proofs.Meanings.{means-PR, means-LB, means-FM, means-other}
+use Rattle.words.proofs.Standing.{stands-first, stands-second, third-is}
 
 kind-back : (k : Kind) → kindOf (kindField k) ≡ k
 unfolding kindOf kindField

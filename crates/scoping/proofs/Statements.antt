@@ -12,16 +12,18 @@ use Rattle.language.specs.Scope as definitions
 use Rattle.records.specs.declared.Progress.{Progress}
 use Rattle.records.specs.declared.Progress.the-variants.{At, Refused}
 use Rattle.grammar.specs.Rules.{FormedBlock, FormedDecl, FormedStmt, FormedFormals}
-use Rattle.scoping.specs.Entries.{wordAt, verdictOf, pairJudged, tripleJudged, shapeOf, judgedAs}
-use Rattle.scoping.specs.Standing.{Stands}
-use Rattle.scoping.specs.Items.{Item, formal, body, declared, stated, itemFields, itemsFields, kids, headFields}
-use Rattle.scoping.specs.Passing.{Passed}
+use Rattle.words.specs.Words.{wordAt, Stands}
+use Rattle.uses.specs.Meanings.{verdictOf, pairJudged, tripleJudged}
+use Rattle.calls.specs.Calls.{shapeOf, judgedAs}
+use Rattle.extents.specs.Items.{Item, formal, body, declared, stated, itemFields, itemsFields, children, headFields}
+use Rattle.extents.specs.Passing.{Passed}
 use Rattle.scoping.specs.Walking.{progressOf, onwardOf, Ahead, judgeItem, FormedItem, BlockHere, ItemHere}
-use Rattle.scoping.specs.declared.passing.Step.{Step}
+use Rattle.extents.specs.declared.passing.Step.{Step}
 use Rattle.language.specs.declared.Verdict.{Verdict}
 use Rattle.language.specs.declared.Verdict.the-variants.{Fit}
 use Rattle.language.specs.declared.Verdict.the-variants as verdicts
-use Rattle.scoping.proofs.Inside.{stands-first, stands-second, stands-words, third-is, item-opens, head-size}
+use Rattle.words.proofs.Standing.{stands-first, stands-second, stands-words, third-is}
+use Rattle.extents.proofs.Inside.{item-opens, head-size}
 
 -- the fourth and the fifth field
 fourth-is : (bs : List ℕ) (at a b c d : ℕ) (ws : List ℕ) → Stands bs at (a ∷ b ∷ c ∷ d ∷ ws) → wordAt bs (at + 6) ≡ d
@@ -56,13 +58,13 @@ onward-progress fine next = refl
 onward-progress (wrong c o) next = refl
 
 -- a statement other than BK has none of these marks
-record Plain (w : ℕ) : Type 0 where
-  no-PR : w ≡ PR-mark → ⊥
-  no-BK : w ≡ BK-mark → ⊥
-  no-VR : w ≡ VR-mark → ⊥
-  no-LB : w ≡ LB-mark → ⊥
+pub record Plain (w : ℕ) : Type 0 where
+  pub no-PR : w ≡ PR-mark → ⊥
+  pub no-BK : w ≡ BK-mark → ⊥
+  pub no-VR : w ≡ VR-mark → ⊥
+  pub no-LB : w ≡ LB-mark → ⊥
 
-plain : (bs : List ℕ) (at : ℕ) (a : Action) → Stands bs at (actionFields a) → Plain (wordAt bs at)
+pub plain : (bs : List ℕ) (at : ℕ) (a : Action) → Stands bs at (actionFields a) → Plain (wordAt bs at)
 unfolding actionFields
 plain bs at (CL p xs) h = let e = h .0 in omega arith
 plain bs at (GO l) h = let e = h .0 in omega arith
@@ -135,7 +137,7 @@ module _ (bs : List ℕ) (sc : Scope) (at top : ℕ) where
     item-BK (stated (DO o a)) level s h = absurd (plain bs at a (h .stand) .no-BK marked)
 
   -- where the next record begins, after one with nothing inside it
-  alone : (p : Step) → Passed bs at p → (x : Item) → kids x ≡ [] → Stands bs at (itemFields x) → p .next ≡ at + 2 * length (itemFields x)
+  pub alone : (p : Step) → Passed bs at p → (x : Item) → children x ≡ [] → Stands bs at (itemFields x) → p .next ≡ at + 2 * length (itemFields x)
   unfolding itemsFields
   alone p q x none h =
       let e : itemFields x ≡ headFields x ++ [] = item-opens x ∙ ap (λ (l : List Item). headFields x ++ itemsFields l) none in
@@ -143,7 +145,7 @@ module _ (bs : List ℕ) (sc : Scope) (at top : ℕ) where
 
   module _ (p : Step) (q : Passed bs at p) where
     pub item-VR : wordAt bs at ≡ VR-mark → (x : Item) (level s : ℕ) → ItemHere bs at top x level s → At (p .next) ≡ progressOf (judgeItem x sc) (at + 2 * length (itemFields x))
-    unfolding judgeItem judgeDecl itemFields declFields stmtFields FormedItem progressOf kids
+    unfolding judgeItem judgeDecl itemFields declFields stmtFields FormedItem progressOf children
     item-VR marked (formal f) level s h = absurd (h .formed)
     item-VR marked (body b) level s h = absurd (h .formed)
     item-VR marked (declared (VR o n)) level s h = ap At (alone p q (declared (VR o n)) refl (h .stand))
@@ -153,7 +155,7 @@ module _ (bs : List ℕ) (sc : Scope) (at top : ℕ) where
     item-VR marked (stated (DO o a)) level s h = absurd (plain bs at a (h .stand) .no-VR marked)
 
     pub item-LB : wordAt bs at ≡ LB-mark → (x : Item) (level s : ℕ) → ItemHere bs at top x level s → At (p .next) ≡ progressOf (judgeItem x sc) (at + 2 * length (itemFields x))
-    unfolding judgeItem judgeDecl itemFields declFields stmtFields FormedItem progressOf kids
+    unfolding judgeItem judgeDecl itemFields declFields stmtFields FormedItem progressOf children
     item-LB marked (formal f) level s h = absurd (h .formed)
     item-LB marked (body b) level s h = absurd (h .formed)
     item-LB marked (declared (VR o n)) level s h = absurd (let e = h .stand .0 in omega arith)
@@ -164,7 +166,7 @@ module _ (bs : List ℕ) (sc : Scope) (at top : ℕ) where
 
     module _ (no-PR : wordAt bs at ≡ PR-mark → ⊥) (no-BK : wordAt bs at ≡ BK-mark → ⊥) (no-VR : wordAt bs at ≡ VR-mark → ⊥) (no-LB : wordAt bs at ≡ LB-mark → ⊥) (v : Verdict) (is : v ≡ verdictOf (judgedAs (shapeOf (wordAt bs at)) sc bs at)) where
       pub item-action : (x : Item) (level s : ℕ) → ItemHere bs at top x level s → onwardOf v (p .next) ≡ progressOf (judgeItem x sc) (at + 2 * length (itemFields x))
-      unfolding judgeItem judgeStmt itemFields declFields stmtFields FormedItem FormedStmt kids
+      unfolding judgeItem judgeStmt itemFields declFields stmtFields FormedItem FormedStmt children
       item-action (formal f) level s h = absurd (h .formed)
       item-action (body b) level s h = absurd (h .formed)
       item-action (declared (VR o n)) level s h = absurd (no-VR (h .stand .0))

@@ -10,12 +10,12 @@ use Rattle.language.specs.Scope as definitions
 use Rattle.language.specs.declared.Refusal.{Refusal}
 use Rattle.records.specs.declared.Progress.{Progress}
 use Rattle.records.specs.declared.Progress.the-variants.{At, Refused}
-use Rattle.scoping.specs.Entries.{scopeOf}
-use Rattle.scoping.specs.Standing.{Stands}
-use Rattle.scoping.specs.Items.{Item, itemFields, itemsFields}
+use Rattle.uses.specs.Meanings.{scopeOf}
+use Rattle.words.specs.Words.{Stands}
+use Rattle.extents.specs.Items.{Item, itemFields, itemsFields}
 use Rattle.scoping.specs.Walking.{progressOf, judgeItem, judgeItems, FormedItems, ItemsHere, ItemHere}
-use Rattle.scoping.proofs.Meanings.{word-inside}
-use Rattle.scoping.proofs.Inside.{stands-first, stands-second, item-opens, head-marked}
+use Rattle.words.proofs.Standing.{word-inside, stands-first, stands-second}
+use Rattle.extents.proofs.Inside.{item-opens, head-marked}
 
 -- a verdict, then another: where the first refuses, and where it does not
 stops : (r : Progress) (v w : definitions.Verdict) (c : Refusal) (o e e′ : ℕ) → r ≡ progressOf v e → r ≡ Refused c o → r ≡ progressOf (_then_ v w) e′

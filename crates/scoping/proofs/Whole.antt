@@ -16,13 +16,13 @@ use Rattle.grammar.specs.Rules.{Bytes, FormedFormals}
 use Rattle.grammar.specs.Readers.{Yields}
 use Rattle.grammar.specs.Words.{fields-are-names}
 use Rattle.grammar.specs.Reading.{GotBlock, read-program}
-use Rattle.scoping.specs.Entries.{wordAt, scopeOf, verdictOf}
-use Rattle.scoping.specs.Standing.{Stands}
+use Rattle.words.specs.Words.{wordAt, Stands}
+use Rattle.uses.specs.Meanings.{scopeOf, verdictOf}
 use Rattle.scoping.specs.Walking.{progressOf, settledOf, Judged, BlockHere}
 use Rattle.language.specs.declared.Verdict.{Verdict}
-use Rattle.scoping.proofs.Inside.{stands-first}
+use Rattle.words.proofs.Standing.{stands-first}
 
-stands-from : (front bs : List ℕ) → Stands (front ++ bs) (length front) (fieldsOf bs)
+pub stands-from : (front bs : List ℕ) → Stands (front ++ bs) (length front) (fieldsOf bs)
 unfolding fieldsOf wordAt
 stands-from front [] = tt
 stands-from front (a ∷ []) = tt

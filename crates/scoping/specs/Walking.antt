@@ -6,14 +6,14 @@ use lib.ListN.{length}
 use Rattle.language.specs.Text.{Formal, Block}
 use Rattle.language.specs.Encoding.{formalsFields, blockFields}
 use Rattle.language.specs.Structure as structure
-use Rattle.language.specs.Scope.{Scope, fine, wrong, _then_, judgeBlock, judgeDecl, judgeStmt}
+use Rattle.language.specs.Scope.{Scope, fine, wrong, judgeBlock, judgeDecl, judgeStmt, _then_}
 use Rattle.language.specs.Scope as definitions
 use Rattle.records.specs.declared.Progress.{Progress}
 use Rattle.records.specs.declared.Progress.the-variants.{At, Refused}
 use Rattle.grammar.specs.Rules.{FormedFormals, FormedBlock, FormedDecl, FormedStmt}
-use Rattle.scoping.specs.Entries.{verdictOf, scopeFrom}
-use Rattle.scoping.specs.Standing.{Stands}
-use Rattle.scoping.specs.Items.{Item, formal, body, declared, stated, itemFields, itemsFields}
+use Rattle.uses.specs.Meanings.{verdictOf, scopeFrom}
+use Rattle.words.specs.Words.{Stands}
+use Rattle.extents.specs.Items.{Item, formal, body, declared, stated, itemFields, itemsFields}
 use Rattle.language.specs.declared.Verdict.{Verdict}
 use Rattle.language.specs.declared.Verdict.the-variants.{Fit}
 use Rattle.language.specs.declared.Verdict.the-variants as verdicts

@@ -1,5 +1,5 @@
-// The script check's second half: what each name used stands for, refusals 9 to 11, in file order. The walk is safe on any bytes:
-// only its answer asks for a script that is fit in structure.
+// The script check's second half: what each name used stands for, refusals 9 to 11, in file order. The walk is safe on any
+// bytes up to 8,192: only its answer asks for a script that is fit in structure.
 use language::Verdict;
 use records::Progress;
 use walk::block;
@@ -10,14 +10,7 @@ ghost use Rattle.language.specs.Encoding.{fieldsOf};
 ghost use Rattle.language.specs.Structure.{program};
 ghost use Rattle.scoping.specs.Walking.{settledOf, Judged};
 
-// In reading order: words, scope, uses, call, passing, ends, walk.
-mod call;
-mod ends;
-mod passing;
-mod scope;
-mod uses;
 mod walk;
-mod words;
 
 fn settled(p: Progress) -> Verdict
     ensures { λ r. ⌜ r ≡ settledOf p ⌝ }

@@ -1,85 +1,23 @@
-// The walk over a script's records in file order. It is safe on any bytes.
-use super::call::call;
-use super::ends::skip;
-use super::passing::past;
-use super::scope::free;
-use super::scope::hang;
-use super::uses::both;
-use super::uses::three;
-use super::uses::uses;
-use super::words::AR;
-use super::words::BK;
-use super::words::CL;
-use super::words::GO;
-use super::words::IF;
-use super::words::KN;
-use super::words::LB;
-use super::words::PR;
-use super::words::QY;
-use super::words::VR;
-use super::words::word;
+// The walk over a script's records in file order. It is safe on any bytes up to 8,192.
+use calls::action;
+use extents::past;
+use extents::push;
 use language::Refusal;
 use language::Verdict;
+use records::BK;
+use records::LB;
+use records::PR;
 use records::Progress;
+use records::VR;
+use symbols::insert;
+use symbols::remove;
+use words::word;
 ghost use mathlib.Core.Path.{_≡_};
-ghost use Prim.Native.Nat.{_+_, _^_, _<_, _≤_};
-ghost use lib.ListN.{length, take, drop};
-ghost use Rattle.scoping.specs.Entries.{wordAt, scopeFrom, verdictOf, shapeOf, judgedAs};
-ghost use Rattle.scoping.specs.Chains.{Hung};
-ghost use Rattle.scoping.specs.Passing.{Ends, Pushed};
+ghost use Prim.Native.Nat.{_+_, _<_, _≤_};
+ghost use lib.ListN.{length, drop};
+ghost use Rattle.symbols.specs.Chains.{Chained};
+ghost use Rattle.extents.specs.Passing.{Ends};
 ghost use Rattle.scoping.specs.Walking.{onwardOf, Ahead, BlockJudged, ItemsJudged, ItemJudged};
-
-// So many records from an offset on declare names: their entries are put from `base` on.
-fn push(
-    script: &[u8],
-    entries: &mut [usize],
-    ends: &mut [u32; 683],
-    at: usize,
-    count: usize,
-    base: usize,
-)
-    requires { ⌜ (length (now script) ≤ 8192) × (at ≤ 1000000) × (base + count ≤ length (now entries)) × Ends (now script) (now ends) ⌝ }
-    ensures pushed { λ _. ⌜ Pushed (now (script .entry)) at count base (now (entries .exit)) ⌝ }
-    ensures kept { λ _. ⌜ drop (base + count) (now (entries .exit)) ≡ drop (base + count) (now (entries .entry)) ⌝ }
-    ensures below { λ _. ⌜ take base (now (entries .exit)) ≡ take base (now (entries .entry)) ⌝ }
-    ensures noted { λ _. ⌜ Ends (now (script .entry)) (now (ends .exit)) ⌝ }
-{
-    let mut here = at;
-    let mut i = 0;
-    while i < count {
-        entries[base + i] = word(script, here + 2) + 65536 * here;
-        here = skip(script, ends, here);
-        i += 1;
-    }
-}
-
-// A statement other than BK: its names left to right.
-fn action(script: &[u8], entries: &[usize], top: usize, at: usize, mark: usize) -> Verdict
-    requires { ⌜ (at < 2 ^ 32) × Hung (now entries) top × (mark ≡ wordAt (now script) at) ⌝ }
-    ensures { λ r.
-        ⌜ r ≡ verdictOf (judgedAs (shapeOf (wordAt (now (script .entry)) at))
-        (scopeFrom (now (script .entry)) (now (entries .entry)) top) (now (script .entry)) at) ⌝ }
-{
-    if mark == CL {
-        return call(script, entries, top, at);
-    }
-    if mark == GO {
-        return uses(script, entries, top, at, 1, word(script, at + 2));
-    }
-    if mark == IF {
-        return both(script, entries, top, at, 0, at + 2, 1, at + 4);
-    }
-    if mark == KN {
-        return uses(script, entries, top, at, 0, word(script, at + 2));
-    }
-    if mark == AR {
-        return three(script, entries, top, at, at + 2, at + 6, at + 8);
-    }
-    if mark == QY {
-        return three(script, entries, top, at, at + 2, at + 4, at + 6);
-    }
-    both(script, entries, top, at, 0, at + 2, 0, at + 4)
-}
 
 // Where the walk goes on after a verdict.
 fn onward(v: Verdict, next: usize) -> Progress
@@ -100,11 +38,11 @@ pub fn block(
     count: usize,
     top: usize,
 ) -> Progress
-    requires { ⌜ (length (now script) ≤ 8192) × (at ≤ 500000) × (count < 65536) × (top ≤ length (now entries)) × Hung (now entries) top × Ends (now script) (now ends) ⌝ }
+    requires { ⌜ (length (now script) ≤ 8192) × (at ≤ 500000) × (count < 65536) × (top ≤ length (now entries)) × Chained (now entries) top × Ends (now script) (now ends) ⌝ }
     ensures judged { λ r. ⌜ BlockJudged (now (script .entry)) (now (entries .entry)) at count top r ⌝ }
     ensures ahead { λ r. ⌜ Ahead at (length (now (script .entry))) r ⌝ }
     ensures kept { λ r. ⌜ drop top (now (entries .exit)) ≡ drop top (now (entries .entry)) ⌝ }
-    ensures hung { λ r. ⌜ Hung (now (entries .exit)) top ⌝ }
+    ensures chained { λ r. ⌜ Chained (now (entries .exit)) top ⌝ }
     ensures noted { λ r. ⌜ Ends (now (script .entry)) (now (ends .exit)) ⌝ }
 {
     let start = at + 6 * count;
@@ -119,9 +57,9 @@ pub fn block(
     let base = top - (count + d);
     push(script, entries, ends, start + 6, d, base + count);
     push(script, entries, ends, at, count, base);
-    hang(entries, base, top);
+    insert(entries, base, top);
     let judged = items(script, entries, ends, start + 6, d + s, base);
-    free(entries, base, top);
+    remove(entries, base, top);
     judged
 }
 
@@ -134,11 +72,11 @@ fn items(
     count: usize,
     top: usize,
 ) -> Progress
-    requires { ⌜ (length (now script) ≤ 8192) × (at ≤ length (now script) + 131076) × (count ≤ 131070) × (top ≤ length (now entries)) × Hung (now entries) top × Ends (now script) (now ends) ⌝ }
+    requires { ⌜ (length (now script) ≤ 8192) × (at ≤ length (now script) + 131076) × (count ≤ 131070) × (top ≤ length (now entries)) × Chained (now entries) top × Ends (now script) (now ends) ⌝ }
     ensures judged { λ r. ⌜ ItemsJudged (now (script .entry)) (now (entries .entry)) at count top r ⌝ }
     ensures ahead { λ r. ⌜ Ahead at (length (now (script .entry))) r ⌝ }
     ensures kept { λ r. ⌜ drop top (now (entries .exit)) ≡ drop top (now (entries .entry)) ⌝ }
-    ensures hung { λ r. ⌜ Hung (now (entries .exit)) top ⌝ }
+    ensures chained { λ r. ⌜ Chained (now (entries .exit)) top ⌝ }
     ensures noted { λ r. ⌜ Ends (now (script .entry)) (now (ends .exit)) ⌝ }
 {
     let mut here = at;
@@ -165,11 +103,11 @@ fn item(
     at: usize,
     top: usize,
 ) -> Progress
-    requires { ⌜ (length (now script) ≤ 8192) × (at < length (now script)) × (top ≤ length (now entries)) × Hung (now entries) top × Ends (now script) (now ends) ⌝ }
+    requires { ⌜ (length (now script) ≤ 8192) × (at < length (now script)) × (top ≤ length (now entries)) × Chained (now entries) top × Ends (now script) (now ends) ⌝ }
     ensures judged { λ r. ⌜ ItemJudged (now (script .entry)) (now (entries .entry)) at top r ⌝ }
     ensures ahead { λ r. ⌜ Ahead at (length (now (script .entry))) r ⌝ }
     ensures kept { λ r. ⌜ drop top (now (entries .exit)) ≡ drop top (now (entries .entry)) ⌝ }
-    ensures hung { λ r. ⌜ Hung (now (entries .exit)) top ⌝ }
+    ensures chained { λ r. ⌜ Chained (now (entries .exit)) top ⌝ }
     ensures noted { λ r. ⌜ Ends (now (script .entry)) (now (ends .exit)) ⌝ }
 {
     let mark = word(script, at);

@@ -3,8 +3,8 @@ use Prim.Native.Nat.{ℕ}
 use native.Mathlib.Nat.{le-of-eq}
 use lib.ListN.{replicate, length-replicate}
 use Rattle.scoping.proofs.Whole.{bytes-are, whole-judged}
-use Rattle.scoping.proofs.Chains.{none-hung}
-use Rattle.scoping.proofs.Noting.{none-noted}
+use Rattle.symbols.proofs.Chains.{none-chained}
+use Rattle.extents.proofs.Noting.{none-noted}
 use borrow.Author.Needs.{needs}
 use Rattle.scoping.proofs.scope_verdict.Statement.{statement}
 use Rattle.scoping.proofs.scope_verdict.Tie as tie
@@ -13,7 +13,7 @@ slice-aggregate-block : tie.Need-slice-aggregate-block
 slice-aggregate-block c = search needs
 
 block-requires : tie.Need-block-requires
-block-requires c κs = (search needs, search needs, search needs, search needs, none-hung (replicate 1280 1280) (length-replicate {A = ℕ} 1280 1280), none-noted _)
+block-requires c κs = (search needs, search needs, search needs, search needs, none-chained (replicate 1280 1280) (length-replicate {A = ℕ} 1280 1280), none-noted _)
 
 settled-requires : tie.Need-settled-requires
 settled-requires c κs = search needs

@@ -3,21 +3,21 @@ use borrow.Author.Needs.{needs}
 -- calls `item`, and `item` calls `block`. Assumes nothing.
 use mathlib.Core.Path.{_≡_, refl, sym, ap, subst, _∙_}
 use mathlib.Core.List.{List}
-use Prim.Native.Nat.{_+_, _*_, _-_, _≤_}
+use Prim.Native.Nat.{_+_, _*_, _-_, _≤_, ℕ, _<_}
 use native.Mathlib.Omega.{arith}
 use lib.ListN.{length, drop}
 use Rattle.language.specs.Encoding.{BK-mark}
-use Rattle.scoping.specs.Entries.{wordAt, scopeOf}
-use Rattle.scoping.specs.Chains.{Hung}
-use Rattle.scoping.specs.Items.{Item, itemFields, itemsFields}
-use Rattle.scoping.specs.Passing.{Ends}
+use Rattle.words.specs.Words.{wordAt}
+use Rattle.uses.specs.Meanings.{scopeOf}
+use Rattle.symbols.specs.Chains.{Chained}
+use Rattle.extents.specs.Items.{Item, itemFields, itemsFields}
+use Rattle.extents.specs.Passing.{Ends}
 use Rattle.scoping.specs.Walking.{progressOf, judgeItem, judgeItems, Ahead, ItemsHere}
-use Rattle.scoping.proofs.Skipping.{passed-VR, passed-LB}
+use Rattle.extents.proofs.Skipping.{passed-VR, passed-LB}
 use Rattle.scoping.proofs.Statements.{block-mark, item-PR, item-BK, item-VR, item-LB, item-action, ahead-onward}
 use Rattle.scoping.proofs.Walking.{Remaining, remaining-start, remaining-step, remaining-stop, remaining-inside, remaining-end}
-use Rattle.scoping.proofs.Chains.{kept-from, pushed-hung}
+use Rattle.symbols.proofs.Chains.{kept-from, pushed-chained}
 use Rattle.scoping.proofs.Blocks.{word-within, ahead-from, kept-below, block-room, block-judged}
-use Prim.Native.Nat.{ℕ, _<_}
 use borrow.Fn.Kinds.{In}
 use borrow.Fn.PlainCycle.{Measures, is, falls, and}
 use Rattle.scoping.proofs.walk.block.Reads as block
@@ -29,13 +29,13 @@ use Rattle.scoping.proofs.walk.+block+item+items.Lts-item as item-lts
 use Rattle.scoping.proofs.walk.items.Reads as items
 use Rattle.scoping.proofs.walk.items.Kinds as items-kinds
 use Rattle.scoping.proofs.walk.+block+item+items.Lts-items as items-lts
-use Rattle.scoping.proofs.walk.action.Reads as action-reads
+use Rattle.calls.proofs.action.Reads as action-reads
 use Rattle.scoping.proofs.walk.onward.Reads as onward-reads
-use Rattle.scoping.proofs.passing.past.Reads as past-reads
-use Rattle.scoping.proofs.walk.push.Reads as push-reads
-use Rattle.scoping.proofs.words.word.Reads as word-reads
-use Rattle.scoping.proofs.scope.hang.Reads as hang-reads
-use Rattle.scoping.proofs.scope.free.Reads as free-reads
+use Rattle.extents.proofs.past.Reads as past-reads
+use Rattle.extents.proofs.push.Reads as push-reads
+use Rattle.words.proofs.word.Reads as word-reads
+use Rattle.symbols.proofs.insert.Reads as insert-reads
+use Rattle.symbols.proofs.remove.Reads as remove-reads
 use Rattle.scoping.proofs.walk.+block+item+items.{statement}
 use Rattle.scoping.proofs.walk.+block+item+items.Tie.{close}
 
@@ -68,7 +68,7 @@ items-below t = and 3 items-kinds.ps (falls 3 items-kinds.ps _<_ μ-items t) ite
 
 -- what each may use of those that it calls
 abbrev block-claims : ℕ → block-lts.Claims
-block-claims t = (word-reads.Asked, word-reads.Learnt, push-reads.Asked, push-reads.Learnt, hang-reads.Asked, hang-reads.Learnt, items-below t, items.Post, free-reads.Asked, free-reads.Learnt)
+block-claims t = (word-reads.Asked, word-reads.Learnt, push-reads.Asked, push-reads.Learnt, insert-reads.Asked, insert-reads.Learnt, items-below t, items.Post, remove-reads.Asked, remove-reads.Learnt)
 
 abbrev item-claims : ℕ → item-lts.Claims
 item-claims t = (
@@ -158,8 +158,8 @@ block-add-items t c =
 block-add-items-2 : (t : ℕ) → block-lts.Need-add-items-2 (block-claims t) (block-at t) block.Post
 block-add-items-2 t c = search needs
 
-block-hang-requires : (t : ℕ) → block-lts.Need-hang-requires (block-claims t) (block-at t) block.Post
-block-hang-requires t c κs =
+block-insert-requires : (t : ℕ) → block-lts.Need-insert-requires (block-claims t) (block-at t) block.Post
+block-insert-requires t c κs =
     let p₂ = c .before .before .before in
     let p₁ = c .before .before .before .before .before .before .before .before in
     let d = c .before .before .before .before .before .before .before .before .before .before .before .before .before .word2 .result in
@@ -168,7 +168,7 @@ block-hang-requires t c κs =
     let base = a .top - (a .count + d) in
     let l : 768 + (a .count + d) ≤ a .top = c .before .before .before .before .before .before .before .before .before .before .before .if2 .left in
     let whole : base + (a .count + d) ≡ a .top = omega arith in (
-      pushed-hung (a .entries .now) (p₁ .push .last .1 .0) (p₂ .push2 .last .1 .0) base (a .count) d (a .top) (omega arith) whole
+      pushed-chained (a .entries .now) (p₁ .push .last .1 .0) (p₂ .push2 .last .1 .0) base (a .count) d (a .top) (omega arith) whole
           (p₁ .push .kept .1 .0) (p₂ .push2 .kept .1 .0) (p₁ .push .ensures .1 .1 .0) (p₁ .push .ensures .1 .0)
           (p₂ .push2 .ensures .1 .1 .0) (p₂ .push2 .ensures .1 .0) (st .pre .1 .4),
       omega arith,
@@ -182,7 +182,7 @@ block-items-requires t c κs =
     let a = st .args in
     let w : wordAt (a .script .now) (a .at + 6 * a .count) ≡ BK-mark = sym (c .before .before .before .before .before .before .before .before .before .before .before .before .before .before .before .before .before .before .before .before .word .ensures .0) ∙ c .before .before .before .before .before .before .before .before .before .before .before .before .before .before .before .before .before .before .before .if1 .left in
     let inside = word-within (a .script .now) (a .at + 6 * a .count) (omega (arith, w)) in
-    let hang = c .before .before .before .before .hang in (
+    let hang = c .before .before .before .before .insert in (
       omega (arith, inside, st .pre .0),
       (
         st .pre .1 .0,
@@ -194,8 +194,8 @@ block-items-requires t c κs =
       ),
     )
 
-block-free-requires : (t : ℕ) → block-lts.Need-free-requires (block-claims t) (block-at t) block.Post
-block-free-requires t c κs =
+block-remove-requires : (t : ℕ) → block-lts.Need-remove-requires (block-claims t) (block-at t) block.Post
+block-remove-requires t c κs =
     let st = c .before .before .before .before .before .before .before .before .before .before .before .before .before .before .before .before .before .before .before .before .before .before .before .before .before .before .before in
     (c .before .before .before .items .ensures .1 .1 .1 .0, omega arith, omega (arith, st .pre .1 .3, st .pre .1 .4 .long))
 
@@ -204,9 +204,9 @@ block-same-length t c = search needs
 
 block-returns-3 : (t : ℕ) → block-lts.Need-returns-3 (block-claims t) (block-at t) block.Post
 block-returns-3 t c =
-    let f = c .before .before .free in
+    let f = c .before .before .remove in
     let i = c .before .before .before .before .before .before .items in
-    let g = c .before .before .before .before .before .before .before .before .before .before .before .hang in
+    let g = c .before .before .before .before .before .before .before .before .before .before .before .insert in
     let p₂ = c .before .before .before .before .before .before .before .before .before .before .before .before .before .before .before .push2 in
     let p₁ = c .before .before .before .before .before .before .before .before .before .before .before .before .before .before .before .before .before .before .before .before .push in
     let e = c .before .before .before .before .before .before .before .before .before .before .before .before .before .before .before .before .before .before .before .before .before .before .before in
@@ -350,7 +350,7 @@ items-Inv-loop script entries₀ ends₀ at count top here₀ i₀ entries ends 
     × (length entries ≡ length entries₀)
     × (drop top entries ≡ drop top entries₀)
     × ((xs : List Item) (level s : ℕ) → ItemsHere script at count top xs level s → Remaining script entries₀ at here i count top xs level s)
-    × Hung entries top
+    × Chained entries top
     × Ends script ends
 
 abbrev items-μ-loop : items-lts.MeasureT-loop
@@ -474,11 +474,11 @@ pub +block+item+items-spec : {M : Type 1} → statement M
     (block-add-push-2 t)
     (block-push-requires t)
     (block-push-requires-2 t)
-    (block-hang-requires t)
+    (block-insert-requires t)
     (block-add-items t)
     (block-add-items-2 t)
     (block-items-requires t)
-    (block-free-requires t)
+    (block-remove-requires t)
     (block-same-length t)
     (block-returns-3 t))
     (λ t. item-lts.spec (item-claims t)

@@ -1,0 +1,19 @@
+-- `calls::call::call` meets its contract. Assumes nothing.
+use borrow.Author.Needs.{needs}
+use Rattle.calls.proofs.call.call.Statement.{statement}
+use Rattle.calls.proofs.call.call.Tie as tie
+
+suits-requires : tie.Need-suits-requires
+suits-requires c κs = search needs
+
+returns : tie.Need-returns
+returns c = c .before .suits .ensures (c .if1 .taken)
+
+judge-call-requires : tie.Need-judge-call-requires
+judge-call-requires c κs = search needs
+
+returns-2 : tie.Need-returns-2
+returns-2 c = search needs
+
+pub call-spec : {M : Type 1} → statement M
+call-spec = tie.close (tie.spec suits-requires returns judge-call-requires returns-2)

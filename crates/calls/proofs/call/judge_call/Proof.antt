@@ -1,0 +1,118 @@
+-- `calls::call::judge_call` meets its contract: the name called, then the arguments, then 11. Assumes nothing.
+use mathlib.Core.Path.{refl, sym, _∙_}
+use lib.ListN.{drop}
+use Rattle.language.specs.Scope.{fine}
+use Rattle.uses.specs.Meanings.{kindOf, verdictOf}
+use Rattle.language.specs.declared.Verdict.the-variants.{Fit}
+use Rattle.symbols.proofs.Entries.{near-place}
+use Rattle.calls.proofs.Judging.{call-stops, call-hides, call-judges, agrees-found, agrees-unfound}
+use borrow.Author.Needs.{needs}
+use Rattle.calls.proofs.call.judge_call.Statement.{statement}
+use Rattle.calls.proofs.call.judge_call.Tie as tie
+
+add-word : tie.Need-add-word
+add-word c = search needs
+
+word-requires : tie.Need-word-requires
+word-requires c κs = search needs
+
+add-word-2 : tie.Need-add-word-2
+add-word-2 c = search needs
+
+word-requires-2 : tie.Need-word-requires-2
+word-requires-2 c κs = search needs
+
+uses-requires : tie.Need-uses-requires
+uses-requires c κs = search needs
+
+enum-told : tie.Need-enum-told
+enum-told c = search needs
+
+enum-told-2 : tie.Need-enum-told-2
+enum-told-2 c = search needs
+
+returns : tie.Need-returns
+unfolding kindOf
+returns c =
+    let u = c .before .before in
+    let a = u .before .before .before .before .before .args in
+    call-stops (a .script .now) (drop (a .top) (a .entries .now)) (a .at) (u .before .before .word .result) (u .before .word2 .result) (u .before .before .word .ensures .0) (u .before .word2 .ensures .0)
+    (u .uses .result) _ _ (u .uses .ensures) (c .enum-told2 .given .1)
+
+visible-requires : tie.Need-visible-requires
+visible-requires c κs = search needs
+
+enum-told-3 : tie.Need-enum-told-3
+enum-told-3 c = search needs
+
+enum-told-4 : tie.Need-enum-told-4
+enum-told-4 c = search needs
+
+returns-2 : tie.Need-returns-2
+unfolding kindOf
+returns-2 c =
+    let u = c .before .before .before .before .before in
+    let a = u .before .before .before .before .before .args in
+    call-hides (a .script .now) (drop (a .top) (a .entries .now)) (a .at) (u .before .before .word .result) (u .before .word2 .result) (u .before .before .word .ensures .0) (u .before .word2 .ensures .0)
+    (u .uses .result) (u .uses .ensures) (c .before .before .before .enum-told .given .1) (c .before .before .visible .result) _ _ (c .before .before .visible .ensures)
+    (c .enum-told4 .given .1)
+
+find-requires : tie.Need-find-requires
+find-requires c κs = search needs
+
+enum-known-place : tie.Need-enum-known-place
+enum-known-place c = search needs
+
+enum-told-5 : tie.Need-enum-told-5
+enum-told-5 c = search needs
+
+returns-3 : tie.Need-returns-3
+unfolding kindOf verdictOf
+returns-3 c =
+    let u = c .before .before .before .before .before .before .before .before in
+    let a = u .before .before .before .before .before .args in
+    let v = c .before .before .before .before .before in
+    call-judges (a .script .now) (drop (a .top) (a .entries .now)) (a .at) (u .before .before .word .result) (u .before .word2 .result) (u .before .before .word .ensures .0) (u .before .word2 .ensures .0)
+    (u .uses .result) (u .uses .ensures) (v .before .enum-told .given .1) (v .visible .result) (v .visible .ensures)
+    (c .before .before .before .enum-told3 .given .1) Fit fine refl
+    (agrees-unfound (a .script .now) (drop (a .top) (a .entries .now)) (a .at) _ _ (sym (c .before .before .find .ensures .0) ∙ c .enum-told5 .given .1))
+
+agrees-requires : tie.Need-agrees-requires
+agrees-requires c κs =
+    let h = near-place (c .before .before .before .find .result) _ (c .before .place .given .1) (c .before .before .before .find .ensures .1) in
+    (c .before .before .before .before .before .before .before .before .before .before .before .before .before .before .pre .0, h, c .before .before .before .before .before .before .before .before .before .before .word2 .ensures .1, c .before .before .before .before .before .before .before .before .before .before .before .before .before .before .pre .1)
+
+returns-4 : tie.Need-returns-4
+unfolding kindOf
+returns-4 c =
+    let u = c .before .before .before .before .before .before .before .before .before .before in
+    let a = u .before .before .before .before .before .args in
+    let f = c .before .before .before .before in
+    let v = c .before .before .before .before .before .before .before in
+    call-judges (a .script .now) (drop (a .top) (a .entries .now)) (a .at) (u .before .before .word .result) (u .before .word2 .result) (u .before .before .word .ensures .0) (u .before .word2 .ensures .0)
+    (u .uses .result) (u .uses .ensures) (v .before .enum-told .given .1) (v .visible .result) (v .visible .ensures)
+    (f .before .enum-told3 .given .1) (c .agrees .result) _ (c .agrees .ensures)
+    (agrees-found (a .script .now) (drop (a .top) (a .entries .now)) (a .at) _ (c .before .before .place .given .0 .0) _ (sym (f .find .ensures .0) ∙ c .before .before .place .given .1))
+
+pub judge-call-spec : {M : Type 1} → statement M
+judge-call-spec =
+    tie.close
+    (tie.spec
+    add-word
+    word-requires
+    add-word-2
+    word-requires-2
+    uses-requires
+    enum-told
+    enum-told-2
+    returns
+    visible-requires
+    enum-told-3
+    enum-told-4
+    returns-2
+    find-requires
+    enum-known-place
+    enum-told-5
+    returns-3
+    agrees-requires
+    returns-4)

@@ -1,0 +1,88 @@
+-- `calls::call::suits` meets its contract: a case for each way out. Assumes nothing.
+use mathlib.Core.Path.{sym, _∙_}
+use native.Mathlib.Omega.{arith}
+use lib.ListN.{drop}
+use Rattle.symbols.proofs.Entries.{near-place}
+use Rattle.calls.proofs.Judging.{no-true, suited}
+use borrow.Author.Needs.{needs}
+use Rattle.calls.proofs.call.suits.Statement.{statement}
+use Rattle.calls.proofs.call.suits.Tie as tie
+
+add-word : tie.Need-add-word
+add-word c = search needs
+
+word-requires : tie.Need-word-requires
+word-requires c κs = search needs
+
+add-word-2 : tie.Need-add-word-2
+add-word-2 c = search needs
+
+word-requires-2 : tie.Need-word-requires-2
+word-requires-2 c κs = search needs
+
+find-requires : tie.Need-find-requires
+find-requires c κs = search needs
+
+enum-known-place : tie.Need-enum-known-place
+enum-known-place c = search needs
+
+enum-told : tie.Need-enum-told
+enum-told c = search needs
+
+returns : tie.Need-returns
+returns c = λ e. no-true e
+
+word-requires-3 : tie.Need-word-requires-3
+word-requires-3 c κs = omega (arith, near-place (c .before .before .before .find .result) _ (c .before .place .given .1) (c .before .before .before .find .ensures .1))
+
+returns-2 : tie.Need-returns-2
+returns-2 c = λ e. no-true e
+
+add-word-3 : tie.Need-add-word-3
+add-word-3 c = omega (arith, near-place (c .before .before .before .before .before .find .result) _ (c .before .before .before .place .given .1) (c .before .before .before .before .before .find .ensures .1))
+
+word-requires-4 : tie.Need-word-requires-4
+word-requires-4 c κs = omega (arith, near-place (c .before .before .before .before .before .find .result) _ (c .before .before .before .place .given .1) (c .before .before .before .before .before .find .ensures .1))
+
+returns-3 : tie.Need-returns-3
+returns-3 c = λ e. no-true e
+
+add-matching : tie.Need-add-matching
+add-matching c = omega (arith, near-place (c .before .before .before .before .before .before .before .find .result) _ (c .before .before .before .before .before .place .given .1) (c .before .before .before .before .before .before .before .find .ensures .1))
+
+matching-requires : tie.Need-matching-requires
+matching-requires c κs =
+    let st = c .before .before .before .before .before .before .before .before .before .before .before .before in
+    (st .pre .0, omega (arith, near-place (c .before .before .before .before .before .before .before .find .result) _ (c .before .before .before .before .before .place .given .1) (c .before .before .before .before .before .before .before .find .ensures .1)), c .before .before .before .before .before .before .before .before .word2 .ensures .1, st .pre .1)
+
+returns-4 : tie.Need-returns-4
+returns-4 c =
+    let x = c .before .before .before .before .before in
+    let f = x .before .before .before in
+    let w = f .before in
+    let a = w .before .before .before .before .args in
+    λ e. suited (a .script .now) (drop (a .top) (a .entries .now)) (a .at) (w .before .word .result) (w .word2 .result) (x .before .place .given .0 .0)
+    (w .before .word .ensures .0) (w .word2 .ensures .0) (sym (f .find .ensures .0) ∙ x .before .place .given .1)
+    (sym (c .before .before .before .before .word3 .ensures .0) ∙ c .before .before .before .if1 .left) (sym (c .before .before .word4 .ensures .0) ∙ c .before .if2 .left)
+    (sym (c .matching .ensures) ∙ e)
+
+pub suits-spec : {M : Type 1} → statement M
+suits-spec =
+    tie.close
+    (tie.spec
+    add-word
+    word-requires
+    add-word-2
+    word-requires-2
+    find-requires
+    enum-known-place
+    enum-told
+    returns
+    word-requires-3
+    returns-2
+    add-word-3
+    word-requires-4
+    returns-3
+    add-matching
+    matching-requires
+    returns-4)

@@ -1,0 +1,61 @@
+-- The names that a statement uses, by its mark.
+use Prim.Native.Nat.{ℕ, _+_}
+use mathlib.Core.Bool.{true, false}
+use mathlib.Core.List.{List, map}
+use mathlib.Core.Option.{Option}
+use lib.Dec.{eqb}
+use Rattle.language.specs.Text.{Kind, variable, label, Action, CL}
+use Rattle.language.specs.Encoding.{CL-mark, GO-mark, IF-mark, KN-mark, AR-mark, QY-mark}
+use Rattle.language.specs.Scope.{Scope, kindIn, uses, judgeAction}
+use Rattle.language.specs.Scope as definitions
+use Rattle.language.specs.declared.Verdict.{Verdict}
+use Rattle.words.specs.Words.{wordAt, wordsAt}
+use Rattle.uses.specs.Meanings.{scopeFrom, pairJudged, tripleJudged}
+
+-- so many argument names of the CL at an offset
+abbrev pub namesAt : List ℕ → ℕ → ℕ → List ℕ
+namesAt bs at count = wordsAt bs (at + 6) count
+
+-- the kinds of so many arguments of the CL at an offset
+abbrev pub argumentsAt : List ℕ → List ℕ → ℕ → ℕ → ℕ → List (Option Kind)
+argumentsAt bs es top at count = map (kindIn (scopeFrom bs es top)) (namesAt bs at count)
+
+-- the CL at an offset
+abbrev pub callAt : List ℕ → ℕ → Action
+callAt bs at = CL (wordAt bs (at + 2)) (namesAt bs at (wordAt bs (at + 4)))
+
+-- which names a statement has, by its mark
+pub data Shape : Type 0 where
+  isCL isGO isIF isKN isAR isQY isTwo : Shape
+
+unfoldable pub shapeOf : ℕ → Shape
+shapeOf w =
+    elim (eqb w CL-mark) [
+      | true ↦ isCL
+      | false ↦ elim (eqb w GO-mark) [
+        | true ↦ isGO
+        | false ↦ elim (eqb w IF-mark) [
+          | true ↦ isIF
+          | false ↦ elim (eqb w KN-mark) [
+            | true ↦ isKN
+            | false ↦ elim (eqb w AR-mark) [
+              | true ↦ isAR
+              | false ↦ elim (eqb w QY-mark) [
+                | true ↦ isQY
+                | false ↦ isTwo
+              ]
+            ]
+          ]
+        ]
+      ]
+    ]
+
+-- a statement other than BK, judged by its shape
+unfoldable pub judgedAs : Shape → Scope → List ℕ → ℕ → definitions.Verdict
+judgedAs isCL sc bs at = judgeAction sc at (callAt bs at)
+judgedAs isGO sc bs at = uses sc at label (wordAt bs (at + 2))
+judgedAs isIF sc bs at = pairJudged sc at variable (wordAt bs (at + 2)) label (wordAt bs (at + 4))
+judgedAs isKN sc bs at = uses sc at variable (wordAt bs (at + 2))
+judgedAs isAR sc bs at = tripleJudged sc at (wordAt bs (at + 2)) (wordAt bs (at + 6)) (wordAt bs (at + 8))
+judgedAs isQY sc bs at = tripleJudged sc at (wordAt bs (at + 2)) (wordAt bs (at + 4)) (wordAt bs (at + 6))
+judgedAs isTwo sc bs at = pairJudged sc at variable (wordAt bs (at + 2)) variable (wordAt bs (at + 4))

@@ -1,0 +1,152 @@
+-- `emitting::emit` meets its contract: a case for each mark. Assumes nothing.
+use Prim.Native.Nat.{ℕ}
+use mathlib.Core.Path.{sym, ap, _∙_}
+use lib.ListN.{drop}
+use Rattle.emitting.specs.Emitted.{emittedAs, arWords, ifWords, knWords, clWords, goWords, pairWords, qyWords}
+use Rattle.emitting.proofs.Statements.{emit-by, emit-other}
+use borrow.Author.Needs.{needs}
+use Rattle.emitting.proofs.emit.Statement.{statement}
+use Rattle.emitting.proofs.emit.Tie as tie
+
+emit-ar-requires : tie.Need-emit-ar-requires
+emit-ar-requires c κs = search needs
+
+same-length : tie.Need-same-length
+same-length c = search needs
+
+returns : tie.Need-returns
+unfolding emittedAs
+returns c =
+    let st = c .before .before .before .before .before .before .before .before in
+    let a = st .args in
+    emit-by (a .script .now) (drop (a .top) (a .entries .now)) (a .at) (a .code .now) _ (arWords (a .script .now) (drop (a .top) (a .entries .now)) (a .at))
+    (ap (λ (m : ℕ). emittedAs m (a .script .now) (drop (a .top) (a .entries .now)) (a .at)) (sym (st .pre .2) ∙ c .before .before .before .before .if1 .taken)) (c .before .before .emit-ar .ensures)
+
+emit-if-requires : tie.Need-emit-if-requires
+emit-if-requires c κs = search needs
+
+same-length-2 : tie.Need-same-length-2
+same-length-2 c = search needs
+
+returns-2 : tie.Need-returns-2
+unfolding emittedAs
+returns-2 c =
+    let st = c .before .before .before .before .before .before .before .before .before in
+    let a = st .args in
+    emit-by (a .script .now) (drop (a .top) (a .entries .now)) (a .at) (a .code .now) _ (ifWords (a .script .now) (drop (a .top) (a .entries .now)) (a .at))
+    (ap (λ (m : ℕ). emittedAs m (a .script .now) (drop (a .top) (a .entries .now)) (a .at)) (sym (st .pre .2) ∙ c .before .before .before .before .if2 .taken)) (c .before .before .emit-if .ensures)
+
+emit-kn-requires : tie.Need-emit-kn-requires
+emit-kn-requires c κs = search needs
+
+same-length-3 : tie.Need-same-length-3
+same-length-3 c = search needs
+
+returns-3 : tie.Need-returns-3
+unfolding emittedAs
+returns-3 c =
+    let st = c .before .before .before .before .before .before .before .before .before .before in
+    let a = st .args in
+    emit-by (a .script .now) (drop (a .top) (a .entries .now)) (a .at) (a .code .now) _ (knWords (a .script .now) (drop (a .top) (a .entries .now)) (a .at))
+    (ap (λ (m : ℕ). emittedAs m (a .script .now) (drop (a .top) (a .entries .now)) (a .at)) (sym (st .pre .2) ∙ c .before .before .before .before .if3 .taken)) (c .before .before .emit-kn .ensures)
+
+emit-cl-requires : tie.Need-emit-cl-requires
+emit-cl-requires c κs = search needs
+
+same-length-4 : tie.Need-same-length-4
+same-length-4 c = search needs
+
+returns-4 : tie.Need-returns-4
+unfolding emittedAs
+returns-4 c =
+    let st = c .before .before .before .before .before .before .before .before .before .before .before in
+    let a = st .args in
+    emit-by (a .script .now) (drop (a .top) (a .entries .now)) (a .at) (a .code .now) _ (clWords (a .script .now) (drop (a .top) (a .entries .now)) (a .at))
+    (ap (λ (m : ℕ). emittedAs m (a .script .now) (drop (a .top) (a .entries .now)) (a .at)) (sym (st .pre .2) ∙ c .before .before .before .before .if4 .taken)) (c .before .before .emit-cl .ensures)
+
+emit-go-requires : tie.Need-emit-go-requires
+emit-go-requires c κs = search needs
+
+same-length-5 : tie.Need-same-length-5
+same-length-5 c = search needs
+
+returns-5 : tie.Need-returns-5
+unfolding emittedAs
+returns-5 c =
+    let st = c .before .before .before .before .before .before .before .before .before .before .before .before in
+    let a = st .args in
+    emit-by (a .script .now) (drop (a .top) (a .entries .now)) (a .at) (a .code .now) _ (goWords (a .script .now) (drop (a .top) (a .entries .now)) (a .at))
+    (ap (λ (m : ℕ). emittedAs m (a .script .now) (drop (a .top) (a .entries .now)) (a .at)) (sym (st .pre .2) ∙ c .before .before .before .before .if5 .taken)) (c .before .before .emit-go .ensures)
+
+emit-pair-requires : tie.Need-emit-pair-requires
+emit-pair-requires c κs = search needs
+
+same-length-6 : tie.Need-same-length-6
+same-length-6 c = search needs
+
+returns-6 : tie.Need-returns-6
+unfolding emittedAs
+returns-6 c =
+    let st = c .before .before .before .before .before .before .before .before .before .before .before .before .before in
+    let a = st .args in
+    emit-by (a .script .now) (drop (a .top) (a .entries .now)) (a .at) (a .code .now) _ (pairWords 8 (a .script .now) (drop (a .top) (a .entries .now)) (a .at))
+    (ap (λ (m : ℕ). emittedAs m (a .script .now) (drop (a .top) (a .entries .now)) (a .at)) (sym (st .pre .2) ∙ c .before .before .before .before .if6 .taken)) (c .before .before .emit-pair .ensures)
+
+emit-pair-requires-2 : tie.Need-emit-pair-requires-2
+emit-pair-requires-2 c κs = search needs
+
+same-length-7 : tie.Need-same-length-7
+same-length-7 c = search needs
+
+returns-7 : tie.Need-returns-7
+unfolding emittedAs
+returns-7 c =
+    let st = c .before .before .before .before .before .before .before .before .before .before .before .before .before .before in
+    let a = st .args in
+    emit-by (a .script .now) (drop (a .top) (a .entries .now)) (a .at) (a .code .now) _ (pairWords 9 (a .script .now) (drop (a .top) (a .entries .now)) (a .at))
+    (ap (λ (m : ℕ). emittedAs m (a .script .now) (drop (a .top) (a .entries .now)) (a .at)) (sym (st .pre .2) ∙ c .before .before .before .before .if7 .taken)) (c .before .before .emit-pair2 .ensures)
+
+emit-qy-requires : tie.Need-emit-qy-requires
+emit-qy-requires c κs = search needs
+
+same-length-8 : tie.Need-same-length-8
+same-length-8 c = search needs
+
+returns-8 : tie.Need-returns-8
+unfolding emittedAs
+returns-8 c =
+    let st = c .before .before .before .before .before .before .before .before .before .before .before .before .before .before in
+    let a = st .args in
+    emit-by (a .script .now) (drop (a .top) (a .entries .now)) (a .at) (a .code .now) _ (qyWords (a .script .now) (drop (a .top) (a .entries .now)) (a .at))
+    (ap (λ (m : ℕ). emittedAs m (a .script .now) (drop (a .top) (a .entries .now)) (a .at)) (sym (st .pre .2))
+    ∙ emit-other (a .script .now) (drop (a .top) (a .entries .now)) (a .at) (a .code .now) (a .code .now) (a .mark) (c .before .before .before .before .before .before .before .before .before .before .if1 .left) (c .before .before .before .before .before .before .before .before .before .if2 .left) (c .before .before .before .before .before .before .before .before .if3 .left)
+    (c .before .before .before .before .before .before .before .if4 .left) (c .before .before .before .before .before .before .if5 .left) (c .before .before .before .before .before .if6 .left) (c .before .before .before .before .if7 .left)) (c .before .before .emit-qy .ensures)
+
+pub emit-spec : {M : Type 1} → statement M
+emit-spec =
+    tie.close
+    (tie.spec
+    emit-ar-requires
+    same-length
+    returns
+    emit-if-requires
+    same-length-2
+    returns-2
+    emit-kn-requires
+    same-length-3
+    returns-3
+    emit-cl-requires
+    same-length-4
+    returns-4
+    emit-go-requires
+    same-length-5
+    returns-5
+    emit-pair-requires
+    same-length-6
+    returns-6
+    emit-pair-requires-2
+    same-length-7
+    returns-7
+    emit-qy-requires
+    same-length-8
+    returns-8)

@@ -1,0 +1,42 @@
+-- `emitting::emit_go` meets its contract. Assumes nothing.
+use lib.ListN.{drop}
+use Rattle.emitting.proofs.Statements.{go-grown}
+use borrow.Author.Needs.{needs}
+use Rattle.emitting.proofs.emit_go.Statement.{statement}
+use Rattle.emitting.proofs.emit_go.Tie as tie
+
+add-used : tie.Need-add-used
+add-used c = search needs
+
+used-requires : tie.Need-used-requires
+used-requires c κs = search needs
+
+formal-requires : tie.Need-formal-requires
+formal-requires c κs = search needs
+
+operation-requires : tie.Need-operation-requires
+operation-requires c κs = search needs
+
+put-two-requires : tie.Need-put-two-requires
+put-two-requires c κs = search needs
+
+same-length : tie.Need-same-length
+same-length c = search needs
+
+returns : tie.Need-returns
+returns c =
+    let a = c .before .before .before .before .before .before .before .before .before .before .args in
+    λ s. go-grown (a .script .now) (drop (a .top) (a .entries .now)) (a .at) (a .code .now) (c .before .before .put-two .last .0) s (c .before .before .before .before .before .before .used .result)
+    (c .before .before .before .before .formal .result) (c .before .before .before .operation .result) (c .before .before .before .before .before .before .used .ensures .0) (c .before .before .before .before .formal .ensures .0) (c .before .before .before .operation .ensures) (c .before .before .put-two .ensures)
+
+pub emit-go-spec : {M : Type 1} → statement M
+emit-go-spec =
+    tie.close
+    (tie.spec
+    add-used
+    used-requires
+    formal-requires
+    operation-requires
+    put-two-requires
+    same-length
+    returns)

@@ -1,0 +1,50 @@
+-- `emitting::emit_qy` meets its contract. Assumes nothing.
+use lib.ListN.{drop}
+use Rattle.emitting.proofs.Statements.{qy-grown}
+use borrow.Author.Needs.{needs}
+use Rattle.emitting.proofs.emit_qy.Statement.{statement}
+use Rattle.emitting.proofs.emit_qy.Tie as tie
+
+add-used : tie.Need-add-used
+add-used c = search needs
+
+used-requires : tie.Need-used-requires
+used-requires c κs = search needs
+
+add-used-2 : tie.Need-add-used-2
+add-used-2 c = search needs
+
+used-requires-2 : tie.Need-used-requires-2
+used-requires-2 c κs = search needs
+
+add-used-3 : tie.Need-add-used-3
+add-used-3 c = search needs
+
+used-requires-3 : tie.Need-used-requires-3
+used-requires-3 c κs = search needs
+
+put-four-requires : tie.Need-put-four-requires
+put-four-requires c κs = search needs
+
+same-length : tie.Need-same-length
+same-length c = search needs
+
+returns : tie.Need-returns
+returns c =
+    let a = c .before .before .before .before .before .before .before .before .before .before .args in
+    λ s. qy-grown (a .script .now) (drop (a .top) (a .entries .now)) (a .at) (a .code .now) (c .before .before .put-four .last .0) s
+    (c .before .before .before .before .before .before .used .result) (c .before .before .before .before .before .used2 .result) (c .before .before .before .before .used3 .result) (c .before .before .before .before .before .before .used .ensures .0) (c .before .before .before .before .before .used2 .ensures .0) (c .before .before .before .before .used3 .ensures .0) (c .before .before .put-four .ensures)
+
+pub emit-qy-spec : {M : Type 1} → statement M
+emit-qy-spec =
+    tie.close
+    (tie.spec
+    add-used
+    used-requires
+    add-used-2
+    used-requires-2
+    add-used-3
+    used-requires-3
+    put-four-requires
+    same-length
+    returns)

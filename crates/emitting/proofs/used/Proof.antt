@@ -1,0 +1,23 @@
+-- `emitting::used` meets its contract. Assumes nothing.
+use mathlib.Core.Path.{ap, _∙_}
+use Prim.Native.Nat.{ℕ}
+use lib.ListN.{drop}
+use Rattle.emitting.specs.Emitted.{wordIn, usedAt}
+use borrow.Author.Needs.{needs}
+use Rattle.emitting.proofs.used.Statement.{statement}
+use Rattle.emitting.proofs.used.Tie as tie
+
+word-requires : tie.Need-word-requires
+word-requires c κs = search needs
+
+named-requires : tie.Need-named-requires
+named-requires c κs = search needs
+
+returns : tie.Need-returns
+unfolding usedAt
+returns c =
+    let a = c .before .before .before .before .args in
+    (c .named .ensures .0 ∙ ap (λ (n : ℕ). wordIn n (drop (a .top) (a .entries .now))) (c .before .word .ensures .0), c .named .ensures .1)
+
+pub used-spec : {M : Type 1} → statement M
+used-spec = tie.close (tie.spec word-requires named-requires returns)

@@ -1,0 +1,25 @@
+-- `emitting::writing::put_four` meets its contract. Assumes nothing.
+use native.Mathlib.Omega.{arith}
+use Rattle.emitting.proofs.Growth.{grown-then}
+use borrow.Author.Needs.{needs}
+use Rattle.emitting.proofs.writing.put_four.Statement.{statement}
+use Rattle.emitting.proofs.writing.put_four.Tie as tie
+
+put-two-requires : tie.Need-put-two-requires
+put-two-requires c κs = search needs
+
+add-put-two : tie.Need-add-put-two
+add-put-two c = search needs
+
+put-two-requires-2 : tie.Need-put-two-requires-2
+put-two-requires-2 c κs = search needs
+
+same-length : tie.Need-same-length
+same-length c = search needs
+
+returns : tie.Need-returns
+returns c = λ sa sb sd se. grown-then (omega arith) (c .before .before .before .before .before .before .put-two .ensures sa sb) (c .before .before .put-two2 .ensures sd se)
+
+pub put-four-spec : {M : Type 1} → statement M
+put-four-spec =
+    tie.close (tie.spec put-two-requires add-put-two put-two-requires-2 same-length returns)

@@ -1,0 +1,36 @@
+-- `emitting::writing::put_three` meets its contract. Assumes nothing.
+use mathlib.Core.Path.{refl}
+use Prim.Native.Nat.{_+_}
+use native.Mathlib.Omega.{arith}
+use Rattle.emitting.proofs.Growth.{put-grows, grown-more}
+use borrow.Author.Needs.{needs}
+use Rattle.emitting.proofs.writing.put_three.Statement.{statement}
+use Rattle.emitting.proofs.writing.put_three.Tie as tie
+
+put-requires : tie.Need-put-requires
+put-requires c κs = search needs
+
+add-put : tie.Need-add-put
+add-put c = search needs
+
+put-requires-2 : tie.Need-put-requires-2
+put-requires-2 c κs = search needs
+
+add-put-2 : tie.Need-add-put-2
+add-put-2 c = search needs
+
+put-requires-3 : tie.Need-put-requires-3
+put-requires-3 c κs = search needs
+
+same-length : tie.Need-same-length
+same-length c = search needs
+
+returns : tie.Need-returns
+returns c =
+    λ sa sb sd. grown-more refl (put-grows (c .before .before .before .before .before .before .before .before .before .before .put .ensures) sa)
+    (grown-more (omega arith) (put-grows (c .before .before .before .before .before .before .put2 .ensures) sb) (put-grows (c .before .before .put3 .ensures) sd))
+
+pub put-three-spec : {M : Type 1} → statement M
+put-three-spec =
+    tie.close
+    (tie.spec put-requires add-put put-requires-2 add-put-2 put-requires-3 same-length returns)

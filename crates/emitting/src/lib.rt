@@ -1,0 +1,183 @@
+// The words of the resolved script, written at their places, and those of a statement. All is safe on any bytes.
+use records::AR;
+use records::CL;
+use records::GO;
+use records::IF;
+use records::KN;
+use symbols::Found;
+use symbols::find;
+use words::word;
+use writing::put_five;
+use writing::put_four;
+use writing::put_two;
+ghost use mathlib.Core.Path.{_≡_};
+ghost use mathlib.Core.List.{_∷_};
+ghost use Prim.Native.Nat.{_+_, _*_, _^_, _<_};
+ghost use lib.Dec.{eqb};
+ghost use lib.ListN.{drop};
+ghost use Rattle.symbols.specs.Chains.{Chained};
+ghost use Rattle.words.specs.Words.{wordAt};
+ghost use Rattle.resolved.specs.Resolved.{chosen, formalIn};
+ghost use Rattle.emitting.specs.Growth.{Grown};
+ghost use Rattle.emitting.specs.Emitted.{wordIn, usedAt, AllShort, knWords, arWords, ifWords, goWords, clWords, pairWords, qyWords, argumentWords, Emitted};
+
+mod writing;
+
+pub use writing::put;
+pub use writing::put_three;
+
+const AD: usize = 0x4441;
+
+const RM: usize = 0x4d52;
+
+// The word of a name; 0 where it is not visible.
+pub fn named(entries: &[usize], top: usize, name: usize) -> usize
+    requires { ⌜ Chained (now entries) top ⌝ }
+    ensures { λ r. ⌜ (r ≡ wordIn name (drop top (now (entries .entry)))) × (r < 2 ^ 48) ⌝ }
+{
+    let Found::At(w) = find(entries, top, name) else {
+        return 0;
+    };
+    w
+}
+
+// The word of the name in the field at an offset.
+fn used(script: &[u8], entries: &[usize], top: usize, at: usize) -> usize
+    requires { ⌜ (at < 2 ^ 33) × Chained (now entries) top ⌝ }
+    ensures { λ r. ⌜ (r ≡ usedAt (now (script .entry)) (drop top (now (entries .entry))) at) × (r < 2 ^ 48) ⌝ }
+{
+    named(entries, top, word(script, at))
+}
+
+// Whether a word is a formal's: 1, or 0.
+fn formal(w: usize) -> usize
+    ensures { λ r. ⌜ (r ≡ formalIn w) × (r < 2) ⌝ }
+{
+    w / 32 % 2
+}
+
+// The operation of a statement with so many formals among its names.
+fn operation(formals: usize, plain: usize, other: usize) -> usize
+    ensures { λ r. ⌜ r ≡ chosen (eqb formals 0) plain other ⌝ }
+{
+    if formals == 0 {
+        return plain;
+    }
+    other
+}
+
+fn emit_kn(script: &[u8], entries: &[usize], top: usize, code: &mut [u32], at: usize)
+    requires { ⌜ (at < 2 ^ 32) × Chained (now entries) top ⌝ }
+    ensures { λ _. ⌜ (AllShort (drop top (now (entries .entry))) → Grown (now (code .entry)) (now (code .exit)) at (knWords (now (script .entry)) (drop top (now (entries .entry))) at)) ⌝ }
+{
+    let w = used(script, entries, top, at + 2);
+    let value = word(script, at + 4) + 65536 * word(script, at + 6);
+    put_four(code, at, operation(formal(w), 0, 11), w, value, 0);
+}
+
+fn emit_ar(script: &[u8], entries: &[usize], top: usize, code: &mut [u32], at: usize)
+    requires { ⌜ (at < 2 ^ 32) × Chained (now entries) top ⌝ }
+    ensures { λ _. ⌜ (AllShort (drop top (now (entries .entry))) → Grown (now (code .entry)) (now (code .exit)) at (arWords (now (script .entry)) (drop top (now (entries .entry))) at)) ⌝ }
+{
+    let w = used(script, entries, top, at + 2);
+    let o = word(script, at + 4);
+    let a = used(script, entries, top, at + 6);
+    let b = used(script, entries, top, at + 8);
+    let op = operation(formal(w) + (formal(a) + formal(b)), 1 + o, 12);
+    put_five(code, at, op, w, o, a, b);
+}
+
+fn emit_if(script: &[u8], entries: &[usize], top: usize, code: &mut [u32], at: usize)
+    requires { ⌜ (at < 2 ^ 32) × Chained (now entries) top ⌝ }
+    ensures { λ _. ⌜ (AllShort (drop top (now (entries .entry))) → Grown (now (code .entry)) (now (code .exit)) at (ifWords (now (script .entry)) (drop top (now (entries .entry))) at)) ⌝ }
+{
+    let w = used(script, entries, top, at + 2);
+    let a = used(script, entries, top, at + 4);
+    put_three(code, at, operation(formal(w) + formal(a), 4, 13), a, w);
+}
+
+fn emit_go(script: &[u8], entries: &[usize], top: usize, code: &mut [u32], at: usize)
+    requires { ⌜ (at < 2 ^ 32) × Chained (now entries) top ⌝ }
+    ensures { λ _. ⌜ (AllShort (drop top (now (entries .entry))) → Grown (now (code .entry)) (now (code .exit)) at (goWords (now (script .entry)) (drop top (now (entries .entry))) at)) ⌝ }
+{
+    let a = used(script, entries, top, at + 2);
+    put_two(code, at, operation(formal(a), 5, 14), a);
+}
+
+// AD and RM, with their operation.
+fn emit_pair(script: &[u8], entries: &[usize], top: usize, code: &mut [u32], at: usize, op: usize)
+    requires { ⌜ (at < 2 ^ 32) × (op < 65536) × Chained (now entries) top ⌝ }
+    ensures { λ _. ⌜ (AllShort (drop top (now (entries .entry))) → Grown (now (code .entry)) (now (code .exit)) at (pairWords op (now (script .entry)) (drop top (now (entries .entry))) at)) ⌝ }
+{
+    let g = used(script, entries, top, at + 2);
+    let m = used(script, entries, top, at + 4);
+    put_three(code, at, op, g, m);
+}
+
+fn emit_qy(script: &[u8], entries: &[usize], top: usize, code: &mut [u32], at: usize)
+    requires { ⌜ (at < 2 ^ 32) × Chained (now entries) top ⌝ }
+    ensures { λ _. ⌜ (AllShort (drop top (now (entries .entry))) → Grown (now (code .entry)) (now (code .exit)) at (qyWords (now (script .entry)) (drop top (now (entries .entry))) at)) ⌝ }
+{
+    let t = used(script, entries, top, at + 2);
+    let g = used(script, entries, top, at + 4);
+    let m = used(script, entries, top, at + 6);
+    put_four(code, at, 10, t, g, m);
+}
+
+// So many names from an offset on.
+fn arguments(
+    script: &[u8],
+    entries: &[usize],
+    top: usize,
+    code: &mut [u32],
+    at: usize,
+    count: usize,
+)
+    requires { ⌜ (at < 2 ^ 32 + 6) × (count < 65536) × Chained (now entries) top ⌝ }
+    ensures { λ _. ⌜ (AllShort (drop top (now (entries .entry))) → Grown (now (code .entry)) (now (code .exit)) at (argumentWords (now (script .entry)) (drop top (now (entries .entry))) at count)) ⌝ }
+{
+    let mut i = 0;
+    while i < count {
+        put(code, at + 2 * i, used(script, entries, top, at + 2 * i));
+        i += 1;
+    }
+}
+
+fn emit_cl(script: &[u8], entries: &[usize], top: usize, code: &mut [u32], at: usize)
+    requires { ⌜ (at < 2 ^ 32) × Chained (now entries) top ⌝ }
+    ensures { λ _. ⌜ (AllShort (drop top (now (entries .entry))) → Grown (now (code .entry)) (now (code .exit)) at (clWords (now (script .entry)) (drop top (now (entries .entry))) at)) ⌝ }
+{
+    let w = used(script, entries, top, at + 2);
+    let count = word(script, at + 4);
+    put_three(code, at, operation(formal(w), 7, 15), w, count);
+    arguments(script, entries, top, code, at + 6, count);
+}
+
+// A statement other than BK, with its mark.
+pub fn emit(script: &[u8], entries: &[usize], top: usize, code: &mut [u32], at: usize, mark: usize)
+    requires { ⌜ (at < 2 ^ 32) × Chained (now entries) top × (mark ≡ wordAt (now script) at) ⌝ }
+    ensures { λ _. ⌜ Emitted (now (script .entry)) (drop top (now (entries .entry))) at (now (code .entry)) (now (code .exit)) ⌝ }
+{
+    if mark == AR {
+        return emit_ar(script, entries, top, code, at);
+    }
+    if mark == IF {
+        return emit_if(script, entries, top, code, at);
+    }
+    if mark == KN {
+        return emit_kn(script, entries, top, code, at);
+    }
+    if mark == CL {
+        return emit_cl(script, entries, top, code, at);
+    }
+    if mark == GO {
+        return emit_go(script, entries, top, code, at);
+    }
+    if mark == AD {
+        return emit_pair(script, entries, top, code, at, 8);
+    }
+    if mark == RM {
+        return emit_pair(script, entries, top, code, at, 9);
+    }
+    emit_qy(script, entries, top, code, at);
+}

@@ -1,0 +1,145 @@
+-- Passing records one after the other: what is left of a record and all that stands inside it.
+-- Assumes nothing.
+use mathlib.Core.Path.{_≡_, refl, sym, _∙_, ap, subst}
+use mathlib.Core.List.{List, [], _∷_, _++_, append-nil, append-assoc}
+use Prim.Native.Nat.{ℕ, _+_, _*_, _-_, _<_, _≤_}
+use native.Mathlib.Omega.{arith}
+use lib.ListN.{length, length-append}
+use borrow.Author.Tests.{ne-eqb}
+use Rattle.language.specs.Encoding.{BK-mark, VR-mark, LB-mark, PR-mark, CL-mark, GO-mark, KN-mark, AR-mark, QY-mark}
+use Rattle.words.specs.Words.{wordAt, Stands}
+use Rattle.extents.specs.Items.{Item, itemFields, itemsFields, children, headFields, sizeOf, headSize, childCount}
+use Rattle.extents.specs.Passing.{Passed, Skipped, Left, Stepped}
+use Rattle.extents.specs.declared.passing.Step.{Step}
+use Rattle.words.proofs.Standing.{word-inside, stands-first, stands-second}
+use Rattle.extents.proofs.Inside.{items-append, item-opens, head-size, child-count, head-marked}
+
+pub size-six : (w : ℕ) → (w ≡ VR-mark → ⊥) → (w ≡ GO-mark → ⊥) → (w ≡ KN-mark → ⊥) → (w ≡ QY-mark → ⊥) → (w ≡ AR-mark → ⊥) → sizeOf w ≡ 6
+unfolding sizeOf
+size-six w a b c d e =
+    rw (ne-eqb w VR-mark a, ne-eqb w GO-mark b, ne-eqb w KN-mark c, ne-eqb w QY-mark d, ne-eqb w AR-mark e, sizeOf)
+
+pub head-other : (w a : ℕ) → (w ≡ BK-mark → ⊥) → (w ≡ PR-mark → ⊥) → (w ≡ CL-mark → ⊥) → headSize w a ≡ sizeOf w
+unfolding headSize
+head-other w a e f g = rw (ne-eqb w BK-mark e, ne-eqb w PR-mark f, ne-eqb w CL-mark g, headSize)
+
+pub child-other : (w d a : ℕ) → (w ≡ BK-mark → ⊥) → (w ≡ PR-mark → ⊥) → childCount w d a ≡ 0
+unfolding childCount
+child-other w d a e f = rw (ne-eqb w BK-mark e, ne-eqb w PR-mark f, childCount)
+
+module _ (bs : List ℕ) (at : ℕ) (x : Item) where
+  alone : itemsFields (x ∷ []) ≡ itemFields x
+  unfolding itemsFields
+  alone = append-nil (itemFields x)
+
+  pub left-start : Stands bs at (itemFields x) → Left bs at at 1 x
+  left-start h = record { items = x ∷ []; stand = rw alone h; number = refl; reach = rw alone }
+
+  pub left-end : (here pending : ℕ) → pending ≤ 0 → Left bs at here pending x → here ≡ at + 2 * length (itemFields x)
+  unfolding itemsFields
+  left-end here pending h l = none (l .items) (l .number) (l .reach)
+    where
+      none : (xs : List Item) → length xs ≡ pending → here + 2 * length (itemsFields xs) ≡ at + 2 * length (itemFields x) → here ≡ at + 2 * length (itemFields x)
+      none [] n r = omega arith
+      none (y ∷ ys) n r = absurd (omega arith)
+
+  cut : (y : Item) (ys : List Item) → itemsFields (y ∷ ys) ≡ headFields y ++ itemsFields (children y ++ ys)
+  unfolding itemsFields
+  cut y ys =
+      ap (λ (l : List ℕ). l ++ itemsFields ys) (item-opens y)
+      ∙ append-assoc (headFields y) (itemsFields (children y)) (itemsFields ys)
+      ∙ ap (λ (l : List ℕ). headFields y ++ l) (sym (items-append (children y) ys))
+
+  pub left-inside : (here pending : ℕ) → 0 < pending → Left bs at here pending x → length bs ≤ here → ⊥
+  left-inside here pending h l out = some-left (l .items) (l .number) (l .stand)
+    where
+      some-left : (xs : List Item) → length xs ≡ pending → Stands bs here (itemsFields xs) → ⊥
+      some-left [] n s = omega arith
+      some-left (y ∷ ys) n s =
+          word-inside bs here (head-marked bs here (itemsFields (children y ++ ys)) y (subst (Stands bs here) (cut y ys) s)) out
+
+  module _ (here pending : ℕ) (more : 0 < pending) (s : Step) (p : Passed bs here s) where
+    step-on : (xs : List Item) → length xs ≡ pending → Stands bs here (itemsFields xs) → here + 2 * length (itemsFields xs) ≡ at + 2 * length (itemFields x) → Left bs at (s .next) (pending - 1 + s .more) x
+    step-on [] n h r = absurd (omega arith)
+    step-on (y ∷ ys) n h r =
+        let h′ : Stands bs here (headFields y ++ itemsFields (children y ++ ys)) = subst (Stands bs here) (cut y ys) h in
+        let size = head-size bs here (itemsFields (children y ++ ys)) y h′ in
+        let count = child-count bs here (itemsFields (children y ++ ys)) y h′ in
+        let next : s .next ≡ here + 2 * length (headFields y) = p .next-is ∙ ap (λ (k : ℕ). here + k) size in
+        let long = ap length (cut y ys) ∙ length-append (headFields y) (itemsFields (children y ++ ys)) in
+        let many = length-append (children y) ys in
+        let m : s .more ≡ length (children y) = p .more-is ∙ count in
+        record {
+          items = children y ++ ys;
+          stand = subst (λ (o : ℕ). Stands bs o (itemsFields (children y ++ ys))) (sym next) (stands-second bs here (headFields y) (itemsFields (children y ++ ys)) h′);
+          number = omega arith;
+          reach = omega arith;
+        }
+
+    pub left-step : Left bs at here pending x → Left bs at (s .next) (pending - 1 + s .more) x
+    left-step l = step-on (l .items) (l .number) (l .stand) (l .reach)
+
+  pub left-first : (s : Step) → Passed bs at s → Stands bs at (itemFields x) → Left bs at (s .next) (s .more) x
+  left-first s p h =
+      let e : 1 - 1 + s .more ≡ s .more = omega arith in
+      subst (λ (k : ℕ). Left bs at (s .next) k x) e (left-step at 1 (omega arith) s p (left-start h))
+
+  -- all of the next record at once
+  module _ (here pending end : ℕ) (more : 0 < pending) (s : Skipped bs here end) where
+    whole-on : (xs : List Item) → length xs ≡ pending → Stands bs here (itemsFields xs) → here + 2 * length (itemsFields xs) ≡ at + 2 * length (itemFields x) → Left bs at end (pending - 1 + 0) x
+    unfolding itemsFields
+    whole-on [] n h r = absurd (omega arith)
+    whole-on (y ∷ ys) n h r =
+        let e : end ≡ here + 2 * length (itemFields y) = s .ends y (stands-first bs here (itemFields y) (itemsFields ys) h) in
+        record {
+          items = ys;
+          stand = subst (λ (o : ℕ). Stands bs o (itemsFields ys)) (sym e) (stands-second bs here (itemFields y) (itemsFields ys) h);
+          number = omega arith;
+          reach = omega (arith, length-append (itemFields y) (itemsFields ys));
+        }
+
+    pub left-whole : Left bs at here pending x → Left bs at end (pending - 1 + 0) x
+    left-whole l = whole-on (l .items) (l .number) (l .stand) (l .reach)
+
+-- declarations that hold no other record, by their marks
+module _ (bs : List ℕ) (at : ℕ) where
+  passed-alone : (w size : ℕ) → wordAt bs at ≡ w → ((a : ℕ) → headSize w a ≡ size) → ((d a : ℕ) → childCount w d a ≡ 0) → 4 ≤ size → size ≤ 131076 → Passed bs at (record { next = at + size; more = 0 })
+  passed-alone w size m head children low high = record {
+    next-is = ap (λ (k : ℕ). at + k) (sym (ap (λ (x : ℕ). headSize x (wordAt bs (at + 4))) m ∙ head (wordAt bs (at + 4))));
+    more-is = sym (ap (λ (x : ℕ). childCount x (wordAt bs (at + 2)) (wordAt bs (at + 4))) m ∙ children (wordAt bs (at + 2)) (wordAt bs (at + 4)));
+    on = omega arith;
+    near = omega arith;
+    few = omega arith;
+  }
+
+  pub passed-VR : wordAt bs at ≡ VR-mark → Passed bs at (record { next = at + 4; more = 0 })
+  unfolding headSize sizeOf childCount
+  passed-VR m = passed-alone VR-mark 4 m (λ a. refl) (λ d a. refl) (omega arith) (omega arith)
+
+  pub passed-LB : wordAt bs at ≡ LB-mark → Passed bs at (record { next = at + 6; more = 0 })
+  unfolding headSize sizeOf childCount
+  passed-LB m = passed-alone LB-mark 6 m (λ a. refl) (λ d a. refl) (omega arith) (omega arith)
+
+-- past the end of the script, and where nothing stands inside
+pub skipped-out : (bs : List ℕ) (at : ℕ) → length bs ≤ at → Skipped bs at at
+skipped-out bs at out = record {
+  ends = λ x h. absurd (left-inside bs at x at 1 (omega arith) (left-start bs at x h) out);
+  onward = omega arith;
+  close = omega arith;
+}
+
+module _ (bs : List ℕ) (at : ℕ) (inside : at < length bs) (s : Step) (p : Passed bs at s) where
+  pub skipped-head : s .more ≡ 0 → Skipped bs at (s .next)
+  skipped-head none = record {
+    ends = λ x h. left-end bs at x (s .next) (s .more) (omega arith) (left-first bs at x s p h);
+    onward = omega (arith, p .on);
+    close = omega (arith, p .near);
+  }
+
+  pub stepped-head : Stepped bs at s
+  stepped-head = record {
+    steps = λ from pending x more l. left-step bs from x at pending more s p l;
+    on = p .on;
+    near = omega (arith, p .near);
+    few = p .few;
+  }

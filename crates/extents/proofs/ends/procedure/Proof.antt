@@ -1,0 +1,33 @@
+-- `extents::ends::procedure` meets its contract: what is noted, or what is found. Assumes nothing.
+use borrow.Author.Needs.{needs}
+use mathlib.Core.Path.{sym, subst}
+use Prim.Native.Nat.{ℕ, _/_}
+use native.Mathlib.Omega.{arith}
+use lib.ListN.{getD}
+use Rattle.extents.specs.Passing.{Skipped}
+use Rattle.extents.proofs.ends.procedure.Statement.{statement}
+use Rattle.extents.proofs.ends.procedure.Tie as tie
+
+noted-requires : tie.Need-noted-requires
+noted-requires c κs = search needs
+
+returns : tie.Need-returns
+returns c =
+    let n = c .before .noted .ensures (c .if1 .taken) in
+    let st = c .before .before .before .before in
+    let a = st .args in
+    let e = getD (a .ends .now) (a .at / 12) 0 in (
+      subst (λ (o : ℕ). Skipped (a .script .now) o (c .before .noted .result)) (sym (n .0))
+          (subst (Skipped (a .script .now) (e / 65536)) (sym (n .1)) (st .pre .2 .right (a .at / 12) (omega (arith, n .1, c .if1 .taken)))),
+      st .pre .2,
+    )
+
+fill-requires : tie.Need-fill-requires
+fill-requires c κs = search needs
+
+returns-2 : tie.Need-returns-2
+returns-2 c = search needs
+
+pub procedure-spec : {M : Type 1} → statement M
+procedure-spec =
+    tie.close (tie.spec noted-requires returns fill-requires returns-2)

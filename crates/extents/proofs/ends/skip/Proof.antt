@@ -1,0 +1,47 @@
+-- `extents::ends::skip` meets its contract: a case for each way out. Assumes nothing.
+use borrow.Author.Needs.{needs}
+use mathlib.Core.Path.{refl}
+use Rattle.extents.proofs.Skipping.{skipped-out, skipped-head}
+use Rattle.extents.proofs.ends.skip.Statement.{statement}
+use Rattle.extents.proofs.ends.skip.Tie as tie
+
+returns : tie.Need-returns
+returns c =
+    let st = c .before .before in
+    (skipped-out (st .args .script .now) (st .args .at) (c .if1 .taken), st .pre .1)
+
+word-requires : tie.Need-word-requires
+word-requires c κs = search needs
+
+procedure-requires : tie.Need-procedure-requires
+procedure-requires c κs = search needs
+
+returns-2 : tie.Need-returns-2
+returns-2 c = search needs
+
+fill-requires : tie.Need-fill-requires
+fill-requires c κs = search needs
+
+returns-3 : tie.Need-returns-3
+returns-3 c = search needs
+
+past-requires : tie.Need-past-requires
+past-requires c κs = search needs
+
+returns-4 : tie.Need-returns-4
+returns-4 c =
+    let st = c .before .before .before .before .before .before in
+    (skipped-head (st .args .script .now) (st .args .at) (c .before .before .before .before .if1 .left) _ (c .past .ensures) refl, st .pre .1)
+
+pub skip-spec : {M : Type 1} → statement M
+skip-spec =
+    tie.close
+    (tie.spec
+    returns
+    word-requires
+    procedure-requires
+    returns-2
+    fill-requires
+    returns-3
+    past-requires
+    returns-4)

@@ -1,0 +1,111 @@
+// Where a record ends, with all that stands inside it. The ends of procedures are noted in a table as they are passed, so that a body
+// inside others is passed once and not again for each procedure around it. No two procedures begin within 12 bytes: a PR and the BK of
+// its body have 6 each.
+use super::passing::Step;
+use super::passing::pass;
+use super::passing::past;
+use records::BK;
+use records::PR;
+use words::word;
+ghost use mathlib.Core.Path.{_≡_};
+ghost use mathlib.Core.List.{List};
+ghost use Prim.Native.Nat.{ℕ, _+_, _/_, _%_, _<_, _≤_};
+ghost use lib.ListN.{length, getD};
+ghost use Rattle.extents.specs.Passing.{Skipped, Stepped, Ends};
+
+fn unpacked(x: u32) -> usize
+    ensures { λ r. ⌜ r ≡ x ⌝ }
+{
+    x as usize
+}
+
+// The end noted for the record at an offset, or 0.
+fn noted(ends: &[u32; 683], at: usize) -> usize
+    requires { ⌜ (length (now ends) ≡ 683) × (at < 8192) ⌝ }
+    ensures { λ r. ⌜ (0 < r → (at ≡ getD (now (ends .entry)) (at / 12) 0 / 65536) × (r ≡ getD (now (ends .entry)) (at / 12) 0 % 65536)) ⌝ }
+{
+    let e = unpacked(ends[at / 12]);
+    if e / 65536 == at {
+        return e % 65536;
+    }
+    0
+}
+
+fn note(ends: &mut [u32; 683], at: usize, end: usize)
+    requires { ⌜ (length (now ends) ≡ 683) × (at < 8192) ⌝ }
+    ensures { λ _. ⌜ ((bs : List ℕ) → Skipped bs at end → Ends bs (now (ends .entry)) → Ends bs (now (ends .exit))) ⌝ }
+{
+    if 65535 < end {
+        return;
+    }
+    ends[at / 12] = (65536 * at + end) as u32;
+}
+
+// The record at an offset: a procedure with all that stands inside it, or the head of another.
+fn over(script: &[u8], ends: &mut [u32; 683], at: usize) -> Step
+    requires { ⌜ (length (now script) ≤ 8192) × (at < length (now script)) × Ends (now script) (now ends) ⌝ }
+    ensures stepped { λ r. ⌜ Stepped (now (script .entry)) at r ⌝ }
+    ensures noted { λ r. ⌜ Ends (now (script .entry)) (now (ends .exit)) ⌝ }
+{
+    let mark = word(script, at);
+    if mark == PR {
+        return Step {
+            next: fill(script, ends, at),
+            more: 0,
+        };
+    }
+    pass(script, at, mark)
+}
+
+// Where the record at an offset ends. The ends of the procedures inside it are noted, and its own.
+fn fill(script: &[u8], ends: &mut [u32; 683], at: usize) -> usize
+    requires { ⌜ (length (now script) ≤ 8192) × (at < length (now script)) × Ends (now script) (now ends) ⌝ }
+    ensures skipped { λ r. ⌜ Skipped (now (script .entry)) at r × (at + 4 ≤ r) ⌝ }
+    ensures noted { λ r. ⌜ Ends (now (script .entry)) (now (ends .exit)) ⌝ }
+{
+    let first = pass(script, at, word(script, at));
+    let mut here = first.next;
+    let mut pending = first.more;
+    while 0 < pending {
+        if script.len() <= here {
+            return here;
+        }
+        let s = over(script, ends, here);
+        pending = pending - 1 + s.more;
+        here = s.next;
+    }
+    note(ends, at, here);
+    here
+}
+
+// Where the procedure at an offset ends.
+fn procedure(script: &[u8], ends: &mut [u32; 683], at: usize) -> usize
+    requires { ⌜ (length (now script) ≤ 8192) × (at < length (now script)) × Ends (now script) (now ends) ⌝ }
+    ensures skipped { λ r. ⌜ Skipped (now (script .entry)) at r ⌝ }
+    ensures noted { λ r. ⌜ Ends (now (script .entry)) (now (ends .exit)) ⌝ }
+{
+    let end = noted(ends, at);
+    if 0 < end {
+        return end;
+    }
+    fill(script, ends, at)
+}
+
+// Where the record at an offset ends.
+pub fn skip(script: &[u8], ends: &mut [u32; 683], at: usize) -> usize
+    requires { ⌜ (length (now script) ≤ 8192) × Ends (now script) (now ends) ⌝ }
+    ensures skipped { λ r. ⌜ Skipped (now (script .entry)) at r ⌝ }
+    ensures noted { λ r. ⌜ Ends (now (script .entry)) (now (ends .exit)) ⌝ }
+{
+    if script.len() <= at {
+        return at;
+    }
+    let mark = word(script, at);
+    if mark == PR {
+        return procedure(script, ends, at);
+    }
+    if mark == BK {
+        return fill(script, ends, at);
+    }
+    past(script, at, mark)
+}

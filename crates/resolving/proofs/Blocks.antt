@@ -1,0 +1,110 @@
+-- A block with its formals: its names in the array, and its words.
+-- Assumes nothing.
+use mathlib.Core.Path.{_≡_, refl, sym, _∙_, ap, ap₂, subst}
+use mathlib.Core.List.{List, [], _∷_, _++_, map, append-assoc}
+use Prim.Native.Nat.{ℕ, suc, _+_, _*_, _/_, _%_, _<_, _≤_}
+use native.Mathlib.Omega.{arith}
+use lib.ListN.{length, drop, set, length-append}
+use Rattle.language.specs.Text.{Formal, Block, block, Decls, Stmts, decls, stmts, blockAt, blockDecls}
+use Rattle.language.specs.Encoding.{blockFields}
+use Rattle.grammar.specs.Rules.{FormedBlock}
+use Rattle.coordinates.specs.Enclosure.{enclosed, Enclosure}
+use Rattle.resolved.specs.Resolved.{endPlace, stmtPlace, headWord, boundsWord, header, nameWord, resolvedFormals, resolvedBlock, resolvedDecls, resolvedStmts}
+use Rattle.resolved.specs.Lengths.{formals-length, formals-fields}
+use Rattle.words.specs.Words.{wordAt}
+use Rattle.symbols.proofs.Chains.{kept-from}
+use Rattle.extents.specs.Items.{itemsFields, inBlock, declared, stated}
+use Rattle.scoping.specs.Walking.{BlockHere}
+use Rattle.scoping.proofs.Blocks.{items-here, reaches}
+use Rattle.emitting.specs.Growth.{Grown}
+use Rattle.emitting.specs.Emitted.{wordIn, Short, Shown}
+use Rattle.emitting.proofs.Growth.{grown-then, grown-patched}
+use Rattle.emitting.proofs.Lookups.{word-is, word-short}
+use Rattle.declaring.specs.Declared.{Declares}
+use Rattle.resolving.specs.Resolving.{resolvedItems, BlockIs, ItemsIs, Written, FormalsWritten, Entered, Leads, BlockWritten, ItemsWritten}
+use Rattle.resolving.proofs.Items.{stmts-resolved, decls-resolved}
+
+formals-place : (fs : List Formal) (at count : ℕ) → length fs ≡ count → at + 6 * count ≡ at + 2 * length (resolvedFormals fs)
+formals-place fs at count n = omega (arith, formals-length fs, formals-fields fs)
+
+module _ (bs : List ℕ) (name at count d base level : ℕ) (d-read : d ≡ wordAt bs (at + 6 * count + 2)) where
+  abbrev top : ℕ
+  top = base + (count + d)
+
+  abbrev head : ℕ
+  head = 6 + 256 * level + 65536 * count + 16777216 * (count + d)
+
+  head-is : (b : Block) (fs : List Formal) → BlockHere bs at count top b fs level → (head ≡ headWord (enclosed fs b) level) × Short head
+  unfolding headWord blockDecls blockFields FormedBlock
+  head-is (block o ds ss) fs h =
+      let n = h .number in
+      let m : d ≡ length (decls ds) = d-read ∙ h .stand .1 .0 in
+      let few = h .formed .few in
+      let low = h .formed .nesting in
+      (omega arith, omega arith)
+
+  pub entered :
+      (es es₁ es₂ c c₁ c₂ : List ℕ) (first looked : ℕ) → Declares bs es es₁ at count d base level first → drop base es₂ ≡ drop base es₁ →
+      FormalsWritten bs at count c c₁ → looked ≡ wordIn name (drop base es₂) →
+      (Short head → Short 0 → Short looked → Grown c₁ c₂ (at + 6 * count) (head ∷ 0 ∷ looked ∷ [])) → Entered bs es es₂ name at count top base level c c₂
+  entered es es₁ es₂ c c₁ c₂ first looked declares kept formals found put b fs encl is =
+      let shown : Shown (enclosed fs b ∷ encl) (drop base es₂) =
+      subst (Shown (enclosed fs b ∷ encl)) (sym kept) (declares .shows b fs encl (is .here) (is .depth) (is .within) (is .shown)) in
+      let h = head-is b fs (is .here) in
+      let w : looked ≡ nameWord (enclosed fs b ∷ encl) name = found ∙ word-is (enclosed fs b ∷ encl) (drop base es₂) shown name in
+      let g = put (h .1) (omega arith) (subst Short (sym w) (word-short (enclosed fs b ∷ encl) (drop base es₂) shown name)) in (
+        shown,
+        grown-then (formals-place fs at count (is .here .number)) (formals fs (is .here .number) (is .here .formals))
+            (subst (λ (v : ℕ). Grown c₁ c₂ (at + 6 * count) (headWord (enclosed fs b) level ∷ 0 ∷ v ∷ [])) w
+            (subst (λ (v : ℕ). Grown c₁ c₂ (at + 6 * count) (v ∷ 0 ∷ looked ∷ [])) (h .0) g)),
+      )
+
+-- the block's text
+block-resolved :
+    (name o : ℕ) (ds : Decls) (ss : Stmts) (fs : List Formal) (encl : Enclosure) (level : ℕ) → suc (length encl) ≡ level →
+    let e = enclosed fs (block o ds ss) in
+    headWord e level ∷ boundsWord (block o ds ss) ∷ nameWord (e ∷ encl) name ∷ resolvedItems name (inBlock (block o ds ss)) (e ∷ encl) ≡ resolvedBlock name (block o ds ss) fs encl
+unfolding resolvedBlock header inBlock
+block-resolved name o ds ss fs encl level depth =
+    let e = enclosed fs (block o ds ss) in
+    ap₂ (λ (k : ℕ) (l : List ℕ). headWord e k ∷ boundsWord (block o ds ss) ∷ nameWord (e ∷ encl) name ∷ l) (sym depth)
+    (sym (ap (λ (l : List ℕ). resolvedDecls name ds (e ∷ encl) ++ l) (stmts-resolved name ss (e ∷ encl)) ∙ decls-resolved name ds (map stated (stmts ss)) (e ∷ encl)))
+
+end-place : (bs : List ℕ) (at count top level : ℕ) (b : Block) (fs : List Formal) → BlockHere bs at count top b fs level → (at + 6 * count + 2 * length (blockFields b)) / 2 ≡ endPlace b
+unfolding endPlace blockAt FormedBlock
+end-place bs at count top level (block o ds ss) fs h = let e = h .formed .stands in omega arith
+
+module _ (bs es es₁ c c₁ c₂ c₃ : List ℕ) (name at count top base level first end d s : ℕ) (d-read : d ≡ wordAt bs (at + 6 * count + 2)) (s-read : s ≡ wordAt bs (at + 6 * count + 4)) (whole : base + (count + d) ≡ top)
+    (enters : Entered bs es es₁ name at count top base level c c₁) (leads : Leads bs es at count top level first)
+    (walked : ItemsWritten bs es₁ name (at + 6 * count + 6) (d + s) base level c₁ c₂ end)
+    (put : c₃ ≡ set c₂ ((at + 6 * count + 2) / 2) ((end / 2 + 65536 * (first / 2)) % 4294967296)) where
+  pub block-written : BlockWritten bs es name at count top level c c₃ end
+  unfolding boundsWord
+  block-written (block o ds ss) fs encl is =
+      let b = block o ds ss in
+      let e = enclosed fs b in
+      let n = enters b fs encl is in
+      let far = reaches bs at count top o ds ss fs level (is .here) in
+      let w = walked (inBlock b) (e ∷ encl) (length (stmts ss))
+      (record {
+        here = items-here bs at count top o ds ss fs level (is .here) d s base d-read s-read whole;
+        depth = is .depth;
+        shown = n .0;
+        within = omega (arith, is .within);
+      }) in
+      let l = leads b fs encl is in
+      let long = formals-place fs at count (is .here .number) in
+      let ended : end ≡ at + 6 * count + 2 * length (blockFields b) = w .ends ∙ far in
+      let place : end / 2 ≡ endPlace b = ap (λ (x : ℕ). x / 2) ended ∙ end-place bs at count top level b fs (is .here) in
+      let v : end / 2 + 65536 * (first / 2) ≡ boundsWord b = omega (arith, l .1) in
+      let whole-words : Grown c c₂ at (resolvedFormals fs ++ (headWord e level ∷ 0 ∷ nameWord (e ∷ encl) name ∷ resolvedItems name (inBlock b) (e ∷ encl))) =
+      subst (Grown c c₂ at) (append-assoc (resolvedFormals fs) (headWord e level ∷ 0 ∷ nameWord (e ∷ encl) name ∷ []) (resolvedItems name (inBlock b) (e ∷ encl)))
+      (grown-then (omega (arith, length-append (resolvedFormals fs) (headWord e level ∷ 0 ∷ nameWord (e ∷ encl) name ∷ []))) (n .1) (w .grows)) in
+      record {
+        ends = ended;
+        grows =
+            subst (λ (ws : List ℕ). Grown c c₃ at (resolvedFormals fs ++ ws)) (block-resolved name o ds ss fs encl level (is .depth))
+            (subst (λ (x : ℕ). Grown c c₃ at (resolvedFormals fs ++ (headWord e level ∷ x ∷ nameWord (e ∷ encl) name ∷ resolvedItems name (inBlock b) (e ∷ encl)))) v
+            (grown-patched (resolvedFormals fs) (headWord e level) (end / 2 + 65536 * (first / 2)) (nameWord (e ∷ encl) name ∷ resolvedItems name (inBlock b) (e ∷ encl))
+            (at + 6 * count + 2) (omega arith) (omega (arith, l .0, ended, is .within)) put whole-words));
+      }

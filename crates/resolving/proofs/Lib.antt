@@ -1,0 +1,5 @@
+pub mod Listing
+pub mod Items
+pub mod Records
+pub mod Blocks
+pub mod Whole

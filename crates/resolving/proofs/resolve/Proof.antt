@@ -1,0 +1,52 @@
+-- `resolving::resolve` meets its contract: the program is a block with no formals, and no name is visible around it. Assumes nothing.
+use mathlib.Core.Path.{_≡_, subst}
+use mathlib.Core.List.{List}
+use Prim.Native.Nat.{ℕ}
+use native.Mathlib.Nat.{le-of-eq}
+use native.Mathlib.Omega.{arith}
+use lib.ListN.{replicate, length-replicate}
+use Rattle.symbols.proofs.Chains.{none-chained}
+use Rattle.extents.proofs.Noting.{none-noted}
+use Rattle.scoping.proofs.Whole.{bytes-are}
+use Rattle.resolving.specs.Resolving.{BlockWritten}
+use Rattle.resolving.proofs.Whole.{accepted-short, words-are}
+use borrow.Author.Needs.{needs}
+use Rattle.resolving.proofs.resolve.Statement.{statement}
+use Rattle.resolving.proofs.resolve.Tie as tie
+
+returns : tie.Need-returns
+returns c =
+    let a = c .before .before .before .args in
+    λ t e. absurd (omega (arith, c .if1 .taken, accepted-short (a .script .now) (bytes-are (a .script .now) (λ i. c .before .before .shared-slice-known .given i .fits)) t e))
+
+slice-aggregate-block : tie.Need-slice-aggregate-block
+slice-aggregate-block c = search needs
+
+slice-aggregate-block-2 : tie.Need-slice-aggregate-block-2
+slice-aggregate-block-2 c = search needs
+
+block-requires : tie.Need-block-requires
+block-requires c κs = (omega (arith, c .before .before .before .before .if1 .left), omega arith, omega arith, search needs, search needs, omega arith, none-chained (replicate 1280 1280) (length-replicate {A = ℕ} 1280 1280), none-noted _)
+
+same-length : tie.Need-same-length
+same-length c = search needs
+
+returns-2 : tie.Need-returns-2
+returns-2 c =
+    let st = c .before .before .before .before .before .before .before .before .before .before .before .before in
+    let a = st .args in
+    let b = c .before .before .before .before .block in
+    λ t e. words-are (a .script .now) (bytes-are (a .script .now) (λ i. c .before .before .before .before .before .before .before .before .before .before .before .shared-slice-known .given i .fits)) t e (replicate 1280 1280) _ (a .name) (b .result)
+    (le-of-eq (length-replicate {A = ℕ} 1280 1280))
+    (subst (λ (l : List ℕ). BlockWritten (a .script .now) (replicate 1280 1280) (a .name) 0 0 1280 1 l (b .last .1 .1 .1 .1 .0) (b .result)) (st .pre) (b .ensures .0))
+
+pub resolve-spec : {M : Type 1} → statement M
+resolve-spec =
+    tie.close
+    (tie.spec
+    returns
+    slice-aggregate-block
+    slice-aggregate-block-2
+    block-requires
+    same-length
+    returns-2)

@@ -1,0 +1,28 @@
+-- What is found from an entry on.
+-- Assumes nothing.
+use mathlib.Core.Path.{_≡_, sym}
+use mathlib.Core.List.{List}
+use Prim.Native.Nat.{ℕ, _+_, _/_, _%_, _<_, _≤_, _^_}
+use native.Mathlib.Numerals.{add-one}
+use lib.ListN.{length, getD, drop, drop-of-length-le}
+use lib.Seq.{drop-cons}
+use borrow.Author.Tests.{eq-eqb, ne-eqb}
+use Rattle.symbols.specs.Entries.{foundIn, Near}
+use Rattle.symbols.specs.declared.Found.{Found}
+use Rattle.symbols.specs.declared.Found.the-variants.{At, Nothing}
+
+-- the entries from i on
+pub found-at : (n : ℕ) (es : List ℕ) (i : ℕ) → i < length es → getD es i 0 % 65536 ≡ n → foundIn n (drop i es) ≡ At (getD es i 0 / 65536)
+unfolding foundIn
+found-at n es i h e = rw (drop-cons es i 0 h, eq-eqb n (getD es i 0 % 65536) (sym e), foundIn)
+
+pub found-later : (n : ℕ) (es : List ℕ) (i : ℕ) → i < length es → (getD es i 0 % 65536 ≡ n → ⊥) → foundIn n (drop i es) ≡ foundIn n (drop (i + 1) es)
+unfolding foundIn
+found-later n es i h e = rw (add-one, drop-cons es i 0 h, ne-eqb n (getD es i 0 % 65536) (λ p. e (sym p)), foundIn)
+
+pub found-none : (n : ℕ) (es : List ℕ) (i : ℕ) → length es ≤ i → foundIn n (drop i es) ≡ Nothing
+unfolding foundIn
+found-none n es i h = rw (drop-of-length-le es h)
+
+pub near-place : (r : Found) (place : ℕ) → r ≡ At place → Near r → place < 2 ^ 48
+near-place r place e h = rw e at h

@@ -1,0 +1,110 @@
+// The table of visible names: one array of entries, nearest declaration first, and below them, in the same array, chains of the entries
+// whose names have the same remainder by 256. A use is found in a step or two, and in at most 512 where that many names share a remainder.
+// An entry is a name of 16 bits and, times 65536, a number below 2^48 that the walk over the script keeps of it.
+ghost use mathlib.Core.Path.{_≡_};
+ghost use Prim.Native.Nat.{_+_, _%_, _^_, _<_, _≤_, max};
+ghost use lib.ListN.{length, getD, drop};
+ghost use Rattle.symbols.specs.Entries.{foundIn, Near};
+ghost use Rattle.symbols.specs.Chains.{Chained};
+
+// What is kept of a name.
+pub enum Found {
+    At(usize),
+    Nothing,
+}
+
+// The first entry from `top` on that can have a name.
+fn first(entries: &[usize], top: usize, name: usize) -> usize
+    requires { ⌜ Chained (now entries) top ⌝ }
+    ensures { λ r. ⌜ (top ≤ r) × (foundIn name (drop r (now (entries .entry))) ≡ foundIn name (drop top (now (entries .entry)))) ⌝ }
+{
+    let i = entries[name % 256];
+    if i < top {
+        return top;
+    }
+    i
+}
+
+// The next entry after one with another name that can have this one.
+fn after(entries: &[usize], top: usize, at: usize, name: usize) -> usize
+    requires { ⌜ Chained (now entries) top × (top ≤ at) × (at < length (now entries)) × (getD (now entries) at 0 % 65536 ≡ name → ⊥) ⌝ }
+    ensures { λ r. ⌜ (at < r) × (foundIn name (drop r (now (entries .entry))) ≡ foundIn name (drop at (now (entries .entry)))) ⌝ }
+{
+    if entries[at] % 256 == name % 256 {
+        return entries[at - 512];
+    }
+    at + 1
+}
+
+// What the first entry from `top` on with a name keeps of it.
+pub fn find(entries: &[usize], top: usize, name: usize) -> Found
+    requires { ⌜ Chained (now entries) top ⌝ }
+    ensures { λ r. ⌜ (r ≡ foundIn name (drop top (now (entries .entry)))) × Near r ⌝ }
+{
+    let mut i = first(entries, top, name);
+    while i < entries.len() {
+        let e = entries[i];
+        if e % 65536 == name {
+            return Found::At(e / 65536);
+        }
+        i = after(entries, top, i, name);
+    }
+    Found::Nothing
+}
+
+fn later(i: usize, at: usize) -> usize
+    requires { ⌜ at < 2 ^ 32 ⌝ }
+    ensures { λ r. ⌜ (at < r) × (r ≤ max i (at + 1)) ⌝ }
+{
+    if i <= at {
+        return at + 1;
+    }
+    i
+}
+
+// An entry becomes the first of its chain.
+fn insert_one(entries: &mut [usize], at: usize)
+    requires { ⌜ Chained (now entries) (at + 1) × (768 ≤ at) × (at < 1280) ⌝ }
+    ensures chained { λ _. ⌜ Chained (now (entries .exit)) at ⌝ }
+    ensures kept { λ _. ⌜ drop 768 (now (entries .exit)) ≡ drop 768 (now (entries .entry)) ⌝ }
+{
+    let h = entries[at] % 256;
+    let i = entries[h];
+    entries[at - 512] = later(i, at);
+    entries[h] = at;
+}
+
+// The entries from `base` to `top`, the last one first.
+pub fn insert(entries: &mut [usize], base: usize, top: usize)
+    requires { ⌜ Chained (now entries) top × (768 ≤ base) × (base ≤ top) × (top ≤ 1280) ⌝ }
+    ensures chained { λ _. ⌜ Chained (now (entries .exit)) base ⌝ }
+    ensures kept { λ _. ⌜ drop 768 (now (entries .exit)) ≡ drop 768 (now (entries .entry)) ⌝ }
+{
+    let mut i = top;
+    while base < i {
+        i -= 1;
+        insert_one(entries, i);
+    }
+}
+
+// The nearest entry leaves its chain.
+fn remove_one(entries: &mut [usize], at: usize)
+    requires { ⌜ Chained (now entries) at × (at < 1280) ⌝ }
+    ensures chained { λ _. ⌜ Chained (now (entries .exit)) (at + 1) ⌝ }
+    ensures kept { λ _. ⌜ drop 768 (now (entries .exit)) ≡ drop 768 (now (entries .entry)) ⌝ }
+{
+    let h = entries[at] % 256;
+    entries[h] = entries[at - 512];
+}
+
+pub fn remove(entries: &mut [usize], base: usize, top: usize)
+    requires { ⌜ Chained (now entries) base × (base ≤ top) × (top ≤ 1280) ⌝ }
+    ensures chained { λ _. ⌜ Chained (now (entries .exit)) top ⌝ }
+    ensures kept { λ _. ⌜ drop 768 (now (entries .exit)) ≡ drop 768 (now (entries .entry)) ⌝ }
+{
+    let mut i = base;
+    while i < top {
+        remove_one(entries, i);
+        i += 1;
+    }
+}

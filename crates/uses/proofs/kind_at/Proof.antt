@@ -1,0 +1,63 @@
+-- `uses::kind_at` meets its contract: a case for each mark. Assumes nothing.
+use Prim.Native.Nat.{ℕ}
+use mathlib.Core.Path.{sym, ap, _∙_}
+use Rattle.language.specs.Encoding.{kindField}
+use Rattle.language.specs.Scope.{Meaning}
+use Rattle.uses.specs.Meanings.{kindOf}
+use Rattle.uses.proofs.Meanings.{means-PR, means-LB, means-FM, means-other}
+use borrow.Author.Needs.{needs}
+use Rattle.uses.proofs.kind_at.Statement.{statement}
+use Rattle.uses.proofs.kind_at.Tie as tie
+
+word-requires : tie.Need-word-requires
+word-requires c κs = search needs
+
+returns : tie.Need-returns
+unfolding kindField
+returns c =
+    let a = c .before .before .before .args in
+    rw (means-PR (a .script .now) (a .place) (sym (c .before .word .ensures .0) ∙ c .if1 .taken))
+
+returns-2 : tie.Need-returns-2
+unfolding kindField
+returns-2 c =
+    let a = c .before .before .before .before .args in
+    rw (means-LB (a .script .now) (a .place) (sym (c .before .before .word .ensures .0) ∙ c .if2 .taken))
+
+add-word : tie.Need-add-word
+add-word c = search needs
+
+word-requires-2 : tie.Need-word-requires-2
+word-requires-2 c κs = search needs
+
+kind-number-requires : tie.Need-kind-number-requires
+kind-number-requires c κs = search needs
+
+returns-3 : tie.Need-returns-3
+returns-3 c =
+    let b = c .before .before in
+    let a = b .before .before .before .before .before .args in
+    c .kind-number .ensures ∙ ap (λ (x : ℕ). kindField (kindOf x)) (c .before .word2 .ensures .0)
+    ∙ sym (ap (λ (m : Meaning). kindField (m .kind)) (means-FM (a .script .now) (a .place) (sym (b .before .before .before .word .ensures .0) ∙ b .if3 .taken)))
+
+returns-4 : tie.Need-returns-4
+unfolding kindField
+returns-4 c =
+    let a = c .before .before .before .before .before .args in
+    let w = c .before .before .before .word .ensures .0 in
+    rw
+    (means-other (a .script .now) (a .place) (λ e. c .before .before .if1 .left (w ∙ e)) (λ e. c .before .if2 .left (w ∙ e))
+    (λ e. c .if3 .left (w ∙ e)))
+
+pub kind-at-spec : {M : Type 1} → statement M
+kind-at-spec =
+    tie.close
+    (tie.spec
+    word-requires
+    returns
+    returns-2
+    add-word
+    word-requires-2
+    kind-number-requires
+    returns-3
+    returns-4)

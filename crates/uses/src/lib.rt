@@ -1,0 +1,109 @@
+// The kind of a name, and the names that a record uses, left to right: 9 and 10.
+use language::Refusal;
+use language::Verdict;
+use records::FM;
+use records::LB;
+use records::PR;
+use symbols::Found;
+use symbols::find;
+use words::word;
+ghost use mathlib.Core.Path.{_≡_};
+ghost use Prim.Native.Nat.{_^_, _<_, _≤_};
+ghost use Rattle.language.specs.Encoding.{kindField};
+ghost use Rattle.language.specs.Scope as definitions;
+ghost use Rattle.words.specs.Words.{wordAt};
+ghost use Rattle.uses.specs.Meanings.{kindOf, meaningAt, scopeFrom, verdictOf, pairJudged, tripleJudged};
+ghost use Rattle.symbols.specs.Chains.{Chained};
+
+pub fn kind_number(x: usize) -> usize
+    ensures { λ r. ⌜ r ≡ kindField (kindOf x) ⌝ }
+{
+    if x < 2 {
+        return x;
+    }
+    2
+}
+
+// The kind that the record at an offset declares: 0 variable, 1 label, 2 procedure.
+pub fn kind_at(script: &[u8], place: usize) -> usize
+    requires { ⌜ place < 2 ^ 59 ⌝ }
+    ensures { λ r. ⌜ r ≡ kindField (meaningAt (now (script .entry)) place .kind) ⌝ }
+{
+    let mark = word(script, place);
+    if mark == PR {
+        return 2;
+    }
+    if mark == LB {
+        return 1;
+    }
+    if mark == FM {
+        return kind_number(word(script, place + 4));
+    }
+    0
+}
+
+// A name used where a kind is wanted: 9, then 10.
+pub fn uses(
+    script: &[u8],
+    entries: &[usize],
+    top: usize,
+    at: usize,
+    kind: usize,
+    name: usize,
+) -> Verdict
+    requires { ⌜ (kind ≤ 2) × Chained (now entries) top ⌝ }
+    ensures { λ r. ⌜ r ≡ verdictOf (definitions.uses (scopeFrom (now (script .entry)) (now (entries .entry)) top) at (kindOf kind) name) ⌝ }
+{
+    let Found::At(place) = find(entries, top, name) else {
+        return Verdict::Refused(Refusal::NotVisible, at);
+    };
+    if kind_at(script, place) == kind {
+        return Verdict::Fit;
+    }
+    Verdict::Refused(Refusal::WrongKind, at)
+}
+
+// Two names of the record at an offset, left to right, and the kinds wanted.
+pub fn both(
+    script: &[u8],
+    entries: &[usize],
+    top: usize,
+    at: usize,
+    kind: usize,
+    first: usize,
+    other: usize,
+    second: usize,
+) -> Verdict
+    requires { ⌜ (kind ≤ 2) × (other ≤ 2) × (first < 2 ^ 33) × (second < 2 ^ 33) × Chained (now entries) top ⌝ }
+    ensures { λ r.
+        ⌜ r ≡ verdictOf (pairJudged (scopeFrom (now (script .entry)) (now (entries .entry)) top) at
+        (kindOf kind) (wordAt (now (script .entry)) first) (kindOf other) (wordAt (now (script .entry)) second)) ⌝ }
+{
+    let one = uses(script, entries, top, at, kind, word(script, first));
+    let Verdict::Fit = one else {
+        return one;
+    };
+    uses(script, entries, top, at, other, word(script, second))
+}
+
+// Three variables.
+pub fn three(
+    script: &[u8],
+    entries: &[usize],
+    top: usize,
+    at: usize,
+    first: usize,
+    second: usize,
+    third: usize,
+) -> Verdict
+    requires { ⌜ (first < 2 ^ 33) × (second < 2 ^ 33) × (third < 2 ^ 33) × Chained (now entries) top ⌝ }
+    ensures { λ r.
+        ⌜ r ≡ verdictOf (tripleJudged (scopeFrom (now (script .entry)) (now (entries .entry)) top) at
+        (wordAt (now (script .entry)) first) (wordAt (now (script .entry)) second) (wordAt (now (script .entry)) third)) ⌝ }
+{
+    let one = uses(script, entries, top, at, 0, word(script, first));
+    let Verdict::Fit = one else {
+        return one;
+    };
+    both(script, entries, top, at, 0, second, 0, third)
+}
