@@ -1,7 +1,7 @@
 -- `vetting::ended` meets its contract. Assumes nothing.
 use mathlib.Core.Path.{_∙_, sym, ap}
 use Rattle.records.specs.declared.Progress.{Progress}
-use Rattle.vetting.specs.Progress.{closing}
+use Rattle.vetting.specs.Structure.{closing}
 use Rattle.vetting.proofs.Whole.{closing-more, closing-none, closing-refused}
 use borrow.Author.Needs.{needs}
 use Rattle.vetting.proofs.ended.Statement.{statement}
