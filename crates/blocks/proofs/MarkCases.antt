@@ -1,11 +1,12 @@
 -- A mark by its case: what comes after a declaration's own record, and what a statement is. Assumes nothing.
-use mathlib.Core.Path.{_≡_, refl, sym, ap, subst}
+use mathlib.Core.Path.{_≡_, refl, sym, _∙_, ap, subst}
 use mathlib.Core.List.{List, [], _∷_}
 use Prim.Native.Nat.{ℕ, _≤_}
 use types.Run.{OneOf}
 use Rattle.language.specs.Structure.{BlockReader}
 use Rattle.records.specs.declared.Mark.{Mark}
 use Rattle.records.specs.declared.Mark.the-variants.{BK, VR, LB, PR, FM, CL, GO, IF, KN, AR, AD, RM, QY}
+use Rattle.records.specs.declared.Progress.{Progress}
 use Rattle.records.specs.declared.Progress.the-variants.{At}
 use Rattle.records.specs.Taking.{forget}
 use Rattle.judging.specs.Marks.{declMarkOf, stmtMarkOf}
@@ -48,9 +49,9 @@ module _ (body : BlockReader) (o f0 f1 at : ℕ) (ws : List ℕ) where
   others-stated RM h = refl
   others-stated QY h = refl
 
-  pub block-stated : (m : Mark) → m ≡ BK → forget (body o f0 f1 [] at ws) ≡ statedOf body (stmtMarkOf m) o f0 f1 at ws
+  pub block-stated : {y : Progress} (m : Mark) (ns : List ℕ) → m ≡ BK → ns ≡ [] → y ≡ forget (body o f0 f1 ns at ws) → y ≡ statedOf body (stmtMarkOf m) o f0 f1 at ws
   unfolding statedOf stmtMarkOf
-  block-stated m e = sym (ap (λ x. statedOf body (stmtMarkOf x) o f0 f1 at ws) e)
+  block-stated m ns e n f = f ∙ ap (λ l. forget (body o f0 f1 l at ws)) n ∙ sym (ap (λ x. statedOf body (stmtMarkOf x) o f0 f1 at ws) e)
 
 pub body-below : (body : BlockReader) (p at : ℕ) (ws : List ℕ) (m : Mark) → m ≡ PR → forget (bodyOf body p at ws) ≡ belowOf body (declMarkOf m) p at ws
 unfolding belowOf declMarkOf

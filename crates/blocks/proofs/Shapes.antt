@@ -74,8 +74,8 @@ module _ (bs names : List ℕ) (left at d s held next : ℕ) (room : baseOf left
       pub rest-onward : next ≤ rest
       rest-onward = decls-onward (left - 1) at d s fs bs next inner-at
 
-      pub rest-is : forget (statements (blockWith (left - 1)) s rest (unread bs rest)) ≡ whole
-      rest-is = sym (downward ∙ block-goes-on (left - 1) at d s fs bs next inner-at few)
+      pub rest-is : {y : Progress} → y ≡ forget (statements (blockWith (left - 1)) s rest (unread bs rest)) → y ≡ whole
+      rest-is f = f ∙ sym (downward ∙ block-goes-on (left - 1) at d s fs bs next inner-at few)
 
 -- a procedure's formals, its BK and its block, after its own record
 module _ (body : BlockReader) (p : ℕ) (bs : List ℕ) (start : ℕ) (m : Mark) (is-PR : m ≡ PR) where
@@ -109,8 +109,8 @@ module _ (body : BlockReader) (p : ℕ) (bs : List ℕ) (start : ℕ) (m : Mark)
     names-are : (ns : List ℕ) → NamesOf first ns → ns ≡ formalNames (there .value)
     names-are ns h = subst (λ x. NamesOf x ns) (there .reads) h
 
-    pub body-is : {x : Reading} {m′ : Mark} {next f0 f1 f2 f3 : ℕ} (ns : List ℕ) → NamesOf first ns → x ≡ recordAt Block bs at → x ≡ Taken m′ next f0 f1 f2 f3 → forget (body at f0 f1 ns next (unread bs next)) ≡ below
-    body-is {next = next} {f0} {f1} ns h f g =
-        ap (λ l. forget (body at f0 f1 l next (unread bs next))) (names-are ns h)
+    pub body-is : {x : Reading} {y : Progress} {m′ : Mark} {next f0 f1 f2 f3 : ℕ} (ns : List ℕ) → NamesOf first ns → x ≡ recordAt Block bs at → x ≡ Taken m′ next f0 f1 f2 f3 → y ≡ forget (body at f0 f1 ns next (unread bs next)) → y ≡ below
+    body-is {next = next} {f0} {f1} ns h f g b =
+        b ∙ ap (λ l. forget (body at f0 f1 l next (unread bs next))) (names-are ns h)
         ∙ sym (ap forget (body-goes-on body p bs start (there .reads) ∙ head-goes-on body (formalNames (there .value)) bs at (sym f ∙ g)))
         ∙ below-is

@@ -1,7 +1,7 @@
 -- The formals of a procedure, one after the other. Assumes nothing.
 use mathlib.Core.Path.{_≡_, refl, sym, _∙_, ap}
 use mathlib.Core.Bool.{Bool, true, false, not}
-use mathlib.Core.List.{List, [], _∷_, _++_, append-assoc}
+use mathlib.Core.List.{List, [], _∷_, _++_, append-assoc, append-nil}
 use Prim.Native.Nat.{ℕ, zero, suc, _+_, _-_, _<_, _≤_}
 use native.Mathlib.Omega.{arith}
 use lib.ListN.{length, getD, set}
@@ -14,6 +14,7 @@ use Rattle.laws.specs.Readers.{bind-read, bind-refuse, passes, fails}
 use Rattle.records.specs.declared.Mark.{Mark}
 use Rattle.records.specs.declared.Mark.the-variants.{FM}
 use Rattle.records.specs.declared.Place.the-variants.{Formal as AFormal}
+use Rattle.records.specs.declared.Reading.{Reading}
 use Rattle.records.specs.declared.Reading.the-variants.{Taken, Refused}
 use Rattle.records.specs.Taking.{unread, onlyMark, recordAt, forget}
 use Rattle.records.proofs.Steps.{Step, stepped, stopped}
@@ -158,19 +159,23 @@ module _ {bs : List ℕ} {p start base : ℕ} {names : List ℕ} {at i : ℕ} (s
   unfolding after
   ends-at h e = one-of h ∙ ap (after (so .done)) e
 
-  pub refused-there : {c : Refusal} {o : ℕ} → i < p → recordAt AFormal bs at ≡ Refused c o → formals p [] start (unread bs start) ≡ refuse c o
-  refused-there {c} {o} h e = ends-at h (formal-stops (p - (i + 1)) (namesAt names base i) bs at c o e)
+  -- each law takes what reading gave, what it is equal to, and which it is
+  pub refused-there : {x : Reading} {c : Refusal} {o : ℕ} → i < p → x ≡ recordAt AFormal bs at → x ≡ Refused c o → formals p [] start (unread bs start) ≡ refuse c o
+  refused-there {c = c} {o} h f g = ends-at h (formal-stops (p - (i + 1)) (namesAt names base i) bs at c o (sym f ∙ g))
 
-  module _ {m : Mark} {next f0 f1 f2 f3 : ℕ} (h : i < p) (e : recordAt AFormal bs at ≡ Taken m next f0 f1 f2 f3) where
+  module _ {x : Reading} {m : Mark} {next f0 f1 f2 f3 : ℕ} (h : i < p) (f : x ≡ recordAt AFormal bs at) (g : x ≡ Taken m next f0 f1 f2 f3) where
+    e : recordAt AFormal bs at ≡ Taken m next f0 f1 f2 f3
+    e = sym f ∙ g
+
     pub wrong-kind : 2 < f1 → formals p [] start (unread bs start) ≡ refuse FieldRange at
     wrong-kind k = ends-at h (formal-kind (p - (i + 1)) (namesAt names base i) bs at e k)
 
-    pub named-twice : f1 ≤ 2 → among f0 (namesAt names base i) ≡ true → formals p [] start (unread bs start) ≡ refuse NameTwice at
-    named-twice k t = ends-at h (formal-twice (p - (i + 1)) (namesAt names base i) bs at e k t)
+    pub named-twice : {b : Bool} → f1 ≤ 2 → b ≡ among f0 (namesAt names base i) → b ≡ true → formals p [] start (unread bs start) ≡ refuse NameTwice at
+    named-twice k s t = ends-at h (formal-twice (p - (i + 1)) (namesAt names base i) bs at e k (sym s ∙ t))
 
-    pub one-more : f1 ≤ 2 → among f0 (namesAt names base i) ≡ false → base + i < length names → SoFar bs p start base (set names (base + i) f0) next (i + 1)
-    one-more k t room =
-        let g = formal-more (p - (i + 1)) (namesAt names base i) bs at e k t in
+    pub one-more : {b : Bool} → f1 ≤ 2 → b ≡ among f0 (namesAt names base i) → b ≡ false → base + i < length names → SoFar bs p start base (set names (base + i) f0) next (i + 1)
+    one-more k s t room =
+        let g = formal-more (p - (i + 1)) (namesAt names base i) bs at e k (sym s ∙ t) in
         let added = names-added names base i f0 room in
         record {
           done = so .done ++ (g .first ∷ []);
@@ -182,7 +187,7 @@ module _ {bs : List ℕ} {p start base : ℕ} {names : List ℕ} {at i : ℕ} (s
               ∙ ap (formals (p - (i + 1))) (sym added));
         }
 
-  pub all-read : p ≤ i → formals p [] start (unread bs start) ≡ read (so .done ++ []) at (unread bs at)
+  all-read : p ≤ i → formals p [] start (unread bs start) ≡ read (so .done ++ []) at (unread bs at)
   unfolding after
   all-read h = so .rest ∙ ap (λ k. after (so .done) (formals k (namesAt names base i) at (unread bs at))) none-left ∙ ap (after (so .done)) (formal-none (namesAt names base i) at (unread bs at))
     where
@@ -195,6 +200,10 @@ module _ (x : Outcome (List Formal)) (ns : List ℕ) where
   unfolding forget
   post-refused e = rw e (refl, tt)
 
-  pub post-read : {fs : List Formal} {at : ℕ} {ws : List ℕ} → x ≡ read fs at ws → ns ≡ formalNames fs → (Progress.At at ≡ forget x) × NamesOf x ns
+  post-read : {fs : List Formal} {at : ℕ} {ws : List ℕ} → x ≡ read fs at ws → ns ≡ formalNames fs → (Progress.At at ≡ forget x) × NamesOf x ns
   unfolding forget
   post-read e q = rw e (refl, q)
+
+pub all-post : {bs : List ℕ} {p start base : ℕ} {names : List ℕ} {at i : ℕ} (so : SoFar bs p start base names at i) → i ≡ p → (Progress.At at ≡ forget (formals p [] start (unread bs start))) × NamesOf (formals p [] start (unread bs start)) (namesAt names base p)
+all-post {base = base} {names} so e =
+    post-read _ _ (all-read so (omega arith)) (ap (namesAt names base) (sym e) ∙ so .names-are ∙ ap formalNames (sym (append-nil (so .done))))

@@ -26,17 +26,25 @@ use Rattle.vetting.specs.Structure.{endedOf, closing, structureOf}
 use Rattle.blocks.proofs.Lands.{Lands, Tracks, tracks-bind, tracks-take, tracks-block}
 use Rattle.blocks.proofs.BlockLaws.{head-stops, head-goes-on}
 
-pub closing-more : (end n : ℕ) → end < n → closing (At end) n ≡ Verdict.Refused BytesAfter end
+closing-more : (end n : ℕ) → end < n → closing (At end) n ≡ Verdict.Refused BytesAfter end
 unfolding closing
 closing-more end n h = rw (lt-ltb end n h, closing)
 
-pub closing-none : (end n : ℕ) → n ≤ end → closing (At end) n ≡ Verdict.Fit
+closing-none : (end n : ℕ) → n ≤ end → closing (At end) n ≡ Verdict.Fit
 unfolding closing
 closing-none end n h = rw (le-ltb end n h, closing)
 
-pub closing-refused : (c : Refusal) (o n : ℕ) → closing (Refused c o) n ≡ Verdict.Refused c o
-unfolding closing
-closing-refused c o n = refl
+-- as the code finds where reading ended
+module _ (n : ℕ) {p : Progress} where
+  pub ended-early : {end : ℕ} → p ≡ At end → end < n → Verdict.Refused BytesAfter end ≡ closing p n
+  ended-early {end} e h = sym (ap (λ q. closing q n) e ∙ closing-more end n h)
+
+  pub ended-last : {end : ℕ} → p ≡ At end → n ≤ end → Verdict.Fit ≡ closing p n
+  ended-last {end} e h = sym (ap (λ q. closing q n) e ∙ closing-none end n h)
+
+  pub ended-refused : {c : Refusal} {o : ℕ} → p ≡ Refused c o → Verdict.Refused c o ≡ closing p n
+  unfolding closing
+  ended-refused e = sym (ap (λ q. closing q n) e)
 
 ended-more : (t : Block) (end : ℕ) (ws : List ℕ) → 1 ≤ length ws → endedOf (read t end ws) ≡ Verdict.Refused BytesAfter end
 unfolding endedOf

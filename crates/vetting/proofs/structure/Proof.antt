@@ -1,4 +1,5 @@
 -- `vetting::structure` meets its contract. Assumes nothing.
+use native.Mathlib.Omega.{arith}
 use borrow.Author.Needs.{needs}
 use Rattle.naming.proofs.Names.{names-none}
 use Rattle.vetting.proofs.Whole.{empty, too-long, odd, program-refused, program-read}
@@ -13,13 +14,13 @@ abbrev takenOf : tie.After-block → tie.After-reading
 takenOf c = c .before .before .before
 
 returns : tie.Need-returns
-returns c = empty _ (c .if1 .taken)
+returns c = empty _ (omega arith)
 
 returns-2 : tie.Need-returns-2
-returns-2 c = too-long _ (c .before .if1 .left) (c .if2 .taken)
+returns-2 c = too-long _ (c .before .if1 .left) (omega arith)
 
 returns-3 : tie.Need-returns-3
-returns-3 c = odd _ (c .before .before .if1 .left) (c .before .if2 .left) (c .if3 .taken)
+returns-3 c = odd _ (c .before .before .if1 .left) (omega arith) (omega arith)
 
 read-block-requires : tie.Need-read-block-requires
 read-block-requires c κs = search needs
@@ -41,7 +42,7 @@ returns-4 c =
     let o = c .before in
     let r = o .before .before .before in
     let f = fitOf r in
-    program-refused _ (f .before .before .if1 .left) (f .before .if2 .left) (f .if3 .left) (r .read-block .ensures .0) (o .before .enum-told .given .1) (o .onward .ensures) (c .ended .ensures)
+    program-refused _ (f .before .before .if1 .left) (omega arith) (f .if3 .left) (r .read-block .ensures .0) (o .before .enum-told .given .1) (o .onward .ensures) (c .ended .ensures)
 
 slice-aggregate-block : tie.Need-slice-aggregate-block
 slice-aggregate-block c = search needs
@@ -64,7 +65,7 @@ returns-5 c =
     let t = takenOf b in
     let r = t .before .before in
     let f = fitOf r in
-    program-read _ (f .before .before .if1 .left) (f .before .if2 .left) (f .if3 .left) _ (names-none _ 0) (r .read-block .ensures .0) (t .reading .given .1) (b .block .ensures .0) (c .ended2 .ensures)
+    program-read _ (f .before .before .if1 .left) (omega arith) (f .if3 .left) _ (names-none _ 0) (r .read-block .ensures .0) (t .reading .given .1) (b .block .ensures .0) (c .ended2 .ensures)
 
 pub structure-spec : {M : Type 1} → statement M
 structure-spec =

@@ -119,7 +119,7 @@ module _ (t : ℕ) where
       let d = readOf (dd .before .before) in
       let o = passedOf (d .before) in
       let e = entryOf (judgedOf o) in (
-        ss .ensures .0 ∙ rest-is _ _ _ _ _ _ _ _ (room e) (passed o) (d .declarations .ensures .0) (dd .declared .given .1),
+        rest-is _ _ _ _ _ _ _ _ (room e) (passed o) (d .declarations .ensures .0) (dd .declared .given .1) (ss .ensures .0),
         front-kept (d .declarations .last .1 .0) (ss .last .1 .0) (baseOf (e .args .left)) (baseOf (e .args .left - 1)) (omega arith) (ss .ensures .1) ∙ kept d,
       )
 

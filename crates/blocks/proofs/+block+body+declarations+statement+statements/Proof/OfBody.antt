@@ -129,9 +129,8 @@ module _ (t : ℕ) where
       let b = k .before .before in
       let n = namedOf b in
       let f = heldOf n in (
-        bk .ensures .0
-            ∙ body-is _ _ _ _ _ (procedureOf f .enum-told .given .1) (f .read-formals .ensures .0) (n .formals .given .1) _ (f .read-formals .ensures .1 .0)
-            (b .read-block .ensures .0) (k .reading .given .1),
+        body-is _ _ _ _ _ (procedureOf f .enum-told .given .1) (f .read-formals .ensures .0) (n .formals .given .1) _ (f .read-formals .ensures .1 .0)
+            (b .read-block .ensures .0) (k .reading .given .1) (bk .ensures .0),
         bk .ensures .1 ∙ f .read-formals .ensures .1 .1,
       )
 

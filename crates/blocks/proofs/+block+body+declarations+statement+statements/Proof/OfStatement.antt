@@ -1,13 +1,10 @@
 -- `blocks::statement` in the cycle of the check. Assumes nothing.
-use mathlib.Core.Path.{_∙_, refl, ap}
+use mathlib.Core.Path.{_∙_, refl}
 use Prim.Native.Nat.{ℕ}
 use borrow.Author.Needs.{needs}
 use native.Mathlib.Omega.{arith}
-use Rattle.language.specs.Structure.{blockWith}
-use Rattle.records.specs.Taking.{unread, forget}
 use Rattle.naming.proofs.Names.{names-none}
 use Rattle.judging.proofs.statement.action.Reads as action-reads
-use Rattle.blocks.specs.Progress.{baseOf}
 use Rattle.blocks.proofs.MarkCases.{others-stated, block-stated}
 use Rattle.blocks.proofs.+block+body+declarations+statement+statements.Lts-statement as statement-lts
 use Rattle.blocks.proofs.statement.Reads as statement′
@@ -43,13 +40,7 @@ module _ (t : ℕ) where
   returns-2 : statement-lts.Need-returns-2 calls (statement-at t) statement′.Post
   returns-2 c =
       let bk = doneOf c .block in
-      let told = doneOf c .before .before in
-      let a = entryOf told .args in (
-        bk .ensures .0
-            ∙ ap (λ ns. forget (blockWith (a .below) (a .at) (a .f0) (a .f1) ns (a .next) (unread (a .script .now) (a .next)))) (names-none (a .names .now) (baseOf (a .below)))
-            ∙ block-stated _ _ _ _ _ _ _ (told .enum-told .given .1),
-        bk .ensures .1,
-      )
+      (block-stated _ _ _ _ _ _ _ _ (doneOf c .before .before .enum-told .given .1) (names-none _ _) (bk .ensures .0), bk .ensures .1)
 
   pub statement-closed : {M : Type 1} → statement-lts.Closed calls (statement-at t) statement′.Post M
   statement-closed =

@@ -5,7 +5,7 @@ use Rattle.judging.proofs.block.opened.Statement.{statement}
 use Rattle.judging.proofs.block.opened.Tie as tie
 
 returns : tie.Need-returns
-returns c = opened-deep _ _ _ _ _ (c .if1 .taken)
+returns c = opened-deep _ _ _ _ _ (omega arith)
 
 returns-2 : tie.Need-returns-2
 returns-2 c = opened-many _ _ _ _ _ (c .before .if1 .left) (omega arith)
