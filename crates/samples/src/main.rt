@@ -10,9 +10,6 @@ ghost use lib.ListN.{length};
 mod text;
 mod writing;
 
-// Room for the text of all rows.
-const ROWS: usize = 16384;
-
 fn say(words: &[u8]) {
     io::write_all(1, words);
 }
@@ -51,8 +48,10 @@ fn row(rows: &[u8], from: usize, to: usize)
     judge(&script, length);
 }
 
-fn all_rows(rows: &[u8]) {
-    let n = rows.len();
+// The rows, which stand in the first n bytes.
+fn all_rows(rows: &[u8], n: usize)
+    requires { ⌜ n ≤ length (now rows) ⌝ }
+{
     let mut from = 0;
     while from < n {
         let end = until(rows, from, n, b'\n');
@@ -62,7 +61,7 @@ fn all_rows(rows: &[u8]) {
 }
 
 fn main() {
-    let mut rows = [0u8; ROWS];
+    let mut rows = io::large_buffer();
     let n = io::read_full(0, &mut rows);
-    all_rows(&rows[..n]);
+    all_rows(&rows, n);
 }

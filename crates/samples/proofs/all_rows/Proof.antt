@@ -1,6 +1,5 @@
 -- `all_rows` meets its contract: the rows left fall.
-use Prim.Native.Nat.{_-_, _≤_}
-use mathlib.Core.Path.{_≡_}
+use Prim.Native.Nat.{_-_}
 use borrow.Author.Needs.{needs}
 use lib.ListN.{length}
 use Rattle.samples.proofs.all_rows.Statement.{statement}

@@ -1,8 +1,6 @@
 -- `text::number` meets its contract: the text left falls.
-use Prim.Native.Nat.{_-_, _≤_}
-use mathlib.Core.Path.{_≡_}
+use Prim.Native.Nat.{_-_}
 use borrow.Author.Needs.{needs}
-use lib.ListN.{length}
 use Rattle.samples.proofs.text.number.Statement.{statement}
 use Rattle.samples.proofs.text.number.Tie as tie
 

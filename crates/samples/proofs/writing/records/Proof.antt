@@ -1,5 +1,5 @@
 -- `writing::records` meets its contract: the script keeps its length, and the text left falls.
-use Prim.Native.Nat.{_-_, _≤_}
+use Prim.Native.Nat.{_-_}
 use mathlib.Core.Path.{_≡_}
 use borrow.Author.Needs.{needs}
 use lib.ListN.{length}
