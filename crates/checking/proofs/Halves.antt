@@ -18,7 +18,7 @@ use Rattle.language.specs.declared.Refusal.{Refusal}
 use Rattle.language.specs.declared.Refusal.the-variants.{ScriptLength}
 use Rattle.language.specs.declared.Verdict.{Verdict}
 use Rattle.language.specs.declared.Verdict.the-variants.{Fit, Refused}
-use Rattle.vetting.specs.Progress.{structureOf}
+use Rattle.vetting.specs.Structure.{structureOf}
 use Rattle.vetting.proofs.Half.{refuses, fit-is-read}
 use Rattle.scoping.specs.Walking.{Judged}
 use Rattle.uses.specs.Meanings as entries

@@ -1,5 +1,12 @@
-// Scripts written from text. Each function takes the place to write at and gives the place after what it wrote, which lies past the
-// room where something did not fit.
+// Scripts written from text: `BK 1 1, LB 1 1; 3 x GO 1`. Capital letters are written as they are and numbers as fields; commas are for
+// the eye, and KN's value is two numbers, the low half first. A part that begins `3 x` is written three times, with the number of the
+// time for `#`. Each function gives the place after what it wrote, which lies past the room where something did not fit.
+use super::text::is_digit;
+use super::text::letter;
+use super::text::number;
+use super::text::until;
+ghost use Prim.Native.Nat.{_≤_};
+ghost use lib.ListN.{length};
 
 // Room for the longest script that is tried.
 pub const ROOM: usize = 8194;
@@ -12,96 +19,91 @@ fn byte(script: &mut [u8], at: usize, b: u8) -> usize {
     ROOM + 1
 }
 
-fn word(script: &mut [u8], at: usize, number: u16) -> usize {
+fn field(script: &mut [u8], at: usize, number: u16) -> usize {
     let next = byte(script, at, (number % 256) as u8);
     byte(script, next, (number / 256) as u8)
 }
 
-fn digit_at(text: &[u8], i: usize) -> bool {
-    if text.len() <= i {
+// Whether a number begins at an offset.
+fn begins(text: &[u8], i: usize) -> bool {
+    if 0 < i && is_digit(letter(text, i - 1)) {
         return false;
     }
-    b'0' <= text[i] && text[i] <= b'9'
+    is_digit(letter(text, i))
 }
 
-fn value(digit: u8) -> u8 {
-    if digit < b'0' {
-        return 0;
+// What one letter of the text writes: the first digit of a number writes its field.
+fn piece(script: &mut [u8], at: usize, text: &[u8], i: usize, to: usize, time: u16) -> usize
+    requires { ⌜ i ≤ to ⌝ }
+{
+    let l = letter(text, i);
+    if begins(text, i) {
+        return field(script, at, number(text, i, until(text, i, to, b' ')));
     }
-    digit - b'0'
-}
-
-fn joined(number: u16, digit: u8) -> u16 {
-    (((number as u32) * 10 + value(digit) as u32) % 65536) as u16
-}
-
-fn number_from(text: &[u8], start: usize) -> u16 {
-    let mut number: u16 = 0;
-    let mut i = start;
-    while i < text.len() {
-        if !digit_at(text, i) {
-            return number;
-        }
-        number = joined(number, text[i]);
-        i += 1;
+    if l == b'#' {
+        return field(script, at, time);
     }
-    number
-}
-
-fn number_starts(text: &[u8], i: usize) -> bool {
-    if i == 0 {
-        return digit_at(text, 0);
-    }
-    if digit_at(text, i - 1) {
-        return false;
-    }
-    digit_at(text, i)
-}
-
-// What a place of the text writes: a letter itself, the start of a number its two bytes, any other place nothing.
-fn piece(script: &mut [u8], at: usize, text: &[u8], i: usize) -> usize {
-    if number_starts(text, i) {
-        return word(script, at, number_from(text, i));
-    }
-    if text.len() <= i {
+    if l < b'A' || b'Z' < l {
         return at;
     }
-    if text[i] < b'A' || b'Z' < text[i] {
-        return at;
-    }
-    byte(script, at, text[i])
+    byte(script, at, l)
 }
 
-// A script's records as text, `LB 1 1`; commas are for the eye, and KN's value is two numbers, the low half first.
-pub fn records(script: &mut [u8], start: usize, text: &[u8]) -> usize {
+fn records(
+    script: &mut [u8],
+    start: usize,
+    text: &[u8],
+    from: usize,
+    to: usize,
+    time: u16,
+) -> usize {
     let mut at = start;
-    let mut i = 0;
-    while i < text.len() {
-        at = piece(script, at, text, i);
+    let mut i = from;
+    while i < to {
+        at = piece(script, at, text, i, to, time);
         i += 1;
     }
     at
 }
 
-pub fn repeated(script: &mut [u8], start: usize, text: &[u8], times: usize) -> usize {
+// A part of the text, as often as it says.
+fn part(script: &mut [u8], start: usize, text: &[u8], from: usize, to: usize) -> usize
+    requires { ⌜ from ≤ to ⌝ }
+{
+    let times = until(text, from, to, b'x');
+    if times == to {
+        return records(script, start, text, from, to, 1);
+    }
+    repeated(script, start, text, times, to, number(text, from, times))
+}
+
+fn repeated(
+    script: &mut [u8],
+    start: usize,
+    text: &[u8],
+    from: usize,
+    to: usize,
+    times: u16,
+) -> usize {
     let mut at = start;
-    let mut i = 0;
-    while i < times {
-        at = records(script, at, text);
-        i += 1;
+    let mut time: u16 = 0;
+    while time < times {
+        time += 1;
+        at = records(script, at, text, from, to, time);
     }
     at
 }
 
-// A record for each name from 1 to `names`: what stands before the name, the name, what stands after it.
-pub fn named(script: &mut [u8], start: usize, before: &[u8], names: u16, after: &[u8]) -> usize {
-    let mut at = start;
-    let mut name: u16 = 0;
-    while name < names {
-        name += 1;
-        at = records(script, at, before);
-        at = word(script, at, name);
-        at = records(script, at, after);
+// A script, part by part.
+pub fn script_from(script: &mut [u8], text: &[u8], start: usize, to: usize) -> usize
+    requires { ⌜ to ≤ length (now text) ⌝ }
+{
+    let mut at = 0;
+    let mut from = start;
+    while from < to {
+        let end = until(text, from, to, b';');
+        at = part(script, at, text, from, end);
+        from = end + 1;
     }
     at
 }

@@ -13,7 +13,7 @@ use Rattle.language.specs.Check.{refused, lengthFits, judged, ended, check}
 use Rattle.language.specs.declared.Refusal.{Refusal}
 use Rattle.language.specs.declared.Refusal.the-variants.{ScriptLength}
 use Rattle.language.specs.declared.Verdict.{Verdict}
-use Rattle.vetting.specs.Progress.{endedOf, structureOf}
+use Rattle.vetting.specs.Structure.{endedOf, structureOf}
 
 refused-there : (x : Outcome Block) (c : Refusal) (o : ℕ) → endedOf x ≡ Verdict.Refused c o → ended x ≡ refused c o
 unfolding endedOf ended

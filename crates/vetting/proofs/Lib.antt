@@ -1,15 +1,2 @@
-pub mod Names
-pub mod Lands
-pub mod Tests
-pub mod SameNames
-pub mod FormalLaws
-pub mod Marks
-pub mod Forget
-pub mod DeclLaws
-pub mod HeadLaws
-pub mod StmtLaws
-pub mod BlockLaws
-pub mod Loops
-pub mod Shapes
 pub mod Whole
 pub mod Half

@@ -19,24 +19,32 @@ use Rattle.records.specs.declared.Progress.{Progress}
 use Rattle.records.specs.declared.Progress.the-variants.{At, Refused}
 use Rattle.records.specs.declared.Reading.{Reading}
 use Rattle.records.specs.declared.Reading.the-variants.{Taken}
-use Rattle.records.specs.Taking.{unread, recordAt, forget}
+use Rattle.records.specs.Taking.{unread, recordAt, progressOf, forget}
 use Rattle.records.proofs.Unread.{unread-enough, unread-short}
 use Rattle.language.specs.declared.Verdict.{Verdict}
-use Rattle.vetting.specs.Progress.{endedOf, closing, structureOf}
-use Rattle.vetting.proofs.Lands.{Lands, Tracks, tracks-bind, tracks-take, tracks-block}
-use Rattle.vetting.proofs.BlockLaws.{head-stops, head-goes-on}
+use Rattle.vetting.specs.Structure.{endedOf, closing, structureOf}
+use Rattle.blocks.proofs.Lands.{Lands, Tracks, tracks-bind, tracks-take, tracks-block}
+use Rattle.blocks.proofs.BlockLaws.{head-stops, head-goes-on}
 
-pub closing-more : (end n : ℕ) → end < n → closing (At end) n ≡ Verdict.Refused BytesAfter end
+closing-more : (end n : ℕ) → end < n → closing (At end) n ≡ Verdict.Refused BytesAfter end
 unfolding closing
 closing-more end n h = rw (lt-ltb end n h, closing)
 
-pub closing-none : (end n : ℕ) → n ≤ end → closing (At end) n ≡ Verdict.Fit
+closing-none : (end n : ℕ) → n ≤ end → closing (At end) n ≡ Verdict.Fit
 unfolding closing
 closing-none end n h = rw (le-ltb end n h, closing)
 
-pub closing-refused : (c : Refusal) (o n : ℕ) → closing (Refused c o) n ≡ Verdict.Refused c o
-unfolding closing
-closing-refused c o n = refl
+-- as the code finds where reading ended
+module _ (n : ℕ) {p : Progress} where
+  pub ended-early : {end : ℕ} → p ≡ At end → end < n → Verdict.Refused BytesAfter end ≡ closing p n
+  ended-early {end} e h = sym (ap (λ q. closing q n) e ∙ closing-more end n h)
+
+  pub ended-last : {end : ℕ} → p ≡ At end → n ≤ end → Verdict.Fit ≡ closing p n
+  ended-last {end} e h = sym (ap (λ q. closing q n) e ∙ closing-none end n h)
+
+  pub ended-refused : {c : Refusal} {o : ℕ} → p ≡ Refused c o → Verdict.Refused c o ≡ closing p n
+  unfolding closing
+  ended-refused e = sym (ap (λ q. closing q n) e)
 
 ended-more : (t : Block) (end : ℕ) (ws : List ℕ) → 1 ≤ length ws → endedOf (read t end ws) ≡ Verdict.Refused BytesAfter end
 unfolding endedOf
@@ -65,8 +73,9 @@ tracks-program : (bs : List ℕ) → Tracks bs program
 unfolding program
 tracks-program bs = tracks-bind bs (tracks-take bs blockMarks) λ b. tracks-block bs 16 _ _ _ _
 
+-- the length, as the code tests it
 module _ (bs : List ℕ) where
-  pub misfit : lengthFits bs ≡ false → Verdict.Refused ScriptLength 0 ≡ structureOf bs
+  misfit : lengthFits bs ≡ false → Verdict.Refused ScriptLength 0 ≡ structureOf bs
   unfolding structureOf
   misfit e = rw (e, structureOf)
 
@@ -74,35 +83,43 @@ module _ (bs : List ℕ) where
   unfolding structureOf unread
   fits-then e = rw (e, structureOf)
 
-  pub length-none : length bs ≡ 0 → lengthFits bs ≡ false
-  unfolding lengthFits
-  length-none h = ap (λ b. b && leb (length bs) 8192 && eqb (length bs % 2) 0) (lt-leb 1 (length bs) (omega arith))
-
   three : (a b c : Bool) {a′ b′ c′ : Bool} → a ≡ a′ → b ≡ b′ → c ≡ c′ → (a && b && c) ≡ (a′ && b′ && c′)
   three a b c p q r = cc
 
-  pub length-long : (length bs ≡ 0 → ⊥) → 8192 < length bs → lengthFits bs ≡ false
+  pub empty : length bs ≡ 0 → Verdict.Refused ScriptLength 0 ≡ structureOf bs
   unfolding lengthFits
-  length-long z h = three _ _ _ (le-leb 1 (length bs) (omega arith)) (lt-leb (length bs) 8192 h) refl
+  empty h = misfit (ap (λ b. b && leb (length bs) 8192 && eqb (length bs % 2) 0) (lt-leb 1 (length bs) (omega arith)))
 
-  pub length-odd : (length bs ≡ 0 → ⊥) → length bs ≤ 8192 → length bs % 2 ≡ 1 → lengthFits bs ≡ false
+  pub too-long : (length bs ≡ 0 → ⊥) → 8192 < length bs → Verdict.Refused ScriptLength 0 ≡ structureOf bs
   unfolding lengthFits
-  length-odd z h o = three _ _ _ (le-leb 1 (length bs) (omega arith)) (le-leb (length bs) 8192 h) (ne-eqb (length bs % 2) 0 (λ e. omega arith))
+  too-long z h = misfit (three _ _ _ (le-leb 1 (length bs) (omega arith)) (lt-leb (length bs) 8192 h) refl)
 
-  pub length-right : (length bs ≡ 0 → ⊥) → length bs ≤ 8192 → length bs % 2 ≡ 0 → lengthFits bs ≡ true
+  pub odd : (length bs ≡ 0 → ⊥) → length bs ≤ 8192 → length bs % 2 ≡ 1 → Verdict.Refused ScriptLength 0 ≡ structureOf bs
   unfolding lengthFits
-  length-right z h o = three _ _ _ (le-leb 1 (length bs) (omega arith)) (le-leb (length bs) 8192 h) (eq-eqb (length bs % 2) 0 o)
+  odd z h o = misfit (three _ _ _ (le-leb 1 (length bs) (omega arith)) (le-leb (length bs) 8192 h) (ne-eqb (length bs % 2) 0 (λ e. omega arith)))
 
-  module _ (z : length bs ≡ 0 → ⊥) (h : length bs ≤ 8192) (o : length bs % 2 ≡ 0) where
-    pub whole-is : (p : Progress) → p ≡ forget (program 0 (unread bs 0)) → closing p (length bs) ≡ structureOf bs
-    whole-is p e =
-        ap (λ q. closing q (length bs)) e
-        ∙ sym (fits-then (length-right z h o) ∙ closed bs o (program 0 (unread bs 0)) (tracks-program bs .lands 0))
+-- a script whose length fits: its program refused at its BK, or read
+module _ (bs : List ℕ) (z : length bs ≡ 0 → ⊥) (h : length bs ≤ 8192) (o : length bs % 2 ≡ 1 → ⊥) where
+  even : length bs % 2 ≡ 0
+  even = omega arith
 
-  pub program-stops : {c : Refusal} {p : ℕ} → recordAt ABlock bs 0 ≡ Reading.Refused c p → Refused c p ≡ forget (program 0 (unread bs 0))
+  length-right : lengthFits bs ≡ true
+  unfolding lengthFits
+  length-right = three bs _ _ _ (le-leb 1 (length bs) (omega arith)) (le-leb (length bs) 8192 h) (eq-eqb (length bs % 2) 0 even)
+
+  whole-is : {p : Progress} {v : Verdict} → p ≡ forget (program 0 (unread bs 0)) → v ≡ closing p (length bs) → v ≡ structureOf bs
+  whole-is e q =
+      q ∙ ap (λ p. closing p (length bs)) e
+      ∙ sym (fits-then bs length-right ∙ closed bs even (program 0 (unread bs 0)) (tracks-program bs .lands 0))
+
+  pub program-refused : {x : Reading} {y : Progress} {v : Verdict} {c : Refusal} {k : ℕ} → x ≡ recordAt ABlock bs 0 → x ≡ Reading.Refused c k → y ≡ progressOf x → v ≡ closing y (length bs) → v ≡ structureOf bs
   unfolding program forget
-  program-stops {c} {p} e = sym (ap forget (head-stops (blockWith 16) [] bs 0 c p e))
+  program-refused {c = c} {k} e g q w =
+      whole-is (q ∙ ap progressOf g ∙ sym (ap forget (head-stops (blockWith 16) [] bs 0 c k (sym e ∙ g)))) w
 
-  pub program-goes-on : {m : Mark} {next f0 f1 f2 f3 : ℕ} → recordAt ABlock bs 0 ≡ Taken m next f0 f1 f2 f3 → forget (blockWith 16 0 f0 f1 [] next (unread bs next)) ≡ forget (program 0 (unread bs 0))
+  pub program-read : {x : Reading} {y : Progress} {v : Verdict} {m : Mark} {next f0 f1 f2 f3 : ℕ} (ns : List ℕ) → ns ≡ [] → x ≡ recordAt ABlock bs 0 → x ≡ Taken m next f0 f1 f2 f3 → y ≡ forget (blockWith 16 0 f0 f1 ns next (unread bs next)) → v ≡ closing y (length bs) → v ≡ structureOf bs
   unfolding program
-  program-goes-on e = sym (ap forget (head-goes-on (blockWith 16) [] bs 0 e))
+  program-read {next = next} {f0} {f1} ns n e g q w =
+      whole-is
+      (q ∙ ap (λ l. forget (blockWith 16 0 f0 f1 l next (unread bs next))) n ∙ sym (ap forget (head-goes-on (blockWith 16) [] bs 0 (sym e ∙ g))))
+      w

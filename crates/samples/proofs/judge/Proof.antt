@@ -5,14 +5,11 @@ use lib.Seq.{length-take-le}
 use Rattle.samples.proofs.judge.Statement.{statement}
 use Rattle.samples.proofs.judge.Tie as tie
 
-say-requires : tie.Need-say-requires
-say-requires c κs = search needs
-
 slice-aggregate-say : tie.Need-slice-aggregate-say
 slice-aggregate-say c = search needs
 
-say-requires-2 : tie.Need-say-requires-2
-say-requires-2 c κs = search needs
+say-requires : tie.Need-say-requires
+say-requires c κs = search needs
 
 returns : tie.Need-returns
 returns c = search needs
@@ -33,9 +30,8 @@ pub judge-spec : {M : Type 1} → statement M
 judge-spec =
     tie.close
     (tie.spec
-    say-requires
     slice-aggregate-say
-    say-requires-2
+    say-requires
     returns
     slice-aggregate-check-script
     check-script-requires

@@ -1,25 +1,26 @@
 -- `vetting::structure` meets its contract. Assumes nothing.
-use mathlib.Core.Path.{_≡_, _∙_, sym, ap}
-use Prim.Native.Nat.{_%_}
 use native.Mathlib.Omega.{arith}
-use lib.ListN.{length}
-use Rattle.records.specs.Taking.{unread, progressOf}
-use Rattle.vetting.proofs.Names.{names-none}
-use Rattle.vetting.proofs.Shapes.{same-block}
-use Rattle.vetting.proofs.Whole.{misfit, length-none, length-long, length-odd, whole-is, program-stops, program-goes-on}
 use borrow.Author.Needs.{needs}
+use Rattle.naming.proofs.Names.{names-none}
+use Rattle.vetting.proofs.Whole.{empty, too-long, odd, program-refused, program-read}
 use Rattle.vetting.proofs.structure.Statement.{statement}
 use Rattle.vetting.proofs.structure.Tie as tie
 
+-- the places: the length fits, the BK read
+abbrev fitOf : tie.After-read-block → tie.Else3
+fitOf c = c .before
+
+abbrev takenOf : tie.After-block → tie.After-reading
+takenOf c = c .before .before .before
+
 returns : tie.Need-returns
-returns c = misfit (c .before .before .args .script .now) (length-none (c .before .before .args .script .now) (c .if1 .taken))
+returns c = empty _ (omega arith)
 
 returns-2 : tie.Need-returns-2
-returns-2 c = misfit (c .before .before .before .args .script .now) (length-long (c .before .before .before .args .script .now) (c .before .if1 .left) (c .if2 .taken))
+returns-2 c = too-long _ (c .before .if1 .left) (omega arith)
 
 returns-3 : tie.Need-returns-3
-returns-3 c =
-    misfit (c .before .before .before .before .args .script .now) (length-odd (c .before .before .before .before .args .script .now) (c .before .before .if1 .left) (c .before .if2 .left) (c .if3 .taken))
+returns-3 c = odd _ (c .before .before .if1 .left) (omega arith) (omega arith)
 
 read-block-requires : tie.Need-read-block-requires
 read-block-requires c κs = search needs
@@ -38,21 +39,19 @@ ended-requires c κs = search needs
 
 returns-4 : tie.Need-returns-4
 returns-4 c =
-    let bs = c .before .before .before .before .before .before .before .before .before .args .script .now in
-    let odd : length bs % 2 ≡ 1 → ⊥ = c .before .before .before .before .before .if3 .left in
-    c .ended .ensures
-    ∙ whole-is bs (c .before .before .before .before .before .before .before .if1 .left) (c .before .before .before .before .before .before .if2 .left) (omega arith) (c .before .onward .result)
-    (c .before .onward .ensures ∙ ap progressOf (c .before .before .enum-told .given .1)
-    ∙ program-stops bs (sym (c .before .before .before .before .read-block .ensures .0) ∙ c .before .before .enum-told .given .1))
+    let o = c .before in
+    let r = o .before .before .before in
+    let f = fitOf r in
+    program-refused _ (f .before .before .if1 .left) (omega arith) (f .if3 .left) (r .read-block .ensures .0) (o .before .enum-told .given .1) (o .onward .ensures) (c .ended .ensures)
 
 slice-aggregate-block : tie.Need-slice-aggregate-block
 slice-aggregate-block c = search needs
 
-wide-requires : tie.Need-wide-requires
-wide-requires c κs = search needs
+cast-block : tie.Need-cast-block
+cast-block c = search needs
 
-wide-requires-2 : tie.Need-wide-requires-2
-wide-requires-2 c κs = search needs
+cast-block-2 : tie.Need-cast-block-2
+cast-block-2 c = search needs
 
 block-requires : tie.Need-block-requires
 block-requires c κs = search needs
@@ -62,14 +61,11 @@ ended-requires-2 c κs = search needs
 
 returns-5 : tie.Need-returns-5
 returns-5 c =
-    let bs = c .before .before .before .before .before .before .before .before .before .before .before .before .before .before .args .script .now in
-    let odd : length bs % 2 ≡ 1 → ⊥ = c .before .before .before .before .before .before .before .before .before .before .if3 .left in
-    let next = c .before .before .before .before .before .before .before .reading .given .0 .1 .0 in
-    c .ended2 .ensures
-    ∙ whole-is bs (c .before .before .before .before .before .before .before .before .before .before .before .before .if1 .left) (c .before .before .before .before .before .before .before .before .before .before .before .if2 .left) (omega arith) (c .before .before .block .result)
-    (c .before .before .block .ensures .0
-    ∙ same-block 16 0 next (unread bs next) (c .before .before .before .before .wide .ensures) (c .before .before .before .wide2 .ensures) (names-none _ 0)
-    ∙ program-goes-on bs (sym (c .before .before .before .before .before .before .before .before .before .read-block .ensures .0) ∙ c .before .before .before .before .before .before .before .reading .given .1))
+    let b = c .before .before in
+    let t = takenOf b in
+    let r = t .before .before in
+    let f = fitOf r in
+    program-read _ (f .before .before .if1 .left) (omega arith) (f .if3 .left) _ (names-none _ 0) (r .read-block .ensures .0) (t .reading .given .1) (b .block .ensures .0) (c .ended2 .ensures)
 
 pub structure-spec : {M : Type 1} → statement M
 structure-spec =
@@ -85,8 +81,8 @@ structure-spec =
     ended-requires
     returns-4
     slice-aggregate-block
-    wide-requires
-    wide-requires-2
+    cast-block
+    cast-block-2
     block-requires
     ended-requires-2
     returns-5)

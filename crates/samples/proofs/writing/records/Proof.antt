@@ -1,5 +1,5 @@
--- `records` meets its contract: the script keeps its length, and the text passed grows.
-use Prim.Native.Nat.{_-_, _≤_}
+-- `writing::records` meets its contract: the script keeps its length, and the text left falls.
+use Prim.Native.Nat.{_-_}
 use mathlib.Core.Path.{_≡_}
 use borrow.Author.Needs.{needs}
 use lib.ListN.{length}
@@ -7,10 +7,10 @@ use Rattle.samples.proofs.writing.records.Statement.{statement}
 use Rattle.samples.proofs.writing.records.Tie as tie
 
 abbrev Inv-loop : tie.InvT-loop
-Inv-loop script₀ start text at₀ i₀ script at i = (i ≤ length text) × (length script ≡ length script₀)
+Inv-loop script₀ start text from to time at₀ i₀ script at i = length script ≡ length script₀
 
 abbrev μ-loop : tie.MeasureT-loop
-μ-loop script₀ start text at₀ i₀ script at i = length text - i
+μ-loop script₀ start text from to time at₀ i₀ script at i = to - i
 
 loop-holds : tie.Need-loop-holds Inv-loop μ-loop
 loop-holds c = search needs

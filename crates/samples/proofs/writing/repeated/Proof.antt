@@ -1,5 +1,5 @@
--- `repeated` meets its contract: the script keeps its length, and the times left fall.
-use Prim.Native.Nat.{_-_}
+-- `writing::repeated` meets its contract: the script keeps its length, and the times left fall.
+use Prim.Native.Nat.{_-_, _≤_}
 use mathlib.Core.Path.{_≡_}
 use borrow.Author.Needs.{needs}
 use lib.ListN.{length}
@@ -7,19 +7,19 @@ use Rattle.samples.proofs.writing.repeated.Statement.{statement}
 use Rattle.samples.proofs.writing.repeated.Tie as tie
 
 abbrev Inv-loop : tie.InvT-loop
-Inv-loop script₀ start text times at₀ i₀ script at i = length script ≡ length script₀
+Inv-loop script₀ start text from to times at₀ time₀ script at time = (time ≤ times) × (length script ≡ length script₀)
 
 abbrev μ-loop : tie.MeasureT-loop
-μ-loop script₀ start text times at₀ i₀ script at i = times - i
+μ-loop script₀ start text from to times at₀ time₀ script at time = times - time
 
 loop-holds : tie.Need-loop-holds Inv-loop μ-loop
 loop-holds c = search needs
 
+add-time : tie.Need-add-time Inv-loop μ-loop
+add-time c = search needs
+
 records-requires : tie.Need-records-requires Inv-loop μ-loop
 records-requires c κs = search needs
-
-add-i : tie.Need-add-i Inv-loop μ-loop
-add-i c = search needs
 
 loop-less : tie.Need-loop-less Inv-loop μ-loop
 loop-less c = search needs
@@ -40,8 +40,8 @@ repeated-spec =
     Inv-loop
     μ-loop
     loop-holds
+    add-time
     records-requires
-    add-i
     loop-less
     loop-again
     same-length

@@ -1,0 +1,142 @@
+-- `blocks::block` in the cycle of the check. Assumes nothing.
+use mathlib.Core.Path.{_≡_, _∙_, refl}
+use Prim.Native.Nat.{ℕ, _+_, _-_, _≤_}
+use lib.ListN.{length, take}
+use borrow.Author.Needs.{needs}
+use native.Mathlib.Omega.{arith}
+use Rattle.naming.proofs.Names.{front-kept}
+use Rattle.judging.proofs.BlockTests.{Passed, opened-passed}
+use Rattle.judging.proofs.block.opened.Reads as opened-reads
+use Rattle.blocks.specs.Progress.{baseOf}
+use Rattle.blocks.proofs.Shapes.{unopened, same-front, decls-refused, rest-onward, rest-is}
+use Rattle.blocks.proofs.+block+body+declarations+statement+statements.Lts-block as block-lts
+use Rattle.blocks.proofs.block.Reads as block
+use Rattle.blocks.proofs.declarations.Reads as declarations
+use Rattle.blocks.proofs.statements.Reads as statements
+use Rattle.blocks.proofs.+block+body+declarations+statement+statements.Proof.Measures.{block-at, declarations-below, statements-below}
+
+module _ (t : ℕ) where
+  abbrev calls : block-lts.Claims
+  calls = (opened-reads.Asked, opened-reads.Learnt, declarations-below t, declarations.Post, statements-below t, statements.Post)
+
+  -- the places: the BK judged, the declarations read, the statements read
+  abbrev entryOf : block-lts.After-opened calls (block-at t) block.Post → block-lts.Start calls (block-at t) block.Post
+  entryOf c = c .before .before .before
+
+  abbrev judgedOf : block-lts.After-opened2 calls (block-at t) block.Post → block-lts.After-opened calls (block-at t) block.Post
+  judgedOf c = c .before .before
+
+  abbrev passedOf : block-lts.After-declarations-arg calls (block-at t) block.Post → block-lts.After-opened2 calls (block-at t) block.Post
+  passedOf c = c .before .before
+
+  abbrev readOf : block-lts.After-slice-known2 calls (block-at t) block.Post → block-lts.After-declarations calls (block-at t) block.Post
+  readOf c = c .before .before
+
+  abbrev declaredOf : block-lts.After-statements-arg calls (block-at t) block.Post → block-lts.After-declared calls (block-at t) block.Post
+  declaredOf c = c .before .before
+
+  abbrev doneOf : block-lts.After-slice-known3 calls (block-at t) block.Post → block-lts.After-statements calls (block-at t) block.Post
+  doneOf c = c .before .before
+
+  room : (c : block-lts.Start calls (block-at t) block.Post) → baseOf (c .args .left) + c .args .held ≤ length (c .args .names .now)
+  room c = omega (arith, c .pre)
+
+  passed :
+      (c : block-lts.After-opened2 calls (block-at t) block.Post) →
+      let a = entryOf (judgedOf c) .args in
+      Passed (a .left) (a .next) (a .d) (a .held) (c .opened2 .given .0 .0)
+  passed c = opened-passed _ _ _ _ _ (judgedOf c .opened .ensures) (c .opened2 .given .1)
+
+  opened-requires : block-lts.Need-opened-requires calls (block-at t) block.Post
+  opened-requires c κs = search needs
+
+  enum-known-opened : block-lts.Need-enum-known-opened calls (block-at t) block.Post
+  enum-known-opened c = search needs
+
+  enum-told : block-lts.Need-enum-told calls (block-at t) block.Post
+  enum-told c = search needs
+
+  returns : block-lts.Need-returns calls (block-at t) block.Post
+  returns c =
+      let j = c .before .before in
+      (unopened _ _ _ _ _ _ _ _ (room (entryOf j)) (j .opened .ensures) (c .enum-told .given .1), refl)
+
+  sub-declarations : block-lts.Need-sub-declarations calls (block-at t) block.Post
+  sub-declarations c = let p = passed (passedOf c) .positive in omega (arith, entryOf (judgedOf (passedOf c)) .pre)
+
+  declarations-requires : block-lts.Need-declarations-requires calls (block-at t) block.Post
+  declarations-requires c κs = let p = passed (passedOf c) in omega (arith, entryOf (judgedOf (passedOf c)) .pre, p)
+
+  enum-known-declared : block-lts.Need-enum-known-declared calls (block-at t) block.Post
+  enum-known-declared c = search needs
+
+  enum-told-2 : block-lts.Need-enum-told-2 calls (block-at t) block.Post
+  enum-told-2 c = search needs
+
+  same-length : block-lts.Need-same-length calls (block-at t) block.Post
+  same-length c = readOf (c .before .before) .declarations .kept .1 .0
+
+  -- the declarations leave the names of the levels above
+  kept :
+      (c : block-lts.After-declarations calls (block-at t) block.Post) →
+      let a = entryOf (judgedOf (passedOf (c .before))) .args in
+      take (baseOf (a .left)) (c .declarations .last .1 .0) ≡ take (baseOf (a .left)) (a .names .now)
+  kept c =
+      let o = passedOf (c .before) in
+      let a = entryOf (judgedOf o) .args in
+      same-front (a .script .now) (a .names .now) (a .left) (a .at) (a .d) (a .s) (a .held) (a .next) (room (entryOf (judgedOf o))) (passed o) (c .declarations .last .1 .0) (c .declarations .ensures .1)
+
+  returns-2 : block-lts.Need-returns-2 calls (block-at t) block.Post
+  returns-2 c =
+      let d = readOf (c .before .before) in
+      let o = passedOf (d .before) in (
+        decls-refused _ _ _ _ _ _ _ _ (room (entryOf (judgedOf o))) (passed o) (d .declarations .ensures .0) (c .enum-told2 .given .1),
+        kept d,
+      )
+
+  sub-statements : block-lts.Need-sub-statements calls (block-at t) block.Post
+  sub-statements c =
+      let o = passedOf (readOf (declaredOf c .before .before) .before) in
+      let p = passed o .positive in omega (arith, entryOf (judgedOf o) .pre)
+
+  statements-requires : block-lts.Need-statements-requires calls (block-at t) block.Post
+  statements-requires c κs =
+      let d = readOf (declaredOf c .before .before) in
+      let o = passedOf (d .before) in
+      let e = entryOf (judgedOf o) in
+      let on = rest-onward _ _ _ (e .args .at) _ _ _ _ (room e) (passed o) (d .declarations .ensures .0) (declaredOf c .declared .given .1) in
+      let l : length (d .declarations .last .1 .0) ≡ length (e .args .names .now) = d .declarations .kept .1 .0 in
+      let p = passed o .positive in
+      omega (arith, e .pre, on)
+
+  same-length-2 : block-lts.Need-same-length-2 calls (block-at t) block.Post
+  same-length-2 c = doneOf c .statements .kept .1 .0 ∙ readOf (declaredOf (doneOf c .before) .before .before) .declarations .kept .1 .0
+
+  returns-3 : block-lts.Need-returns-3 calls (block-at t) block.Post
+  returns-3 c =
+      let ss = doneOf c .statements in
+      let dd = declaredOf (doneOf c .before) in
+      let d = readOf (dd .before .before) in
+      let o = passedOf (d .before) in
+      let e = entryOf (judgedOf o) in (
+        rest-is _ _ _ _ _ _ _ _ (room e) (passed o) (d .declarations .ensures .0) (dd .declared .given .1) (ss .ensures .0),
+        front-kept (d .declarations .last .1 .0) (ss .last .1 .0) (baseOf (e .args .left)) (baseOf (e .args .left - 1)) (omega arith) (ss .ensures .1) ∙ kept d,
+      )
+
+  pub block-closed : {M : Type 1} → block-lts.Closed calls (block-at t) block.Post M
+  block-closed =
+      block-lts.spec calls (block-at t) block.Post
+      opened-requires
+      enum-known-opened
+      enum-told
+      returns
+      sub-declarations
+      declarations-requires
+      enum-known-declared
+      enum-told-2
+      same-length
+      returns-2
+      sub-statements
+      statements-requires
+      same-length-2
+      returns-3

@@ -1,0 +1,159 @@
+-- `blocks::body` in the cycle of the check. Assumes nothing.
+use mathlib.Core.Path.{_≡_, _∙_, sym, refl, subst}
+use Prim.Native.Nat.{ℕ, _≤_}
+use lib.ListN.{length}
+use borrow.Author.Needs.{needs}
+use native.Mathlib.Omega.{arith}
+use Rattle.language.specs.Structure.{blockWith}
+use Rattle.records.specs.Taking.{Within}
+use Rattle.records.proofs.read_block.Reads as read-block-reads
+use Rattle.records.proofs.onward.Reads as onward-reads
+use Rattle.naming.proofs.formals.read_formals.Reads as formals-reads
+use Rattle.blocks.proofs.MarkCases.{others-below, few-formals}
+use Rattle.blocks.proofs.Shapes.{formals-refused, formals-onward, head-refused, body-is}
+use Rattle.blocks.proofs.+block+body+declarations+statement+statements.Lts-body as body-lts
+use Rattle.blocks.proofs.body.Reads as body
+use Rattle.blocks.proofs.block.Reads as block
+use Rattle.blocks.proofs.+block+body+declarations+statement+statements.Proof.Measures.{body-at, block-below}
+
+module _ (t : ℕ) where
+  abbrev calls : body-lts.Claims
+  calls = (formals-reads.Asked, formals-reads.Learnt, read-block-reads.Asked, read-block-reads.Learnt, onward-reads.Asked, onward-reads.Learnt, block-below t, block.Post)
+
+  -- the places: a procedure, its formals read, its BK read and taken, its block read
+  abbrev entryOf : body-lts.After-enum-told calls (body-at t) body.Post → body-lts.Start calls (body-at t) body.Post
+  entryOf c = c .before .before .before .before
+
+  abbrev procedureOf : body-lts.After-read-formals calls (body-at t) body.Post → body-lts.After-enum-told calls (body-at t) body.Post
+  procedureOf c = c .before .before
+
+  abbrev formalsOf : body-lts.After-slice-known2 calls (body-at t) body.Post → body-lts.After-read-formals calls (body-at t) body.Post
+  formalsOf c = c .before .before
+
+  abbrev namedOf : body-lts.After-read-block calls (body-at t) body.Post → body-lts.After-formals calls (body-at t) body.Post
+  namedOf c = c .before .before
+
+  abbrev heldOf : body-lts.After-formals calls (body-at t) body.Post → body-lts.After-read-formals calls (body-at t) body.Post
+  heldOf c = formalsOf (c .before .before)
+
+  abbrev takenOf : body-lts.After-block-arg calls (body-at t) body.Post → body-lts.After-reading calls (body-at t) body.Post
+  takenOf c = c .before .before
+
+  abbrev doneOf : body-lts.After-slice-known3 calls (body-at t) body.Post → body-lts.After-block calls (body-at t) body.Post
+  doneOf c = c .before .before
+
+  few : (c : body-lts.After-enum-told calls (body-at t) body.Post) → entryOf c .args .p ≤ 32
+  few c = few-formals _ _ (c .enum-told .given .1) (entryOf c .pre .1 .1)
+
+  enum-told : body-lts.Need-enum-told calls (body-at t) body.Post
+  enum-told c = search needs
+
+  returns : body-lts.Need-returns calls (body-at t) body.Post
+  returns c = (sym (others-below _ _ _ _ _ (c .match .keys2)), refl)
+
+  sub-base : body-lts.Need-sub-base calls (body-at t) body.Post
+  sub-base c = omega (arith, entryOf c .pre)
+
+  mul-base : body-lts.Need-mul-base calls (body-at t) body.Post
+  mul-base c = omega (arith, entryOf c .pre)
+
+  read-formals-requires : body-lts.Need-read-formals-requires calls (body-at t) body.Post
+  read-formals-requires c κs = let h = few (c .before) in omega (arith, entryOf (c .before) .pre, h)
+
+  enum-known-formals : body-lts.Need-enum-known-formals calls (body-at t) body.Post
+  enum-known-formals c = search needs
+
+  enum-told-2 : body-lts.Need-enum-told-2 calls (body-at t) body.Post
+  enum-told-2 c = search needs
+
+  same-length : body-lts.Need-same-length calls (body-at t) body.Post
+  same-length c = formalsOf (c .before .before) .read-formals .kept .1 .0
+
+  returns-2 : body-lts.Need-returns-2 calls (body-at t) body.Post
+  returns-2 c =
+      let f = formalsOf (c .before .before) in
+      (formals-refused _ _ _ _ _ (procedureOf f .enum-told .given .1) (f .read-formals .ensures .0) (c .enum-told2 .given .1), f .read-formals .ensures .1 .1)
+
+  read-block-requires : body-lts.Need-read-block-requires calls (body-at t) body.Post
+  read-block-requires c κs = search needs
+
+  enum-known-reading : body-lts.Need-enum-known-reading calls (body-at t) body.Post
+  enum-known-reading c = search needs
+
+  enum-told-3 : body-lts.Need-enum-told-3 calls (body-at t) body.Post
+  enum-told-3 c = search needs
+
+  onward-requires : body-lts.Need-onward-requires calls (body-at t) body.Post
+  onward-requires c κs = search needs
+
+  same-length-2 : body-lts.Need-same-length-2 calls (body-at t) body.Post
+  same-length-2 c = heldOf (namedOf (c .before .before .before)) .read-formals .kept .1 .0
+
+  returns-3 : body-lts.Need-returns-3 calls (body-at t) body.Post
+  returns-3 c =
+      let b = c .before .before .before in
+      let n = namedOf b in
+      let f = heldOf n in (
+        head-refused _ _ _ _ _ (procedureOf f .enum-told .given .1) (f .read-formals .ensures .0) (n .formals .given .1)
+            (b .read-block .ensures .0) (c .before .enum-told3 .given .1) (c .onward .ensures),
+        f .read-formals .ensures .1 .1,
+      )
+
+  cast-block : body-lts.Need-cast-block calls (body-at t) body.Post
+  cast-block c = search needs
+
+  cast-block-2 : body-lts.Need-cast-block-2 calls (body-at t) body.Post
+  cast-block-2 c = search needs
+
+  block-requires : body-lts.Need-block-requires calls (body-at t) body.Post
+  block-requires c κs =
+      let k = takenOf c in
+      let b = k .before .before in
+      let n = namedOf b in
+      let f = heldOf n in
+      let e = entryOf (procedureOf f) in
+      let h = few (procedureOf f) in
+      let on = formals-onward (blockWith (e .args .below)) _ _ _ _ (procedureOf f .enum-told .given .1) (f .read-formals .ensures .0) (n .formals .given .1) in
+      let within = subst (Within (length (e .args .script .now)) (n .formals .given .0 .0)) (k .reading .given .1) (b .read-block .ensures .1) in
+      let l : length (f .read-formals .last .1 .0) ≡ length (e .args .names .now) = f .read-formals .kept .1 .0 in
+      omega (arith, e .pre, h, on, within)
+
+  same-length-3 : body-lts.Need-same-length-3 calls (body-at t) body.Post
+  same-length-3 c =
+      doneOf c .block .kept .1 .0 ∙ heldOf (namedOf (takenOf (doneOf c .before) .before .before)) .read-formals .kept .1 .0
+
+  returns-4 : body-lts.Need-returns-4 calls (body-at t) body.Post
+  returns-4 c =
+      let bk = doneOf c .block in
+      let k = takenOf (doneOf c .before) in
+      let b = k .before .before in
+      let n = namedOf b in
+      let f = heldOf n in (
+        body-is _ _ _ _ _ (procedureOf f .enum-told .given .1) (f .read-formals .ensures .0) (n .formals .given .1) _ (f .read-formals .ensures .1 .0)
+            (b .read-block .ensures .0) (k .reading .given .1) (bk .ensures .0),
+        bk .ensures .1 ∙ f .read-formals .ensures .1 .1,
+      )
+
+  pub body-closed : {M : Type 1} → body-lts.Closed calls (body-at t) body.Post M
+  body-closed =
+      body-lts.spec calls (body-at t) body.Post
+      enum-told
+      returns
+      sub-base
+      mul-base
+      read-formals-requires
+      enum-known-formals
+      enum-told-2
+      same-length
+      returns-2
+      read-block-requires
+      enum-known-reading
+      enum-told-3
+      onward-requires
+      same-length-2
+      returns-3
+      cast-block
+      cast-block-2
+      block-requires
+      same-length-3
+      returns-4

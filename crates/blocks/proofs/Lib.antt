@@ -1,0 +1,10 @@
+pub mod Lands
+pub mod Forget
+pub mod SameDecls
+pub mod OperationTests
+pub mod MarkCases
+pub mod DeclLaws
+pub mod StmtLaws
+pub mod BlockLaws
+pub mod Loops
+pub mod Shapes

@@ -1,0 +1,4 @@
+pub mod Names
+pub mod SameNames
+pub mod KindTests
+pub mod FormalLaws

@@ -1,0 +1,149 @@
+-- `naming::formals::read_formals` meets its contract: the formals done, whose names are held, come before those that are left. Assumes nothing.
+use mathlib.Core.Path.{_≡_, _∙_, refl, ap}
+use Prim.Native.Nat.{_≤_, _+_, _-_}
+use native.Mathlib.Omega.{arith}
+use borrow.Author.Needs.{needs}
+use lib.ListN.{length, take, length-set}
+use Rattle.records.specs.Taking.{progressOf}
+use Rattle.naming.specs.Naming.{namesAt}
+use Rattle.naming.proofs.Names.{front-set}
+use Rattle.naming.proofs.FormalLaws.{SoFar, at-start, refused-there, wrong-kind, named-twice, one-more, post-refused, all-post}
+use Rattle.naming.proofs.formals.read_formals.Statement.{statement}
+use Rattle.naming.proofs.formals.read_formals.Tie as tie
+
+abbrev Inv-loop : tie.InvT-loop
+Inv-loop script names₀ start p base at₀ i₀ names at i =
+    (i ≤ p) × (length names ≡ length names₀) × (take base names ≡ take base names₀) × SoFar script p start base names at i
+
+abbrev μ-loop : tie.MeasureT-loop
+μ-loop script names₀ start p base at₀ i₀ names at i = p - i
+
+-- the places: one more to read, its record read and taken, its kind known, its name sought
+abbrev entryOf : tie.At-loop Inv-loop μ-loop → tie.Start Inv-loop μ-loop
+entryOf c = c .before .before .before
+
+abbrev loopOf : tie.After-read-formal Inv-loop μ-loop → tie.At-loop Inv-loop μ-loop
+loopOf c = c .before .before
+
+abbrev recordOf : tie.After-known-told Inv-loop μ-loop → tie.After-read-formal Inv-loop μ-loop
+recordOf c = c .before .before .before
+
+abbrev kindOf : tie.After-seen Inv-loop μ-loop → tie.Else1 Inv-loop μ-loop
+kindOf c = c .before .before
+
+loop-holds : tie.Need-loop-holds Inv-loop μ-loop
+loop-holds c = (search needs, refl, refl, at-start _ _ _ _ _)
+
+read-formal-requires : tie.Need-read-formal-requires Inv-loop μ-loop
+read-formal-requires c κs = search needs
+
+enum-known-reading : tie.Need-enum-known-reading Inv-loop μ-loop
+enum-known-reading c = search needs
+
+enum-told : tie.Need-enum-told Inv-loop μ-loop
+enum-told c = search needs
+
+onward-requires : tie.Need-onward-requires Inv-loop μ-loop
+onward-requires c κs = search needs
+
+same-length : tie.Need-same-length Inv-loop μ-loop
+same-length c = loopOf (c .before .before .before) .loop .inv .1
+
+returns : tie.Need-returns Inv-loop μ-loop
+returns c =
+    let r = c .before .before .before in
+    let l = loopOf r .loop in
+    let told = c .before .enum-told .given .1 in
+    let q = post-refused _ (namesAt (l .names) _ _) (refused-there (l .inv .3) (r .before .loop-test .taken) (r .read-formal .ensures .0) told) in
+    (c .onward .ensures ∙ ap progressOf told ∙ q .0, (q .1, l .inv .2))
+
+same-length-2 : tie.Need-same-length-2 Inv-loop μ-loop
+same-length-2 c = loopOf (recordOf (c .before)) .loop .inv .1
+
+returns-2 : tie.Need-returns-2 Inv-loop μ-loop
+returns-2 c =
+    let t = c .before .before in
+    let r = recordOf (c .before) in
+    let l = loopOf r .loop in
+    let q = post-refused _ (namesAt (l .names) _ _) (wrong-kind (l .inv .3) (r .before .loop-test .taken) (r .read-formal .ensures .0) (t .reading .given .1) (omega arith)) in
+    (q .0, (q .1, l .inv .2))
+
+seen-requires : tie.Need-seen-requires Inv-loop μ-loop
+seen-requires c κs = let l = loopOf (recordOf (c .before .before)) in omega (arith, l .loop .inv, entryOf l .pre)
+
+same-length-3 : tie.Need-same-length-3 Inv-loop μ-loop
+same-length-3 c = loopOf (recordOf (kindOf (c .before) .before)) .loop .inv .1
+
+returns-3 : tie.Need-returns-3 Inv-loop μ-loop
+returns-3 c =
+    let k = kindOf (c .before) in
+    let r = recordOf (k .before) in
+    let l = loopOf r .loop in
+    let q = post-refused _ (namesAt (l .names) _ _) (named-twice (l .inv .3) (r .before .loop-test .taken) (r .read-formal .ensures .0) (k .before .before .reading .given .1) (omega arith) (c .before .seen .ensures) (c .if2 .taken)) in
+    (q .0, (q .1, l .inv .2))
+
+add-names : tie.Need-add-names Inv-loop μ-loop
+add-names c = search needs
+
+mul-names : tie.Need-mul-names Inv-loop μ-loop
+mul-names c = search needs
+
+slice-write-names : tie.Need-slice-write-names Inv-loop μ-loop
+slice-write-names c = let l = loopOf (recordOf (kindOf (c .before) .before)) in omega (arith, l .loop .inv, entryOf l .pre)
+
+add-i : tie.Need-add-i Inv-loop μ-loop
+add-i c = search needs
+
+loop-less : tie.Need-loop-less Inv-loop μ-loop
+loop-less c = search needs
+
+loop-again : tie.Need-loop-again Inv-loop μ-loop
+loop-again c =
+    let k = kindOf (c .before) in
+    let r = recordOf (k .before) in
+    let lp = loopOf r in
+    let l = lp .loop in
+    let a = entryOf lp .args in
+    let t = k .before .before .reading in
+    let more = r .before .loop-test .taken in (
+      omega (arith, more),
+      length-set (l .names) (a .base + l .i) (t .given .0 .1 .1 .0) ∙ l .inv .1,
+      front-set (l .names) (a .base) (l .i) (t .given .0 .1 .1 .0) ∙ l .inv .2,
+      one-more (l .inv .3) more (r .read-formal .ensures .0) (t .given .1) (omega arith) (c .before .seen .ensures) (c .if2 .left) (omega (arith, l .inv, entryOf lp .pre)),
+    )
+
+same-length-4 : tie.Need-same-length-4 Inv-loop μ-loop
+same-length-4 c = c .before .loop .inv .1
+
+returns-4 : tie.Need-returns-4 Inv-loop μ-loop
+returns-4 c =
+    let l = c .before .loop in
+    let q = all-post (l .inv .3) (omega arith) in
+    (q .0, (q .1, l .inv .2))
+
+pub read-formals-spec : {M : Type 1} → statement M
+read-formals-spec =
+    tie.close
+    (tie.spec
+    Inv-loop
+    μ-loop
+    loop-holds
+    read-formal-requires
+    enum-known-reading
+    enum-told
+    onward-requires
+    same-length
+    returns
+    same-length-2
+    returns-2
+    seen-requires
+    same-length-3
+    returns-3
+    add-names
+    mul-names
+    slice-write-names
+    add-i
+    loop-less
+    loop-again
+    same-length-4
+    returns-4)
