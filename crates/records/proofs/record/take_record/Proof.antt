@@ -1,19 +1,29 @@
--- `records::take_record` meets its contract: each way out is a case of `restAt`. Assumes nothing.
+-- `records::record::take_record` meets its contract: each way out is a case of `restAt`. Assumes nothing.
 use mathlib.Core.Path.{_≡_, _∙_, sym, ap}
-use Prim.Native.Nat.{ℕ, _+_, _*_}
+use Prim.Native.Nat.{ℕ, _+_, _*_, _≤_}
 use native.Mathlib.Omega.{arith}
+use Rattle.records.proofs.Counts.{few-found}
 use borrow.Author.Needs.{needs}
 use Rattle.records.specs.Taking.{restAt}
 use Rattle.records.specs.declared.Mark.{Mark}
-use Rattle.records.specs.declared.Fit.{Fit}
-use Rattle.records.specs.declared.Fit.the-variants.{Found}
+use Rattle.records.specs.declared.marks.Fit.{Fit}
 use Rattle.records.specs.declared.Reading.the-variants.{Taken}
 use Rattle.records.proofs.Places.{rest-whole, rest-cut, rest-stray}
-use Rattle.records.proofs.take_record.Statement.{statement}
-use Rattle.records.proofs.take_record.Tie as tie
+use Rattle.records.proofs.record.take_record.Statement.{statement}
+use Rattle.records.proofs.record.take_record.Tie as tie
 
 same-fields : (m : Mark) (next : ℕ) {a a′ b b′ c c′ d d′ : ℕ} → a ≡ a′ → b ≡ b′ → c ≡ c′ → d ≡ d′ → Taken m next a b c d ≡ Taken m next a′ b′ c′ d′
 same-fields m next p q r s = cc
+
+abbrev startOf : tie.After-known-told → tie.Start
+startOf c = c .before .before .before .before
+
+abbrev foundOf : tie.After-known-told → tie.After-fit
+foundOf c = c .before
+
+-- the row has at most four fields
+few : (c : tie.After-known-told) → foundOf c .fit .given .0 .0 ≤ 4
+few c = few-found _ _ _ (foundOf c .fit .given .1) (startOf c .pre .1)
 
 enum-known-fit : tie.Need-enum-known-fit
 enum-known-fit c = search needs
@@ -29,23 +39,19 @@ returns c =
 add-from : tie.Need-add-from
 add-from c = search needs
 
-size-requires : tie.Need-size-requires
-size-requires c κs = search needs
-
 sub-if1 : tie.Need-sub-if1
 sub-if1 c = search needs
 
 mul-if1 : tie.Need-mul-if1
-mul-if1 c = search needs
+mul-if1 c = let h = few c in search needs
 
 returns-2 : tie.Need-returns-2
 returns-2 c =
-    let a = c .before .before .before .before .before .before .args in
-    let known = c .before .before .before .fit .given in (
+    let a = startOf (c .before) .args in
+    let known = foundOf (c .before) .fit .given in (
       sym
-          (ap (λ (x : Fit). restAt x (a .script .now) (a .at))
-          (known .1 ∙ ap (λ (k : ℕ). Found k (known .0 .1 .0)) (sym (c .before .size .ensures .0)))
-          ∙ rest-cut (c .before .size .result) (known .0 .1 .0) (a .script .now) (a .at) (omega arith)),
+          (ap (λ (x : Fit). restAt x (a .script .now) (a .at)) (known .1)
+          ∙ rest-cut (known .0 .0) (known .0 .1 .0) (a .script .now) (a .at) (omega arith)),
       tt,
     )
 
@@ -61,25 +67,23 @@ field-of-requires-3 c κs = search needs
 field-of-requires-4 : tie.Need-field-of-requires-4
 field-of-requires-4 c κs = search needs
 
-mul-t13 : tie.Need-mul-t13
-mul-t13 c = search needs
+mul-t12 : tie.Need-mul-t12
+mul-t12 c = search needs
 
-add-t14 : tie.Need-add-t14
-add-t14 c = search needs
+add-t13 : tie.Need-add-t13
+add-t13 c = search needs
 
 returns-3 : tie.Need-returns-3
 returns-3 c =
     let b = c .before .before .before .before in
-    let a = b .before .before .before .before .before .before .args in
-    let known = b .before .before .before .fit .given in
-    let k = b .before .size in (
-      same-fields (known .0 .1 .0) (a .at + 2 + 2 * k .result)
+    let a = startOf (b .before) .args in
+    let known = foundOf (b .before) .fit .given in (
+      same-fields (known .0 .1 .0) (a .at + 2 + 2 * known .0 .0)
           (c .before .before .before .field-of .ensures .0) (c .before .before .field-of2 .ensures .0)
           (c .before .field-of3 .ensures .0) (c .field-of4 .ensures .0)
           ∙ sym
-          (ap (λ (x : Fit). restAt x (a .script .now) (a .at))
-          (known .1 ∙ ap (λ (n : ℕ). Found n (known .0 .1 .0)) (sym (k .ensures .0)))
-          ∙ rest-whole (k .result) (known .0 .1 .0) (a .script .now) (a .at) (omega (arith, b))),
+          (ap (λ (x : Fit). restAt x (a .script .now) (a .at)) (known .1)
+          ∙ rest-whole (known .0 .0) (known .0 .1 .0) (a .script .now) (a .at) (omega (arith, b))),
       (omega arith, omega (arith, b), search needs, search needs, search needs, search needs),
     )
 
@@ -91,7 +95,6 @@ take-record-spec =
     enum-told
     returns
     add-from
-    size-requires
     sub-if1
     mul-if1
     returns-2
@@ -99,6 +102,6 @@ take-record-spec =
     field-of-requires-2
     field-of-requires-3
     field-of-requires-4
-    mul-t13
-    add-t14
+    mul-t12
+    add-t13
     returns-3)

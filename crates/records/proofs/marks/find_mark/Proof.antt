@@ -1,4 +1,4 @@
--- `records::find_mark` meets its contract: what is left of the table from `i` on gives what all of it gives, which is what the
+-- `records::marks::find_mark` meets its contract: what is left of the table from `i` on gives what all of it gives, which is what the
 -- definitions' rows of the place give (`bit-rule`). Assumes nothing.
 use mathlib.Core.Path.{_≡_, refl, _∙_, sym}
 use mathlib.Core.Logic.{⊎-elim}
@@ -6,8 +6,9 @@ use Prim.Native.Nat.{_-_}
 use borrow.Author.Needs.{needs}
 use lib.ListN.{drop}
 use Rattle.records.proofs.Table.{fitFrom, bit-rule, at-fits, at-other, at-barred, none-left}
-use Rattle.records.proofs.find_mark.Statement.{statement}
-use Rattle.records.proofs.find_mark.Tie as tie
+use Rattle.records.proofs.Counts.{fits-few}
+use Rattle.records.proofs.marks.find_mark.Statement.{statement}
+use Rattle.records.proofs.marks.find_mark.Tie as tie
 
 abbrev Inv-loop : tie.InvT-loop
 Inv-loop letters marks bit i₀ i = fitFrom bit letters (drop i marks) ≡ fitFrom bit letters marks
@@ -35,11 +36,12 @@ returns c =
     let b = c .before .before .before .before .before .before .before in
     let a = b .before .args in
     let l = c .before .before .before .before .before .before .loop in
-    sym
+    fits-few (a .place) (a .letters)
+    (sym
     (at-fits (b .bit-of .result) (a .letters) _ (l .i) _ (c .before .before .before .before .before .loop-test .taken)
     (c .before .before .if1 .taken) (c .if2 .taken))
     ∙ l .inv
-    ∙ bit-rule (a .place) (a .letters) (b .bit-of .ensures .0)
+    ∙ bit-rule (a .place) (a .letters) (b .bit-of .ensures .0))
 
 add-i : tie.Need-add-i Inv-loop μ-loop
 add-i c = search needs
@@ -62,9 +64,10 @@ returns-2 c =
     let b = c .before .before in
     let a = b .before .args in
     let l = c .before .loop in
-    sym (none-left (b .bit-of .result) (a .letters) _ (l .i) (c .loop-test .left))
+    fits-few (a .place) (a .letters)
+    (sym (none-left (b .bit-of .result) (a .letters) _ (l .i) (c .loop-test .left))
     ∙ l .inv
-    ∙ bit-rule (a .place) (a .letters) (b .bit-of .ensures .0)
+    ∙ bit-rule (a .place) (a .letters) (b .bit-of .ensures .0))
 
 pub find-mark-spec : {M : Type 1} → statement M
 find-mark-spec =
