@@ -20,10 +20,10 @@ pub struct Step {
 
 // Past a record that holds no other. The argument names of a CL come after its fields.
 pub fn past(script: &[u8], at: usize, mark: usize) -> usize
-    requires { ⌜ (at < 2 ^ 32) × (mark ≡ wordAt (now script) at) × (mark ≡ BK-mark → ⊥) × (mark ≡ PR-mark → ⊥) ⌝ }
+    requires { ⌜ (at < 2 ^ 32) × (mark < 65536) × (mark ≡ wordAt (now script) at) × (mark ≡ BK-mark → ⊥) × (mark ≡ PR-mark → ⊥) ⌝ }
     ensures { λ r. ⌜ Alone (now (script .entry)) at r ⌝ }
 {
-    let end = at + 2 + 2 * field_count(mark);
+    let end = at + 2 + 2 * field_count(mark as u32);
     if mark == CL {
         return end + 2 * word(script, at + 4);
     }
@@ -32,7 +32,7 @@ pub fn past(script: &[u8], at: usize, mark: usize) -> usize
 
 // Past the head of a record.
 pub fn pass(script: &[u8], at: usize, mark: usize) -> Step
-    requires { ⌜ (at < 2 ^ 32) × (mark ≡ wordAt (now script) at) ⌝ }
+    requires { ⌜ (at < 2 ^ 32) × (mark < 65536) × (mark ≡ wordAt (now script) at) ⌝ }
     ensures { λ r. ⌜ Passed (now (script .entry)) at r ⌝ }
 {
     if mark == BK {

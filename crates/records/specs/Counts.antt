@@ -1,5 +1,5 @@
 -- The number of fields after a mark, by the definitions' rows of each place.
-use Prim.Native.Nat.{ℕ, _≤_}
+use Prim.Native.Nat.{ℕ}
 use Rattle.records.specs.declared.Place.the-variants.{Formal, Declaration, Statement}
 use Rattle.records.specs.declared.marks.Fit.{Fit}
 use Rattle.records.specs.declared.marks.Fit.the-variants.{Found, Nothing}
@@ -12,8 +12,3 @@ countOr Nothing d = d
 -- of a block's mark too, which is a statement's; 0 for letters that are no mark
 unfoldable pub fieldCount : ℕ → ℕ
 fieldCount w = countOr (fitAt Statement w) (countOr (fitAt Declaration w) (countOr (fitAt Formal w) 0))
-
--- no mark has more than four fields
-abbrev pub Few : Fit → Type 0
-Few (Found n m) = n ≤ 4
-Few Nothing = Unit {0}

@@ -2,9 +2,9 @@
 use super::Mark;
 use super::Place;
 ghost use mathlib.Core.Path.{_≡_};
-ghost use Prim.Native.Nat.{_<_, _≤_};
+ghost use Prim.Native.Nat.{_<_};
 ghost use Rattle.records.specs.Taking.{bitOf, fitAt};
-ghost use Rattle.records.specs.Counts.{fieldCount, Few};
+ghost use Rattle.records.specs.Counts.{fieldCount};
 
 // The letters of each mark as one field, low byte first.
 pub const FM: usize = 0x4d46;
@@ -58,89 +58,90 @@ const DECLARATION: u8 = 4;
 
 const STATEMENT: u8 = 8;
 
-// A mark, how many fields come after it, and the bits of the places where it may stand.
+// A mark, how many fields come after it, and the bits of the places where it may stand: eight bytes, so that the compiler reads an entry
+// of the table at once.
 pub struct Entry {
-    pub letters: usize,
-    pub count: usize,
+    pub letters: u32,
+    pub count: u8,
     pub places: u8,
     pub mark: Mark,
 }
 
 const MARKS: [Entry; 13] = [
     Entry {
-        letters: FM,
-        count: FM_FIELDS,
+        letters: FM as u32,
+        count: FM_FIELDS as u8,
         places: FORMAL,
         mark: Mark::FM,
     },
     Entry {
-        letters: VR,
+        letters: VR as u32,
         count: 1,
         places: DECLARATION,
         mark: Mark::VR,
     },
     Entry {
-        letters: LB,
+        letters: LB as u32,
         count: 2,
         places: DECLARATION,
         mark: Mark::LB,
     },
     Entry {
-        letters: PR,
-        count: PR_FIELDS,
+        letters: PR as u32,
+        count: PR_FIELDS as u8,
         places: DECLARATION,
         mark: Mark::PR,
     },
     Entry {
-        letters: BK,
-        count: BK_FIELDS,
+        letters: BK as u32,
+        count: BK_FIELDS as u8,
         places: BLOCK + STATEMENT,
         mark: Mark::BK,
     },
     Entry {
-        letters: CL,
-        count: CL_FIELDS,
+        letters: CL as u32,
+        count: CL_FIELDS as u8,
         places: STATEMENT,
         mark: Mark::CL,
     },
     Entry {
-        letters: GO,
+        letters: GO as u32,
         count: 1,
         places: STATEMENT,
         mark: Mark::GO,
     },
     Entry {
-        letters: IF,
+        letters: IF as u32,
         count: 2,
         places: STATEMENT,
         mark: Mark::IF,
     },
     Entry {
-        letters: KN,
+        letters: KN as u32,
         count: 3,
         places: STATEMENT,
         mark: Mark::KN,
     },
     Entry {
-        letters: AR,
+        letters: AR as u32,
         count: 4,
         places: STATEMENT,
         mark: Mark::AR,
     },
     Entry {
-        letters: AD,
+        letters: AD as u32,
         count: 2,
         places: STATEMENT,
         mark: Mark::AD,
     },
     Entry {
-        letters: RM,
+        letters: RM as u32,
         count: 2,
         places: STATEMENT,
         mark: Mark::RM,
     },
     Entry {
-        letters: QY,
+        letters: QY as u32,
         count: 3,
         places: STATEMENT,
         mark: Mark::QY,
@@ -148,7 +149,7 @@ const MARKS: [Entry; 13] = [
 ];
 
 pub enum Fit {
-    Found { count: usize, mark: Mark },
+    Found { count: u8, mark: Mark },
     Nothing,
 }
 
@@ -165,8 +166,8 @@ fn bit_of(place: Place) -> u8
 
 // The mark with these letters, of those that may stand at a place. The table is copied once, before the loop: where the place is known
 // when the call is compiled, a comparison for each of its marks is left.
-pub fn find_mark(letters: usize, place: Place) -> Fit
-    ensures { λ r. ⌜ (r ≡ fitAt place letters) × Few r ⌝ }
+pub fn find_mark(letters: u32, place: Place) -> Fit
+    ensures { λ r. ⌜ r ≡ fitAt place letters ⌝ }
 {
     let marks = MARKS;
     let bit = bit_of(place);
@@ -187,18 +188,24 @@ pub fn find_mark(letters: usize, place: Place) -> Fit
     Fit::Nothing
 }
 
+pub fn as_usize(x: u8) -> usize
+    ensures { λ r. ⌜ (r ≡ x) × (r < 256) ⌝ }
+{
+    x as usize
+}
+
 // The number of fields after a mark, wherever it may stand; 0 for letters that are no mark.
-pub fn field_count(letters: usize) -> usize
-    ensures { λ r. ⌜ (r ≡ fieldCount letters) × (r ≤ 4) ⌝ }
+pub fn field_count(letters: u32) -> usize
+    ensures { λ r. ⌜ (r ≡ fieldCount letters) × (r < 256) ⌝ }
 {
     if let Fit::Found { count, .. } = find_mark(letters, Place::Statement) {
-        return count;
+        return as_usize(count);
     }
     if let Fit::Found { count, .. } = find_mark(letters, Place::Declaration) {
-        return count;
+        return as_usize(count);
     }
     if let Fit::Found { count, .. } = find_mark(letters, Place::Formal) {
-        return count;
+        return as_usize(count);
     }
     0
 }

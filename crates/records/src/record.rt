@@ -5,39 +5,34 @@ use super::fields::field_at;
 use super::fields::field_of;
 use super::fields::marked;
 use super::marks::Fit;
+use super::marks::as_usize;
 use super::marks::find_mark;
 use language::Refusal;
 ghost use mathlib.Core.Path.{_≡_};
 ghost use Prim.Native.Nat.{_+_, _<_, _≤_};
 ghost use lib.ListN.{length};
 ghost use Rattle.records.specs.Taking.{restAt, recordAt, Within};
-ghost use Rattle.records.specs.Counts.{Few};
-
-fn as_usize(x: u32) -> usize
-    ensures { λ r. ⌜ r ≡ x ⌝ }
-{
-    x as usize
-}
 
 // What comes after a mark that is there, by its row.
 fn take_record(script: &[u8], at: usize, fit: Fit) -> Reading
-    requires { ⌜ (at + 2 ≤ length (now script)) × Few fit ⌝ }
+    requires { ⌜ at + 2 ≤ length (now script) ⌝ }
     ensures { λ r. ⌜ (r ≡ restAt fit (now (script .entry)) at) × Within (length (now (script .entry))) at r ⌝ }
 {
     let Fit::Found { count, mark } = fit else {
         return Reading::Refused(Refusal::MarkMisplaced, at);
     };
     let from = at + 2;
-    if script.len() - from < 2 * count {
+    let k = as_usize(count);
+    if script.len() - from < 2 * k {
         return Reading::Refused(Refusal::PastTheEnd, at);
     }
-    let f0 = field_of(script, from, count, 0);
-    let f1 = field_of(script, from, count, 1);
-    let f2 = field_of(script, from, count, 2);
-    let f3 = field_of(script, from, count, 3);
+    let f0 = field_of(script, from, k, 0);
+    let f1 = field_of(script, from, k, 1);
+    let f2 = field_of(script, from, k, 2);
+    let f3 = field_of(script, from, k, 3);
     Reading::Taken {
         mark,
-        next: from + 2 * count,
+        next: from + 2 * k,
         f0,
         f1,
         f2,
@@ -50,8 +45,7 @@ fn read(script: &[u8], at: usize, place: Place) -> Reading
     ensures { λ r. ⌜ (r ≡ recordAt place (now (script .entry)) at) × Within (length (now (script .entry))) at r ⌝ }
 {
     if marked(script, at) {
-        let letters = as_usize(field_at(script, at));
-        return take_record(script, at, find_mark(letters, place));
+        return take_record(script, at, find_mark(field_at(script, at), place));
     }
     Reading::Refused(Refusal::PastTheEnd, at)
 }

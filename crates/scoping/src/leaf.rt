@@ -24,8 +24,8 @@ fn progress_after(v: Verdict, next: usize) -> Progress
 }
 
 pub fn leaf(script: &[u8], entries: &[usize], top: usize, at: usize, mark: usize) -> Progress
-    requires { ⌜ (length (now script) ≤ 8192) × (at < length (now script)) × Chained (now entries) top × (mark ≡ wordAt (now script) at)
-        × (mark ≡ BK-mark → ⊥) × (mark ≡ PR-mark → ⊥) ⌝ }
+    requires { ⌜ (length (now script) ≤ 8192) × (at < length (now script)) × Chained (now entries) top × (mark < 65536)
+        × (mark ≡ wordAt (now script) at) × (mark ≡ BK-mark → ⊥) × (mark ≡ PR-mark → ⊥) ⌝ }
     ensures judged { λ r. ⌜ ItemJudged (now (script .entry)) (now (entries .entry)) at top r ⌝ }
     ensures ahead { λ r. ⌜ Ahead at (length (now (script .entry))) r ⌝ }
 {

@@ -34,7 +34,7 @@ returns c =
     let st = c .before .before .before .before in
     let a = st .args in
     let bs = a .script .now in
-    let m : wordAt bs (a .at) ≡ BK-mark = sym (st .pre .1) ∙ c .before .before .if1 .taken in
+    let m : wordAt bs (a .at) ≡ BK-mark = sym (st .pre .2) ∙ c .before .before .if1 .taken in
     record {
       next-is = sym (ap (λ (x : ℕ). a .at + headSize x (wordAt bs (a .at + 4))) m ∙ ap (λ (k : ℕ). a .at + k) (size-BK (wordAt bs (a .at + 4))));
       more-is = (let p = c .before .word .ensures .0 in let q = c .word2 .ensures .0 in cc) ∙ sym (ap (λ (x : ℕ). childCount x (wordAt bs (a .at + 2)) (wordAt bs (a .at + 4))) m);
@@ -61,7 +61,7 @@ returns-2 c =
     let st = c .before .before .before .before in
     let a = st .args in
     let bs = a .script .now in
-    let m : wordAt bs (a .at) ≡ PR-mark = sym (st .pre .1) ∙ c .before .if2 .taken in
+    let m : wordAt bs (a .at) ≡ PR-mark = sym (st .pre .2) ∙ c .before .if2 .taken in
     record {
       next-is = sym (ap (λ (x : ℕ). a .at + headSize x (wordAt bs (a .at + 4))) m ∙ ap (λ (k : ℕ). a .at + k) (size-PR (wordAt bs (a .at + 4))));
       more-is = ap (λ (x : ℕ). x + 1) (c .word3 .ensures .0) ∙ sym (ap (λ (x : ℕ). childCount x (wordAt bs (a .at + 2)) (wordAt bs (a .at + 4))) m);

@@ -28,7 +28,7 @@ module _ (c : tie.After-field-count) where
       let st = startOf c in
       record {
         next-is = e;
-        more-is = sym (child-other (wordAt bs at) (wordAt bs (at + 2)) (wordAt bs (at + 4)) (λ p. st .pre .2 (st .pre .1 ∙ p)) (λ p. st .pre .3 (st .pre .1 ∙ p)));
+        more-is = sym (child-other (wordAt bs at) (wordAt bs (at + 2)) (wordAt bs (at + 4)) (λ p. st .pre .3 (st .pre .2 ∙ p)) (λ p. st .pre .4 (st .pre .2 ∙ p)));
         on = low;
         near = high;
         few = omega arith;
@@ -36,6 +36,9 @@ module _ (c : tie.After-field-count) where
 
 add-end : tie.Need-add-end
 add-end c = search needs
+
+cast-field-count : tie.Need-cast-field-count
+cast-field-count c = search needs
 
 field-count-requires : tie.Need-field-count-requires
 field-count-requires c κs = search needs
@@ -62,10 +65,10 @@ returns : tie.Need-returns
 returns c =
     let f = c .before .before in
     let st = startOf f in
-    let m = sym (st .pre .1) ∙ c .before .if1 .taken in
+    let m = sym (st .pre .2) ∙ c .before .if1 .taken in
     let e = size-CL (wordAt (bs f) (at f)) (wordAt (bs f) (at f + 4)) m in
     let two = count-CL (wordAt (bs f) (at f)) m in
-    let n = f .field-count .ensures .0 ∙ ap fieldCount (st .pre .1) in
+    let n = f .field-count .ensures .0 ∙ ap fieldCount (st .pre .2) in
     let v = c .word .ensures .0 in
     alone f _ (omega arith) (omega arith) (omega arith)
 
@@ -73,8 +76,8 @@ returns-2 : tie.Need-returns-2
 returns-2 c =
     let f = c .before in
     let st = startOf f in
-    let e = size-other (wordAt (bs f) (at f)) (wordAt (bs f) (at f + 4)) (λ p. c .if1 .left (st .pre .1 ∙ p)) in
-    let n = f .field-count .ensures .0 ∙ ap fieldCount (st .pre .1) in
+    let e = size-other (wordAt (bs f) (at f)) (wordAt (bs f) (at f + 4)) (λ p. c .if1 .left (st .pre .2 ∙ p)) in
+    let n = f .field-count .ensures .0 ∙ ap fieldCount (st .pre .2) in
     alone f _ (omega arith) (omega arith) (omega arith)
 
 pub past-spec : {M : Type 1} → statement M
@@ -82,6 +85,7 @@ past-spec =
     tie.close
     (tie.spec
     add-end
+    cast-field-count
     field-count-requires
     mul-end
     add-end-2

@@ -1,6 +1,6 @@
 -- `records::marks::field_count` meets its contract: each place's rows in turn. Assumes nothing.
 use mathlib.Core.Path.{sym, _∙_}
-use Rattle.records.proofs.Counts.{few-found, count-statement, count-declaration, count-formal, count-none}
+use Rattle.records.proofs.Counts.{count-statement, count-declaration, count-formal, count-none}
 use borrow.Author.Needs.{needs}
 use Rattle.records.proofs.marks.field_count.Statement.{statement}
 use Rattle.records.proofs.marks.field_count.Tie as tie
@@ -17,11 +17,16 @@ find-mark-requires c κs = search needs
 enum-known-count : tie.Need-enum-known-count
 enum-known-count c = search needs
 
+as-usize-requires : tie.Need-as-usize-requires
+as-usize-requires c κs = search needs
+
 returns : tie.Need-returns
 returns c =
-    let f = c .before .before .before in
-    let k = c .before .count .given in
-    (sym (count-statement (f .before .args .letters) _ _ (sym (f .find-mark .ensures .0) ∙ k .1)), few-found _ _ _ (k .1) (f .find-mark .ensures .1))
+    let k = c .before .before in
+    let f = k .before .before in (
+      c .as-usize .ensures .0 ∙ sym (count-statement (f .before .args .letters) _ _ (sym (f .find-mark .ensures) ∙ k .count .given .1)),
+      c .as-usize .ensures .1,
+    )
 
 enum-told : tie.Need-enum-told
 enum-told c = search needs
@@ -32,13 +37,19 @@ find-mark-requires-2 c κs = search needs
 enum-known-count-2 : tie.Need-enum-known-count-2
 enum-known-count-2 c = search needs
 
+as-usize-requires-2 : tie.Need-as-usize-requires-2
+as-usize-requires-2 c κs = search needs
+
 returns-2 : tie.Need-returns-2
 returns-2 c =
-    let g = c .before .before .before in
-    let k = c .before .count2 .given in
+    let k = c .before .before in
+    let g = k .before .before in
     let f = statementOf (g .before) in (
-      sym (count-declaration (f .before .args .letters) (sym (f .find-mark .ensures .0) ∙ g .before .enum-told .given .1) _ _ (sym (g .find-mark2 .ensures .0) ∙ k .1)),
-      few-found _ _ _ (k .1) (g .find-mark2 .ensures .1),
+      c .as-usize2 .ensures .0
+          ∙ sym
+          (count-declaration (f .before .args .letters) (sym (f .find-mark .ensures) ∙ g .before .enum-told .given .1) _ _
+          (sym (g .find-mark2 .ensures) ∙ k .count2 .given .1)),
+      c .as-usize2 .ensures .1,
     )
 
 enum-told-2 : tie.Need-enum-told-2
@@ -50,16 +61,20 @@ find-mark-requires-3 c κs = search needs
 enum-known-count-3 : tie.Need-enum-known-count-3
 enum-known-count-3 c = search needs
 
+as-usize-requires-3 : tie.Need-as-usize-requires-3
+as-usize-requires-3 c κs = search needs
+
 returns-3 : tie.Need-returns-3
 returns-3 c =
-    let h = c .before .before .before in
-    let k = c .before .count3 .given in
+    let k = c .before .before in
+    let h = k .before .before in
     let g = declarationOf (h .before) in
     let f = statementOf (g .before) in (
-      sym
-          (count-formal (f .before .args .letters) (sym (f .find-mark .ensures .0) ∙ g .before .enum-told .given .1)
-          (sym (g .find-mark2 .ensures .0) ∙ h .before .enum-told2 .given .1) _ _ (sym (h .find-mark3 .ensures .0) ∙ k .1)),
-      few-found _ _ _ (k .1) (h .find-mark3 .ensures .1),
+      c .as-usize3 .ensures .0
+          ∙ sym
+          (count-formal (f .before .args .letters) (sym (f .find-mark .ensures) ∙ g .before .enum-told .given .1)
+          (sym (g .find-mark2 .ensures) ∙ h .before .enum-told2 .given .1) _ _ (sym (h .find-mark3 .ensures) ∙ k .count3 .given .1)),
+      c .as-usize3 .ensures .1,
     )
 
 enum-told-3 : tie.Need-enum-told-3
@@ -71,8 +86,8 @@ returns-4 c =
     let g = declarationOf (h .before) in
     let f = statementOf (g .before) in (
       sym
-          (count-none (f .before .args .letters) (sym (f .find-mark .ensures .0) ∙ g .before .enum-told .given .1)
-          (sym (g .find-mark2 .ensures .0) ∙ h .before .enum-told2 .given .1) (sym (h .find-mark3 .ensures .0) ∙ c .enum-told3 .given .1)),
+          (count-none (f .before .args .letters) (sym (f .find-mark .ensures) ∙ g .before .enum-told .given .1)
+          (sym (g .find-mark2 .ensures) ∙ h .before .enum-told2 .given .1) (sym (h .find-mark3 .ensures) ∙ c .enum-told3 .given .1)),
       search needs,
     )
 
@@ -82,14 +97,17 @@ field-count-spec =
     (tie.spec
     find-mark-requires
     enum-known-count
+    as-usize-requires
     returns
     enum-told
     find-mark-requires-2
     enum-known-count-2
+    as-usize-requires-2
     returns-2
     enum-told-2
     find-mark-requires-3
     enum-known-count-3
+    as-usize-requires-3
     returns-3
     enum-told-3
     returns-4)

@@ -6,7 +6,6 @@ use Prim.Native.Nat.{_-_}
 use borrow.Author.Needs.{needs}
 use lib.ListN.{drop}
 use Rattle.records.proofs.Table.{fitFrom, bit-rule, at-fits, at-other, at-barred, none-left}
-use Rattle.records.proofs.Counts.{fits-few}
 use Rattle.records.proofs.marks.find_mark.Statement.{statement}
 use Rattle.records.proofs.marks.find_mark.Tie as tie
 
@@ -36,12 +35,11 @@ returns c =
     let b = c .before .before .before .before .before .before .before in
     let a = b .before .args in
     let l = c .before .before .before .before .before .before .loop in
-    fits-few (a .place) (a .letters)
-    (sym
+    sym
     (at-fits (b .bit-of .result) (a .letters) _ (l .i) _ (c .before .before .before .before .before .loop-test .taken)
     (c .before .before .if1 .taken) (c .if2 .taken))
     ∙ l .inv
-    ∙ bit-rule (a .place) (a .letters) (b .bit-of .ensures .0))
+    ∙ bit-rule (a .place) (a .letters) (b .bit-of .ensures .0)
 
 add-i : tie.Need-add-i Inv-loop μ-loop
 add-i c = search needs
@@ -64,10 +62,9 @@ returns-2 c =
     let b = c .before .before in
     let a = b .before .args in
     let l = c .before .loop in
-    fits-few (a .place) (a .letters)
-    (sym (none-left (b .bit-of .result) (a .letters) _ (l .i) (c .loop-test .left))
+    sym (none-left (b .bit-of .result) (a .letters) _ (l .i) (c .loop-test .left))
     ∙ l .inv
-    ∙ bit-rule (a .place) (a .letters) (b .bit-of .ensures .0))
+    ∙ bit-rule (a .place) (a .letters) (b .bit-of .ensures .0)
 
 pub find-mark-spec : {M : Type 1} → statement M
 find-mark-spec =

@@ -1,5 +1,4 @@
 -- `records::record::read` meets its contract. Assumes nothing.
-use mathlib.Core.Path.{_∙_}
 use native.Mathlib.Omega.{arith}
 use borrow.Author.Needs.{needs}
 use Rattle.records.proofs.Places.{present, at-present, at-absent}
@@ -10,7 +9,7 @@ abbrev startOf : tie.After-marked → tie.Start
 startOf c = c .before .before
 
 abbrev markOf : tie.After-find-mark → tie.Then1
-markOf c = c .before .before .before
+markOf c = c .before .before
 
 marked-requires : tie.Need-marked-requires
 marked-requires c κs = search needs
@@ -20,9 +19,6 @@ field-at-requires c κs =
     let a = startOf (c .before) .args in
     omega (arith, present (a .script .now) (a .at) (c .before .marked .ensures) (c .if1 .taken))
 
-as-usize-requires : tie.Need-as-usize-requires
-as-usize-requires c κs = search needs
-
 find-mark-requires : tie.Need-find-mark-requires
 find-mark-requires c κs = search needs
 
@@ -30,14 +26,14 @@ take-record-requires : tie.Need-take-record-requires
 take-record-requires c κs =
     let m = markOf c in
     let a = startOf (m .before) .args in
-    (present (a .script .now) (a .at) (m .before .marked .ensures) (m .if1 .taken), c .find-mark .ensures .1)
+    present (a .script .now) (a .at) (m .before .marked .ensures) (m .if1 .taken)
 
 returns : tie.Need-returns
 returns c =
     let m = markOf (c .before) in
     let a = startOf (m .before) .args in (
       at-present (a .script .now) (a .at) (m .before .marked .ensures) (a .place) (m .if1 .taken)
-          (c .before .before .as-usize .ensures ∙ c .before .before .before .field-at .ensures .0) (c .before .find-mark .ensures .0) (c .take-record .ensures .0),
+          (c .before .before .field-at .ensures .0) (c .before .find-mark .ensures) (c .take-record .ensures .0),
       c .take-record .ensures .1,
     )
 
@@ -47,4 +43,4 @@ returns-2 c =
     (at-absent (a .script .now) (a .at) (c .before .marked .ensures) (a .place) (c .if1 .left), tt)
 
 pub read-spec : {M : Type 1} → statement M
-read-spec = tie.close (tie.spec marked-requires field-at-requires as-usize-requires find-mark-requires take-record-requires returns returns-2)
+read-spec = tie.close (tie.spec marked-requires field-at-requires find-mark-requires take-record-requires returns returns-2)

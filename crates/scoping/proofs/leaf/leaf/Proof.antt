@@ -25,7 +25,7 @@ returns c =
     let p = c .before in
     let st = startOf p in
     let a = st .args in (
-      item-VR (a .script .now) (scopeHere p) (a .at) (a .top) _ (p .past .ensures) (sym (st .pre .3) ∙ c .if1 .taken),
+      item-VR (a .script .now) (scopeHere p) (a .at) (a .top) _ (p .past .ensures) (sym (st .pre .4) ∙ c .if1 .taken),
       (omega (arith, p .past .ensures .on), omega (arith, p .past .ensures .near, st .pre .1)),
     )
 
@@ -34,7 +34,7 @@ returns-2 c =
     let p = c .before .before in
     let st = startOf p in
     let a = st .args in (
-      item-LB (a .script .now) (scopeHere p) (a .at) (a .top) _ (p .past .ensures) (sym (st .pre .3) ∙ c .if2 .taken),
+      item-LB (a .script .now) (scopeHere p) (a .at) (a .top) _ (p .past .ensures) (sym (st .pre .4) ∙ c .if2 .taken),
       (omega (arith, p .past .ensures .on), omega (arith, p .past .ensures .near, st .pre .1)),
     )
 
@@ -51,9 +51,9 @@ returns-3 c =
     let p = e .before .before in
     let st = startOf p in
     let a = st .args in
-    let q = st .pre .3 in (
+    let q = st .pre .4 in (
       λ x level s h. c .progress-after .ensures
-          ∙ item-action (a .script .now) (scopeHere p) (a .at) (a .top) _ (p .past .ensures) (λ m. st .pre .5 (q ∙ m)) (λ m. st .pre .4 (q ∙ m))
+          ∙ item-action (a .script .now) (scopeHere p) (a .at) (a .top) _ (p .past .ensures) (λ m. st .pre .6 (q ∙ m)) (λ m. st .pre .5 (q ∙ m))
           (λ m. e .before .if1 .left (q ∙ m)) (λ m. e .if2 .left (q ∙ m)) (v .action .result) (v .action .ensures) x level s h,
       ahead-after (a .at) (length (a .script .now)) (p .past .result) (v .action .result) (c .progress-after .result) (c .progress-after .ensures)
           (omega (arith, p .past .ensures .on)) (omega (arith, p .past .ensures .near, st .pre .1)),
