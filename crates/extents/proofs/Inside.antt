@@ -8,7 +8,10 @@ use lib.ListN.{length, length-append, length-map}
 use Rattle.language.specs.Text.{Formal, Action, CL, GO, IF, KN, AR, AD, RM, QY, Block, block, VR, LB, PR, BK, DO, Decls, no-decl, decl, Stmts, no-stmt, stmt, decls, stmts}
 use Rattle.language.specs.Encoding.{actionFields, formalsFields, blockFields, declFields, declsFields, stmtsFields, BK-mark, PR-mark, CL-mark}
 use Rattle.words.specs.Words.{wordAt, Stands}
-use Rattle.extents.specs.Items.{Item, formal, body, declared, stated, itemFields, itemsFields, inBlock, children, blockHead, headFields, sizeOf, headSize, childCount}
+use Rattle.language.specs.Structure.{formalMarks, declMarks, stmtMarks}
+use Rattle.records.specs.Taking.{fitIn, fitAt}
+use Rattle.records.specs.Counts.{fieldCount}
+use Rattle.extents.specs.Items.{Item, formal, body, declared, stated, itemFields, itemsFields, inBlock, children, blockHead, headFields, headSize, childCount}
 use Rattle.words.proofs.Standing.{third-is}
 
 pub items-append : (xs ys : List Item) → itemsFields (xs ++ ys) ≡ itemsFields xs ++ itemsFields ys
@@ -37,7 +40,7 @@ block-opens (block at ds ss) =
     rw (decl-items ds, stmt-items ss, items-append (map declared (decls ds)) (map stated (stmts ss)))
 
 pub item-opens : (x : Item) → itemFields x ≡ headFields x ++ itemsFields (children x)
-unfolding itemFields headFields children declFields itemsFields
+unfolding itemFields headFields children formalsFields declFields itemsFields
 item-opens (formal f) = refl
 item-opens (body b) = block-opens b
 item-opens (declared (VR at n)) = refl
@@ -50,7 +53,7 @@ item-opens (stated (DO at a)) = sym (append-nil (actionFields a))
 -- a record's head by its mark
 module _ (bs : List ℕ) (at : ℕ) (rest : List ℕ) where
   action-size : (a : Action) → Stands bs at (actionFields a ++ rest) → headSize (wordAt bs at) (wordAt bs (at + 4)) ≡ 2 * length (actionFields a)
-  unfolding actionFields headSize sizeOf
+  unfolding actionFields headSize fieldCount fitAt fitIn declMarks stmtMarks formalMarks
   action-size (CL p xs) h = rw (h .0, third-is bs at CL-mark p (length xs) (xs ++ rest) h) (omega arith)
   action-size (GO l) h = rw (h .0)
   action-size (IF v l) h = rw (h .0)
@@ -83,7 +86,7 @@ module _ (bs : List ℕ) (at : ℕ) (rest : List ℕ) where
   action-marked (QY t g m) h = omega (arith, h .0)
 
   block-size : (b : Block) → Stands bs at (blockHead b ++ rest) → headSize (wordAt bs at) (wordAt bs (at + 4)) ≡ 2 * length (blockHead b)
-  unfolding blockHead headSize
+  unfolding blockHead headSize fieldCount fitAt fitIn stmtMarks
   block-size (block o ds ss) h = rw (h .0)
 
   block-count : (b : Block) → Stands bs at (blockHead b ++ rest) → childCount (wordAt bs at) (wordAt bs (at + 2)) (wordAt bs (at + 4)) ≡ length (inBlock b)
@@ -97,7 +100,7 @@ module _ (bs : List ℕ) (at : ℕ) (rest : List ℕ) where
   block-marked (block o ds ss) h = omega (arith, h .0)
 
   pub head-size : (x : Item) → Stands bs at (headFields x ++ rest) → headSize (wordAt bs at) (wordAt bs (at + 4)) ≡ 2 * length (headFields x)
-  unfolding headFields headSize sizeOf
+  unfolding headFields formalsFields declFields headSize fieldCount fitAt fitIn declMarks stmtMarks formalMarks
   head-size (formal f) h = rw (h .0)
   head-size (body b) h = block-size b h
   head-size (declared (VR o n)) h = rw (h .0)
@@ -107,7 +110,7 @@ module _ (bs : List ℕ) (at : ℕ) (rest : List ℕ) where
   head-size (stated (DO o a)) h = action-size a h
 
   pub child-count : (x : Item) → Stands bs at (headFields x ++ rest) → childCount (wordAt bs at) (wordAt bs (at + 2)) (wordAt bs (at + 4)) ≡ length (children x)
-  unfolding headFields childCount children
+  unfolding headFields formalsFields declFields childCount children
   child-count (formal f) h = rw (h .0)
   child-count (body b) h = block-count b h
   child-count (declared (VR o n)) h = rw (h .0)
@@ -118,7 +121,7 @@ module _ (bs : List ℕ) (at : ℕ) (rest : List ℕ) where
   child-count (stated (DO o a)) h = action-alone a h
 
   pub head-marked : (x : Item) → Stands bs at (headFields x ++ rest) → 0 < wordAt bs at
-  unfolding headFields
+  unfolding headFields formalsFields declFields
   head-marked (formal f) h = omega (arith, h .0)
   head-marked (body b) h = block-marked b h
   head-marked (declared (VR o n)) h = omega (arith, h .0)

@@ -5,23 +5,38 @@ use mathlib.Core.List.{List, [], _∷_, _++_, append-nil, append-assoc}
 use Prim.Native.Nat.{ℕ, _+_, _*_, _-_, _<_, _≤_}
 use native.Mathlib.Omega.{arith}
 use lib.ListN.{length, length-append}
-use borrow.Author.Tests.{ne-eqb}
-use Rattle.language.specs.Encoding.{BK-mark, VR-mark, LB-mark, PR-mark, CL-mark, GO-mark, KN-mark, AR-mark, QY-mark}
+use borrow.Author.Tests.{eq-eqb, ne-eqb}
+use Rattle.language.specs.Encoding.{BK-mark, PR-mark, CL-mark}
+use Rattle.language.specs.Structure.{declMarks, stmtMarks}
+use Rattle.records.specs.Taking.{fitIn, fitAt}
+use Rattle.records.specs.Counts.{fieldCount}
 use Rattle.words.specs.Words.{wordAt, Stands}
-use Rattle.extents.specs.Items.{Item, itemFields, itemsFields, children, headFields, sizeOf, headSize, childCount}
+use Rattle.extents.specs.Items.{Item, itemFields, itemsFields, children, headFields, headSize, childCount}
 use Rattle.extents.specs.Passing.{Passed, Skipped, Left, Stepped}
 use Rattle.extents.specs.declared.passing.Step.{Step}
 use Rattle.words.proofs.Standing.{word-inside, stands-first, stands-second}
 use Rattle.extents.proofs.Inside.{items-append, item-opens, head-size, child-count, head-marked}
 
-pub size-six : (w : ℕ) → (w ≡ VR-mark → ⊥) → (w ≡ GO-mark → ⊥) → (w ≡ KN-mark → ⊥) → (w ≡ QY-mark → ⊥) → (w ≡ AR-mark → ⊥) → sizeOf w ≡ 6
-unfolding sizeOf
-size-six w a b c d e =
-    rw (ne-eqb w VR-mark a, ne-eqb w GO-mark b, ne-eqb w KN-mark c, ne-eqb w QY-mark d, ne-eqb w AR-mark e, sizeOf)
+-- a head by its mark
+pub size-BK : (a : ℕ) → headSize BK-mark a ≡ 6
+unfolding headSize fieldCount fitAt fitIn stmtMarks
+size-BK a = refl
 
-pub head-other : (w a : ℕ) → (w ≡ BK-mark → ⊥) → (w ≡ PR-mark → ⊥) → (w ≡ CL-mark → ⊥) → headSize w a ≡ sizeOf w
+pub size-PR : (a : ℕ) → headSize PR-mark a ≡ 6
+unfolding headSize fieldCount fitAt fitIn stmtMarks declMarks
+size-PR a = refl
+
+pub count-CL : (w : ℕ) → w ≡ CL-mark → fieldCount w ≡ 2
+unfolding fieldCount fitAt fitIn stmtMarks
+count-CL w e = rw e
+
+pub size-CL : (w a : ℕ) → w ≡ CL-mark → headSize w a ≡ 2 + 2 * fieldCount w + 2 * a
 unfolding headSize
-head-other w a e f g = rw (ne-eqb w BK-mark e, ne-eqb w PR-mark f, ne-eqb w CL-mark g, headSize)
+size-CL w a e = rw (eq-eqb w CL-mark e, headSize)
+
+pub size-other : (w a : ℕ) → (w ≡ CL-mark → ⊥) → headSize w a ≡ 2 + 2 * fieldCount w
+unfolding headSize
+size-other w a e = rw (ne-eqb w CL-mark e, headSize)
 
 pub child-other : (w d a : ℕ) → (w ≡ BK-mark → ⊥) → (w ≡ PR-mark → ⊥) → childCount w d a ≡ 0
 unfolding childCount
@@ -100,25 +115,6 @@ module _ (bs : List ℕ) (at : ℕ) (x : Item) where
 
     pub left-whole : Left bs at here pending x → Left bs at end (pending - 1 + 0) x
     left-whole l = whole-on (l .items) (l .number) (l .stand) (l .reach)
-
--- declarations that hold no other record, by their marks
-module _ (bs : List ℕ) (at : ℕ) where
-  passed-alone : (w size : ℕ) → wordAt bs at ≡ w → ((a : ℕ) → headSize w a ≡ size) → ((d a : ℕ) → childCount w d a ≡ 0) → 4 ≤ size → size ≤ 131076 → Passed bs at (record { next = at + size; more = 0 })
-  passed-alone w size m head children low high = record {
-    next-is = ap (λ (k : ℕ). at + k) (sym (ap (λ (x : ℕ). headSize x (wordAt bs (at + 4))) m ∙ head (wordAt bs (at + 4))));
-    more-is = sym (ap (λ (x : ℕ). childCount x (wordAt bs (at + 2)) (wordAt bs (at + 4))) m ∙ children (wordAt bs (at + 2)) (wordAt bs (at + 4)));
-    on = omega arith;
-    near = omega arith;
-    few = omega arith;
-  }
-
-  pub passed-VR : wordAt bs at ≡ VR-mark → Passed bs at (record { next = at + 4; more = 0 })
-  unfolding headSize sizeOf childCount
-  passed-VR m = passed-alone VR-mark 4 m (λ a. refl) (λ d a. refl) (omega arith) (omega arith)
-
-  pub passed-LB : wordAt bs at ≡ LB-mark → Passed bs at (record { next = at + 6; more = 0 })
-  unfolding headSize sizeOf childCount
-  passed-LB m = passed-alone LB-mark 6 m (λ a. refl) (λ d a. refl) (omega arith) (omega arith)
 
 -- past the end of the script, and where nothing stands inside
 pub skipped-out : (bs : List ℕ) (at : ℕ) → length bs ≤ at → Skipped bs at at

@@ -5,7 +5,8 @@ use mathlib.Core.List.{List, [], _∷_, _++_, map}
 use lib.Dec.{eqb}
 use lib.ListN.{length}
 use Rattle.language.specs.Text.{Formal, Block, block, Decl, VR, LB, PR, Stmt, BK, DO, decls, stmts}
-use Rattle.language.specs.Encoding.{kindField, actionFields, blockFields, declFields, stmtFields, BK-mark, VR-mark, LB-mark, PR-mark, FM-mark, CL-mark, GO-mark, KN-mark, AR-mark, QY-mark}
+use Rattle.language.specs.Encoding.{actionFields, formalsFields, blockFields, declFields, stmtFields, BK-mark, PR-mark, CL-mark}
+use Rattle.records.specs.Counts.{fieldCount}
 use Rattle.words.specs.Words.{wordAt}
 
 pub data Item : Type 0 where
@@ -15,7 +16,7 @@ pub data Item : Type 0 where
   stated : Stmt → Item
 
 unfoldable pub itemFields : Item → List ℕ
-itemFields (formal f) = FM-mark ∷ f .name ∷ kindField (f .kind) ∷ []
+itemFields (formal f) = formalsFields (f ∷ [])
 itemFields (body b) = blockFields b
 itemFields (declared d) = declFields d
 itemFields (stated s) = stmtFields s
@@ -41,47 +42,18 @@ unfoldable pub blockHead : Block → List ℕ
 blockHead (block at ds ss) = BK-mark ∷ length (decls ds) ∷ length (stmts ss) ∷ []
 
 unfoldable pub headFields : Item → List ℕ
-headFields (formal f) = FM-mark ∷ f .name ∷ kindField (f .kind) ∷ []
+headFields (formal f) = formalsFields (f ∷ [])
 headFields (body b) = blockHead b
-headFields (declared (VR at n)) = VR-mark ∷ n ∷ []
-headFields (declared (LB at n i)) = LB-mark ∷ n ∷ i ∷ []
+headFields (declared (VR at n)) = declFields (VR at n)
+headFields (declared (LB at n i)) = declFields (LB at n i)
 headFields (declared (PR at n fs b)) = PR-mark ∷ n ∷ length fs ∷ []
 headFields (stated (BK b)) = blockHead b
 headFields (stated (DO at a)) = actionFields a
 
--- By a mark: the bytes of a record that holds no other and no list; the bytes before what stands inside a record whose third field is
--- given; and how many records stand inside it.
-unfoldable pub sizeOf : ℕ → ℕ
-sizeOf w =
-    elim (eqb w VR-mark) [
-      | true ↦ 4
-      | false ↦ elim (eqb w GO-mark) [
-        | true ↦ 4
-        | false ↦ elim (eqb w KN-mark) [
-          | true ↦ 8
-          | false ↦ elim (eqb w QY-mark) [
-            | true ↦ 8
-            | false ↦ elim (eqb w AR-mark) [
-              | true ↦ 10
-              | false ↦ 6
-            ]
-          ]
-        ]
-      ]
-    ]
-
+-- By a mark and the fields after it: the bytes before what stands inside a record, and how many records stand inside it. The argument
+-- names of a CL come after its fields.
 unfoldable pub headSize : ℕ → ℕ → ℕ
-headSize w a =
-    elim (eqb w BK-mark) [
-      | true ↦ 6
-      | false ↦ elim (eqb w PR-mark) [
-        | true ↦ 6
-        | false ↦ elim (eqb w CL-mark) [
-          | true ↦ 6 + 2 * a
-          | false ↦ sizeOf w
-        ]
-      ]
-    ]
+headSize w a = elim (eqb w CL-mark) [ true ↦ 2 + 2 * fieldCount w + 2 * a | false ↦ 2 + 2 * fieldCount w ]
 
 unfoldable pub childCount : ℕ → ℕ → ℕ → ℕ
 childCount w d a =

@@ -11,7 +11,7 @@ use Rattle.extents.specs.declared.passing.Step.{Step}
 pub record Passed (bs : List ℕ) (at : ℕ) (s : Step) : Type 0 where
   pub next-is : s .next ≡ at + headSize (wordAt bs at) (wordAt bs (at + 4))
   pub more-is : s .more ≡ childCount (wordAt bs at) (wordAt bs (at + 2)) (wordAt bs (at + 4))
-  pub on : at + 4 ≤ s .next
+  pub on : at + 2 ≤ s .next
   pub near : s .next ≤ at + 131076
   pub few : s .more ≤ 131070
 
@@ -35,7 +35,7 @@ pub record Left (bs : List ℕ) (at here pending : ℕ) (x : Item) : Type 0 wher
 -- one of the records still to pass, or its head alone
 pub record Stepped (bs : List ℕ) (at : ℕ) (s : Step) : Type 0 where
   pub steps : (from pending : ℕ) (x : Item) → 0 < pending → Left bs from at pending x → Left bs from (s .next) (pending - 1 + s .more) x
-  pub on : at + 4 ≤ s .next
+  pub on : at + 2 ≤ s .next
   pub near : s .next ≤ length bs + 131076
   pub few : s .more ≤ 131070
 

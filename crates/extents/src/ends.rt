@@ -60,7 +60,7 @@ fn over(script: &[u8], ends: &mut [u32; 683], at: usize) -> Step
 // Where the record at an offset ends. The ends of the procedures inside it are noted, and its own.
 fn fill(script: &[u8], ends: &mut [u32; 683], at: usize) -> usize
     requires { ⌜ (length (now script) ≤ 8192) × (at < length (now script)) × Ends (now script) (now ends) ⌝ }
-    ensures skipped { λ r. ⌜ Skipped (now (script .entry)) at r × (at + 4 ≤ r) ⌝ }
+    ensures skipped { λ r. ⌜ Skipped (now (script .entry)) at r × (at + 2 ≤ r) ⌝ }
     ensures noted { λ r. ⌜ Ends (now (script .entry)) (now (ends .exit)) ⌝ }
 {
     let first = pass(script, at, word(script, at));

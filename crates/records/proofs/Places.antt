@@ -17,8 +17,8 @@ use Rattle.records.specs.declared.Mark.{Mark}
 use Rattle.records.specs.declared.Mark.the-variants.{BK, FM}
 use Rattle.records.specs.declared.Place.{Place}
 use Rattle.records.specs.declared.Place.the-variants.{Block, Formal, Declaration, Statement}
-use Rattle.records.specs.declared.Fit.{Fit}
-use Rattle.records.specs.declared.Fit.the-variants.{Found, Nothing}
+use Rattle.records.specs.declared.marks.Fit.{Fit}
+use Rattle.records.specs.declared.marks.Fit.the-variants.{Found, Nothing}
 use Rattle.records.specs.declared.Reading.{Reading}
 use Rattle.records.specs.declared.Reading.the-variants.{Refused}
 use Rattle.records.proofs.Taking.{fitted, no-mark, misplaced, cut-off, whole}

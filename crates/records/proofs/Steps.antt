@@ -12,8 +12,8 @@ use Rattle.language.specs.declared.Refusal.{Refusal}
 use Rattle.records.specs.Taking.{unread, fitIn, taken}
 use Rattle.records.specs.declared.Mark.{Mark}
 use Rattle.records.specs.declared.Mark.the-variants.{BK}
-use Rattle.records.specs.declared.Fit.{Fit}
-use Rattle.records.specs.declared.Fit.the-variants.{Found, Nothing}
+use Rattle.records.specs.declared.marks.Fit.{Fit}
+use Rattle.records.specs.declared.marks.Fit.the-variants.{Found, Nothing}
 use Rattle.records.specs.declared.Reading.the-variants.{Taken, Refused}
 use Rattle.records.proofs.Taking.{no-mark, misplaced, cut-off, whole}
 

@@ -15,9 +15,9 @@ use Rattle.records.specs.declared.Mark.{Mark}
 use Rattle.records.specs.declared.Mark.the-variants.{BK, VR, LB, PR, FM, CL, GO, IF, KN, AR, AD, RM, QY}
 use Rattle.records.specs.declared.Place.{Place}
 use Rattle.records.specs.declared.Place.the-variants.{Block, Formal, Declaration, Statement}
-use Rattle.records.specs.declared.Entry.{Entry}
-use Rattle.records.specs.declared.Fit.{Fit}
-use Rattle.records.specs.declared.Fit.the-variants.{Found, Nothing}
+use Rattle.records.specs.declared.marks.Entry.{Entry}
+use Rattle.records.specs.declared.marks.Fit.{Fit}
+use Rattle.records.specs.declared.marks.Fit.the-variants.{Found, Nothing}
 
 abbrev entry : ℕ → ℕ → ℕ → Mark → Entry
 entry w n ps m = record { letters = w; count = n; places = ps; mark = m }
@@ -25,11 +25,11 @@ entry w n ps m = record { letters = w; count = n; places = ps; mark = m }
 -- `MARKS`, as the code has it
 abbrev entries : List Entry
 entries =
-    entry 0x4b42 2 9 BK ∷
+    entry 0x4d46 2 2 FM ∷
     entry 0x5256 1 4 VR ∷
     entry 0x424c 2 4 LB ∷
     entry 0x5250 2 4 PR ∷
-    entry 0x4d46 2 2 FM ∷
+    entry 0x4b42 2 9 BK ∷
     entry 0x4c43 2 8 CL ∷
     entry 0x4f47 1 8 GO ∷
     entry 0x4649 2 8 IF ∷

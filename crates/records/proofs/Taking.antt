@@ -15,8 +15,8 @@ use Rattle.language.specs.declared.Refusal.the-variants.{PastTheEnd, MarkMispla
 use Rattle.laws.specs.Readers.{bind-read, bind-refuse, filled}
 use Rattle.records.specs.Taking.{unread, fitIn}
 use Rattle.records.specs.declared.Mark.{Mark}
-use Rattle.records.specs.declared.Fit.{Fit}
-use Rattle.records.specs.declared.Fit.the-variants.{Found, Nothing}
+use Rattle.records.specs.declared.marks.Fit.{Fit}
+use Rattle.records.specs.declared.marks.Fit.the-variants.{Found, Nothing}
 use Rattle.records.proofs.Unread.{unread-drop, unread-enough, unread-short, unread-at}
 
 -- the next k fields, where they are there and where they are not

@@ -11,8 +11,8 @@ use Rattle.records.specs.declared.Mark.{Mark}
 use Rattle.records.specs.declared.Mark.the-variants.{BK, VR, LB, PR, FM, CL, GO, IF, KN, AR, AD, RM, QY}
 use Rattle.records.specs.declared.Place.{Place}
 use Rattle.records.specs.declared.Place.the-variants.{Block, Formal, Declaration, Statement}
-use Rattle.records.specs.declared.Fit.{Fit}
-use Rattle.records.specs.declared.Fit.the-variants.{Found, Nothing}
+use Rattle.records.specs.declared.marks.Fit.{Fit}
+use Rattle.records.specs.declared.marks.Fit.the-variants.{Found, Nothing}
 use Rattle.records.specs.declared.Reading.{Reading}
 use Rattle.records.specs.declared.Reading.the-variants.{Taken, Refused}
 use Rattle.records.specs.declared.Progress.{Progress}

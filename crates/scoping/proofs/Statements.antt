@@ -17,7 +17,7 @@ use Rattle.uses.specs.Meanings.{verdictOf, pairJudged, tripleJudged}
 use Rattle.calls.specs.Calls.{shapeOf, judgedAs}
 use Rattle.extents.specs.Items.{Item, formal, body, declared, stated, itemFields, itemsFields, children, headFields}
 use Rattle.extents.specs.Passing.{Passed}
-use Rattle.scoping.specs.Walking.{progressOf, onwardOf, Ahead, judgeItem, FormedItem, BlockHere, ItemHere}
+use Rattle.scoping.specs.Walking.{progressOf, progressAfter, Ahead, judgeItem, FormedItem, BlockHere, ItemHere}
 use Rattle.extents.specs.declared.passing.Step.{Step}
 use Rattle.language.specs.declared.Verdict.{Verdict}
 use Rattle.language.specs.declared.Verdict.the-variants.{Fit}
@@ -52,8 +52,8 @@ judged-action bs sc at (RM g m) h = rw (h .0) (rw (h .1 .0, third-is bs at RM-ma
 judged-action bs sc at (QY t g m) h =
     rw (h .0) (rw (h .1 .0, third-is bs at QY-mark t g (m ∷ []) h, fourth-is bs at QY-mark t g m [] h))
 
-pub onward-progress : (v : definitions.Verdict) (next : ℕ) → onwardOf (verdictOf v) next ≡ progressOf v next
-unfolding onwardOf verdictOf progressOf
+pub onward-progress : (v : definitions.Verdict) (next : ℕ) → progressAfter (verdictOf v) next ≡ progressOf v next
+unfolding progressAfter verdictOf progressOf
 onward-progress fine next = refl
 onward-progress (wrong c o) next = refl
 
@@ -165,7 +165,7 @@ module _ (bs : List ℕ) (sc : Scope) (at top : ℕ) where
     item-LB marked (stated (DO o a)) level s h = absurd (plain bs at a (h .stand) .no-LB marked)
 
     module _ (no-PR : wordAt bs at ≡ PR-mark → ⊥) (no-BK : wordAt bs at ≡ BK-mark → ⊥) (no-VR : wordAt bs at ≡ VR-mark → ⊥) (no-LB : wordAt bs at ≡ LB-mark → ⊥) (v : Verdict) (is : v ≡ verdictOf (judgedAs (shapeOf (wordAt bs at)) sc bs at)) where
-      pub item-action : (x : Item) (level s : ℕ) → ItemHere bs at top x level s → onwardOf v (p .next) ≡ progressOf (judgeItem x sc) (at + 2 * length (itemFields x))
+      pub item-action : (x : Item) (level s : ℕ) → ItemHere bs at top x level s → progressAfter v (p .next) ≡ progressOf (judgeItem x sc) (at + 2 * length (itemFields x))
       unfolding judgeItem judgeStmt itemFields declFields stmtFields FormedItem FormedStmt children
       item-action (formal f) level s h = absurd (h .formed)
       item-action (body b) level s h = absurd (h .formed)
@@ -174,14 +174,14 @@ module _ (bs : List ℕ) (sc : Scope) (at top : ℕ) where
       item-action (declared (PR o n fs b)) level s h = absurd (no-PR (h .stand .0))
       item-action (stated (BK b)) level s h = absurd (no-BK (block-mark bs at b (h .stand)))
       item-action (stated (DO o a)) level s h =
-          ap (λ (w : Verdict). onwardOf w (p .next)) (is ∙ ap verdictOf (judged-action bs sc at a (h .stand)))
+          ap (λ (w : Verdict). progressAfter w (p .next)) (is ∙ ap verdictOf (judged-action bs sc at a (h .stand)))
           ∙ onward-progress (judgeAction sc at a) (p .next)
           ∙ rw (h .formed .stands, alone p q (stated (DO o a)) refl (h .stand))
 
-pub ahead-onward : (at n next : ℕ) (v : Verdict) (r : Progress) → r ≡ onwardOf v next → at ≤ next → next ≤ n + 131076 → Ahead at n r
-unfolding onwardOf
-ahead-onward at n next v r e low high = subst (Ahead at n) (sym e) (go v)
+pub ahead-after : (at n next : ℕ) (v : Verdict) (r : Progress) → r ≡ progressAfter v next → at ≤ next → next ≤ n + 131076 → Ahead at n r
+unfolding progressAfter
+ahead-after at n next v r e low high = subst (Ahead at n) (sym e) (go v)
   where
-    go : (w : Verdict) → Ahead at n (onwardOf w next)
+    go : (w : Verdict) → Ahead at n (progressAfter w next)
     go Fit = (low, high)
     go (verdicts.Refused c o) = tt

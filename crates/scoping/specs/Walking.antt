@@ -23,9 +23,9 @@ unfoldable pub progressOf : definitions.Verdict → ℕ → Progress
 progressOf fine end = At end
 progressOf (wrong c o) end = Refused c o
 
-unfoldable pub onwardOf : Verdict → ℕ → Progress
-onwardOf Fit end = At end
-onwardOf (verdicts.Refused c o) end = Refused c o
+unfoldable pub progressAfter : Verdict → ℕ → Progress
+progressAfter Fit end = At end
+progressAfter (verdicts.Refused c o) end = Refused c o
 
 -- where the walk goes on, it does not go back, nor far past the n bytes
 abbrev pub Ahead : ℕ → ℕ → Progress → Type 0

@@ -1,5 +1,6 @@
 // The script check's second half: what each name used stands for, refusals 9 to 11, in file order. The walk is safe on any
 // bytes up to 8,192: only its answer asks for a script that is fit in structure.
+use language::Refusal;
 use language::Verdict;
 use records::Progress;
 use walk::block;
@@ -10,6 +11,7 @@ ghost use Rattle.language.specs.Encoding.{fieldsOf};
 ghost use Rattle.language.specs.Structure.{program};
 ghost use Rattle.scoping.specs.Walking.{settledOf, Judged};
 
+mod leaf;
 mod walk;
 
 fn settled(p: Progress) -> Verdict
@@ -21,11 +23,14 @@ fn settled(p: Progress) -> Verdict
     }
 }
 
-// 9 to 11. The answer is the definitions' wherever they read the script whole; any other script gets some refusal or none.
+// 9 to 11. The answer is the definitions' for a script of up to 8,192 bytes that they read whole; any other script gets some refusal or
+// none.
 pub fn scope_verdict(script: &[u8]) -> Verdict
-    requires { ⌜ length (now script) ≤ 8192 ⌝ }
-    ensures { λ r. ⌜ Judged (program 0 (fieldsOf (now (script .entry)))) r ⌝ }
+    ensures { λ r. ⌜ (length (now (script .entry)) ≤ 8192 → Judged (program 0 (fieldsOf (now (script .entry)))) r) ⌝ }
 {
+    if 8192 < script.len() {
+        return Verdict::Refused(Refusal::ScriptLength, 0);
+    }
     let mut entries = [1280usize; 1280];
     let mut ends = [0u32; 683];
     settled(block(script, &mut entries, &mut ends, 0, 0, 1280))

@@ -1,14 +1,13 @@
 // The walk over a script's records in file order. It is safe on any bytes up to 8,192.
-use calls::action;
-use extents::past;
+use super::leaf::leaf;
 use extents::push;
 use language::Refusal;
-use language::Verdict;
 use records::BK;
-use records::LB;
+use records::BK_BYTES;
+use records::FM_BYTES;
 use records::PR;
+use records::PR_BYTES;
 use records::Progress;
-use records::VR;
 use symbols::insert;
 use symbols::remove;
 use words::word;
@@ -17,17 +16,7 @@ ghost use Prim.Native.Nat.{_+_, _<_, _≤_};
 ghost use lib.ListN.{length, drop};
 ghost use Rattle.symbols.specs.Chains.{Chained};
 ghost use Rattle.extents.specs.Passing.{Ends};
-ghost use Rattle.scoping.specs.Walking.{onwardOf, Ahead, BlockJudged, ItemsJudged, ItemJudged};
-
-// Where the walk goes on after a verdict.
-fn onward(v: Verdict, next: usize) -> Progress
-    ensures { λ r. ⌜ r ≡ onwardOf v next ⌝ }
-{
-    match v {
-        Verdict::Fit => Progress::At(next),
-        Verdict::Refused(c, o) => Progress::Refused(c, o),
-    }
-}
+ghost use Rattle.scoping.specs.Walking.{Ahead, BlockJudged, ItemsJudged, ItemJudged};
 
 // So many formals at an offset and their block after them. Its names are put below `top` before any of its text is judged.
 pub fn block(
@@ -45,7 +34,7 @@ pub fn block(
     ensures chained { λ r. ⌜ Chained (now (entries .exit)) top ⌝ }
     ensures noted { λ r. ⌜ Ends (now (script .entry)) (now (ends .exit)) ⌝ }
 {
-    let start = at + 6 * count;
+    let start = at + FM_BYTES * count;
     if word(script, start) != BK {
         return Progress::Refused(Refusal::MarkMisplaced, start);
     }
@@ -55,10 +44,10 @@ pub fn block(
         return Progress::Refused(Refusal::TooManyNames, start);
     }
     let base = top - (count + d);
-    push(script, entries, ends, start + 6, d, base + count);
+    push(script, entries, ends, start + BK_BYTES, d, base + count);
     push(script, entries, ends, at, count, base);
     insert(entries, base, top);
-    let judged = items(script, entries, ends, start + 6, d + s, base);
+    let judged = items(script, entries, ends, start + BK_BYTES, d + s, base);
     remove(entries, base, top);
     judged
 }
@@ -112,17 +101,17 @@ fn item(
 {
     let mark = word(script, at);
     if mark == PR {
-        return block(script, entries, ends, at + 6, word(script, at + 4), top);
+        return block(
+            script,
+            entries,
+            ends,
+            at + PR_BYTES,
+            word(script, at + 4),
+            top,
+        );
     }
     if mark == BK {
         return block(script, entries, ends, at, 0, top);
     }
-    if mark == VR {
-        return Progress::At(at + 4);
-    }
-    if mark == LB {
-        return Progress::At(at + 6);
-    }
-    let judged = action(script, entries, top, at, mark);
-    onward(judged, past(script, at, mark))
+    leaf(script, entries, top, at, mark)
 }

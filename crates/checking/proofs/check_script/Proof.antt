@@ -22,10 +22,13 @@ returns : tie.Need-returns
 returns c = refused-whole _ _ (c .before .before .structure .ensures) _ _ (c .enum-told2 .given .1)
 
 scope-verdict-requires : tie.Need-scope-verdict-requires
-scope-verdict-requires c κs = fit-length _ _ (c .before .before .structure .ensures) (c .enum-told .given .1)
+scope-verdict-requires c κs = search needs
 
 returns-2 : tie.Need-returns-2
-returns-2 c = fit-whole _ _ (c .before .before .before .structure .ensures) _ (c .before .enum-told .given .1) (c .scope-verdict .ensures)
+returns-2 c =
+    let s = c .before .before .before .structure .ensures in
+    let fits = c .before .enum-told .given .1 in
+    fit-whole _ _ s _ fits (c .scope-verdict .ensures (fit-length _ _ s fits))
 
 pub check-script-spec : {M : Type 1} → statement M
 check-script-spec =

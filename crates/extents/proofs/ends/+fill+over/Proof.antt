@@ -49,7 +49,7 @@ over-claims t = (word-reads.Asked, word-reads.Learnt, fill-below t, fill.Post, p
 
 abbrev fill-Inv-loop : fill-lts.InvT-loop
 fill-Inv-loop script ends₀ at here₀ pending₀ ends here pending =
-    (at + 4 ≤ here) × (here ≤ length script + 131076) × (pending ≤ 131070 * here)
+    (at + 2 ≤ here) × (here ≤ length script + 131076) × (pending ≤ 131070 * here)
     × ((x : Item) → Stands script at (itemFields x) → Left script at here pending x)
     × Ends script ends
 

@@ -5,6 +5,7 @@ use native.Mathlib.Omega.{arith}
 use Rattle.language.specs.Encoding.{BK-mark, PR-mark}
 use Rattle.words.specs.Words.{wordAt}
 use Rattle.extents.specs.Items.{headSize, childCount}
+use Rattle.extents.proofs.Skipping.{size-BK, size-PR}
 use borrow.Author.Needs.{needs}
 use Rattle.extents.proofs.passing.pass.Statement.{statement}
 use Rattle.extents.proofs.passing.pass.Tie as tie
@@ -28,14 +29,14 @@ add-t10 : tie.Need-add-t10
 add-t10 c = search needs
 
 returns : tie.Need-returns
-unfolding headSize childCount
+unfolding childCount
 returns c =
     let st = c .before .before .before .before in
     let a = st .args in
     let bs = a .script .now in
-    let m : wordAt bs (a .at) ≡ BK-mark = sym (st .pre .1) ∙ c .before .before .if1 .taken in
+    let m : wordAt bs (a .at) ≡ BK-mark = sym (st .pre .2) ∙ c .before .before .if1 .taken in
     record {
-      next-is = sym (ap (λ (x : ℕ). a .at + headSize x (wordAt bs (a .at + 4))) m);
+      next-is = sym (ap (λ (x : ℕ). a .at + headSize x (wordAt bs (a .at + 4))) m ∙ ap (λ (k : ℕ). a .at + k) (size-BK (wordAt bs (a .at + 4))));
       more-is = (let p = c .before .word .ensures .0 in let q = c .word2 .ensures .0 in cc) ∙ sym (ap (λ (x : ℕ). childCount x (wordAt bs (a .at + 2)) (wordAt bs (a .at + 4))) m);
       on = omega arith;
       near = omega arith;
@@ -55,14 +56,14 @@ add-t14 : tie.Need-add-t14
 add-t14 c = search needs
 
 returns-2 : tie.Need-returns-2
-unfolding headSize childCount
+unfolding childCount
 returns-2 c =
     let st = c .before .before .before .before in
     let a = st .args in
     let bs = a .script .now in
-    let m : wordAt bs (a .at) ≡ PR-mark = sym (st .pre .1) ∙ c .before .if2 .taken in
+    let m : wordAt bs (a .at) ≡ PR-mark = sym (st .pre .2) ∙ c .before .if2 .taken in
     record {
-      next-is = sym (ap (λ (x : ℕ). a .at + headSize x (wordAt bs (a .at + 4))) m);
+      next-is = sym (ap (λ (x : ℕ). a .at + headSize x (wordAt bs (a .at + 4))) m ∙ ap (λ (k : ℕ). a .at + k) (size-PR (wordAt bs (a .at + 4))));
       more-is = ap (λ (x : ℕ). x + 1) (c .word3 .ensures .0) ∙ sym (ap (λ (x : ℕ). childCount x (wordAt bs (a .at + 2)) (wordAt bs (a .at + 4))) m);
       on = omega arith;
       near = omega arith;

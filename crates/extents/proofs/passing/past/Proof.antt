@@ -1,17 +1,53 @@
--- `extents::passing::past` meets its contract: CL, and the marks of one size. Assumes nothing.
-use Prim.Native.Nat.{ℕ, _+_}
+-- `extents::passing::past` meets its contract: CL, and the other marks. Assumes nothing.
+use Prim.Native.Nat.{ℕ, _+_, _≤_}
+use mathlib.Core.List.{List}
 use mathlib.Core.Path.{_≡_, sym, ap, _∙_}
 use native.Mathlib.Omega.{arith}
-use Rattle.language.specs.Encoding.{BK-mark, PR-mark, CL-mark}
+use Rattle.records.specs.Counts.{fieldCount}
 use Rattle.words.specs.Words.{wordAt}
-use Rattle.extents.specs.Items.{sizeOf, headSize, childCount}
-use Rattle.extents.proofs.Skipping.{head-other, child-other}
+use Rattle.extents.specs.Items.{headSize}
+use Rattle.extents.specs.Passing.{Alone}
+use Rattle.extents.proofs.Skipping.{count-CL, size-CL, size-other, child-other}
 use borrow.Author.Needs.{needs}
 use Rattle.extents.proofs.passing.past.Statement.{statement}
 use Rattle.extents.proofs.passing.past.Tie as tie
 
-add-result : tie.Need-add-result
-add-result c = search needs
+abbrev startOf : tie.After-field-count → tie.Start
+startOf c = c .before .before
+
+-- what is passed, by the bytes of the record
+module _ (c : tie.After-field-count) where
+  abbrev bs : List ℕ
+  bs = startOf c .args .script .now
+
+  abbrev at : ℕ
+  at = startOf c .args .at
+
+  alone : (end : ℕ) → end ≡ at + headSize (wordAt bs at) (wordAt bs (at + 4)) → at + 2 ≤ end → end ≤ at + 131076 → Alone bs at end
+  alone end e low high =
+      let st = startOf c in
+      record {
+        next-is = e;
+        more-is = sym (child-other (wordAt bs at) (wordAt bs (at + 2)) (wordAt bs (at + 4)) (λ p. st .pre .3 (st .pre .2 ∙ p)) (λ p. st .pre .4 (st .pre .2 ∙ p)));
+        on = low;
+        near = high;
+        few = omega arith;
+      }
+
+add-end : tie.Need-add-end
+add-end c = search needs
+
+cast-field-count : tie.Need-cast-field-count
+cast-field-count c = search needs
+
+field-count-requires : tie.Need-field-count-requires
+field-count-requires c κs = search needs
+
+mul-end : tie.Need-mul-end
+mul-end c = search needs
+
+add-end-2 : tie.Need-add-end-2
+add-end-2 c = search needs
 
 add-word : tie.Need-add-word
 add-word c = search needs
@@ -22,58 +58,40 @@ word-requires c κs = search needs
 mul-result : tie.Need-mul-result
 mul-result c = search needs
 
-add-result-2 : tie.Need-add-result-2
-add-result-2 c = search needs
+add-result : tie.Need-add-result
+add-result c = search needs
 
 returns : tie.Need-returns
-unfolding headSize childCount
 returns c =
-    let st = c .before .before .before in
-    let a = st .args in
-    let bs = a .script .now in
-    let m : wordAt bs (a .at) ≡ CL-mark = sym (st .pre .1) ∙ c .before .if1 .taken in
+    let f = c .before .before in
+    let st = startOf f in
+    let m = sym (st .pre .2) ∙ c .before .if1 .taken in
+    let e = size-CL (wordAt (bs f) (at f)) (wordAt (bs f) (at f + 4)) m in
+    let two = count-CL (wordAt (bs f) (at f)) m in
+    let n = f .field-count .ensures .0 ∙ ap fieldCount (st .pre .2) in
     let v = c .word .ensures .0 in
-    record {
-      next-is = omega arith ∙ sym (ap (λ (x : ℕ). a .at + headSize x (wordAt bs (a .at + 4))) m);
-      more-is = sym (ap (λ (x : ℕ). childCount x (wordAt bs (a .at + 2)) (wordAt bs (a .at + 4))) m);
-      on = omega arith;
-      near = omega arith;
-      few = omega arith;
-    }
-
-size-requires : tie.Need-size-requires
-size-requires c κs = search needs
-
-add-result-3 : tie.Need-add-result-3
-add-result-3 c = search needs
+    alone f _ (omega arith) (omega arith) (omega arith)
 
 returns-2 : tie.Need-returns-2
 returns-2 c =
-    let st = c .before .before .before in
-    let a = st .args in
-    let bs = a .script .now in
-    let e = st .pre .1 in
-    let nBK : wordAt bs (a .at) ≡ BK-mark → ⊥ = λ p. st .pre .2 (e ∙ p) in
-    let nPR : wordAt bs (a .at) ≡ PR-mark → ⊥ = λ p. st .pre .3 (e ∙ p) in
-    let nCL : wordAt bs (a .at) ≡ CL-mark → ⊥ = λ p. c .before .if1 .left (e ∙ p) in
-    record {
-      next-is = ap (λ (x : ℕ). a .at + x) (c .size .ensures .0 ∙ ap sizeOf e ∙ sym (head-other (wordAt bs (a .at)) (wordAt bs (a .at + 4)) nBK nPR nCL));
-      more-is = sym (child-other (wordAt bs (a .at)) (wordAt bs (a .at + 2)) (wordAt bs (a .at + 4)) nBK nPR);
-      on = omega arith;
-      near = omega arith;
-      few = omega arith;
-    }
+    let f = c .before in
+    let st = startOf f in
+    let e = size-other (wordAt (bs f) (at f)) (wordAt (bs f) (at f + 4)) (λ p. c .if1 .left (st .pre .2 ∙ p)) in
+    let n = f .field-count .ensures .0 ∙ ap fieldCount (st .pre .2) in
+    alone f _ (omega arith) (omega arith) (omega arith)
 
 pub past-spec : {M : Type 1} → statement M
 past-spec =
     tie.close
     (tie.spec
-    add-result
+    add-end
+    cast-field-count
+    field-count-requires
+    mul-end
+    add-end-2
     add-word
     word-requires
     mul-result
-    add-result-2
+    add-result
     returns
-    size-requires
-    add-result-3
     returns-2)

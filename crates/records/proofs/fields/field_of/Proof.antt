@@ -1,4 +1,4 @@
--- `records::field_of` meets its contract. Assumes nothing.
+-- `records::fields::field_of` meets its contract. Assumes nothing.
 use mathlib.Core.Path.{_∙_, sym}
 use Prim.Native.Nat.{_<_}
 use native.Mathlib.Omega.{arith}
@@ -7,8 +7,8 @@ use lib.Seq.{getD-take}
 use Rattle.records.specs.Taking.{unread}
 use Rattle.records.proofs.Unread.{unread-at}
 use borrow.Author.Needs.{needs}
-use Rattle.records.proofs.field_of.Statement.{statement}
-use Rattle.records.proofs.field_of.Tie as tie
+use Rattle.records.proofs.fields.field_of.Statement.{statement}
+use Rattle.records.proofs.fields.field_of.Tie as tie
 
 mul-field-at : tie.Need-mul-field-at
 mul-field-at c = search needs

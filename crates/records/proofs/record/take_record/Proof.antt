@@ -1,19 +1,25 @@
--- `records::take_record` meets its contract: each way out is a case of `restAt`. Assumes nothing.
+-- `records::record::take_record` meets its contract: each way out is a case of `restAt`. Assumes nothing.
 use mathlib.Core.Path.{_≡_, _∙_, sym, ap}
 use Prim.Native.Nat.{ℕ, _+_, _*_}
 use native.Mathlib.Omega.{arith}
 use borrow.Author.Needs.{needs}
 use Rattle.records.specs.Taking.{restAt}
 use Rattle.records.specs.declared.Mark.{Mark}
-use Rattle.records.specs.declared.Fit.{Fit}
-use Rattle.records.specs.declared.Fit.the-variants.{Found}
+use Rattle.records.specs.declared.marks.Fit.{Fit}
+use Rattle.records.specs.declared.marks.Fit.the-variants.{Found}
 use Rattle.records.specs.declared.Reading.the-variants.{Taken}
 use Rattle.records.proofs.Places.{rest-whole, rest-cut, rest-stray}
-use Rattle.records.proofs.take_record.Statement.{statement}
-use Rattle.records.proofs.take_record.Tie as tie
+use Rattle.records.proofs.record.take_record.Statement.{statement}
+use Rattle.records.proofs.record.take_record.Tie as tie
 
 same-fields : (m : Mark) (next : ℕ) {a a′ b b′ c c′ d d′ : ℕ} → a ≡ a′ → b ≡ b′ → c ≡ c′ → d ≡ d′ → Taken m next a b c d ≡ Taken m next a′ b′ c′ d′
 same-fields m next p q r s = cc
+
+abbrev startOf : tie.After-as-usize → tie.Start
+startOf c = c .before .before .before .before .before
+
+abbrev foundOf : tie.After-as-usize → tie.After-fit
+foundOf c = c .before .before
 
 enum-known-fit : tie.Need-enum-known-fit
 enum-known-fit c = search needs
@@ -29,8 +35,8 @@ returns c =
 add-from : tie.Need-add-from
 add-from c = search needs
 
-size-requires : tie.Need-size-requires
-size-requires c κs = search needs
+as-usize-requires : tie.Need-as-usize-requires
+as-usize-requires c κs = search needs
 
 sub-if1 : tie.Need-sub-if1
 sub-if1 c = search needs
@@ -40,12 +46,13 @@ mul-if1 c = search needs
 
 returns-2 : tie.Need-returns-2
 returns-2 c =
-    let a = c .before .before .before .before .before .before .args in
-    let known = c .before .before .before .fit .given in (
+    let a = startOf (c .before) .args in
+    let known = foundOf (c .before) .fit .given in
+    let k = c .before .as-usize in (
       sym
           (ap (λ (x : Fit). restAt x (a .script .now) (a .at))
-          (known .1 ∙ ap (λ (k : ℕ). Found k (known .0 .1 .0)) (sym (c .before .size .ensures .0)))
-          ∙ rest-cut (c .before .size .result) (known .0 .1 .0) (a .script .now) (a .at) (omega arith)),
+          (known .1 ∙ ap (λ (n : ℕ). Found n (known .0 .1 .0)) (sym (k .ensures .0)))
+          ∙ rest-cut (k .result) (known .0 .1 .0) (a .script .now) (a .at) (omega arith)),
       tt,
     )
 
@@ -70,9 +77,9 @@ add-t14 c = search needs
 returns-3 : tie.Need-returns-3
 returns-3 c =
     let b = c .before .before .before .before in
-    let a = b .before .before .before .before .before .before .args in
-    let known = b .before .before .before .fit .given in
-    let k = b .before .size in (
+    let a = startOf (b .before) .args in
+    let known = foundOf (b .before) .fit .given in
+    let k = b .before .as-usize in (
       same-fields (known .0 .1 .0) (a .at + 2 + 2 * k .result)
           (c .before .before .before .field-of .ensures .0) (c .before .before .field-of2 .ensures .0)
           (c .before .field-of3 .ensures .0) (c .field-of4 .ensures .0)
@@ -91,7 +98,7 @@ take-record-spec =
     enum-told
     returns
     add-from
-    size-requires
+    as-usize-requires
     sub-if1
     mul-if1
     returns-2

@@ -1,4 +1,4 @@
--- `records::find_mark` meets its contract: what is left of the table from `i` on gives what all of it gives, which is what the
+-- `records::marks::find_mark` meets its contract: what is left of the table from `i` on gives what all of it gives, which is what the
 -- definitions' rows of the place give (`bit-rule`). Assumes nothing.
 use mathlib.Core.Path.{_≡_, refl, _∙_, sym}
 use mathlib.Core.Logic.{⊎-elim}
@@ -6,8 +6,8 @@ use Prim.Native.Nat.{_-_}
 use borrow.Author.Needs.{needs}
 use lib.ListN.{drop}
 use Rattle.records.proofs.Table.{fitFrom, bit-rule, at-fits, at-other, at-barred, none-left}
-use Rattle.records.proofs.find_mark.Statement.{statement}
-use Rattle.records.proofs.find_mark.Tie as tie
+use Rattle.records.proofs.marks.find_mark.Statement.{statement}
+use Rattle.records.proofs.marks.find_mark.Tie as tie
 
 abbrev Inv-loop : tie.InvT-loop
 Inv-loop letters marks bit i₀ i = fitFrom bit letters (drop i marks) ≡ fitFrom bit letters marks

@@ -1,11 +1,11 @@
--- `records::marked` meets its contract. Assumes nothing.
+-- `records::fields::marked` meets its contract. Assumes nothing.
 use mathlib.Core.Path.{sym}
 use Prim.Native.Nat.{_+_}
 use native.Mathlib.Omega.{arith}
 use lib.ListN.{length}
 use borrow.Author.Tests.{le-leb, lt-leb}
-use Rattle.records.proofs.marked.Statement.{statement}
-use Rattle.records.proofs.marked.Tie as tie
+use Rattle.records.proofs.fields.marked.Statement.{statement}
+use Rattle.records.proofs.fields.marked.Tie as tie
 
 returns : tie.Need-returns
 returns c =

@@ -1,0 +1,27 @@
+-- The number of fields by places, one after the other. Assumes nothing.
+use mathlib.Core.Path.{_≡_}
+use Prim.Native.Nat.{ℕ}
+use Rattle.records.specs.Taking.{fitAt}
+use Rattle.records.specs.Counts.{fieldCount}
+use Rattle.records.specs.declared.Mark.{Mark}
+use Rattle.records.specs.declared.Place.the-variants.{Formal, Declaration, Statement}
+use Rattle.records.specs.declared.marks.Fit.the-variants.{Found, Nothing}
+
+module _ (w : ℕ) where
+  pub count-statement : (n : ℕ) (m : Mark) → fitAt Statement w ≡ Found n m → fieldCount w ≡ n
+  unfolding fieldCount
+  count-statement n m e = rw (e, fieldCount)
+
+  module _ (no-statement : fitAt Statement w ≡ Nothing) where
+    pub count-declaration : (n : ℕ) (m : Mark) → fitAt Declaration w ≡ Found n m → fieldCount w ≡ n
+    unfolding fieldCount
+    count-declaration n m e = rw (no-statement, e, fieldCount)
+
+    module _ (no-declaration : fitAt Declaration w ≡ Nothing) where
+      pub count-formal : (n : ℕ) (m : Mark) → fitAt Formal w ≡ Found n m → fieldCount w ≡ n
+      unfolding fieldCount
+      count-formal n m e = rw (no-statement, no-declaration, e, fieldCount)
+
+      pub count-none : fitAt Formal w ≡ Nothing → fieldCount w ≡ 0
+      unfolding fieldCount
+      count-none e = rw (no-statement, no-declaration, e, fieldCount)

@@ -1,0 +1,211 @@
+// The table of marks (document 01, "Code places and their forms"), and the search through it.
+use super::Mark;
+use super::Place;
+ghost use mathlib.Core.Path.{_≡_};
+ghost use Prim.Native.Nat.{_<_};
+ghost use Rattle.records.specs.Taking.{bitOf, fitAt};
+ghost use Rattle.records.specs.Counts.{fieldCount};
+
+// The letters of each mark as one field, low byte first.
+pub const FM: usize = 0x4d46;
+
+pub const VR: usize = 0x5256;
+
+pub const LB: usize = 0x424c;
+
+pub const PR: usize = 0x5250;
+
+pub const BK: usize = 0x4b42;
+
+pub const CL: usize = 0x4c43;
+
+pub const GO: usize = 0x4f47;
+
+pub const IF: usize = 0x4649;
+
+pub const KN: usize = 0x4e4b;
+
+pub const AR: usize = 0x5241;
+
+pub const AD: usize = 0x4441;
+
+pub const RM: usize = 0x4d52;
+
+pub const QY: usize = 0x5951;
+
+// The fields after the marks of the records that hold others, of a formal and of a call, whose argument names come after these two.
+const BK_FIELDS: usize = 2;
+
+const PR_FIELDS: usize = 2;
+
+const FM_FIELDS: usize = 2;
+
+const CL_FIELDS: usize = 2;
+
+// Such a record up to what it holds, in bytes.
+pub const BK_BYTES: usize = 2 + 2 * BK_FIELDS;
+
+pub const PR_BYTES: usize = 2 + 2 * PR_FIELDS;
+
+pub const FM_BYTES: usize = 2 + 2 * FM_FIELDS;
+
+// A place's bit in the table of marks.
+const BLOCK: u8 = 1;
+
+const FORMAL: u8 = 2;
+
+const DECLARATION: u8 = 4;
+
+const STATEMENT: u8 = 8;
+
+// A mark, how many fields come after it, and the bits of the places where it may stand: eight bytes, so that the compiler reads an entry
+// of the table at once.
+pub struct Entry {
+    pub letters: u32,
+    pub count: u8,
+    pub places: u8,
+    pub mark: Mark,
+}
+
+const MARKS: [Entry; 13] = [
+    Entry {
+        letters: FM as u32,
+        count: FM_FIELDS as u8,
+        places: FORMAL,
+        mark: Mark::FM,
+    },
+    Entry {
+        letters: VR as u32,
+        count: 1,
+        places: DECLARATION,
+        mark: Mark::VR,
+    },
+    Entry {
+        letters: LB as u32,
+        count: 2,
+        places: DECLARATION,
+        mark: Mark::LB,
+    },
+    Entry {
+        letters: PR as u32,
+        count: PR_FIELDS as u8,
+        places: DECLARATION,
+        mark: Mark::PR,
+    },
+    Entry {
+        letters: BK as u32,
+        count: BK_FIELDS as u8,
+        places: BLOCK + STATEMENT,
+        mark: Mark::BK,
+    },
+    Entry {
+        letters: CL as u32,
+        count: CL_FIELDS as u8,
+        places: STATEMENT,
+        mark: Mark::CL,
+    },
+    Entry {
+        letters: GO as u32,
+        count: 1,
+        places: STATEMENT,
+        mark: Mark::GO,
+    },
+    Entry {
+        letters: IF as u32,
+        count: 2,
+        places: STATEMENT,
+        mark: Mark::IF,
+    },
+    Entry {
+        letters: KN as u32,
+        count: 3,
+        places: STATEMENT,
+        mark: Mark::KN,
+    },
+    Entry {
+        letters: AR as u32,
+        count: 4,
+        places: STATEMENT,
+        mark: Mark::AR,
+    },
+    Entry {
+        letters: AD as u32,
+        count: 2,
+        places: STATEMENT,
+        mark: Mark::AD,
+    },
+    Entry {
+        letters: RM as u32,
+        count: 2,
+        places: STATEMENT,
+        mark: Mark::RM,
+    },
+    Entry {
+        letters: QY as u32,
+        count: 3,
+        places: STATEMENT,
+        mark: Mark::QY,
+    },
+];
+
+pub enum Fit {
+    Found { count: u8, mark: Mark },
+    Nothing,
+}
+
+fn bit_of(place: Place) -> u8
+    ensures { λ r. ⌜ (r ≡ bitOf place) × (0 < r) ⌝ }
+{
+    match place {
+        Place::Block => BLOCK,
+        Place::Formal => FORMAL,
+        Place::Declaration => DECLARATION,
+        Place::Statement => STATEMENT,
+    }
+}
+
+// The mark with these letters, of those that may stand at a place. The table is copied once, before the loop: where the place is known
+// when the call is compiled, a comparison for each of its marks is left.
+pub fn find_mark(letters: u32, place: Place) -> Fit
+    ensures { λ r. ⌜ r ≡ fitAt place letters ⌝ }
+{
+    let marks = MARKS;
+    let bit = bit_of(place);
+    let mut i = 0;
+    while i < 13 {
+        let e = marks[i];
+        if e.places / bit % 2 == 1 {
+            if e.letters == letters {
+                let mark = e.mark;
+                return Fit::Found {
+                    count: e.count,
+                    mark,
+                };
+            }
+        }
+        i += 1;
+    }
+    Fit::Nothing
+}
+
+pub fn as_usize(x: u8) -> usize
+    ensures { λ r. ⌜ (r ≡ x) × (r < 256) ⌝ }
+{
+    x as usize
+}
+
+// The number of fields after a mark, wherever it may stand; 0 for letters that are no mark.
+pub fn field_count(letters: u32) -> usize
+    ensures { λ r. ⌜ (r ≡ fieldCount letters) × (r < 256) ⌝ }
+{
+    if let Fit::Found { count, .. } = find_mark(letters, Place::Statement) {
+        return as_usize(count);
+    }
+    if let Fit::Found { count, .. } = find_mark(letters, Place::Declaration) {
+        return as_usize(count);
+    }
+    if let Fit::Found { count, .. } = find_mark(letters, Place::Formal) {
+        return as_usize(count);
+    }
+    0
+}
