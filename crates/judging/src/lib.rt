@@ -3,5 +3,5 @@ pub mod block;
 pub mod declaration;
 pub mod statement;
 
-// The names of a block, formals included, and so the arguments of a call.
+// What a block may name, its formals among them; a call has no more arguments.
 pub const MOST_NAMES: usize = 32;
