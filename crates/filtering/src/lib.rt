@@ -63,7 +63,7 @@ fn mask_for(own: bool, mask: u64) -> u64
     0
 }
 
-// The pair at `i` is met, if its key is of the class.
+// The bits of the pair at `i` are set, if its key is of the class, and it is marked if they were set before.
 fn insert(
     table: &[i32],
     whole: bool,

@@ -1,4 +1,4 @@
-// The membership table: a lent slice of signed words, two for a pair (group, member), of which the first `count` pairs are in use.
+// Pairs of the membership table: the words 2 i and 2 i + 1 of the slice are the group and the member of the pair at place i.
 ghost use mathlib.Core.Path.{_≡_};
 ghost use mathlib.Core.Bool.{_&&_};
 ghost use Prim.Native.Nat.{_+_, _*_, _/_, _<_, min};
@@ -144,8 +144,8 @@ pub fn append(table: &mut [i32], count: usize, group: i32, member: i32)
     }
 }
 
-// The pair at `place` is taken out: later pairs move down by one and the place freed last is set to 0, 0. The words move one by one,
-// since words that end before `count` pairs may end with half a pair, which moves too.
+// The pair at `place` is taken out. The words behind it move down one by one, and not two by two, since a table of odd length may end with
+// half a pair, which moves too.
 pub fn take_out(table: &mut [i32], count: usize, place: usize)
     ensures { λ _. ⌜ now (table .exit) ≡ takeOut place count (now (table .entry)) ⌝ }
 {

@@ -69,11 +69,11 @@ tested :
     c .is-covered .result ≡ covers (getD (first c .args .seen .now) (bucketAt 28160 (first c .args .whole) (first c .args .table .now) (first c .args .i)) 0) (maskAt (first c .args .whole) (first c .args .table .now) (first c .args .i))
 tested c e = c .is-covered .ensures ∙ ap₂ (λ (q m : ℕ). covers (getD (first c .args .seen .now) q 0) m) (seen-is (wordOf c) e) (mask-is (wordOf c .before .before))
 
-met :
+done :
     (c : tie.After-is-covered) (after : List ℕ) → Grows (first c) after →
     (Mine (first c) → Cleared (first c .args .whole) (first c .args .table .now) 1 after (first c .args .i)) →
     Next (first c) (putOf c .put .last .0) after
-met c after g told = go (own k) refl
+done c after g cleared = go (own k) refl
   where
     s : tie.Start
     s = first c
@@ -85,7 +85,7 @@ met c after g told = go (own k) refl
     go true e =
         subst (λ (seen : List ℕ). Next s seen after)
         (sym (putOf c .put .ensures ∙ ap₂ (putIn (s .args .seen .now)) (seen-is (wordOf c) e) (putOf c .before .mask-for .ensures e ∙ mask-is (k .before))))
-        (insert-next (s .args .whole) (s .args .table .now) (s .args .classes) (s .args .class) (s .args .i) (s .args .seen .now) (s .args .marks .now) (s .pre .1 .1) after g (told (own-mine k e)))
+        (insert-next (s .args .whole) (s .args .table .now) (s .args .classes) (s .args .class) (s .args .i) (s .args .seen .now) (s .args .marks .now) (s .pre .1 .1) after g (cleared (own-mine k e)))
     go false e =
         subst (λ (seen : List ℕ). Next s seen after) (sym (putOf c .put .ensures))
         (insert-skip (s .args .whole) (s .args .table .now) (s .args .classes) (s .args .class) (s .args .i) (s .args .seen .now) (s .args .marks .now) (s .pre .1 .1) (wordOf c .word-for .result) (putOf c .before .mask-for .result) after g
@@ -140,7 +140,7 @@ returns c =
     let marked : p .before .mark-of .result ≡ markAt (s .args .whole) ws (s .args .i) = p .before .mark-of .ensures .0 ∙ ap markOf (wordOf k .before .before .before .hash .ensures) in
     let fits : markAt (s .args .whole) ws (s .args .i) < length marks = subst (λ (q : ℕ). q < length marks) marked (omega (arith, p .before .mark-of .ensures .1, s .pre .1 .1 .mark-words)) in
     subst (Next s (putOf k .put .last .0)) (sym (p .put2 .ensures ∙ ap₂ (putIn marks) marked (mask-is (wordOf k .before .before))))
-    (met k (putIn marks (markAt (s .args .whole) ws (s .args .i)) (maskAt (s .args .whole) ws (s .args .i)))
+    (done k (putIn marks (markAt (s .args .whole) ws (s .args .i)) (maskAt (s .args .whole) ws (s .args .i)))
     (grown-put (s .args .whole) ws (s .args .classes) (s .args .class) (s .args .i) (s .args .seen .now) marks (s .pre .1 .1) (markAt (s .args .whole) ws (s .args .i)) (maskAt (s .args .whole) ws (s .args .i)))
     (λ m. inr (suspected-own (s .args .whole) ws marks (s .args .i) fits)))
 
@@ -151,7 +151,7 @@ returns-2 : tie.Need-returns-2
 returns-2 c =
     let k = c .before in
     let s = first k in
-    met k (s .args .marks .now) (grown-same (s .args .whole) (s .args .table .now) (s .args .classes) (s .args .class) (s .args .i) (s .args .seen .now) (s .args .marks .now) (s .pre .1 .1))
+    done k (s .args .marks .now) (grown-same (s .args .whole) (s .args .table .now) (s .args .classes) (s .args .class) (s .args .i) (s .args .seen .now) (s .args .marks .now) (s .pre .1 .1))
     (λ m. inl (fresh (s .args .whole) (s .args .table .now) (s .args .classes) (s .args .class) (s .args .i) (s .args .seen .now) (s .args .marks .now) (s .pre .1 .1) m
     (sym (tested k (mine-own (wordOf k .before) m)) ∙ c .if1 .left)))
 

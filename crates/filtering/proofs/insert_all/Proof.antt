@@ -1,4 +1,4 @@
--- `insert_all` meets its contract. The loop's invariant: the pairs passed are met.
+-- `insert_all` meets its contract. The loop's invariant: the pairs passed are inserted.
 use Prim.Native.Nat.{_≤_, _-_}
 use mathlib.Core.Path.{sym, _∙_}
 use native.Mathlib.Omega.{arith}
