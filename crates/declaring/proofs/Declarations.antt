@@ -41,7 +41,7 @@ module _ (bs st : List ℕ) (d at : ℕ) where
   detail-LB n some m e b (VR o k) level h f s = absurd (omega (arith, h .0))
   detail-LB n some m e b (LB o k i) level h f s =
       let t = third-is bs at LB-mark k i [] h in
-      let q = s i some (f .first) (f .last) in
+      let q = s m i some (f .first) (f .last) in
       let p : getD st (d - 1 + n) 0 ≡ getD st (d - 1 + i) 0 = ap (λ (j : ℕ). getD st (d - 1 + j) 0) (e ∙ t) in
       omega arith
   detail-LB n some m e b (PR o k fs body) level h f s = absurd (omega (arith, h .0))
@@ -95,7 +95,7 @@ module _ (bs st es : List ℕ) (base d level count : ℕ) (b : Block) (ds : Decl
       none [] n j = joined-all es base i d (declEntries b level count (decls ds)) e (ap (λ (x : List ℕ). take i (drop base es) ++ x) (sym (no-declarations b level (count + i))) ∙ j)
       none (y ∷ ys) n j = absurd (omega arith)
 
-  module _ (i : ℕ) (fits : base + i < length es) (more : i < d) (stated : Stated b d st) (at n r : ℕ) (at-is : at ≡ getD st i 0) (name-is : n ≡ wordAt bs (at + 2)) (detailed : Detailed bs st d at r) where
+  module _ (i : ℕ) (fits : base + i < length es) (more : i < d) (stated : (j : ℕ) → j < d → wordAt bs (getD st j 0) ≡ LB-mark → Stated b d st) (at n r : ℕ) (at-is : at ≡ getD st i 0) (name-is : n ≡ wordAt bs (at + 2)) (detailed : Detailed bs st d at r) where
     abbrev v : ℕ
     v = n + 65536 * (count + i + 256 * level + r)
 
@@ -111,7 +111,7 @@ module _ (bs st es : List ℕ) (base d level count : ℕ) (b : Block) (ds : Decl
         let hx = stands-first bs here (declFields x) (declsFields l) h in
         let en : n ≡ declName x = name-is ∙ ap (λ (y : ℕ). wordAt bs (y + 2)) o ∙ second-is bs here x hx in
         let er : r ≡ 64 * declKindField x + 65536 * declTarget b x =
-        detailed b x k (subst (λ (y : ℕ). Stands bs y (declFields x)) (sym o) hx) (subst (λ (y : ℕ). FormedDecl x k (length (blockStmts b)) y) (sym o) (f .0)) stated in
+        detailed b x k (subst (λ (y : ℕ). Stands bs y (declFields x)) (sym o) hx) (subst (λ (y : ℕ). FormedDecl x k (length (blockStmts b)) y) (sym o) (f .0)) (λ m. stated i more (ap (wordAt bs) (sym at-is) ∙ m)) in
         let next : count + i + 1 ≡ count + (i + 1) = omega arith in
         record {
           left = l;

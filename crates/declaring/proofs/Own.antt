@@ -5,10 +5,10 @@ use mathlib.Core.List.{List, [], _∷_, _++_, map, map-append, append-assoc}
 use Prim.Native.Nat.{ℕ, suc, _+_, _*_, _-_, _/_, _<_, _≤_}
 use native.Mathlib.Omega.{arith}
 use lib.ListN.{length, getD, take, drop, length-append, length-map}
-use lib.Seq.{take-take}
+use lib.Seq.{take-take, getD-take}
 use Rattle.language.specs.Basics.{zip}
 use Rattle.language.specs.Text.{Formal, Block, block, Decl, VR, LB, PR, Decls, no-decl, decl, Stmts, decls, stmts, declName, blockAt, blockDecls, blockStmts, formalNames, declaredNames}
-use Rattle.language.specs.Encoding.{kindField, formalsFields, blockFields, declFields, declsFields, stmtsFields, BK-mark}
+use Rattle.language.specs.Encoding.{kindField, formalsFields, blockFields, declFields, declsFields, stmtsFields, BK-mark, LB-mark}
 use Rattle.laws.specs.Each.{Each, each-append}
 use Rattle.laws.specs.Lookup.{zip-append}
 use Rattle.grammar.specs.Rules.{FormedFormals, FormedBlock, FormedDecl, FormedDecls, FormedStmts}
@@ -22,7 +22,7 @@ use Rattle.extents.proofs.Inside.{decl-items, stmt-items}
 use Rattle.scoping.specs.Walking.{BlockHere}
 use Rattle.scoping.proofs.Blocks.{stacked}
 use Rattle.emitting.specs.Emitted.{Short, Fits, Shown, entryOf}
-use Rattle.declaring.specs.Declared.{startsOf, Started, Stated, FormalsPushed, DeclsPushed, formalEntries, declEntries, Declares}
+use Rattle.declaring.specs.Declared.{startsOf, Started, IfLabelled, Stated, FormalsPushed, DeclsPushed, formalEntries, declEntries, Declares}
 use Rattle.declaring.proofs.Statements.{stmts-two, decls-two, stated-there, place-near, first-place}
 
 formals-counted : (level i : ℕ) (fs : List Formal) → length (formalNames fs) ≡ length (formalWords level i fs)
@@ -132,7 +132,7 @@ module _ (bs : List ℕ) (at count d base level : ℕ) where
     unfolding FormedBlock
     o-is = h .formed .stands
 
-    module _ (st₁ st₂ : List ℕ) (long₁ : 2048 ≤ length st₁) (long₂ : 2048 ≤ length st₂) (f e : ℕ) (decls-started : Started bs (start + 6) d 0 st₁ f) (stmts-started : Started bs f s d st₂ e) (kept-starts : take d st₂ ≡ take d st₁) where
+    module _ (st₁ st₂ : List ℕ) (long₁ : 2048 ≤ length st₁) (long₂ : 2048 ≤ length st₂) (f : ℕ) (decls-started : Started bs (start + 6) d 0 st₁ f) (stmts-started : IfLabelled bs st₁ f s d st₂) (kept-starts : take d st₂ ≡ take d st₁) where
       decls-there : (take d st₁ ≡ startsOf (map declared (decls ds)) (start + 6)) × (f ≡ start + 6 + 2 * length (itemsFields (map declared (decls ds))))
       decls-there =
           decls-started (map declared (decls ds)) (length-map (decls ds) declared ∙ sym d-is) (subst (Stands bs (start + 6)) (decl-items ds) decls-stand) (omega (arith, numbered))
@@ -140,14 +140,19 @@ module _ (bs : List ℕ) (at count d base level : ℕ) where
       f-is : f ≡ first
       f-is = decls-there .1 ∙ ap (λ (l : List ℕ). start + 6 + 2 * length l) (sym (decl-items ds))
 
-      stmts-there : take (length (stmts ss)) (drop d st₂) ≡ startsOf (map stated (stmts ss)) first
-      stmts-there =
-          let t = stmts-started (map stated (stmts ss)) (length-map (stmts ss) stated ∙ sym s-is)
+      stmts-there : (e : ℕ) → Started bs f s d st₂ e → take (length (stmts ss)) (drop d st₂) ≡ startsOf (map stated (stmts ss)) first
+      stmts-there e started =
+          let t = started (map stated (stmts ss)) (length-map (stmts ss) stated ∙ sym s-is)
           (subst (λ (x : ℕ). Stands bs x (itemsFields (map stated (stmts ss)))) (sym f-is) (subst (Stands bs first) (stmt-items ss) stmts-stand)) (omega (arith, numbered)) in
           ap (λ (k : ℕ). take k (drop d st₂)) (sym s-is) ∙ t .0 ∙ ap (startsOf (map stated (stmts ss))) f-is
 
-      stated-here : Stated (block o ds ss) d st₂
-      stated-here = stated-there o ds ss level first stmts-formed d st₂ stmts-there
+      same-starts : (k : ℕ) → k < d → getD st₁ k 0 ≡ getD st₂ k 0
+      same-starts k l = sym (getD-take d st₁ k 0 l) ∙ ap (λ (x : List ℕ). getD x k 0) (sym kept-starts) ∙ getD-take d st₂ k 0 l
+
+      stated-here : (k : ℕ) → k < d → wordAt bs (getD st₂ k 0) ≡ LB-mark → Stated (block o ds ss) d st₂
+      stated-here k l m =
+          let r = stmts-started k l (ap (wordAt bs) (same-starts k l) ∙ m) in
+          stated-there o ds ss level first stmts-formed d st₂ (stmts-there (r .0) (r .1))
 
       first-near : f ≤ 8192
       first-near = omega (arith, f-is, reach)
@@ -190,16 +195,16 @@ module _ (bs : List ℕ) (at count d base level : ℕ) where
             }
 
   pub declares :
-      (s : ℕ) → d ≡ wordAt bs (start + 2) → s ≡ wordAt bs (start + 4) → (st₁ st₂ : List ℕ) → 2048 ≤ length st₁ → 2048 ≤ length st₂ → (f e : ℕ) →
-      Started bs (start + 6) d 0 st₁ f → Started bs f s d st₂ e → take d st₂ ≡ take d st₁ → (es₀ es₁ es₂ : List ℕ) →
+      (s : ℕ) → d ≡ wordAt bs (start + 2) → s ≡ wordAt bs (start + 4) → (st₁ st₂ : List ℕ) → 2048 ≤ length st₁ → 2048 ≤ length st₂ → (f : ℕ) →
+      Started bs (start + 6) d 0 st₁ f → IfLabelled bs st₁ f s d st₂ → take d st₂ ≡ take d st₁ → (es₀ es₁ es₂ : List ℕ) →
       DeclsPushed bs st₂ d (base + count) level count es₁ → FormalsPushed bs at count base level es₂ →
       drop (base + count) es₂ ≡ drop (base + count) es₁ → drop (base + count + d) es₁ ≡ drop (base + count + d) es₀ → Declares bs es₀ es₂ at count d base level f
-  declares s dr sr st₁ st₂ l₁ l₂ f e p₁ p₂ ks es₀ es₁ es₂ pd pf kept before =
+  declares s dr sr st₁ st₂ l₁ l₂ f p₁ p₂ ks es₀ es₁ es₂ pd pf kept before =
       record { shows = λ b fs encl h depth within shown. show b fs encl h depth within shown; leads = λ b fs h within. lead b fs h within }
     where
       show : (b : Block) (fs : List Formal) (encl : Enclosure) → BlockHere bs at count top b fs level → suc (length encl) ≡ level → start + 2 * length (blockFields b) ≤ 8192 → Shown encl (drop top es₀) → Shown (enclosed fs b ∷ encl) (drop base es₂)
       show (block o ds ss) fs encl h depth within shown =
-          shown-here o ds ss fs h within s dr sr st₁ st₂ l₁ l₂ f e p₁ p₂ ks encl depth es₀ es₁ es₂ shown pd pf kept before
+          shown-here o ds ss fs h within s dr sr st₁ st₂ l₁ l₂ f p₁ p₂ ks encl depth es₀ es₁ es₂ shown pd pf kept before
 
       lead : (b : Block) (fs : List Formal) → BlockHere bs at count top b fs level → start + 2 * length (blockFields b) ≤ 8192 → (f ≤ 8192) × (f / 2 ≡ stmtPlace b 1)
-      lead (block o ds ss) fs h within = (first-near o ds ss fs h within s dr sr st₁ st₂ l₁ l₂ f e p₁ p₂ ks, first-leads o ds ss fs h within s dr sr st₁ st₂ l₁ l₂ f e p₁ p₂ ks)
+      lead (block o ds ss) fs h within = (first-near o ds ss fs h within s dr sr st₁ st₂ l₁ l₂ f p₁ p₂ ks, first-leads o ds ss fs h within s dr sr st₁ st₂ l₁ l₂ f p₁ p₂ ks)

@@ -1,15 +1,15 @@
 -- A block's own names with their words, as entries of the array of visible names.
-use Prim.Native.Nat.{ℕ, suc, _+_, _*_, _-_, _/_, _≤_}
+use Prim.Native.Nat.{ℕ, suc, _+_, _*_, _-_, _/_, _<_, _≤_}
 use mathlib.Core.List.{List, [], _∷_, map}
 use mathlib.Core.Path.{_≡_}
 use lib.ListN.{length, getD, take, drop}
 use Rattle.language.specs.Basics.{zip}
 use Rattle.language.specs.Text.{Formal, Block, Decl, Decls, decls, declName, formalNames, blockStmts}
-use Rattle.language.specs.Encoding.{formalsFields, declFields, declsFields, blockFields}
+use Rattle.language.specs.Encoding.{LB-mark, formalsFields, declFields, declsFields, blockFields}
 use Rattle.grammar.specs.Rules.{FormedDecl, FormedDecls}
 use Rattle.coordinates.specs.Enclosure.{Enclosure, enclosed}
 use Rattle.resolved.specs.Resolved.{declTarget, declKindField, formalWords, declWords, stmtPlace}
-use Rattle.words.specs.Words.{Stands}
+use Rattle.words.specs.Words.{wordAt, Stands}
 use Rattle.extents.specs.Items.{Item, declared, itemFields, itemsFields}
 use Rattle.scoping.specs.Walking.{BlockHere}
 use Rattle.emitting.specs.Emitted.{entryOf, Shown}
@@ -25,6 +25,15 @@ Started bs at count base st end =
     (xs : List Item) → length xs ≡ count → Stands bs at (itemsFields xs) → base + count ≤ length st →
     (take count (drop base st) ≡ startsOf xs at) × (end ≡ at + 2 * length (itemsFields xs))
 
+-- none of d records whose offsets are noted is a label
+abbrev pub Unlabelled : List ℕ → List ℕ → ℕ → Type 0
+Unlabelled bs st d = (k : ℕ) → k < d → wordAt bs (getD st k 0) ≡ LB-mark → ⊥
+
+-- where one is, the offsets of so many records are put behind those d
+abbrev pub IfLabelled : List ℕ → List ℕ → ℕ → ℕ → ℕ → List ℕ → Type 0
+IfLabelled bs st at count d st′ =
+    (k : ℕ) → k < d → wordAt bs (getD st k 0) ≡ LB-mark → (end : ℕ) × Started bs at count d st′ end
+
 -- the statements of a block stand behind its d declarations in the array of offsets
 abbrev pub Stated : Block → ℕ → List ℕ → Type 0
 Stated b d st = (i : ℕ) → 1 ≤ d → 1 ≤ i → i ≤ length (blockStmts b) → getD st (d - 1 + i) 0 / 2 ≡ stmtPlace b i
@@ -32,8 +41,8 @@ Stated b d st = (i : ℕ) → 1 ≤ d → 1 ≤ i → i ≤ length (blockStmts b
 -- the part of a declared name's word that is of the declaration alone
 abbrev pub Detailed : List ℕ → List ℕ → ℕ → ℕ → ℕ → Type 0
 Detailed bs st d at r =
-    (b : Block) (x : Decl) (level : ℕ) → Stands bs at (declFields x) → FormedDecl x level (length (blockStmts b)) at → Stated b d st →
-    r ≡ 64 * declKindField x + 65536 * declTarget b x
+    (b : Block) (x : Decl) (level : ℕ) → Stands bs at (declFields x) → FormedDecl x level (length (blockStmts b)) at →
+    (wordAt bs at ≡ LB-mark → Stated b d st) → r ≡ 64 * declKindField x + 65536 * declTarget b x
 
 unfoldable pub formalEntries : ℕ → ℕ → List Formal → List ℕ
 formalEntries level i fs = map entryOf (zip (formalNames fs) (formalWords level i fs))
@@ -48,7 +57,8 @@ FormalsPushed bs at count base level es =
 abbrev pub DeclsPushed : List ℕ → List ℕ → ℕ → ℕ → ℕ → ℕ → List ℕ → Type 0
 DeclsPushed bs st d base level count es =
     (b : Block) (ds : Decls) (k at : ℕ) → length (decls ds) ≡ d → Stands bs at (declsFields ds) → FormedDecls ds k (length (blockStmts b)) at →
-    take d st ≡ startsOf (map declared (decls ds)) at → Stated b d st → take d (drop base es) ≡ declEntries b level count (decls ds)
+    take d st ≡ startsOf (map declared (decls ds)) at → ((k : ℕ) → k < d → wordAt bs (getD st k 0) ≡ LB-mark → Stated b d st) →
+    take d (drop base es) ≡ declEntries b level count (decls ds)
 
 -- a block's names, put before those of the enclosure around it; and where its first statement stands
 pub record Declares (bs es es′ : List ℕ) (at count d base level first : ℕ) : Type 0 where

@@ -4,11 +4,12 @@ use records::LB;
 use records::PR;
 use words::word;
 ghost use mathlib.Core.Path.{_≡_};
+ghost use mathlib.Core.Bool.{false};
 ghost use Prim.Native.Nat.{_+_, _*_, _^_, _<_, _≤_};
 ghost use lib.ListN.{length, getD, take, drop};
 ghost use Rattle.words.specs.Words.{wordAt};
 ghost use Rattle.extents.specs.Passing.{Ends};
-ghost use Rattle.declaring.specs.Declared.{Started, Detailed, FormalsPushed, DeclsPushed, Declares};
+ghost use Rattle.declaring.specs.Declared.{Started, Unlabelled, IfLabelled, Detailed, FormalsPushed, DeclsPushed, Declares};
 
 fn wide(x: u32) -> usize
     ensures { λ r. ⌜ (r ≡ x) × (r < 4294967296) ⌝ }
@@ -52,6 +53,39 @@ fn places(
         i += 1;
     }
     here
+}
+
+// Whether some of d records whose offsets are noted is a label.
+fn labelled(script: &[u8], starts: &[u32], d: usize) -> bool
+    ensures { λ r. ⌜ (r ≡ false → Unlabelled (now (script .entry)) (now (starts .entry)) d) ⌝ }
+{
+    let mut i = 0;
+    while i < d {
+        if word(script, start_of(starts, i)) == LB {
+            return true;
+        }
+        i += 1;
+    }
+    false
+}
+
+// Where the statements of a block stand is noted behind its d declarations, if one of these is a label.
+fn note_statements(
+    script: &[u8],
+    ends: &mut [u32; 683],
+    starts: &mut [u32],
+    at: usize,
+    count: usize,
+    d: usize,
+)
+    requires { ⌜ (length (now script) ≤ 8192) × (at ≤ 1000000) × (count < 65536) × (d < 65536) × Ends (now script) (now ends) ⌝ }
+    ensures started { λ _. ⌜ IfLabelled (now (script .entry)) (now (starts .entry)) at count d (now (starts .exit)) ⌝ }
+    ensures below { λ _. ⌜ take d (now (starts .exit)) ≡ take d (now (starts .entry)) ⌝ }
+    ensures noted { λ _. ⌜ Ends (now (script .entry)) (now (ends .exit)) ⌝ }
+{
+    if labelled(script, starts, d) {
+        places(script, ends, starts, at, count, d);
+    }
 }
 
 // Kind and target of the declaration at an offset, one of d in its block.
@@ -138,7 +172,7 @@ pub fn declare(
     ensures noted { λ r. ⌜ Ends (now (script .entry)) (now (ends .exit)) ⌝ }
 {
     let first = places(script, ends, starts, at + 6 * count + 6, d, 0);
-    places(script, ends, starts, first, s, d);
+    note_statements(script, ends, starts, first, s, d);
     push_decls(script, entries, starts, d, base + count, level, count);
     push_formals(script, entries, at, count, base, level);
     first

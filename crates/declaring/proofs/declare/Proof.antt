@@ -23,8 +23,8 @@ add-places-2 c = search needs
 places-requires : tie.Need-places-requires
 places-requires c κs = search needs
 
-places-requires-2 : tie.Need-places-requires-2
-places-requires-2 c κs = search needs
+note-statements-requires : tie.Need-note-statements-requires
+note-statements-requires c κs = search needs
 
 add-push-decls : tie.Need-add-push-decls
 add-push-decls c = search needs
@@ -45,7 +45,7 @@ returns : tie.Need-returns
 returns c =
     let pf = c .before .before .push-formals in
     let pd = c .before .before .before .before .before .before .push-decls in
-    let p₂ = c .before .before .before .before .before .before .before .before .before .before .before .places2 in
+    let p₂ = c .before .before .before .before .before .before .before .before .before .before .before .note-statements in
     let p₁ = c .before .before .before .before .before .before .before .before .before .before .before .before .before .before .before .before .places in
     let st = c .before .before .before .before .before .before .before .before .before .before .before .before .before .before .before .before .before .before .before .before .before .before in
     let a = st .args in
@@ -54,13 +54,13 @@ returns c =
     let es₁ = pd .last .1 .0 in
     let es₂ = pf .last .1 .0 in (
       declares (a .script .now) (a .at) (a .count) (a .d) (a .base) (a .level) (a .s) (st .pre .3) (st .pre .4) (p₁ .last .1 .1 .0) (p₂ .last .1 .1 .0) long₁ long₂
-          (p₁ .result) (p₂ .result) (p₁ .ensures .0) (p₂ .ensures .0) (p₂ .ensures .1 .0) (a .entries .now) es₁ es₂ (pd .ensures .0) (pf .ensures .0) (pf .ensures .1 .0) (pd .ensures .1 .0),
+          (p₁ .result) (p₁ .ensures .0) (p₂ .ensures .0) (p₂ .ensures .1 .0) (a .entries .now) es₁ es₂ (pd .ensures .0) (pf .ensures .0) (pf .ensures .1 .0) (pd .ensures .1 .0),
       (
         kept-below (a .entries .now) es₁ es₂ (a .base) (a .count) (a .d) (a .base + (a .count + a .d)) refl (pf .ensures .1 .0) (pd .ensures .1 .0) es₂ refl,
         (
           pf .ensures .1 .1 ∙ sym (take-take (a .base) (a .base + a .count) es₁ (omega arith)) ∙ ap (take (a .base)) (pd .ensures .1 .1)
               ∙ take-take (a .base) (a .base + a .count) (a .entries .now) (omega arith),
-          (p₁ .ensures .1 .1 .0 .1, p₂ .ensures .1 .1 .1),
+          (p₁ .ensures .1 .1 .0 .1, p₂ .ensures .1 .1),
         ),
       ),
     )
@@ -73,7 +73,7 @@ declare-spec =
     add-places
     add-places-2
     places-requires
-    places-requires-2
+    note-statements-requires
     add-push-decls
     push-decls-requires
     push-formals-requires

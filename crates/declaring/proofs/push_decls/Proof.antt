@@ -2,14 +2,14 @@
 use borrow.Author.Needs.{needs}
 use mathlib.Core.Path.{_≡_, refl, _∙_}
 use mathlib.Core.List.{List, map}
-use Prim.Native.Nat.{ℕ, _+_, _*_, _-_, _≤_}
+use Prim.Native.Nat.{ℕ, _+_, _*_, _-_, _<_, _≤_}
 use native.Mathlib.Omega.{arith}
-use lib.ListN.{length, take, drop, length-set}
+use lib.ListN.{length, getD, take, drop, length-set}
 use lib.Seq.{take-set-le}
 use Rattle.language.specs.Text.{Block, Decls, decls, blockStmts}
-use Rattle.language.specs.Encoding.{declsFields}
+use Rattle.language.specs.Encoding.{declsFields, LB-mark}
 use Rattle.grammar.specs.Rules.{FormedDecls}
-use Rattle.words.specs.Words.{Stands}
+use Rattle.words.specs.Words.{wordAt, Stands}
 use Rattle.extents.specs.Items.{declared}
 use Rattle.extents.proofs.Pushing.{kept-step}
 use Rattle.declaring.specs.Declared.{startsOf, Stated}
@@ -24,7 +24,7 @@ Inv-loop script entries₀ starts d base level count i₀ entries i =
     × (drop (base + i) entries ≡ drop (base + i) entries₀)
     × (take base entries ≡ take base entries₀)
     × ((b : Block) (ds : Decls) (k at : ℕ) → length (decls ds) ≡ d → Stands script at (declsFields ds) → FormedDecls ds k (length (blockStmts b)) at →
-    take d starts ≡ startsOf (map declared (decls ds)) at → Stated b d starts → Declaring script starts entries base i d level count b ds k)
+    take d starts ≡ startsOf (map declared (decls ds)) at → ((j : ℕ) → j < d → wordAt script (getD starts j 0) ≡ LB-mark → Stated b d starts) → Declaring script starts entries base i d level count b ds k)
 
 abbrev μ-loop : tie.MeasureT-loop
 μ-loop script entries₀ starts d base level count i₀ entries i = d - i
