@@ -14,7 +14,8 @@ use Rattle.acting.specs.declared.Effect.{Effect}
 use Rattle.acting.specs.declared.Effect.the-variants.{Done, Stopped}
 use Rattle.acting.specs.declared.Move.{Move}
 use Rattle.acting.specs.declared.Move.the-variants.{Jump}
-use Rattle.acting.specs.Acting.{Finding, Scene, Happened, field, moves, rewrites, setAll, valueOf, doConstant, arithmeticMove, doArithmetic, doGoto, doBranch, noRoom, doBlock}
+use Rattle.acting.specs.Acting.{Finding, Scene, Happened, field, moves, rewrites, setAll, valueOf, doConstant, arithmeticMove, doArithmetic, doGoto}
+use Rattle.acting.specs.Acting.{doBranch, noRoom, doBlock}
 use Rattle.acting.specs.Acting.{argumentsFrom, doCall, argumentsAgree, doCallFormal, changes, tableNow, doAdd, doRemove, answers, doQuery}
 use Rattle.display.specs.Finding.{firstCell, byDisplay, without-table, only-words, with-table, blockMove}
 use Rattle.display.proofs.Found.{home-direct, target-direct}
@@ -62,7 +63,9 @@ module _ (F : Finding) (s : Scene) where
   pub branch-happens : {m : Move} → m ≡ doBranch F bare .move → happened m (s .words) (s .table) ≡ doBranch F s
   branch-happens p = branch-by (eqZ (valueOf F s (field s 2)) (pos 0)) refl p
 
-  block-by : (t : Bool) → noRoom F s ≡ t → {m : Move} → m ≡ blockMove (s .code) (s .limits .activations) (s .live) (s .at) → happened m (s .words) (s .table) ≡ doBlock F s
+  block-by :
+      (t : Bool) → noRoom F s ≡ t → {m : Move} → m ≡ blockMove (s .code) (s .limits .activations) (s .live) (s .at) →
+      happened m (s .words) (s .table) ≡ doBlock F s
   unfolding doBlock blockMove noRoom moves
   block-by true e p = rw (doBlock, e) (whole (rw (blockMove, e) at p) refl refl)
   block-by false e p = rw (doBlock, e) (whole (rw (blockMove, e) at p) refl refl)
@@ -75,7 +78,9 @@ module _ (F : Finding) (s : Scene) where
   arguments-same from zero = refl
   arguments-same from (suc n) = ap (λ (zs : List ℤ). F .handed (getD (s .code) from 0) ∷ zs) (arguments-same (from + 1) n)
 
-  call-by : (t : Bool) → noRoom F s ≡ t → {m : Move} {ws : List ℤ} → m ≡ doCall F tableless .move → ws ≡ doCall F tableless .words → happened m ws (s .table) ≡ doCall F s
+  call-by :
+      (t : Bool) → noRoom F s ≡ t → {m : Move} {ws : List ℤ} → m ≡ doCall F tableless .move → ws ≡ doCall F tableless .words →
+      happened m ws (s .table) ≡ doCall F s
   unfolding doCall noRoom moves rewrites
   call-by true e p q = rw (doCall, e) (whole (rw (doCall, e) at p) (rw (doCall, e) at q) refl)
   call-by false e p q =
@@ -96,7 +101,9 @@ module _ (F : Finding) (s : Scene) where
       {m : Move} {ws : List ℤ} → m ≡ doCallFormal F tableless .move → ws ≡ doCallFormal F tableless .words → happened m ws (s .table) ≡ doCallFormal F s
   call-formal-happens p q = call-formal-by (argumentsAgree F s (F .target (field s 1))) refl p q
 
-  changes-by : (group : ℕ) (e : table.Effect) {m : Move} {t : List ℤ} → m ≡ changes F (tabled group) e .move → t ≡ changes F (tabled group) e .table → happened m (s .words) t ≡ changes F s e
+  changes-by :
+      (group : ℕ) (e : table.Effect) {m : Move} {t : List ℤ} → m ≡ changes F (tabled group) e .move →
+      t ≡ changes F (tabled group) e .table → happened m (s .words) t ≡ changes F s e
   unfolding changes moves
   changes-by group (table.leaves x) p q = whole p refl q
   changes-by group (table.halts c) p q = whole p refl q
@@ -110,7 +117,9 @@ module _ (F : Finding) (s : Scene) where
   unfolding doRemove
   remove-happens p q = changes-by 0 (table.removed (valueOf F s (field s 1)) (valueOf F s (field s 2)) (tableNow F s)) p q
 
-  answers-by : (x : table.Asked) {m : Move} {ws : List ℤ} → m ≡ answers F (tabled 0) x .move → ws ≡ answers F (tabled 0) x .words → happened m ws (s .table) ≡ answers F s x
+  answers-by :
+      (x : table.Asked) {m : Move} {ws : List ℤ} → m ≡ answers F (tabled 0) x .move → ws ≡ answers F (tabled 0) x .words →
+      happened m ws (s .table) ≡ answers F s x
   unfolding answers moves rewrites
   answers-by (table.gives z) p q = whole p q refl
   answers-by (table.refuses c) p q = whole p q refl

@@ -61,7 +61,8 @@ module _ (code : List ℕ) (a f n i : ℕ) where
   kinds-differ h d = let e : n - i ≡ suc (n - (i + 1)) = omega arith in rw (e, sameKinds, ne-eqb _ _ d)
 
   pub kinds-same :
-      i < n → kindIn (getD code (a + i) 0) ≡ getD code (f + 3 * i + 2) 0 → sameKinds code (a + (i + 1)) (f + 3 * (i + 1)) (n - (i + 1)) ≡ sameKinds code (a + i) (f + 3 * i) (n - i)
+      i < n → kindIn (getD code (a + i) 0) ≡ getD code (f + 3 * i + 2) 0 → sameKinds code (a + (i + 1)) (f + 3 * (i + 1))
+      (n - (i + 1)) ≡ sameKinds code (a + i) (f + 3 * i) (n - i)
   unfolding sameKinds
   kinds-same h d =
       let e : n - i ≡ suc (n - (i + 1)) = omega arith in
