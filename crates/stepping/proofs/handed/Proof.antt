@@ -35,7 +35,8 @@ element-copy-out-result c = search needs
 returns-2 : tie.Need-returns-2
 returns-2 c =
     let s = c .before .before .args in
-    read-back (getD (s .words .now) (s .cell) (pos 0)) (c .result .given) ∙ handed-formal (s .words .now) (s .word) (s .cell) (ne-eqb (s .word / 32 % 2) 0 (λ e. omega arith))
+    read-back (getD (s .words .now) (s .cell) (pos 0)) (c .result .given) ∙ handed-formal (s .words .now) (s .word) (s .cell)
+    (ne-eqb (s .word / 32 % 2) 0 (λ e. omega arith))
 
 pub handed-spec : {M : Type 1} → statement M
 handed-spec =

@@ -62,12 +62,15 @@ returns c =
     let h = n .before in
     let s = startOf h in
     call-refused (way s) (scene s) (body-is h)
-    (number-differs (way s) (scene s) (h .held .result / 8192) (λ e. c .if1 .taken (ap (λ (x : ℕ). x / 65536 % 256) (c .before .code-at3 .ensures .0) ∙ e ∙ sym (n .code-at2 .ensures .0))))
+    (number-differs (way s) (scene s) (h .held .result / 8192)
+    (λ e. c .if1 .taken (ap (λ (x : ℕ). x / 65536 % 256) (c .before .code-at3 .ensures .0) ∙ e ∙ sym (n .code-at2 .ensures .0))))
 
 formals : (c : tie.After-code-at3) → 3 * (c .code-at3 .result / 65536 % 256) ≤ c .before .before .held .result / 8192
 formals c = let h = c .before .before in rw (c .code-at3 .ensures .0, holds h) (startOf h .pre .1 .1 .1 .1 .1 .before)
 
-same-number : (c : tie.Else1) → let h = c .before .before .before in let s = startOf h in getD (s .args .code .now) (h .held .result / 8192) 0 / 65536 % 256 ≡ getD (s .args .code .now) (s .args .at + 2) 0
+same-number :
+    (c : tie.Else1) → let h = c .before .before .before in let s = startOf h in
+    getD (s .args .code .now) (h .held .result / 8192) 0 / 65536 % 256 ≡ getD (s .args .code .now) (s .args .at + 2) 0
 same-number c = sym (ap (λ (x : ℕ). x / 65536 % 256) (c .before .code-at3 .ensures .0)) ∙ c .if1 .left ∙ c .before .before .code-at2 .ensures .0
 
 agrees :
@@ -90,8 +93,11 @@ sub-kinds-agree c = omega (arith, formals (c .before), c .if1 .left)
 
 kinds-agree-requires : tie.Need-kinds-agree-requires
 kinds-agree-requires c κs =
-    let n = c .before .before in
-    (rw (n .code-at2 .ensures .0) (startOf (n .before) .pre .1 .1 .1 .0 .there), omega (arith, formals (c .before), c .if1 .left, holds (n .before), startOf (n .before) .pre .1 .1 .1 .1 .1 .there))
+    let n = c .before .before in (
+      rw (n .code-at2 .ensures .0)
+          (startOf (n .before) .pre .1 .1 .1 .0 .there),
+      omega (arith, formals (c .before), c .if1 .left, holds (n .before), startOf (n .before) .pre .1 .1 .1 .1 .1 .there),
+    )
 
 returns-2 : tie.Need-returns-2
 returns-2 c =
