@@ -6,7 +6,7 @@ use Prim.Native.Nat.{ℕ, _+_, _*_, _-_, _<_, _≤_}
 use native.Mathlib.Omega.{arith}
 use lib.ListN.{length, length-append}
 use borrow.Author.Tests.{eq-eqb, ne-eqb}
-use Rattle.language.specs.Encoding.{BK-mark, PR-mark, CL-mark}
+use Rattle.language.specs.Encoding.{BK-mark, VR-mark, LB-mark, PR-mark, CL-mark}
 use Rattle.language.specs.Structure.{declMarks, stmtMarks}
 use Rattle.records.specs.Taking.{fitIn, fitAt}
 use Rattle.records.specs.Counts.{fieldCount}
@@ -115,6 +115,25 @@ module _ (bs : List ℕ) (at : ℕ) (x : Item) where
 
     pub left-whole : Left bs at here pending x → Left bs at end (pending - 1 + 0) x
     left-whole l = whole-on (l .items) (l .number) (l .stand) (l .reach)
+
+-- declarations that hold no other record, by their marks
+module _ (bs : List ℕ) (at : ℕ) where
+  passed-alone : (w size : ℕ) → wordAt bs at ≡ w → ((a : ℕ) → headSize w a ≡ size) → ((d a : ℕ) → childCount w d a ≡ 0) → 2 ≤ size → size ≤ 131076 → Passed bs at (record { next = at + size; more = 0 })
+  passed-alone w size m head children low high = record {
+    next-is = ap (λ (k : ℕ). at + k) (sym (ap (λ (x : ℕ). headSize x (wordAt bs (at + 4))) m ∙ head (wordAt bs (at + 4))));
+    more-is = sym (ap (λ (x : ℕ). childCount x (wordAt bs (at + 2)) (wordAt bs (at + 4))) m ∙ children (wordAt bs (at + 2)) (wordAt bs (at + 4)));
+    on = omega arith;
+    near = omega arith;
+    few = omega arith;
+  }
+
+  pub passed-VR : wordAt bs at ≡ VR-mark → Passed bs at (record { next = at + 4; more = 0 })
+  unfolding headSize childCount fieldCount fitAt fitIn stmtMarks declMarks
+  passed-VR m = passed-alone VR-mark 4 m (λ a. refl) (λ d a. refl) (omega arith) (omega arith)
+
+  pub passed-LB : wordAt bs at ≡ LB-mark → Passed bs at (record { next = at + 6; more = 0 })
+  unfolding headSize childCount fieldCount fitAt fitIn stmtMarks declMarks
+  passed-LB m = passed-alone LB-mark 6 m (λ a. refl) (λ d a. refl) (omega arith) (omega arith)
 
 -- past the end of the script, and where nothing stands inside
 pub skipped-out : (bs : List ℕ) (at : ℕ) → length bs ≤ at → Skipped bs at at

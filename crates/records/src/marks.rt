@@ -33,21 +33,26 @@ pub const RM: usize = 0x4d52;
 
 pub const QY: usize = 0x5951;
 
-// The fields after the marks of the records that hold others, of a formal and of a call, whose argument names come after these two.
+// How many fields come after some of the marks, and such a record's bytes up to what it holds.
 const BK_FIELDS: usize = 2;
 
 const PR_FIELDS: usize = 2;
 
 const FM_FIELDS: usize = 2;
 
-const CL_FIELDS: usize = 2;
+const VR_FIELDS: usize = 1;
 
-// Such a record up to what it holds, in bytes.
+const LB_FIELDS: usize = 2;
+
 pub const BK_BYTES: usize = 2 + 2 * BK_FIELDS;
 
 pub const PR_BYTES: usize = 2 + 2 * PR_FIELDS;
 
 pub const FM_BYTES: usize = 2 + 2 * FM_FIELDS;
+
+pub const VR_BYTES: usize = 2 + 2 * VR_FIELDS;
+
+pub const LB_BYTES: usize = 2 + 2 * LB_FIELDS;
 
 // A place's bit in the table of marks.
 const BLOCK: u8 = 1;
@@ -76,13 +81,13 @@ const MARKS: [Entry; 13] = [
     },
     Entry {
         letters: VR as u32,
-        count: 1,
+        count: VR_FIELDS as u8,
         places: DECLARATION,
         mark: Mark::VR,
     },
     Entry {
         letters: LB as u32,
-        count: 2,
+        count: LB_FIELDS as u8,
         places: DECLARATION,
         mark: Mark::LB,
     },
@@ -100,7 +105,7 @@ const MARKS: [Entry; 13] = [
     },
     Entry {
         letters: CL as u32,
-        count: CL_FIELDS as u8,
+        count: 2,
         places: STATEMENT,
         mark: Mark::CL,
     },

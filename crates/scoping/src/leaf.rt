@@ -3,8 +3,10 @@ use calls::action;
 use extents::past;
 use language::Verdict;
 use records::LB;
+use records::LB_BYTES;
 use records::Progress;
 use records::VR;
+use records::VR_BYTES;
 ghost use mathlib.Core.Path.{_≡_};
 ghost use Prim.Native.Nat.{_<_, _≤_};
 ghost use lib.ListN.{length};
@@ -29,12 +31,12 @@ pub fn leaf(script: &[u8], entries: &[usize], top: usize, at: usize, mark: usize
     ensures judged { λ r. ⌜ ItemJudged (now (script .entry)) (now (entries .entry)) at top r ⌝ }
     ensures ahead { λ r. ⌜ Ahead at (length (now (script .entry))) r ⌝ }
 {
-    let next = past(script, at, mark);
     if mark == VR {
-        return Progress::At(next);
+        return Progress::At(at + VR_BYTES);
     }
     if mark == LB {
-        return Progress::At(next);
+        return Progress::At(at + LB_BYTES);
     }
-    progress_after(action(script, entries, top, at, mark), next)
+    let verdict = action(script, entries, top, at, mark);
+    progress_after(verdict, past(script, at, mark))
 }
