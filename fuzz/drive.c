@@ -117,10 +117,10 @@ static void prepare(const struct call *call, struct lent *lent)
     }
 }
 
-/* The call in the form that the differential tests' `again` takes. */
-static void print_call(const char *name, const struct call *call)
+/* The call in the form that the differential tests' `again` takes: it says what the check gives as well. */
+static void print_call(const struct export *export, const struct call *call)
 {
-    fprintf(stderr, "%s ", name);
+    fprintf(stderr, "%s differs\n%s ", export->name, export == exports ? "display" : export->name);
     for (size_t at = 0; at < call->script_len; at++) {
         fprintf(stderr, "%02x", call->script[at]);
     }
@@ -132,33 +132,40 @@ static void print_call(const char *name, const struct call *call)
     fprintf(stderr, "%s %zu 0\n", call->table_len ? "" : "-", call->sheet_len);
 }
 
-static void fail(const char *what, ptrdiff_t word, int64_t right, int64_t got)
+static void fail(const char *what, size_t length, size_t at, int64_t right, int64_t got)
 {
-    fprintf(stderr, "word %td of the %s: reference %" PRId64 ", library %" PRId64 "\n", word, what, right, got);
+    fprintf(stderr, "word %td of the %s, which has %zu: reference %" PRId64 ", library %" PRId64 "\n", (ptrdiff_t)at - GUARD, what,
+            length, right, got);
     abort();
 }
 
-/* Every word, from the guard before to the guard after; a negative one and one past the length is a guard's. */
+/* From the guard before to the guard after: a word that is negative or past the length is a guard's. */
+static void compare_answers(const struct export *export, const struct call *call, const uint64_t *right, const uint64_t *got)
+{
+    for (size_t at = 0; at < GUARD + ENROL_ANSWER_WORDS + GUARD; at++) {
+        if (got[at] != right[at]) {
+            print_call(export, call);
+            fail("answer", ENROL_ANSWER_WORDS, at, (int64_t)right[at], (int64_t)got[at]);
+        }
+    }
+}
+
+static void compare_words(const struct export *export, const struct call *call, const char *what, size_t length,
+                          const int32_t *right, const int32_t *got)
+{
+    for (size_t at = 0; at < GUARD + length + GUARD; at++) {
+        if (got[at] != right[at]) {
+            print_call(export, call);
+            fail(what, length, at, right[at], got[at]);
+        }
+    }
+}
+
 static void compare(const struct export *export, const struct call *call, const struct lent *right, const struct lent *got)
 {
-    for (size_t at = 0; at < sizeof got->answer / sizeof got->answer[0]; at++) {
-        if (got->answer[at] != right->answer[at]) {
-            print_call(export->name, call);
-            fail("answer", (ptrdiff_t)at - GUARD, (int64_t)right->answer[at], (int64_t)got->answer[at]);
-        }
-    }
-    for (size_t at = 0; at < sizeof got->table / sizeof got->table[0]; at++) {
-        if (got->table[at] != right->table[at]) {
-            print_call(export->name, call);
-            fail("table", (ptrdiff_t)at - GUARD, right->table[at], got->table[at]);
-        }
-    }
-    for (size_t at = 0; at < GUARD + call->sheet_len + GUARD; at++) {
-        if (got->sheet[at] != right->sheet[at]) {
-            print_call(export->name, call);
-            fail("sheet", (ptrdiff_t)at - GUARD, right->sheet[at], got->sheet[at]);
-        }
-    }
+    compare_answers(export, call, right->answer, got->answer);
+    compare_words(export, call, "table", call->table_len, right->table, got->table);
+    compare_words(export, call, "sheet", call->sheet_len, right->sheet, got->sheet);
 }
 
 int LLVMFuzzerTestOneInput(const uint8_t *bytes, size_t length)
@@ -179,7 +186,7 @@ int LLVMFuzzerTestOneInput(const uint8_t *bytes, size_t length)
         compare(&exports[export], &asked, &right, &got);
         count(export, right.answer + GUARD);
         if (memcmp(call.script, asked.script, asked.script_len) != 0) {
-            print_call(exports[export].name, &asked);
+            print_call(&exports[export], &asked);
             fprintf(stderr, "the script changed\n");
             abort();
         }
