@@ -4,7 +4,8 @@
  * holds nothing between calls, so calls on different threads do not disturb each other.
  *
  * A lent slice is a pointer and a length. The pointer is not null, even where the length is 0; nothing else writes to
- * the slice during the call; the answer does not overlap it. Beyond that nothing is asked: any bytes may be handed in.
+ * the slice during the call; what a call may write to (table, sheet, answer) overlaps nothing else that it is lent.
+ * Beyond that nothing is asked: any bytes, words and numbers may be handed in, and what does not fit is refused.
  */
 #ifndef ENROL_H
 #define ENROL_H
@@ -16,20 +17,32 @@
 extern "C" {
 #endif
 
-/* The script check: may this script be run?
- *
- * script      script_len bytes, read and never written
- * answer[0]   0 where the script is accepted, else the refusal's number
- * answer[1]   where accepted 0, else the byte offset in the script that the refusal is about
- *
- * The offset may be script_len itself, where there is no byte to read: for 2 when the record is missing (BK 0 65535
- * and nothing after it gives 2 at 6), and for 1 when the length is 0.
- *
- * Both words of the answer are always written, and nothing else is, whether the script is accepted or refused.
- *
- * A script is refused for the first of these that holds, in the order given below the table.
+/* Bounds of a script. */
+#define ENROL_LONGEST_SCRIPT 8192 /* bytes */
+#define ENROL_MOST_LEVELS 16      /* of nesting, the program's block included */
+#define ENROL_MOST_NAMES 32       /* of one block, formals included */
+#define ENROL_MOST_ARGUMENTS 32   /* of one call */
+
+/* Bounds of what a run is fed; the least are 1, 0, 1 and 0. */
+#define ENROL_MOST_ACTIVATIONS 256 /* D */
+#define ENROL_MOST_STEPS 1000000   /* N */
+#define ENROL_MOST_MEMBERS 65535   /* G */
+#define ENROL_MOST_TALLY UINT64_C(1000000000000)
+
+/* Words of an answer, and the words that a sheet must have for d activations. */
+#define ENROL_CHECK_WORDS 2
+#define ENROL_ANSWER_WORDS 9
+#define ENROL_SHEET_WORDS(d) ((size_t)(d) * (2 + ENROL_MOST_NAMES))
+
+/* A designator's activation, counted from 1 at the outermost, and position among its names, from 1. */
+#define ENROL_ACTIVATION_OF(designator) ((designator) / 64)
+#define ENROL_POSITION_OF(designator) ((designator) % 64)
+
+/* Causes, with the offset that is reported beside each one; `order' below says which is tested first.
  *
  *  Number  Cause                                                       Offset of
+ *
+ *       The script, refused by the check and by every run:
  *       1  the length is odd, 0 or above 8,192                         0
  *       2  a record or mark runs past the end                          the record, or where it would begin
  *       3  a mark that may not stand there                             the record
@@ -45,12 +58,157 @@ extern "C" {
  *      11  arguments that differ in number or kind from those of the   the CL
  *          declared procedure
  *
- * Order: 1; then record by record in file order 2 to 4 and 6 to 8; then 5; then 9 to 11, record by record in file
- * order. Of one record: its mark is there (2), may stand there (3), its fields are there (2), then 4, 6, 7, 8. The
- * argument count of a CL is judged (4) before its argument names are looked for (2). The names of a record are
- * judged from left to right, each by 9 and then 10; of a CL the called name by 9 and 10, its arguments by 9, then 11.
+ *       The rest of a call, refused by every run:
+ *      12  D, N, G or the tally out of range                           0
+ *      13  a lent area too short                                       0
+ *      14  a table that is not right                                   0
+ *
+ *       A run, stopped before the statement:
+ *      21  the result of AR does not fit into signed 32 bits           the AR
+ *      22  D activations are live and one more is needed               the BK or CL
+ *      23  a group or member number below 1                            the AD, RM or QY
+ *      24  the pair is absent and its group has G members              the AD
+ *      25  the pair is absent and the table is full                    the AD
+ *      26  a call through a formal with arguments that differ in       the CL
+ *          number or kind from those of the procedure that it
+ *          finally stands for
+ *
+ * Order of refusals: 12; 13; 14; then the script's. Of these 1; then record by record in file order 2 to 4 and 6 to 8;
+ * then 5; then 9 to 11, record by record in file order. Of one record: its mark is there (2), may stand there (3), its
+ * fields are there (2), then 4, 6, 7, 8. The argument count of a CL is judged (4) before its argument names are looked
+ * for (2). The names of a record are judged from left to right, each by 9 and then 10; of a CL the called name by 9
+ * and 10, its arguments by 9, then 11.
+ *
+ * Order of stops of one statement: 23, 24, 25; and 26 before 22.
+ *
+ * The offset may be script_len itself, where there is no byte to read: for 2 when the record is missing (BK 0 65535
+ * and nothing after it gives 2 at 6), and for 1 when the length is 0. The program's own BK stands at 0, so an offset
+ * of 0 names a record only beside 2, 3 and 7.
  */
-void enrol_check(const uint8_t *script, size_t script_len, uint64_t answer[2]);
+enum enrol_cause {
+    ENROL_NO_CAUSE = 0,
+    ENROL_LENGTH = 1,
+    ENROL_PAST_THE_END = 2,
+    ENROL_MARK = 3,
+    ENROL_FIELD = 4,
+    ENROL_AFTER_THE_PROGRAM = 5,
+    ENROL_NESTING = 6,
+    ENROL_TOO_MANY_NAMES = 7,
+    ENROL_NAME_TWICE = 8,
+    ENROL_NOT_VISIBLE = 9,
+    ENROL_WRONG_KIND = 10,
+    ENROL_ARGUMENTS = 11,
+    ENROL_LIMITS = 12,
+    ENROL_AREA_TOO_SHORT = 13,
+    ENROL_TABLE_NOT_RIGHT = 14,
+    ENROL_OVERFLOW = 21,
+    ENROL_TOO_MANY_ACTIVATIONS = 22,
+    ENROL_NUMBER_BELOW_ONE = 23,
+    ENROL_GROUP_FULL = 24,
+    ENROL_TABLE_FULL = 25,
+    ENROL_ARGUMENTS_OF_FORMAL = 26
+};
+
+/* The script check: may this script be run?
+ *
+ * script      script_len bytes, read and never written
+ * answer[0]   0 where the script is accepted, else the refusal's number, 1 to 11
+ * answer[1]   where accepted 0, else the byte offset in the script that the refusal is about
+ *
+ * Both words of the answer are always written, and nothing else is, whether the script is accepted or refused.
+ */
+void enrol_check(const uint8_t *script, size_t script_len, uint64_t answer[ENROL_CHECK_WORDS]);
+
+/* A run's answer: what stands in each of its words. */
+enum enrol_answer {
+    ENROL_ANSWER_END = 0,        /* how it ended, an enrol_end */
+    ENROL_ANSWER_NUMBER = 1,     /* the cause's, 0 where it finished or was spent */
+    ENROL_ANSWER_STEPS = 2,      /* done; a statement that stops is not counted */
+    ENROL_ANSWER_OFFSET = 3,     /* as under the causes, 0 where there is none */
+    ENROL_ANSWER_PAIRS = 4,      /* in use in the table, afterwards */
+    ENROL_ANSWER_SHEET = 5,      /* words written to the sheet, 0 when the run finished */
+    ENROL_ANSWER_TALLY = 6,      /* the one handed in plus the steps; it may pass ENROL_MOST_TALLY */
+    ENROL_ANSWER_DESIGNATOR = 7, /* of the looked-up name, 0 where it is not visible or no block is live */
+    ENROL_ANSWER_LINKS = 8       /* the chain engine's, 0 from the others */
+};
+
+enum enrol_end {
+    ENROL_FINISHED = 0, /* the program's block was left */
+    ENROL_SPENT = 1,    /* N steps were done before that; what the next statement is plays no part */
+    ENROL_STOPPED = 2,  /* the next statement has a cause, 21 to 26, and was not begun */
+    ENROL_REFUSED = 3   /* for a cause from 1 to 14; nothing was run */
+};
+
+/* A run by the display engine.
+ *
+ * Taken:
+ * script     script_len bytes, read and never written; checked in the call, so that it need not be checked before
+ * d          the most activations that may be live, 1 to 256
+ * n          the most steps that may be done, 0 to 1,000,000. A statement is a step, and so is leaving a block;
+ *            entering the program's block is none.
+ * g          the most members that a group may have, 1 to 65,535
+ * tally      steps counted so far by the caller, at most 1,000,000,000,000
+ * table      table_len words, two for each pair (group, member), of which the first `count' pairs are in use.
+ *            It is right when table_len is even, the count fits, all numbers in use are at least 1, no pair in use
+ *            stands twice and no group has more than g of them. What lies past the pairs in use may be anything.
+ * name       a name to look up where the run ends, in the innermost live block
+ * sheet      sheet_len words, at least ENROL_SHEET_WORDS(d), whatever they hold
+ *
+ * Given:
+ * answer     all nine words, always
+ * table      with the pairs that AD has added at the end and without those that RM has taken out: later pairs have
+ *            moved down by one and the place freed last holds 0, 0. The words past all of these are left alone.
+ * sheet      the state where the run ended, in the first answer[ENROL_ANSWER_SHEET] words. The words past them are
+ *            left alone.
+ *
+ * Where it is stopped, all is as it was before the statement at fault: the number of that statement is still the next
+ * one on the sheet. Where it is refused, only the answer is written: table and sheet keep every word, and the answer
+ * has 0 steps, the count and the tally as they were given, 0 sheet words and designator 0.
+ *
+ * How a sheet is read. The live activations follow each other from the outermost, numbered from 1. Each has the byte
+ * offset of its block's BK, the number of its next statement (one more than the block has where none is left), and a
+ * word for each name of the block: the formals first, then the declarations in the order written. A variable's word is
+ * its value, a label's or procedure's is 0, a formal's is the designator of the declared name that it finally stands
+ * for: activation number times 64, plus position among that activation's names, from 1. How many names an activation
+ * has, and of which kinds, is read from the script at its BK (and from the PR before it, where it is a body).
+ *
+ * Sample B, with the offsets of its records:
+ *
+ *     0  BK 3 1                        the program: variable 1, procedures 2 and 3
+ *     6    VR 1
+ *    10    PR 2 0
+ *    16      BK 0 0                    2's body: no names
+ *    22    PR 3 1
+ *    28      FM 4 2
+ *    34      BK 3 6                    3's body: formal 4, variable 5, procedure 6, label 7
+ *    40        VR 5
+ *    44        PR 6 0
+ *    50          BK 0 1                6's body: no names
+ *    56            KN 5 9
+ *    64        LB 7 5
+ *    70        IF 1 7
+ *    76        KN 1 1
+ *    84        KN 5 1
+ *    92        CL 3 1 6
+ *   100        KN 5 2
+ *   108        CL 4 0
+ *   114    CL 3 1 2
+ *
+ * After 9 steps (n = 9, spent) it has written 19 words:
+ *
+ *     0 2  1 0 0         activation 1: the program; its one statement is begun, so 2 is next; variable 1 holds 1
+ *    34 5  66 9 0 0      activation 2: 3's body, statement 5 is next; formal 4 stands for 66 = 1 * 64 + 2, procedure 2
+ *                        of activation 1; variable 5 holds 9; procedure 6 and label 7 have 0
+ *    34 7  131 2 0 0     activation 3: 3's body again, no statement left; formal 4 stands for 131 = 2 * 64 + 3,
+ *                        procedure 6 of activation 2; its own variable 5 holds 2
+ *    50 2                activation 4: 6's body, which has no names
+ *
+ * The looked-up name 5 gives 130 = 2 * 64 + 2: what activation 4 calls 5 is the variable of activation 2, whose
+ * procedure 6 was handed on and called, and not that of activation 3.
+ */
+void enrol_display(const uint8_t *script, size_t script_len, uint32_t d, uint32_t n, uint32_t g, uint64_t tally,
+                   int32_t *table, size_t table_len, size_t count, uint16_t name, int32_t *sheet, size_t sheet_len,
+                   uint64_t answer[ENROL_ANSWER_WORDS]);
 
 #ifdef __cplusplus
 }

@@ -3,7 +3,11 @@
 
 #[cfg(feature = "enrol")]
 mod checks;
+#[cfg(feature = "enrol")]
+mod programs;
 mod row;
+#[cfg(feature = "enrol")]
+mod runs;
 #[cfg(feature = "enrol")]
 mod scripts;
 #[cfg(feature = "measure")]
@@ -13,6 +17,8 @@ fn main() {
     row::print_heading();
     #[cfg(feature = "enrol")]
     row::print(checks::rows());
+    #[cfg(feature = "enrol")]
+    row::print(runs::rows());
     #[cfg(feature = "measure")]
     row::print(tables::rows());
 }

@@ -10,16 +10,16 @@ const NAMES: usize = 32;
 /// Declared by each program, for statements that only fill.
 const FIRST: Name = 1;
 
-fn block(declarations: Vec<Declaration>, actions: Vec<Action>) -> Block {
+pub fn block(declarations: Vec<Declaration>, actions: Vec<Action>) -> Block {
     let statement = |action| Statement { offset: 0, action };
     Block { offset: 0, declarations, statements: actions.into_iter().map(statement).collect() }
 }
 
-fn declaration(name: Name, declared: Declared) -> Declaration {
+pub fn declaration(name: Name, declared: Declared) -> Declaration {
     Declaration { offset: 0, name, declared }
 }
 
-fn variables(names: impl Iterator<Item = Name>) -> Vec<Declaration> {
+pub fn variables(names: impl Iterator<Item = Name>) -> Vec<Declaration> {
     names.map(|name| declaration(name, Declared::Variable)).collect()
 }
 

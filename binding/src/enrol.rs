@@ -4,13 +4,51 @@ use crate::lent::{Lent, Strayed};
 
 extern "C" {
     fn enrol_check(script: *const u8, script_len: usize, answer: *mut u64);
+    fn enrol_display(
+        script: *const u8,
+        script_len: usize,
+        d: u32,
+        n: u32,
+        g: u32,
+        tally: u64,
+        table: *mut i32,
+        table_len: usize,
+        count: usize,
+        name: u16,
+        sheet: *mut i32,
+        sheet_len: usize,
+        answer: *mut u64,
+    );
 }
 
 /// Refusal number, 0 where accepted, and offset.
 pub type Checked = [u64; 2];
 
+/// The nine words of a run's answer.
+pub type Answer = [u64; 9];
+
+/// The numbers that a run is fed.
+#[derive(Clone, Copy, Debug)]
+pub struct Asked {
+    pub d: u32,
+    pub n: u32,
+    pub g: u32,
+    pub tally: u64,
+    pub count: usize,
+    pub name: u16,
+}
+
+/// What has become of all that was lent.
+#[derive(Clone, Debug, PartialEq, Eq)]
+pub struct Ran {
+    pub answer: Answer,
+    pub table: Vec<i32>,
+    pub sheet: Vec<i32>,
+}
+
 /// Fills what is lent to be written, so that a word left as it was shows.
 const UNWRITTEN: u64 = 0xa5a5_a5a5_a5a5_a5a5;
+const GUARD: i32 = 0x5a5a_5a5a;
 
 pub fn check(script: &[u8]) -> Checked {
     let mut answer = [0; 2];
@@ -28,4 +66,65 @@ pub fn guarded_check(script: &[u8]) -> Result<Checked, Strayed> {
     answer.guards_hold()?;
     let answer = answer.contents();
     Ok([answer[0], answer[1]])
+}
+
+pub fn display(script: &[u8], asked: &Asked, table: &mut [i32], sheet: &mut [i32]) -> Answer {
+    let mut answer = [0; 9];
+    let Asked { d, n, g, tally, count, name } = *asked;
+    // SAFETY: the pointers are those of slices and an array, with the slices' lengths.
+    unsafe {
+        enrol_display(
+            script.as_ptr(),
+            script.len(),
+            d,
+            n,
+            g,
+            tally,
+            table.as_mut_ptr(),
+            table.len(),
+            count,
+            name,
+            sheet.as_mut_ptr(),
+            sheet.len(),
+            answer.as_mut_ptr(),
+        )
+    };
+    answer
+}
+
+pub fn guarded_display(
+    script: &[u8],
+    asked: &Asked,
+    table: &[i32],
+    sheet: &[i32],
+) -> Result<Ran, Strayed> {
+    let mut script = Lent::new("script", script, 0x5a);
+    let mut table = Lent::new("table", table, GUARD);
+    let mut sheet = Lent::new("sheet", sheet, GUARD);
+    let mut answer = Lent::new("answer", &[UNWRITTEN; 9], !UNWRITTEN);
+    let Asked { d, n, g, tally, count, name } = *asked;
+    // SAFETY: all pointers are to as many words as the call is told of.
+    unsafe {
+        enrol_display(
+            script.pointer(),
+            script.length(),
+            d,
+            n,
+            g,
+            tally,
+            table.pointer(),
+            table.length(),
+            count,
+            name,
+            sheet.pointer(),
+            sheet.length(),
+            answer.pointer(),
+        )
+    };
+    script.all_holds()?;
+    table.guards_hold()?;
+    sheet.guards_hold()?;
+    answer.guards_hold()?;
+    let answer = answer.contents().try_into().expect("there are nine words");
+    Ok(Ran { answer, table: table.contents().to_vec(), sheet: sheet.contents().to_vec() })
 }

@@ -1,6 +1,11 @@
-//! The reference behind a C entry, for the fuzzer to compare with.
+//! The reference behind C entries, for the fuzzer to compare with.
 
 use std::slice;
+
+use reference::{Engine, Request};
+
+/// Runs up to this many steps are made by the copy rule, longer ones by the fast implementation.
+const COPIED_STEPS: u32 = 100;
 
 /// As enrol_check of include/enrol.h.
 ///
@@ -14,4 +19,36 @@ pub unsafe extern "C" fn reference_check(script: *const u8, length: usize, answe
         Err(refused) => [refused.cause as u64, refused.offset as u64],
     };
     unsafe { *answer = verdict };
+}
+
+/// As enrol_display.
+///
+/// # Safety
+/// Each pointer is to as many elements as the length beside it says, `answer` to nine words; none overlap.
+#[no_mangle]
+pub unsafe extern "C" fn reference_display(
+    script: *const u8,
+    script_len: usize,
+    d: u32,
+    n: u32,
+    g: u32,
+    tally: u64,
+    table: *mut i32,
+    table_len: usize,
+    count: usize,
+    name: u16,
+    sheet: *mut i32,
+    sheet_len: usize,
+    answer: *mut [u64; 9],
+) {
+    let script = unsafe { slice::from_raw_parts(script, script_len) };
+    let table = unsafe { slice::from_raw_parts_mut(table, table_len) };
+    let sheet = unsafe { slice::from_raw_parts_mut(sheet, sheet_len) };
+    let request = Request { engine: Engine::Display, script, d, n, g, tally, count, name };
+    unsafe { *answer = run(&request, table, sheet) };
+}
+
+fn run(request: &Request, table: &mut [i32], sheet: &mut [i32]) -> [u64; 9] {
+    let run = if request.n <= COPIED_STEPS { reference::run } else { reference::fast::run };
+    run(request, table, sheet).words()
 }

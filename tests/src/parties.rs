@@ -42,6 +42,33 @@ pub fn library_check() -> Check {
     })
 }
 
+/// The proved library's engines, through its C interface: as many as it has.
+#[cfg(feature = "enrol")]
+pub fn library() -> Party {
+    Party { name: "library", run: Box::new(library_reply), check: library_check() }
+}
+
+#[cfg(feature = "enrol")]
+fn library_reply(call: &Call) -> Reply {
+    let Call { d, n, g, tally, count, name, .. } = *call;
+    let asked = binding::enrol::Asked { d, n, g, tally, count, name };
+    let ran = match call.engine {
+        Engine::Display => {
+            binding::enrol::guarded_display(&call.script, &asked, &call.table, &call.sheet)
+        }
+        Engine::Copying | Engine::Chain => panic!("the library has no such engine"),
+    };
+    match ran {
+        Ok(ran) => Reply {
+            answer: ran.answer,
+            table: ran.table,
+            sheet: ran.sheet,
+            working: call.working.clone(),
+        },
+        Err(strayed) => panic!("{strayed}"),
+    }
+}
+
 /// Wrong on purpose; going astray so far that it panics counts as a wrong reply.
 pub fn flawed(flaw: Flaw) -> Party {
     Party {

@@ -66,7 +66,7 @@ pub fn bytes(hex: &str) -> Option<Vec<u8>> {
     (0..hex.len()).step_by(2).map(byte).collect()
 }
 
-fn words(list: &str) -> Option<Vec<i32>> {
+pub fn words(list: &str) -> Option<Vec<i32>> {
     let list = if list == "-" { "" } else { list };
     list.split(',').filter(|word| !word.is_empty()).map(|word| word.parse().ok()).collect()
 }

@@ -1,6 +1,8 @@
 //! Runs a reported case again, a call as one line or a script in hex, and prints what each
 //! implementation makes of it.
 
+#[cfg(feature = "enrol")]
+use differential::call::Engine;
 use differential::call::{Call, Verdict};
 use differential::listing::listing;
 use differential::parties::{copy_rule, fast};
@@ -31,7 +33,11 @@ fn checks(script: &[u8]) {
 }
 
 fn runs(call: &Call) {
-    for party in [copy_rule(), fast()] {
+    #[cfg(feature = "enrol")]
+    let library = (call.engine == Engine::Display).then(differential::parties::library);
+    #[cfg(not(feature = "enrol"))]
+    let library = None;
+    for party in [copy_rule(), fast()].into_iter().chain(library) {
         let reply = (party.run)(call);
         let sheet = &reply.sheet[..reply.answer[5] as usize];
         println!("{}: answer {:?}", party.name, reply.answer);

@@ -1,0 +1,33 @@
+/* Bytes of the fuzzer as a call. */
+#ifndef INPUT_H
+#define INPUT_H
+
+#include "enrol.h"
+
+enum {
+    HEADER = 64,        /* bytes before the script; those that are missing count as 0 */
+    GIVEN_WORDS = 48,   /* of the table, a byte of the header for each; further ones are a right table's */
+    MOST_WORDS = 255,   /* of the table */
+    MOST_SHEET = 257 * (2 + ENROL_MOST_NAMES) + 240
+};
+
+struct call {
+    const uint8_t *script;
+    size_t script_len;
+    uint32_t d, n, g;
+    uint64_t tally;
+    int32_t table[MOST_WORDS];
+    size_t table_len, count;
+    uint16_t name;
+    size_t sheet_len;
+};
+
+/* The header, byte by byte. Most values of a byte are small numbers, the last sixteen stand for numbers at a bound.
+ *
+ *    0  d             1  g             2  n, two bytes       4  tally
+ *    5  count         6  table_len     7  sheet_len, from what d asks for
+ *    8  name, two bytes               10  not used          16  the table's first words
+ */
+void call_of(const uint8_t *bytes, size_t length, struct call *call);
+
+#endif

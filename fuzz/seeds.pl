@@ -1,0 +1,44 @@
+#!/usr/bin/perl
+# The vectors as first inputs of the fuzzer, each in a file of its own: seeds.pl FOLDER. The header is that of input.h, with a number that
+# it has no byte for taken to the nearest one that it has.
+use strict;
+use warnings;
+
+my ($folder) = @ARGV;
+
+# A small number as it is, another one as its place among those at a bound.
+sub edge { # NUMBER EDGES...
+    my ($number, @edges) = @_;
+    return $number if $number >= 0 && $number < 240;
+    for my $at (0 .. $#edges) { return 240 + $at if $number == $edges[$at] }
+    return 239;
+}
+
+sub allowance {
+    my ($number) = @_;
+    return 0xff00 + edge($number, 1000001, 1000000, 4294967295, 999999) if $number >= 999999;
+    return $number < 2048 ? $number : 2047;
+}
+
+sub seed { # FILE SCRIPT D N G TALLY COUNT NAME TABLE
+    my ($file, $script, $d, $n, $g, $tally, $count, $name, $table) = @_;
+    my @words = $table eq '-' ? () : split /,/, $table;
+    my $places = int(@words / 2);
+    my $header = pack 'CCvCCCCv', edge($d, 255, 256, 257, 4294967295), edge($g, 65534, 65535, 65536, 4294967295), allowance($n),
+        edge($tally > 1e12 ? 1e12 + 1 : $tally, 1e12 - 1, 1e12, 1e12 + 1), $count <= $places ? $count : 240, scalar @words, 0, $name;
+    my @given = map { $_ < 0 ? 240 : edge($_, -1) } @words;
+    $header .= pack 'x6 C48', @given, (0) x (48 - @given);
+    open my $out, '>:raw', "$folder/$file" or die "$folder/$file: $!";
+    print $out $header, $script eq '-' ? '' : pack 'H*', $script;
+}
+
+sub lines { # FILE
+    my ($file) = @_;
+    open my $in, '<', "tests/vectors/$file.txt" or die "$file: $!";
+    return grep { !/^#/ } <$in>;
+}
+
+my $number = 0;
+for (lines('checks')) { seed('check' . ++$number, (split)[0], 16, 1000, 3, 0, 0, 1, join ',', (0) x 16) }
+$number = 0;
+for (lines('runs')) { seed('run' . ++$number, (split)[0 .. 7]) }
