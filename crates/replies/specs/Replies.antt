@@ -1,22 +1,26 @@
 -- What an engine that runs as the frame machine replies is the copy rule's reply. By the verdict of admission: `refused-reply`, what a refusal
--- answers and leaves; `fit-admitted`: no refusal is due, and there is a program. `ran-reply`: what a run answers and leaves, where the engine has of it
--- what the frame machine's result has; `result-held`: arrays that hold the result's frames can be written as its sheet (crate sheets).
-use Prim.Native.Nat.{ℕ}
+-- answers and leaves; `fit-admitted`: no refusal is due, and there is a program. Of its run: `ran-answer` and `ran-lent`, where the engine has of it
+-- what the frame machine's result has (`Ran`). `result-held`: arrays that hold the result's frames can be written as its sheet (crate sheets);
+-- `room-for-sheet`, `tally-fits`: there is room for it, and the tally can be added to.
+use Prim.Native.Nat.{ℕ, _*_, _≤_}
 use native.Mathlib.Omega.{arith}
-use mathlib.Core.Bool.{false}
+use mathlib.Core.Bool.{false, _&&_}
 use mathlib.Core.List.{List}
 use mathlib.Core.Path.{_≡_, refl, sym, ap, _∙_}
+use borrow.Author.Tests.{leb-true}
+use lib.Dec.{leb}
 use lib.IntN.{ℤ}
 use lib.ListN.{length}
 use Rattle.language.specs.Text.{Block}
 use Rattle.language.specs.Check.{Checked, accepted, refused}
 use Rattle.language.specs.Machine.{Limits}
-use Rattle.language.specs.Call.{Engine, Fed, Reply, admission, turnedAway, linksOf, written, reply}
+use Rattle.language.specs.Call.{Engine, Fed, Reply, limitsOf, limitsFit, admission, turnedAway, linksOf, written, reply}
 use Rattle.language.specs.declared.Refusal.{Refusal}
 use Rattle.language.specs.declared.End.{End}
 use Rattle.language.specs.declared.Verdict.the-variants.{Fit, Refused}
+use Rattle.laws.specs.Tests.{both}
 use Rattle.grammar.specs.Rules.{Bytes, Keeps}
-use Rattle.runs.specs.Admission.{Admitted, refused-exactly, accepted-exactly}
+use Rattle.runs.specs.Admission.{Admitted, limits-fit, sheet-fits, sheet-lent, refused-exactly, accepted-exactly}
 use Rattle.runs.specs.Calls.{due-reply, admitted-answered}
 use Rattle.frames.specs.Frame.{Stack, Result, designates, frameSheet, frameReplied, frameRunOf, frameReply}
 use Rattle.frames.specs.Theorem.{frames-run-as-copies}
@@ -101,3 +105,14 @@ result-held code words blocks nexts links name t l s keeps covers sound holds =
       links = links;
       holds = holds;
     }
+
+-- What else an admitted call gives the engine: room for the sheet of whatever its run leaves, and a tally that can be added to
+module _ {e : Engine} {f : Fed} {t : Block} (h : Admitted e f t) where
+  pub room-for-sheet : (s : Stack) → Sound (limitsOf f) t s → 34 * length (s .frames) ≤ length (f .lent .sheet)
+  room-for-sheet s sound = omega (arith, sheet-lent f (sheet-fits h), sound .bounded .live)
+
+  pub tally-fits : f .tally ≤ 1000000000000
+  unfolding limitsFit
+  tally-fits =
+      let rest = leb 1 (f .activations) && leb (f .activations) 256 && leb (f .allowance) 1000000 && leb 1 (f .group) && leb (f .group) 65535 in
+      leb-true (f .tally) 1000000000000 ((both rest (leb (f .tally) 1000000000000) (limits-fit h)) .1)

@@ -1,15 +1,18 @@
 // The sheet, written from an engine's arrays: the resolved script, 32 words for each activation, the place of its block and of its next statement.
+ghost use mathlib.Core.Bool.{false};
 ghost use mathlib.Core.List.{List, _∷_, _++_};
 ghost use mathlib.Core.Path.{_≡_};
 ghost use Prim.Native.Nat.{ℕ, _+_, _*_, _<_, _≤_, _^_, _%_};
 ghost use lib.IntN.{ℤ, pos};
 ghost use lib.ListN.{length, getD};
+ghost use lib.Signed.{ltZ};
 ghost use Rattle.language.specs.Call.{written};
-ghost use Rattle.frames.specs.Frame.{Frame, frameSheet};
+ghost use Rattle.frames.specs.Frame.{Frame, designatorIn, frameSheet};
 ghost use Rattle.arrays.specs.Holds.{designatorOf};
 ghost use Rattle.sheets.specs.Sizes.{plainSize, sizeAt, Readable};
 ghost use Rattle.sheets.specs.Shown.{Counts, Owned, Shown};
 ghost use Rattle.sheets.specs.Held.{Held};
+ghost use Rattle.sheets.specs.Named.{lookedUpBy, Nameable};
 
 const SIZES: usize = 3617872862303704404;
 
@@ -45,6 +48,28 @@ pub fn designator_of(cell: usize) -> u32
     ensures { λ r. ⌜ (r ≡ designatorOf cell) × (r < 32768) ⌝ }
 {
     (64 * (cell / 32 + 1) + (cell % 32 + 1)) as u32
+}
+
+// What a formal holds.
+fn held(word: i32) -> usize
+    requires { ⌜ ltZ word (pos 0) ≡ false ⌝ }
+    ensures { λ r. ⌜ r ≡ designatorIn word ⌝ }
+{
+    word as usize
+}
+
+// The designator of the name with this word, declared in the activation whose cells begin at `first`; 0 where it has no word.
+pub fn name_designator(words: &[i32; 8224], first: usize, word: usize) -> u32
+    requires { ⌜ ((word ≡ 0 → ⊥) → Nameable (now words) first word) ⌝ }
+    ensures { λ r. ⌜ r ≡ lookedUpBy (now (words .entry)) first word ⌝ }
+{
+    if word == 0 {
+        return 0;
+    }
+    if word / 32 % 2 == 0 {
+        return designator_of(first + word % 32);
+    }
+    designator_of(held(words[first + word % 32]) % 8192)
 }
 
 fn plain_size(operation: usize) -> usize
