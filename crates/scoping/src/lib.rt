@@ -11,7 +11,6 @@ ghost use Rattle.language.specs.Encoding.{fieldsOf};
 ghost use Rattle.language.specs.Structure.{program};
 ghost use Rattle.scoping.specs.Walking.{settledOf, Judged};
 
-mod leaf;
 mod walk;
 
 fn settled(p: Progress) -> Verdict

@@ -1,13 +1,19 @@
 // The walk over a script's records in file order. It is safe on any bytes up to 8,192.
-use super::leaf::leaf;
+use calls::action;
+use extents::past;
 use extents::push;
 use language::Refusal;
+use language::Verdict;
 use records::BK;
 use records::BK_BYTES;
 use records::FM_BYTES;
+use records::LB;
+use records::LB_BYTES;
 use records::PR;
 use records::PR_BYTES;
 use records::Progress;
+use records::VR;
+use records::VR_BYTES;
 use symbols::insert;
 use symbols::remove;
 use words::word;
@@ -16,7 +22,17 @@ ghost use Prim.Native.Nat.{_+_, _<_, _≤_};
 ghost use lib.ListN.{length, drop};
 ghost use Rattle.symbols.specs.Chains.{Chained};
 ghost use Rattle.extents.specs.Passing.{Ends};
-ghost use Rattle.scoping.specs.Walking.{Ahead, BlockJudged, ItemsJudged, ItemJudged};
+ghost use Rattle.scoping.specs.Walking.{progressAfter, Ahead, BlockJudged, ItemsJudged, ItemJudged};
+
+// Where the walk goes on after a verdict.
+fn progress_after(v: Verdict, next: usize) -> Progress
+    ensures { λ r. ⌜ r ≡ progressAfter v next ⌝ }
+{
+    match v {
+        Verdict::Fit => Progress::At(next),
+        Verdict::Refused(c, o) => Progress::Refused(c, o),
+    }
+}
 
 // So many formals at an offset and their block after them. Its names are put below `top` before any of its text is judged.
 pub fn block(
@@ -113,5 +129,12 @@ fn item(
     if mark == BK {
         return block(script, entries, ends, at, 0, top);
     }
-    leaf(script, entries, top, at, mark)
+    if mark == VR {
+        return Progress::At(at + VR_BYTES);
+    }
+    if mark == LB {
+        return Progress::At(at + LB_BYTES);
+    }
+    let judged = action(script, entries, top, at, mark);
+    progress_after(judged, past(script, at, mark))
 }

@@ -13,7 +13,8 @@ use Rattle.symbols.specs.Chains.{Chained}
 use Rattle.extents.specs.Items.{Item, itemFields, itemsFields}
 use Rattle.extents.specs.Passing.{Ends}
 use Rattle.scoping.specs.Walking.{progressOf, judgeItem, judgeItems, Ahead, ItemsHere}
-use Rattle.scoping.proofs.Statements.{block-mark, item-PR, item-BK}
+use Rattle.extents.proofs.Skipping.{passed-VR, passed-LB}
+use Rattle.scoping.proofs.Statements.{block-mark, item-PR, item-BK, item-VR, item-LB, item-action, ahead-after}
 use Rattle.scoping.proofs.Walking.{Remaining, remaining-start, remaining-step, remaining-stop, remaining-inside, remaining-end}
 use Rattle.symbols.proofs.Chains.{kept-from, pushed-chained}
 use Rattle.scoping.proofs.Blocks.{word-within, ahead-from, kept-below, block-room, block-judged}
@@ -28,7 +29,9 @@ use Rattle.scoping.proofs.walk.+block+item+items.Lts-item as item-lts
 use Rattle.scoping.proofs.walk.items.Reads as items
 use Rattle.scoping.proofs.walk.items.Kinds as items-kinds
 use Rattle.scoping.proofs.walk.+block+item+items.Lts-items as items-lts
-use Rattle.scoping.proofs.leaf.leaf.Reads as leaf-reads
+use Rattle.calls.proofs.action.Reads as action-reads
+use Rattle.scoping.proofs.walk.progress_after.Reads as progress-after-reads
+use Rattle.extents.proofs.past.Reads as past-reads
 use Rattle.extents.proofs.push.Reads as push-reads
 use Rattle.words.proofs.word.Reads as word-reads
 use Rattle.symbols.proofs.insert.Reads as insert-reads
@@ -73,8 +76,12 @@ item-claims t = (
   word-reads.Learnt,
   block-below t,
   block.Post,
-  leaf-reads.Asked,
-  leaf-reads.Learnt,
+  action-reads.Asked,
+  action-reads.Learnt,
+  past-reads.Asked,
+  past-reads.Learnt,
+  progress-after-reads.Asked,
+  progress-after-reads.Learnt,
 )
 
 abbrev items-claims : ℕ → items-lts.Claims
@@ -278,16 +285,62 @@ item-returns-2 t c =
       b .block2 .ensures .1,
     )
 
-item-leaf-requires : (t : ℕ) → item-lts.Need-leaf-requires (item-claims t) (item-at t) item.Post
-item-leaf-requires t c κs = search needs
+item-add-t18 : (t : ℕ) → item-lts.Need-add-t18 (item-claims t) (item-at t) item.Post
+item-add-t18 t c = search needs
+
+item-returns-3 : (t : ℕ) → item-lts.Need-returns-3 (item-claims t) (item-at t) item.Post
+item-returns-3 t c =
+    let st = c .before .before .before .before .before .before in
+    let a = st .args in
+    let sc = scopeOf (a .script .now) (drop (a .top) (a .entries .now)) in
+    let m = sym (c .before .before .before .word .ensures .0) ∙ c .if3 .taken in (
+      item-VR (a .script .now) sc (a .at) (a .top) (record { next = a .at + 4; more = 0 }) (passed-VR (a .script .now) (a .at) m) m,
+      ((omega arith, omega (arith, st .pre .1 .1)), (refl, (st .pre .1 .3, st .pre .1 .4))),
+    )
+
+item-add-t19 : (t : ℕ) → item-lts.Need-add-t19 (item-claims t) (item-at t) item.Post
+item-add-t19 t c = search needs
+
+item-returns-4 : (t : ℕ) → item-lts.Need-returns-4 (item-claims t) (item-at t) item.Post
+item-returns-4 t c =
+    let st = c .before .before .before .before .before .before .before in
+    let a = st .args in
+    let sc = scopeOf (a .script .now) (drop (a .top) (a .entries .now)) in
+    let m = sym (c .before .before .before .before .word .ensures .0) ∙ c .if4 .taken in (
+      item-LB (a .script .now) sc (a .at) (a .top) (record { next = a .at + 6; more = 0 }) (passed-LB (a .script .now) (a .at) m) m,
+      ((omega arith, omega (arith, st .pre .1 .1)), (refl, (st .pre .1 .3, st .pre .1 .4))),
+    )
+
+item-action-requires : (t : ℕ) → item-lts.Need-action-requires (item-claims t) (item-at t) item.Post
+item-action-requires t c κs = search needs
+
+item-past-requires : (t : ℕ) → item-lts.Need-past-requires (item-claims t) (item-at t) item.Post
+item-past-requires t c κs = search needs
+
+item-progress-after-requires : (t : ℕ) → item-lts.Need-progress-after-requires (item-claims t) (item-at t) item.Post
+item-progress-after-requires t c κs = search needs
 
 item-same-length-3 : (t : ℕ) → item-lts.Need-same-length-3 (item-claims t) (item-at t) item.Post
 item-same-length-3 t c = search needs
 
-item-returns-3 : (t : ℕ) → item-lts.Need-returns-3 (item-claims t) (item-at t) item.Post
-item-returns-3 t c =
-    let st = c .before .before .before .before .before .before .before in
-    (c .leaf .ensures .0, (c .leaf .ensures .1, (refl, (st .pre .1 .3, st .pre .1 .4))))
+item-returns-5 : (t : ℕ) → item-lts.Need-returns-5 (item-claims t) (item-at t) item.Post
+item-returns-5 t c =
+    let p = c .before in
+    let v = c .before .before in
+    let q = c .before .before .before .before .before .before .before .before .word .ensures .0 in
+    let st = c .before .before .before .before .before .before .before .before .before .before .before in
+    let a = st .args in
+    let sc = scopeOf (a .script .now) (drop (a .top) (a .entries .now)) in (
+      λ x level s h. c .progress-after .ensures
+          ∙ item-action (a .script .now) sc (a .at) (a .top) (record { next = p .past .result; more = 0 }) (p .past .ensures) (λ m. c .before .before .before .before .before .before .before .if1 .left (q ∙ m))
+          (λ m. c .before .before .before .before .before .before .if2 .left (q ∙ m)) (λ m. c .before .before .before .before .before .if3 .left (q ∙ m)) (λ m. c .before .before .before .before .if4 .left (q ∙ m)) (v .action .result) (v .action .ensures)
+          x level s h,
+      (
+        ahead-after (a .at) (length (a .script .now)) (p .past .result) (v .action .result) (c .progress-after .result) (c .progress-after .ensures)
+            (omega (arith, p .past .ensures .on)) (omega (arith, p .past .ensures .near, st .pre .1 .1)),
+        (refl, (st .pre .1 .3, st .pre .1 .4)),
+      ),
+    )
 
 abbrev items-Inv-loop : items-lts.InvT-loop
 items-Inv-loop script entries₀ ends₀ at count top here₀ i₀ entries ends here i =
@@ -441,9 +494,15 @@ pub +block+item+items-spec : {M : Type 1} → statement M
     (item-block-requires-2 t)
     (item-same-length-2 t)
     (item-returns-2 t)
-    (item-leaf-requires t)
+    (item-add-t18 t)
+    (item-returns-3 t)
+    (item-add-t19 t)
+    (item-returns-4 t)
+    (item-action-requires t)
+    (item-past-requires t)
+    (item-progress-after-requires t)
     (item-same-length-3 t)
-    (item-returns-3 t))
+    (item-returns-5 t))
     λ t. items-lts.spec (items-claims t)
     (items-at t)
     items.Post
