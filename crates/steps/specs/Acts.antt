@@ -8,7 +8,6 @@ use mathlib.Core.Path.{_≡_, sym, ap, _∙_, subst}
 use lib.IntN.{ℤ}
 use lib.ListN.{length, getD}
 use Rattle.language.specs.Text.{Stmt, Operation, AR, DO}
-use Rattle.language.specs.Encoding.{operationField}
 use Rattle.language.specs.Machine.{Limits}
 use Rattle.frames.specs.Frame.{frameStmt}
 use Rattle.coordinates.specs.Chain.{enclosureOf}
@@ -45,7 +44,7 @@ module _ {code : List ℕ} {l : Limits} {words : List ℤ} {blocks nexts links :
   by-op x q branch-op k = branch-means w F finds (k .0) (k .1) (k .2) (q ∙ ap some (k .3))
   by-op x q goto-op k = goto-means w F finds (k .0) (k .1) (q ∙ ap some (k .2))
   by-op x q block-op k = block-means w F (k .0) (q ∙ ap some (k .1))
-  by-op x q call-op k = call-means w F finds (k .0) (k .1) (k .2) (q ∙ ap some (k .3)) (k .4)
+  by-op x q call-op k = call-means w (k .0) (k .1) (k .2) (q ∙ ap some (k .3)) F finds (k .4)
   by-op x q pair-op k = add-means w F finds (k .0) (k .1) (k .2) (q ∙ ap some (k .3))
   by-op x q unpair-op k = remove-means w F finds (k .0) (k .1) (k .2) (q ∙ ap some (k .3))
   by-op x q query-op k = query-means w F finds (k .0) (k .1) (k .2) (k .3) (q ∙ ap some (k .4))
@@ -53,7 +52,7 @@ module _ {code : List ℕ} {l : Limits} {words : List ℤ} {blocks nexts links :
   by-op x q arithmetic-formal-op k = by-operation (k .0) (k .1) (k .4) (k .2) (k .3) (q ∙ ap some (k .5))
   by-op x q branch-formal-op k = branch-means w F finds (k .0) (k .1) (k .2) (q ∙ ap some (k .3))
   by-op x q goto-formal-op k = goto-means w F finds (k .0) (k .1) (q ∙ ap some (k .2))
-  by-op x q call-formal-op k = call-formal-means w F finds (k .0) (k .1) (k .2) (q ∙ ap some (k .3))
+  by-op x q call-formal-op k = call-formal-means w (k .0) (k .1) (k .2) (q ∙ ap some (k .3)) F finds
 
   pub acting-means : (at ≡ end → ⊥) → Means w (acting F (sceneOf w))
   unfolding acting

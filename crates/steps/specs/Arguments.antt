@@ -1,12 +1,12 @@
 -- The arguments of a call. Words written one behind the other: `written-length`, `written-below`, `written-at`. What is written
 -- (`argumentsFrom`): `handed-at`, `handed-length`. Whether kinds agree: `kinds-agree`, from what stands before the body and at the arguments;
--- `kinds-known` and `declared-takes`: where a name that is no formal is called, they do by the script check.
-use Prim.Native.Nat.{ℕ, zero, suc, pred, _+_, _-_, _*_, _/_, _%_, _≤_, _<_}
+-- `declared-takes`: what the script check knows a procedure to take that is called by a name that is no formal.
+use Prim.Native.Nat.{ℕ, zero, suc, _+_, _-_, _*_, _≤_, _<_}
 use native.Mathlib.Omega.{arith}
 use native.Mathlib.Nat.{not-suc-le-zero, le-of-suc-le-suc}
-use mathlib.Core.Bool.{Bool, true, false, _&&_}
+use mathlib.Core.Bool.{true, _&&_}
 use mathlib.Core.List.{List, [], _∷_, map}
-use mathlib.Core.Option.{Option, none, some, map-eq-some-iff}
+use mathlib.Core.Option.{Option, some, map-eq-some-iff}
 use mathlib.Core.Path.{_≡_, refl, sym, ap, _∙_, subst}
 use borrow.Author.Tests.{leb-true, leb-false, lt-leb}
 use lib.Dec.{eqb, leb}
@@ -14,28 +14,28 @@ use lib.IntN.{ℤ, pos}
 use lib.ListN.{length, getD, set, getElem?, length-set, length-map}
 use lib.Seq.{getD-set-same, getD-set-other}
 use Rattle.language.specs.Basics.{lookup}
-use Rattle.language.specs.Text.{Kind, variable, label, procedure, Formal, Block, Decl, PR, blockDecls, declKind, formalKinds, sameKind}
+use Rattle.language.specs.Text.{Kind, variable, label, procedure, Formal, Block, Decl, PR, blockDecls, formalKinds, sameKind}
 use Rattle.language.specs.Encoding.{kindField}
-use Rattle.language.specs.Scope.{Meaning, Scope, formalMeaning, declMeaning, kindIn as kindInScope, agree}
+use Rattle.language.specs.Scope.{Meaning, Scope, formalMeaning, declMeaning, agree}
 use Rattle.laws.specs.Tests.{split, none≢some, some-inj}
 use Rattle.laws.specs.Lists.{getElem-after, getElem?-map}
 use Rattle.laws.specs.Each.{Each}
-use Rattle.grammar.specs.Rules.{Visible, Keeps}
+use Rattle.grammar.specs.Rules.{Keeps}
 use Rattle.frames.specs.Frame.{Frame, numbered, frameNames, designates, frameNumber, declOf, kindOf}
-use Rattle.frames.specs.Numbered.{numbered-at, numbered-low, numbered-high}
+use Rattle.frames.specs.Numbered.{numbered-at, numbered-high}
 use Rattle.frame_laws.specs.Finding.{declOf-found, kindOf-found, finally-declared}
-use Rattle.coordinates.specs.Enclosure.{Enclosing, Coordinate, coordinateOf, Encloses}
+use Rattle.coordinates.specs.Enclosure.{Enclosing, Encloses}
 use Rattle.coordinates.specs.Chain.{enclosing, enclosureOf, levelOf, climb, Chained}
 use Rattle.coordinates.specs.Coordinates.{instanceAt, declaring-frame, designates-by-links}
 use Rattle.coordinates.specs.Kept.{chained-downward}
 use Rattle.coordinates.specs.Levels.{names-bound}
-use Rattle.coordinates.specs.Visible.{meaningsOf, scopeOf, Located, visible-coordinate}
-use Rattle.coordinates.specs.Designated.{Designated, Wired, name-designated, number-of, place-of}
+use Rattle.coordinates.specs.Visible.{meaningsOf, scopeOf, visible-coordinate}
+use Rattle.coordinates.specs.Designated.{Designated, Wired, number-of, place-of}
 use Rattle.coordinates.specs.Next.{Resolved}
 use Rattle.resolved.specs.Resolved.{kindIn, direct, nameWord, resolvedFormals, Covers}
-use Rattle.resolved.specs.NameWords.{NameIs, name-is}
+use Rattle.resolved.specs.NameWords.{name-is}
 use Rattle.arrays.specs.Holds.{Holds}
-use Rattle.arrays.specs.Names.{NameAt, named-by-links}
+use Rattle.arrays.specs.Names.{named-by-links}
 use Rattle.arrays.specs.Found.{direct-is}
 use Rattle.acting.specs.Effects.{sameKinds}
 use Rattle.acting.specs.Acting.{Finding, Scene, setAll, argumentsFrom}
@@ -132,18 +132,6 @@ module _ (t : Block) (keeps : Keeps t) (fs : List Frame) (chain : Chained t fs) 
       ((k, ap kindIn (c .0) ∙ named .kind k (r .0 .instance), kind-designated fs (designates fs a) k (r .0 .instance)), kinds-stand code blocks nexts links words holds (from + 1) xs (c .1) (r .1))
 
   -- The script check
-
-  kind-known : (n : ℕ) (m : Meaning) → lookup n scope ≡ some m → kindInScope scope n ≡ some (m .kind)
-  unfolding kindInScope
-  kind-known n m e = rw (e, kindInScope)
-
-  pub kinds-known : (xs : List ℕ) → Each (Visible scope) xs → map (kindInScope scope) xs ≡ map (kindOf fs) (map (designates fs) xs)
-  kinds-known [] v = refl
-  kinds-known (a ∷ xs) v =
-      let m = v .0 .0 in
-      let p : kindInScope scope a ≡ kindOf fs (designates fs a) = kind-known a m (v .0 .1) ∙ sym (kind-designated fs (designates fs a) (m .kind) (name-designated t keeps fs chain wired a m (v .0 .1))) in
-      let r = kinds-known xs (v .1) in
-      λ i. p i ∷ r i
 
   -- the declaration that a meaning past the formals comes from
   meaning-declared : (e : Enclosing) (p : ℕ) (x : ℕ × Meaning) → numbered (meaningsOf e) p ≡ some x → length (e .formals) < p

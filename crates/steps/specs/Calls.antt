@@ -1,5 +1,5 @@
 -- CL: what the arrays come to is what the frame machine does. `call-means`: by a name that is no formal, where the script check has seen to the
--- arguments; `call-formal-means`: by a formal, where number and kinds are compared first (26 before 22).
+-- arguments; `call-formal-means`: by a formal, where number and kinds are compared first (26 before 22). `body-bounds`: where the body stands.
 use Prim.Native.Nat.{ℕ, suc, pred, _+_, _-_, _*_, _/_, _%_, _≤_, _<_}
 use native.Mathlib.Omega.{arith}
 use mathlib.Core.Bool.{Bool, true, false, _&&_}
@@ -12,7 +12,7 @@ use lib.IntN.{ℤ, pos}
 use lib.ListN.{length, getD, set, getElem?, length-map}
 use Rattle.language.specs.Text.{Kind, procedure, Formal, Block, Decl, VR, LB, PR, CL, DO, blockAt, blockDecls, declKind, declFormals, declBody, formalKinds}
 use Rattle.language.specs.Encoding.{actionFields, stmtFields}
-use Rattle.language.specs.Scope.{agree, kindIn as kindInScope}
+use Rattle.language.specs.Scope.{agree}
 use Rattle.language.specs.Machine.{Limits}
 use Rattle.language.specs.declared.Stop.the-variants.{NoActivationLeft, ArgumentsDiffer}
 use Rattle.laws.specs.Tests.{split}
@@ -20,23 +20,25 @@ use Rattle.laws.specs.Lists.{getD-elem, getElem-bound, getElem?-map, image-at}
 use Rattle.laws.specs.Kinds.{agree-many}
 use Rattle.laws.specs.Each.{Each, each-at}
 use Rattle.grammar.specs.Rules.{FormedAction, ScopedAction}
-use Rattle.frames.specs.Frame.{Frame, acted, halted, numbered, designates, frameNumber, place, declOf, kindOf, mapAction, newFrame, withFrames, frameStmt, frameStep}
+use Rattle.frames.specs.Frame.{Frame, acted, numbered, designates, frameNumber, place, declOf, kindOf, mapAction, newFrame, withFrames, frameStmt}
 use Rattle.frames.specs.Numbered.{numbered-low, numbered-high}
 use Rattle.frame_laws.specs.Actions.{calls, calls-full, calls-differing}
 use Rattle.frame_laws.specs.Continuing.{declOf-advanced, kindOf-advanced, step-acts}
-use Rattle.coordinates.specs.Enclosure.{Enclosing, enclosed, Enclosure, as-body, Encloses}
+use Rattle.coordinates.specs.Enclosure.{enclosed, Enclosure, as-body, Encloses}
 use Rattle.coordinates.specs.Chain.{enclosing, enclosureOf}
 use Rattle.coordinates.specs.Search.{enclosure-step}
 use Rattle.coordinates.specs.Levels.{enclosure-of-text, frame-encloses}
 use Rattle.coordinates.specs.Moves.{declared-in}
 use Rattle.coordinates.specs.Designated.{Designated}
+use Rattle.coordinates.specs.Called.{declared-agrees}
 use Rattle.coordinates.specs.Visible.{actionNames}
 use Rattle.coordinates.specs.Next.{Resolved, NextAction, next-action}
-use Rattle.resolved.specs.Resolved.{placeOf, stmtPlace, declTarget, direct, nameWord, headWord, resolvedFormals, resolvedAction, resolvedStmt, Covers}
+use Rattle.resolved.specs.Resolved.{placeOf, endPlace, stmtPlace, declTarget, direct, nameWord, resolvedFormals, resolvedAction, resolvedStmt, Covers}
 use Rattle.resolved.specs.Lengths.{covers-at}
 use Rattle.resolved.specs.Words.{head-formals}
-use Rattle.resolved.specs.Standing.{head-stands, formals-covered}
-use Rattle.arrays.specs.Holds.{targetOf, formalWord}
+use Rattle.resolved.specs.Standing.{head-stands, formals-covered, formals-before}
+use Rattle.resolved.specs.Places.{block-fields, end-bound}
+use Rattle.arrays.specs.Holds.{formalWord}
 use Rattle.arrays.specs.Cells as cells
 use Rattle.acting.specs.declared.Move.the-variants.{Enter, Stop}
 use Rattle.acting.specs.Effects.{sameKinds}
@@ -46,7 +48,7 @@ use Rattle.steps.specs.Means.{EntersAt, Means}
 use Rattle.steps.specs.Here.{many, numbered-here, live-few, last-is, downward, covered, goes-on-at}
 use Rattle.steps.specs.Going.{sceneOf, ahead, aheadStack, home-found, target-found}
 use Rattle.steps.specs.Entries.{room-none, room-left}
-use Rattle.steps.specs.Arguments.{written-length, written-below, written-at, handed-length, handed-at, kinds-agree, kinds-stand, kinds-known, declared-takes}
+use Rattle.steps.specs.Arguments.{written-length, written-below, written-at, handed-length, handed-at, kinds-agree, kinds-stand, declared-takes}
 
 -- a procedure is declared by a PR
 is-procedure : (d : Decl) → declKind d ≡ procedure → (at n : ℕ) × (gs : List Formal) × (b : Block) × (d ≡ PR at n gs b)
@@ -74,7 +76,7 @@ module _ (F : Finding) (s : Scene) where
   formal-differs e = rw (doCallFormal, e)
 
 module _ {code : List ℕ} {l : Limits} {words : List ℤ} {blocks nexts links : List ℕ} {table : List ℤ} {pairs live at end : ℕ} (w : Standing code l words blocks nexts links table pairs live at end)
-    (F : Finding) (finds : Finds (w .stack .frames) F) (o p : ℕ) (xs : List ℕ) (q : frameStmt (w .frame) ≡ some (DO o (CL p xs))) where
+    (o p : ℕ) (xs : List ℕ) (q : frameStmt (w .frame) ≡ some (DO o (CL p xs))) where
   abbrev fs : List Frame
   fs = w .stack .frames
 
@@ -99,7 +101,7 @@ module _ {code : List ℕ} {l : Limits} {words : List ℤ} {blocks nexts links :
   unfolding actionNames
   given = next .names .1
 
-  few : length xs ≤ 32
+  pub few : length xs ≤ 32
   unfolding FormedAction
   few = next .formed .few
 
@@ -109,7 +111,7 @@ module _ {code : List ℕ} {l : Limits} {words : List ℤ} {blocks nexts links :
   unfolding resolvedStmt resolvedAction
   word-is = (covered w (DO o (CL p xs)) q) .1 .0
 
-  count-is : getD code (at + 2) 0 ≡ length xs
+  pub count-is : getD code (at + 2) 0 ≡ length xs
   unfolding resolvedStmt resolvedAction
   count-is =
       let two : at + 2 ≡ at + 1 + 1 = omega arith in
@@ -121,7 +123,7 @@ module _ {code : List ℕ} {l : Limits} {words : List ℤ} {blocks nexts links :
       let three : at + 1 + 1 + 1 ≡ at + 3 = omega arith in
       subst (λ i. Covers code i (map (nameWord es) xs)) three ((covered w (DO o (CL p xs)) q) .1 .1 .1)
 
-  argument-is : (i a : ℕ) → getElem? xs i ≡ some a → getD code (at + 3 + i) 0 ≡ nameWord es a
+  pub argument-is : (i a : ℕ) → getElem? xs i ≡ some a → getD code (at + 3 + i) 0 ≡ nameWord es a
   argument-is i a e =
       covers-at code (at + 3) (map (nameWord es) xs) arguments-covered i (omega (arith, getElem-bound xs i a e, length-map xs (nameWord es)))
       ∙ getD-elem (map (nameWord es) xs) i (nameWord es a) 0 (getElem?-map (nameWord es) xs i ∙ ap (Option·map (nameWord es)) e)
@@ -162,10 +164,6 @@ module _ {code : List ℕ} {l : Limits} {words : List ℤ} {blocks nexts links :
   unfolding enclosing
   body-encloses = (as-body (place x - length (home .0 .formals)) (found .0) (found .1) (home .2), around)
 
-  target-is : F .target (getD code (at + 1) 0) ≡ placeOf (blockAt body)
-  unfolding declTarget
-  target-is = target-found w F finds p called 1 word-is ∙ cells.target-found fs x (home .0) (PR (found .0) (found .1) gs body) (home .1) declared
-
   -- whether the arguments are as the formals
 
   abbrev agreed : Bool
@@ -179,74 +177,14 @@ module _ {code : List ℕ} {l : Limits} {words : List ℤ} {blocks nexts links :
   unfolding withFrames
   declared-ahead = declOf-advanced (w .stack) (w .below) (w .frame) (suc (w .frame .next)) (w .frames-are) x ∙ declared
 
-  -- entering the body
-
-  abbrev handedWords : List ℤ
-  handedWords = argumentsFrom F (sceneOf w) (at + 3) (getD code (at + 2) 0)
-
-  handed-word : (i y : ℕ) → getElem? ys i ≡ some y → getD (setAll words (32 * live + 32) handedWords) (32 * suc live + i) (pos 0) ≡ pos (formalWord fs y)
-  handed-word i y e =
-      let a = image-at (designates fs) xs i y e in
-      let b : i < getD code (at + 2) 0 = omega (arith, count-is, getElem-bound xs i (a .0) (a .1)) in
-      let n : 32 * suc live + i ≡ 32 * live + 32 + i = omega arith in
-      let room : 32 * live + 32 + length handedWords ≤ length words = omega (arith, handed-length F (sceneOf w) (at + 3) (getD code (at + 2) 0), count-is, few, w .words-long, live-few w) in
-      ap (λ k. getD (setAll words (32 * live + 32) handedWords) k (pos 0)) n
-      ∙ written-at words (32 * live + 32) handedWords i _ room (handed-at F (sceneOf w) (at + 3) (getD code (at + 2) 0) i b)
-      ∙ ap (F .handed) (argument-is i (a .0) (a .1)) ∙ (finds (a .0) (each-at (Resolved fs) xs i (a .0) (a .1) given)) .handed-is
-      ∙ ap (λ z. pos (formalWord fs z)) (sym (a .2))
-
-  entering : agreed ≡ true → leb (l .activations) (live + 1) ≡ false
-      → EntersAt w (F .target (getD code (at + 1) 0)) (pred (frameNumber x)) (at + 3 + getD code (at + 2) 0) (setAll words (32 * live + 32) handedWords)
-  unfolding withFrames mapAction declFormals declBody
-  entering a e =
-      record {
-        formals = gs;
-        arguments = ys;
-        text = body;
-        room = omega (arith, leb-false (l .activations) (live + 1) e);
-        link-high = omega (arith, numbered-high fs (frameNumber x) (home .0) (home .1), many w);
-        body-is = target-is;
-        back-is = back;
-        encloses = subst (λ k. Encloses (w .program) (enclosed gs body ∷ enclosureOf fs k)) number
-            (subst (λ (os : Enclosure). Encloses (w .program) (enclosed gs body ∷ os)) (sym (enclosure-step fs (downward w) (frameNumber x) (home .0) (home .1))) body-encloses);
-        steps = step-acts l (w .stack) (w .below) (w .frame) o (CL p xs) (w .frames-are) q
-            ∙ calls l (aheadStack w) x ys (PR (found .0) (found .1) gs body) declared-ahead (agreed-ahead ∙ a) (room-left w e)
-            ∙ ap (λ k. acted (withFrames (w .stack) (ahead w ++ (newFrame gs ys body k ∷ [])))) number;
-        count = agree-many (kindOf fs) gs ys a;
-        designate = λ i y c.
-            let b = image-at (designates fs) xs i y c in
-            let r = each-at (Resolved fs) xs i (b .0) (b .1) given in
-            (r .meaning .kind, subst (λ z. Designated fs z (r .meaning .kind)) (sym (b .2)) (r .instance));
-        as-long = written-length words (32 * live + 32) handedWords;
-        kept = λ i h. written-below words (32 * live + 32) handedWords i (omega arith);
-        handed = handed-word;
-      }
-
-  agreeing-means : agreed ≡ true → Means w (doCall F (sceneOf w))
-  unfolding moves rewrites withFrames mapAction declFormals
-  agreeing-means a =
-      split (leb (l .activations) (live + 1))
-      (λ e. subst (Means w) (sym (call-full F (sceneOf w) e)) (
-        step-acts l (w .stack) (w .below) (w .frame) o (CL p xs) (w .frames-are) q
-            ∙ calls-full l (aheadStack w) x ys (PR (found .0) (found .1) gs body) declared-ahead (agreed-ahead ∙ a) (room-none w e),
-        refl,
-        refl,
-      ))
-      (λ e. subst (Means w) (sym (call-enters F (sceneOf w) e))
-      (subst (λ k. EntersAt w (F .target (getD code (at + 1) 0)) k (at + 3 + getD code (at + 2) 0) (setAll words (32 * live + 32) handedWords)) (sym (home-found w F finds p called 1 word-is)) (entering a e), refl))
-
   -- By a name that is no formal
 
   agreed-declared : direct (nameWord es p) ≡ true → agreed ≡ true
-  unfolding ScopedAction
+  unfolding ScopedAction declFormals
   agreed-declared d =
       let m = next .scoped .called in
       let takes = declared-takes (w .program) (w .keeps) fs (w .sound .chained) (w .sound .wired) (enclosure-of-text (w .program) fs (w .sound .chained) (length fs) (w .frame) (ap (numbered fs) (many w) ∙ numbered-here w)) p (m .0) (m .1) d (found .0) (found .1) gs body declared in
-      ap (agree (formalKinds gs)) (sym (kinds-known (w .program) (w .keeps) fs (w .sound .chained) (w .sound .wired) xs (next .scoped .arguments)))
-      ∙ next .scoped .agreed (m .0) (formalKinds gs) (m .1) takes
-
-  pub call-means : direct (nameWord es p) ≡ true → Means w (doCall F (sceneOf w))
-  call-means d = agreeing-means (agreed-declared d)
+      declared-agrees l (w .program) (w .keeps) (w .stack) (w .sound) (w .frame) (last-is w) o p xs q (m .0) (formalKinds gs) (m .1) takes (PR (found .0) (found .1) gs body) declared
 
   -- By a formal
 
@@ -269,19 +207,92 @@ module _ {code : List ℕ} {l : Limits} {words : List ℤ} {blocks nexts links :
       (λ e. (λ i. e i && sameKinds code (at + 3) (placeOf (blockAt body) - 3 * length xs) (length xs))
       ∙ split agreed (λ a. absurd (eqb-false (length gs) (length xs) e (sym (agree-many (kindOf fs) gs ys a) ∙ length-map xs (designates fs)))) (λ a. sym a))
 
-  agree-is : argumentsAgree F (sceneOf w) (F .target (getD code (at + 1) 0)) ≡ agreed
-  unfolding argumentsAgree
-  agree-is =
-      let heads : getD code (F .target (getD code (at + 1) 0)) 0 / 65536 % 256 ≡ length gs = ap (λ k. getD code k 0 / 65536 % 256) target-is ∙ formals-are in
-      (λ i. eqb (heads i) (count-is i) && sameKinds code (at + 3) (target-is i - 3 * count-is i) (count-is i)) ∙ compared
+  module _ (F : Finding) (finds : Finds (w .stack .frames) F) where
+    target-is : F .target (getD code (at + 1) 0) ≡ placeOf (blockAt body)
+    unfolding declTarget
+    target-is = target-found w F finds p called 1 word-is ∙ cells.target-found fs x (home .0) (PR (found .0) (found .1) gs body) (home .1) declared
 
-  pub call-formal-means : Means w (doCallFormal F (sceneOf w))
-  unfolding moves withFrames mapAction declFormals
-  call-formal-means =
-      split agreed (λ a. subst (Means w) (sym (formal-agrees F (sceneOf w) (agree-is ∙ a))) (agreeing-means a))
-      (λ a. subst (Means w) (sym (formal-differs F (sceneOf w) (agree-is ∙ a))) (
-        step-acts l (w .stack) (w .below) (w .frame) o (CL p xs) (w .frames-are) q
-            ∙ calls-differing l (aheadStack w) x ys (PR (found .0) (found .1) gs body) declared-ahead (agreed-ahead ∙ a),
-        refl,
-        refl,
-      ))
+    -- the body stands in the script, behind its formals
+    pub body-bounds : (F .target (getD code (at + 1) 0) < 4096) × (3 * (getD code (F .target (getD code (at + 1) 0)) 0 / 65536 % 256) ≤ F .target (getD code (at + 1) 0))
+    unfolding enclosing endPlace
+    body-bounds =
+        let heads : getD code (F .target (getD code (at + 1) 0)) 0 / 65536 % 256 ≡ length gs = ap (λ k. getD code k 0 / 65536 % 256) target-is ∙ formals-are in
+        let last = end-bound (w .program) (w .keeps) (enclosed gs body) (enclosing (home .0) ∷ enclosureOf fs (home .0 .link)) body-encloses in
+        let behind = formals-before code (w .name) (w .program) (w .keeps) (w .covers) (enclosing (home .0)) (enclosureOf fs (home .0 .link)) around (place x - length (home .0 .formals)) (found .0) (found .1) gs body (home .2) in
+        (omega (arith, target-is, block-fields body), omega (arith, target-is))
+
+    -- entering the body
+
+    abbrev handedWords : List ℤ
+    handedWords = argumentsFrom F (sceneOf w) (at + 3) (getD code (at + 2) 0)
+
+    handed-word : (i y : ℕ) → getElem? ys i ≡ some y → getD (setAll words (32 * live + 32) handedWords) (32 * suc live + i) (pos 0) ≡ pos (formalWord fs y)
+    handed-word i y e =
+        let a = image-at (designates fs) xs i y e in
+        let b : i < getD code (at + 2) 0 = omega (arith, count-is, getElem-bound xs i (a .0) (a .1)) in
+        let n : 32 * suc live + i ≡ 32 * live + 32 + i = omega arith in
+        let room : 32 * live + 32 + length handedWords ≤ length words = omega (arith, handed-length F (sceneOf w) (at + 3) (getD code (at + 2) 0), count-is, few, w .words-long, live-few w) in
+        ap (λ k. getD (setAll words (32 * live + 32) handedWords) k (pos 0)) n
+        ∙ written-at words (32 * live + 32) handedWords i _ room (handed-at F (sceneOf w) (at + 3) (getD code (at + 2) 0) i b)
+        ∙ ap (F .handed) (argument-is i (a .0) (a .1)) ∙ (finds (a .0) (each-at (Resolved fs) xs i (a .0) (a .1) given)) .handed-is
+        ∙ ap (λ z. pos (formalWord fs z)) (sym (a .2))
+
+    entering : agreed ≡ true → leb (l .activations) (live + 1) ≡ false
+        → EntersAt w (F .target (getD code (at + 1) 0)) (pred (frameNumber x)) (at + 3 + getD code (at + 2) 0) (setAll words (32 * live + 32) handedWords)
+    unfolding withFrames mapAction declFormals declBody
+    entering a e =
+        record {
+          formals = gs;
+          arguments = ys;
+          text = body;
+          room = omega (arith, leb-false (l .activations) (live + 1) e);
+          link-high = omega (arith, numbered-high fs (frameNumber x) (home .0) (home .1), many w);
+          body-is = target-is;
+          back-is = back;
+          encloses = subst (λ k. Encloses (w .program) (enclosed gs body ∷ enclosureOf fs k)) number
+              (subst (λ (os : Enclosure). Encloses (w .program) (enclosed gs body ∷ os)) (sym (enclosure-step fs (downward w) (frameNumber x) (home .0) (home .1))) body-encloses);
+          steps = step-acts l (w .stack) (w .below) (w .frame) o (CL p xs) (w .frames-are) q
+              ∙ calls l (aheadStack w) x ys (PR (found .0) (found .1) gs body) declared-ahead (agreed-ahead ∙ a) (room-left w e)
+              ∙ ap (λ k. acted (withFrames (w .stack) (ahead w ++ (newFrame gs ys body k ∷ [])))) number;
+          count = agree-many (kindOf fs) gs ys a;
+          designate = λ i y c.
+              let b = image-at (designates fs) xs i y c in
+              let r = each-at (Resolved fs) xs i (b .0) (b .1) given in
+              (r .meaning .kind, subst (λ z. Designated fs z (r .meaning .kind)) (sym (b .2)) (r .instance));
+          as-long = written-length words (32 * live + 32) handedWords;
+          kept = λ i h. written-below words (32 * live + 32) handedWords i (omega arith);
+          handed = handed-word;
+        }
+
+    agreeing-means : agreed ≡ true → Means w (doCall F (sceneOf w))
+    unfolding moves rewrites withFrames mapAction declFormals
+    agreeing-means a =
+        split (leb (l .activations) (live + 1))
+        (λ e. subst (Means w) (sym (call-full F (sceneOf w) e)) (
+          step-acts l (w .stack) (w .below) (w .frame) o (CL p xs) (w .frames-are) q
+              ∙ calls-full l (aheadStack w) x ys (PR (found .0) (found .1) gs body) declared-ahead (agreed-ahead ∙ a) (room-none w e),
+          refl,
+          refl,
+        ))
+        (λ e. subst (Means w) (sym (call-enters F (sceneOf w) e))
+        (subst (λ k. EntersAt w (F .target (getD code (at + 1) 0)) k (at + 3 + getD code (at + 2) 0) (setAll words (32 * live + 32) handedWords)) (sym (home-found w F finds p called 1 word-is)) (entering a e), refl))
+
+    pub call-means : direct (nameWord es p) ≡ true → Means w (doCall F (sceneOf w))
+    call-means d = agreeing-means (agreed-declared d)
+
+    agree-is : argumentsAgree F (sceneOf w) (F .target (getD code (at + 1) 0)) ≡ agreed
+    unfolding argumentsAgree
+    agree-is =
+        let heads : getD code (F .target (getD code (at + 1) 0)) 0 / 65536 % 256 ≡ length gs = ap (λ k. getD code k 0 / 65536 % 256) target-is ∙ formals-are in
+        (λ i. eqb (heads i) (count-is i) && sameKinds code (at + 3) (target-is i - 3 * count-is i) (count-is i)) ∙ compared
+
+    pub call-formal-means : Means w (doCallFormal F (sceneOf w))
+    unfolding moves withFrames mapAction declFormals
+    call-formal-means =
+        split agreed (λ a. subst (Means w) (sym (formal-agrees F (sceneOf w) (agree-is ∙ a))) (agreeing-means a))
+        (λ a. subst (Means w) (sym (formal-differs F (sceneOf w) (agree-is ∙ a))) (
+          step-acts l (w .stack) (w .below) (w .frame) o (CL p xs) (w .frames-are) q
+              ∙ calls-differing l (aheadStack w) x ys (PR (found .0) (found .1) gs body) declared-ahead (agreed-ahead ∙ a),
+          refl,
+          refl,
+        ))

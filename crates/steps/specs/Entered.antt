@@ -1,40 +1,38 @@
 -- After an entry. `body-head`: what stands at the place of the block that is entered. `entered`: with the records of the new activation written
 -- and its own names' words cleared, the engine stands at the first statement of the block; `shows`, there: the display of the link with one
 -- entry more is the display then.
-use Prim.Native.Nat.{ℕ, suc, pred, _+_, _*_, _/_, _%_, _≤_, _<_}
+use Prim.Native.Nat.{ℕ, suc, _+_, _*_, _/_, _%_, _≤_, _<_}
 use native.Mathlib.Omega.{arith}
 use mathlib.Core.List.{List, [], _∷_, _++_}
 use mathlib.Core.Option.{some}
 use mathlib.Core.Path.{_≡_, refl, sym, ap, _∙_, subst}
 use lib.IntN.{ℤ, pos}
 use lib.ListN.{length, getD, set, getElem?, length-set}
-use lib.Seq.{getD-set-same, getD-set-other}
-use Rattle.language.specs.Text.{Block, blockAt, blockDecls}
+use Rattle.language.specs.Basics.{butLast}
+use Rattle.language.specs.Text.{blockDecls}
 use Rattle.language.specs.Machine.{Limits}
 use Rattle.laws.specs.Lists.{getElem-bound}
-use Rattle.frames.specs.Frame.{Frame, Stack, acted, numbered, frameNumber, newFrame, withFrames, stepped, frameStep}
-use Rattle.frames.specs.Numbered.{numbered-high, numbered-append}
+use Rattle.frames.specs.Frame.{Frame, Stack, frameNumber, continue, newFrame, withFrames, stepped}
+use Rattle.frames.specs.Numbered.{numbered-high}
 use Rattle.frame_laws.specs.Bounds.{BoundedFrames}
 use Rattle.frame_laws.specs.BoundedFrames.{bounded-first}
-use Rattle.coordinates.specs.Enclosure.{Enclosing, enclosed, Enclosure, Encloses}
-use Rattle.coordinates.specs.Chain.{enclosureOf, levelOf, displayFrom, displayOf, Downward}
+use Rattle.frame_laws.specs.Innermost.{butLast-innermost}
+use Rattle.coordinates.specs.Enclosure.{enclosed}
+use Rattle.coordinates.specs.Chain.{enclosureOf, levelOf}
 use Rattle.coordinates.specs.Coordinates.{level-of-text}
-use Rattle.coordinates.specs.Display.{display-alike, display-length}
-use Rattle.coordinates.specs.Kept.{chained-downward}
 use Rattle.coordinates.specs.Sound.{Sound}
-use Rattle.resolved.specs.Resolved.{placeOf, endPlace, stmtPlace, headWord, boundsWord}
+use Rattle.resolved.specs.Resolved.{endPlace, stmtPlace, headWord, boundsWord}
 use Rattle.resolved.specs.Standing.{head-stands, bounds-stands}
 use Rattle.resolved.specs.Words.{head-level, head-formals, head-names, bounds-end, bounds-first}
-use Rattle.arrays.specs.Holds.{formalWord, Holds, Shows}
-use Rattle.arrays.specs.Cells.{word-alike}
-use Rattle.arrays.specs.Moves.{Enters, holds-entered}
-use Rattle.arrays.specs.Displays.{ShowsFrom, shows-entered}
+use Rattle.arrays.specs.Holds.{Holds, Shows}
+use Rattle.arrays.specs.Running.{holds-pushed}
+use Rattle.arrays.specs.Displays.{ShowsFrom, shows-pushed}
 use Rattle.acting.specs.Effects.{Cleared}
 use Rattle.steps.specs.Standing.{Standing}
 use Rattle.steps.specs.Means.{Follows, EntersAt}
-use Rattle.steps.specs.Here.{many, live-few, downward}
+use Rattle.steps.specs.Here.{many, last-is, live-few, downward}
 use Rattle.steps.specs.Loop.{sound-after, follows-step}
-use Rattle.steps.specs.Going.{like-outlines, ahead, ahead-like, ahead-many, ahead-held}
+use Rattle.steps.specs.Going.{ahead, ahead-many}
 
 module _ {code : List ℕ} {l : Limits} {words : List ℤ} {blocks nexts links : List ℕ} {table : List ℤ} {pairs live at end : ℕ} (w : Standing code l words blocks nexts links table pairs live at end)
     (body link back : ℕ) (words′ : List ℤ) (j : EntersAt w body link back words′) where
@@ -73,13 +71,6 @@ module _ {code : List ℕ} {l : Limits} {words : List ℤ} {blocks nexts links :
   sound : Sound l (w .program) (stepped after)
   sound = sound-after w after (j .steps)
 
-  chained-down : Downward gs
-  unfolding stepped withFrames
-  chained-down = chained-downward (w .program) gs (sound .chained)
-
-  ahead-down : Downward (ahead w)
-  ahead-down k f e = chained-down k f (numbered-append (ahead w) (new ∷ []) k (numbered-high (ahead w) k f e) ∙ e)
-
   bounded : BoundedFrames (ahead w)
   unfolding stepped withFrames
   bounded = bounded-first (ahead w) (new ∷ []) (sound .bounded .each)
@@ -90,48 +81,31 @@ module _ {code : List ℕ} {l : Limits} {words : List ℤ} {blocks nexts links :
   room : live + 1 < 256
   room = omega (arith, j .room, w .sound .limit)
 
-  display-same : (k : ℕ) → k ≤ suc live → displayFrom (ahead w) k ≡ displayFrom (w .stack .frames) k
-  display-same k h = display-alike (w .stack .frames) (ahead w) (length (w .stack .frames)) (like-outlines (w .stack .frames) (ahead w) (ahead-like w) (length (w .stack .frames))) (downward w) k (omega (arith, many w))
+  under : butLast (w .stack .frames) ≡ w .below
+  under = butLast-innermost (w .stack) (w .below) (w .frame) (w .frames-are)
+
+  one : suc live ≡ live + 1
+  one = omega arith
 
   -- arguments lie in the frames before
   given : (i x : ℕ) → getElem? (j .arguments) i ≡ some x → frameNumber x ≤ length (w .stack .frames)
   given i x e = let d = j .designate i x e in numbered-high (w .stack .frames) (frameNumber x) (d .1 .home) (d .1 .stands)
 
   module _ (words″ : List ℤ) (cleared : Cleared words′ (32 * (live + 1) + length (j .formals)) (32 * (live + 1) + (length (j .formals) + length (blockDecls (j .text)))) words″) where
-    abbrev nexts′ : List ℕ
-    nexts′ = set nexts live back
-
-    abbrev held-nexts : List ℕ
-    held-nexts = set nexts′ (live + 1) (stmtPlace (j .text) 1)
-
-    same-next : set nexts live (stmtPlace (w .frame .text) (suc (w .frame .next))) ≡ nexts′
-    same-next = ap (set nexts live) (sym (j .back-is))
-
-    enters : Enters (ahead w) (j .arguments) (j .text) (suc link) blocks nexts′ links words (set blocks (live + 1) body) held-nexts (set links (live + 1) link) words″
-    enters =
-        let n = length-set nexts live back in
-        record {
-          blocks-below = λ k h. getD-set-other blocks (live + 1) k body 0 (λ c. omega (arith, deep));
-          nexts-below = λ k h. getD-set-other nexts′ (live + 1) k (stmtPlace (j .text) 1) 0 (λ c. omega (arith, deep));
-          links-below = λ k h. getD-set-other links (live + 1) k link 0 (λ c. omega (arith, deep));
-          words-below = λ c h. cleared .kept c (omega (arith, deep)) ∙ j .kept c (omega (arith, deep));
-          block-new = ap (λ k. getD (set blocks (live + 1) body) k 0) deep ∙ getD-set-same blocks (live + 1) body 0 (omega (arith, room, w .blocks-long)) ∙ j .body-is;
-          next-new = ap (λ k. getD held-nexts k 0) deep ∙ getD-set-same nexts′ (live + 1) (stmtPlace (j .text) 1) 0 (omega (arith, room, n, w .nexts-long));
-          link-new = ap (λ k. getD (set links (live + 1) link) k 0) deep ∙ getD-set-same links (live + 1) link 0 (omega (arith, room, w .links-long));
-          arguments = λ i x e.
-              let p : 32 * length (ahead w) + i ≡ 32 * suc live + i = omega (arith, deep) in
-              let low = getElem-bound (j .arguments) i x e in
-              ap (λ k. getD words″ k (pos 0)) p ∙ cleared .kept (32 * suc live + i) (omega (arith, j .count)) ∙ j .handed i x e
-              ∙ ap pos (sym (word-alike (w .stack .frames) (ahead w) (length (w .stack .frames)) (like-outlines (w .stack .frames) (ahead w) (ahead-like w) (length (w .stack .frames))) x (given i x e)));
-          others = λ i p q.
-              let k : 32 * length (ahead w) + i ≡ 32 * (live + 1) + i = omega (arith, deep) in
-              ap (λ c. getD words″ c (pos 0)) k ∙ cleared .zeros (32 * (live + 1) + i) (omega (arith, j .count)) (omega (arith, j .count));
-        }
-
-    held : Holds gs (set blocks (live + 1) body) held-nexts (set links (live + 1) link) words″
+    held : Holds gs (set blocks (live + 1) body) (set (set nexts live back) (live + 1) (stmtPlace (j .text) 1)) (set links (live + 1) link) words″
     held =
-        holds-entered (ahead w) blocks nexts′ links words bounded (subst (λ (ns : List ℕ). Holds (ahead w) blocks ns links words) same-next (ahead-held w)) (j .formals) (j .arguments) (j .text) (suc link) (j .count)
-        (λ i x e. omega (arith, given i x e, ahead-like w .count)) (set blocks (live + 1) body) held-nexts (set links (live + 1) link) words″ enters
+        let fs = w .stack .frames in
+        let few = live-few w in
+        let n = many w in
+        let z : 32 * length fs ≡ 32 * suc live = ap (λ k. 32 * k) n in
+        let h = holds-pushed fs blocks nexts links words (w .sound .bounded .each) live at n (omega (arith, w .nexts-long)) (w .holds) (w .frame) (last-is w) (suc (w .frame .next))
+        (subst (λ (ps : List Frame). BoundedFrames (ps ++ (continue (w .frame) (suc (w .frame .next)) ∷ []))) (sym under) bounded) (j .formals) (j .arguments) (j .text) (suc link) (j .count) given words″
+        (λ c p. cleared .kept c (omega arith) ∙ j .kept c (omega arith))
+        (λ i x e. ap (λ c. getD words″ (c + i) (pos 0)) z ∙ cleared .kept (32 * suc live + i) (omega (arith, getElem-bound (j .arguments) i x e, j .count)) ∙ j .handed i x e)
+        (λ i p q. ap (λ c. getD words″ (c + i) (pos 0)) z ∙ cleared .zeros (32 * suc live + i) (omega (arith, j .count)) (omega (arith, j .count)))
+        (omega (arith, room, w .blocks-long)) (omega (arith, room, w .nexts-long)) (omega (arith, room, w .links-long)) in
+        subst (λ (T : Type 0). T)
+        (λ i. Holds ((under i ++ (continue (w .frame) (suc (w .frame .next)) ∷ [])) ++ (new ∷ [])) (set blocks (one i) (sym (j .body-is) i)) (set (set nexts live (sym (j .back-is) i)) (one i) (stmtPlace (j .text) 1)) (set links (one i) link) words″) h
 
     pub record Entered : Type 0 where
       pub standing : Standing code l words″ (set blocks (live + 1) body) (set nexts live back) (set links (live + 1) link) table pairs (live + 1) (stmtPlace (j .text) 1) (endPlace (j .text))
@@ -142,11 +116,10 @@ module _ {code : List ℕ} {l : Limits} {words : List ℤ} {blocks nexts links :
     shown : (display : List ℕ) → suc (levelOf (w .stack .frames) (suc link)) < length display → ShowsFrom (w .stack .frames) (suc link) display
         → Shows gs (set display (suc (levelOf (w .stack .frames) (suc link))) (32 * (live + 1)))
     shown display h shows =
-        let same = display-same (suc link) (omega (arith, j .link-high)) in
-        let level : levelOf (ahead w) (suc link) ≡ levelOf (w .stack .frames) (suc link) = sym (display-length (ahead w) (suc link)) ∙ ap length same ∙ display-length (w .stack .frames) (suc link) in
-        let from : ShowsFrom (ahead w) (suc link) display = λ i m e. shows i m (ap (λ (ms : List ℕ). numbered ms i) (sym same) ∙ e) in
-        let s = shows-entered (ahead w) ahead-down display (j .formals) (j .arguments) (j .text) (suc link) (omega (arith, deep, j .link-high)) (omega arith) from in
-        subst (λ k. Shows gs (set display (suc k) (32 * (live + 1)))) level (subst (λ k. Shows gs (set display (suc (levelOf (ahead w) (suc link))) (32 * k))) deep s)
+        let n : length (w .stack .frames) ≡ live + 1 = many w ∙ one in
+        subst (λ (T : Type 0). T)
+        (λ i. Shows ((under i ++ (continue (w .frame) (suc (w .frame .next)) ∷ [])) ++ (new ∷ [])) (set display (suc (levelOf (w .stack .frames) (suc link))) (32 * n i)))
+        (shows-pushed (w .stack .frames) (downward w) (w .frame) (last-is w) (suc (w .frame .next)) display (j .formals) (j .arguments) (j .text) (suc link) (omega (arith, j .link-high)) h shows)
 
     pub entered : Entered
     unfolding stepped withFrames newFrame

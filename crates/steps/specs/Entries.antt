@@ -1,6 +1,6 @@
 -- BK: what the arrays come to is what the frame machine does (`block-means`). `room-none`, `room-left`: whether there is room for one activation
 -- more is the same question on the arrays and in the frame machine.
-use Prim.Native.Nat.{ℕ, suc, _+_, _*_, _%_, _≤_, _<_}
+use Prim.Native.Nat.{ℕ, suc, _+_, _%_}
 use native.Mathlib.Omega.{arith}
 use mathlib.Core.Bool.{true, false}
 use mathlib.Core.List.{List, [], _∷_, _++_}
@@ -10,18 +10,18 @@ use borrow.Author.Tests.{leb-true, leb-false, lt-ltb, le-ltb}
 use lib.Dec.{leb, ltb}
 use lib.IntN.{ℤ}
 use lib.ListN.{length, getD}
-use Rattle.language.specs.Text.{Block, block, BK, blockAt, stmtAt}
+use Rattle.language.specs.Text.{Block, block, BK, stmtAt}
 use Rattle.language.specs.Encoding.{blockFields}
 use Rattle.language.specs.Machine.{Limits}
 use Rattle.language.specs.declared.Stop.the-variants.{NoActivationLeft}
 use Rattle.laws.specs.Tests.{split, none≢some}
-use Rattle.frames.specs.Frame.{Frame, acted, newFrame, withFrames, frameStmt, frameStep}
+use Rattle.frames.specs.Frame.{acted, newFrame, withFrames, frameStmt}
 use Rattle.frame_laws.specs.Actions.{enters, enters-full}
 use Rattle.frame_laws.specs.Innermost.{step-does}
-use Rattle.coordinates.specs.Enclosure.{Enclosing, enclosed, Enclosure, Encloses}
+use Rattle.coordinates.specs.Enclosure.{enclosed, Enclosure, Encloses}
 use Rattle.coordinates.specs.Chain.{enclosureOf}
 use Rattle.coordinates.specs.Next.{next-block}
-use Rattle.resolved.specs.Resolved.{placeOf, endPlace, stmtPlace, boundsWord, header, resolvedStmt, Covers}
+use Rattle.resolved.specs.Resolved.{endPlace, stmtPlace, boundsWord, header, resolvedStmt, Covers}
 use Rattle.resolved.specs.Words.{bounds-end}
 use Rattle.acting.specs.declared.Move.the-variants.{Enter, Stop}
 use Rattle.acting.specs.Acting.{Finding, Scene, field, moves, noRoom, doBlock}

@@ -2,13 +2,13 @@
 -- those before it (`ahead-like`), keep the bounds (`ahead-bounded`), and the arrays hold them with the place behind the statement
 -- (`ahead-holds`). `goes-on`: a step that leaves frames like these, held by the arrays, is one after which the engine goes on; `stays-on`: so is
 -- one that stores nothing, `stores-on`: and one that stores a word. `cell-found`, `value-found`: a name's cell and value, as an engine finds it.
-use Prim.Native.Nat.{ℕ, zero, suc, pred, _+_, _*_, _≤_, _<_}
+use Prim.Native.Nat.{ℕ, suc, pred, _+_, _*_, _≤_}
 use native.Mathlib.Omega.{arith}
 use mathlib.Core.List.{List, [], _∷_, _++_}
-use mathlib.Core.Option.{none, some, Option·map}
+use mathlib.Core.Option.{some, Option·map}
 use mathlib.Core.Path.{_≡_, refl, sym, ap, _∙_, subst}
 use lib.IntN.{ℤ, pos}
-use lib.ListN.{length, getD, set, getElem?, length-set}
+use lib.ListN.{length, getD, set, length-set}
 use Rattle.language.specs.Basics.{last?, butLast}
 use Rattle.language.specs.Text.{Kind, Stmt}
 use Rattle.language.specs.Encoding.{stmtFields}
@@ -34,8 +34,8 @@ use Rattle.arrays.specs.Cells.{name-points}
 use Rattle.arrays.specs.Storing.{word-held, holds-stored}
 use Rattle.arrays.specs.Running.{holds-on}
 use Rattle.acting.specs.Acting.{Finding, Scene}
-use Rattle.steps.specs.Standing.{Standing, FindsName, Finds}
-use Rattle.steps.specs.Means.{Follows, GoesOn}
+use Rattle.steps.specs.Standing.{Standing, Finds}
+use Rattle.steps.specs.Means.{GoesOn}
 use Rattle.steps.specs.Here.{many, last-is, here, live-few, downward, goes-on-at}
 use Rattle.steps.specs.Loop.{sound-after, follows-step}
 use mathlib.Core.Logic.{inr}

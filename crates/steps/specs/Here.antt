@@ -1,28 +1,27 @@
 -- What is known of an engine between two steps (`Standing`): `many`, `last-is`, `here`: which of its frames is the innermost; `at-is`: the place
 -- `at` is that of its next statement; `ended`: at the end of the text there is none; `next-stmt`: before the end there is one, and of it
 -- `stands-at` (its place), `covered` (its words in the resolved script) and `goes-on-at` (the place behind it).
-use Prim.Native.Nat.{ℕ, zero, suc, pred, _+_, _*_, _≤_, _<_}
+use Prim.Native.Nat.{ℕ, suc, pred, _+_, _*_, _≤_, _<_}
 use native.Mathlib.Omega.{arith}
 use mathlib.Core.List.{List, [], _∷_, _++_}
-use mathlib.Core.Bool.{true, false}
 use mathlib.Core.Option.{none, some}
-use mathlib.Core.Path.{_≡_, refl, sym, ap, _∙_, subst}
+use mathlib.Core.Path.{_≡_, sym, ap, _∙_, subst}
 use borrow.Author.Tests.{ltb-true, ltb-false}
 use lib.Dec.{ltb}
 use lib.IntN.{ℤ}
 use lib.ListN.{length, getD, set, getElem?}
 use lib.Seq.{getD-set-same}
 use Rattle.language.specs.Basics.{last?}
-use Rattle.language.specs.Text.{Stmt, Block, blockStmts, stmtAt}
+use Rattle.language.specs.Text.{Stmt, blockStmts, stmtAt}
 use Rattle.language.specs.Encoding.{stmtFields}
 use Rattle.language.specs.Machine.{Limits}
-use Rattle.laws.specs.Tests.{split}
+use Rattle.laws.specs.Tests.{split, some-inj}
 use Rattle.laws.specs.Lists.{snoc-length, getElem-seam, getElem-none, getElem-in}
 use Rattle.frames.specs.Frame.{Frame, numbered, frameStmt}
 use Rattle.frames.specs.Numbered.{numbered-suc}
-use Rattle.frame_laws.specs.Bounds.{FrameBounded, BoundedFrames}
+use Rattle.frame_laws.specs.Bounds.{FrameBounded}
 use Rattle.frame_laws.specs.Innermost.{last-innermost}
-use Rattle.coordinates.specs.Enclosure.{Enclosure, Encloses}
+use Rattle.coordinates.specs.Enclosure.{Encloses}
 use Rattle.coordinates.specs.Chain.{enclosing, enclosureOf, Downward}
 use Rattle.coordinates.specs.Kept.{chained-downward}
 use Rattle.coordinates.specs.Levels.{frame-encloses, in-innermost}
@@ -44,6 +43,9 @@ module _ {code : List ℕ} {l : Limits} {words : List ℤ} {blocks nexts links :
 
   pub numbered-here : numbered (w .stack .frames) (suc live) ≡ some (w .frame)
   numbered-here = numbered-suc (w .stack .frames) live ∙ here
+
+  pub same-end : (f : Frame) → numbered (w .stack .frames) (suc live) ≡ some f → endPlace (f .text) ≡ end
+  same-end f e = ap (λ (g : Frame). endPlace (g .text)) (some-inj (sym e ∙ numbered-here)) ∙ sym (w .end-is)
 
   pub within-limit : suc live ≤ l .activations
   within-limit = omega (arith, many, w .sound .bounded .live)

@@ -1,6 +1,6 @@
 -- GO and IF: what the arrays come to is what the frame machine does (`goto-means`, `branch-means`). `jumps-to`: a jump to what a name designates, a
 -- label, leads to the label's activation and to the place of its statement.
-use Prim.Native.Nat.{ℕ, suc, pred, _+_, _≤_, _<_}
+use Prim.Native.Nat.{ℕ, suc, pred, _+_, _≤_}
 use native.Mathlib.Omega.{arith}
 use mathlib.Core.Bool.{true, false}
 use mathlib.Core.List.{List, [], _∷_, _++_}
@@ -16,22 +16,22 @@ use Rattle.language.specs.Text.{variable, label, Block, Decl, VR, LB, PR, GO, I
 use Rattle.language.specs.Encoding.{actionFields, stmtFields}
 use Rattle.language.specs.Machine.{Limits}
 use Rattle.laws.specs.Tests.{split, some-inj}
-use Rattle.frames.specs.Frame.{Frame, Stack, acted, numbered, designates, frameNumber, declOf, continue, mapAction, withFrames, act, frameStmt, frameStep}
+use Rattle.frames.specs.Frame.{Frame, acted, numbered, designates, frameNumber, declOf, continue, mapAction, withFrames, act, frameStmt, frameStep}
 use Rattle.frames.specs.Numbered.{numbered-low, numbered-high, numbered-append, numbered-seam}
 use Rattle.frame_laws.specs.Actions.{goes, passes, jumps}
 use Rattle.frame_laws.specs.Continuing.{declOf-advanced, step-acts}
 use Rattle.coordinates.specs.Designated.{Designated}
 use Rattle.coordinates.specs.Visible.{actionNames}
-use Rattle.coordinates.specs.Next.{NextAction, next-action}
+use Rattle.coordinates.specs.Next.{next-action}
 use Rattle.resolved.specs.Resolved.{stmtPlace, declTarget, resolvedAction, resolvedStmt}
 use Rattle.arrays.specs.Holds.{targetOf}
 use Rattle.arrays.specs.Cells as cells
 use Rattle.acting.specs.declared.Move.the-variants.{On, Jump}
 use Rattle.acting.specs.Acting.{Finding, Scene, valueOf, field, moves, doGoto, doBranch}
 use Rattle.steps.specs.Standing.{Standing, Finds}
-use Rattle.steps.specs.Means.{GoesOn, JumpsTo, Means}
-use Rattle.steps.specs.Here.{many, numbered-here, last-is, covered}
-use Rattle.steps.specs.Going.{sceneOf, ahead, aheadStack, ahead-like, passes-on, home-found, target-found, value-found}
+use Rattle.steps.specs.Means.{JumpsTo, Means}
+use Rattle.steps.specs.Here.{many, last-is, covered}
+use Rattle.steps.specs.Going.{sceneOf, ahead, aheadStack, passes-on, home-found, target-found, value-found}
 
 -- a label leads to the statement with its index
 label-target : (b : Block) (d : Decl) → declKind d ≡ label → declTarget b d ≡ stmtPlace b (labelIndex d)

@@ -3,6 +3,7 @@ pub mod Standing
 pub mod Means
 pub mod Here
 pub mod Ops
+pub mod Counts
 pub mod Loop
 pub mod Going
 pub mod Values
@@ -13,3 +14,6 @@ pub mod Arguments
 pub mod Calls
 pub mod Acts
 pub mod Entered
+pub mod Reads
+pub mod Finding
+pub mod Fields

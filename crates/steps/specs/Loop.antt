@@ -1,41 +1,46 @@
 -- The laws of an engine's loop. At the end of a text the innermost activation is left (`leaves`), or the run has finished where no other is live
 -- (`finishes`); with no step left it is spent (`spent`), and where a statement has a cause to stop it stops there (`stops`). `jumped`: after
--- a jump the engine stands in the label's activation. `begins`: arrays of zeros are where a run starts, and `shows-begun`: so is the display.
-use Prim.Native.Nat.{ℕ, zero, suc, pred, _+_, _-_, _*_, _≤_, _<_}
+-- a jump the engine stands in the label's activation; `shows-by`: what the display must then be. `begins`: arrays of zeros are where a run
+-- starts, and `shows-begun`: so is the display.
+use Prim.Native.Nat.{ℕ, suc, pred, _-_, _*_, _≤_, _<_}
 use native.Mathlib.Omega.{arith}
 use mathlib.Core.Bool.{true}
 use mathlib.Core.List.{List, [], _∷_, _++_}
-use mathlib.Core.Option.{none, some}
+use mathlib.Core.Option.{some}
 use mathlib.Core.Path.{_≡_, refl, sym, ap, _∙_, subst}
 use lib.IntN.{ℤ, pos}
-use lib.ListN.{length, take, getD, set, getElem?, length-set}
-use lib.Seq.{set-getD, getD-set-same, getD-set-other, length-take-le}
-use Rattle.language.specs.Basics.{last?, butLast}
-use Rattle.language.specs.Text.{Block, blockAt, blockDecls}
+use lib.ListN.{length, take, getD, set, getElem?}
+use lib.Seq.{set-getD, getD-set-same, length-take-le}
+use Rattle.language.specs.Basics.{butLast}
+use Rattle.language.specs.Text.{Block}
 use Rattle.language.specs.Table.{Table, right}
 use Rattle.language.specs.Machine.{Limits}
 use Rattle.language.specs.declared.Stop.{Stop}
 use Rattle.language.specs.declared.End.the-variants.{Finished, Spent, Stopped}
 use Rattle.laws.specs.Tests.{by-lookup}
-use Rattle.laws.specs.Lists.{some-last, last-split, snoc-length, getElem-append, getElem-seam, butLast-snoc, getElem-bound}
+use Rattle.laws.specs.Lists.{some-last, last-split, snoc-length, getElem-append, getElem-seam, butLast-snoc}
 use Rattle.grammar.specs.Rules.{Keeps}
-use Rattle.frames.specs.Frame.{Frame, Stack, Acted, acted, halted, numbered, continue, withFrames, stepped, newFrame, frameStmt, frameStep, frameOffset, results, frameRun, frameStart}
+use Rattle.frames.specs.Frame.{Frame, Stack, acted, halted, numbered, continue, withFrames, stepped, newFrame, frameStmt, frameStep, results, frameRun, frameStart}
 use Rattle.frames.specs.Numbered.{numbered-suc, numbered-low, numbered-high}
 use Rattle.frames.specs.Running.{run-finished, run-spent, run-steps, run-stops}
 use Rattle.frame_laws.specs.Innermost.{step-leaves, offset-does}
-use Rattle.frame_laws.specs.Bounds.{BoundedFrames}
 use Rattle.coordinates.specs.Chain.{along, chainOf, levelOf, displayFrom, displayOf, Downward}
 use Rattle.coordinates.specs.Display.{display-after-return, display-after-goto, display-length}
 use Rattle.coordinates.specs.Sound.{Sound, start-sound, step-sound}
-use Rattle.resolved.specs.Resolved.{placeOf, endPlace, stmtPlace, resolvedOf, Covers}
+use Rattle.resolved.specs.Resolved.{endPlace, stmtPlace, resolvedOf, Covers}
 use Rattle.resolved.specs.Places.{block-place}
 use Rattle.arrays.specs.Holds.{Holds, Shows}
 use Rattle.arrays.specs.Moves.{holds-started}
 use Rattle.arrays.specs.Running.{holds-back, holds-jumped}
-use Rattle.arrays.specs.Displays.{shows-entered}
+use Rattle.arrays.specs.Displays.{ShowsFrom, shows-entered}
 use Rattle.steps.specs.Standing.{Standing}
 use Rattle.steps.specs.Means.{Follows, JumpsTo}
-use Rattle.steps.specs.Here.{many, last-is, numbered-here, live-few, downward, ended, even-at}
+use Rattle.steps.specs.Counts.{step-counts}
+use Rattle.steps.specs.Here.{many, live-few, downward, ended, even-at}
+
+-- the display of one frame is that of other frames' innermost one
+pub shows-by : (fs gs : List Frame) (k : ℕ) (display : List ℕ) → displayOf gs ≡ displayFrom fs k → ShowsFrom fs k display → Shows gs display
+shows-by fs gs k display e h j m q = h j m (ap (λ (ms : List ℕ). numbered ms j) (sym e) ∙ q)
 
 module _ {code : List ℕ} {l : Limits} {words : List ℤ} {blocks nexts links : List ℕ} {table : List ℤ} {pairs live at end : ℕ} (w : Standing code l words blocks nexts links table pairs live at end) where
   some-live : 1 ≤ length (w .stack .frames)
@@ -57,7 +62,8 @@ module _ {code : List ℕ} {l : Limits} {words : List ℤ} {blocks nexts links :
 
   -- a step done
   pub follows-step : (v : Stack) → frameStep l (w .stack) ≡ acted v → Follows w (stepped v) (w .program) (w .name)
-  follows-step v e = record { runs = λ n. run-steps l (w .stack) n v some-live e; same-program = refl; same-name = refl }
+  unfolding stepped
+  follows-step v e = record { runs = λ n. run-steps l (w .stack) n v some-live e; counts = ap suc (step-counts l (w .stack) v some-live e); same-program = refl; same-name = refl }
 
   pub sound-after : (v : Stack) → frameStep l (w .stack) ≡ acted v → Sound l (w .program) (stepped v)
   sound-after v e = step-sound (w .program) (w .keeps) l (w .stack) v (w .sound) e

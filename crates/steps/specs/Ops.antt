@@ -1,10 +1,10 @@
 -- Which operation stands at a statement's place. `OpIs es x o`: what is known of the statement x, whose enclosure is es, where its operation is o;
 -- `op-is`: it holds of the operation that the resolved script has there.
-use Prim.Native.Nat.{ℕ, zero, suc, _+_, _%_}
+use Prim.Native.Nat.{ℕ, suc, _+_, _%_}
 use native.Mathlib.Omega.{arith}
 use mathlib.Core.Bool.{Bool, true, false, _&&_}
-use mathlib.Core.List.{List, [], _∷_, map}
-use mathlib.Core.Path.{_≡_, refl, sym, ap, _∙_, subst}
+use mathlib.Core.List.{List, []}
+use mathlib.Core.Path.{_≡_, refl, sym, ap, subst}
 use lib.IntN.{ℤ}
 use lib.ListN.{length, getD}
 use Rattle.language.specs.Text.{Operation, plus, minus, less, Action, CL, GO, IF, KN, AR, AD, RM, QY, Block, block, Stmt, BK, DO}

@@ -1,27 +1,27 @@
 -- AD, RM and QY: what the arrays come to is what the frame machine does (`add-means`, `remove-means`, `query-means`).
-use Prim.Native.Nat.{ℕ, suc, _+_}
+use Prim.Native.Nat.{ℕ, _+_}
 use native.Mathlib.Omega.{arith}
-use mathlib.Core.List.{List, [], _∷_}
+use mathlib.Core.List.{List}
 use mathlib.Core.Option.{some}
 use mathlib.Core.Path.{_≡_, refl, sym, ap, _∙_, subst}
-use lib.IntN.{ℤ, pos}
+use lib.IntN.{ℤ}
 use lib.ListN.{length, getD, set}
 use Rattle.language.specs.Text.{variable, Stmt, AD, RM, QY, DO}
 use Rattle.language.specs.Encoding.{actionFields, stmtFields}
 use Rattle.language.specs.Table.{Table, Effect, leaves, halts, Asked, gives, refuses, added, removed, queried}
 use Rattle.language.specs.Machine.{Limits}
-use Rattle.frames.specs.Frame.{Frame, Stack, acted, halted, designates, wordAt, putWord, mapAction, withFrames, tableChanged, put, asActed, asPut, addTo, removeFrom, ask, act, frameStmt, frameStep}
+use Rattle.frames.specs.Frame.{designates, mapAction, withFrames, put, asActed, asPut, addTo, removeFrom, ask, act, frameStmt, frameStep}
 use Rattle.frame_laws.specs.Bounds.{Points}
 use Rattle.frame_laws.specs.Continuing.{step-acts}
 use Rattle.coordinates.specs.Visible.{actionNames}
-use Rattle.coordinates.specs.Next.{NextAction, next-action}
-use Rattle.resolved.specs.Resolved.{nameWord, resolvedAction, resolvedStmt}
+use Rattle.coordinates.specs.Next.{next-action}
+use Rattle.resolved.specs.Resolved.{resolvedAction, resolvedStmt}
 use Rattle.arrays.specs.Holds.{cellOf}
-use Rattle.acting.specs.Acting.{Finding, Scene, field, valueOf, moves, rewrites, changes, answers, tableNow, doAdd, doRemove, doQuery}
+use Rattle.acting.specs.Acting.{Finding, field, valueOf, moves, rewrites, changes, answers, doAdd, doRemove, doQuery}
 use Rattle.steps.specs.Standing.{Standing, Finds}
 use Rattle.steps.specs.Means.{GoesOn, Means}
 use Rattle.steps.specs.Here.{last-is, covered}
-use Rattle.steps.specs.Going.{sceneOf, ahead, aheadStack, stays-on, stores-on, cell-found, points-found, value-found}
+use Rattle.steps.specs.Going.{sceneOf, aheadStack, stays-on, stores-on, cell-found, points-found, value-found}
 
 module _ {code : List ℕ} {l : Limits} {words : List ℤ} {blocks nexts links : List ℕ} {table : List ℤ} {pairs live at end : ℕ} (w : Standing code l words blocks nexts links table pairs live at end)
     (F : Finding) (finds : Finds (w .stack .frames) F) where

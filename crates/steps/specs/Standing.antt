@@ -1,6 +1,6 @@
 -- An engine between two steps: its arrays hold a sound stack of frames of a script that keeps the rules. `live` is the innermost activation,
 -- counted from 0, `at` the place of its next statement, which has no need to stand in `nexts`, and `end` where its text ends.
-use Prim.Native.Nat.{ℕ, pred, suc, _≤_}
+use Prim.Native.Nat.{ℕ, pred}
 use mathlib.Core.List.{List, [], _∷_, _++_}
 use mathlib.Core.Path.{_≡_}
 use lib.IntN.{ℤ, pos}

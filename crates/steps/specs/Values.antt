@@ -1,36 +1,35 @@
 -- KN and AR: what the arrays come to is what the frame machine does (`constant-means`, `arithmetic-means`).
-use Prim.Native.Nat.{ℕ, suc, _+_, _≤_, _<_}
+use Prim.Native.Nat.{ℕ, _+_}
 use native.Mathlib.Omega.{arith}
-use mathlib.Core.Bool.{Bool, true, false}
-use mathlib.Core.List.{List, [], _∷_}
+use mathlib.Core.Bool.{true, false}
+use mathlib.Core.List.{List}
 use mathlib.Core.Option.{some}
 use mathlib.Core.Path.{_≡_, refl, sym, ap, _∙_, subst}
 use lib.Dec.{ltb}
-use lib.IntN.{ℤ, pos}
-use lib.ListN.{length, getD, set}
+use lib.IntN.{ℤ}
+use lib.ListN.{getD, set}
 use lib.Signed.{mag}
 use Rattle.language.specs.Text.{Operation, plus, minus, less, variable, KN, AR, DO}
-use Rattle.language.specs.Encoding.{operationField, signed, unsigned, actionFields, stmtFields}
+use Rattle.language.specs.Encoding.{operationField, signed, actionFields, stmtFields}
 use Rattle.language.specs.Machine.{Limits, compute}
 use Rattle.language.specs.declared.Stop.the-variants.{ResultTooLarge}
 use Rattle.laws.specs.Tests.{split}
 use Rattle.grammar.specs.Rules.{FormedAction}
 use Rattle.grammar.specs.Words.{signed-unsigned}
-use Rattle.frames.specs.Frame.{Frame, Stack, acted, halted, designates, wordAt, putWord, mapAction, withFrames, frameStmt, frameStep}
+use Rattle.frames.specs.Frame.{designates, mapAction, withFrames, frameStmt}
 use Rattle.frame_laws.specs.Actions.{stores, computes, computes-past}
 use Rattle.frame_laws.specs.Continuing.{step-acts}
 use Rattle.coordinates.specs.Visible.{actionNames}
-use Rattle.coordinates.specs.Next.{NextAction, next-action}
-use Rattle.resolved.specs.Resolved.{nameWord, resolvedAction, resolvedStmt}
-use Rattle.acting.specs.declared.Effect.{Effect}
+use Rattle.coordinates.specs.Next.{next-action}
+use Rattle.resolved.specs.Resolved.{resolvedAction, resolvedStmt}
 use Rattle.acting.specs.declared.Effect.the-variants.{Done, Stopped}
 use Rattle.acting.specs.declared.Move.the-variants.{On, Stop}
 use Rattle.acting.specs.Effects.{effectOf, wordsOf}
-use Rattle.acting.specs.Acting.{Finding, Scene, Happened, rewrites, operationOf, valueOf, field, doConstant, arithmeticMove, doArithmetic}
+use Rattle.acting.specs.Acting.{Finding, Scene, rewrites, operationOf, valueOf, field, doConstant, arithmeticMove, doArithmetic}
 use Rattle.steps.specs.Standing.{Standing, Finds}
 use Rattle.steps.specs.Means.{GoesOn, Means}
 use Rattle.steps.specs.Here.{last-is, covered}
-use Rattle.steps.specs.Going.{sceneOf, ahead, aheadStack, stores-on, cell-found, points-found, value-found}
+use Rattle.steps.specs.Going.{sceneOf, aheadStack, stores-on, cell-found, points-found, value-found}
 
 -- A result that fits, and one that does not
 
