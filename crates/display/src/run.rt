@@ -59,7 +59,16 @@ pub fn step(
             Turn::Went(jump(code, blocks, links, display, now, home, place))
         }
         Move::Enter(body, link, back) => Turn::Went(enter(
-            code, words, blocks, nexts, links, display, now, body, link, back,
+            code,
+            words,
+            blocks,
+            nexts,
+            links,
+            display,
+            now,
+            body,
+            link,
+            back,
         )),
         Move::Stop(cause) => Turn::Stopped(cause),
     }
@@ -144,7 +153,18 @@ pub fn run(
     };
     let mut left = allowance;
     while 0 < left {
-        match step(code, words, blocks, nexts, links, &mut display, table, group, limit, now) {
+        match step(
+            code,
+            words,
+            blocks,
+            nexts,
+            links,
+            &mut display,
+            table,
+            group,
+            limit,
+            now,
+        ) {
             Turn::Went(next) => {
                 now = next;
                 left -= 1;
@@ -161,9 +181,29 @@ pub fn run(
             }
             Turn::Stopped(cause) => {
                 let done = allowance - left;
-                return halted(code, words, blocks, nexts, &display, now, End::Stopped(cause), done, 2 * now.at);
+                return halted(
+                    code,
+                    words,
+                    blocks,
+                    nexts,
+                    &display,
+                    now,
+                    End::Stopped(cause),
+                    done,
+                    2 * now.at,
+                );
             }
         }
     }
-    halted(code, words, blocks, nexts, &display, now, End::Spent, allowance, 0)
+    halted(
+        code,
+        words,
+        blocks,
+        nexts,
+        &display,
+        now,
+        End::Spent,
+        allowance,
+        0,
+    )
 }
