@@ -13,11 +13,10 @@ use Rattle.pairs.specs.declared.Change.the-variants.{Done as Count, Stopped as 
 use Rattle.acting.specs.declared.Effect.{Effect}
 use Rattle.acting.specs.declared.Effect.the-variants.{Done, Stopped}
 use Rattle.acting.specs.declared.Move.{Move}
-use Rattle.acting.specs.declared.Move.the-variants.{On, Pairs, Jump, Enter, Stop}
-use Rattle.language.specs.Machine.{Limits}
+use Rattle.acting.specs.declared.Move.the-variants.{On, Pairs, Enter, Stop}
 use Rattle.resolved.specs.Resolved.{levelIn, positionIn, direct}
 use Rattle.arrays.specs.Found.{cellBy, homeBy, targetBy, handedBy}
-use Rattle.acting.specs.Acting.{Finding, Scene, Happened, argumentsFrom, setAll}
+use Rattle.acting.specs.Acting.{Finding, Scene, Happened, field, moves, rewrites, noRoom, argumentsFrom, setAll}
 
 abbrev pub firstCell : List ℕ → ℕ → ℕ
 firstCell display w = getD display (levelIn w) 0
@@ -88,10 +87,9 @@ blockMove code limit live at =
     elim (leb limit (live + 1)) [ true ↦ Stop NoActivationLeft | false ↦ Enter at live (getD code (at + 1) 0 % 65536) ]
 
 -- a call of the procedure that activation `home` declares and whose body stands at a place
-unfoldable pub enteredBy : List ℕ → List ℤ → List ℕ → ℕ → ℕ → ℕ → ℕ → ℕ → Happened
-enteredBy code words display limit live at home body =
-    let count = getD code (at + 2) 0 in
-    elim (leb limit (live + 1)) [
-      | true ↦ record { move = Stop NoActivationLeft; words = words; table = [] }
-      | false ↦ record { move = Enter body home (at + 3 + count); words = setAll words (32 * live + 32) (argumentsFrom (byDisplay words display) (only-words code words at) (at + 3) count); table = [] }
+unfoldable pub enteredBy : Finding → Scene → ℕ → ℕ → Happened
+enteredBy F s home body =
+    elim (noRoom F s) [
+      | true ↦ moves s (Stop NoActivationLeft)
+      | false ↦ rewrites s (Enter body home (s .at + 3 + field s 2)) (setAll (s .words) (32 * s .live + 32) (argumentsFrom F s (s .at + 3) (field s 2)))
     ]

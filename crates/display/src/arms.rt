@@ -72,6 +72,7 @@ pub fn do_constant_formal(
 
 // AR
 fn computed(effect: Effect, at: usize) -> Move
+    requires { ⌜ at + 5 ≤ 4096 ⌝ }
     ensures { λ r. ⌜ r ≡ moveAfter effect (at + 5) ⌝ }
 {
     match effect {
@@ -242,9 +243,9 @@ fn enter_body(
     home: usize,
     body: usize,
 ) -> Move
-    requires { ⌜ (limit ≤ 256) × (at + 3 ≤ 4096) × ArgumentsReachable (now code) (now display) live (at + 3) (getD (now code) (at + 2) 0) ⌝ }
-    ensures { λ r. ⌜ r ≡ (enteredBy (now (code .entry)) (now (words .entry)) (now (display .entry)) limit live at home body) .move ⌝ }
-    ensures { λ _. ⌜ now (words .exit) ≡ (enteredBy (now (code .entry)) (now (words .entry)) (now (display .entry)) limit live at home body) .words ⌝ }
+    requires { ⌜ (limit ≤ 256) × (live ≤ 255) × (at + 3 ≤ 4096) × ArgumentsReachable (now code) (now display) live (at + 3) (getD (now code) (at + 2) 0) ⌝ }
+    ensures { λ r. ⌜ r ≡ (enteredBy (byDisplay (now (words .entry)) (now (display .entry))) (without-table (now (code .entry)) (now (words .entry)) limit live at) home body) .move ⌝ }
+    ensures { λ _. ⌜ now (words .exit) ≡ (enteredBy (byDisplay (now (words .entry)) (now (display .entry))) (without-table (now (code .entry)) (now (words .entry)) limit live at) home body) .words ⌝ }
 {
     if limit <= live + 1 {
         return Move::Stop(Stop::NoActivationLeft);
@@ -262,7 +263,7 @@ pub fn do_call(
     live: usize,
     at: usize,
 ) -> Move
-    requires { ⌜ (limit ≤ 256) × (at + 3 ≤ 4096) × ArgumentsReachable (now code) (now display) live (at + 3) (getD (now code) (at + 2) 0) × Direct (now words) (now display) (getD (now code) (at + 1) 0) ⌝ }
+    requires { ⌜ (limit ≤ 256) × (live ≤ 255) × (at + 3 ≤ 4096) × ArgumentsReachable (now code) (now display) live (at + 3) (getD (now code) (at + 2) 0) × Direct (now words) (now display) (getD (now code) (at + 1) 0) ⌝ }
     ensures { λ r. ⌜ r ≡ (doCall (byDisplay (now (words .entry)) (now (display .entry))) (without-table (now (code .entry)) (now (words .entry)) limit live at)) .move ⌝ }
     ensures { λ _. ⌜ now (words .exit) ≡ (doCall (byDisplay (now (words .entry)) (now (display .entry))) (without-table (now (code .entry)) (now (words .entry)) limit live at)) .words ⌝ }
 {
@@ -289,7 +290,7 @@ pub fn do_call_formal(
     live: usize,
     at: usize,
 ) -> Move
-    requires { ⌜ (limit ≤ 256) × (at + 3 ≤ 4096) × ArgumentsReachable (now code) (now display) live (at + 3) (getD (now code) (at + 2) 0) × ThroughFormal (now words) (now display) (getD (now code) (at + 1) 0) × FormalsBefore (now code) (heldBy (now words) (firstCell (now display) (getD (now code) (at + 1) 0)) (getD (now code) (at + 1) 0) / 8192) ⌝ }
+    requires { ⌜ (limit ≤ 256) × (live ≤ 255) × (at + 3 ≤ 4096) × ArgumentsReachable (now code) (now display) live (at + 3) (getD (now code) (at + 2) 0) × ThroughFormal (now words) (now display) (getD (now code) (at + 1) 0) × FormalsBefore (now code) (heldBy (now words) (firstCell (now display) (getD (now code) (at + 1) 0)) (getD (now code) (at + 1) 0) / 8192) ⌝ }
     ensures { λ r. ⌜ r ≡ (doCallFormal (byDisplay (now (words .entry)) (now (display .entry))) (without-table (now (code .entry)) (now (words .entry)) limit live at)) .move ⌝ }
     ensures { λ _. ⌜ now (words .exit) ≡ (doCallFormal (byDisplay (now (words .entry)) (now (display .entry))) (without-table (now (code .entry)) (now (words .entry)) limit live at)) .words ⌝ }
 {
@@ -316,6 +317,7 @@ pub fn do_call_formal(
 
 // AD and RM
 fn changed(change: Change, at: usize) -> Move
+    requires { ⌜ at + 3 ≤ 4096 ⌝ }
     ensures { λ r. ⌜ r ≡ moveChanged change (at + 3) ⌝ }
 {
     match change {
@@ -330,19 +332,16 @@ pub fn do_add_pair(
     display: &[u16; 256],
     table: &mut [i32],
     pairs: usize,
-    group_limit: u32,
+    limit: u32,
     at: usize,
 ) -> Move
     requires { ⌜ (at + 3 ≤ 4096) × Reachable (now words) (now display) (getD (now code) (at + 1) 0) × Reachable (now words) (now display) (getD (now code) (at + 2) 0) ⌝ }
-    ensures { λ r. ⌜ r ≡ (doAdd (byDisplay (now (words .entry)) (now (display .entry))) (with-table (now (code .entry)) (now (words .entry)) (now (table .entry)) pairs group_limit at)) .move ⌝ }
-    ensures { λ _. ⌜ now (table .exit) ≡ (doAdd (byDisplay (now (words .entry)) (now (display .entry))) (with-table (now (code .entry)) (now (words .entry)) (now (table .entry)) pairs group_limit at)) .table ⌝ }
+    ensures { λ r. ⌜ r ≡ (doAdd (byDisplay (now (words .entry)) (now (display .entry))) (with-table (now (code .entry)) (now (words .entry)) (now (table .entry)) pairs limit at)) .move ⌝ }
+    ensures { λ _. ⌜ now (table .exit) ≡ (doAdd (byDisplay (now (words .entry)) (now (display .entry))) (with-table (now (code .entry)) (now (words .entry)) (now (table .entry)) pairs limit at)) .table ⌝ }
 {
     let group = words[cell_at(code, words, display, at + 1)];
     let member = words[cell_at(code, words, display, at + 2)];
-    changed(
-        pairs::add_pair(table, pairs, group_limit, group, member),
-        at,
-    )
+    changed(pairs::add_pair(table, pairs, limit, group, member), at)
 }
 
 pub fn do_remove_pair(

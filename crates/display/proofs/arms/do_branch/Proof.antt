@@ -1,0 +1,69 @@
+-- `do_branch` meets its contract.
+use Prim.Native.Nat.{ℕ, _+_}
+use lib.ListN.{getD}
+use mathlib.Core.Path.{_≡_, sym, _∙_}
+use Rattle.display.specs.Finding.{firstCell, byDisplay, only-words}
+use Rattle.acting.specs.Acting.{Finding, Scene}
+use Rattle.display.proofs.Found.{is-zero, not-zero, home-direct, target-direct}
+use Rattle.display.proofs.Statements.{direct-cell, goto-done, branch-not, branch-goes}
+use borrow.Author.Needs.{needs}
+use Rattle.display.proofs.arms.do_branch.Statement.{statement}
+use Rattle.display.proofs.arms.do_branch.Tie as tie
+
+add-own-at : tie.Need-add-own-at
+add-own-at c = search needs
+
+own-at-requires : tie.Need-own-at-requires
+own-at-requires c κs = search needs
+
+mul-if1 : tie.Need-mul-if1
+mul-if1 c = search needs
+
+element-copy-out-if1 : tie.Need-element-copy-out-if1
+element-copy-out-if1 c = search needs
+
+add-t12 : tie.Need-add-t12
+add-t12 c = search needs
+
+abbrev way : tie.Start → Finding
+way s = byDisplay (s .args .words .now) (s .args .display .now)
+
+abbrev scene : tie.Start → Scene
+scene s = only-words (s .args .code .now) (s .args .words .now) (s .args .at)
+
+abbrev word : (s : tie.Start) → ℕ → ℕ
+word s i = getD (s .args .code .now) (s .args .at + i) 0
+
+tested : (c : tie.After-own-at) → c .own-at .result ≡ way (c .before) .cell (word (c .before) 2)
+tested c = let s = c .before in direct-cell (s .args .words .now) (s .args .display .now) (word s 2) (c .own-at .ensures) (s .pre .2)
+
+returns : tie.Need-returns
+returns c =
+    let s = c .before .before .before in
+    branch-not (way s) (scene s) (tested (c .before .before)) (is-zero _ (c .before .if12 .given) (c .if1 .taken))
+
+do-goto-requires : tie.Need-do-goto-requires
+do-goto-requires c κs = search needs
+
+returns-2 : tie.Need-returns-2
+returns-2 c =
+    let b = c .before in
+    let s = b .before .before .before in
+    let ws = s .args .words .now in
+    let w = word s 1 in
+    let first = firstCell (s .args .display .now) w in
+    c .do-goto .ensures ∙ goto-done (way s) (scene s) (sym (home-direct ws first w (s .pre .1 .is))) (sym (target-direct ws first w (s .pre .1 .is))) ∙
+    branch-goes (way s) (scene s) (tested (b .before .before)) (not-zero _ (b .before .if12 .given) (b .if1 .left))
+
+pub do-branch-spec : {M : Type 1} → statement M
+do-branch-spec =
+    tie.close
+    (tie.spec
+    add-own-at
+    own-at-requires
+    mul-if1
+    element-copy-out-if1
+    add-t12
+    returns
+    do-goto-requires
+    returns-2)
