@@ -2,3 +2,5 @@
 pub mod Finding
 pub mod Running
 pub mod Moving
+pub mod Turning
+pub mod Ending

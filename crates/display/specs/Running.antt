@@ -43,6 +43,18 @@ pub record Succeeds {code : List ℕ} {limit group : ℕ} {words : List ℤ} {bl
   pub running : Running code limit group words′ blocks′ nexts′ links′ display′ table′ here′
   pub follows : Follows (w .standing) (running .standing .stack) (running .standing .program) (running .standing .name)
 
+-- the looked-up name can be found in the innermost activation
+pub record Looking (code : List ℕ) (words : List ℤ) (blocks display : List ℕ) (live : ℕ) : Type 0 where
+  pub nexts : List ℕ
+  pub links : List ℕ
+  pub limit : ℕ
+  pub group : ℕ
+  pub table : List ℤ
+  pub at : ℕ
+  pub end : ℕ
+  pub pairs : ℕ
+  pub running : Running code limit group words blocks nexts links display table (record { live = live; at = at; end = end; pairs = pairs })
+
 -- Putting the display right: it is that of frame `old` of some frames, and the entries up to `sure` are its own
 pub record Restorable (links display : List ℕ) (activation level sure : ℕ) : Type 0 where
   pub frames : List Frame
