@@ -4,3 +4,7 @@ pub mod Running
 pub mod Moving
 pub mod Turning
 pub mod Ending
+pub mod Ready
+pub mod Scenes
+pub mod Turns
+pub mod Looked

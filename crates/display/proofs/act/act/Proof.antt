@@ -78,19 +78,19 @@ returns-8 : tie.Need-returns-8
 returns-8 c = ?
 
 same-length : tie.Need-same-length
-same-length c = search needs
+same-length c = ?
 
 returns-9 : tie.Need-returns-9
 returns-9 c = ?
 
 same-length-2 : tie.Need-same-length-2
-same-length-2 c = search needs
+same-length-2 c = ?
 
 returns-10 : tie.Need-returns-10
 returns-10 c = ?
 
 same-length-3 : tie.Need-same-length-3
-same-length-3 c = search needs
+same-length-3 c = ?
 
 returns-11 : tie.Need-returns-11
 returns-11 c = ?

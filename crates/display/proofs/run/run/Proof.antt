@@ -1,13 +1,21 @@
+-- `run` meets its contract. The loop's invariant: the run has come so far that so many steps are left.
+use native.Mathlib.Omega.{arith}
+use mathlib.Core.Path.{_≡_, refl, sym, ap, _∙_}
+use lib.ListN.{length}
+use Rattle.display.specs.Turning.{Beginning}
+use Rattle.display.specs.Ending.{resultFrom, Underway, begun, went, looking, at-small, spent, stopped, finished, leaves-sound}
 use Rattle.display.proofs.run.run.Statement.{statement}
 use Rattle.display.proofs.run.run.Tie as tie
 
 abbrev Inv-loop : tie.InvT-loop
 Inv-loop code words₀ blocks₀ nexts₀ links₀ table₀ pairs group limit allowance display₀ bounds here₀ left₀ words blocks nexts links table display here left =
-    ?
+    ((b : Beginning code words₀ blocks₀ nexts₀ links₀ table₀ pairs group limit)
+    → Underway (b .program) (b .name) allowance (resultFrom (b .program) limit group allowance table₀ pairs) code limit group words blocks nexts links display table here left)
+    × (length table ≡ length table₀)
 
 abbrev μ-loop : tie.MeasureT-loop
 μ-loop code words₀ blocks₀ nexts₀ links₀ table₀ pairs group limit allowance display₀ bounds here₀ left₀ words blocks nexts links table display here left =
-    ?
+    left
 
 code-at-requires : tie.Need-code-at-requires Inv-loop μ-loop
 code-at-requires c κs = ?
