@@ -24,6 +24,7 @@ use Rattle.steps.specs.Here.{many, live-few}
 use Rattle.steps.specs.Reads.{at-within, begin-reads}
 use Rattle.steps.specs.Loop.{spent as spends, stops, finishes, begins, shows-begun}
 use Rattle.display.specs.declared.moves.Now.{Now}
+use Rattle.display.specs.declared.run.Turn.{Turn}
 use Rattle.display.specs.declared.run.Turn.the-variants.{Went, Finished, Stopped}
 use Rattle.display.specs.declared.run.Halt.{Halt}
 use Rattle.display.specs.Running.{limitsBy, Running, Looking, Succeeds}
@@ -165,6 +166,41 @@ module _ {program : Block} {name allowance : ℕ} {result : Result} {code : List
     where
       none-there : (k : ℕ) (f : Frame) → getElem? [] k ≡ some f → ⊥
       none-there k f e = none≢some e
+
+  -- By what a step comes to
+
+  module _ (words′ : List ℤ) (blocks′ nexts′ links′ display′ : List ℕ) (table′ : List ℤ) (t : Turn) (k : Turned (u .running) t words′ blocks′ nexts′ links′ display′ table′) where
+    turned-as : (m : Turn) → t ≡ m → Turned (u .running) m words′ blocks′ nexts′ links′ display′ table′
+    turned-as m e = subst (λ (x : Turn). Turned (u .running) x words′ blocks′ nexts′ links′ display′ table′) e k
+
+    pub went-as : (here′ : Now) → t ≡ Went here′ → 1 ≤ left → Underway program name allowance result code limit group words′ blocks′ nexts′ links′ display′ table′ here′ (left - 1)
+    went-as here′ e h = went words′ blocks′ nexts′ links′ display′ table′ here′ (left - 1) (omega arith) (turned-as (Went here′) e)
+
+    pub finished-as : t ≡ Finished → 1 ≤ left → Sound l program (result .final)
+        → Ended program name code limit group result (record { end = Done; steps = allowance - left + 1; offset = 0; live = 0; pairs = here .pairs; designator = 0 }) words′ blocks′ nexts′ links′ table′
+    finished-as e h sound =
+        let m = turned-as Finished e in
+        finished (m .0) (m .1) h sound words′ blocks′ nexts′ links′ table′ (m .3) (ap length (m .2) ∙ u .running .standing .words-long)
+
+    -- a statement that stops leaves all as it was
+    pub record Stays (c : Stop) : Type 0 where
+      pub underway : Underway program name allowance result code limit group words′ blocks′ nexts′ links′ display′ table′ here left
+      pub stops-there : frameStep l (underway .running .standing .stack) ≡ halted c
+
+    abbrev There : Stop → List ℤ → List ℕ → List ℕ → List ℕ → List ℕ → List ℤ → Type 0
+    There c ws bs ns ls ds ts = (v : Underway program name allowance result code limit group ws bs ns ls ds ts here left) × (frameStep l (v .running .standing .stack) ≡ halted c)
+
+    pub stays : (c : Stop) → t ≡ Stopped c → Stays c
+    stays c e =
+        let m = turned-as (Stopped c) e in
+        let v = moved-to (sym (m .1)) (sym (m .2)) (sym (m .3)) (sym (m .4)) (sym (m .5)) (sym (m .6)) (u, m .0) in
+        record { underway = v .0; stops-there = v .1 }
+      where
+        moved-to : words ≡ words′ → blocks ≡ blocks′ → nexts ≡ nexts′ → links ≡ links′ → display ≡ display′ → table ≡ table′ → There c words blocks nexts links display table → There c words′ blocks′ nexts′ links′ display′ table′
+        moved-to e₁ e₂ e₃ e₄ e₅ e₆ h =
+            subst (λ (x : List ℤ). There c words′ blocks′ nexts′ links′ display′ x) e₆ (subst (λ (x : List ℕ). There c words′ blocks′ nexts′ links′ x table) e₅
+            (subst (λ (x : List ℕ). There c words′ blocks′ nexts′ x display table) e₄ (subst (λ (x : List ℕ). There c words′ blocks′ x links display table) e₃
+            (subst (λ (x : List ℕ). There c words′ x nexts links display table) e₂ (subst (λ (x : List ℤ). There c x blocks nexts links display table) e₁ h)))))
 
 -- what a run leaves is sound
 pub leaves-sound : {code : List ℕ} {words : List ℤ} {blocks nexts links : List ℕ} {table : List ℤ} {pairs group limit : ℕ} (b : Beginning code words blocks nexts links table pairs group limit) (allowance : ℕ)

@@ -25,7 +25,7 @@ use Rattle.display.specs.Running.{limitsBy, Running, Succeeds}
 module _ {code : List ℕ} {limit group : ℕ} {words : List ℤ} {blocks nexts links display : List ℕ} {table : List ℤ} {here : Now} (w : Running code limit group words blocks nexts links display table here) where
   abbrev pub Turned : Turn → List ℤ → List ℕ → List ℕ → List ℕ → List ℕ → List ℤ → Type 0
   Turned (Went here′) words′ blocks′ nexts′ links′ display′ table′ = Succeeds w words′ blocks′ nexts′ links′ display′ table′ here′
-  Turned Finished words′ blocks′ nexts′ links′ display′ table′ = (here .at ≡ here .end) × (here .live ≡ 0) × (table′ ≡ table)
+  Turned Finished words′ blocks′ nexts′ links′ display′ table′ = (here .at ≡ here .end) × (here .live ≡ 0) × (words′ ≡ words) × (table′ ≡ table)
   Turned (Stopped c) words′ blocks′ nexts′ links′ display′ table′ =
       (frameStep (limitsBy limit group) (w .standing .stack) ≡ halted c)
       × (words′ ≡ words) × (blocks′ ≡ blocks) × (nexts′ ≡ nexts) × (links′ ≡ links) × (display′ ≡ display) × (table′ ≡ table)

@@ -6,7 +6,7 @@ use Rattle.display.proofs.run.step.Statement.{statement}
 use Rattle.display.proofs.run.step.Tie as tie
 
 returns : tie.Need-returns
-returns c = λ w. (c .before .if1 .taken, c .if2 .taken, refl)
+returns c = λ w. (c .before .if1 .taken, c .if2 .taken, refl, refl)
 
 leave-requires : tie.Need-leave-requires
 leave-requires c κs = leave-ready (c .before .before .before .before .before .before .pre) (c .before .before .before .before .before .if1 .taken) (above-zero (c .before .before .before .before .before .before .args .here .live) (c .before .before .before .before .if2 .left))
