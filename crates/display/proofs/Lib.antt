@@ -1,3 +1,4 @@
 -- Laws that the proofs of several functions cite.
 pub mod Found
 pub mod Statements
+pub mod Scenes
