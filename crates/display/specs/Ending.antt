@@ -23,11 +23,11 @@ use Rattle.steps.specs.Standing.{Standing}
 use Rattle.steps.specs.Here.{many, live-few}
 use Rattle.steps.specs.Reads.{at-within, begin-reads}
 use Rattle.steps.specs.Loop.{spent as spends, stops, finishes, begins, shows-begun}
-use Rattle.display.specs.declared.moves.Now.{Now}
+use Rattle.moves.specs.declared.Now.{Now}
 use Rattle.display.specs.declared.run.Turn.{Turn}
 use Rattle.display.specs.declared.run.Turn.the-variants.{Went, Finished, Stopped}
 use Rattle.display.specs.declared.run.Halt.{Halt}
-use Rattle.display.specs.Running.{limitsBy, Running, Looking, Succeeds}
+use Rattle.moves.specs.Running.{limitsBy, Running, Looking, Succeeds}
 use Rattle.display.specs.Turning.{Turned, Beginning, Ended, haltOf}
 
 -- where a run that begins goes to

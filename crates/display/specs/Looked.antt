@@ -12,7 +12,7 @@ use Rattle.steps.specs.Here.{here, live-few}
 use Rattle.steps.specs.Reads.{block-within, looked-up-here}
 use Rattle.steps.specs.Finding.{Reaches, wordOf, unseen-word, seen-by-display}
 use Rattle.display.specs.Finding.{firstCell, Reachable}
-use Rattle.display.specs.Running.{Looking}
+use Rattle.moves.specs.Running.{Looking}
 
 module _ {code : List ℕ} {words : List ℤ} {blocks display : List ℕ} {live : ℕ} (w : Looking code words blocks display live) where
   pub live-there : live < 256

@@ -25,7 +25,7 @@ use Rattle.steps.specs.Here.{live-few}
 use Rattle.steps.specs.Fields as fields
 use Rattle.steps.specs.Finding.{Reaches, reached-by-display, finds-by-display}
 use Rattle.display.specs.Finding.{firstCell, ownCell, byDisplay, without-table, only-words, with-table, Reachable, Direct, ThroughFormal, ArgumentsReachable, FormalsBefore, blockMove}
-use Rattle.display.specs.Running.{limitsBy, sceneBy, Running, Doing}
+use Rattle.moves.specs.Running.{limitsBy, sceneBy, Running, Doing}
 
 -- the operation by its number
 pub op-of : (v k : ℕ) → v % 16 ≡ k → opOf v ≡ getD operations k constant-op
@@ -90,47 +90,44 @@ module _ {code : List ℕ} {words : List ℤ} {display : List ℕ} {table : List
   abbrev F : ℕ → Type 0
   F i = ThroughFormal words display (getD code (at + i) 0)
 
-  abbrev Calls : Type 0
-  Calls = (limit ≤ 256) × (live ≤ 255) × (at + 3 ≤ 4096) × ArgumentsReachable code display live (at + 3) (getD code (at + 2) 0)
-
   abbrev pub Ready : Op → Type 0
   Ready constant-op = (at + 4 ≤ 4096) × D 1
-  Ready add-op = (at + 5 ≤ 4096) × D 1 × D 3 × D 4
-  Ready subtract-op = (at + 5 ≤ 4096) × D 1 × D 3 × D 4
-  Ready compare-op = (at + 5 ≤ 4096) × D 1 × D 3 × D 4
-  Ready branch-op = (at + 3 ≤ 4096) × D 1 × D 2
+  Ready add-op = (at + 5 ≤ 4096) × (D 1 × (D 3 × D 4))
+  Ready subtract-op = (at + 5 ≤ 4096) × (D 1 × (D 3 × D 4))
+  Ready compare-op = (at + 5 ≤ 4096) × (D 1 × (D 3 × D 4))
+  Ready branch-op = (at + 3 ≤ 4096) × (D 1 × D 2)
   Ready goto-op = (at + 2 ≤ 4096) × D 1
   Ready block-op = (at + 2 ≤ 4096) × (live ≤ 255)
-  Ready call-op = (limit ≤ 256) × (live ≤ 255) × (at + 3 ≤ 4096) × ArgumentsReachable code display live (at + 3) (getD code (at + 2) 0) × D 1
-  Ready pair-op = (at + 3 ≤ 4096) × R 1 × R 2
-  Ready unpair-op = (at + 3 ≤ 4096) × R 1 × R 2
-  Ready query-op = (at + 4 ≤ 4096) × R 1 × R 2 × R 3
+  Ready call-op = (limit ≤ 256) × ((live ≤ 255) × ((at + 3 ≤ 4096) × (ArgumentsReachable code display live (at + 3) (getD code (at + 2) 0) × D 1)))
+  Ready pair-op = (at + 3 ≤ 4096) × (R 1 × R 2)
+  Ready unpair-op = (at + 3 ≤ 4096) × (R 1 × R 2)
+  Ready query-op = (at + 4 ≤ 4096) × (R 1 × (R 2 × R 3))
   Ready constant-formal-op = (at + 4 ≤ 4096) × R 1
-  Ready arithmetic-formal-op = (at + 5 ≤ 4096) × R 1 × R 3 × R 4
-  Ready branch-formal-op = (at + 3 ≤ 4096) × R 1 × R 2
+  Ready arithmetic-formal-op = (at + 5 ≤ 4096) × (R 1 × (R 3 × R 4))
+  Ready branch-formal-op = (at + 3 ≤ 4096) × (R 1 × R 2)
   Ready goto-formal-op = (at + 2 ≤ 4096) × F 1
-  Ready call-formal-op = (limit ≤ 256) × (live ≤ 255) × (at + 3 ≤ 4096) × ArgumentsReachable code display live (at + 3) (getD code (at + 2) 0) × F 1 × Formals
+  Ready call-formal-op = (limit ≤ 256) × ((live ≤ 255) × ((at + 3 ≤ 4096) × (ArgumentsReachable code display live (at + 3) (getD code (at + 2) 0) × (F 1 × Formals))))
 
   few : live ≤ 255
   few = omega (arith, live-few st)
 
   ready-by : (o : Op) → fields.Fields st o → Ready o
   ready-by constant-op f = (f .0, directly 1 (f .1))
-  ready-by add-op f = (f .0, directly 1 (f .1), directly 3 (f .2), directly 4 (f .3))
-  ready-by subtract-op f = (f .0, directly 1 (f .1), directly 3 (f .2), directly 4 (f .3))
-  ready-by compare-op f = (f .0, directly 1 (f .1), directly 3 (f .2), directly 4 (f .3))
-  ready-by branch-op f = (f .0, directly 1 (f .1), directly 2 (f .2))
+  ready-by add-op f = (f .0, (directly 1 (f .1), (directly 3 (f .2), directly 4 (f .3))))
+  ready-by subtract-op f = (f .0, (directly 1 (f .1), (directly 3 (f .2), directly 4 (f .3))))
+  ready-by compare-op f = (f .0, (directly 1 (f .1), (directly 3 (f .2), directly 4 (f .3))))
+  ready-by branch-op f = (f .0, (directly 1 (f .1), directly 2 (f .2)))
   ready-by goto-op f = (f .0, directly 1 (f .1))
   ready-by block-op f = (omega arith, few)
-  ready-by call-op f = (st .sound .limit, few, omega (arith, f .0 .there), arguments (f .0), directly 1 (f .1))
-  ready-by pair-op f = (f .0, reachable 1 (f .1), reachable 2 (f .2))
-  ready-by unpair-op f = (f .0, reachable 1 (f .1), reachable 2 (f .2))
-  ready-by query-op f = (f .0, reachable 1 (f .1), reachable 2 (f .2), reachable 3 (f .3))
+  ready-by call-op f = (st .sound .limit, (few, (omega (arith, f .0 .there), (arguments (f .0), directly 1 (f .1)))))
+  ready-by pair-op f = (f .0, (reachable 1 (f .1), reachable 2 (f .2)))
+  ready-by unpair-op f = (f .0, (reachable 1 (f .1), reachable 2 (f .2)))
+  ready-by query-op f = (f .0, (reachable 1 (f .1), (reachable 2 (f .2), reachable 3 (f .3))))
   ready-by constant-formal-op f = (f .0, reachable 1 (f .1 .0))
-  ready-by arithmetic-formal-op f = (f .0, reachable 1 (f .1), reachable 3 (f .2), reachable 4 (f .3))
-  ready-by branch-formal-op f = (f .0, reachable 1 (f .1), reachable 2 (f .2))
+  ready-by arithmetic-formal-op f = (f .0, (reachable 1 (f .1), (reachable 3 (f .2), reachable 4 (f .3))))
+  ready-by branch-formal-op f = (f .0, (reachable 1 (f .1), reachable 2 (f .2)))
   ready-by goto-formal-op f = (f .0, formally 1 (f .1))
-  ready-by call-formal-op f = (st .sound .limit, few, omega (arith, f .0 .there), arguments (f .0), formally 1 (f .1), formals-before (f .1) (f .2))
+  ready-by call-formal-op f = (st .sound .limit, (few, (omega (arith, f .0 .there), (arguments (f .0), (formally 1 (f .1), formals-before (f .1) (f .2))))))
 
   pub ready : (o : Op) → opOf (getD code at 0) ≡ o → Ready o
   ready o e = ready-by o (subst (fields.Fields st) e (fields.fields-stand st (d .before)))

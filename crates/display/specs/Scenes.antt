@@ -21,7 +21,7 @@ use Rattle.acting.specs.declared.Move.the-variants.{Jump}
 use Rattle.acting.specs.Effects.{effectOf, sameKinds}
 use Rattle.acting.specs.Acting.{Finding, Scene, Happened, moves, rewrites, valueOf, field, arithmeticMove, doConstant, doArithmetic, doGoto, doBranch, noRoom, doBlock, argumentsFrom, doCall, argumentsAgree, doCallFormal, changes, doAdd, doRemove, answers, doQuery, Op, opOf, happens, acting}
 use Rattle.display.specs.Finding.{firstCell, byDisplay, without-table, only-words, with-table, blockMove}
-use Rattle.display.specs.Running.{sceneBy}
+use Rattle.moves.specs.Running.{sceneBy}
 
 abbrev pub Done : Happened → Move → List ℤ → List ℤ → Type 0
 Done h r words table = (r ≡ h .move) × (words ≡ h .words) × (table ≡ h .table)

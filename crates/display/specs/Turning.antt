@@ -14,11 +14,11 @@ use Rattle.frames.specs.Frame.{Result, halted, designates, frameStep}
 use Rattle.coordinates.specs.Sound.{Sound}
 use Rattle.resolved.specs.Resolved.{resolvedOf, Covers}
 use Rattle.arrays.specs.Holds.{Holds}
-use Rattle.display.specs.declared.moves.Now.{Now}
+use Rattle.moves.specs.declared.Now.{Now}
 use Rattle.display.specs.declared.run.Turn.{Turn}
 use Rattle.display.specs.declared.run.Turn.the-variants.{Went, Finished, Stopped}
 use Rattle.display.specs.declared.run.Halt.{Halt}
-use Rattle.display.specs.Running.{limitsBy, Running, Succeeds}
+use Rattle.moves.specs.Running.{limitsBy, Running, Succeeds}
 
 -- What a step comes to
 

@@ -15,9 +15,9 @@ use Rattle.steps.specs.Means.{GoesOn, JumpsTo, EntersAt, MoveMeans}
 use Rattle.steps.specs.Finding.{finds-by-display}
 use Rattle.steps.specs.Acts.{acting-means}
 use Rattle.language.specs.declared.Stop.{Stop as Cause}
-use Rattle.display.specs.declared.moves.Now.{Now}
+use Rattle.moves.specs.declared.Now.{Now}
 use Rattle.display.specs.Finding.{byDisplay}
-use Rattle.display.specs.Running.{limitsBy, sceneBy, Running, Doing, Succeeds, LeaveReady, JumpReady, EnterReady}
+use Rattle.moves.specs.Running.{limitsBy, sceneBy, Running, Doing, Succeeds, LeaveReady, JumpReady, EnterReady}
 use Rattle.display.specs.Scenes.{Acted}
 
 pub above-zero : (n : ℕ) → (n ≡ 0 → ⊥) → 1 ≤ n

@@ -3,10 +3,10 @@ use Prim.Native.Nat.{_+_, _-_, _≤_, _<_}
 use native.Mathlib.Omega.{arith}
 use mathlib.Core.Path.{_≡_, refl, sym, ap, _∙_, subst}
 use lib.ListN.{getD}
-use Rattle.display.specs.Running.{Running}
-use Rattle.display.specs.Moving.{few-live, block-within, restorable, restored, shows-home}
-use Rattle.display.proofs.moves.link_to.Statement.{statement}
-use Rattle.display.proofs.moves.link_to.Tie as tie
+use Rattle.moves.specs.Running.{Running}
+use Rattle.moves.specs.Moving.{few-live, block-within, restorable, restored, shows-home}
+use Rattle.moves.proofs.link_to.Statement.{statement}
+use Rattle.moves.proofs.link_to.Tie as tie
 
 level-of-requires : tie.Need-level-of-requires
 level-of-requires c κs =

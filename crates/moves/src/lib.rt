@@ -6,7 +6,7 @@ ghost use mathlib.Core.Path.{_≡_};
 ghost use Prim.Native.Nat.{suc, _+_, _/_, _%_, _<_};
 ghost use lib.ListN.{length, getD};
 ghost use Rattle.arrays.specs.Displays.{ShowsFrom};
-ghost use Rattle.display.specs.Running.{Restorable, Linkable, LeaveReady, JumpReady, EnterReady, Succeeds};
+ghost use Rattle.moves.specs.Running.{Restorable, Linkable, LeaveReady, JumpReady, EnterReady, Succeeds};
 
 // The innermost activation, the place of its next statement, where its text ends, and the pairs in use.
 pub struct Now {

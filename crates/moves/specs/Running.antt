@@ -14,7 +14,7 @@ use Rattle.arrays.specs.Displays.{ShowsFrom, LinksOf}
 use Rattle.acting.specs.Acting.{Scene}
 use Rattle.steps.specs.Standing.{Standing}
 use Rattle.steps.specs.Means.{Follows, JumpsTo, EntersAt}
-use Rattle.display.specs.declared.moves.Now.{Now}
+use Rattle.moves.specs.declared.Now.{Now}
 
 abbrev pub limitsBy : ℕ → ℕ → Limits
 limitsBy limit group = record { activations = limit; group = group }

@@ -1,10 +1,10 @@
 -- `enter` meets its contract.
 use native.Mathlib.Omega.{arith}
 use mathlib.Core.Path.{_∙_}
-use Rattle.display.specs.Moving.{entry-fits, linkable, linked, enters-as}
+use Rattle.moves.specs.Moving.{entry-fits, linkable, linked, enters-as}
 use borrow.Author.Needs.{needs}
-use Rattle.display.proofs.moves.enter.Statement.{statement}
-use Rattle.display.proofs.moves.enter.Tie as tie
+use Rattle.moves.proofs.enter.Statement.{statement}
+use Rattle.moves.proofs.enter.Tie as tie
 
 code-at-requires : tie.Need-code-at-requires
 code-at-requires c κs =

@@ -3,10 +3,10 @@ use Prim.Native.Nat.{_+_, _-_, _≤_, _<_}
 use native.Mathlib.Omega.{arith}
 use mathlib.Core.Path.{_≡_, refl, sym, ap, _∙_, subst}
 use lib.ListN.{getD}
-use Rattle.display.specs.Running.{Running}
-use Rattle.display.specs.Moving.{few-live, block-within, restorable, restored, home-live, jumps-to, shows-home, end-home}
-use Rattle.display.proofs.moves.jump.Statement.{statement}
-use Rattle.display.proofs.moves.jump.Tie as tie
+use Rattle.moves.specs.Running.{Running}
+use Rattle.moves.specs.Moving.{few-live, block-within, restorable, restored, home-live, jumps-to, shows-home, end-home}
+use Rattle.moves.proofs.jump.Statement.{statement}
+use Rattle.moves.proofs.jump.Tie as tie
 
 returns : tie.Need-returns
 returns c =

@@ -3,11 +3,11 @@ use Prim.Native.Nat.{_+_, _-_, _≤_, _<_}
 use native.Mathlib.Omega.{arith}
 use mathlib.Core.Path.{_≡_, refl, sym, ap, _∙_, subst}
 use lib.ListN.{getD}
-use Rattle.display.specs.Running.{Running}
-use Rattle.display.specs.Moving.{few-live, block-within, restorable, restored, leaves-to}
+use Rattle.moves.specs.Running.{Running}
+use Rattle.moves.specs.Moving.{few-live, block-within, restorable, restored, leaves-to}
 use borrow.Author.Needs.{needs}
-use Rattle.display.proofs.moves.leave.Statement.{statement}
-use Rattle.display.proofs.moves.leave.Tie as tie
+use Rattle.moves.proofs.leave.Statement.{statement}
+use Rattle.moves.proofs.leave.Tie as tie
 
 sub-live : tie.Need-sub-live
 sub-live c = search needs

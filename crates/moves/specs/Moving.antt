@@ -26,8 +26,8 @@ use Rattle.steps.specs.Means.{JumpsTo, EntersAt}
 use Rattle.steps.specs.Here.{many, numbered-here, live-few, downward, here-bounded, encloses-here}
 use Rattle.steps.specs.Loop.{leaves, jumped}
 use Rattle.steps.specs.Entered.{body-head, entered}
-use Rattle.display.specs.declared.moves.Now.{Now}
-use Rattle.display.specs.Running.{Running, Succeeds, Restorable, Linkable}
+use Rattle.moves.specs.declared.Now.{Now}
+use Rattle.moves.specs.Running.{Running, Succeeds, Restorable, Linkable}
 
 -- what is read of an activation's block
 abbrev pub levelAt : List ℕ → List ℕ → ℕ → ℕ

@@ -6,9 +6,9 @@ use borrow.Author.Needs.{needs}
 use lib.ListN.{length, length-set}
 use Rattle.frames.specs.Numbered.{numbered-high}
 use Rattle.arrays.specs.Displays.{Restoring, restoring-starts, restoring-bound, restoring-step, restoring-through, restoring-meets}
-use Rattle.display.specs.Running.{Restorable}
-use Rattle.display.proofs.moves.restore.Statement.{statement}
-use Rattle.display.proofs.moves.restore.Tie as tie
+use Rattle.moves.specs.Running.{Restorable}
+use Rattle.moves.proofs.restore.Statement.{statement}
+use Rattle.moves.proofs.restore.Tie as tie
 
 abbrev Inv-loop : tie.InvT-loop
 Inv-loop links display₀ activation level sure a₀ l₀ display a l =
