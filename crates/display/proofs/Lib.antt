@@ -1,4 +1,3 @@
 -- Laws that the proofs of several functions cite.
 pub mod Found
 pub mod Statements
-pub mod Scenes

@@ -1,12 +1,22 @@
 // The run: steps until the program is left, a statement has a cause to stop, or the allowance is spent.
 use super::act::act;
-use super::moves::Now;
-use super::moves::enter;
-use super::moves::jump;
-use super::moves::leave;
+use super::names::cell;
 use acting::Move;
+use language::End;
 use language::Stop;
+use moves::Now;
+use moves::enter;
+use moves::jump;
+use moves::leave;
+use moves::narrow;
+use moves::wide;
 use stepping::code_at;
+ghost use mathlib.Core.Path.{_≡_};
+ghost use Prim.Native.Nat.{_+_, _*_, _/_, _%_, _<_};
+ghost use lib.ListN.{getD, set};
+ghost use Rattle.frames.specs.Frame.{designates, frameRun, frameStart};
+ghost use Rattle.moves.specs.Running.{limitsBy, Running, Looking};
+ghost use Rattle.display.specs.Turning.{Turned, Beginning, Ended, haltOf};
 
 // What a step comes to.
 pub enum Turn {
@@ -25,22 +35,22 @@ pub fn step(
     table: &mut [i32],
     group: u32,
     limit: usize,
-    now: Now,
+    here: Now,
 ) -> Turn
-    requires { ⌜ Running (now code) limit group (now words) (now blocks) (now nexts) (now links) (now display) (now table) now ⌝ }
+    requires { ⌜ Running (now code) limit group (now words) (now blocks) (now nexts) (now links) (now display) (now table) here ⌝ }
     ensures { λ r.
-        ⌜ ((w : Running (now (code .entry)) limit group (now (words .entry)) (now (blocks .entry)) (now (nexts .entry)) (now (links .entry)) (now (display .entry)) (now (table .entry)) now)
+        ⌜ ((w : Running (now (code .entry)) limit group (now (words .entry)) (now (blocks .entry)) (now (nexts .entry)) (now (links .entry)) (now (display .entry)) (now (table .entry)) here)
         → Turned w r (now (words .exit)) (now (blocks .exit)) (now (nexts .exit)) (now (links .exit)) (now (display .exit)) (now (table .exit))) ⌝ }
 {
-    let live = now.live;
-    let at = now.at;
-    let end = now.end;
-    let pairs = now.pairs;
+    let live = here.live;
+    let at = here.at;
+    let end = here.end;
+    let pairs = here.pairs;
     if at == end {
         if live == 0 {
             return Turn::Finished;
         }
-        return Turn::Went(leave(code, blocks, nexts, links, display, now));
+        return Turn::Went(leave(code, blocks, nexts, links, display, here));
     }
     match act(code, words, display, table, pairs, group, limit, live, at) {
         Move::On(place) => Turn::Went(Now {
@@ -56,10 +66,19 @@ pub fn step(
             pairs: used,
         }),
         Move::Jump(home, place) => {
-            Turn::Went(jump(code, blocks, links, display, now, home, place))
+            Turn::Went(jump(code, blocks, links, display, here, home, place))
         }
         Move::Enter(body, link, back) => Turn::Went(enter(
-            code, words, blocks, nexts, links, display, now, body, link, back,
+            code,
+            words,
+            blocks,
+            nexts,
+            links,
+            display,
+            here,
+            body,
+            link,
+            back,
         )),
         Move::Stop(cause) => Turn::Stopped(cause),
     }
@@ -75,6 +94,14 @@ pub struct Halt {
     pub designator: u32,
 }
 
+// The designator of the name that has a cell.
+fn designator_of(c: usize) -> u32
+    requires { ⌜ c < 8192 ⌝ }
+    ensures { λ r. ⌜ r ≡ 64 * (c / 32 + 1) + (c % 32 + 1) ⌝ }
+{
+    (64 * (c / 32 + 1) + (c % 32 + 1)) as u32
+}
+
 // The designator of the looked-up name, whose word stands in the innermost block; 0 where it is not visible.
 fn looked_up(
     code: &[u32; 4096],
@@ -82,13 +109,15 @@ fn looked_up(
     blocks: &[u16; 256],
     display: &[u16; 256],
     live: usize,
-) -> u32 {
+) -> u32
+    requires { ⌜ Looking (now code) (now words) (now blocks) (now display) live ⌝ }
+    ensures { λ r. ⌜ ((w : Looking (now (code .entry)) (now (words .entry)) (now (blocks .entry)) (now (display .entry)) live) → r ≡ designates (w .running .standing .stack .frames) (w .running .standing .name)) ⌝ }
+{
     let word = code_at(code, wide(blocks[live]) + 2);
     if word == 0 {
         return 0;
     }
-    let c = cell(words, display, word);
-    (64 * (c / 32 + 1) + (c % 32 + 1)) as u32
+    designator_of(cell(words, display, word))
 }
 
 // A run that leaves activations live: the place of the innermost one's next statement is put with the others'.
@@ -98,19 +127,23 @@ fn halted(
     blocks: &[u16; 256],
     nexts: &mut [u16; 256],
     display: &[u16; 256],
-    now: Now,
+    here: Now,
     end: End,
     steps: u32,
     offset: usize,
-) -> Halt {
-    let live = now.live;
-    nexts[live] = narrow(now.at);
+) -> Halt
+    requires { ⌜ Looking (now code) (now words) (now blocks) (now display) (here .live) × (here .at < 65536) ⌝ }
+    ensures { λ r. ⌜ ((w : Looking (now (code .entry)) (now (words .entry)) (now (blocks .entry)) (now (display .entry)) (here .live)) → r ≡ haltOf end steps offset here (designates (w .running .standing .stack .frames) (w .running .standing .name))) ⌝ }
+    ensures { λ _. ⌜ now (nexts .exit) ≡ set (now (nexts .entry)) (here .live) (here .at) ⌝ }
+{
+    let live = here.live;
+    nexts[live] = narrow(here.at);
     Halt {
         end,
         steps,
         offset,
         live: live + 1,
-        pairs: now.pairs,
+        pairs: here.pairs,
         designator: looked_up(code, words, blocks, display, live),
     }
 }
@@ -136,7 +169,7 @@ pub fn run(
 {
     let mut display = [0u16; 256];
     let bounds = code_at(code, 1);
-    let mut now = Now {
+    let mut here = Now {
         live: 0,
         at: bounds / 65536,
         end: bounds % 65536,
@@ -144,9 +177,20 @@ pub fn run(
     };
     let mut left = allowance;
     while 0 < left {
-        match step(code, words, blocks, nexts, links, &mut display, table, group, limit, now) {
+        match step(
+            code,
+            words,
+            blocks,
+            nexts,
+            links,
+            &mut display,
+            table,
+            group,
+            limit,
+            here,
+        ) {
             Turn::Went(next) => {
-                now = next;
+                here = next;
                 left -= 1;
             }
             Turn::Finished => {
@@ -155,15 +199,35 @@ pub fn run(
                     steps: allowance - left + 1,
                     offset: 0,
                     live: 0,
-                    pairs: now.pairs,
+                    pairs: here.pairs,
                     designator: 0,
                 };
             }
             Turn::Stopped(cause) => {
                 let done = allowance - left;
-                return halted(code, words, blocks, nexts, &display, now, End::Stopped(cause), done, 2 * now.at);
+                return halted(
+                    code,
+                    words,
+                    blocks,
+                    nexts,
+                    &display,
+                    here,
+                    End::Stopped(cause),
+                    done,
+                    2 * here.at,
+                );
             }
         }
     }
-    halted(code, words, blocks, nexts, &display, now, End::Spent, allowance, 0)
+    halted(
+        code,
+        words,
+        blocks,
+        nexts,
+        &display,
+        here,
+        End::Spent,
+        allowance,
+        0,
+    )
 }

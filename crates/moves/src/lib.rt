@@ -3,10 +3,10 @@
 use stepping::clear;
 use stepping::code_at;
 ghost use mathlib.Core.Path.{_≡_};
-ghost use Prim.Native.Nat.{suc, _+_, _*_, _/_, _%_, _<_, _≤_, _^_};
-ghost use lib.ListN.{length, getD, set};
+ghost use Prim.Native.Nat.{suc, _+_, _/_, _%_, _<_};
+ghost use lib.ListN.{length, getD};
 ghost use Rattle.arrays.specs.Displays.{ShowsFrom};
-ghost use Rattle.display.specs.Running.{Restorable, Now};
+ghost use Rattle.moves.specs.Running.{Restorable, Linkable, LeaveReady, JumpReady, EnterReady, Succeeds};
 
 // The innermost activation, the place of its next statement, where its text ends, and the pairs in use.
 pub struct Now {
@@ -16,13 +16,13 @@ pub struct Now {
     pub pairs: usize,
 }
 
-fn wide(x: u16) -> usize
+pub fn wide(x: u16) -> usize
     ensures { λ r. ⌜ (r ≡ x) × (r < 65536) ⌝ }
 {
     x as usize
 }
 
-fn narrow(x: usize) -> u16
+pub fn narrow(x: usize) -> u16
     requires { ⌜ x < 65536 ⌝ }
     ensures { λ r. ⌜ r ≡ x ⌝ }
 {
@@ -85,12 +85,12 @@ pub fn leave(
     nexts: &[u16; 256],
     links: &[u16; 256],
     display: &mut [u16; 256],
-    now: Now,
+    here: Now,
 ) -> Now
-    requires { ⌜ LeaveReady (now code) (now blocks) (now nexts) (now links) (now display) now ⌝ }
-    ensures { λ r. ⌜ ((w : LeaveReady (now (code .entry)) (now (blocks .entry)) (now (nexts .entry)) (now (links .entry)) (now (display .entry)) now) → Succeeds (w .running) (w .words) (now (blocks .entry)) (now (nexts .entry)) (now (links .entry)) (now (display .exit)) (w .table) r) ⌝ }
+    requires { ⌜ LeaveReady (now code) (now blocks) (now nexts) (now links) (now display) here ⌝ }
+    ensures { λ r. ⌜ ((w : LeaveReady (now (code .entry)) (now (blocks .entry)) (now (nexts .entry)) (now (links .entry)) (now (display .entry)) here) → Succeeds (w .running) (w .words) (now (blocks .entry)) (now (nexts .entry)) (now (links .entry)) (now (display .exit)) (w .table) r) ⌝ }
 {
-    let above = now.live;
+    let above = here.live;
     let live = above - 1;
     let sure = level_of(code, blocks, above);
     restore(links, display, live, level_of(code, blocks, live), sure);
@@ -98,7 +98,7 @@ pub fn leave(
         live,
         at: wide(nexts[live]),
         end: end_of(code, blocks, live),
-        pairs: now.pairs,
+        pairs: here.pairs,
     }
 }
 
@@ -108,19 +108,20 @@ pub fn jump(
     blocks: &[u16; 256],
     links: &[u16; 256],
     display: &mut [u16; 256],
-    now: Now,
+    here: Now,
     home: usize,
     at: usize,
 ) -> Now
-    ensures { λ r. ⌜ ((nexts : List ℕ) (w : JumpReady (now (code .entry)) (now (blocks .entry)) nexts (now (links .entry)) (now (display .entry)) now home at) → Succeeds (w .running) (w .words) (now (blocks .entry)) nexts (now (links .entry)) (now (display .exit)) (w .table) r) ⌝ }
+    requires { ⌜ JumpReady (now code) (now blocks) (now links) (now display) here home at ⌝ }
+    ensures { λ r. ⌜ ((w : JumpReady (now (code .entry)) (now (blocks .entry)) (now (links .entry)) (now (display .entry)) here home at) → Succeeds (w .running) (w .words) (now (blocks .entry)) (w .nexts) (now (links .entry)) (now (display .exit)) (w .table) r) ⌝ }
 {
-    let live = now.live;
+    let live = here.live;
     if home == live {
         return Now {
             live,
             at,
-            end: now.end,
-            pairs: now.pairs,
+            end: here.end,
+            pairs: here.pairs,
         };
     }
     let sure = level_of(code, blocks, live);
@@ -129,7 +130,7 @@ pub fn jump(
         live: home,
         at,
         end: end_of(code, blocks, home),
-        pairs: now.pairs,
+        pairs: here.pairs,
     }
 }
 
@@ -141,7 +142,11 @@ fn link_to(
     display: &mut [u16; 256],
     live: usize,
     link: usize,
-) {
+)
+    requires { ⌜ Linkable (now code) (now blocks) (now links) (now display) live link ⌝ }
+    ensures { λ _. ⌜ ((w : Linkable (now (code .entry)) (now (blocks .entry)) (now (links .entry)) (now (display .entry)) live link) → ShowsFrom (w .running .standing .stack .frames) (suc link) (now (display .exit))) ⌝ }
+    ensures { λ _. ⌜ length (now (display .exit)) ≡ length (now (display .entry)) ⌝ }
+{
     if link != live {
         let sure = level_of(code, blocks, live);
         restore(links, display, link, level_of(code, blocks, link), sure);
@@ -156,15 +161,15 @@ pub fn enter(
     nexts: &mut [u16; 256],
     links: &mut [u16; 256],
     display: &mut [u16; 256],
-    now: Now,
+    here: Now,
     body: usize,
     link: usize,
     back: usize,
 ) -> Now
-    requires { ⌜ EnterReady (now code) (now words) (now blocks) (now nexts) (now links) (now display) now body link back ⌝ }
-    ensures { λ r. ⌜ ((w : EnterReady (now (code .entry)) (now (words .entry)) (now (blocks .entry)) (now (nexts .entry)) (now (links .entry)) (now (display .entry)) now body link back) → Succeeds (w .running) (now (words .exit)) (now (blocks .exit)) (now (nexts .exit)) (now (links .exit)) (now (display .exit)) (w .table) r) ⌝ }
+    requires { ⌜ EnterReady (now code) (now words) (now blocks) (now nexts) (now links) (now display) here body link back ⌝ }
+    ensures { λ r. ⌜ ((w : EnterReady (now (code .entry)) (now (words .entry)) (now (blocks .entry)) (now (nexts .entry)) (now (links .entry)) (now (display .entry)) here body link back) → Succeeds (w .running) (now (words .exit)) (now (blocks .exit)) (now (nexts .exit)) (now (links .exit)) (now (display .exit)) (w .table) r) ⌝ }
 {
-    let live = now.live;
+    let live = here.live;
     let head = code_at(code, body);
     let bounds = code_at(code, body + 1);
     nexts[live] = narrow(back);
@@ -182,6 +187,6 @@ pub fn enter(
         live: fresh,
         at: bounds / 65536,
         end: bounds % 65536,
-        pairs: now.pairs,
+        pairs: here.pairs,
     }
 }

@@ -1,0 +1,142 @@
+-- `enter` meets its contract.
+use native.Mathlib.Omega.{arith}
+use mathlib.Core.Path.{_∙_}
+use Rattle.moves.specs.Moving.{entry-fits, linkable, linked, enters-as}
+use borrow.Author.Needs.{needs}
+use Rattle.moves.proofs.enter.Statement.{statement}
+use Rattle.moves.proofs.enter.Tie as tie
+
+code-at-requires : tie.Need-code-at-requires
+code-at-requires c κs =
+    let s = c in
+    let f = entry-fits (s .pre .running) (s .args .body) (s .args .link) (s .args .back) (s .args .words .now) (s .pre .enters) in
+    omega arith
+
+add-code-at : tie.Need-add-code-at
+add-code-at c =
+    let s = c .before in
+    let f = entry-fits (s .pre .running) (s .args .body) (s .args .link) (s .args .back) (s .args .words .now) (s .pre .enters) in
+    search needs
+
+code-at-requires-2 : tie.Need-code-at-requires-2
+code-at-requires-2 c κs =
+    let s = c .before in
+    let f = entry-fits (s .pre .running) (s .args .body) (s .args .link) (s .args .back) (s .args .words .now) (s .pre .enters) in
+    omega arith
+
+narrow-requires : tie.Need-narrow-requires
+narrow-requires c κs =
+    let s = c .before .before in
+    let f = entry-fits (s .pre .running) (s .args .body) (s .args .link) (s .args .back) (s .args .words .now) (s .pre .enters) in
+    omega arith
+
+mul-nexts : tie.Need-mul-nexts
+mul-nexts c = search needs
+
+element-write-nexts : tie.Need-element-write-nexts
+element-write-nexts c = search needs
+
+link-to-requires : tie.Need-link-to-requires
+link-to-requires c κs =
+    let s = c .before .before .before .before .before .before in
+    linkable (s .pre .running) (s .args .body) (s .args .link) (s .args .back) (s .args .words .now) (s .pre .enters)
+
+add-fresh : tie.Need-add-fresh
+add-fresh c = search needs
+
+narrow-requires-2 : tie.Need-narrow-requires-2
+narrow-requires-2 c κs =
+    let s = c .before .before .before .before .before .before .before in
+    let f = entry-fits (s .pre .running) (s .args .body) (s .args .link) (s .args .back) (s .args .words .now) (s .pre .enters) in
+    omega arith
+
+mul-blocks : tie.Need-mul-blocks
+mul-blocks c = search needs
+
+element-write-blocks : tie.Need-element-write-blocks
+element-write-blocks c = search needs
+
+narrow-requires-3 : tie.Need-narrow-requires-3
+narrow-requires-3 c κs = search needs
+
+mul-links : tie.Need-mul-links
+mul-links c = search needs
+
+element-write-links : tie.Need-element-write-links
+element-write-links c = search needs
+
+mul-narrow : tie.Need-mul-narrow
+mul-narrow c = search needs
+
+narrow-requires-4 : tie.Need-narrow-requires-4
+narrow-requires-4 c κs = search needs
+
+mul-display : tie.Need-mul-display
+mul-display c = search needs
+
+element-write-display : tie.Need-element-write-display
+element-write-display c = search needs
+
+mul-clear : tie.Need-mul-clear
+mul-clear c = search needs
+
+add-clear : tie.Need-add-clear
+add-clear c = search needs
+
+mul-clear-2 : tie.Need-mul-clear-2
+mul-clear-2 c = search needs
+
+add-clear-2 : tie.Need-add-clear-2
+add-clear-2 c = search needs
+
+clear-requires : tie.Need-clear-requires
+clear-requires c κs =
+    let s = c .before .before .before .before .before .before .before .before .before .before .before in
+    let f = entry-fits (s .pre .running) (s .args .body) (s .args .link) (s .args .back) (s .args .words .now) (s .pre .enters) in
+    let e = c .before .before .before .before .before .before .before .before .before .before .code-at .ensures .0 in
+    (omega arith, omega arith)
+
+returns : tie.Need-returns
+returns c =
+    let a = c .before .before in
+    let b = a .before in
+    let d = b .before in
+    let k = d .before in
+    let n = k .before .before .before .before in
+    let p = n .before in
+    let q = p .before in
+    let s = q .before in
+    let display = k .link-to .last .1 .1 .1 .0 in
+    λ w.
+    enters-as (w .running) (s .args .body) (s .args .link) (s .args .back) (s .args .words .now) (w .enters) (q .code-at .result) (p .code-at2 .result) (d .narrow2 .result) (n .narrow .result) (b .narrow3 .result) (a .narrow4 .result)
+    (q .code-at .ensures .0) (p .code-at2 .ensures .0) (d .narrow2 .ensures) (n .narrow .ensures) (b .narrow3 .ensures) (a .narrow4 .ensures) (c .clear .last .0) (c .clear .ensures) display (k .link-to .ensures .1 ∙ w .running .display-long)
+    (linked (w .running) (s .args .body) (s .args .link) (s .args .back) (s .args .words .now) (w .enters) display (k .link-to .ensures .0))
+
+pub enter-spec : {M : Type 1} → statement M
+enter-spec =
+    tie.close
+    (tie.spec
+    code-at-requires
+    add-code-at
+    code-at-requires-2
+    narrow-requires
+    mul-nexts
+    element-write-nexts
+    link-to-requires
+    add-fresh
+    narrow-requires-2
+    mul-blocks
+    element-write-blocks
+    narrow-requires-3
+    mul-links
+    element-write-links
+    mul-narrow
+    narrow-requires-4
+    mul-display
+    element-write-display
+    mul-clear
+    add-clear
+    mul-clear-2
+    add-clear-2
+    clear-requires
+    returns)

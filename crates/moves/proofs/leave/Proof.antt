@@ -1,0 +1,72 @@
+-- `leave` meets its contract.
+use Prim.Native.Nat.{_+_, _-_, _≤_, _<_}
+use native.Mathlib.Omega.{arith}
+use mathlib.Core.Path.{_≡_, refl, sym, ap, _∙_, subst}
+use lib.ListN.{getD}
+use Rattle.moves.specs.Running.{Running}
+use Rattle.moves.specs.Moving.{few-live, block-within, restorable, restored, leaves-to}
+use borrow.Author.Needs.{needs}
+use Rattle.moves.proofs.leave.Statement.{statement}
+use Rattle.moves.proofs.leave.Tie as tie
+
+sub-live : tie.Need-sub-live
+sub-live c = search needs
+
+level-of-requires : tie.Need-level-of-requires
+level-of-requires c κs =
+    let r = c .pre .running in
+    (few-live r, omega (arith, block-within r (c .args .here .live) (omega arith)))
+
+level-of-requires-2 : tie.Need-level-of-requires-2
+level-of-requires-2 c κs =
+    let s = c .before .before in
+    (omega (arith, few-live (s .pre .running)), omega (arith, block-within (s .pre .running) (s .args .here .live - 1) (omega arith)))
+
+restore-requires : tie.Need-restore-requires
+restore-requires c κs =
+    let s = c .before .before .before in
+    restorable (s .pre .running) (s .args .here .live - 1) (c .level-of2 .result) (c .before .before .level-of .result) (omega arith) (c .level-of2 .ensures .0) (c .before .before .level-of .ensures .0)
+
+mul-wide : tie.Need-mul-wide
+mul-wide c =
+    let s = c .before .before .before .before in
+    let h = few-live (s .pre .running) in
+    search needs
+
+element-copy-out-wide : tie.Need-element-copy-out-wide
+element-copy-out-wide c =
+    let s = c .before .before .before .before in
+    omega (arith, few-live (s .pre .running))
+
+wide-requires : tie.Need-wide-requires
+wide-requires c κs = search needs
+
+end-of-requires : tie.Need-end-of-requires
+end-of-requires c κs =
+    let s = c .before .before .before .before .before .before in
+    (omega (arith, few-live (s .pre .running)), omega (arith, block-within (s .pre .running) (s .args .here .live - 1) (omega arith)))
+
+returns : tie.Need-returns
+returns c =
+    let o = c .before .before .before in
+    let l = o .before in
+    let s = l .before .before .before in
+    let home = s .args .here .live - 1 in
+    λ w.
+    leaves-to (w .running) (o .restore .last .1 .0) (o .restore .ensures .1 ∙ w .running .display-long) (w .ended) (w .above) home refl
+    (restored (w .running) home (l .level-of2 .result) (l .before .before .level-of .result) (omega arith) (l .level-of2 .ensures .0) (l .before .before .level-of .ensures .0) (o .restore .last .1 .0) (o .restore .ensures .0))
+    _ refl (c .before .wide .ensures .0) (c .end-of .ensures) refl
+
+pub leave-spec : {M : Type 1} → statement M
+leave-spec =
+    tie.close
+    (tie.spec
+    sub-live
+    level-of-requires
+    level-of-requires-2
+    restore-requires
+    mul-wide
+    element-copy-out-wide
+    wide-requires
+    end-of-requires
+    returns)

@@ -1,0 +1,112 @@
+-- The display engine between two steps: `Running` says that the arrays hold a sound stack and that the display is that of its innermost frame,
+-- `Succeeds` that another state of the arrays is the one a step behind it. The others are what its functions ask.
+use Prim.Native.Nat.{ℕ, suc, _≤_, _<_}
+use mathlib.Core.List.{List}
+use mathlib.Core.Option.{some}
+use mathlib.Core.Path.{_≡_}
+use lib.IntN.{ℤ}
+use lib.ListN.{length}
+use Rattle.language.specs.Machine.{Limits}
+use Rattle.frames.specs.Frame.{Frame, numbered}
+use Rattle.coordinates.specs.Chain.{levelOf, Downward}
+use Rattle.arrays.specs.Holds.{Shows}
+use Rattle.arrays.specs.Displays.{ShowsFrom, LinksOf}
+use Rattle.acting.specs.Acting.{Scene}
+use Rattle.steps.specs.Standing.{Standing}
+use Rattle.steps.specs.Means.{Follows, JumpsTo, EntersAt}
+use Rattle.moves.specs.declared.Now.{Now}
+
+abbrev pub limitsBy : ℕ → ℕ → Limits
+limitsBy limit group = record { activations = limit; group = group }
+
+abbrev pub sceneBy : List ℕ → List ℤ → List ℤ → ℕ → ℕ → ℕ → ℕ → ℕ → Scene
+sceneBy code words table pairs group limit live at =
+    record { code = code; words = words; table = table; pairs = pairs; limits = limitsBy limit group; live = live; at = at }
+
+pub record Running (code : List ℕ) (limit group : ℕ) (words : List ℤ) (blocks nexts links display : List ℕ) (table : List ℤ) (here : Now) : Type 0 where
+  pub standing : Standing code (limitsBy limit group) words blocks nexts links table (here .pairs) (here .live) (here .at) (here .end)
+  pub shows : Shows (standing .stack .frames) display
+  pub display-long : length display ≡ 256
+
+-- what the statement at a place asks: an engine that runs stands there, before the end of its text
+pub record Doing (code : List ℕ) (words : List ℤ) (display : List ℕ) (table : List ℤ) (pairs group limit live at : ℕ) : Type 0 where
+  pub blocks : List ℕ
+  pub nexts : List ℕ
+  pub links : List ℕ
+  pub end : ℕ
+  pub running : Running code limit group words blocks nexts links display table (record { live = live; at = at; end = end; pairs = pairs })
+  pub before : at ≡ end → ⊥
+
+-- the state of the arrays one step behind
+pub record Succeeds {code : List ℕ} {limit group : ℕ} {words : List ℤ} {blocks nexts links display : List ℕ} {table : List ℤ} {here : Now} (w : Running code limit group words blocks nexts links display table here)
+    (words′ : List ℤ) (blocks′ nexts′ links′ display′ : List ℕ) (table′ : List ℤ) (here′ : Now) : Type 0 where
+  pub running : Running code limit group words′ blocks′ nexts′ links′ display′ table′ here′
+  pub follows : Follows (w .standing) (running .standing .stack) (running .standing .program) (running .standing .name)
+
+-- the looked-up name can be found in the innermost activation
+pub record Looking (code : List ℕ) (words : List ℤ) (blocks display : List ℕ) (live : ℕ) : Type 0 where
+  pub nexts : List ℕ
+  pub links : List ℕ
+  pub limit : ℕ
+  pub group : ℕ
+  pub table : List ℤ
+  pub at : ℕ
+  pub end : ℕ
+  pub pairs : ℕ
+  pub running : Running code limit group words blocks nexts links display table (record { live = live; at = at; end = end; pairs = pairs })
+
+-- Putting the display right: it is that of frame `old` of some frames, and the entries up to `sure` are its own
+pub record Restorable (links display : List ℕ) (activation level sure : ℕ) : Type 0 where
+  pub frames : List Frame
+  pub old : ℕ
+  pub down : Downward frames
+  pub few : length frames ≤ 256
+  pub links-are : LinksOf frames links
+  pub frame : Frame
+  pub there : numbered frames (suc activation) ≡ some frame
+  pub level-is : level ≡ levelOf frames (suc activation)
+  pub level-high : level < 256
+  pub sure-is : sure ≡ levelOf frames old
+  pub shows : ShowsFrom frames old display
+  pub display-long : length display ≡ 256
+
+-- What leaving, jumping and entering ask of arrays that they are not lent
+
+pub record LeaveReady (code blocks nexts links display : List ℕ) (here : Now) : Type 0 where
+  pub limit : ℕ
+  pub group : ℕ
+  pub words : List ℤ
+  pub table : List ℤ
+  pub running : Running code limit group words blocks nexts links display table here
+  pub ended : here .at ≡ here .end
+  pub above : 1 ≤ here .live
+
+pub record JumpReady (code blocks links display : List ℕ) (here : Now) (home at : ℕ) : Type 0 where
+  pub nexts : List ℕ
+  pub limit : ℕ
+  pub group : ℕ
+  pub words : List ℤ
+  pub table : List ℤ
+  pub running : Running code limit group words blocks nexts links display table here
+  pub jumps : JumpsTo (running .standing) home at
+
+-- a new activation can be linked to one that is live
+pub record Linkable (code blocks links display : List ℕ) (live link : ℕ) : Type 0 where
+  pub nexts : List ℕ
+  pub limit : ℕ
+  pub group : ℕ
+  pub words : List ℤ
+  pub table : List ℤ
+  pub at : ℕ
+  pub end : ℕ
+  pub pairs : ℕ
+  pub running : Running code limit group words blocks nexts links display table (record { live = live; at = at; end = end; pairs = pairs })
+  pub high : link ≤ live
+
+pub record EnterReady (code : List ℕ) (words : List ℤ) (blocks nexts links display : List ℕ) (here : Now) (body link back : ℕ) : Type 0 where
+  pub limit : ℕ
+  pub group : ℕ
+  pub before : List ℤ
+  pub table : List ℤ
+  pub running : Running code limit group before blocks nexts links display table here
+  pub enters : EntersAt (running .standing) body link back words
