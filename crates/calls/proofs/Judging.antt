@@ -132,9 +132,9 @@ agree-visible sc at (k ∷ ks) (n ∷ ns) e =
     let f = agree-first sc at k ks n ns (lookup n sc) refl e in
     ap (λ (v : definitions.Verdict). _then_ v (allVisible sc at ns)) (f .1) ∙ agree-visible sc at ks ns (f .0)
 
-pub suited : (bs es : List ℕ) (at n m place : ℕ) → n ≡ wordAt bs (at + 2) → m ≡ wordAt bs (at + 4) → foundIn n es ≡ At place → wordAt bs place ≡ PR-mark → wordAt bs (place + 4) ≡ m → agree (kindsAt bs (place + 6) m) (map (kindIn (scopeOf bs es)) (wordsAt bs (at + 6) m)) ≡ true → Fit ≡ verdictOf (judgeAction (scopeOf bs es) at (CL (wordAt bs (at + 2)) (wordsAt bs (at + 6) (wordAt bs (at + 4)))))
+pub agreed : (bs es : List ℕ) (at n m place : ℕ) → n ≡ wordAt bs (at + 2) → m ≡ wordAt bs (at + 4) → foundIn n es ≡ At place → wordAt bs place ≡ PR-mark → wordAt bs (place + 4) ≡ m → agree (kindsAt bs (place + 6) m) (map (kindIn (scopeOf bs es)) (wordsAt bs (at + 6) m)) ≡ true → Fit ≡ verdictOf (judgeAction (scopeOf bs es) at (CL (wordAt bs (at + 2)) (wordsAt bs (at + 6) (wordAt bs (at + 4)))))
 unfolding verdictOf
-suited bs es at n m place name number found marked same e =
+agreed bs es at n m place name number found marked same e =
     call-judges bs es at n m name number Fit
     (sym (ap verdictOf (use-right bs es at procedure n place found (ap (λ (x : Meaning). kindField (x .kind)) (means-PR bs place marked)))))
     refl Fit (sym (ap verdictOf (agree-visible (scopeOf bs es) at (kindsAt bs (place + 6) m) (wordsAt bs (at + 6) m) e))) refl Fit fine refl

@@ -110,7 +110,7 @@ fn judge_call(script: &[u8], entries: &[usize], top: usize, at: usize) -> Verdic
 }
 
 // Whether a declared procedure is called with arguments of its formals' kinds: then they are visible too, and nothing is refused.
-fn suits(script: &[u8], entries: &[usize], top: usize, at: usize) -> bool
+fn kinds_agree(script: &[u8], entries: &[usize], top: usize, at: usize) -> bool
     requires { ⌜ (at < 2 ^ 32) × Chained (now entries) top ⌝ }
     ensures { λ r.
         ⌜ (r ≡ true → Verdict.Fit ≡ verdictOf (definitions.judgeAction (scopeFrom (now (script .entry)) (now (entries .entry)) top) at (callAt (now (script .entry)) at))) ⌝ }
@@ -129,13 +129,13 @@ fn suits(script: &[u8], entries: &[usize], top: usize, at: usize) -> bool
     matching(script, entries, top, at, place + 6, count)
 }
 
-// CL. A call that suits its procedure looks each argument up once.
+// CL. A call whose kinds agree looks each argument up once.
 pub fn call(script: &[u8], entries: &[usize], top: usize, at: usize) -> Verdict
     requires { ⌜ (at < 2 ^ 32) × Chained (now entries) top ⌝ }
     ensures { λ r.
         ⌜ r ≡ verdictOf (definitions.judgeAction (scopeFrom (now (script .entry)) (now (entries .entry)) top) at (callAt (now (script .entry)) at)) ⌝ }
 {
-    if suits(script, entries, top, at) {
+    if kinds_agree(script, entries, top, at) {
         return Verdict::Fit;
     }
     judge_call(script, entries, top, at)

@@ -139,7 +139,7 @@ module _ (bs : List ℕ) (at : ℕ) where
 pub skipped-out : (bs : List ℕ) (at : ℕ) → length bs ≤ at → Skipped bs at at
 skipped-out bs at out = record {
   ends = λ x h. absurd (left-inside bs at x at 1 (omega arith) (left-start bs at x h) out);
-  onward = omega arith;
+  after = omega arith;
   close = omega arith;
 }
 
@@ -147,7 +147,7 @@ module _ (bs : List ℕ) (at : ℕ) (inside : at < length bs) (s : Step) (p : Pa
   pub skipped-head : s .more ≡ 0 → Skipped bs at (s .next)
   skipped-head none = record {
     ends = λ x h. left-end bs at x (s .next) (s .more) (omega arith) (left-first bs at x s p h);
-    onward = omega (arith, p .on);
+    after = omega (arith, p .on);
     close = omega (arith, p .near);
   }
 

@@ -22,7 +22,7 @@ Alone bs at next = Passed bs at (record { next = next; more = 0 })
 -- a record with all that stands inside it
 pub record Skipped (bs : List ℕ) (at end : ℕ) : Type 0 where
   pub ends : (x : Item) → Stands bs at (itemFields x) → end ≡ at + 2 * length (itemFields x)
-  pub onward : at ≤ end
+  pub after : at ≤ end
   pub close : end ≤ max at (length bs + 131076)
 
 -- the records still to pass, from an offset on, of those that begin with a record

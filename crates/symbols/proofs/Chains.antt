@@ -1,6 +1,6 @@
 -- Chains of entries: what a head and a link pass over, and an entry that is inserted or removed.
 -- Assumes nothing.
-use mathlib.Core.Path.{_≡_, sym, _∙_, ap}
+use mathlib.Core.Path.{_≡_, refl, sym, _∙_, ap, subst}
 use mathlib.Core.List.{List}
 use mathlib.Core.Logic.{⊎-elim, _⊎_, inl, inr}
 use Prim.Native.Nat.{ℕ, zero, suc, _+_, _-_, _%_, _<_, _≤_, max}
@@ -47,7 +47,7 @@ module _ (es : List ℕ) (top : ℕ) (h : Chained es top) where
 
   pub along : (n i : ℕ) → top ≤ i → i < length es → (getD es i 0 % 65536 ≡ n → ⊥) → getD es i 0 % 256 ≡ n % 256 → foundIn n (drop (getD es (i - 512) 0) es) ≡ foundIn n (drop i es)
   along n i t l other same =
-      over n es (i + 1) (getD es (i - 512) 0) (omega (arith, h .onward i t (omega (arith, h .long))))
+      over n es (i + 1) (getD es (i - 512) 0) (omega (arith, h .forward i t (omega (arith, h .long))))
       (λ k a b c p. h .links i k t (omega arith) (omega (arith, h .long)) c (remainder _ n p ∙ sym same))
       ∙ sym (found-later n es i l other)
 
@@ -115,9 +115,9 @@ module _ (es : List ℕ) (at v r : ℕ) (is : r ≡ getD es at 0 % 256) (h : Cha
     above = low;
     heads = heads-inserted;
     links = links-inserted;
-    onward = λ i t u. ⊎-elim
+    forward = λ i t u. ⊎-elim
         (λ q. omega (arith, link-here i q))
-        (λ q. omega (arith, link-same i q, h .onward i (omega arith) u))
+        (λ q. omega (arith, link-same i q, h .forward i (omega arith) u))
         (eq-or-lt-of-le t);
   }
 
@@ -159,7 +159,7 @@ module _ (es : List ℕ) (at r : ℕ) (is : r ≡ getD es at 0 % 256) (h : Chain
     heads = heads-removed;
     links = λ i k t o u b e. h .links i k (omega arith) o u (omega (arith, stays (i - 512) (omega (arith, h .above))))
         (sym (stays-remainder k (omega (arith, h .above))) ∙ e ∙ stays-remainder i (omega (arith, h .above)));
-    onward = λ i t u. omega (arith, stays (i - 512) (omega (arith, h .above)), h .onward i (omega arith) u);
+    forward = λ i t u. omega (arith, stays (i - 512) (omega (arith, h .above)), h .forward i (omega arith) u);
   }
 
   pub removed-kept : drop 768 out ≡ drop 768 es
@@ -182,7 +182,7 @@ chained-still es fs base top l le n below kept h = record {
   above = h .above;
   heads = λ g k s t u b e. h .heads g k s t u (omega (arith, low g (omega arith))) (sym (high k t) ∙ e);
   links = λ i k t o u b e. h .links i k t o u (omega (arith, low (i - 512) (omega arith))) (sym (high k (omega arith)) ∙ e ∙ high i t);
-  onward = λ i t u. omega (arith, low (i - 512) (omega arith), h .onward i t u);
+  forward = λ i t u. omega (arith, low (i - 512) (omega arith), h .forward i t u);
 }
   where
     low : (k : ℕ) → k < 768 → getD fs k 0 ≡ getD es k 0
@@ -208,5 +208,23 @@ none-chained es n = record {
   above = omega arith;
   heads = λ g k s t u b e. omega arith;
   links = λ i k t o u b e. omega arith;
-  onward = λ i t u. absurd (omega arith);
+  forward = λ i t u. absurd (omega arith);
 }
+
+-- entries inserted or removed one by one: what holds while those from `i` on are in the chains
+pub record Between (es₀ es : List ℕ) (base top i : ℕ) : Type 0 where
+  pub low : base ≤ i
+  pub high : i ≤ top
+  pub same-length : length es ≡ length es₀
+  pub kept : drop 768 es ≡ drop 768 es₀
+  pub chained : Chained es i
+
+module _ (es₀ : List ℕ) (base top : ℕ) where
+  pub between-start : (i : ℕ) → base ≤ i → i ≤ top → Chained es₀ i → Between es₀ es₀ base top i
+  between-start i l u h = record { low = l; high = u; same-length = refl; kept = refl; chained = h }
+
+  pub between-step : (es es′ : List ℕ) (i j : ℕ) → Between es₀ es base top i → base ≤ j → j ≤ top → length es′ ≡ length es → drop 768 es′ ≡ drop 768 es → Chained es′ j → Between es₀ es′ base top j
+  between-step es es′ i j b l u n k h = record { low = l; high = u; same-length = n ∙ b .same-length; kept = k ∙ b .kept; chained = h }
+
+  pub between-end : (es : List ℕ) (i j : ℕ) → i ≡ j → Between es₀ es base top i → Chained es j × (drop 768 es ≡ drop 768 es₀)
+  between-end es i j e b = (subst (Chained es) e (b .chained), b .kept)

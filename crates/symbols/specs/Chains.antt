@@ -11,4 +11,4 @@ pub record Chained (es : List ℕ) (top : ℕ) : Type 0 where
   pub above : 768 ≤ top
   pub heads : (h k : ℕ) → h < 256 → top ≤ k → k < 1280 → k < getD es h 0 → getD es k 0 % 256 ≡ h → ⊥
   pub links : (i k : ℕ) → top ≤ i → i < k → k < 1280 → k < getD es (i - 512) 0 → getD es k 0 % 256 ≡ getD es i 0 % 256 → ⊥
-  pub onward : (i : ℕ) → top ≤ i → i < 1280 → i < getD es (i - 512) 0
+  pub forward : (i : ℕ) → top ≤ i → i < 1280 → i < getD es (i - 512) 0

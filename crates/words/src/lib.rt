@@ -4,7 +4,7 @@ ghost use Prim.Native.Nat.{_^_, _<_};
 ghost use lib.ListN.{getD};
 ghost use Rattle.words.specs.Words.{wordAt};
 
-fn wide(x: u8) -> usize
+fn as_usize(x: u8) -> usize
     ensures { λ r. ⌜ (r ≡ x) × (r < 256) ⌝ }
 {
     x as usize
@@ -15,7 +15,7 @@ fn byte(script: &[u8], at: usize) -> usize
     ensures { λ r. ⌜ (r ≡ getD (now (script .entry)) at 0) × (r < 256) ⌝ }
 {
     if at < script.len() {
-        return wide(script[at]);
+        return as_usize(script[at]);
     }
     0
 }
@@ -26,7 +26,7 @@ pub fn word(script: &[u8], at: usize) -> usize
     ensures { λ r. ⌜ (r ≡ wordAt (now (script .entry)) at) × (r < 65536) ⌝ }
 {
     if at + 1 < script.len() {
-        return wide(script[at]) + 256 * wide(script[at + 1]);
+        return as_usize(script[at]) + 256 * as_usize(script[at + 1]);
     }
     byte(script, at)
 }

@@ -24,7 +24,7 @@ returns : tie.Need-returns
 returns c =
     let st = c .before .before .before in
     let a = st .args in (
-      st .pre .0 .onward (a .at) (st .pre .1) (omega (arith, st .pre .0 .long)),
+      st .pre .0 .forward (a .at) (st .pre .1) (omega (arith, st .pre .0 .long)),
       along (a .entries .now) (a .top) (st .pre .0) (a .name) (a .at) (st .pre .1) (st .pre .2) (st .pre .3) (c .before .if1 .taken),
     )
 

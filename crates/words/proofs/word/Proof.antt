@@ -10,20 +10,20 @@ use Rattle.words.proofs.word.Tie as tie
 add-if1 : tie.Need-add-if1
 add-if1 c = search needs
 
-shared-slice-read-wide : tie.Need-shared-slice-read-wide
-shared-slice-read-wide c = search needs
+shared-slice-read-as-usize : tie.Need-shared-slice-read-as-usize
+shared-slice-read-as-usize c = search needs
 
-wide-requires : tie.Need-wide-requires
-wide-requires c κs = search needs
+as-usize-requires : tie.Need-as-usize-requires
+as-usize-requires c κs = search needs
 
-add-wide : tie.Need-add-wide
-add-wide c = search needs
+add-as-usize : tie.Need-add-as-usize
+add-as-usize c = search needs
 
-shared-slice-read-wide-2 : tie.Need-shared-slice-read-wide-2
-shared-slice-read-wide-2 c = search needs
+shared-slice-read-as-usize-2 : tie.Need-shared-slice-read-as-usize-2
+shared-slice-read-as-usize-2 c = search needs
 
-wide-requires-2 : tie.Need-wide-requires-2
-wide-requires-2 c κs = search needs
+as-usize-requires-2 : tie.Need-as-usize-requires-2
+as-usize-requires-2 c κs = search needs
 
 mul-result : tie.Need-mul-result
 mul-result c = search needs
@@ -33,7 +33,7 @@ add-result c = search needs
 
 returns : tie.Need-returns
 unfolding wordAt
-returns c = (omega (arith, c .before .before .wide .ensures .0, c .wide2 .ensures .0), omega arith)
+returns c = (omega (arith, c .before .before .as-usize .ensures .0, c .as-usize2 .ensures .0), omega arith)
 
 byte-requires : tie.Need-byte-requires
 byte-requires c κs = search needs
@@ -50,11 +50,11 @@ word-spec =
     tie.close
     (tie.spec
     add-if1
-    shared-slice-read-wide
-    wide-requires
-    add-wide
-    shared-slice-read-wide-2
-    wide-requires-2
+    shared-slice-read-as-usize
+    as-usize-requires
+    add-as-usize
+    shared-slice-read-as-usize-2
+    as-usize-requires-2
     mul-result
     add-result
     returns

@@ -3,11 +3,11 @@ use borrow.Author.Needs.{needs}
 use Rattle.calls.proofs.call.call.Statement.{statement}
 use Rattle.calls.proofs.call.call.Tie as tie
 
-suits-requires : tie.Need-suits-requires
-suits-requires c κs = search needs
+kinds-agree-requires : tie.Need-kinds-agree-requires
+kinds-agree-requires c κs = search needs
 
 returns : tie.Need-returns
-returns c = c .before .suits .ensures (c .if1 .taken)
+returns c = c .before .kinds-agree .ensures (c .if1 .taken)
 
 judge-call-requires : tie.Need-judge-call-requires
 judge-call-requires c κs = search needs
@@ -16,4 +16,4 @@ returns-2 : tie.Need-returns-2
 returns-2 c = search needs
 
 pub call-spec : {M : Type 1} → statement M
-call-spec = tie.close (tie.spec suits-requires returns judge-call-requires returns-2)
+call-spec = tie.close (tie.spec kinds-agree-requires returns judge-call-requires returns-2)

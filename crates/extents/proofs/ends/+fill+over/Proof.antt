@@ -82,7 +82,7 @@ fill-returns t c =
         record {
           ends = λ x h. absurd
               (left-inside (a .script .now) (a .at) x (l .here) (l .pending) (c .before .loop-test .taken) (l .inv .3 x h) (c .if1 .taken));
-          onward = omega (arith, l .inv .0);
+          after = omega (arith, l .inv .0);
           close = omega (arith, l .inv .1);
         },
         l .inv .0,
@@ -123,7 +123,7 @@ fill-returns-2 t c =
     let a = c .before .before .before .before .before .before .before .args in
     let s : Skipped (a .script .now) (a .at) (l .here) = record {
       ends = λ x h. left-end (a .script .now) (a .at) x (l .here) (l .pending) (c .before .before .loop-test .left) (l .inv .3 x h);
-      onward = omega (arith, l .inv .0);
+      after = omega (arith, l .inv .0);
       close = omega (arith, l .inv .1);
     } in
     ((s, l .inv .0), c .note .ensures (a .script .now) s (l .inv .4))

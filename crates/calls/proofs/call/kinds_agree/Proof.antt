@@ -1,12 +1,12 @@
--- `calls::call::suits` meets its contract: a case for each way out. Assumes nothing.
+-- `calls::call::kinds_agree` meets its contract: a case for each way out. Assumes nothing.
 use mathlib.Core.Path.{sym, _∙_}
 use native.Mathlib.Omega.{arith}
 use lib.ListN.{drop}
 use Rattle.symbols.proofs.Entries.{near-place}
-use Rattle.calls.proofs.Judging.{no-true, suited}
+use Rattle.calls.proofs.Judging.{no-true, agreed}
 use borrow.Author.Needs.{needs}
-use Rattle.calls.proofs.call.suits.Statement.{statement}
-use Rattle.calls.proofs.call.suits.Tie as tie
+use Rattle.calls.proofs.call.kinds_agree.Statement.{statement}
+use Rattle.calls.proofs.call.kinds_agree.Tie as tie
 
 add-word : tie.Need-add-word
 add-word c = search needs
@@ -61,13 +61,13 @@ returns-4 c =
     let f = x .before .before .before in
     let w = f .before in
     let a = w .before .before .before .before .args in
-    λ e. suited (a .script .now) (drop (a .top) (a .entries .now)) (a .at) (w .before .word .result) (w .word2 .result) (x .before .place .given .0 .0)
+    λ e. agreed (a .script .now) (drop (a .top) (a .entries .now)) (a .at) (w .before .word .result) (w .word2 .result) (x .before .place .given .0 .0)
     (w .before .word .ensures .0) (w .word2 .ensures .0) (sym (f .find .ensures .0) ∙ x .before .place .given .1)
     (sym (c .before .before .before .before .word3 .ensures .0) ∙ c .before .before .before .if1 .left) (sym (c .before .before .word4 .ensures .0) ∙ c .before .if2 .left)
     (sym (c .matching .ensures) ∙ e)
 
-pub suits-spec : {M : Type 1} → statement M
-suits-spec =
+pub kinds-agree-spec : {M : Type 1} → statement M
+kinds-agree-spec =
     tie.close
     (tie.spec
     add-word
