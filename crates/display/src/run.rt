@@ -148,7 +148,7 @@ fn halted(
     }
 }
 
-pub fn run(
+pub fn run_program(
     code: &[u32; 4096],
     words: &mut [i32; 8224],
     blocks: &mut [u16; 256],

@@ -2,7 +2,12 @@
 use language::Verdict;
 ghost use mathlib.Core.Path.{_≡_};
 ghost use Rattle.language.specs.Check.{check};
+ghost use Rattle.language.specs.Call.{display, reply};
+ghost use Rattle.language.specs.Numbers.{answerWords};
+ghost use Rattle.admission.specs.Lent.{fedOf};
 ghost use Rattle.enrol.specs.Answers.{checkWords};
+
+mod by_display;
 
 // The refusal's number, 0 where the script is accepted, and its offset.
 #[no_mangle]
@@ -17,4 +22,25 @@ pub extern "C" fn enrol_check(script: &[u8], answer: &mut [u64; 2])
             *answer = [language::refusal_number(cause) as u64, at as u64];
         }
     }
+}
+
+// A run by the display engine: the answer's words, and what becomes of table and sheet.
+#[no_mangle]
+pub extern "C" fn enrol_display(
+    script: &[u8],
+    d: u32,
+    n: u32,
+    g: u32,
+    tally: u64,
+    table: &mut [i32],
+    count: usize,
+    name: u16,
+    sheet: &mut [i32],
+    answer: &mut [u64; 9],
+)
+    ensures { λ _. ⌜ now (answer .exit) ≡ answerWords ((reply display (fedOf (now (script .entry)) d n g tally (now (table .entry)) count name (now (sheet .entry)))) .answer) ⌝ }
+    ensures { λ _. ⌜ now (sheet .exit) ≡ (reply display (fedOf (now (script .entry)) d n g tally (now (table .entry)) count name (now (sheet .entry)))) .lent .sheet ⌝ }
+    ensures { λ _. ⌜ now (table .exit) ≡ (reply display (fedOf (now (script .entry)) d n g tally (now (table .entry)) count name (now (sheet .entry)))) .lent .table .words ⌝ }
+{
+    *answer = by_display::call(script, d, n, g, tally, table, count, name, sheet);
 }

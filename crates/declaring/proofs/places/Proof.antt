@@ -73,7 +73,7 @@ loop-again c =
     let st = c .before .before .before .before .before .before .before in
     let a = st .args in (
       omega (arith, c .before .before .before .loop-test .taken),
-      omega (arith, s .ensures .0 .onward, l .inv .1),
+      omega (arith, s .ensures .0 .after, l .inv .1),
       omega (arith, s .ensures .0 .close, l .inv .2, st .pre .0),
       length-set (l .starts) (a .base + l .i) (l .here) ∙ l .inv .3,
       take-set-le (a .base) (l .starts) (a .base + l .i) (l .here) (omega arith) ∙ l .inv .4,

@@ -7,8 +7,8 @@ use borrow.Author.Needs.{needs}
 use lib.ListN.{length}
 use Rattle.display.specs.Turning.{Beginning, Ended}
 use Rattle.display.specs.Ending.{resultFrom, Underway, begun, looking, at-small, spent, stopped, went-as, finished-as, stays, leaves-sound}
-use Rattle.display.proofs.run.run.Statement.{statement}
-use Rattle.display.proofs.run.run.Tie as tie
+use Rattle.display.proofs.run.run_program.Statement.{statement}
+use Rattle.display.proofs.run.run_program.Tie as tie
 
 abbrev Inv-loop : tie.InvT-loop
 Inv-loop code words₀ blocks₀ nexts₀ links₀ table₀ pairs group limit allowance display₀ bounds here₀ left₀ words blocks nexts links table display here left =
@@ -111,8 +111,8 @@ returns-3 c =
     (sym (c .halted2 .ensures .1))
     (spent (i .inv .0 b) (omega (arith, c .before .before .before .before .before .loop-test .left)) (leaves-sound b (s .allowance)) (c .halted2 .result) (c .halted2 .ensures .0))
 
-pub run-spec : {M : Type 1} → statement M
-run-spec =
+pub run-program-spec : {M : Type 1} → statement M
+run-program-spec =
     tie.close
     (tie.spec
     Inv-loop
