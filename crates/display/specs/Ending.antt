@@ -21,13 +21,13 @@ use Rattle.arrays.specs.Holds.{Holds, Shows}
 use Rattle.arrays.specs.Names.{nothing-live}
 use Rattle.steps.specs.Standing.{Standing}
 use Rattle.steps.specs.Here.{many, live-few}
-use Rattle.steps.specs.Reads.{at-within, begin-reads}
+use Rattle.steps.specs.Reads.{at-within, end-within, begin-reads}
 use Rattle.steps.specs.Loop.{spent as spends, stops, finishes, begins, shows-begun}
 use Rattle.moves.specs.declared.Now.{Now}
 use Rattle.display.specs.declared.run.Turn.{Turn}
 use Rattle.display.specs.declared.run.Turn.the-variants.{Went, Finished, Stopped}
 use Rattle.display.specs.declared.run.Halt.{Halt}
-use Rattle.moves.specs.Running.{limitsBy, Running, Looking, Succeeds}
+use Rattle.moves.specs.Running.{limitsBy, Running, Looking, Placed, Succeeds}
 use Rattle.display.specs.Turning.{Turned, Beginning, Ended, haltOf}
 
 -- where a run that begins goes to
@@ -103,8 +103,10 @@ module _ {program : Block} {name allowance : ℕ} {result : Result} {code : List
         running = u .running;
       }
 
-  pub at-small : here .at ≤ 4096
-  at-small = at-within (u .running .standing)
+  pub placed : Placed here
+  placed =
+      let st = u .running .standing in
+      record { live = omega (arith, live-few st); at = at-within st; end = end-within st }
 
   -- with a result whose stack the arrays hold
   ended : (e : End) (offset : ℕ) (r : Halt) → ((v : Looking code words blocks display (here .live)) → r ≡ haltOf e (s .steps) offset here (designates (v .running .standing .stack .frames) (v .running .standing .name)))

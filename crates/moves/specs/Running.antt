@@ -43,6 +43,12 @@ pub record Succeeds {code : List ℕ} {limit group : ℕ} {words : List ℤ} {bl
   pub running : Running code limit group words′ blocks′ nexts′ links′ display′ table′ here′
   pub follows : Follows (w .standing) (running .standing .stack) (running .standing .program) (running .standing .name)
 
+-- the engine's numbers are in range
+pub record Placed (here : Now) : Type 0 where
+  pub live : here .live < 256
+  pub at : here .at ≤ 4096
+  pub end : here .end ≤ 4096
+
 -- the looked-up name can be found in the innermost activation
 pub record Looking (code : List ℕ) (words : List ℤ) (blocks display : List ℕ) (live : ℕ) : Type 0 where
   pub nexts : List ℕ

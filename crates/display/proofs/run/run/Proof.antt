@@ -6,7 +6,7 @@ use mathlib.Core.Path.{_≡_, refl, sym, _∙_, subst}
 use borrow.Author.Needs.{needs}
 use lib.ListN.{length}
 use Rattle.display.specs.Turning.{Beginning, Ended}
-use Rattle.display.specs.Ending.{resultFrom, Underway, begun, looking, at-small, spent, stopped, went-as, finished-as, stays, leaves-sound}
+use Rattle.display.specs.Ending.{resultFrom, Underway, begun, looking, placed, spent, stopped, went-as, finished-as, stays, leaves-sound}
 use Rattle.display.proofs.run.run.Statement.{statement}
 use Rattle.display.proofs.run.run.Tie as tie
 
@@ -71,12 +71,12 @@ sub-done : tie.Need-sub-done Inv-loop μ-loop
 sub-done c = omega (arith, (c .before .before .before .before .before .before .before .before .before .before .before .before .loop .inv .0 (c .before .before .before .before .before .before .before .before .before .before .before .before .before .before .pre)) .counts)
 
 mul-halted : tie.Need-mul-halted Inv-loop μ-loop
-mul-halted c = record { fits = omega (arith, at-small (c .before .before .before .before .before .before .before .before .before .before .before .before .before .before .before .before .before .loop .inv .0 (c .before .before .before .before .before .before .before .before .before .before .before .before .before .before .before .before .before .before .before .pre))) }
+mul-halted c = record { fits = omega (arith, (placed (c .before .before .before .before .before .before .before .before .before .before .before .before .before .before .before .before .before .loop .inv .0 (c .before .before .before .before .before .before .before .before .before .before .before .before .before .before .before .before .before .before .before .pre))) .at) }
 
 halted-requires : tie.Need-halted-requires Inv-loop μ-loop
 halted-requires c κs =
     let u = (c .before .before .before .before .before .before .before .before .before .before .before .before .before .before .before .before .before .loop .inv .0 (c .before .before .before .before .before .before .before .before .before .before .before .before .before .before .before .before .before .before .before .pre)) in
-    (looking ((stays u (c .before .before .before .before .before .before .before .before .before .step .last .1 .0) (c .before .before .before .before .before .before .before .before .before .step .last .1 .1 .0) (c .before .before .before .before .before .before .before .before .before .step .last .1 .1 .1 .0) (c .before .before .before .before .before .before .before .before .before .step .last .1 .1 .1 .1 .0) (c .before .before .before .before .before .before .before .before .before .step .last .1 .1 .1 .1 .1 .0) (c .before .before .before .before .before .before .before .before .before .step .last .1 .1 .1 .1 .1 .1 .0) (c .before .before .before .before .before .before .before .before .before .step .result) (c .before .before .before .before .before .before .before .before .before .step .ensures (u .running)) (c .before .before .before .before .before .before .cause .given .0 .0) (c .before .before .before .before .before .before .cause .given .1)) .underway), omega (arith, at-small u))
+    (looking ((stays u (c .before .before .before .before .before .before .before .before .before .step .last .1 .0) (c .before .before .before .before .before .before .before .before .before .step .last .1 .1 .0) (c .before .before .before .before .before .before .before .before .before .step .last .1 .1 .1 .0) (c .before .before .before .before .before .before .before .before .before .step .last .1 .1 .1 .1 .0) (c .before .before .before .before .before .before .before .before .before .step .last .1 .1 .1 .1 .1 .0) (c .before .before .before .before .before .before .before .before .before .step .last .1 .1 .1 .1 .1 .1 .0) (c .before .before .before .before .before .before .before .before .before .step .result) (c .before .before .before .before .before .before .before .before .before .step .ensures (u .running)) (c .before .before .before .before .before .before .cause .given .0 .0) (c .before .before .before .before .before .before .cause .given .1)) .underway), placed u)
 
 same-length-2 : tie.Need-same-length-2 Inv-loop μ-loop
 same-length-2 c = c .before .before .before .before .before .before .before .before .before .before .step .kept .1 .1 .1 .1 .1 .1 .0 ∙ c .before .before .before .before .before .before .before .before .before .before .before .before .before .before .before .before .before .before .loop .inv .1
@@ -96,7 +96,7 @@ returns-2 c =
 halted-requires-2 : tie.Need-halted-requires-2 Inv-loop μ-loop
 halted-requires-2 c κs =
     let u = (c .before .before .before .before .before .loop .inv .0 (c .before .before .before .before .before .before .before .pre)) in
-    (looking u, omega (arith, at-small u))
+    (looking u, placed u)
 
 same-length-3 : tie.Need-same-length-3 Inv-loop μ-loop
 same-length-3 c = c .before .before .before .before .before .before .loop .inv .1
