@@ -1,11 +1,11 @@
 -- The loop of a run. `Underway`: so far a run has come, with the arrays as they are and so many steps left. `begun`: it begins so; `went`: a step
 -- keeps it; `finished`, `stopped`, `spent`: the three ends.
-use Prim.Native.Nat.{ℕ, zero, suc, _+_, _-_, _*_, _/_, _%_, _≤_, _<_}
+use Prim.Native.Nat.{ℕ, suc, _+_, _-_, _*_, _/_, _%_, _≤_}
 use native.Mathlib.Omega.{arith}
 use mathlib.Core.List.{List, []}
 use mathlib.Core.Option.{some}
-use mathlib.Core.Path.{_≡_, refl, sym, ap, _∙_, subst}
-use lib.IntN.{ℤ, pos}
+use mathlib.Core.Path.{_≡_, sym, ap, _∙_, subst}
+use lib.IntN.{ℤ}
 use lib.ListN.{length, getD, set, getElem?}
 use Rattle.language.specs.Text.{Block}
 use Rattle.language.specs.Table.{Table}
@@ -19,7 +19,6 @@ use Rattle.coordinates.specs.Sound.{Sound, start-sound, run-sound}
 use Rattle.resolved.specs.Resolved.{stmtPlace, endPlace}
 use Rattle.arrays.specs.Holds.{Holds, Shows}
 use Rattle.arrays.specs.Names.{nothing-live}
-use Rattle.steps.specs.Standing.{Standing}
 use Rattle.steps.specs.Here.{many, live-few}
 use Rattle.steps.specs.Reads.{at-within, end-within, begin-reads}
 use Rattle.steps.specs.Loop.{spent as spends, stops, finishes, begins, shows-begun}

@@ -4,7 +4,7 @@ use native.Mathlib.Omega.{arith}
 use mathlib.Core.List.{List}
 use mathlib.Core.Path.{_≡_, sym, ap, _∙_, subst}
 use lib.IntN.{ℤ}
-use lib.ListN.{length, getD}
+use lib.ListN.{getD}
 use Rattle.frames.specs.Frame.{designates}
 use Rattle.arrays.specs.Holds.{designatorOf}
 use Rattle.arrays.specs.Found.{cellBy}

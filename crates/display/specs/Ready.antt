@@ -1,31 +1,23 @@
--- What the statement at a place asks of the display, by its operation (`ready`), and what its function says of it as a part of `acting`
--- (`Done`): a function that is not lent the table says what it does in a scene without one, which comes to the same.
-use Prim.Native.Nat.{ℕ, suc, _+_, _*_, _/_, _%_, _≤_, _<_}
+-- What the statement at a place asks of the display, by its operation: `ready`. `op-of`, `last-op`: which operation it is, by its number.
+use Prim.Native.Nat.{ℕ, _+_, _*_, _/_, _%_, _≤_, _<_}
 use native.Mathlib.Omega.{arith}
-use mathlib.Core.Bool.{Bool, true, false, _&&_}
-use mathlib.Core.List.{List, []}
-use mathlib.Core.Path.{_≡_, refl, sym, ap, _∙_, subst}
+use mathlib.Core.Bool.{false}
+use mathlib.Core.List.{List}
+use mathlib.Core.Path.{_≡_, sym, ap, subst}
 use borrow.Author.Tests.{ltb-true, ltb-false}
 use lib.Dec.{ltb}
-use lib.IntN.{ℤ, pos}
-use lib.ListN.{length, getD}
-use Rattle.language.specs.Text.{Operation}
-use Rattle.language.specs.Table.{Table, Effect, leaves, halts, Asked, gives, refuses, added, removed, queried}
+use lib.IntN.{ℤ}
+use lib.ListN.{getD}
 use Rattle.laws.specs.Tests.{split}
-use Rattle.resolved.specs.Resolved.{levelIn, direct, targetIn}
-use Rattle.arrays.specs.Found.{heldBy, homeBy, targetBy}
-use Rattle.acting.specs.declared.Effect.{Effect as Kept}
-use Rattle.acting.specs.declared.Effect.the-variants.{Done as Stored, Stopped as Refused}
-use Rattle.acting.specs.declared.Move.{Move}
-use Rattle.acting.specs.declared.Move.the-variants.{Jump}
-use Rattle.acting.specs.Effects.{effectOf}
-use Rattle.acting.specs.Acting.{Finding, Scene, Happened, moves, rewrites, valueOf, field, arithmeticMove, doConstant, doArithmetic, doGoto, doBranch, noRoom, doBlock, doCall, argumentsAgree, doCallFormal, changes, doAdd, doRemove, answers, doQuery, operationOf, Op, constant-op, add-op, subtract-op, compare-op, branch-op, goto-op, block-op, call-op, pair-op, unpair-op, query-op, constant-formal-op, arithmetic-formal-op, branch-formal-op, goto-formal-op, call-formal-op, operations, opOf, happens, acting}
+use Rattle.resolved.specs.Resolved.{direct}
+use Rattle.arrays.specs.Found.{heldBy, targetBy}
+use Rattle.acting.specs.Acting.{Op, constant-op, add-op, subtract-op, compare-op, branch-op, goto-op, block-op, call-op, pair-op, unpair-op, query-op, constant-formal-op, arithmetic-formal-op, branch-formal-op, goto-formal-op, call-formal-op, operations, opOf}
 use Rattle.steps.specs.Standing.{Standing}
 use Rattle.steps.specs.Here.{live-few}
 use Rattle.steps.specs.Fields as fields
 use Rattle.steps.specs.Finding.{Reaches, reached-by-display, finds-by-display}
-use Rattle.display.specs.Finding.{firstCell, ownCell, byDisplay, without-table, only-words, with-table, Reachable, Direct, ThroughFormal, ArgumentsReachable, FormalsBefore, blockMove}
-use Rattle.moves.specs.Running.{limitsBy, sceneBy, Running, Doing}
+use Rattle.display.specs.Finding.{firstCell, ownCell, byDisplay, Reachable, Direct, ThroughFormal, ArgumentsReachable, FormalsBefore}
+use Rattle.moves.specs.Running.{limitsBy, Doing}
 
 -- the operation by its number
 pub op-of : (v k : ℕ) → v % 16 ≡ k → opOf v ≡ getD operations k constant-op

@@ -2,10 +2,10 @@
 -- the statement comes to the same, and what it does not look at stays: `constant-same` and so on, a law for each. `done`: so it is with `acting`.
 use Prim.Native.Nat.{ℕ, zero, suc, _+_, _/_}
 use native.Mathlib.Omega.{arith}
-use mathlib.Core.Bool.{Bool, true, false, _&&_}
+use mathlib.Core.Bool.{Bool, true, false}
 use mathlib.Core.List.{List, _∷_}
 use mathlib.Core.Path.{_≡_, refl, sym, ap, _∙_, subst}
-use lib.Dec.{eqb, leb}
+use lib.Dec.{leb}
 use lib.IntN.{ℤ, pos}
 use lib.ListN.{getD}
 use Rattle.language.specs.Basics.{eqZ}
@@ -18,7 +18,7 @@ use Rattle.acting.specs.declared.Effect.{Effect as Kept}
 use Rattle.acting.specs.declared.Effect.the-variants.{Done as Stored, Stopped as Refused}
 use Rattle.acting.specs.declared.Move.{Move}
 use Rattle.acting.specs.declared.Move.the-variants.{Jump}
-use Rattle.acting.specs.Effects.{effectOf, sameKinds}
+use Rattle.acting.specs.Effects.{effectOf}
 use Rattle.acting.specs.Acting.{Finding, Scene, Happened, moves, rewrites, valueOf, field, arithmeticMove, doConstant, doArithmetic, doGoto, doBranch, noRoom, doBlock, argumentsFrom, doCall, argumentsAgree, doCallFormal, changes, doAdd, doRemove, answers, doQuery, Op, opOf, happens, acting}
 use Rattle.display.specs.Finding.{firstCell, byDisplay, without-table, only-words, with-table, blockMove}
 use Rattle.moves.specs.Running.{sceneBy}

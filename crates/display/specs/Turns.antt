@@ -5,13 +5,11 @@ use native.Mathlib.Omega.{arith}
 use mathlib.Core.List.{List}
 use mathlib.Core.Path.{_≡_, refl, sym, ap, _∙_, subst}
 use lib.IntN.{ℤ}
-use lib.ListN.{length}
-use Rattle.frames.specs.Frame.{Frame, numbered, halted, frameStep}
-use Rattle.coordinates.specs.Chain.{displayOf}
+use Rattle.frames.specs.Frame.{numbered, halted, frameStep}
 use Rattle.acting.specs.declared.Move.{Move}
 use Rattle.acting.specs.declared.Move.the-variants.{On, Pairs, Jump, Enter, Stop}
 use Rattle.acting.specs.Acting.{Happened, acting}
-use Rattle.steps.specs.Means.{GoesOn, JumpsTo, EntersAt, MoveMeans}
+use Rattle.steps.specs.Means.{GoesOn, MoveMeans}
 use Rattle.steps.specs.Finding.{finds-by-display}
 use Rattle.steps.specs.Acts.{acting-means}
 use Rattle.language.specs.declared.Stop.{Stop as Cause}

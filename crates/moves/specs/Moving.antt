@@ -1,8 +1,8 @@
 -- Leaving, jumping and entering, of an engine that runs (`Running`). `restorable`, `restored`: what putting the display right asks, and what it comes
 -- to, for an activation that is live; `leaves-to`, `jumps-to`, `enters-to`: the state of the arrays behind each move, from what was read and written.
-use Prim.Native.Nat.{ℕ, suc, pred, _+_, _-_, _*_, _/_, _%_, _≤_, _<_}
+use Prim.Native.Nat.{ℕ, suc, _+_, _-_, _*_, _/_, _%_, _≤_, _<_}
 use native.Mathlib.Omega.{arith}
-use mathlib.Core.List.{List, [], _∷_}
+use mathlib.Core.List.{List, _∷_}
 use mathlib.Core.Option.{some}
 use mathlib.Core.Path.{_≡_, refl, sym, ap, _∙_, subst}
 use lib.IntN.{ℤ}
@@ -14,16 +14,16 @@ use Rattle.grammar.specs.Formed.{block-few}
 use Rattle.frames.specs.Frame.{Frame, numbered}
 use Rattle.frames.specs.Numbered.{numbered-suc, numbered-index}
 use Rattle.coordinates.specs.Enclosure.{Enclosing, enclosed, Enclosure, Encloses}
-use Rattle.coordinates.specs.Chain.{enclosing, enclosureOf, levelOf, displayFrom, displayOf}
+use Rattle.coordinates.specs.Chain.{enclosing, enclosureOf, levelOf, displayFrom}
 use Rattle.coordinates.specs.Levels.{frame-encloses}
-use Rattle.resolved.specs.Resolved.{placeOf, endPlace, stmtPlace}
-use Rattle.resolved.specs.Places.{block-fields, block-place, end-is, end-bound, place-bound, enclosed-placed, enclosed-formed}
+use Rattle.resolved.specs.Resolved.{placeOf, endPlace}
+use Rattle.resolved.specs.Places.{block-fields, end-is, end-bound, place-bound, enclosed-formed}
 use Rattle.arrays.specs.Holds.{Shows}
 use Rattle.arrays.specs.Displays.{ShowsFrom, holds-links, shows-innermost}
 use Rattle.arrays.specs.Reading.{level-read, end-read}
 use Rattle.acting.specs.Effects.{Cleared}
 use Rattle.steps.specs.Means.{JumpsTo, EntersAt}
-use Rattle.steps.specs.Here.{many, numbered-here, live-few, downward, here-bounded, encloses-here}
+use Rattle.steps.specs.Here.{many, numbered-here, live-few, downward, encloses-here}
 use Rattle.steps.specs.Loop.{leaves, jumped}
 use Rattle.steps.specs.Entered.{body-head, entered}
 use Rattle.moves.specs.declared.Now.{Now}

@@ -1,9 +1,7 @@
 -- `jump` meets its contract: where the label is the innermost activation's the display is as it was.
-use Prim.Native.Nat.{_+_, _-_, _≤_, _<_}
+use Prim.Native.Nat.{_-_}
 use native.Mathlib.Omega.{arith}
-use mathlib.Core.Path.{_≡_, refl, sym, ap, _∙_, subst}
-use lib.ListN.{getD}
-use Rattle.moves.specs.Running.{Running}
+use mathlib.Core.Path.{refl, sym, _∙_}
 use Rattle.moves.specs.Moving.{few-live, block-within, restorable, restored, home-live, jumps-to, shows-home, end-home}
 use Rattle.moves.proofs.jump.Statement.{statement}
 use Rattle.moves.proofs.jump.Tie as tie

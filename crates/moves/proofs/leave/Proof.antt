@@ -1,9 +1,7 @@
 -- `leave` meets its contract.
-use Prim.Native.Nat.{_+_, _-_, _≤_, _<_}
+use Prim.Native.Nat.{_-_}
 use native.Mathlib.Omega.{arith}
-use mathlib.Core.Path.{_≡_, refl, sym, ap, _∙_, subst}
-use lib.ListN.{getD}
-use Rattle.moves.specs.Running.{Running}
+use mathlib.Core.Path.{refl, _∙_}
 use Rattle.moves.specs.Moving.{few-live, block-within, restorable, restored, leaves-to}
 use borrow.Author.Needs.{needs}
 use Rattle.moves.proofs.leave.Statement.{statement}

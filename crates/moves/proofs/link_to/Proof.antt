@@ -1,9 +1,7 @@
 -- `link_to` meets its contract: where the link is the innermost activation the display is its own.
-use Prim.Native.Nat.{_+_, _-_, _≤_, _<_}
+use Prim.Native.Nat.{_-_}
 use native.Mathlib.Omega.{arith}
-use mathlib.Core.Path.{_≡_, refl, sym, ap, _∙_, subst}
-use lib.ListN.{getD}
-use Rattle.moves.specs.Running.{Running}
+use mathlib.Core.Path.{refl}
 use Rattle.moves.specs.Moving.{few-live, block-within, restorable, restored, shows-home}
 use Rattle.moves.proofs.link_to.Statement.{statement}
 use Rattle.moves.proofs.link_to.Tie as tie
