@@ -30,9 +30,30 @@ Done h r words table = (r ≡ h .move) × (words ≡ h .words) × (table ≡ h .
 abbrev pub Acted : Happened → Move → List ℤ → List ℤ → Type 0
 Acted h r words table = (r ≡ h .move) × ((words ≡ h .words) × (table ≡ h .table))
 
-module _ (F : Finding) (code : List ℕ) (words table : List ℤ) (pairs group limit live at : ℕ) where
-  abbrev s : Scene
-  s = sceneBy code words table pairs group limit live at
+module _ (F : Finding) (s : Scene) where
+  abbrev code : List ℕ
+  code = s .code
+
+  abbrev words : List ℤ
+  words = s .words
+
+  abbrev table : List ℤ
+  table = s .table
+
+  abbrev pairs : ℕ
+  pairs = s .pairs
+
+  abbrev group : ℕ
+  group = s .limits .group
+
+  abbrev limit : ℕ
+  limit = s .limits .activations
+
+  abbrev live : ℕ
+  live = s .live
+
+  abbrev at : ℕ
+  at = s .at
 
   abbrev o : Scene
   o = only-words code words at
