@@ -28,21 +28,26 @@ op-of v k e = ap (λ i. getD operations i constant-op) e
 past : (x k : ℕ) → k ≤ x → (x ≡ k → ⊥) → k + 1 ≤ x
 past x k h d = split (ltb k x) (λ t. omega (arith, ltb-true k x t)) (λ t. absurd (d (omega (arith, ltb-false k x t))))
 
-pub last-op : (x : ℕ) → x < 16 → (x ≡ 0 → ⊥) → (x ≡ 1 → ⊥) → (x ≡ 2 → ⊥) → (x ≡ 3 → ⊥) → (x ≡ 4 → ⊥) → (x ≡ 5 → ⊥) → (x ≡ 6 → ⊥) → (x ≡ 7 → ⊥) → (x ≡ 8 → ⊥) → (x ≡ 9 → ⊥) → (x ≡ 10 → ⊥) → (x ≡ 11 → ⊥) → (x ≡ 12 → ⊥) → (x ≡ 13 → ⊥) → (x ≡ 14 → ⊥) → x ≡ 15
+pub last-op : (x : ℕ) → x < 16 → (x ≡ 0 → ⊥) → (x ≡ 1 → ⊥) → (x ≡ 2 → ⊥) → (x ≡ 3 → ⊥) → (x ≡ 4 → ⊥) → (x ≡ 5 → ⊥) → (x ≡ 6 → ⊥) → (x ≡ 7 → ⊥)
+    → (x ≡ 8 → ⊥) → (x ≡ 9 → ⊥) → (x ≡ 10 → ⊥) → (x ≡ 11 → ⊥) → (x ≡ 12 → ⊥) → (x ≡ 13 → ⊥) → (x ≡ 14 → ⊥) → x ≡ 15
 last-op x h n0 n1 n2 n3 n4 n5 n6 n7 n8 n9 n10 n11 n12 n13 n14 =
-    let q = past x 14 (past x 13 (past x 12 (past x 11 (past x 10 (past x 9 (past x 8 (past x 7 (past x 6 (past x 5 (past x 4 (past x 3 (past x 2 (past x 1 (past x 0 (omega arith) n0) n1) n2) n3) n4) n5) n6) n7) n8) n9) n10) n11) n12) n13) n14 in
+    let q = past x 14 (past x 13 (past x 12 (past x 11 (past x 10
+    (past x 9 (past x 8 (past x 7 (past x 6 (past x 5 (past x 4
+    (past x 3 (past x 2 (past x 1 (past x 0 (omega arith) n0) n1) n2) n3) n4) n5) n6) n7) n8) n9) n10) n11) n12) n13) n14 in
     omega arith
 
 formal-target : (words : List ℤ) (first v : ℕ) → direct v ≡ false → targetBy words first v ≡ heldBy words first v / 8192
 unfolding targetBy
 formal-target words first v e = rw (targetBy, e)
 
-module _ {code : List ℕ} {words : List ℤ} {display : List ℕ} {table : List ℤ} {pairs group limit live at : ℕ} (d : Doing code words display table pairs group limit live at) where
+module _ {code : List ℕ} {words : List ℤ} {display : List ℕ} {table : List ℤ} {pairs group limit live at : ℕ}
+    (d : Doing code words display table pairs group limit live at) where
   abbrev st : Standing code (limitsBy limit group) words (d .blocks) (d .nexts) (d .links) table pairs live at (d .end)
   st = d .running .standing
 
   reached : (i : ℕ) (f : fields.FieldName st i) → Reaches words live (firstCell display (getD code (at + i) 0)) (getD code (at + i) 0)
-  reached i f = subst (λ v. Reaches words live (firstCell display v) v) (sym (f .word)) (reached-by-display st display (d .running .shows) (f .name) (f .resolved))
+  reached i f = subst (λ v. Reaches words live (firstCell display v) v) (sym (f .word))
+      (reached-by-display st display (d .running .shows) (f .name) (f .resolved))
 
   reachable : (i : ℕ) → fields.FieldName st i → Reachable words display (getD code (at + i) 0)
   reachable i f =
@@ -71,7 +76,8 @@ module _ {code : List ℕ} {words : List ℤ} {display : List ℕ} {table : List
   formals-before : fields.ThroughFormal st 1 → fields.BodyStands st → Formals
   formals-before f b =
       let h = b (byDisplay words display) (finds-by-display st display (d .running .shows)) in
-      subst (FormalsBefore code) (formal-target words (firstCell display (getD code (at + 1) 0)) (getD code (at + 1) 0) (f .1)) (record { there = h .0; before = h .1 })
+      subst (FormalsBefore code) (formal-target words (firstCell display (getD code (at + 1) 0)) (getD code (at + 1) 0) (f .1))
+      (record { there = h .0; before = h .1 })
 
   abbrev D : ℕ → Type 0
   D i = Direct words display (getD code (at + i) 0)
@@ -98,7 +104,8 @@ module _ {code : List ℕ} {words : List ℤ} {display : List ℕ} {table : List
   Ready arithmetic-formal-op = (at + 5 ≤ 4096) × (R 1 × (R 3 × R 4))
   Ready branch-formal-op = (at + 3 ≤ 4096) × (R 1 × R 2)
   Ready goto-formal-op = (at + 2 ≤ 4096) × F 1
-  Ready call-formal-op = (limit ≤ 256) × ((live ≤ 255) × ((at + 3 ≤ 4096) × (ArgumentsReachable code display live (at + 3) (getD code (at + 2) 0) × (F 1 × Formals))))
+  Ready call-formal-op = (limit ≤ 256) × ((live ≤ 255) × ((at + 3 ≤ 4096) ×
+      (ArgumentsReachable code display live (at + 3) (getD code (at + 2) 0) × (F 1 × Formals))))
 
   few : live ≤ 255
   few = omega (arith, live-few st)

@@ -67,7 +67,8 @@ module _ (F : Finding) (s : Scene) where
       let z : at + 0 ≡ at = omega arith in
       ap (happens F s) (sym (ap (λ i. opOf (getD code i 0)) z ∙ e))
 
-  pub done : (p : Op) → opOf (getD code at 0) ≡ p → (r : Move) (words′ table′ : List ℤ) → Done (happens F s p) r words′ table′ → Acted (acting F s) r words′ table′
+  pub done : (p : Op) → opOf (getD code at 0) ≡ p → (r : Move) (words′ table′ : List ℤ) → Done (happens F s p) r words′ table′
+      → Acted (acting F s) r words′ table′
   done p e r words′ table′ h = subst (λ (x : Happened). Acted x r words′ table′) (acts p e) (h .0, (h .1, h .2))
 
   pub constant-same : (r : Move) (words′ : List ℤ) → r ≡ (doConstant F o) .move → words′ ≡ (doConstant F o) .words → Done (doConstant F s) r words′ table
@@ -79,7 +80,8 @@ module _ (F : Finding) (s : Scene) where
   moved Stored = refl
   moved (Refused c) = refl
 
-  pub arithmetic-same : (f : Operation) (r : Move) (words′ : List ℤ) → r ≡ (doArithmetic F o f) .move → words′ ≡ (doArithmetic F o f) .words → Done (doArithmetic F s f) r words′ table
+  pub arithmetic-same : (f : Operation) (r : Move) (words′ : List ℤ) → r ≡ (doArithmetic F o f) .move → words′ ≡ (doArithmetic F o f) .words
+      → Done (doArithmetic F s f) r words′ table
   unfolding doArithmetic rewrites
   arithmetic-same f r words′ p q = (p ∙ moved (effectOf (compute f (valueOf F o (field o 3)) (valueOf F o (field o 4)))), q, refl)
 
@@ -116,7 +118,8 @@ module _ (F : Finding) (s : Scene) where
       go true e = (p ∙ rw (e, doCall), q ∙ rw (e, doCall), rw (e, doCall))
       go false e = (p ∙ rw (e, doCall), q ∙ rw (e, doCall, arguments-alike), rw (e, doCall))
 
-  pub call-formal-same : (r : Move) (words′ : List ℤ) → r ≡ (doCallFormal F t) .move → words′ ≡ (doCallFormal F t) .words → Done (doCallFormal F s) r words′ table
+  pub call-formal-same : (r : Move) (words′ : List ℤ) → r ≡ (doCallFormal F t) .move → words′ ≡ (doCallFormal F t) .words
+      → Done (doCallFormal F s) r words′ table
   unfolding doCallFormal argumentsAgree moves
   call-formal-same r words′ p q = go (argumentsAgree F t (F .target (field t 1))) refl
     where
@@ -136,13 +139,15 @@ module _ (F : Finding) (s : Scene) where
   changed-same g (leaves u) = (refl, refl, refl)
   changed-same g (halts c) = (refl, refl, refl)
 
-  pub add-same : (r : Move) (table′ : List ℤ) → r ≡ (doAdd F (with-group group)) .move → table′ ≡ (doAdd F (with-group group)) .table → Done (doAdd F s) r words table′
+  pub add-same : (r : Move) (table′ : List ℤ) → r ≡ (doAdd F (with-group group)) .move → table′ ≡ (doAdd F (with-group group)) .table
+      → Done (doAdd F s) r words table′
   unfolding doAdd
   add-same r table′ p q =
       let h = changed-same group (added group (valueOf F s (field s 1)) (valueOf F s (field s 2)) (record { words = table; used = pairs })) in
       (p ∙ h .0, h .1, q ∙ h .2)
 
-  pub remove-same : (r : Move) (table′ : List ℤ) → r ≡ (doRemove F (with-group 0)) .move → table′ ≡ (doRemove F (with-group 0)) .table → Done (doRemove F s) r words table′
+  pub remove-same : (r : Move) (table′ : List ℤ) → r ≡ (doRemove F (with-group 0)) .move → table′ ≡ (doRemove F (with-group 0)) .table
+      → Done (doRemove F s) r words table′
   unfolding doRemove
   remove-same r table′ p q =
       let h = changed-same 0 (removed (valueOf F s (field s 1)) (valueOf F s (field s 2)) (record { words = table; used = pairs })) in
@@ -153,7 +158,8 @@ module _ (F : Finding) (s : Scene) where
   answered-same (gives z) = (refl, refl, refl)
   answered-same (refuses c) = (refl, refl, refl)
 
-  pub query-same : (r : Move) (words′ : List ℤ) → r ≡ (doQuery F (with-group 0)) .move → words′ ≡ (doQuery F (with-group 0)) .words → Done (doQuery F s) r words′ table
+  pub query-same : (r : Move) (words′ : List ℤ) → r ≡ (doQuery F (with-group 0)) .move → words′ ≡ (doQuery F (with-group 0)) .words
+      → Done (doQuery F s) r words′ table
   unfolding doQuery
   query-same r words′ p q =
       let h = answered-same (queried (valueOf F s (field s 2)) (valueOf F s (field s 3)) (record { words = table; used = pairs })) in
@@ -169,7 +175,8 @@ unfolding targetBy
 direct-target words first v e = rw (targetBy, e)
 
 pub goto-direct : (code : List ℕ) (words table : List ℤ) (display : List ℕ) (pairs group limit live at : ℕ) → direct (getD code (at + 1) 0) ≡ true → (r : Move)
-    → r ≡ Jump (firstCell display (getD code (at + 1) 0) / 32) (targetIn (getD code (at + 1) 0)) → Done (doGoto (byDisplay words display) (sceneBy code words table pairs group limit live at)) r words table
+    → r ≡ Jump (firstCell display (getD code (at + 1) 0) / 32) (targetIn (getD code (at + 1) 0))
+    → Done (doGoto (byDisplay words display) (sceneBy code words table pairs group limit live at)) r words table
 unfolding doGoto moves
 goto-direct code words table display pairs group limit live at e r p =
     let v = getD code (at + 1) 0 in

@@ -38,7 +38,8 @@ pub record Doing (code : List ℕ) (words : List ℤ) (display : List ℕ) (tabl
   pub before : at ≡ end → ⊥
 
 -- the state of the arrays one step behind
-pub record Succeeds {code : List ℕ} {limit group : ℕ} {words : List ℤ} {blocks nexts links display : List ℕ} {table : List ℤ} {here : Now} (w : Running code limit group words blocks nexts links display table here)
+pub record Succeeds {code : List ℕ} {limit group : ℕ} {words : List ℤ} {blocks nexts links display : List ℕ} {table : List ℤ} {here : Now}
+    (w : Running code limit group words blocks nexts links display table here)
     (words′ : List ℤ) (blocks′ nexts′ links′ display′ : List ℕ) (table′ : List ℤ) (here′ : Now) : Type 0 where
   pub running : Running code limit group words′ blocks′ nexts′ links′ display′ table′ here′
   pub follows : Follows (w .standing) (running .standing .stack) (running .standing .program) (running .standing .name)

@@ -25,11 +25,15 @@ code-at-requires c κs = omega arith
 
 loop-holds : tie.Need-loop-holds Inv-loop μ-loop
 loop-holds c =
-    let s = c .before .args in
-    (λ b. begun (s .code .now) (s .words .now) (s .blocks .now) (s .nexts .now) (s .links .now) (s .table .now) (s .pairs) (s .group) (s .limit) b (s .allowance) _ refl refl (c .code-at .result) (c .code-at .ensures .0), refl)
+    let s = c .before .args in (
+      λ b. begun (s .code .now) (s .words .now) (s .blocks .now) (s .nexts .now) (s .links .now) (s .table .now) (s .pairs) (s .group) (s .limit) b
+          (s .allowance) _ refl refl (c .code-at .result) (c .code-at .ensures .0),
+      refl,
+    )
 
 step-requires : tie.Need-step-requires Inv-loop μ-loop
-step-requires c κs = (c .before .before .before .before .before .before .before .loop .inv .0 (c .before .before .before .before .before .before .before .before .before .pre)) .running
+step-requires c κs = (c .before .before .before .before .before .before .before .loop .inv .0
+    (c .before .before .before .before .before .before .before .before .before .pre)) .running
 
 enum-known-next : tie.Need-enum-known-next Inv-loop μ-loop
 enum-known-next c = search needs
@@ -43,7 +47,12 @@ loop-less c = omega (arith, c .before .before .before .before .before .before .b
 loop-again : tie.Need-loop-again Inv-loop μ-loop
 loop-again c =
     let i = c .before .before .before .before .before .before .before .before .before .before .before .before .loop .inv in (
-      λ b. went-as (i .0 b) (c .before .before .before .before .step .last .1 .0) (c .before .before .before .before .step .last .1 .1 .0) (c .before .before .before .before .step .last .1 .1 .1 .0) (c .before .before .before .before .step .last .1 .1 .1 .1 .0) (c .before .before .before .before .step .last .1 .1 .1 .1 .1 .0) (c .before .before .before .before .step .last .1 .1 .1 .1 .1 .1 .0) (c .before .before .before .before .step .result) (c .before .before .before .before .step .ensures (i .0 b .running)) (c .before .next .given .0 .0) (c .before .next .given .1) (c .before .before .before .before .before .before .before .before .before .before .before .loop-test .taken),
+      λ b. went-as (i .0 b) (c .before .before .before .before .step .last .1 .0) (c .before .before .before .before .step .last .1 .1 .0)
+          (c .before .before .before .before .step .last .1 .1 .1 .0) (c .before .before .before .before .step .last .1 .1 .1 .1 .0)
+          (c .before .before .before .before .step .last .1 .1 .1 .1 .1 .0) (c .before .before .before .before .step .last .1 .1 .1 .1 .1 .1 .0)
+          (c .before .before .before .before .step .result) (c .before .before .before .before .step .ensures (i .0 b .running))
+          (c .before .next .given .0 .0) (c .before .next .given .1)
+          (c .before .before .before .before .before .before .before .before .before .before .before .loop-test .taken),
       c .before .before .before .before .step .kept .1 .1 .1 .1 .1 .1 .0 ∙ i .1,
     )
 
@@ -51,35 +60,61 @@ enum-told : tie.Need-enum-told Inv-loop μ-loop
 enum-told c = search needs
 
 sub-t30 : tie.Need-sub-t30 Inv-loop μ-loop
-sub-t30 c = omega (arith, (c .before .before .before .before .before .before .before .before .before .before .before .loop .inv .0 (c .before .before .before .before .before .before .before .before .before .before .before .before .before .pre)) .counts)
+sub-t30 c = omega (
+  arith,
+  (c .before .before .before .before .before .before .before .before .before .before .before .loop .inv .0
+      (c .before .before .before .before .before .before .before .before .before .before .before .before .before .pre)) .counts,
+)
 
 add-t31 : tie.Need-add-t31 Inv-loop μ-loop
 add-t31 c = record { fits = omega (arith, c .before .before .before .before .before .before .before .before .before .before .before .before .before .fits .allowance .fits, c .before .before .before .before .before .before .before .before .before .before .loop-test .taken) }
 
 same-length : tie.Need-same-length Inv-loop μ-loop
-same-length c = c .before .before .before .step .kept .1 .1 .1 .1 .1 .1 .0 ∙ c .before .before .before .before .before .before .before .before .before .before .before .loop .inv .1
+same-length c = c .before .before .before .step .kept .1 .1 .1 .1 .1 .1 .0
+    ∙ c .before .before .before .before .before .before .before .before .before .before .before .loop .inv .1
 
 returns : tie.Need-returns Inv-loop μ-loop
 returns c =
     let i = c .before .before .before .before .before .before .before .before .before .before .before .loop .inv .0 in
-    λ b. finished-as (i b) (c .before .before .before .step .last .1 .0) (c .before .before .before .step .last .1 .1 .0) (c .before .before .before .step .last .1 .1 .1 .0) (c .before .before .before .step .last .1 .1 .1 .1 .0) (c .before .before .before .step .last .1 .1 .1 .1 .1 .0) (c .before .before .before .step .last .1 .1 .1 .1 .1 .1 .0) (c .before .before .before .step .result) (c .before .before .before .step .ensures (i b .running)) (c .enum-told .given .1) (c .before .before .before .before .before .before .before .before .before .before .loop-test .taken) (leaves-sound b (c .before .before .before .before .before .before .before .before .before .before .before .before .before .args .allowance))
+    λ b. finished-as (i b) (c .before .before .before .step .last .1 .0) (c .before .before .before .step .last .1 .1 .0)
+    (c .before .before .before .step .last .1 .1 .1 .0) (c .before .before .before .step .last .1 .1 .1 .1 .0)
+    (c .before .before .before .step .last .1 .1 .1 .1 .1 .0) (c .before .before .before .step .last .1 .1 .1 .1 .1 .1 .0)
+    (c .before .before .before .step .result) (c .before .before .before .step .ensures (i b .running)) (c .enum-told .given .1)
+    (c .before .before .before .before .before .before .before .before .before .before .loop-test .taken)
+    (leaves-sound b (c .before .before .before .before .before .before .before .before .before .before .before .before .before .args .allowance))
 
 enum-known-cause : tie.Need-enum-known-cause Inv-loop μ-loop
 enum-known-cause c = search needs
 
 sub-done : tie.Need-sub-done Inv-loop μ-loop
-sub-done c = omega (arith, (c .before .before .before .before .before .before .before .before .before .before .before .before .loop .inv .0 (c .before .before .before .before .before .before .before .before .before .before .before .before .before .before .pre)) .counts)
+sub-done c = omega (
+  arith,
+  (c .before .before .before .before .before .before .before .before .before .before .before .before .loop .inv .0
+      (c .before .before .before .before .before .before .before .before .before .before .before .before .before .before .pre)) .counts,
+)
 
 mul-halted : tie.Need-mul-halted Inv-loop μ-loop
 mul-halted c = record { fits = omega (arith, (placed (c .before .before .before .before .before .before .before .before .before .before .before .before .before .before .before .before .before .loop .inv .0 (c .before .before .before .before .before .before .before .before .before .before .before .before .before .before .before .before .before .before .before .pre))) .at) }
 
 halted-requires : tie.Need-halted-requires Inv-loop μ-loop
 halted-requires c κs =
-    let u = (c .before .before .before .before .before .before .before .before .before .before .before .before .before .before .before .before .before .loop .inv .0 (c .before .before .before .before .before .before .before .before .before .before .before .before .before .before .before .before .before .before .before .pre)) in
-    (looking ((stays u (c .before .before .before .before .before .before .before .before .before .step .last .1 .0) (c .before .before .before .before .before .before .before .before .before .step .last .1 .1 .0) (c .before .before .before .before .before .before .before .before .before .step .last .1 .1 .1 .0) (c .before .before .before .before .before .before .before .before .before .step .last .1 .1 .1 .1 .0) (c .before .before .before .before .before .before .before .before .before .step .last .1 .1 .1 .1 .1 .0) (c .before .before .before .before .before .before .before .before .before .step .last .1 .1 .1 .1 .1 .1 .0) (c .before .before .before .before .before .before .before .before .before .step .result) (c .before .before .before .before .before .before .before .before .before .step .ensures (u .running)) (c .before .before .before .before .before .before .cause .given .0 .0) (c .before .before .before .before .before .before .cause .given .1)) .underway), placed u)
+    let u = (c .before .before .before .before .before .before .before .before .before .before .before .before .before .before .before .before .before .loop .inv .0 (c .before .before .before .before .before .before .before .before .before .before .before .before .before .before .before .before .before .before .before .pre)) in (
+      looking ((stays u (c .before .before .before .before .before .before .before .before .before .step .last .1 .0)
+          (c .before .before .before .before .before .before .before .before .before .step .last .1 .1 .0)
+          (c .before .before .before .before .before .before .before .before .before .step .last .1 .1 .1 .0)
+          (c .before .before .before .before .before .before .before .before .before .step .last .1 .1 .1 .1 .0)
+          (c .before .before .before .before .before .before .before .before .before .step .last .1 .1 .1 .1 .1 .0)
+          (c .before .before .before .before .before .before .before .before .before .step .last .1 .1 .1 .1 .1 .1 .0)
+          (c .before .before .before .before .before .before .before .before .before .step .result)
+          (c .before .before .before .before .before .before .before .before .before .step .ensures (u .running))
+          (c .before .before .before .before .before .before .cause .given .0 .0)
+          (c .before .before .before .before .before .before .cause .given .1)) .underway),
+      placed u,
+    )
 
 same-length-2 : tie.Need-same-length-2 Inv-loop μ-loop
-same-length-2 c = c .before .before .before .before .before .before .before .before .before .before .step .kept .1 .1 .1 .1 .1 .1 .0 ∙ c .before .before .before .before .before .before .before .before .before .before .before .before .before .before .before .before .before .before .loop .inv .1
+same-length-2 c = c .before .before .before .before .before .before .before .before .before .before .step .kept .1 .1 .1 .1 .1 .1 .0
+    ∙ c .before .before .before .before .before .before .before .before .before .before .before .before .before .before .before .before .before .before .loop .inv .1
 
 returns-2 : tie.Need-returns-2 Inv-loop μ-loop
 returns-2 c =
@@ -87,11 +122,23 @@ returns-2 c =
     let i = c .before .before .before .before .before .before .before .before .before .before .before .before .before .before .before .before .before .before .loop in
     let d = c .before .before .before .before .before .before .before .before .before .before .step .last in
     λ b.
-    let v = stays (i .inv .0 b) (c .before .before .before .before .before .before .before .before .before .before .step .last .1 .0) (c .before .before .before .before .before .before .before .before .before .before .step .last .1 .1 .0) (c .before .before .before .before .before .before .before .before .before .before .step .last .1 .1 .1 .0) (c .before .before .before .before .before .before .before .before .before .before .step .last .1 .1 .1 .1 .0) (c .before .before .before .before .before .before .before .before .before .before .step .last .1 .1 .1 .1 .1 .0) (c .before .before .before .before .before .before .before .before .before .before .step .last .1 .1 .1 .1 .1 .1 .0) (c .before .before .before .before .before .before .before .before .before .before .step .result) (c .before .before .before .before .before .before .before .before .before .before .step .ensures (i .inv .0 b .running)) (c .before .before .before .before .before .before .before .cause .given .0 .0) (c .before .before .before .before .before .before .before .cause .given .1) in
+    let v = stays (i .inv .0 b) (c .before .before .before .before .before .before .before .before .before .before .step .last .1 .0)
+    (c .before .before .before .before .before .before .before .before .before .before .step .last .1 .1 .0)
+    (c .before .before .before .before .before .before .before .before .before .before .step .last .1 .1 .1 .0)
+    (c .before .before .before .before .before .before .before .before .before .before .step .last .1 .1 .1 .1 .0)
+    (c .before .before .before .before .before .before .before .before .before .before .step .last .1 .1 .1 .1 .1 .0)
+    (c .before .before .before .before .before .before .before .before .before .before .step .last .1 .1 .1 .1 .1 .1 .0)
+    (c .before .before .before .before .before .before .before .before .before .before .step .result)
+    (c .before .before .before .before .before .before .before .before .before .before .step .ensures (i .inv .0 b .running))
+    (c .before .before .before .before .before .before .before .cause .given .0 .0)
+    (c .before .before .before .before .before .before .before .cause .given .1) in
     subst
-    (λ (n : List ℕ). Ended (b .program) (b .name) (s .code .now) (s .limit) (s .group) (resultFrom (b .program) (s .limit) (s .group) (s .allowance) (s .table .now) (s .pairs)) (c .halted .result) (d .1 .0) (d .1 .1 .0) n (d .1 .1 .1 .1 .0) (d .1 .1 .1 .1 .1 .1 .0))
+    (λ (n : List ℕ). Ended (b .program) (b .name) (s .code .now) (s .limit) (s .group)
+    (resultFrom (b .program) (s .limit) (s .group) (s .allowance) (s .table .now) (s .pairs)) (c .halted .result) (d .1 .0) (d .1 .1 .0) n
+    (d .1 .1 .1 .1 .0) (d .1 .1 .1 .1 .1 .1 .0))
     (sym (c .halted .ensures .1))
-    (stopped (v .underway) (c .before .before .before .before .before .before .before .cause .given .0 .0) (v .stops-there) (c .before .before .before .before .before .before .before .before .before .before .before .before .before .before .before .before .before .loop-test .taken) (leaves-sound b (s .allowance)) (c .halted .result) (c .halted .ensures .0))
+    (stopped (v .underway) (c .before .before .before .before .before .before .before .cause .given .0 .0) (v .stops-there)
+    (c .before .before .before .before .before .before .before .before .before .before .before .before .before .before .before .before .before .loop-test .taken) (leaves-sound b (s .allowance)) (c .halted .result) (c .halted .ensures .0))
 
 halted-requires-2 : tie.Need-halted-requires-2 Inv-loop μ-loop
 halted-requires-2 c κs =
@@ -107,9 +154,12 @@ returns-3 c =
     let i = c .before .before .before .before .before .before .loop in
     λ b.
     subst
-    (λ (n : List ℕ). Ended (b .program) (b .name) (s .code .now) (s .limit) (s .group) (resultFrom (b .program) (s .limit) (s .group) (s .allowance) (s .table .now) (s .pairs)) (c .halted2 .result) (i .words) (i .blocks) n (i .links) (i .table))
+    (λ (n : List ℕ). Ended (b .program) (b .name) (s .code .now) (s .limit) (s .group)
+    (resultFrom (b .program) (s .limit) (s .group) (s .allowance) (s .table .now) (s .pairs)) (c .halted2 .result) (i .words) (i .blocks) n
+    (i .links) (i .table))
     (sym (c .halted2 .ensures .1))
-    (spent (i .inv .0 b) (omega (arith, c .before .before .before .before .before .loop-test .left)) (leaves-sound b (s .allowance)) (c .halted2 .result) (c .halted2 .ensures .0))
+    (spent (i .inv .0 b) (omega (arith, c .before .before .before .before .before .loop-test .left)) (leaves-sound b (s .allowance))
+    (c .halted2 .result) (c .halted2 .ensures .0))
 
 pub run-spec : {M : Type 1} → statement M
 run-spec =
