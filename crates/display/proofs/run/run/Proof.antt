@@ -20,6 +20,16 @@ abbrev μ-loop : tie.MeasureT-loop
 μ-loop code words₀ blocks₀ nexts₀ links₀ table₀ pairs group limit allowance display₀ bounds here₀ left₀ words blocks nexts links table display here left =
     left
 
+-- the places of a turn, from behind its step
+abbrev loopAt : tie.After-step Inv-loop μ-loop → tie.At-loop Inv-loop μ-loop
+loopAt c = c .before .before .before .before .before .before .before .before
+
+abbrev turnOf : tie.After-step Inv-loop μ-loop → tie.In-loop Inv-loop μ-loop
+turnOf c = c .before .before .before .before .before .before .before
+
+abbrev startOf : tie.After-step Inv-loop μ-loop → tie.Start Inv-loop μ-loop
+startOf c = (loopAt c) .before .before
+
 code-at-requires : tie.Need-code-at-requires Inv-loop μ-loop
 code-at-requires c κs = omega arith
 
@@ -39,20 +49,20 @@ enum-known-next : tie.Need-enum-known-next Inv-loop μ-loop
 enum-known-next c = search needs
 
 sub-left : tie.Need-sub-left Inv-loop μ-loop
-sub-left c = c .before .before .before .before .before .before .before .before .before .before .before .loop-test .taken
+sub-left c = (turnOf (c .before .before .before .before)) .loop-test .taken
 
 loop-less : tie.Need-loop-less Inv-loop μ-loop
-loop-less c = omega (arith, c .before .before .before .before .before .before .before .before .before .before .before .loop-test .taken)
+loop-less c = omega (arith, (turnOf (c .before .before .before .before)) .loop-test .taken)
 
 loop-again : tie.Need-loop-again Inv-loop μ-loop
 loop-again c =
-    let i = c .before .before .before .before .before .before .before .before .before .before .before .before .loop .inv in (
+    let i = (loopAt (c .before .before .before .before)) .loop .inv in (
       λ b. went-as (i .0 b) (c .before .before .before .before .step .last .1 .0) (c .before .before .before .before .step .last .1 .1 .0)
           (c .before .before .before .before .step .last .1 .1 .1 .0) (c .before .before .before .before .step .last .1 .1 .1 .1 .0)
           (c .before .before .before .before .step .last .1 .1 .1 .1 .1 .0) (c .before .before .before .before .step .last .1 .1 .1 .1 .1 .1 .0)
           (c .before .before .before .before .step .result) (c .before .before .before .before .step .ensures (i .0 b .running))
           (c .before .next .given .0 .0) (c .before .next .given .1)
-          (c .before .before .before .before .before .before .before .before .before .before .before .loop-test .taken),
+          ((turnOf (c .before .before .before .before)) .loop-test .taken),
       c .before .before .before .before .step .kept .1 .1 .1 .1 .1 .1 .0 ∙ i .1,
     )
 
@@ -62,26 +72,26 @@ enum-told c = search needs
 sub-t30 : tie.Need-sub-t30 Inv-loop μ-loop
 sub-t30 c = omega (
   arith,
-  (c .before .before .before .before .before .before .before .before .before .before .before .loop .inv .0
-      (c .before .before .before .before .before .before .before .before .before .before .before .before .before .pre)) .counts,
+  ((loopAt (c .before .before .before)) .loop .inv .0
+      ((startOf (c .before .before .before)) .pre)) .counts,
 )
 
 add-t31 : tie.Need-add-t31 Inv-loop μ-loop
-add-t31 c = record { fits = omega (arith, c .before .before .before .before .before .before .before .before .before .before .before .before .before .fits .allowance .fits, c .before .before .before .before .before .before .before .before .before .before .loop-test .taken) }
+add-t31 c = record { fits = omega (arith, (startOf (c .before .before .before)) .fits .allowance .fits, (turnOf (c .before .before .before)) .loop-test .taken) }
 
 same-length : tie.Need-same-length Inv-loop μ-loop
 same-length c = c .before .before .before .step .kept .1 .1 .1 .1 .1 .1 .0
-    ∙ c .before .before .before .before .before .before .before .before .before .before .before .loop .inv .1
+    ∙ (loopAt (c .before .before .before)) .loop .inv .1
 
 returns : tie.Need-returns Inv-loop μ-loop
 returns c =
-    let i = c .before .before .before .before .before .before .before .before .before .before .before .loop .inv .0 in
+    let i = (loopAt (c .before .before .before)) .loop .inv .0 in
     λ b. finished-as (i b) (c .before .before .before .step .last .1 .0) (c .before .before .before .step .last .1 .1 .0)
     (c .before .before .before .step .last .1 .1 .1 .0) (c .before .before .before .step .last .1 .1 .1 .1 .0)
     (c .before .before .before .step .last .1 .1 .1 .1 .1 .0) (c .before .before .before .step .last .1 .1 .1 .1 .1 .1 .0)
     (c .before .before .before .step .result) (c .before .before .before .step .ensures (i b .running)) (c .enum-told .given .1)
-    (c .before .before .before .before .before .before .before .before .before .before .loop-test .taken)
-    (leaves-sound b (c .before .before .before .before .before .before .before .before .before .before .before .before .before .args .allowance))
+    ((turnOf (c .before .before .before)) .loop-test .taken)
+    (leaves-sound b ((startOf (c .before .before .before)) .args .allowance))
 
 enum-known-cause : tie.Need-enum-known-cause Inv-loop μ-loop
 enum-known-cause c = search needs
@@ -89,16 +99,16 @@ enum-known-cause c = search needs
 sub-done : tie.Need-sub-done Inv-loop μ-loop
 sub-done c = omega (
   arith,
-  (c .before .before .before .before .before .before .before .before .before .before .before .before .loop .inv .0
-      (c .before .before .before .before .before .before .before .before .before .before .before .before .before .before .pre)) .counts,
+  ((loopAt (c .before .before .before .before)) .loop .inv .0
+      ((startOf (c .before .before .before .before)) .pre)) .counts,
 )
 
 mul-halted : tie.Need-mul-halted Inv-loop μ-loop
-mul-halted c = record { fits = omega (arith, (placed (c .before .before .before .before .before .before .before .before .before .before .before .before .before .before .before .before .before .loop .inv .0 (c .before .before .before .before .before .before .before .before .before .before .before .before .before .before .before .before .before .before .before .pre))) .at) }
+mul-halted c = record { fits = omega (arith, (placed ((loopAt (c .before .before .before .before .before .before .before .before .before)) .loop .inv .0 ((startOf (c .before .before .before .before .before .before .before .before .before)) .pre))) .at) }
 
 halted-requires : tie.Need-halted-requires Inv-loop μ-loop
 halted-requires c κs =
-    let u = (c .before .before .before .before .before .before .before .before .before .before .before .before .before .before .before .before .before .loop .inv .0 (c .before .before .before .before .before .before .before .before .before .before .before .before .before .before .before .before .before .before .before .pre)) in (
+    let u = ((loopAt (c .before .before .before .before .before .before .before .before .before)) .loop .inv .0 ((startOf (c .before .before .before .before .before .before .before .before .before)) .pre)) in (
       looking ((stays u (c .before .before .before .before .before .before .before .before .before .step .last .1 .0)
           (c .before .before .before .before .before .before .before .before .before .step .last .1 .1 .0)
           (c .before .before .before .before .before .before .before .before .before .step .last .1 .1 .1 .0)
@@ -114,12 +124,12 @@ halted-requires c κs =
 
 same-length-2 : tie.Need-same-length-2 Inv-loop μ-loop
 same-length-2 c = c .before .before .before .before .before .before .before .before .before .before .step .kept .1 .1 .1 .1 .1 .1 .0
-    ∙ c .before .before .before .before .before .before .before .before .before .before .before .before .before .before .before .before .before .before .loop .inv .1
+    ∙ (loopAt (c .before .before .before .before .before .before .before .before .before .before)) .loop .inv .1
 
 returns-2 : tie.Need-returns-2 Inv-loop μ-loop
 returns-2 c =
-    let s = c .before .before .before .before .before .before .before .before .before .before .before .before .before .before .before .before .before .before .before .before .args in
-    let i = c .before .before .before .before .before .before .before .before .before .before .before .before .before .before .before .before .before .before .loop in
+    let s = (startOf (c .before .before .before .before .before .before .before .before .before .before)) .args in
+    let i = (loopAt (c .before .before .before .before .before .before .before .before .before .before)) .loop in
     let d = c .before .before .before .before .before .before .before .before .before .before .step .last in
     λ b.
     let v = stays (i .inv .0 b) (c .before .before .before .before .before .before .before .before .before .before .step .last .1 .0)
@@ -138,7 +148,7 @@ returns-2 c =
     (d .1 .1 .1 .1 .0) (d .1 .1 .1 .1 .1 .1 .0))
     (sym (c .halted .ensures .1))
     (stopped (v .underway) (c .before .before .before .before .before .before .before .cause .given .0 .0) (v .stops-there)
-    (c .before .before .before .before .before .before .before .before .before .before .before .before .before .before .before .before .before .loop-test .taken) (leaves-sound b (s .allowance)) (c .halted .result) (c .halted .ensures .0))
+    ((turnOf (c .before .before .before .before .before .before .before .before .before .before)) .loop-test .taken) (leaves-sound b (s .allowance)) (c .halted .result) (c .halted .ensures .0))
 
 halted-requires-2 : tie.Need-halted-requires-2 Inv-loop μ-loop
 halted-requires-2 c κs =
