@@ -4,7 +4,7 @@ use native.Mathlib.Omega.{arith}
 use mathlib.Core.List.{List}
 use mathlib.Core.Path.{_≡_, sym, ap, _∙_, subst}
 use lib.IntN.{ℤ}
-use lib.ListN.{length, getD}
+use lib.ListN.{getD}
 use Rattle.frames.specs.Frame.{designates}
 use Rattle.arrays.specs.Holds.{designatorOf}
 use Rattle.arrays.specs.Found.{cellBy}
@@ -32,14 +32,17 @@ module _ {code : List ℕ} {words : List ℤ} {blocks display : List ℕ} {live 
     not-seen z = sym (unseen-word (w .running .standing) name (sym is-word ∙ z))
 
     module _ (d : v ≡ 0 → ⊥) where
-      found : Reaches words live (firstCell display v) v × (designatorOf (cellBy words (firstCell display v) v) ≡ designates (w .running .standing .stack .frames) name)
+      found : Reaches words live (firstCell display v) v × (designatorOf (cellBy words (firstCell display v) v) ≡ designates
+          (w .running .standing .stack .frames) name)
       found =
-          subst (λ u. Reaches words live (firstCell display u) u × (designatorOf (cellBy words (firstCell display u) u) ≡ designates (w .running .standing .stack .frames) name)) (sym is-word)
+          subst (λ u. Reaches words live (firstCell display u) u ×
+          (designatorOf (cellBy words (firstCell display u) u) ≡ designates (w .running .standing .stack .frames) name)) (sym is-word)
           (seen-by-display (w .running .standing) display (w .running .shows) name (λ z. d (is-word ∙ z)))
 
       pub seen-reached : Reachable words display v
       seen-reached = let r = found .0 in record { own = omega (arith, r .own, live-there); whole = r .whole; cell = r .cell }
 
-      pub seen-designates : (c : ℕ) → c ≡ cellBy words (firstCell display v) v → 64 * (c / 32 + 1) + (c % 32 + 1) ≡ designates (w .running .standing .stack .frames) name
+      pub seen-designates : (c : ℕ) → c ≡ cellBy words (firstCell display v) v
+          → 64 * (c / 32 + 1) + (c % 32 + 1) ≡ designates (w .running .standing .stack .frames) name
       unfolding designatorOf
       seen-designates c q = ap designatorOf q ∙ found .1

@@ -1,31 +1,23 @@
--- What the statement at a place asks of the display, by its operation (`ready`), and what its function says of it as a part of `acting`
--- (`Done`): a function that is not lent the table says what it does in a scene without one, which comes to the same.
-use Prim.Native.Nat.{ℕ, suc, _+_, _*_, _/_, _%_, _≤_, _<_}
+-- What the statement at a place asks of the display, by its operation: `ready`. `op-of`, `last-op`: which operation it is, by its number.
+use Prim.Native.Nat.{ℕ, _+_, _*_, _/_, _%_, _≤_, _<_}
 use native.Mathlib.Omega.{arith}
-use mathlib.Core.Bool.{Bool, true, false, _&&_}
-use mathlib.Core.List.{List, []}
-use mathlib.Core.Path.{_≡_, refl, sym, ap, _∙_, subst}
+use mathlib.Core.Bool.{false}
+use mathlib.Core.List.{List}
+use mathlib.Core.Path.{_≡_, sym, ap, subst}
 use borrow.Author.Tests.{ltb-true, ltb-false}
 use lib.Dec.{ltb}
-use lib.IntN.{ℤ, pos}
-use lib.ListN.{length, getD}
-use Rattle.language.specs.Text.{Operation}
-use Rattle.language.specs.Table.{Table, Effect, leaves, halts, Asked, gives, refuses, added, removed, queried}
+use lib.IntN.{ℤ}
+use lib.ListN.{getD}
 use Rattle.laws.specs.Tests.{split}
-use Rattle.resolved.specs.Resolved.{levelIn, direct, targetIn}
-use Rattle.arrays.specs.Found.{heldBy, homeBy, targetBy}
-use Rattle.acting.specs.declared.Effect.{Effect as Kept}
-use Rattle.acting.specs.declared.Effect.the-variants.{Done as Stored, Stopped as Refused}
-use Rattle.acting.specs.declared.Move.{Move}
-use Rattle.acting.specs.declared.Move.the-variants.{Jump}
-use Rattle.acting.specs.Effects.{effectOf}
-use Rattle.acting.specs.Acting.{Finding, Scene, Happened, moves, rewrites, valueOf, field, arithmeticMove, doConstant, doArithmetic, doGoto, doBranch, noRoom, doBlock, doCall, argumentsAgree, doCallFormal, changes, doAdd, doRemove, answers, doQuery, operationOf, Op, constant-op, add-op, subtract-op, compare-op, branch-op, goto-op, block-op, call-op, pair-op, unpair-op, query-op, constant-formal-op, arithmetic-formal-op, branch-formal-op, goto-formal-op, call-formal-op, operations, opOf, happens, acting}
+use Rattle.resolved.specs.Resolved.{direct}
+use Rattle.arrays.specs.Found.{heldBy, targetBy}
+use Rattle.acting.specs.Acting.{Op, constant-op, add-op, subtract-op, compare-op, branch-op, goto-op, block-op, call-op, pair-op, unpair-op, query-op, constant-formal-op, arithmetic-formal-op, branch-formal-op, goto-formal-op, call-formal-op, operations, opOf}
 use Rattle.steps.specs.Standing.{Standing}
 use Rattle.steps.specs.Here.{live-few}
 use Rattle.steps.specs.Fields as fields
 use Rattle.steps.specs.Finding.{Reaches, reached-by-display, finds-by-display}
-use Rattle.display.specs.Finding.{firstCell, ownCell, byDisplay, without-table, only-words, with-table, Reachable, Direct, ThroughFormal, ArgumentsReachable, FormalsBefore, blockMove}
-use Rattle.moves.specs.Running.{limitsBy, sceneBy, Running, Doing}
+use Rattle.display.specs.Finding.{firstCell, ownCell, byDisplay, Reachable, Direct, ThroughFormal, ArgumentsReachable, FormalsBefore}
+use Rattle.moves.specs.Running.{limitsBy, Doing}
 
 -- the operation by its number
 pub op-of : (v k : ℕ) → v % 16 ≡ k → opOf v ≡ getD operations k constant-op
@@ -36,21 +28,26 @@ op-of v k e = ap (λ i. getD operations i constant-op) e
 past : (x k : ℕ) → k ≤ x → (x ≡ k → ⊥) → k + 1 ≤ x
 past x k h d = split (ltb k x) (λ t. omega (arith, ltb-true k x t)) (λ t. absurd (d (omega (arith, ltb-false k x t))))
 
-pub last-op : (x : ℕ) → x < 16 → (x ≡ 0 → ⊥) → (x ≡ 1 → ⊥) → (x ≡ 2 → ⊥) → (x ≡ 3 → ⊥) → (x ≡ 4 → ⊥) → (x ≡ 5 → ⊥) → (x ≡ 6 → ⊥) → (x ≡ 7 → ⊥) → (x ≡ 8 → ⊥) → (x ≡ 9 → ⊥) → (x ≡ 10 → ⊥) → (x ≡ 11 → ⊥) → (x ≡ 12 → ⊥) → (x ≡ 13 → ⊥) → (x ≡ 14 → ⊥) → x ≡ 15
+pub last-op : (x : ℕ) → x < 16 → (x ≡ 0 → ⊥) → (x ≡ 1 → ⊥) → (x ≡ 2 → ⊥) → (x ≡ 3 → ⊥) → (x ≡ 4 → ⊥) → (x ≡ 5 → ⊥) → (x ≡ 6 → ⊥) → (x ≡ 7 → ⊥)
+    → (x ≡ 8 → ⊥) → (x ≡ 9 → ⊥) → (x ≡ 10 → ⊥) → (x ≡ 11 → ⊥) → (x ≡ 12 → ⊥) → (x ≡ 13 → ⊥) → (x ≡ 14 → ⊥) → x ≡ 15
 last-op x h n0 n1 n2 n3 n4 n5 n6 n7 n8 n9 n10 n11 n12 n13 n14 =
-    let q = past x 14 (past x 13 (past x 12 (past x 11 (past x 10 (past x 9 (past x 8 (past x 7 (past x 6 (past x 5 (past x 4 (past x 3 (past x 2 (past x 1 (past x 0 (omega arith) n0) n1) n2) n3) n4) n5) n6) n7) n8) n9) n10) n11) n12) n13) n14 in
+    let q = past x 14 (past x 13 (past x 12 (past x 11 (past x 10
+    (past x 9 (past x 8 (past x 7 (past x 6 (past x 5 (past x 4
+    (past x 3 (past x 2 (past x 1 (past x 0 (omega arith) n0) n1) n2) n3) n4) n5) n6) n7) n8) n9) n10) n11) n12) n13) n14 in
     omega arith
 
 formal-target : (words : List ℤ) (first v : ℕ) → direct v ≡ false → targetBy words first v ≡ heldBy words first v / 8192
 unfolding targetBy
 formal-target words first v e = rw (targetBy, e)
 
-module _ {code : List ℕ} {words : List ℤ} {display : List ℕ} {table : List ℤ} {pairs group limit live at : ℕ} (d : Doing code words display table pairs group limit live at) where
+module _ {code : List ℕ} {words : List ℤ} {display : List ℕ} {table : List ℤ} {pairs group limit live at : ℕ}
+    (d : Doing code words display table pairs group limit live at) where
   abbrev st : Standing code (limitsBy limit group) words (d .blocks) (d .nexts) (d .links) table pairs live at (d .end)
   st = d .running .standing
 
   reached : (i : ℕ) (f : fields.FieldName st i) → Reaches words live (firstCell display (getD code (at + i) 0)) (getD code (at + i) 0)
-  reached i f = subst (λ v. Reaches words live (firstCell display v) v) (sym (f .word)) (reached-by-display st display (d .running .shows) (f .name) (f .resolved))
+  reached i f = subst (λ v. Reaches words live (firstCell display v) v) (sym (f .word))
+      (reached-by-display st display (d .running .shows) (f .name) (f .resolved))
 
   reachable : (i : ℕ) → fields.FieldName st i → Reachable words display (getD code (at + i) 0)
   reachable i f =
@@ -79,7 +76,8 @@ module _ {code : List ℕ} {words : List ℤ} {display : List ℕ} {table : List
   formals-before : fields.ThroughFormal st 1 → fields.BodyStands st → Formals
   formals-before f b =
       let h = b (byDisplay words display) (finds-by-display st display (d .running .shows)) in
-      subst (FormalsBefore code) (formal-target words (firstCell display (getD code (at + 1) 0)) (getD code (at + 1) 0) (f .1)) (record { there = h .0; before = h .1 })
+      subst (FormalsBefore code) (formal-target words (firstCell display (getD code (at + 1) 0)) (getD code (at + 1) 0) (f .1))
+      (record { there = h .0; before = h .1 })
 
   abbrev D : ℕ → Type 0
   D i = Direct words display (getD code (at + i) 0)
@@ -106,7 +104,8 @@ module _ {code : List ℕ} {words : List ℤ} {display : List ℕ} {table : List
   Ready arithmetic-formal-op = (at + 5 ≤ 4096) × (R 1 × (R 3 × R 4))
   Ready branch-formal-op = (at + 3 ≤ 4096) × (R 1 × R 2)
   Ready goto-formal-op = (at + 2 ≤ 4096) × F 1
-  Ready call-formal-op = (limit ≤ 256) × ((live ≤ 255) × ((at + 3 ≤ 4096) × (ArgumentsReachable code display live (at + 3) (getD code (at + 2) 0) × (F 1 × Formals))))
+  Ready call-formal-op = (limit ≤ 256) × ((live ≤ 255) × ((at + 3 ≤ 4096) ×
+      (ArgumentsReachable code display live (at + 3) (getD code (at + 2) 0) × (F 1 × Formals))))
 
   few : live ≤ 255
   few = omega (arith, live-few st)

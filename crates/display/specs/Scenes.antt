@@ -2,10 +2,10 @@
 -- the statement comes to the same, and what it does not look at stays: `constant-same` and so on, a law for each. `done`: so it is with `acting`.
 use Prim.Native.Nat.{ℕ, zero, suc, _+_, _/_}
 use native.Mathlib.Omega.{arith}
-use mathlib.Core.Bool.{Bool, true, false, _&&_}
+use mathlib.Core.Bool.{Bool, true, false}
 use mathlib.Core.List.{List, _∷_}
 use mathlib.Core.Path.{_≡_, refl, sym, ap, _∙_, subst}
-use lib.Dec.{eqb, leb}
+use lib.Dec.{leb}
 use lib.IntN.{ℤ, pos}
 use lib.ListN.{getD}
 use Rattle.language.specs.Basics.{eqZ}
@@ -18,7 +18,7 @@ use Rattle.acting.specs.declared.Effect.{Effect as Kept}
 use Rattle.acting.specs.declared.Effect.the-variants.{Done as Stored, Stopped as Refused}
 use Rattle.acting.specs.declared.Move.{Move}
 use Rattle.acting.specs.declared.Move.the-variants.{Jump}
-use Rattle.acting.specs.Effects.{effectOf, sameKinds}
+use Rattle.acting.specs.Effects.{effectOf}
 use Rattle.acting.specs.Acting.{Finding, Scene, Happened, moves, rewrites, valueOf, field, arithmeticMove, doConstant, doArithmetic, doGoto, doBranch, noRoom, doBlock, argumentsFrom, doCall, argumentsAgree, doCallFormal, changes, doAdd, doRemove, answers, doQuery, Op, opOf, happens, acting}
 use Rattle.display.specs.Finding.{firstCell, byDisplay, without-table, only-words, with-table, blockMove}
 use Rattle.moves.specs.Running.{sceneBy}
@@ -30,9 +30,30 @@ Done h r words table = (r ≡ h .move) × (words ≡ h .words) × (table ≡ h .
 abbrev pub Acted : Happened → Move → List ℤ → List ℤ → Type 0
 Acted h r words table = (r ≡ h .move) × ((words ≡ h .words) × (table ≡ h .table))
 
-module _ (F : Finding) (code : List ℕ) (words table : List ℤ) (pairs group limit live at : ℕ) where
-  abbrev s : Scene
-  s = sceneBy code words table pairs group limit live at
+module _ (F : Finding) (s : Scene) where
+  abbrev code : List ℕ
+  code = s .code
+
+  abbrev words : List ℤ
+  words = s .words
+
+  abbrev table : List ℤ
+  table = s .table
+
+  abbrev pairs : ℕ
+  pairs = s .pairs
+
+  abbrev group : ℕ
+  group = s .limits .group
+
+  abbrev limit : ℕ
+  limit = s .limits .activations
+
+  abbrev live : ℕ
+  live = s .live
+
+  abbrev at : ℕ
+  at = s .at
 
   abbrev o : Scene
   o = only-words code words at
@@ -46,7 +67,8 @@ module _ (F : Finding) (code : List ℕ) (words table : List ℤ) (pairs group l
       let z : at + 0 ≡ at = omega arith in
       ap (happens F s) (sym (ap (λ i. opOf (getD code i 0)) z ∙ e))
 
-  pub done : (p : Op) → opOf (getD code at 0) ≡ p → (r : Move) (words′ table′ : List ℤ) → Done (happens F s p) r words′ table′ → Acted (acting F s) r words′ table′
+  pub done : (p : Op) → opOf (getD code at 0) ≡ p → (r : Move) (words′ table′ : List ℤ) → Done (happens F s p) r words′ table′
+      → Acted (acting F s) r words′ table′
   done p e r words′ table′ h = subst (λ (x : Happened). Acted x r words′ table′) (acts p e) (h .0, (h .1, h .2))
 
   pub constant-same : (r : Move) (words′ : List ℤ) → r ≡ (doConstant F o) .move → words′ ≡ (doConstant F o) .words → Done (doConstant F s) r words′ table
@@ -58,7 +80,8 @@ module _ (F : Finding) (code : List ℕ) (words table : List ℤ) (pairs group l
   moved Stored = refl
   moved (Refused c) = refl
 
-  pub arithmetic-same : (f : Operation) (r : Move) (words′ : List ℤ) → r ≡ (doArithmetic F o f) .move → words′ ≡ (doArithmetic F o f) .words → Done (doArithmetic F s f) r words′ table
+  pub arithmetic-same : (f : Operation) (r : Move) (words′ : List ℤ) → r ≡ (doArithmetic F o f) .move → words′ ≡ (doArithmetic F o f) .words
+      → Done (doArithmetic F s f) r words′ table
   unfolding doArithmetic rewrites
   arithmetic-same f r words′ p q = (p ∙ moved (effectOf (compute f (valueOf F o (field o 3)) (valueOf F o (field o 4)))), q, refl)
 
@@ -95,7 +118,8 @@ module _ (F : Finding) (code : List ℕ) (words table : List ℤ) (pairs group l
       go true e = (p ∙ rw (e, doCall), q ∙ rw (e, doCall), rw (e, doCall))
       go false e = (p ∙ rw (e, doCall), q ∙ rw (e, doCall, arguments-alike), rw (e, doCall))
 
-  pub call-formal-same : (r : Move) (words′ : List ℤ) → r ≡ (doCallFormal F t) .move → words′ ≡ (doCallFormal F t) .words → Done (doCallFormal F s) r words′ table
+  pub call-formal-same : (r : Move) (words′ : List ℤ) → r ≡ (doCallFormal F t) .move → words′ ≡ (doCallFormal F t) .words
+      → Done (doCallFormal F s) r words′ table
   unfolding doCallFormal argumentsAgree moves
   call-formal-same r words′ p q = go (argumentsAgree F t (F .target (field t 1))) refl
     where
@@ -115,13 +139,15 @@ module _ (F : Finding) (code : List ℕ) (words table : List ℤ) (pairs group l
   changed-same g (leaves u) = (refl, refl, refl)
   changed-same g (halts c) = (refl, refl, refl)
 
-  pub add-same : (r : Move) (table′ : List ℤ) → r ≡ (doAdd F (with-group group)) .move → table′ ≡ (doAdd F (with-group group)) .table → Done (doAdd F s) r words table′
+  pub add-same : (r : Move) (table′ : List ℤ) → r ≡ (doAdd F (with-group group)) .move → table′ ≡ (doAdd F (with-group group)) .table
+      → Done (doAdd F s) r words table′
   unfolding doAdd
   add-same r table′ p q =
       let h = changed-same group (added group (valueOf F s (field s 1)) (valueOf F s (field s 2)) (record { words = table; used = pairs })) in
       (p ∙ h .0, h .1, q ∙ h .2)
 
-  pub remove-same : (r : Move) (table′ : List ℤ) → r ≡ (doRemove F (with-group 0)) .move → table′ ≡ (doRemove F (with-group 0)) .table → Done (doRemove F s) r words table′
+  pub remove-same : (r : Move) (table′ : List ℤ) → r ≡ (doRemove F (with-group 0)) .move → table′ ≡ (doRemove F (with-group 0)) .table
+      → Done (doRemove F s) r words table′
   unfolding doRemove
   remove-same r table′ p q =
       let h = changed-same 0 (removed (valueOf F s (field s 1)) (valueOf F s (field s 2)) (record { words = table; used = pairs })) in
@@ -132,7 +158,8 @@ module _ (F : Finding) (code : List ℕ) (words table : List ℤ) (pairs group l
   answered-same (gives z) = (refl, refl, refl)
   answered-same (refuses c) = (refl, refl, refl)
 
-  pub query-same : (r : Move) (words′ : List ℤ) → r ≡ (doQuery F (with-group 0)) .move → words′ ≡ (doQuery F (with-group 0)) .words → Done (doQuery F s) r words′ table
+  pub query-same : (r : Move) (words′ : List ℤ) → r ≡ (doQuery F (with-group 0)) .move → words′ ≡ (doQuery F (with-group 0)) .words
+      → Done (doQuery F s) r words′ table
   unfolding doQuery
   query-same r words′ p q =
       let h = answered-same (queried (valueOf F s (field s 2)) (valueOf F s (field s 3)) (record { words = table; used = pairs })) in
@@ -148,7 +175,8 @@ unfolding targetBy
 direct-target words first v e = rw (targetBy, e)
 
 pub goto-direct : (code : List ℕ) (words table : List ℤ) (display : List ℕ) (pairs group limit live at : ℕ) → direct (getD code (at + 1) 0) ≡ true → (r : Move)
-    → r ≡ Jump (firstCell display (getD code (at + 1) 0) / 32) (targetIn (getD code (at + 1) 0)) → Done (doGoto (byDisplay words display) (sceneBy code words table pairs group limit live at)) r words table
+    → r ≡ Jump (firstCell display (getD code (at + 1) 0) / 32) (targetIn (getD code (at + 1) 0))
+    → Done (doGoto (byDisplay words display) (sceneBy code words table pairs group limit live at)) r words table
 unfolding doGoto moves
 goto-direct code words table display pairs group limit live at e r p =
     let v = getD code (at + 1) 0 in

@@ -5,13 +5,11 @@ use native.Mathlib.Omega.{arith}
 use mathlib.Core.List.{List}
 use mathlib.Core.Path.{_≡_, refl, sym, ap, _∙_, subst}
 use lib.IntN.{ℤ}
-use lib.ListN.{length}
-use Rattle.frames.specs.Frame.{Frame, numbered, halted, frameStep}
-use Rattle.coordinates.specs.Chain.{displayOf}
+use Rattle.frames.specs.Frame.{numbered, halted, frameStep}
 use Rattle.acting.specs.declared.Move.{Move}
 use Rattle.acting.specs.declared.Move.the-variants.{On, Pairs, Jump, Enter, Stop}
 use Rattle.acting.specs.Acting.{Happened, acting}
-use Rattle.steps.specs.Means.{GoesOn, JumpsTo, EntersAt, MoveMeans}
+use Rattle.steps.specs.Means.{GoesOn, MoveMeans}
 use Rattle.steps.specs.Finding.{finds-by-display}
 use Rattle.steps.specs.Acts.{acting-means}
 use Rattle.language.specs.declared.Stop.{Stop as Cause}
@@ -30,7 +28,8 @@ module _ {code : List ℕ} {limit group : ℕ} {words : List ℤ} {blocks nexts 
   leave-ready e h = record { limit = limit; group = group; words = words; table = table; running = w; ended = e; above = h }
 
   pub left-on : (e : here .at ≡ here .end) (h : 1 ≤ here .live) (display′ : List ℕ) (r : Now)
-      → ((v : LeaveReady code blocks nexts links display here) → Succeeds (v .running) (v .words) blocks nexts links display′ (v .table) r) → Succeeds w words blocks nexts links display′ table r
+      → ((v : LeaveReady code blocks nexts links display here) → Succeeds (v .running) (v .words) blocks nexts links display′ (v .table) r)
+      → Succeeds w words blocks nexts links display′ table r
   unfolding leave-ready
   left-on e h display′ r k = k (leave-ready e h)
 
@@ -51,7 +50,8 @@ module _ {code : List ℕ} {limit group : ℕ} {words : List ℤ} {blocks nexts 
     means-as : (m : Move) → r ≡ m → MoveMeans (w .standing) m words′ table′
     means-as m e = subst (λ (x : Move). MoveMeans (w .standing) x words′ table′) e act-means
 
-    goes : (p n : ℕ) → GoesOn (w .standing) words′ table′ n p → Succeeds w words′ blocks nexts links display table′ (record { live = here .live; at = p; end = here .end; pairs = n })
+    goes : (p n : ℕ) → GoesOn (w .standing) words′ table′ n p
+        → Succeeds w words′ blocks nexts links display table′ (record { live = here .live; at = p; end = here .end; pairs = n })
     goes p n g =
         record {
           running = record {
@@ -62,19 +62,31 @@ module _ {code : List ℕ} {limit group : ℕ} {words : List ℤ} {blocks nexts 
           follows = g .follows;
         }
 
-    pub went-on : (p : ℕ) → r ≡ On p → Succeeds w words′ blocks nexts links display table′ (record { live = here .live; at = p; end = here .end; pairs = here .pairs })
+    pub went-on : (p : ℕ) → r ≡ On p → Succeeds w words′ blocks nexts links display table′
+        (record { live = here .live; at = p; end = here .end; pairs = here .pairs })
     went-on p e = goes p (here .pairs) ((means-as (On p) e) .0)
 
-    pub went-pairs : (p n : ℕ) → r ≡ Pairs p n → Succeeds w words′ blocks nexts links display table′ (record { live = here .live; at = p; end = here .end; pairs = n })
+    pub went-pairs : (p n : ℕ) → r ≡ Pairs p n → Succeeds w words′ blocks nexts links display table′
+        (record { live = here .live; at = p; end = here .end; pairs = n })
     went-pairs p n e = goes p n ((means-as (Pairs p n) e) .0)
 
     -- A jump
 
     pub jump-ready : (home p : ℕ) → r ≡ Jump home p → JumpReady code blocks links display here home p
-    jump-ready home p e = record { nexts = nexts; limit = limit; group = group; words = words; table = table; running = w; jumps = (means-as (Jump home p) e) .0 }
+    jump-ready home p e = record {
+      nexts = nexts;
+      limit = limit;
+      group = group;
+      words = words;
+      table = table;
+      running = w;
+      jumps =
+          (means-as (Jump home p) e) .0;
+    }
 
     pub jumped-on : (home p : ℕ) → r ≡ Jump home p → (display′ : List ℕ) (n : Now)
-        → ((v : JumpReady code blocks links display here home p) → Succeeds (v .running) (v .words) blocks (v .nexts) links display′ (v .table) n) → Succeeds w words′ blocks nexts links display′ table′ n
+        → ((v : JumpReady code blocks links display here home p) → Succeeds (v .running) (v .words) blocks (v .nexts) links display′ (v .table) n)
+        → Succeeds w words′ blocks nexts links display′ table′ n
     unfolding jump-ready
     jumped-on home p e display′ n k =
         let m = means-as (Jump home p) e in
@@ -84,13 +96,23 @@ module _ {code : List ℕ} {limit group : ℕ} {words : List ℤ} {blocks nexts 
     -- An entry
 
     pub enter-ready : (body link back : ℕ) → r ≡ Enter body link back → EnterReady code words′ blocks nexts links display here body link back
-    enter-ready body link back e = record { limit = limit; group = group; before = words; table = table; running = w; enters = (means-as (Enter body link back) e) .0 }
+    enter-ready body link back e = record {
+      limit = limit;
+      group = group;
+      before = words;
+      table = table;
+      running = w;
+      enters =
+          (means-as (Enter body link back) e) .0;
+    }
 
     pub entered-on : (body link back : ℕ) → r ≡ Enter body link back → (words″ : List ℤ) (blocks′ nexts′ links′ display′ : List ℕ) (n : Now)
-        → ((v : EnterReady code words′ blocks nexts links display here body link back) → Succeeds (v .running) words″ blocks′ nexts′ links′ display′ (v .table) n) → Succeeds w words″ blocks′ nexts′ links′ display′ table′ n
+        → ((v : EnterReady code words′ blocks nexts links display here body link back) → Succeeds (v .running) words″ blocks′ nexts′ links′ display′
+        (v .table) n) → Succeeds w words″ blocks′ nexts′ links′ display′ table′ n
     unfolding enter-ready
     entered-on body link back e words″ blocks′ nexts′ links′ display′ n k =
-        subst (λ (v : List ℤ). Succeeds w words″ blocks′ nexts′ links′ display′ v n) (sym ((means-as (Enter body link back) e) .1)) (k (enter-ready body link back e))
+        subst (λ (v : List ℤ). Succeeds w words″ blocks′ nexts′ links′ display′ v n) (sym ((means-as (Enter body link back) e) .1))
+        (k (enter-ready body link back e))
 
     -- A cause to stop
 
