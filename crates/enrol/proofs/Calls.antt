@@ -8,14 +8,15 @@ use lib.IntN.{ℤ, pos}
 use lib.ListN.{length, getD, replicate}
 use Rattle.language.specs.Text.{Block}
 use Rattle.language.specs.Check.{accepted, check}
-use Rattle.language.specs.Call.{Engine, Fed, reply, display, limitsOf, written}
+use Rattle.language.specs.Call.{Engine, Fed, Lent, reply, display, limitsOf, written}
 use Rattle.language.specs.Numbers.{answerWords}
 use Rattle.language.specs.declared.Refusal.{Refusal}
 use Rattle.language.specs.declared.Verdict.{Verdict}
 use Rattle.language.specs.declared.Verdict.the-variants.{Fit, Refused}
 use Rattle.grammar.specs.Rules.{Bytes, Keeps}
 use Rattle.runs.specs.Admission.{Admitted, limits-fit, table-right, activations-fit}
-use Rattle.frames.specs.Frame.{Result, frameRunOf, frameSheet}
+use Rattle.frames.specs.Frame.{Result, frameRun, frameStart, frameRunOf, frameSheet}
+use Rattle.moves.specs.Running.{limitsBy}
 use Rattle.coordinates.specs.Sound.{accepted-keeps-rules}
 use Rattle.resolved.specs.Resolved.{resolvedOf, Covers}
 use Rattle.resolving.specs.Resolving.{Resolved}
@@ -28,24 +29,25 @@ use Rattle.display.specs.Turning.{Beginning, Ended}
 use Rattle.display.specs.declared.run.Halt.{Halt}
 
 -- an array covers what it begins with
+first-is : (xs : List ℕ) (w : ℕ) (rest : List ℕ) → getD (xs ++ (w ∷ rest)) (length xs) 0 ≡ w
+first-is [] w rest = refl
+first-is (x ∷ xs) w rest = first-is xs w rest
+
+one-joined : (xs : List ℕ) (w : ℕ) (rest : List ℕ) → (xs ++ (w ∷ [])) ++ rest ≡ xs ++ (w ∷ rest)
+one-joined [] w rest = refl
+one-joined (x ∷ xs) w rest = ap (λ (l : List ℕ). x ∷ l) (one-joined xs w rest)
+
+one-longer : (xs : List ℕ) (w : ℕ) → length (xs ++ (w ∷ [])) ≡ length xs + 1
+one-longer [] w = omega arith
+one-longer (x ∷ xs) w = let e = one-longer xs w in omega arith
+
 covers-from : (before ws rest : List ℕ) → Covers (before ++ (ws ++ rest)) (length before) ws
 covers-from before [] rest = tt
-covers-from before (w ∷ ws) rest = (at before, onward)
-  where
-    at : (xs : List ℕ) → getD (xs ++ (w ∷ (ws ++ rest))) (length xs) 0 ≡ w
-    at [] = refl
-    at (x ∷ xs) = at xs
-
-    join : (xs : List ℕ) → (xs ++ (w ∷ [])) ++ (ws ++ rest) ≡ xs ++ (w ∷ (ws ++ rest))
-    join [] = refl
-    join (x ∷ xs) = ap (λ (l : List ℕ). x ∷ l) (join xs)
-
-    one-more : (xs : List ℕ) → length (xs ++ (w ∷ [])) ≡ length xs + 1
-    one-more [] = omega arith
-    one-more (x ∷ xs) = let e = one-more xs in omega arith
-
-    onward : Covers (before ++ (w ∷ (ws ++ rest))) (length before + 1) ws
-    onward = subst (λ p. Covers (before ++ (w ∷ (ws ++ rest))) p ws) (one-more before) (subst (λ (l : List ℕ). Covers l (length (before ++ (w ∷ []))) ws) (join before) (covers-from (before ++ (w ∷ [])) ws rest))
+covers-from before (w ∷ ws) rest = (
+  first-is before w (ws ++ rest),
+  subst (λ p. Covers (before ++ (w ∷ (ws ++ rest))) p ws) (one-longer before w)
+      (subst (λ (l : List ℕ). Covers l (length (before ++ (w ∷ []))) ws) (one-joined before w (ws ++ rest)) (covers-from (before ++ (w ∷ [])) ws rest)),
+)
 
 resolved-covers : (code ws rest : List ℕ) → code ≡ ws ++ rest → Covers code 0 ws
 resolved-covers code ws rest e = subst (λ (l : List ℕ). Covers l 0 ws) (sym e) (covers-from [] ws rest)
@@ -80,10 +82,53 @@ module _ (script : List ℕ) (d n g tally : ℕ) (table : List ℤ) (count name 
         few-live = few .1;
         table-right = table-right h;
         words-long = ap length w ∙ long 8224 (pos 0);
-        blocks-long = ap length b ∙ long 256 0;
-        nexts-long = ap length x ∙ long 256 0;
-        links-long = ap length l ∙ long 256 0;
+        blocks-long = ap length b ∙ long {A = ℕ} 256 0;
+        nexts-long = ap length x ∙ long {A = ℕ} 256 0;
+        links-long = ap length l ∙ long {A = ℕ} 256 0;
         zeros = λ i p. ap (λ (ws : List ℤ). getD ws i (pos 0)) w ∙ zero-at 8224 i;
         no-block = ap (λ (ws : List ℕ). getD ws 0 0) b;
         no-link = ap (λ (ws : List ℕ). getD ws 0 0) l;
       }
+
+  -- what such a run ends with
+  pub ended-so : (code : List ℕ) → Resolved script name code → (words : List ℤ) (blocks nexts links : List ℕ) → words ≡ replicate 8224 (pos 0) → blocks ≡ replicate 256 0 → nexts ≡ replicate 256 0 → links ≡ replicate 256 0
+      → (r : Halt) (words′ : List ℤ) (blocks′ nexts′ links′ : List ℕ) (table′ : List ℤ)
+      → ((b : Beginning code words blocks nexts links table count g d) → Ended (b .program) (b .name) code d g (frameRun (limitsBy d g) n (frameStart (b .program) (record { words = table; used = count }))) r words′ blocks′ nexts′ links′ table′)
+      → Ended t name code d g (frameRunOf (fedOf script d n g tally table count name sheet) t) r words′ blocks′ nexts′ links′ table′
+  unfolding frameRunOf begins-so
+  ended-so code resolved words blocks nexts links w b x l r words′ blocks′ nexts′ links′ table′ k = k (begins-so code resolved words blocks nexts links w b x l)
+
+  pub covers-so : (code : List ℕ) → Resolved script name code → Covers code 0 (resolvedOf name t)
+  covers-so code resolved = resolved-covers code (resolvedOf name t) _ (resolved t (h .script))
+
+  -- what the run has of the frame machine's result, and the sheet's words
+  module _ (r : Halt) (code : List ℕ) (words : List ℤ) (blocks nexts links : List ℕ) (table′ : List ℤ) (covers : Covers code 0 (resolvedOf name t))
+      (ended : Ended t name code d g (frameRunOf (fedOf script d n g tally table count name sheet) t) r words blocks nexts links table′) where
+    result : Result
+    result = frameRunOf (fedOf script d n g tally table count name sheet) t
+
+    pub held-so : Held code words blocks nexts ((frameRunOf (fedOf script d n g tally table count name sheet) t) .final .frames)
+    held-so = result-held code words blocks nexts links name t _ _ keeps covers (ended .sound) (ended .holds)
+
+    pub room-so : 34 * r .live ≤ length sheet
+    room-so = subst (λ k. 34 * k ≤ length sheet) (sym (ended .live-is)) (room-for-sheet h _ (ended .sound))
+
+    pub answers-so : (written′ : ℕ) → written′ ≡ length (frameSheet ((frameRunOf (fedOf script d n g tally table count name sheet) t) .final .frames))
+        → ranAnswer (r .end) (r .steps) (r .offset) (r .pairs) written′ tally (r .designator) 0 ≡ (reply display (fedOf script d n g tally table count name sheet)) .answer
+    answers-so written′ e =
+        ran-answer display (fedOf script d n g tally table count name sheet) bytes t h (r .end) (r .steps) (r .offset) (r .pairs) written′ (r .designator) 0
+        (record {
+          end-is = ended .end-is;
+          steps-are = ended .steps-are;
+          offset-is = ended .offset-is;
+          pairs-are = ended .pairs-are;
+          sheet-is = e;
+          designator-is = ended .designator-is;
+          links-are = no-links display (fedOf script d n g tally table count name sheet) (frameRunOf (fedOf script d n g tally table count name sheet) t) refl;
+        })
+
+    pub lent-so : (sheet′ : List ℤ) → sheet′ ≡ written (frameSheet ((frameRunOf (fedOf script d n g tally table count name sheet) t) .final .frames)) sheet
+        → (sheet′ ≡ (reply display (fedOf script d n g tally table count name sheet)) .lent .sheet) × (table′ ≡ (reply display (fedOf script d n g tally table count name sheet)) .lent .table .words)
+    lent-so sheet′ e =
+        let l = ran-lent display (fedOf script d n g tally table count name sheet) bytes t h in
+        (e ∙ sym (ap (λ (x : Lent). x .sheet) l), ended .table-is ∙ sym (ap (λ (x : Lent). x .table .words) l))

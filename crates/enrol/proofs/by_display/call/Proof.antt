@@ -1,4 +1,10 @@
 use borrow.Author.Needs.{needs}
+use mathlib.Core.Path.{_≡_, refl, sym, ap, _∙_}
+use mathlib.Core.Bool.{false}
+use Rattle.language.specs.Call.{display, Lent}
+use Rattle.language.specs.Numbers.{answerWords}
+use Rattle.replies.specs.Replies.{refused-reply, fit-admitted}
+use Rattle.enrol.proofs.Calls.{begins-so, held-so, room-so, answers-so}
 use Rattle.enrol.proofs.by_display.call.Statement.{statement}
 use Rattle.enrol.proofs.by_display.call.Tie as tie
 use Rattle.enrol.proofs.by_display.call.Reads as reads
@@ -25,7 +31,9 @@ enum-told c = search needs
 
 -- src/by_display.rt:89:25
 ran-requires : tie.Need-ran-requires
-ran-requires c κs = ?
+ran-requires c κs =
+    let a = c .before .before .before .before in
+    fit-admitted display _ (sym (a .admit .ensures (a .before .before .before .before .args .name) false) ∙ c .before .before .enum-told .given .1)
 
 -- src/by_display.rt:61:1
 same-length : tie.Need-same-length
@@ -37,7 +45,12 @@ same-length-2 c = search needs
 
 -- src/by_display.rt:61:1
 returns : tie.Need-returns
-returns c = ?
+returns c =
+    let a = c .before .before .before .before in
+    let told = c .before .before .cause .given in
+    let q = sym (a .admit .ensures (a .before .before .before .before .args .name) false) ∙ told .1 in
+    let r = refused-reply display _ (told .0 .0) (told .0 .1 .0) q in
+    (c .refusal-words .ensures ∙ ap answerWords (sym (r .0)), (ap (λ (l : Lent). l .sheet) (sym (r .1)), ap (λ (l : Lent). l .table .words) (sym (r .1))))
 
 -- src/by_display.rt:61:1
 same-length-3 : tie.Need-same-length-3

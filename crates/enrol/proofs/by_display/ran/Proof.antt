@@ -1,4 +1,12 @@
 use borrow.Author.Needs.{needs}
+use mathlib.Core.List.{List}
+use mathlib.Core.Path.{_≡_, refl, sym, ap, _∙_}
+use lib.IntN.{ℤ, pos}
+use Rattle.language.specs.Numbers.{answerWords}
+use Rattle.language.specs.Call.{Lent, written}
+use Rattle.scoping.proofs.Whole.{bytes-are}
+use Rattle.replies.specs.Replies.{ran-lent, tally-fits}
+use Rattle.enrol.proofs.Calls.{begins-so, ended-so, covers-so, held-so, room-so, answers-so, lent-so}
 use Rattle.enrol.proofs.by_display.ran.Statement.{statement}
 use Rattle.enrol.proofs.by_display.ran.Tie as tie
 use Rattle.enrol.proofs.by_display.ran.Reads as reads
@@ -7,6 +15,19 @@ use Rattle.answers.proofs.run_words.Reads as run-words-reads
 use Rattle.display.proofs.run_program.Reads as run-program-reads
 use Rattle.resolving.proofs.resolve.Reads as resolve-reads
 use Rattle.sheets.proofs.write_sheet.Reads as write-sheet-reads
+
+-- the places: where the script is resolved, where the run returns
+abbrev resolvedAt : tie.After-run-program-arg → tie.After-resolve
+resolvedAt c = c .before .before .before .before .before .before .before
+
+abbrev startAt : tie.After-resolve → tie.Start
+startAt c = c .before .before .before
+
+abbrev ranAt : tie.After-write-sheet-arg → tie.After-run-program
+ranAt c = c .before .before .before .before .before .before
+
+abbrev writtenAt : tie.After-run-words → tie.After-write-sheet
+writtenAt c = c .before .before
 
 -- src/by_display.rt:29:47
 slice-aggregate-resolve : tie.Need-slice-aggregate-resolve
@@ -18,15 +39,26 @@ resolve-requires c κs = search needs
 
 -- src/by_display.rt:34:9
 run-program-requires : tie.Need-run-program-requires
-run-program-requires c κs = ?
+run-program-requires c κs =
+    let z = resolvedAt c in
+    let s = startAt z .args in
+    let p = startAt z .pre in
+    begins-so (s .script .now) (s .d) (s .n) (s .g) (s .tally) (s .table .now) (s .count) (s .name) (s .sheet .now) (bytes-are (s .script .now) (λ i. z .before .before .shared-slice-known .given i .fits)) (p .0) (p .1) (z .resolve .last .1 .1 .0) (z .resolve .ensures) _ _ _ _ refl refl refl refl
 
 -- src/by_display.rt:47:9
 write-sheet-requires : tie.Need-write-sheet-requires
-write-sheet-requires c κs = ?
+write-sheet-requires c κs =
+    let z = resolvedAt (ranAt c .before) in
+    let s = startAt z .args in
+    let p = startAt z .pre in
+    let u = ranAt c in
+    let e = ended-so (s .script .now) (s .d) (s .n) (s .g) (s .tally) (s .table .now) (s .count) (s .name) (s .sheet .now) (bytes-are (s .script .now) (λ i. z .before .before .shared-slice-known .given i .fits)) (p .0) (p .1) (z .resolve .last .1 .1 .0) (z .resolve .ensures) _ _ _ _ refl refl refl refl (u .run-program .result) (u .run-program .last .1 .0) (u .run-program .last .1 .1 .0) (u .run-program .last .1 .1 .1 .0) (u .run-program .last .1 .1 .1 .1 .0) (u .run-program .last .1 .1 .1 .1 .1 .0) (u .run-program .ensures) in
+    let v = covers-so (s .script .now) (s .d) (s .n) (s .g) (s .tally) (s .table .now) (s .count) (s .name) (s .sheet .now) (bytes-are (s .script .now) (λ i. z .before .before .shared-slice-known .given i .fits)) (p .0) (p .1) (z .resolve .last .1 .1 .0) (z .resolve .ensures) in
+    ((_, held-so (s .script .now) (s .d) (s .n) (s .g) (s .tally) (s .table .now) (s .count) (s .name) (s .sheet .now) (bytes-are (s .script .now) (λ i. z .before .before .shared-slice-known .given i .fits)) (p .0) (p .1) (u .run-program .result) (z .resolve .last .1 .1 .0) (u .run-program .last .1 .0) (u .run-program .last .1 .1 .0) (u .run-program .last .1 .1 .1 .0) (u .run-program .last .1 .1 .1 .1 .0) (u .run-program .last .1 .1 .1 .1 .1 .0) v e, sym (e .live-is)), room-so (s .script .now) (s .d) (s .n) (s .g) (s .tally) (s .table .now) (s .count) (s .name) (s .sheet .now) (bytes-are (s .script .now) (λ i. z .before .before .shared-slice-known .given i .fits)) (p .0) (p .1) (u .run-program .result) (z .resolve .last .1 .1 .0) (u .run-program .last .1 .0) (u .run-program .last .1 .1 .0) (u .run-program .last .1 .1 .1 .0) (u .run-program .last .1 .1 .1 .1 .0) (u .run-program .last .1 .1 .1 .1 .1 .0) v e)
 
 -- src/by_display.rt:49:5
 run-words-requires : tie.Need-run-words-requires
-run-words-requires c κs = ?
+run-words-requires c κs = tally-fits (startAt (resolvedAt (ranAt (c .before .before) .before)) .pre .1)
 
 -- src/by_display.rt:12:1
 same-length : tie.Need-same-length
@@ -38,7 +70,16 @@ same-length-2 c = search needs
 
 -- src/by_display.rt:12:1
 returns : tie.Need-returns
-returns c = ?
+returns c =
+    let z = resolvedAt (ranAt (writtenAt c .before) .before) in
+    let s = startAt z .args in
+    let p = startAt z .pre in
+    let u = ranAt (writtenAt c .before) in
+    let e = ended-so (s .script .now) (s .d) (s .n) (s .g) (s .tally) (s .table .now) (s .count) (s .name) (s .sheet .now) (bytes-are (s .script .now) (λ i. z .before .before .shared-slice-known .given i .fits)) (p .0) (p .1) (z .resolve .last .1 .1 .0) (z .resolve .ensures) _ _ _ _ refl refl refl refl (u .run-program .result) (u .run-program .last .1 .0) (u .run-program .last .1 .1 .0) (u .run-program .last .1 .1 .1 .0) (u .run-program .last .1 .1 .1 .1 .0) (u .run-program .last .1 .1 .1 .1 .1 .0) (u .run-program .ensures) in
+    let v = covers-so (s .script .now) (s .d) (s .n) (s .g) (s .tally) (s .table .now) (s .count) (s .name) (s .sheet .now) (bytes-are (s .script .now) (λ i. z .before .before .shared-slice-known .given i .fits)) (p .0) (p .1) (z .resolve .last .1 .1 .0) (z .resolve .ensures) in
+    let w = writtenAt c .write-sheet .ensures _ (held-so (s .script .now) (s .d) (s .n) (s .g) (s .tally) (s .table .now) (s .count) (s .name) (s .sheet .now) (bytes-are (s .script .now) (λ i. z .before .before .shared-slice-known .given i .fits)) (p .0) (p .1) (u .run-program .result) (z .resolve .last .1 .1 .0) (u .run-program .last .1 .0) (u .run-program .last .1 .1 .0) (u .run-program .last .1 .1 .1 .0) (u .run-program .last .1 .1 .1 .1 .0) (u .run-program .last .1 .1 .1 .1 .1 .0) v e) (sym (e .live-is)) in
+    let l = lent-so (s .script .now) (s .d) (s .n) (s .g) (s .tally) (s .table .now) (s .count) (s .name) (s .sheet .now) (bytes-are (s .script .now) (λ i. z .before .before .shared-slice-known .given i .fits)) (p .0) (p .1) (u .run-program .result) (z .resolve .last .1 .1 .0) (u .run-program .last .1 .0) (u .run-program .last .1 .1 .0) (u .run-program .last .1 .1 .1 .0) (u .run-program .last .1 .1 .1 .1 .0) (u .run-program .last .1 .1 .1 .1 .1 .0) v e _ (w .0) in
+    (c .run-words .ensures ∙ ap answerWords (answers-so (s .script .now) (s .d) (s .n) (s .g) (s .tally) (s .table .now) (s .count) (s .name) (s .sheet .now) (bytes-are (s .script .now) (λ i. z .before .before .shared-slice-known .given i .fits)) (p .0) (p .1) (u .run-program .result) (z .resolve .last .1 .1 .0) (u .run-program .last .1 .0) (u .run-program .last .1 .1 .0) (u .run-program .last .1 .1 .1 .0) (u .run-program .last .1 .1 .1 .1 .0) (u .run-program .last .1 .1 .1 .1 .1 .0) v e _ (w .1)), (l .0, l .1))
 
 pub ran-spec : {M : Type 1} → statement M
 ran-spec =
