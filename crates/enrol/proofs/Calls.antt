@@ -6,6 +6,7 @@ use mathlib.Core.List.{List, [], _∷_, _++_}
 use mathlib.Core.Path.{_≡_, refl, sym, ap, _∙_, subst}
 use lib.IntN.{ℤ, pos}
 use lib.ListN.{length, getD, replicate}
+use Rattle.language.specs.Sheet.{sheetShare}
 use Rattle.language.specs.Text.{Block}
 use Rattle.language.specs.Check.{accepted, check}
 use Rattle.language.specs.Call.{Engine, Fed, Lent, reply, display, limitsOf, written}
@@ -110,8 +111,8 @@ module _ (script : List ℕ) (d n g tally : ℕ) (table : List ℤ) (count name 
     pub held-so : Held code words blocks nexts ((frameRunOf (fedOf script d n g tally table count name sheet) t) .final .frames)
     held-so = result-held code words blocks nexts links name t _ _ keeps covers (ended .sound) (ended .holds)
 
-    pub room-so : 34 * r .live ≤ length sheet
-    room-so = subst (λ k. 34 * k ≤ length sheet) (sym (ended .live-is)) (room-for-sheet h _ (ended .sound))
+    pub room-so : sheetShare * r .live ≤ length sheet
+    room-so = subst (λ k. sheetShare * k ≤ length sheet) (sym (ended .live-is)) (room-for-sheet h _ (ended .sound))
 
     pub answers-so : (written′ : ℕ) → written′ ≡ length (frameSheet ((frameRunOf (fedOf script d n g tally table count name sheet) t) .final .frames))
         → ranAnswer (r .end) (r .steps) (r .offset) (r .pairs) written′ tally (r .designator) 0 ≡ (reply display (fedOf script d n g tally table count name sheet)) .answer

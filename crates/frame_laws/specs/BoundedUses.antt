@@ -10,6 +10,7 @@ use mathlib.Core.Option.{none, some}
 use lib.IntN.{ℤ}
 use lib.ListN.{length, getElem?, length-append}
 use lib.Signed.{mag}
+use Rattle.language.specs.Sheet.{sheetShare}
 use Rattle.language.specs.Text.{Stmt, blockStmts}
 use Rattle.laws.specs.Tests.{by-lookup}
 use Rattle.frames.specs.Frame.{Frame, numbered, frameNames, positionFrom, seekFrom, designates, frameNumber, place, wordAt, frameStmt, frameWords, frameSheet}
@@ -40,14 +41,14 @@ designates-most fs n h = go (designates fs n) (designates-target fs n h)
     go x (inl e) = omega arith
     go x (inr p) = points-most fs (length fs) x h p
 
--- at most 34 words for each frame
-sheet-words : (fs : List Frame) → ((k : ℕ) (f : Frame) → getElem? fs k ≡ some f → length (f .words) ≤ 32) → length (frameSheet fs) ≤ length fs * 34
+-- at most `sheetShare` words for each frame
+sheet-words : (fs : List Frame) → ((k : ℕ) (f : Frame) → getElem? fs k ≡ some f → length (f .words) ≤ 32) → length (frameSheet fs) ≤ length fs * sheetShare
 unfolding frameSheet
 sheet-words [] h = omega arith
 sheet-words (f ∷ fs) h =
     omega (arith, length-append (frameWords f) (frameSheet fs), frameWords-length f, h 0 f refl, sheet-words fs (λ k g e. h (suc k) g e))
 
-pub sheet-most : (fs : List Frame) → BoundedFrames fs → length (frameSheet fs) ≤ length fs * 34
+pub sheet-most : (fs : List Frame) → BoundedFrames fs → length (frameSheet fs) ≤ length fs * sheetShare
 sheet-most fs h = sheet-words fs (λ k f e. (h k f e) .few)
 
 -- the next statement number names a statement, or is one past the last and the frame is left

@@ -11,6 +11,7 @@ use borrow.Author.Tests.{leb-true}
 use lib.Dec.{leb}
 use lib.IntN.{ℤ}
 use lib.ListN.{length}
+use Rattle.language.specs.Sheet.{sheetShare}
 use Rattle.language.specs.Text.{Block}
 use Rattle.language.specs.Check.{Checked, accepted, refused}
 use Rattle.language.specs.Machine.{Limits}
@@ -108,7 +109,7 @@ result-held code words blocks nexts links name t l s keeps covers sound holds =
 
 -- What else an admitted call gives the engine: room for the sheet of whatever its run leaves, and a tally that can be added to
 module _ {e : Engine} {f : Fed} {t : Block} (h : Admitted e f t) where
-  pub room-for-sheet : (s : Stack) → Sound (limitsOf f) t s → 34 * length (s .frames) ≤ length (f .lent .sheet)
+  pub room-for-sheet : (s : Stack) → Sound (limitsOf f) t s → sheetShare * length (s .frames) ≤ length (f .lent .sheet)
   room-for-sheet s sound = omega (arith, sheet-lent f (sheet-fits h), sound .bounded .live)
 
   pub tally-fits : f .tally ≤ 1000000000000

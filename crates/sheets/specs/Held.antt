@@ -7,6 +7,7 @@ use mathlib.Core.Option.{some}
 use mathlib.Core.Path.{_≡_, refl, sym, ap, _∙_, subst}
 use lib.IntN.{ℤ, pos}
 use lib.ListN.{length, take, getD, getElem?, length-append}
+use Rattle.language.specs.Sheet.{sheetShare}
 use Rattle.language.specs.Text.{Block, blockAt, blockStmts, stmtAt}
 use Rattle.language.specs.Encoding.{stmtFields}
 use Rattle.language.specs.Call.{written}
@@ -132,7 +133,7 @@ none-written fs sheet = (sym (ap (λ (x : List ℤ). written x sheet) (none-show
 
 module _ {code : List ℕ} {words : List ℤ} {blocks nexts : List ℕ} {fs : List Frame} (h : Held code words blocks nexts fs) where
   -- there is room for it
-  pub sheet-room : (k : ℕ) → k ≤ length fs → length (frameSheet (take k fs)) ≤ 34 * k
+  pub sheet-room : (k : ℕ) → k ≤ length fs → length (frameSheet (take k fs)) ≤ sheetShare * k
   sheet-room zero l = omega (arith, ap length (none-shown fs))
   sheet-room (suc k) l =
       let w = getElem-in fs k l in

@@ -6,6 +6,7 @@ ghost use Prim.Native.Nat.{ℕ, _+_, _*_, _<_, _≤_, _^_, _%_};
 ghost use lib.IntN.{ℤ, pos};
 ghost use lib.ListN.{length, getD};
 ghost use lib.Signed.{ltZ};
+ghost use Rattle.language.specs.Sheet.{sheetShare};
 ghost use Rattle.language.specs.Call.{written};
 ghost use Rattle.frames.specs.Frame.{Frame, designatorIn, frameSheet};
 ghost use Rattle.arrays.specs.Holds.{designatorOf};
@@ -179,7 +180,7 @@ pub fn write_sheet(
     sheet: &mut [i32],
 ) -> usize
     requires { ⌜ ((fs : List Frame) × Held (now code) (now words) (now blocks) (now nexts) fs × (length fs ≡ live)) ⌝ }
-    requires { ⌜ 34 * live ≤ length (now sheet) ⌝ }
+    requires { ⌜ sheetShare * live ≤ length (now sheet) ⌝ }
     ensures { λ r. ⌜ ((fs : List Frame) → Held (now (code .entry)) (now (words .entry)) (now (blocks .entry)) (now (nexts .entry)) fs → length fs ≡ live → (now (sheet .exit) ≡ written (frameSheet fs) (now (sheet .entry))) × (r ≡ length (frameSheet fs))) ⌝ }
 {
     let mut at = 0;
