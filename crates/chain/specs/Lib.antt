@@ -1,0 +1,3 @@
+-- The static-chain engine, in reading order.
+pub mod Records
+pub mod Finding
