@@ -1,3 +1,5 @@
 -- The static-chain engine, in reading order.
 pub mod Records
 pub mod Finding
+pub mod Running
+pub mod Moving
