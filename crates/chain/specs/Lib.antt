@@ -3,3 +3,6 @@ pub mod Records
 pub mod Finding
 pub mod Running
 pub mod Moving
+pub mod Links
+pub mod Ready
+pub mod Scenes
