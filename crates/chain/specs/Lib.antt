@@ -6,3 +6,6 @@ pub mod Moving
 pub mod Links
 pub mod Ready
 pub mod Scenes
+pub mod Turning
+pub mod Turns
+pub mod Ending

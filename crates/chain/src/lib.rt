@@ -4,3 +4,4 @@ mod arms;
 mod moves;
 mod names;
 mod records;
+mod run;

@@ -12,7 +12,7 @@ fn wide(x: u32) -> usize
     x as usize
 }
 
-fn narrow(x: usize) -> u32
+pub fn narrow(x: usize) -> u32
     requires { ⌜ x < 65536 ⌝ }
     ensures { λ r. ⌜ r ≡ x ⌝ }
 {
