@@ -27,8 +27,9 @@ use Rattle.pairs.specs.declared.Change.{Change}
 use Rattle.pairs.specs.declared.Query.{Query}
 use Rattle.pairs.specs.declared.Query.the-variants.{Value, Stopped as Refused}
 use Rattle.pairs.specs.Outcomes as outcomes
-use Rattle.chain.specs.Finding.{firstCell, ownCell, byChain, without-table, only-words, Direct, moveAfter, moveChanged, blockMove, enteredBy}
-use Rattle.chain.proofs.Found.{cell-direct}
+use Rattle.links.specs.Finding.{firstCell, ownCell, byChain}
+use Rattle.chain.specs.Finding.{without-table, only-words, Direct, moveAfter, moveChanged, blockMove, enteredBy}
+use Rattle.links.specs.Words.{cell-direct}
 
 -- For any way of finding names
 

@@ -24,13 +24,14 @@ use Rattle.steps.specs.Standing.{Standing}
 use Rattle.steps.specs.Here.{many}
 use Rattle.steps.specs.Reads.{at-within, begin-reads}
 use Rattle.steps.specs.Loop.{spent as spends, stops, finishes, begins}
-use Rattle.chain.specs.declared.moves.Now.{Now}
+use Rattle.links.specs.declared.Now.{Now}
 use Rattle.chain.specs.declared.run.Turn.{Turn}
 use Rattle.chain.specs.declared.run.Turn.the-variants.{Went, Finished, Stopped}
 use Rattle.chain.specs.declared.run.Halt.{Halt}
-use Rattle.chain.specs.Records.{blocksIn, nextsIn, linksIn, Room, Pushed, NextSet, column-length}
-use Rattle.chain.specs.Running.{limitsBy, Running, Looking, Succeeds}
-use Rattle.chain.specs.Turning.{Turned, Beginning, Ended, foundIn, haltOf, haltAt}
+use Rattle.links.specs.Records.{blocksIn, nextsIn, linksIn, Room, Pushed, NextSet, column-length}
+use Rattle.links.specs.Running.{limitsBy, Running, Looking, Succeeds}
+use Rattle.links.specs.Names.{foundIn}
+use Rattle.chain.specs.Turning.{Turned, Beginning, Ended, haltOf, haltAt}
 
 -- where a run that begins goes to
 abbrev pub resultFrom : Block → ℕ → ℕ → ℕ → List ℤ → ℕ → Result

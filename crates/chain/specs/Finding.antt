@@ -1,12 +1,10 @@
--- How the static-chain engine finds a name: from the innermost activation, as many links as the innermost block's level is above the name's lead to
--- the activation that declares it.
-use Prim.Native.Nat.{ℕ, _+_, _*_, _-_, _/_, _%_, _≤_, _<_}
+-- What the statements' functions ask and do: a scene as far as each looks at it, and the pieces from which they are made.
+use Prim.Native.Nat.{ℕ, _+_, _*_, _/_, _%_, _≤_, _<_}
 use mathlib.Core.Bool.{true, false}
 use mathlib.Core.List.{List, []}
 use mathlib.Core.Path.{_≡_}
-use lib.IntN.{ℤ, pos}
+use lib.IntN.{ℤ}
 use lib.ListN.{getD}
-use lib.Signed.{ltZ}
 use lib.Dec.{leb}
 use Rattle.language.specs.declared.Stop.the-variants.{NoActivationLeft}
 use Rattle.pairs.specs.declared.Change.{Change}
@@ -15,21 +13,9 @@ use Rattle.acting.specs.declared.Effect.{Effect}
 use Rattle.acting.specs.declared.Effect.the-variants.{Done, Stopped}
 use Rattle.acting.specs.declared.Move.{Move}
 use Rattle.acting.specs.declared.Move.the-variants.{On, Pairs, Enter, Stop}
-use Rattle.resolved.specs.Resolved.{levelIn, positionIn, direct}
-use Rattle.arrays.specs.Names.{follow}
-use Rattle.arrays.specs.Found.{cellBy}
+use Rattle.resolved.specs.Resolved.{direct}
 use Rattle.acting.specs.Acting.{Finding, Scene, Happened, field, moves, rewrites, noRoom, argumentsFrom, setAll}
-use Rattle.steps.specs.Finding.{byFirst}
-use Rattle.chain.specs.Records.{linksIn, Linked}
-
-abbrev pub firstCell : List ℕ → ℕ → ℕ → ℕ → ℕ
-firstCell records live level w = 32 * follow (linksIn records) live (level - levelIn w)
-
-abbrev pub ownCell : List ℕ → ℕ → ℕ → ℕ → ℕ
-ownCell records live level w = firstCell records live level w + positionIn w
-
-abbrev pub byChain : List ℤ → List ℕ → ℕ → ℕ → Finding
-byChain words records live level = byFirst words (firstCell records live level)
+use Rattle.links.specs.Finding.{ownCell, Seen, Reachable}
 
 -- a scene as far as a statement looks at it: with no table, and with no activations either
 abbrev pub without-table : List ℕ → List ℤ → ℕ → ℕ → ℕ → Scene
@@ -43,27 +29,10 @@ abbrev pub with-table : List ℕ → List ℤ → List ℤ → ℕ → ℕ → �
 with-table code words table pairs group at =
     record { code = code; words = words; table = table; pairs = pairs; limits = record { activations = 0; group = group }; live = 0; at = at }
 
--- the links to the activation that declares the name with a word can be followed
-pub record Seen (records : List ℕ) (live level w : ℕ) : Type 0 where
-  pub linked : Linked records live
-  pub outer : levelIn w ≤ level
-
--- the name with a word can be reached: its own cell is one of the words, what a formal holds is not negative, and the cell that it finally
--- stands for is one of the words
-pub record Reachable (words : List ℤ) (records : List ℕ) (live level w : ℕ) : Type 0 where
-  pub seen : Seen records live level w
-  pub own : ownCell records live level w < 8192
-  pub whole : direct w ≡ false → ltZ (getD words (ownCell records live level w) (pos 0)) (pos 0) ≡ false
-  pub cell : cellBy words (firstCell records live level w) w < 8192
-
--- and it is no formal
+-- a name that can be reached and is no formal
 pub record Direct (words : List ℤ) (records : List ℕ) (live level w : ℕ) : Type 0 where
   pub reachable : Reachable words records live level w
   pub is : direct w ≡ true
-
-pub record ThroughFormal (words : List ℤ) (records : List ℕ) (live level w : ℕ) : Type 0 where
-  pub reachable : Reachable words records live level w
-  pub is : direct w ≡ false
 
 -- so many arguments from a place on have their own cells below the next activation's
 pub record ArgumentsReachable (code : List ℕ) (records : List ℕ) (live level from count : ℕ) : Type 0 where

@@ -23,10 +23,11 @@ use Rattle.steps.specs.Standing.{Standing}
 use Rattle.steps.specs.Here.{live-few}
 use Rattle.steps.specs.Fields as fields
 use Rattle.steps.specs.Finding.{Reaches}
-use Rattle.chain.specs.Records.{blocksIn, nextsIn, linksIn}
-use Rattle.chain.specs.Finding.{firstCell, ownCell, byChain, without-table, only-words, with-table, Seen, Reachable, Direct, ThroughFormal, ArgumentsReachable, FormalsBefore, blockMove}
-use Rattle.chain.specs.Running.{limitsBy, Doing}
-use Rattle.chain.specs.Links as links
+use Rattle.links.specs.Records.{blocksIn, nextsIn, linksIn}
+use Rattle.links.specs.Finding.{firstCell, ownCell, byChain, Seen, Reachable, ThroughFormal}
+use Rattle.chain.specs.Finding.{without-table, only-words, with-table, Direct, ArgumentsReachable, FormalsBefore, blockMove}
+use Rattle.links.specs.Running.{limitsBy, Doing}
+use Rattle.links.specs.Names as links
 
 -- the operation by its number
 pub op-of : (v k : ℕ) → v % 16 ≡ k → opOf v ≡ getD operations k constant-op

@@ -20,8 +20,9 @@ use Rattle.acting.specs.declared.Move.{Move}
 use Rattle.acting.specs.declared.Move.the-variants.{Jump}
 use Rattle.acting.specs.Effects.{effectOf, sameKinds}
 use Rattle.acting.specs.Acting.{Finding, Scene, Happened, moves, rewrites, valueOf, field, arithmeticMove, doConstant, doArithmetic, doGoto, doBranch, noRoom, doBlock, argumentsFrom, doCall, argumentsAgree, doCallFormal, changes, doAdd, doRemove, answers, doQuery, Op, opOf, happens, acting}
-use Rattle.chain.specs.Finding.{firstCell, byChain, without-table, only-words, with-table, blockMove}
-use Rattle.chain.specs.Running.{sceneBy}
+use Rattle.links.specs.Finding.{firstCell, byChain}
+use Rattle.chain.specs.Finding.{without-table, only-words, with-table, blockMove}
+use Rattle.links.specs.Running.{sceneBy}
 
 abbrev pub Done : Happened → Move → List ℤ → List ℤ → Type 0
 Done h r words table = (r ≡ h .move) × (words ≡ h .words) × (table ≡ h .table)

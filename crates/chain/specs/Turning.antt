@@ -14,13 +14,14 @@ use Rattle.frames.specs.Frame.{Frame, Result, halted, designates, linksFollowed
 use Rattle.coordinates.specs.Sound.{Sound}
 use Rattle.resolved.specs.Resolved.{resolvedOf, Covers}
 use Rattle.arrays.specs.Holds.{Holds}
-use Rattle.chain.specs.declared.moves.Now.{Now}
+use Rattle.links.specs.declared.Now.{Now}
 use Rattle.chain.specs.declared.run.Turn.{Turn}
 use Rattle.chain.specs.declared.run.Turn.the-variants.{Went, Finished, Stopped}
-use Rattle.chain.specs.declared.run.Found.{Found}
+use Rattle.links.specs.declared.Found.{Found}
 use Rattle.chain.specs.declared.run.Halt.{Halt}
-use Rattle.chain.specs.Records.{blocksIn, nextsIn, linksIn}
-use Rattle.chain.specs.Running.{limitsBy, Running, Succeeds, Looking}
+use Rattle.links.specs.Records.{blocksIn, nextsIn, linksIn}
+use Rattle.links.specs.Running.{limitsBy, Running, Succeeds, Looking}
+use Rattle.links.specs.Names.{foundIn}
 
 -- What a step comes to
 
@@ -31,9 +32,6 @@ module _ {code : List ℕ} {limit group : ℕ} {words : List ℤ} {records : Lis
   Turned (Stopped c) words′ records′ table′ = (frameStep (limitsBy limit group) (w .standing .stack) ≡ halted c) × (words′ ≡ words) × (records′ ≡ records) × (table′ ≡ table)
 
 -- What the functions of a run's end make
-
-abbrev pub foundIn : List Frame → ℕ → Found
-foundIn fs name = record { designator = designates fs name; links = linksFollowed fs name }
 
 abbrev pub haltOf : End → ℕ → ℕ → Now → Found → Halt
 haltOf e steps offset here found =

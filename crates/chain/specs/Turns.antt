@@ -12,10 +12,10 @@ use Rattle.acting.specs.Acting.{Happened, acting}
 use Rattle.steps.specs.Means.{GoesOn, JumpsTo, EntersAt, MoveMeans}
 use Rattle.steps.specs.Acts.{acting-means}
 use Rattle.language.specs.declared.Stop.{Stop as Cause}
-use Rattle.chain.specs.declared.moves.Now.{Now}
-use Rattle.chain.specs.Finding.{byChain}
-use Rattle.chain.specs.Running.{limitsBy, sceneBy, Running, Doing, Succeeds, LeaveReady, JumpReady, EnterReady}
-use Rattle.chain.specs.Links.{finds-by-chain}
+use Rattle.links.specs.declared.Now.{Now}
+use Rattle.links.specs.Finding.{byChain}
+use Rattle.links.specs.Running.{limitsBy, sceneBy, Running, Doing, Succeeds, LeaveReady, JumpReady, EnterReady}
+use Rattle.links.specs.Names.{finds-by-chain}
 use Rattle.chain.specs.Scenes.{Acted}
 
 pub above-zero : (n : ℕ) → (n ≡ 0 → ⊥) → 1 ≤ n

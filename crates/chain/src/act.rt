@@ -4,8 +4,8 @@ use acting::Move;
 use stepping::code_at;
 ghost use mathlib.Core.Path.{_≡_};
 ghost use Rattle.acting.specs.Acting.{acting};
-ghost use Rattle.chain.specs.Finding.{byChain};
-ghost use Rattle.chain.specs.Running.{sceneBy, Doing};
+ghost use Rattle.links.specs.Finding.{byChain};
+ghost use Rattle.links.specs.Running.{sceneBy, Doing};
 
 pub fn act(
     code: &[u32; 4096],

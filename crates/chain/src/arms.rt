@@ -1,12 +1,12 @@
 // The statements, each with its names found by the links. `at` is the place of the statement's operation. A statement none of whose
 // names is a formal has a function of its own. Each does what its definition in Acting says.
-use super::names::cell;
-use super::names::first_cell;
-use super::names::held;
-use super::names::own_cell;
 use acting::Effect;
 use acting::Move;
 use language::Stop;
+use links::cell;
+use links::first_cell;
+use links::held;
+use links::own_cell;
 use pairs::Change;
 use pairs::Query;
 use stepping::code_at;
@@ -19,7 +19,8 @@ ghost use Rattle.language.specs.Text.{plus, minus, less};
 ghost use Rattle.resolved.specs.Resolved.{targetIn};
 ghost use Rattle.arrays.specs.Found.{cellBy, heldBy};
 ghost use Rattle.acting.specs.Acting.{arithmeticMove, doConstant, doArithmetic, operationOf, doGoto, doBranch, doBlock, doCall, doCallFormal, doAdd, doRemove, doQuery, argumentsFrom, setAll};
-ghost use Rattle.chain.specs.Finding.{firstCell, ownCell, byChain, only-words, without-table, with-table, Seen, Reachable, Direct, ThroughFormal, ArgumentsReachable, FormalsBefore, enteredBy, blockMove, moveAfter, moveChanged};
+ghost use Rattle.links.specs.Finding.{firstCell, ownCell, byChain, Seen, Reachable, ThroughFormal};
+ghost use Rattle.chain.specs.Finding.{only-words, without-table, with-table, Direct, ArgumentsReachable, FormalsBefore, enteredBy, blockMove, moveAfter, moveChanged};
 
 fn own_at(code: &[u32; 4096], records: &[u32], live: usize, level: usize, place: usize) -> usize
     requires { ⌜ (place < 4096) × Seen (now records) live level (getD (now code) place 0) ⌝ }

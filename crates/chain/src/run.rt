@@ -1,24 +1,22 @@
 // The run: steps until the program is left, a statement has a cause to stop, or the allowance is spent.
 use super::act::act;
-use super::moves::Now;
-use super::moves::enter;
-use super::moves::jump;
-use super::moves::leave;
-use super::names::cell;
-use super::records::narrow;
-use super::records::push;
-use super::records::read_block;
-use super::records::set_next;
 use acting::Move;
 use language::End;
 use language::Stop;
+use links::Now;
+use links::enter;
+use links::jump;
+use links::leave;
+use links::looked_up;
+use links::push;
+use links::set_next;
 use stepping::code_at;
 ghost use mathlib.Core.Path.{_≡_};
-ghost use Prim.Native.Nat.{_+_, _*_, _/_, _%_, _<_};
+ghost use Prim.Native.Nat.{_<_};
 ghost use Rattle.frames.specs.Frame.{frameRun, frameStart};
-ghost use Rattle.chain.specs.Records.{NextSet};
-ghost use Rattle.chain.specs.Running.{limitsBy, Running, Looking};
-ghost use Rattle.chain.specs.Turning.{Turned, Beginning, Ended, foundIn, haltAt};
+ghost use Rattle.links.specs.Records.{NextSet};
+ghost use Rattle.links.specs.Running.{limitsBy, Running, Looking};
+ghost use Rattle.chain.specs.Turning.{Turned, Beginning, Ended, haltAt};
 
 // What a step comes to.
 pub enum Turn {
@@ -86,12 +84,6 @@ pub fn step(
     }
 }
 
-// The looked-up name: its designator, and the links that lead to where it is declared; both 0 where it is not visible.
-pub struct Found {
-    pub designator: u32,
-    pub links: u32,
-}
-
 // How a run has ended: how many activations are live, and what the looked-up name is.
 pub struct Halt {
     pub end: End,
@@ -101,41 +93,6 @@ pub struct Halt {
     pub pairs: usize,
     pub designator: u32,
     pub links: u32,
-}
-
-// The designator of the name that has a cell.
-fn designator_of(c: usize) -> u32
-    requires { ⌜ c < 8192 ⌝ }
-    ensures { λ r. ⌜ r ≡ 64 * (c / 32 + 1) + (c % 32 + 1) ⌝ }
-{
-    (64 * (c / 32 + 1) + (c % 32 + 1)) as u32
-}
-
-// The looked-up name's word stands in the innermost block.
-fn looked_up(
-    code: &[u32; 4096],
-    words: &[i32; 8224],
-    records: &[u32],
-    live: usize,
-    level: usize,
-) -> Found
-    requires { ⌜ Looking (now code) (now words) (now records) live level ⌝ }
-    ensures { λ r.
-        ⌜ ((w : Looking (now (code .entry)) (now (words .entry)) (now (records .entry)) live level)
-        → r ≡ foundIn (w .running .standing .stack .frames) (w .running .standing .name)) ⌝ }
-{
-    let word = code_at(code, read_block(records, live) + 2);
-    if word == 0 {
-        return Found {
-            designator: 0,
-            links: 0,
-        };
-    }
-    let designator = designator_of(cell(words, records, live, level, word));
-    Found {
-        designator,
-        links: narrow(level - word / 256 % 256),
-    }
 }
 
 // A run that leaves activations live: the place of the innermost one's next statement is put with the others'.

@@ -8,8 +8,8 @@ use lib.ListN.{getD}
 use Rattle.language.specs.Text.{plus, minus, less}
 use Rattle.acting.specs.declared.Move.{Move}
 use Rattle.acting.specs.Acting.{Finding, Scene, Op, constant-op, add-op, subtract-op, compare-op, branch-op, goto-op, block-op, call-op, pair-op, unpair-op, query-op, constant-formal-op, arithmetic-formal-op, branch-formal-op, goto-formal-op, call-formal-op, operationOf, operations, opOf, happens, acting}
-use Rattle.chain.specs.Finding.{byChain}
-use Rattle.chain.specs.Running.{sceneBy}
+use Rattle.links.specs.Finding.{byChain}
+use Rattle.links.specs.Running.{sceneBy}
 use Rattle.chain.specs.Ready.{op-of, last-op, ready, at-there}
 use Rattle.chain.specs.Scenes.{Done, Acted, done, constant-same, arithmetic-same, goto-same, branch-same, block-same, call-same, call-formal-same, add-same, remove-same, query-same, goto-direct}
 use Rattle.chain.proofs.act.act.Statement.{statement}

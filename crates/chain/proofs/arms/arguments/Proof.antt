@@ -7,8 +7,9 @@ use native.Mathlib.Omega.{arith}
 use lib.IntN.{pos}
 use lib.ListN.{getD}
 use Rattle.acting.specs.Acting.{argumentsFrom, setAll}
-use Rattle.chain.specs.Finding.{firstCell, ownCell, byChain, only-words}
-use Rattle.chain.proofs.Found.{read-back, handed-is}
+use Rattle.links.specs.Finding.{firstCell, ownCell, byChain}
+use Rattle.chain.specs.Finding.{only-words}
+use Rattle.links.specs.Words.{read-back, handed-is}
 use Rattle.chain.proofs.Statements.{arguments-end, arguments-next, kept-below}
 use Rattle.chain.proofs.arms.arguments.Statement.{statement}
 use Rattle.chain.proofs.arms.arguments.Tie as tie

@@ -1,6 +1,6 @@
 -- `constant` meets its contract.
 use mathlib.Core.Path.{refl}
-use Rattle.chain.proofs.Found.{read-back}
+use Rattle.links.specs.Words.{read-back}
 use borrow.Author.Needs.{needs}
 use Rattle.chain.proofs.arms.constant.Statement.{statement}
 use Rattle.chain.proofs.arms.constant.Tie as tie

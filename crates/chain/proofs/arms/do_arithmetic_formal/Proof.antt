@@ -1,7 +1,8 @@
 -- `do_arithmetic_formal` meets its contract.
 use mathlib.Core.Path.{sym, _∙_}
 use Rattle.language.specs.Text.{plus, minus}
-use Rattle.chain.specs.Finding.{byChain, only-words}
+use Rattle.links.specs.Finding.{byChain}
+use Rattle.chain.specs.Finding.{only-words}
 use Rattle.acting.specs.Acting.{Finding, Scene}
 use Rattle.chain.proofs.Statements.{is-plus, is-minus, is-less, arithmetic-done, compare-done}
 use borrow.Author.Needs.{needs}

@@ -3,9 +3,10 @@ use Prim.Native.Nat.{ℕ, _+_}
 use native.Mathlib.Omega.{arith}
 use lib.ListN.{getD}
 use mathlib.Core.Path.{_≡_, sym, _∙_}
-use Rattle.chain.specs.Finding.{firstCell, byChain, only-words}
+use Rattle.links.specs.Finding.{firstCell, byChain}
+use Rattle.chain.specs.Finding.{only-words}
 use Rattle.acting.specs.Acting.{Finding, Scene}
-use Rattle.chain.proofs.Found.{is-zero, not-zero, home-direct, target-direct}
+use Rattle.links.specs.Words.{is-zero, not-zero, home-direct, target-direct}
 use Rattle.chain.proofs.Statements.{direct-cell, goto-done, branch-not, branch-goes}
 use borrow.Author.Needs.{needs}
 use Rattle.chain.proofs.arms.do_branch.Statement.{statement}

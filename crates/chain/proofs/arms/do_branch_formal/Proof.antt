@@ -6,9 +6,10 @@ use mathlib.Core.Path.{_≡_, sym, ap, _∙_}
 use native.Mathlib.Omega.{arith}
 use Rattle.resolved.specs.Resolved.{direct}
 use Rattle.acting.specs.Acting.{doGoto, doBranch}
-use Rattle.chain.specs.Finding.{firstCell, byChain, only-words}
+use Rattle.links.specs.Finding.{firstCell, byChain}
+use Rattle.chain.specs.Finding.{only-words}
 use Rattle.acting.specs.Acting.{Finding, Scene}
-use Rattle.chain.proofs.Found.{is-zero, not-zero, is-direct, is-formal, home-direct, target-direct}
+use Rattle.links.specs.Words.{is-zero, not-zero, is-direct, is-formal, home-direct, target-direct}
 use Rattle.chain.proofs.Statements.{goto-done, branch-not, branch-goes}
 use borrow.Author.Needs.{needs}
 use Rattle.chain.proofs.arms.do_branch_formal.Statement.{statement}

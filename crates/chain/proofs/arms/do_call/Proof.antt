@@ -3,8 +3,9 @@ use Prim.Native.Nat.{ℕ, _+_, _/_}
 use mathlib.Core.Path.{sym, ap, _∙_}
 use lib.ListN.{getD}
 use Rattle.acting.specs.Acting.{Finding, Scene, Happened}
-use Rattle.chain.specs.Finding.{firstCell, byChain, without-table}
-use Rattle.chain.proofs.Found.{home-direct, target-direct}
+use Rattle.links.specs.Finding.{firstCell, byChain}
+use Rattle.chain.specs.Finding.{without-table}
+use Rattle.links.specs.Words.{home-direct, target-direct}
 use Rattle.chain.proofs.Statements.{call-is}
 use borrow.Author.Needs.{needs}
 use Rattle.chain.proofs.arms.do_call.Statement.{statement}

@@ -7,8 +7,9 @@ use borrow.Author.Tests.{not-true, not-false}
 use lib.ListN.{getD}
 use Rattle.arrays.specs.Found.{heldBy}
 use Rattle.acting.specs.Acting.{Finding, Scene, Happened, argumentsAgree}
-use Rattle.chain.specs.Finding.{firstCell, byChain, without-table}
-use Rattle.chain.proofs.Found.{home-formal, target-formal}
+use Rattle.links.specs.Finding.{firstCell, byChain}
+use Rattle.chain.specs.Finding.{without-table}
+use Rattle.links.specs.Words.{home-formal, target-formal}
 use Rattle.chain.proofs.Statements.{number-differs, number-same, call-is, call-refused, call-agreed}
 use borrow.Author.Needs.{needs}
 use Rattle.chain.proofs.arms.do_call_formal.Statement.{statement}

@@ -1,6 +1,7 @@
 -- `do_constant_formal` meets its contract.
 use mathlib.Core.Path.{_∙_}
-use Rattle.chain.specs.Finding.{byChain, only-words}
+use Rattle.links.specs.Finding.{byChain}
+use Rattle.chain.specs.Finding.{only-words}
 use Rattle.acting.specs.Acting.{Finding, Scene}
 use Rattle.chain.proofs.Statements.{constant-done}
 use borrow.Author.Needs.{needs}

@@ -2,9 +2,10 @@
 use Prim.Native.Nat.{ℕ, _+_, _%_, _/_}
 use lib.ListN.{getD}
 use mathlib.Core.Path.{sym, ap, _∙_}
-use Rattle.chain.specs.Finding.{firstCell, byChain, only-words}
+use Rattle.links.specs.Finding.{firstCell, byChain}
+use Rattle.chain.specs.Finding.{only-words}
 use Rattle.acting.specs.Acting.{Finding, Scene}
-use Rattle.chain.proofs.Found.{home-formal, target-formal}
+use Rattle.links.specs.Words.{home-formal, target-formal}
 use Rattle.chain.proofs.Statements.{goto-done}
 use borrow.Author.Needs.{needs}
 use Rattle.chain.proofs.arms.do_goto_formal.Statement.{statement}

@@ -1,8 +1,9 @@
 -- `do_query` meets its contract.
 use mathlib.Core.Path.{_∙_}
 use Rattle.acting.specs.Acting.{Finding, Scene}
-use Rattle.chain.specs.Finding.{byChain, with-table}
-use Rattle.chain.proofs.Found.{read-back, read-value}
+use Rattle.links.specs.Finding.{byChain}
+use Rattle.chain.specs.Finding.{with-table}
+use Rattle.links.specs.Words.{read-back, read-value}
 use Rattle.chain.proofs.Statements.{query-gives, query-refuses}
 use borrow.Author.Needs.{needs}
 use Rattle.chain.proofs.arms.do_query.Statement.{statement}

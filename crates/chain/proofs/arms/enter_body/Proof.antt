@@ -4,7 +4,8 @@ use mathlib.Core.Path.{ap, _∙_}
 use native.Mathlib.Omega.{arith}
 use lib.ListN.{getD}
 use Rattle.acting.specs.Acting.{Finding, Scene, setAll}
-use Rattle.chain.specs.Finding.{byChain, without-table}
+use Rattle.links.specs.Finding.{byChain}
+use Rattle.chain.specs.Finding.{without-table}
 use Rattle.chain.proofs.Statements.{no-room, entered, arguments-alike}
 use borrow.Author.Needs.{needs}
 use Rattle.chain.proofs.arms.enter_body.Statement.{statement}

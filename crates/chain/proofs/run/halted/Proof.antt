@@ -2,8 +2,8 @@
 use Prim.Native.Nat.{_≤_}
 use native.Mathlib.Omega.{arith}
 use mathlib.Core.Path.{ap}
-use Rattle.chain.specs.declared.run.Found.{Found}
-use Rattle.chain.specs.Moving.{room-there}
+use Rattle.links.specs.declared.Found.{Found}
+use Rattle.links.specs.Moving.{room-there}
 use Rattle.chain.specs.Turning.{haltOf}
 use borrow.Author.Needs.{needs}
 use Rattle.chain.proofs.run.halted.Statement.{statement}
