@@ -1,6 +1,8 @@
 -- The display engine, in reading order.
 pub mod Finding
-pub mod Running
-pub mod Moving
+pub mod Ready
+pub mod Scenes
 pub mod Turning
+pub mod Turns
+pub mod Looked
 pub mod Ending

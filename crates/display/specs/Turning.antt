@@ -14,18 +14,19 @@ use Rattle.frames.specs.Frame.{Result, halted, designates, frameStep}
 use Rattle.coordinates.specs.Sound.{Sound}
 use Rattle.resolved.specs.Resolved.{resolvedOf, Covers}
 use Rattle.arrays.specs.Holds.{Holds}
-use Rattle.display.specs.declared.moves.Now.{Now}
+use Rattle.moves.specs.declared.Now.{Now}
 use Rattle.display.specs.declared.run.Turn.{Turn}
 use Rattle.display.specs.declared.run.Turn.the-variants.{Went, Finished, Stopped}
 use Rattle.display.specs.declared.run.Halt.{Halt}
-use Rattle.display.specs.Running.{limitsBy, Running, Succeeds}
+use Rattle.moves.specs.Running.{limitsBy, Running, Succeeds}
 
 -- What a step comes to
 
-module _ {code : List ℕ} {limit group : ℕ} {words : List ℤ} {blocks nexts links display : List ℕ} {table : List ℤ} {here : Now} (w : Running code limit group words blocks nexts links display table here) where
+module _ {code : List ℕ} {limit group : ℕ} {words : List ℤ} {blocks nexts links display : List ℕ} {table : List ℤ} {here : Now}
+    (w : Running code limit group words blocks nexts links display table here) where
   abbrev pub Turned : Turn → List ℤ → List ℕ → List ℕ → List ℕ → List ℕ → List ℤ → Type 0
   Turned (Went here′) words′ blocks′ nexts′ links′ display′ table′ = Succeeds w words′ blocks′ nexts′ links′ display′ table′ here′
-  Turned Finished words′ blocks′ nexts′ links′ display′ table′ = (here .at ≡ here .end) × (here .live ≡ 0) × (table′ ≡ table)
+  Turned Finished words′ blocks′ nexts′ links′ display′ table′ = (here .at ≡ here .end) × (here .live ≡ 0) × (words′ ≡ words) × (table′ ≡ table)
   Turned (Stopped c) words′ blocks′ nexts′ links′ display′ table′ =
       (frameStep (limitsBy limit group) (w .standing .stack) ≡ halted c)
       × (words′ ≡ words) × (blocks′ ≡ blocks) × (nexts′ ≡ nexts) × (links′ ≡ links) × (display′ ≡ display) × (table′ ≡ table)
@@ -55,7 +56,8 @@ pub record Beginning (code : List ℕ) (words : List ℤ) (blocks nexts links : 
   pub no-link : getD links 0 0 ≡ 0
 
 -- what it ends with: the frame machine's result, and the arrays hold its stack
-pub record Ended (program : Block) (name : ℕ) (code : List ℕ) (limit group : ℕ) (result : Result) (r : Halt) (words : List ℤ) (blocks nexts links : List ℕ) (table : List ℤ) : Type 0 where
+pub record Ended (program : Block) (name : ℕ) (code : List ℕ) (limit group : ℕ) (result : Result) (r : Halt) (words : List ℤ)
+    (blocks nexts links : List ℕ) (table : List ℤ) : Type 0 where
   pub end-is : r .end ≡ result .end
   pub steps-are : r .steps ≡ result .final .steps
   pub offset-is : r .offset ≡ result .offset

@@ -82,7 +82,10 @@ fn computed(effect: Effect, at: usize) -> Move
 }
 
 pub fn do_add(code: &[u32; 4096], words: &mut [i32; 8224], display: &[u16; 256], at: usize) -> Move
-    requires { ⌜ (at + 5 ≤ 4096) × Direct (now words) (now display) (getD (now code) (at + 1) 0) × Direct (now words) (now display) (getD (now code) (at + 3) 0) × Direct (now words) (now display) (getD (now code) (at + 4) 0) ⌝ }
+    requires { ⌜ at + 5 ≤ 4096 ⌝ }
+    requires { ⌜ Direct (now words) (now display) (getD (now code) (at + 1) 0) ⌝ }
+    requires { ⌜ Direct (now words) (now display) (getD (now code) (at + 3) 0) ⌝ }
+    requires { ⌜ Direct (now words) (now display) (getD (now code) (at + 4) 0) ⌝ }
     ensures { λ r. ⌜ r ≡ (doArithmetic (byDisplay (now (words .entry)) (now (display .entry))) (only-words (now (code .entry)) (now (words .entry)) at) plus) .move ⌝ }
     ensures { λ _. ⌜ now (words .exit) ≡ (doArithmetic (byDisplay (now (words .entry)) (now (display .entry))) (only-words (now (code .entry)) (now (words .entry)) at) plus) .words ⌝ }
 {
@@ -98,7 +101,10 @@ pub fn do_subtract(
     display: &[u16; 256],
     at: usize,
 ) -> Move
-    requires { ⌜ (at + 5 ≤ 4096) × Direct (now words) (now display) (getD (now code) (at + 1) 0) × Direct (now words) (now display) (getD (now code) (at + 3) 0) × Direct (now words) (now display) (getD (now code) (at + 4) 0) ⌝ }
+    requires { ⌜ at + 5 ≤ 4096 ⌝ }
+    requires { ⌜ Direct (now words) (now display) (getD (now code) (at + 1) 0) ⌝ }
+    requires { ⌜ Direct (now words) (now display) (getD (now code) (at + 3) 0) ⌝ }
+    requires { ⌜ Direct (now words) (now display) (getD (now code) (at + 4) 0) ⌝ }
     ensures { λ r. ⌜ r ≡ (doArithmetic (byDisplay (now (words .entry)) (now (display .entry))) (only-words (now (code .entry)) (now (words .entry)) at) minus) .move ⌝ }
     ensures { λ _. ⌜ now (words .exit) ≡ (doArithmetic (byDisplay (now (words .entry)) (now (display .entry))) (only-words (now (code .entry)) (now (words .entry)) at) minus) .words ⌝ }
 {
@@ -114,7 +120,10 @@ pub fn do_compare(
     display: &[u16; 256],
     at: usize,
 ) -> Move
-    requires { ⌜ (at + 5 ≤ 4096) × Direct (now words) (now display) (getD (now code) (at + 1) 0) × Direct (now words) (now display) (getD (now code) (at + 3) 0) × Direct (now words) (now display) (getD (now code) (at + 4) 0) ⌝ }
+    requires { ⌜ at + 5 ≤ 4096 ⌝ }
+    requires { ⌜ Direct (now words) (now display) (getD (now code) (at + 1) 0) ⌝ }
+    requires { ⌜ Direct (now words) (now display) (getD (now code) (at + 3) 0) ⌝ }
+    requires { ⌜ Direct (now words) (now display) (getD (now code) (at + 4) 0) ⌝ }
     ensures { λ r. ⌜ r ≡ (doArithmetic (byDisplay (now (words .entry)) (now (display .entry))) (only-words (now (code .entry)) (now (words .entry)) at) less) .move ⌝ }
     ensures { λ _. ⌜ now (words .exit) ≡ (doArithmetic (byDisplay (now (words .entry)) (now (display .entry))) (only-words (now (code .entry)) (now (words .entry)) at) less) .words ⌝ }
 {
@@ -131,7 +140,10 @@ pub fn do_arithmetic_formal(
     display: &[u16; 256],
     at: usize,
 ) -> Move
-    requires { ⌜ (at + 5 ≤ 4096) × Reachable (now words) (now display) (getD (now code) (at + 1) 0) × Reachable (now words) (now display) (getD (now code) (at + 3) 0) × Reachable (now words) (now display) (getD (now code) (at + 4) 0) ⌝ }
+    requires { ⌜ at + 5 ≤ 4096 ⌝ }
+    requires { ⌜ Reachable (now words) (now display) (getD (now code) (at + 1) 0) ⌝ }
+    requires { ⌜ Reachable (now words) (now display) (getD (now code) (at + 3) 0) ⌝ }
+    requires { ⌜ Reachable (now words) (now display) (getD (now code) (at + 4) 0) ⌝ }
     ensures { λ r. ⌜ r ≡ (doArithmetic (byDisplay (now (words .entry)) (now (display .entry))) (only-words (now (code .entry)) (now (words .entry)) at) (operationOf (getD (now (code .entry)) (at + 2) 0))) .move ⌝ }
     ensures { λ _. ⌜ now (words .exit) ≡ (doArithmetic (byDisplay (now (words .entry)) (now (display .entry))) (only-words (now (code .entry)) (now (words .entry)) at) (operationOf (getD (now (code .entry)) (at + 2) 0))) .words ⌝ }
 {
@@ -173,7 +185,9 @@ pub fn do_goto_formal(
 
 // IF
 pub fn do_branch(code: &[u32; 4096], words: &[i32; 8224], display: &[u16; 256], at: usize) -> Move
-    requires { ⌜ (at + 3 ≤ 4096) × Direct (now words) (now display) (getD (now code) (at + 1) 0) × Direct (now words) (now display) (getD (now code) (at + 2) 0) ⌝ }
+    requires { ⌜ at + 3 ≤ 4096 ⌝ }
+    requires { ⌜ Direct (now words) (now display) (getD (now code) (at + 1) 0) ⌝ }
+    requires { ⌜ Direct (now words) (now display) (getD (now code) (at + 2) 0) ⌝ }
     ensures { λ r. ⌜ r ≡ (doBranch (byDisplay (now (words .entry)) (now (display .entry))) (only-words (now (code .entry)) (now (words .entry)) at)) .move ⌝ }
 {
     if words[own_at(code, display, at + 2)] == 0 {
@@ -188,7 +202,9 @@ pub fn do_branch_formal(
     display: &[u16; 256],
     at: usize,
 ) -> Move
-    requires { ⌜ (at + 3 ≤ 4096) × Reachable (now words) (now display) (getD (now code) (at + 1) 0) × Reachable (now words) (now display) (getD (now code) (at + 2) 0) ⌝ }
+    requires { ⌜ at + 3 ≤ 4096 ⌝ }
+    requires { ⌜ Reachable (now words) (now display) (getD (now code) (at + 1) 0) ⌝ }
+    requires { ⌜ Reachable (now words) (now display) (getD (now code) (at + 2) 0) ⌝ }
     ensures { λ r. ⌜ r ≡ (doBranch (byDisplay (now (words .entry)) (now (display .entry))) (only-words (now (code .entry)) (now (words .entry)) at)) .move ⌝ }
 {
     if words[cell_at(code, words, display, at + 2)] == 0 {
@@ -243,7 +259,10 @@ fn enter_body(
     home: usize,
     body: usize,
 ) -> Move
-    requires { ⌜ (limit ≤ 256) × (live ≤ 255) × (at + 3 ≤ 4096) × ArgumentsReachable (now code) (now display) live (at + 3) (getD (now code) (at + 2) 0) ⌝ }
+    requires { ⌜ limit ≤ 256 ⌝ }
+    requires { ⌜ live ≤ 255 ⌝ }
+    requires { ⌜ at + 3 ≤ 4096 ⌝ }
+    requires { ⌜ ArgumentsReachable (now code) (now display) live (at + 3) (getD (now code) (at + 2) 0) ⌝ }
     ensures { λ r. ⌜ r ≡ (enteredBy (byDisplay (now (words .entry)) (now (display .entry))) (without-table (now (code .entry)) (now (words .entry)) limit live at) home body) .move ⌝ }
     ensures { λ _. ⌜ now (words .exit) ≡ (enteredBy (byDisplay (now (words .entry)) (now (display .entry))) (without-table (now (code .entry)) (now (words .entry)) limit live at) home body) .words ⌝ }
 {
@@ -263,7 +282,11 @@ pub fn do_call(
     live: usize,
     at: usize,
 ) -> Move
-    requires { ⌜ (limit ≤ 256) × (live ≤ 255) × (at + 3 ≤ 4096) × ArgumentsReachable (now code) (now display) live (at + 3) (getD (now code) (at + 2) 0) × Direct (now words) (now display) (getD (now code) (at + 1) 0) ⌝ }
+    requires { ⌜ limit ≤ 256 ⌝ }
+    requires { ⌜ live ≤ 255 ⌝ }
+    requires { ⌜ at + 3 ≤ 4096 ⌝ }
+    requires { ⌜ ArgumentsReachable (now code) (now display) live (at + 3) (getD (now code) (at + 2) 0) ⌝ }
+    requires { ⌜ Direct (now words) (now display) (getD (now code) (at + 1) 0) ⌝ }
     ensures { λ r. ⌜ r ≡ (doCall (byDisplay (now (words .entry)) (now (display .entry))) (without-table (now (code .entry)) (now (words .entry)) limit live at)) .move ⌝ }
     ensures { λ _. ⌜ now (words .exit) ≡ (doCall (byDisplay (now (words .entry)) (now (display .entry))) (without-table (now (code .entry)) (now (words .entry)) limit live at)) .words ⌝ }
 {
@@ -290,7 +313,12 @@ pub fn do_call_formal(
     live: usize,
     at: usize,
 ) -> Move
-    requires { ⌜ (limit ≤ 256) × (live ≤ 255) × (at + 3 ≤ 4096) × ArgumentsReachable (now code) (now display) live (at + 3) (getD (now code) (at + 2) 0) × ThroughFormal (now words) (now display) (getD (now code) (at + 1) 0) × FormalsBefore (now code) (heldBy (now words) (firstCell (now display) (getD (now code) (at + 1) 0)) (getD (now code) (at + 1) 0) / 8192) ⌝ }
+    requires { ⌜ limit ≤ 256 ⌝ }
+    requires { ⌜ live ≤ 255 ⌝ }
+    requires { ⌜ at + 3 ≤ 4096 ⌝ }
+    requires { ⌜ ArgumentsReachable (now code) (now display) live (at + 3) (getD (now code) (at + 2) 0) ⌝ }
+    requires { ⌜ ThroughFormal (now words) (now display) (getD (now code) (at + 1) 0) ⌝ }
+    requires { ⌜ FormalsBefore (now code) (heldBy (now words) (firstCell (now display) (getD (now code) (at + 1) 0)) (getD (now code) (at + 1) 0) / 8192) ⌝ }
     ensures { λ r. ⌜ r ≡ (doCallFormal (byDisplay (now (words .entry)) (now (display .entry))) (without-table (now (code .entry)) (now (words .entry)) limit live at)) .move ⌝ }
     ensures { λ _. ⌜ now (words .exit) ≡ (doCallFormal (byDisplay (now (words .entry)) (now (display .entry))) (without-table (now (code .entry)) (now (words .entry)) limit live at)) .words ⌝ }
 {
@@ -335,7 +363,9 @@ pub fn do_add_pair(
     limit: u32,
     at: usize,
 ) -> Move
-    requires { ⌜ (at + 3 ≤ 4096) × Reachable (now words) (now display) (getD (now code) (at + 1) 0) × Reachable (now words) (now display) (getD (now code) (at + 2) 0) ⌝ }
+    requires { ⌜ at + 3 ≤ 4096 ⌝ }
+    requires { ⌜ Reachable (now words) (now display) (getD (now code) (at + 1) 0) ⌝ }
+    requires { ⌜ Reachable (now words) (now display) (getD (now code) (at + 2) 0) ⌝ }
     ensures { λ r. ⌜ r ≡ (doAdd (byDisplay (now (words .entry)) (now (display .entry))) (with-table (now (code .entry)) (now (words .entry)) (now (table .entry)) pairs limit at)) .move ⌝ }
     ensures { λ _. ⌜ now (table .exit) ≡ (doAdd (byDisplay (now (words .entry)) (now (display .entry))) (with-table (now (code .entry)) (now (words .entry)) (now (table .entry)) pairs limit at)) .table ⌝ }
 {
@@ -352,7 +382,9 @@ pub fn do_remove_pair(
     pairs: usize,
     at: usize,
 ) -> Move
-    requires { ⌜ (at + 3 ≤ 4096) × Reachable (now words) (now display) (getD (now code) (at + 1) 0) × Reachable (now words) (now display) (getD (now code) (at + 2) 0) ⌝ }
+    requires { ⌜ at + 3 ≤ 4096 ⌝ }
+    requires { ⌜ Reachable (now words) (now display) (getD (now code) (at + 1) 0) ⌝ }
+    requires { ⌜ Reachable (now words) (now display) (getD (now code) (at + 2) 0) ⌝ }
     ensures { λ r. ⌜ r ≡ (doRemove (byDisplay (now (words .entry)) (now (display .entry))) (with-table (now (code .entry)) (now (words .entry)) (now (table .entry)) pairs 0 at)) .move ⌝ }
     ensures { λ _. ⌜ now (table .exit) ≡ (doRemove (byDisplay (now (words .entry)) (now (display .entry))) (with-table (now (code .entry)) (now (words .entry)) (now (table .entry)) pairs 0 at)) .table ⌝ }
 {
@@ -370,7 +402,10 @@ pub fn do_query(
     pairs: usize,
     at: usize,
 ) -> Move
-    requires { ⌜ (at + 4 ≤ 4096) × Reachable (now words) (now display) (getD (now code) (at + 1) 0) × Reachable (now words) (now display) (getD (now code) (at + 2) 0) × Reachable (now words) (now display) (getD (now code) (at + 3) 0) ⌝ }
+    requires { ⌜ at + 4 ≤ 4096 ⌝ }
+    requires { ⌜ Reachable (now words) (now display) (getD (now code) (at + 1) 0) ⌝ }
+    requires { ⌜ Reachable (now words) (now display) (getD (now code) (at + 2) 0) ⌝ }
+    requires { ⌜ Reachable (now words) (now display) (getD (now code) (at + 3) 0) ⌝ }
     ensures { λ r. ⌜ r ≡ (doQuery (byDisplay (now (words .entry)) (now (display .entry))) (with-table (now (code .entry)) (now (words .entry)) (now (table .entry)) pairs 0 at)) .move ⌝ }
     ensures { λ _. ⌜ now (words .exit) ≡ (doQuery (byDisplay (now (words .entry)) (now (display .entry))) (with-table (now (code .entry)) (now (words .entry)) (now (table .entry)) pairs 0 at)) .words ⌝ }
 {

@@ -1,6 +1,5 @@
 // The display engine: a name is found by its level and position, the activation of each enclosing level in the display.
 mod act;
 mod arms;
-mod moves;
 mod names;
 mod run;

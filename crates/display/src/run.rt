@@ -1,21 +1,21 @@
 // The run: steps until the program is left, a statement has a cause to stop, or the allowance is spent.
 use super::act::act;
-use super::moves::Now;
-use super::moves::enter;
-use super::moves::jump;
-use super::moves::leave;
-use super::moves::narrow;
-use super::moves::wide;
 use super::names::cell;
 use acting::Move;
 use language::End;
 use language::Stop;
+use moves::Now;
+use moves::enter;
+use moves::jump;
+use moves::leave;
+use moves::note_place;
+use moves::wide;
 use stepping::code_at;
 ghost use mathlib.Core.Path.{_≡_};
 ghost use Prim.Native.Nat.{_+_, _*_, _/_, _%_, _<_};
 ghost use lib.ListN.{getD, set};
 ghost use Rattle.frames.specs.Frame.{designates, frameRun, frameStart};
-ghost use Rattle.display.specs.Running.{limitsBy, Running, Looking};
+ghost use Rattle.moves.specs.Running.{limitsBy, Running, Looking, Placed};
 ghost use Rattle.display.specs.Turning.{Turned, Beginning, Ended, haltOf};
 
 // What a step comes to.
@@ -132,12 +132,12 @@ fn halted(
     steps: u32,
     offset: usize,
 ) -> Halt
-    requires { ⌜ Looking (now code) (now words) (now blocks) (now display) (here .live) × (here .at < 65536) ⌝ }
+    requires { ⌜ Looking (now code) (now words) (now blocks) (now display) (here .live) × Placed here ⌝ }
     ensures { λ r. ⌜ ((w : Looking (now (code .entry)) (now (words .entry)) (now (blocks .entry)) (now (display .entry)) (here .live)) → r ≡ haltOf end steps offset here (designates (w .running .standing .stack .frames) (w .running .standing .name))) ⌝ }
     ensures { λ _. ⌜ now (nexts .exit) ≡ set (now (nexts .entry)) (here .live) (here .at) ⌝ }
 {
     let live = here.live;
-    nexts[live] = narrow(here.at);
+    note_place(nexts, here);
     Halt {
         end,
         steps,

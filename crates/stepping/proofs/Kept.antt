@@ -1,19 +1,19 @@
 -- AR's effect by whether its value fits; what a comparison stores; what is handed on; and cells cleared one after another.
 use Prim.Native.Nat.{ℕ, zero, suc, _+_, _*_, _-_, _/_, _%_, _≤_, _<_}
 use native.Mathlib.Omega.{arith}
-use mathlib.Core.Bool.{Bool, true, false, _&&_}
+use mathlib.Core.Bool.{Bool, true, false}
 use mathlib.Core.List.{List, [], _∷_}
-use mathlib.Core.Path.{_≡_, refl, sym, ap, _∙_}
+use mathlib.Core.Path.{_≡_, refl, _∙_}
 use borrow.Author.Tests.{eq-eqb, ne-eqb, eqb-true, eqb-false, ltb-true, ltb-false}
 use lib.Dec.{eqb, ltb}
 use lib.IntN.{ℤ, pos}
-use lib.ListN.{length, getD, set, length-set}
+use lib.ListN.{getD, set, length-set}
 use lib.Seq.{getD-set-other}
 use lib.Signed.{mag, ltZ}
 use Rattle.language.specs.Text.{less}
 use Rattle.language.specs.Machine.{compute}
 use Rattle.language.specs.declared.Stop.the-variants.{ResultTooLarge}
-use Rattle.resolved.specs.Resolved.{kindIn, targetIn, direct}
+use Rattle.resolved.specs.Resolved.{kindIn, direct}
 use Rattle.acting.specs.declared.Effect.the-variants.{Done, Stopped}
 use Rattle.acting.specs.Effects.{effectOf, wordsOf, handedWord, sameKinds, Cleared}
 
@@ -61,7 +61,8 @@ module _ (code : List ℕ) (a f n i : ℕ) where
   kinds-differ h d = let e : n - i ≡ suc (n - (i + 1)) = omega arith in rw (e, sameKinds, ne-eqb _ _ d)
 
   pub kinds-same :
-      i < n → kindIn (getD code (a + i) 0) ≡ getD code (f + 3 * i + 2) 0 → sameKinds code (a + (i + 1)) (f + 3 * (i + 1)) (n - (i + 1)) ≡ sameKinds code (a + i) (f + 3 * i) (n - i)
+      i < n → kindIn (getD code (a + i) 0) ≡ getD code (f + 3 * i + 2) 0 → sameKinds code (a + (i + 1)) (f + 3 * (i + 1))
+      (n - (i + 1)) ≡ sameKinds code (a + i) (f + 3 * i) (n - i)
   unfolding sameKinds
   kinds-same h d =
       let e : n - i ≡ suc (n - (i + 1)) = omega arith in

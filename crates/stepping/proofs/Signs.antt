@@ -1,9 +1,9 @@
 -- Signed words: what is read back of a word's bits, how large sums of two words are, and which values fit a word.
-use Prim.Native.Nat.{ℕ, zero, suc, _+_, _-_, _<_, _≤_}
+use Prim.Native.Nat.{ℕ, zero, suc, _-_, _<_, _≤_}
 use mathlib.Core.Path.{_≡_, refl, sym, subst, ap, _∙_}
 use mathlib.Core.Bool.{Bool, true, false, cond}
 use native.Mathlib.Omega.{arith}
-use borrow.Author.Tests.{ltb-true, ltb-false, lt-ltb, le-ltb, le-leb, lt-leb, leb-true, leb-false}
+use borrow.Author.Tests.{ltb-true, ltb-false, lt-ltb, le-ltb, leb-true, leb-false}
 use lib.Dec.{T, ltb, leb}
 use lib.IntN.{ℤ, pos, negsuc, negℤ, natAbs, _+ℤ_, _-ℤ_}
 use lib.Signed.{mag, ltZ, leZ, nonNeg}
@@ -52,16 +52,24 @@ sum-fits x y f g = rw (back x f, back y g) (sum-wide x y f g)
 pub difference-fits : (x y : ℤ) → SFits w32 x → SFits w32 y → SFits w64 (toZ w64 (ofZ w64 (toZ w32 (ofZ w32 x))) -ℤ toZ w64 (ofZ w64 (toZ w32 (ofZ w32 y))))
 difference-fits x y f g = rw (back x f, back y g) (difference-wide x y f g)
 
-pub sum-read : (x y : ℤ) → SFits w32 x → SFits w32 y → toZ w64 (ofZ w64 (toZ w64 (ofZ w64 (toZ w32 (ofZ w32 x))) +ℤ toZ w64 (ofZ w64 (toZ w32 (ofZ w32 y))))) ≡ x +ℤ y
+pub sum-read :
+    (x y : ℤ) → SFits w32 x → SFits w32 y →
+    toZ w64 (ofZ w64 (toZ w64 (ofZ w64 (toZ w32 (ofZ w32 x))) +ℤ toZ w64 (ofZ w64 (toZ w32 (ofZ w32 y))))) ≡ x +ℤ y
 sum-read x y f g = toZ-ofZ (sum-fits x y f g) ∙ rw (back x f, back y g)
 
-pub difference-read : (x y : ℤ) → SFits w32 x → SFits w32 y → toZ w64 (ofZ w64 (toZ w64 (ofZ w64 (toZ w32 (ofZ w32 x))) -ℤ toZ w64 (ofZ w64 (toZ w32 (ofZ w32 y))))) ≡ x -ℤ y
+pub difference-read :
+    (x y : ℤ) → SFits w32 x → SFits w32 y →
+    toZ w64 (ofZ w64 (toZ w64 (ofZ w64 (toZ w32 (ofZ w32 x))) -ℤ toZ w64 (ofZ w64 (toZ w32 (ofZ w32 y))))) ≡ x -ℤ y
 difference-read x y f g = toZ-ofZ (difference-fits x y f g) ∙ rw (back x f, back y g)
 
-pub sum-of-words : {r : ℤ} (a b : ℤ) → r ≡ toZ w32 (ofZ w32 a) +ℤ toZ w32 (ofZ w32 b) → mag r < 9223372036854775808 → mag a < 2147483648 → mag b < 2147483648 → toZ w64 (ofZ w64 r) ≡ a +ℤ b
+pub sum-of-words :
+    {r : ℤ} (a b : ℤ) → r ≡ toZ w32 (ofZ w32 a) +ℤ toZ w32 (ofZ w32 b) → mag r < 9223372036854775808 → mag a < 2147483648 →
+    mag b < 2147483648 → toZ w64 (ofZ w64 r) ≡ a +ℤ b
 sum-of-words {r} a b e h ha hb = read-back-wide r h ∙ e ∙ rw (read-back a ha, read-back b hb)
 
-pub difference-of-words : {r : ℤ} (a b : ℤ) → r ≡ toZ w32 (ofZ w32 a) -ℤ toZ w32 (ofZ w32 b) → mag r < 9223372036854775808 → mag a < 2147483648 → mag b < 2147483648 → toZ w64 (ofZ w64 r) ≡ a -ℤ b
+pub difference-of-words :
+    {r : ℤ} (a b : ℤ) → r ≡ toZ w32 (ofZ w32 a) -ℤ toZ w32 (ofZ w32 b) → mag r < 9223372036854775808 → mag a < 2147483648 →
+    mag b < 2147483648 → toZ w64 (ofZ w64 r) ≡ a -ℤ b
 difference-of-words {r} a b e h ha hb = read-back-wide r h ∙ e ∙ rw (read-back a ha, read-back b hb)
 
 -- A signed number from its bits

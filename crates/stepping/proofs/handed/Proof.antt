@@ -1,5 +1,9 @@
 -- `handed` meets its contract.
-use mathlib.Core.Path.{_∙_}
+use Prim.Native.Nat.{_/_, _%_}
+use mathlib.Core.Path.{_≡_, _∙_}
+use native.Mathlib.Omega.{arith}
+use lib.IntN.{pos}
+use lib.ListN.{getD}
 use borrow.Author.Tests.{eq-eqb, ne-eqb}
 use Rattle.stepping.proofs.Signs.{read-back}
 use Rattle.stepping.proofs.Kept.{handed-direct, handed-formal}
@@ -19,7 +23,8 @@ word-of-requires c κs = search needs
 returns : tie.Need-returns
 returns c =
     let s = c .before .before .args in
-    read-back (c .word-of .result) (c .word-of .ok) ∙ c .word-of .ensures ∙ handed-direct (s .words .now) (s .word) (s .cell) (eq-eqb _ _ (c .before .if1 .taken))
+    let e : s .word / 32 % 2 ≡ 0 = omega arith in
+    read-back (c .word-of .result) (c .word-of .ok) ∙ c .word-of .ensures ∙ handed-direct (s .words .now) (s .word) (s .cell) (eq-eqb (s .word / 32 % 2) 0 e)
 
 mul-result : tie.Need-mul-result
 mul-result c = search needs
@@ -30,7 +35,8 @@ element-copy-out-result c = search needs
 returns-2 : tie.Need-returns-2
 returns-2 c =
     let s = c .before .before .args in
-    read-back _ (c .result .given) ∙ handed-formal (s .words .now) (s .word) (s .cell) (ne-eqb _ _ (c .before .if1 .left))
+    read-back (getD (s .words .now) (s .cell) (pos 0)) (c .result .given) ∙ handed-formal (s .words .now) (s .word) (s .cell)
+    (ne-eqb (s .word / 32 % 2) 0 (λ e. omega arith))
 
 pub handed-spec : {M : Type 1} → statement M
 handed-spec =

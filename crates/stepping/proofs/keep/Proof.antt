@@ -12,7 +12,8 @@ fits-word-requires : tie.Need-fits-word-requires
 fits-word-requires c κs = search needs
 
 narrowed-requires : tie.Need-narrowed-requires
-narrowed-requires c κs = rw (toZ-ofZ (c .before .before .fits .value)) (ltb-true _ _ (sym (rw (toZ-ofZ (c .before .before .fits .value)) at (c .before .fits-word .ensures)) ∙ c .if1 .taken))
+narrowed-requires c κs = rw (toZ-ofZ (c .before .before .fits .value))
+    (ltb-true _ _ (sym (rw (toZ-ofZ (c .before .before .fits .value)) at (c .before .fits-word .ensures)) ∙ c .if1 .taken))
 
 mul-t6 : tie.Need-mul-t6
 mul-t6 c = search needs

@@ -43,14 +43,17 @@ add-code-at-3 c = search needs
 code-at-requires-2 : tie.Need-code-at-requires-2 Inv-loop μ-loop
 code-at-requires-2 c κs = search needs
 
-read : (c : tie.After-code-at Inv-loop μ-loop) → let l = c .before .before in let s = l .before .args in c .code-at .result / 64 % 4 ≡ kindIn (getD (s .code .now) (s .arguments + l .loop .i) 0)
+read :
+    (c : tie.After-code-at Inv-loop μ-loop) → let l = c .before .before in let s = l .before .args in
+    c .code-at .result / 64 % 4 ≡ kindIn (getD (s .code .now) (s .arguments + l .loop .i) 0)
 read c = ap kindIn (c .code-at .ensures .0)
 
 returns : tie.Need-returns Inv-loop μ-loop
 returns c =
     let l = c .before .before .before .before in
     let s = l .before .args in
-    let d : kindIn (getD (s .code .now) (s .arguments + l .loop .i) 0) ≡ getD (s .code .now) (s .formals + 3 * l .loop .i + 2) 0 → ⊥ = λ e. c .if1 .taken (read (c .before .before) ∙ e ∙ sym (c .before .code-at2 .ensures .0)) in
+    let d : kindIn (getD (s .code .now) (s .arguments + l .loop .i) 0) ≡ getD (s .code .now)
+    (s .formals + 3 * l .loop .i + 2) 0 → ⊥ = λ e. c .if1 .taken (read (c .before .before) ∙ e ∙ sym (c .before .code-at2 .ensures .0)) in
     kinds-differ (s .code .now) (s .arguments) (s .formals) (s .count) (l .loop .i) (c .before .before .before .loop-test .taken) d ∙ l .loop .inv .1
 
 add-i : tie.Need-add-i Inv-loop μ-loop
@@ -62,8 +65,11 @@ loop-less c = search needs
 loop-again : tie.Need-loop-again Inv-loop μ-loop
 loop-again c =
     let l = c .before .before .before .before in
-    let s = l .before .args in
-    (omega arith, kinds-same (s .code .now) (s .arguments) (s .formals) (s .count) (l .loop .i) (c .before .before .before .loop-test .taken) (sym (read (c .before .before)) ∙ c .if1 .left ∙ c .before .code-at2 .ensures .0) ∙ l .loop .inv .1)
+    let s = l .before .args in (
+      omega arith,
+      kinds-same (s .code .now) (s .arguments) (s .formals) (s .count) (l .loop .i) (c .before .before .before .loop-test .taken)
+          (sym (read (c .before .before)) ∙ c .if1 .left ∙ c .before .code-at2 .ensures .0) ∙ l .loop .inv .1,
+    )
 
 returns-2 : tie.Need-returns-2 Inv-loop μ-loop
 returns-2 c =

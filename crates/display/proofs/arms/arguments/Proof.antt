@@ -46,11 +46,15 @@ code-at-requires c κs = search needs
 own-cell-requires : tie.Need-own-cell-requires Inv-loop μ-loop
 own-cell-requires c κs = search needs
 
-own : (c : tie.After-own-cell Inv-loop μ-loop) → let l = c .before .before .before .before in let a = l .before .args in c .own-cell .result ≡ ownCell (a .display .now) (getD (a .code .now) (a .at + l .loop .i) 0)
+own :
+    (c : tie.After-own-cell Inv-loop μ-loop) → let l = c .before .before .before .before in let a = l .before .args in
+    c .own-cell .result ≡ ownCell (a .display .now) (getD (a .code .now) (a .at + l .loop .i) 0)
 own c = rw (c .before .before .code-at .ensures .0) at (c .own-cell .ensures .0)
 
 -- its own cell is below the next activation's
-low : (c : tie.After-own-cell Inv-loop μ-loop) → let l = c .before .before .before .before in let a = l .before .args in ownCell (a .display .now) (getD (a .code .now) (a .at + l .loop .i) 0) < 32 * a .live + 32
+low :
+    (c : tie.After-own-cell Inv-loop μ-loop) → let l = c .before .before .before .before in let a = l .before .args in
+    ownCell (a .display .now) (getD (a .code .now) (a .at + l .loop .i) 0) < 32 * a .live + 32
 low c = let l = c .before .before .before .before in l .before .pre .1 .below (l .loop .i) (c .before .before .before .loop-test .taken)
 
 handed-requires : tie.Need-handed-requires Inv-loop μ-loop
@@ -80,7 +84,8 @@ loop-again c =
     let w = getD (a .code .now) (a .at + l .loop .i) 0 in
     let first = 32 * a .live + 32 in
     let h = rw (own o, o .before .before .code-at .ensures .0) at (c .handed .ensures) in
-    let z = read-back (c .handed .result) (c .handed .ok) ∙ h ∙ handed-is ws (firstCell (a .display .now) w) w (l .loop .words) (l .loop .inv .1 (ownCell (a .display .now) w) (low o)) in
+    let z = read-back (c .handed .result) (c .handed .ok) ∙ h ∙ handed-is ws (firstCell (a .display .now) w) w (l .loop .words)
+    (l .loop .inv .1 (ownCell (a .display .now) w) (low o)) in
     let t = o .before .before .before .loop-test .taken in
     let step = arguments-next (byDisplay ws (a .display .now)) (only-words (a .code .now) ws (a .at)) (l .loop .words) first (a .at) (a .count) (l .loop .i) t z in
     (omega arith, kept-below (l .loop .words) ws first (l .loop .i) _ (l .loop .inv .1), step ∙ l .loop .inv .2)
@@ -90,7 +95,8 @@ returns c =
     let l = c .before in
     let a = l .before .args in
     let ws = a .words .now in
-    arguments-end (byDisplay ws (a .display .now)) (only-words (a .code .now) ws (a .at)) (l .loop .words) (32 * a .live + 32) (a .at) (a .count) (l .loop .i) (c .loop-test .left) ∙ l .loop .inv .2
+    arguments-end (byDisplay ws (a .display .now)) (only-words (a .code .now) ws (a .at)) (l .loop .words) (32 * a .live + 32) (a .at) (a .count)
+    (l .loop .i) (c .loop-test .left) ∙ l .loop .inv .2
 
 pub arguments-spec : {M : Type 1} → statement M
 arguments-spec =

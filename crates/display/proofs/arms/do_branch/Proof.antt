@@ -35,7 +35,7 @@ abbrev word : (s : tie.Start) → ℕ → ℕ
 word s i = getD (s .args .code .now) (s .args .at + i) 0
 
 tested : (c : tie.After-own-at) → c .own-at .result ≡ way (c .before) .cell (word (c .before) 2)
-tested c = let s = c .before in direct-cell (s .args .words .now) (s .args .display .now) (word s 2) (c .own-at .ensures) (s .pre .2)
+tested c = let s = c .before in direct-cell (s .args .words .now) (s .args .display .now) (word s 2) (c .own-at .ensures) (s .pre .1 .1)
 
 returns : tie.Need-returns
 returns c =
@@ -52,7 +52,7 @@ returns-2 c =
     let ws = s .args .words .now in
     let w = word s 1 in
     let first = firstCell (s .args .display .now) w in
-    c .do-goto .ensures ∙ goto-done (way s) (scene s) (sym (home-direct ws first w (s .pre .1 .is))) (sym (target-direct ws first w (s .pre .1 .is))) ∙
+    c .do-goto .ensures ∙ goto-done (way s) (scene s) (sym (home-direct ws first w (s .pre .1 .0 .is))) (sym (target-direct ws first w (s .pre .1 .0 .is))) ∙
     branch-goes (way s) (scene s) (tested (b .before .before)) (not-zero _ (b .before .if12 .given) (b .if1 .left))
 
 pub do-branch-spec : {M : Type 1} → statement M

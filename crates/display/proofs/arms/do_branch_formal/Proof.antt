@@ -44,7 +44,8 @@ returns c =
     branch-not (way s) (scene s) (c .before .before .cell-at .ensures) (is-zero _ (c .before .if12 .given) (c .if1 .taken))
 
 goes : (b : tie.Else1) → let s = b .before .before .before in doGoto (way s) (scene s) .move ≡ doBranch (way s) (scene s) .move
-goes b = let s = b .before .before .before in branch-goes (way s) (scene s) (b .before .before .cell-at .ensures) (not-zero _ (b .before .if12 .given) (b .if1 .left))
+goes b = let s = b .before .before .before in branch-goes (way s) (scene s) (b .before .before .cell-at .ensures)
+    (not-zero _ (b .before .if12 .given) (b .if1 .left))
 
 add-code-at : tie.Need-add-code-at
 add-code-at c = search needs
@@ -69,7 +70,7 @@ do-goto-formal-requires : tie.Need-do-goto-formal-requires
 do-goto-formal-requires c κs =
     let k = c .before in
     let s = k .before .before .before .before in
-    (omega arith, record { reachable = s .pre .1; is = sym (ap direct (k .code-at .ensures .0)) ∙ is-formal (k .code-at .result) (c .if2 .left) })
+    (omega arith, record { reachable = s .pre .1 .0; is = sym (ap direct (k .code-at .ensures .0)) ∙ is-formal (k .code-at .result) (c .if2 .left) })
 
 returns-3 : tie.Need-returns-3
 returns-3 c = c .do-goto-formal .ensures ∙ goes (c .before .before .before)

@@ -20,7 +20,7 @@ first-cell-requires : tie.Need-first-cell-requires
 first-cell-requires c κs = search needs
 
 enter-body-requires : tie.Need-enter-body-requires
-enter-body-requires c κs = search needs
+enter-body-requires c κs = let p = c .before .before .before .pre in (p .0, (p .1 .0, (p .1 .1 .0, p .1 .1 .1 .0)))
 
 abbrev way : tie.Start → Finding
 way s = byDisplay (s .args .words .now) (s .args .display .now)
@@ -36,8 +36,8 @@ returns c =
     let w = getD (s .args .code .now) (s .args .at + 1) 0 in
     let first = firstCell (s .args .display .now) w in
     let f = rw (k .code-at .ensures .0) at (c .before .before .first-cell .ensures .0) in
-    let home = ap (λ (n : ℕ). n / 32) f ∙ sym (home-direct ws first w (s .pre .4 .is)) in
-    let body = ap (λ (n : ℕ). n / 65536) (k .code-at .ensures .0) ∙ sym (target-direct ws first w (s .pre .4 .is)) in
+    let home = ap (λ (n : ℕ). n / 32) f ∙ sym (home-direct ws first w (s .pre .1 .1 .1 .1 .is)) in
+    let body = ap (λ (n : ℕ). n / 65536) (k .code-at .ensures .0) ∙ sym (target-direct ws first w (s .pre .1 .1 .1 .1 .is)) in
     let p = call-is (way s) (scene s) home body in
     (c .enter-body .ensures .0 ∙ ap (λ (h : Happened). h .move) p, c .enter-body .ensures .1 ∙ ap (λ (h : Happened). h .words) p)
 

@@ -21,7 +21,7 @@ code-at-requires : tie.Need-code-at-requires
 code-at-requires c κs = search needs
 
 held-requires : tie.Need-held-requires
-held-requires c κs = rw (c .code-at .ensures .0) (c .before .before .pre .4)
+held-requires c κs = rw (c .code-at .ensures .0) (c .before .before .pre .1 .1 .1 .1 .0)
 
 add-code-at-2 : tie.Need-add-code-at-2
 add-code-at-2 c = search needs
@@ -48,13 +48,13 @@ holds : (c : tie.After-held) → let s = startOf c in c .held .result ≡ heldBy
 holds c = rw (c .before .code-at .ensures .0) at (c .held .ensures .0)
 
 body-is : (c : tie.After-held) → let s = startOf c in c .held .result / 8192 ≡ way s .target (word s)
-body-is c = let s = startOf c in ap (λ (n : ℕ). n / 8192) (holds c) ∙ sym (target-formal (s .args .words .now) (first s) (word s) (s .pre .4 .is))
+body-is c = let s = startOf c in ap (λ (n : ℕ). n / 8192) (holds c) ∙ sym (target-formal (s .args .words .now) (first s) (word s) (s .pre .1 .1 .1 .1 .0 .is))
 
 home-is : (c : tie.After-held) → let s = startOf c in c .held .result % 8192 / 32 ≡ way s .home (word s)
-home-is c = let s = startOf c in ap (λ (n : ℕ). n % 8192 / 32) (holds c) ∙ sym (home-formal (s .args .words .now) (first s) (word s) (s .pre .4 .is))
+home-is c = let s = startOf c in ap (λ (n : ℕ). n % 8192 / 32) (holds c) ∙ sym (home-formal (s .args .words .now) (first s) (word s) (s .pre .1 .1 .1 .1 .0 .is))
 
 code-at-requires-3 : tie.Need-code-at-requires-3
-code-at-requires-3 c κs = rw (holds (c .before)) (startOf (c .before) .pre .5 .there)
+code-at-requires-3 c κs = rw (holds (c .before)) (startOf (c .before) .pre .1 .1 .1 .1 .1 .there)
 
 returns : tie.Need-returns
 returns c =
@@ -62,12 +62,15 @@ returns c =
     let h = n .before in
     let s = startOf h in
     call-refused (way s) (scene s) (body-is h)
-    (number-differs (way s) (scene s) (h .held .result / 8192) (λ e. c .if1 .taken (ap (λ (x : ℕ). x / 65536 % 256) (c .before .code-at3 .ensures .0) ∙ e ∙ sym (n .code-at2 .ensures .0))))
+    (number-differs (way s) (scene s) (h .held .result / 8192)
+    (λ e. c .if1 .taken (ap (λ (x : ℕ). x / 65536 % 256) (c .before .code-at3 .ensures .0) ∙ e ∙ sym (n .code-at2 .ensures .0))))
 
 formals : (c : tie.After-code-at3) → 3 * (c .code-at3 .result / 65536 % 256) ≤ c .before .before .held .result / 8192
-formals c = let h = c .before .before in rw (c .code-at3 .ensures .0, holds h) (startOf h .pre .5 .before)
+formals c = let h = c .before .before in rw (c .code-at3 .ensures .0, holds h) (startOf h .pre .1 .1 .1 .1 .1 .before)
 
-same-number : (c : tie.Else1) → let h = c .before .before .before in let s = startOf h in getD (s .args .code .now) (h .held .result / 8192) 0 / 65536 % 256 ≡ getD (s .args .code .now) (s .args .at + 2) 0
+same-number :
+    (c : tie.Else1) → let h = c .before .before .before in let s = startOf h in
+    getD (s .args .code .now) (h .held .result / 8192) 0 / 65536 % 256 ≡ getD (s .args .code .now) (s .args .at + 2) 0
 same-number c = sym (ap (λ (x : ℕ). x / 65536 % 256) (c .before .code-at3 .ensures .0)) ∙ c .if1 .left ∙ c .before .before .code-at2 .ensures .0
 
 agrees :
@@ -90,8 +93,11 @@ sub-kinds-agree c = omega (arith, formals (c .before), c .if1 .left)
 
 kinds-agree-requires : tie.Need-kinds-agree-requires
 kinds-agree-requires c κs =
-    let n = c .before .before in
-    (rw (n .code-at2 .ensures .0) (startOf (n .before) .pre .3 .there), omega (arith, formals (c .before), c .if1 .left, holds (n .before), startOf (n .before) .pre .5 .there))
+    let n = c .before .before in (
+      rw (n .code-at2 .ensures .0)
+          (startOf (n .before) .pre .1 .1 .1 .0 .there),
+      omega (arith, formals (c .before), c .if1 .left, holds (n .before), startOf (n .before) .pre .1 .1 .1 .1 .1 .there),
+    )
 
 returns-2 : tie.Need-returns-2
 returns-2 c =
@@ -100,7 +106,7 @@ returns-2 c =
     call-refused (way s) (scene s) (body-is h) (agrees (c .before) (not-true _ (c .if2 .taken)))
 
 enter-body-requires : tie.Need-enter-body-requires
-enter-body-requires c κs = search needs
+enter-body-requires c κs = let p = startOf (c .before .before .before .before .before .before) .pre in (p .0, (p .1 .0, (p .1 .1 .0, p .1 .1 .1 .0)))
 
 returns-3 : tie.Need-returns-3
 returns-3 c =

@@ -32,7 +32,7 @@ add-arguments : tie.Need-add-arguments
 add-arguments c = search needs
 
 arguments-requires : tie.Need-arguments-requires
-arguments-requires c κs = (omega arith, rw (c .before .code-at .ensures .0) (c .before .before .before .pre .3))
+arguments-requires c κs = (omega arith, rw (c .before .code-at .ensures .0) (c .before .before .before .pre .1 .1 .1))
 
 add-t10 : tie.Need-add-t10
 add-t10 c = search needs

@@ -1,26 +1,23 @@
+-- `halted` meets its contract.
+use mathlib.Core.Path.{ap}
+use Rattle.display.specs.Turning.{haltOf}
 use borrow.Author.Needs.{needs}
 use Rattle.display.proofs.run.halted.Statement.{statement}
 use Rattle.display.proofs.run.halted.Tie as tie
 
-narrow-requires : tie.Need-narrow-requires
-narrow-requires c κs = search needs
+note-place-requires : tie.Need-note-place-requires
+note-place-requires c κs = search needs
 
-mul-nexts : tie.Need-mul-nexts
-mul-nexts c = ?
-
-element-write-nexts : tie.Need-element-write-nexts
-element-write-nexts c = ?
-
-add-t12 : tie.Need-add-t12
-add-t12 c = ?
+add-t13 : tie.Need-add-t13
+add-t13 c = search needs
 
 looked-up-requires : tie.Need-looked-up-requires
 looked-up-requires c κs = search needs
 
 returns : tie.Need-returns
-returns c = ?
+returns c =
+    let s = c .before .before .before .args in
+    (λ w. ap (λ n. haltOf (s .end) (s .steps) (s .offset) (s .here) n) (c .looked-up .ensures w), c .before .note-place .ensures)
 
 pub halted-spec : {M : Type 1} → statement M
-halted-spec =
-    tie.close
-    (tie.spec narrow-requires mul-nexts element-write-nexts add-t12 looked-up-requires returns)
+halted-spec = tie.close (tie.spec note-place-requires add-t13 looked-up-requires returns)

@@ -1,18 +1,25 @@
+-- `step` meets its contract: at the end of the text the activation is left, and before it the statement is done.
+use mathlib.Core.Path.{refl}
+use Rattle.display.specs.Turns.{above-zero, leave-ready, left-on, doing, went-on, went-pairs, jump-ready, jumped-on, enter-ready, entered-on, stopped-at}
 use borrow.Author.Needs.{needs}
 use Rattle.display.proofs.run.step.Statement.{statement}
 use Rattle.display.proofs.run.step.Tie as tie
 
 returns : tie.Need-returns
-returns c = search needs
+returns c = λ w. (c .before .if1 .taken, c .if2 .taken, refl, refl)
 
 leave-requires : tie.Need-leave-requires
-leave-requires c κs = ?
+leave-requires c κs = leave-ready (c .before .before .before .before .before .before .pre) (c .before .before .before .before .before .if1 .taken)
+    (above-zero (c .before .before .before .before .before .before .args .here .live) (c .before .before .before .before .if2 .left))
 
 returns-2 : tie.Need-returns-2
-returns-2 c = ?
+returns-2 c =
+    λ w. left-on w (c .before .before .before .before .before .before .if1 .taken)
+    (above-zero (c .before .before .before .before .before .before .before .args .here .live)
+    (c .before .before .before .before .before .if2 .left)) (c .leave .last .1 .1 .1 .1 .0) (c .leave .result) (c .leave .ensures)
 
 act-requires : tie.Need-act-requires
-act-requires c κs = ?
+act-requires c κs = doing (c .before .before .before .before .pre) (c .before .before .before .if1 .left)
 
 enum-known-place : tie.Need-enum-known-place
 enum-known-place c = search needs
@@ -24,13 +31,29 @@ enum-known-home : tie.Need-enum-known-home
 enum-known-home c = search needs
 
 jump-requires : tie.Need-jump-requires
-jump-requires c κs = ?
+jump-requires c κs =
+    jump-ready (c .before .before .before .before .before .before .before .before .before .before .before .before .pre)
+    (c .before .before .before .before .before .before .before .before .before .before .before .if1 .left)
+    (c .before .before .before .before .before .before .before .act .result)
+    (c .before .before .before .before .before .before .before .act .last .1 .0)
+    (c .before .before .before .before .before .before .before .act .last .1 .1 .1 .0)
+    (c .before .before .before .before .before .before .before .act .ensures) (c .before .before .before .before .home .given .0 .0)
+    (c .before .before .before .before .home .given .0 .1 .0) (c .before .before .before .before .home .given .1)
 
 enum-known-body : tie.Need-enum-known-body
 enum-known-body c = search needs
 
 enter-requires : tie.Need-enter-requires
-enter-requires c κs = ?
+enter-requires c κs =
+    enter-ready (c .before .before .before .before .before .before .before .before .before .before .before .before .before .before .pre)
+    (c .before .before .before .before .before .before .before .before .before .before .before .before .before .if1 .left)
+    (c .before .before .before .before .before .before .before .before .before .act .result)
+    (c .before .before .before .before .before .before .before .before .before .act .last .1 .0)
+    (c .before .before .before .before .before .before .before .before .before .act .last .1 .1 .1 .0)
+    (c .before .before .before .before .before .before .before .before .before .act .ensures)
+    (c .before .before .before .before .before .before .body .given .0 .0)
+    (c .before .before .before .before .before .before .body .given .0 .1 .0)
+    (c .before .before .before .before .before .before .body .given .0 .1 .1 .0) (c .before .before .before .before .before .before .body .given .1)
 
 enum-known-cause : tie.Need-enum-known-cause
 enum-known-cause c = search needs
@@ -39,31 +62,61 @@ same-length : tie.Need-same-length
 same-length c = search needs
 
 returns-3 : tie.Need-returns-3
-returns-3 c = ?
+returns-3 c =
+    λ w. went-on w (c .before .before .before .before .before .before .before .before .if1 .left) (c .before .before .before .before .act .result)
+    (c .before .before .before .before .act .last .1 .0) (c .before .before .before .before .act .last .1 .1 .1 .0)
+    (c .before .before .before .before .act .ensures) (c .before .place .given .0 .0) (c .before .place .given .1)
 
 same-length-2 : tie.Need-same-length-2
 same-length-2 c = search needs
 
 returns-4 : tie.Need-returns-4
-returns-4 c = ?
+returns-4 c =
+    λ w. went-pairs w (c .before .before .before .before .before .before .before .before .if1 .left)
+    (c .before .before .before .before .act .result) (c .before .before .before .before .act .last .1 .0)
+    (c .before .before .before .before .act .last .1 .1 .1 .0) (c .before .before .before .before .act .ensures)
+    (c .before .place2 .given .0 .0) (c .before .place2 .given .0 .1 .0) (c .before .place2 .given .1)
 
 same-length-3 : tie.Need-same-length-3
 same-length-3 c = search needs
 
 returns-5 : tie.Need-returns-5
-returns-5 c = ?
+returns-5 c =
+    λ w. jumped-on w (c .before .before .before .before .before .before .before .before .before .before .before .before .if1 .left)
+    (c .before .before .before .before .before .before .before .before .act .result)
+    (c .before .before .before .before .before .before .before .before .act .last .1 .0)
+    (c .before .before .before .before .before .before .before .before .act .last .1 .1 .1 .0)
+    (c .before .before .before .before .before .before .before .before .act .ensures)
+    (c .before .before .before .before .before .home .given .0 .0) (c .before .before .before .before .before .home .given .0 .1 .0)
+    (c .before .before .before .before .before .home .given .1) (c .jump .last .1 .1 .1 .0) (c .jump .result) (c .jump .ensures)
 
 same-length-4 : tie.Need-same-length-4
 same-length-4 c = search needs
 
 returns-6 : tie.Need-returns-6
-returns-6 c = ?
+returns-6 c =
+    λ w. entered-on w (c .before .before .before .before .before .before .before .before .before .before .before .before .before .before .if1 .left)
+    (c .before .before .before .before .before .before .before .before .before .before .act .result)
+    (c .before .before .before .before .before .before .before .before .before .before .act .last .1 .0)
+    (c .before .before .before .before .before .before .before .before .before .before .act .last .1 .1 .1 .0)
+    (c .before .before .before .before .before .before .before .before .before .before .act .ensures)
+    (c .before .before .before .before .before .before .before .body .given .0 .0)
+    (c .before .before .before .before .before .before .before .body .given .0 .1 .0)
+    (c .before .before .before .before .before .before .before .body .given .0 .1 .1 .0)
+    (c .before .before .before .before .before .before .before .body .given .1) (c .enter .last .1 .0) (c .enter .last .1 .1 .0)
+    (c .enter .last .1 .1 .1 .0) (c .enter .last .1 .1 .1 .1 .0) (c .enter .last .1 .1 .1 .1 .1 .0) (c .enter .result) (c .enter .ensures)
 
 same-length-5 : tie.Need-same-length-5
 same-length-5 c = search needs
 
 returns-7 : tie.Need-returns-7
-returns-7 c = ?
+returns-7 c =
+    λ w.
+    let m = stopped-at w (c .before .before .before .before .before .before .before .before .if1 .left)
+    (c .before .before .before .before .act .result) (c .before .before .before .before .act .last .1 .0)
+    (c .before .before .before .before .act .last .1 .1 .1 .0) (c .before .before .before .before .act .ensures) (c .before .cause .given .0 .0)
+    (c .before .cause .given .1) in
+    (m .0, m .1, refl, refl, refl, refl, m .2)
 
 pub step-spec : {M : Type 1} → statement M
 step-spec =

@@ -1,10 +1,10 @@
 -- `enter` meets its contract.
 use native.Mathlib.Omega.{arith}
 use mathlib.Core.Path.{_∙_}
-use Rattle.display.specs.Moving.{entry-fits, linkable, linked, enters-as}
+use Rattle.moves.specs.Moving.{entry-fits, linkable, linked, enters-as}
 use borrow.Author.Needs.{needs}
-use Rattle.display.proofs.moves.enter.Statement.{statement}
-use Rattle.display.proofs.moves.enter.Tie as tie
+use Rattle.moves.proofs.enter.Statement.{statement}
+use Rattle.moves.proofs.enter.Tie as tie
 
 code-at-requires : tie.Need-code-at-requires
 code-at-requires c κs =
@@ -108,8 +108,10 @@ returns c =
     let s = q .before in
     let display = k .link-to .last .1 .1 .1 .0 in
     λ w.
-    enters-as (w .running) (s .args .body) (s .args .link) (s .args .back) (s .args .words .now) (w .enters) (q .code-at .result) (p .code-at2 .result) (d .narrow2 .result) (n .narrow .result) (b .narrow3 .result) (a .narrow4 .result)
-    (q .code-at .ensures .0) (p .code-at2 .ensures .0) (d .narrow2 .ensures) (n .narrow .ensures) (b .narrow3 .ensures) (a .narrow4 .ensures) (c .clear .last .0) (c .clear .ensures) display (k .link-to .ensures .1 ∙ w .running .display-long)
+    enters-as (w .running) (s .args .body) (s .args .link) (s .args .back) (s .args .words .now) (w .enters) (q .code-at .result)
+    (p .code-at2 .result) (d .narrow2 .result) (n .narrow .result) (b .narrow3 .result) (a .narrow4 .result)
+    (q .code-at .ensures .0) (p .code-at2 .ensures .0) (d .narrow2 .ensures) (n .narrow .ensures) (b .narrow3 .ensures) (a .narrow4 .ensures)
+    (c .clear .last .0) (c .clear .ensures) display (k .link-to .ensures .1 ∙ w .running .display-long)
     (linked (w .running) (s .args .body) (s .args .link) (s .args .back) (s .args .words .now) (w .enters) display (k .link-to .ensures .0))
 
 pub enter-spec : {M : Type 1} → statement M

@@ -1,18 +1,17 @@
 -- `jump` meets its contract: where the label is the innermost activation's the display is as it was.
-use Prim.Native.Nat.{_+_, _-_, _≤_, _<_}
+use Prim.Native.Nat.{_-_}
 use native.Mathlib.Omega.{arith}
-use mathlib.Core.Path.{_≡_, refl, sym, ap, _∙_, subst}
-use lib.ListN.{getD}
-use Rattle.display.specs.Running.{Running}
-use Rattle.display.specs.Moving.{few-live, block-within, restorable, restored, home-live, jumps-to, shows-home, end-home}
-use Rattle.display.proofs.moves.jump.Statement.{statement}
-use Rattle.display.proofs.moves.jump.Tie as tie
+use mathlib.Core.Path.{refl, sym, _∙_}
+use Rattle.moves.specs.Moving.{few-live, block-within, restorable, restored, home-live, jumps-to, shows-home, end-home}
+use Rattle.moves.proofs.jump.Statement.{statement}
+use Rattle.moves.proofs.jump.Tie as tie
 
 returns : tie.Need-returns
 returns c =
     let s = c .before in
     λ w.
-    jumps-to (w .running) (s .args .display .now) (w .running .display-long) (s .args .home) (s .args .at) (w .jumps) (shows-home (w .running) (s .args .home) (c .if1 .taken))
+    jumps-to (w .running) (s .args .display .now) (w .running .display-long) (s .args .home) (s .args .at) (w .jumps)
+    (shows-home (w .running) (s .args .home) (c .if1 .taken))
     _ (sym (c .if1 .taken)) refl (end-home (w .running) (s .args .home) (c .if1 .taken)) refl
 
 level-of-requires : tie.Need-level-of-requires
@@ -30,7 +29,8 @@ restore-requires : tie.Need-restore-requires
 restore-requires c κs =
     let s = c .before .before .before .before in
     let h = home-live (s .pre .running) (s .args .home) (s .args .at) (s .pre .jumps) in
-    restorable (s .pre .running) (s .args .home) (c .level-of2 .result) (c .before .before .level-of .result) h (c .level-of2 .ensures .0) (c .before .before .level-of .ensures .0)
+    restorable (s .pre .running) (s .args .home) (c .level-of2 .result) (c .before .before .level-of .result) h (c .level-of2 .ensures .0)
+    (c .before .before .level-of .ensures .0)
 
 end-of-requires : tie.Need-end-of-requires
 end-of-requires c κs =
@@ -45,7 +45,9 @@ returns-2 c =
     let s = l .before .before .before .before in
     λ w.
     jumps-to (w .running) (o .restore .last .1 .0) (o .restore .ensures .1 ∙ w .running .display-long) (s .args .home) (s .args .at) (w .jumps)
-    (restored (w .running) (s .args .home) (l .level-of2 .result) (l .before .before .level-of .result) (home-live (w .running) (s .args .home) (s .args .at) (w .jumps)) (l .level-of2 .ensures .0) (l .before .before .level-of .ensures .0) (o .restore .last .1 .0) (o .restore .ensures .0))
+    (restored (w .running) (s .args .home) (l .level-of2 .result) (l .before .before .level-of .result)
+    (home-live (w .running) (s .args .home) (s .args .at) (w .jumps)) (l .level-of2 .ensures .0) (l .before .before .level-of .ensures .0)
+    (o .restore .last .1 .0) (o .restore .ensures .0))
     _ refl refl (c .end-of .ensures) refl
 
 pub jump-spec : {M : Type 1} → statement M

@@ -1,8 +1,8 @@
 -- Leaving, jumping and entering, of an engine that runs (`Running`). `restorable`, `restored`: what putting the display right asks, and what it comes
 -- to, for an activation that is live; `leaves-to`, `jumps-to`, `enters-to`: the state of the arrays behind each move, from what was read and written.
-use Prim.Native.Nat.{ℕ, suc, pred, _+_, _-_, _*_, _/_, _%_, _≤_, _<_}
+use Prim.Native.Nat.{ℕ, suc, _+_, _-_, _*_, _/_, _%_, _≤_, _<_}
 use native.Mathlib.Omega.{arith}
-use mathlib.Core.List.{List, [], _∷_}
+use mathlib.Core.List.{List, _∷_}
 use mathlib.Core.Option.{some}
 use mathlib.Core.Path.{_≡_, refl, sym, ap, _∙_, subst}
 use lib.IntN.{ℤ}
@@ -14,20 +14,20 @@ use Rattle.grammar.specs.Formed.{block-few}
 use Rattle.frames.specs.Frame.{Frame, numbered}
 use Rattle.frames.specs.Numbered.{numbered-suc, numbered-index}
 use Rattle.coordinates.specs.Enclosure.{Enclosing, enclosed, Enclosure, Encloses}
-use Rattle.coordinates.specs.Chain.{enclosing, enclosureOf, levelOf, displayFrom, displayOf}
+use Rattle.coordinates.specs.Chain.{enclosing, enclosureOf, levelOf, displayFrom}
 use Rattle.coordinates.specs.Levels.{frame-encloses}
-use Rattle.resolved.specs.Resolved.{placeOf, endPlace, stmtPlace}
-use Rattle.resolved.specs.Places.{block-fields, block-place, end-is, end-bound, place-bound, enclosed-placed, enclosed-formed}
+use Rattle.resolved.specs.Resolved.{placeOf, endPlace}
+use Rattle.resolved.specs.Places.{block-fields, end-is, end-bound, place-bound, enclosed-formed}
 use Rattle.arrays.specs.Holds.{Shows}
 use Rattle.arrays.specs.Displays.{ShowsFrom, holds-links, shows-innermost}
 use Rattle.arrays.specs.Reading.{level-read, end-read}
 use Rattle.acting.specs.Effects.{Cleared}
 use Rattle.steps.specs.Means.{JumpsTo, EntersAt}
-use Rattle.steps.specs.Here.{many, numbered-here, live-few, downward, here-bounded, encloses-here}
+use Rattle.steps.specs.Here.{many, numbered-here, live-few, downward, encloses-here}
 use Rattle.steps.specs.Loop.{leaves, jumped}
 use Rattle.steps.specs.Entered.{body-head, entered}
-use Rattle.display.specs.declared.moves.Now.{Now}
-use Rattle.display.specs.Running.{Running, Succeeds, Restorable, Linkable}
+use Rattle.moves.specs.declared.Now.{Now}
+use Rattle.moves.specs.Running.{Running, Succeeds, Restorable, Linkable}
 
 -- what is read of an activation's block
 abbrev pub levelAt : List ℕ → List ℕ → ℕ → ℕ
@@ -67,12 +67,14 @@ module _ {code : List ℕ} {limit group : ℕ} {words : List ℤ} {blocks nexts 
   level-there k h =
       let s = w .standing in
       let f = live-frame k h in
-      level-read code (s .name) (s .program) (s .keeps) (s .covers) fs (s .sound .chained) blocks (set nexts (here .live) (here .at)) links words (s .holds) k (f .0) (f .1)
+      level-read code (s .name) (s .program) (s .keeps) (s .covers) fs (s .sound .chained) blocks (set nexts (here .live) (here .at)) links words
+      (s .holds) k (f .0) (f .1)
 
   end-there : (k : ℕ) (f : Frame) → numbered fs (suc k) ≡ some f → endAt code blocks k ≡ endPlace (f .text)
   end-there k f e =
       let s = w .standing in
-      end-read code (s .name) (s .program) (s .keeps) (s .covers) fs (s .sound .chained) blocks (set nexts (here .live) (here .at)) links words (s .holds) k f (numbered-index fs (suc k) f e)
+      end-read code (s .name) (s .program) (s .keeps) (s .covers) fs (s .sound .chained) blocks (set nexts (here .live) (here .at)) links words
+      (s .holds) k f (numbered-index fs (suc k) f e)
 
   pub few-live : here .live < 256
   few-live = omega (arith, live-few (w .standing))
@@ -89,7 +91,8 @@ module _ {code : List ℕ} {limit group : ℕ} {words : List ℤ} {blocks nexts 
 
   -- The display put right
 
-  module _ (home level sure : ℕ) (high : home ≤ here .live) (level-is : level ≡ levelAt code blocks home) (sure-is : sure ≡ levelAt code blocks (here .live)) where
+  module _ (home level sure : ℕ) (high : home ≤ here .live) (level-is : level ≡ levelAt code blocks home)
+      (sure-is : sure ≡ levelAt code blocks (here .live)) where
     pub restorable : Restorable links display home level sure
     restorable =
         let s = w .standing in
@@ -108,7 +111,8 @@ module _ {code : List ℕ} {limit group : ℕ} {words : List ℤ} {blocks nexts 
           display-long = w .display-long;
         }
 
-    pub restored : (display′ : List ℕ) → ((r : Restorable links display home level sure) → ShowsFrom (r .frames) (suc home) display′) → ShowsFrom fs (suc home) display′
+    pub restored : (display′ : List ℕ) → ((r : Restorable links display home level sure) → ShowsFrom (r .frames) (suc home) display′)
+        → ShowsFrom fs (suc home) display′
     unfolding restorable
     restored display′ k = k restorable
 
@@ -119,14 +123,16 @@ module _ {code : List ℕ} {limit group : ℕ} {words : List ℤ} {blocks nexts 
     -- A return
 
     module _ (ended : here .at ≡ here .end) (above : 1 ≤ here .live) (home : ℕ) (below : home ≡ here .live - 1) where
-      pub leaves-to : ShowsFrom fs (suc home) display′ → (r : Now) → r .live ≡ home → r .at ≡ getD nexts home 0 → r .end ≡ endAt code blocks home → r .pairs ≡ here .pairs
+      pub leaves-to : ShowsFrom fs (suc home) display′ → (r : Now) → r .live ≡ home → r .at ≡ getD nexts home 0 → r .end ≡ endAt code blocks home
+          → r .pairs ≡ here .pairs
           → Succeeds w words blocks nexts links display′ table r
       leaves-to shows r live at end pairs =
           let l = leaves (w .standing) ended above in
           let one : here .live ≡ suc home = omega arith in
           let e : endPlace (l .frame .text) ≡ r .end = sym (end-there home (l .frame) (ap (numbered fs) (sym one) ∙ l .stands)) ∙ sym end in
           let a : getD nexts (here .live - 1) 0 ≡ r .at = ap (λ k. getD nexts k 0) (sym below) ∙ sym at in
-          subst (λ (n : Now). Succeeds w words blocks nexts links display′ table n) (λ i. record { live = (sym below ∙ sym live) i; at = a i; end = e i; pairs = sym pairs i })
+          subst (λ (n : Now). Succeeds w words blocks nexts links display′ table n)
+          (λ i. record { live = (sym below ∙ sym live) i; at = a i; end = e i; pairs = sym pairs i })
           (record {
             running = record {
               standing = l .standing;
@@ -144,16 +150,23 @@ module _ {code : List ℕ} {limit group : ℕ} {words : List ℤ} {blocks nexts 
       jumps-to shows r live at end pairs =
           let l = jumped (w .standing) home at′ j in
           let e : endPlace (l .frame .text) ≡ r .end = sym (end-there home (l .frame) (l .stands)) ∙ sym end in
-          subst (λ (n : Now). Succeeds w words blocks nexts links display′ table n) (λ i. record { live = sym live i; at = sym at i; end = e i; pairs = sym pairs i })
+          subst (λ (n : Now). Succeeds w words blocks nexts links display′ table n)
+          (λ i. record { live = sym live i; at = sym at i; end = e i; pairs = sym pairs i })
           (record {
-            running = record { standing = l .standing; shows = λ i m q. shows i m (ap (λ (ms : List ℕ). numbered ms i) (sym (l .display)) ∙ q); display-long = long };
+            running = record {
+              standing = l .standing;
+              shows = λ i m q. shows i m
+                  (ap (λ (ms : List ℕ). numbered ms i) (sym (l .display)) ∙ q);
+              display-long = long;
+            };
             follows = l .follows;
           })
 
 -- An entry
 
 module _ {code : List ℕ} {limit group : ℕ} {words : List ℤ} {blocks nexts links display : List ℕ} {table : List ℤ} {here : Now}
-    (w : Running code limit group words blocks nexts links display table here) (body link back : ℕ) (words′ : List ℤ) (j : EntersAt (w .standing) body link back words′) where
+    (w : Running code limit group words blocks nexts links display table here) (body link back : ℕ) (words′ : List ℤ)
+    (j : EntersAt (w .standing) body link back words′) where
   abbrev around : Enclosure
   around = enclosureOf (w .standing .stack .frames) (suc link)
 
@@ -172,10 +185,16 @@ module _ {code : List ℕ} {limit group : ℕ} {words : List ℤ} {blocks nexts 
       let s = w .standing in
       let h = body-head s body link back words′ j in
       let e = enclosed (j .formals) (j .text) in
-      let few = block-few (suc (length around)) (j .formals) (2 * placeOf (blockAt (j .text))) (j .text) (enclosed-formed (s .program) (s .keeps) e around (j .encloses)) in
+      let few = block-few (suc (length around)) (j .formals) (2 * placeOf (blockAt (j .text))) (j .text)
+      (enclosed-formed (s .program) (s .keeps) e around (j .encloses)) in
       record {
         body-within = omega (arith, j .body-is, within-script (s .program) (s .keeps) e around (j .encloses));
-        back-within = omega (arith, j .back-is, place-bound (s .program) (s .keeps) (enclosing (s .frame)) (enclosureOf (s .stack .frames) (s .frame .link)) (encloses-here s) (suc (s .frame .next)) (omega arith));
+        back-within = omega (
+          arith,
+          j .back-is,
+          place-bound (s .program) (s .keeps) (enclosing (s .frame))
+              (enclosureOf (s .stack .frames) (s .frame .link)) (encloses-here s) (suc (s .frame .next)) (omega arith),
+        );
         room = omega (arith, j .room, s .sound .limit);
         link-high = j .link-high;
         formals-few = omega (arith, h .formals);
@@ -197,7 +216,8 @@ module _ {code : List ℕ} {limit group : ℕ} {words : List ℤ} {blocks nexts 
         high = j .link-high;
       }
 
-  pub linked : (display′ : List ℕ) → ((v : Linkable code blocks links display (here .live) link) → ShowsFrom (v .running .standing .stack .frames) (suc link) display′)
+  pub linked : (display′ : List ℕ) → ((v : Linkable code blocks links display (here .live) link) → ShowsFrom (v .running .standing .stack .frames)
+      (suc link) display′)
       → ShowsFrom (w .standing .stack .frames) (suc link) display′
   unfolding linkable
   linked display′ k = k linkable
@@ -208,14 +228,17 @@ module _ {code : List ℕ} {limit group : ℕ} {words : List ℤ} {blocks nexts 
   pub enters-to : (words″ : List ℤ) → Cleared words′ (32 * fresh + getD code body 0 / 65536 % 256) (32 * fresh + getD code body 0 / 16777216) words″
       → (display′ : List ℕ) → length display′ ≡ 256 → ShowsFrom (w .standing .stack .frames) (suc link) display′
       → (r : Now) → r .live ≡ fresh → r .at ≡ getD code (body + 1) 0 / 65536 → r .end ≡ getD code (body + 1) 0 % 65536 → r .pairs ≡ here .pairs
-      → Succeeds w words″ (set blocks fresh body) (set nexts (here .live) back) (set links fresh link) (set display′ (getD code body 0 / 256 % 256) (32 * fresh)) table r
+      → Succeeds w words″ (set blocks fresh body) (set nexts (here .live) back) (set links fresh link)
+      (set display′ (getD code body 0 / 256 % 256) (32 * fresh)) table r
   enters-to words″ cleared display′ long shows r live at end pairs =
       let h = body-head (w .standing) body link back words′ j in
       let c : Cleared words′ (32 * fresh + length (j .formals)) (32 * fresh + (length (j .formals) + length (blockDecls (j .text)))) words″ =
-      subst (λ m. Cleared words′ (32 * fresh + length (j .formals)) (32 * fresh + m) words″) (h .names) (subst (λ n. Cleared words′ (32 * fresh + n) (32 * fresh + getD code body 0 / 16777216) words″) (h .formals) cleared) in
+      subst (λ m. Cleared words′ (32 * fresh + length (j .formals)) (32 * fresh + m) words″) (h .names)
+      (subst (λ n. Cleared words′ (32 * fresh + n) (32 * fresh + getD code body 0 / 16777216) words″) (h .formals) cleared) in
       let e = entered (w .standing) body link back words′ j words″ c in
       let level = h .level in
-      subst (λ (n : Now). Succeeds w words″ (set blocks fresh body) (set nexts (here .live) back) (set links fresh link) (set display′ (getD code body 0 / 256 % 256) (32 * fresh)) table n)
+      subst (λ (n : Now). Succeeds w words″ (set blocks fresh body) (set nexts (here .live) back) (set links fresh link)
+      (set display′ (getD code body 0 / 256 % 256) (32 * fresh)) table n)
       (λ i. record { live = sym live i; at = (sym (h .first) ∙ sym at) i; end = (sym (h .ends) ∙ sym end) i; pairs = sym pairs i })
       (record {
         running = record {
@@ -227,10 +250,12 @@ module _ {code : List ℕ} {limit group : ℕ} {words : List ℤ} {blocks nexts 
       })
 
   -- the same of the numbers as they were read and written
-  pub enters-as : (head bounds block next up entry : ℕ) → head ≡ getD code body 0 → bounds ≡ getD code (body + 1) 0 → block ≡ body → next ≡ back → up ≡ link → entry ≡ 32 * fresh
+  pub enters-as : (head bounds block next up entry : ℕ) → head ≡ getD code body 0 → bounds ≡ getD code (body + 1) 0 → block ≡ body → next ≡ back
+      → up ≡ link → entry ≡ 32 * fresh
       → (words″ : List ℤ) → Cleared words′ (32 * fresh + head / 65536 % 256) (32 * fresh + head / 16777216) words″
       → (display′ : List ℕ) → length display′ ≡ 256 → ShowsFrom (w .standing .stack .frames) (suc link) display′
       → Succeeds w words″ (set blocks fresh block) (set nexts (here .live) next) (set links fresh up) (set display′ (head / 256 % 256) entry) table
       (record { live = fresh; at = bounds / 65536; end = bounds % 65536; pairs = here .pairs })
   enters-as head bounds block next up entry e₁ e₂ e₃ e₄ e₅ e₆ words″ cleared display′ long shows =
-      rw (e₁, e₂, e₃, e₄, e₅, e₆) (enters-to words″ (rw e₁ at cleared) display′ long shows (record { live = fresh; at = getD code (body + 1) 0 / 65536; end = getD code (body + 1) 0 % 65536; pairs = here .pairs }) refl refl refl refl)
+      rw (e₁, e₂, e₃, e₄, e₅, e₆) (enters-to words″ (rw e₁ at cleared) display′ long shows
+      (record { live = fresh; at = getD code (body + 1) 0 / 65536; end = getD code (body + 1) 0 % 65536; pairs = here .pairs }) refl refl refl refl)

@@ -1,12 +1,10 @@
 -- `link_to` meets its contract: where the link is the innermost activation the display is its own.
-use Prim.Native.Nat.{_+_, _-_, _≤_, _<_}
+use Prim.Native.Nat.{_-_}
 use native.Mathlib.Omega.{arith}
-use mathlib.Core.Path.{_≡_, refl, sym, ap, _∙_, subst}
-use lib.ListN.{getD}
-use Rattle.display.specs.Running.{Running}
-use Rattle.display.specs.Moving.{few-live, block-within, restorable, restored, shows-home}
-use Rattle.display.proofs.moves.link_to.Statement.{statement}
-use Rattle.display.proofs.moves.link_to.Tie as tie
+use mathlib.Core.Path.{refl}
+use Rattle.moves.specs.Moving.{few-live, block-within, restorable, restored, shows-home}
+use Rattle.moves.proofs.link_to.Statement.{statement}
+use Rattle.moves.proofs.link_to.Tie as tie
 
 level-of-requires : tie.Need-level-of-requires
 level-of-requires c κs =
@@ -21,13 +19,15 @@ level-of-requires-2 c κs =
 restore-requires : tie.Need-restore-requires
 restore-requires c κs =
     let s = c .before .before .before .before in
-    restorable (s .pre .running) (s .args .link) (c .level-of2 .result) (c .before .before .level-of .result) (s .pre .high) (c .level-of2 .ensures .0) (c .before .before .level-of .ensures .0)
+    restorable (s .pre .running) (s .args .link) (c .level-of2 .result) (c .before .before .level-of .result) (s .pre .high)
+    (c .level-of2 .ensures .0) (c .before .before .level-of .ensures .0)
 
 returns : tie.Need-returns
 returns c =
     let s = c .before .before .before .before .before in
     let l = c .before in (
-      λ w. restored (w .running) (s .args .link) (l .level-of2 .result) (l .before .before .level-of .result) (w .high) (l .level-of2 .ensures .0) (l .before .before .level-of .ensures .0) (c .restore .last .1 .0) (c .restore .ensures .0),
+      λ w. restored (w .running) (s .args .link) (l .level-of2 .result) (l .before .before .level-of .result) (w .high) (l .level-of2 .ensures .0)
+          (l .before .before .level-of .ensures .0) (c .restore .last .1 .0) (c .restore .ensures .0),
       c .restore .ensures .1,
     )
 

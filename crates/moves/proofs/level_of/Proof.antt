@@ -1,7 +1,7 @@
 -- `level_of` meets its contract.
 use borrow.Author.Needs.{needs}
-use Rattle.display.proofs.moves.level_of.Statement.{statement}
-use Rattle.display.proofs.moves.level_of.Tie as tie
+use Rattle.moves.proofs.level_of.Statement.{statement}
+use Rattle.moves.proofs.level_of.Tie as tie
 
 mul-wide : tie.Need-mul-wide
 mul-wide c = search needs

@@ -6,9 +6,9 @@ use borrow.Author.Needs.{needs}
 use lib.ListN.{length, length-set}
 use Rattle.frames.specs.Numbered.{numbered-high}
 use Rattle.arrays.specs.Displays.{Restoring, restoring-starts, restoring-bound, restoring-step, restoring-through, restoring-meets}
-use Rattle.display.specs.Running.{Restorable}
-use Rattle.display.proofs.moves.restore.Statement.{statement}
-use Rattle.display.proofs.moves.restore.Tie as tie
+use Rattle.moves.specs.Running.{Restorable}
+use Rattle.moves.proofs.restore.Statement.{statement}
+use Rattle.moves.proofs.restore.Tie as tie
 
 abbrev Inv-loop : tie.InvT-loop
 Inv-loop links display₀ activation level sure a₀ l₀ display a l =
@@ -18,8 +18,11 @@ abbrev μ-loop : tie.MeasureT-loop
 μ-loop links display₀ activation level sure a₀ l₀ display a l = l
 
 loop-holds : tie.Need-loop-holds Inv-loop μ-loop
-loop-holds c =
-    (λ w. subst (λ l. Restoring (w .frames) (w .old) (suc (c .args .activation)) (c .args .display .now) (c .args .activation) l) (sym (w .level-is)) (restoring-starts (w .frames) (w .down) (w .old) (suc (c .args .activation)) (c .args .display .now) (w .shows)), search needs)
+loop-holds c = (
+  λ w. subst (λ l. Restoring (w .frames) (w .old) (suc (c .args .activation)) (c .args .display .now) (c .args .activation) l)
+      (sym (w .level-is)) (restoring-starts (w .frames) (w .down) (w .old) (suc (c .args .activation)) (c .args .display .now) (w .shows)),
+  search needs,
+)
 
 -- what is known where a level is left
 record Within (c : tie.In-loop Inv-loop μ-loop) : Type 0 where
@@ -33,7 +36,13 @@ within c =
     let a = c .before .before .args .activation in
     record {
       level = omega (arith, r .within, w .level-is, w .level-high);
-      activation = omega (arith, restoring-bound (w .frames) (w .down) (w .old) (suc a) (c .before .loop .display) (c .before .loop .a) (c .before .loop .l) r (c .loop-test .taken), numbered-high (w .frames) (suc a) (w .frame) (w .there), w .few);
+      activation = omega (
+        arith,
+        restoring-bound (w .frames) (w .down) (w .old) (suc a) (c .before .loop .display) (c .before .loop .a)
+            (c .before .loop .l) r (c .loop-test .taken),
+        numbered-high (w .frames) (suc a) (w .frame) (w .there),
+        w .few,
+      );
     }
 
 mul-wide : tie.Need-mul-wide Inv-loop μ-loop
@@ -53,7 +62,8 @@ returns c =
     let o = c .before .before .before .before in
     let l = o .before .loop in
     let s = o .before .before in (
-      λ w. restoring-meets (w .frames) (w .down) (w .old) (suc (s .args .activation)) (l .display) (l .a) (l .l) (l .inv .0 w) (o .loop-test .taken) (omega (arith, w .sure-is, c .before .before .before .if1 .taken))
+      λ w. restoring-meets (w .frames) (w .down) (w .old) (suc (s .args .activation)) (l .display) (l .a) (l .l) (l .inv .0 w) (o .loop-test .taken)
+          (omega (arith, w .sure-is, c .before .before .before .if1 .taken))
           (sym (c .before .wide .ensures .0) ∙ c .if2 .taken),
       l .inv .1,
     )
@@ -93,7 +103,8 @@ loop-again c =
     let s = o .before .before in
     let h = within o in (
       λ w. rw (n .narrow .ensures, c .wide2 .ensures .0)
-          (restoring-step (w .frames) (w .down) (w .old) (suc (s .args .activation)) (l .display) (l .a) (l .l) (l .inv .0 w) (s .args .links .now) (w .links-are) (o .loop-test .taken) (omega (arith, l .inv .1, w .display-long, h .level))),
+          (restoring-step (w .frames) (w .down) (w .old) (suc (s .args .activation)) (l .display) (l .a) (l .l) (l .inv .0 w) (s .args .links .now)
+          (w .links-are) (o .loop-test .taken) (omega (arith, l .inv .1, w .display-long, h .level))),
       length-set (l .display) (l .l) (n .narrow .result) ∙ l .inv .1,
     )
 

@@ -4,9 +4,9 @@ use stepping::clear;
 use stepping::code_at;
 ghost use mathlib.Core.Path.{_≡_};
 ghost use Prim.Native.Nat.{suc, _+_, _/_, _%_, _<_};
-ghost use lib.ListN.{length, getD};
+ghost use lib.ListN.{length, getD, set};
 ghost use Rattle.arrays.specs.Displays.{ShowsFrom};
-ghost use Rattle.display.specs.Running.{Restorable, Linkable, LeaveReady, JumpReady, EnterReady, Succeeds};
+ghost use Rattle.moves.specs.Running.{Restorable, Linkable, LeaveReady, JumpReady, EnterReady, Succeeds, Placed};
 
 // The innermost activation, the place of its next statement, where its text ends, and the pairs in use.
 pub struct Now {
@@ -189,4 +189,14 @@ pub fn enter(
         end: bounds % 65536,
         pairs: here.pairs,
     }
+}
+
+// At a run's end the place of the innermost activation's next statement is put with the others'. A statement that has a cause to stop is not
+// done: it is the next one.
+pub fn note_place(nexts: &mut [u16; 256], here: Now)
+    requires { ⌜ Placed here ⌝ }
+    ensures { λ _. ⌜ now (nexts .exit) ≡ set (now (nexts .entry)) (here .live) (here .at) ⌝ }
+{
+    let live = here.live;
+    nexts[live] = narrow(here.at);
 }

@@ -14,7 +14,7 @@ use Rattle.arrays.specs.Displays.{ShowsFrom, LinksOf}
 use Rattle.acting.specs.Acting.{Scene}
 use Rattle.steps.specs.Standing.{Standing}
 use Rattle.steps.specs.Means.{Follows, JumpsTo, EntersAt}
-use Rattle.display.specs.declared.moves.Now.{Now}
+use Rattle.moves.specs.declared.Now.{Now}
 
 abbrev pub limitsBy : ℕ → ℕ → Limits
 limitsBy limit group = record { activations = limit; group = group }
@@ -38,10 +38,17 @@ pub record Doing (code : List ℕ) (words : List ℤ) (display : List ℕ) (tabl
   pub before : at ≡ end → ⊥
 
 -- the state of the arrays one step behind
-pub record Succeeds {code : List ℕ} {limit group : ℕ} {words : List ℤ} {blocks nexts links display : List ℕ} {table : List ℤ} {here : Now} (w : Running code limit group words blocks nexts links display table here)
+pub record Succeeds {code : List ℕ} {limit group : ℕ} {words : List ℤ} {blocks nexts links display : List ℕ} {table : List ℤ} {here : Now}
+    (w : Running code limit group words blocks nexts links display table here)
     (words′ : List ℤ) (blocks′ nexts′ links′ display′ : List ℕ) (table′ : List ℤ) (here′ : Now) : Type 0 where
   pub running : Running code limit group words′ blocks′ nexts′ links′ display′ table′ here′
   pub follows : Follows (w .standing) (running .standing .stack) (running .standing .program) (running .standing .name)
+
+-- the engine's numbers are in range
+pub record Placed (here : Now) : Type 0 where
+  pub live : here .live < 256
+  pub at : here .at ≤ 4096
+  pub end : here .end ≤ 4096
 
 -- the looked-up name can be found in the innermost activation
 pub record Looking (code : List ℕ) (words : List ℤ) (blocks display : List ℕ) (live : ℕ) : Type 0 where

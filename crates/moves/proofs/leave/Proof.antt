@@ -1,13 +1,11 @@
 -- `leave` meets its contract.
-use Prim.Native.Nat.{_+_, _-_, _≤_, _<_}
+use Prim.Native.Nat.{_-_}
 use native.Mathlib.Omega.{arith}
-use mathlib.Core.Path.{_≡_, refl, sym, ap, _∙_, subst}
-use lib.ListN.{getD}
-use Rattle.display.specs.Running.{Running}
-use Rattle.display.specs.Moving.{few-live, block-within, restorable, restored, leaves-to}
+use mathlib.Core.Path.{refl, _∙_}
+use Rattle.moves.specs.Moving.{few-live, block-within, restorable, restored, leaves-to}
 use borrow.Author.Needs.{needs}
-use Rattle.display.proofs.moves.leave.Statement.{statement}
-use Rattle.display.proofs.moves.leave.Tie as tie
+use Rattle.moves.proofs.leave.Statement.{statement}
+use Rattle.moves.proofs.leave.Tie as tie
 
 sub-live : tie.Need-sub-live
 sub-live c = search needs
@@ -25,7 +23,8 @@ level-of-requires-2 c κs =
 restore-requires : tie.Need-restore-requires
 restore-requires c κs =
     let s = c .before .before .before in
-    restorable (s .pre .running) (s .args .here .live - 1) (c .level-of2 .result) (c .before .before .level-of .result) (omega arith) (c .level-of2 .ensures .0) (c .before .before .level-of .ensures .0)
+    restorable (s .pre .running) (s .args .here .live - 1) (c .level-of2 .result) (c .before .before .level-of .result) (omega arith)
+    (c .level-of2 .ensures .0) (c .before .before .level-of .ensures .0)
 
 mul-wide : tie.Need-mul-wide
 mul-wide c =
@@ -54,7 +53,8 @@ returns c =
     let home = s .args .here .live - 1 in
     λ w.
     leaves-to (w .running) (o .restore .last .1 .0) (o .restore .ensures .1 ∙ w .running .display-long) (w .ended) (w .above) home refl
-    (restored (w .running) home (l .level-of2 .result) (l .before .before .level-of .result) (omega arith) (l .level-of2 .ensures .0) (l .before .before .level-of .ensures .0) (o .restore .last .1 .0) (o .restore .ensures .0))
+    (restored (w .running) home (l .level-of2 .result) (l .before .before .level-of .result) (omega arith) (l .level-of2 .ensures .0)
+    (l .before .before .level-of .ensures .0) (o .restore .last .1 .0) (o .restore .ensures .0))
     _ refl (c .before .wide .ensures .0) (c .end-of .ensures) refl
 
 pub leave-spec : {M : Type 1} → statement M
