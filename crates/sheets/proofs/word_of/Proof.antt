@@ -1,0 +1,15 @@
+-- `sheets::word_of` meets its contract. Assumes nothing.
+use mir.Facts.{toZ-pos}
+use mir.Syntax.{w32}
+use borrow.Author.Needs.{needs}
+use Rattle.sheets.proofs.word_of.Statement.{statement}
+use Rattle.sheets.proofs.word_of.Tie as tie
+
+cast-result : tie.Need-cast-result
+cast-result c = search needs
+
+returns : tie.Need-returns
+returns c = toZ-pos w32 (c .pre)
+
+pub word-of-spec : {M : Type 1} → statement M
+word-of-spec = tie.close (tie.spec cast-result returns)

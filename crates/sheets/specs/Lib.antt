@@ -1,0 +1,4 @@
+pub mod Sizes
+pub mod Shown
+pub mod Held
+pub mod Named
