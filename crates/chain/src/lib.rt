@@ -2,3 +2,4 @@
 mod act;
 mod arms;
 mod run;
+mod sheet;
