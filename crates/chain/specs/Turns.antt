@@ -16,7 +16,7 @@ use Rattle.links.specs.declared.Now.{Now}
 use Rattle.links.specs.Finding.{byChain}
 use Rattle.links.specs.Running.{limitsBy, sceneBy, Running, Doing, Succeeds, LeaveReady, JumpReady, EnterReady}
 use Rattle.links.specs.Names.{finds-by-chain}
-use Rattle.chain.specs.Scenes.{Acted}
+use Rattle.statements.specs.Scenes.{Acted}
 
 pub above-zero : (n : ℕ) → (n ≡ 0 → ⊥) → 1 ≤ n
 above-zero zero d = absurd (d refl)

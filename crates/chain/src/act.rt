@@ -32,7 +32,7 @@ pub fn act(
         3 => arms::do_compare(code, words, records, live, level, at),
         4 => arms::do_branch(code, words, records, live, level, at),
         5 => arms::do_goto(code, records, live, level, at),
-        6 => arms::do_block(code, limit, live, at),
+        6 => statements::do_block(code, limit, live, at),
         7 => arms::do_call(code, words, records, live, level, limit, at),
         8 => arms::do_add_pair(code, words, records, live, level, table, pairs, group, at),
         9 => arms::do_remove_pair(code, words, records, live, level, table, pairs, at),

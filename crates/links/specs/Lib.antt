@@ -4,4 +4,3 @@ pub mod Finding
 pub mod Running
 pub mod Moving
 pub mod Names
-pub mod Words

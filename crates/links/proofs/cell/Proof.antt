@@ -2,7 +2,7 @@
 use Prim.Native.Nat.{ℕ, _%_}
 use mathlib.Core.Path.{sym, ap, _∙_}
 use Rattle.links.specs.Finding.{firstCell}
-use Rattle.links.specs.Words.{is-direct, is-formal, cell-direct, cell-formal}
+use Rattle.statements.specs.Words.{is-direct, is-formal, cell-direct, cell-formal}
 use borrow.Author.Needs.{needs}
 use Rattle.links.proofs.cell.Statement.{statement}
 use Rattle.links.proofs.cell.Tie as tie

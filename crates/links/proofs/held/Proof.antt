@@ -1,7 +1,7 @@
 -- `held` meets its contract.
 use mathlib.Core.Path.{sym}
 use Rattle.links.specs.Finding.{firstCell}
-use Rattle.links.specs.Words.{read-back, held-is}
+use Rattle.statements.specs.Words.{read-back, held-is}
 use borrow.Author.Needs.{needs}
 use Rattle.links.proofs.held.Statement.{statement}
 use Rattle.links.proofs.held.Tie as tie

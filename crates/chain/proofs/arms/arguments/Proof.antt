@@ -8,9 +8,9 @@ use lib.IntN.{pos}
 use lib.ListN.{getD}
 use Rattle.acting.specs.Acting.{argumentsFrom, setAll}
 use Rattle.links.specs.Finding.{firstCell, ownCell, byChain}
-use Rattle.chain.specs.Finding.{only-words}
-use Rattle.links.specs.Words.{read-back, handed-is}
-use Rattle.chain.proofs.Statements.{arguments-end, arguments-next, kept-below}
+use Rattle.statements.specs.Pieces.{only-words}
+use Rattle.statements.specs.Words.{read-back, handed-is}
+use Rattle.statements.specs.Doing.{arguments-end, arguments-next, kept-below}
 use Rattle.chain.proofs.arms.arguments.Statement.{statement}
 use Rattle.chain.proofs.arms.arguments.Tie as tie
 

@@ -1,9 +1,9 @@
 -- `do_add_pair` meets its contract.
 use Rattle.acting.specs.Acting.{Finding, Scene}
 use Rattle.links.specs.Finding.{byChain}
-use Rattle.chain.specs.Finding.{with-table}
-use Rattle.links.specs.Words.{read-value}
-use Rattle.chain.proofs.Statements.{add-done}
+use Rattle.statements.specs.Pieces.{with-table}
+use Rattle.statements.specs.Words.{read-value}
+use Rattle.statements.specs.Doing.{add-done}
 use borrow.Author.Needs.{needs}
 use Rattle.chain.proofs.arms.do_add_pair.Statement.{statement}
 use Rattle.chain.proofs.arms.do_add_pair.Tie as tie

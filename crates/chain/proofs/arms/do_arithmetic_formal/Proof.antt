@@ -2,9 +2,9 @@
 use mathlib.Core.Path.{sym, _∙_}
 use Rattle.language.specs.Text.{plus, minus}
 use Rattle.links.specs.Finding.{byChain}
-use Rattle.chain.specs.Finding.{only-words}
+use Rattle.statements.specs.Pieces.{only-words}
 use Rattle.acting.specs.Acting.{Finding, Scene}
-use Rattle.chain.proofs.Statements.{is-plus, is-minus, is-less, arithmetic-done, compare-done}
+use Rattle.statements.specs.Doing.{is-plus, is-minus, is-less, arithmetic-done, compare-done}
 use borrow.Author.Needs.{needs}
 use Rattle.chain.proofs.arms.do_arithmetic_formal.Statement.{statement}
 use Rattle.chain.proofs.arms.do_arithmetic_formal.Tie as tie

@@ -4,10 +4,10 @@ use native.Mathlib.Omega.{arith}
 use lib.ListN.{getD}
 use mathlib.Core.Path.{_≡_, sym, _∙_}
 use Rattle.links.specs.Finding.{firstCell, byChain}
-use Rattle.chain.specs.Finding.{only-words}
+use Rattle.statements.specs.Pieces.{only-words}
 use Rattle.acting.specs.Acting.{Finding, Scene}
-use Rattle.links.specs.Words.{is-zero, not-zero, home-direct, target-direct}
-use Rattle.chain.proofs.Statements.{direct-cell, goto-done, branch-not, branch-goes}
+use Rattle.statements.specs.Words.{is-zero, not-zero, home-direct, target-direct}
+use Rattle.statements.specs.Doing.{direct-cell, goto-done, branch-not, branch-goes}
 use borrow.Author.Needs.{needs}
 use Rattle.chain.proofs.arms.do_branch.Statement.{statement}
 use Rattle.chain.proofs.arms.do_branch.Tie as tie
@@ -37,7 +37,7 @@ abbrev word : (s : tie.Start) → ℕ → ℕ
 word s i = getD (s .args .code .now) (s .args .at + i) 0
 
 tested : (c : tie.After-own-at) → c .own-at .result ≡ way (c .before .before) .cell (word (c .before .before) 2)
-tested c = let s = c .before .before in direct-cell (s .args .words .now) (s .args .records .now) (s .args .live) (s .args .level) (word s 2) (c .own-at .ensures) (s .pre .2)
+tested c = let s = c .before .before in direct-cell (s .args .words .now) (firstCell (s .args .records .now) (s .args .live) (s .args .level) (word s 2)) (word s 2) (c .own-at .ensures) (s .pre .2 .is)
 
 returns : tie.Need-returns
 returns c =

@@ -7,10 +7,10 @@ use native.Mathlib.Omega.{arith}
 use Rattle.resolved.specs.Resolved.{direct}
 use Rattle.acting.specs.Acting.{doGoto, doBranch}
 use Rattle.links.specs.Finding.{firstCell, byChain}
-use Rattle.chain.specs.Finding.{only-words}
+use Rattle.statements.specs.Pieces.{only-words}
 use Rattle.acting.specs.Acting.{Finding, Scene}
-use Rattle.links.specs.Words.{is-zero, not-zero, is-direct, is-formal, home-direct, target-direct}
-use Rattle.chain.proofs.Statements.{goto-done, branch-not, branch-goes}
+use Rattle.statements.specs.Words.{is-zero, not-zero, is-direct, is-formal, home-direct, target-direct}
+use Rattle.statements.specs.Doing.{goto-done, branch-not, branch-goes}
 use borrow.Author.Needs.{needs}
 use Rattle.chain.proofs.arms.do_branch_formal.Statement.{statement}
 use Rattle.chain.proofs.arms.do_branch_formal.Tie as tie

@@ -4,9 +4,9 @@ use mathlib.Core.Path.{sym, ap, _∙_}
 use lib.ListN.{getD}
 use Rattle.acting.specs.Acting.{Finding, Scene, Happened}
 use Rattle.links.specs.Finding.{firstCell, byChain}
-use Rattle.chain.specs.Finding.{without-table}
-use Rattle.links.specs.Words.{home-direct, target-direct}
-use Rattle.chain.proofs.Statements.{call-is}
+use Rattle.statements.specs.Pieces.{without-table}
+use Rattle.statements.specs.Words.{home-direct, target-direct}
+use Rattle.statements.specs.Doing.{call-is}
 use borrow.Author.Needs.{needs}
 use Rattle.chain.proofs.arms.do_call.Statement.{statement}
 use Rattle.chain.proofs.arms.do_call.Tie as tie

@@ -8,9 +8,9 @@ use lib.ListN.{getD}
 use Rattle.arrays.specs.Found.{heldBy}
 use Rattle.acting.specs.Acting.{Finding, Scene, Happened, argumentsAgree}
 use Rattle.links.specs.Finding.{firstCell, byChain}
-use Rattle.chain.specs.Finding.{without-table}
-use Rattle.links.specs.Words.{home-formal, target-formal}
-use Rattle.chain.proofs.Statements.{number-differs, number-same, call-is, call-refused, call-agreed}
+use Rattle.statements.specs.Pieces.{without-table}
+use Rattle.statements.specs.Words.{home-formal, target-formal}
+use Rattle.statements.specs.Doing.{number-differs, number-same, call-is, call-refused, call-agreed}
 use borrow.Author.Needs.{needs}
 use Rattle.chain.proofs.arms.do_call_formal.Statement.{statement}
 use Rattle.chain.proofs.arms.do_call_formal.Tie as tie

@@ -3,10 +3,10 @@ use Prim.Native.Nat.{_+_}
 use native.Mathlib.Omega.{arith}
 use mathlib.Core.Path.{_∙_}
 use lib.ListN.{getD}
-use Rattle.links.specs.Finding.{byChain}
-use Rattle.chain.specs.Finding.{only-words}
+use Rattle.links.specs.Finding.{firstCell, byChain}
+use Rattle.statements.specs.Pieces.{only-words}
 use Rattle.acting.specs.Acting.{Finding, Scene}
-use Rattle.chain.proofs.Statements.{direct-cell, constant-done}
+use Rattle.statements.specs.Doing.{direct-cell, constant-done}
 use borrow.Author.Needs.{needs}
 use Rattle.chain.proofs.arms.do_constant.Statement.{statement}
 use Rattle.chain.proofs.arms.do_constant.Tie as tie
@@ -29,7 +29,7 @@ scene s = only-words (s .args .code .now) (s .args .words .now) (s .args .at)
 returns : tie.Need-returns
 returns c =
     let s = c .before .before .before .before in
-    let t = direct-cell (s .args .words .now) (s .args .records .now) (s .args .live) (s .args .level) (getD (s .args .code .now) (s .args .at + 1) 0) (c .before .own-at .ensures) (s .pre .1) in
+    let t = direct-cell (s .args .words .now) (firstCell (s .args .records .now) (s .args .live) (s .args .level) (getD (s .args .code .now) (s .args .at + 1) 0)) (getD (s .args .code .now) (s .args .at + 1) 0) (c .before .own-at .ensures) (s .pre .1 .is) in
     let d = constant-done (way s) (scene s) t (c .constant .ensures .1) in
     (c .constant .ensures .0 ∙ d .0, d .1)
 

@@ -1,9 +1,9 @@
 -- `do_constant_formal` meets its contract.
 use mathlib.Core.Path.{_∙_}
 use Rattle.links.specs.Finding.{byChain}
-use Rattle.chain.specs.Finding.{only-words}
+use Rattle.statements.specs.Pieces.{only-words}
 use Rattle.acting.specs.Acting.{Finding, Scene}
-use Rattle.chain.proofs.Statements.{constant-done}
+use Rattle.statements.specs.Doing.{constant-done}
 use borrow.Author.Needs.{needs}
 use Rattle.chain.proofs.arms.do_constant_formal.Statement.{statement}
 use Rattle.chain.proofs.arms.do_constant_formal.Tie as tie

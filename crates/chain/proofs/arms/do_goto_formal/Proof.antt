@@ -3,10 +3,10 @@ use Prim.Native.Nat.{ℕ, _+_, _%_, _/_}
 use lib.ListN.{getD}
 use mathlib.Core.Path.{sym, ap, _∙_}
 use Rattle.links.specs.Finding.{firstCell, byChain}
-use Rattle.chain.specs.Finding.{only-words}
+use Rattle.statements.specs.Pieces.{only-words}
 use Rattle.acting.specs.Acting.{Finding, Scene}
-use Rattle.links.specs.Words.{home-formal, target-formal}
-use Rattle.chain.proofs.Statements.{goto-done}
+use Rattle.statements.specs.Words.{home-formal, target-formal}
+use Rattle.statements.specs.Doing.{goto-done}
 use borrow.Author.Needs.{needs}
 use Rattle.chain.proofs.arms.do_goto_formal.Statement.{statement}
 use Rattle.chain.proofs.arms.do_goto_formal.Tie as tie

@@ -2,9 +2,9 @@
 use mathlib.Core.Path.{_∙_}
 use Rattle.acting.specs.Acting.{Finding, Scene}
 use Rattle.links.specs.Finding.{byChain}
-use Rattle.chain.specs.Finding.{with-table}
-use Rattle.links.specs.Words.{read-back, read-value}
-use Rattle.chain.proofs.Statements.{query-gives, query-refuses}
+use Rattle.statements.specs.Pieces.{with-table}
+use Rattle.statements.specs.Words.{read-back, read-value}
+use Rattle.statements.specs.Doing.{query-gives, query-refuses}
 use borrow.Author.Needs.{needs}
 use Rattle.chain.proofs.arms.do_query.Statement.{statement}
 use Rattle.chain.proofs.arms.do_query.Tie as tie

@@ -5,8 +5,8 @@ use native.Mathlib.Omega.{arith}
 use lib.ListN.{getD}
 use Rattle.acting.specs.Acting.{Finding, Scene, setAll}
 use Rattle.links.specs.Finding.{byChain}
-use Rattle.chain.specs.Finding.{without-table}
-use Rattle.chain.proofs.Statements.{no-room, entered, arguments-alike}
+use Rattle.statements.specs.Pieces.{without-table}
+use Rattle.statements.specs.Doing.{no-room, entered, arguments-alike}
 use borrow.Author.Needs.{needs}
 use Rattle.chain.proofs.arms.enter_body.Statement.{statement}
 use Rattle.chain.proofs.arms.enter_body.Tie as tie

@@ -1,4 +1,4 @@
--- What each statement comes to, from what its function has done: the definitions of Acting by any way of finding names.
+-- What each statement comes to, from what its function has done: the definitions of Acting, by any way of finding names.
 use Prim.Native.Nat.{ℕ, zero, suc, _+_, _*_, _-_, _/_, _%_, _≤_, _<_}
 use native.Mathlib.Omega.{arith}
 use mathlib.Core.Bool.{Bool, true, false}
@@ -22,14 +22,17 @@ use Rattle.acting.specs.declared.Effect.the-variants.{Done, Stopped}
 use Rattle.acting.specs.declared.Move.{Move}
 use Rattle.acting.specs.declared.Move.the-variants.{On, Jump, Enter, Stop}
 use Rattle.acting.specs.Effects.{effectOf, wordsOf, sameKinds}
-use Rattle.acting.specs.Acting.{Finding, Scene, field, moves, rewrites, setAll, valueOf, doConstant, arithmeticMove, doArithmetic, operationOf, doGoto, doBranch, noRoom, argumentsFrom, doCall, argumentsAgree, doCallFormal, changes, doAdd, doRemove, answers, doQuery, tableNow}
+use Rattle.acting.specs.Acting.{Finding, Scene, field, moves, rewrites, setAll, valueOf, doConstant, arithmeticMove, doArithmetic, operationOf}
+use Rattle.acting.specs.Acting.{doGoto, doBranch, noRoom, argumentsFrom, doCall, argumentsAgree, doCallFormal, changes, doAdd, doRemove, answers}
+use Rattle.acting.specs.Acting.{doQuery, tableNow}
 use Rattle.pairs.specs.declared.Change.{Change}
 use Rattle.pairs.specs.declared.Query.{Query}
 use Rattle.pairs.specs.declared.Query.the-variants.{Value, Stopped as Refused}
 use Rattle.pairs.specs.Outcomes as outcomes
-use Rattle.links.specs.Finding.{firstCell, ownCell, byChain}
-use Rattle.chain.specs.Finding.{without-table, only-words, Direct, moveAfter, moveChanged, blockMove, enteredBy}
-use Rattle.links.specs.Words.{cell-direct}
+use Rattle.resolved.specs.Resolved.{direct, positionIn}
+use Rattle.arrays.specs.Found.{cellBy}
+use Rattle.statements.specs.Pieces.{without-table, only-words, moveAfter, moveChanged, blockMove, enteredBy}
+use Rattle.statements.specs.Words.{cell-direct}
 
 -- For any way of finding names
 
@@ -101,7 +104,9 @@ module _ (F : Finding) (s : Scene) where
   branch-goes p e = let f = same-test p e in rw (doBranch, f)
 
   -- CL
-  pub no-room : s .limits .activations ≤ s .live + 1 → (home body : ℕ) → (Stop NoActivationLeft ≡ enteredBy F s home body .move) × (s .words ≡ enteredBy F s home body .words)
+  pub no-room :
+      s .limits .activations ≤ s .live + 1 → (home body : ℕ) →
+      (Stop NoActivationLeft ≡ enteredBy F s home body .move) × (s .words ≡ enteredBy F s home body .words)
   unfolding enteredBy noRoom moves
   no-room h home body = let e = le-leb (s .limits .activations) (s .live + 1) h in (rw (enteredBy, e), rw (enteredBy, e))
 
@@ -121,11 +126,15 @@ module _ (F : Finding) (s : Scene) where
   unfolding argumentsAgree
   number-differs body d = rw (argumentsAgree, ne-eqb _ _ d)
 
-  pub number-same : (body : ℕ) → getD (s .code) body 0 / 65536 % 256 ≡ field s 2 → argumentsAgree F s body ≡ sameKinds (s .code) (s .at + 3) (body - 3 * field s 2) (field s 2)
+  pub number-same :
+      (body : ℕ) → getD (s .code) body 0 / 65536 % 256 ≡ field s 2 →
+      argumentsAgree F s body ≡ sameKinds (s .code) (s .at + 3) (body - 3 * field s 2) (field s 2)
   unfolding argumentsAgree
   number-same body e = rw (argumentsAgree, eq-eqb _ _ e)
 
-  pub call-refused : {body : ℕ} → body ≡ F .target (field s 1) → argumentsAgree F s body ≡ false → (Stop ArgumentsDiffer ≡ doCallFormal F s .move) × (s .words ≡ doCallFormal F s .words)
+  pub call-refused :
+      {body : ℕ} → body ≡ F .target (field s 1) → argumentsAgree F s body ≡ false →
+      (Stop ArgumentsDiffer ≡ doCallFormal F s .move) × (s .words ≡ doCallFormal F s .words)
   unfolding doCallFormal moves
   call-refused p e = let f = sym (ap (argumentsAgree F s) p) ∙ e in (rw (doCallFormal, f), rw (doCallFormal, f))
 
@@ -146,7 +155,8 @@ module _ (F : Finding) (s : Scene) where
 
   changed-by :
       (f : ℤ → ℤ → table.Effect) {a b : ℤ} {m : Move} {c : Change} {ws : List ℤ} →
-      a ≡ valueOf F s (field s 1) → b ≡ valueOf F s (field s 2) → m ≡ moveChanged c (s .at + 3) → c ≡ outcomes.changeOf (f a b) → ws ≡ outcomes.wordsAfter (s .table) (f a b) →
+      a ≡ valueOf F s (field s 1) → b ≡ valueOf F s (field s 2) → m ≡ moveChanged c (s .at + 3) → c ≡ outcomes.changeOf (f a b) → ws ≡ outcomes.wordsAfter (s .table)
+      (f a b) →
       (m ≡ changes F s (f (valueOf F s (field s 1)) (valueOf F s (field s 2))) .move) ×
       (ws ≡ changes F s (f (valueOf F s (field s 1)) (valueOf F s (field s 2))) .table)
   changed-by f {a} {b} p q m c ws =
@@ -157,7 +167,8 @@ module _ (F : Finding) (s : Scene) where
 
   pub add-done :
       {a b : ℤ} {m : Move} {c : Change} {ws : List ℤ} → a ≡ valueOf F s (field s 1) → b ≡ valueOf F s (field s 2) → m ≡ moveChanged c (s .at + 3) →
-      c ≡ outcomes.changeOf (table.added (s .limits .group) a b (tableNow F s)) → ws ≡ outcomes.wordsAfter (s .table) (table.added (s .limits .group) a b (tableNow F s)) →
+      c ≡ outcomes.changeOf (table.added (s .limits .group) a b (tableNow F s)) → ws ≡ outcomes.wordsAfter (s .table)
+      (table.added (s .limits .group) a b (tableNow F s)) →
       (m ≡ doAdd F s .move) × (ws ≡ doAdd F s .table)
   unfolding doAdd
   add-done = changed-by (λ (a b : ℤ). table.added (s .limits .group) a b (tableNow F s))
@@ -180,7 +191,8 @@ module _ (F : Finding) (s : Scene) where
   asked-refused (table.gives y) c e = let f : _≡_ {A = ℕ} 0 1 = cc in absurd (omega arith)
   asked-refused (table.refuses d) c e = cc
 
-  module _ {a b : ℤ} {q : Query} (p : a ≡ valueOf F s (field s 2)) (r : b ≡ valueOf F s (field s 3)) (e : q ≡ outcomes.valueOf (table.queried a b (tableNow F s))) where
+  module _ {a b : ℤ} {q : Query} (p : a ≡ valueOf F s (field s 2)) (r : b ≡ valueOf F s (field s 3))
+      (e : q ≡ outcomes.valueOf (table.queried a b (tableNow F s))) where
     abbrev asked : table.Asked
     asked = table.queried (valueOf F s (field s 2)) (valueOf F s (field s 3)) (tableNow F s)
 
@@ -199,10 +211,10 @@ module _ (F : Finding) (s : Scene) where
         let g : asked ≡ table.refuses c = asked-refused asked c (sym read ∙ f) in
         (sym (ap (λ (x : table.Asked). answers F s x .move) g), sym (ap (λ (x : table.Asked). answers F s x .words) g))
 
--- By the links
+-- A name that is no formal has its own cell
 
-pub direct-cell : (words : List ℤ) (records : List ℕ) (live level w : ℕ) {c : ℕ} → c ≡ ownCell records live level w → Direct words records live level w → c ≡ byChain words records live level .cell w
-direct-cell words records live level w p d = p ∙ sym (cell-direct words (firstCell records live level w) w (d .is))
+pub direct-cell : (words : List ℤ) (first w : ℕ) {c : ℕ} → c ≡ first + positionIn w → direct w ≡ true → c ≡ cellBy words first w
+direct-cell words first w p d = p ∙ sym (cell-direct words first w d)
 
 -- BK
 module _ (code : List ℕ) (limit live at : ℕ) where
@@ -246,7 +258,8 @@ module _ (F : Finding) (s : Scene) (ws : List ℤ) (first at count i : ℕ) wher
 
   pub arguments-next :
       i < count → {z : ℤ} → z ≡ F .handed (getD (s .code) (at + i) 0) →
-      setAll (set ws (first + i) z) (first + (i + 1)) (argumentsFrom F s (at + (i + 1)) (count - (i + 1))) ≡ setAll ws (first + i) (argumentsFrom F s (at + i) (count - i))
+      setAll (set ws (first + i) z) (first + (i + 1)) (argumentsFrom F s (at + (i + 1)) (count - (i + 1))) ≡ setAll ws (first + i)
+      (argumentsFrom F s (at + i) (count - i))
   unfolding setAll argumentsFrom
   arguments-next h p =
       let e : count - i ≡ suc (count - (i + 1)) = omega arith in
@@ -254,5 +267,7 @@ module _ (F : Finding) (s : Scene) (ws : List ℤ) (first at count i : ℕ) wher
       let f : first + (i + 1) ≡ first + i + 1 = omega arith in
       rw (p, a, f, e, argumentsFrom, setAll)
 
-pub kept-below : (ws vs : List ℤ) (first i : ℕ) (z : ℤ) → ((k : ℕ) → k < first → getD ws k (pos 0) ≡ getD vs k (pos 0)) → (k : ℕ) → k < first → getD (set ws (first + i) z) k (pos 0) ≡ getD vs k (pos 0)
+pub kept-below :
+    (ws vs : List ℤ) (first i : ℕ) (z : ℤ) → ((k : ℕ) → k < first → getD ws k (pos 0) ≡ getD vs k (pos 0)) → (k : ℕ) → k < first →
+    getD (set ws (first + i) z) k (pos 0) ≡ getD vs k (pos 0)
 kept-below ws vs first i z kept k h = getD-set-other ws (first + i) k z (pos 0) (λ e. omega arith) ∙ kept k h

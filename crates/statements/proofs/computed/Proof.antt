@@ -1,8 +1,8 @@
 -- `computed` meets its contract.
-use Rattle.chain.specs.Finding.{moveAfter}
+use Rattle.statements.specs.Pieces.{moveAfter}
 use borrow.Author.Needs.{needs}
-use Rattle.chain.proofs.arms.computed.Statement.{statement}
-use Rattle.chain.proofs.arms.computed.Tie as tie
+use Rattle.statements.proofs.computed.Statement.{statement}
+use Rattle.statements.proofs.computed.Tie as tie
 
 enum-told : tie.Need-enum-told
 enum-told c = search needs

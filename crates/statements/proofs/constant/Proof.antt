@@ -1,9 +1,9 @@
 -- `constant` meets its contract.
 use mathlib.Core.Path.{refl}
-use Rattle.links.specs.Words.{read-back}
+use Rattle.statements.specs.Words.{read-back}
 use borrow.Author.Needs.{needs}
-use Rattle.chain.proofs.arms.constant.Statement.{statement}
-use Rattle.chain.proofs.arms.constant.Tie as tie
+use Rattle.statements.proofs.constant.Statement.{statement}
+use Rattle.statements.proofs.constant.Tie as tie
 
 add-code-at : tie.Need-add-code-at
 add-code-at c = search needs

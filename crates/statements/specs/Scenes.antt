@@ -2,27 +2,23 @@
 -- the statement comes to the same, and what it does not look at stays: `constant-same` and so on, a law for each. `done`: so it is with `acting`.
 use Prim.Native.Nat.{ℕ, zero, suc, _+_, _/_}
 use native.Mathlib.Omega.{arith}
-use mathlib.Core.Bool.{Bool, true, false, _&&_}
+use mathlib.Core.Bool.{Bool, true, false}
 use mathlib.Core.List.{List, _∷_}
-use mathlib.Core.Path.{_≡_, refl, sym, ap, _∙_, subst}
-use lib.Dec.{eqb, leb}
+use mathlib.Core.Path.{_≡_, refl, sym, ap, ap₂, _∙_, subst}
+use lib.Dec.{leb}
 use lib.IntN.{ℤ, pos}
 use lib.ListN.{getD}
 use Rattle.language.specs.Basics.{eqZ}
 use Rattle.language.specs.Text.{Operation}
 use Rattle.language.specs.Table.{Effect, leaves, halts, Asked, gives, refuses, added, removed, queried}
 use Rattle.language.specs.Machine.{compute}
-use Rattle.resolved.specs.Resolved.{direct, targetIn}
-use Rattle.arrays.specs.Found.{homeBy, targetBy}
 use Rattle.acting.specs.declared.Effect.{Effect as Kept}
 use Rattle.acting.specs.declared.Effect.the-variants.{Done as Stored, Stopped as Refused}
 use Rattle.acting.specs.declared.Move.{Move}
 use Rattle.acting.specs.declared.Move.the-variants.{Jump}
-use Rattle.acting.specs.Effects.{effectOf, sameKinds}
+use Rattle.acting.specs.Effects.{effectOf}
 use Rattle.acting.specs.Acting.{Finding, Scene, Happened, moves, rewrites, valueOf, field, arithmeticMove, doConstant, doArithmetic, doGoto, doBranch, noRoom, doBlock, argumentsFrom, doCall, argumentsAgree, doCallFormal, changes, doAdd, doRemove, answers, doQuery, Op, opOf, happens, acting}
-use Rattle.links.specs.Finding.{firstCell, byChain}
-use Rattle.chain.specs.Finding.{without-table, only-words, with-table, blockMove}
-use Rattle.links.specs.Running.{sceneBy}
+use Rattle.statements.specs.Pieces.{without-table, only-words, with-table, blockMove}
 
 abbrev pub Done : Happened → Move → List ℤ → List ℤ → Type 0
 Done h r words table = (r ≡ h .move) × (words ≡ h .words) × (table ≡ h .table)
@@ -31,9 +27,30 @@ Done h r words table = (r ≡ h .move) × (words ≡ h .words) × (table ≡ h .
 abbrev pub Acted : Happened → Move → List ℤ → List ℤ → Type 0
 Acted h r words table = (r ≡ h .move) × ((words ≡ h .words) × (table ≡ h .table))
 
-module _ (F : Finding) (code : List ℕ) (words table : List ℤ) (pairs group limit live at : ℕ) where
-  abbrev s : Scene
-  s = sceneBy code words table pairs group limit live at
+module _ (F : Finding) (s : Scene) where
+  abbrev code : List ℕ
+  code = s .code
+
+  abbrev words : List ℤ
+  words = s .words
+
+  abbrev table : List ℤ
+  table = s .table
+
+  abbrev pairs : ℕ
+  pairs = s .pairs
+
+  abbrev group : ℕ
+  group = s .limits .group
+
+  abbrev limit : ℕ
+  limit = s .limits .activations
+
+  abbrev live : ℕ
+  live = s .live
+
+  abbrev at : ℕ
+  at = s .at
 
   abbrev o : Scene
   o = only-words code words at
@@ -47,7 +64,8 @@ module _ (F : Finding) (code : List ℕ) (words table : List ℤ) (pairs group l
       let z : at + 0 ≡ at = omega arith in
       ap (happens F s) (sym (ap (λ i. opOf (getD code i 0)) z ∙ e))
 
-  pub done : (p : Op) → opOf (getD code at 0) ≡ p → (r : Move) (words′ table′ : List ℤ) → Done (happens F s p) r words′ table′ → Acted (acting F s) r words′ table′
+  pub done : (p : Op) → opOf (getD code at 0) ≡ p → (r : Move) (words′ table′ : List ℤ) → Done (happens F s p) r words′ table′
+      → Acted (acting F s) r words′ table′
   done p e r words′ table′ h = subst (λ (x : Happened). Acted x r words′ table′) (acts p e) (h .0, (h .1, h .2))
 
   pub constant-same : (r : Move) (words′ : List ℤ) → r ≡ (doConstant F o) .move → words′ ≡ (doConstant F o) .words → Done (doConstant F s) r words′ table
@@ -59,7 +77,8 @@ module _ (F : Finding) (code : List ℕ) (words table : List ℤ) (pairs group l
   moved Stored = refl
   moved (Refused c) = refl
 
-  pub arithmetic-same : (f : Operation) (r : Move) (words′ : List ℤ) → r ≡ (doArithmetic F o f) .move → words′ ≡ (doArithmetic F o f) .words → Done (doArithmetic F s f) r words′ table
+  pub arithmetic-same : (f : Operation) (r : Move) (words′ : List ℤ) → r ≡ (doArithmetic F o f) .move → words′ ≡ (doArithmetic F o f) .words
+      → Done (doArithmetic F s f) r words′ table
   unfolding doArithmetic rewrites
   arithmetic-same f r words′ p q = (p ∙ moved (effectOf (compute f (valueOf F o (field o 3)) (valueOf F o (field o 4)))), q, refl)
 
@@ -96,7 +115,8 @@ module _ (F : Finding) (code : List ℕ) (words table : List ℤ) (pairs group l
       go true e = (p ∙ rw (e, doCall), q ∙ rw (e, doCall), rw (e, doCall))
       go false e = (p ∙ rw (e, doCall), q ∙ rw (e, doCall, arguments-alike), rw (e, doCall))
 
-  pub call-formal-same : (r : Move) (words′ : List ℤ) → r ≡ (doCallFormal F t) .move → words′ ≡ (doCallFormal F t) .words → Done (doCallFormal F s) r words′ table
+  pub call-formal-same : (r : Move) (words′ : List ℤ) → r ≡ (doCallFormal F t) .move → words′ ≡ (doCallFormal F t) .words
+      → Done (doCallFormal F s) r words′ table
   unfolding doCallFormal argumentsAgree moves
   call-formal-same r words′ p q = go (argumentsAgree F t (F .target (field t 1))) refl
     where
@@ -116,13 +136,15 @@ module _ (F : Finding) (code : List ℕ) (words table : List ℤ) (pairs group l
   changed-same g (leaves u) = (refl, refl, refl)
   changed-same g (halts c) = (refl, refl, refl)
 
-  pub add-same : (r : Move) (table′ : List ℤ) → r ≡ (doAdd F (with-group group)) .move → table′ ≡ (doAdd F (with-group group)) .table → Done (doAdd F s) r words table′
+  pub add-same : (r : Move) (table′ : List ℤ) → r ≡ (doAdd F (with-group group)) .move → table′ ≡ (doAdd F (with-group group)) .table
+      → Done (doAdd F s) r words table′
   unfolding doAdd
   add-same r table′ p q =
       let h = changed-same group (added group (valueOf F s (field s 1)) (valueOf F s (field s 2)) (record { words = table; used = pairs })) in
       (p ∙ h .0, h .1, q ∙ h .2)
 
-  pub remove-same : (r : Move) (table′ : List ℤ) → r ≡ (doRemove F (with-group 0)) .move → table′ ≡ (doRemove F (with-group 0)) .table → Done (doRemove F s) r words table′
+  pub remove-same : (r : Move) (table′ : List ℤ) → r ≡ (doRemove F (with-group 0)) .move → table′ ≡ (doRemove F (with-group 0)) .table
+      → Done (doRemove F s) r words table′
   unfolding doRemove
   remove-same r table′ p q =
       let h = changed-same 0 (removed (valueOf F s (field s 1)) (valueOf F s (field s 2)) (record { words = table; used = pairs })) in
@@ -133,24 +155,14 @@ module _ (F : Finding) (code : List ℕ) (words table : List ℤ) (pairs group l
   answered-same (gives z) = (refl, refl, refl)
   answered-same (refuses c) = (refl, refl, refl)
 
-  pub query-same : (r : Move) (words′ : List ℤ) → r ≡ (doQuery F (with-group 0)) .move → words′ ≡ (doQuery F (with-group 0)) .words → Done (doQuery F s) r words′ table
+  pub query-same : (r : Move) (words′ : List ℤ) → r ≡ (doQuery F (with-group 0)) .move → words′ ≡ (doQuery F (with-group 0)) .words
+      → Done (doQuery F s) r words′ table
   unfolding doQuery
   query-same r words′ p q =
       let h = answered-same (queried (valueOf F s (field s 2)) (valueOf F s (field s 3)) (record { words = table; used = pairs })) in
       (p ∙ h .0, q ∙ h .1, h .2)
 
--- a goto by a name that is no formal
-direct-home : (words : List ℤ) (first v : ℕ) → direct v ≡ true → first / 32 ≡ homeBy words first v
-unfolding homeBy
-direct-home words first v e = rw (homeBy, e)
-
-direct-target : (words : List ℤ) (first v : ℕ) → direct v ≡ true → targetIn v ≡ targetBy words first v
-unfolding targetBy
-direct-target words first v e = rw (targetBy, e)
-
-pub goto-direct : (code : List ℕ) (words table : List ℤ) (records : List ℕ) (level pairs group limit live at : ℕ) → direct (getD code (at + 1) 0) ≡ true → (r : Move)
-    → r ≡ Jump (firstCell records live level (getD code (at + 1) 0) / 32) (targetIn (getD code (at + 1) 0)) → Done (doGoto (byChain words records live level) (sceneBy code words table pairs group limit live at)) r words table
+-- a goto, from where its label is found
+pub goto-found : (F : Finding) (s : Scene) {home place : ℕ} → home ≡ F .home (field s 1) → place ≡ F .target (field s 1) → (r : Move) → r ≡ Jump home place → Done (doGoto F s) r (s .words) (s .table)
 unfolding doGoto moves
-goto-direct code words table records level pairs group limit live at e r p =
-    let v = getD code (at + 1) 0 in
-    (p ∙ (λ i. Jump (direct-home words (firstCell records live level v) v e i) (direct-target words (firstCell records live level v) v e i)), refl, refl)
+goto-found F s p q r e = (e ∙ ap₂ Jump p q, refl, refl)

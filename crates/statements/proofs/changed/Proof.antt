@@ -1,8 +1,8 @@
 -- `changed` meets its contract.
-use Rattle.chain.specs.Finding.{moveChanged}
+use Rattle.statements.specs.Pieces.{moveChanged}
 use borrow.Author.Needs.{needs}
-use Rattle.chain.proofs.arms.changed.Statement.{statement}
-use Rattle.chain.proofs.arms.changed.Tie as tie
+use Rattle.statements.proofs.changed.Statement.{statement}
+use Rattle.statements.proofs.changed.Tie as tie
 
 enum-known-change : tie.Need-enum-known-change
 enum-known-change c = search needs

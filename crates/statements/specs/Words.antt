@@ -71,6 +71,8 @@ module _ (words : List ℤ) (first w : ℕ) where
   unfolding heldBy designatorIn
   held-is e = ap designatorIn e
 
-  pub handed-is : (vs : List ℤ) → getD vs (first + positionIn w) (pos 0) ≡ getD words (first + positionIn w) (pos 0) → handedWord vs w (first + positionIn w) ≡ handedBy words first w
+  pub handed-is :
+      (vs : List ℤ) → getD vs (first + positionIn w) (pos 0) ≡ getD words (first + positionIn w) (pos 0) →
+      handedWord vs w (first + positionIn w) ≡ handedBy words first w
   unfolding handedWord handedBy
   handed-is vs e = ap (λ (z : ℤ). elim (direct w) as (λ b. ℤ) [ true ↦ pos (first + positionIn w + 8192 * targetIn w) | false ↦ z ]) e

@@ -1,9 +1,9 @@
 -- `do_block` meets its contract.
 use native.Mathlib.Omega.{arith}
-use Rattle.chain.proofs.Statements.{block-stops, block-enters}
+use Rattle.statements.specs.Doing.{block-stops, block-enters}
 use borrow.Author.Needs.{needs}
-use Rattle.chain.proofs.arms.do_block.Statement.{statement}
-use Rattle.chain.proofs.arms.do_block.Tie as tie
+use Rattle.statements.proofs.do_block.Statement.{statement}
+use Rattle.statements.proofs.do_block.Tie as tie
 
 add-if1 : tie.Need-add-if1
 add-if1 c = search needs
