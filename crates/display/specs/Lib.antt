@@ -1,7 +1,6 @@
 -- The display engine, in reading order.
 pub mod Finding
 pub mod Ready
-pub mod Scenes
 pub mod Turning
 pub mod Turns
 pub mod Looked

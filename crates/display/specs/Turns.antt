@@ -16,7 +16,7 @@ use Rattle.language.specs.declared.Stop.{Stop as Cause}
 use Rattle.moves.specs.declared.Now.{Now}
 use Rattle.display.specs.Finding.{byDisplay}
 use Rattle.moves.specs.Running.{limitsBy, sceneBy, Running, Doing, Succeeds, LeaveReady, JumpReady, EnterReady}
-use Rattle.display.specs.Scenes.{Acted}
+use Rattle.statements.specs.Scenes.{Acted}
 
 pub above-zero : (n : ℕ) → (n ≡ 0 → ⊥) → 1 ≤ n
 above-zero zero d = absurd (d refl)

@@ -31,7 +31,7 @@ pub fn act(
         3 => arms::do_compare(code, words, display, at),
         4 => arms::do_branch(code, words, display, at),
         5 => arms::do_goto(code, display, at),
-        6 => arms::do_block(code, limit, live, at),
+        6 => statements::do_block(code, limit, live, at),
         7 => arms::do_call(code, words, display, limit, live, at),
         8 => arms::do_add_pair(code, words, display, table, pairs, group, at),
         9 => arms::do_remove_pair(code, words, display, table, pairs, at),

@@ -9,6 +9,9 @@ use acting::Move;
 use language::Stop;
 use pairs::Change;
 use pairs::Query;
+use statements::changed;
+use statements::computed;
+use statements::constant;
 use stepping::code_at;
 ghost use mathlib.Core.Path.{_≡_};
 ghost use Prim.Native.Nat.{_+_, _*_, _<_, _≤_, _%_, _/_};
@@ -19,7 +22,8 @@ ghost use Rattle.language.specs.Text.{plus, minus, less};
 ghost use Rattle.resolved.specs.Resolved.{targetIn};
 ghost use Rattle.arrays.specs.Found.{cellBy, heldBy};
 ghost use Rattle.acting.specs.Acting.{arithmeticMove, doConstant, doArithmetic, operationOf, doGoto, doBranch, doBlock, doCall, doCallFormal, doAdd, doRemove, doQuery, argumentsFrom, setAll};
-ghost use Rattle.display.specs.Finding.{firstCell, ownCell, byDisplay, only-words, without-table, with-table, Reachable, Direct, ThroughFormal, ArgumentsReachable, FormalsBefore, enteredBy, blockMove, moveAfter, moveChanged};
+ghost use Rattle.statements.specs.Pieces.{only-words, without-table, with-table, FormalsBefore, enteredBy, blockMove, moveAfter, moveChanged};
+ghost use Rattle.display.specs.Finding.{firstCell, ownCell, byDisplay, Reachable, Direct, ThroughFormal, ArgumentsReachable};
 
 fn own_at(code: &[u32; 4096], display: &[u16; 256], place: usize) -> usize
     requires { ⌜ place < 4096 ⌝ }
@@ -33,15 +37,6 @@ fn cell_at(code: &[u32; 4096], words: &[i32; 8224], display: &[u16; 256], place:
     ensures { λ r. ⌜ r ≡ cellBy (now (words .entry)) (firstCell (now (display .entry)) (getD (now (code .entry)) place 0)) (getD (now (code .entry)) place 0) ⌝ }
 {
     cell(words, display, code_at(code, place))
-}
-
-// KN
-fn constant(code: &[u32; 4096], words: &mut [i32; 8224], target: usize, at: usize) -> Move
-    requires { ⌜ (target < 8192) × (at + 4 ≤ 4096) ⌝ }
-    ensures { λ r. ⌜ (r ≡ Move.On (at + 4)) × (now (words .exit) ≡ set (now (words .entry)) target (signed (getD (now (code .entry)) (at + 2) 0))) ⌝ }
-{
-    stepping::store(words, target, stepping::signed(code_at(code, at + 2)));
-    Move::On(at + 4)
 }
 
 pub fn do_constant(
@@ -68,17 +63,6 @@ pub fn do_constant_formal(
     ensures { λ _. ⌜ now (words .exit) ≡ (doConstant (byDisplay (now (words .entry)) (now (display .entry))) (only-words (now (code .entry)) (now (words .entry)) at)) .words ⌝ }
 {
     constant(code, words, cell_at(code, words, display, at + 1), at)
-}
-
-// AR
-fn computed(effect: Effect, at: usize) -> Move
-    requires { ⌜ at + 5 ≤ 4096 ⌝ }
-    ensures { λ r. ⌜ r ≡ moveAfter effect (at + 5) ⌝ }
-{
-    match effect {
-        Effect::Done => Move::On(at + 5),
-        Effect::Stopped(cause) => Move::Stop(cause),
-    }
 }
 
 pub fn do_add(code: &[u32; 4096], words: &mut [i32; 8224], display: &[u16; 256], at: usize) -> Move
@@ -216,17 +200,6 @@ pub fn do_branch_formal(
     do_goto_formal(code, words, display, at)
 }
 
-// BK: the new activation is linked to the innermost one.
-pub fn do_block(code: &[u32; 4096], limit: usize, live: usize, at: usize) -> Move
-    requires { ⌜ (at + 2 ≤ 4096) × (live ≤ 255) ⌝ }
-    ensures { λ r. ⌜ r ≡ blockMove (now (code .entry)) limit live at ⌝ }
-{
-    if limit <= live + 1 {
-        return Move::Stop(Stop::NoActivationLeft);
-    }
-    Move::Enter(at, live, code_at(code, at + 1) % 65536)
-}
-
 // What the arguments hand on goes to the first cells of the next activation.
 fn arguments(
     code: &[u32; 4096],
@@ -341,17 +314,6 @@ pub fn do_call_formal(
         procedure % 8192 / 32,
         body,
     )
-}
-
-// AD and RM
-fn changed(change: Change, at: usize) -> Move
-    requires { ⌜ at + 3 ≤ 4096 ⌝ }
-    ensures { λ r. ⌜ r ≡ moveChanged change (at + 3) ⌝ }
-{
-    match change {
-        Change::Done(pairs) => Move::Pairs(at + 3, pairs),
-        Change::Stopped(cause) => Move::Stop(cause),
-    }
 }
 
 pub fn do_add_pair(

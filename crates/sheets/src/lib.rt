@@ -149,7 +149,7 @@ fn write_names(
 }
 
 // One activation from `at` on; what comes behind it.
-fn write_activation(
+pub fn write_activation(
     code: &[u32; 4096],
     words: &[i32; 8224],
     block: usize,

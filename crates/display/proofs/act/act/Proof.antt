@@ -8,10 +8,12 @@ use lib.ListN.{getD}
 use Rattle.language.specs.Text.{plus, minus, less}
 use Rattle.acting.specs.declared.Move.{Move}
 use Rattle.acting.specs.Acting.{Finding, Scene, Op, constant-op, add-op, subtract-op, compare-op, branch-op, goto-op, block-op, call-op, pair-op, unpair-op, query-op, constant-formal-op, arithmetic-formal-op, branch-formal-op, goto-formal-op, call-formal-op, operationOf, operations, opOf, happens, acting}
-use Rattle.display.specs.Finding.{byDisplay}
+use Rattle.display.specs.Finding.{firstCell, byDisplay}
 use Rattle.moves.specs.Running.{sceneBy}
-use Rattle.display.specs.Ready.{op-of, last-op, ready, at-there}
-use Rattle.display.specs.Scenes.{Done, Acted, done, constant-same, arithmetic-same, goto-same, branch-same, block-same, call-same, call-formal-same, add-same, remove-same, query-same, goto-direct}
+use Rattle.display.specs.Ready.{ready, at-there}
+use Rattle.statements.specs.Words.{home-direct, target-direct}
+use Rattle.statements.specs.Numbers.{op-of, last-op}
+use Rattle.statements.specs.Scenes.{Done, Acted, done, constant-same, arithmetic-same, goto-same, branch-same, block-same, call-same, call-formal-same, add-same, remove-same, query-same, goto-found}
 use Rattle.display.proofs.act.act.Statement.{statement}
 use Rattle.display.proofs.act.act.Tie as tie
 
@@ -37,6 +39,13 @@ F s = byDisplay (s .args .words .now) (s .args .display .now)
 abbrev scene : tie.Start → Scene
 scene s = sceneBy (s .args .code .now) (s .args .words .now) (s .args .table .now) (s .args .pairs) (s .args .group) (s .args .limit)
     (s .args .live) (s .args .at)
+
+-- a goto's label
+abbrev word : tie.Start → ℕ
+word s = getD (s .args .code .now) (s .args .at + 1) 0
+
+abbrev first : tie.Start → ℕ
+first s = firstCell (s .args .display .now) (word s)
 
 acted : (s : tie.Start) (p : Op) → opOf (getD (s .args .code .now) (s .args .at) 0) ≡ p → (r : Move) (words′ table′ : List ℤ)
     → Done (happens (F s) (scene s) p) r words′ table′ → Acted (acting (F s) (scene s)) r words′ table′
@@ -151,9 +160,10 @@ unfolding operations happens
 returns-6 c =
     let s = c .before .before .before in
     let e = op (c .before .before) 5 (c .before .match .keys6) in
+    let d = (ready (s .pre) goto-op e) .1 .is in
     acted s goto-op e (c .do-goto .result) (s .args .words .now) (s .args .table .now)
-    (goto-direct (s .args .code .now) (s .args .words .now) (s .args .table .now) (s .args .display .now) (s .args .pairs) (s .args .group)
-    (s .args .limit) (s .args .live) (s .args .at) ((ready (s .pre) goto-op e) .1 .is) (c .do-goto .result) (c .do-goto .ensures))
+    (goto-found (F s) (scene s) (sym (home-direct (s .args .words .now) (first s) (word s) d)) (sym (target-direct (s .args .words .now) (first s) (word s) d))
+    (c .do-goto .result) (c .do-goto .ensures))
 
 returns-7 : tie.Need-returns-7
 unfolding operations happens

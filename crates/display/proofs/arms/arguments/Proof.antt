@@ -7,9 +7,10 @@ use native.Mathlib.Omega.{arith}
 use lib.IntN.{pos}
 use lib.ListN.{getD}
 use Rattle.acting.specs.Acting.{argumentsFrom, setAll}
-use Rattle.display.specs.Finding.{firstCell, ownCell, byDisplay, only-words}
-use Rattle.display.proofs.Found.{read-back, handed-is}
-use Rattle.display.proofs.Statements.{arguments-end, arguments-next, kept-below}
+use Rattle.statements.specs.Pieces.{only-words}
+use Rattle.display.specs.Finding.{firstCell, ownCell, byDisplay}
+use Rattle.statements.specs.Words.{read-back, handed-is}
+use Rattle.statements.specs.Doing.{arguments-end, arguments-next, kept-below}
 use Rattle.display.proofs.arms.arguments.Statement.{statement}
 use Rattle.display.proofs.arms.arguments.Tie as tie
 

@@ -1,8 +1,9 @@
 -- `do_add_pair` meets its contract.
 use Rattle.acting.specs.Acting.{Finding, Scene}
-use Rattle.display.specs.Finding.{byDisplay, with-table}
-use Rattle.display.proofs.Found.{read-value}
-use Rattle.display.proofs.Statements.{add-done}
+use Rattle.statements.specs.Pieces.{with-table}
+use Rattle.display.specs.Finding.{byDisplay}
+use Rattle.statements.specs.Words.{read-value}
+use Rattle.statements.specs.Doing.{add-done}
 use borrow.Author.Needs.{needs}
 use Rattle.display.proofs.arms.do_add_pair.Statement.{statement}
 use Rattle.display.proofs.arms.do_add_pair.Tie as tie

@@ -1,9 +1,10 @@
 -- `do_arithmetic_formal` meets its contract.
 use mathlib.Core.Path.{sym, _∙_}
 use Rattle.language.specs.Text.{plus, minus}
-use Rattle.display.specs.Finding.{byDisplay, only-words}
+use Rattle.statements.specs.Pieces.{only-words}
+use Rattle.display.specs.Finding.{byDisplay}
 use Rattle.acting.specs.Acting.{Finding, Scene}
-use Rattle.display.proofs.Statements.{is-plus, is-minus, is-less, arithmetic-done, compare-done}
+use Rattle.statements.specs.Doing.{is-plus, is-minus, is-less, arithmetic-done, compare-done}
 use borrow.Author.Needs.{needs}
 use Rattle.display.proofs.arms.do_arithmetic_formal.Statement.{statement}
 use Rattle.display.proofs.arms.do_arithmetic_formal.Tie as tie

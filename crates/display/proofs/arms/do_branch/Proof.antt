@@ -2,10 +2,11 @@
 use Prim.Native.Nat.{ℕ, _+_}
 use lib.ListN.{getD}
 use mathlib.Core.Path.{_≡_, sym, _∙_}
-use Rattle.display.specs.Finding.{firstCell, byDisplay, only-words}
+use Rattle.statements.specs.Pieces.{only-words}
+use Rattle.display.specs.Finding.{firstCell, byDisplay}
 use Rattle.acting.specs.Acting.{Finding, Scene}
-use Rattle.display.proofs.Found.{is-zero, not-zero, home-direct, target-direct}
-use Rattle.display.proofs.Statements.{direct-cell, goto-done, branch-not, branch-goes}
+use Rattle.statements.specs.Words.{is-zero, not-zero, home-direct, target-direct}
+use Rattle.statements.specs.Doing.{direct-cell, goto-done, branch-not, branch-goes}
 use borrow.Author.Needs.{needs}
 use Rattle.display.proofs.arms.do_branch.Statement.{statement}
 use Rattle.display.proofs.arms.do_branch.Tie as tie
@@ -35,7 +36,7 @@ abbrev word : (s : tie.Start) → ℕ → ℕ
 word s i = getD (s .args .code .now) (s .args .at + i) 0
 
 tested : (c : tie.After-own-at) → c .own-at .result ≡ way (c .before) .cell (word (c .before) 2)
-tested c = let s = c .before in direct-cell (s .args .words .now) (s .args .display .now) (word s 2) (c .own-at .ensures) (s .pre .1 .1)
+tested c = let s = c .before in direct-cell (s .args .words .now) (firstCell (s .args .display .now) (word s 2)) (word s 2) (c .own-at .ensures) (s .pre .1 .1 .is)
 
 returns : tie.Need-returns
 returns c =

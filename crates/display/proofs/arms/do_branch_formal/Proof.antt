@@ -6,10 +6,11 @@ use mathlib.Core.Path.{_≡_, sym, ap, _∙_}
 use native.Mathlib.Omega.{arith}
 use Rattle.resolved.specs.Resolved.{direct}
 use Rattle.acting.specs.Acting.{doGoto, doBranch}
-use Rattle.display.specs.Finding.{firstCell, byDisplay, only-words}
+use Rattle.statements.specs.Pieces.{only-words}
+use Rattle.display.specs.Finding.{firstCell, byDisplay}
 use Rattle.acting.specs.Acting.{Finding, Scene}
-use Rattle.display.proofs.Found.{is-zero, not-zero, is-direct, is-formal, home-direct, target-direct}
-use Rattle.display.proofs.Statements.{goto-done, branch-not, branch-goes}
+use Rattle.statements.specs.Words.{is-zero, not-zero, is-direct, is-formal, home-direct, target-direct}
+use Rattle.statements.specs.Doing.{goto-done, branch-not, branch-goes}
 use borrow.Author.Needs.{needs}
 use Rattle.display.proofs.arms.do_branch_formal.Statement.{statement}
 use Rattle.display.proofs.arms.do_branch_formal.Tie as tie

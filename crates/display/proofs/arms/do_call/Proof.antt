@@ -3,9 +3,10 @@ use Prim.Native.Nat.{ℕ, _+_, _/_}
 use mathlib.Core.Path.{sym, ap, _∙_}
 use lib.ListN.{getD}
 use Rattle.acting.specs.Acting.{Finding, Scene, Happened}
-use Rattle.display.specs.Finding.{firstCell, byDisplay, without-table}
-use Rattle.display.proofs.Found.{home-direct, target-direct}
-use Rattle.display.proofs.Statements.{call-is}
+use Rattle.statements.specs.Pieces.{without-table}
+use Rattle.display.specs.Finding.{firstCell, byDisplay}
+use Rattle.statements.specs.Words.{home-direct, target-direct}
+use Rattle.statements.specs.Doing.{call-is}
 use borrow.Author.Needs.{needs}
 use Rattle.display.proofs.arms.do_call.Statement.{statement}
 use Rattle.display.proofs.arms.do_call.Tie as tie

@@ -7,9 +7,10 @@ use borrow.Author.Tests.{not-true, not-false}
 use lib.ListN.{getD}
 use Rattle.arrays.specs.Found.{heldBy}
 use Rattle.acting.specs.Acting.{Finding, Scene, Happened, argumentsAgree}
-use Rattle.display.specs.Finding.{firstCell, byDisplay, without-table}
-use Rattle.display.proofs.Found.{home-formal, target-formal}
-use Rattle.display.proofs.Statements.{number-differs, number-same, call-is, call-refused, call-agreed}
+use Rattle.statements.specs.Pieces.{without-table}
+use Rattle.display.specs.Finding.{firstCell, byDisplay}
+use Rattle.statements.specs.Words.{home-formal, target-formal}
+use Rattle.statements.specs.Doing.{number-differs, number-same, call-is, call-refused, call-agreed}
 use borrow.Author.Needs.{needs}
 use Rattle.display.proofs.arms.do_call_formal.Statement.{statement}
 use Rattle.display.proofs.arms.do_call_formal.Tie as tie

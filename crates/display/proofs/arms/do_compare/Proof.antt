@@ -1,9 +1,10 @@
 -- `do_compare` meets its contract.
 use Prim.Native.Nat.{ℕ, _+_}
 use lib.ListN.{getD}
-use Rattle.display.specs.Finding.{byDisplay, only-words}
+use Rattle.statements.specs.Pieces.{only-words}
+use Rattle.display.specs.Finding.{firstCell, byDisplay}
 use Rattle.acting.specs.Acting.{Finding, Scene}
-use Rattle.display.proofs.Statements.{direct-cell, compare-done}
+use Rattle.statements.specs.Doing.{direct-cell, compare-done}
 use borrow.Author.Needs.{needs}
 use Rattle.display.proofs.arms.do_compare.Statement.{statement}
 use Rattle.display.proofs.arms.do_compare.Tie as tie
@@ -47,9 +48,9 @@ returns c =
     let s = names .before .before .before in
     let ws = s .args .words .now in
     let d = s .args .display .now in
-    let t = direct-cell ws d (word s 1) (names .before .before .own-at .ensures) (s .pre .1 .0) in
-    let l = direct-cell ws d (word s 3) (names .before .own-at2 .ensures) (s .pre .1 .1 .0) in
-    let r = direct-cell ws d (word s 4) (names .own-at3 .ensures) (s .pre .1 .1 .1) in
+    let t = direct-cell ws (firstCell d (word s 1)) (word s 1) (names .before .before .own-at .ensures) (s .pre .1 .0 .is) in
+    let l = direct-cell ws (firstCell d (word s 3)) (word s 3) (names .before .own-at2 .ensures) (s .pre .1 .1 .0 .is) in
+    let r = direct-cell ws (firstCell d (word s 4)) (word s 4) (names .own-at3 .ensures) (s .pre .1 .1 .1 .is) in
     compare-done (way s) (scene s) t l r (c .compare .ensures)
 
 pub do-compare-spec : {M : Type 1} → statement M

@@ -2,9 +2,10 @@
 use Prim.Native.Nat.{_+_}
 use mathlib.Core.Path.{_∙_}
 use lib.ListN.{getD}
-use Rattle.display.specs.Finding.{byDisplay, only-words}
+use Rattle.statements.specs.Pieces.{only-words}
+use Rattle.display.specs.Finding.{firstCell, byDisplay}
 use Rattle.acting.specs.Acting.{Finding, Scene}
-use Rattle.display.proofs.Statements.{direct-cell, constant-done}
+use Rattle.statements.specs.Doing.{direct-cell, constant-done}
 use borrow.Author.Needs.{needs}
 use Rattle.display.proofs.arms.do_constant.Statement.{statement}
 use Rattle.display.proofs.arms.do_constant.Tie as tie
@@ -27,7 +28,7 @@ scene s = only-words (s .args .code .now) (s .args .words .now) (s .args .at)
 returns : tie.Need-returns
 returns c =
     let s = c .before .before .before in
-    let t = direct-cell (s .args .words .now) (s .args .display .now) (getD (s .args .code .now) (s .args .at + 1) 0) (c .before .own-at .ensures) (s .pre .1) in
+    let t = direct-cell (s .args .words .now) (firstCell (s .args .display .now) (getD (s .args .code .now) (s .args .at + 1) 0)) (getD (s .args .code .now) (s .args .at + 1) 0) (c .before .own-at .ensures) (s .pre .1 .is) in
     let d = constant-done (way s) (scene s) t (c .constant .ensures .1) in
     (c .constant .ensures .0 ∙ d .0, d .1)
 

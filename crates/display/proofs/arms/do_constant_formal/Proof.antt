@@ -1,8 +1,9 @@
 -- `do_constant_formal` meets its contract.
 use mathlib.Core.Path.{_∙_}
-use Rattle.display.specs.Finding.{byDisplay, only-words}
+use Rattle.statements.specs.Pieces.{only-words}
+use Rattle.display.specs.Finding.{byDisplay}
 use Rattle.acting.specs.Acting.{Finding, Scene}
-use Rattle.display.proofs.Statements.{constant-done}
+use Rattle.statements.specs.Doing.{constant-done}
 use borrow.Author.Needs.{needs}
 use Rattle.display.proofs.arms.do_constant_formal.Statement.{statement}
 use Rattle.display.proofs.arms.do_constant_formal.Tie as tie

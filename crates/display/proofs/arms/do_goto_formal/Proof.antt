@@ -2,10 +2,11 @@
 use Prim.Native.Nat.{ℕ, _+_, _%_, _/_}
 use lib.ListN.{getD}
 use mathlib.Core.Path.{sym, ap, _∙_}
-use Rattle.display.specs.Finding.{firstCell, byDisplay, only-words}
+use Rattle.statements.specs.Pieces.{only-words}
+use Rattle.display.specs.Finding.{firstCell, byDisplay}
 use Rattle.acting.specs.Acting.{Finding, Scene}
-use Rattle.display.proofs.Found.{home-formal, target-formal}
-use Rattle.display.proofs.Statements.{goto-done}
+use Rattle.statements.specs.Words.{home-formal, target-formal}
+use Rattle.statements.specs.Doing.{goto-done}
 use borrow.Author.Needs.{needs}
 use Rattle.display.proofs.arms.do_goto_formal.Statement.{statement}
 use Rattle.display.proofs.arms.do_goto_formal.Tie as tie

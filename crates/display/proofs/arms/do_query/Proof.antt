@@ -1,9 +1,10 @@
 -- `do_query` meets its contract.
 use mathlib.Core.Path.{_∙_}
 use Rattle.acting.specs.Acting.{Finding, Scene}
-use Rattle.display.specs.Finding.{byDisplay, with-table}
-use Rattle.display.proofs.Found.{read-back, read-value}
-use Rattle.display.proofs.Statements.{query-gives, query-refuses}
+use Rattle.statements.specs.Pieces.{with-table}
+use Rattle.display.specs.Finding.{byDisplay}
+use Rattle.statements.specs.Words.{read-back, read-value}
+use Rattle.statements.specs.Doing.{query-gives, query-refuses}
 use borrow.Author.Needs.{needs}
 use Rattle.display.proofs.arms.do_query.Statement.{statement}
 use Rattle.display.proofs.arms.do_query.Tie as tie

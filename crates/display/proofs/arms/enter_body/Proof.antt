@@ -4,8 +4,9 @@ use mathlib.Core.Path.{ap, _∙_}
 use native.Mathlib.Omega.{arith}
 use lib.ListN.{getD}
 use Rattle.acting.specs.Acting.{Finding, Scene, setAll}
-use Rattle.display.specs.Finding.{byDisplay, without-table}
-use Rattle.display.proofs.Statements.{no-room, entered, arguments-alike}
+use Rattle.statements.specs.Pieces.{without-table}
+use Rattle.display.specs.Finding.{byDisplay}
+use Rattle.statements.specs.Doing.{no-room, entered, arguments-alike}
 use borrow.Author.Needs.{needs}
 use Rattle.display.proofs.arms.enter_body.Statement.{statement}
 use Rattle.display.proofs.arms.enter_body.Tie as tie

@@ -2,7 +2,7 @@
 use Prim.Native.Nat.{ℕ, _%_}
 use mathlib.Core.Path.{sym, ap, _∙_}
 use Rattle.display.specs.Finding.{firstCell}
-use Rattle.display.proofs.Found.{is-direct, is-formal, cell-direct, cell-formal}
+use Rattle.statements.specs.Words.{is-direct, is-formal, cell-direct, cell-formal}
 use borrow.Author.Needs.{needs}
 use Rattle.display.proofs.names.cell.Statement.{statement}
 use Rattle.display.proofs.names.cell.Tie as tie

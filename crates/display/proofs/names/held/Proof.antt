@@ -1,7 +1,7 @@
 -- `held` meets its contract.
 use mathlib.Core.Path.{sym}
 use Rattle.display.specs.Finding.{firstCell}
-use Rattle.display.proofs.Found.{read-back, held-is}
+use Rattle.statements.specs.Words.{read-back, held-is}
 use borrow.Author.Needs.{needs}
 use Rattle.display.proofs.names.held.Statement.{statement}
 use Rattle.display.proofs.names.held.Tie as tie

@@ -1,0 +1,48 @@
+-- `do_call` meets its contract.
+use Prim.Native.Nat.{ℕ, _+_, _/_}
+use mathlib.Core.Path.{sym, ap, _∙_}
+use lib.ListN.{getD}
+use Rattle.acting.specs.Acting.{Finding, Scene, Happened}
+use Rattle.links.specs.Finding.{firstCell, byChain}
+use Rattle.statements.specs.Pieces.{without-table}
+use Rattle.statements.specs.Words.{home-direct, target-direct}
+use Rattle.statements.specs.Doing.{call-is}
+use borrow.Author.Needs.{needs}
+use Rattle.chain.proofs.arms.do_call.Statement.{statement}
+use Rattle.chain.proofs.arms.do_call.Tie as tie
+
+add-code-at : tie.Need-add-code-at
+add-code-at c = search needs
+
+code-at-requires : tie.Need-code-at-requires
+code-at-requires c κs = search needs
+
+first-cell-requires : tie.Need-first-cell-requires
+first-cell-requires c κs = rw (c .code-at .ensures .0) (c .before .before .pre .4 .reachable .seen)
+
+enter-body-requires : tie.Need-enter-body-requires
+enter-body-requires c κs = search needs
+
+abbrev way : tie.Start → Finding
+way s = byChain (s .args .words .now) (s .args .records .now) (s .args .live) (s .args .level)
+
+abbrev scene : tie.Start → Scene
+scene s = without-table (s .args .code .now) (s .args .words .now) (s .args .limit) (s .args .live) (s .args .at)
+
+returns : tie.Need-returns
+returns c =
+    let k = c .before .before .before in
+    let s = k .before .before in
+    let ws = s .args .words .now in
+    let w = getD (s .args .code .now) (s .args .at + 1) 0 in
+    let first = firstCell (s .args .records .now) (s .args .live) (s .args .level) w in
+    let f = rw (k .code-at .ensures .0) at (c .before .before .first-cell .ensures .0) in
+    let home = ap (λ (n : ℕ). n / 32) f ∙ sym (home-direct ws first w (s .pre .4 .is)) in
+    let body = ap (λ (n : ℕ). n / 65536) (k .code-at .ensures .0) ∙ sym (target-direct ws first w (s .pre .4 .is)) in
+    let p = call-is (way s) (scene s) home body in
+    (c .enter-body .ensures .0 ∙ ap (λ (h : Happened). h .move) p, c .enter-body .ensures .1 ∙ ap (λ (h : Happened). h .words) p)
+
+pub do-call-spec : {M : Type 1} → statement M
+do-call-spec =
+    tie.close
+    (tie.spec add-code-at code-at-requires first-cell-requires enter-body-requires returns)

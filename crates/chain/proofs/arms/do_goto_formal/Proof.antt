@@ -1,0 +1,42 @@
+-- `do_goto_formal` meets its contract.
+use Prim.Native.Nat.{ℕ, _+_, _%_, _/_}
+use lib.ListN.{getD}
+use mathlib.Core.Path.{sym, ap, _∙_}
+use Rattle.links.specs.Finding.{firstCell, byChain}
+use Rattle.statements.specs.Pieces.{only-words}
+use Rattle.acting.specs.Acting.{Finding, Scene}
+use Rattle.statements.specs.Words.{home-formal, target-formal}
+use Rattle.statements.specs.Doing.{goto-done}
+use borrow.Author.Needs.{needs}
+use Rattle.chain.proofs.arms.do_goto_formal.Statement.{statement}
+use Rattle.chain.proofs.arms.do_goto_formal.Tie as tie
+
+add-code-at : tie.Need-add-code-at
+add-code-at c = search needs
+
+code-at-requires : tie.Need-code-at-requires
+code-at-requires c κs = search needs
+
+held-requires : tie.Need-held-requires
+held-requires c κs = rw (c .code-at .ensures .0) (c .before .before .pre .1)
+
+abbrev way : tie.Start → Finding
+way s = byChain (s .args .words .now) (s .args .records .now) (s .args .live) (s .args .level)
+
+abbrev scene : tie.Start → Scene
+scene s = only-words (s .args .code .now) (s .args .words .now) (s .args .at)
+
+abbrev word : (s : tie.Start) → ℕ → ℕ
+word s i = getD (s .args .code .now) (s .args .at + i) 0
+
+returns : tie.Need-returns
+returns c =
+    let s = c .before .before .before in
+    let ws = s .args .words .now in
+    let w = word s 1 in
+    let first = firstCell (s .args .records .now) (s .args .live) (s .args .level) w in
+    let h = rw (c .before .code-at .ensures .0) at (c .held .ensures .0) in
+    goto-done (way s) (scene s) (ap (λ (n : ℕ). n % 8192 / 32) h ∙ sym (home-formal ws first w (s .pre .1 .is))) (ap (λ (n : ℕ). n / 8192) h ∙ sym (target-formal ws first w (s .pre .1 .is)))
+
+pub do-goto-formal-spec : {M : Type 1} → statement M
+do-goto-formal-spec = tie.close (tie.spec add-code-at code-at-requires held-requires returns)

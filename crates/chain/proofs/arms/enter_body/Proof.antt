@@ -1,0 +1,65 @@
+-- `enter_body` meets its contract.
+use Prim.Native.Nat.{_+_, _*_}
+use mathlib.Core.Path.{ap, _∙_}
+use native.Mathlib.Omega.{arith}
+use lib.ListN.{getD}
+use Rattle.acting.specs.Acting.{Finding, Scene, setAll}
+use Rattle.links.specs.Finding.{byChain}
+use Rattle.statements.specs.Pieces.{without-table}
+use Rattle.statements.specs.Doing.{no-room, entered, arguments-alike}
+use borrow.Author.Needs.{needs}
+use Rattle.chain.proofs.arms.enter_body.Statement.{statement}
+use Rattle.chain.proofs.arms.enter_body.Tie as tie
+
+add-if1 : tie.Need-add-if1
+add-if1 c = search needs
+
+abbrev way : tie.Start → Finding
+way s = byChain (s .args .words .now) (s .args .records .now) (s .args .live) (s .args .level)
+
+abbrev scene : tie.Start → Scene
+scene s = without-table (s .args .code .now) (s .args .words .now) (s .args .limit) (s .args .live) (s .args .at)
+
+returns : tie.Need-returns
+returns c = let s = c .before .before in no-room (way s) (scene s) (c .if1 .taken) (s .args .home) (s .args .body)
+
+add-code-at : tie.Need-add-code-at
+add-code-at c = search needs
+
+code-at-requires : tie.Need-code-at-requires
+code-at-requires c κs = search needs
+
+add-arguments : tie.Need-add-arguments
+add-arguments c = search needs
+
+arguments-requires : tie.Need-arguments-requires
+arguments-requires c κs = (omega arith, rw (c .before .code-at .ensures .0) (c .before .before .before .before .pre .3))
+
+add-t11 : tie.Need-add-t11
+add-t11 c = search needs
+
+add-t16 : tie.Need-add-t16
+add-t16 c = search needs
+
+returns-2 : tie.Need-returns-2
+returns-2 c =
+    let k = c .before .before .code-at .ensures .0 in
+    let s = c .before .before .before .before .before in
+    let a = s .args in
+    let d = entered (way s) (scene s) (omega arith) (a .home) (a .body) in
+    let same = arguments-alike (way s) (a .code .now) (a .words .now) (a .limit) (a .live) (a .at + 3) (a .at) (a .at + 3) (getD (a .code .now) (a .at + 2) 0) in
+    (rw k (d .0), (rw k at (c .arguments .ensures)) ∙ ap (setAll (a .words .now) (32 * a .live + 32)) same ∙ d .1)
+
+pub enter-body-spec : {M : Type 1} → statement M
+enter-body-spec =
+    tie.close
+    (tie.spec
+    add-if1
+    returns
+    add-code-at
+    code-at-requires
+    add-arguments
+    arguments-requires
+    add-t11
+    add-t16
+    returns-2)

@@ -1,0 +1,46 @@
+// The statement at a place is done as far as words and table go; where the run goes on is the answer.
+use super::arms;
+use acting::Move;
+use stepping::code_at;
+ghost use mathlib.Core.Path.{_≡_};
+ghost use Rattle.acting.specs.Acting.{acting};
+ghost use Rattle.links.specs.Finding.{byChain};
+ghost use Rattle.links.specs.Running.{sceneBy, Doing};
+
+pub fn act(
+    code: &[u32; 4096],
+    words: &mut [i32; 8224],
+    records: &[u32],
+    table: &mut [i32],
+    pairs: usize,
+    group: u32,
+    limit: usize,
+    live: usize,
+    level: usize,
+    at: usize,
+) -> Move
+    requires { ⌜ Doing (now code) (now words) (now records) (now table) pairs group limit live level at ⌝ }
+    ensures { λ r. ⌜ r ≡ (acting (byChain (now (words .entry)) (now (records .entry)) live level) (sceneBy (now (code .entry)) (now (words .entry)) (now (table .entry)) pairs group limit live at)) .move ⌝ }
+    ensures { λ _. ⌜ now (words .exit) ≡ (acting (byChain (now (words .entry)) (now (records .entry)) live level) (sceneBy (now (code .entry)) (now (words .entry)) (now (table .entry)) pairs group limit live at)) .words ⌝ }
+    ensures { λ _. ⌜ now (table .exit) ≡ (acting (byChain (now (words .entry)) (now (records .entry)) live level) (sceneBy (now (code .entry)) (now (words .entry)) (now (table .entry)) pairs group limit live at)) .table ⌝ }
+{
+    let operation = code_at(code, at) % 16;
+    match operation {
+        0 => arms::do_constant(code, words, records, live, level, at),
+        1 => arms::do_add(code, words, records, live, level, at),
+        2 => arms::do_subtract(code, words, records, live, level, at),
+        3 => arms::do_compare(code, words, records, live, level, at),
+        4 => arms::do_branch(code, words, records, live, level, at),
+        5 => arms::do_goto(code, records, live, level, at),
+        6 => statements::do_block(code, limit, live, at),
+        7 => arms::do_call(code, words, records, live, level, limit, at),
+        8 => arms::do_add_pair(code, words, records, live, level, table, pairs, group, at),
+        9 => arms::do_remove_pair(code, words, records, live, level, table, pairs, at),
+        10 => arms::do_query(code, words, records, live, level, table, pairs, at),
+        11 => arms::do_constant_formal(code, words, records, live, level, at),
+        12 => arms::do_arithmetic_formal(code, words, records, live, level, at),
+        13 => arms::do_branch_formal(code, words, records, live, level, at),
+        14 => arms::do_goto_formal(code, words, records, live, level, at),
+        _ => arms::do_call_formal(code, words, records, live, level, limit, at),
+    }
+}

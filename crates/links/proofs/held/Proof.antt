@@ -1,0 +1,31 @@
+-- `held` meets its contract.
+use mathlib.Core.Path.{sym}
+use Rattle.links.specs.Finding.{firstCell}
+use Rattle.statements.specs.Words.{read-back, held-is}
+use borrow.Author.Needs.{needs}
+use Rattle.links.proofs.held.Statement.{statement}
+use Rattle.links.proofs.held.Tie as tie
+
+own-cell-requires : tie.Need-own-cell-requires
+own-cell-requires c κs = c .before .pre .reachable .seen
+
+mul-whole : tie.Need-mul-whole
+mul-whole c = search needs
+
+element-copy-out-whole : tie.Need-element-copy-out-whole
+element-copy-out-whole c = search needs
+
+whole-requires : tie.Need-whole-requires
+whole-requires c κs =
+    let s = c .before .before .before in
+    rw (read-back _ (c .whole-arg .given), c .before .own-cell .ensures .0) (s .pre .reachable .whole (s .pre .is))
+
+returns : tie.Need-returns
+returns c =
+    let a = c .before .before .before .before .args in
+    let e = rw (read-back _ (c .before .whole-arg .given), c .before .before .own-cell .ensures .0) at (c .whole .ensures .0) in
+    (sym (held-is (a .words .now) (firstCell (a .records .now) (a .live) (a .level) (a .word)) (a .word) e), c .whole .ensures .1)
+
+pub held-spec : {M : Type 1} → statement M
+held-spec =
+    tie.close (tie.spec own-cell-requires mul-whole element-copy-out-whole whole-requires returns)

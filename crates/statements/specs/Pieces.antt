@@ -1,0 +1,54 @@
+-- A scene as far as a statement looks at it, and the pieces from which the statements' functions are made.
+use Prim.Native.Nat.{ℕ, _+_, _*_, _/_, _%_, _≤_, _<_}
+use mathlib.Core.Bool.{true, false}
+use mathlib.Core.List.{List, []}
+use lib.IntN.{ℤ}
+use lib.ListN.{getD}
+use lib.Dec.{leb}
+use Rattle.language.specs.declared.Stop.the-variants.{NoActivationLeft}
+use Rattle.pairs.specs.declared.Change.{Change}
+use Rattle.pairs.specs.declared.Change.the-variants.{Done as Count, Stopped as Halted}
+use Rattle.acting.specs.declared.Effect.{Effect}
+use Rattle.acting.specs.declared.Effect.the-variants.{Done, Stopped}
+use Rattle.acting.specs.declared.Move.{Move}
+use Rattle.acting.specs.declared.Move.the-variants.{On, Pairs, Enter, Stop}
+use Rattle.acting.specs.Acting.{Finding, Scene, Happened, field, moves, rewrites, noRoom, argumentsFrom, setAll}
+
+-- a scene as far as a statement looks at it: with no table, and with no activations either
+abbrev pub without-table : List ℕ → List ℤ → ℕ → ℕ → ℕ → Scene
+without-table code words limit live at =
+    record { code = code; words = words; table = []; pairs = 0; limits = record { activations = limit; group = 0 }; live = live; at = at }
+
+abbrev pub only-words : List ℕ → List ℤ → ℕ → Scene
+only-words code words at = without-table code words 0 0 at
+
+abbrev pub with-table : List ℕ → List ℤ → List ℤ → ℕ → ℕ → ℕ → Scene
+with-table code words table pairs group at =
+    record { code = code; words = words; table = table; pairs = pairs; limits = record { activations = 0; group = group }; live = 0; at = at }
+
+-- a procedure's body at a place stands behind so many formals, and in the script
+pub record FormalsBefore (code : List ℕ) (body : ℕ) : Type 0 where
+  pub there : body < 4096
+  pub before : 3 * (getD code body 0 / 65536 % 256) ≤ body
+
+-- The pieces from which the statements' functions are made.
+
+unfoldable pub moveAfter : Effect → ℕ → Move
+moveAfter Done next = On next
+moveAfter (Stopped c) next = Stop c
+
+unfoldable pub moveChanged : Change → ℕ → Move
+moveChanged (Count n) next = Pairs next n
+moveChanged (Halted c) next = Stop c
+
+unfoldable pub blockMove : List ℕ → ℕ → ℕ → ℕ → Move
+blockMove code limit live at =
+    elim (leb limit (live + 1)) [ true ↦ Stop NoActivationLeft | false ↦ Enter at live (getD code (at + 1) 0 % 65536) ]
+
+-- a call of the procedure that activation `home` declares and whose body stands at a place
+unfoldable pub enteredBy : Finding → Scene → ℕ → ℕ → Happened
+enteredBy F s home body =
+    elim (noRoom F s) [
+      | true ↦ moves s (Stop NoActivationLeft)
+      | false ↦ rewrites s (Enter body home (s .at + 3 + field s 2)) (setAll (s .words) (32 * s .live + 32) (argumentsFrom F s (s .at + 3) (field s 2)))
+    ]
