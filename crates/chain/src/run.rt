@@ -126,7 +126,7 @@ fn halted(
 }
 
 // The program's own record is written first: whatever the records held makes no difference.
-pub fn run(
+pub fn run_program(
     code: &[u32; 4096],
     words: &mut [i32; 8224],
     records: &mut [u32],

@@ -7,6 +7,7 @@ ghost use mathlib.Core.Path.{_≡_};
 ghost use Prim.Native.Nat.{_*_, _≤_};
 ghost use lib.ListN.{length};
 ghost use Rattle.language.specs.Call.{written};
+ghost use Rattle.language.specs.Sheet.{sheetShare};
 ghost use Rattle.frames.specs.Frame.{Frame, frameSheet};
 ghost use Rattle.sheets.specs.Held.{Held};
 ghost use Rattle.links.specs.Records.{blocksIn, nextsIn};
@@ -21,7 +22,7 @@ pub fn write_sheet(
 ) -> usize
     requires { ⌜ ((fs : List Frame) × Held (now code) (now words) (blocksIn (now records)) (nextsIn (now records)) fs × (length fs ≡ live)) ⌝ }
     requires { ⌜ 3 * live ≤ length (now records) ⌝ }
-    requires { ⌜ 34 * live ≤ length (now sheet) ⌝ }
+    requires { ⌜ sheetShare * live ≤ length (now sheet) ⌝ }
     ensures { λ r.
         ⌜ ((fs : List Frame) → Held (now (code .entry)) (now (words .entry)) (blocksIn (now (records .entry))) (nextsIn (now (records .entry))) fs → length fs ≡ live
         → (now (sheet .exit) ≡ written (frameSheet fs) (now (sheet .entry))) × (r ≡ length (frameSheet fs))) ⌝ }

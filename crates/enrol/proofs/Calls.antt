@@ -50,15 +50,15 @@ covers-from before (w ∷ ws) rest = (
       (subst (λ (l : List ℕ). Covers l (length (before ++ (w ∷ []))) ws) (one-joined before w (ws ++ rest)) (covers-from (before ++ (w ∷ [])) ws rest)),
 )
 
-resolved-covers : (code ws rest : List ℕ) → code ≡ ws ++ rest → Covers code 0 ws
+pub resolved-covers : (code ws rest : List ℕ) → code ≡ ws ++ rest → Covers code 0 ws
 resolved-covers code ws rest e = subst (λ (l : List ℕ). Covers l 0 ws) (sym e) (covers-from [] ws rest)
 
-zero-at : (n i : ℕ) → getD (replicate n (pos 0)) i (pos 0) ≡ pos 0
+pub zero-at : (n i : ℕ) → getD (replicate n (pos 0)) i (pos 0) ≡ pos 0
 zero-at zero i = refl
 zero-at (suc n) zero = refl
 zero-at (suc n) (suc i) = zero-at n i
 
-long : {A : Type 0} (n : ℕ) (a : A) → length (replicate n a) ≡ n
+pub long : {A : Type 0} (n : ℕ) (a : A) → length (replicate n a) ≡ n
 long zero a = refl
 long (suc n) a = ap suc (long n a)
 

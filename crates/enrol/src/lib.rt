@@ -2,11 +2,13 @@
 use language::Verdict;
 ghost use mathlib.Core.Path.{_≡_};
 ghost use Rattle.language.specs.Check.{check};
-ghost use Rattle.language.specs.Call.{display, reply};
+ghost use lib.ListN.{length};
+ghost use Rattle.language.specs.Call.{display, chain, recordsIn, reply, Leaves};
 ghost use Rattle.language.specs.Numbers.{answerWords};
 ghost use Rattle.admission.specs.Lent.{fedOf};
 ghost use Rattle.enrol.specs.Answers.{checkWords};
 
+mod by_chain;
 mod by_display;
 
 // The refusal's number, 0 where the script is accepted, and its offset.
@@ -43,4 +45,28 @@ pub extern "C" fn enrol_display(
     ensures { λ _. ⌜ now (table .exit) ≡ (reply display (fedOf (now (script .entry)) d n g tally (now (table .entry)) count name (now (sheet .entry)))) .lent .table .words ⌝ }
 {
     *answer = by_display::call(script, d, n, g, tally, table, count, name, sheet);
+}
+
+// A run by the chain engine, on activation records in a lent slice, three words each: the same, and the records as they were where the call is
+// refused.
+#[no_mangle]
+pub extern "C" fn enrol_chain(
+    script: &[u8],
+    d: u32,
+    n: u32,
+    g: u32,
+    tally: u64,
+    table: &mut [i32],
+    count: usize,
+    name: u16,
+    sheet: &mut [i32],
+    records: &mut [u32],
+    answer: &mut [u64; 9],
+)
+    ensures { λ _. ⌜ now (answer .exit) ≡ answerWords ((reply (chain (recordsIn (length (now (records .entry))))) (fedOf (now (script .entry)) d n g tally (now (table .entry)) count name (now (sheet .entry)))) .answer) ⌝ }
+    ensures { λ _. ⌜ now (sheet .exit) ≡ (reply (chain (recordsIn (length (now (records .entry))))) (fedOf (now (script .entry)) d n g tally (now (table .entry)) count name (now (sheet .entry)))) .lent .sheet ⌝ }
+    ensures { λ _. ⌜ now (table .exit) ≡ (reply (chain (recordsIn (length (now (records .entry))))) (fedOf (now (script .entry)) d n g tally (now (table .entry)) count name (now (sheet .entry)))) .lent .table .words ⌝ }
+    ensures { λ _. ⌜ Leaves (chain (recordsIn (length (now (records .entry))))) (fedOf (now (script .entry)) d n g tally (now (table .entry)) count name (now (sheet .entry))) (now (records .entry)) (now (records .exit)) ⌝ }
+{
+    *answer = by_chain::call(script, d, n, g, tally, table, count, name, sheet, records);
 }

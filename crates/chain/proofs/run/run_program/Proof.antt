@@ -7,8 +7,8 @@ use borrow.Author.Needs.{needs}
 use lib.ListN.{length}
 use Rattle.chain.specs.Turning.{Beginning, with-records}
 use Rattle.chain.specs.Ending.{resultFrom, Underway, room-first, begun, looking, at-small, spent, stopped, went-as, finished-as, stays, leaves-sound}
-use Rattle.chain.proofs.run.run.Statement.{statement}
-use Rattle.chain.proofs.run.run.Tie as tie
+use Rattle.chain.proofs.run.run_program.Statement.{statement}
+use Rattle.chain.proofs.run.run_program.Tie as tie
 
 abbrev Inv-loop : tie.InvT-loop
 Inv-loop code words₀ records₀ table₀ pairs group limit allowance head bounds here₀ left₀ words records table here left =
@@ -144,8 +144,8 @@ returns-3 c =
     let b = with-records u (p .push .last .0) (p .push .ensures .long) in
     spent (i b) (h .halted2 .last .1 .1 .0) (h .halted2 .ensures .1) (omega (arith, c .before .before .before .before .before .loop-test .left)) (leaves-sound b (c .before .before .before .before .before .before .before .before .before .before .before .before .before .before .args .allowance)) (h .halted2 .result) (h .halted2 .ensures .0)
 
-pub run-spec : {M : Type 1} → statement M
-run-spec =
+pub run-program-spec : {M : Type 1} → statement M
+run-program-spec =
     tie.close
     (tie.spec
     Inv-loop

@@ -1,0 +1,82 @@
+// The chain engine's call: admission, the resolved script, the run on the lent records, the sheet, the answer.
+use admission::Area;
+use language::Verdict;
+ghost use mathlib.Core.Path.{_≡_};
+ghost use lib.ListN.{length};
+ghost use Rattle.language.specs.Text.{Block};
+ghost use Rattle.language.specs.Call.{chain, recordsIn, reply, Leaves};
+ghost use Rattle.language.specs.Numbers.{answerWords};
+ghost use Rattle.runs.specs.Admission.{Admitted};
+ghost use Rattle.admission.specs.Lent.{fedOf};
+
+// What comes of a call that is admitted.
+fn ran(
+    script: &[u8],
+    d: u32,
+    n: u32,
+    g: u32,
+    tally: u64,
+    table: &mut [i32],
+    count: usize,
+    name: u16,
+    sheet: &mut [i32],
+    records: &mut [u32],
+) -> [u64; 9]
+    requires { ⌜ ((t : Block) × Admitted (chain (recordsIn (length (now records)))) (fedOf (now script) d n g tally (now table) count name (now sheet)) t) ⌝ }
+    ensures { λ r. ⌜ r ≡ answerWords ((reply (chain (recordsIn (length (now (records .entry))))) (fedOf (now (script .entry)) d n g tally (now (table .entry)) count name (now (sheet .entry)))) .answer) ⌝ }
+    ensures { λ _. ⌜ now (sheet .exit) ≡ (reply (chain (recordsIn (length (now (records .entry))))) (fedOf (now (script .entry)) d n g tally (now (table .entry)) count name (now (sheet .entry)))) .lent .sheet ⌝ }
+    ensures { λ _. ⌜ now (table .exit) ≡ (reply (chain (recordsIn (length (now (records .entry))))) (fedOf (now (script .entry)) d n g tally (now (table .entry)) count name (now (sheet .entry)))) .lent .table .words ⌝ }
+{
+    let mut code = [0u32; 4096];
+    resolving::resolve(script, name as usize, &mut code);
+    let mut words = [0i32; 8224];
+    let halt = chain::run_program(&code, &mut words, records, table, count, g, d as usize, n);
+    let live = halt.live;
+    let written = chain::write_sheet(&code, &words, records, live, sheet);
+    let end = halt.end;
+    answers::run_words(
+        end,
+        halt.steps,
+        halt.offset,
+        halt.pairs,
+        written,
+        tally,
+        halt.designator,
+        halt.links,
+    )
+}
+
+pub fn call(
+    script: &[u8],
+    d: u32,
+    n: u32,
+    g: u32,
+    tally: u64,
+    table: &mut [i32],
+    count: usize,
+    name: u16,
+    sheet: &mut [i32],
+    records: &mut [u32],
+) -> [u64; 9]
+    ensures { λ r. ⌜ r ≡ answerWords ((reply (chain (recordsIn (length (now (records .entry))))) (fedOf (now (script .entry)) d n g tally (now (table .entry)) count name (now (sheet .entry)))) .answer) ⌝ }
+    ensures { λ _. ⌜ now (sheet .exit) ≡ (reply (chain (recordsIn (length (now (records .entry))))) (fedOf (now (script .entry)) d n g tally (now (table .entry)) count name (now (sheet .entry)))) .lent .sheet ⌝ }
+    ensures { λ _. ⌜ now (table .exit) ≡ (reply (chain (recordsIn (length (now (records .entry))))) (fedOf (now (script .entry)) d n g tally (now (table .entry)) count name (now (sheet .entry)))) .lent .table .words ⌝ }
+    ensures { λ _. ⌜ Leaves (chain (recordsIn (length (now (records .entry))))) (fedOf (now (script .entry)) d n g tally (now (table .entry)) count name (now (sheet .entry))) (now (records .entry)) (now (records .exit)) ⌝ }
+{
+    let held = records.len() / 3;
+    match admission::admit(
+        script,
+        d,
+        n,
+        g,
+        tally,
+        table,
+        count,
+        sheet,
+        Area::Of(held),
+        Area::Unused,
+    ) {
+        Verdict::Refused(cause, offset) => answers::refusal_words(cause, offset, count, tally),
+        Verdict::Fit => ran(script, d, n, g, tally, table, count, name, sheet, records),
+    }
+}
