@@ -19,6 +19,23 @@ extern "C" {
         sheet_len: usize,
         answer: *mut u64,
     );
+    fn enrol_chain(
+        script: *const u8,
+        script_len: usize,
+        d: u32,
+        n: u32,
+        g: u32,
+        tally: u64,
+        table: *mut i32,
+        table_len: usize,
+        count: usize,
+        name: u16,
+        sheet: *mut i32,
+        sheet_len: usize,
+        records: *mut u32,
+        records_len: usize,
+        answer: *mut u64,
+    );
 }
 
 /// Refusal number, 0 where accepted, and offset.
@@ -44,6 +61,8 @@ pub struct Ran {
     pub answer: Answer,
     pub table: Vec<i32>,
     pub sheet: Vec<i32>,
+    /// What only one engine is lent.
+    pub working: Vec<u32>,
 }
 
 /// Fills what is lent to be written, so that a word left as it was shows.
@@ -126,5 +145,82 @@ pub fn guarded_display(
     sheet.guards_hold()?;
     answer.guards_hold()?;
     let answer = answer.contents().try_into().expect("there are nine words");
-    Ok(Ran { answer, table: table.contents().to_vec(), sheet: sheet.contents().to_vec() })
+    let (table, sheet) = (table.contents().to_vec(), sheet.contents().to_vec());
+    Ok(Ran { answer, table, sheet, working: Vec::new() })
+}
+
+/// `records` has three words for each activation.
+pub fn chain(
+    script: &[u8],
+    asked: &Asked,
+    table: &mut [i32],
+    sheet: &mut [i32],
+    records: &mut [u32],
+) -> Answer {
+    let mut answer = [0; 9];
+    let Asked { d, n, g, tally, count, name } = *asked;
+    // SAFETY: the pointers are those of slices and an array, with the slices' lengths.
+    unsafe {
+        enrol_chain(
+            script.as_ptr(),
+            script.len(),
+            d,
+            n,
+            g,
+            tally,
+            table.as_mut_ptr(),
+            table.len(),
+            count,
+            name,
+            sheet.as_mut_ptr(),
+            sheet.len(),
+            records.as_mut_ptr(),
+            records.len(),
+            answer.as_mut_ptr(),
+        )
+    };
+    answer
+}
+
+pub fn guarded_chain(
+    script: &[u8],
+    asked: &Asked,
+    table: &[i32],
+    sheet: &[i32],
+    records: &[u32],
+) -> Result<Ran, Strayed> {
+    let mut script = Lent::new("script", script, 0x5a);
+    let mut table = Lent::new("table", table, GUARD);
+    let mut sheet = Lent::new("sheet", sheet, GUARD);
+    let mut records = Lent::new("records", records, GUARD as u32);
+    let mut answer = Lent::new("answer", &[UNWRITTEN; 9], !UNWRITTEN);
+    let Asked { d, n, g, tally, count, name } = *asked;
+    // SAFETY: all pointers are to as many words as the call is told of.
+    unsafe {
+        enrol_chain(
+            script.pointer(),
+            script.length(),
+            d,
+            n,
+            g,
+            tally,
+            table.pointer(),
+            table.length(),
+            count,
+            name,
+            sheet.pointer(),
+            sheet.length(),
+            records.pointer(),
+            records.length(),
+            answer.pointer(),
+        )
+    };
+    script.all_holds()?;
+    table.guards_hold()?;
+    sheet.guards_hold()?;
+    records.guards_hold()?;
+    answer.guards_hold()?;
+    let answer = answer.contents().try_into().expect("there are nine words");
+    let (table, sheet) = (table.contents().to_vec(), sheet.contents().to_vec());
+    Ok(Ran { answer, table, sheet, working: records.contents().to_vec() })
 }

@@ -56,15 +56,19 @@ fn library_reply(call: &Call) -> Reply {
         Engine::Display => {
             binding::enrol::guarded_display(&call.script, &asked, &call.table, &call.sheet)
         }
-        Engine::Copying | Engine::Chain => panic!("the library has no such engine"),
+        Engine::Chain => binding::enrol::guarded_chain(
+            &call.script,
+            &asked,
+            &call.table,
+            &call.sheet,
+            &call.working,
+        ),
+        Engine::Copying => panic!("the library has no such engine"),
     };
     match ran {
-        Ok(ran) => Reply {
-            answer: ran.answer,
-            table: ran.table,
-            sheet: ran.sheet,
-            working: call.working.clone(),
-        },
+        Ok(ran) => {
+            Reply { answer: ran.answer, table: ran.table, sheet: ran.sheet, working: ran.working }
+        }
         Err(strayed) => panic!("{strayed}"),
     }
 }

@@ -8,12 +8,20 @@ use differential::report::{bytes, words};
 use differential::{inputs, table_work};
 
 /// Those that the library has.
-const ENGINES: [Engine; 1] = [Engine::Display];
+const ENGINES: [Engine; 2] = [Engine::Display, Engine::Chain];
 
-/// The call to an engine; what only another engine is lent falls away.
+/// The call to an engine. Where it was made for another one, the engine is lent just what it asks for.
 fn to(engine: Engine, call: &Call) -> Call {
-    let working = if engine == call.engine { call.working.clone() } else { Vec::new() };
+    let working =
+        if engine == call.engine { call.working.clone() } else { records(engine, call.d) };
     Call { engine, working, ..call.clone() }
+}
+
+fn records(engine: Engine, d: u32) -> Vec<u32> {
+    match engine {
+        Engine::Chain => (0..3 * d.min(257) as usize).map(pattern).collect(),
+        Engine::Copying | Engine::Display => Vec::new(),
+    }
 }
 
 fn hold(judge: &Party, origin: &str, call: &Call) {
@@ -52,6 +60,31 @@ fn every_allowance_and_name() {
             }
         }
     }
+}
+
+/// Demand 3: both engines and the reference at every allowance up to the run's end, and every looked-up name of the script.
+#[test]
+fn whole_runs_at_every_allowance() {
+    let judge = fast();
+    let mut runs = 0;
+    for number in 0..3_000 {
+        let call = to(Engine::Display, &Call { n: 300, ..inputs::case(60, number) });
+        let whole = (judge.run)(&call);
+        if whole.refused() {
+            continue;
+        }
+        for n in 0..=whole.answer[2] as u32 {
+            let name = 1 + (n % 15) as u16;
+            let origin = format!("seed 60, case {number}");
+            hold(&judge, &origin, &Call { n, name, ..call.clone() });
+            let at = Call { n, name, ..call.clone() };
+            let [display, chain] = ENGINES.map(|engine| (library().run)(&to(engine, &at)));
+            assert_eq!(display.answer[..8], chain.answer[..8], "{origin}, allowance {n}");
+            assert_eq!((display.sheet, display.table), (chain.sheet, chain.table), "{origin}");
+            runs += 1;
+        }
+    }
+    assert!(runs > 10_000, "only {runs} runs");
 }
 
 #[test]
@@ -153,10 +186,11 @@ fn every_vector() {
     for (number, line) in lines.iter().enumerate() {
         let (fed, given) = line.split_once(" | ").expect("what is fed and what is given");
         let call = call_of(fed).expect("a call");
-        let mut given: Vec<&str> = given.split(' ').collect();
-        // Links are the chain engine's.
-        given[7] = "0";
         for engine in ENGINES {
+            let mut given: Vec<&str> = given.split(' ').collect();
+            if engine != Engine::Chain {
+                given[7] = "0";
+            }
             let reply = (library().run)(&to(engine, &call));
             let [end, number_of, steps, offset, pairs, written, tally, designator, links] =
                 reply.answer;
