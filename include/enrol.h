@@ -33,6 +33,7 @@ extern "C" {
 #define ENROL_CHECK_WORDS 2
 #define ENROL_ANSWER_WORDS 9
 #define ENROL_SHEET_WORDS(d) ((size_t)(d) * (2 + ENROL_MOST_NAMES))
+#define ENROL_RECORD_WORDS(d) ((size_t)(d) * 3)
 
 /* A designator's activation, counted from 1 at the outermost, and position among its names, from 1. */
 #define ENROL_ACTIVATION_OF(designator) ((designator) / 64)
@@ -209,6 +210,20 @@ enum enrol_end {
 void enrol_display(const uint8_t *script, size_t script_len, uint32_t d, uint32_t n, uint32_t g, uint64_t tally,
                    int32_t *table, size_t table_len, size_t count, uint16_t name, int32_t *sheet, size_t sheet_len,
                    uint64_t answer[ENROL_ANSWER_WORDS]);
+
+/* Runs a script on the chain engine, which finds a name by following the static links of activation records that the
+ * caller lends.
+ *
+ * All is as with enrol_display, and beside it:
+ * records    records_len words, at least ENROL_RECORD_WORDS(d), three for an activation, whatever they hold. They are
+ *            what the engine runs on: after a run that is not refused they may hold anything. Where the call is
+ *            refused they keep every word. Too few give 13, tested after the sheet's.
+ * answer     ENROL_ANSWER_LINKS: how many links lead from the innermost live block to the one that declares the
+ *            looked-up name as written, 0 to 15; 0 where the name is not visible, no block is live or the call is refused
+ */
+void enrol_chain(const uint8_t *script, size_t script_len, uint32_t d, uint32_t n, uint32_t g, uint64_t tally,
+                 int32_t *table, size_t table_len, size_t count, uint16_t name, int32_t *sheet, size_t sheet_len,
+                 uint32_t *records, size_t records_len, uint64_t answer[ENROL_ANSWER_WORDS]);
 
 #ifdef __cplusplus
 }

@@ -28,7 +28,7 @@ fn row(workload: &'static str, script: Vec<u8>) -> Row {
     assert_eq!(binding::enrol::check(&script), [0, 0], "{workload}");
     let same = script.clone();
     Row {
-        workload,
+        workload: workload.into(),
         size: format!("{} bytes", script.len()),
         library: Box::new(move || {
             black_box(binding::enrol::check(black_box(&script)));

@@ -145,3 +145,14 @@ pub fn table_work() -> Vec<u8> {
     actions.extend([plus(COUNTER, COUNTER, ONE), less(TEST, COUNTER, MOST), jump_if(TEST, AGAIN)]);
     encode(&block(declarations, actions)).bytes
 }
+
+/// The counting loop sixteen levels deep, its variables and its label fifteen levels away or none.
+pub fn far_names() -> Vec<u8> {
+    let loop_here: Name = 60;
+    let turn =
+        vec![plus(COUNTER, COUNTER, ONE), less(TEST, COUNTER, MOST), jump_if(TEST, loop_here)];
+    let innermost = block(vec![declaration(loop_here, Declared::Label(1))], turn);
+    let inner = (0..14).fold(innermost, |inner, _| block(Vec::new(), vec![Action::Block(inner)]));
+    let actions = vec![set(ONE, 1), set(MOST, i32::MAX), Action::Block(inner)];
+    encode(&block(variables([COUNTER, ONE, MOST, TEST].into_iter()), actions)).bytes
+}

@@ -11,7 +11,7 @@ const BATCH: Duration = Duration::from_millis(1);
 pub type Work = Box<dyn FnMut()>;
 
 pub struct Row {
-    pub workload: &'static str,
+    pub workload: String,
     pub size: String,
     pub library: Work,
     pub reference: Work,
@@ -19,7 +19,7 @@ pub struct Row {
 
 /// Times of one call.
 struct Measured {
-    workload: &'static str,
+    workload: String,
     size: String,
     library: Duration,
     reference: Duration,
@@ -70,7 +70,7 @@ impl Measured {
     fn print(&self) {
         let ratio = self.library.as_secs_f64() / self.reference.as_secs_f64();
         print_line(
-            self.workload,
+            &self.workload,
             &self.size,
             &microseconds(self.library),
             &microseconds(self.reference),

@@ -4,7 +4,7 @@ use std::hint::black_box;
 
 use binding::enrol::{self, Asked};
 use reference::fast;
-use reference::{Engine, Request};
+use reference::Request;
 
 use crate::programs;
 use crate::row::Row;
@@ -36,54 +36,99 @@ fn with_pairs(workload: &'static str, pairs: usize) -> Work {
 }
 
 pub fn rows() -> Vec<Row> {
-    let works = vec![
-        work("display, counting loop", programs::counting_loop(), STEPS),
-        work("display, nested blocks", programs::nested_blocks(), STEPS),
-        work("display, recursion", programs::plain_recursion(), STEPS),
-        work("display, procedure handed down", programs::handed_down(), STEPS),
-        work("display, variables through formals", programs::through_formals(), STEPS),
-        work("display, gotos out of many calls", programs::gotos_out_of_calls(), STEPS),
-        work("display, calls with 32 arguments", programs::many_arguments(), STEPS),
-        with_pairs("display, AD, QY, RM, 8 pairs", 8),
-        with_pairs("display, AD, QY, RM, 1,000 pairs", 1_000),
-        with_pairs("display, AD, QY, RM, 100,000 pairs", 100_000),
-        work("display, N = 0", scripts::flat(100), 0),
-        work("display, N = 0", scripts::flat(8_192), 0),
-        work("display, N = 0, many names", scripts::many_names(8_192), 0),
-    ];
-    works.into_iter().map(row).collect()
+    [Engine::Display, Engine::Chain].into_iter().flat_map(rows_of).collect()
 }
 
-fn row(work: Work) -> Row {
+#[derive(Clone, Copy, PartialEq, Eq)]
+enum Engine {
+    Display,
+    Chain,
+}
+
+fn rows_of(engine: Engine) -> Vec<Row> {
+    let works = vec![
+        work("counting loop", programs::counting_loop(), STEPS),
+        work("names 15 levels away", programs::far_names(), STEPS),
+        work("nested blocks", programs::nested_blocks(), STEPS),
+        work("recursion", programs::plain_recursion(), STEPS),
+        work("procedure handed down", programs::handed_down(), STEPS),
+        work("variables through formals", programs::through_formals(), STEPS),
+        work("gotos out of many calls", programs::gotos_out_of_calls(), STEPS),
+        work("calls with 32 arguments", programs::many_arguments(), STEPS),
+        with_pairs("AD, QY, RM, 8 pairs", 8),
+        with_pairs("AD, QY, RM, 1,000 pairs", 1_000),
+        with_pairs("AD, QY, RM, 100,000 pairs", 100_000),
+        work("N = 0", scripts::flat(100), 0),
+        work("N = 0", scripts::flat(8_192), 0),
+        work("N = 0, many names", scripts::many_names(8_192), 0),
+    ];
+    works.into_iter().map(|work| row(engine, work)).collect()
+}
+
+fn row(engine: Engine, work: Work) -> Row {
     let Work { workload, script, n, table, count, g } = work;
     let size = if n == 0 { format!("{} bytes", script.len()) } else { format!("{n} steps") };
     let asked = Asked { d: D, n, g, tally: 0, count, name: 1 };
     let sheet = vec![0; 34 * D as usize];
     let (mut own_table, mut own_sheet) = (table.clone(), sheet.clone());
+    let mut records = vec![0; 3 * D as usize];
     let (mut table, mut sheet) = (table, sheet);
     let same = script.clone();
     let right =
-        fast::run(&request(&same, &asked), &mut own_table.clone(), &mut own_sheet.clone()).words();
+        fast::run(&request(engine, &same, &asked), &mut own_table.clone(), &mut own_sheet.clone())
+            .words();
     assert_eq!(
-        enrol::display(&script, &asked, &mut table.clone(), &mut sheet.clone()),
+        library(engine, &script, &asked, &mut table.clone(), &mut sheet.clone(), &mut records),
         right,
         "{workload}"
     );
     assert_eq!(right[2], u64::from(n), "{workload}");
     Row {
-        workload,
+        workload: named(engine, workload),
         size,
         library: Box::new(move || {
-            black_box(enrol::display(black_box(&script), &asked, &mut table, &mut sheet));
+            black_box(library(
+                engine,
+                black_box(&script),
+                &asked,
+                &mut table,
+                &mut sheet,
+                &mut records,
+            ));
         }),
         reference: Box::new(move || {
-            let request = request(black_box(&same), &asked);
+            let request = request(engine, black_box(&same), &asked);
             black_box(fast::run(&request, &mut own_table, &mut own_sheet));
         }),
     }
 }
 
-fn request<'a>(script: &'a [u8], asked: &Asked) -> Request<'a> {
+fn library(
+    engine: Engine,
+    script: &[u8],
+    asked: &Asked,
+    table: &mut [i32],
+    sheet: &mut [i32],
+    records: &mut [u32],
+) -> enrol::Answer {
+    match engine {
+        Engine::Display => enrol::display(script, asked, table, sheet),
+        Engine::Chain => enrol::chain(script, asked, table, sheet, records),
+    }
+}
+
+fn request<'a>(engine: Engine, script: &'a [u8], asked: &Asked) -> Request<'a> {
     let Asked { d, n, g, tally, count, name } = *asked;
-    Request { engine: Engine::Display, script, d, n, g, tally, count, name }
+    let engine = match engine {
+        Engine::Display => reference::Engine::Display,
+        Engine::Chain => reference::Engine::Chain { records: D as usize },
+    };
+    Request { engine, script, d, n, g, tally, count, name }
+}
+
+fn named(engine: Engine, workload: &str) -> String {
+    match engine {
+        Engine::Display => format!("display, {workload}"),
+        Engine::Chain => format!("chain, {workload}"),
+    }
 }

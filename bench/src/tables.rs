@@ -74,7 +74,7 @@ fn test(kind: &Kind, table: Rc<Vec<i32>>) -> Row {
     assert!(measure::right(&table, count, limit) && is_right(&table, count, limit));
     let same = table.clone();
     Row {
-        workload: kind.workload,
+        workload: kind.workload.into(),
         size: size(&table),
         library: Box::new(move || {
             black_box(measure::right(black_box(&table), count, limit));
@@ -90,7 +90,7 @@ fn search(table: Rc<Vec<i32>>) -> Row {
     assert_eq!(measure::find(&table, count, ABSENT.0, ABSENT.1), count);
     let mut same = table.to_vec();
     Row {
-        workload: "find, a pair that is not there",
+        workload: "find, a pair that is not there".into(),
         size: size(&table),
         library: Box::new(move || {
             black_box(measure::find(black_box(&table), count, ABSENT.0, ABSENT.1));
