@@ -13,7 +13,7 @@ use moves::wide;
 use stepping::code_at;
 ghost use mathlib.Core.Path.{_≡_};
 ghost use Prim.Native.Nat.{_+_, _*_, _/_, _%_, _<_};
-ghost use lib.ListN.{getD, set};
+ghost use lib.ListN.{set};
 ghost use Rattle.frames.specs.Frame.{designates, frameRun, frameStart};
 ghost use Rattle.moves.specs.Running.{limitsBy, Running, Looking, Placed};
 ghost use Rattle.display.specs.Turning.{Turned, Beginning, Ended, haltOf};
