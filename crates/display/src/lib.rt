@@ -2,4 +2,4 @@
 mod act;
 mod arms;
 mod names;
-mod run;
+pub mod run;
