@@ -1,6 +1,6 @@
 -- Names found by an engine that runs (`Running`): its way of finding them is right (`finds-by-chain`), and what it may read of a name of the next
 -- statement (`reachable`), or of the looked-up one (`seen-reached`). `not-seen`, `seen-designates`, `seen-links`: what is found of the latter.
-use Prim.Native.Nat.{ℕ, pred, _+_, _*_, _-_, _/_, _%_, _≤_}
+use Prim.Native.Nat.{ℕ, pred, _+_, _*_, _-_, _≤_}
 use native.Mathlib.Omega.{arith}
 use mathlib.Core.List.{List}
 use mathlib.Core.Option.{some}
@@ -112,9 +112,7 @@ module _ {code : List ℕ} {limit group : ℕ} {words : List ℤ} {records : Lis
           subst (Reachable words records (here .live) (here .level)) (sym is-word)
           (as-reachable (wordOf st name) (seen-at name (coordinate .0) (coordinate .1)) (found .0))
 
-      pub seen-designates : (c : ℕ) → c ≡ cellBy words (firstCell records (here .live) (here .level) v) v → 64 * (c / 32 + 1) +
-          (c % 32 + 1) ≡ designates fs name
-      unfolding designatorOf
+      pub seen-designates : (c : ℕ) → c ≡ cellBy words (firstCell records (here .live) (here .level) v) v → designatorOf c ≡ designates fs name
       seen-designates c q = ap designatorOf (q ∙ ap (λ u. cellBy words (firstCell records (here .live) (here .level) u) u) is-word) ∙ found .1
 
       pub seen-links : here .level - levelIn v ≡ linksFollowed fs name

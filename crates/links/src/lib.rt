@@ -1,4 +1,5 @@
 // The static chain: the activation records in a lent slice, names found by following their links, and another activation becoming the innermost one.
+use sheets::designator_of;
 use stepping::clear;
 use stepping::code_at;
 ghost use mathlib.Core.Path.{_≡_};
@@ -206,14 +207,6 @@ pub fn enter(
 pub struct Found {
     pub designator: u32,
     pub links: u32,
-}
-
-// The designator of the name that has a cell.
-fn designator_of(c: usize) -> u32
-    requires { ⌜ c < 8192 ⌝ }
-    ensures { λ r. ⌜ r ≡ 64 * (c / 32 + 1) + (c % 32 + 1) ⌝ }
-{
-    (64 * (c / 32 + 1) + (c % 32 + 1)) as u32
 }
 
 // The looked-up name's word stands in the innermost block.

@@ -52,7 +52,7 @@ returns-2 c =
     let o = d .before .before .before in
     let e = d .before .before .if1 .left in
     λ w.
-    let n = d .designator-of .ensures ∙ seen-designates (w .running) (o .code-at .result) (read o) e (d .before .cell .result)
+    let n = d .designator-of .ensures .0 ∙ seen-designates (w .running) (o .code-at .result) (read o) e (d .before .cell .result)
     (d .before .cell .ensures) in
     let m = c .narrow .ensures ∙ seen-links (w .running) (o .code-at .result) (read o) e in
     λ i. record { designator = n i; links = m i }
