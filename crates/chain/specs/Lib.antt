@@ -4,3 +4,4 @@ pub mod Ready
 pub mod Turning
 pub mod Turns
 pub mod Ending
+pub mod Sheet

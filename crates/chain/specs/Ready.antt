@@ -1,31 +1,22 @@
 -- What the statement at a place asks of words and records, by its operation (`ready`).
-use Prim.Native.Nat.{ℕ, suc, _+_, _*_, _/_, _%_, _≤_, _<_}
+use Prim.Native.Nat.{ℕ, _+_, _*_, _/_, _≤_, _<_}
 use native.Mathlib.Omega.{arith}
-use mathlib.Core.Bool.{Bool, true, false, _&&_}
-use mathlib.Core.List.{List, []}
-use mathlib.Core.Path.{_≡_, refl, sym, ap, _∙_, subst}
-use borrow.Author.Tests.{ltb-true, ltb-false}
-use lib.Dec.{ltb}
-use lib.IntN.{ℤ, pos}
-use lib.ListN.{length, getD}
-use Rattle.language.specs.Text.{Operation}
-use Rattle.language.specs.Table.{Table, Effect, leaves, halts, Asked, gives, refuses, added, removed, queried}
-use Rattle.laws.specs.Tests.{split}
-use Rattle.resolved.specs.Resolved.{levelIn, direct, targetIn}
-use Rattle.arrays.specs.Found.{heldBy, homeBy, targetBy}
-use Rattle.acting.specs.declared.Effect.{Effect as Kept}
-use Rattle.acting.specs.declared.Effect.the-variants.{Done as Stored, Stopped as Refused}
-use Rattle.acting.specs.declared.Move.{Move}
-use Rattle.acting.specs.declared.Move.the-variants.{Jump}
-use Rattle.acting.specs.Effects.{effectOf}
-use Rattle.acting.specs.Acting.{Finding, Scene, Happened, moves, rewrites, valueOf, field, arithmeticMove, doConstant, doArithmetic, doGoto, doBranch, noRoom, doBlock, doCall, argumentsAgree, doCallFormal, changes, doAdd, doRemove, answers, doQuery, operationOf, Op, constant-op, add-op, subtract-op, compare-op, branch-op, goto-op, block-op, call-op, pair-op, unpair-op, query-op, constant-formal-op, arithmetic-formal-op, branch-formal-op, goto-formal-op, call-formal-op, operations, opOf, happens, acting}
+use mathlib.Core.Bool.{false}
+use mathlib.Core.List.{List}
+use mathlib.Core.Path.{_≡_, sym, subst}
+use lib.IntN.{ℤ}
+use lib.ListN.{getD}
+use Rattle.resolved.specs.Resolved.{direct}
+use Rattle.arrays.specs.Found.{heldBy, targetBy}
+use Rattle.acting.specs.Acting.{Op, constant-op, add-op, subtract-op, compare-op, branch-op, goto-op, block-op, call-op, pair-op, unpair-op, query-op}
+use Rattle.acting.specs.Acting.{constant-formal-op, arithmetic-formal-op, branch-formal-op, goto-formal-op, call-formal-op, opOf}
 use Rattle.steps.specs.Standing.{Standing}
 use Rattle.steps.specs.Here.{live-few}
 use Rattle.steps.specs.Fields as fields
 use Rattle.steps.specs.Finding.{Reaches}
 use Rattle.links.specs.Records.{blocksIn, nextsIn, linksIn}
 use Rattle.links.specs.Finding.{firstCell, ownCell, byChain, Seen, Reachable, ThroughFormal}
-use Rattle.statements.specs.Pieces.{without-table, only-words, with-table, FormalsBefore, blockMove}
+use Rattle.statements.specs.Pieces.{FormalsBefore}
 use Rattle.chain.specs.Finding.{Direct, ArgumentsReachable}
 use Rattle.links.specs.Running.{limitsBy, Doing}
 use Rattle.links.specs.Names as links
@@ -34,12 +25,14 @@ formal-target : (words : List ℤ) (first v : ℕ) → direct v ≡ false → ta
 unfolding targetBy
 formal-target words first v e = rw (targetBy, e)
 
-module _ {code : List ℕ} {words : List ℤ} {records : List ℕ} {table : List ℤ} {pairs group limit live level at : ℕ} (d : Doing code words records table pairs group limit live level at) where
+module _ {code : List ℕ} {words : List ℤ} {records : List ℕ} {table : List ℤ} {pairs group limit live level at : ℕ}
+    (d : Doing code words records table pairs group limit live level at) where
   abbrev st : Standing code (limitsBy limit group) words (blocksIn records) (nextsIn records) (linksIn records) table pairs live at (d .end)
   st = d .running .standing
 
   reached : (i : ℕ) (f : fields.FieldName st i) → Reaches words live (firstCell records live level (getD code (at + i) 0)) (getD code (at + i) 0)
-  reached i f = subst (λ v. Reaches words live (firstCell records live level v) v) (sym (f .word)) (links.reached (d .running) (f .name) (f .resolved))
+  reached i f = subst (λ v. Reaches words live (firstCell records live level v) v) (sym (f .word))
+      (links.reached (d .running) (f .name) (f .resolved))
 
   seen : (i : ℕ) (f : fields.FieldName st i) → Seen records live level (getD code (at + i) 0)
   seen i f = subst (Seen records live level) (sym (f .word)) (links.seen-name (d .running) (f .name) (f .resolved))
@@ -72,7 +65,8 @@ module _ {code : List ℕ} {words : List ℤ} {records : List ℕ} {table : List
   formals-before : fields.ThroughFormal st 1 → fields.BodyStands st → Formals
   formals-before f b =
       let h = b (byChain words records live level) (links.finds-by-chain (d .running)) in
-      subst (FormalsBefore code) (formal-target words (firstCell records live level (getD code (at + 1) 0)) (getD code (at + 1) 0) (f .1)) (record { there = h .0; before = h .1 })
+      subst (FormalsBefore code) (formal-target words (firstCell records live level (getD code (at + 1) 0)) (getD code (at + 1) 0) (f .1))
+      (record { there = h .0; before = h .1 })
 
   abbrev D : ℕ → Type 0
   D i = Direct words records live level (getD code (at + i) 0)
@@ -102,7 +96,8 @@ module _ {code : List ℕ} {words : List ℤ} {records : List ℕ} {table : List
   Ready arithmetic-formal-op = (at + 5 ≤ 4096) × R 1 × R 3 × R 4
   Ready branch-formal-op = (at + 3 ≤ 4096) × R 1 × R 2
   Ready goto-formal-op = (at + 2 ≤ 4096) × F 1
-  Ready call-formal-op = (limit ≤ 256) × (live ≤ 255) × (at + 3 ≤ 4096) × ArgumentsReachable code records live level (at + 3) (getD code (at + 2) 0) × F 1 × Formals
+  Ready call-formal-op = (limit ≤ 256) × (live ≤ 255) × (at + 3 ≤ 4096) × ArgumentsReachable code records live level (at + 3) (getD code (at + 2) 0)
+      × F 1 × Formals
 
   few : live ≤ 255
   few = omega (arith, live-few st)

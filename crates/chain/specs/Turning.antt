@@ -10,7 +10,7 @@ use Rattle.language.specs.Text.{Block}
 use Rattle.language.specs.Table.{right}
 use Rattle.language.specs.declared.End.{End}
 use Rattle.grammar.specs.Rules.{Keeps}
-use Rattle.frames.specs.Frame.{Frame, Result, halted, designates, linksFollowed, frameStep}
+use Rattle.frames.specs.Frame.{Result, halted, designates, linksFollowed, frameStep}
 use Rattle.coordinates.specs.Sound.{Sound}
 use Rattle.resolved.specs.Resolved.{resolvedOf, Covers}
 use Rattle.arrays.specs.Holds.{Holds}
@@ -25,20 +25,31 @@ use Rattle.links.specs.Names.{foundIn}
 
 -- What a step comes to
 
-module _ {code : List ℕ} {limit group : ℕ} {words : List ℤ} {records : List ℕ} {table : List ℤ} {here : Now} (w : Running code limit group words records table here) where
+module _ {code : List ℕ} {limit group : ℕ} {words : List ℤ} {records : List ℕ} {table : List ℤ} {here : Now}
+    (w : Running code limit group words records table here) where
   abbrev pub Turned : Turn → List ℤ → List ℕ → List ℤ → Type 0
   Turned (Went here′) words′ records′ table′ = Succeeds w words′ records′ table′ here′
   Turned Finished words′ records′ table′ = (here .at ≡ here .end) × (here .live ≡ 0) × (words′ ≡ words) × (table′ ≡ table)
-  Turned (Stopped c) words′ records′ table′ = (frameStep (limitsBy limit group) (w .standing .stack) ≡ halted c) × (words′ ≡ words) × (records′ ≡ records) × (table′ ≡ table)
+  Turned (Stopped c) words′ records′ table′ = (frameStep (limitsBy limit group) (w .standing .stack) ≡ halted c) × (words′ ≡ words)
+      × (records′ ≡ records) × (table′ ≡ table)
 
 -- What the functions of a run's end make
 
 abbrev pub haltOf : End → ℕ → ℕ → Now → Found → Halt
 haltOf e steps offset here found =
-    record { end = e; steps = steps; offset = offset; live = here .live + 1; pairs = here .pairs; designator = found .designator; links = found .links }
+    record {
+      end = e;
+      steps = steps;
+      offset = offset;
+      live = here .live + 1;
+      pairs = here .pairs;
+      designator = found .designator;
+      links = found .links;
+    }
 
 -- where a run of an engine that runs ends, with the looked-up name found
-abbrev pub haltAt : {code : List ℕ} {words : List ℤ} {records : List ℕ} {live level : ℕ} → End → ℕ → ℕ → Now → Looking code words records live level → Halt
+abbrev pub haltAt : {code : List ℕ} {words : List ℤ} {records : List ℕ} {live level : ℕ} → End → ℕ → ℕ → Now → Looking code words records live level
+    → Halt
 haltAt e steps offset here w = haltOf e steps offset here (foundIn (w .running .standing .stack .frames) (w .running .standing .name))
 
 -- The run
@@ -58,7 +69,8 @@ pub record Beginning (code : List ℕ) (words : List ℤ) (records : List ℕ) (
   pub room : 3 * limit ≤ length records
 
 -- it asks nothing of what the records hold
-abbrev pub with-records : {code : List ℕ} {words : List ℤ} {records : List ℕ} {table : List ℤ} {pairs group limit : ℕ} → Beginning code words records table pairs group limit
+abbrev pub with-records : {code : List ℕ} {words : List ℤ} {records : List ℕ} {table : List ℤ} {pairs group limit : ℕ}
+    → Beginning code words records table pairs group limit
     → (records′ : List ℕ) → length records′ ≡ length records → Beginning code words records′ table pairs group limit
 with-records {limit = limit} b records′ e =
     record {
@@ -75,7 +87,8 @@ with-records {limit = limit} b records′ e =
     }
 
 -- what it ends with: the frame machine's result, and words and records hold its stack
-pub record Ended (program : Block) (name limit group : ℕ) (result : Result) (r : Halt) (words : List ℤ) (records : List ℕ) (table : List ℤ) : Type 0 where
+pub record Ended (program : Block) (name limit group : ℕ) (result : Result) (r : Halt) (words : List ℤ) (records : List ℕ) (table : List ℤ)
+    : Type 0 where
   pub end-is : r .end ≡ result .end
   pub steps-are : r .steps ≡ result .final .steps
   pub offset-is : r .offset ≡ result .offset

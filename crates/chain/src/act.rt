@@ -20,9 +20,12 @@ pub fn act(
     at: usize,
 ) -> Move
     requires { ⌜ Doing (now code) (now words) (now records) (now table) pairs group limit live level at ⌝ }
-    ensures { λ r. ⌜ r ≡ (acting (byChain (now (words .entry)) (now (records .entry)) live level) (sceneBy (now (code .entry)) (now (words .entry)) (now (table .entry)) pairs group limit live at)) .move ⌝ }
-    ensures { λ _. ⌜ now (words .exit) ≡ (acting (byChain (now (words .entry)) (now (records .entry)) live level) (sceneBy (now (code .entry)) (now (words .entry)) (now (table .entry)) pairs group limit live at)) .words ⌝ }
-    ensures { λ _. ⌜ now (table .exit) ≡ (acting (byChain (now (words .entry)) (now (records .entry)) live level) (sceneBy (now (code .entry)) (now (words .entry)) (now (table .entry)) pairs group limit live at)) .table ⌝ }
+    ensures { λ r. ⌜ r ≡ (acting (byChain (now (words .entry)) (now (records .entry)) live level)
+        (sceneBy (now (code .entry)) (now (words .entry)) (now (table .entry)) pairs group limit live at)) .move ⌝ }
+    ensures { λ _. ⌜ now (words .exit) ≡ (acting (byChain (now (words .entry)) (now (records .entry)) live level)
+        (sceneBy (now (code .entry)) (now (words .entry)) (now (table .entry)) pairs group limit live at)) .words ⌝ }
+    ensures { λ _. ⌜ now (table .exit) ≡ (acting (byChain (now (words .entry)) (now (records .entry)) live level)
+        (sceneBy (now (code .entry)) (now (words .entry)) (now (table .entry)) pairs group limit live at)) .table ⌝ }
 {
     let operation = code_at(code, at) % 16;
     match operation {

@@ -1,13 +1,11 @@
 // The statements, each with its names found by the links. `at` is the place of the statement's operation. A statement none of whose
 // names is a formal has a function of its own. Each does what its definition in Acting says.
-use acting::Effect;
 use acting::Move;
 use language::Stop;
 use links::cell;
 use links::first_cell;
 use links::held;
 use links::own_cell;
-use pairs::Change;
 use pairs::Query;
 use statements::changed;
 use statements::computed;
@@ -15,15 +13,14 @@ use statements::constant;
 use stepping::code_at;
 ghost use mathlib.Core.Path.{_≡_};
 ghost use Prim.Native.Nat.{_+_, _*_, _<_, _≤_, _%_, _/_};
-ghost use lib.ListN.{length, getD, set};
-ghost use Rattle.language.specs.Encoding.{signed};
-ghost use Rattle.language.specs.Table.{added, removed};
+ghost use lib.ListN.{getD};
 ghost use Rattle.language.specs.Text.{plus, minus, less};
 ghost use Rattle.resolved.specs.Resolved.{targetIn};
 ghost use Rattle.arrays.specs.Found.{cellBy, heldBy};
-ghost use Rattle.acting.specs.Acting.{arithmeticMove, doConstant, doArithmetic, operationOf, doGoto, doBranch, doBlock, doCall, doCallFormal, doAdd, doRemove, doQuery, argumentsFrom, setAll};
+ghost use Rattle.acting.specs.Acting.{doConstant, doArithmetic, operationOf, doGoto, doBranch, doCall, doCallFormal, doAdd, doRemove, doQuery};
+ghost use Rattle.acting.specs.Acting.{argumentsFrom, setAll};
 ghost use Rattle.links.specs.Finding.{firstCell, ownCell, byChain, Seen, Reachable, ThroughFormal};
-ghost use Rattle.statements.specs.Pieces.{only-words, without-table, with-table, FormalsBefore, enteredBy, blockMove, moveAfter, moveChanged};
+ghost use Rattle.statements.specs.Pieces.{only-words, without-table, with-table, FormalsBefore, enteredBy};
 ghost use Rattle.chain.specs.Finding.{Direct, ArgumentsReachable};
 
 fn own_at(code: &[u32; 4096], records: &[u32], live: usize, level: usize, place: usize) -> usize
@@ -42,7 +39,8 @@ fn cell_at(
     place: usize,
 ) -> usize
     requires { ⌜ (place < 4096) × Reachable (now words) (now records) live level (getD (now code) place 0) ⌝ }
-    ensures { λ r. ⌜ r ≡ cellBy (now (words .entry)) (firstCell (now (records .entry)) live level (getD (now (code .entry)) place 0)) (getD (now (code .entry)) place 0) ⌝ }
+    ensures { λ r. ⌜ r ≡ cellBy (now (words .entry)) (firstCell (now (records .entry)) live level (getD (now (code .entry)) place 0))
+        (getD (now (code .entry)) place 0) ⌝ }
 {
     cell(words, records, live, level, code_at(code, place))
 }
@@ -56,8 +54,10 @@ pub fn do_constant(
     at: usize,
 ) -> Move
     requires { ⌜ (at + 4 ≤ 4096) × Direct (now words) (now records) live level (getD (now code) (at + 1) 0) ⌝ }
-    ensures { λ r. ⌜ r ≡ (doConstant (byChain (now (words .entry)) (now (records .entry)) live level) (only-words (now (code .entry)) (now (words .entry)) at)) .move ⌝ }
-    ensures { λ _. ⌜ now (words .exit) ≡ (doConstant (byChain (now (words .entry)) (now (records .entry)) live level) (only-words (now (code .entry)) (now (words .entry)) at)) .words ⌝ }
+    ensures { λ r. ⌜ r ≡ (doConstant (byChain (now (words .entry)) (now (records .entry)) live level)
+        (only-words (now (code .entry)) (now (words .entry)) at)) .move ⌝ }
+    ensures { λ _. ⌜ now (words .exit) ≡ (doConstant (byChain (now (words .entry)) (now (records .entry)) live level)
+        (only-words (now (code .entry)) (now (words .entry)) at)) .words ⌝ }
 {
     constant(code, words, own_at(code, records, live, level, at + 1), at)
 }
@@ -71,8 +71,10 @@ pub fn do_constant_formal(
     at: usize,
 ) -> Move
     requires { ⌜ (at + 4 ≤ 4096) × Reachable (now words) (now records) live level (getD (now code) (at + 1) 0) ⌝ }
-    ensures { λ r. ⌜ r ≡ (doConstant (byChain (now (words .entry)) (now (records .entry)) live level) (only-words (now (code .entry)) (now (words .entry)) at)) .move ⌝ }
-    ensures { λ _. ⌜ now (words .exit) ≡ (doConstant (byChain (now (words .entry)) (now (records .entry)) live level) (only-words (now (code .entry)) (now (words .entry)) at)) .words ⌝ }
+    ensures { λ r. ⌜ r ≡ (doConstant (byChain (now (words .entry)) (now (records .entry)) live level)
+        (only-words (now (code .entry)) (now (words .entry)) at)) .move ⌝ }
+    ensures { λ _. ⌜ now (words .exit) ≡ (doConstant (byChain (now (words .entry)) (now (records .entry)) live level)
+        (only-words (now (code .entry)) (now (words .entry)) at)) .words ⌝ }
 {
     constant(
         code,
@@ -90,9 +92,12 @@ pub fn do_add(
     level: usize,
     at: usize,
 ) -> Move
-    requires { ⌜ (at + 5 ≤ 4096) × Direct (now words) (now records) live level (getD (now code) (at + 1) 0) × Direct (now words) (now records) live level (getD (now code) (at + 3) 0) × Direct (now words) (now records) live level (getD (now code) (at + 4) 0) ⌝ }
-    ensures { λ r. ⌜ r ≡ (doArithmetic (byChain (now (words .entry)) (now (records .entry)) live level) (only-words (now (code .entry)) (now (words .entry)) at) plus) .move ⌝ }
-    ensures { λ _. ⌜ now (words .exit) ≡ (doArithmetic (byChain (now (words .entry)) (now (records .entry)) live level) (only-words (now (code .entry)) (now (words .entry)) at) plus) .words ⌝ }
+    requires { ⌜ (at + 5 ≤ 4096) × Direct (now words) (now records) live level (getD (now code) (at + 1) 0) × Direct (now words)
+        (now records) live level (getD (now code) (at + 3) 0) × Direct (now words) (now records) live level (getD (now code) (at + 4) 0) ⌝ }
+    ensures { λ r. ⌜ r ≡ (doArithmetic (byChain (now (words .entry)) (now (records .entry)) live level)
+        (only-words (now (code .entry)) (now (words .entry)) at) plus) .move ⌝ }
+    ensures { λ _. ⌜ now (words .exit) ≡ (doArithmetic (byChain (now (words .entry)) (now (records .entry)) live level)
+        (only-words (now (code .entry)) (now (words .entry)) at) plus) .words ⌝ }
 {
     let target = own_at(code, records, live, level, at + 1);
     let left = own_at(code, records, live, level, at + 3);
@@ -108,9 +113,12 @@ pub fn do_subtract(
     level: usize,
     at: usize,
 ) -> Move
-    requires { ⌜ (at + 5 ≤ 4096) × Direct (now words) (now records) live level (getD (now code) (at + 1) 0) × Direct (now words) (now records) live level (getD (now code) (at + 3) 0) × Direct (now words) (now records) live level (getD (now code) (at + 4) 0) ⌝ }
-    ensures { λ r. ⌜ r ≡ (doArithmetic (byChain (now (words .entry)) (now (records .entry)) live level) (only-words (now (code .entry)) (now (words .entry)) at) minus) .move ⌝ }
-    ensures { λ _. ⌜ now (words .exit) ≡ (doArithmetic (byChain (now (words .entry)) (now (records .entry)) live level) (only-words (now (code .entry)) (now (words .entry)) at) minus) .words ⌝ }
+    requires { ⌜ (at + 5 ≤ 4096) × Direct (now words) (now records) live level (getD (now code) (at + 1) 0) × Direct (now words)
+        (now records) live level (getD (now code) (at + 3) 0) × Direct (now words) (now records) live level (getD (now code) (at + 4) 0) ⌝ }
+    ensures { λ r. ⌜ r ≡ (doArithmetic (byChain (now (words .entry)) (now (records .entry)) live level)
+        (only-words (now (code .entry)) (now (words .entry)) at) minus) .move ⌝ }
+    ensures { λ _. ⌜ now (words .exit) ≡ (doArithmetic (byChain (now (words .entry)) (now (records .entry)) live level)
+        (only-words (now (code .entry)) (now (words .entry)) at) minus) .words ⌝ }
 {
     let target = own_at(code, records, live, level, at + 1);
     let left = own_at(code, records, live, level, at + 3);
@@ -126,9 +134,12 @@ pub fn do_compare(
     level: usize,
     at: usize,
 ) -> Move
-    requires { ⌜ (at + 5 ≤ 4096) × Direct (now words) (now records) live level (getD (now code) (at + 1) 0) × Direct (now words) (now records) live level (getD (now code) (at + 3) 0) × Direct (now words) (now records) live level (getD (now code) (at + 4) 0) ⌝ }
-    ensures { λ r. ⌜ r ≡ (doArithmetic (byChain (now (words .entry)) (now (records .entry)) live level) (only-words (now (code .entry)) (now (words .entry)) at) less) .move ⌝ }
-    ensures { λ _. ⌜ now (words .exit) ≡ (doArithmetic (byChain (now (words .entry)) (now (records .entry)) live level) (only-words (now (code .entry)) (now (words .entry)) at) less) .words ⌝ }
+    requires { ⌜ (at + 5 ≤ 4096) × Direct (now words) (now records) live level (getD (now code) (at + 1) 0) × Direct (now words)
+        (now records) live level (getD (now code) (at + 3) 0) × Direct (now words) (now records) live level (getD (now code) (at + 4) 0) ⌝ }
+    ensures { λ r. ⌜ r ≡ (doArithmetic (byChain (now (words .entry)) (now (records .entry)) live level)
+        (only-words (now (code .entry)) (now (words .entry)) at) less) .move ⌝ }
+    ensures { λ _. ⌜ now (words .exit) ≡ (doArithmetic (byChain (now (words .entry)) (now (records .entry)) live level)
+        (only-words (now (code .entry)) (now (words .entry)) at) less) .words ⌝ }
 {
     let target = own_at(code, records, live, level, at + 1);
     let left = own_at(code, records, live, level, at + 3);
@@ -145,9 +156,12 @@ pub fn do_arithmetic_formal(
     level: usize,
     at: usize,
 ) -> Move
-    requires { ⌜ (at + 5 ≤ 4096) × Reachable (now words) (now records) live level (getD (now code) (at + 1) 0) × Reachable (now words) (now records) live level (getD (now code) (at + 3) 0) × Reachable (now words) (now records) live level (getD (now code) (at + 4) 0) ⌝ }
-    ensures { λ r. ⌜ r ≡ (doArithmetic (byChain (now (words .entry)) (now (records .entry)) live level) (only-words (now (code .entry)) (now (words .entry)) at) (operationOf (getD (now (code .entry)) (at + 2) 0))) .move ⌝ }
-    ensures { λ _. ⌜ now (words .exit) ≡ (doArithmetic (byChain (now (words .entry)) (now (records .entry)) live level) (only-words (now (code .entry)) (now (words .entry)) at) (operationOf (getD (now (code .entry)) (at + 2) 0))) .words ⌝ }
+    requires { ⌜ (at + 5 ≤ 4096) × Reachable (now words) (now records) live level (getD (now code) (at + 1) 0) × Reachable (now words)
+        (now records) live level (getD (now code) (at + 3) 0) × Reachable (now words) (now records) live level (getD (now code) (at + 4) 0) ⌝ }
+    ensures { λ r. ⌜ r ≡ (doArithmetic (byChain (now (words .entry)) (now (records .entry)) live level)
+        (only-words (now (code .entry)) (now (words .entry)) at) (operationOf (getD (now (code .entry)) (at + 2) 0))) .move ⌝ }
+    ensures { λ _. ⌜ now (words .exit) ≡ (doArithmetic (byChain (now (words .entry)) (now (records .entry)) live level)
+        (only-words (now (code .entry)) (now (words .entry)) at) (operationOf (getD (now (code .entry)) (at + 2) 0))) .words ⌝ }
 {
     let target = cell_at(code, words, records, live, level, at + 1);
     let left = cell_at(code, words, records, live, level, at + 3);
@@ -166,7 +180,8 @@ pub fn do_arithmetic_formal(
 // GO
 pub fn do_goto(code: &[u32; 4096], records: &[u32], live: usize, level: usize, at: usize) -> Move
     requires { ⌜ (at + 2 ≤ 4096) × Seen (now records) live level (getD (now code) (at + 1) 0) ⌝ }
-    ensures { λ r. ⌜ r ≡ Move.Jump (firstCell (now (records .entry)) live level (getD (now (code .entry)) (at + 1) 0) / 32) (targetIn (getD (now (code .entry)) (at + 1) 0)) ⌝ }
+    ensures { λ r. ⌜ r ≡ Move.Jump (firstCell (now (records .entry)) live level (getD (now (code .entry)) (at + 1) 0) / 32)
+        (targetIn (getD (now (code .entry)) (at + 1) 0)) ⌝ }
 {
     let label = code_at(code, at + 1);
     Move::Jump(first_cell(records, live, level, label) / 32, label / 65536)
@@ -181,7 +196,8 @@ pub fn do_goto_formal(
     at: usize,
 ) -> Move
     requires { ⌜ (at + 2 ≤ 4096) × ThroughFormal (now words) (now records) live level (getD (now code) (at + 1) 0) ⌝ }
-    ensures { λ r. ⌜ r ≡ (doGoto (byChain (now (words .entry)) (now (records .entry)) live level) (only-words (now (code .entry)) (now (words .entry)) at)) .move ⌝ }
+    ensures { λ r. ⌜ r ≡ (doGoto (byChain (now (words .entry)) (now (records .entry)) live level)
+        (only-words (now (code .entry)) (now (words .entry)) at)) .move ⌝ }
 {
     let to = held(words, records, live, level, code_at(code, at + 1));
     Move::Jump(to % 8192 / 32, to / 8192)
@@ -196,8 +212,10 @@ pub fn do_branch(
     level: usize,
     at: usize,
 ) -> Move
-    requires { ⌜ (at + 3 ≤ 4096) × Direct (now words) (now records) live level (getD (now code) (at + 1) 0) × Direct (now words) (now records) live level (getD (now code) (at + 2) 0) ⌝ }
-    ensures { λ r. ⌜ r ≡ (doBranch (byChain (now (words .entry)) (now (records .entry)) live level) (only-words (now (code .entry)) (now (words .entry)) at)) .move ⌝ }
+    requires { ⌜ (at + 3 ≤ 4096) × Direct (now words) (now records) live level (getD (now code) (at + 1) 0) × Direct (now words)
+        (now records) live level (getD (now code) (at + 2) 0) ⌝ }
+    ensures { λ r. ⌜ r ≡ (doBranch (byChain (now (words .entry)) (now (records .entry)) live level)
+        (only-words (now (code .entry)) (now (words .entry)) at)) .move ⌝ }
 {
     if words[own_at(code, records, live, level, at + 2)] == 0 {
         return Move::On(at + 3);
@@ -213,8 +231,10 @@ pub fn do_branch_formal(
     level: usize,
     at: usize,
 ) -> Move
-    requires { ⌜ (at + 3 ≤ 4096) × Reachable (now words) (now records) live level (getD (now code) (at + 1) 0) × Reachable (now words) (now records) live level (getD (now code) (at + 2) 0) ⌝ }
-    ensures { λ r. ⌜ r ≡ (doBranch (byChain (now (words .entry)) (now (records .entry)) live level) (only-words (now (code .entry)) (now (words .entry)) at)) .move ⌝ }
+    requires { ⌜ (at + 3 ≤ 4096) × Reachable (now words) (now records) live level (getD (now code) (at + 1) 0) × Reachable (now words)
+        (now records) live level (getD (now code) (at + 2) 0) ⌝ }
+    ensures { λ r. ⌜ r ≡ (doBranch (byChain (now (words .entry)) (now (records .entry)) live level)
+        (only-words (now (code .entry)) (now (words .entry)) at)) .move ⌝ }
 {
     if words[cell_at(code, words, records, live, level, at + 2)] == 0 {
         return Move::On(at + 3);
@@ -236,7 +256,9 @@ fn arguments(
     count: usize,
 )
     requires { ⌜ (live ≤ 254) × ArgumentsReachable (now code) (now records) live level at count ⌝ }
-    ensures { λ _. ⌜ now (words .exit) ≡ setAll (now (words .entry)) (32 * live + 32) (argumentsFrom (byChain (now (words .entry)) (now (records .entry)) live level) (only-words (now (code .entry)) (now (words .entry)) at) at count) ⌝ }
+    ensures { λ _. ⌜ now (words .exit) ≡ setAll (now (words .entry)) (32 * live + 32)
+        (argumentsFrom (byChain (now (words .entry)) (now (records .entry)) live level) (only-words (now (code .entry)) (now (words .entry)) at)
+        at count) ⌝ }
 {
     let first = 32 * live + 32;
     let mut i = 0;
@@ -259,9 +281,12 @@ fn enter_body(
     home: usize,
     body: usize,
 ) -> Move
-    requires { ⌜ (limit ≤ 256) × (live ≤ 255) × (at + 3 ≤ 4096) × ArgumentsReachable (now code) (now records) live level (at + 3) (getD (now code) (at + 2) 0) ⌝ }
-    ensures { λ r. ⌜ r ≡ (enteredBy (byChain (now (words .entry)) (now (records .entry)) live level) (without-table (now (code .entry)) (now (words .entry)) limit live at) home body) .move ⌝ }
-    ensures { λ _. ⌜ now (words .exit) ≡ (enteredBy (byChain (now (words .entry)) (now (records .entry)) live level) (without-table (now (code .entry)) (now (words .entry)) limit live at) home body) .words ⌝ }
+    requires { ⌜ (limit ≤ 256) × (live ≤ 255) × (at + 3 ≤ 4096) × ArgumentsReachable (now code) (now records) live level (at + 3)
+        (getD (now code) (at + 2) 0) ⌝ }
+    ensures { λ r. ⌜ r ≡ (enteredBy (byChain (now (words .entry)) (now (records .entry)) live level)
+        (without-table (now (code .entry)) (now (words .entry)) limit live at) home body) .move ⌝ }
+    ensures { λ _. ⌜ now (words .exit) ≡ (enteredBy (byChain (now (words .entry)) (now (records .entry)) live level)
+        (without-table (now (code .entry)) (now (words .entry)) limit live at) home body) .words ⌝ }
 {
     if limit <= live + 1 {
         return Move::Stop(Stop::NoActivationLeft);
@@ -280,9 +305,12 @@ pub fn do_call(
     limit: usize,
     at: usize,
 ) -> Move
-    requires { ⌜ (limit ≤ 256) × (live ≤ 255) × (at + 3 ≤ 4096) × ArgumentsReachable (now code) (now records) live level (at + 3) (getD (now code) (at + 2) 0) × Direct (now words) (now records) live level (getD (now code) (at + 1) 0) ⌝ }
-    ensures { λ r. ⌜ r ≡ (doCall (byChain (now (words .entry)) (now (records .entry)) live level) (without-table (now (code .entry)) (now (words .entry)) limit live at)) .move ⌝ }
-    ensures { λ _. ⌜ now (words .exit) ≡ (doCall (byChain (now (words .entry)) (now (records .entry)) live level) (without-table (now (code .entry)) (now (words .entry)) limit live at)) .words ⌝ }
+    requires { ⌜ (limit ≤ 256) × (live ≤ 255) × (at + 3 ≤ 4096) × ArgumentsReachable (now code) (now records) live level (at + 3)
+        (getD (now code) (at + 2) 0) × Direct (now words) (now records) live level (getD (now code) (at + 1) 0) ⌝ }
+    ensures { λ r. ⌜ r ≡ (doCall (byChain (now (words .entry)) (now (records .entry)) live level)
+        (without-table (now (code .entry)) (now (words .entry)) limit live at)) .move ⌝ }
+    ensures { λ _. ⌜ now (words .exit) ≡ (doCall (byChain (now (words .entry)) (now (records .entry)) live level)
+        (without-table (now (code .entry)) (now (words .entry)) limit live at)) .words ⌝ }
 {
     let procedure = code_at(code, at + 1);
     let home = first_cell(records, live, level, procedure) / 32;
@@ -309,9 +337,13 @@ pub fn do_call_formal(
     limit: usize,
     at: usize,
 ) -> Move
-    requires { ⌜ (limit ≤ 256) × (live ≤ 255) × (at + 3 ≤ 4096) × ArgumentsReachable (now code) (now records) live level (at + 3) (getD (now code) (at + 2) 0) × ThroughFormal (now words) (now records) live level (getD (now code) (at + 1) 0) × FormalsBefore (now code) (heldBy (now words) (firstCell (now records) live level (getD (now code) (at + 1) 0)) (getD (now code) (at + 1) 0) / 8192) ⌝ }
-    ensures { λ r. ⌜ r ≡ (doCallFormal (byChain (now (words .entry)) (now (records .entry)) live level) (without-table (now (code .entry)) (now (words .entry)) limit live at)) .move ⌝ }
-    ensures { λ _. ⌜ now (words .exit) ≡ (doCallFormal (byChain (now (words .entry)) (now (records .entry)) live level) (without-table (now (code .entry)) (now (words .entry)) limit live at)) .words ⌝ }
+    requires { ⌜ (limit ≤ 256) × (live ≤ 255) × (at + 3 ≤ 4096) × ArgumentsReachable (now code) (now records) live level (at + 3)
+        (getD (now code) (at + 2) 0) × ThroughFormal (now words) (now records) live level (getD (now code) (at + 1) 0) × FormalsBefore (now code)
+        (heldBy (now words) (firstCell (now records) live level (getD (now code) (at + 1) 0)) (getD (now code) (at + 1) 0) / 8192) ⌝ }
+    ensures { λ r. ⌜ r ≡ (doCallFormal (byChain (now (words .entry)) (now (records .entry)) live level)
+        (without-table (now (code .entry)) (now (words .entry)) limit live at)) .move ⌝ }
+    ensures { λ _. ⌜ now (words .exit) ≡ (doCallFormal (byChain (now (words .entry)) (now (records .entry)) live level)
+        (without-table (now (code .entry)) (now (words .entry)) limit live at)) .words ⌝ }
 {
     let procedure = held(words, records, live, level, code_at(code, at + 1));
     let body = procedure / 8192;
@@ -346,9 +378,12 @@ pub fn do_add_pair(
     limit: u32,
     at: usize,
 ) -> Move
-    requires { ⌜ (at + 3 ≤ 4096) × Reachable (now words) (now records) live level (getD (now code) (at + 1) 0) × Reachable (now words) (now records) live level (getD (now code) (at + 2) 0) ⌝ }
-    ensures { λ r. ⌜ r ≡ (doAdd (byChain (now (words .entry)) (now (records .entry)) live level) (with-table (now (code .entry)) (now (words .entry)) (now (table .entry)) pairs limit at)) .move ⌝ }
-    ensures { λ _. ⌜ now (table .exit) ≡ (doAdd (byChain (now (words .entry)) (now (records .entry)) live level) (with-table (now (code .entry)) (now (words .entry)) (now (table .entry)) pairs limit at)) .table ⌝ }
+    requires { ⌜ (at + 3 ≤ 4096) × Reachable (now words) (now records) live level (getD (now code) (at + 1) 0) × Reachable (now words)
+        (now records) live level (getD (now code) (at + 2) 0) ⌝ }
+    ensures { λ r. ⌜ r ≡ (doAdd (byChain (now (words .entry)) (now (records .entry)) live level)
+        (with-table (now (code .entry)) (now (words .entry)) (now (table .entry)) pairs limit at)) .move ⌝ }
+    ensures { λ _. ⌜ now (table .exit) ≡ (doAdd (byChain (now (words .entry)) (now (records .entry)) live level)
+        (with-table (now (code .entry)) (now (words .entry)) (now (table .entry)) pairs limit at)) .table ⌝ }
 {
     let group = words[cell_at(code, words, records, live, level, at + 1)];
     let member = words[cell_at(code, words, records, live, level, at + 2)];
@@ -365,9 +400,12 @@ pub fn do_remove_pair(
     pairs: usize,
     at: usize,
 ) -> Move
-    requires { ⌜ (at + 3 ≤ 4096) × Reachable (now words) (now records) live level (getD (now code) (at + 1) 0) × Reachable (now words) (now records) live level (getD (now code) (at + 2) 0) ⌝ }
-    ensures { λ r. ⌜ r ≡ (doRemove (byChain (now (words .entry)) (now (records .entry)) live level) (with-table (now (code .entry)) (now (words .entry)) (now (table .entry)) pairs 0 at)) .move ⌝ }
-    ensures { λ _. ⌜ now (table .exit) ≡ (doRemove (byChain (now (words .entry)) (now (records .entry)) live level) (with-table (now (code .entry)) (now (words .entry)) (now (table .entry)) pairs 0 at)) .table ⌝ }
+    requires { ⌜ (at + 3 ≤ 4096) × Reachable (now words) (now records) live level (getD (now code) (at + 1) 0) × Reachable (now words)
+        (now records) live level (getD (now code) (at + 2) 0) ⌝ }
+    ensures { λ r. ⌜ r ≡ (doRemove (byChain (now (words .entry)) (now (records .entry)) live level)
+        (with-table (now (code .entry)) (now (words .entry)) (now (table .entry)) pairs 0 at)) .move ⌝ }
+    ensures { λ _. ⌜ now (table .exit) ≡ (doRemove (byChain (now (words .entry)) (now (records .entry)) live level)
+        (with-table (now (code .entry)) (now (words .entry)) (now (table .entry)) pairs 0 at)) .table ⌝ }
 {
     let group = words[cell_at(code, words, records, live, level, at + 1)];
     let member = words[cell_at(code, words, records, live, level, at + 2)];
@@ -385,9 +423,12 @@ pub fn do_query(
     pairs: usize,
     at: usize,
 ) -> Move
-    requires { ⌜ (at + 4 ≤ 4096) × Reachable (now words) (now records) live level (getD (now code) (at + 1) 0) × Reachable (now words) (now records) live level (getD (now code) (at + 2) 0) × Reachable (now words) (now records) live level (getD (now code) (at + 3) 0) ⌝ }
-    ensures { λ r. ⌜ r ≡ (doQuery (byChain (now (words .entry)) (now (records .entry)) live level) (with-table (now (code .entry)) (now (words .entry)) (now (table .entry)) pairs 0 at)) .move ⌝ }
-    ensures { λ _. ⌜ now (words .exit) ≡ (doQuery (byChain (now (words .entry)) (now (records .entry)) live level) (with-table (now (code .entry)) (now (words .entry)) (now (table .entry)) pairs 0 at)) .words ⌝ }
+    requires { ⌜ (at + 4 ≤ 4096) × Reachable (now words) (now records) live level (getD (now code) (at + 1) 0) × Reachable (now words)
+        (now records) live level (getD (now code) (at + 2) 0) × Reachable (now words) (now records) live level (getD (now code) (at + 3) 0) ⌝ }
+    ensures { λ r. ⌜ r ≡ (doQuery (byChain (now (words .entry)) (now (records .entry)) live level)
+        (with-table (now (code .entry)) (now (words .entry)) (now (table .entry)) pairs 0 at)) .move ⌝ }
+    ensures { λ _. ⌜ now (words .exit) ≡ (doQuery (byChain (now (words .entry)) (now (records .entry)) live level)
+        (with-table (now (code .entry)) (now (words .entry)) (now (table .entry)) pairs 0 at)) .words ⌝ }
 {
     let target = cell_at(code, words, records, live, level, at + 1);
     let group = words[cell_at(code, words, records, live, level, at + 2)];

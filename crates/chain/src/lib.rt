@@ -5,5 +5,5 @@ pub use sheet::write_sheet;
 
 mod act;
 mod arms;
-mod run;
-mod sheet;
+pub mod run;
+pub mod sheet;

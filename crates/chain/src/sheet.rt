@@ -24,7 +24,8 @@ pub fn write_sheet(
     requires { ⌜ 3 * live ≤ length (now records) ⌝ }
     requires { ⌜ sheetShare * live ≤ length (now sheet) ⌝ }
     ensures { λ r.
-        ⌜ ((fs : List Frame) → Held (now (code .entry)) (now (words .entry)) (blocksIn (now (records .entry))) (nextsIn (now (records .entry))) fs → length fs ≡ live
+        ⌜ ((fs : List Frame) → Held (now (code .entry)) (now (words .entry)) (blocksIn (now (records .entry))) (nextsIn (now (records .entry))) fs
+        → length fs ≡ live
         → (now (sheet .exit) ≡ written (frameSheet fs) (now (sheet .entry))) × (r ≡ length (frameSheet fs))) ⌝ }
 {
     let mut at = 0;

@@ -1,5 +1,5 @@
 -- The looked-up name at a run's end: what its word in the innermost block says of it.
-use Prim.Native.Nat.{ℕ, _+_, _*_, _/_, _%_, _≤_, _<_}
+use Prim.Native.Nat.{ℕ, _+_, _≤_, _<_}
 use native.Mathlib.Omega.{arith}
 use mathlib.Core.List.{List}
 use mathlib.Core.Path.{_≡_, sym, ap, _∙_, subst}
@@ -43,6 +43,5 @@ module _ {code : List ℕ} {words : List ℤ} {blocks display : List ℕ} {live 
       seen-reached = let r = found .0 in record { own = omega (arith, r .own, live-there); whole = r .whole; cell = r .cell }
 
       pub seen-designates : (c : ℕ) → c ≡ cellBy words (firstCell display v) v
-          → 64 * (c / 32 + 1) + (c % 32 + 1) ≡ designates (w .running .standing .stack .frames) name
-      unfolding designatorOf
+          → designatorOf c ≡ designates (w .running .standing .stack .frames) name
       seen-designates c q = ap designatorOf q ∙ found .1

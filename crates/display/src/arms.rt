@@ -4,10 +4,8 @@ use super::names::cell;
 use super::names::first_cell;
 use super::names::held;
 use super::names::own_cell;
-use acting::Effect;
 use acting::Move;
 use language::Stop;
-use pairs::Change;
 use pairs::Query;
 use statements::changed;
 use statements::computed;
@@ -15,14 +13,12 @@ use statements::constant;
 use stepping::code_at;
 ghost use mathlib.Core.Path.{_≡_};
 ghost use Prim.Native.Nat.{_+_, _*_, _<_, _≤_, _%_, _/_};
-ghost use lib.ListN.{length, getD, set};
-ghost use Rattle.language.specs.Encoding.{signed};
-ghost use Rattle.language.specs.Table.{added, removed};
+ghost use lib.ListN.{getD};
 ghost use Rattle.language.specs.Text.{plus, minus, less};
 ghost use Rattle.resolved.specs.Resolved.{targetIn};
 ghost use Rattle.arrays.specs.Found.{cellBy, heldBy};
-ghost use Rattle.acting.specs.Acting.{arithmeticMove, doConstant, doArithmetic, operationOf, doGoto, doBranch, doBlock, doCall, doCallFormal, doAdd, doRemove, doQuery, argumentsFrom, setAll};
-ghost use Rattle.statements.specs.Pieces.{only-words, without-table, with-table, FormalsBefore, enteredBy, blockMove, moveAfter, moveChanged};
+ghost use Rattle.acting.specs.Acting.{doConstant, doArithmetic, operationOf, doGoto, doBranch, doCall, doCallFormal, doAdd, doRemove, doQuery, argumentsFrom, setAll};
+ghost use Rattle.statements.specs.Pieces.{only-words, without-table, with-table, FormalsBefore, enteredBy};
 ghost use Rattle.display.specs.Finding.{firstCell, ownCell, byDisplay, Reachable, Direct, ThroughFormal, ArgumentsReachable};
 
 fn own_at(code: &[u32; 4096], display: &[u16; 256], place: usize) -> usize

@@ -5,4 +5,4 @@ pub use run::run_program;
 mod act;
 mod arms;
 mod names;
-mod run;
+pub mod run;

@@ -1,8 +1,6 @@
 // Where a name lies, by the display: entry j is the first cell of the enclosing activation of level j.
 ghost use mathlib.Core.Path.{_≡_};
-ghost use mathlib.Core.Bool.{false};
 ghost use Prim.Native.Nat.{_+_, _<_};
-ghost use Rattle.resolved.specs.Resolved.{direct};
 ghost use Rattle.arrays.specs.Found.{cellBy, heldBy};
 ghost use Rattle.display.specs.Finding.{firstCell, ownCell, Reachable, ThroughFormal};
 

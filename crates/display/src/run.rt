@@ -10,10 +10,11 @@ use moves::jump;
 use moves::leave;
 use moves::note_place;
 use moves::wide;
+use sheets::designator_of;
 use stepping::code_at;
 ghost use mathlib.Core.Path.{_≡_};
 ghost use Prim.Native.Nat.{_+_, _*_, _/_, _%_, _<_};
-ghost use lib.ListN.{getD, set};
+ghost use lib.ListN.{set};
 ghost use Rattle.frames.specs.Frame.{designates, frameRun, frameStart};
 ghost use Rattle.moves.specs.Running.{limitsBy, Running, Looking, Placed};
 ghost use Rattle.display.specs.Turning.{Turned, Beginning, Ended, haltOf};
@@ -92,14 +93,6 @@ pub struct Halt {
     pub live: usize,
     pub pairs: usize,
     pub designator: u32,
-}
-
-// The designator of the name that has a cell.
-fn designator_of(c: usize) -> u32
-    requires { ⌜ c < 8192 ⌝ }
-    ensures { λ r. ⌜ r ≡ 64 * (c / 32 + 1) + (c % 32 + 1) ⌝ }
-{
-    (64 * (c / 32 + 1) + (c % 32 + 1)) as u32
 }
 
 // The designator of the looked-up name, whose word stands in the innermost block; 0 where it is not visible.

@@ -1,8 +1,8 @@
 -- Of an engine that runs (`Running`): `linked`: links can be followed from its innermost activation; `resumable`: the records of its activations can
 -- be read; `leaves-to`, `jumps-to`, `enters-to`: the state behind a return, a jump and an entry, from what was read and written.
-use Prim.Native.Nat.{ℕ, suc, pred, _+_, _-_, _*_, _/_, _%_, _≤_, _<_}
+use Prim.Native.Nat.{ℕ, suc, pred, _+_, _-_, _*_, _/_, _%_, _≤_}
 use native.Mathlib.Omega.{arith}
-use mathlib.Core.List.{List, [], _∷_}
+use mathlib.Core.List.{List}
 use mathlib.Core.Option.{some}
 use mathlib.Core.Path.{_≡_, refl, sym, ap, _∙_, subst}
 use lib.IntN.{ℤ}
@@ -12,9 +12,9 @@ use Rattle.language.specs.Text.{blockAt, blockDecls}
 use Rattle.language.specs.Machine.{Limits}
 use Rattle.laws.specs.Lists.{getElem-in}
 use Rattle.grammar.specs.Formed.{block-few}
-use Rattle.frames.specs.Frame.{Frame, numbered}
+use Rattle.frames.specs.Frame.{Frame}
 use Rattle.frames.specs.Numbered.{numbered-suc, numbered-index}
-use Rattle.coordinates.specs.Enclosure.{Enclosing, enclosed, Enclosure, Encloses}
+use Rattle.coordinates.specs.Enclosure.{enclosed, Enclosure}
 use Rattle.coordinates.specs.Chain.{enclosing, enclosureOf}
 use Rattle.resolved.specs.Resolved.{placeOf, endPlace}
 use Rattle.resolved.specs.Places.{block-fields, end-is, end-bound, place-bound, enclosed-formed}
@@ -32,7 +32,8 @@ use Rattle.links.specs.Running.{limitsBy, levelAt, endAt, nowAt, Running
 
 -- the place kept for the innermost activation may be any
 pub written-next : {code : List ℕ} {l : Limits} {words : List ℤ} {blocks nexts links : List ℕ} {table : List ℤ} {pairs live at end : ℕ}
-    → Standing code l words blocks nexts links table pairs live at end → (v : ℕ) → Standing code l words blocks (set nexts live v) links table pairs live at end
+    → Standing code l words blocks nexts links table pairs live at end → (v : ℕ) → Standing code l words blocks (set nexts live v)
+    links table pairs live at end
 written-next {words} {blocks} {nexts} {links} {live} {at} s v =
     record {
       name = s .name;
@@ -54,7 +55,8 @@ written-next {words} {blocks} {nexts} {links} {live} {at} s v =
       links-long = s .links-long;
     }
 
-module _ {code : List ℕ} {limit group : ℕ} {words : List ℤ} {records : List ℕ} {table : List ℤ} {here : Now} (w : Running code limit group words records table here) where
+module _ {code : List ℕ} {limit group : ℕ} {words : List ℤ} {records : List ℕ} {table : List ℤ} {here : Now}
+    (w : Running code limit group words records table here) where
   abbrev fs : List Frame
   fs = w .standing .stack .frames
 
@@ -78,14 +80,23 @@ module _ {code : List ℕ} {limit group : ℕ} {words : List ℤ} {records : Lis
 
   -- A return
 
-  pub leaves-to : here .at ≡ here .end → 1 ≤ here .live → Succeeds w words records table (nowAt code records (here .live - 1) (getD (nextsIn records) (here .live - 1) 0) (here .pairs))
+  pub leaves-to : here .at ≡ here .end → 1 ≤ here .live → Succeeds w words records table
+      (nowAt code records (here .live - 1) (getD (nextsIn records) (here .live - 1) 0) (here .pairs))
   leaves-to ended above =
       let l = leaves (w .standing) ended above in
       let one : pred (here .live) ≡ here .live - 1 = omega arith in
-      let stands : getElem? fs (here .live - 1) ≡ some (l .frame) = ap (getElem? fs) (sym one) ∙ numbered-index fs (here .live) (l .frame) (l .stands) in
-      let e : endPlace (l .frame .text) ≡ endAt code records (here .live - 1) = sym (reads.end-there (w .standing) (here .live - 1) (l .frame) stands) in
+      let stands : getElem? fs (here .live - 1) ≡ some (l .frame) = ap (getElem? fs) (sym one) ∙ numbered-index fs (here .live) (l .frame)
+      (l .stands) in
+      let e : endPlace (l .frame .text) ≡ endAt code records (here .live - 1) = sym (reads.end-there (w .standing) (here .live - 1) (l .frame) stands)
+      in
       subst (λ (n : Now). Succeeds w words records table n)
-      (λ i. record { live = here .live - 1; at = getD (nextsIn records) (here .live - 1) 0; end = e i; pairs = here .pairs; level = levelAt code records (here .live - 1) })
+      (λ i. record {
+        live = here .live - 1;
+        at = getD (nextsIn records) (here .live - 1) 0;
+        end = e i;
+        pairs = here .pairs;
+        level = levelAt code records (here .live - 1);
+      })
       (record { running = record { standing = l .standing; level-is = refl; room = w .room }; follows = l .follows })
 
   -- A jump
@@ -97,16 +108,20 @@ module _ {code : List ℕ} {limit group : ℕ} {words : List ℤ} {records : Lis
     pub jumps-to : Succeeds w words records table (nowAt code records home at′ (here .pairs))
     jumps-to =
         let l = jumped (w .standing) home at′ j in
-        let e : endPlace (l .frame .text) ≡ endAt code records home = sym (reads.end-there (w .standing) home (l .frame) (numbered-index fs (suc home) (l .frame) (l .stands))) in
-        subst (λ (n : Now). Succeeds w words records table n) (λ i. record { live = home; at = at′; end = e i; pairs = here .pairs; level = levelAt code records home })
+        let e : endPlace (l .frame .text) ≡ endAt code records home = sym
+        (reads.end-there (w .standing) home (l .frame) (numbered-index fs (suc home) (l .frame) (l .stands))) in
+        subst (λ (n : Now). Succeeds w words records table n)
+        (λ i. record { live = home; at = at′; end = e i; pairs = here .pairs; level = levelAt code records home })
         (record { running = record { standing = l .standing; level-is = refl; room = w .room }; follows = l .follows })
 
     -- within the innermost activation nothing has to be read
-    pub jumps-here : home ≡ here .live → Succeeds w words records table (record { live = here .live; at = at′; end = here .end; pairs = here .pairs; level = here .level })
+    pub jumps-here : home ≡ here .live → Succeeds w words records table
+        (record { live = here .live; at = at′; end = here .end; pairs = here .pairs; level = here .level })
     jumps-here e =
         let ends : endAt code records home ≡ here .end = ap (endAt code records) e ∙ reads.end-here (w .standing) in
         let level : levelAt code records home ≡ here .level = ap (levelAt code records) e ∙ sym (w .level-is) in
-        subst (λ (n : Now). Succeeds w words records table n) (λ i. record { live = e i; at = at′; end = ends i; pairs = here .pairs; level = level i }) jumps-to
+        subst (λ (n : Now). Succeeds w words records table n)
+        (λ i. record { live = e i; at = at′; end = ends i; pairs = here .pairs; level = level i }) jumps-to
 
   -- An entry
 
@@ -133,8 +148,19 @@ module _ {code : List ℕ} {limit group : ℕ} {words : List ℤ} {records : Lis
         let formed = enclosed-formed (s .program) (s .keeps) e around (j .encloses) in
         let few = block-few (suc (length around)) (j .formals) (2 * placeOf (blockAt (j .text))) (j .text) formed in
         record {
-          body-within = omega (arith, j .body-is, end-is (j .text) (suc (length around)) (j .formals) (placeOf (blockAt (j .text))) formed, block-fields (j .text), end-bound (s .program) (s .keeps) e around (j .encloses));
-          back-within = omega (arith, j .back-is, place-bound (s .program) (s .keeps) (enclosing (s .frame)) (enclosureOf fs (s .frame .link)) (encloses-here s) (suc (s .frame .next)) (omega arith));
+          body-within = omega (
+            arith,
+            j .body-is,
+            end-is (j .text) (suc (length around)) (j .formals) (placeOf (blockAt (j .text))) formed,
+            block-fields (j .text),
+            end-bound (s .program) (s .keeps) e around (j .encloses),
+          );
+          back-within = omega (
+            arith,
+            j .back-is,
+            place-bound (s .program) (s .keeps) (enclosing (s .frame)) (enclosureOf fs (s .frame .link))
+                (encloses-here s) (suc (s .frame .next)) (omega arith),
+          );
           room-here = room-there (here .live) (omega arith);
           room-next = record { few = omega (arith, j .room, s .sound .limit); there = omega (arith, j .room, w .room) };
           link-high = j .link-high;
@@ -147,7 +173,8 @@ module _ {code : List ℕ} {limit group : ℕ} {words : List ℤ} {records : Lis
 
     abbrev Stands : List ℤ → List ℕ → List ℕ → List ℕ → ℕ → ℕ → Type 0
     Stands words″ blocks nexts links at end =
-        (s : Standing code (limitsBy limit group) words″ blocks nexts links table (here .pairs) fresh at end) × Follows (w .standing) (s .stack) (s .program) (s .name)
+        (s : Standing code (limitsBy limit group) words″ blocks nexts links table (here .pairs) fresh at end) × Follows (w .standing) (s .stack)
+        (s .program) (s .name)
 
     module _ (head bounds : ℕ) (head-is : head ≡ getD code body 0) (bounds-are : bounds ≡ getD code (body + 1) 0)
         (records₁ records₂ : List ℕ) (n : NextSet records records₁ (here .live) back) (p : Pushed records₁ records₂ fresh body (bounds / 65536) link)
@@ -159,20 +186,25 @@ module _ {code : List ℕ} {limit group : ℕ} {words : List ℤ} {records : Lis
           let fe : head / 65536 % 256 ≡ length (j .formals) = ap (λ x. x / 65536 % 256) head-is ∙ h .formals in
           let ne : head / 16777216 ≡ length (j .formals) + length (blockDecls (j .text)) = ap (λ x. x / 16777216) head-is ∙ h .names in
           let c : Cleared words′ (32 * fresh + length (j .formals)) (32 * fresh + (length (j .formals) + length (blockDecls (j .text)))) words″ =
-          subst (λ m. Cleared words′ (32 * fresh + length (j .formals)) (32 * fresh + m) words″) ne (subst (λ m. Cleared words′ (32 * fresh + m) (32 * fresh + head / 16777216) words″) fe cleared) in
+          subst (λ m. Cleared words′ (32 * fresh + length (j .formals)) (32 * fresh + m) words″) ne
+          (subst (λ m. Cleared words′ (32 * fresh + m) (32 * fresh + head / 16777216) words″) fe cleared) in
           let e = entered (w .standing) body link back words′ j words″ c in
           let bs : set (blocksIn records) fresh body ≡ blocksIn records₂ = sym (p .blocks ∙ ap (λ (xs : List ℕ). set xs fresh body) (n .blocks)) in
-          let ns : set (set (nextsIn records) (here .live) back) fresh (bounds / 65536) ≡ nextsIn records₂ = sym (p .nexts ∙ ap (λ (xs : List ℕ). set xs fresh (bounds / 65536)) (n .nexts)) in
+          let ns : set (set (nextsIn records) (here .live) back) fresh (bounds / 65536) ≡ nextsIn records₂ = sym
+          (p .nexts ∙ ap (λ (xs : List ℕ). set xs fresh (bounds / 65536)) (n .nexts)) in
           let ls : set (linksIn records) fresh link ≡ linksIn records₂ = sym (p .links ∙ ap (λ (xs : List ℕ). set xs fresh link) (n .links)) in
           let first = sym (ap (λ x. x / 65536) bounds-are ∙ h .first) in
           let ends = sym (ap (λ x. x % 65536) bounds-are ∙ h .ends) in
-          subst (λ (T : Type 0). T) (λ i. Stands words″ (bs i) (ns i) (ls i) (first i) (ends i)) (written-next (e .standing) (bounds / 65536), e .follows)
+          subst (λ (T : Type 0). T) (λ i. Stands words″ (bs i) (ns i) (ls i) (first i) (ends i))
+          (written-next (e .standing) (bounds / 65536), e .follows)
 
       block-there : getD (blocksIn records₂) fresh 0 ≡ body
       block-there =
-          ap (λ (xs : List ℕ). getD xs fresh 0) (p .blocks) ∙ getD-set-same (blocksIn records₁) fresh body 0 (omega (arith, entry-fits .room-next .few, column-length records₁ 0 0 256))
+          ap (λ (xs : List ℕ). getD xs fresh 0) (p .blocks) ∙ getD-set-same (blocksIn records₁) fresh body 0
+          (omega (arith, entry-fits .room-next .few, column-length records₁ 0 0 256))
 
-      pub enters-to : Succeeds w words″ records₂ table (record { live = fresh; at = bounds / 65536; end = bounds % 65536; pairs = here .pairs; level = head / 256 % 256 })
+      pub enters-to : Succeeds w words″ records₂ table
+          (record { live = fresh; at = bounds / 65536; end = bounds % 65536; pairs = here .pairs; level = head / 256 % 256 })
       enters-to =
           let s = stood in
           record {

@@ -1,9 +1,9 @@
 -- Names found by an engine that runs (`Running`): its way of finding them is right (`finds-by-chain`), and what it may read of a name of the next
 -- statement (`reachable`), or of the looked-up one (`seen-reached`). `not-seen`, `seen-designates`, `seen-links`: what is found of the latter.
-use Prim.Native.Nat.{ℕ, pred, _+_, _*_, _-_, _/_, _%_, _≤_}
+use Prim.Native.Nat.{ℕ, pred, _+_, _*_, _-_, _≤_}
 use native.Mathlib.Omega.{arith}
 use mathlib.Core.List.{List}
-use mathlib.Core.Option.{none, some}
+use mathlib.Core.Option.{some}
 use mathlib.Core.Path.{_≡_, sym, ap, _∙_, subst}
 use lib.IntN.{ℤ}
 use lib.ListN.{length, getD, set}
@@ -33,8 +33,10 @@ use Rattle.links.specs.Moving.{linked}
 abbrev pub foundIn : List Frame → ℕ → Found
 foundIn fs name = record { designator = designates fs name; links = linksFollowed fs name }
 
-module _ {code : List ℕ} {limit group : ℕ} {words : List ℤ} {records : List ℕ} {table : List ℤ} {here : Now} (w : Running code limit group words records table here) where
-  abbrev st : Standing code (limitsBy limit group) words (blocksIn records) (nextsIn records) (linksIn records) table (here .pairs) (here .live) (here .at) (here .end)
+module _ {code : List ℕ} {limit group : ℕ} {words : List ℤ} {records : List ℕ} {table : List ℤ} {here : Now}
+    (w : Running code limit group words records table here) where
+  abbrev st : Standing code (limitsBy limit group) words (blocksIn records) (nextsIn records) (linksIn records) table (here .pairs) (here .live)
+      (here .at) (here .end)
   st = w .standing
 
   abbrev fs : List Frame
@@ -56,10 +58,12 @@ module _ {code : List ℕ} {limit group : ℕ} {words : List ℤ} {records : Lis
   module _ (n : ℕ) (c : Coordinate) (e : coordinateOf (enclosureOf fs (length fs)) n ≡ some c) where
     seen-at : Seen records (here .live) (here .level) (wordOf st n)
     seen-at =
-        let a = named-by-links (st .program) (st .keeps) fs (st .sound .chained) n c e (st .sound .wired) (blocksIn records) (set (nextsIn records) (here .live) (here .at)) (linksIn records) words (st .holds) in
+        let a = named-by-links (st .program) (st .keeps) fs (st .sound .chained) n c e (st .sound .wired) (blocksIn records)
+        (set (nextsIn records) (here .live) (here .at)) (linksIn records) words (st .holds) in
         record { linked = linked w; outer = subst (λ m. levelIn (wordOf st n) ≤ m) level-there (a .level-high) }
 
-  as-reachable : (v : ℕ) → Seen records (here .live) (here .level) v → Reaches words (here .live) (firstCell records (here .live) (here .level) v) v → Reachable words records (here .live) (here .level) v
+  as-reachable : (v : ℕ) → Seen records (here .live) (here .level) v → Reaches words (here .live) (firstCell records (here .live) (here .level) v) v
+      → Reachable words records (here .live) (here .level) v
   as-reachable v s r = record { seen = s; own = omega (arith, r .own, live-few st); whole = r .whole; cell = r .cell }
 
   -- the names of the next statement
@@ -88,7 +92,8 @@ module _ {code : List ℕ} {limit group : ℕ} {words : List ℤ} {records : Lis
     pub not-seen : v ≡ 0 → (0 ≡ designates fs name) × (0 ≡ linksFollowed fs name)
     not-seen z =
         let no-word : wordOf st name ≡ 0 = sym is-word ∙ z in
-        let none-there = (sought-none-iff fs (downward st) (length fs) (length fs) name 0 (omega arith)) .1 ((word-none-iff (enclosureOf fs (length fs)) name) .0 no-word) in
+        let none-there = (sought-none-iff fs (downward st) (length fs) (length fs) name 0 (omega arith)) .1
+        ((word-none-iff (enclosureOf fs (length fs)) name) .0 no-word) in
         (sym (unseen-word st name no-word), sym (links-none fs name (seekName-starts fs name ∙ none-there)))
 
     module _ (d : v ≡ 0 → ⊥) where
@@ -98,18 +103,20 @@ module _ {code : List ℕ} {limit group : ℕ} {words : List ℤ} {records : Lis
       found : Reaches words (here .live) (firstCell records (here .live) (here .level) (wordOf st name)) (wordOf st name)
           × (designatorOf (cellBy words (firstCell records (here .live) (here .level) (wordOf st name)) (wordOf st name)) ≡ designates fs name)
       found =
-          subst (λ m. Reaches words (here .live) m (wordOf st name) × (designatorOf (cellBy words m (wordOf st name)) ≡ designates fs name)) (first-is (wordOf st name))
+          subst (λ m. Reaches words (here .live) m (wordOf st name) × (designatorOf (cellBy words m (wordOf st name)) ≡ designates fs name))
+          (first-is (wordOf st name))
           (seen-by-links st name (λ z. d (is-word ∙ z)))
 
       pub seen-reached : Reachable words records (here .live) (here .level) v
       seen-reached =
-          subst (Reachable words records (here .live) (here .level)) (sym is-word) (as-reachable (wordOf st name) (seen-at name (coordinate .0) (coordinate .1)) (found .0))
+          subst (Reachable words records (here .live) (here .level)) (sym is-word)
+          (as-reachable (wordOf st name) (seen-at name (coordinate .0) (coordinate .1)) (found .0))
 
-      pub seen-designates : (c : ℕ) → c ≡ cellBy words (firstCell records (here .live) (here .level) v) v → 64 * (c / 32 + 1) + (c % 32 + 1) ≡ designates fs name
-      unfolding designatorOf
+      pub seen-designates : (c : ℕ) → c ≡ cellBy words (firstCell records (here .live) (here .level) v) v → designatorOf c ≡ designates fs name
       seen-designates c q = ap designatorOf (q ∙ ap (λ u. cellBy words (firstCell records (here .live) (here .level) u) u) is-word) ∙ found .1
 
       pub seen-links : here .level - levelIn v ≡ linksFollowed fs name
       seen-links =
           ap (λ u. here .level - levelIn u) is-word
-          ∙ sym (followed-links (st .program) (st .keeps) fs (st .sound .chained) name (coordinate .0) (coordinate .1) ∙ ap (λ m. m - levelIn (wordOf st name)) level-there)
+          ∙ sym (followed-links (st .program) (st .keeps) fs (st .sound .chained) name (coordinate .0) (coordinate .1)
+          ∙ ap (λ m. m - levelIn (wordOf st name)) level-there)

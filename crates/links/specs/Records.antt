@@ -49,13 +49,15 @@ column-first records k h = let e : 3 * k + 0 ≡ 3 * k = omega arith in column-r
 module _ (records : List ℕ) (k i v : ℕ) (few : k < 256) (i-few : i < 3) (room : 3 * k + 3 ≤ length records) where
   pub column-set : column (set records (3 * k + i) v) i 0 256 ≡ set (column records i 0 256) k v
   column-set =
-      ext-getD 0 (column (set records (3 * k + i) v) i 0 256) (set (column records i 0 256) k v) (column-length _ i 0 256 ∙ sym (length-set (column records i 0 256) k v ∙ column-length records i 0 256))
+      ext-getD 0 (column (set records (3 * k + i) v) i 0 256) (set (column records i 0 256) k v)
+      (column-length _ i 0 256 ∙ sym (length-set (column records i 0 256) k v ∙ column-length records i 0 256))
       (λ j h. let low : j < 256 = omega (arith, column-length (set records (3 * k + i) v) i 0 256) in
       column-read (set records (3 * k + i) v) i j low
       ∙ split (eqb j k)
       (λ t. let e : j ≡ k = eqb-true j k t in
       ap (λ m. getD (set records (3 * k + i) v) (3 * m + i) 0) e ∙ getD-set-same records (3 * k + i) v 0 (omega arith)
-      ∙ sym (ap (λ m. getD (set (column records i 0 256) k v) m 0) e ∙ getD-set-same (column records i 0 256) k v 0 (omega (arith, column-length records i 0 256))))
+      ∙ sym (ap (λ m. getD (set (column records i 0 256) k v) m 0) e ∙ getD-set-same (column records i 0 256) k v 0
+      (omega (arith, column-length records i 0 256))))
       (λ t. let d = eqb-false j k t in
       getD-set-other records (3 * k + i) (3 * j + i) v 0 (λ e. d (omega arith)) ∙ sym (column-read records i j low)
       ∙ sym (getD-set-other (column records i 0 256) k j v 0 d)))
@@ -64,7 +66,8 @@ module _ (records : List ℕ) (k i v : ℕ) (few : k < 256) (i-few : i < 3) (roo
   column-kept c c-few d =
       ext-getD 0 (column (set records (3 * k + i) v) c 0 256) (column records c 0 256) (column-length _ c 0 256 ∙ sym (column-length records c 0 256))
       (λ j h. let low : j < 256 = omega (arith, column-length (set records (3 * k + i) v) c 0 256) in
-      column-read (set records (3 * k + i) v) c j low ∙ getD-set-other records (3 * k + i) (3 * j + c) v 0 (λ e. d (omega arith)) ∙ sym (column-read records c j low))
+      column-read (set records (3 * k + i) v) c j low ∙ getD-set-other records (3 * k + i) (3 * j + c) v 0 (λ e. d (omega arith))
+      ∙ sym (column-read records c j low))
 
 -- the record of activation k is in the slice
 pub record Room (records : List ℕ) (k : ℕ) : Type 0 where
@@ -87,7 +90,8 @@ pub record Pushed (records records′ : List ℕ) (k block next link : ℕ) : Ty
   pub links : linksIn records′ ≡ set (linksIn records) k link
   pub long : length records′ ≡ length records
 
-pub pushed : (records : List ℕ) (k block next link : ℕ) → Room records k → Pushed records (set (set (set records (3 * k) block) (3 * k + 1) next) (3 * k + 2) link) k block next link
+pub pushed : (records : List ℕ) (k block next link : ℕ) → Room records k → Pushed records
+    (set (set (set records (3 * k) block) (3 * k + 1) next) (3 * k + 2) link) k block next link
 pushed records k block next link r =
     let z : 3 * k ≡ 3 * k + 0 = omega arith in
     subst (λ p. Pushed records (set (set (set records p block) (3 * k + 1) next) (3 * k + 2) link) k block next link) (sym z)
@@ -98,11 +102,14 @@ pushed records k block next link r =
     let room-a : 3 * k + 3 ≤ length a = omega (arith, r .there) in
     let room-b : 3 * k + 3 ≤ length b = omega (arith, r .there) in
     record {
-      blocks = column-kept b k 2 link (r .few) (omega arith) room-b 0 (omega arith) (λ e. omega arith) ∙ column-kept a k 1 next (r .few) (omega arith) room-a 0 (omega arith) (λ e. omega arith) ∙ column-set records k 0 block (r .few) (omega arith) (r .there);
-      nexts = column-kept b k 2 link (r .few) (omega arith) room-b 1 (omega arith) (λ e. omega arith) ∙ column-set a k 1 next (r .few) (omega arith) room-a
+      blocks = column-kept b k 2 link (r .few) (omega arith) room-b 0 (omega arith) (λ e. omega arith) ∙ column-kept a k 1 next (r .few)
+          (omega arith) room-a 0 (omega arith) (λ e. omega arith) ∙ column-set records k 0 block (r .few) (omega arith) (r .there);
+      nexts = column-kept b k 2 link (r .few) (omega arith) room-b 1 (omega arith) (λ e. omega arith) ∙ column-set a k 1 next (r .few)
+          (omega arith) room-a
           ∙ ap (λ (xs : List ℕ). set xs k next) (column-kept records k 0 block (r .few) (omega arith) (r .there) 1 (omega arith) (λ e. omega arith));
       links = column-set b k 2 link (r .few) (omega arith) room-b
-          ∙ ap (λ (xs : List ℕ). set xs k link) (column-kept a k 1 next (r .few) (omega arith) room-a 2 (omega arith) (λ e. omega arith) ∙ column-kept records k 0 block (r .few) (omega arith) (r .there) 2 (omega arith) (λ e. omega arith));
+          ∙ ap (λ (xs : List ℕ). set xs k link) (column-kept a k 1 next (r .few) (omega arith) room-a 2 (omega arith) (λ e. omega arith)
+          ∙ column-kept records k 0 block (r .few) (omega arith) (r .there) 2 (omega arith) (λ e. omega arith));
       long = length-set b (3 * k + 2) link ∙ lb;
     })
 

@@ -30,7 +30,8 @@ abbrev pub nowAt : List ℕ → List ℕ → ℕ → ℕ → ℕ → Now
 nowAt code records home at pairs = record { live = home; at = at; end = endAt code records home; pairs = pairs; level = levelAt code records home }
 
 pub record Running (code : List ℕ) (limit group : ℕ) (words : List ℤ) (records : List ℕ) (table : List ℤ) (here : Now) : Type 0 where
-  pub standing : Standing code (limitsBy limit group) words (blocksIn records) (nextsIn records) (linksIn records) table (here .pairs) (here .live) (here .at) (here .end)
+  pub standing : Standing code (limitsBy limit group) words (blocksIn records) (nextsIn records) (linksIn records) table (here .pairs) (here .live)
+      (here .at) (here .end)
   pub level-is : here .level ≡ levelAt code records (here .live)
   pub room : 3 * limit ≤ length records
 
@@ -41,7 +42,8 @@ pub record Doing (code : List ℕ) (words : List ℤ) (records : List ℕ) (tabl
   pub before : at ≡ end → ⊥
 
 -- the state one step behind
-pub record Succeeds {code : List ℕ} {limit group : ℕ} {words : List ℤ} {records : List ℕ} {table : List ℤ} {here : Now} (w : Running code limit group words records table here)
+pub record Succeeds {code : List ℕ} {limit group : ℕ} {words : List ℤ} {records : List ℕ} {table : List ℤ} {here : Now}
+    (w : Running code limit group words records table here)
     (words′ : List ℤ) (records′ : List ℕ) (table′ : List ℤ) (here′ : Now) : Type 0 where
   pub running : Running code limit group words′ records′ table′ here′
   pub follows : Follows (w .standing) (running .standing .stack) (running .standing .program) (running .standing .name)

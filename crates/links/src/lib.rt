@@ -1,4 +1,5 @@
 // The static chain: the activation records in a lent slice, names found by following their links, and another activation becoming the innermost one.
+use sheets::designator_of;
 use stepping::clear;
 use stepping::code_at;
 ghost use mathlib.Core.Path.{_≡_};
@@ -144,7 +145,8 @@ fn resumed(code: &[u32; 4096], records: &[u32], home: usize, at: usize, pairs: u
 // The activation below goes on.
 pub fn leave(code: &[u32; 4096], records: &[u32], here: Now) -> Now
     requires { ⌜ LeaveReady (now code) (now records) here ⌝ }
-    ensures { λ r. ⌜ ((w : LeaveReady (now (code .entry)) (now (records .entry)) here) → Succeeds (w .running) (w .words) (now (records .entry)) (w .table) r) ⌝ }
+    ensures { λ r. ⌜ ((w : LeaveReady (now (code .entry)) (now (records .entry)) here) → Succeeds (w .running) (w .words) (now (records .entry))
+        (w .table) r) ⌝ }
 {
     let live = here.live - 1;
     resumed(code, records, live, read_next(records, live), here.pairs)
@@ -153,7 +155,8 @@ pub fn leave(code: &[u32; 4096], records: &[u32], here: Now) -> Now
 // An activation that is live becomes the innermost one.
 pub fn jump(code: &[u32; 4096], records: &[u32], here: Now, home: usize, at: usize) -> Now
     requires { ⌜ JumpReady (now code) (now records) here home at ⌝ }
-    ensures { λ r. ⌜ ((w : JumpReady (now (code .entry)) (now (records .entry)) here home at) → Succeeds (w .running) (w .words) (now (records .entry)) (w .table) r) ⌝ }
+    ensures { λ r. ⌜ ((w : JumpReady (now (code .entry)) (now (records .entry)) here home at) → Succeeds (w .running) (w .words)
+        (now (records .entry)) (w .table) r) ⌝ }
 {
     if home == here.live {
         return Now {
@@ -178,7 +181,8 @@ pub fn enter(
     back: usize,
 ) -> Now
     requires { ⌜ EnterReady (now code) (now words) (now records) here body link back ⌝ }
-    ensures { λ r. ⌜ ((w : EnterReady (now (code .entry)) (now (words .entry)) (now (records .entry)) here body link back) → Succeeds (w .running) (now (words .exit)) (now (records .exit)) (w .table) r) ⌝ }
+    ensures { λ r. ⌜ ((w : EnterReady (now (code .entry)) (now (words .entry)) (now (records .entry)) here body link back) → Succeeds (w .running)
+        (now (words .exit)) (now (records .exit)) (w .table) r) ⌝ }
 {
     let head = code_at(code, body);
     let bounds = code_at(code, body + 1);
@@ -203,14 +207,6 @@ pub fn enter(
 pub struct Found {
     pub designator: u32,
     pub links: u32,
-}
-
-// The designator of the name that has a cell.
-fn designator_of(c: usize) -> u32
-    requires { ⌜ c < 8192 ⌝ }
-    ensures { λ r. ⌜ r ≡ 64 * (c / 32 + 1) + (c % 32 + 1) ⌝ }
-{
-    (64 * (c / 32 + 1) + (c % 32 + 1)) as u32
 }
 
 // The looked-up name's word stands in the innermost block.

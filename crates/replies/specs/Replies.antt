@@ -4,7 +4,7 @@
 -- `room-for-sheet`, `tally-fits`: there is room for it, and the tally can be added to.
 use Prim.Native.Nat.{ℕ, _*_, _≤_}
 use native.Mathlib.Omega.{arith}
-use mathlib.Core.Bool.{false, _&&_}
+use mathlib.Core.Bool.{true, false, _&&_}
 use mathlib.Core.List.{List}
 use mathlib.Core.Path.{_≡_, refl, sym, ap, _∙_}
 use borrow.Author.Tests.{leb-true}
@@ -23,7 +23,7 @@ use Rattle.laws.specs.Tests.{both}
 use Rattle.grammar.specs.Rules.{Bytes, Keeps}
 use Rattle.runs.specs.Admission.{Admitted, limits-fit, sheet-fits, sheet-lent, refused-exactly, accepted-exactly}
 use Rattle.runs.specs.Calls.{due-reply, admitted-answered}
-use Rattle.frames.specs.Frame.{Stack, Result, designates, frameSheet, frameReplied, frameRunOf, frameReply}
+use Rattle.frames.specs.Frame.{Stack, Result, designates, linksFollowed, frameSheet, frameReplied, frameRunOf, frameReply}
 use Rattle.frames.specs.Theorem.{frames-run-as-copies}
 use Rattle.coordinates.specs.Sound.{Sound}
 use Rattle.resolved.specs.Resolved.{resolvedOf, Covers}
@@ -90,6 +90,11 @@ module _ (e : Engine) (f : Fed) (bytes : Bytes (f .script)) (t : Block) (h : Adm
 pub no-links : (e : Engine) (f : Fed) (r : Result) → e .links ≡ false → 0 ≡ (frameReplied e f r) .answer .links
 unfolding frameReplied linksOf
 no-links e f r q = rw q
+
+-- and one that reports them
+pub with-links : (e : Engine) (f : Fed) (r : Result) → e .links ≡ true → linksFollowed (r .final .frames) (f .name) ≡ (frameReplied e f r) .answer .links
+unfolding frameReplied linksOf
+with-links e f r q = rw q
 
 -- Arrays that hold the frames of a sound stack can be written as a sheet
 pub result-held : (code : List ℕ) (words : List ℤ) (blocks nexts links : List ℕ) (name : ℕ) (t : Block) (l : Limits) (s : Stack) → Keeps t → Covers code 0 (resolvedOf name t) → Sound l t s

@@ -155,7 +155,8 @@ module _ (F : Finding) (s : Scene) where
 
   changed-by :
       (f : ℤ → ℤ → table.Effect) {a b : ℤ} {m : Move} {c : Change} {ws : List ℤ} →
-      a ≡ valueOf F s (field s 1) → b ≡ valueOf F s (field s 2) → m ≡ moveChanged c (s .at + 3) → c ≡ outcomes.changeOf (f a b) → ws ≡ outcomes.wordsAfter (s .table)
+      a ≡ valueOf F s (field s 1) → b ≡ valueOf F s (field s 2) → m ≡ moveChanged c (s .at + 3) → c ≡ outcomes.changeOf (f a b)
+      → ws ≡ outcomes.wordsAfter (s .table)
       (f a b) →
       (m ≡ changes F s (f (valueOf F s (field s 1)) (valueOf F s (field s 2))) .move) ×
       (ws ≡ changes F s (f (valueOf F s (field s 1)) (valueOf F s (field s 2))) .table)
@@ -199,11 +200,15 @@ module _ (F : Finding) (s : Scene) where
     read : q ≡ outcomes.valueOf asked
     read = e ∙ ap₂ (λ (x y : ℤ). outcomes.valueOf (table.queried x y (tableNow F s))) p r
 
-    pub query-gives : {c : ℕ} {z : ℤ} → c ≡ F .cell (field s 1) → q ≡ Value z → (On (s .at + 4) ≡ doQuery F s .move) × (set (s .words) c z ≡ doQuery F s .words)
+    pub query-gives : {c : ℕ} {z : ℤ} → c ≡ F .cell (field s 1) → q ≡ Value z → (On (s .at + 4) ≡ doQuery F s .move)
+        × (set (s .words) c z ≡ doQuery F s .words)
     unfolding doQuery answers rewrites
     query-gives {c} {z} t f =
-        let g : asked ≡ table.gives z = asked-value asked z (sym read ∙ f) in
-        (sym (ap (λ (x : table.Asked). answers F s x .move) g), ap (λ (c : ℕ). set (s .words) c z) t ∙ sym (ap (λ (x : table.Asked). answers F s x .words) g))
+        let g : asked ≡ table.gives z = asked-value asked z (sym read ∙ f) in (
+          sym (ap (λ (x : table.Asked). answers F s x .move) g),
+          ap (λ (c : ℕ). set (s .words) c z) t
+              ∙ sym (ap (λ (x : table.Asked). answers F s x .words) g),
+        )
 
     pub query-refuses : {c : Stop.Stop} → q ≡ Refused c → (Stop c ≡ doQuery F s .move) × (s .words ≡ doQuery F s .words)
     unfolding doQuery answers moves

@@ -50,5 +50,6 @@ unfoldable pub enteredBy : Finding → Scene → ℕ → ℕ → Happened
 enteredBy F s home body =
     elim (noRoom F s) [
       | true ↦ moves s (Stop NoActivationLeft)
-      | false ↦ rewrites s (Enter body home (s .at + 3 + field s 2)) (setAll (s .words) (32 * s .live + 32) (argumentsFrom F s (s .at + 3) (field s 2)))
+      | false ↦ rewrites s (Enter body home (s .at + 3 + field s 2))
+          (setAll (s .words) (32 * s .live + 32) (argumentsFrom F s (s .at + 3) (field s 2)))
     ]

@@ -1,6 +1,6 @@
 -- A statement's function says what it does in a scene as far as it looks at it (`only-words`, `without-table`, `with-table`). In the whole scene
 -- the statement comes to the same, and what it does not look at stays: `constant-same` and so on, a law for each. `done`: so it is with `acting`.
-use Prim.Native.Nat.{ℕ, zero, suc, _+_, _/_}
+use Prim.Native.Nat.{ℕ, zero, suc, _+_}
 use native.Mathlib.Omega.{arith}
 use mathlib.Core.Bool.{Bool, true, false}
 use mathlib.Core.List.{List, _∷_}
@@ -17,7 +17,9 @@ use Rattle.acting.specs.declared.Effect.the-variants.{Done as Stored, Stopped a
 use Rattle.acting.specs.declared.Move.{Move}
 use Rattle.acting.specs.declared.Move.the-variants.{Jump}
 use Rattle.acting.specs.Effects.{effectOf}
-use Rattle.acting.specs.Acting.{Finding, Scene, Happened, moves, rewrites, valueOf, field, arithmeticMove, doConstant, doArithmetic, doGoto, doBranch, noRoom, doBlock, argumentsFrom, doCall, argumentsAgree, doCallFormal, changes, doAdd, doRemove, answers, doQuery, Op, opOf, happens, acting}
+use Rattle.acting.specs.Acting.{Finding, Scene, Happened, moves, rewrites, valueOf, field, arithmeticMove, doConstant, doArithmetic, doGoto, doBranch}
+use Rattle.acting.specs.Acting.{noRoom, doBlock, argumentsFrom, doCall, argumentsAgree, doCallFormal, changes, doAdd, doRemove, answers, doQuery, Op}
+use Rattle.acting.specs.Acting.{opOf, happens, acting}
 use Rattle.statements.specs.Pieces.{without-table, only-words, with-table, blockMove}
 
 abbrev pub Done : Happened → Move → List ℤ → List ℤ → Type 0
@@ -68,7 +70,8 @@ module _ (F : Finding) (s : Scene) where
       → Acted (acting F s) r words′ table′
   done p e r words′ table′ h = subst (λ (x : Happened). Acted x r words′ table′) (acts p e) (h .0, (h .1, h .2))
 
-  pub constant-same : (r : Move) (words′ : List ℤ) → r ≡ (doConstant F o) .move → words′ ≡ (doConstant F o) .words → Done (doConstant F s) r words′ table
+  pub constant-same : (r : Move) (words′ : List ℤ) → r ≡ (doConstant F o) .move → words′ ≡ (doConstant F o) .words
+      → Done (doConstant F s) r words′ table
   unfolding doConstant rewrites
   constant-same r words′ p q = (p, q, refl)
 
@@ -163,6 +166,7 @@ module _ (F : Finding) (s : Scene) where
       (p ∙ h .0, q ∙ h .1, h .2)
 
 -- a goto, from where its label is found
-pub goto-found : (F : Finding) (s : Scene) {home place : ℕ} → home ≡ F .home (field s 1) → place ≡ F .target (field s 1) → (r : Move) → r ≡ Jump home place → Done (doGoto F s) r (s .words) (s .table)
+pub goto-found : (F : Finding) (s : Scene) {home place : ℕ} → home ≡ F .home (field s 1) → place ≡ F .target (field s 1) → (r : Move)
+    → r ≡ Jump home place → Done (doGoto F s) r (s .words) (s .table)
 unfolding doGoto moves
 goto-found F s p q r e = (e ∙ ap₂ Jump p q, refl, refl)

@@ -3,7 +3,6 @@ use Prim.Native.Nat.{ℕ, _%_}
 use mathlib.Core.Path.{sym, ap, _∙_}
 use Rattle.links.specs.Finding.{firstCell}
 use Rattle.statements.specs.Words.{is-direct, is-formal, cell-direct, cell-formal}
-use borrow.Author.Needs.{needs}
 use Rattle.links.proofs.cell.Statement.{statement}
 use Rattle.links.proofs.cell.Tie as tie
 
@@ -13,7 +12,8 @@ own-cell-requires c κs = c .before .before .pre .seen
 returns : tie.Need-returns
 returns c =
     let a = c .before .before .before .args in
-    c .own-cell .ensures .0 ∙ sym (cell-direct (a .words .now) (firstCell (a .records .now) (a .live) (a .level) (a .word)) (a .word) (is-direct (a .word) (c .before .if1 .taken)))
+    c .own-cell .ensures .0 ∙ sym (cell-direct (a .words .now) (firstCell (a .records .now) (a .live) (a .level) (a .word)) (a .word)
+    (is-direct (a .word) (c .before .if1 .taken)))
 
 held-requires : tie.Need-held-requires
 held-requires c κs = record { reachable = c .before .before .pre; is = is-formal (c .before .before .args .word) (c .if1 .left) }
@@ -22,7 +22,8 @@ returns-2 : tie.Need-returns-2
 returns-2 c =
     let a = c .before .before .before .args in
     ap (λ (n : ℕ). n % 8192) (c .held .ensures .0) ∙
-    sym (cell-formal (a .words .now) (firstCell (a .records .now) (a .live) (a .level) (a .word)) (a .word) (is-formal (a .word) (c .before .if1 .left)))
+    sym (cell-formal (a .words .now) (firstCell (a .records .now) (a .live) (a .level) (a .word)) (a .word)
+    (is-formal (a .word) (c .before .if1 .left)))
 
 pub cell-spec : {M : Type 1} → statement M
 cell-spec = tie.close (tie.spec own-cell-requires returns held-requires returns-2)

@@ -1,7 +1,5 @@
 -- `enter` meets its contract.
-use Prim.Native.Nat.{_+_, _*_, _/_, _%_, _≤_, _<_}
 use native.Mathlib.Omega.{arith}
-use Rattle.links.specs.Records.{Room}
 use Rattle.links.specs.Moving.{Fits, entry-fits, enters-to}
 use borrow.Author.Needs.{needs}
 use Rattle.links.proofs.enter.Statement.{statement}
@@ -66,7 +64,8 @@ returns c =
     let h = b .before in
     let s = h .before .before in
     λ w.
-    enters-to (w .running) (s .args .body) (s .args .link) (s .args .back) (s .args .words .now) (w .enters) (h .code-at .result) (b .code-at2 .result) (h .code-at .ensures .0) (b .code-at2 .ensures .0)
+    enters-to (w .running) (s .args .body) (s .args .link) (s .args .back) (s .args .words .now) (w .enters) (h .code-at .result)
+    (b .code-at2 .result) (h .code-at .ensures .0) (b .code-at2 .ensures .0)
     (n .set-next .last .0) (p .push .last .0) (n .set-next .ensures) (p .push .ensures) (c .clear .last .0) (c .clear .ensures)
 
 pub enter-spec : {M : Type 1} → statement M

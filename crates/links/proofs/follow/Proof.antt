@@ -9,7 +9,8 @@ use Rattle.links.proofs.follow.Statement.{statement}
 use Rattle.links.proofs.follow.Tie as tie
 
 abbrev Inv-loop : tie.InvT-loop
-Inv-loop records from count activation₀ left₀ activation left = (follow (linksIn records) activation left ≡ follow (linksIn records) from count) × (activation ≤ from)
+Inv-loop records from count activation₀ left₀ activation left = (follow (linksIn records) activation left ≡ follow (linksIn records) from count)
+    × (activation ≤ from)
 
 abbrev μ-loop : tie.MeasureT-loop
 μ-loop records from count activation₀ left₀ activation left = left

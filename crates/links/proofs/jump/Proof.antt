@@ -3,7 +3,6 @@ use mathlib.Core.Path.{sym, subst}
 use Rattle.links.specs.declared.Now.{Now}
 use Rattle.links.specs.Running.{Succeeds}
 use Rattle.links.specs.Moving.{resumable, home-live, jumps-to, jumps-here}
-use borrow.Author.Needs.{needs}
 use Rattle.links.proofs.jump.Statement.{statement}
 use Rattle.links.proofs.jump.Tie as tie
 
@@ -21,7 +20,8 @@ returns-2 : tie.Need-returns-2
 returns-2 c =
     let s = c .before .before .before .before in
     λ w.
-    subst (λ (n : Now). Succeeds (w .running) (w .words) (s .args .records .now) (w .table) n) (sym (c .resumed .ensures)) (jumps-to (w .running) (s .args .home) (s .args .at) (w .jumps))
+    subst (λ (n : Now). Succeeds (w .running) (w .words) (s .args .records .now) (w .table) n) (sym (c .resumed .ensures))
+    (jumps-to (w .running) (s .args .home) (s .args .at) (w .jumps))
 
 pub jump-spec : {M : Type 1} → statement M
 jump-spec = tie.close (tie.spec returns resumed-requires returns-2)

@@ -1,5 +1,5 @@
 -- `leave` meets its contract.
-use Prim.Native.Nat.{_-_, _≤_}
+use Prim.Native.Nat.{_-_}
 use native.Mathlib.Omega.{arith}
 use mathlib.Core.Path.{sym, ap, _∙_, subst}
 use Rattle.links.specs.declared.Now.{Now}
@@ -23,7 +23,8 @@ returns c =
     let s = c .before .before .before .before in
     λ w.
     subst (λ (n : Now). Succeeds (w .running) (w .words) (s .args .records .now) (w .table) n)
-    (sym (c .resumed .ensures ∙ ap (λ p. nowAt (s .args .code .now) (s .args .records .now) (s .args .here .live - 1) p (s .args .here .pairs)) (c .before .read-next .ensures .0)))
+    (sym (c .resumed .ensures ∙ ap (λ p. nowAt (s .args .code .now) (s .args .records .now) (s .args .here .live - 1) p (s .args .here .pairs))
+    (c .before .read-next .ensures .0)))
     (leaves-to (w .running) (w .ended) (w .above))
 
 pub leave-spec : {M : Type 1} → statement M

@@ -1,5 +1,5 @@
 -- `looked_up` meets its contract.
-use Prim.Native.Nat.{_+_, _≤_}
+use Prim.Native.Nat.{_+_}
 use native.Mathlib.Omega.{arith}
 use mathlib.Core.Path.{_≡_, _∙_}
 use lib.ListN.{getD}
@@ -11,10 +11,12 @@ use borrow.Author.Needs.{needs}
 use Rattle.links.proofs.looked_up.Statement.{statement}
 use Rattle.links.proofs.looked_up.Tie as tie
 
-read : (c : tie.After-code-at) → let s = c .before .before .before .args in c .code-at .result ≡ getD (s .code .now) (getD (blocksIn (s .records .now)) (s .live) 0 + 2) 0
+read : (c : tie.After-code-at) → let s = c .before .before .before .args in c .code-at .result ≡ getD (s .code .now)
+    (getD (blocksIn (s .records .now)) (s .live) 0 + 2) 0
 read c = rw (c .code-at .ensures .0, c .before .read-block .ensures .0)
 
-reached : (c : tie.Else1) → let s = c .before .before .before .before .args in Reachable (s .words .now) (s .records .now) (s .live) (s .level) (c .before .code-at .result)
+reached : (c : tie.Else1) → let s = c .before .before .before .before .args in Reachable (s .words .now) (s .records .now) (s .live) (s .level)
+    (c .before .code-at .result)
 reached c = seen-reached (c .before .before .before .before .pre .running) (c .before .code-at .result) (read (c .before)) (c .if1 .left)
 
 read-block-requires : tie.Need-read-block-requires
@@ -50,7 +52,8 @@ returns-2 c =
     let o = d .before .before .before in
     let e = d .before .before .if1 .left in
     λ w.
-    let n = d .designator-of .ensures ∙ seen-designates (w .running) (o .code-at .result) (read o) e (d .before .cell .result) (d .before .cell .ensures) in
+    let n = d .designator-of .ensures .0 ∙ seen-designates (w .running) (o .code-at .result) (read o) e (d .before .cell .result)
+    (d .before .cell .ensures) in
     let m = c .narrow .ensures ∙ seen-links (w .running) (o .code-at .result) (read o) e in
     λ i. record { designator = n i; links = m i }
 

@@ -55,7 +55,13 @@ slice-write-records-3 c =
     let b = n .before in
     let s = b .before .before in
     let written = set (s .args .records .now) (3 * s .args .k) (b .narrow .result) in
-    omega (arith, length-set (s .args .records .now) (3 * s .args .k) (b .narrow .result), length-set written (3 * s .args .k + 1) (n .narrow2 .result), s .pre .0 .there)
+    omega (
+      arith,
+      length-set (s .args .records .now) (3 * s .args .k) (b .narrow .result),
+      length-set written (3 * s .args .k + 1)
+          (n .narrow2 .result),
+      s .pre .0 .there,
+    )
 
 same-length : tie.Need-same-length
 same-length c = search needs
@@ -65,7 +71,8 @@ returns c =
     let n = c .before in
     let b = n .before in
     let s = b .before .before in
-    rw (c .narrow3 .ensures, n .narrow2 .ensures, b .narrow .ensures) (pushed (s .args .records .now) (s .args .k) (s .args .block) (s .args .next) (s .args .link) (s .pre .0))
+    rw (c .narrow3 .ensures, n .narrow2 .ensures, b .narrow .ensures) (pushed (s .args .records .now) (s .args .k) (s .args .block) (s .args .next)
+    (s .args .link) (s .pre .0))
 
 pub push-spec : {M : Type 1} → statement M
 push-spec =

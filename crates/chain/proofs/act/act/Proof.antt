@@ -7,13 +7,16 @@ use lib.IntN.{ℤ}
 use lib.ListN.{getD}
 use Rattle.language.specs.Text.{plus, minus, less}
 use Rattle.acting.specs.declared.Move.{Move}
-use Rattle.acting.specs.Acting.{Finding, Scene, Op, constant-op, add-op, subtract-op, compare-op, branch-op, goto-op, block-op, call-op, pair-op, unpair-op, query-op, constant-formal-op, arithmetic-formal-op, branch-formal-op, goto-formal-op, call-formal-op, operationOf, operations, opOf, happens, acting}
+use Rattle.acting.specs.Acting.{Finding, Scene, Op, constant-op, add-op, subtract-op, compare-op, branch-op, goto-op, block-op, call-op, pair-op}
+use Rattle.acting.specs.Acting.{unpair-op, query-op, constant-formal-op, arithmetic-formal-op, branch-formal-op, goto-formal-op, call-formal-op}
+use Rattle.acting.specs.Acting.{operationOf, operations, opOf, happens, acting}
 use Rattle.links.specs.Finding.{firstCell, byChain}
 use Rattle.links.specs.Running.{sceneBy}
 use Rattle.statements.specs.Words.{home-direct, target-direct}
 use Rattle.statements.specs.Numbers.{op-of, last-op}
 use Rattle.chain.specs.Ready.{ready, at-there}
-use Rattle.statements.specs.Scenes.{Done, Acted, done, constant-same, arithmetic-same, goto-same, branch-same, block-same, call-same, call-formal-same, add-same, remove-same, query-same, goto-found}
+use Rattle.statements.specs.Scenes.{Done, Acted, done, constant-same, arithmetic-same, goto-same, branch-same, block-same, call-same}
+use Rattle.statements.specs.Scenes.{call-formal-same, add-same, remove-same, query-same, goto-found}
 use Rattle.chain.proofs.act.act.Statement.{statement}
 use Rattle.chain.proofs.act.act.Tie as tie
 
@@ -87,27 +90,33 @@ do-call-requires c κs = ready (c .before .before .before .before .pre) call-op 
 
 do-add-pair-requires : tie.Need-do-add-pair-requires
 unfolding operations
-do-add-pair-requires c κs = ready (c .before .before .before .before .before .pre) pair-op (op (c .before .before .before) 8 (c .before .before .match .keys9))
+do-add-pair-requires c κs = ready (c .before .before .before .before .before .pre) pair-op
+    (op (c .before .before .before) 8 (c .before .before .match .keys9))
 
 do-remove-pair-requires : tie.Need-do-remove-pair-requires
 unfolding operations
-do-remove-pair-requires c κs = ready (c .before .before .before .before .before .pre) unpair-op (op (c .before .before .before) 9 (c .before .before .match .keys10))
+do-remove-pair-requires c κs = ready (c .before .before .before .before .before .pre) unpair-op
+    (op (c .before .before .before) 9 (c .before .before .match .keys10))
 
 do-query-requires : tie.Need-do-query-requires
 unfolding operations
-do-query-requires c κs = ready (c .before .before .before .before .before .pre) query-op (op (c .before .before .before) 10 (c .before .before .match .keys11))
+do-query-requires c κs = ready (c .before .before .before .before .before .pre) query-op
+    (op (c .before .before .before) 10 (c .before .before .match .keys11))
 
 do-constant-formal-requires : tie.Need-do-constant-formal-requires
 unfolding operations
-do-constant-formal-requires c κs = ready (c .before .before .before .before .pre) constant-formal-op (op (c .before .before) 11 (c .before .match .keys12))
+do-constant-formal-requires c κs = ready (c .before .before .before .before .pre) constant-formal-op
+    (op (c .before .before) 11 (c .before .match .keys12))
 
 do-arithmetic-formal-requires : tie.Need-do-arithmetic-formal-requires
 unfolding operations
-do-arithmetic-formal-requires c κs = ready (c .before .before .before .before .pre) arithmetic-formal-op (op (c .before .before) 12 (c .before .match .keys13))
+do-arithmetic-formal-requires c κs = ready (c .before .before .before .before .pre) arithmetic-formal-op
+    (op (c .before .before) 12 (c .before .match .keys13))
 
 do-branch-formal-requires : tie.Need-do-branch-formal-requires
 unfolding operations
-do-branch-formal-requires c κs = ready (c .before .before .before .before .pre) branch-formal-op (op (c .before .before) 13 (c .before .match .keys14))
+do-branch-formal-requires c κs = ready (c .before .before .before .before .pre) branch-formal-op
+    (op (c .before .before) 13 (c .before .match .keys14))
 
 do-goto-formal-requires : tie.Need-do-goto-formal-requires
 unfolding operations
@@ -139,7 +148,8 @@ returns-3 c =
     let s = c .before .before .before .before .before in
     let e = op (c .before .before .before) 2 (c .before .before .match .keys3) in
     acted s subtract-op e (c .do-subtract .result) (c .do-subtract .last .1 .0) (s .args .table .now)
-    (arithmetic-same (F s) (scene s) minus (c .do-subtract .result) (c .do-subtract .last .1 .0) (c .do-subtract .ensures .0) (c .do-subtract .ensures .1))
+    (arithmetic-same (F s) (scene s) minus (c .do-subtract .result) (c .do-subtract .last .1 .0) (c .do-subtract .ensures .0)
+    (c .do-subtract .ensures .1))
 
 returns-4 : tie.Need-returns-4
 unfolding operations happens
@@ -164,7 +174,8 @@ returns-6 c =
     let e = op (c .before .before) 5 (c .before .match .keys6) in
     let d = (ready (s .pre) goto-op e) .1 .is in
     acted s goto-op e (c .do-goto .result) (s .args .words .now) (s .args .table .now)
-    (goto-found (F s) (scene s) (sym (home-direct (s .args .words .now) (first s) (word s) d)) (sym (target-direct (s .args .words .now) (first s) (word s) d))
+    (goto-found (F s) (scene s) (sym (home-direct (s .args .words .now) (first s) (word s) d))
+    (sym (target-direct (s .args .words .now) (first s) (word s) d))
     (c .do-goto .result) (c .do-goto .ensures))
 
 returns-7 : tie.Need-returns-7

@@ -49,15 +49,22 @@ own-cell-requires c κs =
     let l = c .before .before .before in
     rw (c .before .code-at .ensures .0) (l .before .before .pre .1 .seen (l .loop .i) (c .before .before .loop-test .taken))
 
-own : (c : tie.After-own-cell Inv-loop μ-loop) → let l = c .before .before .before .before in let a = l .before .before .args in c .own-cell .result ≡ ownCell (a .records .now) (a .live) (a .level) (getD (a .code .now) (a .at + l .loop .i) 0)
+own : (c : tie.After-own-cell Inv-loop μ-loop)
+    → let l = c .before .before .before .before in let a = l .before .before .args in c .own-cell .result ≡ ownCell (a .records .now) (a .live)
+    (a .level) (getD (a .code .now) (a .at + l .loop .i) 0)
 own c = rw (c .before .before .code-at .ensures .0) at (c .own-cell .ensures .0)
 
 -- its own cell is below the next activation's
-low : (c : tie.After-own-cell Inv-loop μ-loop) → let l = c .before .before .before .before in let a = l .before .before .args in ownCell (a .records .now) (a .live) (a .level) (getD (a .code .now) (a .at + l .loop .i) 0) < 32 * a .live + 32
+low : (c : tie.After-own-cell Inv-loop μ-loop) → let l = c .before .before .before .before in let a = l .before .before .args in ownCell
+    (a .records .now) (a .live) (a .level) (getD (a .code .now) (a .at + l .loop .i) 0) < 32 * a .live + 32
 low c = let l = c .before .before .before .before in l .before .before .pre .1 .below (l .loop .i) (c .before .before .before .loop-test .taken)
 
 handed-requires : tie.Need-handed-requires Inv-loop μ-loop
-handed-requires c κs = (omega (arith, c .before .before .code-at .ensures .1), omega (arith, own c, low c, c .before .before .before .before .before .before .pre .0))
+handed-requires c κs = (
+  omega (arith, c .before .before .code-at .ensures .1),
+  omega
+      (arith, own c, low c, c .before .before .before .before .before .before .pre .0),
+)
 
 add-t16 : tie.Need-add-t16 Inv-loop μ-loop
 add-t16 c = search needs
@@ -83,9 +90,11 @@ loop-again c =
     let w = getD (a .code .now) (a .at + l .loop .i) 0 in
     let first = 32 * a .live + 32 in
     let h = rw (own o, o .before .before .code-at .ensures .0) at (c .handed .ensures) in
-    let z = read-back (c .handed .result) (c .handed .ok) ∙ h ∙ handed-is ws (firstCell (a .records .now) (a .live) (a .level) w) w (l .loop .words) (l .loop .inv .1 (ownCell (a .records .now) (a .live) (a .level) w) (low o)) in
+    let z = read-back (c .handed .result) (c .handed .ok) ∙ h ∙ handed-is ws (firstCell (a .records .now) (a .live) (a .level) w) w (l .loop .words)
+    (l .loop .inv .1 (ownCell (a .records .now) (a .live) (a .level) w) (low o)) in
     let t = o .before .before .before .loop-test .taken in
-    let step = arguments-next (byChain ws (a .records .now) (a .live) (a .level)) (only-words (a .code .now) ws (a .at)) (l .loop .words) first (a .at) (a .count) (l .loop .i) t z in
+    let step = arguments-next (byChain ws (a .records .now) (a .live) (a .level)) (only-words (a .code .now) ws (a .at)) (l .loop .words) first
+    (a .at) (a .count) (l .loop .i) t z in
     (omega arith, kept-below (l .loop .words) ws first (l .loop .i) _ (l .loop .inv .1), step ∙ l .loop .inv .2)
 
 returns : tie.Need-returns Inv-loop μ-loop
@@ -93,7 +102,8 @@ returns c =
     let l = c .before in
     let a = l .before .before .args in
     let ws = a .words .now in
-    arguments-end (byChain ws (a .records .now) (a .live) (a .level)) (only-words (a .code .now) ws (a .at)) (l .loop .words) (32 * a .live + 32) (a .at) (a .count) (l .loop .i) (c .loop-test .left) ∙ l .loop .inv .2
+    arguments-end (byChain ws (a .records .now) (a .live) (a .level)) (only-words (a .code .now) ws (a .at)) (l .loop .words) (32 * a .live + 32)
+    (a .at) (a .count) (l .loop .i) (c .loop-test .left) ∙ l .loop .inv .2
 
 pub arguments-spec : {M : Type 1} → statement M
 arguments-spec =

@@ -53,7 +53,8 @@ returns c =
     let g = m .before .before in
     let s = g .before .before .before in
     let ws = s .args .words .now in
-    add-done (way s) (scene s) (read-value ws (g .group .given) (g .before .cell-at .ensures)) (read-value ws (m .member .given) (m .before .cell-at2 .ensures)) (c .changed .ensures) (c .before .before .add-pair .ensures .0)
+    add-done (way s) (scene s) (read-value ws (g .group .given) (g .before .cell-at .ensures))
+    (read-value ws (m .member .given) (m .before .cell-at2 .ensures)) (c .changed .ensures) (c .before .before .add-pair .ensures .0)
     (c .before .before .add-pair .ensures .1)
 
 pub do-add-pair-spec : {M : Type 1} → statement M

@@ -54,7 +54,8 @@ returns c =
     let s = startOf o in
     let n = o .before in
     rw (is-plus (sym (o .code-at .ensures .0) ∙ c .before .before .before .if1 .taken))
-    (arithmetic-done (way s) (scene s) plus (n .before .before .before .before .cell-at .ensures) (n .before .before .cell-at2 .ensures) (n .cell-at3 .ensures) (c .computed .ensures) (c .before .add .ensures .0)
+    (arithmetic-done (way s) (scene s) plus (n .before .before .before .before .cell-at .ensures) (n .before .before .cell-at2 .ensures)
+    (n .cell-at3 .ensures) (c .computed .ensures) (c .before .add .ensures .0)
     (c .before .add .ensures .1))
 
 subtract-requires : tie.Need-subtract-requires
@@ -70,7 +71,8 @@ returns-2 c =
     let s = startOf o in
     let n = o .before in
     rw (is-minus (sym (o .code-at .ensures .0) ∙ b .if2 .taken))
-    (arithmetic-done (way s) (scene s) minus (n .before .before .before .before .cell-at .ensures) (n .before .before .cell-at2 .ensures) (n .cell-at3 .ensures) (c .computed2 .ensures) (c .before .subtract .ensures .0)
+    (arithmetic-done (way s) (scene s) minus (n .before .before .before .before .cell-at .ensures) (n .before .before .cell-at2 .ensures)
+    (n .cell-at3 .ensures) (c .computed2 .ensures) (c .before .subtract .ensures .0)
     (c .before .subtract .ensures .1))
 
 compare-requires : tie.Need-compare-requires
@@ -86,7 +88,8 @@ returns-3 c =
     let s = startOf o in
     let n = o .before in
     rw (is-less _ (λ e. b .before .if1 .left (o .code-at .ensures .0 ∙ e)) (λ e. b .if2 .left (o .code-at .ensures .0 ∙ e)))
-    (compare-done (way s) (scene s) (n .before .before .before .before .cell-at .ensures) (n .before .before .cell-at2 .ensures) (n .cell-at3 .ensures) (c .compare .ensures))
+    (compare-done (way s) (scene s) (n .before .before .before .before .cell-at .ensures) (n .before .before .cell-at2 .ensures)
+    (n .cell-at3 .ensures) (c .compare .ensures))
 
 pub do-arithmetic-formal-spec : {M : Type 1} → statement M
 do-arithmetic-formal-spec =

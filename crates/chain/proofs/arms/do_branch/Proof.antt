@@ -37,7 +37,8 @@ abbrev word : (s : tie.Start) → ℕ → ℕ
 word s i = getD (s .args .code .now) (s .args .at + i) 0
 
 tested : (c : tie.After-own-at) → c .own-at .result ≡ way (c .before .before) .cell (word (c .before .before) 2)
-tested c = let s = c .before .before in direct-cell (s .args .words .now) (firstCell (s .args .records .now) (s .args .live) (s .args .level) (word s 2)) (word s 2) (c .own-at .ensures) (s .pre .2 .is)
+tested c = let s = c .before .before in direct-cell (s .args .words .now) (firstCell (s .args .records .now) (s .args .live) (s .args .level)
+    (word s 2)) (word s 2) (c .own-at .ensures) (s .pre .2 .is)
 
 returns : tie.Need-returns
 returns c =
@@ -54,7 +55,8 @@ returns-2 c =
     let ws = s .args .words .now in
     let w = word s 1 in
     let first = firstCell (s .args .records .now) (s .args .live) (s .args .level) w in
-    c .do-goto .ensures ∙ goto-done (way s) (scene s) (sym (home-direct ws first w (s .pre .1 .is))) (sym (target-direct ws first w (s .pre .1 .is))) ∙
+    c .do-goto .ensures ∙ goto-done (way s) (scene s) (sym (home-direct ws first w (s .pre .1 .is)))
+    (sym (target-direct ws first w (s .pre .1 .is))) ∙
     branch-goes (way s) (scene s) (tested (b .before .before)) (not-zero _ (b .before .if12 .given) (b .if1 .left))
 
 pub do-branch-spec : {M : Type 1} → statement M

@@ -45,7 +45,8 @@ returns c =
     branch-not (way s) (scene s) (c .before .before .cell-at .ensures) (is-zero _ (c .before .if12 .given) (c .if1 .taken))
 
 goes : (b : tie.Else1) → let s = b .before .before .before .before in doGoto (way s) (scene s) .move ≡ doBranch (way s) (scene s) .move
-goes b = let s = b .before .before .before .before in branch-goes (way s) (scene s) (b .before .before .cell-at .ensures) (not-zero _ (b .before .if12 .given) (b .if1 .left))
+goes b = let s = b .before .before .before .before in branch-goes (way s) (scene s) (b .before .before .cell-at .ensures)
+    (not-zero _ (b .before .if12 .given) (b .if1 .left))
 
 add-code-at : tie.Need-add-code-at
 add-code-at c = search needs

@@ -63,12 +63,14 @@ returns c =
     let h = n .before in
     let s = startOf h in
     call-refused (way s) (scene s) (body-is h)
-    (number-differs (way s) (scene s) (h .held .result / 8192) (λ e. c .if1 .taken (ap (λ (x : ℕ). x / 65536 % 256) (c .before .code-at3 .ensures .0) ∙ e ∙ sym (n .code-at2 .ensures .0))))
+    (number-differs (way s) (scene s) (h .held .result / 8192)
+    (λ e. c .if1 .taken (ap (λ (x : ℕ). x / 65536 % 256) (c .before .code-at3 .ensures .0) ∙ e ∙ sym (n .code-at2 .ensures .0))))
 
 formals : (c : tie.After-code-at3) → 3 * (c .code-at3 .result / 65536 % 256) ≤ c .before .before .held .result / 8192
 formals c = let h = c .before .before in rw (c .code-at3 .ensures .0, holds h) (startOf h .pre .5 .before)
 
-same-number : (c : tie.Else1) → let h = c .before .before .before in let s = startOf h in getD (s .args .code .now) (h .held .result / 8192) 0 / 65536 % 256 ≡ getD (s .args .code .now) (s .args .at + 2) 0
+same-number : (c : tie.Else1) → let h = c .before .before .before in let s = startOf h in getD (s .args .code .now) (h .held .result / 8192)
+    0 / 65536 % 256 ≡ getD (s .args .code .now) (s .args .at + 2) 0
 same-number c = sym (ap (λ (x : ℕ). x / 65536 % 256) (c .before .code-at3 .ensures .0)) ∙ c .if1 .left ∙ c .before .before .code-at2 .ensures .0
 
 agrees :
@@ -78,7 +80,8 @@ agrees c e =
     let n = c .before .before .before in
     let h = n .before in
     let s = startOf h in
-    number-same (way s) (scene s) (h .held .result / 8192) (same-number (c .before)) ∙ sym (rw (n .code-at2 .ensures .0) at (c .kinds-agree .ensures)) ∙ e
+    number-same (way s) (scene s) (h .held .result / 8192) (same-number (c .before)) ∙ sym (rw (n .code-at2 .ensures .0) at (c .kinds-agree .ensures))
+    ∙ e
 
 add-kinds-agree : tie.Need-add-kinds-agree
 add-kinds-agree c = search needs
@@ -91,8 +94,17 @@ sub-kinds-agree c = omega (arith, formals (c .before), c .if1 .left)
 
 kinds-agree-requires : tie.Need-kinds-agree-requires
 kinds-agree-requires c κs =
-    let n = c .before .before in
-    (rw (n .code-at2 .ensures .0) (startOf (n .before) .pre .3 .there), omega (arith, formals (c .before), c .if1 .left, holds (n .before), startOf (n .before) .pre .5 .there))
+    let n = c .before .before in (
+      rw (n .code-at2 .ensures .0) (startOf (n .before) .pre .3 .there),
+      omega (
+        arith,
+        formals (c .before),
+        c .if1 .left,
+        holds (n .before),
+        startOf
+            (n .before) .pre .5 .there,
+      ),
+    )
 
 returns-2 : tie.Need-returns-2
 returns-2 c =
@@ -108,7 +120,8 @@ returns-3 c =
     let k = c .before .before .before in
     let h = k .before .before .before .before in
     let s = startOf h in
-    let p = call-is (way s) (scene s) (home-is h) (body-is h) ∙ call-agreed (way s) (scene s) (body-is h) (agrees k (not-false _ (c .before .before .if2 .left))) in
+    let p = call-is (way s) (scene s) (home-is h) (body-is h) ∙ call-agreed (way s) (scene s) (body-is h)
+    (agrees k (not-false _ (c .before .before .if2 .left))) in
     (c .enter-body .ensures .0 ∙ ap (λ (h : Happened). h .move) p, c .enter-body .ensures .1 ∙ ap (λ (h : Happened). h .words) p)
 
 pub do-call-formal-spec : {M : Type 1} → statement M

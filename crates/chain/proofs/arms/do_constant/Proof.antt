@@ -29,7 +29,9 @@ scene s = only-words (s .args .code .now) (s .args .words .now) (s .args .at)
 returns : tie.Need-returns
 returns c =
     let s = c .before .before .before .before in
-    let t = direct-cell (s .args .words .now) (firstCell (s .args .records .now) (s .args .live) (s .args .level) (getD (s .args .code .now) (s .args .at + 1) 0)) (getD (s .args .code .now) (s .args .at + 1) 0) (c .before .own-at .ensures) (s .pre .1 .is) in
+    let t = direct-cell (s .args .words .now) (firstCell (s .args .records .now) (s .args .live) (s .args .level)
+    (getD (s .args .code .now) (s .args .at + 1) 0)) (getD (s .args .code .now) (s .args .at + 1) 0) (c .before .own-at .ensures)
+    (s .pre .1 .is) in
     let d = constant-done (way s) (scene s) t (c .constant .ensures .1) in
     (c .constant .ensures .0 ∙ d .0, d .1)
 

@@ -36,7 +36,8 @@ returns c =
     let w = word s 1 in
     let first = firstCell (s .args .records .now) (s .args .live) (s .args .level) w in
     let h = rw (c .before .code-at .ensures .0) at (c .held .ensures .0) in
-    goto-done (way s) (scene s) (ap (λ (n : ℕ). n % 8192 / 32) h ∙ sym (home-formal ws first w (s .pre .1 .is))) (ap (λ (n : ℕ). n / 8192) h ∙ sym (target-formal ws first w (s .pre .1 .is)))
+    goto-done (way s) (scene s) (ap (λ (n : ℕ). n % 8192 / 32) h ∙ sym (home-formal ws first w (s .pre .1 .is)))
+    (ap (λ (n : ℕ). n / 8192) h ∙ sym (target-formal ws first w (s .pre .1 .is)))
 
 pub do-goto-formal-spec : {M : Type 1} → statement M
 do-goto-formal-spec = tie.close (tie.spec add-code-at code-at-requires held-requires returns)

@@ -71,7 +71,9 @@ returns c =
     let g = m .before .before .before in
     let s = startOf q in
     let ws = s .args .words .now in
-    let d = query-gives (way s) (scene s) (read-value ws (g .group .given) (g .before .cell-at2 .ensures)) (read-value ws (m .member .given) (m .before .cell-at3 .ensures)) (q .query-pair .ensures) (g .before .before .before .cell-at .ensures) (v .value .given .1) in
+    let d = query-gives (way s) (scene s) (read-value ws (g .group .given) (g .before .cell-at2 .ensures))
+    (read-value ws (m .member .given) (m .before .cell-at3 .ensures)) (q .query-pair .ensures) (g .before .before .before .cell-at .ensures)
+    (v .value .given .1) in
     (d .0, (rw (read-back (v .value .given .0 .0) (c .before .before .known-told .given .0 .1)) at (c .store .ensures)) ∙ d .1)
 
 returns-2 : tie.Need-returns-2
@@ -82,7 +84,8 @@ returns-2 c =
     let g = m .before .before .before in
     let s = startOf q in
     let ws = s .args .words .now in
-    query-refuses (way s) (scene s) (read-value ws (g .group .given) (g .before .cell-at2 .ensures)) (read-value ws (m .member .given) (m .before .cell-at3 .ensures)) (q .query-pair .ensures) (v .cause .given .1)
+    query-refuses (way s) (scene s) (read-value ws (g .group .given) (g .before .cell-at2 .ensures))
+    (read-value ws (m .member .given) (m .before .cell-at3 .ensures)) (q .query-pair .ensures) (v .cause .given .1)
 
 pub do-query-spec : {M : Type 1} → statement M
 do-query-spec =

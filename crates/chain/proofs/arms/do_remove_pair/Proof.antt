@@ -53,7 +53,8 @@ returns c =
     let g = m .before .before in
     let s = g .before .before .before in
     let ws = s .args .words .now in
-    remove-done (way s) (scene s) (read-value ws (g .group .given) (g .before .cell-at .ensures)) (read-value ws (m .member .given) (m .before .cell-at2 .ensures)) (c .changed .ensures) (c .before .before .remove-pair .ensures .0)
+    remove-done (way s) (scene s) (read-value ws (g .group .given) (g .before .cell-at .ensures))
+    (read-value ws (m .member .given) (m .before .cell-at2 .ensures)) (c .changed .ensures) (c .before .before .remove-pair .ensures .0)
     (c .before .before .remove-pair .ensures .1)
 
 pub do-remove-pair-spec : {M : Type 1} → statement M

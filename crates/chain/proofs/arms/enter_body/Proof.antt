@@ -47,7 +47,8 @@ returns-2 c =
     let s = c .before .before .before .before .before in
     let a = s .args in
     let d = entered (way s) (scene s) (omega arith) (a .home) (a .body) in
-    let same = arguments-alike (way s) (a .code .now) (a .words .now) (a .limit) (a .live) (a .at + 3) (a .at) (a .at + 3) (getD (a .code .now) (a .at + 2) 0) in
+    let same = arguments-alike (way s) (a .code .now) (a .words .now) (a .limit) (a .live) (a .at + 3) (a .at) (a .at + 3)
+    (getD (a .code .now) (a .at + 2) 0) in
     (rw k (d .0), (rw k at (c .arguments .ensures)) ∙ ap (setAll (a .words .now) (32 * a .live + 32)) same ∙ d .1)
 
 pub enter-body-spec : {M : Type 1} → statement M

@@ -1,5 +1,4 @@
 -- `halted` meets its contract.
-use Prim.Native.Nat.{_≤_}
 use native.Mathlib.Omega.{arith}
 use mathlib.Core.Path.{ap}
 use Rattle.links.specs.declared.Found.{Found}

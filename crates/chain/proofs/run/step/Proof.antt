@@ -1,6 +1,7 @@
 -- `step` meets its contract: at the end of the text the activation is left, and before it the statement is done.
 use mathlib.Core.Path.{refl}
-use Rattle.chain.specs.Turns.{above-zero, leave-ready, left-on, doing, went-on, went-pairs, jump-ready, jumped-on, enter-ready, entered-on, stopped-at}
+use Rattle.chain.specs.Turns.{above-zero, leave-ready, left-on, doing, went-on, went-pairs, jump-ready, jumped-on, enter-ready, entered-on}
+use Rattle.chain.specs.Turns.{stopped-at}
 use borrow.Author.Needs.{needs}
 use Rattle.chain.proofs.run.step.Statement.{statement}
 use Rattle.chain.proofs.run.step.Tie as tie
@@ -19,7 +20,8 @@ same-length c = search needs
 returns-2 : tie.Need-returns-2
 returns-2 c =
     let e = c .before .before in
-    λ w. left-on w (e .before .if1 .taken) (above-zero (e .before .before .before .args .here .live) (e .if2 .left)) (c .leave .result) (c .leave .ensures)
+    λ w. left-on w (e .before .if1 .taken) (above-zero (e .before .before .before .args .here .live) (e .if2 .left)) (c .leave .result)
+    (c .leave .ensures)
 
 act-requires : tie.Need-act-requires
 act-requires c κs = doing (c .before .before .before .before .before .pre) (c .before .before .before .if1 .left)
@@ -37,7 +39,8 @@ jump-requires : tie.Need-jump-requires
 jump-requires c κs =
     let a = c .before .before .before .before .before in
     let b = a .before .before .before .before in
-    jump-ready (b .before .before .pre) (b .if1 .left) (a .act .result) (a .act .last .1 .0) (a .act .last .1 .1 .1 .0) (a .act .ensures) (c .before .before .home .given .0 .0) (c .before .before .home .given .0 .1 .0) (c .before .before .home .given .1)
+    jump-ready (b .before .before .pre) (b .if1 .left) (a .act .result) (a .act .last .1 .0) (a .act .last .1 .1 .1 .0) (a .act .ensures)
+    (c .before .before .home .given .0 .0) (c .before .before .home .given .0 .1 .0) (c .before .before .home .given .1)
 
 enum-known-body : tie.Need-enum-known-body
 enum-known-body c = search needs
@@ -46,7 +49,9 @@ enter-requires : tie.Need-enter-requires
 enter-requires c κs =
     let a = c .before .before .before .before .before .before in
     let b = a .before .before .before .before in
-    enter-ready (b .before .before .pre) (b .if1 .left) (a .act .result) (a .act .last .1 .0) (a .act .last .1 .1 .1 .0) (a .act .ensures) (c .before .before .before .body .given .0 .0) (c .before .before .before .body .given .0 .1 .0) (c .before .before .before .body .given .0 .1 .1 .0) (c .before .before .before .body .given .1)
+    enter-ready (b .before .before .pre) (b .if1 .left) (a .act .result) (a .act .last .1 .0) (a .act .last .1 .1 .1 .0) (a .act .ensures)
+    (c .before .before .before .body .given .0 .0) (c .before .before .before .body .given .0 .1 .0)
+    (c .before .before .before .body .given .0 .1 .1 .0) (c .before .before .before .body .given .1)
 
 enum-known-cause : tie.Need-enum-known-cause
 enum-known-cause c = search needs
@@ -61,7 +66,8 @@ returns-3 : tie.Need-returns-3
 returns-3 c =
     let a = c .before .before .before .before in
     let b = a .before .before .before .before in
-    λ w. went-on w (b .if1 .left) (a .act .result) (a .act .last .1 .0) (a .act .last .1 .1 .1 .0) (a .act .ensures) (c .before .place .given .0 .0) (c .before .place .given .1)
+    λ w. went-on w (b .if1 .left) (a .act .result) (a .act .last .1 .0) (a .act .last .1 .1 .1 .0) (a .act .ensures) (c .before .place .given .0 .0)
+    (c .before .place .given .1)
 
 same-length-4 : tie.Need-same-length-4
 same-length-4 c = search needs
@@ -73,7 +79,8 @@ returns-4 : tie.Need-returns-4
 returns-4 c =
     let a = c .before .before .before .before in
     let b = a .before .before .before .before in
-    λ w. went-pairs w (b .if1 .left) (a .act .result) (a .act .last .1 .0) (a .act .last .1 .1 .1 .0) (a .act .ensures) (c .before .place2 .given .0 .0) (c .before .place2 .given .0 .1 .0) (c .before .place2 .given .1)
+    λ w. went-pairs w (b .if1 .left) (a .act .result) (a .act .last .1 .0) (a .act .last .1 .1 .1 .0) (a .act .ensures)
+    (c .before .place2 .given .0 .0) (c .before .place2 .given .0 .1 .0) (c .before .place2 .given .1)
 
 same-length-6 : tie.Need-same-length-6
 same-length-6 c = search needs
@@ -85,7 +92,9 @@ returns-5 : tie.Need-returns-5
 returns-5 c =
     let a = c .before .before .before .before .before .before in
     let b = a .before .before .before .before in
-    λ w. jumped-on w (b .if1 .left) (a .act .result) (a .act .last .1 .0) (a .act .last .1 .1 .1 .0) (a .act .ensures) (c .before .before .before .home .given .0 .0) (c .before .before .before .home .given .0 .1 .0) (c .before .before .before .home .given .1) (c .jump .result) (c .jump .ensures)
+    λ w. jumped-on w (b .if1 .left) (a .act .result) (a .act .last .1 .0) (a .act .last .1 .1 .1 .0) (a .act .ensures)
+    (c .before .before .before .home .given .0 .0) (c .before .before .before .home .given .0 .1 .0) (c .before .before .before .home .given .1)
+    (c .jump .result) (c .jump .ensures)
 
 same-length-8 : tie.Need-same-length-8
 same-length-8 c = search needs
@@ -97,7 +106,12 @@ returns-6 : tie.Need-returns-6
 returns-6 c =
     let a = c .before .before .before .before .before .before .before .before .before in
     let b = a .before .before .before .before in
-    λ w. entered-on w (b .if1 .left) (a .act .result) (a .act .last .1 .0) (a .act .last .1 .1 .1 .0) (a .act .ensures) (c .before .before .before .before .before .before .body .given .0 .0) (c .before .before .before .before .before .before .body .given .0 .1 .0) (c .before .before .before .before .before .before .body .given .0 .1 .1 .0) (c .before .before .before .before .before .before .body .given .1) (c .before .before .enter .last .1 .0) (c .before .before .enter .last .1 .1 .0) (c .before .before .enter .result) (c .before .before .enter .ensures)
+    λ w. entered-on w (b .if1 .left) (a .act .result) (a .act .last .1 .0) (a .act .last .1 .1 .1 .0) (a .act .ensures)
+    (c .before .before .before .before .before .before .body .given .0 .0)
+    (c .before .before .before .before .before .before .body .given .0 .1 .0)
+    (c .before .before .before .before .before .before .body .given .0 .1 .1 .0)
+    (c .before .before .before .before .before .before .body .given .1) (c .before .before .enter .last .1 .0)
+    (c .before .before .enter .last .1 .1 .0) (c .before .before .enter .result) (c .before .before .enter .ensures)
 
 same-length-10 : tie.Need-same-length-10
 same-length-10 c = search needs
@@ -110,7 +124,8 @@ returns-7 c =
     let a = c .before .before .before .before in
     let b = a .before .before .before .before in
     λ w.
-    let m = stopped-at w (b .if1 .left) (a .act .result) (a .act .last .1 .0) (a .act .last .1 .1 .1 .0) (a .act .ensures) (c .before .cause .given .0 .0) (c .before .cause .given .1) in
+    let m = stopped-at w (b .if1 .left) (a .act .result) (a .act .last .1 .0) (a .act .last .1 .1 .1 .0) (a .act .ensures)
+    (c .before .cause .given .0 .0) (c .before .cause .given .1) in
     (m .0, m .1, refl, m .2)
 
 pub step-spec : {M : Type 1} → statement M

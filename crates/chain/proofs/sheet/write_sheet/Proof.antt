@@ -1,5 +1,5 @@
 -- `write_sheet` meets its contract. The loop's invariant: the sheet of so many activations is written.
-use Prim.Native.Nat.{ℕ, _*_, _+_, _-_, _≤_, _<_}
+use Prim.Native.Nat.{ℕ, _-_, _≤_, _<_}
 use native.Mathlib.Omega.{arith}
 use mathlib.Core.List.{List}
 use mathlib.Core.Path.{_≡_, refl, sym, ap, _∙_}
@@ -17,7 +17,8 @@ use Rattle.chain.proofs.sheet.write_sheet.Tie as tie
 abbrev Inv-loop : tie.InvT-loop
 Inv-loop code words records live sheet₀ at₀ k₀ sheet at k =
     (k ≤ live) × (length sheet ≡ length sheet₀) ×
-    ((fs : List Frame) → Held code words (blocksIn records) (nextsIn records) fs → length fs ≡ live → (sheet ≡ written (frameSheet (take k fs)) sheet₀) × (at ≡ length (frameSheet (take k fs))))
+    ((fs : List Frame) → Held code words (blocksIn records) (nextsIn records) fs → length fs ≡ live
+    → (sheet ≡ written (frameSheet (take k fs)) sheet₀) × (at ≡ length (frameSheet (take k fs))))
 
 abbrev μ-loop : tie.MeasureT-loop
 μ-loop code words records live sheet₀ at₀ k₀ sheet at k = live - k
@@ -79,8 +80,12 @@ loop-again c =
           let f = w .0 in
           let i = u .loop .inv .2 fs h l in
           let block = c .before .before .before .before .read-block .ensures .0 in
-          let q = r .0 (f .next) (f .words) (frameSheet (take k fs)) (s .args .sheet .now) (shown-at h k f (w .1) _ _ block (c .before .before .before .read-next .ensures .0)) (i .0) (sym (i .1)) in
-          (q .0 ∙ ap (λ (x : List ℤ). written x (s .args .sheet .now)) (sheet-on h k f (w .1) _ block), q .1 ∙ sheet-on-length h k f (w .1) (u .loop .at) (i .1)),
+          let q = r .0 (f .next) (f .words) (frameSheet (take k fs)) (s .args .sheet .now)
+          (shown-at h k f (w .1) _ _ block (c .before .before .before .read-next .ensures .0)) (i .0) (sym (i .1)) in (
+            q .0 ∙ ap (λ (x : List ℤ). written x (s .args .sheet .now)) (sheet-on h k f (w .1) _ block),
+            q .1 ∙ sheet-on-length h k f (w .1)
+                (u .loop .at) (i .1),
+          ),
     )
 
 same-length : tie.Need-same-length Inv-loop μ-loop

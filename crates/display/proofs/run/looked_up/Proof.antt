@@ -42,7 +42,7 @@ designator-of-requires c κs =
 returns-2 : tie.Need-returns-2
 returns-2 c =
     let o = c .before .before .before in
-    λ w. c .designator-of .ensures ∙ seen-designates w (o .code-at .result) (read o) (c .before .before .if1 .left) (c .before .cell .result)
+    λ w. c .designator-of .ensures .0 ∙ seen-designates w (o .code-at .result) (read o) (c .before .before .if1 .left) (c .before .cell .result)
     (c .before .cell .ensures)
 
 pub looked-up-spec : {M : Type 1} → statement M
