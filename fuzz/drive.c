@@ -9,13 +9,14 @@
 
 #include "input.h"
 
-enum { PAGE = 4096, ROOM = 4 * PAGE, GUARD = 16, CAUSES = 27 };
+enum { PAGE = 4096, ROOM = 4 * PAGE, GUARD = 16, CAUSES = 27, MOST_RECORDS = 3 * ENROL_MOST_ACTIVATIONS };
 
 /* What a call may write to: in the middle what is lent, on both sides what may not change. */
 struct lent {
     uint64_t answer[GUARD + ENROL_ANSWER_WORDS + GUARD];
     int32_t table[GUARD + MOST_WORDS + GUARD];
     int32_t sheet[GUARD + MOST_SHEET + GUARD];
+    uint32_t records[GUARD + MOST_RECORDS + GUARD];
 };
 
 /* As the functions of the library. */
@@ -23,6 +24,17 @@ void reference_check(const uint8_t *script, size_t script_len, uint64_t answer[E
 void reference_display(const uint8_t *script, size_t script_len, uint32_t d, uint32_t n, uint32_t g, uint64_t tally,
                        int32_t *table, size_t table_len, size_t count, uint16_t name, int32_t *sheet, size_t sheet_len,
                        uint64_t answer[ENROL_ANSWER_WORDS]);
+void reference_chain(const uint8_t *script, size_t script_len, uint32_t d, uint32_t n, uint32_t g, uint64_t tally,
+                     int32_t *table, size_t table_len, size_t count, uint16_t name, int32_t *sheet, size_t sheet_len,
+                     uint32_t *records, size_t records_len, uint64_t answer[ENROL_ANSWER_WORDS]);
+
+/* Just what D asks for, and now and then a word less. */
+static size_t records_len(const struct call *call)
+{
+    size_t most = call->d < ENROL_MOST_ACTIVATIONS ? call->d : ENROL_MOST_ACTIVATIONS;
+    size_t words = ENROL_RECORD_WORDS(most);
+    return words > 0 && call->name % 64 == 63 ? words - 1 : words;
+}
 
 static void check(const struct call *call, struct lent *lent)
 {
@@ -47,6 +59,20 @@ static void right_display(const struct call *call, struct lent *lent)
                       lent->answer + GUARD);
 }
 
+static void chain(const struct call *call, struct lent *lent)
+{
+    enrol_chain(call->script, call->script_len, call->d, call->n, call->g, call->tally, lent->table + GUARD,
+                call->table_len, call->count, call->name, lent->sheet + GUARD, call->sheet_len, lent->records + GUARD,
+                records_len(call), lent->answer + GUARD);
+}
+
+static void right_chain(const struct call *call, struct lent *lent)
+{
+    reference_chain(call->script, call->script_len, call->d, call->n, call->g, call->tally, lent->table + GUARD,
+                    call->table_len, call->count, call->name, lent->sheet + GUARD, call->sheet_len, lent->records + GUARD,
+                    records_len(call), lent->answer + GUARD);
+}
+
 /* An export, and the word of its answer that has the cause's number. */
 struct export {
     const char *name;
@@ -58,6 +84,7 @@ struct export {
 static const struct export exports[] = {
     {"check", check, right_check, 0},
     {"display", display, right_display, ENROL_ANSWER_NUMBER},
+    {"chain", chain, right_chain, ENROL_ANSWER_NUMBER},
 };
 enum { EXPORTS = sizeof exports / sizeof exports[0] };
 
@@ -115,6 +142,9 @@ static void prepare(const struct call *call, struct lent *lent)
     for (size_t at = 0; at < GUARD + call->sheet_len + GUARD; at++) {
         lent->sheet[at] = (int32_t)(at * UINT32_C(0x9e3779b1) ^ UINT32_C(0xa5a50000));
     }
+    for (size_t at = 0; at < GUARD + MOST_RECORDS + GUARD; at++) {
+        lent->records[at] = (uint32_t)at * UINT32_C(0x85ebca6b) ^ UINT32_C(0x5a5a0000);
+    }
 }
 
 /* The call in the form that the differential tests' `again` takes: it says what the check gives as well. */
@@ -129,7 +159,8 @@ static void print_call(const struct export *export, const struct call *call)
     for (size_t at = 0; at < call->table_len; at++) {
         fprintf(stderr, "%s%" PRId32, at ? "," : "", call->table[at]);
     }
-    fprintf(stderr, "%s %zu 0\n", call->table_len ? "" : "-", call->sheet_len);
+    fprintf(stderr, "%s %zu %zu\n", call->table_len ? "" : "-", call->sheet_len,
+            strcmp(export->name, "chain") == 0 ? records_len(call) : 0);
 }
 
 static void fail(const char *what, size_t length, size_t at, int64_t right, int64_t got)
@@ -161,11 +192,26 @@ static void compare_words(const struct export *export, const struct call *call, 
     }
 }
 
+/* The reference leaves the records alone. A run that is not refused may leave anything in those lent. */
+static void compare_records(const struct export *export, const struct call *call, const struct lent *right, const struct lent *got)
+{
+    int free_now = right->answer[GUARD + ENROL_ANSWER_END] != ENROL_REFUSED;
+    size_t length = records_len(call);
+    for (size_t at = 0; at < GUARD + MOST_RECORDS + GUARD; at++) {
+        int lent = at >= GUARD && at < GUARD + length;
+        if (got->records[at] != right->records[at] && !(lent && free_now)) {
+            print_call(export, call);
+            fail("records", length, at, right->records[at], got->records[at]);
+        }
+    }
+}
+
 static void compare(const struct export *export, const struct call *call, const struct lent *right, const struct lent *got)
 {
     compare_answers(export, call, right->answer, got->answer);
     compare_words(export, call, "table", call->table_len, right->table, got->table);
     compare_words(export, call, "sheet", call->sheet_len, right->sheet, got->sheet);
+    compare_records(export, call, right, got);
 }
 
 int LLVMFuzzerTestOneInput(const uint8_t *bytes, size_t length)

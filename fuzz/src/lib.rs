@@ -48,6 +48,36 @@ pub unsafe extern "C" fn reference_display(
     unsafe { *answer = run(&request, table, sheet) };
 }
 
+/// As enrol_chain.
+///
+/// # Safety
+/// Each pointer is to as many elements as the length beside it says, `answer` to nine words; none overlap.
+#[no_mangle]
+pub unsafe extern "C" fn reference_chain(
+    script: *const u8,
+    script_len: usize,
+    d: u32,
+    n: u32,
+    g: u32,
+    tally: u64,
+    table: *mut i32,
+    table_len: usize,
+    count: usize,
+    name: u16,
+    sheet: *mut i32,
+    sheet_len: usize,
+    _records: *mut u32,
+    records_len: usize,
+    answer: *mut [u64; 9],
+) {
+    let script = unsafe { slice::from_raw_parts(script, script_len) };
+    let table = unsafe { slice::from_raw_parts_mut(table, table_len) };
+    let sheet = unsafe { slice::from_raw_parts_mut(sheet, sheet_len) };
+    let engine = Engine::Chain { records: records_len / 3 };
+    let request = Request { engine, script, d, n, g, tally, count, name };
+    unsafe { *answer = run(&request, table, sheet) };
+}
+
 fn run(request: &Request, table: &mut [i32], sheet: &mut [i32]) -> [u64; 9] {
     let run = if request.n <= COPIED_STEPS { reference::run } else { reference::fast::run };
     run(request, table, sheet).words()
