@@ -5,7 +5,7 @@ test:
 	@sh tests/all
 
 run:
-	@echo "make run: the engines and the run program are still to be built" >&2; exit 1
+	@echo "make run: the copying engine and the run program are still to be built" >&2; exit 1
 
 # The proved library beside the reference's fast implementation: one table of times.
 bench:
