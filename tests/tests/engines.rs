@@ -62,7 +62,7 @@ fn every_allowance_and_name() {
     }
 }
 
-/// Demand 3: both engines and the reference at every allowance up to the run's end, and every looked-up name of the script.
+/// Demand 3: both engines and the reference at every allowance up to the run's end; the looked-up names take turns.
 #[test]
 fn whole_runs_at_every_allowance() {
     let judge = fast();
