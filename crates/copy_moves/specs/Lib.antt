@@ -1,0 +1,2 @@
+-- The copying engine between two steps, in reading order.
+pub mod Running

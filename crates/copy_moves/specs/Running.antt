@@ -1,0 +1,50 @@
+-- The copying engine between two steps: `Running` says that its arrays hold a sound stack of frames and, beside it, the state of the copy-rule
+-- machine that runs with it: the area its texts, `firsts`, `starts` its new names, `targets` what its labels and procedures lead to, `looked` what
+-- the looked-up name reads as. `Succeeds` says that another state of the arrays is the one a step behind it.
+use Prim.Native.Nat.{ℕ, _+_, _*_, _≤_}
+use mathlib.Core.List.{List}
+use mathlib.Core.Path.{_≡_}
+use lib.IntN.{ℤ}
+use lib.ListN.{length}
+use Rattle.language.specs.Encoding.{blockFields}
+use Rattle.language.specs.Machine.{State, Limits}
+use Rattle.instances.specs.Invariant.{Invariant}
+use Rattle.frames.specs.Related.{Related}
+use Rattle.resolved.specs.Resolved.{Covers}
+use Rattle.acting.specs.Acting.{Scene}
+use Rattle.steps.specs.Standing.{Standing}
+use Rattle.steps.specs.Means.{Follows, JumpsTo, EntersAt}
+use Rattle.governed.specs.Governed.{governedOf}
+use Rattle.new_names.specs.Owner.{NewNames}
+use Rattle.texts.specs.Texts.{Texts, Aims, Looks}
+use Rattle.copy_moves.specs.declared.Now.{Now}
+
+abbrev pub limitsBy : ℕ → ℕ → Limits
+limitsBy limit group = record { activations = limit; group = group }
+
+pub record Running (code names : List ℕ) (limit group : ℕ) (words : List ℤ) (area : List ℕ) (width : ℕ) (blocks nexts firsts starts targets looked : List ℕ) (table : List ℤ) (here : Now) : Type 0 where
+  pub links : List ℕ
+  pub standing : Standing code (limitsBy limit group) words blocks nexts links table (here .pairs) (here .live) (here .at) (here .end)
+  pub copies : State
+  pub related : Related copies (standing .stack)
+  pub invariant : Invariant copies
+  pub governs : Covers names 0 (governedOf (standing .program))
+  pub texts : Texts area width names (blockFields (standing .program)) (copies .live) (standing .stack .frames)
+  pub new-names : NewNames (copies .live) (copies .fresh) firsts starts
+  pub aims : Aims targets (standing .stack .frames)
+  pub looks : Looks looked (copies .live) (standing .stack .frames) (standing .name)
+  pub fresh-is : here .fresh ≡ copies .fresh
+  pub wide : length (blockFields (standing .program)) ≤ width
+  pub room : limit * width ≤ length area
+  pub firsts-long : length firsts ≡ 256
+  pub starts-long : length starts ≡ 256
+  pub targets-long : length targets ≡ 8224
+  pub looked-long : length looked ≡ 256
+
+-- the state of the arrays one step behind
+pub record Succeeds {code names : List ℕ} {limit group : ℕ} {words : List ℤ} {area : List ℕ} {width : ℕ} {blocks nexts firsts starts targets looked : List ℕ} {table : List ℤ} {here : Now}
+    (w : Running code names limit group words area width blocks nexts firsts starts targets looked table here)
+    (words′ : List ℤ) (area′ blocks′ nexts′ firsts′ starts′ targets′ looked′ : List ℕ) (table′ : List ℤ) (here′ : Now) : Type 0 where
+  pub running : Running code names limit group words′ area′ width blocks′ nexts′ firsts′ starts′ targets′ looked′ table′ here′
+  pub follows : Follows (w .standing) (running .standing .stack) (running .standing .program) (running .standing .name)
+  pub few-more : here′ .fresh ≤ here .fresh + 32

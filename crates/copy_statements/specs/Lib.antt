@@ -1,0 +1,3 @@
+-- Statements done from a copied text, in reading order.
+pub mod Doing
+pub mod Ready

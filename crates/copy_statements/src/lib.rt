@@ -1,0 +1,1 @@
+// Statements, read from the copy of the innermost activation.

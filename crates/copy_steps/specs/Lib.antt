@@ -1,0 +1,1 @@
+-- Steps of the copy-rule machine.

@@ -1,0 +1,2 @@
+-- Which field of a script holds which name, in reading order.
+pub mod Governed

@@ -1,0 +1,1 @@
+// The word of the name in each field of a script.

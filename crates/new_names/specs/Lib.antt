@@ -1,0 +1,2 @@
+-- New names, in reading order.
+pub mod Owner

@@ -1,0 +1,1 @@
+// The activation and the cell of a new name.

@@ -1,0 +1,2 @@
+-- The copying area, in reading order.
+pub mod Texts

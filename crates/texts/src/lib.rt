@@ -1,0 +1,1 @@
+// Texts copied in the copying area.
