@@ -15,9 +15,10 @@ module _ (c : Copy) (s : Scene) where
     pub within : s .at + n ≤ 4096
     pub there : c .base + s .at + n ≤ length (c .area)
 
-  -- the name in a field has a cell
-  abbrev pub Named : ℕ → Type 0
-  Named i = cell c s i < 8192
+  -- the name in a field is a new one and has a cell
+  pub record Named (i : ℕ) : Type 0 where
+    pub new : getD (c .firsts) 0 0 ≤ text c s i
+    pub has : cell c s i < 8192
 
   pub record Called : Type 0 where
     pub few : text c s 2 ≤ 32
