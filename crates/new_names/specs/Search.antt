@@ -1,0 +1,57 @@
+-- The search for the activation that declares a new name. `Narrowed`: it is not below `low`, and it is below `high` unless it is `low` itself;
+-- where nothing is left between them, it is `low` (`owner-is`). The steps of the search are `narrowed-first`, `narrowed-up` and `narrowed-down`.
+use Prim.Native.Nat.{ℕ, zero, suc, _+_, _≤_, _<_}
+use native.Mathlib.Omega.{arith}
+use mathlib.Core.Bool.{Bool, true, false}
+use mathlib.Core.List.{List}
+use mathlib.Core.Path.{_≡_, refl, _∙_}
+use borrow.Author.Tests.{le-leb, lt-leb, leb-true, leb-false}
+use lib.Dec.{leb}
+use lib.ListN.{getD}
+use Rattle.new_names.specs.Owner.{ownerIn, Sorted}
+
+-- the outermost activation is the answer where no other is, whatever its first name
+pub record Narrowed (firsts : List ℕ) (live low high x : ℕ) : Type 0 where
+  pub within : low ≤ live
+  pub from : 1 ≤ low → getD firsts low 0 ≤ x
+  pub below : (j : ℕ) → high ≤ j → low < j → j ≤ live → x < getD firsts j 0
+
+module _ (firsts : List ℕ) (live x : ℕ) where
+  owner-here : leb (getD firsts (suc live) 0) x ≡ true → ownerIn firsts (suc live) x ≡ suc live
+  unfolding ownerIn
+  owner-here t = rw (t, ownerIn)
+
+  owner-further : leb (getD firsts (suc live) 0) x ≡ false → ownerIn firsts (suc live) x ≡ ownerIn firsts live x
+  unfolding ownerIn
+  owner-further t = rw (t, ownerIn)
+
+pub owner-is : (firsts : List ℕ) (live low high x : ℕ) → high ≤ low + 1 → Narrowed firsts live low high x → ownerIn firsts live x ≡ low
+unfolding ownerIn
+owner-is firsts zero low high x h n = omega (arith, n .within)
+owner-is firsts (suc live) low high x h n = go (leb (suc live) low) refl (owner-is firsts live low high x h)
+  where
+    go : (b : Bool) → leb (suc live) low ≡ b → (Narrowed firsts live low high x → ownerIn firsts live x ≡ low) → ownerIn firsts (suc live) x ≡ low
+    go true t ih =
+        let e : low ≡ suc live = omega (arith, n .within, leb-true (suc live) low t) in
+        rw e (owner-here firsts live x (le-leb (getD firsts (suc live) 0) x (rw e at (n .from (omega arith)))))
+    go false t ih =
+        let z = leb-false (suc live) low t in
+        owner-further firsts live x (lt-leb (getD firsts (suc live) 0) x (n .below (suc live) (omega arith) z (omega arith)))
+        ∙ ih (record { within = omega arith; from = n .from; below = λ j a b c. n .below j a b (omega arith) })
+
+-- the first name of the innermost activation is above x
+pub narrowed-first : (firsts : List ℕ) (live x : ℕ) → x < getD firsts live 0 → Narrowed firsts live 0 live x
+narrowed-first firsts live x h =
+    record {
+      within = omega arith;
+      from = λ z. absurd (omega arith);
+      below = λ j a b c. let e : j ≡ live = omega arith in rw e h;
+    }
+
+module _ (firsts : List ℕ) (live low high x : ℕ) where
+  pub narrowed-up : (middle : ℕ) → low ≤ middle → middle ≤ live → getD firsts middle 0 ≤ x → Narrowed firsts live low high x → Narrowed firsts live middle high x
+  narrowed-up middle up bound h n = record { within = bound; from = λ z. h; below = λ j a b c. n .below j a (omega arith) c }
+
+  pub narrowed-down : (middle : ℕ) → Sorted firsts live → x < getD firsts middle 0 → Narrowed firsts live low high x → Narrowed firsts live low middle x
+  narrowed-down middle sorted h n =
+      record { within = n .within; from = n .from; below = λ j a b c. omega (arith, sorted middle j a c) }
