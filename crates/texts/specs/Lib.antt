@@ -1,2 +1,3 @@
--- The copying area, in reading order.
+-- The copying area, in reading order: the definitions, then laws of them.
 pub mod Texts
+pub mod Readings
