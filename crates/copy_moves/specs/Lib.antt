@@ -1,2 +1,4 @@
 -- The copying engine between two steps, in reading order.
 pub mod Running
+pub mod Settled
+pub mod Anew

@@ -1,11 +1,11 @@
 -- The copying engine between two steps: `Running` says that its arrays hold a sound stack of frames and, beside it, the state of the copy-rule
 -- machine that runs with it: the area its texts, `firsts`, `starts` its new names, `targets` what its labels and procedures lead to, `looked` what
 -- the looked-up name reads as. `Succeeds` says that another state of the arrays is the one a step behind it.
-use Prim.Native.Nat.{ℕ, _+_, _*_, _≤_}
+use Prim.Native.Nat.{ℕ, _+_, _*_, _%_, _≤_}
 use mathlib.Core.List.{List}
 use mathlib.Core.Path.{_≡_}
 use lib.IntN.{ℤ}
-use lib.ListN.{length}
+use lib.ListN.{length, getD}
 use Rattle.language.specs.Encoding.{blockFields}
 use Rattle.language.specs.Machine.{State, Limits}
 use Rattle.instances.specs.Invariant.{Invariant}
@@ -40,6 +40,11 @@ pub record Running (code names : List ℕ) (limit group : ℕ) (words : List ℤ
   pub starts-long : length starts ≡ 256
   pub targets-long : length targets ≡ 8224
   pub looked-long : length looked ≡ 256
+
+-- where an activation of the stack goes on as the innermost one
+abbrev pub nowAt : List ℕ → List ℕ → Now → ℕ → ℕ → Now
+nowAt code blocks here home at =
+    record { live = home; at = at; end = getD code (getD blocks home 0 + 1) 0 % 65536; pairs = here .pairs; fresh = here .fresh }
 
 -- the state of the arrays one step behind
 pub record Succeeds {code names : List ℕ} {limit group : ℕ} {words : List ℤ} {area : List ℕ} {width : ℕ} {blocks nexts firsts starts targets looked : List ℕ} {table : List ℤ} {here : Now}
