@@ -4,3 +4,4 @@ pub mod Lengths
 pub mod Layout
 pub mod Layouts
 pub mod Standing
+pub mod Inside
