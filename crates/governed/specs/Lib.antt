@@ -1,2 +1,7 @@
 -- Which field of a script holds which name, in reading order.
 pub mod Governed
+pub mod Lengths
+pub mod Layout
+pub mod Layouts
+pub mod Standing
+pub mod Inside
