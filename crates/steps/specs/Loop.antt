@@ -63,7 +63,16 @@ module _ {code : List ℕ} {l : Limits} {words : List ℤ} {blocks nexts links :
   -- a step done
   pub follows-step : (v : Stack) → frameStep l (w .stack) ≡ acted v → Follows w (stepped v) (w .program) (w .name)
   unfolding stepped
-  follows-step v e = record { runs = λ n. run-steps l (w .stack) n v some-live e; counts = ap suc (step-counts l (w .stack) v some-live e); same-program = refl; same-name = refl }
+  follows-step v e =
+      record {
+        moved = v;
+        steps = e;
+        is-stepped = refl;
+        runs = λ n. run-steps l (w .stack) n v some-live e;
+        counts = ap suc (step-counts l (w .stack) v some-live e);
+        same-program = refl;
+        same-name = refl;
+      }
 
   pub sound-after : (v : Stack) → frameStep l (w .stack) ≡ acted v → Sound l (w .program) (stepped v)
   sound-after v e = step-sound (w .program) (w .keeps) l (w .stack) v (w .sound) e

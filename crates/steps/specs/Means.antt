@@ -8,7 +8,7 @@ use lib.IntN.{ℤ, pos}
 use lib.ListN.{length, getD, take, getElem?}
 use Rattle.language.specs.Text.{Kind, Formal, Block, blockAt}
 use Rattle.language.specs.Machine.{Limits}
-use Rattle.frames.specs.Frame.{Frame, Stack, acted, halted, numbered, continue, withFrames, newFrame, frameStep, frameRun}
+use Rattle.frames.specs.Frame.{Frame, Stack, acted, halted, numbered, continue, withFrames, newFrame, stepped, frameStep, frameRun}
 use Rattle.coordinates.specs.Enclosure.{enclosed, Encloses}
 use Rattle.coordinates.specs.Chain.{enclosureOf, displayOf}
 use Rattle.coordinates.specs.Designated.{Designated}
@@ -23,8 +23,11 @@ module _ {code : List ℕ} {l : Limits} {words : List ℤ} {blocks nexts links :
   abbrev pub frames : List Frame
   frames = w .stack .frames
 
-  -- an engine that stands behind one step of this one, for the same script
+  -- an engine that stands behind one step of this one, for the same script; `moved` is the stack after the step and before it is counted
   pub record Follows (v : Stack) (program : Block) (name : ℕ) : Type 0 where
+    pub moved : Stack
+    pub steps : frameStep l (w .stack) ≡ acted moved
+    pub is-stepped : v ≡ stepped moved
     pub runs : (n : ℕ) → frameRun l (suc n) (w .stack) ≡ frameRun l n v
     pub counts : v .steps ≡ suc (w .stack .steps)
     pub same-program : program ≡ w .program
