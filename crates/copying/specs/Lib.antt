@@ -1,1 +1,5 @@
--- The copying engine.
+-- The copying engine, in reading order.
+pub mod Agreeing
+pub mod Depth
+pub mod Words
+pub mod Names
