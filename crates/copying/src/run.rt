@@ -1,24 +1,21 @@
 // The run: steps until the program is left, a statement has a cause to stop, or the allowance is spent.
 use acting::Move;
 use copy_moves::Now;
+use copy_moves::begin;
 use copy_moves::enter;
+use copy_moves::jump;
 use copy_moves::leave;
-use copy_moves::resume;
+use copy_moves::looked_up;
 use copy_moves::set_next;
 use copy_statements::act;
 use language::End;
 use language::Stop;
-use new_names::cell_of;
-use sheets::designator_of;
-use stepping::code_at;
-use texts::copy_text;
-use texts::fill;
-use texts::renew;
 ghost use mathlib.Core.Path.{_≡_};
 ghost use Prim.Native.Nat.{_+_, _*_, _<_, _≤_};
 ghost use lib.ListN.{set, length};
 ghost use Rattle.frames.specs.Frame.{frameRun, frameStart};
 ghost use Rattle.copy_moves.specs.Running.{limitsBy, Running};
+ghost use Rattle.copy_moves.specs.Anew.{Lookable, lookedUp};
 ghost use Rattle.copying.specs.Turning.{Turned, Beginning, Ended, haltOf};
 
 // What a step comes to.
@@ -80,7 +77,7 @@ pub fn step(
             pairs: used,
             fresh,
         }),
-        Move::Jump(home, place) => Turn::Went(resume(code, blocks, here, home, place)),
+        Move::Jump(home, place) => Turn::Went(jump(code, blocks, here, home, place)),
         Move::Enter(body, link, back) => Turn::Went(enter(
             code,
             names,
@@ -100,4 +97,114 @@ pub fn step(
         )),
         Move::Stop(cause) => Turn::Stopped(cause),
     }
+}
+
+// How a run has ended: how many activations are live, and the looked-up name's designator.
+pub struct Halt {
+    pub end: End,
+    pub steps: u32,
+    pub offset: usize,
+    pub live: usize,
+    pub pairs: usize,
+    pub designator: u32,
+}
+
+// A run that leaves activations live: the place of the innermost one's next statement is put with the others'.
+fn halted(
+    nexts: &mut [u16; 256],
+    firsts: &[u32; 256],
+    starts: &[u16; 256],
+    looked: &[u32; 256],
+    here: Now,
+    end: End,
+    steps: u32,
+    offset: usize,
+) -> Halt
+    requires { ⌜ Lookable (now firsts) (now starts) (now looked) (here .live) × (here .at < 65536) ⌝ }
+    ensures { λ r. ⌜ r ≡ haltOf end steps offset here (lookedUp (now (firsts .entry)) (now (starts .entry)) (now (looked .entry)) (here .live)) ⌝ }
+    ensures { λ _. ⌜ now (nexts .exit) ≡ set (now (nexts .entry)) (here .live) (here .at) ⌝ }
+{
+    let live = here.live;
+    let designator = looked_up(firsts, starts, looked, live);
+    set_next(nexts, live, here.at);
+    Halt {
+        end,
+        steps,
+        offset,
+        live: live + 1,
+        pairs: here.pairs,
+        designator,
+    }
+}
+
+// The program's text is the first in the area: whatever the area held makes no difference.
+pub fn run_program(
+    script: &[u8],
+    code: &[u32; 4096],
+    names: &[u32; 4096],
+    words: &mut [i32; 8224],
+    area: &mut [u32],
+    blocks: &mut [u16; 256],
+    nexts: &mut [u16; 256],
+    table: &mut [i32],
+    pairs: usize,
+    group: u32,
+    limit: usize,
+    allowance: u32,
+) -> Halt
+    requires { ⌜ Beginning (now script) (now code) (now names) (now words) (now area) (now blocks) (now nexts) (now table) pairs group limit allowance ⌝ }
+    ensures { λ r.
+        ⌜ ((b : Beginning (now (script .entry)) (now (code .entry)) (now (names .entry)) (now (words .entry)) (now (area .entry)) (now (blocks .entry)) (now (nexts .entry))
+        (now (table .entry)) pairs group limit allowance)
+        → Ended (b .program) (b .name) limit group
+        (frameRun (limitsBy limit group) allowance (frameStart (b .program) (record { words = now (table .entry); used = pairs })))
+        r (now (words .exit)) (now (blocks .exit)) (now (nexts .exit)) (now (table .exit))) ⌝ }
+{
+    let width = script.len() / 2;
+    let mut firsts = [0u32; 256];
+    let mut starts = [0u16; 256];
+    let mut targets = [0u16; 8224];
+    let mut looked = [0u32; 256];
+    let mut here = begin(script, code, names, area, &mut firsts, &mut targets, &mut looked, pairs);
+    let mut left = allowance;
+    while 0 < left {
+        match step(
+            code,
+            names,
+            words,
+            area,
+            width,
+            blocks,
+            nexts,
+            &mut firsts,
+            &mut starts,
+            &mut targets,
+            &mut looked,
+            table,
+            group,
+            limit,
+            here,
+        ) {
+            Turn::Went(next) => {
+                here = next;
+                left -= 1;
+            }
+            Turn::Finished => {
+                return Halt {
+                    end: End::Finished,
+                    steps: allowance - left + 1,
+                    offset: 0,
+                    live: 0,
+                    pairs: here.pairs,
+                    designator: 0,
+                };
+            }
+            Turn::Stopped(cause) => {
+                let done = allowance - left;
+                let place = 2 * here.at;
+                return halted(nexts, &firsts, &starts, &looked, here, End::Stopped(cause), done, place);
+            }
+        }
+    }
+    halted(nexts, &firsts, &starts, &looked, here, End::Spent, allowance, 0)
 }

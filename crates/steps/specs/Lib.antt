@@ -17,3 +17,4 @@ pub mod Entered
 pub mod Reads
 pub mod Finding
 pub mod Fields
+pub mod Underway
