@@ -1,14 +1,15 @@
 -- The search for the activation that declares a new name. `Narrowed`: it is not below `low`, and it is below `high` unless it is `low` itself;
--- where nothing is left between them, it is `low` (`owner-is`). The steps of the search are `narrowed-first`, `narrowed-up` and `narrowed-down`.
-use Prim.Native.Nat.{ℕ, zero, suc, _+_, _≤_, _<_}
+-- where nothing is left between them, it is `low` (`owner-is`). The search begins with `narrowed-first` and goes on by `narrowed-up` and
+-- `narrowed-down`. `cell-is`: the cell from what is noted of the activation found.
+use Prim.Native.Nat.{ℕ, zero, suc, _+_, _-_, _≤_, _<_}
 use native.Mathlib.Omega.{arith}
 use mathlib.Core.Bool.{Bool, true, false}
 use mathlib.Core.List.{List}
-use mathlib.Core.Path.{_≡_, refl, _∙_}
+use mathlib.Core.Path.{_≡_, refl, ap, _∙_}
 use borrow.Author.Tests.{le-leb, lt-leb, leb-true, leb-false}
 use lib.Dec.{leb}
 use lib.ListN.{getD}
-use Rattle.new_names.specs.Owner.{ownerIn, Sorted}
+use Rattle.new_names.specs.Owner.{ownerIn, cellIn, Sorted}
 
 -- the outermost activation is the answer where no other is, whatever its first name
 pub record Narrowed (firsts : List ℕ) (live low high x : ℕ) : Type 0 where
@@ -39,6 +40,21 @@ owner-is firsts (suc live) low high x h n = go (leb (suc live) low) refl (owner-
         owner-further firsts live x (lt-leb (getD firsts (suc live) 0) x (n .below (suc live) (omega arith) z (omega arith)))
         ∙ ih (record { within = omega arith; from = n .from; below = λ j a b c. n .below j a b (omega arith) })
 
+-- the innermost activation's first name is not above x
+pub owner-innermost : (firsts : List ℕ) (live x : ℕ) → getD firsts live 0 ≤ x → ownerIn firsts live x ≡ live
+owner-innermost firsts live x h =
+    owner-is firsts live live live x (omega arith) (record { within = omega arith; from = λ z. h; below = λ j a b c. absurd (omega arith) })
+
+-- nor is that of the activation found
+pub owner-reached : (firsts : List ℕ) (live x : ℕ) → getD firsts 0 0 ≤ x → getD firsts (ownerIn firsts live x) 0 ≤ x
+unfolding ownerIn
+owner-reached firsts zero x h = h
+owner-reached firsts (suc live) x h = go (leb (getD firsts (suc live) 0) x) refl (owner-reached firsts live x h)
+  where
+    go : (b : Bool) → leb (getD firsts (suc live) 0) x ≡ b → getD firsts (ownerIn firsts live x) 0 ≤ x → getD firsts (ownerIn firsts (suc live) x) 0 ≤ x
+    go true t ih = omega (arith, ap (λ (o : ℕ). getD firsts o 0) (owner-here firsts live x t), leb-true (getD firsts (suc live) 0) x t)
+    go false t ih = omega (arith, ap (λ (o : ℕ). getD firsts o 0) (owner-further firsts live x t))
+
 -- the first name of the innermost activation is above x
 pub narrowed-first : (firsts : List ℕ) (live x : ℕ) → x < getD firsts live 0 → Narrowed firsts live 0 live x
 narrowed-first firsts live x h =
@@ -55,3 +71,8 @@ module _ (firsts : List ℕ) (live low high x : ℕ) where
   pub narrowed-down : (middle : ℕ) → Sorted firsts live → x < getD firsts middle 0 → Narrowed firsts live low high x → Narrowed firsts live low middle x
   narrowed-down middle sorted h n =
       record { within = n .within; from = n .from; below = λ j a b c. omega (arith, sorted middle j a c) }
+
+pub cell-is : (firsts starts : List ℕ) (live x home first start : ℕ) → home ≡ ownerIn firsts live x → first ≡ getD firsts home 0 → start ≡ getD starts home 0
+    → start + (x - first) ≡ cellIn firsts starts live x
+unfolding cellIn
+cell-is firsts starts live x home first start h f s = rw (s, f, h)

@@ -1,1 +1,63 @@
-// The activation and the cell of a new name.
+// The activation and the cell of a new name, from the name alone: each activation's first new name is noted, and these do not fall. The innermost
+// activation is tried first, since a name is often its own; the others are searched by halves.
+ghost use mathlib.Core.Path.{_≡_};
+ghost use Prim.Native.Nat.{_≤_, _<_, _^_};
+ghost use lib.ListN.{getD};
+ghost use Rattle.new_names.specs.Owner.{ownerIn, cellIn, Sorted};
+
+fn wide(x: u32) -> usize
+    ensures { λ r. ⌜ (r ≡ x) × (r < 2 ^ 32) ⌝ }
+{
+    x as usize
+}
+
+fn widened(x: u16) -> usize
+    ensures { λ r. ⌜ (r ≡ x) × (r < 65536) ⌝ }
+{
+    x as usize
+}
+
+// The first new name of an activation.
+fn first_of(firsts: &[u32; 256], activation: usize) -> usize
+    requires { ⌜ activation < 256 ⌝ }
+    ensures { λ r. ⌜ (r ≡ getD (now (firsts .entry)) activation 0) × (r < 2 ^ 32) ⌝ }
+{
+    wide(firsts[activation])
+}
+
+// The activation below the innermost one that declares a name.
+fn outer_owner(firsts: &[u32; 256], live: usize, name: usize) -> usize
+    requires { ⌜ (live ≤ 255) × Sorted (now firsts) live × (name < getD (now firsts) live 0) ⌝ }
+    ensures { λ r. ⌜ (r ≡ ownerIn (now (firsts .entry)) live name) × (r ≤ live) ⌝ }
+{
+    let mut low = 0;
+    let mut high = live;
+    while 1 < high - low {
+        let middle = (low + high) / 2;
+        if first_of(firsts, middle) <= name {
+            low = middle;
+        } else {
+            high = middle;
+        }
+    }
+    low
+}
+
+fn owner(firsts: &[u32; 256], live: usize, name: usize) -> usize
+    requires { ⌜ (live ≤ 255) × Sorted (now firsts) live ⌝ }
+    ensures { λ r. ⌜ (r ≡ ownerIn (now (firsts .entry)) live name) × (r ≤ live) ⌝ }
+{
+    if first_of(firsts, live) <= name {
+        return live;
+    }
+    outer_owner(firsts, live, name)
+}
+
+// The cell of a name: the names of an activation have one cell after the other.
+pub fn cell_of(firsts: &[u32; 256], starts: &[u16; 256], live: usize, name: usize) -> usize
+    requires { ⌜ (live ≤ 255) × Sorted (now firsts) live × (getD (now firsts) 0 0 ≤ name) × (cellIn (now firsts) (now starts) live name < 8192) ⌝ }
+    ensures { λ r. ⌜ r ≡ cellIn (now (firsts .entry)) (now (starts .entry)) live name ⌝ }
+{
+    let home = owner(firsts, live, name);
+    widened(starts[home]) + (name - first_of(firsts, home))
+}
