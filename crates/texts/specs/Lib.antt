@@ -1,3 +1,4 @@
 -- The copying area, in reading order: the definitions, then laws of them.
 pub mod Texts
+pub mod Copying
 pub mod Readings
