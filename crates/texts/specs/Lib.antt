@@ -1,3 +1,6 @@
 -- The copying area, in reading order: the definitions, then laws of them.
 pub mod Texts
 pub mod Readings
+pub mod Renewing
+pub mod Stacks
+pub mod Entering
