@@ -2,3 +2,6 @@
 pub mod Texts
 pub mod Copying
 pub mod Readings
+pub mod Renewing
+pub mod Stacks
+pub mod Entering
