@@ -84,7 +84,7 @@ formed-level : (b : Block) (level : ℕ) (fs : List Formal) (here : ℕ) → For
 unfolding FormedBlock
 formed-level (block at ds ss) level fs here h = h .nesting
 
-formed-names : (b : Block) (level : ℕ) (fs : List Formal) (here : ℕ) → FormedBlock b level fs here → length (formalNames fs ++ declaredNames b) ≤ 32
+pub formed-names : (b : Block) (level : ℕ) (fs : List Formal) (here : ℕ) → FormedBlock b level fs here → length (formalNames fs ++ declaredNames b) ≤ 32
 unfolding FormedBlock formalNames declaredNames blockDecls
 formed-names (block at ds ss) level fs here h =
     omega (arith, h .few, length-append (map (λ (f : Formal). f .name) fs) (map declName (decls ds)), length-map fs (λ (f : Formal). f .name), length-map (decls ds) declName)
