@@ -46,7 +46,8 @@ module _ (c : Copy) (s : Scene) (F : Finding) where
   unfolding doArithmetic actArithmetic
   arithmetic-same o e t a b =
       let y = compute o (valueOf F s (field s 3)) (valueOf F s (field s 4)) in
-      let z : compute (operationOf (text c s 2)) (valueAt c s 3) (valueAt c s 4) ≡ y = λ i. compute (e i) (getD (s .words) (a .cell-is i) (pos 0)) (getD (s .words) (b .cell-is i) (pos 0)) in
+      let z : compute (operationOf (text c s 2)) (valueAt c s 3) (valueAt c s 4) ≡ y =
+      λ i. compute (e i) (getD (s .words) (a .cell-is i) (pos 0)) (getD (s .words) (b .cell-is i) (pos 0)) in
       (λ i. rewrites s (moveAfter (effectOf (z i)) (s .at + 5)) (wordsOf (s .words) (t .cell-is i) (z i)))
       ∙ ap (λ (m : Move). rewrites s m (wordsOf (s .words) (F .cell (field s 1)) y)) (move-same (effectOf y))
 

@@ -36,7 +36,8 @@ module _ (s : State) (t : Stack) (related : Related s t) (down : Downward (t .fr
       by-lookup (getElem? (s .live) k)
       (λ e. reads-none (suc k) e ∙ sym (level-none (t .frames) (suc k) (getElem-none (t .frames) k (omega (arith, getElem-past (s .live) k e, as-deep s t related)))))
       (λ a e. let f = twin-at s t related k a e in
-      ap length (reads-some (suc k) a e ∙ f .2 .reads-are) ∙ ap suc (further (f .0 .link) (omega (arith, f .2 .link-below))) ∙ sym (level-step (t .frames) down (suc k) (f .0) (f .1)))
+      ap length (reads-some (suc k) a e ∙ f .2 .reads-are) ∙ ap suc (further (f .0 .link) (omega (arith, f .2 .link-below)))
+      ∙ sym (level-step (t .frames) down (suc k) (f .0) (f .1)))
 
   deep-below : (n k : ℕ) → k ≤ n → length (readsAt (s .live) k) ≡ levelOf (t .frames) k
   deep-below zero k h = deep-next k (λ j p. absurd (omega arith))

@@ -3,3 +3,6 @@ pub mod Agreeing
 pub mod Depth
 pub mod Words
 pub mod Names
+pub mod Statements
+pub mod Calling
+pub mod Meaning

@@ -1,5 +1,5 @@
 -- A name of the next statement: where a field of the innermost activation's copy reads as a visible name does, and a field of the resolved script has the
--- name's word, the new name there has a cell (`name-new`), and all that it leads to is what the links find (`name-agrees`).
+-- name's word, the new name there has a cell, and all that it leads to is what the links find: `named`.
 use Prim.Native.Nat.{ℕ, pred, _+_, _*_, _-_, _/_, _≤_, _<_}
 use native.Mathlib.Omega.{arith}
 use mathlib.Core.List.{List}
@@ -35,8 +35,7 @@ use Rattle.copying.specs.Depth.{reads-deep}
 use Rattle.copying.specs.Words.{reading-named, copyOf, sceneIn, around}
 
 module _ {code names : List ℕ} {limit group : ℕ} {words : List ℤ} {area : List ℕ} {width : ℕ} {blocks nexts firsts starts targets looked : List ℕ} {table : List ℤ} {now : Now}
-    (w : Running code names limit group words area width blocks nexts firsts starts targets looked table now)
-    (a : Activation) (innermost : getElem? (w .copies .live) (now .live) ≡ some a) where
+    (w : Running code names limit group words area width blocks nexts firsts starts targets looked table now) where
   abbrev fs : List Frame
   fs = w .standing .stack .frames
 
@@ -44,19 +43,24 @@ module _ {code names : List ℕ} {limit group : ℕ} {words : List ℤ} {area : 
   abbrev pub byLinks : Finding
   byLinks = byFirst words (firstByLinks (w .standing))
 
-  -- a cell of each name that is seen
-  abbrev pub CellOfName : Type 0
-  CellOfName = (m : ℕ) → m < 65536 → Resolved fs m → (cellIn firsts starts (now .live) (renamed (joined (a .reads)) m) ≡ cellOf (designates fs m)) × (getD firsts 0 0 ≤ renamed (joined (a .reads)) m)
+  -- each name that is seen from an activation's text reads there as a new one, with the cell of what it designates
+  abbrev pub CellOfName : Activation → Type 0
+  CellOfName a =
+      (m : ℕ) → m < 65536 → Resolved fs m
+      → (cellIn firsts starts (now .live) (renamed (joined (a .reads)) m) ≡ cellOf (designates fs m)) × (getD firsts 0 0 ≤ renamed (joined (a .reads)) m)
 
-  module _ (n : ℕ) (r : Resolved fs n) where
+  module _ (a : Activation) (innermost : getElem? (w .copies .live) (now .live) ≡ some a) (n : ℕ) (r : Resolved fs n) where
     celled : Celled (designates fs n)
-    celled = named-celled _ (w .standing .program) (w .standing .keeps) (w .standing .stack) (w .standing .sound) blocks (set nexts (now .live) (now .at)) (w .links) words (w .standing .holds) n (r .coordinate) (r .here)
+    celled =
+        named-celled _ (w .standing .program) (w .standing .keeps) (w .standing .stack) (w .standing .sound) blocks (set nexts (now .live) (now .at)) (w .links) words
+        (w .standing .holds) n (r .coordinate) (r .here)
 
     reads-name : reading (a .reads) (nameWord (around w) n) n ≡ renamed (joined (a .reads)) n
     reads-name =
-        let within = enclosure-of-text (w .standing .program) fs (w .standing .sound .chained) (length fs) (w .standing .frame) (ap (numbered fs) (many (w .standing)) ∙ numbered-here (w .standing)) in
-        let level = (name-is (w .standing .program) (w .standing .keeps) (around w) within n (r .coordinate) (r .here) (enclosing (r .declarer .frame)) (r .declarer .block)) .level in
-        let deep = reads-deep (w .copies) (w .standing .stack) (w .related) (downward (w .standing)) (now .live) a innermost ∙ ap (levelOf fs) (sym (many (w .standing))) in
+        let v = w .standing in
+        let within = enclosure-of-text (v .program) fs (v .sound .chained) (length fs) (v .frame) (ap (numbered fs) (many v) ∙ numbered-here v) in
+        let level = (name-is (v .program) (v .keeps) (around w) within n (r .coordinate) (r .here) (enclosing (r .declarer .frame)) (r .declarer .block)) .level in
+        let deep = reads-deep (w .copies) (v .stack) (w .related) (downward v) (now .live) a innermost ∙ ap (levelOf fs) (sym (many v)) in
         reading-named (a .reads) (nameWord (around w) n) n (omega (arith, r .level-low)) (omega (arith, r .level-high))
 
     -- what the name's declaration leads to is noted at its cell
@@ -72,7 +76,7 @@ module _ {code names : List ℕ} {limit group : ℕ} {words : List ℤ} {area : 
         ∙ w .aims .each (pred (frameNumber x)) j f (d .decl) (numbered-index fs (frameNumber x) f (d .stands)) (sym (declOf-found fs x f (d .stands)) ∙ d .declared)
         ∙ sym (target-found fs x f (d .decl) (d .stands) (d .declared))
 
-    module _ (small : n < 65536) (cell-of-name : CellOfName) (i : ℕ) (reads : text (copyOf w) (sceneIn w) i ≡ reading (a .reads) (nameWord (around w) n) n) where
+    module _ (small : n < 65536) (cell-of-name : CellOfName a) (i : ℕ) (reads : text (copyOf w) (sceneIn w) i ≡ reading (a .reads) (nameWord (around w) n) n) where
       text-is : text (copyOf w) (sceneIn w) i ≡ renamed (joined (a .reads)) n
       text-is = reads ∙ reads-name
 
@@ -82,10 +86,10 @@ module _ {code names : List ℕ} {limit group : ℕ} {words : List ℤ} {area : 
       target-is : target (copyOf w) (sceneIn w) i ≡ targetOf fs (designates fs n)
       target-is = ap (λ k. getD targets k 0) cell-is ∙ aimed
 
-      pub name-new : Named (copyOf w) (sceneIn w) i
+      name-new : Named (copyOf w) (sceneIn w) i
       name-new = record { new = omega (arith, text-is, (cell-of-name n small r) .1); has = omega (arith, cell-is, cell-bound (designates fs n) celled) }
 
-      pub name-agrees : (j : ℕ) → field (sceneIn w) j ≡ nameWord (around w) n → Agrees (copyOf w) (sceneIn w) byLinks i j
+      name-agrees : (j : ℕ) → field (sceneIn w) j ≡ nameWord (around w) n → Agrees (copyOf w) (sceneIn w) byLinks i j
       unfolding formalWord
       name-agrees j word =
           let found = finds-by-links (w .standing) n r in
@@ -95,3 +99,6 @@ module _ {code names : List ℕ} {limit group : ℕ} {words : List ℤ} {area : 
             target-is = target-is ∙ sym (ap (byLinks .target) word ∙ found .target-is);
             handed-is = (λ k. pos (cell-is k + 8192 * target-is k)) ∙ sym (ap (byLinks .handed) word ∙ found .handed-is);
           }
+
+      pub named : (j : ℕ) → field (sceneIn w) j ≡ nameWord (around w) n → Agrees (copyOf w) (sceneIn w) byLinks i j × Named (copyOf w) (sceneIn w) i
+      named j word = (name-agrees j word, name-new)

@@ -1,18 +1,19 @@
 -- The next statement's words in the innermost activation's copy, from the names that its fields hold (`governed`) and the script's own fields
--- (`written`): `word-read`. `reading-plain`, `reading-named`: what a word with no name and a visible name read as. `fields-there`: the statement's
--- fields stand in the area and in the script. `innermost-activation`: the activation whose copy it is.
+-- (`written`): `word-read`, and `plain` where there is no name; its words in the resolved script: `resolved-word`. `reading-plain`, `reading-named`: what
+-- a word with no name and a visible name read as. `fields-there`: the statement's fields stand in the area and in the script.
+-- `innermost-activation`: the activation whose copy it is.
 use Prim.Native.Nat.{ℕ, suc, pred, _+_, _*_, _≤_, _<_}
 use native.Mathlib.Omega.{arith}
 use native.Mathlib.Nat.{mul-le-mul-right}
 use mathlib.Core.Bool.{true, false}
 use mathlib.Core.List.{List}
 use mathlib.Core.Option.{some}
-use mathlib.Core.Path.{_≡_, ap, _∙_}
+use mathlib.Core.Path.{_≡_, refl, ap, _∙_}
 use borrow.Author.Tests.{lt-ltb, le-leb}
 use lib.Dec.{leb, ltb}
 use lib.IntN.{ℤ}
 use lib.ListN.{length, getD, getElem?}
-use Rattle.language.specs.Text.{Stmt, blockAt}
+use Rattle.language.specs.Text.{Action, Stmt, DO, blockAt}
 use Rattle.language.specs.Encoding.{blockFields, stmtFields}
 use Rattle.language.specs.Copy.{Replacement, renamed}
 use Rattle.language.specs.Machine.{Activation}
@@ -21,11 +22,12 @@ use Rattle.frames.specs.Frame.{frameStmt}
 use Rattle.frames.specs.Related.{joined, as-deep}
 use Rattle.coordinates.specs.Enclosure.{Enclosure}
 use Rattle.coordinates.specs.Chain.{enclosing, enclosureOf}
-use Rattle.resolved.specs.Resolved.{placeOf, endPlace, stmtPlace, levelIn, Covers}
+use Rattle.coordinates.specs.Next.{NextAction, next-action}
+use Rattle.resolved.specs.Resolved.{placeOf, endPlace, stmtPlace, levelIn, resolvedStmt, Covers}
 use Rattle.resolved.specs.Lengths.{covers-at}
 use Rattle.resolved.specs.Places.{Placed, enclosed-placed, block-place, end-is, place-is, place-within}
-use Rattle.acting.specs.Acting.{Scene}
-use Rattle.steps.specs.Here.{many, here, at-is, here-bounded, encloses-here, within-limit, goes-on-at}
+use Rattle.acting.specs.Acting.{Scene, field}
+use Rattle.steps.specs.Here.{many, last-is, here, covered, at-is, here-bounded, encloses-here, within-limit, goes-on-at}
 use Rattle.steps.specs.Reads.{fields-within}
 use Rattle.steps.specs.Going.{sceneOf}
 use Rattle.governed.specs.Governed.{governedStmt}
@@ -61,20 +63,40 @@ module _ {code names : List ℕ} {limit group : ℕ} {words : List ℤ} {area : 
   abbrev pub around : Enclosure
   around = enclosureOf (w .standing .stack .frames) (length (w .standing .stack .frames))
 
+  -- the names' words and the script's fields, at the next statement
+  abbrev pub GovernedHere : Type 0
+  GovernedHere = (x : Stmt) → frameStmt (w .standing .frame) ≡ some x → Covers names (now .at) (governedStmt x around)
+
+  abbrev pub WrittenHere : Type 0
+  WrittenHere = (x : Stmt) → frameStmt (w .standing .frame) ≡ some x → Covers (blockFields (w .standing .program)) (now .at) (stmtFields x)
+
   pub innermost-activation : (a : Activation) × (getElem? (w .copies .live) (now .live) ≡ some a)
   innermost-activation = getElem-in (w .copies .live) (now .live) (omega (arith, as-deep (w .copies) (w .standing .stack) (w .related), many (w .standing)))
+
+  -- a field with no name
+  pub plain : (a : Activation) (i m : ℕ) → text copyOf sceneIn i ≡ reading (a .reads) 0 m → text copyOf sceneIn i ≡ m
+  plain a i m e = e ∙ reading-plain (a .reads) 0 m refl
+
+  -- what is known of the next statement
+  abbrev pub next-known : (o : ℕ) (b : Action) → frameStmt (w .standing .frame) ≡ some (DO o b)
+      → NextAction (w .standing .program) (w .standing .stack .frames) (w .standing .frame) o b
+  next-known o b q =
+      next-action _ (w .standing .program) (w .standing .keeps) (w .standing .stack) (w .standing .sound) (w .standing .frame) (last-is (w .standing)) o b q
 
   -- where the statement stands
 
   text-placed : Placed (w .standing .program) (enclosing (w .standing .frame)) (enclosureOf (w .standing .stack .frames) (w .standing .frame .link))
-  text-placed = enclosed-placed (w .standing .program) (w .standing .keeps) (enclosing (w .standing .frame)) (enclosureOf (w .standing .stack .frames) (w .standing .frame .link)) (encloses-here (w .standing))
+  text-placed =
+      enclosed-placed (w .standing .program) (w .standing .keeps) (enclosing (w .standing .frame)) (enclosureOf (w .standing .stack .frames) (w .standing .frame .link))
+      (encloses-here (w .standing))
 
   begins : placeOf (blockAt (w .standing .frame .text)) ≤ now .at
   unfolding enclosing
   begins =
       let f = w .standing .frame in
       let next : suc (pred (f .next)) ≡ f .next = omega (arith, here-bounded (w .standing) .next-first) in
-      omega (arith, at-is (w .standing), ap (stmtPlace (f .text)) next, place-is (f .text) _ (f .formals) (text-placed .place) (text-placed .formed) (pred (f .next)), block-place (f .text) _ (f .formals) (text-placed .place) (text-placed .formed))
+      let stands = place-is (f .text) _ (f .formals) (text-placed .place) (text-placed .formed) (pred (f .next)) in
+      omega (arith, at-is (w .standing), ap (stmtPlace (f .text)) next, block-place (f .text) _ (f .formals) (text-placed .place) (text-placed .formed))
 
   end-within-script : endPlace (w .standing .frame .text) ≤ length (blockFields (w .standing .program))
   unfolding enclosing
@@ -89,16 +111,21 @@ module _ {code names : List ℕ} {limit group : ℕ} {words : List ℤ} {area : 
         let f = w .standing .frame in
         omega (arith, goes-on-at (w .standing) x q, place-within (f .text) _ (f .formals) (text-placed .place) (text-placed .formed) (suc (f .next)) (omega arith))
 
+    pub resolved-word : (i : ℕ) → i < length (resolvedStmt (w .standing .name) x around) → field sceneIn i ≡ getD (resolvedStmt (w .standing .name) x around) i 0
+    resolved-word = covers-at code (now .at) (resolvedStmt (w .standing .name) x around) (covered (w .standing) x q)
+
     pub fields-there : (n : ℕ) → n ≤ length (stmtFields x) → Fields copyOf sceneIn n
     fields-there n h =
         let rooms = mul-le-mul-right width (within-limit (w .standing)) in
         record { within = omega (arith, fields-within (w .standing) x q); there = omega (arith, ends, end-within-script, w .wide, w .room, rooms) }
 
-    module _ (a : Activation) (innermost : getElem? (w .copies .live) (now .live) ≡ some a) (governed : Covers names (now .at) (governedStmt x around))
-        (written : Covers (blockFields (w .standing .program)) (now .at) (stmtFields x)) where
-      pub word-read : (i : ℕ) → i < length (stmtFields x) → i < length (governedStmt x around) → text copyOf sceneIn i ≡ reading (a .reads) (getD (governedStmt x around) i 0) (getD (stmtFields x) i 0)
+    module _ (a : Activation) (innermost : getElem? (w .copies .live) (now .live) ≡ some a) (governed : GovernedHere) (written : WrittenHere) where
+      pub word-read : (i : ℕ) → i < length (stmtFields x) → i < length (governedStmt x around)
+          → text copyOf sceneIn i ≡ reading (a .reads) (getD (governedStmt x around) i 0) (getD (stmtFields x) i 0)
       word-read i h k =
           let behind : now .live * width + now .at + i ≡ now .live * width + (now .at + i) = omega arith in
+          let name = covers-at names (now .at) (governedStmt x around) (governed x q) i k in
+          let own = covers-at (blockFields (w .standing .program)) (now .at) (stmtFields x) (written x q) i h in
           ap (λ p. getD area p 0) behind
           ∙ w .texts .each (now .live) a (w .standing .frame) innermost (here (w .standing)) (now .at + i) (omega (arith, begins)) (omega (arith, ends))
-          ∙ (λ j. reading (a .reads) (covers-at names (now .at) (governedStmt x around) governed i k j) (covers-at (blockFields (w .standing .program)) (now .at) (stmtFields x) written i h j))
+          ∙ (λ j. reading (a .reads) (name j) (own j))
