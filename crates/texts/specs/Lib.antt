@@ -1,2 +1,3 @@
 -- The copying area, in reading order.
 pub mod Texts
+pub mod Copying
