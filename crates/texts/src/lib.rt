@@ -1,8 +1,9 @@
 // Texts copied in the copying area. The words of a block go from one activation's room to another's, and the names of the block entered become
 // new ones on the way.
 ghost use mathlib.Core.Path.{_≡_};
-ghost use Prim.Native.Nat.{_+_, _-_, _<_, _≤_, _^_};
+ghost use Prim.Native.Nat.{ℕ, _+_, _*_, _-_, _/_, _<_, _≤_, _^_};
 ghost use lib.ListN.{length, getD};
+ghost use Rattle.laws.specs.Fields.{fieldAt};
 ghost use Rattle.texts.specs.Texts.{renewed, Copied, noted, notedFrom};
 ghost use Rattle.texts.specs.Copying.{Renewable, Copyable};
 
@@ -76,5 +77,25 @@ pub fn copy_text(
         area[to + q] = renew(area, given, level, first, word, area[from + q]);
         note(targets, cells, level, word);
         q += 1;
+    }
+}
+
+fn field(low: u8, high: u8) -> u32
+    ensures { λ r. ⌜ r ≡ low + 256 * high ⌝ }
+{
+    low as u32 + 256 * (high as u32)
+}
+
+// The script's fields stand at the start of the area, a word each.
+pub fn fill(script: &[u8], area: &mut [u32])
+    requires { ⌜ length (now script) / 2 ≤ length (now area) ⌝ }
+    ensures { λ _. ⌜ ((i : ℕ) → i < length (now (script .entry)) / 2 → getD (now (area .exit)) i 0 ≡ fieldAt (now (script .entry)) (2 * i)) ⌝ }
+    ensures { λ _. ⌜ length (now (area .exit)) ≡ length (now (area .entry)) ⌝ }
+{
+    let count = script.len() / 2;
+    let mut i = 0;
+    while i < count {
+        area[i] = field(script[2 * i], script[2 * i + 1]);
+        i += 1;
     }
 }
