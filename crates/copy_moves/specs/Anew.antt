@@ -1,12 +1,17 @@
--- What entering a block asks, in numbers (`Enterable`), and what it makes of the arrays (`AnewIn`).
-use Prim.Native.Nat.{ℕ, _+_, _*_, _-_, _/_, _%_, _≤_, _<_}
-use mathlib.Core.Bool.{false}
+-- What entering a block asks, in numbers (`Enterable`), and what it makes of the arrays (`AnewIn`); the same of the program's start (`Beginnable`,
+-- `BegunIn`), and of the looked-up name at the end (`Lookable`, `lookedUp`).
+use Prim.Native.Nat.{ℕ, zero, suc, _+_, _*_, _-_, _/_, _%_, _≤_, _<_}
+use mathlib.Core.Bool.{true, false}
 use mathlib.Core.List.{List}
 use mathlib.Core.Path.{_≡_}
 use lib.IntN.{ℤ}
+use lib.Dec.{eqb}
 use lib.ListN.{length, getD, set}
+use Rattle.laws.specs.Fields.{fieldAt}
+use Rattle.arrays.specs.Holds.{designatorOf}
 use Rattle.resolved.specs.Resolved.{levelIn, positionIn, direct}
 use Rattle.acting.specs.Effects.{Cleared}
+use Rattle.new_names.specs.Owner.{cellIn, Sorted}
 use Rattle.texts.specs.Texts.{renewed, Copied, notedFrom}
 use Rattle.copy_moves.specs.declared.Now.{Now}
 
@@ -63,3 +68,37 @@ pub record AnewIn (code names : List ℕ) (width : ℕ) (here : Now) (body link 
   pub looked-is : looked′ ≡ set looked (here .live + 1) (renewed area (givenAt width here) (levelAt code body) (here .fresh - formalsAt code body) (getD code (body + 2) 0) (getD looked link 0))
   pub cleared : Cleared words (32 * (here .live + 1) + formalsAt code body) (32 * (here .live + 1) + namesAt code body) words′
   pub now-is : r ≡ record { live = here .live + 1; at = getD code (body + 1) 0 / 65536; end = endAt code body; pairs = here .pairs; fresh = here .fresh - formalsAt code body + namesAt code body }
+
+-- The start
+
+pub record Beginnable (script code names area : List ℕ) : Type 0 where
+  pub short : length script ≤ 8192
+  pub area-long : length script / 2 ≤ length area
+  pub text-within : endAt code 0 ≤ 4096
+  pub text-there : endAt code 0 ≤ length area
+  pub names-few : namesAt code 0 ≤ 32
+  -- the program has no formals
+  pub no-formals : (q : ℕ) → q < endAt code 0 → levelIn (getD names q 0) ≡ 1 → direct (getD names q 0) ≡ true
+  pub no-formal-looked : levelIn (getD code 2 0) ≡ 1 → direct (getD code 2 0) ≡ true
+
+pub record BegunIn (script code names area firsts targets looked : List ℕ) (pairs : ℕ) (area′ firsts′ targets′ looked′ : List ℕ) (r : Now) : Type 0 where
+  pub filled : List ℕ
+  pub fields : (i : ℕ) → i < length script / 2 → getD filled i 0 ≡ fieldAt script (2 * i)
+  pub as-long : length filled ≡ length area
+  pub copied : Copied filled area′ names 0 0 0 1 65536 0 (endAt code 0)
+  pub targets-are : targets′ ≡ notedFrom targets names 0 1 0 (endAt code 0)
+  pub firsts-are : firsts′ ≡ set firsts 0 65536
+  pub looked-is : looked′ ≡ set looked 0 (renewed filled 0 1 65536 (getD code 2 0) 0)
+  pub now-is : r ≡ record { live = 0; at = getD code 1 0 / 65536; end = endAt code 0; pairs = pairs; fresh = 65536 + namesAt code 0 }
+
+-- The looked-up name
+
+unfoldable pub lookedUp : List ℕ → List ℕ → List ℕ → ℕ → ℕ
+lookedUp firsts starts looked live =
+    elim (eqb (getD looked live 0) 0) [ true ↦ 0 | false ↦ designatorOf (cellIn firsts starts live (getD looked live 0)) ]
+
+pub record Lookable (firsts starts looked : List ℕ) (live : ℕ) : Type 0 where
+  pub few : live ≤ 255
+  pub sorted : Sorted firsts live
+  pub new : (getD looked live 0 ≡ 0 → ⊥) → getD firsts 0 0 ≤ getD looked live 0
+  pub has : (getD looked live 0 ≡ 0 → ⊥) → cellIn firsts starts live (getD looked live 0) < 8192

@@ -2,15 +2,18 @@
 // used twice.
 use moves::narrow;
 use moves::wide;
+use new_names::cell_of;
+use sheets::designator_of;
 use stepping::clear;
 use stepping::code_at;
 use texts::copy_text;
+use texts::fill;
 use texts::renew;
 ghost use mathlib.Core.Path.{_≡_};
-ghost use Prim.Native.Nat.{_+_, _*_, _/_, _%_, _<_, _≤_, _^_};
+ghost use Prim.Native.Nat.{_+_, _*_, _-_, _/_, _%_, _<_, _≤_, _^_};
 ghost use lib.ListN.{length, getD, set};
 ghost use Rattle.copy_moves.specs.Running.{nowAt};
-ghost use Rattle.copy_moves.specs.Anew.{Enterable, Noted, AnewIn};
+ghost use Rattle.copy_moves.specs.Anew.{Beginnable, BegunIn, Enterable, Noted, AnewIn, Lookable, lookedUp};
 
 // The innermost activation, the place of its next statement, where its text ends, the pairs in use, and the new name to be given out next.
 pub struct Now {
@@ -21,6 +24,12 @@ pub struct Now {
     pub fresh: usize,
 }
 
+fn wide_name(x: u32) -> usize
+    ensures { λ r. ⌜ r ≡ x ⌝ }
+{
+    x as usize
+}
+
 fn narrow_name(x: usize) -> u32
     requires { ⌜ x < 4294967296 ⌝ }
     ensures { λ r. ⌜ r ≡ x ⌝ }
@@ -29,7 +38,7 @@ fn narrow_name(x: usize) -> u32
 }
 
 // An activation of the stack becomes the innermost one and goes on at a place.
-pub fn resume(code: &[u32; 4096], blocks: &[u16; 256], here: Now, home: usize, at: usize) -> Now
+fn resume(code: &[u32; 4096], blocks: &[u16; 256], here: Now, home: usize, at: usize) -> Now
     requires { ⌜ (home < 256) × (getD (now blocks) home 0 + 1 < 4096) ⌝ }
     ensures { λ r. ⌜ r ≡ nowAt (now (code .entry)) (now (blocks .entry)) here home at ⌝ }
 {
@@ -49,6 +58,43 @@ pub fn leave(code: &[u32; 4096], blocks: &[u16; 256], nexts: &[u16; 256], here: 
 {
     let live = here.live - 1;
     resume(code, blocks, here, live, wide(nexts[live]))
+}
+
+// An activation that is live becomes the innermost one.
+pub fn jump(code: &[u32; 4096], blocks: &[u16; 256], here: Now, home: usize, at: usize) -> Now
+    requires { ⌜ (home < 256) × (getD (now blocks) home 0 + 1 < 4096) × (home ≡ here .live → here .end ≡ getD (now code) (getD (now blocks) home 0 + 1) 0 % 65536) ⌝ }
+    ensures { λ r. ⌜ r ≡ nowAt (now (code .entry)) (now (blocks .entry)) here home at ⌝ }
+{
+    if home == here.live {
+        return Now {
+            live: home,
+            at,
+            end: here.end,
+            pairs: here.pairs,
+            fresh: here.fresh,
+        };
+    }
+    resume(code, blocks, here, home, at)
+}
+
+// At a run's end the place of the innermost activation's next statement is put with the others'.
+pub fn set_next(nexts: &mut [u16; 256], live: usize, at: usize)
+    requires { ⌜ (live < 256) × (at < 65536) ⌝ }
+    ensures { λ _. ⌜ now (nexts .exit) ≡ set (now (nexts .entry)) live at ⌝ }
+{
+    nexts[live] = narrow(at);
+}
+
+// The designator of the looked-up name, from what it reads as in the innermost activation; 0 where it is not visible.
+pub fn looked_up(firsts: &[u32; 256], starts: &[u16; 256], looked: &[u32; 256], live: usize) -> u32
+    requires { ⌜ Lookable (now firsts) (now starts) (now looked) live ⌝ }
+    ensures { λ r. ⌜ r ≡ lookedUp (now (firsts .entry)) (now (starts .entry)) (now (looked .entry)) live ⌝ }
+{
+    let name = wide_name(looked[live]);
+    if name == 0 {
+        return 0;
+    }
+    designator_of(cell_of(firsts, starts, live, name))
 }
 
 // What is noted of a new activation: its block, its first new name and that name's cell, and where the activation below goes on.
@@ -118,5 +164,36 @@ pub fn enter(
         end,
         pairs: here.pairs,
         fresh: first + head / 16777216,
+    }
+}
+
+// The program's activation: its text is the script itself, with new names for its own. Whatever the area held makes no difference.
+pub fn begin(
+    script: &[u8],
+    code: &[u32; 4096],
+    names: &[u32; 4096],
+    area: &mut [u32],
+    firsts: &mut [u32; 256],
+    targets: &mut [u16; 8224],
+    looked: &mut [u32; 256],
+    pairs: usize,
+) -> Now
+    requires { ⌜ Beginnable (now script) (now code) (now names) (now area) ⌝ }
+    ensures { λ r. ⌜ BegunIn (now (script .entry)) (now (code .entry)) (now (names .entry)) (now (area .entry)) (now (firsts .entry)) (now (targets .entry))
+        (now (looked .entry)) pairs (now (area .exit)) (now (firsts .exit)) (now (targets .exit)) (now (looked .exit)) r ⌝ }
+{
+    let head = code_at(code, 0);
+    let bounds = code_at(code, 1);
+    let end = bounds % 65536;
+    fill(script, area);
+    firsts[0] = 65536;
+    looked[0] = renew(area, 0, 1, 65536, code_at(code, 2), 0);
+    copy_text(area, names, targets, 0, 0, 0, 1, 65536, 0, 0, end);
+    Now {
+        live: 0,
+        at: bounds / 65536,
+        end,
+        pairs,
+        fresh: 65536 + head / 16777216,
     }
 }

@@ -50,7 +50,9 @@ module _ (area names : List ℕ) (from to given level first cells place end : �
   pub copied-none : Copied area area names from to given level first place place
   copied-none = record { as-long = refl; copied = λ q l h. absurd (omega arith); before = λ i h. refl; behind = λ i h. refl }
 
-  pub copied-all : (area′ : List ℕ) (q : ℕ) → q ≤ end → end ≤ q → Copied area area′ names from to given level first place q → Copied area area′ names from to given level first place end
+  pub copied-all :
+      (area′ : List ℕ) (q : ℕ) → q ≤ end → end ≤ q → Copied area area′ names from to given level first place q →
+      Copied area area′ names from to given level first place end
   copied-all area′ q l h c = let e : q ≡ end = omega arith in rw e at c
 
   module _ (area′ : List ℕ) (q : ℕ) (low : place ≤ q) (high : q < end) (c : Copied area area′ names from to given level first place q) where
@@ -66,7 +68,9 @@ module _ (area names : List ℕ) (from to given level first cells place end : �
     renewable w e =
         record {
           fits = can .fits;
-          argument = λ l d. let h = can .arguments q low high (ap levelIn (sym e) ∙ l) (ap direct (sym e) ∙ d) in omega (arith, h, e, can .new-room, c .as-long);
+          argument = λ l d.
+              let h = can .arguments q low high (ap levelIn (sym e) ∙ l) (ap direct (sym e) ∙ d) in
+              omega (arith, h, e, can .new-room, c .as-long);
         }
 
     pub copied-more :
@@ -82,7 +86,8 @@ module _ (area names : List ℕ) (from to given level first cells place end : �
       where
         new : x ≡ renewed area given level first (getD names q 0) (getD area (from + q) 0)
         new =
-            r ∙ ap (λ (v : ℕ). renewed area′ given level first v (getD area′ (from + q) 0)) e ∙ ap (renewed area′ given level first (getD names q 0)) old-there ∙
+            r ∙ ap (λ (v : ℕ). renewed area′ given level first v (getD area′ (from + q) 0)) e ∙
+            ap (renewed area′ given level first (getD names q 0)) old-there ∙
             renewed-same area area′ given level first (getD names q 0) (getD area (from + q) 0)
             (λ l d. c .before (given + positionIn (getD names q 0)) (can .arguments q low high l d))
 

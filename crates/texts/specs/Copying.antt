@@ -12,8 +12,8 @@ pub record Renewable (area : List ℕ) (given level first w : ℕ) : Type 0 wher
   pub fits : first + 32 ≤ 4294967296
   pub argument : levelIn w ≡ level → direct w ≡ false → given + positionIn w < length area
 
--- the words from `place` to `end` can be copied: what is read from the old room, and each argument, is before the words written, or each word
--- stays at its place
+-- the words from `place` to `end` can be copied: the arguments stand before what is written, and so does the old text, unless each word stays at
+-- its place
 pub record Copyable (area names : List ℕ) (from to given level first cells place end : ℕ) : Type 0 where
   pub ordered : place ≤ end
   pub script : end ≤ 4096
