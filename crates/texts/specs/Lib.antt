@@ -4,3 +4,5 @@ pub mod Readings
 pub mod Renewing
 pub mod Stacks
 pub mod Entering
+pub mod Noting
+pub mod Aiming

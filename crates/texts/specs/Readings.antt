@@ -141,11 +141,11 @@ coordinate-hidden (x ∷ inner) e es n c found l =
 
 -- names with values, found by their positions
 
-position-here : (n i x : ℕ) (ns : List ℕ) → eqb n x ≡ true → positionFrom n i (x ∷ ns) ≡ some i
+pub position-here : (n i x : ℕ) (ns : List ℕ) → eqb n x ≡ true → positionFrom n i (x ∷ ns) ≡ some i
 unfolding positionFrom
 position-here n i x ns q = rw (q, positionFrom)
 
-position-there : (n i x : ℕ) (ns : List ℕ) → eqb n x ≡ false → positionFrom n i (x ∷ ns) ≡ positionFrom n (suc i) ns
+pub position-there : (n i x : ℕ) (ns : List ℕ) → eqb n x ≡ false → positionFrom n i (x ∷ ns) ≡ positionFrom n (suc i) ns
 unfolding positionFrom
 position-there n i x ns q = rw (q, positionFrom)
 
