@@ -6,3 +6,4 @@ pub mod Stacks
 pub mod Entering
 pub mod Noting
 pub mod Aiming
+pub mod Looking
