@@ -5,3 +5,6 @@ pub mod Readings
 pub mod Renewing
 pub mod Stacks
 pub mod Entering
+pub mod Noting
+pub mod Aiming
+pub mod Looking

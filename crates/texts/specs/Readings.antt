@@ -123,7 +123,7 @@ coordinate-own (x ∷ inner) e es n c found l =
     let z : suc (length (inner ++ (e ∷ es))) ≡ c .level = λ i. k i .level in
     absurd (omega (arith, length-append inner (e ∷ es))))
 
-coordinate-hidden : (inner : Enclosure) (e : Enclosing) (es : Enclosure) (n : ℕ) (c : Coordinate) → coordinateOf (inner ++ (e ∷ es)) n ≡ some c
+pub coordinate-hidden : (inner : Enclosure) (e : Enclosing) (es : Enclosure) (n : ℕ) (c : Coordinate) → coordinateOf (inner ++ (e ∷ es)) n ≡ some c
     → c .level ≤ length es → positionFrom n 1 (namesOf e) ≡ none
 coordinate-hidden [] e es n c found l =
     by-lookup (positionFrom n 1 (namesOf e)) (λ q. q)
@@ -141,11 +141,11 @@ coordinate-hidden (x ∷ inner) e es n c found l =
 
 -- names with values, found by their positions
 
-position-here : (n i x : ℕ) (ns : List ℕ) → eqb n x ≡ true → positionFrom n i (x ∷ ns) ≡ some i
+pub position-here : (n i x : ℕ) (ns : List ℕ) → eqb n x ≡ true → positionFrom n i (x ∷ ns) ≡ some i
 unfolding positionFrom
 position-here n i x ns q = rw (q, positionFrom)
 
-position-there : (n i x : ℕ) (ns : List ℕ) → eqb n x ≡ false → positionFrom n i (x ∷ ns) ≡ positionFrom n (suc i) ns
+pub position-there : (n i x : ℕ) (ns : List ℕ) → eqb n x ≡ false → positionFrom n i (x ∷ ns) ≡ positionFrom n (suc i) ns
 unfolding positionFrom
 position-there n i x ns q = rw (q, positionFrom)
 
