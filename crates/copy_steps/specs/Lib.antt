@@ -1,1 +1,4 @@
--- Steps of the copy-rule machine.
+-- Steps of the copy-rule machine, in reading order.
+pub mod Kept
+pub mod Anew
+pub mod Moved
