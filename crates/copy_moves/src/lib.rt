@@ -153,10 +153,29 @@ pub fn enter(
     let given = here.live * width + (here.at + 3);
     let first = here.fresh - formals;
     note(blocks, nexts, firsts, starts, here, body, formals, back);
-    looked[live] = renew(area, given, level, first, code_at(code, body + 2), looked[link]);
+    looked[live] = renew(
+        area,
+        given,
+        level,
+        first,
+        code_at(code, body + 2),
+        looked[link],
+    );
     let cells = 32 * live;
     let end = bounds % 65536;
-    copy_text(area, names, targets, link * width, live * width, given, level, first, cells, body, end);
+    copy_text(
+        area,
+        names,
+        targets,
+        link * width,
+        live * width,
+        given,
+        level,
+        first,
+        cells,
+        body,
+        end,
+    );
     clear(words, cells + formals, cells + head / 16777216);
     Now {
         live,

@@ -62,7 +62,21 @@ pub fn step(
         return Turn::Went(leave(code, blocks, nexts, here));
     }
     let base = live * width;
-    match act(code, words, area, base, firsts, starts, targets, table, pairs, group, limit, live, at) {
+    match act(
+        code,
+        words,
+        area,
+        base,
+        firsts,
+        starts,
+        targets,
+        table,
+        pairs,
+        group,
+        limit,
+        live,
+        at,
+    ) {
         Move::On(place) => Turn::Went(Now {
             live,
             at: place,
@@ -165,7 +179,16 @@ pub fn run_program(
     let mut starts = [0u16; 256];
     let mut targets = [0u16; 8224];
     let mut looked = [0u32; 256];
-    let mut here = begin(script, code, names, area, &mut firsts, &mut targets, &mut looked, pairs);
+    let mut here = begin(
+        script,
+        code,
+        names,
+        area,
+        &mut firsts,
+        &mut targets,
+        &mut looked,
+        pairs,
+    );
     let mut left = allowance;
     while 0 < left {
         match step(
@@ -202,9 +225,27 @@ pub fn run_program(
             Turn::Stopped(cause) => {
                 let done = allowance - left;
                 let place = 2 * here.at;
-                return halted(nexts, &firsts, &starts, &looked, here, End::Stopped(cause), done, place);
+                return halted(
+                    nexts,
+                    &firsts,
+                    &starts,
+                    &looked,
+                    here,
+                    End::Stopped(cause),
+                    done,
+                    place,
+                );
             }
         }
     }
-    halted(nexts, &firsts, &starts, &looked, here, End::Spent, allowance, 0)
+    halted(
+        nexts,
+        &firsts,
+        &starts,
+        &looked,
+        here,
+        End::Spent,
+        allowance,
+        0,
+    )
 }
