@@ -2,3 +2,4 @@
 pub mod Running
 pub mod Settled
 pub mod Anew
+pub mod Going
