@@ -2,3 +2,5 @@
 pub mod Kept
 pub mod Anew
 pub mod Moved
+pub mod Start
+pub mod Together

@@ -6,11 +6,9 @@ use mathlib.Core.List.{List, []}
 use mathlib.Core.Option.{some}
 use lib.ListN.{getElem?}
 use Rattle.language.specs.Text.{Formal, Block, Decl, VR, LB, PR, BK, decls, blockDecls, blockStmts, declFormals, declBody, formalNames}
-use Rattle.language.specs.Check.{check, accepted}
 use Rattle.laws.specs.Lookup.{AllBelow}
-use Rattle.grammar.specs.Rules.{Bytes, FormedBlock, FormedDecl}
+use Rattle.grammar.specs.Rules.{Keeps, FormedBlock, FormedDecl}
 use Rattle.grammar.specs.Formed.{formal-names, decl-at, stmt-at}
-use Rattle.grammar.specs.Exact.{accepts-exactly}
 
 pub record Fine (fs : List Formal) (b : Block) : Type 0 where
   pub level : ℕ
@@ -18,11 +16,9 @@ pub record Fine (fs : List Formal) (b : Block) : Type 0 where
   pub formed : FormedBlock b level fs here
   pub small-formals : AllBelow (formalNames fs)
 
-pub fine-script : (bs : List ℕ) (t : Block) → Bytes bs → check bs ≡ accepted t → Fine [] t
+pub fine-program : (t : Block) → Keeps t → Fine [] t
 unfolding formalNames
-fine-script bs t bytes e =
-    let k = accepts-exactly bs bytes t .0 e .1 in
-    record { level = 1; here = 0; formed = k .formed; small-formals = tt }
+fine-program t k = record { level = 1; here = 0; formed = k .formed; small-formals = tt }
 
 -- What is fine stays so within; what is no procedure has an empty body.
 formed-body : (d : Decl) (level s here : ℕ) → FormedDecl d level s here → Fine (declFormals d) (declBody d)

@@ -21,10 +21,11 @@ use Rattle.laws.specs.Tests.{split}
 use Rattle.laws.specs.Lists.{by-elements, some-last, last-none, last-split, getElem-seam, map-alike}
 use Rattle.laws.specs.Renaming.{blockAt-renamed, rename-nothing}
 use Rattle.laws.specs.Rising.{Rising}
-use Rattle.grammar.specs.Rules.{Bytes}
+use Rattle.grammar.specs.Rules.{Bytes, Keeps}
+use Rattle.grammar.specs.Exact.{accepts-exactly}
 use Rattle.runs.specs.Account.{run-finished, run-spent, run-did, run-stopped}
 use Rattle.instances.specs.Invariant.{Invariant}
-use Rattle.instances.specs.Accepted.{accepted-closed}
+use Rattle.instances.specs.Accepted.{rules-closed}
 use Rattle.instances.specs.Steps.{started, step-keeps, counted-invariant}
 use Rattle.frames.specs.Frame.{Frame, Stack, Acted, acted, halted, withFrames, stepped, numbered, designates, linksFollowed, seekName, seekFrom, frameStep, Result, results, frameRun, frameStart, frameWords, frameSheet, frameReplied, frameRunOf}
 use Rattle.frames.specs.Both.{Both}
@@ -34,7 +35,7 @@ use Rattle.frames.specs.Find.{foundDesignator, passedIn, designates-foun
 use Rattle.frames.specs.Actions.{Alike, value-is}
 use Rattle.frames.specs.Running as framed
 use Rattle.frames.specs.Steps.{step-alike, offset-alike}
-use Rattle.frames.specs.Fine.{fine-script}
+use Rattle.frames.specs.Fine.{fine-program}
 
 -- Two runs that come to the same.
 pub record Same (o : Outcome) (q : Result) : Type 0 where
@@ -42,7 +43,7 @@ pub record Same (o : Outcome) (q : Result) : Type 0 where
   pub offset-is : o .offset ≡ q .offset
   pub finals : Related (o .final) (q .final)
 
-counted-related : (s : State) (t : Stack) → Related s t → Related (counted s) (stepped t)
+pub counted-related : (s : State) (t : Stack) → Related s t → Related (counted s) (stepped t)
 unfolding counted stepped
 counted-related s t r = record { twins = r .twins; rising = r .rising; table-is = r .table-is; steps-are = ap suc (r .steps-are) }
 
@@ -93,12 +94,12 @@ nothing u = record { live = []; values = []; fresh = 65536; table = u; steps = 0
 no-frames : Table → Stack
 no-frames u = record { frames = []; table = u; steps = 0 }
 
-pub start-related : (bs : List ℕ) (p : Block) → Bytes bs → check bs ≡ accepted p → (u : Table) → Related (start p u) (frameStart p u)
+pub start-related : (p : Block) → Keeps p → (u : Table) → Related (start p u) (frameStart p u)
 unfolding start frameStart nothing no-frames withFrames formalNames readsAt readsIn joined without Both Rising numbered
-start-related bs p bytes e u =
+start-related p k u =
     let r : Related (nothing u) (no-frames u) = record { twins = tt; rising = omega arith; table-is = refl; steps-are = refl } in
     subst (λ (b : Block). Related (enter (nothing u) [] [] b []) (frameStart p u)) (rename-nothing p)
-    (related-push (nothing u) (no-frames u) r [] p (fine-script bs p bytes e) [] refl tt 0 (omega arith))
+    (related-push (nothing u) (no-frames u) r [] p (fine-program p k) [] refl tt 0 (omega arith))
 
 -- The sheets are one.
 
@@ -187,5 +188,7 @@ replied-same e f o q h =
 pub runs-replied : (e : Engine) (f : Fed) → Bytes (f .script) → (t : Block) → check (f .script) ≡ accepted t → frameReplied e f (frameRunOf f t) ≡ replied e f (runOf f t)
 unfolding runOf frameRunOf
 runs-replied e f bytes t a =
+    let k = accepts-exactly (f .script) bytes t .0 a .1 in
+    let u = f .lent .table in
     replied-same e f (runOf f t) (frameRunOf f t)
-    (runs-same (limitsOf f) (f .allowance) (start t (f .lent .table)) (frameStart t (f .lent .table)) (start-related (f .script) t bytes a (f .lent .table)) (started t (f .lent .table) (accepted-closed (f .script) t bytes a)))
+    (runs-same (limitsOf f) (f .allowance) (start t u) (frameStart t u) (start-related t k u) (started t u (rules-closed t k)))

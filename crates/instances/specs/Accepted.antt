@@ -11,7 +11,7 @@ use Rattle.language.specs.Check.{check, accepted}
 use Rattle.laws.specs.Tests.{some-inj, split}
 use Rattle.laws.specs.Each.{Each}
 use Rattle.laws.specs.Lookup.{AllBelow, lookup-here, lookup-nil, lookup-there}
-use Rattle.grammar.specs.Rules.{Bytes, Visible, Is, ScopedAction, FormedBlock, FormedDecl, FormedStmt, FormedDecls, FormedStmts, ScopedBlock, ScopedDecl, ScopedStmt, ScopedDecls, ScopedStmts}
+use Rattle.grammar.specs.Rules.{Bytes, Keeps, Visible, Is, ScopedAction, FormedBlock, FormedDecl, FormedStmt, FormedDecls, FormedStmts, ScopedBlock, ScopedDecl, ScopedStmt, ScopedDecls, ScopedStmts}
 use Rattle.grammar.specs.Formed.{formal-names, decl-names}
 use Rattle.grammar.specs.Exact.{accepts-exactly}
 use Rattle.instances.specs.Statement.{usesOf}
@@ -108,8 +108,9 @@ mutual
   closed-stmts no-stmt level here sc f h = tt
   closed-stmts (stmt x ss) level here sc f h = (closed-stmt x level _ sc (f .0) (h .0), closed-stmts ss level _ sc (f .1) (h .1))
 
-pub accepted-closed : (bs : List ℕ) (t : Block) → Bytes bs → check bs ≡ accepted t → InBlock t [] []
+pub rules-closed : (t : Block) → Keeps t → InBlock t [] []
 unfolding kindsOf formalNames
-accepted-closed bs t bytes e =
-    let k = accepts-exactly bs bytes t .0 e .1 in
-    closed-block t 1 [] 0 [] tt (k .formed) (k .scoped)
+rules-closed t k = closed-block t 1 [] 0 [] tt (k .formed) (k .scoped)
+
+pub accepted-closed : (bs : List ℕ) (t : Block) → Bytes bs → check bs ≡ accepted t → InBlock t [] []
+accepted-closed bs t bytes e = rules-closed t (accepts-exactly bs bytes t .0 e .1)
