@@ -52,11 +52,11 @@ module _ {code names : List ℕ} {limit group : ℕ} {words : List ℤ} {area : 
   pub live-is : length (w .copies .live) ≡ suc (here .live)
   live-is = as-deep (w .copies) (w .standing .stack) (w .related) ∙ many (w .standing)
 
-  innermost : (a : Activation) × (last? (w .copies .live) ≡ some a)
+  abbrev pub innermost : (a : Activation) × (last? (w .copies .live) ≡ some a)
   innermost = some-last (w .copies .live) (omega (arith, live-is))
 
-  abbrev made : (s₀ : State) × (step (limitsBy limit group) (w .copies) ≡ did s₀) × Related (counted s₀) (stepped (follows .moved)) × Invariant (counted s₀)
-  made = copies-step (limitsBy limit group) (w .copies) (w .standing .stack) (follows .moved) (w .related) (w .invariant) (innermost .0) (innermost .1) (follows .did)
+  abbrev pub made : (s₀ : State) × (step (limitsBy limit group) (w .copies) ≡ did s₀) × Related (counted s₀) (stepped (follows .moved)) × Invariant (counted s₀)
+  made = copies-step (limitsBy limit group) (w .copies) (w .standing .stack) (follows .moved) (w .related) (w .invariant) (innermost .0) (innermost .1) (follows .steps)
 
   -- the state of the copy-rule machine behind the step
   abbrev pub after : State
@@ -139,6 +139,7 @@ module _ {code names : List ℕ} {limit group : ℕ} {words : List ℤ} {area : 
           new-names = subst (λ n. NewNames (after .live) n firsts starts) (sym (k .fresh-is)) (new-names-kept firsts starts (w .copies .live) (after .live) (w .copies .fresh) (λ j c q. let o = k .kept j c q in (o .0, o .1, o .2 .0, o .2 .1, o .2 .2)) (w .new-names));
           aims = aims-kept targets fs gs (w .aims) (subst (λ n. SameOutlines n fs gs) (sym (many st)) alike);
           looks = subst (Looks looked (after .live) gs) (sym (follows .same-name)) (looks-kept looked (w .copies .live) (after .live) fs gs (w .standing .name) (w .looks) (downward (w .standing)) fewer-live alike-activations outlines-live);
+          name-small = subst (λ n. n < 65536) (sym (follows .same-name)) (w .name-small);
           fresh-is = w .fresh-is ∙ sym (k .fresh-is);
           wide = subst (λ (t : Block). length (blockFields t) ≤ width) (sym program-is) (w .wide);
           room = w .room;

@@ -1,7 +1,7 @@
 -- The copying engine between two steps: `Running` says that its arrays hold a sound stack of frames and, beside it, the state of the copy-rule
 -- machine that runs with it: the area its texts, `firsts`, `starts` its new names, `targets` what its labels and procedures lead to, `looked` what
 -- the looked-up name reads as. `Succeeds` says that another state of the arrays is the one a step behind it.
-use Prim.Native.Nat.{ℕ, _+_, _*_, _%_, _≤_}
+use Prim.Native.Nat.{ℕ, _+_, _*_, _%_, _≤_, _<_}
 use mathlib.Core.List.{List}
 use mathlib.Core.Path.{_≡_}
 use lib.IntN.{ℤ}
@@ -33,6 +33,7 @@ pub record Running (code names : List ℕ) (limit group : ℕ) (words : List ℤ
   pub new-names : NewNames (copies .live) (copies .fresh) firsts starts
   pub aims : Aims targets (standing .stack .frames)
   pub looks : Looks looked (copies .live) (standing .stack .frames) (standing .name)
+  pub name-small : standing .name < 65536
   pub fresh-is : here .fresh ≡ copies .fresh
   pub wide : length (blockFields (standing .program)) ≤ width
   pub room : limit * width ≤ length area
