@@ -6,3 +6,4 @@ pub mod Names
 pub mod Statements
 pub mod Calling
 pub mod Meaning
+pub mod Here
