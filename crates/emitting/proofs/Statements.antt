@@ -1,4 +1,4 @@
--- The words of each kind of statement.
+-- The words of each kind of statement, and of a declaration's name.
 -- Assumes nothing.
 use mathlib.Core.Path.{_≡_, refl, sym, _∙_, ap, ap₂, subst}
 use mathlib.Core.Bool.{Bool, true, false, _&&_}
@@ -15,8 +15,8 @@ use Rattle.resolved.specs.Resolved.{formalIn, direct, chosen, nameWord, resolve
 use Rattle.words.specs.Words.{wordAt, wordsAt, Stands}
 use Rattle.words.proofs.Standing.{third-is, stands-words}
 use Rattle.emitting.specs.Growth.{Grown}
-use Rattle.emitting.specs.Emitted.{wordIn, usedAt, Short, AllShort, Shown, knWords, arWords, ifWords, goWords, clWords, pairWords, qyWords, argumentWords, emittedAs, Emitted}
-use Rattle.emitting.proofs.Growth.{grown-nothing, put-grows, grown-more, grown-then}
+use Rattle.emitting.specs.Emitted.{wordIn, usedAt, Short, AllShort, Shown, knWords, arWords, ifWords, goWords, clWords, pairWords, qyWords, argumentWords, emittedAs, Emitted, Named}
+use Rattle.emitting.proofs.Growth.{grown-nothing, grown-zero, put-grows, grown-more, grown-then}
 use Rattle.emitting.proofs.Lookups.{word-is, all-short}
 
 chosen-short : (t : Bool) (a b : ℕ) → Short a → Short b → Short (chosen t a b)
@@ -210,6 +210,11 @@ module _ (bs es : List ℕ) (encl : Enclosure) (s : Shown encl es) where
 module _ (bs es : List ℕ) (at : ℕ) (c c′ : List ℕ) where
   pub emit-by : (ws : List ℕ) → emittedAs (wordAt bs at) bs es at ≡ ws → (AllShort es → Grown c c′ at ws) → Emitted bs es at c c′
   emit-by ws e g a encl s h = subst (Grown c c′ at) (sym e ∙ emits bs es encl s at a h) (g (all-short encl es s))
+
+  pub name-grown : (w : ℕ) → w ≡ usedAt bs es (at + 2) → c′ ≡ set c ((at + 2) / 2) (w % 4294967296) → Named bs es at c c′
+  name-grown w e p n encl s q =
+      subst (λ (v : ℕ). Grown c c′ at (0 ∷ v ∷ [])) (e ∙ used-is bs es encl s (at + 2) n q)
+      (grown-more refl (grown-zero c at) (put-grows p (used-short bs es (all-short encl es s) (at + 2) e)))
 
   pub emit-other :
       (m : ℕ) → (m ≡ AR-mark → ⊥) → (m ≡ IF-mark → ⊥) → (m ≡ KN-mark → ⊥) → (m ≡ CL-mark → ⊥) → (m ≡ GO-mark → ⊥) → (m ≡ AD-mark → ⊥) → (m ≡ RM-mark → ⊥) →

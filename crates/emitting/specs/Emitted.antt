@@ -1,4 +1,4 @@
--- The words of a statement, from its bytes and the array of the visible names: each name with its word.
+-- The words of a statement, and of a declaration's name, from its bytes and the array of the visible names: each name with its word.
 use Prim.Native.Nat.{ℕ, _+_, _*_, _<_}
 use mathlib.Core.Bool.{Bool, true, false, _&&_}
 use mathlib.Core.List.{List, [], _∷_, map}
@@ -9,7 +9,7 @@ use Rattle.language.specs.Text.{Action}
 use Rattle.language.specs.Encoding.{actionFields, CL-mark, GO-mark, IF-mark, KN-mark, AR-mark, AD-mark, RM-mark, QY-mark}
 use Rattle.laws.specs.Each.{Each}
 use Rattle.coordinates.specs.Enclosure.{Enclosure}
-use Rattle.resolved.specs.Resolved.{visibleWords, direct, chosen, resolvedAction}
+use Rattle.resolved.specs.Resolved.{visibleWords, nameWord, direct, chosen, resolvedAction}
 use Rattle.words.specs.Words.{wordAt, wordsAt, Stands}
 use Rattle.symbols.specs.Entries.{foundIn}
 use Rattle.symbols.specs.declared.Found.{Found}
@@ -106,3 +106,8 @@ emittedAs m bs es at =
 abbrev pub Emitted : List ℕ → List ℕ → ℕ → List ℕ → List ℕ → Type 0
 Emitted bs es at code code′ =
     (a : Action) (encl : Enclosure) → Shown encl es → Stands bs at (actionFields a) → Grown code code′ at (resolvedAction encl a)
+
+-- the mark and the name of a declaration are written as their resolved words
+abbrev pub Named : List ℕ → List ℕ → ℕ → List ℕ → List ℕ → Type 0
+Named bs es at code code′ =
+    (n : ℕ) (encl : Enclosure) → Shown encl es → wordAt bs (at + 2) ≡ n → Grown code code′ at (0 ∷ nameWord encl n ∷ [])

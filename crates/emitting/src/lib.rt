@@ -1,4 +1,4 @@
-// The words of the resolved script, written at their places, and those of a statement. All is safe on any bytes.
+// The words of the resolved script, written at their places: those of a statement, and of a declaration's name. All is safe on any bytes.
 use records::AR;
 use records::CL;
 use records::GO;
@@ -19,7 +19,7 @@ ghost use Rattle.symbols.specs.Chains.{Chained};
 ghost use Rattle.words.specs.Words.{wordAt};
 ghost use Rattle.resolved.specs.Resolved.{chosen, formalIn};
 ghost use Rattle.emitting.specs.Growth.{Grown};
-ghost use Rattle.emitting.specs.Emitted.{wordIn, usedAt, AllShort, knWords, arWords, ifWords, goWords, clWords, pairWords, qyWords, argumentWords, Emitted};
+ghost use Rattle.emitting.specs.Emitted.{wordIn, usedAt, AllShort, knWords, arWords, ifWords, goWords, clWords, pairWords, qyWords, argumentWords, Emitted, Named};
 
 mod writing;
 
@@ -151,6 +151,14 @@ fn emit_cl(script: &[u8], entries: &[usize], top: usize, code: &mut [u32], at: u
     let count = word(script, at + 4);
     put_three(code, at, operation(formal(w), 7, 15), w, count);
     arguments(script, entries, top, code, at + 6, count);
+}
+
+// The name of a declaration. Its mark's word stays 0.
+pub fn emit_name(script: &[u8], entries: &[usize], top: usize, code: &mut [u32], at: usize)
+    requires { ⌜ (at < 2 ^ 32) × Chained (now entries) top ⌝ }
+    ensures { λ _. ⌜ Named (now (script .entry)) (drop top (now (entries .entry))) at (now (code .entry)) (now (code .exit)) ⌝ }
+{
+    put(code, at + 2, used(script, entries, top, at + 2));
 }
 
 // A statement other than BK, with its mark.

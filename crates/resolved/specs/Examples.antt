@@ -17,20 +17,20 @@ sample-B : resolvedFrom 5 (check script-B)
     ≡
     -- level 1, no formals, three names; it ends at 61 and its first statement stands at 57; name 5 is not visible in it
     (6 + 256 * 1 + 16777216 * 3) ∷ (61 + 65536 * 57) ∷ 0 ∷
-    0 ∷ 0 ∷
-    0 ∷ 0 ∷ 0 ∷
+    0 ∷ (256 * 1) ∷
+    0 ∷ (1 + 64 * 2 + 256 * 1 + 65536 * 8) ∷ 0 ∷
     -- the body of procedure 2 at place 8: no statement, so the first one stands at the end
     (6 + 256 * 2) ∷ (11 + 65536 * 11) ∷ 0 ∷
-    0 ∷ 0 ∷ 0 ∷
+    0 ∷ (2 + 64 * 2 + 256 * 1 + 65536 * 17) ∷ 0 ∷
     0 ∷ 0 ∷ 2 ∷
     -- the body of procedure 3 at place 17: one formal among four names; name 5 is its second
     (6 + 256 * 2 + 65536 * 1 + 16777216 * 4) ∷ (57 + 65536 * 35) ∷ (1 + 256 * 2) ∷
-    0 ∷ 0 ∷
-    0 ∷ 0 ∷ 0 ∷
+    0 ∷ (1 + 256 * 2) ∷
+    0 ∷ (2 + 64 * 2 + 256 * 2 + 65536 * 25) ∷ 0 ∷
     -- the body of procedure 6 at place 25, which sets name 5 of the block around it
     (6 + 256 * 3) ∷ (32 + 65536 * 28) ∷ (1 + 256 * 2) ∷
     0 ∷ (1 + 256 * 2) ∷ 9 ∷ 0 ∷
-    0 ∷ 0 ∷ 0 ∷
+    0 ∷ (3 + 64 * 1 + 256 * 2 + 65536 * 50) ∷ 0 ∷
     -- label 7 leads to the fifth statement, at place 50
     4 ∷ (3 + 64 * 1 + 256 * 2 + 65536 * 50) ∷ (256 * 1) ∷
     0 ∷ (256 * 1) ∷ 1 ∷ 0 ∷

@@ -1,7 +1,7 @@
 -- The resolved script: a word for each field of the script, worked out from the tree alone, so that no step of a run searches the text or
--- compares names. A word's place is half the byte offset of its field. At a statement's mark stands its operation, at a name used where the
--- name lies and what it leads to, at a block's BK what entering it takes, and at a formal's kind its kind; every other word is 0.
--- The word of the looked-up name stands in each block's BK, since the innermost block at the end is not known before.
+-- compares names. A word's place is half the byte offset of its field. At a statement's mark stands its operation, at a name that is used or
+-- declared where the name lies and what it leads to, at a block's BK what entering it takes, and at a formal's kind its kind; every other
+-- word is 0. The word of the looked-up name stands in each block's BK, since the innermost block at the end is not known before.
 use Prim.Native.Nat.{ℕ, suc, pred, _+_, _*_, _/_, _%_}
 use mathlib.Core.Bool.{Bool, true, false, _&&_}
 use mathlib.Core.List.{List, [], _∷_, _++_, map}
@@ -129,9 +129,9 @@ unfoldable mutual
       header name e es ++ (resolvedDecls name ds (e ∷ es) ++ resolvedStmts name ss (e ∷ es))
 
   pub resolvedDecl : ℕ → Decl → Enclosure → List ℕ
-  resolvedDecl name (VR at n) es = 0 ∷ 0 ∷ []
-  resolvedDecl name (LB at n i) es = 0 ∷ 0 ∷ 0 ∷ []
-  resolvedDecl name (PR at n fs b) es = 0 ∷ 0 ∷ 0 ∷ (resolvedFormals fs ++ resolvedBlock name b fs es)
+  resolvedDecl name (VR at n) es = 0 ∷ nameWord es n ∷ []
+  resolvedDecl name (LB at n i) es = 0 ∷ nameWord es n ∷ 0 ∷ []
+  resolvedDecl name (PR at n fs b) es = 0 ∷ nameWord es n ∷ 0 ∷ (resolvedFormals fs ++ resolvedBlock name b fs es)
 
   pub resolvedStmt : ℕ → Stmt → Enclosure → List ℕ
   resolvedStmt name (BK b) es = resolvedBlock name b [] es

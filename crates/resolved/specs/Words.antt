@@ -183,10 +183,10 @@ module _ (t : Block) (keeps : Keeps t) where
 
       decl-small : (d : Decl) (o : Enclosing) (es : Enclosure) → Encloses t (o ∷ es) → (i : ℕ) → getElem? (blockDecls (o .text)) i ≡ some d
           → Each Small (resolvedDecl name d (o ∷ es))
-      decl-small (VR at n) o es w i q = (omega arith, (omega arith, tt))
-      decl-small (LB at n k) o es w i q = (omega arith, (omega arith, (omega arith, tt)))
+      decl-small (VR at n) o es w i q = (omega arith, (name-small t keeps (o ∷ es) w n, tt))
+      decl-small (LB at n k) o es w i q = (omega arith, (name-small t keeps (o ∷ es) w n, (omega arith, tt)))
       decl-small (PR at n fs b) o es w i q =
-          (omega arith, (omega arith, (omega arith, each-append Small (resolvedFormals fs) (resolvedBlock name b fs (o ∷ es)) (formals-small fs) (block-small b fs (o ∷ es) (as-body i at n q, w)))))
+          (omega arith, (name-small t keeps (o ∷ es) w n, (omega arith, each-append Small (resolvedFormals fs) (resolvedBlock name b fs (o ∷ es)) (formals-small fs) (block-small b fs (o ∷ es) (as-body i at n q, w)))))
 
       stmt-small : (x : Stmt) (o : Enclosing) (es : Enclosure) → Encloses t (o ∷ es) → (i : ℕ) → getElem? (blockStmts (o .text)) i ≡ some x
           → Each Small (resolvedStmt name x (o ∷ es))

@@ -20,13 +20,14 @@ use Rattle.extents.specs.declared.passing.Step.{Step}
 use Rattle.scoping.specs.Walking.{FormedItem, BlockHere, ItemHere}
 use Rattle.scoping.proofs.Statements.{plain, block-mark, alone}
 use Rattle.emitting.specs.Growth.{Grown}
-use Rattle.emitting.specs.Emitted.{Shown, Emitted}
-use Rattle.emitting.proofs.Growth.{grown-zero, grown-more}
+use Rattle.emitting.specs.Emitted.{Shown, Emitted, Named}
+use Rattle.emitting.proofs.Growth.{grown-zero, grown-more, grown-then}
 use Rattle.resolving.specs.Resolving.{resolvedItem, BlockIs, ItemIs, Written, BlockWritten, ItemWritten}
 
 module _ (bs es : List ℕ) (name at top level : ℕ) (c c′ : List ℕ) where
   -- a procedure
-  module _ (marked : wordAt bs at ≡ PR-mark) (count : ℕ) (is : count ≡ wordAt bs (at + 4)) (r : ℕ) (written : BlockWritten bs es name (at + 6) count top (level + 1) c c′ r) where
+  module _ (marked : wordAt bs at ≡ PR-mark) (d : List ℕ) (named : Named bs (drop top es) at c d) (count : ℕ) (is : count ≡ wordAt bs (at + 4)) (r : ℕ)
+      (written : BlockWritten bs es name (at + 6) count top (level + 1) d c′ r) where
     pub item-PR : ItemWritten bs es name at top level c c′ r
     unfolding resolvedItem resolvedDecl itemFields declFields stmtFields FormedItem FormedDecl
     item-PR (formal f) encl s h = absurd (h .here .formed)
@@ -56,7 +57,7 @@ module _ (bs es : List ℕ) (name at top level : ℕ) (c c′ : List ℕ) where
         }) in
         record {
           ends = omega (arith, w .ends);
-          grows = grown-more refl (grown-zero c at) (grown-more (omega arith) (grown-zero c (at + 2)) (grown-more (omega arith) (grown-zero c (at + 4)) (w .grows)));
+          grows = grown-then (omega arith) (named n encl (h .shown) (stand .1 .0)) (grown-more (omega arith) (grown-zero d (at + 4)) (w .grows));
         }
     item-PR (stated (BK b)) encl s h = absurd (let e = block-mark bs at b (h .here .stand) in omega arith)
     item-PR (stated (DO o a)) encl s h = absurd (plain bs at a (h .here .stand) .no-PR marked)
@@ -89,26 +90,26 @@ module _ (bs es : List ℕ) (name at top level : ℕ) (c c′ : List ℕ) where
         record { ends = omega (arith, w .ends); grows = w .grows }
     item-BK (stated (DO o a)) encl s h = absurd (plain bs at a (h .here .stand) .no-BK marked)
 
-  pub item-VR : wordAt bs at ≡ VR-mark → ItemWritten bs es name at top level c c (at + 4)
+  pub item-VR : wordAt bs at ≡ VR-mark → Named bs (drop top es) at c c′ → ItemWritten bs es name at top level c c′ (at + 4)
   unfolding resolvedItem resolvedDecl itemFields declFields stmtFields FormedItem
-  item-VR marked (formal f) encl s h = absurd (h .here .formed)
-  item-VR marked (body b) encl s h = absurd (h .here .formed)
-  item-VR marked (declared (VR o n)) encl s h = record { ends = refl; grows = grown-more refl (grown-zero c at) (grown-zero c (at + 2)) }
-  item-VR marked (declared (LB o n i)) encl s h = absurd (let e = h .here .stand .0 in omega arith)
-  item-VR marked (declared (PR o n fs b)) encl s h = absurd (let e = h .here .stand .0 in omega arith)
-  item-VR marked (stated (BK b)) encl s h = absurd (let e = block-mark bs at b (h .here .stand) in omega arith)
-  item-VR marked (stated (DO o a)) encl s h = absurd (plain bs at a (h .here .stand) .no-VR marked)
+  item-VR marked named (formal f) encl s h = absurd (h .here .formed)
+  item-VR marked named (body b) encl s h = absurd (h .here .formed)
+  item-VR marked named (declared (VR o n)) encl s h = record { ends = refl; grows = named n encl (h .shown) (h .here .stand .1 .0) }
+  item-VR marked named (declared (LB o n i)) encl s h = absurd (let e = h .here .stand .0 in omega arith)
+  item-VR marked named (declared (PR o n fs b)) encl s h = absurd (let e = h .here .stand .0 in omega arith)
+  item-VR marked named (stated (BK b)) encl s h = absurd (let e = block-mark bs at b (h .here .stand) in omega arith)
+  item-VR marked named (stated (DO o a)) encl s h = absurd (plain bs at a (h .here .stand) .no-VR marked)
 
-  pub item-LB : wordAt bs at ≡ LB-mark → ItemWritten bs es name at top level c c (at + 6)
+  pub item-LB : wordAt bs at ≡ LB-mark → Named bs (drop top es) at c c′ → ItemWritten bs es name at top level c c′ (at + 6)
   unfolding resolvedItem resolvedDecl itemFields declFields stmtFields FormedItem
-  item-LB marked (formal f) encl s h = absurd (h .here .formed)
-  item-LB marked (body b) encl s h = absurd (h .here .formed)
-  item-LB marked (declared (VR o n)) encl s h = absurd (let e = h .here .stand .0 in omega arith)
-  item-LB marked (declared (LB o n i)) encl s h =
-      record { ends = refl; grows = grown-more refl (grown-zero c at) (grown-more refl (grown-zero c (at + 2)) (grown-zero c (at + 2 + 2))) }
-  item-LB marked (declared (PR o n fs b)) encl s h = absurd (let e = h .here .stand .0 in omega arith)
-  item-LB marked (stated (BK b)) encl s h = absurd (let e = block-mark bs at b (h .here .stand) in omega arith)
-  item-LB marked (stated (DO o a)) encl s h = absurd (plain bs at a (h .here .stand) .no-LB marked)
+  item-LB marked named (formal f) encl s h = absurd (h .here .formed)
+  item-LB marked named (body b) encl s h = absurd (h .here .formed)
+  item-LB marked named (declared (VR o n)) encl s h = absurd (let e = h .here .stand .0 in omega arith)
+  item-LB marked named (declared (LB o n i)) encl s h =
+      record { ends = refl; grows = grown-then refl (named n encl (h .shown) (h .here .stand .1 .0)) (grown-zero c′ (at + 2 * 2)) }
+  item-LB marked named (declared (PR o n fs b)) encl s h = absurd (let e = h .here .stand .0 in omega arith)
+  item-LB marked named (stated (BK b)) encl s h = absurd (let e = block-mark bs at b (h .here .stand) in omega arith)
+  item-LB marked named (stated (DO o a)) encl s h = absurd (plain bs at a (h .here .stand) .no-LB marked)
 
   module _ (no-PR : wordAt bs at ≡ PR-mark → ⊥) (no-BK : wordAt bs at ≡ BK-mark → ⊥) (no-VR : wordAt bs at ≡ VR-mark → ⊥) (no-LB : wordAt bs at ≡ LB-mark → ⊥)
       (p : Step) (q : Passed bs at p) (emitted : Emitted bs (drop top es) at c c′) where

@@ -1,6 +1,7 @@
 // The walk over a script's records in file order. It is safe on any bytes.
 use declaring::declare;
 use emitting::emit;
+use emitting::emit_name;
 use emitting::named;
 use emitting::put;
 use emitting::put_three;
@@ -13,12 +14,38 @@ use symbols::insert;
 use symbols::remove;
 use words::word;
 ghost use mathlib.Core.Path.{_≡_};
-ghost use Prim.Native.Nat.{_+_, _*_, _<_, _≤_};
+ghost use Prim.Native.Nat.{ℕ, _+_, _*_, _<_, _≤_};
 ghost use lib.ListN.{length, drop};
+ghost use Rattle.language.specs.Encoding.{BK-mark, PR-mark};
 ghost use Rattle.words.specs.Words.{wordAt};
 ghost use Rattle.symbols.specs.Chains.{Chained};
 ghost use Rattle.extents.specs.Passing.{Ends};
 ghost use Rattle.resolving.specs.Resolving.{FormalsWritten, Entered, Leads, BlockWritten, ItemsWritten, ItemWritten, Onward};
+
+// A record that holds no other, with its mark.
+fn leaf(
+    script: &[u8],
+    entries: &[usize],
+    code: &mut [u32],
+    at: usize,
+    top: usize,
+    mark: usize,
+) -> usize
+    requires { ⌜ (length (now script) ≤ 8192) × (at < length (now script)) × Chained (now entries) top × (mark < 65536) × (mark ≡ wordAt (now script) at) × (mark ≡ PR-mark → ⊥) × (mark ≡ BK-mark → ⊥) ⌝ }
+    ensures written { λ r. ⌜ ((name level : ℕ) → ItemWritten (now (script .entry)) (now (entries .entry)) name at top level (now (code .entry)) (now (code .exit)) r) ⌝ }
+    ensures onward { λ r. ⌜ Onward at (length (now (script .entry))) r ⌝ }
+{
+    if mark == VR {
+        emit_name(script, entries, top, code, at);
+        return at + 4;
+    }
+    if mark == LB {
+        emit_name(script, entries, top, code, at);
+        return at + 6;
+    }
+    emit(script, entries, top, code, at, mark);
+    past(script, at, mark)
+}
 
 // The kinds of so many formals from an offset on.
 fn kinds(script: &[u8], code: &mut [u32], at: usize, count: usize)
@@ -179,6 +206,7 @@ fn item(
 {
     let mark = word(script, at);
     if mark == PR {
+        emit_name(script, entries, top, code, at);
         let count = word(script, at + 4);
         return block(
             script,
@@ -207,12 +235,5 @@ fn item(
             level + 1,
         );
     }
-    if mark == VR {
-        return at + 4;
-    }
-    if mark == LB {
-        return at + 6;
-    }
-    emit(script, entries, top, code, at, mark);
-    past(script, at, mark)
+    leaf(script, entries, code, at, top, mark)
 }

@@ -17,7 +17,7 @@ use Rattle.scoping.proofs.Statements.{block-mark}
 use Rattle.scoping.proofs.Blocks.{word-within, block-room}
 use Rattle.resolving.specs.Resolving.{Entered, Leads, ItemsIs}
 use Rattle.resolving.proofs.Items.{Remaining, remaining-start, remaining-step, remaining-inside, remaining-end}
-use Rattle.resolving.proofs.Records.{item-PR, item-BK, item-VR, item-LB, item-action}
+use Rattle.resolving.proofs.Records.{item-PR, item-BK}
 use Rattle.resolving.proofs.Blocks.{block-written}
 use Prim.Native.Nat.{ℕ, _<_}
 use borrow.Fn.Kinds.{In}
@@ -31,10 +31,10 @@ use Rattle.resolving.proofs.walk.+block+item+items.Lts-item as item-lts
 use Rattle.resolving.proofs.walk.items.Reads as items
 use Rattle.resolving.proofs.walk.items.Kinds as items-kinds
 use Rattle.resolving.proofs.walk.+block+item+items.Lts-items as items-lts
-use Rattle.emitting.proofs.emit.Reads as emit-reads
+use Rattle.emitting.proofs.emit_name.Reads as emit-name-reads
 use Rattle.emitting.proofs.put.Reads as put-reads
-use Rattle.extents.proofs.past.Reads as past-reads
 use Rattle.resolving.proofs.walk.enter.Reads as enter-reads
+use Rattle.resolving.proofs.walk.leaf.Reads as leaf-reads
 use Rattle.symbols.proofs.remove.Reads as remove-reads
 use Rattle.words.proofs.word.Reads as word-reads
 use Rattle.resolving.proofs.walk.+block+item+items.{statement}
@@ -86,12 +86,12 @@ abbrev item-claims : ℕ → item-lts.Claims
 item-claims t = (
   word-reads.Asked,
   word-reads.Learnt,
+  emit-name-reads.Asked,
+  emit-name-reads.Learnt,
   block-below t,
   block.Post,
-  emit-reads.Asked,
-  emit-reads.Learnt,
-  past-reads.Asked,
-  past-reads.Learnt,
+  leaf-reads.Asked,
+  leaf-reads.Learnt,
 )
 
 abbrev items-claims : ℕ → items-lts.Claims
@@ -260,6 +260,9 @@ block-returns-3 t c =
 item-word-requires : (t : ℕ) → item-lts.Need-word-requires (item-claims t) (item-at t) item.Post
 item-word-requires t c κs = search needs
 
+item-emit-name-requires : (t : ℕ) → item-lts.Need-emit-name-requires (item-claims t) (item-at t) item.Post
+item-emit-name-requires t c κs = search needs
+
 item-add-word : (t : ℕ) → item-lts.Need-add-word (item-claims t) (item-at t) item.Post
 item-add-word t c = search needs
 
@@ -274,7 +277,7 @@ item-add-block-2 t c = search needs
 
 item-block-requires : (t : ℕ) → item-lts.Need-block-requires (item-claims t) (item-at t) item.Post
 item-block-requires t c κs =
-    let st = c .before .before .before .before .before .before .before .before .before .before .before in
+    let st = c .before .before .before .before .before .before .before .before .before .before .before .before .before .before .before .before in
     let p = st .pre .1 in (
       omega (arith, st .pre .0, p .1),
       (p .0, omega (arith, p .1), c .before .before .before .before .word2 .ensures .1, p .2, p .3, omega (arith, p .4), p .5, p .6),
@@ -291,10 +294,12 @@ item-same-length-3 t c = search needs
 
 item-returns : (t : ℕ) → item-lts.Need-returns (item-claims t) (item-at t) item.Post
 item-returns t c =
-    let a = c .before .before .before .before .before .before .before .before .before .before .before .before .before .before .before .before .before .before .args in
+    let a = c .before .before .before .before .before .before .before .before .before .before .before .before .before .before .before .before .before .before .before .before .before .before .before .args in
+    let e = c .before .before .before .before .before .before .before .before .before .before .before .before .before .before .emit-name in
+    let n = c .before .before .before .before .before .before .before .before .before .before .before .word2 in
     let b = c .before .before .before .before .before .before .block in (
-      item-PR (a .script .now) (a .entries .now) (a .name) (a .at) (a .top) (a .level) (a .code .now) _ (sym (c .before .before .before .before .before .before .before .before .before .before .before .before .before .word .ensures .0) ∙ c .before .before .before .before .before .before .before .before .before .before .before .before .if1 .taken)
-          (c .before .before .before .before .before .before .before .before .before .before .before .word2 .result) (c .before .before .before .before .before .before .before .before .before .before .before .word2 .ensures .0) (b .result) (b .ensures .0),
+      item-PR (a .script .now) (a .entries .now) (a .name) (a .at) (a .top) (a .level) (a .code .now) _ (sym (c .before .before .before .before .before .before .before .before .before .before .before .before .before .before .before .before .before .before .word .ensures .0) ∙ c .before .before .before .before .before .before .before .before .before .before .before .before .before .before .before .before .before .if1 .taken)
+          (e .last .1 .1 .1 .0) (e .ensures) (n .result) (n .ensures .0) (b .result) (b .ensures .0),
       ((omega (arith, b .ensures .1 .0 .0), b .ensures .1 .0 .1), b .ensures .1 .1),
     )
 
@@ -326,33 +331,8 @@ item-returns-2 t c =
       b .ensures .1,
     )
 
-item-add-result : (t : ℕ) → item-lts.Need-add-result (item-claims t) (item-at t) item.Post
-item-add-result t c = search needs
-
-item-returns-3 : (t : ℕ) → item-lts.Need-returns-3 (item-claims t) (item-at t) item.Post
-item-returns-3 t c =
-    let st = c .before .before .before .before .before .before .before .before in
-    let a = st .args in (
-      item-VR (a .script .now) (a .entries .now) (a .name) (a .at) (a .top) (a .level) (a .code .now) (a .code .now) (sym (c .before .before .before .word .ensures .0) ∙ c .if3 .taken),
-      ((omega arith, omega (arith, st .pre .1 .1)), (refl, (st .pre .1 .5, st .pre .1 .6))),
-    )
-
-item-add-result-2 : (t : ℕ) → item-lts.Need-add-result-2 (item-claims t) (item-at t) item.Post
-item-add-result-2 t c = search needs
-
-item-returns-4 : (t : ℕ) → item-lts.Need-returns-4 (item-claims t) (item-at t) item.Post
-item-returns-4 t c =
-    let st = c .before .before .before .before .before .before .before .before .before in
-    let a = st .args in (
-      item-LB (a .script .now) (a .entries .now) (a .name) (a .at) (a .top) (a .level) (a .code .now) (a .code .now) (sym (c .before .before .before .before .word .ensures .0) ∙ c .if4 .taken),
-      ((omega arith, omega (arith, st .pre .1 .1)), (refl, (st .pre .1 .5, st .pre .1 .6))),
-    )
-
-item-emit-requires : (t : ℕ) → item-lts.Need-emit-requires (item-claims t) (item-at t) item.Post
-item-emit-requires t c κs = search needs
-
-item-past-requires : (t : ℕ) → item-lts.Need-past-requires (item-claims t) (item-at t) item.Post
-item-past-requires t c κs = search needs
+item-leaf-requires : (t : ℕ) → item-lts.Need-leaf-requires (item-claims t) (item-at t) item.Post
+item-leaf-requires t c κs = search needs
 
 item-same-length-7 : (t : ℕ) → item-lts.Need-same-length-7 (item-claims t) (item-at t) item.Post
 item-same-length-7 t c = search needs
@@ -360,15 +340,12 @@ item-same-length-7 t c = search needs
 item-same-length-8 : (t : ℕ) → item-lts.Need-same-length-8 (item-claims t) (item-at t) item.Post
 item-same-length-8 t c = search needs
 
-item-returns-5 : (t : ℕ) → item-lts.Need-returns-5 (item-claims t) (item-at t) item.Post
-item-returns-5 t c =
-    let st = c .before .before .before .before .before .before .before .before .before .before .before .before .before .before .before in
+item-returns-3 : (t : ℕ) → item-lts.Need-returns-3 (item-claims t) (item-at t) item.Post
+item-returns-3 t c =
+    let st = c .before .before .before .before .before .before .before .before .before .before .before .before in
     let a = st .args in
-    let q = c .before .before .before .before .before .before .before .before .before .before .word .ensures .0 in (
-      item-action (a .script .now) (a .entries .now) (a .name) (a .at) (a .top) (a .level) (a .code .now) _ (λ m. c .before .before .before .before .before .before .before .before .before .if1 .left (q ∙ m)) (λ m. c .before .before .before .before .before .before .before .before .if2 .left (q ∙ m))
-          (λ m. c .before .before .before .before .before .before .before .if3 .left (q ∙ m)) (λ m. c .before .before .before .before .before .before .if4 .left (q ∙ m)) (record { next = c .past .result; more = 0 }) (c .past .ensures) (c .before .before .before .emit .ensures),
-      ((omega (arith, c .past .ensures .on), omega (arith, c .past .ensures .near, st .pre .1 .1)), (refl, (st .pre .1 .5, st .pre .1 .6))),
-    )
+    let l = c .before .before .leaf in
+    (l .ensures .0 (a .name) (a .level), (l .ensures .1, (refl, (st .pre .1 .5, st .pre .1 .6))))
 
 abbrev items-Inv-loop : items-lts.InvT-loop
 items-Inv-loop script entries₀ ends₀ starts₀ code₀ name at count top level here₀ i₀ entries ends starts code here i =
@@ -507,6 +484,7 @@ pub +block+item+items-spec : {M : Type 1} → statement M
     (item-at t)
     item.Post
     (item-word-requires t)
+    (item-emit-name-requires t)
     (item-add-word t)
     (item-word-requires-2 t)
     (item-add-block t)
@@ -522,15 +500,10 @@ pub +block+item+items-spec : {M : Type 1} → statement M
     (item-same-length-5 t)
     (item-same-length-6 t)
     (item-returns-2 t)
-    (item-add-result t)
-    (item-returns-3 t)
-    (item-add-result-2 t)
-    (item-returns-4 t)
-    (item-emit-requires t)
-    (item-past-requires t)
+    (item-leaf-requires t)
     (item-same-length-7 t)
     (item-same-length-8 t)
-    (item-returns-5 t))
+    (item-returns-3 t))
     λ t. items-lts.spec
     (items-claims t)
     (items-at t)

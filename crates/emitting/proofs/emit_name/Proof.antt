@@ -1,0 +1,32 @@
+-- `emitting::emit_name` meets its contract. Assumes nothing.
+use lib.ListN.{drop}
+use Rattle.emitting.proofs.Statements.{name-grown}
+use borrow.Author.Needs.{needs}
+use Rattle.emitting.proofs.emit_name.Statement.{statement}
+use Rattle.emitting.proofs.emit_name.Tie as tie
+
+add-put : tie.Need-add-put
+add-put c = search needs
+
+add-used : tie.Need-add-used
+add-used c = search needs
+
+used-requires : tie.Need-used-requires
+used-requires c κs = search needs
+
+put-requires : tie.Need-put-requires
+put-requires c κs = search needs
+
+same-length : tie.Need-same-length
+same-length c = search needs
+
+returns : tie.Need-returns
+returns c =
+    let a = c .before .before .before .before .before .before .before .before .args in
+    let u = c .before .before .before .used in
+    let p = c .before .before .put in
+    name-grown (a .script .now) (drop (a .top) (a .entries .now)) (a .at) (a .code .now) (p .last .0) (u .result) (u .ensures .0) (p .ensures)
+
+pub emit-name-spec : {M : Type 1} → statement M
+emit-name-spec =
+    tie.close (tie.spec add-put add-used used-requires put-requires same-length returns)
