@@ -5,3 +5,5 @@ pub mod Layout
 pub mod Layouts
 pub mod Standing
 pub mod Inside
+pub mod Parts
+pub mod Governing

@@ -1,0 +1,77 @@
+-- `governed::take` meets its contract: the words still to take give all of them. Assumes nothing.
+use mathlib.Core.Logic.{⊎-elim}
+use mathlib.Core.Path.{_≡_, ap, _∙_}
+use Prim.Native.Nat.{_+_, _-_, _≤_}
+use native.Mathlib.Omega.{arith}
+use lib.ListN.{length, getD, set, length-set}
+use borrow.Author.Needs.{needs}
+use Rattle.governed.specs.Governing.{taken}
+use Rattle.governed.proofs.Taking.{taken-next, taken-all, past-end}
+use Rattle.governed.proofs.take.Statement.{statement}
+use Rattle.governed.proofs.take.Tie as tie
+
+abbrev Inv-loop : tie.InvT-loop
+Inv-loop code names₀ from count i₀ names i = (i ≤ count) × (length names ≡ 4096) × (taken code names (from + i) (count - i) ≡ taken code names₀ from count)
+
+abbrev μ-loop : tie.MeasureT-loop
+μ-loop code names₀ from count i₀ names i = count - i
+
+loop-holds : tie.Need-loop-holds Inv-loop μ-loop
+loop-holds c =
+    let a = c .args in
+    let f : a .from + 0 ≡ a .from = omega arith in
+    let k : a .count - 0 ≡ a .count = omega arith in
+    (omega arith, c .pre .0, λ j. taken (a .code .now) (a .names .now) (f j) (k j))
+
+add-place : tie.Need-add-place Inv-loop μ-loop
+add-place c = search needs
+
+mul-names : tie.Need-mul-names Inv-loop μ-loop
+mul-names c = search needs
+
+element-copy-out-names : tie.Need-element-copy-out-names Inv-loop μ-loop
+element-copy-out-names c = search needs
+
+mul-names-2 : tie.Need-mul-names-2 Inv-loop μ-loop
+mul-names-2 c = search needs
+
+element-write-names : tie.Need-element-write-names Inv-loop μ-loop
+element-write-names c = search needs
+
+add-i : tie.Need-add-i Inv-loop μ-loop
+add-i c = search needs
+
+loop-less : tie.Need-loop-less Inv-loop μ-loop
+loop-less c = search needs
+
+loop-again : tie.Need-loop-again Inv-loop μ-loop
+loop-again c =
+    let l = c .before .before .loop in
+    let a = c .before .before .before .args in
+    let place = a .from + l .i in
+    let w = getD (a .code .now) place 0 in
+    let put : c .if1 .names ≡ set (l .names) place w = ⊎-elim (λ x. x .2) (λ x. x .1 ∙ past-end (l .names) place w (l .inv .1) (omega (arith, x .0 .left))) (c .if1 .came) in
+    (omega arith, ap length put ∙ length-set (l .names) place w ∙ l .inv .1, taken-next (a .code .now) (l .names) (c .if1 .names) _ (a .from) (a .count) (l .i) (omega arith) put (l .inv .2))
+
+returns : tie.Need-returns Inv-loop μ-loop
+returns c =
+    let l = c .before .loop in
+    let a = c .before .before .args in
+    (taken-all (a .code .now) (l .names) _ (a .from + l .i) (a .count) (l .i) (omega arith) (l .inv .2), l .inv .1)
+
+pub take-spec : {M : Type 1} → statement M
+take-spec =
+    tie.close
+    (tie.spec
+    Inv-loop
+    μ-loop
+    loop-holds
+    add-place
+    mul-names
+    element-copy-out-names
+    mul-names-2
+    element-write-names
+    add-i
+    loop-less
+    loop-again
+    returns)
