@@ -1,5 +1,5 @@
 -- What the parts of statements come to, from what the functions that they call have done.
-use Prim.Native.Nat.{ℕ, _+_, _≤_}
+use Prim.Native.Nat.{ℕ}
 use mathlib.Core.Bool.{Bool, true, false}
 use mathlib.Core.List.{List}
 use mathlib.Core.Path.{_≡_, refl, sym, ap, ap₂, _∙_}
@@ -85,7 +85,8 @@ module _ (f : ℤ → ℤ → Effect-of-table) (before : List ℤ) (next : ℕ) 
       (m ∙ ap (λ (c : Change). moveChanged c next) (c ∙ ap changeOf e), ws ∙ ap (wordsAfter before) e)
 
 -- QY
-module _ (f : ℤ → ℤ → Query) (words : List ℤ) (next : ℕ) {a b group member : ℤ} (p : a ≡ group) (q : b ≡ member) {c to : ℕ} (t : c ≡ to) {x : Query} (e : x ≡ f a b) where
+module _ (f : ℤ → ℤ → Query) (words : List ℤ) (next : ℕ) {a b group member : ℤ} (p : a ≡ group) (q : b ≡ member) {c to : ℕ} (t : c ≡ to)
+    {x : Query} (e : x ≡ f a b) where
   answer : {y : Query} → x ≡ y → y ≡ f group member
   answer d = sym d ∙ e ∙ ap₂ f p q
 
