@@ -1,0 +1,4 @@
+pub mod Results
+pub mod Entered
+pub mod Asks
+pub mod Acts
