@@ -142,6 +142,7 @@ module _ {code names : List ℕ} {limit group : ℕ} {words : List ℤ} {area : 
           name-small = subst (λ n. n < 65536) (sym (follows .same-name)) (w .name-small);
           fresh-is = w .fresh-is ∙ sym (k .fresh-is);
           wide = subst (λ (t : Block). length (blockFields t) ≤ width) (sym program-is) (w .wide);
+          small = w .small;
           room = w .room;
           firsts-long = w .firsts-long;
           starts-long = w .starts-long;

@@ -36,6 +36,7 @@ pub record Running (code names : List ℕ) (limit group : ℕ) (words : List ℤ
   pub name-small : standing .name < 65536
   pub fresh-is : here .fresh ≡ copies .fresh
   pub wide : length (blockFields (standing .program)) ≤ width
+  pub small : width ≤ 4096
   pub room : limit * width ≤ length area
   pub firsts-long : length firsts ≡ 256
   pub starts-long : length starts ≡ 256

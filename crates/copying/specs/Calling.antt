@@ -11,7 +11,9 @@ use lib.ListN.{length, getD, getElem?, length-map}
 use Rattle.language.specs.Text.{CL, DO}
 use Rattle.language.specs.Encoding.{actionFields, stmtFields, CL-mark}
 use Rattle.language.specs.Machine.{Activation}
-use Rattle.laws.specs.Lists.{getElem-in, getD-elem, getElem?-map}
+use Rattle.language.specs.Copy.{renamed}
+use Rattle.laws.specs.Lists.{getElem-in, getElem-bound, getD-elem, getElem?-map}
+use Rattle.frames.specs.Related.{joined}
 use Rattle.laws.specs.Each.{each-at}
 use Rattle.grammar.specs.Rules.{Name, FormedAction}
 use Rattle.frames.specs.Frame.{Frame, frameStmt}
@@ -30,7 +32,7 @@ use Rattle.copy_moves.specs.declared.Now.{Now}
 use Rattle.copy_moves.specs.Running.{Running}
 use Rattle.copying.specs.Agreeing.{Agrees, call-same, call-formal-same}
 use Rattle.copying.specs.Words.{copyOf, sceneIn, around, GovernedHere, WrittenHere, plain, next-known, fields-there, resolved-word, word-read}
-use Rattle.copying.specs.Names.{byLinks, CellOfName, named}
+use Rattle.copying.specs.Names.{byLinks, CellOfName, reads-name, named}
 use Rattle.copying.specs.Statements.{Comes, comes, acts-by}
 
 module _ {code names : List ℕ} {limit group : ℕ} {words : List ℤ} {area : List ℕ} {width : ℕ} {blocks nexts firsts starts targets looked : List ℕ} {table : List ℤ} {now : Now}
@@ -75,6 +77,19 @@ module _ {code names : List ℕ} {limit group : ℕ} {words : List ℤ} {area : 
   count : text c s 2 ≡ field s 2
   unfolding resolvedStmt resolvedAction
   count = many ∙ sym (resolved 2 (omega arith))
+
+  -- what an argument's name reads as
+  pub argument-reads : (i y : ℕ) → getElem? xs i ≡ some y → text c s (3 + i) ≡ renamed (joined (a .reads)) y
+  unfolding governedStmt governedAction stmtFields actionFields actionNames
+  argument-reads i y e =
+      let n = next-known w o (CL p xs) q in
+      let k = getElem-bound xs i y e in
+      let word : getD (map wordOf xs) i 0 ≡ wordOf y = getD-elem (map wordOf xs) i (wordOf y) 0 (getElem?-map wordOf xs i ∙ ap (Option·map wordOf) e) in
+      let own : getD xs i 0 ≡ y = getD-elem xs i y 0 e in
+      let j = suc (suc (suc i)) in
+      let third : j ≡ 3 + i = omega arith in
+      subst (λ k. text c s k ≡ renamed (joined (a .reads)) y) third
+      (read j (omega arith) ∙ (λ k. reading (a .reads) (word k) (own k)) ∙ reads-name w a innermost y (each-at (Resolved fs) xs i y e (n .names .1)))
 
   argument : (i : ℕ) → i < text c s 2 → Agrees c s F (3 + i) (3 + i) × Named c s (3 + i)
   unfolding governedStmt governedAction stmtFields actionFields resolvedStmt resolvedAction actionNames FormedAction

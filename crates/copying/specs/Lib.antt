@@ -7,3 +7,6 @@ pub mod Statements
 pub mod Calling
 pub mod Meaning
 pub mod Here
+pub mod Within
+pub mod Entries
+pub mod Entering

@@ -55,7 +55,7 @@ module _ {code names : List ℕ} {limit group : ℕ} {words : List ℤ} {area : 
         named-celled _ (w .standing .program) (w .standing .keeps) (w .standing .stack) (w .standing .sound) blocks (set nexts (now .live) (now .at)) (w .links) words
         (w .standing .holds) n (r .coordinate) (r .here)
 
-    reads-name : reading (a .reads) (nameWord (around w) n) n ≡ renamed (joined (a .reads)) n
+    pub reads-name : reading (a .reads) (nameWord (around w) n) n ≡ renamed (joined (a .reads)) n
     reads-name =
         let v = w .standing in
         let within = enclosure-of-text (v .program) fs (v .sound .chained) (length fs) (v .frame) (ap (numbered fs) (many v) ∙ numbered-here v) in

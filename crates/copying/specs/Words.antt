@@ -98,14 +98,14 @@ module _ {code names : List ℕ} {limit group : ℕ} {words : List ℤ} {area : 
       let stands = place-is (f .text) _ (f .formals) (text-placed .place) (text-placed .formed) (pred (f .next)) in
       omega (arith, at-is (w .standing), ap (stmtPlace (f .text)) next, block-place (f .text) _ (f .formals) (text-placed .place) (text-placed .formed))
 
-  end-within-script : endPlace (w .standing .frame .text) ≤ length (blockFields (w .standing .program))
+  pub end-within-script : endPlace (w .standing .frame .text) ≤ length (blockFields (w .standing .program))
   unfolding enclosing
   end-within-script =
       let f = w .standing .frame in
       omega (arith, end-is (f .text) _ (f .formals) (text-placed .place) (text-placed .formed), text-placed .within)
 
   module _ (x : Stmt) (q : frameStmt (w .standing .frame) ≡ some x) where
-    ends : now .at + length (stmtFields x) ≤ endPlace (w .standing .frame .text)
+    pub ends : now .at + length (stmtFields x) ≤ endPlace (w .standing .frame .text)
     unfolding enclosing
     ends =
         let f = w .standing .frame in
