@@ -6,14 +6,14 @@ use borrow.Author.Needs.{needs}
 use Rattle.copy_moves.proofs.enter.Statement.{statement}
 use Rattle.copy_moves.proofs.enter.Tie as tie
 
--- where the block's two words were read, from behind: the activation is noted, its text is copied, its cells are cleared
-abbrev fromNote : tie.After-note → tie.After-code-at2
-fromNote c = c .before .before .before .before .before .before .before .before .before
+-- where the block's words were read, from behind: the activation is noted, its text is copied, its cells are cleared
+abbrev fromNote : tie.After-note → tie.After-code-at3
+fromNote c = c .before .before .before .before .before .before .before
 
-abbrev fromText : tie.After-copy-text-arg2 → tie.After-code-at2
-fromText c = fromNote (c .before .before .before .before .before .before)
+abbrev fromText : tie.After-copy-text-arg2 → tie.After-code-at3
+fromText c = fromNote (c .before .before .before .before .before)
 
-abbrev fromClear : tie.After-clear-arg → tie.After-code-at2
+abbrev fromClear : tie.After-clear-arg → tie.After-code-at3
 fromClear c = fromText (c .before .before .before .before)
 
 code-at-requires : tie.Need-code-at-requires
@@ -24,6 +24,12 @@ add-code-at c = search needs
 
 code-at-requires-2 : tie.Need-code-at-requires-2
 code-at-requires-2 c κs = search needs
+
+add-code-at-2 : tie.Need-add-code-at-2
+add-code-at-2 c = search needs
+
+code-at-requires-3 : tie.Need-code-at-requires-3
+code-at-requires-3 c κs = search needs
 
 add-live : tie.Need-add-live
 add-live c = search needs
@@ -40,14 +46,11 @@ add-given-2 c = search needs
 sub-first : tie.Need-sub-first
 sub-first c = search needs
 
+add-fresh : tie.Need-add-fresh
+add-fresh c = search needs
+
 note-requires : tie.Need-note-requires
 note-requires c κs = search needs
-
-add-code-at-2 : tie.Need-add-code-at-2
-add-code-at-2 c = search needs
-
-code-at-requires-3 : tie.Need-code-at-requires-3
-code-at-requires-3 c κs = search needs
 
 mul-renew : tie.Need-mul-renew
 mul-renew c = search needs
@@ -57,9 +60,10 @@ element-copy-out-renew c = search needs
 
 renew-requires : tie.Need-renew-requires
 renew-requires c κs =
-    let h = fromNote (c .before .before .before) .before in
+    let w = fromNote (c .before .before) in
+    let h = w .before .before in
     let s = h .before .before in
-    renewable (s .pre) (h .code-at .result) (h .code-at .ensures .0) (c .before .code-at3 .result) (c .before .code-at3 .ensures .0)
+    renewable (s .pre) (h .code-at .result) (h .code-at .ensures .0) (w .code-at3 .result) (w .code-at3 .ensures .0)
 
 mul-looked : tie.Need-mul-looked
 mul-looked c = search needs
@@ -72,47 +76,41 @@ mul-cells c = search needs
 
 mul-copy-text : tie.Need-mul-copy-text
 mul-copy-text c =
-    let s = fromText c .before .before .before in
+    let s = fromText c .before .before .before .before in
     let small = room-small (s .pre) (s .args .link) (omega (arith, s .pre .link-high)) in
     search needs
 
 mul-copy-text-2 : tie.Need-mul-copy-text-2
 mul-copy-text-2 c =
-    let s = fromText c .before .before .before in
+    let s = fromText c .before .before .before .before in
     let small = room-small (s .pre) (s .args .here .live + 1) (omega arith) in
     search needs
 
 copy-text-requires : tie.Need-copy-text-requires
 copy-text-requires c κs =
-    let n = fromText c in
+    let n = fromText c .before in
     let h = n .before in
     let s = h .before .before in
     copyable (s .pre) (h .code-at .result) (h .code-at .ensures .0) (n .code-at2 .result) (n .code-at2 .ensures .0)
 
 add-clear : tie.Need-add-clear
 add-clear c =
-    let h = fromClear c .before in
+    let h = fromClear c .before .before in
     let few = few-names (h .before .before .pre) (h .code-at .result) (h .code-at .ensures .0) in
     search needs
 
 add-clear-2 : tie.Need-add-clear-2
 add-clear-2 c =
-    let h = fromClear c .before in
+    let h = fromClear c .before .before in
     let few = few-names (h .before .before .pre) (h .code-at .result) (h .code-at .ensures .0) in
     search needs
 
 clear-requires : tie.Need-clear-requires
 clear-requires c κs =
-    let h = fromClear c .before in
+    let h = fromClear c .before .before in
     let s = h .before .before in
     let few = few-names (s .pre) (h .code-at .result) (h .code-at .ensures .0) in
     (omega (arith, s .pre .room), omega (arith, s .pre .room))
-
-add-t39 : tie.Need-add-t39
-add-t39 c =
-    let h = fromClear (c .before) .before in
-    let few = few-names (h .before .before .pre) (h .code-at .result) (h .code-at .ensures .0) in
-    search needs
 
 same-length : tie.Need-same-length
 same-length c = search needs
@@ -121,9 +119,9 @@ returns : tie.Need-returns
 returns c =
     let k = c .before .before .before .before in
     let r = k .before .before .before in
-    let w = r .before .before in
-    let o = w .before .before in
-    let n = fromNote o in
+    let o = r .before .before .before in
+    let w = fromNote o in
+    let n = w .before in
     let h = n .before in
     let s = h .before .before in
     entered (s .pre) (h .code-at .result) (h .code-at .ensures .0) (n .code-at2 .result) (w .code-at3 .result) (r .renew .result) (n .code-at2 .ensures .0)
@@ -137,14 +135,15 @@ enter-spec =
     code-at-requires
     add-code-at
     code-at-requires-2
+    add-code-at-2
+    code-at-requires-3
     add-live
     mul-given
     add-given
     add-given-2
     sub-first
+    add-fresh
     note-requires
-    add-code-at-2
-    code-at-requires-3
     mul-renew
     element-copy-out-renew
     renew-requires
@@ -157,6 +156,5 @@ enter-spec =
     add-clear
     add-clear-2
     clear-requires
-    add-t39
     same-length
     returns)
