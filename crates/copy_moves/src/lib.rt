@@ -147,20 +147,17 @@ pub fn enter(
 {
     let head = code_at(code, body);
     let bounds = code_at(code, body + 1);
+    let word = code_at(code, body + 2);
+    let count = head / 16777216;
     let formals = head / 65536 % 256;
     let level = head / 256 % 256;
-    let live = here.live + 1;
-    let given = here.live * width + (here.at + 3);
+    let below = here.live;
+    let live = below + 1;
+    let given = below * width + (here.at + 3);
     let first = here.fresh - formals;
+    let fresh = first + count;
     note(blocks, nexts, firsts, starts, here, body, formals, back);
-    looked[live] = renew(
-        area,
-        given,
-        level,
-        first,
-        code_at(code, body + 2),
-        looked[link],
-    );
+    looked[live] = renew(area, given, level, first, word, looked[link]);
     let cells = 32 * live;
     let end = bounds % 65536;
     copy_text(
@@ -176,13 +173,13 @@ pub fn enter(
         body,
         end,
     );
-    clear(words, cells + formals, cells + head / 16777216);
+    clear(words, cells + formals, cells + count);
     Now {
         live,
         at: bounds / 65536,
         end,
         pairs: here.pairs,
-        fresh: first + head / 16777216,
+        fresh,
     }
 }
 

@@ -1,0 +1,3 @@
+pub mod Looking
+pub mod Entering
+pub mod Beginning

@@ -1,0 +1,19 @@
+-- `jump` meets its contract: where the activation is the innermost one the end of its text is known.
+use borrow.Author.Needs.{needs}
+use Rattle.copy_moves.proofs.jump.Statement.{statement}
+use Rattle.copy_moves.proofs.jump.Tie as tie
+
+returns : tie.Need-returns
+returns c =
+    let s = c .before .before in
+    let end = s .pre .2 (c .if1 .taken) in
+    λ i. record { live = s .args .home; at = s .args .at; end = end i; pairs = s .args .here .pairs; fresh = s .args .here .fresh }
+
+resume-requires : tie.Need-resume-requires
+resume-requires c κs = search needs
+
+returns-2 : tie.Need-returns-2
+returns-2 c = search needs
+
+pub jump-spec : {M : Type 1} → statement M
+jump-spec = tie.close (tie.spec returns resume-requires returns-2)
