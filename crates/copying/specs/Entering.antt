@@ -13,9 +13,11 @@ use lib.Seq.{getD-set-other}
 use Rattle.language.specs.Text.{Block, blockAt, blockDecls}
 use Rattle.language.specs.Encoding.{blockFields}
 use Rattle.language.specs.Machine.{Activation, State}
-use Rattle.laws.specs.Lists.{getElem-in, getElem-bound}
+use Rattle.laws.specs.Tests.{some-inj}
+use Rattle.laws.specs.Lists.{getElem-in}
+use Rattle.grammar.specs.Formed.{block-few}
 use Rattle.frames.specs.Frame.{Frame, Stack, newFrame, stepped, withFrames}
-use Rattle.frames.specs.Related.{Related}
+use Rattle.frames.specs.Related.{Related, as-deep}
 use Rattle.frame_laws.specs.Bounds.{FrameBounded}
 use Rattle.coordinates.specs.Enclosure.{Enclosing, enclosed, Enclosure, Encloses}
 use Rattle.coordinates.specs.Chain.{enclosing, enclosureOf, levelOf, SameOutlines}
@@ -32,7 +34,7 @@ use Rattle.steps.specs.Reads.{at-within}
 use Rattle.steps.specs.Entered.{BodyHead, body-head, entered}
 use Rattle.new_names.specs.Owner.{NewNames}
 use Rattle.new_names.specs.Finding.{new-names-more}
-use Rattle.texts.specs.Texts.{renewed, Copied, Texts, Looks}
+use Rattle.texts.specs.Texts.{renewed, Copied, notedFrom, Texts, Aims, Looks}
 use Rattle.texts.specs.Readings.{own-formal}
 use Rattle.texts.specs.Renewing.{Governs}
 use Rattle.texts.specs.Stacks.{SameActivations, OneMore}
@@ -122,3 +124,204 @@ module _ {code names : List ℕ} {limit group : ℕ} {words : List ℤ} {area : 
             formal-within (getD names q 0) (getD (blockFields t) q 0) (entry.inside-here w body link back words₁ j q (omega (arith, j .body-is)) (omega (arith, h .ends))) l d;
         given-looked = λ l d. formal-within (getD code (body + 2) 0) (w .standing .name) looked-governs l d;
       }
+
+  -- What the code makes of the arrays
+
+  module _ (words′ : List ℤ) (area′ blocks′ nexts′ firsts′ starts′ targets′ looked′ : List ℕ) (r : Now)
+      (n : AnewIn code names width now body link back words₁ area blocks nexts firsts starts targets looked words′ area′ blocks′ nexts′ firsts′ starts′ targets′ looked′ r) where
+    abbrev live : ℕ
+    live = now .live
+
+    abbrev f : Frame
+    f = newFrame (j .formals) (j .arguments) (j .text) (suc link)
+
+    abbrev new : Activation
+    new = entry.new w body link back words₁ j
+
+    abbrev later : State
+    later = entry.later w body link back words₁ j
+
+    cleared : Cleared words₁ (32 * (live + 1) + length (j .formals)) (32 * (live + 1) + (length (j .formals) + length (blockDecls (j .text)))) words′
+    cleared = subst (λ (T : Type 0). T) (λ i. Cleared words₁ (32 * (live + 1) + head .formals i) (32 * (live + 1) + head .names i) words′) (n .cleared)
+
+    copied : Copied area area′ names (link * width) ((live + 1) * width) (givenAt width now) (suc (length es)) (now .fresh - length (j .formals)) (placeOf (blockAt (j .text))) (endPlace (j .text))
+    copied =
+        subst (λ (T : Type 0). T)
+        (λ i. Copied area area′ names (link * width) ((live + 1) * width) (givenAt width now) (level-is i) (now .fresh - head .formals i) (j .body-is i) (head .ends i)) (n .copied)
+
+    -- the frame machine's arrays behind the step
+    abbrev st : Standing code (limitsBy limit group) words′ (set blocks (live + 1) body) (set nexts live back) (set (w .links) (live + 1) link) table (now .pairs) (live + 1) (stmtPlace (j .text) 1) (endPlace (j .text))
+    st = (entered (w .standing) body link back words₁ j words′ cleared) .standing
+
+    abbrev follows : Follows (w .standing) (st .stack) (st .program) (st .name)
+    follows = (entered (w .standing) body link back words₁ j words′ cleared) .follows
+
+    abbrev gs : List Frame
+    gs = st .stack .frames
+
+    stack-is : st .stack ≡ stepped (entry.v w body link back words₁ j)
+    stack-is = let p = sym (follows .steps) ∙ j .steps in let q : follows .moved ≡ entry.v w body link back words₁ j = cc in follows .is-stepped ∙ ap stepped q
+
+    related : Related later (st .stack)
+    related = subst (Related later) (sym stack-is) ((entry.made w body link back words₁ j) .2)
+
+    one : suc live ≡ live + 1
+    one = omega arith
+
+    many-before : length (w .copies .live) ≡ live + 1
+    many-before = as-deep (w .copies) (w .standing .stack) (w .related) ∙ many (w .standing) ∙ one
+
+    blocks-same : (k : ℕ) → k < live + 1 → (getD (set blocks (live + 1) body) k 0 ≡ getD blocks k 0) × (getD (set (w .links) (live + 1) link) k 0 ≡ getD (w .links) k 0)
+    blocks-same k h = (getD-set-other blocks (live + 1) k body 0 (λ z. omega arith), getD-set-other (w .links) (live + 1) k link 0 (λ z. omega arith))
+
+    more : OneMore live (w .copies .live) (later .live) fs gs new f
+    more =
+        record {
+          deep = many-before;
+          deeper = omega (arith, entry.anew w body link back words₁ j .deep, many-before);
+          frames-deeper = omega (arith, many st);
+          same-activations = λ k b c h p q.
+              let o = entry.anew w body link back words₁ j .kept k c (omega (arith, many-before)) q in
+              let z : o .0 ≡ b = some-inj (sym (o .1) ∙ p) in
+              (sym (ap (λ (x : Activation). x .text) z) ∙ o .2 .0, sym (ap (λ (x : Activation). x .arguments) z) ∙ o .2 .1, sym (ap (λ (x : Activation). x .reads) z) ∙ o .2 .2);
+          same-frames = same-outlines w st follows (live + 1) (omega arith) (omega arith) blocks-same;
+          top = ap (getElem? (later .live)) (sym one) ∙ entry.there w body link back words₁ j;
+          top-frame = ap (getElem? gs) (sym one) ∙ ap (λ (u : Stack). getElem? (u .frames) (suc live)) stack-is ∙ entry.top-frame w body link back words₁ j;
+        }
+
+    -- the frames' texts
+
+    encloses-frame : (k : ℕ) (x : Frame) → getElem? gs k ≡ some x → Encloses t (enclosing x ∷ enclosureOf gs (x .link))
+    encloses-frame k x q = encloses-at t gs (chained w st follows) k x q
+
+    wide-frame : (k : ℕ) (x : Frame) → getElem? gs k ≡ some x → endPlace (x .text) ≤ width
+    unfolding enclosing
+    wide-frame k x q = omega (arith, text-within t (w .standing .keeps) (enclosing x) (enclosureOf gs (x .link)) (encloses-frame k x q), w .wide)
+
+    few-frame : (k : ℕ) (x : Frame) → getElem? gs k ≡ some x → length (x .formals) + length (blockDecls (x .text)) ≤ 32
+    unfolding enclosing
+    few-frame k x q =
+        block-few (suc (length (enclosureOf gs (x .link)))) (x .formals) (2 * placeOf (blockAt (x .text))) (x .text)
+        (enclosed-formed t (w .standing .keeps) (enclosing x) (enclosureOf gs (x .link)) (encloses-frame k x q))
+
+    -- the frame of the copy from which the text is taken
+    abbrev g : Frame
+    g = (getElem-in fs link (omega (arith, j .link-high, many (w .standing)))) .0
+
+    abbrev g-is : getElem? fs link ≡ some g
+    g-is = (getElem-in fs link (omega (arith, j .link-high, many (w .standing)))) .1
+
+    inside-source : (placeOf (blockAt (g .text)) ≤ placeOf (blockAt (j .text))) × (endPlace (j .text) ≤ endPlace (g .text))
+    unfolding enclosing
+    inside-source =
+        within-outer t (w .standing .keeps) e (enclosing g) (enclosureOf fs (g .link))
+        (subst (λ (os : Enclosure). Encloses t (e ∷ os)) (own-enclosure t fs (w .standing .sound .chained) link g g-is) (j .encloses))
+
+    -- the parts of the invariant
+
+    texts-after : Texts area′ width names (blockFields t) (later .live) gs
+    unfolding newFrame
+    texts-after =
+        texts-entered
+        (record {
+          texts = w .texts;
+          more = more;
+          source-is = entry.source-is w body link back words₁ j;
+          source-frame = g-is;
+          begins-within = inside-source .0;
+          ends-within = inside-source .1;
+          wide = wide-frame;
+          enters = entry.enters w body link back words₁ j;
+          inside = entry.inside-here w body link back words₁ j;
+          copied = copied;
+        })
+
+    aims-after : Aims targets′ gs
+    unfolding newFrame
+    aims-after =
+        aims-entered {fields = blockFields t}
+        (record {
+          aims = w .aims;
+          more = more;
+          long = w .targets-long;
+          room = omega (arith, j .room, w .standing .sound .limit);
+          few = few-frame;
+          narrow = entry.narrow-here w body link back words₁ j;
+          once = entry.once-here w body link back words₁ j;
+          inside = entry.inside-here w body link back words₁ j;
+          declared = entry.declared-here w body link back words₁ j;
+          targets-are = n .targets-are ∙ (λ i. notedFrom targets names (32 * (live + 1)) (level-is i) (j .body-is i) (head .ends i - j .body-is i));
+        })
+
+    looks-after : Looks looked′ (later .live) gs (w .standing .name)
+    unfolding newFrame
+    looks-after =
+        looks-entered
+        (record {
+          looks = w .looks;
+          more = more;
+          down = downward (w .standing);
+          down-after = downward st;
+          source-is = entry.source-is w body link back words₁ j;
+          link-is = refl;
+          around = refl;
+          narrow = entry.narrow-here w body link back words₁ j;
+          enters = entry.enters w body link back words₁ j;
+          room = omega (arith, j .room, w .standing .sound .limit, w .looked-long);
+          looked-is = n .looked-is ∙ (λ i. set looked (live + 1) (renewed area (givenAt width now) (level-is i) (now .fresh - head .formals i) (looked-word i) (getD looked link 0)));
+        })
+
+    abbrev names-many : ℕ
+    names-many = length (blockDecls (j .text))
+
+    fresh-after : now .fresh + names-many ≡ later .fresh
+    fresh-after = omega (arith, entry.anew w body link back words₁ j .fresh-is, entry.declared-many w body link back words₁ j, w .fresh-is)
+
+    new-names-after : NewNames (later .live) (later .fresh) (set firsts (live + 1) (now .fresh)) (set starts (live + 1) (32 * (live + 1) + formalsAt code body))
+    new-names-after =
+        let a = entry.anew w body link back words₁ j in
+        subst (λ (T : Type 0). T)
+        (λ i. NewNames (later .live) (sym (a .fresh-is) i) (set firsts (many-before i) (sym (w .fresh-is) i)) (set starts (many-before i) (32 * many-before i + (entry.as-many w body link back words₁ j ∙ sym (head .formals)) i)))
+        (new-names-more firsts starts (w .copies .live) (later .live) (w .copies .fresh) new (a .deep) (λ k c h q. let o = a .kept k c h q in (o .0, o .1, o .2 .0, o .2 .1, o .2 .2)) (a .there) (a .names-are)
+        (w .firsts-long) (w .starts-long) (omega (arith, many-before, j .room, w .standing .sound .limit)) (w .new-names))
+
+    abbrev behind : Now
+    behind = record { live = live + 1; at = stmtPlace (j .text) 1; end = endPlace (j .text); pairs = now .pairs; fresh = now .fresh + names-many }
+
+    entered-so : Succeeds w words′ area′ (set blocks (live + 1) body) (set nexts live back) (set firsts (live + 1) (now .fresh)) (set starts (live + 1) (32 * (live + 1) + formalsAt code body)) targets′ looked′ table behind
+    entered-so =
+        record {
+          running = record {
+            links = set (w .links) (live + 1) link;
+            standing = st;
+            copies = later;
+            related = related;
+            invariant = (entry.made w body link back words₁ j) .3;
+            governs = subst (λ (p : Block). Covers names 0 (governedOf p)) (sym (follows .same-program)) (w .governs);
+            texts = subst (λ (p : Block). Texts area′ width names (blockFields p) (later .live) gs) (sym (follows .same-program)) texts-after;
+            new-names = new-names-after;
+            aims = aims-after;
+            looks = subst (Looks looked′ (later .live) gs) (sym (follows .same-name)) looks-after;
+            name-small = subst (λ k. k < 65536) (sym (follows .same-name)) (w .name-small);
+            fresh-is = fresh-after;
+            wide = subst (λ (p : Block). length (blockFields p) ≤ width) (sym (follows .same-program)) (w .wide);
+            small = w .small;
+            room = subst (λ k. limit * width ≤ k) (sym (n .copied .as-long)) (w .room);
+            firsts-long = length-set firsts (live + 1) (now .fresh) ∙ w .firsts-long;
+            starts-long = length-set starts (live + 1) (32 * (live + 1) + formalsAt code body) ∙ w .starts-long;
+            targets-long = ap length (n .targets-are) ∙ noted-long names (32 * (live + 1)) (levelAt code body) targets body (endAt code body - body) ∙ w .targets-long;
+            looked-long = ap length (n .looked-is) ∙ length-set looked (live + 1) _ ∙ w .looked-long;
+          };
+          follows = follows;
+          few-more = omega (arith, entry.few-names w body link back words₁ j);
+        }
+
+    now-is : behind ≡ r
+    now-is =
+        let h : now .fresh + names-many ≡ now .fresh - formalsAt code body + namesAt code body = omega (arith, head .formals, head .names, entry.fresh-high w body link back words₁ j, entry.few-names w body link back words₁ j) in
+        (λ i. record { live = live + 1; at = sym (head .first) i; end = sym (head .ends) i; pairs = now .pairs; fresh = h i }) ∙ sym (n .now-is)
+
+    pub enters-on : Succeeds w words′ area′ blocks′ nexts′ firsts′ starts′ targets′ looked′ table r
+    enters-on =
+        subst (λ (T : Type 0). T)
+        (λ i. Succeeds w words′ area′ (sym (n .noted .blocks-are) i) (sym (n .noted .nexts-are) i) (sym (n .noted .firsts-are) i) (sym (n .noted .starts-are) i) targets′ looked′ table (now-is i)) entered-so

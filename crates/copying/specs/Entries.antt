@@ -126,7 +126,7 @@ module _ {code names : List ℕ} {limit group : ℕ} {words : List ℤ} {area : 
   pub there : getElem? (later .live) (suc (now .live)) ≡ some new
   there = ap (getElem? (later .live)) (sym (many-copies w)) ∙ anew .there
 
-  top-frame : getElem? ((stepped v) .frames) (suc (now .live)) ≡ some f
+  pub top-frame : getElem? ((stepped v) .frames) (suc (now .live)) ≡ some f
   unfolding stepped withFrames
   top-frame = ap (getElem? (ahead ++ (f ∷ []))) (sym ahead-deep) ∙ getElem-seam ahead f []
 
