@@ -10,3 +10,6 @@ pub mod Here
 pub mod Within
 pub mod Entries
 pub mod Entering
+pub mod Beginning
+pub mod Starting
+pub mod LookedUp
