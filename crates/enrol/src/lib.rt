@@ -3,7 +3,7 @@ use language::Verdict;
 ghost use mathlib.Core.Path.{_≡_};
 ghost use Rattle.language.specs.Check.{check};
 ghost use lib.ListN.{length};
-ghost use Rattle.language.specs.Call.{display, chain, recordsIn, reply, Leaves};
+ghost use Rattle.language.specs.Call.{copying, display, chain, recordsIn, reply, Leaves};
 ghost use Rattle.language.specs.Numbers.{answerWords};
 ghost use Rattle.admission.specs.Lent.{fedOf};
 ghost use Rattle.enrol.specs.Answers.{checkWords};
@@ -24,6 +24,30 @@ pub extern "C" fn enrol_check(script: &[u8], answer: &mut [u64; 2])
             *answer = [language::refusal_number(cause) as u64, at as u64];
         }
     }
+}
+
+// A run by the copying engine, on texts in a lent area: the answer's words, what becomes of table and sheet, and the area as it was where the call
+// is refused.
+#[no_mangle]
+pub extern "C" fn enrol_copy(
+    script: &[u8],
+    d: u32,
+    n: u32,
+    g: u32,
+    tally: u64,
+    table: &mut [i32],
+    count: usize,
+    name: u16,
+    sheet: &mut [i32],
+    area: &mut [u32],
+    answer: &mut [u64; 9],
+)
+    ensures { λ _. ⌜ now (answer .exit) ≡ answerWords ((reply (copying (length (now (area .entry)))) (fedOf (now (script .entry)) d n g tally (now (table .entry)) count name (now (sheet .entry)))) .answer) ⌝ }
+    ensures { λ _. ⌜ now (sheet .exit) ≡ (reply (copying (length (now (area .entry)))) (fedOf (now (script .entry)) d n g tally (now (table .entry)) count name (now (sheet .entry)))) .lent .sheet ⌝ }
+    ensures { λ _. ⌜ now (table .exit) ≡ (reply (copying (length (now (area .entry)))) (fedOf (now (script .entry)) d n g tally (now (table .entry)) count name (now (sheet .entry)))) .lent .table .words ⌝ }
+    ensures { λ _. ⌜ Leaves (copying (length (now (area .entry)))) (fedOf (now (script .entry)) d n g tally (now (table .entry)) count name (now (sheet .entry))) (now (area .entry)) (now (area .exit)) ⌝ }
+{
+    *answer = copy_call::call(script, d, n, g, tally, table, count, name, sheet, area);
 }
 
 // A run by the display engine: the answer's words, and what becomes of table and sheet.
