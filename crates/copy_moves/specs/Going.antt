@@ -1,4 +1,4 @@
--- A step that enters nothing leaves the area and what is noted of new names as they are: `runs-on`. The copy-rule machine makes the step with the
+-- A step that enters nothing leaves the area and what is noted of new names as they are: `runs-on`, `goes-on`. The copy-rule machine makes the step with the
 -- frame machine, and its activations are those of before, or some of them (`keeps`), or one more (`enters`).
 use Prim.Native.Nat.{ℕ, suc, pred, _+_, _≤_, _<_}
 use native.Mathlib.Omega.{arith}
@@ -149,3 +149,7 @@ module _ {code names : List ℕ} {limit group : ℕ} {words : List ℤ} {area : 
           targets-long = w .targets-long;
           looked-long = w .looked-long;
         }
+
+    pub goes-on : Succeeds w words′ area blocks′ nexts′ firsts starts targets looked table′ (record { live = live′; at = at′; end = end′; pairs = pairs′; fresh = here .fresh })
+    unfolding runs-on
+    goes-on = record { running = runs-on; follows = follows; few-more = omega arith }

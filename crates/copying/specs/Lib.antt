@@ -13,3 +13,6 @@ pub mod Entering
 pub mod Beginning
 pub mod Starting
 pub mod LookedUp
+pub mod Turning
+pub mod Turns
+pub mod Ending

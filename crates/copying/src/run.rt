@@ -16,7 +16,8 @@ ghost use lib.ListN.{set, length};
 ghost use Rattle.frames.specs.Frame.{frameRun, frameStart};
 ghost use Rattle.copy_moves.specs.Running.{limitsBy, Running};
 ghost use Rattle.copy_moves.specs.Anew.{Lookable, lookedUp};
-ghost use Rattle.copying.specs.Turning.{Turned, Beginning, Ended, haltOf};
+ghost use Rattle.copying.specs.Beginning.{Beginning};
+ghost use Rattle.copying.specs.Turning.{Turned, Ended, haltOf};
 
 // What a step comes to.
 pub enum Turn {

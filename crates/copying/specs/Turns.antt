@@ -1,0 +1,146 @@
+-- A step of the copying engine, by what the statement comes to (`Acted`). For each move: the engine goes on (`went-on`, `went-pairs`), or may leave, jump or
+-- enter (`leave-ready`, `jump-ready`, `enter-ready`) and stands behind the step once it has (`left-on`, `jumped-on`, `entered-on`), or stops (`stopped-at`).
+use Prim.Native.Nat.{ℕ, zero, suc, _+_, _-_, _*_, _%_, _≤_, _<_}
+use native.Mathlib.Omega.{arith}
+use native.Mathlib.Nat.{mul-le-mul-right}
+use mathlib.Core.List.{List}
+use mathlib.Core.Option.{some}
+use mathlib.Core.Path.{_≡_, refl, sym, ap, _∙_, subst}
+use lib.IntN.{ℤ}
+use lib.ListN.{length, getD, getElem?}
+use Rattle.language.specs.declared.Stop.{Stop as Cause}
+use Rattle.laws.specs.Lists.{getElem-in}
+use Rattle.frames.specs.Frame.{Frame, numbered, halted, frameStep}
+use Rattle.frames.specs.Numbered.{numbered-index}
+use Rattle.resolved.specs.Resolved.{endPlace}
+use Rattle.acting.specs.declared.Move.{Move}
+use Rattle.acting.specs.declared.Move.the-variants.{On, Pairs, Jump, Enter, Stop}
+use Rattle.acting.specs.Acting.{Happened}
+use Rattle.statements.specs.Scenes.{Acted}
+use Rattle.steps.specs.Means.{GoesOn, JumpsTo, EntersAt, MoveMeans}
+use Rattle.steps.specs.Here.{many, within-limit, live-few}
+use Rattle.steps.specs.Reads.{block-within, end-there, end-here}
+use Rattle.steps.specs.Loop.{leaves, jumped}
+use Rattle.copy_statements.specs.Doing.{doing}
+use Rattle.copy_moves.specs.declared.Now.{Now}
+use Rattle.copy_moves.specs.Running.{limitsBy, Running, nowAt, Succeeds}
+use Rattle.copy_moves.specs.Anew.{Enterable, AnewIn}
+use Rattle.copy_moves.specs.Going.{goes-on}
+use Rattle.copying.specs.Words.{copyOf, sceneIn}
+use Rattle.copying.specs.Here.{means-here}
+use Rattle.copying.specs.Entering.{enterable, enters-on}
+
+pub above-zero : (n : ℕ) → (n ≡ 0 → ⊥) → 1 ≤ n
+above-zero zero d = absurd (d refl)
+above-zero (suc n) d = omega arith
+
+module _ {code names : List ℕ} {limit group : ℕ} {words : List ℤ} {area : List ℕ} {width : ℕ} {blocks nexts firsts starts targets looked : List ℕ} {table : List ℤ} {here : Now}
+    (w : Running code names limit group words area width blocks nexts firsts starts targets looked table here) where
+  abbrev fs : List Frame
+  fs = w .standing .stack .frames
+
+  -- an activation that is live
+  live-frame : (k : ℕ) → k ≤ here .live → (f : Frame) × (getElem? fs k ≡ some f)
+  live-frame k h = getElem-in fs k (omega (arith, many (w .standing)))
+
+  within : (k : ℕ) → k ≤ here .live → getD blocks k 0 + 1 < 4096
+  within k h =
+      let f = live-frame k h in
+      omega (arith, block-within (w .standing) k (f .0) (f .1))
+
+  end-of : (k : ℕ) (f : Frame) → numbered fs (suc k) ≡ some f → getD code (getD blocks k 0 + 1) 0 % 65536 ≡ endPlace (f .text)
+  end-of k f e = end-there (w .standing) k f (numbered-index fs (suc k) f e)
+
+  -- The end of the text
+
+  pub leave-ready : 1 ≤ here .live → (1 ≤ here .live) × (here .live ≤ 256) × (getD blocks (here .live - 1) 0 + 1 < 4096)
+  leave-ready h = (h, omega (arith, live-few (w .standing)), within (here .live - 1) (omega arith))
+
+  pub left-on : here .at ≡ here .end → 1 ≤ here .live → (r : Now) → r ≡ nowAt code blocks here (here .live - 1) (getD nexts (here .live - 1) 0)
+      → Succeeds w words area blocks nexts firsts starts targets looked table r
+  left-on e h r is =
+      let l = leaves (w .standing) e h in
+      let one : suc (here .live - 1) ≡ here .live = omega arith in
+      let ends = end-of (here .live - 1) (l .frame) (ap (numbered fs) one ∙ l .stands) in
+      subst (λ (n : Now). Succeeds w words area blocks nexts firsts starts targets looked table n)
+      ((λ i. record { live = here .live - 1; at = getD nexts (here .live - 1) 0; end = sym ends i; pairs = here .pairs; fresh = here .fresh }) ∙ sym is)
+      (goes-on w (l .standing) (l .follows) (omega arith) (λ k p. (refl, refl)))
+
+  -- The next statement
+
+  pub base-within : here .live * width ≤ length area
+  base-within = omega (arith, w .room, mul-le-mul-right width (within-limit (w .standing)))
+
+  module _ (before : here .at ≡ here .end → ⊥) (r : Move) (words′ table′ : List ℤ) (h : Acted (doing (copyOf w) (sceneIn w)) r words′ table′) where
+    abbrev result : Happened
+    result = doing (copyOf w) (sceneIn w)
+
+    means : MoveMeans (w .standing) r words′ table′
+    means =
+        subst (λ (m : Move). MoveMeans (w .standing) m words′ table′) (sym (h .0))
+        (subst (λ (v : List ℤ). MoveMeans (w .standing) (result .move) v table′) (sym (h .1 .0))
+        (subst (λ (v : List ℤ). MoveMeans (w .standing) (result .move) (result .words) v) (sym (h .1 .1)) (means-here w before)))
+
+    means-as : (m : Move) → r ≡ m → MoveMeans (w .standing) m words′ table′
+    means-as m e = subst (λ (x : Move). MoveMeans (w .standing) x words′ table′) e means
+
+    goes : (p n : ℕ) → GoesOn (w .standing) words′ table′ n p
+        → Succeeds w words′ area blocks nexts firsts starts targets looked table′
+        (record { live = here .live; at = p; end = here .end; pairs = n; fresh = here .fresh })
+    goes p n g = goes-on w (g .standing) (g .follows) (omega arith) (λ k q. (refl, refl))
+
+    pub went-on : (p : ℕ) → r ≡ On p
+        → Succeeds w words′ area blocks nexts firsts starts targets looked table′
+        (record { live = here .live; at = p; end = here .end; pairs = here .pairs; fresh = here .fresh })
+    went-on p e = goes p (here .pairs) ((means-as (On p) e) .0)
+
+    pub went-pairs : (p n : ℕ) → r ≡ Pairs p n
+        → Succeeds w words′ area blocks nexts firsts starts targets looked table′
+        (record { live = here .live; at = p; end = here .end; pairs = n; fresh = here .fresh })
+    went-pairs p n e = goes p n ((means-as (Pairs p n) e) .0)
+
+    -- A jump
+
+    jumps : (home p : ℕ) → r ≡ Jump home p → JumpsTo (w .standing) home p
+    jumps home p e = (means-as (Jump home p) e) .0
+
+    pub jump-ready : (home p : ℕ) → r ≡ Jump home p
+        → (home < 256) × (getD blocks home 0 + 1 < 4096) × (home ≡ here .live → here .end ≡ getD code (getD blocks home 0 + 1) 0 % 65536)
+    jump-ready home p e =
+        let high = (jumped (w .standing) home p (jumps home p e)) .home-high in (
+          omega (arith, live-few (w .standing)),
+          within home high,
+          λ q. sym (ap (λ k. getD code (getD blocks k 0 + 1) 0 % 65536) q ∙ end-here (w .standing)),
+        )
+
+    pub jumped-on : (home p : ℕ) → r ≡ Jump home p → (n : Now) → n ≡ nowAt code blocks here home p
+        → Succeeds w words′ area blocks nexts firsts starts targets looked table′ n
+    jumped-on home p e n is =
+        let m = means-as (Jump home p) e in
+        let l = jumped (w .standing) home p (m .0) in
+        let ends = end-of home (l .frame) (l .stands) in
+        subst (λ (v : List ℤ). Succeeds w v area blocks nexts firsts starts targets looked table′ n) (sym (m .1))
+        (subst (λ (v : List ℤ). Succeeds w words area blocks nexts firsts starts targets looked v n) (sym (m .2))
+        (subst (λ (v : Now). Succeeds w words area blocks nexts firsts starts targets looked table v)
+        ((λ i. record { live = home; at = p; end = sym ends i; pairs = here .pairs; fresh = here .fresh }) ∙ sym is)
+        (goes-on w (l .standing) (l .follows) (l .home-high) (λ k q. (refl, refl)))))
+
+    -- An entry
+
+    enters : (body link back : ℕ) → r ≡ Enter body link back → EntersAt (w .standing) body link back words′
+    enters body link back e = (means-as (Enter body link back) e) .0
+
+    pub enter-ready : here .fresh + 64 ≤ 4294967296 → (body link back : ℕ) → r ≡ Enter body link back → Enterable code names area width here body link back
+    enter-ready few body link back e = enterable w body link back words′ (enters body link back e) few
+
+    pub entered-on : (body link back : ℕ) → r ≡ Enter body link back → (words″ : List ℤ) (area′ blocks′ nexts′ firsts′ starts′ targets′ looked′ : List ℕ) (n : Now)
+        → AnewIn code names width here body link back words′ area blocks nexts firsts starts targets looked words″ area′ blocks′ nexts′ firsts′ starts′ targets′ looked′ n
+        → Succeeds w words″ area′ blocks′ nexts′ firsts′ starts′ targets′ looked′ table′ n
+    entered-on body link back e words″ area′ blocks′ nexts′ firsts′ starts′ targets′ looked′ n k =
+        subst (λ (v : List ℤ). Succeeds w words″ area′ blocks′ nexts′ firsts′ starts′ targets′ looked′ v n) (sym ((means-as (Enter body link back) e) .1))
+        (enters-on w body link back words′ (enters body link back e) words″ area′ blocks′ nexts′ firsts′ starts′ targets′ looked′ n k)
+
+    -- A cause to stop
+
+    pub stopped-at : (c : Cause) → r ≡ Stop c → (frameStep (limitsBy limit group) (w .standing .stack) ≡ halted c) × (words′ ≡ words) × (table′ ≡ table)
+    stopped-at c e = means-as (Stop c) e
