@@ -9,18 +9,23 @@ use lib.Dec.{leb}
 use lib.IntN.{ℤ, pos}
 use lib.ListN.{length, getD, replicate}
 use Rattle.language.specs.Text.{Block}
-use Rattle.language.specs.Call.{Fed, copying, holdsAtLeast, areaFits, limitsFit, limitsOf}
+use Rattle.language.specs.Sheet.{sheetShare}
+use Rattle.language.specs.Call.{Fed, copying, reply, written, holdsAtLeast, areaFits, limitsFit}
 use Rattle.laws.specs.Tests.{both}
 use Rattle.grammar.specs.Rules.{Bytes}
 use Rattle.grammar.specs.Exact.{accepts-exactly}
 use Rattle.runs.specs.Admission.{Admitted, limits-fit, table-right, area-fits, activations-fit}
-use Rattle.frames.specs.Frame.{frameRun, frameStart, frameRunOf}
+use Rattle.frames.specs.Frame.{frameRun, frameStart, frameRunOf, frameSheet}
 use Rattle.coordinates.specs.Sound.{accepted-keeps-rules}
 use Rattle.resolved.specs.Resolved.{resolvedOf, Covers}
 use Rattle.resolving.specs.Resolving.{Resolved}
 use Rattle.governed.specs.Governing.{Governs}
 use Rattle.governed.specs.Standing.{covers-front}
 use Rattle.admission.specs.Lent.{fedOf}
+use Rattle.answers.specs.Answers.{ranAnswer}
+use Rattle.sheets.specs.Held.{Held}
+use Rattle.replies.specs.Replies.{no-links}
+use Rattle.replies.specs.Runs.{sheet-held, sheet-room, run-answer, run-lent}
 use Rattle.copy_moves.specs.Running.{limitsBy}
 use Rattle.copying.specs.Beginning.{Beginning}
 use Rattle.copying.specs.Turning.{Ended}
@@ -88,5 +93,27 @@ module _ (script : List ℕ) (d n g tally : ℕ) (table : List ℤ) (count name 
       → ((b : Beginning script code names words area blocks nexts table count g d n)
       → Ended (b .program) (b .name) d g (frameRun (limitsBy d g) n (frameStart (b .program) (record { words = table; used = count }))) r words′ blocks′ nexts′ table′)
       → Ended t name d g (frameRunOf f t) r words′ blocks′ nexts′ table′
-  unfolding frameRunOf limitsOf begins-so
+  unfolding frameRunOf begins-so
   ended-so code names resolved governs words blocks nexts w b x r words′ blocks′ nexts′ table′ k = k (begins-so code names resolved governs words blocks nexts w b x)
+
+  -- what sheet and answer need of a run that has ended
+  module _ (code : List ℕ) (covers : Covers code 0 (resolvedOf name t)) (r : Halt) (words : List ℤ) (blocks nexts : List ℕ) (table′ : List ℤ) (ended : Ended t name d g (frameRunOf f t) r words blocks nexts table′) where
+    pub held-so : Held code words blocks nexts ((frameRunOf f t) .final .frames)
+    held-so = sheet-held (copying (length area)) f bytes t h code words blocks nexts (ended .links) table′ covers (r .end) (r .steps) (r .offset) (r .pairs) (r .live) (r .designator) (ended .ended)
+
+    pub room-so : sheetShare * r .live ≤ length sheet
+    room-so = sheet-room (copying (length area)) f bytes t h code words blocks nexts (ended .links) table′ covers (r .end) (r .steps) (r .offset) (r .pairs) (r .live) (r .designator) (ended .ended)
+
+    pub live-so : length ((frameRunOf f t) .final .frames) ≡ r .live
+    live-so = sym (ended .ended .live-is)
+
+    pub answers-so : (written′ : ℕ) → written′ ≡ length (frameSheet ((frameRunOf f t) .final .frames))
+        → ranAnswer (r .end) (r .steps) (r .offset) (r .pairs) written′ tally (r .designator) 0 ≡ (reply (copying (length area)) f) .answer
+    answers-so written′ q =
+        run-answer (copying (length area)) f bytes t h code words blocks nexts (ended .links) table′ covers (r .end) (r .steps) (r .offset) (r .pairs) (r .live) (r .designator) (ended .ended)
+        written′ 0 q (no-links (copying (length area)) f (frameRunOf f t) refl)
+
+    pub lent-so : (sheet′ : List ℤ) → sheet′ ≡ written (frameSheet ((frameRunOf f t) .final .frames)) sheet
+        → (sheet′ ≡ (reply (copying (length area)) f) .lent .sheet) × (table′ ≡ (reply (copying (length area)) f) .lent .table .words)
+    lent-so sheet′ q =
+        run-lent (copying (length area)) f bytes t h code words blocks nexts (ended .links) table′ covers (r .end) (r .steps) (r .offset) (r .pairs) (r .live) (r .designator) (ended .ended) sheet′ q
