@@ -3,3 +3,5 @@ pub mod Running
 pub mod Settled
 pub mod Anew
 pub mod Going
+pub mod Renamed
+pub mod Copies
