@@ -4,8 +4,10 @@
 test:
 	@sh tests/all
 
+# A script file on each engine; sample A where none is named.
+run: export SCRIPT ?=
 run:
-	@echo "make run: the copying engine and the run program are still to be built" >&2; exit 1
+	@crates/run_script/run "$$SCRIPT"
 
 # The proved library beside the reference's fast implementation: one table of times.
 bench:

@@ -1,11 +1,19 @@
 /* The enrolment script engine: the C interface of libenrol.a.
  *
+ *     enrol_check      may this script be run?
+ *     enrol_chain      run it: names by static links in activation records that the caller lends
+ *     enrol_display    run it: names by a display
+ *
+ * The engines differ in how they find a name and in what they are lent for it. Handed the same call, all give the same
+ * but for the links, which only the chain engine counts.
+ *
  * The library needs nothing but the C library. It allocates nothing, keeps no pointer after a call has returned and
- * holds nothing between calls, so calls on different threads do not disturb each other.
+ * holds nothing between calls, so calls on different threads do not disturb each other. A call needs less than 512 KiB
+ * of stack.
  *
  * A lent slice is a pointer and a length. The pointer is not null, even where the length is 0; nothing else writes to
- * the slice during the call; what a call may write to (table, sheet, answer) overlaps nothing else that it is lent.
- * Beyond that nothing is asked: any bytes, words and numbers may be handed in, and what does not fit is refused.
+ * the slice during the call; what a call may write to (table, sheet, records, answer) overlaps nothing else that it is
+ * lent. Beyond that nothing is asked: any bytes, words and numbers may be handed in, and what does not fit is refused.
  */
 #ifndef ENROL_H
 #define ENROL_H
@@ -29,13 +37,16 @@ extern "C" {
 #define ENROL_MOST_MEMBERS 65535   /* G */
 #define ENROL_MOST_TALLY UINT64_C(1000000000000)
 
-/* Words of an answer, and the words that a sheet must have for d activations. */
+/* Words of an answer: the check's and a run's. */
 #define ENROL_CHECK_WORDS 2
 #define ENROL_ANSWER_WORDS 9
+
+/* Words that must be lent for d activations: the sheet's, and the chain engine's records. */
 #define ENROL_SHEET_WORDS(d) ((size_t)(d) * (2 + ENROL_MOST_NAMES))
 #define ENROL_RECORD_WORDS(d) ((size_t)(d) * 3)
 
-/* A designator's activation, counted from 1 at the outermost, and position among its names, from 1. */
+/* A designator names one declared name of a live activation: the activation's number, counted from 1 at the outermost,
+ * times 64, plus the name's position among the activation's names, from 1. 0 names none. */
 #define ENROL_ACTIVATION_OF(designator) ((designator) / 64)
 #define ENROL_POSITION_OF(designator) ((designator) % 64)
 
@@ -140,7 +151,7 @@ enum enrol_end {
     ENROL_REFUSED = 3   /* for a cause from 1 to 14; nothing was run */
 };
 
-/* A run by the display engine.
+/* Running a script. Every engine takes and gives the following; what one takes beside it stands at its function.
  *
  * Taken:
  * script     script_len bytes, read and never written; checked in the call, so that it need not be checked before
@@ -158,20 +169,22 @@ enum enrol_end {
  * Given:
  * answer     all nine words, always
  * table      with the pairs that AD has added at the end and without those that RM has taken out: later pairs have
- *            moved down by one and the place freed last holds 0, 0. The words past all of these are left alone.
- * sheet      the state where the run ended, in the first answer[ENROL_ANSWER_SHEET] words. The words past them are
- *            left alone.
+ *            moved down by one and the place freed last holds 0, 0
+ * sheet      the state where the run ended, in the first answer[ENROL_ANSWER_SHEET] words
  *
- * Where it is stopped, all is as it was before the statement at fault: the number of that statement is still the next
- * one on the sheet. Where it is refused, only the answer is written: table and sheet keep every word, and the answer
- * has 0 steps, the count and the tally as they were given, 0 sheet words and designator 0.
+ * Left alone: the script; the table past all places that were ever in use; the sheet past the words written. Where the
+ * call is refused, only the answer is written: all else that is lent keeps every word, and the answer has 0 steps, the
+ * count and the tally as they were given, 0 sheet words, designator 0 and 0 links.
+ *
+ * Where a run is stopped, all is as it was before the statement at fault: the number of that statement is still the
+ * next one on the sheet.
  *
  * How a sheet is read. The live activations follow each other from the outermost, numbered from 1. Each has the byte
  * offset of its block's BK, the number of its next statement (one more than the block has where none is left), and a
  * word for each name of the block: the formals first, then the declarations in the order written. A variable's word is
  * its value, a label's or procedure's is 0, a formal's is the designator of the declared name that it finally stands
- * for: activation number times 64, plus position among that activation's names, from 1. How many names an activation
- * has, and of which kinds, is read from the script at its BK (and from the PR before it, where it is a body).
+ * for. How many names an activation has, and of which kinds, is read from the script at its BK (and from the PR before
+ * it, where it is a body).
  *
  * Sample B, with the offsets of its records:
  *
@@ -207,23 +220,24 @@ enum enrol_end {
  * The looked-up name 5 gives 130 = 2 * 64 + 2: what activation 4 calls 5 is the variable of activation 2, whose
  * procedure 6 was handed on and called, and not that of activation 3.
  */
-void enrol_display(const uint8_t *script, size_t script_len, uint32_t d, uint32_t n, uint32_t g, uint64_t tally,
-                   int32_t *table, size_t table_len, size_t count, uint16_t name, int32_t *sheet, size_t sheet_len,
-                   uint64_t answer[ENROL_ANSWER_WORDS]);
 
-/* Runs a script on the chain engine, which finds a name by following the static links of activation records that the
- * caller lends.
+/* Runs a script on the chain engine, which finds a name by following static links from one activation record to the
+ * next. Taken and given beside what every engine is:
  *
- * All is as with enrol_display, and beside it:
- * records    records_len words, at least ENROL_RECORD_WORDS(d), three for an activation, whatever they hold. They are
- *            what the engine runs on: after a run that is not refused they may hold anything. Where the call is
- *            refused they keep every word. Too few give 13, tested after the sheet's.
+ * records    records_len words, at least ENROL_RECORD_WORDS(d), three for an activation, whatever they hold; too few
+ *            give 13. They are what the engine runs on: after a run that is not refused they may hold anything.
  * answer     ENROL_ANSWER_LINKS: how many links lead from the innermost live block to the one that declares the
- *            looked-up name as written, 0 to 15; 0 where the name is not visible, no block is live or the call is refused
+ *            looked-up name as written, 0 to 15; 0 where the name is not visible or no block is live
  */
 void enrol_chain(const uint8_t *script, size_t script_len, uint32_t d, uint32_t n, uint32_t g, uint64_t tally,
                  int32_t *table, size_t table_len, size_t count, uint16_t name, int32_t *sheet, size_t sheet_len,
                  uint32_t *records, size_t records_len, uint64_t answer[ENROL_ANSWER_WORDS]);
+
+/* Runs a script on the display engine, which finds a name in an array of the activations around the innermost block's
+ * text. It is lent nothing beside what every engine is, and gives 0 links. */
+void enrol_display(const uint8_t *script, size_t script_len, uint32_t d, uint32_t n, uint32_t g, uint64_t tally,
+                   int32_t *table, size_t table_len, size_t count, uint16_t name, int32_t *sheet, size_t sheet_len,
+                   uint64_t answer[ENROL_ANSWER_WORDS]);
 
 #ifdef __cplusplus
 }

@@ -156,3 +156,13 @@ pub fn far_names() -> Vec<u8> {
     let actions = vec![set(ONE, 1), set(MOST, i32::MAX), Action::Block(inner)];
     encode(&block(variables([COUNTER, ONE, MOST, TEST].into_iter()), actions)).bytes
 }
+
+/// A block of 4,000 words whose first statement goes out of it, entered again and again: the other statements are never done.
+pub fn large_block() -> Vec<u8> {
+    let (again, own): (Name, Name) = (1, 2);
+    let mut inside = vec![Action::Goto { label: again }];
+    let heading = 3 + 2 + 2;
+    inside.extend((0..(4_000 - heading) / 4).map(|value| set(own, value as i32)));
+    let inner = Action::Block(block(variables([own].into_iter()), inside));
+    encode(&block(vec![declaration(again, Declared::Label(1))], vec![inner])).bytes
+}

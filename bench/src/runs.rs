@@ -36,13 +36,17 @@ fn with_pairs(workload: &'static str, pairs: usize) -> Work {
 }
 
 pub fn rows() -> Vec<Row> {
-    [Engine::Display, Engine::Chain].into_iter().flat_map(rows_of).collect()
+    let mut rows: Vec<Row> =
+        [Engine::Display, Engine::Chain, Engine::Copy].into_iter().flat_map(rows_of).collect();
+    rows.push(entering());
+    rows
 }
 
 #[derive(Clone, Copy, PartialEq, Eq)]
 enum Engine {
     Display,
     Chain,
+    Copy,
 }
 
 fn rows_of(engine: Engine) -> Vec<Row> {
@@ -71,14 +75,14 @@ fn row(engine: Engine, work: Work) -> Row {
     let asked = Asked { d: D, n, g, tally: 0, count, name: 1 };
     let sheet = vec![0; 34 * D as usize];
     let (mut own_table, mut own_sheet) = (table.clone(), sheet.clone());
-    let mut records = vec![0; 3 * D as usize];
+    let mut own = own_words(engine, &script);
     let (mut table, mut sheet) = (table, sheet);
     let same = script.clone();
     let right =
         fast::run(&request(engine, &same, &asked), &mut own_table.clone(), &mut own_sheet.clone())
             .words();
     assert_eq!(
-        library(engine, &script, &asked, &mut table.clone(), &mut sheet.clone(), &mut records),
+        library(engine, &script, &asked, &mut table.clone(), &mut sheet.clone(), &mut own),
         right,
         "{workload}"
     );
@@ -93,7 +97,7 @@ fn row(engine: Engine, work: Work) -> Row {
                 &asked,
                 &mut table,
                 &mut sheet,
-                &mut records,
+                &mut own,
             ));
         }),
         reference: Box::new(move || {
@@ -109,11 +113,44 @@ fn library(
     asked: &Asked,
     table: &mut [i32],
     sheet: &mut [i32],
-    records: &mut [u32],
+    own: &mut [u32],
 ) -> enrol::Answer {
     match engine {
         Engine::Display => enrol::display(script, asked, table, sheet),
-        Engine::Chain => enrol::chain(script, asked, table, sheet, records),
+        Engine::Chain => enrol::chain(script, asked, table, sheet, own),
+        Engine::Copy => enrol::copy(script, asked, table, sheet, own),
+    }
+}
+
+/// What only this engine is lent.
+fn own_words(engine: Engine, script: &[u8]) -> Vec<u32> {
+    match engine {
+        Engine::Display => Vec::new(),
+        Engine::Chain => vec![0; 3 * D as usize],
+        Engine::Copy => vec![0; D as usize * script.len() / 2],
+    }
+}
+
+/// A block of 4,000 words, entered and left by a goto, beside a plain copy of as many words.
+fn entering() -> Row {
+    let script = programs::large_block();
+    let words = 4_000;
+    let entries = 1_000;
+    let asked = Asked { d: D, n: 2 * entries, g: 3, tally: 0, count: 0, name: 1 };
+    let (mut table, mut sheet) = (vec![0; 16], vec![0; 34 * D as usize]);
+    let mut own = own_words(Engine::Copy, &script);
+    let (from, mut to) = (vec![7u32; words], vec![0u32; words]);
+    Row {
+        workload: "copy, entering a large block (beside a plain copy)".into(),
+        size: format!("{entries} times {words} words"),
+        library: Box::new(move || {
+            black_box(enrol::copy(black_box(&script), &asked, &mut table, &mut sheet, &mut own));
+        }),
+        reference: Box::new(move || {
+            for _ in 0..entries {
+                black_box(&mut to).copy_from_slice(black_box(&from));
+            }
+        }),
     }
 }
 
@@ -122,6 +159,7 @@ fn request<'a>(engine: Engine, script: &'a [u8], asked: &Asked) -> Request<'a> {
     let engine = match engine {
         Engine::Display => reference::Engine::Display,
         Engine::Chain => reference::Engine::Chain { records: D as usize },
+        Engine::Copy => reference::Engine::Copying { area: D as usize * script.len() / 2 },
     };
     Request { engine, script, d, n, g, tally, count, name }
 }
@@ -130,5 +168,6 @@ fn named(engine: Engine, workload: &str) -> String {
     match engine {
         Engine::Display => format!("display, {workload}"),
         Engine::Chain => format!("chain, {workload}"),
+        Engine::Copy => format!("copy, {workload}"),
     }
 }

@@ -19,6 +19,23 @@ extern "C" {
         sheet_len: usize,
         answer: *mut u64,
     );
+    fn enrol_copy(
+        script: *const u8,
+        script_len: usize,
+        d: u32,
+        n: u32,
+        g: u32,
+        tally: u64,
+        table: *mut i32,
+        table_len: usize,
+        count: usize,
+        name: u16,
+        sheet: *mut i32,
+        sheet_len: usize,
+        area: *mut u32,
+        area_len: usize,
+        answer: *mut u64,
+    );
     fn enrol_chain(
         script: *const u8,
         script_len: usize,
@@ -37,6 +54,31 @@ extern "C" {
         answer: *mut u64,
     );
 }
+
+/// An engine that is lent words of its own, and how many of them its length counts as one.
+struct OnWords {
+    call: unsafe extern "C" fn(
+        *const u8,
+        usize,
+        u32,
+        u32,
+        u32,
+        u64,
+        *mut i32,
+        usize,
+        usize,
+        u16,
+        *mut i32,
+        usize,
+        *mut u32,
+        usize,
+        *mut u64,
+    ),
+    unit: usize,
+}
+
+const COPY: OnWords = OnWords { call: enrol_copy, unit: 1 };
+const CHAIN: OnWords = OnWords { call: enrol_chain, unit: 1 };
 
 /// Refusal number, 0 where accepted, and offset.
 pub type Checked = [u64; 2];
@@ -149,6 +191,17 @@ pub fn guarded_display(
     Ok(Ran { answer, table, sheet, working: Vec::new() })
 }
 
+/// `area` has room for the script's words for each activation.
+pub fn copy(
+    script: &[u8],
+    asked: &Asked,
+    table: &mut [i32],
+    sheet: &mut [i32],
+    area: &mut [u32],
+) -> Answer {
+    on_words(&COPY, script, asked, table, sheet, area)
+}
+
 /// `records` has three words for each activation.
 pub fn chain(
     script: &[u8],
@@ -157,11 +210,22 @@ pub fn chain(
     sheet: &mut [i32],
     records: &mut [u32],
 ) -> Answer {
+    on_words(&CHAIN, script, asked, table, sheet, records)
+}
+
+fn on_words(
+    engine: &OnWords,
+    script: &[u8],
+    asked: &Asked,
+    table: &mut [i32],
+    sheet: &mut [i32],
+    own: &mut [u32],
+) -> Answer {
     let mut answer = [0; 9];
     let Asked { d, n, g, tally, count, name } = *asked;
     // SAFETY: the pointers are those of slices and an array, with the slices' lengths.
     unsafe {
-        enrol_chain(
+        (engine.call)(
             script.as_ptr(),
             script.len(),
             d,
@@ -174,12 +238,22 @@ pub fn chain(
             name,
             sheet.as_mut_ptr(),
             sheet.len(),
-            records.as_mut_ptr(),
-            records.len(),
+            own.as_mut_ptr(),
+            own.len() / engine.unit,
             answer.as_mut_ptr(),
         )
     };
     answer
+}
+
+pub fn guarded_copy(
+    script: &[u8],
+    asked: &Asked,
+    table: &[i32],
+    sheet: &[i32],
+    area: &[u32],
+) -> Result<Ran, Strayed> {
+    guarded_on_words(&COPY, script, asked, table, sheet, area)
 }
 
 pub fn guarded_chain(
@@ -189,15 +263,26 @@ pub fn guarded_chain(
     sheet: &[i32],
     records: &[u32],
 ) -> Result<Ran, Strayed> {
+    guarded_on_words(&CHAIN, script, asked, table, sheet, records)
+}
+
+fn guarded_on_words(
+    engine: &OnWords,
+    script: &[u8],
+    asked: &Asked,
+    table: &[i32],
+    sheet: &[i32],
+    own: &[u32],
+) -> Result<Ran, Strayed> {
     let mut script = Lent::new("script", script, 0x5a);
     let mut table = Lent::new("table", table, GUARD);
     let mut sheet = Lent::new("sheet", sheet, GUARD);
-    let mut records = Lent::new("records", records, GUARD as u32);
+    let mut own = Lent::new("the engine's own words", own, GUARD as u32);
     let mut answer = Lent::new("answer", &[UNWRITTEN; 9], !UNWRITTEN);
     let Asked { d, n, g, tally, count, name } = *asked;
     // SAFETY: all pointers are to as many words as the call is told of.
     unsafe {
-        enrol_chain(
+        (engine.call)(
             script.pointer(),
             script.length(),
             d,
@@ -210,17 +295,17 @@ pub fn guarded_chain(
             name,
             sheet.pointer(),
             sheet.length(),
-            records.pointer(),
-            records.length(),
+            own.pointer(),
+            own.length() / engine.unit,
             answer.pointer(),
         )
     };
     script.all_holds()?;
     table.guards_hold()?;
     sheet.guards_hold()?;
-    records.guards_hold()?;
+    own.guards_hold()?;
     answer.guards_hold()?;
     let answer = answer.contents().try_into().expect("there are nine words");
     let (table, sheet) = (table.contents().to_vec(), sheet.contents().to_vec());
-    Ok(Ran { answer, table, sheet, working: records.contents().to_vec() })
+    Ok(Ran { answer, table, sheet, working: own.contents().to_vec() })
 }

@@ -42,7 +42,7 @@ pub fn library_check() -> Check {
     })
 }
 
-/// The proved library's engines, through its C interface: as many as it has.
+/// The proved library's engines, through its C interface.
 #[cfg(feature = "enrol")]
 pub fn library() -> Party {
     Party { name: "library", run: Box::new(library_reply), check: library_check() }
@@ -63,7 +63,13 @@ fn library_reply(call: &Call) -> Reply {
             &call.sheet,
             &call.working,
         ),
-        Engine::Copying => panic!("the library has no such engine"),
+        Engine::Copying => binding::enrol::guarded_copy(
+            &call.script,
+            &asked,
+            &call.table,
+            &call.sheet,
+            &call.working,
+        ),
     };
     match ran {
         Ok(ran) => {

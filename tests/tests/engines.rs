@@ -7,21 +7,22 @@ use differential::parties::{copy_rule, fast, library, Party};
 use differential::report::{bytes, words};
 use differential::{inputs, table_work};
 
-/// Those that the library has.
-const ENGINES: [Engine; 2] = [Engine::Display, Engine::Chain];
+const ENGINES: [Engine; 3] = [Engine::Copying, Engine::Chain, Engine::Display];
 
 /// The call to an engine. Where it was made for another one, the engine is lent just what it asks for.
 fn to(engine: Engine, call: &Call) -> Call {
-    let working =
-        if engine == call.engine { call.working.clone() } else { records(engine, call.d) };
+    let working = if engine == call.engine { call.working.clone() } else { own(engine, call) };
     Call { engine, working, ..call.clone() }
 }
 
-fn records(engine: Engine, d: u32) -> Vec<u32> {
-    match engine {
-        Engine::Chain => (0..3 * d.min(257) as usize).map(pattern).collect(),
-        Engine::Copying | Engine::Display => Vec::new(),
-    }
+fn own(engine: Engine, call: &Call) -> Vec<u32> {
+    let activations = call.d.min(257) as usize;
+    let words = match engine {
+        Engine::Copying => activations * (call.script.len() / 2),
+        Engine::Chain => 3 * activations,
+        Engine::Display => 0,
+    };
+    (0..words).map(pattern).collect()
 }
 
 fn hold(judge: &Party, origin: &str, call: &Call) {
@@ -62,29 +63,43 @@ fn every_allowance_and_name() {
     }
 }
 
-/// Demand 3: both engines and the reference at every allowance up to the run's end; the looked-up names take turns.
+/// Every field of a script that may be a name of the generator's (those below 15, and a few large ones), and a name that is none.
+fn names_in(script: &[u8]) -> Vec<u16> {
+    let fields = script.chunks_exact(2).map(|pair| u16::from_le_bytes([pair[0], pair[1]]));
+    let large = [257, 258, 513, 65_534, 65_535];
+    let mut names: Vec<u16> = fields.filter(|it| *it < 15 || large.contains(it)).collect();
+    names.push(40);
+    names.sort_unstable();
+    names.dedup();
+    names
+}
+
+/// Demands 2 and 3: all engines and the reference at every allowance up to the run's end, with every name of the script looked up.
 #[test]
 fn whole_runs_at_every_allowance() {
     let judge = fast();
     let mut runs = 0;
-    for number in 0..3_000 {
-        let call = to(Engine::Display, &Call { n: 300, ..inputs::case(60, number) });
+    for number in 0..2_000 {
+        let call = to(Engine::Display, &Call { n: 120, ..inputs::case(60, number) });
         let whole = (judge.run)(&call);
         if whole.refused() {
             continue;
         }
+        let origin = format!("seed 60, case {number}");
         for n in 0..=whole.answer[2] as u32 {
-            let name = 1 + (n % 15) as u16;
-            let origin = format!("seed 60, case {number}");
-            hold(&judge, &origin, &Call { n, name, ..call.clone() });
-            let at = Call { n, name, ..call.clone() };
-            let [display, chain] = ENGINES.map(|engine| (library().run)(&to(engine, &at)));
-            assert_eq!(display.answer[..8], chain.answer[..8], "{origin}, allowance {n}");
-            assert_eq!((display.sheet, display.table), (chain.sheet, chain.table), "{origin}");
-            runs += 1;
+            for name in names_in(&call.script) {
+                let at = Call { n, name, ..call.clone() };
+                hold(&judge, &origin, &at);
+                let [copy, chain, display] = ENGINES.map(|it| (library().run)(&to(it, &at)));
+                for other in [&copy, &display] {
+                    assert_eq!(other.answer[..8], chain.answer[..8], "{origin}, allowance {n}");
+                    assert_eq!((&other.sheet, &other.table), (&chain.sheet, &chain.table));
+                }
+                runs += 1;
+            }
         }
     }
-    assert!(runs > 10_000, "only {runs} runs");
+    assert!(runs > 100_000, "only {runs} runs");
 }
 
 #[test]

@@ -1,0 +1,74 @@
+-- `report` meets its contract: the pairs left fall.
+use Prim.Native.Nat.{_-_}
+use borrow.Author.Needs.{needs}
+use Rattle.run_script.proofs.report.Statement.{statement}
+use Rattle.run_script.proofs.report.Tie as tie
+
+abbrev Inv-loop : tie.InvT-loop
+Inv-loop engine table pairs pair₀ pair = Unit
+
+abbrev μ-loop : tie.MeasureT-loop
+μ-loop engine table pairs pair₀ pair = 8 - pair
+
+print-answer-requires : tie.Need-print-answer-requires Inv-loop μ-loop
+print-answer-requires c κs = search needs
+
+slice-aggregate-say : tie.Need-slice-aggregate-say Inv-loop μ-loop
+slice-aggregate-say c = search needs
+
+say-requires : tie.Need-say-requires Inv-loop μ-loop
+say-requires c κs = search needs
+
+array-read-pairs : tie.Need-array-read-pairs Inv-loop μ-loop
+array-read-pairs c = search needs
+
+loop-holds : tie.Need-loop-holds Inv-loop μ-loop
+loop-holds c = search needs
+
+returns : tie.Need-returns Inv-loop μ-loop
+returns c = search needs
+
+mul-print-words : tie.Need-mul-print-words Inv-loop μ-loop
+mul-print-words c = search needs
+
+mul-print-words-2 : tie.Need-mul-print-words-2 Inv-loop μ-loop
+mul-print-words-2 c = search needs
+
+add-print-words : tie.Need-add-print-words Inv-loop μ-loop
+add-print-words c = search needs
+
+print-words-requires : tie.Need-print-words-requires Inv-loop μ-loop
+print-words-requires c κs = search needs
+
+add-pair : tie.Need-add-pair Inv-loop μ-loop
+add-pair c = search needs
+
+loop-less : tie.Need-loop-less Inv-loop μ-loop
+loop-less c = search needs
+
+loop-again : tie.Need-loop-again Inv-loop μ-loop
+loop-again c = search needs
+
+returns-2 : tie.Need-returns-2 Inv-loop μ-loop
+returns-2 c = search needs
+
+pub report-spec : {M : Type 1} → statement M
+report-spec =
+    tie.close
+    (tie.spec
+    Inv-loop
+    μ-loop
+    print-answer-requires
+    slice-aggregate-say
+    say-requires
+    array-read-pairs
+    loop-holds
+    returns
+    mul-print-words
+    mul-print-words-2
+    add-print-words
+    print-words-requires
+    add-pair
+    loop-less
+    loop-again
+    returns-2)
