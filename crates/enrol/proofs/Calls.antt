@@ -5,7 +5,7 @@ use mathlib.Core.Bool.{true, false}
 use mathlib.Core.List.{List, [], _∷_, _++_}
 use mathlib.Core.Path.{_≡_, refl, sym, ap, _∙_, subst}
 use lib.IntN.{ℤ, pos}
-use lib.ListN.{length, getD, replicate}
+use lib.ListN.{length, getD, replicate, length-replicate, getD-replicate}
 use Rattle.language.specs.Sheet.{sheetShare}
 use Rattle.language.specs.Text.{Block}
 use Rattle.language.specs.Check.{accepted, check}
@@ -20,7 +20,7 @@ use Rattle.frames.specs.Frame.{Result, frameRun, frameStart, frameRunOf, frameS
 use Rattle.moves.specs.Running.{limitsBy}
 use Rattle.coordinates.specs.Sound.{accepted-keeps-rules}
 use Rattle.resolved.specs.Resolved.{resolvedOf, Covers}
-use Rattle.resolving.specs.Resolving.{Resolved}
+use Rattle.resolving.specs.Resolving.{Resolved, resolved-covers}
 use Rattle.admission.specs.Lent.{fedOf}
 use Rattle.checking.specs.Verdicts.{verdictOf}
 use Rattle.answers.specs.Answers.{refusedAnswer, ranAnswer}
@@ -28,39 +28,6 @@ use Rattle.sheets.specs.Held.{Held}
 use Rattle.replies.specs.Replies.{Ran, ran-answer, ran-lent, no-links, result-held, room-for-sheet, tally-fits, refused-reply, fit-admitted}
 use Rattle.display.specs.Turning.{Beginning, Ended}
 use Rattle.display.specs.declared.run.Halt.{Halt}
-
--- an array covers what it begins with
-first-is : (xs : List ℕ) (w : ℕ) (rest : List ℕ) → getD (xs ++ (w ∷ rest)) (length xs) 0 ≡ w
-first-is [] w rest = refl
-first-is (x ∷ xs) w rest = first-is xs w rest
-
-one-joined : (xs : List ℕ) (w : ℕ) (rest : List ℕ) → (xs ++ (w ∷ [])) ++ rest ≡ xs ++ (w ∷ rest)
-one-joined [] w rest = refl
-one-joined (x ∷ xs) w rest = ap (λ (l : List ℕ). x ∷ l) (one-joined xs w rest)
-
-one-longer : (xs : List ℕ) (w : ℕ) → length (xs ++ (w ∷ [])) ≡ length xs + 1
-one-longer [] w = omega arith
-one-longer (x ∷ xs) w = let e = one-longer xs w in omega arith
-
-covers-from : (before ws rest : List ℕ) → Covers (before ++ (ws ++ rest)) (length before) ws
-covers-from before [] rest = tt
-covers-from before (w ∷ ws) rest = (
-  first-is before w (ws ++ rest),
-  subst (λ p. Covers (before ++ (w ∷ (ws ++ rest))) p ws) (one-longer before w)
-      (subst (λ (l : List ℕ). Covers l (length (before ++ (w ∷ []))) ws) (one-joined before w (ws ++ rest)) (covers-from (before ++ (w ∷ [])) ws rest)),
-)
-
-pub resolved-covers : (code ws rest : List ℕ) → code ≡ ws ++ rest → Covers code 0 ws
-resolved-covers code ws rest e = subst (λ (l : List ℕ). Covers l 0 ws) (sym e) (covers-from [] ws rest)
-
-pub zero-at : (n i : ℕ) → getD (replicate n (pos 0)) i (pos 0) ≡ pos 0
-zero-at zero i = refl
-zero-at (suc n) zero = refl
-zero-at (suc n) (suc i) = zero-at n i
-
-pub long : {A : Type 0} (n : ℕ) (a : A) → length (replicate n a) ≡ n
-long zero a = refl
-long (suc n) a = ap suc (long n a)
 
 module _ (script : List ℕ) (d n g tally : ℕ) (table : List ℤ) (count name : ℕ) (sheet : List ℤ) (bytes : Bytes script) (t : Block)
     (h : Admitted display (fedOf script d n g tally table count name sheet) t) where
@@ -78,15 +45,15 @@ module _ (script : List ℕ) (d n g tally : ℕ) (table : List ℤ) (count name 
         program = t;
         name = name;
         keeps = keeps;
-        covers = resolved-covers code (resolvedOf name t) _ (resolved t (h .script));
+        covers = resolved-covers script name code resolved t (h .script);
         some-live = few .0;
         few-live = few .1;
         table-right = table-right h;
-        words-long = ap length w ∙ long 8224 (pos 0);
-        blocks-long = ap length b ∙ long {A = ℕ} 256 0;
-        nexts-long = ap length x ∙ long {A = ℕ} 256 0;
-        links-long = ap length l ∙ long {A = ℕ} 256 0;
-        zeros = λ i p. ap (λ (ws : List ℤ). getD ws i (pos 0)) w ∙ zero-at 8224 i;
+        words-long = ap length w ∙ length-replicate 8224 (pos 0);
+        blocks-long = ap length b ∙ length-replicate {A = ℕ} 256 0;
+        nexts-long = ap length x ∙ length-replicate {A = ℕ} 256 0;
+        links-long = ap length l ∙ length-replicate {A = ℕ} 256 0;
+        zeros = λ i p. ap (λ (ws : List ℤ). getD ws i (pos 0)) w ∙ getD-replicate 8224 i (pos 0) (pos 0) (omega arith);
         no-block = ap (λ (ws : List ℕ). getD ws 0 0) b;
         no-link = ap (λ (ws : List ℕ). getD ws 0 0) l;
       }
@@ -94,17 +61,17 @@ module _ (script : List ℕ) (d n g tally : ℕ) (table : List ℤ) (count name 
   -- what such a run ends with
   pub ended-so : (code : List ℕ) → Resolved script name code → (words : List ℤ) (blocks nexts links : List ℕ) → words ≡ replicate 8224 (pos 0) → blocks ≡ replicate 256 0 → nexts ≡ replicate 256 0 → links ≡ replicate 256 0
       → (r : Halt) (words′ : List ℤ) (blocks′ nexts′ links′ : List ℕ) (table′ : List ℤ)
-      → ((b : Beginning code words blocks nexts links table count g d) → Ended (b .program) (b .name) code d g (frameRun (limitsBy d g) n (frameStart (b .program) (record { words = table; used = count }))) r words′ blocks′ nexts′ links′ table′)
-      → Ended t name code d g (frameRunOf (fedOf script d n g tally table count name sheet) t) r words′ blocks′ nexts′ links′ table′
+      → ((b : Beginning code words blocks nexts links table count g d) → Ended (b .program) (b .name) d g (frameRun (limitsBy d g) n (frameStart (b .program) (record { words = table; used = count }))) r words′ blocks′ nexts′ links′ table′)
+      → Ended t name d g (frameRunOf (fedOf script d n g tally table count name sheet) t) r words′ blocks′ nexts′ links′ table′
   unfolding frameRunOf begins-so
   ended-so code resolved words blocks nexts links w b x l r words′ blocks′ nexts′ links′ table′ k = k (begins-so code resolved words blocks nexts links w b x l)
 
   pub covers-so : (code : List ℕ) → Resolved script name code → Covers code 0 (resolvedOf name t)
-  covers-so code resolved = resolved-covers code (resolvedOf name t) _ (resolved t (h .script))
+  covers-so code resolved = resolved-covers script name code resolved t (h .script)
 
   -- what the run has of the frame machine's result, and the sheet's words
   module _ (r : Halt) (code : List ℕ) (words : List ℤ) (blocks nexts links : List ℕ) (table′ : List ℤ) (covers : Covers code 0 (resolvedOf name t))
-      (ended : Ended t name code d g (frameRunOf (fedOf script d n g tally table count name sheet) t) r words blocks nexts links table′) where
+      (ended : Ended t name d g (frameRunOf (fedOf script d n g tally table count name sheet) t) r words blocks nexts links table′) where
     result : Result
     result = frameRunOf (fedOf script d n g tally table count name sheet) t
 
