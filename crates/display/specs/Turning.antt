@@ -10,10 +10,9 @@ use Rattle.language.specs.Text.{Block}
 use Rattle.language.specs.Table.{right}
 use Rattle.language.specs.declared.End.{End}
 use Rattle.grammar.specs.Rules.{Keeps}
-use Rattle.frames.specs.Frame.{Result, halted, designates, frameStep}
-use Rattle.coordinates.specs.Sound.{Sound}
+use Rattle.frames.specs.Frame.{Result, halted, frameStep}
 use Rattle.resolved.specs.Resolved.{resolvedOf, Covers}
-use Rattle.arrays.specs.Holds.{Holds}
+use Rattle.steps.specs.Underway as steps
 use Rattle.moves.specs.declared.Now.{Now}
 use Rattle.display.specs.declared.run.Turn.{Turn}
 use Rattle.display.specs.declared.run.Turn.the-variants.{Went, Finished, Stopped}
@@ -56,15 +55,6 @@ pub record Beginning (code : List ℕ) (words : List ℤ) (blocks nexts links : 
   pub no-link : getD links 0 0 ≡ 0
 
 -- what it ends with: the frame machine's result, and the arrays hold its stack
-pub record Ended (program : Block) (name : ℕ) (code : List ℕ) (limit group : ℕ) (result : Result) (r : Halt) (words : List ℤ)
-    (blocks nexts links : List ℕ) (table : List ℤ) : Type 0 where
-  pub end-is : r .end ≡ result .end
-  pub steps-are : r .steps ≡ result .final .steps
-  pub offset-is : r .offset ≡ result .offset
-  pub pairs-are : r .pairs ≡ result .final .table .used
-  pub table-is : table ≡ result .final .table .words
-  pub live-is : r .live ≡ length (result .final .frames)
-  pub designator-is : r .designator ≡ designates (result .final .frames) name
-  pub sound : Sound (limitsBy limit group) program (result .final)
-  pub holds : Holds (result .final .frames) blocks nexts links words
-  pub words-long : length words ≡ 8224
+abbrev pub Ended : Block → ℕ → ℕ → ℕ → Result → Halt → List ℤ → List ℕ → List ℕ → List ℕ → List ℤ → Type 0
+Ended program name limit group result r words blocks nexts links table =
+    steps.Ended program name (limitsBy limit group) result (r .end) (r .steps) (r .offset) (r .pairs) (r .live) (r .designator) words blocks nexts links table

@@ -156,7 +156,7 @@ pub fn run_program(
     requires { ⌜ Beginning (now code) (now words) (now blocks) (now nexts) (now links) (now table) pairs group limit ⌝ }
     ensures { λ r.
         ⌜ ((b : Beginning (now (code .entry)) (now (words .entry)) (now (blocks .entry)) (now (nexts .entry)) (now (links .entry)) (now (table .entry)) pairs group limit)
-        → Ended (b .program) (b .name) (now (code .entry)) limit group
+        → Ended (b .program) (b .name) limit group
         (frameRun (limitsBy limit group) allowance (frameStart (b .program) (record { words = now (table .entry); used = pairs })))
         r (now (words .exit)) (now (blocks .exit)) (now (nexts .exit)) (now (links .exit)) (now (table .exit))) ⌝ }
 {

@@ -7,7 +7,7 @@ use mathlib.Core.List.{List}
 use mathlib.Core.Path.{_≡_, refl, sym, ap, _∙_, subst}
 use borrow.Author.Tests.{leb-true}
 use lib.IntN.{ℤ, pos}
-use lib.ListN.{length, getD, replicate}
+use lib.ListN.{length, getD, replicate, length-replicate, getD-replicate}
 use Rattle.language.specs.Sheet.{sheetShare}
 use Rattle.language.specs.Text.{Block}
 use Rattle.language.specs.Call.{Fed, Lent, reply, chain, recordsIn, recordsFit, holdsAtLeast, linksOf, written}
@@ -16,7 +16,7 @@ use Rattle.runs.specs.Admission.{Admitted, limits-fit, records-fit, table-right
 use Rattle.frames.specs.Frame.{frameRun, frameStart, frameRunOf, frameReplied, frameSheet}
 use Rattle.coordinates.specs.Sound.{accepted-keeps-rules}
 use Rattle.resolved.specs.Resolved.{resolvedOf, Covers}
-use Rattle.resolving.specs.Resolving.{Resolved}
+use Rattle.resolving.specs.Resolving.{Resolved, resolved-covers}
 use Rattle.admission.specs.Lent.{fedOf}
 use Rattle.answers.specs.Answers.{ranAnswer}
 use Rattle.sheets.specs.Held.{Held}
@@ -25,7 +25,6 @@ use Rattle.links.specs.Records.{blocksIn, nextsIn, linksIn}
 use Rattle.links.specs.Running.{limitsBy}
 use Rattle.chain.specs.Turning.{Beginning, Ended}
 use Rattle.chain.specs.declared.run.Halt.{Halt}
-use Rattle.enrol.proofs.Calls.{resolved-covers, zero-at, long}
 
 module _ (script : List ℕ) (d n g tally : ℕ) (table : List ℤ) (count name : ℕ) (sheet : List ℤ) (records : List ℕ) (bytes : Bytes script) (t : Block)
     (h : Admitted (chain (recordsIn (length records))) (fedOf script d n g tally table count name sheet) t) where
@@ -46,12 +45,12 @@ module _ (script : List ℕ) (d n g tally : ℕ) (table : List ℤ) (count name 
         program = t;
         name = name;
         keeps = keeps;
-        covers = resolved-covers code (resolvedOf name t) _ (resolved t (h .script));
+        covers = resolved-covers script name code resolved t (h .script);
         some-live = few .0;
         few-live = few .1;
         table-right = table-right h;
-        words-long = ap length w ∙ long 8224 (pos 0);
-        zeros = λ i p. ap (λ (ws : List ℤ). getD ws i (pos 0)) w ∙ zero-at 8224 i;
+        words-long = ap length w ∙ length-replicate 8224 (pos 0);
+        zeros = λ i p. ap (λ (ws : List ℤ). getD ws i (pos 0)) w ∙ getD-replicate 8224 i (pos 0) (pos 0) (omega arith);
         room = records-room;
       }
 
@@ -62,7 +61,7 @@ module _ (script : List ℕ) (d n g tally : ℕ) (table : List ℤ) (count name 
   ended-so code resolved words w r words′ records′ table′ k = k (begins-so code resolved words w)
 
   pub covers-so : (code : List ℕ) → Resolved script name code → Covers code 0 (resolvedOf name t)
-  covers-so code resolved = resolved-covers code (resolvedOf name t) _ (resolved t (h .script))
+  covers-so code resolved = resolved-covers script name code resolved t (h .script)
 
   module _ (r : Halt) (code : List ℕ) (words : List ℤ) (records′ : List ℕ) (table′ : List ℤ) (covers : Covers code 0 (resolvedOf name t)) (ended : Ended t name d g (frameRunOf (fedOf script d n g tally table count name sheet) t) r words records′ table′) where
     pub held-so : Held code words (blocksIn records′) (nextsIn records′) ((frameRunOf (fedOf script d n g tally table count name sheet) t) .final .frames)

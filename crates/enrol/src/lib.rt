@@ -9,7 +9,6 @@ ghost use Rattle.admission.specs.Lent.{fedOf};
 ghost use Rattle.enrol.specs.Answers.{checkWords};
 
 mod by_chain;
-mod by_display;
 
 // The refusal's number, 0 where the script is accepted, and its offset.
 #[no_mangle]
@@ -68,7 +67,7 @@ pub extern "C" fn enrol_display(
     ensures { λ _. ⌜ now (sheet .exit) ≡ (reply display (fedOf (now (script .entry)) d n g tally (now (table .entry)) count name (now (sheet .entry)))) .lent .sheet ⌝ }
     ensures { λ _. ⌜ now (table .exit) ≡ (reply display (fedOf (now (script .entry)) d n g tally (now (table .entry)) count name (now (sheet .entry)))) .lent .table .words ⌝ }
 {
-    *answer = by_display::call(script, d, n, g, tally, table, count, name, sheet);
+    *answer = display_call::call(script, d, n, g, tally, table, count, name, sheet);
 }
 
 // A run by the chain engine, on activation records in a lent slice, three words each: the same, and the records as they were where the call is

@@ -15,7 +15,7 @@ use Rattle.grammar.specs.Accepting.{accepted-keeps}
 use Rattle.grammar.specs.Standing.{program-stands}
 use Rattle.coordinates.specs.Enclosure.{Enclosure}
 use Rattle.resolved.specs.Resolved.{resolvedOf, Covers}
-use Rattle.resolved.specs.Lengths.{covers-first, covers-second}
+use Rattle.resolved.specs.Lengths.{covers-first, covers-second, covers-front}
 use Rattle.resolved.specs.Places.{block-at}
 use Rattle.words.specs.Words.{wordAt, Stands}
 use Rattle.words.proofs.Standing.{word-inside, stands-first, stands-second}
@@ -28,7 +28,6 @@ use Rattle.governed.specs.Lengths.{block-length}
 use Rattle.governed.specs.Layout.{Layout}
 use Rattle.governed.specs.Layouts.{fieldsLayout, governedLayout, resolvedLayout}
 use Rattle.governed.specs.Parts.{Part, placed, itemWords, partsWords, ownWords, inside, parts-open}
-use Rattle.governed.specs.Standing.{covers-front}
 use Rattle.governed.specs.Governing.{Noted, Governs}
 
 -- A record's own words

@@ -3,36 +3,23 @@
 -- `stmt-fields-stand`, `action-fields-stand`.
 use Prim.Native.Nat.{ℕ, zero, suc, _+_, _≤_, _<_}
 use native.Mathlib.Omega.{arith}
-use mathlib.Core.List.{List, [], _∷_, _++_, append-assoc, append-nil}
+use mathlib.Core.List.{List, _∷_}
 use mathlib.Core.Option.{some}
-use mathlib.Core.Path.{_≡_, ap, subst}
+use mathlib.Core.Path.{_≡_, ap}
 use lib.ListN.{length, getD, getElem?, length-append}
-use lib.Seq.{getD-append-seam}
 use Rattle.language.specs.Text.{Action, Block, block, Decl, VR, LB, PR, Stmt, DO, Decls, no-decl, decl, decls, blockAt, blockDecls, blockStmts, stmtAt, declName}
 use Rattle.language.specs.Encoding.{actionFields, blockFields, declFields, stmtFields, declsFields, stmtsFields}
 use Rattle.laws.specs.Tests.{none≢some, some-inj}
 use Rattle.grammar.specs.Rules.{Keeps}
 use Rattle.coordinates.specs.Enclosure.{Enclosing, Enclosure, Encloses}
 use Rattle.resolved.specs.Resolved.{placeOf, endPlace, nameWord, Covers}
+use Rattle.resolved.specs.Lengths.{covers-self}
 use Rattle.resolved.specs.Places.{declsBefore}
 use Rattle.governed.specs.Governed.{governedAction, governedBlock, governedDecl, governedStmt, governedOf}
 use Rattle.governed.specs.Layout.{beforeDecl, block-laid, stmt-laid, decl-laid}
 use Rattle.governed.specs.Layouts.{fieldsLayout, governedLayout}
 
 -- The script's own fields
-
-covers-inside : (ys xs zs : List ℕ) → Covers (ys ++ (xs ++ zs)) (length ys) xs
-covers-inside ys [] zs = tt
-covers-inside ys (x ∷ xs) zs =
-    let one : length (ys ++ (x ∷ [])) ≡ length ys + 1 = length-append ys (x ∷ []) in
-    (getD-append-seam ys x (xs ++ zs) 0, subst (λ (c : ℕ × List ℕ). Covers (c .1) (c .0) xs) (λ i. (one i, append-assoc ys (x ∷ []) (xs ++ zs) i)) (covers-inside (ys ++ (x ∷ [])) xs zs))
-
--- a list holds what it begins with, and itself
-pub covers-front : (xs zs : List ℕ) → Covers (xs ++ zs) 0 xs
-covers-front xs zs = covers-inside [] xs zs
-
-pub covers-self : (xs : List ℕ) → Covers xs 0 xs
-covers-self xs = subst (λ (ys : List ℕ). Covers ys 0 xs) (append-nil xs) (covers-front xs [])
 
 module _ (t : Block) (keeps : Keeps t) (e : Enclosing) (es : Enclosure) (within : Encloses t (e ∷ es)) where
   pub block-fields-stand : Covers (blockFields t) (placeOf (blockAt (e .text))) (blockFields (e .text))

@@ -1,7 +1,7 @@
 -- What an engine that runs as the frame machine replies is the copy rule's reply. By the verdict of admission: `refused-reply`, what a refusal
--- answers and leaves; `fit-admitted`: no refusal is due, and there is a program. Of its run: `ran-answer` and `ran-lent`, where the engine has of it
--- what the frame machine's result has (`Ran`). `result-held`: arrays that hold the result's frames can be written as its sheet (crate sheets);
--- `room-for-sheet`, `tally-fits`: there is room for it, and the tally can be added to.
+-- answers and leaves; `fit-admitted`: no refusal is due, and there is a program; `refused-call`, `admitted-call`: the same as an engine's call has them.
+-- Of its run: `ran-answer` and `ran-lent`, where the engine has of it what the frame machine's result has (`Ran`). `result-held`: arrays that hold the
+-- result's frames can be written as its sheet (crate sheets); `room-for-sheet`, `tally-fits`: there is room for it, and the tally can be added to.
 use Prim.Native.Nat.{ℕ, _*_, _≤_}
 use native.Mathlib.Omega.{arith}
 use mathlib.Core.Bool.{true, false, _&&_}
@@ -15,9 +15,11 @@ use Rattle.language.specs.Sheet.{sheetShare}
 use Rattle.language.specs.Text.{Block}
 use Rattle.language.specs.Check.{Checked, accepted, refused}
 use Rattle.language.specs.Machine.{Limits}
-use Rattle.language.specs.Call.{Engine, Fed, Reply, limitsOf, limitsFit, admission, turnedAway, linksOf, written, reply}
+use Rattle.language.specs.Numbers.{answerWords}
+use Rattle.language.specs.Call.{Engine, Lent, Fed, Reply, limitsOf, limitsFit, admission, turnedAway, linksOf, written, reply}
 use Rattle.language.specs.declared.Refusal.{Refusal}
 use Rattle.language.specs.declared.End.{End}
+use Rattle.language.specs.declared.Verdict.{Verdict}
 use Rattle.language.specs.declared.Verdict.the-variants.{Fit, Refused}
 use Rattle.laws.specs.Tests.{both}
 use Rattle.grammar.specs.Rules.{Bytes, Keeps}
@@ -57,6 +59,17 @@ module _ (e : Engine) (f : Fed) where
 
   pub fit-admitted : verdictOf (admission e f) ≡ Fit → (t : Block) × Admitted e f t
   fit-admitted q = let r = verdict-fit (admission e f) q in (r .0, (accepted-exactly e f (r .0)) .0 (r .1))
+
+  -- as an engine's call has them: the verdict, and the words of its answer
+  module _ (v : Verdict) (verdict : v ≡ verdictOf (admission e f)) where
+    pub admitted-call : v ≡ Fit → (t : Block) × Admitted e f t
+    admitted-call q = fit-admitted (sym verdict ∙ q)
+
+    pub refused-call : (c : Refusal) (o : ℕ) → v ≡ Refused c o → (words : List ℕ) → words ≡ answerWords (refusedAnswer c o (f .lent .table .used) (f .tally))
+        → (words ≡ answerWords ((reply e f) .answer)) × (f .lent .sheet ≡ (reply e f) .lent .sheet) × (f .lent .table .words ≡ (reply e f) .lent .table .words)
+    refused-call c o q words w =
+        let r = refused-reply c o (sym verdict ∙ q) in
+        (w ∙ ap answerWords (sym (r .0)), ap (λ (l : Lent). l .sheet) (sym (r .1)), ap (λ (l : Lent). l .table .words) (sym (r .1)))
 
   -- A program that is admitted runs as the frame machine runs it
   module _ (bytes : Bytes (f .script)) (t : Block) (h : Admitted e f t) where

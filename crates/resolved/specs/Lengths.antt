@@ -1,12 +1,14 @@
 -- One word for each field. `block-length` (and so for declarations, statements, actions and formals): the resolved text has as many words as the
--- text has fields. `covers-first`, `covers-second`, `covers-append`, `covers-iff`: what stands end to end; `covers-at`: the word at an index.
+-- text has fields. `covers-first`, `covers-second`, `covers-append`, `covers-iff`: what stands end to end; `covers-at`: the word at an index;
+-- `covers-front`, `covers-self`: a list holds what it begins with, and itself.
 use Prim.Native.Nat.{ℕ, zero, suc, _+_, _*_, _<_}
 use native.Mathlib.Omega.{arith}
 use native.Mathlib.Nat.{not-suc-le-zero, le-of-suc-le-suc}
-use mathlib.Core.List.{List, [], _∷_, _++_}
+use mathlib.Core.List.{List, [], _∷_, _++_, append-assoc, append-nil}
 use mathlib.Core.Logic.{_↔_}
 use mathlib.Core.Path.{_≡_, refl, ap, _∙_, subst}
-use lib.ListN.{length, getD, length-map}
+use lib.ListN.{length, getD, length-append, length-map}
+use lib.Seq.{getD-append-seam}
 use Rattle.language.specs.Text.{Formal, Action, CL, GO, IF, KN, AR, AD, RM, QY, Block, block, Decl, VR, LB, PR, Stmt, BK, DO, Decls, no-decl, decl, Stmts, no-stmt, stmt}
 use Rattle.language.specs.Encoding.{actionFields, formalsFields, blockFields, declFields, stmtFields, declsFields, stmtsFields}
 use Rattle.laws.specs.Lists.{lengths-append}
@@ -91,3 +93,16 @@ module _ (code : List ℕ) where
   covers-at p (w ∷ ws) h (suc i) l =
       let e : p + suc i ≡ p + 1 + i = omega arith in
       ap (λ q. getD code q 0) e ∙ covers-at (p + 1) ws (h .1) i (le-of-suc-le-suc l)
+
+-- what a list begins with, and itself
+covers-inside : (ys xs zs : List ℕ) → Covers (ys ++ (xs ++ zs)) (length ys) xs
+covers-inside ys [] zs = tt
+covers-inside ys (x ∷ xs) zs =
+    let one : length (ys ++ (x ∷ [])) ≡ length ys + 1 = length-append ys (x ∷ []) in
+    (getD-append-seam ys x (xs ++ zs) 0, subst (λ (c : ℕ × List ℕ). Covers (c .1) (c .0) xs) (λ i. (one i, append-assoc ys (x ∷ []) (xs ++ zs) i)) (covers-inside (ys ++ (x ∷ [])) xs zs))
+
+pub covers-front : (xs zs : List ℕ) → Covers (xs ++ zs) 0 xs
+covers-front xs zs = covers-inside [] xs zs
+
+pub covers-self : (xs : List ℕ) → Covers xs 0 xs
+covers-self xs = subst (λ (ys : List ℕ). Covers ys 0 xs) (append-nil xs) (covers-front xs [])

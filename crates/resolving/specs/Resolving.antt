@@ -1,13 +1,14 @@
 -- The walk that writes the resolved script: what it is given, and what it writes.
 use Prim.Native.Nat.{ℕ, suc, _+_, _*_, _-_, _/_, _≤_}
 use mathlib.Core.List.{List, [], _∷_, _++_}
-use mathlib.Core.Path.{_≡_}
+use mathlib.Core.Path.{_≡_, sym, subst}
 use lib.ListN.{length, drop, replicate}
 use Rattle.language.specs.Text.{Formal, Block}
 use Rattle.language.specs.Encoding.{formalsFields, blockFields}
 use Rattle.language.specs.Check.{accepted, check}
 use Rattle.coordinates.specs.Enclosure.{Enclosure, enclosed}
-use Rattle.resolved.specs.Resolved.{stmtPlace, headWord, nameWord, resolvedFormals, resolvedBlock, resolvedDecl, resolvedStmt, resolvedOf}
+use Rattle.resolved.specs.Resolved.{stmtPlace, headWord, nameWord, resolvedFormals, resolvedBlock, resolvedDecl, resolvedStmt, resolvedOf, Covers}
+use Rattle.resolved.specs.Lengths.{covers-front}
 use Rattle.words.specs.Words.{Stands}
 use Rattle.extents.specs.Items.{Item, formal, body, declared, stated, itemFields, itemsFields}
 use Rattle.scoping.specs.Walking.{BlockHere, ItemsHere, ItemHere}
@@ -89,3 +90,6 @@ Onward at n r = (at ≤ r) × (r ≤ n + 400000)
 abbrev pub Resolved : List ℕ → ℕ → List ℕ → Type 0
 Resolved bs name code =
     (t : Block) → check bs ≡ accepted t → code ≡ resolvedOf name t ++ replicate (4096 - length (resolvedOf name t)) 0
+
+pub resolved-covers : (bs : List ℕ) (name : ℕ) (code : List ℕ) → Resolved bs name code → (t : Block) → check bs ≡ accepted t → Covers code 0 (resolvedOf name t)
+resolved-covers bs name code r t q = subst (λ (l : List ℕ). Covers l 0 (resolvedOf name t)) (sym (r t q)) (covers-front (resolvedOf name t) _)

@@ -21,9 +21,12 @@ fn ran(
     sheet: &mut [i32],
 ) -> [u64; 9]
     requires { ⌜ ((t : Block) × Admitted display (fedOf (now script) d n g tally (now table) count name (now sheet)) t) ⌝ }
-    ensures { λ r. ⌜ r ≡ answerWords ((reply display (fedOf (now (script .entry)) d n g tally (now (table .entry)) count name (now (sheet .entry)))) .answer) ⌝ }
-    ensures { λ _. ⌜ now (sheet .exit) ≡ (reply display (fedOf (now (script .entry)) d n g tally (now (table .entry)) count name (now (sheet .entry)))) .lent .sheet ⌝ }
-    ensures { λ _. ⌜ now (table .exit) ≡ (reply display (fedOf (now (script .entry)) d n g tally (now (table .entry)) count name (now (sheet .entry)))) .lent .table .words ⌝ }
+    ensures { λ r. ⌜ r ≡ answerWords ((reply display (fedOf (now (script .entry)) d n g tally (now (table .entry)) count name
+        (now (sheet .entry)))) .answer) ⌝ }
+    ensures { λ _. ⌜ now (sheet .exit) ≡ (reply display (fedOf (now (script .entry)) d n g tally (now (table .entry)) count name
+        (now (sheet .entry)))) .lent .sheet ⌝ }
+    ensures { λ _. ⌜ now (table .exit) ≡ (reply display (fedOf (now (script .entry)) d n g tally (now (table .entry)) count name
+        (now (sheet .entry)))) .lent .table .words ⌝ }
 {
     let mut code = [0u32; 4096];
     resolving::resolve(script, name as usize, &mut code);
@@ -69,9 +72,12 @@ pub fn call(
     name: u16,
     sheet: &mut [i32],
 ) -> [u64; 9]
-    ensures { λ r. ⌜ r ≡ answerWords ((reply display (fedOf (now (script .entry)) d n g tally (now (table .entry)) count name (now (sheet .entry)))) .answer) ⌝ }
-    ensures { λ _. ⌜ now (sheet .exit) ≡ (reply display (fedOf (now (script .entry)) d n g tally (now (table .entry)) count name (now (sheet .entry)))) .lent .sheet ⌝ }
-    ensures { λ _. ⌜ now (table .exit) ≡ (reply display (fedOf (now (script .entry)) d n g tally (now (table .entry)) count name (now (sheet .entry)))) .lent .table .words ⌝ }
+    ensures { λ r. ⌜ r ≡ answerWords ((reply display (fedOf (now (script .entry)) d n g tally (now (table .entry)) count name
+        (now (sheet .entry)))) .answer) ⌝ }
+    ensures { λ _. ⌜ now (sheet .exit) ≡ (reply display (fedOf (now (script .entry)) d n g tally (now (table .entry)) count name
+        (now (sheet .entry)))) .lent .sheet ⌝ }
+    ensures { λ _. ⌜ now (table .exit) ≡ (reply display (fedOf (now (script .entry)) d n g tally (now (table .entry)) count name
+        (now (sheet .entry)))) .lent .table .words ⌝ }
 {
     match admission::admit(
         script,
