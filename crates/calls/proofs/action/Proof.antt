@@ -11,6 +11,22 @@ use borrow.Author.Needs.{needs}
 use Rattle.calls.proofs.action.Statement.{statement}
 use Rattle.calls.proofs.action.Tie as tie
 
+-- the places: the start, from each test of the mark that has failed
+abbrev startOf : tie.Else1 → tie.Start
+startOf c = c .before .before .before
+
+abbrev notGO : tie.Else2 → tie.Start
+notGO c = startOf (c .before)
+
+abbrev notIF : tie.Else3 → tie.Start
+notIF c = notGO (c .before)
+
+abbrev notKN : tie.Else4 → tie.Start
+notKN c = notIF (c .before)
+
+abbrev notAR : tie.Else5 → tie.Start
+notAR c = notKN (c .before)
+
 call-requires : tie.Need-call-requires
 call-requires c κs = search needs
 
@@ -35,7 +51,7 @@ uses-requires c κs = search needs
 returns-2 : tie.Need-returns-2
 unfolding shapeOf judgedAs kindOf
 returns-2 c =
-    let st = c .before .before .before .before .before .before in
+    let st = startOf (c .before .before .before) in
     let a = st .args in
     let sc = scopeOf (a .script .now) (drop (a .top) (a .entries .now)) in
     shaped (a .script .now) sc (a .at) (a .mark) isGO _ (st .pre .2) (ap shapeOf (c .before .before .if2 .taken))
@@ -53,7 +69,7 @@ both-requires c κs = search needs
 returns-3 : tie.Need-returns-3
 unfolding shapeOf judgedAs kindOf
 returns-3 c =
-    let st = c .before .before .before .before .before .before in
+    let st = notGO (c .before .before) in
     let a = st .args in
     let sc = scopeOf (a .script .now) (drop (a .top) (a .entries .now)) in
     shaped (a .script .now) sc (a .at) (a .mark) isIF _ (st .pre .2) (ap shapeOf (c .before .if3 .taken))
@@ -71,7 +87,7 @@ uses-requires-2 c κs = search needs
 returns-4 : tie.Need-returns-4
 unfolding shapeOf judgedAs kindOf
 returns-4 c =
-    let st = c .before .before .before .before .before .before .before .before in
+    let st = notIF (c .before .before .before) in
     let a = st .args in
     let sc = scopeOf (a .script .now) (drop (a .top) (a .entries .now)) in
     shaped (a .script .now) sc (a .at) (a .mark) isKN _ (st .pre .2) (ap shapeOf (c .before .before .if4 .taken))
@@ -92,7 +108,7 @@ three-requires c κs = search needs
 returns-5 : tie.Need-returns-5
 unfolding shapeOf judgedAs kindOf
 returns-5 c =
-    let st = c .before .before .before .before .before .before .before .before in
+    let st = notKN (c .before .before) in
     let a = st .args in
     let sc = scopeOf (a .script .now) (drop (a .top) (a .entries .now)) in
     shaped (a .script .now) sc (a .at) (a .mark) isAR _ (st .pre .2) (ap shapeOf (c .before .if5 .taken))
@@ -113,7 +129,7 @@ three-requires-2 c κs = search needs
 returns-6 : tie.Need-returns-6
 unfolding shapeOf judgedAs kindOf
 returns-6 c =
-    let st = c .before .before .before .before .before .before .before .before .before in
+    let st = notAR (c .before .before) in
     let a = st .args in
     let sc = scopeOf (a .script .now) (drop (a .top) (a .entries .now)) in
     shaped (a .script .now) sc (a .at) (a .mark) isQY _ (st .pre .2) (ap shapeOf (c .before .if6 .taken))
@@ -131,10 +147,14 @@ both-requires-2 c κs = search needs
 returns-7 : tie.Need-returns-7
 unfolding shapeOf judgedAs kindOf
 returns-7 c =
-    let st = c .before .before .before .before .before .before .before .before .before in
+    let e₅ = c .before .before in
+    let e₃ = e₅ .before .before in
+    let e₁ = e₃ .before .before in
+    let st = startOf e₁ in
     let a = st .args in
     let sc = scopeOf (a .script .now) (drop (a .top) (a .entries .now)) in
-    shaped (a .script .now) sc (a .at) (a .mark) isTwo _ (st .pre .2) (shape-two (a .mark) (c .before .before .before .before .before .before .if1 .left) (c .before .before .before .before .before .if2 .left) (c .before .before .before .before .if3 .left) (c .before .before .before .if4 .left) (c .before .before .if5 .left) (c .before .if6 .left))
+    shaped (a .script .now) sc (a .at) (a .mark) isTwo _ (st .pre .2)
+    (shape-two (a .mark) (e₁ .if1 .left) (e₃ .before .if2 .left) (e₃ .if3 .left) (e₅ .before .if4 .left) (e₅ .if5 .left) (c .before .if6 .left))
     (c .both2 .ensures)
 
 pub action-spec : {M : Type 1} → statement M

@@ -11,6 +11,19 @@ use borrow.Author.Needs.{needs}
 use Rattle.declaring.proofs.declare.Statement.{statement}
 use Rattle.declaring.proofs.declare.Tie as tie
 
+-- the places: the start, the declarations' offsets noted, the statements' offsets noted, the declared names pushed
+abbrev startOf : tie.After-places-arg → tie.Start
+startOf c = c .before .before .before .before
+
+abbrev placesOf : tie.After-note-statements-arg2 → tie.After-places
+placesOf c = c .before .before .before .before
+
+abbrev notedOf : tie.After-push-decls-arg2 → tie.After-note-statements
+notedOf c = c .before .before .before .before
+
+abbrev declaredOf : tie.After-push-formals-arg → tie.After-push-decls
+declaredOf c = c .before .before .before
+
 mul-places : tie.Need-mul-places
 mul-places c = search needs
 
@@ -43,11 +56,15 @@ same-length-2 c = search needs
 
 returns : tie.Need-returns
 returns c =
-    let pf = c .before .before .push-formals in
-    let pd = c .before .before .before .before .before .before .push-decls in
-    let p₂ = c .before .before .before .before .before .before .before .before .before .before .before .note-statements in
-    let p₁ = c .before .before .before .before .before .before .before .before .before .before .before .before .before .before .before .before .places in
-    let st = c .before .before .before .before .before .before .before .before .before .before .before .before .before .before .before .before .before .before .before .before .before .before in
+    let formals = c .before .before in
+    let declared = declaredOf (formals .before) in
+    let noted = notedOf (declared .before) in
+    let placed = placesOf (noted .before) in
+    let pf = formals .push-formals in
+    let pd = declared .push-decls in
+    let p₂ = noted .note-statements in
+    let p₁ = placed .places in
+    let st = startOf (placed .before .before) in
     let a = st .args in
     let long₁ : 2048 ≤ length (p₁ .last .1 .1 .0) = omega (arith, p₁ .kept .1 .1 .0, st .pre .9) in
     let long₂ : 2048 ≤ length (p₂ .last .1 .1 .0) = omega (arith, p₂ .kept .1 .1 .0, long₁) in

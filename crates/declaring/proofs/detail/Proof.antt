@@ -9,6 +9,10 @@ use borrow.Author.Needs.{needs}
 use Rattle.declaring.proofs.detail.Statement.{statement}
 use Rattle.declaring.proofs.detail.Tie as tie
 
+-- the places: the start, from the mark read
+abbrev startOf : tie.After-word → tie.Start
+startOf c = c .before .before .before
+
 word-requires : tie.Need-word-requires
 word-requires c κs = search needs
 
@@ -35,9 +39,11 @@ add-result-3 c = search needs
 
 returns : tie.Need-returns
 returns c =
-    let a = c .before .before .before .before .before .args in (
-      detail-PR (a .script .now) (a .starts .now) (a .d) (a .at) (c .word2 .result) (sym (c .before .before .word .ensures .0) ∙ c .before .if1 .taken) (c .word2 .ensures .0),
-      omega (arith, c .word2 .ensures .1, c .before .before .before .before .before .pre .0),
+    let w = c .before .before in
+    let st = startOf w in
+    let a = st .args in (
+      detail-PR (a .script .now) (a .starts .now) (a .d) (a .at) (c .word2 .result) (sym (w .word .ensures .0) ∙ c .before .if1 .taken) (c .word2 .ensures .0),
+      omega (arith, c .word2 .ensures .1, st .pre .0),
     )
 
 sub-start-of : tie.Need-sub-start-of
@@ -63,17 +69,20 @@ add-result-4 c = search needs
 
 returns-2 : tie.Need-returns-2
 returns-2 c =
-    let a = c .before .before .before .before .before .before .before .args in
+    let w = c .before .before .before .before in
+    let st = startOf w in
+    let a = st .args in
     let e : getD (a .starts .now) (a .d - 1 + c .before .word3 .result) 0 ≡ c .start-of .result = sym (c .start-of .ensures .0) in (
       subst (λ (x : ℕ). Detailed (a .script .now) (a .starts .now) (a .d) (a .at) (64 + 65536 * (x / 2))) e
-          (detail-LB (a .script .now) (a .starts .now) (a .d) (a .at) (c .before .word3 .result) (c .before .before .before .before .before .before .before .pre .1) (sym (c .before .before .before .before .word .ensures .0) ∙ c .before .before .if2 .taken) (c .before .word3 .ensures .0)),
+          (detail-LB (a .script .now) (a .starts .now) (a .d) (a .at) (c .before .word3 .result) (st .pre .1) (sym (w .word .ensures .0) ∙ c .before .before .if2 .taken) (c .before .word3 .ensures .0)),
       omega (arith, c .start-of .ensures .1),
     )
 
 returns-3 : tie.Need-returns-3
 returns-3 c =
-    let a = c .before .before .before .before .before .args in
-    let q = c .before .before .word .ensures .0 in (
+    let w = c .before .before in
+    let a = startOf w .args in
+    let q = w .word .ensures .0 in (
       detail-VR (a .script .now) (a .starts .now) (a .d) (a .at) (λ m. c .before .if1 .left (q ∙ m)) (λ m. c .if2 .left (q ∙ m)),
       omega arith,
     )

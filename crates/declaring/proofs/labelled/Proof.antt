@@ -18,6 +18,13 @@ Inv-loop script starts d i₀ i = (i ≤ d) × ((k : ℕ) → k < i → wordAt s
 abbrev μ-loop : tie.MeasureT-loop
 μ-loop script starts d i₀ i = d - i
 
+-- the places: the start, and the turn of a mark read
+abbrev startOf : tie.In-loop Inv-loop μ-loop → tie.Start Inv-loop μ-loop
+startOf c = c .before .before .before .before
+
+abbrev turnOf : tie.After-word Inv-loop μ-loop → tie.In-loop Inv-loop μ-loop
+turnOf c = c .before .before
+
 loop-holds : tie.Need-loop-holds Inv-loop μ-loop
 loop-holds c = (omega arith, λ k l. absurd (omega arith))
 
@@ -38,10 +45,12 @@ loop-less c = search needs
 
 loop-again : tie.Need-loop-again Inv-loop μ-loop
 loop-again c =
-    let l = c .before .before .before .before .loop in
-    let a = c .before .before .before .before .before .before .before .args in (
-      omega (arith, c .before .before .before .loop-test .taken),
-      below-more _ (l .i) (l .inv .1) (λ m. c .if1 .left (c .before .word .ensures .0 ∙ ap (wordAt (a .script .now)) (c .before .before .start-of .ensures .0) ∙ m)),
+    let w = c .before in
+    let turn = turnOf w in
+    let l = turn .before .loop in
+    let a = startOf turn .args in (
+      omega (arith, turn .loop-test .taken),
+      below-more _ (l .i) (l .inv .1) (λ m. c .if1 .left (w .word .ensures .0 ∙ ap (wordAt (a .script .now)) (w .before .start-of .ensures .0) ∙ m)),
     )
 
 returns-2 : tie.Need-returns-2 Inv-loop μ-loop

@@ -4,6 +4,10 @@ use borrow.Author.Needs.{needs}
 use Rattle.declaring.proofs.note_statements.Statement.{statement}
 use Rattle.declaring.proofs.note_statements.Tie as tie
 
+-- the places: the start, from the labels looked for
+abbrev startOf : tie.After-labelled → tie.Start
+startOf c = c .before .before .before .before
+
 labelled-requires : tie.Need-labelled-requires
 labelled-requires c κs = search needs
 
@@ -20,7 +24,7 @@ same-length-2 : tie.Need-same-length-2
 same-length-2 c = search needs
 
 returns-2 : tie.Need-returns-2
-returns-2 c = (λ k l m. absurd (c .before .labelled .ensures (c .if1 .left) k l m), (refl, c .before .before .before .before .before .pre .4))
+returns-2 c = (λ k l m. absurd (c .before .labelled .ensures (c .if1 .left) k l m), (refl, startOf (c .before) .pre .4))
 
 pub note-statements-spec : {M : Type 1} → statement M
 note-statements-spec =

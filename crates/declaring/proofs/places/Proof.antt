@@ -26,6 +26,13 @@ Inv-loop script ends₀ starts₀ at count base here₀ i₀ ends starts here i 
 abbrev μ-loop : tie.MeasureT-loop
 μ-loop script ends₀ starts₀ at count base here₀ i₀ ends starts here i = count - i
 
+-- the places: the start, and the turn of a record skipped
+abbrev startOf : tie.At-loop Inv-loop μ-loop → tie.Start Inv-loop μ-loop
+startOf c = c .before .before .before
+
+abbrev turnOf : tie.After-skip Inv-loop μ-loop → tie.In-loop Inv-loop μ-loop
+turnOf c = c .before .before .before
+
 loop-holds : tie.Need-loop-holds Inv-loop μ-loop
 loop-holds c =
     let st = c .before .before in
@@ -69,15 +76,16 @@ loop-less c = search needs
 loop-again : tie.Need-loop-again Inv-loop μ-loop
 loop-again c =
     let s = c .skip in
-    let l = c .before .before .before .before .loop in
-    let st = c .before .before .before .before .before .before .before in
+    let turn = turnOf c in
+    let l = turn .before .loop in
+    let st = startOf (turn .before) in
     let a = st .args in (
-      omega (arith, c .before .before .before .loop-test .taken),
+      omega (arith, turn .loop-test .taken),
       omega (arith, s .ensures .0 .after, l .inv .1),
       omega (arith, s .ensures .0 .close, l .inv .2, st .pre .0),
       length-set (l .starts) (a .base + l .i) (l .here) ∙ l .inv .3,
       take-set-le (a .base) (l .starts) (a .base + l .i) (l .here) (omega arith) ∙ l .inv .4,
-      λ xs n h. passing-step (a .script .now) (l .starts) (a .base) (a .at) (l .here) (l .i) (a .count) xs (omega (arith, c .before .before .if1 .left)) (c .before .before .before .loop-test .taken)
+      λ xs n h. passing-step (a .script .now) (l .starts) (a .base) (a .at) (l .here) (l .i) (a .count) xs (omega (arith, c .before .before .if1 .left)) (turn .loop-test .taken)
           (s .result) (s .ensures .0) (l .inv .5 xs n h),
       s .ensures .1,
     )
@@ -88,7 +96,7 @@ same-length-2 c = c .before .loop .inv .3
 returns-2 : tie.Need-returns-2 Inv-loop μ-loop
 returns-2 c =
     let l = c .before .loop in
-    let a = c .before .before .before .before .args in (
+    let a = startOf (c .before) .args in (
       λ xs n h fits. passing-end (a .script .now) (l .starts) (a .base) (a .at) (l .here) (l .i) (a .count) xs (omega (arith, c .loop-test .left, l .inv .0)) (l .inv .5 xs n h),
       (l .inv .4, ((l .inv .1, l .inv .2), l .inv .6)),
     )

@@ -29,6 +29,13 @@ Inv-loop script entries₀ starts d base level count i₀ entries i =
 abbrev μ-loop : tie.MeasureT-loop
 μ-loop script entries₀ starts d base level count i₀ entries i = d - i
 
+-- the places: the start, and the turn of a name read
+abbrev startOf : tie.At-loop Inv-loop μ-loop → tie.Start Inv-loop μ-loop
+startOf c = c .before .before .before .before
+
+abbrev turnOf : tie.After-word Inv-loop μ-loop → tie.In-loop Inv-loop μ-loop
+turnOf c = c .before .before .before
+
 loop-holds : tie.Need-loop-holds Inv-loop μ-loop
 loop-holds c =
     let a = c .before .before .before .args in (
@@ -86,16 +93,17 @@ loop-less c = search needs
 
 loop-again : tie.Need-loop-again Inv-loop μ-loop
 loop-again c =
-    let l = c .before .before .before .before .loop in
-    let st = c .before .before .before .before .before .before .before .before in
+    let turn = turnOf c in
+    let l = turn .before .loop in
+    let st = startOf (turn .before) in
     let a = st .args in
     let v = c .word .result + 65536 * (a .count + l .i + 256 * a .level + c .before .detail .result) in (
-      omega (arith, c .before .before .before .loop-test .taken),
+      omega (arith, turn .loop-test .taken),
       length-set (l .entries) (a .base + l .i) v ∙ l .inv .1,
       kept-step (l .entries) (a .entries .now) (a .base) (l .i) v (l .inv .2),
       take-set-le (a .base) (l .entries) (a .base + l .i) v (omega arith) ∙ l .inv .3,
       λ b ds k at n h f t s. declaring-step (a .script .now) (a .starts .now) (l .entries) (a .base) (a .d) (a .level) (a .count) b ds k (l .i)
-          (omega (arith, l .inv .1, st .pre .3, c .before .before .before .loop-test .taken)) (c .before .before .before .loop-test .taken) s (c .before .before .start-of .result) (c .word .result) (c .before .detail .result)
+          (omega (arith, l .inv .1, st .pre .3, turn .loop-test .taken)) (turn .loop-test .taken) s (c .before .before .start-of .result) (c .word .result) (c .before .detail .result)
           (c .before .before .start-of .ensures .0) (c .word .ensures .0) (c .before .detail .ensures .0) (l .inv .4 b ds k at n h f t s),
     )
 
@@ -105,7 +113,7 @@ same-length c = c .before .loop .inv .1
 returns : tie.Need-returns Inv-loop μ-loop
 returns c =
     let l = c .before .loop in
-    let a = c .before .before .before .before .before .args in
+    let a = startOf (c .before) .args in
     let e : l .i ≡ a .d = omega (arith, c .loop-test .left, l .inv .0) in (
       λ b ds k at n h f t s. declaring-end (a .script .now) (a .starts .now) (l .entries) (a .base) (a .d) (a .level) (a .count) b ds k (l .i) e (l .inv .4 b ds k at n h f t s),
       (rw e at (l .inv .2), l .inv .3),

@@ -25,6 +25,13 @@ Inv-loop script entries₀ at count base level i₀ entries i =
 abbrev μ-loop : tie.MeasureT-loop
 μ-loop script entries₀ at count base level i₀ entries i = count - i
 
+-- the places: the start, and the turn of a formal read
+abbrev startOf : tie.At-loop Inv-loop μ-loop → tie.Start Inv-loop μ-loop
+startOf c = c .before .before .before
+
+abbrev turnOf : tie.After-word2 Inv-loop μ-loop → tie.In-loop Inv-loop μ-loop
+turnOf c = c .before .before
+
 loop-holds : tie.Need-loop-holds Inv-loop μ-loop
 loop-holds c =
     let a = c .before .before .args in (
@@ -91,16 +98,17 @@ loop-less c = search needs
 
 loop-again : tie.Need-loop-again Inv-loop μ-loop
 loop-again c =
-    let l = c .before .before .before .loop in
-    let st = c .before .before .before .before .before .before in
+    let turn = turnOf c in
+    let l = turn .before .loop in
+    let st = startOf (turn .before) in
     let a = st .args in
     let v = c .word2 .result + 65536 * (l .i + 32 + 64 * c .before .word .result + 256 * a .level) in (
-      omega (arith, c .before .before .loop-test .taken),
+      omega (arith, turn .loop-test .taken),
       length-set (l .entries) (a .base + l .i) v ∙ l .inv .1,
       kept-step (l .entries) (a .entries .now) (a .base) (l .i) v (l .inv .2),
       take-set-le (a .base) (l .entries) (a .base + l .i) v (omega arith) ∙ l .inv .3,
       λ fs n h. naming-step (a .script .now) (l .entries) (a .base) (a .at) (l .i) (a .count) (a .level) fs
-          (omega (arith, l .inv .1, st .pre .3, c .before .before .loop-test .taken)) (c .before .before .loop-test .taken) (c .word2 .result) (c .before .word .result)
+          (omega (arith, l .inv .1, st .pre .3, turn .loop-test .taken)) (turn .loop-test .taken) (c .word2 .result) (c .before .word .result)
           (c .word2 .ensures .0) (c .before .word .ensures .0) (l .inv .4 fs n h),
     )
 
@@ -110,7 +118,7 @@ same-length c = c .before .loop .inv .1
 returns : tie.Need-returns Inv-loop μ-loop
 returns c =
     let l = c .before .loop in
-    let a = c .before .before .before .before .args in
+    let a = startOf (c .before) .args in
     let e : l .i ≡ a .count = omega (arith, c .loop-test .left, l .inv .0) in (
       λ fs n h. naming-end (a .script .now) (l .entries) (a .base) (a .at) (l .i) (a .count) (a .level) fs e (l .inv .4 fs n h),
       (rw e at (l .inv .2), l .inv .3),

@@ -14,6 +14,13 @@ Inv-loop script entries top code₀ at count i₀ code i = (i ≤ count) × (len
 abbrev μ-loop : tie.MeasureT-loop
 μ-loop script entries top code₀ at count i₀ code i = count - i
 
+-- the places: the start, and the turn of an argument written
+abbrev startOf : tie.At-loop Inv-loop μ-loop → tie.Start Inv-loop μ-loop
+startOf c = c .before .before .before .before
+
+abbrev turnOf : tie.After-put Inv-loop μ-loop → tie.In-loop Inv-loop μ-loop
+turnOf c = c .before .before .before
+
 loop-holds : tie.Need-loop-holds Inv-loop μ-loop
 loop-holds c = let a = c .before .before .before .args in (omega arith, refl, arguing-start (a .script .now) (drop (a .top) (a .entries .now)) (a .at) (a .count) (a .code .now))
 
@@ -43,12 +50,15 @@ loop-less c = search needs
 
 loop-again : tie.Need-loop-again Inv-loop μ-loop
 loop-again c =
-    let a = c .before .before .before .before .before .before .before .before .before .before .args in
-    let l = c .before .before .before .before .before .before .loop in (
-      omega (arith, c .before .before .before .before .before .loop-test .taken),
-      c .before .before .put .kept .0 ∙ l .inv .1,
-      arguing-step (a .script .now) (drop (a .top) (a .entries .now)) (a .at) (a .count) (a .code .now) (l .code) (c .before .before .put .last .0) (l .i)
-          (c .before .before .before .used .result) (c .before .before .before .before .before .loop-test .taken) (c .before .before .before .used .ensures .0) (c .before .before .put .ensures) (l .inv .2),
+    let p = c .before .before in
+    let u = p .before in
+    let turn = turnOf p in
+    let a = startOf (turn .before) .args in
+    let l = turn .before .loop in (
+      omega (arith, turn .loop-test .taken),
+      p .put .kept .0 ∙ l .inv .1,
+      arguing-step (a .script .now) (drop (a .top) (a .entries .now)) (a .at) (a .count) (a .code .now) (l .code) (p .put .last .0) (l .i)
+          (u .used .result) (turn .loop-test .taken) (u .used .ensures .0) (p .put .ensures) (l .inv .2),
     )
 
 same-length : tie.Need-same-length Inv-loop μ-loop
@@ -56,7 +66,7 @@ same-length c = search needs
 
 returns : tie.Need-returns Inv-loop μ-loop
 returns c =
-    let a = c .before .before .before .before .before .args in
+    let a = startOf (c .before) .args in
     let l = c .before .loop in
     λ s. arguing-end (a .script .now) (drop (a .top) (a .entries .now)) (a .at) (a .count) (a .code .now) (l .code) (l .i) (omega (arith, c .loop-test .left)) (l .inv .2) s
 

@@ -8,6 +8,28 @@ use borrow.Author.Needs.{needs}
 use Rattle.emitting.proofs.emit.Statement.{statement}
 use Rattle.emitting.proofs.emit.Tie as tie
 
+-- the places: the start, from each test of the mark that has failed
+abbrev startOf : tie.After-slice-known → tie.Start
+startOf c = c .before .before .before
+
+abbrev notAR : tie.Else1 → tie.Start
+notAR c = startOf (c .before)
+
+abbrev notIF : tie.Else2 → tie.Start
+notIF c = notAR (c .before)
+
+abbrev notKN : tie.Else3 → tie.Start
+notKN c = notIF (c .before)
+
+abbrev notCL : tie.Else4 → tie.Start
+notCL c = notKN (c .before)
+
+abbrev notGO : tie.Else5 → tie.Start
+notGO c = notCL (c .before)
+
+abbrev notAD : tie.Else6 → tie.Start
+notAD c = notGO (c .before)
+
 emit-ar-requires : tie.Need-emit-ar-requires
 emit-ar-requires c κs = search needs
 
@@ -17,10 +39,12 @@ same-length c = search needs
 returns : tie.Need-returns
 unfolding emittedAs
 returns c =
-    let st = c .before .before .before .before .before .before .before .before in
+    let r = c .before .before in
+    let t = r .before .before in
+    let st = startOf (t .before) in
     let a = st .args in
     emit-by (a .script .now) (drop (a .top) (a .entries .now)) (a .at) (a .code .now) _ (arWords (a .script .now) (drop (a .top) (a .entries .now)) (a .at))
-    (ap (λ (m : ℕ). emittedAs m (a .script .now) (drop (a .top) (a .entries .now)) (a .at)) (sym (st .pre .2) ∙ c .before .before .before .before .if1 .taken)) (c .before .before .emit-ar .ensures)
+    (ap (λ (m : ℕ). emittedAs m (a .script .now) (drop (a .top) (a .entries .now)) (a .at)) (sym (st .pre .2) ∙ t .if1 .taken)) (r .emit-ar .ensures)
 
 emit-if-requires : tie.Need-emit-if-requires
 emit-if-requires c κs = search needs
@@ -31,10 +55,12 @@ same-length-2 c = search needs
 returns-2 : tie.Need-returns-2
 unfolding emittedAs
 returns-2 c =
-    let st = c .before .before .before .before .before .before .before .before .before in
+    let r = c .before .before in
+    let t = r .before .before in
+    let st = notAR (t .before) in
     let a = st .args in
     emit-by (a .script .now) (drop (a .top) (a .entries .now)) (a .at) (a .code .now) _ (ifWords (a .script .now) (drop (a .top) (a .entries .now)) (a .at))
-    (ap (λ (m : ℕ). emittedAs m (a .script .now) (drop (a .top) (a .entries .now)) (a .at)) (sym (st .pre .2) ∙ c .before .before .before .before .if2 .taken)) (c .before .before .emit-if .ensures)
+    (ap (λ (m : ℕ). emittedAs m (a .script .now) (drop (a .top) (a .entries .now)) (a .at)) (sym (st .pre .2) ∙ t .if2 .taken)) (r .emit-if .ensures)
 
 emit-kn-requires : tie.Need-emit-kn-requires
 emit-kn-requires c κs = search needs
@@ -45,10 +71,12 @@ same-length-3 c = search needs
 returns-3 : tie.Need-returns-3
 unfolding emittedAs
 returns-3 c =
-    let st = c .before .before .before .before .before .before .before .before .before .before in
+    let r = c .before .before in
+    let t = r .before .before in
+    let st = notIF (t .before) in
     let a = st .args in
     emit-by (a .script .now) (drop (a .top) (a .entries .now)) (a .at) (a .code .now) _ (knWords (a .script .now) (drop (a .top) (a .entries .now)) (a .at))
-    (ap (λ (m : ℕ). emittedAs m (a .script .now) (drop (a .top) (a .entries .now)) (a .at)) (sym (st .pre .2) ∙ c .before .before .before .before .if3 .taken)) (c .before .before .emit-kn .ensures)
+    (ap (λ (m : ℕ). emittedAs m (a .script .now) (drop (a .top) (a .entries .now)) (a .at)) (sym (st .pre .2) ∙ t .if3 .taken)) (r .emit-kn .ensures)
 
 emit-cl-requires : tie.Need-emit-cl-requires
 emit-cl-requires c κs = search needs
@@ -59,10 +87,12 @@ same-length-4 c = search needs
 returns-4 : tie.Need-returns-4
 unfolding emittedAs
 returns-4 c =
-    let st = c .before .before .before .before .before .before .before .before .before .before .before in
+    let r = c .before .before in
+    let t = r .before .before in
+    let st = notKN (t .before) in
     let a = st .args in
     emit-by (a .script .now) (drop (a .top) (a .entries .now)) (a .at) (a .code .now) _ (clWords (a .script .now) (drop (a .top) (a .entries .now)) (a .at))
-    (ap (λ (m : ℕ). emittedAs m (a .script .now) (drop (a .top) (a .entries .now)) (a .at)) (sym (st .pre .2) ∙ c .before .before .before .before .if4 .taken)) (c .before .before .emit-cl .ensures)
+    (ap (λ (m : ℕ). emittedAs m (a .script .now) (drop (a .top) (a .entries .now)) (a .at)) (sym (st .pre .2) ∙ t .if4 .taken)) (r .emit-cl .ensures)
 
 emit-go-requires : tie.Need-emit-go-requires
 emit-go-requires c κs = search needs
@@ -73,10 +103,12 @@ same-length-5 c = search needs
 returns-5 : tie.Need-returns-5
 unfolding emittedAs
 returns-5 c =
-    let st = c .before .before .before .before .before .before .before .before .before .before .before .before in
+    let r = c .before .before in
+    let t = r .before .before in
+    let st = notCL (t .before) in
     let a = st .args in
     emit-by (a .script .now) (drop (a .top) (a .entries .now)) (a .at) (a .code .now) _ (goWords (a .script .now) (drop (a .top) (a .entries .now)) (a .at))
-    (ap (λ (m : ℕ). emittedAs m (a .script .now) (drop (a .top) (a .entries .now)) (a .at)) (sym (st .pre .2) ∙ c .before .before .before .before .if5 .taken)) (c .before .before .emit-go .ensures)
+    (ap (λ (m : ℕ). emittedAs m (a .script .now) (drop (a .top) (a .entries .now)) (a .at)) (sym (st .pre .2) ∙ t .if5 .taken)) (r .emit-go .ensures)
 
 emit-pair-requires : tie.Need-emit-pair-requires
 emit-pair-requires c κs = search needs
@@ -87,10 +119,12 @@ same-length-6 c = search needs
 returns-6 : tie.Need-returns-6
 unfolding emittedAs
 returns-6 c =
-    let st = c .before .before .before .before .before .before .before .before .before .before .before .before .before in
+    let r = c .before .before in
+    let t = r .before .before in
+    let st = notGO (t .before) in
     let a = st .args in
     emit-by (a .script .now) (drop (a .top) (a .entries .now)) (a .at) (a .code .now) _ (pairWords 8 (a .script .now) (drop (a .top) (a .entries .now)) (a .at))
-    (ap (λ (m : ℕ). emittedAs m (a .script .now) (drop (a .top) (a .entries .now)) (a .at)) (sym (st .pre .2) ∙ c .before .before .before .before .if6 .taken)) (c .before .before .emit-pair .ensures)
+    (ap (λ (m : ℕ). emittedAs m (a .script .now) (drop (a .top) (a .entries .now)) (a .at)) (sym (st .pre .2) ∙ t .if6 .taken)) (r .emit-pair .ensures)
 
 emit-pair-requires-2 : tie.Need-emit-pair-requires-2
 emit-pair-requires-2 c κs = search needs
@@ -101,10 +135,12 @@ same-length-7 c = search needs
 returns-7 : tie.Need-returns-7
 unfolding emittedAs
 returns-7 c =
-    let st = c .before .before .before .before .before .before .before .before .before .before .before .before .before .before in
+    let r = c .before .before in
+    let t = r .before .before in
+    let st = notAD (t .before) in
     let a = st .args in
     emit-by (a .script .now) (drop (a .top) (a .entries .now)) (a .at) (a .code .now) _ (pairWords 9 (a .script .now) (drop (a .top) (a .entries .now)) (a .at))
-    (ap (λ (m : ℕ). emittedAs m (a .script .now) (drop (a .top) (a .entries .now)) (a .at)) (sym (st .pre .2) ∙ c .before .before .before .before .if7 .taken)) (c .before .before .emit-pair2 .ensures)
+    (ap (λ (m : ℕ). emittedAs m (a .script .now) (drop (a .top) (a .entries .now)) (a .at)) (sym (st .pre .2) ∙ t .if7 .taken)) (r .emit-pair2 .ensures)
 
 emit-qy-requires : tie.Need-emit-qy-requires
 emit-qy-requires c κs = search needs
@@ -115,12 +151,17 @@ same-length-8 c = search needs
 returns-8 : tie.Need-returns-8
 unfolding emittedAs
 returns-8 c =
-    let st = c .before .before .before .before .before .before .before .before .before .before .before .before .before .before in
+    let r = c .before .before in
+    let e₇ = r .before .before in
+    let e₅ = e₇ .before .before in
+    let e₃ = e₅ .before .before in
+    let e₁ = e₃ .before .before in
+    let st = notAR e₁ in
     let a = st .args in
     emit-by (a .script .now) (drop (a .top) (a .entries .now)) (a .at) (a .code .now) _ (qyWords (a .script .now) (drop (a .top) (a .entries .now)) (a .at))
     (ap (λ (m : ℕ). emittedAs m (a .script .now) (drop (a .top) (a .entries .now)) (a .at)) (sym (st .pre .2))
-    ∙ emit-other (a .script .now) (drop (a .top) (a .entries .now)) (a .at) (a .code .now) (a .code .now) (a .mark) (c .before .before .before .before .before .before .before .before .before .before .if1 .left) (c .before .before .before .before .before .before .before .before .before .if2 .left) (c .before .before .before .before .before .before .before .before .if3 .left)
-    (c .before .before .before .before .before .before .before .if4 .left) (c .before .before .before .before .before .before .if5 .left) (c .before .before .before .before .before .if6 .left) (c .before .before .before .before .if7 .left)) (c .before .before .emit-qy .ensures)
+    ∙ emit-other (a .script .now) (drop (a .top) (a .entries .now)) (a .at) (a .code .now) (a .code .now) (a .mark) (e₁ .if1 .left) (e₃ .before .if2 .left) (e₃ .if3 .left)
+    (e₅ .before .if4 .left) (e₅ .if5 .left) (e₇ .before .if6 .left) (e₇ .if7 .left)) (r .emit-qy .ensures)
 
 pub emit-spec : {M : Type 1} → statement M
 emit-spec =

@@ -5,6 +5,16 @@ use borrow.Author.Needs.{needs}
 use Rattle.emitting.proofs.emit_ar.Statement.{statement}
 use Rattle.emitting.proofs.emit_ar.Tie as tie
 
+-- the places: the start, the operation read, the kinds of names told
+abbrev startOf : tie.After-used → tie.Start
+startOf c = c .before .before .before .before
+
+abbrev wordOf : tie.After-formal → tie.After-word
+wordOf c = c .before .before .before
+
+abbrev formalOf : tie.After-operation → tie.After-formal
+formalOf c = c .before .before .before
+
 add-used : tie.Need-add-used
 add-used c = search needs
 
@@ -58,11 +68,20 @@ same-length c = search needs
 
 returns : tie.Need-returns
 returns c =
-    let a = c .before .before .before .before .before .before .before .before .before .before .before .before .before .before .before .args in
-    λ s. ar-grown (a .script .now) (drop (a .top) (a .entries .now)) (a .at) (a .code .now) (c .before .before .put-five .last .0) s (c .before .before .before .before .before .before .before .before .before .before .before .used .result) (c .before .before .before .before .before .before .before .before .before .before .word .result)
-    (c .before .before .before .before .before .before .before .before .before .used2 .result) (c .before .before .before .before .before .before .before .before .used3 .result) (c .before .before .before .before .before .before .before .formal .result) (c .before .before .before .before .before .before .formal2 .result) (c .before .before .before .before .before .formal3 .result) (c .before .before .before .before .operation .result)
-    (c .before .before .before .before .before .before .before .before .before .before .before .used .ensures .0) (c .before .before .before .before .before .before .before .before .before .before .word .ensures .0) (c .before .before .before .before .before .before .before .before .before .before .word .ensures .1) (c .before .before .before .before .before .before .before .before .before .used2 .ensures .0) (c .before .before .before .before .before .before .before .before .used3 .ensures .0)
-    (c .before .before .before .before .before .before .before .formal .ensures .0) (c .before .before .before .before .before .before .formal2 .ensures .0) (c .before .before .before .before .before .formal3 .ensures .0) (c .before .before .before .before .operation .ensures) (c .before .before .put-five .ensures)
+    let p = c .before .before in
+    let o = p .before .before in
+    let f₃ = o .before in
+    let f₂ = f₃ .before in
+    let f = formalOf o in
+    let u₃ = f .before in
+    let u₂ = u₃ .before in
+    let w = wordOf f in
+    let u = w .before in
+    let a = startOf u .args in
+    λ s. ar-grown (a .script .now) (drop (a .top) (a .entries .now)) (a .at) (a .code .now) (p .put-five .last .0) s (u .used .result) (w .word .result)
+    (u₂ .used2 .result) (u₃ .used3 .result) (f .formal .result) (f₂ .formal2 .result) (f₃ .formal3 .result) (o .operation .result)
+    (u .used .ensures .0) (w .word .ensures .0) (w .word .ensures .1) (u₂ .used2 .ensures .0) (u₃ .used3 .ensures .0)
+    (f .formal .ensures .0) (f₂ .formal2 .ensures .0) (f₃ .formal3 .ensures .0) (o .operation .ensures) (p .put-five .ensures)
 
 pub emit-ar-spec : {M : Type 1} → statement M
 emit-ar-spec =

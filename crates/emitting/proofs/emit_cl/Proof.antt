@@ -5,6 +5,16 @@ use borrow.Author.Needs.{needs}
 use Rattle.emitting.proofs.emit_cl.Statement.{statement}
 use Rattle.emitting.proofs.emit_cl.Tie as tie
 
+-- the places: the start, the number of arguments read, the statement's own words written
+abbrev startOf : tie.After-used → tie.Start
+startOf c = c .before .before .before .before
+
+abbrev wordOf : tie.After-formal → tie.After-word
+wordOf c = c .before .before
+
+abbrev writtenOf : tie.After-arguments → tie.After-put-three
+writtenOf c = c .before .before .before .before
+
 add-used : tie.Need-add-used
 add-used c = search needs
 
@@ -37,10 +47,16 @@ same-length c = search needs
 
 returns : tie.Need-returns
 returns c =
-    let a = c .before .before .before .before .before .before .before .before .before .before .before .before .before .before .before .args in
-    λ s. cl-grown (a .script .now) (drop (a .top) (a .entries .now)) (a .at) (a .code .now) _ s (c .before .before .before .before .before .before .put-three .last .0)
-    (c .before .before .before .before .before .before .before .before .before .before .before .used .result) (c .before .before .before .before .before .before .before .before .formal .result) (c .before .before .before .before .before .before .before .operation .result) (c .before .before .before .before .before .before .before .before .before .before .word .result) (c .before .before .before .before .before .before .before .before .before .before .before .used .ensures .0) (c .before .before .before .before .before .before .before .before .formal .ensures .0)
-    (c .before .before .before .before .before .before .before .operation .ensures) (c .before .before .before .before .before .before .before .before .before .before .word .ensures .0) (c .before .before .before .before .before .before .before .before .before .before .word .ensures .1) (c .before .before .before .before .before .before .put-three .ensures) (c .before .before .arguments .ensures s)
+    let g = c .before .before in
+    let p = writtenOf g in
+    let o = p .before in
+    let f = o .before in
+    let w = wordOf f in
+    let u = w .before in
+    let a = startOf u .args in
+    λ s. cl-grown (a .script .now) (drop (a .top) (a .entries .now)) (a .at) (a .code .now) _ s (p .put-three .last .0)
+    (u .used .result) (f .formal .result) (o .operation .result) (w .word .result) (u .used .ensures .0) (f .formal .ensures .0)
+    (o .operation .ensures) (w .word .ensures .0) (w .word .ensures .1) (p .put-three .ensures) (g .arguments .ensures s)
 
 pub emit-cl-spec : {M : Type 1} → statement M
 emit-cl-spec =

@@ -5,6 +5,13 @@ use borrow.Author.Needs.{needs}
 use Rattle.emitting.proofs.emit_go.Statement.{statement}
 use Rattle.emitting.proofs.emit_go.Tie as tie
 
+-- the places: the start, the label's word found
+abbrev startOf : tie.After-used → tie.Start
+startOf c = c .before .before .before .before
+
+abbrev usedOf : tie.After-formal → tie.After-used
+usedOf c = c .before .before
+
 add-used : tie.Need-add-used
 add-used c = search needs
 
@@ -25,9 +32,13 @@ same-length c = search needs
 
 returns : tie.Need-returns
 returns c =
-    let a = c .before .before .before .before .before .before .before .before .before .before .args in
-    λ s. go-grown (a .script .now) (drop (a .top) (a .entries .now)) (a .at) (a .code .now) (c .before .before .put-two .last .0) s (c .before .before .before .before .before .before .used .result)
-    (c .before .before .before .before .formal .result) (c .before .before .before .operation .result) (c .before .before .before .before .before .before .used .ensures .0) (c .before .before .before .before .formal .ensures .0) (c .before .before .before .operation .ensures) (c .before .before .put-two .ensures)
+    let p = c .before .before in
+    let o = p .before in
+    let f = o .before in
+    let u = usedOf f in
+    let a = startOf u .args in
+    λ s. go-grown (a .script .now) (drop (a .top) (a .entries .now)) (a .at) (a .code .now) (p .put-two .last .0) s (u .used .result)
+    (f .formal .result) (o .operation .result) (u .used .ensures .0) (f .formal .ensures .0) (o .operation .ensures) (p .put-two .ensures)
 
 pub emit-go-spec : {M : Type 1} → statement M
 emit-go-spec =

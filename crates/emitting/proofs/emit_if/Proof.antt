@@ -5,6 +5,16 @@ use borrow.Author.Needs.{needs}
 use Rattle.emitting.proofs.emit_if.Statement.{statement}
 use Rattle.emitting.proofs.emit_if.Tie as tie
 
+-- the places: the start, the names' words found, the kinds of names told
+abbrev startOf : tie.After-used → tie.Start
+startOf c = c .before .before .before .before
+
+abbrev usedOf : tie.After-formal → tie.After-used
+usedOf c = c .before .before .before
+
+abbrev formalOf : tie.After-put-three → tie.After-formal
+formalOf c = c .before .before .before
+
 add-used : tie.Need-add-used
 add-used c = search needs
 
@@ -37,10 +47,16 @@ same-length c = search needs
 
 returns : tie.Need-returns
 returns c =
-    let a = c .before .before .before .before .before .before .before .before .before .before .before .before .args in
-    λ s. if-grown (a .script .now) (drop (a .top) (a .entries .now)) (a .at) (a .code .now) (c .before .before .put-three .last .0) s (c .before .before .before .before .before .before .before .before .used .result) (c .before .before .before .before .before .before .before .used2 .result)
-    (c .before .before .before .before .before .formal .result) (c .before .before .before .before .formal2 .result) (c .before .before .before .operation .result) (c .before .before .before .before .before .before .before .before .used .ensures .0) (c .before .before .before .before .before .before .before .used2 .ensures .0)
-    (c .before .before .before .before .before .formal .ensures .0) (c .before .before .before .before .formal2 .ensures .0) (c .before .before .before .operation .ensures) (c .before .before .put-three .ensures)
+    let p = c .before .before in
+    let o = p .before in
+    let f₂ = o .before in
+    let f = formalOf p in
+    let u₂ = f .before .before in
+    let u = usedOf f in
+    let a = startOf u .args in
+    λ s. if-grown (a .script .now) (drop (a .top) (a .entries .now)) (a .at) (a .code .now) (p .put-three .last .0) s (u .used .result) (u₂ .used2 .result)
+    (f .formal .result) (f₂ .formal2 .result) (o .operation .result) (u .used .ensures .0) (u₂ .used2 .ensures .0)
+    (f .formal .ensures .0) (f₂ .formal2 .ensures .0) (o .operation .ensures) (p .put-three .ensures)
 
 pub emit-if-spec : {M : Type 1} → statement M
 emit-if-spec =

@@ -5,6 +5,13 @@ use borrow.Author.Needs.{needs}
 use Rattle.emitting.proofs.emit_kn.Statement.{statement}
 use Rattle.emitting.proofs.emit_kn.Tie as tie
 
+-- the places: the start, the two halves of the value read
+abbrev startOf : tie.After-used → tie.Start
+startOf c = c .before .before .before .before
+
+abbrev wordOf : tie.After-formal → tie.After-word
+wordOf c = c .before .before .before
+
 add-used : tie.Need-add-used
 add-used c = search needs
 
@@ -43,10 +50,16 @@ same-length c = search needs
 
 returns : tie.Need-returns
 returns c =
-    let a = c .before .before .before .before .before .before .before .before .before .before .before .before .args in
-    λ s. kn-grown (a .script .now) (drop (a .top) (a .entries .now)) (a .at) (a .code .now) (c .before .before .put-four .last .0) s (c .before .before .before .before .before .before .before .before .used .result) (c .before .before .before .before .formal .result)
-    (c .before .before .before .operation .result) (c .before .before .before .before .before .before .before .word .result) (c .before .before .before .before .before .before .word2 .result) (c .before .before .before .before .before .before .before .before .used .ensures .0) (c .before .before .before .before .formal .ensures .0) (c .before .before .before .operation .ensures)
-    (c .before .before .before .before .before .before .before .word .ensures .0) (c .before .before .before .before .before .before .word2 .ensures .0) (c .before .before .before .before .before .before .before .word .ensures .1) (c .before .before .before .before .before .before .word2 .ensures .1) (c .before .before .put-four .ensures)
+    let p = c .before .before in
+    let o = p .before in
+    let f = o .before in
+    let h = f .before .before in
+    let w = wordOf f in
+    let u = w .before in
+    let a = startOf u .args in
+    λ s. kn-grown (a .script .now) (drop (a .top) (a .entries .now)) (a .at) (a .code .now) (p .put-four .last .0) s (u .used .result) (f .formal .result)
+    (o .operation .result) (w .word .result) (h .word2 .result) (u .used .ensures .0) (f .formal .ensures .0) (o .operation .ensures)
+    (w .word .ensures .0) (h .word2 .ensures .0) (w .word .ensures .1) (h .word2 .ensures .1) (p .put-four .ensures)
 
 pub emit-kn-spec : {M : Type 1} → statement M
 emit-kn-spec =

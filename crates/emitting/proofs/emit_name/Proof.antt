@@ -5,6 +5,10 @@ use borrow.Author.Needs.{needs}
 use Rattle.emitting.proofs.emit_name.Statement.{statement}
 use Rattle.emitting.proofs.emit_name.Tie as tie
 
+-- the places: the start, from where the name's word is looked for
+abbrev startOf : tie.After-put-arg → tie.Start
+startOf c = c .before .before .before .before
+
 add-put : tie.Need-add-put
 add-put c = search needs
 
@@ -22,10 +26,10 @@ same-length c = search needs
 
 returns : tie.Need-returns
 returns c =
-    let a = c .before .before .before .before .before .before .before .before .args in
-    let u = c .before .before .before .used in
-    let p = c .before .before .put in
-    name-grown (a .script .now) (drop (a .top) (a .entries .now)) (a .at) (a .code .now) (p .last .0) (u .result) (u .ensures .0) (p .ensures)
+    let p = c .before .before in
+    let u = p .before in
+    let a = startOf (u .before) .args in
+    name-grown (a .script .now) (drop (a .top) (a .entries .now)) (a .at) (a .code .now) (p .put .last .0) (u .used .result) (u .used .ensures .0) (p .put .ensures)
 
 pub emit-name-spec : {M : Type 1} → statement M
 emit-name-spec =

@@ -5,6 +5,13 @@ use borrow.Author.Needs.{needs}
 use Rattle.emitting.proofs.emit_pair.Statement.{statement}
 use Rattle.emitting.proofs.emit_pair.Tie as tie
 
+-- the places: the start, the names' words found
+abbrev startOf : tie.After-used → tie.Start
+startOf c = c .before .before .before .before
+
+abbrev usedOf : tie.After-put-three → tie.After-used
+usedOf c = c .before .before .before
+
 add-used : tie.Need-add-used
 add-used c = search needs
 
@@ -25,9 +32,13 @@ same-length c = search needs
 
 returns : tie.Need-returns
 returns c =
-    let a = c .before .before .before .before .before .before .before .before .before .args in
-    λ s. pair-grown (a .script .now) (drop (a .top) (a .entries .now)) (a .at) (a .code .now) (c .before .before .put-three .last .0) s (a .op)
-    (c .before .before .before .before .before .used .result) (c .before .before .before .before .used2 .result) (c .before .before .before .before .before .before .before .before .before .pre .1) (c .before .before .before .before .before .used .ensures .0) (c .before .before .before .before .used2 .ensures .0) (c .before .before .put-three .ensures)
+    let p = c .before .before in
+    let u₂ = p .before .before in
+    let u = usedOf p in
+    let st = startOf u in
+    let a = st .args in
+    λ s. pair-grown (a .script .now) (drop (a .top) (a .entries .now)) (a .at) (a .code .now) (p .put-three .last .0) s (a .op)
+    (u .used .result) (u₂ .used2 .result) (st .pre .1) (u .used .ensures .0) (u₂ .used2 .ensures .0) (p .put-three .ensures)
 
 pub emit-pair-spec : {M : Type 1} → statement M
 emit-pair-spec =

@@ -5,6 +5,13 @@ use borrow.Author.Needs.{needs}
 use Rattle.emitting.proofs.emit_qy.Statement.{statement}
 use Rattle.emitting.proofs.emit_qy.Tie as tie
 
+-- the places: the start, the names' words found
+abbrev startOf : tie.After-used → tie.Start
+startOf c = c .before .before .before .before
+
+abbrev usedOf : tie.After-put-four → tie.After-used
+usedOf c = c .before .before .before .before
+
 add-used : tie.Need-add-used
 add-used c = search needs
 
@@ -31,9 +38,13 @@ same-length c = search needs
 
 returns : tie.Need-returns
 returns c =
-    let a = c .before .before .before .before .before .before .before .before .before .before .args in
-    λ s. qy-grown (a .script .now) (drop (a .top) (a .entries .now)) (a .at) (a .code .now) (c .before .before .put-four .last .0) s
-    (c .before .before .before .before .before .before .used .result) (c .before .before .before .before .before .used2 .result) (c .before .before .before .before .used3 .result) (c .before .before .before .before .before .before .used .ensures .0) (c .before .before .before .before .before .used2 .ensures .0) (c .before .before .before .before .used3 .ensures .0) (c .before .before .put-four .ensures)
+    let p = c .before .before in
+    let u₃ = p .before .before in
+    let u₂ = u₃ .before in
+    let u = usedOf p in
+    let a = startOf u .args in
+    λ s. qy-grown (a .script .now) (drop (a .top) (a .entries .now)) (a .at) (a .code .now) (p .put-four .last .0) s
+    (u .used .result) (u₂ .used2 .result) (u₃ .used3 .result) (u .used .ensures .0) (u₂ .used2 .ensures .0) (u₃ .used3 .ensures .0) (p .put-four .ensures)
 
 pub emit-qy-spec : {M : Type 1} → statement M
 emit-qy-spec =

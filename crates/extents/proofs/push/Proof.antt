@@ -26,6 +26,13 @@ Inv-loop script entries₀ ends₀ at count base here₀ i₀ entries ends here 
 abbrev μ-loop : tie.MeasureT-loop
 μ-loop script entries₀ ends₀ at count base here₀ i₀ entries ends here i = count - i
 
+-- the places: the start, and the loop of a record skipped
+abbrev startOf : tie.At-loop Inv-loop μ-loop → tie.Start Inv-loop μ-loop
+startOf c = c .before .before .before
+
+abbrev loopOf : tie.After-word Inv-loop μ-loop → tie.At-loop Inv-loop μ-loop
+loopOf c = c .before .before
+
 loop-holds : tie.Need-loop-holds Inv-loop μ-loop
 loop-holds c =
     (omega arith, omega arith, refl, refl, λ xs n h. push-start _ _ _ _ _ xs n h, refl, c .before .before .pre .3)
@@ -64,8 +71,9 @@ loop-again : tie.Need-loop-again Inv-loop μ-loop
 loop-again c =
     let s = c .skip in
     let w = c .before .before .word in
-    let l = c .before .before .before .before .loop in
-    let st = c .before .before .before .before .before .before .before in
+    let at = loopOf (c .before .before) in
+    let l = at .loop in
+    let st = startOf at in
     let a = st .args in (
       omega arith,
       omega (arith, s .ensures .0 .close),
@@ -84,7 +92,7 @@ same-length c = c .before .loop .inv .2
 returns : tie.Need-returns Inv-loop μ-loop
 returns c =
     let l = c .before .loop in
-    let a = c .before .before .before .before .args in
+    let a = startOf (c .before) .args in
     let e : l .i ≡ a .count = omega arith in (
       λ xs n h. push-end (a .script .now) (l .entries) (a .base) (a .at) (l .here) (l .i) (a .count) xs e (l .inv .4 xs n h),
       (rw e at (l .inv .3), (l .inv .5, l .inv .6)),

@@ -6,6 +6,16 @@ use borrow.Author.Needs.{needs}
 use Rattle.moves.proofs.enter.Statement.{statement}
 use Rattle.moves.proofs.enter.Tie as tie
 
+-- the places: the two words of the block read, the next statement written, the display linked
+abbrev startOf : tie.After-narrow → tie.Start
+startOf c = c .before .before .before
+
+abbrev writtenOf : tie.After-link-to → tie.After-narrow
+writtenOf c = c .before .before .before .before
+
+abbrev linkedOf : tie.After-narrow4 → tie.After-link-to
+linkedOf c = c .before .before .before
+
 code-at-requires : tie.Need-code-at-requires
 code-at-requires c κs =
     let s = c in
@@ -38,7 +48,7 @@ element-write-nexts c = search needs
 
 link-to-requires : tie.Need-link-to-requires
 link-to-requires c κs =
-    let s = c .before .before .before .before .before .before in
+    let s = startOf (c .before .before .before) in
     linkable (s .pre .running) (s .args .body) (s .args .link) (s .args .back) (s .args .words .now) (s .pre .enters)
 
 add-fresh : tie.Need-add-fresh
@@ -46,7 +56,7 @@ add-fresh c = search needs
 
 narrow-requires-2 : tie.Need-narrow-requires-2
 narrow-requires-2 c κs =
-    let s = c .before .before .before .before .before .before .before in
+    let s = startOf (writtenOf c) in
     let f = entry-fits (s .pre .running) (s .args .body) (s .args .link) (s .args .back) (s .args .words .now) (s .pre .enters) in
     omega arith
 
@@ -91,9 +101,10 @@ add-clear-2 c = search needs
 
 clear-requires : tie.Need-clear-requires
 clear-requires c κs =
-    let s = c .before .before .before .before .before .before .before .before .before .before .before in
+    let n = writtenOf (linkedOf (c .before)) in
+    let s = startOf n in
     let f = entry-fits (s .pre .running) (s .args .body) (s .args .link) (s .args .back) (s .args .words .now) (s .pre .enters) in
-    let e = c .before .before .before .before .before .before .before .before .before .before .code-at .ensures .0 in
+    let e = n .before .before .code-at .ensures .0 in
     (omega arith, omega arith)
 
 returns : tie.Need-returns
@@ -101,8 +112,8 @@ returns c =
     let a = c .before .before in
     let b = a .before in
     let d = b .before in
-    let k = d .before in
-    let n = k .before .before .before .before in
+    let k = linkedOf a in
+    let n = writtenOf k in
     let p = n .before in
     let q = p .before in
     let s = q .before in

@@ -6,6 +6,13 @@ use Rattle.moves.specs.Moving.{few-live, block-within, restorable, resto
 use Rattle.moves.proofs.jump.Statement.{statement}
 use Rattle.moves.proofs.jump.Tie as tie
 
+-- the places: the start, and the innermost level read
+abbrev startOf : tie.After-level-of → tie.Start
+startOf c = c .before .before
+
+abbrev levelOf : tie.After-level-of2 → tie.After-level-of
+levelOf c = c .before .before
+
 returns : tie.Need-returns
 returns c =
     let s = c .before in
@@ -21,20 +28,21 @@ level-of-requires c κs =
 
 level-of-requires-2 : tie.Need-level-of-requires-2
 level-of-requires-2 c κs =
-    let s = c .before .before .before in
+    let s = startOf (c .before) in
     let h = home-live (s .pre .running) (s .args .home) (s .args .at) (s .pre .jumps) in
     (omega (arith, few-live (s .pre .running)), omega (arith, block-within (s .pre .running) (s .args .home) h))
 
 restore-requires : tie.Need-restore-requires
 restore-requires c κs =
-    let s = c .before .before .before .before in
+    let i = levelOf c in
+    let s = startOf i in
     let h = home-live (s .pre .running) (s .args .home) (s .args .at) (s .pre .jumps) in
-    restorable (s .pre .running) (s .args .home) (c .level-of2 .result) (c .before .before .level-of .result) h (c .level-of2 .ensures .0)
-    (c .before .before .level-of .ensures .0)
+    restorable (s .pre .running) (s .args .home) (c .level-of2 .result) (i .level-of .result) h (c .level-of2 .ensures .0)
+    (i .level-of .ensures .0)
 
 end-of-requires : tie.Need-end-of-requires
 end-of-requires c κs =
-    let s = c .before .before .before .before .before in
+    let s = startOf (levelOf (c .before)) in
     let h = home-live (s .pre .running) (s .args .home) (s .args .at) (s .pre .jumps) in
     (omega (arith, few-live (s .pre .running)), omega (arith, block-within (s .pre .running) (s .args .home) h))
 
@@ -42,11 +50,12 @@ returns-2 : tie.Need-returns-2
 returns-2 c =
     let o = c .before in
     let l = o .before in
-    let s = l .before .before .before .before in
+    let i = levelOf l in
+    let s = startOf i in
     λ w.
     jumps-to (w .running) (o .restore .last .1 .0) (o .restore .ensures .1 ∙ w .running .display-long) (s .args .home) (s .args .at) (w .jumps)
-    (restored (w .running) (s .args .home) (l .level-of2 .result) (l .before .before .level-of .result)
-    (home-live (w .running) (s .args .home) (s .args .at) (w .jumps)) (l .level-of2 .ensures .0) (l .before .before .level-of .ensures .0)
+    (restored (w .running) (s .args .home) (l .level-of2 .result) (i .level-of .result)
+    (home-live (w .running) (s .args .home) (s .args .at) (w .jumps)) (l .level-of2 .ensures .0) (i .level-of .ensures .0)
     (o .restore .last .1 .0) (o .restore .ensures .0))
     _ refl refl (c .end-of .ensures) refl
 

@@ -7,6 +7,13 @@ use borrow.Author.Needs.{needs}
 use Rattle.moves.proofs.leave.Statement.{statement}
 use Rattle.moves.proofs.leave.Tie as tie
 
+-- the places: the innermost level read, and the start
+abbrev levelOf : tie.After-level-of2 → tie.After-level-of
+levelOf c = c .before .before
+
+abbrev startOf : tie.After-restore → tie.Start
+startOf c = levelOf (c .before) .before
+
 sub-live : tie.Need-sub-live
 sub-live c = search needs
 
@@ -22,19 +29,20 @@ level-of-requires-2 c κs =
 
 restore-requires : tie.Need-restore-requires
 restore-requires c κs =
-    let s = c .before .before .before in
-    restorable (s .pre .running) (s .args .here .live - 1) (c .level-of2 .result) (c .before .before .level-of .result) (omega arith)
-    (c .level-of2 .ensures .0) (c .before .before .level-of .ensures .0)
+    let i = levelOf c in
+    let s = i .before in
+    restorable (s .pre .running) (s .args .here .live - 1) (c .level-of2 .result) (i .level-of .result) (omega arith)
+    (c .level-of2 .ensures .0) (i .level-of .ensures .0)
 
 mul-wide : tie.Need-mul-wide
 mul-wide c =
-    let s = c .before .before .before .before in
+    let s = startOf c in
     let h = few-live (s .pre .running) in
     search needs
 
 element-copy-out-wide : tie.Need-element-copy-out-wide
 element-copy-out-wide c =
-    let s = c .before .before .before .before in
+    let s = startOf c in
     omega (arith, few-live (s .pre .running))
 
 wide-requires : tie.Need-wide-requires
@@ -42,19 +50,20 @@ wide-requires c κs = search needs
 
 end-of-requires : tie.Need-end-of-requires
 end-of-requires c κs =
-    let s = c .before .before .before .before .before .before in
+    let s = startOf (c .before .before) in
     (omega (arith, few-live (s .pre .running)), omega (arith, block-within (s .pre .running) (s .args .here .live - 1) (omega arith)))
 
 returns : tie.Need-returns
 returns c =
     let o = c .before .before .before in
     let l = o .before in
-    let s = l .before .before .before in
+    let i = levelOf l in
+    let s = i .before in
     let home = s .args .here .live - 1 in
     λ w.
     leaves-to (w .running) (o .restore .last .1 .0) (o .restore .ensures .1 ∙ w .running .display-long) (w .ended) (w .above) home refl
-    (restored (w .running) home (l .level-of2 .result) (l .before .before .level-of .result) (omega arith) (l .level-of2 .ensures .0)
-    (l .before .before .level-of .ensures .0) (o .restore .last .1 .0) (o .restore .ensures .0))
+    (restored (w .running) home (l .level-of2 .result) (i .level-of .result) (omega arith) (l .level-of2 .ensures .0)
+    (i .level-of .ensures .0) (o .restore .last .1 .0) (o .restore .ensures .0))
     _ refl (c .before .wide .ensures .0) (c .end-of .ensures) refl
 
 pub leave-spec : {M : Type 1} → statement M

@@ -6,6 +6,13 @@ use Rattle.moves.specs.Moving.{few-live, block-within, restorable, resto
 use Rattle.moves.proofs.link_to.Statement.{statement}
 use Rattle.moves.proofs.link_to.Tie as tie
 
+-- the places: the start, and the innermost level read
+abbrev startOf : tie.After-level-of → tie.Start
+startOf c = c .before .before
+
+abbrev levelOf : tie.After-level-of2 → tie.After-level-of
+levelOf c = c .before .before
+
 level-of-requires : tie.Need-level-of-requires
 level-of-requires c κs =
     let r = c .before .pre .running in
@@ -13,21 +20,24 @@ level-of-requires c κs =
 
 level-of-requires-2 : tie.Need-level-of-requires-2
 level-of-requires-2 c κs =
-    let p = c .before .before .before .pre in
-    (omega (arith, few-live (p .running), p .high), omega (arith, block-within (p .running) (c .before .before .before .args .link) (p .high)))
+    let s = startOf (c .before) in
+    let p = s .pre in
+    (omega (arith, few-live (p .running), p .high), omega (arith, block-within (p .running) (s .args .link) (p .high)))
 
 restore-requires : tie.Need-restore-requires
 restore-requires c κs =
-    let s = c .before .before .before .before in
-    restorable (s .pre .running) (s .args .link) (c .level-of2 .result) (c .before .before .level-of .result) (s .pre .high)
-    (c .level-of2 .ensures .0) (c .before .before .level-of .ensures .0)
+    let i = levelOf c in
+    let s = startOf i in
+    restorable (s .pre .running) (s .args .link) (c .level-of2 .result) (i .level-of .result) (s .pre .high)
+    (c .level-of2 .ensures .0) (i .level-of .ensures .0)
 
 returns : tie.Need-returns
 returns c =
-    let s = c .before .before .before .before .before in
-    let l = c .before in (
-      λ w. restored (w .running) (s .args .link) (l .level-of2 .result) (l .before .before .level-of .result) (w .high) (l .level-of2 .ensures .0)
-          (l .before .before .level-of .ensures .0) (c .restore .last .1 .0) (c .restore .ensures .0),
+    let l = c .before in
+    let i = levelOf l in
+    let s = startOf i in (
+      λ w. restored (w .running) (s .args .link) (l .level-of2 .result) (i .level-of .result) (w .high) (l .level-of2 .ensures .0)
+          (i .level-of .ensures .0) (c .restore .last .1 .0) (c .restore .ensures .0),
       c .restore .ensures .1,
     )
 

@@ -14,6 +14,13 @@ use borrow.Author.Needs.{needs}
 use Rattle.resolving.proofs.resolve.Statement.{statement}
 use Rattle.resolving.proofs.resolve.Tie as tie
 
+-- the places: the script lent, and short enough
+abbrev lentOf : tie.Else1 → tie.After-shared-slice-known
+lentOf c = c .before .before
+
+abbrev fitsOf : tie.After-block-arg → tie.Else1
+fitsOf c = c .before .before .before .before
+
 returns : tie.Need-returns
 returns c =
     let a = c .before .before .before .args in
@@ -26,17 +33,19 @@ slice-aggregate-block-2 : tie.Need-slice-aggregate-block-2
 slice-aggregate-block-2 c = search needs
 
 block-requires : tie.Need-block-requires
-block-requires c κs = (omega (arith, c .before .before .before .before .if1 .left), omega arith, omega arith, search needs, search needs, omega arith, none-chained (replicate 1280 1280) (length-replicate {A = ℕ} 1280 1280), none-noted _)
+block-requires c κs = (omega (arith, fitsOf c .if1 .left), omega arith, omega arith, search needs, search needs, omega arith, none-chained (replicate 1280 1280) (length-replicate {A = ℕ} 1280 1280), none-noted _)
 
 same-length : tie.Need-same-length
 same-length c = search needs
 
 returns-2 : tie.Need-returns-2
 returns-2 c =
-    let st = c .before .before .before .before .before .before .before .before .before .before .before .before in
+    let r = c .before .before .before .before in
+    let lent = lentOf (fitsOf (r .before)) in
+    let st = lent .before in
     let a = st .args in
-    let b = c .before .before .before .before .block in
-    λ t e. words-are (a .script .now) (bytes-are (a .script .now) (λ i. c .before .before .before .before .before .before .before .before .before .before .before .shared-slice-known .given i .fits)) t e (replicate 1280 1280) _ (a .name) (b .result)
+    let b = r .block in
+    λ t e. words-are (a .script .now) (bytes-are (a .script .now) (λ i. lent .shared-slice-known .given i .fits)) t e (replicate 1280 1280) _ (a .name) (b .result)
     (le-of-eq (length-replicate {A = ℕ} 1280 1280))
     (subst (λ (l : List ℕ). BlockWritten (a .script .now) (replicate 1280 1280) (a .name) 0 0 1280 1 l (b .last .1 .1 .1 .1 .0) (b .result)) (st .pre) (b .ensures .0))
 

@@ -22,6 +22,13 @@ Inv-loop code words blocks nexts live sheet₀ at₀ k₀ sheet at k =
 abbrev μ-loop : tie.MeasureT-loop
 μ-loop code words blocks nexts live sheet₀ at₀ k₀ sheet at k = live - k
 
+-- the places: the loop, and the words of an activation widened
+abbrev loopOf : tie.After-widened Inv-loop μ-loop → tie.At-loop Inv-loop μ-loop
+loopOf c = c .before .before .before
+
+abbrev widenedOf : tie.After-widened2 Inv-loop μ-loop → tie.After-widened Inv-loop μ-loop
+widenedOf c = c .before .before
+
 loop-holds : tie.Need-loop-holds Inv-loop μ-loop
 loop-holds c = (omega arith, refl, λ fs h l. none-written fs (c .args .sheet .now))
 
@@ -35,30 +42,35 @@ widened-requires : tie.Need-widened-requires Inv-loop μ-loop
 widened-requires c κs = search needs
 
 mul-widened-2 : tie.Need-mul-widened-2 Inv-loop μ-loop
-mul-widened-2 c = omega (arith, c .before .before .before .before .pre .0 .1 .most, c .before .before .before .before .pre .0 .2)
+mul-widened-2 c =
+    let s = loopOf c .before in
+    omega (arith, s .pre .0 .1 .most, s .pre .0 .2)
 
 element-copy-out-widened-2 : tie.Need-element-copy-out-widened-2 Inv-loop μ-loop
 element-copy-out-widened-2 c =
-    omega (arith, c .before .before .before .before .pre .0 .1 .most, c .before .before .before .before .pre .0 .2)
+    let s = loopOf c .before in
+    omega (arith, s .pre .0 .1 .most, s .pre .0 .2)
 
 widened-requires-2 : tie.Need-widened-requires-2 Inv-loop μ-loop
 widened-requires-2 c κs = search needs
 
 mul-write-activation : tie.Need-mul-write-activation Inv-loop μ-loop
 mul-write-activation c =
-    let s = c .before .before .before .before .before .before in
+    let s = loopOf (widenedOf c) .before in
     omega (arith, s .pre .0 .1 .most, s .pre .0 .2)
 
 write-activation-requires : tie.Need-write-activation-requires Inv-loop μ-loop
 write-activation-requires c κs =
-    let u = c .before .before .before .before .before .before in
+    let n = c .before in
+    let b = widenedOf n in
+    let u = loopOf b in
     let p = u .before .pre .0 in
     let k = u .loop .k in
     let l : k < length (p .0) = omega (arith, p .2) in
     let w = getElem-in (p .0) k l in
     let i = u .loop .inv in
     let f = p .1 .bounded k (w .0) (w .1) in
-    (w .0 .next, w .0 .words, shown-at (p .1) k (w .0) (w .1) _ _ (c .before .before .before .widened .ensures) (c .before .widened2 .ensures), omega (arith, f .few, i .1, i .2 (p .0) (p .1) (p .2) .1, sheet-room (p .1) k (omega arith), u .before .pre .1, p .2))
+    (w .0 .next, w .0 .words, shown-at (p .1) k (w .0) (w .1) _ _ (b .widened .ensures) (n .widened2 .ensures), omega (arith, f .few, i .1, i .2 (p .0) (p .1) (p .2) .1, sheet-room (p .1) k (omega arith), u .before .pre .1, p .2))
 
 add-k : tie.Need-add-k Inv-loop μ-loop
 add-k c = omega arith
@@ -68,7 +80,8 @@ loop-less c = omega arith
 
 loop-again : tie.Need-loop-again Inv-loop μ-loop
 loop-again c =
-    let u = c .before .before .before .before .before .before .before .before in
+    let n = c .before .before .before in
+    let u = loopOf (widenedOf n) in
     let k = u .loop .k in
     let r = c .before .write-activation .ensures in (
       omega arith,
@@ -78,8 +91,8 @@ loop-again c =
           let w = getElem-in fs k b in
           let f = w .0 in
           let i = u .loop .inv .2 fs h l in
-          let block = c .before .before .before .before .before .widened .ensures in
-          let q = r .0 (f .next) (f .words) (frameSheet (take k fs)) (u .before .args .sheet .now) (shown-at h k f (w .1) _ _ block (c .before .before .before .widened2 .ensures)) (i .0) (sym (i .1)) in
+          let block = widenedOf n .widened .ensures in
+          let q = r .0 (f .next) (f .words) (frameSheet (take k fs)) (u .before .args .sheet .now) (shown-at h k f (w .1) _ _ block (n .widened2 .ensures)) (i .0) (sym (i .1)) in
           (q .0 ∙ ap (λ (x : List ℤ). written x (u .before .args .sheet .now)) (sheet-on h k f (w .1) _ block), q .1 ∙ sheet-on-length h k f (w .1) (u .loop .at) (i .1)),
     )
 

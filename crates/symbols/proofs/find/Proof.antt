@@ -15,6 +15,13 @@ Inv-loop entries top name i₀ i = (top ≤ i) × (foundIn name (drop i entries)
 abbrev μ-loop : tie.MeasureT-loop
 μ-loop entries top name i₀ i = length entries - i
 
+-- the places: the start, and the loop of an entry read
+abbrev startOf : tie.At-loop Inv-loop μ-loop → tie.Start Inv-loop μ-loop
+startOf c = c .before .before .before
+
+abbrev loopOf : tie.After-shared-slice-known2 Inv-loop μ-loop → tie.At-loop Inv-loop μ-loop
+loopOf c = c .before .before
+
 first-requires : tie.Need-first-requires Inv-loop μ-loop
 first-requires c κs = search needs
 
@@ -29,33 +36,31 @@ shared-slice-read-e c = search needs
 
 returns : tie.Need-returns Inv-loop μ-loop
 returns c =
-    let a = c .before .before .before .before .before .before .args in
-    let i = c .before .before .before .loop .i in (
+    let l = loopOf (c .before) in
+    let a = startOf l .args in
+    let i = l .loop .i in (
       sym
-          (sym (c .before .before .before .loop .inv .1)
+          (sym (l .loop .inv .1)
           ∙ found-at (a .name) (a .entries .now) i (c .before .before .loop-test .taken) (c .if1 .taken)),
       omega (arith, c .before .shared-slice-known2 .given i),
     )
 
 after-requires : tie.Need-after-requires Inv-loop μ-loop
-after-requires c κs = (
-  c .before .before .before .before .before .before .pre,
-  c .before .before .before .loop .inv .0,
-  c .before .before .loop-test .taken,
-  c .if1 .left,
-)
+after-requires c κs =
+    let l = loopOf (c .before) in
+    (startOf l .pre, l .loop .inv .0, c .before .before .loop-test .taken, c .if1 .left)
 
 loop-less : tie.Need-loop-less Inv-loop μ-loop
 loop-less c = search needs
 
 loop-again : tie.Need-loop-again Inv-loop μ-loop
 loop-again c =
-    let l = c .before .before .before .before .loop in
+    let l = loopOf (c .before .before) .loop in
     (omega arith, c .after .ensures .1 ∙ l .inv .1)
 
 returns-2 : tie.Need-returns-2 Inv-loop μ-loop
 returns-2 c =
-    let a = c .before .before .before .before .args in
+    let a = startOf (c .before) .args in
     (sym (found-none (a .name) (a .entries .now) (c .before .loop .i) (c .loop-test .left)) ∙ c .before .loop .inv .1, tt)
 
 pub find-spec : {M : Type 1} → statement M

@@ -14,6 +14,13 @@ Inv-loop entries₀ base top i₀ entries i = Between entries₀ entries base to
 abbrev μ-loop : tie.MeasureT-loop
 μ-loop entries₀ base top i₀ entries i = i
 
+-- the places: the start, and the loop of an entry
+abbrev startOf : tie.At-loop Inv-loop μ-loop → tie.Start Inv-loop μ-loop
+startOf c = c .before .before
+
+abbrev loopOf : tie.After-insert-one Inv-loop μ-loop → tie.At-loop Inv-loop μ-loop
+loopOf c = c .before .before .before
+
 loop-holds : tie.Need-loop-holds Inv-loop μ-loop
 loop-holds c =
     let st = c .before in
@@ -34,8 +41,8 @@ loop-less c = search needs
 loop-again : tie.Need-loop-again Inv-loop μ-loop
 loop-again c =
     let o = c .before .before in
-    let l = c .before .before .before .before .before .loop in
-    let a = c .before .before .before .before .before .before .before .args in
+    let l = loopOf o .loop in
+    let a = startOf (loopOf o) .args in
     between-step (a .entries .now) (a .base) (a .top) (l .entries) _ (l .i) _ (l .inv) (omega (arith, l .inv .low)) (omega (arith, l .inv .high))
     (o .insert-one .kept .0) (o .insert-one .ensures .1) (o .insert-one .ensures .0)
 
@@ -45,7 +52,7 @@ same-length c = c .before .loop .inv .same-length
 returns : tie.Need-returns Inv-loop μ-loop
 returns c =
     let l = c .before .loop in
-    let a = c .before .before .before .args in
+    let a = startOf (c .before) .args in
     between-end (a .entries .now) (a .base) (a .top) (l .entries) (l .i) (a .base) (omega (arith, l .inv .low, l .inv .high)) (l .inv)
 
 pub insert-spec : {M : Type 1} → statement M

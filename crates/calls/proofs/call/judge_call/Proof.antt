@@ -10,6 +10,22 @@ use borrow.Author.Needs.{needs}
 use Rattle.calls.proofs.call.judge_call.Statement.{statement}
 use Rattle.calls.proofs.call.judge_call.Tie as tie
 
+-- the places: the words read, the name called judged, the arguments visible, the name found
+abbrev readOf : tie.After-uses → tie.After-word
+readOf c = c .before .before
+
+abbrev startOf : tie.After-uses → tie.Start
+startOf c = readOf c .before .before .before
+
+abbrev judgedOf : tie.After-visible → tie.After-uses
+judgedOf c = c .before .before .before
+
+abbrev visibleOf : tie.After-find → tie.After-visible
+visibleOf c = c .before .before .before
+
+abbrev foundOf : tie.After-known-told → tie.After-find
+foundOf c = c .before .before .before
+
 add-word : tie.Need-add-word
 add-word c = search needs
 
@@ -35,8 +51,9 @@ returns : tie.Need-returns
 unfolding kindOf
 returns c =
     let u = c .before .before in
-    let a = u .before .before .before .before .before .args in
-    call-stops (a .script .now) (drop (a .top) (a .entries .now)) (a .at) (u .before .before .word .result) (u .before .word2 .result) (u .before .before .word .ensures .0) (u .before .word2 .ensures .0)
+    let w = readOf u in
+    let a = startOf u .args in
+    call-stops (a .script .now) (drop (a .top) (a .entries .now)) (a .at) (w .word .result) (u .before .word2 .result) (w .word .ensures .0) (u .before .word2 .ensures .0)
     (u .uses .result) _ _ (u .uses .ensures) (c .enum-told2 .given .1)
 
 visible-requires : tie.Need-visible-requires
@@ -51,10 +68,12 @@ enum-told-4 c = search needs
 returns-2 : tie.Need-returns-2
 unfolding kindOf
 returns-2 c =
-    let u = c .before .before .before .before .before in
-    let a = u .before .before .before .before .before .args in
-    call-hides (a .script .now) (drop (a .top) (a .entries .now)) (a .at) (u .before .before .word .result) (u .before .word2 .result) (u .before .before .word .ensures .0) (u .before .word2 .ensures .0)
-    (u .uses .result) (u .uses .ensures) (c .before .before .before .enum-told .given .1) (c .before .before .visible .result) _ _ (c .before .before .visible .ensures)
+    let v = c .before .before in
+    let u = judgedOf v in
+    let w = readOf u in
+    let a = startOf u .args in
+    call-hides (a .script .now) (drop (a .top) (a .entries .now)) (a .at) (w .word .result) (u .before .word2 .result) (w .word .ensures .0) (u .before .word2 .ensures .0)
+    (u .uses .result) (u .uses .ensures) (v .before .enum-told .given .1) (v .visible .result) _ _ (v .visible .ensures)
     (c .enum-told4 .given .1)
 
 find-requires : tie.Need-find-requires
@@ -69,30 +88,36 @@ enum-told-5 c = search needs
 returns-3 : tie.Need-returns-3
 unfolding kindOf verdictOf
 returns-3 c =
-    let u = c .before .before .before .before .before .before .before .before in
-    let a = u .before .before .before .before .before .args in
-    let v = c .before .before .before .before .before in
-    call-judges (a .script .now) (drop (a .top) (a .entries .now)) (a .at) (u .before .before .word .result) (u .before .word2 .result) (u .before .before .word .ensures .0) (u .before .word2 .ensures .0)
+    let f = c .before .before in
+    let v = visibleOf f in
+    let u = judgedOf v in
+    let w = readOf u in
+    let a = startOf u .args in
+    call-judges (a .script .now) (drop (a .top) (a .entries .now)) (a .at) (w .word .result) (u .before .word2 .result) (w .word .ensures .0) (u .before .word2 .ensures .0)
     (u .uses .result) (u .uses .ensures) (v .before .enum-told .given .1) (v .visible .result) (v .visible .ensures)
-    (c .before .before .before .enum-told3 .given .1) Fit fine refl
-    (agrees-unfound (a .script .now) (drop (a .top) (a .entries .now)) (a .at) _ _ (sym (c .before .before .find .ensures .0) ∙ c .enum-told5 .given .1))
+    (f .before .enum-told3 .given .1) Fit fine refl
+    (agrees-unfound (a .script .now) (drop (a .top) (a .entries .now)) (a .at) _ _ (sym (f .find .ensures .0) ∙ c .enum-told5 .given .1))
 
 agrees-requires : tie.Need-agrees-requires
 agrees-requires c κs =
-    let h = near-place (c .before .before .before .find .result) _ (c .before .place .given .1) (c .before .before .before .find .ensures .1) in
-    (c .before .before .before .before .before .before .before .before .before .before .before .before .before .before .pre .0, h, c .before .before .before .before .before .before .before .before .before .before .word2 .ensures .1, c .before .before .before .before .before .before .before .before .before .before .before .before .before .before .pre .1)
+    let f = foundOf c in
+    let u = judgedOf (visibleOf f) in
+    let h = near-place (f .find .result) _ (c .before .place .given .1) (f .find .ensures .1) in
+    (startOf u .pre .0, h, u .before .word2 .ensures .1, startOf u .pre .1)
 
 returns-4 : tie.Need-returns-4
 unfolding kindOf
 returns-4 c =
-    let u = c .before .before .before .before .before .before .before .before .before .before in
-    let a = u .before .before .before .before .before .args in
-    let f = c .before .before .before .before in
-    let v = c .before .before .before .before .before .before .before in
-    call-judges (a .script .now) (drop (a .top) (a .entries .now)) (a .at) (u .before .before .word .result) (u .before .word2 .result) (u .before .before .word .ensures .0) (u .before .word2 .ensures .0)
+    let p = c .before .before in
+    let f = foundOf (c .before) in
+    let v = visibleOf f in
+    let u = judgedOf v in
+    let w = readOf u in
+    let a = startOf u .args in
+    call-judges (a .script .now) (drop (a .top) (a .entries .now)) (a .at) (w .word .result) (u .before .word2 .result) (w .word .ensures .0) (u .before .word2 .ensures .0)
     (u .uses .result) (u .uses .ensures) (v .before .enum-told .given .1) (v .visible .result) (v .visible .ensures)
     (f .before .enum-told3 .given .1) (c .agrees .result) _ (c .agrees .ensures)
-    (agrees-found (a .script .now) (drop (a .top) (a .entries .now)) (a .at) _ (c .before .before .place .given .0 .0) _ (sym (f .find .ensures .0) ∙ c .before .before .place .given .1))
+    (agrees-found (a .script .now) (drop (a .top) (a .entries .now)) (a .at) _ (p .place .given .0 .0) _ (sym (f .find .ensures .0) ∙ p .place .given .1))
 
 pub judge-call-spec : {M : Type 1} → statement M
 judge-call-spec =

@@ -1,5 +1,6 @@
 -- `calls::call::kinds_agree` meets its contract: a case for each way out. Assumes nothing.
 use mathlib.Core.Path.{sym, _∙_}
+use Prim.Native.Nat.{_<_, _^_}
 use native.Mathlib.Omega.{arith}
 use lib.ListN.{drop}
 use Rattle.symbols.proofs.Entries.{near-place}
@@ -7,6 +8,25 @@ use Rattle.calls.proofs.Judging.{no-true, agreed}
 use borrow.Author.Needs.{needs}
 use Rattle.calls.proofs.call.kinds_agree.Statement.{statement}
 use Rattle.calls.proofs.call.kinds_agree.Tie as tie
+
+-- the places: the words read, the name found, the two tests of its record passed
+abbrev startOf : tie.After-word → tie.Start
+startOf c = c .before .before .before
+
+abbrev readOf : tie.After-find → tie.After-word
+readOf c = c .before .before
+
+abbrev foundOf : tie.After-known-told → tie.After-find
+foundOf c = c .before .before .before
+
+abbrev placeOf : tie.Else1 → tie.After-known-told
+placeOf c = c .before .before
+
+abbrev markedOf : tie.Else2 → tie.Else1
+markedOf c = c .before .before
+
+near : (c : tie.After-known-told) → c .before .place .given .0 .0 < 2 ^ 48
+near c = near-place (foundOf c .find .result) _ (c .before .place .given .1) (foundOf c .find .ensures .1)
 
 add-word : tie.Need-add-word
 add-word c = search needs
@@ -33,37 +53,40 @@ returns : tie.Need-returns
 returns c = λ e. no-true e
 
 word-requires-3 : tie.Need-word-requires-3
-word-requires-3 c κs = omega (arith, near-place (c .before .before .before .find .result) _ (c .before .place .given .1) (c .before .before .before .find .ensures .1))
+word-requires-3 c κs = omega (arith, near c)
 
 returns-2 : tie.Need-returns-2
 returns-2 c = λ e. no-true e
 
 add-word-3 : tie.Need-add-word-3
-add-word-3 c = omega (arith, near-place (c .before .before .before .before .before .find .result) _ (c .before .before .before .place .given .1) (c .before .before .before .before .before .find .ensures .1))
+add-word-3 c = omega (arith, near (placeOf c))
 
 word-requires-4 : tie.Need-word-requires-4
-word-requires-4 c κs = omega (arith, near-place (c .before .before .before .before .before .find .result) _ (c .before .before .before .place .given .1) (c .before .before .before .before .before .find .ensures .1))
+word-requires-4 c κs = omega (arith, near (placeOf c))
 
 returns-3 : tie.Need-returns-3
 returns-3 c = λ e. no-true e
 
 add-matching : tie.Need-add-matching
-add-matching c = omega (arith, near-place (c .before .before .before .before .before .before .before .find .result) _ (c .before .before .before .before .before .place .given .1) (c .before .before .before .before .before .before .before .find .ensures .1))
+add-matching c = omega (arith, near (placeOf (markedOf c)))
 
 matching-requires : tie.Need-matching-requires
 matching-requires c κs =
-    let st = c .before .before .before .before .before .before .before .before .before .before .before .before in
-    (st .pre .0, omega (arith, near-place (c .before .before .before .before .before .before .before .find .result) _ (c .before .before .before .before .before .place .given .1) (c .before .before .before .before .before .before .before .find .ensures .1)), c .before .before .before .before .before .before .before .before .word2 .ensures .1, st .pre .1)
+    let k = placeOf (markedOf c) in
+    let f = foundOf k in
+    let st = startOf (readOf f) in
+    (st .pre .0, omega (arith, near k), f .before .word2 .ensures .1, st .pre .1)
 
 returns-4 : tie.Need-returns-4
 returns-4 c =
-    let x = c .before .before .before .before .before in
-    let f = x .before .before .before in
-    let w = f .before in
-    let a = w .before .before .before .before .args in
-    λ e. agreed (a .script .now) (drop (a .top) (a .entries .now)) (a .at) (w .before .word .result) (w .word2 .result) (x .before .place .given .0 .0)
-    (w .before .word .ensures .0) (w .word2 .ensures .0) (sym (f .find .ensures .0) ∙ x .before .place .given .1)
-    (sym (c .before .before .before .before .word3 .ensures .0) ∙ c .before .before .before .if1 .left) (sym (c .before .before .word4 .ensures .0) ∙ c .before .if2 .left)
+    let m = markedOf (c .before) in
+    let x = placeOf m in
+    let f = foundOf x in
+    let w = readOf f in
+    let a = startOf w .args in
+    λ e. agreed (a .script .now) (drop (a .top) (a .entries .now)) (a .at) (w .word .result) (f .before .word2 .result) (x .before .place .given .0 .0)
+    (w .word .ensures .0) (f .before .word2 .ensures .0) (sym (f .find .ensures .0) ∙ x .before .place .given .1)
+    (sym (m .before .word3 .ensures .0) ∙ m .if1 .left) (sym (c .before .before .word4 .ensures .0) ∙ c .before .if2 .left)
     (sym (c .matching .ensures) ∙ e)
 
 pub kinds-agree-spec : {M : Type 1} → statement M

@@ -23,6 +23,19 @@ Inv-loop script entries top at formals count i₀ i =
 abbrev μ-loop : tie.MeasureT-loop
 μ-loop script entries top at formals count i₀ i = count - i
 
+-- the places: the start, an argument's entry found, its kind wanted
+abbrev startOf : tie.In-loop Inv-loop μ-loop → tie.Start Inv-loop μ-loop
+startOf c = c .before .before .before .before
+
+abbrev turnOf : tie.After-find Inv-loop μ-loop → tie.In-loop Inv-loop μ-loop
+turnOf c = c .before .before
+
+abbrev foundOf : tie.After-place Inv-loop μ-loop → tie.After-find Inv-loop μ-loop
+foundOf c = c .before .before
+
+abbrev placeOf : tie.After-kind-number Inv-loop μ-loop → tie.After-place Inv-loop μ-loop
+placeOf c = c .before .before .before
+
 loop-holds : tie.Need-loop-holds Inv-loop μ-loop
 loop-holds c =
     let a = c .before .before .args in
@@ -52,8 +65,8 @@ enum-told c = search needs
 returns : tie.Need-returns Inv-loop μ-loop
 returns c =
     let f = c .before .before in
-    let l = f .before .before in
-    let a = l .before .before .before .before .args in
+    let l = turnOf f in
+    let a = startOf l .args in
     sym
     (sym (l .before .loop .inv .1)
     ∙ match-miss (a .script .now) (drop (a .top) (a .entries .now)) (a .at) (a .count) (l .before .loop .i) (f .before .word .result)
@@ -75,16 +88,18 @@ kind-number-requires : tie.Need-kind-number-requires Inv-loop μ-loop
 kind-number-requires c κs = search needs
 
 kind-at-requires : tie.Need-kind-at-requires Inv-loop μ-loop
-kind-at-requires c κs = omega (arith, near-place (c .before .before .before .before .before .find .result) _ (c .before .before .before .place .given .1) (c .before .before .before .before .before .find .ensures .1))
+kind-at-requires c κs =
+    let p = placeOf c in
+    omega (arith, near-place (foundOf p .find .result) _ (p .place .given .1) (foundOf p .find .ensures .1))
 
 returns-2 : tie.Need-returns-2 Inv-loop μ-loop
 returns-2 c =
     let k = c .before in
     let n = k .before in
-    let p = n .before .before .before in
-    let f = p .before .before in
-    let l = f .before .before in
-    let a = l .before .before .before .before .args in
+    let p = placeOf n in
+    let f = foundOf p in
+    let l = turnOf f in
+    let a = startOf l .args in
     sym
     (sym (l .before .loop .inv .1)
     ∙ match-off (a .script .now) (drop (a .top) (a .entries .now)) (a .at) (a .count) (l .before .loop .i) (f .before .word .result)
@@ -101,10 +116,10 @@ loop-again : tie.Need-loop-again Inv-loop μ-loop
 loop-again c =
     let k = c .before in
     let n = k .before in
-    let p = n .before .before .before in
-    let f = p .before .before in
-    let l = f .before .before in
-    let a = l .before .before .before .before .args in (
+    let p = placeOf n in
+    let f = foundOf p in
+    let l = turnOf f in
+    let a = startOf l .args in (
       search needs,
       match-on (a .script .now) (drop (a .top) (a .entries .now)) (a .at) (a .count) (l .before .loop .i) (f .before .word .result)
           (l .loop-test .taken) (f .before .word .ensures .0) (a .formals) (p .place .given .0 .0) (sym (f .find .ensures .0) ∙ p .place .given .1)

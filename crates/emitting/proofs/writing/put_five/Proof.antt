@@ -5,6 +5,10 @@ use borrow.Author.Needs.{needs}
 use Rattle.emitting.proofs.writing.put_five.Statement.{statement}
 use Rattle.emitting.proofs.writing.put_five.Tie as tie
 
+-- the places: the first two words written
+abbrev firstOf : tie.After-put-three → tie.After-put-two
+firstOf c = c .before .before .before .before
+
 put-two-requires : tie.Need-put-two-requires
 put-two-requires c κs = search needs
 
@@ -18,7 +22,7 @@ same-length : tie.Need-same-length
 same-length c = search needs
 
 returns : tie.Need-returns
-returns c = λ sa sb sd se sf. grown-then (omega arith) (c .before .before .before .before .before .before .put-two .ensures sa sb) (c .before .before .put-three .ensures sd se sf)
+returns c = λ sa sb sd se sf. grown-then (omega arith) (firstOf (c .before .before) .put-two .ensures sa sb) (c .before .before .put-three .ensures sd se sf)
 
 pub put-five-spec : {M : Type 1} → statement M
 put-five-spec =

@@ -5,6 +5,10 @@ use borrow.Author.Needs.{needs}
 use Rattle.emitting.proofs.writing.put_four.Statement.{statement}
 use Rattle.emitting.proofs.writing.put_four.Tie as tie
 
+-- the places: the first two words written
+abbrev firstOf : tie.After-put-two2 → tie.After-put-two
+firstOf c = c .before .before .before .before
+
 put-two-requires : tie.Need-put-two-requires
 put-two-requires c κs = search needs
 
@@ -18,7 +22,7 @@ same-length : tie.Need-same-length
 same-length c = search needs
 
 returns : tie.Need-returns
-returns c = λ sa sb sd se. grown-then (omega arith) (c .before .before .before .before .before .before .put-two .ensures sa sb) (c .before .before .put-two2 .ensures sd se)
+returns c = λ sa sb sd se. grown-then (omega arith) (firstOf (c .before .before) .put-two .ensures sa sb) (c .before .before .put-two2 .ensures sd se)
 
 pub put-four-spec : {M : Type 1} → statement M
 put-four-spec =

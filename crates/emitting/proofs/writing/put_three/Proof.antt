@@ -7,6 +7,13 @@ use borrow.Author.Needs.{needs}
 use Rattle.emitting.proofs.writing.put_three.Statement.{statement}
 use Rattle.emitting.proofs.writing.put_three.Tie as tie
 
+-- the places: the first word written, and the second
+abbrev firstOf : tie.After-put2 → tie.After-put
+firstOf c = c .before .before .before .before
+
+abbrev secondOf : tie.After-put3 → tie.After-put2
+secondOf c = c .before .before .before .before
+
 put-requires : tie.Need-put-requires
 put-requires c κs = search needs
 
@@ -27,8 +34,10 @@ same-length c = search needs
 
 returns : tie.Need-returns
 returns c =
-    λ sa sb sd. grown-more refl (put-grows (c .before .before .before .before .before .before .before .before .before .before .put .ensures) sa)
-    (grown-more (omega arith) (put-grows (c .before .before .before .before .before .before .put2 .ensures) sb) (put-grows (c .before .before .put3 .ensures) sd))
+    let p₃ = c .before .before in
+    let p₂ = secondOf p₃ in
+    λ sa sb sd. grown-more refl (put-grows (firstOf p₂ .put .ensures) sa)
+    (grown-more (omega arith) (put-grows (p₂ .put2 .ensures) sb) (put-grows (p₃ .put3 .ensures) sd))
 
 pub put-three-spec : {M : Type 1} → statement M
 put-three-spec =

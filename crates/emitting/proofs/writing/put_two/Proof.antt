@@ -8,6 +8,10 @@ use borrow.Author.Needs.{needs}
 use Rattle.emitting.proofs.writing.put_two.Statement.{statement}
 use Rattle.emitting.proofs.writing.put_two.Tie as tie
 
+-- the places: the first word written
+abbrev firstOf : tie.After-put2 → tie.After-put
+firstOf c = c .before .before .before .before
+
 put-requires : tie.Need-put-requires
 put-requires c κs = search needs
 
@@ -21,7 +25,7 @@ same-length : tie.Need-same-length
 same-length c = search needs
 
 returns : tie.Need-returns
-returns c = λ sa sb. grown-more refl (put-grows (c .before .before .before .before .before .before .put .ensures) sa) (put-grows (c .before .before .put2 .ensures) sb)
+returns c = λ sa sb. grown-more refl (put-grows (firstOf (c .before .before) .put .ensures) sa) (put-grows (c .before .before .put2 .ensures) sb)
 
 pub put-two-spec : {M : Type 1} → statement M
 put-two-spec = tie.close (tie.spec put-requires add-put put-requires-2 same-length returns)

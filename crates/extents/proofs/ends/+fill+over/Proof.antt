@@ -56,6 +56,22 @@ fill-Inv-loop script ends₀ at here₀ pending₀ ends here pending =
 abbrev fill-μ-loop : fill-lts.MeasureT-loop
 fill-μ-loop script ends₀ at here₀ pending₀ ends here pending = length script - here
 
+-- the places: the starts, and the loop of a record passed over
+abbrev fill-startOf :
+    {t : ℕ} →
+    fill-lts.At-loop (fill-claims t) (fill-at t) fill.Post fill-Inv-loop fill-μ-loop →
+    fill-lts.Start (fill-claims t) (fill-at t) fill.Post fill-Inv-loop fill-μ-loop
+fill-startOf c = c .before .before .before .before
+
+abbrev fill-loopOf :
+    {t : ℕ} →
+    fill-lts.After-over (fill-claims t) (fill-at t) fill.Post fill-Inv-loop fill-μ-loop →
+    fill-lts.At-loop (fill-claims t) (fill-at t) fill.Post fill-Inv-loop fill-μ-loop
+fill-loopOf c = c .before .before .before .before
+
+abbrev over-startOf : {t : ℕ} → over-lts.After-word (over-claims t) (over-at t) over.Post → over-lts.Start (over-claims t) (over-at t) over.Post
+over-startOf c = c .before .before
+
 fill-word-requires : (t : ℕ) → fill-lts.Need-word-requires (fill-claims t) (fill-at t) fill.Post fill-Inv-loop fill-μ-loop
 fill-word-requires t c κs = search needs
 
@@ -77,7 +93,7 @@ fill-loop-holds t c =
 fill-returns : (t : ℕ) → fill-lts.Need-returns (fill-claims t) (fill-at t) fill.Post fill-Inv-loop fill-μ-loop
 fill-returns t c =
     let l = c .before .before .loop in
-    let a = c .before .before .before .before .before .before .args in (
+    let a = fill-startOf (c .before .before) .args in (
       (
         record {
           ends = λ x h. absurd
@@ -105,8 +121,9 @@ fill-loop-less t c = search needs
 fill-loop-again : (t : ℕ) → fill-lts.Need-loop-again (fill-claims t) (fill-at t) fill.Post fill-Inv-loop fill-μ-loop
 fill-loop-again t c =
     let o = c .before .over in
-    let l = c .before .before .before .before .before .loop in
-    let a = c .before .before .before .before .before .before .before .before .before .args in (
+    let at = fill-loopOf (c .before) in
+    let l = at .loop in
+    let a = fill-startOf at .args in (
       omega (arith, o .ensures .0 .on, l .inv .0),
       o .ensures .0 .near,
       omega (arith, o .ensures .0 .few, o .ensures .0 .on, l .inv .2),
@@ -119,8 +136,9 @@ fill-note-requires t c κs = search needs
 
 fill-returns-2 : (t : ℕ) → fill-lts.Need-returns-2 (fill-claims t) (fill-at t) fill.Post fill-Inv-loop fill-μ-loop
 fill-returns-2 t c =
-    let l = c .before .before .before .loop in
-    let a = c .before .before .before .before .before .before .before .args in
+    let at = c .before .before .before in
+    let l = at .loop in
+    let a = fill-startOf at .args in
     let s : Skipped (a .script .now) (a .at) (l .here) = record {
       ends = λ x h. left-end (a .script .now) (a .at) x (l .here) (l .pending) (c .before .before .loop-test .left) (l .inv .3 x h);
       after = omega (arith, l .inv .0);
@@ -137,7 +155,7 @@ over-fill-requires t c κs = search needs
 over-returns : (t : ℕ) → over-lts.Need-returns (over-claims t) (over-at t) over.Post
 over-returns t c =
     let f = c .fill in
-    let st = c .before .before .before .before .before in
+    let st = over-startOf (c .before .before .before) in
     let a = st .args in (
       record {
         steps = λ from pending x more l. left-whole (a .script .now) from x (a .at) pending (f .result) more (f .ensures .0 .0) l;
@@ -153,7 +171,7 @@ over-pass-requires t c κs = search needs
 
 over-returns-2 : (t : ℕ) → over-lts.Need-returns-2 (over-claims t) (over-at t) over.Post
 over-returns-2 t c =
-    let st = c .before .before .before .before in
+    let st = over-startOf (c .before .before) in
     (stepped-head (st .args .script .now) (st .args .at) (st .pre .1 .1) (c .pass .result) (c .pass .ensures), st .pre .1 .2)
 
 pub +fill+over-spec : {M : Type 1} → statement M

@@ -5,6 +5,13 @@ use Rattle.extents.proofs.Skipping.{skipped-out, skipped-head}
 use Rattle.extents.proofs.ends.skip.Statement.{statement}
 use Rattle.extents.proofs.ends.skip.Tie as tie
 
+-- the places: there is a record, and its mark is read
+abbrev startOf : tie.Else1 → tie.Start
+startOf c = c .before .before
+
+abbrev insideOf : tie.Else2 → tie.Else1
+insideOf c = c .before .before
+
 returns : tie.Need-returns
 returns c =
     let st = c .before .before in
@@ -30,8 +37,9 @@ past-requires c κs = search needs
 
 returns-4 : tie.Need-returns-4
 returns-4 c =
-    let st = c .before .before .before .before .before .before in
-    (skipped-head (st .args .script .now) (st .args .at) (c .before .before .before .before .if1 .left) _ (c .past .ensures) refl, st .pre .1)
+    let e = insideOf (c .before .before) in
+    let st = startOf e in
+    (skipped-head (st .args .script .now) (st .args .at) (e .if1 .left) _ (c .past .ensures) refl, st .pre .1)
 
 pub skip-spec : {M : Type 1} → statement M
 skip-spec =

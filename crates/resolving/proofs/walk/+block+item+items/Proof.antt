@@ -97,6 +97,58 @@ item-claims t = (
 abbrev items-claims : ℕ → items-lts.Claims
 items-claims t = (item-below t, item.Post)
 
+-- the places of `block`: the mark read, room for the names, the block entered, its text walked, its end put; behind a call the arrays are back
+abbrev block-startOf :
+    {t : ℕ} →
+    block-lts.After-slice-known3 (block-claims t) (block-at t) block.Post →
+    block-lts.Start (block-claims t) (block-at t) block.Post
+block-startOf c = c .before .before .before .before
+
+abbrev block-markOf : {t : ℕ} → block-lts.Else2 (block-claims t) (block-at t) block.Post → block-lts.After-word (block-claims t) (block-at t) block.Post
+block-markOf c = c .before .before .before .before
+
+abbrev block-entryOf : {t : ℕ} → block-lts.Else2 (block-claims t) (block-at t) block.Post → block-lts.Start (block-claims t) (block-at t) block.Post
+block-entryOf c = block-startOf (block-markOf c .before)
+
+abbrev block-roomOf : {t : ℕ} → block-lts.After-enter-arg4 (block-claims t) (block-at t) block.Post → block-lts.Else2 (block-claims t) (block-at t) block.Post
+block-roomOf c = c .before .before .before .before
+
+abbrev block-enterOf :
+    {t : ℕ} →
+    block-lts.After-slice-known5 (block-claims t) (block-at t) block.Post →
+    block-lts.After-enter (block-claims t) (block-at t) block.Post
+block-enterOf c = c .before .before .before .before
+
+abbrev block-codeOf :
+    {t : ℕ} →
+    block-lts.After-items-arg4 (block-claims t) (block-at t) block.Post →
+    block-lts.After-slice-known6 (block-claims t) (block-at t) block.Post
+block-codeOf c = c .before .before .before .before
+
+abbrev block-enteredOf :
+    {t : ℕ} →
+    block-lts.After-items-arg4 (block-claims t) (block-at t) block.Post →
+    block-lts.After-enter (block-claims t) (block-at t) block.Post
+block-enteredOf c = block-enterOf (block-codeOf c .before .before)
+
+abbrev block-itemsOf :
+    {t : ℕ} →
+    block-lts.After-slice-known8 (block-claims t) (block-at t) block.Post →
+    block-lts.After-items (block-claims t) (block-at t) block.Post
+block-itemsOf c = c .before .before .before .before
+
+abbrev block-walkedOf :
+    {t : ℕ} →
+    block-lts.After-put-arg (block-claims t) (block-at t) block.Post →
+    block-lts.After-items (block-claims t) (block-at t) block.Post
+block-walkedOf c = block-itemsOf (c .before .before .before)
+
+abbrev block-putOf :
+    {t : ℕ} →
+    block-lts.After-remove-arg (block-claims t) (block-at t) block.Post →
+    block-lts.After-put (block-claims t) (block-at t) block.Post
+block-putOf c = c .before .before .before
+
 block-mul-start : (t : ℕ) → block-lts.Need-mul-start (block-claims t) (block-at t) block.Post
 block-mul-start t c = search needs
 
@@ -108,9 +160,10 @@ block-word-requires t c κs = search needs
 
 block-returns : (t : ℕ) → block-lts.Need-returns (block-claims t) (block-at t) block.Post
 block-returns t c =
-    let st = c .before .before .before .before .before .before in
+    let w = c .before in
+    let st = block-startOf (w .before) in
     let a = st .args in (
-      λ b fs encl h. absurd (c .if1 .taken (c .before .word .ensures .0 ∙ block-mark (a .script .now) (a .at + 6 * a .count) b (h .here .stand))),
+      λ b fs encl h. absurd (c .if1 .taken (w .word .ensures .0 ∙ block-mark (a .script .now) (a .at + 6 * a .count) b (h .here .stand))),
       ((omega arith, omega (arith, st .pre .1 .1, st .pre .1 .2)), (refl, (st .pre .1 .6, st .pre .1 .7))),
     )
 
@@ -134,7 +187,8 @@ block-add-if2-2 t c = search needs
 
 block-returns-2 : (t : ℕ) → block-lts.Need-returns-2 (block-claims t) (block-at t) block.Post
 block-returns-2 t c =
-    let st = c .before .before .before .before .before .before .before .before .before in
+    let w = c .before .before .before .before in
+    let st = block-startOf (w .before) in
     let a = st .args in (
       λ b fs encl h. absurd
           (omega (arith, c .if2 .taken, c .before .before .word2 .ensures .0, block-room (a .script .now) (a .at) (a .count) (a .top) b fs (a .level) (h .here))),
@@ -149,19 +203,22 @@ block-sub-base t c = search needs
 
 block-enter-requires : (t : ℕ) → block-lts.Need-enter-requires (block-claims t) (block-at t) block.Post
 block-enter-requires t c κs =
-    let st = c .before .before .before .before .before .before .before .before .before .before .before .before .before in
+    let e = block-roomOf c in
+    let w₃ = e .before in
+    let w₂ = w₃ .before in
+    let st = block-entryOf e in
     let a = st .args in
     let p = st .pre .1 in
-    let d = c .before .before .before .before .before .before .word2 .result in
-    let l : 768 + (a .count + d) ≤ a .top = c .before .before .before .before .if2 .left in
+    let d = w₂ .word2 .result in
+    let l : 768 + (a .count + d) ≤ a .top = e .if2 .left in
     let whole : a .top ≡ a .top - (a .count + d) + (a .count + d) = omega arith in (
       p .0,
       omega (arith, p .0, p .1),
       p .2,
-      c .before .before .before .before .before .before .word2 .ensures .0,
-      c .before .before .before .before .before .word3 .ensures .0,
-      c .before .before .before .before .before .before .word2 .ensures .1,
-      c .before .before .before .before .before .word3 .ensures .1,
+      w₂ .word2 .ensures .0,
+      w₃ .word3 .ensures .0,
+      w₂ .word2 .ensures .1,
+      w₃ .word3 .ensures .1,
       omega (arith, p .0, p .1, p .5),
       omega arith,
       omega (arith, p .3, p .6 .long),
@@ -172,7 +229,7 @@ block-enter-requires t c κs =
 
 block-add-items : (t : ℕ) → block-lts.Need-add-items (block-claims t) (block-at t) block.Post
 block-add-items t c =
-    let st = c .before .before .before .before .before .before .before .before .before .before .before .before .before .before .before .before .before .before .before .before .before .before .before .before in
+    let st = block-entryOf (block-roomOf (block-enteredOf c .before)) in
     omega (arith, st .pre .1 .0, st .pre .1 .1, st .pre .1 .2)
 
 block-add-items-2 : (t : ℕ) → block-lts.Need-add-items-2 (block-claims t) (block-at t) block.Post
@@ -180,18 +237,21 @@ block-add-items-2 t c = search needs
 
 block-items-requires : (t : ℕ) → block-lts.Need-items-requires (block-claims t) (block-at t) block.Post
 block-items-requires t c κs =
-    let st = c .before .before .before .before .before .before .before .before .before .before .before .before .before .before .before .before .before .before .before .before .before .before .before .before in
+    let entered = block-enteredOf c in
+    let e = block-roomOf (entered .before) in
+    let m = block-markOf e in
+    let st = block-startOf (m .before) in
     let a = st .args in
     let p = st .pre .1 in
-    let n = c .before .before .before .before .before .before .before .before .before .before .enter in
-    let w : wordAt (a .script .now) (a .at + 6 * a .count) ≡ BK-mark = sym (c .before .before .before .before .before .before .before .before .before .before .before .before .before .before .before .before .before .before .before .word .ensures .0) ∙ c .before .before .before .before .before .before .before .before .before .before .before .before .before .before .before .before .before .before .if1 .left in
+    let n = entered .enter in
+    let w : wordAt (a .script .now) (a .at + 6 * a .count) ≡ BK-mark = sym (m .word .ensures .0) ∙ e .before .before .before .if1 .left in
     let inside = word-within (a .script .now) (a .at + 6 * a .count) (omega (arith, w)) in
     let long = n .ensures .1 .1 .1 .0 .long in (
       omega (arith, inside, st .pre .0),
       (
         p .0,
         omega (arith, inside),
-        omega (arith, c .before .before .before .before .before .before .before .before .before .before .before .before .before .before .before .before .before .word2 .ensures .1, c .before .before .before .before .before .before .before .before .before .before .before .before .before .before .before .before .word3 .ensures .1),
+        omega (arith, e .before .before .word2 .ensures .1, e .before .word3 .ensures .1),
         omega (arith, p .3, p .6 .long, long),
         omega (arith, p .4, n .kept .1 .1 .1 .0),
         omega (arith, p .5),
@@ -202,23 +262,32 @@ block-items-requires t c κs =
 
 block-add-put : (t : ℕ) → block-lts.Need-add-put (block-claims t) (block-at t) block.Post
 block-add-put t c =
-    let st = c .before .before .before .before .before .before .before .before .before .before .before .before .before .before .before .before .before .before .before .before .before .before .before .before .before .before .before .before .before .before .before .before in
+    let n = block-enteredOf (block-walkedOf c .before) in
+    let st = block-entryOf (block-roomOf (n .before)) in
     omega (arith, st .pre .1 .0, st .pre .1 .1, st .pre .1 .2)
 
 block-mul-put : (t : ℕ) → block-lts.Need-mul-put (block-claims t) (block-at t) block.Post
-block-mul-put t c = omega (arith, c .before .before .before .before .before .before .before .before .before .before .before .before .before .before .before .before .before .before .enter .ensures .1 .1 .1 .1 .1)
+block-mul-put t c =
+    let n = block-enteredOf (block-walkedOf c .before) in
+    omega (arith, n .enter .ensures .1 .1 .1 .1 .1)
 
 block-add-put-2 : (t : ℕ) → block-lts.Need-add-put-2 (block-claims t) (block-at t) block.Post
-block-add-put-2 t c = omega (arith, c .before .before .before .before .before .before .before .before .before .before .before .before .before .before .before .before .before .before .enter .ensures .1 .1 .1 .1 .1, c .before .before .before .before .before .before .before .items .ensures .1 .0 .1, c .before .before .before .before .before .before .before .before .before .before .before .before .before .before .before .before .before .before .before .before .before .before .before .before .before .before .before .before .before .before .before .before .pre .1 .0)
+block-add-put-2 t c =
+    let i = block-walkedOf c in
+    let n = block-enteredOf (i .before) in
+    let st = block-entryOf (block-roomOf (n .before)) in
+    omega (arith, n .enter .ensures .1 .1 .1 .1 .1, i .items .ensures .1 .0 .1, st .pre .1 .0)
 
 block-put-requires : (t : ℕ) → block-lts.Need-put-requires (block-claims t) (block-at t) block.Post
 block-put-requires t c κs = tt
 
 block-remove-requires : (t : ℕ) → block-lts.Need-remove-requires (block-claims t) (block-at t) block.Post
 block-remove-requires t c κs =
-    let st = c .before .before .before .before .before .before .before .before .before .before .before .before .before .before .before .before .before .before .before .before .before .before .before .before .before .before .before .before .before .before .before .before .before .before .before .before in
+    let i = block-walkedOf (block-putOf c .before) in
+    let n = block-enteredOf (i .before) in
+    let st = block-entryOf (block-roomOf (n .before)) in
     let a = st .args in
-    (c .before .before .before .before .before .before .before .before .before .before .before .items .ensures .1 .1 .1 .0, omega arith, omega (arith, st .pre .1 .3, st .pre .1 .6 .long))
+    (i .items .ensures .1 .1 .1 .0, omega arith, omega (arith, st .pre .1 .3, st .pre .1 .6 .long))
 
 block-same-length : (t : ℕ) → block-lts.Need-same-length (block-claims t) (block-at t) block.Post
 block-same-length t c = search needs
@@ -231,20 +300,27 @@ block-same-length-3 t c = search needs
 
 block-returns-3 : (t : ℕ) → block-lts.Need-returns-3 (block-claims t) (block-at t) block.Post
 block-returns-3 t c =
-    let f = c .before .before .remove in
-    let u = c .before .before .before .before .before .before .put in
-    let i = c .before .before .before .before .before .before .before .before .before .before .before .before .before .before .items in
-    let n = c .before .before .before .before .before .before .before .before .before .before .before .before .before .before .before .before .before .before .before .before .before .before .before .before .before .enter in
-    let d = c .before .before .before .before .before .before .before .before .before .before .before .before .before .before .before .before .before .before .before .before .before .before .before .before .before .before .before .before .before .before .before .before .word2 .result in
-    let s = c .before .before .before .before .before .before .before .before .before .before .before .before .before .before .before .before .before .before .before .before .before .before .before .before .before .before .before .before .before .before .before .word3 .result in
-    let st = c .before .before .before .before .before .before .before .before .before .before .before .before .before .before .before .before .before .before .before .before .before .before .before .before .before .before .before .before .before .before .before .before .before .before .before .before .before .before .before in
+    let removed = c .before .before in
+    let put = block-putOf (removed .before) in
+    let walked = block-walkedOf (put .before) in
+    let entered = block-enteredOf (walked .before) in
+    let e = block-roomOf (entered .before) in
+    let w₃ = e .before in
+    let w₂ = w₃ .before in
+    let f = removed .remove in
+    let u = put .put in
+    let i = walked .items in
+    let n = entered .enter in
+    let d = w₂ .word2 .result in
+    let s = w₃ .word3 .result in
+    let st = block-entryOf e in
     let a = st .args in
     let base = a .top - (a .count + d) in
-    let room : 768 + (a .count + d) ≤ a .top = c .before .before .before .before .before .before .before .before .before .before .before .before .before .before .before .before .before .before .before .before .before .before .before .before .before .before .before .before .before .before .if2 .left in
+    let room : 768 + (a .count + d) ≤ a .top = e .if2 .left in
     let whole : base + (a .count + d) ≡ a .top = omega arith in
     let es₁ = n .last .1 .0 in (
       block-written (a .script .now) (a .entries .now) es₁ (a .code .now) (n .last .1 .1 .1 .1 .0) (i .last .1 .1 .1 .1 .0) (u .last .0) (a .name) (a .at) (a .count) (a .top) base (a .level)
-          (n .result) (i .result) d s (c .before .before .before .before .before .before .before .before .before .before .before .before .before .before .before .before .before .before .before .before .before .before .before .before .before .before .before .before .before .before .before .before .word2 .ensures .0) (c .before .before .before .before .before .before .before .before .before .before .before .before .before .before .before .before .before .before .before .before .before .before .before .before .before .before .before .before .before .before .before .word3 .ensures .0) whole
+          (n .result) (i .result) d s (w₂ .word2 .ensures .0) (w₃ .word3 .ensures .0) whole
           (subst (λ (k : ℕ). Entered (a .script .now) (a .entries .now) es₁ (a .name) (a .at) (a .count) k base (a .level) (a .code .now) (n .last .1 .1 .1 .1 .0)) whole (n .ensures .0))
           (subst (λ (k : ℕ). Leads (a .script .now) (a .entries .now) (a .at) (a .count) k (a .level) (n .result)) whole (n .ensures .1 .0)) (i .ensures .0) (u .ensures),
       (
@@ -256,6 +332,34 @@ block-returns-3 t c =
         ),
       ),
     )
+
+-- the places of `item`: the mark read; a procedure met, its name written, its formals counted, its body walked; a block met, and walked
+abbrev item-startOf : {t : ℕ} → item-lts.After-slice-known3 (item-claims t) (item-at t) item.Post → item-lts.Start (item-claims t) (item-at t) item.Post
+item-startOf c = c .before .before .before .before
+
+abbrev item-entryOf : {t : ℕ} → item-lts.After-word (item-claims t) (item-at t) item.Post → item-lts.Start (item-claims t) (item-at t) item.Post
+item-entryOf c = item-startOf (c .before)
+
+abbrev item-procedureOf : {t : ℕ} → item-lts.After-emit-name (item-claims t) (item-at t) item.Post → item-lts.Then1 (item-claims t) (item-at t) item.Post
+item-procedureOf c = c .before .before .before
+
+abbrev item-namedOf : {t : ℕ} → item-lts.After-word2 (item-claims t) (item-at t) item.Post → item-lts.After-emit-name (item-claims t) (item-at t) item.Post
+item-namedOf c = c .before .before .before
+
+abbrev item-countOf : {t : ℕ} → item-lts.After-block-arg4 (item-claims t) (item-at t) item.Post → item-lts.After-word2 (item-claims t) (item-at t) item.Post
+item-countOf c = c .before .before .before .before
+
+abbrev item-bodyOf : {t : ℕ} → item-lts.After-slice-known6 (item-claims t) (item-at t) item.Post → item-lts.After-block (item-claims t) (item-at t) item.Post
+item-bodyOf c = c .before .before .before .before
+
+abbrev item-blockOf : {t : ℕ} → item-lts.After-block-arg8 (item-claims t) (item-at t) item.Post → item-lts.Then2 (item-claims t) (item-at t) item.Post
+item-blockOf c = c .before .before .before .before
+
+abbrev item-innerOf : {t : ℕ} → item-lts.After-slice-known9 (item-claims t) (item-at t) item.Post → item-lts.After-block2 (item-claims t) (item-at t) item.Post
+item-innerOf c = c .before .before .before .before
+
+abbrev item-leafOf : {t : ℕ} → item-lts.After-leaf (item-claims t) (item-at t) item.Post → item-lts.Else2 (item-claims t) (item-at t) item.Post
+item-leafOf c = c .before .before .before
 
 item-word-requires : (t : ℕ) → item-lts.Need-word-requires (item-claims t) (item-at t) item.Post
 item-word-requires t c κs = search needs
@@ -277,10 +381,11 @@ item-add-block-2 t c = search needs
 
 item-block-requires : (t : ℕ) → item-lts.Need-block-requires (item-claims t) (item-at t) item.Post
 item-block-requires t c κs =
-    let st = c .before .before .before .before .before .before .before .before .before .before .before .before .before .before .before .before in
+    let n = item-countOf c in
+    let st = item-entryOf (item-procedureOf (item-namedOf n) .before) in
     let p = st .pre .1 in (
       omega (arith, st .pre .0, p .1),
-      (p .0, omega (arith, p .1), c .before .before .before .before .word2 .ensures .1, p .2, p .3, omega (arith, p .4), p .5, p .6),
+      (p .0, omega (arith, p .1), n .word2 .ensures .1, p .2, p .3, omega (arith, p .4), p .5, p .6),
     )
 
 item-same-length : (t : ℕ) → item-lts.Need-same-length (item-claims t) (item-at t) item.Post
@@ -294,11 +399,16 @@ item-same-length-3 t c = search needs
 
 item-returns : (t : ℕ) → item-lts.Need-returns (item-claims t) (item-at t) item.Post
 item-returns t c =
-    let a = c .before .before .before .before .before .before .before .before .before .before .before .before .before .before .before .before .before .before .before .before .before .before .before .args in
-    let e = c .before .before .before .before .before .before .before .before .before .before .before .before .before .before .emit-name in
-    let n = c .before .before .before .before .before .before .before .before .before .before .before .word2 in
-    let b = c .before .before .before .before .before .before .block in (
-      item-PR (a .script .now) (a .entries .now) (a .name) (a .at) (a .top) (a .level) (a .code .now) _ (sym (c .before .before .before .before .before .before .before .before .before .before .before .before .before .before .before .before .before .before .word .ensures .0) ∙ c .before .before .before .before .before .before .before .before .before .before .before .before .before .before .before .before .before .if1 .taken)
+    let body = item-bodyOf (c .before .before) in
+    let counted = item-countOf (body .before) in
+    let named = item-namedOf counted in
+    let m = item-procedureOf named in
+    let w = m .before in
+    let a = item-entryOf w .args in
+    let e = named .emit-name in
+    let n = counted .word2 in
+    let b = body .block in (
+      item-PR (a .script .now) (a .entries .now) (a .name) (a .at) (a .top) (a .level) (a .code .now) _ (sym (w .word .ensures .0) ∙ m .if1 .taken)
           (e .last .1 .1 .1 .0) (e .ensures) (n .result) (n .ensures .0) (b .result) (b .ensures .0),
       ((omega (arith, b .ensures .1 .0 .0), b .ensures .1 .0 .1), b .ensures .1 .1),
     )
@@ -308,7 +418,7 @@ item-add-block-3 t c = search needs
 
 item-block-requires-2 : (t : ℕ) → item-lts.Need-block-requires-2 (item-claims t) (item-at t) item.Post
 item-block-requires-2 t c κs =
-    let st = c .before .before .before .before .before .before .before .before .before .before .before in
+    let st = item-entryOf (item-blockOf c .before .before) in
     let p = st .pre .1 in (
       omega (arith, st .pre .0, p .1),
       (p .0, omega (arith, p .1), omega arith, p .2, p .3, omega (arith, p .4), p .5, p .6),
@@ -325,9 +435,12 @@ item-same-length-6 t c = search needs
 
 item-returns-2 : (t : ℕ) → item-lts.Need-returns-2 (item-claims t) (item-at t) item.Post
 item-returns-2 t c =
-    let a = c .before .before .before .before .before .before .before .before .before .before .before .before .before .before .before .before .before .before .args in
-    let b = c .before .before .before .before .before .before .block2 in (
-      item-BK (a .script .now) (a .entries .now) (a .name) (a .at) (a .top) (a .level) (a .code .now) _ (sym (c .before .before .before .before .before .before .before .before .before .before .before .before .before .word .ensures .0) ∙ c .before .before .before .before .before .before .before .before .before .before .before .if2 .taken) (b .result) (b .ensures .0),
+    let inner = item-innerOf (c .before .before) in
+    let m = item-blockOf (inner .before) in
+    let w = m .before .before in
+    let a = item-entryOf w .args in
+    let b = inner .block2 in (
+      item-BK (a .script .now) (a .entries .now) (a .name) (a .at) (a .top) (a .level) (a .code .now) _ (sym (w .word .ensures .0) ∙ m .if2 .taken) (b .result) (b .ensures .0),
       b .ensures .1,
     )
 
@@ -342,9 +455,10 @@ item-same-length-8 t c = search needs
 
 item-returns-3 : (t : ℕ) → item-lts.Need-returns-3 (item-claims t) (item-at t) item.Post
 item-returns-3 t c =
-    let st = c .before .before .before .before .before .before .before .before .before .before .before .before in
+    let r = c .before .before in
+    let st = item-entryOf (item-leafOf r .before .before) in
     let a = st .args in
-    let l = c .before .before .leaf in
+    let l = r .leaf in
     (l .ensures .0 (a .name) (a .level), (l .ensures .1, (refl, (st .pre .1 .5, st .pre .1 .6))))
 
 abbrev items-Inv-loop : items-lts.InvT-loop
@@ -363,9 +477,34 @@ items-Inv-loop script entries₀ ends₀ starts₀ code₀ name at count top lev
 abbrev items-μ-loop : items-lts.MeasureT-loop
 items-μ-loop script entries₀ ends₀ starts₀ code₀ name at count top level here₀ i₀ entries ends starts code here i = count - i
 
+-- the places of `items`: the start, a record met, and walked
+abbrev items-startOf :
+    {t : ℕ} →
+    items-lts.After-slice-known3 (items-claims t) (items-at t) items.Post items-Inv-loop items-μ-loop →
+    items-lts.Start (items-claims t) (items-at t) items.Post items-Inv-loop items-μ-loop
+items-startOf c = c .before .before .before .before
+
+abbrev items-entryOf :
+    {t : ℕ} →
+    items-lts.At-loop (items-claims t) (items-at t) items.Post items-Inv-loop items-μ-loop →
+    items-lts.Start (items-claims t) (items-at t) items.Post items-Inv-loop items-μ-loop
+items-entryOf c = items-startOf (c .before)
+
+abbrev items-insideOf :
+    {t : ℕ} →
+    items-lts.After-item-arg4 (items-claims t) (items-at t) items.Post items-Inv-loop items-μ-loop →
+    items-lts.Else1 (items-claims t) (items-at t) items.Post items-Inv-loop items-μ-loop
+items-insideOf c = c .before .before .before .before
+
+abbrev items-itemOf :
+    {t : ℕ} →
+    items-lts.After-slice-known5 (items-claims t) (items-at t) items.Post items-Inv-loop items-μ-loop →
+    items-lts.After-item (items-claims t) (items-at t) items.Post items-Inv-loop items-μ-loop
+items-itemOf c = c .before .before .before .before
+
 items-loop-holds : (t : ℕ) → items-lts.Need-loop-holds (items-claims t) (items-at t) items.Post items-Inv-loop items-μ-loop
 items-loop-holds t c =
-    let st = c .before .before .before .before in
+    let st = items-startOf c in
     let a = st .args in (
       omega arith,
       omega arith,
@@ -391,7 +530,7 @@ items-same-length-3 t c = c .before .before .loop .inv .5
 items-returns : (t : ℕ) → items-lts.Need-returns (items-claims t) (items-at t) items.Post items-Inv-loop items-μ-loop
 items-returns t c =
     let l = c .before .before .loop in
-    let a = c .before .before .before .before .before .before .before .args in (
+    let a = items-entryOf (c .before .before) .args in (
       λ xs encl s h. absurd
           (remaining-inside (a .script .now) (a .entries .now) (a .code .now) (a .name) (a .at) (a .count) (a .top) (a .level) xs encl s h (l .here) (l .i) (c .before .loop-test .taken) (l .code)
           (l .inv .7 xs encl s h) (c .if1 .taken)),
@@ -400,10 +539,12 @@ items-returns t c =
 
 items-item-requires : (t : ℕ) → items-lts.Need-item-requires (items-claims t) (items-at t) items.Post items-Inv-loop items-μ-loop
 items-item-requires t c κs =
-    let l = c .before .before .before .before .before .before .loop in
-    let st = c .before .before .before .before .before .before .before .before .before .before .before in
+    let e = items-insideOf c in
+    let at = e .before .before in
+    let l = at .loop in
+    let st = items-entryOf at in
     let p = st .pre .1 in
-    let inside = c .before .before .before .before .if1 .left in (
+    let inside = e .if1 .left in (
       omega (arith, st .pre .0, l .inv .1, inside),
       (p .0, inside, omega (arith, p .3, l .inv .3), omega (arith, p .4, l .inv .4), omega (arith, p .5, l .inv .1), l .inv .8, l .inv .9),
     )
@@ -416,10 +557,12 @@ items-loop-less t c = search needs
 
 items-loop-again : (t : ℕ) → items-lts.Need-loop-again (items-claims t) (items-at t) items.Post items-Inv-loop items-μ-loop
 items-loop-again t c =
-    let r = c .before .before .before .before .before .before .item in
-    let l = c .before .before .before .before .before .before .before .before .before .before .before .before .before .loop in
-    let a = c .before .before .before .before .before .before .before .before .before .before .before .before .before .before .before .before .before .before .args in (
-      omega (arith, c .before .before .before .before .before .before .before .before .before .before .before .before .loop-test .taken),
+    let walked = items-itemOf (c .before .before) in
+    let turn = items-insideOf (walked .before) .before in
+    let r = walked .item in
+    let l = turn .before .loop in
+    let a = items-entryOf (turn .before) .args in (
+      omega (arith, turn .loop-test .taken),
       omega (arith, r .ensures .1 .0 .0, l .inv .1),
       r .ensures .1 .0 .1,
       r .kept .1 .0 ∙ l .inv .3,
@@ -427,7 +570,7 @@ items-loop-again t c =
       r .kept .1 .1 .1 .1 .0 ∙ l .inv .5,
       r .ensures .1 .1 .0 ∙ l .inv .6,
       λ xs encl s h. remaining-step (a .script .now) (a .entries .now) (a .code .now) (a .name) (a .at) (a .count) (a .top) (a .level) xs encl s h (l .here) (l .i)
-          (c .before .before .before .before .before .before .before .before .before .before .before .before .loop-test .taken) (l .code) (r .last .1 .1 .1 .1 .0) (l .entries) (l .inv .6) (r .result) (r .ensures .0) (l .inv .7 xs encl s h),
+          (turn .loop-test .taken) (l .code) (r .last .1 .1 .1 .1 .0) (l .entries) (l .inv .6) (r .result) (r .ensures .0) (l .inv .7 xs encl s h),
       r .ensures .1 .1 .1 .0,
       r .ensures .1 .1 .1 .1,
     )
@@ -444,7 +587,7 @@ items-same-length-6 t c = c .before .loop .inv .5
 items-returns-2 : (t : ℕ) → items-lts.Need-returns-2 (items-claims t) (items-at t) items.Post items-Inv-loop items-μ-loop
 items-returns-2 t c =
     let l = c .before .loop in
-    let a = c .before .before .before .before .before .before .args in (
+    let a = items-entryOf (c .before) .args in (
       λ xs encl s h. remaining-end (a .script .now) (a .entries .now) (a .code .now) (a .name) (a .at) (a .count) (a .top) (a .level) xs encl s h (l .here) (l .i) (l .code) (c .loop-test .left)
           (l .inv .7 xs encl s h),
       ((l .inv .1, l .inv .2), (l .inv .6, (l .inv .8, l .inv .9))),

@@ -9,9 +9,25 @@ use borrow.Author.Needs.{needs}
 use Rattle.resolving.proofs.walk.enter.Statement.{statement}
 use Rattle.resolving.proofs.walk.enter.Tie as tie
 
+-- the places: the start, the names declared, put into the chains, the formals' kinds written
+abbrev startOf : tie.After-slice-known3 → tie.Start
+startOf c = c .before .before .before .before
+
+abbrev entryOf : tie.After-declare-arg3 → tie.Start
+entryOf c = startOf (c .before .before .before)
+
+abbrev declareOf : tie.After-slice-known5 → tie.After-declare
+declareOf c = c .before .before .before .before
+
+abbrev insertedOf : tie.After-kinds-arg → tie.After-insert
+insertedOf c = c .before .before .before
+
+abbrev kindsOf : tie.After-named-arg → tie.After-kinds
+kindsOf c = c .before .before .before
+
 declare-requires : tie.Need-declare-requires
 declare-requires c κs =
-    let st = c .before .before .before .before .before .before .before in
+    let st = entryOf c in
     let p = st .pre in
     (p .0, p .1, p .2, p .3, p .4, p .5, p .6, p .7, omega (arith, p .9, p .11 .long), p .10, p .12)
 
@@ -23,10 +39,11 @@ add-insert-2 c = search needs
 
 insert-requires : tie.Need-insert-requires
 insert-requires c κs =
-    let st = c .before .before .before .before .before .before .before .before .before .before .before .before .before in
+    let declared = declareOf (c .before) in
+    let st = entryOf (declared .before) in
     let p = st .pre in
     let a = st .args in
-    let dc = c .before .before .before .before .before .declare in (
+    let dc = declared .declare in (
       chained-still (a .entries .now) (dc .last .1 .0) (a .base) (a .base + (a .count + a .d)) (p .8) (omega arith) (dc .kept .1 .0) (dc .ensures .1 .1 .0) (dc .ensures .1 .0) (p .11),
       p .8,
       omega arith,
@@ -80,14 +97,19 @@ same-length-3 c = search needs
 
 returns : tie.Need-returns
 returns c =
-    let st = c .before .before .before .before .before .before .before .before .before .before .before .before .before .before .before .before .before .before .before .before .before .before .before .before .before .before in
+    let w = c .before .before in
+    let n = w .before .before in
+    let k = kindsOf (n .before) in
+    let inserted = insertedOf (k .before) in
+    let declared = declareOf (inserted .before .before) in
+    let st = entryOf (declared .before) in
     let p = st .pre in
     let a = st .args in
-    let dc = c .before .before .before .before .before .before .before .before .before .before .before .before .before .before .before .before .before .before .declare in
-    let g = c .before .before .before .before .before .before .before .before .before .before .before .before .insert in
+    let dc = declared .declare in
+    let g = inserted .insert in
     let kept : drop (a .base) (g .last .0) ≡ drop (a .base) (dc .last .1 .0) = kept-from (g .last .0) (dc .last .1 .0) 768 (a .base) (p .8) (g .ensures .1) in (
       entered (a .script .now) (a .name) (a .at) (a .count) (a .d) (a .base) (a .level) (p .3) (a .entries .now) (dc .last .1 .0) (g .last .0) (a .code .now)
-          (c .before .before .before .before .before .before .before .before .kinds .last .1 .0) (c .before .before .put-three .last .0) (dc .result) (c .before .before .before .before .named .result) (dc .ensures .0) kept (c .before .before .before .before .before .before .before .before .kinds .ensures) (c .before .before .before .before .named .ensures .0) (c .before .before .put-three .ensures),
+          (k .kinds .last .1 .0) (w .put-three .last .0) (dc .result) (n .named .result) (dc .ensures .0) kept (k .kinds .ensures) (n .named .ensures .0) (w .put-three .ensures),
       (
         λ b fs encl is. dc .ensures .0 .leads b fs (is .here) (is .within),
         (

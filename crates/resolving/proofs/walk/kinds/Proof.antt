@@ -21,6 +21,13 @@ Inv-loop script code₀ at count i₀ code i =
 abbrev μ-loop : tie.MeasureT-loop
 μ-loop script code₀ at count i₀ code i = count - i
 
+-- the places: the start, and the turn of a kind written
+abbrev startOf : tie.At-loop Inv-loop μ-loop → tie.Start Inv-loop μ-loop
+startOf c = c .before .before .before
+
+abbrev turnOf : tie.After-put Inv-loop μ-loop → tie.In-loop Inv-loop μ-loop
+turnOf c = c .before .before .before
+
 loop-holds : tie.Need-loop-holds Inv-loop μ-loop
 loop-holds c = let a = c .before .before .args in (omega arith, refl, λ fs n h. listing-start (a .script .now) (a .code .now) (a .at) (a .count) fs n h)
 
@@ -47,12 +54,15 @@ loop-less c = search needs
 
 loop-again : tie.Need-loop-again Inv-loop μ-loop
 loop-again c =
-    let a = c .before .before .before .before .before .before .before .before .before .args in
-    let l = c .before .before .before .before .before .before .loop in (
-      omega (arith, c .before .before .before .before .before .loop-test .taken),
-      c .before .before .put .kept .0 ∙ l .inv .1,
-      λ fs n h. listing-step (a .script .now) (a .code .now) (a .at) (a .count) fs (l .code) (c .before .before .put .last .0) (l .i) (c .before .before .before .word .result)
-          (c .before .before .before .before .before .loop-test .taken) (c .before .before .before .word .ensures .1) (c .before .before .before .word .ensures .0) (c .before .before .put .ensures) (l .inv .2 fs n h),
+    let p = c .before .before in
+    let w = p .before in
+    let turn = turnOf p in
+    let a = startOf (turn .before) .args in
+    let l = turn .before .loop in (
+      omega (arith, turn .loop-test .taken),
+      p .put .kept .0 ∙ l .inv .1,
+      λ fs n h. listing-step (a .script .now) (a .code .now) (a .at) (a .count) fs (l .code) (p .put .last .0) (l .i) (w .word .result)
+          (turn .loop-test .taken) (w .word .ensures .1) (w .word .ensures .0) (p .put .ensures) (l .inv .2 fs n h),
     )
 
 same-length : tie.Need-same-length Inv-loop μ-loop
@@ -60,7 +70,7 @@ same-length c = search needs
 
 returns : tie.Need-returns Inv-loop μ-loop
 returns c =
-    let a = c .before .before .before .before .args in
+    let a = startOf (c .before) .args in
     let l = c .before .loop in
     λ fs n h. listing-end (a .script .now) (a .code .now) (a .at) (a .count) fs (l .code) (l .i) (omega (arith, c .loop-test .left, l .inv .0)) (l .inv .2 fs n h)
 

@@ -6,6 +6,10 @@ use Rattle.resolving.proofs.Records.{item-VR, item-LB, item-action}
 use Rattle.resolving.proofs.walk.leaf.Statement.{statement}
 use Rattle.resolving.proofs.walk.leaf.Tie as tie
 
+-- the places: the start
+abbrev startOf : tie.After-slice-known → tie.Start
+startOf c = c .before .before .before
+
 emit-name-requires : tie.Need-emit-name-requires
 emit-name-requires c κs = search needs
 
@@ -17,10 +21,12 @@ same-length c = search needs
 
 returns : tie.Need-returns
 returns c =
-    let st = c .before .before .before .before .before .before .before .before in
+    let r = c .before .before in
+    let m = r .before .before in
+    let st = startOf (m .before) in
     let a = st .args in
-    let e = c .before .before .emit-name in (
-      λ name level. item-VR (a .script .now) (a .entries .now) name (a .at) (a .top) level (a .code .now) (e .last .1 .1 .1 .0) (sym (st .pre .4) ∙ c .before .before .before .before .if1 .taken) (e .ensures),
+    let e = r .emit-name in (
+      λ name level. item-VR (a .script .now) (a .entries .now) name (a .at) (a .top) level (a .code .now) (e .last .1 .1 .1 .0) (sym (st .pre .4) ∙ m .if1 .taken) (e .ensures),
       (omega arith, omega (arith, st .pre .1)),
     )
 
@@ -35,10 +41,12 @@ same-length-2 c = search needs
 
 returns-2 : tie.Need-returns-2
 returns-2 c =
-    let st = c .before .before .before .before .before .before .before .before .before in
+    let r = c .before .before in
+    let m = r .before .before in
+    let st = startOf (m .before .before) in
     let a = st .args in
-    let e = c .before .before .emit-name2 in (
-      λ name level. item-LB (a .script .now) (a .entries .now) name (a .at) (a .top) level (a .code .now) (e .last .1 .1 .1 .0) (sym (st .pre .4) ∙ c .before .before .before .before .if2 .taken) (e .ensures),
+    let e = r .emit-name2 in (
+      λ name level. item-LB (a .script .now) (a .entries .now) name (a .at) (a .top) level (a .code .now) (e .last .1 .1 .1 .0) (sym (st .pre .4) ∙ m .if2 .taken) (e .ensures),
       (omega arith, omega (arith, st .pre .1)),
     )
 
@@ -53,12 +61,14 @@ same-length-3 c = search needs
 
 returns-3 : tie.Need-returns-3
 returns-3 c =
-    let st = c .before .before .before .before .before .before .before .before .before .before in
+    let r = c .before .before .before in
+    let m = r .before .before in
+    let st = startOf (m .before .before) in
     let a = st .args in
     let p = st .pre in
-    let e = c .before .before .before .emit in (
+    let e = r .emit in (
       λ name level. item-action (a .script .now) (a .entries .now) name (a .at) (a .top) level (a .code .now) (e .last .1 .1 .1 .0) (λ m. p .5 (p .4 ∙ m)) (λ m. p .6 (p .4 ∙ m))
-          (λ m. c .before .before .before .before .before .before .if1 .left (p .4 ∙ m)) (λ m. c .before .before .before .before .before .if2 .left (p .4 ∙ m)) (record { next = c .past .result; more = 0 }) (c .past .ensures) (e .ensures),
+          (λ q. m .before .if1 .left (p .4 ∙ q)) (λ q. m .if2 .left (p .4 ∙ q)) (record { next = c .past .result; more = 0 }) (c .past .ensures) (e .ensures),
       (omega (arith, c .past .ensures .on), omega (arith, c .past .ensures .near, p .1)),
     )
 

@@ -87,6 +87,49 @@ item-claims t = (
 abbrev items-claims : ℕ → items-lts.Claims
 items-claims t = (item-below t, item.Post)
 
+-- the places of `block`: the mark read, room for the names, the declared names and the formals pushed, both in the chains, the text judged
+abbrev block-startOf : {t : ℕ} → block-lts.After-word (block-claims t) (block-at t) block.Post → block-lts.Start (block-claims t) (block-at t) block.Post
+block-startOf c = c .before .before .before
+
+abbrev block-markOf : {t : ℕ} → block-lts.Else2 (block-claims t) (block-at t) block.Post → block-lts.After-word (block-claims t) (block-at t) block.Post
+block-markOf c = c .before .before .before .before
+
+abbrev block-roomOf : {t : ℕ} → block-lts.After-push (block-claims t) (block-at t) block.Post → block-lts.Else2 (block-claims t) (block-at t) block.Post
+block-roomOf c = c .before .before .before
+
+abbrev block-declaredOf :
+    {t : ℕ} →
+    block-lts.After-push-arg4 (block-claims t) (block-at t) block.Post →
+    block-lts.After-push (block-claims t) (block-at t) block.Post
+block-declaredOf c = c .before .before .before .before
+
+abbrev block-formalsOf :
+    {t : ℕ} →
+    block-lts.After-insert-arg (block-claims t) (block-at t) block.Post →
+    block-lts.After-push2 (block-claims t) (block-at t) block.Post
+block-formalsOf c = c .before .before .before
+
+abbrev block-insertedOf :
+    {t : ℕ} →
+    block-lts.After-items-arg2 (block-claims t) (block-at t) block.Post →
+    block-lts.After-insert (block-claims t) (block-at t) block.Post
+block-insertedOf c = c .before .before .before .before
+
+abbrev block-judgedOf :
+    {t : ℕ} →
+    block-lts.After-remove-arg (block-claims t) (block-at t) block.Post →
+    block-lts.After-items (block-claims t) (block-at t) block.Post
+block-judgedOf c = c .before .before .before
+
+abbrev block-pushedOf :
+    {t : ℕ} →
+    block-lts.After-insert (block-claims t) (block-at t) block.Post →
+    block-lts.After-push (block-claims t) (block-at t) block.Post
+block-pushedOf c = block-declaredOf (block-formalsOf (c .before) .before)
+
+abbrev block-entryOf : {t : ℕ} → block-lts.After-push (block-claims t) (block-at t) block.Post → block-lts.Start (block-claims t) (block-at t) block.Post
+block-entryOf c = block-startOf (block-markOf (block-roomOf c))
+
 block-mul-start : (t : ℕ) → block-lts.Need-mul-start (block-claims t) (block-at t) block.Post
 block-mul-start t c = search needs
 
@@ -99,7 +142,7 @@ block-word-requires t c κs = search needs
 block-returns : (t : ℕ) → block-lts.Need-returns (block-claims t) (block-at t) block.Post
 block-returns t c =
     let w = c .before in
-    let st = c .before .before .before .before in
+    let st = block-startOf w in
     let a = st .args in (
       λ b fs level h. absurd (c .if1 .taken (w .word .ensures .0 ∙ block-mark (a .script .now) (a .at + 6 * a .count) b (h .stand))),
       (tt, (refl, (st .pre .1 .4, st .pre .1 .5))),
@@ -125,7 +168,7 @@ block-add-if2-2 t c = search needs
 
 block-returns-2 : (t : ℕ) → block-lts.Need-returns-2 (block-claims t) (block-at t) block.Post
 block-returns-2 t c =
-    let st = c .before .before .before .before .before .before .before in
+    let st = block-startOf (c .before .before .before .before) in
     let a = st .args in (
       λ b fs level h. absurd
           (omega (arith, c .if2 .taken, c .before .before .word2 .ensures .0, block-room (a .script .now) (a .at) (a .count) (a .top) b fs level h)),
@@ -152,7 +195,7 @@ block-push-requires-2 t c κs = search needs
 
 block-add-items : (t : ℕ) → block-lts.Need-add-items (block-claims t) (block-at t) block.Post
 block-add-items t c =
-    let st = c .before .before .before .before .before .before .before .before .before .before .before .before .before .before .before .before .before .before .before .before .before .before .before in
+    let st = block-entryOf (block-pushedOf (block-insertedOf c)) in
     omega (arith, st .pre .1 .1, st .pre .1 .2)
 
 block-add-items-2 : (t : ℕ) → block-lts.Need-add-items-2 (block-claims t) (block-at t) block.Post
@@ -160,13 +203,14 @@ block-add-items-2 t c = search needs
 
 block-insert-requires : (t : ℕ) → block-lts.Need-insert-requires (block-claims t) (block-at t) block.Post
 block-insert-requires t c κs =
-    let p₂ = c .before .before .before in
-    let p₁ = c .before .before .before .before .before .before .before .before in
-    let d = c .before .before .before .before .before .before .before .before .before .before .before .before .before .word2 .result in
-    let st = c .before .before .before .before .before .before .before .before .before .before .before .before .before .before .before .before .before .before in
+    let p₂ = block-formalsOf c in
+    let p₁ = block-declaredOf (p₂ .before) in
+    let e = block-roomOf p₁ in
+    let d = e .before .before .word2 .result in
+    let st = block-entryOf p₁ in
     let a = st .args in
     let base = a .top - (a .count + d) in
-    let l : 768 + (a .count + d) ≤ a .top = c .before .before .before .before .before .before .before .before .before .before .before .if2 .left in
+    let l : 768 + (a .count + d) ≤ a .top = e .if2 .left in
     let whole : base + (a .count + d) ≡ a .top = omega arith in (
       pushed-chained (a .entries .now) (p₁ .push .last .1 .0) (p₂ .push2 .last .1 .0) base (a .count) d (a .top) (omega arith) whole
           (p₁ .push .kept .1 .0) (p₂ .push2 .kept .1 .0) (p₁ .push .ensures .1 .1 .0) (p₁ .push .ensures .1 .0)
@@ -178,39 +222,49 @@ block-insert-requires t c κs =
 
 block-items-requires : (t : ℕ) → block-lts.Need-items-requires (block-claims t) (block-at t) block.Post
 block-items-requires t c κs =
-    let st = c .before .before .before .before .before .before .before .before .before .before .before .before .before .before .before .before .before .before .before .before .before .before .before in
+    let g = block-insertedOf c in
+    let p₂ = block-formalsOf (g .before) in
+    let e = block-roomOf (block-declaredOf (p₂ .before)) in
+    let m = block-markOf e in
+    let st = block-startOf m in
     let a = st .args in
-    let w : wordAt (a .script .now) (a .at + 6 * a .count) ≡ BK-mark = sym (c .before .before .before .before .before .before .before .before .before .before .before .before .before .before .before .before .before .before .before .before .word .ensures .0) ∙ c .before .before .before .before .before .before .before .before .before .before .before .before .before .before .before .before .before .before .before .if1 .left in
+    let w : wordAt (a .script .now) (a .at + 6 * a .count) ≡ BK-mark = sym (m .word .ensures .0) ∙ e .before .before .before .if1 .left in
     let inside = word-within (a .script .now) (a .at + 6 * a .count) (omega (arith, w)) in
-    let hang = c .before .before .before .before .insert in (
+    let hang = g .insert in (
       omega (arith, inside, st .pre .0),
       (
         st .pre .1 .0,
         omega (arith, inside),
-        omega (arith, c .before .before .before .before .before .before .before .before .before .before .before .before .before .before .before .before .before .before .word2 .ensures .1, c .before .before .before .before .before .before .before .before .before .before .before .before .before .before .before .before .before .word3 .ensures .1),
+        omega (arith, e .before .before .word2 .ensures .1, e .before .word3 .ensures .1),
         omega (arith, st .pre .1 .3, st .pre .1 .4 .long, hang .ensures .0 .long),
         hang .ensures .0,
-        c .before .before .before .before .before .before .before .before .push2 .ensures .1 .1 .1,
+        p₂ .push2 .ensures .1 .1 .1,
       ),
     )
 
 block-remove-requires : (t : ℕ) → block-lts.Need-remove-requires (block-claims t) (block-at t) block.Post
 block-remove-requires t c κs =
-    let st = c .before .before .before .before .before .before .before .before .before .before .before .before .before .before .before .before .before .before .before .before .before .before .before .before .before .before .before in
-    (c .before .before .before .items .ensures .1 .1 .1 .0, omega arith, omega (arith, st .pre .1 .3, st .pre .1 .4 .long))
+    let j = block-judgedOf c in
+    let st = block-entryOf (block-pushedOf (block-insertedOf (j .before))) in
+    (j .items .ensures .1 .1 .1 .0, omega arith, omega (arith, st .pre .1 .3, st .pre .1 .4 .long))
 
 block-same-length : (t : ℕ) → block-lts.Need-same-length (block-claims t) (block-at t) block.Post
 block-same-length t c = search needs
 
 block-returns-3 : (t : ℕ) → block-lts.Need-returns-3 (block-claims t) (block-at t) block.Post
 block-returns-3 t c =
-    let f = c .before .before .remove in
-    let i = c .before .before .before .before .before .before .items in
-    let g = c .before .before .before .before .before .before .before .before .before .before .before .insert in
-    let p₂ = c .before .before .before .before .before .before .before .before .before .before .before .before .before .before .before .push2 in
-    let p₁ = c .before .before .before .before .before .before .before .before .before .before .before .before .before .before .before .before .before .before .before .before .push in
-    let e = c .before .before .before .before .before .before .before .before .before .before .before .before .before .before .before .before .before .before .before .before .before .before .before in
-    let a = c .before .before .before .before .before .before .before .before .before .before .before .before .before .before .before .before .before .before .before .before .before .before .before .before .before .before .before .before .before .before .args in
+    let removed = c .before .before in
+    let judged = block-judgedOf (removed .before) in
+    let inserted = block-insertedOf (judged .before) in
+    let formals = block-formalsOf (inserted .before) in
+    let declared = block-declaredOf (formals .before) in
+    let f = removed .remove in
+    let i = judged .items in
+    let g = inserted .insert in
+    let p₂ = formals .push2 in
+    let p₁ = declared .push in
+    let e = block-roomOf declared in
+    let a = block-entryOf declared .args in
     let d = e .before .before .word2 .result in
     let s = e .before .word3 .result in
     let base = a .top - (a .count + d) in
@@ -232,6 +286,19 @@ block-returns-3 t c =
       ),
     )
 
+-- the places of `item`: the mark read, a procedure or a block met
+abbrev item-startOf : {t : ℕ} → item-lts.After-word (item-claims t) (item-at t) item.Post → item-lts.Start (item-claims t) (item-at t) item.Post
+item-startOf c = c .before .before .before
+
+abbrev item-procedureOf : {t : ℕ} → item-lts.After-word2 (item-claims t) (item-at t) item.Post → item-lts.Then1 (item-claims t) (item-at t) item.Post
+item-procedureOf c = c .before .before .before
+
+abbrev item-blockOf : {t : ℕ} → item-lts.After-block-arg4 (item-claims t) (item-at t) item.Post → item-lts.Then2 (item-claims t) (item-at t) item.Post
+item-blockOf c = c .before .before
+
+abbrev item-markOf : {t : ℕ} → item-lts.Else2 (item-claims t) (item-at t) item.Post → item-lts.After-word (item-claims t) (item-at t) item.Post
+item-markOf c = c .before .before
+
 item-word-requires : (t : ℕ) → item-lts.Need-word-requires (item-claims t) (item-at t) item.Post
 item-word-requires t c κs = search needs
 
@@ -246,7 +313,7 @@ item-word-requires-2 t c κs = search needs
 
 item-block-requires : (t : ℕ) → item-lts.Need-block-requires (item-claims t) (item-at t) item.Post
 item-block-requires t c κs =
-    let st = c .before .before .before .before .before .before .before in (
+    let st = item-startOf (item-procedureOf c .before) in (
       omega (arith, st .pre .0, st .pre .1 .1),
       (st .pre .1 .0, omega (arith, st .pre .1 .0, st .pre .1 .1), c .word2 .ensures .1, st .pre .1 .2, st .pre .1 .3, st .pre .1 .4),
     )
@@ -257,17 +324,17 @@ item-same-length t c = search needs
 item-returns : (t : ℕ) → item-lts.Need-returns (item-claims t) (item-at t) item.Post
 item-returns t c =
     let b = c .before .before in
-    let w = c .before .before .before .before .before .before .before in
-    let a = c .before .before .before .before .before .before .before .before .before .before .args in
+    let m = item-procedureOf (b .before) in
+    let a = item-startOf (m .before) .args in
     let sc = scopeOf (a .script .now) (drop (a .top) (a .entries .now)) in (
-      item-PR (a .script .now) sc (a .at) (a .top) (sym (w .word .ensures .0) ∙ c .before .before .before .before .before .before .if1 .taken) (b .before .word2 .result)
+      item-PR (a .script .now) sc (a .at) (a .top) (sym (m .before .word .ensures .0) ∙ m .if1 .taken) (b .before .word2 .result)
           (b .before .word2 .ensures .0) (b .block .result) (b .block .ensures .0),
       (ahead-from (a .at) (a .at + 6) (length (a .script .now)) (b .block .result) (omega arith) (b .block .ensures .1 .0), b .block .ensures .1 .1),
     )
 
 item-block-requires-2 : (t : ℕ) → item-lts.Need-block-requires-2 (item-claims t) (item-at t) item.Post
 item-block-requires-2 t c κs =
-    let st = c .before .before .before .before .before .before .before in (
+    let st = item-startOf (item-blockOf c .before .before) in (
       omega (arith, st .pre .0),
       (st .pre .1 .0, omega (arith, st .pre .1 .0, st .pre .1 .1), omega arith, st .pre .1 .2, st .pre .1 .3, st .pre .1 .4),
     )
@@ -278,10 +345,11 @@ item-same-length-2 t c = search needs
 item-returns-2 : (t : ℕ) → item-lts.Need-returns-2 (item-claims t) (item-at t) item.Post
 item-returns-2 t c =
     let b = c .before .before in
-    let w = c .before .before .before .before .before .before .before in
-    let a = c .before .before .before .before .before .before .before .before .before .before .args in
+    let m = item-blockOf (b .before) in
+    let w = m .before .before in
+    let a = item-startOf w .args in
     let sc = scopeOf (a .script .now) (drop (a .top) (a .entries .now)) in (
-      item-BK (a .script .now) sc (a .at) (a .top) (sym (w .word .ensures .0) ∙ c .before .before .before .before .before .if2 .taken) (b .block2 .result) (b .block2 .ensures .0),
+      item-BK (a .script .now) sc (a .at) (a .top) (sym (w .word .ensures .0) ∙ m .if2 .taken) (b .block2 .result) (b .block2 .ensures .0),
       b .block2 .ensures .1,
     )
 
@@ -290,10 +358,11 @@ item-add-t18 t c = search needs
 
 item-returns-3 : (t : ℕ) → item-lts.Need-returns-3 (item-claims t) (item-at t) item.Post
 item-returns-3 t c =
-    let st = c .before .before .before .before .before .before in
+    let w = item-markOf (c .before) in
+    let st = item-startOf w in
     let a = st .args in
     let sc = scopeOf (a .script .now) (drop (a .top) (a .entries .now)) in
-    let m = sym (c .before .before .before .word .ensures .0) ∙ c .if3 .taken in (
+    let m = sym (w .word .ensures .0) ∙ c .if3 .taken in (
       item-VR (a .script .now) sc (a .at) (a .top) (record { next = a .at + 4; more = 0 }) (passed-VR (a .script .now) (a .at) m) m,
       ((omega arith, omega (arith, st .pre .1 .1)), (refl, (st .pre .1 .3, st .pre .1 .4))),
     )
@@ -303,10 +372,11 @@ item-add-t19 t c = search needs
 
 item-returns-4 : (t : ℕ) → item-lts.Need-returns-4 (item-claims t) (item-at t) item.Post
 item-returns-4 t c =
-    let st = c .before .before .before .before .before .before .before in
+    let w = item-markOf (c .before .before) in
+    let st = item-startOf w in
     let a = st .args in
     let sc = scopeOf (a .script .now) (drop (a .top) (a .entries .now)) in
-    let m = sym (c .before .before .before .before .word .ensures .0) ∙ c .if4 .taken in (
+    let m = sym (w .word .ensures .0) ∙ c .if4 .taken in (
       item-LB (a .script .now) sc (a .at) (a .top) (record { next = a .at + 6; more = 0 }) (passed-LB (a .script .now) (a .at) m) m,
       ((omega arith, omega (arith, st .pre .1 .1)), (refl, (st .pre .1 .3, st .pre .1 .4))),
     )
@@ -327,13 +397,17 @@ item-returns-5 : (t : ℕ) → item-lts.Need-returns-5 (item-claims t) (item-at 
 item-returns-5 t c =
     let p = c .before in
     let v = c .before .before in
-    let q = c .before .before .before .before .before .before .before .before .word .ensures .0 in
-    let st = c .before .before .before .before .before .before .before .before .before .before .before in
+    let e₄ = v .before .before in
+    let e₂ = e₄ .before .before in
+    let w = item-markOf e₂ in
+    let q = w .word .ensures .0 in
+    let st = item-startOf w in
     let a = st .args in
     let sc = scopeOf (a .script .now) (drop (a .top) (a .entries .now)) in (
       λ x level s h. c .progress-after .ensures
-          ∙ item-action (a .script .now) sc (a .at) (a .top) (record { next = p .past .result; more = 0 }) (p .past .ensures) (λ m. c .before .before .before .before .before .before .before .if1 .left (q ∙ m))
-          (λ m. c .before .before .before .before .before .before .if2 .left (q ∙ m)) (λ m. c .before .before .before .before .before .if3 .left (q ∙ m)) (λ m. c .before .before .before .before .if4 .left (q ∙ m)) (v .action .result) (v .action .ensures)
+          ∙ item-action (a .script .now) sc (a .at) (a .top) (record { next = p .past .result; more = 0 }) (p .past .ensures)
+          (λ m. e₂ .before .if1 .left (q ∙ m)) (λ m. e₂ .if2 .left (q ∙ m)) (λ m. e₄ .before .if3 .left (q ∙ m)) (λ m. e₄ .if4 .left (q ∙ m))
+          (v .action .result) (v .action .ensures)
           x level s h,
       (
         ahead-after (a .at) (length (a .script .now)) (p .past .result) (v .action .result) (c .progress-after .result) (c .progress-after .ensures)
@@ -356,6 +430,25 @@ items-Inv-loop script entries₀ ends₀ at count top here₀ i₀ entries ends 
 abbrev items-μ-loop : items-lts.MeasureT-loop
 items-μ-loop script entries₀ ends₀ at count top here₀ i₀ entries ends here i = count - i
 
+-- the places of `items`: the start, the turn of a record judged
+abbrev items-startOf :
+    {t : ℕ} →
+    items-lts.At-loop (items-claims t) (items-at t) items.Post items-Inv-loop items-μ-loop →
+    items-lts.Start (items-claims t) (items-at t) items.Post items-Inv-loop items-μ-loop
+items-startOf c = c .before .before .before
+
+abbrev items-turnOf :
+    {t : ℕ} →
+    items-lts.After-item (items-claims t) (items-at t) items.Post items-Inv-loop items-μ-loop →
+    items-lts.In-loop (items-claims t) (items-at t) items.Post items-Inv-loop items-μ-loop
+items-turnOf c = c .before .before .before .before
+
+abbrev items-judgedOf :
+    {t : ℕ} →
+    items-lts.After-slice-known2 (items-claims t) (items-at t) items.Post items-Inv-loop items-μ-loop →
+    items-lts.After-item (items-claims t) (items-at t) items.Post items-Inv-loop items-μ-loop
+items-judgedOf c = c .before .before
+
 items-loop-holds : (t : ℕ) → items-lts.Need-loop-holds (items-claims t) (items-at t) items.Post items-Inv-loop items-μ-loop
 items-loop-holds t c =
     let st = c .before .before in
@@ -376,7 +469,7 @@ items-same-length t c = search needs
 items-returns : (t : ℕ) → items-lts.Need-returns (items-claims t) (items-at t) items.Post items-Inv-loop items-μ-loop
 items-returns t c =
     let l = c .before .before .loop in
-    let a = c .before .before .before .before .before .args in (
+    let a = items-startOf (c .before .before) .args in (
       λ xs level s h. absurd
           (remaining-inside (a .script .now) (a .entries .now) (a .at) (a .count) (a .top) xs level s (l .here) (l .i) (c .before .loop-test .taken)
           (l .inv .5 xs level s h) (c .if1 .taken)),
@@ -385,8 +478,9 @@ items-returns t c =
 
 items-item-requires : (t : ℕ) → items-lts.Need-item-requires (items-claims t) (items-at t) items.Post items-Inv-loop items-μ-loop
 items-item-requires t c κs =
-    let l = c .before .before .before .before .loop in
-    let st = c .before .before .before .before .before .before .before in (
+    let at = c .before .before .before .before in
+    let l = at .loop in
+    let st = items-startOf at in (
       omega (arith, st .pre .0, l .inv .1, c .before .before .if1 .left),
       (st .pre .1 .0, c .before .before .if1 .left, omega (arith, st .pre .1 .3, l .inv .3), l .inv .6, l .inv .7),
     )
@@ -402,11 +496,12 @@ items-same-length-2 t c = search needs
 
 items-returns-2 : (t : ℕ) → items-lts.Need-returns-2 (items-claims t) (items-at t) items.Post items-Inv-loop items-μ-loop
 items-returns-2 t c =
-    let r = c .before .before .before .before in
-    let l = c .before .before .before .before .before .before .before .before .before .loop in
-    let a = c .before .before .before .before .before .before .before .before .before .before .before .before .args in (
+    let r = items-judgedOf (c .before .before) in
+    let turn = items-turnOf r in
+    let l = turn .before .loop in
+    let a = items-startOf (turn .before) .args in (
       λ xs level s h. remaining-stop (a .script .now) (a .entries .now) (a .at) (a .count) (a .top) xs level s (l .here) (l .i)
-          (c .before .before .before .before .before .before .before .before .loop-test .taken) (r .item .result)
+          (turn .loop-test .taken) (r .item .result)
           (λ x k n g. r .item .ensures .0 x k n g ∙ ap (λ (es : List ℕ). progressOf (judgeItem x (scopeOf (a .script .now) es)) (l .here + 2 * length (itemFields x))) (l .inv .4))
           _ _ (c .enum-told .given .1) (l .inv .5 xs level s h),
       (
@@ -423,18 +518,19 @@ items-loop-less t c = search needs
 
 items-loop-again : (t : ℕ) → items-lts.Need-loop-again (items-claims t) (items-at t) items.Post items-Inv-loop items-μ-loop
 items-loop-again t c =
-    let r = c .before .before .before .before .before in
-    let l = c .before .before .before .before .before .before .before .before .before .before .loop in
-    let a = c .before .before .before .before .before .before .before .before .before .before .before .before .before .args in
+    let r = items-judgedOf (c .before .before .before) in
+    let turn = items-turnOf r in
+    let l = turn .before .loop in
+    let a = items-startOf (turn .before) .args in
     let next = c .before .judged .given .0 .0 in
     let on : (l .here ≤ next) × (next ≤ length (a .script .now) + 131076) = subst (Ahead (l .here) (length (a .script .now))) (c .before .judged .given .1) (r .item .ensures .1 .0) in (
-      omega (arith, c .before .before .before .before .before .before .before .before .before .loop-test .taken),
+      omega (arith, turn .loop-test .taken),
       omega (arith, on .0, l .inv .1),
       on .1,
       r .item .kept .1 .0 ∙ l .inv .3,
       r .item .ensures .1 .1 .0 ∙ l .inv .4,
       λ xs level s h. remaining-step (a .script .now) (a .entries .now) (a .at) (a .count) (a .top) xs level s (l .here) (l .i)
-          (c .before .before .before .before .before .before .before .before .before .loop-test .taken) (r .item .result)
+          (turn .loop-test .taken) (r .item .result)
           (λ x k n g. r .item .ensures .0 x k n g ∙ ap (λ (es : List ℕ). progressOf (judgeItem x (scopeOf (a .script .now) es)) (l .here + 2 * length (itemFields x))) (l .inv .4))
           next (c .before .judged .given .1) (l .inv .5 xs level s h),
       r .item .ensures .1 .1 .1 .0,
@@ -447,7 +543,7 @@ items-same-length-3 t c = search needs
 items-returns-3 : (t : ℕ) → items-lts.Need-returns-3 (items-claims t) (items-at t) items.Post items-Inv-loop items-μ-loop
 items-returns-3 t c =
     let l = c .before .loop in
-    let a = c .before .before .before .before .args in (
+    let a = items-startOf (c .before) .args in (
       λ xs level s h. remaining-end (a .script .now) (a .entries .now) (a .at) (a .count) (a .top) xs level s (l .here) (l .i) (c .loop-test .left)
           (l .inv .5 xs level s h),
       ((l .inv .1, l .inv .2), (l .inv .4, (l .inv .6, l .inv .7))),
