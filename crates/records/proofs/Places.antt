@@ -1,25 +1,23 @@
 -- The record at an offset, at each place: the cases of `recordAt`.
 -- Assumes nothing.
-use mathlib.Core.Path.{_≡_, refl, sym, _∙_, ap}
+use mathlib.Core.Path.{_≡_, sym, _∙_, ap}
 use mathlib.Core.Bool.{Bool, true, false}
 use mathlib.Core.List.{List}
 use Prim.Native.Nat.{ℕ, _+_, _*_, _<_, _≤_}
 use native.Mathlib.Omega.{arith}
-use native.Mathlib.Decide.{decLe}
 use lib.Dec.{leb}
 use lib.ListN.{length, getD}
-use borrow.Author.Tests.{leb-true, leb-false, le-leb, lt-leb}
+use borrow.Author.Tests.{leb-true, leb-false}
 use Rattle.language.specs.Encoding.{two}
 use Rattle.language.specs.Structure.{Row, blockMarks, formalMarks, declMarks, stmtMarks, take-record}
 use Rattle.language.specs.declared.Refusal.the-variants.{PastTheEnd, MarkMisplaced}
-use Rattle.records.specs.Taking.{unread, declMark, stmtMark, onlyMark, fitIn, fitAt, taken, takenAt, restAt, recordAt}
+use Rattle.records.specs.Taking.{unread, declMark, stmtMark, onlyMark, fitIn, fitAt, taken, takenAt, recordAt}
 use Rattle.records.specs.declared.Mark.{Mark}
 use Rattle.records.specs.declared.Mark.the-variants.{BK, FM}
 use Rattle.records.specs.declared.Place.{Place}
 use Rattle.records.specs.declared.Place.the-variants.{Block, Formal, Declaration, Statement}
 use Rattle.records.specs.declared.marks.Fit.{Fit}
 use Rattle.records.specs.declared.marks.Fit.the-variants.{Found, Nothing}
-use Rattle.records.specs.declared.Reading.{Reading}
 use Rattle.records.specs.declared.Reading.the-variants.{Refused}
 use Rattle.records.proofs.Taking.{fitted, no-mark, misplaced, cut-off, whole}
 
@@ -73,39 +71,25 @@ module _ (bs : List ℕ) (at : ℕ) where
   at-whole Declaration = whole-of declMark declMarks
   at-whole Statement = whole-of stmtMark stmtMarks
 
--- what comes after a mark, by the room that is left
-module _ (n : ℕ) (m : Mark) (bs : List ℕ) (at : ℕ) where
-  pub rest-whole : at + 2 + 2 * n ≤ length bs → restAt (Found n m) bs at ≡ takenAt m n bs (at + 2)
-  unfolding restAt
-  rest-whole h = rw (le-leb (at + 2 + 2 * n) (length bs) h, restAt)
+-- the same by the code's search for the letters that are there
+module _ (p : Place) (bs : List ℕ) (at : ℕ) (h : at + 2 ≤ length bs) {w : ℕ} {x : Fit} (q : w ≡ letters bs at) (f : x ≡ fitAt p w) where
+  is-fit : {y : Fit} → x ≡ y → fitAt p (letters bs at) ≡ y
+  is-fit e = sym (f ∙ ap (fitAt p) q) ∙ e
 
-  pub rest-cut : length bs < at + 2 + 2 * n → restAt (Found n m) bs at ≡ Refused PastTheEnd at
-  unfolding restAt
-  rest-cut h = rw (lt-leb (at + 2 + 2 * n) (length bs) h, restAt)
+  pub is-stray : x ≡ Nothing → Refused MarkMisplaced at ≡ recordAt p bs at
+  is-stray e = sym (at-stray bs at p h (is-fit e))
 
-pub rest-stray : (bs : List ℕ) (at : ℕ) → restAt Nothing bs at ≡ Refused MarkMisplaced at
-unfolding restAt
-rest-stray bs at = refl
+  module _ (n : ℕ) (m : Mark) (e : x ≡ Found n m) where
+    pub is-cut : length bs < at + 2 + 2 * n → Refused PastTheEnd at ≡ recordAt p bs at
+    is-cut short = sym (at-cut bs at p n m h (is-fit e) short)
 
-module _ (p : Place) (bs : List ℕ) (at : ℕ) (h : at + 2 ≤ length bs) where
-  by-room : (n : ℕ) (m : Mark) → fitAt p (letters bs at) ≡ Found n m → Dec (at + 2 + 2 * n ≤ length bs) → restAt (Found n m) bs at ≡ recordAt p bs at
-  by-room n m e (yes fits) = rest-whole n m bs at fits ∙ sym (at-whole bs at p n m h e fits)
-  by-room n m e (no short) = rest-cut n m bs at (omega arith) ∙ sym (at-cut bs at p n m h e (omega arith))
+    pub is-whole : at + 2 + 2 * n ≤ length bs → takenAt m n bs (at + 2) ≡ recordAt p bs at
+    is-whole fits = sym (at-whole bs at p n m h (is-fit e) fits)
 
-  by-row : (x : Fit) → fitAt p (letters bs at) ≡ x → restAt x bs at ≡ recordAt p bs at
-  by-row (Found n m) e = by-room n m e (decLe (at + 2 + 2 * n) (length bs))
-  by-row Nothing e = rest-stray bs at ∙ sym (at-stray bs at p h e)
-
-  pub at-rest : restAt (fitAt p (letters bs at)) bs at ≡ recordAt p bs at
-  at-rest = by-row (fitAt p (letters bs at)) refl
-
--- the same by the code's test whether a mark is there
+-- and by its test whether a mark is there
 module _ (bs : List ℕ) (at : ℕ) {b : Bool} (e : b ≡ leb (at + 2) (length bs)) where
   pub present : b ≡ true → at + 2 ≤ length bs
   present t = leb-true (at + 2) (length bs) (sym e ∙ t)
 
-  pub at-present : (p : Place) {w : ℕ} {x : Fit} {r : Reading} → b ≡ true → w ≡ letters bs at → x ≡ fitAt p w → r ≡ restAt x bs at → r ≡ recordAt p bs at
-  at-present p t q f s = s ∙ ap (λ (x : Fit). restAt x bs at) (f ∙ ap (fitAt p) q) ∙ at-rest p bs at (present t)
-
-  pub at-absent : (p : Place) → b ≡ false → Refused PastTheEnd at ≡ recordAt p bs at
-  at-absent p t = let h = leb-false (at + 2) (length bs) (sym e ∙ t) in sym (at-none bs at p (omega arith))
+  pub absent : (p : Place) → b ≡ false → Refused PastTheEnd at ≡ recordAt p bs at
+  absent p t = let h = leb-false (at + 2) (length bs) (sym e ∙ t) in sym (at-none bs at p (omega arith))

@@ -2,7 +2,7 @@
 -- Assumes nothing.
 use mathlib.Core.Path.{_≡_, refl, _∙_, ap}
 use mathlib.Core.List.{List, [], _∷_}
-use Prim.Native.Nat.{ℕ, zero, suc, _+_, _*_, _<_, _≤_}
+use Prim.Native.Nat.{ℕ, zero, suc, _+_, _-_, _*_, _<_, _≤_}
 use native.Mathlib.Omega.{arith}
 use lib.ListN.{length, getD, drop, length-drop}
 use lib.Seq.{drop-nil, drop-drop, getD-drop}
@@ -53,6 +53,11 @@ unread-short bs at k p h = omega (arith, fields-length (drop at bs), length-drop
 pub unread-fits : (bs : List ℕ) (at k : ℕ) → 0 < k → k ≤ length (unread bs at) → at + 2 * k ≤ length bs
 unfolding unread
 unread-fits bs at k p h = omega (arith, fields-length (drop at bs), length-drop at bs)
+
+-- their number, by what is left of the bytes
+pub unread-number : (bs : List ℕ) (at n : ℕ) → 2 * n ≤ length bs - at → length bs - at < 2 * n + 2 → n ≡ length (unread bs at)
+unfolding unread
+unread-number bs at n low high = omega (arith, fields-length (drop at bs), fields-most (drop at bs), length-drop at bs)
 
 pub unread-at : (bs : List ℕ) (at k : ℕ) → at + 2 * k + 1 < length bs → getD (unread bs at) k 0 ≡ two (getD bs (at + 2 * k) 0) (getD bs (at + 2 * k + 1) 0)
 unfolding unread

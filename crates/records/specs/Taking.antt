@@ -2,11 +2,10 @@
 use Prim.Native.Nat.{ℕ, _+_, _*_, _≤_, _<_}
 use mathlib.Core.Bool.{Bool, true, false}
 use mathlib.Core.List.{List, [], _∷_}
-use lib.Dec.{eqb, leb}
-use lib.ListN.{length, getD, take, drop}
+use lib.Dec.{eqb}
+use lib.ListN.{getD, take, drop}
 use Rattle.language.specs.Encoding.{fieldsOf}
 use Rattle.language.specs.Structure.{Reading as Outcome, read, refuse, Row, Record, DeclMark, isVR, isLB, isPR, StmtMark, isBK, isCL, isGO, isIF, isKN, isAR, isAD, isRM, isQY, blockMarks, formalMarks, declMarks, stmtMarks, take-record}
-use Rattle.language.specs.declared.Refusal.the-variants.{PastTheEnd, MarkMisplaced}
 use Rattle.records.specs.declared.Mark.{Mark}
 use Rattle.records.specs.declared.Mark.the-variants.{BK, VR, LB, PR, FM, CL, GO, IF, KN, AR, AD, RM, QY}
 use Rattle.records.specs.declared.Place.{Place}
@@ -75,11 +74,6 @@ abbrev pub takenAt : Mark → ℕ → List ℕ → ℕ → Reading
 takenAt m n bs from =
     Taken m (from + 2 * n) (getD (take n (unread bs from)) 0 0) (getD (take n (unread bs from)) 1 0)
     (getD (take n (unread bs from)) 2 0) (getD (take n (unread bs from)) 3 0)
-
--- what comes after the mark at an offset, once its row is known
-unfoldable pub restAt : Fit → List ℕ → ℕ → Reading
-restAt Nothing bs at = Refused MarkMisplaced at
-restAt (Found n m) bs at = elim (leb (at + 2 + 2 * n) (length bs)) [ true ↦ takenAt m n bs (at + 2) | false ↦ Refused PastTheEnd at ]
 
 -- a record taken lies in the n bytes of the script, and its fields are of 16 bits
 abbrev pub Within : ℕ → ℕ → Reading → Type 0

@@ -1,13 +1,10 @@
-// The fields of a script that are there, and those passed over.
-use super::Progress;
-use language::Refusal;
+// The fields of a script that are there, and how many there are.
 ghost use mathlib.Core.Path.{_≡_};
-ghost use Prim.Native.Nat.{_+_, _*_, _<_, _≤_};
+ghost use Prim.Native.Nat.{_+_, _*_, _^_, _<_, _≤_};
 ghost use lib.Dec.{leb};
 ghost use lib.ListN.{length, getD, take};
 ghost use Rattle.language.specs.Encoding.{two};
-ghost use Rattle.language.specs.Structure.{fields};
-ghost use Rattle.records.specs.Taking.{unread, forget};
+ghost use Rattle.records.specs.Taking.{unread};
 
 fn as_u32(x: u8) -> u32
     ensures { λ r. ⌜ (r ≡ x) × (r < 256) ⌝ }
@@ -48,18 +45,12 @@ pub fn marked(script: &[u8], at: usize) -> bool
     true
 }
 
-// The count fields from an offset on, passed over as part of the record at `at`; 2 where they run past the end.
-pub fn pass_fields(script: &[u8], at: usize, from: usize, count: usize) -> Progress
-    ensures { λ r. ⌜ r ≡ forget (fields at count from (unread (now (script .entry)) from)) ⌝ }
+// How many fields there are from an offset on.
+pub fn fields_from(script: &[u8], at: usize) -> usize
+    ensures { λ r. ⌜ (r ≡ length (unread (now (script .entry)) at)) × (at + 2 * r < 2 ^ 64) ⌝ }
 {
-    if count == 0 {
-        return Progress::At(from);
+    if script.len() < at {
+        return 0;
     }
-    if script.len() < from {
-        return Progress::Refused(Refusal::PastTheEnd, at);
-    }
-    if (script.len() - from) / 2 < count {
-        return Progress::Refused(Refusal::PastTheEnd, at);
-    }
-    Progress::At(from + 2 * count)
+    (script.len() - at) / 2
 }

@@ -1,14 +1,14 @@
 // Reading the records of a script. A mark is looked for in a constant table, which has its number of fields (`marks`); then its fields
-// are taken (`fields`, `record`).
+// are taken (`fields`, `record`). The reader over the script hands records out (`reader`).
 use language::Refusal;
 ghost use mathlib.Core.Path.{_≡_};
 ghost use Rattle.records.specs.Taking.{progressOf};
 
 mod fields;
 mod marks;
+mod reader;
 mod record;
 
-pub use fields::pass_fields;
 pub use marks::AR;
 pub use marks::BK;
 pub use marks::BK_BYTES;
@@ -26,10 +26,11 @@ pub use marks::QY;
 pub use marks::VR;
 pub use marks::VR_BYTES;
 pub use marks::field_count;
-pub use record::read_block;
-pub use record::read_declaration;
-pub use record::read_formal;
-pub use record::read_statement;
+pub use reader::pass_fields;
+pub use reader::read_block;
+pub use reader::read_declaration;
+pub use reader::read_formal;
+pub use reader::read_statement;
 
 pub enum Mark {
     BK,

@@ -11,14 +11,14 @@ use language::Refusal;
 ghost use mathlib.Core.Path.{_≡_};
 ghost use Prim.Native.Nat.{_+_, _<_, _≤_};
 ghost use lib.ListN.{length};
-ghost use Rattle.records.specs.Taking.{restAt, recordAt, Within};
+ghost use Rattle.records.specs.Taking.{recordAt, Within};
 
-// What comes after a mark that is there, by its row.
-fn take_record(script: &[u8], at: usize, fit: Fit) -> Reading
+// The record at an offset where a mark is there.
+fn take_record(script: &[u8], at: usize, place: Place) -> Reading
     requires { ⌜ at + 2 ≤ length (now script) ⌝ }
-    ensures { λ r. ⌜ (r ≡ restAt fit (now (script .entry)) at) × Within (length (now (script .entry))) at r ⌝ }
+    ensures { λ r. ⌜ (r ≡ recordAt place (now (script .entry)) at) × Within (length (now (script .entry))) at r ⌝ }
 {
-    let Fit::Found { count, mark } = fit else {
+    let Fit::Found { count, mark } = find_mark(field_at(script, at), place) else {
         return Reading::Refused(Refusal::MarkMisplaced, at);
     };
     let from = at + 2;
@@ -41,36 +41,36 @@ fn take_record(script: &[u8], at: usize, fit: Fit) -> Reading
 }
 
 // A record at a place, in this order: mark present (2), mark fit (3), fields present (2).
-fn read(script: &[u8], at: usize, place: Place) -> Reading
+fn record_at(script: &[u8], at: usize, place: Place) -> Reading
     ensures { λ r. ⌜ (r ≡ recordAt place (now (script .entry)) at) × Within (length (now (script .entry))) at r ⌝ }
 {
     if marked(script, at) {
-        return take_record(script, at, find_mark(field_at(script, at), place));
+        return take_record(script, at, place);
     }
     Reading::Refused(Refusal::PastTheEnd, at)
 }
 
 // A function for each place, so that the place is known when it is compiled.
-pub fn read_block(script: &[u8], at: usize) -> Reading
+pub fn block_at(script: &[u8], at: usize) -> Reading
     ensures { λ r. ⌜ (r ≡ recordAt Place.Block (now (script .entry)) at) × Within (length (now (script .entry))) at r ⌝ }
 {
-    read(script, at, Place::Block)
+    record_at(script, at, Place::Block)
 }
 
-pub fn read_formal(script: &[u8], at: usize) -> Reading
+pub fn formal_at(script: &[u8], at: usize) -> Reading
     ensures { λ r. ⌜ (r ≡ recordAt Place.Formal (now (script .entry)) at) × Within (length (now (script .entry))) at r ⌝ }
 {
-    read(script, at, Place::Formal)
+    record_at(script, at, Place::Formal)
 }
 
-pub fn read_declaration(script: &[u8], at: usize) -> Reading
+pub fn declaration_at(script: &[u8], at: usize) -> Reading
     ensures { λ r. ⌜ (r ≡ recordAt Place.Declaration (now (script .entry)) at) × Within (length (now (script .entry))) at r ⌝ }
 {
-    read(script, at, Place::Declaration)
+    record_at(script, at, Place::Declaration)
 }
 
-pub fn read_statement(script: &[u8], at: usize) -> Reading
+pub fn statement_at(script: &[u8], at: usize) -> Reading
     ensures { λ r. ⌜ (r ≡ recordAt Place.Statement (now (script .entry)) at) × Within (length (now (script .entry))) at r ⌝ }
 {
-    read(script, at, Place::Statement)
+    record_at(script, at, Place::Statement)
 }

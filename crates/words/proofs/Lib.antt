@@ -1,1 +1,4 @@
+pub mod Held
 pub mod Standing
+pub mod Thin
+pub mod Walk

@@ -1,62 +1,24 @@
--- `words::word` meets its contract. Assumes nothing.
-use Prim.Native.Nat.{_+_}
-use native.Mathlib.Omega.{arith}
-use lib.ListN.{List·getD-eq-default}
+-- `words::word` meets its contract: a reader is made at the offset and passed on to `field`.
+-- Assumes nothing.
+use mathlib.Core.Path.{_≡_}
+use Prim.Native.Nat.{_<_, _^_}
+use mathlib.Core.List.{[], _∷_}
+use mir.Syntax.{tyInt, w64}
+use contract.Monad.{fact}
+use contract.Running.{givenOf}
+use denote.Plain.{uint-lawful}
+use denote.Builtin.{usize}
 use Rattle.words.specs.Words.{wordAt}
-use borrow.Author.Needs.{needs}
+use Rattle.words.proofs.Thin.{onward-meets}
+use Rattle.words.proofs.reader.field.Symbol as g-def
+use Rattle.words.proofs.reader.field.Met as g-thm
+use Rattle.words.proofs.word.Key as key
 use Rattle.words.proofs.word.Statement.{statement}
-use Rattle.words.proofs.word.Tie as tie
-
-add-if1 : tie.Need-add-if1
-add-if1 c = search needs
-
-shared-slice-read-as-usize : tie.Need-shared-slice-read-as-usize
-shared-slice-read-as-usize c = search needs
-
-as-usize-requires : tie.Need-as-usize-requires
-as-usize-requires c κs = search needs
-
-add-as-usize : tie.Need-add-as-usize
-add-as-usize c = search needs
-
-shared-slice-read-as-usize-2 : tie.Need-shared-slice-read-as-usize-2
-shared-slice-read-as-usize-2 c = search needs
-
-as-usize-requires-2 : tie.Need-as-usize-requires-2
-as-usize-requires-2 c κs = search needs
-
-mul-result : tie.Need-mul-result
-mul-result c = search needs
-
-add-result : tie.Need-add-result
-add-result c = search needs
-
-returns : tie.Need-returns
-unfolding wordAt
-returns c = (omega (arith, c .before .before .as-usize .ensures .0, c .as-usize2 .ensures .0), omega arith)
-
-byte-requires : tie.Need-byte-requires
-byte-requires c κs = search needs
-
-returns-2 : tie.Need-returns-2
-unfolding wordAt
-returns-2 c =
-    let a = c .before .before .before .args in
-    let none = List·getD-eq-default (a .script .now) 0 {n = a .at + 1} (c .before .if1 .left) in
-    (omega (arith, none), omega arith)
+use Rattle.words.proofs.word.Code as code
 
 pub word-spec : {M : Type 1} → statement M
-word-spec =
-    tie.close
-    (tie.spec
-    add-if1
-    shared-slice-read-as-usize
-    as-usize-requires
-    add-as-usize
-    shared-slice-read-as-usize-2
-    as-usize-requires-2
-    mul-result
-    add-result
-    returns
-    byte-requires
-    returns-2)
+unfolding code.routine
+word-spec 𝓤 H 𝓜 𝓖 𝓡 =
+    onward-meets 𝓤 H 𝓜 𝓖 𝓡 code.env usize (tyInt w64) (λ n v is. uint-lawful 𝓤 H (𝓖 .A) (givenOf 𝓤 H 𝓜 𝓖) w64 .typed n (v ∷ []) is .0)
+    (λ at. fact 𝓤 (at < 2 ^ 60)) (λ bs at n. (n ≡ wordAt bs at) × (n < 65536))
+    g-def.name g-def.routine code.calls-words·reader·field key.name code.calls-words·reader·reader-at (g-thm.met 𝓤 H 𝓜 𝓖 𝓡) (code.unfolded 𝓤 H 𝓜 𝓡)

@@ -1,9 +1,9 @@
--- `words::byte` meets its contract. Assumes nothing.
+-- `words::bytes::byte` meets its contract. Assumes nothing.
 use mathlib.Core.Path.{sym}
 use lib.ListN.{List·getD-eq-default}
 use borrow.Author.Needs.{needs}
-use Rattle.words.proofs.byte.Statement.{statement}
-use Rattle.words.proofs.byte.Tie as tie
+use Rattle.words.proofs.bytes.byte.Statement.{statement}
+use Rattle.words.proofs.bytes.byte.Tie as tie
 
 shared-slice-read-as-usize : tie.Need-shared-slice-read-as-usize
 shared-slice-read-as-usize c = search needs

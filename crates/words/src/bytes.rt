@@ -1,0 +1,32 @@
+// The bytes and 16-bit fields of a script by their offsets.
+ghost use mathlib.Core.Path.{_≡_};
+ghost use Prim.Native.Nat.{_^_, _<_};
+ghost use lib.ListN.{getD};
+ghost use Rattle.words.specs.Words.{wordAt};
+
+fn as_usize(x: u8) -> usize
+    ensures { λ r. ⌜ (r ≡ x) × (r < 256) ⌝ }
+{
+    x as usize
+}
+
+// A byte of the script; 0 past its end.
+fn byte(script: &[u8], at: usize) -> usize
+    ensures { λ r. ⌜ (r ≡ getD (now (script .entry)) at 0) × (r < 256) ⌝ }
+{
+    if at < script.len() {
+        return as_usize(script[at]);
+    }
+    0
+}
+
+// The 16-bit field at an offset, low byte first. Where both its bytes are there, they are one load.
+pub fn word_at(script: &[u8], at: usize) -> usize
+    requires { ⌜ at < 2 ^ 60 ⌝ }
+    ensures { λ r. ⌜ (r ≡ wordAt (now (script .entry)) at) × (r < 65536) ⌝ }
+{
+    if at + 1 < script.len() {
+        return as_usize(script[at]) + 256 * as_usize(script[at + 1]);
+    }
+    byte(script, at)
+}
