@@ -20,7 +20,7 @@ use Rattle.coordinates.specs.Sound.{accepted-keeps-rules}
 use Rattle.resolved.specs.Resolved.{resolvedOf, Covers}
 use Rattle.resolving.specs.Resolving.{Resolved}
 use Rattle.governed.specs.Governing.{Governs}
-use Rattle.governed.specs.Standing.{covers-front}
+use Rattle.resolved.specs.Lengths.{covers-front}
 use Rattle.admission.specs.Lent.{fedOf}
 use Rattle.answers.specs.Answers.{ranAnswer}
 use Rattle.sheets.specs.Held.{Held}
