@@ -8,10 +8,21 @@ static size_t no_words(uint32_t d, size_t script_len)
     return 0;
 }
 
+static size_t area_words(uint32_t d, size_t script_len)
+{
+    return ENROL_AREA_WORDS(d, script_len);
+}
+
 static size_t record_words(uint32_t d, size_t script_len)
 {
     (void)script_len;
     return ENROL_RECORD_WORDS(d);
+}
+
+static void run_copy(struct call *call, uint64_t answer[ENROL_ANSWER_WORDS])
+{
+    enrol_copy(call->script, call->script_len, call->d, call->n, call->g, call->tally, call->table, 2 * call->places,
+               call->count, call->name, call->sheet, call->sheet_len, call->own, call->own_len, answer);
 }
 
 static void run_chain(struct call *call, uint64_t answer[ENROL_ANSWER_WORDS])
@@ -27,6 +38,7 @@ static void run_display(struct call *call, uint64_t answer[ENROL_ANSWER_WORDS])
 }
 
 const struct engine engines[] = {
+    {"copy", area_words, run_copy},
     {"chain", record_words, run_chain},
     {"display", no_words, run_display},
 };

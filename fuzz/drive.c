@@ -9,31 +9,65 @@
 
 #include "input.h"
 
-enum { PAGE = 4096, ROOM = 4 * PAGE, GUARD = 16, CAUSES = 27, MOST_RECORDS = 3 * ENROL_MOST_ACTIVATIONS };
+enum {
+    PAGE = 4096,
+    ROOM = 4 * PAGE,
+    GUARD = 16,
+    BEHIND = ENROL_LONGEST_SCRIPT / 2, /* words of the longest script */
+    MOST_OWN = ENROL_MOST_ACTIVATIONS * BEHIND,
+    CAUSES = 27
+};
 
 /* What a call may write to: in the middle what is lent, on both sides what may not change. */
 struct lent {
     uint64_t answer[GUARD + ENROL_ANSWER_WORDS + GUARD];
     int32_t table[GUARD + MOST_WORDS + GUARD];
     int32_t sheet[GUARD + MOST_SHEET + GUARD];
-    uint32_t records[GUARD + MOST_RECORDS + GUARD];
 };
+
+/* What only one engine is lent: the copying area or the chain's records. The guard behind it is as long as the copy of a
+ * text may be, so that an activation too many shows. It is large, so it is rubbish before every call and is put right only
+ * where a call may have written. */
+static uint32_t own[GUARD + MOST_OWN + BEHIND], rubbish[GUARD + MOST_OWN + BEHIND];
 
 /* As the functions of the library. */
 void reference_check(const uint8_t *script, size_t script_len, uint64_t answer[ENROL_CHECK_WORDS]);
-void reference_display(const uint8_t *script, size_t script_len, uint32_t d, uint32_t n, uint32_t g, uint64_t tally,
-                       int32_t *table, size_t table_len, size_t count, uint16_t name, int32_t *sheet, size_t sheet_len,
-                       uint64_t answer[ENROL_ANSWER_WORDS]);
+void reference_copy(const uint8_t *script, size_t script_len, uint32_t d, uint32_t n, uint32_t g, uint64_t tally,
+                    int32_t *table, size_t table_len, size_t count, uint16_t name, int32_t *sheet, size_t sheet_len,
+                    uint32_t *area, size_t area_len, uint64_t answer[ENROL_ANSWER_WORDS]);
 void reference_chain(const uint8_t *script, size_t script_len, uint32_t d, uint32_t n, uint32_t g, uint64_t tally,
                      int32_t *table, size_t table_len, size_t count, uint16_t name, int32_t *sheet, size_t sheet_len,
                      uint32_t *records, size_t records_len, uint64_t answer[ENROL_ANSWER_WORDS]);
+void reference_display(const uint8_t *script, size_t script_len, uint32_t d, uint32_t n, uint32_t g, uint64_t tally,
+                       int32_t *table, size_t table_len, size_t count, uint16_t name, int32_t *sheet, size_t sheet_len,
+                       uint64_t answer[ENROL_ANSWER_WORDS]);
 
-/* Just what D asks for, and now and then a word less. */
+static size_t least(size_t one, size_t other)
+{
+    return one < other ? one : other;
+}
+
+/* Just what is asked for, and now and then a word less. */
+static size_t lent_of(const struct call *call, size_t asked)
+{
+    return asked > 0 && call->name % 64 == 63 ? asked - 1 : asked;
+}
+
+static size_t area_len(const struct call *call)
+{
+    size_t d = least(call->d, ENROL_MOST_ACTIVATIONS);
+    return lent_of(call, ENROL_AREA_WORDS(d, least(call->script_len, ENROL_LONGEST_SCRIPT)));
+}
+
 static size_t records_len(const struct call *call)
 {
-    size_t most = call->d < ENROL_MOST_ACTIVATIONS ? call->d : ENROL_MOST_ACTIVATIONS;
-    size_t words = ENROL_RECORD_WORDS(most);
-    return words > 0 && call->name % 64 == 63 ? words - 1 : words;
+    return lent_of(call, ENROL_RECORD_WORDS(least(call->d, ENROL_MOST_ACTIVATIONS)));
+}
+
+static size_t no_len(const struct call *call)
+{
+    (void)call;
+    return 0;
 }
 
 static void check(const struct call *call, struct lent *lent)
@@ -44,6 +78,34 @@ static void check(const struct call *call, struct lent *lent)
 static void right_check(const struct call *call, struct lent *lent)
 {
     reference_check(call->script, call->script_len, lent->answer + GUARD);
+}
+
+static void copy(const struct call *call, struct lent *lent)
+{
+    enrol_copy(call->script, call->script_len, call->d, call->n, call->g, call->tally, lent->table + GUARD, call->table_len,
+               call->count, call->name, lent->sheet + GUARD, call->sheet_len, own + GUARD, area_len(call),
+               lent->answer + GUARD);
+}
+
+static void right_copy(const struct call *call, struct lent *lent)
+{
+    reference_copy(call->script, call->script_len, call->d, call->n, call->g, call->tally, lent->table + GUARD,
+                   call->table_len, call->count, call->name, lent->sheet + GUARD, call->sheet_len, own + GUARD,
+                   area_len(call), lent->answer + GUARD);
+}
+
+static void chain(const struct call *call, struct lent *lent)
+{
+    enrol_chain(call->script, call->script_len, call->d, call->n, call->g, call->tally, lent->table + GUARD,
+                call->table_len, call->count, call->name, lent->sheet + GUARD, call->sheet_len, own + GUARD,
+                records_len(call), lent->answer + GUARD);
+}
+
+static void right_chain(const struct call *call, struct lent *lent)
+{
+    reference_chain(call->script, call->script_len, call->d, call->n, call->g, call->tally, lent->table + GUARD,
+                    call->table_len, call->count, call->name, lent->sheet + GUARD, call->sheet_len, own + GUARD,
+                    records_len(call), lent->answer + GUARD);
 }
 
 static void display(const struct call *call, struct lent *lent)
@@ -59,32 +121,20 @@ static void right_display(const struct call *call, struct lent *lent)
                       lent->answer + GUARD);
 }
 
-static void chain(const struct call *call, struct lent *lent)
-{
-    enrol_chain(call->script, call->script_len, call->d, call->n, call->g, call->tally, lent->table + GUARD,
-                call->table_len, call->count, call->name, lent->sheet + GUARD, call->sheet_len, lent->records + GUARD,
-                records_len(call), lent->answer + GUARD);
-}
-
-static void right_chain(const struct call *call, struct lent *lent)
-{
-    reference_chain(call->script, call->script_len, call->d, call->n, call->g, call->tally, lent->table + GUARD,
-                    call->table_len, call->count, call->name, lent->sheet + GUARD, call->sheet_len, lent->records + GUARD,
-                    records_len(call), lent->answer + GUARD);
-}
-
-/* An export, and the word of its answer that has the cause's number. */
+/* An export, the word of its answer that has the cause's number, and how many words it alone is lent. */
 struct export {
     const char *name;
     void (*library)(const struct call *call, struct lent *lent);
     void (*reference)(const struct call *call, struct lent *lent);
     size_t number;
+    size_t (*own_len)(const struct call *call);
 };
 
 static const struct export exports[] = {
-    {"check", check, right_check, 0},
-    {"display", display, right_display, ENROL_ANSWER_NUMBER},
-    {"chain", chain, right_chain, ENROL_ANSWER_NUMBER},
+    {"check", check, right_check, 0, no_len},
+    {"copy", copy, right_copy, ENROL_ANSWER_NUMBER, area_len},
+    {"chain", chain, right_chain, ENROL_ANSWER_NUMBER, records_len},
+    {"display", display, right_display, ENROL_ANSWER_NUMBER, no_len},
 };
 enum { EXPORTS = sizeof exports / sizeof exports[0] };
 
@@ -142,9 +192,6 @@ static void prepare(const struct call *call, struct lent *lent)
     for (size_t at = 0; at < GUARD + call->sheet_len + GUARD; at++) {
         lent->sheet[at] = (int32_t)(at * UINT32_C(0x9e3779b1) ^ UINT32_C(0xa5a50000));
     }
-    for (size_t at = 0; at < GUARD + MOST_RECORDS + GUARD; at++) {
-        lent->records[at] = (uint32_t)at * UINT32_C(0x85ebca6b) ^ UINT32_C(0x5a5a0000);
-    }
 }
 
 /* The call in the form that the differential tests' `again` takes: it says what the check gives as well. */
@@ -159,8 +206,7 @@ static void print_call(const struct export *export, const struct call *call)
     for (size_t at = 0; at < call->table_len; at++) {
         fprintf(stderr, "%s%" PRId32, at ? "," : "", call->table[at]);
     }
-    fprintf(stderr, "%s %zu %zu\n", call->table_len ? "" : "-", call->sheet_len,
-            strcmp(export->name, "chain") == 0 ? records_len(call) : 0);
+    fprintf(stderr, "%s %zu %zu\n", call->table_len ? "" : "-", call->sheet_len, export->own_len(call));
 }
 
 static void fail(const char *what, size_t length, size_t at, int64_t right, int64_t got)
@@ -192,18 +238,21 @@ static void compare_words(const struct export *export, const struct call *call, 
     }
 }
 
-/* The reference leaves the records alone. A run that is not refused may leave anything in those lent. */
-static void compare_records(const struct export *export, const struct call *call, const struct lent *right, const struct lent *got)
+/* Of the words that only the engine is lent, after a run that is not refused, nothing is asked. */
+static void compare_own(const struct export *export, const struct call *call, uint64_t end)
 {
-    int free_now = right->answer[GUARD + ENROL_ANSWER_END] != ENROL_REFUSED;
-    size_t length = records_len(call);
-    for (size_t at = 0; at < GUARD + MOST_RECORDS + GUARD; at++) {
-        int lent = at >= GUARD && at < GUARD + length;
-        if (got->records[at] != right->records[at] && !(lent && free_now)) {
-            print_call(export, call);
-            fail("records", length, at, right->records[at], got->records[at]);
-        }
+    size_t length = export->own_len(call), at = 0;
+    if (end != ENROL_REFUSED) {
+        memcpy(own + GUARD, rubbish + GUARD, length * sizeof own[0]);
     }
+    if (memcmp(own, rubbish, (GUARD + length + BEHIND) * sizeof own[0]) == 0) {
+        return;
+    }
+    while (own[at] == rubbish[at]) {
+        at++;
+    }
+    print_call(export, call);
+    fail("engine's own words", length, at, rubbish[at], own[at]);
 }
 
 static void compare(const struct export *export, const struct call *call, const struct lent *right, const struct lent *got)
@@ -211,7 +260,18 @@ static void compare(const struct export *export, const struct call *call, const 
     compare_answers(export, call, right->answer, got->answer);
     compare_words(export, call, "table", call->table_len, right->table, got->table);
     compare_words(export, call, "sheet", call->sheet_len, right->sheet, got->sheet);
-    compare_records(export, call, right, got);
+    if (export->own_len != no_len) {
+        compare_own(export, call, right->answer[GUARD + ENROL_ANSWER_END]);
+    }
+}
+
+int LLVMFuzzerInitialize(int *count, char ***words)
+{
+    (void)count, (void)words;
+    for (size_t at = 0; at < sizeof rubbish / sizeof rubbish[0]; at++) {
+        own[at] = rubbish[at] = (uint32_t)at * UINT32_C(0x85ebca6b) ^ UINT32_C(0x5a5a0000);
+    }
+    return 0;
 }
 
 int LLVMFuzzerTestOneInput(const uint8_t *bytes, size_t length)

@@ -1,6 +1,7 @@
 /* The enrolment script engine: the C interface of libenrol.a.
  *
  *     enrol_check      may this script be run?
+ *     enrol_copy       run it: by the copy rule, on copies of the script's text in an area that the caller lends
  *     enrol_chain      run it: names by static links in activation records that the caller lends
  *     enrol_display    run it: names by a display
  *
@@ -12,8 +13,9 @@
  * of stack.
  *
  * A lent slice is a pointer and a length. The pointer is not null, even where the length is 0; nothing else writes to
- * the slice during the call; what a call may write to (table, sheet, records, answer) overlaps nothing else that it is
- * lent. Beyond that nothing is asked: any bytes, words and numbers may be handed in, and what does not fit is refused.
+ * the slice during the call; what a call may write to (table, sheet, area, records, answer) overlaps nothing else that
+ * it is lent. Beyond that nothing is asked: any bytes, words and numbers may be handed in, and what does not fit is
+ * refused.
  */
 #ifndef ENROL_H
 #define ENROL_H
@@ -41,8 +43,10 @@ extern "C" {
 #define ENROL_CHECK_WORDS 2
 #define ENROL_ANSWER_WORDS 9
 
-/* Words that must be lent for d activations: the sheet's, and the chain engine's records. */
+/* Words that must be lent for d activations: the sheet's, the copying engine's area for a script of script_len bytes,
+ * and the chain engine's records. */
 #define ENROL_SHEET_WORDS(d) ((size_t)(d) * (2 + ENROL_MOST_NAMES))
+#define ENROL_AREA_WORDS(d, script_len) ((size_t)(d) * ((size_t)(script_len) / 2))
 #define ENROL_RECORD_WORDS(d) ((size_t)(d) * 3)
 
 /* A designator names one declared name of a live activation: the activation's number, counted from 1 at the outermost,
@@ -85,11 +89,11 @@ extern "C" {
  *          number or kind from those of the procedure that it
  *          finally stands for
  *
- * Order of refusals: 12; 13; 14; then the script's. Of these 1; then record by record in file order 2 to 4 and 6 to 8;
- * then 5; then 9 to 11, record by record in file order. Of one record: its mark is there (2), may stand there (3), its
- * fields are there (2), then 4, 6, 7, 8. The argument count of a CL is judged (4) before its argument names are looked
- * for (2). The names of a record are judged from left to right, each by 9 and then 10; of a CL the called name by 9
- * and 10, its arguments by 9, then 11.
+ * Order of refusals: 12; 13 for the sheet and the records; 14; then the script's; last of all 13 for the copying area.
+ * Of the script's 1; then record by record in file order 2 to 4 and 6 to 8; then 5; then 9 to 11, record by record in
+ * file order. Of one record: its mark is there (2), may stand there (3), its fields are there (2), then 4, 6, 7, 8. The
+ * argument count of a CL is judged (4) before its argument names are looked for (2). The names of a record are judged
+ * from left to right, each by 9 and then 10; of a CL the called name by 9 and 10, its arguments by 9, then 11.
  *
  * Order of stops of one statement: 23, 24, 25; and 26 before 22.
  *
@@ -220,6 +224,18 @@ enum enrol_end {
  * The looked-up name 5 gives 130 = 2 * 64 + 2: what activation 4 calls 5 is the variable of activation 2, whose
  * procedure 6 was handed on and called, and not that of activation 3.
  */
+
+/* Runs a script on the copying engine, which enters a block by copying its text with a new name for each name that it
+ * declares, so that each name in a copy stands for one declared name. Taken and given beside what every engine is:
+ *
+ * area       area_len words, at least ENROL_AREA_WORDS(d, script_len), whatever they hold; too few give 13, but only
+ *            where no other refusal is due. The copies stand there: after a run that is not refused the area may hold
+ *            anything. For D = 256 and the longest script it is 1,048,576 words.
+ * answer     0 links
+ */
+void enrol_copy(const uint8_t *script, size_t script_len, uint32_t d, uint32_t n, uint32_t g, uint64_t tally,
+                int32_t *table, size_t table_len, size_t count, uint16_t name, int32_t *sheet, size_t sheet_len,
+                uint32_t *area, size_t area_len, uint64_t answer[ENROL_ANSWER_WORDS]);
 
 /* Runs a script on the chain engine, which finds a name by following static links from one activation record to the
  * next. Taken and given beside what every engine is:

@@ -21,12 +21,12 @@ pub unsafe extern "C" fn reference_check(script: *const u8, length: usize, answe
     unsafe { *answer = verdict };
 }
 
-/// As enrol_display.
+/// As enrol_copy.
 ///
 /// # Safety
 /// Each pointer is to as many elements as the length beside it says, `answer` to nine words; none overlap.
 #[no_mangle]
-pub unsafe extern "C" fn reference_display(
+pub unsafe extern "C" fn reference_copy(
     script: *const u8,
     script_len: usize,
     d: u32,
@@ -39,12 +39,15 @@ pub unsafe extern "C" fn reference_display(
     name: u16,
     sheet: *mut i32,
     sheet_len: usize,
+    _area: *mut u32,
+    area_len: usize,
     answer: *mut [u64; 9],
 ) {
     let script = unsafe { slice::from_raw_parts(script, script_len) };
     let table = unsafe { slice::from_raw_parts_mut(table, table_len) };
     let sheet = unsafe { slice::from_raw_parts_mut(sheet, sheet_len) };
-    let request = Request { engine: Engine::Display, script, d, n, g, tally, count, name };
+    let engine = Engine::Copying { area: area_len };
+    let request = Request { engine, script, d, n, g, tally, count, name };
     unsafe { *answer = run(&request, table, sheet) };
 }
 
@@ -75,6 +78,33 @@ pub unsafe extern "C" fn reference_chain(
     let sheet = unsafe { slice::from_raw_parts_mut(sheet, sheet_len) };
     let engine = Engine::Chain { records: records_len / 3 };
     let request = Request { engine, script, d, n, g, tally, count, name };
+    unsafe { *answer = run(&request, table, sheet) };
+}
+
+/// As enrol_display.
+///
+/// # Safety
+/// Each pointer is to as many elements as the length beside it says, `answer` to nine words; none overlap.
+#[no_mangle]
+pub unsafe extern "C" fn reference_display(
+    script: *const u8,
+    script_len: usize,
+    d: u32,
+    n: u32,
+    g: u32,
+    tally: u64,
+    table: *mut i32,
+    table_len: usize,
+    count: usize,
+    name: u16,
+    sheet: *mut i32,
+    sheet_len: usize,
+    answer: *mut [u64; 9],
+) {
+    let script = unsafe { slice::from_raw_parts(script, script_len) };
+    let table = unsafe { slice::from_raw_parts_mut(table, table_len) };
+    let sheet = unsafe { slice::from_raw_parts_mut(sheet, sheet_len) };
+    let request = Request { engine: Engine::Display, script, d, n, g, tally, count, name };
     unsafe { *answer = run(&request, table, sheet) };
 }
 
