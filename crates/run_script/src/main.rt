@@ -50,6 +50,28 @@ fn report(engine: &[u8], answer: [u64; 9], table: &[i32]) {
     }
 }
 
+// The area has room for the longest script's words for each of D activations.
+fn copy(script: &[u8]) {
+    let mut table = [0i32; 16];
+    let mut sheet = [0i32; 544];
+    let mut area = [0u32; 16384];
+    let mut answer = [0u64; 9];
+    enrol::enrol_copy(
+        script,
+        D,
+        N,
+        G,
+        0,
+        &mut table,
+        0,
+        0,
+        &mut sheet,
+        &mut area,
+        &mut answer,
+    );
+    report(b"copy", answer, &table);
+}
+
 fn chain(script: &[u8]) {
     let mut table = [0i32; 16];
     let mut sheet = [0i32; 544];
@@ -94,6 +116,7 @@ fn main() {
     let mut room = [0u8; 2049];
     let length = read_script(&mut room);
     say(b"engine end number steps offset pairs sheet\n");
+    copy(&room[..length]);
     chain(&room[..length]);
     display(&room[..length]);
 }
