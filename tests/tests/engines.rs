@@ -145,6 +145,27 @@ fn plain() -> Call {
     }
 }
 
+/// A script in words: a mark's letters, or a field; KN's value is two fields.
+fn script(text: &str) -> Vec<u8> {
+    let field = |word: &str| match word.parse::<u16>() {
+        Ok(field) => field.to_le_bytes().to_vec(),
+        Err(_) => word.as_bytes().to_vec(),
+    };
+    text.split_whitespace().flat_map(field).collect()
+}
+
+/// The argument 1 is called as a local of the body is: the formal 3 stands for the outer 1, and the body's own 1 is another.
+#[test]
+fn an_argument_called_as_a_local_of_the_body() {
+    let script = script("BK 2 1 VR 1 PR 2 1 FM 3 0 BK 1 2 VR 1 KN 1 7 0 KN 3 9 0 CL 2 1 1");
+    let call = Call { script, n: 3, name: 1, ..plain() };
+    for engine in ENGINES {
+        let reply = (library().run)(&to(engine, &call));
+        assert_eq!(reply.answer[..8], [1, 0, 3, 0, 0, 8, 3, 130], "{engine:?}");
+        assert_eq!(reply.sheet[..8], [0, 2, 9, 0, 22, 3, 65, 7], "{engine:?}");
+    }
+}
+
 fn sheet(length: usize) -> Vec<i32> {
     (0..length).map(|index| pattern(index) as i32).collect()
 }
