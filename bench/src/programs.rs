@@ -160,7 +160,7 @@ pub fn far_names() -> Vec<u8> {
 /// A block of 4,000 words whose first statement goes out of it, entered again and again: the other statements are never done.
 pub fn large_block() -> Vec<u8> {
     let (again, own): (Name, Name) = (1, 2);
-    let mut inside = vec![Action::Goto { label: again }];
+    let mut inside = vec![Action::Go { label: again }];
     let heading = 3 + 2 + 2;
     inside.extend((0..(4_000 - heading) / 4).map(|value| set(own, value as i32)));
     let inner = Action::Block(block(variables([own].into_iter()), inside));
