@@ -1,7 +1,9 @@
 // Document 01's run program: the file script.bin on each engine, a line for each answer and one for each pair in use.
-use printing::print_answer;
-use printing::print_words;
-use printing::say;
+use engines::Engine;
+use engines::call;
+use engines::print_answer;
+use engines::print_words;
+use engines::say;
 ghost use Rattle.io.specs.Counts.{Counts};
 
 // What each run is fed.
@@ -35,11 +37,8 @@ fn read_script(room: &mut [u8]) -> usize
     length
 }
 
-// A line for the answer, and one for each pair in use.
-fn report(engine: &[u8], answer: [u64; 9], table: &[i32]) {
-    print_answer(engine, answer);
-    say(b"\n");
-    let pairs = answer[4];
+// A line for each pair in use.
+fn print_pairs(table: &[i32], pairs: u64) {
     let mut pair: usize = 0;
     while pair < 8 {
         if pairs <= pair as u64 {
@@ -50,73 +49,21 @@ fn report(engine: &[u8], answer: [u64; 9], table: &[i32]) {
     }
 }
 
-// The area has room for the longest script's words for each of D activations.
-fn copy(script: &[u8]) {
+// An engine on an empty table of 8 pairs.
+fn run(engine: Engine, script: &[u8]) {
     let mut table = [0i32; 16];
     let mut sheet = [0i32; 544];
-    let mut area = [0u32; 16384];
-    let mut answer = [0u64; 9];
-    enrol::enrol_copy(
-        script,
-        D,
-        N,
-        G,
-        0,
-        &mut table,
-        0,
-        0,
-        &mut sheet,
-        &mut area,
-        &mut answer,
-    );
-    report(b"copy", answer, &table);
-}
-
-fn chain(script: &[u8]) {
-    let mut table = [0i32; 16];
-    let mut sheet = [0i32; 544];
-    let mut records = [0u32; 48];
-    let mut answer = [0u64; 9];
-    enrol::enrol_chain(
-        script,
-        D,
-        N,
-        G,
-        0,
-        &mut table,
-        0,
-        0,
-        &mut sheet,
-        &mut records,
-        &mut answer,
-    );
-    report(b"chain", answer, &table);
-}
-
-fn display(script: &[u8]) {
-    let mut table = [0i32; 16];
-    let mut sheet = [0i32; 544];
-    let mut answer = [0u64; 9];
-    enrol::enrol_display(
-        script,
-        D,
-        N,
-        G,
-        0,
-        &mut table,
-        0,
-        0,
-        &mut sheet,
-        &mut answer,
-    );
-    report(b"display", answer, &table);
+    let answer = call(engine, script, D, N, G, &mut table, 0, 0, &mut sheet);
+    print_answer(engine, answer, 6);
+    say(b"\n");
+    print_pairs(&table, answer[4]);
 }
 
 fn main() {
     let mut room = [0u8; 2049];
     let length = read_script(&mut room);
     say(b"engine end number steps offset pairs sheet\n");
-    copy(&room[..length]);
-    chain(&room[..length]);
-    display(&room[..length]);
+    run(Engine::Copy, &room[..length]);
+    run(Engine::Chain, &room[..length]);
+    run(Engine::Display, &room[..length]);
 }

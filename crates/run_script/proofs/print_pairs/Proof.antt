@@ -1,26 +1,14 @@
--- `report` meets its contract: the pairs left fall.
+-- `print_pairs` meets its contract: the pairs left fall.
 use Prim.Native.Nat.{_-_}
 use borrow.Author.Needs.{needs}
-use Rattle.run_script.proofs.report.Statement.{statement}
-use Rattle.run_script.proofs.report.Tie as tie
+use Rattle.run_script.proofs.print_pairs.Statement.{statement}
+use Rattle.run_script.proofs.print_pairs.Tie as tie
 
 abbrev Inv-loop : tie.InvT-loop
-Inv-loop engine table pairs pair₀ pair = Unit
+Inv-loop table pairs pair₀ pair = Unit
 
 abbrev μ-loop : tie.MeasureT-loop
-μ-loop engine table pairs pair₀ pair = 8 - pair
-
-print-answer-requires : tie.Need-print-answer-requires Inv-loop μ-loop
-print-answer-requires c κs = search needs
-
-slice-aggregate-say : tie.Need-slice-aggregate-say Inv-loop μ-loop
-slice-aggregate-say c = search needs
-
-say-requires : tie.Need-say-requires Inv-loop μ-loop
-say-requires c κs = search needs
-
-array-read-pairs : tie.Need-array-read-pairs Inv-loop μ-loop
-array-read-pairs c = search needs
+μ-loop table pairs pair₀ pair = 8 - pair
 
 loop-holds : tie.Need-loop-holds Inv-loop μ-loop
 loop-holds c = search needs
@@ -52,16 +40,12 @@ loop-again c = search needs
 returns-2 : tie.Need-returns-2 Inv-loop μ-loop
 returns-2 c = search needs
 
-pub report-spec : {M : Type 1} → statement M
-report-spec =
+pub print-pairs-spec : {M : Type 1} → statement M
+print-pairs-spec =
     tie.close
     (tie.spec
     Inv-loop
     μ-loop
-    print-answer-requires
-    slice-aggregate-say
-    say-requires
-    array-read-pairs
     loop-holds
     returns
     mul-print-words

@@ -1,8 +1,9 @@
-// Answers and words in print, for the programs. No contract can say what is written.
+// Answers and words in print. No contract can say what is written.
 ghost use mathlib.Core.Path.{_≡_};
 ghost use lib.IntN.{natAbs};
+use super::Engine;
 
-fn number(n: u64) {
+pub fn print_number(n: u64) {
     say(b" ");
     io::print_decimal(1, n);
 }
@@ -40,15 +41,26 @@ pub fn say(words: &[u8]) {
     io::write_all(1, words);
 }
 
-// An engine's name and its answer: the end in words, then number, steps, offset, pairs and sheet words.
-pub fn print_answer(engine: &[u8], answer: [u64; 9]) {
-    say(engine);
+fn name(engine: Engine) {
+    match engine {
+        Engine::Copy => say(b"copy"),
+        Engine::Chain => say(b"chain"),
+        Engine::Display => say(b"display"),
+    }
+}
+
+// An engine's name and the first words of its answer, the end in words; no line end.
+pub fn print_answer(engine: Engine, answer: [u64; 9], words: usize) {
+    name(engine);
     end(answer[0]);
-    number(answer[1]);
-    number(answer[2]);
-    number(answer[3]);
-    number(answer[4]);
-    number(answer[5]);
+    let mut at = 1;
+    while at < 9 {
+        if words <= at {
+            return;
+        }
+        print_number(answer[at]);
+        at += 1;
+    }
 }
 
 // A line of words, from one place up to another as far as they reach.

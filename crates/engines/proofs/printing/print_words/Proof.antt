@@ -1,8 +1,8 @@
--- `print_words` meets its contract: the words left fall.
+-- `printing::print_words` meets its contract: the words left fall.
 use Prim.Native.Nat.{_-_}
 use borrow.Author.Needs.{needs}
-use Rattle.printing.proofs.print_words.Statement.{statement}
-use Rattle.printing.proofs.print_words.Tie as tie
+use Rattle.engines.proofs.printing.print_words.Statement.{statement}
+use Rattle.engines.proofs.printing.print_words.Tie as tie
 
 abbrev Inv-loop : tie.InvT-loop
 Inv-loop words from to at₀ t5 t6 at = Unit

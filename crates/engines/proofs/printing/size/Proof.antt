@@ -1,7 +1,7 @@
 -- `size` meets its contract.
-use Rattle.printing.proofs.Signs.{widened, below-turned, below-cast, below-size, whole-cast, whole-size}
-use Rattle.printing.proofs.size.Statement.{statement}
-use Rattle.printing.proofs.size.Tie as tie
+use Rattle.engines.proofs.Signs.{widened, below-turned, below-cast, below-size, whole-cast, whole-size}
+use Rattle.engines.proofs.printing.size.Statement.{statement}
+use Rattle.engines.proofs.printing.size.Tie as tie
 
 cast-result : tie.Need-cast-result
 cast-result c = widened (c .before .args .word) (c .before .fits .word)

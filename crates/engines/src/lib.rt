@@ -1,0 +1,67 @@
+// The engines by name, for programs: a call of each, with an area of its own where it needs one, and its answer in print.
+mod printing;
+
+pub use printing::print_answer;
+pub use printing::print_number;
+pub use printing::print_words;
+pub use printing::say;
+
+// In the order in which programs name them.
+pub enum Engine {
+    Copy,
+    Chain,
+    Display,
+}
+
+// A call of an engine, as C makes it. The copying area has 65,536 words, the records are for 256 activations.
+pub fn call(
+    engine: Engine,
+    script: &[u8],
+    d: u32,
+    n: u32,
+    g: u32,
+    table: &mut [i32],
+    count: usize,
+    name: u16,
+    sheet: &mut [i32],
+) -> [u64; 9] {
+    let mut answer = [0u64; 9];
+    match engine {
+        Engine::Copy => {
+            let mut area = [0u32; 65536];
+            enrol::enrol_copy(
+                script,
+                d,
+                n,
+                g,
+                0,
+                table,
+                count,
+                name,
+                sheet,
+                &mut area,
+                &mut answer,
+            );
+        }
+        Engine::Chain => {
+            let mut records = [0u32; 768];
+            enrol::enrol_chain(
+                script,
+                d,
+                n,
+                g,
+                0,
+                table,
+                count,
+                name,
+                sheet,
+                &mut records,
+                &mut answer,
+            );
+        }
+        Engine::Display => {
+            enrol::enrol_display(script, d, n, g, 0, table, count, name, sheet, &mut answer);
+        }
+    }
+    answer
+}
