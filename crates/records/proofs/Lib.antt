@@ -4,4 +4,4 @@ pub mod Counts
 pub mod Taking
 pub mod Places
 pub mod Steps
-pub mod Handed
+pub mod Typed

@@ -1,18 +1,17 @@
 -- `records::reader::fields_left` meets its contract: a reader is taken apart, and `fields_from` is called on its fields.
 -- Assumes nothing.
-use mathlib.Core.Path.{_≡_}
-use Prim.Native.Nat.{_+_, _*_, _<_, _^_}
+use mathlib.Core.Path.{refl}
 use mathlib.Core.List.{[], _∷_}
-use lib.ListN.{length}
 use mir.Syntax.{tyInt, w64}
-use base.Logic.{emp}
+use base.Logic.{id⊢}
 use contract.Running.{givenOf}
 use denote.Plain.{uint-lawful}
 use denote.Builtin.{usize}
 use Rattle.words.proofs.Thin.{apart-meets}
-use Rattle.records.specs.Taking.{unread}
+use Rattle.records.proofs.fields.fields_from as g
 use Rattle.records.proofs.fields.fields_from.Symbol as g-def
 use Rattle.records.proofs.fields.fields_from.Met as g-thm
+use Rattle.records.proofs.reader.fields_left as f
 use Rattle.records.proofs.reader.fields_left.Key as key
 use Rattle.records.proofs.reader.fields_left.Statement.{statement}
 use Rattle.records.proofs.reader.fields_left.Code as code
@@ -21,5 +20,5 @@ pub fields-left-spec : {M : Type 1} → statement M
 unfolding code.routine
 fields-left-spec 𝓤 H 𝓜 𝓖 𝓡 =
     apart-meets 𝓤 H 𝓜 𝓖 𝓡 code.env usize (tyInt w64) (λ n v is. uint-lawful 𝓤 H (𝓖 .A) (givenOf 𝓤 H 𝓜 𝓖) w64 .typed n (v ∷ []) is .0)
-    (λ at. emp 𝓤) (λ bs at n. (n ≡ length (unread bs at)) × (at + 2 * n < 2 ^ 64))
-    g-def.name g-def.routine code.calls-records·fields·fields-from key.name (g-thm.met 𝓤 H 𝓜 𝓖 𝓡) (code.unfolded 𝓤 H 𝓜 𝓡)
+    g-def.name g-def.routine code.calls-records·fields·fields-from key.name (f.clauses 𝓤 H (𝓖 .A) (𝓜 .mem) (𝓡 .run)) (g.clauses 𝓤 H (𝓖 .A) (𝓜 .mem) (𝓡 .run))
+    (λ κs d _. tt) (λ κs d _. id⊢ 𝓤 _) _ (λ κs d _ n z. refl) _ (λ κs d _ n z. refl) (λ κs d n said. said) (g-thm.met 𝓤 H 𝓜 𝓖 𝓡) (code.unfolded 𝓤 H 𝓜 𝓡)
