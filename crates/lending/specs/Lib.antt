@@ -1,0 +1,9 @@
+pub mod Loans
+pub mod Data
+pub mod Params
+pub mod Calls
+pub mod Frames
+pub mod Locals
+pub mod Lends
+pub mod Elements
+pub mod Functions
