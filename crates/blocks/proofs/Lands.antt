@@ -14,7 +14,7 @@ use Rattle.records.specs.declared.Progress.the-variants.{At, Refused}
 use Rattle.records.specs.Taking.{unread, forget}
 use Rattle.records.proofs.Unread.{unread-drop}
 use Rattle.records.proofs.Taking.{fields-all, fields-none}
-use Rattle.records.proofs.Steps.{Sound, sound}
+use Rattle.records.proofs.Steps.{Resumes, resumes}
 use Rattle.blocks.specs.Progress.{bodyOf}
 
 abbrev pub Lands : {A : Type 0} → List ℕ → ℕ → Outcome A → Type 0
@@ -76,12 +76,12 @@ module _ (bs : List ℕ) where
   pub tracks-fields : (o k : ℕ) → Tracks bs (fields o k)
   tracks-fields o k = record { lands = λ at. fields-land o k at (decLe k (length (unread bs at))) }
 
-  sound-lands : {M : Type 0} (at : ℕ) (x : Outcome (Record M)) → Sound bs at x → Lands bs at x
-  sound-lands at (read r next ws) s = (s .1, omega arith, s .4)
-  sound-lands at (refuse c o) s = tt
+  resumes-lands : {M : Type 0} (at : ℕ) (x : Outcome (Record M)) → Resumes bs at x → Lands bs at x
+  resumes-lands at (read r next ws) s = (s .1, omega arith, s .4)
+  resumes-lands at (refuse c o) s = tt
 
   pub tracks-take : {M : Type 0} (rows : List (Row M)) → Tracks bs (take-record rows)
-  tracks-take rows = record { lands = λ at. sound-lands at (take-record rows at (unread bs at)) (sound rows bs at) }
+  tracks-take rows = record { lands = λ at. resumes-lands at (take-record rows at (unread bs at)) (resumes rows bs at) }
 
   tracks-kind : (o n : ℕ) → Tracks bs (kind o n)
   unfolding kind

@@ -10,30 +10,30 @@ use Rattle.language.specs.Text.{Kind}
 use Rattle.language.specs.Encoding.{kindField}
 use Rattle.language.specs.Scope.{Scope, fine, wrong, visible, allVisible, kindIn, agree, _then_}
 use Rattle.language.specs.declared.Refusal.the-variants.{NotVisible}
-use Rattle.words.specs.Words.{wordAt, wordsAt}
-use Rattle.uses.specs.Meanings.{kindOf, kindsAt, meaningAt, scopeOf}
+use Rattle.laws.specs.Fields.{fieldAt, fieldsAt}
+use Rattle.uses.specs.Meanings.{kindFrom, kindsAt, meaningAt, scopeOf}
 use Rattle.symbols.specs.Entries.{foundIn}
-use Rattle.symbols.specs.declared.Found.the-variants.{At, Nothing}
+use Rattle.symbols.specs.declared.Binding.the-variants.{At, Nothing}
 use Rattle.uses.proofs.Meanings.{found-lookup, kinds-agree, kinds-differ}
 
 one-less : (count i : ℕ) → i < count → count - i ≡ suc (count - (i + 1))
 one-less count i h = omega arith
 
-pub words-step : (bs : List ℕ) (from count i : ℕ) → i < count → wordsAt bs (from + 2 * i) (count - i) ≡ wordAt bs (from + 2 * i) ∷ wordsAt bs (from + 2 * (i + 1)) (count - (i + 1))
-unfolding wordsAt
+pub words-step : (bs : List ℕ) (from count i : ℕ) → i < count → fieldsAt bs (from + 2 * i) (count - i) ≡ fieldAt bs (from + 2 * i) ∷ fieldsAt bs (from + 2 * (i + 1)) (count - (i + 1))
+unfolding fieldsAt
 words-step bs from count i h = rw (one-less count i h) (rw next)
   where
     next : from + 2 * i + 2 ≡ from + 2 * (i + 1)
     next = omega arith
 
-pub words-done : (bs : List ℕ) (from count i : ℕ) → count ≤ i → wordsAt bs from (count - i) ≡ []
-unfolding wordsAt
+pub words-done : (bs : List ℕ) (from count i : ℕ) → count ≤ i → fieldsAt bs from (count - i) ≡ []
+unfolding fieldsAt
 words-done bs from count i h = rw none-left
   where
     none-left : count - i ≡ 0
     none-left = omega arith
 
-pub words-all : (bs : List ℕ) (from count : ℕ) → wordsAt bs (from + 2 * 0) (count - 0) ≡ wordsAt bs from count
+pub words-all : (bs : List ℕ) (from count : ℕ) → fieldsAt bs (from + 2 * 0) (count - 0) ≡ fieldsAt bs from count
 words-all bs from count = rw (start, whole)
   where
     start : from + 2 * 0 ≡ from
@@ -42,7 +42,7 @@ words-all bs from count = rw (start, whole)
     whole : count - 0 ≡ count
     whole = omega arith
 
-pub kinds-step : (bs : List ℕ) (from count i : ℕ) → i < count → kindsAt bs (from + 6 * i) (count - i) ≡ kindOf (wordAt bs (from + 4 + 6 * i)) ∷ kindsAt bs (from + 6 * (i + 1)) (count - (i + 1))
+pub kinds-step : (bs : List ℕ) (from count i : ℕ) → i < count → kindsAt bs (from + 6 * i) (count - i) ≡ kindFrom (fieldAt bs (from + 4 + 6 * i)) ∷ kindsAt bs (from + 6 * (i + 1)) (count - (i + 1))
 unfolding kindsAt
 kinds-step bs from count i h = rw (one-less count i h) (rw (next, field))
   where
@@ -102,24 +102,24 @@ module _ (bs es : List ℕ) where
     agree-miss e = rw (kind-miss n e)
 
 -- one argument more, or the last one looked at
-module _ (bs es : List ℕ) (at count i n : ℕ) (more : i < count) (is : n ≡ wordAt bs (at + 6 + 2 * i)) where
-  arguments : wordsAt bs (at + 6 + 2 * i) (count - i) ≡ n ∷ wordsAt bs (at + 6 + 2 * (i + 1)) (count - (i + 1))
+module _ (bs es : List ℕ) (at count i n : ℕ) (more : i < count) (is : n ≡ fieldAt bs (at + 6 + 2 * i)) where
+  arguments : fieldsAt bs (at + 6 + 2 * i) (count - i) ≡ n ∷ fieldsAt bs (at + 6 + 2 * (i + 1)) (count - (i + 1))
   arguments = words-step bs (at + 6) count i more ∙ rw is
 
-  pub visible-on : (place : ℕ) → foundIn n es ≡ At place → allVisible (scopeOf bs es) at (wordsAt bs (at + 6 + 2 * (i + 1)) (count - (i + 1))) ≡ allVisible (scopeOf bs es) at (wordsAt bs (at + 6 + 2 * i) (count - i))
+  pub visible-on : (place : ℕ) → foundIn n es ≡ At place → allVisible (scopeOf bs es) at (fieldsAt bs (at + 6 + 2 * (i + 1)) (count - (i + 1))) ≡ allVisible (scopeOf bs es) at (fieldsAt bs (at + 6 + 2 * i) (count - i))
   visible-on place e = sym (visible-hit bs es at n place _ e) ∙ ap (allVisible (scopeOf bs es) at) (sym arguments)
 
-  pub visible-stop : foundIn n es ≡ Nothing → allVisible (scopeOf bs es) at (wordsAt bs (at + 6 + 2 * i) (count - i)) ≡ wrong NotVisible at
+  pub visible-stop : foundIn n es ≡ Nothing → allVisible (scopeOf bs es) at (fieldsAt bs (at + 6 + 2 * i) (count - i)) ≡ wrong NotVisible at
   visible-stop e = ap (allVisible (scopeOf bs es) at) arguments ∙ visible-miss bs es at n _ e
 
   module _ (formals : ℕ) where
     abbrev rest : ℕ → Bool
-    rest j = agree (kindsAt bs (formals + 6 * j) (count - j)) (map (kindIn (scopeOf bs es)) (wordsAt bs (at + 6 + 2 * j) (count - j)))
+    rest j = agree (kindsAt bs (formals + 6 * j) (count - j)) (map (kindIn (scopeOf bs es)) (fieldsAt bs (at + 6 + 2 * j) (count - j)))
 
     abbrev wanted : Kind
-    wanted = kindOf (wordAt bs (formals + 4 + 6 * i))
+    wanted = kindFrom (fieldAt bs (formals + 4 + 6 * i))
 
-    both-lists : rest i ≡ agree (wanted ∷ kindsAt bs (formals + 6 * (i + 1)) (count - (i + 1))) (kindIn (scopeOf bs es) n ∷ map (kindIn (scopeOf bs es)) (wordsAt bs (at + 6 + 2 * (i + 1)) (count - (i + 1))))
+    both-lists : rest i ≡ agree (wanted ∷ kindsAt bs (formals + 6 * (i + 1)) (count - (i + 1))) (kindIn (scopeOf bs es) n ∷ map (kindIn (scopeOf bs es)) (fieldsAt bs (at + 6 + 2 * (i + 1)) (count - (i + 1))))
     both-lists = rw (kinds-step bs formals count i more, arguments)
 
     pub match-on : (place : ℕ) → foundIn n es ≡ At place → kindField (meaningAt bs place .kind) ≡ kindField wanted → rest (i + 1) ≡ rest i
@@ -132,10 +132,10 @@ module _ (bs es : List ℕ) (at count i n : ℕ) (more : i < count) (is : n ≡ 
     match-miss e = both-lists ∙ agree-miss bs es wanted _ n _ e
 
 -- nothing left
-pub visible-all : (bs : List ℕ) (sc : Scope) (at from count i : ℕ) → count ≤ i → allVisible sc at (wordsAt bs from (count - i)) ≡ fine
+pub visible-all : (bs : List ℕ) (sc : Scope) (at from count i : ℕ) → count ≤ i → allVisible sc at (fieldsAt bs from (count - i)) ≡ fine
 unfolding allVisible
 visible-all bs sc at from count i h = rw (words-done bs from count i h)
 
-pub match-all : (bs : List ℕ) (sc : Scope) (formals from count i : ℕ) → count ≤ i → agree (kindsAt bs formals (count - i)) (map (kindIn sc) (wordsAt bs from (count - i))) ≡ true
+pub match-all : (bs : List ℕ) (sc : Scope) (formals from count i : ℕ) → count ≤ i → agree (kindsAt bs formals (count - i)) (map (kindIn sc) (fieldsAt bs from (count - i))) ≡ true
 unfolding agree
 match-all bs sc formals from count i h = rw (words-done bs from count i h, kinds-done bs formals count i h)

@@ -16,24 +16,24 @@ use Rattle.language.specs.Scope.{Scope, Meaning, fine, wrong, allVisible, kindI
 use Rattle.language.specs.Scope as definitions
 use Rattle.language.specs.declared.Refusal.{Refusal}
 use Rattle.language.specs.declared.Refusal.the-variants.{CallMismatch}
-use Rattle.words.specs.Words.{wordAt, wordsAt}
+use Rattle.laws.specs.Fields.{fieldAt, fieldsAt}
 use Rattle.uses.specs.Meanings.{kindsAt, meaningAt, scopeOf, verdictOf}
 use Rattle.symbols.specs.Entries.{foundIn}
 use Rattle.calls.specs.Calls.{Shape, isTwo, shapeOf, judgedAs}
 use Rattle.language.specs.declared.Verdict.{Verdict}
 use Rattle.language.specs.declared.Verdict.the-variants.{Fit, Refused}
-use Rattle.symbols.specs.declared.Found.the-variants.{At, Nothing}
+use Rattle.symbols.specs.declared.Binding.the-variants.{At, Nothing}
 use Rattle.uses.proofs.Meanings.{found-lookup, means-PR, use-right}
 use Rattle.uses.proofs.Verdicts.{then-stop, then-go}
 
 -- 11, for what is no declared procedure, for another number of arguments, and by the kinds
-takes-none : (bs : List ℕ) (place : ℕ) (b d : Bool) → eqb (wordAt bs place) LB-mark ≡ b → eqb (wordAt bs place) FM-mark ≡ d → (wordAt bs place ≡ PR-mark → ⊥) → meaningAt bs place .takes ≡ none
+takes-none : (bs : List ℕ) (place : ℕ) (b d : Bool) → eqb (fieldAt bs place) LB-mark ≡ b → eqb (fieldAt bs place) FM-mark ≡ d → (fieldAt bs place ≡ PR-mark → ⊥) → meaningAt bs place .takes ≡ none
 unfolding meaningAt
-takes-none bs place true d p q e = rw (ne-eqb (wordAt bs place) PR-mark e, p, meaningAt)
-takes-none bs place false true p q e = rw (ne-eqb (wordAt bs place) PR-mark e, p, q, meaningAt)
-takes-none bs place false false p q e = rw (ne-eqb (wordAt bs place) PR-mark e, p, q, meaningAt)
+takes-none bs place true d p q e = rw (ne-eqb (fieldAt bs place) PR-mark e, p, meaningAt)
+takes-none bs place false true p q e = rw (ne-eqb (fieldAt bs place) PR-mark e, p, q, meaningAt)
+takes-none bs place false false p q e = rw (ne-eqb (fieldAt bs place) PR-mark e, p, q, meaningAt)
 
-pub agrees-free : (bs : List ℕ) (at place : ℕ) (xs : List (Option Kind)) → (wordAt bs place ≡ PR-mark → ⊥) → agrees at (some (meaningAt bs place)) xs ≡ fine
+pub agrees-free : (bs : List ℕ) (at place : ℕ) (xs : List (Option Kind)) → (fieldAt bs place ≡ PR-mark → ⊥) → agrees at (some (meaningAt bs place)) xs ≡ fine
 unfolding agrees
 agrees-free bs at place xs e = rw (takes-none bs place _ _ refl refl e, agrees)
 
@@ -54,23 +54,23 @@ unfolding kindsAt
 length-kinds bs from zero = refl
 length-kinds bs from (suc n) = ap suc (length-kinds bs (from + 6) n)
 
-length-words : (bs : List ℕ) (from n : ℕ) → length (wordsAt bs from n) ≡ n
-unfolding wordsAt
+length-words : (bs : List ℕ) (from n : ℕ) → length (fieldsAt bs from n) ≡ n
+unfolding fieldsAt
 length-words bs from zero = refl
 length-words bs from (suc n) = ap suc (length-words bs (from + 2) n)
 
-module _ (bs : List ℕ) (at place : ℕ) (marked : wordAt bs place ≡ PR-mark) where
-  by-kinds : (xs : List (Option Kind)) (b : Bool) → agree (kindsAt bs (place + 6) (wordAt bs (place + 4))) xs ≡ b → agrees at (some (meaningAt bs place)) xs ≡ (elim b [ true ↦ fine | false ↦ wrong CallMismatch at ])
+module _ (bs : List ℕ) (at place : ℕ) (marked : fieldAt bs place ≡ PR-mark) where
+  by-kinds : (xs : List (Option Kind)) (b : Bool) → agree (kindsAt bs (place + 6) (fieldAt bs (place + 4))) xs ≡ b → agrees at (some (meaningAt bs place)) xs ≡ (elim b [ true ↦ fine | false ↦ wrong CallMismatch at ])
   unfolding agrees
   by-kinds xs b e = rw (means-PR bs place marked, e, agrees)
 
-  pub agrees-count : (f : ℕ → Option Kind) (from count : ℕ) → (wordAt bs (place + 4) ≡ count → ⊥) → agrees at (some (meaningAt bs place)) (map f (wordsAt bs from count)) ≡ wrong CallMismatch at
+  pub agrees-count : (f : ℕ → Option Kind) (from count : ℕ) → (fieldAt bs (place + 4) ≡ count → ⊥) → agrees at (some (meaningAt bs place)) (map f (fieldsAt bs from count)) ≡ wrong CallMismatch at
   agrees-count f from count e =
-      by-kinds (map f (wordsAt bs from count)) false
-      (agree-short (kindsAt bs (place + 6) (wordAt bs (place + 4))) (map f (wordsAt bs from count))
-      (λ p. e (sym (length-kinds bs (place + 6) (wordAt bs (place + 4))) ∙ p ∙ length-map (wordsAt bs from count) f ∙ length-words bs from count)))
+      by-kinds (map f (fieldsAt bs from count)) false
+      (agree-short (kindsAt bs (place + 6) (fieldAt bs (place + 4))) (map f (fieldsAt bs from count))
+      (λ p. e (sym (length-kinds bs (place + 6) (fieldAt bs (place + 4))) ∙ p ∙ length-map (fieldsAt bs from count) f ∙ length-words bs from count)))
 
-  pub agrees-by : (xs : List (Option Kind)) (count : ℕ) (b : Bool) → wordAt bs (place + 4) ≡ count → agree (kindsAt bs (place + 6) count) xs ≡ b → agrees at (some (meaningAt bs place)) xs ≡ (elim b [ true ↦ fine | false ↦ wrong CallMismatch at ])
+  pub agrees-by : (xs : List (Option Kind)) (count : ℕ) (b : Bool) → fieldAt bs (place + 4) ≡ count → agree (kindsAt bs (place + 6) count) xs ≡ b → agrees at (some (meaningAt bs place)) xs ≡ (elim b [ true ↦ fine | false ↦ wrong CallMismatch at ])
   agrees-by xs count b e f = by-kinds xs b (rw e f)
 
 pub call-judged : (sc : Scope) (at p : ℕ) (xs : List ℕ) → judgeAction sc at (CL p xs) ≡ _then_ (uses sc at procedure p) (_then_ (allVisible sc at xs) (agrees at (lookup p sc) (map (kindIn sc) xs)))
@@ -86,15 +86,15 @@ unfolding agrees
 agrees-unfound bs es at p xs e = rw (found-lookup bs p es, e)
 
 -- the call at an offset, its verdicts one after the other
-module _ (bs es : List ℕ) (at n m : ℕ) (name : n ≡ wordAt bs (at + 2)) (number : m ≡ wordAt bs (at + 4)) where
+module _ (bs es : List ℕ) (at n m : ℕ) (name : n ≡ fieldAt bs (at + 2)) (number : m ≡ fieldAt bs (at + 4)) where
   abbrev sc : Scope
   sc = scopeOf bs es
 
   abbrev xs : List ℕ
-  xs = wordsAt bs (at + 6) m
+  xs = fieldsAt bs (at + 6) m
 
   abbrev whole : Verdict
-  whole = verdictOf (judgeAction sc at (CL (wordAt bs (at + 2)) (wordsAt bs (at + 6) (wordAt bs (at + 4)))))
+  whole = verdictOf (judgeAction sc at (CL (fieldAt bs (at + 2)) (fieldsAt bs (at + 6) (fieldAt bs (at + 4)))))
 
   opened : verdictOf (_then_ (uses sc at procedure n) (_then_ (allVisible sc at xs) (agrees at (lookup n sc) (map (kindIn sc) xs)))) ≡ whole
   opened = sym (ap verdictOf (call-judged sc at n xs)) ∙ rw (name, number)
@@ -107,7 +107,7 @@ module _ (bs es : List ℕ) (at n m : ℕ) (name : n ≡ wordAt bs (at + 2)) (nu
     call-hides s c o q e = then-stop (allVisible sc at xs) _ s c o q e ∙ then-go (uses sc at procedure n) _ r p fits ∙ opened
 
     module _ (s : Verdict) (q : s ≡ verdictOf (allVisible sc at xs)) (seen : s ≡ Fit) where
-      pub call-judges : (t : Verdict) (v : definitions.Verdict) → t ≡ verdictOf v → agrees at (lookup n sc) (map (kindIn sc) xs) ≡ v → t ≡ whole
+      pub call-judges : (t : Verdict) (v : definitions.Judgement) → t ≡ verdictOf v → agrees at (lookup n sc) (map (kindIn sc) xs) ≡ v → t ≡ whole
       call-judges t v e f =
           e ∙ sym (ap verdictOf f) ∙ then-go (allVisible sc at xs) _ s q seen ∙ then-go (uses sc at procedure n) _ r p fits ∙ opened
 
@@ -130,14 +130,14 @@ agree-visible sc at ks [] e = refl
 agree-visible sc at [] (n ∷ ns) e = no-true e
 agree-visible sc at (k ∷ ks) (n ∷ ns) e =
     let f = agree-first sc at k ks n ns (lookup n sc) refl e in
-    ap (λ (v : definitions.Verdict). _then_ v (allVisible sc at ns)) (f .1) ∙ agree-visible sc at ks ns (f .0)
+    ap (λ (v : definitions.Judgement). _then_ v (allVisible sc at ns)) (f .1) ∙ agree-visible sc at ks ns (f .0)
 
-pub agreed : (bs es : List ℕ) (at n m place : ℕ) → n ≡ wordAt bs (at + 2) → m ≡ wordAt bs (at + 4) → foundIn n es ≡ At place → wordAt bs place ≡ PR-mark → wordAt bs (place + 4) ≡ m → agree (kindsAt bs (place + 6) m) (map (kindIn (scopeOf bs es)) (wordsAt bs (at + 6) m)) ≡ true → Fit ≡ verdictOf (judgeAction (scopeOf bs es) at (CL (wordAt bs (at + 2)) (wordsAt bs (at + 6) (wordAt bs (at + 4)))))
+pub agreed : (bs es : List ℕ) (at n m place : ℕ) → n ≡ fieldAt bs (at + 2) → m ≡ fieldAt bs (at + 4) → foundIn n es ≡ At place → fieldAt bs place ≡ PR-mark → fieldAt bs (place + 4) ≡ m → agree (kindsAt bs (place + 6) m) (map (kindIn (scopeOf bs es)) (fieldsAt bs (at + 6) m)) ≡ true → Fit ≡ verdictOf (judgeAction (scopeOf bs es) at (CL (fieldAt bs (at + 2)) (fieldsAt bs (at + 6) (fieldAt bs (at + 4)))))
 unfolding verdictOf
 agreed bs es at n m place name number found marked same e =
     call-judges bs es at n m name number Fit
     (sym (ap verdictOf (use-right bs es at procedure n place found (ap (λ (x : Meaning). kindField (x .kind)) (means-PR bs place marked)))))
-    refl Fit (sym (ap verdictOf (agree-visible (scopeOf bs es) at (kindsAt bs (place + 6) m) (wordsAt bs (at + 6) m) e))) refl Fit fine refl
+    refl Fit (sym (ap verdictOf (agree-visible (scopeOf bs es) at (kindsAt bs (place + 6) m) (fieldsAt bs (at + 6) m) e))) refl Fit fine refl
     (agrees-found bs es at n place _ found ∙ agrees-by bs at place marked _ m true same e)
 
 -- a statement's shape by its mark
@@ -146,5 +146,5 @@ unfolding shapeOf
 shape-two w a b c d e f =
     rw (ne-eqb w CL-mark a, ne-eqb w GO-mark b, ne-eqb w IF-mark c, ne-eqb w KN-mark d, ne-eqb w AR-mark e, ne-eqb w QY-mark f, shapeOf)
 
-pub shaped : (bs : List ℕ) (sc : Scope) (at w : ℕ) (s : Shape) (r : Verdict) → w ≡ wordAt bs at → shapeOf w ≡ s → r ≡ verdictOf (judgedAs s sc bs at) → r ≡ verdictOf (judgedAs (shapeOf (wordAt bs at)) sc bs at)
+pub shaped : (bs : List ℕ) (sc : Scope) (at w : ℕ) (s : Shape) (r : Verdict) → w ≡ fieldAt bs at → shapeOf w ≡ s → r ≡ verdictOf (judgedAs s sc bs at) → r ≡ verdictOf (judgedAs (shapeOf (fieldAt bs at)) sc bs at)
 shaped bs sc at w s r e f p = p ∙ ap (λ (x : Shape). verdictOf (judgedAs x sc bs at)) (sym f ∙ ap shapeOf e)

@@ -9,12 +9,12 @@ use Rattle.language.specs.Encoding.{CL-mark, GO-mark, IF-mark, KN-mark, AR-mark
 use Rattle.language.specs.Scope.{Scope, kindIn, uses, judgeAction}
 use Rattle.language.specs.Scope as definitions
 use Rattle.language.specs.declared.Verdict.{Verdict}
-use Rattle.words.specs.Words.{wordAt, wordsAt}
+use Rattle.laws.specs.Fields.{fieldAt, fieldsAt}
 use Rattle.uses.specs.Meanings.{scopeFrom, pairJudged, tripleJudged}
 
 -- so many argument names of the CL at an offset
 abbrev pub namesAt : List ℕ → ℕ → ℕ → List ℕ
-namesAt bs at count = wordsAt bs (at + 6) count
+namesAt bs at count = fieldsAt bs (at + 6) count
 
 -- the kinds of so many arguments of the CL at an offset
 abbrev pub argumentsAt : List ℕ → List ℕ → ℕ → ℕ → ℕ → List (Option Kind)
@@ -22,7 +22,7 @@ argumentsAt bs es top at count = map (kindIn (scopeFrom bs es top)) (namesAt bs 
 
 -- the CL at an offset
 abbrev pub callAt : List ℕ → ℕ → Action
-callAt bs at = CL (wordAt bs (at + 2)) (namesAt bs at (wordAt bs (at + 4)))
+callAt bs at = CL (fieldAt bs (at + 2)) (namesAt bs at (fieldAt bs (at + 4)))
 
 -- which names a statement has, by its mark
 pub data Shape : Type 0 where
@@ -51,11 +51,11 @@ shapeOf w =
     ]
 
 -- a statement other than BK, judged by its shape
-unfoldable pub judgedAs : Shape → Scope → List ℕ → ℕ → definitions.Verdict
+unfoldable pub judgedAs : Shape → Scope → List ℕ → ℕ → definitions.Judgement
 judgedAs isCL sc bs at = judgeAction sc at (callAt bs at)
-judgedAs isGO sc bs at = uses sc at label (wordAt bs (at + 2))
-judgedAs isIF sc bs at = pairJudged sc at variable (wordAt bs (at + 2)) label (wordAt bs (at + 4))
-judgedAs isKN sc bs at = uses sc at variable (wordAt bs (at + 2))
-judgedAs isAR sc bs at = tripleJudged sc at (wordAt bs (at + 2)) (wordAt bs (at + 6)) (wordAt bs (at + 8))
-judgedAs isQY sc bs at = tripleJudged sc at (wordAt bs (at + 2)) (wordAt bs (at + 4)) (wordAt bs (at + 6))
-judgedAs isTwo sc bs at = pairJudged sc at variable (wordAt bs (at + 2)) variable (wordAt bs (at + 4))
+judgedAs isGO sc bs at = uses sc at label (fieldAt bs (at + 2))
+judgedAs isIF sc bs at = pairJudged sc at variable (fieldAt bs (at + 2)) label (fieldAt bs (at + 4))
+judgedAs isKN sc bs at = uses sc at variable (fieldAt bs (at + 2))
+judgedAs isAR sc bs at = tripleJudged sc at (fieldAt bs (at + 2)) (fieldAt bs (at + 6)) (fieldAt bs (at + 8))
+judgedAs isQY sc bs at = tripleJudged sc at (fieldAt bs (at + 2)) (fieldAt bs (at + 4)) (fieldAt bs (at + 6))
+judgedAs isTwo sc bs at = pairJudged sc at variable (fieldAt bs (at + 2)) variable (fieldAt bs (at + 4))

@@ -2,7 +2,7 @@
 use language::Refusal;
 use language::Verdict;
 use records::PR;
-use symbols::Found;
+use symbols::Binding;
 use symbols::find;
 use uses::kind_at;
 use uses::kind_number;
@@ -26,7 +26,7 @@ fn visible(script: &[u8], entries: &[usize], top: usize, at: usize, count: usize
 {
     let mut i = 0;
     while i < count {
-        let Found::At(_) = find(entries, top, word(script, at + 6 + 2 * i)) else {
+        let Binding::At(_) = find(entries, top, word(script, at + 6 + 2 * i)) else {
             return Verdict::Refused(Refusal::NotVisible, at);
         };
         i += 1;
@@ -49,7 +49,7 @@ fn matching(
 {
     let mut i = 0;
     while i < count {
-        let Found::At(place) = find(entries, top, word(script, at + 6 + 2 * i)) else {
+        let Binding::At(place) = find(entries, top, word(script, at + 6 + 2 * i)) else {
             return false;
         };
         let wanted = kind_number(word(script, formals + 4 + 6 * i));
@@ -103,7 +103,7 @@ fn judge_call(script: &[u8], entries: &[usize], top: usize, at: usize) -> Verdic
     let Verdict::Fit = all else {
         return all;
     };
-    let Found::At(place) = find(entries, top, name) else {
+    let Binding::At(place) = find(entries, top, name) else {
         return Verdict::Fit;
     };
     agrees(script, entries, top, at, place, count)
@@ -117,7 +117,7 @@ fn kinds_agree(script: &[u8], entries: &[usize], top: usize, at: usize) -> bool
 {
     let name = word(script, at + 2);
     let count = word(script, at + 4);
-    let Found::At(place) = find(entries, top, name) else {
+    let Binding::At(place) = find(entries, top, name) else {
         return false;
     };
     if word(script, place) != PR {

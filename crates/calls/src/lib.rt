@@ -13,7 +13,7 @@ use uses::uses;
 use words::word;
 ghost use mathlib.Core.Path.{_≡_};
 ghost use Prim.Native.Nat.{_+_, _^_, _<_};
-ghost use Rattle.words.specs.Words.{wordAt};
+ghost use Rattle.laws.specs.Fields.{fieldAt};
 ghost use Rattle.uses.specs.Meanings.{scopeFrom, verdictOf};
 ghost use Rattle.calls.specs.Calls.{shapeOf, judgedAs};
 ghost use Rattle.symbols.specs.Chains.{Chained};
@@ -22,9 +22,9 @@ mod call;
 
 // A statement other than BK: its names left to right.
 pub fn action(script: &[u8], entries: &[usize], top: usize, at: usize, mark: usize) -> Verdict
-    requires { ⌜ (at < 2 ^ 32) × Chained (now entries) top × (mark ≡ wordAt (now script) at) ⌝ }
+    requires { ⌜ (at < 2 ^ 32) × Chained (now entries) top × (mark ≡ fieldAt (now script) at) ⌝ }
     ensures { λ r.
-        ⌜ r ≡ verdictOf (judgedAs (shapeOf (wordAt (now (script .entry)) at))
+        ⌜ r ≡ verdictOf (judgedAs (shapeOf (fieldAt (now (script .entry)) at))
         (scopeFrom (now (script .entry)) (now (entries .entry)) top) (now (script .entry)) at) ⌝ }
 {
     if mark == CL {

@@ -24,7 +24,7 @@ use Rattle.scoping.specs.Walking.{Judged}
 use Rattle.uses.specs.Meanings as entries
 use Rattle.checking.specs.Verdicts.{verdictOf}
 
-as-judged : (t : Block) (v : definitions.Verdict) → verdictOf (judged t v) ≡ entries.verdictOf v
+as-judged : (t : Block) (v : definitions.Judgement) → verdictOf (judged t v) ≡ entries.verdictOf v
 unfolding verdictOf judged entries.verdictOf
 as-judged t fine = refl
 as-judged t (wrong c o) = refl

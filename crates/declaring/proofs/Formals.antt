@@ -10,22 +10,21 @@ use Rattle.language.specs.Basics.{zip}
 use Rattle.language.specs.Text.{Formal, formalNames}
 use Rattle.language.specs.Encoding.{kindField, formalsFields, FM-mark}
 use Rattle.resolved.specs.Resolved.{packed, formalWords}
-use Rattle.words.specs.Words.{wordAt, Stands}
-use Rattle.words.proofs.Standing.{stands-second, third-is}
+use Rattle.laws.specs.Fields.{fieldAt, FieldsStand, fields-after, fields-third}
 use Rattle.emitting.specs.Emitted.{entryOf}
 use Rattle.declaring.specs.Declared.{formalEntries}
 use Rattle.declaring.proofs.Putting.{joined-next, joined-all}
 
 pub record Naming (bs es : List ℕ) (base at i count level : ℕ) (fs : List Formal) : Type 0 where
   pub left : List Formal
-  pub stand : Stands bs (at + 6 * i) (formalsFields left)
+  pub stand : FieldsStand bs (at + 6 * i) (formalsFields left)
   pub number : length left + i ≡ count
   pub joined : take i (drop base es) ++ formalEntries level i left ≡ formalEntries level 0 fs
 
-pub naming-start : (bs es : List ℕ) (base at count level : ℕ) (fs : List Formal) → length fs ≡ count → Stands bs at (formalsFields fs) → Naming bs es base at 0 count level fs
+pub naming-start : (bs es : List ℕ) (base at count level : ℕ) (fs : List Formal) → length fs ≡ count → FieldsStand bs at (formalsFields fs) → Naming bs es base at 0 count level fs
 naming-start bs es base at count level fs n h =
     let e : at ≡ at + 6 * 0 = omega arith in
-    record { left = fs; stand = subst (λ (o : ℕ). Stands bs o (formalsFields fs)) e h; number = omega arith; joined = refl }
+    record { left = fs; stand = subst (λ (o : ℕ). FieldsStand bs o (formalsFields fs)) e h; number = omega arith; joined = refl }
 
 no-formals : (level i : ℕ) → formalEntries level i [] ≡ []
 unfolding formalEntries formalNames formalWords zip
@@ -47,23 +46,23 @@ formal-entry level i f fs = rw (add-one i) (ap (λ (w : ℕ). w ∷ map entryOf 
     same = omega arith
 
 module _ (bs es : List ℕ) (base at i count level : ℕ) (fs : List Formal) (fits : base + i < length es) (more : i < count)
-    (n k : ℕ) (name-is : n ≡ wordAt bs (at + 6 * i + 2)) (kind-is : k ≡ wordAt bs (at + 6 * i + 4)) where
+    (n k : ℕ) (name-is : n ≡ fieldAt bs (at + 6 * i + 2)) (kind-is : k ≡ fieldAt bs (at + 6 * i + 4)) where
   abbrev v : ℕ
   v = n + 65536 * (i + 32 + 64 * k + 256 * level)
 
   step :
-      (l : List Formal) → Stands bs (at + 6 * i) (formalsFields l) → length l + i ≡ count → take i (drop base es) ++ formalEntries level i l ≡ formalEntries level 0 fs →
+      (l : List Formal) → FieldsStand bs (at + 6 * i) (formalsFields l) → length l + i ≡ count → take i (drop base es) ++ formalEntries level i l ≡ formalEntries level 0 fs →
       Naming bs (set es (base + i) v) base at (i + 1) count level fs
   unfolding formalsFields
   step [] h m j = absurd (omega arith)
   step (f ∷ l) h m j =
-      let third = third-is bs (at + 6 * i) FM-mark (f .name) (kindField (f .kind)) (formalsFields l) h in
+      let third = fields-third bs (at + 6 * i) FM-mark (f .name) (kindField (f .kind)) (formalsFields l) h in
       let six : at + 6 * i + 2 * 3 ≡ at + 6 * (i + 1) = omega arith in
       let en : n ≡ f .name = name-is ∙ h .1 .0 in
       let ek : k ≡ kindField (f .kind) = kind-is ∙ third in
       record {
         left = l;
-        stand = subst (λ (o : ℕ). Stands bs o (formalsFields l)) six (stands-second bs (at + 6 * i) (FM-mark ∷ f .name ∷ kindField (f .kind) ∷ []) (formalsFields l) h);
+        stand = subst (λ (o : ℕ). FieldsStand bs o (formalsFields l)) six (fields-after bs (at + 6 * i) (FM-mark ∷ f .name ∷ kindField (f .kind) ∷ []) (formalsFields l) h);
         number = omega arith;
         joined =
             joined-next es base i v fits (f .name + 65536 * (i + 32 + 64 * kindField (f .kind) + 256 * level)) (formalEntries level (i + 1) l) (formalEntries level 0 fs)

@@ -15,8 +15,7 @@ use Rattle.grammar.specs.Rules.{FormedFormals, FormedBlock, FormedDecl, FormedD
 use Rattle.coordinates.specs.Enclosure.{Enclosing, enclosed, Enclosure, namesOf}
 use Rattle.resolved.specs.Resolved.{packed, placeOf, declTarget, declKindField, formalWords, declWords, ownWords, visibleWords, stmtPlace}
 use Rattle.resolved.specs.NameWords.{kind-small}
-use Rattle.words.specs.Words.{wordAt, Stands}
-use Rattle.words.proofs.Standing.{stands-first, stands-second, third-is}
+use Rattle.laws.specs.Fields.{fieldAt, FieldsStand, fields-first, fields-after, fields-third}
 use Rattle.extents.specs.Items.{Item, declared, stated, itemsFields}
 use Rattle.extents.proofs.Inside.{decl-items, stmt-items}
 use Rattle.scoping.specs.Walking.{BlockHere}
@@ -83,7 +82,7 @@ module _ (bs : List ℕ) (at count d base level : ℕ) where
   top = base + (count + d)
 
   module _ (o : ℕ) (ds : Decls) (ss : Stmts) (fs : List Formal) (h : BlockHere bs at count top (block o ds ss) fs level) (within : start + 2 * length (blockFields (block o ds ss)) ≤ 8192)
-      (s : ℕ) (d-read : d ≡ wordAt bs (start + 2)) (s-read : s ≡ wordAt bs (start + 4)) where
+      (s : ℕ) (d-read : d ≡ fieldAt bs (start + 2)) (s-read : s ≡ fieldAt bs (start + 4)) where
     abbrev first : ℕ
     first = start + 6 + 2 * length (declsFields ds)
 
@@ -93,17 +92,17 @@ module _ (bs : List ℕ) (at count d base level : ℕ) where
 
     s-is : s ≡ length (stmts ss)
     unfolding blockFields
-    s-is = s-read ∙ third-is bs start BK-mark (length (decls ds)) (length (stmts ss)) (declsFields ds ++ stmtsFields ss) (h .stand)
+    s-is = s-read ∙ fields-third bs start BK-mark (length (decls ds)) (length (stmts ss)) (declsFields ds ++ stmtsFields ss) (h .stand)
 
-    inside : Stands bs (start + 6) (declsFields ds ++ stmtsFields ss)
+    inside : FieldsStand bs (start + 6) (declsFields ds ++ stmtsFields ss)
     unfolding blockFields
-    inside = stands-second bs start (BK-mark ∷ length (decls ds) ∷ length (stmts ss) ∷ []) (declsFields ds ++ stmtsFields ss) (h .stand)
+    inside = fields-after bs start (BK-mark ∷ length (decls ds) ∷ length (stmts ss) ∷ []) (declsFields ds ++ stmtsFields ss) (h .stand)
 
-    decls-stand : Stands bs (start + 6) (declsFields ds)
-    decls-stand = stands-first bs (start + 6) (declsFields ds) (stmtsFields ss) inside
+    decls-stand : FieldsStand bs (start + 6) (declsFields ds)
+    decls-stand = fields-first bs (start + 6) (declsFields ds) (stmtsFields ss) inside
 
-    stmts-stand : Stands bs first (stmtsFields ss)
-    stmts-stand = stands-second bs (start + 6) (declsFields ds) (stmtsFields ss) inside
+    stmts-stand : FieldsStand bs first (stmtsFields ss)
+    stmts-stand = fields-after bs (start + 6) (declsFields ds) (stmtsFields ss) inside
 
     decls-formed : FormedDecls ds level (length (stmts ss)) (start + 6)
     unfolding FormedBlock
@@ -135,7 +134,7 @@ module _ (bs : List ℕ) (at count d base level : ℕ) where
     module _ (st₁ st₂ : List ℕ) (long₁ : 2048 ≤ length st₁) (long₂ : 2048 ≤ length st₂) (f : ℕ) (decls-started : Started bs (start + 6) d 0 st₁ f) (stmts-started : IfLabelled bs st₁ f s d st₂) (kept-starts : take d st₂ ≡ take d st₁) where
       decls-there : (take d st₁ ≡ startsOf (map declared (decls ds)) (start + 6)) × (f ≡ start + 6 + 2 * length (itemsFields (map declared (decls ds))))
       decls-there =
-          decls-started (map declared (decls ds)) (length-map (decls ds) declared ∙ sym d-is) (subst (Stands bs (start + 6)) (decl-items ds) decls-stand) (omega (arith, numbered))
+          decls-started (map declared (decls ds)) (length-map (decls ds) declared ∙ sym d-is) (subst (FieldsStand bs (start + 6)) (decl-items ds) decls-stand) (omega (arith, numbered))
 
       f-is : f ≡ first
       f-is = decls-there .1 ∙ ap (λ (l : List ℕ). start + 6 + 2 * length l) (sym (decl-items ds))
@@ -143,15 +142,15 @@ module _ (bs : List ℕ) (at count d base level : ℕ) where
       stmts-there : (e : ℕ) → Started bs f s d st₂ e → take (length (stmts ss)) (drop d st₂) ≡ startsOf (map stated (stmts ss)) first
       stmts-there e started =
           let t = started (map stated (stmts ss)) (length-map (stmts ss) stated ∙ sym s-is)
-          (subst (λ (x : ℕ). Stands bs x (itemsFields (map stated (stmts ss)))) (sym f-is) (subst (Stands bs first) (stmt-items ss) stmts-stand)) (omega (arith, numbered)) in
+          (subst (λ (x : ℕ). FieldsStand bs x (itemsFields (map stated (stmts ss)))) (sym f-is) (subst (FieldsStand bs first) (stmt-items ss) stmts-stand)) (omega (arith, numbered)) in
           ap (λ (k : ℕ). take k (drop d st₂)) (sym s-is) ∙ t .0 ∙ ap (startsOf (map stated (stmts ss))) f-is
 
       same-starts : (k : ℕ) → k < d → getD st₁ k 0 ≡ getD st₂ k 0
       same-starts k l = sym (getD-take d st₁ k 0 l) ∙ ap (λ (x : List ℕ). getD x k 0) (sym kept-starts) ∙ getD-take d st₂ k 0 l
 
-      stated-here : (k : ℕ) → k < d → wordAt bs (getD st₂ k 0) ≡ LB-mark → Stated (block o ds ss) d st₂
+      stated-here : (k : ℕ) → k < d → fieldAt bs (getD st₂ k 0) ≡ LB-mark → Stated (block o ds ss) d st₂
       stated-here k l m =
-          let r = stmts-started k l (ap (wordAt bs) (same-starts k l) ∙ m) in
+          let r = stmts-started k l (ap (fieldAt bs) (same-starts k l) ∙ m) in
           stated-there o ds ss level first stmts-formed d st₂ (stmts-there (r .0) (r .1))
 
       first-near : f ≤ 8192
@@ -195,7 +194,7 @@ module _ (bs : List ℕ) (at count d base level : ℕ) where
             }
 
   pub declares :
-      (s : ℕ) → d ≡ wordAt bs (start + 2) → s ≡ wordAt bs (start + 4) → (st₁ st₂ : List ℕ) → 2048 ≤ length st₁ → 2048 ≤ length st₂ → (f : ℕ) →
+      (s : ℕ) → d ≡ fieldAt bs (start + 2) → s ≡ fieldAt bs (start + 4) → (st₁ st₂ : List ℕ) → 2048 ≤ length st₁ → 2048 ≤ length st₂ → (f : ℕ) →
       Started bs (start + 6) d 0 st₁ f → IfLabelled bs st₁ f s d st₂ → take d st₂ ≡ take d st₁ → (es₀ es₁ es₂ : List ℕ) →
       DeclsPushed bs st₂ d (base + count) level count es₁ → FormalsPushed bs at count base level es₂ →
       drop (base + count) es₂ ≡ drop (base + count) es₁ → drop (base + count + d) es₁ ≡ drop (base + count + d) es₀ → Declares bs es₀ es₂ at count d base level f

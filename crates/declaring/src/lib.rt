@@ -7,7 +7,7 @@ ghost use mathlib.Core.Path.{_≡_};
 ghost use mathlib.Core.Bool.{false};
 ghost use Prim.Native.Nat.{_+_, _*_, _^_, _<_, _≤_};
 ghost use lib.ListN.{length, getD, take, drop};
-ghost use Rattle.words.specs.Words.{wordAt};
+ghost use Rattle.laws.specs.Fields.{fieldAt};
 ghost use Rattle.extents.specs.Passing.{Ends};
 ghost use Rattle.declaring.specs.Declared.{Started, Unlabelled, IfLabelled, Detailed, FormalsPushed, DeclsPushed, Declares};
 
@@ -164,7 +164,7 @@ pub fn declare(
     base: usize,
     level: usize,
 ) -> usize
-    requires { ⌜ (length (now script) ≤ 8192) × (at ≤ 200000) × (count < 65536) × (d ≡ wordAt (now script) (at + 6 * count + 2)) × (s ≡ wordAt (now script) (at + 6 * count + 4)) × (d < 65536) × (s < 65536) × (level ≤ 1000000) × (base + (count + d) ≤ length (now entries)) × (2048 ≤ length (now starts)) × Ends (now script) (now ends) ⌝ }
+    requires { ⌜ (length (now script) ≤ 8192) × (at ≤ 200000) × (count < 65536) × (d ≡ fieldAt (now script) (at + 6 * count + 2)) × (s ≡ fieldAt (now script) (at + 6 * count + 4)) × (d < 65536) × (s < 65536) × (level ≤ 1000000) × (base + (count + d) ≤ length (now entries)) × (2048 ≤ length (now starts)) × Ends (now script) (now ends) ⌝ }
     ensures declares { λ r. ⌜ Declares (now (script .entry)) (now (entries .entry)) (now (entries .exit)) at count d base level r ⌝ }
     ensures kept { λ r. ⌜ drop (base + (count + d)) (now (entries .exit)) ≡ drop (base + (count + d)) (now (entries .entry)) ⌝ }
     ensures below { λ r. ⌜ take base (now (entries .exit)) ≡ take base (now (entries .entry)) ⌝ }

@@ -14,7 +14,7 @@ use Rattle.language.specs.Basics.{lookup}
 use Rattle.coordinates.specs.Enclosure.{Enclosure}
 use Rattle.resolved.specs.Resolved.{visibleWords, nameWord}
 use Rattle.symbols.specs.Entries.{foundIn}
-use Rattle.symbols.specs.declared.Found.the-variants.{At, Nothing}
+use Rattle.symbols.specs.declared.Binding.the-variants.{At, Nothing}
 use Rattle.emitting.specs.Emitted.{wordOf, wordIn, entryOf, Short, AllShort, Fits, Shown}
 
 module _ (n e : ℕ) (es : List ℕ) where

@@ -12,8 +12,7 @@ use Rattle.language.specs.Text.{Action, CL, GO, IF, KN, AR, AD, RM, QY}
 use Rattle.language.specs.Encoding.{actionFields, operationField, unsigned, CL-mark, GO-mark, IF-mark, KN-mark, AR-mark, AD-mark, RM-mark, QY-mark}
 use Rattle.coordinates.specs.Enclosure.{Enclosure}
 use Rattle.resolved.specs.Resolved.{formalIn, direct, chosen, nameWord, resolvedAction}
-use Rattle.words.specs.Words.{wordAt, wordsAt, Stands}
-use Rattle.words.proofs.Standing.{third-is, stands-words}
+use Rattle.laws.specs.Fields.{fieldAt, fieldsAt, FieldsStand, fields-are, fields-third}
 use Rattle.emitting.specs.Growth.{Grown}
 use Rattle.emitting.specs.Emitted.{wordIn, usedAt, Short, AllShort, Shown, knWords, arWords, ifWords, goWords, clWords, pairWords, qyWords, argumentWords, emittedAs, Emitted, Named}
 use Rattle.emitting.proofs.Growth.{grown-nothing, grown-zero, put-grows, grown-more, grown-then}
@@ -41,7 +40,7 @@ all-direct x y z =
 module _ (bs es : List ℕ) (short : AllShort es) where
   used-short : (o : ℕ) {a : ℕ} → a ≡ usedAt bs es o → Short a
   unfolding usedAt
-  used-short o e = subst Short (sym e) (short (wordAt bs o))
+  used-short o e = subst Short (sym e) (short (fieldAt bs o))
 
 op-short : {op : ℕ} (t : Bool) (a b : ℕ) → op ≡ chosen t a b → Short a → Short b → Short op
 op-short t a b e h k = subst Short (sym e) (chosen-short t a b h k)
@@ -62,7 +61,7 @@ module _ (bs es : List ℕ) (at : ℕ) (c c′ : List ℕ) (short : AllShort es)
       subst (Grown c c′ at) (cc) (g (op-short _ _ _ eo (omega arith) (omega arith)) (used-short bs es short _ ea) (used-short bs es short _ ew))
 
   pub ar-grown :
-      (w o a b f k m op : ℕ) → w ≡ usedAt bs es (at + 2) → o ≡ wordAt bs (at + 4) → o < 65536 → a ≡ usedAt bs es (at + 6) → b ≡ usedAt bs es (at + 8) →
+      (w o a b f k m op : ℕ) → w ≡ usedAt bs es (at + 2) → o ≡ fieldAt bs (at + 4) → o < 65536 → a ≡ usedAt bs es (at + 6) → b ≡ usedAt bs es (at + 8) →
       f ≡ formalIn w → k ≡ formalIn a → m ≡ formalIn b → op ≡ chosen (eqb (f + (k + m)) 0) (1 + o) 12 →
       (Short op → Short w → Short o → Short a → Short b → Grown c c′ at (op ∷ w ∷ o ∷ a ∷ b ∷ [])) → Grown c c′ at (arWords bs es at)
   unfolding arWords direct
@@ -72,7 +71,7 @@ module _ (bs es : List ℕ) (at : ℕ) (c c′ : List ℕ) (short : AllShort es)
       (g (op-short _ _ _ e (omega arith) (omega arith)) (used-short bs es short _ ew) (omega arith) (used-short bs es short _ ea) (used-short bs es short _ eb))
 
   pub kn-grown :
-      (w f op v u : ℕ) → w ≡ usedAt bs es (at + 2) → f ≡ formalIn w → op ≡ chosen (eqb f 0) 0 11 → v ≡ wordAt bs (at + 4) → u ≡ wordAt bs (at + 6) → v < 65536 → u < 65536 →
+      (w f op v u : ℕ) → w ≡ usedAt bs es (at + 2) → f ≡ formalIn w → op ≡ chosen (eqb f 0) 0 11 → v ≡ fieldAt bs (at + 4) → u ≡ fieldAt bs (at + 6) → v < 65536 → u < 65536 →
       (Short op → Short w → Short (v + 65536 * u) → Short 0 → Grown c c′ at (op ∷ w ∷ (v + 65536 * u) ∷ 0 ∷ [])) → Grown c c′ at (knWords bs es at)
   unfolding knWords direct
   kn-grown w f op v u ew ef eo ev eu lv lu g =
@@ -92,7 +91,7 @@ module _ (bs es : List ℕ) (at : ℕ) (c c′ : List ℕ) (short : AllShort es)
       subst (Grown c c′ at) (cc) (g (omega arith) (used-short bs es short _ et) (used-short bs es short _ ex) (used-short bs es short _ ey))
 
   pub cl-grown :
-      (d : List ℕ) (w f op n : ℕ) → w ≡ usedAt bs es (at + 2) → f ≡ formalIn w → op ≡ chosen (eqb f 0) 7 15 → n ≡ wordAt bs (at + 4) → n < 65536 →
+      (d : List ℕ) (w f op n : ℕ) → w ≡ usedAt bs es (at + 2) → f ≡ formalIn w → op ≡ chosen (eqb f 0) 7 15 → n ≡ fieldAt bs (at + 4) → n < 65536 →
       (Short op → Short w → Short n → Grown c d at (op ∷ w ∷ n ∷ [])) → Grown d c′ (at + 6) (argumentWords bs es (at + 6) n) → Grown c c′ at (clWords bs es at)
   unfolding clWords direct
   cl-grown d w f op n ew ef eo en ln g h =
@@ -117,7 +116,7 @@ module _ (bs es : List ℕ) (at count : ℕ) (c₀ : List ℕ) where
   pub arguing-step :
       (c c₁ : List ℕ) (i u : ℕ) → i < count → u ≡ usedAt bs es (at + 2 * i) → c₁ ≡ set c ((at + 2 * i) / 2) (u % 4294967296) →
       Arguing bs es at count c₀ c i → Arguing bs es at count c₀ c₁ (i + 1)
-  unfolding argumentWords wordsAt usedAt
+  unfolding argumentWords fieldsAt usedAt
   arguing-step c c₁ i u l eu e a =
       record {
         on = λ s c′ g.
@@ -125,30 +124,30 @@ module _ (bs es : List ℕ) (at count : ℕ) (c₀ : List ℕ) where
             let next : at + 2 * (i + 1) ≡ at + 2 * i + 2 = omega arith in
             a .on s c′
             (rw more
-            (subst (λ (w : ℕ). Grown c c′ (at + 2 * i) (w ∷ map (λ (n : ℕ). wordIn n es) (wordsAt bs (at + 2 * i + 2) (count - (i + 1))))) eu
+            (subst (λ (w : ℕ). Grown c c′ (at + 2 * i) (w ∷ map (λ (n : ℕ). wordIn n es) (fieldsAt bs (at + 2 * i + 2) (count - (i + 1))))) eu
             (grown-more refl (put-grows e (used-short bs es s (at + 2 * i) eu)) (rw next at g))));
       }
 
   pub arguing-end : (c : List ℕ) (i : ℕ) → i ≡ count → Arguing bs es at count c₀ c i → AllShort es → Grown c₀ c at (argumentWords bs es at count)
-  unfolding argumentWords wordsAt
+  unfolding argumentWords fieldsAt
   arguing-end c i e a s =
       let none : count - i ≡ 0 = omega arith in
       a .on s c (rw none (grown-nothing c (at + 2 * i)))
 
 -- a field of those that stand at an offset
-nth : (bs : List ℕ) (at : ℕ) (ws : List ℕ) → Stands bs at ws → (k : ℕ) → k < length ws → wordAt bs (at + 2 * k) ≡ getD ws k 0
+nth : (bs : List ℕ) (at : ℕ) (ws : List ℕ) → FieldsStand bs at ws → (k : ℕ) → k < length ws → fieldAt bs (at + 2 * k) ≡ getD ws k 0
 nth bs at [] h k l = absurd (omega arith)
-nth bs at (w ∷ ws) h zero l = subst (λ (o : ℕ). wordAt bs o ≡ w) here (h .0)
+nth bs at (w ∷ ws) h zero l = subst (λ (o : ℕ). fieldAt bs o ≡ w) here (h .0)
   where
     here : at ≡ at + 2 * 0
     here = omega arith
-nth bs at (w ∷ ws) h (suc k) l = subst (λ (o : ℕ). wordAt bs o ≡ getD ws k 0) on (nth bs (at + 2) ws (h .1) k (omega arith))
+nth bs at (w ∷ ws) h (suc k) l = subst (λ (o : ℕ). fieldAt bs o ≡ getD ws k 0) on (nth bs (at + 2) ws (h .1) k (omega arith))
   where
     on : at + 2 + 2 * k ≡ at + 2 * suc k
     on = omega arith
 
 module _ (bs es : List ℕ) (encl : Enclosure) (s : Shown encl es) where
-  used-is : (o n : ℕ) → wordAt bs o ≡ n → usedAt bs es o ≡ nameWord encl n
+  used-is : (o n : ℕ) → fieldAt bs o ≡ n → usedAt bs es o ≡ nameWord encl n
   unfolding usedAt
   used-is o n e = ap (λ (m : ℕ). wordIn m es) e ∙ word-is encl es s n
 
@@ -156,12 +155,12 @@ module _ (bs es : List ℕ) (encl : Enclosure) (s : Shown encl es) where
   arguments-are [] = refl
   arguments-are (x ∷ xs) = ap₂ (λ (w : ℕ) (ws : List ℕ). w ∷ ws) (word-is encl es s x) (arguments-are xs)
 
-  pub emits : (at : ℕ) (a : Action) → Stands bs at (actionFields a) → emittedAs (wordAt bs at) bs es at ≡ resolvedAction encl a
+  pub emits : (at : ℕ) (a : Action) → FieldsStand bs at (actionFields a) → emittedAs (fieldAt bs at) bs es at ≡ resolvedAction encl a
   unfolding actionFields emittedAs resolvedAction arWords ifWords knWords clWords goWords pairWords qyWords argumentWords
   emits at (KN t z) h =
       let f = nth bs at (actionFields (KN t z)) h in
       let w = used-is (at + 2) t (f 1 (omega arith)) in
-      let v : wordAt bs (at + 4) + 65536 * wordAt bs (at + 6) ≡ unsigned z = omega (arith, f 2 (omega arith), f 3 (omega arith)) in
+      let v : fieldAt bs (at + 4) + 65536 * fieldAt bs (at + 6) ≡ unsigned z = omega (arith, f 2 (omega arith), f 3 (omega arith)) in
       ap (λ (m : ℕ). emittedAs m bs es at) (h .0) ∙ cc
   emits at (AR t o l r) h =
       let f = nth bs at (actionFields (AR t o l r)) h in
@@ -183,11 +182,11 @@ module _ (bs es : List ℕ) (encl : Enclosure) (s : Shown encl es) where
       let w = used-is (at + 2) p (h .1 .0) in
       let n = f 2 (omega arith) in
       let six : at + 2 + 2 + 2 ≡ at + 6 = omega arith in
-      let k = stands-words bs (at + 6) xs (subst (λ (o : ℕ). Stands bs o xs) six (h .1 .1 .1)) in
-      let e : map (λ (m : ℕ). wordIn m es) (wordsAt bs (at + 6) (wordAt bs (at + 4))) ≡ map (nameWord encl) xs =
-      ap (λ (c : ℕ). map (λ (m : ℕ). wordIn m es) (wordsAt bs (at + 6) c)) n ∙ ap (map (λ (m : ℕ). wordIn m es)) k ∙ arguments-are xs in
+      let k = fields-are bs (at + 6) xs (subst (λ (o : ℕ). FieldsStand bs o xs) six (h .1 .1 .1)) in
+      let e : map (λ (m : ℕ). wordIn m es) (fieldsAt bs (at + 6) (fieldAt bs (at + 4))) ≡ map (nameWord encl) xs =
+      ap (λ (c : ℕ). map (λ (m : ℕ). wordIn m es) (fieldsAt bs (at + 6) c)) n ∙ ap (map (λ (m : ℕ). wordIn m es)) k ∙ arguments-are xs in
       ap (λ (m : ℕ). emittedAs m bs es at) (h .0)
-      ∙ ap₂ (λ (v : ℕ) (ws : List ℕ). chosen (direct v) 7 15 ∷ v ∷ wordAt bs (at + 4) ∷ ws) w e
+      ∙ ap₂ (λ (v : ℕ) (ws : List ℕ). chosen (direct v) 7 15 ∷ v ∷ fieldAt bs (at + 4) ∷ ws) w e
       ∙ ap (λ (c : ℕ). chosen (direct (nameWord encl p)) 7 15 ∷ nameWord encl p ∷ c ∷ map (nameWord encl) xs) n
   emits at (AD g m) h =
       let f = nth bs at (actionFields (AD g m)) h in
@@ -208,7 +207,7 @@ module _ (bs es : List ℕ) (encl : Enclosure) (s : Shown encl es) where
 
 -- a statement by its mark
 module _ (bs es : List ℕ) (at : ℕ) (c c′ : List ℕ) where
-  pub emit-by : (ws : List ℕ) → emittedAs (wordAt bs at) bs es at ≡ ws → (AllShort es → Grown c c′ at ws) → Emitted bs es at c c′
+  pub emit-by : (ws : List ℕ) → emittedAs (fieldAt bs at) bs es at ≡ ws → (AllShort es → Grown c c′ at ws) → Emitted bs es at c c′
   emit-by ws e g a encl s h = subst (Grown c c′ at) (sym e ∙ emits bs es encl s at a h) (g (all-short encl es s))
 
   pub name-grown : (w : ℕ) → w ≡ usedAt bs es (at + 2) → c′ ≡ set c ((at + 2) / 2) (w % 4294967296) → Named bs es at c c′

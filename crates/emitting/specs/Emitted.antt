@@ -10,13 +10,13 @@ use Rattle.language.specs.Encoding.{actionFields, CL-mark, GO-mark, IF-mark, KN
 use Rattle.laws.specs.Each.{Each}
 use Rattle.coordinates.specs.Enclosure.{Enclosure}
 use Rattle.resolved.specs.Resolved.{visibleWords, nameWord, direct, chosen, resolvedAction}
-use Rattle.words.specs.Words.{wordAt, wordsAt, Stands}
+use Rattle.laws.specs.Fields.{fieldAt, fieldsAt, FieldsStand}
 use Rattle.symbols.specs.Entries.{foundIn}
-use Rattle.symbols.specs.declared.Found.{Found}
-use Rattle.symbols.specs.declared.Found.the-variants.{At, Nothing}
+use Rattle.symbols.specs.declared.Binding.{Binding}
+use Rattle.symbols.specs.declared.Binding.the-variants.{At, Nothing}
 use Rattle.emitting.specs.Growth.{Grown}
 
-unfoldable pub wordOf : Found → ℕ
+unfoldable pub wordOf : Binding → ℕ
 wordOf (At w) = w
 wordOf Nothing = 0
 
@@ -26,7 +26,7 @@ wordIn n es = wordOf (foundIn n es)
 
 -- the word of the name in the field at an offset
 unfoldable pub usedAt : List ℕ → List ℕ → ℕ → ℕ
-usedAt bs es at = wordIn (wordAt bs at) es
+usedAt bs es at = wordIn (fieldAt bs at) es
 
 abbrev pub Short : ℕ → Type 0
 Short w = w < 4294967296
@@ -47,12 +47,12 @@ pub record Shown (encl : Enclosure) (es : List ℕ) : Type 0 where
 
 unfoldable pub knWords : List ℕ → List ℕ → ℕ → List ℕ
 knWords bs es at =
-    let w = usedAt bs es (at + 2) in chosen (direct w) 0 11 ∷ w ∷ (wordAt bs (at + 4) + 65536 * wordAt bs (at + 6)) ∷ 0 ∷ []
+    let w = usedAt bs es (at + 2) in chosen (direct w) 0 11 ∷ w ∷ (fieldAt bs (at + 4) + 65536 * fieldAt bs (at + 6)) ∷ 0 ∷ []
 
 unfoldable pub arWords : List ℕ → List ℕ → ℕ → List ℕ
 arWords bs es at =
     let w = usedAt bs es (at + 2) in let a = usedAt bs es (at + 6) in let b = usedAt bs es (at + 8) in
-    chosen (direct w && direct a && direct b) (1 + wordAt bs (at + 4)) 12 ∷ w ∷ wordAt bs (at + 4) ∷ a ∷ b ∷ []
+    chosen (direct w && direct a && direct b) (1 + fieldAt bs (at + 4)) 12 ∷ w ∷ fieldAt bs (at + 4) ∷ a ∷ b ∷ []
 
 unfoldable pub ifWords : List ℕ → List ℕ → ℕ → List ℕ
 ifWords bs es at =
@@ -62,12 +62,12 @@ unfoldable pub goWords : List ℕ → List ℕ → ℕ → List ℕ
 goWords bs es at = let a = usedAt bs es (at + 2) in chosen (direct a) 5 14 ∷ a ∷ []
 
 unfoldable pub argumentWords : List ℕ → List ℕ → ℕ → ℕ → List ℕ
-argumentWords bs es at count = map (λ (n : ℕ). wordIn n es) (wordsAt bs at count)
+argumentWords bs es at count = map (λ (n : ℕ). wordIn n es) (fieldsAt bs at count)
 
 unfoldable pub clWords : List ℕ → List ℕ → ℕ → List ℕ
 clWords bs es at =
     let w = usedAt bs es (at + 2) in
-    chosen (direct w) 7 15 ∷ w ∷ wordAt bs (at + 4) ∷ argumentWords bs es (at + 6) (wordAt bs (at + 4))
+    chosen (direct w) 7 15 ∷ w ∷ fieldAt bs (at + 4) ∷ argumentWords bs es (at + 6) (fieldAt bs (at + 4))
 
 -- AD and RM, with their operation
 unfoldable pub pairWords : ℕ → List ℕ → List ℕ → ℕ → List ℕ
@@ -105,9 +105,9 @@ emittedAs m bs es at =
 -- a statement other than BK is written as its resolved words
 abbrev pub Emitted : List ℕ → List ℕ → ℕ → List ℕ → List ℕ → Type 0
 Emitted bs es at code code′ =
-    (a : Action) (encl : Enclosure) → Shown encl es → Stands bs at (actionFields a) → Grown code code′ at (resolvedAction encl a)
+    (a : Action) (encl : Enclosure) → Shown encl es → FieldsStand bs at (actionFields a) → Grown code code′ at (resolvedAction encl a)
 
 -- the mark and the name of a declaration are written as their resolved words
 abbrev pub Named : List ℕ → List ℕ → ℕ → List ℕ → List ℕ → Type 0
 Named bs es at code code′ =
-    (n : ℕ) (encl : Enclosure) → Shown encl es → wordAt bs (at + 2) ≡ n → Grown code code′ at (0 ∷ nameWord encl n ∷ [])
+    (n : ℕ) (encl : Enclosure) → Shown encl es → fieldAt bs (at + 2) ≡ n → Grown code code′ at (0 ∷ nameWord encl n ∷ [])

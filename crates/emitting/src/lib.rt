@@ -4,7 +4,7 @@ use records::CL;
 use records::GO;
 use records::IF;
 use records::KN;
-use symbols::Found;
+use symbols::Binding;
 use symbols::find;
 use words::word;
 use writing::put_five;
@@ -16,7 +16,7 @@ ghost use Prim.Native.Nat.{_+_, _*_, _^_, _<_};
 ghost use lib.Dec.{eqb};
 ghost use lib.ListN.{drop};
 ghost use Rattle.symbols.specs.Chains.{Chained};
-ghost use Rattle.words.specs.Words.{wordAt};
+ghost use Rattle.laws.specs.Fields.{fieldAt};
 ghost use Rattle.resolved.specs.Resolved.{chosen, formalIn};
 ghost use Rattle.emitting.specs.Growth.{Grown};
 ghost use Rattle.emitting.specs.Emitted.{wordIn, usedAt, AllShort, knWords, arWords, ifWords, goWords, clWords, pairWords, qyWords, argumentWords, Emitted, Named};
@@ -35,7 +35,7 @@ pub fn named(entries: &[usize], top: usize, name: usize) -> usize
     requires { ⌜ Chained (now entries) top ⌝ }
     ensures { λ r. ⌜ (r ≡ wordIn name (drop top (now (entries .entry)))) × (r < 2 ^ 48) ⌝ }
 {
-    let Found::At(w) = find(entries, top, name) else {
+    let Binding::At(w) = find(entries, top, name) else {
         return 0;
     };
     w
@@ -163,7 +163,7 @@ pub fn emit_name(script: &[u8], entries: &[usize], top: usize, code: &mut [u32],
 
 // A statement other than BK, with its mark.
 pub fn emit(script: &[u8], entries: &[usize], top: usize, code: &mut [u32], at: usize, mark: usize)
-    requires { ⌜ (at < 2 ^ 32) × Chained (now entries) top × (mark ≡ wordAt (now script) at) ⌝ }
+    requires { ⌜ (at < 2 ^ 32) × Chained (now entries) top × (mark ≡ fieldAt (now script) at) ⌝ }
     ensures { λ _. ⌜ Emitted (now (script .entry)) (drop top (now (entries .entry))) at (now (code .entry)) (now (code .exit)) ⌝ }
 {
     if mark == AR {

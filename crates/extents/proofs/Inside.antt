@@ -7,12 +7,11 @@ use native.Mathlib.Omega.{arith}
 use lib.ListN.{length, length-append, length-map}
 use Rattle.language.specs.Text.{Formal, Action, CL, GO, IF, KN, AR, AD, RM, QY, Block, block, VR, LB, PR, BK, DO, Decls, no-decl, decl, Stmts, no-stmt, stmt, decls, stmts}
 use Rattle.language.specs.Encoding.{actionFields, formalsFields, blockFields, declFields, declsFields, stmtsFields, BK-mark, PR-mark, CL-mark}
-use Rattle.words.specs.Words.{wordAt, Stands}
+use Rattle.laws.specs.Fields.{fieldAt, FieldsStand, fields-third}
 use Rattle.language.specs.Structure.{formalMarks, declMarks, stmtMarks}
 use Rattle.records.specs.Taking.{fitIn, fitAt}
 use Rattle.records.specs.Counts.{fieldCount}
 use Rattle.extents.specs.Items.{Item, formal, body, declared, stated, itemFields, itemsFields, inBlock, children, blockHead, headFields, headSize, childCount}
-use Rattle.words.proofs.Standing.{third-is}
 
 pub items-append : (xs ys : List Item) → itemsFields (xs ++ ys) ≡ itemsFields xs ++ itemsFields ys
 unfolding itemsFields
@@ -52,9 +51,9 @@ item-opens (stated (DO at a)) = sym (append-nil (actionFields a))
 
 -- a record's head by its mark
 module _ (bs : List ℕ) (at : ℕ) (rest : List ℕ) where
-  action-size : (a : Action) → Stands bs at (actionFields a ++ rest) → headSize (wordAt bs at) (wordAt bs (at + 4)) ≡ 2 * length (actionFields a)
+  action-size : (a : Action) → FieldsStand bs at (actionFields a ++ rest) → headSize (fieldAt bs at) (fieldAt bs (at + 4)) ≡ 2 * length (actionFields a)
   unfolding actionFields headSize fieldCount fitAt fitIn declMarks stmtMarks formalMarks
-  action-size (CL p xs) h = rw (h .0, third-is bs at CL-mark p (length xs) (xs ++ rest) h) (omega arith)
+  action-size (CL p xs) h = rw (h .0, fields-third bs at CL-mark p (length xs) (xs ++ rest) h) (omega arith)
   action-size (GO l) h = rw (h .0)
   action-size (IF v l) h = rw (h .0)
   action-size (KN t z) h = rw (h .0)
@@ -63,7 +62,7 @@ module _ (bs : List ℕ) (at : ℕ) (rest : List ℕ) where
   action-size (RM g m) h = rw (h .0)
   action-size (QY t g m) h = rw (h .0)
 
-  action-alone : (a : Action) → Stands bs at (actionFields a ++ rest) → childCount (wordAt bs at) (wordAt bs (at + 2)) (wordAt bs (at + 4)) ≡ 0
+  action-alone : (a : Action) → FieldsStand bs at (actionFields a ++ rest) → childCount (fieldAt bs at) (fieldAt bs (at + 2)) (fieldAt bs (at + 4)) ≡ 0
   unfolding actionFields childCount
   action-alone (CL p xs) h = rw (h .0)
   action-alone (GO l) h = rw (h .0)
@@ -74,7 +73,7 @@ module _ (bs : List ℕ) (at : ℕ) (rest : List ℕ) where
   action-alone (RM g m) h = rw (h .0)
   action-alone (QY t g m) h = rw (h .0)
 
-  pub action-marked : (a : Action) → Stands bs at (actionFields a ++ rest) → 0 < wordAt bs at
+  pub action-marked : (a : Action) → FieldsStand bs at (actionFields a ++ rest) → 0 < fieldAt bs at
   unfolding actionFields
   action-marked (CL p xs) h = omega (arith, h .0)
   action-marked (GO l) h = omega (arith, h .0)
@@ -85,21 +84,21 @@ module _ (bs : List ℕ) (at : ℕ) (rest : List ℕ) where
   action-marked (RM g m) h = omega (arith, h .0)
   action-marked (QY t g m) h = omega (arith, h .0)
 
-  block-size : (b : Block) → Stands bs at (blockHead b ++ rest) → headSize (wordAt bs at) (wordAt bs (at + 4)) ≡ 2 * length (blockHead b)
+  block-size : (b : Block) → FieldsStand bs at (blockHead b ++ rest) → headSize (fieldAt bs at) (fieldAt bs (at + 4)) ≡ 2 * length (blockHead b)
   unfolding blockHead headSize fieldCount fitAt fitIn stmtMarks
   block-size (block o ds ss) h = rw (h .0)
 
-  block-count : (b : Block) → Stands bs at (blockHead b ++ rest) → childCount (wordAt bs at) (wordAt bs (at + 2)) (wordAt bs (at + 4)) ≡ length (inBlock b)
+  block-count : (b : Block) → FieldsStand bs at (blockHead b ++ rest) → childCount (fieldAt bs at) (fieldAt bs (at + 2)) (fieldAt bs (at + 4)) ≡ length (inBlock b)
   unfolding blockHead childCount inBlock
   block-count (block o ds ss) h =
-      rw (h .0, h .1 .0, third-is bs at BK-mark (length (decls ds)) (length (stmts ss)) rest h)
+      rw (h .0, h .1 .0, fields-third bs at BK-mark (length (decls ds)) (length (stmts ss)) rest h)
       (simp (length-append, length-map))
 
-  block-marked : (b : Block) → Stands bs at (blockHead b ++ rest) → 0 < wordAt bs at
+  block-marked : (b : Block) → FieldsStand bs at (blockHead b ++ rest) → 0 < fieldAt bs at
   unfolding blockHead
   block-marked (block o ds ss) h = omega (arith, h .0)
 
-  pub head-size : (x : Item) → Stands bs at (headFields x ++ rest) → headSize (wordAt bs at) (wordAt bs (at + 4)) ≡ 2 * length (headFields x)
+  pub head-size : (x : Item) → FieldsStand bs at (headFields x ++ rest) → headSize (fieldAt bs at) (fieldAt bs (at + 4)) ≡ 2 * length (headFields x)
   unfolding headFields formalsFields declFields headSize fieldCount fitAt fitIn declMarks stmtMarks formalMarks
   head-size (formal f) h = rw (h .0)
   head-size (body b) h = block-size b h
@@ -109,18 +108,18 @@ module _ (bs : List ℕ) (at : ℕ) (rest : List ℕ) where
   head-size (stated (BK b)) h = block-size b h
   head-size (stated (DO o a)) h = action-size a h
 
-  pub child-count : (x : Item) → Stands bs at (headFields x ++ rest) → childCount (wordAt bs at) (wordAt bs (at + 2)) (wordAt bs (at + 4)) ≡ length (children x)
+  pub child-count : (x : Item) → FieldsStand bs at (headFields x ++ rest) → childCount (fieldAt bs at) (fieldAt bs (at + 2)) (fieldAt bs (at + 4)) ≡ length (children x)
   unfolding headFields formalsFields declFields childCount children
   child-count (formal f) h = rw (h .0)
   child-count (body b) h = block-count b h
   child-count (declared (VR o n)) h = rw (h .0)
   child-count (declared (LB o n i)) h = rw (h .0)
   child-count (declared (PR o n fs b)) h =
-      rw (h .0, third-is bs at PR-mark n (length fs) rest h) (simp (length-append, length-map))
+      rw (h .0, fields-third bs at PR-mark n (length fs) rest h) (simp (length-append, length-map))
   child-count (stated (BK b)) h = block-count b h
   child-count (stated (DO o a)) h = action-alone a h
 
-  pub head-marked : (x : Item) → Stands bs at (headFields x ++ rest) → 0 < wordAt bs at
+  pub head-marked : (x : Item) → FieldsStand bs at (headFields x ++ rest) → 0 < fieldAt bs at
   unfolding headFields formalsFields declFields
   head-marked (formal f) h = omega (arith, h .0)
   head-marked (body b) h = block-marked b h

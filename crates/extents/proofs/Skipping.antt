@@ -10,11 +10,10 @@ use Rattle.language.specs.Encoding.{BK-mark, VR-mark, LB-mark, PR-mark, CL-mark
 use Rattle.language.specs.Structure.{declMarks, stmtMarks}
 use Rattle.records.specs.Taking.{fitIn, fitAt}
 use Rattle.records.specs.Counts.{fieldCount}
-use Rattle.words.specs.Words.{wordAt, Stands}
+use Rattle.laws.specs.Fields.{fieldAt, FieldsStand, field-inside, fields-first, fields-after}
 use Rattle.extents.specs.Items.{Item, itemFields, itemsFields, children, headFields, headSize, childCount}
 use Rattle.extents.specs.Passing.{Passed, Skipped, Left, Stepped}
 use Rattle.extents.specs.declared.passing.Step.{Step}
-use Rattle.words.proofs.Standing.{word-inside, stands-first, stands-second}
 use Rattle.extents.proofs.Inside.{items-append, item-opens, head-size, child-count, head-marked}
 
 -- a head by its mark
@@ -47,7 +46,7 @@ module _ (bs : List ℕ) (at : ℕ) (x : Item) where
   unfolding itemsFields
   alone = append-nil (itemFields x)
 
-  pub left-start : Stands bs at (itemFields x) → Left bs at at 1 x
+  pub left-start : FieldsStand bs at (itemFields x) → Left bs at at 1 x
   left-start h = record { items = x ∷ []; stand = rw alone h; number = refl; reach = rw alone }
 
   pub left-end : (here pending : ℕ) → pending ≤ 0 → Left bs at here pending x → here ≡ at + 2 * length (itemFields x)
@@ -68,16 +67,16 @@ module _ (bs : List ℕ) (at : ℕ) (x : Item) where
   pub left-inside : (here pending : ℕ) → 0 < pending → Left bs at here pending x → length bs ≤ here → ⊥
   left-inside here pending h l out = some-left (l .items) (l .number) (l .stand)
     where
-      some-left : (xs : List Item) → length xs ≡ pending → Stands bs here (itemsFields xs) → ⊥
+      some-left : (xs : List Item) → length xs ≡ pending → FieldsStand bs here (itemsFields xs) → ⊥
       some-left [] n s = omega arith
       some-left (y ∷ ys) n s =
-          word-inside bs here (head-marked bs here (itemsFields (children y ++ ys)) y (subst (Stands bs here) (cut y ys) s)) out
+          field-inside bs here (head-marked bs here (itemsFields (children y ++ ys)) y (subst (FieldsStand bs here) (cut y ys) s)) out
 
   module _ (here pending : ℕ) (more : 0 < pending) (s : Step) (p : Passed bs here s) where
-    step-on : (xs : List Item) → length xs ≡ pending → Stands bs here (itemsFields xs) → here + 2 * length (itemsFields xs) ≡ at + 2 * length (itemFields x) → Left bs at (s .next) (pending - 1 + s .more) x
+    step-on : (xs : List Item) → length xs ≡ pending → FieldsStand bs here (itemsFields xs) → here + 2 * length (itemsFields xs) ≡ at + 2 * length (itemFields x) → Left bs at (s .next) (pending - 1 + s .more) x
     step-on [] n h r = absurd (omega arith)
     step-on (y ∷ ys) n h r =
-        let h′ : Stands bs here (headFields y ++ itemsFields (children y ++ ys)) = subst (Stands bs here) (cut y ys) h in
+        let h′ : FieldsStand bs here (headFields y ++ itemsFields (children y ++ ys)) = subst (FieldsStand bs here) (cut y ys) h in
         let size = head-size bs here (itemsFields (children y ++ ys)) y h′ in
         let count = child-count bs here (itemsFields (children y ++ ys)) y h′ in
         let next : s .next ≡ here + 2 * length (headFields y) = p .next-is ∙ ap (λ (k : ℕ). here + k) size in
@@ -86,7 +85,7 @@ module _ (bs : List ℕ) (at : ℕ) (x : Item) where
         let m : s .more ≡ length (children y) = p .more-is ∙ count in
         record {
           items = children y ++ ys;
-          stand = subst (λ (o : ℕ). Stands bs o (itemsFields (children y ++ ys))) (sym next) (stands-second bs here (headFields y) (itemsFields (children y ++ ys)) h′);
+          stand = subst (λ (o : ℕ). FieldsStand bs o (itemsFields (children y ++ ys))) (sym next) (fields-after bs here (headFields y) (itemsFields (children y ++ ys)) h′);
           number = omega arith;
           reach = omega arith;
         }
@@ -94,21 +93,21 @@ module _ (bs : List ℕ) (at : ℕ) (x : Item) where
     pub left-step : Left bs at here pending x → Left bs at (s .next) (pending - 1 + s .more) x
     left-step l = step-on (l .items) (l .number) (l .stand) (l .reach)
 
-  pub left-first : (s : Step) → Passed bs at s → Stands bs at (itemFields x) → Left bs at (s .next) (s .more) x
+  pub left-first : (s : Step) → Passed bs at s → FieldsStand bs at (itemFields x) → Left bs at (s .next) (s .more) x
   left-first s p h =
       let e : 1 - 1 + s .more ≡ s .more = omega arith in
       subst (λ (k : ℕ). Left bs at (s .next) k x) e (left-step at 1 (omega arith) s p (left-start h))
 
   -- all of the next record at once
   module _ (here pending end : ℕ) (more : 0 < pending) (s : Skipped bs here end) where
-    whole-on : (xs : List Item) → length xs ≡ pending → Stands bs here (itemsFields xs) → here + 2 * length (itemsFields xs) ≡ at + 2 * length (itemFields x) → Left bs at end (pending - 1 + 0) x
+    whole-on : (xs : List Item) → length xs ≡ pending → FieldsStand bs here (itemsFields xs) → here + 2 * length (itemsFields xs) ≡ at + 2 * length (itemFields x) → Left bs at end (pending - 1 + 0) x
     unfolding itemsFields
     whole-on [] n h r = absurd (omega arith)
     whole-on (y ∷ ys) n h r =
-        let e : end ≡ here + 2 * length (itemFields y) = s .ends y (stands-first bs here (itemFields y) (itemsFields ys) h) in
+        let e : end ≡ here + 2 * length (itemFields y) = s .ends y (fields-first bs here (itemFields y) (itemsFields ys) h) in
         record {
           items = ys;
-          stand = subst (λ (o : ℕ). Stands bs o (itemsFields ys)) (sym e) (stands-second bs here (itemFields y) (itemsFields ys) h);
+          stand = subst (λ (o : ℕ). FieldsStand bs o (itemsFields ys)) (sym e) (fields-after bs here (itemFields y) (itemsFields ys) h);
           number = omega arith;
           reach = omega (arith, length-append (itemFields y) (itemsFields ys));
         }
@@ -118,20 +117,20 @@ module _ (bs : List ℕ) (at : ℕ) (x : Item) where
 
 -- declarations that hold no other record, by their marks
 module _ (bs : List ℕ) (at : ℕ) where
-  passed-alone : (w size : ℕ) → wordAt bs at ≡ w → ((a : ℕ) → headSize w a ≡ size) → ((d a : ℕ) → childCount w d a ≡ 0) → 2 ≤ size → size ≤ 131076 → Passed bs at (record { next = at + size; more = 0 })
+  passed-alone : (w size : ℕ) → fieldAt bs at ≡ w → ((a : ℕ) → headSize w a ≡ size) → ((d a : ℕ) → childCount w d a ≡ 0) → 2 ≤ size → size ≤ 131076 → Passed bs at (record { next = at + size; more = 0 })
   passed-alone w size m head children low high = record {
-    next-is = ap (λ (k : ℕ). at + k) (sym (ap (λ (x : ℕ). headSize x (wordAt bs (at + 4))) m ∙ head (wordAt bs (at + 4))));
-    more-is = sym (ap (λ (x : ℕ). childCount x (wordAt bs (at + 2)) (wordAt bs (at + 4))) m ∙ children (wordAt bs (at + 2)) (wordAt bs (at + 4)));
+    next-is = ap (λ (k : ℕ). at + k) (sym (ap (λ (x : ℕ). headSize x (fieldAt bs (at + 4))) m ∙ head (fieldAt bs (at + 4))));
+    more-is = sym (ap (λ (x : ℕ). childCount x (fieldAt bs (at + 2)) (fieldAt bs (at + 4))) m ∙ children (fieldAt bs (at + 2)) (fieldAt bs (at + 4)));
     on = omega arith;
     near = omega arith;
     few = omega arith;
   }
 
-  pub passed-VR : wordAt bs at ≡ VR-mark → Passed bs at (record { next = at + 4; more = 0 })
+  pub passed-VR : fieldAt bs at ≡ VR-mark → Passed bs at (record { next = at + 4; more = 0 })
   unfolding headSize childCount fieldCount fitAt fitIn stmtMarks declMarks
   passed-VR m = passed-alone VR-mark 4 m (λ a. refl) (λ d a. refl) (omega arith) (omega arith)
 
-  pub passed-LB : wordAt bs at ≡ LB-mark → Passed bs at (record { next = at + 6; more = 0 })
+  pub passed-LB : fieldAt bs at ≡ LB-mark → Passed bs at (record { next = at + 6; more = 0 })
   unfolding headSize childCount fieldCount fitAt fitIn stmtMarks declMarks
   passed-LB m = passed-alone LB-mark 6 m (λ a. refl) (λ d a. refl) (omega arith) (omega arith)
 

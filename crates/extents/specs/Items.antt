@@ -7,7 +7,7 @@ use lib.ListN.{length}
 use Rattle.language.specs.Text.{Formal, Block, block, Decl, VR, LB, PR, Stmt, BK, DO, decls, stmts}
 use Rattle.language.specs.Encoding.{actionFields, formalsFields, blockFields, declFields, stmtFields, BK-mark, PR-mark, CL-mark}
 use Rattle.records.specs.Counts.{fieldCount}
-use Rattle.words.specs.Words.{wordAt}
+use Rattle.laws.specs.Fields.{fieldAt}
 
 pub data Item : Type 0 where
   formal : Formal → Item
@@ -68,4 +68,4 @@ childCount w d a =
 -- the entries of records from an offset on
 unfoldable pub entriesOf : List ℕ → List Item → ℕ → List ℕ
 entriesOf bs [] at = []
-entriesOf bs (x ∷ xs) at = (wordAt bs (at + 2) + 65536 * at) ∷ entriesOf bs xs (at + 2 * length (itemFields x))
+entriesOf bs (x ∷ xs) at = (fieldAt bs (at + 2) + 65536 * at) ∷ entriesOf bs xs (at + 2 * length (itemFields x))

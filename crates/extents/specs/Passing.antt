@@ -3,14 +3,14 @@ use Prim.Native.Nat.{ℕ, _+_, _*_, _-_, _/_, _%_, _<_, _≤_, max}
 use mathlib.Core.List.{List}
 use mathlib.Core.Path.{_≡_}
 use lib.ListN.{length, getD, take, drop}
-use Rattle.words.specs.Words.{wordAt, Stands}
+use Rattle.laws.specs.Fields.{fieldAt, FieldsStand}
 use Rattle.extents.specs.Items.{Item, itemFields, itemsFields, headSize, childCount, entriesOf}
 use Rattle.extents.specs.declared.passing.Step.{Step}
 
 -- one record's head
 pub record Passed (bs : List ℕ) (at : ℕ) (s : Step) : Type 0 where
-  pub next-is : s .next ≡ at + headSize (wordAt bs at) (wordAt bs (at + 4))
-  pub more-is : s .more ≡ childCount (wordAt bs at) (wordAt bs (at + 2)) (wordAt bs (at + 4))
+  pub next-is : s .next ≡ at + headSize (fieldAt bs at) (fieldAt bs (at + 4))
+  pub more-is : s .more ≡ childCount (fieldAt bs at) (fieldAt bs (at + 2)) (fieldAt bs (at + 4))
   pub on : at + 2 ≤ s .next
   pub near : s .next ≤ at + 131076
   pub few : s .more ≤ 131070
@@ -21,14 +21,14 @@ Alone bs at next = Passed bs at (record { next = next; more = 0 })
 
 -- a record with all that stands inside it
 pub record Skipped (bs : List ℕ) (at end : ℕ) : Type 0 where
-  pub ends : (x : Item) → Stands bs at (itemFields x) → end ≡ at + 2 * length (itemFields x)
+  pub ends : (x : Item) → FieldsStand bs at (itemFields x) → end ≡ at + 2 * length (itemFields x)
   pub after : at ≤ end
   pub close : end ≤ max at (length bs + 131076)
 
 -- the records still to pass, from an offset on, of those that begin with a record
 pub record Left (bs : List ℕ) (at here pending : ℕ) (x : Item) : Type 0 where
   pub items : List Item
-  pub stand : Stands bs here (itemsFields items)
+  pub stand : FieldsStand bs here (itemsFields items)
   pub number : length items ≡ pending
   pub reach : here + 2 * length (itemsFields items) ≡ at + 2 * length (itemFields x)
 
@@ -47,4 +47,4 @@ pub record Ends (bs es : List ℕ) : Type 0 where
 -- the entries of so many records, put from `base` on
 abbrev pub Pushed : List ℕ → ℕ → ℕ → ℕ → List ℕ → Type 0
 Pushed bs at count base es =
-    (xs : List Item) → length xs ≡ count → Stands bs at (itemsFields xs) → take count (drop base es) ≡ entriesOf bs xs at
+    (xs : List Item) → length xs ≡ count → FieldsStand bs at (itemsFields xs) → take count (drop base es) ≡ entriesOf bs xs at

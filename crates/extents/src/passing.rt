@@ -9,7 +9,7 @@ use words::word;
 ghost use mathlib.Core.Path.{_≡_};
 ghost use Prim.Native.Nat.{_^_, _<_, _≤_};
 ghost use Rattle.language.specs.Encoding.{BK-mark, PR-mark};
-ghost use Rattle.words.specs.Words.{wordAt};
+ghost use Rattle.laws.specs.Fields.{fieldAt};
 ghost use Rattle.extents.specs.Passing.{Passed, Alone};
 
 // A record passed: where the next one begins, and how many records stand inside this one.
@@ -20,7 +20,7 @@ pub struct Step {
 
 // Past a record that holds no other. The argument names of a CL come after its fields.
 pub fn past(script: &[u8], at: usize, mark: usize) -> usize
-    requires { ⌜ (at < 2 ^ 32) × (mark < 65536) × (mark ≡ wordAt (now script) at) × (mark ≡ BK-mark → ⊥) × (mark ≡ PR-mark → ⊥) ⌝ }
+    requires { ⌜ (at < 2 ^ 32) × (mark < 65536) × (mark ≡ fieldAt (now script) at) × (mark ≡ BK-mark → ⊥) × (mark ≡ PR-mark → ⊥) ⌝ }
     ensures { λ r. ⌜ Alone (now (script .entry)) at r ⌝ }
 {
     let end = at + 2 + 2 * field_count(mark as u32);
@@ -32,7 +32,7 @@ pub fn past(script: &[u8], at: usize, mark: usize) -> usize
 
 // Past the head of a record.
 pub fn pass(script: &[u8], at: usize, mark: usize) -> Step
-    requires { ⌜ (at < 2 ^ 32) × (mark < 65536) × (mark ≡ wordAt (now script) at) ⌝ }
+    requires { ⌜ (at < 2 ^ 32) × (mark < 65536) × (mark ≡ fieldAt (now script) at) ⌝ }
     ensures { λ r. ⌜ Passed (now (script .entry)) at r ⌝ }
 {
     if mark == BK {

@@ -15,7 +15,7 @@ use Rattle.language.specs.Basics.{lookup, zip}
 use Rattle.language.specs.Text.{Formal, Block, Decl, blockDecls, declName, formalNames, declaredNames}
 use Rattle.language.specs.Copy.{Replacement, renamed}
 use Rattle.language.specs.Machine.{Activation, State}
-use Rattle.language.specs.Sheet.{Found, seek}
+use Rattle.language.specs.Sheet.{LookedUp, seek}
 use Rattle.laws.specs.Tests.{none≢some, some-inj}
 use Rattle.laws.specs.Lists.{getElem-in, getElem-bound, getD-elem, lengths-append, getElem?-map}
 use Rattle.laws.specs.Lookup.{zip-append, lookup-left, lookup-right}
@@ -26,7 +26,7 @@ use Rattle.frames.specs.Positions.{lookup-position, lookup-no-position, 
 use Rattle.frames.specs.Related.{readsIn, readsAt, joined, designatorFor, designatorAt, wordIn, ownOf, Twin, Related, as-deep, twin-at}
 
 -- what is sought in the readings is what the readings give all together
-pub seek-some : (n j : ℕ) (σs : List Replacement) (d : Found) → seek n j σs ≡ some d → lookup n (joined σs) ≡ some (d .name)
+pub seek-some : (n j : ℕ) (σs : List Replacement) (d : LookedUp) → seek n j σs ≡ some d → lookup n (joined σs) ≡ some (d .name)
 unfolding seek joined
 seek-some n j [] d e = none≢some e
 seek-some n j (σ ∷ σs) d e = go (lookup n σ) refl (seek-some n (suc j) σs d)
@@ -34,8 +34,8 @@ seek-some n j (σ ∷ σs) d e = go (lookup n σ) refl (seek-some n (suc j) σs 
     go : (o : Option ℕ) → lookup n σ ≡ o → (seek n (suc j) σs ≡ some d → lookup n (joined σs) ≡ some (d .name)) → lookup n (σ ++ joined σs) ≡ some (d .name)
     go none q ih = lookup-right n σ (joined σs) q ∙ ih (rw (q, seek) at e)
     go (some x) q ih =
-        let p : Path (Option Found) (some (record { name = x; passed = j })) (some d) = rw (q, seek) at e in
-        lookup-left n σ (joined σs) x q ∙ ap (λ (c : Found). some (c .name)) (some-inj p)
+        let p : Path (Option LookedUp) (some (record { name = x; passed = j })) (some d) = rw (q, seek) at e in
+        lookup-left n σ (joined σs) x q ∙ ap (λ (c : LookedUp). some (c .name)) (some-inj p)
 
 pub seek-none : (n j : ℕ) (σs : List Replacement) → seek n j σs ≡ none → lookup n (joined σs) ≡ none
 unfolding seek joined lookup
@@ -47,7 +47,7 @@ seek-none n j (σ ∷ σs) e = go (lookup n σ) refl (seek-none n (suc j) σs)
     go (some x) q ih = absurd (none≢some (sym (rw (q, seek) at e)))
 
 -- Both searches find nothing, or both find: the place's designator is the name's, after as many blocks as links.
-unfoldable pub Agree : List Activation → List Frame → Option Found → Option NamePlace → Type 0
+unfoldable pub Agree : List Activation → List Frame → Option LookedUp → Option NamePlace → Type 0
 Agree l fs none none = Unit {0}
 Agree l fs none (some p) = ⊥
 Agree l fs (some d) none = ⊥
@@ -215,11 +215,11 @@ find-agrees s t r zero = λ k j n h a e. absurd (not-suc-le-zero h)
 find-agrees s t r (suc m) = find-step s t r m (find-agrees s t r m)
 
 -- what each search comes to
-unfoldable pub foundDesignator : List Activation → Option Found → ℕ
+unfoldable pub foundDesignator : List Activation → Option LookedUp → ℕ
 foundDesignator l none = 0
 foundDesignator l (some d) = designatorAt l (d .name)
 
-unfoldable pub passedIn : Option Found → ℕ
+unfoldable pub passedIn : Option LookedUp → ℕ
 passedIn none = 0
 passedIn (some d) = d .passed
 
@@ -243,14 +243,14 @@ links-is : (fs : List Frame) (n : ℕ) → linksFollowed fs n ≡ followedIn (se
 unfolding linksFollowed followedIn
 links-is fs n = refl
 
-agreed : (l : List Activation) (fs : List Frame) (o : Option Found) (p : Option NamePlace) → Agree l fs o p → placeDesignator fs p ≡ foundDesignator l o
+agreed : (l : List Activation) (fs : List Frame) (o : Option LookedUp) (p : Option NamePlace) → Agree l fs o p → placeDesignator fs p ≡ foundDesignator l o
 unfolding Agree placeDesignator foundDesignator
 agreed l fs none none h = refl
 agreed l fs none (some p) h = absurd h
 agreed l fs (some d) none h = absurd h
 agreed l fs (some d) (some p) h = h .0
 
-passed-agreed : (l : List Activation) (fs : List Frame) (o : Option Found) (p : Option NamePlace) → Agree l fs o p → followedIn p ≡ passedIn o
+passed-agreed : (l : List Activation) (fs : List Frame) (o : Option LookedUp) (p : Option NamePlace) → Agree l fs o p → followedIn p ≡ passedIn o
 unfolding Agree followedIn passedIn
 passed-agreed l fs none none h = refl
 passed-agreed l fs none (some p) h = absurd h
@@ -277,7 +277,7 @@ module _ (s : State) (t : Stack) (r : Related s t) (k : ℕ) (a : Activation) (d
   unfolding foundDesignator designatorAt designatorFor
   designates-name n h = designates-found n ∙ go (seek n 0 (a .reads)) refl
     where
-      go : (o : Option Found) → seek n 0 (a .reads) ≡ o → foundDesignator (s .live) o ≡ designatorAt (s .live) (renamed (joined (a .reads)) n)
+      go : (o : Option LookedUp) → seek n 0 (a .reads) ≡ o → foundDesignator (s .live) o ≡ designatorAt (s .live) (renamed (joined (a .reads)) n)
       go none q =
           rw (renamed-none (joined (a .reads)) n (seek-none n 0 (a .reads) q)) (sym (ap designatorFor (rising-none 65536 (s .live) (s .fresh) 1 n (r .rising) h)))
       go (some d) q = rw (renamed-some (joined (a .reads)) n (d .name) (seek-some n 0 (a .reads) d q))

@@ -14,7 +14,7 @@ use Rattle.language.specs.Check.{accepted, check}
 use Rattle.language.specs.Table.{Table}
 use Rattle.language.specs.Copy.{without}
 use Rattle.language.specs.Machine.{Activation, State, Limits, Done, did, stop, counted, enter, step, Outcome, ends, run, start, Instance, instance, instanceFrom}
-use Rattle.language.specs.Sheet.{Found, seek, designator, declWord, activationWords, wordsOf, sheetWords, lookedUp, lookedUpDesignator, lookedUpLinks}
+use Rattle.language.specs.Sheet.{LookedUp, seek, designator, declWord, activationWords, wordsOf, sheetWords, lookedUp, lookedUpDesignator, lookedUpLinks}
 use Rattle.language.specs.Call.{Engine, Fed, limitsOf, linksOf, written, replied, runOf}
 use Rattle.language.specs.declared.End.the-variants.{Stopped}
 use Rattle.laws.specs.Tests.{split}
@@ -138,12 +138,12 @@ module _ (s : State) (t : Stack) (r : Related s t) (n : ℕ) where
   none-looked : s .live ≡ [] → t .frames ≡ []
   none-looked e = by-elements (t .frames) (λ q. q) (λ h. absurd (omega (arith, ap length e, as-deep s t r)))
 
-  found-designator : (o : Option Found) → lookedUp s n ≡ o → lookedUpDesignator s n ≡ foundDesignator (s .live) o
+  found-designator : (o : Option LookedUp) → lookedUp s n ≡ o → lookedUpDesignator s n ≡ foundDesignator (s .live) o
   unfolding lookedUpDesignator foundDesignator
   found-designator none e = rw (e, lookedUpDesignator)
   found-designator (some d) e = rw (e, lookedUpDesignator) (designator-is s (d .name))
 
-  found-links : (o : Option Found) → lookedUp s n ≡ o → lookedUpLinks s n ≡ passedIn o
+  found-links : (o : Option LookedUp) → lookedUp s n ≡ o → lookedUpLinks s n ≡ passedIn o
   unfolding lookedUpLinks passedIn
   found-links none e = rw (e, lookedUpLinks)
   found-links (some d) e = rw (e, lookedUpLinks)

@@ -9,8 +9,7 @@ use Rattle.language.specs.Text.{Action, CL, GO, IF, KN, AR, AD, RM, QY, Block, 
 use Rattle.language.specs.Encoding.{CL-mark, IF-mark, actionFields, formalsFields, blockFields}
 use Rattle.coordinates.specs.Enclosure.{Enclosure}
 use Rattle.resolved.specs.Resolved.{nameWord, resolvedAction, resolvedFormals, resolvedBlock, Covers}
-use Rattle.words.specs.Words.{wordAt, Stands}
-use Rattle.words.proofs.Standing.{third-is}
+use Rattle.laws.specs.Fields.{fieldAt, FieldsStand, fields-third}
 use Rattle.extents.specs.Items.{formal, body, declared, stated, blockHead, headFields}
 use Rattle.emitting.specs.Growth.{Grown}
 use Rattle.emitting.proofs.Growth.{grown-nothing, grown-zero, grown-then, grown-more}
@@ -25,12 +24,12 @@ zeros-grow c at zero = grown-nothing c at
 zeros-grow c at (suc n) = grown-more refl (grown-zero c at) (zeros-grow c (at + 2) n)
 
 -- Any record but IF: k names are taken behind the mark, m behind the second field.
-module _ (bs code c c1 c2 : List ℕ) (at k m : ℕ) (first : c1 ≡ taken code c (at / 2 + 1) k) (second : c2 ≡ taken code c1 (at / 2 + 3) m) (k-is : k ≡ leading (wordAt bs at)) (m-is : m ≡ trailing (wordAt bs at) (wordAt bs (at + 4))) where
-  k-at : (w n : ℕ) → wordAt bs at ≡ w → leading w ≡ n → k ≡ n
+module _ (bs code c c1 c2 : List ℕ) (at k m : ℕ) (first : c1 ≡ taken code c (at / 2 + 1) k) (second : c2 ≡ taken code c1 (at / 2 + 3) m) (k-is : k ≡ leading (fieldAt bs at)) (m-is : m ≡ trailing (fieldAt bs at) (fieldAt bs (at + 4))) where
+  k-at : (w n : ℕ) → fieldAt bs at ≡ w → leading w ≡ n → k ≡ n
   k-at w n e h = k-is ∙ ap leading e ∙ h
 
-  m-at : (w n : ℕ) → wordAt bs at ≡ w → trailing w (wordAt bs (at + 4)) ≡ n → m ≡ n
-  m-at w n e h = m-is ∙ ap (λ (x : ℕ). trailing x (wordAt bs (at + 4))) e ∙ h
+  m-at : (w n : ℕ) → fieldAt bs at ≡ w → trailing w (fieldAt bs (at + 4)) ≡ n → m ≡ n
+  m-at w n e h = m-is ∙ ap (λ (x : ℕ). trailing x (fieldAt bs (at + 4))) e ∙ h
 
   first-grows : (ws : List ℕ) → k ≡ length ws → Covers code (at / 2 + 1) ws → Grown c c1 (at + 2) ws
   first-grows ws e h = take-grows code c c1 (at + 2) (at / 2 + 1) k ws (omega arith) e first h
@@ -49,14 +48,14 @@ module _ (bs code c c1 c2 : List ℕ) (at k m : ℕ) (first : c1 ≡ taken code 
       let rest = take-grows code c1 c2 (at + 2 + 2 + 2) (at / 2 + 3) m ws (omega arith) f second (subst (λ (q : ℕ). Covers code q ws) p h) in
       grown-more refl (grown-zero c at) (grown-more refl (first-grows (w ∷ []) e g) (grown-more refl (grown-zero c1 (at + 2 + 2)) rest))
 
-  block-noted : (b : Block) → Stands bs at (blockHead b) → Grown c c2 at (0 ∷ 0 ∷ 0 ∷ [])
+  block-noted : (b : Block) → FieldsStand bs at (blockHead b) → Grown c c2 at (0 ∷ 0 ∷ 0 ∷ [])
   unfolding blockHead leading trailing
   block-noted (block o ds ss) s = few [] 2 (k-at _ _ (s .0) refl) (m-at _ _ (s .0) refl) tt
 
-  action-noted : (other : wordAt bs at ≡ IF-mark → ⊥) (es : Enclosure) (a : Action) → Stands bs at (actionFields a) → Covers code (at / 2) (resolvedAction es a) → Grown c c2 at (governedAction es a)
+  action-noted : (other : fieldAt bs at ≡ IF-mark → ⊥) (es : Enclosure) (a : Action) → FieldsStand bs at (actionFields a) → Covers code (at / 2) (resolvedAction es a) → Grown c c2 at (governedAction es a)
   unfolding actionFields resolvedAction governedAction leading trailing
   action-noted other es (CL p xs) s h =
-      let a : wordAt bs (at + 4) ≡ length (map (nameWord es) xs) = third-is bs at CL-mark p (length xs) xs s ∙ sym (length-map xs (nameWord es)) in
+      let a : fieldAt bs (at + 4) ≡ length (map (nameWord es) xs) = fields-third bs at CL-mark p (length xs) xs s ∙ sym (length-map xs (nameWord es)) in
       many (nameWord es p) (map (nameWord es) xs) (k-at _ _ (s .0) refl) (m-at _ _ (s .0) a) (h .1 .0, tt) (h .1 .1 .1)
   action-noted other es (GO l) s h = few (nameWord es l ∷ []) 0 (k-at _ _ (s .0) refl) (m-at _ _ (s .0) refl) (h .1)
   action-noted other es (IF v l) s h = absurd (other (s .0))
@@ -66,7 +65,7 @@ module _ (bs code c c1 c2 : List ℕ) (at k m : ℕ) (first : c1 ≡ taken code 
   action-noted other es (RM g m) s h = few (nameWord es g ∷ nameWord es m ∷ []) 0 (k-at _ _ (s .0) refl) (m-at _ _ (s .0) refl) (h .1)
   action-noted other es (QY t g m) s h = few (nameWord es t ∷ nameWord es g ∷ nameWord es m ∷ []) 0 (k-at _ _ (s .0) refl) (m-at _ _ (s .0) refl) (h .1)
 
-  pub other-noted : (wordAt bs at ≡ IF-mark → ⊥) → Noted bs code at c c2
+  pub other-noted : (fieldAt bs at ≡ IF-mark → ⊥) → Noted bs code at c c2
   unfolding headFields ownWords resolvedLayout governedLayout governedBlock governedFormals resolvedBlock resolvedFormals blockFields formalsFields leading trailing
   other-noted other name (formal f) fs es s h = few (0 ∷ []) 1 (k-at _ _ (s .0) refl) (m-at _ _ (s .0) refl) (h .1 .0, tt)
   other-noted other name (body b) fs es s h = block-noted b s
@@ -77,12 +76,12 @@ module _ (bs code c c1 c2 : List ℕ) (at k m : ℕ) (first : c1 ≡ taken code 
   other-noted other name (stated (DO o a)) fs es s h = action-noted other es a s h
 
 -- IF
-module _ (bs code c c′ : List ℕ) (at : ℕ) (long : length c ≡ 4096) (done : at / 2 + 1 + 1 < 4096 → c′ ≡ crossed code c (at / 2 + 1)) (if : wordAt bs at ≡ IF-mark) where
-  no-block : (b : Block) → Stands bs at (blockHead b) → ⊥
+module _ (bs code c c′ : List ℕ) (at : ℕ) (long : length c ≡ 4096) (done : at / 2 + 1 + 1 < 4096 → c′ ≡ crossed code c (at / 2 + 1)) (if : fieldAt bs at ≡ IF-mark) where
+  no-block : (b : Block) → FieldsStand bs at (blockHead b) → ⊥
   unfolding blockHead
   no-block (block o ds ss) s = omega (arith, if, s .0)
 
-  if-action : (es : Enclosure) (a : Action) → Stands bs at (actionFields a) → Covers code (at / 2) (resolvedAction es a) → Grown c c′ at (governedAction es a)
+  if-action : (es : Enclosure) (a : Action) → FieldsStand bs at (actionFields a) → Covers code (at / 2) (resolvedAction es a) → Grown c c′ at (governedAction es a)
   unfolding actionFields resolvedAction governedAction
   if-action es (CL p xs) s h = absurd (omega (arith, if, s .0))
   if-action es (GO l) s h = absurd (omega (arith, if, s .0))

@@ -8,7 +8,7 @@ use lib.ListN.{length, getD, replicate, length-append}
 use Rattle.language.specs.Text.{Formal, Block, block, VR, LB, PR, BK, DO, blockDecls, blockStmts}
 use Rattle.language.specs.Encoding.{blockFields, encode}
 use Rattle.language.specs.Check.{accepted, check}
-use Rattle.laws.specs.Fields.{fieldAt, FieldsStand}
+use Rattle.laws.specs.Fields.{FieldsStand, field-inside, fields-first, fields-after}
 use Rattle.grammar.specs.Rules.{Bytes, Keeps}
 use Rattle.grammar.specs.Words.{length-bytes}
 use Rattle.grammar.specs.Accepting.{accepted-keeps}
@@ -17,8 +17,6 @@ use Rattle.coordinates.specs.Enclosure.{Enclosure}
 use Rattle.resolved.specs.Resolved.{resolvedOf, Covers}
 use Rattle.resolved.specs.Lengths.{covers-first, covers-second, covers-front}
 use Rattle.resolved.specs.Places.{block-at}
-use Rattle.words.specs.Words.{wordAt, Stands}
-use Rattle.words.proofs.Standing.{word-inside, stands-first, stands-second}
 use Rattle.extents.specs.Items.{Item, formal, body, declared, stated, blockHead, headFields}
 use Rattle.extents.specs.Passing.{Passed}
 use Rattle.extents.specs.declared.passing.Step.{Step}
@@ -66,7 +64,7 @@ pub record Swept (bs code names : List ℕ) (here : ℕ) (t : Block) (name : ℕ
   pub left : List Part
   pub room : ℕ
   pub far : 2 * length done ≡ here
-  pub stand : Stands bs here (partsWords fieldsLayout left)
+  pub stand : FieldsStand bs here (partsWords fieldsLayout left)
   pub resolved : Covers code (here / 2) (partsWords (resolvedLayout name) left)
   pub written : names ≡ done ++ replicate room 0
   pub fits : length (partsWords governedLayout left) ≤ room
@@ -81,11 +79,6 @@ Sweeps bs code names here = (t : Block) (name : ℕ) → check bs ≡ accepted t
 pub all-bytes : (bs : List ℕ) → ((i : ℕ) → getD bs i 0 < 256) → Bytes bs
 all-bytes [] h = tt
 all-bytes (b ∷ bs) h = (h 0, all-bytes bs (λ i. h (suc i)))
-
-same-fields : (bs : List ℕ) (at : ℕ) (ws : List ℕ) → FieldsStand bs at ws → Stands bs at ws
-unfolding fieldAt wordAt
-same-fields bs at [] h = tt
-same-fields bs at (w ∷ ws) h = (h .0, same-fields bs (at + 2) ws (h .1))
 
 module _ (bs : List ℕ) (bytes : Bytes bs) (t : Block) (e : check bs ≡ accepted t) where
   keeps : (bs ≡ encode t) × Keeps t
@@ -102,9 +95,9 @@ module _ (bs : List ℕ) (bytes : Bytes bs) (t : Block) (e : check bs ≡ accept
   unfolding governedOf
   words-many = omega (arith, bytes-many, block-length t [] [])
 
-  fields-there : Stands bs 0 (blockFields t)
+  fields-there : FieldsStand bs 0 (blockFields t)
   fields-there =
-      same-fields bs 0 (blockFields t) (subst (λ (o : ℕ). FieldsStand bs o (blockFields t)) (block-at t 1 [] 0 (keeps .1 .formed)) (program-stands bs t (keeps .1) (keeps .0) .stands .fields))
+      subst (λ (o : ℕ). FieldsStand bs o (blockFields t)) (block-at t 1 [] 0 (keeps .1 .formed)) (program-stands bs t (keeps .1) (keeps .0) .stands .fields)
 
   alone : (l : Layout) → partsWords l (placed [] [] (body t) ∷ []) ≡ l .ofBlock t [] []
   unfolding partsWords itemWords
@@ -118,7 +111,7 @@ module _ (bs : List ℕ) (bytes : Bytes bs) (t : Block) (e : check bs ≡ accept
         left = placed [] [] (body t) ∷ [];
         room = 4096;
         far = refl;
-        stand = subst (Stands bs 0) (sym (alone fieldsLayout)) fields-there;
+        stand = subst (FieldsStand bs 0) (sym (alone fieldsLayout)) fields-there;
         resolved = subst (Covers code 0) (sym (alone (resolvedLayout name))) h;
         written = zeros;
         fits = omega (arith, ap length (alone governedLayout), words-many, accepted-short);
@@ -141,7 +134,7 @@ module _ (bs code names names′ : List ℕ) (here : ℕ) (t : Block) (name : �
       let es = q .around in
       let rest = inside x fs es ++ qs in
       let opens : (l : Layout) → partsWords l (w .left) ≡ ownWords l x fs es ++ partsWords l rest = λ l. ap (partsWords l) (sym e) ∙ parts-open l x fs es qs in
-      let there : Stands bs here (headFields x ++ partsWords fieldsLayout rest) = subst (Stands bs here) (opens fieldsLayout ∙ ap (λ (l : List ℕ). l ++ partsWords fieldsLayout rest) (fields-own x fs es)) (w .stand) in
+      let there : FieldsStand bs here (headFields x ++ partsWords fieldsLayout rest) = subst (FieldsStand bs here) (opens fieldsLayout ∙ ap (λ (l : List ℕ). l ++ partsWords fieldsLayout rest) (fields-own x fs es)) (w .stand) in
       let words : Covers code (here / 2) (ownWords (resolvedLayout name) x fs es ++ partsWords (resolvedLayout name) rest) = subst (Covers code (here / 2)) (opens (resolvedLayout name)) (w .resolved) in
       let own = ownWords governedLayout x fs es in
       let n = length (headFields x) in
@@ -150,14 +143,14 @@ module _ (bs code names names′ : List ℕ) (here : ℕ) (t : Block) (name : �
       let next : s .next ≡ here + 2 * n = p .next-is ∙ ap (λ (k : ℕ). here + k) (head-size bs here (partsWords fieldsLayout rest) x there) in
       let total = ap length (opens governedLayout) ∙ length-append own (partsWords governedLayout rest) in
       let more = length-append (w .done) own in
-      let grown = noted name x fs es (stands-first bs here (headFields x) (partsWords fieldsLayout rest) there) (covers-first code (here / 2) (ownWords (resolvedLayout name) x fs es) (partsWords (resolvedLayout name) rest) words) in
+      let grown = noted name x fs es (fields-first bs here (headFields x) (partsWords fieldsLayout rest) there) (covers-first code (here / 2) (ownWords (resolvedLayout name) x fs es) (partsWords (resolvedLayout name) rest) words) in
       let half : here / 2 + length (ownWords (resolvedLayout name) x fs es) ≡ s .next / 2 = omega (arith, w .far) in
       record {
         done = w .done ++ own;
         left = rest;
         room = w .room - length own;
         far = omega (arith, w .far);
-        stand = subst (λ (o : ℕ). Stands bs o (partsWords fieldsLayout rest)) (sym next) (stands-second bs here (headFields x) (partsWords fieldsLayout rest) there);
+        stand = subst (λ (o : ℕ). FieldsStand bs o (partsWords fieldsLayout rest)) (sym next) (fields-after bs here (headFields x) (partsWords fieldsLayout rest) there);
         resolved = subst (λ (o : ℕ). Covers code o (partsWords (resolvedLayout name) rest)) half (covers-second code (here / 2) (ownWords (resolvedLayout name) x fs es) (partsWords (resolvedLayout name) rest) words);
         written = grown .grown (w .done) (w .room) (w .far) (w .written) (omega (arith, w .fits)) ∙ sym (append-assoc (w .done) own (replicate (w .room - length own) 0));
         fits = omega (arith, w .fits);
@@ -185,8 +178,8 @@ module _ (bs code names : List ℕ) (here : ℕ) (t : Block) (name : ℕ) (out :
       let fs = q .formals in
       let es = q .around in
       let rest = partsWords fieldsLayout (inside x fs es ++ qs) in
-      let there : Stands bs here (headFields x ++ rest) = subst (Stands bs here) (ap (partsWords fieldsLayout) (sym e) ∙ parts-open fieldsLayout x fs es qs ∙ ap (λ (l : List ℕ). l ++ rest) (fields-own x fs es)) (w .stand) in
-      absurd (word-inside bs here (head-marked bs here rest x there) out)
+      let there : FieldsStand bs here (headFields x ++ rest) = subst (FieldsStand bs here) (ap (partsWords fieldsLayout) (sym e) ∙ parts-open fieldsLayout x fs es qs ∙ ap (λ (l : List ℕ). l ++ rest) (fields-own x fs es)) (w .stand) in
+      absurd (field-inside bs here (head-marked bs here rest x there) out)
 
 pub swept-end : (bs code names : List ℕ) (here : ℕ) → length bs ≤ here → Sweeps bs code names here → Governs bs code names
 swept-end bs code names here out w t name e h =

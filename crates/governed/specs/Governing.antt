@@ -10,7 +10,7 @@ use Rattle.language.specs.Encoding.{BK-mark, CL-mark, AR-mark, AD-mark, RM-mark
 use Rattle.language.specs.Check.{accepted, check}
 use Rattle.coordinates.specs.Enclosure.{Enclosure}
 use Rattle.resolved.specs.Resolved.{resolvedOf, Covers}
-use Rattle.words.specs.Words.{Stands}
+use Rattle.laws.specs.Fields.{FieldsStand}
 use Rattle.extents.specs.Items.{Item, headFields}
 use Rattle.emitting.specs.Growth.{Grown}
 use Rattle.governed.specs.Governed.{governedOf}
@@ -50,7 +50,7 @@ trailing m a = elim (eqb m AR-mark) [ true ↦ 2 | false ↦ elim (eqb m CL-mark
 -- a record's own words are written where those of the resolved script stand
 abbrev pub Noted : List ℕ → List ℕ → ℕ → List ℕ → List ℕ → Type 0
 Noted bs code at names names′ =
-    (name : ℕ) (x : Item) (fs : List Formal) (es : Enclosure) → Stands bs at (headFields x) → Covers code (at / 2) (ownWords (resolvedLayout name) x fs es)
+    (name : ℕ) (x : Item) (fs : List Formal) (es : Enclosure) → FieldsStand bs at (headFields x) → Covers code (at / 2) (ownWords (resolvedLayout name) x fs es)
     → Grown names names′ at (ownWords governedLayout x fs es)
 
 -- the words of the names of an accepted script, from its resolved script

@@ -10,7 +10,7 @@ use words::word;
 ghost use mathlib.Core.Path.{_≡_};
 ghost use Prim.Native.Nat.{_+_, _<_, _≤_};
 ghost use lib.ListN.{length, replicate};
-ghost use Rattle.words.specs.Words.{wordAt};
+ghost use Rattle.laws.specs.Fields.{fieldAt};
 ghost use Rattle.governed.specs.Governing as governing;
 
 const AD: usize = 0x4441;
@@ -67,7 +67,7 @@ fn leading(mark: usize) -> usize
 // How many names stand behind a record's second field.
 fn trailing(script: &[u8], at: usize, mark: usize) -> usize
     requires { ⌜ at < 8192 ⌝ }
-    ensures { λ r. ⌜ (r ≡ governing.trailing mark (wordAt (now (script .entry)) (at + 4))) × (r < 65536) ⌝ }
+    ensures { λ r. ⌜ (r ≡ governing.trailing mark (fieldAt (now (script .entry)) (at + 4))) × (r < 65536) ⌝ }
 {
     if mark == AR {
         return 2;
@@ -80,7 +80,7 @@ fn trailing(script: &[u8], at: usize, mark: usize) -> usize
 
 // The words of one record. IF's label comes first in the resolved script.
 fn note(script: &[u8], code: &[u32; 4096], names: &mut [u32; 4096], at: usize, mark: usize)
-    requires { ⌜ (length (now names) ≡ 4096) × (at < 8192) × (mark ≡ wordAt (now script) at) ⌝ }
+    requires { ⌜ (length (now names) ≡ 4096) × (at < 8192) × (mark ≡ fieldAt (now script) at) ⌝ }
     ensures noted { λ _. ⌜ governing.Noted (now (script .entry)) (now (code .entry)) at (now (names .entry)) (now (names .exit)) ⌝ }
     ensures long { λ _. ⌜ length (now (names .exit)) ≡ 4096 ⌝ }
 {

@@ -10,7 +10,7 @@ use lib.ListN.{length}
 use Rattle.language.specs.Text.{Block, block}
 use Rattle.language.specs.Encoding.{blockFields, bytesOf, fieldsOf, encode}
 use Rattle.language.specs.Structure.{Reading, read, refuse, program}
-use Rattle.language.specs.Scope.{Verdict, fine, wrong, judgeBlock}
+use Rattle.language.specs.Scope.{Judgement, fine, wrong, judgeBlock}
 use Rattle.language.specs.Check.{accepted, refused, lengthFits, judged, ended, check}
 use Rattle.language.specs.declared.Refusal.{Refusal}
 use Rattle.grammar.specs.Rules.{Bytes, Keeps}
@@ -29,7 +29,7 @@ unfolding check
 long-enough bs t true q e = (refl, rw (q, check) at e)
 long-enough bs t false q e = not-accepted t _ 0 (rw (q, check) at e)
 
-well-judged : (t u : Block) (v : Verdict) → judged u v ≡ accepted t → (v ≡ fine) × (u ≡ t)
+well-judged : (t u : Block) (v : Judgement) → judged u v ≡ accepted t → (v ≡ fine) × (u ≡ t)
 unfolding judged
 well-judged t u fine e = (refl, cc)
 well-judged t u (wrong c o) e = not-accepted t c o e

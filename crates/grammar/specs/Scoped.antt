@@ -8,38 +8,38 @@ use mathlib.Core.Path.{_≡_, refl, sym}
 use native.Mathlib.Omega.{arith}
 use Rattle.language.specs.Basics.{lookup}
 use Rattle.language.specs.Text.{Kind, variable, label, procedure, Formal, Action, CL, GO, IF, KN, AR, AD, RM, QY, Block, block, Decl, VR, LB, PR, Stmt, BK, DO, Decls, no-decl, decl, Stmts, no-stmt, stmt, sameKind}
-use Rattle.language.specs.Scope.{Meaning, Scope, inside, Verdict, fine, wrong, _then_, ofKind, uses, visible, allVisible, kindIn, agree, agrees, judgeAction, judgeBlock, judgeDecl, judgeStmt, judgeDecls, judgeStmts}
+use Rattle.language.specs.Scope.{Meaning, Scope, inside, Judgement, fine, wrong, _then_, ofKind, uses, visible, allVisible, kindIn, agree, agrees, judgeAction, judgeBlock, judgeDecl, judgeStmt, judgeDecls, judgeStmts}
 use Rattle.language.specs.declared.Refusal.{Refusal}
 use Rattle.language.specs.declared.Refusal.the-variants.{NotVisible, WrongKind, CallMismatch}
 use Rattle.laws.specs.Kinds.{same-kind}
 use Rattle.laws.specs.Each.{Each}
 use Rattle.grammar.specs.Rules.{Visible, Is, ScopedAction, ScopedBlock, ScopedDecl, ScopedStmt, ScopedDecls, ScopedStmts}
 
-abbrev Fine : Verdict → Type 0 → Type 0
+abbrev Fine : Judgement → Type 0 → Type 0
 Fine v A = (v ≡ fine) ↔ A
 
 nothing : Fine fine (Unit {0})
 nothing = (λ e. tt, λ u. refl)
 
-then-first : (v w : Verdict) → _then_ v w ≡ fine → v ≡ fine
+then-first : (v w : Judgement) → _then_ v w ≡ fine → v ≡ fine
 unfolding _then_
 then-first fine w e = refl
 then-first (wrong c o) w e = e
 
-then-second : (v w : Verdict) → _then_ v w ≡ fine → w ≡ fine
+then-second : (v w : Judgement) → _then_ v w ≡ fine → w ≡ fine
 unfolding _then_
 then-second fine w e = e
 then-second (wrong c o) w e = cc
 
-then-both : (v w : Verdict) → v ≡ fine → w ≡ fine → _then_ v w ≡ fine
+then-both : (v w : Judgement) → v ≡ fine → w ≡ fine → _then_ v w ≡ fine
 unfolding _then_
 then-both v w e f = rw (e, _then_) f
 
-both : {A B : Type 0} {v w : Verdict} → Fine v A → Fine w B → Fine (_then_ v w) (A × B)
+both : {A B : Type 0} {v w : Judgement} → Fine v A → Fine w B → Fine (_then_ v w) (A × B)
 both {v = v} {w = w} a b =
     (λ e. (a .0 (then-first v w e), b .0 (then-second v w e)), λ k. then-both v w (a .1 k.0) (b .1 k.1))
 
-three : {A B C : Type 0} {u v w : Verdict} → Fine u A → Fine v B → Fine w C → Fine (_then_ u (_then_ v w)) (A × B × C)
+three : {A B C : Type 0} {u v w : Judgement} → Fine u A → Fine v B → Fine w C → Fine (_then_ u (_then_ v w)) (A × B × C)
 three {u = u} {v = v} {w = w} a b c = (
   λ e. let f : _then_ v w ≡ fine = then-second u (_then_ v w) e in
       (a .0 (then-first u (_then_ v w) e), b .0 (then-first v w f), c .0 (then-second v w f)),

@@ -7,7 +7,7 @@ use lib.ListN.{length}
 use Rattle.language.specs.Text.{Block}
 use Rattle.language.specs.Encoding.{fieldsOf}
 use Rattle.language.specs.Structure.{Reading, read, refuse, program}
-use Rattle.language.specs.Scope.{Verdict, fine, wrong, judgeBlock}
+use Rattle.language.specs.Scope.{Judgement, fine, wrong, judgeBlock}
 use Rattle.language.specs.declared.Refusal.{Refusal}
 use Rattle.language.specs.declared.Refusal.the-variants.{ScriptLength, BytesAfter}
 
@@ -19,7 +19,7 @@ pub data Checked : Type 0 where
 unfoldable pub lengthFits : List ℕ → Bool
 lengthFits bs = leb 1 (length bs) && leb (length bs) 8192 && eqb (length bs % 2) 0
 
-unfoldable pub judged : Block → Verdict → Checked
+unfoldable pub judged : Block → Judgement → Checked
 judged t fine = accepted t
 judged t (wrong c o) = refused c o
 

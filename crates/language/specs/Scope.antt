@@ -30,28 +30,28 @@ unfoldable pub inside : List Formal → Decls → Scope → Scope
 inside fs ds sc = map formalMeaning fs ++ (map declMeaning (decls ds) ++ sc)
 
 -- nothing wrong, or the first refusal with its offset
-pub data Verdict : Type 0 where
-  fine : Verdict
-  wrong : Refusal → ℕ → Verdict
+pub data Judgement : Type 0 where
+  fine : Judgement
+  wrong : Refusal → ℕ → Judgement
 
-unfoldable pub _then_ : Verdict → Verdict → Verdict
+unfoldable pub _then_ : Judgement → Judgement → Judgement
 _then_ fine w = w
 _then_ (wrong c o) w = wrong c o
 
 -- a name used where this kind is wanted, in the record at an offset: 9, then 10
-unfoldable pub ofKind : Kind → ℕ → Option Meaning → Verdict
+unfoldable pub ofKind : Kind → ℕ → Option Meaning → Judgement
 ofKind k o none = wrong NotVisible o
 ofKind k o (some m) = elim (sameKind k (m .kind)) [ true ↦ fine | false ↦ wrong WrongKind o ]
 
-unfoldable pub uses : Scope → ℕ → Kind → ℕ → Verdict
+unfoldable pub uses : Scope → ℕ → Kind → ℕ → Judgement
 uses sc o k n = ofKind k o (lookup n sc)
 
 -- arguments are visible, whatever their kind
-unfoldable pub visible : ℕ → Option Meaning → Verdict
+unfoldable pub visible : ℕ → Option Meaning → Judgement
 visible o none = wrong NotVisible o
 visible o (some m) = fine
 
-unfoldable pub allVisible : Scope → ℕ → List ℕ → Verdict
+unfoldable pub allVisible : Scope → ℕ → List ℕ → Judgement
 allVisible sc o [] = fine
 allVisible sc o (n ∷ ns) = _then_ (visible o (lookup n sc)) (allVisible sc o ns)
 
@@ -67,12 +67,12 @@ agree (k ∷ ks) (none ∷ xs) = false
 agree (k ∷ ks) (some x ∷ xs) = sameKind k x && agree ks xs
 
 -- 11; what a formal stands for is known to the run alone, which judges the call then (26)
-unfoldable pub agrees : ℕ → Option Meaning → List (Option Kind) → Verdict
+unfoldable pub agrees : ℕ → Option Meaning → List (Option Kind) → Judgement
 agrees o none xs = fine
 agrees o (some m) xs = elim (m .takes) [ none ↦ fine | some ks ↦ elim (agree ks xs) [ true ↦ fine | false ↦ wrong CallMismatch o ] ]
 
 -- in the order in which a record has its names
-unfoldable pub judgeAction : Scope → ℕ → Action → Verdict
+unfoldable pub judgeAction : Scope → ℕ → Action → Judgement
 judgeAction sc o (CL p xs) =
     _then_ (uses sc o procedure p) (_then_ (allVisible sc o xs) (agrees o (lookup p sc) (map (kindIn sc) xs)))
 judgeAction sc o (GO l) = uses sc o label l
@@ -85,22 +85,22 @@ judgeAction sc o (QY t g m) = _then_ (uses sc o variable t) (_then_ (uses sc o v
 
 -- a block with its formals, in the scope around it
 unfoldable mutual
-  pub judgeBlock : Block → List Formal → Scope → Verdict
+  pub judgeBlock : Block → List Formal → Scope → Judgement
   judgeBlock (block at ds ss) fs sc = _then_ (judgeDecls ds (inside fs ds sc)) (judgeStmts ss (inside fs ds sc))
 
-  pub judgeDecl : Decl → Scope → Verdict
+  pub judgeDecl : Decl → Scope → Judgement
   judgeDecl (VR at n) sc = fine
   judgeDecl (LB at n i) sc = fine
   judgeDecl (PR at n fs b) sc = judgeBlock b fs sc
 
-  pub judgeStmt : Stmt → Scope → Verdict
+  pub judgeStmt : Stmt → Scope → Judgement
   judgeStmt (BK b) sc = judgeBlock b [] sc
   judgeStmt (DO at a) sc = judgeAction sc at a
 
-  pub judgeDecls : Decls → Scope → Verdict
+  pub judgeDecls : Decls → Scope → Judgement
   judgeDecls no-decl sc = fine
   judgeDecls (decl d ds) sc = _then_ (judgeDecl d sc) (judgeDecls ds sc)
 
-  pub judgeStmts : Stmts → Scope → Verdict
+  pub judgeStmts : Stmts → Scope → Judgement
   judgeStmts no-stmt sc = fine
   judgeStmts (stmt s ss) sc = _then_ (judgeStmt s sc) (judgeStmts ss sc)

@@ -38,17 +38,17 @@ unfoldable pub sheetWords : State → List ℤ
 sheetWords s = wordsOf s (s .live)
 
 -- What a name reads as, with how many enclosing blocks are passed to the one that declares it as written.
-pub record Found : Type 0 where
+pub record LookedUp : Type 0 where
   pub name : ℕ
   pub passed : ℕ
 
-unfoldable pub seek : ℕ → ℕ → List Replacement → Option Found
+unfoldable pub seek : ℕ → ℕ → List Replacement → Option LookedUp
 seek n k [] = none
 seek n k (own ∷ around) =
     elim (lookup n own) [ some x ↦ some (record { name = x; passed = k }) | none ↦ seek n (suc k) around ]
 
 -- a name as the innermost activation has it
-unfoldable pub lookedUp : State → ℕ → Option Found
+unfoldable pub lookedUp : State → ℕ → Option LookedUp
 lookedUp s n = elim (last? (s .live)) [ none ↦ none | some a ↦ seek n 0 (a .reads) ]
 
 unfoldable pub lookedUpDesignator : State → ℕ → ℕ

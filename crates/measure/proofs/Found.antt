@@ -10,8 +10,8 @@ use mir.Syntax.{w32}
 use mir.Facts.{toZ-ofZ}
 use Rattle.language.specs.Table.{find}
 use Rattle.pairs.specs.Places.{placed}
-use Rattle.pairs.specs.declared.Place.{Place}
-use Rattle.pairs.specs.declared.Place.the-variants.{At, Absent}
+use Rattle.pairs.specs.declared.PairPlace.{PairPlace}
+use Rattle.pairs.specs.declared.PairPlace.the-variants.{At, Absent}
 use Rattle.measure.specs.Found.{placeOr}
 
 placed-at : (other : ℕ) (r : Option ℕ) (i : ℕ) → placed r ≡ At i → i ≡ placeOr other r
@@ -25,7 +25,7 @@ placed-absent other none e = refl
 placed-absent other (some j) e = absurd (let z : _≡_ {A = ℕ} 0 1 = cc in omega arith)
 
 -- the words in locals are read back from their bits
-module _ {g m : ℤ} (fg : SFits w32 g) (fm : SFits w32 m) (k : ℕ) (ws : List ℤ) {p : Place} (e : p ≡ placed (find (toZ w32 (ofZ w32 g)) (toZ w32 (ofZ w32 m)) k ws)) where
+module _ {g m : ℤ} (fg : SFits w32 g) (fm : SFits w32 m) (k : ℕ) (ws : List ℤ) {p : PairPlace} (e : p ≡ placed (find (toZ w32 (ofZ w32 g)) (toZ w32 (ofZ w32 m)) k ws)) where
   told : placed (find g m k ws) ≡ p
   told = rw (toZ-ofZ fg, toZ-ofZ fm) at (sym e)
 

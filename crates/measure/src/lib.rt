@@ -4,7 +4,7 @@ ghost use Rattle.language.specs.Table.{find, right};
 ghost use Rattle.pairs.specs.Outcomes.{tableOf};
 ghost use Rattle.measure.specs.Found.{placeOr};
 use members::table_right;
-use pairs::Place;
+use pairs::PairPlace;
 use pairs::place_of;
 
 // Whether the table is right for a group limit.
@@ -20,7 +20,7 @@ pub extern "C" fn measure_right(table: &[i32], count: usize, limit: u32) -> bool
 pub extern "C" fn measure_find(table: &[i32], count: usize, group: i32, member: i32) -> usize
     ensures { λ r. ⌜ r ≡ placeOr count (find group member count (now (table .entry))) ⌝ }
 {
-    let Place::At(place) = place_of(table, count, group, member) else {
+    let PairPlace::At(place) = place_of(table, count, group, member) else {
         return count;
     };
     place

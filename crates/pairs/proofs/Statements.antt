@@ -15,10 +15,10 @@ use Rattle.language.specs.Table.{Table, find, isSome, holds, members, size, atL
 use Rattle.language.specs.declared.Stop.the-variants.{NumberBelowOne, GroupFull, TableFull}
 use Rattle.pairs.specs.Places.{placed, searchOf}
 use Rattle.pairs.specs.Outcomes.{tableOf, addedAbsent}
-use Rattle.pairs.specs.declared.Place.{Place}
-use Rattle.pairs.specs.declared.Place.the-variants.{At, Absent}
+use Rattle.pairs.specs.declared.PairPlace.{PairPlace}
+use Rattle.pairs.specs.declared.PairPlace.the-variants.{At, Absent}
 use Rattle.pairs.specs.declared.Search.{Search}
-use Rattle.pairs.specs.declared.Search.the-variants.{BelowOne, At as Found, Absent as Missing}
+use Rattle.pairs.specs.declared.Search.the-variants.{BelowOne, At as Present, Absent as Missing}
 
 placed-at : (r : Option ℕ) (i : ℕ) → placed r ≡ At i → r ≡ some i
 unfolding placed
@@ -36,7 +36,7 @@ module _ {g m : ℤ} (fg : SFits w32 g) (fm : SFits w32 m) where
   fits-read e q = (rw (toZ-ofZ fg, toZ-ofZ fm) at (sym e)) ∙ q
 
   pub place-read :
-      (k : ℕ) (ws : List ℤ) {p q : Place} → p ≡ placed (find (toZ w32 (ofZ w32 g)) (toZ w32 (ofZ w32 m)) k ws) → p ≡ q → placed (find g m k ws) ≡ q
+      (k : ℕ) (ws : List ℤ) {p q : PairPlace} → p ≡ placed (find (toZ w32 (ofZ w32 g)) (toZ w32 (ofZ w32 m)) k ws) → p ≡ q → placed (find g m k ws) ≡ q
   place-read k ws e q = (rw (toZ-ofZ fg, toZ-ofZ fm) at (sym e)) ∙ q
 
   pub search-read :
@@ -53,7 +53,7 @@ module _ (g m : ℤ) (k : ℕ) (ws : List ℤ) where
   unfolding searchOf
   searched-below e = rw (e, searchOf)
 
-  pub searched-at : {i : ℕ} → Fit true → placed (find g m k ws) ≡ At i → Found i ≡ searchOf g m k ws
+  pub searched-at : {i : ℕ} → Fit true → placed (find g m k ws) ≡ At i → Present i ≡ searchOf g m k ws
   unfolding searchOf
   searched-at {i} e q = rw (e, searchOf) (rw (placed-at (find g m k ws) i q))
 
@@ -65,7 +65,7 @@ module _ (g m : ℤ) (k : ℕ) (ws : List ℤ) where
   abbrev pub Says : Search → Type 0
   Says BelowOne = Fit false
   Says Missing = Fit true × (find g m k ws ≡ none)
-  Says (Found i) = Fit true × (find g m k ws ≡ some i)
+  Says (Present i) = Fit true × (find g m k ws ≡ some i)
 
   pub says : (s : Search) → searchOf g m k ws ≡ s → Says s
   unfolding placed

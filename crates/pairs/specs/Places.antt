@@ -5,12 +5,12 @@ use mathlib.Core.List.{List}
 use mathlib.Core.Option.{Option, none, some}
 use lib.IntN.{ℤ}
 use Rattle.language.specs.Table.{find, atLeastOne}
-use Rattle.pairs.specs.declared.Place.{Place}
-use Rattle.pairs.specs.declared.Place.the-variants.{At, Absent}
+use Rattle.pairs.specs.declared.PairPlace.{PairPlace}
+use Rattle.pairs.specs.declared.PairPlace.the-variants.{At, Absent}
 use Rattle.pairs.specs.declared.Search.{Search}
-use Rattle.pairs.specs.declared.Search.the-variants.{BelowOne, At as Found, Absent as Missing}
+use Rattle.pairs.specs.declared.Search.the-variants.{BelowOne, At as Present, Absent as Missing}
 
-unfoldable pub placed : Option ℕ → Place
+unfoldable pub placed : Option ℕ → PairPlace
 placed none = Absent
 placed (some i) = At i
 
@@ -19,5 +19,5 @@ unfoldable pub searchOf : ℤ → ℤ → ℕ → List ℤ → Search
 searchOf g m k ws =
     elim (atLeastOne g && atLeastOne m) [
       | false ↦ BelowOne
-      | true ↦ elim (find g m k ws) [ none ↦ Missing | some i ↦ Found i ]
+      | true ↦ elim (find g m k ws) [ none ↦ Missing | some i ↦ Present i ]
     ]

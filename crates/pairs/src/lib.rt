@@ -11,7 +11,7 @@ ghost use Rattle.pairs.specs.Outcomes.{tableOf, addedAbsent, changeOf, v
 use language::Stop;
 
 // Where a pair stands, counted in pairs from 0.
-pub enum Place {
+pub enum PairPlace {
     At(usize),
     Absent,
 }
@@ -95,18 +95,18 @@ pub fn numbers_fit(group: i32, member: i32) -> bool
 }
 
 // The first place among the first `count` pairs.
-pub fn place_of(table: &[i32], count: usize, group: i32, member: i32) -> Place
+pub fn place_of(table: &[i32], count: usize, group: i32, member: i32) -> PairPlace
     ensures { λ r. ⌜ r ≡ placed (find group member count (now (table .entry))) ⌝ }
 {
     let n = pairs_in(table.len(), count);
     let mut i = 0;
     while i < n {
         if pair_is(table, i, group, member) {
-            return Place::At(i);
+            return PairPlace::At(i);
         }
         i += 1;
     }
-    Place::Absent
+    PairPlace::Absent
 }
 
 // How many of the first `count` pairs are of the group.
@@ -171,8 +171,8 @@ fn searched(table: &[i32], count: usize, group: i32, member: i32) -> Search
     }
     let found = place_of(table, count, group, member);
     match found {
-        Place::At(place) => Search::At(place),
-        Place::Absent => Search::Absent,
+        PairPlace::At(place) => Search::At(place),
+        PairPlace::Absent => Search::Absent,
     }
 }
 

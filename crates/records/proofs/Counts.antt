@@ -5,20 +5,20 @@ use Rattle.records.specs.Taking.{fitAt}
 use Rattle.records.specs.Counts.{fieldCount}
 use Rattle.records.specs.declared.Mark.{Mark}
 use Rattle.records.specs.declared.Place.the-variants.{Formal, Declaration, Statement}
-use Rattle.records.specs.declared.marks.Fit.the-variants.{Found, Nothing}
+use Rattle.records.specs.declared.marks.Fit.the-variants.{Matched, Nothing}
 
 module _ (w : ℕ) where
-  pub count-statement : (n : ℕ) (m : Mark) → fitAt Statement w ≡ Found n m → fieldCount w ≡ n
+  pub count-statement : (n : ℕ) (m : Mark) → fitAt Statement w ≡ Matched n m → fieldCount w ≡ n
   unfolding fieldCount
   count-statement n m e = rw (e, fieldCount)
 
   module _ (no-statement : fitAt Statement w ≡ Nothing) where
-    pub count-declaration : (n : ℕ) (m : Mark) → fitAt Declaration w ≡ Found n m → fieldCount w ≡ n
+    pub count-declaration : (n : ℕ) (m : Mark) → fitAt Declaration w ≡ Matched n m → fieldCount w ≡ n
     unfolding fieldCount
     count-declaration n m e = rw (no-statement, e, fieldCount)
 
     module _ (no-declaration : fitAt Declaration w ≡ Nothing) where
-      pub count-formal : (n : ℕ) (m : Mark) → fitAt Formal w ≡ Found n m → fieldCount w ≡ n
+      pub count-formal : (n : ℕ) (m : Mark) → fitAt Formal w ≡ Matched n m → fieldCount w ≡ n
       unfolding fieldCount
       count-formal n m e = rw (no-statement, no-declaration, e, fieldCount)
 

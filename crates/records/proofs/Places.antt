@@ -17,7 +17,7 @@ use Rattle.records.specs.declared.Mark.the-variants.{BK, FM}
 use Rattle.records.specs.declared.Place.{Place}
 use Rattle.records.specs.declared.Place.the-variants.{Block, Formal, Declaration, Statement}
 use Rattle.records.specs.declared.marks.Fit.{Fit}
-use Rattle.records.specs.declared.marks.Fit.the-variants.{Found, Nothing}
+use Rattle.records.specs.declared.marks.Fit.the-variants.{Matched, Nothing}
 use Rattle.records.specs.declared.Reading.the-variants.{Refused}
 use Rattle.records.proofs.Taking.{fitted, no-mark, misplaced, cut-off, whole}
 
@@ -34,11 +34,11 @@ module _ (bs : List ℕ) (at : ℕ) where
     unfolding taken
     stray-of h e = ap (taken f) (misplaced rows bs at f h e)
 
-    cut-of : (n : ℕ) (m : Mark) → at + 2 ≤ length bs → fitIn f letters rows ≡ Found n m → length bs < at + 2 + 2 * n → taken f (take-record rows at (unread bs at)) ≡ Refused PastTheEnd at
+    cut-of : (n : ℕ) (m : Mark) → at + 2 ≤ length bs → fitIn f letters rows ≡ Matched n m → length bs < at + 2 + 2 * n → taken f (take-record rows at (unread bs at)) ≡ Refused PastTheEnd at
     unfolding taken
     cut-of n m h e short = ap (taken f) (cut-off rows bs at f n m h e short)
 
-    whole-of : (n : ℕ) (m : Mark) → at + 2 ≤ length bs → fitIn f letters rows ≡ Found n m → at + 2 + 2 * n ≤ length bs → taken f (take-record rows at (unread bs at)) ≡ takenAt m n bs (at + 2)
+    whole-of : (n : ℕ) (m : Mark) → at + 2 ≤ length bs → fitIn f letters rows ≡ Matched n m → at + 2 + 2 * n ≤ length bs → taken f (take-record rows at (unread bs at)) ≡ takenAt m n bs (at + 2)
     unfolding taken
     whole-of n m h e fits =
         ap (taken f) (whole rows bs at f n m h e fits) ∙ ap (λ (x : Mark). takenAt x n bs (at + 2)) (fitted f letters rows n m e .mark-is)
@@ -57,14 +57,14 @@ module _ (bs : List ℕ) (at : ℕ) where
   at-stray Declaration = stray-of declMark declMarks
   at-stray Statement = stray-of stmtMark stmtMarks
 
-  pub at-cut : (p : Place) (n : ℕ) (m : Mark) → at + 2 ≤ length bs → fitAt p letters ≡ Found n m → length bs < at + 2 + 2 * n → recordAt p bs at ≡ Refused PastTheEnd at
+  pub at-cut : (p : Place) (n : ℕ) (m : Mark) → at + 2 ≤ length bs → fitAt p letters ≡ Matched n m → length bs < at + 2 + 2 * n → recordAt p bs at ≡ Refused PastTheEnd at
   unfolding recordAt fitAt
   at-cut Block = cut-of (onlyMark BK) blockMarks
   at-cut Formal = cut-of (onlyMark FM) formalMarks
   at-cut Declaration = cut-of declMark declMarks
   at-cut Statement = cut-of stmtMark stmtMarks
 
-  pub at-whole : (p : Place) (n : ℕ) (m : Mark) → at + 2 ≤ length bs → fitAt p letters ≡ Found n m → at + 2 + 2 * n ≤ length bs → recordAt p bs at ≡ takenAt m n bs (at + 2)
+  pub at-whole : (p : Place) (n : ℕ) (m : Mark) → at + 2 ≤ length bs → fitAt p letters ≡ Matched n m → at + 2 + 2 * n ≤ length bs → recordAt p bs at ≡ takenAt m n bs (at + 2)
   unfolding recordAt fitAt
   at-whole Block = whole-of (onlyMark BK) blockMarks
   at-whole Formal = whole-of (onlyMark FM) formalMarks
@@ -79,7 +79,7 @@ module _ (p : Place) (bs : List ℕ) (at : ℕ) (h : at + 2 ≤ length bs) {w : 
   pub is-stray : x ≡ Nothing → Refused MarkMisplaced at ≡ recordAt p bs at
   is-stray e = sym (at-stray bs at p h (is-fit e))
 
-  module _ (n : ℕ) (m : Mark) (e : x ≡ Found n m) where
+  module _ (n : ℕ) (m : Mark) (e : x ≡ Matched n m) where
     pub is-cut : length bs < at + 2 + 2 * n → Refused PastTheEnd at ≡ recordAt p bs at
     is-cut short = sym (at-cut bs at p n m h (is-fit e) short)
 

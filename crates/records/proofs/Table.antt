@@ -17,7 +17,7 @@ use Rattle.records.specs.declared.Place.{Place}
 use Rattle.records.specs.declared.Place.the-variants.{Block, Formal, Declaration, Statement}
 use Rattle.records.specs.declared.marks.Entry.{Entry}
 use Rattle.records.specs.declared.marks.Fit.{Fit}
-use Rattle.records.specs.declared.marks.Fit.the-variants.{Found, Nothing}
+use Rattle.records.specs.declared.marks.Fit.the-variants.{Matched, Nothing}
 
 abbrev entry : ℕ → ℕ → ℕ → Mark → Entry
 entry w n ps m = record { letters = w; count = n; places = ps; mark = m }
@@ -43,7 +43,7 @@ entries =
 -- the first with these letters, of those that may stand at the place with this bit
 pub fitFrom : ℕ → ℕ → List Entry → Fit
 fitFrom b w [] = Nothing
-fitFrom b w (e ∷ es) = elim (eqb (e .places / b % 2) 1 && eqb w (e .letters)) [ true ↦ Found (e .count) (e .mark) | false ↦ fitFrom b w es ]
+fitFrom b w (e ∷ es) = elim (eqb (e .places / b % 2) 1 && eqb w (e .letters)) [ true ↦ Matched (e .count) (e .mark) | false ↦ fitFrom b w es ]
 
 table-rule : (p : Place) (w : ℕ) → fitFrom (bitOf p) w entries ≡ fitAt p w
 unfolding fitFrom fitAt fitIn blockMarks formalMarks declMarks stmtMarks declMark stmtMark onlyMark
@@ -57,7 +57,7 @@ bit-rule p w q = ap (λ k. fitFrom k w entries) q ∙ table-rule p w
 
 -- a search through any table, row by row
 module _ (b w : ℕ) where
-  cons-fits : (e : Entry) (es : List Entry) → e .places / b % 2 ≡ 1 → e .letters ≡ w → fitFrom b w (e ∷ es) ≡ Found (e .count) (e .mark)
+  cons-fits : (e : Entry) (es : List Entry) → e .places / b % 2 ≡ 1 → e .letters ≡ w → fitFrom b w (e ∷ es) ≡ Matched (e .count) (e .mark)
   unfolding fitFrom
   cons-fits e es p q = rw (eq-eqb (e .places / b % 2) 1 p, eq-eqb w (e .letters) (sym q), fitFrom)
 
@@ -79,7 +79,7 @@ module _ (b w : ℕ) where
     next-row : fitFrom b w (here ∷ drop (suc i) es) ≡ fitFrom b w (drop (suc i) es) → fitFrom b w (drop (i + 1) es) ≡ fitFrom b w (drop i es)
     next-row q = ap (λ k. fitFrom b w (drop k es)) (add-one i) ∙ sym (at-row ∙ q)
 
-    pub at-fits : here .places / b % 2 ≡ 1 → here .letters ≡ w → fitFrom b w (drop i es) ≡ Found (here .count) (here .mark)
+    pub at-fits : here .places / b % 2 ≡ 1 → here .letters ≡ w → fitFrom b w (drop i es) ≡ Matched (here .count) (here .mark)
     at-fits p q = at-row ∙ cons-fits here (drop (suc i) es) p q
 
     pub at-other : here .places / b % 2 ≡ 1 → (here .letters ≡ w → ⊥) → fitFrom b w (drop (i + 1) es) ≡ fitFrom b w (drop i es)

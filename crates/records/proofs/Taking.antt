@@ -16,7 +16,7 @@ use Rattle.laws.specs.Readers.{bind-read, bind-refuse, filled}
 use Rattle.records.specs.Taking.{unread, fitIn}
 use Rattle.records.specs.declared.Mark.{Mark}
 use Rattle.records.specs.declared.marks.Fit.{Fit}
-use Rattle.records.specs.declared.marks.Fit.the-variants.{Found, Nothing}
+use Rattle.records.specs.declared.marks.Fit.the-variants.{Matched, Nothing}
 use Rattle.records.proofs.Unread.{unread-drop, unread-enough, unread-short, unread-at}
 
 -- the next k fields, where they are there and where they are not
@@ -48,11 +48,11 @@ module _ {M : Type 0} (f : M → Mark) (w : ℕ) where
   unfolding fitIn
   in-skipped r rs e = rw (e, fitIn)
 
-  in-given : (r : Row M) (rs : List (Row M)) → eqb w (r .letters) ≡ true → fitIn f w (r ∷ rs) ≡ Found (r .count) (f (r .mark))
+  in-given : (r : Row M) (rs : List (Row M)) → eqb w (r .letters) ≡ true → fitIn f w (r ∷ rs) ≡ Matched (r .count) (f (r .mark))
   unfolding fitIn
   in-given r rs e = rw (e, fitIn)
 
-  found-nothing : {n : ℕ} {m : Mark} (x : Fit) → x ≡ Found n m → x ≡ Nothing → ⊥
+  found-nothing : {n : ℕ} {m : Mark} (x : Fit) → x ≡ Matched n m → x ≡ Nothing → ⊥
   found-nothing x p q = let z : _≡_ {A = ℕ} 0 1 = cc in omega arith
 
   unfit-cons : (r : Row M) (rs : List (Row M)) (o at : ℕ) (ws : List ℕ) (b : Bool) → eqb w (r .letters) ≡ b → fitIn f w (r ∷ rs) ≡ Nothing → (fitIn f w rs ≡ Nothing → fit o w rs at ws ≡ refuse MarkMisplaced o) → fit o w (r ∷ rs) at ws ≡ refuse MarkMisplaced o
@@ -64,15 +64,15 @@ module _ {M : Type 0} (f : M → Mark) (w : ℕ) where
   unfit [] e o at ws = refl
   unfit (r ∷ rs) e o at ws = unfit-cons r rs o at ws (eqb w (r .letters)) refl e (λ e′. unfit rs e′ o at ws)
 
-  fitted-cons : (n : ℕ) (m : Mark) (r : Row M) (rs : List (Row M)) (b : Bool) → eqb w (r .letters) ≡ b → fitIn f w (r ∷ rs) ≡ Found n m → (fitIn f w rs ≡ Found n m → Fitting f w rs n m) → Fitting f w (r ∷ rs) n m
+  fitted-cons : (n : ℕ) (m : Mark) (r : Row M) (rs : List (Row M)) (b : Bool) → eqb w (r .letters) ≡ b → fitIn f w (r ∷ rs) ≡ Matched n m → (fitIn f w rs ≡ Matched n m → Fitting f w rs n m) → Fitting f w (r ∷ rs) n m
   fitted-cons n m r rs true q e ih =
-      let i : Found (r .count) (f (r .mark)) ≡ Found n m = sym (in-given r rs q) ∙ e in
+      let i : Matched (r .count) (f (r .mark)) ≡ Matched n m = sym (in-given r rs q) ∙ e in
       record { row = r; count-is = cc; mark-is = cc; fits = given r rs q }
   fitted-cons n m r rs false q e ih =
       let i = ih (sym (in-skipped r rs q) ∙ e) in
       record { row = i .row; count-is = i .count-is; mark-is = i .mark-is; fits = λ o at ws. ap (λ (g : ℕ → List ℕ → Outcome (Row M)). g at ws) (skipped r rs q o) ∙ i .fits o at ws }
 
-  pub fitted : (rows : List (Row M)) (n : ℕ) (m : Mark) → fitIn f w rows ≡ Found n m → Fitting f w rows n m
+  pub fitted : (rows : List (Row M)) (n : ℕ) (m : Mark) → fitIn f w rows ≡ Matched n m → Fitting f w rows n m
   unfolding fitIn
   fitted [] n m e = absurd (found-nothing Nothing e refl)
   fitted (r ∷ rs) n m e = fitted-cons n m r rs (eqb w (r .letters)) refl e (fitted rs n m)
@@ -112,7 +112,7 @@ module _ {M : Type 0} (rows : List (Row M)) (bs : List ℕ) (at : ℕ) where
   pub misplaced : (f : M → Mark) → at + 2 ≤ length bs → fitIn f letters rows ≡ Nothing → take-record rows at (unread bs at) ≡ refuse MarkMisplaced at
   misplaced f h e = marked h ∙ bind-refuse (fit at letters rows) (filled at) (at + 2) (unread bs (at + 2)) (unfit f letters rows e at (at + 2) (unread bs (at + 2)))
 
-  module _ (f : M → Mark) (n : ℕ) (m : Mark) (h : at + 2 ≤ length bs) (e : fitIn f letters rows ≡ Found n m) where
+  module _ (f : M → Mark) (n : ℕ) (m : Mark) (h : at + 2 ≤ length bs) (e : fitIn f letters rows ≡ Matched n m) where
     rowed : take-record rows at (unread bs at) ≡ filled at (fitted f letters rows n m e .row) (at + 2) (unread bs (at + 2))
     rowed =
         marked h

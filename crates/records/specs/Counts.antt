@@ -2,11 +2,11 @@
 use Prim.Native.Nat.{ℕ}
 use Rattle.records.specs.declared.Place.the-variants.{Formal, Declaration, Statement}
 use Rattle.records.specs.declared.marks.Fit.{Fit}
-use Rattle.records.specs.declared.marks.Fit.the-variants.{Found, Nothing}
+use Rattle.records.specs.declared.marks.Fit.the-variants.{Matched, Nothing}
 use Rattle.records.specs.Taking.{fitAt}
 
 abbrev pub countOr : Fit → ℕ → ℕ
-countOr (Found n m) d = n
+countOr (Matched n m) d = n
 countOr Nothing d = d
 
 -- of a block's mark too, which is a statement's; 0 for letters that are no mark

@@ -11,7 +11,7 @@ use Rattle.records.specs.declared.Mark.the-variants.{BK, VR, LB, PR, FM,
 use Rattle.records.specs.declared.Place.{Place}
 use Rattle.records.specs.declared.Place.the-variants.{Block, Formal, Declaration, Statement}
 use Rattle.records.specs.declared.marks.Fit.{Fit}
-use Rattle.records.specs.declared.marks.Fit.the-variants.{Found, Nothing}
+use Rattle.records.specs.declared.marks.Fit.the-variants.{Matched, Nothing}
 use Rattle.records.specs.declared.Reading.{Reading}
 use Rattle.records.specs.declared.Reading.the-variants.{Taken, Refused}
 use Rattle.records.specs.declared.Progress.{Progress}
@@ -50,7 +50,7 @@ bitOf Statement = 8
 -- the first row with these letters
 unfoldable pub fitIn : {M : Type 0} → (M → Mark) → ℕ → List (Row M) → Fit
 fitIn f w [] = Nothing
-fitIn f w (r ∷ rs) = elim (eqb w (r .letters)) [ true ↦ Found (r .count) (f (r .mark)) | false ↦ fitIn f w rs ]
+fitIn f w (r ∷ rs) = elim (eqb w (r .letters)) [ true ↦ Matched (r .count) (f (r .mark)) | false ↦ fitIn f w rs ]
 
 unfoldable pub fitAt : Place → ℕ → Fit
 fitAt Block w = fitIn (onlyMark BK) w blockMarks

@@ -154,7 +154,7 @@ const MARKS: [Entry; 13] = [
 ];
 
 pub enum Fit {
-    Found { count: u8, mark: Mark },
+    Matched { count: u8, mark: Mark },
     Nothing,
 }
 
@@ -182,7 +182,7 @@ pub fn find_mark(letters: u32, place: Place) -> Fit
         if e.places / bit % 2 == 1 {
             if e.letters == letters {
                 let mark = e.mark;
-                return Fit::Found {
+                return Fit::Matched {
                     count: e.count,
                     mark,
                 };
@@ -203,13 +203,13 @@ pub fn as_usize(x: u8) -> usize
 pub fn field_count(letters: u32) -> usize
     ensures { λ r. ⌜ (r ≡ fieldCount letters) × (r < 256) ⌝ }
 {
-    if let Fit::Found { count, .. } = find_mark(letters, Place::Statement) {
+    if let Fit::Matched { count, .. } = find_mark(letters, Place::Statement) {
         return as_usize(count);
     }
-    if let Fit::Found { count, .. } = find_mark(letters, Place::Declaration) {
+    if let Fit::Matched { count, .. } = find_mark(letters, Place::Declaration) {
         return as_usize(count);
     }
-    if let Fit::Found { count, .. } = find_mark(letters, Place::Formal) {
+    if let Fit::Matched { count, .. } = find_mark(letters, Place::Formal) {
         return as_usize(count);
     }
     0

@@ -18,7 +18,7 @@ fn take_record(script: &[u8], at: usize, place: Place) -> Reading
     requires { ⌜ at + 2 ≤ length (now script) ⌝ }
     ensures { λ r. ⌜ (r ≡ recordAt place (now (script .entry)) at) × Within (length (now (script .entry))) at r ⌝ }
 {
-    let Fit::Found { count, mark } = find_mark(field_at(script, at), place) else {
+    let Fit::Matched { count, mark } = find_mark(field_at(script, at), place) else {
         return Reading::Refused(Refusal::MarkMisplaced, at);
     };
     let from = at + 2;

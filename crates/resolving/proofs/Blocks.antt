@@ -11,7 +11,7 @@ use Rattle.grammar.specs.Rules.{FormedBlock}
 use Rattle.coordinates.specs.Enclosure.{enclosed, Enclosure}
 use Rattle.resolved.specs.Resolved.{endPlace, stmtPlace, headWord, boundsWord, header, nameWord, resolvedFormals, resolvedBlock, resolvedDecls, resolvedStmts}
 use Rattle.resolved.specs.Lengths.{formals-length, formals-fields}
-use Rattle.words.specs.Words.{wordAt}
+use Rattle.laws.specs.Fields.{fieldAt}
 use Rattle.symbols.proofs.Chains.{kept-from}
 use Rattle.extents.specs.Items.{itemsFields, inBlock, declared, stated}
 use Rattle.scoping.specs.Walking.{BlockHere}
@@ -27,7 +27,7 @@ use Rattle.resolving.proofs.Items.{stmts-resolved, decls-resolved}
 formals-place : (fs : List Formal) (at count : ℕ) → length fs ≡ count → at + 6 * count ≡ at + 2 * length (resolvedFormals fs)
 formals-place fs at count n = omega (arith, formals-length fs, formals-fields fs)
 
-module _ (bs : List ℕ) (name at count d base level : ℕ) (d-read : d ≡ wordAt bs (at + 6 * count + 2)) where
+module _ (bs : List ℕ) (name at count d base level : ℕ) (d-read : d ≡ fieldAt bs (at + 6 * count + 2)) where
   abbrev top : ℕ
   top = base + (count + d)
 
@@ -74,7 +74,7 @@ end-place : (bs : List ℕ) (at count top level : ℕ) (b : Block) (fs : List Fo
 unfolding endPlace blockAt FormedBlock
 end-place bs at count top level (block o ds ss) fs h = let e = h .formed .stands in omega arith
 
-module _ (bs es es₁ c c₁ c₂ c₃ : List ℕ) (name at count top base level first end d s : ℕ) (d-read : d ≡ wordAt bs (at + 6 * count + 2)) (s-read : s ≡ wordAt bs (at + 6 * count + 4)) (whole : base + (count + d) ≡ top)
+module _ (bs es es₁ c c₁ c₂ c₃ : List ℕ) (name at count top base level first end d s : ℕ) (d-read : d ≡ fieldAt bs (at + 6 * count + 2)) (s-read : s ≡ fieldAt bs (at + 6 * count + 4)) (whole : base + (count + d) ≡ top)
     (enters : Entered bs es es₁ name at count top base level c c₁) (leads : Leads bs es at count top level first)
     (walked : ItemsWritten bs es₁ name (at + 6 * count + 6) (d + s) base level c₁ c₂ end)
     (put : c₃ ≡ set c₂ ((at + 6 * count + 2) / 2) ((end / 2 + 65536 * (first / 2)) % 4294967296)) where

@@ -9,8 +9,7 @@ use Rattle.language.specs.Text.{Decls, no-decl, decl, Stmts, no-stmt, stmt, dec
 use Rattle.coordinates.specs.Enclosure.{Enclosure}
 use Rattle.resolved.specs.Resolved.{resolvedDecl, resolvedStmt, resolvedDecls, resolvedStmts}
 use Rattle.resolved.specs.Lengths.{decl-length, stmt-length}
-use Rattle.words.specs.Words.{Stands}
-use Rattle.words.proofs.Standing.{word-inside, stands-first, stands-second}
+use Rattle.laws.specs.Fields.{FieldsStand, field-inside, fields-first, fields-after}
 use Rattle.extents.specs.Items.{Item, formal, body, declared, stated, itemFields, itemsFields}
 use Rattle.extents.proofs.Inside.{item-opens, head-marked}
 use Rattle.scoping.specs.Walking.{FormedItem, FormedItems, ItemsHere, ItemHere}
@@ -72,12 +71,12 @@ module _ (bs es c₀ : List ℕ) (name at count top level : ℕ) (xs : List Item
 
     -- the next record begins inside the script, and is written
     module _ (more : i < count) where
-      head-inside : (l : List Item) → length l + i ≡ count → Stands bs here (itemsFields l) → length bs ≤ here → ⊥
+      head-inside : (l : List Item) → length l + i ≡ count → FieldsStand bs here (itemsFields l) → length bs ≤ here → ⊥
       unfolding itemsFields
       head-inside [] n h out = omega arith
       head-inside (y ∷ ys) n h out =
-          let f = stands-first bs here (itemFields y) (itemsFields ys) h in
-          word-inside bs here (head-marked bs here _ y (subst (Stands bs here) (item-opens y) f)) out
+          let f = fields-first bs here (itemFields y) (itemsFields ys) h in
+          field-inside bs here (head-marked bs here _ y (subst (FieldsStand bs here) (item-opens y) f)) out
 
       pub remaining-inside : (c : List ℕ) → Remaining bs c₀ c name at here i count top level xs encl s → length bs ≤ here → ⊥
       remaining-inside c r = head-inside (r .left) (r .number) (r .rest .stand)
@@ -94,7 +93,7 @@ module _ (bs es c₀ : List ℕ) (name at count top level : ℕ) (xs : List Item
             let long = length-append (itemFields y) (itemsFields ys) in
             let w = written y encl s
             (record {
-              here = record { stand = stands-first bs here (itemFields y) (itemsFields ys) (h .stand); formed = h .formed .0; room = h .room };
+              here = record { stand = fields-first bs here (itemFields y) (itemsFields ys) (h .stand); formed = h .formed .0; room = h .room };
               depth = is .depth;
               shown = subst (Shown encl) (sym same) (is .shown);
               within = omega (arith, is .within);
@@ -105,7 +104,7 @@ module _ (bs es c₀ : List ℕ) (name at count top level : ℕ) (xs : List Item
               number = omega arith;
               rest = record {
                 number = refl;
-                stand = subst (λ (o : ℕ). Stands bs o (itemsFields ys)) (sym e) (stands-second bs here (itemFields y) (itemsFields ys) (h .stand));
+                stand = subst (λ (o : ℕ). FieldsStand bs o (itemsFields ys)) (sym e) (fields-after bs here (itemFields y) (itemsFields ys) (h .stand));
                 formed = subst (λ (o : ℕ). FormedItems ys level s o) (sym e) (h .formed .1);
                 room = h .room;
               };

@@ -8,25 +8,24 @@ use lib.ListN.{length, set}
 use Rattle.language.specs.Text.{Formal}
 use Rattle.language.specs.Encoding.{kindField, formalsFields, FM-mark}
 use Rattle.resolved.specs.Resolved.{resolvedFormals}
-use Rattle.words.specs.Words.{wordAt, Stands}
-use Rattle.words.proofs.Standing.{stands-second, third-is}
+use Rattle.laws.specs.Fields.{fieldAt, FieldsStand, fields-after, fields-third}
 use Rattle.emitting.specs.Growth.{Grown}
 use Rattle.emitting.proofs.Growth.{grown-nothing, grown-zero, put-grows, grown-more}
 
 -- the formals still to come give all of them
 pub record Listing (bs c₀ c : List ℕ) (at i count : ℕ) (fs : List Formal) : Type 0 where
   pub left : List Formal
-  pub stand : Stands bs (at + 6 * i) (formalsFields left)
+  pub stand : FieldsStand bs (at + 6 * i) (formalsFields left)
   pub number : length left + i ≡ count
   pub on : (c′ : List ℕ) → Grown c c′ (at + 6 * i) (resolvedFormals left) → Grown c₀ c′ at (resolvedFormals fs)
 
 module _ (bs c₀ : List ℕ) (at count : ℕ) (fs : List Formal) where
-  pub listing-start : length fs ≡ count → Stands bs at (formalsFields fs) → Listing bs c₀ c₀ at 0 count fs
+  pub listing-start : length fs ≡ count → FieldsStand bs at (formalsFields fs) → Listing bs c₀ c₀ at 0 count fs
   listing-start n h =
       let e : at ≡ at + 6 * 0 = omega arith in
       record {
         left = fs;
-        stand = subst (λ (o : ℕ). Stands bs o (formalsFields fs)) e h;
+        stand = subst (λ (o : ℕ). FieldsStand bs o (formalsFields fs)) e h;
         number = omega arith;
         on = λ c′ g. subst (λ (o : ℕ). Grown c₀ c′ o (resolvedFormals fs)) (sym e) g;
       }
@@ -39,19 +38,19 @@ module _ (bs c₀ : List ℕ) (at count : ℕ) (fs : List Formal) where
       none [] n on = on c (grown-nothing c (at + 6 * i))
       none (y ∷ ys) n on = absurd (omega arith)
 
-  module _ (c c₁ : List ℕ) (i u : ℕ) (more : i < count) (below : u < 65536) (is : u ≡ wordAt bs (at + 6 * i + 4)) (put : c₁ ≡ set c ((at + 6 * i + 4) / 2) (u % 4294967296)) where
+  module _ (c c₁ : List ℕ) (i u : ℕ) (more : i < count) (below : u < 65536) (is : u ≡ fieldAt bs (at + 6 * i + 4)) (put : c₁ ≡ set c ((at + 6 * i + 4) / 2) (u % 4294967296)) where
     step :
-        (l : List Formal) → Stands bs (at + 6 * i) (formalsFields l) → length l + i ≡ count →
+        (l : List Formal) → FieldsStand bs (at + 6 * i) (formalsFields l) → length l + i ≡ count →
         ((c′ : List ℕ) → Grown c c′ (at + 6 * i) (resolvedFormals l) → Grown c₀ c′ at (resolvedFormals fs)) → Listing bs c₀ c₁ at (i + 1) count fs
     unfolding formalsFields resolvedFormals
     step [] h n on = absurd (omega arith)
     step (f ∷ l) h n on =
-        let third = third-is bs (at + 6 * i) FM-mark (f .name) (kindField (f .kind)) (formalsFields l) h in
+        let third = fields-third bs (at + 6 * i) FM-mark (f .name) (kindField (f .kind)) (formalsFields l) h in
         let six : at + 6 * i + 2 * 3 ≡ at + 6 * (i + 1) = omega arith in
         let k : u ≡ kindField (f .kind) = is ∙ third in
         record {
           left = l;
-          stand = subst (λ (o : ℕ). Stands bs o (formalsFields l)) six (stands-second bs (at + 6 * i) (FM-mark ∷ f .name ∷ kindField (f .kind) ∷ []) (formalsFields l) h);
+          stand = subst (λ (o : ℕ). FieldsStand bs o (formalsFields l)) six (fields-after bs (at + 6 * i) (FM-mark ∷ f .name ∷ kindField (f .kind) ∷ []) (formalsFields l) h);
           number = omega arith;
           on = λ c′ g. on c′
               (subst (λ (w : ℕ). Grown c c′ (at + 6 * i) (0 ∷ 0 ∷ w ∷ resolvedFormals l)) k

@@ -12,8 +12,7 @@ use Rattle.grammar.specs.Rules.{FormedBlock, FormedDecl, FormedStmt, FormedForm
 use Rattle.coordinates.specs.Enclosure.{Enclosure}
 use Rattle.resolved.specs.Resolved.{resolvedFormals, resolvedDecl, resolvedStmt, resolvedBlock}
 use Rattle.resolved.specs.Lengths.{formals-fields}
-use Rattle.words.specs.Words.{wordAt, Stands}
-use Rattle.words.proofs.Standing.{stands-first, stands-second, third-is}
+use Rattle.laws.specs.Fields.{fieldAt, FieldsStand, fields-first, fields-after, fields-third}
 use Rattle.extents.specs.Items.{Item, formal, body, declared, stated, itemFields, children}
 use Rattle.extents.specs.Passing.{Passed}
 use Rattle.extents.specs.declared.passing.Step.{Step}
@@ -26,7 +25,7 @@ use Rattle.resolving.specs.Resolving.{resolvedItem, BlockIs, ItemIs, Wri
 
 module _ (bs es : List ℕ) (name at top level : ℕ) (c c′ : List ℕ) where
   -- a procedure
-  module _ (marked : wordAt bs at ≡ PR-mark) (d : List ℕ) (named : Named bs (drop top es) at c d) (count : ℕ) (is : count ≡ wordAt bs (at + 4)) (r : ℕ)
+  module _ (marked : fieldAt bs at ≡ PR-mark) (d : List ℕ) (named : Named bs (drop top es) at c d) (count : ℕ) (is : count ≡ fieldAt bs (at + 4)) (r : ℕ)
       (written : BlockWritten bs es name (at + 6) count top (level + 1) d c′ r) where
     pub item-PR : ItemWritten bs es name at top level c c′ r
     unfolding resolvedItem resolvedDecl itemFields declFields stmtFields FormedItem FormedDecl
@@ -36,8 +35,8 @@ module _ (bs es : List ℕ) (name at top level : ℕ) (c c′ : List ℕ) where
     item-PR (declared (LB o n i)) encl s h = absurd (let e = h .here .stand .0 in omega arith)
     item-PR (declared (PR o n fs b)) encl s h =
         let stand = h .here .stand in
-        let third = third-is bs at PR-mark n (length fs) (formalsFields fs ++ blockFields b) stand in
-        let inner = stands-second bs at (PR-mark ∷ n ∷ length fs ∷ []) (formalsFields fs ++ blockFields b) stand in
+        let third = fields-third bs at PR-mark n (length fs) (formalsFields fs ++ blockFields b) stand in
+        let inner = fields-after bs at (PR-mark ∷ n ∷ length fs ∷ []) (formalsFields fs ++ blockFields b) stand in
         let long = formals-fields fs in
         let start : at + 6 + 2 * length (formalsFields fs) ≡ at + 6 + 6 * count = omega arith in
         let whole = length-append (formalsFields fs) (blockFields b) in
@@ -45,9 +44,9 @@ module _ (bs es : List ℕ) (name at top level : ℕ) (c c′ : List ℕ) where
         (record {
           here = record {
             number = sym (is ∙ third);
-            formals = stands-first bs (at + 6) (formalsFields fs) (blockFields b) inner;
+            formals = fields-first bs (at + 6) (formalsFields fs) (blockFields b) inner;
             named = h .here .formed .formals;
-            stand = subst (λ (k : ℕ). Stands bs k (blockFields b)) start (stands-second bs (at + 6) (formalsFields fs) (blockFields b) inner);
+            stand = subst (λ (k : ℕ). FieldsStand bs k (blockFields b)) start (fields-after bs (at + 6) (formalsFields fs) (blockFields b) inner);
             formed = subst (λ (k : ℕ). FormedBlock b k fs (at + 6 + 6 * count)) (sym (add-one level)) (subst (λ (k : ℕ). FormedBlock b (suc level) fs k) start (h .here .formed .body));
             room = omega (arith, h .here .room);
           };
@@ -63,7 +62,7 @@ module _ (bs es : List ℕ) (name at top level : ℕ) (c c′ : List ℕ) where
     item-PR (stated (DO o a)) encl s h = absurd (plain bs at a (h .here .stand) .no-PR marked)
 
   -- a block
-  module _ (marked : wordAt bs at ≡ BK-mark) (r : ℕ) (written : BlockWritten bs es name at 0 top (level + 1) c c′ r) where
+  module _ (marked : fieldAt bs at ≡ BK-mark) (r : ℕ) (written : BlockWritten bs es name at 0 top (level + 1) c c′ r) where
     pub item-BK : ItemWritten bs es name at top level c c′ r
     unfolding resolvedItem resolvedStmt itemFields declFields stmtFields FormedItem FormedStmt formalsFields FormedFormals resolvedFormals
     item-BK (formal f) encl s h = absurd (h .here .formed)
@@ -79,7 +78,7 @@ module _ (bs es : List ℕ) (name at top level : ℕ) (c c′ : List ℕ) where
             number = refl;
             formals = tt;
             named = tt;
-            stand = subst (λ (k : ℕ). Stands bs k (blockFields b)) start (h .here .stand);
+            stand = subst (λ (k : ℕ). FieldsStand bs k (blockFields b)) start (h .here .stand);
             formed = subst (λ (k : ℕ). FormedBlock b k [] (at + 6 * 0)) (sym (add-one level)) (subst (λ (k : ℕ). FormedBlock b (suc level) [] k) start (h .here .formed));
             room = omega (arith, h .here .room);
           };
@@ -90,7 +89,7 @@ module _ (bs es : List ℕ) (name at top level : ℕ) (c c′ : List ℕ) where
         record { ends = omega (arith, w .ends); grows = w .grows }
     item-BK (stated (DO o a)) encl s h = absurd (plain bs at a (h .here .stand) .no-BK marked)
 
-  pub item-VR : wordAt bs at ≡ VR-mark → Named bs (drop top es) at c c′ → ItemWritten bs es name at top level c c′ (at + 4)
+  pub item-VR : fieldAt bs at ≡ VR-mark → Named bs (drop top es) at c c′ → ItemWritten bs es name at top level c c′ (at + 4)
   unfolding resolvedItem resolvedDecl itemFields declFields stmtFields FormedItem
   item-VR marked named (formal f) encl s h = absurd (h .here .formed)
   item-VR marked named (body b) encl s h = absurd (h .here .formed)
@@ -100,7 +99,7 @@ module _ (bs es : List ℕ) (name at top level : ℕ) (c c′ : List ℕ) where
   item-VR marked named (stated (BK b)) encl s h = absurd (let e = block-mark bs at b (h .here .stand) in omega arith)
   item-VR marked named (stated (DO o a)) encl s h = absurd (plain bs at a (h .here .stand) .no-VR marked)
 
-  pub item-LB : wordAt bs at ≡ LB-mark → Named bs (drop top es) at c c′ → ItemWritten bs es name at top level c c′ (at + 6)
+  pub item-LB : fieldAt bs at ≡ LB-mark → Named bs (drop top es) at c c′ → ItemWritten bs es name at top level c c′ (at + 6)
   unfolding resolvedItem resolvedDecl itemFields declFields stmtFields FormedItem
   item-LB marked named (formal f) encl s h = absurd (h .here .formed)
   item-LB marked named (body b) encl s h = absurd (h .here .formed)
@@ -111,7 +110,7 @@ module _ (bs es : List ℕ) (name at top level : ℕ) (c c′ : List ℕ) where
   item-LB marked named (stated (BK b)) encl s h = absurd (let e = block-mark bs at b (h .here .stand) in omega arith)
   item-LB marked named (stated (DO o a)) encl s h = absurd (plain bs at a (h .here .stand) .no-LB marked)
 
-  module _ (no-PR : wordAt bs at ≡ PR-mark → ⊥) (no-BK : wordAt bs at ≡ BK-mark → ⊥) (no-VR : wordAt bs at ≡ VR-mark → ⊥) (no-LB : wordAt bs at ≡ LB-mark → ⊥)
+  module _ (no-PR : fieldAt bs at ≡ PR-mark → ⊥) (no-BK : fieldAt bs at ≡ BK-mark → ⊥) (no-VR : fieldAt bs at ≡ VR-mark → ⊥) (no-LB : fieldAt bs at ≡ LB-mark → ⊥)
       (p : Step) (q : Passed bs at p) (emitted : Emitted bs (drop top es) at c c′) where
     pub item-action : ItemWritten bs es name at top level c c′ (p .next)
     unfolding resolvedItem resolvedStmt itemFields declFields stmtFields FormedItem children

@@ -14,10 +14,8 @@ use Rattle.grammar.specs.Reading.{GotBlock, read-program}
 use Rattle.grammar.specs.Accepting.{accepted-read, accepted-keeps}
 use Rattle.resolved.specs.Resolved.{visibleWords, resolvedFormals, resolvedBlock, resolvedOf}
 use Rattle.resolved.specs.Lengths.{block-length}
-use Rattle.words.specs.Words.{Stands}
-use Rattle.words.proofs.Standing.{stands-first}
+use Rattle.laws.specs.Fields.{FieldsStand, fields-first, fields-stand}
 use Rattle.scoping.specs.Walking.{BlockHere}
-use Rattle.scoping.proofs.Whole.{stands-from}
 use Rattle.emitting.specs.Emitted.{Shown, entryOf}
 use Rattle.resolving.specs.Resolving.{BlockIs, BlockWritten, Resolved}
 
@@ -40,7 +38,7 @@ module _ (bs : List ℕ) (bytes : Bytes bs) (t : Block) (e : check bs ≡ accept
         number = refl;
         formals = tt;
         named = tt;
-        stand = stands-first bs 0 (blockFields t) [] (subst (Stands bs 0) (g .1 .step .text) (stands-from [] bs));
+        stand = fields-first bs 0 (blockFields t) [] (subst (FieldsStand bs 0) (g .1 .step .text) (fields-stand bs));
         formed = g .1 .formed;
         room = omega arith;
       }

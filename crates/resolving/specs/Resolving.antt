@@ -9,7 +9,7 @@ use Rattle.language.specs.Check.{accepted, check}
 use Rattle.coordinates.specs.Enclosure.{Enclosure, enclosed}
 use Rattle.resolved.specs.Resolved.{stmtPlace, headWord, nameWord, resolvedFormals, resolvedBlock, resolvedDecl, resolvedStmt, resolvedOf, Covers}
 use Rattle.resolved.specs.Lengths.{covers-front}
-use Rattle.words.specs.Words.{Stands}
+use Rattle.laws.specs.Fields.{FieldsStand}
 use Rattle.extents.specs.Items.{Item, formal, body, declared, stated, itemFields, itemsFields}
 use Rattle.scoping.specs.Walking.{BlockHere, ItemsHere, ItemHere}
 use Rattle.emitting.specs.Growth.{Grown}
@@ -53,7 +53,7 @@ pub record Written (code code′ : List ℕ) (at end r : ℕ) (ws : List ℕ) : 
 
 abbrev pub FormalsWritten : List ℕ → ℕ → ℕ → List ℕ → List ℕ → Type 0
 FormalsWritten bs at count code code′ =
-    (fs : List Formal) → length fs ≡ count → Stands bs at (formalsFields fs) → Grown code code′ at (resolvedFormals fs)
+    (fs : List Formal) → length fs ≡ count → FieldsStand bs at (formalsFields fs) → Grown code code′ at (resolvedFormals fs)
 
 -- a block's names are in the array, and its formals and its BK's words are written but for the second
 abbrev pub Entered : List ℕ → List ℕ → List ℕ → ℕ → ℕ → ℕ → ℕ → ℕ → ℕ → List ℕ → List ℕ → Type 0

@@ -17,7 +17,7 @@ ghost use mathlib.Core.Path.{_≡_};
 ghost use Prim.Native.Nat.{ℕ, _+_, _*_, _<_, _≤_};
 ghost use lib.ListN.{length, drop};
 ghost use Rattle.language.specs.Encoding.{BK-mark, PR-mark};
-ghost use Rattle.words.specs.Words.{wordAt};
+ghost use Rattle.laws.specs.Fields.{fieldAt};
 ghost use Rattle.symbols.specs.Chains.{Chained};
 ghost use Rattle.extents.specs.Passing.{Ends};
 ghost use Rattle.resolving.specs.Resolving.{FormalsWritten, Entered, Leads, BlockWritten, ItemsWritten, ItemWritten, Onward};
@@ -31,7 +31,7 @@ fn leaf(
     top: usize,
     mark: usize,
 ) -> usize
-    requires { ⌜ (length (now script) ≤ 8192) × (at < length (now script)) × Chained (now entries) top × (mark < 65536) × (mark ≡ wordAt (now script) at) × (mark ≡ PR-mark → ⊥) × (mark ≡ BK-mark → ⊥) ⌝ }
+    requires { ⌜ (length (now script) ≤ 8192) × (at < length (now script)) × Chained (now entries) top × (mark < 65536) × (mark ≡ fieldAt (now script) at) × (mark ≡ PR-mark → ⊥) × (mark ≡ BK-mark → ⊥) ⌝ }
     ensures written { λ r. ⌜ ((name level : ℕ) → ItemWritten (now (script .entry)) (now (entries .entry)) name at top level (now (code .entry)) (now (code .exit)) r) ⌝ }
     ensures onward { λ r. ⌜ Onward at (length (now (script .entry))) r ⌝ }
 {
@@ -75,7 +75,7 @@ fn enter(
     base: usize,
     level: usize,
 ) -> usize
-    requires { ⌜ (length (now script) ≤ 8192) × (at ≤ 200000) × (count < 65536) × (d ≡ wordAt (now script) (at + 6 * count + 2)) × (s ≡ wordAt (now script) (at + 6 * count + 4)) × (d < 65536) × (s < 65536) × (level ≤ 1000000) × (768 ≤ base) × (base + (count + d) ≤ 1280) × (2048 ≤ length (now starts)) × Chained (now entries) (base + (count + d)) × Ends (now script) (now ends) ⌝ }
+    requires { ⌜ (length (now script) ≤ 8192) × (at ≤ 200000) × (count < 65536) × (d ≡ fieldAt (now script) (at + 6 * count + 2)) × (s ≡ fieldAt (now script) (at + 6 * count + 4)) × (d < 65536) × (s < 65536) × (level ≤ 1000000) × (768 ≤ base) × (base + (count + d) ≤ 1280) × (2048 ≤ length (now starts)) × Chained (now entries) (base + (count + d)) × Ends (now script) (now ends) ⌝ }
     ensures entered { λ r. ⌜ Entered (now (script .entry)) (now (entries .entry)) (now (entries .exit)) name at count (base + (count + d)) base level (now (code .entry)) (now (code .exit)) ⌝ }
     ensures leads { λ r. ⌜ Leads (now (script .entry)) (now (entries .entry)) at count (base + (count + d)) level r ⌝ }
     ensures kept { λ r. ⌜ drop (base + (count + d)) (now (entries .exit)) ≡ drop (base + (count + d)) (now (entries .entry)) ⌝ }

@@ -6,7 +6,7 @@ use mathlib.Core.Option.{Option, none, some}
 use lib.ListN.{length}
 use Rattle.language.specs.Text.{blockDecls}
 use Rattle.language.specs.Machine.{State, Instance, instance}
-use Rattle.language.specs.Sheet.{Found, designator, lookedUp, lookedUpDesignator}
+use Rattle.language.specs.Sheet.{LookedUp, designator, lookedUp, lookedUpDesignator}
 use Rattle.laws.specs.Lists.{getElem-bound}
 use Rattle.laws.specs.Instances.{found-at}
 use Rattle.runs.specs.Names.{FitsState, block-names, instance-home}
@@ -35,6 +35,6 @@ pub lookedUp-most : (s : State) (n : ℕ) → FitsState s → lookedUpDesignator
 unfolding lookedUpDesignator
 lookedUp-most s n h = go (lookedUp s n)
   where
-    go : (o : Option Found) → elim o as (λ y. ℕ) [ none ↦ 0 | some f ↦ designator s (f .name) ] ≤ length (s .live) * 64 + 32
+    go : (o : Option LookedUp) → elim o as (λ y. ℕ) [ none ↦ 0 | some f ↦ designator s (f .name) ] ≤ length (s .live) * 64 + 32
     go none = omega arith
     go (some f) = designator-most s (f .name) h

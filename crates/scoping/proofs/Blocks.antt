@@ -16,19 +16,18 @@ use Rattle.language.specs.Scope as definitions
 use Rattle.records.specs.declared.Progress.{Progress}
 use Rattle.records.specs.declared.Progress.the-variants.{At, Refused}
 use Rattle.grammar.specs.Rules.{FormedBlock, FormedDecls, FormedStmts}
-use Rattle.words.specs.Words.{wordAt, Stands}
+use Rattle.laws.specs.Fields.{fieldAt, FieldsStand, field-inside, fields-first, fields-after, fields-third}
 use Rattle.uses.specs.Meanings.{scopeOf}
 use Rattle.extents.specs.Items.{Item, formal, declared, stated, itemFields, itemsFields, inBlock, blockHead, entriesOf}
 use Rattle.scoping.specs.Walking.{progressOf, judgeItem, judgeItems, FormedItem, FormedItems, Ahead, BlockHere, ItemsHere}
-use Rattle.words.proofs.Standing.{word-inside, stands-first, stands-second, third-is}
 use Rattle.extents.proofs.Inside.{items-append, block-opens, formal-items, decl-items}
 use Rattle.scoping.proofs.Names.{formals-mean, decls-mean}
 
-pub word-within : (bs : List ℕ) (at : ℕ) → 0 < wordAt bs at → at < length bs
+pub word-within : (bs : List ℕ) (at : ℕ) → 0 < fieldAt bs at → at < length bs
 word-within bs at p = go (leb (length bs) at) refl
   where
     go : (b : Bool) → leb (length bs) at ≡ b → at < length bs
-    go true e = absurd (word-inside bs at p (leb-true (length bs) at e))
+    go true e = absurd (field-inside bs at p (leb-true (length bs) at e))
     go false e = leb-false (length bs) at e
 
 pub ahead-from : (at o n : ℕ) (r : Progress) → at ≤ o → Ahead o n r → Ahead at n r
@@ -36,7 +35,7 @@ ahead-from at o n (At e) h a = (omega arith, a .1)
 ahead-from at o n (Refused c p) h a = tt
 
 -- declarations and statements as records
-then-assoc : (u v w : definitions.Verdict) → _then_ (_then_ u v) w ≡ _then_ u (_then_ v w)
+then-assoc : (u v w : definitions.Judgement) → _then_ (_then_ u v) w ≡ _then_ u (_then_ v w)
 unfolding _then_
 then-assoc fine v w = refl
 then-assoc (wrong c o) v w = refl
@@ -103,32 +102,32 @@ module _ (bs : List ℕ) (at count top : ℕ) where
   abbrev start : ℕ
   start = at + 6 * count
 
-  pub block-room : (b : Block) (fs : List Formal) (level : ℕ) → BlockHere bs at count top b fs level → 768 + (count + wordAt bs (start + 2)) ≤ top
+  pub block-room : (b : Block) (fs : List Formal) (level : ℕ) → BlockHere bs at count top b fs level → 768 + (count + fieldAt bs (start + 2)) ≤ top
   unfolding blockFields FormedBlock
   block-room (block o ds ss) fs level h = omega (arith, h .stand .1 .0, h .number, h .formed .few, h .formed .nesting, h .room)
 
   -- the block's records stand after its head
   module _ (o : ℕ) (ds : Decls) (ss : Stmts) (fs : List Formal) (level : ℕ) (h : BlockHere bs at count top (block o ds ss) fs level) where
-    opened : Stands bs start (blockHead (block o ds ss) ++ itemsFields (inBlock (block o ds ss)))
-    opened = subst (Stands bs start) (block-opens (block o ds ss)) (h .stand)
+    opened : FieldsStand bs start (blockHead (block o ds ss) ++ itemsFields (inBlock (block o ds ss)))
+    opened = subst (FieldsStand bs start) (block-opens (block o ds ss)) (h .stand)
 
-    body-stands : Stands bs (start + 6) (itemsFields (inBlock (block o ds ss)))
+    body-stands : FieldsStand bs (start + 6) (itemsFields (inBlock (block o ds ss)))
     unfolding blockHead
-    body-stands = stands-second bs start (blockHead (block o ds ss)) (itemsFields (inBlock (block o ds ss))) opened
+    body-stands = fields-after bs start (blockHead (block o ds ss)) (itemsFields (inBlock (block o ds ss))) opened
 
-    decls-stand : Stands bs (start + 6) (itemsFields (map declared (decls ds)))
+    decls-stand : FieldsStand bs (start + 6) (itemsFields (map declared (decls ds)))
     unfolding inBlock
     decls-stand =
-        stands-first bs (start + 6) (itemsFields (map declared (decls ds))) (itemsFields (map stated (stmts ss)))
-        (subst (Stands bs (start + 6)) (items-append (map declared (decls ds)) (map stated (stmts ss))) body-stands)
+        fields-first bs (start + 6) (itemsFields (map declared (decls ds))) (itemsFields (map stated (stmts ss)))
+        (subst (FieldsStand bs (start + 6)) (items-append (map declared (decls ds)) (map stated (stmts ss))) body-stands)
 
-    d-is : wordAt bs (start + 2) ≡ length (decls ds)
+    d-is : fieldAt bs (start + 2) ≡ length (decls ds)
     unfolding blockHead
     d-is = opened .1 .0
 
-    s-is : wordAt bs (start + 4) ≡ length (stmts ss)
+    s-is : fieldAt bs (start + 4) ≡ length (stmts ss)
     unfolding blockHead
-    s-is = third-is bs start BK-mark (length (decls ds)) (length (stmts ss)) (itemsFields (inBlock (block o ds ss))) opened
+    s-is = fields-third bs start BK-mark (length (decls ds)) (length (stmts ss)) (itemsFields (inBlock (block o ds ss))) opened
 
     counted : length (inBlock (block o ds ss)) ≡ length (decls ds) + length (stmts ss)
     unfolding inBlock
@@ -157,8 +156,8 @@ module _ (bs : List ℕ) (at count top : ℕ) where
     judged-block sc =
         sym (ap (_then_ (judgeDecls ds (inside fs ds sc))) (stmts-judged ss (inside fs ds sc)) ∙ decls-judged ds (map stated (stmts ss)) (inside fs ds sc))
 
-    formals-stand : Stands bs at (itemsFields (map formal fs))
-    formals-stand = subst (Stands bs at) (formal-items fs) (h .formals)
+    formals-stand : FieldsStand bs at (itemsFields (map formal fs))
+    formals-stand = subst (FieldsStand bs at) (formal-items fs) (h .formals)
 
     names-mean : (rest : List ℕ) → scopeOf bs (entriesOf bs (map formal fs) at ++ (entriesOf bs (map declared (decls ds)) (start + 6) ++ rest)) ≡ inside fs ds (scopeOf bs rest)
     unfolding inside
@@ -167,10 +166,10 @@ module _ (bs : List ℕ) (at count top : ℕ) where
         ∙ rw (
           scope-append bs (entriesOf bs (map declared (decls ds)) (start + 6)) rest,
           formals-mean bs at fs (h .formals) (h .named),
-          decls-mean bs (start + 6) level (length (stmts ss)) ds (subst (Stands bs (start + 6)) (sym (decl-items ds)) decls-stand) formed-in-place,
+          decls-mean bs (start + 6) level (length (stmts ss)) ds (subst (FieldsStand bs (start + 6)) (sym (decl-items ds)) decls-stand) formed-in-place,
         )
 
-    module _ (d s base : ℕ) (d-read : d ≡ wordAt bs (start + 2)) (s-read : s ≡ wordAt bs (start + 4)) (whole : base + (count + d) ≡ top) where
+    module _ (d s base : ℕ) (d-read : d ≡ fieldAt bs (start + 2)) (s-read : s ≡ fieldAt bs (start + 4)) (whole : base + (count + d) ≡ top) where
       pub items-here : ItemsHere bs (start + 6) (d + s) base (inBlock (block o ds ss)) level (length (stmts ss))
       items-here = record {
         number = omega (arith, counted, d-is, s-is);
@@ -180,8 +179,8 @@ module _ (bs : List ℕ) (at count top : ℕ) where
       }
 
       module _ (es₀ es₁ es₂ : List ℕ) (kept : drop (base + count) es₂ ≡ drop (base + count) es₁) (before : drop (base + count + d) es₁ ≡ drop (base + count + d) es₀)
-          (declared-there : (xs : List Item) → length xs ≡ d → Stands bs (start + 6) (itemsFields xs) → take d (drop (base + count) es₁) ≡ entriesOf bs xs (start + 6))
-          (formals-there : (xs : List Item) → length xs ≡ count → Stands bs at (itemsFields xs) → take count (drop base es₂) ≡ entriesOf bs xs at) where
+          (declared-there : (xs : List Item) → length xs ≡ d → FieldsStand bs (start + 6) (itemsFields xs) → take d (drop (base + count) es₁) ≡ entriesOf bs xs (start + 6))
+          (formals-there : (xs : List Item) → length xs ≡ count → FieldsStand bs at (itemsFields xs) → take count (drop base es₂) ≡ entriesOf bs xs at) where
         scope-is : scopeOf bs (drop base es₂) ≡ inside fs ds (scopeOf bs (drop top es₀))
         scope-is =
             ap (scopeOf bs) (stacked es₀ es₁ es₂ base count d top whole kept before)
@@ -195,13 +194,13 @@ module _ (bs : List ℕ) (at count top : ℕ) where
         judged-here r j =
             j (inBlock (block o ds ss)) level (length (stmts ss)) items-here
             ∙ ap (progressOf (judgeItems (inBlock (block o ds ss)) (scopeOf bs (drop base es₂)))) reaches
-            ∙ ap (λ (v : definitions.Verdict). progressOf v (start + 2 * length (blockFields (block o ds ss))))
+            ∙ ap (λ (v : definitions.Judgement). progressOf v (start + 2 * length (blockFields (block o ds ss))))
             (ap (judgeItems (inBlock (block o ds ss))) scope-is ∙ judged-block (scopeOf bs (drop top es₀)))
 
-  module _ (d s base : ℕ) (d-read : d ≡ wordAt bs (start + 2)) (s-read : s ≡ wordAt bs (start + 4)) (whole : base + (count + d) ≡ top)
+  module _ (d s base : ℕ) (d-read : d ≡ fieldAt bs (start + 2)) (s-read : s ≡ fieldAt bs (start + 4)) (whole : base + (count + d) ≡ top)
       (es₀ es₁ es₂ : List ℕ) (kept : drop (base + count) es₂ ≡ drop (base + count) es₁) (before : drop (base + count + d) es₁ ≡ drop (base + count + d) es₀)
-      (declared-there : (xs : List Item) → length xs ≡ d → Stands bs (start + 6) (itemsFields xs) → take d (drop (base + count) es₁) ≡ entriesOf bs xs (start + 6))
-      (formals-there : (xs : List Item) → length xs ≡ count → Stands bs at (itemsFields xs) → take count (drop base es₂) ≡ entriesOf bs xs at)
+      (declared-there : (xs : List Item) → length xs ≡ d → FieldsStand bs (start + 6) (itemsFields xs) → take d (drop (base + count) es₁) ≡ entriesOf bs xs (start + 6))
+      (formals-there : (xs : List Item) → length xs ≡ count → FieldsStand bs at (itemsFields xs) → take count (drop base es₂) ≡ entriesOf bs xs at)
       (r : Progress) (judged : (xs : List Item) (k n : ℕ) → ItemsHere bs (start + 6) (d + s) base xs k n → r ≡ progressOf (judgeItems xs (scopeOf bs (drop base es₂))) (start + 6 + 2 * length (itemsFields xs))) where
     pub block-judged : (b : Block) (fs : List Formal) (level : ℕ) → BlockHere bs at count top b fs level → r ≡ progressOf (judgeBlock b fs (scopeOf bs (drop top es₀))) (start + 2 * length (blockFields b))
     block-judged (block o ds ss) fs level h =

@@ -12,7 +12,7 @@ use Rattle.language.specs.Scope as definitions
 use Rattle.records.specs.declared.Progress.{Progress}
 use Rattle.records.specs.declared.Progress.the-variants.{At, Refused}
 use Rattle.grammar.specs.Rules.{FormedBlock, FormedDecl, FormedStmt, FormedFormals}
-use Rattle.words.specs.Words.{wordAt, Stands}
+use Rattle.laws.specs.Fields.{fieldAt, FieldsStand, fields-first, fields-after, fields-are, fields-third}
 use Rattle.uses.specs.Meanings.{verdictOf, pairJudged, tripleJudged}
 use Rattle.calls.specs.Calls.{shapeOf, judgedAs}
 use Rattle.extents.specs.Items.{Item, formal, body, declared, stated, itemFields, itemsFields, children, headFields}
@@ -22,37 +22,36 @@ use Rattle.extents.specs.declared.passing.Step.{Step}
 use Rattle.language.specs.declared.Verdict.{Verdict}
 use Rattle.language.specs.declared.Verdict.the-variants.{Fit}
 use Rattle.language.specs.declared.Verdict.the-variants as verdicts
-use Rattle.words.proofs.Standing.{stands-first, stands-second, stands-words, third-is}
 use Rattle.extents.proofs.Inside.{item-opens, head-size}
 
 -- the fourth and the fifth field
-fourth-is : (bs : List ℕ) (at a b c d : ℕ) (ws : List ℕ) → Stands bs at (a ∷ b ∷ c ∷ d ∷ ws) → wordAt bs (at + 6) ≡ d
-fourth-is bs at a b c d ws h = subst (λ (o : ℕ). wordAt bs o ≡ d) six (h .1 .1 .1 .0)
+fourth-is : (bs : List ℕ) (at a b c d : ℕ) (ws : List ℕ) → FieldsStand bs at (a ∷ b ∷ c ∷ d ∷ ws) → fieldAt bs (at + 6) ≡ d
+fourth-is bs at a b c d ws h = subst (λ (o : ℕ). fieldAt bs o ≡ d) six (h .1 .1 .1 .0)
   where
     six : at + 2 + 2 + 2 ≡ at + 6
     six = omega arith
 
-fifth-is : (bs : List ℕ) (at a b c d e : ℕ) (ws : List ℕ) → Stands bs at (a ∷ b ∷ c ∷ d ∷ e ∷ ws) → wordAt bs (at + 8) ≡ e
-fifth-is bs at a b c d e ws h = subst (λ (o : ℕ). wordAt bs o ≡ e) eight (h .1 .1 .1 .1 .0)
+fifth-is : (bs : List ℕ) (at a b c d e : ℕ) (ws : List ℕ) → FieldsStand bs at (a ∷ b ∷ c ∷ d ∷ e ∷ ws) → fieldAt bs (at + 8) ≡ e
+fifth-is bs at a b c d e ws h = subst (λ (o : ℕ). fieldAt bs o ≡ e) eight (h .1 .1 .1 .1 .0)
   where
     eight : at + 2 + 2 + 2 + 2 ≡ at + 8
     eight = omega arith
 
-pub judged-action : (bs : List ℕ) (sc : Scope) (at : ℕ) (a : Action) → Stands bs at (actionFields a) → judgedAs (shapeOf (wordAt bs at)) sc bs at ≡ judgeAction sc at a
+pub judged-action : (bs : List ℕ) (sc : Scope) (at : ℕ) (a : Action) → FieldsStand bs at (actionFields a) → judgedAs (shapeOf (fieldAt bs at)) sc bs at ≡ judgeAction sc at a
 unfolding judgedAs shapeOf judgeAction actionFields pairJudged tripleJudged
 judged-action bs sc at (CL p xs) h =
-    rw (h .0) (rw (h .1 .0, third-is bs at CL-mark p (length xs) xs h, stands-words bs (at + 6) xs (stands-second bs at (CL-mark ∷ p ∷ length xs ∷ []) xs h)))
+    rw (h .0) (rw (h .1 .0, fields-third bs at CL-mark p (length xs) xs h, fields-are bs (at + 6) xs (fields-after bs at (CL-mark ∷ p ∷ length xs ∷ []) xs h)))
 judged-action bs sc at (GO l) h = rw (h .0) (rw (h .1 .0))
-judged-action bs sc at (IF v l) h = rw (h .0) (rw (h .1 .0, third-is bs at IF-mark v l [] h))
+judged-action bs sc at (IF v l) h = rw (h .0) (rw (h .1 .0, fields-third bs at IF-mark v l [] h))
 judged-action bs sc at (KN t z) h = rw (h .0) (rw (h .1 .0))
 judged-action bs sc at (AR t o l r) h =
     rw (h .0) (rw (h .1 .0, fourth-is bs at AR-mark t (operationField o) l (r ∷ []) h, fifth-is bs at AR-mark t (operationField o) l r [] h))
-judged-action bs sc at (AD g m) h = rw (h .0) (rw (h .1 .0, third-is bs at AD-mark g m [] h))
-judged-action bs sc at (RM g m) h = rw (h .0) (rw (h .1 .0, third-is bs at RM-mark g m [] h))
+judged-action bs sc at (AD g m) h = rw (h .0) (rw (h .1 .0, fields-third bs at AD-mark g m [] h))
+judged-action bs sc at (RM g m) h = rw (h .0) (rw (h .1 .0, fields-third bs at RM-mark g m [] h))
 judged-action bs sc at (QY t g m) h =
-    rw (h .0) (rw (h .1 .0, third-is bs at QY-mark t g (m ∷ []) h, fourth-is bs at QY-mark t g m [] h))
+    rw (h .0) (rw (h .1 .0, fields-third bs at QY-mark t g (m ∷ []) h, fourth-is bs at QY-mark t g m [] h))
 
-pub onward-progress : (v : definitions.Verdict) (next : ℕ) → progressAfter (verdictOf v) next ≡ progressOf v next
+pub onward-progress : (v : definitions.Judgement) (next : ℕ) → progressAfter (verdictOf v) next ≡ progressOf v next
 unfolding progressAfter verdictOf progressOf
 onward-progress fine next = refl
 onward-progress (wrong c o) next = refl
@@ -64,7 +63,7 @@ pub record Plain (w : ℕ) : Type 0 where
   pub no-VR : w ≡ VR-mark → ⊥
   pub no-LB : w ≡ LB-mark → ⊥
 
-pub plain : (bs : List ℕ) (at : ℕ) (a : Action) → Stands bs at (actionFields a) → Plain (wordAt bs at)
+pub plain : (bs : List ℕ) (at : ℕ) (a : Action) → FieldsStand bs at (actionFields a) → Plain (fieldAt bs at)
 unfolding actionFields
 plain bs at (CL p xs) h = let e = h .0 in omega arith
 plain bs at (GO l) h = let e = h .0 in omega arith
@@ -75,7 +74,7 @@ plain bs at (AD g m) h = let e = h .0 in omega arith
 plain bs at (RM g m) h = let e = h .0 in omega arith
 plain bs at (QY t g m) h = let e = h .0 in omega arith
 
-pub block-mark : (bs : List ℕ) (at : ℕ) (b : Block) → Stands bs at (blockFields b) → wordAt bs at ≡ BK-mark
+pub block-mark : (bs : List ℕ) (at : ℕ) (b : Block) → FieldsStand bs at (blockFields b) → fieldAt bs at ≡ BK-mark
 unfolding blockFields
 block-mark bs at (block o ds ss) h = h .0
 
@@ -86,7 +85,7 @@ formals-length (f ∷ fs) = let e = formals-length fs in omega arith
 
 module _ (bs : List ℕ) (sc : Scope) (at top : ℕ) where
   -- a procedure
-  module _ (marked : wordAt bs at ≡ PR-mark) (count : ℕ) (is : count ≡ wordAt bs (at + 4)) (r : Progress) (judged : (b : Block) (fs : List Formal) (level : ℕ) → BlockHere bs (at + 6) count top b fs level → r ≡ progressOf (judgeBlock b fs sc) (at + 6 + 6 * count + 2 * length (blockFields b))) where
+  module _ (marked : fieldAt bs at ≡ PR-mark) (count : ℕ) (is : count ≡ fieldAt bs (at + 4)) (r : Progress) (judged : (b : Block) (fs : List Formal) (level : ℕ) → BlockHere bs (at + 6) count top b fs level → r ≡ progressOf (judgeBlock b fs sc) (at + 6 + 6 * count + 2 * length (blockFields b))) where
     pub item-PR : (x : Item) (level s : ℕ) → ItemHere bs at top x level s → r ≡ progressOf (judgeItem x sc) (at + 2 * length (itemFields x))
     unfolding judgeItem judgeDecl itemFields declFields stmtFields FormedItem FormedDecl
     item-PR (formal f) level s h = absurd (h .formed)
@@ -94,8 +93,8 @@ module _ (bs : List ℕ) (sc : Scope) (at top : ℕ) where
     item-PR (declared (VR o n)) level s h = absurd (let e = h .stand .0 in omega arith)
     item-PR (declared (LB o n i)) level s h = absurd (let e = h .stand .0 in omega arith)
     item-PR (declared (PR o n fs b)) level s h =
-        let third = third-is bs at PR-mark n (length fs) (formalsFields fs ++ blockFields b) (h .stand) in
-        let inner = stands-second bs at (PR-mark ∷ n ∷ length fs ∷ []) (formalsFields fs ++ blockFields b) (h .stand) in
+        let third = fields-third bs at PR-mark n (length fs) (formalsFields fs ++ blockFields b) (h .stand) in
+        let inner = fields-after bs at (PR-mark ∷ n ∷ length fs ∷ []) (formalsFields fs ++ blockFields b) (h .stand) in
         let long = formals-length fs in
         let start : at + 6 + 2 * length (formalsFields fs) ≡ at + 6 + 6 * count = omega arith in
         let whole = length-append (formalsFields fs) (blockFields b) in
@@ -103,9 +102,9 @@ module _ (bs : List ℕ) (sc : Scope) (at top : ℕ) where
         judged b fs (suc level)
         (record {
           number = sym (is ∙ third);
-          formals = stands-first bs (at + 6) (formalsFields fs) (blockFields b) inner;
+          formals = fields-first bs (at + 6) (formalsFields fs) (blockFields b) inner;
           named = h .formed .formals;
-          stand = subst (λ (k : ℕ). Stands bs k (blockFields b)) start (stands-second bs (at + 6) (formalsFields fs) (blockFields b) inner);
+          stand = subst (λ (k : ℕ). FieldsStand bs k (blockFields b)) start (fields-after bs (at + 6) (formalsFields fs) (blockFields b) inner);
           formed = subst (λ (k : ℕ). FormedBlock b (suc level) fs k) start (h .formed .body);
           room = omega (arith, h .room);
         })
@@ -114,7 +113,7 @@ module _ (bs : List ℕ) (sc : Scope) (at top : ℕ) where
     item-PR (stated (DO o a)) level s h = absurd (plain bs at a (h .stand) .no-PR marked)
 
   -- a block
-  module _ (marked : wordAt bs at ≡ BK-mark) (r : Progress) (judged : (b : Block) (fs : List Formal) (level : ℕ) → BlockHere bs at 0 top b fs level → r ≡ progressOf (judgeBlock b fs sc) (at + 6 * 0 + 2 * length (blockFields b))) where
+  module _ (marked : fieldAt bs at ≡ BK-mark) (r : Progress) (judged : (b : Block) (fs : List Formal) (level : ℕ) → BlockHere bs at 0 top b fs level → r ≡ progressOf (judgeBlock b fs sc) (at + 6 * 0 + 2 * length (blockFields b))) where
     pub item-BK : (x : Item) (level s : ℕ) → ItemHere bs at top x level s → r ≡ progressOf (judgeItem x sc) (at + 2 * length (itemFields x))
     unfolding judgeItem judgeStmt itemFields declFields stmtFields FormedItem FormedStmt formalsFields FormedFormals
     item-BK (formal f) level s h = absurd (h .formed)
@@ -129,7 +128,7 @@ module _ (bs : List ℕ) (sc : Scope) (at top : ℕ) where
           number = refl;
           formals = tt;
           named = tt;
-          stand = subst (λ (k : ℕ). Stands bs k (blockFields b)) start (h .stand);
+          stand = subst (λ (k : ℕ). FieldsStand bs k (blockFields b)) start (h .stand);
           formed = subst (λ (k : ℕ). FormedBlock b (suc level) [] k) start (h .formed);
           room = omega (arith, h .room);
         })
@@ -137,14 +136,14 @@ module _ (bs : List ℕ) (sc : Scope) (at top : ℕ) where
     item-BK (stated (DO o a)) level s h = absurd (plain bs at a (h .stand) .no-BK marked)
 
   -- where the next record begins, after one with nothing inside it
-  pub alone : (p : Step) → Passed bs at p → (x : Item) → children x ≡ [] → Stands bs at (itemFields x) → p .next ≡ at + 2 * length (itemFields x)
+  pub alone : (p : Step) → Passed bs at p → (x : Item) → children x ≡ [] → FieldsStand bs at (itemFields x) → p .next ≡ at + 2 * length (itemFields x)
   unfolding itemsFields
   alone p q x none h =
       let e : itemFields x ≡ headFields x ++ [] = item-opens x ∙ ap (λ (l : List Item). headFields x ++ itemsFields l) none in
-      q .next-is ∙ ap (λ (k : ℕ). at + k) (head-size bs at [] x (subst (Stands bs at) e h) ∙ ap (λ (l : List ℕ). 2 * length l) (sym (e ∙ append-nil (headFields x))))
+      q .next-is ∙ ap (λ (k : ℕ). at + k) (head-size bs at [] x (subst (FieldsStand bs at) e h) ∙ ap (λ (l : List ℕ). 2 * length l) (sym (e ∙ append-nil (headFields x))))
 
   module _ (p : Step) (q : Passed bs at p) where
-    pub item-VR : wordAt bs at ≡ VR-mark → (x : Item) (level s : ℕ) → ItemHere bs at top x level s → At (p .next) ≡ progressOf (judgeItem x sc) (at + 2 * length (itemFields x))
+    pub item-VR : fieldAt bs at ≡ VR-mark → (x : Item) (level s : ℕ) → ItemHere bs at top x level s → At (p .next) ≡ progressOf (judgeItem x sc) (at + 2 * length (itemFields x))
     unfolding judgeItem judgeDecl itemFields declFields stmtFields FormedItem progressOf children
     item-VR marked (formal f) level s h = absurd (h .formed)
     item-VR marked (body b) level s h = absurd (h .formed)
@@ -154,7 +153,7 @@ module _ (bs : List ℕ) (sc : Scope) (at top : ℕ) where
     item-VR marked (stated (BK b)) level s h = absurd (let e = block-mark bs at b (h .stand) in omega arith)
     item-VR marked (stated (DO o a)) level s h = absurd (plain bs at a (h .stand) .no-VR marked)
 
-    pub item-LB : wordAt bs at ≡ LB-mark → (x : Item) (level s : ℕ) → ItemHere bs at top x level s → At (p .next) ≡ progressOf (judgeItem x sc) (at + 2 * length (itemFields x))
+    pub item-LB : fieldAt bs at ≡ LB-mark → (x : Item) (level s : ℕ) → ItemHere bs at top x level s → At (p .next) ≡ progressOf (judgeItem x sc) (at + 2 * length (itemFields x))
     unfolding judgeItem judgeDecl itemFields declFields stmtFields FormedItem progressOf children
     item-LB marked (formal f) level s h = absurd (h .formed)
     item-LB marked (body b) level s h = absurd (h .formed)
@@ -164,7 +163,7 @@ module _ (bs : List ℕ) (sc : Scope) (at top : ℕ) where
     item-LB marked (stated (BK b)) level s h = absurd (let e = block-mark bs at b (h .stand) in omega arith)
     item-LB marked (stated (DO o a)) level s h = absurd (plain bs at a (h .stand) .no-LB marked)
 
-    module _ (no-PR : wordAt bs at ≡ PR-mark → ⊥) (no-BK : wordAt bs at ≡ BK-mark → ⊥) (no-VR : wordAt bs at ≡ VR-mark → ⊥) (no-LB : wordAt bs at ≡ LB-mark → ⊥) (v : Verdict) (is : v ≡ verdictOf (judgedAs (shapeOf (wordAt bs at)) sc bs at)) where
+    module _ (no-PR : fieldAt bs at ≡ PR-mark → ⊥) (no-BK : fieldAt bs at ≡ BK-mark → ⊥) (no-VR : fieldAt bs at ≡ VR-mark → ⊥) (no-LB : fieldAt bs at ≡ LB-mark → ⊥) (v : Verdict) (is : v ≡ verdictOf (judgedAs (shapeOf (fieldAt bs at)) sc bs at)) where
       pub item-action : (x : Item) (level s : ℕ) → ItemHere bs at top x level s → progressAfter v (p .next) ≡ progressOf (judgeItem x sc) (at + 2 * length (itemFields x))
       unfolding judgeItem judgeStmt itemFields declFields stmtFields FormedItem FormedStmt children
       item-action (formal f) level s h = absurd (h .formed)

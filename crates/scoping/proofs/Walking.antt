@@ -11,19 +11,18 @@ use Rattle.language.specs.declared.Refusal.{Refusal}
 use Rattle.records.specs.declared.Progress.{Progress}
 use Rattle.records.specs.declared.Progress.the-variants.{At, Refused}
 use Rattle.uses.specs.Meanings.{scopeOf}
-use Rattle.words.specs.Words.{Stands}
+use Rattle.laws.specs.Fields.{FieldsStand, field-inside, fields-first, fields-after}
 use Rattle.extents.specs.Items.{Item, itemFields, itemsFields}
 use Rattle.scoping.specs.Walking.{progressOf, judgeItem, judgeItems, FormedItems, ItemsHere, ItemHere}
-use Rattle.words.proofs.Standing.{word-inside, stands-first, stands-second}
 use Rattle.extents.proofs.Inside.{item-opens, head-marked}
 
 -- a verdict, then another: where the first refuses, and where it does not
-stops : (r : Progress) (v w : definitions.Verdict) (c : Refusal) (o e e′ : ℕ) → r ≡ progressOf v e → r ≡ Refused c o → r ≡ progressOf (_then_ v w) e′
+stops : (r : Progress) (v w : definitions.Judgement) (c : Refusal) (o e e′ : ℕ) → r ≡ progressOf v e → r ≡ Refused c o → r ≡ progressOf (_then_ v w) e′
 unfolding progressOf _then_
 stops r fine w c o e e′ p q = absurd (let z : _≡_ {A = ℕ} 0 1 = cc in omega arith)
 stops r (wrong d n) w c o e e′ p q = p
 
-goes : (r : Progress) (v w : definitions.Verdict) (next e e′ : ℕ) → r ≡ progressOf v e → r ≡ At next → (next ≡ e) × (progressOf w e′ ≡ progressOf (_then_ v w) e′)
+goes : (r : Progress) (v w : definitions.Judgement) (next e e′ : ℕ) → r ≡ progressOf v e → r ≡ At next → (next ≡ e) × (progressOf w e′ ≡ progressOf (_then_ v w) e′)
 unfolding progressOf _then_
 goes r fine w next e e′ p q = (cc, refl)
 goes r (wrong d n) w next e e′ p q = absurd (let z : _≡_ {A = ℕ} 0 1 = cc in omega arith)
@@ -61,12 +60,12 @@ module _ (bs es : List ℕ) (at count top : ℕ) (xs : List Item) (level s : ℕ
 
     -- the next record: it begins inside the script, and is judged
     module _ (more : i < count) where
-      head-inside : (l : List Item) → length l + i ≡ count → Stands bs here (itemsFields l) → length bs ≤ here → ⊥
+      head-inside : (l : List Item) → length l + i ≡ count → FieldsStand bs here (itemsFields l) → length bs ≤ here → ⊥
       unfolding itemsFields
       head-inside [] n h out = omega arith
       head-inside (y ∷ ys) n h out =
-          let f = stands-first bs here (itemFields y) (itemsFields ys) h in
-          word-inside bs here (head-marked bs here _ y (subst (Stands bs here) (item-opens y) f)) out
+          let f = fields-first bs here (itemFields y) (itemsFields ys) h in
+          field-inside bs here (head-marked bs here _ y (subst (FieldsStand bs here) (item-opens y) f)) out
 
       pub remaining-inside : Remaining bs es at here i count top xs level s → length bs ≤ here → ⊥
       remaining-inside r = head-inside (r .left) (r .number) (r .rest .stand)
@@ -77,7 +76,7 @@ module _ (bs es : List ℕ) (at count top : ℕ) (xs : List Item) (level s : ℕ
         stop-at c o q [] n h v = absurd (omega arith)
         stop-at c o q (y ∷ ys) n h v =
             stops r (judgeItem y (scopeOf bs (drop top es))) (judgeItems ys (scopeOf bs (drop top es))) c o _ _
-            (judged y level s (record { stand = stands-first bs here (itemFields y) (itemsFields ys) (h .stand); formed = h .formed .0; room = h .room })) q
+            (judged y level s (record { stand = fields-first bs here (itemFields y) (itemsFields ys) (h .stand); formed = h .formed .0; room = h .room })) q
             ∙ v
 
         pub remaining-stop : (c : Refusal) (o : ℕ) → r ≡ Refused c o → Remaining bs es at here i count top xs level s → r ≡ answer
@@ -88,7 +87,7 @@ module _ (bs es : List ℕ) (at count top : ℕ) (xs : List Item) (level s : ℕ
         go-on next q [] n h v = absurd (omega arith)
         go-on next q (y ∷ ys) n h v =
             let sc = scopeOf bs (drop top es) in
-            let j = judged y level s (record { stand = stands-first bs here (itemFields y) (itemsFields ys) (h .stand); formed = h .formed .0; room = h .room }) in
+            let j = judged y level s (record { stand = fields-first bs here (itemFields y) (itemsFields ys) (h .stand); formed = h .formed .0; room = h .room }) in
             let end = here + 2 * length (itemFields y ++ itemsFields ys) in
             let g = goes r (judgeItem y sc) (judgeItems ys sc) next (here + 2 * length (itemFields y)) end j q in
             let e : here + 2 * length (itemFields y) + 2 * length (itemsFields ys) ≡ end = omega (arith, length-append (itemFields y) (itemsFields ys)) in
@@ -97,7 +96,7 @@ module _ (bs es : List ℕ) (at count top : ℕ) (xs : List Item) (level s : ℕ
               number = omega arith;
               rest = record {
                 number = refl;
-                stand = subst (λ (o : ℕ). Stands bs o (itemsFields ys)) (sym (g .0)) (stands-second bs here (itemFields y) (itemsFields ys) (h .stand));
+                stand = subst (λ (o : ℕ). FieldsStand bs o (itemsFields ys)) (sym (g .0)) (fields-after bs here (itemFields y) (itemsFields ys) (h .stand));
                 formed = subst (λ (o : ℕ). FormedItems ys level s o) (sym (g .0)) (h .formed .1);
                 room = h .room;
               };

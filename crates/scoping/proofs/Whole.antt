@@ -1,11 +1,10 @@
 -- A script that the definitions read whole: its tree stands in its bytes from the start.
 -- Assumes nothing.
 use mathlib.Core.Path.{_≡_, refl, sym, _∙_, ap, subst}
-use mathlib.Core.List.{List, [], _∷_, _++_, append-assoc}
+use mathlib.Core.List.{List, [], _∷_}
 use Prim.Native.Nat.{ℕ, suc, _+_, _*_, _<_, _≤_}
 use native.Mathlib.Omega.{arith}
-use lib.ListN.{length, getD, drop, length-append, drop-of-length-le}
-use lib.Seq.{getD-append-seam, getD-append-add}
+use lib.ListN.{length, getD, drop, drop-of-length-le}
 use Rattle.language.specs.Text.{Formal, Block}
 use Rattle.language.specs.Encoding.{blockFields, formalsFields, fieldsOf}
 use Rattle.language.specs.Structure.{Reading, read, refuse, program}
@@ -16,27 +15,16 @@ use Rattle.grammar.specs.Rules.{Bytes, FormedFormals}
 use Rattle.grammar.specs.Readers.{Yields}
 use Rattle.grammar.specs.Words.{fields-are-names}
 use Rattle.grammar.specs.Reading.{GotBlock, read-program}
-use Rattle.words.specs.Words.{wordAt, Stands}
+use Rattle.laws.specs.Fields.{FieldsStand, fields-first, fields-stand}
 use Rattle.uses.specs.Meanings.{scopeOf, verdictOf}
 use Rattle.scoping.specs.Walking.{progressOf, settledOf, Judged, BlockHere}
 use Rattle.language.specs.declared.Verdict.{Verdict}
-use Rattle.words.proofs.Standing.{stands-first}
-
-pub stands-from : (front bs : List ℕ) → Stands (front ++ bs) (length front) (fieldsOf bs)
-unfolding fieldsOf wordAt
-stands-from front [] = tt
-stands-from front (a ∷ []) = tt
-stands-from front (a ∷ b ∷ bs) = (
-  rw (getD-append-seam front a (b ∷ bs) 0, getD-append-add front (a ∷ b ∷ bs) 1 0),
-  subst (λ (l : List ℕ). Stands l (length front + 2) (fieldsOf bs)) (append-assoc front (a ∷ b ∷ []) bs)
-      (subst (λ (k : ℕ). Stands ((front ++ (a ∷ b ∷ [])) ++ bs) k (fieldsOf bs)) (length-append front (a ∷ b ∷ [])) (stands-from (front ++ (a ∷ b ∷ [])) bs)),
-)
 
 pub bytes-are : (bs : List ℕ) → ((i : ℕ) → getD bs i 0 < 256) → Bytes bs
 bytes-are [] h = tt
 bytes-are (b ∷ bs) h = (h 0, bytes-are bs (λ i. h (suc i)))
 
-settled-verdict : (v : definitions.Verdict) (end : ℕ) → settledOf (progressOf v end) ≡ verdictOf v
+settled-verdict : (v : definitions.Judgement) (end : ℕ) → settledOf (progressOf v end) ≡ verdictOf v
 unfolding settledOf progressOf verdictOf
 settled-verdict fine end = refl
 settled-verdict (wrong c o) end = refl
@@ -52,7 +40,7 @@ module _ (bs : List ℕ) (bytes : Bytes bs) (es : List ℕ) (long : length es �
     number = refl;
     formals = tt;
     named = tt;
-    stand = stands-first bs 0 (blockFields t) [] (subst (Stands bs 0) (g .step .text) (stands-from [] bs));
+    stand = fields-first bs 0 (blockFields t) [] (subst (FieldsStand bs 0) (g .step .text) (fields-stand bs));
     formed = g .formed;
     room = omega arith;
   }

@@ -12,14 +12,14 @@ use Rattle.records.specs.declared.Progress.{Progress}
 use Rattle.records.specs.declared.Progress.the-variants.{At, Refused}
 use Rattle.grammar.specs.Rules.{FormedFormals, FormedBlock, FormedDecl, FormedStmt}
 use Rattle.uses.specs.Meanings.{verdictOf, scopeFrom}
-use Rattle.words.specs.Words.{Stands}
+use Rattle.laws.specs.Fields.{FieldsStand}
 use Rattle.extents.specs.Items.{Item, formal, body, declared, stated, itemFields, itemsFields}
 use Rattle.language.specs.declared.Verdict.{Verdict}
 use Rattle.language.specs.declared.Verdict.the-variants.{Fit}
 use Rattle.language.specs.declared.Verdict.the-variants as verdicts
 
 -- a verdict, with where the walk goes on
-unfoldable pub progressOf : definitions.Verdict → ℕ → Progress
+unfoldable pub progressOf : definitions.Judgement → ℕ → Progress
 progressOf fine end = At end
 progressOf (wrong c o) end = Refused c o
 
@@ -33,13 +33,13 @@ Ahead at n (At end) = (at ≤ end) × (end ≤ n + 131076)
 Ahead at n (Refused c o) = Unit {0}
 
 -- declarations and statements
-unfoldable pub judgeItem : Item → Scope → definitions.Verdict
+unfoldable pub judgeItem : Item → Scope → definitions.Judgement
 judgeItem (formal f) sc = fine
 judgeItem (body b) sc = fine
 judgeItem (declared d) sc = judgeDecl d sc
 judgeItem (stated s) sc = judgeStmt s sc
 
-unfoldable pub judgeItems : List Item → Scope → definitions.Verdict
+unfoldable pub judgeItems : List Item → Scope → definitions.Judgement
 judgeItems [] sc = fine
 judgeItems (x ∷ xs) sc = _then_ (judgeItem x sc) (judgeItems xs sc)
 
@@ -56,21 +56,21 @@ FormedItems (x ∷ xs) level s here = FormedItem x level s here × FormedItems x
 -- so many formals stand at an offset, and their block after them; 32 entries are free for each level left
 pub record BlockHere (bs : List ℕ) (at count top : ℕ) (b : Block) (fs : List Formal) (level : ℕ) : Type 0 where
   pub number : length fs ≡ count
-  pub formals : Stands bs at (formalsFields fs)
+  pub formals : FieldsStand bs at (formalsFields fs)
   pub named : FormedFormals fs at
-  pub stand : Stands bs (at + 6 * count) (blockFields b)
+  pub stand : FieldsStand bs (at + 6 * count) (blockFields b)
   pub formed : FormedBlock b level fs (at + 6 * count)
   pub room : 1312 ≤ top + 32 * level
 
 -- records of a block with s statements
 pub record ItemsHere (bs : List ℕ) (at count top : ℕ) (xs : List Item) (level s : ℕ) : Type 0 where
   pub number : length xs ≡ count
-  pub stand : Stands bs at (itemsFields xs)
+  pub stand : FieldsStand bs at (itemsFields xs)
   pub formed : FormedItems xs level s at
   pub room : 1280 ≤ top + 32 * level
 
 pub record ItemHere (bs : List ℕ) (at top : ℕ) (x : Item) (level s : ℕ) : Type 0 where
-  pub stand : Stands bs at (itemFields x)
+  pub stand : FieldsStand bs at (itemFields x)
   pub formed : FormedItem x level s at
   pub room : 1280 ≤ top + 32 * level
 

@@ -8,8 +8,8 @@ use lib.ListN.{length, getD, drop, drop-of-length-le}
 use lib.Seq.{drop-cons}
 use borrow.Author.Tests.{eq-eqb, ne-eqb}
 use Rattle.symbols.specs.Entries.{foundIn, Near}
-use Rattle.symbols.specs.declared.Found.{Found}
-use Rattle.symbols.specs.declared.Found.the-variants.{At, Nothing}
+use Rattle.symbols.specs.declared.Binding.{Binding}
+use Rattle.symbols.specs.declared.Binding.the-variants.{At, Nothing}
 
 -- the entries from i on
 pub found-at : (n : ℕ) (es : List ℕ) (i : ℕ) → i < length es → getD es i 0 % 65536 ≡ n → foundIn n (drop i es) ≡ At (getD es i 0 / 65536)
@@ -24,5 +24,5 @@ pub found-none : (n : ℕ) (es : List ℕ) (i : ℕ) → length es ≤ i → fou
 unfolding foundIn
 found-none n es i h = rw (drop-of-length-le es h)
 
-pub near-place : (r : Found) (place : ℕ) → r ≡ At place → Near r → place < 2 ^ 48
+pub near-place : (r : Binding) (place : ℕ) → r ≡ At place → Near r → place < 2 ^ 48
 near-place r place e h = rw e at h

@@ -3,14 +3,14 @@ use Prim.Native.Nat.{ℕ, _/_, _%_, _<_, _^_}
 use mathlib.Core.Bool.{true, false}
 use mathlib.Core.List.{List, [], _∷_}
 use lib.Dec.{eqb}
-use Rattle.symbols.specs.declared.Found.{Found}
-use Rattle.symbols.specs.declared.Found.the-variants.{At, Nothing}
+use Rattle.symbols.specs.declared.Binding.{Binding}
+use Rattle.symbols.specs.declared.Binding.the-variants.{At, Nothing}
 
 -- what the first entry with a name keeps of it
-unfoldable pub foundIn : ℕ → List ℕ → Found
+unfoldable pub foundIn : ℕ → List ℕ → Binding
 foundIn n [] = Nothing
 foundIn n (e ∷ es) = elim (eqb n (e % 65536)) [ true ↦ At (e / 65536) | false ↦ foundIn n es ]
 
-abbrev pub Near : Found → Type 0
+abbrev pub Near : Binding → Type 0
 Near (At place) = place < 2 ^ 48
 Near Nothing = Unit {0}

@@ -8,7 +8,7 @@ ghost use Rattle.symbols.specs.Entries.{foundIn, Near};
 ghost use Rattle.symbols.specs.Chains.{Chained};
 
 // What is kept of a name.
-pub enum Found {
+pub enum Binding {
     At(usize),
     Nothing,
 }
@@ -37,7 +37,7 @@ fn after(entries: &[usize], top: usize, at: usize, name: usize) -> usize
 }
 
 // What the first entry from `top` on with a name keeps of it.
-pub fn find(entries: &[usize], top: usize, name: usize) -> Found
+pub fn find(entries: &[usize], top: usize, name: usize) -> Binding
     requires { ⌜ Chained (now entries) top ⌝ }
     ensures { λ r. ⌜ (r ≡ foundIn name (drop top (now (entries .entry)))) × Near r ⌝ }
 {
@@ -45,11 +45,11 @@ pub fn find(entries: &[usize], top: usize, name: usize) -> Found
     while i < entries.len() {
         let e = entries[i];
         if e % 65536 == name {
-            return Found::At(e / 65536);
+            return Binding::At(e / 65536);
         }
         i = after(entries, top, i, name);
     }
-    Found::Nothing
+    Binding::Nothing
 }
 
 fn later(i: usize, at: usize) -> usize

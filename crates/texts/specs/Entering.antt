@@ -23,8 +23,8 @@ use Rattle.texts.specs.Renewing.{Inside, Enters, reading-plain, reading-
 use Rattle.texts.specs.Stacks.{SameActivations, OneMore, activation-before, frame-before, by-index}
 
 -- the text of one activation, with the frame beside it
-abbrev Stands : List ℕ → ℕ → List ℕ → List ℕ → ℕ → Activation → Frame → Type 0
-Stands area width names fields k a f =
+abbrev TextStands : List ℕ → ℕ → List ℕ → List ℕ → ℕ → Activation → Frame → Type 0
+TextStands area width names fields k a f =
     (q : ℕ) → placeOf (blockAt (f .text)) ≤ q → q < endPlace (f .text) → getD area (k * width + q) 0 ≡ reading (a .reads) (getD names q 0) (getD fields q 0)
 
 -- The words of a copy
@@ -44,7 +44,7 @@ module _ {area : List ℕ} {width : ℕ} {names fields : List ℕ} {as′ : List
     (as″ : List Activation) (fs″ : List Frame) where
   words-kept : (n : ℕ) → n ≤ length as′ → SameActivations n as′ as″ → SameOutlines n fs fs″
       → (k : ℕ) (a : Activation) (f : Frame) → k < n → getElem? as″ k ≡ some a → getElem? fs″ k ≡ some f
-      → Stands area width names fields k a f
+      → TextStands area width names fields k a f
   unfolding outline enclosing
   words-kept n h same-activations same-frames k a f l p r q low high =
       let b = activation-before n k l as′ as″ same-activations h a p in
@@ -76,7 +76,7 @@ pub record TextsReady (area area′ names fields : List ℕ) (width live link gi
 module _ {area area′ names fields : List ℕ} {width live link given fresh : ℕ} {as′ as″ : List Activation} {fs fs″ : List Frame} {es : Enclosure} {f g : Frame} {new source : Activation}
     (h : TextsReady area area′ names fields width live link given fresh as′ as″ fs fs″ es f g new source) where
   abbrev Right : ℕ → Activation → Frame → Type 0
-  Right = Stands area′ width names fields
+  Right = TextStands area′ width names fields
 
   old-right : (k : ℕ) (a : Activation) (x : Frame) → getElem? as″ k ≡ some a → getElem? fs″ k ≡ some x → k < live + 1 → Right k a x
   old-right k a x p r l q low high =
@@ -122,12 +122,12 @@ texts-start area area′ names fields width given a f no-formals enters inside f
     source : (q : ℕ) → q < endPlace (f .text) → getD area (0 + q) 0 ≡ reading [] (getD names q 0) (getD fields q 0)
     source q high = ap (λ i. getD area i 0) (zero-add q) ∙ filled q (omega arith) ∙ sym (reading-nothing (getD names q 0) (getD fields q 0))
 
-    words : Stands area′ width names fields 0 a f
+    words : TextStands area′ width names fields 0 a f
     words q low high =
         let z : 0 * width + q ≡ 0 + q = omega arith in
         ap (λ i. getD area′ i 0) z
         ∙ words-copied area area′ names fields 0 0 given 65536 (enclosed (f .formals) (f .text)) [] [] a enters inside copy (λ i l b. source i b) q low high
 
-    right : (k : ℕ) (b : Activation) (x : Frame) → getElem? (a ∷ []) k ≡ some b → getElem? (f ∷ []) k ≡ some x → Stands area′ width names fields k b x
-    right zero b x p r = subst₂ (Stands area′ width names fields 0) (some-inj p) (some-inj r) words
+    right : (k : ℕ) (b : Activation) (x : Frame) → getElem? (a ∷ []) k ≡ some b → getElem? (f ∷ []) k ≡ some x → TextStands area′ width names fields k b x
+    right zero b x p r = subst₂ (TextStands area′ width names fields 0) (some-inj p) (some-inj r) words
     right (suc k) b x p r = none≢some p

@@ -14,13 +14,13 @@ use Rattle.language.specs.Encoding.{kindField, LB-mark, PR-mark, FM-mark}
 use Rattle.language.specs.Scope.{Meaning, fine, wrong, ofKind}
 use Rattle.language.specs.Scope as definitions
 use Rattle.language.specs.declared.Refusal.the-variants.{NotVisible, WrongKind}
-use Rattle.words.specs.Words.{wordAt}
-use Rattle.uses.specs.Meanings.{kindOf, kindsAt, meaningAt, scopeOf}
+use Rattle.laws.specs.Fields.{fieldAt}
+use Rattle.uses.specs.Meanings.{kindFrom, kindsAt, meaningAt, scopeOf}
 use Rattle.symbols.specs.Entries.{foundIn}
-use Rattle.symbols.specs.declared.Found.{Found}
-use Rattle.symbols.specs.declared.Found.the-variants.{At, Nothing}
+use Rattle.symbols.specs.declared.Binding.{Binding}
+use Rattle.symbols.specs.declared.Binding.the-variants.{At, Nothing}
 
-abbrev pub meant : List ℕ → Found → Option Meaning
+abbrev pub meant : List ℕ → Binding → Option Meaning
 meant bs (At place) = some (meaningAt bs place)
 meant bs Nothing = none
 
@@ -34,33 +34,33 @@ unfolding foundIn scopeOf lookup
 found-lookup bs n [] = refl
 found-lookup bs n (e ∷ es) = found-case bs n e es (eqb n (e % 65536)) refl (found-lookup bs n es)
 
-pub kind-is : (x : ℕ) → x ≤ 2 → x ≡ kindField (kindOf x)
-unfolding kindField kindOf
+pub kind-is : (x : ℕ) → x ≤ 2 → x ≡ kindField (kindFrom x)
+unfolding kindField kindFrom
 kind-is zero h = refl
 kind-is (suc zero) h = refl
 kind-is (suc (suc zero)) h = refl
 kind-is (suc (suc (suc x))) h = absurd (omega arith)
 
-pub kind-large : (x : ℕ) → 2 ≤ x → 2 ≡ kindField (kindOf x)
-unfolding kindField kindOf
+pub kind-large : (x : ℕ) → 2 ≤ x → 2 ≡ kindField (kindFrom x)
+unfolding kindField kindFrom
 kind-large zero h = absurd (omega arith)
 kind-large (suc zero) h = absurd (omega arith)
 kind-large (suc (suc x)) h = refl
 
 module _ (bs : List ℕ) (place : ℕ) where
-  pub means-PR : wordAt bs place ≡ PR-mark → meaningAt bs place ≡ record { kind = procedure; takes = some (kindsAt bs (place + 6) (wordAt bs (place + 4))) }
+  pub means-PR : fieldAt bs place ≡ PR-mark → meaningAt bs place ≡ record { kind = procedure; takes = some (kindsAt bs (place + 6) (fieldAt bs (place + 4))) }
   unfolding meaningAt
   means-PR e = rw (e, meaningAt)
 
-  pub means-LB : wordAt bs place ≡ LB-mark → meaningAt bs place ≡ record { kind = label; takes = none }
+  pub means-LB : fieldAt bs place ≡ LB-mark → meaningAt bs place ≡ record { kind = label; takes = none }
   unfolding meaningAt
-  means-LB e = rw (ne-eqb (wordAt bs place) PR-mark (λ p. omega arith), eq-eqb _ LB-mark e, meaningAt)
+  means-LB e = rw (ne-eqb (fieldAt bs place) PR-mark (λ p. omega arith), eq-eqb _ LB-mark e, meaningAt)
 
-  pub means-FM : wordAt bs place ≡ FM-mark → meaningAt bs place ≡ record { kind = kindOf (wordAt bs (place + 4)); takes = none }
+  pub means-FM : fieldAt bs place ≡ FM-mark → meaningAt bs place ≡ record { kind = kindFrom (fieldAt bs (place + 4)); takes = none }
   unfolding meaningAt
-  means-FM e = rw (ne-eqb (wordAt bs place) PR-mark (λ p. omega arith), ne-eqb (wordAt bs place) LB-mark (λ p. omega arith), eq-eqb _ FM-mark e, meaningAt)
+  means-FM e = rw (ne-eqb (fieldAt bs place) PR-mark (λ p. omega arith), ne-eqb (fieldAt bs place) LB-mark (λ p. omega arith), eq-eqb _ FM-mark e, meaningAt)
 
-  pub means-other : (wordAt bs place ≡ PR-mark → ⊥) → (wordAt bs place ≡ LB-mark → ⊥) → (wordAt bs place ≡ FM-mark → ⊥) → meaningAt bs place ≡ record { kind = variable; takes = none }
+  pub means-other : (fieldAt bs place ≡ PR-mark → ⊥) → (fieldAt bs place ≡ LB-mark → ⊥) → (fieldAt bs place ≡ FM-mark → ⊥) → meaningAt bs place ≡ record { kind = variable; takes = none }
   unfolding meaningAt
   means-other e f g = rw (ne-eqb _ PR-mark e, ne-eqb _ LB-mark f, ne-eqb _ FM-mark g, meaningAt)
 

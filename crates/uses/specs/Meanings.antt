@@ -12,27 +12,27 @@ use Rattle.language.specs.Scope.{Meaning, Scope, fine, wrong, uses, _then_}
 use Rattle.language.specs.Scope as definitions
 use Rattle.language.specs.declared.Verdict.{Verdict}
 use Rattle.language.specs.declared.Verdict.the-variants.{Fit, Refused}
-use Rattle.words.specs.Words.{wordAt}
+use Rattle.laws.specs.Fields.{fieldAt}
 
-unfoldable pub kindOf : ℕ → Kind
-kindOf zero = variable
-kindOf (suc zero) = label
-kindOf (suc (suc n)) = procedure
+unfoldable pub kindFrom : ℕ → Kind
+kindFrom zero = variable
+kindFrom (suc zero) = label
+kindFrom (suc (suc n)) = procedure
 
 -- the kinds of so many formals from an offset on
 unfoldable pub kindsAt : List ℕ → ℕ → ℕ → List Kind
 kindsAt bs from zero = []
-kindsAt bs from (suc k) = kindOf (wordAt bs (from + 4)) ∷ kindsAt bs (from + 6) k
+kindsAt bs from (suc k) = kindFrom (fieldAt bs (from + 4)) ∷ kindsAt bs (from + 6) k
 
 -- what the name stands for that the record at an offset declares
 unfoldable pub meaningAt : List ℕ → ℕ → Meaning
 meaningAt bs place =
-    elim (eqb (wordAt bs place) PR-mark) [
-      | true ↦ record { kind = procedure; takes = some (kindsAt bs (place + 6) (wordAt bs (place + 4))) }
-      | false ↦ elim (eqb (wordAt bs place) LB-mark) [
+    elim (eqb (fieldAt bs place) PR-mark) [
+      | true ↦ record { kind = procedure; takes = some (kindsAt bs (place + 6) (fieldAt bs (place + 4))) }
+      | false ↦ elim (eqb (fieldAt bs place) LB-mark) [
         | true ↦ record { kind = label; takes = none }
-        | false ↦ elim (eqb (wordAt bs place) FM-mark) [
-          | true ↦ record { kind = kindOf (wordAt bs (place + 4)); takes = none }
+        | false ↦ elim (eqb (fieldAt bs place) FM-mark) [
+          | true ↦ record { kind = kindFrom (fieldAt bs (place + 4)); takes = none }
           | false ↦ record { kind = variable; takes = none }
         ]
       ]
@@ -47,13 +47,13 @@ abbrev pub scopeFrom : List ℕ → List ℕ → ℕ → Scope
 scopeFrom bs es top = scopeOf bs (drop top es)
 
 -- a verdict as the code gives it
-unfoldable pub verdictOf : definitions.Verdict → Verdict
+unfoldable pub verdictOf : definitions.Judgement → Verdict
 verdictOf fine = Fit
 verdictOf (wrong c o) = Refused c o
 
 -- two names of one record, and three variables, left to right
-unfoldable pub pairJudged : Scope → ℕ → Kind → ℕ → Kind → ℕ → definitions.Verdict
+unfoldable pub pairJudged : Scope → ℕ → Kind → ℕ → Kind → ℕ → definitions.Judgement
 pairJudged sc at k n j m = _then_ (uses sc at k n) (uses sc at j m)
 
-unfoldable pub tripleJudged : Scope → ℕ → ℕ → ℕ → ℕ → definitions.Verdict
+unfoldable pub tripleJudged : Scope → ℕ → ℕ → ℕ → ℕ → definitions.Judgement
 tripleJudged sc at n m l = _then_ (uses sc at variable n) (pairJudged sc at variable m variable l)

@@ -4,19 +4,19 @@ use language::Verdict;
 use records::FM;
 use records::LB;
 use records::PR;
-use symbols::Found;
+use symbols::Binding;
 use symbols::find;
 use words::word;
 ghost use mathlib.Core.Path.{_≡_};
 ghost use Prim.Native.Nat.{_^_, _<_, _≤_};
 ghost use Rattle.language.specs.Encoding.{kindField};
 ghost use Rattle.language.specs.Scope as definitions;
-ghost use Rattle.words.specs.Words.{wordAt};
-ghost use Rattle.uses.specs.Meanings.{kindOf, meaningAt, scopeFrom, verdictOf, pairJudged, tripleJudged};
+ghost use Rattle.laws.specs.Fields.{fieldAt};
+ghost use Rattle.uses.specs.Meanings.{kindFrom, meaningAt, scopeFrom, verdictOf, pairJudged, tripleJudged};
 ghost use Rattle.symbols.specs.Chains.{Chained};
 
 pub fn kind_number(x: usize) -> usize
-    ensures { λ r. ⌜ r ≡ kindField (kindOf x) ⌝ }
+    ensures { λ r. ⌜ r ≡ kindField (kindFrom x) ⌝ }
 {
     if x < 2 {
         return x;
@@ -52,9 +52,9 @@ pub fn uses(
     name: usize,
 ) -> Verdict
     requires { ⌜ (kind ≤ 2) × Chained (now entries) top ⌝ }
-    ensures { λ r. ⌜ r ≡ verdictOf (definitions.uses (scopeFrom (now (script .entry)) (now (entries .entry)) top) at (kindOf kind) name) ⌝ }
+    ensures { λ r. ⌜ r ≡ verdictOf (definitions.uses (scopeFrom (now (script .entry)) (now (entries .entry)) top) at (kindFrom kind) name) ⌝ }
 {
-    let Found::At(place) = find(entries, top, name) else {
+    let Binding::At(place) = find(entries, top, name) else {
         return Verdict::Refused(Refusal::NotVisible, at);
     };
     if kind_at(script, place) == kind {
@@ -77,7 +77,7 @@ pub fn both(
     requires { ⌜ (kind ≤ 2) × (other ≤ 2) × (first < 2 ^ 33) × (second < 2 ^ 33) × Chained (now entries) top ⌝ }
     ensures { λ r.
         ⌜ r ≡ verdictOf (pairJudged (scopeFrom (now (script .entry)) (now (entries .entry)) top) at
-        (kindOf kind) (wordAt (now (script .entry)) first) (kindOf other) (wordAt (now (script .entry)) second)) ⌝ }
+        (kindFrom kind) (fieldAt (now (script .entry)) first) (kindFrom other) (fieldAt (now (script .entry)) second)) ⌝ }
 {
     let one = uses(script, entries, top, at, kind, word(script, first));
     let Verdict::Fit = one else {
@@ -99,7 +99,7 @@ pub fn three(
     requires { ⌜ (first < 2 ^ 33) × (second < 2 ^ 33) × (third < 2 ^ 33) × Chained (now entries) top ⌝ }
     ensures { λ r.
         ⌜ r ≡ verdictOf (tripleJudged (scopeFrom (now (script .entry)) (now (entries .entry)) top) at
-        (wordAt (now (script .entry)) first) (wordAt (now (script .entry)) second) (wordAt (now (script .entry)) third)) ⌝ }
+        (fieldAt (now (script .entry)) first) (fieldAt (now (script .entry)) second) (fieldAt (now (script .entry)) third)) ⌝ }
 {
     let one = uses(script, entries, top, at, 0, word(script, first));
     let Verdict::Fit = one else {

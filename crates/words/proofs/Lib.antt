@@ -1,4 +1,3 @@
 pub mod Held
-pub mod Standing
 pub mod Thin
 pub mod Walk

@@ -2,7 +2,7 @@
 ghost use mathlib.Core.Path.{_≡_};
 ghost use Prim.Native.Nat.{_^_, _<_};
 ghost use lib.ListN.{getD};
-ghost use Rattle.words.specs.Words.{wordAt};
+ghost use Rattle.laws.specs.Fields.{fieldAt};
 
 fn as_usize(x: u8) -> usize
     ensures { λ r. ⌜ (r ≡ x) × (r < 256) ⌝ }
@@ -23,7 +23,7 @@ fn byte(script: &[u8], at: usize) -> usize
 // The 16-bit field at an offset, low byte first. Where both its bytes are there, they are one load.
 pub fn word_at(script: &[u8], at: usize) -> usize
     requires { ⌜ at < 2 ^ 60 ⌝ }
-    ensures { λ r. ⌜ (r ≡ wordAt (now (script .entry)) at) × (r < 65536) ⌝ }
+    ensures { λ r. ⌜ (r ≡ fieldAt (now (script .entry)) at) × (r < 65536) ⌝ }
 {
     if at + 1 < script.len() {
         return as_usize(script[at]) + 256 * as_usize(script[at + 1]);

@@ -4,7 +4,7 @@
 use super::bytes::word_at;
 ghost use mathlib.Core.Path.{_≡_};
 ghost use Prim.Native.Nat.{_^_, _<_};
-ghost use Rattle.words.specs.Words.{wordAt};
+ghost use Rattle.laws.specs.Fields.{fieldAt};
 
 pub struct Reader<'a> {
     pub script: &'a [u8],
@@ -20,7 +20,7 @@ pub fn reader_at<'a>(script: &'a [u8], at: usize) -> Reader<'a>
 // The 16-bit field at the position.
 pub fn field<'a>(r: Reader<'a>) -> usize
     requires { ⌜ r .at < 2 ^ 60 ⌝ }
-    ensures { λ n. ⌜ (n ≡ wordAt (now (r .entry .script)) (r .entry .at)) × (n < 65536) ⌝ }
+    ensures { λ n. ⌜ (n ≡ fieldAt (now (r .entry .script)) (r .entry .at)) × (n < 65536) ⌝ }
 {
     word_at(r.script, r.at)
 }

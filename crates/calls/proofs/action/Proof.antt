@@ -4,7 +4,7 @@ use mathlib.Core.Path.{ap, _∙_}
 use lib.ListN.{drop}
 use Rattle.language.specs.Text.{variable, label}
 use Rattle.language.specs.Scope.{uses}
-use Rattle.uses.specs.Meanings.{kindOf, scopeOf, verdictOf}
+use Rattle.uses.specs.Meanings.{kindFrom, scopeOf, verdictOf}
 use Rattle.calls.specs.Calls.{isCL, isGO, isIF, isKN, isAR, isQY, isTwo, shapeOf, judgedAs}
 use Rattle.calls.proofs.Judging.{shape-two, shaped}
 use borrow.Author.Needs.{needs}
@@ -31,7 +31,7 @@ call-requires : tie.Need-call-requires
 call-requires c κs = search needs
 
 returns : tie.Need-returns
-unfolding shapeOf judgedAs kindOf
+unfolding shapeOf judgedAs kindFrom
 returns c =
     let st = c .before .before .before .before in
     let a = st .args in
@@ -49,7 +49,7 @@ uses-requires : tie.Need-uses-requires
 uses-requires c κs = search needs
 
 returns-2 : tie.Need-returns-2
-unfolding shapeOf judgedAs kindOf
+unfolding shapeOf judgedAs kindFrom
 returns-2 c =
     let st = startOf (c .before .before .before) in
     let a = st .args in
@@ -67,7 +67,7 @@ both-requires : tie.Need-both-requires
 both-requires c κs = search needs
 
 returns-3 : tie.Need-returns-3
-unfolding shapeOf judgedAs kindOf
+unfolding shapeOf judgedAs kindFrom
 returns-3 c =
     let st = notGO (c .before .before) in
     let a = st .args in
@@ -85,7 +85,7 @@ uses-requires-2 : tie.Need-uses-requires-2
 uses-requires-2 c κs = search needs
 
 returns-4 : tie.Need-returns-4
-unfolding shapeOf judgedAs kindOf
+unfolding shapeOf judgedAs kindFrom
 returns-4 c =
     let st = notIF (c .before .before .before) in
     let a = st .args in
@@ -106,7 +106,7 @@ three-requires : tie.Need-three-requires
 three-requires c κs = search needs
 
 returns-5 : tie.Need-returns-5
-unfolding shapeOf judgedAs kindOf
+unfolding shapeOf judgedAs kindFrom
 returns-5 c =
     let st = notKN (c .before .before) in
     let a = st .args in
@@ -127,7 +127,7 @@ three-requires-2 : tie.Need-three-requires-2
 three-requires-2 c κs = search needs
 
 returns-6 : tie.Need-returns-6
-unfolding shapeOf judgedAs kindOf
+unfolding shapeOf judgedAs kindFrom
 returns-6 c =
     let st = notAR (c .before .before) in
     let a = st .args in
@@ -145,7 +145,7 @@ both-requires-2 : tie.Need-both-requires-2
 both-requires-2 c κs = search needs
 
 returns-7 : tie.Need-returns-7
-unfolding shapeOf judgedAs kindOf
+unfolding shapeOf judgedAs kindFrom
 returns-7 c =
     let e₅ = c .before .before in
     let e₃ = e₅ .before .before in

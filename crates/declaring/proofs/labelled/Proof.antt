@@ -8,12 +8,12 @@ use lib.ListN.{getD}
 use Rattle.laws.specs.Tests.{never}
 use mathlib.Core.Path.{refl}
 use Rattle.language.specs.Encoding.{LB-mark}
-use Rattle.words.specs.Words.{wordAt}
+use Rattle.laws.specs.Fields.{fieldAt}
 use Rattle.declaring.proofs.labelled.Statement.{statement}
 use Rattle.declaring.proofs.labelled.Tie as tie
 
 abbrev Inv-loop : tie.InvT-loop
-Inv-loop script starts d i₀ i = (i ≤ d) × ((k : ℕ) → k < i → wordAt script (getD starts k 0) ≡ LB-mark → ⊥)
+Inv-loop script starts d i₀ i = (i ≤ d) × ((k : ℕ) → k < i → fieldAt script (getD starts k 0) ≡ LB-mark → ⊥)
 
 abbrev μ-loop : tie.MeasureT-loop
 μ-loop script starts d i₀ i = d - i
@@ -50,7 +50,7 @@ loop-again c =
     let l = turn .before .loop in
     let a = startOf turn .args in (
       omega (arith, turn .loop-test .taken),
-      below-more _ (l .i) (l .inv .1) (λ m. c .if1 .left (w .word .ensures .0 ∙ ap (wordAt (a .script .now)) (w .before .start-of .ensures .0) ∙ m)),
+      below-more _ (l .i) (l .inv .1) (λ m. c .if1 .left (w .word .ensures .0 ∙ ap (fieldAt (a .script .now)) (w .before .start-of .ensures .0) ∙ m)),
     )
 
 returns-2 : tie.Need-returns-2 Inv-loop μ-loop

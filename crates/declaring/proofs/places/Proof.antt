@@ -6,7 +6,7 @@ use Prim.Native.Nat.{_+_, _-_, _≤_}
 use native.Mathlib.Omega.{arith}
 use lib.ListN.{length, take, length-set}
 use lib.Seq.{take-set-le}
-use Rattle.words.specs.Words.{Stands}
+use Rattle.laws.specs.Fields.{FieldsStand}
 use Rattle.extents.specs.Items.{Item, itemsFields}
 use Rattle.extents.specs.Passing.{Ends}
 use Rattle.declaring.proofs.Starting.{Passing, passing-start, passing-step, passing-end}
@@ -20,7 +20,7 @@ Inv-loop script ends₀ starts₀ at count base here₀ i₀ ends starts here i 
     × (here ≤ 1000000)
     × (length starts ≡ length starts₀)
     × (take base starts ≡ take base starts₀)
-    × ((xs : List Item) → length xs ≡ count → Stands script at (itemsFields xs) → Passing script starts base at here i count xs)
+    × ((xs : List Item) → length xs ≡ count → FieldsStand script at (itemsFields xs) → Passing script starts base at here i count xs)
     × Ends script ends
 
 abbrev μ-loop : tie.MeasureT-loop

@@ -9,7 +9,7 @@ use lib.Seq.{take-set-le}
 use Rattle.language.specs.Text.{Block, Decls, decls, blockStmts}
 use Rattle.language.specs.Encoding.{declsFields, LB-mark}
 use Rattle.grammar.specs.Rules.{FormedDecls}
-use Rattle.words.specs.Words.{wordAt, Stands}
+use Rattle.laws.specs.Fields.{fieldAt, FieldsStand}
 use Rattle.extents.specs.Items.{declared}
 use Rattle.extents.proofs.Pushing.{kept-step}
 use Rattle.declaring.specs.Declared.{startsOf, Stated}
@@ -23,8 +23,8 @@ Inv-loop script entries₀ starts d base level count i₀ entries i =
     × (length entries ≡ length entries₀)
     × (drop (base + i) entries ≡ drop (base + i) entries₀)
     × (take base entries ≡ take base entries₀)
-    × ((b : Block) (ds : Decls) (k at : ℕ) → length (decls ds) ≡ d → Stands script at (declsFields ds) → FormedDecls ds k (length (blockStmts b)) at →
-    take d starts ≡ startsOf (map declared (decls ds)) at → ((j : ℕ) → j < d → wordAt script (getD starts j 0) ≡ LB-mark → Stated b d starts) → Declaring script starts entries base i d level count b ds k)
+    × ((b : Block) (ds : Decls) (k at : ℕ) → length (decls ds) ≡ d → FieldsStand script at (declsFields ds) → FormedDecls ds k (length (blockStmts b)) at →
+    take d starts ≡ startsOf (map declared (decls ds)) at → ((j : ℕ) → j < d → fieldAt script (getD starts j 0) ≡ LB-mark → Stated b d starts) → Declaring script starts entries base i d level count b ds k)
 
 abbrev μ-loop : tie.MeasureT-loop
 μ-loop script entries₀ starts d base level count i₀ entries i = d - i

@@ -8,7 +8,7 @@ use lib.ListN.{length, take, drop, length-set}
 use lib.Seq.{take-set-le}
 use Rattle.language.specs.Text.{Formal}
 use Rattle.language.specs.Encoding.{formalsFields}
-use Rattle.words.specs.Words.{Stands}
+use Rattle.laws.specs.Fields.{FieldsStand}
 use Rattle.extents.proofs.Pushing.{kept-step}
 use Rattle.declaring.proofs.Formals.{Naming, naming-start, naming-step, naming-end}
 use Rattle.declaring.proofs.push_formals.Statement.{statement}
@@ -20,7 +20,7 @@ Inv-loop script entries₀ at count base level i₀ entries i =
     × (length entries ≡ length entries₀)
     × (drop (base + i) entries ≡ drop (base + i) entries₀)
     × (take base entries ≡ take base entries₀)
-    × ((fs : List Formal) → length fs ≡ count → Stands script at (formalsFields fs) → Naming script entries base at i count level fs)
+    × ((fs : List Formal) → length fs ≡ count → FieldsStand script at (formalsFields fs) → Naming script entries base at i count level fs)
 
 abbrev μ-loop : tie.MeasureT-loop
 μ-loop script entries₀ at count base level i₀ entries i = count - i

@@ -6,7 +6,7 @@ use Prim.Native.Nat.{ℕ, _+_, _*_, _-_, _≤_, max}
 use native.Mathlib.Omega.{arith}
 use lib.ListN.{length, take, drop, length-set}
 use lib.Seq.{take-set-le}
-use Rattle.words.specs.Words.{Stands}
+use Rattle.laws.specs.Fields.{FieldsStand}
 use Rattle.extents.specs.Items.{Item, itemsFields}
 use Rattle.extents.specs.Passing.{Ends}
 use Rattle.extents.proofs.Pushing.{Rest, push-start, push-step, push-end, kept-step}
@@ -19,7 +19,7 @@ Inv-loop script entries₀ ends₀ at count base here₀ i₀ entries ends here 
     × (here ≤ max at (length script + 131076))
     × (length entries ≡ length entries₀)
     × (drop (base + i) entries ≡ drop (base + i) entries₀)
-    × ((xs : List Item) → length xs ≡ count → Stands script at (itemsFields xs) → Rest script entries base at here i count xs)
+    × ((xs : List Item) → length xs ≡ count → FieldsStand script at (itemsFields xs) → Rest script entries base at here i count xs)
     × (take base entries ≡ take base entries₀)
     × Ends script ends
 

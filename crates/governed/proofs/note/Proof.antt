@@ -2,7 +2,7 @@
 use mathlib.Core.Path.{_∙_, ap}
 use Prim.Native.Nat.{ℕ, _+_}
 use native.Mathlib.Omega.{arith}
-use Rattle.words.specs.Words.{wordAt}
+use Rattle.laws.specs.Fields.{fieldAt}
 use Rattle.governed.specs.Governing.{leading, trailing}
 use Rattle.governed.proofs.Records.{other-noted, if-noted}
 use borrow.Author.Needs.{needs}
@@ -50,7 +50,7 @@ returns-2 c =
     let mark = st .pre .2 in (
       other-noted (a .script .now) (a .code .now) (a .names .now) (u .take .last .1 .0) (c .take2 .last .1 .0) (a .at) (l .leading .result) (t .trailing .result) (u .take .ensures .0) (c .take2 .ensures .0)
           (l .leading .ensures .0 ∙ ap leading mark)
-          (t .trailing .ensures .0 ∙ ap (λ (w : ℕ). trailing w (wordAt (a .script .now) (a .at + 4))) mark)
+          (t .trailing .ensures .0 ∙ ap (λ (w : ℕ). trailing w (fieldAt (a .script .now) (a .at + 4))) mark)
           (λ i. e .if1 .left (mark ∙ i)),
       c .take2 .ensures .1,
     )

@@ -5,7 +5,7 @@ use borrow.Author.Needs.{needs}
 use borrow.Author.Tests.{not-true, not-false}
 use Rattle.language.specs.Table.{find, atLeastOne}
 use Rattle.pairs.specs.Places.{placed}
-use Rattle.pairs.specs.declared.Place.{Place}
+use Rattle.pairs.specs.declared.PairPlace.{PairPlace}
 use Rattle.pairs.proofs.Statements.{fits-read, place-read, searched-below, searched-at, searched-absent}
 use Rattle.pairs.proofs.searched.Statement.{statement}
 use Rattle.pairs.proofs.searched.Tie as tie
@@ -19,7 +19,7 @@ startOf c = c .before .before .before
 fit : (c : tie.After-place-of) → (atLeastOne (startOf c .args .group) && atLeastOne (startOf c .args .member)) ≡ true
 fit c = numbers (c .before .before) (not-false _ (c .before .if1 .left))
 
-place : (c : tie.After-place-of) {p : Place} → c .place-of .result ≡ p → let s = startOf c in placed (find (s .args .group) (s .args .member) (s .args .count) (s .args .table .now)) ≡ p
+place : (c : tie.After-place-of) {p : PairPlace} → c .place-of .result ≡ p → let s = startOf c in placed (find (s .args .group) (s .args .member) (s .args .count) (s .args .table .now)) ≡ p
 place c q = let s = startOf c in place-read (s .fits .group) (s .fits .member) (s .args .count) (s .args .table .now) (c .place-of .ensures) q
 
 numbers-fit-requires : tie.Need-numbers-fit-requires

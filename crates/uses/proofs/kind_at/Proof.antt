@@ -3,7 +3,7 @@ use Prim.Native.Nat.{ℕ}
 use mathlib.Core.Path.{sym, ap, _∙_}
 use Rattle.language.specs.Encoding.{kindField}
 use Rattle.language.specs.Scope.{Meaning}
-use Rattle.uses.specs.Meanings.{kindOf}
+use Rattle.uses.specs.Meanings.{kindFrom}
 use Rattle.uses.proofs.Meanings.{means-PR, means-LB, means-FM, means-other}
 use borrow.Author.Needs.{needs}
 use Rattle.uses.proofs.kind_at.Statement.{statement}
@@ -46,7 +46,7 @@ returns-3 c =
     let b = c .before .before in
     let w = markOf (b .before) in
     let a = startOf w .args in
-    c .kind-number .ensures ∙ ap (λ (x : ℕ). kindField (kindOf x)) (c .before .word2 .ensures .0)
+    c .kind-number .ensures ∙ ap (λ (x : ℕ). kindField (kindFrom x)) (c .before .word2 .ensures .0)
     ∙ sym (ap (λ (m : Meaning). kindField (m .kind)) (means-FM (a .script .now) (a .place) (sym (w .word .ensures .0) ∙ b .if3 .taken)))
 
 returns-4 : tie.Need-returns-4

@@ -4,8 +4,8 @@ use mathlib.Core.Path.{ap, _∙_}
 use lib.ListN.{drop}
 use Rattle.language.specs.Text.{variable}
 use Rattle.language.specs.Scope.{uses}
-use Rattle.words.specs.Words.{wordAt}
-use Rattle.uses.specs.Meanings.{kindOf, scopeOf, verdictOf, tripleJudged}
+use Rattle.laws.specs.Fields.{fieldAt}
+use Rattle.uses.specs.Meanings.{kindFrom, scopeOf, verdictOf, tripleJudged}
 use Rattle.uses.proofs.Verdicts.{then-stop, then-go}
 use borrow.Author.Needs.{needs}
 use Rattle.uses.proofs.three.Statement.{statement}
@@ -24,12 +24,12 @@ enum-told-2 : tie.Need-enum-told-2
 enum-told-2 c = search needs
 
 returns : tie.Need-returns
-unfolding tripleJudged kindOf
+unfolding tripleJudged kindFrom
 returns c =
     let u = c .before .before in
     let a = u .before .before .before .before .args in
     let sc = scopeOf (a .script .now) (drop (a .top) (a .entries .now)) in
-    then-stop (uses sc (a .at) variable (wordAt (a .script .now) (a .first))) _ (u .uses .result) _ _
+    then-stop (uses sc (a .at) variable (fieldAt (a .script .now) (a .first))) _ (u .uses .result) _ _
     (u .uses .ensures ∙ ap (λ (n : ℕ). verdictOf (uses sc (a .at) variable n)) (u .before .word .ensures .0))
     (c .enum-told2 .given .1)
 
@@ -37,13 +37,13 @@ both-requires : tie.Need-both-requires
 both-requires c κs = search needs
 
 returns-2 : tie.Need-returns-2
-unfolding tripleJudged kindOf
+unfolding tripleJudged kindFrom
 returns-2 c =
     let u = c .before .before .before in
     let a = u .before .before .before .before .args in
     let sc = scopeOf (a .script .now) (drop (a .top) (a .entries .now)) in
     c .both .ensures
-    ∙ then-go (uses sc (a .at) variable (wordAt (a .script .now) (a .first))) _ (u .uses .result)
+    ∙ then-go (uses sc (a .at) variable (fieldAt (a .script .now) (a .first))) _ (u .uses .result)
     (u .uses .ensures ∙ ap (λ (n : ℕ). verdictOf (uses sc (a .at) variable n)) (u .before .word .ensures .0))
     (c .before .enum-told .given .1)
 

@@ -2,7 +2,7 @@
 use mathlib.Core.Path.{sym, ap, _∙_}
 use native.Mathlib.Omega.{arith}
 use lib.ListN.{drop}
-use Rattle.uses.specs.Meanings.{kindOf, verdictOf}
+use Rattle.uses.specs.Meanings.{kindFrom, verdictOf}
 use Rattle.uses.proofs.Meanings.{use-none, use-right, use-wrong, kind-is}
 use Rattle.symbols.proofs.Entries.{near-place}
 use borrow.Author.Needs.{needs}
@@ -25,7 +25,7 @@ returns c =
     let a = f .before .before .before .args in
     sym
     (ap verdictOf
-    (use-none (a .script .now) (drop (a .top) (a .entries .now)) (a .at) (kindOf (a .kind)) (a .name)
+    (use-none (a .script .now) (drop (a .top) (a .entries .now)) (a .at) (kindFrom (a .kind)) (a .name)
     (sym (f .find .ensures .0) ∙ c .enum-told .given .1)))
 
 kind-at-requires : tie.Need-kind-at-requires
@@ -40,7 +40,7 @@ returns-2 c =
     let a = a′ .args in
     sym
     (ap verdictOf
-    (use-right (a .script .now) (drop (a .top) (a .entries .now)) (a .at) (kindOf (a .kind)) (a .name) (b .before .before .place .given .0 .0)
+    (use-right (a .script .now) (drop (a .top) (a .entries .now)) (a .at) (kindFrom (a .kind)) (a .name) (b .before .before .place .given .0 .0)
     (sym (f .find .ensures .0) ∙ b .before .before .place .given .1)
     (sym (b .kind-at .ensures) ∙ c .if1 .taken ∙ kind-is (a .kind) (a′ .pre .0))))
 
@@ -53,7 +53,7 @@ returns-3 c =
     let a = a′ .args in
     sym
     (ap verdictOf
-    (use-wrong (a .script .now) (drop (a .top) (a .entries .now)) (a .at) (kindOf (a .kind)) (a .name) (b .before .before .place .given .0 .0)
+    (use-wrong (a .script .now) (drop (a .top) (a .entries .now)) (a .at) (kindFrom (a .kind)) (a .name) (b .before .before .place .given .0 .0)
     (sym (f .find .ensures .0) ∙ b .before .before .place .given .1)
     (λ e. c .if1 .left (b .kind-at .ensures ∙ e ∙ sym (kind-is (a .kind) (a′ .pre .0))))))
 

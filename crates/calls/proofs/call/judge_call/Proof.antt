@@ -2,7 +2,7 @@
 use mathlib.Core.Path.{refl, sym, _∙_}
 use lib.ListN.{drop}
 use Rattle.language.specs.Scope.{fine}
-use Rattle.uses.specs.Meanings.{kindOf, verdictOf}
+use Rattle.uses.specs.Meanings.{kindFrom, verdictOf}
 use Rattle.language.specs.declared.Verdict.the-variants.{Fit}
 use Rattle.symbols.proofs.Entries.{near-place}
 use Rattle.calls.proofs.Judging.{call-stops, call-hides, call-judges, agrees-found, agrees-unfound}
@@ -48,7 +48,7 @@ enum-told-2 : tie.Need-enum-told-2
 enum-told-2 c = search needs
 
 returns : tie.Need-returns
-unfolding kindOf
+unfolding kindFrom
 returns c =
     let u = c .before .before in
     let w = readOf u in
@@ -66,7 +66,7 @@ enum-told-4 : tie.Need-enum-told-4
 enum-told-4 c = search needs
 
 returns-2 : tie.Need-returns-2
-unfolding kindOf
+unfolding kindFrom
 returns-2 c =
     let v = c .before .before in
     let u = judgedOf v in
@@ -86,7 +86,7 @@ enum-told-5 : tie.Need-enum-told-5
 enum-told-5 c = search needs
 
 returns-3 : tie.Need-returns-3
-unfolding kindOf verdictOf
+unfolding kindFrom verdictOf
 returns-3 c =
     let f = c .before .before in
     let v = visibleOf f in
@@ -106,7 +106,7 @@ agrees-requires c κs =
     (startOf u .pre .0, h, u .before .word2 .ensures .1, startOf u .pre .1)
 
 returns-4 : tie.Need-returns-4
-unfolding kindOf
+unfolding kindFrom
 returns-4 c =
     let p = c .before .before in
     let f = foundOf (c .before) in

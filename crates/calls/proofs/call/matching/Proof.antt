@@ -6,8 +6,8 @@ use native.Mathlib.Omega.{arith}
 use lib.ListN.{drop}
 use Rattle.language.specs.Encoding.{kindField}
 use Rattle.language.specs.Scope.{agree, kindIn}
-use Rattle.words.specs.Words.{wordsAt}
-use Rattle.uses.specs.Meanings.{kindOf, kindsAt, scopeOf}
+use Rattle.laws.specs.Fields.{fieldsAt}
+use Rattle.uses.specs.Meanings.{kindFrom, kindsAt, scopeOf}
 use Rattle.symbols.proofs.Entries.{near-place}
 use Rattle.calls.proofs.Calls.{words-all, kinds-all, match-on, match-off, match-miss, match-all}
 use borrow.Author.Needs.{needs}
@@ -17,8 +17,8 @@ use Rattle.calls.proofs.call.matching.Tie as tie
 abbrev Inv-loop : tie.InvT-loop
 Inv-loop script entries top at formals count i₀ i =
     (i ≤ count)
-    × (agree (kindsAt script (formals + 6 * i) (count - i)) (map (kindIn (scopeOf script (drop top entries))) (wordsAt script (at + 6 + 2 * i) (count - i)))
-    ≡ agree (kindsAt script formals count) (map (kindIn (scopeOf script (drop top entries))) (wordsAt script (at + 6) count)))
+    × (agree (kindsAt script (formals + 6 * i) (count - i)) (map (kindIn (scopeOf script (drop top entries))) (fieldsAt script (at + 6 + 2 * i) (count - i)))
+    ≡ agree (kindsAt script formals count) (map (kindIn (scopeOf script (drop top entries))) (fieldsAt script (at + 6) count)))
 
 abbrev μ-loop : tie.MeasureT-loop
 μ-loop script entries top at formals count i₀ i = count - i
@@ -104,7 +104,7 @@ returns-2 c =
     (sym (l .before .loop .inv .1)
     ∙ match-off (a .script .now) (drop (a .top) (a .entries .now)) (a .at) (a .count) (l .before .loop .i) (f .before .word .result)
     (l .loop-test .taken) (f .before .word .ensures .0) (a .formals) (p .place .given .0 .0) (sym (f .find .ensures .0) ∙ p .place .given .1)
-    (λ e. c .if1 .taken (k .kind-at .ensures ∙ e ∙ sym (n .kind-number .ensures ∙ ap (λ (x : ℕ). kindField (kindOf x)) (n .before .word2 .ensures .0)))))
+    (λ e. c .if1 .taken (k .kind-at .ensures ∙ e ∙ sym (n .kind-number .ensures ∙ ap (λ (x : ℕ). kindField (kindFrom x)) (n .before .word2 .ensures .0)))))
 
 add-i : tie.Need-add-i Inv-loop μ-loop
 add-i c = search needs
@@ -123,7 +123,7 @@ loop-again c =
       search needs,
       match-on (a .script .now) (drop (a .top) (a .entries .now)) (a .at) (a .count) (l .before .loop .i) (f .before .word .result)
           (l .loop-test .taken) (f .before .word .ensures .0) (a .formals) (p .place .given .0 .0) (sym (f .find .ensures .0) ∙ p .place .given .1)
-          (sym (k .kind-at .ensures) ∙ c .if1 .left ∙ n .kind-number .ensures ∙ ap (λ (x : ℕ). kindField (kindOf x)) (n .before .word2 .ensures .0))
+          (sym (k .kind-at .ensures) ∙ c .if1 .left ∙ n .kind-number .ensures ∙ ap (λ (x : ℕ). kindField (kindFrom x)) (n .before .word2 .ensures .0))
           ∙ l .before .loop .inv .1,
     )
 

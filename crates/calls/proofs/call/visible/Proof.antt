@@ -3,7 +3,7 @@ use mathlib.Core.Path.{_≡_, sym, ap, _∙_}
 use Prim.Native.Nat.{_≤_, _+_, _*_, _-_}
 use lib.ListN.{drop}
 use Rattle.language.specs.Scope.{allVisible}
-use Rattle.words.specs.Words.{wordsAt}
+use Rattle.laws.specs.Fields.{fieldsAt}
 use Rattle.uses.specs.Meanings.{scopeOf, verdictOf}
 use Rattle.calls.proofs.Calls.{words-all, visible-on, visible-stop, visible-all}
 use borrow.Author.Needs.{needs}
@@ -13,8 +13,8 @@ use Rattle.calls.proofs.call.visible.Tie as tie
 abbrev Inv-loop : tie.InvT-loop
 Inv-loop script entries top at count i₀ i =
     (i ≤ count)
-    × (allVisible (scopeOf script (drop top entries)) at (wordsAt script (at + 6 + 2 * i) (count - i))
-    ≡ allVisible (scopeOf script (drop top entries)) at (wordsAt script (at + 6) count))
+    × (allVisible (scopeOf script (drop top entries)) at (fieldsAt script (at + 6 + 2 * i) (count - i))
+    ≡ allVisible (scopeOf script (drop top entries)) at (fieldsAt script (at + 6) count))
 
 abbrev μ-loop : tie.MeasureT-loop
 μ-loop script entries top at count i₀ i = count - i

@@ -4,7 +4,7 @@ use borrow.Author.Needs.{needs}
 use Prim.Native.Nat.{ℕ, _+_, _*_, _-_, _<_, _≤_}
 use native.Mathlib.Omega.{arith}
 use lib.ListN.{length}
-use Rattle.words.specs.Words.{Stands}
+use Rattle.laws.specs.Fields.{FieldsStand}
 use Rattle.extents.specs.Items.{Item, itemFields}
 use Rattle.extents.specs.Passing.{Skipped, Left, Ends}
 use Rattle.extents.proofs.Skipping.{left-first, left-whole, left-end, left-inside, stepped-head}
@@ -50,7 +50,7 @@ over-claims t = (word-reads.Asked, word-reads.Learnt, fill-below t, fill.Post, p
 abbrev fill-Inv-loop : fill-lts.InvT-loop
 fill-Inv-loop script ends₀ at here₀ pending₀ ends here pending =
     (at + 2 ≤ here) × (here ≤ length script + 131076) × (pending ≤ 131070 * here)
-    × ((x : Item) → Stands script at (itemFields x) → Left script at here pending x)
+    × ((x : Item) → FieldsStand script at (itemFields x) → Left script at here pending x)
     × Ends script ends
 
 abbrev fill-μ-loop : fill-lts.MeasureT-loop

@@ -3,7 +3,7 @@ use Prim.Native.Nat.{ℕ, _+_}
 use mathlib.Core.Path.{_≡_, sym, ap, _∙_}
 use native.Mathlib.Omega.{arith}
 use Rattle.language.specs.Encoding.{BK-mark, PR-mark}
-use Rattle.words.specs.Words.{wordAt}
+use Rattle.laws.specs.Fields.{fieldAt}
 use Rattle.extents.specs.Items.{headSize, childCount}
 use Rattle.extents.proofs.Skipping.{size-BK, size-PR}
 use borrow.Author.Needs.{needs}
@@ -34,10 +34,10 @@ returns c =
     let st = c .before .before .before .before in
     let a = st .args in
     let bs = a .script .now in
-    let m : wordAt bs (a .at) ≡ BK-mark = sym (st .pre .2) ∙ c .before .before .if1 .taken in
+    let m : fieldAt bs (a .at) ≡ BK-mark = sym (st .pre .2) ∙ c .before .before .if1 .taken in
     record {
-      next-is = sym (ap (λ (x : ℕ). a .at + headSize x (wordAt bs (a .at + 4))) m ∙ ap (λ (k : ℕ). a .at + k) (size-BK (wordAt bs (a .at + 4))));
-      more-is = (let p = c .before .word .ensures .0 in let q = c .word2 .ensures .0 in cc) ∙ sym (ap (λ (x : ℕ). childCount x (wordAt bs (a .at + 2)) (wordAt bs (a .at + 4))) m);
+      next-is = sym (ap (λ (x : ℕ). a .at + headSize x (fieldAt bs (a .at + 4))) m ∙ ap (λ (k : ℕ). a .at + k) (size-BK (fieldAt bs (a .at + 4))));
+      more-is = (let p = c .before .word .ensures .0 in let q = c .word2 .ensures .0 in cc) ∙ sym (ap (λ (x : ℕ). childCount x (fieldAt bs (a .at + 2)) (fieldAt bs (a .at + 4))) m);
       on = omega arith;
       near = omega arith;
       few = omega arith;
@@ -61,10 +61,10 @@ returns-2 c =
     let st = c .before .before .before .before in
     let a = st .args in
     let bs = a .script .now in
-    let m : wordAt bs (a .at) ≡ PR-mark = sym (st .pre .2) ∙ c .before .if2 .taken in
+    let m : fieldAt bs (a .at) ≡ PR-mark = sym (st .pre .2) ∙ c .before .if2 .taken in
     record {
-      next-is = sym (ap (λ (x : ℕ). a .at + headSize x (wordAt bs (a .at + 4))) m ∙ ap (λ (k : ℕ). a .at + k) (size-PR (wordAt bs (a .at + 4))));
-      more-is = ap (λ (x : ℕ). x + 1) (c .word3 .ensures .0) ∙ sym (ap (λ (x : ℕ). childCount x (wordAt bs (a .at + 2)) (wordAt bs (a .at + 4))) m);
+      next-is = sym (ap (λ (x : ℕ). a .at + headSize x (fieldAt bs (a .at + 4))) m ∙ ap (λ (k : ℕ). a .at + k) (size-PR (fieldAt bs (a .at + 4))));
+      more-is = ap (λ (x : ℕ). x + 1) (c .word3 .ensures .0) ∙ sym (ap (λ (x : ℕ). childCount x (fieldAt bs (a .at + 2)) (fieldAt bs (a .at + 4))) m);
       on = omega arith;
       near = omega arith;
       few = omega arith;

@@ -4,7 +4,7 @@ use mathlib.Core.List.{List}
 use mathlib.Core.Path.{_≡_, sym, ap, _∙_}
 use native.Mathlib.Omega.{arith}
 use Rattle.records.specs.Counts.{fieldCount}
-use Rattle.words.specs.Words.{wordAt}
+use Rattle.laws.specs.Fields.{fieldAt}
 use Rattle.extents.specs.Items.{headSize}
 use Rattle.extents.specs.Passing.{Alone}
 use Rattle.extents.proofs.Skipping.{count-CL, size-CL, size-other, child-other}
@@ -23,12 +23,12 @@ module _ (c : tie.After-field-count) where
   abbrev at : ℕ
   at = startOf c .args .at
 
-  alone : (end : ℕ) → end ≡ at + headSize (wordAt bs at) (wordAt bs (at + 4)) → at + 2 ≤ end → end ≤ at + 131076 → Alone bs at end
+  alone : (end : ℕ) → end ≡ at + headSize (fieldAt bs at) (fieldAt bs (at + 4)) → at + 2 ≤ end → end ≤ at + 131076 → Alone bs at end
   alone end e low high =
       let st = startOf c in
       record {
         next-is = e;
-        more-is = sym (child-other (wordAt bs at) (wordAt bs (at + 2)) (wordAt bs (at + 4)) (λ p. st .pre .3 (st .pre .2 ∙ p)) (λ p. st .pre .4 (st .pre .2 ∙ p)));
+        more-is = sym (child-other (fieldAt bs at) (fieldAt bs (at + 2)) (fieldAt bs (at + 4)) (λ p. st .pre .3 (st .pre .2 ∙ p)) (λ p. st .pre .4 (st .pre .2 ∙ p)));
         on = low;
         near = high;
         few = omega arith;
@@ -66,8 +66,8 @@ returns c =
     let f = c .before .before in
     let st = startOf f in
     let m = sym (st .pre .2) ∙ c .before .if1 .taken in
-    let e = size-CL (wordAt (bs f) (at f)) (wordAt (bs f) (at f + 4)) m in
-    let two = count-CL (wordAt (bs f) (at f)) m in
+    let e = size-CL (fieldAt (bs f) (at f)) (fieldAt (bs f) (at f + 4)) m in
+    let two = count-CL (fieldAt (bs f) (at f)) m in
     let n = f .field-count .ensures .0 ∙ ap fieldCount (st .pre .2) in
     let v = c .word .ensures .0 in
     alone f _ (omega arith) (omega arith) (omega arith)
@@ -76,7 +76,7 @@ returns-2 : tie.Need-returns-2
 returns-2 c =
     let f = c .before in
     let st = startOf f in
-    let e = size-other (wordAt (bs f) (at f)) (wordAt (bs f) (at f + 4)) (λ p. c .if1 .left (st .pre .2 ∙ p)) in
+    let e = size-other (fieldAt (bs f) (at f)) (fieldAt (bs f) (at f + 4)) (λ p. c .if1 .left (st .pre .2 ∙ p)) in
     let n = f .field-count .ensures .0 ∙ ap fieldCount (st .pre .2) in
     alone f _ (omega arith) (omega arith) (omega arith)
 

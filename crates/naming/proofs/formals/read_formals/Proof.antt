@@ -28,8 +28,8 @@ loopOf c = c .before .before
 abbrev recordOf : tie.After-known-told Inv-loop μ-loop → tie.After-read-formal Inv-loop μ-loop
 recordOf c = c .before .before .before
 
-abbrev kindOf : tie.After-seen Inv-loop μ-loop → tie.Else1 Inv-loop μ-loop
-kindOf c = c .before .before
+abbrev kindKnown : tie.After-seen Inv-loop μ-loop → tie.Else1 Inv-loop μ-loop
+kindKnown c = c .before .before
 
 loop-holds : tie.Need-loop-holds Inv-loop μ-loop
 loop-holds c = (search needs, refl, refl, at-start _ _ _ _ _)
@@ -72,11 +72,11 @@ seen-requires : tie.Need-seen-requires Inv-loop μ-loop
 seen-requires c κs = let l = loopOf (recordOf (c .before .before)) in omega (arith, l .loop .inv, entryOf l .pre)
 
 same-length-3 : tie.Need-same-length-3 Inv-loop μ-loop
-same-length-3 c = loopOf (recordOf (kindOf (c .before) .before)) .loop .inv .1
+same-length-3 c = loopOf (recordOf (kindKnown (c .before) .before)) .loop .inv .1
 
 returns-3 : tie.Need-returns-3 Inv-loop μ-loop
 returns-3 c =
-    let k = kindOf (c .before) in
+    let k = kindKnown (c .before) in
     let r = recordOf (k .before) in
     let l = loopOf r .loop in
     let q = post-refused _ (namesAt (l .names) _ _) (named-twice (l .inv .3) (r .before .loop-test .taken) (r .read-formal .ensures .0) (k .before .before .reading .given .1) (omega arith) (c .before .seen .ensures) (c .if2 .taken)) in
@@ -89,7 +89,7 @@ mul-names : tie.Need-mul-names Inv-loop μ-loop
 mul-names c = search needs
 
 slice-write-names : tie.Need-slice-write-names Inv-loop μ-loop
-slice-write-names c = let l = loopOf (recordOf (kindOf (c .before) .before)) in omega (arith, l .loop .inv, entryOf l .pre)
+slice-write-names c = let l = loopOf (recordOf (kindKnown (c .before) .before)) in omega (arith, l .loop .inv, entryOf l .pre)
 
 add-i : tie.Need-add-i Inv-loop μ-loop
 add-i c = search needs
@@ -99,7 +99,7 @@ loop-less c = search needs
 
 loop-again : tie.Need-loop-again Inv-loop μ-loop
 loop-again c =
-    let k = kindOf (c .before) in
+    let k = kindKnown (c .before) in
     let r = recordOf (k .before) in
     let lp = loopOf r in
     let l = lp .loop in

@@ -4,7 +4,7 @@ use Prim.Native.Nat.{ℕ, _+_, _*_}
 use native.Mathlib.Omega.{arith}
 use borrow.Author.Needs.{needs}
 use Rattle.records.specs.declared.Mark.{Mark}
-use Rattle.records.specs.declared.marks.Fit.the-variants.{Found}
+use Rattle.records.specs.declared.marks.Fit.the-variants.{Matched}
 use Rattle.records.specs.declared.Reading.the-variants.{Taken}
 use Rattle.records.proofs.Places.{is-stray, is-cut, is-whole}
 use Rattle.records.proofs.record.take_record.Statement.{statement}
@@ -56,7 +56,7 @@ returns-2 c =
     let a = startOf f .args in
     let k = c .before .as-usize in (
       is-cut (a .place) (a .script .now) (a .at) (omega (arith, startOf f)) (f .before .field-at .ensures .0) (f .find-mark .ensures)
-          (k .result) (known .0 .1 .0) (known .1 ∙ ap (λ (n : ℕ). Found n (known .0 .1 .0)) (sym (k .ensures .0))) (omega (arith, startOf f)),
+          (k .result) (known .0 .1 .0) (known .1 ∙ ap (λ (n : ℕ). Matched n (known .0 .1 .0)) (sym (k .ensures .0))) (omega (arith, startOf f)),
       tt,
     )
 
@@ -89,7 +89,7 @@ returns-3 c =
           (c .before .before .before .field-of .ensures .0) (c .before .before .field-of2 .ensures .0)
           (c .before .field-of3 .ensures .0) (c .field-of4 .ensures .0)
           ∙ is-whole (a .place) (a .script .now) (a .at) (omega (arith, startOf f)) (f .before .field-at .ensures .0) (f .find-mark .ensures)
-          (k .result) (known .0 .1 .0) (known .1 ∙ ap (λ (n : ℕ). Found n (known .0 .1 .0)) (sym (k .ensures .0))) (omega (arith, b)),
+          (k .result) (known .0 .1 .0) (known .1 ∙ ap (λ (n : ℕ). Matched n (known .0 .1 .0)) (sym (k .ensures .0))) (omega (arith, b)),
       (omega arith, omega (arith, b), search needs, search needs, search needs, search needs),
     )
 

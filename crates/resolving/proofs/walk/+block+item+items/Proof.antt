@@ -8,7 +8,7 @@ use native.Mathlib.Omega.{arith}
 use lib.ListN.{length, drop}
 use Rattle.language.specs.Encoding.{BK-mark}
 use Rattle.coordinates.specs.Enclosure.{Enclosure}
-use Rattle.words.specs.Words.{wordAt}
+use Rattle.laws.specs.Fields.{fieldAt}
 use Rattle.symbols.specs.Chains.{Chained}
 use Rattle.symbols.proofs.Chains.{kept-from}
 use Rattle.extents.specs.Items.{Item}
@@ -244,7 +244,7 @@ block-items-requires t c κs =
     let a = st .args in
     let p = st .pre .1 in
     let n = entered .enter in
-    let w : wordAt (a .script .now) (a .at + 6 * a .count) ≡ BK-mark = sym (m .word .ensures .0) ∙ e .before .before .before .if1 .left in
+    let w : fieldAt (a .script .now) (a .at + 6 * a .count) ≡ BK-mark = sym (m .word .ensures .0) ∙ e .before .before .before .if1 .left in
     let inside = word-within (a .script .now) (a .at + 6 * a .count) (omega (arith, w)) in
     let long = n .ensures .1 .1 .1 .0 .long in (
       omega (arith, inside, st .pre .0),

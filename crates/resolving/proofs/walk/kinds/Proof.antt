@@ -7,7 +7,7 @@ use native.Mathlib.Omega.{arith}
 use lib.ListN.{length}
 use Rattle.language.specs.Text.{Formal}
 use Rattle.language.specs.Encoding.{formalsFields}
-use Rattle.words.specs.Words.{Stands}
+use Rattle.laws.specs.Fields.{FieldsStand}
 use Rattle.resolving.proofs.Listing.{Listing, listing-start, listing-step, listing-end}
 use Rattle.resolving.proofs.walk.kinds.Statement.{statement}
 use Rattle.resolving.proofs.walk.kinds.Tie as tie
@@ -16,7 +16,7 @@ abbrev Inv-loop : tie.InvT-loop
 Inv-loop script code₀ at count i₀ code i =
     (i ≤ count)
     × (length code ≡ length code₀)
-    × ((fs : List Formal) → length fs ≡ count → Stands script at (formalsFields fs) → Listing script code₀ code at i count fs)
+    × ((fs : List Formal) → length fs ≡ count → FieldsStand script at (formalsFields fs) → Listing script code₀ code at i count fs)
 
 abbrev μ-loop : tie.MeasureT-loop
 μ-loop script code₀ at count i₀ code i = count - i

@@ -7,7 +7,7 @@ use Prim.Native.Nat.{_+_, _*_, _-_, _≤_, ℕ, _<_}
 use native.Mathlib.Omega.{arith}
 use lib.ListN.{length, drop}
 use Rattle.language.specs.Encoding.{BK-mark}
-use Rattle.words.specs.Words.{wordAt}
+use Rattle.laws.specs.Fields.{fieldAt}
 use Rattle.uses.specs.Meanings.{scopeOf}
 use Rattle.symbols.specs.Chains.{Chained}
 use Rattle.extents.specs.Items.{Item, itemFields, itemsFields}
@@ -228,7 +228,7 @@ block-items-requires t c κs =
     let m = block-markOf e in
     let st = block-startOf m in
     let a = st .args in
-    let w : wordAt (a .script .now) (a .at + 6 * a .count) ≡ BK-mark = sym (m .word .ensures .0) ∙ e .before .before .before .if1 .left in
+    let w : fieldAt (a .script .now) (a .at + 6 * a .count) ≡ BK-mark = sym (m .word .ensures .0) ∙ e .before .before .before .if1 .left in
     let inside = word-within (a .script .now) (a .at + 6 * a .count) (omega (arith, w)) in
     let hang = g .insert in (
       omega (arith, inside, st .pre .0),

@@ -2,7 +2,7 @@
 use Prim.Native.Nat.{_+_}
 use native.Mathlib.Omega.{arith}
 use lib.ListN.{List·getD-eq-default}
-use Rattle.words.specs.Words.{wordAt}
+use Rattle.laws.specs.Fields.{fieldAt}
 use borrow.Author.Needs.{needs}
 use Rattle.words.proofs.bytes.word_at.Statement.{statement}
 use Rattle.words.proofs.bytes.word_at.Tie as tie
@@ -32,14 +32,14 @@ add-result : tie.Need-add-result
 add-result c = search needs
 
 returns : tie.Need-returns
-unfolding wordAt
+unfolding fieldAt
 returns c = (omega (arith, c .before .before .as-usize .ensures .0, c .as-usize2 .ensures .0), omega arith)
 
 byte-requires : tie.Need-byte-requires
 byte-requires c κs = search needs
 
 returns-2 : tie.Need-returns-2
-unfolding wordAt
+unfolding fieldAt
 returns-2 c =
     let a = c .before .before .before .args in
     let none = List·getD-eq-default (a .script .now) 0 {n = a .at + 1} (c .before .if1 .left) in
