@@ -110,7 +110,7 @@ fn body(
     let Progress::At(at) = formals else {
         return formals;
     };
-    let reading = records::read_block(script, at);
+    let reading = readers::read_block(script, at);
     let Reading::Taken { next, f0, f1, .. } = reading else {
         return records::onward(reading);
     };
@@ -125,7 +125,7 @@ fn statements(script: &[u8], names: &mut [u32], start: usize, s: usize, below: u
     let mut at = start;
     let mut i = 0;
     while i < s {
-        let reading = records::read_statement(script, at);
+        let reading = readers::read_statement(script, at);
         let Reading::Taken {
             mark,
             next,

@@ -48,7 +48,7 @@ pub fn heading(
     requires { ⌜ base + count ≤ length (now names) ⌝ }
     ensures { λ r. ⌜ (r ≡ headingAt (now (script .entry)) at s (namesAt (now (names .entry)) base count)) × Within (length (now (script .entry))) at r ⌝ }
 {
-    let reading = records::read_declaration(script, at);
+    let reading = readers::read_declaration(script, at);
     let Reading::Taken {
         mark,
         next,

@@ -22,7 +22,7 @@ pub fn action(script: &[u8], mark: Mark, at: usize, next: usize, f1: usize) -> P
             if MOST_NAMES < f1 {
                 return Progress::Refused(Refusal::FieldRange, at);
             }
-            records::pass_fields(script, at, next, f1)
+            readers::pass_fields(script, at, next, f1)
         }
         Mark::AR => {
             if LAST_OPERATION < f1 {

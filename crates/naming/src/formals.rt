@@ -30,7 +30,7 @@ pub fn read_formals(
     let mut at = start;
     let mut i = 0;
     while i < p {
-        let reading = records::read_formal(script, at);
+        let reading = readers::read_formal(script, at);
         let Reading::Taken { next, f0, f1, .. } = reading else {
             return records::onward(reading);
         };

@@ -4,4 +4,3 @@ pub mod Counts
 pub mod Taking
 pub mod Places
 pub mod Steps
-pub mod Typed

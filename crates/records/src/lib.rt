@@ -1,14 +1,14 @@
 // Reading the records of a script. A mark is looked for in a constant table, which has its number of fields (`marks`); then its fields
-// are taken (`fields`, `record`). The reader over the script hands records out (`reader`).
+// are taken (`fields`, `record`).
 use language::Refusal;
 ghost use mathlib.Core.Path.{_≡_};
 ghost use Rattle.records.specs.Taking.{progressOf};
 
 mod fields;
 mod marks;
-mod reader;
 mod record;
 
+pub use fields::fields_from;
 pub use marks::AR;
 pub use marks::BK;
 pub use marks::BK_BYTES;
@@ -26,11 +26,10 @@ pub use marks::QY;
 pub use marks::VR;
 pub use marks::VR_BYTES;
 pub use marks::field_count;
-pub use reader::pass_fields;
-pub use reader::read_block;
-pub use reader::read_declaration;
-pub use reader::read_formal;
-pub use reader::read_statement;
+pub use record::block_at;
+pub use record::declaration_at;
+pub use record::formal_at;
+pub use record::statement_at;
 
 pub enum Mark {
     BK,

@@ -36,7 +36,7 @@ pub fn structure(script: &[u8]) -> Verdict
     if n % 2 == 1 {
         return Verdict::Refused(Refusal::ScriptLength, 0);
     }
-    let reading = records::read_block(script, 0);
+    let reading = readers::read_block(script, 0);
     let Reading::Taken { next, f0, f1, .. } = reading else {
         return ended(records::onward(reading), n);
     };

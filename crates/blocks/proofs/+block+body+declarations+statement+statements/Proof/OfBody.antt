@@ -6,7 +6,7 @@ use borrow.Author.Needs.{needs}
 use native.Mathlib.Omega.{arith}
 use Rattle.language.specs.Structure.{blockWith}
 use Rattle.records.specs.Taking.{Within}
-use Rattle.records.proofs.read_block.Reads as read-block-reads
+use Rattle.readers.proofs.read_block.Reads as read-block-reads
 use Rattle.records.proofs.onward.Reads as onward-reads
 use Rattle.naming.proofs.formals.read_formals.Reads as formals-reads
 use Rattle.blocks.proofs.MarkCases.{others-below, few-formals}

@@ -6,7 +6,7 @@ use borrow.Author.Needs.{needs}
 use native.Mathlib.Omega.{arith}
 use Rattle.language.specs.Structure as definitions
 use Rattle.records.specs.Taking.{Within}
-use Rattle.records.proofs.read_statement.Reads as read-statement-reads
+use Rattle.readers.proofs.read_statement.Reads as read-statement-reads
 use Rattle.records.proofs.onward.Reads as onward-reads
 use Rattle.blocks.specs.Progress.{baseOf}
 use Rattle.blocks.proofs.Lands.{tracks-block}

@@ -1,4 +1,4 @@
--- `records::reader::pass_fields` meets its contract. Assumes nothing.
+-- `readers::pass_fields` meets its contract. Assumes nothing.
 use mathlib.Core.Path.{_≡_, sym, ap}
 use Prim.Native.Nat.{ℕ, _+_, _*_, _<_, _≤_}
 use mathlib.Core.List.{List}
@@ -6,12 +6,12 @@ use native.Mathlib.Omega.{arith}
 use lib.ListN.{length}
 use Rattle.language.specs.Structure.{fields}
 use Rattle.language.specs.declared.Refusal.the-variants.{PastTheEnd}
 use Rattle.records.specs.Taking.{unread, forget}
 use Rattle.records.specs.declared.Progress.the-variants.{At, Refused}
 use Rattle.records.proofs.Taking.{fields-all, fields-none}
 use borrow.Author.Needs.{needs}
-use Rattle.records.proofs.reader.pass_fields.Statement.{statement}
-use Rattle.records.proofs.reader.pass_fields.Tie as tie
+use Rattle.readers.proofs.pass_fields.Statement.{statement}
+use Rattle.readers.proofs.pass_fields.Tie as tie
 
 module _ (bs : List ℕ) (at from count : ℕ) where
   cut-off : length (unread bs from) < count → Refused PastTheEnd at ≡ forget (fields at count from (unread bs from))

@@ -1,21 +1,21 @@
 // Records as the reader over the script hands them out, and the functions with plain parameters that make a reader and pass it on. The
 // borrow checker covers no function that has a reader, so each leaves the work to a function of the slice and the number.
-use super::Place;
-use super::Progress;
-use super::Reading;
-use super::fields::fields_from;
-use super::record::block_at;
-use super::record::declaration_at;
-use super::record::formal_at;
-use super::record::statement_at;
 use language::Refusal;
+use records::Place;
+use records::Progress;
+use records::Reading;
+use records::block_at;
+use records::declaration_at;
+use records::fields_from;
+use records::formal_at;
+use records::statement_at;
 use words::Reader;
 use words::reader_at;
 ghost use mathlib.Core.Path.{_≡_};
 ghost use Prim.Native.Nat.{_+_, _*_, _^_, _<_};
 ghost use lib.ListN.{length};
 ghost use Rattle.language.specs.Structure as definitions;
 ghost use Rattle.records.specs.Taking.{unread, forget, recordAt, Within};
 
 // The record at the reader's position, by the place where it stands.
 fn block<'a>(r: Reader<'a>) -> Reading
