@@ -15,7 +15,7 @@ use Rattle.resolved.specs.Resolved.{packed, placeOf, declTarget, declKindField,
 use Rattle.resolved.specs.Lengths.{formals-fields}
 use Rattle.laws.specs.Fields.{fieldAt, FieldsStand, fields-first, fields-after, fields-third}
 use Rattle.extents.specs.Items.{declared, itemFields}
-use Rattle.emitting.specs.Emitted.{entryOf}
+use Rattle.writing.specs.Visible.{entryOf}
 use Rattle.declaring.specs.Declared.{startsOf, Stated, Detailed, declEntries}
 use Rattle.declaring.proofs.Putting.{joined-next, joined-all, dropped-at}
 

@@ -11,7 +11,7 @@ use Rattle.language.specs.Text.{Formal, formalNames}
 use Rattle.language.specs.Encoding.{kindField, formalsFields, FM-mark}
 use Rattle.resolved.specs.Resolved.{packed, formalWords}
 use Rattle.laws.specs.Fields.{fieldAt, FieldsStand, fields-after, fields-third}
-use Rattle.emitting.specs.Emitted.{entryOf}
+use Rattle.writing.specs.Visible.{entryOf}
 use Rattle.declaring.specs.Declared.{formalEntries}
 use Rattle.declaring.proofs.Putting.{joined-next, joined-all}
 

@@ -20,7 +20,7 @@ use Rattle.extents.specs.Items.{Item, declared, stated, itemsFields}
 use Rattle.extents.proofs.Inside.{decl-items, stmt-items}
 use Rattle.scoping.specs.Walking.{BlockHere}
 use Rattle.scoping.proofs.Blocks.{stacked}
-use Rattle.emitting.specs.Emitted.{Short, Fits, Shown, entryOf}
+use Rattle.writing.specs.Visible.{Short, Fits, Shown, entryOf}
 use Rattle.declaring.specs.Declared.{startsOf, Started, IfLabelled, Stated, FormalsPushed, DeclsPushed, formalEntries, declEntries, Declares}
 use Rattle.declaring.proofs.Statements.{stmts-two, decls-two, stated-there, place-near, first-place}
 

@@ -12,7 +12,7 @@ use Rattle.resolved.specs.Resolved.{declTarget, declKindField, formalWords, dec
 use Rattle.laws.specs.Fields.{fieldAt, FieldsStand}
 use Rattle.extents.specs.Items.{Item, declared, itemFields, itemsFields}
 use Rattle.scoping.specs.Walking.{BlockHere}
-use Rattle.emitting.specs.Emitted.{entryOf, Shown}
+use Rattle.writing.specs.Visible.{entryOf, Shown}
 
 -- where records from an offset on begin
 unfoldable pub startsOf : List Item → ℕ → List ℕ

@@ -1,3 +1,1 @@
-pub mod Growth
-pub mod Lookups
 pub mod Statements

@@ -1,4 +1,4 @@
--- The words of each kind of statement, and of a declaration's name.
+-- The words of each kind of statement.
 -- Assumes nothing.
 use mathlib.Core.Path.{_≡_, refl, sym, _∙_, ap, ap₂, subst}
 use mathlib.Core.Bool.{Bool, true, false, _&&_}
@@ -13,10 +13,11 @@ use Rattle.language.specs.Encoding.{actionFields, operationField, unsigned, CL-
 use Rattle.coordinates.specs.Enclosure.{Enclosure}
 use Rattle.resolved.specs.Resolved.{formalIn, direct, chosen, nameWord, resolvedAction}
 use Rattle.laws.specs.Fields.{fieldAt, fieldsAt, FieldsStand, fields-are, fields-third}
-use Rattle.emitting.specs.Growth.{Grown}
-use Rattle.emitting.specs.Emitted.{wordIn, usedAt, Short, AllShort, Shown, knWords, arWords, ifWords, goWords, clWords, pairWords, qyWords, argumentWords, emittedAs, Emitted, Named}
-use Rattle.emitting.proofs.Growth.{grown-nothing, grown-zero, put-grows, grown-more, grown-then}
-use Rattle.emitting.proofs.Lookups.{word-is, all-short}
+use Rattle.writing.specs.Growth.{Grown}
+use Rattle.writing.specs.Visible.{wordIn, usedAt, Short, AllShort, Shown}
+use Rattle.emitting.specs.Emitted.{knWords, arWords, ifWords, goWords, clWords, pairWords, qyWords, argumentWords, emittedAs, Emitted}
+use Rattle.writing.proofs.Growth.{grown-nothing, put-grows, grown-more, grown-then}
+use Rattle.writing.proofs.Lookups.{word-is, all-short, used-short, used-is}
 
 chosen-short : (t : Bool) (a b : ℕ) → Short a → Short b → Short (chosen t a b)
 unfolding chosen
@@ -36,11 +37,6 @@ three-and false t u = refl
 all-direct : (x y z : ℕ) → eqb (x + (y + z)) 0 ≡ (eqb x 0 && eqb y 0 && eqb z 0)
 all-direct x y z =
     none-of x (y + z) ∙ ap (λ (t : Bool). eqb x 0 && t) (none-of y z) ∙ three-and (eqb x 0) (eqb y 0) (eqb z 0)
-
-module _ (bs es : List ℕ) (short : AllShort es) where
-  used-short : (o : ℕ) {a : ℕ} → a ≡ usedAt bs es o → Short a
-  unfolding usedAt
-  used-short o e = subst Short (sym e) (short (fieldAt bs o))
 
 op-short : {op : ℕ} (t : Bool) (a b : ℕ) → op ≡ chosen t a b → Short a → Short b → Short op
 op-short t a b e h k = subst Short (sym e) (chosen-short t a b h k)
@@ -147,10 +143,6 @@ nth bs at (w ∷ ws) h (suc k) l = subst (λ (o : ℕ). fieldAt bs o ≡ getD ws
     on = omega arith
 
 module _ (bs es : List ℕ) (encl : Enclosure) (s : Shown encl es) where
-  used-is : (o n : ℕ) → fieldAt bs o ≡ n → usedAt bs es o ≡ nameWord encl n
-  unfolding usedAt
-  used-is o n e = ap (λ (m : ℕ). wordIn m es) e ∙ word-is encl es s n
-
   arguments-are : (xs : List ℕ) → map (λ (n : ℕ). wordIn n es) xs ≡ map (nameWord encl) xs
   arguments-are [] = refl
   arguments-are (x ∷ xs) = ap₂ (λ (w : ℕ) (ws : List ℕ). w ∷ ws) (word-is encl es s x) (arguments-are xs)
@@ -159,27 +151,27 @@ module _ (bs es : List ℕ) (encl : Enclosure) (s : Shown encl es) where
   unfolding actionFields emittedAs resolvedAction arWords ifWords knWords clWords goWords pairWords qyWords argumentWords
   emits at (KN t z) h =
       let f = nth bs at (actionFields (KN t z)) h in
-      let w = used-is (at + 2) t (f 1 (omega arith)) in
+      let w = used-is bs es encl s (at + 2) t (f 1 (omega arith)) in
       let v : fieldAt bs (at + 4) + 65536 * fieldAt bs (at + 6) ≡ unsigned z = omega (arith, f 2 (omega arith), f 3 (omega arith)) in
       ap (λ (m : ℕ). emittedAs m bs es at) (h .0) ∙ cc
   emits at (AR t o l r) h =
       let f = nth bs at (actionFields (AR t o l r)) h in
-      let w = used-is (at + 2) t (f 1 (omega arith)) in
+      let w = used-is bs es encl s (at + 2) t (f 1 (omega arith)) in
       let k = f 2 (omega arith) in
-      let a = used-is (at + 6) l (f 3 (omega arith)) in
-      let b = used-is (at + 8) r (f 4 (omega arith)) in
+      let a = used-is bs es encl s (at + 6) l (f 3 (omega arith)) in
+      let b = used-is bs es encl s (at + 8) r (f 4 (omega arith)) in
       ap (λ (m : ℕ). emittedAs m bs es at) (h .0) ∙ cc
   emits at (IF v l) h =
       let f = nth bs at (actionFields (IF v l)) h in
-      let w = used-is (at + 2) v (f 1 (omega arith)) in
-      let a = used-is (at + 4) l (f 2 (omega arith)) in
+      let w = used-is bs es encl s (at + 2) v (f 1 (omega arith)) in
+      let a = used-is bs es encl s (at + 4) l (f 2 (omega arith)) in
       ap (λ (m : ℕ). emittedAs m bs es at) (h .0) ∙ cc
   emits at (GO l) h =
-      let a = used-is (at + 2) l (h .1 .0) in
+      let a = used-is bs es encl s (at + 2) l (h .1 .0) in
       ap (λ (m : ℕ). emittedAs m bs es at) (h .0) ∙ cc
   emits at (CL p xs) h =
       let f = nth bs at (actionFields (CL p xs)) h in
-      let w = used-is (at + 2) p (h .1 .0) in
+      let w = used-is bs es encl s (at + 2) p (h .1 .0) in
       let n = f 2 (omega arith) in
       let six : at + 2 + 2 + 2 ≡ at + 6 = omega arith in
       let k = fields-are bs (at + 6) xs (subst (λ (o : ℕ). FieldsStand bs o xs) six (h .1 .1 .1)) in
@@ -190,30 +182,25 @@ module _ (bs es : List ℕ) (encl : Enclosure) (s : Shown encl es) where
       ∙ ap (λ (c : ℕ). chosen (direct (nameWord encl p)) 7 15 ∷ nameWord encl p ∷ c ∷ map (nameWord encl) xs) n
   emits at (AD g m) h =
       let f = nth bs at (actionFields (AD g m)) h in
-      let w = used-is (at + 2) g (f 1 (omega arith)) in
-      let a = used-is (at + 4) m (f 2 (omega arith)) in
+      let w = used-is bs es encl s (at + 2) g (f 1 (omega arith)) in
+      let a = used-is bs es encl s (at + 4) m (f 2 (omega arith)) in
       ap (λ (m : ℕ). emittedAs m bs es at) (h .0) ∙ cc
   emits at (RM g m) h =
       let f = nth bs at (actionFields (RM g m)) h in
-      let w = used-is (at + 2) g (f 1 (omega arith)) in
-      let a = used-is (at + 4) m (f 2 (omega arith)) in
+      let w = used-is bs es encl s (at + 2) g (f 1 (omega arith)) in
+      let a = used-is bs es encl s (at + 4) m (f 2 (omega arith)) in
       ap (λ (m : ℕ). emittedAs m bs es at) (h .0) ∙ cc
   emits at (QY t g m) h =
       let f = nth bs at (actionFields (QY t g m)) h in
-      let w = used-is (at + 2) t (f 1 (omega arith)) in
-      let a = used-is (at + 4) g (f 2 (omega arith)) in
-      let b = used-is (at + 6) m (f 3 (omega arith)) in
+      let w = used-is bs es encl s (at + 2) t (f 1 (omega arith)) in
+      let a = used-is bs es encl s (at + 4) g (f 2 (omega arith)) in
+      let b = used-is bs es encl s (at + 6) m (f 3 (omega arith)) in
       ap (λ (m : ℕ). emittedAs m bs es at) (h .0) ∙ cc
 
 -- a statement by its mark
 module _ (bs es : List ℕ) (at : ℕ) (c c′ : List ℕ) where
   pub emit-by : (ws : List ℕ) → emittedAs (fieldAt bs at) bs es at ≡ ws → (AllShort es → Grown c c′ at ws) → Emitted bs es at c c′
   emit-by ws e g a encl s h = subst (Grown c c′ at) (sym e ∙ emits bs es encl s at a h) (g (all-short encl es s))
-
-  pub name-grown : (w : ℕ) → w ≡ usedAt bs es (at + 2) → c′ ≡ set c ((at + 2) / 2) (w % 4294967296) → Named bs es at c c′
-  name-grown w e p n encl s q =
-      subst (λ (v : ℕ). Grown c c′ at (0 ∷ v ∷ [])) (e ∙ used-is bs es encl s (at + 2) n q)
-      (grown-more refl (grown-zero c at) (put-grows p (used-short bs es (all-short encl es s) (at + 2) e)))
 
   pub emit-other :
       (m : ℕ) → (m ≡ AR-mark → ⊥) → (m ≡ IF-mark → ⊥) → (m ≡ KN-mark → ⊥) → (m ≡ CL-mark → ⊥) → (m ≡ GO-mark → ⊥) → (m ≡ AD-mark → ⊥) → (m ≡ RM-mark → ⊥) →

@@ -1,49 +1,15 @@
--- The words of a statement, and of a declaration's name, from its bytes and the array of the visible names: each name with its word.
-use Prim.Native.Nat.{ℕ, _+_, _*_, _<_}
-use mathlib.Core.Bool.{Bool, true, false, _&&_}
+-- The words of a statement, from its bytes and the array of the visible names: each name with its word.
+use Prim.Native.Nat.{ℕ, _+_, _*_}
+use mathlib.Core.Bool.{true, false, _&&_}
 use mathlib.Core.List.{List, [], _∷_, map}
-use mathlib.Core.Path.{_≡_}
 use lib.Dec.{eqb}
-use lib.ListN.{length, drop}
 use Rattle.language.specs.Text.{Action}
-use Rattle.language.specs.Encoding.{actionFields, CL-mark, GO-mark, IF-mark, KN-mark, AR-mark, AD-mark, RM-mark, QY-mark}
-use Rattle.laws.specs.Each.{Each}
-use Rattle.coordinates.specs.Enclosure.{Enclosure}
-use Rattle.resolved.specs.Resolved.{visibleWords, nameWord, direct, chosen, resolvedAction}
+use Rattle.language.specs.Encoding.{actionFields, CL-mark, GO-mark, IF-mark, KN-mark, AR-mark, AD-mark, RM-mark}
 use Rattle.laws.specs.Fields.{fieldAt, fieldsAt, FieldsStand}
-use Rattle.symbols.specs.Entries.{foundIn}
-use Rattle.symbols.specs.declared.Binding.{Binding}
-use Rattle.symbols.specs.declared.Binding.the-variants.{At, Nothing}
-use Rattle.emitting.specs.Growth.{Grown}
-
-unfoldable pub wordOf : Binding → ℕ
-wordOf (At w) = w
-wordOf Nothing = 0
-
--- the word of a name among the entries; 0 where it has none
-unfoldable pub wordIn : ℕ → List ℕ → ℕ
-wordIn n es = wordOf (foundIn n es)
-
--- the word of the name in the field at an offset
-unfoldable pub usedAt : List ℕ → List ℕ → ℕ → ℕ
-usedAt bs es at = wordIn (fieldAt bs at) es
-
-abbrev pub Short : ℕ → Type 0
-Short w = w < 4294967296
-
-abbrev pub AllShort : List ℕ → Type 0
-AllShort es = (n : ℕ) → Short (wordIn n es)
-
--- the entries of an enclosure's visible names
-unfoldable pub entryOf : ℕ × ℕ → ℕ
-entryOf p = p .0 + 65536 * p .1
-
-abbrev pub Fits : ℕ × ℕ → Type 0
-Fits p = (p .0 < 65536) × Short (p .1)
-
-pub record Shown (encl : Enclosure) (es : List ℕ) : Type 0 where
-  pub same : es ≡ map entryOf (visibleWords encl)
-  pub fit : Each Fits (visibleWords encl)
+use Rattle.coordinates.specs.Enclosure.{Enclosure}
+use Rattle.resolved.specs.Resolved.{direct, chosen, resolvedAction}
+use Rattle.writing.specs.Growth.{Grown}
+use Rattle.writing.specs.Visible.{wordIn, usedAt, Shown}
 
 unfoldable pub knWords : List ℕ → List ℕ → ℕ → List ℕ
 knWords bs es at =
@@ -106,8 +72,3 @@ emittedAs m bs es at =
 abbrev pub Emitted : List ℕ → List ℕ → ℕ → List ℕ → List ℕ → Type 0
 Emitted bs es at code code′ =
     (a : Action) (encl : Enclosure) → Shown encl es → FieldsStand bs at (actionFields a) → Grown code code′ at (resolvedAction encl a)
-
--- the mark and the name of a declaration are written as their resolved words
-abbrev pub Named : List ℕ → List ℕ → ℕ → List ℕ → List ℕ → Type 0
-Named bs es at code code′ =
-    (n : ℕ) (encl : Enclosure) → Shown encl es → fieldAt bs (at + 2) ≡ n → Grown code code′ at (0 ∷ nameWord encl n ∷ [])

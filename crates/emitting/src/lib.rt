@@ -1,15 +1,16 @@
-// The words of the resolved script, written at their places: those of a statement, and of a declaration's name. All is safe on any bytes.
+// The words of a statement of the resolved script, written at their places. All is safe on any bytes.
 use records::AR;
 use records::CL;
 use records::GO;
 use records::IF;
 use records::KN;
-use symbols::Binding;
-use symbols::find;
 use words::word;
+use writing::put;
 use writing::put_five;
 use writing::put_four;
+use writing::put_three;
 use writing::put_two;
+use writing::used;
 ghost use mathlib.Core.Path.{_≡_};
 ghost use mathlib.Core.List.{_∷_};
 ghost use Prim.Native.Nat.{_+_, _*_, _^_, _<_};
@@ -18,36 +19,13 @@ ghost use lib.ListN.{drop};
 ghost use Rattle.symbols.specs.Chains.{Chained};
 ghost use Rattle.laws.specs.Fields.{fieldAt};
 ghost use Rattle.resolved.specs.Resolved.{chosen, formalIn};
-ghost use Rattle.emitting.specs.Growth.{Grown};
-ghost use Rattle.emitting.specs.Emitted.{wordIn, usedAt, AllShort, knWords, arWords, ifWords, goWords, clWords, pairWords, qyWords, argumentWords, Emitted, Named};
-
-mod writing;
-
-pub use writing::put;
-pub use writing::put_three;
+ghost use Rattle.writing.specs.Growth.{Grown};
+ghost use Rattle.writing.specs.Visible.{AllShort};
+ghost use Rattle.emitting.specs.Emitted.{knWords, arWords, ifWords, goWords, clWords, pairWords, qyWords, argumentWords, Emitted};
 
 const AD: usize = 0x4441;
 
 const RM: usize = 0x4d52;
-
-// The word of a name; 0 where it is not visible.
-pub fn named(entries: &[usize], top: usize, name: usize) -> usize
-    requires { ⌜ Chained (now entries) top ⌝ }
-    ensures { λ r. ⌜ (r ≡ wordIn name (drop top (now (entries .entry)))) × (r < 2 ^ 48) ⌝ }
-{
-    let Binding::At(w) = find(entries, top, name) else {
-        return 0;
-    };
-    w
-}
-
-// The word of the name in the field at an offset.
-fn used(script: &[u8], entries: &[usize], top: usize, at: usize) -> usize
-    requires { ⌜ (at < 2 ^ 33) × Chained (now entries) top ⌝ }
-    ensures { λ r. ⌜ (r ≡ usedAt (now (script .entry)) (drop top (now (entries .entry))) at) × (r < 2 ^ 48) ⌝ }
-{
-    named(entries, top, word(script, at))
-}
 
 // Whether a word is a formal's: 1, or 0.
 fn formal(w: usize) -> usize
@@ -151,14 +129,6 @@ fn emit_cl(script: &[u8], entries: &[usize], top: usize, code: &mut [u32], at: u
     let count = word(script, at + 4);
     put_three(code, at, operation(formal(w), 7, 15), w, count);
     arguments(script, entries, top, code, at + 6, count);
-}
-
-// The name of a declaration. Its mark's word stays 0.
-pub fn emit_name(script: &[u8], entries: &[usize], top: usize, code: &mut [u32], at: usize)
-    requires { ⌜ (at < 2 ^ 32) × Chained (now entries) top ⌝ }
-    ensures { λ _. ⌜ Named (now (script .entry)) (drop top (now (entries .entry))) at (now (code .entry)) (now (code .exit)) ⌝ }
-{
-    put(code, at + 2, used(script, entries, top, at + 2));
 }
 
 // A statement other than BK, with its mark.

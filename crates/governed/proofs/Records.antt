@@ -11,8 +11,8 @@ use Rattle.coordinates.specs.Enclosure.{Enclosure}
 use Rattle.resolved.specs.Resolved.{nameWord, resolvedAction, resolvedFormals, resolvedBlock, Covers}
 use Rattle.laws.specs.Fields.{fieldAt, FieldsStand, fields-third}
 use Rattle.extents.specs.Items.{formal, body, declared, stated, blockHead, headFields}
-use Rattle.emitting.specs.Growth.{Grown}
-use Rattle.emitting.proofs.Growth.{grown-nothing, grown-zero, grown-then, grown-more}
+use Rattle.writing.specs.Growth.{Grown}
+use Rattle.writing.proofs.Growth.{grown-nothing, grown-zero, grown-then, grown-more}
 use Rattle.governed.specs.Governed.{governedAction, governedFormals, governedBlock}
 use Rattle.governed.specs.Layouts.{governedLayout, resolvedLayout}
 use Rattle.governed.specs.Parts.{ownWords}

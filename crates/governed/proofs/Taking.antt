@@ -8,7 +8,7 @@ use lib.ListN.{length, getD, replicate, set, length-append, length-replicate}
 use lib.Seq.{set-at, set-out}
 use Rattle.laws.specs.Lists.{set-append-add}
 use Rattle.resolved.specs.Resolved.{Covers}
-use Rattle.emitting.specs.Growth.{Grown}
+use Rattle.writing.specs.Growth.{Grown}
 use Rattle.governed.specs.Governing.{taken, crossed}
 
 -- one word more, or a place past the end

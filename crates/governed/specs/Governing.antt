@@ -12,7 +12,7 @@ use Rattle.coordinates.specs.Enclosure.{Enclosure}
 use Rattle.resolved.specs.Resolved.{resolvedOf, Covers}
 use Rattle.laws.specs.Fields.{FieldsStand}
 use Rattle.extents.specs.Items.{Item, headFields}
-use Rattle.emitting.specs.Growth.{Grown}
+use Rattle.writing.specs.Growth.{Grown}
 use Rattle.governed.specs.Governed.{governedOf}
 use Rattle.governed.specs.Layouts.{governedLayout, resolvedLayout}
 use Rattle.governed.specs.Parts.{ownWords}

@@ -16,10 +16,10 @@ use Rattle.symbols.proofs.Chains.{kept-from}
 use Rattle.extents.specs.Items.{itemsFields, inBlock, declared, stated}
 use Rattle.scoping.specs.Walking.{BlockHere}
 use Rattle.scoping.proofs.Blocks.{items-here, reaches}
-use Rattle.emitting.specs.Growth.{Grown}
-use Rattle.emitting.specs.Emitted.{wordIn, Short, Shown}
-use Rattle.emitting.proofs.Growth.{grown-then, grown-patched}
-use Rattle.emitting.proofs.Lookups.{word-is, word-short}
+use Rattle.writing.specs.Growth.{Grown}
+use Rattle.writing.specs.Visible.{wordIn, Short, Shown}
+use Rattle.writing.proofs.Growth.{grown-then, grown-patched}
+use Rattle.writing.proofs.Lookups.{word-is, word-short}
 use Rattle.declaring.specs.Declared.{Declares}
 use Rattle.resolving.specs.Resolving.{resolvedItems, BlockIs, ItemsIs, Written, FormalsWritten, Entered, Leads, BlockWritten, ItemsWritten}
 use Rattle.resolving.proofs.Items.{stmts-resolved, decls-resolved}

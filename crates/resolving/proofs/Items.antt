@@ -13,9 +13,9 @@ use Rattle.laws.specs.Fields.{FieldsStand, field-inside, fields-first, fields-a
 use Rattle.extents.specs.Items.{Item, formal, body, declared, stated, itemFields, itemsFields}
 use Rattle.extents.proofs.Inside.{item-opens, head-marked}
 use Rattle.scoping.specs.Walking.{FormedItem, FormedItems, ItemsHere, ItemHere}
-use Rattle.emitting.specs.Growth.{Grown}
-use Rattle.emitting.specs.Emitted.{Shown}
-use Rattle.emitting.proofs.Growth.{grown-nothing, grown-then}
+use Rattle.writing.specs.Growth.{Grown}
+use Rattle.writing.specs.Visible.{Shown}
+use Rattle.writing.proofs.Growth.{grown-nothing, grown-then}
 use Rattle.resolving.specs.Resolving.{resolvedItem, resolvedItems, ItemsIs, ItemIs, Written}
 
 -- declarations and statements as records

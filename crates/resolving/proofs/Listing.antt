@@ -9,8 +9,8 @@ use Rattle.language.specs.Text.{Formal}
 use Rattle.language.specs.Encoding.{kindField, formalsFields, FM-mark}
 use Rattle.resolved.specs.Resolved.{resolvedFormals}
 use Rattle.laws.specs.Fields.{fieldAt, FieldsStand, fields-after, fields-third}
-use Rattle.emitting.specs.Growth.{Grown}
-use Rattle.emitting.proofs.Growth.{grown-nothing, grown-zero, put-grows, grown-more}
+use Rattle.writing.specs.Growth.{Grown}
+use Rattle.writing.proofs.Growth.{grown-nothing, grown-zero, put-grows, grown-more}
 
 -- the formals still to come give all of them
 pub record Listing (bs c₀ c : List ℕ) (at i count : ℕ) (fs : List Formal) : Type 0 where

@@ -18,9 +18,10 @@ use Rattle.extents.specs.Passing.{Passed}
 use Rattle.extents.specs.declared.passing.Step.{Step}
 use Rattle.scoping.specs.Walking.{FormedItem, BlockHere, ItemHere}
 use Rattle.scoping.proofs.Statements.{plain, block-mark, alone}
-use Rattle.emitting.specs.Growth.{Grown}
-use Rattle.emitting.specs.Emitted.{Shown, Emitted, Named}
-use Rattle.emitting.proofs.Growth.{grown-zero, grown-more, grown-then}
+use Rattle.writing.specs.Growth.{Grown}
+use Rattle.writing.specs.Visible.{Shown, Named}
+use Rattle.emitting.specs.Emitted.{Emitted}
+use Rattle.writing.proofs.Growth.{grown-zero, grown-more, grown-then}
 use Rattle.resolving.specs.Resolving.{resolvedItem, BlockIs, ItemIs, Written, BlockWritten, ItemWritten}
 
 module _ (bs es : List ℕ) (name at top level : ℕ) (c c′ : List ℕ) where

@@ -16,7 +16,7 @@ use Rattle.resolved.specs.Resolved.{visibleWords, resolvedFormals, resolvedBloc
 use Rattle.resolved.specs.Lengths.{block-length}
 use Rattle.laws.specs.Fields.{FieldsStand, fields-first, fields-stand}
 use Rattle.scoping.specs.Walking.{BlockHere}
-use Rattle.emitting.specs.Emitted.{Shown, entryOf}
+use Rattle.writing.specs.Visible.{Shown, entryOf}
 use Rattle.resolving.specs.Resolving.{BlockIs, BlockWritten, Resolved}
 
 module _ (bs : List ℕ) (bytes : Bytes bs) (t : Block) (e : check bs ≡ accepted t) where

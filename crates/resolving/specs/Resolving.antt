@@ -12,8 +12,8 @@ use Rattle.resolved.specs.Lengths.{covers-front}
 use Rattle.laws.specs.Fields.{FieldsStand}
 use Rattle.extents.specs.Items.{Item, formal, body, declared, stated, itemFields, itemsFields}
 use Rattle.scoping.specs.Walking.{BlockHere, ItemsHere, ItemHere}
-use Rattle.emitting.specs.Growth.{Grown}
-use Rattle.emitting.specs.Emitted.{Shown}
+use Rattle.writing.specs.Growth.{Grown}
+use Rattle.writing.specs.Visible.{Shown}
 
 -- declarations and statements
 unfoldable pub resolvedItem : ℕ → Item → Enclosure → List ℕ

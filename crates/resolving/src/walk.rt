@@ -1,10 +1,6 @@
 // The walk over a script's records in file order. It is safe on any bytes.
 use declaring::declare;
 use emitting::emit;
-use emitting::emit_name;
-use emitting::named;
-use emitting::put;
-use emitting::put_three;
 use extents::past;
 use records::BK;
 use records::LB;
@@ -13,6 +9,10 @@ use records::VR;
 use symbols::insert;
 use symbols::remove;
 use words::word;
+use writing::emit_name;
+use writing::named;
+use writing::put;
+use writing::put_three;
 ghost use mathlib.Core.Path.{_≡_};
 ghost use Prim.Native.Nat.{ℕ, _+_, _*_, _<_, _≤_};
 ghost use lib.ListN.{length, drop};

@@ -1,8 +1,11 @@
 -- `emitting::emit` meets its contract: a case for each mark. Assumes nothing.
 use Prim.Native.Nat.{ℕ}
-use mathlib.Core.Path.{sym, ap, _∙_}
+use mathlib.Core.Path.{_≡_, refl, sym, ap, _∙_}
+use mathlib.Core.List.{List}
 use lib.ListN.{drop}
-use Rattle.emitting.specs.Emitted.{emittedAs, arWords, ifWords, knWords, clWords, goWords, pairWords, qyWords}
+use Rattle.writing.specs.Growth.{Grown}
+use Rattle.writing.specs.Visible.{AllShort}
+use Rattle.emitting.specs.Emitted.{emittedAs, Emitted}
 use Rattle.emitting.proofs.Statements.{emit-by, emit-other}
 use borrow.Author.Needs.{needs}
 use Rattle.emitting.proofs.emit.Statement.{statement}
@@ -30,6 +33,16 @@ notGO c = notCL (c .before)
 abbrev notAD : tie.Else6 → tie.Start
 notAD c = notGO (c .before)
 
+-- what was written for the mark is what the contract asks for
+by-mark : (s : tie.Start) {m : ℕ} {code′ ws : List ℕ} → s .args .mark ≡ m
+    → emittedAs m (s .args .script .now) (drop (s .args .top) (s .args .entries .now)) (s .args .at) ≡ ws
+    → (AllShort (drop (s .args .top) (s .args .entries .now)) → Grown (s .args .code .now) code′ (s .args .at) ws)
+    → Emitted (s .args .script .now) (drop (s .args .top) (s .args .entries .now)) (s .args .at) (s .args .code .now) code′
+by-mark s {m} {code′} {ws} e w g =
+    let a = s .args in
+    emit-by (a .script .now) (drop (a .top) (a .entries .now)) (a .at) (a .code .now) code′ ws
+    (ap (λ (n : ℕ). emittedAs n (a .script .now) (drop (a .top) (a .entries .now)) (a .at)) (sym (s .pre .2) ∙ e) ∙ w) g
+
 emit-ar-requires : tie.Need-emit-ar-requires
 emit-ar-requires c κs = search needs
 
@@ -41,10 +54,7 @@ unfolding emittedAs
 returns c =
     let r = c .before .before in
     let t = r .before .before in
-    let st = startOf (t .before) in
-    let a = st .args in
-    emit-by (a .script .now) (drop (a .top) (a .entries .now)) (a .at) (a .code .now) _ (arWords (a .script .now) (drop (a .top) (a .entries .now)) (a .at))
-    (ap (λ (m : ℕ). emittedAs m (a .script .now) (drop (a .top) (a .entries .now)) (a .at)) (sym (st .pre .2) ∙ t .if1 .taken)) (r .emit-ar .ensures)
+    by-mark (startOf (t .before)) (t .if1 .taken) refl (r .emit-ar .ensures)
 
 emit-if-requires : tie.Need-emit-if-requires
 emit-if-requires c κs = search needs
@@ -57,10 +67,7 @@ unfolding emittedAs
 returns-2 c =
     let r = c .before .before in
     let t = r .before .before in
-    let st = notAR (t .before) in
-    let a = st .args in
-    emit-by (a .script .now) (drop (a .top) (a .entries .now)) (a .at) (a .code .now) _ (ifWords (a .script .now) (drop (a .top) (a .entries .now)) (a .at))
-    (ap (λ (m : ℕ). emittedAs m (a .script .now) (drop (a .top) (a .entries .now)) (a .at)) (sym (st .pre .2) ∙ t .if2 .taken)) (r .emit-if .ensures)
+    by-mark (notAR (t .before)) (t .if2 .taken) refl (r .emit-if .ensures)
 
 emit-kn-requires : tie.Need-emit-kn-requires
 emit-kn-requires c κs = search needs
@@ -73,10 +80,7 @@ unfolding emittedAs
 returns-3 c =
     let r = c .before .before in
     let t = r .before .before in
-    let st = notIF (t .before) in
-    let a = st .args in
-    emit-by (a .script .now) (drop (a .top) (a .entries .now)) (a .at) (a .code .now) _ (knWords (a .script .now) (drop (a .top) (a .entries .now)) (a .at))
-    (ap (λ (m : ℕ). emittedAs m (a .script .now) (drop (a .top) (a .entries .now)) (a .at)) (sym (st .pre .2) ∙ t .if3 .taken)) (r .emit-kn .ensures)
+    by-mark (notIF (t .before)) (t .if3 .taken) refl (r .emit-kn .ensures)
 
 emit-cl-requires : tie.Need-emit-cl-requires
 emit-cl-requires c κs = search needs
@@ -89,10 +93,7 @@ unfolding emittedAs
 returns-4 c =
     let r = c .before .before in
     let t = r .before .before in
-    let st = notKN (t .before) in
-    let a = st .args in
-    emit-by (a .script .now) (drop (a .top) (a .entries .now)) (a .at) (a .code .now) _ (clWords (a .script .now) (drop (a .top) (a .entries .now)) (a .at))
-    (ap (λ (m : ℕ). emittedAs m (a .script .now) (drop (a .top) (a .entries .now)) (a .at)) (sym (st .pre .2) ∙ t .if4 .taken)) (r .emit-cl .ensures)
+    by-mark (notKN (t .before)) (t .if4 .taken) refl (r .emit-cl .ensures)
 
 emit-go-requires : tie.Need-emit-go-requires
 emit-go-requires c κs = search needs
@@ -105,10 +106,7 @@ unfolding emittedAs
 returns-5 c =
     let r = c .before .before in
     let t = r .before .before in
-    let st = notCL (t .before) in
-    let a = st .args in
-    emit-by (a .script .now) (drop (a .top) (a .entries .now)) (a .at) (a .code .now) _ (goWords (a .script .now) (drop (a .top) (a .entries .now)) (a .at))
-    (ap (λ (m : ℕ). emittedAs m (a .script .now) (drop (a .top) (a .entries .now)) (a .at)) (sym (st .pre .2) ∙ t .if5 .taken)) (r .emit-go .ensures)
+    by-mark (notCL (t .before)) (t .if5 .taken) refl (r .emit-go .ensures)
 
 emit-pair-requires : tie.Need-emit-pair-requires
 emit-pair-requires c κs = search needs
@@ -121,10 +119,7 @@ unfolding emittedAs
 returns-6 c =
     let r = c .before .before in
     let t = r .before .before in
-    let st = notGO (t .before) in
-    let a = st .args in
-    emit-by (a .script .now) (drop (a .top) (a .entries .now)) (a .at) (a .code .now) _ (pairWords 8 (a .script .now) (drop (a .top) (a .entries .now)) (a .at))
-    (ap (λ (m : ℕ). emittedAs m (a .script .now) (drop (a .top) (a .entries .now)) (a .at)) (sym (st .pre .2) ∙ t .if6 .taken)) (r .emit-pair .ensures)
+    by-mark (notGO (t .before)) (t .if6 .taken) refl (r .emit-pair .ensures)
 
 emit-pair-requires-2 : tie.Need-emit-pair-requires-2
 emit-pair-requires-2 c κs = search needs
@@ -137,10 +132,7 @@ unfolding emittedAs
 returns-7 c =
     let r = c .before .before in
     let t = r .before .before in
-    let st = notAD (t .before) in
-    let a = st .args in
-    emit-by (a .script .now) (drop (a .top) (a .entries .now)) (a .at) (a .code .now) _ (pairWords 9 (a .script .now) (drop (a .top) (a .entries .now)) (a .at))
-    (ap (λ (m : ℕ). emittedAs m (a .script .now) (drop (a .top) (a .entries .now)) (a .at)) (sym (st .pre .2) ∙ t .if7 .taken)) (r .emit-pair2 .ensures)
+    by-mark (notAD (t .before)) (t .if7 .taken) refl (r .emit-pair2 .ensures)
 
 emit-qy-requires : tie.Need-emit-qy-requires
 emit-qy-requires c κs = search needs
@@ -158,9 +150,8 @@ returns-8 c =
     let e₁ = e₃ .before .before in
     let st = notAR e₁ in
     let a = st .args in
-    emit-by (a .script .now) (drop (a .top) (a .entries .now)) (a .at) (a .code .now) _ (qyWords (a .script .now) (drop (a .top) (a .entries .now)) (a .at))
-    (ap (λ (m : ℕ). emittedAs m (a .script .now) (drop (a .top) (a .entries .now)) (a .at)) (sym (st .pre .2))
-    ∙ emit-other (a .script .now) (drop (a .top) (a .entries .now)) (a .at) (a .code .now) (a .code .now) (a .mark) (e₁ .if1 .left) (e₃ .before .if2 .left) (e₃ .if3 .left)
+    by-mark st refl
+    (emit-other (a .script .now) (drop (a .top) (a .entries .now)) (a .at) (a .code .now) (a .code .now) (a .mark) (e₁ .if1 .left) (e₃ .before .if2 .left) (e₃ .if3 .left)
     (e₅ .before .if4 .left) (e₅ .if5 .left) (e₇ .before .if6 .left) (e₇ .if7 .left)) (r .emit-qy .ensures)
 
 pub emit-spec : {M : Type 1} → statement M

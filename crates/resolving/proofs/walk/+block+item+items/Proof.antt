@@ -31,8 +31,8 @@ use Rattle.resolving.proofs.walk.+block+item+items.Lts-item as item-lts
 use Rattle.resolving.proofs.walk.items.Reads as items
 use Rattle.resolving.proofs.walk.items.Kinds as items-kinds
 use Rattle.resolving.proofs.walk.+block+item+items.Lts-items as items-lts
-use Rattle.emitting.proofs.emit_name.Reads as emit-name-reads
-use Rattle.emitting.proofs.put.Reads as put-reads
+use Rattle.writing.proofs.emit_name.Reads as emit-name-reads
+use Rattle.writing.proofs.put.Reads as put-reads
 use Rattle.resolving.proofs.walk.enter.Reads as enter-reads
 use Rattle.resolving.proofs.walk.leaf.Reads as leaf-reads
 use Rattle.symbols.proofs.remove.Reads as remove-reads

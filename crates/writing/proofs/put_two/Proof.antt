@@ -1,12 +1,12 @@
--- `emitting::writing::put_two` meets its contract. Assumes nothing.
+-- `writing::put_two` meets its contract. Assumes nothing.
 use mathlib.Core.Path.{refl, sym, subst}
 use mathlib.Core.List.{List, [], _∷_}
 use Prim.Native.Nat.{ℕ, _+_}
-use Rattle.emitting.specs.Growth.{Grown}
-use Rattle.emitting.proofs.Growth.{put-grows, grown-more}
+use Rattle.writing.specs.Growth.{Grown}
+use Rattle.writing.proofs.Growth.{put-grows, grown-more}
 use borrow.Author.Needs.{needs}
-use Rattle.emitting.proofs.writing.put_two.Statement.{statement}
-use Rattle.emitting.proofs.writing.put_two.Tie as tie
+use Rattle.writing.proofs.put_two.Statement.{statement}
+use Rattle.writing.proofs.put_two.Tie as tie
 
 -- the places: the first word written
 abbrev firstOf : tie.After-put2 → tie.After-put

@@ -7,8 +7,8 @@ use native.Mathlib.Omega.{arith}
 use lib.ListN.{length, replicate, set, length-append}
 use lib.Seq.{set-at}
 use Rattle.laws.specs.Lists.{set-append-add}
-use Rattle.emitting.specs.Growth.{Grown}
-use Rattle.emitting.specs.Emitted.{Short}
+use Rattle.writing.specs.Growth.{Grown}
+use Rattle.writing.specs.Visible.{Short}
 
 pub grown-nothing : (c : List ℕ) (at : ℕ) → Grown c c at []
 grown-nothing c at = record { grown = λ done n p e l. e ∙ ap (λ (k : ℕ). done ++ replicate k 0) (less n) }

@@ -1,11 +1,11 @@
--- `emitting::named` meets its contract. Assumes nothing.
+-- `writing::named` meets its contract. Assumes nothing.
 use mathlib.Core.Path.{sym, ap, _∙_}
 use native.Mathlib.Omega.{arith}
 use Rattle.symbols.proofs.Entries.{near-place}
-use Rattle.emitting.specs.Emitted.{wordOf, wordIn}
+use Rattle.writing.specs.Visible.{wordOf, wordIn}
 use borrow.Author.Needs.{needs}
-use Rattle.emitting.proofs.named.Statement.{statement}
-use Rattle.emitting.proofs.named.Tie as tie
+use Rattle.writing.proofs.named.Statement.{statement}
+use Rattle.writing.proofs.named.Tie as tie
 
 find-requires : tie.Need-find-requires
 find-requires c κs = search needs

@@ -1,10 +1,10 @@
--- `emitting::writing::put` meets its contract. Assumes nothing.
+-- `writing::put` meets its contract. Assumes nothing.
 use mathlib.Core.Path.{sym}
 use Prim.Native.Nat.{_/_, _%_}
 use lib.Seq.{set-out}
 use borrow.Author.Needs.{needs}
-use Rattle.emitting.proofs.writing.put.Statement.{statement}
-use Rattle.emitting.proofs.writing.put.Tie as tie
+use Rattle.writing.proofs.put.Statement.{statement}
+use Rattle.writing.proofs.put.Tie as tie
 
 cast-code : tie.Need-cast-code
 cast-code c = search needs

@@ -1,11 +1,11 @@
--- `emitting::used` meets its contract. Assumes nothing.
+-- `writing::used` meets its contract. Assumes nothing.
 use mathlib.Core.Path.{ap, _∙_}
 use Prim.Native.Nat.{ℕ}
 use lib.ListN.{drop}
-use Rattle.emitting.specs.Emitted.{wordIn, usedAt}
+use Rattle.writing.specs.Visible.{wordIn, usedAt}
 use borrow.Author.Needs.{needs}
-use Rattle.emitting.proofs.used.Statement.{statement}
-use Rattle.emitting.proofs.used.Tie as tie
+use Rattle.writing.proofs.used.Statement.{statement}
+use Rattle.writing.proofs.used.Tie as tie
 
 word-requires : tie.Need-word-requires
 word-requires c κs = search needs

@@ -1,11 +1,11 @@
--- `emitting::writing::put_three` meets its contract. Assumes nothing.
+-- `writing::put_three` meets its contract. Assumes nothing.
 use mathlib.Core.Path.{refl}
 use Prim.Native.Nat.{_+_}
 use native.Mathlib.Omega.{arith}
-use Rattle.emitting.proofs.Growth.{put-grows, grown-more}
+use Rattle.writing.proofs.Growth.{put-grows, grown-more}
 use borrow.Author.Needs.{needs}
-use Rattle.emitting.proofs.writing.put_three.Statement.{statement}
-use Rattle.emitting.proofs.writing.put_three.Tie as tie
+use Rattle.writing.proofs.put_three.Statement.{statement}
+use Rattle.writing.proofs.put_three.Tie as tie
 
 -- the places: the first word written, and the second
 abbrev firstOf : tie.After-put2 → tie.After-put

@@ -1,9 +1,9 @@
--- `emitting::emit_name` meets its contract. Assumes nothing.
+-- `writing::emit_name` meets its contract. Assumes nothing.
 use lib.ListN.{drop}
-use Rattle.emitting.proofs.Statements.{name-grown}
+use Rattle.writing.proofs.Names.{name-grown}
 use borrow.Author.Needs.{needs}
-use Rattle.emitting.proofs.emit_name.Statement.{statement}
-use Rattle.emitting.proofs.emit_name.Tie as tie
+use Rattle.writing.proofs.emit_name.Statement.{statement}
+use Rattle.writing.proofs.emit_name.Tie as tie
 
 -- the places: the start, from where the name's word is looked for
 abbrev startOf : tie.After-put-arg → tie.Start

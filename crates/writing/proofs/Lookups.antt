@@ -7,15 +7,16 @@ use Prim.Native.Nat.{ℕ, _+_, _*_, _/_, _%_, _<_}
 use native.Mathlib.Omega.{arith}
 use lib.Dec.{eqb}
 use mathlib.Core.Bool.{true, false}
-use Rattle.laws.specs.Each.{Each, each-map}
-use Rattle.laws.specs.Lookup.{each-found, lookup-here, lookup-there}
+use Rattle.laws.specs.Each.{Each}
+use Rattle.laws.specs.Lookup.{lookup-here, lookup-there}
+use Rattle.laws.specs.Fields.{fieldAt}
 use Rattle.laws.specs.Tests.{split}
 use Rattle.language.specs.Basics.{lookup}
 use Rattle.coordinates.specs.Enclosure.{Enclosure}
 use Rattle.resolved.specs.Resolved.{visibleWords, nameWord}
 use Rattle.symbols.specs.Entries.{foundIn}
-use Rattle.symbols.specs.declared.Binding.the-variants.{At, Nothing}
-use Rattle.emitting.specs.Emitted.{wordOf, wordIn, entryOf, Short, AllShort, Fits, Shown}
+use Rattle.symbols.specs.declared.Binding.the-variants.{At}
+use Rattle.writing.specs.Visible.{wordOf, wordIn, usedAt, entryOf, Short, AllShort, Fits, Shown}
 
 module _ (n e : ℕ) (es : List ℕ) where
   found-here : eqb n (e % 65536) ≡ true → foundIn n (e ∷ es) ≡ At (e / 65536)
@@ -69,3 +70,12 @@ all-short encl es s n =
 
 pub word-short : (encl : Enclosure) (es : List ℕ) → Shown encl es → (n : ℕ) → Short (nameWord encl n)
 word-short encl es s n = subst Short (word-is encl es s n) (all-short encl es s n)
+
+-- the word of the name in a field
+pub used-short : (bs es : List ℕ) → AllShort es → (o : ℕ) {a : ℕ} → a ≡ usedAt bs es o → Short a
+unfolding usedAt
+used-short bs es short o e = subst Short (sym e) (short (fieldAt bs o))
+
+pub used-is : (bs es : List ℕ) (encl : Enclosure) → Shown encl es → (o n : ℕ) → fieldAt bs o ≡ n → usedAt bs es o ≡ nameWord encl n
+unfolding usedAt
+used-is bs es encl s o n e = ap (λ (m : ℕ). wordIn m es) e ∙ word-is encl es s n
