@@ -22,8 +22,8 @@ use Rattle.copy_statements.specs.Doing.{Copy, text, cell, valueAt}
 use Rattle.copy_statements.specs.Doing.{Mark, arithmetic, branch, constant, call, goto, block, pair, unpair, query, markOf, happens, doing}
 use Rattle.copy_statements.specs.Doing.{doConstant, doArithmetic, doGoto, doBranch, doBlock, argumentsFrom, differs, doCall}
 use Rattle.copy_statements.specs.Doing.{changes, doAdd, doRemove, answers, doQuery}
-use Rattle.copy_statements.specs.Parts.{cellAt, variableAt, resultAt, jumpAt, branchMove, queryMove, queryWords}
-use Rattle.copy_statements.specs.Parts.{handedFrom, handedAt, refusedBy, refusedAt, enterAt, callMove, callWords}
+use Rattle.copy_arms.specs.Parts.{cellAt, variableAt, resultAt, jumpAt, branchMove, queryMove, queryWords}
+use Rattle.copy_arms.specs.Parts.{handedFrom, handedAt, refusedBy, refusedAt, enterAt, callMove, callWords}
 
 -- the mark that is left
 pub last-mark :

@@ -6,7 +6,7 @@ use lib.ListN.{length}
 use Rattle.acting.specs.Acting.{Scene}
 use Rattle.copy_statements.specs.Doing.{Copy, text, Mark, arithmetic, branch, constant, call, goto, block, pair, unpair, query, markOf}
 use Rattle.copy_statements.specs.Ready.{Fields, Named, Called, By, Ready}
-use Rattle.copy_statements.specs.Parts.{NameAt, CallAt}
+use Rattle.copy_arms.specs.Parts.{NameAt, CallAt}
 
 module _ (c : Copy) (s : Scene) (r : Ready c s) where
   -- where the mark stands in the area

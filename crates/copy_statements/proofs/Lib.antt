@@ -1,4 +1,2 @@
-pub mod Results
-pub mod Entered
 pub mod Asks
 pub mod Acts

@@ -2,4 +2,3 @@
 pub mod Doing
 pub mod Ready
 pub mod Scenes
-pub mod Parts

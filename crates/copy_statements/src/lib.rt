@@ -1,8 +1,91 @@
-// Statements, read from the copy of the innermost activation.
-pub use marks::act;
+// The statement at a place is done as far as words and table go, by its mark in the copied text; where the run goes on is the answer.
+use acting::Move;
+use copy_arms::do_arithmetic;
+use copy_arms::do_branch;
+use copy_arms::do_call;
+use copy_arms::do_constant;
+use copy_arms::do_goto;
+use copy_arms::field;
+use membership::do_add_pair;
+use membership::do_query;
+use membership::do_remove_pair;
+use statements::do_block;
+ghost use mathlib.Core.Path.{_≡_};
+ghost use Rattle.copy_statements.specs.Doing.{doing};
+ghost use Rattle.copy_statements.specs.Ready.{Ready};
+ghost use Rattle.copy_statements.specs.Scenes.{copyBy, sceneBy};
 
-mod arms;
-mod calls;
-mod fields;
-mod marks;
 mod membership;
+
+const AR: usize = 0x5241;
+
+const IF: usize = 0x4649;
+
+const KN: usize = 0x4e4b;
+
+const CL: usize = 0x4c43;
+
+const GO: usize = 0x4f47;
+
+const BK: usize = 0x4b42;
+
+const AD: usize = 0x4441;
+
+const RM: usize = 0x4d52;
+
+pub fn act(
+    code: &[u32; 4096],
+    words: &mut [i32; 8224],
+    area: &[u32],
+    base: usize,
+    firsts: &[u32; 256],
+    starts: &[u16; 256],
+    targets: &[u16; 8224],
+    table: &mut [i32],
+    pairs: usize,
+    group: u32,
+    limit: usize,
+    live: usize,
+    at: usize,
+) -> Move
+    requires { ⌜ Ready (copyBy (now area) base (now firsts) (now starts) (now targets)) (sceneBy (now code) (now words) (now table) pairs group limit live at) ⌝ }
+    ensures { λ r. ⌜ r ≡ (doing (copyBy (now (area .entry)) base (now (firsts .entry)) (now (starts .entry)) (now (targets .entry))) (sceneBy (now (code .entry)) (now (words .entry)) (now (table .entry)) pairs group limit live at)) .move ⌝ }
+    ensures { λ _. ⌜ now (words .exit) ≡ (doing (copyBy (now (area .entry)) base (now (firsts .entry)) (now (starts .entry)) (now (targets .entry))) (sceneBy (now (code .entry)) (now (words .entry)) (now (table .entry)) pairs group limit live at)) .words ⌝ }
+    ensures { λ _. ⌜ now (table .exit) ≡ (doing (copyBy (now (area .entry)) base (now (firsts .entry)) (now (starts .entry)) (now (targets .entry))) (sceneBy (now (code .entry)) (now (words .entry)) (now (table .entry)) pairs group limit live at)) .table ⌝ }
+{
+    let place = base + at;
+    let mark = field(area, place);
+    match mark {
+        AR => do_arithmetic(words, area, firsts, starts, live, place, at),
+        IF => do_branch(words, area, firsts, starts, targets, live, place, at),
+        KN => do_constant(words, area, firsts, starts, live, place, at),
+        CL => do_call(
+            code,
+            words,
+            area,
+            firsts,
+            starts,
+            targets,
+            limit,
+            live,
+            place,
+            at,
+        ),
+        GO => do_goto(area, firsts, starts, targets, live, place + 1),
+        BK => do_block(code, limit, live, at),
+        AD => do_add_pair(
+            words,
+            area,
+            firsts,
+            starts,
+            table,
+            pairs,
+            group,
+            live,
+            place,
+            at,
+        ),
+        RM => do_remove_pair(words, area, firsts, starts, table, pairs, live, place, at),
+        _ => do_query(words, area, firsts, starts, table, pairs, live, place, at),
+    }
+}

@@ -1,6 +1,6 @@
 // AD, RM and QY, each with its mark at `place` of the area and its operation at `at` of the resolved script.
-use super::fields::named;
 use acting::Move;
+use copy_arms::named;
 use pairs::Query;
 use statements::changed;
 ghost use mathlib.Core.Path.{_≡_};
@@ -8,7 +8,7 @@ ghost use Prim.Native.Nat.{_+_, _≤_};
 ghost use Rattle.language.specs.Table.{added, removed, queried};
 ghost use Rattle.pairs.specs.Outcomes.{tableOf, changeOf, wordsAfter, valueOf};
 ghost use Rattle.statements.specs.Pieces.{moveChanged};
-ghost use Rattle.copy_statements.specs.Parts.{cellAt, variableAt, NameAt, queryMove, queryWords};
+ghost use Rattle.copy_arms.specs.Parts.{cellAt, variableAt, NameAt, queryMove, queryWords};
 
 pub fn do_add_pair(
     words: &[i32; 8224],

@@ -7,7 +7,7 @@ use Rattle.language.specs.Table.{queried}
 use Rattle.pairs.specs.declared.Query.{Query}
 use Rattle.pairs.specs.Outcomes.{tableOf, valueOf}
 use Rattle.statements.specs.Words.{read-back, read-value}
-use Rattle.copy_statements.proofs.Results.{gives, refuses}
+use Rattle.copy_arms.proofs.Results.{gives, refuses}
 use Rattle.copy_statements.proofs.membership.do_query.Statement.{statement}
 use Rattle.copy_statements.proofs.membership.do_query.Tie as tie
 

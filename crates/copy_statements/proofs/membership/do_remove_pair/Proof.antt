@@ -5,7 +5,7 @@ use borrow.Author.Needs.{needs}
 use Rattle.language.specs.Table.{Effect, removed}
 use Rattle.pairs.specs.Outcomes.{tableOf}
 use Rattle.statements.specs.Words.{read-value}
-use Rattle.copy_statements.proofs.Results.{changes}
+use Rattle.copy_arms.proofs.Results.{changes}
 use Rattle.copy_statements.proofs.membership.do_remove_pair.Statement.{statement}
 use Rattle.copy_statements.proofs.membership.do_remove_pair.Tie as tie
 

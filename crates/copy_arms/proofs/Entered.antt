@@ -1,0 +1,72 @@
+-- What a call comes to, from what its functions have found: the arguments one by one, 26, and 22 behind it.
+use Prim.Native.Nat.{ℕ, suc, _+_, _*_, _-_, _/_, _%_, _≤_, _<_}
+use native.Mathlib.Omega.{arith}
+use mathlib.Core.Bool.{Bool, true, false, not}
+use mathlib.Core.List.{List}
+use mathlib.Core.Path.{_≡_}
+use borrow.Author.Tests.{eq-eqb, ne-eqb, le-leb, lt-leb}
+use lib.Dec.{leb}
+use lib.IntN.{ℤ}
+use lib.ListN.{getD, set}
+use Rattle.language.specs.declared.Stop.the-variants.{NoActivationLeft, ArgumentsDiffer}
+use Rattle.acting.specs.declared.Move.{Move}
+use Rattle.acting.specs.declared.Move.the-variants.{Enter, Stop}
+use Rattle.acting.specs.Effects.{sameKinds}
+use Rattle.acting.specs.Acting.{setAll}
+use Rattle.copy_arms.specs.Parts.{handedWord, handedFrom, refusedBy, callMove, callWords}
+
+-- 26
+module _ (code : List ℕ) (at body count : ℕ) where
+  pub no-formal : (getD code at 0 % 16 ≡ 15 → ⊥) → false ≡ refusedBy code at body count
+  unfolding refusedBy
+  no-formal d = rw (refusedBy, ne-eqb _ _ d)
+
+  pub number-differs : getD code at 0 % 16 ≡ 15 → (getD code body 0 / 65536 % 256 ≡ count → ⊥) → true ≡ refusedBy code at body count
+  unfolding refusedBy
+  number-differs o d = rw (refusedBy, eq-eqb _ _ o, ne-eqb _ _ d)
+
+  pub kinds-tell :
+      getD code at 0 % 16 ≡ 15 → getD code body 0 / 65536 % 256 ≡ count → {t : Bool} → t ≡ sameKinds code (at + 3) (body - 3 * count) count →
+      not t ≡ refusedBy code at body count
+  unfolding refusedBy
+  kinds-tell o e f = rw (refusedBy, eq-eqb _ _ o, eq-eqb _ _ e, f)
+
+-- the arguments
+module _ (area firsts starts targets : List ℕ) (live place count i : ℕ) (ws : List ℤ) (first : ℕ) where
+  pub arguments-end : count ≤ i → ws ≡ setAll ws (first + i) (handedFrom area firsts starts targets live (place + i) (count - i))
+  unfolding setAll handedFrom
+  arguments-end h = let e : count - i ≡ 0 = omega arith in rw (e, handedFrom, setAll)
+
+  pub arguments-next :
+      i < count → {z : ℤ} → z ≡ handedWord area firsts starts targets live (place + i) →
+      setAll (set ws (first + i) z) (first + (i + 1)) (handedFrom area firsts starts targets live (place + (i + 1)) (count - (i + 1)))
+      ≡ setAll ws (first + i) (handedFrom area firsts starts targets live (place + i) (count - i))
+  unfolding setAll handedFrom
+  arguments-next h p =
+      let e : count - i ≡ suc (count - (i + 1)) = omega arith in
+      let a : place + (i + 1) ≡ place + i + 1 = omega arith in
+      let f : first + (i + 1) ≡ first + i + 1 = omega arith in
+      rw (p, a, f, e, handedFrom, setAll)
+
+pub enters-at :
+    (at : ℕ) {b c n body cell count : ℕ} → b ≡ body → c ≡ cell → n ≡ count → Enter b (c / 32) (at + 3 + n) ≡ Enter body (cell / 32) (at + 3 + count)
+enters-at at p q r = rw (p, q, r)
+
+-- 26, then 22
+module _ (refused : Bool) (limit live : ℕ) (enter : Move) (before after : List ℤ) where
+  pub call-refused : refused ≡ true → (Stop ArgumentsDiffer ≡ callMove refused (leb limit (live + 1)) enter)
+      × (before ≡ callWords refused (leb limit (live + 1)) before after)
+  unfolding callMove callWords
+  call-refused e = (rw (callMove, e), rw (callWords, e))
+
+  pub call-stops :
+      refused ≡ false → limit ≤ live + 1 → (Stop NoActivationLeft ≡ callMove refused (leb limit (live + 1)) enter)
+      × (before ≡ callWords refused (leb limit (live + 1)) before after)
+  unfolding callMove callWords
+  call-stops e h = let f = le-leb limit (live + 1) h in (rw (callMove, e, f), rw (callWords, e, f))
+
+  pub call-enters :
+      refused ≡ false → live + 1 < limit → (enter ≡ callMove refused (leb limit (live + 1)) enter)
+      × (after ≡ callWords refused (leb limit (live + 1)) before after)
+  unfolding callMove callWords
+  call-enters e h = let f = lt-leb limit (live + 1) h in (rw (callMove, e, f), rw (callWords, e, f))

@@ -1,0 +1,100 @@
+-- What the parts of statements come to, from what the functions that they call have done.
+use Prim.Native.Nat.{ℕ}
+use mathlib.Core.Bool.{Bool, true, false}
+use mathlib.Core.List.{List}
+use mathlib.Core.Path.{_≡_, refl, sym, ap, ap₂, _∙_}
+use lib.Dec.{ltb}
+use lib.IntN.{ℤ, pos}
+use lib.ListN.{getD, set}
+use lib.Signed.{mag, ltZ}
+use Rattle.language.specs.Basics.{eqZ}
+use Rattle.language.specs.Text.{Operation, less}
+use Rattle.language.specs.Machine.{compute}
+use Rattle.language.specs.Table.{Effect as Effect-of-table}
+use Rattle.language.specs.declared.Stop as Stop
+use Rattle.pairs.specs.declared.Change.{Change}
+use Rattle.pairs.specs.declared.Query.{Query}
+use Rattle.pairs.specs.declared.Query.the-variants.{Value, Stopped as Refused}
+use Rattle.pairs.specs.Outcomes.{changeOf, wordsAfter}
+use Rattle.acting.specs.declared.Effect.{Effect}
+use Rattle.acting.specs.declared.Effect.the-variants.{Done}
+use Rattle.acting.specs.declared.Move.{Move}
+use Rattle.acting.specs.declared.Move.the-variants.{On, Stop as Halt}
+use Rattle.acting.specs.Effects.{effectOf, wordsOf}
+use Rattle.acting.specs.Acting.{operationOf}
+use Rattle.statements.specs.Pieces.{moveAfter, moveChanged}
+use Rattle.copy_arms.specs.Parts.{branchMove, queryMove, queryWords}
+
+-- AR
+
+less-small : (a b : ℤ) (t : Bool) → ltZ a b ≡ t → ltb (mag (compute less a b)) 2147483648 ≡ true
+unfolding compute
+less-small a b true e = rw (compute, e)
+less-small a b false e = rw (compute, e)
+
+less-done : (a b : ℤ) → Done ≡ effectOf (compute less a b)
+unfolding effectOf
+less-done a b = rw (effectOf, less-small a b (ltZ a b) refl)
+
+less-words : (ws : List ℤ) (c : ℕ) (a b : ℤ) → set ws c (compute less a b) ≡ wordsOf ws c (compute less a b)
+unfolding wordsOf
+less-words ws c a b = rw (wordsOf, less-small a b (ltZ a b) refl)
+
+module _ (words : List ℤ) (next n : ℕ) where
+  abbrev result : Operation → ℕ → ℕ → ℤ
+  result o a b = compute o (getD words a (pos 0)) (getD words b (pos 0))
+
+  module _ {to left right t l r : ℕ} (p : t ≡ to) (q : l ≡ left) (s : r ≡ right) where
+    pub computes :
+        (o : Operation) → operationOf n ≡ o → {m : Move} {e : Effect} {ws : List ℤ} →
+        m ≡ moveAfter e next → e ≡ effectOf (result o l r) → ws ≡ wordsOf words t (result o l r) →
+        (m ≡ moveAfter (effectOf (result (operationOf n) left right)) next) × (ws ≡ wordsOf words to (result (operationOf n) left right))
+    computes o k m e ws =
+        let z : result o l r ≡ result (operationOf n) left right = rw (q, s, k) in
+        (m ∙ ap (λ (e : Effect). moveAfter e next) (e ∙ ap effectOf z), ws ∙ ap₂ (wordsOf words) p z)
+
+    pub compares :
+        operationOf n ≡ less → {ws : List ℤ} → ws ≡ set words t (result less l r) →
+        (On next ≡ moveAfter (effectOf (result (operationOf n) left right)) next) × (ws ≡ wordsOf words to (result (operationOf n) left right))
+    unfolding moveAfter
+    compares k ws =
+        let a = getD words l (pos 0) in
+        let b = getD words r (pos 0) in
+        computes less k refl (less-done a b) (ws ∙ less-words words t a b)
+
+-- IF
+module _ (words : List ℤ) (next : ℕ) (jump : Move) {c d : ℕ} (p : c ≡ d) where
+  tested : {t : Bool} → eqZ (getD words c (pos 0)) (pos 0) ≡ t → eqZ (getD words d (pos 0)) (pos 0) ≡ t
+  tested e = sym (ap (λ (k : ℕ). eqZ (getD words k (pos 0)) (pos 0)) p) ∙ e
+
+  pub stays : eqZ (getD words c (pos 0)) (pos 0) ≡ true → On next ≡ branchMove (getD words d (pos 0)) next jump
+  unfolding branchMove
+  stays e = rw (branchMove, tested e)
+
+  pub goes : eqZ (getD words c (pos 0)) (pos 0) ≡ false → jump ≡ branchMove (getD words d (pos 0)) next jump
+  unfolding branchMove
+  goes e = rw (branchMove, tested e)
+
+-- AD and RM, with the numbers read
+module _ (f : ℤ → ℤ → Effect-of-table) (before : List ℤ) (next : ℕ) {a b group member : ℤ} (p : a ≡ group) (q : b ≡ member) where
+  pub changes :
+      {m : Move} {c : Change} {ws : List ℤ} → m ≡ moveChanged c next → c ≡ changeOf (f a b) → ws ≡ wordsAfter before (f a b) →
+      (m ≡ moveChanged (changeOf (f group member)) next) × (ws ≡ wordsAfter before (f group member))
+  changes m c ws =
+      let e : f a b ≡ f group member = ap₂ f p q in
+      (m ∙ ap (λ (c : Change). moveChanged c next) (c ∙ ap changeOf e), ws ∙ ap (wordsAfter before) e)
+
+-- QY
+module _ (f : ℤ → ℤ → Query) (words : List ℤ) (next : ℕ) {a b group member : ℤ} (p : a ≡ group) (q : b ≡ member) {c to : ℕ} (t : c ≡ to)
+    {x : Query} (e : x ≡ f a b) where
+  answer : {y : Query} → x ≡ y → y ≡ f group member
+  answer d = sym d ∙ e ∙ ap₂ f p q
+
+  pub gives : {z : ℤ} → x ≡ Value z → (On next ≡ queryMove (f group member) next) × (set words c z ≡ queryWords (f group member) words to)
+  unfolding queryMove queryWords
+  gives {z} d =
+      (ap (λ (y : Query). queryMove y next) (answer d), ap (λ (k : ℕ). set words k z) t ∙ ap (λ (y : Query). queryWords y words to) (answer d))
+
+  pub refuses : {s : Stop.Stop} → x ≡ Refused s → (Halt s ≡ queryMove (f group member) next) × (words ≡ queryWords (f group member) words to)
+  unfolding queryMove queryWords
+  refuses d = (ap (λ (y : Query). queryMove y next) (answer d), ap (λ (y : Query). queryWords y words to) (answer d))

@@ -1,0 +1,91 @@
+-- `arguments` meets its contract. The loop's invariant: setting the arguments from i on gives what setting all of them gives.
+use Prim.Native.Nat.{_+_, _*_, _-_, _≤_}
+use native.Mathlib.Omega.{arith}
+use mathlib.Core.Path.{_≡_, _∙_}
+use borrow.Author.Needs.{needs}
+use Rattle.acting.specs.Acting.{setAll}
+use Rattle.statements.specs.Words.{read-back}
+use Rattle.copy_arms.specs.Parts.{handedFrom}
+use Rattle.copy_arms.proofs.Entered.{arguments-end, arguments-next}
+use Rattle.copy_arms.proofs.calls.arguments.Statement.{statement}
+use Rattle.copy_arms.proofs.calls.arguments.Tie as tie
+
+abbrev Inv-loop : tie.InvT-loop
+Inv-loop words₀ area firsts starts targets live place count first i₀ words i =
+    (i ≤ count) ×
+    (setAll words (first + i) (handedFrom area firsts starts targets live (place + i) (count - i))
+    ≡ setAll words₀ first (handedFrom area firsts starts targets live place count))
+
+abbrev μ-loop : tie.MeasureT-loop
+μ-loop words₀ area firsts starts targets live place count first i₀ words i = count - i
+
+mul-first : tie.Need-mul-first Inv-loop μ-loop
+mul-first c = search needs
+
+add-first : tie.Need-add-first Inv-loop μ-loop
+add-first c = search needs
+
+loop-holds : tie.Need-loop-holds Inv-loop μ-loop
+loop-holds c =
+    let a = c .before .args in
+    let f : 32 * a .live + 32 + 0 ≡ 32 * a .live + 32 = omega arith in
+    let p : a .place + 0 ≡ a .place = omega arith in
+    let n : a .count - 0 ≡ a .count = omega arith in
+    (omega arith, rw (f, p, n))
+
+add-handed : tie.Need-add-handed Inv-loop μ-loop
+add-handed c = search needs
+
+handed-requires : tie.Need-handed-requires Inv-loop μ-loop
+handed-requires c κs = let l = c .before in l .before .before .pre .1 .named (l .loop .i) (c .loop-test .taken)
+
+add-t15 : tie.Need-add-t15 Inv-loop μ-loop
+add-t15 c = search needs
+
+mul-t16 : tie.Need-mul-t16 Inv-loop μ-loop
+mul-t16 c = search needs
+
+element-set-from-words : tie.Need-element-set-from-words Inv-loop μ-loop
+element-set-from-words c = search needs
+
+add-i : tie.Need-add-i Inv-loop μ-loop
+add-i c = search needs
+
+loop-less : tie.Need-loop-less Inv-loop μ-loop
+loop-less c = search needs
+
+loop-again : tie.Need-loop-again Inv-loop μ-loop
+loop-again c =
+    let l = c .before .before in
+    let a = l .before .before .args in
+    let z = read-back (c .handed .result) (c .handed .ok) ∙ c .handed .ensures in
+    let t = c .before .loop-test .taken in
+    let step = arguments-next (a .area .now) (a .firsts .now) (a .starts .now) (a .targets .now) (a .live) (a .place) (a .count) (l .loop .i)
+    (l .loop .words) (32 * a .live + 32) t z in
+    (omega (arith, t), step ∙ l .loop .inv .1)
+
+returns : tie.Need-returns Inv-loop μ-loop
+returns c =
+    let l = c .before in
+    let a = l .before .before .args in
+    arguments-end (a .area .now) (a .firsts .now) (a .starts .now) (a .targets .now) (a .live) (a .place) (a .count) (l .loop .i)
+    (l .loop .words) (32 * a .live + 32) (c .loop-test .left) ∙ l .loop .inv .1
+
+pub arguments-spec : {M : Type 1} → statement M
+arguments-spec =
+    tie.close
+    (tie.spec
+    Inv-loop
+    μ-loop
+    mul-first
+    add-first
+    loop-holds
+    add-handed
+    handed-requires
+    add-t15
+    mul-t16
+    element-set-from-words
+    add-i
+    loop-less
+    loop-again
+    returns)

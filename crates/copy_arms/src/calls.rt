@@ -1,0 +1,96 @@
+// CL.
+use super::fields::field;
+use super::fields::named;
+use super::fields::target;
+use acting::Move;
+use language::Stop;
+use stepping::code_at;
+ghost use mathlib.Core.Path.{_≡_};
+ghost use Prim.Native.Nat.{_+_, _*_, _≤_};
+ghost use lib.Dec.{leb};
+ghost use Rattle.acting.specs.Acting.{setAll};
+ghost use Rattle.copy_arms.specs.Parts.{NameAt, ArgumentsAt, handedWord, handedFrom, Callable, refusedBy, refusedAt, enterAt, handedAt, callMove, callWords, CallAt};
+
+// Whether there is cause 26: the called name is a formal as written, which the operation says, and so many arguments are not as the formals
+// before the body.
+fn refused(code: &[u32; 4096], at: usize, body: usize, count: usize) -> bool
+    requires { ⌜ at + 3 + count ≤ 4096 ⌝ }
+    requires { ⌜ Callable (now code) at body ⌝ }
+    ensures { λ r. ⌜ r ≡ refusedBy (now (code .entry)) at body count ⌝ }
+{
+    if code_at(code, at) % 16 != 15 {
+        return false;
+    }
+    if code_at(code, body) / 65536 % 256 != count {
+        return true;
+    }
+    !stepping::kinds_agree(code, at + 3, body - 3 * count, count)
+}
+
+// What an argument hands on: its cell, with what it leads to.
+fn handed(
+    area: &[u32],
+    firsts: &[u32; 256],
+    starts: &[u16; 256],
+    targets: &[u16; 8224],
+    live: usize,
+    place: usize,
+) -> i32
+    requires { ⌜ NameAt (now area) (now firsts) (now starts) live place ⌝ }
+    ensures { λ r. ⌜ r ≡ handedWord (now (area .entry)) (now (firsts .entry)) (now (starts .entry)) (now (targets .entry)) live place ⌝ }
+{
+    let cell = named(area, firsts, starts, live, place);
+    stepping::word_of(cell + 8192 * target(targets, cell))
+}
+
+// What the arguments from `place` on hand on goes to the first cells of the next activation.
+fn arguments(
+    words: &mut [i32; 8224],
+    area: &[u32],
+    firsts: &[u32; 256],
+    starts: &[u16; 256],
+    targets: &[u16; 8224],
+    live: usize,
+    place: usize,
+    count: usize,
+)
+    requires { ⌜ (live ≤ 254) × ArgumentsAt (now area) (now firsts) (now starts) live place count ⌝ }
+    ensures { λ _. ⌜ now (words .exit) ≡ setAll (now (words .entry)) (32 * live + 32) (handedFrom (now (area .entry)) (now (firsts .entry)) (now (starts .entry)) (now (targets .entry)) live place count) ⌝ }
+{
+    let first = 32 * live + 32;
+    let mut i = 0;
+    while i < count {
+        words[first + i] = handed(area, firsts, starts, targets, live, place + i);
+        i += 1;
+    }
+}
+
+// 26 goes before 22.
+pub fn do_call(
+    code: &[u32; 4096],
+    words: &mut [i32; 8224],
+    area: &[u32],
+    firsts: &[u32; 256],
+    starts: &[u16; 256],
+    targets: &[u16; 8224],
+    limit: usize,
+    live: usize,
+    place: usize,
+    at: usize,
+) -> Move
+    requires { ⌜ CallAt (now code) (now area) (now firsts) (now starts) (now targets) limit live at place ⌝ }
+    ensures { λ r. ⌜ r ≡ callMove (refusedAt (now (code .entry)) (now (area .entry)) (now (firsts .entry)) (now (starts .entry)) (now (targets .entry)) live at place) (leb limit (live + 1)) (enterAt (now (area .entry)) (now (firsts .entry)) (now (starts .entry)) (now (targets .entry)) live at place) ⌝ }
+    ensures { λ _. ⌜ now (words .exit) ≡ callWords (refusedAt (now (code .entry)) (now (area .entry)) (now (firsts .entry)) (now (starts .entry)) (now (targets .entry)) live at place) (leb limit (live + 1)) (now (words .entry)) (handedAt (now (words .entry)) (now (area .entry)) (now (firsts .entry)) (now (starts .entry)) (now (targets .entry)) live place) ⌝ }
+{
+    let procedure = named(area, firsts, starts, live, place + 1);
+    let body = target(targets, procedure);
+    let count = field(area, place + 2);
+    if refused(code, at, body, count) {
+        return Move::Stop(Stop::ArgumentsDiffer);
+    }
+    if limit <= live + 1 {
+        return Move::Stop(Stop::NoActivationLeft);
+    }
+    arguments(words, area, firsts, starts, targets, live, place + 3, count);
+    Move::Enter(body, procedure / 32, at + 3 + count)
+}

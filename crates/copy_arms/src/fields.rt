@@ -1,0 +1,48 @@
+// The fields of a copied text, and the cells of the names in them.
+use new_names::cell_of;
+ghost use mathlib.Core.Path.{_≡_};
+ghost use Prim.Native.Nat.{_<_, _^_};
+ghost use lib.ListN.{length, getD};
+ghost use Rattle.copy_arms.specs.Parts.{cellAt, NameAt};
+
+fn wide(x: u32) -> usize
+    ensures { λ r. ⌜ (r ≡ x) × (r < 2 ^ 32) ⌝ }
+{
+    x as usize
+}
+
+fn wider(x: u16) -> usize
+    ensures { λ r. ⌜ (r ≡ x) × (r < 65536) ⌝ }
+{
+    x as usize
+}
+
+// The word at a place of the area.
+pub fn field(area: &[u32], place: usize) -> usize
+    requires { ⌜ place < length (now area) ⌝ }
+    ensures { λ r. ⌜ (r ≡ getD (now (area .entry)) place 0) × (r < 2 ^ 32) ⌝ }
+{
+    wide(area[place])
+}
+
+// The cell of the name there.
+pub fn named(
+    area: &[u32],
+    firsts: &[u32; 256],
+    starts: &[u16; 256],
+    live: usize,
+    place: usize,
+) -> usize
+    requires { ⌜ NameAt (now area) (now firsts) (now starts) live place ⌝ }
+    ensures { λ r. ⌜ r ≡ cellAt (now (area .entry)) (now (firsts .entry)) (now (starts .entry)) live place ⌝ }
+{
+    cell_of(firsts, starts, live, field(area, place))
+}
+
+// What the label or procedure in a cell leads to.
+pub fn target(targets: &[u16; 8224], cell: usize) -> usize
+    requires { ⌜ cell < 8192 ⌝ }
+    ensures { λ r. ⌜ (r ≡ getD (now (targets .entry)) cell 0) × (r < 65536) ⌝ }
+{
+    wider(targets[cell])
+}

@@ -1,0 +1,200 @@
+-- `act` meets its contract: each mark's function does what `doing` has for the mark.
+use Prim.Native.Nat.{ℕ}
+use native.Mathlib.Omega.{arith}
+use mathlib.Core.Path.{_≡_, refl, ap}
+use Rattle.acting.specs.Acting.{Scene}
+use Rattle.copy_statements.specs.Doing.{Copy, text, arithmetic, branch, constant, call, goto, block, pair, unpair, query, markOf}
+use Rattle.copy_statements.specs.Scenes.{copyBy, sceneBy}
+use Rattle.copy_statements.proofs.Asks.{arithmetic-asks, branch-asks, constant-asks, call-asks, goto-asks, block-asks, pair-asks, unpair-asks, query-asks}
+use Rattle.copy_statements.proofs.Acts.{last-mark, mark-is, acted}
+use Rattle.copy_statements.proofs.Acts.{arithmetic-acts, branch-acts, constant-acts, call-acts, goto-acts, block-acts, pair-acts, unpair-acts, query-acts}
+use Rattle.copy_statements.proofs.act.Statement.{statement}
+use Rattle.copy_statements.proofs.act.Tie as tie
+
+abbrev copy : tie.Start → Copy
+copy s = copyBy (s .args .area .now) (s .args .base) (s .args .firsts .now) (s .args .starts .now) (s .args .targets .now)
+
+abbrev scene : tie.Start → Scene
+scene s = sceneBy (s .args .code .now) (s .args .words .now) (s .args .table .now) (s .args .pairs) (s .args .group) (s .args .limit)
+    (s .args .live) (s .args .at)
+
+abbrev startOf : tie.After-field → tie.Start
+startOf c = c .before .before
+
+add-place : tie.Need-add-place
+add-place c = omega (arith, c .before .pre .mark .there)
+
+field-requires : tie.Need-field-requires
+field-requires c κs = omega (arith, c .before .pre .mark .there)
+
+-- the mark at the place
+mark : (c : tie.After-field) {k : ℕ} → c .field .result ≡ k → markOf (text (copy (startOf c)) (scene (startOf c)) 0) ≡ markOf k
+mark c e = mark-is (copy (startOf c)) (scene (startOf c)) (c .field .ensures .0) (ap markOf e)
+
+other : (c : tie.At-match-rest) → let s = startOf (c .before) in markOf (text (copy s) (scene s) 0) ≡ query
+other c =
+    let r = c .match .rest in
+    let s = startOf (c .before) in
+    mark-is (copy s) (scene s) (c .before .field .ensures .0)
+    (last-mark (c .before .field .result) (r .0 .0 .0 .0 .0 .0 .0 .1) (r .0 .0 .0 .0 .0 .0 .1) (r .0 .0 .0 .0 .0 .1) (r .0 .0 .0 .0 .1)
+    (r .0 .0 .0 .1) (r .0 .0 .1) (r .0 .1) (r .1))
+
+do-arithmetic-requires : tie.Need-do-arithmetic-requires
+unfolding markOf
+do-arithmetic-requires c κs =
+    let s = startOf (c .before .before) in
+    arithmetic-asks (copy s) (scene s) (s .pre) (mark (c .before .before) (c .before .match .keys1))
+
+do-branch-requires : tie.Need-do-branch-requires
+unfolding markOf
+do-branch-requires c κs =
+    let s = startOf (c .before .before) in
+    branch-asks (copy s) (scene s) (s .pre) (mark (c .before .before) (c .before .match .keys2))
+
+do-constant-requires : tie.Need-do-constant-requires
+unfolding markOf
+do-constant-requires c κs =
+    let s = startOf (c .before .before) in
+    constant-asks (copy s) (scene s) (s .pre) (mark (c .before .before) (c .before .match .keys3))
+
+do-call-requires : tie.Need-do-call-requires
+unfolding markOf
+do-call-requires c κs =
+    let s = startOf (c .before .before) in
+    call-asks (copy s) (scene s) (s .pre) (mark (c .before .before) (c .before .match .keys4))
+
+add-do-goto : tie.Need-add-do-goto
+add-do-goto c = omega (arith, startOf (c .before) .pre .mark .there)
+
+do-goto-requires : tie.Need-do-goto-requires
+unfolding markOf
+do-goto-requires c κs =
+    let s = startOf (c .before) in
+    goto-asks (copy s) (scene s) (s .pre) (mark (c .before) (c .match .keys5))
+
+do-block-requires : tie.Need-do-block-requires
+unfolding markOf
+do-block-requires c κs =
+    let s = startOf (c .before) in
+    block-asks (copy s) (scene s) (s .pre) (mark (c .before) (c .match .keys6))
+
+do-add-pair-requires : tie.Need-do-add-pair-requires
+unfolding markOf
+do-add-pair-requires c κs =
+    let s = startOf (c .before .before .before) in
+    pair-asks (copy s) (scene s) (s .pre) (mark (c .before .before .before) (c .before .before .match .keys7))
+
+do-remove-pair-requires : tie.Need-do-remove-pair-requires
+unfolding markOf
+do-remove-pair-requires c κs =
+    let s = startOf (c .before .before .before) in
+    unpair-asks (copy s) (scene s) (s .pre) (mark (c .before .before .before) (c .before .before .match .keys8))
+
+do-query-requires : tie.Need-do-query-requires
+unfolding markOf
+do-query-requires c κs =
+    let s = startOf (c .before .before .before) in
+    query-asks (copy s) (scene s) (s .pre) (other (c .before .before))
+
+returns : tie.Need-returns
+unfolding markOf
+returns c =
+    let s = startOf (c .before .before .before) in
+    acted (copy s) (scene s) arithmetic (mark (c .before .before .before) (c .before .before .match .keys1))
+    (arithmetic-acts (copy s) (scene s) (c .do-arithmetic .ensures .0) (c .do-arithmetic .ensures .1))
+
+returns-2 : tie.Need-returns-2
+unfolding markOf
+returns-2 c =
+    let s = startOf (c .before .before .before) in
+    acted (copy s) (scene s) branch (mark (c .before .before .before) (c .before .before .match .keys2))
+    (branch-acts (copy s) (scene s) (c .do-branch .ensures))
+
+returns-3 : tie.Need-returns-3
+unfolding markOf
+returns-3 c =
+    let s = startOf (c .before .before .before) in
+    acted (copy s) (scene s) constant (mark (c .before .before .before) (c .before .before .match .keys3))
+    (constant-acts (copy s) (scene s) (c .do-constant .ensures .0) (c .do-constant .ensures .1))
+
+returns-4 : tie.Need-returns-4
+unfolding markOf
+returns-4 c =
+    let s = startOf (c .before .before .before) in
+    acted (copy s) (scene s) call (mark (c .before .before .before) (c .before .before .match .keys4))
+    (call-acts (copy s) (scene s) (c .do-call .ensures .0) (c .do-call .ensures .1))
+
+returns-5 : tie.Need-returns-5
+unfolding markOf
+returns-5 c =
+    let s = startOf (c .before .before) in
+    acted (copy s) (scene s) goto (mark (c .before .before) (c .before .match .keys5))
+    (goto-acts (copy s) (scene s) (c .do-goto .ensures))
+
+returns-6 : tie.Need-returns-6
+unfolding markOf
+returns-6 c =
+    let s = startOf (c .before .before) in
+    acted (copy s) (scene s) block (mark (c .before .before) (c .before .match .keys6))
+    (block-acts (copy s) (scene s) (c .do-block .ensures))
+
+same-length : tie.Need-same-length
+same-length c = c .before .do-add-pair .kept .1 .1 .1 .1 .0
+
+returns-7 : tie.Need-returns-7
+unfolding markOf
+returns-7 c =
+    let m = c .before .before .before .before in
+    let s = startOf (m .before) in
+    acted (copy s) (scene s) pair (mark (m .before) (m .match .keys7))
+    (pair-acts (copy s) (scene s) (c .before .do-add-pair .ensures .0) (c .before .do-add-pair .ensures .1))
+
+same-length-2 : tie.Need-same-length-2
+same-length-2 c = c .before .do-remove-pair .kept .1 .1 .1 .1 .0
+
+returns-8 : tie.Need-returns-8
+unfolding markOf
+returns-8 c =
+    let m = c .before .before .before .before in
+    let s = startOf (m .before) in
+    acted (copy s) (scene s) unpair (mark (m .before) (m .match .keys8))
+    (unpair-acts (copy s) (scene s) (c .before .do-remove-pair .ensures .0) (c .before .do-remove-pair .ensures .1))
+
+same-length-3 : tie.Need-same-length-3
+same-length-3 c = refl
+
+returns-9 : tie.Need-returns-9
+unfolding markOf
+returns-9 c =
+    let s = startOf (c .before .before .before .before) in
+    acted (copy s) (scene s) query (other (c .before .before .before))
+    (query-acts (copy s) (scene s) (c .do-query .ensures .0) (c .do-query .ensures .1))
+
+pub act-spec : {M : Type 1} → statement M
+act-spec =
+    tie.close
+    (tie.spec
+    add-place
+    field-requires
+    do-arithmetic-requires
+    do-branch-requires
+    do-constant-requires
+    do-call-requires
+    add-do-goto
+    do-goto-requires
+    do-block-requires
+    do-add-pair-requires
+    do-remove-pair-requires
+    do-query-requires
+    returns
+    returns-2
+    returns-3
+    returns-4
+    returns-5
+    returns-6
+    same-length
+    returns-7
+    same-length-2
+    returns-8
+    same-length-3
+    returns-9)
