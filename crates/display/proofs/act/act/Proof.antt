@@ -187,8 +187,9 @@ same-length c = c .before .do-add-pair .kept .1 .1 .1 .0
 returns-9 : tie.Need-returns-9
 unfolding operations happens
 returns-9 c =
-    let s = c .before .before .before .before .before .before in
-    let e = op (c .before .before .before .before .before) 8 (c .before .before .before .before .match .keys9) in
+    let m = c .before .before .before .before in
+    let s = m .before .before in
+    let e = op (m .before) 8 (m .match .keys9) in
     acted s pair-op e (c .before .do-add-pair .result) (s .args .words .now) (c .before .do-add-pair .last .1 .1 .1 .0)
     (add-same (F s) (scene s) (c .before .do-add-pair .result) (c .before .do-add-pair .last .1 .1 .1 .0) (c .before .do-add-pair .ensures .0)
     (c .before .do-add-pair .ensures .1))
@@ -199,8 +200,9 @@ same-length-2 c = c .before .do-remove-pair .kept .1 .1 .1 .0
 returns-10 : tie.Need-returns-10
 unfolding operations happens
 returns-10 c =
-    let s = c .before .before .before .before .before .before in
-    let e = op (c .before .before .before .before .before) 9 (c .before .before .before .before .match .keys10) in
+    let m = c .before .before .before .before in
+    let s = m .before .before in
+    let e = op (m .before) 9 (m .match .keys10) in
     acted s unpair-op e (c .before .do-remove-pair .result) (s .args .words .now) (c .before .do-remove-pair .last .1 .1 .1 .0)
     (remove-same (F s) (scene s) (c .before .do-remove-pair .result) (c .before .do-remove-pair .last .1 .1 .1 .0)
     (c .before .do-remove-pair .ensures .0) (c .before .do-remove-pair .ensures .1))
@@ -211,8 +213,9 @@ same-length-3 c = refl
 returns-11 : tie.Need-returns-11
 unfolding operations happens
 returns-11 c =
-    let s = c .before .before .before .before .before in
-    let e = op (c .before .before .before .before) 10 (c .before .before .before .match .keys11) in
+    let m = c .before .before .before in
+    let s = m .before .before in
+    let e = op (m .before) 10 (m .match .keys11) in
     acted s query-op e (c .do-query .result) (c .do-query .last .1 .0) (s .args .table .now)
     (query-same (F s) (scene s) (c .do-query .result) (c .do-query .last .1 .0) (c .do-query .ensures .0) (c .do-query .ensures .1))
 

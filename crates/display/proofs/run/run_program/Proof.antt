@@ -18,15 +18,34 @@ abbrev μ-loop : tie.MeasureT-loop
 μ-loop code words₀ blocks₀ nexts₀ links₀ table₀ pairs group limit allowance display₀ bounds here₀ left₀ words blocks nexts links table display here left =
     left
 
--- the places of a turn, from behind its step, and the start
+-- the places of a turn, from its step and from behind it, and the start
+abbrev secondOf : tie.After-step-arg5 Inv-loop μ-loop → tie.After-step-arg2 Inv-loop μ-loop
+secondOf c = c .before .before .before .before
+
+abbrev turnAt : tie.After-step-arg5 Inv-loop μ-loop → tie.In-loop Inv-loop μ-loop
+turnAt c = (secondOf c) .before .before
+
 abbrev turnOf : tie.After-step Inv-loop μ-loop → tie.In-loop Inv-loop μ-loop
-turnOf c = c .before .before .before .before .before .before .before
+turnOf c = turnAt (c .before)
 
 abbrev loopAt : tie.After-step Inv-loop μ-loop → tie.At-loop Inv-loop μ-loop
 loopAt c = (turnOf c) .before
 
 abbrev startOf : tie.At-loop Inv-loop μ-loop → tie.Start Inv-loop μ-loop
 startOf l = l .before .before
+
+-- the cause with which a run stops, and its step; the end of the loop
+abbrev firstOf : tie.After-struct-known Inv-loop μ-loop → tie.After-halted-arg Inv-loop μ-loop
+firstOf c = c .before .before .before .before
+
+abbrev causeOf : tie.After-struct-known Inv-loop μ-loop → tie.After-cause Inv-loop μ-loop
+causeOf c = (firstOf c) .before .before
+
+abbrev stepOf : tie.After-cause Inv-loop μ-loop → tie.After-step Inv-loop μ-loop
+stepOf c = c .before .before .before
+
+abbrev doneOf : tie.After-display3 Inv-loop μ-loop → tie.After-loop Inv-loop μ-loop
+doneOf c = c .before .before .before .before
 
 -- what a step leaves
 abbrev leftBy : tie.After-step Inv-loop μ-loop → Arrays
@@ -45,7 +64,7 @@ loop-holds c = (λ b. begun b (c .before .args .allowance) _ refl refl (c .code-
 
 step-requires : tie.Need-step-requires Inv-loop μ-loop
 step-requires c κs =
-    let l = c .before .before .before .before .before .before .before in
+    let l = (turnAt c) .before in
     (l .loop .inv .0 ((startOf l) .pre)) .running
 
 enum-known-next : tie.Need-enum-known-next Inv-loop μ-loop
@@ -100,24 +119,24 @@ sub-done c =
 
 mul-halted : tie.Need-mul-halted Inv-loop μ-loop
 mul-halted c =
-    let l = loopAt (c .before .before .before .before .before .before .before .before .before) in
+    let l = loopAt (stepOf (causeOf c)) in
     record { fits = omega (arith, (placed (l .loop .inv .0 ((startOf l) .pre))) .at) }
 
 halted-requires : tie.Need-halted-requires Inv-loop μ-loop
 halted-requires c κs =
-    let k = c .before .before .before .before .before .before in
-    let o = k .before .before .before in
+    let k = causeOf c in
+    let o = stepOf k in
     let l = loopAt o in
     let u = l .loop .inv .0 ((startOf l) .pre) in
     (looking ((stays u (leftBy o) (o .step .result) (o .step .ensures (u .running)) (k .cause .given .0 .0) (k .cause .given .1)) .0), placed u)
 
 same-length-2 : tie.Need-same-length-2 Inv-loop μ-loop
-same-length-2 c = table-kept (c .before .before .before .before .before .before .before .before .before .before)
+same-length-2 c = table-kept (stepOf (causeOf (c .before)))
 
 returns-2 : tie.Need-returns-2 Inv-loop μ-loop
 returns-2 c =
-    let k = c .before .before .before .before .before .before .before in
-    let o = k .before .before .before in
+    let k = causeOf (c .before) in
+    let o = stepOf k in
     let l = loopAt o in
     λ b.
     let u = l .loop .inv .0 b in
@@ -127,16 +146,16 @@ returns-2 c =
 
 halted-requires-2 : tie.Need-halted-requires-2 Inv-loop μ-loop
 halted-requires-2 c κs =
-    let l = c .before .before .before .before .before in
+    let l = (doneOf c) .before in
     let u = l .loop .inv .0 ((startOf l) .pre) in
     (looking u, placed u)
 
 same-length-3 : tie.Need-same-length-3 Inv-loop μ-loop
-same-length-3 c = c .before .before .before .before .before .before .loop .inv .1
+same-length-3 c = (doneOf (c .before)) .before .loop .inv .1
 
 returns-3 : tie.Need-returns-3 Inv-loop μ-loop
 returns-3 c =
-    let t = c .before .before .before .before .before in
+    let t = doneOf (c .before) in
     let l = t .before in
     λ b.
     spent (l .loop .inv .0 b) (c .halted2 .last .1 .1 .1 .0) (c .halted2 .ensures .1) (c .halted2 .result) (omega (arith, t .loop-test .left))

@@ -5,18 +5,41 @@ use borrow.Author.Needs.{needs}
 use Rattle.display.proofs.run.step.Statement.{statement}
 use Rattle.display.proofs.run.step.Tie as tie
 
+-- the places: the end of the text not reached, the end reached with more activations below; the statement done, and from there what it asks for
+abbrev inside : tie.After-act → tie.Else1
+inside c = c .before .before .before .before
+
+abbrev onward : tie.After-leave-arg4 → tie.Else2
+onward c = c .before .before .before .before
+
+abbrev homeOf : tie.After-jump-arg3 → tie.After-home
+homeOf c = c .before .before .before .before
+
+abbrev jumpOf : tie.After-home → tie.After-act
+jumpOf c = c .before .before .before
+
+abbrev firstOf : tie.After-enter-arg5 → tie.After-enter-arg
+firstOf c = c .before .before .before .before
+
+abbrev bodyOf : tie.After-enter-arg → tie.After-body
+bodyOf c = c .before .before
+
+abbrev callOf : tie.After-body → tie.After-act
+callOf c = c .before .before .before
+
 returns : tie.Need-returns
 returns c = λ w. (c .before .if1 .taken, c .if2 .taken, refl, refl)
 
 leave-requires : tie.Need-leave-requires
-leave-requires c κs = leave-ready (c .before .before .before .before .before .before .pre) (c .before .before .before .before .before .if1 .taken)
-    (above-zero (c .before .before .before .before .before .before .args .here .live) (c .before .before .before .before .if2 .left))
+leave-requires c κs =
+    let e = onward c in
+    leave-ready (e .before .before .pre) (e .before .if1 .taken) (above-zero (e .before .before .args .here .live) (e .if2 .left))
 
 returns-2 : tie.Need-returns-2
 returns-2 c =
-    λ w. left-on w (c .before .before .before .before .before .before .if1 .taken)
-    (above-zero (c .before .before .before .before .before .before .before .args .here .live)
-    (c .before .before .before .before .before .if2 .left)) (c .leave .last .1 .1 .1 .1 .0) (c .leave .result) (c .leave .ensures)
+    let e = onward (c .before) in
+    λ w. left-on w (e .before .if1 .taken) (above-zero (e .before .before .args .here .live) (e .if2 .left)) (c .leave .last .1 .1 .1 .1 .0)
+    (c .leave .result) (c .leave .ensures)
 
 act-requires : tie.Need-act-requires
 act-requires c κs = doing (c .before .before .before .before .pre) (c .before .before .before .if1 .left)
@@ -32,28 +55,20 @@ enum-known-home c = search needs
 
 jump-requires : tie.Need-jump-requires
 jump-requires c κs =
-    jump-ready (c .before .before .before .before .before .before .before .before .before .before .before .before .pre)
-    (c .before .before .before .before .before .before .before .before .before .before .before .if1 .left)
-    (c .before .before .before .before .before .before .before .act .result)
-    (c .before .before .before .before .before .before .before .act .last .1 .0)
-    (c .before .before .before .before .before .before .before .act .last .1 .1 .1 .0)
-    (c .before .before .before .before .before .before .before .act .ensures) (c .before .before .before .before .home .given .0 .0)
-    (c .before .before .before .before .home .given .0 .1 .0) (c .before .before .before .before .home .given .1)
+    let h = homeOf c in
+    let a = jumpOf h in
+    jump-ready (inside a .before .pre) (inside a .if1 .left) (a .act .result) (a .act .last .1 .0) (a .act .last .1 .1 .1 .0) (a .act .ensures)
+    (h .home .given .0 .0) (h .home .given .0 .1 .0) (h .home .given .1)
 
 enum-known-body : tie.Need-enum-known-body
 enum-known-body c = search needs
 
 enter-requires : tie.Need-enter-requires
 enter-requires c κs =
-    enter-ready (c .before .before .before .before .before .before .before .before .before .before .before .before .before .before .pre)
-    (c .before .before .before .before .before .before .before .before .before .before .before .before .before .if1 .left)
-    (c .before .before .before .before .before .before .before .before .before .act .result)
-    (c .before .before .before .before .before .before .before .before .before .act .last .1 .0)
-    (c .before .before .before .before .before .before .before .before .before .act .last .1 .1 .1 .0)
-    (c .before .before .before .before .before .before .before .before .before .act .ensures)
-    (c .before .before .before .before .before .before .body .given .0 .0)
-    (c .before .before .before .before .before .before .body .given .0 .1 .0)
-    (c .before .before .before .before .before .before .body .given .0 .1 .1 .0) (c .before .before .before .before .before .before .body .given .1)
+    let b = bodyOf (firstOf c) in
+    let a = callOf b in
+    enter-ready (inside a .before .pre) (inside a .if1 .left) (a .act .result) (a .act .last .1 .0) (a .act .last .1 .1 .1 .0) (a .act .ensures)
+    (b .body .given .0 .0) (b .body .given .0 .1 .0) (b .body .given .0 .1 .1 .0) (b .body .given .1)
 
 enum-known-cause : tie.Need-enum-known-cause
 enum-known-cause c = search needs
@@ -63,18 +78,17 @@ same-length c = search needs
 
 returns-3 : tie.Need-returns-3
 returns-3 c =
-    λ w. went-on w (c .before .before .before .before .before .before .before .before .if1 .left) (c .before .before .before .before .act .result)
-    (c .before .before .before .before .act .last .1 .0) (c .before .before .before .before .act .last .1 .1 .1 .0)
-    (c .before .before .before .before .act .ensures) (c .before .place .given .0 .0) (c .before .place .given .1)
+    let a = c .before .before .before .before in
+    λ w. went-on w (inside a .if1 .left) (a .act .result) (a .act .last .1 .0) (a .act .last .1 .1 .1 .0) (a .act .ensures)
+    (c .before .place .given .0 .0) (c .before .place .given .1)
 
 same-length-2 : tie.Need-same-length-2
 same-length-2 c = search needs
 
 returns-4 : tie.Need-returns-4
 returns-4 c =
-    λ w. went-pairs w (c .before .before .before .before .before .before .before .before .if1 .left)
-    (c .before .before .before .before .act .result) (c .before .before .before .before .act .last .1 .0)
-    (c .before .before .before .before .act .last .1 .1 .1 .0) (c .before .before .before .before .act .ensures)
+    let a = c .before .before .before .before in
+    λ w. went-pairs w (inside a .if1 .left) (a .act .result) (a .act .last .1 .0) (a .act .last .1 .1 .1 .0) (a .act .ensures)
     (c .before .place2 .given .0 .0) (c .before .place2 .given .0 .1 .0) (c .before .place2 .given .1)
 
 same-length-3 : tie.Need-same-length-3
@@ -82,28 +96,20 @@ same-length-3 c = search needs
 
 returns-5 : tie.Need-returns-5
 returns-5 c =
-    λ w. jumped-on w (c .before .before .before .before .before .before .before .before .before .before .before .before .if1 .left)
-    (c .before .before .before .before .before .before .before .before .act .result)
-    (c .before .before .before .before .before .before .before .before .act .last .1 .0)
-    (c .before .before .before .before .before .before .before .before .act .last .1 .1 .1 .0)
-    (c .before .before .before .before .before .before .before .before .act .ensures)
-    (c .before .before .before .before .before .home .given .0 .0) (c .before .before .before .before .before .home .given .0 .1 .0)
-    (c .before .before .before .before .before .home .given .1) (c .jump .last .1 .1 .1 .0) (c .jump .result) (c .jump .ensures)
+    let h = homeOf (c .before) in
+    let a = jumpOf h in
+    λ w. jumped-on w (inside a .if1 .left) (a .act .result) (a .act .last .1 .0) (a .act .last .1 .1 .1 .0) (a .act .ensures) (h .home .given .0 .0)
+    (h .home .given .0 .1 .0) (h .home .given .1) (c .jump .last .1 .1 .1 .0) (c .jump .result) (c .jump .ensures)
 
 same-length-4 : tie.Need-same-length-4
 same-length-4 c = search needs
 
 returns-6 : tie.Need-returns-6
 returns-6 c =
-    λ w. entered-on w (c .before .before .before .before .before .before .before .before .before .before .before .before .before .before .if1 .left)
-    (c .before .before .before .before .before .before .before .before .before .before .act .result)
-    (c .before .before .before .before .before .before .before .before .before .before .act .last .1 .0)
-    (c .before .before .before .before .before .before .before .before .before .before .act .last .1 .1 .1 .0)
-    (c .before .before .before .before .before .before .before .before .before .before .act .ensures)
-    (c .before .before .before .before .before .before .before .body .given .0 .0)
-    (c .before .before .before .before .before .before .before .body .given .0 .1 .0)
-    (c .before .before .before .before .before .before .before .body .given .0 .1 .1 .0)
-    (c .before .before .before .before .before .before .before .body .given .1) (c .enter .last .1 .0) (c .enter .last .1 .1 .0)
+    let b = bodyOf (firstOf (c .before)) in
+    let a = callOf b in
+    λ w. entered-on w (inside a .if1 .left) (a .act .result) (a .act .last .1 .0) (a .act .last .1 .1 .1 .0) (a .act .ensures) (b .body .given .0 .0)
+    (b .body .given .0 .1 .0) (b .body .given .0 .1 .1 .0) (b .body .given .1) (c .enter .last .1 .0) (c .enter .last .1 .1 .0)
     (c .enter .last .1 .1 .1 .0) (c .enter .last .1 .1 .1 .1 .0) (c .enter .last .1 .1 .1 .1 .1 .0) (c .enter .result) (c .enter .ensures)
 
 same-length-5 : tie.Need-same-length-5
@@ -111,11 +117,10 @@ same-length-5 c = search needs
 
 returns-7 : tie.Need-returns-7
 returns-7 c =
+    let a = c .before .before .before .before in
     λ w.
-    let m = stopped-at w (c .before .before .before .before .before .before .before .before .if1 .left)
-    (c .before .before .before .before .act .result) (c .before .before .before .before .act .last .1 .0)
-    (c .before .before .before .before .act .last .1 .1 .1 .0) (c .before .before .before .before .act .ensures) (c .before .cause .given .0 .0)
-    (c .before .cause .given .1) in
+    let m = stopped-at w (inside a .if1 .left) (a .act .result) (a .act .last .1 .0) (a .act .last .1 .1 .1 .0) (a .act .ensures)
+    (c .before .cause .given .0 .0) (c .before .cause .given .1) in
     (m .0, m .1, refl, refl, refl, refl, m .2)
 
 pub step-spec : {M : Type 1} → statement M
