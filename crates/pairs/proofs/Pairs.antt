@@ -5,11 +5,13 @@ use mathlib.Core.Bool.{Bool, true, false, _&&_, cond}
 use mathlib.Core.List.{List, [], _∷_}
 use mathlib.Core.Option.{Option, none, some}
 use native.Mathlib.Omega.{arith}
+use borrow.Author.Tests.{lt-ltb}
+use lib.Dec.{ltb}
 use lib.IntN.{ℤ}
 use lib.ListN.{length}
 use Rattle.language.specs.Basics.{eqZ}
-use Rattle.language.specs.Table.{find, members}
-use Rattle.laws.specs.Tables.{groupAt, pairIs, front, find-front, find-next, members-front, members-next}
+use Rattle.language.specs.Table.{find, isSome, members}
+use Rattle.laws.specs.Tables.{groupAt, pairIs, front, orElse, find-front, find-next, members-front, members-next}
 
 -- The list has a pair at place i.
 pub data Room : ℕ → List ℤ → Type 0 where
@@ -50,6 +52,31 @@ find-stays g m (suc i) (suc n) (a ∷ b ∷ ws) j h e =
 
 pub find-hit : (g m : ℤ) {i : ℕ} {ws : List ℤ} (n : ℕ) → Room i ws → find g m i ws ≡ none → pairIs g m i ws ≡ true → i < n → find g m n ws ≡ some i
 find-hit g m {i} {ws} n r e f h = find-stays g m (suc i) n ws i h (find-next g m i ws (room-fits r) ∙ rw (e, f))
+
+-- ---- several pairs compared at once
+
+pub not-some : (o : Option ℕ) → isSome o ≡ false → o ≡ none
+unfolding isSome
+not-some none e = refl
+not-some (some i) e = absurd (let z : _≡_ {A = Bool} true false = e in let y : _≡_ {A = ℕ} 0 1 = cc in omega arith)
+
+hit-some : (o : Option ℕ) (k : ℕ) → isSome (orElse o true k) ≡ true
+unfolding isSome
+hit-some none k = refl
+hit-some (some i) k = refl
+
+miss-some : (o : Option ℕ) (k : ℕ) → isSome (orElse o false k) ≡ isSome o
+unfolding isSome
+miss-some none k = refl
+miss-some (some i) k = refl
+
+-- hits before place i and up to it
+module _ (g m : ℤ) {i k : ℕ} {ws : List ℤ} (r : Room i ws) where
+  pub hits-more : {h : ℕ} → pairIs g m i ws ≡ true → k ≡ suc h → ltb 0 k ≡ isSome (find g m (suc i) ws)
+  hits-more f e = lt-ltb 0 k (omega arith) ∙ sym (ap isSome (find-next g m i ws (room-fits r)) ∙ rw f (hit-some (find g m i ws) i))
+
+  pub hits-same : {h : ℕ} → pairIs g m i ws ≡ false → k ≡ h → ltb 0 h ≡ isSome (find g m i ws) → ltb 0 k ≡ isSome (find g m (suc i) ws)
+  hits-same f e q = ap (ltb 0) e ∙ q ∙ sym (ap isSome (find-next g m i ws (room-fits r)) ∙ rw f (miss-some (find g m i ws) i))
 
 -- ---- the words end before the count
 

@@ -5,7 +5,8 @@ use mathlib.Core.Bool.{Bool, true, false, _&&_}
 use mathlib.Core.List.{List}
 use mathlib.Core.Option.{Option, none, some}
 use native.Mathlib.Omega.{arith}
-use borrow.Author.Tests.{le-leb, lt-leb, lt-ltb, le-ltb}
+use borrow.Author.Tests.{lt-ltb, le-ltb}
+use lib.Dec.{leb}
 use lib.IntN.{ℤ, pos}
 use lib.ListN.{length}
 use mir.Val.{SFits, toZ, ofZ}
@@ -94,17 +95,17 @@ module _ (g m : ℤ) (t : Table) where
   full-no h = le-ltb (length (t .words)) (2 * suc (t .used)) (omega arith)
 
 module _ (limit : ℕ) (g m : ℤ) (t : Table) where
-  pub absent-crowded : limit ≤ size g t → addedAbsent limit g m t ≡ halts GroupFull
+  pub absent-crowded : leb limit (size g t) ≡ true → addedAbsent limit g m t ≡ halts GroupFull
   unfolding addedAbsent
-  absent-crowded h = rw (le-leb limit (size g t) h, addedAbsent)
+  absent-crowded h = rw (h, addedAbsent)
 
-  pub absent-full : size g t < limit → length (t .words) / 2 ≤ t .used → addedAbsent limit g m t ≡ halts TableFull
+  pub absent-full : leb limit (size g t) ≡ false → length (t .words) / 2 ≤ t .used → addedAbsent limit g m t ≡ halts TableFull
   unfolding addedAbsent
-  absent-full h k = rw (lt-leb limit (size g t) h, full-yes g m t k, addedAbsent)
+  absent-full h k = rw (h, full-yes g m t k, addedAbsent)
 
-  pub absent-new : size g t < limit → t .used < length (t .words) / 2 → addedAbsent limit g m t ≡ leaves (add g m t)
+  pub absent-new : leb limit (size g t) ≡ false → t .used < length (t .words) / 2 → addedAbsent limit g m t ≡ leaves (add g m t)
   unfolding addedAbsent
-  absent-new h k = rw (lt-leb limit (size g t) h, full-no g m t k, addedAbsent)
+  absent-new h k = rw (h, full-no g m t k, addedAbsent)
 
   pub added-below : (atLeastOne g && atLeastOne m) ≡ false → added limit g m t ≡ halts NumberBelowOne
   unfolding added
@@ -145,9 +146,11 @@ module _ (g m : ℤ) (t : Table) where
   unfolding queried
   queried-no e f = rw (e, holds-not g m t f, queried)
 
-pub size-read : {g : ℤ} → SFits w32 g → (k : ℕ) (ws : List ℤ) {n : ℕ} → n ≡ members (toZ w32 (ofZ w32 g)) k ws → n ≡ size g (tableOf ws k)
+pub crowded-read :
+    {g : ℤ} → SFits w32 g → (limit k : ℕ) (ws : List ℤ) {r v : Bool} → r ≡ leb limit (members (toZ w32 (ofZ w32 g)) k ws) → r ≡ v →
+    leb limit (size g (tableOf ws k)) ≡ v
 unfolding size
-size-read fg k ws e = rw (toZ-ofZ fg) at e
+crowded-read fg limit k ws e q = (rw (toZ-ofZ fg) at (sym e)) ∙ q
 
 pub one-fewer : (k : ℕ) → k - 1 ≡ fewer k
 unfolding fewer
