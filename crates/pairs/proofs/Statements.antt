@@ -31,6 +31,14 @@ unfolding placed
 placed-absent none e = refl
 placed-absent (some j) e = absurd (let z : _≡_ {A = ℕ} 0 1 = cc in omega arith)
 
+pub held-at : (r : Option ℕ) {i : ℕ} → placed r ≡ At i → isSome r ≡ true
+unfolding isSome
+held-at r e = ap isSome (placed-at _ _ e)
+
+pub held-not : (r : Option ℕ) → placed r ≡ Absent → isSome r ≡ false
+unfolding isSome
+held-not r e = ap isSome (placed-absent _ e)
+
 -- the words in locals are read back from their bits
 module _ {g m : ℤ} (fg : SFits w32 g) (fm : SFits w32 m) where
   pub fits-read : {r v : Bool} → r ≡ (atLeastOne (toZ w32 (ofZ w32 g)) && atLeastOne (toZ w32 (ofZ w32 m))) → r ≡ v → (atLeastOne g && atLeastOne m) ≡ v
@@ -39,6 +47,10 @@ module _ {g m : ℤ} (fg : SFits w32 g) (fm : SFits w32 m) where
   pub place-read :
       (k : ℕ) (ws : List ℤ) {p q : Place} → p ≡ placed (find (toZ w32 (ofZ w32 g)) (toZ w32 (ofZ w32 m)) k ws) → p ≡ q → placed (find g m k ws) ≡ q
   place-read k ws e q = (rw (toZ-ofZ fg, toZ-ofZ fm) at (sym e)) ∙ q
+
+  pub held-read :
+      (k : ℕ) (ws : List ℤ) {r v : Bool} → r ≡ holds (toZ w32 (ofZ w32 g)) (toZ w32 (ofZ w32 m)) (tableOf ws k) → r ≡ v → holds g m (tableOf ws k) ≡ v
+  held-read k ws e q = (rw (toZ-ofZ fg, toZ-ofZ fm) at (sym e)) ∙ q
 
   pub search-read :
       (k : ℕ) (ws : List ℤ) {p q : Search} → p ≡ searchOf (toZ w32 (ofZ w32 g)) (toZ w32 (ofZ w32 m)) k ws → p ≡ q → searchOf g m k ws ≡ q
@@ -78,14 +90,6 @@ module _ (g m : ℤ) (k : ℕ) (ws : List ℤ) where
       go true f (some i) q = subst Says (searched-at f (ap placed q)) (f, q)
 
 module _ (g m : ℤ) (t : Table) where
-  holds-at : {i : ℕ} → find g m (t .used) (t .words) ≡ some i → holds g m t ≡ true
-  unfolding holds isSome
-  holds-at e = rw e
-
-  holds-not : find g m (t .used) (t .words) ≡ none → holds g m t ≡ false
-  unfolding holds isSome
-  holds-not e = rw e
-
   full-yes : length (t .words) / 2 ≤ t .used → full t ≡ true
   unfolding full
   full-yes h = lt-ltb (length (t .words)) (2 * suc (t .used)) (omega arith)
@@ -111,13 +115,13 @@ module _ (limit : ℕ) (g m : ℤ) (t : Table) where
   unfolding added
   added-below e = rw (e, added)
 
-  pub added-present : {i : ℕ} → (atLeastOne g && atLeastOne m) ≡ true → find g m (t .used) (t .words) ≡ some i → added limit g m t ≡ leaves t
+  pub added-present : (atLeastOne g && atLeastOne m) ≡ true → holds g m t ≡ true → added limit g m t ≡ leaves t
   unfolding added
-  added-present e f = rw (e, holds-at g m t f, added)
+  added-present e f = rw (e, f, added)
 
-  pub added-absent : (atLeastOne g && atLeastOne m) ≡ true → find g m (t .used) (t .words) ≡ none → added limit g m t ≡ addedAbsent limit g m t
+  pub added-absent : (atLeastOne g && atLeastOne m) ≡ true → holds g m t ≡ false → added limit g m t ≡ addedAbsent limit g m t
   unfolding added addedAbsent
-  added-absent e f = rw (e, holds-not g m t f, added) refl
+  added-absent e f = rw (e, f, added) refl
 
 module _ (g m : ℤ) (t : Table) where
   pub removed-below : (atLeastOne g && atLeastOne m) ≡ false → removed g m t ≡ halts NumberBelowOne
@@ -138,13 +142,13 @@ module _ (g m : ℤ) (t : Table) where
   unfolding queried
   queried-below e = rw (e, queried)
 
-  pub queried-yes : {i : ℕ} → (atLeastOne g && atLeastOne m) ≡ true → find g m (t .used) (t .words) ≡ some i → queried g m t ≡ gives (pos 1)
+  pub queried-yes : (atLeastOne g && atLeastOne m) ≡ true → holds g m t ≡ true → queried g m t ≡ gives (pos 1)
   unfolding queried
-  queried-yes e f = rw (e, holds-at g m t f, queried)
+  queried-yes e f = rw (e, f, queried)
 
-  pub queried-no : (atLeastOne g && atLeastOne m) ≡ true → find g m (t .used) (t .words) ≡ none → queried g m t ≡ gives (pos 0)
+  pub queried-no : (atLeastOne g && atLeastOne m) ≡ true → holds g m t ≡ false → queried g m t ≡ gives (pos 0)
   unfolding queried
-  queried-no e f = rw (e, holds-not g m t f, queried)
+  queried-no e f = rw (e, f, queried)
 
 pub crowded-read :
     {g : ℤ} → SFits w32 g → (limit k : ℕ) (ws : List ℤ) {r v : Bool} → r ≡ leb limit (members (toZ w32 (ofZ w32 g)) k ws) → r ≡ v →

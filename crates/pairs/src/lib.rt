@@ -6,9 +6,9 @@ ghost use Prim.Native.Nat.{_+_, _*_, _/_, _<_, _≤_, min};
 ghost use lib.Dec.{leb};
 ghost use lib.ListN.{length, set};
 ghost use Rattle.language.specs.Basics.{eqZ};
-ghost use Rattle.language.specs.Table.{find, isSome, members, atLeastOne, add, takeOut, added, removed, queried};
+ghost use Rattle.language.specs.Table.{find, holds, members, atLeastOne, add, takeOut, added, removed, queried};
 ghost use Rattle.laws.specs.Tables.{groupAt, memberAt};
-ghost use Rattle.pairs.specs.Places.{placed, searchOf};
+ghost use Rattle.pairs.specs.Places.{placed, searchOf, among};
 ghost use Rattle.pairs.specs.Outcomes.{tableOf, addedAbsent, changeOf, valueOf, wordsAfter};
 use language::Stop;
 
@@ -18,7 +18,7 @@ pub enum Place {
     Absent,
 }
 
-// Where a statement's pair stands: its numbers are judged before it is looked for.
+// Where RM's pair stands: its numbers are judged before it is looked for.
 enum Search {
     BelowOne,
     Absent,
@@ -99,11 +99,10 @@ pub fn numbers_fit(group: i32, member: i32) -> bool
     false
 }
 
-// Whether the pair, not among the first `from`, is one of the 32 behind them. All 32 are compared, with no way out at the first hit.
+// Whether the pair is one of the 32 from place `from` on. All 32 are compared, with no way out at the first hit.
 fn block_holds(table: &[i32], from: usize, group: i32, member: i32) -> bool
     requires { ⌜ 2 * (from + 32) ≤ length (now table) ⌝ }
-    requires { ⌜ find group member from (now table) ≡ none ⌝ }
-    ensures { λ r. ⌜ r ≡ isSome (find group member (from + 32) (now (table .entry))) ⌝ }
+    ensures { λ r. ⌜ r ≡ among group member from 32 (now (table .entry)) ⌝ }
 {
     let mut hits: u32 = 0;
     let mut j = 0;
@@ -144,6 +143,24 @@ pub fn place_of(table: &[i32], count: usize, group: i32, member: i32) -> Place
         i += 1;
     }
     Place::Absent
+}
+
+// Whether the pair is among the first `count`. Those added last, which stand at the end, are looked at first.
+fn present(table: &[i32], count: usize, group: i32, member: i32) -> bool
+    ensures { λ r. ⌜ r ≡ holds group member (tableOf (now (table .entry)) count) ⌝ }
+{
+    let mut i = pairs_in(table.len(), count);
+    while 32 <= i {
+        i -= 32;
+        if block_holds(table, i, group, member) {
+            return true;
+        }
+    }
+    let found = place_of(table, i, group, member);
+    match found {
+        Place::At(_) => true,
+        Place::Absent => false,
+    }
 }
 
 // How many of the first `count` pairs are of the group.
@@ -209,7 +226,7 @@ pub fn take_out(table: &mut [i32], count: usize, place: usize)
     table[i + 1] = 0;
 }
 
-// The pair of AD, RM or QY.
+// The pair of RM.
 fn searched(table: &[i32], count: usize, group: i32, member: i32) -> Search
     ensures { λ r. ⌜ r ≡ searchOf group member count (now (table .entry)) ⌝ }
 {
@@ -243,12 +260,13 @@ pub fn add_pair(table: &mut [i32], count: usize, limit: u32, group: i32, member:
     ensures { λ r. ⌜ r ≡ changeOf (added limit group member (tableOf (now (table .entry)) count)) ⌝ }
     ensures { λ _. ⌜ now (table .exit) ≡ wordsAfter (now (table .entry)) (added limit group member (tableOf (now (table .entry)) count)) ⌝ }
 {
-    let found = searched(table, count, group, member);
-    match found {
-        Search::BelowOne => Change::Stopped(Stop::NumberBelowOne),
-        Search::At(_) => Change::Done(count),
-        Search::Absent => add_absent(table, count, limit, group, member),
+    if !numbers_fit(group, member) {
+        return Change::Stopped(Stop::NumberBelowOne);
     }
+    if present(table, count, group, member) {
+        return Change::Done(count);
+    }
+    add_absent(table, count, limit, group, member)
 }
 
 // RM. An absent pair changes nothing.
@@ -271,10 +289,11 @@ pub fn remove_pair(table: &mut [i32], count: usize, group: i32, member: i32) -> 
 pub fn query_pair(table: &[i32], count: usize, group: i32, member: i32) -> Query
     ensures { λ r. ⌜ r ≡ valueOf (queried group member (tableOf (now (table .entry)) count)) ⌝ }
 {
-    let found = searched(table, count, group, member);
-    match found {
-        Search::BelowOne => Query::Stopped(Stop::NumberBelowOne),
-        Search::At(_) => Query::Value(1),
-        Search::Absent => Query::Value(0),
+    if !numbers_fit(group, member) {
+        return Query::Stopped(Stop::NumberBelowOne);
     }
+    if present(table, count, group, member) {
+        return Query::Value(1);
+    }
+    Query::Value(0)
 }

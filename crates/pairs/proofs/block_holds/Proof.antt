@@ -1,6 +1,6 @@
--- `block_holds` meets its contract. The loop's invariant: some pair was counted where the pair is among those passed.
-use Prim.Native.Nat.{suc, _+_, _≤_, _-_}
-use mathlib.Core.Path.{_≡_, sym, _∙_}
+-- `block_holds` meets its contract. The loop's invariant: hits were counted where the pair is among those passed.
+use Prim.Native.Nat.{_≤_, _-_}
+use mathlib.Core.Path.{_≡_, refl, sym, _∙_}
 use mathlib.Core.Logic.{⊎-elim}
 use native.Mathlib.Numerals.{add-one}
 use native.Mathlib.Omega.{arith}
@@ -8,23 +8,20 @@ use lib.Dec.{ltb}
 use mir.Val.{toZ}
 use mir.Syntax.{w32}
 use mir.Facts.{toZ-ofZ}
-use Rattle.language.specs.Table.{find, isSome}
-use Rattle.pairs.proofs.Pairs.{room, hits-more, hits-same}
+use Rattle.pairs.specs.Places.{among}
+use Rattle.pairs.proofs.Pairs.{hits-more, hits-same}
 use Rattle.pairs.proofs.block_holds.Statement.{statement}
 use Rattle.pairs.proofs.block_holds.Tie as tie
 
 abbrev Inv-loop : tie.InvT-loop
-Inv-loop table from group member hits₀ j₀ hits j = (j ≤ 32) × (hits ≤ j) × (ltb 0 hits ≡ isSome (find (toZ w32 group) (toZ w32 member) (from + j) table))
+Inv-loop table from group member hits₀ j₀ hits j = (j ≤ 32) × (hits ≤ j) × (ltb 0 hits ≡ among (toZ w32 group) (toZ w32 member) from j table)
 
 abbrev μ-loop : tie.MeasureT-loop
 μ-loop table from group member hits₀ j₀ hits j = 32 - j
 
 loop-holds : tie.Need-loop-holds Inv-loop μ-loop
-unfolding isSome
-loop-holds c =
-    let s = c .args in
-    let e : s .from + 0 ≡ s .from = omega arith in
-    (omega arith, omega arith, rw (e, toZ-ofZ (c .fits .group), toZ-ofZ (c .fits .member), c .pre .1, isSome))
+unfolding among
+loop-holds c = (omega arith, omega arith, refl)
 
 abbrev loopOf : tie.After-pair-is Inv-loop μ-loop → tie.At-loop Inv-loop μ-loop
 loopOf c = c .before .before
@@ -48,15 +45,12 @@ loop-again : tie.Need-loop-again Inv-loop μ-loop
 loop-again c =
     let k = loopOf (c .before) in
     let l = k .loop in
-    let s = k .before in
-    let t = c .before .pair-is .ensures in
-    let e : s .args .from + (l .j + 1) ≡ suc (s .args .from + l .j) = omega arith in
-    let r = room (s .args .from + l .j) (s .args .table .now) (omega arith) in (
+    let t = c .before .pair-is .ensures in (
       omega arith,
       ⊎-elim (λ w. let q = w .1 in omega arith) (λ w. let q = w .1 in omega arith) (c .if1 .came),
-      rw e (⊎-elim
-          (λ w. hits-more _ _ r (sym t ∙ w .0 .taken) (w .1 ∙ add-one (l .hits)))
-          (λ w. hits-same _ _ r (sym t ∙ w .0 .left) (w .1) (l .inv .2))
+      rw add-one (⊎-elim
+          (λ w. hits-more _ _ _ (l .j) _ (sym t ∙ w .0 .taken) (w .1 ∙ add-one (l .hits)))
+          (λ w. hits-same _ _ _ (l .j) _ (sym t ∙ w .0 .left) (w .1) (l .inv .2))
           (c .if1 .came)),
     )
 

@@ -8,7 +8,7 @@ use mir.Syntax.{w32}
 use mir.Facts.{toZ-ofZ}
 use Rattle.language.specs.Table.{find}
 use Rattle.laws.specs.Tables.{find-zero}
-use Rattle.pairs.proofs.Pairs.{not-some}
+use Rattle.pairs.proofs.Pairs.{still-none}
 use Rattle.pairs.proofs.without.Statement.{statement}
 use Rattle.pairs.proofs.without.Tie as tie
 
@@ -31,7 +31,7 @@ sub-loop : tie.Need-sub-loop Inv-loop μ-loop
 sub-loop c = omega arith
 
 block-holds-requires : tie.Need-block-holds-requires Inv-loop μ-loop
-block-holds-requires c κs = (omega (arith, c .before .before .pre), c .before .loop .inv .1)
+block-holds-requires c κs = omega (arith, c .before .before .pre)
 
 returns : tie.Need-returns Inv-loop μ-loop
 returns c =
@@ -45,7 +45,9 @@ loop-less : tie.Need-loop-less Inv-loop μ-loop
 loop-less c = omega arith
 
 loop-again : tie.Need-loop-again Inv-loop μ-loop
-loop-again c = (omega arith, not-some _ (sym (c .before .block-holds .ensures) ∙ c .if1 .left))
+loop-again c =
+    let k = loopOf (c .before) in
+    (omega arith, still-none _ _ _ _ _ (omega (arith, k .before .pre)) (k .loop .inv .1) (sym (c .before .block-holds .ensures) ∙ c .if1 .left))
 
 returns-2 : tie.Need-returns-2 Inv-loop μ-loop
 returns-2 c = (c .before .loop .inv .0, absent (c .before))
