@@ -1,15 +1,18 @@
 -- The definitions go through a table from its first pair. These laws say them of one pair more at the end, as a loop reads them.
 use Prim.Native.Nat.{ℕ, zero, suc, _+_, _*_, _/_, _<_, _≤_, min}
 use mathlib.Core.Path.{_≡_, refl, sym, _∙_, ap}
-use mathlib.Core.Bool.{Bool, true, false, _&&_, cond}
+use mathlib.Core.Bool.{Bool, true, false, _&&_, _||_, cond}
 use mathlib.Core.List.{List, [], _∷_}
 use mathlib.Core.Option.{Option, none, some}
 use native.Mathlib.Omega.{arith}
+use borrow.Author.Tests.{lt-ltb}
+use lib.Dec.{ltb}
 use lib.IntN.{ℤ}
 use lib.ListN.{length}
 use Rattle.language.specs.Basics.{eqZ}
-use Rattle.language.specs.Table.{find, members}
-use Rattle.laws.specs.Tables.{groupAt, pairIs, front, find-front, find-next, members-front, members-next}
+use Rattle.language.specs.Table.{find, isSome, members}
+use Rattle.laws.specs.Tables.{groupAt, pairIs, front, orElse, find-front, find-next, members-front, members-next}
+use Rattle.pairs.specs.Places.{among}
 
 -- The list has a pair at place i.
 pub data Room : ℕ → List ℤ → Type 0 where
@@ -50,6 +53,65 @@ find-stays g m (suc i) (suc n) (a ∷ b ∷ ws) j h e =
 
 pub find-hit : (g m : ℤ) {i : ℕ} {ws : List ℤ} (n : ℕ) → Room i ws → find g m i ws ≡ none → pairIs g m i ws ≡ true → i < n → find g m n ws ≡ some i
 find-hit g m {i} {ws} n r e f h = find-stays g m (suc i) n ws i h (find-next g m i ws (room-fits r) ∙ rw (e, f))
+
+-- ---- several pairs compared at once
+
+not-some : (o : Option ℕ) → isSome o ≡ false → o ≡ none
+unfolding isSome
+not-some none e = refl
+not-some (some i) e = absurd (let z : _≡_ {A = Bool} true false = e in let y : _≡_ {A = ℕ} 0 1 = cc in omega arith)
+
+or-true : (b : Bool) → (b || true) ≡ true
+or-true true = refl
+or-true false = refl
+
+or-false : (b : Bool) → (b || false) ≡ b
+or-false true = refl
+or-false false = refl
+
+or-or : (a b c : Bool) → ((a || b) || c) ≡ (a || (b || c))
+or-or true b c = refl
+or-or false b c = refl
+
+-- hits among the j pairs from place i on, and one pair more
+module _ (g m : ℤ) (i j : ℕ) (ws : List ℤ) {h k : ℕ} where
+  pub hits-more : pairIs g m (i + j) ws ≡ true → k ≡ suc h → ltb 0 k ≡ among g m i (suc j) ws
+  unfolding among
+  hits-more f e = lt-ltb 0 k (omega arith) ∙ sym (ap (among g m i j ws ||_) f ∙ or-true (among g m i j ws))
+
+  pub hits-same : pairIs g m (i + j) ws ≡ false → k ≡ h → ltb 0 h ≡ among g m i j ws → ltb 0 k ≡ among g m i (suc j) ws
+  unfolding among
+  hits-same f e q = ap (ltb 0) e ∙ q ∙ sym (ap (among g m i j ws ||_) f ∙ or-false (among g m i j ws))
+
+or-else : (o : Option ℕ) (t : Bool) (k : ℕ) → isSome (orElse o t k) ≡ (isSome o || t)
+unfolding isSome
+or-else none true k = refl
+or-else none false k = refl
+or-else (some i) t k = refl
+
+-- k pairs more: found before them, or one of them
+pub found-among :
+    (g m : ℤ) (i k : ℕ) (ws : List ℤ) → 2 * (i + k) ≤ length ws → isSome (find g m (i + k) ws) ≡ (isSome (find g m i ws) || among g m i k ws)
+unfolding among
+found-among g m i zero ws h =
+    let e : i + 0 ≡ i = omega arith in
+    ap (λ (n : ℕ). isSome (find g m n ws)) e ∙ sym (or-false (isSome (find g m i ws)))
+found-among g m i (suc k) ws h =
+    let e : i + suc k ≡ suc (i + k) = omega arith in
+    ap (λ (n : ℕ). isSome (find g m n ws)) e ∙ ap isSome (find-next g m (i + k) ws (omega arith)) ∙
+    or-else (find g m (i + k) ws) (pairIs g m (i + k) ws) (i + k) ∙ ap (_|| pairIs g m (i + k) ws) (found-among g m i k ws (omega arith)) ∙
+    or-or (isSome (find g m i ws)) (among g m i k ws) (pairIs g m (i + k) ws)
+
+module _ (g m : ℤ) (i k : ℕ) (ws : List ℤ) (h : 2 * (i + k) ≤ length ws) where
+  pub found-there : among g m i k ws ≡ true → isSome (find g m (i + k) ws) ≡ true
+  found-there e = found-among g m i k ws h ∙ ap (isSome (find g m i ws) ||_) e ∙ or-true (isSome (find g m i ws))
+
+  pub found-before : among g m i k ws ≡ false → isSome (find g m (i + k) ws) ≡ isSome (find g m i ws)
+  found-before e = found-among g m i k ws h ∙ ap (isSome (find g m i ws) ||_) e ∙ or-false (isSome (find g m i ws))
+
+  pub still-none : find g m i ws ≡ none → among g m i k ws ≡ false → find g m (i + k) ws ≡ none
+  unfolding isSome
+  still-none e f = not-some (find g m (i + k) ws) (found-before f ∙ ap isSome e)
 
 -- ---- the words end before the count
 

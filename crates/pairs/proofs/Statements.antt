@@ -5,7 +5,8 @@ use mathlib.Core.Bool.{Bool, true, false, _&&_}
 use mathlib.Core.List.{List}
 use mathlib.Core.Option.{Option, none, some}
 use native.Mathlib.Omega.{arith}
-use borrow.Author.Tests.{le-leb, lt-leb, lt-ltb, le-ltb}
+use borrow.Author.Tests.{lt-ltb, le-ltb}
+use lib.Dec.{leb}
 use lib.IntN.{ℤ, pos}
 use lib.ListN.{length}
 use mir.Val.{SFits, toZ, ofZ}
@@ -30,6 +31,14 @@ unfolding placed
 placed-absent none e = refl
 placed-absent (some j) e = absurd (let z : _≡_ {A = ℕ} 0 1 = cc in omega arith)
 
+pub held-at : (r : Option ℕ) {i : ℕ} → placed r ≡ At i → isSome r ≡ true
+unfolding isSome
+held-at r e = ap isSome (placed-at _ _ e)
+
+pub held-not : (r : Option ℕ) → placed r ≡ Absent → isSome r ≡ false
+unfolding isSome
+held-not r e = ap isSome (placed-absent _ e)
+
 -- the words in locals are read back from their bits
 module _ {g m : ℤ} (fg : SFits w32 g) (fm : SFits w32 m) where
   pub fits-read : {r v : Bool} → r ≡ (atLeastOne (toZ w32 (ofZ w32 g)) && atLeastOne (toZ w32 (ofZ w32 m))) → r ≡ v → (atLeastOne g && atLeastOne m) ≡ v
@@ -38,6 +47,10 @@ module _ {g m : ℤ} (fg : SFits w32 g) (fm : SFits w32 m) where
   pub place-read :
       (k : ℕ) (ws : List ℤ) {p q : PairPlace} → p ≡ placed (find (toZ w32 (ofZ w32 g)) (toZ w32 (ofZ w32 m)) k ws) → p ≡ q → placed (find g m k ws) ≡ q
   place-read k ws e q = (rw (toZ-ofZ fg, toZ-ofZ fm) at (sym e)) ∙ q
+
+  pub held-read :
+      (k : ℕ) (ws : List ℤ) {r v : Bool} → r ≡ holds (toZ w32 (ofZ w32 g)) (toZ w32 (ofZ w32 m)) (tableOf ws k) → r ≡ v → holds g m (tableOf ws k) ≡ v
+  held-read k ws e q = (rw (toZ-ofZ fg, toZ-ofZ fm) at (sym e)) ∙ q
 
   pub search-read :
       (k : ℕ) (ws : List ℤ) {p q : Search} → p ≡ searchOf (toZ w32 (ofZ w32 g)) (toZ w32 (ofZ w32 m)) k ws → p ≡ q → searchOf g m k ws ≡ q
@@ -77,14 +90,6 @@ module _ (g m : ℤ) (k : ℕ) (ws : List ℤ) where
       go true f (some i) q = subst Says (searched-at f (ap placed q)) (f, q)
 
 module _ (g m : ℤ) (t : Table) where
-  holds-at : {i : ℕ} → find g m (t .used) (t .words) ≡ some i → holds g m t ≡ true
-  unfolding holds isSome
-  holds-at e = rw e
-
-  holds-not : find g m (t .used) (t .words) ≡ none → holds g m t ≡ false
-  unfolding holds isSome
-  holds-not e = rw e
-
   full-yes : length (t .words) / 2 ≤ t .used → full t ≡ true
   unfolding full
   full-yes h = lt-ltb (length (t .words)) (2 * suc (t .used)) (omega arith)
@@ -94,29 +99,29 @@ module _ (g m : ℤ) (t : Table) where
   full-no h = le-ltb (length (t .words)) (2 * suc (t .used)) (omega arith)
 
 module _ (limit : ℕ) (g m : ℤ) (t : Table) where
-  pub absent-crowded : limit ≤ size g t → addedAbsent limit g m t ≡ halts GroupFull
+  pub absent-crowded : leb limit (size g t) ≡ true → addedAbsent limit g m t ≡ halts GroupFull
   unfolding addedAbsent
-  absent-crowded h = rw (le-leb limit (size g t) h, addedAbsent)
+  absent-crowded h = rw (h, addedAbsent)
 
-  pub absent-full : size g t < limit → length (t .words) / 2 ≤ t .used → addedAbsent limit g m t ≡ halts TableFull
+  pub absent-full : leb limit (size g t) ≡ false → length (t .words) / 2 ≤ t .used → addedAbsent limit g m t ≡ halts TableFull
   unfolding addedAbsent
-  absent-full h k = rw (lt-leb limit (size g t) h, full-yes g m t k, addedAbsent)
+  absent-full h k = rw (h, full-yes g m t k, addedAbsent)
 
-  pub absent-new : size g t < limit → t .used < length (t .words) / 2 → addedAbsent limit g m t ≡ leaves (add g m t)
+  pub absent-new : leb limit (size g t) ≡ false → t .used < length (t .words) / 2 → addedAbsent limit g m t ≡ leaves (add g m t)
   unfolding addedAbsent
-  absent-new h k = rw (lt-leb limit (size g t) h, full-no g m t k, addedAbsent)
+  absent-new h k = rw (h, full-no g m t k, addedAbsent)
 
   pub added-below : (atLeastOne g && atLeastOne m) ≡ false → added limit g m t ≡ halts NumberBelowOne
   unfolding added
   added-below e = rw (e, added)
 
-  pub added-present : {i : ℕ} → (atLeastOne g && atLeastOne m) ≡ true → find g m (t .used) (t .words) ≡ some i → added limit g m t ≡ leaves t
+  pub added-present : (atLeastOne g && atLeastOne m) ≡ true → holds g m t ≡ true → added limit g m t ≡ leaves t
   unfolding added
-  added-present e f = rw (e, holds-at g m t f, added)
+  added-present e f = rw (e, f, added)
 
-  pub added-absent : (atLeastOne g && atLeastOne m) ≡ true → find g m (t .used) (t .words) ≡ none → added limit g m t ≡ addedAbsent limit g m t
+  pub added-absent : (atLeastOne g && atLeastOne m) ≡ true → holds g m t ≡ false → added limit g m t ≡ addedAbsent limit g m t
   unfolding added addedAbsent
-  added-absent e f = rw (e, holds-not g m t f, added) refl
+  added-absent e f = rw (e, f, added) refl
 
 module _ (g m : ℤ) (t : Table) where
   pub removed-below : (atLeastOne g && atLeastOne m) ≡ false → removed g m t ≡ halts NumberBelowOne
@@ -137,17 +142,19 @@ module _ (g m : ℤ) (t : Table) where
   unfolding queried
   queried-below e = rw (e, queried)
 
-  pub queried-yes : {i : ℕ} → (atLeastOne g && atLeastOne m) ≡ true → find g m (t .used) (t .words) ≡ some i → queried g m t ≡ gives (pos 1)
+  pub queried-yes : (atLeastOne g && atLeastOne m) ≡ true → holds g m t ≡ true → queried g m t ≡ gives (pos 1)
   unfolding queried
-  queried-yes e f = rw (e, holds-at g m t f, queried)
+  queried-yes e f = rw (e, f, queried)
 
-  pub queried-no : (atLeastOne g && atLeastOne m) ≡ true → find g m (t .used) (t .words) ≡ none → queried g m t ≡ gives (pos 0)
+  pub queried-no : (atLeastOne g && atLeastOne m) ≡ true → holds g m t ≡ false → queried g m t ≡ gives (pos 0)
   unfolding queried
-  queried-no e f = rw (e, holds-not g m t f, queried)
+  queried-no e f = rw (e, f, queried)
 
-pub size-read : {g : ℤ} → SFits w32 g → (k : ℕ) (ws : List ℤ) {n : ℕ} → n ≡ members (toZ w32 (ofZ w32 g)) k ws → n ≡ size g (tableOf ws k)
+pub crowded-read :
+    {g : ℤ} → SFits w32 g → (limit k : ℕ) (ws : List ℤ) {r v : Bool} → r ≡ leb limit (members (toZ w32 (ofZ w32 g)) k ws) → r ≡ v →
+    leb limit (size g (tableOf ws k)) ≡ v
 unfolding size
-size-read fg k ws e = rw (toZ-ofZ fg) at e
+crowded-read fg limit k ws e q = (rw (toZ-ofZ fg) at (sym e)) ∙ q
 
 pub one-fewer : (k : ℕ) → k - 1 ≡ fewer k
 unfolding fewer

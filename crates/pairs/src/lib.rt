@@ -1,12 +1,14 @@
 // Pairs of the membership table: the words 2 i and 2 i + 1 of the slice are the group and the member of the pair at place i.
 ghost use mathlib.Core.Path.{_≡_};
 ghost use mathlib.Core.Bool.{_&&_};
-ghost use Prim.Native.Nat.{_+_, _*_, _/_, _<_, min};
+ghost use mathlib.Core.Option.{none};
+ghost use Prim.Native.Nat.{_+_, _*_, _/_, _<_, _≤_, min};
+ghost use lib.Dec.{leb};
 ghost use lib.ListN.{length, set};
 ghost use Rattle.language.specs.Basics.{eqZ};
-ghost use Rattle.language.specs.Table.{find, members, atLeastOne, add, takeOut, added, removed, queried};
+ghost use Rattle.language.specs.Table.{find, holds, members, atLeastOne, add, takeOut, added, removed, queried};
 ghost use Rattle.laws.specs.Tables.{groupAt, memberAt};
-ghost use Rattle.pairs.specs.Places.{placed, searchOf};
+ghost use Rattle.pairs.specs.Places.{placed, searchOf, among};
 ghost use Rattle.pairs.specs.Outcomes.{tableOf, addedAbsent, changeOf, valueOf, wordsAfter};
 use language::Stop;
 
@@ -16,7 +18,7 @@ pub enum PairPlace {
     Absent,
 }
 
-// Where a statement's pair stands: its numbers are judged before it is looked for.
+// Where RM's pair stands: its numbers are judged before it is looked for.
 enum Search {
     BelowOne,
     Absent,
@@ -69,12 +71,15 @@ pub fn member_at(table: &[i32], i: usize) -> i32
     table[2 * i + 1]
 }
 
+// Both words are read before either is compared, so that the compiler can compare several pairs at once.
 fn pair_is(table: &[i32], i: usize, group: i32, member: i32) -> bool
     requires { ⌜ 2 * i + 1 < length (now table) ⌝ }
     ensures { λ r. ⌜ r ≡ (eqZ (groupAt i (now (table .entry))) group && eqZ (memberAt i (now (table .entry))) member) ⌝ }
 {
-    if same_number(group_at(table, i), group) {
-        return same_number(member_at(table, i), member);
+    let g = group_at(table, i);
+    let m = member_at(table, i);
+    if same_number(g, group) {
+        return same_number(m, member);
     }
     false
 }
@@ -94,12 +99,43 @@ pub fn numbers_fit(group: i32, member: i32) -> bool
     false
 }
 
+// Whether the pair is one of the 32 from place `from` on. All 32 are compared, with no way out at the first hit.
+fn block_holds(table: &[i32], from: usize, group: i32, member: i32) -> bool
+    requires { ⌜ 2 * (from + 32) ≤ length (now table) ⌝ }
+    ensures { λ r. ⌜ r ≡ among group member from 32 (now (table .entry)) ⌝ }
+{
+    let mut hits: u32 = 0;
+    let mut j = 0;
+    while j < 32 {
+        if pair_is(table, from + j, group, member) {
+            hits += 1;
+        }
+        j += 1;
+    }
+    0 < hits
+}
+
+// How many of the first `n` pairs need not be looked at again: whole blocks in front of the one that holds the pair.
+fn without(table: &[i32], n: usize, group: i32, member: i32) -> usize
+    requires { ⌜ 2 * n ≤ length (now table) ⌝ }
+    ensures { λ r. ⌜ (r ≤ n) × (find group member r (now (table .entry)) ≡ none) ⌝ }
+{
+    let mut i = 0;
+    while 32 <= n - i {
+        if block_holds(table, i, group, member) {
+            return i;
+        }
+        i += 32;
+    }
+    i
+}
+
 // The first place among the first `count` pairs.
 pub fn place_of(table: &[i32], count: usize, group: i32, member: i32) -> PairPlace
     ensures { λ r. ⌜ r ≡ placed (find group member count (now (table .entry))) ⌝ }
 {
     let n = pairs_in(table.len(), count);
-    let mut i = 0;
+    let mut i = without(table, n, group, member);
     while i < n {
         if pair_is(table, i, group, member) {
             return PairPlace::At(i);
@@ -107,6 +143,24 @@ pub fn place_of(table: &[i32], count: usize, group: i32, member: i32) -> PairPla
         i += 1;
     }
     PairPlace::Absent
+}
+
+// Whether the pair is among the first `count`. Those added last, which stand at the end, are looked at first.
+fn present(table: &[i32], count: usize, group: i32, member: i32) -> bool
+    ensures { λ r. ⌜ r ≡ holds group member (tableOf (now (table .entry)) count) ⌝ }
+{
+    let mut i = pairs_in(table.len(), count);
+    while 32 <= i {
+        i -= 32;
+        if block_holds(table, i, group, member) {
+            return true;
+        }
+    }
+    let found = place_of(table, i, group, member);
+    match found {
+        PairPlace::At(_) => true,
+        PairPlace::Absent => false,
+    }
 }
 
 // How many of the first `count` pairs are of the group.
@@ -123,6 +177,16 @@ pub fn group_size(table: &[i32], count: usize, group: i32) -> usize
         i += 1;
     }
     found
+}
+
+// Whether the group has `limit` members. Fewer pairs are not counted.
+fn crowded(table: &[i32], count: usize, limit: u32, group: i32) -> bool
+    ensures { λ r. ⌜ r ≡ leb limit (members group count (now (table .entry))) ⌝ }
+{
+    if count < limit as usize {
+        return false;
+    }
+    limit as usize <= group_size(table, count, group)
 }
 
 // The word at `i` is written, if the table has one there.
@@ -162,7 +226,7 @@ pub fn take_out(table: &mut [i32], count: usize, place: usize)
     table[i + 1] = 0;
 }
 
-// The pair of AD, RM or QY.
+// The pair of RM.
 fn searched(table: &[i32], count: usize, group: i32, member: i32) -> Search
     ensures { λ r. ⌜ r ≡ searchOf group member count (now (table .entry)) ⌝ }
 {
@@ -181,7 +245,7 @@ fn add_absent(table: &mut [i32], count: usize, limit: u32, group: i32, member: i
     ensures { λ r. ⌜ r ≡ changeOf (addedAbsent limit group member (tableOf (now (table .entry)) count)) ⌝ }
     ensures { λ _. ⌜ now (table .exit) ≡ wordsAfter (now (table .entry)) (addedAbsent limit group member (tableOf (now (table .entry)) count)) ⌝ }
 {
-    if limit as usize <= group_size(table, count, group) {
+    if crowded(table, count, limit, group) {
         return Change::Stopped(Stop::GroupFull);
     }
     if table.len() / 2 <= count {
@@ -196,12 +260,13 @@ pub fn add_pair(table: &mut [i32], count: usize, limit: u32, group: i32, member:
     ensures { λ r. ⌜ r ≡ changeOf (added limit group member (tableOf (now (table .entry)) count)) ⌝ }
     ensures { λ _. ⌜ now (table .exit) ≡ wordsAfter (now (table .entry)) (added limit group member (tableOf (now (table .entry)) count)) ⌝ }
 {
-    let found = searched(table, count, group, member);
-    match found {
-        Search::BelowOne => Change::Stopped(Stop::NumberBelowOne),
-        Search::At(_) => Change::Done(count),
-        Search::Absent => add_absent(table, count, limit, group, member),
+    if !numbers_fit(group, member) {
+        return Change::Stopped(Stop::NumberBelowOne);
     }
+    if present(table, count, group, member) {
+        return Change::Done(count);
+    }
+    add_absent(table, count, limit, group, member)
 }
 
 // RM. An absent pair changes nothing.
@@ -224,10 +289,11 @@ pub fn remove_pair(table: &mut [i32], count: usize, group: i32, member: i32) -> 
 pub fn query_pair(table: &[i32], count: usize, group: i32, member: i32) -> Query
     ensures { λ r. ⌜ r ≡ valueOf (queried group member (tableOf (now (table .entry)) count)) ⌝ }
 {
-    let found = searched(table, count, group, member);
-    match found {
-        Search::BelowOne => Query::Stopped(Stop::NumberBelowOne),
-        Search::At(_) => Query::Value(1),
-        Search::Absent => Query::Value(0),
+    if !numbers_fit(group, member) {
+        return Query::Stopped(Stop::NumberBelowOne);
     }
+    if present(table, count, group, member) {
+        return Query::Value(1);
+    }
+    Query::Value(0)
 }

@@ -1,30 +1,27 @@
 -- `add_absent` meets its contract: each way out is a case of the definition.
-use Prim.Native.Nat.{_<_}
 use mathlib.Core.Path.{_≡_, sym, _∙_, ap}
 use native.Mathlib.Numerals.{add-one}
-use native.Mathlib.Omega.{arith}
+use mathlib.Core.Bool.{Bool}
 use borrow.Author.Needs.{needs}
+use lib.Dec.{leb}
 use mir.Facts.{toZ-ofZ}
 use Rattle.language.specs.Table.{Table, size, add}
 use Rattle.pairs.specs.Outcomes.{tableOf, changeOf, wordsAfter}
-use Rattle.pairs.proofs.Statements.{size-read, absent-crowded, absent-full, absent-new}
+use Rattle.pairs.proofs.Statements.{crowded-read, absent-crowded, absent-full, absent-new}
 use Rattle.pairs.proofs.add_absent.Statement.{statement}
 use Rattle.pairs.proofs.add_absent.Tie as tie
 
-abbrev startOf : tie.After-group-size → tie.Start
+abbrev startOf : tie.After-crowded → tie.Start
 startOf c = c .before .before
 
 abbrev lent : tie.Start → Table
 lent s = tableOf (s .args .table .now) (s .args .count)
 
-counted : (c : tie.After-group-size) → let s = startOf c in c .group-size .result ≡ size (s .args .group) (lent s)
-counted c = let s = startOf c in size-read (s .fits .group) (s .args .count) (s .args .table .now) (c .group-size .ensures)
+judged : (c : tie.After-crowded) {v : Bool} → c .crowded .result ≡ v → let s = startOf c in leb (s .args .limit) (size (s .args .group) (lent s)) ≡ v
+judged c q = let s = startOf c in crowded-read (s .fits .group) (s .args .limit) (s .args .count) (s .args .table .now) (c .crowded .ensures) q
 
-below : (c : tie.Else1) → let s = startOf (c .before) in size (s .args .group) (lent s) < s .args .limit
-below c = omega (arith, counted (c .before))
-
-group-size-requires : tie.Need-group-size-requires
-group-size-requires c κs = search needs
+crowded-requires : tie.Need-crowded-requires
+crowded-requires c κs = search needs
 
 same-length : tie.Need-same-length
 same-length c = search needs
@@ -33,7 +30,7 @@ returns : tie.Need-returns
 unfolding changeOf wordsAfter
 returns c =
     let s = startOf (c .before) in
-    let e = absent-crowded (s .args .limit) (s .args .group) (s .args .member) (lent s) (omega (arith, counted (c .before))) in
+    let e = absent-crowded (s .args .limit) (s .args .group) (s .args .member) (lent s) (judged (c .before) (c .if1 .taken)) in
     (sym (ap changeOf e), sym (ap (wordsAfter (s .args .table .now)) e))
 
 same-length-2 : tie.Need-same-length-2
@@ -43,14 +40,14 @@ returns-2 : tie.Need-returns-2
 unfolding changeOf wordsAfter
 returns-2 c =
     let s = startOf (c .before .before) in
-    let e = absent-full (s .args .limit) (s .args .group) (s .args .member) (lent s) (below (c .before)) (c .if2 .taken) in
+    let e = absent-full (s .args .limit) (s .args .group) (s .args .member) (lent s) (judged (c .before .before) (c .before .if1 .left)) (c .if2 .taken) in
     (sym (ap changeOf e), sym (ap (wordsAfter (s .args .table .now)) e))
 
 append-requires : tie.Need-append-requires
 append-requires c κs = search needs
 
-add-t6 : tie.Need-add-t6
-add-t6 c = search needs
+add-t10 : tie.Need-add-t10
+add-t10 c = search needs
 
 same-length-3 : tie.Need-same-length-3
 same-length-3 c = search needs
@@ -61,19 +58,19 @@ returns-3 c =
     let a = c .before in
     let k = a .before .before in
     let s = startOf (k .before .before) in
-    let e = absent-new (s .args .limit) (s .args .group) (s .args .member) (lent s) (below (k .before)) (k .if2 .left) in
+    let e = absent-new (s .args .limit) (s .args .group) (s .args .member) (lent s) (judged (k .before .before) (k .before .if1 .left)) (k .if2 .left) in
     (rw add-one (sym (ap changeOf e)), (rw (toZ-ofZ (s .fits .group), toZ-ofZ (s .fits .member)) at (a .append .ensures)) ∙ sym (ap (wordsAfter (s .args .table .now)) e))
 
 pub add-absent-spec : {M : Type 1} → statement M
 add-absent-spec =
     tie.close
     (tie.spec
-    group-size-requires
+    crowded-requires
     same-length
     returns
     same-length-2
     returns-2
     append-requires
-    add-t6
+    add-t10
     same-length-3
     returns-3)

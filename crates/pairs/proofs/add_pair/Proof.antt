@@ -1,75 +1,70 @@
--- `add_pair` meets its contract: each outcome of the search is a case of the definition.
+-- `add_pair` meets its contract: each way out is a case of the definition.
 use mathlib.Core.Path.{_≡_, sym, _∙_, ap}
+use mathlib.Core.Bool.{Bool, true, _&&_}
 use borrow.Author.Needs.{needs}
+use borrow.Author.Tests.{not-true, not-false}
 use mir.Facts.{toZ-ofZ}
-use Rattle.language.specs.Table.{Table}
+use Rattle.language.specs.Table.{Table, atLeastOne, holds}
 use Rattle.pairs.specs.Outcomes.{tableOf, changeOf, wordsAfter}
-use Rattle.pairs.specs.declared.Search.{Search}
-use Rattle.pairs.proofs.Statements.{search-read, Says, says, added-below, added-present, added-absent}
+use Rattle.pairs.proofs.Statements.{fits-read, held-read, added-below, added-present, added-absent}
 use Rattle.pairs.proofs.add_pair.Statement.{statement}
 use Rattle.pairs.proofs.add_pair.Tie as tie
-
-abbrev startOf : tie.After-searched → tie.Start
-startOf c = c .before .before
 
 abbrev lent : tie.Start → Table
 lent s = tableOf (s .args .table .now) (s .args .count)
 
-known : (c : tie.After-searched) (r : Search) → c .searched .result ≡ r → let s = startOf c in Says (s .args .group) (s .args .member) (s .args .count) (s .args .table .now) r
-known c r q =
-    let s = startOf c in
-    says (s .args .group) (s .args .member) (s .args .count) (s .args .table .now) r
-    (search-read (s .fits .group) (s .fits .member) (s .args .count) (s .args .table .now) (c .searched .ensures) q)
+numbers : (c : tie.After-numbers-fit) {v : Bool} → c .numbers-fit .result ≡ v → (atLeastOne (c .before .args .group) && atLeastOne (c .before .args .member)) ≡ v
+numbers c q = fits-read (c .before .fits .group) (c .before .fits .member) (c .numbers-fit .ensures) q
 
-searched-requires : tie.Need-searched-requires
-searched-requires c κs = search needs
+abbrev testOf : tie.After-present → tie.Else1
+testOf c = c .before .before
 
-enum-told : tie.Need-enum-told
-enum-told c = search needs
+abbrev startOf : tie.After-present → tie.Start
+startOf c = testOf c .before .before
 
-enum-told-2 : tie.Need-enum-told-2
-enum-told-2 c = search needs
+fit : (c : tie.After-present) → (atLeastOne (startOf c .args .group) && atLeastOne (startOf c .args .member)) ≡ true
+fit c = numbers (testOf c .before) (not-false _ (testOf c .if1 .left))
 
-enum-told-3 : tie.Need-enum-told-3
-enum-told-3 c = search needs
+known : (c : tie.After-present) {v : Bool} → c .present .result ≡ v → let s = startOf c in holds (s .args .group) (s .args .member) (lent s) ≡ v
+known c q = let s = startOf c in held-read (s .fits .group) (s .fits .member) (s .args .count) (s .args .table .now) (c .present .ensures) q
 
-add-absent-requires : tie.Need-add-absent-requires
-add-absent-requires c κs = search needs
-
-same-length : tie.Need-same-length
-same-length c = search needs
+numbers-fit-requires : tie.Need-numbers-fit-requires
+numbers-fit-requires c κs = search needs
 
 returns : tie.Need-returns
 unfolding changeOf wordsAfter
 returns c =
-    let k = c .before .before in
-    let s = startOf k in
-    let e = added-below (s .args .limit) (s .args .group) (s .args .member) (lent s) (known k _ (c .enum-told .given .1)) in
+    let s = c .before .before in
+    let e = added-below (s .args .limit) (s .args .group) (s .args .member) (lent s) (numbers (c .before) (not-true _ (c .if1 .taken))) in
     (sym (ap changeOf e), sym (ap (wordsAfter (s .args .table .now)) e))
 
-same-length-2 : tie.Need-same-length-2
-same-length-2 c = search needs
+present-requires : tie.Need-present-requires
+present-requires c κs = search needs
+
+same-length : tie.Need-same-length
+same-length c = search needs
 
 returns-2 : tie.Need-returns-2
 unfolding changeOf wordsAfter
 returns-2 c =
-    let k = c .before .before in
+    let k = c .before in
     let s = startOf k in
-    let h = known k _ (c .enum-told2 .given .1) in
-    let e = added-present (s .args .limit) (s .args .group) (s .args .member) (lent s) (h .0) (h .1) in
+    let e = added-present (s .args .limit) (s .args .group) (s .args .member) (lent s) (fit k) (known k (c .if2 .taken)) in
     (sym (ap changeOf e), sym (ap (wordsAfter (s .args .table .now)) e))
 
-same-length-3 : tie.Need-same-length-3
-same-length-3 c = search needs
+add-absent-requires : tie.Need-add-absent-requires
+add-absent-requires c κs = search needs
+
+same-length-2 : tie.Need-same-length-2
+same-length-2 c = search needs
 
 returns-3 : tie.Need-returns-3
 returns-3 c =
     let a = c .before in
     let t = a .before .before in
-    let k = t .before .before in
+    let k = t .before in
     let s = startOf k in
-    let h = known k _ (t .enum-told3 .given .1) in
-    let e = added-absent (s .args .limit) (s .args .group) (s .args .member) (lent s) (h .0) (h .1) in
+    let e = added-absent (s .args .limit) (s .args .group) (s .args .member) (lent s) (fit k) (known k (t .if2 .left)) in
     let r = rw (toZ-ofZ (s .fits .group), toZ-ofZ (s .fits .member)) at (a .add-absent .ensures) in
     (r .0 ∙ sym (ap changeOf e), r .1 ∙ sym (ap (wordsAfter (s .args .table .now)) e))
 
@@ -77,14 +72,11 @@ pub add-pair-spec : {M : Type 1} → statement M
 add-pair-spec =
     tie.close
     (tie.spec
-    searched-requires
-    enum-told
-    enum-told-2
-    enum-told-3
-    add-absent-requires
-    same-length
+    numbers-fit-requires
     returns
-    same-length-2
+    present-requires
+    same-length
     returns-2
-    same-length-3
+    add-absent-requires
+    same-length-2
     returns-3)

@@ -11,7 +11,6 @@ use mir.Val.{SFits, toZ, ofZ}
 use mir.Syntax.{w32}
 use mir.Facts.{toZ-ofZ}
 use Rattle.language.specs.Table.{find}
-use Rattle.laws.specs.Tables.{find-zero}
 use Rattle.pairs.specs.Places.{placed}
 use Rattle.pairs.proofs.place_of.Statement.{statement}
 use Rattle.pairs.proofs.place_of.Tie as tie
@@ -24,7 +23,7 @@ abbrev μ-loop : tie.MeasureT-loop
 μ-loop table count group member n i₀ i = n - i
 
 abbrev startOf : tie.At-loop Inv-loop μ-loop → tie.Start Inv-loop μ-loop
-startOf c = c .before .before
+startOf c = c .before .before .before
 
 abbrev loopOf : tie.After-pair-is Inv-loop μ-loop → tie.At-loop Inv-loop μ-loop
 loopOf c = c .before .before
@@ -32,8 +31,11 @@ loopOf c = c .before .before
 pairs-in-requires : tie.Need-pairs-in-requires Inv-loop μ-loop
 pairs-in-requires c κs = tt
 
+without-requires : tie.Need-without-requires Inv-loop μ-loop
+without-requires c κs = omega (arith, c .pairs-in .ensures)
+
 loop-holds : tie.Need-loop-holds Inv-loop μ-loop
-loop-holds c = (omega arith, find-zero _ _ _)
+loop-holds c = c .without .ensures
 
 pair-is-requires : tie.Need-pair-is-requires Inv-loop μ-loop
 pair-is-requires c κs = omega arith
@@ -47,7 +49,7 @@ returns c =
     let k = loopOf (c .before) in
     let s = startOf k in
     let l = k .loop in
-    let n = k .before .pairs-in in
+    let n = k .before .before .pairs-in in
     answer (s .fits .group) (s .fits .member) (s .args .count) (s .args .table .now) (n .result) refl (n .ensures)
     (find-hit _ _ (n .result) (room (l .i) _ (omega arith)) (l .inv .1) (sym (c .before .pair-is .ensures) ∙ c .if1 .taken) (omega arith))
 
@@ -65,7 +67,7 @@ unfolding placed
 returns-2 c =
     let s = startOf (c .before) in
     let l = c .before .loop in
-    answer (s .fits .group) (s .fits .member) (s .args .count) (s .args .table .now) (l .i) (omega arith) (c .before .before .pairs-in .ensures) (l .inv .1)
+    answer (s .fits .group) (s .fits .member) (s .args .count) (s .args .table .now) (l .i) (omega arith) (c .before .before .before .pairs-in .ensures) (l .inv .1)
 
 pub place-of-spec : {M : Type 1} → statement M
 place-of-spec =
@@ -74,6 +76,7 @@ place-of-spec =
     Inv-loop
     μ-loop
     pairs-in-requires
+    without-requires
     loop-holds
     pair-is-requires
     returns

@@ -1,61 +1,46 @@
 -- `query_pair` meets its contract.
 use mathlib.Core.Path.{_≡_, sym, ap}
+use mathlib.Core.Bool.{Bool, true, _&&_}
 use borrow.Author.Needs.{needs}
+use borrow.Author.Tests.{not-true, not-false}
+use Rattle.language.specs.Table.{Table, atLeastOne, holds}
 use Rattle.pairs.specs.Outcomes.{tableOf, valueOf}
-use Rattle.pairs.specs.declared.Search.{Search}
-use Rattle.pairs.proofs.Statements.{search-read, Says, says, queried-below, queried-yes, queried-no}
+use Rattle.pairs.proofs.Statements.{fits-read, held-read, queried-below, queried-yes, queried-no}
 use Rattle.pairs.proofs.query_pair.Statement.{statement}
 use Rattle.pairs.proofs.query_pair.Tie as tie
 
-known : (c : tie.After-searched) (r : Search) → c .searched .result ≡ r → let s = c .before in Says (s .args .group) (s .args .member) (s .args .count) (s .args .table .now) r
-known c r q =
-    let s = c .before in
-    says (s .args .group) (s .args .member) (s .args .count) (s .args .table .now) r
-    (search-read (s .fits .group) (s .fits .member) (s .args .count) (s .args .table .now) (c .searched .ensures) q)
+abbrev lent : tie.Start → Table
+lent s = tableOf (s .args .table .now) (s .args .count)
 
-searched-requires : tie.Need-searched-requires
-searched-requires c κs = search needs
+numbers : (c : tie.After-numbers-fit) {v : Bool} → c .numbers-fit .result ≡ v → (atLeastOne (c .before .args .group) && atLeastOne (c .before .args .member)) ≡ v
+numbers c q = fits-read (c .before .fits .group) (c .before .fits .member) (c .numbers-fit .ensures) q
 
-enum-told : tie.Need-enum-told
-enum-told c = search needs
+abbrev startOf : tie.After-present → tie.Start
+startOf c = c .before .before .before
 
-enum-told-2 : tie.Need-enum-told-2
-enum-told-2 c = search needs
+fit : (c : tie.After-present) → (atLeastOne (startOf c .args .group) && atLeastOne (startOf c .args .member)) ≡ true
+fit c = numbers (c .before .before) (not-false _ (c .before .if1 .left))
 
-enum-told-3 : tie.Need-enum-told-3
-enum-told-3 c = search needs
+known : (c : tie.After-present) {v : Bool} → c .present .result ≡ v → let s = startOf c in holds (s .args .group) (s .args .member) (lent s) ≡ v
+known c q = let s = startOf c in held-read (s .fits .group) (s .fits .member) (s .args .count) (s .args .table .now) (c .present .ensures) q
+
+numbers-fit-requires : tie.Need-numbers-fit-requires
+numbers-fit-requires c κs = search needs
 
 returns : tie.Need-returns
 unfolding valueOf
-returns c =
-    let k = c .before .before in
-    let s = k .before in
-    sym (ap valueOf (queried-below _ _ (tableOf (s .args .table .now) (s .args .count)) (known k _ (c .enum-told .given .1))))
+returns c = sym (ap valueOf (queried-below _ _ (lent (c .before .before)) (numbers (c .before) (not-true _ (c .if1 .taken)))))
+
+present-requires : tie.Need-present-requires
+present-requires c κs = search needs
 
 returns-2 : tie.Need-returns-2
 unfolding valueOf
-returns-2 c =
-    let k = c .before .before in
-    let s = k .before in
-    let h = known k _ (c .enum-told2 .given .1) in
-    sym (ap valueOf (queried-yes _ _ (tableOf (s .args .table .now) (s .args .count)) (h .0) (h .1)))
+returns-2 c = let k = c .before in sym (ap valueOf (queried-yes _ _ (lent (startOf k)) (fit k) (known k (c .if2 .taken))))
 
 returns-3 : tie.Need-returns-3
 unfolding valueOf
-returns-3 c =
-    let k = c .before .before in
-    let s = k .before in
-    let h = known k _ (c .enum-told3 .given .1) in
-    sym (ap valueOf (queried-no _ _ (tableOf (s .args .table .now) (s .args .count)) (h .0) (h .1)))
+returns-3 c = let k = c .before in sym (ap valueOf (queried-no _ _ (lent (startOf k)) (fit k) (known k (c .if2 .left))))
 
 pub query-pair-spec : {M : Type 1} → statement M
-query-pair-spec =
-    tie.close
-    (tie.spec
-    searched-requires
-    enum-told
-    enum-told-2
-    enum-told-3
-    returns
-    returns-2
-    returns-3)
+query-pair-spec = tie.close (tie.spec numbers-fit-requires returns present-requires returns-2 returns-3)
