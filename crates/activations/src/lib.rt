@@ -26,13 +26,16 @@ pub fn push(records: &mut [Activation], k: usize, activation: Activation)
     records[k] = activation;
 }
 
-// The activation so many links further out.
+// The activation so many links further out. Most names are at most one link away, and the first link is taken before the loop.
 pub fn follow(records: &[Activation], from: usize, count: usize) -> usize
     requires { ⌜ Linked (now records) from ⌝ }
     ensures { λ r. ⌜ (r ≡ hop (now (records .entry)) from count) × (r ≤ from) ⌝ }
 {
-    let mut activation = from;
-    let mut left = count;
+    if count == 0 {
+        return from;
+    }
+    let mut activation = records[from].link as usize;
+    let mut left = count - 1;
     while 0 < left {
         activation = records[activation].link as usize;
         left = left - 1;

@@ -106,7 +106,7 @@ module _ {M : Type 1} (𝓤 : URA M) (H : Heap 𝓤) where
   Back τs β vs i = all 𝓤 (λ (o : Option Val). wand 𝓤 (Cell (typeOf τs β i) (blockOf τs β i) o) (Frame τs β (set vs i o)))
 
   -- under one more cell in front
-  under : (C P : SProp 𝓤) (Q F : Option Val → SProp 𝓤) → ent 𝓤 (sep 𝓤 C (sep 𝓤 P (all 𝓤 (λ o. wand 𝓤 (Q o) (F o)))))
+  pub under : {X : Type 0} (C P : SProp 𝓤) (Q F : X → SProp 𝓤) → ent 𝓤 (sep 𝓤 C (sep 𝓤 P (all 𝓤 (λ o. wand 𝓤 (Q o) (F o)))))
       (sep 𝓤 P (all 𝓤 (λ o. wand 𝓤 (Q o) (sep 𝓤 C (F o)))))
   under C P Q F =
       let B : SProp 𝓤 = all 𝓤 (λ o. wand 𝓤 (Q o) (F o)) in
@@ -115,7 +115,7 @@ module _ {M : Type 1} (𝓤 : URA M) (H : Heap 𝓤) where
       (via 𝓤 (sep 𝓤 C (sep 𝓤 B (Q o))) (assoc∗ 𝓤 C B (Q o)) (monoR 𝓤 C (via 𝓤 (sep 𝓤 (Q o) B) (comm∗ 𝓤 B (Q o)) (via 𝓤 (sep 𝓤 (Q o) (wand 𝓤 (Q o) (F o)))
       (monoR 𝓤 (Q o) (allE 𝓤 (λ p. wand 𝓤 (Q p) (F p)) o)) (apply∗ 𝓤 (Q o) (F o)))))))))))
 
-  first-out : (C F : SProp 𝓤) (Q : Option Val → SProp 𝓤) → ent 𝓤 (sep 𝓤 C F) (sep 𝓤 C (all 𝓤 (λ o. wand 𝓤 (Q o) (sep 𝓤 (Q o) F))))
+  pub first-out : {X : Type 0} (C F : SProp 𝓤) (Q : X → SProp 𝓤) → ent 𝓤 (sep 𝓤 C F) (sep 𝓤 C (all 𝓤 (λ o. wand 𝓤 (Q o) (sep 𝓤 (Q o) F))))
   first-out C F Q = monoR 𝓤 C (allI 𝓤 (λ o. wand 𝓤 (Q o) (sep 𝓤 (Q o) F)) (λ o. wandI 𝓤 F (Q o) (sep 𝓤 (Q o) F) (comm∗ 𝓤 F (Q o))))
 
   out-of : (τs : List Ty) (β : ℕ → ℕ) (vs : List (Option Val)) (i : ℕ) → Among τs i

@@ -7,3 +7,7 @@ pub mod Locals
 pub mod Lends
 pub mod Elements
 pub mod Functions
+pub mod Holes
+pub mod Clauses
+pub mod Early
+pub mod Arrays

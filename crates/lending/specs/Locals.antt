@@ -5,6 +5,7 @@
 --     puts, puts-last  an assignment to a whole local, with code after it and as the last statement of its part.        lands    a call's result
 --     ends             the function returns: its result is local 0, and its locals are freed
 --     forgets          what a local holds is forgotten
+--     if-then          an `if` with no `else`
 -- For a loop:  tests, breaks    the tests of a `while` and of an `if c { break; }`.        by-size, by-size-wf      an order on any state, by a number
 -- Assumes `Given`.
 use Prim.Native.Nat.{ℕ, zero, suc, _+_, _<_}
@@ -21,10 +22,10 @@ use mir.Syntax.{Sym, Lifetime, Mutability, Ty, Tys, tyInt, tyRef, tyStruct, tnil
 use mir.Val.{Val, Vals, vbool, vint, vptr, vstruct, vnil, vcons, WT, hasTy}
 use mir.Fields.{getV, setV}
 use prog.Memory.{fieldAt, fieldOf}
-use prog.Wp.{Heap, Calls, Loops, exits, next}
+use prog.Wp.{Heap, Calls, Loops, Wp, afterSeq, exits, next}
 use base.Logic.{SProp}
 use ghost.Atoms.{Atoms}
-use types.Kit.{Given, Item, nth, del, put, Post, post, atRet, Goal, prop, runs, lands, frees, Seq, Step, step, _$_}
+use types.Kit.{Given, Item, nth, del, put, Post, post, anyQ, atRet, Goal, prop, runs, lands, frees, Seq, Step, step, _$_}
 use types.Part.{Part, agg, sub, look-in}
 use types.Run.{Reads, Opd, Rv, load, from, stop, fld, hop, addr, and-then, no-more, assigns, assigns-last, land, returns, returns-within, first, branches, skips, jumps}
 use denote.Slice.{sliceTy, sliceVal}
@@ -116,3 +117,9 @@ module _ {M : Type 1} {𝓤 : URA M} {H : Heap 𝓤} {A : Atoms 𝓤} {K : Type 
   pub breaks : K → {E : List (Ty × ℕ)} {C : Calls 𝓤 H} {Λ : Loops 𝓤 H} {q : Post 𝓤 H} {c : Operand} {n : ℕ} {b : Body} {y : Bool} → Opd K W Γ E c (vbool y)
       → (T y → Seq K W Γ (prop (post 𝓤 H q (exits n)))) → (T (not y) → Seq K W Γ (runs C Λ E b q)) → Seq K W Γ (runs C Λ E (seq (cond c (exit n) skip) b) q)
   breaks t o out go = first t $ branches t o (λ z. jumps t $ record { prf = out z .prf }) (λ z. skips t $ record { prf = go z .prf })
+
+  -- an `if` with no `else`, whose branch need not come back
+  pub if-then : K → {E : List (Ty × ℕ)} {C : Calls 𝓤 H} {Λ : Loops 𝓤 H} {q : Post 𝓤 H} {c : Operand} {a b : Body} {y : Bool} → Opd K W Γ E c (vbool y)
+      → (T y → Seq K W Γ (runs C Λ E a (anyQ (afterSeq 𝓤 H (Wp 𝓤 H C Λ E b (post 𝓤 H q)) (post 𝓤 H q))))) → (T (not y) → Seq K W Γ (runs C Λ E b q))
+      → Seq K W Γ (runs C Λ E (seq (cond c a skip) b) q)
+  if-then t o away on = first t $ branches t o away (λ z. skips t $ record { prf = on z .prf })
