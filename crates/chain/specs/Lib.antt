@@ -1,7 +1,3 @@
 -- The static-chain engine, in reading order.
-pub mod Finding
-pub mod Ready
-pub mod Turning
-pub mod Turns
+pub mod Running
 pub mod Ending
-pub mod Sheet

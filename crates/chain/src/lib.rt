@@ -3,7 +3,6 @@ pub use run::Halt;
 pub use run::run_program;
 pub use sheet::write_sheet;
 
-mod act;
-mod arms;
+mod ending;
 pub mod run;
 pub mod sheet;

@@ -1,88 +1,22 @@
 // The run: steps until the program is left, a statement has a cause to stop, or the allowance is spent.
-use super::act::act;
-use acting::Move;
+use super::ending::ended;
+use super::ending::halts;
+use super::ending::next_of;
+use activations::Activation;
+use activations::push;
+use chain_steps::step;
+use chain_steps::went;
 use language::End;
-use language::Stop;
 use links::Now;
-use links::enter;
-use links::jump;
-use links::leave;
-use links::looked_up;
-use links::push;
-use links::set_next;
+use links::narrow;
 use stepping::code_at;
 ghost use mathlib.Core.Path.{_≡_};
-ghost use Prim.Native.Nat.{_<_};
+ghost use Prim.Native.Nat.{_/_, _%_};
+ghost use lib.ListN.{getD};
 ghost use Rattle.frames.specs.Frame.{frameRun, frameStart};
-ghost use Rattle.links.specs.Records.{NextSet};
-ghost use Rattle.links.specs.Running.{limitsBy, Running, Looking};
-ghost use Rattle.chain.specs.Turning.{Turned, Beginning, Ended, haltAt};
-
-// What a step comes to.
-pub enum Turn {
-    Went(Now),
-    Finished,
-    Stopped(Stop),
-}
-
-pub fn step(
-    code: &[u32; 4096],
-    words: &mut [i32; 8224],
-    records: &mut [u32],
-    table: &mut [i32],
-    group: u32,
-    limit: usize,
-    here: Now,
-) -> Turn
-    requires { ⌜ Running (now code) limit group (now words) (now records) (now table) here ⌝ }
-    ensures { λ r.
-        ⌜ ((w : Running (now (code .entry)) limit group (now (words .entry)) (now (records .entry)) (now (table .entry)) here)
-        → Turned w r (now (words .exit)) (now (records .exit)) (now (table .exit))) ⌝ }
-{
-    let live = here.live;
-    let at = here.at;
-    let end = here.end;
-    let pairs = here.pairs;
-    let level = here.level;
-    if at == end {
-        if live == 0 {
-            return Turn::Finished;
-        }
-        return Turn::Went(leave(code, records, here));
-    }
-    match act(
-        code,
-        words,
-        records,
-        table,
-        pairs,
-        group,
-        limit,
-        live,
-        level,
-        at,
-    ) {
-        Move::On(place) => Turn::Went(Now {
-            live,
-            at: place,
-            end,
-            pairs,
-            level,
-        }),
-        Move::Pairs(place, used) => Turn::Went(Now {
-            live,
-            at: place,
-            end,
-            pairs: used,
-            level,
-        }),
-        Move::Jump(home, place) => Turn::Went(jump(code, records, here, home, place)),
-        Move::Enter(body, link, back) => {
-            Turn::Went(enter(code, words, records, here, body, link, back))
-        }
-        Move::Stop(cause) => Turn::Stopped(cause),
-    }
-}
+ghost use Rattle.links.specs.Running.{limitsBy, activationOf};
+ghost use Rattle.chain.specs.Running.{Beginning, Ended};
+ghost use Rattle.chain.specs.Ending.{startBy};
 
 // How a run has ended: how many activations are live, and what the looked-up name is.
 pub struct Halt {
@@ -95,33 +29,28 @@ pub struct Halt {
     pub links: u32,
 }
 
-// A run that leaves activations live: the place of the innermost one's next statement is put with the others'.
-fn halted(
-    code: &[u32; 4096],
-    words: &[i32; 8224],
-    records: &mut [u32],
-    here: Now,
-    end: End,
-    steps: u32,
-    offset: usize,
-) -> Halt
-    requires { ⌜ Looking (now code) (now words) (now records) (here .live) (here .level) ⌝ }
-    requires { ⌜ here .at < 65536 ⌝ }
-    ensures { λ r.
-        ⌜ ((w : Looking (now (code .entry)) (now (words .entry)) (now (records .entry)) (here .live) (here .level))
-        → r ≡ haltAt end steps offset here w) ⌝ }
-    ensures { λ _. ⌜ NextSet (now (records .entry)) (now (records .exit)) (here .live) (here .at) ⌝ }
+// The program's record, and the state in which it begins.
+fn program_record(code: &[u32; 4096]) -> Activation
+    ensures { λ r. ⌜ r ≡ activationOf (now (code .entry)) 0 0 ⌝ }
 {
-    let found = looked_up(code, words, records, here.live, here.level);
-    set_next(records, here.live, here.at);
-    Halt {
-        end,
-        steps,
-        offset,
-        live: here.live + 1,
-        pairs: here.pairs,
-        designator: found.designator,
-        links: found.links,
+    Activation {
+        block: 0,
+        next: narrow(code_at(code, 1) / 65536),
+        link: 0,
+    }
+}
+
+fn start(code: &[u32; 4096], pairs: usize) -> Now
+    ensures { λ r. ⌜ r ≡ startBy (now (code .entry)) pairs ⌝ }
+{
+    let head = code_at(code, 0);
+    let bounds = code_at(code, 1);
+    Now {
+        live: 0,
+        at: bounds / 65536,
+        end: bounds % 65536,
+        pairs,
+        level: head / 256 % 256,
     }
 }
 
@@ -129,7 +58,7 @@ fn halted(
 pub fn run_program(
     code: &[u32; 4096],
     words: &mut [i32; 8224],
-    records: &mut [u32],
+    records: &mut [Activation],
     table: &mut [i32],
     pairs: usize,
     group: u32,
@@ -143,40 +72,17 @@ pub fn run_program(
         (frameRun (limitsBy limit group) allowance (frameStart (b .program) (record { words = now (table .entry); used = pairs })))
         r (now (words .exit)) (now (records .exit)) (now (table .exit))) ⌝ }
 {
-    let head = code_at(code, 0);
-    let bounds = code_at(code, 1);
-    push(records, 0, 0, bounds / 65536, 0);
-    let mut here = Now {
-        live: 0,
-        at: bounds / 65536,
-        end: bounds % 65536,
-        pairs,
-        level: head / 256 % 256,
-    };
+    push(records, 0, program_record(code));
+    let mut here = start(code, pairs);
+    let mut turn = went(here);
     let mut left = allowance;
     while 0 < left {
-        match step(code, words, records, table, group, limit, here) {
-            Turn::Went(next) => {
-                here = next;
-                left -= 1;
-            }
-            Turn::Finished => {
-                return Halt {
-                    end: End::Finished,
-                    steps: allowance - left + 1,
-                    offset: 0,
-                    live: 0,
-                    pairs: here.pairs,
-                    designator: 0,
-                    links: 0,
-                };
-            }
-            Turn::Stopped(cause) => {
-                let done = allowance - left;
-                let place = 2 * here.at;
-                return halted(code, words, records, here, End::Stopped(cause), done, place);
-            }
+        turn = step(code, words, records, table, group, limit, here);
+        if halts(turn) {
+            break;
         }
+        here = next_of(here, turn);
+        left = left - 1;
     }
-    halted(code, words, records, here, End::Spent, allowance, 0)
+    ended(code, words, records, here, turn, allowance, left)
 }

@@ -1,4 +1,6 @@
 // The engines by name, for programs: a call of each, with an area of its own where it needs one, and its answer in print.
+use activations::Activation;
+
 mod printing;
 
 pub use printing::print_answer;
@@ -11,6 +13,38 @@ pub enum Engine {
     Copy,
     Chain,
     Display,
+}
+
+// The chain engine's call, on records of its own.
+fn by_chain(
+    script: &[u8],
+    d: u32,
+    n: u32,
+    g: u32,
+    table: &mut [i32],
+    count: usize,
+    name: u16,
+    sheet: &mut [i32],
+    answer: &mut [u64; 9],
+) {
+    let mut records = [Activation {
+        block: 0,
+        next: 0,
+        link: 0,
+    }; 256];
+    enrol::enrol_chain(
+        script,
+        d,
+        n,
+        g,
+        0,
+        table,
+        count,
+        name,
+        sheet,
+        &mut records,
+        answer,
+    );
 }
 
 // A call of an engine, as C makes it. The copying area has 65,536 words, the records are for 256 activations.
@@ -44,20 +78,7 @@ pub fn call(
             );
         }
         Engine::Chain => {
-            let mut records = [0u32; 768];
-            enrol::enrol_chain(
-                script,
-                d,
-                n,
-                g,
-                0,
-                table,
-                count,
-                name,
-                sheet,
-                &mut records,
-                &mut answer,
-            );
+            by_chain(script, d, n, g, table, count, name, sheet, &mut answer);
         }
         Engine::Display => {
             enrol::enrol_display(script, d, n, g, 0, table, count, name, sheet, &mut answer);

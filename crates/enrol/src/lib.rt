@@ -1,14 +1,13 @@
 // What the server's C programs call. Each function is total: it requires nothing, and its contract fixes every word that it writes.
+use activations::Activation;
 use language::Verdict;
 ghost use mathlib.Core.Path.{_≡_};
 ghost use Rattle.language.specs.Check.{check};
 ghost use lib.ListN.{length};
-ghost use Rattle.language.specs.Call.{copying, display, chain, recordsIn, reply, Leaves};
+ghost use Rattle.language.specs.Call.{copying, display, chain, reply, Leaves};
 ghost use Rattle.language.specs.Numbers.{answerWords};
 ghost use Rattle.admission.specs.Lent.{fedOf};
 ghost use Rattle.enrol.specs.Answers.{checkWords};
-
-mod by_chain;
 
 // The refusal's number, 0 where the script is accepted, and its offset.
 #[no_mangle]
@@ -70,8 +69,7 @@ pub extern "C" fn enrol_display(
     *answer = display_call::call(script, d, n, g, tally, table, count, name, sheet);
 }
 
-// A run by the chain engine, on activation records in a lent slice, three words each: the same, and the records as they were where the call is
-// refused.
+// A run by the chain engine, on activation records in a lent slice: the same, and the records as they were where the call is refused.
 #[no_mangle]
 pub extern "C" fn enrol_chain(
     script: &[u8],
@@ -83,13 +81,25 @@ pub extern "C" fn enrol_chain(
     count: usize,
     name: u16,
     sheet: &mut [i32],
-    records: &mut [u32],
+    records: &mut [Activation],
     answer: &mut [u64; 9],
 )
-    ensures { λ _. ⌜ now (answer .exit) ≡ answerWords ((reply (chain (recordsIn (length (now (records .entry))))) (fedOf (now (script .entry)) d n g tally (now (table .entry)) count name (now (sheet .entry)))) .answer) ⌝ }
-    ensures { λ _. ⌜ now (sheet .exit) ≡ (reply (chain (recordsIn (length (now (records .entry))))) (fedOf (now (script .entry)) d n g tally (now (table .entry)) count name (now (sheet .entry)))) .lent .sheet ⌝ }
-    ensures { λ _. ⌜ now (table .exit) ≡ (reply (chain (recordsIn (length (now (records .entry))))) (fedOf (now (script .entry)) d n g tally (now (table .entry)) count name (now (sheet .entry)))) .lent .table .words ⌝ }
-    ensures { λ _. ⌜ Leaves (chain (recordsIn (length (now (records .entry))))) (fedOf (now (script .entry)) d n g tally (now (table .entry)) count name (now (sheet .entry))) (now (records .entry)) (now (records .exit)) ⌝ }
+    ensures { λ _. ⌜ now (answer .exit) ≡ answerWords ((reply (chain (length (now (records .entry)))) (fedOf (now (script .entry)) d n g tally (now (table .entry)) count name (now (sheet .entry)))) .answer) ⌝ }
+    ensures { λ _. ⌜ now (sheet .exit) ≡ (reply (chain (length (now (records .entry)))) (fedOf (now (script .entry)) d n g tally (now (table .entry)) count name (now (sheet .entry)))) .lent .sheet ⌝ }
+    ensures { λ _. ⌜ now (table .exit) ≡ (reply (chain (length (now (records .entry)))) (fedOf (now (script .entry)) d n g tally (now (table .entry)) count name (now (sheet .entry)))) .lent .table .words ⌝ }
+    ensures { λ _. ⌜ Leaves (chain (length (now (records .entry)))) (fedOf (now (script .entry)) d n g tally (now (table .entry)) count name (now (sheet .entry))) (now (records .entry)) (now (records .exit)) ⌝ }
 {
-    *answer = by_chain::call(script, d, n, g, tally, table, count, name, sheet, records);
+    chain_call::call(
+        script,
+        d,
+        n,
+        g,
+        tally,
+        table,
+        count,
+        name,
+        sheet,
+        records,
+        answer,
+    );
 }

@@ -39,10 +39,6 @@ chain activations = record { records = some activations; area = none; links = tr
 abbrev pub display : Engine
 display = record { records = none; area = none; links = false }
 
--- the activation records that a lent slice of 32-bit words holds, three words each
-unfoldable pub recordsIn : ℕ → ℕ
-recordsIn words = words / 3
-
 -- What a call is fed; D, N and G are `activations`, `allowance` and `group`.
 pub record Fed : Type 0 where
   pub script : List ℕ

@@ -1,42 +1,65 @@
 -- How the static-chain engine finds a name: from the innermost activation, as many links as the innermost block's level is above the name's lead to
 -- the activation that declares it.
-use Prim.Native.Nat.{ℕ, _+_, _*_, _-_, _≤_, _<_}
-use mathlib.Core.Bool.{false}
+use Prim.Native.Nat.{ℕ, _+_, _*_, _-_, _%_, _≤_, _<_}
+use mathlib.Core.Bool.{true, false}
 use mathlib.Core.List.{List}
-use mathlib.Core.Path.{_≡_}
-use lib.IntN.{ℤ, pos}
+use lib.Dec.{eqb}
+use lib.IntN.{ℤ}
 use lib.ListN.{getD}
-use lib.Signed.{ltZ}
-use Rattle.resolved.specs.Resolved.{levelIn, positionIn, direct}
+use Rattle.activations.specs.declared.Activation.{Activation}
+use Rattle.resolved.specs.Resolved.{levelIn, positionIn}
 use Rattle.arrays.specs.Names.{follow}
-use Rattle.arrays.specs.Found.{cellBy}
-use Rattle.acting.specs.Acting.{Finding}
-use Rattle.steps.specs.Finding.{byFirst}
+use Rattle.acting.specs.Acting.{Finding, setAll, argumentsFrom}
+use Rattle.statements.specs.Pieces.{only-words}
+use Rattle.chain_statements.specs.Finding.{byHome}
+use Rattle.links.specs.declared.Now.{Now}
 use Rattle.links.specs.Records.{linksIn, Linked}
 
-abbrev pub firstCell : List ℕ → ℕ → ℕ → ℕ → ℕ
-firstCell records live level w = 32 * follow (linksIn records) live (level - levelIn w)
+-- the activation that declares the name with a word, and its first cell
+abbrev pub homeOf : List Activation → ℕ → ℕ → ℕ → ℕ
+homeOf records live level w = follow (linksIn records) live (level - levelIn w)
 
-abbrev pub ownCell : List ℕ → ℕ → ℕ → ℕ → ℕ
-ownCell records live level w = firstCell records live level w + positionIn w
+abbrev pub firstCell : List Activation → ℕ → ℕ → ℕ → ℕ
+firstCell records live level w = 32 * homeOf records live level w
 
-abbrev pub byChain : List ℤ → List ℕ → ℕ → ℕ → Finding
-byChain words records live level = byFirst words (firstCell records live level)
+abbrev pub byChain : List ℤ → List Activation → ℕ → ℕ → Finding
+byChain words records live level = byHome words (homeOf records live level)
 
 -- the links to the activation that declares the name with a word can be followed
-pub record Seen (records : List ℕ) (live level w : ℕ) : Type 0 where
+pub record Seen (records : List Activation) (live level w : ℕ) : Type 0 where
   pub linked : Linked records live
   pub outer : levelIn w ≤ level
 
--- the name with a word can be reached: its own cell is one of the words, what a formal holds is not negative, and the cell that it finally
--- stands for is one of the words
-pub record Reachable (words : List ℤ) (records : List ℕ) (live level w : ℕ) : Type 0 where
-  pub seen : Seen records live level w
-  pub own : ownCell records live level w < 8192
-  pub whole : direct w ≡ false → ltZ (getD words (ownCell records live level w) (pos 0)) (pos 0) ≡ false
-  pub cell : cellBy words (firstCell records live level w) w < 8192
+-- the name that stands in a field of the next statement is one
+pub record Named (code : List ℕ) (records : List Activation) (here : Now) (field : ℕ) : Type 0 where
+  pub there : here .at + field < 4096
+  pub seen : Seen records (here .live) (here .level) (getD code (here .at + field) 0)
 
--- and it is a formal
-pub record ThroughFormal (words : List ℤ) (records : List ℕ) (live level w : ℕ) : Type 0 where
-  pub reachable : Reachable words records live level w
-  pub is : direct w ≡ false
+-- A call's arguments
+
+-- behind which field of the statement at a place its arguments end; they begin at the third, and a BK has none
+unfoldable pub argumentsEnd : List ℕ → ℕ → ℕ
+argumentsEnd code at = elim (eqb (getD code at 0 % 16) 6) [ true ↦ 3 | false ↦ 3 + getD code (at + 2) 0 ]
+
+-- the words once they are handed on
+abbrev pub handedOn : List ℕ → List ℤ → List Activation → Now → List ℤ
+handedOn code words records here = setAll words (32 * here .live + 32)
+    (argumentsFrom (byChain words records (here .live) (here .level)) (only-words code words (here .at)) (here .at + 3) (argumentsEnd code (here .at) - 3))
+
+-- one of them can be handed on: its own cell is below the next activation's
+pub record Passing (code : List ℕ) (here : Now) (field from : ℕ) : Type 0 where
+  pub low : 3 ≤ field
+  pub few : field < 35
+  pub there : here .at + field < 4096
+  pub live-few : here .live ≤ 254
+  pub below : 32 * from + positionIn (getD code (here .at + field) 0) < 32 * here .live + 32
+
+-- all of them, up to a field
+pub record Handing (code : List ℕ) (records : List Activation) (here : Now) (last : ℕ) : Type 0 where
+  pub low : 3 ≤ last
+  pub few : last ≤ 35
+  pub there : here .at + last ≤ 4096
+  pub live-few : here .live ≤ 254
+  pub named : (i : ℕ) → 3 ≤ i → i < last → Named code records here i
+  pub below : (i : ℕ) → 3 ≤ i → i < last → firstCell records (here .live) (here .level) (getD code (here .at + i) 0)
+      + positionIn (getD code (here .at + i) 0) < 32 * here .live + 32

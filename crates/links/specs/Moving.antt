@@ -5,12 +5,15 @@ use native.Mathlib.Omega.{arith}
 use mathlib.Core.List.{List}
 use mathlib.Core.Option.{some}
 use mathlib.Core.Path.{_≡_, refl, sym, ap, _∙_, subst}
+use borrow.Author.Tests.{eqb-true, eqb-false}
+use lib.Dec.{eqb}
 use lib.IntN.{ℤ}
 use lib.ListN.{length, getD, set, getElem?, length-set}
 use lib.Seq.{set-set, getD-set-same}
 use Rattle.language.specs.Text.{blockAt, blockDecls}
 use Rattle.language.specs.Machine.{Limits}
 use Rattle.laws.specs.Lists.{getElem-in}
+use Rattle.laws.specs.Tests.{split}
 use Rattle.grammar.specs.Formed.{block-few}
 use Rattle.frames.specs.Frame.{Frame}
 use Rattle.frames.specs.Numbered.{numbered-suc, numbered-index}
@@ -26,9 +29,11 @@ use Rattle.steps.specs.Here.{many, within-limit, live-few, downward, encloses-h
 use Rattle.steps.specs.Reads as reads
 use Rattle.steps.specs.Loop.{leaves, jumped}
 use Rattle.steps.specs.Entered.{body-head, entered}
+use Rattle.activations.specs.declared.Activation.{Activation}
+use Rattle.activations.specs.Records.{at as record-at}
 use Rattle.links.specs.declared.Now.{Now}
-use Rattle.links.specs.Records.{blocksIn, nextsIn, linksIn, Room, Linked, Pushed, NextSet, column-length}
-use Rattle.links.specs.Running.{limitsBy, levelAt, endAt, nowAt, Running, Succeeds}
+use Rattle.links.specs.Records.{blocksIn, nextsIn, linksIn, Room, Linked, Pushed, NextSet, column-length, column-read}
+use Rattle.links.specs.Running.{limitsBy, levelAt, endAt, nowBy, nowAt, Running, Succeeds}
 
 -- the place kept for the innermost activation may be any
 pub written-next : {code : List ℕ} {l : Limits} {words : List ℤ} {blocks nexts links : List ℕ} {table : List ℤ} {pairs live at end : ℕ}
@@ -55,7 +60,7 @@ written-next {words} {blocks} {nexts} {links} {live} {at} s v =
       links-long = s .links-long;
     }
 
-module _ {code : List ℕ} {limit group : ℕ} {words : List ℤ} {records : List ℕ} {table : List ℤ} {here : Now}
+module _ {code : List ℕ} {limit group : ℕ} {words : List ℤ} {records : List Activation} {table : List ℤ} {here : Now}
     (w : Running code limit group words records table here) where
   abbrev fs : List Frame
   fs = w .standing .stack .frames
@@ -78,6 +83,16 @@ module _ {code : List ℕ} {limit group : ℕ} {words : List ℤ} {records : Lis
   pub resumable : (k : ℕ) → k ≤ here .live → Room records k × (getD (blocksIn records) k 0 + 3 ≤ 4096)
   resumable k h = let f = live-frame k h in (room-there k h, reads.block-within (w .standing) k (f .0) (f .1))
 
+  -- the fields of a record
+  pub block-read : (k : ℕ) → k ≤ here .live → getD (blocksIn records) k 0 ≡ record-at records k .block
+  block-read k h = column-read (λ a. a .block) records k ((room-there k h) .few)
+
+  next-read : (k : ℕ) → k ≤ here .live → getD (nextsIn records) k 0 ≡ record-at records k .next
+  next-read k h = column-read (λ a. a .next) records k ((room-there k h) .few)
+
+  pub block-fits : (k : ℕ) → k ≤ here .live → record-at records k .block + 3 ≤ 4096
+  block-fits k h = omega (arith, (resumable k h) .1, block-read k h)
+
   -- A return
 
   pub leaves-to : here .at ≡ here .end → 1 ≤ here .live → Succeeds w words records table
@@ -99,6 +114,13 @@ module _ {code : List ℕ} {limit group : ℕ} {words : List ℤ} {records : Lis
       })
       (record { running = record { standing = l .standing; level-is = refl; room = w .room }; follows = l .follows })
 
+  pub leaves-by : here .at ≡ here .end → 1 ≤ here .live → Succeeds w words records table
+      (nowBy code (record-at records (here .live - 1) .block) (here .live - 1) (record-at records (here .live - 1) .next) (here .pairs))
+  leaves-by ended above =
+      let b = block-read (here .live - 1) (omega arith) in
+      let n = next-read (here .live - 1) (omega arith) in
+      subst (λ (s : Now). Succeeds w words records table s) (λ i. nowBy code (b i) (here .live - 1) (n i) (here .pairs)) (leaves-to ended above)
+
   -- A jump
 
   module _ (home at′ : ℕ) (j : JumpsTo (w .standing) home at′) where
@@ -113,6 +135,9 @@ module _ {code : List ℕ} {limit group : ℕ} {words : List ℤ} {records : Lis
         subst (λ (n : Now). Succeeds w words records table n)
         (λ i. record { live = home; at = at′; end = e i; pairs = here .pairs; level = levelAt code records home })
         (record { running = record { standing = l .standing; level-is = refl; room = w .room }; follows = l .follows })
+
+    pub jumps-by : Succeeds w words records table (nowBy code (record-at records home .block) home at′ (here .pairs))
+    jumps-by = subst (λ (s : Now). Succeeds w words records table s) (λ i. nowBy code (block-read home home-live i) home at′ (here .pairs)) jumps-to
 
     -- within the innermost activation nothing has to be read
     pub jumps-here : home ≡ here .live → Succeeds w words records table
@@ -171,15 +196,15 @@ module _ {code : List ℕ} {limit group : ℕ} {words : List ℤ} {records : Lis
     abbrev fresh : ℕ
     fresh = here .live + 1
 
-    abbrev Stood : List ℤ → List ℕ → List ℕ → List ℕ → ℕ → ℕ → Type 0
-    Stood words″ blocks nexts links at end =
+    abbrev Stands : List ℤ → List ℕ → List ℕ → List ℕ → ℕ → ℕ → Type 0
+    Stands words″ blocks nexts links at end =
         (s : Standing code (limitsBy limit group) words″ blocks nexts links table (here .pairs) fresh at end) × Follows (w .standing) (s .stack)
         (s .program) (s .name)
 
     module _ (head bounds : ℕ) (head-is : head ≡ getD code body 0) (bounds-are : bounds ≡ getD code (body + 1) 0)
-        (records₁ records₂ : List ℕ) (n : NextSet records records₁ (here .live) back) (p : Pushed records₁ records₂ fresh body (bounds / 65536) link)
+        (records₁ records₂ : List Activation) (n : NextSet records records₁ (here .live) back) (p : Pushed records₁ records₂ fresh body (bounds / 65536) link)
         (words″ : List ℤ) (cleared : Cleared words′ (32 * fresh + head / 65536 % 256) (32 * fresh + head / 16777216) words″) where
-      stood : Stood words″ (blocksIn records₂) (nextsIn records₂) (linksIn records₂) (bounds / 65536) (bounds % 65536)
+      stood : Stands words″ (blocksIn records₂) (nextsIn records₂) (linksIn records₂) (bounds / 65536) (bounds % 65536)
       unfolding written-next
       stood =
           let h = body-head (w .standing) body link back words′ j in
@@ -195,13 +220,13 @@ module _ {code : List ℕ} {limit group : ℕ} {words : List ℤ} {records : Lis
           let ls : set (linksIn records) fresh link ≡ linksIn records₂ = sym (p .links ∙ ap (λ (xs : List ℕ). set xs fresh link) (n .links)) in
           let first = sym (ap (λ x. x / 65536) bounds-are ∙ h .first) in
           let ends = sym (ap (λ x. x % 65536) bounds-are ∙ h .ends) in
-          subst (λ (T : Type 0). T) (λ i. Stood words″ (bs i) (ns i) (ls i) (first i) (ends i))
+          subst (λ (T : Type 0). T) (λ i. Stands words″ (bs i) (ns i) (ls i) (first i) (ends i))
           (written-next (e .standing) (bounds / 65536), e .follows)
 
       block-there : getD (blocksIn records₂) fresh 0 ≡ body
       block-there =
           ap (λ (xs : List ℕ). getD xs fresh 0) (p .blocks) ∙ getD-set-same (blocksIn records₁) fresh body 0
-          (omega (arith, entry-fits .room-next .few, column-length records₁ 0 0 256))
+          (omega (arith, entry-fits .room-next .few, column-length (λ a. a .block) records₁ 0 256))
 
       pub enters-to : Succeeds w words″ records₂ table
           (record { live = fresh; at = bounds / 65536; end = bounds % 65536; pairs = here .pairs; level = head / 256 % 256 })

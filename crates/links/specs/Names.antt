@@ -1,12 +1,15 @@
 -- Names found by an engine that runs (`Running`): its way of finding them is right (`finds-by-chain`), and what it may read of a name of the next
 -- statement (`reachable`), or of the looked-up one (`seen-reached`). `not-seen`, `seen-designates`, `seen-links`: what is found of the latter.
-use Prim.Native.Nat.{ℕ, pred, _+_, _*_, _-_, _≤_}
+use Prim.Native.Nat.{ℕ, pred, _+_, _*_, _-_, _≤_, _<_}
 use native.Mathlib.Omega.{arith}
 use mathlib.Core.List.{List}
 use mathlib.Core.Option.{some}
 use mathlib.Core.Path.{_≡_, sym, ap, _∙_, subst}
+use borrow.Author.Tests.{eqb-true, eqb-false}
+use lib.Dec.{eqb}
 use lib.IntN.{ℤ}
 use lib.ListN.{length, getD, set}
+use Rattle.laws.specs.Tests.{split}
 use Rattle.frames.specs.Frame.{Frame, designates, linksFollowed}
 use Rattle.frame_laws.specs.Finding.{seekName-starts, links-none}
 use Rattle.coordinates.specs.Enclosure.{Coordinate, coordinateOf}
@@ -18,22 +21,25 @@ use Rattle.resolved.specs.NameWords.{word-none-iff}
 use Rattle.arrays.specs.Holds.{designatorOf}
 use Rattle.arrays.specs.Found.{cellBy}
 use Rattle.arrays.specs.Names.{follow, seen, named-by-links, followed-links}
+use Rattle.sheets.specs.Named.{looked-up-none, looked-up-some}
 use Rattle.steps.specs.Standing.{Standing, Finds}
 use Rattle.steps.specs.Here.{many, here as innermost, live-few, downward}
 use Rattle.steps.specs.Reads.{level-here, block-within, looked-up-here}
 use Rattle.steps.specs.Finding.{byFirst, Reaches, wordOf, firstByLinks, reached-by-links, finds-by-links, unseen-word, seen-by-links}
+use Rattle.activations.specs.declared.Activation.{Activation}
 use Rattle.links.specs.declared.Now.{Now}
 use Rattle.links.specs.declared.Found.{Found}
 use Rattle.links.specs.Records.{blocksIn, nextsIn, linksIn}
-use Rattle.links.specs.Finding.{firstCell, byChain, Seen, Reachable}
-use Rattle.links.specs.Running.{limitsBy, Running}
+use Rattle.chain_statements.specs.Finding.{Reachable}
+use Rattle.links.specs.Finding.{homeOf, firstCell, byChain, Seen}
+use Rattle.links.specs.Running.{limitsBy, Running, linksTo, links-none-to, linksome-to, foundBy, Reached}
 use Rattle.links.specs.Moving.{linked}
 
 -- what is found of a name
 abbrev pub foundIn : List Frame → ℕ → Found
 foundIn fs name = record { designator = designates fs name; links = linksFollowed fs name }
 
-module _ {code : List ℕ} {limit group : ℕ} {words : List ℤ} {records : List ℕ} {table : List ℤ} {here : Now}
+module _ {code : List ℕ} {limit group : ℕ} {words : List ℤ} {records : List Activation} {table : List ℤ} {here : Now}
     (w : Running code limit group words records table here) where
   abbrev st : Standing code (limitsBy limit group) words (blocksIn records) (nextsIn records) (linksIn records) table (here .pairs) (here .live)
       (here .at) (here .end)
@@ -62,9 +68,9 @@ module _ {code : List ℕ} {limit group : ℕ} {words : List ℤ} {records : Lis
         (set (nextsIn records) (here .live) (here .at)) (linksIn records) words (st .holds) in
         record { linked = linked w; outer = subst (λ m. levelIn (wordOf st n) ≤ m) level-there (a .level-high) }
 
-  as-reachable : (v : ℕ) → Seen records (here .live) (here .level) v → Reaches words (here .live) (firstCell records (here .live) (here .level) v) v
-      → Reachable words records (here .live) (here .level) v
-  as-reachable v s r = record { seen = s; own = omega (arith, r .own, live-few st); whole = r .whole; cell = r .cell }
+  as-reachable : (v : ℕ) → Reaches words (here .live) (firstCell records (here .live) (here .level) v) v
+      → Reachable words (homeOf records (here .live) (here .level) v) v
+  as-reachable v r = record { own = omega (arith, r .own, live-few st); whole = r .whole; cell = r .cell }
 
   -- the names of the next statement
 
@@ -74,8 +80,8 @@ module _ {code : List ℕ} {limit group : ℕ} {words : List ℤ} {records : Lis
   pub reached : (n : ℕ) → Resolved fs n → Reaches words (here .live) (firstCell records (here .live) (here .level) (wordOf st n)) (wordOf st n)
   reached n r = subst (λ m. Reaches words (here .live) m (wordOf st n)) (first-is (wordOf st n)) (reached-by-links st n r)
 
-  pub reachable : (n : ℕ) → Resolved fs n → Reachable words records (here .live) (here .level) (wordOf st n)
-  reachable n r = as-reachable (wordOf st n) (seen-name n r) (reached n r)
+  pub reachable : (n : ℕ) → Resolved fs n → Reachable words (homeOf records (here .live) (here .level) (wordOf st n)) (wordOf st n)
+  reachable n r = as-reachable (wordOf st n) (reached n r)
 
   -- The looked-up name
 
@@ -107,10 +113,12 @@ module _ {code : List ℕ} {limit group : ℕ} {words : List ℤ} {records : Lis
           (first-is (wordOf st name))
           (seen-by-links st name (λ z. d (is-word ∙ z)))
 
-      pub seen-reached : Reachable words records (here .live) (here .level) v
+      seen-outer : levelIn v ≤ here .level
+      seen-outer = subst (λ u. levelIn u ≤ here .level) (sym is-word) ((seen-at name (coordinate .0) (coordinate .1)) .outer)
+
+      seen-reached : Reachable words (homeOf records (here .live) (here .level) v) v
       seen-reached =
-          subst (Reachable words records (here .live) (here .level)) (sym is-word)
-          (as-reachable (wordOf st name) (seen-at name (coordinate .0) (coordinate .1)) (found .0))
+          subst (λ u. Reachable words (homeOf records (here .live) (here .level) u) u) (sym is-word) (as-reachable (wordOf st name) (found .0))
 
       pub seen-designates : (c : ℕ) → c ≡ cellBy words (firstCell records (here .live) (here .level) v) v → designatorOf c ≡ designates fs name
       seen-designates c q = ap designatorOf (q ∙ ap (λ u. cellBy words (firstCell records (here .live) (here .level) u) u) is-word) ∙ found .1
@@ -120,3 +128,42 @@ module _ {code : List ℕ} {limit group : ℕ} {words : List ℤ} {records : Lis
           ap (λ u. here .level - levelIn u) is-word
           ∙ sym (followed-links (st .program) (st .keeps) fs (st .sound .chained) name (coordinate .0) (coordinate .1)
           ∙ ap (λ m. m - levelIn (wordOf st name)) level-there)
+
+    zero-outer : v ≡ 0 → levelIn v ≤ here .level
+    zero-outer z = omega arith
+
+    pub outer-there : levelIn v ≤ here .level
+    outer-there = split (eqb v 0) (λ t. zero-outer (eqb-true v 0 t)) (λ t. seen-outer (eqb-false v 0 t))
+
+    -- the activation that so many links lead to
+    module _ (home : ℕ) (few : home < 256) (led : home ≡ follow (linksIn records) (here .live) (linksTo (here .level) v)) where
+      is-home : (v ≡ 0 → ⊥) → home ≡ homeOf records (here .live) (here .level) v
+      is-home d = led ∙ ap (follow (linksIn records) (here .live)) (linksome-to (here .level) v d)
+
+      pub reached-there : Reached words here v home
+      reached-there =
+          record {
+            few = few;
+            outer = outer-there;
+            low = omega (arith, w .level-is);
+            nameable = λ d. let r = subst (λ h. Reachable words h v) (sym (is-home d)) (seen-reached d) in record { own = r .own; whole = r .whole };
+          }
+
+      found-none : v ≡ 0 → foundBy words here v home ≡ foundIn fs name
+      found-none z =
+          let p = not-seen z in
+          λ i. record {
+            designator = (looked-up-none words (32 * home) v z ∙ p .0) i;
+            links = (links-none-to (here .level) v z ∙ p .1) i;
+          }
+
+      found-some : (v ≡ 0 → ⊥) → foundBy words here v home ≡ foundIn fs name
+      found-some d =
+          let same = ap (λ h. cellBy words (32 * h) v) (is-home d) in
+          λ i. record {
+            designator = (looked-up-some words (32 * home) v d ∙ seen-designates d (cellBy words (32 * home) v) same) i;
+            links = (linksome-to (here .level) v d ∙ seen-links d) i;
+          }
+
+      pub found-there : foundBy words here v home ≡ foundIn fs name
+      found-there = split (eqb v 0) (λ t. found-none (eqb-true v 0 t)) (λ t. found-some (eqb-false v 0 t))

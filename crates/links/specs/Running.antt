@@ -1,86 +1,101 @@
 -- The static-chain engine between two steps: `Running` says that the records hold a sound stack, and that the level is that of the innermost block.
--- `Succeeds`: another state is the one a step behind it. The others are what its functions ask.
-use Prim.Native.Nat.{ℕ, _+_, _*_, _/_, _%_, _≤_}
+-- `Succeeds`: another state is the one a step behind it. The others are what its functions make and ask.
+use Prim.Native.Nat.{ℕ, _+_, _*_, _-_, _/_, _%_, _≤_, _<_}
+use mathlib.Core.Bool.{true, false}
 use mathlib.Core.List.{List}
 use mathlib.Core.Path.{_≡_}
+use borrow.Author.Tests.{eq-eqb, ne-eqb}
+use lib.Dec.{eqb}
 use lib.IntN.{ℤ}
 use lib.ListN.{length, getD}
 use Rattle.language.specs.Machine.{Limits}
-use Rattle.acting.specs.Acting.{Scene}
+use Rattle.activations.specs.declared.Activation.{Activation}
+use Rattle.resolved.specs.Resolved.{levelIn}
 use Rattle.steps.specs.Standing.{Standing}
-use Rattle.steps.specs.Means.{Follows, JumpsTo, EntersAt}
+use Rattle.steps.specs.Means.{Follows, EntersAt}
+use Rattle.sheets.specs.Named.{lookedUpBy, Nameable}
 use Rattle.links.specs.declared.Now.{Now}
+use Rattle.links.specs.declared.Entry.{Entry}
+use Rattle.links.specs.declared.Found.{Found}
 use Rattle.links.specs.Records.{blocksIn, nextsIn, linksIn}
+use Rattle.links.specs.Finding.{Handing, argumentsEnd, handedOn}
 
 abbrev pub limitsBy : ℕ → ℕ → Limits
 limitsBy limit group = record { activations = limit; group = group }
 
-abbrev pub sceneBy : List ℕ → List ℤ → List ℤ → ℕ → ℕ → ℕ → ℕ → ℕ → Scene
-sceneBy code words table pairs group limit live at =
-    record { code = code; words = words; table = table; pairs = pairs; limits = limitsBy limit group; live = live; at = at }
+-- States
+
+-- an activation becomes the innermost one, whose block's place is given
+abbrev pub nowBy : List ℕ → ℕ → ℕ → ℕ → ℕ → Now
+nowBy code block home place pairs =
+    record { live = home; at = place; end = getD code (block + 1) 0 % 65536; pairs = pairs; level = getD code block 0 / 256 % 256 }
+
+abbrev pub enteredBy : List ℕ → Now → Activation → Now
+enteredBy code here a = nowBy code (a .block) (here .live + 1) (a .next) (here .pairs)
+
+-- the record of a new activation of the block at a place
+abbrev pub activationOf : List ℕ → ℕ → ℕ → Activation
+activationOf code body link = record { block = body; next = getD code (body + 1) 0 / 65536; link = link }
 
 -- what is read of an activation's block
-abbrev pub levelAt : List ℕ → List ℕ → ℕ → ℕ
+abbrev pub levelAt : List ℕ → List Activation → ℕ → ℕ
 levelAt code records k = getD code (getD (blocksIn records) k 0) 0 / 256 % 256
 
-abbrev pub endAt : List ℕ → List ℕ → ℕ → ℕ
+abbrev pub endAt : List ℕ → List Activation → ℕ → ℕ
 endAt code records k = getD code (getD (blocksIn records) k 0 + 1) 0 % 65536
 
-abbrev pub nowAt : List ℕ → List ℕ → ℕ → ℕ → ℕ → Now
-nowAt code records home at pairs = record { live = home; at = at; end = endAt code records home; pairs = pairs; level = levelAt code records home }
+abbrev pub nowAt : List ℕ → List Activation → ℕ → ℕ → ℕ → Now
+nowAt code records home place pairs = nowBy code (getD (blocksIn records) home 0) home place pairs
 
-pub record Running (code : List ℕ) (limit group : ℕ) (words : List ℤ) (records : List ℕ) (table : List ℤ) (here : Now) : Type 0 where
+pub record Running (code : List ℕ) (limit group : ℕ) (words : List ℤ) (records : List Activation) (table : List ℤ) (here : Now) : Type 0 where
   pub standing : Standing code (limitsBy limit group) words (blocksIn records) (nextsIn records) (linksIn records) table (here .pairs) (here .live)
       (here .at) (here .end)
   pub level-is : here .level ≡ levelAt code records (here .live)
-  pub room : 3 * limit ≤ length records
-
--- what the statement at a place asks: an engine that runs stands there, before the end of its text
-pub record Doing (code : List ℕ) (words : List ℤ) (records : List ℕ) (table : List ℤ) (pairs group limit live level at : ℕ) : Type 0 where
-  pub end : ℕ
-  pub running : Running code limit group words records table (record { live = live; at = at; end = end; pairs = pairs; level = level })
-  pub before : at ≡ end → ⊥
+  pub room : limit ≤ length records
 
 -- the state one step behind
-pub record Succeeds {code : List ℕ} {limit group : ℕ} {words : List ℤ} {records : List ℕ} {table : List ℤ} {here : Now}
+pub record Succeeds {code : List ℕ} {limit group : ℕ} {words : List ℤ} {records : List Activation} {table : List ℤ} {here : Now}
     (w : Running code limit group words records table here)
-    (words′ : List ℤ) (records′ : List ℕ) (table′ : List ℤ) (here′ : Now) : Type 0 where
+    (words′ : List ℤ) (records′ : List Activation) (table′ : List ℤ) (here′ : Now) : Type 0 where
   pub running : Running code limit group words′ records′ table′ here′
   pub follows : Follows (w .standing) (running .standing .stack) (running .standing .program) (running .standing .name)
 
--- the looked-up name can be found from the innermost activation
-pub record Looking (code : List ℕ) (words : List ℤ) (records : List ℕ) (live level : ℕ) : Type 0 where
+-- What entering a block asks: where the run stands, and that this is the next step, once the arguments are handed on
+pub record EnterReady (code : List ℕ) (words : List ℤ) (records : List Activation) (here : Now) (entry : Entry) : Type 0 where
   pub limit : ℕ
   pub group : ℕ
-  pub table : List ℤ
-  pub at : ℕ
-  pub end : ℕ
-  pub pairs : ℕ
-  pub running : Running code limit group words records table (record { live = live; at = at; end = end; pairs = pairs; level = level })
-
--- What leaving, jumping and entering ask of what they are not lent
-
-pub record LeaveReady (code records : List ℕ) (here : Now) : Type 0 where
-  pub limit : ℕ
-  pub group : ℕ
-  pub words : List ℤ
   pub table : List ℤ
   pub running : Running code limit group words records table here
-  pub ended : here .at ≡ here .end
-  pub above : 1 ≤ here .live
+  pub handing : Handing code records here (argumentsEnd code (here .at))
+  pub enters : EntersAt (running .standing) (entry .body) (entry .link) (entry .back) (handedOn code words records here)
 
-pub record JumpReady (code records : List ℕ) (here : Now) (home at : ℕ) : Type 0 where
+-- The looked-up name
+
+-- it can be found from the innermost activation
+pub record Looking (code : List ℕ) (words : List ℤ) (records : List Activation) (here : Now) : Type 0 where
   pub limit : ℕ
   pub group : ℕ
-  pub words : List ℤ
   pub table : List ℤ
   pub running : Running code limit group words records table here
-  pub jumps : JumpsTo (running .standing) home at
 
-pub record EnterReady (code : List ℕ) (words : List ℤ) (records : List ℕ) (here : Now) (body link back : ℕ) : Type 0 where
-  pub limit : ℕ
-  pub group : ℕ
-  pub before : List ℤ
-  pub table : List ℤ
-  pub running : Running code limit group before records table here
-  pub enters : EntersAt (running .standing) body link back words
+-- the links that lead to it by its word; 0 where it has none
+unfoldable pub linksTo : ℕ → ℕ → ℕ
+linksTo level word = elim (eqb word 0) [ true ↦ 0 | false ↦ level - levelIn word ]
+
+pub links-none-to : (level word : ℕ) → word ≡ 0 → linksTo level word ≡ 0
+unfolding linksTo
+links-none-to level word e = rw (linksTo, eq-eqb word 0 e)
+
+pub linksome-to : (level word : ℕ) → (word ≡ 0 → ⊥) → linksTo level word ≡ level - levelIn word
+unfolding linksTo
+linksome-to level word d = rw (linksTo, ne-eqb word 0 d)
+
+abbrev pub foundBy : List ℤ → Now → ℕ → ℕ → Found
+foundBy words here word home = record { designator = lookedUpBy words (32 * home) word; links = linksTo (here .level) word }
+
+-- what is asked of its word and of the activation that declares it
+pub record Reached (words : List ℤ) (here : Now) (word home : ℕ) : Type 0 where
+  pub few : home < 256
+  pub outer : levelIn word ≤ here .level
+  pub low : here .level < 65536
+  pub nameable : (word ≡ 0 → ⊥) → Nameable words (32 * home) word

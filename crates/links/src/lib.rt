@@ -1,20 +1,41 @@
-// The static chain: the activation records in a lent slice, names found by following their links, and another activation becoming the innermost one.
-use sheets::designator_of;
-use stepping::clear;
+// The static chain: names found by following the links of the activation records, and another activation becoming the innermost one.
+use activations::Activation;
+use activations::follow;
+use activations::push;
+use activations::read;
+pub use entering::enter;
+use sheets::name_designator;
 use stepping::code_at;
 ghost use mathlib.Core.Path.{_≡_};
-ghost use Prim.Native.Nat.{_+_, _*_, _/_, _%_, _<_, _≤_, _^_};
-ghost use lib.ListN.{getD};
-ghost use Rattle.arrays.specs.Found.{cellBy, heldBy};
-ghost use Rattle.arrays.specs.Names as names;
-ghost use Rattle.links.specs.Records.{blocksIn, nextsIn, linksIn, Room, Linked, Pushed, NextSet};
-ghost use Rattle.links.specs.Finding.{firstCell, ownCell, Seen, Reachable, ThroughFormal};
-ghost use Rattle.links.specs.Running.{nowAt, LeaveReady, JumpReady, EnterReady, Succeeds, Looking};
+ghost use Prim.Native.Nat.{_+_, _*_, _-_, _/_, _%_, _<_, _≤_, _^_};
+ghost use lib.ListN.{getD, set};
+ghost use Rattle.activations.specs.Records.{at};
+ghost use Rattle.resolved.specs.Resolved.{levelIn};
+ghost use Rattle.links.specs.Records.{withNext};
+ghost use Rattle.links.specs.Finding.{homeOf, Named};
+ghost use Rattle.links.specs.Running.{nowBy, linksTo, foundBy, Reached, Looking};
 ghost use Rattle.links.specs.Names.{foundIn};
 
-// The records: three words an activation, the place of its BK, the place of its next statement, and its link. Nothing else looks into the slice.
+mod entering;
+mod handing;
 
-fn wide(x: u32) -> usize
+// The innermost activation, the place of its next statement, where its text ends, the pairs in use, and the level of its block.
+pub struct Now {
+    pub live: usize,
+    pub at: usize,
+    pub end: usize,
+    pub pairs: usize,
+    pub level: usize,
+}
+
+// A block that is entered: the place of its BK, the activation that its new one is linked to, and the place to come back to.
+pub struct Entry {
+    pub body: usize,
+    pub link: usize,
+    pub back: usize,
+}
+
+pub fn wide(x: u32) -> usize
     ensures { λ r. ⌜ (r ≡ x) × (r < 2 ^ 32) ⌝ }
 {
     x as usize
@@ -27,180 +48,67 @@ pub fn narrow(x: usize) -> u32
     x as u32
 }
 
-pub fn read_block(records: &[u32], k: usize) -> usize
-    requires { ⌜ Room (now records) k ⌝ }
-    ensures { λ r. ⌜ (r ≡ getD (blocksIn (now (records .entry))) k 0) × (r < 2 ^ 32) ⌝ }
+// The links that lead to the activation that declares the name in a field of the next statement.
+fn hops(code: &[u32; 4096], here: Now, field: usize) -> usize
+    requires { ⌜ (here .at + field < 4096) × (levelIn (getD (now code) (here .at + field) 0) ≤ here .level) ⌝ }
+    ensures { λ r. ⌜ r ≡ here .level - levelIn (getD (now (code .entry)) (here .at + field) 0) ⌝ }
 {
-    wide(records[3 * k])
+    let at = here.at;
+    here.level - code_at(code, at + field) / 256 % 256
 }
 
-pub fn read_next(records: &[u32], k: usize) -> usize
-    requires { ⌜ Room (now records) k ⌝ }
-    ensures { λ r. ⌜ (r ≡ getD (nextsIn (now (records .entry))) k 0) × (r < 2 ^ 32) ⌝ }
+// That activation.
+pub fn home(code: &[u32; 4096], records: &[Activation], here: Now, field: usize) -> usize
+    requires { ⌜ Named (now code) (now records) here field ⌝ }
+    ensures { λ r. ⌜ (r ≡ homeOf (now (records .entry)) (here .live) (here .level) (getD (now (code .entry)) (here .at + field) 0)) × (r ≤ here .live) ⌝ }
 {
-    wide(records[3 * k + 1])
+    follow(records, here.live, hops(code, here, field))
 }
 
-pub fn read_link(records: &[u32], k: usize) -> usize
-    requires { ⌜ Room (now records) k ⌝ }
-    ensures { λ r. ⌜ (r ≡ getD (linksIn (now (records .entry))) k 0) × (r < 2 ^ 32) ⌝ }
+pub fn with_next(activation: Activation, place: usize) -> Activation
+    requires { ⌜ place < 65536 ⌝ }
+    ensures { λ r. ⌜ r ≡ withNext activation place ⌝ }
 {
-    wide(records[3 * k + 2])
-}
-
-// The record of an activation, written whole.
-pub fn push(records: &mut [u32], k: usize, block: usize, next: usize, link: usize)
-    requires { ⌜ Room (now records) k × (block < 65536) × (next < 65536) × (link < 65536) ⌝ }
-    ensures { λ _. ⌜ Pushed (now (records .entry)) (now (records .exit)) k block next link ⌝ }
-{
-    records[3 * k] = narrow(block);
-    records[3 * k + 1] = narrow(next);
-    records[3 * k + 2] = narrow(link);
-}
-
-pub fn set_next(records: &mut [u32], k: usize, next: usize)
-    requires { ⌜ Room (now records) k × (next < 65536) ⌝ }
-    ensures { λ _. ⌜ NextSet (now (records .entry)) (now (records .exit)) k next ⌝ }
-{
-    records[3 * k + 1] = narrow(next);
-}
-
-// The activation so many links further out.
-pub fn follow(records: &[u32], from: usize, count: usize) -> usize
-    requires { ⌜ Linked (now records) from ⌝ }
-    ensures { λ r. ⌜ (r ≡ names.follow (linksIn (now (records .entry))) from count) × (r ≤ from) ⌝ }
-{
-    let mut activation = from;
-    let mut left = count;
-    while 0 < left {
-        activation = read_link(records, activation);
-        left -= 1;
+    Activation {
+        block: activation.block,
+        next: narrow(place),
+        link: activation.link,
     }
-    activation
 }
 
-// Where a name lies, by the links: the innermost activation is `live`, of a block of level `level`.
-
-// The first cell of the activation in which the name with this word is declared.
-pub fn first_cell(records: &[u32], live: usize, level: usize, word: usize) -> usize
-    requires { ⌜ Seen (now records) live level word ⌝ }
-    ensures { λ r. ⌜ (r ≡ firstCell (now (records .entry)) live level word) × (r < 8192) ⌝ }
+// An activation of the stack, whose record is given, becomes the innermost one and goes on at a place.
+pub fn innermost(
+    code: &[u32; 4096],
+    activation: Activation,
+    home: usize,
+    place: usize,
+    pairs: usize,
+) -> Now
+    requires { ⌜ activation .block + 3 ≤ 4096 ⌝ }
+    ensures { λ r. ⌜ r ≡ nowBy (now (code .entry)) (activation .block) home place pairs ⌝ }
 {
-    32 * follow(records, live, level - word / 256 % 256)
-}
-
-// The name's own cell.
-pub fn own_cell(records: &[u32], live: usize, level: usize, word: usize) -> usize
-    requires { ⌜ Seen (now records) live level word ⌝ }
-    ensures { λ r. ⌜ (r ≡ ownCell (now (records .entry)) live level word) × (r < 8224) ⌝ }
-{
-    first_cell(records, live, level, word) + word % 32
-}
-
-// What a formal holds: the cell of the name that it finally stands for, and what that leads to.
-pub fn held(words: &[i32; 8224], records: &[u32], live: usize, level: usize, word: usize) -> usize
-    requires { ⌜ ThroughFormal (now words) (now records) live level word ⌝ }
-    ensures { λ r. ⌜ (r ≡ heldBy (now (words .entry)) (firstCell (now (records .entry)) live level word) word) × (r < 2147483648) ⌝ }
-{
-    stepping::whole(words[own_cell(records, live, level, word)])
-}
-
-// The cell of the declared name that the name with this word finally stands for.
-pub fn cell(words: &[i32; 8224], records: &[u32], live: usize, level: usize, word: usize) -> usize
-    requires { ⌜ Reachable (now words) (now records) live level word ⌝ }
-    ensures { λ r. ⌜ r ≡ cellBy (now (words .entry)) (firstCell (now (records .entry)) live level word) word ⌝ }
-{
-    if word / 32 % 2 == 0 {
-        return own_cell(records, live, level, word);
-    }
-    held(words, records, live, level, word) % 8192
-}
-
-// Entering, leaving and jumping. Links are never changed once they are written.
-
-// The innermost activation, the place of its next statement, where its text ends, the pairs in use, and the level of its block.
-pub struct Now {
-    pub live: usize,
-    pub at: usize,
-    pub end: usize,
-    pub pairs: usize,
-    pub level: usize,
-}
-
-// An activation of the stack becomes the innermost one and goes on at a place.
-fn resumed(code: &[u32; 4096], records: &[u32], home: usize, at: usize, pairs: usize) -> Now
-    requires { ⌜ Room (now records) home × (getD (blocksIn (now records)) home 0 + 3 ≤ 4096) ⌝ }
-    ensures { λ r. ⌜ r ≡ nowAt (now (code .entry)) (now (records .entry)) home at pairs ⌝ }
-{
-    let block = read_block(records, home);
+    let block = wide(activation.block);
     Now {
         live: home,
-        at,
+        at: place,
         end: code_at(code, block + 1) % 65536,
         pairs,
         level: code_at(code, block) / 256 % 256,
     }
 }
 
-// The activation below goes on.
-pub fn leave(code: &[u32; 4096], records: &[u32], here: Now) -> Now
-    requires { ⌜ LeaveReady (now code) (now records) here ⌝ }
-    ensures { λ r. ⌜ ((w : LeaveReady (now (code .entry)) (now (records .entry)) here) → Succeeds (w .running) (w .words) (now (records .entry))
-        (w .table) r) ⌝ }
+// The activation below goes on, whose record is given.
+pub fn left(code: &[u32; 4096], here: Now, activation: Activation) -> Now
+    requires { ⌜ (activation .block + 3 ≤ 4096) × (1 ≤ here .live) ⌝ }
+    ensures { λ r. ⌜ r ≡ nowBy (now (code .entry)) (activation .block) (here .live - 1) (activation .next) (here .pairs) ⌝ }
 {
-    let live = here.live - 1;
-    resumed(code, records, live, read_next(records, live), here.pairs)
-}
-
-// An activation that is live becomes the innermost one.
-pub fn jump(code: &[u32; 4096], records: &[u32], here: Now, home: usize, at: usize) -> Now
-    requires { ⌜ JumpReady (now code) (now records) here home at ⌝ }
-    ensures { λ r. ⌜ ((w : JumpReady (now (code .entry)) (now (records .entry)) here home at) → Succeeds (w .running) (w .words)
-        (now (records .entry)) (w .table) r) ⌝ }
-{
-    if home == here.live {
-        return Now {
-            live: here.live,
-            at,
-            end: here.end,
-            pairs: here.pairs,
-            level: here.level,
-        };
-    }
-    resumed(code, records, home, at, here.pairs)
-}
-
-// A new activation of the block at a place. The arguments stand in its first cells.
-pub fn enter(
-    code: &[u32; 4096],
-    words: &mut [i32; 8224],
-    records: &mut [u32],
-    here: Now,
-    body: usize,
-    link: usize,
-    back: usize,
-) -> Now
-    requires { ⌜ EnterReady (now code) (now words) (now records) here body link back ⌝ }
-    ensures { λ r. ⌜ ((w : EnterReady (now (code .entry)) (now (words .entry)) (now (records .entry)) here body link back) → Succeeds (w .running)
-        (now (words .exit)) (now (records .exit)) (w .table) r) ⌝ }
-{
-    let head = code_at(code, body);
-    let bounds = code_at(code, body + 1);
-    set_next(records, here.live, back);
-    let fresh = here.live + 1;
-    push(records, fresh, body, bounds / 65536, link);
-    clear(
-        words,
-        32 * fresh + head / 65536 % 256,
-        32 * fresh + head / 16777216,
-    );
-    Now {
-        live: fresh,
-        at: bounds / 65536,
-        end: bounds % 65536,
-        pairs: here.pairs,
-        level: head / 256 % 256,
-    }
+    innermost(
+        code,
+        activation,
+        here.live - 1,
+        wide(activation.next),
+        here.pairs,
+    )
 }
 
 // The looked-up name: its designator, and the links that lead to where it is declared; both 0 where it is not visible.
@@ -209,29 +117,50 @@ pub struct Found {
     pub links: u32,
 }
 
-// The looked-up name's word stands in the innermost block.
-pub fn looked_up(
+// Its word stands in the innermost block.
+fn looked_up(code: &[u32; 4096], activation: Activation) -> usize
+    requires { ⌜ activation .block + 3 ≤ 4096 ⌝ }
+    ensures { λ r. ⌜ r ≡ getD (now (code .entry)) (activation .block + 2) 0 ⌝ }
+{
+    code_at(code, wide(activation.block) + 2)
+}
+
+fn links_to(here: Now, word: usize) -> usize
+    requires { ⌜ levelIn word ≤ here .level ⌝ }
+    ensures { λ r. ⌜ (r ≡ linksTo (here .level) word) × (r ≤ here .level) ⌝ }
+{
+    if word == 0 {
+        return 0;
+    }
+    here.level - word / 256 % 256
+}
+
+// What is found of the name with this word, once the activation that declares it is.
+fn found_by(words: &[i32; 8224], here: Now, word: usize, home: usize) -> Found
+    requires { ⌜ Reached (now words) here word home ⌝ }
+    ensures { λ r. ⌜ r ≡ foundBy (now (words .entry)) here word home ⌝ }
+{
+    Found {
+        designator: name_designator(words, 32 * home, word),
+        links: narrow(links_to(here, word)),
+    }
+}
+
+// At the end of a run: what the looked-up name is, and the place of the innermost activation's next statement is put with the others'.
+pub fn settle(
     code: &[u32; 4096],
     words: &[i32; 8224],
-    records: &[u32],
-    live: usize,
-    level: usize,
+    records: &mut [Activation],
+    here: Now,
 ) -> Found
-    requires { ⌜ Looking (now code) (now words) (now records) live level ⌝ }
-    ensures { λ r.
-        ⌜ ((w : Looking (now (code .entry)) (now (words .entry)) (now (records .entry)) live level)
-        → r ≡ foundIn (w .running .standing .stack .frames) (w .running .standing .name)) ⌝ }
+    requires { ⌜ Looking (now code) (now words) (now records) here × (here .at < 65536) ⌝ }
+    ensures { λ r. ⌜ ((w : Looking (now (code .entry)) (now (words .entry)) (now (records .entry)) here)
+        → r ≡ foundIn (w .running .standing .stack .frames) (w .running .standing .name))
+        × (now (records .exit) ≡ set (now (records .entry)) (here .live) (withNext (at (now (records .entry)) (here .live)) (here .at))) ⌝ }
 {
-    let word = code_at(code, read_block(records, live) + 2);
-    if word == 0 {
-        return Found {
-            designator: 0,
-            links: 0,
-        };
-    }
-    let designator = designator_of(cell(words, records, live, level, word));
-    Found {
-        designator,
-        links: narrow(level - word / 256 % 256),
-    }
+    let own = read(records, here.live);
+    let word = looked_up(code, own);
+    let there = follow(records, here.live, links_to(here, word));
+    push(records, here.live, with_next(own, here.at));
+    found_by(words, here, word, there)
 }

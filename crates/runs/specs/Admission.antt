@@ -14,7 +14,7 @@ use Rattle.language.specs.Text.{Block}
 use Rattle.language.specs.Check.{Checked, accepted, refused, check}
 use Rattle.language.specs.Table.{right}
 use Rattle.language.specs.Sheet.{sheetShare}
-use Rattle.language.specs.Call.{Engine, Fed, recordsIn, limitsFit, sheetFits, recordsFit, areaFits, firstFailing, testsBefore, testsAfter, admission, Leaves}
+use Rattle.language.specs.Call.{Engine, Fed, limitsFit, sheetFits, recordsFit, areaFits, firstFailing, testsBefore, testsAfter, admission, Leaves}
 use Rattle.language.specs.declared.Refusal.{Refusal}
 use Rattle.laws.specs.Tests.{by-lookup}
 use Rattle.laws.specs.Order.{AllHold, FailsFirst, due-exactly, none-exactly}
@@ -140,8 +140,3 @@ activations-fit f e =
 pub sheet-lent : (f : Fed) → sheetFits f ≡ true → f .activations * sheetShare ≤ length (f .lent .sheet)
 unfolding sheetFits
 sheet-lent f q = leb-true (f .activations * sheetShare) (length (f .lent .sheet)) q
-
--- D records fit a slice of words exactly where it has three words for each
-pub records-asked : (d words : ℕ) → (d ≤ recordsIn words) ↔ (d * 3 ≤ words)
-unfolding recordsIn
-records-asked d words = (λ h. omega arith, λ h. omega arith)

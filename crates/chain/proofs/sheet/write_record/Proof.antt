@@ -1,0 +1,55 @@
+-- `write_record` meets its contract.
+use Prim.Native.Nat.{ℕ, _*_}
+use mathlib.Core.List.{List, _∷_, _++_}
+use mathlib.Core.Path.{_≡_, sym, ap, _∙_, subst}
+use borrow.Author.Needs.{needs}
+use lib.IntN.{ℤ, pos}
+use Rattle.language.specs.Call.{written}
+use Rattle.sheets.specs.Shown.{Shown}
+use Rattle.chain.proofs.sheet.write_record.Statement.{statement}
+use Rattle.chain.proofs.sheet.write_record.Tie as tie
+
+-- the same of equal places
+shown-as : {code : List ℕ} {words : List ℤ} {first number : ℕ} {own : List ℤ} (b b′ n n′ : ℕ) → b′ ≡ b → n′ ≡ n → Shown code words b n first number own
+    → Shown code words b′ n′ first number own
+shown-as {code} {words} {first} {number} {own} b b′ n n′ p q h =
+    subst (λ (T : Type 0). T) (λ i. Shown code words (sym p i) (sym q i) first number own) h
+
+wide-requires : tie.Need-wide-requires
+wide-requires c κs = search needs
+
+wide-requires-2 : tie.Need-wide-requires-2
+wide-requires-2 c κs = search needs
+
+mul-write-activation : tie.Need-mul-write-activation
+mul-write-activation c = search needs
+
+write-activation-requires : tie.Need-write-activation-requires
+write-activation-requires c κs =
+    let p = c .before .before .before .pre in
+    (p .1 .0, p .1 .1, shown-as _ _ _ _ (c .before .before .wide .ensures .0) (c .before .wide2 .ensures .0) (p .1 .2), p .1 .3)
+
+same-length : tie.Need-same-length
+same-length c = search needs
+
+returns : tie.Need-returns
+returns c =
+    let w = c .before .before .before .before in
+    let n = c .before .before .before in
+    let r = c .before .write-activation .ensures in (
+      λ number own ws base shown e l.
+          let q = r .0 number own ws base (shown-as _ _ _ _ (w .wide .ensures .0) (n .wide2 .ensures .0) shown) e l in
+          (q .0 ∙ ap (λ (b : ℕ). written (ws ++ (pos (2 * b) ∷ pos number ∷ own)) base) (w .wide .ensures .0), q .1),
+      r .1,
+    )
+
+pub write-record-spec : {M : Type 1} → statement M
+write-record-spec =
+    tie.close
+    (tie.spec
+    wide-requires
+    wide-requires-2
+    mul-write-activation
+    write-activation-requires
+    same-length
+    returns)

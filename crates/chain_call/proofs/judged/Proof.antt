@@ -1,0 +1,14 @@
+-- `judged` meets its contract. Assumes nothing.
+use borrow.Author.Needs.{needs}
+use mathlib.Core.Bool.{true}
+use Rattle.chain_call.proofs.judged.Statement.{statement}
+use Rattle.chain_call.proofs.judged.Tie as tie
+
+admit-requires : tie.Need-admit-requires
+admit-requires c κs = search needs
+
+returns : tie.Need-returns
+returns c name = c .admit .ensures name true
+
+pub judged-spec : {M : Type 1} → statement M
+judged-spec = tie.close (tie.spec admit-requires returns)

@@ -1,0 +1,22 @@
+-- `refuses` meets its contract. Assumes nothing.
+use borrow.Author.Needs.{needs}
+use Rattle.chain_call.specs.Calls.{isRefused}
+use Rattle.chain_call.proofs.refuses.Statement.{statement}
+use Rattle.chain_call.proofs.refuses.Tie as tie
+
+enum-known-verdict : tie.Need-enum-known-verdict
+enum-known-verdict c = search needs
+
+enum-told : tie.Need-enum-told
+enum-told c = search needs
+
+returns : tie.Need-returns
+unfolding isRefused
+returns c = search needs
+
+returns-2 : tie.Need-returns-2
+unfolding isRefused
+returns-2 c = search needs
+
+pub refuses-spec : {M : Type 1} → statement M
+refuses-spec = tie.close (tie.spec enum-known-verdict enum-told returns returns-2)

@@ -1,0 +1,2 @@
+-- The static-chain engine's call.
+pub mod Calls

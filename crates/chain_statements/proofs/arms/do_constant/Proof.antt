@@ -1,0 +1,23 @@
+-- `do_constant` meets its contract.
+use Rattle.chain_statements.specs.Homes.{own-cell, constant-at}
+use borrow.Author.Needs.{needs}
+use Rattle.chain_statements.proofs.arms.do_constant.Statement.{statement}
+use Rattle.chain_statements.proofs.arms.do_constant.Tie as tie
+
+add-own : tie.Need-add-own
+add-own c = search needs
+
+own-requires : tie.Need-own-requires
+own-requires c κs = search needs
+
+constant-requires : tie.Need-constant-requires
+constant-requires c κs = search needs
+
+returns : tie.Need-returns
+returns c =
+    let s = c .before .before .before in
+    constant-at (s .args .code .now) (s .args .words .now) (s .args .at) (own-cell (s .pre .1) (c .before .own .ensures .0)) (c .constant .ensures .0)
+    (c .constant .ensures .1)
+
+pub do-constant-spec : {M : Type 1} → statement M
+do-constant-spec = tie.close (tie.spec add-own own-requires constant-requires returns)

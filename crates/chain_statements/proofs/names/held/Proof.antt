@@ -1,0 +1,32 @@
+-- `held` meets its contract.
+use Prim.Native.Nat.{_*_}
+use mathlib.Core.Path.{sym}
+use lib.ListN.{getD}
+use Rattle.statements.specs.Words.{read-back, held-is}
+use borrow.Author.Needs.{needs}
+use Rattle.chain_statements.proofs.names.held.Statement.{statement}
+use Rattle.chain_statements.proofs.names.held.Tie as tie
+
+own-requires : tie.Need-own-requires
+own-requires c κs = search needs
+
+mul-whole : tie.Need-mul-whole
+mul-whole c = search needs
+
+element-copy-out-whole : tie.Need-element-copy-out-whole
+element-copy-out-whole c = search needs
+
+whole-requires : tie.Need-whole-requires
+whole-requires c κs =
+    let s = c .before .before in
+    rw (read-back _ (c .whole-arg .given), c .before .own .ensures .0) (s .pre .1 .reachable .whole (s .pre .1 .is))
+
+returns : tie.Need-returns
+returns c =
+    let a = c .before .before .before .args in
+    let e = rw (read-back _ (c .before .whole-arg .given), c .before .before .own .ensures .0) at (c .whole .ensures .0) in
+    (sym (held-is (a .words .now) (32 * a .home) (getD (a .code .now) (a .place) 0) e), c .whole .ensures .1)
+
+pub held-spec : {M : Type 1} → statement M
+held-spec =
+    tie.close (tie.spec own-requires mul-whole element-copy-out-whole whole-requires returns)

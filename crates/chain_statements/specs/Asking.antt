@@ -1,0 +1,122 @@
+-- The statement at a place, with the homes of its names in the order of its fields: what its function asks, by the operation (`Ready`), when a way of
+-- finding names is the one by which the homes were found (`Leads`), and what it has then done (`Did`). A call's arguments are not handed on yet.
+use Prim.Native.Nat.{ℕ, _+_, _*_, _/_, _≤_}
+use mathlib.Core.Bool.{true, false}
+use mathlib.Core.List.{List}
+use mathlib.Core.Path.{_≡_}
+use lib.Dec.{leb}
+use lib.IntN.{ℤ}
+use lib.ListN.{getD}
+use Rattle.language.specs.declared.Stop.the-variants.{NoActivationLeft}
+use Rattle.arrays.specs.Found.{heldBy}
+use Rattle.acting.specs.declared.Move.{Move}
+use Rattle.acting.specs.declared.Move.the-variants.{On, Pairs, Jump, Enter, Stop}
+use Rattle.acting.specs.Acting.{Scene, Happened}
+use Rattle.acting.specs.Acting.{Op, constant-op, add-op, subtract-op, compare-op, branch-op, goto-op, block-op, call-op, pair-op, unpair-op, query-op}
+use Rattle.acting.specs.Acting.{constant-formal-op, arithmetic-formal-op, branch-formal-op, goto-formal-op, call-formal-op}
+use Rattle.statements.specs.Pieces.{FormalsBefore}
+use Rattle.chain_statements.specs.Finding.{Reachable, Direct, ThroughFormal}
+
+-- the word so many fields behind the operation
+abbrev pub wordBehind : List ℕ → ℕ → ℕ → ℕ
+wordBehind code at i = getD code (at + i) 0
+
+-- room for one activation more is tested as it is used, and the arguments stand in the script
+pub record Calling (code : List ℕ) (limit live at : ℕ) : Type 0 where
+  pub limit-high : limit ≤ 256
+  pub live-few : live ≤ 255
+  pub few : wordBehind code at 2 ≤ 32
+  pub there : at + 3 + wordBehind code at 2 ≤ 4096
+
+module _ (code : List ℕ) (words : List ℤ) (limit live at first second third : ℕ) where
+  abbrev pub Ready : Op → Type 0
+  Ready constant-op = (at + 4 ≤ 4096) × Direct words first (wordBehind code at 1)
+  Ready add-op = (at + 5 ≤ 4096) × Direct words first (wordBehind code at 1) × Direct words second (wordBehind code at 3) × Direct words third
+      (wordBehind code at 4)
+  Ready subtract-op = (at + 5 ≤ 4096) × Direct words first (wordBehind code at 1) × Direct words second (wordBehind code at 3) × Direct words third
+      (wordBehind code at 4)
+  Ready compare-op = (at + 5 ≤ 4096) × Direct words first (wordBehind code at 1) × Direct words second (wordBehind code at 3) × Direct words third
+      (wordBehind code at 4)
+  Ready branch-op = (at + 3 ≤ 4096) × Direct words first (wordBehind code at 1) × Direct words second (wordBehind code at 2)
+  Ready goto-op = (at + 2 ≤ 4096) × Direct words first (wordBehind code at 1)
+  Ready block-op = (at + 2 ≤ 4096) × (live ≤ 255)
+  Ready call-op = Calling code limit live at × Direct words first (wordBehind code at 1)
+  Ready pair-op = (at + 3 ≤ 4096) × Reachable words first (wordBehind code at 1) × Reachable words second (wordBehind code at 2)
+  Ready unpair-op = (at + 3 ≤ 4096) × Reachable words first (wordBehind code at 1) × Reachable words second (wordBehind code at 2)
+  Ready query-op = (at + 4 ≤ 4096) × Reachable words first (wordBehind code at 1) × Reachable words second (wordBehind code at 2) × Reachable words third
+      (wordBehind code at 3)
+  Ready constant-formal-op = (at + 4 ≤ 4096) × Reachable words first (wordBehind code at 1)
+  Ready arithmetic-formal-op = (at + 5 ≤ 4096) × Reachable words first (wordBehind code at 1) × Reachable words second (wordBehind code at 3)
+      × Reachable words third (wordBehind code at 4)
+  Ready branch-formal-op = (at + 3 ≤ 4096) × Reachable words first (wordBehind code at 1) × Reachable words second (wordBehind code at 2)
+  Ready goto-formal-op = (at + 2 ≤ 4096) × ThroughFormal words first (wordBehind code at 1)
+  Ready call-formal-op = Calling code limit live at × ThroughFormal words first (wordBehind code at 1)
+      × FormalsBefore code (heldBy words (32 * first) (wordBehind code at 1) / 8192)
+
+module _ (home : ℕ → ℕ) (code : List ℕ) (at first second third : ℕ) where
+  -- the names in one, two and three fields
+  abbrev pub One : ℕ → Type 0
+  One i = first ≡ home (wordBehind code at i)
+
+  abbrev pub Two : ℕ → ℕ → Type 0
+  Two i j = (first ≡ home (wordBehind code at i)) × (second ≡ home (wordBehind code at j))
+
+  abbrev pub Three : ℕ → ℕ → ℕ → Type 0
+  Three i j k = (first ≡ home (wordBehind code at i)) × (second ≡ home (wordBehind code at j)) × (third ≡ home (wordBehind code at k))
+
+  abbrev pub Leads : Op → Type 0
+  Leads constant-op = One 1
+  Leads add-op = Three 1 3 4
+  Leads subtract-op = Three 1 3 4
+  Leads compare-op = Three 1 3 4
+  Leads branch-op = Two 1 2
+  Leads goto-op = One 1
+  Leads block-op = Unit {0}
+  Leads call-op = One 1
+  Leads pair-op = Two 1 2
+  Leads unpair-op = Two 1 2
+  Leads query-op = Three 1 2 3
+  Leads constant-formal-op = One 1
+  Leads arithmetic-formal-op = Three 1 3 4
+  Leads branch-formal-op = Two 1 2
+  Leads goto-formal-op = One 1
+  Leads call-formal-op = One 1
+
+-- the words as they are before a call's arguments are handed on
+unfoldable pub unhanded : Move → List ℤ → List ℤ → List ℤ
+unhanded (On p) words words′ = words′
+unhanded (Pairs p n) words words′ = words′
+unhanded (Jump h p) words words′ = words′
+unhanded (Enter b h p) words words′ = words
+unhanded (Stop c) words words′ = words′
+
+abbrev pub Did : Happened → List ℤ → Move → List ℤ → List ℤ → Type 0
+Did h words r words′ table′ = (r ≡ h .move) × (words′ ≡ unhanded (h .move) words (h .words)) × (table′ ≡ h .table)
+
+abbrev pub sceneOf : List ℕ → List ℤ → List ℤ → ℕ → ℕ → ℕ → ℕ → ℕ → Scene
+sceneOf code words table pairs group limit live at =
+    record { code = code; words = words; table = table; pairs = pairs; limits = record { activations = limit; group = group }; live = live; at = at }
+
+-- a call of the procedure that activation `home` declares and whose body stands at a place: 22, or it is entered
+unfoldable pub callMove : List ℕ → ℕ → ℕ → ℕ → ℕ → ℕ → Move
+callMove code limit live at home body =
+    elim (leb limit (live + 1)) [ true ↦ Stop NoActivationLeft | false ↦ Enter body home (at + 3 + wordBehind code at 2) ]
+
+-- how many names a statement has, by its operation: 1 one or none, 2 two, 3 AR's three of which none is a formal, 4 another three
+unfoldable pub namesOf : Op → ℕ
+namesOf constant-op = 1
+namesOf add-op = 3
+namesOf subtract-op = 3
+namesOf compare-op = 3
+namesOf branch-op = 2
+namesOf goto-op = 1
+namesOf block-op = 1
+namesOf call-op = 1
+namesOf pair-op = 2
+namesOf unpair-op = 2
+namesOf query-op = 4
+namesOf constant-formal-op = 1
+namesOf arithmetic-formal-op = 4
+namesOf branch-formal-op = 2
+namesOf goto-formal-op = 1
+namesOf call-formal-op = 1

@@ -1,0 +1,83 @@
+-- What is left where a statement's operation is none of those that a match names: a test of all sixteen numbers.
+use Prim.Native.Nat.{ℕ, zero, suc, _%_, _<_}
+use native.Mathlib.Omega.{arith}
+use mathlib.Core.Bool.{Bool, true, false, _&&_}
+use mathlib.Core.List.{List, [], _∷_}
+use mathlib.Core.Path.{_≡_, refl, sym, ap, _∙_}
+use borrow.Author.Tests.{eqb-true, eqb-false, eq-eqb, ne-eqb}
+use lib.Dec.{eqb}
+use lib.ListN.{getD}
+use Rattle.language.specs.Basics.{among}
+use Rattle.laws.specs.Tests.{split, both}
+use Rattle.acting.specs.Acting.{Op, constant-op, operations, opOf}
+use Rattle.statements.specs.Numbers.{op-of}
+use Rattle.chain_statements.specs.Asking.{namesOf}
+
+-- none of these numbers: those that a match names, its last one first
+abbrev pub NoneOf : List ℕ → ℕ → Type 0
+NoneOf [] n = Unit {0}
+NoneOf (k ∷ ks) n = NoneOf ks n × (n ≡ k → ⊥)
+
+none-among : (ks : List ℕ) (n : ℕ) → NoneOf ks n → among n ks ≡ false
+unfolding among
+none-among [] n h = refl
+none-among (k ∷ ks) n h = rw (ne-eqb n k (h .1), among) (none-among ks n (h .0))
+
+unfoldable allBelow : (ℕ → Bool) → ℕ → Bool
+allBelow t zero = true
+allBelow t (suc n) = t n && allBelow t n
+
+below : (t : ℕ → Bool) (m n : ℕ) → allBelow t m ≡ true → n < m → t n ≡ true
+unfolding allBelow
+below t zero n a h = absurd (omega arith)
+below t (suc m) n a h =
+    let b = both (t m) (allBelow t m) a in
+    split (eqb n m) (λ e. ap t (eqb-true n m e) ∙ b .0) (λ e. below t m n (b .1) (omega (arith, eqb-false n m e)))
+
+abbrev numbered : ℕ → Op
+numbered n = getD operations n constant-op
+
+unfoldable unless : List ℕ → (ℕ → Bool) → ℕ → Bool
+unless ks t n = elim (among n ks) [ true ↦ true | false ↦ t n ]
+
+module _ (ks : List ℕ) (t : ℕ → Bool) (a : allBelow (unless ks t) 16 ≡ true) where
+  rest-holds : (n : ℕ) → n < 16 → NoneOf ks n → t n ≡ true
+  unfolding unless
+  rest-holds n h r = let e = none-among ks n r in rw (e, unless) at (below (unless ks t) 16 n a h)
+
+-- how many names a statement has whose operation is none of these
+abbrev hasOne : ℕ → Bool
+hasOne n = eqb (namesOf (numbered n)) 1
+
+pub one-left : (v : ℕ) → NoneOf (13 ∷ 12 ∷ 10 ∷ 9 ∷ 8 ∷ 4 ∷ 3 ∷ 2 ∷ 1 ∷ []) (v % 16) → 1 ≡ namesOf (opOf v)
+unfolding allBelow unless among operations namesOf
+one-left v r =
+    let e = rest-holds (13 ∷ 12 ∷ 10 ∷ 9 ∷ 8 ∷ 4 ∷ 3 ∷ 2 ∷ 1 ∷ []) hasOne refl (v % 16) (omega arith) r in
+    sym (ap namesOf (op-of v (v % 16) refl) ∙ eqb-true (namesOf (numbered (v % 16))) 1 e)
+
+-- the operation with so many names that is none of these
+unfoldable isLast : ℕ → ℕ → ℕ → Bool
+isLast count last n = elim (eqb (namesOf (numbered n)) count) [ true ↦ eqb n last | false ↦ true ]
+
+module _ (count last : ℕ) (ks : List ℕ) (a : allBelow (unless ks (isLast count last)) 16 ≡ true) where
+  last-left : (v : ℕ) → namesOf (opOf v) ≡ count → NoneOf ks (v % 16) → v % 16 ≡ last
+  unfolding isLast
+  last-left v e r =
+      let q = eq-eqb (namesOf (numbered (v % 16))) count (sym (ap namesOf (op-of v (v % 16) refl)) ∙ e) in
+      eqb-true (v % 16) last (rw (q, isLast) at (rest-holds ks (isLast count last) a (v % 16) (omega arith) r))
+
+pub call-left : (v : ℕ) → namesOf (opOf v) ≡ 1 → NoneOf (14 ∷ 11 ∷ 7 ∷ 6 ∷ 5 ∷ 0 ∷ []) (v % 16) → v % 16 ≡ 15
+unfolding allBelow unless among isLast operations namesOf
+call-left = last-left 1 15 (14 ∷ 11 ∷ 7 ∷ 6 ∷ 5 ∷ 0 ∷ []) refl
+
+pub branch-left : (v : ℕ) → namesOf (opOf v) ≡ 2 → NoneOf (9 ∷ 8 ∷ 4 ∷ []) (v % 16) → v % 16 ≡ 13
+unfolding allBelow unless among isLast operations namesOf
+branch-left = last-left 2 13 (9 ∷ 8 ∷ 4 ∷ []) refl
+
+pub compare-left : (v : ℕ) → namesOf (opOf v) ≡ 3 → NoneOf (2 ∷ 1 ∷ []) (v % 16) → v % 16 ≡ 3
+unfolding allBelow unless among isLast operations namesOf
+compare-left = last-left 3 3 (2 ∷ 1 ∷ []) refl
+
+pub arithmetic-left : (v : ℕ) → namesOf (opOf v) ≡ 4 → NoneOf (10 ∷ []) (v % 16) → v % 16 ≡ 12
+unfolding allBelow unless among isLast operations namesOf
+arithmetic-left = last-left 4 12 (10 ∷ []) refl

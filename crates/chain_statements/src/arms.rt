@@ -1,0 +1,280 @@
+// The statements, each with the homes of its names. `at` is the place of the statement's operation. A statement none of whose names is a formal has a
+// function of its own. Each does what its definition in Acting says, by whatever way of finding names has these homes.
+use super::names::cell;
+use super::names::held;
+use super::names::own;
+use acting::Move;
+use language::Stop;
+use pairs::Query;
+use statements::changed;
+use statements::computed;
+use statements::constant;
+use stepping::code_at;
+ghost use mathlib.Core.Path.{_≡_};
+ghost use Prim.Native.Nat.{ℕ, _+_, _*_, _<_, _≤_, _%_, _/_};
+ghost use lib.ListN.{getD};
+ghost use Rattle.language.specs.Text.{plus, minus, less};
+ghost use Rattle.resolved.specs.Resolved.{targetIn};
+ghost use Rattle.arrays.specs.Found.{heldBy};
+ghost use Rattle.acting.specs.Acting.{doConstant, doArithmetic, operationOf, doGoto, doBranch, doCallFormal, doAdd, doRemove, doQuery};
+ghost use Rattle.statements.specs.Pieces.{only-words, without-table, with-table, FormalsBefore};
+ghost use Rattle.chain_statements.specs.Finding.{byHome, Reachable, Direct, ThroughFormal};
+ghost use Rattle.chain_statements.specs.Asking.{wordBehind, Calling, callMove};
+
+pub fn do_constant(code: &[u32; 4096], words: &mut [i32; 8224], at: usize, first: usize) -> Move
+    requires { ⌜ (at + 4 ≤ 4096) × Direct (now words) first (wordBehind (now code) at 1) ⌝ }
+    ensures { λ r. ⌜ ((home : ℕ → ℕ) → first ≡ home (wordBehind (now (code .entry)) at 1) → (r ≡ doConstant (byHome (now (words .entry)) home) (only-words (now (code .entry)) (now (words .entry)) at) .move) × (now (words .exit) ≡ doConstant (byHome (now (words .entry)) home) (only-words (now (code .entry)) (now (words .entry)) at) .words)) ⌝ }
+{
+    constant(code, words, own(code, at + 1, first), at)
+}
+
+pub fn do_constant_formal(
+    code: &[u32; 4096],
+    words: &mut [i32; 8224],
+    at: usize,
+    first: usize,
+) -> Move
+    requires { ⌜ (at + 4 ≤ 4096) × Reachable (now words) first (wordBehind (now code) at 1) ⌝ }
+    ensures { λ r. ⌜ ((home : ℕ → ℕ) → first ≡ home (wordBehind (now (code .entry)) at 1) → (r ≡ doConstant (byHome (now (words .entry)) home) (only-words (now (code .entry)) (now (words .entry)) at) .move) × (now (words .exit) ≡ doConstant (byHome (now (words .entry)) home) (only-words (now (code .entry)) (now (words .entry)) at) .words)) ⌝ }
+{
+    constant(code, words, cell(code, words, at + 1, first), at)
+}
+
+pub fn do_add(
+    code: &[u32; 4096],
+    words: &mut [i32; 8224],
+    at: usize,
+    first: usize,
+    second: usize,
+    third: usize,
+) -> Move
+    requires { ⌜ (at + 5 ≤ 4096) × Direct (now words) first (wordBehind (now code) at 1) × Direct (now words) second (wordBehind (now code) at 3) × Direct (now words) third (wordBehind (now code) at 4) ⌝ }
+    ensures { λ r. ⌜ ((home : ℕ → ℕ) → first ≡ home (wordBehind (now (code .entry)) at 1) → second ≡ home (wordBehind (now (code .entry)) at 3) → third ≡ home (wordBehind (now (code .entry)) at 4) → (r ≡ doArithmetic (byHome (now (words .entry)) home) (only-words (now (code .entry)) (now (words .entry)) at) plus .move) × (now (words .exit) ≡ doArithmetic (byHome (now (words .entry)) home) (only-words (now (code .entry)) (now (words .entry)) at) plus .words)) ⌝ }
+{
+    let target = own(code, at + 1, first);
+    let left = own(code, at + 3, second);
+    let right = own(code, at + 4, third);
+    computed(stepping::add(words, target, left, right), at)
+}
+
+pub fn do_subtract(
+    code: &[u32; 4096],
+    words: &mut [i32; 8224],
+    at: usize,
+    first: usize,
+    second: usize,
+    third: usize,
+) -> Move
+    requires { ⌜ (at + 5 ≤ 4096) × Direct (now words) first (wordBehind (now code) at 1) × Direct (now words) second (wordBehind (now code) at 3) × Direct (now words) third (wordBehind (now code) at 4) ⌝ }
+    ensures { λ r. ⌜ ((home : ℕ → ℕ) → first ≡ home (wordBehind (now (code .entry)) at 1) → second ≡ home (wordBehind (now (code .entry)) at 3) → third ≡ home (wordBehind (now (code .entry)) at 4) → (r ≡ doArithmetic (byHome (now (words .entry)) home) (only-words (now (code .entry)) (now (words .entry)) at) minus .move) × (now (words .exit) ≡ doArithmetic (byHome (now (words .entry)) home) (only-words (now (code .entry)) (now (words .entry)) at) minus .words)) ⌝ }
+{
+    let target = own(code, at + 1, first);
+    let left = own(code, at + 3, second);
+    let right = own(code, at + 4, third);
+    computed(stepping::subtract(words, target, left, right), at)
+}
+
+pub fn do_compare(
+    code: &[u32; 4096],
+    words: &mut [i32; 8224],
+    at: usize,
+    first: usize,
+    second: usize,
+    third: usize,
+) -> Move
+    requires { ⌜ (at + 5 ≤ 4096) × Direct (now words) first (wordBehind (now code) at 1) × Direct (now words) second (wordBehind (now code) at 3) × Direct (now words) third (wordBehind (now code) at 4) ⌝ }
+    ensures { λ r. ⌜ ((home : ℕ → ℕ) → first ≡ home (wordBehind (now (code .entry)) at 1) → second ≡ home (wordBehind (now (code .entry)) at 3) → third ≡ home (wordBehind (now (code .entry)) at 4) → (r ≡ doArithmetic (byHome (now (words .entry)) home) (only-words (now (code .entry)) (now (words .entry)) at) less .move) × (now (words .exit) ≡ doArithmetic (byHome (now (words .entry)) home) (only-words (now (code .entry)) (now (words .entry)) at) less .words)) ⌝ }
+{
+    let target = own(code, at + 1, first);
+    let left = own(code, at + 3, second);
+    let right = own(code, at + 4, third);
+    stepping::compare(words, target, left, right);
+    Move::On(at + 5)
+}
+
+pub fn do_arithmetic_formal(
+    code: &[u32; 4096],
+    words: &mut [i32; 8224],
+    at: usize,
+    first: usize,
+    second: usize,
+    third: usize,
+) -> Move
+    requires { ⌜ (at + 5 ≤ 4096) × Reachable (now words) first (wordBehind (now code) at 1) × Reachable (now words) second (wordBehind (now code) at 3) × Reachable (now words) third (wordBehind (now code) at 4) ⌝ }
+    ensures { λ r. ⌜ ((home : ℕ → ℕ) → first ≡ home (wordBehind (now (code .entry)) at 1) → second ≡ home (wordBehind (now (code .entry)) at 3) → third ≡ home (wordBehind (now (code .entry)) at 4) → (r ≡ doArithmetic (byHome (now (words .entry)) home) (only-words (now (code .entry)) (now (words .entry)) at) (operationOf (wordBehind (now (code .entry)) at 2)) .move) × (now (words .exit) ≡ doArithmetic (byHome (now (words .entry)) home) (only-words (now (code .entry)) (now (words .entry)) at) (operationOf (wordBehind (now (code .entry)) at 2)) .words)) ⌝ }
+{
+    let target = cell(code, words, at + 1, first);
+    let left = cell(code, words, at + 3, second);
+    let right = cell(code, words, at + 4, third);
+    let operation = code_at(code, at + 2);
+    if operation == 0 {
+        return computed(stepping::add(words, target, left, right), at);
+    }
+    if operation == 1 {
+        return computed(stepping::subtract(words, target, left, right), at);
+    }
+    stepping::compare(words, target, left, right);
+    Move::On(at + 5)
+}
+
+// GO
+pub fn do_goto(code: &[u32; 4096], at: usize, first: usize) -> Move
+    requires { ⌜ at + 2 ≤ 4096 ⌝ }
+    ensures { λ r. ⌜ r ≡ Move.Jump first (targetIn (wordBehind (now (code .entry)) at 1)) ⌝ }
+{
+    Move::Jump(first, code_at(code, at + 1) / 65536)
+}
+
+pub fn do_goto_formal(code: &[u32; 4096], words: &[i32; 8224], at: usize, first: usize) -> Move
+    requires { ⌜ (at + 2 ≤ 4096) × ThroughFormal (now words) first (wordBehind (now code) at 1) ⌝ }
+    ensures { λ r. ⌜ ((home : ℕ → ℕ) → first ≡ home (wordBehind (now (code .entry)) at 1) → r ≡ doGoto (byHome (now (words .entry)) home) (only-words (now (code .entry)) (now (words .entry)) at) .move) ⌝ }
+{
+    let to = held(code, words, at + 1, first);
+    Move::Jump(to % 8192 / 32, to / 8192)
+}
+
+// IF
+pub fn do_branch(
+    code: &[u32; 4096],
+    words: &[i32; 8224],
+    at: usize,
+    first: usize,
+    second: usize,
+) -> Move
+    requires { ⌜ (at + 3 ≤ 4096) × Direct (now words) first (wordBehind (now code) at 1) × Direct (now words) second (wordBehind (now code) at 2) ⌝ }
+    ensures { λ r. ⌜ ((home : ℕ → ℕ) → first ≡ home (wordBehind (now (code .entry)) at 1) → second ≡ home (wordBehind (now (code .entry)) at 2) → r ≡ doBranch (byHome (now (words .entry)) home) (only-words (now (code .entry)) (now (words .entry)) at) .move) ⌝ }
+{
+    if words[own(code, at + 2, second)] == 0 {
+        return Move::On(at + 3);
+    }
+    do_goto(code, at, first)
+}
+
+pub fn do_branch_formal(
+    code: &[u32; 4096],
+    words: &[i32; 8224],
+    at: usize,
+    first: usize,
+    second: usize,
+) -> Move
+    requires { ⌜ (at + 3 ≤ 4096) × Reachable (now words) first (wordBehind (now code) at 1) × Reachable (now words) second (wordBehind (now code) at 2) ⌝ }
+    ensures { λ r. ⌜ ((home : ℕ → ℕ) → first ≡ home (wordBehind (now (code .entry)) at 1) → second ≡ home (wordBehind (now (code .entry)) at 2) → r ≡ doBranch (byHome (now (words .entry)) home) (only-words (now (code .entry)) (now (words .entry)) at) .move) ⌝ }
+{
+    if words[cell(code, words, at + 2, second)] == 0 {
+        return Move::On(at + 3);
+    }
+    if code_at(code, at + 1) / 32 % 2 == 0 {
+        return do_goto(code, at, first);
+    }
+    do_goto_formal(code, words, at, first)
+}
+
+// CL, once the procedure is found: the activation that declares it and the place of its body.
+fn enter_body(
+    code: &[u32; 4096],
+    limit: usize,
+    live: usize,
+    at: usize,
+    home: usize,
+    body: usize,
+) -> Move
+    requires { ⌜ Calling (now code) limit live at ⌝ }
+    ensures { λ r. ⌜ r ≡ callMove (now (code .entry)) limit live at home body ⌝ }
+{
+    if limit <= live + 1 {
+        return Move::Stop(Stop::NoActivationLeft);
+    }
+    Move::Enter(body, home, at + 3 + code_at(code, at + 2))
+}
+
+pub fn do_call(code: &[u32; 4096], limit: usize, live: usize, at: usize, first: usize) -> Move
+    requires { ⌜ Calling (now code) limit live at ⌝ }
+    ensures { λ r. ⌜ r ≡ callMove (now (code .entry)) limit live at first (targetIn (wordBehind (now (code .entry)) at 1)) ⌝ }
+{
+    enter_body(code, limit, live, at, first, code_at(code, at + 1) / 65536)
+}
+
+// 26 goes before 22.
+pub fn do_call_formal(
+    code: &[u32; 4096],
+    words: &[i32; 8224],
+    limit: usize,
+    live: usize,
+    at: usize,
+    first: usize,
+) -> Move
+    requires { ⌜ Calling (now code) limit live at × ThroughFormal (now words) first (wordBehind (now code) at 1) × FormalsBefore (now code) (heldBy (now words) (32 * first) (wordBehind (now code) at 1) / 8192) ⌝ }
+    ensures { λ r. ⌜ ((home : ℕ → ℕ) → first ≡ home (wordBehind (now (code .entry)) at 1) → r ≡ doCallFormal (byHome (now (words .entry)) home) (without-table (now (code .entry)) (now (words .entry)) limit live at) .move) ⌝ }
+{
+    let procedure = held(code, words, at + 1, first);
+    let body = procedure / 8192;
+    let count = code_at(code, at + 2);
+    if code_at(code, body) / 65536 % 256 != count {
+        return Move::Stop(Stop::ArgumentsDiffer);
+    }
+    if !stepping::kinds_agree(code, at + 3, body - 3 * count, count) {
+        return Move::Stop(Stop::ArgumentsDiffer);
+    }
+    enter_body(code, limit, live, at, procedure % 8192 / 32, body)
+}
+
+pub fn do_add_pair(
+    code: &[u32; 4096],
+    words: &[i32; 8224],
+    table: &mut [i32],
+    pairs: usize,
+    limit: u32,
+    at: usize,
+    first: usize,
+    second: usize,
+) -> Move
+    requires { ⌜ (at + 3 ≤ 4096) × Reachable (now words) first (wordBehind (now code) at 1) × Reachable (now words) second (wordBehind (now code) at 2) ⌝ }
+    ensures { λ r. ⌜ ((home : ℕ → ℕ) → first ≡ home (wordBehind (now (code .entry)) at 1) → second ≡ home (wordBehind (now (code .entry)) at 2) → (r ≡ doAdd (byHome (now (words .entry)) home) (with-table (now (code .entry)) (now (words .entry)) (now (table .entry)) pairs limit at) .move) × (now (table .exit) ≡ doAdd (byHome (now (words .entry)) home) (with-table (now (code .entry)) (now (words .entry)) (now (table .entry)) pairs limit at) .table)) ⌝ }
+{
+    let group = words[cell(code, words, at + 1, first)];
+    let member = words[cell(code, words, at + 2, second)];
+    changed(pairs::add_pair(table, pairs, limit, group, member), at)
+}
+
+pub fn do_remove_pair(
+    code: &[u32; 4096],
+    words: &[i32; 8224],
+    table: &mut [i32],
+    pairs: usize,
+    at: usize,
+    first: usize,
+    second: usize,
+) -> Move
+    requires { ⌜ (at + 3 ≤ 4096) × Reachable (now words) first (wordBehind (now code) at 1) × Reachable (now words) second (wordBehind (now code) at 2) ⌝ }
+    ensures { λ r. ⌜ ((home : ℕ → ℕ) → first ≡ home (wordBehind (now (code .entry)) at 1) → second ≡ home (wordBehind (now (code .entry)) at 2) → (r ≡ doRemove (byHome (now (words .entry)) home) (with-table (now (code .entry)) (now (words .entry)) (now (table .entry)) pairs 0 at) .move) × (now (table .exit) ≡ doRemove (byHome (now (words .entry)) home) (with-table (now (code .entry)) (now (words .entry)) (now (table .entry)) pairs 0 at) .table)) ⌝ }
+{
+    let group = words[cell(code, words, at + 1, first)];
+    let member = words[cell(code, words, at + 2, second)];
+    changed(pairs::remove_pair(table, pairs, group, member), at)
+}
+
+// QY
+pub fn do_query(
+    code: &[u32; 4096],
+    words: &mut [i32; 8224],
+    table: &[i32],
+    pairs: usize,
+    at: usize,
+    first: usize,
+    second: usize,
+    third: usize,
+) -> Move
+    requires { ⌜ (at + 4 ≤ 4096) × Reachable (now words) first (wordBehind (now code) at 1) × Reachable (now words) second (wordBehind (now code) at 2) × Reachable (now words) third (wordBehind (now code) at 3) ⌝ }
+    ensures { λ r. ⌜ ((home : ℕ → ℕ) → first ≡ home (wordBehind (now (code .entry)) at 1) → second ≡ home (wordBehind (now (code .entry)) at 2) → third ≡ home (wordBehind (now (code .entry)) at 3) → (r ≡ doQuery (byHome (now (words .entry)) home) (with-table (now (code .entry)) (now (words .entry)) (now (table .entry)) pairs 0 at) .move) × (now (words .exit) ≡ doQuery (byHome (now (words .entry)) home) (with-table (now (code .entry)) (now (words .entry)) (now (table .entry)) pairs 0 at) .words)) ⌝ }
+{
+    let target = cell(code, words, at + 1, first);
+    let group = words[cell(code, words, at + 2, second)];
+    let member = words[cell(code, words, at + 3, third)];
+    match pairs::query_pair(table, pairs, group, member) {
+        Query::Value(value) => {
+            stepping::store(words, target, value);
+            Move::On(at + 4)
+        }
+        Query::Stopped(cause) => Move::Stop(cause),
+    }
+}

@@ -1,0 +1,12 @@
+-- The enums of this crate and of `acting` as data, for proofs by hand.
+use Rattle.lending.specs.Data.{Datum, enums}
+use Rattle.acting.proofs.Move as M
+use Rattle.acting.proofs.Move.Laws as M′
+use Rattle.chain_steps.proofs.turn.Turn as T
+use Rattle.chain_steps.proofs.turn.Turn.Laws as T′
+
+abbrev pub moves : Datum
+moves = enums M.the-type M′.the-laws M′.the-plain tt
+
+abbrev pub turns : Datum
+turns = enums T.the-type T′.the-laws T′.the-plain tt

@@ -1,0 +1,318 @@
+-- The next statement, with its names found by the links: what `acted` asks (`Stating`). Of a statement that is asked so: `by-count`, which fields its names
+-- stand in, by how many it has, and when their homes are those that the links lead to; `ready`, what its function may rely on then; `only-led`, the same of
+-- a statement with one name or none.
+use Prim.Native.Nat.{ℕ, zero, suc, _+_, _*_, _-_, _/_, _%_, _≤_, _<_}
+use native.Mathlib.Omega.{arith}
+use mathlib.Core.Bool.{true, false}
+use mathlib.Core.List.{List}
+use mathlib.Core.Path.{_≡_, refl, sym, ap, _∙_, subst}
+use borrow.Author.Tests.{eqb-true, eqb-false, eq-eqb, ne-eqb}
+use lib.Dec.{eqb}
+use lib.IntN.{ℤ}
+use lib.ListN.{getD}
+use Rattle.laws.specs.Tests.{split}
+use Rattle.resolved.specs.Resolved.{levelIn, direct}
+use Rattle.arrays.specs.Found.{heldBy, targetBy}
+use Rattle.arrays.specs.Names.{follow}
+use Rattle.acting.specs.Acting.{Op, constant-op, add-op, subtract-op, compare-op, branch-op, goto-op, block-op, call-op, pair-op, unpair-op, query-op}
+use Rattle.acting.specs.Acting.{constant-formal-op, arithmetic-formal-op, branch-formal-op, goto-formal-op, call-formal-op, operations, opOf}
+use Rattle.steps.specs.Standing.{Standing}
+use Rattle.steps.specs.Here.{live-few}
+use Rattle.steps.specs.Fields as fields
+use Rattle.statements.specs.Pieces.{FormalsBefore}
+use Rattle.statements.specs.Numbers.{op-of}
+use Rattle.chain_statements.specs.Finding.{Reachable, Direct, ThroughFormal}
+use Rattle.chain_statements.specs.Asking.{wordBehind, Calling, Ready, Leads, namesOf}
+use Rattle.activations.specs.declared.Activation.{Activation}
+use Rattle.links.specs.declared.Now.{Now}
+use Rattle.links.specs.Records.{blocksIn, nextsIn, linksIn}
+use Rattle.links.specs.Finding.{homeOf, firstCell, byChain, Seen, Named}
+use Rattle.links.specs.Running.{limitsBy, Running}
+use Rattle.links.specs.Names as links
+
+-- an engine that runs stands before the end of a text
+pub record Stating (code : List ℕ) (words : List ℤ) (records : List Activation) (table : List ℤ) (group limit : ℕ) (here : Now) : Type 0 where
+  pub running : Running code limit group words records table here
+  pub before : here .at ≡ here .end → ⊥
+
+unfoldable pub onlyHops : List ℕ → Now → ℕ
+onlyHops code here =
+    elim (eqb (getD code (here .at) 0 % 16) 6) [ true ↦ 0 | false ↦ here .level - levelIn (getD code (here .at + 1) 0) ]
+
+unfoldable pub secondField : Op → ℕ
+secondField constant-op = 3
+secondField add-op = 3
+secondField subtract-op = 3
+secondField compare-op = 3
+secondField branch-op = 3
+secondField goto-op = 3
+secondField block-op = 3
+secondField call-op = 3
+secondField pair-op = 3
+secondField unpair-op = 3
+secondField query-op = 2
+secondField constant-formal-op = 3
+secondField arithmetic-formal-op = 3
+secondField branch-formal-op = 3
+secondField goto-formal-op = 3
+secondField call-formal-op = 3
+
+-- The links of the only name
+
+pub none-hops : (code : List ℕ) (here : Now) → getD code (here .at) 0 % 16 ≡ 6 → 0 ≡ onlyHops code here
+unfolding onlyHops
+none-hops code here e = rw (onlyHops, eq-eqb (getD code (here .at) 0 % 16) 6 e)
+
+pub some-hops : (code : List ℕ) (here : Now) → (getD code (here .at) 0 % 16 ≡ 6 → ⊥) → here .level - levelIn (getD code (here .at + 1) 0) ≡ onlyHops code here
+unfolding onlyHops
+some-hops code here d = rw (onlyHops, ne-eqb (getD code (here .at) 0 % 16) 6 d)
+
+-- no other number is BK's
+block-number : (k : ℕ) → getD operations k constant-op ≡ block-op → k ≡ 6
+unfolding operations
+block-number zero e = let z : _≡_ {A = ℕ} 0 1 = cc in absurd (omega arith)
+block-number (suc zero) e = let z : _≡_ {A = ℕ} 0 1 = cc in absurd (omega arith)
+block-number (suc (suc zero)) e = let z : _≡_ {A = ℕ} 0 1 = cc in absurd (omega arith)
+block-number (suc (suc (suc zero))) e = let z : _≡_ {A = ℕ} 0 1 = cc in absurd (omega arith)
+block-number (suc (suc (suc (suc zero)))) e = let z : _≡_ {A = ℕ} 0 1 = cc in absurd (omega arith)
+block-number (suc (suc (suc (suc (suc zero))))) e = let z : _≡_ {A = ℕ} 0 1 = cc in absurd (omega arith)
+block-number (suc (suc (suc (suc (suc (suc zero)))))) e = refl
+block-number (suc (suc (suc (suc (suc (suc (suc zero))))))) e = let z : _≡_ {A = ℕ} 0 1 = cc in absurd (omega arith)
+block-number (suc (suc (suc (suc (suc (suc (suc (suc zero)))))))) e = let z : _≡_ {A = ℕ} 0 1 = cc in absurd (omega arith)
+block-number (suc (suc (suc (suc (suc (suc (suc (suc (suc zero))))))))) e = let z : _≡_ {A = ℕ} 0 1 = cc in absurd (omega arith)
+block-number (suc (suc (suc (suc (suc (suc (suc (suc (suc (suc zero)))))))))) e = let z : _≡_ {A = ℕ} 0 1 = cc in absurd (omega arith)
+block-number (suc (suc (suc (suc (suc (suc (suc (suc (suc (suc (suc zero))))))))))) e = let z : _≡_ {A = ℕ} 0 1 = cc in absurd (omega arith)
+block-number (suc (suc (suc (suc (suc (suc (suc (suc (suc (suc (suc (suc zero)))))))))))) e = let z : _≡_ {A = ℕ} 0 1 = cc in absurd (omega arith)
+block-number (suc (suc (suc (suc (suc (suc (suc (suc (suc (suc (suc (suc (suc zero))))))))))))) e = let z : _≡_ {A = ℕ} 0 1 = cc in absurd (omega arith)
+block-number (suc (suc (suc (suc (suc (suc (suc (suc (suc (suc (suc (suc (suc (suc zero)))))))))))))) e = let z : _≡_ {A = ℕ} 0 1 = cc in absurd (omega arith)
+block-number (suc (suc (suc (suc (suc (suc (suc (suc (suc (suc (suc (suc (suc (suc (suc zero))))))))))))))) e = let z : _≡_ {A = ℕ} 0 1 = cc in absurd (omega arith)
+block-number (suc (suc (suc (suc (suc (suc (suc (suc (suc (suc (suc (suc (suc (suc (suc (suc k)))))))))))))))) e = let z : _≡_ {A = ℕ} 0 1 = cc in absurd (omega arith)
+
+-- The field of the second name
+
+pub query-field : (v : ℕ) → v % 16 ≡ 10 → 2 ≡ secondField (opOf v)
+unfolding operations secondField
+query-field v e = sym (ap secondField (op-of v 10 e))
+
+other-number : (k : ℕ) → (k ≡ 10 → ⊥) → 3 ≡ secondField (getD operations k constant-op)
+unfolding operations secondField
+other-number zero d = refl
+other-number (suc zero) d = refl
+other-number (suc (suc zero)) d = refl
+other-number (suc (suc (suc zero))) d = refl
+other-number (suc (suc (suc (suc zero)))) d = refl
+other-number (suc (suc (suc (suc (suc zero))))) d = refl
+other-number (suc (suc (suc (suc (suc (suc zero)))))) d = refl
+other-number (suc (suc (suc (suc (suc (suc (suc zero))))))) d = refl
+other-number (suc (suc (suc (suc (suc (suc (suc (suc zero)))))))) d = refl
+other-number (suc (suc (suc (suc (suc (suc (suc (suc (suc zero))))))))) d = refl
+other-number (suc (suc (suc (suc (suc (suc (suc (suc (suc (suc zero)))))))))) d = absurd (d refl)
+other-number (suc (suc (suc (suc (suc (suc (suc (suc (suc (suc (suc zero))))))))))) d = refl
+other-number (suc (suc (suc (suc (suc (suc (suc (suc (suc (suc (suc (suc zero)))))))))))) d = refl
+other-number (suc (suc (suc (suc (suc (suc (suc (suc (suc (suc (suc (suc (suc zero))))))))))))) d = refl
+other-number (suc (suc (suc (suc (suc (suc (suc (suc (suc (suc (suc (suc (suc (suc zero)))))))))))))) d = refl
+other-number (suc (suc (suc (suc (suc (suc (suc (suc (suc (suc (suc (suc (suc (suc (suc zero))))))))))))))) d = refl
+other-number (suc (suc (suc (suc (suc (suc (suc (suc (suc (suc (suc (suc (suc (suc (suc (suc k)))))))))))))))) d = refl
+
+pub other-field : (v : ℕ) → (v % 16 ≡ 10 → ⊥) → 3 ≡ secondField (opOf v)
+unfolding opOf
+other-field v d = other-number (v % 16) d
+
+formal-target : (words : List ℤ) (first v : ℕ) → direct v ≡ false → targetBy words first v ≡ heldBy words first v / 8192
+unfolding targetBy
+formal-target words first v e = rw (targetBy, e)
+
+module _ {code : List ℕ} {words : List ℤ} {records : List Activation} {table : List ℤ} {group limit : ℕ} {here : Now}
+    (s : Stating code words records table group limit here) where
+  abbrev w : Running code limit group words records table here
+  w = s .running
+
+  abbrev st : Standing code (limitsBy limit group) words (blocksIn records) (nextsIn records) (linksIn records) table (here .pairs) (here .live)
+      (here .at) (here .end)
+  st = w .standing
+
+  abbrev word : ℕ → ℕ
+  word i = wordBehind code (here .at) i
+
+  abbrev pub op : Op
+  op = opOf (getD code (here .at) 0)
+
+  abbrev pub home : ℕ → ℕ
+  home = homeOf records (here .live) (here .level)
+
+  stand : fields.Fields st op
+  stand = fields.fields-stand st (s .before)
+
+  abbrev Led : (first second third : ℕ) → Op → Type 0
+  Led first second third o = Leads home code (here .at) first second third o
+
+  -- a statement stands there, of two words at least
+  pub next-there : here .at + 1 < 4096
+  next-there = below op stand
+    where
+      below : (o : Op) → fields.Fields st o → here .at + 1 < 4096
+      below constant-op f = omega (arith, f .0)
+      below add-op f = omega (arith, f .0)
+      below subtract-op f = omega (arith, f .0)
+      below compare-op f = omega (arith, f .0)
+      below branch-op f = omega (arith, f .0)
+      below goto-op f = omega (arith, f .0)
+      below block-op f = omega arith
+      below call-op f = omega (arith, f .0 .there)
+      below pair-op f = omega (arith, f .0)
+      below unpair-op f = omega (arith, f .0)
+      below query-op f = omega (arith, f .0)
+      below constant-formal-op f = omega (arith, f .0)
+      below arithmetic-formal-op f = omega (arith, f .0)
+      below branch-formal-op f = omega (arith, f .0)
+      below goto-formal-op f = omega (arith, f .0)
+      below call-formal-op f = omega (arith, f .0 .there)
+
+  pub at-there : here .at < 4096
+  at-there = omega (arith, next-there)
+
+  -- a name that stands in a field
+
+  seen : (i : ℕ) → fields.FieldName st i → Seen records (here .live) (here .level) (word i)
+  seen i f = subst (Seen records (here .live) (here .level)) (sym (f .word)) (links.seen-name w (f .name) (f .resolved))
+
+  named : (i : ℕ) → here .at + i < 4096 → fields.FieldName st i → Named code records here i
+  named i h f = record { there = h; seen = seen i f }
+
+  reachable : (i first : ℕ) → first ≡ home (word i) → fields.FieldName st i → Reachable words first (word i)
+  reachable i first e f =
+      subst (λ h. Reachable words h (word i)) (sym e)
+      (subst (λ v. Reachable words (home v) v) (sym (f .word)) (links.reachable w (f .name) (f .resolved)))
+
+  directly : (i first : ℕ) → first ≡ home (word i) → fields.Direct st i → Direct words first (word i)
+  directly i first e f = record { reachable = reachable i first e (f .0); is = f .1 }
+
+  formally : (i first : ℕ) → first ≡ home (word i) → fields.ThroughFormal st i → ThroughFormal words first (word i)
+  formally i first e f = record { reachable = reachable i first e (f .0); is = f .1 }
+
+  formals-before : (first : ℕ) → first ≡ home (word 1) → fields.ThroughFormal st 1 → fields.BodyStands st
+      → FormalsBefore code (heldBy words (32 * first) (word 1) / 8192)
+  formals-before first e f b =
+      let h = b (byChain words records (here .live) (here .level)) (links.finds-by-chain w) in
+      subst (λ k. FormalsBefore code (heldBy words (32 * k) (word 1) / 8192)) (sym e)
+      (subst (FormalsBefore code) (formal-target words (firstCell records (here .live) (here .level) (word 1)) (word 1) (f .1))
+      (record { there = h .0; before = h .1 }))
+
+  -- What its function may rely on, whatever its class is told of the limit and of the innermost activation
+
+  module _ (limit′ live′ : ℕ) (low : limit′ ≤ 256) (few : live′ ≤ 255) (first second third : ℕ) where
+    calling : fields.Arguments st → Calling code limit′ live′ (here .at)
+    calling a = record { limit-high = low; live-few = few; few = a .many; there = a .there }
+
+    ready-by : (o : Op) → fields.Fields st o → Led first second third o → Ready code words limit′ live′ (here .at) first second third o
+    ready-by constant-op f l = (f .0, directly 1 first l (f .1))
+    ready-by add-op f l = (f .0, directly 1 first (l .0) (f .1), directly 3 second (l .1) (f .2), directly 4 third (l .2) (f .3))
+    ready-by subtract-op f l = (f .0, directly 1 first (l .0) (f .1), directly 3 second (l .1) (f .2), directly 4 third (l .2) (f .3))
+    ready-by compare-op f l = (f .0, directly 1 first (l .0) (f .1), directly 3 second (l .1) (f .2), directly 4 third (l .2) (f .3))
+    ready-by branch-op f l = (f .0, directly 1 first (l .0) (f .1), directly 2 second (l .1) (f .2))
+    ready-by goto-op f l = (f .0, directly 1 first l (f .1))
+    ready-by block-op f l = (omega arith, few)
+    ready-by call-op f l = (calling (f .0), directly 1 first l (f .1))
+    ready-by pair-op f l = (f .0, reachable 1 first (l .0) (f .1), reachable 2 second (l .1) (f .2))
+    ready-by unpair-op f l = (f .0, reachable 1 first (l .0) (f .1), reachable 2 second (l .1) (f .2))
+    ready-by query-op f l = (f .0, reachable 1 first (l .0) (f .1), reachable 2 second (l .1) (f .2), reachable 3 third (l .2) (f .3))
+    ready-by constant-formal-op f l = (f .0, reachable 1 first l (f .1 .0))
+    ready-by arithmetic-formal-op f l = (f .0, reachable 1 first (l .0) (f .1), reachable 3 second (l .1) (f .2), reachable 4 third (l .2) (f .3))
+    ready-by branch-formal-op f l = (f .0, reachable 1 first (l .0) (f .1), reachable 2 second (l .1) (f .2))
+    ready-by goto-formal-op f l = (f .0, formally 1 first l (f .1))
+    ready-by call-formal-op f l = (calling (f .0), formally 1 first l (f .1), formals-before first l (f .1) (f .2))
+
+    pub ready : Led first second third op → Ready code words limit′ live′ (here .at) first second third op
+    ready l = ready-by op stand l
+
+  pub limit-high : limit ≤ 256
+  limit-high = st .sound .limit
+
+  pub live-low : here .live ≤ 255
+  live-low = omega (arith, live-few st)
+
+  -- Its names, by how many it has
+
+  abbrev At : ℕ → ℕ → Type 0
+  At first i = first ≡ home (word i)
+
+  abbrev N : ℕ → Type 0
+  N i = Named code records here i
+
+  abbrev ByCount : Op → ℕ → Type 0
+  ByCount o zero = ⊥
+  ByCount o (suc zero) = (first : ℕ) → At first 1 → Led first 0 0 o
+  ByCount o (suc (suc zero)) = (N 1 × N 2) × ((first second : ℕ) → At first 1 → At second 2 → Led first second 0 o)
+  ByCount o (suc (suc (suc zero))) = (N 1 × N 3 × N 4) × ((first second third : ℕ) → At first 1 → At second 3 → At third 4 → Led first second third o)
+  ByCount o (suc (suc (suc (suc zero)))) = (N 1 × N (secondField o) × N (secondField o + 1)) × ((first second third : ℕ) → At first 1
+      → At second (secondField o) → At third (secondField o + 1) → Led first second third o)
+  ByCount o (suc (suc (suc (suc (suc n))))) = ⊥
+
+  counted-by : (o : Op) → fields.Fields st o → ByCount o (namesOf o)
+  unfolding namesOf secondField
+  counted-by constant-op f = λ a p. p
+  counted-by add-op f =
+      ((named 1 (omega (arith, f .0)) (f .1 .0), named 3 (omega (arith, f .0)) (f .2 .0), named 4 (omega (arith, f .0)) (f .3 .0)), λ a b c p q r. (p, q, r))
+  counted-by subtract-op f =
+      ((named 1 (omega (arith, f .0)) (f .1 .0), named 3 (omega (arith, f .0)) (f .2 .0), named 4 (omega (arith, f .0)) (f .3 .0)), λ a b c p q r. (p, q, r))
+  counted-by compare-op f =
+      ((named 1 (omega (arith, f .0)) (f .1 .0), named 3 (omega (arith, f .0)) (f .2 .0), named 4 (omega (arith, f .0)) (f .3 .0)), λ a b c p q r. (p, q, r))
+  counted-by branch-op f = ((named 1 (omega (arith, f .0)) (f .1 .0), named 2 (omega (arith, f .0)) (f .2 .0)), λ a b p q. (p, q))
+  counted-by goto-op f = λ a p. p
+  counted-by block-op f = λ a p. tt
+  counted-by call-op f = λ a p. p
+  counted-by pair-op f = ((named 1 (omega (arith, f .0)) (f .1), named 2 (omega (arith, f .0)) (f .2)), λ a b p q. (p, q))
+  counted-by unpair-op f = ((named 1 (omega (arith, f .0)) (f .1), named 2 (omega (arith, f .0)) (f .2)), λ a b p q. (p, q))
+  counted-by query-op f =
+      ((named 1 (omega (arith, f .0)) (f .1), named 2 (omega (arith, f .0)) (f .2), named 3 (omega (arith, f .0)) (f .3)), λ a b c p q r. (p, q, r))
+  counted-by constant-formal-op f = λ a p. p
+  counted-by arithmetic-formal-op f =
+      ((named 1 (omega (arith, f .0)) (f .1), named 3 (omega (arith, f .0)) (f .2), named 4 (omega (arith, f .0)) (f .3)), λ a b c p q r. (p, q, r))
+  counted-by branch-formal-op f = ((named 1 (omega (arith, f .0)) (f .1), named 2 (omega (arith, f .0)) (f .2)), λ a b p q. (p, q))
+  counted-by goto-formal-op f = λ a p. p
+  counted-by call-formal-op f = λ a p. p
+
+  pub by-count : (n : ℕ) → namesOf op ≡ n → ByCount op n
+  by-count n e = subst (ByCount op) e (counted-by op stand)
+
+  -- the number that is left
+  pub one-left : (n : ℕ) → ByCount op n → (n ≡ 3 → ⊥) → (n ≡ 2 → ⊥) → (n ≡ 4 → ⊥) → n ≡ 1
+  one-left zero b x y z = absurd b
+  one-left (suc zero) b x y z = refl
+  one-left (suc (suc zero)) b x y z = absurd (y refl)
+  one-left (suc (suc (suc zero))) b x y z = absurd (x refl)
+  one-left (suc (suc (suc (suc zero)))) b x y z = absurd (z refl)
+  one-left (suc (suc (suc (suc (suc n))))) b x y z = absurd b
+
+  -- A statement with one name or none
+
+  first-name : (o : Op) → (o ≡ block-op → ⊥) → fields.Fields st o → fields.FieldName st 1
+  first-name constant-op d f = f .1 .0
+  first-name add-op d f = f .1 .0
+  first-name subtract-op d f = f .1 .0
+  first-name compare-op d f = f .1 .0
+  first-name branch-op d f = f .1 .0
+  first-name goto-op d f = f .1 .0
+  first-name block-op d f = absurd (d refl)
+  first-name call-op d f = f .1 .0
+  first-name pair-op d f = f .1
+  first-name unpair-op d f = f .1
+  first-name query-op d f = f .1
+  first-name constant-formal-op d f = f .1 .0
+  first-name arithmetic-formal-op d f = f .1
+  first-name branch-formal-op d f = f .1
+  first-name goto-formal-op d f = f .1 .0
+  first-name call-formal-op d f = f .1 .0
+
+  pub first-outer : (getD code (here .at) 0 % 16 ≡ 6 → ⊥) → levelIn (word 1) ≤ here .level
+  unfolding opOf
+  first-outer d = seen 1 (first-name op (λ e. d (block-number (getD code (here .at) 0 % 16) e)) stand) .outer
+
+  is-block : (first : ℕ) → getD code (here .at) 0 % 16 ≡ 6 → Led first 0 0 op
+  unfolding operations
+  is-block first t = subst (λ o. Led first 0 0 o) (sym (op-of (getD code (here .at) 0) 6 t)) tt
+
+  pub only-led : (first : ℕ) → first ≡ follow (linksIn records) (here .live) (onlyHops code here) → namesOf op ≡ 1 → Led first 0 0 op
+  only-led first e one =
+      split (eqb (getD code (here .at) 0 % 16) 6) (λ t. is-block first (eqb-true (getD code (here .at) 0 % 16) 6 t))
+      (λ t. by-count 1 one first (e ∙ ap (follow (linksIn records) (here .live)) (sym (some-hops code here (eqb-false (getD code (here .at) 0 % 16) 6 t)))))

@@ -1,0 +1,8 @@
+// A step of the static-chain engine.
+pub use stepped::step;
+pub use turn::Turn;
+pub use turn::went;
+
+mod acted;
+mod stepped;
+pub mod turn;

@@ -1,0 +1,91 @@
+-- `entered` meets its contract.
+use mathlib.Core.List.{List}
+use mathlib.Core.Path.{_≡_, ap, subst, sym, _∙_}
+use native.Mathlib.Omega.{arith}
+use Prim.Native.Nat.{ℕ, _+_, _*_, _/_, _%_, _<_, _≤_}
+use lib.IntN.{ℤ}
+use lib.ListN.{getD}
+use borrow.Author.Needs.{needs}
+use Rattle.acting.specs.Effects.{Cleared}
+use Rattle.links.specs.Running.{nowBy}
+use Rattle.links.proofs.entering.entered.Statement.{statement}
+use Rattle.links.proofs.entering.entered.Tie as tie
+
+-- the cells from an argument count on, and those below a cell count, lie within the words
+within : (live head n k : ℕ) → n ≡ head / k % 256 → live + 1 < 256 → head / k % 256 ≤ 32 → 32 * (live + 1) + n ≤ 8192
+within live head n k e l m = omega (arith, e, l, m)
+
+within-all : (live head n : ℕ) → n ≡ head / 16777216 → live + 1 < 256 → head / 16777216 ≤ 32 → 32 * (live + 1) + n ≤ 8192
+within-all live head n e l m = omega (arith, e, l, m)
+
+wide-requires : tie.Need-wide-requires
+wide-requires c κs = search needs
+
+code-at-requires : tie.Need-code-at-requires
+code-at-requires c κs = search needs
+
+add-fresh : tie.Need-add-fresh
+add-fresh c = search needs
+
+mul-clear : tie.Need-mul-clear
+mul-clear c = search needs
+
+add-clear : tie.Need-add-clear
+add-clear c = search needs
+
+mul-clear-2 : tie.Need-mul-clear-2
+mul-clear-2 c = search needs
+
+add-clear-2 : tie.Need-add-clear-2
+add-clear-2 c = search needs
+
+head-is : (code : List ℕ) (head at block : ℕ) → head ≡ getD code at 0 → at ≡ block → head ≡ getD code block 0
+head-is code head at block e i = e ∙ ap (λ (k : ℕ). getD code k 0) i
+
+clear-requires : tie.Need-clear-requires
+clear-requires c κs =
+    let s = c .before .before .before .before .args in
+    let pre = c .before .before .before .before .pre in
+    let head = c .before .before .code-at .result in
+    let e : head ≡ getD (s .code .now) (s .activation .block) 0 =
+    head-is (s .code .now) head (c .before .before .before .wide .result) (s .activation .block) (c .before .before .code-at .ensures .0)
+    (c .before .before .before .wide .ensures .0) in (
+      within (s .here .live) (getD (s .code .now) (s .activation .block) 0) (head / 65536 % 256) 65536 (ap (λ (k : ℕ). k / 65536 % 256) e) (pre .1)
+          (pre .2),
+      within-all (s .here .live) (getD (s .code .now) (s .activation .block) 0) (head / 16777216) (ap (λ (k : ℕ). k / 16777216) e) (pre .1) (pre .3),
+    )
+
+wide-requires-2 : tie.Need-wide-requires-2
+wide-requires-2 c κs = search needs
+
+innermost-requires : tie.Need-innermost-requires
+innermost-requires c κs = search needs
+
+returns : tie.Need-returns
+returns c =
+    let s = c .before .before .before .before .before .before .before .args in
+    let head = c .before .before .before .before .before .code-at .result in
+    let e : head ≡ getD (s .code .now) (s .activation .block) 0 =
+    head-is (s .code .now) head (c .before .before .before .before .before .before .wide .result) (s .activation .block)
+    (c .before .before .before .before .before .code-at .ensures .0) (c .before .before .before .before .before .before .wide .ensures .0) in (
+      c .innermost .ensures ∙ ap (λ (k : ℕ). nowBy (s .code .now) (s .activation .block) (s .here .live + 1) k (s .here .pairs))
+          (c .before .wide2 .ensures .0),
+      subst (λ (k : ℕ). Cleared (s .words .now) (32 * (s .here .live + 1) + k / 65536 % 256) (32 * (s .here .live + 1) + k / 16777216)
+          (c .before .before .clear .last .0)) e (c .before .before .clear .ensures),
+    )
+
+pub entered-spec : {M : Type 1} → statement M
+entered-spec =
+    tie.close
+    (tie.spec
+    wide-requires
+    code-at-requires
+    add-fresh
+    mul-clear
+    add-clear
+    mul-clear-2
+    add-clear-2
+    clear-requires
+    wide-requires-2
+    innermost-requires
+    returns)

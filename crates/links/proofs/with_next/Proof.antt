@@ -1,0 +1,13 @@
+-- `with_next` meets its contract.
+use borrow.Author.Needs.{needs}
+use Rattle.links.proofs.with_next.Statement.{statement}
+use Rattle.links.proofs.with_next.Tie as tie
+
+narrow-requires : tie.Need-narrow-requires
+narrow-requires c κs = search needs
+
+returns : tie.Need-returns
+returns c = rw (c .narrow .ensures)
+
+pub with-next-spec : {M : Type 1} → statement M
+with-next-spec = tie.close (tie.spec narrow-requires returns)

@@ -1,0 +1,58 @@
+// A call's arguments go to the first cells of the next activation, each found by the links.
+use super::Now;
+use super::home;
+use activations::Activation;
+use stepping::code_at;
+ghost use mathlib.Core.Path.{_≡_};
+ghost use Prim.Native.Nat.{_+_, _*_, _-_, _<_, _≤_};
+ghost use lib.ListN.{getD, set};
+ghost use Rattle.resolved.specs.Resolved.{positionIn};
+ghost use Rattle.acting.specs.Effects.{handedWord};
+ghost use Rattle.acting.specs.Acting.{argumentsFrom, setAll};
+ghost use Rattle.statements.specs.Pieces.{only-words};
+ghost use Rattle.links.specs.Finding.{byChain, Handing, Passing, argumentsEnd};
+
+// Behind which field of the next statement its arguments end; a BK has none.
+pub fn arguments_end(code: &[u32; 4096], here: Now) -> usize
+    requires { ⌜ here .at + 3 ≤ 4096 ⌝ }
+    ensures { λ r. ⌜ r ≡ argumentsEnd (now (code .entry)) (here .at) ⌝ }
+{
+    let at = here.at;
+    if code_at(code, at) % 16 == 6 {
+        return 3;
+    }
+    3 + code_at(code, at + 2)
+}
+
+// The argument in a field, once the activation that declares it is found.
+fn pass(code: &[u32; 4096], words: &mut [i32; 8224], here: Now, field: usize, from: usize)
+    requires { ⌜ Passing (now code) here field from ⌝ }
+    ensures { λ _. ⌜ now (words .exit) ≡ set (now (words .entry)) (32 * here .live + 32 + (field - 3))
+        (handedWord (now (words .entry)) (getD (now (code .entry)) (here .at + field) 0)
+        (32 * from + positionIn (getD (now (code .entry)) (here .at + field) 0))) ⌝ }
+{
+    let word = code_at(code, here.at + field);
+    let value = stepping::handed(words, word, 32 * from + word % 32);
+    stepping::store(words, 32 * here.live + 32 + (field - 3), value);
+}
+
+// The arguments stand in the fields from the third on up to `last`.
+pub fn hand(
+    code: &[u32; 4096],
+    words: &mut [i32; 8224],
+    records: &[Activation],
+    here: Now,
+    last: usize,
+)
+    requires { ⌜ Handing (now code) (now records) here last ⌝ }
+    ensures { λ _. ⌜ now (words .exit) ≡ setAll (now (words .entry)) (32 * here .live + 32)
+        (argumentsFrom (byChain (now (words .entry)) (now (records .entry)) (here .live) (here .level))
+        (only-words (now (code .entry)) (now (words .entry)) (here .at)) (here .at + 3) (last - 3)) ⌝ }
+{
+    let mut field = 3;
+    while field < last {
+        let from = home(code, records, here, field);
+        pass(code, words, here, field, from);
+        field = field + 1;
+    }
+}
