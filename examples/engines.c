@@ -13,10 +13,13 @@ static size_t area_words(uint32_t d, size_t script_len)
     return ENROL_AREA_WORDS(d, script_len);
 }
 
+/* A record is words side by side. */
+enum { RECORD_WORDS = sizeof(struct enrol_activation) / sizeof(uint32_t) };
+
 static size_t record_words(uint32_t d, size_t script_len)
 {
     (void)script_len;
-    return ENROL_RECORD_WORDS(d);
+    return RECORD_WORDS * (size_t)d;
 }
 
 static void run_copy(struct call *call, uint64_t answer[ENROL_ANSWER_WORDS])
@@ -28,7 +31,8 @@ static void run_copy(struct call *call, uint64_t answer[ENROL_ANSWER_WORDS])
 static void run_chain(struct call *call, uint64_t answer[ENROL_ANSWER_WORDS])
 {
     enrol_chain(call->script, call->script_len, call->d, call->n, call->g, call->tally, call->table, 2 * call->places,
-                call->count, call->name, call->sheet, call->sheet_len, call->own, call->own_len, answer);
+                call->count, call->name, call->sheet, call->sheet_len, (struct enrol_activation *)call->own,
+                call->own_len / RECORD_WORDS, answer);
 }
 
 static void run_display(struct call *call, uint64_t answer[ENROL_ANSWER_WORDS])

@@ -37,7 +37,7 @@ void reference_copy(const uint8_t *script, size_t script_len, uint32_t d, uint32
                     uint32_t *area, size_t area_len, uint64_t answer[ENROL_ANSWER_WORDS]);
 void reference_chain(const uint8_t *script, size_t script_len, uint32_t d, uint32_t n, uint32_t g, uint64_t tally,
                      int32_t *table, size_t table_len, size_t count, uint16_t name, int32_t *sheet, size_t sheet_len,
-                     uint32_t *records, size_t records_len, uint64_t answer[ENROL_ANSWER_WORDS]);
+                     struct enrol_activation *records, size_t records_len, uint64_t answer[ENROL_ANSWER_WORDS]);
 void reference_display(const uint8_t *script, size_t script_len, uint32_t d, uint32_t n, uint32_t g, uint64_t tally,
                        int32_t *table, size_t table_len, size_t count, uint16_t name, int32_t *sheet, size_t sheet_len,
                        uint64_t answer[ENROL_ANSWER_WORDS]);
@@ -47,7 +47,7 @@ static size_t least(size_t one, size_t other)
     return one < other ? one : other;
 }
 
-/* Just what is asked for, and now and then a word less. */
+/* Just what is asked for, and now and then one less. */
 static size_t lent_of(const struct call *call, size_t asked)
 {
     return asked > 0 && call->name % 64 == 63 ? asked - 1 : asked;
@@ -61,7 +61,18 @@ static size_t area_len(const struct call *call)
 
 static size_t records_len(const struct call *call)
 {
-    return lent_of(call, ENROL_RECORD_WORDS(least(call->d, ENROL_MOST_ACTIVATIONS)));
+    return lent_of(call, least(call->d, ENROL_MOST_ACTIVATIONS));
+}
+
+static size_t record_words(const struct call *call)
+{
+    return records_len(call) * (sizeof(struct enrol_activation) / sizeof *own);
+}
+
+/* The engine's own words as records, which are words side by side. */
+static struct enrol_activation *records(void)
+{
+    return (struct enrol_activation *)(own + GUARD);
 }
 
 static size_t no_len(const struct call *call)
@@ -97,14 +108,14 @@ static void right_copy(const struct call *call, struct lent *lent)
 static void chain(const struct call *call, struct lent *lent)
 {
     enrol_chain(call->script, call->script_len, call->d, call->n, call->g, call->tally, lent->table + GUARD,
-                call->table_len, call->count, call->name, lent->sheet + GUARD, call->sheet_len, own + GUARD,
+                call->table_len, call->count, call->name, lent->sheet + GUARD, call->sheet_len, records(),
                 records_len(call), lent->answer + GUARD);
 }
 
 static void right_chain(const struct call *call, struct lent *lent)
 {
     reference_chain(call->script, call->script_len, call->d, call->n, call->g, call->tally, lent->table + GUARD,
-                    call->table_len, call->count, call->name, lent->sheet + GUARD, call->sheet_len, own + GUARD,
+                    call->table_len, call->count, call->name, lent->sheet + GUARD, call->sheet_len, records(),
                     records_len(call), lent->answer + GUARD);
 }
 
@@ -133,7 +144,7 @@ struct export {
 static const struct export exports[] = {
     {"check", check, right_check, 0, no_len},
     {"copy", copy, right_copy, ENROL_ANSWER_NUMBER, area_len},
-    {"chain", chain, right_chain, ENROL_ANSWER_NUMBER, records_len},
+    {"chain", chain, right_chain, ENROL_ANSWER_NUMBER, record_words},
     {"display", display, right_display, ENROL_ANSWER_NUMBER, no_len},
 };
 enum { EXPORTS = sizeof exports / sizeof exports[0] };

@@ -43,11 +43,10 @@ extern "C" {
 #define ENROL_CHECK_WORDS 2
 #define ENROL_ANSWER_WORDS 9
 
-/* Words that must be lent for d activations: the sheet's, the copying engine's area for a script of script_len bytes,
- * and the chain engine's records. */
+/* Words that must be lent for d activations: the sheet's, and the copying engine's area for a script of script_len
+ * bytes. The chain engine is lent d records. */
 #define ENROL_SHEET_WORDS(d) ((size_t)(d) * (2 + ENROL_MOST_NAMES))
 #define ENROL_AREA_WORDS(d, script_len) ((size_t)(d) * ((size_t)(script_len) / 2))
-#define ENROL_RECORD_WORDS(d) ((size_t)(d) * 3)
 
 /* A designator names one declared name of a live activation: the activation's number, counted from 1 at the outermost,
  * times 64, plus the name's position among the activation's names, from 1. 0 names none. */
@@ -237,17 +236,23 @@ void enrol_copy(const uint8_t *script, size_t script_len, uint32_t d, uint32_t n
                 int32_t *table, size_t table_len, size_t count, uint16_t name, int32_t *sheet, size_t sheet_len,
                 uint32_t *area, size_t area_len, uint64_t answer[ENROL_ANSWER_WORDS]);
 
+/* An activation record of the chain engine: where the activation's block stands, its next statement, and the record that
+ * its static link leads to. */
+struct enrol_activation {
+    uint32_t block, next, link;
+};
+
 /* Runs a script on the chain engine, which finds a name by following static links from one activation record to the
  * next. Taken and given beside what every engine is:
  *
- * records    records_len words, at least ENROL_RECORD_WORDS(d), three for an activation, whatever they hold; too few
- *            give 13. They are what the engine runs on: after a run that is not refused they may hold anything.
+ * records    records_len activation records, at least d, whatever they hold; too few give 13. They are what the engine
+ *            runs on: after a run that is not refused they may hold anything.
  * answer     ENROL_ANSWER_LINKS: how many links lead from the innermost live block to the one that declares the
  *            looked-up name as written, 0 to 15; 0 where the name is not visible or no block is live
  */
 void enrol_chain(const uint8_t *script, size_t script_len, uint32_t d, uint32_t n, uint32_t g, uint64_t tally,
                  int32_t *table, size_t table_len, size_t count, uint16_t name, int32_t *sheet, size_t sheet_len,
-                 uint32_t *records, size_t records_len, uint64_t answer[ENROL_ANSWER_WORDS]);
+                 struct enrol_activation *records, size_t records_len, uint64_t answer[ENROL_ANSWER_WORDS]);
 
 /* Runs a script on the display engine, which finds a name in an array of the activations around the innermost block's
  * text. It is lent nothing beside what every engine is, and gives 0 links. */

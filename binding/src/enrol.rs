@@ -49,36 +49,51 @@ extern "C" {
         name: u16,
         sheet: *mut i32,
         sheet_len: usize,
-        records: *mut u32,
+        records: *mut Activation,
         records_len: usize,
         answer: *mut u64,
     );
 }
 
-/// An engine that is lent words of its own, and how many of them its length counts as one.
+/// An activation record of the chain engine.
+#[repr(C)]
+struct Activation {
+    block: u32,
+    next: u32,
+    link: u32,
+}
+
+/// An engine's function that is lent elements of its own.
+type OnElements<T> = unsafe extern "C" fn(
+    *const u8,
+    usize,
+    u32,
+    u32,
+    u32,
+    u64,
+    *mut i32,
+    usize,
+    usize,
+    u16,
+    *mut i32,
+    usize,
+    *mut T,
+    usize,
+    *mut u64,
+);
+
+/// An engine that is lent words of its own, and how many of them make an element.
 struct OnWords {
-    call: unsafe extern "C" fn(
-        *const u8,
-        usize,
-        u32,
-        u32,
-        u32,
-        u64,
-        *mut i32,
-        usize,
-        usize,
-        u16,
-        *mut i32,
-        usize,
-        *mut u32,
-        usize,
-        *mut u64,
-    ),
+    call: OnElements<u32>,
     unit: usize,
 }
 
 const COPY: OnWords = OnWords { call: enrol_copy, unit: 1 };
-const CHAIN: OnWords = OnWords { call: enrol_chain, unit: 1 };
+const CHAIN: OnWords = OnWords {
+    // SAFETY: a record is three words side by side, aligned as a word is.
+    call: unsafe { std::mem::transmute::<OnElements<Activation>, OnElements<u32>>(enrol_chain) },
+    unit: std::mem::size_of::<Activation>() / std::mem::size_of::<u32>(),
+};
 
 /// Refusal number, 0 where accepted, and offset.
 pub type Checked = [u64; 2];
@@ -202,7 +217,7 @@ pub fn copy(
     on_words(&COPY, script, asked, table, sheet, area)
 }
 
-/// `records` has three words for each activation.
+/// `records` has three words for each activation's record.
 pub fn chain(
     script: &[u8],
     asked: &Asked,

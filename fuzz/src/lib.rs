@@ -69,14 +69,14 @@ pub unsafe extern "C" fn reference_chain(
     name: u16,
     sheet: *mut i32,
     sheet_len: usize,
-    _records: *mut u32,
+    _records: *mut [u32; 3],
     records_len: usize,
     answer: *mut [u64; 9],
 ) {
     let script = unsafe { slice::from_raw_parts(script, script_len) };
     let table = unsafe { slice::from_raw_parts_mut(table, table_len) };
     let sheet = unsafe { slice::from_raw_parts_mut(sheet, sheet_len) };
-    let engine = Engine::Chain { records: records_len / 3 };
+    let engine = Engine::Chain { records: records_len };
     let request = Request { engine, script, d, n, g, tally, count, name };
     unsafe { *answer = run(&request, table, sheet) };
 }
