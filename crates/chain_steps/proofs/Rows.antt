@@ -4,9 +4,14 @@ use Rattle.acting.proofs.Move as M
 use Rattle.acting.proofs.Move.Laws as M′
 use Rattle.chain_steps.proofs.turn.Turn as T
 use Rattle.chain_steps.proofs.turn.Turn.Laws as T′
+use Rattle.chain_steps.proofs.turn.Moved as D
+use Rattle.chain_steps.proofs.turn.Moved.Laws as D′
 
 abbrev pub moves : Datum
 moves = enums M.the-type M′.the-laws M′.the-plain tt
 
 abbrev pub turns : Datum
 turns = enums T.the-type T′.the-laws T′.the-plain tt
+
+abbrev pub moveds : Datum
+moveds = enums D.the-type D′.the-laws D′.the-plain tt

@@ -14,7 +14,8 @@ use Rattle.laws.specs.Tests.{split}
 use Rattle.resolved.specs.Resolved.{levelIn, direct}
 use Rattle.arrays.specs.Found.{heldBy, targetBy}
 use Rattle.arrays.specs.Names.{follow}
-use Rattle.acting.specs.Acting.{Op, constant-op, add-op, subtract-op, compare-op, branch-op, goto-op, block-op, call-op, pair-op, unpair-op, query-op}
+use Rattle.acting.specs.declared.Move.{Move}
+use Rattle.acting.specs.Acting.{Happened, Op, constant-op, add-op, subtract-op, compare-op, branch-op, goto-op, block-op, call-op, pair-op, unpair-op, query-op}
 use Rattle.acting.specs.Acting.{constant-formal-op, arithmetic-formal-op, branch-formal-op, goto-formal-op, call-formal-op, operations, opOf}
 use Rattle.steps.specs.Standing.{Standing}
 use Rattle.steps.specs.Here.{live-few}
@@ -22,18 +23,26 @@ use Rattle.steps.specs.Fields as fields
 use Rattle.statements.specs.Pieces.{FormalsBefore}
 use Rattle.statements.specs.Numbers.{op-of}
 use Rattle.chain_statements.specs.Finding.{Reachable, Direct, ThroughFormal}
-use Rattle.chain_statements.specs.Asking.{wordBehind, Calling, Ready, Leads, namesOf}
+use Rattle.chain_statements.specs.Asking.{wordBehind, Calling, Ready, Leads, Did, namesOf}
 use Rattle.activations.specs.declared.Activation.{Activation}
 use Rattle.links.specs.declared.Now.{Now}
 use Rattle.links.specs.Records.{blocksIn, nextsIn, linksIn}
 use Rattle.links.specs.Finding.{homeOf, firstCell, byChain, Seen, Named}
 use Rattle.links.specs.Running.{limitsBy, Running}
 use Rattle.links.specs.Names as links
+use Rattle.chain_steps.specs.declared.turn.Moved.{Moved}
+use Rattle.chain_steps.specs.Moved.{movedBy}
 
 -- an engine that runs stands before the end of a text
 pub record Stating (code : List ℕ) (words : List ℤ) (records : List Activation) (table : List ℤ) (group limit : ℕ) (here : Now) : Type 0 where
   pub running : Running code limit group words records table here
   pub before : here .at ≡ here .end → ⊥
+
+-- the statement has been done, and the engine goes on so
+pub record Does (done : Happened) (words : List ℤ) (here : Now) (moved : Moved) (words′ table′ : List ℤ) : Type 0 where
+  pub move : Move
+  pub did : Did done words move words′ table′
+  pub so : moved ≡ movedBy here move
 
 unfoldable pub onlyHops : List ℕ → Now → ℕ
 onlyHops code here =

@@ -34,15 +34,15 @@ isEntry (Jump home p) = false
 isEntry (Enter b l k) = true
 isEntry (Stop c) = false
 
-abbrev no-entry : Entry
-no-entry = record { body = 0; link = 0; back = 0 }
+abbrev pub noEntry : Entry
+noEntry = record { body = 0; link = 0; back = 0 }
 
 unfoldable pub entryOf : Move → Entry
-entryOf (On p) = no-entry
-entryOf (Pairs p n) = no-entry
-entryOf (Jump home p) = no-entry
+entryOf (On p) = noEntry
+entryOf (Pairs p n) = noEntry
+entryOf (Jump home p) = noEntry
 entryOf (Enter b l k) = record { body = b; link = l; back = k }
-entryOf (Stop c) = no-entry
+entryOf (Stop c) = noEntry
 
 unfoldable pub homeAt : Move → ℕ
 homeAt (On p) = 0

@@ -1,6 +1,7 @@
 // The next statement is done as far as words and table go. Its names are found by following links from the innermost activation, as many of them as
 // it has.
-use acting::Move;
+use super::turn::Moved;
+use super::turn::came_to;
 use activations::Activation;
 use activations::follow;
 use chain_statements::act_one;
@@ -17,9 +18,9 @@ ghost use lib.ListN.{getD};
 ghost use Rattle.resolved.specs.Resolved.{levelIn};
 ghost use Rattle.acting.specs.Acting.{acting, opOf};
 ghost use Rattle.chain_statements.specs.Finding.{byHome};
-ghost use Rattle.chain_statements.specs.Asking.{Did, sceneOf};
+ghost use Rattle.chain_statements.specs.Asking.{sceneOf};
 ghost use Rattle.links.specs.Finding.{homeOf};
-ghost use Rattle.chain_steps.specs.Acted.{onlyHops, secondField, Stating};
+ghost use Rattle.chain_steps.specs.Acted.{onlyHops, secondField, Stating, Does};
 
 // The links to the only name of a statement; a BK has none, and is linked to the innermost activation itself.
 fn only_hops(code: &[u32; 4096], here: Now) -> usize
@@ -53,23 +54,24 @@ pub fn acted(
     group: u32,
     limit: usize,
     here: Now,
-) -> Move
+) -> Moved
     requires { ⌜ Stating (now code) (now words) (now records) (now table) group limit here ⌝ }
-    ensures { λ r. ⌜ Did (acting (byHome (now (words .entry)) (homeOf (now (records .entry)) (here .live) (here .level)))
+    ensures { λ r. ⌜ Does (acting (byHome (now (words .entry)) (homeOf (now (records .entry)) (here .live) (here .level)))
         (sceneOf (now (code .entry)) (now (words .entry)) (now (table .entry)) (here .pairs) group limit (here .live) (here .at)))
-        (now (words .entry)) r (now (words .exit)) (now (table .exit)) ⌝ }
+        (now (words .entry)) here r (now (words .exit)) (now (table .exit)) ⌝ }
 {
     let names = names_of(code, here.at);
     if names == 3 {
         let first = home(code, records, here, 1);
         let second = home(code, records, here, 3);
         let third = home(code, records, here, 4);
-        return act_sum(code, words, here.at, first, second, third);
+        let done = act_sum(code, words, here.at, first, second, third);
+        return came_to(here, done);
     }
     if names == 2 {
         let first = home(code, records, here, 1);
         let second = home(code, records, here, 2);
-        return act_two(
+        let done = act_two(
             code,
             words,
             table,
@@ -79,13 +81,14 @@ pub fn acted(
             first,
             second,
         );
+        return came_to(here, done);
     }
     if names == 4 {
         let field = second_field(code, here.at);
         let first = home(code, records, here, 1);
         let second = home(code, records, here, field);
         let third = home(code, records, here, field + 1);
-        return act_three(
+        let done = act_three(
             code,
             words,
             table,
@@ -95,7 +98,9 @@ pub fn acted(
             second,
             third,
         );
+        return came_to(here, done);
     }
     let first = follow(records, here.live, only_hops(code, here));
-    act_one(code, words, limit, here.live, here.at, first)
+    let done = act_one(code, words, limit, here.live, here.at, first);
+    came_to(here, done)
 }

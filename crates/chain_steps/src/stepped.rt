@@ -7,9 +7,9 @@ use super::turn::enters;
 use super::turn::entry_of;
 use super::turn::finished;
 use super::turn::home_of;
+use super::turn::is_done;
 use super::turn::resumed;
-use super::turn::stayed;
-use super::turn::stays;
+use super::turn::turn_of;
 use super::turn::went;
 use activations::Activation;
 use activations::read;
@@ -49,8 +49,8 @@ pub fn step(
         return leave(code, records, here);
     }
     let done = acted(code, words, records, table, group, limit, here);
-    if stays(here, done) {
-        return stayed(here, done);
+    if is_done(done) {
+        return turn_of(done);
     }
     if enters(done) {
         return went(enter(code, words, records, here, entry_of(done)));

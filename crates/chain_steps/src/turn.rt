@@ -8,11 +8,20 @@ use links::innermost;
 ghost use mathlib.Core.Path.{_≡_};
 ghost use Prim.Native.Nat.{_+_, _-_, _≤_};
 ghost use Rattle.links.specs.Running.{nowBy};
-ghost use Rattle.chain_steps.specs.Moves.{staysIn, stayedBy, isEntry, entryOf, homeAt, placeAt};
+ghost use Rattle.chain_steps.specs.Moves.{noEntry, placed};
+ghost use Rattle.chain_steps.specs.Moved.{movedBy, jumpedBy, isDone, turnOf, isEnter, entryIn, homeIn, placeIn};
 
 pub enum Turn {
     Went(Now),
     Finished,
+    Stopped(Stop),
+}
+
+// What a statement has come to: the innermost activation goes on, another one does, at a place, a block is entered, or the run ends.
+pub enum Moved {
+    Went(Now),
+    Resume(usize, usize),
+    Enter(Entry),
     Stopped(Stop),
 }
 
@@ -36,98 +45,126 @@ pub fn below(here: Now) -> usize
     here.live - 1
 }
 
-// Whether the innermost activation stays so, with its record as it is.
-pub fn stays(here: Now, done: Move) -> bool
-    ensures { λ r. ⌜ r ≡ staysIn here done ⌝ }
+fn placed(here: Now, place: usize, pairs: usize) -> Moved
+    ensures { λ r. ⌜ r ≡ Moved.Went (placed here place pairs) ⌝ }
+{
+    Moved::Went(Now {
+        live: here.live,
+        at: place,
+        end: here.end,
+        pairs,
+        level: here.level,
+    })
+}
+
+fn jumped(here: Now, home: usize, place: usize) -> Moved
+    ensures { λ r. ⌜ r ≡ jumpedBy here home place ⌝ }
+{
+    if home == here.live {
+        return placed(here, place, here.pairs);
+    }
+    Moved::Resume(home, place)
+}
+
+pub fn came_to(here: Now, done: Move) -> Moved
+    ensures { λ r. ⌜ r ≡ movedBy here done ⌝ }
 {
     match done {
-        Move::On(place) => true,
-        Move::Pairs(place, used) => true,
-        Move::Jump(home, place) => home == here.live,
-        Move::Enter(body, link, back) => false,
-        Move::Stop(cause) => true,
+        Move::On(place) => placed(here, place, here.pairs),
+        Move::Pairs(place, used) => placed(here, place, used),
+        Move::Jump(home, place) => jumped(here, home, place),
+        Move::Enter(body, link, back) => Moved::Enter(Entry { body, link, back }),
+        Move::Stop(cause) => Moved::Stopped(cause),
     }
 }
 
-pub fn stayed(here: Now, done: Move) -> Turn
-    ensures { λ r. ⌜ r ≡ stayedBy here done ⌝ }
+pub fn is_done(moved: Moved) -> bool
+    ensures { λ r. ⌜ r ≡ isDone moved ⌝ }
 {
-    let live = here.live;
-    let end = here.end;
-    let pairs = here.pairs;
-    let level = here.level;
-    match done {
-        Move::On(place) => Turn::Went(Now {
-            live,
-            at: place,
-            end,
-            pairs,
-            level,
-        }),
-        Move::Pairs(place, used) => Turn::Went(Now {
-            live,
-            at: place,
-            end,
-            pairs: used,
-            level,
-        }),
-        Move::Jump(home, place) => Turn::Went(Now {
-            live,
-            at: place,
-            end,
-            pairs,
-            level,
-        }),
-        Move::Enter(body, link, back) => Turn::Finished,
-        Move::Stop(cause) => Turn::Stopped(cause),
+    match moved {
+        Moved::Went(next) => true,
+        Moved::Resume(home, place) => false,
+        Moved::Enter(entry) => false,
+        Moved::Stopped(cause) => true,
     }
 }
 
-pub fn enters(done: Move) -> bool
-    ensures { λ r. ⌜ r ≡ isEntry done ⌝ }
+pub fn turn_of(moved: Moved) -> Turn
+    ensures { λ r. ⌜ r ≡ turnOf moved ⌝ }
 {
-    match done {
-        Move::Enter(body, link, back) => true,
-        _ => false,
+    match moved {
+        Moved::Went(next) => Turn::Went(next),
+        Moved::Resume(home, place) => Turn::Finished,
+        Moved::Enter(entry) => Turn::Finished,
+        Moved::Stopped(cause) => Turn::Stopped(cause),
     }
 }
 
-pub fn entry_of(done: Move) -> Entry
-    ensures { λ r. ⌜ r ≡ entryOf done ⌝ }
+pub fn enters(moved: Moved) -> bool
+    ensures { λ r. ⌜ r ≡ isEnter moved ⌝ }
 {
-    match done {
-        Move::Enter(body, link, back) => Entry { body, link, back },
-        _ => Entry {
-            body: 0,
-            link: 0,
-            back: 0,
-        },
+    match moved {
+        Moved::Went(next) => false,
+        Moved::Resume(home, place) => false,
+        Moved::Enter(entry) => true,
+        Moved::Stopped(cause) => false,
+    }
+}
+
+fn no_entry() -> Entry
+    ensures { λ r. ⌜ r ≡ noEntry ⌝ }
+{
+    Entry {
+        body: 0,
+        link: 0,
+        back: 0,
+    }
+}
+
+pub fn entry_of(moved: Moved) -> Entry
+    ensures { λ r. ⌜ r ≡ entryIn moved ⌝ }
+{
+    match moved {
+        Moved::Went(next) => no_entry(),
+        Moved::Resume(home, place) => no_entry(),
+        Moved::Enter(entry) => entry,
+        Moved::Stopped(cause) => no_entry(),
     }
 }
 
 // The activation that a jump goes to.
-pub fn home_of(done: Move) -> usize
-    ensures { λ r. ⌜ r ≡ homeAt done ⌝ }
+pub fn home_of(moved: Moved) -> usize
+    ensures { λ r. ⌜ r ≡ homeIn moved ⌝ }
 {
-    match done {
-        Move::Jump(home, place) => home,
-        _ => 0,
+    match moved {
+        Moved::Went(next) => 0,
+        Moved::Resume(home, place) => home,
+        Moved::Enter(entry) => 0,
+        Moved::Stopped(cause) => 0,
     }
 }
 
-fn place_of(done: Move) -> usize
-    ensures { λ r. ⌜ r ≡ placeAt done ⌝ }
+fn place_of(moved: Moved) -> usize
+    ensures { λ r. ⌜ r ≡ placeIn moved ⌝ }
 {
-    match done {
-        Move::Jump(home, place) => place,
-        _ => 0,
+    match moved {
+        Moved::Went(next) => 0,
+        Moved::Resume(home, place) => place,
+        Moved::Enter(entry) => 0,
+        Moved::Stopped(cause) => 0,
     }
 }
 
 // It becomes the innermost one; its record is given.
-pub fn resumed(code: &[u32; 4096], here: Now, done: Move, activation: Activation) -> Turn
+pub fn resumed(code: &[u32; 4096], here: Now, moved: Moved, activation: Activation) -> Turn
     requires { ⌜ activation .block + 3 ≤ 4096 ⌝ }
-    ensures { λ r. ⌜ r ≡ Turn.Went (nowBy (now (code .entry)) (activation .block) (homeAt done) (placeAt done) (here .pairs)) ⌝ }
+    ensures { λ r. ⌜ r ≡ Turn.Went (nowBy (now (code .entry)) (activation .block) (homeIn moved) (placeIn moved) (here .pairs)) ⌝ }
 {
-    Turn::Went(innermost(code, activation, home_of(done), place_of(done), here.pairs))
+    Turn::Went(innermost(
+        code,
+        activation,
+        home_of(moved),
+        place_of(moved),
+        here.pairs,
+    ))
 }

@@ -46,8 +46,8 @@ use Rattle.activations.specs.declared.Activation.{Activation}
 use Rattle.activations.specs.Records.{hop}
 use Rattle.arrays.specs.Names.{follow as follows}
 use Rattle.acting.specs.declared.Move.{Move}
-use Rattle.acting.specs.Acting.{acting, opOf}
-use Rattle.chain_steps.proofs.Rows.{moves}
+use Rattle.acting.specs.Acting.{Happened, acting, opOf}
+use Rattle.chain_steps.proofs.Rows.{moves, moveds}
 use Rattle.chain_statements.specs.Finding.{byHome}
 use Rattle.chain_statements.specs.Asking.{Ready, Leads, Did, sceneOf, namesOf}
 use Rattle.links.specs.declared.Now.{Now}
@@ -56,7 +56,10 @@ use Rattle.links.specs.Finding.{homeOf, Named}
 use Rattle.links.specs.Moving.{linked}
 use Rattle.links.proofs.Rows.{Code, Words, Rec, recs, nows, fields-of-now}
 use Rattle.chain_steps.specs.Acted as acts
-use Rattle.chain_steps.specs.Acted.{Stating, secondField, onlyHops}
+use Rattle.chain_steps.specs.Acted.{Stating, Does, secondField, onlyHops}
+use Rattle.chain_steps.specs.Moved.{movedBy}
+use Rattle.chain_steps.specs.declared.turn.Moved.{Moved}
+use Rattle.lending.specs.Clauses.{asks-all}
 use Rattle.chain_statements.proofs.names_of as names-of
 use Rattle.chain_statements.proofs.names_of.Symbol as names-of-def
 use Rattle.chain_statements.proofs.names_of.Symbol.{name as #names-of}
@@ -93,6 +96,10 @@ use Rattle.chain_steps.proofs.acted.second_field as second-field
 use Rattle.chain_steps.proofs.acted.second_field.Symbol as second-field-def
 use Rattle.chain_steps.proofs.acted.second_field.Symbol.{name as #second-field}
 use Rattle.chain_steps.proofs.acted.second_field.Met as second-field-thm
+use Rattle.chain_steps.proofs.turn.came_to as came-to
+use Rattle.chain_steps.proofs.turn.came_to.Symbol as came-to-def
+use Rattle.chain_steps.proofs.turn.came_to.Symbol.{name as #came-to}
+use Rattle.chain_steps.proofs.turn.came_to.Met as came-to-thm
 use Rattle.chain_steps.proofs.acted.acted.Key.{name as #me}
 use Rattle.chain_steps.proofs.acted.acted as f
 use Rattle.chain_steps.proofs.acted.acted.Statement as stated
@@ -108,9 +115,12 @@ module _ {code : List ℕ} {words : List ℤ} {records : List Activation} {table
   abbrev many : ℕ
   many = namesOf (opOf (getD code (here .at) 0))
 
-  abbrev Done : Move → List ℤ → List ℤ → Type 0
-  Done r words′ table′ = Did (acting (byHome words (homeOf records (here .live) (here .level)))
-      (sceneOf code words table (here .pairs) group limit (here .live) (here .at))) words r words′ table′
+  abbrev happened : Happened
+  happened = acting (byHome words (homeOf records (here .live) (here .level)))
+      (sceneOf code words table (here .pairs) group limit (here .live) (here .at))
+
+  abbrev Done : Moved → List ℤ → List ℤ → Type 0
+  Done r words′ table′ = Does happened words here r words′ table′
 
   abbrev Asks : (n limit′ live′ first second third : ℕ) → Type 0
   Asks n limit′ live′ first second third =
@@ -214,6 +224,9 @@ Calls-only-hops 𝓤 H A mem run = tripleOf 𝓤 H A only-hops.signature (only-h
 abbrev Calls-second-field : {M : Type 1} (𝓤 : URA M) (H : Heap 𝓤) (A : Atoms 𝓤) → (Memory → SProp 𝓤) → (Routine → Fun 𝓤) → Contract 𝓤
 Calls-second-field 𝓤 H A mem run = tripleOf 𝓤 H A second-field.signature (second-field.spec 𝓤 H A mem run)
 
+abbrev Calls-came-to : {M : Type 1} (𝓤 : URA M) (H : Heap 𝓤) (A : Atoms 𝓤) → (Memory → SProp 𝓤) → (Routine → Fun 𝓤) → Contract 𝓤
+Calls-came-to 𝓤 H A mem run = tripleOf 𝓤 H A came-to.signature (came-to.spec 𝓤 H A mem run)
+
 -- the arm that is taken
 abbrev arm : Body → Body
 arm skip = skip
@@ -281,12 +294,18 @@ module _ {M : Type 1} (𝓤 : URA M) (H : Heap 𝓤) (A : Atoms 𝓤) (W : Given
   abbrev Kf : Val → SProp 𝓤
   Kf = walkOf 𝓤 H A f.ended stayed (f.clauses 𝓤 H A mem run) .post bound
 
-  exits : (r : Move) (words′ table′ : List ℤ) → length table′ ≡ length table → Good moves r → Done pre r words′ table′
-      → ent 𝓤 (⋆ 𝓤 H A (outs 𝓤 0 ps (tt, (words′, (tt, (table′, (tt, (tt, (tt, tt))))))))) (Kf (moves .val r))
+  exits : (r : Moved) (words′ table′ : List ℤ) → length table′ ≡ length table → Good moveds r → Done pre r words′ table′
+      → ent 𝓤 (⋆ 𝓤 H A (outs 𝓤 0 ps (tt, (words′, (tt, (table′, (tt, (tt, (tt, tt))))))))) (Kf (moveds .val r))
   exits r words′ table′ same good says = via 𝓤 _ (leaves-with 𝓤 H A W ps (tt, (words′, (tt, (table′, (tt, (tt, (tt, tt)))))))
-      (g-group, (g-limit, (g-here, tt))) moves r good (Done pre r words′ table′) says)
-      (ends-at 𝓤 H A f.ended stayed (f.clauses 𝓤 H A mem run) W bound (moves .val r) r (tt, (words′, (tt, (table′, (tt, (tt, (tt, tt)))))))
+      (g-group, (g-limit, (g-here, tt))) moveds r good (Done pre r words′ table′) says)
+      (ends-at 𝓤 H A f.ended stayed (f.clauses 𝓤 H A mem run) W bound (moveds .val r) r (tt, (words′, (tt, (table′, (tt, (tt, (tt, tt)))))))
       (tt, (tt, (tt, (same, (tt, (tt, (tt, tt))))))))
+
+  does : (r : Move) (m : Moved) → m ≡ movedBy here r → {words′ table′ : List ℤ} → Did (happened pre) words r words′ table′ → Done pre m words′ table′
+  does r m e did = record { move = r; did = did; so = e }
+
+  abbrev for-came-to : Move → List Par
+  for-came-to r = dat nows here ∷ dat moves r ∷ []
 
   g-live : Good usizes (here .live)
   g-live = fields-of-now here g-here .0
@@ -332,17 +351,18 @@ module _ {M : Type 1} (𝓤 : URA M) (H : Heap 𝓤) (A : Atoms 𝓤) (W : Given
       (known-act-sum : Triple 𝓤 (C #act-sum) (Calls-act-sum 𝓤 H A mem run)) (known-act-three : Triple 𝓤 (C #act-three) (Calls-act-three 𝓤 H A mem run))
       (known-home : Triple 𝓤 (C #home) (Calls-home 𝓤 H A mem run)) (known-follow : Triple 𝓤 (C #follow) (Calls-follow 𝓤 H A mem run))
       (known-only-hops : Triple 𝓤 (C #only-hops) (Calls-only-hops 𝓤 H A mem run))
-      (known-second-field : Triple 𝓤 (C #second-field) (Calls-second-field 𝓤 H A mem run)) where
+      (known-second-field : Triple 𝓤 (C #second-field) (Calls-second-field 𝓤 H A mem run))
+      (known-came-to : Triple 𝓤 (C #came-to) (Calls-came-to 𝓤 H A mem run)) where
     module _ (β : ℕ → ℕ) where
       abbrev E# : List (Ty × ℕ)
       E# = envAt (tysOf (mine.function .locals)) β
 
-      -- [the code; the records; the words; the table; the locals], of which 8 is the number of names and 19 the test
+      -- [the code; the records; the words; the table; the locals], of which 8 is the number of names and 23 the test
       abbrev Ctx : ℕ → Bool → List (Item 𝓤)
       Ctx names y = ‵ (In (shrRef Code) h-code code) ∷ ‵ (In (shrSlice Rec) h-records records) ∷ ‵ (In (mutRef Words) h-words words) ∷ ‵
           (In (mutSlice i32) h-table table) ∷ fr 𝓤 H (tysOf (mine.function .locals)) β (none ∷ some (h-code .val) ∷ some (h-words .val) ∷ some
           (h-records .val) ∷ some (h-table .val) ∷ some (vint w32 group) ∷ some (vint w64 limit) ∷ some (nows .val here) ∷ some (vint w64 names) ∷ none ∷ none ∷
-          none ∷ none ∷ none ∷ none ∷ none ∷ none ∷ none ∷ none ∷ some (vbool y) ∷ []) ∷ []
+          none ∷ none ∷ none ∷ none ∷ none ∷ none ∷ none ∷ none ∷ none ∷ none ∷ none ∷ none ∷ some (vbool y) ∷ []) ∷ []
 
       module _ (names : ℕ) (y : Bool) (q : Post 𝓤 H) (same : post 𝓤 H q returned ≡ atReturn 𝓤 H E# Kf returned) where
         sums : many pre ≡ 3 → Sq W (Ctx names y) (runs C Λ E# (arm mir′.s-3) q)
@@ -362,17 +382,21 @@ module _ {M : Type 1} (𝓤 : URA M) (H : Heap 𝓤) (A : Atoms 𝓤) (W : Given
             (and-then ! (var ! 4 1 refl refl tt) (and-then ! (var ! 4 3 refl refl tt) (and-then ! (var ! 4 7 refl refl tt) (and-then ! (lit ! tt)
             (no-more !))))) (λ c _ g-c c-is _.
             lands-in ! 4 11 refl tt (typed 𝓤 H A W usizes c g-c) $
-            puts ! 4 20 refl (lent ! 4 2 refl refl tt) tt (tt, tt) $ move ! (0 ∷ 2 ∷ []) $
+            puts ! 4 24 refl (lent ! 4 2 refl refl tt) tt (tt, tt) $ move ! (0 ∷ 2 ∷ []) $
             -- [the code; the words; the records; the table; the locals]
             calls-by ! fm (Calls-act-sum 𝓤 H A mem run) known-act-sum (to (for-act-sum a b c)) (for-act-sum a b c) refl (g-at, (g-a, (g-b, (g-c, tt)))) _
             (sum-asks pre e a b c (a-is .0) (b-is .0) (c-is .0)) (id⊢ 𝓤 _) moves _ (λ v. id⊢ 𝓤 _)
-            (and-then ! (var ! 4 1 refl refl tt) (and-then ! (var ! 4 20 refl refl tt) (and-then ! (part ! 4 7 1 refl refl tt refl refl refl)
+            (and-then ! (var ! 4 1 refl refl tt) (and-then ! (var ! 4 24 refl refl tt) (and-then ! (part ! 4 7 1 refl refl tt refl refl refl)
             (and-then ! (var ! 4 9 refl refl tt) (and-then ! (var ! 4 10 refl refl tt) (and-then ! (var ! 4 11 refl refl tt) (no-more !)))))))
             (λ r ws good did _.
-            lands-in ! 4 0 refl tt (typed 𝓤 H A W moves r good) $ ends-early ! 4 Kf same refl refl tt $
+            lands-in ! 4 12 refl tt (typed 𝓤 H A W moves r good) $
+            calls-by ! fm (Calls-came-to 𝓤 H A mem run) known-came-to (to (for-came-to r)) (for-came-to r) refl (g-here, (good, tt)) (Unit {0}) tt
+            (asks-all 𝓤 H A (for-came-to r) []) moveds _ (λ v. id⊢ 𝓤 _) (and-then ! (var ! 4 7 refl refl tt) (and-then ! (var ! 4 12 refl refl tt) (no-more !)))
+            (λ m _ g-m m-is _.
+            lands-in ! 4 0 refl tt (typed 𝓤 H A W moveds m g-m) $ ends-early ! 4 Kf same refl refl tt $
             move ! (3 ∷ []) $ gives ! (mutSlice i32) h-table table $ move ! (1 ∷ 2 ∷ 3 ∷ []) $
-            by ! (exits r (ws .1 .0) table refl good (did (homeOf records (here .live) (here .level)) table (here .pairs) group limit (here .live)
-            (sum-led pre e a b c (a-is .0) (b-is .0) (c-is .0))))))))
+            by ! (exits m (ws .1 .0) table refl g-m (does r m m-is (did (homeOf records (here .live) (here .level)) table (here .pairs) group limit (here .live)
+            (sum-led pre e a b c (a-is .0) (b-is .0) (c-is .0))))))))))
 
         pairs : many pre ≡ 2 → Sq W (Ctx names y) (runs C Λ E# (arm mir′.s-5) q)
         pairs e =
@@ -380,87 +404,99 @@ module _ {M : Type 1} (𝓤 : URA M) (H : Heap 𝓤) (A : Atoms 𝓤) (W : Given
             (two-named pre e .0) (id⊢ 𝓤 _) usizes _ (λ v. id⊢ 𝓤 _)
             (and-then ! (var ! 4 1 refl refl tt) (and-then ! (var ! 4 3 refl refl tt) (and-then ! (var ! 4 7 refl refl tt) (and-then ! (lit ! tt)
             (no-more !))))) (λ a _ g-a a-is _.
-            lands-in ! 4 12 refl tt (typed 𝓤 H A W usizes a g-a) $
+            lands-in ! 4 13 refl tt (typed 𝓤 H A W usizes a g-a) $
             calls-by ! fm (Calls-home 𝓤 H A mem run) known-home (to (for-home 2)) (for-home 2) refl (g-here, (small 2 (omega arith), tt)) _
             (two-named pre e .1) (id⊢ 𝓤 _) usizes _ (λ v. id⊢ 𝓤 _)
             (and-then ! (var ! 4 1 refl refl tt) (and-then ! (var ! 4 3 refl refl tt) (and-then ! (var ! 4 7 refl refl tt) (and-then ! (lit ! tt)
             (no-more !))))) (λ b _ g-b b-is _.
-            lands-in ! 4 13 refl tt (typed 𝓤 H A W usizes b g-b) $
-            puts ! 4 21 refl (lent ! 4 2 refl refl tt) tt (tt, tt) $
-            puts ! 4 22 refl (lent-ptr ! 4 4 refl refl tt refl refl) tt (tt, tt) $
-            puts ! 4 23 refl (lent-slice ! 4 4 22 refl refl refl tt tt refl refl) tt (tt, (tt, (record { fits = room-table .0 }, tt))) $
+            lands-in ! 4 14 refl tt (typed 𝓤 H A W usizes b g-b) $
+            puts ! 4 25 refl (lent ! 4 2 refl refl tt) tt (tt, tt) $
+            puts ! 4 26 refl (lent-ptr ! 4 4 refl refl tt refl refl) tt (tt, tt) $
+            puts ! 4 27 refl (lent-slice ! 4 4 26 refl refl refl tt tt refl refl) tt (tt, (tt, (record { fits = room-table .0 }, tt))) $
             move ! (2 ∷ []) $ shares-ref ! tt Words h-words words (λ at-it ν δ. move ! (2 ∷ 0 ∷ 4 ∷ []) $
             -- [the code; the words, lent; the table; what waits for these; the records; the locals]
             calls-by ! fm (Calls-act-two 𝓤 H A mem run) known-act-two (to (for-act-two ν δ a b)) (for-act-two ν δ a b) refl
             (g-pairs, (g-group, (g-at, (g-a, (g-b, tt))))) _ (two-asks pre e a b (a-is .0) (b-is .0)) (id⊢ 𝓤 _) moves _ (λ v. id⊢ 𝓤 _)
-            (and-then ! (var ! 5 1 refl refl tt) (and-then ! (var ! 5 21 refl refl tt) (and-then ! (var ! 5 23 refl refl tt)
+            (and-then ! (var ! 5 1 refl refl tt) (and-then ! (var ! 5 25 refl refl tt) (and-then ! (var ! 5 27 refl refl tt)
             (and-then ! (part ! 5 7 3 refl refl tt refl refl refl) (and-then ! (var ! 5 5 refl refl tt) (and-then ! (part ! 5 7 1 refl refl tt refl refl refl)
-            (and-then ! (var ! 5 12 refl refl tt) (and-then ! (var ! 5 13 refl refl tt) (no-more !))))))))) (λ r ws good did same-long.
-            lands-in ! 5 0 refl tt (typed 𝓤 H A W moves r good) $ move ! (1 ∷ 3 ∷ []) $ unshares-ref ! tt Words h-words words ν δ at-it $
+            (and-then ! (var ! 5 13 refl refl tt) (and-then ! (var ! 5 14 refl refl tt) (no-more !))))))))) (λ r ws good did same-long.
+            lands-in ! 5 15 refl tt (typed 𝓤 H A W moves r good) $
+            calls-by ! fm (Calls-came-to 𝓤 H A mem run) known-came-to (to (for-came-to r)) (for-came-to r) refl (g-here, (good, tt)) (Unit {0}) tt
+            (asks-all 𝓤 H A (for-came-to r) []) moveds _ (λ v. id⊢ 𝓤 _) (and-then ! (var ! 5 7 refl refl tt) (and-then ! (var ! 5 15 refl refl tt) (no-more !)))
+            (λ m _ g-m m-is _.
+            lands-in ! 5 0 refl tt (typed 𝓤 H A W moveds m g-m) $ move ! (1 ∷ 3 ∷ []) $ unshares-ref ! tt Words h-words words ν δ at-it $
             ends-early ! 4 Kf same refl refl tt $ gives ! (mutRef Words) h-words words $ move ! (1 ∷ 0 ∷ 3 ∷ 2 ∷ []) $
-            by ! (exits r words (ws .1 .1 .0) (same-long .1 .1 .0) good (did (homeOf records (here .live) (here .level)) limit (here .live)
-            (two-led pre e a b (a-is .0) (b-is .0))))))))
+            by ! (exits m words (ws .1 .1 .0) (same-long .1 .1 .0) g-m (does r m m-is (did (homeOf records (here .live) (here .level)) limit (here .live)
+            (two-led pre e a b (a-is .0) (b-is .0))))))))))
 
         threes : many pre ≡ 4 → Sq W (Ctx names y) (runs C Λ E# (arm mir′.s-7) q)
         threes e =
             calls-by ! fm (Calls-second-field 𝓤 H A mem run) known-second-field (to for-names-of) for-names-of refl (g-at, tt) _ (acts.at-there pre)
             (id⊢ 𝓤 _) usizes _ (λ v. id⊢ 𝓤 _) (and-then ! (var ! 4 1 refl refl tt) (and-then ! (part ! 4 7 1 refl refl tt refl refl refl) (no-more !)))
             (λ i _ g-i i-is _.
-            lands-in ! 4 14 refl tt (typed 𝓤 H A W usizes i g-i) $
+            lands-in ! 4 16 refl tt (typed 𝓤 H A W usizes i g-i) $
             calls-by ! fm (Calls-home 𝓤 H A mem run) known-home (to (for-home 1)) (for-home 1) refl (g-here, (small 1 (omega arith), tt)) _
             (three-named pre e i i-is .0) (id⊢ 𝓤 _) usizes _ (λ v. id⊢ 𝓤 _)
             (and-then ! (var ! 4 1 refl refl tt) (and-then ! (var ! 4 3 refl refl tt) (and-then ! (var ! 4 7 refl refl tt) (and-then ! (lit ! tt)
             (no-more !))))) (λ a _ g-a a-is _.
-            lands-in ! 4 15 refl tt (typed 𝓤 H A W usizes a g-a) $
+            lands-in ! 4 17 refl tt (typed 𝓤 H A W usizes a g-a) $
             calls-by ! fm (Calls-home 𝓤 H A mem run) known-home (to (for-home i)) (for-home i) refl (g-here, (g-i, tt)) _
             (three-named pre e i i-is .1) (id⊢ 𝓤 _) usizes _ (λ v. id⊢ 𝓤 _)
-            (and-then ! (var ! 4 1 refl refl tt) (and-then ! (var ! 4 3 refl refl tt) (and-then ! (var ! 4 7 refl refl tt) (and-then ! (var ! 4 14 refl refl tt)
+            (and-then ! (var ! 4 1 refl refl tt) (and-then ! (var ! 4 3 refl refl tt) (and-then ! (var ! 4 7 refl refl tt) (and-then ! (var ! 4 16 refl refl tt)
             (no-more !))))) (λ b _ g-b b-is _.
-            lands-in ! 4 16 refl tt (typed 𝓤 H A W usizes b g-b) $
-            puts ! 4 24 refl (bin ! (var ! 4 14 refl refl tt) (lit ! tt) (record { fits = next-fits pre e i i-is })) tt
+            lands-in ! 4 18 refl tt (typed 𝓤 H A W usizes b g-b) $
+            puts ! 4 28 refl (bin ! (var ! 4 16 refl refl tt) (lit ! tt) (record { fits = next-fits pre e i i-is })) tt
             (tt, record { fits = next-fits pre e i i-is }) $
             calls-by ! fm (Calls-home 𝓤 H A mem run)
             known-home (to (for-home (i + 1))) (for-home (i + 1)) refl (g-here, (small (i + 1) (next-fits pre e i i-is), tt)) _
             (three-named pre e i i-is .2) (id⊢ 𝓤 _) usizes _ (λ v. id⊢ 𝓤 _)
-            (and-then ! (var ! 4 1 refl refl tt) (and-then ! (var ! 4 3 refl refl tt) (and-then ! (var ! 4 7 refl refl tt) (and-then ! (var ! 4 24 refl refl tt)
+            (and-then ! (var ! 4 1 refl refl tt) (and-then ! (var ! 4 3 refl refl tt) (and-then ! (var ! 4 7 refl refl tt) (and-then ! (var ! 4 28 refl refl tt)
             (no-more !))))) (λ c _ g-c c-is _.
-            lands-in ! 4 17 refl tt (typed 𝓤 H A W usizes c g-c) $
-            puts ! 4 25 refl (lent ! 4 2 refl refl tt) tt (tt, tt) $
-            puts ! 4 26 refl (lent-ptr ! 4 4 refl refl tt refl refl) tt (tt, tt) $
-            puts ! 4 27 refl (lent-slice ! 4 4 26 refl refl refl tt tt refl refl) tt (tt, (tt, (record { fits = room-table .0 }, tt))) $
+            lands-in ! 4 19 refl tt (typed 𝓤 H A W usizes c g-c) $
+            puts ! 4 29 refl (lent ! 4 2 refl refl tt) tt (tt, tt) $
+            puts ! 4 30 refl (lent-ptr ! 4 4 refl refl tt refl refl) tt (tt, tt) $
+            puts ! 4 31 refl (lent-slice ! 4 4 30 refl refl refl tt tt refl refl) tt (tt, (tt, (record { fits = room-table .0 }, tt))) $
             move ! (3 ∷ []) $ shares-slice ! tt i32 h-table table (λ ν δ. move ! (2 ∷ 4 ∷ 0 ∷ []) $
             -- [the code; the words; the table, lent; what waits for it; the records; the locals]
             calls-by ! fm (Calls-act-three 𝓤 H A mem run) known-act-three (to (for-act-three ν δ a b c)) (for-act-three ν δ a b c) refl
             (g-pairs, (g-at, (g-a, (g-b, (g-c, tt))))) _ (three-asks pre e i i-is a b c (a-is .0) (b-is .0) (c-is .0)) (id⊢ 𝓤 _) moves _ (λ v. id⊢ 𝓤 _)
-            (and-then ! (var ! 5 1 refl refl tt) (and-then ! (var ! 5 25 refl refl tt) (and-then ! (var ! 5 27 refl refl tt)
+            (and-then ! (var ! 5 1 refl refl tt) (and-then ! (var ! 5 29 refl refl tt) (and-then ! (var ! 5 31 refl refl tt)
             (and-then ! (part ! 5 7 3 refl refl tt refl refl refl) (and-then ! (part ! 5 7 1 refl refl tt refl refl refl)
-            (and-then ! (var ! 5 15 refl refl tt) (and-then ! (var ! 5 16 refl refl tt) (and-then ! (var ! 5 17 refl refl tt) (no-more !)))))))))
+            (and-then ! (var ! 5 17 refl refl tt) (and-then ! (var ! 5 18 refl refl tt) (and-then ! (var ! 5 19 refl refl tt) (no-more !)))))))))
             (λ r ws good did _.
-            lands-in ! 5 0 refl tt (typed 𝓤 H A W moves r good) $ move ! (2 ∷ 3 ∷ []) $ unshares-slice ! tt i32 h-table table ν δ $
+            lands-in ! 5 20 refl tt (typed 𝓤 H A W moves r good) $
+            calls-by ! fm (Calls-came-to 𝓤 H A mem run) known-came-to (to (for-came-to r)) (for-came-to r) refl (g-here, (good, tt)) (Unit {0}) tt
+            (asks-all 𝓤 H A (for-came-to r) []) moveds _ (λ v. id⊢ 𝓤 _) (and-then ! (var ! 5 7 refl refl tt) (and-then ! (var ! 5 20 refl refl tt) (no-more !)))
+            (λ m _ g-m m-is _.
+            lands-in ! 5 0 refl tt (typed 𝓤 H A W moveds m g-m) $ move ! (2 ∷ 3 ∷ []) $ unshares-slice ! tt i32 h-table table ν δ $
             ends-early ! 4 Kf same refl refl tt $ gives ! (mutSlice i32) h-table table $ move ! (1 ∷ 2 ∷ 3 ∷ 0 ∷ []) $
-            by ! (exits r (ws .1 .0) table refl good (did (homeOf records (here .live) (here .level)) group limit (here .live)
-            (three-led pre e i i-is a b c (a-is .0) (b-is .0) (c-is .0))))))))))
+            by ! (exits m (ws .1 .0) table refl g-m (does r m m-is (did (homeOf records (here .live) (here .level)) group limit (here .live)
+            (three-led pre e i i-is a b c (a-is .0) (b-is .0) (c-is .0))))))))))))
 
       ones : (names : ℕ) (y : Bool) → many pre ≡ 1 → Sq W (Ctx names y) (runs C Λ E# mir′.t-8 (atRet E# Kf))
       ones names y e =
           calls-by ! fm (Calls-only-hops 𝓤 H A mem run) known-only-hops (to for-only-hops) for-only-hops refl (g-here, tt) _
           (acts.next-there pre, acts.first-outer pre) (id⊢ 𝓤 _) usizes _ (λ v. id⊢ 𝓤 _) (and-then ! (var ! 4 1 refl refl tt)
           (and-then ! (var ! 4 7 refl refl tt) (no-more !))) (λ n _ g-n n-is _.
-          lands-in ! 4 28 refl tt (typed 𝓤 H A W usizes n g-n) $ move ! (1 ∷ []) $
+          lands-in ! 4 32 refl tt (typed 𝓤 H A W usizes n g-n) $ move ! (1 ∷ []) $
           calls-by ! fm (Calls-follow 𝓤 H A mem run) known-follow (to (for-follow n)) (for-follow n) refl (g-live, (g-n, tt)) _
           (as-linked (linked (pre .running))) (id⊢ 𝓤 _) usizes _ (λ v. id⊢ 𝓤 _) (and-then ! (var ! 4 3 refl refl tt)
-          (and-then ! (part ! 4 7 0 refl refl tt refl refl refl) (and-then ! (var ! 4 28 refl refl tt) (no-more !)))) (λ a _ g-a found _.
-          lands-in ! 4 18 refl tt (typed 𝓤 H A W usizes a g-a) $ puts ! 4 29 refl (lent ! 4 2 refl refl tt) tt (tt, tt) $ move ! (1 ∷ 2 ∷ []) $
+          (and-then ! (part ! 4 7 0 refl refl tt refl refl refl) (and-then ! (var ! 4 32 refl refl tt) (no-more !)))) (λ a _ g-a found _.
+          lands-in ! 4 21 refl tt (typed 𝓤 H A W usizes a g-a) $ puts ! 4 33 refl (lent ! 4 2 refl refl tt) tt (tt, tt) $ move ! (1 ∷ 2 ∷ []) $
           -- [the code; the words; the records; the table; the locals]
           calls-by ! fm (Calls-act-one 𝓤 H A mem run) known-act-one (to (for-act-one a)) (for-act-one a) refl (g-limit, (g-live, (g-at, (g-a, tt)))) _
           (one-asks pre e a n n-is (found .0)) (id⊢ 𝓤 _) moves _ (λ v. id⊢ 𝓤 _)
-          (and-then ! (var ! 4 1 refl refl tt) (and-then ! (var ! 4 29 refl refl tt) (and-then ! (var ! 4 6 refl refl tt)
+          (and-then ! (var ! 4 1 refl refl tt) (and-then ! (var ! 4 33 refl refl tt) (and-then ! (var ! 4 6 refl refl tt)
           (and-then ! (part ! 4 7 0 refl refl tt refl refl refl) (and-then ! (part ! 4 7 1 refl refl tt refl refl refl)
-          (and-then ! (var ! 4 18 refl refl tt) (no-more !))))))) (λ r ws good did _.
-          lands-in ! 4 0 refl tt (typed 𝓤 H A W moves r good) $ ends ! 4 refl refl tt $
+          (and-then ! (var ! 4 21 refl refl tt) (no-more !))))))) (λ r ws good did _.
+          lands-in ! 4 22 refl tt (typed 𝓤 H A W moves r good) $
+          calls-by ! fm (Calls-came-to 𝓤 H A mem run) known-came-to (to (for-came-to r)) (for-came-to r) refl (g-here, (good, tt)) (Unit {0}) tt
+          (asks-all 𝓤 H A (for-came-to r) []) moveds _ (λ v. id⊢ 𝓤 _) (and-then ! (var ! 4 7 refl refl tt) (and-then ! (var ! 4 22 refl refl tt) (no-more !)))
+          (λ m _ g-m m-is _.
+          lands-in ! 4 0 refl tt (typed 𝓤 H A W moveds m g-m) $ ends ! 4 refl refl tt $
           move ! (3 ∷ []) $ gives ! (mutSlice i32) h-table table $ move ! (1 ∷ 2 ∷ 3 ∷ []) $
-          by ! (exits r (ws .1 .0) table refl good (did (homeOf records (here .live) (here .level)) table (here .pairs) group
-          (one-led pre e a n n-is (found .0)))))))
+          by ! (exits m (ws .1 .0) table refl g-m (does r m m-is (did (homeOf records (here .live) (here .level)) table (here .pairs) group
+          (one-led pre e a n n-is (found .0)))))))))
 
     walk : ent 𝓤 (onEntry 𝓤 H A f.signature (lfts ps) (shares ps) (denots 0 ps) (valss 0 ps)) (WpFn 𝓤 H C Λ mine.function (vals ps) Kf)
     walk = via 𝓤 (⋆ 𝓤 H A (ins 𝓤 ps)) (arrives 𝓤 H A W 0 ps) (qed W (ins 𝓤 ps) ∵
@@ -480,11 +516,11 @@ module _ {M : Type 1} (𝓤 : URA M) (H : Heap 𝓤) (A : Atoms 𝓤) (W : Given
         calls-by ! fm (Calls-names-of 𝓤 H A mem run) known-names-of (to for-names-of) for-names-of refl (g-at, tt) _ (acts.at-there pre) (id⊢ 𝓤 _) usizes _
         (λ v. id⊢ 𝓤 _) (and-then ! (var ! 4 1 refl refl tt) (and-then ! (part ! 4 7 1 refl refl tt refl refl refl) (no-more !))) (λ names _ g-names is _.
         lands-in ! 4 8 refl tt (typed 𝓤 H A W usizes names g-names) $
-        puts ! 4 19 refl (bin ! (var ! 4 8 refl refl tt) (lit ! tt) tt) tt (tt, tt) $ if-then ! (var ! 4 19 refl refl tt)
+        puts ! 4 23 refl (bin ! (var ! 4 8 refl refl tt) (lit ! tt) tt) tt (tt, tt) $ if-then ! (var ! 4 23 refl refl tt)
         (λ y. sums β names _ _ refl (taken pre names 3 is y)) (λ not-three.
-        puts ! 4 19 refl (bin ! (var ! 4 8 refl refl tt) (lit ! tt) tt) tt (tt, tt) $ if-then ! (var ! 4 19 refl refl tt)
+        puts ! 4 23 refl (bin ! (var ! 4 8 refl refl tt) (lit ! tt) tt) tt (tt, tt) $ if-then ! (var ! 4 23 refl refl tt)
         (λ y. pairs β names _ _ refl (taken pre names 2 is y)) (λ not-two.
-        puts ! 4 19 refl (bin ! (var ! 4 8 refl refl tt) (lit ! tt) tt) tt (tt, tt) $ if-then ! (var ! 4 19 refl refl tt)
+        puts ! 4 23 refl (bin ! (var ! 4 8 refl refl tt) (lit ! tt) tt) tt (tt, tt) $ if-then ! (var ! 4 23 refl refl tt)
         (λ y. threes β names _ _ refl (taken pre names 4 is y)) (λ not-four.
         ones β names _ (left-over pre names is (missed pre names 3 not-three) (missed pre names 2 not-two) (missed pre names 4 not-four))))))))
 
@@ -493,7 +529,8 @@ module _ {M : Type 1} (𝓤 : URA M) (H : Heap 𝓤) (A : Atoms 𝓤) (W : Given
     (known-act-two : Triple 𝓤 (𝓣 .C #act-two) (Calls-act-two 𝓤 H A mem run)) (known-act-sum : Triple 𝓤 (𝓣 .C #act-sum) (Calls-act-sum 𝓤 H A mem run))
     (known-act-three : Triple 𝓤 (𝓣 .C #act-three) (Calls-act-three 𝓤 H A mem run)) (known-home : Triple 𝓤 (𝓣 .C #home) (Calls-home 𝓤 H A mem run))
     (known-follow : Triple 𝓤 (𝓣 .C #follow) (Calls-follow 𝓤 H A mem run)) (known-only-hops : Triple 𝓤 (𝓣 .C #only-hops) (Calls-only-hops 𝓤 H A mem run))
-    (known-second-field : Triple 𝓤 (𝓣 .C #second-field) (Calls-second-field 𝓤 H A mem run)) where
+    (known-second-field : Triple 𝓤 (𝓣 .C #second-field) (Calls-second-field 𝓤 H A mem run))
+    (known-came-to : Triple 𝓤 (𝓣 .C #came-to) (Calls-came-to 𝓤 H A mem run)) where
   walks : Walks 𝓤 H A f.ended stayed (WpFn 𝓤 H (𝓣 .C) (𝓣 .Λ) mine.function) (f.clauses 𝓤 H A mem run)
   walks = walked 𝓤 H A f.ended stayed (f.clauses 𝓤 H A mem run) (WpFn 𝓤 H (𝓣 .C) (𝓣 .Λ) mine.function)
       (λ κs. (
@@ -523,7 +560,7 @@ module _ {M : Type 1} (𝓤 : URA M) (H : Heap 𝓤) (A : Atoms 𝓤) (W : Given
       (qs .0) (qs .1 .0) (qs .1 .1 .0) (qs .1 .1 .1 .0) (a .0) (a .1 .0) (a .1 .1 .0) (a .1 .1 .1 .0) (a .1 .1 .1 .1 .0)
       (a .1 .1 .1 .1 .1 .0) (a .1 .1 .1 .1 .1 .1 .0) (are .1 .1 .0 .0 .1) (are .1 .1 .1 .0 .0 .1) (are .1 .1 .1 .1 .0) (are .1 .1 .1 .1 .1 .0)
       (are .1 .1 .1 .1 .1 .1 .0) l (𝓣 .C) (𝓣 .Λ) (fmOf 𝓤 H (W .laws) 𝓣)
-      known-names-of known-act-one known-act-two known-act-sum known-act-three known-home known-follow known-only-hops known-second-field))
+      known-names-of known-act-one known-act-two known-act-sum known-act-three known-home known-follow known-only-hops known-second-field known-came-to))
 
   meets : Meets 𝓤 H A f.signature (WpFn 𝓤 H (𝓣 .C) (𝓣 .Λ) mine.function) (f.spec 𝓤 H A mem run)
   meets = walk-meets 𝓤 H A f.ended stayed W (
@@ -562,4 +599,5 @@ acted-spec 𝓤 H 𝓜 𝓖 𝓡 =
     (cited 𝓤 H (Calls-home 𝓤 H (𝓖 .A) (𝓜 .mem) (𝓡 .run)) 𝓜 𝓡 mine.env #home home-def.routine mine.calls-links·home (home-thm.met 𝓤 H 𝓜 𝓖 𝓡))
     (cited 𝓤 H (Calls-follow 𝓤 H (𝓖 .A) (𝓜 .mem) (𝓡 .run)) 𝓜 𝓡 mine.env #follow follow-def.routine mine.calls-activations·follow (follow-thm.met 𝓤 H 𝓜 𝓖 𝓡))
     (cited 𝓤 H (Calls-only-hops 𝓤 H (𝓖 .A) (𝓜 .mem) (𝓡 .run)) 𝓜 𝓡 mine.env #only-hops only-hops-def.routine mine.calls-chain-steps·acted·only-hops (only-hops-thm.met 𝓤 H 𝓜 𝓖 𝓡))
-    (cited 𝓤 H (Calls-second-field 𝓤 H (𝓖 .A) (𝓜 .mem) (𝓡 .run)) 𝓜 𝓡 mine.env #second-field second-field-def.routine mine.calls-chain-steps·acted·second-field (second-field-thm.met 𝓤 H 𝓜 𝓖 𝓡)))
+    (cited 𝓤 H (Calls-second-field 𝓤 H (𝓖 .A) (𝓜 .mem) (𝓡 .run)) 𝓜 𝓡 mine.env #second-field second-field-def.routine mine.calls-chain-steps·acted·second-field (second-field-thm.met 𝓤 H 𝓜 𝓖 𝓡))
+    (cited 𝓤 H (Calls-came-to 𝓤 H (𝓖 .A) (𝓜 .mem) (𝓡 .run)) 𝓜 𝓡 mine.env #came-to came-to-def.routine mine.calls-chain-steps·turn·came-to (came-to-thm.met 𝓤 H 𝓜 𝓖 𝓡)))

@@ -40,10 +40,9 @@ use Rattle.lending.specs.Calls.{to, calls-by}
 use Rattle.lending.specs.Frames.{begins, tysOf}
 use Rattle.lending.specs.Locals.{var, part, lent, lent-ptr, lent-slice, puts, lands-in, ends, if-then}
 use Rattle.lending.specs.Lends.{lends-ref, back-ref, lends-slice, back-slice, shares-slice, unshares-slice, relent}
-use Rattle.acting.specs.declared.Move.{Move}
 use Rattle.acting.specs.Acting.{acting}
 use Rattle.chain_statements.specs.Finding.{byHome}
-use Rattle.chain_statements.specs.Asking.{Did, sceneOf}
+use Rattle.chain_statements.specs.Asking.{sceneOf}
 use Rattle.activations.specs.Records.{at}
 use Rattle.activations.specs.declared.Activation.{Activation}
 use Rattle.links.specs.declared.Now.{Now}
@@ -54,13 +53,16 @@ use Rattle.links.specs.Moving.{room-there, block-fits}
 use Rattle.links.proofs.Rows.{Code, Words, Rec, recs, nows, entries, fields-of-now}
 use Rattle.chain_steps.specs.declared.turn.Turn.{Turn}
 use Rattle.chain_steps.specs.declared.turn.Turn.the-variants.{Went}
-use Rattle.chain_steps.specs.Moves.{staysIn, stayedBy, isEntry, entryOf, homeAt, placeAt}
+use Rattle.chain_steps.specs.declared.turn.Moved.{Moved}
+use Rattle.chain_steps.specs.Moves.{staysIn, isEntry, entryOf, homeAt, placeAt}
+use Rattle.chain_steps.specs.Moved.{isDone, turnOf, isEnter, entryIn, homeIn, placeIn}
+use Rattle.chain_steps.specs.Moved as by-move
 use Rattle.chain_steps.specs.Turning.{Turned, LeaveReady}
 use Rattle.chain_steps.specs.Turns as turned
-use Rattle.chain_steps.specs.Acted.{Stating}
+use Rattle.chain_steps.specs.Acted.{Stating, Does}
 use Rattle.lending.specs.Clauses.{asks-all}
 use Rattle.lending.specs.Early.{ends-early, told, untold, not-equal}
-use Rattle.chain_steps.proofs.Rows.{moves, turns}
+use Rattle.chain_steps.proofs.Rows.{moveds, turns}
 use Rattle.chain_steps.proofs.stepped.leave as leave
 use Rattle.chain_steps.proofs.stepped.leave.Symbol as leave-def
 use Rattle.chain_steps.proofs.stepped.leave.Symbol.{name as #leave}
@@ -69,14 +71,14 @@ use Rattle.chain_steps.proofs.acted.acted as acted
 use Rattle.chain_steps.proofs.acted.acted.Symbol as acted-def
 use Rattle.chain_steps.proofs.acted.acted.Symbol.{name as #acted}
 use Rattle.chain_steps.proofs.acted.acted.Met as acted-thm
-use Rattle.chain_steps.proofs.turn.stays as stays
-use Rattle.chain_steps.proofs.turn.stays.Symbol as stays-def
-use Rattle.chain_steps.proofs.turn.stays.Symbol.{name as #stays}
-use Rattle.chain_steps.proofs.turn.stays.Met as stays-thm
-use Rattle.chain_steps.proofs.turn.stayed as stayed-by
-use Rattle.chain_steps.proofs.turn.stayed.Symbol as stayed-by-def
-use Rattle.chain_steps.proofs.turn.stayed.Symbol.{name as #stayed-by}
-use Rattle.chain_steps.proofs.turn.stayed.Met as stayed-by-thm
+use Rattle.chain_steps.proofs.turn.is_done as is-done
+use Rattle.chain_steps.proofs.turn.is_done.Symbol as is-done-def
+use Rattle.chain_steps.proofs.turn.is_done.Symbol.{name as #is-done}
+use Rattle.chain_steps.proofs.turn.is_done.Met as is-done-thm
+use Rattle.chain_steps.proofs.turn.turn_of as turn-of
+use Rattle.chain_steps.proofs.turn.turn_of.Symbol as turn-of-def
+use Rattle.chain_steps.proofs.turn.turn_of.Symbol.{name as #turn-of}
+use Rattle.chain_steps.proofs.turn.turn_of.Met as turn-of-thm
 use Rattle.chain_steps.proofs.turn.enters as enters
 use Rattle.chain_steps.proofs.turn.enters.Symbol as enters-def
 use Rattle.chain_steps.proofs.turn.enters.Symbol.{name as #enters}
@@ -116,11 +118,11 @@ Calls-leave 𝓤 H A mem run = tripleOf 𝓤 H A leave.signature (leave.spec �
 abbrev Calls-acted : {M : Type 1} (𝓤 : URA M) (H : Heap 𝓤) (A : Atoms 𝓤) → (Memory → SProp 𝓤) → (Routine → Fun 𝓤) → Contract 𝓤
 Calls-acted 𝓤 H A mem run = tripleOf 𝓤 H A acted.signature (acted.spec 𝓤 H A mem run)
 
-abbrev Calls-stays : {M : Type 1} (𝓤 : URA M) (H : Heap 𝓤) (A : Atoms 𝓤) → (Memory → SProp 𝓤) → (Routine → Fun 𝓤) → Contract 𝓤
-Calls-stays 𝓤 H A mem run = tripleOf 𝓤 H A stays.signature (stays.spec 𝓤 H A mem run)
+abbrev Calls-is-done : {M : Type 1} (𝓤 : URA M) (H : Heap 𝓤) (A : Atoms 𝓤) → (Memory → SProp 𝓤) → (Routine → Fun 𝓤) → Contract 𝓤
+Calls-is-done 𝓤 H A mem run = tripleOf 𝓤 H A is-done.signature (is-done.spec 𝓤 H A mem run)
 
-abbrev Calls-stayed-by : {M : Type 1} (𝓤 : URA M) (H : Heap 𝓤) (A : Atoms 𝓤) → (Memory → SProp 𝓤) → (Routine → Fun 𝓤) → Contract 𝓤
-Calls-stayed-by 𝓤 H A mem run = tripleOf 𝓤 H A stayed-by.signature (stayed-by.spec 𝓤 H A mem run)
+abbrev Calls-turn-of : {M : Type 1} (𝓤 : URA M) (H : Heap 𝓤) (A : Atoms 𝓤) → (Memory → SProp 𝓤) → (Routine → Fun 𝓤) → Contract 𝓤
+Calls-turn-of 𝓤 H A mem run = tripleOf 𝓤 H A turn-of.signature (turn-of.spec 𝓤 H A mem run)
 
 abbrev Calls-enters : {M : Type 1} (𝓤 : URA M) (H : Heap 𝓤) (A : Atoms 𝓤) → (Memory → SProp 𝓤) → (Routine → Fun 𝓤) → Contract 𝓤
 Calls-enters 𝓤 H A mem run = tripleOf 𝓤 H A enters.signature (enters.spec 𝓤 H A mem run)
@@ -156,26 +158,51 @@ module _ (code : List ℕ) (words : List ℤ) (records : List Activation) (table
       → Said r words records table
   left-so e r k w = turned.left-on w e r k
 
-  module _ (before : here .at ≡ here .end → ⊥) (done : Move) (words′ table′ : List ℤ)
-      (did : Did (acting (byHome words (homeOf records (here .live) (here .level)))
-      (sceneOf code words table (here .pairs) group limit (here .live) (here .at))) words done words′ table′) where
-    stayed-so : staysIn here done ≡ true → (r : Turn) → r ≡ stayedBy here done → Said r words′ records table′
-    stayed-so z r e w = subst (λ (t : Turn). Turned w t words′ records table′) (sym e) (turned.stays w before done words′ table′ did z)
+  module _ (before : here .at ≡ here .end → ⊥) (moved : Moved) (words′ table′ : List ℤ)
+      (does : Does (acting (byHome words (homeOf records (here .live) (here .level)))
+      (sceneOf code words table (here .pairs) group limit (here .live) (here .at))) words here moved words′ table′) where
+    stays-is : isDone moved ≡ staysIn here (does .move)
+    stays-is = ap isDone (does .so) ∙ by-move.done-so here (does .move)
 
-    module _ (y : isEntry done ≡ true) (entry : Entry) (entry-is : entry ≡ entryOf done) where
+    stayed-so : isDone moved ≡ true → (r : Turn) → r ≡ turnOf moved → Said r words′ records table′
+    stayed-so z r e w =
+        let z′ = sym stays-is ∙ z in
+        subst (λ (t : Turn). Turned w t words′ records table′) (sym (e ∙ ap turnOf (does .so) ∙ by-move.turn-so here (does .move) z′))
+        (turned.stays w before (does .move) words′ table′ (does .did) z′)
+
+    enters-is : isEnter moved ≡ isEntry (does .move)
+    enters-is = ap isEnter (does .so) ∙ by-move.entry-so here (does .move) .0
+
+    module _ (y : isEnter moved ≡ true) (entry : Entry) (entry-is : entry ≡ entryIn moved) where
+      entry-by : entry ≡ entryOf (does .move)
+      entry-by = entry-is ∙ ap entryIn (does .so) ∙ by-move.entry-so here (does .move) .1
+
       ready : EnterReady code words′ records here entry
-      ready = subst (EnterReady code words′ records here) (sym entry-is) (turned.enter-ready pre before done words′ table′ did y)
+      ready = subst (EnterReady code words′ records here) (sym entry-by)
+          (turned.enter-ready pre before (does .move) words′ table′ (does .did) (sym enters-is ∙ y))
 
       entered-so : (words″ : List ℤ) (records″ : List Activation) (n : Now)
           → ((v : EnterReady code words′ records here entry) → Succeeds (v .running) words″ records″ (v .table) n)
           → (r : Turn) → r ≡ Went n → Said r words″ records″ table′
       entered-so words″ records″ n k r e w = subst (λ (t : Turn). Turned w t words″ records″ table′) (sym e)
-          (turned.entered-on w before done words′ table′ did y words″ records″ n
-          (subst (λ (x : Entry). (v : EnterReady code words′ records here x) → Succeeds (v .running) words″ records″ (v .table) n) entry-is k))
+          (turned.entered-on w before (does .move) words′ table′ (does .did) (sym enters-is ∙ y) words″ records″ n
+          (subst (λ (x : Entry). (v : EnterReady code words′ records here x) → Succeeds (v .running) words″ records″ (v .table) n) entry-by k))
 
-    module _ (z : staysIn here done ≡ false) (y : isEntry done ≡ false) (home : ℕ) (home-is : home ≡ homeAt done) where
+    module _ (z : isDone moved ≡ false) (y : isEnter moved ≡ false) (home : ℕ) (home-is : home ≡ homeIn moved) where
+      z′ : staysIn here (does .move) ≡ false
+      z′ = sym stays-is ∙ z
+
+      y′ : isEntry (does .move) ≡ false
+      y′ = sym enters-is ∙ y
+
+      home-by : homeIn moved ≡ homeAt (does .move)
+      home-by = ap homeIn (does .so) ∙ by-move.resumed-so here (does .move) z′ .0
+
+      place-by : placeIn moved ≡ placeAt (does .move)
+      place-by = ap placeIn (does .so) ∙ by-move.resumed-so here (does .move) z′ .1
+
       below : home ≤ here .live
-      below = omega (arith, home-is, turned.home-below pre before done words′ table′ did z y)
+      below = omega (arith, home-is ∙ home-by, turned.home-below pre before (does .move) words′ table′ (does .did) z′ y′)
 
       there : home < length records
       there = room-there pre home below .there
@@ -184,9 +211,10 @@ module _ (code : List ℕ) (words : List ℤ) (records : List Activation) (table
         fits : a .block + 3 ≤ 4096
         fits = let h = block-fits pre home below in omega (arith, h, ap (λ (b : Activation). b .block) a-is)
 
-        resumed-so : (r : Turn) → r ≡ Went (nowBy code (a .block) (homeAt done) (placeAt done) (here .pairs)) → Said r words′ records table′
-        resumed-so r e w = subst (λ (t : Turn). Turned w t words′ records table′) (sym e)
-            (turned.resumed-on w before done words′ table′ did z y a (a-is ∙ ap (at records) home-is))
+        resumed-so : (r : Turn) → r ≡ Went (nowBy code (a .block) (homeIn moved) (placeIn moved) (here .pairs)) → Said r words′ records table′
+        resumed-so r e w = subst (λ (t : Turn). Turned w t words′ records table′)
+            (sym (e ∙ (λ i. Went (nowBy code (a .block) (home-by i) (place-by i) (here .pairs)))))
+            (turned.resumed-on w before (does .move) words′ table′ (does .did) z′ y′ a (a-is ∙ ap (at records) (home-is ∙ home-by)))
 
 module _ {M : Type 1} (𝓤 : URA M) (H : Heap 𝓤) (A : Atoms 𝓤) (W : Given 𝓤 H A) (mem : Memory → SProp 𝓤) (run : Routine → Fun 𝓤) (κ0 κ1 κ2 κ3 : Lft) (q0 q1 q2 q3 : Share)
     (code# : RefT (List ℕ)) (words# : RefT (List ℤ)) (records# : RefT (List Activation)) (table# : RefT (List ℤ)) (group : ℕ) (limit : ℕ) (here : Now)
@@ -251,11 +279,8 @@ module _ {M : Type 1} (𝓤 : URA M) (H : Heap 𝓤) (A : Atoms 𝓤) (W : Given
   for-acted ν₁ δ₁ ν₂ δ₂ ν₃ δ₃ = brw (shrRef Code) h-code code ∷ brw (mutRef Words) (relent h-words ν₁ δ₁) words ∷ brw (shrSlice Rec)
       (relent h-records ν₂ δ₂) records ∷ brw (mutSlice i32) (relent h-table ν₃ δ₃) table ∷ dat words32 group ∷ dat usizes limit ∷ dat nows here ∷ []
 
-  abbrev for-stays : Move → List Par
-  for-stays done = dat nows here ∷ dat moves done ∷ []
-
-  abbrev for-move : Move → List Par
-  for-move done = dat moves done ∷ []
+  abbrev for-move : Moved → List Par
+  for-move done = dat moveds done ∷ []
 
   abbrev for-enter : List ℤ → Entry → List Par
   for-enter words′ entry = brw (shrRef Code) h-code code ∷ brw (mutRef Words) h-words words′ ∷ brw (mutSlice Rec) h-records records ∷ dat nows here ∷ dat entries entry ∷ []
@@ -266,10 +291,10 @@ module _ {M : Type 1} (𝓤 : URA M) (H : Heap 𝓤) (A : Atoms 𝓤) (W : Given
   abbrev for-read : ℕ → ℕ → GName → List Par
   for-read home ν δ = brw (shrSlice Rec) (relent h-records ν δ) records ∷ dat usizes home ∷ []
 
-  abbrev for-resumed : Move → Activation → List Par
-  for-resumed done a = brw (shrRef Code) h-code code ∷ dat nows here ∷ dat moves done ∷ dat recs a ∷ []
+  abbrev for-resumed : Moved → Activation → List Par
+  for-resumed done a = brw (shrRef Code) h-code code ∷ dat nows here ∷ dat moveds done ∷ dat recs a ∷ []
 
-  module _ (C : Calls 𝓤 H) (Λ : Loops 𝓤 H) (fm : FmC 𝓤 H (W .laws) C) (known-leave : Triple 𝓤 (C #leave) (Calls-leave 𝓤 H A mem run)) (known-acted : Triple 𝓤 (C #acted) (Calls-acted 𝓤 H A mem run)) (known-stays : Triple 𝓤 (C #stays) (Calls-stays 𝓤 H A mem run)) (known-stayed-by : Triple 𝓤 (C #stayed-by) (Calls-stayed-by 𝓤 H A mem run)) (known-enters : Triple 𝓤 (C #enters) (Calls-enters 𝓤 H A mem run)) (known-entry-of : Triple 𝓤 (C #entry-of) (Calls-entry-of 𝓤 H A mem run)) (known-enter : Triple 𝓤 (C #enter) (Calls-enter 𝓤 H A mem run)) (known-went : Triple 𝓤 (C #went) (Calls-went 𝓤 H A mem run)) (known-home-of : Triple 𝓤 (C #home-of) (Calls-home-of 𝓤 H A mem run)) (known-read : Triple 𝓤 (C #read) (Calls-read 𝓤 H A mem run)) (known-resumed : Triple 𝓤 (C #resumed) (Calls-resumed 𝓤 H A mem run)) where
+  module _ (C : Calls 𝓤 H) (Λ : Loops 𝓤 H) (fm : FmC 𝓤 H (W .laws) C) (known-leave : Triple 𝓤 (C #leave) (Calls-leave 𝓤 H A mem run)) (known-acted : Triple 𝓤 (C #acted) (Calls-acted 𝓤 H A mem run)) (known-is-done : Triple 𝓤 (C #is-done) (Calls-is-done 𝓤 H A mem run)) (known-turn-of : Triple 𝓤 (C #turn-of) (Calls-turn-of 𝓤 H A mem run)) (known-enters : Triple 𝓤 (C #enters) (Calls-enters 𝓤 H A mem run)) (known-entry-of : Triple 𝓤 (C #entry-of) (Calls-entry-of 𝓤 H A mem run)) (known-enter : Triple 𝓤 (C #enter) (Calls-enter 𝓤 H A mem run)) (known-went : Triple 𝓤 (C #went) (Calls-went 𝓤 H A mem run)) (known-home-of : Triple 𝓤 (C #home-of) (Calls-home-of 𝓤 H A mem run)) (known-read : Triple 𝓤 (C #read) (Calls-read 𝓤 H A mem run)) (known-resumed : Triple 𝓤 (C #resumed) (Calls-resumed 𝓤 H A mem run)) where
     abbrev τs : List Ty
     τs = tysOf (mine.function .locals)
 
@@ -298,18 +323,18 @@ module _ {M : Type 1} (𝓤 : URA M) (H : Heap 𝓤) (A : Atoms 𝓤) (W : Given
         move ! (1 ∷ []) $ lends-ref ! tt Words h-words words (λ at-words ν₁ δ₁. move ! (3 ∷ []) $ shares-slice ! tt Rec h-records records (λ ν₂ δ₂.
         move ! (5 ∷ []) $ lends-slice ! tt i32 h-table table (λ ν₃ δ₃. move ! (6 ∷ 4 ∷ 2 ∷ 0 ∷ []) $
         -- [the code; the words, the records and the table, lent; what waits for the table, the records and the words; the locals]
-        calls-by ! fm (Calls-acted 𝓤 H A mem run) known-acted (to (for-acted ν₁ δ₁ ν₂ δ₂ ν₃ δ₃)) (for-acted ν₁ δ₁ ν₂ δ₂ ν₃ δ₃) refl (g-group, (g-limit, (g-here, tt))) _ (record { running = pre; before = before }) (id⊢ 𝓤 _) moves _ (λ v. id⊢ 𝓤 _)
+        calls-by ! fm (Calls-acted 𝓤 H A mem run) known-acted (to (for-acted ν₁ δ₁ ν₂ δ₂ ν₃ δ₃)) (for-acted ν₁ δ₁ ν₂ δ₂ ν₃ δ₃) refl (g-group, (g-limit, (g-here, tt))) _ (record { running = pre; before = before }) (id⊢ 𝓤 _) moveds _ (λ v. id⊢ 𝓤 _)
         (and-then ! (var ! 7 1 refl refl tt) (and-then ! (var ! 7 13 refl refl tt) (and-then ! (var ! 7 15 refl refl tt) (and-then ! (var ! 7 17 refl refl tt) (and-then ! (var ! 7 5 refl refl tt) (and-then ! (var ! 7 6 refl refl tt) (and-then ! (var ! 7 7 refl refl tt) (no-more !)))))))) (λ done ws g-done did same.
-        lands-in ! 7 8 refl tt (typed 𝓤 H A W moves done g-done) $
+        lands-in ! 7 8 refl tt (typed 𝓤 H A W moveds done g-done) $
         move ! (1 ∷ 6 ∷ []) $ back-ref ! tt Words h-words words (ws .1 .0) ν₁ δ₁ at-words $
         move ! (2 ∷ 5 ∷ []) $ unshares-slice ! tt Rec h-records records ν₂ δ₂ $
         move ! (3 ∷ 4 ∷ []) $ back-slice ! tt i32 h-table table (ws .1 .1 .1 .0) ν₃ δ₃ (same .1 .1 .1 .0) $ move ! (3 ∷ 2 ∷ 1 ∷ []) $
         -- [the code; the words; the records; the table; the locals]
-        calls-by ! fm (Calls-stays 𝓤 H A mem run) known-stays (to (for-stays done)) (for-stays done) refl (g-here, (g-done, tt)) (Unit {0}) tt (asks-all 𝓤 H A (for-stays done) []) bools _ (λ v. id⊢ 𝓤 _)
-        (and-then ! (var ! 4 7 refl refl tt) (and-then ! (var ! 4 8 refl refl tt) (no-more !))) (λ y _ _ y-is _.
+        calls-by ! fm (Calls-is-done 𝓤 H A mem run) known-is-done (to (for-move done)) (for-move done) refl (g-done, tt) (Unit {0}) tt (asks-all 𝓤 H A (for-move done) []) bools _ (λ v. id⊢ 𝓤 _)
+        (and-then ! (var ! 4 8 refl refl tt) (no-more !)) (λ y _ _ y-is _.
         lands-in ! 4 18 refl tt (tt, tt) $ if-then ! (var ! 4 18 refl refl tt)
-        (λ t₁. calls-by ! fm (Calls-stayed-by 𝓤 H A mem run) known-stayed-by (to (for-stays done)) (for-stays done) refl (g-here, (g-done, tt)) (Unit {0}) tt (asks-all 𝓤 H A (for-stays done) []) turns _ (λ v. id⊢ 𝓤 _)
-        (and-then ! (var ! 4 7 refl refl tt) (and-then ! (var ! 4 8 refl refl tt) (no-more !))) (λ r _ good e _.
+        (λ t₁. calls-by ! fm (Calls-turn-of 𝓤 H A mem run) known-turn-of (to (for-move done)) (for-move done) refl (g-done, tt) (Unit {0}) tt (asks-all 𝓤 H A (for-move done) []) turns _ (λ v. id⊢ 𝓤 _)
+        (and-then ! (var ! 4 8 refl refl tt) (no-more !)) (λ r _ good e _.
         lands-in ! 4 0 refl tt (typed 𝓤 H A W turns r good) $ ends-early ! 4 Post refl refl refl tt $
         exits-with r (ws .1 .0) (ws .1 .1 .1 .0) (same .1 .1 .1 .0) good
         (stayed-so code words records table group limit here pre before done (ws .1 .0) (ws .1 .1 .1 .0) did (sym y-is ∙ told y t₁) r e)))
@@ -349,13 +374,13 @@ module _ {M : Type 1} (𝓤 : URA M) (H : Heap 𝓤) (A : Atoms 𝓤) (W : Given
         (resumed-so code words records table group limit here pre before done (ws .1 .0) (ws .1 .1 .1 .0) did z v home home-is a a-is r e))))))))))))))))
 
 module _ {M : Type 1} (𝓤 : URA M) (H : Heap 𝓤) (A : Atoms 𝓤) (W : Given 𝓤 H A) (mem : Memory → SProp 𝓤) (run : Routine → Fun 𝓤) (𝓣 : Tables 𝓤 H)
-    (known-leave : Triple 𝓤 (𝓣 .C #leave) (Calls-leave 𝓤 H A mem run)) (known-acted : Triple 𝓤 (𝓣 .C #acted) (Calls-acted 𝓤 H A mem run)) (known-stays : Triple 𝓤 (𝓣 .C #stays) (Calls-stays 𝓤 H A mem run)) (known-stayed-by : Triple 𝓤 (𝓣 .C #stayed-by) (Calls-stayed-by 𝓤 H A mem run)) (known-enters : Triple 𝓤 (𝓣 .C #enters) (Calls-enters 𝓤 H A mem run)) (known-entry-of : Triple 𝓤 (𝓣 .C #entry-of) (Calls-entry-of 𝓤 H A mem run)) (known-enter : Triple 𝓤 (𝓣 .C #enter) (Calls-enter 𝓤 H A mem run)) (known-went : Triple 𝓤 (𝓣 .C #went) (Calls-went 𝓤 H A mem run)) (known-home-of : Triple 𝓤 (𝓣 .C #home-of) (Calls-home-of 𝓤 H A mem run)) (known-read : Triple 𝓤 (𝓣 .C #read) (Calls-read 𝓤 H A mem run)) (known-resumed : Triple 𝓤 (𝓣 .C #resumed) (Calls-resumed 𝓤 H A mem run)) where
+    (known-leave : Triple 𝓤 (𝓣 .C #leave) (Calls-leave 𝓤 H A mem run)) (known-acted : Triple 𝓤 (𝓣 .C #acted) (Calls-acted 𝓤 H A mem run)) (known-is-done : Triple 𝓤 (𝓣 .C #is-done) (Calls-is-done 𝓤 H A mem run)) (known-turn-of : Triple 𝓤 (𝓣 .C #turn-of) (Calls-turn-of 𝓤 H A mem run)) (known-enters : Triple 𝓤 (𝓣 .C #enters) (Calls-enters 𝓤 H A mem run)) (known-entry-of : Triple 𝓤 (𝓣 .C #entry-of) (Calls-entry-of 𝓤 H A mem run)) (known-enter : Triple 𝓤 (𝓣 .C #enter) (Calls-enter 𝓤 H A mem run)) (known-went : Triple 𝓤 (𝓣 .C #went) (Calls-went 𝓤 H A mem run)) (known-home-of : Triple 𝓤 (𝓣 .C #home-of) (Calls-home-of 𝓤 H A mem run)) (known-read : Triple 𝓤 (𝓣 .C #read) (Calls-read 𝓤 H A mem run)) (known-resumed : Triple 𝓤 (𝓣 .C #resumed) (Calls-resumed 𝓤 H A mem run)) where
   walks : Walks 𝓤 H A f.ended stayed (WpFn 𝓤 H (𝓣 .C) (𝓣 .Λ) mine.function) (f.clauses 𝓤 H A mem run)
   walks = walked 𝓤 H A f.ended stayed (f.clauses 𝓤 H A mem run) (WpFn 𝓤 H (𝓣 .C) (𝓣 .Λ) mine.function)
       (λ κs. (ptr-vals, (ptr-vals, (slice-vals, (slice-vals, ((λ (x : ℕ). words32 .val x ∷ []), ((λ (x : ℕ). usizes .val x ∷ []), ((λ (x : Now). nows .val x ∷ []), tt)))))))) (λ κs. (shr-tells (named 0) (κs .0) Code, (mut-tells (named 1) (κs .1 .0) Words, (mut-slice-tells (named 2) (κs .1 .1 .0) Rec, (mut-slice-tells (named 3) (κs .1 .1 .1 .0) i32, (words32 .tells, (usizes .tells, (nows .tells, tt))))))))
       (λ κs qs bounds a g are. needs 𝓤 (Running ((a .0) .now) (a .1 .1 .1 .1 .1 .0) (a .1 .1 .1 .1 .0) ((a .1 .0) .now) ((a .1 .1 .0) .now) ((a .1 .1 .1 .0) .now)
       (a .1 .1 .1 .1 .1 .1 .0)) _ (λ l. walk 𝓤 H A W mem run (κs .0) (κs .1 .0) (κs .1 .1 .0) (κs .1 .1 .1 .0) (qs .0) (qs .1 .0) (qs .1 .1 .0) (qs .1 .1 .1 .0) (a .0) (a .1 .0) (a .1 .1 .0) (a .1 .1 .1 .0) (a .1 .1 .1 .1 .0) (a .1 .1 .1 .1 .1 .0) (a .1 .1 .1 .1 .1 .1 .0) (are .1 .1 .0 .0 .1) (are .1 .1 .1 .0 .0 .1) (are .1 .1 .1 .1 .0) (are .1 .1 .1 .1 .1 .0) (are .1 .1 .1 .1 .1 .1 .0) l
-      (𝓣 .C) (𝓣 .Λ) (fmOf 𝓤 H (W .laws) 𝓣) known-leave known-acted known-stays known-stayed-by known-enters known-entry-of known-enter known-went known-home-of known-read known-resumed))
+      (𝓣 .C) (𝓣 .Λ) (fmOf 𝓤 H (W .laws) 𝓣) known-leave known-acted known-is-done known-turn-of known-enters known-entry-of known-enter known-went known-home-of known-read known-resumed))
 
   meets : Meets 𝓤 H A f.signature (WpFn 𝓤 H (𝓣 .C) (𝓣 .Λ) mine.function) (f.spec 𝓤 H A mem run)
   meets = walk-meets 𝓤 H A f.ended stayed W (goes-none-ref 𝓤 H A W 4 (0 ∷ []) tt (arrayOf (plain (λ _. u32)) 4096) yes, (goes-gave-ref 𝓤 H A W 4 1 tt (arrayOf (plain (λ _. i32)) 8224), (goes-gave-slice 𝓤 H A W 4 2 tt (plain (λ _. recs .type)), (goes-gave-slice 𝓤 H A W 4 3 tt (plain (λ _. i32)), (goes-none 𝓤 H A W 4 (λ _. words32 .type) yes (λ κs x f. refl), (goes-none 𝓤 H A W 4 (λ _. usizes .type) yes (λ κs x f. refl), (goes-none 𝓤 H A W 4 (λ _. nows .type) yes (λ κs x f. refl), tt))))))) (f.clauses 𝓤 H A mem run)
@@ -369,8 +394,8 @@ step-spec 𝓤 H 𝓜 𝓖 𝓡 =
     (meets 𝓤 H (𝓖 .A) (givenOf 𝓤 H 𝓜 𝓖) (𝓜 .mem) (𝓡 .run) (tablesOf 𝓤 H 𝓜 (tables 𝓤 H 𝓜 𝓡 mine.env))
     (cited 𝓤 H (Calls-leave 𝓤 H (𝓖 .A) (𝓜 .mem) (𝓡 .run)) 𝓜 𝓡 mine.env #leave leave-def.routine mine.calls-chain-steps·stepped·leave (leave-thm.met 𝓤 H 𝓜 𝓖 𝓡))
     (cited 𝓤 H (Calls-acted 𝓤 H (𝓖 .A) (𝓜 .mem) (𝓡 .run)) 𝓜 𝓡 mine.env #acted acted-def.routine mine.calls-chain-steps·acted·acted (acted-thm.met 𝓤 H 𝓜 𝓖 𝓡))
-    (cited 𝓤 H (Calls-stays 𝓤 H (𝓖 .A) (𝓜 .mem) (𝓡 .run)) 𝓜 𝓡 mine.env #stays stays-def.routine mine.calls-chain-steps·turn·stays (stays-thm.met 𝓤 H 𝓜 𝓖 𝓡))
-    (cited 𝓤 H (Calls-stayed-by 𝓤 H (𝓖 .A) (𝓜 .mem) (𝓡 .run)) 𝓜 𝓡 mine.env #stayed-by stayed-by-def.routine mine.calls-chain-steps·turn·stayed (stayed-by-thm.met 𝓤 H 𝓜 𝓖 𝓡))
+    (cited 𝓤 H (Calls-is-done 𝓤 H (𝓖 .A) (𝓜 .mem) (𝓡 .run)) 𝓜 𝓡 mine.env #is-done is-done-def.routine mine.calls-chain-steps·turn·is-done (is-done-thm.met 𝓤 H 𝓜 𝓖 𝓡))
+    (cited 𝓤 H (Calls-turn-of 𝓤 H (𝓖 .A) (𝓜 .mem) (𝓡 .run)) 𝓜 𝓡 mine.env #turn-of turn-of-def.routine mine.calls-chain-steps·turn·turn-of (turn-of-thm.met 𝓤 H 𝓜 𝓖 𝓡))
     (cited 𝓤 H (Calls-enters 𝓤 H (𝓖 .A) (𝓜 .mem) (𝓡 .run)) 𝓜 𝓡 mine.env #enters enters-def.routine mine.calls-chain-steps·turn·enters (enters-thm.met 𝓤 H 𝓜 𝓖 𝓡))
     (cited 𝓤 H (Calls-entry-of 𝓤 H (𝓖 .A) (𝓜 .mem) (𝓡 .run)) 𝓜 𝓡 mine.env #entry-of entry-of-def.routine mine.calls-chain-steps·turn·entry-of (entry-of-thm.met 𝓤 H 𝓜 𝓖 𝓡))
     (cited 𝓤 H (Calls-enter 𝓤 H (𝓖 .A) (𝓜 .mem) (𝓡 .run)) 𝓜 𝓡 mine.env #enter enter-def.routine mine.calls-links·enter (enter-thm.met 𝓤 H 𝓜 𝓖 𝓡))

@@ -1,19 +1,46 @@
 -- `enters` meets its contract.
-use Rattle.chain_steps.proofs.Arms.{no-entry}
-use Rattle.chain_steps.specs.Moves.{isEntry}
+use Rattle.chain_steps.specs.Moved.{isEnter}
 use borrow.Author.Needs.{needs}
 use Rattle.chain_steps.proofs.turn.enters.Statement.{statement}
 use Rattle.chain_steps.proofs.turn.enters.Tie as tie
 
-enum-known-done : tie.Need-enum-known-done
-enum-known-done c = search needs
+enum-known-moved : tie.Need-enum-known-moved
+enum-known-moved c = search needs
+
+enum-known-moved-2 : tie.Need-enum-known-moved-2
+enum-known-moved-2 c = search needs
+
+enum-known-moved-3 : tie.Need-enum-known-moved-3
+enum-known-moved-3 c = search needs
+
+enum-known-moved-4 : tie.Need-enum-known-moved-4
+enum-known-moved-4 c = search needs
 
 returns : tie.Need-returns
-unfolding isEntry
-returns c = rw (c .before .done .given .1)
+unfolding isEnter
+returns c = rw (c .before .moved .given .1)
 
 returns-2 : tie.Need-returns-2
-returns-2 c = no-entry _ (c .match .keys2) .0
+unfolding isEnter
+returns-2 c = rw (c .before .moved2 .given .1)
+
+returns-3 : tie.Need-returns-3
+unfolding isEnter
+returns-3 c = rw (c .before .moved3 .given .1)
+
+returns-4 : tie.Need-returns-4
+unfolding isEnter
+returns-4 c = rw (c .before .moved4 .given .1)
 
 pub enters-spec : {M : Type 1} → statement M
-enters-spec = tie.close (tie.spec enum-known-done returns returns-2)
+enters-spec =
+    tie.close
+    (tie.spec
+    enum-known-moved
+    enum-known-moved-2
+    enum-known-moved-3
+    enum-known-moved-4
+    returns
+    returns-2
+    returns-3
+    returns-4)

@@ -1,19 +1,46 @@
 -- `place_of` meets its contract.
-use Rattle.chain_steps.proofs.Arms.{no-jump}
-use Rattle.chain_steps.specs.Moves.{placeAt}
+use Rattle.chain_steps.specs.Moved.{placeIn}
 use borrow.Author.Needs.{needs}
 use Rattle.chain_steps.proofs.turn.place_of.Statement.{statement}
 use Rattle.chain_steps.proofs.turn.place_of.Tie as tie
 
-enum-known-done : tie.Need-enum-known-done
-enum-known-done c = search needs
+enum-known-moved : tie.Need-enum-known-moved
+enum-known-moved c = search needs
+
+enum-known-moved-2 : tie.Need-enum-known-moved-2
+enum-known-moved-2 c = search needs
+
+enum-known-moved-3 : tie.Need-enum-known-moved-3
+enum-known-moved-3 c = search needs
+
+enum-known-moved-4 : tie.Need-enum-known-moved-4
+enum-known-moved-4 c = search needs
 
 returns : tie.Need-returns
-unfolding placeAt
-returns c = rw (c .before .done .given .1)
+unfolding placeIn
+returns c = rw (c .before .moved .given .1)
 
 returns-2 : tie.Need-returns-2
-returns-2 c = no-jump _ (c .match .keys2) .1
+unfolding placeIn
+returns-2 c = rw (c .before .moved2 .given .1)
+
+returns-3 : tie.Need-returns-3
+unfolding placeIn
+returns-3 c = rw (c .before .moved3 .given .1)
+
+returns-4 : tie.Need-returns-4
+unfolding placeIn
+returns-4 c = rw (c .before .moved4 .given .1)
 
 pub place-of-spec : {M : Type 1} → statement M
-place-of-spec = tie.close (tie.spec enum-known-done returns returns-2)
+place-of-spec =
+    tie.close
+    (tie.spec
+    enum-known-moved
+    enum-known-moved-2
+    enum-known-moved-3
+    enum-known-moved-4
+    returns
+    returns-2
+    returns-3
+    returns-4)

@@ -1,0 +1,46 @@
+-- `is_done` meets its contract.
+use Rattle.chain_steps.specs.Moved.{isDone}
+use borrow.Author.Needs.{needs}
+use Rattle.chain_steps.proofs.turn.is_done.Statement.{statement}
+use Rattle.chain_steps.proofs.turn.is_done.Tie as tie
+
+enum-known-moved : tie.Need-enum-known-moved
+enum-known-moved c = search needs
+
+enum-known-moved-2 : tie.Need-enum-known-moved-2
+enum-known-moved-2 c = search needs
+
+enum-known-moved-3 : tie.Need-enum-known-moved-3
+enum-known-moved-3 c = search needs
+
+enum-known-moved-4 : tie.Need-enum-known-moved-4
+enum-known-moved-4 c = search needs
+
+returns : tie.Need-returns
+unfolding isDone
+returns c = rw (c .before .moved .given .1)
+
+returns-2 : tie.Need-returns-2
+unfolding isDone
+returns-2 c = rw (c .before .moved2 .given .1)
+
+returns-3 : tie.Need-returns-3
+unfolding isDone
+returns-3 c = rw (c .before .moved3 .given .1)
+
+returns-4 : tie.Need-returns-4
+unfolding isDone
+returns-4 c = rw (c .before .moved4 .given .1)
+
+pub is-done-spec : {M : Type 1} → statement M
+is-done-spec =
+    tie.close
+    (tie.spec
+    enum-known-moved
+    enum-known-moved-2
+    enum-known-moved-3
+    enum-known-moved-4
+    returns
+    returns-2
+    returns-3
+    returns-4)
