@@ -196,15 +196,15 @@ module _ {code : List ℕ} {limit group : ℕ} {words : List ℤ} {records : Lis
     abbrev fresh : ℕ
     fresh = here .live + 1
 
-    abbrev Stands : List ℤ → List ℕ → List ℕ → List ℕ → ℕ → ℕ → Type 0
-    Stands words″ blocks nexts links at end =
+    abbrev Stood : List ℤ → List ℕ → List ℕ → List ℕ → ℕ → ℕ → Type 0
+    Stood words″ blocks nexts links at end =
         (s : Standing code (limitsBy limit group) words″ blocks nexts links table (here .pairs) fresh at end) × Follows (w .standing) (s .stack)
         (s .program) (s .name)
 
     module _ (head bounds : ℕ) (head-is : head ≡ getD code body 0) (bounds-are : bounds ≡ getD code (body + 1) 0)
         (records₁ records₂ : List Activation) (n : NextSet records records₁ (here .live) back) (p : Pushed records₁ records₂ fresh body (bounds / 65536) link)
         (words″ : List ℤ) (cleared : Cleared words′ (32 * fresh + head / 65536 % 256) (32 * fresh + head / 16777216) words″) where
-      stood : Stands words″ (blocksIn records₂) (nextsIn records₂) (linksIn records₂) (bounds / 65536) (bounds % 65536)
+      stood : Stood words″ (blocksIn records₂) (nextsIn records₂) (linksIn records₂) (bounds / 65536) (bounds % 65536)
       unfolding written-next
       stood =
           let h = body-head (w .standing) body link back words′ j in
@@ -220,7 +220,7 @@ module _ {code : List ℕ} {limit group : ℕ} {words : List ℤ} {records : Lis
           let ls : set (linksIn records) fresh link ≡ linksIn records₂ = sym (p .links ∙ ap (λ (xs : List ℕ). set xs fresh link) (n .links)) in
           let first = sym (ap (λ x. x / 65536) bounds-are ∙ h .first) in
           let ends = sym (ap (λ x. x % 65536) bounds-are ∙ h .ends) in
-          subst (λ (T : Type 0). T) (λ i. Stands words″ (bs i) (ns i) (ls i) (first i) (ends i))
+          subst (λ (T : Type 0). T) (λ i. Stood words″ (bs i) (ns i) (ls i) (first i) (ends i))
           (written-next (e .standing) (bounds / 65536), e .follows)
 
       block-there : getD (blocksIn records₂) fresh 0 ≡ body
