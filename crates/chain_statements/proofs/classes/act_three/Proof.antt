@@ -5,8 +5,8 @@ use lib.ListN.{getD}
 use Rattle.acting.specs.Acting.{Finding, Scene, Op, constant-op, query-op, arithmetic-formal-op}
 use Rattle.acting.specs.Acting.{operationOf, operations, opOf, happens}
 use Rattle.statements.specs.Numbers.{op-of}
-use Rattle.chain_statements.specs.Finding.{byHome}
-use Rattle.chain_statements.specs.Asking.{wordBehind, Ready, Leads, sceneOf, namesOf}
+use Rattle.steps.specs.Finding.{byFirst}
+use Rattle.chain_statements.specs.Asking.{wordBehind, Ready, Leads, sceneOf, classOf}
 use Rattle.chain_statements.specs.Moves.{did, arithmetic-did, query-did}
 use Rattle.chain_statements.specs.Classes.{arithmetic-left}
 use borrow.Author.Needs.{needs}
@@ -17,7 +17,7 @@ code-at-requires : tie.Need-code-at-requires
 code-at-requires c κs = search needs
 
 abbrev way : tie.Start → (ℕ → ℕ) → Finding
-way s home = byHome (s .args .words .now) home
+way s firstOf = byFirst (s .args .words .now) firstOf
 
 abbrev scene : tie.Start → ℕ → ℕ → ℕ → Scene
 scene s group limit live =
@@ -26,8 +26,8 @@ scene s group limit live =
 abbrev opAt : tie.Start → Op
 opAt s = opOf (getD (s .args .code .now) (s .args .at) 0)
 
-abbrev HomesFor : tie.Start → (ℕ → ℕ) → Op → Type 0
-HomesFor s home p = Leads home (s .args .code .now) (s .args .at) (s .args .first) (s .args .second) (s .args .third) p
+abbrev Found : tie.Start → (ℕ → ℕ) → Op → Type 0
+Found s firstOf p = Leads firstOf (s .args .code .now) (s .args .at) (s .args .first) (s .args .second) (s .args .third) p
 
 abbrev ReadyFor : tie.Start → Op → Type 0
 ReadyFor s p = Ready (s .args .code .now) (s .args .words .now) 0 0 (s .args .at) (s .args .first) (s .args .second) (s .args .third) p
@@ -40,13 +40,13 @@ op : (k : tie.After-code-at) (n : ℕ) → k .code-at .result % 16 ≡ n → opA
 op k n e = sym (read k) ∙ op-of (k .code-at .result) n e
 
 other : (c : tie.At-match-rest) → c .before .code-at .result % 16 ≡ 12
-other c = arithmetic-left (c .before .code-at .result) (ap namesOf (read (c .before)) ∙ c .before .before .pre .1) (c .match .rest)
+other c = arithmetic-left (c .before .code-at .result) (ap classOf (read (c .before)) ∙ c .before .before .pre .1) (c .match .rest)
 
 ready : (s : tie.Start) (p : Op) → opAt s ≡ p → ReadyFor s p
 ready s p e = subst (λ (x : Op). ReadyFor s x) e (s .pre .2)
 
-leads : (s : tie.Start) (p : Op) → opAt s ≡ p → (home : ℕ → ℕ) → HomesFor s home (opAt s) → HomesFor s home p
-leads s p e home l = subst (λ (x : Op). HomesFor s home x) e l
+leads : (s : tie.Start) (p : Op) → opAt s ≡ p → (firstOf : ℕ → ℕ) → Found s firstOf (opAt s) → Found s firstOf p
+leads s p e firstOf l = subst (λ (x : Op). Found s firstOf x) e l
 
 do-query-requires : tie.Need-do-query-requires
 unfolding operations
@@ -63,25 +63,25 @@ do-arithmetic-formal-requires c κs =
 returns : tie.Need-returns
 unfolding operations happens
 returns c =
-    λ home group limit live l.
+    λ firstOf group limit live l.
     let m = c .before .before in
     let s = m .before .before in
     let e = op (m .before) 10 (m .match .keys1) in
-    let g = leads s query-op e home l in
-    did (way s home) (scene s group limit live) query-op e
-    (query-did (way s home) (scene s group limit live) (c .do-query .ensures home (g .0) (g .1) (g .2)))
+    let g = leads s query-op e firstOf l in
+    did (way s firstOf) (scene s group limit live) query-op e
+    (query-did (way s firstOf) (scene s group limit live) (c .do-query .ensures firstOf (g .0) (g .1) (g .2)))
 
 returns-2 : tie.Need-returns-2
 unfolding operations happens
 returns-2 c =
-    λ home group limit live l.
+    λ firstOf group limit live l.
     let m = c .before .before in
     let s = m .before .before in
     let e = op (m .before) 12 (other m) in
-    let g = leads s arithmetic-formal-op e home l in
-    did (way s home) (scene s group limit live) arithmetic-formal-op e
-    (arithmetic-did (way s home) (scene s group limit live) (operationOf (wordBehind (s .args .code .now) (s .args .at) 2))
-    (c .do-arithmetic-formal .ensures home (g .0) (g .1) (g .2)))
+    let g = leads s arithmetic-formal-op e firstOf l in
+    did (way s firstOf) (scene s group limit live) arithmetic-formal-op e
+    (arithmetic-did (way s firstOf) (scene s group limit live) (operationOf (wordBehind (s .args .code .now) (s .args .at) 2))
+    (c .do-arithmetic-formal .ensures firstOf (g .0) (g .1) (g .2)))
 
 pub act-three-spec : {M : Type 1} → statement M
 act-three-spec =

@@ -4,8 +4,8 @@ use mathlib.Core.Path.{ap, _∙_}
 use Rattle.acting.specs.Acting.{opOf}
 use borrow.Author.Needs.{needs}
 use Rattle.chain_steps.specs.Acted.{secondField, query-field, other-field}
-use Rattle.chain_steps.proofs.acted.second_field.Statement.{statement}
-use Rattle.chain_steps.proofs.acted.second_field.Tie as tie
+use Rattle.chain_steps.proofs.tabled.second_field.Statement.{statement}
+use Rattle.chain_steps.proofs.tabled.second_field.Tie as tie
 
 code-at-requires : tie.Need-code-at-requires
 code-at-requires c κs = search needs
