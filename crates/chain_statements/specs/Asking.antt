@@ -103,21 +103,21 @@ unfoldable pub callMove : List ℕ → ℕ → ℕ → ℕ → ℕ → ℕ → M
 callMove code limit live at home body =
     elim (leb limit (live + 1)) [ true ↦ Stop NoActivationLeft | false ↦ Enter body home (at + 3 + wordBehind code at 2) ]
 
--- the class of a statement by its operation: 0 one name or none, 1 to 3 AR of which none is a formal, 4 IF, 5 AD and RM, 6 three names of another
+-- the class of a statement by its operation: 0 one name or none, 1 to 3 AR of which none is a formal, 4 AR of which one is, 5 IF, 6 AD and RM, 7 QY
 unfoldable pub classOf : Op → ℕ
 classOf constant-op = 0
 classOf add-op = 1
 classOf subtract-op = 2
 classOf compare-op = 3
-classOf branch-op = 4
+classOf branch-op = 5
 classOf goto-op = 0
 classOf block-op = 0
 classOf call-op = 0
-classOf pair-op = 5
-classOf unpair-op = 5
-classOf query-op = 6
+classOf pair-op = 6
+classOf unpair-op = 6
+classOf query-op = 7
 classOf constant-formal-op = 0
-classOf arithmetic-formal-op = 6
-classOf branch-formal-op = 4
+classOf arithmetic-formal-op = 4
+classOf branch-formal-op = 5
 classOf goto-formal-op = 0
 classOf call-formal-op = 0

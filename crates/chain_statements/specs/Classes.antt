@@ -82,14 +82,18 @@ pub compare-only : (v : ℕ) → classOf (opOf v) ≡ 3 → v % 16 ≡ 3
 unfolding allBelow unless among isLast operations classOf
 compare-only v e = last-left 3 3 [] refl v e tt
 
-pub branch-left : (v : ℕ) → classOf (opOf v) ≡ 4 → NoneOf (4 ∷ []) (v % 16) → v % 16 ≡ 13
+pub arithmetic-only : (v : ℕ) → classOf (opOf v) ≡ 4 → v % 16 ≡ 12
 unfolding allBelow unless among isLast operations classOf
-branch-left = last-left 4 13 (4 ∷ []) refl
+arithmetic-only v e = last-left 4 12 [] refl v e tt
 
-pub unpair-left : (v : ℕ) → classOf (opOf v) ≡ 5 → NoneOf (8 ∷ []) (v % 16) → v % 16 ≡ 9
+pub branch-left : (v : ℕ) → classOf (opOf v) ≡ 5 → NoneOf (4 ∷ []) (v % 16) → v % 16 ≡ 13
 unfolding allBelow unless among isLast operations classOf
-unpair-left = last-left 5 9 (8 ∷ []) refl
+branch-left = last-left 5 13 (4 ∷ []) refl
 
-pub arithmetic-left : (v : ℕ) → classOf (opOf v) ≡ 6 → NoneOf (10 ∷ []) (v % 16) → v % 16 ≡ 12
+pub unpair-left : (v : ℕ) → classOf (opOf v) ≡ 6 → NoneOf (8 ∷ []) (v % 16) → v % 16 ≡ 9
 unfolding allBelow unless among isLast operations classOf
-arithmetic-left = last-left 6 12 (10 ∷ []) refl
+unpair-left = last-left 6 9 (8 ∷ []) refl
+
+pub query-only : (v : ℕ) → classOf (opOf v) ≡ 7 → v % 16 ≡ 10
+unfolding allBelow unless among isLast operations classOf
+query-only v e = last-left 7 10 [] refl v e tt

@@ -13,8 +13,8 @@ ghost use Rattle.acting.specs.Acting.{acting, opOf};
 ghost use Rattle.steps.specs.Finding.{byFirst};
 ghost use Rattle.chain_statements.specs.Asking.{Ready, Leads, Did, sceneOf, classOf};
 
-// The class of the statement at a place: 0 one name or none, 1 to 3 AR where no name is a formal, by its operation, 4 IF, 5 AD and RM, 6 three names of
-// another. What is done most has a class of its own, so that one jump leads to it. Each number is named: a range needs no test then.
+// The class of the statement at a place: 0 one name or none, 1 to 3 AR where no name is a formal, by its operation, 4 AR where one is, 5 IF, 6 AD and RM,
+// 7 QY. What is done most has a class of its own, so that one jump leads to it. Each number is named: a range needs no test then.
 pub fn class_of(code: &[u32; 4096], at: usize) -> usize
     requires { ⌜ at < 4096 ⌝ }
     ensures { λ r. ⌜ r ≡ classOf (opOf (getD (now (code .entry)) at 0)) ⌝ }
@@ -25,16 +25,16 @@ pub fn class_of(code: &[u32; 4096], at: usize) -> usize
         1 => 1,
         2 => 2,
         3 => 3,
-        4 => 4,
+        4 => 5,
         5 => 0,
         6 => 0,
         7 => 0,
-        8 => 5,
-        9 => 5,
-        10 => 6,
+        8 => 6,
+        9 => 6,
+        10 => 7,
         11 => 0,
-        12 => 6,
-        13 => 4,
+        12 => 4,
+        13 => 5,
         14 => 0,
         _ => 0,
     }
@@ -76,7 +76,7 @@ pub fn act_branch(
     first: usize,
     second: usize,
 ) -> Move
-    requires { ⌜ (at < 4096) × (classOf (opOf (getD (now code) at 0)) ≡ 4) × Ready (now code) (now words) 0 0 at first second 0
+    requires { ⌜ (at < 4096) × (classOf (opOf (getD (now code) at 0)) ≡ 5) × Ready (now code) (now words) 0 0 at first second 0
         (opOf (getD (now code) at 0)) ⌝ }
     ensures { λ r. ⌜ ((firstOf : ℕ → ℕ) (table : List ℤ) (pairs group limit live : ℕ) → Leads firstOf (now (code .entry)) at first second 0
         (opOf (getD (now (code .entry)) at 0))
@@ -101,7 +101,7 @@ pub fn act_pair(
     first: usize,
     second: usize,
 ) -> Move
-    requires { ⌜ (at < 4096) × (classOf (opOf (getD (now code) at 0)) ≡ 5) × Ready (now code) (now words) 0 0 at first second 0
+    requires { ⌜ (at < 4096) × (classOf (opOf (getD (now code) at 0)) ≡ 6) × Ready (now code) (now words) 0 0 at first second 0
         (opOf (getD (now code) at 0)) ⌝ }
     ensures { λ r. ⌜ ((firstOf : ℕ → ℕ) (limit live : ℕ) → Leads firstOf (now (code .entry)) at first second 0 (opOf (getD (now (code .entry)) at 0))
         → Did (acting (byFirst (now (words .entry)) firstOf)
@@ -112,31 +112,5 @@ pub fn act_pair(
     match operation {
         8 => arms::do_add_pair(code, words, table, pairs, group, at, first, second),
         _ => arms::do_remove_pair(code, words, table, pairs, at, first, second),
-    }
-}
-
-// QY, and AR where a name is a formal
-pub fn act_three(
-    code: &[u32; 4096],
-    words: &mut [i32; 8224],
-    table: &[i32],
-    pairs: usize,
-    at: usize,
-    first: usize,
-    second: usize,
-    third: usize,
-) -> Move
-    requires { ⌜ (at < 4096) × (classOf (opOf (getD (now code) at 0)) ≡ 6) × Ready (now code) (now words) 0 0 at first second third
-        (opOf (getD (now code) at 0)) ⌝ }
-    ensures { λ r. ⌜ ((firstOf : ℕ → ℕ) (group limit live : ℕ) → Leads firstOf (now (code .entry)) at first second third
-        (opOf (getD (now (code .entry)) at 0))
-        → Did (acting (byFirst (now (words .entry)) firstOf)
-        (sceneOf (now (code .entry)) (now (words .entry)) (now (table .entry)) pairs group limit live at))
-        (now (words .entry)) r (now (words .exit)) (now (table .entry))) ⌝ }
-{
-    let operation = code_at(code, at) % 16;
-    match operation {
-        10 => arms::do_query(code, words, table, pairs, at, first, second, third),
-        _ => arms::do_arithmetic_formal(code, words, at, first, second, third),
     }
 }

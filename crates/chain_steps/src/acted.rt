@@ -51,13 +51,13 @@ pub fn acted(
         let done = act_one(code, words, limit, here.live, here.at, first);
         return came_to(here, done);
     }
-    if class == 4 {
+    if class == 5 {
         let first = first_cell(code, records, here, own, 1);
         let second = first_cell(code, records, here, own, 2);
         let done = act_branch(code, words, here.at, first, second);
         return came_to(here, done);
     }
-    if 4 < class {
+    if 5 < class {
         return tabled(code, words, records, table, group, here, own, class);
     }
     summed(code, words, records, here, own, class)

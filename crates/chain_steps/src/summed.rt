@@ -1,8 +1,9 @@
-// AR where no name is a formal: what is done most, so each operation has a way of its own.
+// AR. Where no name is a formal, each operation has a way of its own: this is what is done most.
 use super::turn::Moved;
 use super::turn::came_to;
 use activations::Activation;
 use chain_statements::do_add;
+use chain_statements::do_arithmetic_formal;
 use chain_statements::do_compare;
 use chain_statements::do_subtract;
 use links::Now;
@@ -23,22 +24,29 @@ pub fn summed(
         (now (words .entry)) here r (now (words .exit)) (w .table)) ⌝ }
 {
     if class == 1 {
-        let first = first_cell(code, records, here, own, 1);
         let second = first_cell(code, records, here, own, 3);
         let third = first_cell(code, records, here, own, 4);
+        let first = first_cell(code, records, here, own, 1);
         let done = do_add(code, words, here.at, first, second, third);
         return came_to(here, done);
     }
     if class == 3 {
-        let first = first_cell(code, records, here, own, 1);
         let second = first_cell(code, records, here, own, 3);
         let third = first_cell(code, records, here, own, 4);
+        let first = first_cell(code, records, here, own, 1);
         let done = do_compare(code, words, here.at, first, second, third);
         return came_to(here, done);
     }
-    let first = first_cell(code, records, here, own, 1);
+    if class == 2 {
+        let second = first_cell(code, records, here, own, 3);
+        let third = first_cell(code, records, here, own, 4);
+        let first = first_cell(code, records, here, own, 1);
+        let done = do_subtract(code, words, here.at, first, second, third);
+        return came_to(here, done);
+    }
     let second = first_cell(code, records, here, own, 3);
     let third = first_cell(code, records, here, own, 4);
-    let done = do_subtract(code, words, here.at, first, second, third);
+    let first = first_cell(code, records, here, own, 1);
+    let done = do_arithmetic_formal(code, words, here.at, first, second, third);
     came_to(here, done)
 }
