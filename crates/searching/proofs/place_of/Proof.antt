@@ -11,10 +11,10 @@ use mir.Val.{SFits, toZ, ofZ}
 use mir.Syntax.{w32}
 use mir.Facts.{toZ-ofZ}
 use Rattle.language.specs.Table.{find}
-use Rattle.pairs.specs.Places.{placed}
-use Rattle.pairs.proofs.place_of.Statement.{statement}
-use Rattle.pairs.proofs.place_of.Tie as tie
-use Rattle.pairs.proofs.Pairs.{room, find-fresh, find-hit, find-clamped}
+use Rattle.searching.specs.Places.{placed}
+use Rattle.searching.proofs.place_of.Statement.{statement}
+use Rattle.searching.proofs.place_of.Tie as tie
+use Rattle.searching.proofs.Pairs.{room, find-fresh, find-hit, find-clamped}
 
 abbrev Inv-loop : tie.InvT-loop
 Inv-loop table count group member n i₀ i = (i ≤ n) × (find (toZ w32 group) (toZ w32 member) i table ≡ none)

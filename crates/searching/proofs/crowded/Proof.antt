@@ -6,8 +6,8 @@ use borrow.Author.Tests.{lt-leb}
 use lib.Dec.{leb}
 use mir.Facts.{toZ-ofZ}
 use Rattle.laws.specs.Tables.{members-within}
-use Rattle.pairs.proofs.crowded.Statement.{statement}
-use Rattle.pairs.proofs.crowded.Tie as tie
+use Rattle.searching.proofs.crowded.Statement.{statement}
+use Rattle.searching.proofs.crowded.Tie as tie
 
 returns : tie.Need-returns
 returns c = let s = c .before in sym (lt-leb (s .args .limit) _ (omega (arith, members-within (s .args .group) (s .args .count) (s .args .table .now))))

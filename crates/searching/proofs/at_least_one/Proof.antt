@@ -1,7 +1,7 @@
 -- `at_least_one` meets its contract.
-use Rattle.pairs.proofs.at_least_one.Statement.{statement}
-use Rattle.pairs.proofs.at_least_one.Tie as tie
-use Rattle.pairs.proofs.Signed.{from-one}
+use Rattle.searching.proofs.at_least_one.Statement.{statement}
+use Rattle.searching.proofs.at_least_one.Tie as tie
+use Rattle.searching.proofs.Signed.{from-one}
 
 returns : tie.Need-returns
 returns c = from-one (c .args .number) (c .fits .number)

@@ -8,9 +8,9 @@ use mir.Syntax.{w32}
 use mir.Facts.{toZ-ofZ}
 use Rattle.language.specs.Table.{find}
 use Rattle.laws.specs.Tables.{find-zero}
-use Rattle.pairs.proofs.Pairs.{still-none}
-use Rattle.pairs.proofs.without.Statement.{statement}
-use Rattle.pairs.proofs.without.Tie as tie
+use Rattle.searching.proofs.Pairs.{still-none}
+use Rattle.searching.proofs.without.Statement.{statement}
+use Rattle.searching.proofs.without.Tie as tie
 
 abbrev Inv-loop : tie.InvT-loop
 Inv-loop table n group member i₀ i = (i ≤ n) × (find (toZ w32 group) (toZ w32 member) i table ≡ none)

@@ -12,10 +12,10 @@ use mir.Facts.{toZ-ofZ}
 use Rattle.language.specs.Basics.{eqZ}
 use Rattle.language.specs.Table.{members}
 use Rattle.laws.specs.Tables.{groupAt, members-zero, members-within}
-use Rattle.pairs.proofs.group_size.Statement.{statement}
-use Rattle.pairs.proofs.group_size.Tie as tie
-use Rattle.pairs.proofs.Signed.{back}
-use Rattle.pairs.proofs.Pairs.{room, members-hit, members-miss, members-clamped}
+use Rattle.searching.proofs.group_size.Statement.{statement}
+use Rattle.searching.proofs.group_size.Tie as tie
+use Rattle.searching.proofs.Signed.{back}
+use Rattle.searching.proofs.Pairs.{room, members-hit, members-miss, members-clamped}
 
 abbrev Inv-loop : tie.InvT-loop
 Inv-loop table count group n found₀ i₀ found i = (i ≤ n) × (found ≡ members (toZ w32 group) i table)

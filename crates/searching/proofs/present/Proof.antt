@@ -8,12 +8,11 @@ use lib.ListN.{length}
 use mir.Val.{toZ, ofZ}
 use mir.Syntax.{w32}
 use mir.Facts.{toZ-ofZ}
-use Rattle.language.specs.Table.{find, isSome, holds}
-use Rattle.pairs.specs.Outcomes.{tableOf}
-use Rattle.pairs.proofs.Pairs.{found-there, found-before, find-clamped}
-use Rattle.pairs.proofs.Statements.{held-at, held-not}
-use Rattle.pairs.proofs.present.Statement.{statement}
-use Rattle.pairs.proofs.present.Tie as tie
+use Rattle.language.specs.Table.{find, isSome}
+use Rattle.searching.proofs.Pairs.{found-there, found-before, find-clamped}
+use Rattle.searching.proofs.Placed.{held-at, held-not}
+use Rattle.searching.proofs.present.Statement.{statement}
+use Rattle.searching.proofs.present.Tie as tie
 
 abbrev Inv-loop : tie.InvT-loop
 Inv-loop table count group member i₀ i =
@@ -29,8 +28,7 @@ startOf c = c .before .before
 held :
     (c : tie.At-loop Inv-loop μ-loop) {v : Bool} → let s = startOf c in
     isSome (find (toZ w32 (ofZ w32 (s .args .group))) (toZ w32 (ofZ w32 (s .args .member))) (c .loop .i) (s .args .table .now)) ≡ v →
-    v ≡ holds (s .args .group) (s .args .member) (tableOf (s .args .table .now) (s .args .count))
-unfolding holds
+    v ≡ isSome (find (s .args .group) (s .args .member) (s .args .count) (s .args .table .now))
 held c q = let s = startOf c in rw (toZ-ofZ (s .fits .group), toZ-ofZ (s .fits .member)) at (sym q ∙ c .loop .inv .1)
 
 pairs-in-requires : tie.Need-pairs-in-requires Inv-loop μ-loop

@@ -1,7 +1,7 @@
 -- `same_number` meets its contract: equal bits are equal numbers.
-use Rattle.pairs.proofs.same_number.Statement.{statement}
-use Rattle.pairs.proofs.same_number.Tie as tie
-use Rattle.pairs.proofs.Signed.{same-bits}
+use Rattle.searching.proofs.same_number.Statement.{statement}
+use Rattle.searching.proofs.same_number.Tie as tie
+use Rattle.searching.proofs.Signed.{same-bits}
 
 returns : tie.Need-returns
 returns c = same-bits (c .args .a) (c .args .b) (c .fits .a) (c .fits .b)

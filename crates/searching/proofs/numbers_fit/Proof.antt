@@ -3,8 +3,8 @@ use borrow.Author.Needs.{needs}
 use mathlib.Core.Path.{_≡_, sym, _∙_, ap}
 use mir.Facts.{toZ-ofZ}
 use Rattle.language.specs.Table.{atLeastOne}
-use Rattle.pairs.proofs.numbers_fit.Statement.{statement}
-use Rattle.pairs.proofs.numbers_fit.Tie as tie
+use Rattle.searching.proofs.numbers_fit.Statement.{statement}
+use Rattle.searching.proofs.numbers_fit.Tie as tie
 
 at-least-one-requires : tie.Need-at-least-one-requires
 at-least-one-requires c κs = search needs

@@ -3,9 +3,9 @@ use borrow.Author.Needs.{needs}
 use mathlib.Core.Path.{_≡_, refl, sym, _∙_}
 use Rattle.language.specs.Basics.{eqZ}
 use Rattle.laws.specs.Tables.{groupAt}
-use Rattle.pairs.proofs.pair_is.Statement.{statement}
-use Rattle.pairs.proofs.pair_is.Tie as tie
-use Rattle.pairs.proofs.Signed.{same-words}
+use Rattle.searching.proofs.pair_is.Statement.{statement}
+use Rattle.searching.proofs.pair_is.Tie as tie
+use Rattle.searching.proofs.Signed.{same-words}
 
 group-at-requires : tie.Need-group-at-requires
 group-at-requires c κs = search needs

@@ -8,10 +8,10 @@ use lib.Dec.{ltb}
 use mir.Val.{toZ}
 use mir.Syntax.{w32}
 use mir.Facts.{toZ-ofZ}
-use Rattle.pairs.specs.Places.{among}
-use Rattle.pairs.proofs.Pairs.{hits-more, hits-same}
-use Rattle.pairs.proofs.block_holds.Statement.{statement}
-use Rattle.pairs.proofs.block_holds.Tie as tie
+use Rattle.searching.specs.Places.{among}
+use Rattle.searching.proofs.Pairs.{hits-more, hits-same}
+use Rattle.searching.proofs.block_holds.Statement.{statement}
+use Rattle.searching.proofs.block_holds.Tie as tie
 
 abbrev Inv-loop : tie.InvT-loop
 Inv-loop table from group member hits₀ j₀ hits j = (j ≤ 32) × (hits ≤ j) × (ltb 0 hits ≡ among (toZ w32 group) (toZ w32 member) from j table)

@@ -12,7 +12,7 @@ use lib.ListN.{length}
 use Rattle.language.specs.Basics.{eqZ}
 use Rattle.language.specs.Table.{find, isSome, members}
 use Rattle.laws.specs.Tables.{groupAt, pairIs, front, orElse, find-front, find-next, members-front, members-next}
-use Rattle.pairs.specs.Places.{among}
+use Rattle.searching.specs.Places.{among}
 
 -- The list has a pair at place i.
 pub data Room : ℕ → List ℤ → Type 0 where
