@@ -22,9 +22,9 @@ use Rattle.steps.specs.Here.{many, within-limit, live-few}
 use Rattle.steps.specs.Reads.{block-within, end-there, end-here}
 use Rattle.steps.specs.Loop.{leaves, jumped}
 use Rattle.copy_statements.specs.Doing.{doing}
-use Rattle.copy_moves.specs.declared.Now.{Now}
+use Rattle.copy_entering.specs.declared.Now.{Now}
 use Rattle.copy_moves.specs.Running.{limitsBy, Running, nowAt, Succeeds}
-use Rattle.copy_moves.specs.Anew.{Enterable, AnewIn}
+use Rattle.copy_entering.specs.Anew.{Enterable, AnewIn}
 use Rattle.copy_moves.specs.Going.{goes-on}
 use Rattle.copying.specs.Words.{copyOf, sceneIn}
 use Rattle.copying.specs.Here.{means-here}
