@@ -7,8 +7,8 @@ use Rattle.acting.specs.Acting.{setAll}
 use Rattle.statements.specs.Words.{read-back}
 use Rattle.copy_arms.specs.Parts.{handedFrom}
 use Rattle.copy_arms.proofs.Entered.{arguments-end, arguments-next}
-use Rattle.copy_arms.proofs.calls.arguments.Statement.{statement}
-use Rattle.copy_arms.proofs.calls.arguments.Tie as tie
+use Rattle.copy_arms.proofs.calling.arguments.Statement.{statement}
+use Rattle.copy_arms.proofs.calling.arguments.Tie as tie
 
 abbrev Inv-loop : tie.InvT-loop
 Inv-loop words₀ area firsts starts targets live place count first i₀ words i =

@@ -7,8 +7,8 @@ use lib.ListN.{getD}
 use borrow.Author.Needs.{needs}
 use Rattle.statements.specs.Pieces.{FormalsBefore}
 use Rattle.copy_arms.proofs.Entered.{no-formal, number-differs, kinds-tell}
-use Rattle.copy_arms.proofs.calls.refused.Statement.{statement}
-use Rattle.copy_arms.proofs.calls.refused.Tie as tie
+use Rattle.copy_arms.proofs.calling.refused.Statement.{statement}
+use Rattle.copy_arms.proofs.calling.refused.Tie as tie
 
 code-at-requires : tie.Need-code-at-requires
 code-at-requires c κs = search needs

@@ -10,8 +10,8 @@ use borrow.Author.Needs.{needs}
 use Rattle.acting.specs.declared.Move.{Move}
 use Rattle.copy_arms.specs.Parts.{cellAt, refusedBy, refusedAt, enterAt, handedAt}
 use Rattle.copy_arms.proofs.Entered.{call-refused, call-stops, call-enters, enters-at}
-use Rattle.copy_arms.proofs.calls.do_call.Statement.{statement}
-use Rattle.copy_arms.proofs.calls.do_call.Tie as tie
+use Rattle.copy_arms.proofs.calling.do_call.Statement.{statement}
+use Rattle.copy_arms.proofs.calling.do_call.Tie as tie
 
 add-named : tie.Need-add-named
 add-named c = search needs

@@ -2,8 +2,8 @@
 use mathlib.Core.Path.{_∙_}
 use borrow.Author.Needs.{needs}
 use Rattle.statements.specs.Words.{read-back}
-use Rattle.copy_arms.proofs.calls.handed.Statement.{statement}
-use Rattle.copy_arms.proofs.calls.handed.Tie as tie
+use Rattle.copy_arms.proofs.calling.handed.Statement.{statement}
+use Rattle.copy_arms.proofs.calling.handed.Tie as tie
 
 named-requires : tie.Need-named-requires
 named-requires c κs = search needs
