@@ -18,7 +18,7 @@ fn widened(x: u16) -> usize
 }
 
 // The first new name of an activation.
-fn first_of(firsts: &[u32; 256], activation: usize) -> usize
+pub fn first_of(firsts: &[u32; 256], activation: usize) -> usize
     requires { ⌜ activation < 256 ⌝ }
     ensures { λ r. ⌜ (r ≡ getD (now (firsts .entry)) activation 0) × (r < 2 ^ 32) ⌝ }
 {
@@ -51,16 +51,46 @@ fn cell_in(firsts: &[u32; 256], starts: &[u16; 256], home: usize, name: usize) -
     widened(starts[home]) + (name - first_of(firsts, home))
 }
 
-// The cell of a name.
-pub fn cell_of(firsts: &[u32; 256], starts: &[u16; 256], live: usize, name: usize) -> usize
+// The cell of an activation's first new name.
+pub fn start_of(starts: &[u16; 256], activation: usize) -> usize
+    requires { ⌜ activation < 256 ⌝ }
+    ensures { λ r. ⌜ r ≡ getD (now (starts .entry)) activation 0 ⌝ }
+{
+    widened(starts[activation])
+}
+
+// The cell of a name. The innermost activation's first new name and that name's cell are read once for all names of a statement.
+pub fn cell_by(
+    firsts: &[u32; 256],
+    starts: &[u16; 256],
+    live: usize,
+    first: usize,
+    start: usize,
+    name: usize,
+) -> usize
+    requires { ⌜ (first ≡ getD (now firsts) live 0) × (start ≡ getD (now starts) live 0) ⌝ }
     requires { ⌜ (live ≤ 255) × Sorted (now firsts) live × (getD (now firsts) 0 0 ≤ name) × (cellIn (now firsts) (now starts) live name < 8192) ⌝ }
     ensures { λ r. ⌜ r ≡ cellIn (now (firsts .entry)) (now (starts .entry)) live name ⌝ }
 {
-    if first_of(firsts, live) <= name {
-        return cell_in(firsts, starts, live, name);
+    if first <= name {
+        return start + (name - first);
     }
     if name < first_of(firsts, 1) {
         return cell_in(firsts, starts, 0, name);
     }
     cell_in(firsts, starts, outer_owner(firsts, live, name), name)
+}
+
+pub fn cell_of(firsts: &[u32; 256], starts: &[u16; 256], live: usize, name: usize) -> usize
+    requires { ⌜ (live ≤ 255) × Sorted (now firsts) live × (getD (now firsts) 0 0 ≤ name) × (cellIn (now firsts) (now starts) live name < 8192) ⌝ }
+    ensures { λ r. ⌜ r ≡ cellIn (now (firsts .entry)) (now (starts .entry)) live name ⌝ }
+{
+    cell_by(
+        firsts,
+        starts,
+        live,
+        first_of(firsts, live),
+        start_of(starts, live),
+        name,
+    )
 }
