@@ -12,13 +12,14 @@ use Rattle.language.specs.Structure.{Reading as Outcome, read, refuse, Reader, 
 use Rattle.language.specs.declared.Refusal.{Refusal}
 use Rattle.language.specs.declared.Refusal.the-variants.{NestingDepth, TooManyNames}
 use Rattle.laws.specs.Readers.{bind-read, bind-refuse, passes, fails}
-use Rattle.records.specs.declared.Mark.{Mark}
-use Rattle.records.specs.declared.Mark.the-variants.{BK}
-use Rattle.records.specs.declared.Place.the-variants.{Block as ABlock}
+use Rattle.marks.specs.declared.Mark.{Mark}
+use Rattle.marks.specs.declared.Mark.the-variants.{BK}
+use Rattle.marks.specs.declared.Place.the-variants.{Block as ABlock}
 use Rattle.records.specs.declared.Progress.the-variants.{At, Refused}
 use Rattle.records.specs.declared.Reading.{Reading}
 use Rattle.records.specs.declared.Reading.the-variants.{Taken}
-use Rattle.records.specs.Taking.{unread, onlyMark, recordAt, forget}
+use Rattle.marks.specs.Marks.{onlyMark}
+use Rattle.records.specs.Taking.{unread, recordAt, forget}
 use Rattle.records.proofs.Steps.{Step, stepped, stopped}
 use Rattle.judging.specs.Judging.{openedOf}
 use Rattle.judging.proofs.BlockTests.{opened-fits, opened-many}

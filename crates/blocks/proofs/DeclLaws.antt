@@ -14,13 +14,14 @@ use Rattle.language.specs.Structure.{Reading as Outcome, read, refuse, Reader, 
 use Rattle.language.specs.declared.Refusal.{Refusal}
 use Rattle.language.specs.declared.Refusal.the-variants.{FieldRange, TooManyNames, NameTwice}
 use Rattle.laws.specs.Readers.{bind-read, bind-refuse, passes, fails}
-use Rattle.records.specs.declared.Mark.{Mark}
-use Rattle.records.specs.declared.Place.the-variants.{Declaration}
+use Rattle.marks.specs.declared.Mark.{Mark}
+use Rattle.marks.specs.declared.Place.the-variants.{Declaration}
 use Rattle.records.specs.declared.Progress.{Progress}
 use Rattle.records.specs.declared.Progress.the-variants.{At, Refused}
 use Rattle.records.specs.declared.Reading.{Reading}
 use Rattle.records.specs.declared.Reading.the-variants.{Taken}
-use Rattle.records.specs.Taking.{unread, declMark, recordAt, forget}
+use Rattle.marks.specs.Marks.{declMark}
+use Rattle.records.specs.Taking.{unread, recordAt, forget}
 use Rattle.records.proofs.Steps.{Step, stepped, stopped}
 use Rattle.judging.specs.Marks.{declMarkOf}
 use Rattle.judging.specs.Judging.{rangedOf, onceAt, FewFormals}

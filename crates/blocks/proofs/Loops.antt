@@ -7,8 +7,8 @@ use lib.ListN.{length, set}
 use Rattle.language.specs.Basics.{among}
 use Rattle.language.specs.Structure.{refuse, Reader, BlockReader, declarations, statements}
 use Rattle.language.specs.declared.Refusal.{Refusal}
-use Rattle.records.specs.declared.Mark.{Mark}
-use Rattle.records.specs.declared.Place.the-variants.{Declaration, Statement}
+use Rattle.marks.specs.declared.Mark.{Mark}
+use Rattle.marks.specs.declared.Place.the-variants.{Declaration, Statement}
 use Rattle.records.specs.declared.Progress.{Progress}
 use Rattle.records.specs.declared.Progress.the-variants.{At, Refused}
 use Rattle.records.specs.declared.Reading.{Reading}

@@ -4,8 +4,8 @@ use mathlib.Core.List.{List, [], _∷_}
 use Prim.Native.Nat.{ℕ, _≤_}
 use types.Run.{OneOf}
 use Rattle.language.specs.Structure.{BlockReader}
-use Rattle.records.specs.declared.Mark.{Mark}
-use Rattle.records.specs.declared.Mark.the-variants.{BK, VR, LB, PR, FM, CL, GO, IF, KN, AR, AD, RM, QY}
+use Rattle.marks.specs.declared.Mark.{Mark}
+use Rattle.marks.specs.declared.Mark.the-variants.{BK, VR, LB, PR, FM, CL, GO, IF, KN, AR, AD, RM, QY}
 use Rattle.records.specs.declared.Progress.{Progress}
 use Rattle.records.specs.declared.Progress.the-variants.{At}
 use Rattle.records.specs.Taking.{forget}

@@ -7,9 +7,9 @@ use lib.ListN.{length, take}
 use Rattle.language.specs.Text.{Formal, Decls, formalNames}
 use Rattle.language.specs.Structure.{Reading as Outcome, BlockReader, formals, declarations, statements, blockWith}
 use Rattle.language.specs.declared.Refusal.{Refusal}
-use Rattle.records.specs.declared.Mark.{Mark}
-use Rattle.records.specs.declared.Mark.the-variants.{PR}
-use Rattle.records.specs.declared.Place.the-variants.{Block}
+use Rattle.marks.specs.declared.Mark.{Mark}
+use Rattle.marks.specs.declared.Mark.the-variants.{PR}
+use Rattle.marks.specs.declared.Place.the-variants.{Block}
 use Rattle.records.specs.declared.Progress.{Progress}
 use Rattle.records.specs.declared.Progress.the-variants.{At, Refused}
 use Rattle.records.specs.declared.Reading.{Reading}

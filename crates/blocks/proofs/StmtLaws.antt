@@ -13,12 +13,13 @@ use Rattle.language.specs.Structure.{Reading as Outcome, refuse, Reader, _>>=_,
 use Rattle.language.specs.declared.Refusal.{Refusal}
 use Rattle.language.specs.declared.Refusal.the-variants.{FieldRange}
 use Rattle.laws.specs.Readers.{bind-read, bind-refuse, passes, fails}
-use Rattle.records.specs.declared.Mark.{Mark}
-use Rattle.records.specs.declared.Place.the-variants.{Statement}
+use Rattle.marks.specs.declared.Mark.{Mark}
+use Rattle.marks.specs.declared.Place.the-variants.{Statement}
 use Rattle.records.specs.declared.Progress.the-variants.{At, Refused}
 use Rattle.records.specs.declared.Reading.{Reading}
 use Rattle.records.specs.declared.Reading.the-variants.{Taken}
-use Rattle.records.specs.Taking.{unread, stmtMark, recordAt, forget}
+use Rattle.marks.specs.Marks.{stmtMark}
+use Rattle.records.specs.Taking.{unread, recordAt, forget}
 use Rattle.records.proofs.Steps.{Step, stepped, stopped}
 use Rattle.judging.specs.Marks.{stmtMarkOf}
 use Rattle.judging.specs.Judging.{actionOf}

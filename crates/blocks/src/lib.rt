@@ -3,7 +3,7 @@
 // has not been read. The names of each level stand in one array, outermost first; one level more than may be nested is for the formals
 // of a procedure whose body is then refused as too deep.
 use judging::MOST_NAMES;
-use records::Mark;
+use marks::Mark;
 use records::Progress;
 use records::Reading;
 ghost use mathlib.Core.Path.{_≡_};

@@ -1,4 +1,4 @@
--- A call and the verdicts on it, and 11; the shapes of statements.
+-- A call and the verdicts on it, and 11.
 -- Assumes nothing.
 use mathlib.Core.Path.{_≡_, refl, sym, _∙_, ap}
 use mathlib.Core.Bool.{Bool, true, false, _&&_}
@@ -11,7 +11,7 @@ use lib.ListN.{length, length-map}
 use borrow.Author.Tests.{ne-eqb}
 use Rattle.language.specs.Basics.{lookup}
 use Rattle.language.specs.Text.{Kind, procedure, sameKind, CL}
-use Rattle.language.specs.Encoding.{kindField, LB-mark, PR-mark, FM-mark, CL-mark, GO-mark, IF-mark, KN-mark, AR-mark, QY-mark}
+use Rattle.language.specs.Encoding.{kindField, LB-mark, PR-mark, FM-mark}
 use Rattle.language.specs.Scope.{Scope, Meaning, fine, wrong, allVisible, kindIn, agree, agrees, _then_, judgeAction, uses}
 use Rattle.language.specs.Scope as definitions
 use Rattle.language.specs.declared.Refusal.{Refusal}
@@ -19,7 +19,6 @@ use Rattle.language.specs.declared.Refusal.the-variants.{CallMismatch}
 use Rattle.laws.specs.Fields.{fieldAt, fieldsAt}
 use Rattle.uses.specs.Meanings.{kindsAt, meaningAt, scopeOf, verdictOf}
 use Rattle.symbols.specs.Entries.{foundIn}
-use Rattle.calls.specs.Calls.{Shape, isTwo, shapeOf, judgedAs}
 use Rattle.language.specs.declared.Verdict.{Verdict}
 use Rattle.language.specs.declared.Verdict.the-variants.{Fit, Refused}
 use Rattle.symbols.specs.declared.Binding.the-variants.{At, Nothing}
@@ -139,12 +138,3 @@ agreed bs es at n m place name number found marked same e =
     (sym (ap verdictOf (use-right bs es at procedure n place found (ap (λ (x : Meaning). kindField (x .kind)) (means-PR bs place marked)))))
     refl Fit (sym (ap verdictOf (agree-visible (scopeOf bs es) at (kindsAt bs (place + 6) m) (fieldsAt bs (at + 6) m) e))) refl Fit fine refl
     (agrees-found bs es at n place _ found ∙ agrees-by bs at place marked _ m true same e)
-
--- a statement's shape by its mark
-pub shape-two : (w : ℕ) → (w ≡ CL-mark → ⊥) → (w ≡ GO-mark → ⊥) → (w ≡ IF-mark → ⊥) → (w ≡ KN-mark → ⊥) → (w ≡ AR-mark → ⊥) → (w ≡ QY-mark → ⊥) → shapeOf w ≡ isTwo
-unfolding shapeOf
-shape-two w a b c d e f =
-    rw (ne-eqb w CL-mark a, ne-eqb w GO-mark b, ne-eqb w IF-mark c, ne-eqb w KN-mark d, ne-eqb w AR-mark e, ne-eqb w QY-mark f, shapeOf)
-
-pub shaped : (bs : List ℕ) (sc : Scope) (at w : ℕ) (s : Shape) (r : Verdict) → w ≡ fieldAt bs at → shapeOf w ≡ s → r ≡ verdictOf (judgedAs s sc bs at) → r ≡ verdictOf (judgedAs (shapeOf (fieldAt bs at)) sc bs at)
-shaped bs sc at w s r e f p = p ∙ ap (λ (x : Shape). verdictOf (judgedAs x sc bs at)) (sym f ∙ ap shapeOf e)

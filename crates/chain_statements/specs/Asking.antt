@@ -1,6 +1,7 @@
--- The statement at a place, with the homes of its names in the order of its fields: what its function asks, by the operation (`Ready`), when a way of
--- finding names is the one by which the homes were found (`Leads`), and what it has then done (`Did`). A call's arguments are not handed on yet.
-use Prim.Native.Nat.{ℕ, _+_, _*_, _/_, _≤_}
+-- The statement at a place, with the first cells of the activations that declare its names, in the order of its fields: what its function asks, by the
+-- operation (`Ready`), when a way of finding names is the one by which the cells were found (`Leads`), and what it has then done (`Did`). A call's arguments
+-- are not handed on yet.
+use Prim.Native.Nat.{ℕ, _+_, _/_, _≤_}
 use mathlib.Core.Bool.{true, false}
 use mathlib.Core.List.{List}
 use mathlib.Core.Path.{_≡_}
@@ -51,18 +52,18 @@ module _ (code : List ℕ) (words : List ℤ) (limit live at first second third 
   Ready branch-formal-op = (at + 3 ≤ 4096) × Reachable words first (wordBehind code at 1) × Reachable words second (wordBehind code at 2)
   Ready goto-formal-op = (at + 2 ≤ 4096) × ThroughFormal words first (wordBehind code at 1)
   Ready call-formal-op = Calling code limit live at × ThroughFormal words first (wordBehind code at 1)
-      × FormalsBefore code (heldBy words (32 * first) (wordBehind code at 1) / 8192)
+      × FormalsBefore code (heldBy words first (wordBehind code at 1) / 8192)
 
-module _ (home : ℕ → ℕ) (code : List ℕ) (at first second third : ℕ) where
+module _ (firstOf : ℕ → ℕ) (code : List ℕ) (at first second third : ℕ) where
   -- the names in one, two and three fields
   abbrev pub One : ℕ → Type 0
-  One i = first ≡ home (wordBehind code at i)
+  One i = first ≡ firstOf (wordBehind code at i)
 
   abbrev pub Two : ℕ → ℕ → Type 0
-  Two i j = (first ≡ home (wordBehind code at i)) × (second ≡ home (wordBehind code at j))
+  Two i j = (first ≡ firstOf (wordBehind code at i)) × (second ≡ firstOf (wordBehind code at j))
 
   abbrev pub Three : ℕ → ℕ → ℕ → Type 0
-  Three i j k = (first ≡ home (wordBehind code at i)) × (second ≡ home (wordBehind code at j)) × (third ≡ home (wordBehind code at k))
+  Three i j k = (first ≡ firstOf (wordBehind code at i)) × (second ≡ firstOf (wordBehind code at j)) × (third ≡ firstOf (wordBehind code at k))
 
   abbrev pub Leads : Op → Type 0
   Leads constant-op = One 1
@@ -102,21 +103,21 @@ unfoldable pub callMove : List ℕ → ℕ → ℕ → ℕ → ℕ → ℕ → M
 callMove code limit live at home body =
     elim (leb limit (live + 1)) [ true ↦ Stop NoActivationLeft | false ↦ Enter body home (at + 3 + wordBehind code at 2) ]
 
--- how many names a statement has, by its operation: 1 one or none, 2 two, 3 AR's three of which none is a formal, 4 another three
-unfoldable pub namesOf : Op → ℕ
-namesOf constant-op = 1
-namesOf add-op = 3
-namesOf subtract-op = 3
-namesOf compare-op = 3
-namesOf branch-op = 2
-namesOf goto-op = 1
-namesOf block-op = 1
-namesOf call-op = 1
-namesOf pair-op = 2
-namesOf unpair-op = 2
-namesOf query-op = 4
-namesOf constant-formal-op = 1
-namesOf arithmetic-formal-op = 4
-namesOf branch-formal-op = 2
-namesOf goto-formal-op = 1
-namesOf call-formal-op = 1
+-- the class of a statement by its operation: 0 one name or none, 1 to 3 AR of which none is a formal, 4 AR of which one is, 5 IF, 6 AD and RM, 7 QY
+unfoldable pub classOf : Op → ℕ
+classOf constant-op = 0
+classOf add-op = 1
+classOf subtract-op = 2
+classOf compare-op = 3
+classOf branch-op = 5
+classOf goto-op = 0
+classOf block-op = 0
+classOf call-op = 0
+classOf pair-op = 6
+classOf unpair-op = 6
+classOf query-op = 7
+classOf constant-formal-op = 0
+classOf arithmetic-formal-op = 4
+classOf branch-formal-op = 5
+classOf goto-formal-op = 0
+classOf call-formal-op = 0

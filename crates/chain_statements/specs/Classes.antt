@@ -11,7 +11,7 @@ use Rattle.language.specs.Basics.{among}
 use Rattle.laws.specs.Tests.{split, both}
 use Rattle.acting.specs.Acting.{Op, constant-op, operations, opOf}
 use Rattle.statements.specs.Numbers.{op-of}
-use Rattle.chain_statements.specs.Asking.{namesOf}
+use Rattle.chain_statements.specs.Asking.{classOf}
 
 -- none of these numbers: those that a match names, its last one first
 abbrev pub NoneOf : List ℕ → ℕ → Type 0
@@ -45,39 +45,55 @@ module _ (ks : List ℕ) (t : ℕ → Bool) (a : allBelow (unless ks t) 16 ≡ t
   unfolding unless
   rest-holds n h r = let e = none-among ks n r in rw (e, unless) at (below (unless ks t) 16 n a h)
 
--- how many names a statement has whose operation is none of these
+-- the class of a statement whose operation is none of these
 abbrev hasOne : ℕ → Bool
-hasOne n = eqb (namesOf (numbered n)) 1
+hasOne n = eqb (classOf (numbered n)) 0
 
-pub one-left : (v : ℕ) → NoneOf (13 ∷ 12 ∷ 10 ∷ 9 ∷ 8 ∷ 4 ∷ 3 ∷ 2 ∷ 1 ∷ []) (v % 16) → 1 ≡ namesOf (opOf v)
-unfolding allBelow unless among operations namesOf
+pub one-left : (v : ℕ) → NoneOf (14 ∷ 13 ∷ 12 ∷ 11 ∷ 10 ∷ 9 ∷ 8 ∷ 7 ∷ 6 ∷ 5 ∷ 4 ∷ 3 ∷ 2 ∷ 1 ∷ 0 ∷ []) (v % 16) → 0 ≡ classOf (opOf v)
+unfolding allBelow unless among operations classOf
 one-left v r =
-    let e = rest-holds (13 ∷ 12 ∷ 10 ∷ 9 ∷ 8 ∷ 4 ∷ 3 ∷ 2 ∷ 1 ∷ []) hasOne refl (v % 16) (omega arith) r in
-    sym (ap namesOf (op-of v (v % 16) refl) ∙ eqb-true (namesOf (numbered (v % 16))) 1 e)
+    let e = rest-holds (14 ∷ 13 ∷ 12 ∷ 11 ∷ 10 ∷ 9 ∷ 8 ∷ 7 ∷ 6 ∷ 5 ∷ 4 ∷ 3 ∷ 2 ∷ 1 ∷ 0 ∷ []) hasOne refl (v % 16) (omega arith) r in
+    sym (ap classOf (op-of v (v % 16) refl) ∙ eqb-true (classOf (numbered (v % 16))) 0 e)
 
--- the operation with so many names that is none of these
+-- the operation of a class that is none of these
 unfoldable isLast : ℕ → ℕ → ℕ → Bool
-isLast count last n = elim (eqb (namesOf (numbered n)) count) [ true ↦ eqb n last | false ↦ true ]
+isLast class last n = elim (eqb (classOf (numbered n)) class) [ true ↦ eqb n last | false ↦ true ]
 
-module _ (count last : ℕ) (ks : List ℕ) (a : allBelow (unless ks (isLast count last)) 16 ≡ true) where
-  last-left : (v : ℕ) → namesOf (opOf v) ≡ count → NoneOf ks (v % 16) → v % 16 ≡ last
+module _ (class last : ℕ) (ks : List ℕ) (a : allBelow (unless ks (isLast class last)) 16 ≡ true) where
+  last-left : (v : ℕ) → classOf (opOf v) ≡ class → NoneOf ks (v % 16) → v % 16 ≡ last
   unfolding isLast
   last-left v e r =
-      let q = eq-eqb (namesOf (numbered (v % 16))) count (sym (ap namesOf (op-of v (v % 16) refl)) ∙ e) in
-      eqb-true (v % 16) last (rw (q, isLast) at (rest-holds ks (isLast count last) a (v % 16) (omega arith) r))
+      let q = eq-eqb (classOf (numbered (v % 16))) class (sym (ap classOf (op-of v (v % 16) refl)) ∙ e) in
+      eqb-true (v % 16) last (rw (q, isLast) at (rest-holds ks (isLast class last) a (v % 16) (omega arith) r))
 
-pub call-left : (v : ℕ) → namesOf (opOf v) ≡ 1 → NoneOf (14 ∷ 11 ∷ 7 ∷ 6 ∷ 5 ∷ 0 ∷ []) (v % 16) → v % 16 ≡ 15
-unfolding allBelow unless among isLast operations namesOf
-call-left = last-left 1 15 (14 ∷ 11 ∷ 7 ∷ 6 ∷ 5 ∷ 0 ∷ []) refl
+pub call-left : (v : ℕ) → classOf (opOf v) ≡ 0 → NoneOf (14 ∷ 11 ∷ 7 ∷ 6 ∷ 5 ∷ 0 ∷ []) (v % 16) → v % 16 ≡ 15
+unfolding allBelow unless among isLast operations classOf
+call-left = last-left 0 15 (14 ∷ 11 ∷ 7 ∷ 6 ∷ 5 ∷ 0 ∷ []) refl
 
-pub branch-left : (v : ℕ) → namesOf (opOf v) ≡ 2 → NoneOf (9 ∷ 8 ∷ 4 ∷ []) (v % 16) → v % 16 ≡ 13
-unfolding allBelow unless among isLast operations namesOf
-branch-left = last-left 2 13 (9 ∷ 8 ∷ 4 ∷ []) refl
+pub add-only : (v : ℕ) → classOf (opOf v) ≡ 1 → v % 16 ≡ 1
+unfolding allBelow unless among isLast operations classOf
+add-only v e = last-left 1 1 [] refl v e tt
 
-pub compare-left : (v : ℕ) → namesOf (opOf v) ≡ 3 → NoneOf (2 ∷ 1 ∷ []) (v % 16) → v % 16 ≡ 3
-unfolding allBelow unless among isLast operations namesOf
-compare-left = last-left 3 3 (2 ∷ 1 ∷ []) refl
+pub subtract-only : (v : ℕ) → classOf (opOf v) ≡ 2 → v % 16 ≡ 2
+unfolding allBelow unless among isLast operations classOf
+subtract-only v e = last-left 2 2 [] refl v e tt
 
-pub arithmetic-left : (v : ℕ) → namesOf (opOf v) ≡ 4 → NoneOf (10 ∷ []) (v % 16) → v % 16 ≡ 12
-unfolding allBelow unless among isLast operations namesOf
-arithmetic-left = last-left 4 12 (10 ∷ []) refl
+pub compare-only : (v : ℕ) → classOf (opOf v) ≡ 3 → v % 16 ≡ 3
+unfolding allBelow unless among isLast operations classOf
+compare-only v e = last-left 3 3 [] refl v e tt
+
+pub arithmetic-only : (v : ℕ) → classOf (opOf v) ≡ 4 → v % 16 ≡ 12
+unfolding allBelow unless among isLast operations classOf
+arithmetic-only v e = last-left 4 12 [] refl v e tt
+
+pub branch-left : (v : ℕ) → classOf (opOf v) ≡ 5 → NoneOf (4 ∷ []) (v % 16) → v % 16 ≡ 13
+unfolding allBelow unless among isLast operations classOf
+branch-left = last-left 5 13 (4 ∷ []) refl
+
+pub unpair-left : (v : ℕ) → classOf (opOf v) ≡ 6 → NoneOf (8 ∷ []) (v % 16) → v % 16 ≡ 9
+unfolding allBelow unless among isLast operations classOf
+unpair-left = last-left 6 9 (8 ∷ []) refl
+
+pub query-only : (v : ℕ) → classOf (opOf v) ≡ 7 → v % 16 ≡ 10
+unfolding allBelow unless among isLast operations classOf
+query-only v e = last-left 7 10 [] refl v e tt

@@ -1,6 +1,6 @@
--- Statements whose names' activations are found, in reading order.
+-- Statements whose names are found, in reading order.
 pub mod Finding
 pub mod Asking
-pub mod Homes
+pub mod Cells
 pub mod Moves
 pub mod Classes

@@ -1,5 +1,5 @@
-// The statements, each with the homes of its names. `at` is the place of the statement's operation. A statement none of whose names is a formal has a
-// function of its own. Each does what its definition in Acting says, by whatever way of finding names has these homes.
+// The statements, each with the first cells of the activations that declare its names. `at` is the place of the statement's operation. A statement none of
+// whose names is a formal has a function of its own. Each does what its definition in Acting says, by whatever way of finding names has these cells.
 use super::names::cell;
 use super::names::held;
 use super::names::own;
@@ -11,19 +11,20 @@ use statements::computed;
 use statements::constant;
 use stepping::code_at;
 ghost use mathlib.Core.Path.{_≡_};
-ghost use Prim.Native.Nat.{ℕ, _+_, _*_, _<_, _≤_, _%_, _/_};
+ghost use Prim.Native.Nat.{ℕ, _+_, _<_, _≤_, _%_, _/_};
 ghost use lib.ListN.{getD};
 ghost use Rattle.language.specs.Text.{plus, minus, less};
 ghost use Rattle.resolved.specs.Resolved.{targetIn};
 ghost use Rattle.arrays.specs.Found.{heldBy};
 ghost use Rattle.acting.specs.Acting.{doConstant, doArithmetic, operationOf, doGoto, doBranch, doCallFormal, doAdd, doRemove, doQuery};
 ghost use Rattle.statements.specs.Pieces.{only-words, without-table, with-table, FormalsBefore};
-ghost use Rattle.chain_statements.specs.Finding.{byHome, Reachable, Direct, ThroughFormal};
+ghost use Rattle.steps.specs.Finding.{byFirst};
+ghost use Rattle.chain_statements.specs.Finding.{Reachable, Direct, ThroughFormal};
 ghost use Rattle.chain_statements.specs.Asking.{wordBehind, Calling, callMove};
 
 pub fn do_constant(code: &[u32; 4096], words: &mut [i32; 8224], at: usize, first: usize) -> Move
     requires { ⌜ (at + 4 ≤ 4096) × Direct (now words) first (wordBehind (now code) at 1) ⌝ }
-    ensures { λ r. ⌜ ((home : ℕ → ℕ) → first ≡ home (wordBehind (now (code .entry)) at 1) → (r ≡ doConstant (byHome (now (words .entry)) home) (only-words (now (code .entry)) (now (words .entry)) at) .move) × (now (words .exit) ≡ doConstant (byHome (now (words .entry)) home) (only-words (now (code .entry)) (now (words .entry)) at) .words)) ⌝ }
+    ensures { λ r. ⌜ ((firstOf : ℕ → ℕ) → first ≡ firstOf (wordBehind (now (code .entry)) at 1) → (r ≡ doConstant (byFirst (now (words .entry)) firstOf) (only-words (now (code .entry)) (now (words .entry)) at) .move) × (now (words .exit) ≡ doConstant (byFirst (now (words .entry)) firstOf) (only-words (now (code .entry)) (now (words .entry)) at) .words)) ⌝ }
 {
     constant(code, words, own(code, at + 1, first), at)
 }
@@ -35,7 +36,7 @@ pub fn do_constant_formal(
     first: usize,
 ) -> Move
     requires { ⌜ (at + 4 ≤ 4096) × Reachable (now words) first (wordBehind (now code) at 1) ⌝ }
-    ensures { λ r. ⌜ ((home : ℕ → ℕ) → first ≡ home (wordBehind (now (code .entry)) at 1) → (r ≡ doConstant (byHome (now (words .entry)) home) (only-words (now (code .entry)) (now (words .entry)) at) .move) × (now (words .exit) ≡ doConstant (byHome (now (words .entry)) home) (only-words (now (code .entry)) (now (words .entry)) at) .words)) ⌝ }
+    ensures { λ r. ⌜ ((firstOf : ℕ → ℕ) → first ≡ firstOf (wordBehind (now (code .entry)) at 1) → (r ≡ doConstant (byFirst (now (words .entry)) firstOf) (only-words (now (code .entry)) (now (words .entry)) at) .move) × (now (words .exit) ≡ doConstant (byFirst (now (words .entry)) firstOf) (only-words (now (code .entry)) (now (words .entry)) at) .words)) ⌝ }
 {
     constant(code, words, cell(code, words, at + 1, first), at)
 }
@@ -49,7 +50,7 @@ pub fn do_add(
     third: usize,
 ) -> Move
     requires { ⌜ (at + 5 ≤ 4096) × Direct (now words) first (wordBehind (now code) at 1) × Direct (now words) second (wordBehind (now code) at 3) × Direct (now words) third (wordBehind (now code) at 4) ⌝ }
-    ensures { λ r. ⌜ ((home : ℕ → ℕ) → first ≡ home (wordBehind (now (code .entry)) at 1) → second ≡ home (wordBehind (now (code .entry)) at 3) → third ≡ home (wordBehind (now (code .entry)) at 4) → (r ≡ doArithmetic (byHome (now (words .entry)) home) (only-words (now (code .entry)) (now (words .entry)) at) plus .move) × (now (words .exit) ≡ doArithmetic (byHome (now (words .entry)) home) (only-words (now (code .entry)) (now (words .entry)) at) plus .words)) ⌝ }
+    ensures { λ r. ⌜ ((firstOf : ℕ → ℕ) → first ≡ firstOf (wordBehind (now (code .entry)) at 1) → second ≡ firstOf (wordBehind (now (code .entry)) at 3) → third ≡ firstOf (wordBehind (now (code .entry)) at 4) → (r ≡ doArithmetic (byFirst (now (words .entry)) firstOf) (only-words (now (code .entry)) (now (words .entry)) at) plus .move) × (now (words .exit) ≡ doArithmetic (byFirst (now (words .entry)) firstOf) (only-words (now (code .entry)) (now (words .entry)) at) plus .words)) ⌝ }
 {
     let target = own(code, at + 1, first);
     let left = own(code, at + 3, second);
@@ -66,7 +67,7 @@ pub fn do_subtract(
     third: usize,
 ) -> Move
     requires { ⌜ (at + 5 ≤ 4096) × Direct (now words) first (wordBehind (now code) at 1) × Direct (now words) second (wordBehind (now code) at 3) × Direct (now words) third (wordBehind (now code) at 4) ⌝ }
-    ensures { λ r. ⌜ ((home : ℕ → ℕ) → first ≡ home (wordBehind (now (code .entry)) at 1) → second ≡ home (wordBehind (now (code .entry)) at 3) → third ≡ home (wordBehind (now (code .entry)) at 4) → (r ≡ doArithmetic (byHome (now (words .entry)) home) (only-words (now (code .entry)) (now (words .entry)) at) minus .move) × (now (words .exit) ≡ doArithmetic (byHome (now (words .entry)) home) (only-words (now (code .entry)) (now (words .entry)) at) minus .words)) ⌝ }
+    ensures { λ r. ⌜ ((firstOf : ℕ → ℕ) → first ≡ firstOf (wordBehind (now (code .entry)) at 1) → second ≡ firstOf (wordBehind (now (code .entry)) at 3) → third ≡ firstOf (wordBehind (now (code .entry)) at 4) → (r ≡ doArithmetic (byFirst (now (words .entry)) firstOf) (only-words (now (code .entry)) (now (words .entry)) at) minus .move) × (now (words .exit) ≡ doArithmetic (byFirst (now (words .entry)) firstOf) (only-words (now (code .entry)) (now (words .entry)) at) minus .words)) ⌝ }
 {
     let target = own(code, at + 1, first);
     let left = own(code, at + 3, second);
@@ -83,7 +84,7 @@ pub fn do_compare(
     third: usize,
 ) -> Move
     requires { ⌜ (at + 5 ≤ 4096) × Direct (now words) first (wordBehind (now code) at 1) × Direct (now words) second (wordBehind (now code) at 3) × Direct (now words) third (wordBehind (now code) at 4) ⌝ }
-    ensures { λ r. ⌜ ((home : ℕ → ℕ) → first ≡ home (wordBehind (now (code .entry)) at 1) → second ≡ home (wordBehind (now (code .entry)) at 3) → third ≡ home (wordBehind (now (code .entry)) at 4) → (r ≡ doArithmetic (byHome (now (words .entry)) home) (only-words (now (code .entry)) (now (words .entry)) at) less .move) × (now (words .exit) ≡ doArithmetic (byHome (now (words .entry)) home) (only-words (now (code .entry)) (now (words .entry)) at) less .words)) ⌝ }
+    ensures { λ r. ⌜ ((firstOf : ℕ → ℕ) → first ≡ firstOf (wordBehind (now (code .entry)) at 1) → second ≡ firstOf (wordBehind (now (code .entry)) at 3) → third ≡ firstOf (wordBehind (now (code .entry)) at 4) → (r ≡ doArithmetic (byFirst (now (words .entry)) firstOf) (only-words (now (code .entry)) (now (words .entry)) at) less .move) × (now (words .exit) ≡ doArithmetic (byFirst (now (words .entry)) firstOf) (only-words (now (code .entry)) (now (words .entry)) at) less .words)) ⌝ }
 {
     let target = own(code, at + 1, first);
     let left = own(code, at + 3, second);
@@ -101,7 +102,7 @@ pub fn do_arithmetic_formal(
     third: usize,
 ) -> Move
     requires { ⌜ (at + 5 ≤ 4096) × Reachable (now words) first (wordBehind (now code) at 1) × Reachable (now words) second (wordBehind (now code) at 3) × Reachable (now words) third (wordBehind (now code) at 4) ⌝ }
-    ensures { λ r. ⌜ ((home : ℕ → ℕ) → first ≡ home (wordBehind (now (code .entry)) at 1) → second ≡ home (wordBehind (now (code .entry)) at 3) → third ≡ home (wordBehind (now (code .entry)) at 4) → (r ≡ doArithmetic (byHome (now (words .entry)) home) (only-words (now (code .entry)) (now (words .entry)) at) (operationOf (wordBehind (now (code .entry)) at 2)) .move) × (now (words .exit) ≡ doArithmetic (byHome (now (words .entry)) home) (only-words (now (code .entry)) (now (words .entry)) at) (operationOf (wordBehind (now (code .entry)) at 2)) .words)) ⌝ }
+    ensures { λ r. ⌜ ((firstOf : ℕ → ℕ) → first ≡ firstOf (wordBehind (now (code .entry)) at 1) → second ≡ firstOf (wordBehind (now (code .entry)) at 3) → third ≡ firstOf (wordBehind (now (code .entry)) at 4) → (r ≡ doArithmetic (byFirst (now (words .entry)) firstOf) (only-words (now (code .entry)) (now (words .entry)) at) (operationOf (wordBehind (now (code .entry)) at 2)) .move) × (now (words .exit) ≡ doArithmetic (byFirst (now (words .entry)) firstOf) (only-words (now (code .entry)) (now (words .entry)) at) (operationOf (wordBehind (now (code .entry)) at 2)) .words)) ⌝ }
 {
     let target = cell(code, words, at + 1, first);
     let left = cell(code, words, at + 3, second);
@@ -120,14 +121,14 @@ pub fn do_arithmetic_formal(
 // GO
 pub fn do_goto(code: &[u32; 4096], at: usize, first: usize) -> Move
     requires { ⌜ at + 2 ≤ 4096 ⌝ }
-    ensures { λ r. ⌜ r ≡ Move.Jump first (targetIn (wordBehind (now (code .entry)) at 1)) ⌝ }
+    ensures { λ r. ⌜ r ≡ Move.Jump (first / 32) (targetIn (wordBehind (now (code .entry)) at 1)) ⌝ }
 {
-    Move::Jump(first, code_at(code, at + 1) / 65536)
+    Move::Jump(first / 32, code_at(code, at + 1) / 65536)
 }
 
 pub fn do_goto_formal(code: &[u32; 4096], words: &[i32; 8224], at: usize, first: usize) -> Move
     requires { ⌜ (at + 2 ≤ 4096) × ThroughFormal (now words) first (wordBehind (now code) at 1) ⌝ }
-    ensures { λ r. ⌜ ((home : ℕ → ℕ) → first ≡ home (wordBehind (now (code .entry)) at 1) → r ≡ doGoto (byHome (now (words .entry)) home) (only-words (now (code .entry)) (now (words .entry)) at) .move) ⌝ }
+    ensures { λ r. ⌜ ((firstOf : ℕ → ℕ) → first ≡ firstOf (wordBehind (now (code .entry)) at 1) → r ≡ doGoto (byFirst (now (words .entry)) firstOf) (only-words (now (code .entry)) (now (words .entry)) at) .move) ⌝ }
 {
     let to = held(code, words, at + 1, first);
     Move::Jump(to % 8192 / 32, to / 8192)
@@ -142,7 +143,7 @@ pub fn do_branch(
     second: usize,
 ) -> Move
     requires { ⌜ (at + 3 ≤ 4096) × Direct (now words) first (wordBehind (now code) at 1) × Direct (now words) second (wordBehind (now code) at 2) ⌝ }
-    ensures { λ r. ⌜ ((home : ℕ → ℕ) → first ≡ home (wordBehind (now (code .entry)) at 1) → second ≡ home (wordBehind (now (code .entry)) at 2) → r ≡ doBranch (byHome (now (words .entry)) home) (only-words (now (code .entry)) (now (words .entry)) at) .move) ⌝ }
+    ensures { λ r. ⌜ ((firstOf : ℕ → ℕ) → first ≡ firstOf (wordBehind (now (code .entry)) at 1) → second ≡ firstOf (wordBehind (now (code .entry)) at 2) → r ≡ doBranch (byFirst (now (words .entry)) firstOf) (only-words (now (code .entry)) (now (words .entry)) at) .move) ⌝ }
 {
     if words[own(code, at + 2, second)] == 0 {
         return Move::On(at + 3);
@@ -158,7 +159,7 @@ pub fn do_branch_formal(
     second: usize,
 ) -> Move
     requires { ⌜ (at + 3 ≤ 4096) × Reachable (now words) first (wordBehind (now code) at 1) × Reachable (now words) second (wordBehind (now code) at 2) ⌝ }
-    ensures { λ r. ⌜ ((home : ℕ → ℕ) → first ≡ home (wordBehind (now (code .entry)) at 1) → second ≡ home (wordBehind (now (code .entry)) at 2) → r ≡ doBranch (byHome (now (words .entry)) home) (only-words (now (code .entry)) (now (words .entry)) at) .move) ⌝ }
+    ensures { λ r. ⌜ ((firstOf : ℕ → ℕ) → first ≡ firstOf (wordBehind (now (code .entry)) at 1) → second ≡ firstOf (wordBehind (now (code .entry)) at 2) → r ≡ doBranch (byFirst (now (words .entry)) firstOf) (only-words (now (code .entry)) (now (words .entry)) at) .move) ⌝ }
 {
     if words[cell(code, words, at + 2, second)] == 0 {
         return Move::On(at + 3);
@@ -189,9 +190,16 @@ fn enter_body(
 
 pub fn do_call(code: &[u32; 4096], limit: usize, live: usize, at: usize, first: usize) -> Move
     requires { ⌜ Calling (now code) limit live at ⌝ }
-    ensures { λ r. ⌜ r ≡ callMove (now (code .entry)) limit live at first (targetIn (wordBehind (now (code .entry)) at 1)) ⌝ }
+    ensures { λ r. ⌜ r ≡ callMove (now (code .entry)) limit live at (first / 32) (targetIn (wordBehind (now (code .entry)) at 1)) ⌝ }
 {
-    enter_body(code, limit, live, at, first, code_at(code, at + 1) / 65536)
+    enter_body(
+        code,
+        limit,
+        live,
+        at,
+        first / 32,
+        code_at(code, at + 1) / 65536,
+    )
 }
 
 // 26 goes before 22.
@@ -203,8 +211,8 @@ pub fn do_call_formal(
     at: usize,
     first: usize,
 ) -> Move
-    requires { ⌜ Calling (now code) limit live at × ThroughFormal (now words) first (wordBehind (now code) at 1) × FormalsBefore (now code) (heldBy (now words) (32 * first) (wordBehind (now code) at 1) / 8192) ⌝ }
-    ensures { λ r. ⌜ ((home : ℕ → ℕ) → first ≡ home (wordBehind (now (code .entry)) at 1) → r ≡ doCallFormal (byHome (now (words .entry)) home) (without-table (now (code .entry)) (now (words .entry)) limit live at) .move) ⌝ }
+    requires { ⌜ Calling (now code) limit live at × ThroughFormal (now words) first (wordBehind (now code) at 1) × FormalsBefore (now code) (heldBy (now words) first (wordBehind (now code) at 1) / 8192) ⌝ }
+    ensures { λ r. ⌜ ((firstOf : ℕ → ℕ) → first ≡ firstOf (wordBehind (now (code .entry)) at 1) → r ≡ doCallFormal (byFirst (now (words .entry)) firstOf) (without-table (now (code .entry)) (now (words .entry)) limit live at) .move) ⌝ }
 {
     let procedure = held(code, words, at + 1, first);
     let body = procedure / 8192;
@@ -229,7 +237,7 @@ pub fn do_add_pair(
     second: usize,
 ) -> Move
     requires { ⌜ (at + 3 ≤ 4096) × Reachable (now words) first (wordBehind (now code) at 1) × Reachable (now words) second (wordBehind (now code) at 2) ⌝ }
-    ensures { λ r. ⌜ ((home : ℕ → ℕ) → first ≡ home (wordBehind (now (code .entry)) at 1) → second ≡ home (wordBehind (now (code .entry)) at 2) → (r ≡ doAdd (byHome (now (words .entry)) home) (with-table (now (code .entry)) (now (words .entry)) (now (table .entry)) pairs limit at) .move) × (now (table .exit) ≡ doAdd (byHome (now (words .entry)) home) (with-table (now (code .entry)) (now (words .entry)) (now (table .entry)) pairs limit at) .table)) ⌝ }
+    ensures { λ r. ⌜ ((firstOf : ℕ → ℕ) → first ≡ firstOf (wordBehind (now (code .entry)) at 1) → second ≡ firstOf (wordBehind (now (code .entry)) at 2) → (r ≡ doAdd (byFirst (now (words .entry)) firstOf) (with-table (now (code .entry)) (now (words .entry)) (now (table .entry)) pairs limit at) .move) × (now (table .exit) ≡ doAdd (byFirst (now (words .entry)) firstOf) (with-table (now (code .entry)) (now (words .entry)) (now (table .entry)) pairs limit at) .table)) ⌝ }
 {
     let group = words[cell(code, words, at + 1, first)];
     let member = words[cell(code, words, at + 2, second)];
@@ -246,7 +254,7 @@ pub fn do_remove_pair(
     second: usize,
 ) -> Move
     requires { ⌜ (at + 3 ≤ 4096) × Reachable (now words) first (wordBehind (now code) at 1) × Reachable (now words) second (wordBehind (now code) at 2) ⌝ }
-    ensures { λ r. ⌜ ((home : ℕ → ℕ) → first ≡ home (wordBehind (now (code .entry)) at 1) → second ≡ home (wordBehind (now (code .entry)) at 2) → (r ≡ doRemove (byHome (now (words .entry)) home) (with-table (now (code .entry)) (now (words .entry)) (now (table .entry)) pairs 0 at) .move) × (now (table .exit) ≡ doRemove (byHome (now (words .entry)) home) (with-table (now (code .entry)) (now (words .entry)) (now (table .entry)) pairs 0 at) .table)) ⌝ }
+    ensures { λ r. ⌜ ((firstOf : ℕ → ℕ) → first ≡ firstOf (wordBehind (now (code .entry)) at 1) → second ≡ firstOf (wordBehind (now (code .entry)) at 2) → (r ≡ doRemove (byFirst (now (words .entry)) firstOf) (with-table (now (code .entry)) (now (words .entry)) (now (table .entry)) pairs 0 at) .move) × (now (table .exit) ≡ doRemove (byFirst (now (words .entry)) firstOf) (with-table (now (code .entry)) (now (words .entry)) (now (table .entry)) pairs 0 at) .table)) ⌝ }
 {
     let group = words[cell(code, words, at + 1, first)];
     let member = words[cell(code, words, at + 2, second)];
@@ -265,7 +273,7 @@ pub fn do_query(
     third: usize,
 ) -> Move
     requires { ⌜ (at + 4 ≤ 4096) × Reachable (now words) first (wordBehind (now code) at 1) × Reachable (now words) second (wordBehind (now code) at 2) × Reachable (now words) third (wordBehind (now code) at 3) ⌝ }
-    ensures { λ r. ⌜ ((home : ℕ → ℕ) → first ≡ home (wordBehind (now (code .entry)) at 1) → second ≡ home (wordBehind (now (code .entry)) at 2) → third ≡ home (wordBehind (now (code .entry)) at 3) → (r ≡ doQuery (byHome (now (words .entry)) home) (with-table (now (code .entry)) (now (words .entry)) (now (table .entry)) pairs 0 at) .move) × (now (words .exit) ≡ doQuery (byHome (now (words .entry)) home) (with-table (now (code .entry)) (now (words .entry)) (now (table .entry)) pairs 0 at) .words)) ⌝ }
+    ensures { λ r. ⌜ ((firstOf : ℕ → ℕ) → first ≡ firstOf (wordBehind (now (code .entry)) at 1) → second ≡ firstOf (wordBehind (now (code .entry)) at 2) → third ≡ firstOf (wordBehind (now (code .entry)) at 3) → (r ≡ doQuery (byFirst (now (words .entry)) firstOf) (with-table (now (code .entry)) (now (words .entry)) (now (table .entry)) pairs 0 at) .move) × (now (words .exit) ≡ doQuery (byFirst (now (words .entry)) firstOf) (with-table (now (code .entry)) (now (words .entry)) (now (table .entry)) pairs 0 at) .words)) ⌝ }
 {
     let target = cell(code, words, at + 1, first);
     let group = words[cell(code, words, at + 2, second)];

@@ -1,6 +1,6 @@
--- The next statement, with its names found by the links: what `acted` asks (`Stating`). Of a statement that is asked so: `by-count`, which fields its names
--- stand in, by how many it has, and when their homes are those that the links lead to; `ready`, what its function may rely on then; `only-led`, the same of
--- a statement with one name or none.
+-- The next statement, with its names found by the links: what `acted` asks (`Stating`), and where it is of a class (`Summing`, `Tabling`). Of a statement
+-- that is asked so: `by-class`, which fields its names stand in, by its class, and when their cells are those that the links lead to; `ready`, what its
+-- function may rely on then; `Does-as`, all this of AR and QY, whose function is called at once; `only-led`, of a statement with one name or none.
 use Prim.Native.Nat.{ℕ, zero, suc, _+_, _*_, _-_, _/_, _%_, _≤_, _<_}
 use native.Mathlib.Omega.{arith}
 use mathlib.Core.Bool.{true, false}
@@ -10,6 +10,7 @@ use borrow.Author.Tests.{eqb-true, eqb-false, eq-eqb, ne-eqb}
 use lib.Dec.{eqb}
 use lib.IntN.{ℤ}
 use lib.ListN.{getD}
+use Rattle.language.specs.Text.{Operation, plus, minus, less}
 use Rattle.laws.specs.Tests.{split}
 use Rattle.resolved.specs.Resolved.{levelIn, direct}
 use Rattle.arrays.specs.Found.{heldBy, targetBy}
@@ -17,17 +18,20 @@ use Rattle.arrays.specs.Names.{follow}
 use Rattle.acting.specs.declared.Move.{Move}
 use Rattle.acting.specs.Acting.{Happened, Op, constant-op, add-op, subtract-op, compare-op, branch-op, goto-op, block-op, call-op, pair-op, unpair-op, query-op}
 use Rattle.acting.specs.Acting.{constant-formal-op, arithmetic-formal-op, branch-formal-op, goto-formal-op, call-formal-op, operations, opOf}
+use Rattle.acting.specs.Acting.{Finding, Scene, operationOf, doArithmetic, doQuery, happens, acting}
 use Rattle.steps.specs.Standing.{Standing}
 use Rattle.steps.specs.Here.{live-few}
 use Rattle.steps.specs.Fields as fields
-use Rattle.statements.specs.Pieces.{FormalsBefore}
+use Rattle.statements.specs.Pieces.{FormalsBefore, only-words, with-table}
 use Rattle.statements.specs.Numbers.{op-of}
 use Rattle.chain_statements.specs.Finding.{Reachable, Direct, ThroughFormal}
-use Rattle.chain_statements.specs.Asking.{wordBehind, Calling, Ready, Leads, Did, namesOf}
+use Rattle.chain_statements.specs.Asking.{wordBehind, Calling, Ready, Leads, Did, sceneOf, classOf}
+use Rattle.chain_statements.specs.Moves as moves
+use Rattle.chain_statements.specs.Classes.{add-only, subtract-only, compare-only, arithmetic-only, query-only}
 use Rattle.activations.specs.declared.Activation.{Activation}
 use Rattle.links.specs.declared.Now.{Now}
 use Rattle.links.specs.Records.{blocksIn, nextsIn, linksIn}
-use Rattle.links.specs.Finding.{homeOf, firstCell, byChain, Seen, Named}
+use Rattle.links.specs.Finding.{firstCell, byChain, Seen, Named}
 use Rattle.links.specs.Running.{limitsBy, Running}
 use Rattle.links.specs.Names as links
 use Rattle.chain_steps.specs.declared.turn.Moved.{Moved}
@@ -38,6 +42,33 @@ pub record Stating (code : List ℕ) (words : List ℤ) (records : List Activati
   pub running : Running code limit group words records table here
   pub before : here .at ≡ here .end → ⊥
 
+-- what the next statement does to words and table
+abbrev pub happening : List ℕ → List ℤ → List Activation → List ℤ → ℕ → ℕ → Now → Happened
+happening code words records table group limit here =
+    acting (byChain words records (here .live) (here .level)) (sceneOf code words table (here .pairs) group limit (here .live) (here .at))
+
+-- its class, and the first cell of the innermost activation
+pub record Chosen (code : List ℕ) (here : Now) (own class : ℕ) : Type 0 where
+  pub own-is : own ≡ 32 * here .live
+  pub class-is : class ≡ classOf (opOf (getD code (here .at) 0))
+
+-- AR
+pub record Summing (code : List ℕ) (words : List ℤ) (records : List Activation) (here : Now) (own class : ℕ) : Type 0 where
+  pub table : List ℤ
+  pub group : ℕ
+  pub limit : ℕ
+  pub stating : Stating code words records table group limit here
+  pub chosen : Chosen code here own class
+  pub low : 1 ≤ class
+  pub high : class ≤ 4
+
+-- AD, RM and QY
+pub record Tabling (code : List ℕ) (words : List ℤ) (records : List Activation) (table : List ℤ) (group : ℕ) (here : Now) (own class : ℕ) : Type 0 where
+  pub limit : ℕ
+  pub stating : Stating code words records table group limit here
+  pub chosen : Chosen code here own class
+  pub low : 5 < class
+
 -- the statement has been done, and the engine goes on so
 pub record Does (done : Happened) (words : List ℤ) (here : Now) (moved : Moved) (words′ table′ : List ℤ) : Type 0 where
   pub move : Move
@@ -47,24 +78,6 @@ pub record Does (done : Happened) (words : List ℤ) (here : Now) (moved : Moved
 unfoldable pub onlyHops : List ℕ → Now → ℕ
 onlyHops code here =
     elim (eqb (getD code (here .at) 0 % 16) 6) [ true ↦ 0 | false ↦ here .level - levelIn (getD code (here .at + 1) 0) ]
-
-unfoldable pub secondField : Op → ℕ
-secondField constant-op = 3
-secondField add-op = 3
-secondField subtract-op = 3
-secondField compare-op = 3
-secondField branch-op = 3
-secondField goto-op = 3
-secondField block-op = 3
-secondField call-op = 3
-secondField pair-op = 3
-secondField unpair-op = 3
-secondField query-op = 2
-secondField constant-formal-op = 3
-secondField arithmetic-formal-op = 3
-secondField branch-formal-op = 3
-secondField goto-formal-op = 3
-secondField call-formal-op = 3
 
 -- The links of the only name
 
@@ -97,36 +110,6 @@ block-number (suc (suc (suc (suc (suc (suc (suc (suc (suc (suc (suc (suc (suc (s
 block-number (suc (suc (suc (suc (suc (suc (suc (suc (suc (suc (suc (suc (suc (suc (suc zero))))))))))))))) e = let z : _≡_ {A = ℕ} 0 1 = cc in absurd (omega arith)
 block-number (suc (suc (suc (suc (suc (suc (suc (suc (suc (suc (suc (suc (suc (suc (suc (suc k)))))))))))))))) e = let z : _≡_ {A = ℕ} 0 1 = cc in absurd (omega arith)
 
--- The field of the second name
-
-pub query-field : (v : ℕ) → v % 16 ≡ 10 → 2 ≡ secondField (opOf v)
-unfolding operations secondField
-query-field v e = sym (ap secondField (op-of v 10 e))
-
-other-number : (k : ℕ) → (k ≡ 10 → ⊥) → 3 ≡ secondField (getD operations k constant-op)
-unfolding operations secondField
-other-number zero d = refl
-other-number (suc zero) d = refl
-other-number (suc (suc zero)) d = refl
-other-number (suc (suc (suc zero))) d = refl
-other-number (suc (suc (suc (suc zero)))) d = refl
-other-number (suc (suc (suc (suc (suc zero))))) d = refl
-other-number (suc (suc (suc (suc (suc (suc zero)))))) d = refl
-other-number (suc (suc (suc (suc (suc (suc (suc zero))))))) d = refl
-other-number (suc (suc (suc (suc (suc (suc (suc (suc zero)))))))) d = refl
-other-number (suc (suc (suc (suc (suc (suc (suc (suc (suc zero))))))))) d = refl
-other-number (suc (suc (suc (suc (suc (suc (suc (suc (suc (suc zero)))))))))) d = absurd (d refl)
-other-number (suc (suc (suc (suc (suc (suc (suc (suc (suc (suc (suc zero))))))))))) d = refl
-other-number (suc (suc (suc (suc (suc (suc (suc (suc (suc (suc (suc (suc zero)))))))))))) d = refl
-other-number (suc (suc (suc (suc (suc (suc (suc (suc (suc (suc (suc (suc (suc zero))))))))))))) d = refl
-other-number (suc (suc (suc (suc (suc (suc (suc (suc (suc (suc (suc (suc (suc (suc zero)))))))))))))) d = refl
-other-number (suc (suc (suc (suc (suc (suc (suc (suc (suc (suc (suc (suc (suc (suc (suc zero))))))))))))))) d = refl
-other-number (suc (suc (suc (suc (suc (suc (suc (suc (suc (suc (suc (suc (suc (suc (suc (suc k)))))))))))))))) d = refl
-
-pub other-field : (v : ℕ) → (v % 16 ≡ 10 → ⊥) → 3 ≡ secondField (opOf v)
-unfolding opOf
-other-field v d = other-number (v % 16) d
-
 formal-target : (words : List ℤ) (first v : ℕ) → direct v ≡ false → targetBy words first v ≡ heldBy words first v / 8192
 unfolding targetBy
 formal-target words first v e = rw (targetBy, e)
@@ -146,14 +129,14 @@ module _ {code : List ℕ} {words : List ℤ} {records : List Activation} {table
   abbrev pub op : Op
   op = opOf (getD code (here .at) 0)
 
-  abbrev pub home : ℕ → ℕ
-  home = homeOf records (here .live) (here .level)
+  abbrev pub firstOf : ℕ → ℕ
+  firstOf = firstCell records (here .live) (here .level)
 
   stand : fields.Fields st op
   stand = fields.fields-stand st (s .before)
 
   abbrev Led : (first second third : ℕ) → Op → Type 0
-  Led first second third o = Leads home code (here .at) first second third o
+  Led first second third o = Leads firstOf code (here .at) first second third o
 
   -- a statement stands there, of two words at least
   pub next-there : here .at + 1 < 4096
@@ -188,22 +171,22 @@ module _ {code : List ℕ} {words : List ℤ} {records : List Activation} {table
   named : (i : ℕ) → here .at + i < 4096 → fields.FieldName st i → Named code records here i
   named i h f = record { there = h; seen = seen i f }
 
-  reachable : (i first : ℕ) → first ≡ home (word i) → fields.FieldName st i → Reachable words first (word i)
+  reachable : (i first : ℕ) → first ≡ firstOf (word i) → fields.FieldName st i → Reachable words first (word i)
   reachable i first e f =
       subst (λ h. Reachable words h (word i)) (sym e)
-      (subst (λ v. Reachable words (home v) v) (sym (f .word)) (links.reachable w (f .name) (f .resolved)))
+      (subst (λ v. Reachable words (firstOf v) v) (sym (f .word)) (links.reachable w (f .name) (f .resolved)))
 
-  directly : (i first : ℕ) → first ≡ home (word i) → fields.Direct st i → Direct words first (word i)
+  directly : (i first : ℕ) → first ≡ firstOf (word i) → fields.Direct st i → Direct words first (word i)
   directly i first e f = record { reachable = reachable i first e (f .0); is = f .1 }
 
-  formally : (i first : ℕ) → first ≡ home (word i) → fields.ThroughFormal st i → ThroughFormal words first (word i)
+  formally : (i first : ℕ) → first ≡ firstOf (word i) → fields.ThroughFormal st i → ThroughFormal words first (word i)
   formally i first e f = record { reachable = reachable i first e (f .0); is = f .1 }
 
-  formals-before : (first : ℕ) → first ≡ home (word 1) → fields.ThroughFormal st 1 → fields.BodyStands st
-      → FormalsBefore code (heldBy words (32 * first) (word 1) / 8192)
+  formals-before : (first : ℕ) → first ≡ firstOf (word 1) → fields.ThroughFormal st 1 → fields.BodyStands st
+      → FormalsBefore code (heldBy words first (word 1) / 8192)
   formals-before first e f b =
       let h = b (byChain words records (here .live) (here .level)) (links.finds-by-chain w) in
-      subst (λ k. FormalsBefore code (heldBy words (32 * k) (word 1) / 8192)) (sym e)
+      subst (λ k. FormalsBefore code (heldBy words k (word 1) / 8192)) (sym e)
       (subst (FormalsBefore code) (formal-target words (firstCell records (here .live) (here .level) (word 1)) (word 1) (f .1))
       (record { there = h .0; before = h .1 }))
 
@@ -240,58 +223,148 @@ module _ {code : List ℕ} {words : List ℤ} {records : List Activation} {table
   pub live-low : here .live ≤ 255
   live-low = omega (arith, live-few st)
 
-  -- Its names, by how many it has
+  -- Its names, by its class
 
   abbrev At : ℕ → ℕ → Type 0
-  At first i = first ≡ home (word i)
+  At first i = first ≡ firstOf (word i)
 
   abbrev N : ℕ → Type 0
   N i = Named code records here i
 
-  abbrev ByCount : Op → ℕ → Type 0
-  ByCount o zero = ⊥
-  ByCount o (suc zero) = (first : ℕ) → At first 1 → Led first 0 0 o
-  ByCount o (suc (suc zero)) = (N 1 × N 2) × ((first second : ℕ) → At first 1 → At second 2 → Led first second 0 o)
-  ByCount o (suc (suc (suc zero))) = (N 1 × N 3 × N 4) × ((first second third : ℕ) → At first 1 → At second 3 → At third 4 → Led first second third o)
-  ByCount o (suc (suc (suc (suc zero)))) = (N 1 × N (secondField o) × N (secondField o + 1)) × ((first second third : ℕ) → At first 1
-      → At second (secondField o) → At third (secondField o + 1) → Led first second third o)
-  ByCount o (suc (suc (suc (suc (suc n))))) = ⊥
+  abbrev Two : Op → Type 0
+  Two o = (N 1 × N 2) × ((first second : ℕ) → At first 1 → At second 2 → Led first second 0 o)
 
-  counted-by : (o : Op) → fields.Fields st o → ByCount o (namesOf o)
-  unfolding namesOf secondField
-  counted-by constant-op f = λ a p. p
-  counted-by add-op f =
-      ((named 1 (omega (arith, f .0)) (f .1 .0), named 3 (omega (arith, f .0)) (f .2 .0), named 4 (omega (arith, f .0)) (f .3 .0)), λ a b c p q r. (p, q, r))
-  counted-by subtract-op f =
-      ((named 1 (omega (arith, f .0)) (f .1 .0), named 3 (omega (arith, f .0)) (f .2 .0), named 4 (omega (arith, f .0)) (f .3 .0)), λ a b c p q r. (p, q, r))
-  counted-by compare-op f =
-      ((named 1 (omega (arith, f .0)) (f .1 .0), named 3 (omega (arith, f .0)) (f .2 .0), named 4 (omega (arith, f .0)) (f .3 .0)), λ a b c p q r. (p, q, r))
-  counted-by branch-op f = ((named 1 (omega (arith, f .0)) (f .1 .0), named 2 (omega (arith, f .0)) (f .2 .0)), λ a b p q. (p, q))
-  counted-by goto-op f = λ a p. p
-  counted-by block-op f = λ a p. tt
-  counted-by call-op f = λ a p. p
-  counted-by pair-op f = ((named 1 (omega (arith, f .0)) (f .1), named 2 (omega (arith, f .0)) (f .2)), λ a b p q. (p, q))
-  counted-by unpair-op f = ((named 1 (omega (arith, f .0)) (f .1), named 2 (omega (arith, f .0)) (f .2)), λ a b p q. (p, q))
-  counted-by query-op f =
-      ((named 1 (omega (arith, f .0)) (f .1), named 2 (omega (arith, f .0)) (f .2), named 3 (omega (arith, f .0)) (f .3)), λ a b c p q r. (p, q, r))
-  counted-by constant-formal-op f = λ a p. p
-  counted-by arithmetic-formal-op f =
-      ((named 1 (omega (arith, f .0)) (f .1), named 3 (omega (arith, f .0)) (f .2), named 4 (omega (arith, f .0)) (f .3)), λ a b c p q r. (p, q, r))
-  counted-by branch-formal-op f = ((named 1 (omega (arith, f .0)) (f .1), named 2 (omega (arith, f .0)) (f .2)), λ a b p q. (p, q))
-  counted-by goto-formal-op f = λ a p. p
-  counted-by call-formal-op f = λ a p. p
+  abbrev ByClass : Op → ℕ → Type 0
+  ByClass o zero = (first : ℕ) → At first 1 → Led first 0 0 o
+  ByClass o (suc zero) = Unit {0}
+  ByClass o (suc (suc zero)) = Unit {0}
+  ByClass o (suc (suc (suc zero))) = Unit {0}
+  ByClass o (suc (suc (suc (suc zero)))) = Unit {0}
+  ByClass o (suc (suc (suc (suc (suc zero))))) = Two o
+  ByClass o (suc (suc (suc (suc (suc (suc zero)))))) = Two o
+  ByClass o (suc (suc (suc (suc (suc (suc (suc zero))))))) = Unit {0}
+  ByClass o (suc (suc (suc (suc (suc (suc (suc (suc n)))))))) = ⊥
 
-  pub by-count : (n : ℕ) → namesOf op ≡ n → ByCount op n
-  by-count n e = subst (ByCount op) e (counted-by op stand)
+  classed-by : (o : Op) → fields.Fields st o → ByClass o (classOf o)
+  unfolding classOf
+  classed-by constant-op f = λ a p. p
+  classed-by add-op f = tt
+  classed-by subtract-op f = tt
+  classed-by compare-op f = tt
+  classed-by branch-op f = ((named 1 (omega (arith, f .0)) (f .1 .0), named 2 (omega (arith, f .0)) (f .2 .0)), λ a b p q. (p, q))
+  classed-by goto-op f = λ a p. p
+  classed-by block-op f = λ a p. tt
+  classed-by call-op f = λ a p. p
+  classed-by pair-op f = ((named 1 (omega (arith, f .0)) (f .1), named 2 (omega (arith, f .0)) (f .2)), λ a b p q. (p, q))
+  classed-by unpair-op f = ((named 1 (omega (arith, f .0)) (f .1), named 2 (omega (arith, f .0)) (f .2)), λ a b p q. (p, q))
+  classed-by query-op f = tt
+  classed-by constant-formal-op f = λ a p. p
+  classed-by arithmetic-formal-op f = tt
+  classed-by branch-formal-op f = ((named 1 (omega (arith, f .0)) (f .1), named 2 (omega (arith, f .0)) (f .2)), λ a b p q. (p, q))
+  classed-by goto-formal-op f = λ a p. p
+  classed-by call-formal-op f = λ a p. p
 
-  -- the number that is left
-  pub one-left : (n : ℕ) → ByCount op n → (n ≡ 3 → ⊥) → (n ≡ 2 → ⊥) → (n ≡ 4 → ⊥) → n ≡ 1
-  one-left zero b x y z = absurd b
-  one-left (suc zero) b x y z = refl
-  one-left (suc (suc zero)) b x y z = absurd (y refl)
-  one-left (suc (suc (suc zero))) b x y z = absurd (x refl)
-  one-left (suc (suc (suc (suc zero)))) b x y z = absurd (z refl)
-  one-left (suc (suc (suc (suc (suc n))))) b x y z = absurd b
+  pub by-class : (n : ℕ) → classOf op ≡ n → ByClass op n
+  by-class n e = subst (ByClass op) e (classed-by op stand)
+
+  -- the class that is left
+  pub seven-left : (n : ℕ) → ByClass op n → 5 < n → (n ≡ 6 → ⊥) → n ≡ 7
+  seven-left zero b h d = absurd (omega arith)
+  seven-left (suc zero) b h d = absurd (omega arith)
+  seven-left (suc (suc zero)) b h d = absurd (omega arith)
+  seven-left (suc (suc (suc zero))) b h d = absurd (omega arith)
+  seven-left (suc (suc (suc (suc zero)))) b h d = absurd (omega arith)
+  seven-left (suc (suc (suc (suc (suc zero))))) b h d = absurd (omega arith)
+  seven-left (suc (suc (suc (suc (suc (suc zero)))))) b h d = absurd (d refl)
+  seven-left (suc (suc (suc (suc (suc (suc (suc zero))))))) b h d = refl
+  seven-left (suc (suc (suc (suc (suc (suc (suc (suc n)))))))) b h d = absurd b
+
+  -- AR and QY
+
+  abbrev way : Finding
+  way = byChain words records (here .live) (here .level)
+
+  abbrev scene : Scene
+  scene = sceneOf code words table (here .pairs) group limit (here .live) (here .at)
+
+  -- three names in these fields, of which `Asks` is asked, and what is done by what is `Said`
+  pub record Does-as (j k : ℕ) (Asks : ℕ → ℕ → ℕ → Type 0) (Said : Move → List ℤ → Type 0) : Type 0 where
+    pub named : N 1 × N j × N k
+    pub asks : (first second third : ℕ) → At first 1 → At second j → At third k → Asks first second third
+    pub did : {r : Move} {words′ : List ℤ} → Said r words′ → Did (acting way scene) words r words′ table
+
+  abbrev Summed : Operation → Move → List ℤ → Type 0
+  Summed f r words′ = (r ≡ doArithmetic way (only-words code words (here .at)) f .move)
+      × (words′ ≡ doArithmetic way (only-words code words (here .at)) f .words)
+
+  abbrev Own : ℕ → ℕ → ℕ → Type 0
+  Own first second third = (here .at + 5 ≤ 4096) × Direct words first (word 1) × Direct words second (word 3) × Direct words third (word 4)
+
+  abbrev pub Sum : Operation → Type 0
+  Sum f = Does-as 3 4 Own (Summed f)
+
+  sum : (p : Op) (f : Operation) → op ≡ p → fields.Fields st add-op → doArithmetic way scene f ≡ happens way scene p → Sum f
+  sum p f is fs e =
+      record {
+        named = (
+          named 1 (omega (arith, fs .0)) (fs .1 .0),
+          named 3 (omega (arith, fs .0)) (fs .2 .0),
+          named 4 (omega (arith, fs .0)) (fs .3 .0),
+        );
+        asks = λ a b c p q r. (fs .0, directly 1 a p (fs .1), directly 3 b q (fs .2), directly 4 c r (fs .3));
+        did = λ {r} {words′} d.
+            moves.did way scene p is (subst (λ (x : Happened). Did x words r words′ table) e (moves.arithmetic-did way scene f d));
+      }
+
+  pub adds : classOf op ≡ 1 → Sum plus
+  unfolding operations happens
+  adds e = let is : op ≡ add-op = op-of (getD code (here .at) 0) 1 (add-only _ e) in sum add-op plus is (subst (fields.Fields st) is stand) refl
+
+  pub subtracts : classOf op ≡ 2 → Sum minus
+  unfolding operations happens
+  subtracts e =
+      let is : op ≡ subtract-op = op-of (getD code (here .at) 0) 2 (subtract-only _ e) in
+      sum subtract-op minus is (subst (fields.Fields st) is stand) refl
+
+  pub compares : classOf op ≡ 3 → Sum less
+  unfolding operations happens
+  compares e =
+      let is : op ≡ compare-op = op-of (getD code (here .at) 0) 3 (compare-only _ e) in
+      sum compare-op less is (subst (fields.Fields st) is stand) refl
+
+  abbrev Final : (j k l : ℕ) → ℕ → ℕ → ℕ → Type 0
+  Final j k l first second third = (here .at + l ≤ 4096) × Reachable words first (word 1) × Reachable words second (word j) × Reachable words third (word k)
+
+  abbrev pub Formal : Type 0
+  Formal = Does-as 3 4 (Final 3 4 5) (Summed (operationOf (word 2)))
+
+  pub through-formals : classOf op ≡ 4 → Formal
+  unfolding operations happens
+  through-formals e =
+      let is : op ≡ arithmetic-formal-op = op-of (getD code (here .at) 0) 12 (arithmetic-only _ e) in
+      let fs = subst (fields.Fields st) is stand in
+      record {
+        named = (named 1 (omega (arith, fs .0)) (fs .1), named 3 (omega (arith, fs .0)) (fs .2), named 4 (omega (arith, fs .0)) (fs .3));
+        asks = λ a b c p q r. (fs .0, reachable 1 a p (fs .1), reachable 3 b q (fs .2), reachable 4 c r (fs .3));
+        did = λ d. moves.did way scene arithmetic-formal-op is (moves.arithmetic-did way scene (operationOf (word 2)) d);
+      }
+
+  abbrev asking : Scene
+  asking = with-table code words table (here .pairs) 0 (here .at)
+
+  abbrev pub Query : Type 0
+  Query = Does-as 2 3 (Final 2 3 4) (λ r words′. (r ≡ doQuery way asking .move) × (words′ ≡ doQuery way asking .words))
+
+  pub queries : classOf op ≡ 7 → Query
+  unfolding operations happens
+  queries e =
+      let is : op ≡ query-op = op-of (getD code (here .at) 0) 10 (query-only _ e) in
+      let fs = subst (fields.Fields st) is stand in
+      record {
+        named = (named 1 (omega (arith, fs .0)) (fs .1), named 2 (omega (arith, fs .0)) (fs .2), named 3 (omega (arith, fs .0)) (fs .3));
+        asks = λ a b c p q r. (fs .0, reachable 1 a p (fs .1), reachable 2 b q (fs .2), reachable 3 c r (fs .3));
+        did = λ d. moves.did way scene query-op is (moves.query-did way scene d);
+      }
 
   -- A statement with one name or none
 
@@ -321,7 +394,8 @@ module _ {code : List ℕ} {words : List ℤ} {records : List Activation} {table
   unfolding operations
   is-block first t = subst (λ o. Led first 0 0 o) (sym (op-of (getD code (here .at) 0) 6 t)) tt
 
-  pub only-led : (first : ℕ) → first ≡ follow (linksIn records) (here .live) (onlyHops code here) → namesOf op ≡ 1 → Led first 0 0 op
+  pub only-led : (first : ℕ) → first ≡ 32 * follow (linksIn records) (here .live) (onlyHops code here) → classOf op ≡ 0 → Led first 0 0 op
   only-led first e one =
       split (eqb (getD code (here .at) 0 % 16) 6) (λ t. is-block first (eqb-true (getD code (here .at) 0 % 16) 6 t))
-      (λ t. by-count 1 one first (e ∙ ap (follow (linksIn records) (here .live)) (sym (some-hops code here (eqb-false (getD code (here .at) 0 % 16) 6 t)))))
+      (λ t. by-class 0 one first (e ∙ ap (λ (n : ℕ). 32 * follow (linksIn records) (here .live) n)
+      (sym (some-hops code here (eqb-false (getD code (here .at) 0 % 16) 6 t)))))

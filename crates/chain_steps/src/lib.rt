@@ -5,4 +5,6 @@ pub use turn::went;
 
 mod acted;
 mod stepped;
+mod summed;
+mod tabled;
 pub mod turn;

@@ -11,7 +11,7 @@ use Rattle.laws.specs.Fields.{fieldAt}
 use Rattle.resolved.specs.Resolved.{levelIn, direct}
 use Rattle.texts.specs.Texts.{renewed, Copied, notedFrom}
 use Rattle.texts.specs.Copying.{Renewable, Copyable}
-use Rattle.copy_moves.specs.Anew.{Beginnable, BegunIn}
+use Rattle.copy_moves.specs.Begun.{Beginnable, BegunIn}
 
 module _ {script code names area : List ℕ} (w : Beginnable script code names area) (filled : List ℕ) (as-long : length filled ≡ length area) where
   pub start-renewable : (word : ℕ) → word ≡ getD code 2 0 → Renewable filled 0 1 65536 word

@@ -1,3 +1,2 @@
 pub mod Looking
-pub mod Entering
 pub mod Beginning

@@ -6,7 +6,7 @@ use borrow.Author.Tests.{eq-eqb, ne-eqb}
 use lib.ListN.{getD}
 use Rattle.arrays.specs.Holds.{designatorOf}
 use Rattle.new_names.specs.Owner.{cellIn}
-use Rattle.copy_moves.specs.Anew.{lookedUp, Lookable}
+use Rattle.copy_moves.specs.Looked.{lookedUp, Lookable}
 
 module _ (firsts starts looked : List ℕ) (live : ℕ) where
   pub looked-none : getD looked live 0 ≡ 0 → 0 ≡ lookedUp firsts starts looked live

@@ -38,7 +38,7 @@ use Rattle.governed.specs.Standing.{block-fields-stand, block-governed}
 use Rattle.texts.specs.Texts.{reading, Texts}
 use Rattle.texts.specs.Readings.{Narrow, narrow-of-text, word-says, zip-missing}
 use Rattle.texts.specs.Renewing.{valuesOf, reading-plain, reading-in}
-use Rattle.copy_moves.specs.declared.Now.{Now}
+use Rattle.copy_entering.specs.declared.Now.{Now}
 use Rattle.copy_moves.specs.Running.{Running}
 use Rattle.copy_moves.specs.Settled.{own-enclosure, encloses-at}
 use Rattle.copy_moves.specs.Renamed.{readings, Replaces, block-read}

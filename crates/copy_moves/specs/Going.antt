@@ -32,7 +32,7 @@ use Rattle.texts.specs.Stacks.{SameActivations}
 use Rattle.texts.specs.Entering.{texts-kept}
 use Rattle.texts.specs.Aiming.{aims-kept}
 use Rattle.texts.specs.Looking.{looks-kept}
-use Rattle.copy_moves.specs.declared.Now.{Now}
+use Rattle.copy_entering.specs.declared.Now.{Now}
 use Rattle.copy_moves.specs.Running.{limitsBy, Running, Succeeds}
 use Rattle.copy_moves.specs.Settled.{same-outline, outlines}
 

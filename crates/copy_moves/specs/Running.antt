@@ -17,7 +17,7 @@ use Rattle.steps.specs.Means.{Follows, JumpsTo, EntersAt}
 use Rattle.governed.specs.Governed.{governedOf}
 use Rattle.new_names.specs.Owner.{NewNames}
 use Rattle.texts.specs.Texts.{Texts, Aims, Looks}
-use Rattle.copy_moves.specs.declared.Now.{Now}
+use Rattle.copy_entering.specs.declared.Now.{Now}
 
 abbrev pub limitsBy : ℕ → ℕ → Limits
 limitsBy limit group = record { activations = limit; group = group }

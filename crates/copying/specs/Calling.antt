@@ -28,7 +28,7 @@ use Rattle.governed.specs.Governed.{governedAction, governedStmt}
 use Rattle.texts.specs.Texts.{reading}
 use Rattle.copy_statements.specs.Doing.{Copy, text, target, call, markOf, happens, doCall}
 use Rattle.copy_statements.specs.Ready.{Named}
-use Rattle.copy_moves.specs.declared.Now.{Now}
+use Rattle.copy_entering.specs.declared.Now.{Now}
 use Rattle.copy_moves.specs.Running.{Running}
 use Rattle.copying.specs.Agreeing.{Agrees, call-same, call-formal-same}
 use Rattle.copying.specs.Words.{copyOf, sceneIn, around, GovernedHere, WrittenHere, plain, next-known, fields-there, resolved-word, word-read}

@@ -14,9 +14,10 @@ use Rattle.frames.specs.Frame.{Stack, Result, halted, frameStep, frameRun, fram
 use Rattle.coordinates.specs.Sound.{Sound, start-sound, run-sound}
 use Rattle.steps.specs.Reads.{at-within}
 use Rattle.steps.specs.Underway as steps
-use Rattle.copy_moves.specs.declared.Now.{Now}
+use Rattle.copy_entering.specs.declared.Now.{Now}
 use Rattle.copy_moves.specs.Running.{limitsBy, Running}
-use Rattle.copy_moves.specs.Anew.{BegunIn, Lookable, lookedUp}
+use Rattle.copy_moves.specs.Begun.{BegunIn}
+use Rattle.copy_moves.specs.Looked.{Lookable, lookedUp}
 use Rattle.copying.specs.declared.run.Turn.{Turn}
 use Rattle.copying.specs.declared.run.Turn.the-variants.{Went, Finished, Stopped}
 use Rattle.copying.specs.declared.run.Halt.{Halt}

@@ -42,10 +42,10 @@ use Rattle.texts.specs.Entering.{texts-entered}
 use Rattle.texts.specs.Noting.{noted-long}
 use Rattle.texts.specs.Aiming.{aims-entered}
 use Rattle.texts.specs.Looking.{looks-entered}
-use Rattle.copy_moves.specs.declared.Now.{Now}
+use Rattle.copy_entering.specs.declared.Now.{Now}
 use Rattle.copy_moves.specs.Running.{limitsBy, Running, Succeeds}
 use Rattle.copy_moves.specs.Settled.{own-enclosure, encloses-at}
-use Rattle.copy_moves.specs.Anew.{formalsAt, namesAt, levelAt, endAt, givenAt, Enterable, AnewIn}
+use Rattle.copy_entering.specs.Anew.{formalsAt, namesAt, levelAt, endAt, givenAt, Enterable, AnewIn}
 use Rattle.copy_moves.specs.Going.{same-outlines, chained, program-is}
 use Rattle.copying.specs.Within.{text-within, within-outer}
 use Rattle.copying.specs.Entries as entry

@@ -39,7 +39,7 @@ use Rattle.copy_steps.specs.Together.{copies-step, copies-entered}
 use Rattle.texts.specs.Readings.{Narrow, narrow-of-text}
 use Rattle.texts.specs.Renewing.{Governs, Inside, Declared, Enters}
 use Rattle.copy_statements.specs.Doing.{text}
-use Rattle.copy_moves.specs.declared.Now.{Now}
+use Rattle.copy_entering.specs.declared.Now.{Now}
 use Rattle.copy_moves.specs.Running.{limitsBy, Running}
 use Rattle.copying.specs.Depth.{reads-deep}
 use Rattle.copying.specs.Words.{copyOf, sceneIn, innermost-activation, ends, end-within-script}

@@ -23,7 +23,7 @@ use Rattle.steps.specs.Means.{Means}
 use Rattle.steps.specs.Here.{many, last-is, encloses-here, stands-at}
 use Rattle.copy_statements.specs.Doing.{doing}
 use Rattle.copy_statements.specs.Ready.{Ready}
-use Rattle.copy_moves.specs.declared.Now.{Now}
+use Rattle.copy_entering.specs.declared.Now.{Now}
 use Rattle.copy_moves.specs.Running.{Running}
 use Rattle.copying.specs.Words.{copyOf, sceneIn, around, GovernedHere, WrittenHere, innermost-activation}
 use Rattle.copying.specs.Names.{CellOfName}

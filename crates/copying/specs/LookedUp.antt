@@ -28,9 +28,9 @@ use Rattle.steps.specs.Finding.{wordOf, unseen-word}
 use Rattle.new_names.specs.Owner.{cellIn}
 use Rattle.new_names.specs.Finding.{cell-of-looked}
 use Rattle.texts.specs.Texts.{readAs}
-use Rattle.copy_moves.specs.declared.Now.{Now}
+use Rattle.copy_entering.specs.declared.Now.{Now}
 use Rattle.copy_moves.specs.Running.{limitsBy, Running}
-use Rattle.copy_moves.specs.Anew.{Lookable, lookedUp}
+use Rattle.copy_moves.specs.Looked.{Lookable, lookedUp}
 use Rattle.copying.specs.Words.{innermost-activation}
 use Rattle.copying.specs.Here.{many-copies, sorted-here}
 

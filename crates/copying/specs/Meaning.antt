@@ -19,7 +19,7 @@ use Rattle.steps.specs.Acts.{acting-means}
 use Rattle.new_names.specs.Owner.{Sorted}
 use Rattle.copy_statements.specs.Doing.{doing}
 use Rattle.copy_statements.specs.Ready.{Ready}
-use Rattle.copy_moves.specs.declared.Now.{Now}
+use Rattle.copy_entering.specs.declared.Now.{Now}
 use Rattle.copy_moves.specs.Running.{Running}
 use Rattle.copying.specs.Words.{copyOf, sceneIn, GovernedHere, WrittenHere, fields-there}
 use Rattle.copying.specs.Names.{byLinks, CellOfName}

@@ -28,7 +28,7 @@ use Rattle.new_names.specs.Owner.{cellIn}
 use Rattle.texts.specs.Texts.{reading}
 use Rattle.copy_statements.specs.Doing.{text, cell, target}
 use Rattle.copy_statements.specs.Ready.{Named}
-use Rattle.copy_moves.specs.declared.Now.{Now}
+use Rattle.copy_entering.specs.declared.Now.{Now}
 use Rattle.copy_moves.specs.Running.{Running}
 use Rattle.copying.specs.Agreeing.{Agrees}
 use Rattle.copying.specs.Depth.{reads-deep}

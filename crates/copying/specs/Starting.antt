@@ -49,9 +49,10 @@ use Rattle.texts.specs.Entering.{texts-start}
 use Rattle.texts.specs.Noting.{noted-long}
 use Rattle.texts.specs.Aiming.{aims-start}
 use Rattle.texts.specs.Looking.{looks-start}
-use Rattle.copy_moves.specs.declared.Now.{Now}
+use Rattle.copy_entering.specs.declared.Now.{Now}
 use Rattle.copy_moves.specs.Running.{limitsBy, Running}
-use Rattle.copy_moves.specs.Anew.{namesAt, endAt, Beginnable, BegunIn}
+use Rattle.copy_entering.specs.Anew.{namesAt, endAt}
+use Rattle.copy_moves.specs.Begun.{Beginnable, BegunIn}
 use Rattle.copying.specs.Beginning.{Beginning}
 
 long : (n : ℕ) → length {A = ℕ} (replicate n 0) ≡ n

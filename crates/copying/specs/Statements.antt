@@ -24,7 +24,7 @@ use Rattle.governed.specs.Governed.{governedAction, governedStmt}
 use Rattle.texts.specs.Texts.{reading}
 use Rattle.copy_statements.specs.Doing.{Copy, text, target, Mark, arithmetic, branch, constant, goto, block, pair, unpair, query, markOf, happens, doing}
 use Rattle.copy_statements.specs.Ready.{Named, By}
-use Rattle.copy_moves.specs.declared.Now.{Now}
+use Rattle.copy_entering.specs.declared.Now.{Now}
 use Rattle.copy_moves.specs.Running.{Running}
 use Rattle.copying.specs.Agreeing.{Agrees, constant-same, arithmetic-same, goto-same, branch-same, block-same, add-same, remove-same, query-same}
 use Rattle.copying.specs.Words.{copyOf, sceneIn, around, GovernedHere, WrittenHere, plain, next-known, fields-there, resolved-word, word-read}

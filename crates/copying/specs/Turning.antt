@@ -8,7 +8,7 @@ use Rattle.language.specs.Text.{Block}
 use Rattle.language.specs.declared.End.{End}
 use Rattle.frames.specs.Frame.{Result, halted, frameStep}
 use Rattle.steps.specs.Underway as steps
-use Rattle.copy_moves.specs.declared.Now.{Now}
+use Rattle.copy_entering.specs.declared.Now.{Now}
 use Rattle.copy_moves.specs.Running.{limitsBy, Running, Succeeds}
 use Rattle.copying.specs.declared.run.Turn.{Turn}
 use Rattle.copying.specs.declared.run.Turn.the-variants.{Went, Finished, Stopped}

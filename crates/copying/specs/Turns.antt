@@ -24,9 +24,9 @@ use Rattle.copy_statements.specs.declared.moved.Moved.{Moved}
 use Rattle.copy_statements.specs.declared.moved.Moved.the-variants.{Went, Jump as JumpTo, Enter as EnterBy, Stop as StopFor}
 use Rattle.copy_statements.specs.Doing.{doing}
 use Rattle.copy_statements.specs.Moved.{movedBy, Came}
-use Rattle.copy_moves.specs.declared.Now.{Now}
+use Rattle.copy_entering.specs.declared.Now.{Now}
 use Rattle.copy_moves.specs.Running.{limitsBy, Running, nowAt, Succeeds}
-use Rattle.copy_moves.specs.Anew.{Enterable, AnewIn}
+use Rattle.copy_entering.specs.Anew.{Enterable, AnewIn}
 use Rattle.copy_moves.specs.Going.{goes-on}
 use Rattle.copying.specs.Words.{copyOf, sceneIn}
 use Rattle.copying.specs.Here.{means-here}

@@ -34,7 +34,7 @@ use Rattle.governed.specs.Governed.{governedStmt}
 use Rattle.texts.specs.Texts.{reading}
 use Rattle.copy_statements.specs.Doing.{Copy, text}
 use Rattle.copy_statements.specs.Ready.{Fields}
-use Rattle.copy_moves.specs.declared.Now.{Now}
+use Rattle.copy_entering.specs.declared.Now.{Now}
 use Rattle.copy_moves.specs.Running.{Running}
 
 module _ (σs : List Replacement) (v n : ℕ) where

@@ -1,7 +1,7 @@
 // The run: steps until the program is left, a statement has a cause to stop, or the allowance is spent.
-use copy_moves::Now;
+use copy_entering::Now;
+use copy_entering::enter;
 use copy_moves::begin;
-use copy_moves::enter;
 use copy_moves::jump;
 use copy_moves::leave;
 use copy_moves::looked_up;
@@ -15,7 +15,7 @@ ghost use Prim.Native.Nat.{_+_, _*_, _<_, _≤_};
 ghost use lib.ListN.{set, length};
 ghost use Rattle.frames.specs.Frame.{frameRun, frameStart};
 ghost use Rattle.copy_moves.specs.Running.{limitsBy, Running};
-ghost use Rattle.copy_moves.specs.Anew.{Lookable, lookedUp};
+ghost use Rattle.copy_moves.specs.Looked.{Lookable, lookedUp};
 ghost use Rattle.copying.specs.Beginning.{Beginning};
 ghost use Rattle.copying.specs.Turning.{Turned, Ended, haltOf};
 

@@ -1,7 +1,7 @@
 // A block's own names with their words, put into the array of visible names. All is safe on any bytes up to 8,192.
 use extents::skip;
-use records::LB;
-use records::PR;
+use marks::LB;
+use marks::PR;
 use words::word;
 ghost use mathlib.Core.Path.{_≡_};
 ghost use mathlib.Core.Bool.{false};

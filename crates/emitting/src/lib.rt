@@ -1,9 +1,9 @@
 // The words of a statement of the resolved script, written at their places. All is safe on any bytes.
-use records::AR;
-use records::CL;
-use records::GO;
-use records::IF;
-use records::KN;
+use marks::AR;
+use marks::CL;
+use marks::GO;
+use marks::IF;
+use marks::KN;
 use words::word;
 use writing::put;
 use writing::put_five;

@@ -9,8 +9,8 @@ use Rattle.language.specs.Text.{Formal, Action, CL, GO, IF, KN, AR, AD, RM, QY,
 use Rattle.language.specs.Encoding.{actionFields, formalsFields, blockFields, declFields, declsFields, stmtsFields, BK-mark, PR-mark, CL-mark}
 use Rattle.laws.specs.Fields.{fieldAt, FieldsStand, fields-third}
 use Rattle.language.specs.Structure.{formalMarks, declMarks, stmtMarks}
-use Rattle.records.specs.Taking.{fitIn, fitAt}
-use Rattle.records.specs.Counts.{fieldCount}
+use Rattle.marks.specs.Marks.{fitIn, fitAt}
+use Rattle.marks.specs.Counts.{fieldCount}
 use Rattle.extents.specs.Items.{Item, formal, body, declared, stated, itemFields, itemsFields, inBlock, children, blockHead, headFields, headSize, childCount}
 
 pub items-append : (xs ys : List Item) → itemsFields (xs ++ ys) ≡ itemsFields xs ++ itemsFields ys

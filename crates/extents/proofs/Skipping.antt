@@ -8,8 +8,8 @@ use lib.ListN.{length, length-append}
 use borrow.Author.Tests.{eq-eqb, ne-eqb}
 use Rattle.language.specs.Encoding.{BK-mark, VR-mark, LB-mark, PR-mark, CL-mark}
 use Rattle.language.specs.Structure.{declMarks, stmtMarks}
-use Rattle.records.specs.Taking.{fitIn, fitAt}
-use Rattle.records.specs.Counts.{fieldCount}
+use Rattle.marks.specs.Marks.{fitIn, fitAt}
+use Rattle.marks.specs.Counts.{fieldCount}
 use Rattle.laws.specs.Fields.{fieldAt, FieldsStand, field-inside, fields-first, fields-after}
 use Rattle.extents.specs.Items.{Item, itemFields, itemsFields, children, headFields, headSize, childCount}
 use Rattle.extents.specs.Passing.{Passed, Skipped, Left, Stepped}

@@ -6,7 +6,7 @@ use lib.Dec.{eqb}
 use lib.ListN.{length}
 use Rattle.language.specs.Text.{Formal, Block, block, Decl, VR, LB, PR, Stmt, BK, DO, decls, stmts}
 use Rattle.language.specs.Encoding.{actionFields, formalsFields, blockFields, declFields, stmtFields, BK-mark, PR-mark, CL-mark}
-use Rattle.records.specs.Counts.{fieldCount}
+use Rattle.marks.specs.Counts.{fieldCount}
 use Rattle.laws.specs.Fields.{fieldAt}
 
 pub data Item : Type 0 where

@@ -4,8 +4,8 @@
 use super::passing::Step;
 use super::passing::pass;
 use super::passing::past;
-use records::BK;
-use records::PR;
+use marks::BK;
+use marks::PR;
 use words::word;
 ghost use mathlib.Core.Path.{_≡_};
 ghost use mathlib.Core.List.{List};

@@ -1,10 +1,10 @@
 // Passing over one record, or over its head where it holds others.
-use records::BK;
-use records::BK_BYTES;
-use records::CL;
-use records::PR;
-use records::PR_BYTES;
-use records::field_count;
+use marks::BK;
+use marks::BK_BYTES;
+use marks::CL;
+use marks::PR;
+use marks::PR_BYTES;
+use marks::field_count;
 use words::word;
 ghost use mathlib.Core.Path.{_≡_};
 ghost use Prim.Native.Nat.{_^_, _<_, _≤_};

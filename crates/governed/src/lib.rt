@@ -1,11 +1,11 @@
 // The word of the name in each field of a script, taken from the resolved script, which has it at the same place in all records but IF. All is
 // safe on any bytes.
 use extents::pass;
-use records::AR;
-use records::BK;
-use records::CL;
-use records::IF;
-use records::QY;
+use marks::AR;
+use marks::BK;
+use marks::CL;
+use marks::IF;
+use marks::QY;
 use words::word;
 ghost use mathlib.Core.Path.{_≡_};
 ghost use Prim.Native.Nat.{_+_, _<_, _≤_};

@@ -9,7 +9,7 @@ use lib.IntN.{ℤ, pos, negsuc, natAbs}
 use lib.Signed.{mag, ltZ, nonNeg}
 use mir.Val.{Fits, ofZ, toZ}
 use mir.Syntax.{w32, w64}
-use Rattle.pairs.proofs.Signed.{back}
+use Rattle.searching.proofs.Signed.{back}
 use Rattle.hashing.specs.Hashes.{weightOf}
 
 negative : (z : ℤ) → ltZ z (pos 0) ≡ true → 0 ≡ weightOf z

@@ -3,8 +3,8 @@ ghost use mathlib.Core.Path.{_≡_};
 ghost use Prim.Native.Nat.{_+_, _*_, _≤_, _<_};
 ghost use lib.ListN.{length};
 ghost use Rattle.hashing.specs.Hashes.{weightOf, combine, mix, hashAt, classOf, bucket, maskOf, markOf};
-use pairs::group_at;
-use pairs::member_at;
+use searching::group_at;
+use searching::member_at;
 
 // A number as it is hashed.
 fn weight(number: i32) -> u64

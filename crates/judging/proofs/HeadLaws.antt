@@ -10,7 +10,7 @@ use Rattle.language.specs.Basics.{among}
 use Rattle.language.specs.Structure.{DeclMark, isVR, isLB, isPR}
 use Rattle.language.specs.declared.Refusal.{Refusal}
 use Rattle.language.specs.declared.Refusal.the-variants.{NameTwice}
-use Rattle.records.specs.declared.Mark.{Mark}
+use Rattle.marks.specs.declared.Mark.{Mark}
 use Rattle.records.specs.declared.Progress.{Progress}
 use Rattle.records.specs.declared.Progress.the-variants.{At, Refused}
 use Rattle.records.specs.declared.Reading.{Reading}

@@ -11,9 +11,9 @@ use types.Run.{OneOf}
 use denote.Enum.Declared.{tagOf}
 use Rattle.language.specs.Structure.{fields, isLB, isPR, isCL, isAR}
 use Rattle.language.specs.declared.Refusal.the-variants.{FieldRange, TooManyNames}
-use Rattle.records.proofs.Mark as M
-use Rattle.records.specs.declared.Mark.{Mark}
-use Rattle.records.specs.declared.Mark.the-variants.{BK, VR, LB, PR, FM, CL, GO, IF, KN, AR, AD, RM, QY}
+use Rattle.marks.proofs.Mark as M
+use Rattle.marks.specs.declared.Mark.{Mark}
+use Rattle.marks.specs.declared.Mark.the-variants.{BK, VR, LB, PR, FM, CL, GO, IF, KN, AR, AD, RM, QY}
 use Rattle.records.specs.declared.Progress.{Progress}
 use Rattle.records.specs.declared.Progress.the-variants.{At, Refused}
 use Rattle.records.specs.Taking.{forget}

@@ -8,7 +8,7 @@ use Rattle.language.specs.Structure.{DeclMark, isVR, isLB, isPR, StmtMark, isBK
 use Rattle.language.specs.declared.Refusal.the-variants.{FieldRange, NestingDepth, TooManyNames, NameTwice}
 use Rattle.records.specs.declared.Progress.{Progress}
 use Rattle.records.specs.declared.Progress.the-variants.{At, Refused}
-use Rattle.records.specs.declared.Place.the-variants.{Declaration}
+use Rattle.marks.specs.declared.Place.the-variants.{Declaration}
 use Rattle.records.specs.declared.Reading.{Reading}
 use Rattle.records.specs.declared.Reading.the-variants.{Taken, Refused as Untaken}
 use Rattle.records.specs.Taking.{forget, recordAt}

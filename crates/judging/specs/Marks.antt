@@ -1,7 +1,7 @@
 -- The definitions' name of each mark of the code; one that may not stand there is taken as the first.
 use Rattle.language.specs.Structure.{DeclMark, isVR, isLB, isPR, StmtMark, isBK, isCL, isGO, isIF, isKN, isAR, isAD, isRM, isQY}
-use Rattle.records.specs.declared.Mark.{Mark}
-use Rattle.records.specs.declared.Mark.the-variants.{BK, VR, LB, PR, FM, CL, GO, IF, KN, AR, AD, RM, QY}
+use Rattle.marks.specs.declared.Mark.{Mark}
+use Rattle.marks.specs.declared.Mark.the-variants.{BK, VR, LB, PR, FM, CL, GO, IF, KN, AR, AD, RM, QY}
 
 unfoldable pub declMarkOf : Mark → DeclMark
 declMarkOf BK = isVR

@@ -1,7 +1,7 @@
 // A declaration's own record: its second field, then 8 where its name is among those before it.
 use super::MOST_NAMES;
 use language::Refusal;
-use records::Mark;
+use marks::Mark;
 use records::Progress;
 use records::Reading;
 ghost use mathlib.Core.Path.{_≡_};

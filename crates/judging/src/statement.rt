@@ -1,7 +1,7 @@
 // A statement's own record, where it is no BK: 4 for AR's operation and for CL's a, which goes before 2 for its argument names.
 use super::MOST_NAMES;
 use language::Refusal;
-use records::Mark;
+use marks::Mark;
 use records::Progress;
 ghost use mathlib.Core.Path.{_≡_};
 ghost use Prim.Native.Nat.{_≤_};

@@ -3,9 +3,9 @@ ghost use mathlib.Core.Path.{_≡_};
 ghost use Prim.Native.Nat.{_+_, _*_, _<_};
 ghost use lib.ListN.{length};
 ghost use Rattle.keys.specs.Keys.{sameAt, rankAt};
-use pairs::group_at;
-use pairs::member_at;
-use pairs::same_number;
+use searching::group_at;
+use searching::member_at;
+use searching::same_number;
 
 // Whether the pair at `j` has the key of the one at `i`.
 pub fn same_key(table: &[i32], whole: bool, i: usize, j: usize) -> bool

@@ -11,7 +11,7 @@ use Rattle.resolved.specs.Resolved.{levelIn, positionIn}
 use Rattle.arrays.specs.Names.{follow}
 use Rattle.acting.specs.Acting.{Finding, setAll, argumentsFrom}
 use Rattle.statements.specs.Pieces.{only-words}
-use Rattle.chain_statements.specs.Finding.{byHome}
+use Rattle.steps.specs.Finding.{byFirst}
 use Rattle.links.specs.declared.Now.{Now}
 use Rattle.links.specs.Records.{linksIn, Linked}
 
@@ -23,7 +23,7 @@ abbrev pub firstCell : List Activation → ℕ → ℕ → ℕ → ℕ
 firstCell records live level w = 32 * homeOf records live level w
 
 abbrev pub byChain : List ℤ → List Activation → ℕ → ℕ → Finding
-byChain words records live level = byHome words (homeOf records live level)
+byChain words records live level = byFirst words (firstCell records live level)
 
 -- the links to the activation that declares the name with a word can be followed
 pub record Seen (records : List Activation) (live level w : ℕ) : Type 0 where
@@ -47,12 +47,12 @@ handedOn code words records here = setAll words (32 * here .live + 32)
     (argumentsFrom (byChain words records (here .live) (here .level)) (only-words code words (here .at)) (here .at + 3) (argumentsEnd code (here .at) - 3))
 
 -- one of them can be handed on: its own cell is below the next activation's
-pub record Passing (code : List ℕ) (here : Now) (field from : ℕ) : Type 0 where
+pub record Passing (code : List ℕ) (here : Now) (field first : ℕ) : Type 0 where
   pub low : 3 ≤ field
   pub few : field < 35
   pub there : here .at + field < 4096
   pub live-few : here .live ≤ 254
-  pub below : 32 * from + positionIn (getD code (here .at + field) 0) < 32 * here .live + 32
+  pub below : first + positionIn (getD code (here .at + field) 0) < 32 * here .live + 32
 
 -- all of them, up to a field
 pub record Handing (code : List ℕ) (records : List Activation) (here : Now) (last : ℕ) : Type 0 where

@@ -69,7 +69,7 @@ module _ {code : List ℕ} {limit group : ℕ} {words : List ℤ} {records : Lis
         record { linked = linked w; outer = subst (λ m. levelIn (wordOf st n) ≤ m) level-there (a .level-high) }
 
   as-reachable : (v : ℕ) → Reaches words (here .live) (firstCell records (here .live) (here .level) v) v
-      → Reachable words (homeOf records (here .live) (here .level) v) v
+      → Reachable words (firstCell records (here .live) (here .level) v) v
   as-reachable v r = record { own = omega (arith, r .own, live-few st); whole = r .whole; cell = r .cell }
 
   -- the names of the next statement
@@ -80,7 +80,7 @@ module _ {code : List ℕ} {limit group : ℕ} {words : List ℤ} {records : Lis
   pub reached : (n : ℕ) → Resolved fs n → Reaches words (here .live) (firstCell records (here .live) (here .level) (wordOf st n)) (wordOf st n)
   reached n r = subst (λ m. Reaches words (here .live) m (wordOf st n)) (first-is (wordOf st n)) (reached-by-links st n r)
 
-  pub reachable : (n : ℕ) → Resolved fs n → Reachable words (homeOf records (here .live) (here .level) (wordOf st n)) (wordOf st n)
+  pub reachable : (n : ℕ) → Resolved fs n → Reachable words (firstCell records (here .live) (here .level) (wordOf st n)) (wordOf st n)
   reachable n r = as-reachable (wordOf st n) (reached n r)
 
   -- The looked-up name
@@ -116,9 +116,9 @@ module _ {code : List ℕ} {limit group : ℕ} {words : List ℤ} {records : Lis
       seen-outer : levelIn v ≤ here .level
       seen-outer = subst (λ u. levelIn u ≤ here .level) (sym is-word) ((seen-at name (coordinate .0) (coordinate .1)) .outer)
 
-      seen-reached : Reachable words (homeOf records (here .live) (here .level) v) v
+      seen-reached : Reachable words (firstCell records (here .live) (here .level) v) v
       seen-reached =
-          subst (λ u. Reachable words (homeOf records (here .live) (here .level) u) u) (sym is-word) (as-reachable (wordOf st name) (found .0))
+          subst (λ u. Reachable words (firstCell records (here .live) (here .level) u) u) (sym is-word) (as-reachable (wordOf st name) (found .0))
 
       pub seen-designates : (c : ℕ) → c ≡ cellBy words (firstCell records (here .live) (here .level) v) v → designatorOf c ≡ designates fs name
       seen-designates c q = ap designatorOf (q ∙ ap (λ u. cellBy words (firstCell records (here .live) (here .level) u) u) is-word) ∙ found .1
@@ -146,7 +146,7 @@ module _ {code : List ℕ} {limit group : ℕ} {words : List ℤ} {records : Lis
             few = few;
             outer = outer-there;
             low = omega (arith, w .level-is);
-            nameable = λ d. let r = subst (λ h. Reachable words h v) (sym (is-home d)) (seen-reached d) in record { own = r .own; whole = r .whole };
+            nameable = λ d. let r = subst (λ h. Reachable words (32 * h) v) (sym (is-home d)) (seen-reached d) in record { own = r .own; whole = r .whole };
           }
 
       found-none : v ≡ 0 → foundBy words here v home ≡ foundIn fs name

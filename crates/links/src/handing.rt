@@ -1,6 +1,6 @@
 // A call's arguments go to the first cells of the next activation, each found by the links.
 use super::Now;
-use super::home;
+use super::first_cell;
 use activations::Activation;
 use stepping::code_at;
 ghost use mathlib.Core.Path.{_≡_};
@@ -24,15 +24,15 @@ pub fn arguments_end(code: &[u32; 4096], here: Now) -> usize
     3 + code_at(code, at + 2)
 }
 
-// The argument in a field, once the activation that declares it is found.
-fn pass(code: &[u32; 4096], words: &mut [i32; 8224], here: Now, field: usize, from: usize)
-    requires { ⌜ Passing (now code) here field from ⌝ }
+// The argument in a field, once the first cell of the activation that declares it is found.
+fn pass(code: &[u32; 4096], words: &mut [i32; 8224], here: Now, field: usize, first: usize)
+    requires { ⌜ Passing (now code) here field first ⌝ }
     ensures { λ _. ⌜ now (words .exit) ≡ set (now (words .entry)) (32 * here .live + 32 + (field - 3))
         (handedWord (now (words .entry)) (getD (now (code .entry)) (here .at + field) 0)
-        (32 * from + positionIn (getD (now (code .entry)) (here .at + field) 0))) ⌝ }
+        (first + positionIn (getD (now (code .entry)) (here .at + field) 0))) ⌝ }
 {
     let word = code_at(code, here.at + field);
-    let value = stepping::handed(words, word, 32 * from + word % 32);
+    let value = stepping::handed(words, word, first + word % 32);
     stepping::store(words, 32 * here.live + 32 + (field - 3), value);
 }
 
@@ -49,10 +49,11 @@ pub fn hand(
         (argumentsFrom (byChain (now (words .entry)) (now (records .entry)) (here .live) (here .level))
         (only-words (now (code .entry)) (now (words .entry)) (here .at)) (here .at + 3) (last - 3)) ⌝ }
 {
+    let own = 32 * here.live;
     let mut field = 3;
     while field < last {
-        let from = home(code, records, here, field);
-        pass(code, words, here, field, from);
+        let first = first_cell(code, records, here, own, field);
+        pass(code, words, here, field, first);
         field = field + 1;
     }
 }

@@ -12,7 +12,7 @@ ghost use lib.ListN.{getD, set};
 ghost use Rattle.activations.specs.Records.{at};
 ghost use Rattle.resolved.specs.Resolved.{levelIn};
 ghost use Rattle.links.specs.Records.{withNext};
-ghost use Rattle.links.specs.Finding.{homeOf, Named};
+ghost use Rattle.links.specs.Finding.{firstCell, Named};
 ghost use Rattle.links.specs.Running.{nowBy, linksTo, foundBy, Reached, Looking};
 ghost use Rattle.links.specs.Names.{foundIn};
 
@@ -57,12 +57,22 @@ fn hops(code: &[u32; 4096], here: Now, field: usize) -> usize
     here.level - code_at(code, at + field) / 256 % 256
 }
 
-// That activation.
-pub fn home(code: &[u32; 4096], records: &[Activation], here: Now, field: usize) -> usize
-    requires { ⌜ Named (now code) (now records) here field ⌝ }
-    ensures { λ r. ⌜ (r ≡ homeOf (now (records .entry)) (here .live) (here .level) (getD (now (code .entry)) (here .at + field) 0)) × (r ≤ here .live) ⌝ }
+// The first cell of that activation; the innermost one's own is given, since most names are declared there.
+pub fn first_cell(
+    code: &[u32; 4096],
+    records: &[Activation],
+    here: Now,
+    own: usize,
+    field: usize,
+) -> usize
+    requires { ⌜ Named (now code) (now records) here field × (own ≡ 32 * here .live) ⌝ }
+    ensures { λ r. ⌜ r ≡ firstCell (now (records .entry)) (here .live) (here .level) (getD (now (code .entry)) (here .at + field) 0) ⌝ }
 {
-    follow(records, here.live, hops(code, here, field))
+    let count = hops(code, here, field);
+    if count == 0 {
+        return own;
+    }
+    32 * follow(records, here.live, count)
 }
 
 pub fn with_next(activation: Activation, place: usize) -> Activation

@@ -4,8 +4,8 @@ ghost use Rattle.language.specs.Table.{find, right};
 ghost use Rattle.pairs.specs.Outcomes.{tableOf};
 ghost use Rattle.measure.specs.Found.{placeOr};
 use members::table_right;
-use pairs::PairPlace;
-use pairs::place_of;
+use searching::PairPlace;
+use searching::place_of;
 
 // Whether the table is right for a group limit.
 #[no_mangle]

@@ -14,7 +14,7 @@ use Rattle.language.specs.Table.{Table, find, isSome, members, size, atLeastOne
 use Rattle.laws.specs.Tests.{eqZ-true, eqZ-refl}
 use Rattle.laws.specs.Tables.{groupAt, memberAt, groupAt-suc, memberAt-suc, pairIs, front, orElse, find-front, find-zero, find-next, members-zero, members-next}
 use Rattle.pairs.specs.Outcomes.{tableOf}
-use Rattle.pairs.proofs.Pairs.{Room, here, next, room, room-fits}
+use Rattle.searching.proofs.Pairs.{Room, here, next, room, room-fits}
 use Rattle.keys.specs.Keys.{each, same, more, alike, rankAt, within}
 use Rattle.keys.proofs.Each.{each-true, each-at, each-is, each-same}
 use Rattle.keys.proofs.Keys.{alike-within, rank-next, rank-rises, bounded}

@@ -11,10 +11,10 @@ use counting::suspects;
 use filtering::clear_marks;
 use filtering::insert_all;
 use keys::rank;
-use pairs::group_at;
-use pairs::member_at;
-use pairs::numbers_fit;
 use probing::count_class;
+use searching::group_at;
+use searching::member_at;
+use searching::numbers_fit;
 
 fn numbers_right(table: &[i32], count: usize) -> bool
     requires { ⌜ 2 * count ≤ length (now table) ⌝ }

@@ -11,12 +11,13 @@ use Rattle.language.specs.Structure.{Reading as Outcome, read, refuse, Reader, 
 use Rattle.language.specs.declared.Refusal.{Refusal}
 use Rattle.language.specs.declared.Refusal.the-variants.{FieldRange, NameTwice}
 use Rattle.laws.specs.Readers.{bind-read, bind-refuse, passes, fails}
-use Rattle.records.specs.declared.Mark.{Mark}
-use Rattle.records.specs.declared.Mark.the-variants.{FM}
-use Rattle.records.specs.declared.Place.the-variants.{Formal as AFormal}
+use Rattle.marks.specs.declared.Mark.{Mark}
+use Rattle.marks.specs.declared.Mark.the-variants.{FM}
+use Rattle.marks.specs.declared.Place.the-variants.{Formal as AFormal}
 use Rattle.records.specs.declared.Reading.{Reading}
 use Rattle.records.specs.declared.Reading.the-variants.{Taken, Refused}
-use Rattle.records.specs.Taking.{unread, onlyMark, recordAt, forget}
+use Rattle.marks.specs.Marks.{onlyMark}
+use Rattle.records.specs.Taking.{unread, recordAt, forget}
 use Rattle.records.proofs.Steps.{Step, stepped, stopped}
 use Rattle.records.specs.declared.Progress.{Progress}
 use Rattle.naming.specs.Naming.{namesAt, NamesOf}

@@ -1,6 +1,3 @@
 -- Laws that the proofs of several functions cite.
-pub mod Signed
-pub mod Pairs
 pub mod TakeOut
 pub mod Statements
-pub mod Fits

@@ -14,30 +14,14 @@ use mir.Syntax.{w32}
 use mir.Facts.{toZ-ofZ}
 use Rattle.language.specs.Table.{Table, find, isSome, holds, members, size, atLeastOne, full, add, remove, takeOut, fewer, leaves, halts, gives, refuses, added, removed, queried}
 use Rattle.language.specs.declared.Stop.the-variants.{NumberBelowOne, GroupFull, TableFull}
-use Rattle.pairs.specs.Places.{placed, searchOf}
+use Rattle.searching.specs.Places.{placed}
+use Rattle.searching.specs.declared.PairPlace.{PairPlace}
+use Rattle.searching.specs.declared.PairPlace.the-variants.{At, Absent}
+use Rattle.searching.proofs.Placed.{placed-at, placed-absent}
+use Rattle.pairs.specs.Searches.{searchOf}
 use Rattle.pairs.specs.Outcomes.{tableOf, addedAbsent}
-use Rattle.pairs.specs.declared.PairPlace.{PairPlace}
-use Rattle.pairs.specs.declared.PairPlace.the-variants.{At, Absent}
 use Rattle.pairs.specs.declared.Search.{Search}
 use Rattle.pairs.specs.declared.Search.the-variants.{BelowOne, At as Present, Absent as Missing}
-
-placed-at : (r : Option ℕ) (i : ℕ) → placed r ≡ At i → r ≡ some i
-unfolding placed
-placed-at none i e = absurd (let z : _≡_ {A = ℕ} 0 1 = cc in omega arith)
-placed-at (some j) i e = let z : j ≡ i = cc in ap some z
-
-placed-absent : (r : Option ℕ) → placed r ≡ Absent → r ≡ none
-unfolding placed
-placed-absent none e = refl
-placed-absent (some j) e = absurd (let z : _≡_ {A = ℕ} 0 1 = cc in omega arith)
-
-pub held-at : (r : Option ℕ) {i : ℕ} → placed r ≡ At i → isSome r ≡ true
-unfolding isSome
-held-at r e = ap isSome (placed-at _ _ e)
-
-pub held-not : (r : Option ℕ) → placed r ≡ Absent → isSome r ≡ false
-unfolding isSome
-held-not r e = ap isSome (placed-absent _ e)
 
 -- the words in locals are read back from their bits
 module _ {g m : ℤ} (fg : SFits w32 g) (fm : SFits w32 m) where
@@ -49,7 +33,8 @@ module _ {g m : ℤ} (fg : SFits w32 g) (fm : SFits w32 m) where
   place-read k ws e q = (rw (toZ-ofZ fg, toZ-ofZ fm) at (sym e)) ∙ q
 
   pub held-read :
-      (k : ℕ) (ws : List ℤ) {r v : Bool} → r ≡ holds (toZ w32 (ofZ w32 g)) (toZ w32 (ofZ w32 m)) (tableOf ws k) → r ≡ v → holds g m (tableOf ws k) ≡ v
+      (k : ℕ) (ws : List ℤ) {r v : Bool} → r ≡ isSome (find (toZ w32 (ofZ w32 g)) (toZ w32 (ofZ w32 m)) k ws) → r ≡ v → holds g m (tableOf ws k) ≡ v
+  unfolding holds
   held-read k ws e q = (rw (toZ-ofZ fg, toZ-ofZ fm) at (sym e)) ∙ q
 
   pub search-read :

@@ -1,7 +1,7 @@
 // Records as the reader over the script hands them out, and the functions with plain parameters that make a reader and pass it on. The
 // borrow checker covers no function that has a reader, so each leaves the work to a function of the slice and the number.
 use language::Refusal;
-use records::Place;
+use marks::Place;
 use records::Progress;
 use records::Reading;
 use records::block_at;

@@ -1,6 +1,4 @@
 pub mod Unread
-pub mod Table
-pub mod Counts
 pub mod Taking
 pub mod Places
 pub mod Steps

@@ -11,13 +11,14 @@ use borrow.Author.Tests.{leb-true, leb-false}
 use Rattle.language.specs.Encoding.{two}
 use Rattle.language.specs.Structure.{Row, blockMarks, formalMarks, declMarks, stmtMarks, take-record}
 use Rattle.language.specs.declared.Refusal.the-variants.{PastTheEnd, MarkMisplaced}
-use Rattle.records.specs.Taking.{unread, declMark, stmtMark, onlyMark, fitIn, fitAt, taken, takenAt, recordAt}
-use Rattle.records.specs.declared.Mark.{Mark}
-use Rattle.records.specs.declared.Mark.the-variants.{BK, FM}
-use Rattle.records.specs.declared.Place.{Place}
-use Rattle.records.specs.declared.Place.the-variants.{Block, Formal, Declaration, Statement}
-use Rattle.records.specs.declared.marks.Fit.{Fit}
-use Rattle.records.specs.declared.marks.Fit.the-variants.{Matched, Nothing}
+use Rattle.marks.specs.Marks.{declMark, stmtMark, onlyMark, fitIn, fitAt}
+use Rattle.records.specs.Taking.{unread, taken, takenAt, recordAt}
+use Rattle.marks.specs.declared.Mark.{Mark}
+use Rattle.marks.specs.declared.Mark.the-variants.{BK, FM}
+use Rattle.marks.specs.declared.Place.{Place}
+use Rattle.marks.specs.declared.Place.the-variants.{Block, Formal, Declaration, Statement}
+use Rattle.marks.specs.declared.Fit.{Fit}
+use Rattle.marks.specs.declared.Fit.the-variants.{Matched, Nothing}
 use Rattle.records.specs.declared.Reading.the-variants.{Refused}
 use Rattle.records.proofs.Taking.{fitted, no-mark, misplaced, cut-off, whole}
 

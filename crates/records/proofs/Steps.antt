@@ -9,11 +9,12 @@ use lib.ListN.{length, getD}
 use Rattle.language.specs.Encoding.{two}
 use Rattle.language.specs.Structure.{Reading as Outcome, read, refuse, Row, Record, take-record}
 use Rattle.language.specs.declared.Refusal.{Refusal}
-use Rattle.records.specs.Taking.{unread, fitIn, taken}
-use Rattle.records.specs.declared.Mark.{Mark}
-use Rattle.records.specs.declared.Mark.the-variants.{BK}
-use Rattle.records.specs.declared.marks.Fit.{Fit}
-use Rattle.records.specs.declared.marks.Fit.the-variants.{Matched, Nothing}
+use Rattle.marks.specs.Marks.{fitIn}
+use Rattle.records.specs.Taking.{unread, taken}
+use Rattle.marks.specs.declared.Mark.{Mark}
+use Rattle.marks.specs.declared.Mark.the-variants.{BK}
+use Rattle.marks.specs.declared.Fit.{Fit}
+use Rattle.marks.specs.declared.Fit.the-variants.{Matched, Nothing}
 use Rattle.records.specs.declared.Reading.the-variants.{Taken, Refused}
 use Rattle.records.proofs.Taking.{no-mark, misplaced, cut-off, whole}
 

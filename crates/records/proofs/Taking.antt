@@ -13,10 +13,11 @@ use Rattle.language.specs.Encoding.{two}
 use Rattle.language.specs.Structure.{Reading as Outcome, read, refuse, Row, Record, Reader, _>>=_, give, here, fields, fit, take-record}
 use Rattle.language.specs.declared.Refusal.the-variants.{PastTheEnd, MarkMisplaced}
 use Rattle.laws.specs.Readers.{bind-read, bind-refuse, filled}
-use Rattle.records.specs.Taking.{unread, fitIn}
-use Rattle.records.specs.declared.Mark.{Mark}
-use Rattle.records.specs.declared.marks.Fit.{Fit}
-use Rattle.records.specs.declared.marks.Fit.the-variants.{Matched, Nothing}
+use Rattle.marks.specs.Marks.{fitIn}
+use Rattle.records.specs.Taking.{unread}
+use Rattle.marks.specs.declared.Mark.{Mark}
+use Rattle.marks.specs.declared.Fit.{Fit}
+use Rattle.marks.specs.declared.Fit.the-variants.{Matched, Nothing}
 use Rattle.records.proofs.Unread.{unread-drop, unread-enough, unread-short, unread-at}
 
 -- the next k fields, where they are there and where they are not

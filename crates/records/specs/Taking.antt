@@ -1,17 +1,14 @@
 -- What reading one record gives, as the code's enums have it: the definitions' readers over the bytes from an offset on.
 use Prim.Native.Nat.{ℕ, _+_, _*_, _≤_, _<_}
-use mathlib.Core.Bool.{Bool, true, false}
-use mathlib.Core.List.{List, [], _∷_}
-use lib.Dec.{eqb}
+use mathlib.Core.List.{List}
 use lib.ListN.{getD, take, drop}
 use Rattle.language.specs.Encoding.{fieldsOf}
-use Rattle.language.specs.Structure.{Reading as Outcome, read, refuse, Row, Record, DeclMark, isVR, isLB, isPR, StmtMark, isBK, isCL, isGO, isIF, isKN, isAR, isAD, isRM, isQY, blockMarks, formalMarks, declMarks, stmtMarks, take-record}
-use Rattle.records.specs.declared.Mark.{Mark}
-use Rattle.records.specs.declared.Mark.the-variants.{BK, VR, LB, PR, FM, CL, GO, IF, KN, AR, AD, RM, QY}
-use Rattle.records.specs.declared.Place.{Place}
-use Rattle.records.specs.declared.Place.the-variants.{Block, Formal, Declaration, Statement}
-use Rattle.records.specs.declared.marks.Fit.{Fit}
-use Rattle.records.specs.declared.marks.Fit.the-variants.{Matched, Nothing}
+use Rattle.language.specs.Structure.{Reading as Outcome, read, refuse, Record, blockMarks, formalMarks, declMarks, stmtMarks, take-record}
+use Rattle.marks.specs.Marks.{declMark, stmtMark, onlyMark}
+use Rattle.marks.specs.declared.Mark.{Mark}
+use Rattle.marks.specs.declared.Mark.the-variants.{BK, FM}
+use Rattle.marks.specs.declared.Place.{Place}
+use Rattle.marks.specs.declared.Place.the-variants.{Block, Formal, Declaration, Statement}
 use Rattle.records.specs.declared.Reading.{Reading}
 use Rattle.records.specs.declared.Reading.the-variants.{Taken, Refused}
 use Rattle.records.specs.declared.Progress.{Progress}
@@ -19,44 +16,6 @@ use Rattle.records.specs.declared.Progress.{Progress}
 -- the fields from a byte offset on
 unfoldable pub unread : List ℕ → ℕ → List ℕ
 unread bs at = fieldsOf (drop at bs)
-
--- the code's name of each mark of the definitions
-unfoldable pub declMark : DeclMark → Mark
-declMark isVR = VR
-declMark isLB = LB
-declMark isPR = PR
-
-unfoldable pub stmtMark : StmtMark → Mark
-stmtMark isBK = BK
-stmtMark isCL = CL
-stmtMark isGO = GO
-stmtMark isIF = IF
-stmtMark isKN = KN
-stmtMark isAR = AR
-stmtMark isAD = AD
-stmtMark isRM = RM
-stmtMark isQY = QY
-
-unfoldable pub onlyMark : Mark → Bool → Mark
-onlyMark m b = m
-
--- a place's bit in the code's table of marks
-abbrev pub bitOf : Place → ℕ
-bitOf Block = 1
-bitOf Formal = 2
-bitOf Declaration = 4
-bitOf Statement = 8
-
--- the first row with these letters
-unfoldable pub fitIn : {M : Type 0} → (M → Mark) → ℕ → List (Row M) → Fit
-fitIn f w [] = Nothing
-fitIn f w (r ∷ rs) = elim (eqb w (r .letters)) [ true ↦ Matched (r .count) (f (r .mark)) | false ↦ fitIn f w rs ]
-
-unfoldable pub fitAt : Place → ℕ → Fit
-fitAt Block w = fitIn (onlyMark BK) w blockMarks
-fitAt Formal w = fitIn (onlyMark FM) w formalMarks
-fitAt Declaration w = fitIn declMark w declMarks
-fitAt Statement w = fitIn stmtMark w stmtMarks
 
 unfoldable pub taken : {M : Type 0} → (M → Mark) → Outcome (Record M) → Reading
 taken f (read r at ws) = Taken (f (r .mark)) at (getD (r .fields) 0 0) (getD (r .fields) 1 0) (getD (r .fields) 2 0) (getD (r .fields) 3 0)

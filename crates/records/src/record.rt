@@ -1,13 +1,13 @@
 // One record: its mark, fit for its place, and its fields.
-use super::Place;
 use super::Reading;
 use super::fields::field_at;
 use super::fields::field_of;
 use super::fields::marked;
-use super::marks::Fit;
-use super::marks::as_usize;
-use super::marks::find_mark;
 use language::Refusal;
+use marks::Fit;
+use marks::Place;
+use marks::as_usize;
+use marks::find_mark;
 ghost use mathlib.Core.Path.{_≡_};
 ghost use Prim.Native.Nat.{_+_, _<_, _≤_};
 ghost use lib.ListN.{length};

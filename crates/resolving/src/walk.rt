@@ -2,10 +2,10 @@
 use declaring::declare;
 use emitting::emit;
 use extents::past;
-use records::BK;
-use records::LB;
-use records::PR;
-use records::VR;
+use marks::BK;
+use marks::LB;
+use marks::PR;
+use marks::VR;
 use symbols::insert;
 use symbols::remove;
 use words::word;

@@ -14,7 +14,7 @@ use Rattle.records.specs.declared.Progress.the-variants.{At, Refused}
 use Rattle.grammar.specs.Rules.{FormedBlock, FormedDecl, FormedStmt, FormedFormals}
 use Rattle.laws.specs.Fields.{fieldAt, FieldsStand, fields-first, fields-after, fields-are, fields-third}
 use Rattle.uses.specs.Meanings.{verdictOf, pairJudged, tripleJudged}
-use Rattle.calls.specs.Calls.{shapeOf, judgedAs}
+use Rattle.actions.specs.Shapes.{shapeOf, judgedAs}
 use Rattle.extents.specs.Items.{Item, formal, body, declared, stated, itemFields, itemsFields, children, headFields}
 use Rattle.extents.specs.Passing.{Passed}
 use Rattle.scoping.specs.Walking.{progressOf, progressAfter, Ahead, judgeItem, FormedItem, BlockHere, ItemHere}

@@ -1,9 +1,9 @@
 // The kind of a name, and the names that a record uses, left to right: 9 and 10.
 use language::Refusal;
 use language::Verdict;
-use records::FM;
-use records::LB;
-use records::PR;
+use marks::FM;
+use marks::LB;
+use marks::PR;
 use symbols::Binding;
 use symbols::find;
 use words::word;

@@ -13,8 +13,8 @@ use Rattle.language.specs.Structure.{Reading as Outcome, read, refuse, blockMar
 use Rattle.language.specs.Check.{lengthFits}
 use Rattle.language.specs.declared.Refusal.{Refusal}
 use Rattle.language.specs.declared.Refusal.the-variants.{ScriptLength, BytesAfter}
-use Rattle.records.specs.declared.Mark.{Mark}
-use Rattle.records.specs.declared.Place.the-variants.{Block as ABlock}
+use Rattle.marks.specs.declared.Mark.{Mark}
+use Rattle.marks.specs.declared.Place.the-variants.{Block as ABlock}
 use Rattle.records.specs.declared.Progress.{Progress}
 use Rattle.records.specs.declared.Progress.the-variants.{At, Refused}
 use Rattle.records.specs.declared.Reading.{Reading}

@@ -16,9 +16,12 @@ use Rattle.governed.proofs.govern.Reads as govern-reads
 use Rattle.resolving.proofs.resolve.Reads as resolve-reads
 use Rattle.sheets.proofs.write_sheet.Reads as write-sheet-reads
 
--- the places: where the words of names are found, where the script is resolved, where the run and the sheet are done
+-- the places: where the run's arrays are made, the words of names found, the script resolved, the run and the sheet done
+abbrev wordsAt : tie.After-run-program-arg2 → tie.After-words
+wordsAt c = c .before .before .before .before
+
 abbrev namesAt : tie.After-run-program-arg2 → tie.After-govern
-namesAt c = c .before .before .before .before .before .before .before
+namesAt c = (wordsAt c) .before .before .before
 
 abbrev resolvedAt : tie.After-govern → tie.After-resolve
 resolvedAt c = c .before .before .before .before
@@ -29,8 +32,11 @@ sliceAt c = c .before .before .before
 abbrev startAt : tie.After-run-program-arg2 → tie.Start
 startAt c = (sliceAt (resolvedAt (namesAt c))) .before
 
+abbrev lentAt : tie.After-write-sheet-arg → tie.After-code5
+lentAt c = c .before .before .before .before
+
 abbrev ranAt : tie.After-write-sheet-arg → tie.After-run-program
-ranAt c = c .before .before .before .before .before .before .before .before
+ranAt c = (lentAt c) .before .before .before .before
 
 abbrev writtenAt : tie.After-run-words → tie.After-write-sheet
 writtenAt c = c .before .before

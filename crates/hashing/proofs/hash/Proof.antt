@@ -3,7 +3,7 @@ use Prim.Native.Nat.{ℕ}
 use mathlib.Core.Path.{_≡_, _∙_, ap, ap₂}
 use Rattle.laws.specs.Tables.{groupAt}
 use Rattle.hashing.specs.Hashes.{weightOf, combine, mix, hashAt}
-use Rattle.pairs.proofs.Signed.{back}
+use Rattle.searching.proofs.Signed.{back}
 use borrow.Author.Needs.{needs}
 use Rattle.hashing.proofs.hash.Statement.{statement}
 use Rattle.hashing.proofs.hash.Tie as tie

@@ -3,7 +3,7 @@ use mathlib.Core.Path.{_≡_, sym, _∙_}
 use Rattle.language.specs.Basics.{eqZ}
 use Rattle.laws.specs.Tables.{groupAt}
 use Rattle.keys.specs.Keys.{same, sameAt}
-use Rattle.pairs.proofs.Signed.{same-words}
+use Rattle.searching.proofs.Signed.{same-words}
 use Rattle.keys.proofs.Keys.{differ}
 use borrow.Author.Needs.{needs}
 use Rattle.keys.proofs.same_key.Statement.{statement}

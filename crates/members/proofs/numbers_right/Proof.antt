@@ -6,7 +6,7 @@ use native.Mathlib.Numerals.{add-one}
 use native.Mathlib.Omega.{arith}
 use borrow.Author.Tests.{not-true, not-false}
 use Rattle.keys.specs.Keys.{each}
-use Rattle.pairs.proofs.Signed.{number-words}
+use Rattle.searching.proofs.Signed.{number-words}
 use Rattle.keys.proofs.Each.{each-none, each-next, each-false}
 use Rattle.members.proofs.Rules.{numbersAt, numbers-each}
 use Rattle.members.proofs.numbers_right.Statement.{statement}

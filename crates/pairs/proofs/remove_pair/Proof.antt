@@ -5,7 +5,7 @@ use borrow.Author.Needs.{needs}
 use Rattle.language.specs.Table.{Table}
 use Rattle.pairs.specs.Outcomes.{tableOf, changeOf, wordsAfter}
 use Rattle.pairs.specs.declared.Search.{Search}
-use Rattle.pairs.proofs.Pairs.{find-below}
+use Rattle.searching.proofs.Pairs.{find-below}
 use Rattle.pairs.proofs.Statements.{search-read, Says, says, removed-below, removed-absent, removed-found, one-fewer}
 use Rattle.pairs.proofs.remove_pair.Statement.{statement}
 use Rattle.pairs.proofs.remove_pair.Tie as tie

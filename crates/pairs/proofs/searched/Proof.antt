@@ -4,8 +4,8 @@ use mathlib.Core.Bool.{Bool, true, _&&_}
 use borrow.Author.Needs.{needs}
 use borrow.Author.Tests.{not-true, not-false}
 use Rattle.language.specs.Table.{find, atLeastOne}
-use Rattle.pairs.specs.Places.{placed}
-use Rattle.pairs.specs.declared.PairPlace.{PairPlace}
+use Rattle.searching.specs.Places.{placed}
+use Rattle.searching.specs.declared.PairPlace.{PairPlace}
 use Rattle.pairs.proofs.Statements.{fits-read, place-read, searched-below, searched-at, searched-absent}
 use Rattle.pairs.proofs.searched.Statement.{statement}
 use Rattle.pairs.proofs.searched.Tie as tie

@@ -5,7 +5,7 @@ use native.Mathlib.Numerals.{add-one}
 use native.Mathlib.Omega.{arith}
 use lib.ListN.{length, length-set}
 use Rattle.language.specs.Table.{takeOut}
-use Rattle.pairs.proofs.Signed.{back}
+use Rattle.searching.proofs.Signed.{back}
 use Rattle.pairs.proofs.TakeOut.{cut, cut-step, cut-last, takeOut-cut, takeOut-past}
 use Rattle.pairs.proofs.take_out.Statement.{statement}
 use Rattle.pairs.proofs.take_out.Tie as tie

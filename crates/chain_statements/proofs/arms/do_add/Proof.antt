@@ -1,6 +1,6 @@
 -- `do_add` meets its contract.
 use Rattle.language.specs.Text.{plus}
-use Rattle.chain_statements.specs.Homes.{own-cell, arithmetic-at}
+use Rattle.chain_statements.specs.Cells.{own-cell, arithmetic-at}
 use borrow.Author.Needs.{needs}
 use Rattle.chain_statements.proofs.arms.do_add.Statement.{statement}
 use Rattle.chain_statements.proofs.arms.do_add.Tie as tie

@@ -2,9 +2,9 @@
 use Rattle.statements.specs.Pieces.{with-table}
 use Rattle.statements.specs.Words.{read-value}
 use Rattle.statements.specs.Doing.{add-done}
-use Rattle.chain_statements.specs.Finding.{byHome}
+use Rattle.steps.specs.Finding.{byFirst}
 use Rattle.chain_statements.specs.Asking.{wordBehind}
-use Rattle.chain_statements.specs.Homes.{cell-by}
+use Rattle.chain_statements.specs.Cells.{cell-by}
 use borrow.Author.Needs.{needs}
 use Rattle.chain_statements.proofs.arms.do_add_pair.Statement.{statement}
 use Rattle.chain_statements.proofs.arms.do_add_pair.Tie as tie
@@ -44,15 +44,15 @@ same-length c = search needs
 
 returns : tie.Need-returns
 returns c =
-    λ home p q.
+    λ firstOf p q.
     let m = c .before .before .before .before in
     let g = m .before .before in
     let s = g .before .before in
     let ws = s .args .words .now in
     let name = wordBehind (s .args .code .now) (s .args .at) in
-    add-done (byHome ws home) (with-table (s .args .code .now) ws (s .args .table .now) (s .args .pairs) (s .args .limit) (s .args .at))
-    (read-value ws (g .group .given) (cell-by ws home (name 1) p (g .before .cell .ensures .0)))
-    (read-value ws (m .member .given) (cell-by ws home (name 2) q (m .before .cell2 .ensures .0)))
+    add-done (byFirst ws firstOf) (with-table (s .args .code .now) ws (s .args .table .now) (s .args .pairs) (s .args .limit) (s .args .at))
+    (read-value ws (g .group .given) (cell-by ws firstOf (name 1) p (g .before .cell .ensures .0)))
+    (read-value ws (m .member .given) (cell-by ws firstOf (name 2) q (m .before .cell2 .ensures .0)))
     (c .changed .ensures) (c .before .before .add-pair .ensures .0) (c .before .before .add-pair .ensures .1)
 
 pub do-add-pair-spec : {M : Type 1} → statement M

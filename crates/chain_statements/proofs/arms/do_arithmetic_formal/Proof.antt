@@ -2,7 +2,7 @@
 use mathlib.Core.Path.{sym, _∙_}
 use Rattle.language.specs.Text.{plus, minus}
 use Rattle.statements.specs.Doing.{is-plus, is-minus, is-less}
-use Rattle.chain_statements.specs.Homes.{arithmetic-at, compare-at}
+use Rattle.chain_statements.specs.Cells.{arithmetic-at, compare-at}
 use borrow.Author.Needs.{needs}
 use Rattle.chain_statements.proofs.arms.do_arithmetic_formal.Statement.{statement}
 use Rattle.chain_statements.proofs.arms.do_arithmetic_formal.Tie as tie

@@ -1,6 +1,6 @@
 -- `do_branch` meets its contract.
 use Rattle.statements.specs.Words.{is-zero, not-zero}
-use Rattle.chain_statements.specs.Homes.{own-cell, goto-own, stays-at, goes-at}
+use Rattle.chain_statements.specs.Cells.{own-cell, goto-own, stays-at, goes-at}
 use borrow.Author.Needs.{needs}
 use Rattle.chain_statements.proofs.arms.do_branch.Statement.{statement}
 use Rattle.chain_statements.proofs.arms.do_branch.Tie as tie

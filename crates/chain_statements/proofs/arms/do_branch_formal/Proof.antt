@@ -5,7 +5,7 @@ use native.Mathlib.Omega.{arith}
 use Rattle.resolved.specs.Resolved.{direct}
 use Rattle.statements.specs.Words.{is-zero, not-zero, is-direct, is-formal}
 use Rattle.chain_statements.specs.Asking.{wordBehind}
-use Rattle.chain_statements.specs.Homes.{goto-own, stays-at, goes-at}
+use Rattle.chain_statements.specs.Cells.{goto-own, stays-at, goes-at}
 use borrow.Author.Needs.{needs}
 use Rattle.chain_statements.proofs.arms.do_branch_formal.Statement.{statement}
 use Rattle.chain_statements.proofs.arms.do_branch_formal.Tie as tie

@@ -8,9 +8,9 @@ use lib.ListN.{getD}
 use Rattle.acting.specs.Acting.{Finding, Scene, argumentsAgree}
 use Rattle.statements.specs.Pieces.{without-table}
 use Rattle.statements.specs.Doing.{number-differs, number-same, call-refused}
-use Rattle.chain_statements.specs.Finding.{byHome}
+use Rattle.steps.specs.Finding.{byFirst}
 use Rattle.chain_statements.specs.Asking.{wordBehind}
-use Rattle.chain_statements.specs.Homes.{home-held, target-held}
+use Rattle.chain_statements.specs.Cells.{home-held, target-held}
 use Rattle.chain_statements.specs.Moves.{call-formal-move}
 use borrow.Author.Needs.{needs}
 use Rattle.chain_statements.proofs.arms.do_call_formal.Statement.{statement}
@@ -38,26 +38,26 @@ abbrev scene : tie.Start → Scene
 scene s = without-table (s .args .code .now) (s .args .words .now) (s .args .limit) (s .args .live) (s .args .at)
 
 abbrev way : tie.Start → (ℕ → ℕ) → Finding
-way s home = byHome (s .args .words .now) home
+way s firstOf = byFirst (s .args .words .now) firstOf
 
 abbrev word : tie.Start → ℕ
 word s = wordBehind (s .args .code .now) (s .args .at) 1
 
-module _ (h : tie.After-held) (home : ℕ → ℕ) (p : startOf h .args .first ≡ home (word (startOf h))) where
-  body-is : h .held .result / 8192 ≡ way (startOf h) home .target (word (startOf h))
-  body-is = let s = startOf h in target-held (s .args .words .now) home (word s) p (s .pre .1 .is) (h .held .ensures .0)
+module _ (h : tie.After-held) (firstOf : ℕ → ℕ) (p : startOf h .args .first ≡ firstOf (word (startOf h))) where
+  body-is : h .held .result / 8192 ≡ way (startOf h) firstOf .target (word (startOf h))
+  body-is = let s = startOf h in target-held (s .args .words .now) firstOf (word s) p (s .pre .1 .is) (h .held .ensures .0)
 
-  home-is : h .held .result % 8192 / 32 ≡ way (startOf h) home .home (word (startOf h))
-  home-is = let s = startOf h in home-held (s .args .words .now) home (word s) p (s .pre .1 .is) (h .held .ensures .0)
+  home-is : h .held .result % 8192 / 32 ≡ way (startOf h) firstOf .home (word (startOf h))
+  home-is = let s = startOf h in home-held (s .args .words .now) firstOf (word s) p (s .pre .1 .is) (h .held .ensures .0)
 
 returns : tie.Need-returns
 returns c =
-    λ home p.
+    λ firstOf p.
     let n = c .before .before in
     let h = n .before in
     let s = startOf h in
-    call-refused (way s home) (scene s) (body-is h home p)
-    (number-differs (way s home) (scene s) (h .held .result / 8192)
+    call-refused (way s firstOf) (scene s) (body-is h firstOf p)
+    (number-differs (way s firstOf) (scene s) (h .held .result / 8192)
     (λ e. c .if1 .taken (ap (λ (x : ℕ). x / 65536 % 256) (c .before .code-at2 .ensures .0) ∙ e ∙ sym (n .code-at .ensures .0)))) .0
 
 formals : (c : tie.After-code-at2) → 3 * (c .code-at2 .result / 65536 % 256) ≤ c .before .before .held .result / 8192
@@ -68,13 +68,13 @@ same-number : (c : tie.Else1) → let h = c .before .before .before in let s = s
 same-number c = sym (ap (λ (x : ℕ). x / 65536 % 256) (c .before .code-at2 .ensures .0)) ∙ c .if1 .left ∙ c .before .before .code-at .ensures .0
 
 agrees :
-    (c : tie.After-kinds-agree) {t : Bool} → c .kinds-agree .result ≡ t → (home : ℕ → ℕ) → let h = c .before .before .before .before in
-    let s = startOf h in argumentsAgree (way s home) (scene s) (h .held .result / 8192) ≡ t
-agrees c e home =
+    (c : tie.After-kinds-agree) {t : Bool} → c .kinds-agree .result ≡ t → (firstOf : ℕ → ℕ) → let h = c .before .before .before .before in
+    let s = startOf h in argumentsAgree (way s firstOf) (scene s) (h .held .result / 8192) ≡ t
+agrees c e firstOf =
     let n = c .before .before .before in
     let h = n .before in
     let s = startOf h in
-    number-same (way s home) (scene s) (h .held .result / 8192) (same-number (c .before)) ∙ sym
+    number-same (way s firstOf) (scene s) (h .held .result / 8192) (same-number (c .before)) ∙ sym
     (rw (n .code-at .ensures .0) at (c .kinds-agree .ensures)) ∙ e
 
 add-kinds-agree : tie.Need-add-kinds-agree
@@ -91,21 +91,21 @@ kinds-agree-requires c κs = search needs
 
 returns-2 : tie.Need-returns-2
 returns-2 c =
-    λ home p.
+    λ firstOf p.
     let h = c .before .before .before .before .before in
     let s = startOf h in
-    call-refused (way s home) (scene s) (body-is h home p) (agrees (c .before) (not-true _ (c .if2 .taken)) home) .0
+    call-refused (way s firstOf) (scene s) (body-is h firstOf p) (agrees (c .before) (not-true _ (c .if2 .taken)) firstOf) .0
 
 enter-body-requires : tie.Need-enter-body-requires
 enter-body-requires c κs = search needs
 
 returns-3 : tie.Need-returns-3
 returns-3 c =
-    λ home p.
+    λ firstOf p.
     let k = c .before .before in
     let h = k .before .before .before .before in
     let s = startOf h in
-    call-formal-move (way s home) (scene s) (home-is h home p) (body-is h home p) (agrees k (not-false _ (c .before .if2 .left)) home)
+    call-formal-move (way s firstOf) (scene s) (home-is h firstOf p) (body-is h firstOf p) (agrees k (not-false _ (c .before .if2 .left)) firstOf)
     (c .enter-body .ensures)
 
 pub do-call-formal-spec : {M : Type 1} → statement M

@@ -1,5 +1,5 @@
 -- `do_compare` meets its contract.
-use Rattle.chain_statements.specs.Homes.{own-cell, compare-at}
+use Rattle.chain_statements.specs.Cells.{own-cell, compare-at}
 use borrow.Author.Needs.{needs}
 use Rattle.chain_statements.proofs.arms.do_compare.Statement.{statement}
 use Rattle.chain_statements.proofs.arms.do_compare.Tie as tie

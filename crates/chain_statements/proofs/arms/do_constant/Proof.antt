@@ -1,5 +1,5 @@
 -- `do_constant` meets its contract.
-use Rattle.chain_statements.specs.Homes.{own-cell, constant-at}
+use Rattle.chain_statements.specs.Cells.{own-cell, constant-at}
 use borrow.Author.Needs.{needs}
 use Rattle.chain_statements.proofs.arms.do_constant.Statement.{statement}
 use Rattle.chain_statements.proofs.arms.do_constant.Tie as tie

@@ -1,5 +1,5 @@
 -- `do_constant_formal` meets its contract.
-use Rattle.chain_statements.specs.Homes.{constant-at}
+use Rattle.chain_statements.specs.Cells.{constant-at}
 use borrow.Author.Needs.{needs}
 use Rattle.chain_statements.proofs.arms.do_constant_formal.Statement.{statement}
 use Rattle.chain_statements.proofs.arms.do_constant_formal.Tie as tie

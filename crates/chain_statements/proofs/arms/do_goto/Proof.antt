@@ -13,7 +13,7 @@ code-at-requires : tie.Need-code-at-requires
 code-at-requires c κs = search needs
 
 returns : tie.Need-returns
-returns c = ap (λ (w : ℕ). Jump (c .before .args .first) (w / 65536)) (c .code-at .ensures .0)
+returns c = ap (λ (w : ℕ). Jump (c .before .args .first / 32) (w / 65536)) (c .code-at .ensures .0)
 
 pub do-goto-spec : {M : Type 1} → statement M
 do-goto-spec = tie.close (tie.spec add-code-at code-at-requires returns)

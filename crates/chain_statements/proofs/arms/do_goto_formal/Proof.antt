@@ -1,5 +1,5 @@
 -- `do_goto_formal` meets its contract.
-use Rattle.chain_statements.specs.Homes.{goto-held}
+use Rattle.chain_statements.specs.Cells.{goto-held}
 use borrow.Author.Needs.{needs}
 use Rattle.chain_statements.proofs.arms.do_goto_formal.Statement.{statement}
 use Rattle.chain_statements.proofs.arms.do_goto_formal.Tie as tie

@@ -5,9 +5,9 @@ use Rattle.acting.specs.Acting.{Scene}
 use Rattle.statements.specs.Pieces.{with-table}
 use Rattle.statements.specs.Words.{read-back, read-value}
 use Rattle.statements.specs.Doing.{query-gives, query-refuses}
-use Rattle.chain_statements.specs.Finding.{byHome}
+use Rattle.steps.specs.Finding.{byFirst}
 use Rattle.chain_statements.specs.Asking.{wordBehind}
-use Rattle.chain_statements.specs.Homes.{cell-by}
+use Rattle.chain_statements.specs.Cells.{cell-by}
 use borrow.Author.Needs.{needs}
 use Rattle.chain_statements.proofs.arms.do_query.Statement.{statement}
 use Rattle.chain_statements.proofs.arms.do_query.Tie as tie
@@ -57,11 +57,11 @@ add-t29 c = search needs
 enum-known-cause : tie.Need-enum-known-cause
 enum-known-cause c = search needs
 
-abbrev firstOf : tie.After-group → tie.After-cell
-firstOf g = g .before .before .before
+abbrev targetOf : tie.After-group → tie.After-cell
+targetOf g = g .before .before .before
 
 abbrev startOf : tie.After-group → tie.Start
-startOf g = firstOf g .before .before
+startOf g = targetOf g .before .before
 
 abbrev scene : tie.Start → Scene
 scene s = with-table (s .args .code .now) (s .args .words .now) (s .args .table .now) (s .args .pairs) 0 (s .args .at)
@@ -71,31 +71,31 @@ word s i = wordBehind (s .args .code .now) (s .args .at) i
 
 returns : tie.Need-returns
 returns c =
-    λ home p q u.
+    λ firstOf p q u.
     let v = c .before .before .before in
     let k = v .before .before in
     let m = k .before in
     let g = m .before .before .before in
     let s = startOf g in
     let ws = s .args .words .now in
-    let d = query-gives (byHome ws home) (scene s)
-    (read-value ws (g .group .given) (cell-by ws home (word s 2) q (g .before .cell2 .ensures .0)))
-    (read-value ws (m .member .given) (cell-by ws home (word s 3) u (m .before .cell3 .ensures .0)))
-    (k .query-pair .ensures) (cell-by ws home (word s 1) p (firstOf g .cell .ensures .0)) (v .value .given .1) in
+    let d = query-gives (byFirst ws firstOf) (scene s)
+    (read-value ws (g .group .given) (cell-by ws firstOf (word s 2) q (g .before .cell2 .ensures .0)))
+    (read-value ws (m .member .given) (cell-by ws firstOf (word s 3) u (m .before .cell3 .ensures .0)))
+    (k .query-pair .ensures) (cell-by ws firstOf (word s 1) p (targetOf g .cell .ensures .0)) (v .value .given .1) in
     (d .0, (rw (read-back (v .value .given .0 .0) (c .before .before .known-told .given .0 .1)) at (c .store .ensures)) ∙ d .1)
 
 returns-2 : tie.Need-returns-2
 returns-2 c =
-    λ home p q u.
+    λ firstOf p q u.
     let v = c .before in
     let k = v .before .before in
     let m = k .before in
     let g = m .before .before .before in
     let s = startOf g in
     let ws = s .args .words .now in
-    query-refuses (byHome ws home) (scene s)
-    (read-value ws (g .group .given) (cell-by ws home (word s 2) q (g .before .cell2 .ensures .0)))
-    (read-value ws (m .member .given) (cell-by ws home (word s 3) u (m .before .cell3 .ensures .0)))
+    query-refuses (byFirst ws firstOf) (scene s)
+    (read-value ws (g .group .given) (cell-by ws firstOf (word s 2) q (g .before .cell2 .ensures .0)))
+    (read-value ws (m .member .given) (cell-by ws firstOf (word s 3) u (m .before .cell3 .ensures .0)))
     (k .query-pair .ensures) (v .cause .given .1)
 
 pub do-query-spec : {M : Type 1} → statement M

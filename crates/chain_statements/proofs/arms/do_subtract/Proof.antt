@@ -1,6 +1,6 @@
 -- `do_subtract` meets its contract.
 use Rattle.language.specs.Text.{minus}
-use Rattle.chain_statements.specs.Homes.{own-cell, arithmetic-at}
+use Rattle.chain_statements.specs.Cells.{own-cell, arithmetic-at}
 use borrow.Author.Needs.{needs}
 use Rattle.chain_statements.proofs.arms.do_subtract.Statement.{statement}
 use Rattle.chain_statements.proofs.arms.do_subtract.Tie as tie

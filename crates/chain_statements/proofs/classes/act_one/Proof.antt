@@ -7,9 +7,9 @@ use lib.ListN.{getD}
 use Rattle.acting.specs.Acting.{Finding, Scene, Op, constant-op, goto-op, block-op, call-op, constant-formal-op, goto-formal-op, call-formal-op}
 use Rattle.acting.specs.Acting.{operations, opOf, happens}
 use Rattle.statements.specs.Numbers.{op-of}
-use Rattle.chain_statements.specs.Finding.{byHome}
-use Rattle.chain_statements.specs.Asking.{wordBehind, Ready, Leads, sceneOf, namesOf}
-use Rattle.chain_statements.specs.Homes.{home-own, target-own, goto-own}
+use Rattle.steps.specs.Finding.{byFirst}
+use Rattle.chain_statements.specs.Asking.{wordBehind, Ready, Leads, sceneOf, classOf}
+use Rattle.chain_statements.specs.Cells.{home-own, target-own, goto-own}
 use Rattle.chain_statements.specs.Moves.{did, constant-did, goto-did, block-did, call-did, call-formal-did}
 use Rattle.chain_statements.specs.Classes.{call-left}
 use borrow.Author.Needs.{needs}
@@ -20,7 +20,7 @@ code-at-requires : tie.Need-code-at-requires
 code-at-requires c κs = search needs
 
 abbrev way : tie.Start → (ℕ → ℕ) → Finding
-way s home = byHome (s .args .words .now) home
+way s firstOf = byFirst (s .args .words .now) firstOf
 
 abbrev scene : tie.Start → List ℤ → ℕ → ℕ → Scene
 scene s table pairs group =
@@ -29,8 +29,8 @@ scene s table pairs group =
 abbrev opAt : tie.Start → Op
 opAt s = opOf (getD (s .args .code .now) (s .args .at) 0)
 
-abbrev HomesFor : tie.Start → (ℕ → ℕ) → Op → Type 0
-HomesFor s home p = Leads home (s .args .code .now) (s .args .at) (s .args .first) 0 0 p
+abbrev Found : tie.Start → (ℕ → ℕ) → Op → Type 0
+Found s firstOf p = Leads firstOf (s .args .code .now) (s .args .at) (s .args .first) 0 0 p
 
 abbrev ReadyFor : tie.Start → Op → Type 0
 ReadyFor s p = Ready (s .args .code .now) (s .args .words .now) (s .args .limit) (s .args .live) (s .args .at) (s .args .first) 0 0 p
@@ -43,13 +43,13 @@ op : (k : tie.After-code-at) (n : ℕ) → k .code-at .result % 16 ≡ n → opA
 op k n e = sym (read k) ∙ op-of (k .code-at .result) n e
 
 other : (c : tie.At-match-rest) → c .before .code-at .result % 16 ≡ 15
-other c = call-left (c .before .code-at .result) (ap namesOf (read (c .before)) ∙ c .before .before .pre .1) (c .match .rest)
+other c = call-left (c .before .code-at .result) (ap classOf (read (c .before)) ∙ c .before .before .pre .1) (c .match .rest)
 
 ready : (s : tie.Start) (p : Op) → opAt s ≡ p → ReadyFor s p
 ready s p e = subst (λ (x : Op). ReadyFor s x) e (s .pre .2)
 
-leads : (s : tie.Start) (p : Op) → opAt s ≡ p → (home : ℕ → ℕ) → HomesFor s home (opAt s) → HomesFor s home p
-leads s p e home l = subst (λ (x : Op). HomesFor s home x) e l
+leads : (s : tie.Start) (p : Op) → opAt s ≡ p → (firstOf : ℕ → ℕ) → Found s firstOf (opAt s) → Found s firstOf p
+leads s p e firstOf l = subst (λ (x : Op). Found s firstOf x) e l
 
 do-constant-requires : tie.Need-do-constant-requires
 unfolding operations
@@ -90,82 +90,82 @@ do-call-formal-requires c κs =
 returns : tie.Need-returns
 unfolding operations happens
 returns c =
-    λ home table pairs group l.
+    λ firstOf table pairs group l.
     let m = c .before .before in
     let s = m .before .before in
     let e = op (m .before) 0 (m .match .keys1) in
-    let g = leads s constant-op e home l in
-    did (way s home) (scene s table pairs group) constant-op e
-    (constant-did (way s home) (scene s table pairs group) (c .do-constant .ensures home g))
+    let g = leads s constant-op e firstOf l in
+    did (way s firstOf) (scene s table pairs group) constant-op e
+    (constant-did (way s firstOf) (scene s table pairs group) (c .do-constant .ensures firstOf g))
 
 returns-2 : tie.Need-returns-2
 unfolding operations happens
 returns-2 c =
-    λ home table pairs group l.
+    λ firstOf table pairs group l.
     let m = c .before in
     let s = m .before .before in
     let e = op (m .before) 5 (m .match .keys2) in
-    let g = leads s goto-op e home l in
-    did (way s home) (scene s table pairs group) goto-op e
-    (goto-did (way s home) (scene s table pairs group)
-    (goto-own (s .args .code .now) (s .args .words .now) (s .args .at) (c .do-goto .ensures) (ready s goto-op e .1 .is) home g))
+    let g = leads s goto-op e firstOf l in
+    did (way s firstOf) (scene s table pairs group) goto-op e
+    (goto-did (way s firstOf) (scene s table pairs group)
+    (goto-own (s .args .code .now) (s .args .words .now) (s .args .at) (c .do-goto .ensures) (ready s goto-op e .1 .is) firstOf g))
 
 returns-3 : tie.Need-returns-3
 unfolding operations happens
 returns-3 c =
-    λ home table pairs group l.
+    λ firstOf table pairs group l.
     let m = c .before in
     let s = m .before .before in
     let e = op (m .before) 6 (m .match .keys3) in
-    did (way s home) (scene s table pairs group) block-op e
-    (block-did (way s home) (scene s table pairs group) (c .do-block .ensures))
+    did (way s firstOf) (scene s table pairs group) block-op e
+    (block-did (way s firstOf) (scene s table pairs group) (c .do-block .ensures))
 
 returns-4 : tie.Need-returns-4
 unfolding operations happens
 returns-4 c =
-    λ home table pairs group l.
+    λ firstOf table pairs group l.
     let m = c .before in
     let s = m .before .before in
     let e = op (m .before) 7 (m .match .keys4) in
-    let g = leads s call-op e home l in
+    let g = leads s call-op e firstOf l in
     let w = wordBehind (s .args .code .now) (s .args .at) 1 in
     let d = ready s call-op e .1 .is in
-    did (way s home) (scene s table pairs group) call-op e
-    (call-did (way s home) (scene s table pairs group) (home-own (s .args .words .now) home w g d) (target-own (s .args .words .now) home w g d)
+    did (way s firstOf) (scene s table pairs group) call-op e
+    (call-did (way s firstOf) (scene s table pairs group) (home-own (s .args .words .now) firstOf w g d) (target-own (s .args .words .now) firstOf w g d)
     (c .do-call .ensures))
 
 returns-5 : tie.Need-returns-5
 unfolding operations happens
 returns-5 c =
-    λ home table pairs group l.
+    λ firstOf table pairs group l.
     let m = c .before .before in
     let s = m .before .before in
     let e = op (m .before) 11 (m .match .keys5) in
-    let g = leads s constant-formal-op e home l in
-    did (way s home) (scene s table pairs group) constant-formal-op e
-    (constant-did (way s home) (scene s table pairs group) (c .do-constant-formal .ensures home g))
+    let g = leads s constant-formal-op e firstOf l in
+    did (way s firstOf) (scene s table pairs group) constant-formal-op e
+    (constant-did (way s firstOf) (scene s table pairs group) (c .do-constant-formal .ensures firstOf g))
 
 returns-6 : tie.Need-returns-6
 unfolding operations happens
 returns-6 c =
-    λ home table pairs group l.
+    λ firstOf table pairs group l.
     let m = c .before .before in
     let s = m .before .before in
     let e = op (m .before) 14 (m .match .keys6) in
-    let g = leads s goto-formal-op e home l in
-    did (way s home) (scene s table pairs group) goto-formal-op e
-    (goto-did (way s home) (scene s table pairs group) (c .do-goto-formal .ensures home g))
+    let g = leads s goto-formal-op e firstOf l in
+    did (way s firstOf) (scene s table pairs group) goto-formal-op e
+    (goto-did (way s firstOf) (scene s table pairs group) (c .do-goto-formal .ensures firstOf g))
 
 returns-7 : tie.Need-returns-7
 unfolding operations happens
 returns-7 c =
-    λ home table pairs group l.
+    λ firstOf table pairs group l.
     let m = c .before .before in
     let s = m .before .before in
     let e = op (m .before) 15 (other m) in
-    let g = leads s call-formal-op e home l in
-    did (way s home) (scene s table pairs group) call-formal-op e
-    (call-formal-did (way s home) (scene s table pairs group) (c .do-call-formal .ensures home g))
+    let g = leads s call-formal-op e firstOf l in
+    did (way s firstOf) (scene s table pairs group) call-formal-op e
+    (call-formal-did (way s firstOf) (scene s table pairs group) (c .do-call-formal .ensures firstOf g))
 
 pub act-one-spec : {M : Type 1} → statement M
 act-one-spec =

@@ -1,5 +1,4 @@
 -- `held` meets its contract.
-use Prim.Native.Nat.{_*_}
 use mathlib.Core.Path.{sym}
 use lib.ListN.{getD}
 use Rattle.statements.specs.Words.{read-back, held-is}
@@ -25,7 +24,7 @@ returns : tie.Need-returns
 returns c =
     let a = c .before .before .before .args in
     let e = rw (read-back _ (c .before .whole-arg .given), c .before .before .own .ensures .0) at (c .whole .ensures .0) in
-    (sym (held-is (a .words .now) (32 * a .home) (getD (a .code .now) (a .place) 0) e), c .whole .ensures .1)
+    (sym (held-is (a .words .now) (a .first) (getD (a .code .now) (a .place) 0) e), c .whole .ensures .1)
 
 pub held-spec : {M : Type 1} → statement M
 held-spec =

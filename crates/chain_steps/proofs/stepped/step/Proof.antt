@@ -41,13 +41,12 @@ use Rattle.lending.specs.Frames.{begins, tysOf}
 use Rattle.lending.specs.Locals.{var, part, lent, lent-ptr, lent-slice, puts, lands-in, ends, if-then}
 use Rattle.lending.specs.Lends.{lends-ref, back-ref, lends-slice, back-slice, shares-slice, unshares-slice, relent}
 use Rattle.acting.specs.Acting.{acting}
-use Rattle.chain_statements.specs.Finding.{byHome}
 use Rattle.chain_statements.specs.Asking.{sceneOf}
 use Rattle.activations.specs.Records.{at}
 use Rattle.activations.specs.declared.Activation.{Activation}
 use Rattle.links.specs.declared.Now.{Now}
 use Rattle.links.specs.declared.Entry.{Entry}
-use Rattle.links.specs.Finding.{homeOf}
+use Rattle.links.specs.Finding.{byChain}
 use Rattle.links.specs.Running.{Running, EnterReady, Succeeds, nowBy}
 use Rattle.links.specs.Moving.{room-there, block-fits}
 use Rattle.links.proofs.Rows.{Code, Words, Rec, recs, nows, entries, fields-of-now}
@@ -159,7 +158,7 @@ module _ (code : List ℕ) (words : List ℤ) (records : List Activation) (table
   left-so e r k w = turned.left-on w e r k
 
   module _ (before : here .at ≡ here .end → ⊥) (moved : Moved) (words′ table′ : List ℤ)
-      (does : Does (acting (byHome words (homeOf records (here .live) (here .level)))
+      (does : Does (acting (byChain words records (here .live) (here .level))
       (sceneOf code words table (here .pairs) group limit (here .live) (here .at))) words here moved words′ table′) where
     stays-is : isDone moved ≡ staysIn here (does .move)
     stays-is = ap isDone (does .so) ∙ by-move.done-so here (does .move)

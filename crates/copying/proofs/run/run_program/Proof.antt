@@ -21,9 +21,28 @@ abbrev μ-loop : tie.MeasureT-loop
 μ-loop script code names words₀ area₀ blocks₀ nexts₀ table₀ pairs group limit allowance width firsts₀ starts₀ targets₀ looked₀ here₀ left₀ words area blocks nexts table firsts starts targets looked here left =
     left
 
--- the places of a turn, from behind its step, and those before the loop
+-- the places before the loop: the start, from the arrays made
+abbrev madeOf : tie.After-looked Inv-loop μ-loop → tie.After-begin-arg Inv-loop μ-loop
+madeOf c = c .before .before .before
+
+abbrev startAt : tie.After-looked Inv-loop μ-loop → tie.Start Inv-loop μ-loop
+startAt c = (madeOf c) .before .before .before
+
+abbrev startOf : tie.After-begin Inv-loop μ-loop → tie.Start Inv-loop μ-loop
+startOf b = startAt (b .before)
+
+-- those of a turn, from its step and from behind it
+abbrev lentOf : tie.After-step-arg5 Inv-loop μ-loop → tie.After-firsts2 Inv-loop μ-loop
+lentOf c = c .before .before .before .before
+
+abbrev firstOf : tie.After-firsts2 Inv-loop μ-loop → tie.After-step-arg Inv-loop μ-loop
+firstOf c = c .before .before .before .before
+
+abbrev turnAt : tie.After-step-arg5 Inv-loop μ-loop → tie.In-loop Inv-loop μ-loop
+turnAt c = (firstOf (lentOf c)) .before
+
 abbrev turnOf : tie.After-step Inv-loop μ-loop → tie.In-loop Inv-loop μ-loop
-turnOf c = c .before .before .before .before .before .before .before .before .before .before
+turnOf c = turnAt (c .before)
 
 abbrev loopAt : tie.After-step Inv-loop μ-loop → tie.At-loop Inv-loop μ-loop
 loopAt c = (turnOf c) .before
@@ -31,8 +50,28 @@ loopAt c = (turnOf c) .before
 abbrev beginOf : tie.At-loop Inv-loop μ-loop → tie.After-begin Inv-loop μ-loop
 beginOf l = l .before .before .before
 
-abbrev startOf : tie.After-begin Inv-loop μ-loop → tie.Start Inv-loop μ-loop
-startOf b = b .before .before .before .before .before .before .before
+-- the step, from what it came to: it went on, the run is finished, or there is a cause to stop
+abbrev stepOf : tie.After-table Inv-loop μ-loop → tie.After-step Inv-loop μ-loop
+stepOf c = c .before .before .before
+
+abbrev wentOn : tie.After-known-told Inv-loop μ-loop → tie.After-step Inv-loop μ-loop
+wentOn c = stepOf (c .before .before .before)
+
+abbrev finished : tie.After-enum-told Inv-loop μ-loop → tie.After-step Inv-loop μ-loop
+finished c = stepOf (c .before .before)
+
+abbrev caused : tie.After-cause Inv-loop μ-loop → tie.After-step Inv-loop μ-loop
+caused c = stepOf (c .before .before)
+
+-- the cause, from where the engine halts with it, and the end of the loop
+abbrev haltOf : tie.After-looked3 Inv-loop μ-loop → tie.After-halted-arg Inv-loop μ-loop
+haltOf c = c .before .before .before
+
+abbrev causeOf : tie.After-looked3 Inv-loop μ-loop → tie.After-cause Inv-loop μ-loop
+causeOf c = (haltOf c) .before .before .before
+
+abbrev endOf : tie.After-looked4 Inv-loop μ-loop → tie.After-loop Inv-loop μ-loop
+endOf c = c .before .before .before .before
 
 -- what a step leaves
 abbrev leftBy : tie.After-step Inv-loop μ-loop → Arrays
@@ -65,7 +104,7 @@ abbrev again : (l : tie.At-loop Inv-loop μ-loop) → let s = (startOf (beginOf 
 again l b = with-area b ((beginOf l) .begin .last .1 .1 .1 .0) ((beginOf l) .begin .kept .1 .1 .1 .0)
 
 begin-requires : tie.Need-begin-requires Inv-loop μ-loop
-begin-requires c κs = beginnable (c .before .before .before .before .before .before .pre)
+begin-requires c κs = beginnable ((startAt c) .pre)
 
 loop-holds : tie.Need-loop-holds Inv-loop μ-loop
 loop-holds c =
@@ -80,7 +119,7 @@ loop-holds c =
 
 step-requires : tie.Need-step-requires Inv-loop μ-loop
 step-requires c κs =
-    let l = c .before .before .before .before .before .before .before .before .before .before in
+    let l = (turnAt c) .before in
     let b = again l ((startOf (beginOf l)) .pre) in
     step-ready (l .loop .inv .0 b) (b .few-steps)
 
@@ -88,14 +127,14 @@ enum-known-next : tie.Need-enum-known-next Inv-loop μ-loop
 enum-known-next c = search needs
 
 sub-left : tie.Need-sub-left Inv-loop μ-loop
-sub-left c = (turnOf (c .before .before .before .before .before .before)) .loop-test .taken
+sub-left c = (turnOf (wentOn c)) .loop-test .taken
 
 loop-less : tie.Need-loop-less Inv-loop μ-loop
-loop-less c = omega (arith, (turnOf (c .before .before .before .before .before .before)) .loop-test .taken)
+loop-less c = omega (arith, (turnOf (wentOn c)) .loop-test .taken)
 
 loop-again : tie.Need-loop-again Inv-loop μ-loop
 loop-again c =
-    let o = c .before .before .before .before .before .before in
+    let o = wentOn c in
     let i = (loopAt o) .loop .inv in (
       λ b. went-as (i .0 b) (leftBy o) (o .step .result) (o .step .ensures (i .0 b .running)) (c .before .next .given .0 .0) (c .before .next .given .1)
           ((turnOf o) .loop-test .taken),
@@ -108,25 +147,25 @@ enum-told c = search needs
 
 sub-t44 : tie.Need-sub-t44 Inv-loop μ-loop
 sub-t44 c =
-    let l = loopAt (c .before .before .before .before .before) in
+    let l = loopAt (finished c) in
     omega (arith, counts (l .loop .inv .0 (again l ((startOf (beginOf l)) .pre))))
 
 add-t45 : tie.Need-add-t45 Inv-loop μ-loop
 add-t45 c =
-    let o = c .before .before .before .before .before in
+    let o = finished c in
     record { fits = omega (arith, (startOf (beginOf (loopAt o))) .fits .allowance .fits, (turnOf o) .loop-test .taken) }
 
 same-length : tie.Need-same-length Inv-loop μ-loop
 same-length c =
-    let o = c .before .before .before .before .before in
+    let o = finished c in
     area-kept o ∙ (beginOf (loopAt o)) .begin .kept .1 .1 .1 .0
 
 same-length-2 : tie.Need-same-length-2 Inv-loop μ-loop
-same-length-2 c = table-kept (c .before .before .before .before .before)
+same-length-2 c = table-kept (finished c)
 
 returns : tie.Need-returns Inv-loop μ-loop
 returns c =
-    let o = c .before .before .before .before .before in
+    let o = finished c in
     let l = loopAt o in
     λ u.
     let i = l .loop .inv .0 (again l u) in
@@ -137,34 +176,34 @@ enum-known-cause c = search needs
 
 sub-done : tie.Need-sub-done Inv-loop μ-loop
 sub-done c =
-    let l = loopAt (c .before .before .before .before .before .before) in
+    let l = loopAt (caused (c .before)) in
     omega (arith, counts (l .loop .inv .0 (again l ((startOf (beginOf l)) .pre))))
 
 mul-place : tie.Need-mul-place Inv-loop μ-loop
 mul-place c =
-    let l = loopAt (c .before .before .before .before .before .before .before) in
+    let l = loopAt (caused (c .before .before)) in
     record { fits = omega (arith, at-small (l .loop .inv .0 (again l ((startOf (beginOf l)) .pre)))) }
 
 halted-requires : tie.Need-halted-requires Inv-loop μ-loop
 halted-requires c κs =
-    let k = c .before .before .before .before .before .before in
-    let o = k .before .before .before .before .before in
+    let k = causeOf c in
+    let o = caused k in
     let l = loopAt o in
     let u = l .loop .inv .0 (again l ((startOf (beginOf l)) .pre)) in
     halt-ready ((stays u (leftBy o) (o .step .result) (o .step .ensures (u .running)) (k .cause .given .0 .0) (k .cause .given .1)) .0)
 
 same-length-3 : tie.Need-same-length-3 Inv-loop μ-loop
 same-length-3 c =
-    let o = c .before .before .before .before .before .before .before .before .before .before .before .before in
+    let o = caused (causeOf (c .before)) in
     area-kept o ∙ (beginOf (loopAt o)) .begin .kept .1 .1 .1 .0
 
 same-length-4 : tie.Need-same-length-4 Inv-loop μ-loop
-same-length-4 c = table-kept (c .before .before .before .before .before .before .before .before .before .before .before .before)
+same-length-4 c = table-kept (caused (causeOf (c .before)))
 
 returns-2 : tie.Need-returns-2 Inv-loop μ-loop
 returns-2 c =
-    let k = c .before .before .before .before .before .before .before in
-    let o = k .before .before .before .before .before in
+    let k = causeOf (c .before) in
+    let o = caused k in
     let l = loopAt o in
     λ b.
     let u = l .loop .inv .0 (again l b) in
@@ -174,20 +213,20 @@ returns-2 c =
 
 halted-requires-2 : tie.Need-halted-requires-2 Inv-loop μ-loop
 halted-requires-2 c κs =
-    let l = c .before .before .before .before .before in
+    let l = (endOf c) .before in
     halt-ready (l .loop .inv .0 (again l ((startOf (beginOf l)) .pre)))
 
 same-length-5 : tie.Need-same-length-5 Inv-loop μ-loop
 same-length-5 c =
-    let l = c .before .before .before .before .before .before in
+    let l = (endOf (c .before)) .before in
     l .loop .inv .1 ∙ (beginOf l) .begin .kept .1 .1 .1 .0
 
 same-length-6 : tie.Need-same-length-6 Inv-loop μ-loop
-same-length-6 c = c .before .before .before .before .before .before .loop .inv .2
+same-length-6 c = (endOf (c .before)) .before .loop .inv .2
 
 returns-3 : tie.Need-returns-3 Inv-loop μ-loop
 returns-3 c =
-    let t = c .before .before .before .before .before in
+    let t = endOf (c .before) in
     let l = t .before in
     λ b.
     spent (l .loop .inv .0 (again l b)) (c .halted2 .last .0) (c .halted2 .ensures .1) (c .halted2 .result) (omega (arith, t .loop-test .left))

@@ -8,9 +8,15 @@ use borrow.Author.Needs.{needs}
 use Rattle.copying.proofs.run.step.Statement.{statement}
 use Rattle.copying.proofs.run.step.Tie as tie
 
--- the places behind the statement's function, and what it leaves of words and table
+-- the places before the statement's function and behind it, and what it leaves of words and table
+abbrev lentOf : tie.After-act-arg6 → tie.After-act-arg3
+lentOf c = c .before .before .before
+
+abbrev elseAt : tie.After-act-arg6 → tie.Else1
+elseAt c = (lentOf c) .before .before .before
+
 abbrev elseOf : tie.After-act → tie.Else1
-elseOf a = a .before .before .before .before .before .before .before
+elseOf a = elseAt (a .before)
 
 abbrev startOf : tie.After-act → tie.Start
 startOf a = (elseOf a) .before .before
@@ -20,6 +26,16 @@ wordsOf a = a .act .last .1 .0
 
 abbrev tableOf : tie.After-act → List ℤ
 tableOf a = a .act .last .1 .1 .1 .1 .1 .1 .1 .0
+
+-- the block to enter, from what entering is lent
+abbrev halfOf : tie.After-enter-arg8 → tie.After-enter-arg4
+halfOf c = c .before .before .before .before
+
+abbrev toldOf : tie.After-enter-arg4 → tie.After-known-told3
+toldOf c = c .before .before .before .before
+
+abbrev bodyOf : tie.After-enter-arg8 → tie.After-back
+bodyOf c = (toldOf (halfOf c)) .before
 
 returns : tie.Need-returns
 returns c = λ w. (c .before .if1 .taken, c .if2 .taken, refl, refl)
@@ -42,7 +58,7 @@ mul-base c =
 
 act-requires : tie.Need-act-requires
 act-requires c κs =
-    let e = c .before .before .before .before .before .before in
+    let e = elseAt c in
     ready-here (e .before .before .pre .0) (e .if1 .left)
 
 enum-known-place : tie.Need-enum-known-place
@@ -63,7 +79,7 @@ enum-known-back c = search needs
 
 enter-requires : tie.Need-enter-requires
 enter-requires c κs =
-    let b = c .before .before .before .before .before .before .before .before .before in
+    let b = bodyOf c in
     let a = b .before .before .before in
     enter-ready ((startOf a) .pre .0) ((elseOf a) .if1 .left) (a .act .result) (wordsOf a) (tableOf a) (a .act .ensures) ((startOf a) .pre .1)
     (b .back .given .0 .1 .1 .0) (b .back .given .0 .1 .0) (b .back .given .0 .0) (b .back .given .1)
@@ -106,7 +122,7 @@ same-length-6 c = search needs
 returns-5 : tie.Need-returns-5
 returns-5 c =
     let e = c .before .before in
-    let b = e .before .before .before .before .before .before .before .before .before .before in
+    let b = bodyOf (e .before) in
     let a = b .before .before .before in
     let d = e .enter .last .1 .1 in
     let f = d .1 .1 .1 in

@@ -3,7 +3,7 @@ use Prim.Native.Nat.{ℕ, _+_, _≤_}
 use mathlib.Core.List.{List}
 use mathlib.Core.Path.{_≡_, sym, ap, _∙_}
 use native.Mathlib.Omega.{arith}
-use Rattle.records.specs.Counts.{fieldCount}
+use Rattle.marks.specs.Counts.{fieldCount}
 use Rattle.laws.specs.Fields.{fieldAt}
 use Rattle.extents.specs.Items.{headSize}
 use Rattle.extents.specs.Passing.{Alone}

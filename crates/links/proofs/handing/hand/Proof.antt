@@ -40,7 +40,7 @@ use Rattle.lending.specs.Params.{Par, dat, brw, denots, valss, vals, lfts, shar
 use Rattle.lending.specs.Functions.{arrives, leaves-with}
 use Rattle.lending.specs.Calls.{to, calls-by}
 use Rattle.lending.specs.Frames.{begins, envAt, tysOf, fr, forgets}
-use Rattle.lending.specs.Locals.{var, lent, puts, puts-last, lands-in, ends, tests, by-size, by-size-wf}
+use Rattle.lending.specs.Locals.{var, part, lent, puts, puts-last, lands-in, ends, tests, by-size, by-size-wf}
 use Rattle.lending.specs.Lends.{lends-ref, back-ref, relent}
 use Rattle.activations.specs.declared.Activation.{Activation}
 use Rattle.resolved.specs.Resolved.{positionIn}
@@ -50,12 +50,12 @@ use Rattle.statements.specs.Pieces.{only-words}
 use Rattle.statements.specs.Words.{handed-is}
 use Rattle.statements.specs.Doing.{arguments-end, arguments-next, kept-below}
 use Rattle.links.specs.declared.Now.{Now}
-use Rattle.links.specs.Finding.{byChain, firstCell, homeOf, Handing, Passing}
+use Rattle.links.specs.Finding.{byChain, firstCell, Handing, Passing}
 use Rattle.links.proofs.Rows.{Code, Words, Rec, recs, nows}
-use Rattle.links.proofs.home as home
-use Rattle.links.proofs.home.Symbol as home-def
-use Rattle.links.proofs.home.Symbol.{name as #home}
-use Rattle.links.proofs.home.Met as home-thm
+use Rattle.links.proofs.first_cell as first-cell
+use Rattle.links.proofs.first_cell.Symbol as first-cell-def
+use Rattle.links.proofs.first_cell.Symbol.{name as #first-cell}
+use Rattle.links.proofs.first_cell.Met as first-cell-thm
 use Rattle.links.proofs.handing.pass as pass
 use Rattle.links.proofs.handing.pass.Symbol as pass-def
 use Rattle.links.proofs.handing.pass.Symbol.{name as #pass}
@@ -114,7 +114,7 @@ module _ (code : List ℕ) (words₀ : List ℤ) (records : List Activation) (he
       handed : (t .field < last → ⊥) → Handed (t .words)
       handed d = arguments-end way scene (t .words) low# (here .at + 3) (last - 3) (t .field - 3) (omega (arith, d)) ∙ t .same
 
-      module _ (h : t .field < last) (from : ℕ) (e : from ≡ homeOf records (here .live) (here .level) w) where
+      module _ (h : t .field < last) (from : ℕ) (e : from ≡ firstCell records (here .live) (here .level) w) where
         passing : Passing code here (t .field) from
         passing =
             record {
@@ -126,13 +126,13 @@ module _ (code : List ℕ) (words₀ : List ℤ) (records : List Activation) (he
             }
 
         abbrev value : ℤ
-        value = handedWord (t .words) w (32 * from + positionIn w)
+        value = handedWord (t .words) w (from + positionIn w)
 
         -- what is passed is what the argument hands on
         value-is : value ≡ way .handed (getD code (here .at + 3 + (t .field - 3)) 0)
         value-is =
             let a : here .at + t .field ≡ here .at + 3 + (t .field - 3) = omega (arith, t .low) in
-            ap (λ (m : ℕ). handedWord (t .words) w (32 * m + positionIn w)) e
+            ap (λ (m : ℕ). handedWord (t .words) w (m + positionIn w)) e
             ∙ handed-is words₀ (firstCell records (here .live) (here .level) w) w (t .words) (t .kept _ (p .below (t .field) (t .low) h))
             ∙ ap (λ (m : ℕ). way .handed (getD code m 0)) a
 
@@ -158,8 +158,8 @@ module _ (code : List ℕ) (words₀ : List ℤ) (records : List Activation) (he
             same = same-on;
           }
 
-abbrev Calls-home : {M : Type 1} (𝓤 : URA M) (H : Heap 𝓤) (A : Atoms 𝓤) → (Memory → SProp 𝓤) → (Routine → Fun 𝓤) → Contract 𝓤
-Calls-home 𝓤 H A mem run = tripleOf 𝓤 H A home.signature (home.spec 𝓤 H A mem run)
+abbrev Calls-first-cell : {M : Type 1} (𝓤 : URA M) (H : Heap 𝓤) (A : Atoms 𝓤) → (Memory → SProp 𝓤) → (Routine → Fun 𝓤) → Contract 𝓤
+Calls-first-cell 𝓤 H A mem run = tripleOf 𝓤 H A first-cell.signature (first-cell.spec 𝓤 H A mem run)
 
 abbrev Calls-pass : {M : Type 1} (𝓤 : URA M) (H : Heap 𝓤) (A : Atoms 𝓤) → (Memory → SProp 𝓤) → (Routine → Fun 𝓤) → Contract 𝓤
 Calls-pass 𝓤 H A mem run = tripleOf 𝓤 H A pass.signature (pass.spec 𝓤 H A mem run)
@@ -228,6 +228,12 @@ module _ {M : Type 1} (𝓤 : URA M) (H : Heap 𝓤) (A : Atoms 𝓤) (W : Given
   g-field : (t : St) → Good usizes (t .field)
   g-field t = (refl, field-fits t)
 
+  own-fits : 32 * here .live < 2 ^ 64
+  own-fits = omega (arith, pre .live-few)
+
+  g-own : Good usizes (32 * here .live)
+  g-own = (refl, own-fits)
+
   more : (t : St) → T (ltb (t .field) last) → t .field < last
   more t y = ltb→lt (t .field) last y
 
@@ -237,15 +243,15 @@ module _ {M : Type 1} (𝓤 : URA M) (H : Heap 𝓤) (A : Atoms 𝓤) (W : Given
   done : (t : St) → T (not (ltb (t .field) last)) → Handed code words records here last (t .words)
   done t y = handed code words records here last pre t (λ h. T-not (ltb (t .field) last) y (lt→ltb (t .field) last h))
 
-  abbrev for-home : St → List Par
-  for-home t = brw (shrRef Code) h-code code ∷ brw (shrSlice Rec) h-records records ∷ dat nows here ∷ dat usizes (t .field) ∷ []
+  abbrev for-first-cell : St → List Par
+  for-first-cell t = brw (shrRef Code) h-code code ∷ brw (shrSlice Rec) h-records records ∷ dat nows here ∷ dat usizes (32 * here .live) ∷ dat usizes (t .field) ∷ []
 
   abbrev for-pass : St → ℕ → ℕ → GName → List Par
   for-pass t from ν δ = brw (shrRef Code) h-code code ∷ brw (mutRef Words) (relent h-words ν δ) (t .words) ∷ dat nows here ∷ dat usizes
       (t .field) ∷ dat usizes
       from ∷ []
 
-  module _ (𝓣 : Tables 𝓤 H) (known-home : Triple 𝓤 (𝓣 .C #home) (Calls-home 𝓤 H A mem run)) (known-pass : Triple 𝓤 (𝓣 .C #pass)
+  module _ (𝓣 : Tables 𝓤 H) (known-first-cell : Triple 𝓤 (𝓣 .C #first-cell) (Calls-first-cell 𝓤 H A mem run)) (known-pass : Triple 𝓤 (𝓣 .C #pass)
       (Calls-pass 𝓤 H A mem run)) where
     fm : FmC 𝓤 H (W .laws) (𝓣 .C)
     fm = fmOf 𝓤 H (W .laws) 𝓣
@@ -254,34 +260,34 @@ module _ {M : Type 1} (𝓤 : URA M) (H : Heap 𝓤) (A : Atoms 𝓤) (W : Given
       abbrev E# : List (Ty × ℕ)
       E# = envAt (tysOf (mine.function .locals)) β
 
-      -- the context at a state: [the code; the records; the words; the locals], of which 6 is the field. The turn's own, 7 to 10, hold nothing
+      -- the context at a state: [the code; the records; the words; the locals], of which 6 is the own first cell and 7 the field. The turn's own, 8 to 11, hold nothing
       abbrev Inv : St → List (Item 𝓤)
       Inv t = ‵ (In (shrRef Code) h-code code) ∷ ‵ (In (shrSlice Rec) h-records records) ∷ ‵ (In (mutRef Words) h-words (t .words)) ∷ fr 𝓤 H
           (tysOf (mine.function .locals)) β (none ∷ some (h-code .val) ∷ some (h-words .val) ∷ some (h-records .val) ∷ some (nows .val here) ∷ some
-          (vint w64 last) ∷ some (vint w64 (t .field)) ∷ none ∷ none ∷ none ∷ none ∷ []) ∷ []
+          (vint w64 last) ∷ some (vint w64 (32 * here .live)) ∷ some (vint w64 (t .field)) ∷ none ∷ none ∷ none ∷ none ∷ []) ∷ []
 
       turn : (t : St) → Sq W (Inv t) (runs (𝓣 .C) (𝓣 .Λ) E# mir′.turn-1 (anyQ (afterTurn 𝓤 H (Below 𝓤 H A (by-size left) Inv t)
-          (afterBlock 𝓤 H (afterSeq 𝓤 H (Wp 𝓤 H (𝓣 .C) (𝓣 .Λ) E# mir′.t-3 (atReturn 𝓤 H E# Post)) (atReturn 𝓤 H E# Post))))))
+          (afterBlock 𝓤 H (afterSeq 𝓤 H (Wp 𝓤 H (𝓣 .C) (𝓣 .Λ) E# mir′.t-4 (atReturn 𝓤 H E# Post)) (atReturn 𝓤 H E# Post))))))
       unfolding afterTurn
       turn t =
-          puts ! 3 8 refl (bin ! (var ! 3 6 refl refl tt) (var ! 3 5 refl refl tt) tt) tt (tt, tt) $ tests ! (var ! 3 8 refl refl tt)
-          (λ y. calls-by ! fm (Calls-home 𝓤 H A mem run) known-home (to (for-home t)) (for-home t) refl (g-here, (g-field t, tt)) _
-          (pre .named (t .field) (t .low) (more t y)) (id⊢ 𝓤 _) usizes _ (λ v. id⊢ 𝓤 _)
+          puts ! 3 9 refl (bin ! (var ! 3 7 refl refl tt) (var ! 3 5 refl refl tt) tt) tt (tt, tt) $ tests ! (var ! 3 9 refl refl tt)
+          (λ y. calls-by ! fm (Calls-first-cell 𝓤 H A mem run) known-first-cell (to (for-first-cell t)) (for-first-cell t) refl (g-here, (g-own, (g-field t, tt))) _
+          (pre .named (t .field) (t .low) (more t y), refl) (id⊢ 𝓤 _) usizes _ (λ v. id⊢ 𝓤 _)
           (and-then ! (var ! 3 1 refl refl tt) (and-then ! (var ! 3 3 refl refl tt) (and-then ! (var ! 3 4 refl refl tt) (and-then ! (var ! 3 6 refl refl tt)
-          (no-more !))))) (λ from _ g-from found _.
-          lands-in ! 3 7 refl tt (typed 𝓤 H A W usizes from g-from) $
-          puts ! 3 10 refl (lent ! 3 2 refl refl tt) tt (tt, tt) $
+          (and-then ! (var ! 3 7 refl refl tt) (no-more !)))))) (λ from _ g-from found _.
+          lands-in ! 3 8 refl tt (typed 𝓤 H A W usizes from g-from) $
+          puts ! 3 11 refl (lent ! 3 2 refl refl tt) tt (tt, tt) $
           move ! (2 ∷ []) $ lends-ref ! tt Words h-words (t .words) (λ at-it ν δ. move ! (2 ∷ 0 ∷ []) $
           -- [the code; the words, lent; what waits; the records; the locals]
           calls-by ! fm (Calls-pass 𝓤 H A mem run) known-pass (to (for-pass t from ν δ)) (for-pass t from ν δ) refl (g-here, (g-field t, (g-from, tt))) _
-          (passing code words records here last pre t (more t y) from (found .0)) (id⊢ 𝓤 _) units _ (λ v. id⊢ 𝓤 _)
-          (and-then ! (var ! 4 1 refl refl tt) (and-then ! (var ! 4 10 refl refl tt) (and-then ! (var ! 4 4 refl refl tt) (and-then ! (var ! 4 6 refl refl tt)
-          (and-then ! (var ! 4 7 refl refl tt) (no-more !)))))) (λ _ ws _ passed _.
-          lands-in ! 4 9 refl tt (tt, tt) $ move ! (1 ∷ 2 ∷ []) $ back-ref ! tt Words h-words (t .words) (ws .1 .0) ν δ at-it $
-          puts-last ! 3 6 refl (bin ! (var ! 3 6 refl refl tt) (lit ! tt) (record { fits = next-fits t })) tt (tt, record { fits = next-fits t }) $
-          forgets ! 3 (7 ∷ 8 ∷ 9 ∷ 10 ∷ []) refl tt $ move ! (1 ∷ 2 ∷ []) $
-          again ! (by-size left) Inv t (next code words records here last pre t (more t y) from (found .0) (ws .1 .0) passed) (less t y)))))
-          (λ y. exec ! (𝓣 .C) (𝓣 .Λ) E# mir′.t-3 (atRet E# Post) $ puts ! 3 0 refl (of-opd ! (unit-lit !)) tt (tt, tt) $
+          (passing code words records here last pre t (more t y) from found) (id⊢ 𝓤 _) units _ (λ v. id⊢ 𝓤 _)
+          (and-then ! (var ! 4 1 refl refl tt) (and-then ! (var ! 4 11 refl refl tt) (and-then ! (var ! 4 4 refl refl tt) (and-then ! (var ! 4 7 refl refl tt)
+          (and-then ! (var ! 4 8 refl refl tt) (no-more !)))))) (λ _ ws _ passed _.
+          lands-in ! 4 10 refl tt (tt, tt) $ move ! (1 ∷ 2 ∷ []) $ back-ref ! tt Words h-words (t .words) (ws .1 .0) ν δ at-it $
+          puts-last ! 3 7 refl (bin ! (var ! 3 7 refl refl tt) (lit ! tt) (record { fits = next-fits t })) tt (tt, record { fits = next-fits t }) $
+          forgets ! 3 (8 ∷ 9 ∷ 10 ∷ 11 ∷ []) refl tt $ move ! (1 ∷ 2 ∷ []) $
+          again ! (by-size left) Inv t (next code words records here last pre t (more t y) from found (ws .1 .0) passed) (less t y)))))
+          (λ y. exec ! (𝓣 .C) (𝓣 .Λ) E# mir′.t-4 (atRet E# Post) $ puts ! 3 0 refl (of-opd ! (unit-lit !)) tt (tt, tt) $
           ends ! 3 refl refl tt $ move ! (2 ∷ []) $ gives ! (mutRef Words) h-words (t .words) $ move ! (1 ∷ []) $ by ! (exits (t .words) (done t y)))
 
     walk : ent 𝓤 (onEntry 𝓤 H A f.signature (lfts ps) (shares ps) (denots 0 ps) (valss 0 ps)) (WpFn 𝓤 H (𝓣 .C) (𝓣 .Λ) mine.function (vals ps) Post)
@@ -296,12 +302,13 @@ module _ {M : Type 1} (𝓤 : URA M) (H : Heap 𝓤) (A : Atoms 𝓤) (W : Given
             ),
           ),
         ) (λ β. move ! (1 ∷ 3 ∷ 2 ∷ []) $
-        puts ! 3 6 refl (of-opd ! (lit ! tt)) tt (tt, record { fits = field-fits (start code words records here last pre) }) $
-        forgets ! 3 (7 ∷ 8 ∷ 9 ∷ 10 ∷ []) refl tt $ first ! $ blocks ! $ loops ! 𝓣 (by-size left) (by-size-wf left) (Inv β) (turn β)
+        puts ! 3 6 refl (bin ! (lit ! tt) (part ! 3 4 0 refl refl tt refl refl refl) (record { fits = own-fits })) tt (tt, record { fits = own-fits }) $
+        puts ! 3 7 refl (of-opd ! (lit ! tt)) tt (tt, record { fits = field-fits (start code words records here last pre) }) $
+        forgets ! 3 (8 ∷ 9 ∷ 10 ∷ 11 ∷ []) refl tt $ first ! $ blocks ! $ loops ! 𝓣 (by-size left) (by-size-wf left) (Inv β) (turn β)
         (start code words records here last pre)))
 
 module _ {M : Type 1} (𝓤 : URA M) (H : Heap 𝓤) (A : Atoms 𝓤) (W : Given 𝓤 H A) (mem : Memory → SProp 𝓤) (run : Routine → Fun 𝓤) (𝓣 : Tables 𝓤 H)
-    (known-home : Triple 𝓤 (𝓣 .C #home) (Calls-home 𝓤 H A mem run)) (known-pass : Triple 𝓤 (𝓣 .C #pass) (Calls-pass 𝓤 H A mem run)) where
+    (known-first-cell : Triple 𝓤 (𝓣 .C #first-cell) (Calls-first-cell 𝓤 H A mem run)) (known-pass : Triple 𝓤 (𝓣 .C #pass) (Calls-pass 𝓤 H A mem run)) where
   walks : Walks 𝓤 H A f.ended stayed (WpFn 𝓤 H (𝓣 .C) (𝓣 .Λ) mine.function) (f.clauses 𝓤 H A mem run)
   walks = walked 𝓤 H A f.ended stayed (f.clauses 𝓤 H A mem run) (WpFn 𝓤 H (𝓣 .C) (𝓣 .Λ) mine.function)
       (λ κs. (ptr-vals, (ptr-vals, (slice-vals, ((λ (x : Now). nows .val x ∷ []), ((λ (x : ℕ). usizes .val x ∷ []), tt)))))) (λ κs. (
@@ -313,7 +320,7 @@ module _ {M : Type 1} (𝓤 : URA M) (H : Heap 𝓤) (A : Atoms 𝓤) (W : Given
       ))
       (λ κs qs bounds a g are. needs 𝓤 (Handing ((a .0) .now) ((a .1 .1 .0) .now) (a .1 .1 .1 .0) (a .1 .1 .1 .1 .0)) _ (λ l. walk 𝓤 H A W mem run
       (κs .0) (κs .1 .0) (κs .1 .1 .0) (qs .0) (qs .1 .0) (qs .1 .1 .0) (a .0) (a .1 .0) (a .1 .1 .0) (a .1 .1 .1 .0) (a .1 .1 .1 .1 .0)
-      (are .1 .1 .0 .0 .1) (are .1 .1 .1 .0) (are .1 .1 .1 .1 .0) l 𝓣 known-home known-pass))
+      (are .1 .1 .0 .0 .1) (are .1 .1 .1 .0) (are .1 .1 .1 .1 .0) l 𝓣 known-first-cell known-pass))
 
   meets : Meets 𝓤 H A f.signature (WpFn 𝓤 H (𝓣 .C) (𝓣 .Λ) mine.function) (f.spec 𝓤 H A mem run)
   meets = walk-meets 𝓤 H A f.ended stayed W (
@@ -337,6 +344,6 @@ hand-spec 𝓤 H 𝓜 𝓖 𝓡 =
     entered 𝓤 H (tripleOf 𝓤 H (𝓖 .A) f.signature (f.spec 𝓤 H (𝓖 .A) (𝓜 .mem) (𝓡 .run)))
     (tables 𝓤 H 𝓜 𝓡 mine.env .C) (tables 𝓤 H 𝓜 𝓡 mine.env .Λ) #me mine.function (mine.unfolded 𝓤 H 𝓜 𝓡)
     (meets 𝓤 H (𝓖 .A) (givenOf 𝓤 H 𝓜 𝓖) (𝓜 .mem) (𝓡 .run) (tablesOf 𝓤 H 𝓜 (tables 𝓤 H 𝓜 𝓡 mine.env))
-    (cited 𝓤 H (Calls-home 𝓤 H (𝓖 .A) (𝓜 .mem) (𝓡 .run)) 𝓜 𝓡 mine.env #home home-def.routine mine.calls-links·home (home-thm.met 𝓤 H 𝓜 𝓖 𝓡))
+    (cited 𝓤 H (Calls-first-cell 𝓤 H (𝓖 .A) (𝓜 .mem) (𝓡 .run)) 𝓜 𝓡 mine.env #first-cell first-cell-def.routine mine.calls-links·first-cell (first-cell-thm.met 𝓤 H 𝓜 𝓖 𝓡))
     (cited 𝓤 H (Calls-pass 𝓤 H (𝓖 .A) (𝓜 .mem) (𝓡 .run)) 𝓜 𝓡 mine.env #pass pass-def.routine mine.calls-links·handing·pass
     (pass-thm.met 𝓤 H 𝓜 𝓖 𝓡)))

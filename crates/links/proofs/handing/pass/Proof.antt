@@ -1,5 +1,5 @@
 -- `pass` meets its contract.
-use Prim.Native.Nat.{ℕ, _+_, _*_, _%_}
+use Prim.Native.Nat.{ℕ, _+_, _%_}
 use mathlib.Core.List.{List}
 use mathlib.Core.Path.{_≡_, ap, _∙_}
 use borrow.Author.Needs.{needs}
@@ -12,20 +12,17 @@ use Rattle.links.proofs.handing.pass.Statement.{statement}
 use Rattle.links.proofs.handing.pass.Tie as tie
 
 -- the word of the argument is the one in its field
-passed : (words ws : List ℤ) (code : List ℕ) (place cell word from : ℕ) (v z : ℤ) → word ≡ getD code place 0
-    → v ≡ handedWord words word (32 * from + word % 32) → z ≡ v → ws ≡ set words cell z
-    → ws ≡ set words cell (handedWord words (getD code place 0) (32 * from + positionIn (getD code place 0)))
-passed words ws code place cell word from v z e f g h =
-    h ∙ ap (set words cell) (g ∙ f ∙ ap (λ (w : ℕ). handedWord words w (32 * from + positionIn w)) e)
+passed : (words ws : List ℤ) (code : List ℕ) (place cell word first : ℕ) (v z : ℤ) → word ≡ getD code place 0
+    → v ≡ handedWord words word (first + word % 32) → z ≡ v → ws ≡ set words cell z
+    → ws ≡ set words cell (handedWord words (getD code place 0) (first + positionIn (getD code place 0)))
+passed words ws code place cell word first v z e f g h =
+    h ∙ ap (set words cell) (g ∙ f ∙ ap (λ (w : ℕ). handedWord words w (first + positionIn w)) e)
 
 add-code-at : tie.Need-add-code-at
 add-code-at c = search needs
 
 code-at-requires : tie.Need-code-at-requires
 code-at-requires c κs = search needs
-
-mul-handed : tie.Need-mul-handed
-mul-handed c = search needs
 
 add-handed : tie.Need-add-handed
 add-handed c = search needs
@@ -53,10 +50,10 @@ returns c =
     let o = c .before .before .before in
     let r = o .before .before in
     let s = r .before .before .args in
-    passed (s .words .now) (c .store .last .0) (s .code .now) (s .here .at + s .field) _ (r .code-at .result) (s .from) (o .handed .result) _
+    passed (s .words .now) (c .store .last .0) (s .code .now) (s .here .at + s .field) _ (r .code-at .result) (s .first) (o .handed .result) _
     (r .code-at .ensures .0) (o .handed .ensures) (read-back (o .handed .result) (o .handed .ok)) (c .store .ensures)
 
 pub pass-spec : {M : Type 1} → statement M
 pass-spec =
     tie.close
-    (tie.spec add-code-at code-at-requires mul-handed add-handed handed-requires mul-store add-store sub-store add-store-2 store-requires returns)
+    (tie.spec add-code-at code-at-requires add-handed handed-requires mul-store add-store sub-store add-store-2 store-requires returns)

@@ -3,8 +3,8 @@ use mathlib.Core.Path.{_≡_, _∙_, sym, ap}
 use Prim.Native.Nat.{ℕ, _+_, _*_}
 use native.Mathlib.Omega.{arith}
 use borrow.Author.Needs.{needs}
-use Rattle.records.specs.declared.Mark.{Mark}
-use Rattle.records.specs.declared.marks.Fit.the-variants.{Matched}
+use Rattle.marks.specs.declared.Mark.{Mark}
+use Rattle.marks.specs.declared.Fit.the-variants.{Matched}
 use Rattle.records.specs.declared.Reading.the-variants.{Taken}
 use Rattle.records.proofs.Places.{is-stray, is-cut, is-whole}
 use Rattle.records.proofs.record.take_record.Statement.{statement}

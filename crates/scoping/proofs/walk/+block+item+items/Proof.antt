@@ -29,7 +29,7 @@ use Rattle.scoping.proofs.walk.+block+item+items.Lts-item as item-lts
 use Rattle.scoping.proofs.walk.items.Reads as items
 use Rattle.scoping.proofs.walk.items.Kinds as items-kinds
 use Rattle.scoping.proofs.walk.+block+item+items.Lts-items as items-lts
-use Rattle.calls.proofs.action.Reads as action-reads
+use Rattle.actions.proofs.action.Reads as action-reads
 use Rattle.scoping.proofs.walk.progress_after.Reads as progress-after-reads
 use Rattle.extents.proofs.past.Reads as past-reads
 use Rattle.extents.proofs.push.Reads as push-reads

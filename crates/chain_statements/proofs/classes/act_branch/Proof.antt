@@ -1,0 +1,83 @@
+-- `act_branch` meets its contract.
+use Prim.Native.Nat.{ℕ, _%_}
+use mathlib.Core.List.{List}
+use mathlib.Core.Path.{_≡_, sym, ap, _∙_, subst}
+use lib.IntN.{ℤ}
+use lib.ListN.{getD}
+use Rattle.acting.specs.Acting.{Finding, Scene, Op, constant-op, branch-op, branch-formal-op}
+use Rattle.acting.specs.Acting.{operations, opOf, happens}
+use Rattle.statements.specs.Numbers.{op-of}
+use Rattle.steps.specs.Finding.{byFirst}
+use Rattle.chain_statements.specs.Asking.{Ready, Leads, sceneOf, classOf}
+use Rattle.chain_statements.specs.Moves.{did, branch-did}
+use Rattle.chain_statements.specs.Classes.{branch-left}
+use borrow.Author.Needs.{needs}
+use Rattle.chain_statements.proofs.classes.act_branch.Statement.{statement}
+use Rattle.chain_statements.proofs.classes.act_branch.Tie as tie
+
+code-at-requires : tie.Need-code-at-requires
+code-at-requires c κs = search needs
+
+abbrev way : tie.Start → (ℕ → ℕ) → Finding
+way s firstOf = byFirst (s .args .words .now) firstOf
+
+abbrev scene : tie.Start → List ℤ → ℕ → ℕ → ℕ → ℕ → Scene
+scene s table pairs group limit live = sceneOf (s .args .code .now) (s .args .words .now) table pairs group limit live (s .args .at)
+
+abbrev opAt : tie.Start → Op
+opAt s = opOf (getD (s .args .code .now) (s .args .at) 0)
+
+abbrev Found : tie.Start → (ℕ → ℕ) → Op → Type 0
+Found s firstOf p = Leads firstOf (s .args .code .now) (s .args .at) (s .args .first) (s .args .second) 0 p
+
+abbrev ReadyFor : tie.Start → Op → Type 0
+ReadyFor s p = Ready (s .args .code .now) (s .args .words .now) 0 0 (s .args .at) (s .args .first) (s .args .second) 0 p
+
+-- the operation at the place
+read : (k : tie.After-code-at) → opOf (k .code-at .result) ≡ opAt (k .before)
+read k = ap opOf (k .code-at .ensures .0)
+
+op : (k : tie.After-code-at) (n : ℕ) → k .code-at .result % 16 ≡ n → opAt (k .before) ≡ getD operations n constant-op
+op k n e = sym (read k) ∙ op-of (k .code-at .result) n e
+
+other : (c : tie.At-match-rest) → c .before .code-at .result % 16 ≡ 13
+other c = branch-left (c .before .code-at .result) (ap classOf (read (c .before)) ∙ c .before .before .pre .1) (c .match .rest)
+
+ready : (s : tie.Start) (p : Op) → opAt s ≡ p → ReadyFor s p
+ready s p e = subst (λ (x : Op). ReadyFor s x) e (s .pre .2)
+
+leads : (s : tie.Start) (p : Op) → opAt s ≡ p → (firstOf : ℕ → ℕ) → Found s firstOf (opAt s) → Found s firstOf p
+leads s p e firstOf l = subst (λ (x : Op). Found s firstOf x) e l
+
+do-branch-requires : tie.Need-do-branch-requires
+unfolding operations
+do-branch-requires c κs = ready (c .before .before) branch-op (op (c .before) 4 (c .match .keys1))
+
+do-branch-formal-requires : tie.Need-do-branch-formal-requires
+unfolding operations
+do-branch-formal-requires c κs = ready (c .before .before) branch-formal-op (op (c .before) 13 (other c))
+
+returns : tie.Need-returns
+unfolding operations happens
+returns c =
+    λ firstOf table pairs group limit live l.
+    let m = c .before in
+    let s = m .before .before in
+    let e = op (m .before) 4 (m .match .keys1) in
+    let g = leads s branch-op e firstOf l in
+    did (way s firstOf) (scene s table pairs group limit live) branch-op e
+    (branch-did (way s firstOf) (scene s table pairs group limit live) (c .do-branch .ensures firstOf (g .0) (g .1)))
+
+returns-2 : tie.Need-returns-2
+unfolding operations happens
+returns-2 c =
+    λ firstOf table pairs group limit live l.
+    let m = c .before in
+    let s = m .before .before in
+    let e = op (m .before) 13 (other m) in
+    let g = leads s branch-formal-op e firstOf l in
+    did (way s firstOf) (scene s table pairs group limit live) branch-formal-op e
+    (branch-did (way s firstOf) (scene s table pairs group limit live) (c .do-branch-formal .ensures firstOf (g .0) (g .1)))
+
+pub act-branch-spec : {M : Type 1} → statement M
+act-branch-spec = tie.close (tie.spec code-at-requires do-branch-requires do-branch-formal-requires returns returns-2)

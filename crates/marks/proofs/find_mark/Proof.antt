@@ -1,0 +1,84 @@
+-- `records::marks::find_mark` meets its contract: what is left of the table from `i` on gives what all of it gives, which is what the
+-- definitions' rows of the place give (`bit-rule`). Assumes nothing.
+use mathlib.Core.Path.{_≡_, refl, _∙_, sym}
+use mathlib.Core.Logic.{⊎-elim}
+use Prim.Native.Nat.{_-_}
+use borrow.Author.Needs.{needs}
+use lib.ListN.{drop}
+use Rattle.marks.proofs.Table.{fitFrom, bit-rule, at-fits, at-other, at-barred, none-left}
+use Rattle.marks.proofs.find_mark.Statement.{statement}
+use Rattle.marks.proofs.find_mark.Tie as tie
+
+abbrev Inv-loop : tie.InvT-loop
+Inv-loop letters marks bit i₀ i = fitFrom bit letters (drop i marks) ≡ fitFrom bit letters marks
+
+abbrev μ-loop : tie.MeasureT-loop
+μ-loop letters marks bit i₀ i = 13 - i
+
+bit-of-requires : tie.Need-bit-of-requires Inv-loop μ-loop
+bit-of-requires c κs = search needs
+
+loop-holds : tie.Need-loop-holds Inv-loop μ-loop
+loop-holds c = refl
+
+mul-e : tie.Need-mul-e Inv-loop μ-loop
+mul-e c = search needs
+
+array-copy-out-e : tie.Need-array-copy-out-e Inv-loop μ-loop
+array-copy-out-e c = search needs
+
+div-if1 : tie.Need-div-if1 Inv-loop μ-loop
+div-if1 c = search needs
+
+returns : tie.Need-returns Inv-loop μ-loop
+returns c =
+    let b = c .before .before .before .before .before .before .before in
+    let a = b .before .args in
+    let l = c .before .before .before .before .before .before .loop in
+    sym
+    (at-fits (b .bit-of .result) (a .letters) _ (l .i) _ (c .before .before .before .before .before .loop-test .taken)
+    (c .before .before .if1 .taken) (c .if2 .taken))
+    ∙ l .inv
+    ∙ bit-rule (a .place) (a .letters) (b .bit-of .ensures .0)
+
+add-i : tie.Need-add-i Inv-loop μ-loop
+add-i c = search needs
+
+loop-less : tie.Need-loop-less Inv-loop μ-loop
+loop-less c = search needs
+
+loop-again : tie.Need-loop-again Inv-loop μ-loop
+loop-again c =
+    let b = c .before .before .before .before .before in
+    let w = b .before .args .letters in
+    let l = c .before .before .before .before .loop in
+    let more = c .before .before .before .loop-test .taken in
+    ⊎-elim (λ x. at-other (b .bit-of .result) w _ (l .i) _ more (x .0 .taken) (x .2 .left))
+    (λ x. at-barred (b .bit-of .result) w _ (l .i) _ more (x .left)) (c .if1 .came)
+    ∙ l .inv
+
+returns-2 : tie.Need-returns-2 Inv-loop μ-loop
+returns-2 c =
+    let b = c .before .before in
+    let a = b .before .args in
+    let l = c .before .loop in
+    sym (none-left (b .bit-of .result) (a .letters) _ (l .i) (c .loop-test .left))
+    ∙ l .inv
+    ∙ bit-rule (a .place) (a .letters) (b .bit-of .ensures .0)
+
+pub find-mark-spec : {M : Type 1} → statement M
+find-mark-spec =
+    tie.close
+    (tie.spec
+    Inv-loop
+    μ-loop
+    bit-of-requires
+    loop-holds
+    mul-e
+    array-copy-out-e
+    div-if1
+    returns
+    add-i
+    loop-less
+    loop-again
+    returns-2)
