@@ -1,8 +1,11 @@
 // The statements, each with its mark at `place` of the area, behind which its fields stand, and its operation at `at` of the resolved script.
 use super::fields::field;
 use super::fields::named;
+use super::fields::named_by;
 use super::fields::target;
 use acting::Move;
+use new_names::first_of;
+use new_names::start_of;
 use statements::computed;
 ghost use mathlib.Core.Path.{_≡_};
 ghost use Prim.Native.Nat.{_+_, _*_, _<_, _≤_};
@@ -53,9 +56,11 @@ pub fn do_arithmetic(
     ensures { λ r. ⌜ r ≡ moveAfter (effectOf (resultAt (now (words .entry)) (now (area .entry)) (now (firsts .entry)) (now (starts .entry)) live place)) (at + 5) ⌝ }
     ensures { λ _. ⌜ now (words .exit) ≡ wordsOf (now (words .entry)) (cellAt (now (area .entry)) (now (firsts .entry)) (now (starts .entry)) live (place + 1)) (resultAt (now (words .entry)) (now (area .entry)) (now (firsts .entry)) (now (starts .entry)) live place) ⌝ }
 {
-    let to = named(area, firsts, starts, live, place + 1);
-    let left = named(area, firsts, starts, live, place + 3);
-    let right = named(area, firsts, starts, live, place + 4);
+    let first = first_of(firsts, live);
+    let start = start_of(starts, live);
+    let to = named_by(area, firsts, starts, live, first, start, place + 1);
+    let left = named_by(area, firsts, starts, live, first, start, place + 3);
+    let right = named_by(area, firsts, starts, live, first, start, place + 4);
     let operation = field(area, place + 2);
     if operation == 0 {
         return computed(stepping::add(words, to, left, right), at);

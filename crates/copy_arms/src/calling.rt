@@ -1,14 +1,18 @@
 // CL.
 use super::fields::field;
 use super::fields::named;
+use super::fields::named_by;
 use super::fields::target;
 use acting::Move;
 use language::Stop;
+use new_names::first_of;
+use new_names::start_of;
 use stepping::code_at;
 ghost use mathlib.Core.Path.{_≡_};
 ghost use Prim.Native.Nat.{_+_, _*_, _≤_};
 ghost use lib.Dec.{leb};
 ghost use Rattle.acting.specs.Acting.{setAll};
+ghost use lib.ListN.{getD};
 ghost use Rattle.copy_arms.specs.Parts.{NameAt, ArgumentsAt, handedWord, handedFrom, Callable, refusedBy, refusedAt, enterAt, handedAt, callMove, callWords, CallAt};
 
 // Whether there is cause 26: the called name is a formal as written, which the operation says, and so many arguments are not as the formals
@@ -34,12 +38,15 @@ fn handed(
     starts: &[u16; 256],
     targets: &[u16; 8224],
     live: usize,
+    first: usize,
+    start: usize,
     place: usize,
 ) -> i32
+    requires { ⌜ (first ≡ getD (now firsts) live 0) × (start ≡ getD (now starts) live 0) ⌝ }
     requires { ⌜ NameAt (now area) (now firsts) (now starts) live place ⌝ }
     ensures { λ r. ⌜ r ≡ handedWord (now (area .entry)) (now (firsts .entry)) (now (starts .entry)) (now (targets .entry)) live place ⌝ }
 {
-    let cell = named(area, firsts, starts, live, place);
+    let cell = named_by(area, firsts, starts, live, first, start, place);
     stepping::word_of(cell + 8192 * target(targets, cell))
 }
 
@@ -57,10 +64,12 @@ fn arguments(
     requires { ⌜ (live ≤ 254) × ArgumentsAt (now area) (now firsts) (now starts) live place count ⌝ }
     ensures { λ _. ⌜ now (words .exit) ≡ setAll (now (words .entry)) (32 * live + 32) (handedFrom (now (area .entry)) (now (firsts .entry)) (now (starts .entry)) (now (targets .entry)) live place count) ⌝ }
 {
-    let first = 32 * live + 32;
+    let first = first_of(firsts, live);
+    let start = start_of(starts, live);
+    let to = 32 * live + 32;
     let mut i = 0;
     while i < count {
-        words[first + i] = handed(area, firsts, starts, targets, live, place + i);
+        words[to + i] = handed(area, firsts, starts, targets, live, first, start, place + i);
         i += 1;
     }
 }

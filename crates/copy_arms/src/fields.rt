@@ -1,4 +1,5 @@
 // The fields of a copied text, and the cells of the names in them.
+use new_names::cell_by;
 use new_names::cell_of;
 ghost use mathlib.Core.Path.{_≡_};
 ghost use Prim.Native.Nat.{_<_, _^_};
@@ -25,7 +26,23 @@ pub fn field(area: &[u32], place: usize) -> usize
     wide(area[place])
 }
 
-// The cell of the name there.
+// The cell of the name there, with the innermost activation's first new name and that name's cell.
+pub fn named_by(
+    area: &[u32],
+    firsts: &[u32; 256],
+    starts: &[u16; 256],
+    live: usize,
+    first: usize,
+    start: usize,
+    place: usize,
+) -> usize
+    requires { ⌜ (first ≡ getD (now firsts) live 0) × (start ≡ getD (now starts) live 0) ⌝ }
+    requires { ⌜ NameAt (now area) (now firsts) (now starts) live place ⌝ }
+    ensures { λ r. ⌜ r ≡ cellAt (now (area .entry)) (now (firsts .entry)) (now (starts .entry)) live place ⌝ }
+{
+    cell_by(firsts, starts, live, first, start, field(area, place))
+}
+
 pub fn named(
     area: &[u32],
     firsts: &[u32; 256],

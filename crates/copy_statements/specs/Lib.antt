@@ -2,3 +2,4 @@
 pub mod Doing
 pub mod Ready
 pub mod Scenes
+pub mod Moved

@@ -1,5 +1,4 @@
 // The statement at a place is done as far as words and table go, by its mark in the copied text; where the run goes on is the answer.
-use acting::Move;
 use copy_arms::do_arithmetic;
 use copy_arms::do_branch;
 use copy_arms::do_call;
@@ -9,13 +8,18 @@ use copy_arms::field;
 use membership::do_add_pair;
 use membership::do_query;
 use membership::do_remove_pair;
+use moved::came_to;
 use statements::do_block;
 ghost use mathlib.Core.Path.{_≡_};
 ghost use Rattle.copy_statements.specs.Doing.{doing};
+ghost use Rattle.copy_statements.specs.Moved.{movedBy};
 ghost use Rattle.copy_statements.specs.Ready.{Ready};
 ghost use Rattle.copy_statements.specs.Scenes.{copyBy, sceneBy};
 
 mod membership;
+mod moved;
+
+pub use moved::Moved;
 
 const AR: usize = 0x5241;
 
@@ -47,32 +51,47 @@ pub fn act(
     limit: usize,
     live: usize,
     at: usize,
-) -> Move
+) -> Moved
     requires { ⌜ Ready (copyBy (now area) base (now firsts) (now starts) (now targets)) (sceneBy (now code) (now words) (now table) pairs group limit live at) ⌝ }
-    ensures { λ r. ⌜ r ≡ (doing (copyBy (now (area .entry)) base (now (firsts .entry)) (now (starts .entry)) (now (targets .entry))) (sceneBy (now (code .entry)) (now (words .entry)) (now (table .entry)) pairs group limit live at)) .move ⌝ }
+    ensures { λ r. ⌜ r ≡ movedBy pairs ((doing (copyBy (now (area .entry)) base (now (firsts .entry)) (now (starts .entry)) (now (targets .entry))) (sceneBy (now (code .entry)) (now (words .entry)) (now (table .entry)) pairs group limit live at)) .move) ⌝ }
     ensures { λ _. ⌜ now (words .exit) ≡ (doing (copyBy (now (area .entry)) base (now (firsts .entry)) (now (starts .entry)) (now (targets .entry))) (sceneBy (now (code .entry)) (now (words .entry)) (now (table .entry)) pairs group limit live at)) .words ⌝ }
     ensures { λ _. ⌜ now (table .exit) ≡ (doing (copyBy (now (area .entry)) base (now (firsts .entry)) (now (starts .entry)) (now (targets .entry))) (sceneBy (now (code .entry)) (now (words .entry)) (now (table .entry)) pairs group limit live at)) .table ⌝ }
 {
     let place = base + at;
     let mark = field(area, place);
     match mark {
-        AR => do_arithmetic(words, area, firsts, starts, live, place, at),
-        IF => do_branch(words, area, firsts, starts, targets, live, place, at),
-        KN => do_constant(words, area, firsts, starts, live, place, at),
-        CL => do_call(
-            code,
-            words,
-            area,
-            firsts,
-            starts,
-            targets,
-            limit,
-            live,
-            place,
-            at,
+        AR => came_to(
+            pairs,
+            do_arithmetic(words, area, firsts, starts, live, place, at),
         ),
-        GO => do_goto(area, firsts, starts, targets, live, place + 1),
-        BK => do_block(code, limit, live, at),
+        IF => came_to(
+            pairs,
+            do_branch(words, area, firsts, starts, targets, live, place, at),
+        ),
+        KN => came_to(
+            pairs,
+            do_constant(words, area, firsts, starts, live, place, at),
+        ),
+        CL => came_to(
+            pairs,
+            do_call(
+                code,
+                words,
+                area,
+                firsts,
+                starts,
+                targets,
+                limit,
+                live,
+                place,
+                at,
+            ),
+        ),
+        GO => came_to(
+            pairs,
+            do_goto(area, firsts, starts, targets, live, place + 1),
+        ),
+        BK => came_to(pairs, do_block(code, limit, live, at)),
         AD => do_add_pair(
             words,
             area,

@@ -1,4 +1,4 @@
--- A step of the copying engine, by what the statement comes to (`Acted`). For each move: the engine goes on (`went-on`, `went-pairs`), or may leave, jump or
+-- A step of the copying engine, by what the statement comes to (`Came`). For each move: the engine goes on (`went-on`), or may leave, jump or
 -- enter (`leave-ready`, `jump-ready`, `enter-ready`) and stands behind the step once it has (`left-on`, `jumped-on`, `entered-on`), or stops (`stopped-at`).
 use Prim.Native.Nat.{ℕ, zero, suc, _+_, _-_, _*_, _%_, _≤_, _<_}
 use native.Mathlib.Omega.{arith}
@@ -16,12 +16,14 @@ use Rattle.resolved.specs.Resolved.{endPlace}
 use Rattle.acting.specs.declared.Move.{Move}
 use Rattle.acting.specs.declared.Move.the-variants.{On, Pairs, Jump, Enter, Stop}
 use Rattle.acting.specs.Acting.{Happened}
-use Rattle.statements.specs.Scenes.{Acted}
 use Rattle.steps.specs.Means.{GoesOn, JumpsTo, EntersAt, MoveMeans}
 use Rattle.steps.specs.Here.{many, within-limit, live-few}
 use Rattle.steps.specs.Reads.{block-within, end-there, end-here}
 use Rattle.steps.specs.Loop.{leaves, jumped}
+use Rattle.copy_statements.specs.declared.moved.Moved.{Moved}
+use Rattle.copy_statements.specs.declared.moved.Moved.the-variants.{Went, Jump as JumpTo, Enter as EnterBy, Stop as StopFor}
 use Rattle.copy_statements.specs.Doing.{doing}
+use Rattle.copy_statements.specs.Moved.{movedBy, Came}
 use Rattle.copy_entering.specs.declared.Now.{Now}
 use Rattle.copy_moves.specs.Running.{limitsBy, Running, nowAt, Succeeds}
 use Rattle.copy_entering.specs.Anew.{Enterable, AnewIn}
@@ -71,40 +73,48 @@ module _ {code names : List ℕ} {limit group : ℕ} {words : List ℤ} {area : 
   pub base-within : here .live * width ≤ length area
   base-within = omega (arith, w .room, mul-le-mul-right width (within-limit (w .standing)))
 
-  module _ (before : here .at ≡ here .end → ⊥) (r : Move) (words′ table′ : List ℤ) (h : Acted (doing (copyOf w) (sceneIn w)) r words′ table′) where
+  -- what the move says, as the engine goes on by it
+  abbrev MovedMeans : Moved → List ℤ → List ℤ → Type 0
+  MovedMeans (Went p n) words′ table′ = GoesOn (w .standing) words′ table′ n p
+  MovedMeans (JumpTo p home) words′ table′ = MoveMeans (w .standing) (Jump home p) words′ table′
+  MovedMeans (EnterBy back link body) words′ table′ = MoveMeans (w .standing) (Enter body link back) words′ table′
+  MovedMeans (StopFor c) words′ table′ = MoveMeans (w .standing) (Stop c) words′ table′
+
+  moved-means : (m : Move) (words′ table′ : List ℤ) → MoveMeans (w .standing) m words′ table′ → MovedMeans (movedBy (here .pairs) m) words′ table′
+  unfolding movedBy
+  moved-means (On p) words′ table′ z = z .0
+  moved-means (Pairs p n) words′ table′ z = z .0
+  moved-means (Jump home p) words′ table′ z = z
+  moved-means (Enter body link back) words′ table′ z = z
+  moved-means (Stop c) words′ table′ z = z
+
+  module _ (before : here .at ≡ here .end → ⊥) (r : Moved) (words′ table′ : List ℤ) (h : Came (here .pairs) (doing (copyOf w) (sceneIn w)) r words′ table′) where
     abbrev result : Happened
     result = doing (copyOf w) (sceneIn w)
 
-    means : MoveMeans (w .standing) r words′ table′
+    means : MovedMeans r words′ table′
     means =
-        subst (λ (m : Move). MoveMeans (w .standing) m words′ table′) (sym (h .0))
+        subst (λ (m : Moved). MovedMeans m words′ table′) (sym (h .0))
+        (moved-means (result .move) words′ table′
         (subst (λ (v : List ℤ). MoveMeans (w .standing) (result .move) v table′) (sym (h .1 .0))
-        (subst (λ (v : List ℤ). MoveMeans (w .standing) (result .move) (result .words) v) (sym (h .1 .1)) (means-here w before)))
+        (subst (λ (v : List ℤ). MoveMeans (w .standing) (result .move) (result .words) v) (sym (h .1 .1)) (means-here w before))))
 
-    means-as : (m : Move) → r ≡ m → MoveMeans (w .standing) m words′ table′
-    means-as m e = subst (λ (x : Move). MoveMeans (w .standing) x words′ table′) e means
+    means-as : (m : Moved) → r ≡ m → MovedMeans m words′ table′
+    means-as m e = subst (λ (x : Moved). MovedMeans x words′ table′) e means
 
-    goes : (p n : ℕ) → GoesOn (w .standing) words′ table′ n p
+    pub went-on : (p n : ℕ) → r ≡ Went p n
         → Succeeds w words′ area blocks nexts firsts starts targets looked table′
         (record { live = here .live; at = p; end = here .end; pairs = n; fresh = here .fresh })
-    goes p n g = goes-on w (g .standing) (g .follows) (omega arith) (λ k q. (refl, refl))
-
-    pub went-on : (p : ℕ) → r ≡ On p
-        → Succeeds w words′ area blocks nexts firsts starts targets looked table′
-        (record { live = here .live; at = p; end = here .end; pairs = here .pairs; fresh = here .fresh })
-    went-on p e = goes p (here .pairs) ((means-as (On p) e) .0)
-
-    pub went-pairs : (p n : ℕ) → r ≡ Pairs p n
-        → Succeeds w words′ area blocks nexts firsts starts targets looked table′
-        (record { live = here .live; at = p; end = here .end; pairs = n; fresh = here .fresh })
-    went-pairs p n e = goes p n ((means-as (Pairs p n) e) .0)
+    went-on p n e =
+        let g = means-as (Went p n) e in
+        goes-on w (g .standing) (g .follows) (omega arith) (λ k q. (refl, refl))
 
     -- A jump
 
-    jumps : (home p : ℕ) → r ≡ Jump home p → JumpsTo (w .standing) home p
-    jumps home p e = (means-as (Jump home p) e) .0
+    jumps : (home p : ℕ) → r ≡ JumpTo p home → JumpsTo (w .standing) home p
+    jumps home p e = (means-as (JumpTo p home) e) .0
 
-    pub jump-ready : (home p : ℕ) → r ≡ Jump home p
+    pub jump-ready : (home p : ℕ) → r ≡ JumpTo p home
         → (home < 256) × (getD blocks home 0 + 1 < 4096) × (home ≡ here .live → here .end ≡ getD code (getD blocks home 0 + 1) 0 % 65536)
     jump-ready home p e =
         let high = (jumped (w .standing) home p (jumps home p e)) .home-high in (
@@ -113,10 +123,10 @@ module _ {code names : List ℕ} {limit group : ℕ} {words : List ℤ} {area : 
           λ q. sym (ap (λ k. getD code (getD blocks k 0 + 1) 0 % 65536) q ∙ end-here (w .standing)),
         )
 
-    pub jumped-on : (home p : ℕ) → r ≡ Jump home p → (n : Now) → n ≡ nowAt code blocks here home p
+    pub jumped-on : (home p : ℕ) → r ≡ JumpTo p home → (n : Now) → n ≡ nowAt code blocks here home p
         → Succeeds w words′ area blocks nexts firsts starts targets looked table′ n
     jumped-on home p e n is =
-        let m = means-as (Jump home p) e in
+        let m = means-as (JumpTo p home) e in
         let l = jumped (w .standing) home p (m .0) in
         let ends = end-of home (l .frame) (l .stands) in
         subst (λ (v : List ℤ). Succeeds w v area blocks nexts firsts starts targets looked table′ n) (sym (m .1))
@@ -127,20 +137,20 @@ module _ {code names : List ℕ} {limit group : ℕ} {words : List ℤ} {area : 
 
     -- An entry
 
-    enters : (body link back : ℕ) → r ≡ Enter body link back → EntersAt (w .standing) body link back words′
-    enters body link back e = (means-as (Enter body link back) e) .0
+    enters : (body link back : ℕ) → r ≡ EnterBy back link body → EntersAt (w .standing) body link back words′
+    enters body link back e = (means-as (EnterBy back link body) e) .0
 
-    pub enter-ready : here .fresh + 64 ≤ 4294967296 → (body link back : ℕ) → r ≡ Enter body link back → Enterable code names area width here body link back
+    pub enter-ready : here .fresh + 64 ≤ 4294967296 → (body link back : ℕ) → r ≡ EnterBy back link body → Enterable code names area width here body link back
     enter-ready few body link back e = enterable w body link back words′ (enters body link back e) few
 
-    pub entered-on : (body link back : ℕ) → r ≡ Enter body link back → (words″ : List ℤ) (area′ blocks′ nexts′ firsts′ starts′ targets′ looked′ : List ℕ) (n : Now)
+    pub entered-on : (body link back : ℕ) → r ≡ EnterBy back link body → (words″ : List ℤ) (area′ blocks′ nexts′ firsts′ starts′ targets′ looked′ : List ℕ) (n : Now)
         → AnewIn code names width here body link back words′ area blocks nexts firsts starts targets looked words″ area′ blocks′ nexts′ firsts′ starts′ targets′ looked′ n
         → Succeeds w words″ area′ blocks′ nexts′ firsts′ starts′ targets′ looked′ table′ n
     entered-on body link back e words″ area′ blocks′ nexts′ firsts′ starts′ targets′ looked′ n k =
-        subst (λ (v : List ℤ). Succeeds w words″ area′ blocks′ nexts′ firsts′ starts′ targets′ looked′ v n) (sym ((means-as (Enter body link back) e) .1))
+        subst (λ (v : List ℤ). Succeeds w words″ area′ blocks′ nexts′ firsts′ starts′ targets′ looked′ v n) (sym ((means-as (EnterBy back link body) e) .1))
         (enters-on w body link back words′ (enters body link back e) words″ area′ blocks′ nexts′ firsts′ starts′ targets′ looked′ n k)
 
     -- A cause to stop
 
-    pub stopped-at : (c : Cause) → r ≡ Stop c → (frameStep (limitsBy limit group) (w .standing .stack) ≡ halted c) × (words′ ≡ words) × (table′ ≡ table)
-    stopped-at c e = means-as (Stop c) e
+    pub stopped-at : (c : Cause) → r ≡ StopFor c → (frameStep (limitsBy limit group) (w .standing .stack) ≡ halted c) × (words′ ≡ words) × (table′ ≡ table)
+    stopped-at c e = means-as (StopFor c) e

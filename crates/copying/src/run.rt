@@ -1,5 +1,4 @@
 // The run: steps until the program is left, a statement has a cause to stop, or the allowance is spent.
-use acting::Move;
 use copy_entering::Now;
 use copy_entering::enter;
 use copy_moves::begin;
@@ -7,6 +6,7 @@ use copy_moves::jump;
 use copy_moves::leave;
 use copy_moves::looked_up;
 use copy_moves::set_next;
+use copy_statements::Moved;
 use copy_statements::act;
 use language::End;
 use language::Stop;
@@ -78,22 +78,15 @@ pub fn step(
         live,
         at,
     ) {
-        Move::On(place) => Turn::Went(Now {
-            live,
-            at: place,
-            end,
-            pairs,
-            fresh,
-        }),
-        Move::Pairs(place, used) => Turn::Went(Now {
+        Moved::Went(place, used) => Turn::Went(Now {
             live,
             at: place,
             end,
             pairs: used,
             fresh,
         }),
-        Move::Jump(home, place) => Turn::Went(jump(code, blocks, here, home, place)),
-        Move::Enter(body, link, back) => Turn::Went(enter(
+        Moved::Jump(place, home) => Turn::Went(jump(code, blocks, here, home, place)),
+        Moved::Enter(back, link, body) => Turn::Went(enter(
             code,
             names,
             words,
@@ -110,7 +103,7 @@ pub fn step(
             link,
             back,
         )),
-        Move::Stop(cause) => Turn::Stopped(cause),
+        Moved::Stop(cause) => Turn::Stopped(cause),
     }
 }
 

@@ -45,6 +45,12 @@ pub owner-innermost : (firsts : List ℕ) (live x : ℕ) → getD firsts live 0 
 owner-innermost firsts live x h =
     owner-is firsts live live live x (omega arith) (record { within = omega arith; from = λ z. h; below = λ j a b c. absurd (omega arith) })
 
+-- that of the activation above the program's is above x
+pub owner-program : (firsts : List ℕ) (live x : ℕ) → Sorted firsts live → x < getD firsts 1 0 → ownerIn firsts live x ≡ 0
+owner-program firsts live x sorted h =
+    owner-is firsts live 0 1 x (omega arith)
+    (record { within = omega arith; from = λ z. absurd (omega arith); below = λ j a b c. omega (arith, h, sorted 1 j a c) })
+
 -- nor is that of the activation found
 pub owner-reached : (firsts : List ℕ) (live x : ℕ) → getD firsts 0 0 ≤ x → getD firsts (ownerIn firsts live x) 0 ≤ x
 unfolding ownerIn
@@ -72,7 +78,16 @@ module _ (firsts : List ℕ) (live low high x : ℕ) where
   narrowed-down middle sorted h n =
       record { within = n .within; from = n .from; below = λ j a b c. omega (arith, sorted middle j a c) }
 
-pub cell-is : (firsts starts : List ℕ) (live x home first start : ℕ) → home ≡ ownerIn firsts live x → first ≡ getD firsts home 0 → start ≡ getD starts home 0
-    → start + (x - first) ≡ cellIn firsts starts live x
-unfolding cellIn
-cell-is firsts starts live x home first start h f s = rw (s, f, h)
+module _ (firsts starts : List ℕ) (live x home : ℕ) (owns : home ≡ ownerIn firsts live x) where
+  sum-is : getD starts home 0 + (x - getD firsts home 0) ≡ cellIn firsts starts live x
+  unfolding cellIn
+  sum-is = rw owns
+
+  pub cell-is : (r : ℕ) → r ≡ getD starts home 0 + (x - getD firsts home 0) → r ≡ cellIn firsts starts live x
+  cell-is r e = e ∙ sum-is
+
+  -- what finding the cell there asks
+  pub cell-asks : home ≤ 255 → getD firsts 0 0 ≤ x → cellIn firsts starts live x < 8192
+      → (home ≤ 255) × (getD firsts home 0 ≤ x) × (getD starts home 0 + (x - getD firsts home 0) < 8192)
+  cell-asks few new has =
+      (few, omega (arith, ap (λ (o : ℕ). getD firsts o 0) owns, owner-reached firsts live x new), omega (arith, sum-is, has))

@@ -3,8 +3,10 @@ use Prim.Native.Nat.{ℕ}
 use native.Mathlib.Omega.{arith}
 use mathlib.Core.Path.{_≡_, refl, ap}
 use Rattle.acting.specs.Acting.{Scene}
-use Rattle.copy_statements.specs.Doing.{Copy, text, arithmetic, branch, constant, call, goto, block, pair, unpair, query, markOf}
+use Rattle.copy_statements.specs.Doing.{Copy, text, arithmetic, branch, constant, call, goto, block, pair, unpair, query, markOf, doing}
 use Rattle.copy_statements.specs.Scenes.{copyBy, sceneBy}
+use Rattle.copy_statements.specs.Moved.{came}
+use borrow.Author.Needs.{needs}
 use Rattle.copy_statements.proofs.Asks.{arithmetic-asks, branch-asks, constant-asks, call-asks, goto-asks, block-asks, pair-asks, unpair-asks, query-asks}
 use Rattle.copy_statements.proofs.Acts.{last-mark, mark-is, acted}
 use Rattle.copy_statements.proofs.Acts.{arithmetic-acts, branch-acts, constant-acts, call-acts, goto-acts, block-acts, pair-acts, unpair-acts, query-acts}
@@ -45,11 +47,17 @@ do-arithmetic-requires c κs =
     let s = startOf (c .before .before) in
     arithmetic-asks (copy s) (scene s) (s .pre) (mark (c .before .before) (c .before .match .keys1))
 
+came-to-requires : tie.Need-came-to-requires
+came-to-requires c κs = search needs
+
 do-branch-requires : tie.Need-do-branch-requires
 unfolding markOf
 do-branch-requires c κs =
     let s = startOf (c .before .before) in
     branch-asks (copy s) (scene s) (s .pre) (mark (c .before .before) (c .before .match .keys2))
+
+came-to-requires-2 : tie.Need-came-to-requires-2
+came-to-requires-2 c κs = search needs
 
 do-constant-requires : tie.Need-do-constant-requires
 unfolding markOf
@@ -57,11 +65,17 @@ do-constant-requires c κs =
     let s = startOf (c .before .before) in
     constant-asks (copy s) (scene s) (s .pre) (mark (c .before .before) (c .before .match .keys3))
 
+came-to-requires-3 : tie.Need-came-to-requires-3
+came-to-requires-3 c κs = search needs
+
 do-call-requires : tie.Need-do-call-requires
 unfolding markOf
 do-call-requires c κs =
     let s = startOf (c .before .before) in
     call-asks (copy s) (scene s) (s .pre) (mark (c .before .before) (c .before .match .keys4))
+
+came-to-requires-4 : tie.Need-came-to-requires-4
+came-to-requires-4 c κs = search needs
 
 add-do-goto : tie.Need-add-do-goto
 add-do-goto c = omega (arith, startOf (c .before) .pre .mark .there)
@@ -72,11 +86,17 @@ do-goto-requires c κs =
     let s = startOf (c .before) in
     goto-asks (copy s) (scene s) (s .pre) (mark (c .before) (c .match .keys5))
 
+came-to-requires-5 : tie.Need-came-to-requires-5
+came-to-requires-5 c κs = search needs
+
 do-block-requires : tie.Need-do-block-requires
 unfolding markOf
 do-block-requires c κs =
     let s = startOf (c .before) in
     block-asks (copy s) (scene s) (s .pre) (mark (c .before) (c .match .keys6))
+
+came-to-requires-6 : tie.Need-came-to-requires-6
+came-to-requires-6 c κs = search needs
 
 do-add-pair-requires : tie.Need-do-add-pair-requires
 unfolding markOf
@@ -99,44 +119,56 @@ do-query-requires c κs =
 returns : tie.Need-returns
 unfolding markOf
 returns c =
-    let s = startOf (c .before .before .before) in
-    acted (copy s) (scene s) arithmetic (mark (c .before .before .before) (c .before .before .match .keys1))
-    (arithmetic-acts (copy s) (scene s) (c .do-arithmetic .ensures .0) (c .do-arithmetic .ensures .1))
+    let d = c .before in
+    let s = startOf (d .before .before .before) in
+    came (s .args .pairs) (doing (copy s) (scene s)) (c .came-to .ensures)
+    (acted (copy s) (scene s) arithmetic (mark (d .before .before .before) (d .before .before .match .keys1))
+    (arithmetic-acts (copy s) (scene s) (d .do-arithmetic .ensures .0) (d .do-arithmetic .ensures .1)))
 
 returns-2 : tie.Need-returns-2
 unfolding markOf
 returns-2 c =
-    let s = startOf (c .before .before .before) in
-    acted (copy s) (scene s) branch (mark (c .before .before .before) (c .before .before .match .keys2))
-    (branch-acts (copy s) (scene s) (c .do-branch .ensures))
+    let d = c .before in
+    let s = startOf (d .before .before .before) in
+    came (s .args .pairs) (doing (copy s) (scene s)) (c .came-to2 .ensures)
+    (acted (copy s) (scene s) branch (mark (d .before .before .before) (d .before .before .match .keys2))
+    (branch-acts (copy s) (scene s) (d .do-branch .ensures)))
 
 returns-3 : tie.Need-returns-3
 unfolding markOf
 returns-3 c =
-    let s = startOf (c .before .before .before) in
-    acted (copy s) (scene s) constant (mark (c .before .before .before) (c .before .before .match .keys3))
-    (constant-acts (copy s) (scene s) (c .do-constant .ensures .0) (c .do-constant .ensures .1))
+    let d = c .before in
+    let s = startOf (d .before .before .before) in
+    came (s .args .pairs) (doing (copy s) (scene s)) (c .came-to3 .ensures)
+    (acted (copy s) (scene s) constant (mark (d .before .before .before) (d .before .before .match .keys3))
+    (constant-acts (copy s) (scene s) (d .do-constant .ensures .0) (d .do-constant .ensures .1)))
 
 returns-4 : tie.Need-returns-4
 unfolding markOf
 returns-4 c =
-    let s = startOf (c .before .before .before) in
-    acted (copy s) (scene s) call (mark (c .before .before .before) (c .before .before .match .keys4))
-    (call-acts (copy s) (scene s) (c .do-call .ensures .0) (c .do-call .ensures .1))
+    let d = c .before in
+    let s = startOf (d .before .before .before) in
+    came (s .args .pairs) (doing (copy s) (scene s)) (c .came-to4 .ensures)
+    (acted (copy s) (scene s) call (mark (d .before .before .before) (d .before .before .match .keys4))
+    (call-acts (copy s) (scene s) (d .do-call .ensures .0) (d .do-call .ensures .1)))
 
 returns-5 : tie.Need-returns-5
 unfolding markOf
 returns-5 c =
-    let s = startOf (c .before .before) in
-    acted (copy s) (scene s) goto (mark (c .before .before) (c .before .match .keys5))
-    (goto-acts (copy s) (scene s) (c .do-goto .ensures))
+    let d = c .before in
+    let s = startOf (d .before .before) in
+    came (s .args .pairs) (doing (copy s) (scene s)) (c .came-to5 .ensures)
+    (acted (copy s) (scene s) goto (mark (d .before .before) (d .before .match .keys5))
+    (goto-acts (copy s) (scene s) (d .do-goto .ensures)))
 
 returns-6 : tie.Need-returns-6
 unfolding markOf
 returns-6 c =
-    let s = startOf (c .before .before) in
-    acted (copy s) (scene s) block (mark (c .before .before) (c .before .match .keys6))
-    (block-acts (copy s) (scene s) (c .do-block .ensures))
+    let d = c .before in
+    let s = startOf (d .before .before) in
+    came (s .args .pairs) (doing (copy s) (scene s)) (c .came-to6 .ensures)
+    (acted (copy s) (scene s) block (mark (d .before .before) (d .before .match .keys6))
+    (block-acts (copy s) (scene s) (d .do-block .ensures)))
 
 same-length : tie.Need-same-length
 same-length c = c .before .do-add-pair .kept .1 .1 .1 .1 .0
@@ -146,8 +178,8 @@ unfolding markOf
 returns-7 c =
     let m = c .before .before .before .before in
     let s = startOf (m .before) in
-    acted (copy s) (scene s) pair (mark (m .before) (m .match .keys7))
-    (pair-acts (copy s) (scene s) (c .before .do-add-pair .ensures .0) (c .before .do-add-pair .ensures .1))
+    came (s .args .pairs) (doing (copy s) (scene s)) (c .before .do-add-pair .ensures .0)
+    (acted (copy s) (scene s) pair (mark (m .before) (m .match .keys7)) (pair-acts (copy s) (scene s) refl (c .before .do-add-pair .ensures .1)))
 
 same-length-2 : tie.Need-same-length-2
 same-length-2 c = c .before .do-remove-pair .kept .1 .1 .1 .1 .0
@@ -157,8 +189,8 @@ unfolding markOf
 returns-8 c =
     let m = c .before .before .before .before in
     let s = startOf (m .before) in
-    acted (copy s) (scene s) unpair (mark (m .before) (m .match .keys8))
-    (unpair-acts (copy s) (scene s) (c .before .do-remove-pair .ensures .0) (c .before .do-remove-pair .ensures .1))
+    came (s .args .pairs) (doing (copy s) (scene s)) (c .before .do-remove-pair .ensures .0)
+    (acted (copy s) (scene s) unpair (mark (m .before) (m .match .keys8)) (unpair-acts (copy s) (scene s) refl (c .before .do-remove-pair .ensures .1)))
 
 same-length-3 : tie.Need-same-length-3
 same-length-3 c = refl
@@ -167,8 +199,8 @@ returns-9 : tie.Need-returns-9
 unfolding markOf
 returns-9 c =
     let s = startOf (c .before .before .before .before) in
-    acted (copy s) (scene s) query (other (c .before .before .before))
-    (query-acts (copy s) (scene s) (c .do-query .ensures .0) (c .do-query .ensures .1))
+    came (s .args .pairs) (doing (copy s) (scene s)) (c .do-query .ensures .0)
+    (acted (copy s) (scene s) query (other (c .before .before .before)) (query-acts (copy s) (scene s) refl (c .do-query .ensures .1)))
 
 pub act-spec : {M : Type 1} → statement M
 act-spec =
@@ -177,12 +209,18 @@ act-spec =
     add-place
     field-requires
     do-arithmetic-requires
+    came-to-requires
     do-branch-requires
+    came-to-requires-2
     do-constant-requires
+    came-to-requires-3
     do-call-requires
+    came-to-requires-4
     add-do-goto
     do-goto-requires
+    came-to-requires-5
     do-block-requires
+    came-to-requires-6
     do-add-pair-requires
     do-remove-pair-requires
     do-query-requires

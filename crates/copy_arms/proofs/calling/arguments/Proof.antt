@@ -11,23 +11,33 @@ use Rattle.copy_arms.proofs.calling.arguments.Statement.{statement}
 use Rattle.copy_arms.proofs.calling.arguments.Tie as tie
 
 abbrev Inv-loop : tie.InvT-loop
-Inv-loop words₀ area firsts starts targets live place count first i₀ words i =
+Inv-loop words₀ area firsts starts targets live place count first start to i₀ words i =
     (i ≤ count) ×
-    (setAll words (first + i) (handedFrom area firsts starts targets live (place + i) (count - i))
-    ≡ setAll words₀ first (handedFrom area firsts starts targets live place count))
+    (setAll words (to + i) (handedFrom area firsts starts targets live (place + i) (count - i))
+    ≡ setAll words₀ to (handedFrom area firsts starts targets live place count))
 
 abbrev μ-loop : tie.MeasureT-loop
-μ-loop words₀ area firsts starts targets live place count first i₀ words i = count - i
+μ-loop words₀ area firsts starts targets live place count first start to i₀ words i = count - i
 
-mul-first : tie.Need-mul-first Inv-loop μ-loop
-mul-first c = search needs
+first-of-requires : tie.Need-first-of-requires Inv-loop μ-loop
+first-of-requires c κs = search needs
 
-add-first : tie.Need-add-first Inv-loop μ-loop
-add-first c = search needs
+start-of-requires : tie.Need-start-of-requires Inv-loop μ-loop
+start-of-requires c κs = search needs
+
+mul-to : tie.Need-mul-to Inv-loop μ-loop
+mul-to c = search needs
+
+add-to : tie.Need-add-to Inv-loop μ-loop
+add-to c = search needs
+
+-- the start, from before the loop
+abbrev startOf : tie.After-start-of Inv-loop μ-loop → tie.Start Inv-loop μ-loop
+startOf c = c .before .before .before
 
 loop-holds : tie.Need-loop-holds Inv-loop μ-loop
 loop-holds c =
-    let a = c .before .args in
+    let a = startOf c .args in
     let f : 32 * a .live + 32 + 0 ≡ 32 * a .live + 32 = omega arith in
     let p : a .place + 0 ≡ a .place = omega arith in
     let n : a .count - 0 ≡ a .count = omega arith in
@@ -37,13 +47,16 @@ add-handed : tie.Need-add-handed Inv-loop μ-loop
 add-handed c = search needs
 
 handed-requires : tie.Need-handed-requires Inv-loop μ-loop
-handed-requires c κs = let l = c .before in l .before .before .pre .1 .named (l .loop .i) (c .loop-test .taken)
+handed-requires c κs =
+    let l = c .before in
+    let b = l .before in
+    ((b .before .first-of .ensures .0, b .start-of .ensures), startOf b .pre .1 .named (l .loop .i) (c .loop-test .taken))
 
-add-t15 : tie.Need-add-t15 Inv-loop μ-loop
-add-t15 c = search needs
+add-t17 : tie.Need-add-t17 Inv-loop μ-loop
+add-t17 c = search needs
 
-mul-t16 : tie.Need-mul-t16 Inv-loop μ-loop
-mul-t16 c = search needs
+mul-t18 : tie.Need-mul-t18 Inv-loop μ-loop
+mul-t18 c = search needs
 
 element-set-from-words : tie.Need-element-set-from-words Inv-loop μ-loop
 element-set-from-words c = search needs
@@ -57,7 +70,7 @@ loop-less c = search needs
 loop-again : tie.Need-loop-again Inv-loop μ-loop
 loop-again c =
     let l = c .before .before in
-    let a = l .before .before .args in
+    let a = startOf (l .before) .args in
     let z = read-back (c .handed .result) (c .handed .ok) ∙ c .handed .ensures in
     let t = c .before .loop-test .taken in
     let step = arguments-next (a .area .now) (a .firsts .now) (a .starts .now) (a .targets .now) (a .live) (a .place) (a .count) (l .loop .i)
@@ -67,7 +80,7 @@ loop-again c =
 returns : tie.Need-returns Inv-loop μ-loop
 returns c =
     let l = c .before in
-    let a = l .before .before .args in
+    let a = startOf (l .before) .args in
     arguments-end (a .area .now) (a .firsts .now) (a .starts .now) (a .targets .now) (a .live) (a .place) (a .count) (l .loop .i)
     (l .loop .words) (32 * a .live + 32) (c .loop-test .left) ∙ l .loop .inv .1
 
@@ -77,13 +90,15 @@ arguments-spec =
     (tie.spec
     Inv-loop
     μ-loop
-    mul-first
-    add-first
+    first-of-requires
+    start-of-requires
+    mul-to
+    add-to
     loop-holds
     add-handed
     handed-requires
-    add-t15
-    mul-t16
+    add-t17
+    mul-t18
     element-set-from-words
     add-i
     loop-less

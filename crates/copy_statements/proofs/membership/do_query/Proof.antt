@@ -1,6 +1,6 @@
 -- `do_query` meets its contract.
 use Prim.Native.Nat.{_+_}
-use mathlib.Core.Path.{_∙_}
+use mathlib.Core.Path.{ap, _∙_}
 use lib.IntN.{ℤ}
 use borrow.Author.Needs.{needs}
 use Rattle.language.specs.Table.{queried}
@@ -8,6 +8,7 @@ use Rattle.pairs.specs.declared.Query.{Query}
 use Rattle.pairs.specs.Outcomes.{tableOf, valueOf}
 use Rattle.statements.specs.Words.{read-back, read-value}
 use Rattle.copy_arms.proofs.Results.{gives, refuses}
+use Rattle.copy_statements.specs.Moved.{movedBy}
 use Rattle.copy_statements.proofs.membership.do_query.Statement.{statement}
 use Rattle.copy_statements.proofs.membership.do_query.Tie as tie
 
@@ -63,6 +64,7 @@ abbrev asked : tie.Start → ℤ → ℤ → Query
 asked s g m = valueOf (queried g m (tableOf (s .args .table .now) (s .args .pairs)))
 
 returns : tie.Need-returns
+unfolding movedBy
 returns c =
     let v = c .before .before .before in
     let q = v .before .before in
@@ -72,9 +74,10 @@ returns c =
     let ws = s .args .words .now in
     let d = gives (asked s) ws (s .args .at + 4) (read-value ws (g .group .given) (g .before .named2 .ensures))
     (read-value ws (m .member .given) (m .before .named3 .ensures)) (g .before .before .named .ensures) (q .query-pair .ensures) (v .value .given .1) in
-    (d .0, (rw (read-back (v .value .given .0 .0) (c .before .before .known-told .given .0 .1)) at (c .store .ensures)) ∙ d .1)
+    (ap (movedBy (s .args .pairs)) (d .0), (rw (read-back (v .value .given .0 .0) (c .before .before .known-told .given .0 .1)) at (c .store .ensures)) ∙ d .1)
 
 returns-2 : tie.Need-returns-2
+unfolding movedBy
 returns-2 c =
     let v = c .before in
     let q = v .before .before in
@@ -82,8 +85,9 @@ returns-2 c =
     let g = m .before .before in
     let s = startOf q in
     let ws = s .args .words .now in
-    refuses (asked s) ws (s .args .at + 4) (read-value ws (g .group .given) (g .before .named2 .ensures))
-    (read-value ws (m .member .given) (m .before .named3 .ensures)) (g .before .before .named .ensures) (q .query-pair .ensures) (v .cause .given .1)
+    let d = refuses (asked s) ws (s .args .at + 4) (read-value ws (g .group .given) (g .before .named2 .ensures))
+    (read-value ws (m .member .given) (m .before .named3 .ensures)) (g .before .before .named .ensures) (q .query-pair .ensures) (v .cause .given .1) in
+    (ap (movedBy (s .args .pairs)) (d .0), d .1)
 
 pub do-query-spec : {M : Type 1} → statement M
 do-query-spec =

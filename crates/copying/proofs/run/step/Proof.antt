@@ -3,7 +3,7 @@ use mathlib.Core.List.{List}
 use mathlib.Core.Path.{refl}
 use lib.IntN.{ℤ}
 use Rattle.copying.specs.Here.{ready-here}
-use Rattle.copying.specs.Turns.{above-zero, leave-ready, left-on, base-within, went-on, went-pairs, jump-ready, jumped-on, enter-ready, entered-on, stopped-at}
+use Rattle.copying.specs.Turns.{above-zero, leave-ready, left-on, base-within, went-on, jump-ready, jumped-on, enter-ready, entered-on, stopped-at}
 use borrow.Author.Needs.{needs}
 use Rattle.copying.proofs.run.step.Statement.{statement}
 use Rattle.copying.proofs.run.step.Tie as tie
@@ -31,10 +31,10 @@ tableOf a = a .act .last .1 .1 .1 .1 .1 .1 .1 .0
 abbrev halfOf : tie.After-enter-arg8 → tie.After-enter-arg4
 halfOf c = c .before .before .before .before
 
-abbrev toldOf : tie.After-enter-arg4 → tie.After-known-told4
+abbrev toldOf : tie.After-enter-arg4 → tie.After-known-told3
 toldOf c = c .before .before .before .before
 
-abbrev bodyOf : tie.After-enter-arg8 → tie.After-body
+abbrev bodyOf : tie.After-enter-arg8 → tie.After-back
 bodyOf c = (toldOf (halfOf c)) .before
 
 returns : tie.Need-returns
@@ -67,25 +67,22 @@ enum-known-place c = search needs
 enum-known-place-2 : tie.Need-enum-known-place-2
 enum-known-place-2 c = search needs
 
-enum-known-home : tie.Need-enum-known-home
-enum-known-home c = search needs
-
 jump-requires : tie.Need-jump-requires
 jump-requires c κs =
     let h = c .before .before in
     let a = h .before .before .before in
-    jump-ready ((startOf a) .pre .0) ((elseOf a) .if1 .left) (a .act .result) (wordsOf a) (tableOf a) (a .act .ensures) (h .home .given .0 .0)
-    (h .home .given .0 .1 .0) (h .home .given .1)
+    jump-ready ((startOf a) .pre .0) ((elseOf a) .if1 .left) (a .act .result) (wordsOf a) (tableOf a) (a .act .ensures) (h .place2 .given .0 .1 .0)
+    (h .place2 .given .0 .0) (h .place2 .given .1)
 
-enum-known-body : tie.Need-enum-known-body
-enum-known-body c = search needs
+enum-known-back : tie.Need-enum-known-back
+enum-known-back c = search needs
 
 enter-requires : tie.Need-enter-requires
 enter-requires c κs =
     let b = bodyOf c in
     let a = b .before .before .before in
     enter-ready ((startOf a) .pre .0) ((elseOf a) .if1 .left) (a .act .result) (wordsOf a) (tableOf a) (a .act .ensures) ((startOf a) .pre .1)
-    (b .body .given .0 .0) (b .body .given .0 .1 .0) (b .body .given .0 .1 .1 .0) (b .body .given .1)
+    (b .back .given .0 .1 .1 .0) (b .back .given .0 .1 .0) (b .back .given .0 .0) (b .back .given .1)
 
 enum-known-cause : tie.Need-enum-known-cause
 enum-known-cause c = search needs
@@ -100,7 +97,8 @@ returns-3 : tie.Need-returns-3
 returns-3 c =
     let p = c .before in
     let a = p .before .before .before in
-    λ w. went-on w ((elseOf a) .if1 .left) (a .act .result) (wordsOf a) (tableOf a) (a .act .ensures) (p .place .given .0 .0) (p .place .given .1)
+    λ w. went-on w ((elseOf a) .if1 .left) (a .act .result) (wordsOf a) (tableOf a) (a .act .ensures) (p .place .given .0 .0) (p .place .given .0 .1 .0)
+    (p .place .given .1)
 
 same-length-3 : tie.Need-same-length-3
 same-length-3 c = search needs
@@ -110,10 +108,10 @@ same-length-4 c = search needs
 
 returns-4 : tie.Need-returns-4
 returns-4 c =
-    let p = c .before in
-    let a = p .before .before .before in
-    λ w. went-pairs w ((elseOf a) .if1 .left) (a .act .result) (wordsOf a) (tableOf a) (a .act .ensures) (p .place2 .given .0 .0)
-    (p .place2 .given .0 .1 .0) (p .place2 .given .1)
+    let h = c .before .before .before in
+    let a = h .before .before .before in
+    λ w. jumped-on w ((elseOf a) .if1 .left) (a .act .result) (wordsOf a) (tableOf a) (a .act .ensures) (h .place2 .given .0 .1 .0)
+    (h .place2 .given .0 .0) (h .place2 .given .1) (c .jump .result) (c .jump .ensures)
 
 same-length-5 : tie.Need-same-length-5
 same-length-5 c = search needs
@@ -123,10 +121,14 @@ same-length-6 c = search needs
 
 returns-5 : tie.Need-returns-5
 returns-5 c =
-    let h = c .before .before .before in
-    let a = h .before .before .before in
-    λ w. jumped-on w ((elseOf a) .if1 .left) (a .act .result) (wordsOf a) (tableOf a) (a .act .ensures) (h .home .given .0 .0)
-    (h .home .given .0 .1 .0) (h .home .given .1) (c .jump .result) (c .jump .ensures)
+    let e = c .before .before in
+    let b = bodyOf (e .before) in
+    let a = b .before .before .before in
+    let d = e .enter .last .1 .1 in
+    let f = d .1 .1 .1 in
+    λ w. entered-on w ((elseOf a) .if1 .left) (a .act .result) (wordsOf a) (tableOf a) (a .act .ensures) (b .back .given .0 .1 .1 .0)
+    (b .back .given .0 .1 .0) (b .back .given .0 .0) (b .back .given .1) (d .0) (d .1 .0) (f .0) (f .1 .0) (f .1 .1 .0) (f .1 .1 .1 .0)
+    (f .1 .1 .1 .1 .0) (f .1 .1 .1 .1 .1 .0) (e .enter .result) (e .enter .ensures)
 
 same-length-7 : tie.Need-same-length-7
 same-length-7 c = search needs
@@ -136,23 +138,6 @@ same-length-8 c = search needs
 
 returns-6 : tie.Need-returns-6
 returns-6 c =
-    let e = c .before .before in
-    let b = bodyOf (e .before) in
-    let a = b .before .before .before in
-    let d = e .enter .last .1 .1 in
-    let f = d .1 .1 .1 in
-    λ w. entered-on w ((elseOf a) .if1 .left) (a .act .result) (wordsOf a) (tableOf a) (a .act .ensures) (b .body .given .0 .0)
-    (b .body .given .0 .1 .0) (b .body .given .0 .1 .1 .0) (b .body .given .1) (d .0) (d .1 .0) (f .0) (f .1 .0) (f .1 .1 .0) (f .1 .1 .1 .0)
-    (f .1 .1 .1 .1 .0) (f .1 .1 .1 .1 .1 .0) (e .enter .result) (e .enter .ensures)
-
-same-length-9 : tie.Need-same-length-9
-same-length-9 c = search needs
-
-same-length-10 : tie.Need-same-length-10
-same-length-10 c = search needs
-
-returns-7 : tie.Need-returns-7
-returns-7 c =
     let k = c .before in
     let a = k .before .before .before in
     λ w.
@@ -170,9 +155,8 @@ step-spec =
     act-requires
     enum-known-place
     enum-known-place-2
-    enum-known-home
     jump-requires
-    enum-known-body
+    enum-known-back
     enter-requires
     enum-known-cause
     same-length
@@ -186,7 +170,4 @@ step-spec =
     returns-5
     same-length-7
     same-length-8
-    returns-6
-    same-length-9
-    same-length-10
-    returns-7)
+    returns-6)
