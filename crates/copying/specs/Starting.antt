@@ -17,7 +17,7 @@ use Rattle.language.specs.Encoding.{blockFields, encode}
 use Rattle.language.specs.Table.{Table, right}
 use Rattle.language.specs.Copy.{Replacement}
 use Rattle.language.specs.Machine.{Activation, State, start}
-use Rattle.laws.specs.Fields.{fieldAt, FieldsStand}
+use Rattle.laws.specs.Fields.{fieldAt, FieldsStand, field-is}
 use Rattle.laws.specs.Tests.{some-inj}
 use Rattle.laws.specs.Distinct.{Distinct}
 use Rattle.grammar.specs.Rules.{Keeps}
@@ -58,12 +58,6 @@ use Rattle.copying.specs.Beginning.{Beginning}
 long : (n : ℕ) → length {A = ℕ} (replicate n 0) ≡ n
 long zero = refl
 long (suc n) = ap suc (long n)
-
--- the field with a number
-field-is : (bs : List ℕ) (at : ℕ) (ws : List ℕ) → FieldsStand bs at ws → (i : ℕ) → i < length ws → fieldAt bs (at + 2 * i) ≡ getD ws i 0
-field-is bs at [] h i l = absurd (omega arith)
-field-is bs at (x ∷ ws) h zero l = let z : at + 2 * 0 ≡ at = omega arith in ap (fieldAt bs) z ∙ h .0
-field-is bs at (x ∷ ws) h (suc i) l = let z : at + 2 * suc i ≡ at + 2 + 2 * i = omega arith in ap (fieldAt bs) z ∙ field-is bs (at + 2) ws (h .1) i (omega arith)
 
 module _ {script code names : List ℕ} {limit group : ℕ} {words : List ℤ} {area blocks nexts : List ℕ} {table : List ℤ} {pairs allowance : ℕ}
     (b : Beginning script code names words area blocks nexts table pairs group limit allowance) where

@@ -12,7 +12,7 @@ use Rattle.language.specs.Text.{Action, CL, GO, IF, KN, AR, AD, RM, QY}
 use Rattle.language.specs.Encoding.{actionFields, operationField, unsigned, CL-mark, GO-mark, IF-mark, KN-mark, AR-mark, AD-mark, RM-mark, QY-mark}
 use Rattle.coordinates.specs.Enclosure.{Enclosure}
 use Rattle.resolved.specs.Resolved.{formalIn, direct, chosen, nameWord, resolvedAction}
-use Rattle.laws.specs.Fields.{fieldAt, fieldsAt, FieldsStand, fields-are, fields-third}
+use Rattle.laws.specs.Fields.{fieldAt, fieldsAt, FieldsStand, fields-are, fields-third, field-is}
 use Rattle.writing.specs.Growth.{Grown}
 use Rattle.writing.specs.Visible.{wordIn, usedAt, Short, AllShort, Shown}
 use Rattle.emitting.specs.Emitted.{knWords, arWords, ifWords, goWords, clWords, pairWords, qyWords, argumentWords, emittedAs, Emitted}
@@ -130,18 +130,6 @@ module _ (bs es : List ℕ) (at count : ℕ) (c₀ : List ℕ) where
       let none : count - i ≡ 0 = omega arith in
       a .on s c (rw none (grown-nothing c (at + 2 * i)))
 
--- a field of those that stand at an offset
-nth : (bs : List ℕ) (at : ℕ) (ws : List ℕ) → FieldsStand bs at ws → (k : ℕ) → k < length ws → fieldAt bs (at + 2 * k) ≡ getD ws k 0
-nth bs at [] h k l = absurd (omega arith)
-nth bs at (w ∷ ws) h zero l = subst (λ (o : ℕ). fieldAt bs o ≡ w) here (h .0)
-  where
-    here : at ≡ at + 2 * 0
-    here = omega arith
-nth bs at (w ∷ ws) h (suc k) l = subst (λ (o : ℕ). fieldAt bs o ≡ getD ws k 0) on (nth bs (at + 2) ws (h .1) k (omega arith))
-  where
-    on : at + 2 + 2 * k ≡ at + 2 * suc k
-    on = omega arith
-
 module _ (bs es : List ℕ) (encl : Enclosure) (s : Shown encl es) where
   arguments-are : (xs : List ℕ) → map (λ (n : ℕ). wordIn n es) xs ≡ map (nameWord encl) xs
   arguments-are [] = refl
@@ -150,19 +138,19 @@ module _ (bs es : List ℕ) (encl : Enclosure) (s : Shown encl es) where
   pub emits : (at : ℕ) (a : Action) → FieldsStand bs at (actionFields a) → emittedAs (fieldAt bs at) bs es at ≡ resolvedAction encl a
   unfolding actionFields emittedAs resolvedAction arWords ifWords knWords clWords goWords pairWords qyWords argumentWords
   emits at (KN t z) h =
-      let f = nth bs at (actionFields (KN t z)) h in
+      let f = field-is bs at (actionFields (KN t z)) h in
       let w = used-is bs es encl s (at + 2) t (f 1 (omega arith)) in
       let v : fieldAt bs (at + 4) + 65536 * fieldAt bs (at + 6) ≡ unsigned z = omega (arith, f 2 (omega arith), f 3 (omega arith)) in
       ap (λ (m : ℕ). emittedAs m bs es at) (h .0) ∙ cc
   emits at (AR t o l r) h =
-      let f = nth bs at (actionFields (AR t o l r)) h in
+      let f = field-is bs at (actionFields (AR t o l r)) h in
       let w = used-is bs es encl s (at + 2) t (f 1 (omega arith)) in
       let k = f 2 (omega arith) in
       let a = used-is bs es encl s (at + 6) l (f 3 (omega arith)) in
       let b = used-is bs es encl s (at + 8) r (f 4 (omega arith)) in
       ap (λ (m : ℕ). emittedAs m bs es at) (h .0) ∙ cc
   emits at (IF v l) h =
-      let f = nth bs at (actionFields (IF v l)) h in
+      let f = field-is bs at (actionFields (IF v l)) h in
       let w = used-is bs es encl s (at + 2) v (f 1 (omega arith)) in
       let a = used-is bs es encl s (at + 4) l (f 2 (omega arith)) in
       ap (λ (m : ℕ). emittedAs m bs es at) (h .0) ∙ cc
@@ -170,7 +158,7 @@ module _ (bs es : List ℕ) (encl : Enclosure) (s : Shown encl es) where
       let a = used-is bs es encl s (at + 2) l (h .1 .0) in
       ap (λ (m : ℕ). emittedAs m bs es at) (h .0) ∙ cc
   emits at (CL p xs) h =
-      let f = nth bs at (actionFields (CL p xs)) h in
+      let f = field-is bs at (actionFields (CL p xs)) h in
       let w = used-is bs es encl s (at + 2) p (h .1 .0) in
       let n = f 2 (omega arith) in
       let six : at + 2 + 2 + 2 ≡ at + 6 = omega arith in
@@ -181,17 +169,17 @@ module _ (bs es : List ℕ) (encl : Enclosure) (s : Shown encl es) where
       ∙ ap₂ (λ (v : ℕ) (ws : List ℕ). chosen (direct v) 7 15 ∷ v ∷ fieldAt bs (at + 4) ∷ ws) w e
       ∙ ap (λ (c : ℕ). chosen (direct (nameWord encl p)) 7 15 ∷ nameWord encl p ∷ c ∷ map (nameWord encl) xs) n
   emits at (AD g m) h =
-      let f = nth bs at (actionFields (AD g m)) h in
+      let f = field-is bs at (actionFields (AD g m)) h in
       let w = used-is bs es encl s (at + 2) g (f 1 (omega arith)) in
       let a = used-is bs es encl s (at + 4) m (f 2 (omega arith)) in
       ap (λ (m : ℕ). emittedAs m bs es at) (h .0) ∙ cc
   emits at (RM g m) h =
-      let f = nth bs at (actionFields (RM g m)) h in
+      let f = field-is bs at (actionFields (RM g m)) h in
       let w = used-is bs es encl s (at + 2) g (f 1 (omega arith)) in
       let a = used-is bs es encl s (at + 4) m (f 2 (omega arith)) in
       ap (λ (m : ℕ). emittedAs m bs es at) (h .0) ∙ cc
   emits at (QY t g m) h =
-      let f = nth bs at (actionFields (QY t g m)) h in
+      let f = field-is bs at (actionFields (QY t g m)) h in
       let w = used-is bs es encl s (at + 2) t (f 1 (omega arith)) in
       let a = used-is bs es encl s (at + 4) g (f 2 (omega arith)) in
       let b = used-is bs es encl s (at + 6) m (f 3 (omega arith)) in

@@ -12,7 +12,7 @@ use Rattle.marks.specs.Marks.{fitIn, fitAt}
 use Rattle.marks.specs.Counts.{fieldCount}
 use Rattle.laws.specs.Fields.{fieldAt, FieldsStand, field-inside, fields-first, fields-after}
 use Rattle.extents.specs.Items.{Item, itemFields, itemsFields, children, headFields, headSize, childCount}
-use Rattle.extents.specs.Passing.{Passed, Skipped, Left, Stepped}
+use Rattle.extents.specs.Passing.{Passed, Alone, Skipped, Left, Stepped}
 use Rattle.extents.specs.declared.passing.Step.{Step}
 use Rattle.extents.proofs.Inside.{items-append, item-opens, head-size, child-count, head-marked}
 
@@ -40,6 +40,18 @@ size-other w a e = rw (ne-eqb w CL-mark e, headSize)
 pub child-other : (w d a : ℕ) → (w ≡ BK-mark → ⊥) → (w ≡ PR-mark → ⊥) → childCount w d a ≡ 0
 unfolding childCount
 child-other w d a e f = rw (ne-eqb w BK-mark e, ne-eqb w PR-mark f, childCount)
+
+-- a VR, which holds no other record
+pub variable-alone : (bs : List ℕ) (at : ℕ) → fieldAt bs at ≡ VR-mark → Alone bs at (at + 4)
+unfolding headSize childCount fieldCount fitAt fitIn stmtMarks declMarks
+variable-alone bs at m =
+    record {
+      next-is = sym (ap (λ (x : ℕ). at + headSize x (fieldAt bs (at + 4))) m);
+      more-is = sym (ap (λ (x : ℕ). childCount x (fieldAt bs (at + 2)) (fieldAt bs (at + 4))) m);
+      on = omega arith;
+      near = omega arith;
+      few = omega arith;
+    }
 
 module _ (bs : List ℕ) (at : ℕ) (x : Item) where
   alone : itemsFields (x ∷ []) ≡ itemFields x

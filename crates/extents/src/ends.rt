@@ -6,6 +6,8 @@ use super::passing::pass;
 use super::passing::past;
 use marks::BK;
 use marks::PR;
+use marks::VR;
+use marks::VR_BYTES;
 use words::word;
 ghost use mathlib.Core.Path.{_≡_};
 ghost use mathlib.Core.List.{List};
@@ -91,7 +93,7 @@ fn procedure(script: &[u8], ends: &mut [u32; 683], at: usize) -> usize
     fill(script, ends, at)
 }
 
-// Where the record at an offset ends.
+// Where the record at an offset ends. A variable is known before the table of marks is searched.
 pub fn skip(script: &[u8], ends: &mut [u32; 683], at: usize) -> usize
     requires { ⌜ (length (now script) ≤ 8192) × Ends (now script) (now ends) ⌝ }
     ensures skipped { λ r. ⌜ Skipped (now (script .entry)) at r ⌝ }
@@ -106,6 +108,9 @@ pub fn skip(script: &[u8], ends: &mut [u32; 683], at: usize) -> usize
     }
     if mark == BK {
         return fill(script, ends, at);
+    }
+    if mark == VR {
+        return at + VR_BYTES;
     }
     past(script, at, mark)
 }

@@ -76,10 +76,6 @@ Sweeps bs code names here = (t : Block) (name : ℕ) → check bs ≡ accepted t
 
 -- The start
 
-pub all-bytes : (bs : List ℕ) → ((i : ℕ) → getD bs i 0 < 256) → Bytes bs
-all-bytes [] h = tt
-all-bytes (b ∷ bs) h = (h 0, all-bytes bs (λ i. h (suc i)))
-
 module _ (bs : List ℕ) (bytes : Bytes bs) (t : Block) (e : check bs ≡ accepted t) where
   keeps : (bs ≡ encode t) × Keeps t
   keeps = accepted-keeps bs bytes t e

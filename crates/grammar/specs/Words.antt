@@ -1,5 +1,5 @@
 -- Fields and bytes, there and back; a signed value and its two fields, there and back.
-use Prim.Native.Nat.{ℕ, _+_, _-_, _*_, _/_, _%_, _<_}
+use Prim.Native.Nat.{ℕ, suc, _+_, _-_, _*_, _/_, _%_, _<_}
 use mathlib.Core.Bool.{Bool, true, false}
 use mathlib.Core.List.{List, [], _∷_}
 use mathlib.Core.Path.{_≡_, refl, ap}
@@ -7,11 +7,16 @@ use native.Mathlib.Omega.{arith}
 use borrow.Author.Tests.{ltb-true, ltb-false, lt-ltb, le-ltb}
 use lib.Dec.{ltb}
 use lib.IntN.{ℤ, pos, negsuc}
-use lib.ListN.{length}
+use lib.ListN.{length, getD}
 use lib.Signed.{mag}
 use Rattle.language.specs.Encoding.{two, unsigned, signed, bytesOf, fieldsOf}
 use Rattle.laws.specs.Each.{Each}
 use Rattle.grammar.specs.Rules.{Bytes, Name}
+
+-- a list each of whose places holds a byte
+pub bytes-are : (bs : List ℕ) → ((i : ℕ) → getD bs i 0 < 256) → Bytes bs
+bytes-are [] h = tt
+bytes-are (b ∷ bs) h = let p : b < 256 = h 0 in (omega (arith, p), bytes-are bs (λ i. h (suc i)))
 
 pub fields-of-bytes : (ws : List ℕ) → fieldsOf (bytesOf ws) ≡ ws
 unfolding fieldsOf bytesOf

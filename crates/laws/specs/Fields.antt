@@ -3,7 +3,7 @@
 use Prim.Native.Nat.{ℕ, zero, suc, _+_, _*_, _≤_, _<_}
 use native.Mathlib.Omega.{arith}
 use mathlib.Core.List.{List, [], _∷_, _++_, append-assoc}
-use mathlib.Core.Path.{_≡_, refl, subst}
+use mathlib.Core.Path.{_≡_, refl, ap, _∙_, subst}
 use lib.ListN.{length, getD, length-append, List·getD-eq-default}
 use lib.Seq.{getD-append-seam, getD-append-add}
 use Rattle.language.specs.Encoding.{two, fieldsOf}
@@ -20,6 +20,14 @@ fieldsAt bs at (suc k) = fieldAt bs at ∷ fieldsAt bs (at + 2) k
 abbrev pub FieldsStand : List ℕ → ℕ → List ℕ → Type 0
 FieldsStand bs at [] = Unit {0}
 FieldsStand bs at (w ∷ ws) = (fieldAt bs at ≡ w) × FieldsStand bs (at + 2) ws
+
+-- one of them
+pub field-is : (bs : List ℕ) (at : ℕ) (ws : List ℕ) → FieldsStand bs at ws → (i : ℕ) → i < length ws → fieldAt bs (at + 2 * i) ≡ getD ws i 0
+field-is bs at [] h i l = absurd (omega arith)
+field-is bs at (x ∷ ws) h zero l = let z : at + 2 * 0 ≡ at = omega arith in ap (fieldAt bs) z ∙ h .0
+field-is bs at (x ∷ ws) h (suc i) l =
+    let z : at + 2 * suc i ≡ at + 2 + 2 * i = omega arith in
+    ap (fieldAt bs) z ∙ field-is bs (at + 2) ws (h .1) i (omega arith)
 
 -- a field that is not 0 begins inside the script
 pub field-inside : (bs : List ℕ) (at : ℕ) → 0 < fieldAt bs at → length bs ≤ at → ⊥

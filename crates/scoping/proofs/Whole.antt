@@ -20,10 +20,6 @@ use Rattle.uses.specs.Meanings.{scopeOf, verdictOf}
 use Rattle.scoping.specs.Walking.{progressOf, settledOf, Judged, BlockHere}
 use Rattle.language.specs.declared.Verdict.{Verdict}
 
-pub bytes-are : (bs : List ℕ) → ((i : ℕ) → getD bs i 0 < 256) → Bytes bs
-bytes-are [] h = tt
-bytes-are (b ∷ bs) h = (h 0, bytes-are bs (λ i. h (suc i)))
-
 settled-verdict : (v : definitions.Judgement) (end : ℕ) → settledOf (progressOf v end) ≡ verdictOf v
 unfolding settledOf progressOf verdictOf
 settled-verdict fine end = refl

@@ -1,6 +1,6 @@
 -- `resolved` meets its contract. Assumes nothing.
 use borrow.Author.Needs.{needs}
-use Rattle.scoping.proofs.Whole.{bytes-are}
+use Rattle.grammar.specs.Words.{bytes-are}
 use Rattle.chain_call.proofs.resolved.Statement.{statement}
 use Rattle.chain_call.proofs.resolved.Tie as tie
 

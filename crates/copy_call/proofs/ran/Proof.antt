@@ -2,7 +2,7 @@
 use borrow.Author.Needs.{needs}
 use mathlib.Core.Path.{refl, ap, _∙_}
 use Rattle.language.specs.Numbers.{answerWords}
-use Rattle.scoping.proofs.Whole.{bytes-are}
+use Rattle.grammar.specs.Words.{bytes-are}
 use Rattle.replies.specs.Replies.{tally-fits}
 use Rattle.grammar.specs.Rules.{Bytes}
 use Rattle.copy_call.proofs.Pieces.{begins-so, ended-so, covers-so, held-so, room-so, live-so, answers-so, lent-so}

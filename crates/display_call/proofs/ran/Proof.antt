@@ -2,7 +2,7 @@
 use borrow.Author.Needs.{needs}
 use Rattle.language.specs.Call.{Fed}
 use Rattle.grammar.specs.Rules.{Bytes}
-use Rattle.scoping.proofs.Whole.{bytes-are}
+use Rattle.grammar.specs.Words.{bytes-are}
 use Rattle.admission.specs.Lent.{fedOf}
 use Rattle.replies.specs.Replies.{tally-fits}
 use Rattle.display_call.proofs.Pieces.{begins-so, sheet-so, replies-so}

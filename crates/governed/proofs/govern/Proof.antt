@@ -4,7 +4,8 @@ use Prim.Native.Nat.{ℕ, _+_, _-_, _≤_}
 use native.Mathlib.Omega.{arith}
 use lib.ListN.{length, length-replicate}
 use borrow.Author.Needs.{needs}
-use Rattle.governed.proofs.Sweeping.{Sweeps, all-bytes, accepted-short, swept-start, swept-step, swept-end}
+use Rattle.grammar.specs.Words.{bytes-are}
+use Rattle.governed.proofs.Sweeping.{Sweeps, accepted-short, swept-start, swept-step, swept-end}
 use Rattle.governed.proofs.govern.Statement.{statement}
 use Rattle.governed.proofs.govern.Tie as tie
 
@@ -18,14 +19,14 @@ returns : tie.Need-returns Inv-loop μ-loop
 returns c =
     let st = c .before .before in
     let a = st .args in
-    let bytes = all-bytes (a .script .now) (λ i. c .before .shared-slice-known .given i .fits) in
+    let bytes = bytes-are (a .script .now) (λ i. c .before .shared-slice-known .given i .fits) in
     (λ t name e h. absurd (omega (arith, c .if1 .taken, accepted-short (a .script .now) bytes t e)), ap length (st .pre) ∙ length-replicate {A = ℕ} 4096 0)
 
 loop-holds : tie.Need-loop-holds Inv-loop μ-loop
 loop-holds c =
     let st = c .before .before in
     let a = st .args in
-    let bytes = all-bytes (a .script .now) (λ i. c .before .shared-slice-known .given i .fits) in
+    let bytes = bytes-are (a .script .now) (λ i. c .before .shared-slice-known .given i .fits) in
     (omega arith, ap length (st .pre) ∙ length-replicate {A = ℕ} 4096 0, swept-start (a .script .now) (a .code .now) (a .names .now) bytes (st .pre))
 
 word-requires : tie.Need-word-requires Inv-loop μ-loop

@@ -7,7 +7,7 @@ use native.Mathlib.Omega.{arith}
 use lib.ListN.{replicate, length-replicate}
 use Rattle.symbols.proofs.Chains.{none-chained}
 use Rattle.extents.proofs.Noting.{none-noted}
-use Rattle.scoping.proofs.Whole.{bytes-are}
+use Rattle.grammar.specs.Words.{bytes-are}
 use Rattle.resolving.specs.Resolving.{BlockWritten}
 use Rattle.resolving.proofs.Whole.{accepted-short, words-are}
 use borrow.Author.Needs.{needs}

@@ -3,7 +3,8 @@ use Prim.Native.Nat.{ℕ}
 use native.Mathlib.Nat.{le-of-eq}
 use native.Mathlib.Omega.{arith}
 use lib.ListN.{replicate, length-replicate}
-use Rattle.scoping.proofs.Whole.{bytes-are, whole-judged}
+use Rattle.grammar.specs.Words.{bytes-are}
+use Rattle.scoping.proofs.Whole.{whole-judged}
 use Rattle.symbols.proofs.Chains.{none-chained}
 use Rattle.extents.proofs.Noting.{none-noted}
 use borrow.Author.Needs.{needs}

@@ -1,7 +1,7 @@
 -- `extents::ends::skip` meets its contract: a case for each way out. Assumes nothing.
 use borrow.Author.Needs.{needs}
-use mathlib.Core.Path.{refl}
-use Rattle.extents.proofs.Skipping.{skipped-out, skipped-head}
+use mathlib.Core.Path.{refl, sym, _∙_}
+use Rattle.extents.proofs.Skipping.{variable-alone, skipped-out, skipped-head}
 use Rattle.extents.proofs.ends.skip.Statement.{statement}
 use Rattle.extents.proofs.ends.skip.Tie as tie
 
@@ -32,12 +32,22 @@ fill-requires c κs = search needs
 returns-3 : tie.Need-returns-3
 returns-3 c = search needs
 
-past-requires : tie.Need-past-requires
-past-requires c κs = search needs
+add-result : tie.Need-add-result
+add-result c = search needs
 
 returns-4 : tie.Need-returns-4
 returns-4 c =
     let e = insideOf (c .before .before) in
+    let st = startOf e in
+    let m = sym (c .before .before .before .word .ensures .0) ∙ c .if4 .taken in
+    (skipped-head (st .args .script .now) (st .args .at) (e .if1 .left) _ (variable-alone (st .args .script .now) (st .args .at) m) refl, st .pre .1)
+
+past-requires : tie.Need-past-requires
+past-requires c κs = search needs
+
+returns-5 : tie.Need-returns-5
+returns-5 c =
+    let e = insideOf (c .before .before .before) in
     let st = startOf e in
     (skipped-head (st .args .script .now) (st .args .at) (e .if1 .left) _ (c .past .ensures) refl, st .pre .1)
 
@@ -51,5 +61,7 @@ skip-spec =
     returns-2
     fill-requires
     returns-3
+    add-result
+    returns-4
     past-requires
-    returns-4)
+    returns-5)
