@@ -103,9 +103,10 @@ unfoldable pub callMove : List ℕ → ℕ → ℕ → ℕ → ℕ → ℕ → M
 callMove code limit live at home body =
     elim (leb limit (live + 1)) [ true ↦ Stop NoActivationLeft | false ↦ Enter body home (at + 3 + wordBehind code at 2) ]
 
--- the class of a statement by its operation: 0 one name or none, 1 to 3 AR of which none is a formal, 4 AR of which one is, 5 IF, 6 AD and RM, 7 QY
+-- the class of a statement by its operation: 0 GO, BK, CL, and KN of a formal, 1 to 3 AR of which none is a formal, 4 AR of which one is, 5 IF, 6 AD and
+-- RM, 7 QY, 8 KN of no formal
 unfoldable pub classOf : Op → ℕ
-classOf constant-op = 0
+classOf constant-op = 8
 classOf add-op = 1
 classOf subtract-op = 2
 classOf compare-op = 3

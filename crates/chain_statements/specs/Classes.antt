@@ -66,9 +66,9 @@ module _ (class last : ℕ) (ks : List ℕ) (a : allBelow (unless ks (isLast cla
       let q = eq-eqb (classOf (numbered (v % 16))) class (sym (ap classOf (op-of v (v % 16) refl)) ∙ e) in
       eqb-true (v % 16) last (rw (q, isLast) at (rest-holds ks (isLast class last) a (v % 16) (omega arith) r))
 
-pub call-left : (v : ℕ) → classOf (opOf v) ≡ 0 → NoneOf (14 ∷ 11 ∷ 7 ∷ 6 ∷ 5 ∷ 0 ∷ []) (v % 16) → v % 16 ≡ 15
+pub call-left : (v : ℕ) → classOf (opOf v) ≡ 0 → NoneOf (14 ∷ 11 ∷ 7 ∷ 6 ∷ 5 ∷ []) (v % 16) → v % 16 ≡ 15
 unfolding allBelow unless among isLast operations classOf
-call-left = last-left 0 15 (14 ∷ 11 ∷ 7 ∷ 6 ∷ 5 ∷ 0 ∷ []) refl
+call-left = last-left 0 15 (14 ∷ 11 ∷ 7 ∷ 6 ∷ 5 ∷ []) refl
 
 pub add-only : (v : ℕ) → classOf (opOf v) ≡ 1 → v % 16 ≡ 1
 unfolding allBelow unless among isLast operations classOf
@@ -97,3 +97,7 @@ unpair-left = last-left 6 9 (8 ∷ []) refl
 pub query-only : (v : ℕ) → classOf (opOf v) ≡ 7 → v % 16 ≡ 10
 unfolding allBelow unless among isLast operations classOf
 query-only v e = last-left 7 10 [] refl v e tt
+
+pub constant-only : (v : ℕ) → classOf (opOf v) ≡ 8 → v % 16 ≡ 0
+unfolding allBelow unless among isLast operations classOf
+constant-only v e = last-left 8 0 [] refl v e tt

@@ -13,15 +13,16 @@ ghost use Rattle.acting.specs.Acting.{acting, opOf};
 ghost use Rattle.steps.specs.Finding.{byFirst};
 ghost use Rattle.chain_statements.specs.Asking.{Ready, Leads, Did, sceneOf, classOf};
 
-// The class of the statement at a place: 0 one name or none, 1 to 3 AR where no name is a formal, by its operation, 4 AR where one is, 5 IF, 6 AD and RM,
-// 7 QY. What is done most has a class of its own, so that one jump leads to it. Each number is named: a range needs no test then.
+// The class of the statement at a place: 0 GO, BK, CL, and KN of a formal, 1 to 3 AR where no name is a formal, by its operation, 4 AR where one is, 5 IF,
+// 6 AD and RM, 7 QY, 8 KN of no formal. What is done most has a class of its own, so that one jump leads to it. Each number is named: a range needs no test
+// then.
 pub fn class_of(code: &[u32; 4096], at: usize) -> usize
     requires { ⌜ at < 4096 ⌝ }
     ensures { λ r. ⌜ r ≡ classOf (opOf (getD (now (code .entry)) at 0)) ⌝ }
 {
     let operation = code_at(code, at) % 16;
     match operation {
-        0 => 0,
+        0 => 8,
         1 => 1,
         2 => 2,
         3 => 3,
@@ -40,7 +41,7 @@ pub fn class_of(code: &[u32; 4096], at: usize) -> usize
     }
 }
 
-// KN, GO, BK and CL
+// GO, BK, CL, and KN of a formal
 pub fn act_one(
     code: &[u32; 4096],
     words: &mut [i32; 8224],
@@ -58,7 +59,6 @@ pub fn act_one(
 {
     let operation = code_at(code, at) % 16;
     match operation {
-        0 => arms::do_constant(code, words, at, first),
         5 => arms::do_goto(code, at, first),
         6 => statements::do_block(code, limit, live, at),
         7 => arms::do_call(code, limit, live, at, first),

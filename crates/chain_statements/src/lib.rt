@@ -3,6 +3,7 @@
 pub use arms::do_add;
 pub use arms::do_arithmetic_formal;
 pub use arms::do_compare;
+pub use arms::do_constant;
 pub use arms::do_query;
 pub use arms::do_subtract;
 pub use classes::act_branch;

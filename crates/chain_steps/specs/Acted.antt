@@ -1,6 +1,6 @@
 -- The next statement, with its names found by the links: what `acted` asks (`Stating`), and where it is of a class (`Summing`, `Tabling`). Of a statement
 -- that is asked so: `by-class`, which fields its names stand in, by its class, and when their cells are those that the links lead to; `ready`, what its
--- function may rely on then; `Does-as`, all this of AR and QY, whose function is called at once; `only-led`, of a statement with one name or none.
+-- function may rely on then; `Does-as` and `Stores`, all this of AR, QY and KN, whose function is called at once; `only-led`, of a statement with one name or none.
 use Prim.Native.Nat.{ℕ, zero, suc, _+_, _*_, _-_, _/_, _%_, _≤_, _<_}
 use native.Mathlib.Omega.{arith}
 use mathlib.Core.Bool.{true, false}
@@ -18,7 +18,7 @@ use Rattle.arrays.specs.Names.{follow}
 use Rattle.acting.specs.declared.Move.{Move}
 use Rattle.acting.specs.Acting.{Happened, Op, constant-op, add-op, subtract-op, compare-op, branch-op, goto-op, block-op, call-op, pair-op, unpair-op, query-op}
 use Rattle.acting.specs.Acting.{constant-formal-op, arithmetic-formal-op, branch-formal-op, goto-formal-op, call-formal-op, operations, opOf}
-use Rattle.acting.specs.Acting.{Finding, Scene, operationOf, doArithmetic, doQuery, happens, acting}
+use Rattle.acting.specs.Acting.{Finding, Scene, operationOf, doConstant, doArithmetic, doQuery, happens, acting}
 use Rattle.steps.specs.Standing.{Standing}
 use Rattle.steps.specs.Here.{live-few}
 use Rattle.steps.specs.Fields as fields
@@ -27,7 +27,7 @@ use Rattle.statements.specs.Numbers.{op-of}
 use Rattle.chain_statements.specs.Finding.{Reachable, Direct, ThroughFormal}
 use Rattle.chain_statements.specs.Asking.{wordBehind, Calling, Ready, Leads, Did, sceneOf, classOf}
 use Rattle.chain_statements.specs.Moves as moves
-use Rattle.chain_statements.specs.Classes.{add-only, subtract-only, compare-only, arithmetic-only, query-only}
+use Rattle.chain_statements.specs.Classes.{add-only, subtract-only, compare-only, arithmetic-only, query-only, constant-only}
 use Rattle.activations.specs.declared.Activation.{Activation}
 use Rattle.links.specs.declared.Now.{Now}
 use Rattle.links.specs.Records.{blocksIn, nextsIn, linksIn}
@@ -68,6 +68,7 @@ pub record Tabling (code : List ℕ) (words : List ℤ) (records : List Activati
   pub stating : Stating code words records table group limit here
   pub chosen : Chosen code here own class
   pub low : 5 < class
+  pub other : class ≡ 8 → ⊥
 
 -- the statement has been done, and the engine goes on so
 pub record Does (done : Happened) (words : List ℤ) (here : Now) (moved : Moved) (words′ table′ : List ℤ) : Type 0 where
@@ -243,11 +244,12 @@ module _ {code : List ℕ} {words : List ℤ} {records : List Activation} {table
   ByClass o (suc (suc (suc (suc (suc zero))))) = Two o
   ByClass o (suc (suc (suc (suc (suc (suc zero)))))) = Two o
   ByClass o (suc (suc (suc (suc (suc (suc (suc zero))))))) = Unit {0}
-  ByClass o (suc (suc (suc (suc (suc (suc (suc (suc n)))))))) = ⊥
+  ByClass o (suc (suc (suc (suc (suc (suc (suc (suc zero)))))))) = Unit {0}
+  ByClass o (suc (suc (suc (suc (suc (suc (suc (suc (suc n))))))))) = ⊥
 
   classed-by : (o : Op) → fields.Fields st o → ByClass o (classOf o)
   unfolding classOf
-  classed-by constant-op f = λ a p. p
+  classed-by constant-op f = tt
   classed-by add-op f = tt
   classed-by subtract-op f = tt
   classed-by compare-op f = tt
@@ -268,16 +270,17 @@ module _ {code : List ℕ} {words : List ℤ} {records : List Activation} {table
   by-class n e = subst (ByClass op) e (classed-by op stand)
 
   -- the class that is left
-  pub seven-left : (n : ℕ) → ByClass op n → 5 < n → (n ≡ 6 → ⊥) → n ≡ 7
-  seven-left zero b h d = absurd (omega arith)
-  seven-left (suc zero) b h d = absurd (omega arith)
-  seven-left (suc (suc zero)) b h d = absurd (omega arith)
-  seven-left (suc (suc (suc zero))) b h d = absurd (omega arith)
-  seven-left (suc (suc (suc (suc zero)))) b h d = absurd (omega arith)
-  seven-left (suc (suc (suc (suc (suc zero))))) b h d = absurd (omega arith)
-  seven-left (suc (suc (suc (suc (suc (suc zero)))))) b h d = absurd (d refl)
-  seven-left (suc (suc (suc (suc (suc (suc (suc zero))))))) b h d = refl
-  seven-left (suc (suc (suc (suc (suc (suc (suc (suc n)))))))) b h d = absurd b
+  pub seven-left : (n : ℕ) → ByClass op n → 5 < n → (n ≡ 6 → ⊥) → (n ≡ 8 → ⊥) → n ≡ 7
+  seven-left zero b h d e = absurd (omega arith)
+  seven-left (suc zero) b h d e = absurd (omega arith)
+  seven-left (suc (suc zero)) b h d e = absurd (omega arith)
+  seven-left (suc (suc (suc zero))) b h d e = absurd (omega arith)
+  seven-left (suc (suc (suc (suc zero)))) b h d e = absurd (omega arith)
+  seven-left (suc (suc (suc (suc (suc zero))))) b h d e = absurd (omega arith)
+  seven-left (suc (suc (suc (suc (suc (suc zero)))))) b h d e = absurd (d refl)
+  seven-left (suc (suc (suc (suc (suc (suc (suc zero))))))) b h d e = refl
+  seven-left (suc (suc (suc (suc (suc (suc (suc (suc zero)))))))) b h d e = absurd (e refl)
+  seven-left (suc (suc (suc (suc (suc (suc (suc (suc (suc n))))))))) b h d e = absurd b
 
   -- AR and QY
 
@@ -364,6 +367,25 @@ module _ {code : List ℕ} {words : List ℤ} {records : List Activation} {table
         named = (named 1 (omega (arith, fs .0)) (fs .1), named 2 (omega (arith, fs .0)) (fs .2), named 3 (omega (arith, fs .0)) (fs .3));
         asks = λ a b c p q r. (fs .0, reachable 1 a p (fs .1), reachable 2 b q (fs .2), reachable 3 c r (fs .3));
         did = λ d. moves.did way scene query-op is (moves.query-did way scene d);
+      }
+
+  -- KN of no formal
+
+  pub record Stores : Type 0 where
+    pub named : N 1
+    pub asks : (first : ℕ) → At first 1 → (here .at + 4 ≤ 4096) × Direct words first (word 1)
+    pub did : {r : Move} {words′ : List ℤ} → (r ≡ doConstant way (only-words code words (here .at)) .move)
+        × (words′ ≡ doConstant way (only-words code words (here .at)) .words) → Did (acting way scene) words r words′ table
+
+  pub stores : classOf op ≡ 8 → Stores
+  unfolding operations happens
+  stores e =
+      let is : op ≡ constant-op = op-of (getD code (here .at) 0) 0 (constant-only _ e) in
+      let fs = subst (fields.Fields st) is stand in
+      record {
+        named = named 1 (omega (arith, fs .0)) (fs .1 .0);
+        asks = λ a p. (fs .0, directly 1 a p (fs .1));
+        did = λ d. moves.did way scene constant-op is (moves.constant-did way scene d);
       }
 
   -- A statement with one name or none

@@ -9,6 +9,7 @@ use activations::follow;
 use chain_statements::act_branch;
 use chain_statements::act_one;
 use chain_statements::class_of;
+use chain_statements::do_constant;
 use links::Now;
 use links::first_cell;
 use stepping::code_at;
@@ -55,6 +56,11 @@ pub fn acted(
         let first = first_cell(code, records, here, own, 1);
         let second = first_cell(code, records, here, own, 2);
         let done = act_branch(code, words, here.at, first, second);
+        return came_to(here, done);
+    }
+    if class == 8 {
+        let first = first_cell(code, records, here, own, 1);
+        let done = do_constant(code, words, here.at, first);
         return came_to(here, done);
     }
     if 5 < class {

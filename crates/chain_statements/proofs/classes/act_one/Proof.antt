@@ -51,35 +51,29 @@ ready s p e = subst (λ (x : Op). ReadyFor s x) e (s .pre .2)
 leads : (s : tie.Start) (p : Op) → opAt s ≡ p → (firstOf : ℕ → ℕ) → Found s firstOf (opAt s) → Found s firstOf p
 leads s p e firstOf l = subst (λ (x : Op). Found s firstOf x) e l
 
-do-constant-requires : tie.Need-do-constant-requires
-unfolding operations
-do-constant-requires c κs =
-    let m = c .before in
-    ready (m .before .before) constant-op (op (m .before) 0 (m .match .keys1))
-
 do-goto-requires : tie.Need-do-goto-requires
 unfolding operations
-do-goto-requires c κs = (ready (c .before .before) goto-op (op (c .before) 5 (c .match .keys2))) .0
+do-goto-requires c κs = (ready (c .before .before) goto-op (op (c .before) 5 (c .match .keys1))) .0
 
 do-block-requires : tie.Need-do-block-requires
 unfolding operations
-do-block-requires c κs = ready (c .before .before) block-op (op (c .before) 6 (c .match .keys3))
+do-block-requires c κs = ready (c .before .before) block-op (op (c .before) 6 (c .match .keys2))
 
 do-call-requires : tie.Need-do-call-requires
 unfolding operations
-do-call-requires c κs = (ready (c .before .before) call-op (op (c .before) 7 (c .match .keys4))) .0
+do-call-requires c κs = (ready (c .before .before) call-op (op (c .before) 7 (c .match .keys3))) .0
 
 do-constant-formal-requires : tie.Need-do-constant-formal-requires
 unfolding operations
 do-constant-formal-requires c κs =
     let m = c .before in
-    ready (m .before .before) constant-formal-op (op (m .before) 11 (m .match .keys5))
+    ready (m .before .before) constant-formal-op (op (m .before) 11 (m .match .keys4))
 
 do-goto-formal-requires : tie.Need-do-goto-formal-requires
 unfolding operations
 do-goto-formal-requires c κs =
     let m = c .before in
-    ready (m .before .before) goto-formal-op (op (m .before) 14 (m .match .keys6))
+    ready (m .before .before) goto-formal-op (op (m .before) 14 (m .match .keys5))
 
 do-call-formal-requires : tie.Need-do-call-formal-requires
 unfolding operations
@@ -91,12 +85,13 @@ returns : tie.Need-returns
 unfolding operations happens
 returns c =
     λ firstOf table pairs group l.
-    let m = c .before .before in
+    let m = c .before in
     let s = m .before .before in
-    let e = op (m .before) 0 (m .match .keys1) in
-    let g = leads s constant-op e firstOf l in
-    did (way s firstOf) (scene s table pairs group) constant-op e
-    (constant-did (way s firstOf) (scene s table pairs group) (c .do-constant .ensures firstOf g))
+    let e = op (m .before) 5 (m .match .keys1) in
+    let g = leads s goto-op e firstOf l in
+    did (way s firstOf) (scene s table pairs group) goto-op e
+    (goto-did (way s firstOf) (scene s table pairs group)
+    (goto-own (s .args .code .now) (s .args .words .now) (s .args .at) (c .do-goto .ensures) (ready s goto-op e .1 .is) firstOf g))
 
 returns-2 : tie.Need-returns-2
 unfolding operations happens
@@ -104,11 +99,9 @@ returns-2 c =
     λ firstOf table pairs group l.
     let m = c .before in
     let s = m .before .before in
-    let e = op (m .before) 5 (m .match .keys2) in
-    let g = leads s goto-op e firstOf l in
-    did (way s firstOf) (scene s table pairs group) goto-op e
-    (goto-did (way s firstOf) (scene s table pairs group)
-    (goto-own (s .args .code .now) (s .args .words .now) (s .args .at) (c .do-goto .ensures) (ready s goto-op e .1 .is) firstOf g))
+    let e = op (m .before) 6 (m .match .keys2) in
+    did (way s firstOf) (scene s table pairs group) block-op e
+    (block-did (way s firstOf) (scene s table pairs group) (c .do-block .ensures))
 
 returns-3 : tie.Need-returns-3
 unfolding operations happens
@@ -116,17 +109,7 @@ returns-3 c =
     λ firstOf table pairs group l.
     let m = c .before in
     let s = m .before .before in
-    let e = op (m .before) 6 (m .match .keys3) in
-    did (way s firstOf) (scene s table pairs group) block-op e
-    (block-did (way s firstOf) (scene s table pairs group) (c .do-block .ensures))
-
-returns-4 : tie.Need-returns-4
-unfolding operations happens
-returns-4 c =
-    λ firstOf table pairs group l.
-    let m = c .before in
-    let s = m .before .before in
-    let e = op (m .before) 7 (m .match .keys4) in
+    let e = op (m .before) 7 (m .match .keys3) in
     let g = leads s call-op e firstOf l in
     let w = wordBehind (s .args .code .now) (s .args .at) 1 in
     let d = ready s call-op e .1 .is in
@@ -134,31 +117,31 @@ returns-4 c =
     (call-did (way s firstOf) (scene s table pairs group) (home-own (s .args .words .now) firstOf w g d) (target-own (s .args .words .now) firstOf w g d)
     (c .do-call .ensures))
 
+returns-4 : tie.Need-returns-4
+unfolding operations happens
+returns-4 c =
+    λ firstOf table pairs group l.
+    let m = c .before .before in
+    let s = m .before .before in
+    let e = op (m .before) 11 (m .match .keys4) in
+    let g = leads s constant-formal-op e firstOf l in
+    did (way s firstOf) (scene s table pairs group) constant-formal-op e
+    (constant-did (way s firstOf) (scene s table pairs group) (c .do-constant-formal .ensures firstOf g))
+
 returns-5 : tie.Need-returns-5
 unfolding operations happens
 returns-5 c =
     λ firstOf table pairs group l.
     let m = c .before .before in
     let s = m .before .before in
-    let e = op (m .before) 11 (m .match .keys5) in
-    let g = leads s constant-formal-op e firstOf l in
-    did (way s firstOf) (scene s table pairs group) constant-formal-op e
-    (constant-did (way s firstOf) (scene s table pairs group) (c .do-constant-formal .ensures firstOf g))
-
-returns-6 : tie.Need-returns-6
-unfolding operations happens
-returns-6 c =
-    λ firstOf table pairs group l.
-    let m = c .before .before in
-    let s = m .before .before in
-    let e = op (m .before) 14 (m .match .keys6) in
+    let e = op (m .before) 14 (m .match .keys5) in
     let g = leads s goto-formal-op e firstOf l in
     did (way s firstOf) (scene s table pairs group) goto-formal-op e
     (goto-did (way s firstOf) (scene s table pairs group) (c .do-goto-formal .ensures firstOf g))
 
-returns-7 : tie.Need-returns-7
+returns-6 : tie.Need-returns-6
 unfolding operations happens
-returns-7 c =
+returns-6 c =
     λ firstOf table pairs group l.
     let m = c .before .before in
     let s = m .before .before in
@@ -172,7 +155,6 @@ act-one-spec =
     tie.close
     (tie.spec
     code-at-requires
-    do-constant-requires
     do-goto-requires
     do-block-requires
     do-call-requires
@@ -184,5 +166,4 @@ act-one-spec =
     returns-3
     returns-4
     returns-5
-    returns-6
-    returns-7)
+    returns-6)

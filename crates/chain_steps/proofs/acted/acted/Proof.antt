@@ -1,4 +1,4 @@
--- `acted` meets its contract: a walk of its MIR, by hand. A path for each class, or for several: `ones`, `branches`, `others`, `sums`.
+-- `acted` meets its contract: a walk of its MIR, by hand. A path for each class, or for several: `ones`, `branches`, `constants`, `others`, `sums`.
 use mathlib.Core.Path.{_≡_, refl, sym, ap, _∙_}
 use Prim.Native.Nat.{ℕ, zero, suc, _+_, _*_, _≤_, _<_, _^_}
 use native.Mathlib.Omega.{arith}
@@ -84,6 +84,10 @@ use Rattle.chain_statements.proofs.act_branch as act-branch
 use Rattle.chain_statements.proofs.act_branch.Symbol as act-branch-def
 use Rattle.chain_statements.proofs.act_branch.Symbol.{name as #act-branch}
 use Rattle.chain_statements.proofs.act_branch.Met as act-branch-thm
+use Rattle.chain_statements.proofs.do_constant as do-constant
+use Rattle.chain_statements.proofs.do_constant.Symbol as do-constant-def
+use Rattle.chain_statements.proofs.do_constant.Symbol.{name as #do-constant}
+use Rattle.chain_statements.proofs.do_constant.Met as do-constant-thm
 use Rattle.chain_steps.proofs.tabled.tabled as tabled
 use Rattle.chain_steps.proofs.tabled.tabled.Symbol as tabled-def
 use Rattle.chain_steps.proofs.tabled.tabled.Symbol.{name as #tabled}
@@ -171,6 +175,9 @@ Calls-first-cell 𝓤 H A mem run = tripleOf 𝓤 H A first-cell.signature (firs
 
 abbrev Calls-act-branch : {M : Type 1} (𝓤 : URA M) (H : Heap 𝓤) (A : Atoms 𝓤) → (Memory → SProp 𝓤) → (Routine → Fun 𝓤) → Contract 𝓤
 Calls-act-branch 𝓤 H A mem run = tripleOf 𝓤 H A act-branch.signature (act-branch.spec 𝓤 H A mem run)
+
+abbrev Calls-do-constant : {M : Type 1} (𝓤 : URA M) (H : Heap 𝓤) (A : Atoms 𝓤) → (Memory → SProp 𝓤) → (Routine → Fun 𝓤) → Contract 𝓤
+Calls-do-constant 𝓤 H A mem run = tripleOf 𝓤 H A do-constant.signature (do-constant.spec 𝓤 H A mem run)
 
 abbrev Calls-tabled : {M : Type 1} (𝓤 : URA M) (H : Heap 𝓤) (A : Atoms 𝓤) → (Memory → SProp 𝓤) → (Routine → Fun 𝓤) → Contract 𝓤
 Calls-tabled 𝓤 H A mem run = tripleOf 𝓤 H A tabled.signature (tabled.spec 𝓤 H A mem run)
@@ -293,6 +300,9 @@ module _ {M : Type 1} (𝓤 : URA M) (H : Heap 𝓤) (A : Atoms 𝓤) (W : Given
   for-act-branch ν δ a b = brw (shrRef Code) h-code code ∷ brw (shrRef Words) (relent h-words ν δ) words ∷ dat usizes (here .at) ∷ dat usizes a ∷ dat usizes b
       ∷ []
 
+  abbrev for-do-constant : ℕ → List Par
+  for-do-constant a = brw (shrRef Code) h-code code ∷ brw (mutRef Words) h-words words ∷ dat usizes (here .at) ∷ dat usizes a ∷ []
+
   abbrev for-tabled : ℕ → List Par
   for-tabled class = brw (shrRef Code) h-code code ∷ brw (mutRef Words) h-words words ∷ brw (shrSlice Rec) h-records records ∷ brw (mutSlice i32) h-table
       table ∷ dat words32 group ∷ dat nows here ∷ dat usizes own ∷ dat usizes class ∷ []
@@ -311,6 +321,7 @@ module _ {M : Type 1} (𝓤 : URA M) (H : Heap 𝓤) (A : Atoms 𝓤) (W : Given
       (known-act-one : Triple 𝓤 (C #act-one) (Calls-act-one 𝓤 H A mem run))
       (known-first-cell : Triple 𝓤 (C #first-cell) (Calls-first-cell 𝓤 H A mem run))
       (known-act-branch : Triple 𝓤 (C #act-branch) (Calls-act-branch 𝓤 H A mem run))
+      (known-do-constant : Triple 𝓤 (C #do-constant) (Calls-do-constant 𝓤 H A mem run))
       (known-tabled : Triple 𝓤 (C #tabled) (Calls-tabled 𝓤 H A mem run))
       (known-summed : Triple 𝓤 (C #summed) (Calls-summed 𝓤 H A mem run))
       (known-came-to : Triple 𝓤 (C #came-to) (Calls-came-to 𝓤 H A mem run)) where
@@ -318,30 +329,30 @@ module _ {M : Type 1} (𝓤 : URA M) (H : Heap 𝓤) (A : Atoms 𝓤) (W : Given
       abbrev E# : List (Ty × ℕ)
       E# = envAt (tysOf (mine.function .locals)) β
 
-      -- [the code; the records; the words; the table; the locals], of which 8 is the class, 9 the own first cell and 15 the test
+      -- [the code; the records; the words; the table; the locals], of which 8 is the class, 9 the own first cell and 17 the test
       abbrev Ctx : Bool → List (Item 𝓤)
       Ctx y = ‵ (In (shrRef Code) h-code code) ∷ ‵ (In (shrSlice Rec) h-records records) ∷ ‵ (In (mutRef Words) h-words words) ∷ ‵
           (In (mutSlice i32) h-table table) ∷ fr 𝓤 H (tysOf (mine.function .locals)) β (none ∷ some (h-code .val) ∷ some (h-words .val) ∷ some
           (h-records .val) ∷ some (h-table .val) ∷ some (vint w32 group) ∷ some (vint w64 limit) ∷ some (nows .val here) ∷ some (vint w64 class) ∷ some
-          (vint w64 own) ∷ none ∷ none ∷ none ∷ none ∷ none ∷ some (vbool y) ∷ []) ∷ []
+          (vint w64 own) ∷ none ∷ none ∷ none ∷ none ∷ none ∷ none ∷ none ∷ some (vbool y) ∷ []) ∷ []
 
       module _ (y : Bool) (q : Post 𝓤 H) (same : post 𝓤 H q returned ≡ atReturn 𝓤 H E# Kf returned) where
         ones : class ≡ 0 → Sq W (Ctx y) (runs C Λ E# (arm mir′.s-4) q)
         ones e =
             calls-by ! fm (Calls-only-hops 𝓤 H A mem run) known-only-hops (to for-only-hops) for-only-hops refl (g-here, tt) _
             (acts.next-there pre, acts.first-outer pre) (id⊢ 𝓤 _) usizes _ (λ v. id⊢ 𝓤 _) (and-then ! (var ! 4 1 refl refl tt) (and-then ! (var ! 4 7 refl refl tt) (no-more !))) (λ n _ g-n n-is _.
-            lands-in ! 4 17 refl tt (typed 𝓤 H A W usizes n g-n) $ move ! (1 ∷ []) $
+            lands-in ! 4 19 refl tt (typed 𝓤 H A W usizes n g-n) $ move ! (1 ∷ []) $
             calls-by ! fm (Calls-follow 𝓤 H A mem run) known-follow (to (for-follow n)) (for-follow n) refl (g-live, (g-n, tt)) _
-            (as-linked (linked (pre .running))) (id⊢ 𝓤 _) usizes _ (λ v. id⊢ 𝓤 _) (and-then ! (var ! 4 3 refl refl tt) (and-then ! (part ! 4 7 0 refl refl tt refl refl refl) (and-then ! (var ! 4 17 refl refl tt) (no-more !)))) (λ k _ g-k found _.
-            lands-in ! 4 16 refl tt (typed 𝓤 H A W usizes k g-k) $
-            puts ! 4 10 refl (bin ! (lit ! tt) (var ! 4 16 refl refl tt) (record { fits = cells-fit pre (sym is ∙ e) n n-is k found })) tt
+            (as-linked (linked (pre .running))) (id⊢ 𝓤 _) usizes _ (λ v. id⊢ 𝓤 _) (and-then ! (var ! 4 3 refl refl tt) (and-then ! (part ! 4 7 0 refl refl tt refl refl refl) (and-then ! (var ! 4 19 refl refl tt) (no-more !)))) (λ k _ g-k found _.
+            lands-in ! 4 18 refl tt (typed 𝓤 H A W usizes k g-k) $
+            puts ! 4 10 refl (bin ! (lit ! tt) (var ! 4 18 refl refl tt) (record { fits = cells-fit pre (sym is ∙ e) n n-is k found })) tt
             (tt, record { fits = cells-fit pre (sym is ∙ e) n n-is k found }) $
-            puts ! 4 18 refl (lent ! 4 2 refl refl tt) tt (tt, tt) $ move ! (1 ∷ 2 ∷ []) $
+            puts ! 4 20 refl (lent ! 4 2 refl refl tt) tt (tt, tt) $ move ! (1 ∷ 2 ∷ []) $
             -- [the code; the words; the records; the table; the locals]
             calls-by ! fm (Calls-act-one 𝓤 H A mem run) known-act-one (to (for-act-one (32 * k))) (for-act-one (32 * k)) refl
             (g-limit, (g-live, (g-at, (small (32 * k) (cells-fit pre (sym is ∙ e) n n-is k found), tt)))) _
             (one-asks pre (sym is ∙ e) n n-is k found) (id⊢ 𝓤 _) moves _ (λ v. id⊢ 𝓤 _)
-            (and-then ! (var ! 4 1 refl refl tt) (and-then ! (var ! 4 18 refl refl tt) (and-then ! (var ! 4 6 refl refl tt) (and-then ! (part ! 4 7 0 refl refl tt refl refl refl) (and-then ! (part ! 4 7 1 refl refl tt refl refl refl) (and-then ! (var ! 4 10 refl refl tt) (no-more !))))))) (λ r ws good did _.
+            (and-then ! (var ! 4 1 refl refl tt) (and-then ! (var ! 4 20 refl refl tt) (and-then ! (var ! 4 6 refl refl tt) (and-then ! (part ! 4 7 0 refl refl tt refl refl refl) (and-then ! (part ! 4 7 1 refl refl tt refl refl refl) (and-then ! (var ! 4 10 refl refl tt) (no-more !))))))) (λ r ws good did _.
             lands-in ! 4 11 refl tt (typed 𝓤 H A W moves r good) $
             calls-by ! fm (Calls-came-to 𝓤 H A mem run) known-came-to (to (for-came-to r)) (for-came-to r) refl (g-here, (good, tt)) (Unit {0}) tt
             (asks-all 𝓤 H A (for-came-to r) []) moveds _ (λ v. id⊢ 𝓤 _) (and-then ! (var ! 4 7 refl refl tt) (and-then ! (var ! 4 11 refl refl tt) (no-more !)))
@@ -360,12 +371,12 @@ module _ {M : Type 1} (𝓤 : URA M) (H : Heap 𝓤) (A : Atoms 𝓤) (W : Given
             (two-named pre (sym is ∙ e) .1, own-is) (id⊢ 𝓤 _) usizes _ (λ v. id⊢ 𝓤 _)
             (and-then ! (var ! 4 1 refl refl tt) (and-then ! (var ! 4 3 refl refl tt) (and-then ! (var ! 4 7 refl refl tt) (and-then ! (var ! 4 9 refl refl tt) (and-then ! (lit ! tt) (no-more !)))))) (λ b _ g-b b-is _.
             lands-in ! 4 13 refl tt (typed 𝓤 H A W usizes b g-b) $
-            puts ! 4 19 refl (lent ! 4 2 refl refl tt) tt (tt, tt) $
+            puts ! 4 21 refl (lent ! 4 2 refl refl tt) tt (tt, tt) $
             move ! (2 ∷ []) $ shares-ref ! tt Words h-words words (λ at-it ν δ. move ! (2 ∷ 0 ∷ []) $
             -- [the code; the words, lent; what waits for these; the records; the table; the locals]
             calls-by ! fm (Calls-act-branch 𝓤 H A mem run) known-act-branch (to (for-act-branch ν δ a b)) (for-act-branch ν δ a b) refl
             (g-at, (g-a, (g-b, tt))) _ (two-asks pre (sym is ∙ e) a b a-is b-is) (id⊢ 𝓤 _) moves _ (λ v. id⊢ 𝓤 _)
-            (and-then ! (var ! 5 1 refl refl tt) (and-then ! (var ! 5 19 refl refl tt) (and-then ! (part ! 5 7 1 refl refl tt refl refl refl) (and-then ! (var ! 5 12 refl refl tt) (and-then ! (var ! 5 13 refl refl tt) (no-more !)))))) (λ r ws good did _.
+            (and-then ! (var ! 5 1 refl refl tt) (and-then ! (var ! 5 21 refl refl tt) (and-then ! (part ! 5 7 1 refl refl tt refl refl refl) (and-then ! (var ! 5 12 refl refl tt) (and-then ! (var ! 5 13 refl refl tt) (no-more !)))))) (λ r ws good did _.
             lands-in ! 5 14 refl tt (typed 𝓤 H A W moves r good) $
             calls-by ! fm (Calls-came-to 𝓤 H A mem run) known-came-to (to (for-came-to r)) (for-came-to r) refl (g-here, (good, tt)) (Unit {0}) tt
             (asks-all 𝓤 H A (for-came-to r) []) moveds _ (λ v. id⊢ 𝓤 _) (and-then ! (var ! 5 7 refl refl tt) (and-then ! (var ! 5 14 refl refl tt) (no-more !)))
@@ -376,23 +387,42 @@ module _ {M : Type 1} (𝓤 : URA M) (H : Heap 𝓤) (A : Atoms 𝓤) (W : Given
             by ! (exits m words table refl g-m (so r m m-is (did firstOf table (here .pairs) group limit (here .live)
             (two-led pre (sym is ∙ e) a b a-is b-is)))))))))
 
-        others : 5 < class → Sq W (Ctx y) (runs C Λ E# (arm mir′.s-8) q)
-        others low =
+        constants : class ≡ 8 → Sq W (Ctx y) (runs C Λ E# (arm mir′.s-8) q)
+        constants e =
+            calls-by ! fm (Calls-first-cell 𝓤 H A mem run) known-first-cell (to (for-first-cell 1)) (for-first-cell 1) refl (g-here, (g-own, (small 1 (omega arith), tt))) _
+            (acts.stores pre (sym is ∙ e) .named, own-is) (id⊢ 𝓤 _) usizes _ (λ v. id⊢ 𝓤 _)
+            (and-then ! (var ! 4 1 refl refl tt) (and-then ! (var ! 4 3 refl refl tt) (and-then ! (var ! 4 7 refl refl tt) (and-then ! (var ! 4 9 refl refl tt) (and-then ! (lit ! tt) (no-more !)))))) (λ a _ g-a a-is _.
+            lands-in ! 4 15 refl tt (typed 𝓤 H A W usizes a g-a) $
+            puts ! 4 22 refl (lent ! 4 2 refl refl tt) tt (tt, tt) $ move ! (0 ∷ 2 ∷ []) $
+            -- [the code; the words; the records; the table; the locals]
+            calls-by ! fm (Calls-do-constant 𝓤 H A mem run) known-do-constant (to (for-do-constant a)) (for-do-constant a) refl (g-at, (g-a, tt)) _
+            (acts.stores pre (sym is ∙ e) .asks a a-is) (id⊢ 𝓤 _) moves _ (λ v. id⊢ 𝓤 _)
+            (and-then ! (var ! 4 1 refl refl tt) (and-then ! (var ! 4 22 refl refl tt) (and-then ! (part ! 4 7 1 refl refl tt refl refl refl) (and-then ! (var ! 4 15 refl refl tt) (no-more !))))) (λ r ws good did _.
+            lands-in ! 4 16 refl tt (typed 𝓤 H A W moves r good) $
+            calls-by ! fm (Calls-came-to 𝓤 H A mem run) known-came-to (to (for-came-to r)) (for-came-to r) refl (g-here, (good, tt)) (Unit {0}) tt
+            (asks-all 𝓤 H A (for-came-to r) []) moveds _ (λ v. id⊢ 𝓤 _) (and-then ! (var ! 4 7 refl refl tt) (and-then ! (var ! 4 16 refl refl tt) (no-more !)))
+            (λ m _ g-m m-is _.
+            lands-in ! 4 0 refl tt (typed 𝓤 H A W moveds m g-m) $ ends-early ! 4 Kf same refl refl tt $
+            move ! (3 ∷ []) $ gives ! (mutSlice i32) h-table table $ move ! (1 ∷ 2 ∷ 3 ∷ []) $
+            by ! (exits m (ws .1 .0) table refl g-m (so r m m-is (acts.stores pre (sym is ∙ e) .did (did firstOf a-is)))))))
+
+        others : 5 < class → (class ≡ 8 → ⊥) → Sq W (Ctx y) (runs C Λ E# (arm mir′.s-10) q)
+        others low other =
             let w : Tabling code words records table group here own class =
-            record { limit = limit; stating = pre; chosen = record { own-is = refl; class-is = is }; low = low } in
-            puts ! 4 20 refl (lent ! 4 2 refl refl tt) tt (tt, tt) $
-            puts ! 4 21 refl (lent-ptr ! 4 4 refl refl tt refl refl) tt (tt, tt) $
-            puts ! 4 22 refl (lent-slice ! 4 4 21 refl refl refl tt tt refl refl) tt (tt, (tt, (record { fits = room-table .0 }, tt))) $
+            record { limit = limit; stating = pre; chosen = record { own-is = refl; class-is = is }; low = low; other = other } in
+            puts ! 4 23 refl (lent ! 4 2 refl refl tt) tt (tt, tt) $
+            puts ! 4 24 refl (lent-ptr ! 4 4 refl refl tt refl refl) tt (tt, tt) $
+            puts ! 4 25 refl (lent-slice ! 4 4 24 refl refl refl tt tt refl refl) tt (tt, (tt, (record { fits = room-table .0 }, tt))) $
             move ! (0 ∷ 2 ∷ []) $
             -- [the code; the words; the records; the table; the locals]
             calls-by ! fm (Calls-tabled 𝓤 H A mem run) known-tabled (to (for-tabled class)) (for-tabled class) refl
             (g-group, (g-here, (g-own, (g-class, tt)))) _ w (id⊢ 𝓤 _) moveds _ (λ v. id⊢ 𝓤 _)
-            (and-then ! (var ! 4 1 refl refl tt) (and-then ! (var ! 4 20 refl refl tt) (and-then ! (var ! 4 3 refl refl tt) (and-then ! (var ! 4 22 refl refl tt) (and-then ! (var ! 4 5 refl refl tt) (and-then ! (var ! 4 7 refl refl tt) (and-then ! (var ! 4 9 refl refl tt) (and-then ! (var ! 4 8 refl refl tt) (no-more !)))))))))
+            (and-then ! (var ! 4 1 refl refl tt) (and-then ! (var ! 4 23 refl refl tt) (and-then ! (var ! 4 3 refl refl tt) (and-then ! (var ! 4 25 refl refl tt) (and-then ! (var ! 4 5 refl refl tt) (and-then ! (var ! 4 7 refl refl tt) (and-then ! (var ! 4 9 refl refl tt) (and-then ! (var ! 4 8 refl refl tt) (no-more !)))))))))
             (λ m ws g-m did same-long.
             lands-in ! 4 0 refl tt (typed 𝓤 H A W moveds m g-m) $ ends-early ! 4 Kf same refl refl tt $
             by ! (exits m (ws .1 .0) (ws .1 .1 .1 .0) (same-long .1 .1 .1 .0) g-m (did w)))
 
-      sums : (y : Bool) → (1 ≤ class) × (class ≤ 4) → Sq W (Ctx y) (runs C Λ E# mir′.t-9 (atRet E# Kf))
+      sums : (y : Bool) → (1 ≤ class) × (class ≤ 4) → Sq W (Ctx y) (runs C Λ E# mir′.t-11 (atRet E# Kf))
       sums y within =
           let w : Summing code words records here own class =
           record {
@@ -404,11 +434,11 @@ module _ {M : Type 1} (𝓤 : URA M) (H : Heap 𝓤) (A : Atoms 𝓤) (W : Given
             low = within .0;
             high = within .1;
           } in
-          puts ! 4 23 refl (lent ! 4 2 refl refl tt) tt (tt, tt) $ move ! (0 ∷ 2 ∷ []) $
+          puts ! 4 26 refl (lent ! 4 2 refl refl tt) tt (tt, tt) $ move ! (0 ∷ 2 ∷ []) $
           -- [the code; the words; the records; the table; the locals]
           calls-by ! fm (Calls-summed 𝓤 H A mem run) known-summed (to (for-summed class)) (for-summed class) refl (g-here, (g-own, (g-class, tt))) _ w
           (id⊢ 𝓤 _) moveds _ (λ v. id⊢ 𝓤 _)
-          (and-then ! (var ! 4 1 refl refl tt) (and-then ! (var ! 4 23 refl refl tt) (and-then ! (var ! 4 3 refl refl tt) (and-then ! (var ! 4 7 refl refl tt) (and-then ! (var ! 4 9 refl refl tt) (and-then ! (var ! 4 8 refl refl tt) (no-more !))))))) (λ m ws g-m did _.
+          (and-then ! (var ! 4 1 refl refl tt) (and-then ! (var ! 4 26 refl refl tt) (and-then ! (var ! 4 3 refl refl tt) (and-then ! (var ! 4 7 refl refl tt) (and-then ! (var ! 4 9 refl refl tt) (and-then ! (var ! 4 8 refl refl tt) (no-more !))))))) (λ m ws g-m did _.
           lands-in ! 4 0 refl tt (typed 𝓤 H A W moveds m g-m) $ ends ! 4 refl refl tt $
           move ! (3 ∷ []) $ gives ! (mutSlice i32) h-table table $ move ! (1 ∷ 2 ∷ 3 ∷ []) $
           by ! (exits m (ws .1 .0) table refl g-m (did w)))
@@ -432,14 +462,16 @@ module _ {M : Type 1} (𝓤 : URA M) (H : Heap 𝓤) (A : Atoms 𝓤) (W : Given
         (λ v. id⊢ 𝓤 _) (and-then ! (var ! 4 1 refl refl tt) (and-then ! (part ! 4 7 1 refl refl tt refl refl refl) (no-more !))) (λ class _ g-class is _.
         lands-in ! 4 8 refl tt (typed 𝓤 H A W usizes class g-class) $
         puts ! 4 9 refl (bin ! (lit ! tt) (part ! 4 7 0 refl refl tt refl refl refl) (record { fits = own-fits })) tt (tt, record { fits = own-fits }) $
-        puts ! 4 15 refl (bin ! (var ! 4 8 refl refl tt) (lit ! tt) tt) tt (tt, tt) $ if-then ! (var ! 4 15 refl refl tt)
+        puts ! 4 17 refl (bin ! (var ! 4 8 refl refl tt) (lit ! tt) tt) tt (tt, tt) $ if-then ! (var ! 4 17 refl refl tt)
         (λ y. ones β class g-class is _ _ refl (eqb→eq class 0 y)) (λ not-one.
-        puts ! 4 15 refl (bin ! (var ! 4 8 refl refl tt) (lit ! tt) tt) tt (tt, tt) $ if-then ! (var ! 4 15 refl refl tt)
+        puts ! 4 17 refl (bin ! (var ! 4 8 refl refl tt) (lit ! tt) tt) tt (tt, tt) $ if-then ! (var ! 4 17 refl refl tt)
         (λ y. branches β class g-class is _ _ refl (eqb→eq class 5 y)) (λ not-branch.
-        puts ! 4 15 refl (bin ! (lit ! tt) (var ! 4 8 refl refl tt) tt) tt (tt, tt) $ if-then ! (var ! 4 15 refl refl tt)
-        (λ y. others β class g-class is _ _ refl (ltb→lt 5 class y)) (λ not-more.
+        puts ! 4 17 refl (bin ! (var ! 4 8 refl refl tt) (lit ! tt) tt) tt (tt, tt) $ if-then ! (var ! 4 17 refl refl tt)
+        (λ y. constants β class g-class is _ _ refl (eqb→eq class 8 y)) (λ not-constant.
+        puts ! 4 17 refl (bin ! (lit ! tt) (var ! 4 8 refl refl tt) tt) tt (tt, tt) $ if-then ! (var ! 4 17 refl refl tt)
+        (λ y. others β class g-class is _ _ refl (ltb→lt 5 class y) (eqb-false class 8 (untold _ not-constant))) (λ not-more.
         sums β class g-class is _ (sums-left class (eqb-false class 0 (untold _ not-one)) (eqb-false class 5 (untold _ not-branch))
-        (λ l. T-not (ltb 5 class) not-more (lt→ltb 5 class l)))))))))
+        (λ l. T-not (ltb 5 class) not-more (lt→ltb 5 class l))))))))))
 
 module _ {M : Type 1} (𝓤 : URA M) (H : Heap 𝓤) (A : Atoms 𝓤) (W : Given 𝓤 H A) (mem : Memory → SProp 𝓤) (run : Routine → Fun 𝓤) (𝓣 : Tables 𝓤 H)
     (known-class-of : Triple 𝓤 (𝓣 .C #class-of) (Calls-class-of 𝓤 H A mem run))
@@ -448,6 +480,7 @@ module _ {M : Type 1} (𝓤 : URA M) (H : Heap 𝓤) (A : Atoms 𝓤) (W : Given
     (known-act-one : Triple 𝓤 (𝓣 .C #act-one) (Calls-act-one 𝓤 H A mem run))
     (known-first-cell : Triple 𝓤 (𝓣 .C #first-cell) (Calls-first-cell 𝓤 H A mem run))
     (known-act-branch : Triple 𝓤 (𝓣 .C #act-branch) (Calls-act-branch 𝓤 H A mem run))
+    (known-do-constant : Triple 𝓤 (𝓣 .C #do-constant) (Calls-do-constant 𝓤 H A mem run))
     (known-tabled : Triple 𝓤 (𝓣 .C #tabled) (Calls-tabled 𝓤 H A mem run))
     (known-summed : Triple 𝓤 (𝓣 .C #summed) (Calls-summed 𝓤 H A mem run))
     (known-came-to : Triple 𝓤 (𝓣 .C #came-to) (Calls-came-to 𝓤 H A mem run)) where
@@ -459,7 +492,7 @@ module _ {M : Type 1} (𝓤 : URA M) (H : Heap 𝓤) (A : Atoms 𝓤) (W : Given
       (a .1 .1 .1 .1 .1 .1 .0)) _ (λ l. walk 𝓤 H A W mem run (κs .0) (κs .1 .0) (κs .1 .1 .0) (κs .1 .1 .1 .0) (qs .0) (qs .1 .0) (qs .1 .1 .0) (qs .1 .1 .1 .0)
       (a .0) (a .1 .0) (a .1 .1 .0) (a .1 .1 .1 .0) (a .1 .1 .1 .1 .0) (a .1 .1 .1 .1 .1 .0) (a .1 .1 .1 .1 .1 .1 .0)
       (are .1 .1 .0 .0 .1) (are .1 .1 .1 .0 .0 .1) (are .1 .1 .1 .1 .0) (are .1 .1 .1 .1 .1 .0) (are .1 .1 .1 .1 .1 .1 .0) l (𝓣 .C) (𝓣 .Λ) (fmOf 𝓤 H (W .laws) 𝓣)
-      known-class-of known-only-hops known-follow known-act-one known-first-cell known-act-branch known-tabled known-summed known-came-to))
+      known-class-of known-only-hops known-follow known-act-one known-first-cell known-act-branch known-do-constant known-tabled known-summed known-came-to))
 
   meets : Meets 𝓤 H A f.signature (WpFn 𝓤 H (𝓣 .C) (𝓣 .Λ) mine.function) (f.spec 𝓤 H A mem run)
   meets = walk-meets 𝓤 H A f.ended stayed W (goes-none-ref 𝓤 H A W 4 (0 ∷ []) tt (arrayOf (plain (λ _. u32)) 4096) yes, (goes-gave-ref 𝓤 H A W 4 1 tt (arrayOf (plain (λ _. i32)) 8224), (goes-none-slice 𝓤 H A W 4 (2 ∷ []) tt (plain (λ _. recs .type)) yes, (goes-gave-slice 𝓤 H A W 4 3 tt (plain (λ _. i32)), (goes-none 𝓤 H A W 4 (λ _. words32 .type) yes (λ κs x f. refl), (goes-none 𝓤 H A W 4 (λ _. usizes .type) yes (λ κs x f. refl), (goes-none 𝓤 H A W 4 (λ _. nows .type) yes (λ κs x f. refl), tt)))))))
@@ -477,6 +510,7 @@ acted-spec 𝓤 H 𝓜 𝓖 𝓡 =
     (cited 𝓤 H (Calls-act-one 𝓤 H (𝓖 .A) (𝓜 .mem) (𝓡 .run)) 𝓜 𝓡 mine.env #act-one act-one-def.routine mine.calls-chain-statements·act-one (act-one-thm.met 𝓤 H 𝓜 𝓖 𝓡))
     (cited 𝓤 H (Calls-first-cell 𝓤 H (𝓖 .A) (𝓜 .mem) (𝓡 .run)) 𝓜 𝓡 mine.env #first-cell first-cell-def.routine mine.calls-links·first-cell (first-cell-thm.met 𝓤 H 𝓜 𝓖 𝓡))
     (cited 𝓤 H (Calls-act-branch 𝓤 H (𝓖 .A) (𝓜 .mem) (𝓡 .run)) 𝓜 𝓡 mine.env #act-branch act-branch-def.routine mine.calls-chain-statements·act-branch (act-branch-thm.met 𝓤 H 𝓜 𝓖 𝓡))
+    (cited 𝓤 H (Calls-do-constant 𝓤 H (𝓖 .A) (𝓜 .mem) (𝓡 .run)) 𝓜 𝓡 mine.env #do-constant do-constant-def.routine mine.calls-chain-statements·do-constant (do-constant-thm.met 𝓤 H 𝓜 𝓖 𝓡))
     (cited 𝓤 H (Calls-tabled 𝓤 H (𝓖 .A) (𝓜 .mem) (𝓡 .run)) 𝓜 𝓡 mine.env #tabled tabled-def.routine mine.calls-chain-steps·tabled·tabled (tabled-thm.met 𝓤 H 𝓜 𝓖 𝓡))
     (cited 𝓤 H (Calls-summed 𝓤 H (𝓖 .A) (𝓜 .mem) (𝓡 .run)) 𝓜 𝓡 mine.env #summed summed-def.routine mine.calls-chain-steps·summed·summed (summed-thm.met 𝓤 H 𝓜 𝓖 𝓡))
     (cited 𝓤 H (Calls-came-to 𝓤 H (𝓖 .A) (𝓜 .mem) (𝓡 .run)) 𝓜 𝓡 mine.env #came-to came-to-def.routine mine.calls-chain-steps·turn·came-to (came-to-thm.met 𝓤 H 𝓜 𝓖 𝓡)))

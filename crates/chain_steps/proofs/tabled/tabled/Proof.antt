@@ -195,7 +195,7 @@ module _ {M : Type 1} (𝓤 : URA M) (H : Heap 𝓤) (A : Atoms 𝓤) (W : Given
   is-class n e = sym (pre .chosen .class-is) ∙ e
 
   seven : (class ≡ 6 → ⊥) → class ≡ 7
-  seven d = acts.seven-left (pre .stating) class (acts.by-class (pre .stating) class (sym (pre .chosen .class-is))) (pre .low) d
+  seven d = acts.seven-left (pre .stating) class (acts.by-class (pre .stating) class (sym (pre .chosen .class-is))) (pre .low) d (pre .other)
 
   asking : (w : W#) → class ≡ 7 → acts.Query (w .stating)
   asking w e = acts.queries (w .stating) (sym (w .chosen .class-is) ∙ e)
