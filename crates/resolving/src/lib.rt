@@ -1,5 +1,6 @@
 // The resolved script, computed from the script's bytes. The walk is safe on any bytes: only its answer asks for a script that the check
 // accepts.
+use symbols::empty_chains;
 use walk::block;
 ghost use mathlib.Core.Path.{_≡_};
 ghost use lib.ListN.{replicate};
@@ -15,7 +16,8 @@ pub fn resolve(script: &[u8], name: usize, code: &mut [u32])
     if 8192 < script.len() {
         return;
     }
-    let mut entries = [1280usize; 1280];
+    let mut entries = [0usize; 1280];
+    empty_chains(&mut entries);
     let mut ends = [0u32; 683];
     let mut starts = [0u32; 2048];
     block(

@@ -3,6 +3,7 @@
 use language::Refusal;
 use language::Verdict;
 use records::Progress;
+use symbols::empty_chains;
 use walk::block;
 ghost use mathlib.Core.Path.{_≡_};
 ghost use Prim.Native.Nat.{_≤_};
@@ -30,7 +31,8 @@ pub fn scope_verdict(script: &[u8]) -> Verdict
     if 8192 < script.len() {
         return Verdict::Refused(Refusal::ScriptLength, 0);
     }
-    let mut entries = [1280usize; 1280];
+    let mut entries = [0usize; 1280];
+    empty_chains(&mut entries);
     let mut ends = [0u32; 683];
     settled(block(script, &mut entries, &mut ends, 0, 0, 1280))
 }

@@ -13,6 +13,18 @@ pub enum Binding {
     Nothing,
 }
 
+// No chain has an entry. What the other places hold is not read before it is written, so an array need not be filled with more than zeros.
+pub fn empty_chains(entries: &mut [usize])
+    requires { ⌜ length (now entries) ≡ 1280 ⌝ }
+    ensures { λ _. ⌜ Chained (now (entries .exit)) 1280 ⌝ }
+{
+    let mut h = 0;
+    while h < 256 {
+        entries[h] = 1280;
+        h += 1;
+    }
+}
+
 // The first entry from `top` on that can have a name.
 fn first(entries: &[usize], top: usize, name: usize) -> usize
     requires { ⌜ Chained (now entries) top ⌝ }
