@@ -5,6 +5,14 @@ use copy_arms::do_call;
 use copy_arms::do_constant;
 use copy_arms::do_goto;
 use copy_arms::field;
+use marks::AD;
+use marks::AR;
+use marks::BK;
+use marks::CL;
+use marks::GO;
+use marks::IF;
+use marks::KN;
+use marks::RM;
 use membership::do_add_pair;
 use membership::do_query;
 use membership::do_remove_pair;
@@ -20,22 +28,6 @@ mod membership;
 mod moved;
 
 pub use moved::Moved;
-
-const AR: usize = 0x5241;
-
-const IF: usize = 0x4649;
-
-const KN: usize = 0x4e4b;
-
-const CL: usize = 0x4c43;
-
-const GO: usize = 0x4f47;
-
-const BK: usize = 0x4b42;
-
-const AD: usize = 0x4441;
-
-const RM: usize = 0x4d52;
 
 pub fn act(
     code: &[u32; 4096],

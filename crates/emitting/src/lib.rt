@@ -1,9 +1,11 @@
 // The words of a statement of the resolved script, written at their places. All is safe on any bytes.
+use marks::AD;
 use marks::AR;
 use marks::CL;
 use marks::GO;
 use marks::IF;
 use marks::KN;
+use marks::RM;
 use words::word;
 use writing::put;
 use writing::put_five;
@@ -22,10 +24,6 @@ ghost use Rattle.resolved.specs.Resolved.{chosen, formalIn};
 ghost use Rattle.writing.specs.Growth.{Grown};
 ghost use Rattle.writing.specs.Visible.{AllShort};
 ghost use Rattle.emitting.specs.Emitted.{knWords, arWords, ifWords, goWords, clWords, pairWords, qyWords, argumentWords, Emitted};
-
-const AD: usize = 0x4441;
-
-const RM: usize = 0x4d52;
 
 // Whether a word is a formal's: 1, or 0.
 fn formal(w: usize) -> usize

@@ -1,21 +1,19 @@
 // The word of the name in each field of a script, taken from the resolved script, which has it at the same place in all records but IF. All is
 // safe on any bytes.
 use extents::pass;
+use marks::AD;
 use marks::AR;
 use marks::BK;
 use marks::CL;
 use marks::IF;
 use marks::QY;
+use marks::RM;
 use words::word;
 ghost use mathlib.Core.Path.{_≡_};
 ghost use Prim.Native.Nat.{_+_, _<_, _≤_};
 ghost use lib.ListN.{length, replicate};
 ghost use Rattle.laws.specs.Fields.{fieldAt};
 ghost use Rattle.governed.specs.Governing as governing;
-
-const AD: usize = 0x4441;
-
-const RM: usize = 0x4d52;
 
 // So many words from a place on. Past the end nothing is written.
 fn take(code: &[u32; 4096], names: &mut [u32; 4096], from: usize, count: usize)
