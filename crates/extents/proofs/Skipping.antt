@@ -17,14 +17,6 @@ use Rattle.extents.specs.declared.passing.Step.{Step}
 use Rattle.extents.proofs.Inside.{items-append, item-opens, head-size, child-count, head-marked}
 
 -- a head by its mark
-pub size-BK : (a : ℕ) → headSize BK-mark a ≡ 6
-unfolding headSize fieldCount fitAt fitIn stmtMarks
-size-BK a = refl
-
-pub size-PR : (a : ℕ) → headSize PR-mark a ≡ 6
-unfolding headSize fieldCount fitAt fitIn stmtMarks declMarks
-size-PR a = refl
-
 pub count-CL : (w : ℕ) → w ≡ CL-mark → fieldCount w ≡ 2
 unfolding fieldCount fitAt fitIn stmtMarks
 count-CL w e = rw e
@@ -40,18 +32,6 @@ size-other w a e = rw (ne-eqb w CL-mark e, headSize)
 pub child-other : (w d a : ℕ) → (w ≡ BK-mark → ⊥) → (w ≡ PR-mark → ⊥) → childCount w d a ≡ 0
 unfolding childCount
 child-other w d a e f = rw (ne-eqb w BK-mark e, ne-eqb w PR-mark f, childCount)
-
--- a VR, which holds no other record
-pub variable-alone : (bs : List ℕ) (at : ℕ) → fieldAt bs at ≡ VR-mark → Alone bs at (at + 4)
-unfolding headSize childCount fieldCount fitAt fitIn stmtMarks declMarks
-variable-alone bs at m =
-    record {
-      next-is = sym (ap (λ (x : ℕ). at + headSize x (fieldAt bs (at + 4))) m);
-      more-is = sym (ap (λ (x : ℕ). childCount x (fieldAt bs (at + 2)) (fieldAt bs (at + 4))) m);
-      on = omega arith;
-      near = omega arith;
-      few = omega arith;
-    }
 
 module _ (bs : List ℕ) (at : ℕ) (x : Item) where
   alone : itemsFields (x ∷ []) ≡ itemFields x
@@ -127,24 +107,32 @@ module _ (bs : List ℕ) (at : ℕ) (x : Item) where
     pub left-whole : Left bs at here pending x → Left bs at end (pending - 1 + 0) x
     left-whole l = whole-on (l .items) (l .number) (l .stand) (l .reach)
 
--- declarations that hold no other record, by their marks
+-- a head whose size its mark settles
 module _ (bs : List ℕ) (at : ℕ) where
-  passed-alone : (w size : ℕ) → fieldAt bs at ≡ w → ((a : ℕ) → headSize w a ≡ size) → ((d a : ℕ) → childCount w d a ≡ 0) → 2 ≤ size → size ≤ 131076 → Passed bs at (record { next = at + size; more = 0 })
-  passed-alone w size m head children low high = record {
+  passed-by : (w size more : ℕ) → fieldAt bs at ≡ w → ((a : ℕ) → headSize w a ≡ size) → more ≡ childCount w (fieldAt bs (at + 2)) (fieldAt bs (at + 4)) → 2 ≤ size → size ≤ 131076 → more ≤ 131070 → Passed bs at (record { next = at + size; more = more })
+  passed-by w size more m head children low high few = record {
     next-is = ap (λ (k : ℕ). at + k) (sym (ap (λ (x : ℕ). headSize x (fieldAt bs (at + 4))) m ∙ head (fieldAt bs (at + 4))));
-    more-is = sym (ap (λ (x : ℕ). childCount x (fieldAt bs (at + 2)) (fieldAt bs (at + 4))) m ∙ children (fieldAt bs (at + 2)) (fieldAt bs (at + 4)));
+    more-is = children ∙ sym (ap (λ (x : ℕ). childCount x (fieldAt bs (at + 2)) (fieldAt bs (at + 4))) m);
     on = omega arith;
     near = omega arith;
-    few = omega arith;
+    few = few;
   }
 
-  pub passed-VR : fieldAt bs at ≡ VR-mark → Passed bs at (record { next = at + 4; more = 0 })
-  unfolding headSize childCount fieldCount fitAt fitIn stmtMarks declMarks
-  passed-VR m = passed-alone VR-mark 4 m (λ a. refl) (λ d a. refl) (omega arith) (omega arith)
+  pub passed-BK : (more : ℕ) → fieldAt bs at ≡ BK-mark → more ≡ fieldAt bs (at + 2) + fieldAt bs (at + 4) → more ≤ 131070 → Passed bs at (record { next = at + 6; more = more })
+  unfolding headSize childCount fieldCount fitAt fitIn stmtMarks
+  passed-BK more m e few = passed-by BK-mark 6 more m (λ a. refl) e (omega arith) (omega arith) few
 
-  pub passed-LB : fieldAt bs at ≡ LB-mark → Passed bs at (record { next = at + 6; more = 0 })
+  pub passed-PR : (more : ℕ) → fieldAt bs at ≡ PR-mark → more ≡ fieldAt bs (at + 4) + 1 → more ≤ 131070 → Passed bs at (record { next = at + 6; more = more })
   unfolding headSize childCount fieldCount fitAt fitIn stmtMarks declMarks
-  passed-LB m = passed-alone LB-mark 6 m (λ a. refl) (λ d a. refl) (omega arith) (omega arith)
+  passed-PR more m e few = passed-by PR-mark 6 more m (λ a. refl) e (omega arith) (omega arith) few
+
+  pub passed-VR : fieldAt bs at ≡ VR-mark → Alone bs at (at + 4)
+  unfolding headSize childCount fieldCount fitAt fitIn stmtMarks declMarks
+  passed-VR m = passed-by VR-mark 4 0 m (λ a. refl) refl (omega arith) (omega arith) (omega arith)
+
+  pub passed-LB : fieldAt bs at ≡ LB-mark → Alone bs at (at + 6)
+  unfolding headSize childCount fieldCount fitAt fitIn stmtMarks declMarks
+  passed-LB m = passed-by LB-mark 6 0 m (λ a. refl) refl (omega arith) (omega arith) (omega arith)
 
 -- past the end of the script, and where nothing stands inside
 pub skipped-out : (bs : List ℕ) (at : ℕ) → length bs ≤ at → Skipped bs at at

@@ -2,8 +2,9 @@
 // inside others is passed once and not again for each procedure around it. No two procedures begin within 12 bytes: a PR and the BK of
 // its body have 6 each.
 use super::passing::Step;
-use super::passing::pass;
+use super::passing::block_head;
 use super::passing::past;
+use super::passing::procedure_head;
 use marks::BK;
 use marks::PR;
 use marks::VR;
@@ -13,7 +14,9 @@ ghost use mathlib.Core.Path.{_≡_};
 ghost use mathlib.Core.List.{List};
 ghost use Prim.Native.Nat.{ℕ, _+_, _/_, _%_, _<_, _≤_};
 ghost use lib.ListN.{length, getD};
-ghost use Rattle.extents.specs.Passing.{Skipped, Stepped, Ends};
+ghost use Rattle.language.specs.Encoding.{PR-mark};
+ghost use Rattle.laws.specs.Fields.{fieldAt};
+ghost use Rattle.extents.specs.Passing.{Passed, Skipped, Stepped, Ends};
 
 fn unpacked(x: u32) -> usize
     ensures { λ r. ⌜ r ≡ x ⌝ }
@@ -52,20 +55,25 @@ fn over(script: &[u8], ends: &mut [u32; 683], at: usize) -> Step
     let mark = word(script, at);
     if mark == PR {
         return Step {
-            next: fill(script, ends, at),
+            next: fill(script, ends, at, procedure_head(script, at)),
             more: 0,
         };
     }
-    pass(script, at, mark)
+    if mark == BK {
+        return block_head(script, at);
+    }
+    Step {
+        next: past(script, at, mark),
+        more: 0,
+    }
 }
 
-// Where the record at an offset ends. The ends of the procedures inside it are noted, and its own.
-fn fill(script: &[u8], ends: &mut [u32; 683], at: usize) -> usize
-    requires { ⌜ (length (now script) ≤ 8192) × (at < length (now script)) × Ends (now script) (now ends) ⌝ }
+// Where the record at an offset ends, from the step over its head on. The ends of the procedures inside it are noted, and its own.
+fn fill(script: &[u8], ends: &mut [u32; 683], at: usize, first: Step) -> usize
+    requires { ⌜ (length (now script) ≤ 8192) × (at < length (now script)) × Ends (now script) (now ends) × Passed (now script) at first ⌝ }
     ensures skipped { λ r. ⌜ Skipped (now (script .entry)) at r × (at + 2 ≤ r) ⌝ }
     ensures noted { λ r. ⌜ Ends (now (script .entry)) (now (ends .exit)) ⌝ }
 {
-    let first = pass(script, at, word(script, at));
     let mut here = first.next;
     let mut pending = first.more;
     while 0 < pending {
@@ -82,7 +90,7 @@ fn fill(script: &[u8], ends: &mut [u32; 683], at: usize) -> usize
 
 // Where the procedure at an offset ends.
 fn procedure(script: &[u8], ends: &mut [u32; 683], at: usize) -> usize
-    requires { ⌜ (length (now script) ≤ 8192) × (at < length (now script)) × Ends (now script) (now ends) ⌝ }
+    requires { ⌜ (length (now script) ≤ 8192) × (at < length (now script)) × Ends (now script) (now ends) × (fieldAt (now script) at ≡ PR-mark) ⌝ }
     ensures skipped { λ r. ⌜ Skipped (now (script .entry)) at r ⌝ }
     ensures noted { λ r. ⌜ Ends (now (script .entry)) (now (ends .exit)) ⌝ }
 {
@@ -90,7 +98,7 @@ fn procedure(script: &[u8], ends: &mut [u32; 683], at: usize) -> usize
     if 0 < end {
         return end;
     }
-    fill(script, ends, at)
+    fill(script, ends, at, procedure_head(script, at))
 }
 
 // Where the record at an offset ends. A variable is known before the table of marks is searched.
@@ -107,7 +115,7 @@ pub fn skip(script: &[u8], ends: &mut [u32; 683], at: usize) -> usize
         return procedure(script, ends, at);
     }
     if mark == BK {
-        return fill(script, ends, at);
+        return fill(script, ends, at, block_head(script, at));
     }
     if mark == VR {
         return at + VR_BYTES;

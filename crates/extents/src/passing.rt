@@ -30,22 +30,38 @@ pub fn past(script: &[u8], at: usize, mark: usize) -> usize
     end
 }
 
-// Past the head of a record.
+// Past the head of a BK.
+pub fn block_head(script: &[u8], at: usize) -> Step
+    requires { ⌜ (at < 2 ^ 32) × (fieldAt (now script) at ≡ BK-mark) ⌝ }
+    ensures { λ r. ⌜ Passed (now (script .entry)) at r ⌝ }
+{
+    Step {
+        next: at + BK_BYTES,
+        more: word(script, at + 2) + word(script, at + 4),
+    }
+}
+
+// Past the head of a PR.
+pub fn procedure_head(script: &[u8], at: usize) -> Step
+    requires { ⌜ (at < 2 ^ 32) × (fieldAt (now script) at ≡ PR-mark) ⌝ }
+    ensures { λ r. ⌜ Passed (now (script .entry)) at r ⌝ }
+{
+    Step {
+        next: at + PR_BYTES,
+        more: word(script, at + 4) + 1,
+    }
+}
+
+// Past the head of a record. The functions of `ends` go by the mark themselves and do not call this, so that all is compiled into them.
 pub fn pass(script: &[u8], at: usize, mark: usize) -> Step
     requires { ⌜ (at < 2 ^ 32) × (mark < 65536) × (mark ≡ fieldAt (now script) at) ⌝ }
     ensures { λ r. ⌜ Passed (now (script .entry)) at r ⌝ }
 {
     if mark == BK {
-        return Step {
-            next: at + BK_BYTES,
-            more: word(script, at + 2) + word(script, at + 4),
-        };
+        return block_head(script, at);
     }
     if mark == PR {
-        return Step {
-            next: at + PR_BYTES,
-            more: word(script, at + 4) + 1,
-        };
+        return procedure_head(script, at);
     }
     Step {
         next: past(script, at, mark),

@@ -22,6 +22,6 @@ module _ (w : ℕ) where
       unfolding fieldCount
       count-formal n m e = rw (no-statement, no-declaration, e, fieldCount)
 
-      pub count-none : fitAt Formal w ≡ Nothing → fieldCount w ≡ 0
+      pub count-none : fitAt Formal w ≡ Nothing → fieldCount w ≡ 2
       unfolding fieldCount
       count-none e = rw (no-statement, no-declaration, e, fieldCount)

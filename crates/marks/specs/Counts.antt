@@ -9,6 +9,6 @@ abbrev pub countOr : Fit → ℕ → ℕ
 countOr (Matched n m) d = n
 countOr Nothing d = d
 
--- of a block's mark too, which is a statement's; 0 for letters that are no mark
+-- of a block's mark too, which is a statement's; 2, as most have, for letters that are no mark
 unfoldable pub fieldCount : ℕ → ℕ
-fieldCount w = countOr (fitAt Statement w) (countOr (fitAt Declaration w) (countOr (fitAt Formal w) 0))
+fieldCount w = countOr (fitAt Statement w) (countOr (fitAt Declaration w) (countOr (fitAt Formal w) 2))

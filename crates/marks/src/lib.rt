@@ -221,7 +221,8 @@ pub fn as_usize(x: u8) -> usize
     x as usize
 }
 
-// The number of fields after a mark, wherever it may stand; 0 for letters that are no mark.
+// The number of fields after a mark, wherever it may stand; 2, as most have, for letters that are no mark, so that the compiled code compares
+// only with the marks that have another number.
 pub fn field_count(letters: u32) -> usize
     ensures { λ r. ⌜ (r ≡ fieldCount letters) × (r < 256) ⌝ }
 {
@@ -234,5 +235,5 @@ pub fn field_count(letters: u32) -> usize
     if let Fit::Matched { count, .. } = find_mark(letters, Place::Formal) {
         return as_usize(count);
     }
-    0
+    2
 }

@@ -1,4 +1,4 @@
--- `records::marks::field_count` meets its contract: each place's rows in turn. Assumes nothing.
+-- `marks::field_count` meets its contract: each place's rows in turn. Assumes nothing.
 use mathlib.Core.Path.{sym, _∙_}
 use Rattle.marks.proofs.Counts.{count-statement, count-declaration, count-formal, count-none}
 use borrow.Author.Needs.{needs}

@@ -1,4 +1,4 @@
--- `records::marks::find_mark` meets its contract: what is left of the table from `i` on gives what all of it gives, which is what the
+-- `marks::find_mark` meets its contract: what is left of the table from `i` on gives what all of it gives, which is what the
 -- definitions' rows of the place give (`bit-rule`). Assumes nothing.
 use mathlib.Core.Path.{_≡_, refl, _∙_, sym}
 use mathlib.Core.Logic.{⊎-elim}

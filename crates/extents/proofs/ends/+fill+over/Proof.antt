@@ -17,7 +17,9 @@ use Rattle.extents.proofs.ends.over.Reads as over
 use Rattle.extents.proofs.ends.over.Kinds as over-kinds
 use Rattle.extents.proofs.ends.+fill+over.Lts-over as over-lts
 use Rattle.extents.proofs.ends.note.Reads as note-reads
-use Rattle.extents.proofs.passing.pass.Reads as pass-reads
+use Rattle.extents.proofs.passing.block_head.Reads as block-head-reads
+use Rattle.extents.proofs.passing.past.Reads as past-reads
+use Rattle.extents.proofs.passing.procedure_head.Reads as procedure-head-reads
 use Rattle.words.proofs.word.Reads as word-reads
 use Rattle.extents.proofs.ends.+fill+over.{statement}
 use Rattle.extents.proofs.ends.+fill+over.Tie.{close}
@@ -42,10 +44,21 @@ over-below t = and 2 over-kinds.ps (falls 2 over-kinds.ps _<_ μ-over t) over.Pr
 
 -- what each may use of those that it calls
 abbrev fill-claims : ℕ → fill-lts.Claims
-fill-claims t = (word-reads.Asked, word-reads.Learnt, pass-reads.Asked, pass-reads.Learnt, over-below t, over.Post, note-reads.Asked, note-reads.Learnt)
+fill-claims t = (over-below t, over.Post, note-reads.Asked, note-reads.Learnt)
 
 abbrev over-claims : ℕ → over-lts.Claims
-over-claims t = (word-reads.Asked, word-reads.Learnt, fill-below t, fill.Post, pass-reads.Asked, pass-reads.Learnt)
+over-claims t = (
+  word-reads.Asked,
+  word-reads.Learnt,
+  procedure-head-reads.Asked,
+  procedure-head-reads.Learnt,
+  fill-below t,
+  fill.Post,
+  block-head-reads.Asked,
+  block-head-reads.Learnt,
+  past-reads.Asked,
+  past-reads.Learnt,
+)
 
 abbrev fill-Inv-loop : fill-lts.InvT-loop
 fill-Inv-loop script ends₀ at here₀ pending₀ ends here pending =
@@ -61,7 +74,7 @@ abbrev fill-startOf :
     {t : ℕ} →
     fill-lts.At-loop (fill-claims t) (fill-at t) fill.Post fill-Inv-loop fill-μ-loop →
     fill-lts.Start (fill-claims t) (fill-at t) fill.Post fill-Inv-loop fill-μ-loop
-fill-startOf c = c .before .before .before .before
+fill-startOf c = c .before .before
 
 abbrev fill-loopOf :
     {t : ℕ} →
@@ -72,21 +85,15 @@ fill-loopOf c = c .before .before .before .before
 abbrev over-startOf : {t : ℕ} → over-lts.After-word (over-claims t) (over-at t) over.Post → over-lts.Start (over-claims t) (over-at t) over.Post
 over-startOf c = c .before .before
 
-fill-word-requires : (t : ℕ) → fill-lts.Need-word-requires (fill-claims t) (fill-at t) fill.Post fill-Inv-loop fill-μ-loop
-fill-word-requires t c κs = search needs
-
-fill-pass-requires : (t : ℕ) → fill-lts.Need-pass-requires (fill-claims t) (fill-at t) fill.Post fill-Inv-loop fill-μ-loop
-fill-pass-requires t c κs = search needs
-
 fill-loop-holds : (t : ℕ) → fill-lts.Need-loop-holds (fill-claims t) (fill-at t) fill.Post fill-Inv-loop fill-μ-loop
 fill-loop-holds t c =
-    let p = c .pass in
-    let st = c .before .before .before in
-    let a = st .args in (
-      p .ensures .on,
-      omega (arith, p .ensures .near, st .pre .1 .1),
-      omega (arith, p .ensures .few, p .ensures .on),
-      λ x h. left-first (a .script .now) (a .at) x (p .result) (p .ensures) h,
+    let st = c .before in
+    let a = st .args in
+    let p = st .pre .1 .3 in (
+      p .on,
+      omega (arith, p .near, st .pre .1 .1),
+      omega (arith, p .few, p .on),
+      λ x h. left-first (a .script .now) (a .at) x (a .first) p h,
       st .pre .1 .2,
     )
 
@@ -149,13 +156,16 @@ fill-returns-2 t c =
 over-word-requires : (t : ℕ) → over-lts.Need-word-requires (over-claims t) (over-at t) over.Post
 over-word-requires t c κs = search needs
 
+over-procedure-head-requires : (t : ℕ) → over-lts.Need-procedure-head-requires (over-claims t) (over-at t) over.Post
+over-procedure-head-requires t c κs = search needs
+
 over-fill-requires : (t : ℕ) → over-lts.Need-fill-requires (over-claims t) (over-at t) over.Post
 over-fill-requires t c κs = search needs
 
 over-returns : (t : ℕ) → over-lts.Need-returns (over-claims t) (over-at t) over.Post
 over-returns t c =
     let f = c .fill in
-    let st = over-startOf (c .before .before .before) in
+    let st = over-startOf (c .before .before .before .before) in
     let a = st .args in (
       record {
         steps = λ from pending x more l. left-whole (a .script .now) from x (a .at) pending (f .result) more (f .ensures .0 .0) l;
@@ -166,13 +176,21 @@ over-returns t c =
       f .ensures .1,
     )
 
-over-pass-requires : (t : ℕ) → over-lts.Need-pass-requires (over-claims t) (over-at t) over.Post
-over-pass-requires t c κs = search needs
+over-block-head-requires : (t : ℕ) → over-lts.Need-block-head-requires (over-claims t) (over-at t) over.Post
+over-block-head-requires t c κs = search needs
 
 over-returns-2 : (t : ℕ) → over-lts.Need-returns-2 (over-claims t) (over-at t) over.Post
 over-returns-2 t c =
-    let st = over-startOf (c .before .before) in
-    (stepped-head (st .args .script .now) (st .args .at) (st .pre .1 .1) (c .pass .result) (c .pass .ensures), st .pre .1 .2)
+    let st = over-startOf (c .before .before .before) in
+    (stepped-head (st .args .script .now) (st .args .at) (st .pre .1 .1) (c .block-head .result) (c .block-head .ensures), st .pre .1 .2)
+
+over-past-requires : (t : ℕ) → over-lts.Need-past-requires (over-claims t) (over-at t) over.Post
+over-past-requires t c κs = search needs
+
+over-returns-3 : (t : ℕ) → over-lts.Need-returns-3 (over-claims t) (over-at t) over.Post
+over-returns-3 t c =
+    let st = over-startOf (c .before .before .before) in
+    (stepped-head (st .args .script .now) (st .args .at) (st .pre .1 .1) _ (c .past .ensures), st .pre .1 .2)
 
 pub +fill+over-spec : {M : Type 1} → statement M
 +fill+over-spec = close μ-fill μ-over (λ t. fill-lts.spec (fill-claims t)
@@ -180,8 +198,6 @@ pub +fill+over-spec : {M : Type 1} → statement M
     fill.Post
     fill-Inv-loop
     fill-μ-loop
-    (fill-word-requires t)
-    (fill-pass-requires t)
     (fill-loop-holds t)
     (fill-returns t)
     (fill-over-requires t)
@@ -195,7 +211,10 @@ pub +fill+over-spec : {M : Type 1} → statement M
     (over-at t)
     over.Post
     (over-word-requires t)
+    (over-procedure-head-requires t)
     (over-fill-requires t)
     (over-returns t)
-    (over-pass-requires t)
+    (over-block-head-requires t)
     (over-returns-2 t)
+    (over-past-requires t)
+    (over-returns-3 t)

@@ -22,6 +22,9 @@ returns c =
       st .pre .2,
     )
 
+procedure-head-requires : tie.Need-procedure-head-requires
+procedure-head-requires c κs = search needs
+
 fill-requires : tie.Need-fill-requires
 fill-requires c κs = search needs
 
@@ -30,4 +33,4 @@ returns-2 c = search needs
 
 pub procedure-spec : {M : Type 1} → statement M
 procedure-spec =
-    tie.close (tie.spec noted-requires returns fill-requires returns-2)
+    tie.close (tie.spec noted-requires returns procedure-head-requires fill-requires returns-2)

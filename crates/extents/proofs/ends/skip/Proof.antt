@@ -1,7 +1,7 @@
 -- `extents::ends::skip` meets its contract: a case for each way out. Assumes nothing.
 use borrow.Author.Needs.{needs}
 use mathlib.Core.Path.{refl, sym, _∙_}
-use Rattle.extents.proofs.Skipping.{variable-alone, skipped-out, skipped-head}
+use Rattle.extents.proofs.Skipping.{passed-VR, skipped-out, skipped-head}
 use Rattle.extents.proofs.ends.skip.Statement.{statement}
 use Rattle.extents.proofs.ends.skip.Tie as tie
 
@@ -26,6 +26,9 @@ procedure-requires c κs = search needs
 returns-2 : tie.Need-returns-2
 returns-2 c = search needs
 
+block-head-requires : tie.Need-block-head-requires
+block-head-requires c κs = search needs
+
 fill-requires : tie.Need-fill-requires
 fill-requires c κs = search needs
 
@@ -40,7 +43,7 @@ returns-4 c =
     let e = insideOf (c .before .before) in
     let st = startOf e in
     let m = sym (c .before .before .before .word .ensures .0) ∙ c .if4 .taken in
-    (skipped-head (st .args .script .now) (st .args .at) (e .if1 .left) _ (variable-alone (st .args .script .now) (st .args .at) m) refl, st .pre .1)
+    (skipped-head (st .args .script .now) (st .args .at) (e .if1 .left) _ (passed-VR (st .args .script .now) (st .args .at) m) refl, st .pre .1)
 
 past-requires : tie.Need-past-requires
 past-requires c κs = search needs
@@ -59,6 +62,7 @@ skip-spec =
     word-requires
     procedure-requires
     returns-2
+    block-head-requires
     fill-requires
     returns-3
     add-result
