@@ -1,5 +1,7 @@
-// The names of a statement other than BK, judged left to right: 9 to 11.
+// The names of a statement other than BK, judged left to right: 9 to 11, and where the walk goes on.
 use calls::call;
+use extents::past;
+use extents::past_pair;
 use language::Verdict;
 use marks::AR;
 use marks::CL;
@@ -7,41 +9,58 @@ use marks::GO;
 use marks::IF;
 use marks::KN;
 use marks::QY;
+use records::Progress;
 use uses::both;
 use uses::three;
 use uses::uses;
 use words::word;
 ghost use mathlib.Core.Path.{_≡_};
 ghost use Prim.Native.Nat.{_+_, _^_, _<_};
+ghost use Rattle.language.specs.Encoding.{BK-mark, PR-mark, VR-mark};
 ghost use Rattle.laws.specs.Fields.{fieldAt};
-ghost use Rattle.uses.specs.Meanings.{scopeFrom, verdictOf};
-ghost use Rattle.actions.specs.Shapes.{shapeOf, judgedAs};
+ghost use Rattle.actions.specs.Walked.{progressAfter, Walked};
 ghost use Rattle.symbols.specs.Chains.{Chained};
 
-// A statement other than BK: its names left to right.
-pub fn action(script: &[u8], entries: &[usize], top: usize, at: usize, mark: usize) -> Verdict
-    requires { ⌜ (at < 2 ^ 32) × Chained (now entries) top × (mark ≡ fieldAt (now script) at) ⌝ }
-    ensures { λ r.
-        ⌜ r ≡ verdictOf (judgedAs (shapeOf (fieldAt (now (script .entry)) at))
-        (scopeFrom (now (script .entry)) (now (entries .entry)) top) (now (script .entry)) at) ⌝ }
+// Where the walk goes on after a verdict.
+fn progress_after(v: Verdict, next: usize) -> Progress
+    ensures { λ r. ⌜ r ≡ progressAfter v next ⌝ }
+{
+    match v {
+        Verdict::Fit => Progress::At(next),
+        Verdict::Refused(c, o) => Progress::Refused(c, o),
+    }
+}
+
+// A statement other than BK. Its end is asked for by the mark as a constant, so that the mark is not looked for a second time.
+pub fn action(script: &[u8], entries: &[usize], top: usize, at: usize, mark: usize) -> Progress
+    requires { ⌜ (at < 2 ^ 32) × Chained (now entries) top × (mark ≡ fieldAt (now script) at) × (mark ≡ BK-mark → ⊥) × (mark ≡ PR-mark → ⊥)
+        × (mark ≡ VR-mark → ⊥) ⌝ }
+    ensures { λ r. ⌜ Walked (now (script .entry)) (now (entries .entry)) top at r ⌝ }
 {
     if mark == CL {
-        return call(script, entries, top, at);
+        let judged = call(script, entries, top, at);
+        return progress_after(judged, past(script, at, CL));
     }
     if mark == GO {
-        return uses(script, entries, top, at, 1, word(script, at + 2));
+        let judged = uses(script, entries, top, at, 1, word(script, at + 2));
+        return progress_after(judged, past(script, at, GO));
     }
     if mark == IF {
-        return both(script, entries, top, at, 0, at + 2, 1, at + 4);
+        let judged = both(script, entries, top, at, 0, at + 2, 1, at + 4);
+        return progress_after(judged, past(script, at, IF));
     }
     if mark == KN {
-        return uses(script, entries, top, at, 0, word(script, at + 2));
+        let judged = uses(script, entries, top, at, 0, word(script, at + 2));
+        return progress_after(judged, past(script, at, KN));
     }
     if mark == AR {
-        return three(script, entries, top, at, at + 2, at + 6, at + 8);
+        let judged = three(script, entries, top, at, at + 2, at + 6, at + 8);
+        return progress_after(judged, past(script, at, AR));
     }
     if mark == QY {
-        return three(script, entries, top, at, at + 2, at + 4, at + 6);
+        let judged = three(script, entries, top, at, at + 2, at + 4, at + 6);
+        return progress_after(judged, past(script, at, QY));
     }
-    both(script, entries, top, at, 0, at + 2, 0, at + 4)
+    let judged = both(script, entries, top, at, 0, at + 2, 0, at + 4);
+    progress_after(judged, past_pair(script, at, mark))
 }

@@ -5,14 +5,18 @@ use mathlib.Core.List.{List, [], _∷_, _++_, append-nil, append-assoc}
 use Prim.Native.Nat.{ℕ, _+_, _*_, _-_, _<_, _≤_}
 use native.Mathlib.Omega.{arith}
 use lib.ListN.{length, length-append}
-use borrow.Author.Tests.{eq-eqb, ne-eqb}
+use borrow.Author.Tests.{eqb-true, eq-eqb, ne-eqb}
+use lib.Dec.{eqb}
 use Rattle.language.specs.Encoding.{BK-mark, VR-mark, LB-mark, PR-mark, CL-mark}
-use Rattle.language.specs.Structure.{declMarks, stmtMarks}
-use Rattle.marks.specs.Marks.{fitIn, fitAt}
-use Rattle.marks.specs.Counts.{fieldCount}
+use Rattle.language.specs.Structure.{Row, formalMarks, declMarks, stmtMarks}
+use Rattle.laws.specs.Tests.{split}
+use Rattle.marks.specs.declared.Mark.{Mark}
+use Rattle.marks.specs.declared.Mark.the-variants.{FM}
+use Rattle.marks.specs.Marks.{declMark, stmtMark, onlyMark, fitIn, fitAt}
+use Rattle.marks.specs.Counts.{countOr, fieldCount}
 use Rattle.laws.specs.Fields.{fieldAt, FieldsStand, field-inside, fields-first, fields-after}
 use Rattle.extents.specs.Items.{Item, itemFields, itemsFields, children, headFields, headSize, childCount}
-use Rattle.extents.specs.Passing.{Passed, Alone, Skipped, Left, Stepped}
+use Rattle.extents.specs.Passing.{Passed, Alone, TwoFields, Skipped, Left, Stepped}
 use Rattle.extents.specs.declared.passing.Step.{Step}
 use Rattle.extents.proofs.Inside.{items-append, item-opens, head-size, child-count, head-marked}
 
@@ -20,6 +24,24 @@ use Rattle.extents.proofs.Inside.{items-append, item-opens, head-size, 
 pub count-CL : (w : ℕ) → w ≡ CL-mark → fieldCount w ≡ 2
 unfolding fieldCount fitAt fitIn stmtMarks
 count-CL w e = rw e
+
+-- a row with these letters has two fields
+abbrev Twos : {M : Type 0} → ℕ → List (Row M) → Type 0
+Twos w [] = Unit {0}
+Twos w (r ∷ rs) = (w ≡ r .letters → r .count ≡ 2) × Twos w rs
+
+two-in : {M : Type 0} (f : M → Mark) (w d : ℕ) (rs : List (Row M)) → Twos w rs → d ≡ 2 → countOr (fitIn f w rs) d ≡ 2
+unfolding fitIn
+two-in f w d [] t e = e
+two-in f w d (r ∷ rs) t e =
+    split (eqb w (r .letters)) (λ q. rw (q, fitIn) (t .0 (eqb-true w (r .letters) q))) (λ q. rw (q, fitIn) (two-in f w d rs (t .1) e))
+
+pub count-two : (w : ℕ) → TwoFields w → fieldCount w ≡ 2
+unfolding fieldCount fitAt stmtMarks declMarks formalMarks
+count-two w t =
+    two-in stmtMark w _ stmtMarks
+    (λ e. refl, (λ e. refl, (λ e. absurd (t .no-GO e), (λ e. refl, (λ e. absurd (t .no-KN e), (λ e. absurd (t .no-AR e), (λ e. refl, (λ e. refl, (λ e. absurd (t .no-QY e), tt)))))))))
+    (two-in declMark w _ declMarks (λ e. absurd (t .no-VR e), (λ e. refl, (λ e. refl, tt))) (two-in (onlyMark FM) w 2 formalMarks (λ e. refl, tt) refl))
 
 pub size-CL : (w a : ℕ) → w ≡ CL-mark → headSize w a ≡ 2 + 2 * fieldCount w + 2 * a
 unfolding headSize

@@ -3,6 +3,7 @@ use Prim.Native.Nat.{ℕ, _+_, _*_, _-_, _/_, _%_, _<_, _≤_, max}
 use mathlib.Core.List.{List}
 use mathlib.Core.Path.{_≡_}
 use lib.ListN.{length, getD, take, drop}
+use Rattle.language.specs.Encoding.{BK-mark, PR-mark, VR-mark, CL-mark, GO-mark, KN-mark, AR-mark, QY-mark}
 use Rattle.laws.specs.Fields.{fieldAt, FieldsStand}
 use Rattle.extents.specs.Items.{Item, itemFields, itemsFields, headSize, childCount, entriesOf}
 use Rattle.extents.specs.declared.passing.Step.{Step}
@@ -18,6 +19,17 @@ pub record Passed (bs : List ℕ) (at : ℕ) (s : Step) : Type 0 where
 -- a record that holds no other
 abbrev pub Alone : List ℕ → ℕ → ℕ → Type 0
 Alone bs at next = Passed bs at (record { next = next; more = 0 })
+
+-- a mark that holds no other record and no list, and of which no other number of fields is known than 2
+pub record TwoFields (w : ℕ) : Type 0 where
+  pub no-BK : w ≡ BK-mark → ⊥
+  pub no-PR : w ≡ PR-mark → ⊥
+  pub no-VR : w ≡ VR-mark → ⊥
+  pub no-CL : w ≡ CL-mark → ⊥
+  pub no-GO : w ≡ GO-mark → ⊥
+  pub no-KN : w ≡ KN-mark → ⊥
+  pub no-AR : w ≡ AR-mark → ⊥
+  pub no-QY : w ≡ QY-mark → ⊥
 
 -- a record with all that stands inside it
 pub record Skipped (bs : List ℕ) (at end : ℕ) : Type 0 where

@@ -12,6 +12,7 @@ pub use ends::skip;
 pub use passing::Step;
 pub use passing::pass;
 pub use passing::past;
+pub use passing::past_pair;
 
 // So many records from an offset on declare names: their entries are put from `base` on.
 pub fn push(

@@ -1,4 +1,5 @@
 // Passing over one record, or over its head where it holds others.
+use marks::AD;
 use marks::BK;
 use marks::BK_BYTES;
 use marks::CL;
@@ -10,7 +11,7 @@ ghost use mathlib.Core.Path.{_≡_};
 ghost use Prim.Native.Nat.{_^_, _<_, _≤_};
 ghost use Rattle.language.specs.Encoding.{BK-mark, PR-mark};
 ghost use Rattle.laws.specs.Fields.{fieldAt};
-ghost use Rattle.extents.specs.Passing.{Passed, Alone};
+ghost use Rattle.extents.specs.Passing.{Passed, Alone, TwoFields};
 
 // A record passed: where the next one begins, and how many records stand inside this one.
 pub struct Step {
@@ -28,6 +29,14 @@ pub fn past(script: &[u8], at: usize, mark: usize) -> usize
         return end + 2 * word(script, at + 4);
     }
     end
+}
+
+// Past AD or RM, and past letters that are no mark, which count as having as many fields.
+pub fn past_pair(script: &[u8], at: usize, mark: usize) -> usize
+    requires { ⌜ (at < 2 ^ 32) × (mark ≡ fieldAt (now script) at) × TwoFields mark ⌝ }
+    ensures { λ r. ⌜ Alone (now (script .entry)) at r ⌝ }
+{
+    at + 2 + 2 * field_count(AD as u32)
 }
 
 // Past the head of a BK.

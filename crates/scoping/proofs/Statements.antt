@@ -17,7 +17,8 @@ use Rattle.uses.specs.Meanings.{verdictOf, pairJudged, tripleJudged}
 use Rattle.actions.specs.Shapes.{shapeOf, judgedAs}
 use Rattle.extents.specs.Items.{Item, formal, body, declared, stated, itemFields, itemsFields, children, headFields}
 use Rattle.extents.specs.Passing.{Passed}
-use Rattle.scoping.specs.Walking.{progressOf, progressAfter, Ahead, judgeItem, FormedItem, BlockHere, ItemHere}
+use Rattle.actions.specs.Walked.{progressAfter}
+use Rattle.scoping.specs.Walking.{progressOf, Ahead, judgeItem, FormedItem, BlockHere, ItemHere}
 use Rattle.extents.specs.declared.passing.Step.{Step}
 use Rattle.language.specs.declared.Verdict.{Verdict}
 use Rattle.language.specs.declared.Verdict.the-variants.{Fit}

@@ -23,10 +23,6 @@ unfoldable pub progressOf : definitions.Judgement → ℕ → Progress
 progressOf fine end = At end
 progressOf (wrong c o) end = Refused c o
 
-unfoldable pub progressAfter : Verdict → ℕ → Progress
-progressAfter Fit end = At end
-progressAfter (verdicts.Refused c o) end = Refused c o
-
 -- where the walk goes on, it does not go back, nor far past the n bytes
 abbrev pub Ahead : ℕ → ℕ → Progress → Type 0
 Ahead at n (At end) = (at ≤ end) × (end ≤ n + 131076)

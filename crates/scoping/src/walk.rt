@@ -1,9 +1,7 @@
 // The walk over a script's records in file order. It is safe on any bytes up to 8,192.
 use actions::action;
-use extents::past;
 use extents::push;
 use language::Refusal;
-use language::Verdict;
 use marks::BK;
 use marks::BK_BYTES;
 use marks::FM_BYTES;
@@ -22,17 +20,7 @@ ghost use Prim.Native.Nat.{_+_, _<_, _≤_};
 ghost use lib.ListN.{length, drop};
 ghost use Rattle.symbols.specs.Chains.{Chained};
 ghost use Rattle.extents.specs.Passing.{Ends};
-ghost use Rattle.scoping.specs.Walking.{progressAfter, Ahead, BlockJudged, ItemsJudged, ItemJudged};
-
-// Where the walk goes on after a verdict.
-fn progress_after(v: Verdict, next: usize) -> Progress
-    ensures { λ r. ⌜ r ≡ progressAfter v next ⌝ }
-{
-    match v {
-        Verdict::Fit => Progress::At(next),
-        Verdict::Refused(c, o) => Progress::Refused(c, o),
-    }
-}
+ghost use Rattle.scoping.specs.Walking.{Ahead, BlockJudged, ItemsJudged, ItemJudged};
 
 // So many formals at an offset and their block after them. Its names are put below `top` before any of its text is judged.
 pub fn block(
@@ -135,6 +123,5 @@ fn item(
     if mark == LB {
         return Progress::At(at + LB_BYTES);
     }
-    let judged = action(script, entries, top, at, mark);
-    progress_after(judged, past(script, at, mark))
+    action(script, entries, top, at, mark)
 }

@@ -30,8 +30,6 @@ use Rattle.scoping.proofs.walk.items.Reads as items
 use Rattle.scoping.proofs.walk.items.Kinds as items-kinds
 use Rattle.scoping.proofs.walk.+block+item+items.Lts-items as items-lts
 use Rattle.actions.proofs.action.Reads as action-reads
-use Rattle.scoping.proofs.walk.progress_after.Reads as progress-after-reads
-use Rattle.extents.proofs.past.Reads as past-reads
 use Rattle.extents.proofs.push.Reads as push-reads
 use Rattle.words.proofs.word.Reads as word-reads
 use Rattle.symbols.proofs.insert.Reads as insert-reads
@@ -78,10 +76,6 @@ item-claims t = (
   block.Post,
   action-reads.Asked,
   action-reads.Learnt,
-  past-reads.Asked,
-  past-reads.Learnt,
-  progress-after-reads.Asked,
-  progress-after-reads.Learnt,
 )
 
 abbrev items-claims : ℕ → items-lts.Claims
@@ -353,8 +347,8 @@ item-returns-2 t c =
       b .block2 .ensures .1,
     )
 
-item-add-t18 : (t : ℕ) → item-lts.Need-add-t18 (item-claims t) (item-at t) item.Post
-item-add-t18 t c = search needs
+item-add-t17 : (t : ℕ) → item-lts.Need-add-t17 (item-claims t) (item-at t) item.Post
+item-add-t17 t c = search needs
 
 item-returns-3 : (t : ℕ) → item-lts.Need-returns-3 (item-claims t) (item-at t) item.Post
 item-returns-3 t c =
@@ -367,8 +361,8 @@ item-returns-3 t c =
       ((omega arith, omega (arith, st .pre .1 .1)), (refl, (st .pre .1 .3, st .pre .1 .4))),
     )
 
-item-add-t19 : (t : ℕ) → item-lts.Need-add-t19 (item-claims t) (item-at t) item.Post
-item-add-t19 t c = search needs
+item-add-t18 : (t : ℕ) → item-lts.Need-add-t18 (item-claims t) (item-at t) item.Post
+item-add-t18 t c = search needs
 
 item-returns-4 : (t : ℕ) → item-lts.Need-returns-4 (item-claims t) (item-at t) item.Post
 item-returns-4 t c =
@@ -384,34 +378,27 @@ item-returns-4 t c =
 item-action-requires : (t : ℕ) → item-lts.Need-action-requires (item-claims t) (item-at t) item.Post
 item-action-requires t c κs = search needs
 
-item-past-requires : (t : ℕ) → item-lts.Need-past-requires (item-claims t) (item-at t) item.Post
-item-past-requires t c κs = search needs
-
-item-progress-after-requires : (t : ℕ) → item-lts.Need-progress-after-requires (item-claims t) (item-at t) item.Post
-item-progress-after-requires t c κs = search needs
-
 item-same-length-3 : (t : ℕ) → item-lts.Need-same-length-3 (item-claims t) (item-at t) item.Post
 item-same-length-3 t c = search needs
 
 item-returns-5 : (t : ℕ) → item-lts.Need-returns-5 (item-claims t) (item-at t) item.Post
 item-returns-5 t c =
-    let p = c .before in
-    let v = c .before .before in
-    let e₄ = v .before .before in
+    let n = c .action .ensures in
+    let e₄ = c .before .before in
     let e₂ = e₄ .before .before in
     let w = item-markOf e₂ in
     let q = w .word .ensures .0 in
     let st = item-startOf w in
     let a = st .args in
     let sc = scopeOf (a .script .now) (drop (a .top) (a .entries .now)) in (
-      λ x level s h. c .progress-after .ensures
-          ∙ item-action (a .script .now) sc (a .at) (a .top) (record { next = p .past .result; more = 0 }) (p .past .ensures)
+      λ x level s h. n .so
+          ∙ item-action (a .script .now) sc (a .at) (a .top) (record { next = n .next; more = 0 }) (n .past)
           (λ m. e₂ .before .if1 .left (q ∙ m)) (λ m. e₂ .if2 .left (q ∙ m)) (λ m. e₄ .before .if3 .left (q ∙ m)) (λ m. e₄ .if4 .left (q ∙ m))
-          (v .action .result) (v .action .ensures)
+          (n .verdict) (n .judged)
           x level s h,
       (
-        ahead-after (a .at) (length (a .script .now)) (p .past .result) (v .action .result) (c .progress-after .result) (c .progress-after .ensures)
-            (omega (arith, p .past .ensures .on)) (omega (arith, p .past .ensures .near, st .pre .1 .1)),
+        ahead-after (a .at) (length (a .script .now)) (n .next) (n .verdict) (c .action .result) (n .so) (omega (arith, n .past .on))
+            (omega (arith, n .past .near, st .pre .1 .1)),
         (refl, (st .pre .1 .3, st .pre .1 .4)),
       ),
     )
@@ -590,13 +577,11 @@ pub +block+item+items-spec : {M : Type 1} → statement M
     (item-block-requires-2 t)
     (item-same-length-2 t)
     (item-returns-2 t)
-    (item-add-t18 t)
+    (item-add-t17 t)
     (item-returns-3 t)
-    (item-add-t19 t)
+    (item-add-t18 t)
     (item-returns-4 t)
     (item-action-requires t)
-    (item-past-requires t)
-    (item-progress-after-requires t)
     (item-same-length-3 t)
     (item-returns-5 t))
     λ t. items-lts.spec (items-claims t)

@@ -1,10 +1,10 @@
--- `scoping::walk::progress_after` meets its contract. Assumes nothing.
+-- `actions::progress_after` meets its contract. Assumes nothing.
 use mathlib.Core.Path.{sym, ap}
-use Rattle.scoping.specs.Walking.{progressAfter}
+use Rattle.actions.specs.Walked.{progressAfter}
 use Rattle.language.specs.declared.Verdict.{Verdict}
 use borrow.Author.Needs.{needs}
-use Rattle.scoping.proofs.walk.progress_after.Statement.{statement}
-use Rattle.scoping.proofs.walk.progress_after.Tie as tie
+use Rattle.actions.proofs.progress_after.Statement.{statement}
+use Rattle.actions.proofs.progress_after.Tie as tie
 
 enum-told : tie.Need-enum-told
 enum-told c = search needs
