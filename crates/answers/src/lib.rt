@@ -7,6 +7,11 @@ ghost use Prim.Native.Nat.{_≤_};
 ghost use Rattle.language.specs.Numbers.{answerWords};
 ghost use Rattle.answers.specs.Answers.{refusedAnswer, ranAnswer};
 
+mod refusals;
+
+pub use refusals::refused;
+pub use refusals::refuses;
+
 pub fn answer_words(a: Answer) -> [u64; 9]
     ensures { λ r. ⌜ r ≡ answerWords a ⌝ }
 {

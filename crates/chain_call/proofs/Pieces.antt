@@ -31,7 +31,8 @@ use Rattle.links.specs.Records.{blocksIn, nextsIn, linksIn}
 use Rattle.links.specs.Running.{limitsBy}
 use Rattle.chain.specs.Running.{Beginning, Ended}
 use Rattle.chain.specs.declared.run.Halt.{Halt}
-use Rattle.chain_call.specs.Calls.{isRefused, refusedWords, haltWords}
+use Rattle.answers.specs.Refusals.{isRefused, refusedWords}
+use Rattle.chain_call.specs.Calls.{haltWords}
 
 module _ (records : List Activation) (f : Fed) (bytes : Bytes (f .script)) (t : Block) (h : Admitted (chain (length records)) f t) (code : List ℕ)
     (resolved : Resolved (f .script) (f .name) code) (words : List ℤ) (zero : words ≡ replicate 8224 (pos 0)) where

@@ -1,6 +1,8 @@
 // The static-chain engine's call: admission, the resolved script, the run on the lent records, the sheet, the answer.
 use activations::Activation;
 use admission::Area;
+use answers::refused;
+use answers::refuses;
 use chain::Halt;
 use language::Verdict;
 ghost use mathlib.Core.Path.{_≡_};
@@ -15,7 +17,7 @@ ghost use Rattle.checking.specs.Verdicts.{verdictOf};
 ghost use Rattle.admission.specs.Lent.{fedOf};
 ghost use Rattle.grammar.specs.Rules.{Bytes};
 ghost use Rattle.resolving.specs.Resolving.{Resolved};
-ghost use Rattle.chain_call.specs.Calls.{isRefused, refusedWords, haltWords};
+ghost use Rattle.chain_call.specs.Calls.{haltWords};
 
 // What is due to a call that is lent so many records.
 fn judged(
@@ -44,23 +46,6 @@ fn judged(
         Area::Of(held),
         Area::Unused,
     )
-}
-
-fn refuses(verdict: Verdict) -> bool
-    ensures { λ r. ⌜ r ≡ isRefused verdict ⌝ }
-{
-    match verdict {
-        Verdict::Refused(cause, offset) => true,
-        Verdict::Fit => false,
-    }
-}
-
-fn refused(verdict: Verdict, count: usize, tally: u64, answer: &mut [u64; 9])
-    ensures { λ _. ⌜ now (answer .exit) ≡ refusedWords verdict count tally (now (answer .entry)) ⌝ }
-{
-    if let Verdict::Refused(cause, offset) = verdict {
-        *answer = answers::refusal_words(cause, offset, count, tally);
-    }
 }
 
 fn limit_of(d: u32) -> usize

@@ -1,27 +1,19 @@
 // What the server's C programs call. Each function is total: it requires nothing, and its contract fixes every word that it writes.
 use activations::Activation;
-use language::Verdict;
 ghost use mathlib.Core.Path.{_≡_};
 ghost use Rattle.language.specs.Check.{check};
 ghost use lib.ListN.{length};
 ghost use Rattle.language.specs.Call.{copying, display, chain, reply, Leaves};
 ghost use Rattle.language.specs.Numbers.{answerWords};
 ghost use Rattle.admission.specs.Lent.{fedOf};
-ghost use Rattle.enrol.specs.Answers.{checkWords};
+ghost use Rattle.check_call.specs.Answers.{checkWords};
 
 // The refusal's number, 0 where the script is accepted, and its offset.
 #[no_mangle]
 pub extern "C" fn enrol_check(script: &[u8], answer: &mut [u64; 2])
     ensures { λ _. ⌜ now (answer .exit) ≡ checkWords (check (now (script .entry))) ⌝ }
 {
-    match checking::check_script(script) {
-        Verdict::Fit => {
-            *answer = [0, 0];
-        }
-        Verdict::Refused(cause, at) => {
-            *answer = [language::refusal_number(cause) as u64, at as u64];
-        }
-    }
+    *answer = check_call::call(script);
 }
 
 // A run by the copying engine, on texts in a lent area: the answer's words, what becomes of table and sheet, and the area as it was where the call

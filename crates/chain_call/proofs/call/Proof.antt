@@ -48,7 +48,7 @@ use Rattle.language.specs.declared.Verdict.{Verdict}
 use Rattle.runs.specs.Admission.{Admitted, leaves-all, leaves-length, admitted-accepted}
 use Rattle.admission.specs.Lent.{fedOf}
 use Rattle.activations.specs.declared.Activation.{Activation}
-use Rattle.chain_call.specs.Calls.{isRefused, refusedWords}
+use Rattle.answers.specs.Refusals.{isRefused, refusedWords}
 use Rattle.links.proofs.Rows.{recs}
 use Rattle.chain_call.proofs.Rows.{answerss, verdicts}
 use Rattle.chain_call.proofs.Pieces.{refused-so, admitted-so}
@@ -57,14 +57,14 @@ use Rattle.chain_call.proofs.judged as judged
 use Rattle.chain_call.proofs.judged.Symbol as judged-def
 use Rattle.chain_call.proofs.judged.Symbol.{name as #judged}
 use Rattle.chain_call.proofs.judged.Met as judged-thm
-use Rattle.chain_call.proofs.refuses as refuses
-use Rattle.chain_call.proofs.refuses.Symbol as refuses-def
-use Rattle.chain_call.proofs.refuses.Symbol.{name as #refuses}
-use Rattle.chain_call.proofs.refuses.Met as refuses-thm
-use Rattle.chain_call.proofs.refused as refused
-use Rattle.chain_call.proofs.refused.Symbol as refused-def
-use Rattle.chain_call.proofs.refused.Symbol.{name as #refused}
-use Rattle.chain_call.proofs.refused.Met as refused-thm
+use Rattle.answers.proofs.refuses as refuses
+use Rattle.answers.proofs.refuses.Symbol as refuses-def
+use Rattle.answers.proofs.refuses.Symbol.{name as #refuses}
+use Rattle.answers.proofs.refuses.Met as refuses-thm
+use Rattle.answers.proofs.refused as refused
+use Rattle.answers.proofs.refused.Symbol as refused-def
+use Rattle.answers.proofs.refused.Symbol.{name as #refused}
+use Rattle.answers.proofs.refused.Met as refused-thm
 use Rattle.chain_call.proofs.ran as ran
 use Rattle.chain_call.proofs.ran.Symbol as ran-def
 use Rattle.chain_call.proofs.ran.Symbol.{name as #ran}
@@ -279,8 +279,8 @@ call-spec 𝓤 H 𝓜 𝓖 𝓡 =
     (tables 𝓤 H 𝓜 𝓡 mine.env .C) (tables 𝓤 H 𝓜 𝓡 mine.env .Λ) #me mine.function (mine.unfolded 𝓤 H 𝓜 𝓡)
     (meets 𝓤 H (𝓖 .A) (givenOf 𝓤 H 𝓜 𝓖) (𝓜 .mem) (𝓡 .run) (tablesOf 𝓤 H 𝓜 (tables 𝓤 H 𝓜 𝓡 mine.env))
     (cited 𝓤 H (Calls-judged 𝓤 H (𝓖 .A) (𝓜 .mem) (𝓡 .run)) 𝓜 𝓡 mine.env #judged judged-def.routine mine.calls-chain-call·judged (judged-thm.met 𝓤 H 𝓜 𝓖 𝓡))
-    (cited 𝓤 H (Calls-refuses 𝓤 H (𝓖 .A) (𝓜 .mem) (𝓡 .run)) 𝓜 𝓡 mine.env #refuses refuses-def.routine mine.calls-chain-call·refuses (refuses-thm.met 𝓤 H 𝓜 𝓖
+    (cited 𝓤 H (Calls-refuses 𝓤 H (𝓖 .A) (𝓜 .mem) (𝓡 .run)) 𝓜 𝓡 mine.env #refuses refuses-def.routine mine.calls-answers·refuses (refuses-thm.met 𝓤 H 𝓜 𝓖
     𝓡))
-    (cited 𝓤 H (Calls-refused 𝓤 H (𝓖 .A) (𝓜 .mem) (𝓡 .run)) 𝓜 𝓡 mine.env #refused refused-def.routine mine.calls-chain-call·refused (refused-thm.met 𝓤 H 𝓜 𝓖
+    (cited 𝓤 H (Calls-refused 𝓤 H (𝓖 .A) (𝓜 .mem) (𝓡 .run)) 𝓜 𝓡 mine.env #refused refused-def.routine mine.calls-answers·refused (refused-thm.met 𝓤 H 𝓜 𝓖
     𝓡))
     (cited 𝓤 H (Calls-ran 𝓤 H (𝓖 .A) (𝓜 .mem) (𝓡 .run)) 𝓜 𝓡 mine.env #ran ran-def.routine mine.calls-chain-call·ran (ran-thm.met 𝓤 H 𝓜 𝓖 𝓡)))

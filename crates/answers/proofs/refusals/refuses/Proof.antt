@@ -1,8 +1,8 @@
--- `refuses` meets its contract. Assumes nothing.
+-- `answers::refusals::refuses` meets its contract. Assumes nothing.
 use borrow.Author.Needs.{needs}
-use Rattle.chain_call.specs.Calls.{isRefused}
-use Rattle.chain_call.proofs.refuses.Statement.{statement}
-use Rattle.chain_call.proofs.refuses.Tie as tie
+use Rattle.answers.specs.Refusals.{isRefused}
+use Rattle.answers.proofs.refusals.refuses.Statement.{statement}
+use Rattle.answers.proofs.refusals.refuses.Tie as tie
 
 enum-known-verdict : tie.Need-enum-known-verdict
 enum-known-verdict c = search needs

@@ -1,4 +1,4 @@
--- The answers of the C interface, word by word.
+-- The words of the check's answer.
 use Prim.Native.Nat.{ℕ}
 use mathlib.Core.List.{List, [], _∷_}
 use Rattle.language.specs.Numbers.{refusalNumber}

@@ -1,4 +1,4 @@
--- `refused` meets its contract. Assumes nothing.
+-- `answers::refusals::refused` meets its contract. Assumes nothing.
 use borrow.Author.Needs.{needs}
 use mathlib.Core.Path.{_≡_, sym, _∙_, ap}
 use mathlib.Core.List.{List}
@@ -7,10 +7,10 @@ use Rattle.language.specs.Numbers.{answerWords}
 use Rattle.language.specs.declared.Refusal.{Refusal}
 use Rattle.language.specs.declared.Verdict.{Verdict}
 use Rattle.language.specs.declared.Verdict.the-variants.{Refused}
 use Rattle.answers.specs.Answers.{refusedAnswer}
-use Rattle.chain_call.specs.Calls.{refusedWords}
-use Rattle.chain_call.proofs.refused.Statement.{statement}
-use Rattle.chain_call.proofs.refused.Tie as tie
+use Rattle.answers.specs.Refusals.{refusedWords}
+use Rattle.answers.proofs.refusals.refused.Statement.{statement}
+use Rattle.answers.proofs.refusals.refused.Tie as tie
 
 refused-so : {v : Verdict} (c : Refusal) (o count tally : ℕ) (before : List ℕ) {words : List ℕ} → v ≡ Refused c o
     → words ≡ answerWords (refusedAnswer c o count tally) → words ≡ refusedWords v count tally before
