@@ -4,7 +4,7 @@ use std::time::{Duration, Instant};
 
 /// As many rounds as fit into the time of a row, but not fewer or more than these.
 const ROUNDS: (usize, usize) = (7, 200);
-const ROW: Duration = Duration::from_secs(2);
+const ROW: Duration = Duration::from_millis(500);
 /// A batch of calls takes about this long, so that reading the clock costs nothing.
 const BATCH: Duration = Duration::from_millis(1);
 
