@@ -18,7 +18,7 @@ use Rattle.display.specs.Ending.{resultFrom}
 use Rattle.display.specs.declared.run.Halt.{Halt}
 
 module _ (f : Fed) (bytes : Bytes (f .script)) (t : Block) (h : Admitted display f t) (code : List ℕ) (resolved : Resolved (f .script) (f .name) code) where
-  pub covers : Covers code 0 (resolvedOf (f .name) t)
+  covers : Covers code 0 (resolvedOf (f .name) t)
   covers = resolved-covers (f .script) (f .name) code resolved t (h .script)
 
   abbrev Begins : Type 0

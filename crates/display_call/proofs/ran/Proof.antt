@@ -4,10 +4,11 @@ use mathlib.Core.Path.{refl}
 use Rattle.language.specs.Call.{Fed, display}
 use Rattle.grammar.specs.Rules.{Bytes}
 use Rattle.grammar.specs.Words.{bytes-are}
+use Rattle.resolving.specs.Resolving.{resolved-covers}
 use Rattle.admission.specs.Lent.{fedOf}
 use Rattle.replies.specs.Replies.{no-links, tally-fits}
 use Rattle.replies.specs.Runs.{sheet-needs, run-replies}
-use Rattle.display_call.proofs.Pieces.{covers, beginning, ended}
+use Rattle.display_call.proofs.Pieces.{beginning, ended}
 use Rattle.display_call.proofs.ran.Statement.{statement}
 use Rattle.display_call.proofs.ran.Tie as tie
 
@@ -56,7 +57,7 @@ write-sheet-requires c κs =
     let u = ranAt c in
     let z = resolvedAt (u .before) in
     let p = (startAt z) .pre in
-    sheet-needs (bytesAt z) (p .1) (covers (fedAt z) (bytesAt z) (p .0) (p .1) _ (z .resolve .ensures))
+    sheet-needs (bytesAt z) (p .1) (resolved-covers _ _ _ (z .resolve .ensures) _ (p .1 .script))
     (ended (fedAt z) (bytesAt z) (p .0) (p .1) _ (z .resolve .ensures) (u .run-program .result) (u .run-program .ensures))
 
 run-words-requires : tie.Need-run-words-requires
@@ -74,7 +75,7 @@ returns c =
     let u = ranAt (v .before) in
     let z = resolvedAt (u .before) in
     let p = (startAt z) .pre in
-    run-replies (bytesAt z) (p .1) (covers (fedAt z) (bytesAt z) (p .0) (p .1) _ (z .resolve .ensures))
+    run-replies (bytesAt z) (p .1) (resolved-covers _ _ _ (z .resolve .ensures) _ (p .1 .script))
     (ended (fedAt z) (bytesAt z) (p .0) (p .1) _ (z .resolve .ensures) (u .run-program .result) (u .run-program .ensures))
     (v .write-sheet .ensures) (no-links display (fedAt z) _ refl) (c .run-words .ensures)
 
