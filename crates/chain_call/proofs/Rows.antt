@@ -1,5 +1,5 @@
--- The arrays of this crate, a verdict and a call's numbers (`numberss`, `fitting`) as data, for proofs by hand.
-use denote.Struct.Laws.{owed}
+-- The arrays of this crate, a verdict and a call's numbers (`numberss`; `fitting` and `made` are to and from its fields) as data, for proofs by hand.
+use denote.Struct.Laws.{owes, owed}
 use Rattle.lending.specs.Data.{Datum, Good, enums, structs, words32, words16, usizes, ints32}
 use Rattle.lending.specs.Holes.{arrays}
 use Rattle.admission.specs.declared.Numbers.{Numbers}
@@ -36,3 +36,6 @@ pub fitting : (k : Numbers) → Good numberss k → Fitting k
 fitting k good =
     let p = owed N.the-type N′.the-laws k _ good in
     record { d = p .0; n = p .1 .0; g = p .1 .1 .0; tally = p .1 .1 .1 .0; count = p .1 .1 .1 .1 .0; name = p .1 .1 .1 .1 .1 .0 }
+
+pub made : (k : Numbers) → Fitting k → Good numberss k
+made k f = owes N.the-type N′.the-laws k (f .d, (f .n, (f .g, (f .tally, (f .count, (f .name, tt))))))

@@ -105,7 +105,14 @@ fn ran(
     let mut code = [0u32; 4096];
     let mut words = [0i32; 8224];
     ran_on(
-        &mut code, &mut words, script, numbers, table, sheet, records, answer,
+        &mut code,
+        &mut words,
+        script,
+        numbers,
+        table,
+        sheet,
+        records,
+        answer,
     );
 }
 
