@@ -22,18 +22,6 @@ startOf c = c .before .before .before
 abbrev loopOf : tie.After-shared-slice-known2 Inv-loop μ-loop → tie.At-loop Inv-loop μ-loop
 loopOf c = c .before .before
 
-first-requires : tie.Need-first-requires Inv-loop μ-loop
-first-requires c κs = search needs
-
-loop-holds : tie.Need-loop-holds Inv-loop μ-loop
-loop-holds c = c .first .ensures
-
-mul-e : tie.Need-mul-e Inv-loop μ-loop
-mul-e c = search needs
-
-shared-slice-read-e : tie.Need-shared-slice-read-e Inv-loop μ-loop
-shared-slice-read-e c = search needs
-
 returns : tie.Need-returns Inv-loop μ-loop
 returns c =
     let l = loopOf (c .before) in
@@ -44,14 +32,6 @@ returns c =
           ∙ found-at (a .name) (a .entries .now) i (c .before .before .loop-test .taken) (c .if1 .taken)),
       omega (arith, c .before .shared-slice-known2 .given i),
     )
-
-after-requires : tie.Need-after-requires Inv-loop μ-loop
-after-requires c κs =
-    let l = loopOf (c .before) in
-    (startOf l .pre, l .loop .inv .0, c .before .before .loop-test .taken, c .if1 .left)
-
-loop-less : tie.Need-loop-less Inv-loop μ-loop
-loop-less c = search needs
 
 loop-again : tie.Need-loop-again Inv-loop μ-loop
 loop-again c =
@@ -65,16 +45,5 @@ returns-2 c =
 
 pub find-spec : {M : Type 1} → statement M
 find-spec =
-    tie.close
-    (tie.spec
-    Inv-loop
-    μ-loop
-    first-requires
-    loop-holds
-    mul-e
-    shared-slice-read-e
-    returns
-    after-requires
-    loop-less
-    loop-again
-    returns-2)
+    tie.close (tie.spec Inv-loop μ-loop (λ c κs. search needs) (λ c. search needs) (λ c. search needs) (λ c. search needs) returns
+    (λ c κs. search needs) (λ c. search needs) loop-again returns-2)
