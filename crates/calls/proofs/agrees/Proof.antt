@@ -7,20 +7,11 @@ use borrow.Author.Needs.{needs}
 use Rattle.calls.proofs.agrees.Statement.{statement}
 use Rattle.calls.proofs.agrees.Tie as tie
 
-word-requires : tie.Need-word-requires
-word-requires c κs = search needs
-
 returns : tie.Need-returns
 unfolding verdictOf
 returns c =
     let a = c .before .before .before .before .args in
     sym (ap verdictOf (agrees-free (a .script .now) (a .at) (a .place) _ (λ e. c .if1 .taken (c .before .word .ensures .0 ∙ e))))
-
-add-word : tie.Need-add-word
-add-word c = search needs
-
-word-requires-2 : tie.Need-word-requires-2
-word-requires-2 c κs = search needs
 
 returns-2 : tie.Need-returns-2
 unfolding verdictOf
@@ -31,12 +22,6 @@ returns-2 c =
     (ap verdictOf
     (agrees-count (a .script .now) (a .at) (a .place) (sym (w .word .ensures .0) ∙ c .before .before .if1 .left) _ (a .at + 6) (a .count)
     (λ e. c .if2 .taken (c .before .word2 .ensures .0 ∙ e))))
-
-add-matching : tie.Need-add-matching
-add-matching c = search needs
-
-matching-requires : tie.Need-matching-requires
-matching-requires c κs = search needs
 
 returns-3 : tie.Need-returns-3
 unfolding verdictOf
@@ -64,14 +49,5 @@ returns-4 c =
 
 pub agrees-spec : {M : Type 1} → statement M
 agrees-spec =
-    tie.close
-    (tie.spec
-    word-requires
-    returns
-    add-word
-    word-requires-2
-    returns-2
-    add-matching
-    matching-requires
-    returns-3
-    returns-4)
+    tie.close (tie.spec (λ c κs. search needs) returns (λ c. search needs) (λ c κs. search needs) returns-2 (λ c. search needs)
+    (λ c κs. search needs) returns-3 returns-4)

@@ -36,32 +36,6 @@ foundOf c = c .before .before
 abbrev placeOf : tie.After-kind-number Inv-loop μ-loop → tie.After-place Inv-loop μ-loop
 placeOf c = c .before .before .before
 
-loop-holds : tie.Need-loop-holds Inv-loop μ-loop
-loop-holds c =
-    let a = c .before .before .args in
-    (search needs, rw (words-all (a .script .now) (a .at + 6) (a .count), kinds-all (a .script .now) (a .formals) (a .count)))
-
-add-word : tie.Need-add-word Inv-loop μ-loop
-add-word c = search needs
-
-mul-word : tie.Need-mul-word Inv-loop μ-loop
-mul-word c = search needs
-
-add-word-2 : tie.Need-add-word-2 Inv-loop μ-loop
-add-word-2 c = search needs
-
-word-requires : tie.Need-word-requires Inv-loop μ-loop
-word-requires c κs = search needs
-
-find-requires : tie.Need-find-requires Inv-loop μ-loop
-find-requires c κs = search needs
-
-enum-known-place : tie.Need-enum-known-place Inv-loop μ-loop
-enum-known-place c = search needs
-
-enum-told : tie.Need-enum-told Inv-loop μ-loop
-enum-told c = search needs
-
 returns : tie.Need-returns Inv-loop μ-loop
 returns c =
     let f = c .before .before in
@@ -71,21 +45,6 @@ returns c =
     (sym (l .before .loop .inv .1)
     ∙ match-miss (a .script .now) (drop (a .top) (a .entries .now)) (a .at) (a .count) (l .before .loop .i) (f .before .word .result)
     (l .loop-test .taken) (f .before .word .ensures .0) (a .formals) (sym (f .find .ensures .0) ∙ c .enum-told .given .1))
-
-add-word-3 : tie.Need-add-word-3 Inv-loop μ-loop
-add-word-3 c = search needs
-
-mul-word-2 : tie.Need-mul-word-2 Inv-loop μ-loop
-mul-word-2 c = search needs
-
-add-word-4 : tie.Need-add-word-4 Inv-loop μ-loop
-add-word-4 c = search needs
-
-word-requires-2 : tie.Need-word-requires-2 Inv-loop μ-loop
-word-requires-2 c κs = search needs
-
-kind-number-requires : tie.Need-kind-number-requires Inv-loop μ-loop
-kind-number-requires c κs = search needs
 
 kind-at-requires : tie.Need-kind-at-requires Inv-loop μ-loop
 kind-at-requires c κs =
@@ -105,12 +64,6 @@ returns-2 c =
     ∙ match-off (a .script .now) (drop (a .top) (a .entries .now)) (a .at) (a .count) (l .before .loop .i) (f .before .word .result)
     (l .loop-test .taken) (f .before .word .ensures .0) (a .formals) (p .place .given .0 .0) (sym (f .find .ensures .0) ∙ p .place .given .1)
     (λ e. c .if1 .taken (k .kind-at .ensures ∙ e ∙ sym (n .kind-number .ensures ∙ ap (λ (x : ℕ). kindField (kindFrom x)) (n .before .word2 .ensures .0)))))
-
-add-i : tie.Need-add-i Inv-loop μ-loop
-add-i c = search needs
-
-loop-less : tie.Need-loop-less Inv-loop μ-loop
-loop-less c = search needs
 
 loop-again : tie.Need-loop-again Inv-loop μ-loop
 loop-again c =
@@ -137,27 +90,7 @@ returns-3 c =
 
 pub matching-spec : {M : Type 1} → statement M
 matching-spec =
-    tie.close
-    (tie.spec
-    Inv-loop
-    μ-loop
-    loop-holds
-    add-word
-    mul-word
-    add-word-2
-    word-requires
-    find-requires
-    enum-known-place
-    enum-told
-    returns
-    add-word-3
-    mul-word-2
-    add-word-4
-    word-requires-2
-    kind-number-requires
-    kind-at-requires
-    returns-2
-    add-i
-    loop-less
-    loop-again
-    returns-3)
+    tie.close (tie.spec Inv-loop μ-loop (λ c. search (needs, words-all, kinds-all)) (λ c. search needs) (λ c. search needs)
+    (λ c. search needs) (λ c κs. search needs) (λ c κs. search needs) (λ c. search needs) (λ c. search needs) returns
+    (λ c. search needs) (λ c. search needs) (λ c. search needs) (λ c κs. search needs) (λ c κs. search needs) kind-at-requires
+    returns-2 (λ c. search needs) (λ c. search needs) loop-again returns-3)

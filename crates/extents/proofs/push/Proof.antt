@@ -1,6 +1,6 @@
 use borrow.Author.Needs.{needs}
 -- `extents::push` meets its contract: the entries put so far with those still to come are those of the records. Assumes nothing.
-use mathlib.Core.Path.{_≡_, refl, ap, _∙_}
+use mathlib.Core.Path.{_≡_, ap, _∙_}
 use mathlib.Core.List.{List}
 use Prim.Native.Nat.{ℕ, _+_, _*_, _-_, _≤_, max}
 use native.Mathlib.Omega.{arith}
@@ -33,40 +33,6 @@ startOf c = c .before .before .before
 abbrev loopOf : tie.After-word Inv-loop μ-loop → tie.At-loop Inv-loop μ-loop
 loopOf c = c .before .before
 
-loop-holds : tie.Need-loop-holds Inv-loop μ-loop
-loop-holds c =
-    (omega arith, omega arith, refl, refl, λ xs n h. push-start _ _ _ _ _ xs n h, refl, c .before .before .pre .3)
-
-add-word : tie.Need-add-word Inv-loop μ-loop
-add-word c = search needs
-
-word-requires : tie.Need-word-requires Inv-loop μ-loop
-word-requires c κs = search needs
-
-mul-entries : tie.Need-mul-entries Inv-loop μ-loop
-mul-entries c = search needs
-
-add-entries : tie.Need-add-entries Inv-loop μ-loop
-add-entries c = search needs
-
-add-entries-2 : tie.Need-add-entries-2 Inv-loop μ-loop
-add-entries-2 c = search needs
-
-mul-entries-2 : tie.Need-mul-entries-2 Inv-loop μ-loop
-mul-entries-2 c = search needs
-
-slice-write-entries : tie.Need-slice-write-entries Inv-loop μ-loop
-slice-write-entries c = search needs
-
-skip-requires : tie.Need-skip-requires Inv-loop μ-loop
-skip-requires c κs = search needs
-
-add-i : tie.Need-add-i Inv-loop μ-loop
-add-i c = search needs
-
-loop-less : tie.Need-loop-less Inv-loop μ-loop
-loop-less c = search needs
-
 loop-again : tie.Need-loop-again Inv-loop μ-loop
 loop-again c =
     let s = c .skip in
@@ -76,18 +42,15 @@ loop-again c =
     let st = startOf at in
     let a = st .args in (
       omega arith,
-      omega (arith, s .ensures .0 .close),
-      length-set (l .entries) (a .base + l .i) (w .result + 65536 * l .here) ∙ l .inv .2,
-      kept-step (l .entries) (a .entries .now) (a .base) (l .i) (w .result + 65536 * l .here) (l .inv .3),
+      search needs,
+      search (needs, length-set),
+      search (needs, kept-step),
       λ xs n h. push-step (a .script .now) (l .entries) (a .base) (a .at) (l .here) (l .i) (a .count) (w .result + 65536 * l .here) xs
           (omega (arith, l .inv .2, st .pre .2)) (c .before .before .before .loop-test .taken)
           (ap (λ (v : ℕ). v + 65536 * l .here) (w .ensures .0)) (s .result) (s .ensures .0) (l .inv .4 xs n h),
       take-set-le (a .base) (l .entries) (a .base + l .i) (w .result + 65536 * l .here) (omega arith) ∙ l .inv .5,
       s .ensures .1,
     )
-
-same-length : tie.Need-same-length Inv-loop μ-loop
-same-length c = c .before .loop .inv .2
 
 returns : tie.Need-returns Inv-loop μ-loop
 returns c =
@@ -100,21 +63,6 @@ returns c =
 
 pub push-spec : {M : Type 1} → statement M
 push-spec =
-    tie.close
-    (tie.spec
-    Inv-loop
-    μ-loop
-    loop-holds
-    add-word
-    word-requires
-    mul-entries
-    add-entries
-    add-entries-2
-    mul-entries-2
-    slice-write-entries
-    skip-requires
-    add-i
-    loop-less
-    loop-again
-    same-length
-    returns)
+    tie.close (tie.spec Inv-loop μ-loop (λ c. search (needs, push-start)) (λ c. search needs) (λ c κs. search needs)
+    (λ c. search needs) (λ c. search needs) (λ c. search needs) (λ c. search needs) (λ c. search needs) (λ c κs. search needs)
+    (λ c. search needs) (λ c. search needs) loop-again (λ c. search needs) returns)

@@ -10,18 +10,6 @@ use borrow.Author.Needs.{needs}
 use Rattle.uses.proofs.both.Statement.{statement}
 use Rattle.uses.proofs.both.Tie as tie
 
-word-requires : tie.Need-word-requires
-word-requires c κs = search needs
-
-uses-requires : tie.Need-uses-requires
-uses-requires c κs = search needs
-
-enum-told : tie.Need-enum-told
-enum-told c = search needs
-
-enum-told-2 : tie.Need-enum-told-2
-enum-told-2 c = search needs
-
 returns : tie.Need-returns
 unfolding pairJudged
 returns c =
@@ -31,12 +19,6 @@ returns c =
     then-stop (uses sc (a .at) (kindFrom (a .kind)) (fieldAt (a .script .now) (a .first))) _ (u .uses .result) _ _
     (u .uses .ensures ∙ ap (λ (n : ℕ). verdictOf (uses sc (a .at) (kindFrom (a .kind)) n)) (u .before .word .ensures .0))
     (c .enum-told2 .given .1)
-
-word-requires-2 : tie.Need-word-requires-2
-word-requires-2 c κs = search needs
-
-uses-requires-2 : tie.Need-uses-requires-2
-uses-requires-2 c κs = search needs
 
 returns-2 : tie.Need-returns-2
 unfolding pairJudged
@@ -52,13 +34,5 @@ returns-2 c =
 
 pub both-spec : {M : Type 1} → statement M
 both-spec =
-    tie.close
-    (tie.spec
-    word-requires
-    uses-requires
-    enum-told
-    enum-told-2
-    returns
-    word-requires-2
-    uses-requires-2
-    returns-2)
+    tie.close (tie.spec (λ c κs. search needs) (λ c κs. search needs) (λ c. search needs) (λ c. search needs) returns
+    (λ c κs. search needs) (λ c κs. search needs) returns-2)

@@ -16,9 +16,6 @@ startOf c = c .before .before
 abbrev markOf : tie.Else2 → tie.After-word
 markOf c = c .before .before
 
-word-requires : tie.Need-word-requires
-word-requires c κs = search needs
-
 returns : tie.Need-returns
 unfolding kindField
 returns c =
@@ -31,15 +28,6 @@ returns-2 c =
     let w = c .before .before in
     let a = startOf w .args in
     rw (means-LB (a .script .now) (a .place) (sym (w .word .ensures .0) ∙ c .if2 .taken))
-
-add-word : tie.Need-add-word
-add-word c = search needs
-
-word-requires-2 : tie.Need-word-requires-2
-word-requires-2 c κs = search needs
-
-kind-number-requires : tie.Need-kind-number-requires
-kind-number-requires c κs = search needs
 
 returns-3 : tie.Need-returns-3
 returns-3 c =
@@ -61,13 +49,5 @@ returns-4 c =
 
 pub kind-at-spec : {M : Type 1} → statement M
 kind-at-spec =
-    tie.close
-    (tie.spec
-    word-requires
-    returns
-    returns-2
-    add-word
-    word-requires-2
-    kind-number-requires
-    returns-3
-    returns-4)
+    tie.close (tie.spec (λ c κs. search needs) returns returns-2 (λ c. search needs) (λ c κs. search needs) (λ c κs. search needs)
+    returns-3 returns-4)

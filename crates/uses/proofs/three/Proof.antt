@@ -11,18 +11,6 @@ use borrow.Author.Needs.{needs}
 use Rattle.uses.proofs.three.Statement.{statement}
 use Rattle.uses.proofs.three.Tie as tie
 
-word-requires : tie.Need-word-requires
-word-requires c κs = search needs
-
-uses-requires : tie.Need-uses-requires
-uses-requires c κs = search needs
-
-enum-told : tie.Need-enum-told
-enum-told c = search needs
-
-enum-told-2 : tie.Need-enum-told-2
-enum-told-2 c = search needs
-
 returns : tie.Need-returns
 unfolding tripleJudged kindFrom
 returns c =
@@ -32,9 +20,6 @@ returns c =
     then-stop (uses sc (a .at) variable (fieldAt (a .script .now) (a .first))) _ (u .uses .result) _ _
     (u .uses .ensures ∙ ap (λ (n : ℕ). verdictOf (uses sc (a .at) variable n)) (u .before .word .ensures .0))
     (c .enum-told2 .given .1)
-
-both-requires : tie.Need-both-requires
-both-requires c κs = search needs
 
 returns-2 : tie.Need-returns-2
 unfolding tripleJudged kindFrom
@@ -49,5 +34,5 @@ returns-2 c =
 
 pub three-spec : {M : Type 1} → statement M
 three-spec =
-    tie.close
-    (tie.spec word-requires uses-requires enum-told enum-told-2 returns both-requires returns-2)
+    tie.close (tie.spec (λ c κs. search needs) (λ c κs. search needs) (λ c. search needs) (λ c. search needs) returns
+    (λ c κs. search needs) returns-2)

@@ -9,15 +9,6 @@ use borrow.Author.Needs.{needs}
 use Rattle.uses.proofs.uses.Statement.{statement}
 use Rattle.uses.proofs.uses.Tie as tie
 
-find-requires : tie.Need-find-requires
-find-requires c κs = search needs
-
-enum-known-place : tie.Need-enum-known-place
-enum-known-place c = search needs
-
-enum-told : tie.Need-enum-told
-enum-told c = search needs
-
 returns : tie.Need-returns
 unfolding verdictOf
 returns c =
@@ -59,12 +50,4 @@ returns-3 c =
 
 pub uses-spec : {M : Type 1} → statement M
 uses-spec =
-    tie.close
-    (tie.spec
-    find-requires
-    enum-known-place
-    enum-told
-    returns
-    kind-at-requires
-    returns-2
-    returns-3)
+    tie.close (tie.spec (λ c κs. search needs) (λ c. search needs) (λ c. search needs) returns kind-at-requires returns-2 returns-3)
