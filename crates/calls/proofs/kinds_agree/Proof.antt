@@ -51,20 +51,8 @@ matching-requires c κs =
       st .pre .1,
     )
 
-returns-4 : tie.Need-returns-4
-returns-4 c =
-    let m = markedOf (c .before) in
-    let x = placeOf m in
-    let f = foundOf x in
-    let w = readOf f in
-    let a = startOf w .args in
-    λ e. agreed (a .script .now) (drop (a .top) (a .entries .now)) (a .at) (w .word .result) (f .before .word2 .result) (x .before .place .given .0 .0)
-    (w .word .ensures .0) (f .before .word2 .ensures .0) (sym (f .find .ensures .0) ∙ x .before .place .given .1)
-    (sym (m .before .word3 .ensures .0) ∙ m .if1 .left) (sym (c .before .before .word4 .ensures .0) ∙ c .before .if2 .left)
-    (sym (c .matching .ensures) ∙ e)
-
 pub kinds-agree-spec : {M : Type 1} → statement M
 kinds-agree-spec =
     tie.close (tie.spec (λ c. search needs) (λ c κs. search needs) (λ c. search needs) (λ c κs. search needs) (λ c κs. search needs)
     (λ c. search needs) (λ c. search needs) (λ c. search (needs, no-true)) word-requires-3 (λ c. search (needs, no-true)) add-word-3
-    word-requires-4 (λ c. search (needs, no-true)) add-matching matching-requires returns-4)
+    word-requires-4 (λ c. search (needs, no-true)) add-matching matching-requires (λ c. search (needs, agreed)))
