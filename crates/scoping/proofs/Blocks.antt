@@ -3,7 +3,7 @@
 use mathlib.Core.Path.{_≡_, refl, sym, _∙_, ap, subst}
 use mathlib.Core.Bool.{Bool, true, false}
 use mathlib.Core.List.{List, [], _∷_, _++_, map}
-use Prim.Native.Nat.{ℕ, _+_, _*_, _<_, _≤_}
+use Prim.Native.Nat.{ℕ, _+_, _*_, _-_, _<_, _≤_}
 use native.Mathlib.Omega.{arith}
 use lib.Dec.{leb}
 use lib.ListN.{length, take, drop, length-append, length-map, take-append-drop}
@@ -19,9 +19,13 @@ use Rattle.grammar.specs.Rules.{FormedBlock, FormedDecls, FormedStmts}
 use Rattle.laws.specs.Fields.{fieldAt, FieldsStand, field-inside, fields-first, fields-after, fields-third}
 use Rattle.uses.specs.Meanings.{scopeOf}
 use Rattle.extents.specs.Items.{Item, formal, declared, stated, itemFields, itemsFields, inBlock, blockHead, entriesOf}
-use Rattle.scoping.specs.Walking.{progressOf, judgeItem, judgeItems, FormedItem, FormedItems, Ahead, BlockHere, ItemsHere}
+use Rattle.scoping.specs.Walking.{progressOf, judgeItem, judgeItems, FormedItem, FormedItems, Ahead, Kept, BlockHere, ItemsHere, BlockJudged, ItemsJudged}
+use Rattle.symbols.specs.Chains.{Chained}
+use Rattle.symbols.proofs.Chains.{kept-from, pushed-chained}
+use Rattle.extents.specs.Passing.{Pushed}
 use Rattle.extents.proofs.Inside.{items-append, block-opens, formal-items, decl-items}
 use Rattle.scoping.proofs.Names.{formals-mean, decls-mean}
+use Rattle.scoping.proofs.Statements.{block-mark}
 
 pub word-within : (bs : List ℕ) (at : ℕ) → 0 < fieldAt bs at → at < length bs
 word-within bs at p = go (leb (length bs) at) refl
@@ -197,11 +201,63 @@ module _ (bs : List ℕ) (at count top : ℕ) where
             ∙ ap (λ (v : definitions.Judgement). progressOf v (start + 2 * length (blockFields (block o ds ss))))
             (ap (judgeItems (inBlock (block o ds ss))) scope-is ∙ judged-block (scopeOf bs (drop top es₀)))
 
-  module _ (d s base : ℕ) (d-read : d ≡ fieldAt bs (start + 2)) (s-read : s ≡ fieldAt bs (start + 4)) (whole : base + (count + d) ≡ top)
-      (es₀ es₁ es₂ : List ℕ) (kept : drop (base + count) es₂ ≡ drop (base + count) es₁) (before : drop (base + count + d) es₁ ≡ drop (base + count + d) es₀)
-      (declared-there : (xs : List Item) → length xs ≡ d → FieldsStand bs (start + 6) (itemsFields xs) → take d (drop (base + count) es₁) ≡ entriesOf bs xs (start + 6))
-      (formals-there : (xs : List Item) → length xs ≡ count → FieldsStand bs at (itemsFields xs) → take count (drop base es₂) ≡ entriesOf bs xs at)
-      (r : Progress) (judged : (xs : List Item) (k n : ℕ) → ItemsHere bs (start + 6) (d + s) base xs k n → r ≡ progressOf (judgeItems xs (scopeOf bs (drop base es₂))) (start + 6 + 2 * length (itemsFields xs))) where
-    pub block-judged : (b : Block) (fs : List Formal) (level : ℕ) → BlockHere bs at count top b fs level → r ≡ progressOf (judgeBlock b fs (scopeOf bs (drop top es₀))) (start + 2 * length (blockFields b))
-    block-judged (block o ds ss) fs level h =
-        judged-here o ds ss fs level h d s base d-read s-read whole es₀ es₁ es₂ kept before declared-there formals-there r judged
+-- A block as the code has it: its mark and its numbers read, room for its names from `base` on.
+
+-- no block, or one with too many names, stands there
+pub no-block : (bs es : List ℕ) (at count top w : ℕ) (r : Progress) → w ≡ fieldAt bs (at + 6 * count) → (w ≡ BK-mark → ⊥) → BlockJudged bs es at count top r
+no-block bs es at count top w r e n b fs level h = absurd (n (e ∙ block-mark bs (at + 6 * count) b (h .stand)))
+
+pub no-room :
+    (bs es : List ℕ) (at count top d : ℕ) (r : Progress) → d ≡ fieldAt bs (at + 6 * count + 2) → top < 768 + (count + d) → BlockJudged bs es at count top r
+no-room bs es at count top d r e l b fs level h = absurd (omega (arith, block-room bs at count top b fs level h))
+
+-- its records begin inside the script, so that what is unread falls
+module _ (bs : List ℕ) (at w : ℕ) (read : w ≡ fieldAt bs at) (marked : w ≡ BK-mark) where
+  pub records-near : (k : ℕ) → 6 ≤ k → at + 6 ≤ length bs + k
+  records-near k l = omega (arith, word-within bs at (omega arith))
+
+  pub records-fall : (t : ℕ) → 3 * (length bs - at) ≡ t → 3 * (length bs - (at + 6)) + 2 < t
+  records-fall t e = omega (arith, word-within bs at (omega arith))
+
+pub ahead-block : (at count n : ℕ) (r : Progress) → Ahead (at + 6 * count + 6) n r → Ahead at n r
+ahead-block at count n r a = ahead-from at (at + 6 * count + 6) n r (omega arith) a
+
+pub ahead-body : (at n : ℕ) (r : Progress) → Ahead (at + 6) n r → Ahead at n r
+ahead-body at n r a = ahead-from at (at + 6) n r (omega arith) a
+
+module _ (es es₁ es₂ : List ℕ) (count d top : ℕ) (fits : 768 + (count + d) ≤ top)
+    (before : drop (top - (count + d) + count + d) es₁ ≡ drop (top - (count + d) + count + d) es) (kept : drop (top - (count + d) + count) es₂ ≡ drop (top - (count + d) + count) es₁)
+  where
+    abbrev base : ℕ
+    base = top - (count + d)
+
+    whole : base + (count + d) ≡ top
+    whole = omega arith
+
+    -- the names put below `top` leave the chains as they were
+    pub names-chained :
+        length es₁ ≡ length es → length es₂ ≡ length es₁ → take (base + count) es₁ ≡ take (base + count) es → take base es₂ ≡ take base es₁ →
+        Chained es top → Chained es₂ top
+    names-chained n₁ n₂ below₁ below₂ h = pushed-chained es es₁ es₂ base count d top (omega arith) whole n₁ n₂ below₁ before below₂ kept h
+
+    -- in the chains, the records walked, out of the chains
+    module _ (es₃ : List ℕ) (hung : drop 768 es₃ ≡ drop 768 es₂) where
+      hung-here : drop base es₃ ≡ drop base es₂
+      hung-here = kept-from es₃ es₂ 768 base (omega arith) hung
+
+      pub block-kept :
+          (bs es₄ es₅ ends : List ℕ) → Kept bs es₃ es₄ ends base → Chained es₅ top → drop 768 es₅ ≡ drop 768 es₄ → Kept bs es es₅ ends top
+      block-kept bs es₄ es₅ ends k c e =
+          record {
+            same = kept-from es₅ es₄ 768 top (omega arith) e ∙ kept-below es es₁ es₂ base count d top whole kept before es₄ (k .same ∙ hung-here);
+            chained = c;
+            noted = k .noted;
+          }
+
+      pub block-judged :
+          (bs : List ℕ) (at s : ℕ) (r : Progress) → d ≡ fieldAt bs (at + 6 * count + 2) → s ≡ fieldAt bs (at + 6 * count + 4) →
+          Pushed bs (at + 6 * count + 6) d (base + count) es₁ → Pushed bs at count base es₂ → ItemsJudged bs es₃ (at + 6 * count + 6) (d + s) base r →
+          BlockJudged bs es at count top r
+      block-judged bs at s r d-read s-read ds fs j (block o l ss) formals level h =
+          judged-here bs at count top o l ss formals level h d s base d-read s-read whole es es₁ es₂ kept before ds fs r
+          (λ xs k n i. j xs k n i ∙ ap (λ (e : List ℕ). progressOf (judgeItems xs (scopeOf bs e)) (at + 6 * count + 6 + 2 * length (itemsFields xs))) hung-here)
