@@ -20,9 +20,9 @@ use Rattle.laws.specs.Fields.{fieldAt, FieldsStand, field-inside, fields-first,
 use Rattle.uses.specs.Meanings.{scopeOf}
 use Rattle.extents.specs.Items.{Item, formal, declared, stated, itemFields, itemsFields, inBlock, blockHead, entriesOf}
 use Rattle.scoping.specs.Walking.{progressOf, judgeItem, judgeItems, FormedItem, FormedItems, Ahead, Kept, BlockHere, ItemsHere, BlockJudged, ItemsJudged}
-use Rattle.symbols.specs.Chains.{Chained}
+use Rattle.symbols.specs.Chains.{Chained, Rechained}
 use Rattle.symbols.proofs.Chains.{kept-from, pushed-chained}
-use Rattle.extents.specs.Passing.{Pushed}
+use Rattle.extents.specs.Passing.{Placed}
 use Rattle.extents.proofs.Inside.{items-append, block-opens, formal-items, decl-items}
 use Rattle.scoping.proofs.Names.{formals-mean, decls-mean}
 use Rattle.scoping.proofs.Statements.{block-mark}
@@ -219,14 +219,12 @@ module _ (bs : List ℕ) (at w : ℕ) (read : w ≡ fieldAt bs at) (marked : w �
   pub records-fall : (t : ℕ) → 3 * (length bs - at) ≡ t → 3 * (length bs - (at + 6)) + 2 < t
   records-fall t e = omega (arith, word-within bs at (omega arith))
 
-pub ahead-block : (at count n : ℕ) (r : Progress) → Ahead (at + 6 * count + 6) n r → Ahead at n r
-ahead-block at count n r a = ahead-from at (at + 6 * count + 6) n r (omega arith) a
-
 pub ahead-body : (at n : ℕ) (r : Progress) → Ahead (at + 6) n r → Ahead at n r
 ahead-body at n r a = ahead-from at (at + 6) n r (omega arith) a
 
-module _ (es es₁ es₂ : List ℕ) (count d top : ℕ) (fits : 768 + (count + d) ≤ top)
-    (before : drop (top - (count + d) + count + d) es₁ ≡ drop (top - (count + d) + count + d) es) (kept : drop (top - (count + d) + count) es₂ ≡ drop (top - (count + d) + count) es₁)
+-- its names are put below `top`: those declared, then the formals
+module _ (bs es es₁ es₂ ends₁ ends₂ : List ℕ) (at count d top : ℕ) (formals-put : Placed bs es₁ es₂ ends₂ at count (top - (count + d)))
+    (declared-put : Placed bs es es₁ ends₁ (at + 6 * count + 6) d (top - (count + d) + count)) (fits : 768 + (count + d) ≤ top)
   where
     abbrev base : ℕ
     base = top - (count + d)
@@ -234,30 +232,37 @@ module _ (es es₁ es₂ : List ℕ) (count d top : ℕ) (fits : 768 + (count + 
     whole : base + (count + d) ≡ top
     whole = omega arith
 
-    -- the names put below `top` leave the chains as they were
-    pub names-chained :
-        length es₁ ≡ length es → length es₂ ≡ length es₁ → take (base + count) es₁ ≡ take (base + count) es → take base es₂ ≡ take base es₁ →
-        Chained es top → Chained es₂ top
-    names-chained n₁ n₂ below₁ below₂ h = pushed-chained es es₁ es₂ base count d top (omega arith) whole n₁ n₂ below₁ before below₂ kept h
+    -- the chains are as they were
+    pub names-chained : length es₁ ≡ length es → length es₂ ≡ length es₁ → Chained es top → Chained es₂ top
+    names-chained n₁ n₂ h =
+        pushed-chained es es₁ es₂ base count d top (omega arith) whole n₁ n₂ (declared-put .below) (declared-put .above) (formals-put .below) (formals-put .above) h
 
     -- in the chains, the records walked, out of the chains
-    module _ (es₃ : List ℕ) (hung : drop 768 es₃ ≡ drop 768 es₂) where
+    module _ (es₃ : List ℕ) (inserted : Rechained es₂ es₃ base) where
       hung-here : drop base es₃ ≡ drop base es₂
-      hung-here = kept-from es₃ es₂ 768 base (omega arith) hung
+      hung-here = kept-from es₃ es₂ 768 base (omega arith) (inserted .same)
 
-      pub block-kept :
-          (bs es₄ es₅ ends : List ℕ) → Kept bs es₃ es₄ ends base → Chained es₅ top → drop 768 es₅ ≡ drop 768 es₄ → Kept bs es es₅ ends top
-      block-kept bs es₄ es₅ ends k c e =
+      block-judged :
+          (s : ℕ) (r : Progress) → d ≡ fieldAt bs (at + 6 * count + 2) → s ≡ fieldAt bs (at + 6 * count + 4) →
+          ItemsJudged bs es₃ (at + 6 * count + 6) (d + s) base r → BlockJudged bs es at count top r
+      block-judged s r d-read s-read j (block o l ss) fs level h =
+          judged-here bs at count top o l ss fs level h d s base d-read s-read whole es es₁ es₂ (formals-put .above) (declared-put .above) (declared-put .pushed)
+          (formals-put .pushed) r
+          (λ xs k n i. j xs k n i ∙ ap (λ (e : List ℕ). progressOf (judgeItems xs (scopeOf bs e)) (at + 6 * count + 6 + 2 * length (itemsFields xs))) hung-here)
+
+      block-kept : (es₄ es₅ ends : List ℕ) → Kept bs es₃ es₄ ends base → Rechained es₄ es₅ top → Kept bs es es₅ ends top
+      block-kept es₄ es₅ ends k r =
           record {
-            same = kept-from es₅ es₄ 768 top (omega arith) e ∙ kept-below es es₁ es₂ base count d top whole kept before es₄ (k .same ∙ hung-here);
-            chained = c;
+            same =
+                kept-from es₅ es₄ 768 top (omega arith) (r .same)
+                ∙ kept-below es es₁ es₂ base count d top whole (formals-put .above) (declared-put .above) es₄ (k .same ∙ hung-here);
+            chained = r .chained;
             noted = k .noted;
           }
 
-      pub block-judged :
-          (bs : List ℕ) (at s : ℕ) (r : Progress) → d ≡ fieldAt bs (at + 6 * count + 2) → s ≡ fieldAt bs (at + 6 * count + 4) →
-          Pushed bs (at + 6 * count + 6) d (base + count) es₁ → Pushed bs at count base es₂ → ItemsJudged bs es₃ (at + 6 * count + 6) (d + s) base r →
-          BlockJudged bs es at count top r
-      block-judged bs at s r d-read s-read ds fs j (block o l ss) formals level h =
-          judged-here bs at count top o l ss formals level h d s base d-read s-read whole es es₁ es₂ kept before ds fs r
-          (λ xs k n i. j xs k n i ∙ ap (λ (e : List ℕ). progressOf (judgeItems xs (scopeOf bs e)) (at + 6 * count + 6 + 2 * length (itemsFields xs))) hung-here)
+      pub block-walked :
+          (s : ℕ) (r : Progress) (es₄ es₅ ends : List ℕ) → d ≡ fieldAt bs (at + 6 * count + 2) → s ≡ fieldAt bs (at + 6 * count + 4) →
+          ItemsJudged bs es₃ (at + 6 * count + 6) (d + s) base r × (Ahead (at + 6 * count + 6) (length bs) r × Kept bs es₃ es₄ ends base) →
+          Rechained es₄ es₅ top → BlockJudged bs es at count top r × (Ahead at (length bs) r × Kept bs es es₅ ends top)
+      block-walked s r es₄ es₅ ends d-read s-read w out =
+          (block-judged s r d-read s-read (w .0), (ahead-from at (at + 6 * count + 6) (length bs) r (omega arith) (w .1 .0), block-kept es₄ es₅ ends (w .1 .1) out))

@@ -153,5 +153,8 @@ module _ {bs es₀ es ends : List ℕ} {at here i count top : ℕ} (w : Walking 
           rest = λ xs level s h. remaining-step bs es₀ at count top xs level s here i more r judged-at next q (w .rest xs level s h);
         }
 
+pub kept-all : (bs es ends : List ℕ) (top : ℕ) → Ready bs es ends top → Kept bs es es ends top
+kept-all bs es ends top r = record { same = refl; chained = r .chained; noted = r .noted }
+
 pub kept-again : (bs es es₁ es₂ ends ends₁ : List ℕ) (top : ℕ) → Kept bs es es₁ ends top → Kept bs es₁ es₂ ends₁ top → Kept bs es es₂ ends₁ top
 kept-again bs es es₁ es₂ ends ends₁ top k j = record { same = j .same ∙ k .same; chained = j .chained; noted = j .noted }
