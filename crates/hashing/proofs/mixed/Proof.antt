@@ -5,12 +5,9 @@ use borrow.Author.Needs.{needs}
 use Rattle.hashing.proofs.mixed.Statement.{statement}
 use Rattle.hashing.proofs.mixed.Tie as tie
 
-mul-result : tie.Need-mul-result
-mul-result c = search needs
-
 returns : tie.Need-returns
 unfolding mix
 returns c = refl
 
 pub mixed-spec : {M : Type 1} → statement M
-mixed-spec = tie.close (tie.spec mul-result returns)
+mixed-spec = tie.close (tie.spec (λ c. search needs) returns)
