@@ -86,8 +86,8 @@ pub fn target_of(word: usize) -> usize
 }
 
 pub fn name_word(position: usize, formal: usize, kind: usize, level: usize, target: usize) -> usize
-    requires { ⌜ (position < 2 ^ 32) × (formal < 2 ^ 32) × (kind < 2 ^ 32) × (level < 2 ^ 32) × (target < 2 ^ 32) ⌝ }
-    ensures { λ r. ⌜ (r ≡ packed position formal kind level target) × (r < 2 ^ 49) ⌝ }
+    requires { ⌜ (position < 2 ^ 32) × (formal < 2) × (kind < 65536) × (level < 2 ^ 32) × (target < 3 * 2 ^ 30) ⌝ }
+    ensures { λ r. ⌜ (r ≡ packed position formal kind level target) × (r < 2 ^ 48) ⌝ }
 {
     position + 32 * formal + 64 * kind + 256 * level + 65536 * target
 }
