@@ -1,63 +1,55 @@
--- The clauses of the frame machine's run, as equations, and what every step keeps, which the stack that a run leaves has. The stacks of
--- a run are those that its shorter runs leave.
-use Prim.Native.Nat.{ℕ, zero, suc, _≤_}
-use native.Mathlib.Nat.{not-suc-le-zero}
-use mathlib.Core.Path.{_≡_, refl, sym, ap, _∙_, subst}
-use mathlib.Core.List.{List, [], _∷_}
+-- The rules of the frame machine's run, as equations (`run-finished`, `run-spent`, `run-stops`, `run-short`, `run-steps`), and what every step keeps, which
+-- the stack that a run leaves has (`run-keeps`). The stacks of a run are those that its shorter runs leave.
+use Prim.Native.Nat.{ℕ, _-_, _≤_, _<_}
+use native.Mathlib.Omega.{arith}
+use mathlib.Core.Path.{_≡_, ap}
+use mathlib.Core.List.{[]}
 use lib.ListN.{length}
 use Rattle.language.specs.Machine.{Limits}
 use Rattle.language.specs.declared.Stop.{Stop}
 use Rattle.language.specs.declared.End.the-variants.{Finished, Spent, Stopped}
-use Rattle.laws.specs.Lists.{by-elements}
-use Rattle.frames.specs.Frame.{Frame, Stack, Acted, acted, halted, stepped, frameStep, frameOffset, Result, results, frameRun}
+use Rattle.laws.specs.Machines.{goes, stops, loop-keeps, loop-finished, loop-spent, loop-stops, loop-short, loop-goes}
+use Rattle.frames.specs.Frame.{Stack, Acted, acted, halted, frameCost, stepped, frameStep, frameOffset, results, frameTried, framed, frameRun}
+
+pub some-cost : (s s′ : Stack) → 1 ≤ frameCost s s′
+unfolding frameCost
+some-cost s s′ = omega arith
+
+pub tried-acted : (d : Acted) (s : Stack) → frameTried d ≡ goes s → d ≡ acted s
+tried-acted (acted t) s e = cc
+tried-acted (halted c) s e = let z : _≡_ {A = ℕ} 0 1 = cc in absurd (omega arith)
+
+pub tried-halted : (d : Acted) (c : Stop) → frameTried d ≡ stops c → d ≡ halted c
+tried-halted (acted t) c e = let z : _≡_ {A = ℕ} 0 1 = cc in absurd (omega arith)
+tried-halted (halted d) c e = cc
 
 module _ (l : Limits) (s : Stack) where
   pub run-finished : (n : ℕ) → s .frames ≡ [] → frameRun l n s ≡ results Finished 0 s
   unfolding frameRun
-  run-finished zero e = ap (λ (fs : List Frame). elim fs as (λ x. Result) [ [] ↦ results Finished 0 s | f ∷ rest ↦ results Spent 0 s ]) e
-  run-finished (suc n) e = ap (λ (fs : List Frame). elim fs as (λ x. Result) [ [] ↦ results Finished 0 s | f ∷ rest ↦ elim (frameStep l s) [ acted s′ ↦ frameRun l n (stepped s′) | halted c ↦ results (Stopped c) (frameOffset s) s ] ]) e
+  run-finished n e = loop-finished (framed l) some-cost s n e
 
   pub run-spent : 1 ≤ length (s .frames) → frameRun l 0 s ≡ results Spent 0 s
   unfolding frameRun
-  run-spent h = go (s .frames) h
-    where
-      go : (fs : List Frame) → 1 ≤ length fs → elim fs as (λ x. Result) [ [] ↦ results Finished 0 s | f ∷ rest ↦ results Spent 0 s ] ≡ results Spent 0 s
-      go [] k = absurd (not-suc-le-zero k)
-      go (f ∷ rest) k = refl
+  run-spent h = loop-spent (framed l) some-cost s h
 
-  -- with frames left and a step allowed the step decides
-  abbrev on-step : ℕ → Acted → Result
-  on-step n d = elim d [ acted s′ ↦ frameRun l n (stepped s′) | halted c ↦ results (Stopped c) (frameOffset s) s ]
-
-  run-by-step : (n : ℕ) → 1 ≤ length (s .frames) → frameRun l (suc n) s ≡ on-step n (frameStep l s)
+  pub run-stops : (n : ℕ) (c : Stop) → 1 ≤ length (s .frames) → 1 ≤ n → frameStep l s ≡ halted c → frameRun l n s ≡ results (Stopped c) (frameOffset s) s
   unfolding frameRun
-  run-by-step n h = go (s .frames) h
-    where
-      go : (fs : List Frame) → 1 ≤ length fs → elim fs as (λ x. Result) [ [] ↦ results Finished 0 s | f ∷ rest ↦ on-step n (frameStep l s) ] ≡ on-step n (frameStep l s)
-      go [] k = absurd (not-suc-le-zero k)
-      go (f ∷ rest) k = refl
+  run-stops n c h k e = loop-stops (framed l) some-cost s n c h k (ap frameTried e)
 
-  pub run-steps : (n : ℕ) (s′ : Stack) → 1 ≤ length (s .frames) → frameStep l s ≡ acted s′ → frameRun l (suc n) s ≡ frameRun l n (stepped s′)
-  run-steps n s′ h e = run-by-step n h ∙ ap (on-step n) e
+  -- a step that costs more than is left is not begun
+  pub run-short : (n : ℕ) (s′ : Stack) → 1 ≤ length (s .frames) → 1 ≤ n → frameStep l s ≡ acted s′ → n < frameCost s s′ → frameRun l n s ≡ results Spent 0 s
+  unfolding frameRun
+  run-short n s′ h k e f = loop-short (framed l) some-cost s n s′ h k (ap frameTried e) f
 
-  pub run-stops : (n : ℕ) (c : Stop) → 1 ≤ length (s .frames) → frameStep l s ≡ halted c → frameRun l (suc n) s ≡ results (Stopped c) (frameOffset s) s
-  run-stops n c h e = run-by-step n h ∙ ap (on-step n) e
+  pub run-steps : (n : ℕ) (s′ : Stack) → 1 ≤ length (s .frames) → frameStep l s ≡ acted s′ → frameCost s s′ ≤ n → frameRun l n s ≡ frameRun l (n - frameCost s s′) (stepped s s′)
+  unfolding frameRun
+  run-steps n s′ h e f = loop-goes (framed l) some-cost s n s′ h (ap frameTried e) f
 
 -- a property of the stack that a statement or a step leaves, where it did not stop
 abbrev pub After : (Stack → Type 0) → Acted → Type 0
 After P (acted s) = P s
 After P (halted c) = Unit {0}
 
-module _ (l : Limits) (P : Stack → Type 0) (keeps : (s s′ : Stack) → 1 ≤ length (s .frames) → frameStep l s ≡ acted s′ → P s → P (stepped s′)) where
-  leaves : Result → Type 0
-  leaves r = P (r .final)
-
-  run-on : (n : ℕ) (s : Stack) → 1 ≤ length (s .frames) → P s → ((s′ : Stack) → P s′ → leaves (frameRun l n s′)) → (d : Acted) → frameStep l s ≡ d → leaves (frameRun l (suc n) s)
-  unfolding results leaves
-  run-on n s h p f (acted s′) e = subst leaves (sym (run-steps l s n s′ h e)) (f (stepped s′) (keeps s s′ h e p))
-  run-on n s h p f (halted c) e = subst leaves (sym (run-stops l s n c h e)) p
-
-  pub run-keeps : (n : ℕ) (s : Stack) → P s → P ((frameRun l n s) .final)
-  unfolding results leaves
-  run-keeps zero s p = by-elements (s .frames) (λ e. subst leaves (sym (run-finished l s 0 e)) p) (λ h. subst leaves (sym (run-spent l s h)) p)
-  run-keeps (suc n) s p = by-elements (s .frames) (λ e. subst leaves (sym (run-finished l s (suc n) e)) p) (λ h. run-on n s h p (run-keeps n) (frameStep l s) refl)
+pub run-keeps : (l : Limits) (P : Stack → Type 0) → ((s s′ : Stack) → 1 ≤ length (s .frames) → frameStep l s ≡ acted s′ → P s → P (stepped s s′)) → (n : ℕ) (s : Stack) → P s → P ((frameRun l n s) .final)
+unfolding frameRun results
+run-keeps l P keeps = loop-keeps (framed l) some-cost P (λ r. P (r .final)) (λ e o s p. p) (λ s s′ h e. keeps s s′ h (tried-acted (frameStep l s) s′ e))

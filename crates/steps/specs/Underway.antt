@@ -24,6 +24,7 @@ use Rattle.arrays.specs.Holds.{Holds}
 use Rattle.arrays.specs.Names.{nothing-live}
 use Rattle.steps.specs.Standing.{Standing}
 use Rattle.steps.specs.Means.{Follows}
+use Rattle.steps.specs.Counts.{costs-one}
 use Rattle.steps.specs.Here.{many}
 use Rattle.steps.specs.Loop as loop
 
@@ -95,11 +96,11 @@ module _ {done : ℕ} {program : Block} {name allowance : ℕ} {result : Result}
   pub went : {words′ : List ℤ} {blocks′ nexts′ links′ : List ℕ} {table′ : List ℤ} {pairs′ live′ at′ end′ : ℕ} (v : Standing code l words′ blocks′ nexts′ links′ table′ pairs′ live′ at′ end′)
       → Follows w (v .stack) (v .program) (v .name) → 1 ≤ left → UnderwayFrom done program name allowance result v (left - 1)
   went v f h =
-      let e : left ≡ suc (left - 1) = omega arith in
+      let one = costs-one (w .stack) (f .moved) in
       record {
         same-program = f .same-program ∙ u .same-program;
         same-name = f .same-name ∙ u .same-name;
-        runs = u .runs ∙ ap (λ n. frameRun l n (w .stack)) e ∙ f .runs (left - 1);
+        runs = u .runs ∙ f .runs left (omega arith) ∙ ap (λ n. frameRun l (left - n) (v .stack)) one;
         counts = omega (arith, u .counts, f .counts);
         few-left = omega (arith, u .few-left);
       }
