@@ -4,63 +4,41 @@ use mathlib.Core.Bool.{true, false}
 use mathlib.Core.Path.{_≡_}
 use lib.Dec.{leb}
 use borrow.Author.Tests.{le-leb, lt-leb}
-use Rattle.language.specs.Call.{limitsFit, holdsAtLeast}
+use Rattle.language.specs.Call.{Fed, limitsFit, holdsAtLeast}
 use Rattle.admission.specs.declared.Area.{Area}
 use Rattle.admission.specs.declared.Area.the-variants.{Unused, Of}
-use Rattle.admission.specs.Lent.{heldIn, limitsAlone}
+use Rattle.admission.specs.Lent.{heldIn}
 
-module _ (d n g tally : ℕ) where
-  pub none-live : d < 1 → false ≡ limitsFit (limitsAlone d n g tally)
+module _ (f : Fed) where
+  pub none-live : f .activations < 1 → false ≡ limitsFit f
   unfolding limitsFit
-  none-live h = let a : leb 1 d ≡ false = lt-leb 1 d h in rw a
+  none-live h = rw (lt-leb 1 (f .activations) h)
 
-  module _ (h1 : 1 ≤ d) where
-    pub many-live : 256 < d → false ≡ limitsFit (limitsAlone d n g tally)
+  module _ (h1 : 1 ≤ f .activations) where
+    pub many-live : 256 < f .activations → false ≡ limitsFit f
     unfolding limitsFit
-    many-live h =
-        let a : leb 1 d ≡ true = le-leb 1 d h1 in
-        let b : leb d 256 ≡ false = lt-leb d 256 h in
-        rw (a, b)
+    many-live h = rw (le-leb 1 (f .activations) h1, lt-leb (f .activations) 256 h)
 
-    module _ (h2 : d ≤ 256) where
-      pub many-steps : 1000000 < n → false ≡ limitsFit (limitsAlone d n g tally)
+    module _ (h2 : f .activations ≤ 256) where
+      pub many-steps : 1000000 < f .allowance → false ≡ limitsFit f
       unfolding limitsFit
-      many-steps h =
-          let a : leb 1 d ≡ true = le-leb 1 d h1 in
-          let b : leb d 256 ≡ true = le-leb d 256 h2 in
-          let c : leb n 1000000 ≡ false = lt-leb n 1000000 h in
-          rw (a, b, c)
+      many-steps h = rw (le-leb 1 (f .activations) h1, le-leb (f .activations) 256 h2, lt-leb (f .allowance) 1000000 h)
 
-      module _ (h3 : n ≤ 1000000) where
-        pub no-group : g < 1 → false ≡ limitsFit (limitsAlone d n g tally)
+      module _ (h3 : f .allowance ≤ 1000000) where
+        pub no-group : f .group < 1 → false ≡ limitsFit f
         unfolding limitsFit
-        no-group h =
-            let a : leb 1 d ≡ true = le-leb 1 d h1 in
-            let b : leb d 256 ≡ true = le-leb d 256 h2 in
-            let c : leb n 1000000 ≡ true = le-leb n 1000000 h3 in
-            let e : leb 1 g ≡ false = lt-leb 1 g h in
-            rw (a, b, c, e)
+        no-group h = rw (le-leb 1 (f .activations) h1, le-leb (f .activations) 256 h2, le-leb (f .allowance) 1000000 h3, lt-leb 1 (f .group) h)
 
-        module _ (h4 : 1 ≤ g) where
-          pub large-group : 65535 < g → false ≡ limitsFit (limitsAlone d n g tally)
+        module _ (h4 : 1 ≤ f .group) where
+          pub large-group : 65535 < f .group → false ≡ limitsFit f
           unfolding limitsFit
           large-group h =
-              let a : leb 1 d ≡ true = le-leb 1 d h1 in
-              let b : leb d 256 ≡ true = le-leb d 256 h2 in
-              let c : leb n 1000000 ≡ true = le-leb n 1000000 h3 in
-              let e : leb 1 g ≡ true = le-leb 1 g h4 in
-              let f : leb g 65535 ≡ false = lt-leb g 65535 h in
-              rw (a, b, c, e, f)
+              rw (le-leb 1 (f .activations) h1, le-leb (f .activations) 256 h2, le-leb (f .allowance) 1000000 h3, le-leb 1 (f .group) h4, lt-leb (f .group) 65535 h)
 
-          pub by-tally : g ≤ 65535 → leb tally 1000000000000 ≡ limitsFit (limitsAlone d n g tally)
+          pub by-tally : f .group ≤ 65535 → leb (f .tally) 1000000000000 ≡ limitsFit f
           unfolding limitsFit
           by-tally h =
-              let a : leb 1 d ≡ true = le-leb 1 d h1 in
-              let b : leb d 256 ≡ true = le-leb d 256 h2 in
-              let c : leb n 1000000 ≡ true = le-leb n 1000000 h3 in
-              let e : leb 1 g ≡ true = le-leb 1 g h4 in
-              let f : leb g 65535 ≡ true = le-leb g 65535 h in
-              rw (a, b, c, e, f)
+              rw (le-leb 1 (f .activations) h1, le-leb (f .activations) 256 h2, le-leb (f .allowance) 1000000 h3, le-leb 1 (f .group) h4, le-leb (f .group) 65535 h)
 
 pub unused : (asked : ℕ) (area : Area) → area ≡ Unused → true ≡ holdsAtLeast asked (heldIn area)
 unfolding holdsAtLeast

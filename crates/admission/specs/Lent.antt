@@ -1,7 +1,7 @@
 -- What a call is lent and fed, in the code's words, and its admission in two parts.
 use Prim.Native.Nat.{ℕ, _*_, _/_}
 use mathlib.Core.Bool.{Bool, true, false}
-use mathlib.Core.List.{List, []}
+use mathlib.Core.List.{List}
 use mathlib.Core.Option.{Option, none, some}
 use lib.IntN.{ℤ}
 use lib.ListN.{length}
@@ -12,6 +12,7 @@ use Rattle.language.specs.declared.Refusal.the-variants.{AreaTooShort}
 use Rattle.language.specs.declared.Verdict.{Verdict}
 use Rattle.language.specs.declared.Verdict.the-variants.{Fit, Refused}
 use Rattle.pairs.specs.Outcomes.{tableOf}
+use Rattle.admission.specs.declared.Numbers.{Numbers}
 use Rattle.admission.specs.declared.Area.{Area}
 use Rattle.admission.specs.declared.Area.the-variants.{Unused, Of}
 
@@ -22,19 +23,21 @@ heldIn (Of held) = some held
 abbrev pub engineOf : Area → Area → Bool → Engine
 engineOf records area links = record { records = heldIn records; area = heldIn area; links = links }
 
-abbrev pub fedOf : List ℕ → ℕ → ℕ → ℕ → ℕ → List ℤ → ℕ → ℕ → List ℤ → Fed
-fedOf script d n g tally table count name sheet =
-    record { script = script; activations = d; allowance = n; group = g; tally = tally; name = name; lent = record { sheet = sheet; table = tableOf table count } }
+abbrev pub fedOf : Numbers → List ℕ → List ℤ → List ℤ → Fed
+fedOf k script table sheet =
+    record {
+      script = script;
+      activations = k .d;
+      allowance = k .n;
+      group = k .g;
+      tally = k .tally;
+      name = k .name;
+      lent = record { sheet = sheet; table = tableOf table (k .count) };
+    }
 
 -- what the tests before the script check look at
 abbrev pub withRecords : Area → Engine
 withRecords records = engineOf records Unused false
-
-abbrev pub withoutScript : ℕ → ℕ → ℕ → ℕ → List ℤ → ℕ → List ℤ → Fed
-withoutScript d n g tally table count sheet = fedOf [] d n g tally table count 0 sheet
-
-abbrev pub limitsAlone : ℕ → ℕ → ℕ → ℕ → Fed
-limitsAlone d n g tally = withoutScript d n g tally [] 0 []
 
 -- a refusal of a test, which has no offset
 unfoldable pub dueOf : Option Refusal → Verdict

@@ -2,11 +2,11 @@
 use language::Refusal;
 use language::Verdict;
 ghost use mathlib.Core.Bool.{Bool};
+ghost use mathlib.Core.List.{[]};
 ghost use mathlib.Core.Path.{_≡_};
-ghost use Prim.Native.Nat.{ℕ};
 ghost use Rattle.language.specs.Call.{limitsFit, holdsAtLeast, firstFailing, testsBefore, admission};
 ghost use Rattle.checking.specs.Verdicts.{verdictOf};
-ghost use Rattle.admission.specs.Lent.{heldIn, engineOf, fedOf, limitsAlone, withRecords, withoutScript, dueOf, checkedThen};
+ghost use Rattle.admission.specs.Lent.{heldIn, engineOf, fedOf, withRecords, dueOf, checkedThen};
 
 // What one engine alone is lent: so many activation records, or so many words of copying area.
 pub enum Area {
@@ -14,25 +14,35 @@ pub enum Area {
     Of(usize),
 }
 
-fn limits_fit(d: u32, n: u32, g: u32, tally: u64) -> bool
-    ensures { λ r. ⌜ r ≡ limitsFit (limitsAlone d n g tally) ⌝ }
+// A call's numbers: D, N, G, the caller's tally, the pairs in use in the table, and the name looked up.
+pub struct Numbers {
+    pub d: u32,
+    pub n: u32,
+    pub g: u32,
+    pub tally: u64,
+    pub count: usize,
+    pub name: u16,
+}
+
+fn limits_fit(numbers: Numbers) -> bool
+    ensures { λ r. ⌜ r ≡ limitsFit (fedOf numbers [] [] []) ⌝ }
 {
-    if d < 1 {
+    if numbers.d < 1 {
         return false;
     }
-    if 256 < d {
+    if 256 < numbers.d {
         return false;
     }
-    if 1000000 < n {
+    if 1000000 < numbers.n {
         return false;
     }
-    if g < 1 {
+    if numbers.g < 1 {
         return false;
     }
-    if 65535 < g {
+    if 65535 < numbers.g {
         return false;
     }
-    tally <= 1000000000000
+    numbers.tally <= 1000000000000
 }
 
 fn holds_at_least(asked: usize, area: Area) -> bool
@@ -45,28 +55,19 @@ fn holds_at_least(asked: usize, area: Area) -> bool
 }
 
 // The tests before the script check.
-fn before_check(
-    d: u32,
-    n: u32,
-    g: u32,
-    tally: u64,
-    table: &[i32],
-    count: usize,
-    sheet: &[i32],
-    records: Area,
-) -> Verdict
-    ensures { λ r. ⌜ r ≡ dueOf (firstFailing (testsBefore (withRecords records) (withoutScript d n g tally (now (table .entry)) count (now (sheet .entry))))) ⌝ }
+fn before_check(numbers: Numbers, table: &[i32], sheet: &[i32], records: Area) -> Verdict
+    ensures { λ r. ⌜ r ≡ dueOf (firstFailing (testsBefore (withRecords records) (fedOf numbers [] (now (table .entry)) (now (sheet .entry))))) ⌝ }
 {
-    if !limits_fit(d, n, g, tally) {
+    if !limits_fit(numbers) {
         return Verdict::Refused(Refusal::LimitRange, 0);
     }
-    if sheet.len() < d as usize * 34 {
+    if sheet.len() < numbers.d as usize * 34 {
         return Verdict::Refused(Refusal::AreaTooShort, 0);
     }
-    if !holds_at_least(d as usize, records) {
+    if !holds_at_least(numbers.d as usize, records) {
         return Verdict::Refused(Refusal::AreaTooShort, 0);
     }
-    if !members::table_right(table, count, g) {
+    if !members::table_right(table, numbers.count, numbers.g) {
         return Verdict::Refused(Refusal::TableNotRight, 0);
     }
     Verdict::Fit
@@ -88,21 +89,17 @@ fn check_and_after(script: &[u8], d: u32, area: Area) -> Verdict
 
 pub fn admit(
     script: &[u8],
-    d: u32,
-    n: u32,
-    g: u32,
-    tally: u64,
+    numbers: Numbers,
     table: &[i32],
-    count: usize,
     sheet: &[i32],
     records: Area,
     area: Area,
 ) -> Verdict
-    ensures { λ r. ⌜ ((name : ℕ) (links : Bool) → r ≡ verdictOf (admission (engineOf records area links) (fedOf (now (script .entry)) d n g tally (now (table .entry)) count name (now (sheet .entry))))) ⌝ }
+    ensures { λ r. ⌜ ((links : Bool) → r ≡ verdictOf (admission (engineOf records area links) (fedOf numbers (now (script .entry)) (now (table .entry)) (now (sheet .entry))))) ⌝ }
 {
-    let before = before_check(d, n, g, tally, table, count, sheet, records);
+    let before = before_check(numbers, table, sheet, records);
     let Verdict::Fit = before else {
         return before;
     };
-    check_and_after(script, d, area)
+    check_and_after(script, numbers.d, area)
 }

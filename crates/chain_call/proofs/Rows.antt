@@ -1,6 +1,10 @@
--- The arrays of this crate and a verdict as data, for proofs by hand.
-use Rattle.lending.specs.Data.{Datum, enums, words32, usizes, ints32}
+-- The arrays of this crate, a verdict and a call's numbers (`numberss`; `fitting` and `made` are to and from its fields) as data, for proofs by hand.
+use denote.Struct.Laws.{owes, owed}
+use Rattle.lending.specs.Data.{Datum, Good, enums, structs, words32, words16, usizes, ints32}
 use Rattle.lending.specs.Holes.{arrays}
+use Rattle.admission.specs.declared.Numbers.{Numbers}
+use Rattle.admission.proofs.Numbers as N
+use Rattle.admission.proofs.Numbers.Laws as N′
 use Rattle.language.proofs.Verdict as D
 use Rattle.language.proofs.Verdict.Laws as D′
 
@@ -15,3 +19,23 @@ answerss = arrays usizes 9
 
 abbrev pub verdicts : Datum
 verdicts = enums D.the-type D′.the-laws D′.the-plain tt
+
+abbrev pub numberss : Datum
+numberss = structs N.the-type N′.the-laws N′.the-plain
+
+-- that each of them fits
+pub record Fitting (k : Numbers) : Type 0 where
+  pub d : Good words32 (k .d)
+  pub n : Good words32 (k .n)
+  pub g : Good words32 (k .g)
+  pub tally : Good usizes (k .tally)
+  pub count : Good usizes (k .count)
+  pub name : Good words16 (k .name)
+
+pub fitting : (k : Numbers) → Good numberss k → Fitting k
+fitting k good =
+    let p = owed N.the-type N′.the-laws k _ good in
+    record { d = p .0; n = p .1 .0; g = p .1 .1 .0; tally = p .1 .1 .1 .0; count = p .1 .1 .1 .1 .0; name = p .1 .1 .1 .1 .1 .0 }
+
+pub made : (k : Numbers) → Fitting k → Good numberss k
+made k f = owes N.the-type N′.the-laws k (f .d, (f .n, (f .g, (f .tally, (f .count, (f .name, tt))))))

@@ -1,62 +1,41 @@
 // The static-chain engine's call: admission, the resolved script, the run on the lent records, the sheet, the answer.
 use activations::Activation;
 use admission::Area;
+use admission::Numbers;
 use answers::refused;
 use answers::refuses;
 use chain::Halt;
 use language::Verdict;
 ghost use mathlib.Core.Path.{_≡_};
-ghost use Prim.Native.Nat.{ℕ, _≤_};
+ghost use Prim.Native.Nat.{_≤_};
 ghost use lib.IntN.{pos};
 ghost use lib.ListN.{length, replicate};
 ghost use Rattle.language.specs.Text.{Block};
-ghost use Rattle.language.specs.Call.{admission, chain, reply, Leaves};
-ghost use Rattle.language.specs.Numbers.{answerWords};
+ghost use Rattle.language.specs.Call.{admission, chain};
 ghost use Rattle.runs.specs.Admission.{Admitted};
 ghost use Rattle.checking.specs.Verdicts.{verdictOf};
 ghost use Rattle.admission.specs.Lent.{fedOf};
+ghost use Rattle.answers.specs.Replies.{Replies, RepliesLeaving};
 ghost use Rattle.grammar.specs.Rules.{Bytes};
 ghost use Rattle.resolving.specs.Resolving.{Resolved};
 ghost use Rattle.chain_call.specs.Calls.{haltWords};
 
 // What is due to a call that is lent so many records.
-fn judged(
-    script: &[u8],
-    d: u32,
-    n: u32,
-    g: u32,
-    tally: u64,
-    table: &[i32],
-    count: usize,
-    sheet: &[i32],
-    held: usize,
-) -> Verdict
-    ensures { λ r. ⌜ ((name : ℕ) → r ≡ verdictOf (admission (chain held) (fedOf (now (script .entry)) d n g tally (now (table .entry)) count name
-        (now (sheet .entry))))) ⌝ }
+fn judged(script: &[u8], numbers: Numbers, table: &[i32], sheet: &[i32], held: usize) -> Verdict
+    ensures { λ r. ⌜ r ≡ verdictOf (admission (chain held) (fedOf numbers (now (script .entry)) (now (table .entry)) (now (sheet .entry)))) ⌝ }
 {
-    admission::admit(
-        script,
-        d,
-        n,
-        g,
-        tally,
-        table,
-        count,
-        sheet,
-        Area::Of(held),
-        Area::Unused,
-    )
+    admission::admit(script, numbers, table, sheet, Area::Of(held), Area::Unused)
 }
 
-fn limit_of(d: u32) -> usize
-    ensures { λ r. ⌜ r ≡ d ⌝ }
+fn limit_of(numbers: Numbers) -> usize
+    ensures { λ r. ⌜ r ≡ numbers .d ⌝ }
 {
-    d as usize
+    numbers.d as usize
 }
 
-fn answered(halt: Halt, written: usize, tally: u64, answer: &mut [u64; 9])
-    requires { ⌜ tally ≤ 1000000000000 ⌝ }
-    ensures { λ _. ⌜ now (answer .exit) ≡ haltWords halt written tally ⌝ }
+fn answered(halt: Halt, written: usize, numbers: Numbers, answer: &mut [u64; 9])
+    requires { ⌜ numbers .tally ≤ 1000000000000 ⌝ }
+    ensures { λ _. ⌜ now (answer .exit) ≡ haltWords halt written (numbers .tally) ⌝ }
 {
     let end = halt.end;
     *answer = answers::run_words(
@@ -65,18 +44,18 @@ fn answered(halt: Halt, written: usize, tally: u64, answer: &mut [u64; 9])
         halt.offset,
         halt.pairs,
         written,
-        tally,
+        numbers.tally,
         halt.designator,
         halt.links,
     );
 }
 
 // The resolved script, in words that are 0.
-fn resolved(script: &[u8], name: u16, code: &mut [u32; 4096])
+fn resolved(script: &[u8], numbers: Numbers, code: &mut [u32; 4096])
     requires { ⌜ now code ≡ replicate 4096 0 ⌝ }
-    ensures { λ _. ⌜ Resolved (now (script .entry)) name (now (code .exit)) × Bytes (now (script .entry)) ⌝ }
+    ensures { λ _. ⌜ Resolved (now (script .entry)) (numbers .name) (now (code .exit)) × Bytes (now (script .entry)) ⌝ }
 {
-    resolving::resolve(script, name as usize, code);
+    resolving::resolve(script, numbers.name as usize, code);
 }
 
 // What comes of a call that is admitted, in the arrays that it works on.
@@ -84,47 +63,44 @@ fn ran_on(
     code: &mut [u32; 4096],
     words: &mut [i32; 8224],
     script: &[u8],
-    d: u32,
-    n: u32,
-    g: u32,
-    tally: u64,
+    numbers: Numbers,
     table: &mut [i32],
-    count: usize,
-    name: u16,
     sheet: &mut [i32],
     records: &mut [Activation],
     answer: &mut [u64; 9],
 )
-    requires { ⌜ ((t : Block) × Admitted (chain (length (now records))) (fedOf (now script) d n g tally (now table) count name (now sheet)) t) ⌝ }
+    requires { ⌜ ((t : Block) × Admitted (chain (length (now records))) (fedOf numbers (now script) (now table) (now sheet)) t) ⌝ }
     requires { ⌜ (now code ≡ replicate 4096 0) × (now words ≡ replicate 8224 (pos 0)) ⌝ }
-    ensures { λ _. ⌜ now (answer .exit) ≡ answerWords ((reply (chain (length (now (records .entry)))) (fedOf (now (script .entry)) d n g tally (now (table .entry)) count name (now (sheet .entry)))) .answer) ⌝ }
-    ensures { λ _. ⌜ now (sheet .exit) ≡ (reply (chain (length (now (records .entry)))) (fedOf (now (script .entry)) d n g tally (now (table .entry)) count name (now (sheet .entry)))) .lent .sheet ⌝ }
-    ensures { λ _. ⌜ now (table .exit) ≡ (reply (chain (length (now (records .entry)))) (fedOf (now (script .entry)) d n g tally (now (table .entry)) count name (now (sheet .entry)))) .lent .table .words ⌝ }
+    ensures { λ _. ⌜ Replies (chain (length (now (records .entry)))) (fedOf numbers (now (script .entry)) (now (table .entry)) (now (sheet .entry)))
+        (now (answer .exit)) (now (sheet .exit)) (now (table .exit)) ⌝ }
 {
-    resolved(script, name, code);
-    let halt = chain::run_program(code, words, records, table, count, g, limit_of(d), n);
+    resolved(script, numbers, code);
+    let halt = chain::run_program(
+        code,
+        words,
+        records,
+        table,
+        numbers.count,
+        numbers.g,
+        limit_of(numbers),
+        numbers.n,
+    );
     let written = chain::write_sheet(code, words, records, halt.live, sheet);
-    answered(halt, written, tally, answer);
+    answered(halt, written, numbers, answer);
 }
 
 // What comes of a call that is admitted.
 fn ran(
     script: &[u8],
-    d: u32,
-    n: u32,
-    g: u32,
-    tally: u64,
+    numbers: Numbers,
     table: &mut [i32],
-    count: usize,
-    name: u16,
     sheet: &mut [i32],
     records: &mut [Activation],
     answer: &mut [u64; 9],
 )
-    requires { ⌜ ((t : Block) × Admitted (chain (length (now records))) (fedOf (now script) d n g tally (now table) count name (now sheet)) t) ⌝ }
-    ensures { λ _. ⌜ now (answer .exit) ≡ answerWords ((reply (chain (length (now (records .entry)))) (fedOf (now (script .entry)) d n g tally (now (table .entry)) count name (now (sheet .entry)))) .answer) ⌝ }
-    ensures { λ _. ⌜ now (sheet .exit) ≡ (reply (chain (length (now (records .entry)))) (fedOf (now (script .entry)) d n g tally (now (table .entry)) count name (now (sheet .entry)))) .lent .sheet ⌝ }
-    ensures { λ _. ⌜ now (table .exit) ≡ (reply (chain (length (now (records .entry)))) (fedOf (now (script .entry)) d n g tally (now (table .entry)) count name (now (sheet .entry)))) .lent .table .words ⌝ }
+    requires { ⌜ ((t : Block) × Admitted (chain (length (now records))) (fedOf numbers (now script) (now table) (now sheet)) t) ⌝ }
+    ensures { λ _. ⌜ Replies (chain (length (now (records .entry)))) (fedOf numbers (now (script .entry)) (now (table .entry)) (now (sheet .entry)))
+        (now (answer .exit)) (now (sheet .exit)) (now (table .exit)) ⌝ }
 {
     let mut code = [0u32; 4096];
     let mut words = [0i32; 8224];
@@ -132,13 +108,8 @@ fn ran(
         &mut code,
         &mut words,
         script,
-        d,
-        n,
-        g,
-        tally,
+        numbers,
         table,
-        count,
-        name,
         sheet,
         records,
         answer,
@@ -147,38 +118,19 @@ fn ran(
 
 pub fn call(
     script: &[u8],
-    d: u32,
-    n: u32,
-    g: u32,
-    tally: u64,
+    numbers: Numbers,
     table: &mut [i32],
-    count: usize,
-    name: u16,
     sheet: &mut [i32],
     records: &mut [Activation],
     answer: &mut [u64; 9],
 )
-    ensures { λ _. ⌜ now (answer .exit) ≡ answerWords ((reply (chain (length (now (records .entry)))) (fedOf (now (script .entry)) d n g tally (now (table .entry)) count name (now (sheet .entry)))) .answer) ⌝ }
-    ensures { λ _. ⌜ now (sheet .exit) ≡ (reply (chain (length (now (records .entry)))) (fedOf (now (script .entry)) d n g tally (now (table .entry)) count name (now (sheet .entry)))) .lent .sheet ⌝ }
-    ensures { λ _. ⌜ now (table .exit) ≡ (reply (chain (length (now (records .entry)))) (fedOf (now (script .entry)) d n g tally (now (table .entry)) count name (now (sheet .entry)))) .lent .table .words ⌝ }
-    ensures { λ _. ⌜ Leaves (chain (length (now (records .entry)))) (fedOf (now (script .entry)) d n g tally (now (table .entry)) count name (now (sheet .entry))) (now (records .entry)) (now (records .exit)) ⌝ }
+    ensures { λ _. ⌜ RepliesLeaving (chain (length (now (records .entry)))) (fedOf numbers (now (script .entry)) (now (table .entry)) (now (sheet .entry)))
+        (now (answer .exit)) (now (sheet .exit)) (now (table .exit)) (now (records .entry)) (now (records .exit)) ⌝ }
 {
-    let verdict = judged(script, d, n, g, tally, table, count, sheet, records.len());
+    let verdict = judged(script, numbers, table, sheet, records.len());
     if refuses(verdict) {
-        refused(verdict, count, tally, answer);
+        refused(verdict, numbers.count, numbers.tally, answer);
         return;
     }
-    ran(
-        script,
-        d,
-        n,
-        g,
-        tally,
-        table,
-        count,
-        name,
-        sheet,
-        records,
-        answer,
-    );
+    ran(script, numbers, table, sheet, records, answer);
 }

@@ -1,37 +1,28 @@
 // The copying engine's call: admission, the resolved script and the words of its names, the run on the lent area, the sheet, the answer.
 use admission::Area;
+use admission::Numbers;
 use language::Verdict;
-ghost use mathlib.Core.Path.{_≡_};
 ghost use lib.ListN.{length};
 ghost use Rattle.language.specs.Text.{Block};
-ghost use Rattle.language.specs.Call.{copying, reply, Leaves};
-ghost use Rattle.language.specs.Numbers.{answerWords};
+ghost use Rattle.language.specs.Call.{copying};
 ghost use Rattle.runs.specs.Admission.{Admitted};
 ghost use Rattle.admission.specs.Lent.{fedOf};
+ghost use Rattle.answers.specs.Replies.{Replies, RepliesLeaving};
 
 // What comes of a call that is admitted.
 fn ran(
     script: &[u8],
-    d: u32,
-    n: u32,
-    g: u32,
-    tally: u64,
+    numbers: Numbers,
     table: &mut [i32],
-    count: usize,
-    name: u16,
     sheet: &mut [i32],
     area: &mut [u32],
 ) -> [u64; 9]
-    requires { ⌜ ((t : Block) × Admitted (copying (length (now area))) (fedOf (now script) d n g tally (now table) count name (now sheet)) t) ⌝ }
-    ensures { λ r. ⌜ r ≡ answerWords ((reply (copying (length (now (area .entry)))) (fedOf (now (script .entry)) d n g tally (now (table .entry)) count name
-        (now (sheet .entry)))) .answer) ⌝ }
-    ensures { λ _. ⌜ now (sheet .exit) ≡ (reply (copying (length (now (area .entry)))) (fedOf (now (script .entry)) d n g tally (now (table .entry)) count name
-        (now (sheet .entry)))) .lent .sheet ⌝ }
-    ensures { λ _. ⌜ now (table .exit) ≡ (reply (copying (length (now (area .entry)))) (fedOf (now (script .entry)) d n g tally (now (table .entry)) count name
-        (now (sheet .entry)))) .lent .table .words ⌝ }
+    requires { ⌜ ((t : Block) × Admitted (copying (length (now area))) (fedOf numbers (now script) (now table) (now sheet)) t) ⌝ }
+    ensures { λ r. ⌜ Replies (copying (length (now (area .entry)))) (fedOf numbers (now (script .entry)) (now (table .entry)) (now (sheet .entry)))
+        r (now (sheet .exit)) (now (table .exit)) ⌝ }
 {
     let mut code = [0u32; 4096];
-    resolving::resolve(script, name as usize, &mut code);
+    resolving::resolve(script, numbers.name as usize, &mut code);
     let mut names = [0u32; 4096];
     governed::govern(script, &code, &mut names);
     let mut words = [0i32; 8224];
@@ -46,10 +37,10 @@ fn ran(
         &mut blocks,
         &mut nexts,
         table,
-        count,
-        g,
-        d as usize,
-        n,
+        numbers.count,
+        numbers.g,
+        numbers.d as usize,
+        numbers.n,
     );
     let live = halt.live;
     let written = sheets::write_sheet(&code, &words, &blocks, &nexts, live, sheet);
@@ -60,7 +51,7 @@ fn ran(
         halt.offset,
         halt.pairs,
         written,
-        tally,
+        numbers.tally,
         halt.designator,
         0,
     )
@@ -68,39 +59,19 @@ fn ran(
 
 pub fn call(
     script: &[u8],
-    d: u32,
-    n: u32,
-    g: u32,
-    tally: u64,
+    numbers: Numbers,
     table: &mut [i32],
-    count: usize,
-    name: u16,
     sheet: &mut [i32],
     area: &mut [u32],
 ) -> [u64; 9]
-    ensures { λ r. ⌜ r ≡ answerWords ((reply (copying (length (now (area .entry)))) (fedOf (now (script .entry)) d n g tally (now (table .entry)) count name
-        (now (sheet .entry)))) .answer) ⌝ }
-    ensures { λ _. ⌜ now (sheet .exit) ≡ (reply (copying (length (now (area .entry)))) (fedOf (now (script .entry)) d n g tally (now (table .entry)) count name
-        (now (sheet .entry)))) .lent .sheet ⌝ }
-    ensures { λ _. ⌜ now (table .exit) ≡ (reply (copying (length (now (area .entry)))) (fedOf (now (script .entry)) d n g tally (now (table .entry)) count name
-        (now (sheet .entry)))) .lent .table .words ⌝ }
-    ensures { λ _. ⌜ Leaves (copying (length (now (area .entry)))) (fedOf (now (script .entry)) d n g tally (now (table .entry)) count name
-        (now (sheet .entry))) (now (area .entry)) (now (area .exit)) ⌝ }
+    ensures { λ r. ⌜ RepliesLeaving (copying (length (now (area .entry)))) (fedOf numbers (now (script .entry)) (now (table .entry)) (now (sheet .entry)))
+        r (now (sheet .exit)) (now (table .exit)) (now (area .entry)) (now (area .exit)) ⌝ }
 {
     let held = area.len();
-    match admission::admit(
-        script,
-        d,
-        n,
-        g,
-        tally,
-        table,
-        count,
-        sheet,
-        Area::Unused,
-        Area::Of(held),
-    ) {
-        Verdict::Refused(cause, offset) => answers::refusal_words(cause, offset, count, tally),
-        Verdict::Fit => ran(script, d, n, g, tally, table, count, name, sheet, area),
+    match admission::admit(script, numbers, table, sheet, Area::Unused, Area::Of(held)) {
+        Verdict::Refused(cause, offset) => {
+            answers::refusal_words(cause, offset, numbers.count, numbers.tally)
+        }
+        Verdict::Fit => ran(script, numbers, table, sheet, area),
     }
 }

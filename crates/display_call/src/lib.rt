@@ -1,35 +1,20 @@
 // The display engine's call: admission, the resolved script, the run, the sheet, the answer.
 use admission::Area;
+use admission::Numbers;
 use language::Verdict;
-ghost use mathlib.Core.Path.{_≡_};
 ghost use Rattle.language.specs.Text.{Block};
-ghost use Rattle.language.specs.Call.{display, reply};
-ghost use Rattle.language.specs.Numbers.{answerWords};
+ghost use Rattle.language.specs.Call.{display};
 ghost use Rattle.runs.specs.Admission.{Admitted};
 ghost use Rattle.admission.specs.Lent.{fedOf};
+ghost use Rattle.answers.specs.Replies.{Replies};
 
 // What comes of a call that is admitted.
-fn ran(
-    script: &[u8],
-    d: u32,
-    n: u32,
-    g: u32,
-    tally: u64,
-    table: &mut [i32],
-    count: usize,
-    name: u16,
-    sheet: &mut [i32],
-) -> [u64; 9]
-    requires { ⌜ ((t : Block) × Admitted display (fedOf (now script) d n g tally (now table) count name (now sheet)) t) ⌝ }
-    ensures { λ r. ⌜ r ≡ answerWords ((reply display (fedOf (now (script .entry)) d n g tally (now (table .entry)) count name
-        (now (sheet .entry)))) .answer) ⌝ }
-    ensures { λ _. ⌜ now (sheet .exit) ≡ (reply display (fedOf (now (script .entry)) d n g tally (now (table .entry)) count name
-        (now (sheet .entry)))) .lent .sheet ⌝ }
-    ensures { λ _. ⌜ now (table .exit) ≡ (reply display (fedOf (now (script .entry)) d n g tally (now (table .entry)) count name
-        (now (sheet .entry)))) .lent .table .words ⌝ }
+fn ran(script: &[u8], numbers: Numbers, table: &mut [i32], sheet: &mut [i32]) -> [u64; 9]
+    requires { ⌜ ((t : Block) × Admitted display (fedOf numbers (now script) (now table) (now sheet)) t) ⌝ }
+    ensures { λ r. ⌜ Replies display (fedOf numbers (now (script .entry)) (now (table .entry)) (now (sheet .entry))) r (now (sheet .exit)) (now (table .exit)) ⌝ }
 {
     let mut code = [0u32; 4096];
-    resolving::resolve(script, name as usize, &mut code);
+    resolving::resolve(script, numbers.name as usize, &mut code);
     let mut words = [0i32; 8224];
     let mut blocks = [0u16; 256];
     let mut nexts = [0u16; 256];
@@ -41,10 +26,10 @@ fn ran(
         &mut nexts,
         &mut links,
         table,
-        count,
-        g,
-        d as usize,
-        n,
+        numbers.count,
+        numbers.g,
+        numbers.d as usize,
+        numbers.n,
     );
     let live = halt.live;
     let written = sheets::write_sheet(&code, &words, &blocks, &nexts, live, sheet);
@@ -55,43 +40,19 @@ fn ran(
         halt.offset,
         halt.pairs,
         written,
-        tally,
+        numbers.tally,
         halt.designator,
         0,
     )
 }
 
-pub fn call(
-    script: &[u8],
-    d: u32,
-    n: u32,
-    g: u32,
-    tally: u64,
-    table: &mut [i32],
-    count: usize,
-    name: u16,
-    sheet: &mut [i32],
-) -> [u64; 9]
-    ensures { λ r. ⌜ r ≡ answerWords ((reply display (fedOf (now (script .entry)) d n g tally (now (table .entry)) count name
-        (now (sheet .entry)))) .answer) ⌝ }
-    ensures { λ _. ⌜ now (sheet .exit) ≡ (reply display (fedOf (now (script .entry)) d n g tally (now (table .entry)) count name
-        (now (sheet .entry)))) .lent .sheet ⌝ }
-    ensures { λ _. ⌜ now (table .exit) ≡ (reply display (fedOf (now (script .entry)) d n g tally (now (table .entry)) count name
-        (now (sheet .entry)))) .lent .table .words ⌝ }
+pub fn call(script: &[u8], numbers: Numbers, table: &mut [i32], sheet: &mut [i32]) -> [u64; 9]
+    ensures { λ r. ⌜ Replies display (fedOf numbers (now (script .entry)) (now (table .entry)) (now (sheet .entry))) r (now (sheet .exit)) (now (table .exit)) ⌝ }
 {
-    match admission::admit(
-        script,
-        d,
-        n,
-        g,
-        tally,
-        table,
-        count,
-        sheet,
-        Area::Unused,
-        Area::Unused,
-    ) {
-        Verdict::Refused(cause, offset) => answers::refusal_words(cause, offset, count, tally),
-        Verdict::Fit => ran(script, d, n, g, tally, table, count, name, sheet),
+    match admission::admit(script, numbers, table, sheet, Area::Unused, Area::Unused) {
+        Verdict::Refused(cause, offset) => {
+            answers::refusal_words(cause, offset, numbers.count, numbers.tally)
+        }
+        Verdict::Fit => ran(script, numbers, table, sheet),
     }
 }

@@ -1,11 +1,12 @@
 // What the server's C programs call. Each function is total: it requires nothing, and its contract fixes every word that it writes.
 use activations::Activation;
+use admission::Numbers;
 ghost use mathlib.Core.Path.{_≡_};
 ghost use Rattle.language.specs.Check.{check};
 ghost use lib.ListN.{length};
-ghost use Rattle.language.specs.Call.{copying, display, chain, reply, Leaves};
-ghost use Rattle.language.specs.Numbers.{answerWords};
+ghost use Rattle.language.specs.Call.{copying, display, chain};
 ghost use Rattle.admission.specs.Lent.{fedOf};
+ghost use Rattle.answers.specs.Replies.{Replies, RepliesLeaving};
 ghost use Rattle.check_call.specs.Answers.{checkWords};
 
 // The refusal's number, 0 where the script is accepted, and its offset.
@@ -32,12 +33,19 @@ pub extern "C" fn enrol_copy(
     area: &mut [u32],
     answer: &mut [u64; 9],
 )
-    ensures { λ _. ⌜ now (answer .exit) ≡ answerWords ((reply (copying (length (now (area .entry)))) (fedOf (now (script .entry)) d n g tally (now (table .entry)) count name (now (sheet .entry)))) .answer) ⌝ }
-    ensures { λ _. ⌜ now (sheet .exit) ≡ (reply (copying (length (now (area .entry)))) (fedOf (now (script .entry)) d n g tally (now (table .entry)) count name (now (sheet .entry)))) .lent .sheet ⌝ }
-    ensures { λ _. ⌜ now (table .exit) ≡ (reply (copying (length (now (area .entry)))) (fedOf (now (script .entry)) d n g tally (now (table .entry)) count name (now (sheet .entry)))) .lent .table .words ⌝ }
-    ensures { λ _. ⌜ Leaves (copying (length (now (area .entry)))) (fedOf (now (script .entry)) d n g tally (now (table .entry)) count name (now (sheet .entry))) (now (area .entry)) (now (area .exit)) ⌝ }
+    ensures { λ _. ⌜ RepliesLeaving (copying (length (now (area .entry)))) (fedOf (record { d = d; n = n; g = g; tally = tally; count = count; name = name })
+        (now (script .entry)) (now (table .entry)) (now (sheet .entry)))
+        (now (answer .exit)) (now (sheet .exit)) (now (table .exit)) (now (area .entry)) (now (area .exit)) ⌝ }
 {
-    *answer = copy_call::call(script, d, n, g, tally, table, count, name, sheet, area);
+    let numbers = Numbers {
+        d,
+        n,
+        g,
+        tally,
+        count,
+        name,
+    };
+    *answer = copy_call::call(script, numbers, table, sheet, area);
 }
 
 // A run by the display engine: the answer's words, and what becomes of table and sheet.
@@ -54,11 +62,19 @@ pub extern "C" fn enrol_display(
     sheet: &mut [i32],
     answer: &mut [u64; 9],
 )
-    ensures { λ _. ⌜ now (answer .exit) ≡ answerWords ((reply display (fedOf (now (script .entry)) d n g tally (now (table .entry)) count name (now (sheet .entry)))) .answer) ⌝ }
-    ensures { λ _. ⌜ now (sheet .exit) ≡ (reply display (fedOf (now (script .entry)) d n g tally (now (table .entry)) count name (now (sheet .entry)))) .lent .sheet ⌝ }
-    ensures { λ _. ⌜ now (table .exit) ≡ (reply display (fedOf (now (script .entry)) d n g tally (now (table .entry)) count name (now (sheet .entry)))) .lent .table .words ⌝ }
+    ensures { λ _. ⌜ Replies display (fedOf (record { d = d; n = n; g = g; tally = tally; count = count; name = name })
+        (now (script .entry)) (now (table .entry)) (now (sheet .entry)))
+        (now (answer .exit)) (now (sheet .exit)) (now (table .exit)) ⌝ }
 {
-    *answer = display_call::call(script, d, n, g, tally, table, count, name, sheet);
+    let numbers = Numbers {
+        d,
+        n,
+        g,
+        tally,
+        count,
+        name,
+    };
+    *answer = display_call::call(script, numbers, table, sheet);
 }
 
 // A run by the chain engine, on activation records in a lent slice: the same, and the records as they were where the call is refused.
@@ -76,22 +92,17 @@ pub extern "C" fn enrol_chain(
     records: &mut [Activation],
     answer: &mut [u64; 9],
 )
-    ensures { λ _. ⌜ now (answer .exit) ≡ answerWords ((reply (chain (length (now (records .entry)))) (fedOf (now (script .entry)) d n g tally (now (table .entry)) count name (now (sheet .entry)))) .answer) ⌝ }
-    ensures { λ _. ⌜ now (sheet .exit) ≡ (reply (chain (length (now (records .entry)))) (fedOf (now (script .entry)) d n g tally (now (table .entry)) count name (now (sheet .entry)))) .lent .sheet ⌝ }
-    ensures { λ _. ⌜ now (table .exit) ≡ (reply (chain (length (now (records .entry)))) (fedOf (now (script .entry)) d n g tally (now (table .entry)) count name (now (sheet .entry)))) .lent .table .words ⌝ }
-    ensures { λ _. ⌜ Leaves (chain (length (now (records .entry)))) (fedOf (now (script .entry)) d n g tally (now (table .entry)) count name (now (sheet .entry))) (now (records .entry)) (now (records .exit)) ⌝ }
+    ensures { λ _. ⌜ RepliesLeaving (chain (length (now (records .entry)))) (fedOf (record { d = d; n = n; g = g; tally = tally; count = count; name = name })
+        (now (script .entry)) (now (table .entry)) (now (sheet .entry)))
+        (now (answer .exit)) (now (sheet .exit)) (now (table .exit)) (now (records .entry)) (now (records .exit)) ⌝ }
 {
-    chain_call::call(
-        script,
+    let numbers = Numbers {
         d,
         n,
         g,
         tally,
-        table,
         count,
         name,
-        sheet,
-        records,
-        answer,
-    );
+    };
+    chain_call::call(script, numbers, table, sheet, records, answer);
 }

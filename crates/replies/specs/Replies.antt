@@ -1,14 +1,16 @@
 -- What an engine that runs as the frame machine replies is the copy rule's reply. By the verdict of admission: `refused-reply`, what a refusal
--- answers and leaves; `fit-admitted`: no refusal is due, and there is a program; `refused-call`, `admitted-call`: the same as an engine's call has them.
+-- answers and leaves; `fit-admitted`: no refusal is due, and there is a program; `refused-call`, `admitted-call`: the same as an engine's call has them,
+-- `read-refused`, `read-admitted`: where functions read the verdict. `leaving-all`, `leaving-length`: with an area of the engine's own.
 -- Of its run: `ran-answer` and `ran-lent`, where the engine has of it what the frame machine's result has (`Ran`). `result-held`: arrays that hold the
--- result's frames can be written as its sheet (crate sheets); `room-for-sheet`, `tally-fits`: there is room for it, and the tally can be added to.
+-- result's frames can be written as its sheet (crate sheets); `room-for-sheet`, `tally-fits`, `steps-fit`: there is room for it, the tally can be added
+-- to, and N is in range.
 use Prim.Native.Nat.{ℕ, _*_, _≤_}
 use native.Mathlib.Omega.{arith}
-use mathlib.Core.Bool.{true, false, _&&_}
+use mathlib.Core.Bool.{Bool, true, false, not, _&&_}
 use mathlib.Core.List.{List}
 use mathlib.Core.Path.{_≡_, refl, sym, ap, _∙_}
 use borrow.Author.Tests.{leb-true}
-use lib.Dec.{leb}
+use lib.Dec.{T, leb}
 use lib.IntN.{ℤ}
 use lib.ListN.{length}
 use Rattle.language.specs.Sheet.{sheetShare}
@@ -23,7 +25,7 @@ use Rattle.language.specs.declared.Verdict.{Verdict}
 use Rattle.language.specs.declared.Verdict.the-variants.{Fit, Refused}
 use Rattle.laws.specs.Tests.{both}
 use Rattle.grammar.specs.Rules.{Bytes, Keeps}
-use Rattle.runs.specs.Admission.{Admitted, limits-fit, sheet-fits, sheet-lent, refused-exactly, accepted-exactly}
+use Rattle.runs.specs.Admission.{Admitted, limits-fit, sheet-fits, sheet-lent, refused-exactly, accepted-exactly, admitted-accepted, leaves-all, leaves-length}
 use Rattle.runs.specs.Calls.{due-reply, admitted-answered}
 use Rattle.frames.specs.Frame.{Stack, Result, designates, linksFollowed, frameSheet, frameReplied, frameRunOf, frameReply}
 use Rattle.frames.specs.Theorem.{frames-run-as-copies}
@@ -32,6 +34,8 @@ use Rattle.resolved.specs.Resolved.{resolvedOf, Covers}
 use Rattle.arrays.specs.Holds.{Holds}
 use Rattle.checking.specs.Verdicts.{verdictOf}
 use Rattle.answers.specs.Answers.{refusedAnswer, ranAnswer}
+use Rattle.answers.specs.Refusals.{isRefused, refusedWords}
+use Rattle.answers.specs.Replies.{Replies, RepliesLeaving}
 use Rattle.sheets.specs.Held.{Held}
 
 -- The verdict of admission
@@ -65,11 +69,31 @@ module _ (e : Engine) (f : Fed) where
     pub admitted-call : v ≡ Fit → (t : Block) × Admitted e f t
     admitted-call q = fit-admitted (sym verdict ∙ q)
 
-    pub refused-call : (c : Refusal) (o : ℕ) → v ≡ Refused c o → (words : List ℕ) → words ≡ answerWords (refusedAnswer c o (f .lent .table .used) (f .tally))
-        → (words ≡ answerWords ((reply e f) .answer)) × (f .lent .sheet ≡ (reply e f) .lent .sheet) × (f .lent .table .words ≡ (reply e f) .lent .table .words)
-    refused-call c o q words w =
+    pub refused-call : (c : Refusal) (o : ℕ) → v ≡ Refused c o → {words : List ℕ} → words ≡ answerWords (refusedAnswer c o (f .lent .table .used) (f .tally))
+        → Replies e f words (f .lent .sheet) (f .lent .table .words)
+    refused-call c o q w =
         let r = refused-reply c o (sym verdict ∙ q) in
-        (w ∙ ap answerWords (sym (r .0)), ap (λ (l : Lent). l .sheet) (sym (r .1)), ap (λ (l : Lent). l .table .words) (sym (r .1)))
+        record { answer-is = w ∙ ap answerWords (sym (r .0)); sheet-is = ap (λ (l : Lent). l .sheet) (sym (r .1)); table-is = ap (λ (l : Lent). l .table .words) (sym (r .1)) }
+
+  -- the same where the verdict is read by functions (crate answers)
+  pub read-admitted : (v : Verdict) → v ≡ verdictOf (admission e f) → T (not (isRefused v)) → (t : Block) × Admitted e f t
+  unfolding isRefused
+  read-admitted (Refused c o) q y = absurd y
+  read-admitted Fit q y = admitted-call Fit q refl
+
+  pub read-refused : (v : Verdict) → v ≡ verdictOf (admission e f) → T (isRefused v) → (before : List ℕ) {words : List ℕ} → words ≡ refusedWords v (f .lent .table .used) (f .tally) before
+      → Replies e f words (f .lent .sheet) (f .lent .table .words)
+  unfolding isRefused refusedWords
+  read-refused (Refused c o) q y before w = refused-call (Refused c o) q c o refl w
+  read-refused Fit q y before w = absurd y
+
+  -- An engine's own area is not written where the call is refused, and of the same length where the program is admitted
+  module _ {A : Type 0} {answer : List ℕ} {sheet table : List ℤ} (r : Replies e f answer sheet table) where
+    pub leaving-all : (area : List A) → RepliesLeaving e f answer sheet table area area
+    leaving-all area = record { replies = r; leaves = leaves-all e f area }
+
+    pub leaving-length : {t : Block} → Admitted e f t → {before after : List A} → length after ≡ length before → RepliesLeaving e f answer sheet table before after
+    leaving-length h q = record { replies = r; leaves = leaves-length e f (admitted-accepted e f h) q }
 
   -- A program that is admitted runs as the frame machine runs it
   module _ (bytes : Bytes (f .script)) (t : Block) (h : Admitted e f t) where
@@ -125,13 +149,25 @@ result-held code words blocks nexts links name t l s keeps covers sound holds =
       holds = holds;
     }
 
--- What else an admitted call gives the engine: room for the sheet of whatever its run leaves, and a tally that can be added to
+-- What else an admitted call gives the engine: room for the sheet of whatever its run leaves, a tally that can be added to, and N in range
 module _ {e : Engine} {f : Fed} {t : Block} (h : Admitted e f t) where
   pub room-for-sheet : (s : Stack) → Sound (limitsOf f) t s → sheetShare * length (s .frames) ≤ length (f .lent .sheet)
   room-for-sheet s sound = omega (arith, sheet-lent f (sheet-fits h), sound .bounded .live)
 
-  pub tally-fits : f .tally ≤ 1000000000000
+  abbrev stepsIn : Bool
+  stepsIn = leb 1 (f .activations) && leb (f .activations) 256 && leb (f .allowance) 1000000
+
+  abbrev groupsIn : Bool
+  groupsIn = stepsIn && leb 1 (f .group) && leb (f .group) 65535
+
+  limits : (groupsIn ≡ true) × (leb (f .tally) 1000000000000 ≡ true)
   unfolding limitsFit
-  tally-fits =
-      let rest = leb 1 (f .activations) && leb (f .activations) 256 && leb (f .allowance) 1000000 && leb 1 (f .group) && leb (f .group) 65535 in
-      leb-true (f .tally) 1000000000000 ((both rest (leb (f .tally) 1000000000000) (limits-fit h)) .1)
+  limits = both groupsIn (leb (f .tally) 1000000000000) (limits-fit h)
+
+  pub tally-fits : f .tally ≤ 1000000000000
+  tally-fits = leb-true (f .tally) 1000000000000 (limits .1)
+
+  pub steps-fit : f .allowance ≤ 1000000
+  steps-fit =
+      let steps = (both stepsIn (leb 1 (f .group)) ((both (stepsIn && leb 1 (f .group)) (leb (f .group) 65535) (limits .0)) .0)) .0 in
+      leb-true (f .allowance) 1000000 ((both (leb 1 (f .activations) && leb (f .activations) 256) (leb (f .allowance) 1000000) steps) .1)

@@ -17,14 +17,14 @@ enum-told-2 c = search needs
 
 returns : tie.Need-returns
 unfolding testsBefore limitsFit sheetFits recordsFit
-returns c name links = turned-away _ _ _ (c .before .before .before-check .ensures) _ _ (c .enum-told2 .given .1)
+returns c links = turned-away _ _ _ (c .before .before .before-check .ensures) _ _ (c .enum-told2 .given .1)
 
 check-and-after-requires : tie.Need-check-and-after-requires
 check-and-after-requires c κs = search needs
 
 returns-2 : tie.Need-returns-2
 unfolding testsBefore limitsFit sheetFits recordsFit
-returns-2 c name links =
+returns-2 c links =
     let u = c .before in
     c .check-and-after .ensures ∙ passed _ _ _ (u .before .before .before-check .ensures) (u .enum-told .given .1)
 

@@ -1,11 +1,24 @@
 -- `admission::before_check` meets its contract: the tests in their order. Assumes nothing.
-use mathlib.Core.Path.{sym, _∙_}
+use mathlib.Core.Bool.{true}
+use mathlib.Core.List.{[]}
+use mathlib.Core.Path.{_≡_, sym, _∙_}
 use borrow.Author.Tests.{not-true, not-false, le-leb, lt-leb}
 use Rattle.language.specs.Call.{limitsFit, sheetFits, recordsFit}
+use Rattle.admission.specs.Lent.{fedOf}
 use Rattle.admission.proofs.Due.{limits-due, sheet-due, records-due, table-due, none-due}
 use borrow.Author.Needs.{needs}
 use Rattle.admission.proofs.before_check.Statement.{statement}
 use Rattle.admission.proofs.before_check.Tie as tie
+
+-- from each test that held to the one before it
+abbrev limitsOf : tie.Else2 → tie.Else1
+limitsOf c = c .before .before
+
+abbrev sheetOf : tie.Else3 → tie.Else2
+sheetOf c = c .before .before .before
+
+limits : (c : tie.Else1) → limitsFit (fedOf (c .before .before .args .numbers) [] [] []) ≡ true
+limits c = sym (c .before .limits-fit .ensures) ∙ not-false _ (c .if1 .left)
 
 limits-fit-requires : tie.Need-limits-fit-requires
 limits-fit-requires c κs = search needs
@@ -14,12 +27,18 @@ returns : tie.Need-returns
 unfolding limitsFit
 returns c = limits-due _ _ (sym (c .before .limits-fit .ensures) ∙ not-true _ (c .if1 .taken))
 
+cast-if2 : tie.Need-cast-if2
+cast-if2 c = search needs
+
 mul-if2 : tie.Need-mul-if2
 mul-if2 c = search needs
 
 returns-2 : tie.Need-returns-2
 unfolding limitsFit sheetFits
-returns-2 c = sheet-due _ _ (sym (c .before .before .limits-fit .ensures) ∙ not-false _ (c .before .if1 .left)) (lt-leb _ _ (c .if2 .taken))
+returns-2 c = sheet-due _ _ (limits (c .before .before)) (lt-leb _ _ (c .if2 .taken))
+
+cast-holds-at-least : tie.Need-cast-holds-at-least
+cast-holds-at-least c = search needs
 
 holds-at-least-requires : tie.Need-holds-at-least-requires
 holds-at-least-requires c κs = search needs
@@ -27,8 +46,8 @@ holds-at-least-requires c κs = search needs
 returns-3 : tie.Need-returns-3
 unfolding limitsFit sheetFits recordsFit
 returns-3 c =
-    let u = c .before in
-    records-due _ _ (sym (u .before .before .before .limits-fit .ensures) ∙ not-false _ (u .before .before .if1 .left)) (le-leb _ _ (u .before .if2 .left)) (sym (u .holds-at-least .ensures) ∙ not-true _ (c .if3 .taken))
+    let u = c .before .before .before in
+    records-due _ _ (limits (limitsOf u)) (le-leb _ _ (u .if2 .left)) (sym (c .before .holds-at-least .ensures) ∙ not-true _ (c .if3 .taken))
 
 table-right-requires : tie.Need-table-right-requires
 table-right-requires c κs = search needs
@@ -36,14 +55,16 @@ table-right-requires c κs = search needs
 returns-4 : tie.Need-returns-4
 unfolding limitsFit sheetFits recordsFit
 returns-4 c =
-    let u = c .before .before .before in
-    table-due _ _ (sym (u .before .before .before .limits-fit .ensures) ∙ not-false _ (u .before .before .if1 .left)) (le-leb _ _ (u .before .if2 .left)) (sym (u .holds-at-least .ensures) ∙ not-false _ (c .before .before .if3 .left)) (sym (c .before .table-right .ensures) ∙ not-true _ (c .if4 .taken))
+    let v = c .before .before in
+    let u = sheetOf v in
+    table-due _ _ (limits (limitsOf u)) (le-leb _ _ (u .if2 .left)) (sym (v .before .holds-at-least .ensures) ∙ not-false _ (v .if3 .left)) (sym (c .before .table-right .ensures) ∙ not-true _ (c .if4 .taken))
 
 returns-5 : tie.Need-returns-5
 unfolding limitsFit sheetFits recordsFit
 returns-5 c =
-    let u = c .before .before .before in
-    none-due _ _ (sym (u .before .before .before .limits-fit .ensures) ∙ not-false _ (u .before .before .if1 .left)) (le-leb _ _ (u .before .if2 .left)) (sym (u .holds-at-least .ensures) ∙ not-false _ (c .before .before .if3 .left)) (sym (c .before .table-right .ensures) ∙ not-false _ (c .if4 .left))
+    let v = c .before .before in
+    let u = sheetOf v in
+    none-due _ _ (limits (limitsOf u)) (le-leb _ _ (u .if2 .left)) (sym (v .before .holds-at-least .ensures) ∙ not-false _ (v .if3 .left)) (sym (c .before .table-right .ensures) ∙ not-false _ (c .if4 .left))
 
 pub before-check-spec : {M : Type 1} → statement M
 before-check-spec =
@@ -51,8 +72,10 @@ before-check-spec =
     (tie.spec
     limits-fit-requires
     returns
+    cast-if2
     mul-if2
     returns-2
+    cast-holds-at-least
     holds-at-least-requires
     returns-3
     table-right-requires

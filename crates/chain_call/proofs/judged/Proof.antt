@@ -8,7 +8,7 @@ admit-requires : tie.Need-admit-requires
 admit-requires c κs = search needs
 
 returns : tie.Need-returns
-returns c name = c .admit .ensures name true
+returns c = c .admit .ensures true
 
 pub judged-spec : {M : Type 1} → statement M
 judged-spec = tie.close (tie.spec admit-requires returns)

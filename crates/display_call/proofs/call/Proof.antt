@@ -14,7 +14,7 @@ startAt a = a .before .before .before .before
 abbrev fedAt : tie.After-admit → Fed
 fedAt a =
     let s = (startAt a) .args in
-    fedOf (s .script .now) (s .d) (s .n) (s .g) (s .tally) (s .table .now) (s .count) (s .name) (s .sheet .now)
+    fedOf (s .numbers) (s .script .now) (s .table .now) (s .sheet .now)
 
 admit-requires : tie.Need-admit-requires
 admit-requires c κs = search needs
@@ -31,7 +31,7 @@ enum-told c = search needs
 ran-requires : tie.Need-ran-requires
 ran-requires c κs =
     let a = c .before .before .before .before in
-    admitted-call display (fedAt a) (a .admit .result) (a .admit .ensures ((startAt a) .args .name) false) (c .before .before .enum-told .given .1)
+    admitted-call display (fedAt a) (a .admit .result) (a .admit .ensures false) (c .before .before .enum-told .given .1)
 
 same-length : tie.Need-same-length
 same-length c = search needs
@@ -43,9 +43,7 @@ returns : tie.Need-returns
 returns c =
     let a = c .before .before .before .before in
     let told = c .before .before .cause .given in
-    let r = refused-call display (fedAt a) (a .admit .result) (a .admit .ensures ((startAt a) .args .name) false) (told .0 .0) (told .0 .1 .0) (told .1)
-    (c .refusal-words .result) (c .refusal-words .ensures) in
-    (r .0, (r .1, r .2))
+    refused-call display (fedAt a) (a .admit .result) (a .admit .ensures false) (told .0 .0) (told .0 .1 .0) (told .1) (c .refusal-words .ensures)
 
 same-length-3 : tie.Need-same-length-3
 same-length-3 c = search needs

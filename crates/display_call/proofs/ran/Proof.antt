@@ -1,20 +1,23 @@
 -- `ran` meets its contract: what the run and the sheet come to is the copy rule's reply. Assumes nothing.
 use borrow.Author.Needs.{needs}
-use Rattle.language.specs.Call.{Fed}
+use mathlib.Core.Path.{refl}
+use Rattle.language.specs.Call.{Fed, display}
 use Rattle.grammar.specs.Rules.{Bytes}
 use Rattle.grammar.specs.Words.{bytes-are}
+use Rattle.resolving.specs.Resolving.{resolved-covers}
 use Rattle.admission.specs.Lent.{fedOf}
-use Rattle.replies.specs.Replies.{tally-fits}
-use Rattle.display_call.proofs.Pieces.{begins-so, sheet-so, replies-so}
+use Rattle.replies.specs.Replies.{no-links, tally-fits}
+use Rattle.replies.specs.Runs.{sheet-needs, run-replies}
+use Rattle.display_call.proofs.Pieces.{beginning, ended}
 use Rattle.display_call.proofs.ran.Statement.{statement}
 use Rattle.display_call.proofs.ran.Tie as tie
 
 -- the places: where the script is resolved, where the run returns, where the sheet is written
-abbrev resolvedAt : tie.After-run-program-arg → tie.After-resolve
-resolvedAt c = c .before .before .before .before .before .before .before
+abbrev resolvedAt : tie.After-struct-known2 → tie.After-resolve
+resolvedAt c = c .before .before .before .before .before .before .before .before
 
 abbrev startAt : tie.After-resolve → tie.Start
-startAt c = c .before .before .before
+startAt c = c .before .before .before .before
 
 abbrev ranAt : tie.After-write-sheet-arg → tie.After-run-program
 ranAt c = c .before .before .before .before .before .before
@@ -26,10 +29,13 @@ writtenAt c = c .before .before
 abbrev fedAt : tie.After-resolve → Fed
 fedAt z =
     let s = (startAt z) .args in
-    fedOf (s .script .now) (s .d) (s .n) (s .g) (s .tally) (s .table .now) (s .count) (s .name) (s .sheet .now)
+    fedOf (s .numbers) (s .script .now) (s .table .now) (s .sheet .now)
 
 bytesAt : (z : tie.After-resolve) → Bytes ((fedAt z) .script)
-bytesAt z = bytes-are ((fedAt z) .script) (λ i. z .before .before .shared-slice-known .given i .fits)
+bytesAt z = bytes-are ((fedAt z) .script) (λ i. z .before .before .before .shared-slice-known .given i .fits)
+
+cast-resolve : tie.Need-cast-resolve
+cast-resolve c = search needs
 
 slice-aggregate-resolve : tie.Need-slice-aggregate-resolve
 slice-aggregate-resolve c = search needs
@@ -37,18 +43,22 @@ slice-aggregate-resolve c = search needs
 resolve-requires : tie.Need-resolve-requires
 resolve-requires c κs = search needs
 
+cast-run-program : tie.Need-cast-run-program
+cast-run-program c = search needs
+
 run-program-requires : tie.Need-run-program-requires
 run-program-requires c κs =
     let z = resolvedAt c in
     let p = (startAt z) .pre in
-    begins-so (fedAt z) (bytesAt z) (p .0) (p .1) (z .resolve .last .1 .1 .0) (z .resolve .ensures)
+    beginning (fedAt z) (bytesAt z) (p .0) (p .1) _ (z .resolve .ensures)
 
 write-sheet-requires : tie.Need-write-sheet-requires
 write-sheet-requires c κs =
     let u = ranAt c in
     let z = resolvedAt (u .before) in
     let p = (startAt z) .pre in
-    sheet-so (fedAt z) (bytesAt z) (p .0) (p .1) (z .resolve .last .1 .1 .0) (z .resolve .ensures) (u .run-program .result) (u .run-program .ensures)
+    sheet-needs (bytesAt z) (p .1) (resolved-covers _ _ _ (z .resolve .ensures) _ (p .1 .script))
+    (ended (fedAt z) (bytesAt z) (p .0) (p .1) _ (z .resolve .ensures) (u .run-program .result) (u .run-program .ensures))
 
 run-words-requires : tie.Need-run-words-requires
 run-words-requires c κs = tally-fits ((startAt (resolvedAt (ranAt (c .before .before) .before))) .pre .1)
@@ -65,16 +75,18 @@ returns c =
     let u = ranAt (v .before) in
     let z = resolvedAt (u .before) in
     let p = (startAt z) .pre in
-    let q = replies-so (fedAt z) (bytesAt z) (p .0) (p .1) (z .resolve .last .1 .1 .0) (z .resolve .ensures) (u .run-program .result) (u .run-program .ensures) _
-    (v .write-sheet .result) (v .write-sheet .ensures) (c .run-words .result) (c .run-words .ensures) in
-    (q .0, (q .1, q .2))
+    run-replies (bytesAt z) (p .1) (resolved-covers _ _ _ (z .resolve .ensures) _ (p .1 .script))
+    (ended (fedAt z) (bytesAt z) (p .0) (p .1) _ (z .resolve .ensures) (u .run-program .result) (u .run-program .ensures))
+    (v .write-sheet .ensures) (no-links display (fedAt z) _ refl) (c .run-words .ensures)
 
 pub ran-spec : {M : Type 1} → statement M
 ran-spec =
     tie.close
     (tie.spec
+    cast-resolve
     slice-aggregate-resolve
     resolve-requires
+    cast-run-program
     run-program-requires
     write-sheet-requires
     run-words-requires

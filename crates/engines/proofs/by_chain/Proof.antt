@@ -38,7 +38,7 @@ use Rattle.lending.specs.Params.{Par, dat, brw, Bounds, denots, valss, vals, lf
 use Rattle.lending.specs.Functions.{arrives}
 use Rattle.lending.specs.Calls.{to, calls-by}
 use Rattle.lending.specs.Frames.{Starts, begins, tysOf, blockOf}
-use Rattle.lending.specs.Clauses.{asks-all, said-together}
+use Rattle.lending.specs.Clauses.{asks-all}
 use Rattle.lending.specs.Locals.{var, lent, lent-ptr, lent-slice, puts, lands-in, ends}
 use Rattle.lending.specs.Holes.{lends-out, whole-again, var-in, arrays, repeats, repeats-good}
 use Rattle.lending.specs.Arrays.{Span, spanAt, lends-span, back-span, leaves-unsaid}
@@ -179,8 +179,7 @@ module _ {M : Type 1} (𝓤 : URA M) (H : Heap 𝓤) (A : Atoms 𝓤) (W : Given
         -- [the records; what waits; the locals; the script; the table; the sheet; the answer]
         move ! (3 ∷ 4 ∷ 5 ∷ 0 ∷ 6 ∷ []) $
         calls-by ! fm (Calls-chain 𝓤 H A mem run) known (to (for-chain (blockOf 𝓤 H τs β 10) s)) (for-chain (blockOf 𝓤 H τs β 10) s) refl
-        (g-d, (g-n, (g-g, (g-tally, (g-count, (g-name, tt)))))) (Unit {0}) tt (asks-all 𝓤 H A (for-chain (blockOf 𝓤 H τs β 10) s) []) units _
-        (said-together 𝓤 H A W (for-chain (blockOf 𝓤 H τs β 10) s) (units .type) (_ ∷ _ ∷ _ ∷ _ ∷ []))
+        (g-d, (g-n, (g-g, (g-tally, (g-count, (g-name, tt)))))) (Unit {0}) tt (asks-all 𝓤 H A (for-chain (blockOf 𝓤 H τs β 10) s) []) units _ (λ v. id⊢ 𝓤 _)
         (and-then ! (var-in ! 6 1 refl refl tt) (and-then ! (var-in ! 6 2 refl refl tt) (and-then ! (var-in ! 6 3 refl refl tt) (and-then ! (var-in ! 6 4 refl refl tt)
         (and-then ! (lit ! tt) (and-then ! (var-in ! 6 14 refl refl tt) (and-then ! (var-in ! 6 6 refl refl tt) (and-then ! (var-in ! 6 7 refl refl tt)
         (and-then ! (var-in ! 6 16 refl refl tt) (and-then ! (var-in ! 6 18 refl refl tt) (and-then ! (var-in ! 6 19 refl refl tt) (no-more !))))))))))))

@@ -1,4 +1,4 @@
--- `enrol_chain` meets its contract: a walk of its MIR, by hand. It hands on all that it was lent.
+-- `enrol_chain` meets its contract: a walk of its MIR, by hand. It hands on all that it was lent, and the numbers as one.
 use mathlib.Core.Path.{_≡_, refl}
 use Prim.Native.Nat.{ℕ}
 use mathlib.Core.List.{List, [], _∷_}
@@ -17,6 +17,7 @@ use contract.Monad.{Fun}
 use contract.Running.{givenOf, tables, tablesOf}
 use types.Kit.{Given, ⋆, _$_, _∵_, !, qed, by, move}
 use types.Run.{and-then, no-more, of-opd, unit-lit}
+use types.Part.{agg}
 use sound.WpLaws.{WpFn-mono, FmC, fmOf}
 use denote.RattleType.{RattleType}
 use denote.Builtin.{Array, u8, u64, i32}
@@ -30,19 +31,21 @@ use denote.Triple.Statement.{Contract, Triple}
 use denote.Triple.Table.{entered, cited}
 use denote.Triple.Walked.{Stays, stay-none-slice, stay-none, gave-slice, gave-ref, walkOf, Walks, ends-at, walked, goes-none-slice, goes-none, goes-gave-slice, goes-gave-ref, walk-meets}
 use denote.Exit.{yes}
-use Rattle.language.specs.Call.{chain, reply, Leaves}
-use Rattle.language.specs.Numbers.{answerWords}
+use Rattle.language.specs.Call.{chain}
+use Rattle.admission.specs.declared.Numbers.{Numbers}
 use Rattle.admission.specs.Lent.{fedOf}
+use Rattle.answers.specs.Replies.{RepliesLeaving}
 use Rattle.lending.specs.Data.{Good, typed, usizes, words32, words16, units}
 use Rattle.lending.specs.Loans.{Loan, loanSlice, loanRef, shrSlice, mutSlice, mutRef}
 use Rattle.lending.specs.Params.{Par, dat, brw, denots, valss, vals, lfts, shares, ins, outs}
-use Rattle.lending.specs.Functions.{arrives}
+use Rattle.lending.specs.Functions.{arrives, leaves-with}
 use Rattle.lending.specs.Calls.{to, calls-by}
 use Rattle.lending.specs.Frames.{begins, tysOf}
-use Rattle.lending.specs.Clauses.{All, asks-all, said-together, leaves-saying}
+use Rattle.lending.specs.Clauses.{asks-all}
 use Rattle.lending.specs.Locals.{var, lent, lent-ptr, lent-slice, puts, lands-in, ends}
 use Rattle.activations.specs.declared.Activation.{Activation}
 use Rattle.activations.proofs.Elem.{Rec}
+use Rattle.chain_call.proofs.Rows.{numberss, made}
 use Rattle.chain_call.proofs.call as call
 use Rattle.chain_call.proofs.call.Symbol as call-def
 use Rattle.chain_call.proofs.call.Symbol.{name as #call}
@@ -103,13 +106,22 @@ module _ {M : Type 1} (𝓤 : URA M) (H : Heap 𝓤) (A : Atoms 𝓤) (W : Given
   abbrev Post : Val → SProp 𝓤
   Post = walkOf 𝓤 H A f.ended stayed (f.clauses 𝓤 H A mem run) .post bound
 
-  abbrev Said : List ℤ → List ℤ → List Activation → List ℕ → List (Type 0)
-  Said table′ sheet′ records′ answer′ = (answer′ ≡ answerWords ((reply (chain (length records)) (fedOf script d n g tally table count name sheet)) .answer)) ∷ (sheet′ ≡ (reply (chain (length records)) (fedOf script d n g tally table count name sheet)) .lent .sheet) ∷ (table′ ≡ (reply (chain (length records)) (fedOf script d n g tally table count name sheet)) .lent .table .words) ∷ (Leaves (chain (length records)) (fedOf script d n g tally table count name sheet) records records′) ∷ []
+  abbrev numbers : Numbers
+  numbers = record { d = d; n = n; g = g; tally = tally; count = count; name = name }
+
+  g-numbers : Good numberss numbers
+  g-numbers = made numbers (record { d = g-d; n = g-n; g = g-g; tally = g-tally; count = g-count; name = g-name })
+
+  abbrev Said : List ℤ → List ℤ → List Activation → List ℕ → Type 0
+  Said table′ sheet′ records′ answer′ = RepliesLeaving (chain (length records)) (fedOf numbers script table sheet) answer′ sheet′ table′ records records′
 
   exits : (table′ sheet′ : List ℤ) (records′ : List Activation) (answer′ : List ℕ) → length table′ ≡ length table → length sheet′ ≡ length sheet → length records′ ≡ length records
-      → All (Said table′ sheet′ records′ answer′) → ent 𝓤 (⋆ 𝓤 H A (outs 𝓤 0 ps (tt, (tt, (tt, (tt, (tt, (table′, (tt, (tt, (sheet′, (records′, (answer′, tt))))))))))))) (Post vunit)
-  exits table′ sheet′ records′ answer′ same-table same-sheet same-records says = via 𝓤 _ (leaves-saying 𝓤 H A W ps (tt, (tt, (tt, (tt, (tt, (table′, (tt, (tt, (sheet′, (records′, (answer′, tt))))))))))) (g-d, (g-n, (g-g, (g-tally, (g-count, (g-name, tt)))))) units tt refl (Said table′ sheet′ records′ answer′) says)
+      → Said table′ sheet′ records′ answer′ → ent 𝓤 (⋆ 𝓤 H A (outs 𝓤 0 ps (tt, (tt, (tt, (tt, (tt, (table′, (tt, (tt, (sheet′, (records′, (answer′, tt))))))))))))) (Post vunit)
+  exits table′ sheet′ records′ answer′ same-table same-sheet same-records says = via 𝓤 _ (leaves-with 𝓤 H A W ps (tt, (tt, (tt, (tt, (tt, (table′, (tt, (tt, (sheet′, (records′, (answer′, tt))))))))))) (g-d, (g-n, (g-g, (g-tally, (g-count, (g-name, tt)))))) units tt refl (Said table′ sheet′ records′ answer′) says)
       (ends-at 𝓤 H A f.ended stayed (f.clauses 𝓤 H A mem run) W bound vunit tt (tt, (tt, (tt, (tt, (tt, (table′, (tt, (tt, (sheet′, (records′, (answer′, tt))))))))))) (tt, (tt, (tt, (tt, (tt, (same-table, (tt, (tt, (same-sheet, (same-records, (tt, tt))))))))))))
+
+  abbrev for-call : List Par
+  for-call = brw (shrSlice u8) h-script script ∷ dat numberss numbers ∷ brw (mutSlice i32) h-table table ∷ brw (mutSlice i32) h-sheet sheet ∷ brw (mutSlice Rec) h-records records ∷ brw (mutRef Answer) h-answer answer ∷ []
 
   module _ (C : Calls 𝓤 H) (Λ : Loops 𝓤 H) (fm : FmC 𝓤 H (W .laws) C) (known-call : Triple 𝓤 (C #call) (Calls-call 𝓤 H A mem run)) where
     abbrev τs : List Ty
@@ -118,19 +130,20 @@ module _ {M : Type 1} (𝓤 : URA M) (H : Heap 𝓤) (A : Atoms 𝓤) (W : Given
     walk : ent 𝓤 (onEntry 𝓤 H A f.signature (lfts ps) (shares ps) (denots 0 ps) (valss 0 ps)) (WpFn 𝓤 H C Λ mine.function (vals ps) Post)
     walk = via 𝓤 (⋆ 𝓤 H A (ins 𝓤 ps)) (arrives 𝓤 H A W 0 ps) (qed W (ins 𝓤 ps) ∵
         begins ! C Λ mine.function (vals ps) Post ((tt, (tt, (record { fits = room-script .0 }, tt))), (typed 𝓤 H A W words32 d g-d, (typed 𝓤 H A W words32 n g-n, (typed 𝓤 H A W words32 g g-g, (typed 𝓤 H A W usizes tally g-tally, ((tt, (tt, (record { fits = room-table .0 }, tt))), (typed 𝓤 H A W usizes count g-count, (typed 𝓤 H A W words16 name g-name, ((tt, (tt, (record { fits = room-sheet .0 }, tt))), ((tt, (tt, (record { fits = room-records .0 }, tt))), ((tt, tt), tt))))))))))) (λ β. move ! (1 ∷ 2 ∷ 3 ∷ 4 ∷ 5 ∷ []) $
-        puts ! 5 13 refl (lent-ptr ! 5 6 refl refl tt refl refl) tt (tt, tt) $
-        puts ! 5 14 refl (lent-slice ! 5 6 13 refl refl refl tt tt refl refl) tt (tt, (tt, (record { fits = room-table .0 }, tt))) $
-        puts ! 5 15 refl (lent-ptr ! 5 9 refl refl tt refl refl) tt (tt, tt) $
-        puts ! 5 16 refl (lent-slice ! 5 9 15 refl refl refl tt tt refl refl) tt (tt, (tt, (record { fits = room-sheet .0 }, tt))) $
-        puts ! 5 17 refl (lent-ptr ! 5 10 refl refl tt refl refl) tt (tt, tt) $
-        puts ! 5 18 refl (lent-slice ! 5 10 17 refl refl refl tt tt refl refl) tt (tt, (tt, (record { fits = room-records .0 }, tt))) $
-        puts ! 5 19 refl (lent ! 5 11 refl refl tt) tt (tt, tt) $
-        calls-by ! fm (Calls-call 𝓤 H A mem run) known-call (to ps) ps refl (g-d, (g-n, (g-g, (g-tally, (g-count, (g-name, tt)))))) (Unit {0}) tt (asks-all 𝓤 H A ps []) units _ (said-together 𝓤 H A W ps (units .type) (_ ∷ _ ∷ _ ∷ _ ∷ []))
-        (and-then ! (var ! 5 1 refl refl tt) (and-then ! (var ! 5 2 refl refl tt) (and-then ! (var ! 5 3 refl refl tt) (and-then ! (var ! 5 4 refl refl tt) (and-then ! (var ! 5 5 refl refl tt) (and-then ! (var ! 5 14 refl refl tt) (and-then ! (var ! 5 7 refl refl tt) (and-then ! (var ! 5 8 refl refl tt) (and-then ! (var ! 5 16 refl refl tt) (and-then ! (var ! 5 18 refl refl tt) (and-then ! (var ! 5 19 refl refl tt) (no-more !))))))))))))
+        puts ! 5 12 refl (agg ! (and-then ! (var ! 5 2 refl refl tt) (and-then ! (var ! 5 3 refl refl tt) (and-then ! (var ! 5 4 refl refl tt) (and-then ! (var ! 5 5 refl refl tt) (and-then ! (var ! 5 7 refl refl tt) (and-then ! (var ! 5 8 refl refl tt) (no-more !)))))))) tt (typed 𝓤 H A W numberss numbers g-numbers) $
+        puts ! 5 14 refl (lent-ptr ! 5 6 refl refl tt refl refl) tt (tt, tt) $
+        puts ! 5 15 refl (lent-slice ! 5 6 14 refl refl refl tt tt refl refl) tt (tt, (tt, (record { fits = room-table .0 }, tt))) $
+        puts ! 5 16 refl (lent-ptr ! 5 9 refl refl tt refl refl) tt (tt, tt) $
+        puts ! 5 17 refl (lent-slice ! 5 9 16 refl refl refl tt tt refl refl) tt (tt, (tt, (record { fits = room-sheet .0 }, tt))) $
+        puts ! 5 18 refl (lent-ptr ! 5 10 refl refl tt refl refl) tt (tt, tt) $
+        puts ! 5 19 refl (lent-slice ! 5 10 18 refl refl refl tt tt refl refl) tt (tt, (tt, (record { fits = room-records .0 }, tt))) $
+        puts ! 5 20 refl (lent ! 5 11 refl refl tt) tt (tt, tt) $
+        calls-by ! fm (Calls-call 𝓤 H A mem run) known-call (to for-call) for-call refl (g-numbers, tt) (Unit {0}) tt (asks-all 𝓤 H A for-call []) units _ (λ v. id⊢ 𝓤 _)
+        (and-then ! (var ! 5 1 refl refl tt) (and-then ! (var ! 5 12 refl refl tt) (and-then ! (var ! 5 15 refl refl tt) (and-then ! (var ! 5 17 refl refl tt) (and-then ! (var ! 5 19 refl refl tt) (and-then ! (var ! 5 20 refl refl tt) (no-more !)))))))
         (λ _ ws _ says same.
-        lands-in ! 5 12 refl tt (tt, tt) $ puts ! 5 0 refl (of-opd ! (unit-lit !)) tt (tt, tt) $
+        lands-in ! 5 13 refl tt (tt, tt) $ puts ! 5 0 refl (of-opd ! (unit-lit !)) tt (tt, tt) $
         ends ! 5 refl refl tt $
-        by ! (exits (ws .1 .1 .1 .1 .1 .0) (ws .1 .1 .1 .1 .1 .1 .1 .1 .0) (ws .1 .1 .1 .1 .1 .1 .1 .1 .1 .0) (ws .1 .1 .1 .1 .1 .1 .1 .1 .1 .1 .0) (same .1 .0) (same .1 .1 .0) (same .1 .1 .1 .0) says))))
+        by ! (exits (ws .1 .1 .0) (ws .1 .1 .1 .0) (ws .1 .1 .1 .1 .0) (ws .1 .1 .1 .1 .1 .0) (same .1 .0) (same .1 .1 .0) (same .1 .1 .1 .0) says))))
 
 module _ {M : Type 1} (𝓤 : URA M) (H : Heap 𝓤) (A : Atoms 𝓤) (W : Given 𝓤 H A) (mem : Memory → SProp 𝓤) (run : Routine → Fun 𝓤) (𝓣 : Tables 𝓤 H)
     (known-call : Triple 𝓤 (𝓣 .C #call) (Calls-call 𝓤 H A mem run)) where
