@@ -18,8 +18,8 @@ use Rattle.language.specs.Call.{Engine, Fed, Reply, limitsOf, admission, turned
 use Rattle.language.specs.declared.Stop.{Stop}
 use Rattle.language.specs.declared.Stop.the-variants.{ResultTooLarge, NoActivationLeft, ArgumentsDiffer}
 use Rattle.language.specs.declared.End.{End}
+use Rattle.language.specs.declared.End.the-variants.{Finished, Spent, Stopped}
 use Rattle.language.specs.declared.Answer.{Answer}
-use Rattle.laws.specs.Machines.{Tried, goes, stops, Machine, loop}
 
 -- A frame: the formals of the procedure whose body its block is (none for another block), the block, where it goes on, its static link
 -- (the number of the frame that encloses its text, 0 for the program), and a word for each name, formals first. A variable's word is its
@@ -42,13 +42,6 @@ withFrames s fs = record { frames = fs; table = s .table; steps = s .steps }
 
 unfoldable pub tableChanged : Stack → Table → Stack
 tableChanged s t = record { frames = s .frames; table = t; steps = s .steps }
-
--- what the step from s to s′ costs, and s′ with that step counted
-unfoldable pub frameCost : Stack → Stack → ℕ
-frameCost s s′ = 1
-
-unfoldable pub stepped : Stack → Stack → Stack
-stepped s s′ = record { frames = s′ .frames; table = s′ .table; steps = s′ .steps + frameCost s s′ }
 
 unfoldable pub continue : Frame → ℕ → Frame
 continue f n = record { formals = f .formals; text = f .text; next = n; link = f .link; words = f .words }
@@ -241,6 +234,13 @@ actIn l s f = elim (frameStmt f) [ none ↦ acted (withFrames s (butLast (s .fra
 unfoldable pub frameStep : Limits → Stack → Acted
 frameStep l s = elim (last? (s .frames)) [ none ↦ acted s | some f ↦ actIn l s f ]
 
+-- what the step from s to s′ costs, and s′ with that step counted
+unfoldable pub frameCost : Stack → Stack → ℕ
+frameCost s s′ = 1
+
+unfoldable pub stepped : Stack → Stack → Stack
+stepped s s′ = record { frames = s′ .frames; table = s′ .table; steps = s′ .steps + frameCost s s′ }
+
 unfoldable pub frameOffset : Stack → ℕ
 frameOffset s = elim (last? (s .frames)) [ none ↦ 0 | some f ↦ elim (frameStmt f) [ none ↦ 0 | some x ↦ stmtAt x ] ]
 
@@ -254,17 +254,26 @@ pub record Result : Type 0 where
 unfoldable pub results : End → ℕ → Stack → Result
 results e o s = record { end = e; offset = o; final = s }
 
--- the machine by its parts: its run is the loop of `Machines` in laws, as the copy-rule machine's is
-abbrev pub frameTried : Acted → Tried Stack
-frameTried (acted s) = goes s
-frameTried (halted c) = stops c
-
-abbrev pub framed : Limits → Machine Stack Frame Result
-framed l =
-    record { live = λ s. s .frames; tries = λ s. frameTried (frameStep l s); cost = frameCost; counted = stepped; offset = frameOffset; ends = results }
+-- as the copy-rule machine's
+unfoldable pub frameRunWithin : ℕ → Limits → ℕ → Stack → Result
+frameRunWithin zero l left s = elim (s .frames) [ [] ↦ results Finished 0 s | f ∷ rest ↦ results Spent 0 s ]
+frameRunWithin (suc bound) l left s =
+    elim (s .frames) [
+      | [] ↦ results Finished 0 s
+      | f ∷ rest ↦ elim left [
+        | zero ↦ results Spent 0 s
+        | suc n ↦ elim (frameStep l s) [
+          | halted c ↦ results (Stopped c) (frameOffset s) s
+          | acted s′ ↦ elim (leb (frameCost s s′) (suc n)) [
+            | true ↦ frameRunWithin bound l (suc n - frameCost s s′) (stepped s s′)
+            | false ↦ results Spent 0 s
+          ]
+        ]
+      ]
+    ]
 
 unfoldable pub frameRun : Limits → ℕ → Stack → Result
-frameRun l n s = loop (framed l) n s
+frameRun l n s = frameRunWithin n l n s
 
 unfoldable pub frameStart : Block → Table → Stack
 frameStart program t = record { frames = newFrame [] [] program 0 ∷ []; table = t; steps = 0 }

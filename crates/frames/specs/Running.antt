@@ -1,55 +1,82 @@
--- The rules of the frame machine's run, as equations (`run-finished`, `run-spent`, `run-stops`, `run-short`, `run-steps`), and what every step keeps, which
--- the stack that a run leaves has (`run-keeps`). The stacks of a run are those that its shorter runs leave.
-use Prim.Native.Nat.{ℕ, _-_, _≤_, _<_}
+-- The frame machine by its parts (`Machines` in laws), and its run (`run-runs`), whatever the bound (`within-runs`). So the rules of a run are equations:
+-- `run-finished`, `run-spent`, `run-stops` and `run-steps`; and what every step keeps is had by the stack that a run leaves (`run-keeps`). The stacks
+-- of a run are those that its shorter runs leave.
+use Prim.Native.Nat.{ℕ, zero, suc, _-_, _≤_}
 use native.Mathlib.Omega.{arith}
-use mathlib.Core.Path.{_≡_, ap}
+use mathlib.Core.Bool.{true, false}
 use mathlib.Core.List.{[]}
+use mathlib.Core.Path.{_≡_, refl}
+use lib.Dec.{leb}
 use lib.ListN.{length}
 use Rattle.language.specs.Machine.{Limits}
 use Rattle.language.specs.declared.Stop.{Stop}
 use Rattle.language.specs.declared.End.the-variants.{Finished, Spent, Stopped}
-use Rattle.laws.specs.Machines.{goes, stops, loop-keeps, loop-finished, loop-spent, loop-stops, loop-short, loop-goes}
-use Rattle.frames.specs.Frame.{Stack, Acted, acted, halted, frameCost, stepped, frameStep, frameOffset, results, frameTried, framed, frameRun}
+use Rattle.laws.specs.Machines.{Machine, Runs, finished, spent, stopped, gone, only-one, runs-live, runs-fit, runs-keep}
+use Rattle.frames.specs.Frame.{Frame, Stack, Acted, acted, halted, frameCost, stepped, frameStep, frameOffset, Result, results, frameRunWithin, frameRun}
 
 pub some-cost : (s s′ : Stack) → 1 ≤ frameCost s s′
 unfolding frameCost
 some-cost s s′ = omega arith
 
-pub tried-acted : (d : Acted) (s : Stack) → frameTried d ≡ goes s → d ≡ acted s
-tried-acted (acted t) s e = cc
-tried-acted (halted c) s e = let z : _≡_ {A = ℕ} 0 1 = cc in absurd (omega arith)
+module _ (l : Limits) where
+  pub one-step : (s t u : Stack) → frameStep l s ≡ acted t → frameStep l s ≡ acted u → t ≡ u
+  one-step s t u g h = cc
 
-pub tried-halted : (d : Acted) (c : Stop) → frameTried d ≡ stops c → d ≡ halted c
-tried-halted (acted t) c e = let z : _≡_ {A = ℕ} 0 1 = cc in absurd (omega arith)
-tried-halted (halted d) c e = cc
+  pub one-cause : (s : Stack) (c d : Stop) → frameStep l s ≡ halted c → frameStep l s ≡ halted d → c ≡ d
+  one-cause s c d x y = cc
 
-module _ (l : Limits) (s : Stack) where
-  pub run-finished : (n : ℕ) → s .frames ≡ [] → frameRun l n s ≡ results Finished 0 s
+  pub not-both : (s t : Stack) (c : Stop) → frameStep l s ≡ acted t → frameStep l s ≡ halted c → ⊥
+  not-both s t c g x = let z : _≡_ {A = ℕ} 0 1 = cc in omega arith
+
+  abbrev pub framed : Machine Stack Frame Result
+  framed =
+      record {
+        live = λ s. s .frames;
+        Goes = λ s s′. frameStep l s ≡ acted s′;
+        Stops = λ s c. frameStep l s ≡ halted c;
+        cost = frameCost;
+        counted = stepped;
+        offset = frameOffset;
+        ends = results;
+        one-step = one-step;
+        one-cause = one-cause;
+        not-both = not-both;
+      }
+
+  pub within-runs : (bound n : ℕ) (s : Stack) → n ≤ bound → Runs framed n s (frameRunWithin bound l n s)
+  unfolding frameRunWithin
+  within-runs zero zero s h = runs-live framed s (results Spent 0 s) (λ k. spent k refl)
+  within-runs zero (suc n) s h = absurd {0} (omega arith)
+  within-runs (suc b) zero s h = runs-live framed s (results Spent 0 s) (λ k. spent k refl)
+  within-runs (suc b) (suc n) s h = runs-live framed s _ (λ k. on k (λ m t f. within-runs b m t (omega arith)) (frameStep l s) refl)
+    where
+      on : 1 ≤ length (s .frames) → ((m : ℕ) (t : Stack) → m ≤ n → Runs framed m t (frameRunWithin b l m t)) → (d : Acted) → frameStep l s ≡ d
+          → Runs framed (suc n) s (elim d [ halted c ↦ results (Stopped c) (frameOffset s) s | acted s′ ↦ elim (leb (frameCost s s′) (suc n)) [ true ↦ frameRunWithin b l (suc n - frameCost s s′) (stepped s s′) | false ↦ results Spent 0 s ] ])
+      on k f (halted c) e = stopped {n = suc n} c k (omega arith) e
+      on k f (acted s′) e = runs-fit framed {n = suc n} s s′ _ k (omega arith) e (f (suc n - frameCost s s′) (stepped s s′) (omega (arith, some-cost s s′)))
+
+  pub run-runs : (n : ℕ) (s : Stack) → Runs framed n s (frameRun l n s)
   unfolding frameRun
-  run-finished n e = loop-finished (framed l) some-cost s n e
+  run-runs n s = within-runs n n s (omega arith)
 
-  pub run-spent : 1 ≤ length (s .frames) → frameRun l 0 s ≡ results Spent 0 s
-  unfolding frameRun
-  run-spent h = loop-spent (framed l) some-cost s h
+  module _ (s : Stack) where
+    pub run-finished : (n : ℕ) → s .frames ≡ [] → frameRun l n s ≡ results Finished 0 s
+    run-finished n e = only-one framed (run-runs n s) (finished e)
 
-  pub run-stops : (n : ℕ) (c : Stop) → 1 ≤ length (s .frames) → 1 ≤ n → frameStep l s ≡ halted c → frameRun l n s ≡ results (Stopped c) (frameOffset s) s
-  unfolding frameRun
-  run-stops n c h k e = loop-stops (framed l) some-cost s n c h k (ap frameTried e)
+    pub run-spent : 1 ≤ length (s .frames) → frameRun l 0 s ≡ results Spent 0 s
+    run-spent h = only-one framed (run-runs 0 s) (spent h refl)
 
-  -- a step that costs more than is left is not begun
-  pub run-short : (n : ℕ) (s′ : Stack) → 1 ≤ length (s .frames) → 1 ≤ n → frameStep l s ≡ acted s′ → n < frameCost s s′ → frameRun l n s ≡ results Spent 0 s
-  unfolding frameRun
-  run-short n s′ h k e f = loop-short (framed l) some-cost s n s′ h k (ap frameTried e) f
+    pub run-stops : (n : ℕ) (c : Stop) → 1 ≤ length (s .frames) → 1 ≤ n → frameStep l s ≡ halted c → frameRun l n s ≡ results (Stopped c) (frameOffset s) s
+    run-stops n c h k e = only-one framed (run-runs n s) (stopped c h k e)
 
-  pub run-steps : (n : ℕ) (s′ : Stack) → 1 ≤ length (s .frames) → frameStep l s ≡ acted s′ → frameCost s s′ ≤ n → frameRun l n s ≡ frameRun l (n - frameCost s s′) (stepped s s′)
-  unfolding frameRun
-  run-steps n s′ h e f = loop-goes (framed l) some-cost s n s′ h (ap frameTried e) f
+    pub run-steps : (n : ℕ) (s′ : Stack) → 1 ≤ length (s .frames) → frameStep l s ≡ acted s′ → frameCost s s′ ≤ n → frameRun l n s ≡ frameRun l (n - frameCost s s′) (stepped s s′)
+    run-steps n s′ h e f = only-one framed (run-runs n s) (gone s′ h (omega (arith, some-cost s s′)) e f (run-runs (n - frameCost s s′) (stepped s s′)))
+
+  pub run-keeps : (P : Stack → Type 0) → ((s s′ : Stack) → 1 ≤ length (s .frames) → frameStep l s ≡ acted s′ → P s → P (stepped s s′)) → (n : ℕ) (s : Stack) → P s → P ((frameRun l n s) .final)
+  unfolding results
+  run-keeps P keeps n s = runs-keep framed P (λ r. P (r .final)) (λ e o t p. p) keeps (run-runs n s)
 
 -- a property of the stack that a statement or a step leaves, where it did not stop
 abbrev pub After : (Stack → Type 0) → Acted → Type 0
 After P (acted s) = P s
 After P (halted c) = Unit {0}
-
-pub run-keeps : (l : Limits) (P : Stack → Type 0) → ((s s′ : Stack) → 1 ≤ length (s .frames) → frameStep l s ≡ acted s′ → P s → P (stepped s s′)) → (n : ℕ) (s : Stack) → P s → P ((frameRun l n s) .final)
-unfolding frameRun results
-run-keeps l P keeps = loop-keeps (framed l) some-cost P (λ r. P (r .final)) (λ e o s p. p) (λ s s′ h e. keeps s s′ h (tried-acted (frameStep l s) s′ e))

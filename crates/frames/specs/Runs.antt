@@ -16,23 +16,24 @@ use Rattle.language.specs.Machine.{Activation, State, Limits, Done, did, stop, 
 use Rattle.language.specs.Sheet.{LookedUp, seek, designator, declWord, activationWords, wordsOf, sheetWords, lookedUp, lookedUpDesignator, lookedUpLinks}
 use Rattle.language.specs.Call.{Engine, Fed, limitsOf, linksOf, written, replied, runOf}
 use Rattle.language.specs.declared.Stop.{Stop}
-use Rattle.laws.specs.Machines.{InStep, loops-same}
+use Rattle.laws.specs.Machines.{only-one, InStep, runs-alike}
 use Rattle.laws.specs.Lists.{by-elements, some-last, last-none, last-split, getElem-seam, map-alike}
 use Rattle.laws.specs.Renaming.{blockAt-renamed, rename-nothing}
 use Rattle.laws.specs.Rising.{Rising}
 use Rattle.grammar.specs.Rules.{Bytes, Keeps}
 use Rattle.grammar.specs.Exact.{accepts-exactly}
-use Rattle.runs.specs.Running.{tried, some-cost, copied, run-is}
+use Rattle.runs.specs.Running.{copied, run-runs}
 use Rattle.instances.specs.Invariant.{Invariant}
 use Rattle.instances.specs.Accepted.{rules-closed}
 use Rattle.instances.specs.Steps.{started, step-keeps, counted-invariant}
-use Rattle.frames.specs.Frame.{Frame, Stack, acted, halted, withFrames, frameCost, stepped, numbered, designates, linksFollowed, seekName, seekFrom, frameStep, Result, results, framed, frameRun, frameStart, frameWords, frameSheet, frameReplied, frameRunOf}
+use Rattle.frames.specs.Frame.{Frame, Stack, acted, halted, withFrames, frameCost, stepped, numbered, designates, linksFollowed, seekName, seekFrom, frameStep, Result, results, frameRun, frameStart, frameWords, frameSheet, frameReplied, frameRunOf}
 use Rattle.frames.specs.Both.{Both}
 use Rattle.frames.specs.Related.{readsAt, readsIn, joined, designatorFor, designatorAt, wordIn, Twin, Related, as-deep}
 use Rattle.frames.specs.Push.{related-push}
 use Rattle.frames.specs.Find.{foundDesignator, passedIn, designates-found, links-found}
 use Rattle.frames.specs.Actions.{Alike, value-is}
 use Rattle.frames.specs.Running as framing
+use Rattle.frames.specs.Running.{framed}
 use Rattle.frames.specs.Steps.{step-alike, offset-alike}
 use Rattle.frames.specs.Fine.{fine-program}
 
@@ -87,24 +88,20 @@ in-step : (l : Limits) → InStep (framed l) (copied l) Alongside (λ q o. Same 
 unfolding ends results
 in-step l =
     record {
-      some-cost = framing.some-cost;
-      some-cost′ = some-cost;
       depth = λ t s a. sym (as-deep s t (a .0));
       ended = λ e o t s a. record { end-is = refl; offset-is = refl; finals = a .0 };
       offset = λ t s h a. let b = innermost s t (a .0) h in sym (offset-alike l s t (a .0) (a .1) (b .0) (b .1));
-      stop = λ t s c h a e.
-          let b = innermost s t (a .0) h in
-          ap tried (copies-stop l s t (a .0) (a .1) (b .0) (b .1) c (framing.tried-halted (frameStep l t) c e));
+      stop = λ t s c h a e. let b = innermost s t (a .0) h in copies-stop l s t (a .0) (a .1) (b .0) (b .1) c e;
       go = λ t s t′ h a e.
           let b = innermost s t (a .0) h in
-          let c = copies-step l s t (a .0) (a .1) (b .0) (b .1) t′ (framing.tried-acted (frameStep l t) t′ e) in
-          (c .0, ap tried (c .1), c .4, (c .2, c .3));
+          let c = copies-step l s t (a .0) (a .1) (b .0) (b .1) t′ e in
+          (c .0, c .1, c .4, (c .2, c .3));
     }
 
 pub runs-same : (l : Limits) (n : ℕ) (s : State) (t : Stack) → Related s t → Invariant s → Same (run l n s) (frameRun l n t)
-unfolding frameRun
 runs-same l n s t r inv =
-    subst (λ (o : Outcome). Same o (frameRun l n t)) (sym (run-is l n s)) (loops-same (framed l) (copied l) Alongside (λ q o. Same o q) (in-step l) n t s (r, inv))
+    let a = runs-alike (framed l) (copied l) Alongside (λ q o. Same o q) (in-step l) (framing.run-runs l n t) s (r, inv) in
+    subst (λ (o : Outcome). Same o (frameRun l n t)) (only-one (copied l) (a .1) (run-runs l n s)) (a .2)
 
 -- The two machines start related.
 nothing : Table → State

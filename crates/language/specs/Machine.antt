@@ -44,14 +44,6 @@ withLive s as′ = record { live = as′; values = s .values; fresh = s .fresh; 
 unfoldable pub withTable : State → Table → State
 withTable s t = record { live = s .live; values = s .values; fresh = s .fresh; table = t; steps = s .steps }
 
--- what the step from s to s′ costs: 1, whatever it does
-unfoldable pub cost : State → State → ℕ
-cost s s′ = 1
-
--- the step from s to s′ is counted
-unfoldable pub counted : State → State → State
-counted s s′ = record { live = s′ .live; values = s′ .values; fresh = s′ .fresh; table = s′ .table; steps = s′ .steps + cost s s′ }
-
 unfoldable pub resume : Activation → ℕ → Activation
 resume a n = record { text = a .text; arguments = a .arguments; next = n; reads = a .reads }
 
@@ -196,6 +188,14 @@ stepIn l s a = elim (nextStmt a) [ none ↦ did (withLive s (butLast (s .live)))
 -- One step, of a state in which an activation is live.
 unfoldable pub step : Limits → State → Done
 step l s = elim (last? (s .live)) [ none ↦ did s | some a ↦ stepIn l s a ]
+
+-- What the step from s to s′ costs: 1, whatever it does.
+unfoldable pub cost : State → State → ℕ
+cost s s′ = 1
+
+-- s′, with the step from s counted
+unfoldable pub counted : State → State → State
+counted s s′ = record { live = s′ .live; values = s′ .values; fresh = s′ .fresh; table = s′ .table; steps = s′ .steps + cost s s′ }
 
 -- where the next statement stands; 0 if no statement is next
 unfoldable pub nextOffset : State → ℕ

@@ -9,8 +9,8 @@ use lib.ListN.{length}
 use Rattle.language.specs.Machine.{State, Limits, Outcome, did, stop, cost, counted, withLive, withTable, advance, store, enter, step, nextOffset, ends, run}
 use Rattle.language.specs.declared.End.{End}
 use Rattle.language.specs.declared.End.the-variants.{Finished, Spent, Stopped, Refused}
-use Rattle.laws.specs.Machines.{loop-by}
-use Rattle.runs.specs.Running.{tried-did, tried-stop, some-cost, copied, run-is, run-did}
+use Rattle.laws.specs.Machines.{Runs, finished, spent, stopped, short, gone}
+use Rattle.runs.specs.Running.{copied, run-runs, run-did}
 use Rattle.runs.specs.Moves.{Kept, After, step-keeps}
 
 -- `Reached l s k t`: steps that cost k together, each with an activation live, lead from s to t
@@ -65,21 +65,22 @@ one-more l n k c Spent o t f h = (omega (arith, h .0), h .1, h .2, later l n k c
 one-more l n k c (Stopped d) o t f h = (omega (arith, h .0), h .1, h .2, h .3)
 one-more l n k c (Refused d) o t f h = h
 
-pub account : (l : Limits) (n : ℕ) (s : State) → Account l n s (run l n s)
+live-so : (s : State) → 1 ≤ length (s .live) → s .live ≢ []
+live-so s h e = omega (arith, ap length e)
+
+of-run : (l : Limits) {n : ℕ} {s : State} {r : Outcome} → Runs (copied l) n s r → Account l n s r
 unfolding ends
-account l n s =
-    subst (Account l n s) (sym (run-is l n s))
-    (loop-by (copied l) some-cost (Account l)
-    (λ n s e. record { done = 0; reached = no-step; reason = (zero-le, e, refl) })
-    (λ s h. record { done = 0; reached = no-step; reason = (zero-le, live s h, refl, inl refl) })
-    (λ n s c h k e. record { done = 0; reached = no-step; reason = (k, live s h, refl, tried-stop (step l s) c e) })
-    (λ n s s′ h k e f. record { done = 0; reached = no-step; reason = (zero-le, live s h, refl, inr (s′, tried-did (step l s) s′ e, omega arith)) })
-    (λ n s s′ r h e f a. record {
+of-run l (finished e) = record { done = 0; reached = no-step; reason = (zero-le, e, refl) }
+of-run l {s = s} (spent h z) = record { done = 0; reached = no-step; reason = (zero-le, live-so s h, refl, inl (sym z)) }
+of-run l {s = s} (stopped c h k x) = record { done = 0; reached = no-step; reason = (k, live-so s h, refl, x) }
+of-run l {s = s} (short s′ h k g f) = record { done = 0; reached = no-step; reason = (zero-le, live-so s h, refl, inr (s′, g, omega arith)) }
+of-run l {n} {s} {r} (gone s′ h k g f rest) =
+    let a = of-run l rest in
+    record {
       done = cost s s′ + a .done;
-      reached = a-step (live s h) (tried-did (step l s) s′ e) (a .reached);
+      reached = a-step (live-so s h) g (a .reached);
       reason = one-more l n (a .done) (cost s s′) (r .end) (r .offset) (r .final) f (a .reason);
-    })
-    n s)
-  where
-    live : (s : State) → 1 ≤ length (s .live) → s .live ≢ []
-    live s h e = omega (arith, ap length e)
+    }
+
+pub account : (l : Limits) (n : ℕ) (s : State) → Account l n s (run l n s)
+account l n s = of-run l (run-runs l n s)

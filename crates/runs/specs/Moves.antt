@@ -2,7 +2,7 @@
 -- `run-keeps` is the theorem: give a `Kept` for a property, and it holds of a run's final state if it held at first. `Known` is for a
 -- property that also says something, `U`, of each action as it is done; `step-leads` for a step that leads from one property to another.
 use Prim.Native.Nat.{ℕ, pred, _<_}
-use mathlib.Core.Path.{_≡_, refl, sym, subst}
+use mathlib.Core.Path.{_≡_, refl, subst}
 use mathlib.Core.Bool.{Bool, true, false, _&&_}
 use mathlib.Core.List.{List, [], _∷_, _++_, map}
 use mathlib.Core.Option.{Option, none, some}
@@ -15,10 +15,10 @@ use Rattle.language.specs.Basics.{last?, butLast, eqZ}
 use Rattle.language.specs.Text.{Action, CL, GO, IF, KN, AR, AD, RM, QY, Block, Stmt, BK, DO, labelIndex, declFormals, declBody, formalNames, formalKinds}
 use Rattle.language.specs.Scope.{agree}
 use Rattle.language.specs.Table.{holds, size, atLeastOne, full, add, remove, leaves, halts, Asked, gives, refuses, added, removed, queried}
-use Rattle.language.specs.Machine.{Activation, State, Limits, Outcome, Instance, Done, did, stop, withLive, withTable, counted, resume, store, value, enter, instance, kindAt, enterIfRoom, call, jump, compute, storeIfFits, asDone, asStored, addPair, removePair, queryPair, doAction, doStmt, nextStmt, advance, stepIn, step, ends, run}
+use Rattle.language.specs.Machine.{Activation, State, Limits, Instance, Done, did, stop, withLive, withTable, counted, resume, store, value, enter, instance, kindAt, enterIfRoom, call, jump, compute, storeIfFits, asDone, asStored, addPair, removePair, queryPair, doAction, doStmt, nextStmt, advance, stepIn, step, ends, run}
 use Rattle.language.specs.declared.Stop.the-variants.{ResultTooLarge, NoActivationLeft, NumberBelowOne, ArgumentsDiffer}
-use Rattle.laws.specs.Machines.{loop-keeps}
-use Rattle.runs.specs.Running.{tried-did, some-cost, copied, run-is}
+use Rattle.laws.specs.Machines.{runs-keep}
+use Rattle.runs.specs.Running.{copied, run-runs}
 
 -- the machine's moves, each with what is known where it is made
 pub record Kept (l : Limits) (P : State → Type 0) : Type 0 where
@@ -66,9 +66,8 @@ After P (stop c) = Unit {0}
 -- A property that a step keeps is kept by a run. `counts`: it does not depend on the count of steps.
 pub run-after : (l : Limits) (P : State → Type 0) → ((s : State) → P s → After P (step l s)) → ((s s′ : State) → P s′ → P (counted s s′)) → (n : ℕ) (s : State) → P s → P ((run l n s) .final)
 unfolding ends
-run-after l P keeps counts n s h =
-    subst (λ (r : Outcome). P (r .final)) (sym (run-is l n s))
-    (loop-keeps (copied l) some-cost P (λ r. P (r .final)) (λ e o t p. p) (λ t t′ k e p. counts t t′ (subst (After P) (tried-did (step l t) t′ e) (keeps t p))) n s h)
+run-after l P keeps counts n s =
+    runs-keep (copied l) P (λ r. P (r .final)) (λ e o t p. p) (λ t t′ k g p. counts t t′ (subst (After P) g (keeps t p))) (run-runs l n s)
 
 module _ (l : Limits) (P Q : State → Type 0) (U : State → Action → Type 0) (k : Leads l P Q U) where
   jump-keeps : (s : State) (x : ℕ) → U s (GO x) → P s → Q (jump s x)
