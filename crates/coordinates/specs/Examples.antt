@@ -7,7 +7,7 @@ use mathlib.Core.Path.{_≡_, refl}
 use Rattle.language.specs.Check.{Checked, accepted, refused, check}
 use Rattle.language.specs.Samples.{noPairs, script-B}
 use Rattle.language.specs.Evaluation.{computed}
-use Rattle.frames.specs.Frame.{Frame, withFrames, tableChanged, stepped, continue, rewritten, numbered, frameNames, positionFrom, seekFrom, seekName, designatorIn, finally, designates, linksFollowed, frameNumber, place, declOf, kindOf, wordAt, putWord, mapAction, zeroWords, newFrame, pushFrame, callBy, goTo, put, putIfFits, asActed, asPut, addTo, removeFrom, ask, act, actStmt, frameStmt, advanceFrame, actIn, frameStep, frameOffset, results, frameRun, frameStart}
+use Rattle.frames.specs.Frame.{Frame, withFrames, tableChanged, frameCost, stepped, continue, rewritten, numbered, frameNames, positionFrom, seekFrom, seekName, designatorIn, finally, designates, linksFollowed, frameNumber, place, declOf, kindOf, wordAt, putWord, mapAction, zeroWords, newFrame, pushFrame, callBy, goTo, put, putIfFits, asActed, asPut, addTo, removeFrom, ask, act, actStmt, frameStmt, advanceFrame, actIn, frameStep, frameOffset, results, frameRunWithin, frameRun, frameStart}
 use Rattle.coordinates.specs.Enclosure.{Coordinate, namesOf, coordinateOf}
 use Rattle.coordinates.specs.Chain.{enclosing, along, chainOf, enclosureOf, climb, displayFrom, displayOf}
 
@@ -27,5 +27,5 @@ look fs = record { chain = chainOf fs 4; display = displayOf fs; coordinate = co
 
 sample-B : look (framesAfter 9 (check script-B))
     ≡ record { chain = 4 ∷ 2 ∷ 1 ∷ []; display = 1 ∷ 2 ∷ 4 ∷ []; coordinate = some (record { level = 2; position = 2 }); reached = 2; designator = 130 }
-unfolding look framesAfter computed noPairs script-B withFrames tableChanged stepped continue rewritten numbered frameNames positionFrom seekFrom seekName designatorIn finally designates linksFollowed frameNumber place declOf kindOf wordAt putWord mapAction zeroWords newFrame pushFrame callBy goTo put putIfFits asActed asPut addTo removeFrom ask act actStmt frameStmt advanceFrame actIn frameStep frameOffset results frameRun frameStart namesOf coordinateOf enclosing along chainOf enclosureOf climb displayFrom displayOf
+unfolding look framesAfter computed noPairs script-B withFrames tableChanged frameCost stepped continue rewritten numbered frameNames positionFrom seekFrom seekName designatorIn finally designates linksFollowed frameNumber place declOf kindOf wordAt putWord mapAction zeroWords newFrame pushFrame callBy goTo put putIfFits asActed asPut addTo removeFrom ask act actStmt frameStmt advanceFrame actIn frameStep frameOffset results frameRunWithin frameRun frameStart namesOf coordinateOf enclosing along chainOf enclosureOf climb displayFrom displayOf
 sample-B = refl

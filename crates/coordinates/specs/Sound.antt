@@ -65,27 +65,27 @@ start-sound l t tab one most r keeps =
     record { limit = most; bounded = start-bounded l t tab one keeps; chained = start-chained t tab; wired = start-wired t tab; table = r }
 
 -- the steps done count for nothing
-sound-stepped : (l : Limits) (t : Block) (s : Stack) → Sound l t s → Sound l t (stepped s)
+sound-stepped : (l : Limits) (t : Block) (s s′ : Stack) → Sound l t s′ → Sound l t (stepped s s′)
 unfolding stepped
-sound-stepped l t s h = record { limit = h .limit; bounded = bounded-stepped l s (h .bounded); chained = h .chained; wired = h .wired; table = h .table }
+sound-stepped l t s s′ h = record { limit = h .limit; bounded = bounded-stepped l s s′ (h .bounded); chained = h .chained; wired = h .wired; table = h .table }
 
-pub step-sound : (t : Block) → Keeps t → (l : Limits) (s s′ : Stack) → Sound l t s → frameStep l s ≡ acted s′ → Sound l t (stepped s′)
+pub step-sound : (t : Block) → Keeps t → (l : Limits) (s s′ : Stack) → Sound l t s → frameStep l s ≡ acted s′ → Sound l t (stepped s s′)
 unfolding stepped
 step-sound t keeps l s s′ h e = by-elements (s .frames) none live
   where
-    none : s .frames ≡ [] → Sound l t (stepped s′)
+    none : s .frames ≡ [] → Sound l t (stepped s s′)
     none q =
         let same : s ≡ s′ = cc (step-none l s q) in
-        subst (λ (u : Stack). Sound l t (stepped u)) same (sound-stepped l t s h)
+        subst (λ (u : Stack). Sound l t (stepped s u)) same (sound-stepped l t s s h)
 
-    live : 1 ≤ length (s .frames) → Sound l t (stepped s′)
+    live : 1 ≤ length (s .frames) → Sound l t (stepped s s′)
     live n =
         record {
           limit = h .limit;
-          bounded = subst (After (λ u. Bounded l (stepped u))) e (step-bounded l (h .limit) s n (h .bounded) (landing t keeps s (h .chained) (h .wired)));
+          bounded = subst (After (λ u. Bounded l (stepped s u))) e (step-bounded l (h .limit) s n (h .bounded) (landing t keeps s (h .chained) (h .wired)));
           chained = step-linked t keeps l s s′ e (h .chained) (h .wired);
           wired = step-wired t keeps l s s′ e (h .chained) (h .wired);
-          table = subst (After (λ u. right (l .group) ((stepped u) .table) ≡ true)) e (step-right l s n (h .table));
+          table = subst (After (λ u. right (l .group) ((stepped s u) .table) ≡ true)) e (step-right l s n (h .table));
         }
 
 pub run-sound : (t : Block) → Keeps t → (l : Limits) (n : ℕ) (s : Stack) → Sound l t s → Sound l t ((frameRun l n s) .final)

@@ -11,7 +11,7 @@ use lib.ListN.{length, getD, set, getElem?}
 use Rattle.language.specs.Basics.{last?}
 use Rattle.language.specs.Text.{Block}
 use Rattle.language.specs.Encoding.{blockFields}
-use Rattle.language.specs.Machine.{Activation, State, step, did, counted}
+use Rattle.language.specs.Machine.{Activation, State, counted}
 use Rattle.laws.specs.Tests.{some-inj}
 use Rattle.laws.specs.Lists.{some-last}
 use Rattle.frames.specs.Frame.{Frame, Stack, stepped}
@@ -24,7 +24,8 @@ use Rattle.steps.specs.Standing.{Standing}
 use Rattle.steps.specs.Means.{Follows}
 use Rattle.steps.specs.Here.{many, downward}
 use Rattle.copy_steps.specs.Moved.{Keeps, EntersAnew}
-use Rattle.copy_steps.specs.Together.{copies-step, copies-kept, copies-entered}
+use Rattle.frames.specs.Runs.{CopiesStep, copies-step}
+use Rattle.copy_steps.specs.Together.{copies-kept, copies-entered}
 use Rattle.new_names.specs.Owner.{NewNames}
 use Rattle.new_names.specs.Finding.{new-names-kept}
 use Rattle.texts.specs.Texts.{Texts, Looks}
@@ -55,12 +56,12 @@ module _ {code names : List ℕ} {limit group : ℕ} {words : List ℤ} {area : 
   abbrev pub innermost : (a : Activation) × (last? (w .copies .live) ≡ some a)
   innermost = some-last (w .copies .live) (omega (arith, live-is))
 
-  abbrev pub made : (s₀ : State) × (step (limitsBy limit group) (w .copies) ≡ did s₀) × Related (counted s₀) (stepped (follows .moved)) × Invariant (counted s₀)
-  made = copies-step (limitsBy limit group) (w .copies) (w .standing .stack) (follows .moved) (w .related) (w .invariant) (innermost .0) (innermost .1) (follows .steps)
+  abbrev pub made : CopiesStep (limitsBy limit group) (w .copies) (w .standing .stack) (follows .moved)
+  made = copies-step (limitsBy limit group) (w .copies) (w .standing .stack) (w .related) (w .invariant) (innermost .0) (innermost .1) (follows .moved) (follows .steps)
 
   -- the state of the copy-rule machine behind the step
   abbrev pub after : State
-  after = counted (made .0)
+  after = counted (w .copies) (made .0)
 
   pub related-after : Related after (st .stack)
   related-after = subst (Related after) (sym (follows .is-stepped)) (made .2)

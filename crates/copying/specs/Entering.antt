@@ -159,8 +159,8 @@ module _ {code names : List ℕ} {limit group : ℕ} {words : List ℤ} {area : 
     abbrev gs : List Frame
     gs = st .stack .frames
 
-    stack-is : st .stack ≡ stepped (entry.v w body link back words₁ j)
-    stack-is = let p = sym (follows .steps) ∙ j .steps in let q : follows .moved ≡ entry.v w body link back words₁ j = cc in follows .is-stepped ∙ ap stepped q
+    stack-is : st .stack ≡ stepped (w .standing .stack) (entry.v w body link back words₁ j)
+    stack-is = let p = sym (follows .steps) ∙ j .steps in let q : follows .moved ≡ entry.v w body link back words₁ j = cc in follows .is-stepped ∙ ap (stepped (w .standing .stack)) q
 
     related : Related later (st .stack)
     related = subst (Related later) (sym stack-is) ((entry.made w body link back words₁ j) .2)

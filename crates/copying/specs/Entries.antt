@@ -13,16 +13,15 @@ use Rattle.language.specs.Basics.{upFrom, last?}
 use Rattle.language.specs.Text.{Action, CL, GO, IF, KN, AR, AD, RM, QY, Formal, Block, Decl, Stmt, BK, DO, blockAt, blockDecls, declName, declaredNames}
 use Rattle.language.specs.Encoding.{blockFields, stmtFields, actionFields}
 use Rattle.language.specs.Copy.{Replacement, renamed, renameAction, renameStmt}
-use Rattle.language.specs.Machine.{Activation, State, Limits, did, counted, nextStmt, step}
+use Rattle.language.specs.Machine.{Activation, State, Limits, counted, nextStmt}
 use Rattle.laws.specs.Tests.{none≢some, some-inj}
 use Rattle.laws.specs.Lists.{snoc-length, getElem-seam, getElem-in, getElem-bound, getD-elem, getElem?-map}
 use Rattle.laws.specs.Rising.{rising-within}
 use Rattle.laws.specs.Distinct.{Distinct}
 use Rattle.grammar.specs.Formed.{block-once, block-few}
-use Rattle.instances.specs.Invariant.{Invariant}
 use Rattle.frames.specs.Frame.{Frame, Stack, continue, withFrames, stepped, newFrame, numbered, frameStmt}
 use Rattle.frames.specs.Numbered.{numbered-suc, last-numbered}
-use Rattle.frames.specs.Related.{readsIn, readsAt, joined, ownOf, Twin, Related, twin-at}
+use Rattle.frames.specs.Related.{readsIn, readsAt, joined, ownOf, Twin, twin-at}
 use Rattle.frames.specs.Find.{as-many-decls}
 use Rattle.frames.specs.Steps.{next-renamed}
 use Rattle.coordinates.specs.Enclosure.{Enclosing, enclosed, Enclosure, namesOf}
@@ -35,7 +34,8 @@ use Rattle.governed.specs.Standing.{declared-governed}
 use Rattle.steps.specs.Means.{EntersAt}
 use Rattle.steps.specs.Here.{many, here, downward}
 use Rattle.copy_steps.specs.Moved.{Hands, EntersAnew}
-use Rattle.copy_steps.specs.Together.{copies-step, copies-entered}
+use Rattle.frames.specs.Runs.{CopiesStep, copies-step}
+use Rattle.copy_steps.specs.Together.{copies-entered}
 use Rattle.texts.specs.Readings.{Narrow, narrow-of-text}
 use Rattle.texts.specs.Renewing.{Governs, Inside, Declared, Enters}
 use Rattle.copy_statements.specs.Doing.{text}
@@ -101,11 +101,11 @@ module _ {code names : List ℕ} {limit group : ℕ} {words : List ℤ} {area : 
   abbrev pub v : Stack
   v = withFrames (w .standing .stack) (ahead ++ (f ∷ []))
 
-  abbrev pub made : (s₀ : State) × (step l (w .copies) ≡ did s₀) × Related (counted s₀) (stepped v) × Invariant (counted s₀)
-  made = copies-step l (w .copies) (w .standing .stack) v (w .related) (w .invariant) a last (j .steps)
+  abbrev pub made : CopiesStep l (w .copies) (w .standing .stack) v
+  made = copies-step l (w .copies) (w .standing .stack) (w .related) (w .invariant) a last v (j .steps)
 
   abbrev pub later : State
-  later = counted (made .0)
+  later = counted (w .copies) (made .0)
 
   ahead-deep : length ahead ≡ suc (now .live)
   ahead-deep = snoc-length (w .standing .below) (continue (w .standing .frame) (suc (w .standing .frame .next))) ∙ ap suc (w .standing .depth)
@@ -126,13 +126,13 @@ module _ {code names : List ℕ} {limit group : ℕ} {words : List ℤ} {area : 
   pub there : getElem? (later .live) (suc (now .live)) ≡ some new
   there = ap (getElem? (later .live)) (sym (many-copies w)) ∙ anew .there
 
-  pub top-frame : getElem? ((stepped v) .frames) (suc (now .live)) ≡ some f
+  pub top-frame : getElem? ((stepped (w .standing .stack) v) .frames) (suc (now .live)) ≡ some f
   unfolding stepped withFrames
   top-frame = ap (getElem? (ahead ++ (f ∷ []))) (sym ahead-deep) ∙ getElem-seam ahead f []
 
   twin : Twin (later .live) (later .values) (suc (now .live)) new f
   twin =
-      let p = twin-at later (stepped v) (made .2) (suc (now .live)) new there in
+      let p = twin-at later (stepped (w .standing .stack) v) (made .2) (suc (now .live)) new there in
       subst (Twin (later .live) (later .values) (suc (now .live)) new) (some-inj (sym (p .1) ∙ top-frame)) (p .2)
 
   -- the activation from whose copy the text is taken

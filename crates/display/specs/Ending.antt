@@ -96,7 +96,7 @@ module _ {program : Block} {name allowance : ℕ} {result : Result} {code : List
       record { live = omega (arith, live-few st); at = at-within st; end = end-within st }
 
   pub counts : s .steps + left ≡ allowance
-  counts = u .underway .counts
+  counts = omega (arith, u .underway .counts)
 
   -- The ends that leave activations live
 

@@ -41,9 +41,9 @@ pub bounded-table : (l : Limits) (s : Stack) (t : Table) → Bounded l s → Bou
 unfolding tableChanged
 bounded-table l s t h = record { live = h .live; each = h .each }
 
-pub bounded-stepped : (l : Limits) (s : Stack) → Bounded l s → Bounded l (stepped s)
+pub bounded-stepped : (l : Limits) (s s′ : Stack) → Bounded l s′ → Bounded l (stepped s s′)
 unfolding stepped
-bounded-stepped l s h = record { live = h .live; each = h .each }
+bounded-stepped l s s′ h = record { live = h .live; each = h .each }
 
 -- A declaration that a designator gives is in form, and the designator is not 0
 
@@ -173,10 +173,10 @@ module _ (l : Limits) (most : l .activations ≤ 256) where
 
   -- One step
 
-  pub step-bounded : (s : Stack) → 1 ≤ length (s .frames) → Bounded l s → Lands s → After (λ s′. Bounded l (stepped s′)) (frameStep l s)
+  pub step-bounded : (s : Stack) → 1 ≤ length (s .frames) → Bounded l s → Lands s → After (λ s′. Bounded l (stepped s s′)) (frameStep l s)
   step-bounded s n h lands =
-      step-cases l s (After (λ s′. Bounded l (stepped s′))) n (λ pre f e q. bounded-stepped l (withFrames s pre) (left-bounded l s pre f h e))
-      (λ pre f x e q. after-map (Bounded l) (λ s′. Bounded l (stepped s′)) (bounded-stepped l) (actStmt l (withFrames s (pre ++ (continue f (suc (f .next)) ∷ []))) x) (next pre f x e q))
+      step-cases l s (After (λ s′. Bounded l (stepped s s′))) n (λ pre f e q. bounded-stepped l s (withFrames s pre) (left-bounded l s pre f h e))
+      (λ pre f x e q. after-map (Bounded l) (λ s′. Bounded l (stepped s s′)) (bounded-stepped l s) (actStmt l (withFrames s (pre ++ (continue f (suc (f .next)) ∷ []))) x) (next pre f x e q))
     where
       landing : (pre : List Frame) (f : Frame) (at : ℕ) (a : Action) → s .frames ≡ pre ++ (f ∷ []) → frameStmt f ≡ some (DO at a) → JumpsToLabel (pre ++ (continue f (suc (f .next)) ∷ [])) (mapAction (designates (pre ++ (continue f (suc (f .next)) ∷ []))) a)
       landing pre f at a e q = jumps-continued pre f (suc (f .next)) a (subst (λ (fs : List Frame). JumpsToLabel fs (mapAction (designates fs) a)) e (lands pre f at a e q))

@@ -1,13 +1,13 @@
 -- The parts of a stack or frame made from another, as equations: `parts` is the set of them for simp.
 -- Read `withFrames-table` as: what is the table of `withFrames s fs`.
-use Prim.Native.Nat.{ℕ, suc, _+_}
+use Prim.Native.Nat.{ℕ, _+_}
 use mathlib.Core.Path.{_≡_, refl, _∙_}
 use mathlib.Core.List.{List, [], _∷_, _++_, map}
 use lib.IntN.{ℤ, pos}
 use lib.ListN.{length, length-append, length-map}
 use Rattle.language.specs.Text.{Formal, Block, Decl, blockDecls, declName, formalNames, declaredNames}
 use Rattle.language.specs.Table.{Table}
-use Rattle.frames.specs.Frame.{Frame, Stack, withFrames, tableChanged, stepped, continue, rewritten, frameNames, zeroWords, newFrame, frameStart}
+use Rattle.frames.specs.Frame.{Frame, Stack, withFrames, tableChanged, frameCost, stepped, continue, rewritten, frameNames, zeroWords, newFrame, frameStart}
 
 pub withFrames-frames : (s : Stack) (fs : List Frame) → (withFrames s fs) .frames ≡ fs
 unfolding withFrames
@@ -33,17 +33,17 @@ pub tableChanged-steps : (s : Stack) (t : Table) → (tableChanged s t) .steps �
 unfolding tableChanged
 tableChanged-steps s t = refl
 
-pub stepped-frames : (s : Stack) → (stepped s) .frames ≡ s .frames
+pub stepped-frames : (s s′ : Stack) → (stepped s s′) .frames ≡ s′ .frames
 unfolding stepped
-stepped-frames s = refl
+stepped-frames s s′ = refl
 
-pub stepped-table : (s : Stack) → (stepped s) .table ≡ s .table
+pub stepped-table : (s s′ : Stack) → (stepped s s′) .table ≡ s′ .table
 unfolding stepped
-stepped-table s = refl
+stepped-table s s′ = refl
 
-pub stepped-steps : (s : Stack) → (stepped s) .steps ≡ suc (s .steps)
+pub stepped-steps : (s s′ : Stack) → (stepped s s′) .steps ≡ s′ .steps + frameCost s s′
 unfolding stepped
-stepped-steps s = refl
+stepped-steps s s′ = refl
 
 pub continue-formals : (f : Frame) (n : ℕ) → (continue f n) .formals ≡ f .formals
 unfolding continue

@@ -39,12 +39,12 @@ module _ (l : Limits) (P : Table → Type 0) (k : TableKept l P) where
   stmt-table s (BK b) h = enter-cases l s (After Tabled) (λ c. tt) b (λ r. h)
   stmt-table s (DO at a) h = rw (does l s at a) (act-table s (mapAction (designates (s .frames)) a) h)
 
-  pub step-table : (s : Stack) → 1 ≤ length (s .frames) → P (s .table) → After (λ s′. P ((stepped s′) .table)) (frameStep l s)
+  pub step-table : (s : Stack) → 1 ≤ length (s .frames) → P (s .table) → After (λ s′. P ((stepped s s′) .table)) (frameStep l s)
   unfolding withFrames stepped
   step-table s n h = step-cases l s (After Tabled) n (λ pre f e q. h) (λ pre f x e q. stmt-table (withFrames s _) x h)
 
   pub run-table : (n : ℕ) (s : Stack) → P (s .table) → P ((frameRun l n s) .final .table)
-  run-table n s h = run-keeps l Tabled (λ v v′ live e q. subst (After (λ w. P ((stepped w) .table))) e (step-table v live q)) n s h
+  run-table n s h = run-keeps l Tabled (λ v v′ live e q. subst (After (λ w. P ((stepped v w) .table))) e (step-table v live q)) n s h
 
 pub table-length : (l : Limits) (n : ℕ) (s : Stack) → length ((frameRun l n s) .final .table .words) ≡ length (s .table .words)
 table-length l n s =
@@ -53,7 +53,7 @@ table-length l n s =
 kept-right : (l : Limits) → TableKept l (λ t. right (l .group) t ≡ true)
 kept-right l = record { added = λ g m t a b c d q. add-right (l .group) g m t q a b c d; removed = λ g m t q. remove-right (l .group) g m t q }
 
-pub step-right : (l : Limits) (s : Stack) → 1 ≤ length (s .frames) → right (l .group) (s .table) ≡ true → After (λ s′. right (l .group) ((stepped s′) .table) ≡ true) (frameStep l s)
+pub step-right : (l : Limits) (s : Stack) → 1 ≤ length (s .frames) → right (l .group) (s .table) ≡ true → After (λ s′. right (l .group) ((stepped s s′) .table) ≡ true) (frameStep l s)
 step-right l s n h = step-table l (λ t. right (l .group) t ≡ true) (kept-right l) s n h
 
 pub table-right : (l : Limits) (n : ℕ) (s : Stack) → right (l .group) (s .table) ≡ true → right (l .group) ((frameRun l n s) .final .table) ≡ true

@@ -43,9 +43,6 @@ withFrames s fs = record { frames = fs; table = s .table; steps = s .steps }
 unfoldable pub tableChanged : Stack → Table → Stack
 tableChanged s t = record { frames = s .frames; table = t; steps = s .steps }
 
-unfoldable pub stepped : Stack → Stack
-stepped s = record { frames = s .frames; table = s .table; steps = suc (s .steps) }
-
 unfoldable pub continue : Frame → ℕ → Frame
 continue f n = record { formals = f .formals; text = f .text; next = n; link = f .link; words = f .words }
 
@@ -237,6 +234,13 @@ actIn l s f = elim (frameStmt f) [ none ↦ acted (withFrames s (butLast (s .fra
 unfoldable pub frameStep : Limits → Stack → Acted
 frameStep l s = elim (last? (s .frames)) [ none ↦ acted s | some f ↦ actIn l s f ]
 
+-- what the step from s to s′ costs, and s′ with that step counted
+unfoldable pub frameCost : Stack → Stack → ℕ
+frameCost s s′ = 1
+
+unfoldable pub stepped : Stack → Stack → Stack
+stepped s s′ = record { frames = s′ .frames; table = s′ .table; steps = s′ .steps + frameCost s s′ }
+
 unfoldable pub frameOffset : Stack → ℕ
 frameOffset s = elim (last? (s .frames)) [ none ↦ 0 | some f ↦ elim (frameStmt f) [ none ↦ 0 | some x ↦ stmtAt x ] ]
 
@@ -250,13 +254,26 @@ pub record Result : Type 0 where
 unfoldable pub results : End → ℕ → Stack → Result
 results e o s = record { end = e; offset = o; final = s }
 
-unfoldable pub frameRun : Limits → ℕ → Stack → Result
-frameRun l zero s = elim (s .frames) [ [] ↦ results Finished 0 s | f ∷ rest ↦ results Spent 0 s ]
-frameRun l (suc n) s =
+-- as the copy-rule machine's
+unfoldable pub frameRunWithin : ℕ → Limits → ℕ → Stack → Result
+frameRunWithin zero l left s = elim (s .frames) [ [] ↦ results Finished 0 s | f ∷ rest ↦ results Spent 0 s ]
+frameRunWithin (suc bound) l left s =
     elim (s .frames) [
       | [] ↦ results Finished 0 s
-      | f ∷ rest ↦ elim (frameStep l s) [ acted s′ ↦ frameRun l n (stepped s′) | halted c ↦ results (Stopped c) (frameOffset s) s ]
+      | f ∷ rest ↦ elim left [
+        | zero ↦ results Spent 0 s
+        | suc n ↦ elim (frameStep l s) [
+          | halted c ↦ results (Stopped c) (frameOffset s) s
+          | acted s′ ↦ elim (leb (frameCost s s′) (suc n)) [
+            | true ↦ frameRunWithin bound l (suc n - frameCost s s′) (stepped s s′)
+            | false ↦ results Spent 0 s
+          ]
+        ]
+      ]
     ]
+
+unfoldable pub frameRun : Limits → ℕ → Stack → Result
+frameRun l n s = frameRunWithin n l n s
 
 unfoldable pub frameStart : Block → Table → Stack
 frameStart program t = record { frames = newFrame [] [] program 0 ∷ []; table = t; steps = 0 }

@@ -1,63 +1,82 @@
--- The clauses of the frame machine's run, as equations, and what every step keeps, which the stack that a run leaves has. The stacks of
--- a run are those that its shorter runs leave.
-use Prim.Native.Nat.{ℕ, zero, suc, _≤_}
-use native.Mathlib.Nat.{not-suc-le-zero}
-use mathlib.Core.Path.{_≡_, refl, sym, ap, _∙_, subst}
-use mathlib.Core.List.{List, [], _∷_}
+-- The frame machine by its parts (`Machines` in laws), and its run (`run-runs`), whatever the bound (`within-runs`). So the rules of a run are equations:
+-- `run-finished`, `run-spent`, `run-stops` and `run-steps`; and what every step keeps is had by the stack that a run leaves (`run-keeps`). The stacks
+-- of a run are those that its shorter runs leave.
+use Prim.Native.Nat.{ℕ, zero, suc, _-_, _≤_}
+use native.Mathlib.Omega.{arith}
+use mathlib.Core.Bool.{true, false}
+use mathlib.Core.List.{[]}
+use mathlib.Core.Path.{_≡_, refl}
+use lib.Dec.{leb}
 use lib.ListN.{length}
 use Rattle.language.specs.Machine.{Limits}
 use Rattle.language.specs.declared.Stop.{Stop}
 use Rattle.language.specs.declared.End.the-variants.{Finished, Spent, Stopped}
-use Rattle.laws.specs.Lists.{by-elements}
-use Rattle.frames.specs.Frame.{Frame, Stack, Acted, acted, halted, stepped, frameStep, frameOffset, Result, results, frameRun}
+use Rattle.laws.specs.Machines.{Machine, Runs, finished, spent, stopped, gone, only-one, runs-live, runs-fit, runs-keep}
+use Rattle.frames.specs.Frame.{Frame, Stack, Acted, acted, halted, frameCost, stepped, frameStep, frameOffset, Result, results, frameRunWithin, frameRun}
 
-module _ (l : Limits) (s : Stack) where
-  pub run-finished : (n : ℕ) → s .frames ≡ [] → frameRun l n s ≡ results Finished 0 s
-  unfolding frameRun
-  run-finished zero e = ap (λ (fs : List Frame). elim fs as (λ x. Result) [ [] ↦ results Finished 0 s | f ∷ rest ↦ results Spent 0 s ]) e
-  run-finished (suc n) e = ap (λ (fs : List Frame). elim fs as (λ x. Result) [ [] ↦ results Finished 0 s | f ∷ rest ↦ elim (frameStep l s) [ acted s′ ↦ frameRun l n (stepped s′) | halted c ↦ results (Stopped c) (frameOffset s) s ] ]) e
+pub some-cost : (s s′ : Stack) → 1 ≤ frameCost s s′
+unfolding frameCost
+some-cost s s′ = omega arith
 
-  pub run-spent : 1 ≤ length (s .frames) → frameRun l 0 s ≡ results Spent 0 s
-  unfolding frameRun
-  run-spent h = go (s .frames) h
+module _ (l : Limits) where
+  pub one-step : (s t u : Stack) → frameStep l s ≡ acted t → frameStep l s ≡ acted u → t ≡ u
+  one-step s t u g h = cc
+
+  pub one-cause : (s : Stack) (c d : Stop) → frameStep l s ≡ halted c → frameStep l s ≡ halted d → c ≡ d
+  one-cause s c d x y = cc
+
+  pub not-both : (s t : Stack) (c : Stop) → frameStep l s ≡ acted t → frameStep l s ≡ halted c → ⊥
+  not-both s t c g x = let z : _≡_ {A = ℕ} 0 1 = cc in omega arith
+
+  abbrev pub framed : Machine Stack Frame Result
+  framed =
+      record {
+        live = λ s. s .frames;
+        Goes = λ s s′. frameStep l s ≡ acted s′;
+        Stops = λ s c. frameStep l s ≡ halted c;
+        cost = frameCost;
+        counted = stepped;
+        offset = frameOffset;
+        ends = results;
+        one-step = one-step;
+        one-cause = one-cause;
+        not-both = not-both;
+      }
+
+  pub within-runs : (bound n : ℕ) (s : Stack) → n ≤ bound → Runs framed n s (frameRunWithin bound l n s)
+  unfolding frameRunWithin
+  within-runs zero zero s h = runs-live framed s (results Spent 0 s) (λ k. spent k refl)
+  within-runs zero (suc n) s h = absurd {0} (omega arith)
+  within-runs (suc b) zero s h = runs-live framed s (results Spent 0 s) (λ k. spent k refl)
+  within-runs (suc b) (suc n) s h = runs-live framed s _ (λ k. on k (λ m t f. within-runs b m t (omega arith)) (frameStep l s) refl)
     where
-      go : (fs : List Frame) → 1 ≤ length fs → elim fs as (λ x. Result) [ [] ↦ results Finished 0 s | f ∷ rest ↦ results Spent 0 s ] ≡ results Spent 0 s
-      go [] k = absurd (not-suc-le-zero k)
-      go (f ∷ rest) k = refl
+      on : 1 ≤ length (s .frames) → ((m : ℕ) (t : Stack) → m ≤ n → Runs framed m t (frameRunWithin b l m t)) → (d : Acted) → frameStep l s ≡ d
+          → Runs framed (suc n) s (elim d [ halted c ↦ results (Stopped c) (frameOffset s) s | acted s′ ↦ elim (leb (frameCost s s′) (suc n)) [ true ↦ frameRunWithin b l (suc n - frameCost s s′) (stepped s s′) | false ↦ results Spent 0 s ] ])
+      on k f (halted c) e = stopped {n = suc n} c k (omega arith) e
+      on k f (acted s′) e = runs-fit framed {n = suc n} s s′ _ k (omega arith) e (f (suc n - frameCost s s′) (stepped s s′) (omega (arith, some-cost s s′)))
 
-  -- with frames left and a step allowed the step decides
-  abbrev on-step : ℕ → Acted → Result
-  on-step n d = elim d [ acted s′ ↦ frameRun l n (stepped s′) | halted c ↦ results (Stopped c) (frameOffset s) s ]
-
-  run-by-step : (n : ℕ) → 1 ≤ length (s .frames) → frameRun l (suc n) s ≡ on-step n (frameStep l s)
+  pub run-runs : (n : ℕ) (s : Stack) → Runs framed n s (frameRun l n s)
   unfolding frameRun
-  run-by-step n h = go (s .frames) h
-    where
-      go : (fs : List Frame) → 1 ≤ length fs → elim fs as (λ x. Result) [ [] ↦ results Finished 0 s | f ∷ rest ↦ on-step n (frameStep l s) ] ≡ on-step n (frameStep l s)
-      go [] k = absurd (not-suc-le-zero k)
-      go (f ∷ rest) k = refl
+  run-runs n s = within-runs n n s (omega arith)
 
-  pub run-steps : (n : ℕ) (s′ : Stack) → 1 ≤ length (s .frames) → frameStep l s ≡ acted s′ → frameRun l (suc n) s ≡ frameRun l n (stepped s′)
-  run-steps n s′ h e = run-by-step n h ∙ ap (on-step n) e
+  module _ (s : Stack) where
+    pub run-finished : (n : ℕ) → s .frames ≡ [] → frameRun l n s ≡ results Finished 0 s
+    run-finished n e = only-one framed (run-runs n s) (finished e)
 
-  pub run-stops : (n : ℕ) (c : Stop) → 1 ≤ length (s .frames) → frameStep l s ≡ halted c → frameRun l (suc n) s ≡ results (Stopped c) (frameOffset s) s
-  run-stops n c h e = run-by-step n h ∙ ap (on-step n) e
+    pub run-spent : 1 ≤ length (s .frames) → frameRun l 0 s ≡ results Spent 0 s
+    run-spent h = only-one framed (run-runs 0 s) (spent h refl)
+
+    pub run-stops : (n : ℕ) (c : Stop) → 1 ≤ length (s .frames) → 1 ≤ n → frameStep l s ≡ halted c → frameRun l n s ≡ results (Stopped c) (frameOffset s) s
+    run-stops n c h k e = only-one framed (run-runs n s) (stopped c h k e)
+
+    pub run-steps : (n : ℕ) (s′ : Stack) → 1 ≤ length (s .frames) → frameStep l s ≡ acted s′ → frameCost s s′ ≤ n → frameRun l n s ≡ frameRun l (n - frameCost s s′) (stepped s s′)
+    run-steps n s′ h e f = only-one framed (run-runs n s) (gone s′ h (omega (arith, some-cost s s′)) e f (run-runs (n - frameCost s s′) (stepped s s′)))
+
+  pub run-keeps : (P : Stack → Type 0) → ((s s′ : Stack) → 1 ≤ length (s .frames) → frameStep l s ≡ acted s′ → P s → P (stepped s s′)) → (n : ℕ) (s : Stack) → P s → P ((frameRun l n s) .final)
+  unfolding results
+  run-keeps P keeps n s = runs-keep framed P (λ r. P (r .final)) (λ e o t p. p) keeps (run-runs n s)
 
 -- a property of the stack that a statement or a step leaves, where it did not stop
 abbrev pub After : (Stack → Type 0) → Acted → Type 0
 After P (acted s) = P s
 After P (halted c) = Unit {0}
-
-module _ (l : Limits) (P : Stack → Type 0) (keeps : (s s′ : Stack) → 1 ≤ length (s .frames) → frameStep l s ≡ acted s′ → P s → P (stepped s′)) where
-  leaves : Result → Type 0
-  leaves r = P (r .final)
-
-  run-on : (n : ℕ) (s : Stack) → 1 ≤ length (s .frames) → P s → ((s′ : Stack) → P s′ → leaves (frameRun l n s′)) → (d : Acted) → frameStep l s ≡ d → leaves (frameRun l (suc n) s)
-  unfolding results leaves
-  run-on n s h p f (acted s′) e = subst leaves (sym (run-steps l s n s′ h e)) (f (stepped s′) (keeps s s′ h e p))
-  run-on n s h p f (halted c) e = subst leaves (sym (run-stops l s n c h e)) p
-
-  pub run-keeps : (n : ℕ) (s : Stack) → P s → P ((frameRun l n s) .final)
-  unfolding results leaves
-  run-keeps zero s p = by-elements (s .frames) (λ e. subst leaves (sym (run-finished l s 0 e)) p) (λ h. subst leaves (sym (run-spent l s h)) p)
-  run-keeps (suc n) s p = by-elements (s .frames) (λ e. subst leaves (sym (run-finished l s (suc n) e)) p) (λ h. run-on n s h p (run-keeps n) (frameStep l s) refl)

@@ -1,9 +1,8 @@
 -- Whole runs: from the start on, at every allowance, both machines come to the same end at related states; and related states show
 -- one sheet and find one looked-up name. So the replies are one.
-use Prim.Native.Nat.{ℕ, zero, suc, _+_, _≤_}
+use Prim.Native.Nat.{ℕ, suc, _+_, _≤_}
 use native.Mathlib.Omega.{arith}
-use mathlib.Core.Path.{_≡_, refl, sym, ap, ap₂, _∙_, subst, subst₂}
-use mathlib.Core.Logic.{_≢_}
+use mathlib.Core.Path.{_≡_, refl, sym, ap, ap₂, _∙_, subst}
 use mathlib.Core.List.{List, [], _∷_, _++_}
 use mathlib.Core.Option.{Option, none, some}
 use lib.IntN.{pos}
@@ -13,27 +12,28 @@ use Rattle.language.specs.Text.{Block, Decl, VR, LB, PR, blockAt, blockDecls, f
 use Rattle.language.specs.Check.{accepted, check}
 use Rattle.language.specs.Table.{Table}
 use Rattle.language.specs.Copy.{without}
-use Rattle.language.specs.Machine.{Activation, State, Limits, Done, did, stop, counted, enter, step, Outcome, ends, run, start, Instance, instance, instanceFrom}
+use Rattle.language.specs.Machine.{Activation, State, Limits, Done, did, stop, cost, counted, enter, step, Outcome, ends, run, start, Instance, instance, instanceFrom}
 use Rattle.language.specs.Sheet.{LookedUp, seek, designator, declWord, activationWords, wordsOf, sheetWords, lookedUp, lookedUpDesignator, lookedUpLinks}
 use Rattle.language.specs.Call.{Engine, Fed, limitsOf, linksOf, written, replied, runOf}
-use Rattle.language.specs.declared.End.the-variants.{Stopped}
-use Rattle.laws.specs.Tests.{split}
+use Rattle.language.specs.declared.Stop.{Stop}
+use Rattle.laws.specs.Machines.{only-one, InStep, runs-alike}
 use Rattle.laws.specs.Lists.{by-elements, some-last, last-none, last-split, getElem-seam, map-alike}
 use Rattle.laws.specs.Renaming.{blockAt-renamed, rename-nothing}
 use Rattle.laws.specs.Rising.{Rising}
 use Rattle.grammar.specs.Rules.{Bytes, Keeps}
 use Rattle.grammar.specs.Exact.{accepts-exactly}
-use Rattle.runs.specs.Account.{run-finished, run-spent, run-did, run-stopped}
+use Rattle.runs.specs.Running.{copied, run-runs}
 use Rattle.instances.specs.Invariant.{Invariant}
 use Rattle.instances.specs.Accepted.{rules-closed}
 use Rattle.instances.specs.Steps.{started, step-keeps, counted-invariant}
-use Rattle.frames.specs.Frame.{Frame, Stack, Acted, acted, halted, withFrames, stepped, numbered, designates, linksFollowed, seekName, seekFrom, frameStep, Result, results, frameRun, frameStart, frameWords, frameSheet, frameReplied, frameRunOf}
+use Rattle.frames.specs.Frame.{Frame, Stack, acted, halted, withFrames, frameCost, stepped, numbered, designates, linksFollowed, seekName, seekFrom, frameStep, Result, results, frameRun, frameStart, frameWords, frameSheet, frameReplied, frameRunOf}
 use Rattle.frames.specs.Both.{Both}
 use Rattle.frames.specs.Related.{readsAt, readsIn, joined, designatorFor, designatorAt, wordIn, Twin, Related, as-deep}
 use Rattle.frames.specs.Push.{related-push}
 use Rattle.frames.specs.Find.{foundDesignator, passedIn, designates-found, links-found}
 use Rattle.frames.specs.Actions.{Alike, value-is}
-use Rattle.frames.specs.Running as framed
+use Rattle.frames.specs.Running as framing
+use Rattle.frames.specs.Running.{framed}
 use Rattle.frames.specs.Steps.{step-alike, offset-alike}
 use Rattle.frames.specs.Fine.{fine-program}
 
@@ -43,49 +43,65 @@ pub record Same (o : Outcome) (q : Result) : Type 0 where
   pub offset-is : o .offset ≡ q .offset
   pub finals : Related (o .final) (q .final)
 
-pub counted-related : (s : State) (t : Stack) → Related s t → Related (counted s) (stepped t)
+-- A step of both machines
+
+pub costs-alike : (s s′ : State) (t t′ : Stack) → Related s t → Related s′ t′ → frameCost t t′ ≡ cost s s′
+unfolding frameCost cost
+costs-alike s s′ t t′ r r′ = refl
+
+pub counted-related : (s s′ : State) (t t′ : Stack) → Related s t → Related s′ t′ → Related (counted s s′) (stepped t t′)
 unfolding counted stepped
-counted-related s t r = record { twins = r .twins; rising = r .rising; table-is = r .table-is; steps-are = ap suc (r .steps-are) }
+counted-related s s′ t t′ r r′ =
+    record { twins = r′ .twins; rising = r′ .rising; table-is = r′ .table-is; steps-are = omega (arith, r′ .steps-are, costs-alike s s′ t t′ r r′) }
 
-abbrev RunsSame : Limits → ℕ → Type 0
-RunsSame l n = (s : State) (t : Stack) → Related s t → Invariant s → Same (run l n s) (frameRun l n t)
+-- the copy-rule machine makes a step too, at the same cost, and the states after it are related
+abbrev pub CopiesStep : Limits → State → Stack → Stack → Type 0
+CopiesStep l s t t′ =
+    (s′ : State) × (step l s ≡ did s′) × Related (counted s s′) (stepped t t′) × Invariant (counted s s′) × (frameCost t t′ ≡ cost s s′)
 
-module _ (l : Limits) (s : State) (t : Stack) (r : Related s t) (inv : Invariant s) where
-  same-finished : (n : ℕ) → s .live ≡ [] → t .frames ≡ [] → Same (run l n s) (frameRun l n t)
-  unfolding ends results
-  same-finished n e e′ =
-      subst₂ Same (sym (run-finished l n s e)) (sym (framed.run-finished l t n e′)) (record { end-is = refl; offset-is = refl; finals = r })
+innermost : (s : State) (t : Stack) → Related s t → 1 ≤ length (t .frames) → (a : Activation) × (last? (s .live) ≡ some a)
+innermost s t r h = some-last (s .live) (omega (arith, as-deep s t r))
 
-  -- neither machine has an activation, or both have one
-  by-depth : {X : Type 0} → (s .live ≡ [] → t .frames ≡ [] → X) → ((b : Activation) → last? (s .live) ≡ some b → s .live ≢ [] → 1 ≤ length (t .frames) → X) → X
-  by-depth none-live some-live =
-      by-elements (s .live) (λ e. none-live e (by-elements (t .frames) (λ q. q) (λ h. absurd (omega (arith, ap length e, as-deep s t r)))))
-      (λ h. let b = some-last (s .live) h in some-live (b .0) (b .1) (λ q. omega (arith, ap length q)) (omega (arith, as-deep s t r)))
+module _ (l : Limits) (s : State) (t : Stack) (r : Related s t) (inv : Invariant s) (a : Activation) (last : last? (s .live) ≡ some a) where
+  pub copies-step : (t′ : Stack) → frameStep l t ≡ acted t′ → CopiesStep l s t t′
+  unfolding Alike
+  copies-step t′ e = go (step l s) refl (subst (Alike (step l s)) e (step-alike l s t r inv a last))
+    where
+      go : (d : Done) → step l s ≡ d → Alike d (acted t′) → CopiesStep l s t t′
+      go (did s′) q h = (s′, q, counted-related s s′ t t′ r h, counted-invariant s s′ (step-keeps l s s′ inv q), costs-alike s s′ t t′ r h)
+      go (stop c) q h = absurd h
 
-  same-zero : Same (run l 0 s) (frameRun l 0 t)
-  unfolding ends results
-  same-zero =
-      by-depth (same-finished 0)
-      (λ b last e e′. subst₂ Same (sym (run-spent l s e)) (sym (framed.run-spent l t e′)) (record { end-is = refl; offset-is = refl; finals = r }))
-
-  same-tried : (n : ℕ) → RunsSame l n → (b : Activation) → last? (s .live) ≡ some b → s .live ≢ [] → 1 ≤ length (t .frames) → (d : Done) → step l s ≡ d → (q : Acted) → frameStep l t ≡ q → Alike d q → Same (run l (suc n) s) (frameRun l (suc n) t)
-  unfolding Alike ends results
-  same-tried n ih b last e e′ (did s′) d (acted t′) q h =
-      subst₂ Same (sym (run-did l n s s′ e d)) (sym (framed.run-steps l t n t′ e′ q)) (ih (counted s′) (stepped t′) (counted-related s′ t′ h) (counted-invariant s′ (step-keeps l s s′ inv d)))
-  same-tried n ih b last e e′ (did s′) d (halted c) q h = absurd h
-  same-tried n ih b last e e′ (stop c) d (acted t′) q h = absurd h
-  same-tried n ih b last e e′ (stop c) d (halted c′) q h =
-      subst₂ Same (sym (run-stopped l n s c e d)) (sym (framed.run-stops l t n c′ e′ q)) (record { end-is = ap Stopped h; offset-is = offset-alike l s t r inv b last; finals = r })
-
-  same-step : (n : ℕ) → RunsSame l n → Same (run l (suc n) s) (frameRun l (suc n) t)
-  same-step n ih =
-      by-depth (same-finished (suc n))
-      (λ b last e e′. same-tried n ih b last e e′ (step l s) refl (frameStep l t) refl (step-alike l s t r inv b last))
+  copies-stop : (c : Stop) → frameStep l t ≡ halted c → step l s ≡ stop c
+  unfolding Alike
+  copies-stop c e = go (step l s) (subst (Alike (step l s)) e (step-alike l s t r inv a last))
+    where
+      go : (d : Done) → Alike d (halted c) → d ≡ stop c
+      go (did s′) h = absurd h
+      go (stop c′) h = ap stop h
 
 -- Whole runs, at every allowance.
-pub runs-same : (l : Limits) (n : ℕ) → RunsSame l n
-runs-same l zero s t r inv = same-zero l s t r inv
-runs-same l (suc n) s t r inv = same-step l s t r inv n (runs-same l n)
+
+abbrev Alongside : Stack → State → Type 0
+Alongside t s = Related s t × Invariant s
+
+in-step : (l : Limits) → InStep (framed l) (copied l) Alongside (λ q o. Same o q)
+unfolding ends results
+in-step l =
+    record {
+      depth = λ t s a. sym (as-deep s t (a .0));
+      ended = λ e o t s a. record { end-is = refl; offset-is = refl; finals = a .0 };
+      offset = λ t s h a. let b = innermost s t (a .0) h in sym (offset-alike l s t (a .0) (a .1) (b .0) (b .1));
+      stop = λ t s c h a e. let b = innermost s t (a .0) h in copies-stop l s t (a .0) (a .1) (b .0) (b .1) c e;
+      go = λ t s t′ h a e.
+          let b = innermost s t (a .0) h in
+          let c = copies-step l s t (a .0) (a .1) (b .0) (b .1) t′ e in
+          (c .0, c .1, c .4, (c .2, c .3));
+    }
+
+pub runs-same : (l : Limits) (n : ℕ) (s : State) (t : Stack) → Related s t → Invariant s → Same (run l n s) (frameRun l n t)
+runs-same l n s t r inv =
+    let a = runs-alike (framed l) (copied l) Alongside (λ q o. Same o q) (in-step l) (framing.run-runs l n t) s (r, inv) in
+    subst (λ (o : Outcome). Same o (frameRun l n t)) (only-one (copied l) (a .1) (run-runs l n s)) (a .2)
 
 -- The two machines start related.
 nothing : Table → State

@@ -38,9 +38,9 @@ pub retabled : (s : State) (t : Table) → Invariant s → Invariant (withTable 
 unfolding withTable
 retabled s t inv = record { rising = inv .rising; stacked = inv .stacked }
 
-pub counted-invariant : (s : State) → Invariant s → Invariant (counted s)
+pub counted-invariant : (s s′ : State) → Invariant s′ → Invariant (counted s s′)
 unfolding counted
-counted-invariant s inv = record { rising = inv .rising; stacked = inv .stacked }
+counted-invariant s s′ inv = record { rising = inv .rising; stacked = inv .stacked }
 
 -- the innermost activation's next statement is closed
 last-kinds : (as′ : List Activation) (a : Activation) → last? as′ ≡ some a → liveKinds as′ ≡ liveKinds (butLast as′) ++ kindsIn (a .text)

@@ -3,7 +3,7 @@ use Prim.Native.Nat.{ℕ, zero, suc, pred, _+_, _-_}
 use mathlib.Core.Bool.{true, false}
 use mathlib.Core.List.{List, [], _∷_, _++_, map}
 use mathlib.Core.Option.{Option, none, some}
-use lib.Dec.{eqb, ltb}
+use lib.Dec.{eqb, leb, ltb}
 use lib.IntN.{ℤ, pos, negsuc, _+ℤ_, _-ℤ_}
 use lib.ListN.{length, take, getElem?}
 use lib.Signed.{mag, ltZ}
@@ -43,9 +43,6 @@ withLive s as′ = record { live = as′; values = s .values; fresh = s .fresh; 
 
 unfoldable pub withTable : State → Table → State
 withTable s t = record { live = s .live; values = s .values; fresh = s .fresh; table = t; steps = s .steps }
-
-unfoldable pub counted : State → State
-counted s = record { live = s .live; values = s .values; fresh = s .fresh; table = s .table; steps = suc (s .steps) }
 
 unfoldable pub resume : Activation → ℕ → Activation
 resume a n = record { text = a .text; arguments = a .arguments; next = n; reads = a .reads }
@@ -192,6 +189,14 @@ stepIn l s a = elim (nextStmt a) [ none ↦ did (withLive s (butLast (s .live)))
 unfoldable pub step : Limits → State → Done
 step l s = elim (last? (s .live)) [ none ↦ did s | some a ↦ stepIn l s a ]
 
+-- What the step from s to s′ costs: 1, whatever it does.
+unfoldable pub cost : State → State → ℕ
+cost s s′ = 1
+
+-- s′, with the step from s counted
+unfoldable pub counted : State → State → State
+counted s s′ = record { live = s′ .live; values = s′ .values; fresh = s′ .fresh; table = s′ .table; steps = s′ .steps + cost s s′ }
+
 -- where the next statement stands; 0 if no statement is next
 unfoldable pub nextOffset : State → ℕ
 nextOffset s = elim (last? (s .live)) [ none ↦ 0 | some a ↦ elim (nextStmt a) [ none ↦ 0 | some x ↦ stmtAt x ] ]
@@ -205,14 +210,27 @@ pub record Outcome : Type 0 where
 unfoldable pub ends : End → ℕ → State → Outcome
 ends e o s = record { end = e; offset = o; final = s }
 
--- Finished is asked before spent, and spent before stopped, which leaves the state that it found; only a step that is done counts.
-unfoldable pub run : Limits → ℕ → State → Outcome
-run l zero s = elim (s .live) [ [] ↦ ends Finished 0 s | a ∷ rest ↦ ends Spent 0 s ]
-run l (suc n) s =
+-- Before each step, with so many left: finished is asked before spent, spent before stopped, and last whether the step's cost is left. A step that stops
+-- or is not begun leaves the state that it found. Every step costs at least 1, so that the steps allowed are `bound` enough.
+unfoldable pub runWithin : ℕ → Limits → ℕ → State → Outcome
+runWithin zero l left s = elim (s .live) [ [] ↦ ends Finished 0 s | a ∷ rest ↦ ends Spent 0 s ]
+runWithin (suc bound) l left s =
     elim (s .live) [
       | [] ↦ ends Finished 0 s
-      | a ∷ rest ↦ elim (step l s) [ did s′ ↦ run l n (counted s′) | stop c ↦ ends (Stopped c) (nextOffset s) s ]
+      | a ∷ rest ↦ elim left [
+        | zero ↦ ends Spent 0 s
+        | suc n ↦ elim (step l s) [
+          | stop c ↦ ends (Stopped c) (nextOffset s) s
+          | did s′ ↦ elim (leb (cost s s′) (suc n)) [
+            | true ↦ runWithin bound l (suc n - cost s s′) (counted s s′)
+            | false ↦ ends Spent 0 s
+          ]
+        ]
+      ]
     ]
+
+unfoldable pub run : Limits → ℕ → State → Outcome
+run l allowance s = runWithin allowance l allowance s
 
 -- The program is entered before the first step. Names as written have 16 bits, so new ones begin at 65,536.
 unfoldable pub start : Block → Table → State

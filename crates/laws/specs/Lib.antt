@@ -14,3 +14,4 @@ pub mod Renaming
 pub mod RenamedFields
 pub mod Instances
 pub mod Rising
+pub mod Machines

@@ -1,6 +1,7 @@
 -- A call that is admitted, by any engine, once its run has ended (`Ended` of crate `steps`): what its sheet needs (`sheet-needs`), and that answer, sheet
 -- and table are the reply's (`run-replies`).
 use Prim.Native.Nat.{ℕ, _*_, _≤_}
+use native.Mathlib.Omega.{arith}
 use mathlib.Core.List.{List}
 use mathlib.Core.Path.{_≡_, sym, ap, _∙_, subst}
 use lib.IntN.{ℤ}
@@ -46,7 +47,7 @@ module _ {e : Engine} {f : Fed} (bytes : Bytes (f .script)) {t : Block} (h : Adm
       let q = ran-answer e f bytes t h _ _ _ _ _ _ _
       (record {
         end-is = ended .end-is;
-        steps-are = ended .steps-are;
+        steps-are = omega (arith, ended .steps-are);
         offset-is = ended .offset-is;
         pairs-are = ended .pairs-are;
         sheet-is = w .1;

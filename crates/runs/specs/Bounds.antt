@@ -24,7 +24,7 @@ words-stay l w =
 
 pub words-kept : (l : Limits) (n : ℕ) (s : State) → length ((run l n s) .final .table .words) ≡ length (s .table .words)
 unfolding counted
-words-kept l n s = run-keeps l (λ x. length (x .table .words) ≡ length (s .table .words)) (words-stay l (length (s .table .words))) (λ x q. q) n s refl
+words-kept l n s = run-keeps l (λ x. length (x .table .words) ≡ length (s .table .words)) (words-stay l (length (s .table .words))) (λ x y q. q) n s refl
 
 pub advance-length : (s : State) (a : Activation) → last? (s .live) ≡ some a → length ((advance s a) .live) ≡ length (s .live)
 unfolding advance withLive
@@ -49,7 +49,7 @@ live-stays l =
 
 pub live-bound : (l : Limits) (n : ℕ) (s : State) → length (s .live) ≤ l .activations → length ((run l n s) .final .live) ≤ l .activations
 unfolding counted
-live-bound l n s h = run-keeps l (λ x. length (x .live) ≤ l .activations) (live-stays l) (λ x q. q) n s h
+live-bound l n s h = run-keeps l (λ x. length (x .live) ≤ l .activations) (live-stays l) (λ x y q. q) n s h
 
 -- a run starts with one activation, the program's
 pub start-length : (program : Block) (t : Table) → length ((start program t) .live) ≡ 1

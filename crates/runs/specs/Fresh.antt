@@ -10,6 +10,7 @@ use Rattle.language.specs.Check.{accepted, check}
 use Rattle.language.specs.Table.{Table}
 use Rattle.language.specs.Copy.{Replacement}
 use Rattle.language.specs.Machine.{State, Limits, did, withLive, withTable, counted, store, enter, advance, step, run, start}
+use Rattle.runs.specs.Running.{some-cost}
 use Rattle.runs.specs.Moves.{Leads, After, step-leads, step-keeps}
 use Rattle.runs.specs.Account.{Reached, no-step, a-step, account}
 use Rattle.runs.specs.Steps.{steps-done, steps-at-most}
@@ -49,7 +50,7 @@ step-fresh l s h = step-leads l (Before (s .fresh)) (Taken (s .fresh + 32)) (λ 
 
 -- A run of k steps
 
-step-fits : (l : Limits) (s s′ : State) → FitsState s → step l s ≡ did s′ → FitsState (counted s′)
+step-fits : (l : Limits) (s s′ : State) → FitsState s → step l s ≡ did s′ → FitsState (counted s s′)
 unfolding counted
 step-fits l s s′ h d = subst (After FitsState) d (step-keeps l FitsState (fits-kept l) s h)
 
@@ -59,7 +60,7 @@ reached-fresh l h no-step = omega arith
 reached-fresh l h (a-step {s = s} {s′ = s′} {t = t} {k = k} e d r) =
     let one : s′ .fresh ≤ s .fresh + 32 = subst (After (λ u. u .fresh ≤ s .fresh + 32)) d (step-fresh l s h) in
     let rest : t .fresh ≤ s′ .fresh + 32 * k = reached-fresh l (step-fits l s s′ h d) r in
-    omega arith
+    omega (arith, some-cost s s′)
 
 start-fresh : (t : Block) (tab : Table) → FitsBlock t 0 → ((start t tab) .fresh ≤ 65568) × ((start t tab) .steps ≡ 0)
 unfolding start enter declaredNames

@@ -1,4 +1,5 @@
 -- Theorems about the copy-rule machine of document 01, in reading order.
+pub mod Running
 pub mod Moves
 pub mod Account
 pub mod Reasons

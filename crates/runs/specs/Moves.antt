@@ -1,8 +1,8 @@
 -- What a step can do to the state: a property that each of the machine's moves keeps is kept by a step, and by a whole run.
 -- `run-keeps` is the theorem: give a `Kept` for a property, and it holds of a run's final state if it held at first. `Known` is for a
 -- property that also says something, `U`, of each action as it is done; `step-leads` for a step that leads from one property to another.
-use Prim.Native.Nat.{ℕ, zero, suc, pred, _<_}
-use mathlib.Core.Path.{_≡_, refl}
+use Prim.Native.Nat.{ℕ, pred, _<_}
+use mathlib.Core.Path.{_≡_, refl, subst}
 use mathlib.Core.Bool.{Bool, true, false, _&&_}
 use mathlib.Core.List.{List, [], _∷_, _++_, map}
 use mathlib.Core.Option.{Option, none, some}
@@ -15,9 +15,10 @@ use Rattle.language.specs.Basics.{last?, butLast, eqZ}
 use Rattle.language.specs.Text.{Action, CL, GO, IF, KN, AR, AD, RM, QY, Block, Stmt, BK, DO, labelIndex, declFormals, declBody, formalNames, formalKinds}
 use Rattle.language.specs.Scope.{agree}
 use Rattle.language.specs.Table.{holds, size, atLeastOne, full, add, remove, leaves, halts, Asked, gives, refuses, added, removed, queried}
-use Rattle.language.specs.Machine.{Activation, State, Limits, Outcome, Instance, Done, did, stop, withLive, withTable, counted, resume, store, value, enter, instance, kindAt, enterIfRoom, call, jump, compute, storeIfFits, asDone, asStored, addPair, removePair, queryPair, doAction, doStmt, nextStmt, advance, stepIn, step, nextOffset, ends, run}
+use Rattle.language.specs.Machine.{Activation, State, Limits, Instance, Done, did, stop, withLive, withTable, counted, resume, store, value, enter, instance, kindAt, enterIfRoom, call, jump, compute, storeIfFits, asDone, asStored, addPair, removePair, queryPair, doAction, doStmt, nextStmt, advance, stepIn, step, ends, run}
 use Rattle.language.specs.declared.Stop.the-variants.{ResultTooLarge, NoActivationLeft, NumberBelowOne, ArgumentsDiffer}
-use Rattle.language.specs.declared.End.the-variants.{Finished, Spent, Stopped}
+use Rattle.laws.specs.Machines.{runs-keep}
+use Rattle.runs.specs.Running.{copied, run-runs}
 
 -- the machine's moves, each with what is known where it is made
 pub record Kept (l : Limits) (P : State → Type 0) : Type 0 where
@@ -63,23 +64,10 @@ After P (did s) = P s
 After P (stop c) = Unit {0}
 
 -- A property that a step keeps is kept by a run. `counts`: it does not depend on the count of steps.
-module _ (l : Limits) (P : State → Type 0) (keeps : (s : State) → P s → After P (step l s)) (counts : (s : State) → P s → P (counted s)) where
-  pub run-after : (n : ℕ) (s : State) → P s → P ((run l n s) .final)
-  unfolding run ends
-  run-after zero s h = go (s .live)
-    where
-      go : (as′ : List Activation) → P ((elim as′ as (λ x. Outcome) [ [] ↦ ends Finished 0 s | a ∷ rest ↦ ends Spent 0 s ]) .final)
-      go [] = h
-      go (a ∷ rest) = h
-  run-after (suc n) s h = go (λ (s′ : State) (q : P s′). run-after n (counted s′) (counts s′ q)) (s .live)
-    where
-      on : ((s′ : State) → P s′ → P ((run l n (counted s′)) .final)) → (d : Done) → After P d → P ((elim d as (λ x. Outcome) [ did s′ ↦ run l n (counted s′) | stop c ↦ ends (Stopped c) (nextOffset s) s ]) .final)
-      on f (did s′) q = f s′ q
-      on f (stop c) q = h
-
-      go : ((s′ : State) → P s′ → P ((run l n (counted s′)) .final)) → (as′ : List Activation) → P ((elim as′ as (λ x. Outcome) [ [] ↦ ends Finished 0 s | a ∷ rest ↦ elim (step l s) [ did s′ ↦ run l n (counted s′) | stop c ↦ ends (Stopped c) (nextOffset s) s ] ]) .final)
-      go f [] = h
-      go f (a ∷ rest) = on f (step l s) (keeps s h)
+pub run-after : (l : Limits) (P : State → Type 0) → ((s : State) → P s → After P (step l s)) → ((s s′ : State) → P s′ → P (counted s s′)) → (n : ℕ) (s : State) → P s → P ((run l n s) .final)
+unfolding ends
+run-after l P keeps counts n s =
+    runs-keep (copied l) P (λ r. P (r .final)) (λ e o t p. p) (λ t t′ k g p. counts t t′ (subst (After P) g (keeps t p))) (run-runs l n s)
 
 module _ (l : Limits) (P Q : State → Type 0) (U : State → Action → Type 0) (k : Leads l P Q U) where
   jump-keeps : (s : State) (x : ℕ) → U s (GO x) → P s → Q (jump s x)
@@ -201,5 +189,5 @@ module _ (l : Limits) (P : State → Type 0) (k : Kept l P) where
   pub step-keeps : (s : State) → P s → After P (step l s)
   step-keeps s h = step-knows l P (λ s′ a. Unit {0}) known s h
 
-  pub run-keeps : ((s : State) → P s → P (counted s)) → (n : ℕ) (s : State) → P s → P ((run l n s) .final)
+  pub run-keeps : ((s s′ : State) → P s′ → P (counted s s′)) → (n : ℕ) (s : State) → P s → P ((run l n s) .final)
   run-keeps counts n s h = run-after l P step-keeps counts n s h

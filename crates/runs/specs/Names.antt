@@ -146,7 +146,7 @@ fits-kept l =
 
 pub run-fits : (l : Limits) (n : ℕ) (s : State) → FitsState s → FitsState ((run l n s) .final)
 unfolding counted
-run-fits l n s h = run-keeps l FitsState (fits-kept l) (λ x q. q) n s h
+run-fits l n s h = run-keeps l FitsState (fits-kept l) (λ x y q. q) n s h
 
 pub start-fits : (program : Block) (t : Table) → FitsBlock program 0 → FitsState (start program t)
 unfolding start

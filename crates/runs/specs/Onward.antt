@@ -1,11 +1,14 @@
--- Running n steps and then m more from there is running n + m steps: `run-onward`.
-use Prim.Native.Nat.{ℕ, suc, _+_, _-_}
+-- Running n steps and then m more from there is running n + m steps: `run-onward`. Whatever the end was and the steps cost, a run goes on from where it
+-- ended as one of the steps done and m more does from the start: `run-carried`.
+use Prim.Native.Nat.{ℕ, _+_, _-_}
 use native.Mathlib.Omega.{arith}
 use mathlib.Core.Path.{_≡_, sym, ap, _∙_}
 use Rattle.language.specs.Machine.{State, Limits, Outcome, ends, run}
 use Rattle.language.specs.declared.End.{End}
 use Rattle.language.specs.declared.End.the-variants.{Finished, Spent, Stopped, Refused}
-use Rattle.runs.specs.Account.{Reached, Reason, account, run-finished, run-stopped, run-reached}
+use Rattle.runs.specs.Running.{run-finished, run-stopped}
+use Rattle.runs.specs.Account.{Reached, Reason, account, run-reached}
+use Rattle.runs.specs.Reasons.{none-left}
 
 -- m steps more from the state left, where the steps allowed were spent; any other end is the end
 unfoldable pub onward : Limits → ℕ → Outcome → Outcome
@@ -17,12 +20,15 @@ unfolding onward ends
 onward-by l n m k s t Finished o r h =
     let j : k + (n - k + m) ≡ n + m = omega (arith, h .0) in
     ap (λ i. run l i s) (sym j) ∙ run-reached l r (n - k + m) ∙ run-finished l (n - k + m) t (h .1) ∙ ap (λ i. ends Finished i t) (sym (h .2))
-onward-by l n m k s t Spent o r h = ap (λ i. run l (i + m) s) (sym (h .0)) ∙ run-reached l r m
+onward-by l n m k s t Spent o r h = ap (λ i. run l (i + m) s) (sym (none-left l n k t (h .0) (h .3))) ∙ run-reached l r m
 onward-by l n m k s t (Stopped c) o r h =
-    let j : k + suc (n - k - 1 + m) ≡ n + m = omega (arith, h .0) in
-    ap (λ i. run l i s) (sym j) ∙ run-reached l r (suc (n - k - 1 + m)) ∙ run-stopped l (n - k - 1 + m) t c (h .1) (h .3) ∙ ap (λ i. ends (Stopped c) i t) (sym (h .2))
+    let j : k + (n - k + m) ≡ n + m = omega (arith, h .0) in
+    ap (λ i. run l i s) (sym j) ∙ run-reached l r (n - k + m) ∙ run-stopped l (n - k + m) t c (h .1) (omega (arith, h .0)) (h .3) ∙ ap (λ i. ends (Stopped c) i t) (sym (h .2))
 onward-by l n m k s t (Refused c) o r h = absurd h
 
 pub run-onward : (l : Limits) (n m : ℕ) (s : State) → run l (n + m) s ≡ onward l m (run l n s)
 unfolding ends
 run-onward l n m s = let r = run l n s in let a = account l n s in onward-by l n m (a .done) s (r .final) (r .end) (r .offset) (a .reached) (a .reason)
+
+pub run-carried : (l : Limits) (n m : ℕ) (s : State) → run l ((account l n s) .done + m) s ≡ run l m ((run l n s) .final)
+run-carried l n m s = run-reached l ((account l n s) .reached) m

@@ -10,7 +10,8 @@ use Rattle.language.specs.Machine.{State, Limits, stop, step, nextOffset, ends,
 use Rattle.language.specs.Sheet.{sheetWords}
 use Rattle.language.specs.declared.Stop.{Stop}
 use Rattle.language.specs.declared.End.the-variants.{Spent, Stopped}
-use Rattle.runs.specs.Account.{Reached, account, run-spent, run-reached, reached-steps}
+use Rattle.runs.specs.Running.{run-spent}
+use Rattle.runs.specs.Account.{Reached, account, run-reached, reached-steps}
 use Rattle.runs.specs.Reasons.{stop-by}
 
 pub record Before (l : Limits) (n : ℕ) (s : State) (c : Stop) (k : ℕ) : Type 0 where

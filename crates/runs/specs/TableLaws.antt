@@ -252,4 +252,4 @@ right-kept l =
 -- a table that is right at first is right when the run ends
 pub run-right : (l : Limits) (n : ℕ) (s : State) → right (l .group) (s .table) ≡ true → right (l .group) ((run l n s) .final .table) ≡ true
 unfolding counted
-run-right l n s h = run-keeps l (λ x. right (l .group) (x .table) ≡ true) (right-kept l) (λ x q. q) n s h
+run-right l n s h = run-keeps l (λ x. right (l .group) (x .table) ≡ true) (right-kept l) (λ x y q. q) n s h

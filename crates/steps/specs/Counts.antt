@@ -1,13 +1,17 @@
--- A statement leaves the count of steps as it was (`step-counts`): the run counts the step that is done.
+-- A statement leaves the count of steps as it was (`step-counts`): the run counts the step that is done, which costs 1 (`costs-one`).
 use Prim.Native.Nat.{ℕ, _≤_}
 use mathlib.Core.Path.{_≡_, refl, subst}
 use lib.ListN.{length}
 use Rattle.language.specs.Text.{Action, CL, GO, IF, KN, AR, AD, RM, QY, Stmt, BK, DO}
 use Rattle.language.specs.Machine.{Limits}
-use Rattle.frames.specs.Frame.{Stack, acted, withFrames, tableChanged, designates, mapAction, act, actStmt, frameStep}
+use Rattle.frames.specs.Frame.{Stack, acted, withFrames, tableChanged, frameCost, designates, mapAction, act, actStmt, frameStep}
 use Rattle.frames.specs.Running.{After}
 use Rattle.frame_laws.specs.Actions.{does, stores}
 use Rattle.frame_laws.specs.Cases.{enter-cases, call-cases, go-cases, if-cases, compute-cases, add-cases, remove-cases, ask-cases, step-cases}
+
+pub costs-one : (s s′ : Stack) → frameCost s s′ ≡ 1
+unfolding frameCost
+costs-one s s′ = refl
 
 module _ (l : Limits) (n : ℕ) where
   abbrev Counted : Stack → Type 0

@@ -68,7 +68,7 @@ module _ {code : List ℕ} {l : Limits} {words : List ℤ} {blocks nexts links :
   abbrev after : Stack
   after = withFrames (w .stack) gs
 
-  sound : Sound l (w .program) (stepped after)
+  sound : Sound l (w .program) (stepped (w .stack) after)
   sound = sound-after w after (j .steps)
 
   bounded : BoundedFrames (ahead w)
@@ -130,7 +130,7 @@ module _ {code : List ℕ} {l : Limits} {words : List ℤ} {blocks nexts links :
             program = w .program;
             keeps = w .keeps;
             covers = w .covers;
-            stack = stepped after;
+            stack = stepped (w .stack) after;
             sound = sound;
             below = ahead w;
             frame = new;

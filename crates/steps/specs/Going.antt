@@ -115,7 +115,7 @@ module _ {code : List ℕ} {l : Limits} {words : List ℤ} {blocks nexts links :
             program = w .program;
             keeps = w .keeps;
             covers = w .covers;
-            stack = stepped v;
+            stack = stepped (w .stack) v;
             sound = sound-after w v step;
             below = butLast (v .frames);
             frame = g .0;

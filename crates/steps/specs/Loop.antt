@@ -2,7 +2,7 @@
 -- (`finishes`); with no step left it is spent (`spent`), and where a statement has a cause to stop it stops there (`stops`). `jumped`: after
 -- a jump the engine stands in the label's activation; `shows-by`: what the display must then be. `begins`: arrays of zeros are where a run
 -- starts, and `shows-begun`: so is the display.
-use Prim.Native.Nat.{ℕ, suc, pred, _-_, _*_, _≤_, _<_}
+use Prim.Native.Nat.{ℕ, suc, pred, _+_, _-_, _*_, _≤_, _<_}
 use native.Mathlib.Omega.{arith}
 use mathlib.Core.Bool.{true}
 use mathlib.Core.List.{List, [], _∷_, _++_}
@@ -20,7 +20,7 @@ use Rattle.language.specs.declared.End.the-variants.{Finished, Spent, Stopped}
 use Rattle.laws.specs.Tests.{by-lookup}
 use Rattle.laws.specs.Lists.{some-last, last-split, snoc-length, getElem-append, getElem-seam, butLast-snoc}
 use Rattle.grammar.specs.Rules.{Keeps}
-use Rattle.frames.specs.Frame.{Frame, Stack, acted, halted, numbered, continue, withFrames, stepped, newFrame, frameStmt, frameStep, results, frameRun, frameStart}
+use Rattle.frames.specs.Frame.{Frame, Stack, acted, halted, numbered, continue, withFrames, frameCost, stepped, newFrame, frameStmt, frameStep, results, frameRun, frameStart}
 use Rattle.frames.specs.Numbered.{numbered-suc, numbered-low, numbered-high}
 use Rattle.frames.specs.Running.{run-finished, run-spent, run-steps, run-stops}
 use Rattle.frame_laws.specs.Innermost.{step-leaves, offset-does}
@@ -35,7 +35,7 @@ use Rattle.arrays.specs.Running.{holds-back, holds-jumped}
 use Rattle.arrays.specs.Displays.{ShowsFrom, shows-entered}
 use Rattle.steps.specs.Standing.{Standing}
 use Rattle.steps.specs.Means.{Follows, JumpsTo}
-use Rattle.steps.specs.Counts.{step-counts}
+use Rattle.steps.specs.Counts.{costs-one, step-counts}
 use Rattle.steps.specs.Here.{many, live-few, downward, ended, even-at}
 
 -- the display of one frame is that of other frames' innermost one
@@ -58,10 +58,10 @@ module _ {code : List ℕ} {l : Limits} {words : List ℤ} {blocks nexts links :
   stops n c e =
       by-lookup (frameStmt (w .frame))
       (λ q. let z : _≡_ {A = ℕ} 0 1 = cc (step-leaves l (w .stack) (w .below) (w .frame) (w .frames-are) q) in absurd (omega arith))
-      (λ x q. run-stops l (w .stack) n c some-live e ∙ ap (λ i. results (Stopped c) i (w .stack)) (offset-does (w .stack) (w .below) (w .frame) x (w .frames-are) q ∙ sym (even-at w x q)))
+      (λ x q. run-stops l (w .stack) (suc n) c some-live (omega arith) e ∙ ap (λ i. results (Stopped c) i (w .stack)) (offset-does (w .stack) (w .below) (w .frame) x (w .frames-are) q ∙ sym (even-at w x q)))
 
   -- a step done
-  pub follows-step : (v : Stack) → frameStep l (w .stack) ≡ acted v → Follows w (stepped v) (w .program) (w .name)
+  pub follows-step : (v : Stack) → frameStep l (w .stack) ≡ acted v → Follows w (stepped (w .stack) v) (w .program) (w .name)
   unfolding stepped
   follows-step v e =
       record {
@@ -69,12 +69,12 @@ module _ {code : List ℕ} {l : Limits} {words : List ℤ} {blocks nexts links :
         steps = e;
         is-stepped = refl;
         runs = λ n. run-steps l (w .stack) n v some-live e;
-        counts = ap suc (step-counts l (w .stack) v some-live e);
+        counts = ap (λ n. n + frameCost (w .stack) v) (step-counts l (w .stack) v some-live e);
         same-program = refl;
         same-name = refl;
       }
 
-  pub sound-after : (v : Stack) → frameStep l (w .stack) ≡ acted v → Sound l (w .program) (stepped v)
+  pub sound-after : (v : Stack) → frameStep l (w .stack) ≡ acted v → Sound l (w .program) (stepped (w .stack) v)
   sound-after v e = step-sound (w .program) (w .keeps) l (w .stack) v (w .sound) e
 
   -- The end of the text
@@ -84,9 +84,12 @@ module _ {code : List ℕ} {l : Limits} {words : List ℤ} {blocks nexts links :
   unfolding stepped withFrames
   finishes e z n =
       let none-below : w .below ≡ [] = no-frames (w .below) (w .depth ∙ z) in
-      run-steps l (w .stack) n (withFrames (w .stack) (w .below)) some-live (leaving e)
-      ∙ ap (frameRun l n) (λ i. record { frames = none-below i; table = w .table-is i; steps = suc (w .stack .steps) })
-      ∙ run-finished l _ n refl
+      let v = withFrames (w .stack) (w .below) in
+      let one = costs-one (w .stack) v in
+      let counted : w .stack .steps + frameCost (w .stack) v ≡ suc (w .stack .steps) = omega arith in
+      run-steps l (w .stack) (suc n) v some-live (leaving e) (omega arith)
+      ∙ ap (frameRun l (suc n - frameCost (w .stack) v)) (λ i. record { frames = none-below i; table = w .table-is i; steps = counted i })
+      ∙ run-finished l _ (suc n - frameCost (w .stack) v) refl
     where
       no-frames : (fs : List Frame) → length fs ≡ 0 → fs ≡ []
       no-frames [] h = refl
@@ -119,7 +122,7 @@ module _ {code : List ℕ} {l : Limits} {words : List ℤ} {blocks nexts links :
           program = w .program;
           keeps = w .keeps;
           covers = w .covers;
-          stack = stepped v;
+          stack = stepped (w .stack) v;
           sound = sound;
           below = butLast (w .below);
           frame = f .0;
@@ -175,7 +178,7 @@ module _ {code : List ℕ} {l : Limits} {words : List ℤ} {blocks nexts links :
           program = w .program;
           keeps = w .keeps;
           covers = w .covers;
-          stack = stepped v;
+          stack = stepped (w .stack) v;
           sound = sound;
           below = take home fs;
           frame = continue (j .frame) (j .index);

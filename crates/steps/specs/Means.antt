@@ -1,6 +1,6 @@
 -- What a move means: which step the frame machine makes from the stack that the arrays hold, and what the arrays then hold. `Means w h` says it
 -- of whatever a statement comes to (`acting`); where an activation is entered or left, the engine still has its records to put right.
-use Prim.Native.Nat.{ℕ, suc, _+_, _*_, _≤_, _<_}
+use Prim.Native.Nat.{ℕ, suc, _+_, _-_, _*_, _≤_, _<_}
 use mathlib.Core.List.{List, [], _∷_, _++_}
 use mathlib.Core.Option.{some}
 use mathlib.Core.Path.{_≡_}
@@ -8,7 +8,7 @@ use lib.IntN.{ℤ, pos}
 use lib.ListN.{length, getD, take, getElem?}
 use Rattle.language.specs.Text.{Kind, Formal, Block, blockAt}
 use Rattle.language.specs.Machine.{Limits}
-use Rattle.frames.specs.Frame.{Frame, Stack, acted, halted, numbered, continue, withFrames, newFrame, stepped, frameStep, frameRun}
+use Rattle.frames.specs.Frame.{Frame, Stack, acted, halted, numbered, continue, withFrames, newFrame, frameCost, stepped, frameStep, frameRun}
 use Rattle.coordinates.specs.Enclosure.{enclosed, Encloses}
 use Rattle.coordinates.specs.Chain.{enclosureOf, displayOf}
 use Rattle.coordinates.specs.Designated.{Designated}
@@ -27,9 +27,9 @@ module _ {code : List ℕ} {l : Limits} {words : List ℤ} {blocks nexts links :
   pub record Follows (v : Stack) (program : Block) (name : ℕ) : Type 0 where
     pub moved : Stack
     pub steps : frameStep l (w .stack) ≡ acted moved
-    pub is-stepped : v ≡ stepped moved
-    pub runs : (n : ℕ) → frameRun l (suc n) (w .stack) ≡ frameRun l n v
-    pub counts : v .steps ≡ suc (w .stack .steps)
+    pub is-stepped : v ≡ stepped (w .stack) moved
+    pub runs : (n : ℕ) → frameCost (w .stack) moved ≤ n → frameRun l n (w .stack) ≡ frameRun l (n - frameCost (w .stack) moved) v
+    pub counts : v .steps ≡ w .stack .steps + frameCost (w .stack) moved
     pub same-program : program ≡ w .program
     pub same-name : name ≡ w .name
 
