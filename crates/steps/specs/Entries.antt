@@ -90,5 +90,5 @@ module _ {code : List ℕ} {l : Limits} {words : List ℤ} {blocks nexts links :
     block-means =
         split (leb (l .activations) (live + 1))
         (λ e. subst (Means w) (sym (blocks-full F (sceneOf w) e))
-        (step-does l (w .stack) (w .below) (w .frame) (BK b) (w .frames-are) q ∙ enters-full l (aheadStack w) b (room-none e), refl, refl))
-        (λ e. subst (Means w) (sym (blocks-enter F (sceneOf w) e)) (entering e, refl))
+        (step-does l (w .stack) (w .below) (w .frame) (BK b) (w .frames-are) q ∙ enters-full l (aheadStack w) b (room-none e), refl))
+        (λ e. subst (Means w) (sym (blocks-enter F (sceneOf w) e)) (entering e))
