@@ -68,7 +68,7 @@ module _ {program : Block} {name allowance : ℕ} {result : Result} {code names 
   halt-ready = (lookable (u .running), omega (arith, at-small))
 
   pub counts : s .steps + left ≡ allowance
-  counts = u .underway .counts
+  counts = omega (arith, u .underway .counts)
 
   -- The ends that leave activations live
 
@@ -166,6 +166,7 @@ module _ {script code names : List ℕ} {words : List ℤ} {area blocks nexts : 
           same-name = g .name-is;
           runs = ap (frameRun (limitsBy limit group) allowance) (sym (g .stack-is));
           counts = ap (λ (v : Stack). v .steps + allowance) (g .stack-is) ∙ omega arith;
+          few-left = omega arith;
         };
         few-names = omega (arith, few);
       }

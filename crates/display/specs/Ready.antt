@@ -15,7 +15,8 @@ use Rattle.steps.specs.Fields as fields
 use Rattle.steps.specs.Finding.{Reaches, reached-by-display, finds-by-display}
 use Rattle.statements.specs.Pieces.{FormalsBefore}
 use Rattle.display.specs.Finding.{firstCell, ownCell, byDisplay, Reachable, Direct, ThroughFormal, ArgumentsReachable}
-use Rattle.moves.specs.Running.{limitsBy, Doing}
+use Rattle.run_state.specs.Scenes.{limitsBy}
+use Rattle.moves.specs.Running.{Doing}
 
 formal-target : (words : List ℤ) (first v : ℕ) → direct v ≡ false → targetBy words first v ≡ heldBy words first v / 8192
 unfolding targetBy

@@ -5,7 +5,7 @@ use native.Mathlib.Omega.{arith}
 use mathlib.Core.List.{List}
 use mathlib.Core.Path.{_≡_, refl, sym, ap, _∙_, subst}
 use lib.IntN.{ℤ}
-use Rattle.frames.specs.Frame.{numbered, halted, frameStep}
+use Rattle.frames.specs.Frame.{numbered}
 use Rattle.acting.specs.declared.Move.{Move}
 use Rattle.acting.specs.declared.Move.the-variants.{On, Pairs, Jump, Enter, Stop}
 use Rattle.acting.specs.Acting.{Happened, acting}
@@ -13,28 +13,30 @@ use Rattle.steps.specs.Means.{GoesOn, MoveMeans}
 use Rattle.steps.specs.Finding.{finds-by-display}
 use Rattle.steps.specs.Acts.{acting-means}
 use Rattle.language.specs.declared.Stop.{Stop as Cause}
-use Rattle.moves.specs.declared.Now.{Now}
+use Rattle.run_state.specs.declared.Registers.{Registers}
+use Rattle.run_state.specs.Scenes.{limitsBy, sceneBy, goesTo}
 use Rattle.display.specs.Finding.{byDisplay}
-use Rattle.moves.specs.Running.{limitsBy, sceneBy, Running, Doing, Succeeds, LeaveReady, JumpReady, EnterReady}
+use Rattle.display.specs.Turning.{arraysOf, Stops}
+use Rattle.moves.specs.Running.{Running, Doing, Succeeds, LeaveReady, JumpReady, EnterReady}
 use Rattle.statements.specs.Scenes.{Acted}
 
 pub above-zero : (n : ℕ) → (n ≡ 0 → ⊥) → 1 ≤ n
 above-zero zero d = absurd (d refl)
 above-zero (suc n) d = omega arith
 
-module _ {code : List ℕ} {limit group : ℕ} {words : List ℤ} {blocks nexts links display : List ℕ} {table : List ℤ} {here : Now}
+module _ {code : List ℕ} {limit group : ℕ} {words : List ℤ} {blocks nexts links display : List ℕ} {table : List ℤ} {here : Registers}
     (w : Running code limit group words blocks nexts links display table here) where
   pub leave-ready : here .at ≡ here .end → 1 ≤ here .live → LeaveReady code blocks nexts links display here
   leave-ready e h = record { limit = limit; group = group; words = words; table = table; running = w; ended = e; above = h }
 
-  pub left-on : (e : here .at ≡ here .end) (h : 1 ≤ here .live) (display′ : List ℕ) (r : Now)
+  pub left-on : (e : here .at ≡ here .end) (h : 1 ≤ here .live) (display′ : List ℕ) (r : Registers)
       → ((v : LeaveReady code blocks nexts links display here) → Succeeds (v .running) (v .words) blocks nexts links display′ (v .table) r)
       → Succeeds w words blocks nexts links display′ table r
   unfolding leave-ready
   left-on e h display′ r k = k (leave-ready e h)
 
   pub doing : (here .at ≡ here .end → ⊥) → Doing code words display table (here .pairs) group limit (here .live) (here .at)
-  doing d = record { blocks = blocks; nexts = nexts; links = links; end = here .end; running = w; before = d }
+  doing d = record { blocks = blocks; nexts = nexts; links = links; here = here; end = here .end; running = w; before = d }
 
   abbrev result : Happened
   result = acting (byDisplay words display) (sceneBy code words table (here .pairs) group limit (here .live) (here .at))
@@ -51,7 +53,7 @@ module _ {code : List ℕ} {limit group : ℕ} {words : List ℤ} {blocks nexts 
     means-as m e = subst (λ (x : Move). MoveMeans (w .standing) x words′ table′) e act-means
 
     goes : (p n : ℕ) → GoesOn (w .standing) words′ table′ n p
-        → Succeeds w words′ blocks nexts links display table′ (record { live = here .live; at = p; end = here .end; pairs = n })
+        → Succeeds w words′ blocks nexts links display table′ (goesTo here (here .live) p (here .end) n)
     goes p n g =
         record {
           running = record {
@@ -63,11 +65,11 @@ module _ {code : List ℕ} {limit group : ℕ} {words : List ℤ} {blocks nexts 
         }
 
     pub went-on : (p : ℕ) → r ≡ On p → Succeeds w words′ blocks nexts links display table′
-        (record { live = here .live; at = p; end = here .end; pairs = here .pairs })
+        (goesTo here (here .live) p (here .end) (here .pairs))
     went-on p e = goes p (here .pairs) ((means-as (On p) e) .0)
 
     pub went-pairs : (p n : ℕ) → r ≡ Pairs p n → Succeeds w words′ blocks nexts links display table′
-        (record { live = here .live; at = p; end = here .end; pairs = n })
+        (goesTo here (here .live) p (here .end) n)
     went-pairs p n e = goes p n ((means-as (Pairs p n) e) .0)
 
     -- A jump
@@ -84,7 +86,7 @@ module _ {code : List ℕ} {limit group : ℕ} {words : List ℤ} {blocks nexts 
           (means-as (Jump home p) e) .0;
     }
 
-    pub jumped-on : (home p : ℕ) → r ≡ Jump home p → (display′ : List ℕ) (n : Now)
+    pub jumped-on : (home p : ℕ) → r ≡ Jump home p → (display′ : List ℕ) (n : Registers)
         → ((v : JumpReady code blocks links display here home p) → Succeeds (v .running) (v .words) blocks (v .nexts) links display′ (v .table) n)
         → Succeeds w words′ blocks nexts links display′ table′ n
     unfolding jump-ready
@@ -106,7 +108,7 @@ module _ {code : List ℕ} {limit group : ℕ} {words : List ℤ} {blocks nexts 
           (means-as (Enter body link back) e) .0;
     }
 
-    pub entered-on : (body link back : ℕ) → r ≡ Enter body link back → (words″ : List ℤ) (blocks′ nexts′ links′ display′ : List ℕ) (n : Now)
+    pub entered-on : (body link back : ℕ) → r ≡ Enter body link back → (words″ : List ℤ) (blocks′ nexts′ links′ display′ : List ℕ) (n : Registers)
         → ((v : EnterReady code words′ blocks nexts links display here body link back) → Succeeds (v .running) words″ blocks′ nexts′ links′ display′
         (v .table) n) → Succeeds w words″ blocks′ nexts′ links′ display′ table′ n
     unfolding enter-ready
@@ -116,5 +118,7 @@ module _ {code : List ℕ} {limit group : ℕ} {words : List ℤ} {blocks nexts 
 
     -- A cause to stop
 
-    pub stopped-at : (c : Cause) → r ≡ Stop c → (frameStep (limitsBy limit group) (w .standing .stack) ≡ halted c) × (words′ ≡ words) × (table′ ≡ table)
-    stopped-at c e = means-as (Stop c) e
+    pub stopped-at : (c : Cause) → r ≡ Stop c → Stops w c (arraysOf words′ blocks nexts links display table′)
+    stopped-at c e =
+        let m = means-as (Stop c) e in
+        record { stops = m .0; same = λ i. arraysOf (m .1 i) blocks nexts links display (m .2 i) }

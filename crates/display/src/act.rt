@@ -5,7 +5,8 @@ use stepping::code_at;
 ghost use mathlib.Core.Path.{_≡_};
 ghost use Rattle.acting.specs.Acting.{acting};
 ghost use Rattle.display.specs.Finding.{byDisplay};
-ghost use Rattle.moves.specs.Running.{sceneBy, Doing};
+ghost use Rattle.run_state.specs.Scenes.{sceneBy};
+ghost use Rattle.moves.specs.Running.{Doing};
 
 pub fn act(
     code: &[u32; 4096],

@@ -1,6 +1,7 @@
 -- A call that is admitted, by any engine, once its run has ended (`Ended` of crate `steps`): what its sheet needs (`sheet-held`, `sheet-room`), and that
 -- answer, sheet and table are the reply's (`run-answer`, `run-lent`).
 use Prim.Native.Nat.{ℕ, _*_, _≤_}
+use native.Mathlib.Omega.{arith}
 use mathlib.Core.List.{List}
 use mathlib.Core.Path.{_≡_, sym, ap, _∙_, subst}
 use lib.IntN.{ℤ}
@@ -36,7 +37,7 @@ module _ (e : Engine) (f : Fed) (bytes : Bytes (f .script)) (t : Block) (h : Adm
       ran-answer e f bytes t h end steps offset pairs written′ designator followed
       (record {
         end-is = ended .end-is;
-        steps-are = ended .steps-are;
+        steps-are = omega (arith, ended .steps-are);
         offset-is = ended .offset-is;
         pairs-are = ended .pairs-are;
         sheet-is = q;

@@ -1,6 +1,7 @@
--- The loop of a run, for any engine. `Underway`: so far a run has come, with the arrays as they are and so many steps left;
--- `begun`: it begins so; `went`: a step keeps it. `Ended`: what an engine has of a run that has ended; `spent`, `stopped`, `finished`: the three
--- ends; `leaves-sound`: what a run leaves is sound.
+-- The loop of a run, for any engine and from any sound stack. `UnderwayFrom`: so far a run has come, with the arrays as they are and so many steps
+-- left; `begun-from`: it begins so; `went`: a step keeps it. `EndedFrom`: what an engine has of a run that has ended; `spent`, `stopped`, `finished`:
+-- the three ends; `leaves-sound-from`: what a run leaves is sound. Steps are counted from the stack that the run begins with, at which `done` are
+-- done. `Underway`, `begun`, `Ended`, `leaves-sound`: of a run from the program's start.
 use Prim.Native.Nat.{ℕ, suc, _+_, _-_, _*_, _≤_}
 use native.Mathlib.Omega.{arith}
 use mathlib.Core.Bool.{true}
@@ -26,12 +27,28 @@ use Rattle.steps.specs.Means.{Follows}
 use Rattle.steps.specs.Here.{many}
 use Rattle.steps.specs.Loop as loop
 
-pub record Underway (program : Block) (name allowance : ℕ) (result : Result) {code : List ℕ} {l : Limits} {words : List ℤ} {blocks nexts links : List ℕ} {table : List ℤ} {pairs live at end : ℕ}
+pub record UnderwayFrom (done : ℕ) (program : Block) (name allowance : ℕ) (result : Result) {code : List ℕ} {l : Limits} {words : List ℤ} {blocks nexts links : List ℕ} {table : List ℤ} {pairs live at end : ℕ}
     (w : Standing code l words blocks nexts links table pairs live at end) (left : ℕ) : Type 0 where
   pub same-program : w .program ≡ program
   pub same-name : w .name ≡ name
   pub runs : result ≡ frameRun l left (w .stack)
-  pub counts : w .stack .steps + left ≡ allowance
+  pub counts : w .stack .steps + left ≡ allowance + done
+  pub few-left : left ≤ allowance
+
+pub begun-from : {code : List ℕ} {l : Limits} {words : List ℤ} {blocks nexts links : List ℕ} {table : List ℤ} {pairs live at end : ℕ}
+    (w : Standing code l words blocks nexts links table pairs live at end) (allowance : ℕ)
+    → UnderwayFrom (w .stack .steps) (w .program) (w .name) allowance (frameRun l allowance (w .stack)) w allowance
+begun-from w allowance = record { same-program = refl; same-name = refl; runs = refl; counts = omega arith; few-left = omega arith }
+
+pub leaves-sound-from : {code : List ℕ} {l : Limits} {words : List ℤ} {blocks nexts links : List ℕ} {table : List ℤ} {pairs live at end : ℕ}
+    (w : Standing code l words blocks nexts links table pairs live at end) (allowance : ℕ) → Sound l (w .program) ((frameRun l allowance (w .stack)) .final)
+leaves-sound-from {l = l} w allowance = run-sound (w .program) (w .keeps) l allowance (w .stack) (w .sound)
+
+-- From the program's start
+
+abbrev pub Underway : (program : Block) (name allowance : ℕ) (result : Result) {code : List ℕ} {l : Limits} {words : List ℤ} {blocks nexts links : List ℕ} {table : List ℤ} {pairs live at end : ℕ}
+    (w : Standing code l words blocks nexts links table pairs live at end) (left : ℕ) → Type 0
+Underway = UnderwayFrom 0
 
 -- where a run that begins goes to
 abbrev pub resultFrom : Block → Limits → ℕ → List ℤ → ℕ → Result
@@ -48,6 +65,7 @@ begun {l = l} w allowance stack program name =
       same-name = name;
       runs = ap (frameRun l allowance) (sym stack);
       counts = ap (λ (v : Stack). v .steps + allowance) stack ∙ omega arith;
+      few-left = omega arith;
     }
 
 pub leaves-sound : (program : Block) (l : Limits) (allowance : ℕ) (table : List ℤ) (pairs : ℕ) → Keeps program → 1 ≤ l .activations → l .activations ≤ 256
@@ -57,9 +75,9 @@ leaves-sound program l allowance table pairs keeps some-live few-live ok =
     run-sound program keeps l allowance (frameStart program tab) (start-sound l program tab some-live few-live ok keeps)
 
 -- what an engine has of a run that has ended: the frame machine's result, and the arrays hold its stack
-pub record Ended (program : Block) (name : ℕ) (l : Limits) (result : Result) (end : End) (steps offset pairs live designator : ℕ) (words : List ℤ) (blocks nexts links : List ℕ) (table : List ℤ) : Type 0 where
+pub record EndedFrom (done : ℕ) (program : Block) (name : ℕ) (l : Limits) (result : Result) (end : End) (steps offset pairs live designator : ℕ) (words : List ℤ) (blocks nexts links : List ℕ) (table : List ℤ) : Type 0 where
   pub end-is : end ≡ result .end
-  pub steps-are : steps ≡ result .final .steps
+  pub steps-are : steps + done ≡ result .final .steps
   pub offset-is : offset ≡ result .offset
   pub pairs-are : pairs ≡ result .final .table .used
   pub table-is : table ≡ result .final .table .words
@@ -69,10 +87,13 @@ pub record Ended (program : Block) (name : ℕ) (l : Limits) (result : Result) (
   pub holds : Holds (result .final .frames) blocks nexts links words
   pub words-long : length words ≡ 8224
 
-module _ {program : Block} {name allowance : ℕ} {result : Result} {code : List ℕ} {l : Limits} {words : List ℤ} {blocks nexts links : List ℕ} {table : List ℤ} {pairs live at end left : ℕ}
-    (w : Standing code l words blocks nexts links table pairs live at end) (u : Underway program name allowance result w left) where
+abbrev pub Ended : (program : Block) (name : ℕ) (l : Limits) (result : Result) (end : End) (steps offset pairs live designator : ℕ) (words : List ℤ) (blocks nexts links : List ℕ) (table : List ℤ) → Type 0
+Ended = EndedFrom 0
+
+module _ {done : ℕ} {program : Block} {name allowance : ℕ} {result : Result} {code : List ℕ} {l : Limits} {words : List ℤ} {blocks nexts links : List ℕ} {table : List ℤ} {pairs live at end left : ℕ}
+    (w : Standing code l words blocks nexts links table pairs live at end) (u : UnderwayFrom done program name allowance result w left) where
   pub went : {words′ : List ℤ} {blocks′ nexts′ links′ : List ℕ} {table′ : List ℤ} {pairs′ live′ at′ end′ : ℕ} (v : Standing code l words′ blocks′ nexts′ links′ table′ pairs′ live′ at′ end′)
-      → Follows w (v .stack) (v .program) (v .name) → 1 ≤ left → Underway program name allowance result v (left - 1)
+      → Follows w (v .stack) (v .program) (v .name) → 1 ≤ left → UnderwayFrom done program name allowance result v (left - 1)
   went v f h =
       let e : left ≡ suc (left - 1) = omega arith in
       record {
@@ -80,12 +101,13 @@ module _ {program : Block} {name allowance : ℕ} {result : Result} {code : List
         same-name = f .same-name ∙ u .same-name;
         runs = u .runs ∙ ap (λ n. frameRun l n (w .stack)) e ∙ f .runs (left - 1);
         counts = omega (arith, u .counts, f .counts);
+        few-left = omega (arith, u .few-left);
       }
 
   -- a run that leaves activations live
-  halts : (e : End) (offset steps : ℕ) → result ≡ results e offset (w .stack) → steps ≡ w .stack .steps → Sound l program (result .final)
+  halts : (e : End) (offset steps : ℕ) → result ≡ results e offset (w .stack) → steps + done ≡ w .stack .steps → Sound l program (result .final)
       → (designator : ℕ) → designator ≡ designates (w .stack .frames) (w .name)
-      → Ended program name l result e steps offset pairs (live + 1) designator words blocks (set nexts live at) links table
+      → EndedFrom done program name l result e steps offset pairs (live + 1) designator words blocks (set nexts live at) links table
   unfolding results
   halts e offset steps q n sound designator d =
       record {
@@ -102,21 +124,21 @@ module _ {program : Block} {name allowance : ℕ} {result : Result} {code : List
       }
 
   pub spent : left ≡ 0 → Sound l program (result .final) → (designator : ℕ) → designator ≡ designates (w .stack .frames) (w .name)
-      → Ended program name l result Spent allowance 0 pairs (live + 1) designator words blocks (set nexts live at) links table
-  spent z sound = halts Spent 0 allowance (u .runs ∙ ap (λ n. frameRun l n (w .stack)) z ∙ loop.spent w) (omega (arith, u .counts)) sound
+      → EndedFrom done program name l result Spent allowance 0 pairs (live + 1) designator words blocks (set nexts live at) links table
+  spent z sound = halts Spent 0 allowance (u .runs ∙ ap (λ n. frameRun l n (w .stack)) z ∙ loop.spent w) (omega (arith, u .counts, u .few-left)) sound
 
   pub stopped : (c : Stop) → frameStep l (w .stack) ≡ halted c → 1 ≤ left → Sound l program (result .final) → (designator : ℕ) → designator ≡ designates (w .stack .frames) (w .name)
-      → Ended program name l result (Stopped c) (allowance - left) (2 * at) pairs (live + 1) designator words blocks (set nexts live at) links table
+      → EndedFrom done program name l result (Stopped c) (allowance - left) (2 * at) pairs (live + 1) designator words blocks (set nexts live at) links table
   stopped c stop more sound =
       let one : left ≡ suc (left - 1) = omega arith in
-      halts (Stopped c) (2 * at) (allowance - left) (u .runs ∙ ap (λ k. frameRun l k (w .stack)) one ∙ loop.stops w (left - 1) c stop) (omega (arith, u .counts)) sound
+      halts (Stopped c) (2 * at) (allowance - left) (u .runs ∙ ap (λ k. frameRun l k (w .stack)) one ∙ loop.stops w (left - 1) c stop) (omega (arith, u .counts, u .few-left)) sound
 
   pub finished : at ≡ end → live ≡ 0 → 1 ≤ left → Sound l program (result .final) → (words′ : List ℤ) (blocks′ nexts′ links′ : List ℕ) (table′ : List ℤ) → table′ ≡ table → length words′ ≡ 8224
-      → Ended program name l result Finished (allowance - left + 1) 0 pairs 0 0 words′ blocks′ nexts′ links′ table′
+      → EndedFrom done program name l result Finished (allowance - left + 1) 0 pairs 0 0 words′ blocks′ nexts′ links′ table′
   unfolding results
   finished ends none more sound words′ blocks′ nexts′ links′ table′ same long =
       let one : left ≡ suc (left - 1) = omega arith in
-      let n : allowance - left + 1 ≡ suc (w .stack .steps) = omega (arith, u .counts) in
+      let n : allowance - left + 1 + done ≡ suc (w .stack .steps) = omega (arith, u .counts, u .few-left) in
       let q = u .runs ∙ ap (λ k. frameRun l k (w .stack)) one ∙ loop.finishes w ends none (left - 1) in
       record {
         end-is = sym (ap (λ (v : Result). v .end) q);

@@ -9,7 +9,7 @@ use Rattle.language.specs.Text.{plus, minus, less}
 use Rattle.acting.specs.declared.Move.{Move}
 use Rattle.acting.specs.Acting.{Finding, Scene, Op, constant-op, add-op, subtract-op, compare-op, branch-op, goto-op, block-op, call-op, pair-op, unpair-op, query-op, constant-formal-op, arithmetic-formal-op, branch-formal-op, goto-formal-op, call-formal-op, operationOf, operations, opOf, happens, acting}
 use Rattle.display.specs.Finding.{firstCell, byDisplay}
-use Rattle.moves.specs.Running.{sceneBy}
+use Rattle.run_state.specs.Scenes.{sceneBy}
 use Rattle.display.specs.Ready.{ready, at-there}
 use Rattle.statements.specs.Words.{home-direct, target-direct}
 use Rattle.statements.specs.Numbers.{op-of, last-op}

@@ -9,8 +9,14 @@ use Rattle.display.proofs.run.step.Tie as tie
 abbrev inside : tie.After-act → tie.Else1
 inside c = c .before .before .before .before
 
+abbrev startOf : tie.After-act → tie.Start
+startOf c = (inside c) .before .before
+
 abbrev onward : tie.After-leave-arg4 → tie.Else2
 onward c = c .before .before .before .before
+
+abbrev startAt : tie.Else2 → tie.Start
+startAt c = c .before .before .before
 
 abbrev homeOf : tie.After-jump-arg3 → tie.After-home
 homeOf c = c .before .before .before .before
@@ -28,21 +34,23 @@ abbrev callOf : tie.After-body → tie.After-act
 callOf c = c .before .before .before
 
 returns : tie.Need-returns
-returns c = λ w. (c .before .if1 .taken, c .if2 .taken, refl, refl)
+returns c = λ w. record { ended = c .before .if1 .taken; alone = c .if2 .taken; same-words = refl; same-table = refl }
 
 leave-requires : tie.Need-leave-requires
 leave-requires c κs =
     let e = onward c in
-    leave-ready (e .before .before .pre) (e .before .if1 .taken) (above-zero (e .before .before .args .here .live) (e .if2 .left))
+    leave-ready ((startAt e) .pre) (e .before .if1 .taken) (above-zero ((startAt e) .args .here .live) (e .if2 .left))
 
 returns-2 : tie.Need-returns-2
 returns-2 c =
     let e = onward (c .before) in
-    λ w. left-on w (e .before .if1 .taken) (above-zero (e .before .before .args .here .live) (e .if2 .left)) (c .leave .last .1 .1 .1 .1 .0)
+    λ w. left-on w (e .before .if1 .taken) (above-zero ((startAt e) .args .here .live) (e .if2 .left)) (c .leave .last .1 .1 .1 .1 .0)
     (c .leave .result) (c .leave .ensures)
 
 act-requires : tie.Need-act-requires
-act-requires c κs = doing (c .before .before .before .before .pre) (c .before .before .before .if1 .left)
+act-requires c κs =
+    let e = c .before .before .before in
+    doing (e .before .before .pre) (e .if1 .left)
 
 enum-known-place : tie.Need-enum-known-place
 enum-known-place c = search needs
@@ -57,7 +65,7 @@ jump-requires : tie.Need-jump-requires
 jump-requires c κs =
     let h = homeOf c in
     let a = jumpOf h in
-    jump-ready (inside a .before .pre) (inside a .if1 .left) (a .act .result) (a .act .last .1 .0) (a .act .last .1 .1 .1 .0) (a .act .ensures)
+    jump-ready ((startOf a) .pre) (inside a .if1 .left) (a .act .result) (a .act .last .1 .0) (a .act .last .1 .1 .1 .0) (a .act .ensures)
     (h .home .given .0 .0) (h .home .given .0 .1 .0) (h .home .given .1)
 
 enum-known-body : tie.Need-enum-known-body
@@ -67,7 +75,7 @@ enter-requires : tie.Need-enter-requires
 enter-requires c κs =
     let b = bodyOf (firstOf c) in
     let a = callOf b in
-    enter-ready (inside a .before .pre) (inside a .if1 .left) (a .act .result) (a .act .last .1 .0) (a .act .last .1 .1 .1 .0) (a .act .ensures)
+    enter-ready ((startOf a) .pre) (inside a .if1 .left) (a .act .result) (a .act .last .1 .0) (a .act .last .1 .1 .1 .0) (a .act .ensures)
     (b .body .given .0 .0) (b .body .given .0 .1 .0) (b .body .given .0 .1 .1 .0) (b .body .given .1)
 
 enum-known-cause : tie.Need-enum-known-cause
@@ -118,10 +126,8 @@ same-length-5 c = search needs
 returns-7 : tie.Need-returns-7
 returns-7 c =
     let a = c .before .before .before .before in
-    λ w.
-    let m = stopped-at w (inside a .if1 .left) (a .act .result) (a .act .last .1 .0) (a .act .last .1 .1 .1 .0) (a .act .ensures)
-    (c .before .cause .given .0 .0) (c .before .cause .given .1) in
-    (m .0, m .1, refl, refl, refl, refl, m .2)
+    λ w. stopped-at w (inside a .if1 .left) (a .act .result) (a .act .last .1 .0) (a .act .last .1 .1 .1 .0) (a .act .ensures)
+    (c .before .cause .given .0 .0) (c .before .cause .given .1)
 
 pub step-spec : {M : Type 1} → statement M
 step-spec =

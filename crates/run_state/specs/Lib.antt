@@ -1,0 +1,4 @@
+-- The state of a run, in reading order.
+pub mod Scenes
+pub mod Halts
+pub mod Ended
