@@ -73,9 +73,13 @@ module _ {code : List ℕ} {l : Limits} {words : List ℤ} {blocks nexts links :
   abbrev pub AnswerMeans : ℕ → Answer → Type 0
   AnswerMeans p x = EffectMeans p (x .words) (x .effect)
 
+  abbrev pub CellsThere : ℕ → ℕ → ℕ → Type 0
+  CellsThere g m t = (g < 8192) × ((m < 8192) × (t < 8192))
+
   abbrev pub MoveMeans : Move → List ℤ → Type 0
   MoveMeans (On p) words′ = GoesOn words′ table pairs p
-  MoveMeans (Asks p g m t a) words′ = AnswerMeans p (answer (l .group) words (record { words = table; used = pairs }) g m t a) × (words′ ≡ words)
+  MoveMeans (Asks p g m t a) words′ =
+      AnswerMeans p (answer (l .group) words (record { words = table; used = pairs }) g m t a) × (words′ ≡ words) × CellsThere g m t
   MoveMeans (Jump home p) words′ = JumpsTo home p × (words′ ≡ words)
   MoveMeans (Enter body link back) words′ = EntersAt body link back words′
   MoveMeans (Stop c) words′ = (frameStep l (w .stack) ≡ halted c) × (words′ ≡ words)

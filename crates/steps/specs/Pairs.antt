@@ -22,7 +22,7 @@ use Rattle.acting.specs.Acting.{Finding, field, valueOf, moves, doChange, doQue
 use Rattle.steps.specs.Standing.{Standing, Finds}
 use Rattle.steps.specs.Means.{GoesOn, EffectMeans, AnswerMeans, Means}
 use Rattle.steps.specs.Here.{last-is, covered}
-use Rattle.steps.specs.Going.{sceneOf, aheadStack, stays-on, stores-on, cell-found, points-found, value-found}
+use Rattle.steps.specs.Going.{sceneOf, aheadStack, stays-on, stores-on, cell-found, points-found, cell-there, value-found}
 
 module _ {code : List ℕ} {l : Limits} {words : List ℤ} {blocks nexts links : List ℕ} {table : List ℤ} {pairs live at end : ℕ} (w : Standing code l words blocks nexts links table pairs live at end)
     (F : Finding) (finds : Finds (w .stack .frames) F) where
@@ -55,6 +55,10 @@ module _ {code : List ℕ} {l : Limits} {words : List ℤ} {blocks nexts links :
         changed (DO o (AD g m)) q refl (added (l .group) (valueOf F s (field s 1)) (valueOf F s (field s 2)) now)
             (step-acts l (w .stack) (w .below) (w .frame) o (AD g m) (w .frames-are) q ∙ (λ i. asActed (aheadStack w) (added (l .group) (group i) (member i) (w .table-is i)))),
         refl,
+        (
+          cell-there w F finds g (n .names .0) 1 (c .1 .0) variable (n .kinds .0),
+          (cell-there w F finds m (n .names .1 .0) 2 (ap (λ i. getD code i 0) (sym two) ∙ c .1 .1 .0) variable (n .kinds .1), omega arith),
+        ),
       )
 
   pub remove-means : (o g m : ℕ) → frameStmt (w .frame) ≡ some (DO o (RM g m)) → Means w (doChange F (sceneOf w) Remove)
@@ -69,6 +73,10 @@ module _ {code : List ℕ} {l : Limits} {words : List ℤ} {blocks nexts links :
         changed (DO o (RM g m)) q refl (removed (valueOf F s (field s 1)) (valueOf F s (field s 2)) now)
             (step-acts l (w .stack) (w .below) (w .frame) o (RM g m) (w .frames-are) q ∙ (λ i. asActed (aheadStack w) (removed (group i) (member i) (w .table-is i)))),
         refl,
+        (
+          cell-there w F finds g (n .names .0) 1 (c .1 .0) variable (n .kinds .0),
+          (cell-there w F finds m (n .names .1 .0) 2 (ap (λ i. getD code i 0) (sym two) ∙ c .1 .1 .0) variable (n .kinds .1), omega arith),
+        ),
       )
 
   pub query-means : (o t g m : ℕ) → frameStmt (w .frame) ≡ some (DO o (QY t g m)) → Means w (doQuery F (sceneOf w))
@@ -86,4 +94,8 @@ module _ {code : List ℕ} {l : Limits} {words : List ℤ} {blocks nexts links :
             (queried (valueOf F s (field s 2)) (valueOf F s (field s 3)) now)
             (step-acts l (w .stack) (w .below) (w .frame) o (QY t g m) (w .frames-are) q ∙ (λ i. asPut (aheadStack w) (designates fs t) (queried (group i) (member i) (w .table-is i)))),
         refl,
+        (
+          cell-there w F finds g (n .names .1 .0) 2 (ap (λ i. getD code i 0) (sym two) ∙ c .1 .1 .0) variable (n .kinds .1),
+          (cell-there w F finds m (n .names .1 .1 .0) 3 (ap (λ i. getD code i 0) (sym three) ∙ c .1 .1 .1 .0) variable (n .kinds .2), cell-there w F finds t (n .names .0) 1 (c .1 .0) variable (n .kinds .0)),
+        ),
       )
