@@ -11,7 +11,7 @@ use Rattle.language.specs.Basics.{eqZ}
 use Rattle.language.specs.Text.{Operation, plus, minus, less}
 use Rattle.language.specs.Encoding.{signed}
 use Rattle.language.specs.Table.{Table, Effect, leaves, halts, Asked, gives, refuses, added, removed, queried}
-use Rattle.language.specs.Machine.{Limits, compute}
+use Rattle.language.specs.Machine.{compute}
 use Rattle.language.specs.declared.Stop.{Stop}
 use Rattle.language.specs.declared.Stop.the-variants.{NoActivationLeft, ArgumentsDiffer}
 use Rattle.acting.specs.declared.Effect.{Effect as Done-or-not}
@@ -34,9 +34,12 @@ pub record Finding : Type 0 where
 pub record Scene : Type 0 where
   pub code : List ℕ
   pub words : List ℤ
-  pub limits : Limits
+  pub limit : ℕ
   pub live : ℕ
   pub at : ℕ
+
+abbrev pub sceneBy : List ℕ → List ℤ → ℕ → ℕ → ℕ → Scene
+sceneBy code words limit live at = record { code = code; words = words; limit = limit; live = live; at = at }
 
 pub record Happened : Type 0 where
   pub move : Move
@@ -87,7 +90,7 @@ module _ (F : Finding) (s : Scene) where
 
   -- D activations are live: 22
   unfoldable pub noRoom : Bool
-  noRoom = leb (s .limits .activations) (s .live + 1)
+  noRoom = leb (s .limit) (s .live + 1)
 
   unfoldable pub doBlock : Happened
   doBlock = elim noRoom [ true ↦ moves s (Halt NoActivationLeft) | false ↦ moves s (Enter (s .at) (s .live) (field s 1 % 65536)) ]

@@ -147,7 +147,7 @@ module _ (F : Finding) (s : Scene) where
 
   call-hands : Entry (doCall F s) → doCall F s .words ≡ handed
   unfolding doCall noRoom moves rewrites isEntry
-  call-hands z = split (leb (s .limits .activations) (s .live + 1))
+  call-hands z = split (leb (s .limit) (s .live + 1))
       (λ e. let q : doCall F s ≡ moves s (Stop NoActivationLeft) = rw (doCall, e) in absurd (false≢true (subst Entry q z)))
       (λ e. rw (doCall, e))
 

@@ -1,11 +1,13 @@
 // The run: steps until the program is left, a statement has a cause to stop, or the allowance is spent.
 use super::act::act;
 use super::names::cell;
+use acting::Ask;
 use acting::Move;
 use moves::enter;
 use moves::jump;
 use moves::leave;
 use moves::note_place;
+use pairs::Change;
 use run_state::Halt;
 use run_state::Registers;
 use run_state::Turn;
@@ -14,15 +16,41 @@ use run_state::spent;
 use run_state::stopped;
 use run_state::wide;
 use sheets::designator_of;
+use statements::after;
 use stepping::code_at;
 ghost use mathlib.Core.Path.{_≡_};
 ghost use Prim.Native.Nat.{_+_, _/_, _%_, _<_};
 ghost use lib.ListN.{set};
 ghost use Rattle.frames.specs.Frame.{designates, frameRun, frameStart};
+ghost use Rattle.acting.specs.Acting.{answer};
+ghost use Rattle.pairs.specs.Outcomes.{tableOf, changeOf, wordsAfter};
 ghost use Rattle.run_state.specs.Scenes.{limitsBy};
 ghost use Rattle.run_state.specs.Ended.{RunFrom};
 ghost use Rattle.moves.specs.Running.{Running, Looking, Placed};
 ghost use Rattle.display.specs.Turning.{Turned, Beginning, Ended, startBy};
+
+// What the table answers.
+fn asked(
+    table: &mut [i32],
+    words: &mut [i32; 8224],
+    pairs: usize,
+    limit: u32,
+    group: usize,
+    member: usize,
+    target: usize,
+    ask: Ask,
+) -> Change
+    requires { ⌜ (group < 8192) × ((member < 8192) × (target < 8192)) ⌝ }
+    ensures { λ r. ⌜ r ≡ changeOf (answer limit (now (words .entry)) (tableOf (now (table .entry)) pairs) group member target ask .effect) ⌝ }
+    ensures { λ _. ⌜ now (words .exit) ≡ answer limit (now (words .entry)) (tableOf (now (table .entry)) pairs) group member target ask .words ⌝ }
+    ensures { λ _. ⌜ now (table .exit) ≡ wordsAfter (now (table .entry)) (answer limit (now (words .entry)) (tableOf (now (table .entry)) pairs) group member target ask .effect) ⌝ }
+{
+    match ask {
+        Ask::Add => statements::add(table, words, pairs, limit, group, member),
+        Ask::Remove => statements::remove(table, words, pairs, group, member),
+        Ask::Query => statements::query(table, words, pairs, group, member, target),
+    }
+}
 
 pub fn step(
     code: &[u32; 4096],
@@ -49,23 +77,13 @@ pub fn step(
         }
         return Turn::Went(leave(code, blocks, nexts, links, display, here));
     }
-    match act(
-        code,
-        words,
-        display,
-        table,
-        here.pairs,
-        group,
-        limit,
-        live,
-        at,
-    ) {
+    match act(code, words, display, limit, live, at) {
         Move::On(place) => Turn::Went(Registers { at: place, ..here }),
-        Move::Pairs(place, used) => Turn::Went(Registers {
-            at: place,
-            pairs: used,
-            ..here
-        }),
+        Move::Table(place, of, member, target, ask) => after(
+            here,
+            place,
+            asked(table, words, here.pairs, group, of, member, target, ask),
+        ),
         Move::Jump(home, place) => {
             Turn::Went(jump(code, blocks, links, display, here, home, place))
         }

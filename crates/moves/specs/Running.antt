@@ -21,7 +21,10 @@ pub record Running (code : List ℕ) (limit group : ℕ) (words : List ℤ) (blo
   pub display-long : length display ≡ 256
 
 -- what the statement at a place asks: an engine that runs stands there, before the end of its text
-pub record Doing (code : List ℕ) (words : List ℤ) (display : List ℕ) (table : List ℤ) (pairs group limit live at : ℕ) : Type 0 where
+pub record Doing (code : List ℕ) (words : List ℤ) (display : List ℕ) (limit live at : ℕ) : Type 0 where
+  pub group : ℕ
+  pub table : List ℤ
+  pub pairs : ℕ
   pub blocks : List ℕ
   pub nexts : List ℕ
   pub links : List ℕ

@@ -3,14 +3,10 @@ use Prim.Native.Nat.{ℕ}
 use mathlib.Core.List.{List}
 use lib.IntN.{ℤ}
 use Rattle.language.specs.Machine.{Limits}
-use Rattle.acting.specs.Acting.{Scene}
 use Rattle.run_state.specs.declared.Registers.{Registers}
 
 abbrev pub limitsBy : ℕ → ℕ → Limits
 limitsBy limit group = record { activations = limit; group = group }
-
-abbrev pub sceneBy : List ℕ → List ℤ → ℕ → ℕ → ℕ → ℕ → Scene
-sceneBy code words group limit live at = record { code = code; words = words; limits = limitsBy limit group; live = live; at = at }
 
 -- another activation, place, end and number of pairs; what one engine alone keeps stays
 abbrev pub goesTo : Registers → ℕ → ℕ → ℕ → ℕ → Registers

@@ -1,5 +1,5 @@
--- What the table's answer means in the code's enums: `Answered` says what an engine's function has of it, `done-goes` that the engine then goes on,
--- `stopped-halts` that the run stops.
+-- What the table's answer means in the code's enums: `Answered` says what an engine's function has of it, `add-answered` and so on that it has it by the
+-- function that it chose, `done-goes` that the engine then goes on, `stopped-halts` that the run stops.
 use Prim.Native.Nat.{ℕ}
 use mathlib.Core.List.{List}
 use native.Mathlib.Omega.{arith}
@@ -10,7 +10,8 @@ use Rattle.language.specs.Table.{Table, Effect, leaves, halts, Asked, gives, re
 use Rattle.language.specs.Machine.{Limits}
 use Rattle.language.specs.declared.Stop.{Stop}
 use Rattle.frames.specs.Frame.{frameStep, halted}
-use Rattle.acting.specs.declared.Ask.the-variants.{Query as Queried}
+use Rattle.acting.specs.declared.Ask.{Ask}
+use Rattle.acting.specs.declared.Ask.the-variants.{Add, Remove, Query as Queried}
 use Rattle.acting.specs.Acting.{Answer, stored, answer}
 use Rattle.pairs.specs.declared.Change.{Change}
 use Rattle.pairs.specs.declared.Change.the-variants.{Done as Count, Stopped as Halted}
@@ -69,6 +70,35 @@ module _ (words : List ℤ) (t : Table) (group member target : ℕ) {a b : ℤ} 
   query-refuses {c} f =
       let g : asked ≡ refuses c = asked-refused asked c (sym read ∙ f) in
       (sym (ap (λ (x : Asked). changeOf (stored 0 words t group member target x .effect)) g), sym (ap (λ (x : Asked). stored 0 words t group member target x .words) g))
+
+-- an engine's choice among the three functions, by what was asked
+
+module _ (limit : ℕ) (words : List ℤ) (t : Table) (group member target : ℕ) where
+  abbrev Is : Ask → Change → List ℤ → List ℤ → Type 0
+  Is a = Answered (answer limit words t group member target a) (t .words)
+
+  pub add-answered : {a : Ask} {c : Change} {table′ : List ℤ} → a ≡ Add
+      → (c ≡ changeOf (answer limit words t group member 0 Add .effect)) × (table′ ≡ wordsAfter (t .words) (answer limit words t group member 0 Add .effect)) → Is a c words table′
+  unfolding answer
+  add-answered {c = c} {table′ = table′} e h = subst (λ (x : Ask). Is x c words table′) (sym e) (h .0, (refl, h .1))
+
+  pub remove-answered : {a : Ask} {c : Change} {table′ : List ℤ} → a ≡ Remove
+      → (c ≡ changeOf (answer 0 words t group member 0 Remove .effect)) × (table′ ≡ wordsAfter (t .words) (answer 0 words t group member 0 Remove .effect)) → Is a c words table′
+  unfolding answer
+  remove-answered {c = c} {table′ = table′} e h = subst (λ (x : Ask). Is x c words table′) (sym e) (h .0, (refl, h .1))
+
+  told-by : (x : Asked) {c : Change} {words′ : List ℤ}
+      → (c ≡ changeOf (stored 0 words t group member target x .effect)) × (words′ ≡ stored 0 words t group member target x .words)
+      → Answered (stored limit words t group member target x) (t .words) c words′ (t .words)
+  unfolding stored wordsAfter
+  told-by (gives z) h = (h .0, (h .1, refl))
+  told-by (refuses c) h = (h .0, (h .1, refl))
+
+  pub query-answered : {a : Ask} {c : Change} {words′ : List ℤ} → a ≡ Queried
+      → (c ≡ changeOf (answer 0 words t group member target Queried .effect)) × (words′ ≡ answer 0 words t group member target Queried .words) → Is a c words′ (t .words)
+  unfolding answer
+  query-answered {c = c} {words′ = words′} e h =
+      subst (λ (x : Ask). Is x c words′ (t .words)) (sym e) (told-by (queried (getD words group (pos 0)) (getD words member (pos 0)) t) h)
 
 module _ {code : List ℕ} {l : Limits} {words : List ℤ} {blocks nexts links : List ℕ} {table : List ℤ} {pairs live at end : ℕ} (w : Standing code l words blocks nexts links table pairs live at end) where
   goes-by : (p n : ℕ) (words′ : List ℤ) (e : Effect) → EffectMeans w p words′ e → changeOf e ≡ Count n → GoesOn w words′ (wordsAfter table e) n p

@@ -26,7 +26,8 @@ use Rattle.acting.specs.Acting.{Finding, Scene, field, moves, rewrites, setAll,
 use Rattle.acting.specs.Acting.{doGoto, doBranch, noRoom, argumentsFrom, doCall, argumentsAgree, doCallFormal, doChange, doQuery}
 use Rattle.resolved.specs.Resolved.{direct, positionIn}
 use Rattle.arrays.specs.Found.{cellBy}
-use Rattle.statements.specs.Pieces.{without-table, only-words, moveAfter, blockMove, enteredBy}
+use Rattle.acting.specs.Acting.{sceneBy}
+use Rattle.statements.specs.Pieces.{only-words, moveAfter, blockMove, enteredBy}
 use Rattle.statements.specs.Words.{cell-direct}
 
 -- For any way of finding names
@@ -100,17 +101,17 @@ module _ (F : Finding) (s : Scene) where
 
   -- CL
   pub no-room :
-      s .limits .activations ≤ s .live + 1 → (home body : ℕ) →
+      s .limit ≤ s .live + 1 → (home body : ℕ) →
       (Stop NoActivationLeft ≡ enteredBy F s home body .move) × (s .words ≡ enteredBy F s home body .words)
   unfolding enteredBy noRoom moves
-  no-room h home body = let e = le-leb (s .limits .activations) (s .live + 1) h in (rw (enteredBy, e), rw (enteredBy, e))
+  no-room h home body = let e = le-leb (s .limit) (s .live + 1) h in (rw (enteredBy, e), rw (enteredBy, e))
 
   pub entered :
-      s .live + 1 < s .limits .activations → (home body : ℕ) →
+      s .live + 1 < s .limit → (home body : ℕ) →
       (Enter body home (s .at + 3 + field s 2) ≡ enteredBy F s home body .move) ×
       (setAll (s .words) (32 * s .live + 32) (argumentsFrom F s (s .at + 3) (field s 2)) ≡ enteredBy F s home body .words)
   unfolding enteredBy noRoom rewrites
-  entered h home body = let e = lt-leb (s .limits .activations) (s .live + 1) h in (rw (enteredBy, e), rw (enteredBy, e))
+  entered h home body = let e = lt-leb (s .limit) (s .live + 1) h in (rw (enteredBy, e), rw (enteredBy, e))
 
   pub call-is : {home body : ℕ} → home ≡ F .home (field s 1) → body ≡ F .target (field s 1) → enteredBy F s home body ≡ doCall F s
   unfolding enteredBy doCall
@@ -181,7 +182,7 @@ is-less (suc (suc n)) d e = refl
 
 pub arguments-alike :
     (F : Finding) (code : List ℕ) (words : List ℤ) (limit live at at′ from n : ℕ) →
-    argumentsFrom F (only-words code words at) from n ≡ argumentsFrom F (without-table code words limit live at′) from n
+    argumentsFrom F (only-words code words at) from n ≡ argumentsFrom F (sceneBy code words limit live at′) from n
 unfolding argumentsFrom
 arguments-alike F code words limit live at at′ from zero = refl
 arguments-alike F code words limit live at at′ from (suc n) =

@@ -10,14 +10,11 @@ use Rattle.acting.specs.declared.Effect.{Effect}
 use Rattle.acting.specs.declared.Effect.the-variants.{Done, Stopped}
 use Rattle.acting.specs.declared.Move.{Move}
 use Rattle.acting.specs.declared.Move.the-variants.{On, Enter, Stop}
-use Rattle.acting.specs.Acting.{Finding, Scene, Happened, field, moves, rewrites, noRoom, argumentsFrom, setAll}
+use Rattle.acting.specs.Acting.{Finding, Scene, sceneBy, Happened, field, moves, rewrites, noRoom, argumentsFrom, setAll}
 
--- a scene as far as a statement looks at it: with no limit on groups, and with no activations either
-abbrev pub without-table : List ℕ → List ℤ → ℕ → ℕ → ℕ → Scene
-without-table code words limit live at = record { code = code; words = words; limits = record { activations = limit; group = 0 }; live = live; at = at }
-
+-- a scene as far as most statements look at it
 abbrev pub only-words : List ℕ → List ℤ → ℕ → Scene
-only-words code words at = without-table code words 0 0 at
+only-words code words at = sceneBy code words 0 0 at
 
 -- a procedure's body at a place stands behind so many formals, and in the script
 pub record FormalsBefore (code : List ℕ) (body : ℕ) : Type 0 where

@@ -1,4 +1,4 @@
--- A statement's function says what it does in a scene as far as it looks at it (`only-words`, `without-table`). In the whole scene
+-- A statement's function says what it does in a scene as far as it looks at it (`only-words`, `sceneBy`). In the whole scene
 -- the statement comes to the same, and what it does not look at stays: `constant-same` and so on, a law for each. `done`: so it is with `acting`.
 use Prim.Native.Nat.{ℕ, zero, suc, _+_}
 use native.Mathlib.Omega.{arith}
@@ -20,7 +20,8 @@ use Rattle.acting.specs.Effects.{effectOf}
 use Rattle.acting.specs.Acting.{Finding, Scene, Happened, moves, rewrites, valueOf, field, arithmeticMove, doConstant, doArithmetic, doGoto, doBranch}
 use Rattle.acting.specs.Acting.{noRoom, doBlock, argumentsFrom, doCall, argumentsAgree, doCallFormal, doChange, doQuery, Op}
 use Rattle.acting.specs.Acting.{opOf, happens, acting}
-use Rattle.statements.specs.Pieces.{without-table, only-words, blockMove}
+use Rattle.acting.specs.Acting.{sceneBy}
+use Rattle.statements.specs.Pieces.{only-words, blockMove}
 
 abbrev pub Done : Happened → Move → List ℤ → Type 0
 Done h r words = (r ≡ h .move) × (words ≡ h .words)
@@ -33,7 +34,7 @@ module _ (F : Finding) (s : Scene) where
   words = s .words
 
   abbrev limit : ℕ
-  limit = s .limits .activations
+  limit = s .limit
 
   abbrev live : ℕ
   live = s .live
@@ -45,7 +46,7 @@ module _ (F : Finding) (s : Scene) where
   o = only-words code words at
 
   abbrev t : Scene
-  t = without-table code words limit live at
+  t = sceneBy code words limit live at
 
   acts : (p : Op) → opOf (getD code at 0) ≡ p → happens F s p ≡ acting F s
   unfolding acting

@@ -58,11 +58,11 @@ is-procedure (LB at n i) e = let z : _≡_ {A = ℕ} 0 1 = cc in absurd (omega a
 is-procedure (PR at n gs b) e = (at, n, gs, b, refl)
 
 module _ (F : Finding) (s : Scene) where
-  call-full : leb (s .limits .activations) (s .live + 1) ≡ true → doCall F s ≡ moves s (Stop NoActivationLeft)
+  call-full : leb (s .limit) (s .live + 1) ≡ true → doCall F s ≡ moves s (Stop NoActivationLeft)
   unfolding doCall noRoom
   call-full e = rw (doCall, e)
 
-  call-enters : leb (s .limits .activations) (s .live + 1) ≡ false
+  call-enters : leb (s .limit) (s .live + 1) ≡ false
       → doCall F s ≡ rewrites s (Enter (F .target (field s 1)) (F .home (field s 1)) (s .at + 3 + field s 2)) (setAll (s .words) (32 * s .live + 32) (argumentsFrom F s (s .at + 3) (field s 2)))
   unfolding doCall noRoom
   call-enters e = rw (doCall, e)

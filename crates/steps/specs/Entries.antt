@@ -30,11 +30,11 @@ use Rattle.steps.specs.Means.{EntersAt, Means}
 use Rattle.steps.specs.Here.{many, last-is, stands-at, covered, goes-on-at}
 use Rattle.steps.specs.Going.{sceneOf, ahead, aheadStack, ahead-many}
 
-blocks-full : (F : Finding) (s : Scene) → leb (s .limits .activations) (s .live + 1) ≡ true → doBlock F s ≡ moves s (Stop NoActivationLeft)
+blocks-full : (F : Finding) (s : Scene) → leb (s .limit) (s .live + 1) ≡ true → doBlock F s ≡ moves s (Stop NoActivationLeft)
 unfolding doBlock noRoom
 blocks-full F s e = rw (doBlock, e)
 
-blocks-enter : (F : Finding) (s : Scene) → leb (s .limits .activations) (s .live + 1) ≡ false → doBlock F s ≡ moves s (Enter (s .at) (s .live) (field s 1 % 65536))
+blocks-enter : (F : Finding) (s : Scene) → leb (s .limit) (s .live + 1) ≡ false → doBlock F s ≡ moves s (Enter (s .at) (s .live) (field s 1 % 65536))
 unfolding doBlock noRoom
 blocks-enter F s e = rw (doBlock, e)
 

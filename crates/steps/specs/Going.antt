@@ -71,7 +71,7 @@ like-trans fs gs hs p q =
 module _ {code : List ℕ} {l : Limits} {words : List ℤ} {blocks nexts links : List ℕ} {table : List ℤ} {pairs live at end : ℕ} (w : Standing code l words blocks nexts links table pairs live at end) where
   -- what a statement finds
   abbrev pub sceneOf : Scene
-  sceneOf = record { code = code; words = words; limits = l; live = live; at = at }
+  sceneOf = record { code = code; words = words; limit = l .activations; live = live; at = at }
 
   abbrev pub ahead : List Frame
   ahead = w .below ++ (continue (w .frame) (suc (w .frame .next)) ∷ [])
