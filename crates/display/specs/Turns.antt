@@ -1,9 +1,8 @@
 -- A step of the display engine, by what the statement comes to (`Acted`): `act-means`. For each move: the engine goes on (`went-on`, `went-pairs`), or
 -- is ready to jump or to enter (`jump-ready`, `enter-ready`), and stands behind the step once it has (`jumped-on`, `entered-on`).
-use Prim.Native.Nat.{ℕ, zero, suc, _≤_}
-use native.Mathlib.Omega.{arith}
+use Prim.Native.Nat.{ℕ, _≤_}
 use mathlib.Core.List.{List}
-use mathlib.Core.Path.{_≡_, refl, sym, ap, _∙_, subst}
+use mathlib.Core.Path.{_≡_, sym, ap, _∙_, subst}
 use lib.IntN.{ℤ}
 use Rattle.frames.specs.Frame.{numbered}
 use Rattle.acting.specs.declared.Move.{Move}
@@ -16,13 +15,10 @@ use Rattle.language.specs.declared.Stop.{Stop as Cause}
 use Rattle.run_state.specs.declared.Registers.{Registers}
 use Rattle.run_state.specs.Scenes.{limitsBy, sceneBy, goesTo}
 use Rattle.display.specs.Finding.{byDisplay}
-use Rattle.display.specs.Turning.{arraysOf, Stops}
+use Rattle.display.specs.Turning.{arraysOf}
+use Rattle.run_state.specs.Turns.{Stops}
 use Rattle.moves.specs.Running.{Running, Doing, Succeeds, LeaveReady, JumpReady, EnterReady}
 use Rattle.statements.specs.Scenes.{Acted}
-
-pub above-zero : (n : ℕ) → (n ≡ 0 → ⊥) → 1 ≤ n
-above-zero zero d = absurd (d refl)
-above-zero (suc n) d = omega arith
 
 module _ {code : List ℕ} {limit group : ℕ} {words : List ℤ} {blocks nexts links display : List ℕ} {table : List ℤ} {here : Registers}
     (w : Running code limit group words blocks nexts links display table here) where
@@ -118,7 +114,8 @@ module _ {code : List ℕ} {limit group : ℕ} {words : List ℤ} {blocks nexts 
 
     -- A cause to stop
 
-    pub stopped-at : (c : Cause) → r ≡ Stop c → Stops w c (arraysOf words′ blocks nexts links display table′)
+    pub stopped-at : (c : Cause) → r ≡ Stop c → Stops (limitsBy limit group) (w .standing .stack) c (arraysOf words blocks nexts links display table)
+        (arraysOf words′ blocks nexts links display table′)
     stopped-at c e =
         let m = means-as (Stop c) e in
         record { stops = m .0; same = λ i. arraysOf (m .1 i) blocks nexts links display (m .2 i) }
