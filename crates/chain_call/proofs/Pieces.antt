@@ -28,9 +28,9 @@ use Rattle.replies.specs.Replies.{refused-call, admitted-call, with-links}
 use Rattle.replies.specs.Runs.{sheet-held, sheet-room, run-answer, run-lent}
 use Rattle.activations.specs.declared.Activation.{Activation}
 use Rattle.links.specs.Records.{blocksIn, nextsIn, linksIn}
-use Rattle.links.specs.Running.{limitsBy}
+use Rattle.run_state.specs.Scenes.{limitsBy}
 use Rattle.chain.specs.Running.{Beginning, Ended}
-use Rattle.chain.specs.declared.run.Halt.{Halt}
+use Rattle.run_state.specs.declared.Halt.{Halt}
 use Rattle.answers.specs.Refusals.{isRefused, refusedWords}
 use Rattle.chain_call.specs.Calls.{haltWords}
 

@@ -29,31 +29,32 @@ use Rattle.chain_statements.specs.Asking.{wordBehind, Calling, Ready, Leads, Di
 use Rattle.chain_statements.specs.Moves as moves
 use Rattle.chain_statements.specs.Classes.{add-only, subtract-only, compare-only, arithmetic-only, query-only, constant-only}
 use Rattle.activations.specs.declared.Activation.{Activation}
-use Rattle.links.specs.declared.Now.{Now}
+use Rattle.run_state.specs.declared.Registers.{Registers}
 use Rattle.links.specs.Records.{blocksIn, nextsIn, linksIn}
 use Rattle.links.specs.Finding.{firstCell, byChain, Seen, Named}
-use Rattle.links.specs.Running.{limitsBy, Running}
+use Rattle.run_state.specs.Scenes.{limitsBy}
+use Rattle.links.specs.Running.{Running}
 use Rattle.links.specs.Names as links
 use Rattle.chain_steps.specs.declared.turn.Moved.{Moved}
 use Rattle.chain_steps.specs.Moved.{movedBy}
 
 -- an engine that runs stands before the end of a text
-pub record Stating (code : List ℕ) (words : List ℤ) (records : List Activation) (table : List ℤ) (group limit : ℕ) (here : Now) : Type 0 where
+pub record Stating (code : List ℕ) (words : List ℤ) (records : List Activation) (table : List ℤ) (group limit : ℕ) (here : Registers) : Type 0 where
   pub running : Running code limit group words records table here
   pub before : here .at ≡ here .end → ⊥
 
 -- what the next statement does to words and table
-abbrev pub happening : List ℕ → List ℤ → List Activation → List ℤ → ℕ → ℕ → Now → Happened
+abbrev pub happening : List ℕ → List ℤ → List Activation → List ℤ → ℕ → ℕ → Registers → Happened
 happening code words records table group limit here =
     acting (byChain words records (here .live) (here .level)) (sceneOf code words table (here .pairs) group limit (here .live) (here .at))
 
 -- its class, and the first cell of the innermost activation
-pub record Chosen (code : List ℕ) (here : Now) (own class : ℕ) : Type 0 where
+pub record Chosen (code : List ℕ) (here : Registers) (own class : ℕ) : Type 0 where
   pub own-is : own ≡ 32 * here .live
   pub class-is : class ≡ classOf (opOf (getD code (here .at) 0))
 
 -- AR
-pub record Summing (code : List ℕ) (words : List ℤ) (records : List Activation) (here : Now) (own class : ℕ) : Type 0 where
+pub record Summing (code : List ℕ) (words : List ℤ) (records : List Activation) (here : Registers) (own class : ℕ) : Type 0 where
   pub table : List ℤ
   pub group : ℕ
   pub limit : ℕ
@@ -63,7 +64,7 @@ pub record Summing (code : List ℕ) (words : List ℤ) (records : List Activati
   pub high : class ≤ 4
 
 -- AD, RM and QY
-pub record Tabling (code : List ℕ) (words : List ℤ) (records : List Activation) (table : List ℤ) (group : ℕ) (here : Now) (own class : ℕ) : Type 0 where
+pub record Tabling (code : List ℕ) (words : List ℤ) (records : List Activation) (table : List ℤ) (group : ℕ) (here : Registers) (own class : ℕ) : Type 0 where
   pub limit : ℕ
   pub stating : Stating code words records table group limit here
   pub chosen : Chosen code here own class
@@ -71,22 +72,22 @@ pub record Tabling (code : List ℕ) (words : List ℤ) (records : List Activati
   pub other : class ≡ 8 → ⊥
 
 -- the statement has been done, and the engine goes on so
-pub record Does (done : Happened) (words : List ℤ) (here : Now) (moved : Moved) (words′ table′ : List ℤ) : Type 0 where
+pub record Does (done : Happened) (words : List ℤ) (here : Registers) (moved : Moved) (words′ table′ : List ℤ) : Type 0 where
   pub move : Move
   pub did : Did done words move words′ table′
   pub so : moved ≡ movedBy here move
 
-unfoldable pub onlyHops : List ℕ → Now → ℕ
+unfoldable pub onlyHops : List ℕ → Registers → ℕ
 onlyHops code here =
     elim (eqb (getD code (here .at) 0 % 16) 6) [ true ↦ 0 | false ↦ here .level - levelIn (getD code (here .at + 1) 0) ]
 
 -- The links of the only name
 
-pub none-hops : (code : List ℕ) (here : Now) → getD code (here .at) 0 % 16 ≡ 6 → 0 ≡ onlyHops code here
+pub none-hops : (code : List ℕ) (here : Registers) → getD code (here .at) 0 % 16 ≡ 6 → 0 ≡ onlyHops code here
 unfolding onlyHops
 none-hops code here e = rw (onlyHops, eq-eqb (getD code (here .at) 0 % 16) 6 e)
 
-pub some-hops : (code : List ℕ) (here : Now) → (getD code (here .at) 0 % 16 ≡ 6 → ⊥) → here .level - levelIn (getD code (here .at + 1) 0) ≡ onlyHops code here
+pub some-hops : (code : List ℕ) (here : Registers) → (getD code (here .at) 0 % 16 ≡ 6 → ⊥) → here .level - levelIn (getD code (here .at + 1) 0) ≡ onlyHops code here
 unfolding onlyHops
 some-hops code here d = rw (onlyHops, ne-eqb (getD code (here .at) 0 % 16) 6 d)
 
@@ -115,7 +116,7 @@ formal-target : (words : List ℤ) (first v : ℕ) → direct v ≡ false → ta
 unfolding targetBy
 formal-target words first v e = rw (targetBy, e)
 
-module _ {code : List ℕ} {words : List ℤ} {records : List Activation} {table : List ℤ} {group limit : ℕ} {here : Now}
+module _ {code : List ℕ} {words : List ℤ} {records : List Activation} {table : List ℤ} {group limit : ℕ} {here : Registers}
     (s : Stating code words records table group limit here) where
   abbrev w : Running code limit group words records table here
   w = s .running

@@ -26,10 +26,11 @@ use Rattle.statements.specs.Pieces.{only-words, blockMove}
 use Rattle.statements.specs.Scenes.{block-same}
 use Rattle.activations.specs.declared.Activation.{Activation}
 use Rattle.chain_statements.specs.Asking.{sceneOf}
-use Rattle.links.specs.declared.Now.{Now}
+use Rattle.run_state.specs.declared.Registers.{Registers}
 use Rattle.links.specs.Records.{blocksIn, nextsIn, linksIn}
 use Rattle.links.specs.Finding.{byChain, Handing, argumentsEnd, handedOn}
-use Rattle.links.specs.Running.{limitsBy, Running}
+use Rattle.run_state.specs.Scenes.{limitsBy}
+use Rattle.links.specs.Running.{Running}
 use Rattle.chain_steps.specs.Moves.{isEntry}
 use Rattle.chain_steps.specs.Fields.{seen, reached}
 
@@ -157,7 +158,7 @@ module _ (F : Finding) (s : Scene) where
       (λ e. let q : doCallFormal F s ≡ doCall F s = rw (doCallFormal, e) in ap (λ (h : Happened). h .words) q ∙ call-hands (subst Entry q z))
       (λ e. let q : doCallFormal F s ≡ moves s (Stop ArgumentsDiffer) = rw (doCallFormal, e) in absurd (false≢true (subst Entry q z)))
 
-module _ {code : List ℕ} {limit group : ℕ} {words : List ℤ} {records : List Activation} {table : List ℤ} {here : Now}
+module _ {code : List ℕ} {limit group : ℕ} {words : List ℤ} {records : List Activation} {table : List ℤ} {here : Registers}
     (w : Running code limit group words records table here) where
   abbrev st : Standing code (limitsBy limit group) words (blocksIn records) (nextsIn records) (linksIn records) table (here .pairs) (here .live)
       (here .at) (here .end)

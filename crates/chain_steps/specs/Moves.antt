@@ -4,12 +4,13 @@ use mathlib.Core.Bool.{Bool, true, false}
 use lib.Dec.{eqb}
 use Rattle.acting.specs.declared.Move.{Move}
 use Rattle.acting.specs.declared.Move.the-variants.{On, Pairs, Jump, Enter, Stop}
-use Rattle.links.specs.declared.Now.{Now}
+use Rattle.run_state.specs.declared.Registers.{Registers}
+use Rattle.run_state.specs.Scenes.{goesTo}
 use Rattle.links.specs.declared.Entry.{Entry}
-use Rattle.chain_steps.specs.declared.turn.Turn.{Turn}
-use Rattle.chain_steps.specs.declared.turn.Turn.the-variants.{Went, Finished, Stopped}
+use Rattle.run_state.specs.declared.Turn.{Turn}
+use Rattle.run_state.specs.declared.Turn.the-variants.{Went, Finished, Stopped}
 
-unfoldable pub staysIn : Now → Move → Bool
+unfoldable pub staysIn : Registers → Move → Bool
 staysIn here (On p) = true
 staysIn here (Pairs p n) = true
 staysIn here (Jump home p) = eqb home (here .live)
@@ -17,10 +18,10 @@ staysIn here (Enter b l k) = false
 staysIn here (Stop c) = true
 
 -- another place of the same activation, with so many pairs in use
-abbrev pub placed : Now → ℕ → ℕ → Now
-placed here place pairs = record { live = here .live; at = place; end = here .end; pairs = pairs; level = here .level }
+abbrev pub placed : Registers → ℕ → ℕ → Registers
+placed here place pairs = goesTo here (here .live) place (here .end) pairs
 
-unfoldable pub stayedBy : Now → Move → Turn
+unfoldable pub stayedBy : Registers → Move → Turn
 stayedBy here (On p) = Went (placed here p (here .pairs))
 stayedBy here (Pairs p n) = Went (placed here p n)
 stayedBy here (Jump home p) = Went (placed here p (here .pairs))
@@ -60,17 +61,17 @@ placeAt (Stop c) = 0
 
 -- Of what a step has come to
 
-unfoldable pub isWent : Turn → Bool
+abbrev pub isWent : Turn → Bool
 isWent (Went n) = true
 isWent Finished = false
 isWent (Stopped c) = false
 
-unfoldable pub isFinished : Turn → Bool
+abbrev pub isFinished : Turn → Bool
 isFinished (Went n) = false
 isFinished Finished = true
 isFinished (Stopped c) = false
 
-unfoldable pub nextIn : Now → Turn → Now
+abbrev pub nextIn : Registers → Turn → Registers
 nextIn here (Went n) = n
 nextIn here Finished = here
 nextIn here (Stopped c) = here

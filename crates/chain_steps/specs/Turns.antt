@@ -1,7 +1,7 @@
 -- A step of the static-chain engine, by what the statement comes to (`Did`): the innermost activation stays so (`stays`), a block is entered (`enter-ready`,
 -- `entered-on`), or another activation goes on (`home-below`, `resumed-on`). At the end of its text it is left (`leave-ready`, `left-on`): the run is over
 -- (`finishes`), or the activation below goes on (`leaves-on`).
-use Prim.Native.Nat.{ℕ, zero, suc, _-_, _≤_}
+use Prim.Native.Nat.{ℕ, _-_, _≤_}
 use native.Mathlib.Omega.{arith}
 use mathlib.Core.Bool.{true, false, false≢true, true≢false}
 use mathlib.Core.List.{List}
@@ -17,23 +17,21 @@ use Rattle.steps.specs.Acts.{acting-means}
 use Rattle.activations.specs.declared.Activation.{Activation}
 use Rattle.activations.specs.Records.{at as record-at}
 use Rattle.chain_statements.specs.Asking.{Did, unhanded, sceneOf}
-use Rattle.links.specs.declared.Now.{Now}
+use Rattle.run_state.specs.declared.Registers.{Registers}
 use Rattle.links.specs.Records.{blocksIn, nextsIn, linksIn}
 use Rattle.links.specs.Finding.{byChain, Handing, argumentsEnd, handedOn}
-use Rattle.links.specs.Running.{limitsBy, nowBy, Running, Succeeds, EnterReady}
+use Rattle.run_state.specs.Scenes.{limitsBy}
+use Rattle.run_state.specs.Turns.{above-zero}
+use Rattle.links.specs.Running.{nowBy, Running, Succeeds, EnterReady}
 use Rattle.links.specs.Moving.{home-live, jumps-here, jumps-by, leaves-by}
 use Rattle.links.specs.Names.{finds-by-chain}
-use Rattle.chain_steps.specs.declared.turn.Turn.{Turn}
-use Rattle.chain_steps.specs.declared.turn.Turn.the-variants.{Went, Finished}
+use Rattle.run_state.specs.declared.Turn.{Turn}
+use Rattle.run_state.specs.declared.Turn.the-variants.{Went, Finished}
 use Rattle.chain_steps.specs.Moves.{staysIn, placed, stayedBy, isEntry, entryOf, homeAt, placeAt}
 use Rattle.chain_steps.specs.Entries.{enters-handing}
-use Rattle.chain_steps.specs.Turning.{Turned, LeaveReady}
+use Rattle.chain_steps.specs.Turning.{listsOf, Turned, LeaveReady}
 
-pub above-zero : (n : ℕ) → (n ≡ 0 → ⊥) → 1 ≤ n
-above-zero zero d = absurd (d refl)
-above-zero (suc n) d = omega arith
-
-module _ {code : List ℕ} {limit group : ℕ} {words : List ℤ} {records : List Activation} {table : List ℤ} {here : Now}
+module _ {code : List ℕ} {limit group : ℕ} {words : List ℤ} {records : List Activation} {table : List ℤ} {here : Registers}
     (w : Running code limit group words records table here) where
   abbrev st : Standing code (limitsBy limit group) words (blocksIn records) (nextsIn records) (linksIn records) table (here .pairs) (here .live)
       (here .at) (here .end)
@@ -42,7 +40,7 @@ module _ {code : List ℕ} {limit group : ℕ} {words : List ℤ} {records : Lis
   -- The end of its text
 
   pub finishes : here .at ≡ here .end → here .live ≡ 0 → Turned w Finished words records table
-  finishes e z = (e, z, refl, refl)
+  finishes e z = record { ended = e; alone = z; same-words = refl; same-table = refl }
 
   pub leaves-on : here .at ≡ here .end → (here .live ≡ 0 → ⊥) → (a : Activation) → a ≡ record-at records (here .live - 1)
       → Turned w (Went (nowBy code (a .block) (here .live - 1) (a .next) (here .pairs))) words records table
@@ -70,7 +68,7 @@ module _ {code : List ℕ} {limit group : ℕ} {words : List ℤ} {records : Lis
     stays-by (Jump home p) k z = subst (λ (T : Type 0). T) (λ i. Succeeds w (sym (k .1) i) records (sym (k .2) i) (placed here p (here .pairs)))
         (jumps-here w home p (k .0) (eqb-true home (here .live) z))
     stays-by (Enter b l q) k z = absurd (false≢true z)
-    stays-by (Stop c) k z = (k .0, k .1, refl, k .2)
+    stays-by (Stop c) k z = record { stops = k .0; same = λ i. listsOf (k .1 i) records (k .2 i) }
 
     few-entered : (m : Move) → MoveMeans st m words₁ table₁ → isEntry m ≡ true → here .live ≤ 254
     unfolding isEntry
@@ -98,7 +96,7 @@ module _ {code : List ℕ} {limit group : ℕ} {words : List ℤ} {records : Lis
     enters-by (Stop c) k z e h = absurd (false≢true z)
 
     entered-by : (m : Move) (k : MoveMeans st m words₁ table₁) (z : isEntry m ≡ true) (e : words₁ ≡ handedOn code words records here)
-        (h : Handing code records here (argumentsEnd code (here .at))) (words″ : List ℤ) (records″ : List Activation) (n : Now)
+        (h : Handing code records here (argumentsEnd code (here .at))) (words″ : List ℤ) (records″ : List Activation) (n : Registers)
         → ((v : EnterReady code (unhanded m words words₁) records here (entryOf m)) → Succeeds (v .running) words″ records″ (v .table) n)
         → Succeeds w words″ records″ table₁ n
     unfolding isEntry entryOf unhanded enters-by
@@ -149,7 +147,7 @@ module _ {code : List ℕ} {limit group : ℕ} {words : List ℤ} {records : Lis
     enter-ready = at-move (λ m ws ts. isEntry m ≡ true → EnterReady code ws records here (entryOf m))
         (λ z. enters-by (result .words) (result .table) (result .move) (means before) z (hands z .0) (hands z .1))
 
-    pub entered-on : isEntry r ≡ true → (words″ : List ℤ) (records″ : List Activation) (n : Now)
+    pub entered-on : isEntry r ≡ true → (words″ : List ℤ) (records″ : List Activation) (n : Registers)
         → ((v : EnterReady code words′ records here (entryOf r)) → Succeeds (v .running) words″ records″ (v .table) n)
         → Turned w (Went n) words″ records″ table′
     entered-on z words″ records″ n = at-move (λ m ws ts. isEntry m ≡ true

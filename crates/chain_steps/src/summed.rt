@@ -6,15 +6,15 @@ use chain_statements::do_add;
 use chain_statements::do_arithmetic_formal;
 use chain_statements::do_compare;
 use chain_statements::do_subtract;
-use links::Now;
 use links::first_cell;
+use run_state::Registers;
 ghost use Rattle.chain_steps.specs.Acted.{Summing, Does, happening};
 
 pub fn summed(
     code: &[u32; 4096],
     words: &mut [i32; 8224],
     records: &[Activation],
-    here: Now,
+    here: Registers,
     own: usize,
     class: usize,
 ) -> Moved

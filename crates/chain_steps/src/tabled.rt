@@ -4,8 +4,8 @@ use super::turn::came_to;
 use activations::Activation;
 use chain_statements::act_pair;
 use chain_statements::do_query;
-use links::Now;
 use links::first_cell;
+use run_state::Registers;
 ghost use Rattle.chain_steps.specs.Acted.{Tabling, Does, happening};
 
 pub fn tabled(
@@ -14,7 +14,7 @@ pub fn tabled(
     records: &[Activation],
     table: &mut [i32],
     group: u32,
-    here: Now,
+    here: Registers,
     own: usize,
     class: usize,
 ) -> Moved

@@ -3,29 +3,24 @@ use acting::Move;
 use activations::Activation;
 use language::Stop;
 use links::Entry;
-use links::Now;
 use links::innermost;
+use run_state::Registers;
+use run_state::Turn;
 ghost use mathlib.Core.Path.{_≡_};
 ghost use Prim.Native.Nat.{_+_, _-_, _≤_};
 ghost use Rattle.links.specs.Running.{nowBy};
 ghost use Rattle.chain_steps.specs.Moves.{noEntry, placed};
 ghost use Rattle.chain_steps.specs.Moved.{movedBy, jumpedBy, isDone, turnOf, isEnter, entryIn, homeIn, placeIn};
 
-pub enum Turn {
-    Went(Now),
-    Finished,
-    Stopped(Stop),
-}
-
 // What a statement has come to: the innermost activation goes on, another one does, at a place, a block is entered, or the run ends.
 pub enum Moved {
-    Went(Now),
+    Went(Registers),
     Resume(usize, usize),
     Enter(Entry),
     Stopped(Stop),
 }
 
-pub fn went(next: Now) -> Turn
+pub fn went(next: Registers) -> Turn
     ensures { λ r. ⌜ r ≡ Turn.Went next ⌝ }
 {
     Turn::Went(next)
@@ -38,26 +33,24 @@ pub fn finished() -> Turn
 }
 
 // The activation below the innermost one.
-pub fn below(here: Now) -> usize
+pub fn below(here: Registers) -> usize
     requires { ⌜ 1 ≤ here .live ⌝ }
     ensures { λ r. ⌜ r ≡ here .live - 1 ⌝ }
 {
     here.live - 1
 }
 
-fn placed(here: Now, place: usize, pairs: usize) -> Moved
+fn placed(here: Registers, place: usize, pairs: usize) -> Moved
     ensures { λ r. ⌜ r ≡ Moved.Went (placed here place pairs) ⌝ }
 {
-    Moved::Went(Now {
-        live: here.live,
+    Moved::Went(Registers {
         at: place,
-        end: here.end,
         pairs,
-        level: here.level,
+        ..here
     })
 }
 
-fn jumped(here: Now, home: usize, place: usize) -> Moved
+fn jumped(here: Registers, home: usize, place: usize) -> Moved
     ensures { λ r. ⌜ r ≡ jumpedBy here home place ⌝ }
 {
     if home == here.live {
@@ -66,7 +59,7 @@ fn jumped(here: Now, home: usize, place: usize) -> Moved
     Moved::Resume(home, place)
 }
 
-pub fn came_to(here: Now, done: Move) -> Moved
+pub fn came_to(here: Registers, done: Move) -> Moved
     ensures { λ r. ⌜ r ≡ movedBy here done ⌝ }
 {
     match done {
@@ -156,7 +149,7 @@ fn place_of(moved: Moved) -> usize
 }
 
 // It becomes the innermost one; its record is given.
-pub fn resumed(code: &[u32; 4096], here: Now, moved: Moved, activation: Activation) -> Turn
+pub fn resumed(code: &[u32; 4096], here: Registers, moved: Moved, activation: Activation) -> Turn
     requires { ⌜ activation .block + 3 ≤ 4096 ⌝ }
     ensures { λ r. ⌜ r ≡ Turn.Went (nowBy (now (code .entry)) (activation .block) (homeIn moved) (placeIn moved) (here .pairs)) ⌝ }
 {

@@ -8,15 +8,15 @@ use lib.IntN.{ℤ, pos}
 use lib.ListN.{length, getD}
 use Rattle.language.specs.Text.{Block}
 use Rattle.language.specs.Table.{right}
-use Rattle.language.specs.declared.Stop.{Stop}
 use Rattle.grammar.specs.Rules.{Keeps}
-use Rattle.frames.specs.Frame.{Result, halted, frameStep}
+use Rattle.frames.specs.Frame.{Result}
 use Rattle.resolved.specs.Resolved.{resolvedOf, Covers}
 use Rattle.run_state.specs.declared.Registers.{Registers}
 use Rattle.run_state.specs.declared.Turn.{Turn}
 use Rattle.run_state.specs.declared.Turn.the-variants.{Went, Finished, Stopped}
 use Rattle.run_state.specs.declared.Halt.{Halt}
 use Rattle.run_state.specs.Scenes.{limitsBy}
+use Rattle.run_state.specs.Turns.{Leaves, Stops}
 use Rattle.run_state.specs.Ended.{EndedFrom}
 use Rattle.moves.specs.Running.{Running, Succeeds}
 
@@ -37,22 +37,11 @@ arraysOf words blocks nexts links display table =
 
 module _ {code : List ℕ} {limit group : ℕ} {words : List ℤ} {blocks nexts links display : List ℕ} {table : List ℤ} {here : Registers}
     (w : Running code limit group words blocks nexts links display table here) where
-  -- the program is left
-  pub record Leaves (words′ table′ : List ℤ) : Type 0 where
-    pub ended : here .at ≡ here .end
-    pub alone : here .live ≡ 0
-    pub same-words : words′ ≡ words
-    pub same-table : table′ ≡ table
-
-  -- the statement has a cause to stop, and nothing is written
-  pub record Stops (c : Stop) (after : Arrays) : Type 0 where
-    pub stops : frameStep (limitsBy limit group) (w .standing .stack) ≡ halted c
-    pub same : after ≡ arraysOf words blocks nexts links display table
-
   abbrev pub Turned : Turn → List ℤ → List ℕ → List ℕ → List ℕ → List ℕ → List ℤ → Type 0
   Turned (Went here′) words′ blocks′ nexts′ links′ display′ table′ = Succeeds w words′ blocks′ nexts′ links′ display′ table′ here′
-  Turned Finished words′ blocks′ nexts′ links′ display′ table′ = Leaves words′ table′
-  Turned (Stopped c) words′ blocks′ nexts′ links′ display′ table′ = Stops c (arraysOf words′ blocks′ nexts′ links′ display′ table′)
+  Turned Finished words′ blocks′ nexts′ links′ display′ table′ = Leaves here words table words′ table′
+  Turned (Stopped c) words′ blocks′ nexts′ links′ display′ table′ =
+      Stops (limitsBy limit group) (w .standing .stack) c (arraysOf words blocks nexts links display table) (arraysOf words′ blocks′ nexts′ links′ display′ table′)
 
 -- The run of a program
 

@@ -1,7 +1,6 @@
 -- A step of the display engine, by what the statement comes to (`Done`): `act-means`. For each move: the engine goes on (`went-on`, `answered-on`), or
 -- is ready to jump or to enter (`jump-ready`, `enter-ready`), and stands behind the step once it has (`jumped-on`, `entered-on`).
-use Prim.Native.Nat.{ℕ, zero, suc, _≤_, _<_}
-use native.Mathlib.Omega.{arith}
+use Prim.Native.Nat.{ℕ, _≤_, _<_}
 use mathlib.Core.List.{List}
 use mathlib.Core.Path.{_≡_, refl, sym, ap, _∙_, subst}
 use lib.IntN.{ℤ}
@@ -20,14 +19,11 @@ use Rattle.run_state.specs.declared.Registers.{Registers}
 use Rattle.run_state.specs.declared.Turn.{Turn}
 use Rattle.run_state.specs.Scenes.{limitsBy, goesTo}
 use Rattle.display.specs.Finding.{byDisplay}
-use Rattle.display.specs.Turning.{arraysOf, Stops, Turned}
+use Rattle.display.specs.Turning.{arraysOf, Turned}
+use Rattle.run_state.specs.Turns.{Stops}
 use Rattle.moves.specs.Running.{Running, Doing, Succeeds, LeaveReady, JumpReady, EnterReady}
 use Rattle.statements.specs.Scenes.{Done}
 use Rattle.statements.specs.Answers.{Answered, turnAfter, done-goes, stopped-halts}
-
-pub above-zero : (n : ℕ) → (n ≡ 0 → ⊥) → 1 ≤ n
-above-zero zero d = absurd (d refl)
-above-zero (suc n) d = omega arith
 
 module _ {code : List ℕ} {limit group : ℕ} {words : List ℤ} {blocks nexts links display : List ℕ} {table : List ℤ} {here : Registers}
     (w : Running code limit group words blocks nexts links display table here) where
@@ -60,7 +56,7 @@ module _ {code : List ℕ} {limit group : ℕ} {words : List ℤ} {blocks nexts 
       }
 
   stops : (c : Cause) (words′ table′ : List ℤ) → (frameStep (limitsBy limit group) (w .standing .stack) ≡ halted c) × (words′ ≡ words) × (table′ ≡ table)
-      → Stops w c (arraysOf words′ blocks nexts links display table′)
+      → Stops (limitsBy limit group) (w .standing .stack) c (arraysOf words blocks nexts links display table) (arraysOf words′ blocks nexts links display table′)
   stops c words′ table′ m = record { stops = m .0; same = λ i. arraysOf (m .1 i) blocks nexts links display (m .2 i) }
 
   module _ (before : here .at ≡ here .end → ⊥) (r : Move) (words′ : List ℤ) (h : Done result r words′) where
@@ -126,5 +122,6 @@ module _ {code : List ℕ} {limit group : ℕ} {words : List ℤ} {blocks nexts 
 
     -- A cause to stop
 
-    pub stopped-at : (c : Cause) → r ≡ Stop c → Stops w c (arraysOf words′ blocks nexts links display table)
+    pub stopped-at : (c : Cause) → r ≡ Stop c → Stops (limitsBy limit group) (w .standing .stack) c (arraysOf words blocks nexts links display table)
+        (arraysOf words′ blocks nexts links display table)
     stopped-at c e = let m = means-as (Stop c) e in stops c words′ table (m .0, m .1, refl)

@@ -44,21 +44,21 @@ use Rattle.acting.specs.Acting.{acting}
 use Rattle.chain_statements.specs.Asking.{sceneOf}
 use Rattle.activations.specs.Records.{at}
 use Rattle.activations.specs.declared.Activation.{Activation}
-use Rattle.links.specs.declared.Now.{Now}
+use Rattle.run_state.specs.declared.Registers.{Registers}
 use Rattle.links.specs.declared.Entry.{Entry}
 use Rattle.links.specs.Finding.{byChain}
 use Rattle.links.specs.Running.{Running, EnterReady, Succeeds, nowBy}
 use Rattle.links.specs.Moving.{room-there, block-fits}
-use Rattle.links.proofs.Rows.{Code, Words, Rec, recs, nows, entries, fields-of-now}
-use Rattle.chain_steps.specs.declared.turn.Turn.{Turn}
-use Rattle.chain_steps.specs.declared.turn.Turn.the-variants.{Went}
+use Rattle.links.proofs.Rows.{Code, Words, Rec, recs, registers, entries, fields-of-registers}
+use Rattle.run_state.specs.declared.Turn.{Turn}
+use Rattle.run_state.specs.declared.Turn.the-variants.{Went}
 use Rattle.chain_steps.specs.declared.turn.Moved.{Moved}
 use Rattle.chain_steps.specs.Moves.{staysIn, isEntry, entryOf, homeAt, placeAt}
 use Rattle.chain_steps.specs.Moved.{isDone, turnOf, isEnter, entryIn, homeIn, placeIn}
 use Rattle.chain_steps.specs.Moved as by-move
 use Rattle.chain_steps.specs.Turning.{Turned, LeaveReady}
 use Rattle.chain_steps.specs.Turns as turned
-use Rattle.chain_steps.specs.Acted.{Stating, Does}
+use Rattle.chain_steps.specs.Acted.{Does}
 use Rattle.lending.specs.Clauses.{asks-all}
 use Rattle.lending.specs.Early.{ends-early, told, untold, not-equal}
 use Rattle.chain_steps.proofs.Rows.{moveds, turns}
@@ -145,10 +145,10 @@ abbrev Calls-resumed : {M : Type 1} (𝓤 : URA M) (H : Heap 𝓤) (A : Atoms �
 Calls-resumed 𝓤 H A mem run = tripleOf 𝓤 H A resumed.signature (resumed.spec 𝓤 H A mem run)
 
 abbrev stayed : Stays (f.ended .signature .params) (f.ended .kept)
-stayed = (stay-none-ref (0 ∷ []) tt (arrayOf (plain (λ _. u32)) 4096) yes, (gave-ref (1 ∷ []) tt (arrayOf (plain (λ _. i32)) 8224), (gave-slice (2 ∷ []) tt (plain (λ _. recs .type)), (gave-slice (3 ∷ []) tt (plain (λ _. i32)), (stay-none (λ _. words32 .type) yes, (stay-none (λ _. usizes .type) yes, (stay-none (λ _. nows .type) yes, tt)))))))
+stayed = (stay-none-ref (0 ∷ []) tt (arrayOf (plain (λ _. u32)) 4096) yes, (gave-ref (1 ∷ []) tt (arrayOf (plain (λ _. i32)) 8224), (gave-slice (2 ∷ []) tt (plain (λ _. recs .type)), (gave-slice (3 ∷ []) tt (plain (λ _. i32)), (stay-none (λ _. words32 .type) yes, (stay-none (λ _. usizes .type) yes, (stay-none (λ _. registers .type) yes, tt)))))))
 
 -- What the callees' answers come to, in lists and numbers
-module _ (code : List ℕ) (words : List ℤ) (records : List Activation) (table : List ℤ) (group limit : ℕ) (here : Now)
+module _ (code : List ℕ) (words : List ℤ) (records : List Activation) (table : List ℤ) (group limit : ℕ) (here : Registers)
     (pre : Running code limit group words records table here) where
   abbrev Said : Turn → List ℤ → List Activation → List ℤ → Type 0
   Said r words′ records′ table′ = (w : Running code limit group words records table here) → Turned w r words′ records′ table′
@@ -180,7 +180,7 @@ module _ (code : List ℕ) (words : List ℤ) (records : List Activation) (table
       ready = subst (EnterReady code words′ records here) (sym entry-by)
           (turned.enter-ready pre before (does .move) words′ table′ (does .did) (sym enters-is ∙ y))
 
-      entered-so : (words″ : List ℤ) (records″ : List Activation) (n : Now)
+      entered-so : (words″ : List ℤ) (records″ : List Activation) (n : Registers)
           → ((v : EnterReady code words′ records here entry) → Succeeds (v .running) words″ records″ (v .table) n)
           → (r : Turn) → r ≡ Went n → Said r words″ records″ table′
       entered-so words″ records″ n k r e w = subst (λ (t : Turn). Turned w t words″ records″ table′) (sym e)
@@ -216,8 +216,8 @@ module _ (code : List ℕ) (words : List ℤ) (records : List Activation) (table
             (turned.resumed-on w before (does .move) words′ table′ (does .did) z′ y′ a (a-is ∙ ap (at records) (home-is ∙ home-by)))
 
 module _ {M : Type 1} (𝓤 : URA M) (H : Heap 𝓤) (A : Atoms 𝓤) (W : Given 𝓤 H A) (mem : Memory → SProp 𝓤) (run : Routine → Fun 𝓤) (κ0 κ1 κ2 κ3 : Lft) (q0 q1 q2 q3 : Share)
-    (code# : RefT (List ℕ)) (words# : RefT (List ℤ)) (records# : RefT (List Activation)) (table# : RefT (List ℤ)) (group : ℕ) (limit : ℕ) (here : Now)
-    (room-records : Room (Rec) (length (records# .now))) (room-table : Room (i32) (length (table# .now))) (g-group : Good words32 group) (g-limit : Good usizes limit) (g-here : Good nows here)
+    (code# : RefT (List ℕ)) (words# : RefT (List ℤ)) (records# : RefT (List Activation)) (table# : RefT (List ℤ)) (group : ℕ) (limit : ℕ) (here : Registers)
+    (room-records : Room (Rec) (length (records# .now))) (room-table : Room (i32) (length (table# .now))) (g-group : Good words32 group) (g-limit : Good usizes limit) (g-here : Good registers here)
     (pre : Running (code# .now) limit group (words# .now) (records# .now) (table# .now) here) where
   abbrev h-code : Loan
   h-code = loanRef κ0 q0 code#
@@ -244,7 +244,7 @@ module _ {M : Type 1} (𝓤 : URA M) (H : Heap 𝓤) (A : Atoms 𝓤) (W : Given
   table = table# .now
 
   abbrev ps : List Par
-  ps = brw (shrRef Code) h-code code ∷ brw (mutRef Words) h-words words ∷ brw (mutSlice Rec) h-records records ∷ brw (mutSlice i32) h-table table ∷ dat words32 group ∷ dat usizes limit ∷ dat nows here ∷ []
+  ps = brw (shrRef Code) h-code code ∷ brw (mutRef Words) h-words words ∷ brw (mutSlice Rec) h-records records ∷ brw (mutSlice i32) h-table table ∷ dat words32 group ∷ dat usizes limit ∷ dat registers here ∷ []
 
   abbrev bound : walkOf 𝓤 H A f.ended stayed (f.clauses 𝓤 H A mem run) .Ghost
   bound = ((lfts ps, shares ps, tt, denots 0 ps, valss 0 ps), tt)
@@ -269,29 +269,29 @@ module _ {M : Type 1} (𝓤 : URA M) (H : Heap 𝓤) (A : Atoms 𝓤) (W : Given
       move ! (3 ∷ []) $ gives ! (mutSlice i32) h-table table′ $ move ! (3 ∷ 2 ∷ 1 ∷ []) $ by ! (exits r words′ records table′ refl same good says)
 
   g-live : Good usizes (here .live)
-  g-live = fields-of-now here g-here .0
+  g-live = fields-of-registers here g-here .0
 
   abbrev for-leave : ℕ → GName → List Par
-  for-leave ν δ = brw (shrRef Code) h-code code ∷ brw (shrSlice Rec) (relent h-records ν δ) records ∷ dat nows here ∷ []
+  for-leave ν δ = brw (shrRef Code) h-code code ∷ brw (shrSlice Rec) (relent h-records ν δ) records ∷ dat registers here ∷ []
 
   abbrev for-acted : ℕ → GName → ℕ → GName → ℕ → GName → List Par
   for-acted ν₁ δ₁ ν₂ δ₂ ν₃ δ₃ = brw (shrRef Code) h-code code ∷ brw (mutRef Words) (relent h-words ν₁ δ₁) words ∷ brw (shrSlice Rec)
-      (relent h-records ν₂ δ₂) records ∷ brw (mutSlice i32) (relent h-table ν₃ δ₃) table ∷ dat words32 group ∷ dat usizes limit ∷ dat nows here ∷ []
+      (relent h-records ν₂ δ₂) records ∷ brw (mutSlice i32) (relent h-table ν₃ δ₃) table ∷ dat words32 group ∷ dat usizes limit ∷ dat registers here ∷ []
 
   abbrev for-move : Moved → List Par
   for-move done = dat moveds done ∷ []
 
   abbrev for-enter : List ℤ → Entry → List Par
-  for-enter words′ entry = brw (shrRef Code) h-code code ∷ brw (mutRef Words) h-words words′ ∷ brw (mutSlice Rec) h-records records ∷ dat nows here ∷ dat entries entry ∷ []
+  for-enter words′ entry = brw (shrRef Code) h-code code ∷ brw (mutRef Words) h-words words′ ∷ brw (mutSlice Rec) h-records records ∷ dat registers here ∷ dat entries entry ∷ []
 
-  abbrev for-went : Now → List Par
-  for-went n = dat nows n ∷ []
+  abbrev for-went : Registers → List Par
+  for-went n = dat registers n ∷ []
 
   abbrev for-read : ℕ → ℕ → GName → List Par
   for-read home ν δ = brw (shrSlice Rec) (relent h-records ν δ) records ∷ dat usizes home ∷ []
 
   abbrev for-resumed : Moved → Activation → List Par
-  for-resumed done a = brw (shrRef Code) h-code code ∷ dat nows here ∷ dat moveds done ∷ dat recs a ∷ []
+  for-resumed done a = brw (shrRef Code) h-code code ∷ dat registers here ∷ dat moveds done ∷ dat recs a ∷ []
 
   module _ (C : Calls 𝓤 H) (Λ : Loops 𝓤 H) (fm : FmC 𝓤 H (W .laws) C) (known-leave : Triple 𝓤 (C #leave) (Calls-leave 𝓤 H A mem run)) (known-acted : Triple 𝓤 (C #acted) (Calls-acted 𝓤 H A mem run)) (known-is-done : Triple 𝓤 (C #is-done) (Calls-is-done 𝓤 H A mem run)) (known-turn-of : Triple 𝓤 (C #turn-of) (Calls-turn-of 𝓤 H A mem run)) (known-enters : Triple 𝓤 (C #enters) (Calls-enters 𝓤 H A mem run)) (known-entry-of : Triple 𝓤 (C #entry-of) (Calls-entry-of 𝓤 H A mem run)) (known-enter : Triple 𝓤 (C #enter) (Calls-enter 𝓤 H A mem run)) (known-went : Triple 𝓤 (C #went) (Calls-went 𝓤 H A mem run)) (known-home-of : Triple 𝓤 (C #home-of) (Calls-home-of 𝓤 H A mem run)) (known-read : Triple 𝓤 (C #read) (Calls-read 𝓤 H A mem run)) (known-resumed : Triple 𝓤 (C #resumed) (Calls-resumed 𝓤 H A mem run)) where
     abbrev τs : List Ty
@@ -299,7 +299,7 @@ module _ {M : Type 1} (𝓤 : URA M) (H : Heap 𝓤) (A : Atoms 𝓤) (W : Given
 
     walk : ent 𝓤 (onEntry 𝓤 H A f.signature (lfts ps) (shares ps) (denots 0 ps) (valss 0 ps)) (WpFn 𝓤 H C Λ mine.function (vals ps) Post)
     walk = via 𝓤 (⋆ 𝓤 H A (ins 𝓤 ps)) (arrives 𝓤 H A W 0 ps) (qed W (ins 𝓤 ps) ∵
-        begins ! C Λ mine.function (vals ps) Post ((tt, tt), ((tt, tt), ((tt, (tt, (record { fits = room-records .0 }, tt))), ((tt, (tt, (record { fits = room-table .0 }, tt))), (typed 𝓤 H A W words32 group g-group, (typed 𝓤 H A W usizes limit g-limit, (typed 𝓤 H A W nows here g-here, tt))))))) (λ β. move ! (1 ∷ 2 ∷ 3 ∷ 4 ∷ []) $
+        begins ! C Λ mine.function (vals ps) Post ((tt, tt), ((tt, tt), ((tt, (tt, (record { fits = room-records .0 }, tt))), ((tt, (tt, (record { fits = room-table .0 }, tt))), (typed 𝓤 H A W words32 group g-group, (typed 𝓤 H A W usizes limit g-limit, (typed 𝓤 H A W registers here g-here, tt))))))) (λ β. move ! (1 ∷ 2 ∷ 3 ∷ 4 ∷ []) $
         -- [the code; the words; the records; the table; the locals]
         puts ! 4 10 refl (bin ! (part ! 4 7 1 refl refl tt refl refl refl) (part ! 4 7 2 refl refl tt refl refl refl) tt) tt (tt, tt) $
         if-then ! (var ! 4 10 refl refl tt)
@@ -346,9 +346,9 @@ module _ {M : Type 1} (𝓤 : URA M) (H : Heap 𝓤) (A : Atoms 𝓤) (W : Given
         calls-by ! fm (Calls-entry-of 𝓤 H A mem run) known-entry-of (to (for-move done)) (for-move done) refl (g-done, tt) (Unit {0}) tt (asks-all 𝓤 H A (for-move done) []) entries _ (λ v. id⊢ 𝓤 _)
         (and-then ! (var ! 4 8 refl refl tt) (no-more !)) (λ entry _ g-entry entry-is _.
         lands-in ! 4 24 refl tt (typed 𝓤 H A W entries entry g-entry) $
-        calls-by ! fm (Calls-enter 𝓤 H A mem run) known-enter (to (for-enter (ws .1 .0) entry)) (for-enter (ws .1 .0) entry) refl (g-here, (g-entry, tt)) _ (ready code words records table group limit here pre before done (ws .1 .0) (ws .1 .1 .1 .0) did (sym x-is ∙ told x t₂) entry entry-is) (id⊢ 𝓤 _) nows _ (λ v. id⊢ 𝓤 _)
+        calls-by ! fm (Calls-enter 𝓤 H A mem run) known-enter (to (for-enter (ws .1 .0) entry)) (for-enter (ws .1 .0) entry) refl (g-here, (g-entry, tt)) _ (ready code words records table group limit here pre before done (ws .1 .0) (ws .1 .1 .1 .0) did (sym x-is ∙ told x t₂) entry entry-is) (id⊢ 𝓤 _) registers _ (λ v. id⊢ 𝓤 _)
         (and-then ! (var ! 4 1 refl refl tt) (and-then ! (var ! 4 21 refl refl tt) (and-then ! (var ! 4 23 refl refl tt) (and-then ! (var ! 4 7 refl refl tt) (and-then ! (var ! 4 24 refl refl tt) (no-more !)))))) (λ n us g-n k alike.
-        lands-in ! 4 20 refl tt (typed 𝓤 H A W nows n g-n) $
+        lands-in ! 4 20 refl tt (typed 𝓤 H A W registers n g-n) $
         calls-by ! fm (Calls-went 𝓤 H A mem run) known-went (to (for-went n)) (for-went n) refl (g-n, tt) (Unit {0}) tt (asks-all 𝓤 H A (for-went n) []) turns _ (λ v. id⊢ 𝓤 _)
         (and-then ! (var ! 4 20 refl refl tt) (no-more !)) (λ r _ good e _.
         lands-in ! 4 0 refl tt (typed 𝓤 H A W turns r good) $ ends-early ! 4 Post refl refl refl tt $
@@ -376,13 +376,13 @@ module _ {M : Type 1} (𝓤 : URA M) (H : Heap 𝓤) (A : Atoms 𝓤) (W : Given
     (known-leave : Triple 𝓤 (𝓣 .C #leave) (Calls-leave 𝓤 H A mem run)) (known-acted : Triple 𝓤 (𝓣 .C #acted) (Calls-acted 𝓤 H A mem run)) (known-is-done : Triple 𝓤 (𝓣 .C #is-done) (Calls-is-done 𝓤 H A mem run)) (known-turn-of : Triple 𝓤 (𝓣 .C #turn-of) (Calls-turn-of 𝓤 H A mem run)) (known-enters : Triple 𝓤 (𝓣 .C #enters) (Calls-enters 𝓤 H A mem run)) (known-entry-of : Triple 𝓤 (𝓣 .C #entry-of) (Calls-entry-of 𝓤 H A mem run)) (known-enter : Triple 𝓤 (𝓣 .C #enter) (Calls-enter 𝓤 H A mem run)) (known-went : Triple 𝓤 (𝓣 .C #went) (Calls-went 𝓤 H A mem run)) (known-home-of : Triple 𝓤 (𝓣 .C #home-of) (Calls-home-of 𝓤 H A mem run)) (known-read : Triple 𝓤 (𝓣 .C #read) (Calls-read 𝓤 H A mem run)) (known-resumed : Triple 𝓤 (𝓣 .C #resumed) (Calls-resumed 𝓤 H A mem run)) where
   walks : Walks 𝓤 H A f.ended stayed (WpFn 𝓤 H (𝓣 .C) (𝓣 .Λ) mine.function) (f.clauses 𝓤 H A mem run)
   walks = walked 𝓤 H A f.ended stayed (f.clauses 𝓤 H A mem run) (WpFn 𝓤 H (𝓣 .C) (𝓣 .Λ) mine.function)
-      (λ κs. (ptr-vals, (ptr-vals, (slice-vals, (slice-vals, ((λ (x : ℕ). words32 .val x ∷ []), ((λ (x : ℕ). usizes .val x ∷ []), ((λ (x : Now). nows .val x ∷ []), tt)))))))) (λ κs. (shr-tells (named 0) (κs .0) Code, (mut-tells (named 1) (κs .1 .0) Words, (mut-slice-tells (named 2) (κs .1 .1 .0) Rec, (mut-slice-tells (named 3) (κs .1 .1 .1 .0) i32, (words32 .tells, (usizes .tells, (nows .tells, tt))))))))
+      (λ κs. (ptr-vals, (ptr-vals, (slice-vals, (slice-vals, ((λ (x : ℕ). words32 .val x ∷ []), ((λ (x : ℕ). usizes .val x ∷ []), ((λ (x : Registers). registers .val x ∷ []), tt)))))))) (λ κs. (shr-tells (named 0) (κs .0) Code, (mut-tells (named 1) (κs .1 .0) Words, (mut-slice-tells (named 2) (κs .1 .1 .0) Rec, (mut-slice-tells (named 3) (κs .1 .1 .1 .0) i32, (words32 .tells, (usizes .tells, (registers .tells, tt))))))))
       (λ κs qs bounds a g are. needs 𝓤 (Running ((a .0) .now) (a .1 .1 .1 .1 .1 .0) (a .1 .1 .1 .1 .0) ((a .1 .0) .now) ((a .1 .1 .0) .now) ((a .1 .1 .1 .0) .now)
       (a .1 .1 .1 .1 .1 .1 .0)) _ (λ l. walk 𝓤 H A W mem run (κs .0) (κs .1 .0) (κs .1 .1 .0) (κs .1 .1 .1 .0) (qs .0) (qs .1 .0) (qs .1 .1 .0) (qs .1 .1 .1 .0) (a .0) (a .1 .0) (a .1 .1 .0) (a .1 .1 .1 .0) (a .1 .1 .1 .1 .0) (a .1 .1 .1 .1 .1 .0) (a .1 .1 .1 .1 .1 .1 .0) (are .1 .1 .0 .0 .1) (are .1 .1 .1 .0 .0 .1) (are .1 .1 .1 .1 .0) (are .1 .1 .1 .1 .1 .0) (are .1 .1 .1 .1 .1 .1 .0) l
       (𝓣 .C) (𝓣 .Λ) (fmOf 𝓤 H (W .laws) 𝓣) known-leave known-acted known-is-done known-turn-of known-enters known-entry-of known-enter known-went known-home-of known-read known-resumed))
 
   meets : Meets 𝓤 H A f.signature (WpFn 𝓤 H (𝓣 .C) (𝓣 .Λ) mine.function) (f.spec 𝓤 H A mem run)
-  meets = walk-meets 𝓤 H A f.ended stayed W (goes-none-ref 𝓤 H A W 4 (0 ∷ []) tt (arrayOf (plain (λ _. u32)) 4096) yes, (goes-gave-ref 𝓤 H A W 4 1 tt (arrayOf (plain (λ _. i32)) 8224), (goes-gave-slice 𝓤 H A W 4 2 tt (plain (λ _. recs .type)), (goes-gave-slice 𝓤 H A W 4 3 tt (plain (λ _. i32)), (goes-none 𝓤 H A W 4 (λ _. words32 .type) yes (λ κs x f. refl), (goes-none 𝓤 H A W 4 (λ _. usizes .type) yes (λ κs x f. refl), (goes-none 𝓤 H A W 4 (λ _. nows .type) yes (λ κs x f. refl), tt))))))) (f.clauses 𝓤 H A mem run)
+  meets = walk-meets 𝓤 H A f.ended stayed W (goes-none-ref 𝓤 H A W 4 (0 ∷ []) tt (arrayOf (plain (λ _. u32)) 4096) yes, (goes-gave-ref 𝓤 H A W 4 1 tt (arrayOf (plain (λ _. i32)) 8224), (goes-gave-slice 𝓤 H A W 4 2 tt (plain (λ _. recs .type)), (goes-gave-slice 𝓤 H A W 4 3 tt (plain (λ _. i32)), (goes-none 𝓤 H A W 4 (λ _. words32 .type) yes (λ κs x f. refl), (goes-none 𝓤 H A W 4 (λ _. usizes .type) yes (λ κs x f. refl), (goes-none 𝓤 H A W 4 (λ _. registers .type) yes (λ κs x f. refl), tt))))))) (f.clauses 𝓤 H A mem run)
       (WpFn 𝓤 H (𝓣 .C) (𝓣 .Λ) mine.function) (WpFn-mono 𝓤 H (W .laws) 𝓣 mine.function) walks
 
 pub step-spec : {M : Type 1} → stated.statement M

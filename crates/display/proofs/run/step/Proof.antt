@@ -1,6 +1,7 @@
 -- `step` meets its contract: at the end of the text the activation is left, and before it the statement is done.
 use mathlib.Core.Path.{refl}
-use Rattle.display.specs.Turns.{above-zero, leave-ready, left-on, doing, went-on, asked-there, answered-on, jump-ready, jumped-on, enter-ready, entered-on, stopped-at}
+use Rattle.run_state.specs.Turns.{above-zero}
+use Rattle.display.specs.Turns.{leave-ready, left-on, doing, went-on, asked-there, answered-on, jump-ready, jumped-on, enter-ready, entered-on, stopped-at}
 use borrow.Author.Needs.{needs}
 use Rattle.display.proofs.run.step.Statement.{statement}
 use Rattle.display.proofs.run.step.Tie as tie

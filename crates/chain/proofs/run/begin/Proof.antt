@@ -1,7 +1,7 @@
--- `start` meets its contract.
+-- `begin` meets its contract.
 use borrow.Author.Needs.{needs}
-use Rattle.chain.proofs.run.start.Statement.{statement}
-use Rattle.chain.proofs.run.start.Tie as tie
+use Rattle.chain.proofs.run.begin.Statement.{statement}
+use Rattle.chain.proofs.run.begin.Tie as tie
 
 code-at-requires : tie.Need-code-at-requires
 code-at-requires c κs = search needs
@@ -12,5 +12,5 @@ code-at-requires-2 c κs = search needs
 returns : tie.Need-returns
 returns c = rw (c .code-at2 .ensures .0, c .before .code-at .ensures .0)
 
-pub start-spec : {M : Type 1} → statement M
-start-spec = tie.close (tie.spec code-at-requires code-at-requires-2 returns)
+pub begin-spec : {M : Type 1} → statement M
+begin-spec = tie.close (tie.spec code-at-requires code-at-requires-2 returns)
