@@ -1,6 +1,8 @@
 // A step: the names of the next statement are found by following links from the innermost activation, the statement is done, and the records are put
 // right where another activation becomes the innermost one.
 use super::acted::acted;
+use super::turn::answered;
+use super::turn::asks;
 use super::turn::below;
 use super::turn::enters;
 use super::turn::entry_of;
@@ -48,9 +50,12 @@ pub fn step(
     if here.at == here.end {
         return leave(code, records, here);
     }
-    let done = acted(code, words, records, table, group, limit, here);
+    let done = acted(code, words, records, limit, here);
     if is_done(done) {
         return turn_of(done);
+    }
+    if asks(done) {
+        return answered(table, words, group, here, done);
     }
     if enters(done) {
         return went(enter(code, words, records, here, entry_of(done)));

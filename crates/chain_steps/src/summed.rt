@@ -20,8 +20,8 @@ pub fn summed(
 ) -> Moved
     requires { ⌜ Summing (now code) (now words) (now records) here own class ⌝ }
     ensures { λ r. ⌜ ((w : Summing (now (code .entry)) (now (words .entry)) (now (records .entry)) here own class)
-        → Does (happening (now (code .entry)) (now (words .entry)) (now (records .entry)) (w .table) (w .group) (w .limit) here)
-        (now (words .entry)) here r (now (words .exit)) (w .table)) ⌝ }
+        → Does (happening (now (code .entry)) (now (words .entry)) (now (records .entry)) (w .limit) here)
+        (now (words .entry)) here r (now (words .exit))) ⌝ }
 {
     if class == 1 {
         let second = first_cell(code, records, here, own, 3);

@@ -163,7 +163,7 @@ module _ {M : Type 1} (𝓤 : URA M) (H : Heap 𝓤) (A : Atoms 𝓤) (W : Given
 
   abbrev Said : Moved → List ℤ → Type 0
   Said r words′ = (w : Summing code words records here own class)
-      → Does (happening code words records (w .table) (w .group) (w .limit) here) words here r words′ (w .table)
+      → Does (happening code words records (w .limit) here) words here r words′
 
   exits : (r : Moved) (words′ : List ℤ) → Good moveds r → Said r words′
       → ent 𝓤 (⋆ 𝓤 H A (outs 𝓤 0 ps (tt, (words′, (tt, (tt, (tt, (tt, tt)))))))) (Kf (moveds .val r))
@@ -197,7 +197,7 @@ module _ {M : Type 1} (𝓤 : URA M) (H : Heap 𝓤) (A : Atoms 𝓤) (W : Given
   by-formals w e = acts.through-formals (w .stating) (is-class w 4 e)
 
   so : (r : Move) (m : Moved) → m ≡ movedBy here r → {words′ : List ℤ}
-      → ((w : W#) → Did (happening code words records (w .table) (w .group) (w .limit) here) words r words′ (w .table)) → Said m words′
+      → ((w : W#) → Did (happening code words records (w .limit) here) words r words′) → Said m words′
   so r m e did w = record { move = r; did = did w; so = e }
 
   g-at : Good usizes (here .at)

@@ -12,9 +12,6 @@ placed-requires c κs = search needs
 enum-known-done-2 : tie.Need-enum-known-done-2
 enum-known-done-2 c = search needs
 
-placed-requires-2 : tie.Need-placed-requires-2
-placed-requires-2 c κs = search needs
-
 enum-known-done-3 : tie.Need-enum-known-done-3
 enum-known-done-3 c = search needs
 
@@ -31,7 +28,7 @@ returns : tie.Need-returns
 returns c = rw (c .placed .ensures, c .before .before .done .given .1)
 
 returns-2 : tie.Need-returns-2
-returns-2 c = rw (c .placed2 .ensures, c .before .before .done2 .given .1)
+returns-2 c = rw (c .before .done2 .given .1)
 
 returns-3 : tie.Need-returns-3
 returns-3 c = rw (c .jumped .ensures, c .before .before .done3 .given .1)
@@ -49,7 +46,6 @@ came-to-spec =
     enum-known-done
     placed-requires
     enum-known-done-2
-    placed-requires-2
     enum-known-done-3
     jumped-requires
     enum-known-done-4

@@ -15,6 +15,9 @@ enum-known-moved-3 c = search needs
 enum-known-moved-4 : tie.Need-enum-known-moved-4
 enum-known-moved-4 c = search needs
 
+enum-known-moved-5 : tie.Need-enum-known-moved-5
+enum-known-moved-5 c = search needs
+
 returns : tie.Need-returns
 returns c = rw (c .before .moved .given .1)
 
@@ -27,6 +30,9 @@ returns-3 c = rw (c .before .moved3 .given .1)
 returns-4 : tie.Need-returns-4
 returns-4 c = rw (c .before .moved4 .given .1)
 
+returns-5 : tie.Need-returns-5
+returns-5 c = rw (c .before .moved5 .given .1)
+
 pub turn-of-spec : {M : Type 1} → statement M
 turn-of-spec =
     tie.close
@@ -35,7 +41,9 @@ turn-of-spec =
     enum-known-moved-2
     enum-known-moved-3
     enum-known-moved-4
+    enum-known-moved-5
     returns
     returns-2
     returns-3
-    returns-4)
+    returns-4
+    returns-5)
