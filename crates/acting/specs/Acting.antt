@@ -1,6 +1,6 @@
--- What the statement at a place of the resolved script does to an engine's arrays, as a function: the move that it makes, and the words and the
--- table after it. `Finding` is how the engine finds a name from its word. Engines are held to `acting`, and the frame machine's step is what
--- it comes to (the laws stand in crate `steps`).
+-- What the statement at a place of the resolved script does to an engine's arrays, as a function: the move that it makes, and the words after
+-- it. `Finding` is how the engine finds a name from its word. A move that asks the membership table comes to what the table answers (`answer`).
+-- Engines are held to `acting` and `answer`, and the frame machine's step is what they come to (the laws stand in crate `steps`).
 use Prim.Native.Nat.{ℕ, zero, suc, _+_, _*_, _-_, _/_, _%_}
 use mathlib.Core.Bool.{Bool, true, false, _&&_}
 use mathlib.Core.List.{List, [], _∷_}
@@ -11,13 +11,15 @@ use Rattle.language.specs.Basics.{eqZ}
 use Rattle.language.specs.Text.{Operation, plus, minus, less}
 use Rattle.language.specs.Encoding.{signed}
 use Rattle.language.specs.Table.{Table, Effect, leaves, halts, Asked, gives, refuses, added, removed, queried}
-use Rattle.language.specs.Machine.{Limits, compute}
+use Rattle.language.specs.Machine.{compute}
 use Rattle.language.specs.declared.Stop.{Stop}
 use Rattle.language.specs.declared.Stop.the-variants.{NoActivationLeft, ArgumentsDiffer}
 use Rattle.acting.specs.declared.Effect.{Effect as Done-or-not}
 use Rattle.acting.specs.declared.Effect.the-variants.{Done, Stopped}
 use Rattle.acting.specs.declared.Move.{Move}
-use Rattle.acting.specs.declared.Move.the-variants.{On, Pairs, Jump, Enter, Stop as Halt}
+use Rattle.acting.specs.declared.Ask.{Ask}
+use Rattle.acting.specs.declared.Ask.the-variants.{Add, Remove, Query}
+use Rattle.acting.specs.declared.Move.the-variants.{On, Table as Asks, Jump, Enter, Stop as Halt}
 use Rattle.acting.specs.Effects.{effectOf, wordsOf, sameKinds}
 
 -- By a name's word: the cell of the declared name that it finally stands for, the activation that declares that name, what it leads to, and
@@ -32,26 +34,26 @@ pub record Finding : Type 0 where
 pub record Scene : Type 0 where
   pub code : List ℕ
   pub words : List ℤ
-  pub table : List ℤ
-  pub pairs : ℕ
-  pub limits : Limits
+  pub limit : ℕ
   pub live : ℕ
   pub at : ℕ
+
+abbrev pub sceneBy : List ℕ → List ℤ → ℕ → ℕ → ℕ → Scene
+sceneBy code words limit live at = record { code = code; words = words; limit = limit; live = live; at = at }
 
 pub record Happened : Type 0 where
   pub move : Move
   pub words : List ℤ
-  pub table : List ℤ
 
 -- the word so many places behind the operation
 abbrev pub field : Scene → ℕ → ℕ
 field s i = getD (s .code) (s .at + i) 0
 
 unfoldable pub moves : Scene → Move → Happened
-moves s m = record { move = m; words = s .words; table = s .table }
+moves s m = record { move = m; words = s .words }
 
 unfoldable pub rewrites : Scene → Move → List ℤ → Happened
-rewrites s m ws = record { move = m; words = ws; table = s .table }
+rewrites s m ws = record { move = m; words = ws }
 
 -- AR's operation by its field
 unfoldable pub operationOf : ℕ → Operation
@@ -88,7 +90,7 @@ module _ (F : Finding) (s : Scene) where
 
   -- D activations are live: 22
   unfoldable pub noRoom : Bool
-  noRoom = leb (s .limits .activations) (s .live + 1)
+  noRoom = leb (s .limit) (s .live + 1)
 
   unfoldable pub doBlock : Happened
   doBlock = elim noRoom [ true ↦ moves s (Halt NoActivationLeft) | false ↦ moves s (Enter (s .at) (s .live) (field s 1 % 65536)) ]
@@ -114,25 +116,12 @@ module _ (F : Finding) (s : Scene) where
   unfoldable pub doCallFormal : Happened
   doCallFormal = elim (argumentsAgree (F .target (field s 1))) [ true ↦ doCall | false ↦ moves s (Halt ArgumentsDiffer) ]
 
-  unfoldable pub changes : Effect → Happened
-  changes (leaves t) = record { move = Pairs (s .at + 3) (t .used); words = s .words; table = t .words }
-  changes (halts c) = moves s (Halt c)
-
-  abbrev pub tableNow : Table
-  tableNow = record { words = s .table; used = s .pairs }
-
-  unfoldable pub doAdd : Happened
-  doAdd = changes (added (s .limits .group) (valueOf (field s 1)) (valueOf (field s 2)) tableNow)
-
-  unfoldable pub doRemove : Happened
-  doRemove = changes (removed (valueOf (field s 1)) (valueOf (field s 2)) tableNow)
-
-  unfoldable pub answers : Asked → Happened
-  answers (gives z) = rewrites s (On (s .at + 4)) (set (s .words) (F .cell (field s 1)) z)
-  answers (refuses c) = moves s (Halt c)
+  -- AD and RM
+  unfoldable pub doChange : Ask → Happened
+  doChange a = moves s (Asks (s .at + 3) (F .cell (field s 1)) (F .cell (field s 2)) 0 a)
 
   unfoldable pub doQuery : Happened
-  doQuery = answers (queried (valueOf (field s 2)) (valueOf (field s 3)) tableNow)
+  doQuery = moves s (Asks (s .at + 4) (F .cell (field s 2)) (F .cell (field s 3)) (F .cell (field s 1)) Query)
 
 -- The operations in the order of their numbers.
 pub data Op : Type 0 where
@@ -156,8 +145,8 @@ happens F s branch-op = doBranch F s
 happens F s goto-op = doGoto F s
 happens F s block-op = doBlock F s
 happens F s call-op = doCall F s
-happens F s pair-op = doAdd F s
-happens F s unpair-op = doRemove F s
+happens F s pair-op = doChange F s Add
+happens F s unpair-op = doChange F s Remove
 happens F s query-op = doQuery F s
 happens F s constant-formal-op = doConstant F s
 happens F s arithmetic-formal-op = doArithmetic F s (operationOf (field s 2))
@@ -167,3 +156,21 @@ happens F s call-formal-op = doCallFormal F s
 
 unfoldable pub acting : Finding → Scene → Happened
 acting F s = happens F s (opOf (field s 0))
+
+-- What the table answers: the table after it or the cause to stop, and the words after it.
+pub record Answer : Type 0 where
+  pub effect : Effect
+  pub words : List ℤ
+
+module _ (limit : ℕ) (words : List ℤ) (table : Table) (group member target : ℕ) where
+  abbrev pub valueAt : ℕ → ℤ
+  valueAt cell = getD words cell (pos 0)
+
+  unfoldable pub stored : Asked → Answer
+  stored (gives z) = record { effect = leaves table; words = set words target z }
+  stored (refuses c) = record { effect = halts c; words = words }
+
+  unfoldable pub answer : Ask → Answer
+  answer Add = record { effect = added limit (valueAt group) (valueAt member) table; words = words }
+  answer Remove = record { effect = removed (valueAt group) (valueAt member) table; words = words }
+  answer Query = stored (queried (valueAt group) (valueAt member) table)

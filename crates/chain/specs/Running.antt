@@ -1,4 +1,5 @@
--- What a run begins with (`Beginning`), and what it ends with (`Ended`): the frame machine's result, with the records and words that hold its stack.
+-- What a run begins with (`Beginning`), and what it ends with (`Ended`, and from where the engine stands, `RunFrom`): the frame machine's result, with
+-- the records and words that hold its stack.
 use Prim.Native.Nat.{ℕ, _≤_, _<_}
 use mathlib.Core.Bool.{true}
 use mathlib.Core.List.{List}
@@ -8,13 +9,15 @@ use lib.ListN.{length, getD}
 use Rattle.language.specs.Text.{Block}
 use Rattle.language.specs.Table.{right}
 use Rattle.grammar.specs.Rules.{Keeps}
-use Rattle.frames.specs.Frame.{Result, linksFollowed}
+use Rattle.frames.specs.Frame.{Result, linksFollowed, frameRun}
 use Rattle.resolved.specs.Resolved.{resolvedOf, Covers}
-use Rattle.steps.specs.Underway as steps
 use Rattle.activations.specs.declared.Activation.{Activation}
+use Rattle.run_state.specs.declared.Registers.{Registers}
+use Rattle.run_state.specs.declared.Halt.{Halt}
+use Rattle.run_state.specs.Scenes.{limitsBy}
+use Rattle.run_state.specs.Ended as state
 use Rattle.links.specs.Records.{blocksIn, nextsIn, linksIn}
-use Rattle.links.specs.Running.{limitsBy}
-use Rattle.chain.specs.declared.run.Halt.{Halt}
+use Rattle.links.specs.Running.{Running}
 
 -- what a run begins with: the resolved script of a program that keeps the rules, words of zeros for the program's names, records for as many
 -- activations as may be live, whatever they hold, limits in range and a right table
@@ -30,9 +33,17 @@ pub record Beginning (code : List ℕ) (words : List ℤ) (records : List Activa
   pub zeros : (i : ℕ) → i < 32 → getD words i (pos 0) ≡ pos 0
   pub room : limit ≤ length records
 
--- what it ends with: the frame machine's result, the links followed for the looked-up name, and the records as long as may be live
-pub record Ended (program : Block) (name limit group : ℕ) (result : Result) (r : Halt) (words : List ℤ) (records : List Activation) (table : List ℤ)
-    : Type 0 where
-  pub ended : steps.Ended program name (limitsBy limit group) result (r .end) (r .steps) (r .offset) (r .pairs) (r .live) (r .designator) words
-      (blocksIn records) (nextsIn records) (linksIn records) table
+-- what it ends with, from a stack at which so many steps are done: the frame machine's result, and the links followed for the looked-up name
+pub record EndedFrom (done : ℕ) (program : Block) (name limit group : ℕ) (result : Result) (r : Halt) (words : List ℤ) (records : List Activation)
+    (table : List ℤ) : Type 0 where
+  pub ended : state.EndedFrom done program name (limitsBy limit group) result r words (blocksIn records) (nextsIn records) (linksIn records) table
   pub links-are : r .links ≡ linksFollowed (result .final .frames) name
+
+abbrev pub Ended : Block → ℕ → ℕ → ℕ → Result → Halt → List ℤ → List Activation → List ℤ → Type 0
+Ended = EndedFrom 0
+
+abbrev pub RunFrom : {code : List ℕ} {limit group : ℕ} {words : List ℤ} {records : List Activation} {table : List ℤ} {here : Registers}
+    → Running code limit group words records table here → ℕ → Halt → List ℤ → List Activation → List ℤ → Type 0
+RunFrom {limit = limit} {group = group} w allowance r words′ records′ table′ =
+    let s = w .standing in
+    EndedFrom (s .stack .steps) (s .program) (s .name) limit group (frameRun (limitsBy limit group) allowance (s .stack)) r words′ records′ table′

@@ -1,34 +1,39 @@
 // The end of a run.
-use super::run::Halt;
 use activations::Activation;
-use chain_steps::Turn;
-use language::End;
 use links::Found;
-use links::Now;
 use links::settle;
+use run_state::Halt;
+use run_state::Registers;
+use run_state::Turn;
+use run_state::finished;
+use run_state::spent;
+use run_state::stopped;
 ghost use mathlib.Core.Bool.{not};
 ghost use mathlib.Core.Path.{_≡_};
-ghost use Prim.Native.Nat.{_+_, _*_, _-_, _<_, _≤_};
-ghost use Rattle.chain.specs.Running.{Ended};
+ghost use Prim.Native.Nat.{_+_, _-_, _<_, _≤_};
+ghost use Rattle.run_state.specs.Halts.{finishedAfter};
 ghost use Rattle.chain_steps.specs.Moves.{isFinished, isWent, nextIn};
-ghost use Rattle.chain.specs.Ending.{Ending, finishedBy, haltBy};
+ghost use Rattle.chain.specs.Running.{RunFrom};
+ghost use Rattle.chain.specs.Ending.{Ending, haltBy};
 
 pub fn halts(turn: Turn) -> bool
     ensures { λ r. ⌜ r ≡ not (isWent turn) ⌝ }
 {
     match turn {
         Turn::Went(next) => false,
-        _ => true,
+        Turn::Finished => true,
+        Turn::Stopped(cause) => true,
     }
 }
 
 // The state behind a step; where there is none, any.
-pub fn next_of(here: Now, turn: Turn) -> Now
+pub fn next_of(here: Registers, turn: Turn) -> Registers
     ensures { λ r. ⌜ r ≡ nextIn here turn ⌝ }
 {
     match turn {
         Turn::Went(next) => next,
-        _ => here,
+        Turn::Finished => here,
+        Turn::Stopped(cause) => here,
     }
 }
 
@@ -36,56 +41,30 @@ fn is_finished(turn: Turn) -> bool
     ensures { λ r. ⌜ r ≡ isFinished turn ⌝ }
 {
     match turn {
+        Turn::Went(next) => false,
         Turn::Finished => true,
-        _ => false,
+        Turn::Stopped(cause) => false,
     }
 }
 
 // The program was left.
-fn finished_halt(here: Now, allowance: u32, left: u32) -> Halt
+fn finished_halt(here: Registers, allowance: u32, left: u32) -> Halt
     requires { ⌜ (left ≤ allowance) × (1 ≤ left) ⌝ }
-    ensures { λ r. ⌜ r ≡ finishedBy here allowance left ⌝ }
+    ensures { λ r. ⌜ r ≡ finishedAfter here (allowance - left + 1) ⌝ }
 {
-    Halt {
-        end: End::Finished,
-        steps: allowance - left + 1,
-        offset: 0,
-        live: 0,
-        pairs: here.pairs,
-        designator: 0,
-        links: 0,
-    }
+    finished(here, allowance - left + 1)
 }
 
 // Activations are left live: the allowance is spent, or a statement has a cause to stop.
-fn halted(here: Now, turn: Turn, found: Found, allowance: u32, left: u32) -> Halt
+fn halted(here: Registers, turn: Turn, found: Found, allowance: u32, left: u32) -> Halt
     requires { ⌜ (left ≤ allowance) × (here .at ≤ 4096) × (here .live < 256) ⌝ }
     ensures { λ r. ⌜ r ≡ haltBy here turn found allowance left ⌝ }
 {
     let steps = allowance - left;
-    let live = here.live + 1;
-    let pairs = here.pairs;
-    let designator = found.designator;
-    let links = found.links;
     match turn {
-        Turn::Stopped(cause) => Halt {
-            end: End::Stopped(cause),
-            steps,
-            offset: 2 * here.at,
-            live,
-            pairs,
-            designator,
-            links,
-        },
-        _ => Halt {
-            end: End::Spent,
-            steps,
-            offset: 0,
-            live,
-            pairs,
-            designator,
-            links,
-        },
+        Turn::Went(next) => spent(here, steps, found.designator, found.links),
+        Turn::Finished => spent(here, steps, found.designator, found.links),
+        Turn::Stopped(cause) => stopped(here, cause, steps, found.designator, found.links),
     }
 }
 
@@ -94,7 +73,7 @@ pub fn ended(
     code: &[u32; 4096],
     words: &[i32; 8224],
     records: &mut [Activation],
-    here: Now,
+    here: Registers,
     turn: Turn,
     allowance: u32,
     left: u32,
@@ -102,7 +81,7 @@ pub fn ended(
     requires { ⌜ Ending (now code) (now words) (now records) here turn allowance left ⌝ }
     ensures { λ r.
         ⌜ ((e : Ending (now (code .entry)) (now (words .entry)) (now (records .entry)) here turn allowance left)
-        → Ended (e .program) (e .name) (e .limit) (e .group) (e .result) r (now (words .entry)) (now (records .exit)) (e .table)) ⌝ }
+        → RunFrom (e .from) allowance r (now (words .entry)) (now (records .exit)) (e .table)) ⌝ }
 {
     if is_finished(turn) {
         return finished_halt(here, allowance, left);

@@ -1,5 +1,4 @@
 // The static-chain engine: a name is found by following the links of the activation records, which lie in a lent slice.
-pub use run::Halt;
 pub use run::run_program;
 pub use sheet::write_sheet;
 

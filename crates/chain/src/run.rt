@@ -6,27 +6,46 @@ use activations::Activation;
 use activations::push;
 use chain_steps::step;
 use chain_steps::went;
-use language::End;
-use links::Now;
-use links::narrow;
+use run_state::Halt;
+use run_state::Registers;
+use run_state::narrow_u32;
 use stepping::code_at;
 ghost use mathlib.Core.Path.{_≡_};
 ghost use Prim.Native.Nat.{_/_, _%_};
-ghost use lib.ListN.{getD};
 ghost use Rattle.frames.specs.Frame.{frameRun, frameStart};
-ghost use Rattle.links.specs.Running.{limitsBy, activationOf};
-ghost use Rattle.chain.specs.Running.{Beginning, Ended};
+ghost use Rattle.run_state.specs.Scenes.{limitsBy};
+ghost use Rattle.links.specs.Running.{activationOf, Running};
+ghost use Rattle.chain.specs.Running.{Beginning, Ended, RunFrom};
 ghost use Rattle.chain.specs.Ending.{startBy};
 
-// How a run has ended: how many activations are live, and what the looked-up name is.
-pub struct Halt {
-    pub end: End,
-    pub steps: u32,
-    pub offset: usize,
-    pub live: usize,
-    pub pairs: usize,
-    pub designator: u32,
-    pub links: u32,
+// From any state in which the engine can stand.
+pub fn run(
+    code: &[u32; 4096],
+    words: &mut [i32; 8224],
+    records: &mut [Activation],
+    table: &mut [i32],
+    group: u32,
+    limit: usize,
+    allowance: u32,
+    start: Registers,
+) -> Halt
+    requires { ⌜ Running (now code) limit group (now words) (now records) (now table) start ⌝ }
+    ensures { λ r.
+        ⌜ ((w : Running (now (code .entry)) limit group (now (words .entry)) (now (records .entry)) (now (table .entry)) start)
+        → RunFrom w allowance r (now (words .exit)) (now (records .exit)) (now (table .exit))) ⌝ }
+{
+    let mut here = start;
+    let mut turn = went(start);
+    let mut left = allowance;
+    while 0 < left {
+        turn = step(code, words, records, table, group, limit, here);
+        if halts(turn) {
+            break;
+        }
+        here = next_of(here, turn);
+        left = left - 1;
+    }
+    ended(code, words, records, here, turn, allowance, left)
 }
 
 // The program's record, and the state in which it begins.
@@ -35,22 +54,23 @@ fn program_record(code: &[u32; 4096]) -> Activation
 {
     Activation {
         block: 0,
-        next: narrow(code_at(code, 1) / 65536),
+        next: narrow_u32(code_at(code, 1) / 65536),
         link: 0,
     }
 }
 
-fn start(code: &[u32; 4096], pairs: usize) -> Now
+fn begin(code: &[u32; 4096], pairs: usize) -> Registers
     ensures { λ r. ⌜ r ≡ startBy (now (code .entry)) pairs ⌝ }
 {
     let head = code_at(code, 0);
     let bounds = code_at(code, 1);
-    Now {
+    Registers {
         live: 0,
         at: bounds / 65536,
         end: bounds % 65536,
         pairs,
         level: head / 256 % 256,
+        fresh: 0,
     }
 }
 
@@ -73,16 +93,6 @@ pub fn run_program(
         r (now (words .exit)) (now (records .exit)) (now (table .exit))) ⌝ }
 {
     push(records, 0, program_record(code));
-    let mut here = start(code, pairs);
-    let mut turn = went(here);
-    let mut left = allowance;
-    while 0 < left {
-        turn = step(code, words, records, table, group, limit, here);
-        if halts(turn) {
-            break;
-        }
-        here = next_of(here, turn);
-        left = left - 1;
-    }
-    ended(code, words, records, here, turn, allowance, left)
+    let start = begin(code, pairs);
+    run(code, words, records, table, group, limit, allowance, start)
 }

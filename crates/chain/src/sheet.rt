@@ -1,7 +1,7 @@
 // The sheet, written from the activation records.
 use activations::Activation;
 use activations::read;
-use links::wide;
+use run_state::wide_u32;
 use sheets::write_activation;
 ghost use mathlib.Core.List.{List, _∷_, _++_};
 ghost use mathlib.Core.Path.{_≡_};
@@ -34,8 +34,8 @@ fn write_record(
     write_activation(
         code,
         words,
-        wide(activation.block),
-        wide(activation.next),
+        wide_u32(activation.block),
+        wide_u32(activation.next),
         32 * k,
         sheet,
         at,

@@ -22,9 +22,9 @@ use Rattle.replies.specs.Replies.{with-links}
 use Rattle.replies.specs.Runs.{sheet-needs, run-replies}
 use Rattle.activations.specs.declared.Activation.{Activation}
 use Rattle.links.specs.Records.{blocksIn, nextsIn}
-use Rattle.links.specs.Running.{limitsBy}
+use Rattle.run_state.specs.Scenes.{limitsBy}
 use Rattle.chain.specs.Running.{Beginning, Ended}
-use Rattle.chain.specs.declared.run.Halt.{Halt}
+use Rattle.run_state.specs.declared.Halt.{Halt}
 use Rattle.chain_call.specs.Calls.{haltWords}
 
 module _ (records : List Activation) (f : Fed) (bytes : Bytes (f .script)) (t : Block) (h : Admitted (chain (length records)) f t) (code : List ℕ)

@@ -3,7 +3,7 @@ use Prim.Native.Nat.{ℕ}
 use mathlib.Core.List.{List}
 use Rattle.language.specs.Numbers.{answerWords}
 use Rattle.answers.specs.Answers.{ranAnswer}
-use Rattle.chain.specs.declared.run.Halt.{Halt}
+use Rattle.run_state.specs.declared.Halt.{Halt}
 
 abbrev pub haltWords : Halt → ℕ → ℕ → List ℕ
 haltWords r written tally = answerWords (ranAnswer (r .end) (r .steps) (r .offset) (r .pairs) written tally (r .designator) (r .links))

@@ -11,8 +11,8 @@ use lib.ListN.{getD}
 use Rattle.language.specs.declared.Stop.the-variants.{NoActivationLeft}
 use Rattle.arrays.specs.Found.{heldBy}
 use Rattle.acting.specs.declared.Move.{Move}
-use Rattle.acting.specs.declared.Move.the-variants.{On, Pairs, Jump, Enter, Stop}
-use Rattle.acting.specs.Acting.{Scene, Happened}
+use Rattle.acting.specs.declared.Move.the-variants.{On, Table as Asks, Jump, Enter, Stop}
+use Rattle.acting.specs.Acting.{Happened}
 use Rattle.acting.specs.Acting.{Op, constant-op, add-op, subtract-op, compare-op, branch-op, goto-op, block-op, call-op, pair-op, unpair-op, query-op}
 use Rattle.acting.specs.Acting.{constant-formal-op, arithmetic-formal-op, branch-formal-op, goto-formal-op, call-formal-op}
 use Rattle.statements.specs.Pieces.{FormalsBefore}
@@ -86,17 +86,13 @@ module _ (firstOf : ℕ → ℕ) (code : List ℕ) (at first second third : ℕ)
 -- the words as they are before a call's arguments are handed on
 unfoldable pub unhanded : Move → List ℤ → List ℤ → List ℤ
 unhanded (On p) words words′ = words′
-unhanded (Pairs p n) words words′ = words′
+unhanded (Asks p g m t a) words words′ = words′
 unhanded (Jump h p) words words′ = words′
 unhanded (Enter b h p) words words′ = words
 unhanded (Stop c) words words′ = words′
 
-abbrev pub Did : Happened → List ℤ → Move → List ℤ → List ℤ → Type 0
-Did h words r words′ table′ = (r ≡ h .move) × (words′ ≡ unhanded (h .move) words (h .words)) × (table′ ≡ h .table)
-
-abbrev pub sceneOf : List ℕ → List ℤ → List ℤ → ℕ → ℕ → ℕ → ℕ → ℕ → Scene
-sceneOf code words table pairs group limit live at =
-    record { code = code; words = words; table = table; pairs = pairs; limits = record { activations = limit; group = group }; live = live; at = at }
+abbrev pub Did : Happened → List ℤ → Move → List ℤ → Type 0
+Did h words r words′ = (r ≡ h .move) × (words′ ≡ unhanded (h .move) words (h .words))
 
 -- a call of the procedure that activation `home` declares and whose body stands at a place: 22, or it is entered
 unfoldable pub callMove : List ℕ → ℕ → ℕ → ℕ → ℕ → ℕ → Move

@@ -1,4 +1,4 @@
--- What a statement's function says of its move, words and table is what the statement does, but for a call's arguments, which are not handed on yet:
+-- What a statement's function says of its move and words is what the statement does, but for a call's arguments, which are not handed on yet:
 -- the laws that end in `-did`, one for each function.
 use Prim.Native.Nat.{ℕ, _+_, _≤_, _<_}
 use native.Mathlib.Omega.{arith}
@@ -9,21 +9,22 @@ use borrow.Author.Tests.{le-leb, lt-leb}
 use lib.Dec.{leb}
 use lib.IntN.{ℤ}
 use lib.ListN.{getD}
-use Rattle.language.specs.Table.{Asked, gives, refuses, queried}
 use Rattle.language.specs.Machine.{compute}
 use Rattle.language.specs.Text.{Operation}
 use Rattle.language.specs.declared.Stop.the-variants.{NoActivationLeft}
 use Rattle.acting.specs.declared.Effect.{Effect}
 use Rattle.acting.specs.declared.Effect.the-variants.{Done as Stored, Stopped as Refused}
+use Rattle.acting.specs.declared.Ask.{Ask}
 use Rattle.acting.specs.declared.Move.{Move}
-use Rattle.acting.specs.declared.Move.the-variants.{On, Pairs, Jump, Enter, Stop}
+use Rattle.acting.specs.declared.Move.the-variants.{On, Table as Asks, Jump, Enter, Stop}
 use Rattle.acting.specs.Effects.{effectOf}
 use Rattle.acting.specs.Acting.{Finding, Scene, Happened, moves, rewrites, valueOf, field, arithmeticMove, doConstant, doArithmetic, doGoto, doBranch}
-use Rattle.acting.specs.Acting.{noRoom, doBlock, doCall, argumentsAgree, doCallFormal, doAdd, doRemove, answers, doQuery, tableNow, Op, opOf}
+use Rattle.acting.specs.Acting.{noRoom, doBlock, doCall, argumentsAgree, doCallFormal, doChange, doQuery, Op, opOf}
 use Rattle.acting.specs.Acting.{happens, acting}
-use Rattle.statements.specs.Pieces.{without-table, only-words, with-table, blockMove}
+use Rattle.acting.specs.Acting.{sceneBy}
+use Rattle.statements.specs.Pieces.{only-words, blockMove}
 use Rattle.statements.specs.Doing.{call-agreed}
-use Rattle.statements.specs.Scenes.{Done, constant-same, arithmetic-same, goto-same, branch-same, block-same, call-formal-same, add-same, remove-same}
+use Rattle.statements.specs.Scenes.{Done, constant-same, arithmetic-same, goto-same, branch-same, block-same, call-formal-same, change-same}
 use Rattle.statements.specs.Scenes.{query-same}
 use Rattle.chain_statements.specs.Asking.{wordBehind, unhanded, Did, callMove}
 
@@ -41,7 +42,7 @@ module _ (code : List ℕ) (limit live at home body : ℕ) where
 unhanded-same : (m : Move) (words : List ℤ) → words ≡ unhanded m words words
 unfolding unhanded
 unhanded-same (On p) words = refl
-unhanded-same (Pairs p n) words = refl
+unhanded-same (Asks p g m t a) words = refl
 unhanded-same (Jump h p) words = refl
 unhanded-same (Enter b h p) words = refl
 unhanded-same (Stop c) words = refl
@@ -53,24 +54,20 @@ module _ (F : Finding) (s : Scene) where
       let z : s .at + 0 ≡ s .at = omega arith in
       ap (happens F s) (sym (ap (λ i. opOf (getD (s .code) i 0)) z ∙ e))
 
-  pub did : (p : Op) → opOf (getD (s .code) (s .at) 0) ≡ p → {r : Move} {words′ table′ : List ℤ} → Did (happens F s p) (s .words) r words′ table′
-      → Did (acting F s) (s .words) r words′ table′
-  did p e {r} {words′} {table′} h = subst (λ (x : Happened). Did x (s .words) r words′ table′) (acts p e) h
+  pub did : (p : Op) → opOf (getD (s .code) (s .at) 0) ≡ p → {r : Move} {words′ : List ℤ} → Did (happens F s p) (s .words) r words′ → Did (acting F s) (s .words) r words′
+  did p e {r} {words′} h = subst (λ (x : Happened). Did x (s .words) r words′) (acts p e) h
 
   -- the scene as far as a statement looks at it
   abbrev o : Scene
   o = only-words (s .code) (s .words) (s .at)
 
   abbrev t : Scene
-  t = without-table (s .code) (s .words) (s .limits .activations) (s .live) (s .at)
-
-  abbrev with-group : ℕ → Scene
-  with-group g = with-table (s .code) (s .words) (s .table) (s .pairs) g (s .at)
+  t = sceneBy (s .code) (s .words) (s .limit) (s .live) (s .at)
 
   -- statements that enter nothing
 
   pub constant-did :
-      {r : Move} {words′ : List ℤ} → (r ≡ doConstant F o .move) × (words′ ≡ doConstant F o .words) → Did (doConstant F s) (s .words) r words′ (s .table)
+      {r : Move} {words′ : List ℤ} → (r ≡ doConstant F o .move) × (words′ ≡ doConstant F o .words) → Did (doConstant F s) (s .words) r words′
   unfolding doConstant rewrites unhanded
   constant-did {r} {words′} d = constant-same F s r words′ (d .0) (d .1)
 
@@ -81,56 +78,39 @@ module _ (F : Finding) (s : Scene) where
 
   pub arithmetic-did :
       (f : Operation) {r : Move} {words′ : List ℤ} → (r ≡ doArithmetic F o f .move) × (words′ ≡ doArithmetic F o f .words) →
-      Did (doArithmetic F s f) (s .words) r words′ (s .table)
+      Did (doArithmetic F s f) (s .words) r words′
   unfolding doArithmetic rewrites
   arithmetic-did f {r} {words′} d =
       let h = arithmetic-same F s f r words′ (d .0) (d .1) in
-      (h .0, h .1 ∙ computed (effectOf (compute f (valueOf F s (field s 3)) (valueOf F s (field s 4)))) (doArithmetic F s f .words), h .2)
-
-  answered : (a : Asked) → answers F s a .words ≡ unhanded (answers F s a .move) (s .words) (answers F s a .words)
-  unfolding answers moves rewrites unhanded
-  answered (gives z) = refl
-  answered (refuses c) = refl
-
-  pub query-did :
-      {r : Move} {words′ : List ℤ} → (r ≡ doQuery F (with-group 0) .move) × (words′ ≡ doQuery F (with-group 0) .words) →
-      Did (doQuery F s) (s .words) r words′ (s .table)
-  unfolding doQuery
-  query-did {r} {words′} d =
-      let h = query-same F s r words′ (d .0) (d .1) in
-      (h .0, h .1 ∙ answered (queried (valueOf F s (field s 2)) (valueOf F s (field s 3)) (tableNow F s)), h .2)
+      (h .0, h .1 ∙ computed (effectOf (compute f (valueOf F s (field s 3)) (valueOf F s (field s 4)))) (doArithmetic F s f .words))
 
   -- statements that leave the words
 
-  left : {h : Happened} {r : Move} {table′ : List ℤ} → Done h r (s .words) table′ → Did h (s .words) r (s .words) table′
-  left {h} d = (d .0, unhanded-same (h .move) (s .words) ∙ ap (unhanded (h .move) (s .words)) (d .1), d .2)
+  left : {h : Happened} {r : Move} → Done h r (s .words) → Did h (s .words) r (s .words)
+  left {h} d = (d .0, unhanded-same (h .move) (s .words) ∙ ap (unhanded (h .move) (s .words)) (d .1))
 
-  pub goto-did : {r : Move} → r ≡ doGoto F o .move → Did (doGoto F s) (s .words) r (s .words) (s .table)
+  pub goto-did : {r : Move} → r ≡ doGoto F o .move → Did (doGoto F s) (s .words) r (s .words)
   goto-did {r} e = left (goto-same F s r e)
 
-  pub branch-did : {r : Move} → r ≡ doBranch F o .move → Did (doBranch F s) (s .words) r (s .words) (s .table)
+  pub branch-did : {r : Move} → r ≡ doBranch F o .move → Did (doBranch F s) (s .words) r (s .words)
   branch-did {r} e = left (branch-same F s r e)
 
-  pub block-did : {r : Move} → r ≡ blockMove (s .code) (s .limits .activations) (s .live) (s .at) → Did (doBlock F s) (s .words) r (s .words) (s .table)
+  pub block-did : {r : Move} → r ≡ blockMove (s .code) (s .limit) (s .live) (s .at) → Did (doBlock F s) (s .words) r (s .words)
   block-did {r} e = left (block-same F s r e)
 
-  pub add-did :
-      {r : Move} {table′ : List ℤ} → (r ≡ doAdd F (with-group (s .limits .group)) .move) × (table′ ≡ doAdd F (with-group (s .limits .group)) .table) →
-      Did (doAdd F s) (s .words) r (s .words) table′
-  add-did {r} {table′} d = left (add-same F s r table′ (d .0) (d .1))
+  pub change-did : (a : Ask) {r : Move} → r ≡ doChange F o a .move → Did (doChange F s a) (s .words) r (s .words)
+  change-did a {r} e = left (change-same F s a r e)
 
-  pub remove-did :
-      {r : Move} {table′ : List ℤ} → (r ≡ doRemove F (with-group 0) .move) × (table′ ≡ doRemove F (with-group 0) .table) →
-      Did (doRemove F s) (s .words) r (s .words) table′
-  remove-did {r} {table′} d = left (remove-same F s r table′ (d .0) (d .1))
+  pub query-did : {r : Move} → r ≡ doQuery F o .move → Did (doQuery F s) (s .words) r (s .words)
+  query-did {r} e = left (query-same F s r e)
 
   -- calls
 
   abbrev moveTo : ℕ → ℕ → Move
-  moveTo home body = callMove (s .code) (s .limits .activations) (s .live) (s .at) home body
+  moveTo home body = callMove (s .code) (s .limit) (s .live) (s .at) home body
 
   abbrev full : Bool
-  full = leb (s .limits .activations) (s .live + 1)
+  full = leb (s .limit) (s .live + 1)
 
   call-is : moveTo (F .home (field s 1)) (F .target (field s 1)) ≡ doCall F s .move
   unfolding doCall noRoom rewrites moves callMove
@@ -149,15 +129,15 @@ module _ (F : Finding) (s : Scene) where
   call-formal-move p q a e = call-move p q e ∙ ap (λ (x : Happened). x .move) (call-agreed F s q a)
 
   abbrev Waits : Happened → Type 0
-  Waits h = (s .words ≡ unhanded (h .move) (s .words) (h .words)) × (s .table ≡ h .table)
+  Waits h = s .words ≡ unhanded (h .move) (s .words) (h .words)
 
   call-waits : Waits (doCall F s)
   unfolding doCall noRoom rewrites moves unhanded
   call-waits = go full refl
     where
       go : (b : Bool) → full ≡ b → Waits (doCall F s)
-      go true e = (rw (e, doCall), rw (e, doCall))
-      go false e = (rw (e, doCall), rw (e, doCall))
+      go true e = rw (e, doCall)
+      go false e = rw (e, doCall)
 
   call-formal-waits : Waits (doCallFormal F s)
   unfolding doCallFormal moves unhanded
@@ -165,12 +145,12 @@ module _ (F : Finding) (s : Scene) where
     where
       go : (b : Bool) → argumentsAgree F s (F .target (field s 1)) ≡ b → Waits (doCallFormal F s)
       go true e = rw (e, doCallFormal) call-waits
-      go false e = (rw (e, doCallFormal), rw (e, doCallFormal))
+      go false e = rw (e, doCallFormal)
 
   pub call-did :
       {home body : ℕ} {r : Move} → home ≡ F .home (field s 1) → body ≡ F .target (field s 1) → r ≡ moveTo home body →
-      Did (doCall F s) (s .words) r (s .words) (s .table)
-  call-did p q e = (call-move p q e, call-waits .0, call-waits .1)
+      Did (doCall F s) (s .words) r (s .words)
+  call-did p q e = (call-move p q e, call-waits)
 
-  pub call-formal-did : {r : Move} → r ≡ doCallFormal F t .move → Did (doCallFormal F s) (s .words) r (s .words) (s .table)
-  call-formal-did {r} e = (call-formal-same F s r (doCallFormal F t .words) e refl .0, call-formal-waits .0, call-formal-waits .1)
+  pub call-formal-did : {r : Move} → r ≡ doCallFormal F t .move → Did (doCallFormal F s) (s .words) r (s .words)
+  call-formal-did {r} e = (call-formal-same F s r (doCallFormal F t .words) e refl .0, call-formal-waits)

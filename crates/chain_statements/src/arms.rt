@@ -3,10 +3,9 @@
 use super::names::cell;
 use super::names::held;
 use super::names::own;
+use acting::Ask;
 use acting::Move;
 use language::Stop;
-use pairs::Query;
-use statements::changed;
 use statements::computed;
 use statements::constant;
 use stepping::code_at;
@@ -16,8 +15,9 @@ ghost use lib.ListN.{getD};
 ghost use Rattle.language.specs.Text.{plus, minus, less};
 ghost use Rattle.resolved.specs.Resolved.{targetIn};
 ghost use Rattle.arrays.specs.Found.{heldBy};
-ghost use Rattle.acting.specs.Acting.{doConstant, doArithmetic, operationOf, doGoto, doBranch, doCallFormal, doAdd, doRemove, doQuery};
-ghost use Rattle.statements.specs.Pieces.{only-words, without-table, with-table, FormalsBefore};
+ghost use Rattle.acting.specs.Acting.{doConstant, doArithmetic, operationOf, doGoto, doBranch, doCallFormal, doChange, doQuery};
+ghost use Rattle.acting.specs.Acting.{sceneBy};
+ghost use Rattle.statements.specs.Pieces.{only-words, FormalsBefore};
 ghost use Rattle.steps.specs.Finding.{byFirst};
 ghost use Rattle.chain_statements.specs.Finding.{Reachable, Direct, ThroughFormal};
 ghost use Rattle.chain_statements.specs.Asking.{wordBehind, Calling, callMove};
@@ -212,7 +212,7 @@ pub fn do_call_formal(
     first: usize,
 ) -> Move
     requires { ⌜ Calling (now code) limit live at × ThroughFormal (now words) first (wordBehind (now code) at 1) × FormalsBefore (now code) (heldBy (now words) first (wordBehind (now code) at 1) / 8192) ⌝ }
-    ensures { λ r. ⌜ ((firstOf : ℕ → ℕ) → first ≡ firstOf (wordBehind (now (code .entry)) at 1) → r ≡ doCallFormal (byFirst (now (words .entry)) firstOf) (without-table (now (code .entry)) (now (words .entry)) limit live at) .move) ⌝ }
+    ensures { λ r. ⌜ ((firstOf : ℕ → ℕ) → first ≡ firstOf (wordBehind (now (code .entry)) at 1) → r ≡ doCallFormal (byFirst (now (words .entry)) firstOf) (sceneBy (now (code .entry)) (now (words .entry)) limit live at) .move) ⌝ }
 {
     let procedure = held(code, words, at + 1, first);
     let body = procedure / 8192;
@@ -226,63 +226,37 @@ pub fn do_call_formal(
     enter_body(code, limit, live, at, procedure % 8192 / 32, body)
 }
 
-pub fn do_add_pair(
+// AD and RM
+pub fn do_change(
     code: &[u32; 4096],
     words: &[i32; 8224],
-    table: &mut [i32],
-    pairs: usize,
-    limit: u32,
     at: usize,
     first: usize,
     second: usize,
+    ask: Ask,
 ) -> Move
     requires { ⌜ (at + 3 ≤ 4096) × Reachable (now words) first (wordBehind (now code) at 1) × Reachable (now words) second (wordBehind (now code) at 2) ⌝ }
-    ensures { λ r. ⌜ ((firstOf : ℕ → ℕ) → first ≡ firstOf (wordBehind (now (code .entry)) at 1) → second ≡ firstOf (wordBehind (now (code .entry)) at 2) → (r ≡ doAdd (byFirst (now (words .entry)) firstOf) (with-table (now (code .entry)) (now (words .entry)) (now (table .entry)) pairs limit at) .move) × (now (table .exit) ≡ doAdd (byFirst (now (words .entry)) firstOf) (with-table (now (code .entry)) (now (words .entry)) (now (table .entry)) pairs limit at) .table)) ⌝ }
+    ensures { λ r. ⌜ ((firstOf : ℕ → ℕ) → first ≡ firstOf (wordBehind (now (code .entry)) at 1) → second ≡ firstOf (wordBehind (now (code .entry)) at 2) → r ≡ doChange (byFirst (now (words .entry)) firstOf) (only-words (now (code .entry)) (now (words .entry)) at) ask .move) ⌝ }
 {
-    let group = words[cell(code, words, at + 1, first)];
-    let member = words[cell(code, words, at + 2, second)];
-    changed(pairs::add_pair(table, pairs, limit, group, member), at)
-}
-
-pub fn do_remove_pair(
-    code: &[u32; 4096],
-    words: &[i32; 8224],
-    table: &mut [i32],
-    pairs: usize,
-    at: usize,
-    first: usize,
-    second: usize,
-) -> Move
-    requires { ⌜ (at + 3 ≤ 4096) × Reachable (now words) first (wordBehind (now code) at 1) × Reachable (now words) second (wordBehind (now code) at 2) ⌝ }
-    ensures { λ r. ⌜ ((firstOf : ℕ → ℕ) → first ≡ firstOf (wordBehind (now (code .entry)) at 1) → second ≡ firstOf (wordBehind (now (code .entry)) at 2) → (r ≡ doRemove (byFirst (now (words .entry)) firstOf) (with-table (now (code .entry)) (now (words .entry)) (now (table .entry)) pairs 0 at) .move) × (now (table .exit) ≡ doRemove (byFirst (now (words .entry)) firstOf) (with-table (now (code .entry)) (now (words .entry)) (now (table .entry)) pairs 0 at) .table)) ⌝ }
-{
-    let group = words[cell(code, words, at + 1, first)];
-    let member = words[cell(code, words, at + 2, second)];
-    changed(pairs::remove_pair(table, pairs, group, member), at)
+    let group = cell(code, words, at + 1, first);
+    let member = cell(code, words, at + 2, second);
+    Move::Table(at + 3, group, member, 0, ask)
 }
 
 // QY
 pub fn do_query(
     code: &[u32; 4096],
-    words: &mut [i32; 8224],
-    table: &[i32],
-    pairs: usize,
+    words: &[i32; 8224],
     at: usize,
     first: usize,
     second: usize,
     third: usize,
 ) -> Move
     requires { ⌜ (at + 4 ≤ 4096) × Reachable (now words) first (wordBehind (now code) at 1) × Reachable (now words) second (wordBehind (now code) at 2) × Reachable (now words) third (wordBehind (now code) at 3) ⌝ }
-    ensures { λ r. ⌜ ((firstOf : ℕ → ℕ) → first ≡ firstOf (wordBehind (now (code .entry)) at 1) → second ≡ firstOf (wordBehind (now (code .entry)) at 2) → third ≡ firstOf (wordBehind (now (code .entry)) at 3) → (r ≡ doQuery (byFirst (now (words .entry)) firstOf) (with-table (now (code .entry)) (now (words .entry)) (now (table .entry)) pairs 0 at) .move) × (now (words .exit) ≡ doQuery (byFirst (now (words .entry)) firstOf) (with-table (now (code .entry)) (now (words .entry)) (now (table .entry)) pairs 0 at) .words)) ⌝ }
+    ensures { λ r. ⌜ ((firstOf : ℕ → ℕ) → first ≡ firstOf (wordBehind (now (code .entry)) at 1) → second ≡ firstOf (wordBehind (now (code .entry)) at 2) → third ≡ firstOf (wordBehind (now (code .entry)) at 3) → r ≡ doQuery (byFirst (now (words .entry)) firstOf) (only-words (now (code .entry)) (now (words .entry)) at) .move) ⌝ }
 {
     let target = cell(code, words, at + 1, first);
-    let group = words[cell(code, words, at + 2, second)];
-    let member = words[cell(code, words, at + 3, third)];
-    match pairs::query_pair(table, pairs, group, member) {
-        Query::Value(value) => {
-            stepping::store(words, target, value);
-            Move::On(at + 4)
-        }
-        Query::Stopped(cause) => Move::Stop(cause),
-    }
+    let group = cell(code, words, at + 2, second);
+    let member = cell(code, words, at + 3, third);
+    Move::Table(at + 4, group, member, target, Ask::Query)
 }

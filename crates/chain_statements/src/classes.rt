@@ -1,17 +1,16 @@
 // The statements in classes: those of a class have as many names, and a function of their own that is handed the first cells of the activations that
-// declare these. The statement at a place is done as far as words and table go; where the run goes on is the answer. A call's arguments are not handed on
+// declare these. The statement at a place is done as far as words go; where the run goes on is the answer. A call's arguments are not handed on
 // yet.
 use super::arms;
+use acting::Ask;
 use acting::Move;
 use stepping::code_at;
-ghost use mathlib.Core.List.{List};
 ghost use mathlib.Core.Path.{_≡_};
 ghost use Prim.Native.Nat.{ℕ, _<_};
-ghost use lib.IntN.{ℤ};
 ghost use lib.ListN.{getD};
-ghost use Rattle.acting.specs.Acting.{acting, opOf};
+ghost use Rattle.acting.specs.Acting.{sceneBy, acting, opOf};
 ghost use Rattle.steps.specs.Finding.{byFirst};
-ghost use Rattle.chain_statements.specs.Asking.{Ready, Leads, Did, sceneOf, classOf};
+ghost use Rattle.chain_statements.specs.Asking.{Ready, Leads, Did, classOf};
 
 // The class of the statement at a place: 0 GO, BK, CL, and KN of a formal, 1 to 3 AR where no name is a formal, by its operation, 4 AR where one is, 5 IF,
 // 6 AD and RM, 7 QY, 8 KN of no formal. What is done most has a class of its own, so that one jump leads to it. Each number is named: a range needs no test
@@ -52,10 +51,9 @@ pub fn act_one(
 ) -> Move
     requires { ⌜ (at < 4096) × (classOf (opOf (getD (now code) at 0)) ≡ 0) × Ready (now code) (now words) limit live at first 0 0
         (opOf (getD (now code) at 0)) ⌝ }
-    ensures { λ r. ⌜ ((firstOf : ℕ → ℕ) (table : List ℤ) (pairs group : ℕ) → Leads firstOf (now (code .entry)) at first 0 0
-        (opOf (getD (now (code .entry)) at 0))
-        → Did (acting (byFirst (now (words .entry)) firstOf) (sceneOf (now (code .entry)) (now (words .entry)) table pairs group limit live at))
-        (now (words .entry)) r (now (words .exit)) table) ⌝ }
+    ensures { λ r. ⌜ ((firstOf : ℕ → ℕ) → Leads firstOf (now (code .entry)) at first 0 0 (opOf (getD (now (code .entry)) at 0))
+        → Did (acting (byFirst (now (words .entry)) firstOf) (sceneBy (now (code .entry)) (now (words .entry)) limit live at))
+        (now (words .entry)) r (now (words .exit))) ⌝ }
 {
     let operation = code_at(code, at) % 16;
     match operation {
@@ -78,10 +76,9 @@ pub fn act_branch(
 ) -> Move
     requires { ⌜ (at < 4096) × (classOf (opOf (getD (now code) at 0)) ≡ 5) × Ready (now code) (now words) 0 0 at first second 0
         (opOf (getD (now code) at 0)) ⌝ }
-    ensures { λ r. ⌜ ((firstOf : ℕ → ℕ) (table : List ℤ) (pairs group limit live : ℕ) → Leads firstOf (now (code .entry)) at first second 0
-        (opOf (getD (now (code .entry)) at 0))
-        → Did (acting (byFirst (now (words .entry)) firstOf) (sceneOf (now (code .entry)) (now (words .entry)) table pairs group limit live at))
-        (now (words .entry)) r (now (words .entry)) table) ⌝ }
+    ensures { λ r. ⌜ ((firstOf : ℕ → ℕ) (limit live : ℕ) → Leads firstOf (now (code .entry)) at first second 0 (opOf (getD (now (code .entry)) at 0))
+        → Did (acting (byFirst (now (words .entry)) firstOf) (sceneBy (now (code .entry)) (now (words .entry)) limit live at))
+        (now (words .entry)) r (now (words .entry))) ⌝ }
 {
     let operation = code_at(code, at) % 16;
     match operation {
@@ -94,9 +91,6 @@ pub fn act_branch(
 pub fn act_pair(
     code: &[u32; 4096],
     words: &[i32; 8224],
-    table: &mut [i32],
-    pairs: usize,
-    group: u32,
     at: usize,
     first: usize,
     second: usize,
@@ -104,13 +98,12 @@ pub fn act_pair(
     requires { ⌜ (at < 4096) × (classOf (opOf (getD (now code) at 0)) ≡ 6) × Ready (now code) (now words) 0 0 at first second 0
         (opOf (getD (now code) at 0)) ⌝ }
     ensures { λ r. ⌜ ((firstOf : ℕ → ℕ) (limit live : ℕ) → Leads firstOf (now (code .entry)) at first second 0 (opOf (getD (now (code .entry)) at 0))
-        → Did (acting (byFirst (now (words .entry)) firstOf)
-        (sceneOf (now (code .entry)) (now (words .entry)) (now (table .entry)) pairs group limit live at))
-        (now (words .entry)) r (now (words .entry)) (now (table .exit))) ⌝ }
+        → Did (acting (byFirst (now (words .entry)) firstOf) (sceneBy (now (code .entry)) (now (words .entry)) limit live at))
+        (now (words .entry)) r (now (words .entry))) ⌝ }
 {
     let operation = code_at(code, at) % 16;
     match operation {
-        8 => arms::do_add_pair(code, words, table, pairs, group, at, first, second),
-        _ => arms::do_remove_pair(code, words, table, pairs, at, first, second),
+        8 => arms::do_change(code, words, at, first, second, Ask::Add),
+        _ => arms::do_change(code, words, at, first, second, Ask::Remove),
     }
 }

@@ -2,8 +2,8 @@
 use Rattle.lending.specs.Data.{Datum, enums}
 use Rattle.acting.proofs.Move as M
 use Rattle.acting.proofs.Move.Laws as M′
-use Rattle.chain_steps.proofs.turn.Turn as T
-use Rattle.chain_steps.proofs.turn.Turn.Laws as T′
+use Rattle.run_state.proofs.Turn as T
+use Rattle.run_state.proofs.Turn.Laws as T′
 use Rattle.chain_steps.proofs.turn.Moved as D
 use Rattle.chain_steps.proofs.turn.Moved.Laws as D′
 

@@ -18,75 +18,75 @@ use Rattle.arrays.specs.Names.{follow}
 use Rattle.acting.specs.declared.Move.{Move}
 use Rattle.acting.specs.Acting.{Happened, Op, constant-op, add-op, subtract-op, compare-op, branch-op, goto-op, block-op, call-op, pair-op, unpair-op, query-op}
 use Rattle.acting.specs.Acting.{constant-formal-op, arithmetic-formal-op, branch-formal-op, goto-formal-op, call-formal-op, operations, opOf}
-use Rattle.acting.specs.Acting.{Finding, Scene, operationOf, doConstant, doArithmetic, doQuery, happens, acting}
+use Rattle.acting.specs.Acting.{Finding, Scene, sceneBy, operationOf, doConstant, doArithmetic, doQuery, happens, acting}
 use Rattle.steps.specs.Standing.{Standing}
 use Rattle.steps.specs.Here.{live-few}
 use Rattle.steps.specs.Fields as fields
-use Rattle.statements.specs.Pieces.{FormalsBefore, only-words, with-table}
+use Rattle.statements.specs.Pieces.{FormalsBefore, only-words}
 use Rattle.statements.specs.Numbers.{op-of}
 use Rattle.chain_statements.specs.Finding.{Reachable, Direct, ThroughFormal}
-use Rattle.chain_statements.specs.Asking.{wordBehind, Calling, Ready, Leads, Did, sceneOf, classOf}
+use Rattle.chain_statements.specs.Asking.{wordBehind, Calling, Ready, Leads, Did, classOf}
 use Rattle.chain_statements.specs.Moves as moves
 use Rattle.chain_statements.specs.Classes.{add-only, subtract-only, compare-only, arithmetic-only, query-only, constant-only}
 use Rattle.activations.specs.declared.Activation.{Activation}
-use Rattle.links.specs.declared.Now.{Now}
+use Rattle.run_state.specs.declared.Registers.{Registers}
 use Rattle.links.specs.Records.{blocksIn, nextsIn, linksIn}
 use Rattle.links.specs.Finding.{firstCell, byChain, Seen, Named}
-use Rattle.links.specs.Running.{limitsBy, Running}
+use Rattle.run_state.specs.Scenes.{limitsBy}
+use Rattle.links.specs.Running.{Running}
 use Rattle.links.specs.Names as links
 use Rattle.chain_steps.specs.declared.turn.Moved.{Moved}
 use Rattle.chain_steps.specs.Moved.{movedBy}
 
 -- an engine that runs stands before the end of a text
-pub record Stating (code : List ℕ) (words : List ℤ) (records : List Activation) (table : List ℤ) (group limit : ℕ) (here : Now) : Type 0 where
+pub record Stating (code : List ℕ) (words : List ℤ) (records : List Activation) (limit : ℕ) (here : Registers) : Type 0 where
+  pub group : ℕ
+  pub table : List ℤ
   pub running : Running code limit group words records table here
   pub before : here .at ≡ here .end → ⊥
 
--- what the next statement does to words and table
-abbrev pub happening : List ℕ → List ℤ → List Activation → List ℤ → ℕ → ℕ → Now → Happened
-happening code words records table group limit here =
-    acting (byChain words records (here .live) (here .level)) (sceneOf code words table (here .pairs) group limit (here .live) (here .at))
+-- what the next statement does
+abbrev pub happening : List ℕ → List ℤ → List Activation → ℕ → Registers → Happened
+happening code words records limit here = acting (byChain words records (here .live) (here .level)) (sceneBy code words limit (here .live) (here .at))
 
 -- its class, and the first cell of the innermost activation
-pub record Chosen (code : List ℕ) (here : Now) (own class : ℕ) : Type 0 where
+pub record Chosen (code : List ℕ) (here : Registers) (own class : ℕ) : Type 0 where
   pub own-is : own ≡ 32 * here .live
   pub class-is : class ≡ classOf (opOf (getD code (here .at) 0))
 
 -- AR
-pub record Summing (code : List ℕ) (words : List ℤ) (records : List Activation) (here : Now) (own class : ℕ) : Type 0 where
-  pub table : List ℤ
-  pub group : ℕ
+pub record Summing (code : List ℕ) (words : List ℤ) (records : List Activation) (here : Registers) (own class : ℕ) : Type 0 where
   pub limit : ℕ
-  pub stating : Stating code words records table group limit here
+  pub stating : Stating code words records limit here
   pub chosen : Chosen code here own class
   pub low : 1 ≤ class
   pub high : class ≤ 4
 
 -- AD, RM and QY
-pub record Tabling (code : List ℕ) (words : List ℤ) (records : List Activation) (table : List ℤ) (group : ℕ) (here : Now) (own class : ℕ) : Type 0 where
+pub record Tabling (code : List ℕ) (words : List ℤ) (records : List Activation) (here : Registers) (own class : ℕ) : Type 0 where
   pub limit : ℕ
-  pub stating : Stating code words records table group limit here
+  pub stating : Stating code words records limit here
   pub chosen : Chosen code here own class
   pub low : 5 < class
   pub other : class ≡ 8 → ⊥
 
 -- the statement has been done, and the engine goes on so
-pub record Does (done : Happened) (words : List ℤ) (here : Now) (moved : Moved) (words′ table′ : List ℤ) : Type 0 where
+pub record Does (done : Happened) (words : List ℤ) (here : Registers) (moved : Moved) (words′ : List ℤ) : Type 0 where
   pub move : Move
-  pub did : Did done words move words′ table′
+  pub did : Did done words move words′
   pub so : moved ≡ movedBy here move
 
-unfoldable pub onlyHops : List ℕ → Now → ℕ
+unfoldable pub onlyHops : List ℕ → Registers → ℕ
 onlyHops code here =
     elim (eqb (getD code (here .at) 0 % 16) 6) [ true ↦ 0 | false ↦ here .level - levelIn (getD code (here .at + 1) 0) ]
 
 -- The links of the only name
 
-pub none-hops : (code : List ℕ) (here : Now) → getD code (here .at) 0 % 16 ≡ 6 → 0 ≡ onlyHops code here
+pub none-hops : (code : List ℕ) (here : Registers) → getD code (here .at) 0 % 16 ≡ 6 → 0 ≡ onlyHops code here
 unfolding onlyHops
 none-hops code here e = rw (onlyHops, eq-eqb (getD code (here .at) 0 % 16) 6 e)
 
-pub some-hops : (code : List ℕ) (here : Now) → (getD code (here .at) 0 % 16 ≡ 6 → ⊥) → here .level - levelIn (getD code (here .at + 1) 0) ≡ onlyHops code here
+pub some-hops : (code : List ℕ) (here : Registers) → (getD code (here .at) 0 % 16 ≡ 6 → ⊥) → here .level - levelIn (getD code (here .at + 1) 0) ≡ onlyHops code here
 unfolding onlyHops
 some-hops code here d = rw (onlyHops, ne-eqb (getD code (here .at) 0 % 16) 6 d)
 
@@ -115,12 +115,11 @@ formal-target : (words : List ℤ) (first v : ℕ) → direct v ≡ false → ta
 unfolding targetBy
 formal-target words first v e = rw (targetBy, e)
 
-module _ {code : List ℕ} {words : List ℤ} {records : List Activation} {table : List ℤ} {group limit : ℕ} {here : Now}
-    (s : Stating code words records table group limit here) where
-  abbrev w : Running code limit group words records table here
+module _ {code : List ℕ} {words : List ℤ} {records : List Activation} {limit : ℕ} {here : Registers} (s : Stating code words records limit here) where
+  abbrev w : Running code limit (s .group) words records (s .table) here
   w = s .running
 
-  abbrev st : Standing code (limitsBy limit group) words (blocksIn records) (nextsIn records) (linksIn records) table (here .pairs) (here .live)
+  abbrev st : Standing code (limitsBy limit (s .group)) words (blocksIn records) (nextsIn records) (linksIn records) (s .table) (here .pairs) (here .live)
       (here .at) (here .end)
   st = w .standing
 
@@ -288,13 +287,13 @@ module _ {code : List ℕ} {words : List ℤ} {records : List Activation} {table
   way = byChain words records (here .live) (here .level)
 
   abbrev scene : Scene
-  scene = sceneOf code words table (here .pairs) group limit (here .live) (here .at)
+  scene = sceneBy code words limit (here .live) (here .at)
 
   -- three names in these fields, of which `Asks` is asked, and what is done by what is `Said`
   pub record Does-as (j k : ℕ) (Asks : ℕ → ℕ → ℕ → Type 0) (Said : Move → List ℤ → Type 0) : Type 0 where
     pub named : N 1 × N j × N k
     pub asks : (first second third : ℕ) → At first 1 → At second j → At third k → Asks first second third
-    pub did : {r : Move} {words′ : List ℤ} → Said r words′ → Did (acting way scene) words r words′ table
+    pub did : {r : Move} {words′ : List ℤ} → Said r words′ → Did (acting way scene) words r words′
 
   abbrev Summed : Operation → Move → List ℤ → Type 0
   Summed f r words′ = (r ≡ doArithmetic way (only-words code words (here .at)) f .move)
@@ -316,7 +315,7 @@ module _ {code : List ℕ} {words : List ℤ} {records : List Activation} {table
         );
         asks = λ a b c p q r. (fs .0, directly 1 a p (fs .1), directly 3 b q (fs .2), directly 4 c r (fs .3));
         did = λ {r} {words′} d.
-            moves.did way scene p is (subst (λ (x : Happened). Did x words r words′ table) e (moves.arithmetic-did way scene f d));
+            moves.did way scene p is (subst (λ (x : Happened). Did x words r words′) e (moves.arithmetic-did way scene f d));
       }
 
   pub adds : classOf op ≡ 1 → Sum plus
@@ -352,11 +351,8 @@ module _ {code : List ℕ} {words : List ℤ} {records : List Activation} {table
         did = λ d. moves.did way scene arithmetic-formal-op is (moves.arithmetic-did way scene (operationOf (word 2)) d);
       }
 
-  abbrev asking : Scene
-  asking = with-table code words table (here .pairs) 0 (here .at)
-
   abbrev pub Query : Type 0
-  Query = Does-as 2 3 (Final 2 3 4) (λ r words′. (r ≡ doQuery way asking .move) × (words′ ≡ doQuery way asking .words))
+  Query = Does-as 2 3 (Final 2 3 4) (λ r words′. (r ≡ doQuery way (only-words code words (here .at)) .move) × (words′ ≡ words))
 
   pub queries : classOf op ≡ 7 → Query
   unfolding operations happens
@@ -366,7 +362,7 @@ module _ {code : List ℕ} {words : List ℤ} {records : List Activation} {table
       record {
         named = (named 1 (omega (arith, fs .0)) (fs .1), named 2 (omega (arith, fs .0)) (fs .2), named 3 (omega (arith, fs .0)) (fs .3));
         asks = λ a b c p q r. (fs .0, reachable 1 a p (fs .1), reachable 2 b q (fs .2), reachable 3 c r (fs .3));
-        did = λ d. moves.did way scene query-op is (moves.query-did way scene d);
+        did = λ {r} {words′} d. subst (λ (v : List ℤ). Did (acting way scene) words r v) (sym (d .1)) (moves.did way scene query-op is (moves.query-did way scene (d .0)));
       }
 
   -- KN of no formal
@@ -375,7 +371,7 @@ module _ {code : List ℕ} {words : List ℤ} {records : List Activation} {table
     pub named : N 1
     pub asks : (first : ℕ) → At first 1 → (here .at + 4 ≤ 4096) × Direct words first (word 1)
     pub did : {r : Move} {words′ : List ℤ} → (r ≡ doConstant way (only-words code words (here .at)) .move)
-        × (words′ ≡ doConstant way (only-words code words (here .at)) .words) → Did (acting way scene) words r words′ table
+        × (words′ ≡ doConstant way (only-words code words (here .at)) .words) → Did (acting way scene) words r words′
 
   pub stores : classOf op ≡ 8 → Stores
   unfolding operations happens

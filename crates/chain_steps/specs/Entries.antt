@@ -9,15 +9,16 @@ use lib.Dec.{leb}
 use lib.IntN.{ℤ, pos}
 use lib.ListN.{length, getD}
 use Rattle.language.specs.Basics.{eqZ}
-use Rattle.language.specs.Table.{Effect, leaves, halts, Asked, gives, refuses}
 use Rattle.language.specs.Text.{Operation, plus, minus, less}
 use Rattle.laws.specs.Tests.{split}
 use Rattle.acting.specs.declared.Effect.{Effect as Done-or-not}
 use Rattle.acting.specs.declared.Effect.the-variants.{Done, Stopped}
+use Rattle.acting.specs.declared.Ask.{Ask}
+use Rattle.acting.specs.declared.Ask.the-variants.{Add, Remove}
 use Rattle.acting.specs.declared.Move.the-variants.{On, Stop}
 use Rattle.language.specs.declared.Stop.the-variants.{NoActivationLeft, ArgumentsDiffer}
-use Rattle.acting.specs.Acting.{Finding, Scene, Happened, field, valueOf, moves, rewrites, setAll, doConstant, arithmeticMove, doArithmetic, doGoto}
-use Rattle.acting.specs.Acting.{doBranch, noRoom, argumentsFrom, doCall, argumentsAgree, doCallFormal, changes, doAdd, doRemove, answers, doQuery}
+use Rattle.acting.specs.Acting.{Finding, Scene, sceneBy, Happened, field, valueOf, moves, rewrites, setAll, doConstant, arithmeticMove, doArithmetic, doGoto}
+use Rattle.acting.specs.Acting.{doBranch, noRoom, argumentsFrom, doCall, argumentsAgree, doCallFormal, doChange, doQuery}
 use Rattle.acting.specs.Acting.{Op, constant-op, add-op, subtract-op, compare-op, branch-op, goto-op, block-op, call-op, pair-op, unpair-op, query-op}
 use Rattle.acting.specs.Acting.{constant-formal-op, arithmetic-formal-op, branch-formal-op, goto-formal-op, call-formal-op, operations, opOf, happens, acting}
 use Rattle.steps.specs.Standing.{Standing}
@@ -25,11 +26,11 @@ use Rattle.steps.specs.Fields as fields
 use Rattle.statements.specs.Pieces.{only-words, blockMove}
 use Rattle.statements.specs.Scenes.{block-same}
 use Rattle.activations.specs.declared.Activation.{Activation}
-use Rattle.chain_statements.specs.Asking.{sceneOf}
-use Rattle.links.specs.declared.Now.{Now}
+use Rattle.run_state.specs.declared.Registers.{Registers}
 use Rattle.links.specs.Records.{blocksIn, nextsIn, linksIn}
 use Rattle.links.specs.Finding.{byChain, Handing, argumentsEnd, handedOn}
-use Rattle.links.specs.Running.{limitsBy, Running}
+use Rattle.run_state.specs.Scenes.{limitsBy}
+use Rattle.links.specs.Running.{Running}
 use Rattle.chain_steps.specs.Moves.{isEntry}
 use Rattle.chain_steps.specs.Fields.{seen, reached}
 
@@ -101,16 +102,6 @@ module _ (F : Finding) (s : Scene) where
   arithmetic-goes Done z = false≢true z
   arithmetic-goes (Stopped c) z = false≢true z
 
-  changes-go : (e : Effect) → Entry (changes F s e) → ⊥
-  unfolding changes moves isEntry
-  changes-go (leaves t) z = false≢true z
-  changes-go (halts c) z = false≢true z
-
-  answers-go : (a : Asked) → Entry (answers F s a) → ⊥
-  unfolding answers moves rewrites isEntry
-  answers-go (gives v) z = false≢true z
-  answers-go (refuses c) z = false≢true z
-
   constant-goes : Entry (doConstant F s) → ⊥
   unfolding doConstant rewrites isEntry
   constant-goes z = false≢true z
@@ -129,17 +120,13 @@ module _ (F : Finding) (s : Scene) where
       (λ e. let q : doBranch F s ≡ moves s (On (s .at + 3)) = rw (e, doBranch) in false≢true (subst Entry q z))
       (λ e. let q : doBranch F s ≡ doGoto F s = rw (e, doBranch) in goto-goes (subst Entry q z))
 
-  add-goes : Entry (doAdd F s) → ⊥
-  unfolding doAdd
-  add-goes z = changes-go _ z
-
-  remove-goes : Entry (doRemove F s) → ⊥
-  unfolding doRemove
-  remove-goes z = changes-go _ z
+  change-goes : (a : Ask) → Entry (doChange F s a) → ⊥
+  unfolding doChange moves isEntry
+  change-goes a z = false≢true z
 
   query-goes : Entry (doQuery F s) → ⊥
-  unfolding doQuery
-  query-goes z = answers-go _ z
+  unfolding doQuery moves isEntry
+  query-goes z = false≢true z
 
   -- a call that enters hands its arguments on
   abbrev handed : List ℤ
@@ -147,7 +134,7 @@ module _ (F : Finding) (s : Scene) where
 
   call-hands : Entry (doCall F s) → doCall F s .words ≡ handed
   unfolding doCall noRoom moves rewrites isEntry
-  call-hands z = split (leb (s .limits .activations) (s .live + 1))
+  call-hands z = split (leb (s .limit) (s .live + 1))
       (λ e. let q : doCall F s ≡ moves s (Stop NoActivationLeft) = rw (doCall, e) in absurd (false≢true (subst Entry q z)))
       (λ e. rw (doCall, e))
 
@@ -157,7 +144,7 @@ module _ (F : Finding) (s : Scene) where
       (λ e. let q : doCallFormal F s ≡ doCall F s = rw (doCallFormal, e) in ap (λ (h : Happened). h .words) q ∙ call-hands (subst Entry q z))
       (λ e. let q : doCallFormal F s ≡ moves s (Stop ArgumentsDiffer) = rw (doCallFormal, e) in absurd (false≢true (subst Entry q z)))
 
-module _ {code : List ℕ} {limit group : ℕ} {words : List ℤ} {records : List Activation} {table : List ℤ} {here : Now}
+module _ {code : List ℕ} {limit group : ℕ} {words : List ℤ} {records : List Activation} {table : List ℤ} {here : Registers}
     (w : Running code limit group words records table here) where
   abbrev st : Standing code (limitsBy limit group) words (blocksIn records) (nextsIn records) (linksIn records) table (here .pairs) (here .live)
       (here .at) (here .end)
@@ -167,7 +154,7 @@ module _ {code : List ℕ} {limit group : ℕ} {words : List ℤ} {records : Lis
   way = byChain words records (here .live) (here .level)
 
   abbrev scene : Scene
-  scene = sceneOf code words table (here .pairs) group limit (here .live) (here .at)
+  scene = sceneBy code words limit (here .live) (here .at)
 
   -- The words
 
@@ -235,8 +222,8 @@ module _ {code : List ℕ} {limit group : ℕ} {words : List ℤ} {records : Lis
   hands call-op e f few z =
       let q = ends-as-call call-op e (λ (h : 7 ≡ 6). omega (arith, h)) in
       (call-hands way scene z ∙ handed-to (getD code (here .at + 2) 0) q, subst (Handing code records here) (sym q) (its-arguments (f .0) few))
-  hands pair-op e f few z = absurd (add-goes way scene z)
-  hands unpair-op e f few z = absurd (remove-goes way scene z)
+  hands pair-op e f few z = absurd (change-goes way scene Add z)
+  hands unpair-op e f few z = absurd (change-goes way scene Remove z)
   hands query-op e f few z = absurd (query-goes way scene z)
   hands constant-formal-op e f few z = absurd (constant-goes way scene z)
   hands arithmetic-formal-op e f few z = absurd (computing-goes way scene _ z)

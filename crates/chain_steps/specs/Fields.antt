@@ -8,13 +8,14 @@ use Rattle.steps.specs.Standing.{Standing}
 use Rattle.steps.specs.Fields as fields
 use Rattle.steps.specs.Finding.{Reaches}
 use Rattle.activations.specs.declared.Activation.{Activation}
-use Rattle.links.specs.declared.Now.{Now}
+use Rattle.run_state.specs.declared.Registers.{Registers}
 use Rattle.links.specs.Records.{blocksIn, nextsIn, linksIn}
 use Rattle.links.specs.Finding.{firstCell, Seen}
-use Rattle.links.specs.Running.{limitsBy, Running}
+use Rattle.run_state.specs.Scenes.{limitsBy}
+use Rattle.links.specs.Running.{Running}
 use Rattle.links.specs.Names as links
 
-module _ {code : List ℕ} {limit group : ℕ} {words : List ℤ} {records : List Activation} {table : List ℤ} {here : Now}
+module _ {code : List ℕ} {limit group : ℕ} {words : List ℤ} {records : List Activation} {table : List ℤ} {here : Registers}
     (w : Running code limit group words records table here) where
   abbrev st : Standing code (limitsBy limit group) words (blocksIn records) (nextsIn records) (linksIn records) table (here .pairs) (here .live)
       (here .at) (here .end)

@@ -1,4 +1,4 @@
-// The next statement is done as far as words and table go. Its names are found by following links from the innermost activation, as many of them as
+// The next statement is done as far as words go. Its names are found by following links from the innermost activation, as many of them as
 // it has.
 use super::summed::summed;
 use super::tabled::tabled;
@@ -10,8 +10,8 @@ use chain_statements::act_branch;
 use chain_statements::act_one;
 use chain_statements::class_of;
 use chain_statements::do_constant;
-use links::Now;
 use links::first_cell;
+use run_state::Registers;
 use stepping::code_at;
 ghost use mathlib.Core.Path.{_≡_};
 ghost use Prim.Native.Nat.{_+_, _%_, _<_, _≤_};
@@ -20,7 +20,7 @@ ghost use Rattle.resolved.specs.Resolved.{levelIn};
 ghost use Rattle.chain_steps.specs.Acted.{onlyHops, Stating, Does, happening};
 
 // The links to the only name of a statement; a BK has none, and is linked to the innermost activation itself.
-fn only_hops(code: &[u32; 4096], here: Now) -> usize
+fn only_hops(code: &[u32; 4096], here: Registers) -> usize
     requires { ⌜ (here .at + 1 < 4096)
         × ((getD (now code) (here .at) 0 % 16 ≡ 6 → ⊥) → levelIn (getD (now code) (here .at + 1) 0) ≤ here .level) ⌝ }
     ensures { λ r. ⌜ r ≡ onlyHops (now (code .entry)) here ⌝ }
@@ -36,14 +36,11 @@ pub fn acted(
     code: &[u32; 4096],
     words: &mut [i32; 8224],
     records: &[Activation],
-    table: &mut [i32],
-    group: u32,
     limit: usize,
-    here: Now,
+    here: Registers,
 ) -> Moved
-    requires { ⌜ Stating (now code) (now words) (now records) (now table) group limit here ⌝ }
-    ensures { λ r. ⌜ Does (happening (now (code .entry)) (now (words .entry)) (now (records .entry)) (now (table .entry)) group limit here)
-        (now (words .entry)) here r (now (words .exit)) (now (table .exit)) ⌝ }
+    requires { ⌜ Stating (now code) (now words) (now records) limit here ⌝ }
+    ensures { λ r. ⌜ Does (happening (now (code .entry)) (now (words .entry)) (now (records .entry)) limit here) (now (words .entry)) here r (now (words .exit)) ⌝ }
 {
     let class = class_of(code, here.at);
     let own = 32 * here.live;
@@ -64,7 +61,7 @@ pub fn acted(
         return came_to(here, done);
     }
     if 5 < class {
-        return tabled(code, words, records, table, group, here, own, class);
+        return tabled(code, words, records, here, own, class);
     }
     summed(code, words, records, here, own, class)
 }

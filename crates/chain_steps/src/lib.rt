@@ -1,6 +1,5 @@
 // A step of the static-chain engine.
 pub use stepped::step;
-pub use turn::Turn;
 pub use turn::went;
 
 mod acted;

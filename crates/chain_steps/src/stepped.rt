@@ -1,7 +1,8 @@
 // A step: the names of the next statement are found by following links from the innermost activation, the statement is done, and the records are put
 // right where another activation becomes the innermost one.
 use super::acted::acted;
-use super::turn::Turn;
+use super::turn::answered;
+use super::turn::asks;
 use super::turn::below;
 use super::turn::enters;
 use super::turn::entry_of;
@@ -13,14 +14,15 @@ use super::turn::turn_of;
 use super::turn::went;
 use activations::Activation;
 use activations::read;
-use links::Now;
 use links::enter;
 use links::left;
+use run_state::Registers;
+use run_state::Turn;
 ghost use Rattle.links.specs.Running.{Running};
 ghost use Rattle.chain_steps.specs.Turning.{Turned, LeaveReady};
 
 // At the end of its text the innermost activation is left.
-fn leave(code: &[u32; 4096], records: &[Activation], here: Now) -> Turn
+fn leave(code: &[u32; 4096], records: &[Activation], here: Registers) -> Turn
     requires { ⌜ LeaveReady (now code) (now records) here ⌝ }
     ensures { λ r. ⌜ ((v : LeaveReady (now (code .entry)) (now (records .entry)) here) → Turned (v .running) r (v .words) (now (records .entry)) (v .table)) ⌝ }
 {
@@ -38,7 +40,7 @@ pub fn step(
     table: &mut [i32],
     group: u32,
     limit: usize,
-    here: Now,
+    here: Registers,
 ) -> Turn
     requires { ⌜ Running (now code) limit group (now words) (now records) (now table) here ⌝ }
     ensures { λ r.
@@ -48,9 +50,12 @@ pub fn step(
     if here.at == here.end {
         return leave(code, records, here);
     }
-    let done = acted(code, words, records, table, group, limit, here);
+    let done = acted(code, words, records, limit, here);
     if is_done(done) {
         return turn_of(done);
+    }
+    if asks(done) {
+        return answered(table, words, group, here, done);
     }
     if enters(done) {
         return went(enter(code, words, records, here, entry_of(done)));

@@ -6,22 +6,22 @@ use chain_statements::do_add;
 use chain_statements::do_arithmetic_formal;
 use chain_statements::do_compare;
 use chain_statements::do_subtract;
-use links::Now;
 use links::first_cell;
+use run_state::Registers;
 ghost use Rattle.chain_steps.specs.Acted.{Summing, Does, happening};
 
 pub fn summed(
     code: &[u32; 4096],
     words: &mut [i32; 8224],
     records: &[Activation],
-    here: Now,
+    here: Registers,
     own: usize,
     class: usize,
 ) -> Moved
     requires { ⌜ Summing (now code) (now words) (now records) here own class ⌝ }
     ensures { λ r. ⌜ ((w : Summing (now (code .entry)) (now (words .entry)) (now (records .entry)) here own class)
-        → Does (happening (now (code .entry)) (now (words .entry)) (now (records .entry)) (w .table) (w .group) (w .limit) here)
-        (now (words .entry)) here r (now (words .exit)) (w .table)) ⌝ }
+        → Does (happening (now (code .entry)) (now (words .entry)) (now (records .entry)) (w .limit) here)
+        (now (words .entry)) here r (now (words .exit))) ⌝ }
 {
     if class == 1 {
         let second = first_cell(code, records, here, own, 3);

@@ -4,52 +4,32 @@ use super::turn::came_to;
 use activations::Activation;
 use chain_statements::act_pair;
 use chain_statements::do_query;
-use links::Now;
 use links::first_cell;
+use run_state::Registers;
 ghost use Rattle.chain_steps.specs.Acted.{Tabling, Does, happening};
 
 pub fn tabled(
     code: &[u32; 4096],
-    words: &mut [i32; 8224],
+    words: &[i32; 8224],
     records: &[Activation],
-    table: &mut [i32],
-    group: u32,
-    here: Now,
+    here: Registers,
     own: usize,
     class: usize,
 ) -> Moved
-    requires { ⌜ Tabling (now code) (now words) (now records) (now table) group here own class ⌝ }
-    ensures { λ r. ⌜ ((w : Tabling (now (code .entry)) (now (words .entry)) (now (records .entry)) (now (table .entry)) group here own class)
-        → Does (happening (now (code .entry)) (now (words .entry)) (now (records .entry)) (now (table .entry)) group (w .limit) here)
-        (now (words .entry)) here r (now (words .exit)) (now (table .exit))) ⌝ }
+    requires { ⌜ Tabling (now code) (now words) (now records) here own class ⌝ }
+    ensures { λ r. ⌜ ((w : Tabling (now (code .entry)) (now (words .entry)) (now (records .entry)) here own class)
+        → Does (happening (now (code .entry)) (now (words .entry)) (now (records .entry)) (w .limit) here)
+        (now (words .entry)) here r (now (words .entry))) ⌝ }
 {
     if class == 6 {
         let first = first_cell(code, records, here, own, 1);
         let second = first_cell(code, records, here, own, 2);
-        let done = act_pair(
-            code,
-            words,
-            table,
-            here.pairs,
-            group,
-            here.at,
-            first,
-            second,
-        );
+        let done = act_pair(code, words, here.at, first, second);
         return came_to(here, done);
     }
     let first = first_cell(code, records, here, own, 1);
     let second = first_cell(code, records, here, own, 2);
     let third = first_cell(code, records, here, own, 3);
-    let done = do_query(
-        code,
-        words,
-        table,
-        here.pairs,
-        here.at,
-        first,
-        second,
-        third,
-    );
+    let done = do_query(code, words, here.at, first, second, third);
     came_to(here, done)
 }

@@ -1,5 +1,5 @@
 // Entering a block, of the copying engine: its text is copied anew into the area, and no copy is used twice.
-use moves::narrow;
+use run_state::narrow;
 use stepping::clear;
 use stepping::code_at;
 use texts::copy_text;

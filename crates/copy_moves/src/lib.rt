@@ -1,8 +1,8 @@
 // The start, leaving and jumping, of the copying engine.
 use copy_entering::Now;
-use moves::narrow;
-use moves::wide;
 use new_names::cell_of;
+use run_state::narrow;
+use run_state::wide;
 use sheets::designator_of;
 use stepping::code_at;
 use texts::copy_text;

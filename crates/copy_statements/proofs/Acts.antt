@@ -78,7 +78,7 @@ module _ (c : Copy) (s : Scene) where
       go false e = (p ∙ rw (e, branchMove, doBranch), (rw (e, doBranch), rw (e, doBranch)))
 
   pub block-acts :
-      {r : Move} → r ≡ blockMove (s .code) (s .limits .activations) (s .live) (s .at) → Acted (happens c s block) r (s .words) (s .table)
+      {r : Move} → r ≡ blockMove (s .code) (s .limit) (s .live) (s .at) → Acted (happens c s block) r (s .words) (s .table)
   unfolding happens doBlock moves
   block-acts p = (p, (refl, refl))
 
@@ -95,7 +95,7 @@ module _ (c : Copy) (s : Scene) where
   refused = refusedAt (s .code) (c .area) (c .firsts) (c .starts) (c .targets) (s .live) (s .at) place
 
   abbrev full : Bool
-  full = leb (s .limits .activations) (s .live + 1)
+  full = leb (s .limit) (s .live + 1)
 
   pub call-acts :
       {r : Move} {ws : List ℤ} →

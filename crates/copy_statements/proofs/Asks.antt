@@ -39,7 +39,7 @@ module _ (c : Copy) (s : Scene) (r : Ready c s) where
 
   pub call-asks :
       markOf (text c s 0) ≡ call →
-      CallAt (s .code) (c .area) (c .firsts) (c .starts) (c .targets) (s .limits .activations) (s .live) (s .at) place
+      CallAt (s .code) (c .area) (c .firsts) (c .starts) (c .targets) (s .limit) (s .live) (s .at) place
   call-asks e =
       let b = asks call e in
       let n = text c s 2 in

@@ -58,7 +58,7 @@ module _ (c : Copy) (s : Scene) where
   doBranch = elim (eqZ (valueAt 1) (pos 0)) [ true ↦ moves s (On (s .at + 3)) | false ↦ doGoto 2 ]
 
   unfoldable pub doBlock : Happened
-  doBlock = moves s (blockMove (s .code) (s .limits .activations) (s .live) (s .at))
+  doBlock = moves s (blockMove (s .code) (s .limit) (s .live) (s .at))
 
   -- what the arguments from field i on hand on
   unfoldable pub argumentsFrom : ℕ → ℕ → List ℤ
@@ -75,7 +75,7 @@ module _ (c : Copy) (s : Scene) where
   doCall =
       elim differs [
         | true ↦ moves s (Stop ArgumentsDiffer)
-        | false ↦ elim (leb (s .limits .activations) (s .live + 1)) [
+        | false ↦ elim (leb (s .limit) (s .live + 1)) [
           | true ↦ moves s (Stop NoActivationLeft)
           | false ↦ rewrites s (Enter (target 1) (cell 1 / 32) (s .at + 3 + text 2)) (setAll (s .words) (32 * s .live + 32) (argumentsFrom 3 (text 2)))
         ]

@@ -68,7 +68,7 @@ module _ (c : Copy) (s : Scene) (F : Finding) where
   pub block-same : doBlock c s ≡ actBlock F s
   unfolding doBlock actBlock blockMove noRoom
   block-same =
-      split (leb (s .limits .activations) (s .live + 1))
+      split (leb (s .limit) (s .live + 1))
       (λ e. rw (doBlock, actBlock, blockMove, e))
       (λ e. rw (doBlock, actBlock, blockMove, e))
 
@@ -90,7 +90,7 @@ module _ (c : Copy) (s : Scene) (F : Finding) where
     called-same : differs c s ≡ false → doCall c s ≡ actCall F s
     unfolding doCall actCall noRoom
     called-same d =
-        split (leb (s .limits .activations) (s .live + 1))
+        split (leb (s .limit) (s .live + 1))
         (λ e. rw (doCall, d, e, actCall))
         (λ e. (rw (doCall, d, e))
         ∙ (λ i. rewrites s (Enter (procedure .target-is i) (procedure .home-is i) (s .at + 3 + count i)) (setAll (s .words) (32 * s .live + 32) (given-same i)))

@@ -15,15 +15,15 @@ use Rattle.steps.specs.Fields as fields
 use Rattle.steps.specs.Finding.{Reaches, reached-by-display, finds-by-display}
 use Rattle.statements.specs.Pieces.{FormalsBefore}
 use Rattle.display.specs.Finding.{firstCell, ownCell, byDisplay, Reachable, Direct, ThroughFormal, ArgumentsReachable}
-use Rattle.moves.specs.Running.{limitsBy, Doing}
+use Rattle.run_state.specs.Scenes.{limitsBy}
+use Rattle.moves.specs.Running.{Doing}
 
 formal-target : (words : List ℤ) (first v : ℕ) → direct v ≡ false → targetBy words first v ≡ heldBy words first v / 8192
 unfolding targetBy
 formal-target words first v e = rw (targetBy, e)
 
-module _ {code : List ℕ} {words : List ℤ} {display : List ℕ} {table : List ℤ} {pairs group limit live at : ℕ}
-    (d : Doing code words display table pairs group limit live at) where
-  abbrev st : Standing code (limitsBy limit group) words (d .blocks) (d .nexts) (d .links) table pairs live at (d .end)
+module _ {code : List ℕ} {words : List ℤ} {display : List ℕ} {limit live at : ℕ} (d : Doing code words display limit live at) where
+  abbrev st : Standing code (limitsBy limit (d .group)) words (d .blocks) (d .nexts) (d .links) (d .table) (d .pairs) live at (d .end)
   st = d .running .standing
 
   reached : (i : ℕ) (f : fields.FieldName st i) → Reaches words live (firstCell display (getD code (at + i) 0)) (getD code (at + i) 0)

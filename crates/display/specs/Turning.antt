@@ -1,6 +1,6 @@
 -- What a step comes to (`Turned`), what a run begins with (`Beginning`), and what it ends with (`Ended`): the frame machine's result, with the arrays
 -- that hold its stack.
-use Prim.Native.Nat.{ℕ, _+_, _≤_, _<_}
+use Prim.Native.Nat.{ℕ, _/_, _%_, _≤_, _<_}
 use mathlib.Core.Bool.{true}
 use mathlib.Core.List.{List}
 use mathlib.Core.Path.{_≡_}
@@ -8,36 +8,48 @@ use lib.IntN.{ℤ, pos}
 use lib.ListN.{length, getD}
 use Rattle.language.specs.Text.{Block}
 use Rattle.language.specs.Table.{right}
-use Rattle.language.specs.declared.End.{End}
 use Rattle.grammar.specs.Rules.{Keeps}
-use Rattle.frames.specs.Frame.{Result, halted, frameStep}
+use Rattle.frames.specs.Frame.{Result}
 use Rattle.resolved.specs.Resolved.{resolvedOf, Covers}
-use Rattle.steps.specs.Underway as steps
-use Rattle.moves.specs.declared.Now.{Now}
-use Rattle.display.specs.declared.run.Turn.{Turn}
-use Rattle.display.specs.declared.run.Turn.the-variants.{Went, Finished, Stopped}
-use Rattle.display.specs.declared.run.Halt.{Halt}
-use Rattle.moves.specs.Running.{limitsBy, Running, Succeeds}
+use Rattle.run_state.specs.declared.Registers.{Registers}
+use Rattle.run_state.specs.declared.Turn.{Turn}
+use Rattle.run_state.specs.declared.Turn.the-variants.{Went, Finished, Stopped}
+use Rattle.run_state.specs.declared.Halt.{Halt}
+use Rattle.run_state.specs.Scenes.{limitsBy}
+use Rattle.run_state.specs.Turns.{Leaves, Stops}
+use Rattle.run_state.specs.Ended.{EndedFrom}
+use Rattle.moves.specs.Running.{Running, Succeeds}
+
+-- what a step may write
+pub record Arrays : Type 0 where
+  pub words : List ℤ
+  pub blocks : List ℕ
+  pub nexts : List ℕ
+  pub links : List ℕ
+  pub display : List ℕ
+  pub table : List ℤ
+
+abbrev pub arraysOf : List ℤ → List ℕ → List ℕ → List ℕ → List ℕ → List ℤ → Arrays
+arraysOf words blocks nexts links display table =
+    record { words = words; blocks = blocks; nexts = nexts; links = links; display = display; table = table }
 
 -- What a step comes to
 
-module _ {code : List ℕ} {limit group : ℕ} {words : List ℤ} {blocks nexts links display : List ℕ} {table : List ℤ} {here : Now}
+module _ {code : List ℕ} {limit group : ℕ} {words : List ℤ} {blocks nexts links display : List ℕ} {table : List ℤ} {here : Registers}
     (w : Running code limit group words blocks nexts links display table here) where
   abbrev pub Turned : Turn → List ℤ → List ℕ → List ℕ → List ℕ → List ℕ → List ℤ → Type 0
   Turned (Went here′) words′ blocks′ nexts′ links′ display′ table′ = Succeeds w words′ blocks′ nexts′ links′ display′ table′ here′
-  Turned Finished words′ blocks′ nexts′ links′ display′ table′ = (here .at ≡ here .end) × (here .live ≡ 0) × (words′ ≡ words) × (table′ ≡ table)
+  Turned Finished words′ blocks′ nexts′ links′ display′ table′ = Leaves here words table words′ table′
   Turned (Stopped c) words′ blocks′ nexts′ links′ display′ table′ =
-      (frameStep (limitsBy limit group) (w .standing .stack) ≡ halted c)
-      × (words′ ≡ words) × (blocks′ ≡ blocks) × (nexts′ ≡ nexts) × (links′ ≡ links) × (display′ ≡ display) × (table′ ≡ table)
+      Stops (limitsBy limit group) (w .standing .stack) c (arraysOf words blocks nexts links display table) (arraysOf words′ blocks′ nexts′ links′ display′ table′)
 
--- What the functions of a run's end make
-abbrev pub haltOf : End → ℕ → ℕ → Now → ℕ → Halt
-haltOf e steps offset here designator =
-    record { end = e; steps = steps; offset = offset; live = here .live + 1; pairs = here .pairs; designator = designator }
+-- The run of a program
 
--- The run
+-- where it begins
+abbrev pub startBy : List ℕ → ℕ → Registers
+startBy code pairs = record { live = 0; at = getD code 1 0 / 65536; end = getD code 1 0 % 65536; pairs = pairs; level = 0; fresh = 0 }
 
--- what a run begins with: the resolved script of a program that keeps the rules, arrays of zeros, limits in range and a right table
+-- what it begins with: the resolved script of a program that keeps the rules, arrays of zeros, limits in range and a right table
 pub record Beginning (code : List ℕ) (words : List ℤ) (blocks nexts links : List ℕ) (table : List ℤ) (pairs group limit : ℕ) : Type 0 where
   pub program : Block
   pub name : ℕ
@@ -56,5 +68,4 @@ pub record Beginning (code : List ℕ) (words : List ℤ) (blocks nexts links : 
 
 -- what it ends with: the frame machine's result, and the arrays hold its stack
 abbrev pub Ended : Block → ℕ → ℕ → ℕ → Result → Halt → List ℤ → List ℕ → List ℕ → List ℕ → List ℤ → Type 0
-Ended program name limit group result r words blocks nexts links table =
-    steps.Ended program name (limitsBy limit group) result (r .end) (r .steps) (r .offset) (r .pairs) (r .live) (r .designator) words blocks nexts links table
+Ended program name limit group = EndedFrom 0 program name (limitsBy limit group)

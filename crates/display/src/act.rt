@@ -1,27 +1,24 @@
-// The statement at a place is done as far as words and table go; where the run goes on is the answer.
+// The statement at a place is done as far as words go; where the run goes on is the answer.
 use super::arms;
+use acting::Ask;
 use acting::Move;
 use stepping::code_at;
 ghost use mathlib.Core.Path.{_≡_};
-ghost use Rattle.acting.specs.Acting.{acting};
+ghost use Rattle.acting.specs.Acting.{sceneBy, acting};
 ghost use Rattle.display.specs.Finding.{byDisplay};
-ghost use Rattle.moves.specs.Running.{sceneBy, Doing};
+ghost use Rattle.moves.specs.Running.{Doing};
 
 pub fn act(
     code: &[u32; 4096],
     words: &mut [i32; 8224],
     display: &[u16; 256],
-    table: &mut [i32],
-    pairs: usize,
-    group: u32,
     limit: usize,
     live: usize,
     at: usize,
 ) -> Move
-    requires { ⌜ Doing (now code) (now words) (now display) (now table) pairs group limit live at ⌝ }
-    ensures { λ r. ⌜ r ≡ (acting (byDisplay (now (words .entry)) (now (display .entry))) (sceneBy (now (code .entry)) (now (words .entry)) (now (table .entry)) pairs group limit live at)) .move ⌝ }
-    ensures { λ _. ⌜ now (words .exit) ≡ (acting (byDisplay (now (words .entry)) (now (display .entry))) (sceneBy (now (code .entry)) (now (words .entry)) (now (table .entry)) pairs group limit live at)) .words ⌝ }
-    ensures { λ _. ⌜ now (table .exit) ≡ (acting (byDisplay (now (words .entry)) (now (display .entry))) (sceneBy (now (code .entry)) (now (words .entry)) (now (table .entry)) pairs group limit live at)) .table ⌝ }
+    requires { ⌜ Doing (now code) (now words) (now display) limit live at ⌝ }
+    ensures { λ r. ⌜ r ≡ (acting (byDisplay (now (words .entry)) (now (display .entry))) (sceneBy (now (code .entry)) (now (words .entry)) limit live at)) .move ⌝ }
+    ensures { λ _. ⌜ now (words .exit) ≡ (acting (byDisplay (now (words .entry)) (now (display .entry))) (sceneBy (now (code .entry)) (now (words .entry)) limit live at)) .words ⌝ }
 {
     let operation = code_at(code, at) % 16;
     match operation {
@@ -33,9 +30,9 @@ pub fn act(
         5 => arms::do_goto(code, display, at),
         6 => statements::do_block(code, limit, live, at),
         7 => arms::do_call(code, words, display, limit, live, at),
-        8 => arms::do_add_pair(code, words, display, table, pairs, group, at),
-        9 => arms::do_remove_pair(code, words, display, table, pairs, at),
-        10 => arms::do_query(code, words, display, table, pairs, at),
+        8 => arms::do_change(code, words, display, at, Ask::Add),
+        9 => arms::do_change(code, words, display, at, Ask::Remove),
+        10 => arms::do_query(code, words, display, at),
         11 => arms::do_constant_formal(code, words, display, at),
         12 => arms::do_arithmetic_formal(code, words, display, at),
         13 => arms::do_branch_formal(code, words, display, at),

@@ -4,10 +4,9 @@ use super::names::cell;
 use super::names::first_cell;
 use super::names::held;
 use super::names::own_cell;
+use acting::Ask;
 use acting::Move;
 use language::Stop;
-use pairs::Query;
-use statements::changed;
 use statements::computed;
 use statements::constant;
 use stepping::code_at;
@@ -17,8 +16,9 @@ ghost use lib.ListN.{getD};
 ghost use Rattle.language.specs.Text.{plus, minus, less};
 ghost use Rattle.resolved.specs.Resolved.{targetIn};
 ghost use Rattle.arrays.specs.Found.{cellBy, heldBy};
-ghost use Rattle.acting.specs.Acting.{doConstant, doArithmetic, operationOf, doGoto, doBranch, doCall, doCallFormal, doAdd, doRemove, doQuery, argumentsFrom, setAll};
-ghost use Rattle.statements.specs.Pieces.{only-words, without-table, with-table, FormalsBefore, enteredBy};
+ghost use Rattle.acting.specs.Acting.{doConstant, doArithmetic, operationOf, doGoto, doBranch, doCall, doCallFormal, doChange, doQuery, argumentsFrom, setAll};
+ghost use Rattle.acting.specs.Acting.{sceneBy};
+ghost use Rattle.statements.specs.Pieces.{only-words, FormalsBefore, enteredBy};
 ghost use Rattle.display.specs.Finding.{firstCell, ownCell, byDisplay, Reachable, Direct, ThroughFormal, ArgumentsReachable};
 
 fn own_at(code: &[u32; 4096], display: &[u16; 256], place: usize) -> usize
@@ -232,8 +232,8 @@ fn enter_body(
     requires { ⌜ live ≤ 255 ⌝ }
     requires { ⌜ at + 3 ≤ 4096 ⌝ }
     requires { ⌜ ArgumentsReachable (now code) (now display) live (at + 3) (getD (now code) (at + 2) 0) ⌝ }
-    ensures { λ r. ⌜ r ≡ (enteredBy (byDisplay (now (words .entry)) (now (display .entry))) (without-table (now (code .entry)) (now (words .entry)) limit live at) home body) .move ⌝ }
-    ensures { λ _. ⌜ now (words .exit) ≡ (enteredBy (byDisplay (now (words .entry)) (now (display .entry))) (without-table (now (code .entry)) (now (words .entry)) limit live at) home body) .words ⌝ }
+    ensures { λ r. ⌜ r ≡ (enteredBy (byDisplay (now (words .entry)) (now (display .entry))) (sceneBy (now (code .entry)) (now (words .entry)) limit live at) home body) .move ⌝ }
+    ensures { λ _. ⌜ now (words .exit) ≡ (enteredBy (byDisplay (now (words .entry)) (now (display .entry))) (sceneBy (now (code .entry)) (now (words .entry)) limit live at) home body) .words ⌝ }
 {
     if limit <= live + 1 {
         return Move::Stop(Stop::NoActivationLeft);
@@ -256,8 +256,8 @@ pub fn do_call(
     requires { ⌜ at + 3 ≤ 4096 ⌝ }
     requires { ⌜ ArgumentsReachable (now code) (now display) live (at + 3) (getD (now code) (at + 2) 0) ⌝ }
     requires { ⌜ Direct (now words) (now display) (getD (now code) (at + 1) 0) ⌝ }
-    ensures { λ r. ⌜ r ≡ (doCall (byDisplay (now (words .entry)) (now (display .entry))) (without-table (now (code .entry)) (now (words .entry)) limit live at)) .move ⌝ }
-    ensures { λ _. ⌜ now (words .exit) ≡ (doCall (byDisplay (now (words .entry)) (now (display .entry))) (without-table (now (code .entry)) (now (words .entry)) limit live at)) .words ⌝ }
+    ensures { λ r. ⌜ r ≡ (doCall (byDisplay (now (words .entry)) (now (display .entry))) (sceneBy (now (code .entry)) (now (words .entry)) limit live at)) .move ⌝ }
+    ensures { λ _. ⌜ now (words .exit) ≡ (doCall (byDisplay (now (words .entry)) (now (display .entry))) (sceneBy (now (code .entry)) (now (words .entry)) limit live at)) .words ⌝ }
 {
     let procedure = code_at(code, at + 1);
     let home = first_cell(display, procedure) / 32;
@@ -288,8 +288,8 @@ pub fn do_call_formal(
     requires { ⌜ ArgumentsReachable (now code) (now display) live (at + 3) (getD (now code) (at + 2) 0) ⌝ }
     requires { ⌜ ThroughFormal (now words) (now display) (getD (now code) (at + 1) 0) ⌝ }
     requires { ⌜ FormalsBefore (now code) (heldBy (now words) (firstCell (now display) (getD (now code) (at + 1) 0)) (getD (now code) (at + 1) 0) / 8192) ⌝ }
-    ensures { λ r. ⌜ r ≡ (doCallFormal (byDisplay (now (words .entry)) (now (display .entry))) (without-table (now (code .entry)) (now (words .entry)) limit live at)) .move ⌝ }
-    ensures { λ _. ⌜ now (words .exit) ≡ (doCallFormal (byDisplay (now (words .entry)) (now (display .entry))) (without-table (now (code .entry)) (now (words .entry)) limit live at)) .words ⌝ }
+    ensures { λ r. ⌜ r ≡ (doCallFormal (byDisplay (now (words .entry)) (now (display .entry))) (sceneBy (now (code .entry)) (now (words .entry)) limit live at)) .move ⌝ }
+    ensures { λ _. ⌜ now (words .exit) ≡ (doCallFormal (byDisplay (now (words .entry)) (now (display .entry))) (sceneBy (now (code .entry)) (now (words .entry)) limit live at)) .words ⌝ }
 {
     let procedure = held(words, display, code_at(code, at + 1));
     let body = procedure / 8192;
@@ -312,69 +312,34 @@ pub fn do_call_formal(
     )
 }
 
-pub fn do_add_pair(
+// AD and RM
+pub fn do_change(
     code: &[u32; 4096],
     words: &[i32; 8224],
     display: &[u16; 256],
-    table: &mut [i32],
-    pairs: usize,
-    limit: u32,
     at: usize,
+    ask: Ask,
 ) -> Move
     requires { ⌜ at + 3 ≤ 4096 ⌝ }
     requires { ⌜ Reachable (now words) (now display) (getD (now code) (at + 1) 0) ⌝ }
     requires { ⌜ Reachable (now words) (now display) (getD (now code) (at + 2) 0) ⌝ }
-    ensures { λ r. ⌜ r ≡ (doAdd (byDisplay (now (words .entry)) (now (display .entry))) (with-table (now (code .entry)) (now (words .entry)) (now (table .entry)) pairs limit at)) .move ⌝ }
-    ensures { λ _. ⌜ now (table .exit) ≡ (doAdd (byDisplay (now (words .entry)) (now (display .entry))) (with-table (now (code .entry)) (now (words .entry)) (now (table .entry)) pairs limit at)) .table ⌝ }
+    ensures { λ r. ⌜ r ≡ (doChange (byDisplay (now (words .entry)) (now (display .entry))) (only-words (now (code .entry)) (now (words .entry)) at) ask) .move ⌝ }
 {
-    let group = words[cell_at(code, words, display, at + 1)];
-    let member = words[cell_at(code, words, display, at + 2)];
-    changed(pairs::add_pair(table, pairs, limit, group, member), at)
-}
-
-pub fn do_remove_pair(
-    code: &[u32; 4096],
-    words: &[i32; 8224],
-    display: &[u16; 256],
-    table: &mut [i32],
-    pairs: usize,
-    at: usize,
-) -> Move
-    requires { ⌜ at + 3 ≤ 4096 ⌝ }
-    requires { ⌜ Reachable (now words) (now display) (getD (now code) (at + 1) 0) ⌝ }
-    requires { ⌜ Reachable (now words) (now display) (getD (now code) (at + 2) 0) ⌝ }
-    ensures { λ r. ⌜ r ≡ (doRemove (byDisplay (now (words .entry)) (now (display .entry))) (with-table (now (code .entry)) (now (words .entry)) (now (table .entry)) pairs 0 at)) .move ⌝ }
-    ensures { λ _. ⌜ now (table .exit) ≡ (doRemove (byDisplay (now (words .entry)) (now (display .entry))) (with-table (now (code .entry)) (now (words .entry)) (now (table .entry)) pairs 0 at)) .table ⌝ }
-{
-    let group = words[cell_at(code, words, display, at + 1)];
-    let member = words[cell_at(code, words, display, at + 2)];
-    changed(pairs::remove_pair(table, pairs, group, member), at)
+    let group = cell_at(code, words, display, at + 1);
+    let member = cell_at(code, words, display, at + 2);
+    Move::Table(at + 3, group, member, 0, ask)
 }
 
 // QY
-pub fn do_query(
-    code: &[u32; 4096],
-    words: &mut [i32; 8224],
-    display: &[u16; 256],
-    table: &[i32],
-    pairs: usize,
-    at: usize,
-) -> Move
+pub fn do_query(code: &[u32; 4096], words: &[i32; 8224], display: &[u16; 256], at: usize) -> Move
     requires { ⌜ at + 4 ≤ 4096 ⌝ }
     requires { ⌜ Reachable (now words) (now display) (getD (now code) (at + 1) 0) ⌝ }
     requires { ⌜ Reachable (now words) (now display) (getD (now code) (at + 2) 0) ⌝ }
     requires { ⌜ Reachable (now words) (now display) (getD (now code) (at + 3) 0) ⌝ }
-    ensures { λ r. ⌜ r ≡ (doQuery (byDisplay (now (words .entry)) (now (display .entry))) (with-table (now (code .entry)) (now (words .entry)) (now (table .entry)) pairs 0 at)) .move ⌝ }
-    ensures { λ _. ⌜ now (words .exit) ≡ (doQuery (byDisplay (now (words .entry)) (now (display .entry))) (with-table (now (code .entry)) (now (words .entry)) (now (table .entry)) pairs 0 at)) .words ⌝ }
+    ensures { λ r. ⌜ r ≡ (doQuery (byDisplay (now (words .entry)) (now (display .entry))) (only-words (now (code .entry)) (now (words .entry)) at)) .move ⌝ }
 {
     let target = cell_at(code, words, display, at + 1);
-    let group = words[cell_at(code, words, display, at + 2)];
-    let member = words[cell_at(code, words, display, at + 3)];
-    match pairs::query_pair(table, pairs, group, member) {
-        Query::Value(value) => {
-            stepping::store(words, target, value);
-            Move::On(at + 4)
-        }
-        Query::Stopped(cause) => Move::Stop(cause),
-    }
+    let group = cell_at(code, words, display, at + 2);
+    let member = cell_at(code, words, display, at + 3);
+    Move::Table(at + 4, group, member, target, Ask::Query)
 }

@@ -1,14 +1,9 @@
 // Where a name lies, by the display: entry j is the first cell of the enclosing activation of level j.
+use run_state::wide;
 ghost use mathlib.Core.Path.{_≡_};
 ghost use Prim.Native.Nat.{_+_, _<_};
 ghost use Rattle.arrays.specs.Found.{cellBy, heldBy};
 ghost use Rattle.display.specs.Finding.{firstCell, ownCell, Reachable, ThroughFormal};
-
-fn wide(x: u16) -> usize
-    ensures { λ r. ⌜ (r ≡ x) × (r < 65536) ⌝ }
-{
-    x as usize
-}
 
 // The first cell of the activation in which the name with this word is declared.
 pub fn first_cell(display: &[u16; 256], word: usize) -> usize

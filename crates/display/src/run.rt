@@ -1,29 +1,55 @@
 // The run: steps until the program is left, a statement has a cause to stop, or the allowance is spent.
 use super::act::act;
 use super::names::cell;
+use acting::Ask;
 use acting::Move;
-use language::End;
-use language::Stop;
-use moves::Now;
 use moves::enter;
 use moves::jump;
 use moves::leave;
 use moves::note_place;
-use moves::wide;
+use pairs::Change;
+use run_state::Halt;
+use run_state::Registers;
+use run_state::Turn;
+use run_state::finished;
+use run_state::spent;
+use run_state::stopped;
+use run_state::wide;
 use sheets::designator_of;
+use statements::after;
 use stepping::code_at;
 ghost use mathlib.Core.Path.{_≡_};
-ghost use Prim.Native.Nat.{_+_, _*_, _/_, _%_, _<_};
+ghost use Prim.Native.Nat.{_+_, _/_, _%_, _<_};
 ghost use lib.ListN.{set};
 ghost use Rattle.frames.specs.Frame.{designates, frameRun, frameStart};
-ghost use Rattle.moves.specs.Running.{limitsBy, Running, Looking, Placed};
-ghost use Rattle.display.specs.Turning.{Turned, Beginning, Ended, haltOf};
+ghost use Rattle.acting.specs.Acting.{answer};
+ghost use Rattle.pairs.specs.Outcomes.{tableOf, changeOf, wordsAfter};
+ghost use Rattle.run_state.specs.Scenes.{limitsBy};
+ghost use Rattle.run_state.specs.Ended.{RunFrom};
+ghost use Rattle.moves.specs.Running.{Running, Looking, Placed};
+ghost use Rattle.display.specs.Turning.{Turned, Beginning, Ended, startBy};
 
-// What a step comes to.
-pub enum Turn {
-    Went(Now),
-    Finished,
-    Stopped(Stop),
+// What the table answers.
+fn asked(
+    table: &mut [i32],
+    words: &mut [i32; 8224],
+    pairs: usize,
+    limit: u32,
+    group: usize,
+    member: usize,
+    target: usize,
+    ask: Ask,
+) -> Change
+    requires { ⌜ (group < 8192) × ((member < 8192) × (target < 8192)) ⌝ }
+    ensures { λ r. ⌜ r ≡ changeOf (answer limit (now (words .entry)) (tableOf (now (table .entry)) pairs) group member target ask .effect) ⌝ }
+    ensures { λ _. ⌜ now (words .exit) ≡ answer limit (now (words .entry)) (tableOf (now (table .entry)) pairs) group member target ask .words ⌝ }
+    ensures { λ _. ⌜ now (table .exit) ≡ wordsAfter (now (table .entry)) (answer limit (now (words .entry)) (tableOf (now (table .entry)) pairs) group member target ask .effect) ⌝ }
+{
+    match ask {
+        Ask::Add => statements::add(table, words, pairs, limit, group, member),
+        Ask::Remove => statements::remove(table, words, pairs, group, member),
+        Ask::Query => statements::query(table, words, pairs, group, member, target),
+    }
 }
 
 pub fn step(
@@ -36,7 +62,7 @@ pub fn step(
     table: &mut [i32],
     group: u32,
     limit: usize,
-    here: Now,
+    here: Registers,
 ) -> Turn
     requires { ⌜ Running (now code) limit group (now words) (now blocks) (now nexts) (now links) (now display) (now table) here ⌝ }
     ensures { λ r.
@@ -45,27 +71,19 @@ pub fn step(
 {
     let live = here.live;
     let at = here.at;
-    let end = here.end;
-    let pairs = here.pairs;
-    if at == end {
+    if at == here.end {
         if live == 0 {
             return Turn::Finished;
         }
         return Turn::Went(leave(code, blocks, nexts, links, display, here));
     }
-    match act(code, words, display, table, pairs, group, limit, live, at) {
-        Move::On(place) => Turn::Went(Now {
-            live,
-            at: place,
-            end,
-            pairs,
-        }),
-        Move::Pairs(place, used) => Turn::Went(Now {
-            live,
-            at: place,
-            end,
-            pairs: used,
-        }),
+    match act(code, words, display, limit, live, at) {
+        Move::On(place) => Turn::Went(Registers { at: place, ..here }),
+        Move::Table(place, of, member, target, ask) => after(
+            here,
+            place,
+            asked(table, words, here.pairs, group, of, member, target, ask),
+        ),
         Move::Jump(home, place) => {
             Turn::Went(jump(code, blocks, links, display, here, home, place))
         }
@@ -83,16 +101,6 @@ pub fn step(
         )),
         Move::Stop(cause) => Turn::Stopped(cause),
     }
-}
-
-// How a run has ended: how many activations are live, and the looked-up name's designator.
-pub struct Halt {
-    pub end: End,
-    pub steps: u32,
-    pub offset: usize,
-    pub live: usize,
-    pub pairs: usize,
-    pub designator: u32,
 }
 
 // The designator of the looked-up name, whose word stands in the innermost block; 0 where it is not visible.
@@ -113,31 +121,84 @@ fn looked_up(
     designator_of(cell(words, display, word))
 }
 
-// A run that leaves activations live: the place of the innermost one's next statement is put with the others'.
-fn halted(
+// At the end of a run the place of the innermost activation's next statement is put with the others', and the name is looked up.
+fn settle(
     code: &[u32; 4096],
     words: &[i32; 8224],
     blocks: &[u16; 256],
     nexts: &mut [u16; 256],
     display: &[u16; 256],
-    here: Now,
-    end: End,
-    steps: u32,
-    offset: usize,
-) -> Halt
+    here: Registers,
+) -> u32
     requires { ⌜ Looking (now code) (now words) (now blocks) (now display) (here .live) × Placed here ⌝ }
-    ensures { λ r. ⌜ ((w : Looking (now (code .entry)) (now (words .entry)) (now (blocks .entry)) (now (display .entry)) (here .live)) → r ≡ haltOf end steps offset here (designates (w .running .standing .stack .frames) (w .running .standing .name))) ⌝ }
+    ensures { λ r. ⌜ ((w : Looking (now (code .entry)) (now (words .entry)) (now (blocks .entry)) (now (display .entry)) (here .live)) → r ≡ designates (w .running .standing .stack .frames) (w .running .standing .name)) ⌝ }
     ensures { λ _. ⌜ now (nexts .exit) ≡ set (now (nexts .entry)) (here .live) (here .at) ⌝ }
 {
-    let live = here.live;
     note_place(nexts, here);
-    Halt {
-        end,
-        steps,
-        offset,
-        live: live + 1,
-        pairs: here.pairs,
-        designator: looked_up(code, words, blocks, display, live),
+    looked_up(code, words, blocks, display, here.live)
+}
+
+// From any state in which the engine can stand.
+pub fn run(
+    code: &[u32; 4096],
+    words: &mut [i32; 8224],
+    blocks: &mut [u16; 256],
+    nexts: &mut [u16; 256],
+    links: &mut [u16; 256],
+    display: &mut [u16; 256],
+    table: &mut [i32],
+    group: u32,
+    limit: usize,
+    allowance: u32,
+    start: Registers,
+) -> Halt
+    requires { ⌜ Running (now code) limit group (now words) (now blocks) (now nexts) (now links) (now display) (now table) start ⌝ }
+    ensures { λ r.
+        ⌜ ((w : Running (now (code .entry)) limit group (now (words .entry)) (now (blocks .entry)) (now (nexts .entry)) (now (links .entry)) (now (display .entry)) (now (table .entry)) start)
+        → RunFrom (w .standing) allowance r (now (words .exit)) (now (blocks .exit)) (now (nexts .exit)) (now (links .exit)) (now (table .exit))) ⌝ }
+{
+    let mut here = start;
+    let mut left = allowance;
+    while 0 < left {
+        match step(
+            code,
+            words,
+            blocks,
+            nexts,
+            links,
+            display,
+            table,
+            group,
+            limit,
+            here,
+        ) {
+            Turn::Went(next) => {
+                here = next;
+                left -= 1;
+            }
+            Turn::Finished => return finished(here, allowance - left + 1),
+            Turn::Stopped(cause) => {
+                let designator = settle(code, words, blocks, nexts, display, here);
+                return stopped(here, cause, allowance - left, designator, 0);
+            }
+        }
+    }
+    let designator = settle(code, words, blocks, nexts, display, here);
+    spent(here, allowance, designator, 0)
+}
+
+// Where the program begins.
+fn begin(code: &[u32; 4096], pairs: usize) -> Registers
+    ensures { λ r. ⌜ r ≡ startBy (now (code .entry)) pairs ⌝ }
+{
+    let bounds = code_at(code, 1);
+    Registers {
+        live: 0,
+        at: bounds / 65536,
+        end: bounds % 65536,
+        pairs,
+        level: 0,
+        fresh: 0,
     }
 }
 
@@ -161,66 +222,18 @@ pub fn run_program(
         r (now (words .exit)) (now (blocks .exit)) (now (nexts .exit)) (now (links .exit)) (now (table .exit))) ⌝ }
 {
     let mut display = [0u16; 256];
-    let bounds = code_at(code, 1);
-    let mut here = Now {
-        live: 0,
-        at: bounds / 65536,
-        end: bounds % 65536,
-        pairs,
-    };
-    let mut left = allowance;
-    while 0 < left {
-        match step(
-            code,
-            words,
-            blocks,
-            nexts,
-            links,
-            &mut display,
-            table,
-            group,
-            limit,
-            here,
-        ) {
-            Turn::Went(next) => {
-                here = next;
-                left -= 1;
-            }
-            Turn::Finished => {
-                return Halt {
-                    end: End::Finished,
-                    steps: allowance - left + 1,
-                    offset: 0,
-                    live: 0,
-                    pairs: here.pairs,
-                    designator: 0,
-                };
-            }
-            Turn::Stopped(cause) => {
-                let done = allowance - left;
-                return halted(
-                    code,
-                    words,
-                    blocks,
-                    nexts,
-                    &display,
-                    here,
-                    End::Stopped(cause),
-                    done,
-                    2 * here.at,
-                );
-            }
-        }
-    }
-    halted(
+    let start = begin(code, pairs);
+    run(
         code,
         words,
         blocks,
         nexts,
-        &display,
-        here,
-        End::Spent,
+        links,
+        &mut display,
+        table,
+        group,
+        limit,
         allowance,
-        0,
+        start,
     )
 }

@@ -15,7 +15,7 @@ use Rattle.resolved.specs.Resolved.{resolvedOf, Covers}
 use Rattle.resolving.specs.Resolving.{Resolved, resolved-covers}
 use Rattle.display.specs.Turning.{Beginning, Ended}
 use Rattle.display.specs.Ending.{resultFrom}
-use Rattle.display.specs.declared.run.Halt.{Halt}
+use Rattle.run_state.specs.declared.Halt.{Halt}
 
 module _ (f : Fed) (bytes : Bytes (f .script)) (t : Block) (h : Admitted display f t) (code : List ℕ) (resolved : Resolved (f .script) (f .name) code) where
   covers : Covers code 0 (resolvedOf (f .name) t)

@@ -1,6 +1,6 @@
 -- What proofs by hand of this crate use of its structs, of the records, and of the arrays.
---     Code, Words, Rec     the types behind the references.        recs, nows, entries, founds      the structs as data
---     fields-of-now, fields-of-entry       the fields of a `Now` and of an `Entry` fit
+--     Code, Words, Rec     the types behind the references.        recs, registers, entries, founds      the structs as data
+--     fields-of-registers, fields-of-entry       the registers and the fields of an `Entry` fit
 use Prim.Native.Nat.{ℕ}
 use denote.RattleType.{RattleType}
 use denote.Builtin.{Array, u32, i32}
@@ -8,10 +8,10 @@ use denote.Struct.Laws.{owed}
 use Rattle.lending.specs.Data.{Datum, Good, structs, usizes}
 use Rattle.activations.proofs.Activation as A
 use Rattle.activations.proofs.Activation.Laws as A′
-use Rattle.links.specs.declared.Now.{Now}
+use Rattle.run_state.specs.declared.Registers.{Registers}
 use Rattle.links.specs.declared.Entry.{Entry}
-use Rattle.links.proofs.Now as N
-use Rattle.links.proofs.Now.Laws as N′
+use Rattle.run_state.proofs.Registers as N
+use Rattle.run_state.proofs.Registers.Laws as N′
 use Rattle.links.proofs.Entry as E
 use Rattle.links.proofs.Entry.Laws as E′
 use Rattle.links.proofs.Found as F
@@ -29,8 +29,8 @@ recs = structs A.the-type A′.the-laws A′.the-plain
 abbrev pub Rec : RattleType
 Rec = recs .type
 
-abbrev pub nows : Datum
-nows = structs N.the-type N′.the-laws N′.the-plain
+abbrev pub registers : Datum
+registers = structs N.the-type N′.the-laws N′.the-plain
 
 abbrev pub entries : Datum
 entries = structs E.the-type E′.the-laws E′.the-plain
@@ -41,9 +41,9 @@ founds = structs F.the-type F′.the-laws F′.the-plain
 abbrev Num : ℕ → Type 0
 Num n = Good usizes n
 
-pub fields-of-now : (here : Now) → Good nows here → Num (here .live) ×
-    (Num (here .at) × (Num (here .end) × (Num (here .pairs) × (Num (here .level) × Unit {0}))))
-fields-of-now here g = owed N.the-type N′.the-laws here _ g
+pub fields-of-registers : (here : Registers) → Good registers here → Num (here .live) ×
+    (Num (here .at) × (Num (here .end) × (Num (here .pairs) × (Num (here .level) × (Num (here .fresh) × Unit {0})))))
+fields-of-registers here g = owed N.the-type N′.the-laws here _ g
 
 pub fields-of-entry : (entry : Entry) → Good entries entry → Num (entry .body) × (Num (entry .link) × (Num (entry .back) × Unit {0}))
 fields-of-entry entry g = owed E.the-type E′.the-laws entry _ g

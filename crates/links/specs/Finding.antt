@@ -12,7 +12,7 @@ use Rattle.arrays.specs.Names.{follow}
 use Rattle.acting.specs.Acting.{Finding, setAll, argumentsFrom}
 use Rattle.statements.specs.Pieces.{only-words}
 use Rattle.steps.specs.Finding.{byFirst}
-use Rattle.links.specs.declared.Now.{Now}
+use Rattle.run_state.specs.declared.Registers.{Registers}
 use Rattle.links.specs.Records.{linksIn, Linked}
 
 -- the activation that declares the name with a word, and its first cell
@@ -31,7 +31,7 @@ pub record Seen (records : List Activation) (live level w : ℕ) : Type 0 where
   pub outer : levelIn w ≤ level
 
 -- the name that stands in a field of the next statement is one
-pub record Named (code : List ℕ) (records : List Activation) (here : Now) (field : ℕ) : Type 0 where
+pub record Named (code : List ℕ) (records : List Activation) (here : Registers) (field : ℕ) : Type 0 where
   pub there : here .at + field < 4096
   pub seen : Seen records (here .live) (here .level) (getD code (here .at + field) 0)
 
@@ -42,12 +42,12 @@ unfoldable pub argumentsEnd : List ℕ → ℕ → ℕ
 argumentsEnd code at = elim (eqb (getD code at 0 % 16) 6) [ true ↦ 3 | false ↦ 3 + getD code (at + 2) 0 ]
 
 -- the words once they are handed on
-abbrev pub handedOn : List ℕ → List ℤ → List Activation → Now → List ℤ
+abbrev pub handedOn : List ℕ → List ℤ → List Activation → Registers → List ℤ
 handedOn code words records here = setAll words (32 * here .live + 32)
     (argumentsFrom (byChain words records (here .live) (here .level)) (only-words code words (here .at)) (here .at + 3) (argumentsEnd code (here .at) - 3))
 
 -- one of them can be handed on: its own cell is below the next activation's
-pub record Passing (code : List ℕ) (here : Now) (field first : ℕ) : Type 0 where
+pub record Passing (code : List ℕ) (here : Registers) (field first : ℕ) : Type 0 where
   pub low : 3 ≤ field
   pub few : field < 35
   pub there : here .at + field < 4096
@@ -55,7 +55,7 @@ pub record Passing (code : List ℕ) (here : Now) (field first : ℕ) : Type 0 w
   pub below : first + positionIn (getD code (here .at + field) 0) < 32 * here .live + 32
 
 -- all of them, up to a field
-pub record Handing (code : List ℕ) (records : List Activation) (here : Now) (last : ℕ) : Type 0 where
+pub record Handing (code : List ℕ) (records : List Activation) (here : Registers) (last : ℕ) : Type 0 where
   pub low : 3 ≤ last
   pub few : last ≤ 35
   pub there : here .at + last ≤ 4096

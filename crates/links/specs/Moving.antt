@@ -5,15 +5,12 @@ use native.Mathlib.Omega.{arith}
 use mathlib.Core.List.{List}
 use mathlib.Core.Option.{some}
 use mathlib.Core.Path.{_≡_, refl, sym, ap, _∙_, subst}
-use borrow.Author.Tests.{eqb-true, eqb-false}
-use lib.Dec.{eqb}
 use lib.IntN.{ℤ}
 use lib.ListN.{length, getD, set, getElem?, length-set}
 use lib.Seq.{set-set, getD-set-same}
 use Rattle.language.specs.Text.{blockAt, blockDecls}
 use Rattle.language.specs.Machine.{Limits}
 use Rattle.laws.specs.Lists.{getElem-in}
-use Rattle.laws.specs.Tests.{split}
 use Rattle.grammar.specs.Formed.{block-few}
 use Rattle.frames.specs.Frame.{Frame}
 use Rattle.frames.specs.Numbered.{numbered-suc, numbered-index}
@@ -31,9 +28,10 @@ use Rattle.steps.specs.Loop.{leaves, jumped}
 use Rattle.steps.specs.Entered.{body-head, entered}
 use Rattle.activations.specs.declared.Activation.{Activation}
 use Rattle.activations.specs.Records.{at as record-at}
-use Rattle.links.specs.declared.Now.{Now}
+use Rattle.run_state.specs.declared.Registers.{Registers}
 use Rattle.links.specs.Records.{blocksIn, nextsIn, linksIn, Room, Linked, Pushed, NextSet, column-length, column-read}
-use Rattle.links.specs.Running.{limitsBy, levelAt, endAt, nowBy, nowAt, Running, Succeeds}
+use Rattle.run_state.specs.Scenes.{limitsBy, goesTo}
+use Rattle.links.specs.Running.{levelAt, endAt, nowBy, nowAt, Running, Succeeds}
 
 -- the place kept for the innermost activation may be any
 pub written-next : {code : List ℕ} {l : Limits} {words : List ℤ} {blocks nexts links : List ℕ} {table : List ℤ} {pairs live at end : ℕ}
@@ -60,7 +58,7 @@ written-next {words} {blocks} {nexts} {links} {live} {at} s v =
       links-long = s .links-long;
     }
 
-module _ {code : List ℕ} {limit group : ℕ} {words : List ℤ} {records : List Activation} {table : List ℤ} {here : Now}
+module _ {code : List ℕ} {limit group : ℕ} {words : List ℤ} {records : List Activation} {table : List ℤ} {here : Registers}
     (w : Running code limit group words records table here) where
   abbrev fs : List Frame
   fs = w .standing .stack .frames
@@ -104,13 +102,14 @@ module _ {code : List ℕ} {limit group : ℕ} {words : List ℤ} {records : Lis
       (l .stands) in
       let e : endPlace (l .frame .text) ≡ endAt code records (here .live - 1) = sym (reads.end-there (w .standing) (here .live - 1) (l .frame) stands)
       in
-      subst (λ (n : Now). Succeeds w words records table n)
+      subst (λ (n : Registers). Succeeds w words records table n)
       (λ i. record {
         live = here .live - 1;
         at = getD (nextsIn records) (here .live - 1) 0;
         end = e i;
         pairs = here .pairs;
         level = levelAt code records (here .live - 1);
+        fresh = 0;
       })
       (record { running = record { standing = l .standing; level-is = refl; room = w .room }; follows = l .follows })
 
@@ -119,7 +118,7 @@ module _ {code : List ℕ} {limit group : ℕ} {words : List ℤ} {records : Lis
   leaves-by ended above =
       let b = block-read (here .live - 1) (omega arith) in
       let n = next-read (here .live - 1) (omega arith) in
-      subst (λ (s : Now). Succeeds w words records table s) (λ i. nowBy code (b i) (here .live - 1) (n i) (here .pairs)) (leaves-to ended above)
+      subst (λ (s : Registers). Succeeds w words records table s) (λ i. nowBy code (b i) (here .live - 1) (n i) (here .pairs)) (leaves-to ended above)
 
   -- A jump
 
@@ -127,26 +126,28 @@ module _ {code : List ℕ} {limit group : ℕ} {words : List ℤ} {records : Lis
     pub home-live : home ≤ here .live
     home-live = (jumped (w .standing) home at′ j) .home-high
 
-    pub jumps-to : Succeeds w words records table (nowAt code records home at′ (here .pairs))
-    jumps-to =
+    abbrev landed : ℕ → ℕ → ℕ → ℕ → Registers
+    landed live end level fresh = record { live = live; at = at′; end = end; pairs = here .pairs; level = level; fresh = fresh }
+
+    jumps-with : (fresh : ℕ) → Succeeds w words records table (landed home (endAt code records home) (levelAt code records home) fresh)
+    jumps-with fresh =
         let l = jumped (w .standing) home at′ j in
         let e : endPlace (l .frame .text) ≡ endAt code records home = sym
         (reads.end-there (w .standing) home (l .frame) (numbered-index fs (suc home) (l .frame) (l .stands))) in
-        subst (λ (n : Now). Succeeds w words records table n)
-        (λ i. record { live = home; at = at′; end = e i; pairs = here .pairs; level = levelAt code records home })
+        subst (λ (n : Registers). Succeeds w words records table n)
+        (λ i. landed home (e i) (levelAt code records home) fresh)
         (record { running = record { standing = l .standing; level-is = refl; room = w .room }; follows = l .follows })
 
     pub jumps-by : Succeeds w words records table (nowBy code (record-at records home .block) home at′ (here .pairs))
-    jumps-by = subst (λ (s : Now). Succeeds w words records table s) (λ i. nowBy code (block-read home home-live i) home at′ (here .pairs)) jumps-to
+    jumps-by = subst (λ (s : Registers). Succeeds w words records table s) (λ i. nowBy code (block-read home home-live i) home at′ (here .pairs)) (jumps-with 0)
 
     -- within the innermost activation nothing has to be read
-    pub jumps-here : home ≡ here .live → Succeeds w words records table
-        (record { live = here .live; at = at′; end = here .end; pairs = here .pairs; level = here .level })
+    pub jumps-here : home ≡ here .live → Succeeds w words records table (goesTo here (here .live) at′ (here .end) (here .pairs))
     jumps-here e =
         let ends : endAt code records home ≡ here .end = ap (endAt code records) e ∙ reads.end-here (w .standing) in
         let level : levelAt code records home ≡ here .level = ap (levelAt code records) e ∙ sym (w .level-is) in
-        subst (λ (n : Now). Succeeds w words records table n)
-        (λ i. record { live = e i; at = at′; end = ends i; pairs = here .pairs; level = level i }) jumps-to
+        subst (λ (n : Registers). Succeeds w words records table n)
+        (λ i. landed (e i) (ends i) (level i) (here .fresh)) (jumps-with (here .fresh))
 
   -- An entry
 
@@ -229,7 +230,7 @@ module _ {code : List ℕ} {limit group : ℕ} {words : List ℤ} {records : Lis
           (omega (arith, entry-fits .room-next .few, column-length (λ a. a .block) records₁ 0 256))
 
       pub enters-to : Succeeds w words″ records₂ table
-          (record { live = fresh; at = bounds / 65536; end = bounds % 65536; pairs = here .pairs; level = head / 256 % 256 })
+          (record { live = fresh; at = bounds / 65536; end = bounds % 65536; pairs = here .pairs; level = head / 256 % 256; fresh = 0 })
       enters-to =
           let s = stood in
           record {

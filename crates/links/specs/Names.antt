@@ -27,19 +27,20 @@ use Rattle.steps.specs.Here.{many, here as innermost, live-few, downward}
 use Rattle.steps.specs.Reads.{level-here, block-within, looked-up-here}
 use Rattle.steps.specs.Finding.{byFirst, Reaches, wordOf, firstByLinks, reached-by-links, finds-by-links, unseen-word, seen-by-links}
 use Rattle.activations.specs.declared.Activation.{Activation}
-use Rattle.links.specs.declared.Now.{Now}
+use Rattle.run_state.specs.declared.Registers.{Registers}
 use Rattle.links.specs.declared.Found.{Found}
 use Rattle.links.specs.Records.{blocksIn, nextsIn, linksIn}
 use Rattle.chain_statements.specs.Finding.{Reachable}
 use Rattle.links.specs.Finding.{homeOf, firstCell, byChain, Seen}
-use Rattle.links.specs.Running.{limitsBy, Running, linksTo, links-none-to, linksome-to, foundBy, Reached}
+use Rattle.run_state.specs.Scenes.{limitsBy}
+use Rattle.links.specs.Running.{Running, linksTo, links-none-to, linksome-to, foundBy, Reached}
 use Rattle.links.specs.Moving.{linked}
 
 -- what is found of a name
 abbrev pub foundIn : List Frame → ℕ → Found
 foundIn fs name = record { designator = designates fs name; links = linksFollowed fs name }
 
-module _ {code : List ℕ} {limit group : ℕ} {words : List ℤ} {records : List Activation} {table : List ℤ} {here : Now}
+module _ {code : List ℕ} {limit group : ℕ} {words : List ℤ} {records : List Activation} {table : List ℤ} {here : Registers}
     (w : Running code limit group words records table here) where
   abbrev st : Standing code (limitsBy limit group) words (blocksIn records) (nextsIn records) (linksIn records) table (here .pairs) (here .live)
       (here .at) (here .end)

@@ -1,15 +1,15 @@
 // A block is entered: its arguments are handed on, the caller's record keeps the place to come back to, and a record is pushed.
 use super::Entry;
-use super::Now;
 use super::handing::arguments_end;
 use super::handing::hand;
 use super::innermost;
-use super::narrow;
-use super::wide;
 use super::with_next;
 use activations::Activation;
 use activations::push;
 use activations::read;
+use run_state::Registers;
+use run_state::narrow_u32;
+use run_state::wide_u32;
 use stepping::clear;
 use stepping::code_at;
 ghost use mathlib.Core.Path.{_≡_};
@@ -26,21 +26,26 @@ fn begun(code: &[u32; 4096], entry: Entry) -> Activation
     let body = entry.body;
     let bounds = code_at(code, body + 1);
     Activation {
-        block: narrow(body),
-        next: narrow(bounds / 65536),
-        link: narrow(entry.link),
+        block: narrow_u32(body),
+        next: narrow_u32(bounds / 65536),
+        link: narrow_u32(entry.link),
     }
 }
 
 // A new activation, whose record is given, is the innermost one. The arguments stand in its first cells.
-fn entered(code: &[u32; 4096], words: &mut [i32; 8224], here: Now, activation: Activation) -> Now
+fn entered(
+    code: &[u32; 4096],
+    words: &mut [i32; 8224],
+    here: Registers,
+    activation: Activation,
+) -> Registers
     requires { ⌜ (activation .block + 3 ≤ 4096) × (here .live + 1 < 256) × (getD (now code) (activation .block) 0 / 65536 % 256 ≤ 32)
         × (getD (now code) (activation .block) 0 / 16777216 ≤ 32) ⌝ }
     ensures { λ r. ⌜ (r ≡ enteredBy (now (code .entry)) here activation) × Cleared (now (words .entry))
         (32 * (here .live + 1) + getD (now (code .entry)) (activation .block) 0 / 65536 % 256)
         (32 * (here .live + 1) + getD (now (code .entry)) (activation .block) 0 / 16777216) (now (words .exit)) ⌝ }
 {
-    let block = wide(activation.block);
+    let block = wide_u32(activation.block);
     let head = code_at(code, block);
     let fresh = here.live + 1;
     clear(
@@ -48,16 +53,22 @@ fn entered(code: &[u32; 4096], words: &mut [i32; 8224], here: Now, activation: A
         32 * fresh + head / 65536 % 256,
         32 * fresh + head / 16777216,
     );
-    innermost(code, activation, fresh, wide(activation.next), here.pairs)
+    innermost(
+        code,
+        activation,
+        fresh,
+        wide_u32(activation.next),
+        here.pairs,
+    )
 }
 
 pub fn enter(
     code: &[u32; 4096],
     words: &mut [i32; 8224],
     records: &mut [Activation],
-    here: Now,
+    here: Registers,
     entry: Entry,
-) -> Now
+) -> Registers
     requires { ⌜ EnterReady (now code) (now words) (now records) here entry ⌝ }
     ensures { λ r. ⌜ ((w : EnterReady (now (code .entry)) (now (words .entry)) (now (records .entry)) here entry) → Succeeds (w .running)
         (now (words .exit)) (now (records .exit)) (w .table) r) ⌝ }

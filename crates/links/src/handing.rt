@@ -1,7 +1,7 @@
 // A call's arguments go to the first cells of the next activation, each found by the links.
-use super::Now;
 use super::first_cell;
 use activations::Activation;
+use run_state::Registers;
 use stepping::code_at;
 ghost use mathlib.Core.Path.{_≡_};
 ghost use Prim.Native.Nat.{_+_, _*_, _-_, _<_, _≤_};
@@ -13,7 +13,7 @@ ghost use Rattle.statements.specs.Pieces.{only-words};
 ghost use Rattle.links.specs.Finding.{byChain, Handing, Passing, argumentsEnd};
 
 // Behind which field of the next statement its arguments end; a BK has none.
-pub fn arguments_end(code: &[u32; 4096], here: Now) -> usize
+pub fn arguments_end(code: &[u32; 4096], here: Registers) -> usize
     requires { ⌜ here .at + 3 ≤ 4096 ⌝ }
     ensures { λ r. ⌜ r ≡ argumentsEnd (now (code .entry)) (here .at) ⌝ }
 {
@@ -25,7 +25,7 @@ pub fn arguments_end(code: &[u32; 4096], here: Now) -> usize
 }
 
 // The argument in a field, once the first cell of the activation that declares it is found.
-fn pass(code: &[u32; 4096], words: &mut [i32; 8224], here: Now, field: usize, first: usize)
+fn pass(code: &[u32; 4096], words: &mut [i32; 8224], here: Registers, field: usize, first: usize)
     requires { ⌜ Passing (now code) here field first ⌝ }
     ensures { λ _. ⌜ now (words .exit) ≡ set (now (words .entry)) (32 * here .live + 32 + (field - 3))
         (handedWord (now (words .entry)) (getD (now (code .entry)) (here .at + field) 0)
@@ -41,7 +41,7 @@ pub fn hand(
     code: &[u32; 4096],
     words: &mut [i32; 8224],
     records: &[Activation],
-    here: Now,
+    here: Registers,
     last: usize,
 )
     requires { ⌜ Handing (now code) (now records) here last ⌝ }

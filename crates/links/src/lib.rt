@@ -4,10 +4,13 @@ use activations::follow;
 use activations::push;
 use activations::read;
 pub use entering::enter;
+use run_state::Registers;
+use run_state::narrow_u32;
+use run_state::wide_u32;
 use sheets::name_designator;
 use stepping::code_at;
 ghost use mathlib.Core.Path.{_≡_};
-ghost use Prim.Native.Nat.{_+_, _*_, _-_, _/_, _%_, _<_, _≤_, _^_};
+ghost use Prim.Native.Nat.{_+_, _*_, _-_, _/_, _%_, _<_, _≤_};
 ghost use lib.ListN.{getD, set};
 ghost use Rattle.activations.specs.Records.{at};
 ghost use Rattle.resolved.specs.Resolved.{levelIn};
@@ -19,15 +22,6 @@ ghost use Rattle.links.specs.Names.{foundIn};
 mod entering;
 mod handing;
 
-// The innermost activation, the place of its next statement, where its text ends, the pairs in use, and the level of its block.
-pub struct Now {
-    pub live: usize,
-    pub at: usize,
-    pub end: usize,
-    pub pairs: usize,
-    pub level: usize,
-}
-
 // A block that is entered: the place of its BK, the activation that its new one is linked to, and the place to come back to.
 pub struct Entry {
     pub body: usize,
@@ -35,21 +29,8 @@ pub struct Entry {
     pub back: usize,
 }
 
-pub fn wide(x: u32) -> usize
-    ensures { λ r. ⌜ (r ≡ x) × (r < 2 ^ 32) ⌝ }
-{
-    x as usize
-}
-
-pub fn narrow(x: usize) -> u32
-    requires { ⌜ x < 65536 ⌝ }
-    ensures { λ r. ⌜ r ≡ x ⌝ }
-{
-    x as u32
-}
-
 // The links that lead to the activation that declares the name in a field of the next statement.
-fn hops(code: &[u32; 4096], here: Now, field: usize) -> usize
+fn hops(code: &[u32; 4096], here: Registers, field: usize) -> usize
     requires { ⌜ (here .at + field < 4096) × (levelIn (getD (now code) (here .at + field) 0) ≤ here .level) ⌝ }
     ensures { λ r. ⌜ r ≡ here .level - levelIn (getD (now (code .entry)) (here .at + field) 0) ⌝ }
 {
@@ -61,7 +42,7 @@ fn hops(code: &[u32; 4096], here: Now, field: usize) -> usize
 pub fn first_cell(
     code: &[u32; 4096],
     records: &[Activation],
-    here: Now,
+    here: Registers,
     own: usize,
     field: usize,
 ) -> usize
@@ -81,7 +62,7 @@ pub fn with_next(activation: Activation, place: usize) -> Activation
 {
     Activation {
         block: activation.block,
-        next: narrow(place),
+        next: narrow_u32(place),
         link: activation.link,
     }
 }
@@ -93,22 +74,23 @@ pub fn innermost(
     home: usize,
     place: usize,
     pairs: usize,
-) -> Now
+) -> Registers
     requires { ⌜ activation .block + 3 ≤ 4096 ⌝ }
     ensures { λ r. ⌜ r ≡ nowBy (now (code .entry)) (activation .block) home place pairs ⌝ }
 {
-    let block = wide(activation.block);
-    Now {
+    let block = wide_u32(activation.block);
+    Registers {
         live: home,
         at: place,
         end: code_at(code, block + 1) % 65536,
         pairs,
         level: code_at(code, block) / 256 % 256,
+        fresh: 0,
     }
 }
 
 // The activation below goes on, whose record is given.
-pub fn left(code: &[u32; 4096], here: Now, activation: Activation) -> Now
+pub fn left(code: &[u32; 4096], here: Registers, activation: Activation) -> Registers
     requires { ⌜ (activation .block + 3 ≤ 4096) × (1 ≤ here .live) ⌝ }
     ensures { λ r. ⌜ r ≡ nowBy (now (code .entry)) (activation .block) (here .live - 1) (activation .next) (here .pairs) ⌝ }
 {
@@ -116,7 +98,7 @@ pub fn left(code: &[u32; 4096], here: Now, activation: Activation) -> Now
         code,
         activation,
         here.live - 1,
-        wide(activation.next),
+        wide_u32(activation.next),
         here.pairs,
     )
 }
@@ -132,10 +114,10 @@ fn looked_up(code: &[u32; 4096], activation: Activation) -> usize
     requires { ⌜ activation .block + 3 ≤ 4096 ⌝ }
     ensures { λ r. ⌜ r ≡ getD (now (code .entry)) (activation .block + 2) 0 ⌝ }
 {
-    code_at(code, wide(activation.block) + 2)
+    code_at(code, wide_u32(activation.block) + 2)
 }
 
-fn links_to(here: Now, word: usize) -> usize
+fn links_to(here: Registers, word: usize) -> usize
     requires { ⌜ levelIn word ≤ here .level ⌝ }
     ensures { λ r. ⌜ (r ≡ linksTo (here .level) word) × (r ≤ here .level) ⌝ }
 {
@@ -146,13 +128,13 @@ fn links_to(here: Now, word: usize) -> usize
 }
 
 // What is found of the name with this word, once the activation that declares it is.
-fn found_by(words: &[i32; 8224], here: Now, word: usize, home: usize) -> Found
+fn found_by(words: &[i32; 8224], here: Registers, word: usize, home: usize) -> Found
     requires { ⌜ Reached (now words) here word home ⌝ }
     ensures { λ r. ⌜ r ≡ foundBy (now (words .entry)) here word home ⌝ }
 {
     Found {
         designator: name_designator(words, 32 * home, word),
-        links: narrow(links_to(here, word)),
+        links: narrow_u32(links_to(here, word)),
     }
 }
 
@@ -161,7 +143,7 @@ pub fn settle(
     code: &[u32; 4096],
     words: &[i32; 8224],
     records: &mut [Activation],
-    here: Now,
+    here: Registers,
 ) -> Found
     requires { ⌜ Looking (now code) (now words) (now records) here × (here .at < 65536) ⌝ }
     ensures { λ r. ⌜ ((w : Looking (now (code .entry)) (now (words .entry)) (now (records .entry)) here)

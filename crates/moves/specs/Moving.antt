@@ -26,7 +26,8 @@ use Rattle.steps.specs.Means.{JumpsTo, EntersAt}
 use Rattle.steps.specs.Here.{many, numbered-here, live-few, downward, encloses-here}
 use Rattle.steps.specs.Loop.{leaves, jumped}
 use Rattle.steps.specs.Entered.{body-head, entered}
-use Rattle.moves.specs.declared.Now.{Now}
+use Rattle.run_state.specs.declared.Registers.{Registers}
+use Rattle.run_state.specs.Scenes.{goesTo}
 use Rattle.moves.specs.Running.{Running, Succeeds, Restorable, Linkable}
 
 -- what is read of an activation's block
@@ -42,7 +43,7 @@ within-script t keeps e es h =
     let f = enclosed-formed t keeps e es h in
     omega (arith, end-is (e .text) (suc (length es)) (e .formals) (placeOf (blockAt (e .text))) f, block-fields (e .text), end-bound t keeps e es h)
 
-module _ {code : List ℕ} {limit group : ℕ} {words : List ℤ} {blocks nexts links display : List ℕ} {table : List ℤ} {here : Now}
+module _ {code : List ℕ} {limit group : ℕ} {words : List ℤ} {blocks nexts links display : List ℕ} {table : List ℤ} {here : Registers}
     (w : Running code limit group words blocks nexts links display table here) where
   abbrev fs : List Frame
   fs = w .standing .stack .frames
@@ -123,7 +124,7 @@ module _ {code : List ℕ} {limit group : ℕ} {words : List ℤ} {blocks nexts 
     -- A return
 
     module _ (ended : here .at ≡ here .end) (above : 1 ≤ here .live) (home : ℕ) (below : home ≡ here .live - 1) where
-      pub leaves-to : ShowsFrom fs (suc home) display′ → (r : Now) → r .live ≡ home → r .at ≡ getD nexts home 0 → r .end ≡ endAt code blocks home
+      pub leaves-to : ShowsFrom fs (suc home) display′ → (r : Registers) → r .live ≡ home → r .at ≡ getD nexts home 0 → r .end ≡ endAt code blocks home
           → r .pairs ≡ here .pairs
           → Succeeds w words blocks nexts links display′ table r
       leaves-to shows r live at end pairs =
@@ -131,8 +132,8 @@ module _ {code : List ℕ} {limit group : ℕ} {words : List ℤ} {blocks nexts 
           let one : here .live ≡ suc home = omega arith in
           let e : endPlace (l .frame .text) ≡ r .end = sym (end-there home (l .frame) (ap (numbered fs) (sym one) ∙ l .stands)) ∙ sym end in
           let a : getD nexts (here .live - 1) 0 ≡ r .at = ap (λ k. getD nexts k 0) (sym below) ∙ sym at in
-          subst (λ (n : Now). Succeeds w words blocks nexts links display′ table n)
-          (λ i. record { live = (sym below ∙ sym live) i; at = a i; end = e i; pairs = sym pairs i })
+          subst (λ (n : Registers). Succeeds w words blocks nexts links display′ table n)
+          (λ i. goesTo r ((sym below ∙ sym live) i) (a i) (e i) (sym pairs i))
           (record {
             running = record {
               standing = l .standing;
@@ -145,13 +146,13 @@ module _ {code : List ℕ} {limit group : ℕ} {words : List ℤ} {blocks nexts 
     -- A jump
 
     module _ (home at′ : ℕ) (j : JumpsTo (w .standing) home at′) where
-      pub jumps-to : ShowsFrom fs (suc home) display′ → (r : Now) → r .live ≡ home → r .at ≡ at′ → r .end ≡ endAt code blocks home → r .pairs ≡ here .pairs
+      pub jumps-to : ShowsFrom fs (suc home) display′ → (r : Registers) → r .live ≡ home → r .at ≡ at′ → r .end ≡ endAt code blocks home → r .pairs ≡ here .pairs
           → Succeeds w words blocks nexts links display′ table r
       jumps-to shows r live at end pairs =
           let l = jumped (w .standing) home at′ j in
           let e : endPlace (l .frame .text) ≡ r .end = sym (end-there home (l .frame) (l .stands)) ∙ sym end in
-          subst (λ (n : Now). Succeeds w words blocks nexts links display′ table n)
-          (λ i. record { live = sym live i; at = sym at i; end = e i; pairs = sym pairs i })
+          subst (λ (n : Registers). Succeeds w words blocks nexts links display′ table n)
+          (λ i. goesTo r (sym live i) (sym at i) (e i) (sym pairs i))
           (record {
             running = record {
               standing = l .standing;
@@ -164,7 +165,7 @@ module _ {code : List ℕ} {limit group : ℕ} {words : List ℤ} {blocks nexts 
 
 -- An entry
 
-module _ {code : List ℕ} {limit group : ℕ} {words : List ℤ} {blocks nexts links display : List ℕ} {table : List ℤ} {here : Now}
+module _ {code : List ℕ} {limit group : ℕ} {words : List ℤ} {blocks nexts links display : List ℕ} {table : List ℤ} {here : Registers}
     (w : Running code limit group words blocks nexts links display table here) (body link back : ℕ) (words′ : List ℤ)
     (j : EntersAt (w .standing) body link back words′) where
   abbrev around : Enclosure
@@ -209,9 +210,7 @@ module _ {code : List ℕ} {limit group : ℕ} {words : List ℤ} {blocks nexts 
         group = group;
         words = words;
         table = table;
-        at = here .at;
-        end = here .end;
-        pairs = here .pairs;
+        here = here;
         running = w;
         high = j .link-high;
       }
@@ -227,7 +226,7 @@ module _ {code : List ℕ} {limit group : ℕ} {words : List ℤ} {blocks nexts 
 
   pub enters-to : (words″ : List ℤ) → Cleared words′ (32 * fresh + getD code body 0 / 65536 % 256) (32 * fresh + getD code body 0 / 16777216) words″
       → (display′ : List ℕ) → length display′ ≡ 256 → ShowsFrom (w .standing .stack .frames) (suc link) display′
-      → (r : Now) → r .live ≡ fresh → r .at ≡ getD code (body + 1) 0 / 65536 → r .end ≡ getD code (body + 1) 0 % 65536 → r .pairs ≡ here .pairs
+      → (r : Registers) → r .live ≡ fresh → r .at ≡ getD code (body + 1) 0 / 65536 → r .end ≡ getD code (body + 1) 0 % 65536 → r .pairs ≡ here .pairs
       → Succeeds w words″ (set blocks fresh body) (set nexts (here .live) back) (set links fresh link)
       (set display′ (getD code body 0 / 256 % 256) (32 * fresh)) table r
   enters-to words″ cleared display′ long shows r live at end pairs =
@@ -237,9 +236,9 @@ module _ {code : List ℕ} {limit group : ℕ} {words : List ℤ} {blocks nexts 
       (subst (λ n. Cleared words′ (32 * fresh + n) (32 * fresh + getD code body 0 / 16777216) words″) (h .formals) cleared) in
       let e = entered (w .standing) body link back words′ j words″ c in
       let level = h .level in
-      subst (λ (n : Now). Succeeds w words″ (set blocks fresh body) (set nexts (here .live) back) (set links fresh link)
+      subst (λ (n : Registers). Succeeds w words″ (set blocks fresh body) (set nexts (here .live) back) (set links fresh link)
       (set display′ (getD code body 0 / 256 % 256) (32 * fresh)) table n)
-      (λ i. record { live = sym live i; at = (sym (h .first) ∙ sym at) i; end = (sym (h .ends) ∙ sym end) i; pairs = sym pairs i })
+      (λ i. goesTo r (sym live i) ((sym (h .first) ∙ sym at) i) ((sym (h .ends) ∙ sym end) i) (sym pairs i))
       (record {
         running = record {
           standing = e .standing;
@@ -255,7 +254,7 @@ module _ {code : List ℕ} {limit group : ℕ} {words : List ℤ} {blocks nexts 
       → (words″ : List ℤ) → Cleared words′ (32 * fresh + head / 65536 % 256) (32 * fresh + head / 16777216) words″
       → (display′ : List ℕ) → length display′ ≡ 256 → ShowsFrom (w .standing .stack .frames) (suc link) display′
       → Succeeds w words″ (set blocks fresh block) (set nexts (here .live) next) (set links fresh up) (set display′ (head / 256 % 256) entry) table
-      (record { live = fresh; at = bounds / 65536; end = bounds % 65536; pairs = here .pairs })
+      (goesTo here fresh (bounds / 65536) (bounds % 65536) (here .pairs))
   enters-as head bounds block next up entry e₁ e₂ e₃ e₄ e₅ e₆ words″ cleared display′ long shows =
       rw (e₁, e₂, e₃, e₄, e₅, e₆) (enters-to words″ (rw e₁ at cleared) display′ long shows
-      (record { live = fresh; at = getD code (body + 1) 0 / 65536; end = getD code (body + 1) 0 % 65536; pairs = here .pairs }) refl refl refl refl)
+      (goesTo here fresh (getD code (body + 1) 0 / 65536) (getD code (body + 1) 0 % 65536) (here .pairs)) refl refl refl refl)

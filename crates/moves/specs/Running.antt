@@ -6,46 +6,42 @@ use mathlib.Core.Option.{some}
 use mathlib.Core.Path.{_≡_}
 use lib.IntN.{ℤ}
 use lib.ListN.{length}
-use Rattle.language.specs.Machine.{Limits}
 use Rattle.frames.specs.Frame.{Frame, numbered}
 use Rattle.coordinates.specs.Chain.{levelOf, Downward}
 use Rattle.arrays.specs.Holds.{Shows}
 use Rattle.arrays.specs.Displays.{ShowsFrom, LinksOf}
-use Rattle.acting.specs.Acting.{Scene}
 use Rattle.steps.specs.Standing.{Standing}
 use Rattle.steps.specs.Means.{Follows, JumpsTo, EntersAt}
-use Rattle.moves.specs.declared.Now.{Now}
+use Rattle.run_state.specs.declared.Registers.{Registers}
+use Rattle.run_state.specs.Scenes.{limitsBy, goesTo}
 
-abbrev pub limitsBy : ℕ → ℕ → Limits
-limitsBy limit group = record { activations = limit; group = group }
-
-abbrev pub sceneBy : List ℕ → List ℤ → List ℤ → ℕ → ℕ → ℕ → ℕ → ℕ → Scene
-sceneBy code words table pairs group limit live at =
-    record { code = code; words = words; table = table; pairs = pairs; limits = limitsBy limit group; live = live; at = at }
-
-pub record Running (code : List ℕ) (limit group : ℕ) (words : List ℤ) (blocks nexts links display : List ℕ) (table : List ℤ) (here : Now) : Type 0 where
+pub record Running (code : List ℕ) (limit group : ℕ) (words : List ℤ) (blocks nexts links display : List ℕ) (table : List ℤ) (here : Registers) : Type 0 where
   pub standing : Standing code (limitsBy limit group) words blocks nexts links table (here .pairs) (here .live) (here .at) (here .end)
   pub shows : Shows (standing .stack .frames) display
   pub display-long : length display ≡ 256
 
 -- what the statement at a place asks: an engine that runs stands there, before the end of its text
-pub record Doing (code : List ℕ) (words : List ℤ) (display : List ℕ) (table : List ℤ) (pairs group limit live at : ℕ) : Type 0 where
+pub record Doing (code : List ℕ) (words : List ℤ) (display : List ℕ) (limit live at : ℕ) : Type 0 where
+  pub group : ℕ
+  pub table : List ℤ
+  pub pairs : ℕ
   pub blocks : List ℕ
   pub nexts : List ℕ
   pub links : List ℕ
+  pub here : Registers
   pub end : ℕ
-  pub running : Running code limit group words blocks nexts links display table (record { live = live; at = at; end = end; pairs = pairs })
+  pub running : Running code limit group words blocks nexts links display table (goesTo here live at end pairs)
   pub before : at ≡ end → ⊥
 
 -- the state of the arrays one step behind
-pub record Succeeds {code : List ℕ} {limit group : ℕ} {words : List ℤ} {blocks nexts links display : List ℕ} {table : List ℤ} {here : Now}
+pub record Succeeds {code : List ℕ} {limit group : ℕ} {words : List ℤ} {blocks nexts links display : List ℕ} {table : List ℤ} {here : Registers}
     (w : Running code limit group words blocks nexts links display table here)
-    (words′ : List ℤ) (blocks′ nexts′ links′ display′ : List ℕ) (table′ : List ℤ) (here′ : Now) : Type 0 where
+    (words′ : List ℤ) (blocks′ nexts′ links′ display′ : List ℕ) (table′ : List ℤ) (here′ : Registers) : Type 0 where
   pub running : Running code limit group words′ blocks′ nexts′ links′ display′ table′ here′
   pub follows : Follows (w .standing) (running .standing .stack) (running .standing .program) (running .standing .name)
 
 -- the engine's numbers are in range
-pub record Placed (here : Now) : Type 0 where
+pub record Placed (here : Registers) : Type 0 where
   pub live : here .live < 256
   pub at : here .at ≤ 4096
   pub end : here .end ≤ 4096
@@ -57,10 +53,8 @@ pub record Looking (code : List ℕ) (words : List ℤ) (blocks display : List �
   pub limit : ℕ
   pub group : ℕ
   pub table : List ℤ
-  pub at : ℕ
-  pub end : ℕ
-  pub pairs : ℕ
-  pub running : Running code limit group words blocks nexts links display table (record { live = live; at = at; end = end; pairs = pairs })
+  pub here : Registers
+  pub running : Running code limit group words blocks nexts links display table (goesTo here live (here .at) (here .end) (here .pairs))
 
 -- Putting the display right: it is that of frame `old` of some frames, and the entries up to `sure` are its own
 pub record Restorable (links display : List ℕ) (activation level sure : ℕ) : Type 0 where
@@ -79,7 +73,7 @@ pub record Restorable (links display : List ℕ) (activation level sure : ℕ) :
 
 -- What leaving, jumping and entering ask of arrays that they are not lent
 
-pub record LeaveReady (code blocks nexts links display : List ℕ) (here : Now) : Type 0 where
+pub record LeaveReady (code blocks nexts links display : List ℕ) (here : Registers) : Type 0 where
   pub limit : ℕ
   pub group : ℕ
   pub words : List ℤ
@@ -88,7 +82,7 @@ pub record LeaveReady (code blocks nexts links display : List ℕ) (here : Now) 
   pub ended : here .at ≡ here .end
   pub above : 1 ≤ here .live
 
-pub record JumpReady (code blocks links display : List ℕ) (here : Now) (home at : ℕ) : Type 0 where
+pub record JumpReady (code blocks links display : List ℕ) (here : Registers) (home at : ℕ) : Type 0 where
   pub nexts : List ℕ
   pub limit : ℕ
   pub group : ℕ
@@ -104,13 +98,11 @@ pub record Linkable (code blocks links display : List ℕ) (live link : ℕ) : T
   pub group : ℕ
   pub words : List ℤ
   pub table : List ℤ
-  pub at : ℕ
-  pub end : ℕ
-  pub pairs : ℕ
-  pub running : Running code limit group words blocks nexts links display table (record { live = live; at = at; end = end; pairs = pairs })
+  pub here : Registers
+  pub running : Running code limit group words blocks nexts links display table (goesTo here live (here .at) (here .end) (here .pairs))
   pub high : link ≤ live
 
-pub record EnterReady (code : List ℕ) (words : List ℤ) (blocks nexts links display : List ℕ) (here : Now) (body link back : ℕ) : Type 0 where
+pub record EnterReady (code : List ℕ) (words : List ℤ) (blocks nexts links display : List ℕ) (here : Registers) (body link back : ℕ) : Type 0 where
   pub limit : ℕ
   pub group : ℕ
   pub before : List ℤ

@@ -1,5 +1,8 @@
 // Entering, leaving and jumping: the activations' records and the display are put right. Nothing is copied aside: the display is written
 // along the links of the activation that becomes the innermost one, until an entry fits.
+use run_state::Registers;
+use run_state::narrow;
+use run_state::wide;
 use stepping::clear;
 use stepping::code_at;
 ghost use mathlib.Core.Path.{_≡_};
@@ -7,27 +10,6 @@ ghost use Prim.Native.Nat.{suc, _+_, _/_, _%_, _<_};
 ghost use lib.ListN.{length, getD, set};
 ghost use Rattle.arrays.specs.Displays.{ShowsFrom};
 ghost use Rattle.moves.specs.Running.{Restorable, Linkable, LeaveReady, JumpReady, EnterReady, Succeeds, Placed};
-
-// The innermost activation, the place of its next statement, where its text ends, and the pairs in use.
-pub struct Now {
-    pub live: usize,
-    pub at: usize,
-    pub end: usize,
-    pub pairs: usize,
-}
-
-pub fn wide(x: u16) -> usize
-    ensures { λ r. ⌜ (r ≡ x) × (r < 65536) ⌝ }
-{
-    x as usize
-}
-
-pub fn narrow(x: usize) -> u16
-    requires { ⌜ x < 65536 ⌝ }
-    ensures { λ r. ⌜ r ≡ x ⌝ }
-{
-    x as u16
-}
 
 // The level of the block at a place.
 fn level_at(code: &[u32; 4096], block: usize) -> usize
@@ -85,8 +67,8 @@ pub fn leave(
     nexts: &[u16; 256],
     links: &[u16; 256],
     display: &mut [u16; 256],
-    here: Now,
-) -> Now
+    here: Registers,
+) -> Registers
     requires { ⌜ LeaveReady (now code) (now blocks) (now nexts) (now links) (now display) here ⌝ }
     ensures { λ r. ⌜ ((w : LeaveReady (now (code .entry)) (now (blocks .entry)) (now (nexts .entry)) (now (links .entry)) (now (display .entry)) here) → Succeeds (w .running) (w .words) (now (blocks .entry)) (now (nexts .entry)) (now (links .entry)) (now (display .exit)) (w .table) r) ⌝ }
 {
@@ -94,11 +76,11 @@ pub fn leave(
     let live = above - 1;
     let sure = level_of(code, blocks, above);
     restore(links, display, live, level_of(code, blocks, live), sure);
-    Now {
+    Registers {
         live,
         at: wide(nexts[live]),
         end: end_of(code, blocks, live),
-        pairs: here.pairs,
+        ..here
     }
 }
 
@@ -108,29 +90,24 @@ pub fn jump(
     blocks: &[u16; 256],
     links: &[u16; 256],
     display: &mut [u16; 256],
-    here: Now,
+    here: Registers,
     home: usize,
     at: usize,
-) -> Now
+) -> Registers
     requires { ⌜ JumpReady (now code) (now blocks) (now links) (now display) here home at ⌝ }
     ensures { λ r. ⌜ ((w : JumpReady (now (code .entry)) (now (blocks .entry)) (now (links .entry)) (now (display .entry)) here home at) → Succeeds (w .running) (w .words) (now (blocks .entry)) (w .nexts) (now (links .entry)) (now (display .exit)) (w .table) r) ⌝ }
 {
     let live = here.live;
     if home == live {
-        return Now {
-            live,
-            at,
-            end: here.end,
-            pairs: here.pairs,
-        };
+        return Registers { at, ..here };
     }
     let sure = level_of(code, blocks, live);
     restore(links, display, home, level_of(code, blocks, home), sure);
-    Now {
+    Registers {
         live: home,
         at,
         end: end_of(code, blocks, home),
-        pairs: here.pairs,
+        ..here
     }
 }
 
@@ -161,11 +138,11 @@ pub fn enter(
     nexts: &mut [u16; 256],
     links: &mut [u16; 256],
     display: &mut [u16; 256],
-    here: Now,
+    here: Registers,
     body: usize,
     link: usize,
     back: usize,
-) -> Now
+) -> Registers
     requires { ⌜ EnterReady (now code) (now words) (now blocks) (now nexts) (now links) (now display) here body link back ⌝ }
     ensures { λ r. ⌜ ((w : EnterReady (now (code .entry)) (now (words .entry)) (now (blocks .entry)) (now (nexts .entry)) (now (links .entry)) (now (display .entry)) here body link back) → Succeeds (w .running) (now (words .exit)) (now (blocks .exit)) (now (nexts .exit)) (now (links .exit)) (now (display .exit)) (w .table) r) ⌝ }
 {
@@ -183,17 +160,17 @@ pub fn enter(
         32 * fresh + head / 65536 % 256,
         32 * fresh + head / 16777216,
     );
-    Now {
+    Registers {
         live: fresh,
         at: bounds / 65536,
         end: bounds % 65536,
-        pairs: here.pairs,
+        ..here
     }
 }
 
 // At a run's end the place of the innermost activation's next statement is put with the others'. A statement that has a cause to stop is not
 // done: it is the next one.
-pub fn note_place(nexts: &mut [u16; 256], here: Now)
+pub fn note_place(nexts: &mut [u16; 256], here: Registers)
     requires { ⌜ Placed here ⌝ }
     ensures { λ _. ⌜ now (nexts .exit) ≡ set (now (nexts .entry)) (here .live) (here .at) ⌝ }
 {

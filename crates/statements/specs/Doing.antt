@@ -13,25 +13,21 @@ use lib.Signed.{mag, ltZ}
 use Rattle.language.specs.Basics.{eqZ}
 use Rattle.language.specs.Text.{Operation, plus, minus, less}
 use Rattle.language.specs.Encoding.{signed}
-use Rattle.language.specs.Table as table
 use Rattle.language.specs.Machine.{compute}
-use Rattle.language.specs.declared.Stop as Stop
 use Rattle.language.specs.declared.Stop.the-variants.{NoActivationLeft, ArgumentsDiffer}
 use Rattle.acting.specs.declared.Effect.{Effect}
 use Rattle.acting.specs.declared.Effect.the-variants.{Done, Stopped}
+use Rattle.acting.specs.declared.Ask.{Ask}
+use Rattle.acting.specs.declared.Ask.the-variants.{Query}
 use Rattle.acting.specs.declared.Move.{Move}
-use Rattle.acting.specs.declared.Move.the-variants.{On, Jump, Enter, Stop}
+use Rattle.acting.specs.declared.Move.the-variants.{On, Table as Asks, Jump, Enter, Stop}
 use Rattle.acting.specs.Effects.{effectOf, wordsOf, sameKinds}
 use Rattle.acting.specs.Acting.{Finding, Scene, field, moves, rewrites, setAll, valueOf, doConstant, arithmeticMove, doArithmetic, operationOf}
-use Rattle.acting.specs.Acting.{doGoto, doBranch, noRoom, argumentsFrom, doCall, argumentsAgree, doCallFormal, changes, doAdd, doRemove, answers}
-use Rattle.acting.specs.Acting.{doQuery, tableNow}
-use Rattle.pairs.specs.declared.Change.{Change}
-use Rattle.pairs.specs.declared.Query.{Query}
-use Rattle.pairs.specs.declared.Query.the-variants.{Value, Stopped as Refused}
-use Rattle.pairs.specs.Outcomes as outcomes
+use Rattle.acting.specs.Acting.{doGoto, doBranch, noRoom, argumentsFrom, doCall, argumentsAgree, doCallFormal, doChange, doQuery}
 use Rattle.resolved.specs.Resolved.{direct, positionIn}
 use Rattle.arrays.specs.Found.{cellBy}
-use Rattle.statements.specs.Pieces.{without-table, only-words, moveAfter, moveChanged, blockMove, enteredBy}
+use Rattle.acting.specs.Acting.{sceneBy}
+use Rattle.statements.specs.Pieces.{only-words, moveAfter, blockMove, enteredBy}
 use Rattle.statements.specs.Words.{cell-direct}
 
 -- For any way of finding names
@@ -105,17 +101,17 @@ module _ (F : Finding) (s : Scene) where
 
   -- CL
   pub no-room :
-      s .limits .activations ≤ s .live + 1 → (home body : ℕ) →
+      s .limit ≤ s .live + 1 → (home body : ℕ) →
       (Stop NoActivationLeft ≡ enteredBy F s home body .move) × (s .words ≡ enteredBy F s home body .words)
   unfolding enteredBy noRoom moves
-  no-room h home body = let e = le-leb (s .limits .activations) (s .live + 1) h in (rw (enteredBy, e), rw (enteredBy, e))
+  no-room h home body = let e = le-leb (s .limit) (s .live + 1) h in (rw (enteredBy, e), rw (enteredBy, e))
 
   pub entered :
-      s .live + 1 < s .limits .activations → (home body : ℕ) →
+      s .live + 1 < s .limit → (home body : ℕ) →
       (Enter body home (s .at + 3 + field s 2) ≡ enteredBy F s home body .move) ×
       (setAll (s .words) (32 * s .live + 32) (argumentsFrom F s (s .at + 3) (field s 2)) ≡ enteredBy F s home body .words)
   unfolding enteredBy noRoom rewrites
-  entered h home body = let e = lt-leb (s .limits .activations) (s .live + 1) h in (rw (enteredBy, e), rw (enteredBy, e))
+  entered h home body = let e = lt-leb (s .limit) (s .live + 1) h in (rw (enteredBy, e), rw (enteredBy, e))
 
   pub call-is : {home body : ℕ} → home ≡ F .home (field s 1) → body ≡ F .target (field s 1) → enteredBy F s home body ≡ doCall F s
   unfolding enteredBy doCall
@@ -142,79 +138,15 @@ module _ (F : Finding) (s : Scene) where
   unfolding doCallFormal
   call-agreed p e = let f = sym (ap (argumentsAgree F s) p) ∙ e in rw (doCallFormal, f)
 
-  -- AD and RM
-  changed-move : (e : table.Effect) → moveChanged (outcomes.changeOf e) (s .at + 3) ≡ changes F s e .move
-  unfolding moveChanged outcomes.changeOf changes moves
-  changed-move (table.leaves t) = refl
-  changed-move (table.halts c) = refl
+  -- AD, RM and QY
+  pub change-done : (a : Ask) {group member : ℕ} → group ≡ F .cell (field s 1) → member ≡ F .cell (field s 2) → Asks (s .at + 3) group member 0 a ≡ doChange F s a .move
+  unfolding doChange moves
+  change-done a p q = ap₂ (λ (g m : ℕ). Asks (s .at + 3) g m 0 a) p q
 
-  changed-table : (e : table.Effect) → outcomes.wordsAfter (s .table) e ≡ changes F s e .table
-  unfolding outcomes.wordsAfter changes moves
-  changed-table (table.leaves t) = refl
-  changed-table (table.halts c) = refl
-
-  changed-by :
-      (f : ℤ → ℤ → table.Effect) {a b : ℤ} {m : Move} {c : Change} {ws : List ℤ} →
-      a ≡ valueOf F s (field s 1) → b ≡ valueOf F s (field s 2) → m ≡ moveChanged c (s .at + 3) → c ≡ outcomes.changeOf (f a b)
-      → ws ≡ outcomes.wordsAfter (s .table)
-      (f a b) →
-      (m ≡ changes F s (f (valueOf F s (field s 1)) (valueOf F s (field s 2))) .move) ×
-      (ws ≡ changes F s (f (valueOf F s (field s 1)) (valueOf F s (field s 2))) .table)
-  changed-by f {a} {b} p q m c ws =
-      let e : f a b ≡ f (valueOf F s (field s 1)) (valueOf F s (field s 2)) = ap₂ f p q in (
-        m ∙ ap (λ (c : Change). moveChanged c (s .at + 3)) c ∙ changed-move (f a b) ∙ ap (λ (e : table.Effect). changes F s e .move) e,
-        ws ∙ changed-table (f a b) ∙ ap (λ (e : table.Effect). changes F s e .table) e,
-      )
-
-  pub add-done :
-      {a b : ℤ} {m : Move} {c : Change} {ws : List ℤ} → a ≡ valueOf F s (field s 1) → b ≡ valueOf F s (field s 2) → m ≡ moveChanged c (s .at + 3) →
-      c ≡ outcomes.changeOf (table.added (s .limits .group) a b (tableNow F s)) → ws ≡ outcomes.wordsAfter (s .table)
-      (table.added (s .limits .group) a b (tableNow F s)) →
-      (m ≡ doAdd F s .move) × (ws ≡ doAdd F s .table)
-  unfolding doAdd
-  add-done = changed-by (λ (a b : ℤ). table.added (s .limits .group) a b (tableNow F s))
-
-  pub remove-done :
-      {a b : ℤ} {m : Move} {c : Change} {ws : List ℤ} → a ≡ valueOf F s (field s 1) → b ≡ valueOf F s (field s 2) → m ≡ moveChanged c (s .at + 3) →
-      c ≡ outcomes.changeOf (table.removed a b (tableNow F s)) → ws ≡ outcomes.wordsAfter (s .table) (table.removed a b (tableNow F s)) →
-      (m ≡ doRemove F s .move) × (ws ≡ doRemove F s .table)
-  unfolding doRemove
-  remove-done = changed-by (λ (a b : ℤ). table.removed a b (tableNow F s))
-
-  -- QY
-  asked-value : (x : table.Asked) (z : ℤ) → outcomes.valueOf x ≡ Value z → x ≡ table.gives z
-  unfolding outcomes.valueOf
-  asked-value (table.gives y) z e = cc
-  asked-value (table.refuses c) z e = let f : _≡_ {A = ℕ} 0 1 = cc in absurd (omega arith)
-
-  asked-refused : (x : table.Asked) (c : Stop.Stop) → outcomes.valueOf x ≡ Refused c → x ≡ table.refuses c
-  unfolding outcomes.valueOf
-  asked-refused (table.gives y) c e = let f : _≡_ {A = ℕ} 0 1 = cc in absurd (omega arith)
-  asked-refused (table.refuses d) c e = cc
-
-  module _ {a b : ℤ} {q : Query} (p : a ≡ valueOf F s (field s 2)) (r : b ≡ valueOf F s (field s 3))
-      (e : q ≡ outcomes.valueOf (table.queried a b (tableNow F s))) where
-    abbrev asked : table.Asked
-    asked = table.queried (valueOf F s (field s 2)) (valueOf F s (field s 3)) (tableNow F s)
-
-    read : q ≡ outcomes.valueOf asked
-    read = e ∙ ap₂ (λ (x y : ℤ). outcomes.valueOf (table.queried x y (tableNow F s))) p r
-
-    pub query-gives : {c : ℕ} {z : ℤ} → c ≡ F .cell (field s 1) → q ≡ Value z → (On (s .at + 4) ≡ doQuery F s .move)
-        × (set (s .words) c z ≡ doQuery F s .words)
-    unfolding doQuery answers rewrites
-    query-gives {c} {z} t f =
-        let g : asked ≡ table.gives z = asked-value asked z (sym read ∙ f) in (
-          sym (ap (λ (x : table.Asked). answers F s x .move) g),
-          ap (λ (c : ℕ). set (s .words) c z) t
-              ∙ sym (ap (λ (x : table.Asked). answers F s x .words) g),
-        )
-
-    pub query-refuses : {c : Stop.Stop} → q ≡ Refused c → (Stop c ≡ doQuery F s .move) × (s .words ≡ doQuery F s .words)
-    unfolding doQuery answers moves
-    query-refuses {c} f =
-        let g : asked ≡ table.refuses c = asked-refused asked c (sym read ∙ f) in
-        (sym (ap (λ (x : table.Asked). answers F s x .move) g), sym (ap (λ (x : table.Asked). answers F s x .words) g))
+  pub query-done : {group member target : ℕ} → target ≡ F .cell (field s 1) → group ≡ F .cell (field s 2) → member ≡ F .cell (field s 3) →
+      Asks (s .at + 4) group member target Query ≡ doQuery F s .move
+  unfolding doQuery moves
+  query-done t p q = λ i. Asks (s .at + 4) (p i) (q i) (t i) Query
 
 -- A name that is no formal has its own cell
 
@@ -250,7 +182,7 @@ is-less (suc (suc n)) d e = refl
 
 pub arguments-alike :
     (F : Finding) (code : List ℕ) (words : List ℤ) (limit live at at′ from n : ℕ) →
-    argumentsFrom F (only-words code words at) from n ≡ argumentsFrom F (without-table code words limit live at′) from n
+    argumentsFrom F (only-words code words at) from n ≡ argumentsFrom F (sceneBy code words limit live at′) from n
 unfolding argumentsFrom
 arguments-alike F code words limit live at at′ from zero = refl
 arguments-alike F code words limit live at at′ from (suc n) =

@@ -4,3 +4,4 @@ pub mod Pieces
 pub mod Doing
 pub mod Scenes
 pub mod Numbers
+pub mod Answers

@@ -1,30 +1,20 @@
 -- A scene as far as a statement looks at it, and the pieces from which the statements' functions are made.
 use Prim.Native.Nat.{ℕ, _+_, _*_, _/_, _%_, _≤_, _<_}
 use mathlib.Core.Bool.{true, false}
-use mathlib.Core.List.{List, []}
+use mathlib.Core.List.{List}
 use lib.IntN.{ℤ}
 use lib.ListN.{getD}
 use lib.Dec.{leb}
 use Rattle.language.specs.declared.Stop.the-variants.{NoActivationLeft}
-use Rattle.pairs.specs.declared.Change.{Change}
-use Rattle.pairs.specs.declared.Change.the-variants.{Done as Count, Stopped as Halted}
 use Rattle.acting.specs.declared.Effect.{Effect}
 use Rattle.acting.specs.declared.Effect.the-variants.{Done, Stopped}
 use Rattle.acting.specs.declared.Move.{Move}
-use Rattle.acting.specs.declared.Move.the-variants.{On, Pairs, Enter, Stop}
-use Rattle.acting.specs.Acting.{Finding, Scene, Happened, field, moves, rewrites, noRoom, argumentsFrom, setAll}
+use Rattle.acting.specs.declared.Move.the-variants.{On, Enter, Stop}
+use Rattle.acting.specs.Acting.{Finding, Scene, sceneBy, Happened, field, moves, rewrites, noRoom, argumentsFrom, setAll}
 
--- a scene as far as a statement looks at it: with no table, and with no activations either
-abbrev pub without-table : List ℕ → List ℤ → ℕ → ℕ → ℕ → Scene
-without-table code words limit live at =
-    record { code = code; words = words; table = []; pairs = 0; limits = record { activations = limit; group = 0 }; live = live; at = at }
-
+-- a scene as far as most statements look at it
 abbrev pub only-words : List ℕ → List ℤ → ℕ → Scene
-only-words code words at = without-table code words 0 0 at
-
-abbrev pub with-table : List ℕ → List ℤ → List ℤ → ℕ → ℕ → ℕ → Scene
-with-table code words table pairs group at =
-    record { code = code; words = words; table = table; pairs = pairs; limits = record { activations = 0; group = group }; live = 0; at = at }
+only-words code words at = sceneBy code words 0 0 at
 
 -- a procedure's body at a place stands behind so many formals, and in the script
 pub record FormalsBefore (code : List ℕ) (body : ℕ) : Type 0 where
@@ -36,10 +26,6 @@ pub record FormalsBefore (code : List ℕ) (body : ℕ) : Type 0 where
 unfoldable pub moveAfter : Effect → ℕ → Move
 moveAfter Done next = On next
 moveAfter (Stopped c) next = Stop c
-
-unfoldable pub moveChanged : Change → ℕ → Move
-moveChanged (Count n) next = Pairs next n
-moveChanged (Halted c) next = Stop c
 
 unfoldable pub blockMove : List ℕ → ℕ → ℕ → ℕ → Move
 blockMove code limit live at =

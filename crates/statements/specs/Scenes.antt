@@ -1,4 +1,4 @@
--- A statement's function says what it does in a scene as far as it looks at it (`only-words`, `without-table`, `with-table`). In the whole scene
+-- A statement's function says what it does in a scene as far as it looks at it (`only-words`, `sceneBy`). In the whole scene
 -- the statement comes to the same, and what it does not look at stays: `constant-same` and so on, a law for each. `done`: so it is with `acting`.
 use Prim.Native.Nat.{ℕ, zero, suc, _+_}
 use native.Mathlib.Omega.{arith}
@@ -10,24 +10,21 @@ use lib.IntN.{ℤ, pos}
 use lib.ListN.{getD}
 use Rattle.language.specs.Basics.{eqZ}
 use Rattle.language.specs.Text.{Operation}
-use Rattle.language.specs.Table.{Effect, leaves, halts, Asked, gives, refuses, added, removed, queried}
 use Rattle.language.specs.Machine.{compute}
 use Rattle.acting.specs.declared.Effect.{Effect as Kept}
 use Rattle.acting.specs.declared.Effect.the-variants.{Done as Stored, Stopped as Refused}
+use Rattle.acting.specs.declared.Ask.{Ask}
 use Rattle.acting.specs.declared.Move.{Move}
 use Rattle.acting.specs.declared.Move.the-variants.{Jump}
 use Rattle.acting.specs.Effects.{effectOf}
 use Rattle.acting.specs.Acting.{Finding, Scene, Happened, moves, rewrites, valueOf, field, arithmeticMove, doConstant, doArithmetic, doGoto, doBranch}
-use Rattle.acting.specs.Acting.{noRoom, doBlock, argumentsFrom, doCall, argumentsAgree, doCallFormal, changes, doAdd, doRemove, answers, doQuery, Op}
+use Rattle.acting.specs.Acting.{noRoom, doBlock, argumentsFrom, doCall, argumentsAgree, doCallFormal, doChange, doQuery, Op}
 use Rattle.acting.specs.Acting.{opOf, happens, acting}
-use Rattle.statements.specs.Pieces.{without-table, only-words, with-table, blockMove}
+use Rattle.acting.specs.Acting.{sceneBy}
+use Rattle.statements.specs.Pieces.{only-words, blockMove}
 
-abbrev pub Done : Happened → Move → List ℤ → List ℤ → Type 0
-Done h r words table = (r ≡ h .move) × (words ≡ h .words) × (table ≡ h .table)
-
--- the same as the contracts' clauses have it
-abbrev pub Acted : Happened → Move → List ℤ → List ℤ → Type 0
-Acted h r words table = (r ≡ h .move) × ((words ≡ h .words) × (table ≡ h .table))
+abbrev pub Done : Happened → Move → List ℤ → Type 0
+Done h r words = (r ≡ h .move) × (words ≡ h .words)
 
 module _ (F : Finding) (s : Scene) where
   abbrev code : List ℕ
@@ -36,17 +33,8 @@ module _ (F : Finding) (s : Scene) where
   abbrev words : List ℤ
   words = s .words
 
-  abbrev table : List ℤ
-  table = s .table
-
-  abbrev pairs : ℕ
-  pairs = s .pairs
-
-  abbrev group : ℕ
-  group = s .limits .group
-
   abbrev limit : ℕ
-  limit = s .limits .activations
+  limit = s .limit
 
   abbrev live : ℕ
   live = s .live
@@ -58,7 +46,7 @@ module _ (F : Finding) (s : Scene) where
   o = only-words code words at
 
   abbrev t : Scene
-  t = without-table code words limit live at
+  t = sceneBy code words limit live at
 
   acts : (p : Op) → opOf (getD code at 0) ≡ p → happens F s p ≡ acting F s
   unfolding acting
@@ -66,14 +54,13 @@ module _ (F : Finding) (s : Scene) where
       let z : at + 0 ≡ at = omega arith in
       ap (happens F s) (sym (ap (λ i. opOf (getD code i 0)) z ∙ e))
 
-  pub done : (p : Op) → opOf (getD code at 0) ≡ p → (r : Move) (words′ table′ : List ℤ) → Done (happens F s p) r words′ table′
-      → Acted (acting F s) r words′ table′
-  done p e r words′ table′ h = subst (λ (x : Happened). Acted x r words′ table′) (acts p e) (h .0, (h .1, h .2))
+  pub done : (p : Op) → opOf (getD code at 0) ≡ p → (r : Move) (words′ : List ℤ) → Done (happens F s p) r words′ → Done (acting F s) r words′
+  done p e r words′ h = subst (λ (x : Happened). Done x r words′) (acts p e) h
 
   pub constant-same : (r : Move) (words′ : List ℤ) → r ≡ (doConstant F o) .move → words′ ≡ (doConstant F o) .words
-      → Done (doConstant F s) r words′ table
+      → Done (doConstant F s) r words′
   unfolding doConstant rewrites
-  constant-same r words′ p q = (p, q, refl)
+  constant-same r words′ p q = (p, q)
 
   moved : (e : Kept) → arithmeticMove F o e ≡ arithmeticMove F s e
   unfolding arithmeticMove
@@ -81,92 +68,64 @@ module _ (F : Finding) (s : Scene) where
   moved (Refused c) = refl
 
   pub arithmetic-same : (f : Operation) (r : Move) (words′ : List ℤ) → r ≡ (doArithmetic F o f) .move → words′ ≡ (doArithmetic F o f) .words
-      → Done (doArithmetic F s f) r words′ table
+      → Done (doArithmetic F s f) r words′
   unfolding doArithmetic rewrites
-  arithmetic-same f r words′ p q = (p ∙ moved (effectOf (compute f (valueOf F o (field o 3)) (valueOf F o (field o 4)))), q, refl)
+  arithmetic-same f r words′ p q = (p ∙ moved (effectOf (compute f (valueOf F o (field o 3)) (valueOf F o (field o 4)))), q)
 
-  pub goto-same : (r : Move) → r ≡ (doGoto F o) .move → Done (doGoto F s) r words table
+  pub goto-same : (r : Move) → r ≡ (doGoto F o) .move → Done (doGoto F s) r words
   unfolding doGoto moves
-  goto-same r p = (p, refl, refl)
+  goto-same r p = (p, refl)
 
-  pub branch-same : (r : Move) → r ≡ (doBranch F o) .move → Done (doBranch F s) r words table
+  pub branch-same : (r : Move) → r ≡ (doBranch F o) .move → Done (doBranch F s) r words
   unfolding doBranch doGoto moves
   branch-same r p = go (eqZ (valueOf F o (field o 2)) (pos 0)) refl
     where
-      go : (b : Bool) → eqZ (valueOf F o (field o 2)) (pos 0) ≡ b → Done (doBranch F s) r words table
-      go true e = (p ∙ rw (e, doBranch), rw (e, doBranch), rw (e, doBranch))
-      go false e = (p ∙ rw (e, doBranch), rw (e, doBranch), rw (e, doBranch))
+      go : (b : Bool) → eqZ (valueOf F o (field o 2)) (pos 0) ≡ b → Done (doBranch F s) r words
+      go true e = (p ∙ rw (e, doBranch), rw (e, doBranch))
+      go false e = (p ∙ rw (e, doBranch), rw (e, doBranch))
 
-  pub block-same : (r : Move) → r ≡ blockMove code limit live at → Done (doBlock F s) r words table
+  pub block-same : (r : Move) → r ≡ blockMove code limit live at → Done (doBlock F s) r words
   unfolding doBlock noRoom blockMove moves
   block-same r p = go (leb limit (live + 1)) refl
     where
-      go : (b : Bool) → leb limit (live + 1) ≡ b → Done (doBlock F s) r words table
-      go true e = (p ∙ rw (e, blockMove, doBlock), rw (e, doBlock), rw (e, doBlock))
-      go false e = (p ∙ rw (e, blockMove, doBlock), rw (e, doBlock), rw (e, doBlock))
+      go : (b : Bool) → leb limit (live + 1) ≡ b → Done (doBlock F s) r words
+      go true e = (p ∙ rw (e, blockMove, doBlock), rw (e, doBlock))
+      go false e = (p ∙ rw (e, blockMove, doBlock), rw (e, doBlock))
 
   arguments-alike : (from n : ℕ) → argumentsFrom F t from n ≡ argumentsFrom F s from n
   unfolding argumentsFrom
   arguments-alike from zero = refl
   arguments-alike from (suc n) = ap (λ (zs : List ℤ). F .handed (getD code from 0) ∷ zs) (arguments-alike (from + 1) n)
 
-  pub call-same : (r : Move) (words′ : List ℤ) → r ≡ (doCall F t) .move → words′ ≡ (doCall F t) .words → Done (doCall F s) r words′ table
+  pub call-same : (r : Move) (words′ : List ℤ) → r ≡ (doCall F t) .move → words′ ≡ (doCall F t) .words → Done (doCall F s) r words′
   unfolding doCall noRoom rewrites moves
   call-same r words′ p q = go (leb limit (live + 1)) refl
     where
-      go : (b : Bool) → leb limit (live + 1) ≡ b → Done (doCall F s) r words′ table
-      go true e = (p ∙ rw (e, doCall), q ∙ rw (e, doCall), rw (e, doCall))
-      go false e = (p ∙ rw (e, doCall), q ∙ rw (e, doCall, arguments-alike), rw (e, doCall))
+      go : (b : Bool) → leb limit (live + 1) ≡ b → Done (doCall F s) r words′
+      go true e = (p ∙ rw (e, doCall), q ∙ rw (e, doCall))
+      go false e = (p ∙ rw (e, doCall), q ∙ rw (e, doCall, arguments-alike))
 
   pub call-formal-same : (r : Move) (words′ : List ℤ) → r ≡ (doCallFormal F t) .move → words′ ≡ (doCallFormal F t) .words
-      → Done (doCallFormal F s) r words′ table
+      → Done (doCallFormal F s) r words′
   unfolding doCallFormal argumentsAgree moves
   call-formal-same r words′ p q = go (argumentsAgree F t (F .target (field t 1))) refl
     where
-      go : (b : Bool) → argumentsAgree F t (F .target (field t 1)) ≡ b → Done (doCallFormal F s) r words′ table
+      go : (b : Bool) → argumentsAgree F t (F .target (field t 1)) ≡ b → Done (doCallFormal F s) r words′
       go true e =
           let h = call-same r words′ (p ∙ rw (e, doCallFormal)) (q ∙ rw (e, doCallFormal)) in
-          (h .0 ∙ rw (e, doCallFormal), h .1 ∙ rw (e, doCallFormal), h .2 ∙ rw (e, doCallFormal))
-      go false e = (p ∙ rw (e, doCallFormal), q ∙ rw (e, doCallFormal), rw (e, doCallFormal))
+          (h .0 ∙ rw (e, doCallFormal), h .1 ∙ rw (e, doCallFormal))
+      go false e = (p ∙ rw (e, doCallFormal), q ∙ rw (e, doCallFormal))
 
-  -- AD, RM and QY
+  pub change-same : (a : Ask) (r : Move) → r ≡ (doChange F o a) .move → Done (doChange F s a) r words
+  unfolding doChange moves
+  change-same a r p = (p, refl)
 
-  abbrev with-group : ℕ → Scene
-  with-group g = with-table code words table pairs g at
-
-  changed-same : (g : ℕ) (e : Effect) → Done (changes F s e) ((changes F (with-group g) e) .move) words ((changes F (with-group g) e) .table)
-  unfolding changes moves
-  changed-same g (leaves u) = (refl, refl, refl)
-  changed-same g (halts c) = (refl, refl, refl)
-
-  pub add-same : (r : Move) (table′ : List ℤ) → r ≡ (doAdd F (with-group group)) .move → table′ ≡ (doAdd F (with-group group)) .table
-      → Done (doAdd F s) r words table′
-  unfolding doAdd
-  add-same r table′ p q =
-      let h = changed-same group (added group (valueOf F s (field s 1)) (valueOf F s (field s 2)) (record { words = table; used = pairs })) in
-      (p ∙ h .0, h .1, q ∙ h .2)
-
-  pub remove-same : (r : Move) (table′ : List ℤ) → r ≡ (doRemove F (with-group 0)) .move → table′ ≡ (doRemove F (with-group 0)) .table
-      → Done (doRemove F s) r words table′
-  unfolding doRemove
-  remove-same r table′ p q =
-      let h = changed-same 0 (removed (valueOf F s (field s 1)) (valueOf F s (field s 2)) (record { words = table; used = pairs })) in
-      (p ∙ h .0, h .1, q ∙ h .2)
-
-  answered-same : (a : Asked) → Done (answers F s a) ((answers F (with-group 0) a) .move) ((answers F (with-group 0) a) .words) table
-  unfolding answers moves rewrites
-  answered-same (gives z) = (refl, refl, refl)
-  answered-same (refuses c) = (refl, refl, refl)
-
-  pub query-same : (r : Move) (words′ : List ℤ) → r ≡ (doQuery F (with-group 0)) .move → words′ ≡ (doQuery F (with-group 0)) .words
-      → Done (doQuery F s) r words′ table
-  unfolding doQuery
-  query-same r words′ p q =
-      let h = answered-same (queried (valueOf F s (field s 2)) (valueOf F s (field s 3)) (record { words = table; used = pairs })) in
-      (p ∙ h .0, q ∙ h .1, h .2)
+  pub query-same : (r : Move) → r ≡ (doQuery F o) .move → Done (doQuery F s) r words
+  unfolding doQuery moves
+  query-same r p = (p, refl)
 
 -- a goto, from where its label is found
 pub goto-found : (F : Finding) (s : Scene) {home place : ℕ} → home ≡ F .home (field s 1) → place ≡ F .target (field s 1) → (r : Move)
-    → r ≡ Jump home place → Done (doGoto F s) r (s .words) (s .table)
+    → r ≡ Jump home place → Done (doGoto F s) r (s .words)
 unfolding doGoto moves
-goto-found F s p q r e = (e ∙ ap₂ Jump p q, refl, refl)
+goto-found F s p q r e = (e ∙ ap₂ Jump p q, refl)

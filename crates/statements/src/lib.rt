@@ -2,13 +2,19 @@
 use acting::Effect;
 use acting::Move;
 use language::Stop;
-use pairs::Change;
 use stepping::code_at;
 ghost use mathlib.Core.Path.{_≡_};
 ghost use Prim.Native.Nat.{_+_, _<_, _≤_};
 ghost use lib.ListN.{getD, set};
 ghost use Rattle.language.specs.Encoding.{signed};
-ghost use Rattle.statements.specs.Pieces.{blockMove, moveAfter, moveChanged};
+ghost use Rattle.statements.specs.Pieces.{blockMove, moveAfter};
+
+mod membership;
+
+pub use membership::add;
+pub use membership::after;
+pub use membership::query;
+pub use membership::remove;
 
 // KN, with its target's cell.
 pub fn constant(code: &[u32; 4096], words: &mut [i32; 8224], target: usize, at: usize) -> Move
@@ -39,15 +45,4 @@ pub fn do_block(code: &[u32; 4096], limit: usize, live: usize, at: usize) -> Mov
         return Move::Stop(Stop::NoActivationLeft);
     }
     Move::Enter(at, live, code_at(code, at + 1) % 65536)
-}
-
-// AD and RM, with what the change comes to.
-pub fn changed(change: Change, at: usize) -> Move
-    requires { ⌜ at + 3 ≤ 4096 ⌝ }
-    ensures { λ r. ⌜ r ≡ moveChanged change (at + 3) ⌝ }
-{
-    match change {
-        Change::Done(pairs) => Move::Pairs(at + 3, pairs),
-        Change::Stopped(cause) => Move::Stop(cause),
-    }
 }

@@ -58,11 +58,11 @@ is-procedure (LB at n i) e = let z : _≡_ {A = ℕ} 0 1 = cc in absurd (omega a
 is-procedure (PR at n gs b) e = (at, n, gs, b, refl)
 
 module _ (F : Finding) (s : Scene) where
-  call-full : leb (s .limits .activations) (s .live + 1) ≡ true → doCall F s ≡ moves s (Stop NoActivationLeft)
+  call-full : leb (s .limit) (s .live + 1) ≡ true → doCall F s ≡ moves s (Stop NoActivationLeft)
   unfolding doCall noRoom
   call-full e = rw (doCall, e)
 
-  call-enters : leb (s .limits .activations) (s .live + 1) ≡ false
+  call-enters : leb (s .limit) (s .live + 1) ≡ false
       → doCall F s ≡ rewrites s (Enter (F .target (field s 1)) (F .home (field s 1)) (s .at + 3 + field s 2)) (setAll (s .words) (32 * s .live + 32) (argumentsFrom F s (s .at + 3) (field s 2)))
   unfolding doCall noRoom
   call-enters e = rw (doCall, e)
@@ -272,10 +272,9 @@ module _ {code : List ℕ} {l : Limits} {words : List ℤ} {blocks nexts links :
           step-acts l (w .stack) (w .below) (w .frame) o (CL p xs) (w .frames-are) q
               ∙ calls-full l (aheadStack w) x ys (PR (found .0) (found .1) gs body) declared-ahead (agreed-ahead ∙ a) (room-none w e),
           refl,
-          refl,
         ))
         (λ e. subst (Means w) (sym (call-enters F (sceneOf w) e))
-        (subst (λ k. EntersAt w (F .target (getD code (at + 1) 0)) k (at + 3 + getD code (at + 2) 0) (setAll words (32 * live + 32) handedWords)) (sym (home-found w F finds p called 1 word-is)) (entering a e), refl))
+        (subst (λ k. EntersAt w (F .target (getD code (at + 1) 0)) k (at + 3 + getD code (at + 2) 0) (setAll words (32 * live + 32) handedWords)) (sym (home-found w F finds p called 1 word-is)) (entering a e)))
 
     pub call-means : direct (nameWord es p) ≡ true → Means w (doCall F (sceneOf w))
     call-means d = agreeing-means (agreed-declared d)
@@ -293,6 +292,5 @@ module _ {code : List ℕ} {l : Limits} {words : List ℤ} {blocks nexts links :
         (λ a. subst (Means w) (sym (formal-differs F (sceneOf w) (agree-is ∙ a))) (
           step-acts l (w .stack) (w .below) (w .frame) o (CL p xs) (w .frames-are) q
               ∙ calls-differing l (aheadStack w) x ys (PR (found .0) (found .1) gs body) declared-ahead (agreed-ahead ∙ a),
-          refl,
           refl,
         ))

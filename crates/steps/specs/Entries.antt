@@ -30,11 +30,11 @@ use Rattle.steps.specs.Means.{EntersAt, Means}
 use Rattle.steps.specs.Here.{many, last-is, stands-at, covered, goes-on-at}
 use Rattle.steps.specs.Going.{sceneOf, ahead, aheadStack, ahead-many}
 
-blocks-full : (F : Finding) (s : Scene) → leb (s .limits .activations) (s .live + 1) ≡ true → doBlock F s ≡ moves s (Stop NoActivationLeft)
+blocks-full : (F : Finding) (s : Scene) → leb (s .limit) (s .live + 1) ≡ true → doBlock F s ≡ moves s (Stop NoActivationLeft)
 unfolding doBlock noRoom
 blocks-full F s e = rw (doBlock, e)
 
-blocks-enter : (F : Finding) (s : Scene) → leb (s .limits .activations) (s .live + 1) ≡ false → doBlock F s ≡ moves s (Enter (s .at) (s .live) (field s 1 % 65536))
+blocks-enter : (F : Finding) (s : Scene) → leb (s .limit) (s .live + 1) ≡ false → doBlock F s ≡ moves s (Enter (s .at) (s .live) (field s 1 % 65536))
 unfolding doBlock noRoom
 blocks-enter F s e = rw (doBlock, e)
 
@@ -90,5 +90,5 @@ module _ {code : List ℕ} {l : Limits} {words : List ℤ} {blocks nexts links :
     block-means =
         split (leb (l .activations) (live + 1))
         (λ e. subst (Means w) (sym (blocks-full F (sceneOf w) e))
-        (step-does l (w .stack) (w .below) (w .frame) (BK b) (w .frames-are) q ∙ enters-full l (aheadStack w) b (room-none e), refl, refl))
-        (λ e. subst (Means w) (sym (blocks-enter F (sceneOf w) e)) (entering e, refl))
+        (step-does l (w .stack) (w .below) (w .frame) (BK b) (w .frames-are) q ∙ enters-full l (aheadStack w) b (room-none e), refl))
+        (λ e. subst (Means w) (sym (blocks-enter F (sceneOf w) e)) (entering e))

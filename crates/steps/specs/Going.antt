@@ -1,8 +1,8 @@
 -- The innermost activation goes on. `ahead`: the frames with its next statement number risen, which is what a statement acts on; they are like
 -- those before it (`ahead-like`), keep the bounds (`ahead-bounded`), and the arrays hold them with the place behind the statement
 -- (`ahead-holds`). `goes-on`: a step that leaves frames like these, held by the arrays, is one after which the engine goes on; `stays-on`: so is
--- one that stores nothing, `stores-on`: and one that stores a word. `cell-found`, `value-found`: a name's cell and value, as an engine finds it.
-use Prim.Native.Nat.{ℕ, suc, pred, _+_, _*_, _≤_}
+-- one that stores nothing, `stores-on`: and one that stores a word. `cell-found`, `value-found`, `cell-there`: a name's cell and value, as an engine finds it.
+use Prim.Native.Nat.{ℕ, suc, pred, _+_, _*_, _≤_, _<_}
 use native.Mathlib.Omega.{arith}
 use mathlib.Core.List.{List, [], _∷_, _++_}
 use mathlib.Core.Option.{some, Option·map}
@@ -30,7 +30,7 @@ use Rattle.coordinates.specs.Designated.{Designated}
 use Rattle.coordinates.specs.Next.{Resolved}
 use Rattle.resolved.specs.Resolved.{endPlace, stmtPlace, nameWord}
 use Rattle.arrays.specs.Holds.{cellOf, targetOf, Holds}
-use Rattle.arrays.specs.Cells.{name-points}
+use Rattle.arrays.specs.Cells.{points-celled, name-points, cell-bound}
 use Rattle.arrays.specs.Storing.{word-held, holds-stored}
 use Rattle.arrays.specs.Running.{holds-on}
 use Rattle.acting.specs.Acting.{Finding, Scene}
@@ -71,7 +71,7 @@ like-trans fs gs hs p q =
 module _ {code : List ℕ} {l : Limits} {words : List ℤ} {blocks nexts links : List ℕ} {table : List ℤ} {pairs live at end : ℕ} (w : Standing code l words blocks nexts links table pairs live at end) where
   -- what a statement finds
   abbrev pub sceneOf : Scene
-  sceneOf = record { code = code; words = words; table = table; pairs = pairs; limits = l; live = live; at = at }
+  sceneOf = record { code = code; words = words; limit = l .activations; live = live; at = at }
 
   abbrev pub ahead : List Frame
   ahead = w .below ++ (continue (w .frame) (suc (w .frame .next)) ∷ [])
@@ -183,6 +183,11 @@ module _ {code : List ℕ} {l : Limits} {words : List ℤ} {blocks nexts links :
     module _ (k : Kind) (d : Designated (w .stack .frames) (designates (w .stack .frames) n) k) where
       pub points-found : Points (w .stack .frames) (length (w .stack .frames)) (designates (w .stack .frames) n)
       points-found = name-points (w .stack .frames) n k (w .sound .bounded .each) d
+
+      pub cell-there : F .cell (getD code (at + i) 0) < 8192
+      cell-there =
+          let y = designates (w .stack .frames) n in
+          omega (arith, cell-found, cell-bound y (points-celled (w .stack .frames) (length (w .stack .frames)) y (w .sound .bounded .each) (omega (arith, many w, live-few w)) points-found))
 
       -- the value of a variable, in the frames that the statement acts on
       pub value-found : wordAt (aheadStack .frames) (designates (w .stack .frames) n) ≡ getD words (F .cell (getD code (at + i) 0)) (pos 0)

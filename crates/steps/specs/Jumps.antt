@@ -90,7 +90,7 @@ module _ {code : List ℕ} {l : Limits} {words : List ℤ} {blocks nexts links :
   module _ (F : Finding) (finds : Finds (w .stack .frames) F) where
     jump-means : (home place home′ place′ : ℕ) → home ≡ home′ → place ≡ place′ → JumpsTo w home place → Means w (moves (sceneOf w) (Jump home′ place′))
     unfolding moves
-    jump-means home place home′ place′ p q j = (subst (JumpsTo w home′) q (subst (λ h. JumpsTo w h place) p j), refl, refl)
+    jump-means home place home′ place′ p q j = (subst (JumpsTo w home′) q (subst (λ h. JumpsTo w h place) p j), refl)
 
     pub goto-means : (o n : ℕ) → frameStmt (w .frame) ≡ some (DO o (GO n)) → Means w (doGoto F (sceneOf w))
     unfolding doGoto resolvedStmt resolvedAction actionNames mapAction
@@ -111,7 +111,7 @@ module _ {code : List ℕ} {l : Limits} {words : List ℤ} {blocks nexts links :
         let value = value-found w F finds v (a .names .0) 2 (ap (λ i. getD code i 0) (sym two) ∙ c .1 .1 .0) variable (a .kinds .0) in
         let acts = step-acts l (w .stack) (w .below) (w .frame) o (IF v n) (w .frames-are) q in
         split (eqZ (valueOf F s (field s 2)) (pos 0))
-        (λ t. subst (Means w) (sym (branches-on F s t)) (passes-on w (DO o (IF v n)) q (acts ∙ passes l (aheadStack w) (designates fs v) (designates fs n) _ value t), refl))
+        (λ t. subst (Means w) (sym (branches-on F s t)) (passes-on w (DO o (IF v n)) q (acts ∙ passes l (aheadStack w) (designates fs v) (designates fs n) _ value t)))
         (λ t. subst (Means w) (sym (branches-off F s t))
         (jump-means _ _ _ _ (sym (home-found w F finds n (a .names .1 .0) 1 (c .1 .0))) (sym (target-found w F finds n (a .names .1 .0) 1 (c .1 .0)))
         (jumps-to (designates fs n) (a .kinds .1) (acts ∙ jumps l (aheadStack w) (designates fs v) (designates fs n) _ value t))))

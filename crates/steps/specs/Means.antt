@@ -7,6 +7,7 @@ use mathlib.Core.Path.{_≡_}
 use lib.IntN.{ℤ, pos}
 use lib.ListN.{length, getD, take, getElem?}
 use Rattle.language.specs.Text.{Kind, Formal, Block, blockAt}
+use Rattle.language.specs.Table.{Effect, leaves, halts}
 use Rattle.language.specs.Machine.{Limits}
 use Rattle.frames.specs.Frame.{Frame, Stack, acted, halted, numbered, continue, withFrames, newFrame, frameCost, stepped, frameStep, frameRun}
 use Rattle.coordinates.specs.Enclosure.{enclosed, Encloses}
@@ -15,8 +16,8 @@ use Rattle.coordinates.specs.Designated.{Designated}
 use Rattle.resolved.specs.Resolved.{placeOf, stmtPlace}
 use Rattle.arrays.specs.Holds.{formalWord}
 use Rattle.acting.specs.declared.Move.{Move}
-use Rattle.acting.specs.declared.Move.the-variants.{On, Pairs, Jump, Enter, Stop}
-use Rattle.acting.specs.Acting.{Happened}
+use Rattle.acting.specs.declared.Move.the-variants.{On, Table as Asks, Jump, Enter, Stop}
+use Rattle.acting.specs.Acting.{Happened, Answer, answer}
 use Rattle.steps.specs.Standing.{Standing}
 
 module _ {code : List ℕ} {l : Limits} {words : List ℤ} {blocks nexts links : List ℕ} {table : List ℤ} {pairs live at end : ℕ} (w : Standing code l words blocks nexts links table pairs live at end) where
@@ -64,12 +65,24 @@ module _ {code : List ℕ} {l : Limits} {words : List ℤ} {blocks nexts links :
     pub kept : (i : ℕ) → i < 32 * suc live → getD words′ i (pos 0) ≡ getD words i (pos 0)
     pub handed : (i x : ℕ) → getElem? arguments i ≡ some x → getD words′ (32 * suc live + i) (pos 0) ≡ pos (formalWord frames x)
 
-  abbrev pub MoveMeans : Move → List ℤ → List ℤ → Type 0
-  MoveMeans (On p) words′ table′ = GoesOn words′ table′ pairs p × (table′ ≡ table)
-  MoveMeans (Pairs p n) words′ table′ = GoesOn words′ table′ n p × (words′ ≡ words)
-  MoveMeans (Jump home p) words′ table′ = JumpsTo home p × (words′ ≡ words) × (table′ ≡ table)
-  MoveMeans (Enter body link back) words′ table′ = EntersAt body link back words′ × (table′ ≡ table)
-  MoveMeans (Stop c) words′ table′ = (frameStep l (w .stack) ≡ halted c) × (words′ ≡ words) × (table′ ≡ table)
+  -- the table has answered a statement behind which a place stands
+  abbrev pub EffectMeans : ℕ → List ℤ → Effect → Type 0
+  EffectMeans p words′ (leaves t) = GoesOn words′ (t .words) (t .used) p
+  EffectMeans p words′ (halts c) = (frameStep l (w .stack) ≡ halted c) × (words′ ≡ words)
+
+  abbrev pub AnswerMeans : ℕ → Answer → Type 0
+  AnswerMeans p x = EffectMeans p (x .words) (x .effect)
+
+  abbrev pub CellsThere : ℕ → ℕ → ℕ → Type 0
+  CellsThere g m t = (g < 8192) × ((m < 8192) × (t < 8192))
+
+  abbrev pub MoveMeans : Move → List ℤ → Type 0
+  MoveMeans (On p) words′ = GoesOn words′ table pairs p
+  MoveMeans (Asks p g m t a) words′ =
+      AnswerMeans p (answer (l .group) words (record { words = table; used = pairs }) g m t a) × (words′ ≡ words) × CellsThere g m t
+  MoveMeans (Jump home p) words′ = JumpsTo home p × (words′ ≡ words)
+  MoveMeans (Enter body link back) words′ = EntersAt body link back words′
+  MoveMeans (Stop c) words′ = (frameStep l (w .stack) ≡ halted c) × (words′ ≡ words)
 
   abbrev pub Means : Happened → Type 0
-  Means h = MoveMeans (h .move) (h .words) (h .table)
+  Means h = MoveMeans (h .move) (h .words)

@@ -17,56 +17,70 @@ use Rattle.coordinates.specs.Visible.{actionNames}
 use Rattle.coordinates.specs.Next.{next-action}
 use Rattle.resolved.specs.Resolved.{resolvedAction, resolvedStmt}
 use Rattle.arrays.specs.Holds.{cellOf}
-use Rattle.acting.specs.Acting.{Finding, field, valueOf, moves, rewrites, changes, answers, doAdd, doRemove, doQuery}
+use Rattle.acting.specs.declared.Ask.the-variants.{Add, Remove}
+use Rattle.acting.specs.Acting.{Finding, field, valueOf, moves, doChange, doQuery, stored, answer}
 use Rattle.steps.specs.Standing.{Standing, Finds}
-use Rattle.steps.specs.Means.{GoesOn, Means}
+use Rattle.steps.specs.Means.{GoesOn, EffectMeans, AnswerMeans, Means}
 use Rattle.steps.specs.Here.{last-is, covered}
-use Rattle.steps.specs.Going.{sceneOf, aheadStack, stays-on, stores-on, cell-found, points-found, value-found}
+use Rattle.steps.specs.Going.{sceneOf, aheadStack, stays-on, stores-on, cell-found, points-found, cell-there, value-found}
 
 module _ {code : List ℕ} {l : Limits} {words : List ℤ} {blocks nexts links : List ℕ} {table : List ℤ} {pairs live at end : ℕ} (w : Standing code l words blocks nexts links table pairs live at end)
     (F : Finding) (finds : Finds (w .stack .frames) F) where
   abbrev now : Table
   now = record { words = table; used = pairs }
 
-  -- whatever the table's change comes to
-  changed : (x : Stmt) → frameStmt (w .frame) ≡ some x → length (stmtFields x) ≡ 3 → (e : Effect) → frameStep l (w .stack) ≡ asActed (aheadStack w) e → Means w (changes F (sceneOf w) e)
-  unfolding changes moves asActed
-  changed x q three (leaves t) step = (subst (λ i. GoesOn w words (t .words) (t .used) (at + i)) three (stays-on w x q t step), refl)
-  changed x q three (halts c) step = (step, refl, refl)
+  module _ (x : Stmt) (q : frameStmt (w .frame) ≡ some x) where
+    -- whatever the table's change comes to
+    changed : length (stmtFields x) ≡ 3 → (e : Effect) → frameStep l (w .stack) ≡ asActed (aheadStack w) e → EffectMeans w (at + 3) words e
+    unfolding asActed
+    changed three (leaves t) step = subst (λ i. GoesOn w words (t .words) (t .used) (at + i)) three (stays-on w x q t step)
+    changed three (halts c) step = (step, refl)
 
-  answered : (x : Stmt) → frameStmt (w .frame) ≡ some x → length (stmtFields x) ≡ 4 → (y : ℕ) → Points (w .stack .frames) (length (w .stack .frames)) y → F .cell (getD code (at + 1) 0) ≡ cellOf y
-      → (a : Asked) → frameStep l (w .stack) ≡ asPut (aheadStack w) y a → Means w (answers F (sceneOf w) a)
-  unfolding answers moves rewrites asPut put withFrames
-  answered x q four y p cell (gives z) step =
-      (subst (λ c. GoesOn w (set words c z) table pairs (at + 4)) (sym cell) (subst (λ i. GoesOn w (set words (cellOf y) z) table pairs (at + i)) four (stores-on w x q y z p step)), refl)
-  answered x q four y p cell (refuses c) step = (step, refl, refl)
+    answered : length (stmtFields x) ≡ 4 → (y : ℕ) → Points (w .stack .frames) (length (w .stack .frames)) y → (group member target : ℕ) → target ≡ cellOf y → (a : Asked)
+        → frameStep l (w .stack) ≡ asPut (aheadStack w) y a → AnswerMeans w (at + 4) (stored (l .group) words now group member target a)
+    unfolding stored asPut put withFrames
+    answered four y p group member target cell (gives z) step =
+        subst (λ c. GoesOn w (set words c z) table pairs (at + 4)) (sym cell) (subst (λ i. GoesOn w (set words (cellOf y) z) table pairs (at + i)) four (stores-on w x q y z p step))
+    answered four y p group member target cell (refuses c) step = (step, refl)
 
-  pub add-means : (o g m : ℕ) → frameStmt (w .frame) ≡ some (DO o (AD g m)) → Means w (doAdd F (sceneOf w))
-  unfolding doAdd resolvedStmt resolvedAction actionNames mapAction stmtFields actionFields act addTo withFrames
+  pub add-means : (o g m : ℕ) → frameStmt (w .frame) ≡ some (DO o (AD g m)) → Means w (doChange F (sceneOf w) Add)
+  unfolding doChange moves answer resolvedStmt resolvedAction actionNames mapAction stmtFields actionFields act addTo withFrames
   add-means o g m q =
       let s = sceneOf w in
       let c = covered w (DO o (AD g m)) q in
       let n = next-action l (w .program) (w .keeps) (w .stack) (w .sound) (w .frame) (last-is w) o (AD g m) q in
       let two : at + 1 + 1 ≡ at + 2 = omega arith in
       let group = value-found w F finds g (n .names .0) 1 (c .1 .0) variable (n .kinds .0) in
-      let member = value-found w F finds m (n .names .1 .0) 2 (ap (λ i. getD code i 0) (sym two) ∙ c .1 .1 .0) variable (n .kinds .1) in
-      changed (DO o (AD g m)) q refl (added (l .group) (valueOf F s (field s 1)) (valueOf F s (field s 2)) now)
-      (step-acts l (w .stack) (w .below) (w .frame) o (AD g m) (w .frames-are) q ∙ (λ i. asActed (aheadStack w) (added (l .group) (group i) (member i) (w .table-is i))))
+      let member = value-found w F finds m (n .names .1 .0) 2 (ap (λ i. getD code i 0) (sym two) ∙ c .1 .1 .0) variable (n .kinds .1) in (
+        changed (DO o (AD g m)) q refl (added (l .group) (valueOf F s (field s 1)) (valueOf F s (field s 2)) now)
+            (step-acts l (w .stack) (w .below) (w .frame) o (AD g m) (w .frames-are) q ∙ (λ i. asActed (aheadStack w) (added (l .group) (group i) (member i) (w .table-is i)))),
+        refl,
+        (
+          cell-there w F finds g (n .names .0) 1 (c .1 .0) variable (n .kinds .0),
+          (cell-there w F finds m (n .names .1 .0) 2 (ap (λ i. getD code i 0) (sym two) ∙ c .1 .1 .0) variable (n .kinds .1), omega arith),
+        ),
+      )
 
-  pub remove-means : (o g m : ℕ) → frameStmt (w .frame) ≡ some (DO o (RM g m)) → Means w (doRemove F (sceneOf w))
-  unfolding doRemove resolvedStmt resolvedAction actionNames mapAction stmtFields actionFields act removeFrom withFrames
+  pub remove-means : (o g m : ℕ) → frameStmt (w .frame) ≡ some (DO o (RM g m)) → Means w (doChange F (sceneOf w) Remove)
+  unfolding doChange moves answer resolvedStmt resolvedAction actionNames mapAction stmtFields actionFields act removeFrom withFrames
   remove-means o g m q =
       let s = sceneOf w in
       let c = covered w (DO o (RM g m)) q in
       let n = next-action l (w .program) (w .keeps) (w .stack) (w .sound) (w .frame) (last-is w) o (RM g m) q in
       let two : at + 1 + 1 ≡ at + 2 = omega arith in
       let group = value-found w F finds g (n .names .0) 1 (c .1 .0) variable (n .kinds .0) in
-      let member = value-found w F finds m (n .names .1 .0) 2 (ap (λ i. getD code i 0) (sym two) ∙ c .1 .1 .0) variable (n .kinds .1) in
-      changed (DO o (RM g m)) q refl (removed (valueOf F s (field s 1)) (valueOf F s (field s 2)) now)
-      (step-acts l (w .stack) (w .below) (w .frame) o (RM g m) (w .frames-are) q ∙ (λ i. asActed (aheadStack w) (removed (group i) (member i) (w .table-is i))))
+      let member = value-found w F finds m (n .names .1 .0) 2 (ap (λ i. getD code i 0) (sym two) ∙ c .1 .1 .0) variable (n .kinds .1) in (
+        changed (DO o (RM g m)) q refl (removed (valueOf F s (field s 1)) (valueOf F s (field s 2)) now)
+            (step-acts l (w .stack) (w .below) (w .frame) o (RM g m) (w .frames-are) q ∙ (λ i. asActed (aheadStack w) (removed (group i) (member i) (w .table-is i)))),
+        refl,
+        (
+          cell-there w F finds g (n .names .0) 1 (c .1 .0) variable (n .kinds .0),
+          (cell-there w F finds m (n .names .1 .0) 2 (ap (λ i. getD code i 0) (sym two) ∙ c .1 .1 .0) variable (n .kinds .1), omega arith),
+        ),
+      )
 
   pub query-means : (o t g m : ℕ) → frameStmt (w .frame) ≡ some (DO o (QY t g m)) → Means w (doQuery F (sceneOf w))
-  unfolding doQuery resolvedStmt resolvedAction actionNames mapAction stmtFields actionFields act ask withFrames
+  unfolding doQuery moves answer resolvedStmt resolvedAction actionNames mapAction stmtFields actionFields act ask withFrames
   query-means o t g m q =
       let s = sceneOf w in
       let fs = w .stack .frames in
@@ -75,7 +89,13 @@ module _ {code : List ℕ} {l : Limits} {words : List ℤ} {blocks nexts links :
       let two : at + 1 + 1 ≡ at + 2 = omega arith in
       let three : at + 1 + 1 + 1 ≡ at + 3 = omega arith in
       let group = value-found w F finds g (n .names .1 .0) 2 (ap (λ i. getD code i 0) (sym two) ∙ c .1 .1 .0) variable (n .kinds .1) in
-      let member = value-found w F finds m (n .names .1 .1 .0) 3 (ap (λ i. getD code i 0) (sym three) ∙ c .1 .1 .1 .0) variable (n .kinds .2) in
-      answered (DO o (QY t g m)) q refl (designates fs t) (points-found w F finds t (n .names .0) 1 (c .1 .0) variable (n .kinds .0)) (cell-found w F finds t (n .names .0) 1 (c .1 .0))
-      (queried (valueOf F s (field s 2)) (valueOf F s (field s 3)) now)
-      (step-acts l (w .stack) (w .below) (w .frame) o (QY t g m) (w .frames-are) q ∙ (λ i. asPut (aheadStack w) (designates fs t) (queried (group i) (member i) (w .table-is i))))
+      let member = value-found w F finds m (n .names .1 .1 .0) 3 (ap (λ i. getD code i 0) (sym three) ∙ c .1 .1 .1 .0) variable (n .kinds .2) in (
+        answered (DO o (QY t g m)) q refl (designates fs t) (points-found w F finds t (n .names .0) 1 (c .1 .0) variable (n .kinds .0)) _ _ _ (cell-found w F finds t (n .names .0) 1 (c .1 .0))
+            (queried (valueOf F s (field s 2)) (valueOf F s (field s 3)) now)
+            (step-acts l (w .stack) (w .below) (w .frame) o (QY t g m) (w .frames-are) q ∙ (λ i. asPut (aheadStack w) (designates fs t) (queried (group i) (member i) (w .table-is i)))),
+        refl,
+        (
+          cell-there w F finds g (n .names .1 .0) 2 (ap (λ i. getD code i 0) (sym two) ∙ c .1 .1 .0) variable (n .kinds .1),
+          (cell-there w F finds m (n .names .1 .1 .0) 3 (ap (λ i. getD code i 0) (sym three) ∙ c .1 .1 .1 .0) variable (n .kinds .2), cell-there w F finds t (n .names .0) 1 (c .1 .0) variable (n .kinds .0)),
+        ),
+      )

@@ -62,7 +62,7 @@ module _ {code : List ℕ} {l : Limits} {words : List ℤ} {blocks nexts links :
   -- a word stored at a name's cell
   stored : (words′ words″ : List ℤ) (at′ at″ : ℕ) → words′ ≡ words″ → at′ ≡ at″ → GoesOn w words′ table pairs at′ → Means w (rewrites (sceneOf w) (On at″) words″)
   unfolding rewrites
-  stored words′ words″ at′ at″ p q g = (subst (λ i. GoesOn w words″ table pairs i) q (subst (λ (ws : List ℤ). GoesOn w ws table pairs at′) p g), refl)
+  stored words′ words″ at′ at″ p q g = subst (λ i. GoesOn w words″ table pairs i) q (subst (λ (ws : List ℤ). GoesOn w ws table pairs at′) p g)
 
   -- KN
 
@@ -101,4 +101,4 @@ module _ {code : List ℕ} {l : Limits} {words : List ℤ} {blocks nexts links :
       (stored _ _ (at + 5) (at + 5) (λ i. set words (sym cell i) (result F s o)) refl
       (stores-on w (DO at′ (AR t o a b)) q (designates fs t) (result F s o) (points-found w F finds t (n .names .0) 1 (c .1 .0) variable (n .kinds .0))
       (acts ∙ computes l (aheadStack w) (designates fs t) o (designates fs a) (designates fs b) _ _ left right e))))
-      (λ e. subst (Means w) (sym (not-fitting F s o e)) (acts ∙ computes-past l (aheadStack w) (designates fs t) o (designates fs a) (designates fs b) _ _ left right e, refl, refl))
+      (λ e. subst (Means w) (sym (not-fitting F s o e)) (acts ∙ computes-past l (aheadStack w) (designates fs t) o (designates fs a) (designates fs b) _ _ left right e, refl))

@@ -46,15 +46,15 @@ use Rattle.admission.specs.Lent.{fedOf}
 use Rattle.answers.specs.Replies.{Replies}
 use Rattle.replies.specs.Replies.{tally-fits}
 use Rattle.activations.specs.declared.Activation.{Activation}
-use Rattle.chain.specs.declared.run.Halt.{Halt}
+use Rattle.run_state.specs.declared.Halt.{Halt}
 use Rattle.links.proofs.Rows.{recs}
 use Rattle.chain.proofs.Rows.{halts}
 use Rattle.chain_call.proofs.Rows.{codes, wordss, answerss, numberss, fitting}
 use Rattle.chain_call.proofs.Pieces.{begins-at, sheet-ready, replied}
 use denote.RattleType.{RattleType}
 use denote.Struct.Laws.{owed}
-use Rattle.chain.proofs.run.Halt as Halt#
-use Rattle.chain.proofs.run.Halt.Laws as Halt′
+use Rattle.run_state.proofs.Halt as Halt#
+use Rattle.run_state.proofs.Halt.Laws as Halt′
 use Rattle.chain_call.proofs.resolved as resolved
 use Rattle.chain_call.proofs.resolved.Symbol as resolved-def
 use Rattle.chain_call.proofs.resolved.Symbol.{name as #resolved}

@@ -41,11 +41,11 @@ use Rattle.lending.specs.Locals.{var, part, puts, lands-in, ends, if-then}
 use Rattle.lending.specs.Early.{ends-early, told}
 use Rattle.activations.specs.Records.{hop}
 use Rattle.activations.specs.declared.Activation.{Activation}
-use Rattle.links.specs.declared.Now.{Now}
+use Rattle.run_state.specs.declared.Registers.{Registers}
 use Rattle.resolved.specs.Resolved.{levelIn}
 use Rattle.links.specs.Finding.{Named, firstCell}
 use Rattle.links.specs.Records.{as-linked, hop-follows, linksIn}
-use Rattle.links.proofs.Rows.{Code, Rec, recs, nows, fields-of-now}
+use Rattle.links.proofs.Rows.{Code, Rec, recs, registers, fields-of-registers}
 use Rattle.arrays.specs.Names.{follow as follows}
 use Rattle.links.proofs.hops as hops
 use Rattle.links.proofs.hops.Symbol as hops-def
@@ -71,13 +71,13 @@ stayed = (
   stay-none-ref (0 ∷ []) tt (arrayOf (plain (λ _. u32)) 4096) yes,
   (
     stay-none-slice (1 ∷ []) tt (plain (λ _. recs .type)) yes,
-    (stay-none (λ _. nows .type) yes, (stay-none (λ _. usizes .type) yes, (stay-none (λ _. usizes .type) yes, tt))),
+    (stay-none (λ _. registers .type) yes, (stay-none (λ _. usizes .type) yes, (stay-none (λ _. usizes .type) yes, tt))),
   ),
 )
 
 module _ {M : Type 1} (𝓤 : URA M) (H : Heap 𝓤) (A : Atoms 𝓤) (W : Given 𝓤 H A) (mem : Memory → SProp 𝓤) (run : Routine → Fun 𝓤) (κ0 κ1 : Lft) (q0 q1 : Share)
-    (code# : RefT (List ℕ)) (records# : RefT (List Activation)) (here : Now) (own field : ℕ)
-    (room-records : Room (Rec) (length (records# .now))) (g-here : Good nows here) (g-own : Good usizes own) (g-field : Good usizes field)
+    (code# : RefT (List ℕ)) (records# : RefT (List Activation)) (here : Registers) (own field : ℕ)
+    (room-records : Room (Rec) (length (records# .now))) (g-here : Good registers here) (g-own : Good usizes own) (g-field : Good usizes field)
     (pre : Named (code# .now) (records# .now) here field × (own ≡ 32 * here .live)) where
   abbrev h-code : Loan
   h-code = loanRef κ0 q0 code#
@@ -92,7 +92,7 @@ module _ {M : Type 1} (𝓤 : URA M) (H : Heap 𝓤) (A : Atoms 𝓤) (W : Given
   records = records# .now
 
   abbrev ps : List Par
-  ps = brw (shrRef Code) h-code code ∷ brw (shrSlice Rec) h-records records ∷ dat nows here ∷ dat usizes own ∷ dat usizes field ∷ []
+  ps = brw (shrRef Code) h-code code ∷ brw (shrSlice Rec) h-records records ∷ dat registers here ∷ dat usizes own ∷ dat usizes field ∷ []
 
   abbrev bound : walkOf 𝓤 H A f.ended stayed (f.clauses 𝓤 H A mem run) .Ghost
   bound = ((lfts ps, shares ps, tt, denots 0 ps, valss 0 ps), tt)
@@ -108,13 +108,13 @@ module _ {M : Type 1} (𝓤 : URA M) (H : Heap 𝓤) (A : Atoms 𝓤) (W : Given
       (ends-at 𝓤 H A f.ended stayed (f.clauses 𝓤 H A mem run) W bound (usizes .val r) r (tt, (tt, (tt, (tt, (tt, tt))))) (tt, (tt, (tt, (tt, (tt, tt))))))
 
   abbrev for-hops : List Par
-  for-hops = brw (shrRef Code) h-code code ∷ dat nows here ∷ dat usizes field ∷ []
+  for-hops = brw (shrRef Code) h-code code ∷ dat registers here ∷ dat usizes field ∷ []
 
   abbrev for-follow : ℕ → List Par
   for-follow n = brw (shrSlice Rec) h-records records ∷ dat usizes (here .live) ∷ dat usizes n ∷ []
 
   g-live : Good usizes (here .live)
-  g-live = fields-of-now here g-here .0
+  g-live = fields-of-registers here g-here .0
 
   module _ (n : ℕ) (e : n ≡ here .level - levelIn (getD code (here .at + field) 0)) where
     -- no link: the innermost activation's own
@@ -146,7 +146,7 @@ module _ {M : Type 1} (𝓤 : URA M) (H : Heap 𝓤) (A : Atoms 𝓤) (W : Given
           (
             (tt, (tt, (record { fits = room-records .0 }, tt))),
             (
-              typed 𝓤 H A W nows here g-here,
+              typed 𝓤 H A W registers here g-here,
               (typed 𝓤 H A W usizes own g-own, (typed 𝓤 H A W usizes field g-field, tt)),
             ),
           ),
@@ -172,9 +172,9 @@ module _ {M : Type 1} (𝓤 : URA M) (H : Heap 𝓤) (A : Atoms 𝓤) (W : Given
     (known-hops : Triple 𝓤 (𝓣 .C #hops) (Calls-hops 𝓤 H A mem run)) (known-follow : Triple 𝓤 (𝓣 .C #follow) (Calls-follow 𝓤 H A mem run)) where
   walks : Walks 𝓤 H A f.ended stayed (WpFn 𝓤 H (𝓣 .C) (𝓣 .Λ) mine.function) (f.clauses 𝓤 H A mem run)
   walks = walked 𝓤 H A f.ended stayed (f.clauses 𝓤 H A mem run) (WpFn 𝓤 H (𝓣 .C) (𝓣 .Λ) mine.function)
-      (λ κs. (ptr-vals, (slice-vals, ((λ (x : Now). nows .val x ∷ []), ((λ (x : ℕ). usizes .val x ∷ []), ((λ (x : ℕ). usizes .val x ∷ []), tt)))))) (λ κs. (
+      (λ κs. (ptr-vals, (slice-vals, ((λ (x : Registers). registers .val x ∷ []), ((λ (x : ℕ). usizes .val x ∷ []), ((λ (x : ℕ). usizes .val x ∷ []), tt)))))) (λ κs. (
         shr-tells (named 0) (κs .0) Code,
-        (shr-slice-tells (named 1) (κs .1 .0) Rec, (nows .tells, (usizes .tells, (usizes .tells, tt)))),
+        (shr-slice-tells (named 1) (κs .1 .0) Rec, (registers .tells, (usizes .tells, (usizes .tells, tt)))),
       ))
       (λ κs qs bounds a g are. needs 𝓤 (Named ((a .0) .now) ((a .1 .0) .now) (a .1 .1 .0) (a .1 .1 .1 .1 .0) × (a .1 .1 .1 .0 ≡ 32 * a .1 .1 .0 .live)) _ (λ l. walk 𝓤 H A W mem run (κs .0) (κs .1 .0)
       (qs .0) (qs .1 .0) (a .0) (a .1 .0) (a .1 .1 .0) (a .1 .1 .1 .0) (a .1 .1 .1 .1 .0) (are .1 .0 .0 .1) (are .1 .1 .0) (are .1 .1 .1 .0)
@@ -188,7 +188,7 @@ module _ {M : Type 1} (𝓤 : URA M) (H : Heap 𝓤) (A : Atoms 𝓤) (W : Given
       goes-none-slice 𝓤 H A W 2 (1 ∷ []) tt
           (plain (λ _. recs .type)) yes,
       (
-        goes-none 𝓤 H A W 2 (λ _. nows .type) yes (λ κs x f. refl),
+        goes-none 𝓤 H A W 2 (λ _. registers .type) yes (λ κs x f. refl),
         (
           goes-none 𝓤 H A W 2 (λ _. usizes .type) yes (λ κs x f. refl),
           (goes-none 𝓤 H A W 2 (λ _. usizes .type) yes (λ κs x f. refl), tt),

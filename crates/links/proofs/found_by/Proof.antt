@@ -12,11 +12,11 @@ name-designator-requires c κs = c .pre .nameable
 links-to-requires : tie.Need-links-to-requires
 links-to-requires c κs = c .before .pre .outer
 
-narrow-requires : tie.Need-narrow-requires
-narrow-requires c κs = omega (arith, c .links-to .ensures .1, c .before .before .pre .low)
+narrow-u32-requires : tie.Need-narrow-u32-requires
+narrow-u32-requires c κs = omega (arith, c .links-to .ensures .1, c .before .before .pre .low)
 
 returns : tie.Need-returns
-returns c = rw (c .narrow .ensures, c .before .links-to .ensures .0, c .before .before .name-designator .ensures)
+returns c = rw (c .narrow-u32 .ensures, c .before .links-to .ensures .0, c .before .before .name-designator .ensures)
 
 pub found-by-spec : {M : Type 1} → statement M
 found-by-spec =
@@ -25,5 +25,5 @@ found-by-spec =
     mul-name-designator
     name-designator-requires
     links-to-requires
-    narrow-requires
+    narrow-u32-requires
     returns)

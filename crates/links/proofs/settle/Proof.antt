@@ -40,13 +40,13 @@ use Rattle.lending.specs.Locals.{var, part, lent-ptr, lent-slice, puts, lands-i
 use Rattle.lending.specs.Lends.{shares-slice, unshares-slice, relent}
 use Rattle.activations.specs.Records.{at, hop}
 use Rattle.activations.specs.declared.Activation.{Activation}
-use Rattle.links.specs.declared.Now.{Now}
+use Rattle.run_state.specs.declared.Registers.{Registers}
 use Rattle.links.specs.declared.Found.{Found}
 use Rattle.links.specs.Records.{as-linked, hop-follows, linksIn, blocksIn, withNext}
 use Rattle.links.specs.Running.{Running, Looking, Reached, foundBy, linksTo}
 use Rattle.links.specs.Moving.{room-there, linked, block-read, block-fits}
 use Rattle.links.specs.Names.{foundIn, outer-there, reached-there, found-there}
-use Rattle.links.proofs.Rows.{Code, Words, Rec, recs, nows, founds, fields-of-now}
+use Rattle.links.proofs.Rows.{Code, Words, Rec, recs, registers, founds, fields-of-registers}
 use Rattle.arrays.specs.Names.{follow as follows}
 use Rattle.activations.proofs.read as read
 use Rattle.activations.proofs.read.Symbol as read-def
@@ -107,14 +107,14 @@ stayed = (
   stay-none-ref (0 ∷ []) tt (arrayOf (plain (λ _. u32)) 4096) yes,
   (
     stay-none-ref (1 ∷ []) tt (arrayOf (plain (λ _. i32)) 8224) yes,
-    (gave-slice (2 ∷ []) tt (plain (λ _. recs .type)), (stay-none (λ _. nows .type) yes, tt)),
+    (gave-slice (2 ∷ []) tt (plain (λ _. recs .type)), (stay-none (λ _. registers .type) yes, tt)),
   ),
 )
 
 module _ {M : Type 1} (𝓤 : URA M) (H : Heap 𝓤) (A : Atoms 𝓤) (W : Given 𝓤 H A) (mem : Memory → SProp 𝓤) (run : Routine → Fun 𝓤) (κ0 κ1 κ2 : Lft)
     (q0 q1 q2 : Share)
-    (code# : RefT (List ℕ)) (words# : RefT (List ℤ)) (records# : RefT (List Activation)) (here : Now)
-    (room-records : Room (Rec) (length (records# .now))) (g-here : Good nows here) (pre : Looking (code# .now) (words# .now) (records# .now) here ×
+    (code# : RefT (List ℕ)) (words# : RefT (List ℤ)) (records# : RefT (List Activation)) (here : Registers)
+    (room-records : Room (Rec) (length (records# .now))) (g-here : Good registers here) (pre : Looking (code# .now) (words# .now) (records# .now) here ×
     (here .at < 65536)) where
   abbrev h-code : Loan
   h-code = loanRef κ0 q0 code#
@@ -135,7 +135,7 @@ module _ {M : Type 1} (𝓤 : URA M) (H : Heap 𝓤) (A : Atoms 𝓤) (W : Given
   records = records# .now
 
   abbrev ps : List Par
-  ps = brw (shrRef Code) h-code code ∷ brw (shrRef Words) h-words words ∷ brw (mutSlice Rec) h-records records ∷ dat nows here ∷ []
+  ps = brw (shrRef Code) h-code code ∷ brw (shrRef Words) h-words words ∷ brw (mutSlice Rec) h-records records ∷ dat registers here ∷ []
 
   abbrev bound : walkOf 𝓤 H A f.ended stayed (f.clauses 𝓤 H A mem run) .Ghost
   bound = ((lfts ps, shares ps, tt, denots 0 ps, valss 0 ps), tt)
@@ -160,10 +160,10 @@ module _ {M : Type 1} (𝓤 : URA M) (H : Heap 𝓤) (A : Atoms 𝓤) (W : Given
   live = here .live
 
   g-live : Good usizes live
-  g-live = fields-of-now here g-here .0
+  g-live = fields-of-registers here g-here .0
 
   g-at : Good usizes (here .at)
-  g-at = fields-of-now here g-here .1 .0
+  g-at = fields-of-registers here g-here .1 .0
 
   there : live < length records
   there = room-there w live (omega arith) .there
@@ -196,7 +196,7 @@ module _ {M : Type 1} (𝓤 : URA M) (H : Heap 𝓤) (A : Atoms 𝓤) (W : Given
   for-looked-up own = brw (shrRef Code) h-code code ∷ dat recs own ∷ []
 
   abbrev for-links-to : ℕ → List Par
-  for-links-to word = dat nows here ∷ dat usizes word ∷ []
+  for-links-to word = dat registers here ∷ dat usizes word ∷ []
 
   abbrev for-follow : ℕ → ℕ → GName → List Par
   for-follow n ν δ = brw (shrSlice Rec) (relent h-records ν δ) records ∷ dat usizes live ∷ dat usizes n ∷ []
@@ -208,7 +208,7 @@ module _ {M : Type 1} (𝓤 : URA M) (H : Heap 𝓤) (A : Atoms 𝓤) (W : Given
   for-push new = brw (mutSlice Rec) h-records records ∷ dat usizes live ∷ dat recs new ∷ []
 
   abbrev for-found-by : ℕ → ℕ → List Par
-  for-found-by word home = brw (shrRef Words) h-words words ∷ dat nows here ∷ dat usizes word ∷ dat usizes home ∷ []
+  for-found-by word home = brw (shrRef Words) h-words words ∷ dat registers here ∷ dat usizes word ∷ dat usizes home ∷ []
 
   module _ (C : Calls 𝓤 H) (Λ : Loops 𝓤 H) (fm : FmC 𝓤 H (W .laws) C) (known-read : Triple 𝓤 (C #read) (Calls-read 𝓤 H A mem run)) (known-looked-up : Triple 𝓤
       (C #looked-up) (Calls-looked-up 𝓤 H A mem run)) (known-links-to : Triple 𝓤 (C #links-to) (Calls-links-to 𝓤 H A mem run)) (known-follow : Triple 𝓤
@@ -226,7 +226,7 @@ module _ {M : Type 1} (𝓤 : URA M) (H : Heap 𝓤) (A : Atoms 𝓤) (W : Given
             (
               (tt, (tt, (record { fits = room-records .0 }, tt))),
               (
-                typed 𝓤 H A W nows here g-here,
+                typed 𝓤 H A W registers here g-here,
                 tt,
               ),
             ),
@@ -288,9 +288,9 @@ module _ {M : Type 1} (𝓤 : URA M) (H : Heap 𝓤) (A : Atoms 𝓤) (W : Given
     (known-found-by : Triple 𝓤 (𝓣 .C #found-by) (Calls-found-by 𝓤 H A mem run)) where
   walks : Walks 𝓤 H A f.ended stayed (WpFn 𝓤 H (𝓣 .C) (𝓣 .Λ) mine.function) (f.clauses 𝓤 H A mem run)
   walks = walked 𝓤 H A f.ended stayed (f.clauses 𝓤 H A mem run) (WpFn 𝓤 H (𝓣 .C) (𝓣 .Λ) mine.function)
-      (λ κs. (ptr-vals, (ptr-vals, (slice-vals, ((λ (x : Now). nows .val x ∷ []), tt))))) (λ κs. (
+      (λ κs. (ptr-vals, (ptr-vals, (slice-vals, ((λ (x : Registers). registers .val x ∷ []), tt))))) (λ κs. (
         shr-tells (named 0) (κs .0) Code,
-        (shr-tells (named 1) (κs .1 .0) Words, (mut-slice-tells (named 2) (κs .1 .1 .0) Rec, (nows .tells, tt))),
+        (shr-tells (named 1) (κs .1 .0) Words, (mut-slice-tells (named 2) (κs .1 .1 .0) Rec, (registers .tells, tt))),
       ))
       (λ κs qs bounds a g are. needs 𝓤 (Looking ((a .0) .now) ((a .1 .0) .now) ((a .1 .1 .0) .now) (a .1 .1 .1 .0) × ((a .1 .1 .1 .0) .at < 65536)) _
       (λ l. walk 𝓤 H A W mem run (κs .0) (κs .1 .0) (κs .1 .1 .0) (qs .0) (qs .1 .0) (qs .1 .1 .0) (a .0) (a .1 .0) (a .1 .1 .0) (a .1 .1 .1 .0)
@@ -306,7 +306,7 @@ module _ {M : Type 1} (𝓤 : URA M) (H : Heap 𝓤) (A : Atoms 𝓤) (W : Given
       (
         goes-gave-slice 𝓤 H A W 3 2 tt (plain (λ _. recs .type)),
         (
-          goes-none 𝓤 H A W 3 (λ _. nows .type) yes
+          goes-none 𝓤 H A W 3 (λ _. registers .type) yes
               (λ κs x f. refl),
           tt,
         ),

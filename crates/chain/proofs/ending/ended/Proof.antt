@@ -1,7 +1,7 @@
 -- `ended` meets its contract: a walk of its MIR, by hand.
 use mathlib.Core.Path.{_≡_, refl, sym, _∙_, subst}
 use mathlib.Core.Bool.{true, false}
-use Prim.Native.Nat.{ℕ}
+use Prim.Native.Nat.{ℕ, _+_, _-_}
 use native.Mathlib.Omega.{arith}
 use mathlib.Core.List.{List, [], _∷_}
 use lib.Dec.{T}
@@ -40,14 +40,15 @@ use Rattle.lending.specs.Calls.{to, calls-by}
 use Rattle.lending.specs.Frames.{begins, envAt, tysOf}
 use Rattle.lending.specs.Locals.{var, lent-ptr, lent-slice, puts, lands-in, ends}
 use Rattle.activations.specs.declared.Activation.{Activation}
-use Rattle.links.specs.declared.Now.{Now}
+use Rattle.run_state.specs.declared.Registers.{Registers}
 use Rattle.links.specs.declared.Found.{Found}
-use Rattle.links.proofs.Rows.{Code, Words, Rec, recs, nows, founds}
-use Rattle.chain_steps.specs.declared.turn.Turn.{Turn}
+use Rattle.links.proofs.Rows.{Code, Words, Rec, recs, registers, founds}
+use Rattle.run_state.specs.declared.Turn.{Turn}
 use Rattle.chain_steps.specs.Moves.{isFinished}
-use Rattle.chain.specs.declared.run.Halt.{Halt}
-use Rattle.chain.specs.Running.{Ended}
-use Rattle.chain.specs.Ending.{Ending, FoundIn, finishedBy, haltBy, settled, left-within, at-within-script, live-within, one-left, looks, finished-end, halted-end}
+use Rattle.run_state.specs.declared.Halt.{Halt}
+use Rattle.run_state.specs.Halts.{finishedAfter}
+use Rattle.chain.specs.Running.{RunFrom}
+use Rattle.chain.specs.Ending.{Ending, FoundIn, haltBy, settled, left-within, at-within-script, live-within, one-left, looks, finished-end, halted-end}
 use Rattle.chain_steps.proofs.Rows.{turns}
 use Rattle.chain.proofs.Rows.{halts}
 use Rattle.lending.specs.Clauses.{asks-all}
@@ -94,7 +95,7 @@ stayed = (
     (
       gave-slice (2 ∷ []) tt (plain (λ _. recs .type)),
       (
-        stay-none (λ _. nows .type) yes,
+        stay-none (λ _. registers .type) yes,
         (
           stay-none (λ _. turns .type) yes,
           (stay-none (λ _. words32 .type) yes, (stay-none (λ _. words32 .type) yes, tt)),
@@ -105,8 +106,8 @@ stayed = (
 )
 
 module _ {M : Type 1} (𝓤 : URA M) (H : Heap 𝓤) (A : Atoms 𝓤) (W : Given 𝓤 H A) (mem : Memory → SProp 𝓤) (run : Routine → Fun 𝓤) (κ0 κ1 κ2 : Lft)
-    (q0 q1 q2 : Share) (code# : RefT (List ℕ)) (words# : RefT (List ℤ)) (records# : RefT (List Activation)) (here : Now) (turn : Turn) (allowance : ℕ)
-    (left : ℕ) (room-records : Room (Rec) (length (records# .now))) (g-here : Good nows here) (g-turn : Good turns turn)
+    (q0 q1 q2 : Share) (code# : RefT (List ℕ)) (words# : RefT (List ℤ)) (records# : RefT (List Activation)) (here : Registers) (turn : Turn) (allowance : ℕ)
+    (left : ℕ) (room-records : Room (Rec) (length (records# .now))) (g-here : Good registers here) (g-turn : Good turns turn)
     (g-allowance : Good words32 allowance) (g-left : Good words32 left) (pre : Ending (code# .now) (words# .now) (records# .now) here turn allowance left)
   where
     abbrev h-code : Loan
@@ -128,7 +129,7 @@ module _ {M : Type 1} (𝓤 : URA M) (H : Heap 𝓤) (A : Atoms 𝓤) (W : Given
     records = records# .now
 
     abbrev ps : List Par
-    ps = brw (shrRef Code) h-code code ∷ brw (shrRef Words) h-words words ∷ brw (mutSlice Rec) h-records records ∷ dat nows here ∷ dat turns turn ∷ dat
+    ps = brw (shrRef Code) h-code code ∷ brw (shrRef Words) h-words words ∷ brw (mutSlice Rec) h-records records ∷ dat registers here ∷ dat turns turn ∷ dat
         words32 allowance ∷ dat words32 left ∷ []
 
     abbrev bound : walkOf 𝓤 H A f.ended stayed (f.clauses 𝓤 H A mem run) .Ghost
@@ -138,8 +139,7 @@ module _ {M : Type 1} (𝓤 : URA M) (H : Heap 𝓤) (A : Atoms 𝓤) (W : Given
     Post = walkOf 𝓤 H A f.ended stayed (f.clauses 𝓤 H A mem run) .post bound
 
     abbrev Said : Halt → (List Activation) → Type 0
-    Said r records′ = (e : Ending code words records here turn allowance left) → Ended (e .program) (e .name) (e .limit) (e .group) (e .result) r words
-        records′ (e .table)
+    Said r records′ = (e : Ending code words records here turn allowance left) → RunFrom (e .from) allowance r words records′ (e .table)
 
     exits : (r : Halt) (records′ : List Activation) → length records′ ≡ length records → Good halts r → Said r records′ → ent 𝓤
         (⋆ 𝓤 H A (outs 𝓤 0 ps (tt, (tt, (records′, (tt, (tt, (tt, (tt, tt))))))))) (Post (halts .val r))
@@ -149,27 +149,27 @@ module _ {M : Type 1} (𝓤 : URA M) (H : Heap 𝓤) (A : Atoms 𝓤) (W : Given
         (tt, (tt, (same-records, (tt, (tt, (tt, (tt, tt))))))))
 
     -- the two ways out
-    over : isFinished turn ≡ true → (r : Halt) → r ≡ finishedBy here allowance left → Said r records
-    over q r is e = subst (λ (h : Halt). Ended (e .program) (e .name) (e .limit) (e .group) (e .result) h words records (e .table)) (sym is)
+    over : isFinished turn ≡ true → (r : Halt) → r ≡ finishedAfter here (allowance - left + 1) → Said r records
+    over q r is e = subst (λ (h : Halt). RunFrom (e .from) allowance h words records (e .table)) (sym is)
         (finished-end turn e q records)
 
     halts-so : isFinished turn ≡ false → (found : Found) → FoundIn code words here found records → (records′ : List Activation) → records′ ≡ settled records here
         → (r : Halt) → r ≡ haltBy here turn found allowance left → Said r records′
     halts-so q found looked records′ put r is e =
-        subst (λ (T : Type 0). T) (λ i. Ended (e .program) (e .name) (e .limit) (e .group) (e .result) (sym is i) words (sym put i) (e .table))
+        subst (λ (T : Type 0). T) (λ i. RunFrom (e .from) allowance (sym is i) words (sym put i) (e .table))
         (halted-end turn e q found looked)
 
     abbrev for-is-finished : List Par
     for-is-finished = dat turns turn ∷ []
 
     abbrev for-finished-halt : List Par
-    for-finished-halt = dat nows here ∷ dat words32 allowance ∷ dat words32 left ∷ []
+    for-finished-halt = dat registers here ∷ dat words32 allowance ∷ dat words32 left ∷ []
 
     abbrev for-settle : List Par
-    for-settle = brw (shrRef Code) h-code code ∷ brw (shrRef Words) h-words words ∷ brw (mutSlice Rec) h-records records ∷ dat nows here ∷ []
+    for-settle = brw (shrRef Code) h-code code ∷ brw (shrRef Words) h-words words ∷ brw (mutSlice Rec) h-records records ∷ dat registers here ∷ []
 
     abbrev for-halted : Found → List Par
-    for-halted found = dat nows here ∷ dat turns turn ∷ dat founds found ∷ dat words32 allowance ∷ dat words32 left ∷ []
+    for-halted found = dat registers here ∷ dat turns turn ∷ dat founds found ∷ dat words32 allowance ∷ dat words32 left ∷ []
 
     module _ (𝓣 : Tables 𝓤 H) (known-is-finished : Triple 𝓤 (𝓣 .C #is-finished) (Calls-is-finished 𝓤 H A mem run))
         (known-finished-halt : Triple 𝓤 (𝓣 .C #finished-halt) (Calls-finished-halt 𝓤 H A mem run))
@@ -189,7 +189,7 @@ module _ {M : Type 1} (𝓤 : URA M) (H : Heap 𝓤) (A : Atoms 𝓤) (W : Given
               (
                 (tt, (tt, (record { fits = room-records .0 }, tt))),
                 (
-                  typed 𝓤 H A W nows here g-here,
+                  typed 𝓤 H A W registers here g-here,
                   (
                     typed 𝓤 H A W turns turn g-turn,
                     (
@@ -242,7 +242,7 @@ module _ {M : Type 1} (𝓤 : URA M) (H : Heap 𝓤) (A : Atoms 𝓤) (W : Given
           (
             slice-vals,
             (
-              (λ (x : Now). nows .val x ∷ []),
+              (λ (x : Registers). registers .val x ∷ []),
               (
                 (λ (x : Turn). turns .val x ∷ []),
                 ((λ (x : ℕ). words32 .val x ∷ []), ((λ (x : ℕ). words32 .val x ∷ []), tt)),
@@ -256,7 +256,7 @@ module _ {M : Type 1} (𝓤 : URA M) (H : Heap 𝓤) (A : Atoms 𝓤) (W : Given
           shr-tells (named 1) (κs .1 .0) Words,
           (
             mut-slice-tells (named 2) (κs .1 .1 .0) Rec,
-            (nows .tells, (turns .tells, (words32 .tells, (words32 .tells, tt)))),
+            (registers .tells, (turns .tells, (words32 .tells, (words32 .tells, tt)))),
           ),
         ),
       ))
@@ -273,7 +273,7 @@ module _ {M : Type 1} (𝓤 : URA M) (H : Heap 𝓤) (A : Atoms 𝓤) (W : Given
       (
         goes-gave-slice 𝓤 H A W 3 2 tt (plain (λ _. recs .type)),
         (
-          goes-none 𝓤 H A W 3 (λ _. nows .type) yes (λ κs x f. refl),
+          goes-none 𝓤 H A W 3 (λ _. registers .type) yes (λ κs x f. refl),
           (
             goes-none 𝓤 H A W 3 (λ _. turns .type) yes (λ κs x f. refl),
             (goes-none 𝓤 H A W 3 (λ _. words32 .type) yes (λ κs x f. refl), (goes-none 𝓤 H A W 3 (λ _. words32 .type) yes (λ κs x f. refl), tt)),

@@ -1,32 +1,53 @@
 -- `halted` meets its contract.
-use mathlib.Core.Path.{sym, ap}
 use borrow.Author.Needs.{needs}
-use Rattle.chain_steps.specs.declared.turn.Turn.{Turn}
 use Rattle.chain.specs.Ending.{haltBy}
-use Rattle.chain.proofs.Turns.{no-cause}
 use Rattle.chain.proofs.ending.halted.Statement.{statement}
 use Rattle.chain.proofs.ending.halted.Tie as tie
 
 sub-steps : tie.Need-sub-steps
 sub-steps c = search needs
 
-add-live : tie.Need-add-live
-add-live c = search needs
-
 enum-known-turn : tie.Need-enum-known-turn
 enum-known-turn c = search needs
 
-mul-t14 : tie.Need-mul-t14
-mul-t14 c = search needs
+spent-requires : tie.Need-spent-requires
+spent-requires c κs = search needs
+
+enum-told : tie.Need-enum-told
+enum-told c = search needs
+
+spent-requires-2 : tie.Need-spent-requires-2
+spent-requires-2 c κs = search needs
+
+enum-known-turn-2 : tie.Need-enum-known-turn-2
+enum-known-turn-2 c = search needs
+
+stopped-requires : tie.Need-stopped-requires
+stopped-requires c κs = search needs
 
 returns : tie.Need-returns
 unfolding haltBy
-returns c =
-    let s = c .before .before .before .before .before .args in
-    sym (ap (λ (t : Turn). haltBy (s .here) t (s .found) (s .allowance) (s .left)) (c .before .before .turn .given .1))
+returns c = rw (c .spent .ensures, c .before .before .turn .given .1)
 
 returns-2 : tie.Need-returns-2
-returns-2 c = no-cause _ _ _ _ _ (c .match .keys2)
+unfolding haltBy
+returns-2 c = rw (c .spent2 .ensures, c .before .enum-told .given .1)
+
+returns-3 : tie.Need-returns-3
+unfolding haltBy
+returns-3 c = rw (c .stopped .ensures, c .before .before .turn2 .given .1)
 
 pub halted-spec : {M : Type 1} → statement M
-halted-spec = tie.close (tie.spec sub-steps add-live enum-known-turn mul-t14 returns returns-2)
+halted-spec =
+    tie.close
+    (tie.spec
+    sub-steps
+    enum-known-turn
+    spent-requires
+    enum-told
+    spent-requires-2
+    enum-known-turn-2
+    stopped-requires
+    returns
+    returns-2
+    returns-3)

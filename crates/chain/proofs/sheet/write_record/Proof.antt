@@ -15,11 +15,11 @@ shown-as : {code : List ℕ} {words : List ℤ} {first number : ℕ} {own : List
 shown-as {code} {words} {first} {number} {own} b b′ n n′ p q h =
     subst (λ (T : Type 0). T) (λ i. Shown code words (sym p i) (sym q i) first number own) h
 
-wide-requires : tie.Need-wide-requires
-wide-requires c κs = search needs
+wide-u32-requires : tie.Need-wide-u32-requires
+wide-u32-requires c κs = search needs
 
-wide-requires-2 : tie.Need-wide-requires-2
-wide-requires-2 c κs = search needs
+wide-u32-requires-2 : tie.Need-wide-u32-requires-2
+wide-u32-requires-2 c κs = search needs
 
 mul-write-activation : tie.Need-mul-write-activation
 mul-write-activation c = search needs
@@ -27,7 +27,7 @@ mul-write-activation c = search needs
 write-activation-requires : tie.Need-write-activation-requires
 write-activation-requires c κs =
     let p = c .before .before .before .pre in
-    (p .1 .0, p .1 .1, shown-as _ _ _ _ (c .before .before .wide .ensures .0) (c .before .wide2 .ensures .0) (p .1 .2), p .1 .3)
+    (p .1 .0, p .1 .1, shown-as _ _ _ _ (c .before .before .wide-u32 .ensures .0) (c .before .wide-u322 .ensures .0) (p .1 .2), p .1 .3)
 
 same-length : tie.Need-same-length
 same-length c = search needs
@@ -38,8 +38,8 @@ returns c =
     let n = c .before .before .before in
     let r = c .before .write-activation .ensures in (
       λ number own ws base shown e l.
-          let q = r .0 number own ws base (shown-as _ _ _ _ (w .wide .ensures .0) (n .wide2 .ensures .0) shown) e l in
-          (q .0 ∙ ap (λ (b : ℕ). written (ws ++ (pos (2 * b) ∷ pos number ∷ own)) base) (w .wide .ensures .0), q .1),
+          let q = r .0 number own ws base (shown-as _ _ _ _ (w .wide-u32 .ensures .0) (n .wide-u322 .ensures .0) shown) e l in
+          (q .0 ∙ ap (λ (b : ℕ). written (ws ++ (pos (2 * b) ∷ pos number ∷ own)) base) (w .wide-u32 .ensures .0), q .1),
       r .1,
     )
 
@@ -47,8 +47,8 @@ pub write-record-spec : {M : Type 1} → statement M
 write-record-spec =
     tie.close
     (tie.spec
-    wide-requires
-    wide-requires-2
+    wide-u32-requires
+    wide-u32-requires-2
     mul-write-activation
     write-activation-requires
     same-length

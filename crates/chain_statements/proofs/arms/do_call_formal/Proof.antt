@@ -6,7 +6,7 @@ use native.Mathlib.Omega.{arith}
 use borrow.Author.Tests.{not-true, not-false}
 use lib.ListN.{getD}
 use Rattle.acting.specs.Acting.{Finding, Scene, argumentsAgree}
-use Rattle.statements.specs.Pieces.{without-table}
+use Rattle.acting.specs.Acting.{sceneBy}
 use Rattle.statements.specs.Doing.{number-differs, number-same, call-refused}
 use Rattle.steps.specs.Finding.{byFirst}
 use Rattle.chain_statements.specs.Asking.{wordBehind}
@@ -35,7 +35,7 @@ abbrev startOf : tie.After-held → tie.Start
 startOf h = h .before
 
 abbrev scene : tie.Start → Scene
-scene s = without-table (s .args .code .now) (s .args .words .now) (s .args .limit) (s .args .live) (s .args .at)
+scene s = sceneBy (s .args .code .now) (s .args .words .now) (s .args .limit) (s .args .live) (s .args .at)
 
 abbrev way : tie.Start → (ℕ → ℕ) → Finding
 way s firstOf = byFirst (s .args .words .now) firstOf

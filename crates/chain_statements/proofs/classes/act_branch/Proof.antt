@@ -1,14 +1,12 @@
 -- `act_branch` meets its contract.
 use Prim.Native.Nat.{ℕ, _%_}
-use mathlib.Core.List.{List}
 use mathlib.Core.Path.{_≡_, sym, ap, _∙_, subst}
-use lib.IntN.{ℤ}
 use lib.ListN.{getD}
-use Rattle.acting.specs.Acting.{Finding, Scene, Op, constant-op, branch-op, branch-formal-op}
+use Rattle.acting.specs.Acting.{Finding, Scene, sceneBy, Op, constant-op, branch-op, branch-formal-op}
 use Rattle.acting.specs.Acting.{operations, opOf, happens}
 use Rattle.statements.specs.Numbers.{op-of}
 use Rattle.steps.specs.Finding.{byFirst}
-use Rattle.chain_statements.specs.Asking.{Ready, Leads, sceneOf, classOf}
+use Rattle.chain_statements.specs.Asking.{Ready, Leads, classOf}
 use Rattle.chain_statements.specs.Moves.{did, branch-did}
 use Rattle.chain_statements.specs.Classes.{branch-left}
 use borrow.Author.Needs.{needs}
@@ -21,8 +19,8 @@ code-at-requires c κs = search needs
 abbrev way : tie.Start → (ℕ → ℕ) → Finding
 way s firstOf = byFirst (s .args .words .now) firstOf
 
-abbrev scene : tie.Start → List ℤ → ℕ → ℕ → ℕ → ℕ → Scene
-scene s table pairs group limit live = sceneOf (s .args .code .now) (s .args .words .now) table pairs group limit live (s .args .at)
+abbrev scene : tie.Start → ℕ → ℕ → Scene
+scene s limit live = sceneBy (s .args .code .now) (s .args .words .now) limit live (s .args .at)
 
 abbrev opAt : tie.Start → Op
 opAt s = opOf (getD (s .args .code .now) (s .args .at) 0)
@@ -60,24 +58,24 @@ do-branch-formal-requires c κs = ready (c .before .before) branch-formal-op (op
 returns : tie.Need-returns
 unfolding operations happens
 returns c =
-    λ firstOf table pairs group limit live l.
+    λ firstOf limit live l.
     let m = c .before in
     let s = m .before .before in
     let e = op (m .before) 4 (m .match .keys1) in
     let g = leads s branch-op e firstOf l in
-    did (way s firstOf) (scene s table pairs group limit live) branch-op e
-    (branch-did (way s firstOf) (scene s table pairs group limit live) (c .do-branch .ensures firstOf (g .0) (g .1)))
+    did (way s firstOf) (scene s limit live) branch-op e
+    (branch-did (way s firstOf) (scene s limit live) (c .do-branch .ensures firstOf (g .0) (g .1)))
 
 returns-2 : tie.Need-returns-2
 unfolding operations happens
 returns-2 c =
-    λ firstOf table pairs group limit live l.
+    λ firstOf limit live l.
     let m = c .before in
     let s = m .before .before in
     let e = op (m .before) 13 (other m) in
     let g = leads s branch-formal-op e firstOf l in
-    did (way s firstOf) (scene s table pairs group limit live) branch-formal-op e
-    (branch-did (way s firstOf) (scene s table pairs group limit live) (c .do-branch-formal .ensures firstOf (g .0) (g .1)))
+    did (way s firstOf) (scene s limit live) branch-formal-op e
+    (branch-did (way s firstOf) (scene s limit live) (c .do-branch-formal .ensures firstOf (g .0) (g .1)))
 
 pub act-branch-spec : {M : Type 1} → statement M
 act-branch-spec = tie.close (tie.spec code-at-requires do-branch-requires do-branch-formal-requires returns returns-2)

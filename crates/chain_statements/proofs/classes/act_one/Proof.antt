@@ -1,14 +1,12 @@
 -- `act_one` meets its contract: each arm's function does what `acting` has for its operation.
 use Prim.Native.Nat.{ℕ, _%_}
-use mathlib.Core.List.{List}
 use mathlib.Core.Path.{_≡_, sym, ap, _∙_, subst}
-use lib.IntN.{ℤ}
 use lib.ListN.{getD}
-use Rattle.acting.specs.Acting.{Finding, Scene, Op, constant-op, goto-op, block-op, call-op, constant-formal-op, goto-formal-op, call-formal-op}
+use Rattle.acting.specs.Acting.{Finding, Scene, sceneBy, Op, constant-op, goto-op, block-op, call-op, constant-formal-op, goto-formal-op, call-formal-op}
 use Rattle.acting.specs.Acting.{operations, opOf, happens}
 use Rattle.statements.specs.Numbers.{op-of}
 use Rattle.steps.specs.Finding.{byFirst}
-use Rattle.chain_statements.specs.Asking.{wordBehind, Ready, Leads, sceneOf, classOf}
+use Rattle.chain_statements.specs.Asking.{wordBehind, Ready, Leads, classOf}
 use Rattle.chain_statements.specs.Cells.{home-own, target-own, goto-own}
 use Rattle.chain_statements.specs.Moves.{did, constant-did, goto-did, block-did, call-did, call-formal-did}
 use Rattle.chain_statements.specs.Classes.{call-left}
@@ -22,9 +20,8 @@ code-at-requires c κs = search needs
 abbrev way : tie.Start → (ℕ → ℕ) → Finding
 way s firstOf = byFirst (s .args .words .now) firstOf
 
-abbrev scene : tie.Start → List ℤ → ℕ → ℕ → Scene
-scene s table pairs group =
-    sceneOf (s .args .code .now) (s .args .words .now) table pairs group (s .args .limit) (s .args .live) (s .args .at)
+abbrev scene : tie.Start → Scene
+scene s = sceneBy (s .args .code .now) (s .args .words .now) (s .args .limit) (s .args .live) (s .args .at)
 
 abbrev opAt : tie.Start → Op
 opAt s = opOf (getD (s .args .code .now) (s .args .at) 0)
@@ -84,71 +81,71 @@ do-call-formal-requires c κs =
 returns : tie.Need-returns
 unfolding operations happens
 returns c =
-    λ firstOf table pairs group l.
+    λ firstOf l.
     let m = c .before in
     let s = m .before .before in
     let e = op (m .before) 5 (m .match .keys1) in
     let g = leads s goto-op e firstOf l in
-    did (way s firstOf) (scene s table pairs group) goto-op e
-    (goto-did (way s firstOf) (scene s table pairs group)
+    did (way s firstOf) (scene s) goto-op e
+    (goto-did (way s firstOf) (scene s)
     (goto-own (s .args .code .now) (s .args .words .now) (s .args .at) (c .do-goto .ensures) (ready s goto-op e .1 .is) firstOf g))
 
 returns-2 : tie.Need-returns-2
 unfolding operations happens
 returns-2 c =
-    λ firstOf table pairs group l.
+    λ firstOf l.
     let m = c .before in
     let s = m .before .before in
     let e = op (m .before) 6 (m .match .keys2) in
-    did (way s firstOf) (scene s table pairs group) block-op e
-    (block-did (way s firstOf) (scene s table pairs group) (c .do-block .ensures))
+    did (way s firstOf) (scene s) block-op e
+    (block-did (way s firstOf) (scene s) (c .do-block .ensures))
 
 returns-3 : tie.Need-returns-3
 unfolding operations happens
 returns-3 c =
-    λ firstOf table pairs group l.
+    λ firstOf l.
     let m = c .before in
     let s = m .before .before in
     let e = op (m .before) 7 (m .match .keys3) in
     let g = leads s call-op e firstOf l in
     let w = wordBehind (s .args .code .now) (s .args .at) 1 in
     let d = ready s call-op e .1 .is in
-    did (way s firstOf) (scene s table pairs group) call-op e
-    (call-did (way s firstOf) (scene s table pairs group) (home-own (s .args .words .now) firstOf w g d) (target-own (s .args .words .now) firstOf w g d)
+    did (way s firstOf) (scene s) call-op e
+    (call-did (way s firstOf) (scene s) (home-own (s .args .words .now) firstOf w g d) (target-own (s .args .words .now) firstOf w g d)
     (c .do-call .ensures))
 
 returns-4 : tie.Need-returns-4
 unfolding operations happens
 returns-4 c =
-    λ firstOf table pairs group l.
+    λ firstOf l.
     let m = c .before .before in
     let s = m .before .before in
     let e = op (m .before) 11 (m .match .keys4) in
     let g = leads s constant-formal-op e firstOf l in
-    did (way s firstOf) (scene s table pairs group) constant-formal-op e
-    (constant-did (way s firstOf) (scene s table pairs group) (c .do-constant-formal .ensures firstOf g))
+    did (way s firstOf) (scene s) constant-formal-op e
+    (constant-did (way s firstOf) (scene s) (c .do-constant-formal .ensures firstOf g))
 
 returns-5 : tie.Need-returns-5
 unfolding operations happens
 returns-5 c =
-    λ firstOf table pairs group l.
+    λ firstOf l.
     let m = c .before .before in
     let s = m .before .before in
     let e = op (m .before) 14 (m .match .keys5) in
     let g = leads s goto-formal-op e firstOf l in
-    did (way s firstOf) (scene s table pairs group) goto-formal-op e
-    (goto-did (way s firstOf) (scene s table pairs group) (c .do-goto-formal .ensures firstOf g))
+    did (way s firstOf) (scene s) goto-formal-op e
+    (goto-did (way s firstOf) (scene s) (c .do-goto-formal .ensures firstOf g))
 
 returns-6 : tie.Need-returns-6
 unfolding operations happens
 returns-6 c =
-    λ firstOf table pairs group l.
+    λ firstOf l.
     let m = c .before .before in
     let s = m .before .before in
     let e = op (m .before) 15 (other m) in
     let g = leads s call-formal-op e firstOf l in
-    did (way s firstOf) (scene s table pairs group) call-formal-op e
-    (call-formal-did (way s firstOf) (scene s table pairs group) (c .do-call-formal .ensures firstOf g))
+    did (way s firstOf) (scene s) call-formal-op e
+    (call-formal-did (way s firstOf) (scene s) (c .do-call-formal .ensures firstOf g))
 
 pub act-one-spec : {M : Type 1} → statement M
 act-one-spec =

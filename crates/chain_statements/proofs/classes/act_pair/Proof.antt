@@ -2,12 +2,13 @@
 use Prim.Native.Nat.{ℕ, _%_}
 use mathlib.Core.Path.{_≡_, sym, ap, _∙_, subst}
 use lib.ListN.{getD}
-use Rattle.acting.specs.Acting.{Finding, Scene, Op, constant-op, pair-op, unpair-op}
+use Rattle.acting.specs.declared.Ask.the-variants.{Add, Remove}
+use Rattle.acting.specs.Acting.{Finding, Scene, sceneBy, Op, constant-op, pair-op, unpair-op}
 use Rattle.acting.specs.Acting.{operations, opOf, happens}
 use Rattle.statements.specs.Numbers.{op-of}
 use Rattle.steps.specs.Finding.{byFirst}
-use Rattle.chain_statements.specs.Asking.{Ready, Leads, sceneOf, classOf}
-use Rattle.chain_statements.specs.Moves.{did, add-did, remove-did}
+use Rattle.chain_statements.specs.Asking.{Ready, Leads, classOf}
+use Rattle.chain_statements.specs.Moves.{did, change-did}
 use Rattle.chain_statements.specs.Classes.{unpair-left}
 use borrow.Author.Needs.{needs}
 use Rattle.chain_statements.proofs.classes.act_pair.Statement.{statement}
@@ -20,8 +21,7 @@ abbrev way : tie.Start → (ℕ → ℕ) → Finding
 way s firstOf = byFirst (s .args .words .now) firstOf
 
 abbrev scene : tie.Start → ℕ → ℕ → Scene
-scene s limit live =
-    sceneOf (s .args .code .now) (s .args .words .now) (s .args .table .now) (s .args .pairs) (s .args .group) limit live (s .args .at)
+scene s limit live = sceneBy (s .args .code .now) (s .args .words .now) limit live (s .args .at)
 
 abbrev opAt : tie.Start → Op
 opAt s = opOf (getD (s .args .code .now) (s .args .at) 0)
@@ -48,54 +48,33 @@ ready s p e = subst (λ (x : Op). ReadyFor s x) e (s .pre .2)
 leads : (s : tie.Start) (p : Op) → opAt s ≡ p → (firstOf : ℕ → ℕ) → Found s firstOf (opAt s) → Found s firstOf p
 leads s p e firstOf l = subst (λ (x : Op). Found s firstOf x) e l
 
-do-add-pair-requires : tie.Need-do-add-pair-requires
+do-change-requires : tie.Need-do-change-requires
 unfolding operations
-do-add-pair-requires c κs =
-    let m = c .before in
-    ready (m .before .before) pair-op (op (m .before) 8 (m .match .keys1))
+do-change-requires c κs = ready (c .before .before) pair-op (op (c .before) 8 (c .match .keys1))
 
-do-remove-pair-requires : tie.Need-do-remove-pair-requires
+do-change-requires-2 : tie.Need-do-change-requires-2
 unfolding operations
-do-remove-pair-requires c κs =
-    let m = c .before in
-    ready (m .before .before) unpair-op (op (m .before) 9 (other m))
-
-same-length : tie.Need-same-length
-same-length c = search needs
+do-change-requires-2 c κs = ready (c .before .before) unpair-op (op (c .before) 9 (other c))
 
 returns : tie.Need-returns
 unfolding operations happens
 returns c =
     λ firstOf limit live l.
-    let m = c .before .before .before in
+    let m = c .before in
     let s = m .before .before in
     let e = op (m .before) 8 (m .match .keys1) in
     let g = leads s pair-op e firstOf l in
-    did (way s firstOf) (scene s limit live) pair-op e
-    (add-did (way s firstOf) (scene s limit live) (c .before .do-add-pair .ensures firstOf (g .0) (g .1)))
-
-same-length-2 : tie.Need-same-length-2
-same-length-2 c = search needs
+    did (way s firstOf) (scene s limit live) pair-op e (change-did (way s firstOf) (scene s limit live) Add (c .do-change .ensures firstOf (g .0) (g .1)))
 
 returns-2 : tie.Need-returns-2
 unfolding operations happens
 returns-2 c =
     λ firstOf limit live l.
-    let m = c .before .before .before in
+    let m = c .before in
     let s = m .before .before in
     let e = op (m .before) 9 (other m) in
     let g = leads s unpair-op e firstOf l in
-    did (way s firstOf) (scene s limit live) unpair-op e
-    (remove-did (way s firstOf) (scene s limit live) (c .before .do-remove-pair .ensures firstOf (g .0) (g .1)))
+    did (way s firstOf) (scene s limit live) unpair-op e (change-did (way s firstOf) (scene s limit live) Remove (c .do-change2 .ensures firstOf (g .0) (g .1)))
 
 pub act-pair-spec : {M : Type 1} → statement M
-act-pair-spec =
-    tie.close
-    (tie.spec
-    code-at-requires
-    do-add-pair-requires
-    do-remove-pair-requires
-    same-length
-    returns
-    same-length-2
-    returns-2)
+act-pair-spec = tie.close (tie.spec code-at-requires do-change-requires do-change-requires-2 returns returns-2)

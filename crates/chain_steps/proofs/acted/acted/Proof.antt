@@ -50,11 +50,11 @@ use Rattle.arrays.specs.Names.{follow as follows}
 use Rattle.acting.specs.declared.Move.{Move}
 use Rattle.acting.specs.Acting.{opOf}
 use Rattle.chain_statements.specs.Asking.{Ready, Leads, Did, classOf}
-use Rattle.links.specs.declared.Now.{Now}
+use Rattle.run_state.specs.declared.Registers.{Registers}
 use Rattle.links.specs.Records.{linksIn, as-linked, hop-follows}
 use Rattle.links.specs.Finding.{firstCell, Named}
 use Rattle.links.specs.Moving.{linked}
-use Rattle.links.proofs.Rows.{Code, Words, Rec, recs, nows, fields-of-now}
+use Rattle.links.proofs.Rows.{Code, Words, Rec, recs, registers, fields-of-registers}
 use Rattle.chain_steps.proofs.Rows.{moves, moveds}
 use Rattle.chain_steps.specs.declared.turn.Moved.{Moved}
 use Rattle.chain_steps.specs.Moved.{movedBy}
@@ -107,8 +107,7 @@ use Rattle.chain_steps.proofs.acted.acted.Code as mine
 use Rattle.chain_steps.proofs.acted.acted.Code.Mir as mir′
 
 -- Facts, from what the functions that are called say
-module _ {code : List ℕ} {words : List ℤ} {records : List Activation} {table : List ℤ} {group limit : ℕ} {here : Now}
-    (s : Stating code words records table group limit here) where
+module _ {code : List ℕ} {words : List ℤ} {records : List Activation} {limit : ℕ} {here : Registers} (s : Stating code words records limit here) where
   abbrev At : ℕ → ℕ → Type 0
   At first i = first ≡ firstCell records (here .live) (here .level) (getD code (here .at + i) 0)
 
@@ -202,13 +201,12 @@ arm return = skip
 arm (call g xs d) = skip
 
 abbrev stayed : Stays (f.ended .signature .params) (f.ended .kept)
-stayed = (stay-none-ref (0 ∷ []) tt (arrayOf (plain (λ _. u32)) 4096) yes, (gave-ref (1 ∷ []) tt (arrayOf (plain (λ _. i32)) 8224), (stay-none-slice (2 ∷ []) tt (plain (λ _. recs .type)) yes, (gave-slice (3 ∷ []) tt (plain (λ _. i32)), (stay-none (λ _. words32 .type) yes, (stay-none (λ _. usizes .type) yes, (stay-none (λ _. nows .type) yes, tt)))))))
+stayed = (stay-none-ref (0 ∷ []) tt (arrayOf (plain (λ _. u32)) 4096) yes, (gave-ref (1 ∷ []) tt (arrayOf (plain (λ _. i32)) 8224), (stay-none-slice (2 ∷ []) tt (plain (λ _. recs .type)) yes, (stay-none (λ _. usizes .type) yes, (stay-none (λ _. registers .type) yes, tt)))))
 
 module _ {M : Type 1} (𝓤 : URA M) (H : Heap 𝓤) (A : Atoms 𝓤) (W : Given 𝓤 H A) (mem : Memory → SProp 𝓤) (run : Routine → Fun 𝓤)
-    (κ0 κ1 κ2 κ3 : Lft) (q0 q1 q2 q3 : Share) (code# : RefT (List ℕ)) (words# : RefT (List ℤ)) (records# : RefT (List Activation)) (table# : RefT (List ℤ))
-    (group : ℕ) (limit : ℕ) (here : Now)
-    (room-records : Room Rec (length (records# .now))) (room-table : Room i32 (length (table# .now))) (g-group : Good words32 group) (g-limit : Good usizes limit) (g-here : Good nows here)
-    (pre : Stating (code# .now) (words# .now) (records# .now) (table# .now) group limit here) where
+    (κ0 κ1 κ2 : Lft) (q0 q1 q2 : Share) (code# : RefT (List ℕ)) (words# : RefT (List ℤ)) (records# : RefT (List Activation)) (limit : ℕ) (here : Registers)
+    (room-records : Room Rec (length (records# .now))) (g-limit : Good usizes limit) (g-here : Good registers here)
+    (pre : Stating (code# .now) (words# .now) (records# .now) limit here) where
   abbrev h-code : Loan
   h-code = loanRef κ0 q0 code#
 
@@ -227,14 +225,8 @@ module _ {M : Type 1} (𝓤 : URA M) (H : Heap 𝓤) (A : Atoms 𝓤) (W : Given
   abbrev records : List Activation
   records = records# .now
 
-  abbrev h-table : Loan
-  h-table = loanSlice κ3 q3 table#
-
-  abbrev table : List ℤ
-  table = table# .now
-
   abbrev ps : List Par
-  ps = brw (shrRef Code) h-code code ∷ brw (mutRef Words) h-words words ∷ brw (shrSlice Rec) h-records records ∷ brw (mutSlice i32) h-table table ∷ dat words32 group ∷ dat usizes limit ∷ dat nows here ∷ []
+  ps = brw (shrRef Code) h-code code ∷ brw (mutRef Words) h-words words ∷ brw (shrSlice Rec) h-records records ∷ dat usizes limit ∷ dat registers here ∷ []
 
   abbrev bound : walkOf 𝓤 H A f.ended stayed (f.clauses 𝓤 H A mem run) .Ghost
   bound = ((lfts ps, shares ps, tt, denots 0 ps, valss 0 ps), tt)
@@ -242,15 +234,12 @@ module _ {M : Type 1} (𝓤 : URA M) (H : Heap 𝓤) (A : Atoms 𝓤) (W : Given
   abbrev Kf : Val → SProp 𝓤
   Kf = walkOf 𝓤 H A f.ended stayed (f.clauses 𝓤 H A mem run) .post bound
 
-  abbrev Said : Moved → List ℤ → List ℤ → Type 0
-  Said r words′ table′ = Does (happening code words records table group limit here) words here r words′ table′
+  abbrev Said : Moved → List ℤ → Type 0
+  Said r words′ = Does (happening code words records limit here) words here r words′
 
-  exits : (r : Moved) (words′ table′ : List ℤ) → length table′ ≡ length table → Good moveds r → Said r words′ table′
-      → ent 𝓤 (⋆ 𝓤 H A (outs 𝓤 0 ps (tt, (words′, (tt, (table′, (tt, (tt, (tt, tt))))))))) (Kf (moveds .val r))
-  exits r words′ table′ same good says = via 𝓤 _ (leaves-with 𝓤 H A W ps (tt, (words′, (tt, (table′, (tt, (tt, (tt, tt)))))))
-      (g-group, (g-limit, (g-here, tt))) moveds r good (Said r words′ table′) says)
-      (ends-at 𝓤 H A f.ended stayed (f.clauses 𝓤 H A mem run) W bound (moveds .val r) r (tt, (words′, (tt, (table′, (tt, (tt, (tt, tt)))))))
-      (tt, (tt, (tt, (same, (tt, (tt, (tt, tt))))))))
+  exits : (r : Moved) (words′ : List ℤ) → Good moveds r → Said r words′ → ent 𝓤 (⋆ 𝓤 H A (outs 𝓤 0 ps (tt, (words′, (tt, (tt, (tt, tt))))))) (Kf (moveds .val r))
+  exits r words′ good says = via 𝓤 _ (leaves-with 𝓤 H A W ps (tt, (words′, (tt, (tt, (tt, tt))))) (g-limit, (g-here, tt)) moveds r good (Said r words′) says)
+      (ends-at 𝓤 H A f.ended stayed (f.clauses 𝓤 H A mem run) W bound (moveds .val r) r (tt, (words′, (tt, (tt, (tt, tt))))) (tt, (tt, (tt, (tt, (tt, tt))))))
 
   abbrev firstOf : ℕ → ℕ
   firstOf = firstCell records (here .live) (here .level)
@@ -264,18 +253,17 @@ module _ {M : Type 1} (𝓤 : URA M) (H : Heap 𝓤) (A : Atoms 𝓤) (W : Given
   own-fits : own < 2 ^ 64
   own-fits = omega (arith, acts.live-low pre)
 
-  so : (r : Move) (m : Moved) → m ≡ movedBy here r → {words′ table′ : List ℤ}
-      → Did (happening code words records table group limit here) words r words′ table′ → Said m words′ table′
+  so : (r : Move) (m : Moved) → m ≡ movedBy here r → {words′ : List ℤ} → Did (happening code words records limit here) words r words′ → Said m words′
   so r m e did = record { move = r; did = did; so = e }
 
   g-own : Good usizes own
   g-own = (refl, own-fits)
 
   g-live : Good usizes (here .live)
-  g-live = fields-of-now here g-here .0
+  g-live = fields-of-registers here g-here .0
 
   g-at : Good usizes (here .at)
-  g-at = fields-of-now here g-here .1 .0
+  g-at = fields-of-registers here g-here .1 .0
 
   small : (n : ℕ) → n < 2 ^ 64 → Good usizes n
   small n h = (refl, h)
@@ -284,7 +272,7 @@ module _ {M : Type 1} (𝓤 : URA M) (H : Heap 𝓤) (A : Atoms 𝓤) (W : Given
   for-class-of = brw (shrRef Code) h-code code ∷ dat usizes (here .at) ∷ []
 
   abbrev for-only-hops : List Par
-  for-only-hops = brw (shrRef Code) h-code code ∷ dat nows here ∷ []
+  for-only-hops = brw (shrRef Code) h-code code ∷ dat registers here ∷ []
 
   abbrev for-follow : ℕ → List Par
   for-follow n = brw (shrSlice Rec) h-records records ∷ dat usizes (here .live) ∷ dat usizes n ∷ []
@@ -294,7 +282,7 @@ module _ {M : Type 1} (𝓤 : URA M) (H : Heap 𝓤) (A : Atoms 𝓤) (W : Given
       usizes a ∷ []
 
   abbrev for-first-cell : ℕ → List Par
-  for-first-cell field = brw (shrRef Code) h-code code ∷ brw (shrSlice Rec) h-records records ∷ dat nows here ∷ dat usizes own ∷ dat usizes field ∷ []
+  for-first-cell field = brw (shrRef Code) h-code code ∷ brw (shrSlice Rec) h-records records ∷ dat registers here ∷ dat usizes own ∷ dat usizes field ∷ []
 
   abbrev for-act-branch : ℕ → GName → ℕ → ℕ → List Par
   for-act-branch ν δ a b = brw (shrRef Code) h-code code ∷ brw (shrRef Words) (relent h-words ν δ) words ∷ dat usizes (here .at) ∷ dat usizes a ∷ dat usizes b
@@ -303,16 +291,16 @@ module _ {M : Type 1} (𝓤 : URA M) (H : Heap 𝓤) (A : Atoms 𝓤) (W : Given
   abbrev for-do-constant : ℕ → List Par
   for-do-constant a = brw (shrRef Code) h-code code ∷ brw (mutRef Words) h-words words ∷ dat usizes (here .at) ∷ dat usizes a ∷ []
 
-  abbrev for-tabled : ℕ → List Par
-  for-tabled class = brw (shrRef Code) h-code code ∷ brw (mutRef Words) h-words words ∷ brw (shrSlice Rec) h-records records ∷ brw (mutSlice i32) h-table
-      table ∷ dat words32 group ∷ dat nows here ∷ dat usizes own ∷ dat usizes class ∷ []
+  abbrev for-tabled : ℕ → GName → ℕ → List Par
+  for-tabled ν δ class = brw (shrRef Code) h-code code ∷ brw (shrRef Words) (relent h-words ν δ) words ∷ brw (shrSlice Rec) h-records records ∷ dat registers here
+      ∷ dat usizes own ∷ dat usizes class ∷ []
 
   abbrev for-summed : ℕ → List Par
-  for-summed class = brw (shrRef Code) h-code code ∷ brw (mutRef Words) h-words words ∷ brw (shrSlice Rec) h-records records ∷ dat nows here ∷ dat usizes
+  for-summed class = brw (shrRef Code) h-code code ∷ brw (mutRef Words) h-words words ∷ brw (shrSlice Rec) h-records records ∷ dat registers here ∷ dat usizes
       own ∷ dat usizes class ∷ []
 
   abbrev for-came-to : Move → List Par
-  for-came-to r = dat nows here ∷ dat moves r ∷ []
+  for-came-to r = dat registers here ∷ dat moves r ∷ []
 
   module _ (C : Calls 𝓤 H) (Λ : Loops 𝓤 H) (fm : FmC 𝓤 H (W .laws) C)
       (known-class-of : Triple 𝓤 (C #class-of) (Calls-class-of 𝓤 H A mem run))
@@ -329,146 +317,128 @@ module _ {M : Type 1} (𝓤 : URA M) (H : Heap 𝓤) (A : Atoms 𝓤) (W : Given
       abbrev E# : List (Ty × ℕ)
       E# = envAt (tysOf (mine.function .locals)) β
 
-      -- [the code; the records; the words; the table; the locals], of which 8 is the class, 9 the own first cell and 17 the test
+      -- [the code; the records; the words; the locals], of which 6 is the class, 7 the own first cell and 15 the test
       abbrev Ctx : Bool → List (Item 𝓤)
-      Ctx y = ‵ (In (shrRef Code) h-code code) ∷ ‵ (In (shrSlice Rec) h-records records) ∷ ‵ (In (mutRef Words) h-words words) ∷ ‵
-          (In (mutSlice i32) h-table table) ∷ fr 𝓤 H (tysOf (mine.function .locals)) β (none ∷ some (h-code .val) ∷ some (h-words .val) ∷ some
-          (h-records .val) ∷ some (h-table .val) ∷ some (vint w32 group) ∷ some (vint w64 limit) ∷ some (nows .val here) ∷ some (vint w64 class) ∷ some
-          (vint w64 own) ∷ none ∷ none ∷ none ∷ none ∷ none ∷ none ∷ none ∷ some (vbool y) ∷ []) ∷ []
+      Ctx y = ‵ (In (shrRef Code) h-code code) ∷ ‵ (In (shrSlice Rec) h-records records) ∷ ‵ (In (mutRef Words) h-words words) ∷
+          fr 𝓤 H (tysOf (mine.function .locals)) β (none ∷ some (h-code .val) ∷ some (h-words .val) ∷ some (h-records .val) ∷ some (vint w64 limit) ∷ some
+          (registers .val here) ∷ some (vint w64 class) ∷ some (vint w64 own) ∷ none ∷ none ∷ none ∷ none ∷ none ∷ none ∷ none ∷ some (vbool y) ∷ []) ∷ []
 
       module _ (y : Bool) (q : Post 𝓤 H) (same : post 𝓤 H q returned ≡ atReturn 𝓤 H E# Kf returned) where
         ones : class ≡ 0 → Sq W (Ctx y) (runs C Λ E# (arm mir′.s-4) q)
         ones e =
             calls-by ! fm (Calls-only-hops 𝓤 H A mem run) known-only-hops (to for-only-hops) for-only-hops refl (g-here, tt) _
-            (acts.next-there pre, acts.first-outer pre) (id⊢ 𝓤 _) usizes _ (λ v. id⊢ 𝓤 _) (and-then ! (var ! 4 1 refl refl tt) (and-then ! (var ! 4 7 refl refl tt) (no-more !))) (λ n _ g-n n-is _.
-            lands-in ! 4 19 refl tt (typed 𝓤 H A W usizes n g-n) $ move ! (1 ∷ []) $
+            (acts.next-there pre, acts.first-outer pre) (id⊢ 𝓤 _) usizes _ (λ v. id⊢ 𝓤 _) (and-then ! (var ! 3 1 refl refl tt) (and-then ! (var ! 3 5 refl refl tt) (no-more !))) (λ n _ g-n n-is _.
+            lands-in ! 3 17 refl tt (typed 𝓤 H A W usizes n g-n) $ move ! (1 ∷ []) $
             calls-by ! fm (Calls-follow 𝓤 H A mem run) known-follow (to (for-follow n)) (for-follow n) refl (g-live, (g-n, tt)) _
-            (as-linked (linked (pre .running))) (id⊢ 𝓤 _) usizes _ (λ v. id⊢ 𝓤 _) (and-then ! (var ! 4 3 refl refl tt) (and-then ! (part ! 4 7 0 refl refl tt refl refl refl) (and-then ! (var ! 4 19 refl refl tt) (no-more !)))) (λ k _ g-k found _.
-            lands-in ! 4 18 refl tt (typed 𝓤 H A W usizes k g-k) $
-            puts ! 4 10 refl (bin ! (lit ! tt) (var ! 4 18 refl refl tt) (record { fits = cells-fit pre (sym is ∙ e) n n-is k found })) tt
+            (as-linked (linked (pre .running))) (id⊢ 𝓤 _) usizes _ (λ v. id⊢ 𝓤 _) (and-then ! (var ! 3 3 refl refl tt) (and-then ! (part ! 3 5 0 refl refl tt refl refl refl) (and-then ! (var ! 3 17 refl refl tt) (no-more !)))) (λ k _ g-k found _.
+            lands-in ! 3 16 refl tt (typed 𝓤 H A W usizes k g-k) $
+            puts ! 3 8 refl (bin ! (lit ! tt) (var ! 3 16 refl refl tt) (record { fits = cells-fit pre (sym is ∙ e) n n-is k found })) tt
             (tt, record { fits = cells-fit pre (sym is ∙ e) n n-is k found }) $
-            puts ! 4 20 refl (lent ! 4 2 refl refl tt) tt (tt, tt) $ move ! (1 ∷ 2 ∷ []) $
-            -- [the code; the words; the records; the table; the locals]
+            puts ! 3 18 refl (lent ! 3 2 refl refl tt) tt (tt, tt) $ move ! (1 ∷ 2 ∷ []) $
+            -- [the code; the words; the records; the locals]
             calls-by ! fm (Calls-act-one 𝓤 H A mem run) known-act-one (to (for-act-one (32 * k))) (for-act-one (32 * k)) refl
             (g-limit, (g-live, (g-at, (small (32 * k) (cells-fit pre (sym is ∙ e) n n-is k found), tt)))) _
             (one-asks pre (sym is ∙ e) n n-is k found) (id⊢ 𝓤 _) moves _ (λ v. id⊢ 𝓤 _)
-            (and-then ! (var ! 4 1 refl refl tt) (and-then ! (var ! 4 20 refl refl tt) (and-then ! (var ! 4 6 refl refl tt) (and-then ! (part ! 4 7 0 refl refl tt refl refl refl) (and-then ! (part ! 4 7 1 refl refl tt refl refl refl) (and-then ! (var ! 4 10 refl refl tt) (no-more !))))))) (λ r ws good did _.
-            lands-in ! 4 11 refl tt (typed 𝓤 H A W moves r good) $
+            (and-then ! (var ! 3 1 refl refl tt) (and-then ! (var ! 3 18 refl refl tt) (and-then ! (var ! 3 4 refl refl tt) (and-then ! (part ! 3 5 0 refl refl tt refl refl refl) (and-then ! (part ! 3 5 1 refl refl tt refl refl refl) (and-then ! (var ! 3 8 refl refl tt) (no-more !))))))) (λ r ws good did _.
+            lands-in ! 3 9 refl tt (typed 𝓤 H A W moves r good) $
             calls-by ! fm (Calls-came-to 𝓤 H A mem run) known-came-to (to (for-came-to r)) (for-came-to r) refl (g-here, (good, tt)) (Unit {0}) tt
-            (asks-all 𝓤 H A (for-came-to r) []) moveds _ (λ v. id⊢ 𝓤 _) (and-then ! (var ! 4 7 refl refl tt) (and-then ! (var ! 4 11 refl refl tt) (no-more !)))
+            (asks-all 𝓤 H A (for-came-to r) []) moveds _ (λ v. id⊢ 𝓤 _) (and-then ! (var ! 3 5 refl refl tt) (and-then ! (var ! 3 9 refl refl tt) (no-more !)))
             (λ m _ g-m m-is _.
-            lands-in ! 4 0 refl tt (typed 𝓤 H A W moveds m g-m) $ ends-early ! 4 Kf same refl refl tt $
-            move ! (3 ∷ []) $ gives ! (mutSlice i32) h-table table $ move ! (1 ∷ 2 ∷ 3 ∷ []) $
-            by ! (exits m (ws .1 .0) table refl g-m (so r m m-is (did firstOf table (here .pairs) group (one-led pre (sym is ∙ e) n n-is k found))))))))
+            lands-in ! 3 0 refl tt (typed 𝓤 H A W moveds m g-m) $ ends-early ! 3 Kf same refl refl tt $
+            by ! (exits m (ws .1 .0) g-m (so r m m-is (did firstOf (one-led pre (sym is ∙ e) n n-is k found))))))))
 
         branches : class ≡ 5 → Sq W (Ctx y) (runs C Λ E# (arm mir′.s-6) q)
         branches e =
             calls-by ! fm (Calls-first-cell 𝓤 H A mem run) known-first-cell (to (for-first-cell 1)) (for-first-cell 1) refl (g-here, (g-own, (small 1 (omega arith), tt))) _
             (two-named pre (sym is ∙ e) .0, own-is) (id⊢ 𝓤 _) usizes _ (λ v. id⊢ 𝓤 _)
-            (and-then ! (var ! 4 1 refl refl tt) (and-then ! (var ! 4 3 refl refl tt) (and-then ! (var ! 4 7 refl refl tt) (and-then ! (var ! 4 9 refl refl tt) (and-then ! (lit ! tt) (no-more !)))))) (λ a _ g-a a-is _.
-            lands-in ! 4 12 refl tt (typed 𝓤 H A W usizes a g-a) $
+            (and-then ! (var ! 3 1 refl refl tt) (and-then ! (var ! 3 3 refl refl tt) (and-then ! (var ! 3 5 refl refl tt) (and-then ! (var ! 3 7 refl refl tt) (and-then ! (lit ! tt) (no-more !)))))) (λ a _ g-a a-is _.
+            lands-in ! 3 10 refl tt (typed 𝓤 H A W usizes a g-a) $
             calls-by ! fm (Calls-first-cell 𝓤 H A mem run) known-first-cell (to (for-first-cell 2)) (for-first-cell 2) refl (g-here, (g-own, (small 2 (omega arith), tt))) _
             (two-named pre (sym is ∙ e) .1, own-is) (id⊢ 𝓤 _) usizes _ (λ v. id⊢ 𝓤 _)
-            (and-then ! (var ! 4 1 refl refl tt) (and-then ! (var ! 4 3 refl refl tt) (and-then ! (var ! 4 7 refl refl tt) (and-then ! (var ! 4 9 refl refl tt) (and-then ! (lit ! tt) (no-more !)))))) (λ b _ g-b b-is _.
-            lands-in ! 4 13 refl tt (typed 𝓤 H A W usizes b g-b) $
-            puts ! 4 21 refl (lent ! 4 2 refl refl tt) tt (tt, tt) $
+            (and-then ! (var ! 3 1 refl refl tt) (and-then ! (var ! 3 3 refl refl tt) (and-then ! (var ! 3 5 refl refl tt) (and-then ! (var ! 3 7 refl refl tt) (and-then ! (lit ! tt) (no-more !)))))) (λ b _ g-b b-is _.
+            lands-in ! 3 11 refl tt (typed 𝓤 H A W usizes b g-b) $
+            puts ! 3 19 refl (lent ! 3 2 refl refl tt) tt (tt, tt) $
             move ! (2 ∷ []) $ shares-ref ! tt Words h-words words (λ at-it ν δ. move ! (2 ∷ 0 ∷ []) $
-            -- [the code; the words, lent; what waits for these; the records; the table; the locals]
+            -- [the code; the words, lent; what waits for these; the records; the locals]
             calls-by ! fm (Calls-act-branch 𝓤 H A mem run) known-act-branch (to (for-act-branch ν δ a b)) (for-act-branch ν δ a b) refl
             (g-at, (g-a, (g-b, tt))) _ (two-asks pre (sym is ∙ e) a b a-is b-is) (id⊢ 𝓤 _) moves _ (λ v. id⊢ 𝓤 _)
-            (and-then ! (var ! 5 1 refl refl tt) (and-then ! (var ! 5 21 refl refl tt) (and-then ! (part ! 5 7 1 refl refl tt refl refl refl) (and-then ! (var ! 5 12 refl refl tt) (and-then ! (var ! 5 13 refl refl tt) (no-more !)))))) (λ r ws good did _.
-            lands-in ! 5 14 refl tt (typed 𝓤 H A W moves r good) $
+            (and-then ! (var ! 4 1 refl refl tt) (and-then ! (var ! 4 19 refl refl tt) (and-then ! (part ! 4 5 1 refl refl tt refl refl refl) (and-then ! (var ! 4 10 refl refl tt) (and-then ! (var ! 4 11 refl refl tt) (no-more !)))))) (λ r ws good did _.
+            lands-in ! 4 12 refl tt (typed 𝓤 H A W moves r good) $
             calls-by ! fm (Calls-came-to 𝓤 H A mem run) known-came-to (to (for-came-to r)) (for-came-to r) refl (g-here, (good, tt)) (Unit {0}) tt
-            (asks-all 𝓤 H A (for-came-to r) []) moveds _ (λ v. id⊢ 𝓤 _) (and-then ! (var ! 5 7 refl refl tt) (and-then ! (var ! 5 14 refl refl tt) (no-more !)))
+            (asks-all 𝓤 H A (for-came-to r) []) moveds _ (λ v. id⊢ 𝓤 _) (and-then ! (var ! 4 5 refl refl tt) (and-then ! (var ! 4 12 refl refl tt) (no-more !)))
             (λ m _ g-m m-is _.
-            lands-in ! 5 0 refl tt (typed 𝓤 H A W moveds m g-m) $ move ! (1 ∷ 2 ∷ []) $ unshares-ref ! tt Words h-words words ν δ at-it $
-            ends-early ! 4 Kf same refl refl tt $ gives ! (mutRef Words) h-words words $ move ! (3 ∷ []) $ gives ! (mutSlice i32) h-table table $
-            move ! (2 ∷ 1 ∷ 3 ∷ 0 ∷ []) $
-            by ! (exits m words table refl g-m (so r m m-is (did firstOf table (here .pairs) group limit (here .live)
+            lands-in ! 4 0 refl tt (typed 𝓤 H A W moveds m g-m) $ move ! (1 ∷ 2 ∷ []) $ unshares-ref ! tt Words h-words words ν δ at-it $
+            ends-early ! 3 Kf same refl refl tt $ gives ! (mutRef Words) h-words words $ move ! (1 ∷ 0 ∷ []) $
+            by ! (exits m words g-m (so r m m-is (did firstOf limit (here .live)
             (two-led pre (sym is ∙ e) a b a-is b-is)))))))))
 
         constants : class ≡ 8 → Sq W (Ctx y) (runs C Λ E# (arm mir′.s-8) q)
         constants e =
             calls-by ! fm (Calls-first-cell 𝓤 H A mem run) known-first-cell (to (for-first-cell 1)) (for-first-cell 1) refl (g-here, (g-own, (small 1 (omega arith), tt))) _
             (acts.stores pre (sym is ∙ e) .named, own-is) (id⊢ 𝓤 _) usizes _ (λ v. id⊢ 𝓤 _)
-            (and-then ! (var ! 4 1 refl refl tt) (and-then ! (var ! 4 3 refl refl tt) (and-then ! (var ! 4 7 refl refl tt) (and-then ! (var ! 4 9 refl refl tt) (and-then ! (lit ! tt) (no-more !)))))) (λ a _ g-a a-is _.
-            lands-in ! 4 15 refl tt (typed 𝓤 H A W usizes a g-a) $
-            puts ! 4 22 refl (lent ! 4 2 refl refl tt) tt (tt, tt) $ move ! (0 ∷ 2 ∷ []) $
-            -- [the code; the words; the records; the table; the locals]
+            (and-then ! (var ! 3 1 refl refl tt) (and-then ! (var ! 3 3 refl refl tt) (and-then ! (var ! 3 5 refl refl tt) (and-then ! (var ! 3 7 refl refl tt) (and-then ! (lit ! tt) (no-more !)))))) (λ a _ g-a a-is _.
+            lands-in ! 3 13 refl tt (typed 𝓤 H A W usizes a g-a) $
+            puts ! 3 20 refl (lent ! 3 2 refl refl tt) tt (tt, tt) $ move ! (0 ∷ 2 ∷ []) $
+            -- [the code; the words; the records; the locals]
             calls-by ! fm (Calls-do-constant 𝓤 H A mem run) known-do-constant (to (for-do-constant a)) (for-do-constant a) refl (g-at, (g-a, tt)) _
             (acts.stores pre (sym is ∙ e) .asks a a-is) (id⊢ 𝓤 _) moves _ (λ v. id⊢ 𝓤 _)
-            (and-then ! (var ! 4 1 refl refl tt) (and-then ! (var ! 4 22 refl refl tt) (and-then ! (part ! 4 7 1 refl refl tt refl refl refl) (and-then ! (var ! 4 15 refl refl tt) (no-more !))))) (λ r ws good did _.
-            lands-in ! 4 16 refl tt (typed 𝓤 H A W moves r good) $
+            (and-then ! (var ! 3 1 refl refl tt) (and-then ! (var ! 3 20 refl refl tt) (and-then ! (part ! 3 5 1 refl refl tt refl refl refl) (and-then ! (var ! 3 13 refl refl tt) (no-more !))))) (λ r ws good did _.
+            lands-in ! 3 14 refl tt (typed 𝓤 H A W moves r good) $
             calls-by ! fm (Calls-came-to 𝓤 H A mem run) known-came-to (to (for-came-to r)) (for-came-to r) refl (g-here, (good, tt)) (Unit {0}) tt
-            (asks-all 𝓤 H A (for-came-to r) []) moveds _ (λ v. id⊢ 𝓤 _) (and-then ! (var ! 4 7 refl refl tt) (and-then ! (var ! 4 16 refl refl tt) (no-more !)))
+            (asks-all 𝓤 H A (for-came-to r) []) moveds _ (λ v. id⊢ 𝓤 _) (and-then ! (var ! 3 5 refl refl tt) (and-then ! (var ! 3 14 refl refl tt) (no-more !)))
             (λ m _ g-m m-is _.
-            lands-in ! 4 0 refl tt (typed 𝓤 H A W moveds m g-m) $ ends-early ! 4 Kf same refl refl tt $
-            move ! (3 ∷ []) $ gives ! (mutSlice i32) h-table table $ move ! (1 ∷ 2 ∷ 3 ∷ []) $
-            by ! (exits m (ws .1 .0) table refl g-m (so r m m-is (acts.stores pre (sym is ∙ e) .did (did firstOf a-is)))))))
+            lands-in ! 3 0 refl tt (typed 𝓤 H A W moveds m g-m) $ ends-early ! 3 Kf same refl refl tt $
+            by ! (exits m (ws .1 .0) g-m (so r m m-is (acts.stores pre (sym is ∙ e) .did (did firstOf a-is)))))))
 
         others : 5 < class → (class ≡ 8 → ⊥) → Sq W (Ctx y) (runs C Λ E# (arm mir′.s-10) q)
         others low other =
-            let w : Tabling code words records table group here own class =
+            let w : Tabling code words records here own class =
             record { limit = limit; stating = pre; chosen = record { own-is = refl; class-is = is }; low = low; other = other } in
-            puts ! 4 23 refl (lent ! 4 2 refl refl tt) tt (tt, tt) $
-            puts ! 4 24 refl (lent-ptr ! 4 4 refl refl tt refl refl) tt (tt, tt) $
-            puts ! 4 25 refl (lent-slice ! 4 4 24 refl refl refl tt tt refl refl) tt (tt, (tt, (record { fits = room-table .0 }, tt))) $
-            move ! (0 ∷ 2 ∷ []) $
-            -- [the code; the words; the records; the table; the locals]
-            calls-by ! fm (Calls-tabled 𝓤 H A mem run) known-tabled (to (for-tabled class)) (for-tabled class) refl
-            (g-group, (g-here, (g-own, (g-class, tt)))) _ w (id⊢ 𝓤 _) moveds _ (λ v. id⊢ 𝓤 _)
-            (and-then ! (var ! 4 1 refl refl tt) (and-then ! (var ! 4 23 refl refl tt) (and-then ! (var ! 4 3 refl refl tt) (and-then ! (var ! 4 25 refl refl tt) (and-then ! (var ! 4 5 refl refl tt) (and-then ! (var ! 4 7 refl refl tt) (and-then ! (var ! 4 9 refl refl tt) (and-then ! (var ! 4 8 refl refl tt) (no-more !)))))))))
-            (λ m ws g-m did same-long.
-            lands-in ! 4 0 refl tt (typed 𝓤 H A W moveds m g-m) $ ends-early ! 4 Kf same refl refl tt $
-            by ! (exits m (ws .1 .0) (ws .1 .1 .1 .0) (same-long .1 .1 .1 .0) g-m (did w)))
+            puts ! 3 21 refl (lent ! 3 2 refl refl tt) tt (tt, tt) $
+            move ! (2 ∷ []) $ shares-ref ! tt Words h-words words (λ at-it ν δ. move ! (2 ∷ 0 ∷ 3 ∷ []) $
+            -- [the code; the words, lent; the records; what waits for the words; the locals]
+            calls-by ! fm (Calls-tabled 𝓤 H A mem run) known-tabled (to (for-tabled ν δ class)) (for-tabled ν δ class) refl
+            (g-here, (g-own, (g-class, tt))) _ w (id⊢ 𝓤 _) moveds _ (λ v. id⊢ 𝓤 _)
+            (and-then ! (var ! 4 1 refl refl tt) (and-then ! (var ! 4 21 refl refl tt) (and-then ! (var ! 4 3 refl refl tt) (and-then ! (var ! 4 5 refl refl tt) (and-then ! (var ! 4 7 refl refl tt) (and-then ! (var ! 4 6 refl refl tt) (no-more !)))))))
+            (λ m _ g-m did _.
+            lands-in ! 4 0 refl tt (typed 𝓤 H A W moveds m g-m) $ move ! (1 ∷ 3 ∷ []) $ unshares-ref ! tt Words h-words words ν δ at-it $
+            ends-early ! 3 Kf same refl refl tt $ gives ! (mutRef Words) h-words words $ move ! (1 ∷ 0 ∷ []) $
+            by ! (exits m words g-m (did w))))
 
       sums : (y : Bool) → (1 ≤ class) × (class ≤ 4) → Sq W (Ctx y) (runs C Λ E# mir′.t-11 (atRet E# Kf))
       sums y within =
           let w : Summing code words records here own class =
           record {
-            table = table;
-            group = group;
             limit = limit;
             stating = pre;
             chosen = record { own-is = refl; class-is = is };
             low = within .0;
             high = within .1;
           } in
-          puts ! 4 26 refl (lent ! 4 2 refl refl tt) tt (tt, tt) $ move ! (0 ∷ 2 ∷ []) $
-          -- [the code; the words; the records; the table; the locals]
+          puts ! 3 22 refl (lent ! 3 2 refl refl tt) tt (tt, tt) $ move ! (0 ∷ 2 ∷ []) $
+          -- [the code; the words; the records; the locals]
           calls-by ! fm (Calls-summed 𝓤 H A mem run) known-summed (to (for-summed class)) (for-summed class) refl (g-here, (g-own, (g-class, tt))) _ w
           (id⊢ 𝓤 _) moveds _ (λ v. id⊢ 𝓤 _)
-          (and-then ! (var ! 4 1 refl refl tt) (and-then ! (var ! 4 26 refl refl tt) (and-then ! (var ! 4 3 refl refl tt) (and-then ! (var ! 4 7 refl refl tt) (and-then ! (var ! 4 9 refl refl tt) (and-then ! (var ! 4 8 refl refl tt) (no-more !))))))) (λ m ws g-m did _.
-          lands-in ! 4 0 refl tt (typed 𝓤 H A W moveds m g-m) $ ends ! 4 refl refl tt $
-          move ! (3 ∷ []) $ gives ! (mutSlice i32) h-table table $ move ! (1 ∷ 2 ∷ 3 ∷ []) $
-          by ! (exits m (ws .1 .0) table refl g-m (did w)))
+          (and-then ! (var ! 3 1 refl refl tt) (and-then ! (var ! 3 22 refl refl tt) (and-then ! (var ! 3 3 refl refl tt) (and-then ! (var ! 3 5 refl refl tt) (and-then ! (var ! 3 7 refl refl tt) (and-then ! (var ! 3 6 refl refl tt) (no-more !))))))) (λ m ws g-m did _.
+          lands-in ! 3 0 refl tt (typed 𝓤 H A W moveds m g-m) $ ends ! 3 refl refl tt $
+          by ! (exits m (ws .1 .0) g-m (did w)))
 
     walk : ent 𝓤 (onEntry 𝓤 H A f.signature (lfts ps) (shares ps) (denots 0 ps) (valss 0 ps)) (WpFn 𝓤 H C Λ mine.function (vals ps) Kf)
     walk = via 𝓤 (⋆ 𝓤 H A (ins 𝓤 ps)) (arrives 𝓤 H A W 0 ps) (qed W (ins 𝓤 ps) ∵
-        begins ! C Λ mine.function (vals ps) Kf (
-          (tt, tt),
-          (
-            (tt, tt),
-            (
-              (tt, (tt, (record { fits = room-records .0 }, tt))),
-              (
-                (tt, (tt, (record { fits = room-table .0 }, tt))),
-                (typed 𝓤 H A W words32 group g-group, (typed 𝓤 H A W usizes limit g-limit, (typed 𝓤 H A W nows here g-here, tt))),
-              ),
-            ),
-          ),
-        ) (λ β. move ! (1 ∷ 3 ∷ 2 ∷ 4 ∷ []) $
+        begins ! C Λ mine.function (vals ps) Kf
+        ((tt, tt), ((tt, tt), ((tt, (tt, (record { fits = room-records .0 }, tt))), (typed 𝓤 H A W usizes limit g-limit, (typed 𝓤 H A W registers here g-here, tt)))))
+        (λ β. move ! (1 ∷ 3 ∷ 2 ∷ []) $
         calls-by ! fm (Calls-class-of 𝓤 H A mem run) known-class-of (to for-class-of) for-class-of refl (g-at, tt) _ (acts.at-there pre) (id⊢ 𝓤 _) usizes _
-        (λ v. id⊢ 𝓤 _) (and-then ! (var ! 4 1 refl refl tt) (and-then ! (part ! 4 7 1 refl refl tt refl refl refl) (no-more !))) (λ class _ g-class is _.
-        lands-in ! 4 8 refl tt (typed 𝓤 H A W usizes class g-class) $
-        puts ! 4 9 refl (bin ! (lit ! tt) (part ! 4 7 0 refl refl tt refl refl refl) (record { fits = own-fits })) tt (tt, record { fits = own-fits }) $
-        puts ! 4 17 refl (bin ! (var ! 4 8 refl refl tt) (lit ! tt) tt) tt (tt, tt) $ if-then ! (var ! 4 17 refl refl tt)
+        (λ v. id⊢ 𝓤 _) (and-then ! (var ! 3 1 refl refl tt) (and-then ! (part ! 3 5 1 refl refl tt refl refl refl) (no-more !))) (λ class _ g-class is _.
+        lands-in ! 3 6 refl tt (typed 𝓤 H A W usizes class g-class) $
+        puts ! 3 7 refl (bin ! (lit ! tt) (part ! 3 5 0 refl refl tt refl refl refl) (record { fits = own-fits })) tt (tt, record { fits = own-fits }) $
+        puts ! 3 15 refl (bin ! (var ! 3 6 refl refl tt) (lit ! tt) tt) tt (tt, tt) $ if-then ! (var ! 3 15 refl refl tt)
         (λ y. ones β class g-class is _ _ refl (eqb→eq class 0 y)) (λ not-one.
-        puts ! 4 17 refl (bin ! (var ! 4 8 refl refl tt) (lit ! tt) tt) tt (tt, tt) $ if-then ! (var ! 4 17 refl refl tt)
+        puts ! 3 15 refl (bin ! (var ! 3 6 refl refl tt) (lit ! tt) tt) tt (tt, tt) $ if-then ! (var ! 3 15 refl refl tt)
         (λ y. branches β class g-class is _ _ refl (eqb→eq class 5 y)) (λ not-branch.
-        puts ! 4 17 refl (bin ! (var ! 4 8 refl refl tt) (lit ! tt) tt) tt (tt, tt) $ if-then ! (var ! 4 17 refl refl tt)
+        puts ! 3 15 refl (bin ! (var ! 3 6 refl refl tt) (lit ! tt) tt) tt (tt, tt) $ if-then ! (var ! 3 15 refl refl tt)
         (λ y. constants β class g-class is _ _ refl (eqb→eq class 8 y)) (λ not-constant.
-        puts ! 4 17 refl (bin ! (lit ! tt) (var ! 4 8 refl refl tt) tt) tt (tt, tt) $ if-then ! (var ! 4 17 refl refl tt)
+        puts ! 3 15 refl (bin ! (lit ! tt) (var ! 3 6 refl refl tt) tt) tt (tt, tt) $ if-then ! (var ! 3 15 refl refl tt)
         (λ y. others β class g-class is _ _ refl (ltb→lt 5 class y) (eqb-false class 8 (untold _ not-constant))) (λ not-more.
         sums β class g-class is _ (sums-left class (eqb-false class 0 (untold _ not-one)) (eqb-false class 5 (untold _ not-branch))
         (λ l. T-not (ltb 5 class) not-more (lt→ltb 5 class l))))))))))
@@ -486,16 +456,15 @@ module _ {M : Type 1} (𝓤 : URA M) (H : Heap 𝓤) (A : Atoms 𝓤) (W : Given
     (known-came-to : Triple 𝓤 (𝓣 .C #came-to) (Calls-came-to 𝓤 H A mem run)) where
   walks : Walks 𝓤 H A f.ended stayed (WpFn 𝓤 H (𝓣 .C) (𝓣 .Λ) mine.function) (f.clauses 𝓤 H A mem run)
   walks = walked 𝓤 H A f.ended stayed (f.clauses 𝓤 H A mem run) (WpFn 𝓤 H (𝓣 .C) (𝓣 .Λ) mine.function)
-      (λ κs. (ptr-vals, (ptr-vals, (slice-vals, (slice-vals, ((λ (x : ℕ). words32 .val x ∷ []), ((λ (x : ℕ). usizes .val x ∷ []), ((λ (x : Now). nows .val x ∷ []), tt))))))))
-      (λ κs. (shr-tells (named 0) (κs .0) Code, (mut-tells (named 1) (κs .1 .0) Words, (shr-slice-tells (named 2) (κs .1 .1 .0) Rec, (mut-slice-tells (named 3) (κs .1 .1 .1 .0) i32, (words32 .tells, (usizes .tells, (nows .tells, tt))))))))
-      (λ κs qs bounds a g are. needs 𝓤 (Stating ((a .0) .now) ((a .1 .0) .now) ((a .1 .1 .0) .now) ((a .1 .1 .1 .0) .now) (a .1 .1 .1 .1 .0) (a .1 .1 .1 .1 .1 .0)
-      (a .1 .1 .1 .1 .1 .1 .0)) _ (λ l. walk 𝓤 H A W mem run (κs .0) (κs .1 .0) (κs .1 .1 .0) (κs .1 .1 .1 .0) (qs .0) (qs .1 .0) (qs .1 .1 .0) (qs .1 .1 .1 .0)
-      (a .0) (a .1 .0) (a .1 .1 .0) (a .1 .1 .1 .0) (a .1 .1 .1 .1 .0) (a .1 .1 .1 .1 .1 .0) (a .1 .1 .1 .1 .1 .1 .0)
-      (are .1 .1 .0 .0 .1) (are .1 .1 .1 .0 .0 .1) (are .1 .1 .1 .1 .0) (are .1 .1 .1 .1 .1 .0) (are .1 .1 .1 .1 .1 .1 .0) l (𝓣 .C) (𝓣 .Λ) (fmOf 𝓤 H (W .laws) 𝓣)
+      (λ κs. (ptr-vals, (ptr-vals, (slice-vals, ((λ (x : ℕ). usizes .val x ∷ []), ((λ (x : Registers). registers .val x ∷ []), tt))))))
+      (λ κs. (shr-tells (named 0) (κs .0) Code, (mut-tells (named 1) (κs .1 .0) Words, (shr-slice-tells (named 2) (κs .1 .1 .0) Rec, (usizes .tells, (registers .tells, tt))))))
+      (λ κs qs bounds a g are. needs 𝓤 (Stating ((a .0) .now) ((a .1 .0) .now) ((a .1 .1 .0) .now) (a .1 .1 .1 .0) (a .1 .1 .1 .1 .0)) _
+      (λ l. walk 𝓤 H A W mem run (κs .0) (κs .1 .0) (κs .1 .1 .0) (qs .0) (qs .1 .0) (qs .1 .1 .0) (a .0) (a .1 .0) (a .1 .1 .0) (a .1 .1 .1 .0) (a .1 .1 .1 .1 .0)
+      (are .1 .1 .0 .0 .1) (are .1 .1 .1 .0) (are .1 .1 .1 .1 .0) l (𝓣 .C) (𝓣 .Λ) (fmOf 𝓤 H (W .laws) 𝓣)
       known-class-of known-only-hops known-follow known-act-one known-first-cell known-act-branch known-do-constant known-tabled known-summed known-came-to))
 
   meets : Meets 𝓤 H A f.signature (WpFn 𝓤 H (𝓣 .C) (𝓣 .Λ) mine.function) (f.spec 𝓤 H A mem run)
-  meets = walk-meets 𝓤 H A f.ended stayed W (goes-none-ref 𝓤 H A W 4 (0 ∷ []) tt (arrayOf (plain (λ _. u32)) 4096) yes, (goes-gave-ref 𝓤 H A W 4 1 tt (arrayOf (plain (λ _. i32)) 8224), (goes-none-slice 𝓤 H A W 4 (2 ∷ []) tt (plain (λ _. recs .type)) yes, (goes-gave-slice 𝓤 H A W 4 3 tt (plain (λ _. i32)), (goes-none 𝓤 H A W 4 (λ _. words32 .type) yes (λ κs x f. refl), (goes-none 𝓤 H A W 4 (λ _. usizes .type) yes (λ κs x f. refl), (goes-none 𝓤 H A W 4 (λ _. nows .type) yes (λ κs x f. refl), tt)))))))
+  meets = walk-meets 𝓤 H A f.ended stayed W (goes-none-ref 𝓤 H A W 3 (0 ∷ []) tt (arrayOf (plain (λ _. u32)) 4096) yes, (goes-gave-ref 𝓤 H A W 3 1 tt (arrayOf (plain (λ _. i32)) 8224), (goes-none-slice 𝓤 H A W 3 (2 ∷ []) tt (plain (λ _. recs .type)) yes, (goes-none 𝓤 H A W 3 (λ _. usizes .type) yes (λ κs x f. refl), (goes-none 𝓤 H A W 3 (λ _. registers .type) yes (λ κs x f. refl), tt)))))
       (f.clauses 𝓤 H A mem run) (WpFn 𝓤 H (𝓣 .C) (𝓣 .Λ) mine.function) (WpFn-mono 𝓤 H (W .laws) 𝓣 mine.function) walks
 
 pub acted-spec : {M : Type 1} → stated.statement M

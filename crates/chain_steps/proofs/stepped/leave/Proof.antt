@@ -39,14 +39,15 @@ use Rattle.lending.specs.Frames.{begins, tysOf}
 use Rattle.lending.specs.Locals.{var, part, puts, lands-in, ends, if-then}
 use Rattle.activations.specs.Records.{at}
 use Rattle.activations.specs.declared.Activation.{Activation}
-use Rattle.links.specs.declared.Now.{Now}
-use Rattle.links.specs.Running.{Running, nowBy}
+use Rattle.run_state.specs.declared.Registers.{Registers}
+use Rattle.links.specs.Running.{nowBy}
 use Rattle.links.specs.Moving.{room-there, block-fits}
-use Rattle.links.proofs.Rows.{Code, Rec, recs, nows}
-use Rattle.chain_steps.specs.declared.turn.Turn.{Turn}
-use Rattle.chain_steps.specs.declared.turn.Turn.the-variants.{Went, Finished}
+use Rattle.links.proofs.Rows.{Code, Rec, recs, registers}
+use Rattle.run_state.specs.declared.Turn.{Turn}
+use Rattle.run_state.specs.declared.Turn.the-variants.{Went, Finished}
 use Rattle.chain_steps.specs.Turning.{Turned, LeaveReady}
-use Rattle.chain_steps.specs.Turns.{above-zero, finishes, leaves-on}
+use Rattle.run_state.specs.Turns.{above-zero}
+use Rattle.chain_steps.specs.Turns.{finishes, leaves-on}
 use Rattle.lending.specs.Clauses.{asks-all}
 use Rattle.lending.specs.Early.{ends-early, not-equal}
 use Rattle.chain_steps.proofs.Rows.{turns}
@@ -91,10 +92,10 @@ abbrev Calls-went : {M : Type 1} (𝓤 : URA M) (H : Heap 𝓤) (A : Atoms 𝓤)
 Calls-went 𝓤 H A mem run = tripleOf 𝓤 H A went.signature (went.spec 𝓤 H A mem run)
 
 abbrev stayed : Stays (f.ended .signature .params) (f.ended .kept)
-stayed = (stay-none-ref (0 ∷ []) tt (arrayOf (plain (λ _. u32)) 4096) yes, (stay-none-slice (1 ∷ []) tt (plain (λ _. recs .type)) yes, (stay-none (λ _. nows .type) yes, tt)))
+stayed = (stay-none-ref (0 ∷ []) tt (arrayOf (plain (λ _. u32)) 4096) yes, (stay-none-slice (1 ∷ []) tt (plain (λ _. recs .type)) yes, (stay-none (λ _. registers .type) yes, tt)))
 
 module _ {M : Type 1} (𝓤 : URA M) (H : Heap 𝓤) (A : Atoms 𝓤) (W : Given 𝓤 H A) (mem : Memory → SProp 𝓤) (run : Routine → Fun 𝓤) (κ0 κ1 : Lft) (q0 q1 : Share)
-    (code# : RefT (List ℕ)) (records# : RefT (List Activation)) (here : Now) (room-records : Room (Rec) (length (records# .now))) (g-here : Good nows here)
+    (code# : RefT (List ℕ)) (records# : RefT (List Activation)) (here : Registers) (room-records : Room (Rec) (length (records# .now))) (g-here : Good registers here)
     (pre : LeaveReady (code# .now) (records# .now) here) where
   abbrev h-code : Loan
   h-code = loanRef κ0 q0 code#
@@ -109,7 +110,7 @@ module _ {M : Type 1} (𝓤 : URA M) (H : Heap 𝓤) (A : Atoms 𝓤) (W : Given
   records = records# .now
 
   abbrev ps : List Par
-  ps = brw (shrRef Code) h-code code ∷ brw (shrSlice Rec) h-records records ∷ dat nows here ∷ []
+  ps = brw (shrRef Code) h-code code ∷ brw (shrSlice Rec) h-records records ∷ dat registers here ∷ []
 
   abbrev bound : walkOf 𝓤 H A f.ended stayed (f.clauses 𝓤 H A mem run) .Ghost
   bound = ((lfts ps, shares ps, tt, denots 0 ps, valss 0 ps), tt)
@@ -144,21 +145,21 @@ module _ {M : Type 1} (𝓤 : URA M) (H : Heap 𝓤) (A : Atoms 𝓤) (W : Given
       fits : a .block + 3 ≤ 4096
       fits = let h = block-fits (pre .running) (live - 1) (omega arith) in omega (arith, h, ap (λ (b : Activation). b .block) read-so)
 
-      left-so : (r : Turn) (n : Now) → n ≡ nowBy code (a .block) (live - 1) (a .next) (here .pairs) → r ≡ Went n → Said r
+      left-so : (r : Turn) (n : Registers) → n ≡ nowBy code (a .block) (live - 1) (a .next) (here .pairs) → r ≡ Went n → Said r
       left-so r n n-is e v = subst (λ (t : Turn). Turned (v .running) t (v .words) records (v .table)) (sym (e ∙ ap Went n-is))
           (leaves-on (v .running) (v .ended) d a read-so)
 
   abbrev for-below : List Par
-  for-below = dat nows here ∷ []
+  for-below = dat registers here ∷ []
 
   abbrev for-read : ℕ → List Par
   for-read k = brw (shrSlice Rec) h-records records ∷ dat usizes k ∷ []
 
   abbrev for-left : Activation → List Par
-  for-left a = brw (shrRef Code) h-code code ∷ dat nows here ∷ dat recs a ∷ []
+  for-left a = brw (shrRef Code) h-code code ∷ dat registers here ∷ dat recs a ∷ []
 
-  abbrev for-went : Now → List Par
-  for-went n = dat nows n ∷ []
+  abbrev for-went : Registers → List Par
+  for-went n = dat registers n ∷ []
 
   module _ (C : Calls 𝓤 H) (Λ : Loops 𝓤 H) (fm : FmC 𝓤 H (W .laws) C) (known-finished : Triple 𝓤 (C #finished) (Calls-finished 𝓤 H A mem run)) (known-below : Triple 𝓤 (C #below) (Calls-below 𝓤 H A mem run)) (known-read : Triple 𝓤 (C #read) (Calls-read 𝓤 H A mem run)) (known-left : Triple 𝓤 (C #left) (Calls-left 𝓤 H A mem run)) (known-went : Triple 𝓤 (C #went) (Calls-went 𝓤 H A mem run)) where
     abbrev τs : List Ty
@@ -166,7 +167,7 @@ module _ {M : Type 1} (𝓤 : URA M) (H : Heap 𝓤) (A : Atoms 𝓤) (W : Given
 
     walk : ent 𝓤 (onEntry 𝓤 H A f.signature (lfts ps) (shares ps) (denots 0 ps) (valss 0 ps)) (WpFn 𝓤 H C Λ mine.function (vals ps) Post)
     walk = via 𝓤 (⋆ 𝓤 H A (ins 𝓤 ps)) (arrives 𝓤 H A W 0 ps) (qed W (ins 𝓤 ps) ∵
-        begins ! C Λ mine.function (vals ps) Post ((tt, tt), ((tt, (tt, (record { fits = room-records .0 }, tt))), (typed 𝓤 H A W nows here g-here, tt)))
+        begins ! C Λ mine.function (vals ps) Post ((tt, tt), ((tt, (tt, (record { fits = room-records .0 }, tt))), (typed 𝓤 H A W registers here g-here, tt)))
         (λ β. move ! (1 ∷ 2 ∷ []) $
         -- [the code; the records; the locals]
         puts ! 2 5 refl (bin ! (part ! 2 3 0 refl refl tt refl refl refl) (lit ! tt) tt) tt (tt, tt) $
@@ -183,9 +184,9 @@ module _ {M : Type 1} (𝓤 : URA M) (H : Heap 𝓤) (A : Atoms 𝓤) (W : Given
         (and-then ! (var ! 2 2 refl refl tt) (and-then ! (var ! 2 6 refl refl tt) (no-more !))) (λ a _ g-a a-is _.
         lands-in ! 2 4 refl tt (typed 𝓤 H A W recs a g-a) $ move ! (1 ∷ []) $
         calls-by ! fm (Calls-left 𝓤 H A mem run) known-left (to (for-left a)) (for-left a) refl (g-here, (g-a, tt)) _
-        (fits (not-equal live 0 n) k k-is a a-is, above (not-equal live 0 n)) (id⊢ 𝓤 _) nows _ (λ v. id⊢ 𝓤 _)
+        (fits (not-equal live 0 n) k k-is a a-is, above (not-equal live 0 n)) (id⊢ 𝓤 _) registers _ (λ v. id⊢ 𝓤 _)
         (and-then ! (var ! 2 1 refl refl tt) (and-then ! (var ! 2 3 refl refl tt) (and-then ! (var ! 2 4 refl refl tt) (no-more !)))) (λ m _ g-m m-is _.
-        lands-in ! 2 7 refl tt (typed 𝓤 H A W nows m g-m) $
+        lands-in ! 2 7 refl tt (typed 𝓤 H A W registers m g-m) $
         calls-by ! fm (Calls-went 𝓤 H A mem run) known-went (to (for-went m)) (for-went m) refl (g-m, tt) (Unit {0}) tt (asks-all 𝓤 H A (for-went m) []) turns _
         (λ v. id⊢ 𝓤 _)
         (and-then ! (var ! 2 7 refl refl tt) (no-more !)) (λ r _ good e _.
@@ -195,15 +196,15 @@ module _ {M : Type 1} (𝓤 : URA M) (H : Heap 𝓤) (A : Atoms 𝓤) (W : Given
 module _ {M : Type 1} (𝓤 : URA M) (H : Heap 𝓤) (A : Atoms 𝓤) (W : Given 𝓤 H A) (mem : Memory → SProp 𝓤) (run : Routine → Fun 𝓤) (𝓣 : Tables 𝓤 H) (known-finished : Triple 𝓤 (𝓣 .C #finished) (Calls-finished 𝓤 H A mem run)) (known-below : Triple 𝓤 (𝓣 .C #below) (Calls-below 𝓤 H A mem run)) (known-read : Triple 𝓤 (𝓣 .C #read) (Calls-read 𝓤 H A mem run)) (known-left : Triple 𝓤 (𝓣 .C #left) (Calls-left 𝓤 H A mem run)) (known-went : Triple 𝓤 (𝓣 .C #went) (Calls-went 𝓤 H A mem run)) where
   walks : Walks 𝓤 H A f.ended stayed (WpFn 𝓤 H (𝓣 .C) (𝓣 .Λ) mine.function) (f.clauses 𝓤 H A mem run)
   walks = walked 𝓤 H A f.ended stayed (f.clauses 𝓤 H A mem run) (WpFn 𝓤 H (𝓣 .C) (𝓣 .Λ) mine.function)
-      (λ κs. (ptr-vals, (slice-vals, ((λ (x : Now). nows .val x ∷ []), tt))))
-      (λ κs. (shr-tells (named 0) (κs .0) Code, (shr-slice-tells (named 1) (κs .1 .0) Rec, (nows .tells, tt))))
+      (λ κs. (ptr-vals, (slice-vals, ((λ (x : Registers). registers .val x ∷ []), tt))))
+      (λ κs. (shr-tells (named 0) (κs .0) Code, (shr-slice-tells (named 1) (κs .1 .0) Rec, (registers .tells, tt))))
       (λ κs qs bounds a g are. needs 𝓤 (LeaveReady ((a .0) .now) ((a .1 .0) .now) (a .1 .1 .0)) _ (λ l. walk 𝓤 H A W mem run (κs .0) (κs .1 .0) (qs .0)
       (qs .1 .0) (a .0) (a .1 .0) (a .1 .1 .0) (are .1 .0 .0 .1) (are .1 .1 .0) l (𝓣 .C) (𝓣 .Λ) (fmOf 𝓤 H (W .laws) 𝓣) known-finished known-below known-read known-left known-went))
 
   meets : Meets 𝓤 H A f.signature (WpFn 𝓤 H (𝓣 .C) (𝓣 .Λ) mine.function) (f.spec 𝓤 H A mem run)
   meets = walk-meets 𝓤 H A f.ended stayed W (
     goes-none-ref 𝓤 H A W 2 (0 ∷ []) tt (arrayOf (plain (λ _. u32)) 4096) yes,
-    (goes-none-slice 𝓤 H A W 2 (1 ∷ []) tt (plain (λ _. recs .type)) yes, (goes-none 𝓤 H A W 2 (λ _. nows .type) yes (λ κs x f. refl), tt)),
+    (goes-none-slice 𝓤 H A W 2 (1 ∷ []) tt (plain (λ _. recs .type)) yes, (goes-none 𝓤 H A W 2 (λ _. registers .type) yes (λ κs x f. refl), tt)),
   ) (f.clauses 𝓤 H A mem run) (WpFn 𝓤 H (𝓣 .C) (𝓣 .Λ) mine.function) (WpFn-mono 𝓤 H (W .laws) 𝓣 mine.function) walks
 
 pub leave-spec : {M : Type 1} → stated.statement M

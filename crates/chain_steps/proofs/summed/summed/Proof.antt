@@ -1,6 +1,6 @@
 -- `summed` meets its contract: a walk of its MIR, by hand. A path for each class: `adds`, `compares`, `subtracts`, `formals`.
 use mathlib.Core.Path.{_≡_, refl, sym, _∙_}
-use Prim.Native.Nat.{ℕ, zero, suc, _+_, _*_, _≤_, _<_, _^_}
+use Prim.Native.Nat.{ℕ, zero, suc, _*_, _≤_, _<_, _^_}
 use native.Mathlib.Omega.{arith}
 use mathlib.Core.Bool.{Bool}
 use mathlib.Core.List.{List, [], _∷_}
@@ -48,9 +48,9 @@ use Rattle.activations.specs.declared.Activation.{Activation}
 use Rattle.acting.specs.declared.Move.{Move}
 use Rattle.acting.specs.Acting.{opOf}
 use Rattle.chain_statements.specs.Asking.{Did, classOf}
-use Rattle.links.specs.declared.Now.{Now}
+use Rattle.run_state.specs.declared.Registers.{Registers}
 use Rattle.links.specs.Finding.{firstCell}
-use Rattle.links.proofs.Rows.{Code, Words, Rec, recs, nows, fields-of-now}
+use Rattle.links.proofs.Rows.{Code, Words, Rec, recs, registers, fields-of-registers}
 use Rattle.chain_steps.proofs.Rows.{moves, moveds}
 use Rattle.chain_steps.specs.declared.turn.Moved.{Moved}
 use Rattle.chain_steps.specs.Moved.{movedBy}
@@ -127,12 +127,12 @@ arm return = skip
 arm (call g xs d) = skip
 
 abbrev stayed : Stays (f.ended .signature .params) (f.ended .kept)
-stayed = (stay-none-ref (0 ∷ []) tt (arrayOf (plain (λ _. u32)) 4096) yes, (gave-ref (1 ∷ []) tt (arrayOf (plain (λ _. i32)) 8224), (stay-none-slice (2 ∷ []) tt (plain (λ _. recs .type)) yes, (stay-none (λ _. nows .type) yes, (stay-none (λ _. usizes .type) yes, (stay-none (λ _. usizes .type) yes, tt))))))
+stayed = (stay-none-ref (0 ∷ []) tt (arrayOf (plain (λ _. u32)) 4096) yes, (gave-ref (1 ∷ []) tt (arrayOf (plain (λ _. i32)) 8224), (stay-none-slice (2 ∷ []) tt (plain (λ _. recs .type)) yes, (stay-none (λ _. registers .type) yes, (stay-none (λ _. usizes .type) yes, (stay-none (λ _. usizes .type) yes, tt))))))
 
 module _ {M : Type 1} (𝓤 : URA M) (H : Heap 𝓤) (A : Atoms 𝓤) (W : Given 𝓤 H A) (mem : Memory → SProp 𝓤) (run : Routine → Fun 𝓤)
     (κ0 κ1 κ2 : Lft) (q0 q1 q2 : Share) (code# : RefT (List ℕ)) (words# : RefT (List ℤ)) (records# : RefT (List Activation))
-    (here : Now) (own : ℕ) (class : ℕ)
-    (room-records : Room Rec (length (records# .now))) (g-here : Good nows here) (g-own : Good usizes own) (g-class : Good usizes class)
+    (here : Registers) (own : ℕ) (class : ℕ)
+    (room-records : Room Rec (length (records# .now))) (g-here : Good registers here) (g-own : Good usizes own) (g-class : Good usizes class)
     (pre : Summing (code# .now) (words# .now) (records# .now) here own class) where
   abbrev h-code : Loan
   h-code = loanRef κ0 q0 code#
@@ -153,7 +153,7 @@ module _ {M : Type 1} (𝓤 : URA M) (H : Heap 𝓤) (A : Atoms 𝓤) (W : Given
   records = records# .now
 
   abbrev ps : List Par
-  ps = brw (shrRef Code) h-code code ∷ brw (mutRef Words) h-words words ∷ brw (shrSlice Rec) h-records records ∷ dat nows here ∷ dat usizes own ∷ dat usizes class ∷ []
+  ps = brw (shrRef Code) h-code code ∷ brw (mutRef Words) h-words words ∷ brw (shrSlice Rec) h-records records ∷ dat registers here ∷ dat usizes own ∷ dat usizes class ∷ []
 
   abbrev bound : walkOf 𝓤 H A f.ended stayed (f.clauses 𝓤 H A mem run) .Ghost
   bound = ((lfts ps, shares ps, tt, denots 0 ps, valss 0 ps), tt)
@@ -163,7 +163,7 @@ module _ {M : Type 1} (𝓤 : URA M) (H : Heap 𝓤) (A : Atoms 𝓤) (W : Given
 
   abbrev Said : Moved → List ℤ → Type 0
   Said r words′ = (w : Summing code words records here own class)
-      → Does (happening code words records (w .table) (w .group) (w .limit) here) words here r words′ (w .table)
+      → Does (happening code words records (w .limit) here) words here r words′
 
   exits : (r : Moved) (words′ : List ℤ) → Good moveds r → Said r words′
       → ent 𝓤 (⋆ 𝓤 H A (outs 𝓤 0 ps (tt, (words′, (tt, (tt, (tt, (tt, tt)))))))) (Kf (moveds .val r))
@@ -197,23 +197,23 @@ module _ {M : Type 1} (𝓤 : URA M) (H : Heap 𝓤) (A : Atoms 𝓤) (W : Given
   by-formals w e = acts.through-formals (w .stating) (is-class w 4 e)
 
   so : (r : Move) (m : Moved) → m ≡ movedBy here r → {words′ : List ℤ}
-      → ((w : W#) → Did (happening code words records (w .table) (w .group) (w .limit) here) words r words′ (w .table)) → Said m words′
+      → ((w : W#) → Did (happening code words records (w .limit) here) words r words′) → Said m words′
   so r m e did w = record { move = r; did = did w; so = e }
 
   g-at : Good usizes (here .at)
-  g-at = fields-of-now here g-here .1 .0
+  g-at = fields-of-registers here g-here .1 .0
 
   small : (n : ℕ) → n < 2 ^ 64 → Good usizes n
   small n h = (refl, h)
 
   abbrev for-first-cell : ℕ → List Par
-  for-first-cell field = brw (shrRef Code) h-code code ∷ brw (shrSlice Rec) h-records records ∷ dat nows here ∷ dat usizes own ∷ dat usizes field ∷ []
+  for-first-cell field = brw (shrRef Code) h-code code ∷ brw (shrSlice Rec) h-records records ∷ dat registers here ∷ dat usizes own ∷ dat usizes field ∷ []
 
   abbrev for-sum : ℕ → ℕ → ℕ → List Par
   for-sum a b c = brw (shrRef Code) h-code code ∷ brw (mutRef Words) h-words words ∷ dat usizes (here .at) ∷ dat usizes a ∷ dat usizes b ∷ dat usizes c ∷ []
 
   abbrev for-came-to : Move → List Par
-  for-came-to r = dat nows here ∷ dat moves r ∷ []
+  for-came-to r = dat registers here ∷ dat moves r ∷ []
 
   module _ (C : Calls 𝓤 H) (Λ : Loops 𝓤 H) (fm : FmC 𝓤 H (W .laws) C)
       (known-first-cell : Triple 𝓤 (C #first-cell) (Calls-first-cell 𝓤 H A mem run))
@@ -229,7 +229,7 @@ module _ {M : Type 1} (𝓤 : URA M) (H : Heap 𝓤) (A : Atoms 𝓤) (W : Given
       -- [the code; the records; the words; the locals], of which 23 is the test
       abbrev Ctx : Bool → List (Item 𝓤)
       Ctx y = ‵ (In (shrRef Code) h-code code) ∷ ‵ (In (shrSlice Rec) h-records records) ∷ ‵ (In (mutRef Words) h-words words) ∷ fr 𝓤 H
-          (tysOf (mine.function .locals)) β (none ∷ some (h-code .val) ∷ some (h-words .val) ∷ some (h-records .val) ∷ some (nows .val here) ∷ some
+          (tysOf (mine.function .locals)) β (none ∷ some (h-code .val) ∷ some (h-words .val) ∷ some (h-records .val) ∷ some (registers .val here) ∷ some
           (vint w64 own) ∷ some (vint w64 class) ∷ none ∷ none ∷ none ∷ none ∷ none ∷ none ∷ none ∷ none ∷ none ∷ none ∷ none ∷ none ∷ none ∷ none ∷ none ∷ none ∷ some (vbool y) ∷ []) ∷ []
 
       module _ (y : Bool) (q : Post 𝓤 H) (same : post 𝓤 H q returned ≡ atReturn 𝓤 H E# Kf returned) where
@@ -345,7 +345,7 @@ module _ {M : Type 1} (𝓤 : URA M) (H : Heap 𝓤) (A : Atoms 𝓤) (W : Given
             (tt, tt),
             (
               (tt, (tt, (record { fits = room-records .0 }, tt))),
-              (typed 𝓤 H A W nows here g-here, (typed 𝓤 H A W usizes own g-own, (typed 𝓤 H A W usizes class g-class, tt))),
+              (typed 𝓤 H A W registers here g-here, (typed 𝓤 H A W usizes own g-own, (typed 𝓤 H A W usizes class g-class, tt))),
             ),
           ),
         ) (λ β. move ! (1 ∷ 3 ∷ 2 ∷ []) $
@@ -366,15 +366,15 @@ module _ {M : Type 1} (𝓤 : URA M) (H : Heap 𝓤) (A : Atoms 𝓤) (W : Given
     (known-came-to : Triple 𝓤 (𝓣 .C #came-to) (Calls-came-to 𝓤 H A mem run)) where
   walks : Walks 𝓤 H A f.ended stayed (WpFn 𝓤 H (𝓣 .C) (𝓣 .Λ) mine.function) (f.clauses 𝓤 H A mem run)
   walks = walked 𝓤 H A f.ended stayed (f.clauses 𝓤 H A mem run) (WpFn 𝓤 H (𝓣 .C) (𝓣 .Λ) mine.function)
-      (λ κs. (ptr-vals, (ptr-vals, (slice-vals, ((λ (x : Now). nows .val x ∷ []), ((λ (x : ℕ). usizes .val x ∷ []), ((λ (x : ℕ). usizes .val x ∷ []), tt)))))))
-      (λ κs. (shr-tells (named 0) (κs .0) Code, (mut-tells (named 1) (κs .1 .0) Words, (shr-slice-tells (named 2) (κs .1 .1 .0) Rec, (nows .tells, (usizes .tells, (usizes .tells, tt)))))))
+      (λ κs. (ptr-vals, (ptr-vals, (slice-vals, ((λ (x : Registers). registers .val x ∷ []), ((λ (x : ℕ). usizes .val x ∷ []), ((λ (x : ℕ). usizes .val x ∷ []), tt)))))))
+      (λ κs. (shr-tells (named 0) (κs .0) Code, (mut-tells (named 1) (κs .1 .0) Words, (shr-slice-tells (named 2) (κs .1 .1 .0) Rec, (registers .tells, (usizes .tells, (usizes .tells, tt)))))))
       (λ κs qs bounds a g are. needs 𝓤 (Summing ((a .0) .now) ((a .1 .0) .now) ((a .1 .1 .0) .now) (a .1 .1 .1 .0) (a .1 .1 .1 .1 .0) (a .1 .1 .1 .1 .1 .0)) _ (λ l. walk 𝓤 H A W mem run (κs .0) (κs .1 .0) (κs .1 .1 .0) (qs .0) (qs .1 .0) (qs .1 .1 .0)
       (a .0) (a .1 .0) (a .1 .1 .0) (a .1 .1 .1 .0) (a .1 .1 .1 .1 .0) (a .1 .1 .1 .1 .1 .0)
       (are .1 .1 .0 .0 .1) (are .1 .1 .1 .0) (are .1 .1 .1 .1 .0) (are .1 .1 .1 .1 .1 .0) l (𝓣 .C) (𝓣 .Λ) (fmOf 𝓤 H (W .laws) 𝓣)
       known-first-cell known-do-add known-do-compare known-do-subtract known-do-arithmetic-formal known-came-to))
 
   meets : Meets 𝓤 H A f.signature (WpFn 𝓤 H (𝓣 .C) (𝓣 .Λ) mine.function) (f.spec 𝓤 H A mem run)
-  meets = walk-meets 𝓤 H A f.ended stayed W (goes-none-ref 𝓤 H A W 3 (0 ∷ []) tt (arrayOf (plain (λ _. u32)) 4096) yes, (goes-gave-ref 𝓤 H A W 3 1 tt (arrayOf (plain (λ _. i32)) 8224), (goes-none-slice 𝓤 H A W 3 (2 ∷ []) tt (plain (λ _. recs .type)) yes, (goes-none 𝓤 H A W 3 (λ _. nows .type) yes (λ κs x f. refl), (goes-none 𝓤 H A W 3 (λ _. usizes .type) yes (λ κs x f. refl), (goes-none 𝓤 H A W 3 (λ _. usizes .type) yes (λ κs x f. refl), tt))))))
+  meets = walk-meets 𝓤 H A f.ended stayed W (goes-none-ref 𝓤 H A W 3 (0 ∷ []) tt (arrayOf (plain (λ _. u32)) 4096) yes, (goes-gave-ref 𝓤 H A W 3 1 tt (arrayOf (plain (λ _. i32)) 8224), (goes-none-slice 𝓤 H A W 3 (2 ∷ []) tt (plain (λ _. recs .type)) yes, (goes-none 𝓤 H A W 3 (λ _. registers .type) yes (λ κs x f. refl), (goes-none 𝓤 H A W 3 (λ _. usizes .type) yes (λ κs x f. refl), (goes-none 𝓤 H A W 3 (λ _. usizes .type) yes (λ κs x f. refl), tt))))))
       (f.clauses 𝓤 H A mem run) (WpFn 𝓤 H (𝓣 .C) (𝓣 .Λ) mine.function) (WpFn-mono 𝓤 H (W .laws) 𝓣 mine.function) walks
 
 pub summed-spec : {M : Type 1} → stated.statement M

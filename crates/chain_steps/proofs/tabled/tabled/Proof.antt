@@ -48,9 +48,9 @@ use Rattle.activations.specs.declared.Activation.{Activation}
 use Rattle.acting.specs.declared.Move.{Move}
 use Rattle.acting.specs.Acting.{opOf}
 use Rattle.chain_statements.specs.Asking.{Ready, Leads, Did, classOf}
-use Rattle.links.specs.declared.Now.{Now}
+use Rattle.run_state.specs.declared.Registers.{Registers}
 use Rattle.links.specs.Finding.{firstCell, Named}
-use Rattle.links.proofs.Rows.{Code, Words, Rec, recs, nows, fields-of-now}
+use Rattle.links.proofs.Rows.{Code, Words, Rec, recs, registers, fields-of-registers}
 use Rattle.chain_steps.proofs.Rows.{moves, moveds}
 use Rattle.chain_steps.specs.declared.turn.Moved.{Moved}
 use Rattle.chain_steps.specs.Moved.{movedBy}
@@ -79,8 +79,7 @@ use Rattle.chain_steps.proofs.tabled.tabled.Code as mine
 use Rattle.chain_steps.proofs.tabled.tabled.Code.Mir as mir′
 
 -- Facts, from what the functions that are called say
-module _ {code : List ℕ} {words : List ℤ} {records : List Activation} {table : List ℤ} {group limit : ℕ} {here : Now}
-    (s : Stating code words records table group limit here) where
+module _ {code : List ℕ} {words : List ℤ} {records : List Activation} {limit : ℕ} {here : Registers} (s : Stating code words records limit here) where
   abbrev At : ℕ → ℕ → Type 0
   At first i = first ≡ firstCell records (here .live) (here .level) (getD code (here .at + i) 0)
 
@@ -131,13 +130,12 @@ arm return = skip
 arm (call g xs d) = skip
 
 abbrev stayed : Stays (f.ended .signature .params) (f.ended .kept)
-stayed = (stay-none-ref (0 ∷ []) tt (arrayOf (plain (λ _. u32)) 4096) yes, (gave-ref (1 ∷ []) tt (arrayOf (plain (λ _. i32)) 8224), (stay-none-slice (2 ∷ []) tt (plain (λ _. recs .type)) yes, (gave-slice (3 ∷ []) tt (plain (λ _. i32)), (stay-none (λ _. words32 .type) yes, (stay-none (λ _. nows .type) yes, (stay-none (λ _. usizes .type) yes, (stay-none (λ _. usizes .type) yes, tt))))))))
+stayed = (stay-none-ref (0 ∷ []) tt (arrayOf (plain (λ _. u32)) 4096) yes, (stay-none-ref (1 ∷ []) tt (arrayOf (plain (λ _. i32)) 8224) yes, (stay-none-slice (2 ∷ []) tt (plain (λ _. recs .type)) yes, (stay-none (λ _. registers .type) yes, (stay-none (λ _. usizes .type) yes, (stay-none (λ _. usizes .type) yes, tt))))))
 
 module _ {M : Type 1} (𝓤 : URA M) (H : Heap 𝓤) (A : Atoms 𝓤) (W : Given 𝓤 H A) (mem : Memory → SProp 𝓤) (run : Routine → Fun 𝓤)
-    (κ0 κ1 κ2 κ3 : Lft) (q0 q1 q2 q3 : Share) (code# : RefT (List ℕ)) (words# : RefT (List ℤ)) (records# : RefT (List Activation)) (table# : RefT (List ℤ))
-    (group : ℕ) (here : Now) (own : ℕ) (class : ℕ)
-    (room-records : Room Rec (length (records# .now))) (room-table : Room i32 (length (table# .now))) (g-group : Good words32 group) (g-here : Good nows here) (g-own : Good usizes own) (g-class : Good usizes class)
-    (pre : Tabling (code# .now) (words# .now) (records# .now) (table# .now) group here own class) where
+    (κ0 κ1 κ2 : Lft) (q0 q1 q2 : Share) (code# : RefT (List ℕ)) (words# : RefT (List ℤ)) (records# : RefT (List Activation)) (here : Registers) (own : ℕ) (class : ℕ)
+    (room-records : Room Rec (length (records# .now))) (g-here : Good registers here) (g-own : Good usizes own) (g-class : Good usizes class)
+    (pre : Tabling (code# .now) (words# .now) (records# .now) here own class) where
   abbrev h-code : Loan
   h-code = loanRef κ0 q0 code#
 
@@ -156,14 +154,8 @@ module _ {M : Type 1} (𝓤 : URA M) (H : Heap 𝓤) (A : Atoms 𝓤) (W : Given
   abbrev records : List Activation
   records = records# .now
 
-  abbrev h-table : Loan
-  h-table = loanSlice κ3 q3 table#
-
-  abbrev table : List ℤ
-  table = table# .now
-
   abbrev ps : List Par
-  ps = brw (shrRef Code) h-code code ∷ brw (mutRef Words) h-words words ∷ brw (shrSlice Rec) h-records records ∷ brw (mutSlice i32) h-table table ∷ dat words32 group ∷ dat nows here ∷ dat usizes own ∷ dat usizes class ∷ []
+  ps = brw (shrRef Code) h-code code ∷ brw (shrRef Words) h-words words ∷ brw (shrSlice Rec) h-records records ∷ dat registers here ∷ dat usizes own ∷ dat usizes class ∷ []
 
   abbrev bound : walkOf 𝓤 H A f.ended stayed (f.clauses 𝓤 H A mem run) .Ghost
   bound = ((lfts ps, shares ps, tt, denots 0 ps, valss 0 ps), tt)
@@ -171,16 +163,12 @@ module _ {M : Type 1} (𝓤 : URA M) (H : Heap 𝓤) (A : Atoms 𝓤) (W : Given
   abbrev Kf : Val → SProp 𝓤
   Kf = walkOf 𝓤 H A f.ended stayed (f.clauses 𝓤 H A mem run) .post bound
 
-  abbrev Said : Moved → List ℤ → List ℤ → Type 0
-  Said r words′ table′ = (w : Tabling code words records table group here own class)
-      → Does (happening code words records table group (w .limit) here) words here r words′ table′
+  abbrev Said : Moved → Type 0
+  Said r = (w : Tabling code words records here own class) → Does (happening code words records (w .limit) here) words here r words
 
-  exits : (r : Moved) (words′ table′ : List ℤ) → length table′ ≡ length table → Good moveds r → Said r words′ table′
-      → ent 𝓤 (⋆ 𝓤 H A (outs 𝓤 0 ps (tt, (words′, (tt, (table′, (tt, (tt, (tt, (tt, tt)))))))))) (Kf (moveds .val r))
-  exits r words′ table′ same good says = via 𝓤 _ (leaves-with 𝓤 H A W ps (tt, (words′, (tt, (table′, (tt, (tt, (tt, (tt, tt))))))))
-      (g-group, (g-here, (g-own, (g-class, tt)))) moveds r good (Said r words′ table′) says)
-      (ends-at 𝓤 H A f.ended stayed (f.clauses 𝓤 H A mem run) W bound (moveds .val r) r (tt, (words′, (tt, (table′, (tt, (tt, (tt, (tt, tt))))))))
-      (tt, (tt, (tt, (same, (tt, (tt, (tt, (tt, tt)))))))))
+  exits : (r : Moved) → Good moveds r → Said r → ent 𝓤 (⋆ 𝓤 H A (outs 𝓤 0 ps (tt, (tt, (tt, (tt, (tt, (tt, tt)))))))) (Kf (moveds .val r))
+  exits r good says = via 𝓤 _ (leaves-with 𝓤 H A W ps (tt, (tt, (tt, (tt, (tt, (tt, tt)))))) (g-here, (g-own, (g-class, tt))) moveds r good (Said r) says)
+      (ends-at 𝓤 H A f.ended stayed (f.clauses 𝓤 H A mem run) W bound (moveds .val r) r (tt, (tt, (tt, (tt, (tt, (tt, tt)))))) (tt, (tt, (tt, (tt, (tt, (tt, tt)))))))
 
   abbrev firstOf : ℕ → ℕ
   firstOf = firstCell records (here .live) (here .level)
@@ -189,7 +177,7 @@ module _ {M : Type 1} (𝓤 : URA M) (H : Heap 𝓤) (A : Atoms 𝓤) (W : Given
   own-is = pre .chosen .own-is
 
   abbrev W# : Type 0
-  W# = Tabling code words records table group here own class
+  W# = Tabling code words records here own class
 
   is-class : (n : ℕ) → class ≡ n → classOf (opOf (getD code (here .at) 0)) ≡ n
   is-class n e = sym (pre .chosen .class-is) ∙ e
@@ -200,32 +188,26 @@ module _ {M : Type 1} (𝓤 : URA M) (H : Heap 𝓤) (A : Atoms 𝓤) (W : Given
   asking : (w : W#) → class ≡ 7 → acts.Query (w .stating)
   asking w e = acts.queries (w .stating) (sym (w .chosen .class-is) ∙ e)
 
-  so : (r : Move) (m : Moved) → m ≡ movedBy here r → {words′ table′ : List ℤ}
-      → ((w : W#) → Did (happening code words records table group (w .limit) here) words r words′ table′) → Said m words′ table′
+  so : (r : Move) (m : Moved) → m ≡ movedBy here r → ((w : W#) → Did (happening code words records (w .limit) here) words r words) → Said m
   so r m e did w = record { move = r; did = did w; so = e }
 
   g-at : Good usizes (here .at)
-  g-at = fields-of-now here g-here .1 .0
-
-  g-pairs : Good usizes (here .pairs)
-  g-pairs = fields-of-now here g-here .1 .1 .1 .0
+  g-at = fields-of-registers here g-here .1 .0
 
   small : (n : ℕ) → n < 2 ^ 64 → Good usizes n
   small n h = (refl, h)
 
   abbrev for-first-cell : ℕ → List Par
-  for-first-cell field = brw (shrRef Code) h-code code ∷ brw (shrSlice Rec) h-records records ∷ dat nows here ∷ dat usizes own ∷ dat usizes field ∷ []
+  for-first-cell field = brw (shrRef Code) h-code code ∷ brw (shrSlice Rec) h-records records ∷ dat registers here ∷ dat usizes own ∷ dat usizes field ∷ []
 
-  abbrev for-act-pair : ℕ → GName → ℕ → ℕ → List Par
-  for-act-pair ν δ a b = brw (shrRef Code) h-code code ∷ brw (shrRef Words) (relent h-words ν δ) words ∷ brw (mutSlice i32) h-table table ∷ dat usizes
-      (here .pairs) ∷ dat words32 group ∷ dat usizes (here .at) ∷ dat usizes a ∷ dat usizes b ∷ []
+  abbrev for-act-pair : ℕ → ℕ → List Par
+  for-act-pair a b = brw (shrRef Code) h-code code ∷ brw (shrRef Words) h-words words ∷ dat usizes (here .at) ∷ dat usizes a ∷ dat usizes b ∷ []
 
-  abbrev for-do-query : ℕ → GName → ℕ → ℕ → ℕ → List Par
-  for-do-query ν δ a b c = brw (shrRef Code) h-code code ∷ brw (mutRef Words) h-words words ∷ brw (shrSlice i32) (relent h-table ν δ) table ∷ dat usizes
-      (here .pairs) ∷ dat usizes (here .at) ∷ dat usizes a ∷ dat usizes b ∷ dat usizes c ∷ []
+  abbrev for-do-query : ℕ → ℕ → ℕ → List Par
+  for-do-query a b c = brw (shrRef Code) h-code code ∷ brw (shrRef Words) h-words words ∷ dat usizes (here .at) ∷ dat usizes a ∷ dat usizes b ∷ dat usizes c ∷ []
 
   abbrev for-came-to : Move → List Par
-  for-came-to r = dat nows here ∷ dat moves r ∷ []
+  for-came-to r = dat registers here ∷ dat moves r ∷ []
 
   module _ (C : Calls 𝓤 H) (Λ : Loops 𝓤 H) (fm : FmC 𝓤 H (W .laws) C)
       (known-first-cell : Triple 𝓤 (C #first-cell) (Calls-first-cell 𝓤 H A mem run))
@@ -236,92 +218,71 @@ module _ {M : Type 1} (𝓤 : URA M) (H : Heap 𝓤) (A : Atoms 𝓤) (W : Given
       abbrev E# : List (Ty × ℕ)
       E# = envAt (tysOf (mine.function .locals)) β
 
-      -- [the code; the records; the words; the table; the locals], of which 16 is the test
+      -- [the code; the records; the words; the locals], of which 14 is the test
       abbrev Ctx : Bool → List (Item 𝓤)
-      Ctx y = ‵ (In (shrRef Code) h-code code) ∷ ‵ (In (shrSlice Rec) h-records records) ∷ ‵ (In (mutRef Words) h-words words) ∷ ‵
-          (In (mutSlice i32) h-table table) ∷ fr 𝓤 H (tysOf (mine.function .locals)) β (none ∷ some (h-code .val) ∷ some (h-words .val) ∷ some
-          (h-records .val) ∷ some (h-table .val) ∷ some (vint w32 group) ∷ some (nows .val here) ∷ some (vint w64 own) ∷ some (vint w64 class) ∷ none ∷ none ∷ none ∷ none ∷ none ∷ none ∷ none ∷ some
-          (vbool y) ∷ []) ∷ []
+      Ctx y = ‵ (In (shrRef Code) h-code code) ∷ ‵ (In (shrSlice Rec) h-records records) ∷ ‵ (In (shrRef Words) h-words words) ∷
+          fr 𝓤 H (tysOf (mine.function .locals)) β (none ∷ some (h-code .val) ∷ some (h-words .val) ∷ some (h-records .val) ∷ some (registers .val here) ∷ some
+          (vint w64 own) ∷ some (vint w64 class) ∷ none ∷ none ∷ none ∷ none ∷ none ∷ none ∷ none ∷ some (vbool y) ∷ []) ∷ []
 
       pairs : (y : Bool) (q : Post 𝓤 H) (same : post 𝓤 H q returned ≡ atReturn 𝓤 H E# Kf returned) → class ≡ 6
           → Sq W (Ctx y) (runs C Λ E# (arm mir′.s-2) q)
       pairs y q same e =
           calls-by ! fm (Calls-first-cell 𝓤 H A mem run) known-first-cell (to (for-first-cell 1)) (for-first-cell 1) refl (g-here, (g-own, (small 1 (omega arith), tt))) _
           (two-named (pre .stating) (is-class 6 e) .0, own-is) (id⊢ 𝓤 _) usizes _ (λ v. id⊢ 𝓤 _)
-          (and-then ! (var ! 4 1 refl refl tt) (and-then ! (var ! 4 3 refl refl tt) (and-then ! (var ! 4 6 refl refl tt) (and-then ! (var ! 4 7 refl refl tt) (and-then ! (lit ! tt) (no-more !)))))) (λ a _ g-a a-is _.
-          lands-in ! 4 9 refl tt (typed 𝓤 H A W usizes a g-a) $
+          (and-then ! (var ! 3 1 refl refl tt) (and-then ! (var ! 3 3 refl refl tt) (and-then ! (var ! 3 4 refl refl tt) (and-then ! (var ! 3 5 refl refl tt) (and-then ! (lit ! tt) (no-more !)))))) (λ a _ g-a a-is _.
+          lands-in ! 3 7 refl tt (typed 𝓤 H A W usizes a g-a) $
           calls-by ! fm (Calls-first-cell 𝓤 H A mem run) known-first-cell (to (for-first-cell 2)) (for-first-cell 2) refl (g-here, (g-own, (small 2 (omega arith), tt))) _
           (two-named (pre .stating) (is-class 6 e) .1, own-is) (id⊢ 𝓤 _) usizes _ (λ v. id⊢ 𝓤 _)
-          (and-then ! (var ! 4 1 refl refl tt) (and-then ! (var ! 4 3 refl refl tt) (and-then ! (var ! 4 6 refl refl tt) (and-then ! (var ! 4 7 refl refl tt) (and-then ! (lit ! tt) (no-more !)))))) (λ b _ g-b b-is _.
-          lands-in ! 4 10 refl tt (typed 𝓤 H A W usizes b g-b) $
-          puts ! 4 17 refl (lent ! 4 2 refl refl tt) tt (tt, tt) $
-          puts ! 4 18 refl (lent-ptr ! 4 4 refl refl tt refl refl) tt (tt, tt) $
-          puts ! 4 19 refl (lent-slice ! 4 4 18 refl refl refl tt tt refl refl) tt (tt, (tt, (record { fits = room-table .0 }, tt))) $
-          move ! (2 ∷ []) $ shares-ref ! tt Words h-words words (λ at-it ν δ. move ! (2 ∷ 0 ∷ 4 ∷ []) $
-          -- [the code; the words, lent; the table; what waits for these; the records; the locals]
-          calls-by ! fm (Calls-act-pair 𝓤 H A mem run) known-act-pair (to (for-act-pair ν δ a b)) (for-act-pair ν δ a b) refl
-          (g-pairs, (g-group, (g-at, (g-a, (g-b, tt))))) _ (asks (pre .stating) 6 a b 0 (is-class 6 e) (two-led (pre .stating) (is-class 6 e) a b a-is b-is))
+          (and-then ! (var ! 3 1 refl refl tt) (and-then ! (var ! 3 3 refl refl tt) (and-then ! (var ! 3 4 refl refl tt) (and-then ! (var ! 3 5 refl refl tt) (and-then ! (lit ! tt) (no-more !)))))) (λ b _ g-b b-is _.
+          lands-in ! 3 8 refl tt (typed 𝓤 H A W usizes b g-b) $
+          move ! (0 ∷ 2 ∷ []) $
+          -- [the code; the words; the records; the locals]
+          calls-by ! fm (Calls-act-pair 𝓤 H A mem run) known-act-pair (to (for-act-pair a b)) (for-act-pair a b) refl
+          (g-at, (g-a, (g-b, tt))) _ (asks (pre .stating) 6 a b 0 (is-class 6 e) (two-led (pre .stating) (is-class 6 e) a b a-is b-is))
           (id⊢ 𝓤 _) moves _ (λ v. id⊢ 𝓤 _)
-          (and-then ! (var ! 5 1 refl refl tt) (and-then ! (var ! 5 17 refl refl tt) (and-then ! (var ! 5 19 refl refl tt) (and-then ! (part ! 5 6 3 refl refl tt refl refl refl) (and-then ! (var ! 5 5 refl refl tt) (and-then ! (part ! 5 6 1 refl refl tt refl refl refl) (and-then ! (var ! 5 9 refl refl tt) (and-then ! (var ! 5 10 refl refl tt) (no-more !))))))))) (λ r ws good did same-long.
-          lands-in ! 5 11 refl tt (typed 𝓤 H A W moves r good) $
+          (and-then ! (var ! 3 1 refl refl tt) (and-then ! (var ! 3 2 refl refl tt) (and-then ! (part ! 3 4 1 refl refl tt refl refl refl) (and-then ! (var ! 3 7 refl refl tt) (and-then ! (var ! 3 8 refl refl tt) (no-more !)))))) (λ r _ good did _.
+          lands-in ! 3 9 refl tt (typed 𝓤 H A W moves r good) $
           calls-by ! fm (Calls-came-to 𝓤 H A mem run) known-came-to (to (for-came-to r)) (for-came-to r) refl (g-here, (good, tt)) (Unit {0}) tt
-          (asks-all 𝓤 H A (for-came-to r) []) moveds _ (λ v. id⊢ 𝓤 _) (and-then ! (var ! 5 6 refl refl tt) (and-then ! (var ! 5 11 refl refl tt) (no-more !)))
+          (asks-all 𝓤 H A (for-came-to r) []) moveds _ (λ v. id⊢ 𝓤 _) (and-then ! (var ! 3 4 refl refl tt) (and-then ! (var ! 3 9 refl refl tt) (no-more !)))
           (λ m _ g-m m-is _.
-          lands-in ! 5 0 refl tt (typed 𝓤 H A W moveds m g-m) $ move ! (1 ∷ 3 ∷ []) $ unshares-ref ! tt Words h-words words ν δ at-it $
-          ends-early ! 4 Kf same refl refl tt $ gives ! (mutRef Words) h-words words $ move ! (1 ∷ 0 ∷ 3 ∷ 2 ∷ []) $
-          by ! (exits m words (ws .1 .1 .0) (same-long .1 .1 .0) g-m (so r m m-is (λ w. did firstOf (w .limit) (here .live)
-          (two-led (pre .stating) (is-class 6 e) a b a-is b-is)))))))))
+          lands-in ! 3 0 refl tt (typed 𝓤 H A W moveds m g-m) $
+          ends-early ! 3 Kf same refl refl tt $
+          by ! (exits m g-m (so r m m-is (λ w. did firstOf (w .limit) (here .live) (two-led (pre .stating) (is-class 6 e) a b a-is b-is))))))))
 
       queries : (y : Bool) → class ≡ 7 → Sq W (Ctx y) (runs C Λ E# mir′.t-3 (atRet E# Kf))
       queries y e =
           calls-by ! fm (Calls-first-cell 𝓤 H A mem run) known-first-cell (to (for-first-cell 1)) (for-first-cell 1) refl (g-here, (g-own, (small 1 (omega arith), tt))) _
           (asking pre e .named .0, own-is) (id⊢ 𝓤 _) usizes _ (λ v. id⊢ 𝓤 _)
-          (and-then ! (var ! 4 1 refl refl tt) (and-then ! (var ! 4 3 refl refl tt) (and-then ! (var ! 4 6 refl refl tt) (and-then ! (var ! 4 7 refl refl tt) (and-then ! (lit ! tt) (no-more !)))))) (λ a _ g-a a-is _.
-          lands-in ! 4 12 refl tt (typed 𝓤 H A W usizes a g-a) $
+          (and-then ! (var ! 3 1 refl refl tt) (and-then ! (var ! 3 3 refl refl tt) (and-then ! (var ! 3 4 refl refl tt) (and-then ! (var ! 3 5 refl refl tt) (and-then ! (lit ! tt) (no-more !)))))) (λ a _ g-a a-is _.
+          lands-in ! 3 10 refl tt (typed 𝓤 H A W usizes a g-a) $
           calls-by ! fm (Calls-first-cell 𝓤 H A mem run) known-first-cell (to (for-first-cell 2)) (for-first-cell 2) refl (g-here, (g-own, (small 2 (omega arith), tt))) _
           (asking pre e .named .1, own-is) (id⊢ 𝓤 _) usizes _ (λ v. id⊢ 𝓤 _)
-          (and-then ! (var ! 4 1 refl refl tt) (and-then ! (var ! 4 3 refl refl tt) (and-then ! (var ! 4 6 refl refl tt) (and-then ! (var ! 4 7 refl refl tt) (and-then ! (lit ! tt) (no-more !)))))) (λ b _ g-b b-is _.
-          lands-in ! 4 13 refl tt (typed 𝓤 H A W usizes b g-b) $
+          (and-then ! (var ! 3 1 refl refl tt) (and-then ! (var ! 3 3 refl refl tt) (and-then ! (var ! 3 4 refl refl tt) (and-then ! (var ! 3 5 refl refl tt) (and-then ! (lit ! tt) (no-more !)))))) (λ b _ g-b b-is _.
+          lands-in ! 3 11 refl tt (typed 𝓤 H A W usizes b g-b) $
           calls-by ! fm (Calls-first-cell 𝓤 H A mem run) known-first-cell (to (for-first-cell 3)) (for-first-cell 3) refl (g-here, (g-own, (small 3 (omega arith), tt))) _
           (asking pre e .named .2, own-is) (id⊢ 𝓤 _) usizes _ (λ v. id⊢ 𝓤 _)
-          (and-then ! (var ! 4 1 refl refl tt) (and-then ! (var ! 4 3 refl refl tt) (and-then ! (var ! 4 6 refl refl tt) (and-then ! (var ! 4 7 refl refl tt) (and-then ! (lit ! tt) (no-more !)))))) (λ c _ g-c c-is _.
-          lands-in ! 4 14 refl tt (typed 𝓤 H A W usizes c g-c) $
-          puts ! 4 20 refl (lent ! 4 2 refl refl tt) tt (tt, tt) $
-          puts ! 4 21 refl (lent-ptr ! 4 4 refl refl tt refl refl) tt (tt, tt) $
-          puts ! 4 22 refl (lent-slice ! 4 4 21 refl refl refl tt tt refl refl) tt (tt, (tt, (record { fits = room-table .0 }, tt))) $
-          move ! (3 ∷ []) $ shares-slice ! tt i32 h-table table (λ ν δ. move ! (2 ∷ 4 ∷ 0 ∷ []) $
-          -- [the code; the words; the table, lent; what waits for it; the records; the locals]
-          calls-by ! fm (Calls-do-query 𝓤 H A mem run) known-do-query (to (for-do-query ν δ a b c)) (for-do-query ν δ a b c) refl
-          (g-pairs, (g-at, (g-a, (g-b, (g-c, tt))))) _ (asking pre e .asks a b c a-is b-is c-is) (id⊢ 𝓤 _) moves _ (λ v. id⊢ 𝓤 _)
-          (and-then ! (var ! 5 1 refl refl tt) (and-then ! (var ! 5 20 refl refl tt) (and-then ! (var ! 5 22 refl refl tt) (and-then ! (part ! 5 6 3 refl refl tt refl refl refl) (and-then ! (part ! 5 6 1 refl refl tt refl refl refl) (and-then ! (var ! 5 12 refl refl tt) (and-then ! (var ! 5 13 refl refl tt) (and-then ! (var ! 5 14 refl refl tt) (no-more !)))))))))
-          (λ r ws good did _.
-          lands-in ! 5 15 refl tt (typed 𝓤 H A W moves r good) $
+          (and-then ! (var ! 3 1 refl refl tt) (and-then ! (var ! 3 3 refl refl tt) (and-then ! (var ! 3 4 refl refl tt) (and-then ! (var ! 3 5 refl refl tt) (and-then ! (lit ! tt) (no-more !)))))) (λ c _ g-c c-is _.
+          lands-in ! 3 12 refl tt (typed 𝓤 H A W usizes c g-c) $
+          move ! (0 ∷ 2 ∷ []) $
+          -- [the code; the words; the records; the locals]
+          calls-by ! fm (Calls-do-query 𝓤 H A mem run) known-do-query (to (for-do-query a b c)) (for-do-query a b c) refl
+          (g-at, (g-a, (g-b, (g-c, tt)))) _ (asking pre e .asks a b c a-is b-is c-is) (id⊢ 𝓤 _) moves _ (λ v. id⊢ 𝓤 _)
+          (and-then ! (var ! 3 1 refl refl tt) (and-then ! (var ! 3 2 refl refl tt) (and-then ! (part ! 3 4 1 refl refl tt refl refl refl) (and-then ! (var ! 3 10 refl refl tt) (and-then ! (var ! 3 11 refl refl tt) (and-then ! (var ! 3 12 refl refl tt) (no-more !)))))))
+          (λ r _ good did _.
+          lands-in ! 3 13 refl tt (typed 𝓤 H A W moves r good) $
           calls-by ! fm (Calls-came-to 𝓤 H A mem run) known-came-to (to (for-came-to r)) (for-came-to r) refl (g-here, (good, tt)) (Unit {0}) tt
-          (asks-all 𝓤 H A (for-came-to r) []) moveds _ (λ v. id⊢ 𝓤 _) (and-then ! (var ! 5 6 refl refl tt) (and-then ! (var ! 5 15 refl refl tt) (no-more !)))
+          (asks-all 𝓤 H A (for-came-to r) []) moveds _ (λ v. id⊢ 𝓤 _) (and-then ! (var ! 3 4 refl refl tt) (and-then ! (var ! 3 13 refl refl tt) (no-more !)))
           (λ m _ g-m m-is _.
-          lands-in ! 5 0 refl tt (typed 𝓤 H A W moveds m g-m) $ move ! (2 ∷ 3 ∷ []) $ unshares-slice ! tt i32 h-table table ν δ $
-          ends ! 4 refl refl tt $ gives ! (mutSlice i32) h-table table $ move ! (1 ∷ 2 ∷ 3 ∷ 0 ∷ []) $
-          by ! (exits m (ws .1 .0) table refl g-m (so r m m-is (λ w. asking w e .did (did firstOf a-is b-is c-is))))))))))
+          lands-in ! 3 0 refl tt (typed 𝓤 H A W moveds m g-m) $
+          ends ! 3 refl refl tt $
+          by ! (exits m g-m (so r m m-is (λ w. asking w e .did (did firstOf a-is b-is c-is, refl)))))))))
 
     walk : ent 𝓤 (onEntry 𝓤 H A f.signature (lfts ps) (shares ps) (denots 0 ps) (valss 0 ps)) (WpFn 𝓤 H C Λ mine.function (vals ps) Kf)
     walk = via 𝓤 (⋆ 𝓤 H A (ins 𝓤 ps)) (arrives 𝓤 H A W 0 ps) (qed W (ins 𝓤 ps) ∵
-        begins ! C Λ mine.function (vals ps) Kf (
-          (tt, tt),
-          (
-            (tt, tt),
-            (
-              (tt, (tt, (record { fits = room-records .0 }, tt))),
-              (
-                (tt, (tt, (record { fits = room-table .0 }, tt))),
-                (
-                  typed 𝓤 H A W words32 group g-group,
-                  (typed 𝓤 H A W nows here g-here, (typed 𝓤 H A W usizes own g-own, (typed 𝓤 H A W usizes class g-class, tt))),
-                ),
-              ),
-            ),
-          ),
-        ) (λ β. move ! (1 ∷ 3 ∷ 2 ∷ 4 ∷ []) $
-        puts ! 4 16 refl (bin ! (var ! 4 8 refl refl tt) (lit ! tt) tt) tt (tt, tt) $ if-then ! (var ! 4 16 refl refl tt)
+        begins ! C Λ mine.function (vals ps) Kf
+        ((tt, tt), ((tt, tt), ((tt, (tt, (record { fits = room-records .0 }, tt))), (typed 𝓤 H A W registers here g-here, (typed 𝓤 H A W usizes own g-own, (typed 𝓤 H A W usizes class g-class, tt))))))
+        (λ β. move ! (1 ∷ 3 ∷ 2 ∷ []) $
+        puts ! 3 14 refl (bin ! (var ! 3 6 refl refl tt) (lit ! tt) tt) tt (tt, tt) $ if-then ! (var ! 3 14 refl refl tt)
         (λ y. pairs β _ _ refl (eqb→eq class 6 y)) (λ y. queries β _ (seven (eqb-false class 6 (untold _ y))))))
 
 module _ {M : Type 1} (𝓤 : URA M) (H : Heap 𝓤) (A : Atoms 𝓤) (W : Given 𝓤 H A) (mem : Memory → SProp 𝓤) (run : Routine → Fun 𝓤) (𝓣 : Tables 𝓤 H)
@@ -331,16 +292,15 @@ module _ {M : Type 1} (𝓤 : URA M) (H : Heap 𝓤) (A : Atoms 𝓤) (W : Given
     (known-came-to : Triple 𝓤 (𝓣 .C #came-to) (Calls-came-to 𝓤 H A mem run)) where
   walks : Walks 𝓤 H A f.ended stayed (WpFn 𝓤 H (𝓣 .C) (𝓣 .Λ) mine.function) (f.clauses 𝓤 H A mem run)
   walks = walked 𝓤 H A f.ended stayed (f.clauses 𝓤 H A mem run) (WpFn 𝓤 H (𝓣 .C) (𝓣 .Λ) mine.function)
-      (λ κs. (ptr-vals, (ptr-vals, (slice-vals, (slice-vals, ((λ (x : ℕ). words32 .val x ∷ []), ((λ (x : Now). nows .val x ∷ []), ((λ (x : ℕ). usizes .val x ∷ []), ((λ (x : ℕ). usizes .val x ∷ []), tt)))))))))
-      (λ κs. (shr-tells (named 0) (κs .0) Code, (mut-tells (named 1) (κs .1 .0) Words, (shr-slice-tells (named 2) (κs .1 .1 .0) Rec, (mut-slice-tells (named 3) (κs .1 .1 .1 .0) i32, (words32 .tells, (nows .tells, (usizes .tells, (usizes .tells, tt)))))))))
-      (λ κs qs bounds a g are. needs 𝓤 (Tabling ((a .0) .now) ((a .1 .0) .now) ((a .1 .1 .0) .now) ((a .1 .1 .1 .0) .now) (a .1 .1 .1 .1 .0) (a .1 .1 .1 .1 .1 .0)
-      (a .1 .1 .1 .1 .1 .1 .0) (a .1 .1 .1 .1 .1 .1 .1 .0)) _ (λ l. walk 𝓤 H A W mem run (κs .0) (κs .1 .0) (κs .1 .1 .0) (κs .1 .1 .1 .0) (qs .0) (qs .1 .0) (qs .1 .1 .0) (qs .1 .1 .1 .0)
-      (a .0) (a .1 .0) (a .1 .1 .0) (a .1 .1 .1 .0) (a .1 .1 .1 .1 .0) (a .1 .1 .1 .1 .1 .0) (a .1 .1 .1 .1 .1 .1 .0) (a .1 .1 .1 .1 .1 .1 .1 .0)
-      (are .1 .1 .0 .0 .1) (are .1 .1 .1 .0 .0 .1) (are .1 .1 .1 .1 .0) (are .1 .1 .1 .1 .1 .0) (are .1 .1 .1 .1 .1 .1 .0) (are .1 .1 .1 .1 .1 .1 .1 .0) l (𝓣 .C) (𝓣 .Λ) (fmOf 𝓤 H (W .laws) 𝓣)
+      (λ κs. (ptr-vals, (ptr-vals, (slice-vals, ((λ (x : Registers). registers .val x ∷ []), ((λ (x : ℕ). usizes .val x ∷ []), ((λ (x : ℕ). usizes .val x ∷ []), tt)))))))
+      (λ κs. (shr-tells (named 0) (κs .0) Code, (shr-tells (named 1) (κs .1 .0) Words, (shr-slice-tells (named 2) (κs .1 .1 .0) Rec, (registers .tells, (usizes .tells, (usizes .tells, tt)))))))
+      (λ κs qs bounds a g are. needs 𝓤 (Tabling ((a .0) .now) ((a .1 .0) .now) ((a .1 .1 .0) .now) (a .1 .1 .1 .0) (a .1 .1 .1 .1 .0) (a .1 .1 .1 .1 .1 .0)) _
+      (λ l. walk 𝓤 H A W mem run (κs .0) (κs .1 .0) (κs .1 .1 .0) (qs .0) (qs .1 .0) (qs .1 .1 .0) (a .0) (a .1 .0) (a .1 .1 .0) (a .1 .1 .1 .0) (a .1 .1 .1 .1 .0) (a .1 .1 .1 .1 .1 .0)
+      (are .1 .1 .0 .0 .1) (are .1 .1 .1 .0) (are .1 .1 .1 .1 .0) (are .1 .1 .1 .1 .1 .0) l (𝓣 .C) (𝓣 .Λ) (fmOf 𝓤 H (W .laws) 𝓣)
       known-first-cell known-act-pair known-do-query known-came-to))
 
   meets : Meets 𝓤 H A f.signature (WpFn 𝓤 H (𝓣 .C) (𝓣 .Λ) mine.function) (f.spec 𝓤 H A mem run)
-  meets = walk-meets 𝓤 H A f.ended stayed W (goes-none-ref 𝓤 H A W 4 (0 ∷ []) tt (arrayOf (plain (λ _. u32)) 4096) yes, (goes-gave-ref 𝓤 H A W 4 1 tt (arrayOf (plain (λ _. i32)) 8224), (goes-none-slice 𝓤 H A W 4 (2 ∷ []) tt (plain (λ _. recs .type)) yes, (goes-gave-slice 𝓤 H A W 4 3 tt (plain (λ _. i32)), (goes-none 𝓤 H A W 4 (λ _. words32 .type) yes (λ κs x f. refl), (goes-none 𝓤 H A W 4 (λ _. nows .type) yes (λ κs x f. refl), (goes-none 𝓤 H A W 4 (λ _. usizes .type) yes (λ κs x f. refl), (goes-none 𝓤 H A W 4 (λ _. usizes .type) yes (λ κs x f. refl), tt))))))))
+  meets = walk-meets 𝓤 H A f.ended stayed W (goes-none-ref 𝓤 H A W 3 (0 ∷ []) tt (arrayOf (plain (λ _. u32)) 4096) yes, (goes-none-ref 𝓤 H A W 3 (1 ∷ []) tt (arrayOf (plain (λ _. i32)) 8224) yes, (goes-none-slice 𝓤 H A W 3 (2 ∷ []) tt (plain (λ _. recs .type)) yes, (goes-none 𝓤 H A W 3 (λ _. registers .type) yes (λ κs x f. refl), (goes-none 𝓤 H A W 3 (λ _. usizes .type) yes (λ κs x f. refl), (goes-none 𝓤 H A W 3 (λ _. usizes .type) yes (λ κs x f. refl), tt))))))
       (f.clauses 𝓤 H A mem run) (WpFn 𝓤 H (𝓣 .C) (𝓣 .Λ) mine.function) (WpFn-mono 𝓤 H (W .laws) 𝓣 mine.function) walks
 
 pub tabled-spec : {M : Type 1} → stated.statement M

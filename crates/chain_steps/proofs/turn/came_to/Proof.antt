@@ -1,5 +1,4 @@
 -- `came_to` meets its contract.
-use Rattle.chain_steps.specs.Moved.{movedBy}
 use borrow.Author.Needs.{needs}
 use Rattle.chain_steps.proofs.turn.came_to.Statement.{statement}
 use Rattle.chain_steps.proofs.turn.came_to.Tie as tie
@@ -12,9 +11,6 @@ placed-requires c κs = search needs
 
 enum-known-done-2 : tie.Need-enum-known-done-2
 enum-known-done-2 c = search needs
-
-placed-requires-2 : tie.Need-placed-requires-2
-placed-requires-2 c κs = search needs
 
 enum-known-done-3 : tie.Need-enum-known-done-3
 enum-known-done-3 c = search needs
@@ -29,23 +25,18 @@ enum-known-done-5 : tie.Need-enum-known-done-5
 enum-known-done-5 c = search needs
 
 returns : tie.Need-returns
-unfolding movedBy
 returns c = rw (c .placed .ensures, c .before .before .done .given .1)
 
 returns-2 : tie.Need-returns-2
-unfolding movedBy
-returns-2 c = rw (c .placed2 .ensures, c .before .before .done2 .given .1)
+returns-2 c = rw (c .before .done2 .given .1)
 
 returns-3 : tie.Need-returns-3
-unfolding movedBy
 returns-3 c = rw (c .jumped .ensures, c .before .before .done3 .given .1)
 
 returns-4 : tie.Need-returns-4
-unfolding movedBy
 returns-4 c = rw (c .before .done4 .given .1)
 
 returns-5 : tie.Need-returns-5
-unfolding movedBy
 returns-5 c = rw (c .before .done5 .given .1)
 
 pub came-to-spec : {M : Type 1} → statement M
@@ -55,7 +46,6 @@ came-to-spec =
     enum-known-done
     placed-requires
     enum-known-done-2
-    placed-requires-2
     enum-known-done-3
     jumped-requires
     enum-known-done-4

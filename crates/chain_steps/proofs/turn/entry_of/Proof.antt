@@ -1,5 +1,4 @@
 -- `entry_of` meets its contract.
-use Rattle.chain_steps.specs.Moved.{entryIn}
 use borrow.Author.Needs.{needs}
 use Rattle.chain_steps.proofs.turn.entry_of.Statement.{statement}
 use Rattle.chain_steps.proofs.turn.entry_of.Tie as tie
@@ -25,24 +24,42 @@ enum-known-moved-4 c = search needs
 no-entry-requires-3 : tie.Need-no-entry-requires-3
 no-entry-requires-3 c κs = search needs
 
+enum-known-moved-5 : tie.Need-enum-known-moved-5
+enum-known-moved-5 c = search needs
+
+no-entry-requires-4 : tie.Need-no-entry-requires-4
+no-entry-requires-4 c κs = search needs
+
 returns : tie.Need-returns
-unfolding entryIn
-returns c = rw (c .no-entry .ensures, c .before .before .moved .given .1)
+returns c = search needs
 
 returns-2 : tie.Need-returns-2
-unfolding entryIn
-returns-2 c = rw (c .no-entry2 .ensures, c .before .before .moved2 .given .1)
+returns-2 c = search needs
 
 returns-3 : tie.Need-returns-3
-unfolding entryIn
-returns-3 c = rw (c .before .moved3 .given .1)
+returns-3 c = search needs
 
 returns-4 : tie.Need-returns-4
-unfolding entryIn
-returns-4 c = rw (c .no-entry3 .ensures, c .before .before .moved4 .given .1)
+returns-4 c = search needs
+
+returns-5 : tie.Need-returns-5
+returns-5 c = rw (c .no-entry4 .ensures, c .before .before .moved5 .given .1)
 
 pub entry-of-spec : {M : Type 1} → statement M
 entry-of-spec =
     tie.close
-    (tie.spec enum-known-moved no-entry-requires enum-known-moved-2 no-entry-requires-2 enum-known-moved-3 enum-known-moved-4 no-entry-requires-3 returns returns-2 returns-3
-    returns-4)
+    (tie.spec
+    enum-known-moved
+    no-entry-requires
+    enum-known-moved-2
+    no-entry-requires-2
+    enum-known-moved-3
+    enum-known-moved-4
+    no-entry-requires-3
+    enum-known-moved-5
+    no-entry-requires-4
+    returns
+    returns-2
+    returns-3
+    returns-4
+    returns-5)

@@ -1,7 +1,7 @@
 -- `resumed` meets its contract.
 use mathlib.Core.Path.{_∙_, ap}
 use Rattle.links.specs.Running.{nowBy}
-use Rattle.chain_steps.specs.declared.turn.Turn.the-variants.{Went}
+use Rattle.run_state.specs.declared.Turn.the-variants.{Went}
 use borrow.Author.Needs.{needs}
 use Rattle.chain_steps.proofs.turn.resumed.Statement.{statement}
 use Rattle.chain_steps.proofs.turn.resumed.Tie as tie

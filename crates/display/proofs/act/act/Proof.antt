@@ -7,13 +7,13 @@ use lib.IntN.{ℤ}
 use lib.ListN.{getD}
 use Rattle.language.specs.Text.{plus, minus, less}
 use Rattle.acting.specs.declared.Move.{Move}
-use Rattle.acting.specs.Acting.{Finding, Scene, Op, constant-op, add-op, subtract-op, compare-op, branch-op, goto-op, block-op, call-op, pair-op, unpair-op, query-op, constant-formal-op, arithmetic-formal-op, branch-formal-op, goto-formal-op, call-formal-op, operationOf, operations, opOf, happens, acting}
+use Rattle.acting.specs.declared.Ask.the-variants.{Add, Remove}
+use Rattle.acting.specs.Acting.{Finding, Scene, sceneBy, Op, constant-op, add-op, subtract-op, compare-op, branch-op, goto-op, block-op, call-op, pair-op, unpair-op, query-op, constant-formal-op, arithmetic-formal-op, branch-formal-op, goto-formal-op, call-formal-op, operationOf, operations, opOf, happens, acting}
 use Rattle.display.specs.Finding.{firstCell, byDisplay}
-use Rattle.moves.specs.Running.{sceneBy}
 use Rattle.display.specs.Ready.{ready, at-there}
 use Rattle.statements.specs.Words.{home-direct, target-direct}
 use Rattle.statements.specs.Numbers.{op-of, last-op}
-use Rattle.statements.specs.Scenes.{Done, Acted, done, constant-same, arithmetic-same, goto-same, branch-same, block-same, call-same, call-formal-same, add-same, remove-same, query-same, goto-found}
+use Rattle.statements.specs.Scenes.{Done, done, constant-same, arithmetic-same, goto-same, branch-same, block-same, call-same, call-formal-same, change-same, query-same, goto-found}
 use Rattle.display.proofs.act.act.Statement.{statement}
 use Rattle.display.proofs.act.act.Tie as tie
 
@@ -37,8 +37,7 @@ abbrev F : tie.Start → Finding
 F s = byDisplay (s .args .words .now) (s .args .display .now)
 
 abbrev scene : tie.Start → Scene
-scene s = sceneBy (s .args .code .now) (s .args .words .now) (s .args .table .now) (s .args .pairs) (s .args .group) (s .args .limit)
-    (s .args .live) (s .args .at)
+scene s = sceneBy (s .args .code .now) (s .args .words .now) (s .args .limit) (s .args .live) (s .args .at)
 
 -- a goto's label
 abbrev word : tie.Start → ℕ
@@ -47,8 +46,8 @@ word s = getD (s .args .code .now) (s .args .at + 1) 0
 abbrev first : tie.Start → ℕ
 first s = firstCell (s .args .display .now) (word s)
 
-acted : (s : tie.Start) (p : Op) → opOf (getD (s .args .code .now) (s .args .at) 0) ≡ p → (r : Move) (words′ table′ : List ℤ)
-    → Done (happens (F s) (scene s) p) r words′ table′ → Acted (acting (F s) (scene s)) r words′ table′
+acted : (s : tie.Start) (p : Op) → opOf (getD (s .args .code .now) (s .args .at) 0) ≡ p → (r : Move) (words′ : List ℤ)
+    → Done (happens (F s) (scene s) p) r words′ → Done (acting (F s) (scene s)) r words′
 acted s = done (F s) (scene s)
 
 do-constant-requires : tie.Need-do-constant-requires
@@ -83,17 +82,17 @@ do-call-requires : tie.Need-do-call-requires
 unfolding operations
 do-call-requires c κs = ready (c .before .before .before .pre) call-op (op (c .before .before) 7 (c .before .match .keys8))
 
-do-add-pair-requires : tie.Need-do-add-pair-requires
+do-change-requires : tie.Need-do-change-requires
 unfolding operations
-do-add-pair-requires c κs = ready (c .before .before .before .before .pre) pair-op (op (c .before .before .before) 8 (c .before .before .match .keys9))
+do-change-requires c κs = ready (c .before .before .before .pre) pair-op (op (c .before .before) 8 (c .before .match .keys9))
 
-do-remove-pair-requires : tie.Need-do-remove-pair-requires
+do-change-requires-2 : tie.Need-do-change-requires-2
 unfolding operations
-do-remove-pair-requires c κs = ready (c .before .before .before .before .pre) unpair-op (op (c .before .before .before) 9 (c .before .before .match .keys10))
+do-change-requires-2 c κs = ready (c .before .before .before .pre) unpair-op (op (c .before .before) 9 (c .before .match .keys10))
 
 do-query-requires : tie.Need-do-query-requires
 unfolding operations
-do-query-requires c κs = ready (c .before .before .before .before .pre) query-op (op (c .before .before .before) 10 (c .before .before .match .keys11))
+do-query-requires c κs = ready (c .before .before .before .pre) query-op (op (c .before .before) 10 (c .before .match .keys11))
 
 do-constant-formal-requires : tie.Need-do-constant-formal-requires
 unfolding operations
@@ -120,7 +119,7 @@ unfolding operations happens
 returns c =
     let s = c .before .before .before .before in
     let e = op (c .before .before .before) 0 (c .before .before .match .keys1) in
-    acted s constant-op e (c .do-constant .result) (c .do-constant .last .1 .0) (s .args .table .now)
+    acted s constant-op e (c .do-constant .result) (c .do-constant .last .1 .0)
     (constant-same (F s) (scene s) (c .do-constant .result) (c .do-constant .last .1 .0) (c .do-constant .ensures .0) (c .do-constant .ensures .1))
 
 returns-2 : tie.Need-returns-2
@@ -128,7 +127,7 @@ unfolding operations happens
 returns-2 c =
     let s = c .before .before .before .before in
     let e = op (c .before .before .before) 1 (c .before .before .match .keys2) in
-    acted s add-op e (c .do-add .result) (c .do-add .last .1 .0) (s .args .table .now)
+    acted s add-op e (c .do-add .result) (c .do-add .last .1 .0)
     (arithmetic-same (F s) (scene s) plus (c .do-add .result) (c .do-add .last .1 .0) (c .do-add .ensures .0) (c .do-add .ensures .1))
 
 returns-3 : tie.Need-returns-3
@@ -136,7 +135,7 @@ unfolding operations happens
 returns-3 c =
     let s = c .before .before .before .before in
     let e = op (c .before .before .before) 2 (c .before .before .match .keys3) in
-    acted s subtract-op e (c .do-subtract .result) (c .do-subtract .last .1 .0) (s .args .table .now)
+    acted s subtract-op e (c .do-subtract .result) (c .do-subtract .last .1 .0)
     (arithmetic-same (F s) (scene s) minus (c .do-subtract .result) (c .do-subtract .last .1 .0) (c .do-subtract .ensures .0) (c .do-subtract .ensures .1))
 
 returns-4 : tie.Need-returns-4
@@ -144,7 +143,7 @@ unfolding operations happens
 returns-4 c =
     let s = c .before .before .before .before in
     let e = op (c .before .before .before) 3 (c .before .before .match .keys4) in
-    acted s compare-op e (c .do-compare .result) (c .do-compare .last .1 .0) (s .args .table .now)
+    acted s compare-op e (c .do-compare .result) (c .do-compare .last .1 .0)
     (arithmetic-same (F s) (scene s) less (c .do-compare .result) (c .do-compare .last .1 .0) (c .do-compare .ensures .0) (c .do-compare .ensures .1))
 
 returns-5 : tie.Need-returns-5
@@ -152,7 +151,7 @@ unfolding operations happens
 returns-5 c =
     let s = c .before .before .before .before in
     let e = op (c .before .before .before) 4 (c .before .before .match .keys5) in
-    acted s branch-op e (c .do-branch .result) (s .args .words .now) (s .args .table .now)
+    acted s branch-op e (c .do-branch .result) (s .args .words .now)
     (branch-same (F s) (scene s) (c .do-branch .result) (c .do-branch .ensures))
 
 returns-6 : tie.Need-returns-6
@@ -161,7 +160,7 @@ returns-6 c =
     let s = c .before .before .before in
     let e = op (c .before .before) 5 (c .before .match .keys6) in
     let d = (ready (s .pre) goto-op e) .1 .is in
-    acted s goto-op e (c .do-goto .result) (s .args .words .now) (s .args .table .now)
+    acted s goto-op e (c .do-goto .result) (s .args .words .now)
     (goto-found (F s) (scene s) (sym (home-direct (s .args .words .now) (first s) (word s) d)) (sym (target-direct (s .args .words .now) (first s) (word s) d))
     (c .do-goto .result) (c .do-goto .ensures))
 
@@ -170,7 +169,7 @@ unfolding operations happens
 returns-7 c =
     let s = c .before .before .before in
     let e = op (c .before .before) 6 (c .before .match .keys7) in
-    acted s block-op e (c .do-block .result) (s .args .words .now) (s .args .table .now)
+    acted s block-op e (c .do-block .result) (s .args .words .now)
     (block-same (F s) (scene s) (c .do-block .result) (c .do-block .ensures))
 
 returns-8 : tie.Need-returns-8
@@ -178,53 +177,36 @@ unfolding operations happens
 returns-8 c =
     let s = c .before .before .before .before in
     let e = op (c .before .before .before) 7 (c .before .before .match .keys8) in
-    acted s call-op e (c .do-call .result) (c .do-call .last .1 .0) (s .args .table .now)
+    acted s call-op e (c .do-call .result) (c .do-call .last .1 .0)
     (call-same (F s) (scene s) (c .do-call .result) (c .do-call .last .1 .0) (c .do-call .ensures .0) (c .do-call .ensures .1))
-
-same-length : tie.Need-same-length
-same-length c = c .before .do-add-pair .kept .1 .1 .1 .0
 
 returns-9 : tie.Need-returns-9
 unfolding operations happens
 returns-9 c =
-    let m = c .before .before .before .before in
-    let s = m .before .before in
-    let e = op (m .before) 8 (m .match .keys9) in
-    acted s pair-op e (c .before .do-add-pair .result) (s .args .words .now) (c .before .do-add-pair .last .1 .1 .1 .0)
-    (add-same (F s) (scene s) (c .before .do-add-pair .result) (c .before .do-add-pair .last .1 .1 .1 .0) (c .before .do-add-pair .ensures .0)
-    (c .before .do-add-pair .ensures .1))
-
-same-length-2 : tie.Need-same-length-2
-same-length-2 c = c .before .do-remove-pair .kept .1 .1 .1 .0
+    let s = c .before .before .before .before in
+    let e = op (c .before .before .before) 8 (c .before .before .match .keys9) in
+    acted s pair-op e (c .do-change .result) (s .args .words .now) (change-same (F s) (scene s) Add (c .do-change .result) (c .do-change .ensures))
 
 returns-10 : tie.Need-returns-10
 unfolding operations happens
 returns-10 c =
-    let m = c .before .before .before .before in
-    let s = m .before .before in
-    let e = op (m .before) 9 (m .match .keys10) in
-    acted s unpair-op e (c .before .do-remove-pair .result) (s .args .words .now) (c .before .do-remove-pair .last .1 .1 .1 .0)
-    (remove-same (F s) (scene s) (c .before .do-remove-pair .result) (c .before .do-remove-pair .last .1 .1 .1 .0)
-    (c .before .do-remove-pair .ensures .0) (c .before .do-remove-pair .ensures .1))
-
-same-length-3 : tie.Need-same-length-3
-same-length-3 c = refl
+    let s = c .before .before .before .before in
+    let e = op (c .before .before .before) 9 (c .before .before .match .keys10) in
+    acted s unpair-op e (c .do-change2 .result) (s .args .words .now) (change-same (F s) (scene s) Remove (c .do-change2 .result) (c .do-change2 .ensures))
 
 returns-11 : tie.Need-returns-11
 unfolding operations happens
 returns-11 c =
-    let m = c .before .before .before in
-    let s = m .before .before in
-    let e = op (m .before) 10 (m .match .keys11) in
-    acted s query-op e (c .do-query .result) (c .do-query .last .1 .0) (s .args .table .now)
-    (query-same (F s) (scene s) (c .do-query .result) (c .do-query .last .1 .0) (c .do-query .ensures .0) (c .do-query .ensures .1))
+    let s = c .before .before .before .before in
+    let e = op (c .before .before .before) 10 (c .before .before .match .keys11) in
+    acted s query-op e (c .do-query .result) (s .args .words .now) (query-same (F s) (scene s) (c .do-query .result) (c .do-query .ensures))
 
 returns-12 : tie.Need-returns-12
 unfolding operations happens
 returns-12 c =
     let s = c .before .before .before .before in
     let e = op (c .before .before .before) 11 (c .before .before .match .keys12) in
-    acted s constant-formal-op e (c .do-constant-formal .result) (c .do-constant-formal .last .1 .0) (s .args .table .now)
+    acted s constant-formal-op e (c .do-constant-formal .result) (c .do-constant-formal .last .1 .0)
     (constant-same (F s) (scene s) (c .do-constant-formal .result) (c .do-constant-formal .last .1 .0) (c .do-constant-formal .ensures .0)
     (c .do-constant-formal .ensures .1))
 
@@ -233,7 +215,7 @@ unfolding operations happens
 returns-13 c =
     let s = c .before .before .before .before in
     let e = op (c .before .before .before) 12 (c .before .before .match .keys13) in
-    acted s arithmetic-formal-op e (c .do-arithmetic-formal .result) (c .do-arithmetic-formal .last .1 .0) (s .args .table .now)
+    acted s arithmetic-formal-op e (c .do-arithmetic-formal .result) (c .do-arithmetic-formal .last .1 .0)
     (arithmetic-same (F s) (scene s) (operationOf (getD (s .args .code .now) (s .args .at + 2) 0)) (c .do-arithmetic-formal .result)
     (c .do-arithmetic-formal .last .1 .0) (c .do-arithmetic-formal .ensures .0) (c .do-arithmetic-formal .ensures .1))
 
@@ -242,7 +224,7 @@ unfolding operations happens
 returns-14 c =
     let s = c .before .before .before .before in
     let e = op (c .before .before .before) 13 (c .before .before .match .keys14) in
-    acted s branch-formal-op e (c .do-branch-formal .result) (s .args .words .now) (s .args .table .now)
+    acted s branch-formal-op e (c .do-branch-formal .result) (s .args .words .now)
     (branch-same (F s) (scene s) (c .do-branch-formal .result) (c .do-branch-formal .ensures))
 
 returns-15 : tie.Need-returns-15
@@ -250,7 +232,7 @@ unfolding operations happens
 returns-15 c =
     let s = c .before .before .before .before in
     let e = op (c .before .before .before) 14 (c .before .before .match .keys15) in
-    acted s goto-formal-op e (c .do-goto-formal .result) (s .args .words .now) (s .args .table .now)
+    acted s goto-formal-op e (c .do-goto-formal .result) (s .args .words .now)
     (goto-same (F s) (scene s) (c .do-goto-formal .result) (c .do-goto-formal .ensures))
 
 returns-16 : tie.Need-returns-16
@@ -258,7 +240,7 @@ unfolding operations happens
 returns-16 c =
     let s = c .before .before .before .before in
     let e = op (c .before .before .before) 15 (other (c .before .before)) in
-    acted s call-formal-op e (c .do-call-formal .result) (c .do-call-formal .last .1 .0) (s .args .table .now)
+    acted s call-formal-op e (c .do-call-formal .result) (c .do-call-formal .last .1 .0)
     (call-formal-same (F s) (scene s) (c .do-call-formal .result) (c .do-call-formal .last .1 .0) (c .do-call-formal .ensures .0)
     (c .do-call-formal .ensures .1))
 
@@ -275,8 +257,8 @@ act-spec =
     do-goto-requires
     do-block-requires
     do-call-requires
-    do-add-pair-requires
-    do-remove-pair-requires
+    do-change-requires
+    do-change-requires-2
     do-query-requires
     do-constant-formal-requires
     do-arithmetic-formal-requires
@@ -291,11 +273,8 @@ act-spec =
     returns-6
     returns-7
     returns-8
-    same-length
     returns-9
-    same-length-2
     returns-10
-    same-length-3
     returns-11
     returns-12
     returns-13

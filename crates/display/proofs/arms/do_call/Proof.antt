@@ -3,7 +3,7 @@ use Prim.Native.Nat.{ℕ, _+_, _/_}
 use mathlib.Core.Path.{sym, ap, _∙_}
 use lib.ListN.{getD}
 use Rattle.acting.specs.Acting.{Finding, Scene, Happened}
-use Rattle.statements.specs.Pieces.{without-table}
+use Rattle.acting.specs.Acting.{sceneBy}
 use Rattle.display.specs.Finding.{firstCell, byDisplay}
 use Rattle.statements.specs.Words.{home-direct, target-direct}
 use Rattle.statements.specs.Doing.{call-is}
@@ -27,7 +27,7 @@ abbrev way : tie.Start → Finding
 way s = byDisplay (s .args .words .now) (s .args .display .now)
 
 abbrev scene : tie.Start → Scene
-scene s = without-table (s .args .code .now) (s .args .words .now) (s .args .limit) (s .args .live) (s .args .at)
+scene s = sceneBy (s .args .code .now) (s .args .words .now) (s .args .limit) (s .args .live) (s .args .at)
 
 returns : tie.Need-returns
 returns c =

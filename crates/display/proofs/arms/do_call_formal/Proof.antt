@@ -7,7 +7,7 @@ use borrow.Author.Tests.{not-true, not-false}
 use lib.ListN.{getD}
 use Rattle.arrays.specs.Found.{heldBy}
 use Rattle.acting.specs.Acting.{Finding, Scene, Happened, argumentsAgree}
-use Rattle.statements.specs.Pieces.{without-table}
+use Rattle.acting.specs.Acting.{sceneBy}
 use Rattle.display.specs.Finding.{firstCell, byDisplay}
 use Rattle.statements.specs.Words.{home-formal, target-formal}
 use Rattle.statements.specs.Doing.{number-differs, number-same, call-is, call-refused, call-agreed}
@@ -34,7 +34,7 @@ abbrev way : tie.Start → Finding
 way s = byDisplay (s .args .words .now) (s .args .display .now)
 
 abbrev scene : tie.Start → Scene
-scene s = without-table (s .args .code .now) (s .args .words .now) (s .args .limit) (s .args .live) (s .args .at)
+scene s = sceneBy (s .args .code .now) (s .args .words .now) (s .args .limit) (s .args .live) (s .args .at)
 
 abbrev startOf : tie.After-held → tie.Start
 startOf c = c .before .before .before

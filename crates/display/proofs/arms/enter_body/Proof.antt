@@ -4,7 +4,7 @@ use mathlib.Core.Path.{ap, _∙_}
 use native.Mathlib.Omega.{arith}
 use lib.ListN.{getD}
 use Rattle.acting.specs.Acting.{Finding, Scene, setAll}
-use Rattle.statements.specs.Pieces.{without-table}
+use Rattle.acting.specs.Acting.{sceneBy}
 use Rattle.display.specs.Finding.{byDisplay}
 use Rattle.statements.specs.Doing.{no-room, entered, arguments-alike}
 use borrow.Author.Needs.{needs}
@@ -18,7 +18,7 @@ abbrev way : tie.Start → Finding
 way s = byDisplay (s .args .words .now) (s .args .display .now)
 
 abbrev scene : tie.Start → Scene
-scene s = without-table (s .args .code .now) (s .args .words .now) (s .args .limit) (s .args .live) (s .args .at)
+scene s = sceneBy (s .args .code .now) (s .args .words .now) (s .args .limit) (s .args .live) (s .args .at)
 
 returns : tie.Need-returns
 returns c = let s = c .before in no-room (way s) (scene s) (c .if1 .taken) (s .args .home) (s .args .body)

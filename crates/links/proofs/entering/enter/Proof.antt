@@ -43,14 +43,14 @@ use Rattle.activations.specs.declared.Activation.{Activation}
 use Rattle.acting.specs.Acting.{argumentsFrom, setAll}
 use Rattle.acting.specs.Effects.{Cleared}
 use Rattle.statements.specs.Pieces.{only-words}
-use Rattle.links.specs.declared.Now.{Now}
+use Rattle.run_state.specs.declared.Registers.{Registers}
 use Rattle.links.specs.declared.Entry.{Entry}
 use Rattle.links.specs.Records as records
 use Rattle.links.specs.Records.{withNext, NextSet, next-set, Pushed, pushed}
 use Rattle.links.specs.Finding.{byChain, Handing, argumentsEnd, handedOn}
 use Rattle.links.specs.Running.{activationOf, enteredBy, EnterReady, Succeeds}
 use Rattle.links.specs.Moving.{Fits, entry-fits, enters-to}
-use Rattle.links.proofs.Rows.{Code, Words, Rec, recs, nows, entries, fields-of-now, fields-of-entry}
+use Rattle.links.proofs.Rows.{Code, Words, Rec, recs, registers, entries, fields-of-registers, fields-of-entry}
 use Rattle.links.proofs.handing.arguments_end as arguments-end
 use Rattle.links.proofs.handing.arguments_end.Symbol as arguments-end-def
 use Rattle.links.proofs.handing.arguments_end.Symbol.{name as #arguments-end}
@@ -85,7 +85,7 @@ use Rattle.links.proofs.entering.enter.Statement as stated
 use Rattle.links.proofs.entering.enter.Code as mine
 
 -- Facts of lists and numbers
-module _ {code : List ℕ} {words : List ℤ} {recs₀ : List Activation} {here : Now} {entry : Entry} (w : EnterReady code words recs₀ here entry) where
+module _ {code : List ℕ} {words : List ℤ} {recs₀ : List Activation} {here : Registers} {entry : Entry} (w : EnterReady code words recs₀ here entry) where
   abbrev live : ℕ
   live = here .live
 
@@ -142,7 +142,7 @@ module _ {code : List ℕ} {words : List ℤ} {recs₀ : List Activation} {here 
           subst (λ (T : Type 0). T) (λ i. Pushed recs₁ (sym wrote-new i) fresh (new-is i .block) (new-is i .next) (new-is i .link))
           (pushed recs₁ fresh new room-there)
 
-      module _ (words₁ words₂ : List ℤ) (r : Now) (handed-on : words₁ ≡ handedOn code words recs₀ here) (r-is : r ≡ enteredBy code here new)
+      module _ (words₁ words₂ : List ℤ) (r : Registers) (handed-on : words₁ ≡ handedOn code words recs₀ here) (r-is : r ≡ enteredBy code here new)
           (cleared : Cleared words₁ (32 * fresh + getD code (new .block) 0 / 65536 % 256) (32 * fresh + getD code (new .block) 0 / 16777216) words₂) where
         cleared-there : Cleared (handedOn code words recs₀ here) (32 * fresh + getD code (entry .body) 0 / 65536 % 256)
             (32 * fresh + getD code (entry .body) 0 / 16777216) words₂
@@ -152,7 +152,7 @@ module _ {code : List ℕ} {words : List ℤ} {recs₀ : List Activation} {here 
 
         succeeds : Succeeds (w .running) words₂ recs₂ (w .table) r
         succeeds =
-            subst (λ (n : Now). Succeeds (w .running) words₂ recs₂ (w .table) n) (sym (r-is ∙ ap (enteredBy code here) new-is))
+            subst (λ (n : Registers). Succeeds (w .running) words₂ recs₂ (w .table) n) (sym (r-is ∙ ap (enteredBy code here) new-is))
             (enters-to (w .running) (entry .body) (entry .link) (entry .back) (handedOn code words recs₀ here) (w .enters) (getD code (entry .body) 0)
             (getD code (entry .body + 1) 0) refl refl recs₁ recs₂ next-there pushed-there words₂ cleared-there)
 
@@ -184,14 +184,14 @@ stayed = (
     gave-ref (1 ∷ []) tt (arrayOf (plain (λ _. i32)) 8224),
     (
       gave-slice (2 ∷ []) tt (plain (λ _. recs .type)),
-      (stay-none (λ _. nows .type) yes, (stay-none (λ _. entries .type) yes, tt)),
+      (stay-none (λ _. registers .type) yes, (stay-none (λ _. entries .type) yes, tt)),
     ),
   ),
 )
 
 module _ {M : Type 1} (𝓤 : URA M) (H : Heap 𝓤) (A : Atoms 𝓤) (W : Given 𝓤 H A) (mem : Memory → SProp 𝓤) (run : Routine → Fun 𝓤) (κ0 κ1 κ2 : Lft)
-    (q0 q1 q2 : Share) (code# : RefT (List ℕ)) (words# : RefT (List ℤ)) (records# : RefT (List Activation)) (here : Now) (entry : Entry)
-    (room-records : Room (Rec) (length (records# .now))) (g-here : Good nows here) (g-entry : Good entries entry)
+    (q0 q1 q2 : Share) (code# : RefT (List ℕ)) (words# : RefT (List ℤ)) (records# : RefT (List Activation)) (here : Registers) (entry : Entry)
+    (room-records : Room (Rec) (length (records# .now))) (g-here : Good registers here) (g-entry : Good entries entry)
     (pre : EnterReady (code# .now) (words# .now) (records# .now) here entry) where
   abbrev h-code : Loan
   h-code = loanRef κ0 q0 code#
@@ -212,7 +212,7 @@ module _ {M : Type 1} (𝓤 : URA M) (H : Heap 𝓤) (A : Atoms 𝓤) (W : Given
   recs₀ = records# .now
 
   abbrev ps : List Par
-  ps = brw (shrRef Code) h-code code ∷ brw (mutRef Words) h-words words ∷ brw (mutSlice Rec) h-records recs₀ ∷ dat nows here ∷ dat entries entry ∷ []
+  ps = brw (shrRef Code) h-code code ∷ brw (mutRef Words) h-words words ∷ brw (mutSlice Rec) h-records recs₀ ∷ dat registers here ∷ dat entries entry ∷ []
 
   abbrev bound : walkOf 𝓤 H A f.ended stayed (f.clauses 𝓤 H A mem run) .Ghost
   bound = ((lfts ps, shares ps, tt, denots 0 ps, valss 0 ps), tt)
@@ -220,18 +220,18 @@ module _ {M : Type 1} (𝓤 : URA M) (H : Heap 𝓤) (A : Atoms 𝓤) (W : Given
   abbrev Post : Val → SProp 𝓤
   Post = walkOf 𝓤 H A f.ended stayed (f.clauses 𝓤 H A mem run) .post bound
 
-  abbrev Said : Now → List ℤ → List Activation → Type 0
+  abbrev Said : Registers → List ℤ → List Activation → Type 0
   Said r words′ recs′ = (w : EnterReady code words recs₀ here entry) → Succeeds (w .running) words′ recs′ (w .table) r
 
-  exits : (r : Now) (words′ : List ℤ) (recs′ : List Activation) → length recs′ ≡ length recs₀ → Good nows r → Said r words′ recs′
-      → ent 𝓤 (⋆ 𝓤 H A (outs 𝓤 0 ps (tt, (words′, (recs′, (tt, (tt, tt))))))) (Post (nows .val r))
-  exits r words′ recs′ same good says = via 𝓤 _ (leaves-with 𝓤 H A W ps (tt, (words′, (recs′, (tt, (tt, tt))))) (g-here, (g-entry, tt)) nows r good
+  exits : (r : Registers) (words′ : List ℤ) (recs′ : List Activation) → length recs′ ≡ length recs₀ → Good registers r → Said r words′ recs′
+      → ent 𝓤 (⋆ 𝓤 H A (outs 𝓤 0 ps (tt, (words′, (recs′, (tt, (tt, tt))))))) (Post (registers .val r))
+  exits r words′ recs′ same good says = via 𝓤 _ (leaves-with 𝓤 H A W ps (tt, (words′, (recs′, (tt, (tt, tt))))) (g-here, (g-entry, tt)) registers r good
       (Said r words′ recs′) says)
-      (ends-at 𝓤 H A f.ended stayed (f.clauses 𝓤 H A mem run) W bound (nows .val r) r (tt, (words′, (recs′, (tt, (tt, tt)))))
+      (ends-at 𝓤 H A f.ended stayed (f.clauses 𝓤 H A mem run) W bound (registers .val r) r (tt, (words′, (recs′, (tt, (tt, tt)))))
       (tt, (tt, (same, (tt, (tt, tt))))))
 
   g-live : Good usizes (here .live)
-  g-live = fields-of-now here g-here .0
+  g-live = fields-of-registers here g-here .0
 
   g-back : Good usizes (entry .back)
   g-back = fields-of-entry entry g-entry .1 .1 .0
@@ -243,12 +243,12 @@ module _ {M : Type 1} (𝓤 : URA M) (H : Heap 𝓤) (A : Atoms 𝓤) (W : Given
   g-fresh = (refl, fresh-fits)
 
   abbrev for-arguments-end : List Par
-  for-arguments-end = brw (shrRef Code) h-code code ∷ dat nows here ∷ []
+  for-arguments-end = brw (shrRef Code) h-code code ∷ dat registers here ∷ []
 
   abbrev for-hand : ℕ → ℕ → GName → ℕ → GName → List Par
   for-hand last ν δ ν′ δ′ = brw (shrRef Code) h-code code ∷ brw (mutRef Words) (relent h-words ν δ) words ∷ brw (shrSlice Rec)
       (relent h-records ν′ δ′) recs₀ ∷
-      dat nows here ∷ dat usizes last ∷ []
+      dat registers here ∷ dat usizes last ∷ []
 
   abbrev for-read : ℕ → GName → List Par
   for-read ν δ = brw (shrSlice Rec) (relent h-records ν δ) recs₀ ∷ dat usizes (here .live) ∷ []
@@ -266,7 +266,7 @@ module _ {M : Type 1} (𝓤 : URA M) (H : Heap 𝓤) (A : Atoms 𝓤) (W : Given
   for-push-new recs₁ new = brw (mutSlice Rec) h-records recs₁ ∷ dat usizes (here .live + 1) ∷ dat recs new ∷ []
 
   abbrev for-come-in : List ℤ → Activation → List Par
-  for-come-in words₁ new = brw (shrRef Code) h-code code ∷ brw (mutRef Words) h-words words₁ ∷ dat nows here ∷ dat recs new ∷ []
+  for-come-in words₁ new = brw (shrRef Code) h-code code ∷ brw (mutRef Words) h-words words₁ ∷ dat registers here ∷ dat recs new ∷ []
 
   module _ (C : Calls 𝓤 H) (Λ : Loops 𝓤 H) (fm : FmC 𝓤 H (W .laws) C) (known-arguments-end : Triple 𝓤 (C #arguments-end)
       (Calls-arguments-end 𝓤 H A mem run)) (known-hand : Triple 𝓤 (C #hand) (Calls-hand 𝓤 H A mem run)) (known-read : Triple 𝓤 (C #read)
@@ -281,7 +281,7 @@ module _ {M : Type 1} (𝓤 : URA M) (H : Heap 𝓤) (A : Atoms 𝓤) (W : Given
             (tt, tt),
             (
               (tt, (tt, (record { fits = room-records .0 }, tt))),
-              (typed 𝓤 H A W nows here g-here, (typed 𝓤 H A W entries entry g-entry, tt)),
+              (typed 𝓤 H A W registers here g-here, (typed 𝓤 H A W entries entry g-entry, tt)),
             ),
           ),
         ) (λ β. move ! (1 ∷ 2 ∷ 3 ∷ []) $
@@ -337,10 +337,10 @@ module _ {M : Type 1} (𝓤 : URA M) (H : Heap 𝓤) (A : Atoms 𝓤) (W : Given
         lands-in ! 3 8 refl tt (tt, tt) $ puts ! 3 20 refl (lent ! 3 2 refl refl tt) tt (tt, tt) $ move ! (1 ∷ 2 ∷ []) $
         -- [the code; the words; the records, given up; the locals]
         calls-by ! fm (Calls-come-in 𝓤 H A mem run) known-come-in (to (for-come-in (ws .1 .0) new)) (for-come-in (ws .1 .0) new) refl
-        (g-here, (g-new, tt)) _ (asked pre new new-is) (id⊢ 𝓤 _) nows _ (λ v. id⊢ 𝓤 _)
+        (g-here, (g-new, tt)) _ (asked pre new new-is) (id⊢ 𝓤 _) registers _ (λ v. id⊢ 𝓤 _)
         (and-then ! (var ! 3 1 refl refl tt) (and-then ! (var ! 3 20 refl refl tt) (and-then ! (var ! 3 4 refl refl tt) (and-then ! (var ! 3 7 refl refl tt)
         (no-more !))))) (λ r zs good said _.
-        lands-in ! 3 0 refl tt (typed 𝓤 H A W nows r good) $ ends ! 3 refl refl tt $
+        lands-in ! 3 0 refl tt (typed 𝓤 H A W registers r good) $ ends ! 3 refl refl tt $
         by ! (exits r (zs .1 .0) (xs′ .0) (same-new .0 ∙ same .0) good (λ w. succeeds w own new own-is new-is (xs .0) (wrote ∙ ap (set recs₀
         (here .live)) old-is)
         (xs′ .0) wrote-new (ws .1 .0) (zs .1 .0) r (handed w (ws .1 .0) last last-is handed-on) (said .0) (said .1)))))))))))))))))
@@ -352,11 +352,11 @@ module _ {M : Type 1} (𝓤 : URA M) (H : Heap 𝓤) (A : Atoms 𝓤) (W : Given
     (Calls-begun 𝓤 H A mem run)) (known-come-in : Triple 𝓤 (𝓣 .C #come-in) (Calls-come-in 𝓤 H A mem run)) where
   walks : Walks 𝓤 H A f.ended stayed (WpFn 𝓤 H (𝓣 .C) (𝓣 .Λ) mine.function) (f.clauses 𝓤 H A mem run)
   walks = walked 𝓤 H A f.ended stayed (f.clauses 𝓤 H A mem run) (WpFn 𝓤 H (𝓣 .C) (𝓣 .Λ) mine.function)
-      (λ κs. (ptr-vals, (ptr-vals, (slice-vals, ((λ (x : Now). nows .val x ∷ []), ((λ (x : Entry). entries .val x ∷ []), tt)))))) (λ κs. (
+      (λ κs. (ptr-vals, (ptr-vals, (slice-vals, ((λ (x : Registers). registers .val x ∷ []), ((λ (x : Entry). entries .val x ∷ []), tt)))))) (λ κs. (
         shr-tells (named 0) (κs .0) Code,
         (
           mut-tells (named 1) (κs .1 .0) Words,
-          (mut-slice-tells (named 2) (κs .1 .1 .0) Rec, (nows .tells, (entries .tells, tt))),
+          (mut-slice-tells (named 2) (κs .1 .1 .0) Rec, (registers .tells, (entries .tells, tt))),
         ),
       ))
       (λ κs qs bounds a g are. needs 𝓤 (EnterReady ((a .0) .now) ((a .1 .0) .now) ((a .1 .1 .0) .now) (a .1 .1 .1 .0) (a .1 .1 .1 .1 .0)) _ (λ l. walk 𝓤 H A W
@@ -372,7 +372,7 @@ module _ {M : Type 1} (𝓤 : URA M) (H : Heap 𝓤) (A : Atoms 𝓤) (W : Given
       (
         goes-gave-slice 𝓤 H A W 3 2 tt (plain (λ _. recs .type)),
         (
-          goes-none 𝓤 H A W 3 (λ _. nows .type) yes (λ κs x f. refl),
+          goes-none 𝓤 H A W 3 (λ _. registers .type) yes (λ κs x f. refl),
           (goes-none 𝓤 H A W 3 (λ _. entries .type) yes (λ κs x f. refl), tt),
         ),
       ),

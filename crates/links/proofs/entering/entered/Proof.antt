@@ -1,9 +1,8 @@
 -- `entered` meets its contract.
 use mathlib.Core.List.{List}
-use mathlib.Core.Path.{_≡_, ap, subst, sym, _∙_}
+use mathlib.Core.Path.{_≡_, ap, subst, _∙_}
 use native.Mathlib.Omega.{arith}
 use Prim.Native.Nat.{ℕ, _+_, _*_, _/_, _%_, _<_, _≤_}
-use lib.IntN.{ℤ}
 use lib.ListN.{getD}
 use borrow.Author.Needs.{needs}
 use Rattle.acting.specs.Effects.{Cleared}
@@ -18,8 +17,8 @@ within live head n k e l m = omega (arith, e, l, m)
 within-all : (live head n : ℕ) → n ≡ head / 16777216 → live + 1 < 256 → head / 16777216 ≤ 32 → 32 * (live + 1) + n ≤ 8192
 within-all live head n e l m = omega (arith, e, l, m)
 
-wide-requires : tie.Need-wide-requires
-wide-requires c κs = search needs
+wide-u32-requires : tie.Need-wide-u32-requires
+wide-u32-requires c κs = search needs
 
 code-at-requires : tie.Need-code-at-requires
 code-at-requires c κs = search needs
@@ -48,15 +47,15 @@ clear-requires c κs =
     let pre = c .before .before .before .before .pre in
     let head = c .before .before .code-at .result in
     let e : head ≡ getD (s .code .now) (s .activation .block) 0 =
-    head-is (s .code .now) head (c .before .before .before .wide .result) (s .activation .block) (c .before .before .code-at .ensures .0)
-    (c .before .before .before .wide .ensures .0) in (
+    head-is (s .code .now) head (c .before .before .before .wide-u32 .result) (s .activation .block) (c .before .before .code-at .ensures .0)
+    (c .before .before .before .wide-u32 .ensures .0) in (
       within (s .here .live) (getD (s .code .now) (s .activation .block) 0) (head / 65536 % 256) 65536 (ap (λ (k : ℕ). k / 65536 % 256) e) (pre .1)
           (pre .2),
       within-all (s .here .live) (getD (s .code .now) (s .activation .block) 0) (head / 16777216) (ap (λ (k : ℕ). k / 16777216) e) (pre .1) (pre .3),
     )
 
-wide-requires-2 : tie.Need-wide-requires-2
-wide-requires-2 c κs = search needs
+wide-u32-requires-2 : tie.Need-wide-u32-requires-2
+wide-u32-requires-2 c κs = search needs
 
 innermost-requires : tie.Need-innermost-requires
 innermost-requires c κs = search needs
@@ -66,10 +65,10 @@ returns c =
     let s = c .before .before .before .before .before .before .before .args in
     let head = c .before .before .before .before .before .code-at .result in
     let e : head ≡ getD (s .code .now) (s .activation .block) 0 =
-    head-is (s .code .now) head (c .before .before .before .before .before .before .wide .result) (s .activation .block)
-    (c .before .before .before .before .before .code-at .ensures .0) (c .before .before .before .before .before .before .wide .ensures .0) in (
+    head-is (s .code .now) head (c .before .before .before .before .before .before .wide-u32 .result) (s .activation .block)
+    (c .before .before .before .before .before .code-at .ensures .0) (c .before .before .before .before .before .before .wide-u32 .ensures .0) in (
       c .innermost .ensures ∙ ap (λ (k : ℕ). nowBy (s .code .now) (s .activation .block) (s .here .live + 1) k (s .here .pairs))
-          (c .before .wide2 .ensures .0),
+          (c .before .wide-u322 .ensures .0),
       subst (λ (k : ℕ). Cleared (s .words .now) (32 * (s .here .live + 1) + k / 65536 % 256) (32 * (s .here .live + 1) + k / 16777216)
           (c .before .before .clear .last .0)) e (c .before .before .clear .ensures),
     )
@@ -78,7 +77,7 @@ pub entered-spec : {M : Type 1} → statement M
 entered-spec =
     tie.close
     (tie.spec
-    wide-requires
+    wide-u32-requires
     code-at-requires
     add-fresh
     mul-clear
@@ -86,6 +85,6 @@ entered-spec =
     mul-clear-2
     add-clear-2
     clear-requires
-    wide-requires-2
+    wide-u32-requires-2
     innermost-requires
     returns)

@@ -49,9 +49,9 @@ use Rattle.acting.specs.Acting.{Finding, Scene, argumentsFrom, setAll}
 use Rattle.statements.specs.Pieces.{only-words}
 use Rattle.statements.specs.Words.{handed-is}
 use Rattle.statements.specs.Doing.{arguments-end, arguments-next, kept-below}
-use Rattle.links.specs.declared.Now.{Now}
+use Rattle.run_state.specs.declared.Registers.{Registers}
 use Rattle.links.specs.Finding.{byChain, firstCell, Handing, Passing}
-use Rattle.links.proofs.Rows.{Code, Words, Rec, recs, nows}
+use Rattle.links.proofs.Rows.{Code, Words, Rec, recs, registers}
 use Rattle.links.proofs.first_cell as first-cell
 use Rattle.links.proofs.first_cell.Symbol as first-cell-def
 use Rattle.links.proofs.first_cell.Symbol.{name as #first-cell}
@@ -67,7 +67,7 @@ use Rattle.links.proofs.handing.hand.Code as mine
 use Rattle.links.proofs.handing.hand.Code.Mir as mir′
 
 -- Facts of lists and numbers
-module _ (code : List ℕ) (words₀ : List ℤ) (records : List Activation) (here : Now) (last : ℕ) where
+module _ (code : List ℕ) (words₀ : List ℤ) (records : List Activation) (here : Registers) (last : ℕ) where
   abbrev way : Finding
   way = byChain words₀ records (here .live) (here .level)
 
@@ -171,14 +171,14 @@ stayed = (
     gave-ref (1 ∷ []) tt (arrayOf (plain (λ _. i32)) 8224),
     (
       stay-none-slice (2 ∷ []) tt (plain (λ _. recs .type)) yes,
-      (stay-none (λ _. nows .type) yes, (stay-none (λ _. usizes .type) yes, tt)),
+      (stay-none (λ _. registers .type) yes, (stay-none (λ _. usizes .type) yes, tt)),
     ),
   ),
 )
 
 module _ {M : Type 1} (𝓤 : URA M) (H : Heap 𝓤) (A : Atoms 𝓤) (W : Given 𝓤 H A) (mem : Memory → SProp 𝓤) (run : Routine → Fun 𝓤) (κ0 κ1 κ2 : Lft)
-    (q0 q1 q2 : Share) (code# : RefT (List ℕ)) (words# : RefT (List ℤ)) (records# : RefT (List Activation)) (here : Now) (last : ℕ)
-    (room-records : Room (Rec) (length (records# .now))) (g-here : Good nows here) (g-last : Good usizes last)
+    (q0 q1 q2 : Share) (code# : RefT (List ℕ)) (words# : RefT (List ℤ)) (records# : RefT (List Activation)) (here : Registers) (last : ℕ)
+    (room-records : Room (Rec) (length (records# .now))) (g-here : Good registers here) (g-last : Good usizes last)
     (pre : Handing (code# .now) (records# .now) here last) where
   abbrev h-code : Loan
   h-code = loanRef κ0 q0 code#
@@ -199,7 +199,7 @@ module _ {M : Type 1} (𝓤 : URA M) (H : Heap 𝓤) (A : Atoms 𝓤) (W : Given
   records = records# .now
 
   abbrev ps : List Par
-  ps = brw (shrRef Code) h-code code ∷ brw (mutRef Words) h-words words ∷ brw (shrSlice Rec) h-records records ∷ dat nows here ∷ dat usizes last ∷ []
+  ps = brw (shrRef Code) h-code code ∷ brw (mutRef Words) h-words words ∷ brw (shrSlice Rec) h-records records ∷ dat registers here ∷ dat usizes last ∷ []
 
   abbrev bound : walkOf 𝓤 H A f.ended stayed (f.clauses 𝓤 H A mem run) .Ghost
   bound = ((lfts ps, shares ps, tt, denots 0 ps, valss 0 ps), tt)
@@ -244,10 +244,10 @@ module _ {M : Type 1} (𝓤 : URA M) (H : Heap 𝓤) (A : Atoms 𝓤) (W : Given
   done t y = handed code words records here last pre t (λ h. T-not (ltb (t .field) last) y (lt→ltb (t .field) last h))
 
   abbrev for-first-cell : St → List Par
-  for-first-cell t = brw (shrRef Code) h-code code ∷ brw (shrSlice Rec) h-records records ∷ dat nows here ∷ dat usizes (32 * here .live) ∷ dat usizes (t .field) ∷ []
+  for-first-cell t = brw (shrRef Code) h-code code ∷ brw (shrSlice Rec) h-records records ∷ dat registers here ∷ dat usizes (32 * here .live) ∷ dat usizes (t .field) ∷ []
 
   abbrev for-pass : St → ℕ → ℕ → GName → List Par
-  for-pass t from ν δ = brw (shrRef Code) h-code code ∷ brw (mutRef Words) (relent h-words ν δ) (t .words) ∷ dat nows here ∷ dat usizes
+  for-pass t from ν δ = brw (shrRef Code) h-code code ∷ brw (mutRef Words) (relent h-words ν δ) (t .words) ∷ dat registers here ∷ dat usizes
       (t .field) ∷ dat usizes
       from ∷ []
 
@@ -263,7 +263,7 @@ module _ {M : Type 1} (𝓤 : URA M) (H : Heap 𝓤) (A : Atoms 𝓤) (W : Given
       -- the context at a state: [the code; the records; the words; the locals], of which 6 is the own first cell and 7 the field. The turn's own, 8 to 11, hold nothing
       abbrev Inv : St → List (Item 𝓤)
       Inv t = ‵ (In (shrRef Code) h-code code) ∷ ‵ (In (shrSlice Rec) h-records records) ∷ ‵ (In (mutRef Words) h-words (t .words)) ∷ fr 𝓤 H
-          (tysOf (mine.function .locals)) β (none ∷ some (h-code .val) ∷ some (h-words .val) ∷ some (h-records .val) ∷ some (nows .val here) ∷ some
+          (tysOf (mine.function .locals)) β (none ∷ some (h-code .val) ∷ some (h-words .val) ∷ some (h-records .val) ∷ some (registers .val here) ∷ some
           (vint w64 last) ∷ some (vint w64 (32 * here .live)) ∷ some (vint w64 (t .field)) ∷ none ∷ none ∷ none ∷ none ∷ []) ∷ []
 
       turn : (t : St) → Sq W (Inv t) (runs (𝓣 .C) (𝓣 .Λ) E# mir′.turn-1 (anyQ (afterTurn 𝓤 H (Below 𝓤 H A (by-size left) Inv t)
@@ -298,7 +298,7 @@ module _ {M : Type 1} (𝓤 : URA M) (H : Heap 𝓤) (A : Atoms 𝓤) (W : Given
             (tt, tt),
             (
               (tt, (tt, (record { fits = room-records .0 }, tt))),
-              (typed 𝓤 H A W nows here g-here, (typed 𝓤 H A W usizes last g-last, tt)),
+              (typed 𝓤 H A W registers here g-here, (typed 𝓤 H A W usizes last g-last, tt)),
             ),
           ),
         ) (λ β. move ! (1 ∷ 3 ∷ 2 ∷ []) $
@@ -311,11 +311,11 @@ module _ {M : Type 1} (𝓤 : URA M) (H : Heap 𝓤) (A : Atoms 𝓤) (W : Given
     (known-first-cell : Triple 𝓤 (𝓣 .C #first-cell) (Calls-first-cell 𝓤 H A mem run)) (known-pass : Triple 𝓤 (𝓣 .C #pass) (Calls-pass 𝓤 H A mem run)) where
   walks : Walks 𝓤 H A f.ended stayed (WpFn 𝓤 H (𝓣 .C) (𝓣 .Λ) mine.function) (f.clauses 𝓤 H A mem run)
   walks = walked 𝓤 H A f.ended stayed (f.clauses 𝓤 H A mem run) (WpFn 𝓤 H (𝓣 .C) (𝓣 .Λ) mine.function)
-      (λ κs. (ptr-vals, (ptr-vals, (slice-vals, ((λ (x : Now). nows .val x ∷ []), ((λ (x : ℕ). usizes .val x ∷ []), tt)))))) (λ κs. (
+      (λ κs. (ptr-vals, (ptr-vals, (slice-vals, ((λ (x : Registers). registers .val x ∷ []), ((λ (x : ℕ). usizes .val x ∷ []), tt)))))) (λ κs. (
         shr-tells (named 0) (κs .0) Code,
         (
           mut-tells (named 1) (κs .1 .0) Words,
-          (shr-slice-tells (named 2) (κs .1 .1 .0) Rec, (nows .tells, (usizes .tells, tt))),
+          (shr-slice-tells (named 2) (κs .1 .1 .0) Rec, (registers .tells, (usizes .tells, tt))),
         ),
       ))
       (λ κs qs bounds a g are. needs 𝓤 (Handing ((a .0) .now) ((a .1 .1 .0) .now) (a .1 .1 .1 .0) (a .1 .1 .1 .1 .0)) _ (λ l. walk 𝓤 H A W mem run
@@ -330,7 +330,7 @@ module _ {M : Type 1} (𝓤 : URA M) (H : Heap 𝓤) (A : Atoms 𝓤) (W : Given
       (
         goes-none-slice 𝓤 H A W 3 (2 ∷ []) tt (plain (λ _. recs .type)) yes,
         (
-          goes-none 𝓤 H A W 3 (λ _. nows .type) yes (λ κs x f. refl),
+          goes-none 𝓤 H A W 3 (λ _. registers .type) yes (λ κs x f. refl),
           (goes-none 𝓤 H A W 3 (λ _. usizes .type) yes (λ κs x f. refl), tt),
         ),
       ),

@@ -1,0 +1,68 @@
+-- What a run ends with: the frame machine's result, and the arrays hold its stack. `EndedFrom`: by how it has ended, from a stack at which so many
+-- steps are done; `RunFrom`: from where an engine stands, and `from-start`: where that is the program's start. `spent-end`, `stopped-end`, `finished-end`: the three ends of a run that has come so far.
+use Prim.Native.Nat.{ℕ, _+_, _-_, _≤_}
+use mathlib.Core.List.{List}
+use mathlib.Core.Path.{_≡_, sym, ap, _∙_, subst}
+use lib.IntN.{ℤ}
+use lib.ListN.{length, set}
+use Rattle.language.specs.Text.{Block}
+use Rattle.language.specs.Table.{Table}
+use Rattle.language.specs.Machine.{Limits}
+use Rattle.language.specs.declared.Stop.{Stop}
+use Rattle.frames.specs.Frame.{Result, halted, designates, frameStep, frameRun, frameStart}
+use Rattle.coordinates.specs.Sound.{Sound}
+use Rattle.steps.specs.Standing.{Standing}
+use Rattle.steps.specs.Underway as steps
+use Rattle.run_state.specs.declared.Registers.{Registers}
+use Rattle.run_state.specs.declared.Halt.{Halt}
+use Rattle.run_state.specs.Halts.{finishedAfter, spentAfter, stoppedAfter}
+
+abbrev pub EndedFrom : ℕ → Block → ℕ → Limits → Result → Halt → List ℤ → List ℕ → List ℕ → List ℕ → List ℤ → Type 0
+EndedFrom done program name l result r words blocks nexts links table =
+    steps.EndedFrom done program name l result (r .end) (r .steps) (r .offset) (r .pairs) (r .live) (r .designator) words blocks nexts links table
+
+abbrev pub RunFrom : {code : List ℕ} {l : Limits} {words : List ℤ} {blocks nexts links : List ℕ} {table : List ℤ} {pairs live at end : ℕ}
+    → Standing code l words blocks nexts links table pairs live at end → ℕ → Halt → List ℤ → List ℕ → List ℕ → List ℕ → List ℤ → Type 0
+RunFrom {l = l} w allowance r words′ blocks′ nexts′ links′ table′ =
+    EndedFrom (w .stack .steps) (w .program) (w .name) l (frameRun l allowance (w .stack)) r words′ blocks′ nexts′ links′ table′
+
+pub from-start : {code : List ℕ} {l : Limits} {words : List ℤ} {blocks nexts links : List ℕ} {table : List ℤ} {pairs live at end : ℕ}
+    (w : Standing code l words blocks nexts links table pairs live at end) (program : Block) (name : ℕ) (before : Table)
+    → w .stack ≡ frameStart program before → w .program ≡ program → w .name ≡ name
+    → (allowance : ℕ) (r : Halt) {words′ : List ℤ} {blocks′ nexts′ links′ : List ℕ} {table′ : List ℤ}
+    → RunFrom w allowance r words′ blocks′ nexts′ links′ table′
+    → EndedFrom 0 program name l (frameRun l allowance (frameStart program before)) r words′ blocks′ nexts′ links′ table′
+unfolding frameStart
+from-start {l = l} w program name before stack-is program-is name-is allowance r {words′} {blocks′} {nexts′} {links′} {table′} =
+    subst (λ (T : Type 0). T)
+    (λ i. EndedFrom (stack-is i .steps) (program-is i) (name-is i) l (frameRun l allowance (stack-is i)) r words′ blocks′ nexts′ links′ table′)
+
+module _ {done : ℕ} {program : Block} {name allowance : ℕ} {result : Result} {code : List ℕ} {l : Limits} {words : List ℤ} {blocks nexts links : List ℕ}
+    {table : List ℤ} {left : ℕ} (here : Registers) (w : Standing code l words blocks nexts links table (here .pairs) (here .live) (here .at) (here .end))
+    (u : steps.UnderwayFrom done program name allowance result w left) where
+  -- what a run leaves is sound
+  sound : Sound l program (result .final)
+  sound = subst (λ (T : Type 0). T) (λ i. Sound l (u .same-program i) (sym (u .runs) i .final)) (steps.leaves-sound-from w left)
+
+  -- activations are left live: the place of the innermost one is put with the others, and the name is looked up
+  module _ (nexts′ : List ℕ) (noted : nexts′ ≡ set nexts (here .live) (here .at)) (designator : ℕ) (found : designator ≡ designates (w .stack .frames) (w .name))
+      (counted : ℕ) (r : Halt) where
+    abbrev Ends : Halt → List ℕ → Type 0
+    Ends h ns = EndedFrom done program name l result h words blocks ns links table
+
+    reports : (h : Halt) → r ≡ h → Ends h (set nexts (here .live) (here .at)) → Ends r nexts′
+    reports h is = subst (λ (T : Type 0). T) (λ i. Ends (sym is i) (sym noted i))
+
+    pub spent-end : left ≡ 0 → r ≡ spentAfter here allowance designator counted → Ends r nexts′
+    spent-end z is = reports (spentAfter here allowance designator counted) is (steps.spent w u z sound designator found)
+
+    pub stopped-end : (c : Stop) → frameStep l (w .stack) ≡ halted c → 1 ≤ left → r ≡ stoppedAfter here c (allowance - left) designator counted → Ends r nexts′
+    stopped-end c stop more is =
+        reports (stoppedAfter here c (allowance - left) designator counted) is (steps.stopped w u c stop more sound designator found)
+
+  pub finished-end : here .at ≡ here .end → here .live ≡ 0 → 1 ≤ left → (words′ : List ℤ) (blocks′ nexts′ links′ : List ℕ) (table′ : List ℤ)
+      → words′ ≡ words → table′ ≡ table → (r : Halt) → r ≡ finishedAfter here (allowance - left + 1)
+      → EndedFrom done program name l result r words′ blocks′ nexts′ links′ table′
+  finished-end ended alone more words′ blocks′ nexts′ links′ table′ same-words same-table r is =
+      subst (λ (h : Halt). EndedFrom done program name l result h words′ blocks′ nexts′ links′ table′) (sym is)
+      (steps.finished w u ended alone more sound words′ blocks′ nexts′ links′ table′ same-table (ap length same-words ∙ w .words-long))

@@ -1,0 +1,5 @@
+-- The state of a run, in reading order.
+pub mod Scenes
+pub mod Turns
+pub mod Halts
+pub mod Ended

@@ -1,0 +1,42 @@
+-- `add` meets its contract.
+use lib.IntN.{ℤ}
+use Rattle.language.specs.Table.{added}
+use Rattle.acting.specs.Acting.{answer}
+use Rattle.pairs.specs.Outcomes.{tableOf}
+use Rattle.statements.specs.Words.{read-value}
+use Rattle.statements.specs.Answers.{changed-by}
+use mathlib.Core.Path.{refl}
+use borrow.Author.Needs.{needs}
+use Rattle.statements.proofs.membership.add.Statement.{statement}
+use Rattle.statements.proofs.membership.add.Tie as tie
+
+mul-of : tie.Need-mul-of
+mul-of c = search needs
+
+element-copy-out-of : tie.Need-element-copy-out-of
+element-copy-out-of c = search needs
+
+mul-who : tie.Need-mul-who
+mul-who c = search needs
+
+element-copy-out-who : tie.Need-element-copy-out-who
+element-copy-out-who c = search needs
+
+add-pair-requires : tie.Need-add-pair-requires
+add-pair-requires c κs = search needs
+
+same-length : tie.Need-same-length
+same-length c = search needs
+
+returns : tie.Need-returns
+unfolding answer
+returns c =
+    let m = c .before .before .before in
+    let g = m .before in
+    let s = g .before in
+    let ws = s .args .words .now in
+    changed-by (λ (a b : ℤ). added (s .args .limit) a b (tableOf (s .args .table .now) (s .args .pairs))) (s .args .table .now) (read-value ws (g .of .given) refl) (read-value ws (m .who .given) refl)
+    (c .before .add-pair .ensures .0) (c .before .add-pair .ensures .1)
+
+pub add-spec : {M : Type 1} → statement M
+add-spec = tie.close (tie.spec mul-of element-copy-out-of mul-who element-copy-out-who add-pair-requires same-length returns)

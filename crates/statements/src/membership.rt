@@ -1,0 +1,82 @@
+// What the membership table answers, for all engines: group, member and target are cells. Each engine chooses among the three by what was asked: a
+// function for all is not compiled into the engines, and a call of it costs more than AD, RM and QY in a small table.
+use pairs::Change;
+use pairs::Query;
+use run_state::Registers;
+use run_state::Turn;
+ghost use mathlib.Core.Path.{_≡_};
+ghost use Prim.Native.Nat.{_<_};
+ghost use Rattle.acting.specs.Acting.{answer};
+ghost use Rattle.acting.specs.declared.Ask.the-variants.{Add, Remove, Query as Queried};
+ghost use Rattle.pairs.specs.Outcomes.{tableOf, changeOf, wordsAfter};
+ghost use Rattle.statements.specs.Answers.{turnAfter};
+
+pub fn add(
+    table: &mut [i32],
+    words: &[i32; 8224],
+    pairs: usize,
+    limit: u32,
+    group: usize,
+    member: usize,
+) -> Change
+    requires { ⌜ (group < 8192) × (member < 8192) ⌝ }
+    ensures { λ r. ⌜ r ≡ changeOf (answer limit (now (words .entry)) (tableOf (now (table .entry)) pairs) group member 0 Add .effect) ⌝ }
+    ensures { λ _. ⌜ now (table .exit) ≡ wordsAfter (now (table .entry)) (answer limit (now (words .entry)) (tableOf (now (table .entry)) pairs) group member 0 Add .effect) ⌝ }
+{
+    let of = words[group];
+    let who = words[member];
+    pairs::add_pair(table, pairs, limit, of, who)
+}
+
+pub fn remove(
+    table: &mut [i32],
+    words: &[i32; 8224],
+    pairs: usize,
+    group: usize,
+    member: usize,
+) -> Change
+    requires { ⌜ (group < 8192) × (member < 8192) ⌝ }
+    ensures { λ r. ⌜ r ≡ changeOf (answer 0 (now (words .entry)) (tableOf (now (table .entry)) pairs) group member 0 Remove .effect) ⌝ }
+    ensures { λ _. ⌜ now (table .exit) ≡ wordsAfter (now (table .entry)) (answer 0 (now (words .entry)) (tableOf (now (table .entry)) pairs) group member 0 Remove .effect) ⌝ }
+{
+    let of = words[group];
+    let who = words[member];
+    pairs::remove_pair(table, pairs, of, who)
+}
+
+pub fn query(
+    table: &[i32],
+    words: &mut [i32; 8224],
+    pairs: usize,
+    group: usize,
+    member: usize,
+    target: usize,
+) -> Change
+    requires { ⌜ (group < 8192) × ((member < 8192) × (target < 8192)) ⌝ }
+    ensures { λ r. ⌜ r ≡ changeOf (answer 0 (now (words .entry)) (tableOf (now (table .entry)) pairs) group member target Queried .effect) ⌝ }
+    ensures { λ _. ⌜ now (words .exit) ≡ answer 0 (now (words .entry)) (tableOf (now (table .entry)) pairs) group member target Queried .words ⌝ }
+{
+    let of = words[group];
+    let who = words[member];
+    match pairs::query_pair(table, pairs, of, who) {
+        Query::Value(value) => {
+            stepping::store(words, target, value);
+            Change::Done(pairs)
+        }
+        Query::Stopped(cause) => Change::Stopped(cause),
+    }
+}
+
+// The step that asked comes to this.
+pub fn after(here: Registers, place: usize, change: Change) -> Turn
+    ensures { λ r. ⌜ r ≡ turnAfter here place change ⌝ }
+{
+    match change {
+        Change::Done(pairs) => Turn::Went(Registers {
+            at: place,
+            pairs,
+            ..here
+        }),
+        Change::Stopped(cause) => Turn::Stopped(cause),
+    }
+}
