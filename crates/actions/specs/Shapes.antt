@@ -15,7 +15,7 @@ use Rattle.calls.specs.Calls.{callAt}
 pub data Shape : Type 0 where
   isCL isGO isIF isKN isAR isQY isTwo : Shape
 
-unfoldable pub shapeOf : ℕ → Shape
+abbrev pub shapeOf : ℕ → Shape
 shapeOf w =
     elim (eqb w CL-mark) [
       | true ↦ isCL
@@ -38,7 +38,7 @@ shapeOf w =
     ]
 
 -- a statement other than BK, judged by its shape
-unfoldable pub judgedAs : Shape → Scope → List ℕ → ℕ → definitions.Judgement
+abbrev pub judgedAs : Shape → Scope → List ℕ → ℕ → definitions.Judgement
 judgedAs isCL sc bs at = judgeAction sc at (callAt bs at)
 judgedAs isGO sc bs at = uses sc at label (fieldAt bs (at + 2))
 judgedAs isIF sc bs at = pairJudged sc at variable (fieldAt bs (at + 2)) label (fieldAt bs (at + 4))

@@ -12,7 +12,7 @@ use Rattle.extents.specs.Passing.{Alone}
 use Rattle.uses.specs.Meanings.{scopeFrom, verdictOf}
 use Rattle.actions.specs.Shapes.{shapeOf, judgedAs}
 
-unfoldable pub progressAfter : Verdict → ℕ → Progress
+abbrev pub progressAfter : Verdict → ℕ → Progress
 progressAfter Fit end = At end
 progressAfter (verdicts.Refused c o) end = Refused c o
 

@@ -21,6 +21,7 @@ use Rattle.uses.specs.Meanings.{kindsAt, meaningAt, scopeOf, verdictOf}
 use Rattle.symbols.specs.Entries.{foundIn}
 use Rattle.language.specs.declared.Verdict.{Verdict}
 use Rattle.language.specs.declared.Verdict.the-variants.{Fit, Refused}
+use Rattle.symbols.specs.declared.Binding.{Binding}
 use Rattle.symbols.specs.declared.Binding.the-variants.{At, Nothing}
 use Rattle.uses.proofs.Meanings.{found-lookup, means-PR, use-right}
 use Rattle.uses.proofs.Verdicts.{then-stop, then-go}
@@ -31,10 +32,6 @@ unfolding meaningAt
 takes-none bs place true d p q e = rw (ne-eqb (fieldAt bs place) PR-mark e, p, meaningAt)
 takes-none bs place false true p q e = rw (ne-eqb (fieldAt bs place) PR-mark e, p, q, meaningAt)
 takes-none bs place false false p q e = rw (ne-eqb (fieldAt bs place) PR-mark e, p, q, meaningAt)
-
-pub agrees-free : (bs : List ℕ) (at place : ℕ) (xs : List (Option Kind)) → (fieldAt bs place ≡ PR-mark → ⊥) → agrees at (some (meaningAt bs place)) xs ≡ fine
-unfolding agrees
-agrees-free bs at place xs e = rw (takes-none bs place _ _ refl refl e, agrees)
 
 and-false : (b c : Bool) → c ≡ false → (b && c) ≡ false
 and-false true c e = e
@@ -58,31 +55,42 @@ unfolding fieldsAt
 length-words bs from zero = refl
 length-words bs from (suc n) = ap suc (length-words bs (from + 2) n)
 
-module _ (bs : List ℕ) (at place : ℕ) (marked : fieldAt bs place ≡ PR-mark) where
-  by-kinds : (xs : List (Option Kind)) (b : Bool) → agree (kindsAt bs (place + 6) (fieldAt bs (place + 4))) xs ≡ b → agrees at (some (meaningAt bs place)) xs ≡ (elim b [ true ↦ fine | false ↦ wrong CallMismatch at ])
+-- by the mark, the number of formals and whether the kinds agree, as they were read
+module _ (bs : List ℕ) (at place mark : ℕ) (read : mark ≡ fieldAt bs place) where
+  pub agrees-free : (xs : List (Option Kind)) → (mark ≡ PR-mark → ⊥) → Fit ≡ verdictOf (agrees at (some (meaningAt bs place)) xs)
   unfolding agrees
-  by-kinds xs b e = rw (means-PR bs place marked, e, agrees)
+  agrees-free xs e = sym (ap verdictOf free)
+    where
+      free : agrees at (some (meaningAt bs place)) xs ≡ fine
+      free = rw (takes-none bs place _ _ refl refl (λ p. e (read ∙ p)), agrees)
 
-  pub agrees-count : (f : ℕ → Option Kind) (from count : ℕ) → (fieldAt bs (place + 4) ≡ count → ⊥) → agrees at (some (meaningAt bs place)) (map f (fieldsAt bs from count)) ≡ wrong CallMismatch at
-  agrees-count f from count e =
-      by-kinds (map f (fieldsAt bs from count)) false
-      (agree-short (kindsAt bs (place + 6) (fieldAt bs (place + 4))) (map f (fieldsAt bs from count))
-      (λ p. e (sym (length-kinds bs (place + 6) (fieldAt bs (place + 4))) ∙ p ∙ length-map (fieldsAt bs from count) f ∙ length-words bs from count)))
+  module _ (marked : mark ≡ PR-mark) (m count : ℕ) (counted : m ≡ fieldAt bs (place + 4)) where
+    by-kinds : (xs : List (Option Kind)) (b : Bool) → agree (kindsAt bs (place + 6) (fieldAt bs (place + 4))) xs ≡ b → agrees at (some (meaningAt bs place)) xs ≡ (elim b [ true ↦ fine | false ↦ wrong CallMismatch at ])
+    unfolding agrees
+    by-kinds xs b e = rw (means-PR bs place (sym read ∙ marked), e, agrees)
 
-  pub agrees-by : (xs : List (Option Kind)) (count : ℕ) (b : Bool) → fieldAt bs (place + 4) ≡ count → agree (kindsAt bs (place + 6) count) xs ≡ b → agrees at (some (meaningAt bs place)) xs ≡ (elim b [ true ↦ fine | false ↦ wrong CallMismatch at ])
-  agrees-by xs count b e f = by-kinds xs b (rw e f)
+    pub agrees-count : (f : ℕ → Option Kind) (from : ℕ) → (m ≡ count → ⊥) → Refused CallMismatch at ≡ verdictOf (agrees at (some (meaningAt bs place)) (map f (fieldsAt bs from count)))
+    agrees-count f from e =
+        sym
+        (ap verdictOf
+        (by-kinds (map f (fieldsAt bs from count)) false
+        (agree-short (kindsAt bs (place + 6) (fieldAt bs (place + 4))) (map f (fieldsAt bs from count))
+        (λ p. e
+        (counted ∙ sym (length-kinds bs (place + 6) (fieldAt bs (place + 4))) ∙ p ∙ length-map (fieldsAt bs from count) f ∙ length-words bs from count)))))
 
-pub call-judged : (sc : Scope) (at p : ℕ) (xs : List ℕ) → judgeAction sc at (CL p xs) ≡ _then_ (uses sc at procedure p) (_then_ (allVisible sc at xs) (agrees at (lookup p sc) (map (kindIn sc) xs)))
+    module _ (xs : List (Option Kind)) (t : Bool) (same : m ≡ count) (is : t ≡ agree (kindsAt bs (place + 6) count) xs) where
+      pub agrees-by : (b : Bool) → t ≡ b → agrees at (some (meaningAt bs place)) xs ≡ (elim b [ true ↦ fine | false ↦ wrong CallMismatch at ])
+      agrees-by b e = by-kinds xs b (ap (λ (n : ℕ). agree (kindsAt bs (place + 6) n) xs) (sym counted ∙ same) ∙ sym is ∙ e)
+
+      pub agrees-right : t ≡ true → Fit ≡ verdictOf (agrees at (some (meaningAt bs place)) xs)
+      agrees-right e = sym (ap verdictOf (agrees-by true e))
+
+      pub agrees-wrong : t ≡ false → Refused CallMismatch at ≡ verdictOf (agrees at (some (meaningAt bs place)) xs)
+      agrees-wrong e = sym (ap verdictOf (agrees-by false e))
+
+call-judged : (sc : Scope) (at p : ℕ) (xs : List ℕ) → judgeAction sc at (CL p xs) ≡ _then_ (uses sc at procedure p) (_then_ (allVisible sc at xs) (agrees at (lookup p sc) (map (kindIn sc) xs)))
 unfolding judgeAction
 call-judged sc at p xs = refl
-
--- what is called, as found
-pub agrees-found : (bs es : List ℕ) (at p place : ℕ) (xs : List (Option Kind)) → foundIn p es ≡ At place → agrees at (lookup p (scopeOf bs es)) xs ≡ agrees at (some (meaningAt bs place)) xs
-agrees-found bs es at p place xs e = rw (found-lookup bs p es, e)
-
-pub agrees-unfound : (bs es : List ℕ) (at p : ℕ) (xs : List (Option Kind)) → foundIn p es ≡ Nothing → agrees at (lookup p (scopeOf bs es)) xs ≡ fine
-unfolding agrees
-agrees-unfound bs es at p xs e = rw (found-lookup bs p es, e)
 
 -- the call at an offset, its verdicts one after the other
 module _ (bs es : List ℕ) (at n m : ℕ) (name : n ≡ fieldAt bs (at + 2)) (number : m ≡ fieldAt bs (at + 4)) where
@@ -103,12 +111,18 @@ module _ (bs es : List ℕ) (at n m : ℕ) (name : n ≡ fieldAt bs (at + 2)) (n
 
   module _ (r : Verdict) (p : r ≡ verdictOf (uses sc at procedure n)) (fits : r ≡ Fit) where
     pub call-hides : (s : Verdict) (c : Refusal) (o : ℕ) → s ≡ verdictOf (allVisible sc at xs) → s ≡ Refused c o → s ≡ whole
-    call-hides s c o q e = then-stop (allVisible sc at xs) _ s c o q e ∙ then-go (uses sc at procedure n) _ r p fits ∙ opened
+    call-hides s c o q e = then-go (uses sc at procedure n) _ r s p fits (then-stop (allVisible sc at xs) _ s c o q e) ∙ opened
 
-    module _ (s : Verdict) (q : s ≡ verdictOf (allVisible sc at xs)) (seen : s ≡ Fit) where
-      pub call-judges : (t : Verdict) (v : definitions.Judgement) → t ≡ verdictOf v → agrees at (lookup n sc) (map (kindIn sc) xs) ≡ v → t ≡ whole
-      call-judges t v e f =
-          e ∙ sym (ap verdictOf f) ∙ then-go (allVisible sc at xs) _ s q seen ∙ then-go (uses sc at procedure n) _ r p fits ∙ opened
+    module _ (s : Verdict) (q : s ≡ verdictOf (allVisible sc at xs)) (seen : s ≡ Fit) (b : Binding) (found : b ≡ foundIn n es) where
+      judged : (t : Verdict) → t ≡ verdictOf (agrees at (lookup n sc) (map (kindIn sc) xs)) → t ≡ whole
+      judged t e = then-go (uses sc at procedure n) _ r t p fits (then-go (allVisible sc at xs) _ s t q seen e) ∙ opened
+
+      pub call-unfound : b ≡ Nothing → Fit ≡ whole
+      unfolding agrees
+      call-unfound e = judged Fit (rw (found-lookup bs n es, sym found ∙ e))
+
+      pub call-found : (place : ℕ) (t : Verdict) → b ≡ At place → t ≡ verdictOf (agrees at (some (meaningAt bs place)) (map (kindIn sc) xs)) → t ≡ whole
+      call-found place t e f = judged t (rw (found-lookup bs n es, sym found ∙ e) f)
 
 -- arguments that agree with formals are visible
 pub no-true : {A : Type 0} → false ≡ true → A
@@ -131,10 +145,14 @@ agree-visible sc at (k ∷ ks) (n ∷ ns) e =
     let f = agree-first sc at k ks n ns (lookup n sc) refl e in
     ap (λ (v : definitions.Judgement). _then_ v (allVisible sc at ns)) (f .1) ∙ agree-visible sc at ks ns (f .0)
 
-pub agreed : (bs es : List ℕ) (at n m place : ℕ) → n ≡ fieldAt bs (at + 2) → m ≡ fieldAt bs (at + 4) → foundIn n es ≡ At place → fieldAt bs place ≡ PR-mark → fieldAt bs (place + 4) ≡ m → agree (kindsAt bs (place + 6) m) (map (kindIn (scopeOf bs es)) (fieldsAt bs (at + 6) m)) ≡ true → Fit ≡ verdictOf (judgeAction (scopeOf bs es) at (CL (fieldAt bs (at + 2)) (fieldsAt bs (at + 6) (fieldAt bs (at + 4)))))
-unfolding verdictOf
-agreed bs es at n m place name number found marked same e =
-    call-judges bs es at n m name number Fit
-    (sym (ap verdictOf (use-right bs es at procedure n place found (ap (λ (x : Meaning). kindField (x .kind)) (means-PR bs place marked)))))
-    refl Fit (sym (ap verdictOf (agree-visible (scopeOf bs es) at (kindsAt bs (place + 6) m) (fieldsAt bs (at + 6) m) e))) refl Fit fine refl
-    (agrees-found bs es at n place _ found ∙ agrees-by bs at place marked _ m true same e)
+-- a declared procedure, and its formals' kinds as they were compared
+pub agreed :
+    (bs es : List ℕ) (at n m place mark formals : ℕ) (b : Binding) (t : Bool) → n ≡ fieldAt bs (at + 2) → m ≡ fieldAt bs (at + 4) → b ≡ foundIn n es →
+    b ≡ At place → mark ≡ fieldAt bs place → mark ≡ PR-mark → formals ≡ fieldAt bs (place + 4) → formals ≡ m →
+    t ≡ agree (kindsAt bs (place + 6) m) (map (kindIn (scopeOf bs es)) (fieldsAt bs (at + 6) m)) → t ≡ true →
+    Fit ≡ verdictOf (judgeAction (scopeOf bs es) at (CL (fieldAt bs (at + 2)) (fieldsAt bs (at + 6) (fieldAt bs (at + 4)))))
+agreed bs es at n m place mark formals b t name number found there read marked counted same is e =
+    call-found bs es at n m name number Fit
+    (sym (ap verdictOf (use-right bs es at procedure n place (sym found ∙ there) (ap (λ (x : Meaning). kindField (x .kind)) (means-PR bs place (sym read ∙ marked))))))
+    refl Fit (sym (ap verdictOf (agree-visible (scopeOf bs es) at (kindsAt bs (place + 6) m) (fieldsAt bs (at + 6) m) (sym is ∙ e)))) refl b found place Fit there
+    (agrees-right bs at place mark read marked formals m counted _ t same is e)

@@ -21,7 +21,8 @@ use Rattle.extents.proofs.Inside.{decl-items, stmt-items}
 use Rattle.scoping.specs.Walking.{BlockHere}
 use Rattle.scoping.proofs.Blocks.{stacked}
 use Rattle.writing.specs.Visible.{Short, Fits, Shown, entryOf}
-use Rattle.declaring.specs.Declared.{startsOf, Started, IfLabelled, Stated, FormalsPushed, DeclsPushed, formalEntries, declEntries, Declares}
+use Rattle.declaring.specs.Declared.{startsOf, Started, Noted, IfLabelled, Stated, OwnPut, formalEntries, declEntries, Declares}
+use Rattle.declaring.proofs.Declarations.{formals-put, decls-put}
 use Rattle.declaring.proofs.Statements.{stmts-two, decls-two, stated-there, place-near, first-place}
 
 formals-counted : (level i : ℕ) (fs : List Formal) → length (formalNames fs) ≡ length (formalWords level i fs)
@@ -131,7 +132,8 @@ module _ (bs : List ℕ) (at count d base level : ℕ) where
     unfolding FormedBlock
     o-is = h .formed .stands
 
-    module _ (st₁ st₂ : List ℕ) (long₁ : 2048 ≤ length st₁) (long₂ : 2048 ≤ length st₂) (f : ℕ) (decls-started : Started bs (start + 6) d 0 st₁ f) (stmts-started : IfLabelled bs st₁ f s d st₂) (kept-starts : take d st₂ ≡ take d st₁) where
+    module _ (st₁ st₂ : List ℕ) (long₁ : 2048 ≤ length st₁) (long₂ : 2048 ≤ length st₂) (f : ℕ) (decls-started : Started bs (start + 6) d 0 st₁ f)
+        (stmts-started : (k : ℕ) → k < d → fieldAt bs (getD st₁ k 0) ≡ LB-mark → (end : ℕ) × Started bs f s d st₂ end) (kept-starts : take d st₂ ≡ take d st₁) where
       decls-there : (take d st₁ ≡ startsOf (map declared (decls ds)) (start + 6)) × (f ≡ start + 6 + 2 * length (itemsFields (map declared (decls ds))))
       decls-there =
           decls-started (map declared (decls ds)) (length-map (decls ds) declared ∙ sym d-is) (subst (FieldsStand bs (start + 6)) (decl-items ds) decls-stand) (omega (arith, numbered))
@@ -161,17 +163,19 @@ module _ (bs : List ℕ) (at count d base level : ℕ) where
           ap (λ (x : ℕ). x / 2) f-is ∙ ap (λ (x : ℕ). (x + 6 + 2 * length (declsFields ds)) / 2) (sym o-is)
           ∙ first-place o ds ss level (subst (λ (x : ℕ). FormedStmts ss level (x + 6 + 2 * length (declsFields ds))) (sym o-is) stmts-formed)
 
-      module _ (encl : Enclosure) (depth : suc (length encl) ≡ level) (es₀ es₁ es₂ : List ℕ) (shown : Shown encl (drop top es₀))
-          (decls-pushed : DeclsPushed bs st₂ d (base + count) level count es₁) (formals-pushed : FormalsPushed bs at count base level es₂)
-          (kept : drop (base + count) es₂ ≡ drop (base + count) es₁) (before : drop (base + count + d) es₁ ≡ drop (base + count + d) es₀) where
-        decls-put : take d (drop (base + count) es₁) ≡ declEntries (block o ds ss) level (length fs) (decls ds)
+      module _ (encl : Enclosure) (depth : suc (length encl) ≡ level) (es₀ es : List ℕ) (shown : Shown encl (drop top es₀)) (room : top ≤ length es₀)
+          (put : OwnPut bs st₂ es₀ es at count d base level) where
+        decls-there-put : take d (drop (base + count) es) ≡ declEntries (block o ds ss) level (length fs) (decls ds)
         unfolding blockStmts
-        decls-put =
-            decls-pushed (block o ds ss) ds level (start + 6) (sym d-is) decls-stand decls-formed (kept-starts ∙ decls-there .0) stated-here
+        decls-there-put =
+            decls-put bs st₂ es₀ es at count d base level put room (block o ds ss) ds level (start + 6) (sym d-is) decls-stand decls-formed (kept-starts ∙ decls-there .0) stated-here
             ∙ ap (λ (i : ℕ). declEntries (block o ds ss) level i (decls ds)) (sym (h .number))
 
-        formals-put : take count (drop base es₂) ≡ formalEntries level 0 fs
-        formals-put = formals-pushed fs (h .number) (h .formals)
+        formals-there-put : take count (drop base es) ≡ formalEntries level 0 fs
+        formals-there-put = formals-put bs st₂ es₀ es at count d base level put room fs (h .number) (h .formals)
+
+        before : drop (base + count + d) es ≡ drop (base + count + d) es₀
+        before = let e : base + (count + d) ≡ base + count + d = omega arith in rw e at (put .above)
 
         all-fit : Each Fits (own o ds ss fs encl level depth ++ visibleWords encl)
         unfolding blockStmts
@@ -182,28 +186,37 @@ module _ (bs : List ℕ) (at count d base level : ℕ) where
             (decls-fit (block o ds ss) (place-near o ds ss level first stmts-formed reach) level level (length fs) ds (start + 6) decls-formed (omega (arith, reach)) (omega (arith, few, h .number)) low))
             (shown .fit)
 
-        shown-here : Shown (enclosed fs (block o ds ss) ∷ encl) (drop base es₂)
+        shown-here : Shown (enclosed fs (block o ds ss) ∷ encl) (drop base es)
         shown-here =
             record {
               same =
-                  stacked es₀ es₁ es₂ base count d top refl kept before
-                  ∙ ap₂ (λ (x y : List ℕ). x ++ (y ++ drop top es₀)) formals-put decls-put
+                  stacked es₀ es es base count d top refl refl before
+                  ∙ ap₂ (λ (x y : List ℕ). x ++ (y ++ drop top es₀)) formals-there-put decls-there-put
                   ∙ ap (λ (x : List ℕ). formalEntries level 0 fs ++ (declEntries (block o ds ss) level (length fs) (decls ds) ++ x)) (shown .same)
                   ∙ sym (entries-are o ds ss fs encl level depth) ∙ ap (map entryOf) (sym (visible-is o ds ss fs encl level depth));
               fit = subst (Each Fits) (sym (visible-is o ds ss fs encl level depth)) all-fit;
             }
 
   pub declares :
-      (s : ℕ) → d ≡ fieldAt bs (start + 2) → s ≡ fieldAt bs (start + 4) → (st₁ st₂ : List ℕ) → 2048 ≤ length st₁ → 2048 ≤ length st₂ → (f : ℕ) →
-      Started bs (start + 6) d 0 st₁ f → IfLabelled bs st₁ f s d st₂ → take d st₂ ≡ take d st₁ → (es₀ es₁ es₂ : List ℕ) →
-      DeclsPushed bs st₂ d (base + count) level count es₁ → FormalsPushed bs at count base level es₂ →
-      drop (base + count) es₂ ≡ drop (base + count) es₁ → drop (base + count + d) es₁ ≡ drop (base + count + d) es₀ → Declares bs es₀ es₂ at count d base level f
-  declares s dr sr st₁ st₂ l₁ l₂ f p₁ p₂ ks es₀ es₁ es₂ pd pf kept before =
-      record { shows = λ b fs encl h depth within shown. show b fs encl h depth within shown; leads = λ b fs h within. lead b fs h within }
+      (s : ℕ) (st st₁ st₂ ends₁ ends₂ : List ℕ) (f : ℕ) (es₀ es : List ℕ) → d ≡ fieldAt bs (start + 2) → s ≡ fieldAt bs (start + 4) → 2048 ≤ length st →
+      length st₁ ≡ length st → length st₂ ≡ length st₁ → base + (count + d) ≤ length es₀ → Noted bs st st₁ ends₁ (start + 6) d 0 f →
+      IfLabelled bs st₁ st₂ ends₂ f s d → OwnPut bs st₂ es₀ es at count d base level → Declares bs es₀ es ends₂ at count d base level f
+  declares s st st₁ st₂ ends₁ ends₂ f es₀ es dr sr l n₁ n₂ room p₁ p₂ put =
+      record {
+        shows = λ b fs encl h depth within shown. show b fs encl h depth within shown;
+        leads = λ b fs h within. lead b fs h within;
+        above = put .above;
+        below = put .below;
+        near = p₁ .near;
+        noted = p₂ .noted;
+      }
     where
-      show : (b : Block) (fs : List Formal) (encl : Enclosure) → BlockHere bs at count top b fs level → suc (length encl) ≡ level → start + 2 * length (blockFields b) ≤ 8192 → Shown encl (drop top es₀) → Shown (enclosed fs b ∷ encl) (drop base es₂)
+      show : (b : Block) (fs : List Formal) (encl : Enclosure) → BlockHere bs at count top b fs level → suc (length encl) ≡ level → start + 2 * length (blockFields b) ≤ 8192 → Shown encl (drop top es₀) → Shown (enclosed fs b ∷ encl) (drop base es)
       show (block o ds ss) fs encl h depth within shown =
-          shown-here o ds ss fs h within s dr sr st₁ st₂ l₁ l₂ f p₁ p₂ ks encl depth es₀ es₁ es₂ shown pd pf kept before
+          shown-here o ds ss fs h within s dr sr st₁ st₂ (omega arith) (omega arith) f (p₁ .started) (p₂ .started) (p₂ .below) encl depth es₀ es shown room put
 
       lead : (b : Block) (fs : List Formal) → BlockHere bs at count top b fs level → start + 2 * length (blockFields b) ≤ 8192 → (f ≤ 8192) × (f / 2 ≡ stmtPlace b 1)
-      lead (block o ds ss) fs h within = (first-near o ds ss fs h within s dr sr st₁ st₂ l₁ l₂ f p₁ p₂ ks, first-leads o ds ss fs h within s dr sr st₁ st₂ l₁ l₂ f p₁ p₂ ks)
+      lead (block o ds ss) fs h within = (
+        first-near o ds ss fs h within s dr sr st₁ st₂ (omega arith) (omega arith) f (p₁ .started) (p₂ .started) (p₂ .below),
+        first-leads o ds ss fs h within s dr sr st₁ st₂ (omega arith) (omega arith) f (p₁ .started) (p₂ .started) (p₂ .below),
+      )

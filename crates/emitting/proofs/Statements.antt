@@ -3,10 +3,10 @@
 use mathlib.Core.Path.{_≡_, refl, sym, _∙_, ap, ap₂, subst}
 use mathlib.Core.Bool.{Bool, true, false, _&&_}
 use mathlib.Core.List.{List, [], _∷_, _++_, map}
-use Prim.Native.Nat.{ℕ, zero, suc, _+_, _*_, _-_, _/_, _%_, _<_}
+use Prim.Native.Nat.{ℕ, zero, suc, _+_, _*_, _-_, _/_, _%_, _<_, _≤_}
 use native.Mathlib.Omega.{arith}
 use lib.Dec.{eqb}
-use lib.ListN.{length, getD, set}
+use lib.ListN.{length, getD, set, length-set}
 use borrow.Author.Tests.{eq-eqb, ne-eqb}
 use Rattle.language.specs.Text.{Action, CL, GO, IF, KN, AR, AD, RM, QY}
 use Rattle.language.specs.Encoding.{actionFields, operationField, unsigned, CL-mark, GO-mark, IF-mark, KN-mark, AR-mark, AD-mark, RM-mark, QY-mark}
@@ -15,7 +15,7 @@ use Rattle.resolved.specs.Resolved.{formalIn, direct, chosen, nameWord, resolve
 use Rattle.laws.specs.Fields.{fieldAt, fieldsAt, FieldsStand, fields-are, fields-third, field-is}
 use Rattle.writing.specs.Growth.{Grown}
 use Rattle.writing.specs.Visible.{wordIn, usedAt, Short, AllShort, Shown}
-use Rattle.emitting.specs.Emitted.{knWords, arWords, ifWords, goWords, clWords, pairWords, qyWords, argumentWords, emittedAs, Emitted}
+use Rattle.emitting.specs.Emitted.{knWords, arWords, ifWords, goWords, clWords, pairWords, qyWords, argumentWords, emittedAs, Written, Emitted}
 use Rattle.writing.proofs.Growth.{grown-nothing, put-grows, grown-more, grown-then}
 use Rattle.writing.proofs.Lookups.{word-is, all-short, used-short, used-is}
 
@@ -41,67 +41,84 @@ all-direct x y z =
 op-short : {op : ℕ} (t : Bool) (a b : ℕ) → op ≡ chosen t a b → Short a → Short b → Short op
 op-short t a b e h k = subst Short (sym e) (chosen-short t a b h k)
 
-module _ (bs es : List ℕ) (at : ℕ) (c c′ : List ℕ) (short : AllShort es) where
-  pub go-grown :
+module _ (bs es : List ℕ) (at : ℕ) (c c′ : List ℕ) where
+  pub go-written :
       (a f op : ℕ) → a ≡ usedAt bs es (at + 2) → f ≡ formalIn a → op ≡ chosen (eqb f 0) 5 14 →
-      (Short op → Short a → Grown c c′ at (op ∷ a ∷ [])) → Grown c c′ at (goWords bs es at)
+      (Short op → Short a → Grown c c′ at (op ∷ a ∷ [])) → Written goWords bs es at c c′
   unfolding goWords direct
-  go-grown a f op ea ef eo g = subst (Grown c c′ at) (cc) (g (op-short _ _ _ eo (omega arith) (omega arith)) (used-short bs es short _ ea))
+  go-written a f op ea ef eo g =
+      record { grown = λ s. subst (Grown c c′ at) (cc) (g (op-short _ _ _ eo (omega arith) (omega arith)) (used-short bs es s _ ea)) }
 
-  pub if-grown :
+  pub if-written :
       (w a f k op : ℕ) → w ≡ usedAt bs es (at + 2) → a ≡ usedAt bs es (at + 4) → f ≡ formalIn w → k ≡ formalIn a → op ≡ chosen (eqb (f + k) 0) 4 13 →
-      (Short op → Short a → Short w → Grown c c′ at (op ∷ a ∷ w ∷ [])) → Grown c c′ at (ifWords bs es at)
+      (Short op → Short a → Short w → Grown c c′ at (op ∷ a ∷ w ∷ [])) → Written ifWords bs es at c c′
   unfolding ifWords direct
-  if-grown w a f k op ew ea ef ek eo g =
+  if-written w a f k op ew ea ef ek eo g =
       let n = none-of f k in
-      subst (Grown c c′ at) (cc) (g (op-short _ _ _ eo (omega arith) (omega arith)) (used-short bs es short _ ea) (used-short bs es short _ ew))
+      record {
+        grown = λ s. subst (Grown c c′ at) (cc)
+            (g (op-short _ _ _ eo (omega arith) (omega arith)) (used-short bs es s _ ea) (used-short bs es s _ ew));
+      }
 
-  pub ar-grown :
+  pub ar-written :
       (w o a b f k m op : ℕ) → w ≡ usedAt bs es (at + 2) → o ≡ fieldAt bs (at + 4) → o < 65536 → a ≡ usedAt bs es (at + 6) → b ≡ usedAt bs es (at + 8) →
       f ≡ formalIn w → k ≡ formalIn a → m ≡ formalIn b → op ≡ chosen (eqb (f + (k + m)) 0) (1 + o) 12 →
-      (Short op → Short w → Short o → Short a → Short b → Grown c c′ at (op ∷ w ∷ o ∷ a ∷ b ∷ [])) → Grown c c′ at (arWords bs es at)
+      (Short op → Short w → Short o → Short a → Short b → Grown c c′ at (op ∷ w ∷ o ∷ a ∷ b ∷ [])) → Written arWords bs es at c c′
   unfolding arWords direct
-  ar-grown w o a b f k m op ew eo below ea eb ef ek em e g =
+  ar-written w o a b f k m op ew eo below ea eb ef ek em e g =
       let n = all-direct f k m in
-      subst (Grown c c′ at) (cc)
-      (g (op-short _ _ _ e (omega arith) (omega arith)) (used-short bs es short _ ew) (omega arith) (used-short bs es short _ ea) (used-short bs es short _ eb))
+      record {
+        grown = λ s. subst (Grown c c′ at) (cc)
+            (g (op-short _ _ _ e (omega arith) (omega arith)) (used-short bs es s _ ew) (omega arith) (used-short bs es s _ ea) (used-short bs es s _ eb));
+      }
 
-  pub kn-grown :
+  pub kn-written :
       (w f op v u : ℕ) → w ≡ usedAt bs es (at + 2) → f ≡ formalIn w → op ≡ chosen (eqb f 0) 0 11 → v ≡ fieldAt bs (at + 4) → u ≡ fieldAt bs (at + 6) → v < 65536 → u < 65536 →
-      (Short op → Short w → Short (v + 65536 * u) → Short 0 → Grown c c′ at (op ∷ w ∷ (v + 65536 * u) ∷ 0 ∷ [])) → Grown c c′ at (knWords bs es at)
+      (Short op → Short w → Short (v + 65536 * u) → Short 0 → Grown c c′ at (op ∷ w ∷ (v + 65536 * u) ∷ 0 ∷ [])) → Written knWords bs es at c c′
   unfolding knWords direct
-  kn-grown w f op v u ew ef eo ev eu lv lu g =
-      subst (Grown c c′ at) (cc) (g (op-short _ _ _ eo (omega arith) (omega arith)) (used-short bs es short _ ew) (omega arith) (omega arith))
+  kn-written w f op v u ew ef eo ev eu lv lu g =
+      record {
+        grown = λ s. subst (Grown c c′ at) (cc)
+            (g (op-short _ _ _ eo (omega arith) (omega arith)) (used-short bs es s _ ew) (omega arith) (omega arith));
+      }
 
-  pub pair-grown :
+  pub pair-written :
       (op x y : ℕ) → op < 65536 → x ≡ usedAt bs es (at + 2) → y ≡ usedAt bs es (at + 4) →
-      (Short op → Short x → Short y → Grown c c′ at (op ∷ x ∷ y ∷ [])) → Grown c c′ at (pairWords op bs es at)
+      (Short op → Short x → Short y → Grown c c′ at (op ∷ x ∷ y ∷ [])) → Written (pairWords op) bs es at c c′
   unfolding pairWords
-  pair-grown op x y lo ex ey g = subst (Grown c c′ at) (cc) (g (omega arith) (used-short bs es short _ ex) (used-short bs es short _ ey))
+  pair-written op x y lo ex ey g =
+      record { grown = λ s. subst (Grown c c′ at) (cc) (g (omega arith) (used-short bs es s _ ex) (used-short bs es s _ ey)) }
 
-  pub qy-grown :
+  pub qy-written :
       (t x y : ℕ) → t ≡ usedAt bs es (at + 2) → x ≡ usedAt bs es (at + 4) → y ≡ usedAt bs es (at + 6) →
-      (Short 10 → Short t → Short x → Short y → Grown c c′ at (10 ∷ t ∷ x ∷ y ∷ [])) → Grown c c′ at (qyWords bs es at)
+      (Short 10 → Short t → Short x → Short y → Grown c c′ at (10 ∷ t ∷ x ∷ y ∷ [])) → Written qyWords bs es at c c′
   unfolding qyWords
-  qy-grown t x y et ex ey g =
-      subst (Grown c c′ at) (cc) (g (omega arith) (used-short bs es short _ et) (used-short bs es short _ ex) (used-short bs es short _ ey))
+  qy-written t x y et ex ey g =
+      record {
+        grown = λ s. subst (Grown c c′ at) (cc) (g (omega arith) (used-short bs es s _ et) (used-short bs es s _ ex) (used-short bs es s _ ey));
+      }
 
-  pub cl-grown :
+  pub cl-written :
       (d : List ℕ) (w f op n : ℕ) → w ≡ usedAt bs es (at + 2) → f ≡ formalIn w → op ≡ chosen (eqb f 0) 7 15 → n ≡ fieldAt bs (at + 4) → n < 65536 →
-      (Short op → Short w → Short n → Grown c d at (op ∷ w ∷ n ∷ [])) → Grown d c′ (at + 6) (argumentWords bs es (at + 6) n) → Grown c c′ at (clWords bs es at)
+      (Short op → Short w → Short n → Grown c d at (op ∷ w ∷ n ∷ [])) → Written (argumentWords n) bs es (at + 6) d c′ → Written clWords bs es at c c′
   unfolding clWords direct
-  cl-grown d w f op n ew ef eo en ln g h =
-      let j = grown-then (omega arith) (g (op-short _ _ _ eo (omega arith) (omega arith)) (used-short bs es short _ ew) (omega arith)) h in
-      subst (Grown c c′ at) (cc) j
+  cl-written d w f op n ew ef eo en ln g h =
+      record {
+        grown = λ s.
+            let j = grown-then (omega arith) (g (op-short _ _ _ eo (omega arith) (omega arith)) (used-short bs es s _ ew) (omega arith)) (h .grown s) in
+            subst (Grown c c′ at) (cc) j;
+      }
 
 -- the arguments still to come give all of them
 pub record Arguing (bs es : List ℕ) (at count : ℕ) (c₀ c : List ℕ) (i : ℕ) : Type 0 where
+  pub within : i ≤ count
+  pub long : length c ≡ length c₀
   pub on :
-      AllShort es → (c′ : List ℕ) → Grown c c′ (at + 2 * i) (argumentWords bs es (at + 2 * i) (count - i)) → Grown c₀ c′ at (argumentWords bs es at count)
+      AllShort es → (c′ : List ℕ) → Grown c c′ (at + 2 * i) (argumentWords (count - i) bs es (at + 2 * i)) → Grown c₀ c′ at (argumentWords count bs es at)
 
-module _ (bs es : List ℕ) (at count : ℕ) (c₀ : List ℕ) where
+module _ {bs es : List ℕ} {at count : ℕ} {c₀ : List ℕ} where
   pub arguing-start : Arguing bs es at count c₀ c₀ 0
-  arguing-start = record { on = λ s c′ g. rw (here, all) at g }
+  arguing-start = record { within = omega arith; long = refl; on = λ s c′ g. rw (here, all) at g }
     where
       here : at + 2 * 0 ≡ at
       here = omega arith
@@ -110,11 +127,13 @@ module _ (bs es : List ℕ) (at count : ℕ) (c₀ : List ℕ) where
       all = omega arith
 
   pub arguing-step :
-      (c c₁ : List ℕ) (i u : ℕ) → i < count → u ≡ usedAt bs es (at + 2 * i) → c₁ ≡ set c ((at + 2 * i) / 2) (u % 4294967296) →
+      {c c₁ : List ℕ} {i u : ℕ} → i < count → u ≡ usedAt bs es (at + 2 * i) → c₁ ≡ set c ((at + 2 * i) / 2) (u % 4294967296) →
       Arguing bs es at count c₀ c i → Arguing bs es at count c₀ c₁ (i + 1)
   unfolding argumentWords fieldsAt usedAt
-  arguing-step c c₁ i u l eu e a =
+  arguing-step {c} {c₁} {i} {u} l eu e a =
       record {
+        within = omega arith;
+        long = ap length e ∙ simp length-set (a .long);
         on = λ s c′ g.
             let more : count - i ≡ suc (count - (i + 1)) = omega arith in
             let next : at + 2 * (i + 1) ≡ at + 2 * i + 2 = omega arith in
@@ -124,11 +143,11 @@ module _ (bs es : List ℕ) (at count : ℕ) (c₀ : List ℕ) where
             (grown-more refl (put-grows e (used-short bs es s (at + 2 * i) eu)) (rw next at g))));
       }
 
-  pub arguing-end : (c : List ℕ) (i : ℕ) → i ≡ count → Arguing bs es at count c₀ c i → AllShort es → Grown c₀ c at (argumentWords bs es at count)
+  pub arguing-end : {c : List ℕ} {i : ℕ} → count ≤ i → Arguing bs es at count c₀ c i → Written (argumentWords count) bs es at c₀ c
   unfolding argumentWords fieldsAt
-  arguing-end c i e a s =
+  arguing-end {c} {i} h a =
       let none : count - i ≡ 0 = omega arith in
-      a .on s c (rw none (grown-nothing c (at + 2 * i)))
+      record { grown = λ s. a .on s c (rw none (grown-nothing c (at + 2 * i))) }
 
 module _ (bs es : List ℕ) (encl : Enclosure) (s : Shown encl es) where
   arguments-are : (xs : List ℕ) → map (λ (n : ℕ). wordIn n es) xs ≡ map (nameWord encl) xs
@@ -136,7 +155,7 @@ module _ (bs es : List ℕ) (encl : Enclosure) (s : Shown encl es) where
   arguments-are (x ∷ xs) = ap₂ (λ (w : ℕ) (ws : List ℕ). w ∷ ws) (word-is encl es s x) (arguments-are xs)
 
   pub emits : (at : ℕ) (a : Action) → FieldsStand bs at (actionFields a) → emittedAs (fieldAt bs at) bs es at ≡ resolvedAction encl a
-  unfolding actionFields emittedAs resolvedAction arWords ifWords knWords clWords goWords pairWords qyWords argumentWords
+  unfolding actionFields resolvedAction arWords ifWords knWords clWords goWords pairWords qyWords argumentWords
   emits at (KN t z) h =
       let f = field-is bs at (actionFields (KN t z)) h in
       let w = used-is bs es encl s (at + 2) t (f 1 (omega arith)) in
@@ -186,22 +205,23 @@ module _ (bs es : List ℕ) (encl : Enclosure) (s : Shown encl es) where
       ap (λ (m : ℕ). emittedAs m bs es at) (h .0) ∙ cc
 
 -- a statement by its mark
-module _ (bs es : List ℕ) (at : ℕ) (c c′ : List ℕ) where
-  pub emit-by : (ws : List ℕ) → emittedAs (fieldAt bs at) bs es at ≡ ws → (AllShort es → Grown c c′ at ws) → Emitted bs es at c c′
-  emit-by ws e g a encl s h = subst (Grown c c′ at) (sym e ∙ emits bs es encl s at a h) (g (all-short encl es s))
+module _ (bs es : List ℕ) (at : ℕ) (c c′ : List ℕ) (mark : ℕ) (here : mark ≡ fieldAt bs at) where
+  pub emit-by : (m : ℕ) (ws : List ℕ → List ℕ → ℕ → List ℕ) → mark ≡ m → emittedAs m bs es at ≡ ws bs es at → Written ws bs es at c c′ → Emitted bs es at c c′
+  emit-by m ws e w g a encl s h =
+      subst (Grown c c′ at) (sym w ∙ ap (λ (n : ℕ). emittedAs n bs es at) (sym e ∙ here) ∙ emits bs es encl s at a h) (g .grown (all-short encl es s))
 
-  pub emit-other :
-      (m : ℕ) → (m ≡ AR-mark → ⊥) → (m ≡ IF-mark → ⊥) → (m ≡ KN-mark → ⊥) → (m ≡ CL-mark → ⊥) → (m ≡ GO-mark → ⊥) → (m ≡ AD-mark → ⊥) → (m ≡ RM-mark → ⊥) →
-      emittedAs m bs es at ≡ qyWords bs es at
-  unfolding emittedAs
-  emit-other m h₁ h₂ h₃ h₄ h₅ h₆ h₇ =
-      rw (
-        ne-eqb m AR-mark h₁,
-        ne-eqb m IF-mark h₂,
-        ne-eqb m KN-mark h₃,
-        ne-eqb m CL-mark h₄,
-        ne-eqb m GO-mark h₅,
-        ne-eqb m AD-mark h₆,
-        ne-eqb m RM-mark h₇,
+  pub emit-last :
+      (mark ≡ AR-mark → ⊥) → (mark ≡ IF-mark → ⊥) → (mark ≡ KN-mark → ⊥) → (mark ≡ CL-mark → ⊥) → (mark ≡ GO-mark → ⊥) → (mark ≡ AD-mark → ⊥) → (mark ≡ RM-mark → ⊥) →
+      Written qyWords bs es at c c′ → Emitted bs es at c c′
+  emit-last h₁ h₂ h₃ h₄ h₅ h₆ h₇ =
+      emit-by mark qyWords refl
+      (rw (
+        ne-eqb mark AR-mark h₁,
+        ne-eqb mark IF-mark h₂,
+        ne-eqb mark KN-mark h₃,
+        ne-eqb mark CL-mark h₄,
+        ne-eqb mark GO-mark h₅,
+        ne-eqb mark AD-mark h₆,
+        ne-eqb mark RM-mark h₇,
         emittedAs,
-      )
+      ))

@@ -9,7 +9,7 @@ use Rattle.laws.specs.Fields.{fieldAt, fieldsAt, FieldsStand}
 use Rattle.coordinates.specs.Enclosure.{Enclosure}
 use Rattle.resolved.specs.Resolved.{direct, chosen, resolvedAction}
 use Rattle.writing.specs.Growth.{Grown}
-use Rattle.writing.specs.Visible.{wordIn, usedAt, Shown}
+use Rattle.writing.specs.Visible.{wordIn, usedAt, AllShort, Shown}
 
 unfoldable pub knWords : List ℕ → List ℕ → ℕ → List ℕ
 knWords bs es at =
@@ -27,13 +27,13 @@ ifWords bs es at =
 unfoldable pub goWords : List ℕ → List ℕ → ℕ → List ℕ
 goWords bs es at = let a = usedAt bs es (at + 2) in chosen (direct a) 5 14 ∷ a ∷ []
 
-unfoldable pub argumentWords : List ℕ → List ℕ → ℕ → ℕ → List ℕ
-argumentWords bs es at count = map (λ (n : ℕ). wordIn n es) (fieldsAt bs at count)
+unfoldable pub argumentWords : ℕ → List ℕ → List ℕ → ℕ → List ℕ
+argumentWords count bs es at = map (λ (n : ℕ). wordIn n es) (fieldsAt bs at count)
 
 unfoldable pub clWords : List ℕ → List ℕ → ℕ → List ℕ
 clWords bs es at =
     let w = usedAt bs es (at + 2) in
-    chosen (direct w) 7 15 ∷ w ∷ fieldAt bs (at + 4) ∷ argumentWords bs es (at + 6) (fieldAt bs (at + 4))
+    chosen (direct w) 7 15 ∷ w ∷ fieldAt bs (at + 4) ∷ argumentWords (fieldAt bs (at + 4)) bs es (at + 6)
 
 -- AD and RM, with their operation
 unfoldable pub pairWords : ℕ → List ℕ → List ℕ → ℕ → List ℕ
@@ -43,7 +43,7 @@ unfoldable pub qyWords : List ℕ → List ℕ → ℕ → List ℕ
 qyWords bs es at = 10 ∷ usedAt bs es (at + 2) ∷ usedAt bs es (at + 4) ∷ usedAt bs es (at + 6) ∷ []
 
 -- by the mark
-unfoldable pub emittedAs : ℕ → List ℕ → List ℕ → ℕ → List ℕ
+abbrev pub emittedAs : ℕ → List ℕ → List ℕ → ℕ → List ℕ
 emittedAs m bs es at =
     elim (eqb m AR-mark) [
       | true ↦ arWords bs es at
@@ -67,6 +67,10 @@ emittedAs m bs es at =
         ]
       ]
     ]
+
+-- words written at a place, where the words of all visible names are short
+pub record Written (words : List ℕ → List ℕ → ℕ → List ℕ) (bs es : List ℕ) (at : ℕ) (code code′ : List ℕ) : Type 0 where
+  pub grown : AllShort es → Grown code code′ at (words bs es at)
 
 -- a statement other than BK is written as its resolved words
 abbrev pub Emitted : List ℕ → List ℕ → ℕ → List ℕ → List ℕ → Type 0

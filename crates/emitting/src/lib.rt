@@ -1,4 +1,5 @@
 // The words of a statement of the resolved script, written at their places. All is safe on any bytes.
+use layout::formal_of;
 use marks::AD;
 use marks::AR;
 use marks::CL;
@@ -20,17 +21,8 @@ ghost use lib.Dec.{eqb};
 ghost use lib.ListN.{drop};
 ghost use Rattle.symbols.specs.Chains.{Chained};
 ghost use Rattle.laws.specs.Fields.{fieldAt};
-ghost use Rattle.resolved.specs.Resolved.{chosen, formalIn};
-ghost use Rattle.writing.specs.Growth.{Grown};
-ghost use Rattle.writing.specs.Visible.{AllShort};
-ghost use Rattle.emitting.specs.Emitted.{knWords, arWords, ifWords, goWords, clWords, pairWords, qyWords, argumentWords, Emitted};
-
-// Whether a word is a formal's: 1, or 0.
-fn formal(w: usize) -> usize
-    ensures { λ r. ⌜ (r ≡ formalIn w) × (r < 2) ⌝ }
-{
-    w / 32 % 2
-}
+ghost use Rattle.resolved.specs.Resolved.{chosen};
+ghost use Rattle.emitting.specs.Emitted.{knWords, arWords, ifWords, goWords, clWords, pairWords, qyWords, argumentWords, Written, Emitted};
 
 // The operation of a statement with so many formals among its names.
 fn operation(formals: usize, plain: usize, other: usize) -> usize
@@ -44,46 +36,72 @@ fn operation(formals: usize, plain: usize, other: usize) -> usize
 
 fn emit_kn(script: &[u8], entries: &[usize], top: usize, code: &mut [u32], at: usize)
     requires { ⌜ (at < 2 ^ 32) × Chained (now entries) top ⌝ }
-    ensures { λ _. ⌜ (AllShort (drop top (now (entries .entry))) → Grown (now (code .entry)) (now (code .exit)) at (knWords (now (script .entry)) (drop top (now (entries .entry))) at)) ⌝ }
+    ensures { λ _. ⌜ Written knWords (now (script .entry)) (drop top (now (entries .entry))) at (now (code .entry)) (now (code .exit)) ⌝ }
 {
     let w = used(script, entries, top, at + 2);
     let value = word(script, at + 4) + 65536 * word(script, at + 6);
-    put_four(code, at, operation(formal(w), 0, 11), w, value, 0);
+    put_four(
+        code,
+        at,
+        operation(formal_of(w), layout::CONSTANT, layout::CONSTANT_FORMAL),
+        w,
+        value,
+        0,
+    );
 }
 
 fn emit_ar(script: &[u8], entries: &[usize], top: usize, code: &mut [u32], at: usize)
     requires { ⌜ (at < 2 ^ 32) × Chained (now entries) top ⌝ }
-    ensures { λ _. ⌜ (AllShort (drop top (now (entries .entry))) → Grown (now (code .entry)) (now (code .exit)) at (arWords (now (script .entry)) (drop top (now (entries .entry))) at)) ⌝ }
+    ensures { λ _. ⌜ Written arWords (now (script .entry)) (drop top (now (entries .entry))) at (now (code .entry)) (now (code .exit)) ⌝ }
 {
     let w = used(script, entries, top, at + 2);
     let o = word(script, at + 4);
     let a = used(script, entries, top, at + 6);
     let b = used(script, entries, top, at + 8);
-    let op = operation(formal(w) + (formal(a) + formal(b)), 1 + o, 12);
+    let op = operation(
+        formal_of(w) + (formal_of(a) + formal_of(b)),
+        layout::ADD + o,
+        layout::ARITHMETIC_FORMAL,
+    );
     put_five(code, at, op, w, o, a, b);
 }
 
 fn emit_if(script: &[u8], entries: &[usize], top: usize, code: &mut [u32], at: usize)
     requires { ⌜ (at < 2 ^ 32) × Chained (now entries) top ⌝ }
-    ensures { λ _. ⌜ (AllShort (drop top (now (entries .entry))) → Grown (now (code .entry)) (now (code .exit)) at (ifWords (now (script .entry)) (drop top (now (entries .entry))) at)) ⌝ }
+    ensures { λ _. ⌜ Written ifWords (now (script .entry)) (drop top (now (entries .entry))) at (now (code .entry)) (now (code .exit)) ⌝ }
 {
     let w = used(script, entries, top, at + 2);
     let a = used(script, entries, top, at + 4);
-    put_three(code, at, operation(formal(w) + formal(a), 4, 13), a, w);
+    put_three(
+        code,
+        at,
+        operation(
+            formal_of(w) + formal_of(a),
+            layout::BRANCH,
+            layout::BRANCH_FORMAL,
+        ),
+        a,
+        w,
+    );
 }
 
 fn emit_go(script: &[u8], entries: &[usize], top: usize, code: &mut [u32], at: usize)
     requires { ⌜ (at < 2 ^ 32) × Chained (now entries) top ⌝ }
-    ensures { λ _. ⌜ (AllShort (drop top (now (entries .entry))) → Grown (now (code .entry)) (now (code .exit)) at (goWords (now (script .entry)) (drop top (now (entries .entry))) at)) ⌝ }
+    ensures { λ _. ⌜ Written goWords (now (script .entry)) (drop top (now (entries .entry))) at (now (code .entry)) (now (code .exit)) ⌝ }
 {
     let a = used(script, entries, top, at + 2);
-    put_two(code, at, operation(formal(a), 5, 14), a);
+    put_two(
+        code,
+        at,
+        operation(formal_of(a), layout::GOTO, layout::GOTO_FORMAL),
+        a,
+    );
 }
 
 // AD and RM, with their operation.
 fn emit_pair(script: &[u8], entries: &[usize], top: usize, code: &mut [u32], at: usize, op: usize)
     requires { ⌜ (at < 2 ^ 32) × (op < 65536) × Chained (now entries) top ⌝ }
-    ensures { λ _. ⌜ (AllShort (drop top (now (entries .entry))) → Grown (now (code .entry)) (now (code .exit)) at (pairWords op (now (script .entry)) (drop top (now (entries .entry))) at)) ⌝ }
+    ensures { λ _. ⌜ Written (pairWords op) (now (script .entry)) (drop top (now (entries .entry))) at (now (code .entry)) (now (code .exit)) ⌝ }
 {
     let g = used(script, entries, top, at + 2);
     let m = used(script, entries, top, at + 4);
@@ -92,12 +110,12 @@ fn emit_pair(script: &[u8], entries: &[usize], top: usize, code: &mut [u32], at:
 
 fn emit_qy(script: &[u8], entries: &[usize], top: usize, code: &mut [u32], at: usize)
     requires { ⌜ (at < 2 ^ 32) × Chained (now entries) top ⌝ }
-    ensures { λ _. ⌜ (AllShort (drop top (now (entries .entry))) → Grown (now (code .entry)) (now (code .exit)) at (qyWords (now (script .entry)) (drop top (now (entries .entry))) at)) ⌝ }
+    ensures { λ _. ⌜ Written qyWords (now (script .entry)) (drop top (now (entries .entry))) at (now (code .entry)) (now (code .exit)) ⌝ }
 {
     let t = used(script, entries, top, at + 2);
     let g = used(script, entries, top, at + 4);
     let m = used(script, entries, top, at + 6);
-    put_four(code, at, 10, t, g, m);
+    put_four(code, at, layout::QUERY, t, g, m);
 }
 
 // So many names from an offset on.
@@ -110,7 +128,7 @@ fn arguments(
     count: usize,
 )
     requires { ⌜ (at < 2 ^ 32 + 6) × (count < 65536) × Chained (now entries) top ⌝ }
-    ensures { λ _. ⌜ (AllShort (drop top (now (entries .entry))) → Grown (now (code .entry)) (now (code .exit)) at (argumentWords (now (script .entry)) (drop top (now (entries .entry))) at count)) ⌝ }
+    ensures { λ _. ⌜ Written (argumentWords count) (now (script .entry)) (drop top (now (entries .entry))) at (now (code .entry)) (now (code .exit)) ⌝ }
 {
     let mut i = 0;
     while i < count {
@@ -121,11 +139,17 @@ fn arguments(
 
 fn emit_cl(script: &[u8], entries: &[usize], top: usize, code: &mut [u32], at: usize)
     requires { ⌜ (at < 2 ^ 32) × Chained (now entries) top ⌝ }
-    ensures { λ _. ⌜ (AllShort (drop top (now (entries .entry))) → Grown (now (code .entry)) (now (code .exit)) at (clWords (now (script .entry)) (drop top (now (entries .entry))) at)) ⌝ }
+    ensures { λ _. ⌜ Written clWords (now (script .entry)) (drop top (now (entries .entry))) at (now (code .entry)) (now (code .exit)) ⌝ }
 {
     let w = used(script, entries, top, at + 2);
     let count = word(script, at + 4);
-    put_three(code, at, operation(formal(w), 7, 15), w, count);
+    put_three(
+        code,
+        at,
+        operation(formal_of(w), layout::CALL, layout::CALL_FORMAL),
+        w,
+        count,
+    );
     arguments(script, entries, top, code, at + 6, count);
 }
 
@@ -150,10 +174,10 @@ pub fn emit(script: &[u8], entries: &[usize], top: usize, code: &mut [u32], at: 
         return emit_go(script, entries, top, code, at);
     }
     if mark == AD {
-        return emit_pair(script, entries, top, code, at, 8);
+        return emit_pair(script, entries, top, code, at, layout::ADD_PAIR);
     }
     if mark == RM {
-        return emit_pair(script, entries, top, code, at, 9);
+        return emit_pair(script, entries, top, code, at, layout::REMOVE_PAIR);
     }
     emit_qy(script, entries, top, code, at);
 }

@@ -60,3 +60,10 @@ pub record Ends (bs es : List ℕ) : Type 0 where
 abbrev pub Pushed : List ℕ → ℕ → ℕ → ℕ → List ℕ → Type 0
 Pushed bs at count base es =
     (xs : List Item) → length xs ≡ count → FieldsStand bs at (itemsFields xs) → take count (drop base es) ≡ entriesOf bs xs at
+
+-- they are put there and nothing else is changed, and the ends noted are right
+pub record Placed (bs es es′ ends : List ℕ) (at count base : ℕ) : Type 0 where
+  pub pushed : Pushed bs at count base es′
+  pub above : drop (base + count) es′ ≡ drop (base + count) es
+  pub below : take base es′ ≡ take base es
+  pub noted : Ends bs ends

@@ -1,9 +1,9 @@
 // Passing over the records of a script, where each ends, and the entries of those that declare names. All is safe on any bytes up to 8,192.
+use symbols::entry_of;
 use words::word;
-ghost use mathlib.Core.Path.{_≡_};
 ghost use Prim.Native.Nat.{_+_, _<_, _≤_};
-ghost use lib.ListN.{length, take, drop};
-ghost use Rattle.extents.specs.Passing.{Ends, Pushed};
+ghost use lib.ListN.{length};
+ghost use Rattle.extents.specs.Passing.{Ends, Placed};
 
 mod ends;
 mod passing;
@@ -24,15 +24,12 @@ pub fn push(
     base: usize,
 )
     requires { ⌜ (length (now script) ≤ 8192) × (at ≤ 1000000) × (base + count ≤ length (now entries)) × Ends (now script) (now ends) ⌝ }
-    ensures pushed { λ _. ⌜ Pushed (now (script .entry)) at count base (now (entries .exit)) ⌝ }
-    ensures kept { λ _. ⌜ drop (base + count) (now (entries .exit)) ≡ drop (base + count) (now (entries .entry)) ⌝ }
-    ensures below { λ _. ⌜ take base (now (entries .exit)) ≡ take base (now (entries .entry)) ⌝ }
-    ensures noted { λ _. ⌜ Ends (now (script .entry)) (now (ends .exit)) ⌝ }
+    ensures { λ _. ⌜ Placed (now (script .entry)) (now (entries .entry)) (now (entries .exit)) (now (ends .exit)) at count base ⌝ }
 {
     let mut here = at;
     let mut i = 0;
     while i < count {
-        entries[base + i] = word(script, here + 2) + 65536 * here;
+        entries[base + i] = entry_of(word(script, here + 2), here);
         here = skip(script, ends, here);
         i += 1;
     }

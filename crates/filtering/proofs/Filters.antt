@@ -40,13 +40,11 @@ and-grows w = bin-ind (λ (n : ℕ). (c m : ℕ) → bitAnd n m ≤ bitAnd (bitO
             (le-of-eq (sym (and-step u m))))
 
 covers-more : (w c m : ℕ) → covers w m ≡ true → covers (join w c) m ≡ true
-unfolding covers join
 covers-more w c m e =
     let old : bitAnd w m ≡ m = eqb-true (bitAnd w m) m e in
     eq-eqb (bitAnd (bitOr w c) m) m (omega (arith, and-grows w c m, and-le-r (bitOr w c) m))
 
 covers-own : (w m : ℕ) → covers (join w m) m ≡ true
-unfolding covers join
 covers-own w m =
     let up : bitAnd m m ≤ bitAnd (bitOr w m) m = subst (λ (u : ℕ). bitAnd m m ≤ bitAnd u m) (or-comm m w) (and-grows m w m) in
     eq-eqb (bitAnd (bitOr w m) m) m (omega (arith, and-self m, and-le-r (bitOr w m) m))

@@ -11,10 +11,10 @@ use lib.ListN.{length, getD}
 use Rattle.keys.specs.Keys.{rankAt}
 use Rattle.hashing.specs.Hashes.{classAt, bucketAt, maskAt, markAt}
 
-unfoldable pub covers : ℕ → ℕ → Bool
+abbrev pub covers : ℕ → ℕ → Bool
 covers word mask = eqb (bitAnd word mask) mask
 
-unfoldable pub join : ℕ → ℕ → ℕ
+abbrev pub join : ℕ → ℕ → ℕ
 join word mask = bitOr word mask
 
 abbrev pub Has : List ℕ → ℕ → ℕ → Type 0

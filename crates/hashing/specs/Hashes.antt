@@ -10,11 +10,11 @@ unfoldable pub weightOf : ℤ → ℕ
 weightOf (pos n) = n
 weightOf (negsuc n) = 0
 
-unfoldable pub combine : ℕ → ℕ → ℕ
+abbrev pub combine : ℕ → ℕ → ℕ
 combine g m = g * 1640531527 + m * 1540483477
 
 -- Numbers that follow each other are common in a table, so a product alone would leave a pattern.
-unfoldable pub mix : ℕ → ℕ
+abbrev pub mix : ℕ → ℕ
 mix h =
     let a = bitXor h (h / 4294967296) in
     bitXor a (a / 65536) % 4294967296 * 3266489909
@@ -36,12 +36,12 @@ unfoldable pub bucket : ℕ → ℕ → ℕ
 bucket buckets h = h / 1048576 % 4294967296 * buckets / 4294967296
 
 -- three bits of a word
-unfoldable pub maskOf : ℕ → ℕ
+abbrev pub maskOf : ℕ → ℕ
 maskOf h =
     bitOr (bitOr (1 * 2 ^ (h / 16777216 % 64) % 2 ^ 64) (1 * 2 ^ (h / 1073741824 % 64) % 2 ^ 64)) (1 * 2 ^ (h / 4503599627370496 % 64) % 2 ^ 64)
 
 -- the word of the marks in which those bits are
-unfoldable pub markOf : ℕ → ℕ
+abbrev pub markOf : ℕ → ℕ
 markOf h = h / 256 % 4096
 
 abbrev pub bucketAt : ℕ → Bool → List ℤ → ℕ → ℕ

@@ -39,38 +39,31 @@ map-set f (x ∷ l) (suc q) v = ap (λ (m : List ℕ). f x ∷ m) (map-set f l q
 -- ---- what a slot holds
 
 pub first-in : (slots : List ℕ) (q : ℕ) → getD (firsts slots) q 0 ≡ placeIn (getD slots q 0)
-unfolding placeIn
 first-in slots q = List·getD-map placeIn slots q 0
 
 pub number-of : (slots : List ℕ) (q : ℕ) → getD (numbers slots) q 0 ≡ numberIn (getD slots q 0)
-unfolding numberIn
 number-of slots q = List·getD-map numberIn slots q 0
 
 pub number-room : (v limit : ℕ) → numberIn v < limit → limit < 4294967296 → v + 4294967296 < 18446744073709551616
-unfolding numberIn
 number-room v limit l h = omega arith
 
 module _ (slots : List ℕ) (q : ℕ) where
   -- a slot is taken for the pair at i
   firsts-new : (i : ℕ) → i < 4294967295 → firsts (set slots q (i + 1 + 4294967296)) ≡ set (firsts slots) q (suc i)
-  unfolding placeIn
   firsts-new i l =
       let e : (i + 1 + 4294967296) % 4294967296 ≡ suc i = omega arith in
       map-set placeIn slots q (i + 1 + 4294967296) ∙ ap (set (firsts slots) q) e
 
   numbers-new : (i : ℕ) → i < 4294967295 → numbers (set slots q (i + 1 + 4294967296)) ≡ set (numbers slots) q 1
-  unfolding numberIn
   numbers-new i l =
       let e : (i + 1 + 4294967296) / 4294967296 ≡ 1 = omega arith in
       map-set numberIn slots q (i + 1 + 4294967296) ∙ ap (set (numbers slots) q) e
 
   -- one pair more is counted there
   firsts-more : firsts (set slots q (getD slots q 0 + 4294967296)) ≡ firsts slots
-  unfolding placeIn
   firsts-more = map-set-same placeIn slots q (getD slots q 0 + 4294967296) 0 (omega arith)
 
   numbers-more : numbers (set slots q (getD slots q 0 + 4294967296)) ≡ set (numbers slots) q (suc (getD (numbers slots) q 0))
-  unfolding numberIn
   numbers-more =
       let e : (getD slots q 0 + 4294967296) / 4294967296 ≡ suc (getD slots q 0 / 4294967296) = omega arith in
       map-set numberIn slots q (getD slots q 0 + 4294967296) ∙ ap (set (numbers slots) q) (e ∙ ap suc (sym (number-of slots q)))
@@ -166,7 +159,6 @@ module _ (whole : Bool) (ws : List ℤ) (mine : ℕ → Bool) (keyed : Keyed who
       }
 
 firsts-none : (n q : ℕ) → getD (firsts (replicate n 0)) q 0 ≡ 0
-unfolding placeIn
 firsts-none n q = first-in (replicate n 0) q ∙ ap placeIn (zeros n q)
 
 pub good-start : (whole : Bool) (ws : List ℤ) (mine : ℕ → Bool) → Good whole ws mine 0 (replicate 28160 0)

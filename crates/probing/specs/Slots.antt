@@ -14,10 +14,10 @@ use Rattle.probing.specs.declared.Slot.{Slot}
 use Rattle.probing.specs.declared.Slot.the-variants.{Empty, Held, Full}
 
 -- A slot has the place of the first pair with its key, plus 1, and 2 ^ 32 times how many pairs with the key were passed.
-unfoldable pub placeIn : ℕ → ℕ
+abbrev pub placeIn : ℕ → ℕ
 placeIn v = v % 4294967296
 
-unfoldable pub numberIn : ℕ → ℕ
+abbrev pub numberIn : ℕ → ℕ
 numberIn v = v / 4294967296
 
 abbrev pub firsts : List ℕ → List ℕ

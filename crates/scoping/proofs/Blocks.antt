@@ -3,7 +3,7 @@
 use mathlib.Core.Path.{_≡_, refl, sym, _∙_, ap, subst}
 use mathlib.Core.Bool.{Bool, true, false}
 use mathlib.Core.List.{List, [], _∷_, _++_, map}
-use Prim.Native.Nat.{ℕ, _+_, _*_, _<_, _≤_}
+use Prim.Native.Nat.{ℕ, _+_, _*_, _-_, _<_, _≤_}
 use native.Mathlib.Omega.{arith}
 use lib.Dec.{leb}
 use lib.ListN.{length, take, drop, length-append, length-map, take-append-drop}
@@ -19,9 +19,13 @@ use Rattle.grammar.specs.Rules.{FormedBlock, FormedDecls, FormedStmts}
 use Rattle.laws.specs.Fields.{fieldAt, FieldsStand, field-inside, fields-first, fields-after, fields-third}
 use Rattle.uses.specs.Meanings.{scopeOf}
 use Rattle.extents.specs.Items.{Item, formal, declared, stated, itemFields, itemsFields, inBlock, blockHead, entriesOf}
-use Rattle.scoping.specs.Walking.{progressOf, judgeItem, judgeItems, FormedItem, FormedItems, Ahead, BlockHere, ItemsHere}
+use Rattle.scoping.specs.Walking.{progressOf, judgeItem, judgeItems, FormedItem, FormedItems, Ahead, Kept, BlockHere, ItemsHere, BlockJudged, ItemsJudged}
+use Rattle.symbols.specs.Chains.{Chained, Rechained}
+use Rattle.symbols.proofs.Chains.{kept-from, pushed-chained}
+use Rattle.extents.specs.Passing.{Placed}
 use Rattle.extents.proofs.Inside.{items-append, block-opens, formal-items, decl-items}
 use Rattle.scoping.proofs.Names.{formals-mean, decls-mean}
+use Rattle.scoping.proofs.Statements.{block-mark}
 
 pub word-within : (bs : List ℕ) (at : ℕ) → 0 < fieldAt bs at → at < length bs
 word-within bs at p = go (leb (length bs) at) refl
@@ -197,11 +201,68 @@ module _ (bs : List ℕ) (at count top : ℕ) where
             ∙ ap (λ (v : definitions.Judgement). progressOf v (start + 2 * length (blockFields (block o ds ss))))
             (ap (judgeItems (inBlock (block o ds ss))) scope-is ∙ judged-block (scopeOf bs (drop top es₀)))
 
-  module _ (d s base : ℕ) (d-read : d ≡ fieldAt bs (start + 2)) (s-read : s ≡ fieldAt bs (start + 4)) (whole : base + (count + d) ≡ top)
-      (es₀ es₁ es₂ : List ℕ) (kept : drop (base + count) es₂ ≡ drop (base + count) es₁) (before : drop (base + count + d) es₁ ≡ drop (base + count + d) es₀)
-      (declared-there : (xs : List Item) → length xs ≡ d → FieldsStand bs (start + 6) (itemsFields xs) → take d (drop (base + count) es₁) ≡ entriesOf bs xs (start + 6))
-      (formals-there : (xs : List Item) → length xs ≡ count → FieldsStand bs at (itemsFields xs) → take count (drop base es₂) ≡ entriesOf bs xs at)
-      (r : Progress) (judged : (xs : List Item) (k n : ℕ) → ItemsHere bs (start + 6) (d + s) base xs k n → r ≡ progressOf (judgeItems xs (scopeOf bs (drop base es₂))) (start + 6 + 2 * length (itemsFields xs))) where
-    pub block-judged : (b : Block) (fs : List Formal) (level : ℕ) → BlockHere bs at count top b fs level → r ≡ progressOf (judgeBlock b fs (scopeOf bs (drop top es₀))) (start + 2 * length (blockFields b))
-    block-judged (block o ds ss) fs level h =
-        judged-here o ds ss fs level h d s base d-read s-read whole es₀ es₁ es₂ kept before declared-there formals-there r judged
+-- A block as the code has it: its mark and its numbers read, room for its names from `base` on.
+
+-- no block, or one with too many names, stands there
+pub no-block : (bs es : List ℕ) (at count top w : ℕ) (r : Progress) → w ≡ fieldAt bs (at + 6 * count) → (w ≡ BK-mark → ⊥) → BlockJudged bs es at count top r
+no-block bs es at count top w r e n b fs level h = absurd (n (e ∙ block-mark bs (at + 6 * count) b (h .stand)))
+
+pub no-room :
+    (bs es : List ℕ) (at count top d : ℕ) (r : Progress) → d ≡ fieldAt bs (at + 6 * count + 2) → top < 768 + (count + d) → BlockJudged bs es at count top r
+no-room bs es at count top d r e l b fs level h = absurd (omega (arith, block-room bs at count top b fs level h))
+
+-- its records begin inside the script, so that what is unread falls
+module _ (bs : List ℕ) (at w : ℕ) (read : w ≡ fieldAt bs at) (marked : w ≡ BK-mark) where
+  pub records-near : (k : ℕ) → 6 ≤ k → at + 6 ≤ length bs + k
+  records-near k l = omega (arith, word-within bs at (omega arith))
+
+  pub records-fall : (t : ℕ) → 3 * (length bs - at) ≡ t → 3 * (length bs - (at + 6)) + 2 < t
+  records-fall t e = omega (arith, word-within bs at (omega arith))
+
+pub ahead-body : (at n : ℕ) (r : Progress) → Ahead (at + 6) n r → Ahead at n r
+ahead-body at n r a = ahead-from at (at + 6) n r (omega arith) a
+
+-- its names are put below `top`: those declared, then the formals
+module _ (bs es es₁ es₂ ends₁ ends₂ : List ℕ) (at count d top : ℕ) (formals-put : Placed bs es₁ es₂ ends₂ at count (top - (count + d)))
+    (declared-put : Placed bs es es₁ ends₁ (at + 6 * count + 6) d (top - (count + d) + count)) (fits : 768 + (count + d) ≤ top)
+  where
+    abbrev base : ℕ
+    base = top - (count + d)
+
+    whole : base + (count + d) ≡ top
+    whole = omega arith
+
+    -- the chains are as they were
+    pub names-chained : length es₁ ≡ length es → length es₂ ≡ length es₁ → Chained es top → Chained es₂ top
+    names-chained n₁ n₂ h =
+        pushed-chained es es₁ es₂ base count d top (omega arith) whole n₁ n₂ (declared-put .below) (declared-put .above) (formals-put .below) (formals-put .above) h
+
+    -- in the chains, the records walked, out of the chains
+    module _ (es₃ : List ℕ) (inserted : Rechained es₂ es₃ base) where
+      hung-here : drop base es₃ ≡ drop base es₂
+      hung-here = kept-from es₃ es₂ 768 base (omega arith) (inserted .same)
+
+      block-judged :
+          (s : ℕ) (r : Progress) → d ≡ fieldAt bs (at + 6 * count + 2) → s ≡ fieldAt bs (at + 6 * count + 4) →
+          ItemsJudged bs es₃ (at + 6 * count + 6) (d + s) base r → BlockJudged bs es at count top r
+      block-judged s r d-read s-read j (block o l ss) fs level h =
+          judged-here bs at count top o l ss fs level h d s base d-read s-read whole es es₁ es₂ (formals-put .above) (declared-put .above) (declared-put .pushed)
+          (formals-put .pushed) r
+          (λ xs k n i. j xs k n i ∙ ap (λ (e : List ℕ). progressOf (judgeItems xs (scopeOf bs e)) (at + 6 * count + 6 + 2 * length (itemsFields xs))) hung-here)
+
+      block-kept : (es₄ es₅ ends : List ℕ) → Kept bs es₃ es₄ ends base → Rechained es₄ es₅ top → Kept bs es es₅ ends top
+      block-kept es₄ es₅ ends k r =
+          record {
+            same =
+                kept-from es₅ es₄ 768 top (omega arith) (r .same)
+                ∙ kept-below es es₁ es₂ base count d top whole (formals-put .above) (declared-put .above) es₄ (k .same ∙ hung-here);
+            chained = r .chained;
+            noted = k .noted;
+          }
+
+      pub block-walked :
+          (s : ℕ) (r : Progress) (es₄ es₅ ends : List ℕ) → d ≡ fieldAt bs (at + 6 * count + 2) → s ≡ fieldAt bs (at + 6 * count + 4) →
+          ItemsJudged bs es₃ (at + 6 * count + 6) (d + s) base r × (Ahead (at + 6 * count + 6) (length bs) r × Kept bs es₃ es₄ ends base) →
+          Rechained es₄ es₅ top → BlockJudged bs es at count top r × (Ahead at (length bs) r × Kept bs es es₅ ends top)
+      block-walked s r es₄ es₅ ends d-read s-read w out =
+          (block-judged s r d-read s-read (w .0), (ahead-from at (at + 6 * count + 6) (length bs) r (omega arith) (w .1 .0), block-kept es₄ es₅ ends (w .1 .1) out))

@@ -16,7 +16,7 @@ use Rattle.extents.specs.Items.{formal, declared, itemFields, entriesOf}
 use Rattle.uses.proofs.Meanings.{means-PR, means-LB, means-FM, means-other}
 
 kind-back : (k : Kind) → kindFrom (kindField k) ≡ k
-unfolding kindFrom kindField
+unfolding kindField
 kind-back variable = refl
 kind-back label = refl
 kind-back procedure = refl

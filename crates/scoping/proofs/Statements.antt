@@ -2,7 +2,7 @@
 -- Assumes nothing.
 use mathlib.Core.Path.{_≡_, refl, sym, _∙_, ap, subst}
 use mathlib.Core.List.{List, [], _∷_, _++_, append-nil}
-use Prim.Native.Nat.{ℕ, suc, _+_, _*_, _≤_}
+use Prim.Native.Nat.{ℕ, suc, _+_, _*_, _<_, _≤_}
 use native.Mathlib.Omega.{arith}
 use lib.ListN.{length, length-append}
 use Rattle.language.specs.Text.{Formal, Action, CL, GO, IF, KN, AR, AD, RM, QY, Block, block, VR, LB, PR, BK, DO}
@@ -13,17 +13,18 @@ use Rattle.records.specs.declared.Progress.{Progress}
 use Rattle.records.specs.declared.Progress.the-variants.{At, Refused}
 use Rattle.grammar.specs.Rules.{FormedBlock, FormedDecl, FormedStmt, FormedFormals}
 use Rattle.laws.specs.Fields.{fieldAt, FieldsStand, fields-first, fields-after, fields-are, fields-third}
-use Rattle.uses.specs.Meanings.{verdictOf, pairJudged, tripleJudged}
+use Rattle.uses.specs.Meanings.{verdictOf, scopeFrom}
 use Rattle.actions.specs.Shapes.{shapeOf, judgedAs}
 use Rattle.extents.specs.Items.{Item, formal, body, declared, stated, itemFields, itemsFields, children, headFields}
 use Rattle.extents.specs.Passing.{Passed}
-use Rattle.actions.specs.Walked.{progressAfter}
-use Rattle.scoping.specs.Walking.{progressOf, Ahead, judgeItem, FormedItem, BlockHere, ItemHere}
+use Rattle.actions.specs.Walked.{progressAfter, Walked}
+use Rattle.scoping.specs.Walking.{progressOf, Ahead, judgeItem, FormedItem, BlockHere, ItemHere, BlockJudged, ItemJudged}
 use Rattle.extents.specs.declared.passing.Step.{Step}
 use Rattle.language.specs.declared.Verdict.{Verdict}
 use Rattle.language.specs.declared.Verdict.the-variants.{Fit}
 use Rattle.language.specs.declared.Verdict.the-variants as verdicts
 use Rattle.extents.proofs.Inside.{item-opens, head-size}
+use Rattle.extents.proofs.Skipping.{passed-VR, passed-LB}
 
 -- the fourth and the fifth field
 fourth-is : (bs : List ℕ) (at a b c d : ℕ) (ws : List ℕ) → FieldsStand bs at (a ∷ b ∷ c ∷ d ∷ ws) → fieldAt bs (at + 6) ≡ d
@@ -38,8 +39,8 @@ fifth-is bs at a b c d e ws h = subst (λ (o : ℕ). fieldAt bs o ≡ e) eight (
     eight : at + 2 + 2 + 2 + 2 ≡ at + 8
     eight = omega arith
 
-pub judged-action : (bs : List ℕ) (sc : Scope) (at : ℕ) (a : Action) → FieldsStand bs at (actionFields a) → judgedAs (shapeOf (fieldAt bs at)) sc bs at ≡ judgeAction sc at a
-unfolding judgedAs shapeOf judgeAction actionFields pairJudged tripleJudged
+judged-action : (bs : List ℕ) (sc : Scope) (at : ℕ) (a : Action) → FieldsStand bs at (actionFields a) → judgedAs (shapeOf (fieldAt bs at)) sc bs at ≡ judgeAction sc at a
+unfolding judgeAction actionFields
 judged-action bs sc at (CL p xs) h =
     rw (h .0) (rw (h .1 .0, fields-third bs at CL-mark p (length xs) xs h, fields-are bs (at + 6) xs (fields-after bs at (CL-mark ∷ p ∷ length xs ∷ []) xs h)))
 judged-action bs sc at (GO l) h = rw (h .0) (rw (h .1 .0))
@@ -52,8 +53,7 @@ judged-action bs sc at (RM g m) h = rw (h .0) (rw (h .1 .0, fields-third bs at R
 judged-action bs sc at (QY t g m) h =
     rw (h .0) (rw (h .1 .0, fields-third bs at QY-mark t g (m ∷ []) h, fourth-is bs at QY-mark t g m [] h))
 
-pub onward-progress : (v : definitions.Judgement) (next : ℕ) → progressAfter (verdictOf v) next ≡ progressOf v next
-unfolding progressAfter verdictOf progressOf
+onward-progress : (v : definitions.Judgement) (next : ℕ) → progressAfter (verdictOf v) next ≡ progressOf v next
 onward-progress fine next = refl
 onward-progress (wrong c o) next = refl
 
@@ -87,7 +87,7 @@ formals-length (f ∷ fs) = let e = formals-length fs in omega arith
 module _ (bs : List ℕ) (sc : Scope) (at top : ℕ) where
   -- a procedure
   module _ (marked : fieldAt bs at ≡ PR-mark) (count : ℕ) (is : count ≡ fieldAt bs (at + 4)) (r : Progress) (judged : (b : Block) (fs : List Formal) (level : ℕ) → BlockHere bs (at + 6) count top b fs level → r ≡ progressOf (judgeBlock b fs sc) (at + 6 + 6 * count + 2 * length (blockFields b))) where
-    pub item-PR : (x : Item) (level s : ℕ) → ItemHere bs at top x level s → r ≡ progressOf (judgeItem x sc) (at + 2 * length (itemFields x))
+    item-PR : (x : Item) (level s : ℕ) → ItemHere bs at top x level s → r ≡ progressOf (judgeItem x sc) (at + 2 * length (itemFields x))
     unfolding judgeItem judgeDecl itemFields declFields stmtFields FormedItem FormedDecl
     item-PR (formal f) level s h = absurd (h .formed)
     item-PR (body b) level s h = absurd (h .formed)
@@ -115,7 +115,7 @@ module _ (bs : List ℕ) (sc : Scope) (at top : ℕ) where
 
   -- a block
   module _ (marked : fieldAt bs at ≡ BK-mark) (r : Progress) (judged : (b : Block) (fs : List Formal) (level : ℕ) → BlockHere bs at 0 top b fs level → r ≡ progressOf (judgeBlock b fs sc) (at + 6 * 0 + 2 * length (blockFields b))) where
-    pub item-BK : (x : Item) (level s : ℕ) → ItemHere bs at top x level s → r ≡ progressOf (judgeItem x sc) (at + 2 * length (itemFields x))
+    item-BK : (x : Item) (level s : ℕ) → ItemHere bs at top x level s → r ≡ progressOf (judgeItem x sc) (at + 2 * length (itemFields x))
     unfolding judgeItem judgeStmt itemFields declFields stmtFields FormedItem FormedStmt formalsFields FormedFormals
     item-BK (formal f) level s h = absurd (h .formed)
     item-BK (body b) level s h = absurd (h .formed)
@@ -144,8 +144,8 @@ module _ (bs : List ℕ) (sc : Scope) (at top : ℕ) where
       q .next-is ∙ ap (λ (k : ℕ). at + k) (head-size bs at [] x (subst (FieldsStand bs at) e h) ∙ ap (λ (l : List ℕ). 2 * length l) (sym (e ∙ append-nil (headFields x))))
 
   module _ (p : Step) (q : Passed bs at p) where
-    pub item-VR : fieldAt bs at ≡ VR-mark → (x : Item) (level s : ℕ) → ItemHere bs at top x level s → At (p .next) ≡ progressOf (judgeItem x sc) (at + 2 * length (itemFields x))
-    unfolding judgeItem judgeDecl itemFields declFields stmtFields FormedItem progressOf children
+    item-VR : fieldAt bs at ≡ VR-mark → (x : Item) (level s : ℕ) → ItemHere bs at top x level s → At (p .next) ≡ progressOf (judgeItem x sc) (at + 2 * length (itemFields x))
+    unfolding judgeItem judgeDecl itemFields declFields stmtFields FormedItem children
     item-VR marked (formal f) level s h = absurd (h .formed)
     item-VR marked (body b) level s h = absurd (h .formed)
     item-VR marked (declared (VR o n)) level s h = ap At (alone p q (declared (VR o n)) refl (h .stand))
@@ -154,8 +154,8 @@ module _ (bs : List ℕ) (sc : Scope) (at top : ℕ) where
     item-VR marked (stated (BK b)) level s h = absurd (let e = block-mark bs at b (h .stand) in omega arith)
     item-VR marked (stated (DO o a)) level s h = absurd (plain bs at a (h .stand) .no-VR marked)
 
-    pub item-LB : fieldAt bs at ≡ LB-mark → (x : Item) (level s : ℕ) → ItemHere bs at top x level s → At (p .next) ≡ progressOf (judgeItem x sc) (at + 2 * length (itemFields x))
-    unfolding judgeItem judgeDecl itemFields declFields stmtFields FormedItem progressOf children
+    item-LB : fieldAt bs at ≡ LB-mark → (x : Item) (level s : ℕ) → ItemHere bs at top x level s → At (p .next) ≡ progressOf (judgeItem x sc) (at + 2 * length (itemFields x))
+    unfolding judgeItem judgeDecl itemFields declFields stmtFields FormedItem children
     item-LB marked (formal f) level s h = absurd (h .formed)
     item-LB marked (body b) level s h = absurd (h .formed)
     item-LB marked (declared (VR o n)) level s h = absurd (let e = h .stand .0 in omega arith)
@@ -165,7 +165,7 @@ module _ (bs : List ℕ) (sc : Scope) (at top : ℕ) where
     item-LB marked (stated (DO o a)) level s h = absurd (plain bs at a (h .stand) .no-LB marked)
 
     module _ (no-PR : fieldAt bs at ≡ PR-mark → ⊥) (no-BK : fieldAt bs at ≡ BK-mark → ⊥) (no-VR : fieldAt bs at ≡ VR-mark → ⊥) (no-LB : fieldAt bs at ≡ LB-mark → ⊥) (v : Verdict) (is : v ≡ verdictOf (judgedAs (shapeOf (fieldAt bs at)) sc bs at)) where
-      pub item-action : (x : Item) (level s : ℕ) → ItemHere bs at top x level s → progressAfter v (p .next) ≡ progressOf (judgeItem x sc) (at + 2 * length (itemFields x))
+      item-action : (x : Item) (level s : ℕ) → ItemHere bs at top x level s → progressAfter v (p .next) ≡ progressOf (judgeItem x sc) (at + 2 * length (itemFields x))
       unfolding judgeItem judgeStmt itemFields declFields stmtFields FormedItem FormedStmt children
       item-action (formal f) level s h = absurd (h .formed)
       item-action (body b) level s h = absurd (h .formed)
@@ -178,10 +178,35 @@ module _ (bs : List ℕ) (sc : Scope) (at top : ℕ) where
           ∙ onward-progress (judgeAction sc at a) (p .next)
           ∙ rw (h .formed .stands, alone p q (stated (DO o a)) refl (h .stand))
 
-pub ahead-after : (at n next : ℕ) (v : Verdict) (r : Progress) → r ≡ progressAfter v next → at ≤ next → next ≤ n + 131076 → Ahead at n r
-unfolding progressAfter
-ahead-after at n next v r e low high = subst (Ahead at n) (sym e) (go v)
+-- A record as the code has it: its mark read.
+module _ (bs es : List ℕ) (at top mark : ℕ) (read : mark ≡ fieldAt bs at) where
+  abbrev scope : Scope
+  scope = scopeFrom bs es top
+
+  pub procedure-judged :
+      (count : ℕ) (r : Progress) → mark ≡ PR-mark → count ≡ fieldAt bs (at + 4) → BlockJudged bs es (at + 6) count top r → ItemJudged bs es at top r
+  procedure-judged count r m is j = item-PR bs scope at top (sym read ∙ m) count is r j
+
+  pub block-as-judged : (r : Progress) → mark ≡ BK-mark → BlockJudged bs es at 0 top r → ItemJudged bs es at top r
+  block-as-judged r m j = item-BK bs scope at top (sym read ∙ m) r j
+
+  pub variable-judged : mark ≡ VR-mark → ItemJudged bs es at top (At (at + 4))
+  variable-judged m = let q = sym read ∙ m in item-VR bs scope at top (record { next = at + 4; more = 0 }) (passed-VR bs at q) q
+
+  pub label-judged : mark ≡ LB-mark → ItemJudged bs es at top (At (at + 6))
+  label-judged m = let q = sym read ∙ m in item-LB bs scope at top (record { next = at + 6; more = 0 }) (passed-LB bs at q) q
+
+  pub action-judged :
+      (r : Progress) → (mark ≡ PR-mark → ⊥) → (mark ≡ BK-mark → ⊥) → (mark ≡ VR-mark → ⊥) → (mark ≡ LB-mark → ⊥) → Walked bs es top at r →
+      ItemJudged bs es at top r
+  action-judged r no-PR no-BK no-VR no-LB n x level s h =
+      n .so
+      ∙ item-action bs scope at top (record { next = n .next; more = 0 }) (n .past) (λ m. no-PR (read ∙ m)) (λ m. no-BK (read ∙ m)) (λ m. no-VR (read ∙ m))
+      (λ m. no-LB (read ∙ m)) (n .verdict) (n .judged) x level s h
+
+pub ahead-action : (bs es : List ℕ) (top at : ℕ) (r : Progress) → at < length bs → Walked bs es top at r → Ahead at (length bs) r
+ahead-action bs es top at r l n = subst (Ahead at (length bs)) (sym (n .so)) (go (n .verdict))
   where
-    go : (w : Verdict) → Ahead at n (progressAfter w next)
-    go Fit = (low, high)
+    go : (w : Verdict) → Ahead at (length bs) (progressAfter w (n .next))
+    go Fit = (omega (arith, n .past .on), omega (arith, n .past .near))
     go (verdicts.Refused c o) = tt

@@ -13,17 +13,17 @@ use Rattle.records.specs.declared.Progress.the-variants.{At, Refused}
 use Rattle.uses.specs.Meanings.{scopeOf}
 use Rattle.laws.specs.Fields.{FieldsStand, field-inside, fields-first, fields-after}
 use Rattle.extents.specs.Items.{Item, itemFields, itemsFields}
-use Rattle.scoping.specs.Walking.{progressOf, judgeItem, judgeItems, FormedItems, ItemsHere, ItemHere}
+use Rattle.scoping.specs.Walking.{progressOf, judgeItem, judgeItems, FormedItems, ItemsHere, ItemHere, Ahead, Ready, Kept, ItemJudged, ItemsJudged}
 use Rattle.extents.proofs.Inside.{item-opens, head-marked}
 
 -- a verdict, then another: where the first refuses, and where it does not
 stops : (r : Progress) (v w : definitions.Judgement) (c : Refusal) (o e e′ : ℕ) → r ≡ progressOf v e → r ≡ Refused c o → r ≡ progressOf (_then_ v w) e′
-unfolding progressOf _then_
+unfolding _then_
 stops r fine w c o e e′ p q = absurd (let z : _≡_ {A = ℕ} 0 1 = cc in omega arith)
 stops r (wrong d n) w c o e e′ p q = p
 
 goes : (r : Progress) (v w : definitions.Judgement) (next e e′ : ℕ) → r ≡ progressOf v e → r ≡ At next → (next ≡ e) × (progressOf w e′ ≡ progressOf (_then_ v w) e′)
-unfolding progressOf _then_
+unfolding _then_
 goes r fine w next e e′ p q = (cc, refl)
 goes r (wrong d n) w next e e′ p q = absurd (let z : _≡_ {A = ℕ} 0 1 = cc in omega arith)
 
@@ -35,7 +35,7 @@ pub record Remaining (bs es : List ℕ) (at here i count top : ℕ) (xs : List I
   pub verdict : progressOf (judgeItems left (scopeOf bs (drop top es))) (here + 2 * length (itemsFields left)) ≡ progressOf (judgeItems xs (scopeOf bs (drop top es))) (at + 2 * length (itemsFields xs))
 
 module _ (bs es : List ℕ) (at count top : ℕ) (xs : List Item) (level s : ℕ) where
-  pub remaining-start : ItemsHere bs at count top xs level s → Remaining bs es at at 0 count top xs level s
+  remaining-start : ItemsHere bs at count top xs level s → Remaining bs es at at 0 count top xs level s
   remaining-start h = record {
     left = xs;
     number = omega (arith, h .number);
@@ -47,8 +47,8 @@ module _ (bs es : List ℕ) (at count top : ℕ) (xs : List Item) (level s : ℕ
   answer = progressOf (judgeItems xs (scopeOf bs (drop top es))) (at + 2 * length (itemsFields xs))
 
   module _ (here i : ℕ) where
-    pub remaining-end : count ≤ i → Remaining bs es at here i count top xs level s → At here ≡ answer
-    unfolding judgeItems progressOf itemsFields
+    remaining-end : count ≤ i → Remaining bs es at here i count top xs level s → At here ≡ answer
+    unfolding judgeItems itemsFields
     remaining-end h r = none (r .left) (r .number) (r .verdict)
       where
         nothing : here + 2 * 0 ≡ here
@@ -67,7 +67,7 @@ module _ (bs es : List ℕ) (at count top : ℕ) (xs : List Item) (level s : ℕ
           let f = fields-first bs here (itemFields y) (itemsFields ys) h in
           field-inside bs here (head-marked bs here _ y (subst (FieldsStand bs here) (item-opens y) f)) out
 
-      pub remaining-inside : Remaining bs es at here i count top xs level s → length bs ≤ here → ⊥
+      remaining-inside : Remaining bs es at here i count top xs level s → length bs ≤ here → ⊥
       remaining-inside r = head-inside (r .left) (r .number) (r .rest .stand)
 
       module _ (r : Progress) (judged : (x : Item) (k n : ℕ) → ItemHere bs here top x k n → r ≡ progressOf (judgeItem x (scopeOf bs (drop top es))) (here + 2 * length (itemFields x))) where
@@ -79,7 +79,7 @@ module _ (bs es : List ℕ) (at count top : ℕ) (xs : List Item) (level s : ℕ
             (judged y level s (record { stand = fields-first bs here (itemFields y) (itemsFields ys) (h .stand); formed = h .formed .0; room = h .room })) q
             ∙ v
 
-        pub remaining-stop : (c : Refusal) (o : ℕ) → r ≡ Refused c o → Remaining bs es at here i count top xs level s → r ≡ answer
+        remaining-stop : (c : Refusal) (o : ℕ) → r ≡ Refused c o → Remaining bs es at here i count top xs level s → r ≡ answer
         remaining-stop c o q m = stop-at c o q (m .left) (m .number) (m .rest) (m .verdict)
 
         go-on : (next : ℕ) → r ≡ At next → (l : List Item) → length l + i ≡ count → ItemsHere bs here (length l) top l level s → progressOf (judgeItems l (scopeOf bs (drop top es))) (here + 2 * length (itemsFields l)) ≡ answer → Remaining bs es at next (i + 1) count top xs level s
@@ -103,5 +103,58 @@ module _ (bs es : List ℕ) (at count top : ℕ) (xs : List Item) (level s : ℕ
               verdict = ap (λ (o : ℕ). progressOf (judgeItems ys sc) (o + 2 * length (itemsFields ys))) (g .0) ∙ ap (progressOf (judgeItems ys sc)) e ∙ g .1 ∙ v;
             }
 
-        pub remaining-step : (next : ℕ) → r ≡ At next → Remaining bs es at here i count top xs level s → Remaining bs es at next (i + 1) count top xs level s
+        remaining-step : (next : ℕ) → r ≡ At next → Remaining bs es at here i count top xs level s → Remaining bs es at next (i + 1) count top xs level s
         remaining-step next q m = go-on next q (m .left) (m .number) (m .rest) (m .verdict)
+
+-- the records walked so far, as the code has it
+pub record Walking (bs es₀ es ends : List ℕ) (at here i count top : ℕ) : Type 0 where
+  pub within : i ≤ count
+  pub from : at ≤ here
+  pub near : here ≤ length bs + 131076
+  pub long : length es ≡ length es₀
+  pub kept : Kept bs es₀ es ends top
+  pub rest : (xs : List Item) (level s : ℕ) → ItemsHere bs at count top xs level s → Remaining bs es₀ at here i count top xs level s
+
+pub walking-start : (bs es ends : List ℕ) (at count top : ℕ) → Ready bs es ends top → at ≤ length bs + 131076 → Walking bs es es ends at at 0 count top
+walking-start bs es ends at count top r l =
+    record {
+      within = omega arith;
+      from = omega arith;
+      near = l;
+      long = refl;
+      kept = record { same = refl; chained = r .chained; noted = r .noted };
+      rest = λ xs level s h. remaining-start bs es at count top xs level s h;
+    }
+
+module _ {bs es₀ es ends : List ℕ} {at here i count top : ℕ} (w : Walking bs es₀ es ends at here i count top) where
+  pub walking-end : count ≤ i → ItemsJudged bs es₀ at count top (At here)
+  walking-end l xs level s h = remaining-end bs es₀ at count top xs level s here i l (w .rest xs level s h)
+
+  pub walking-out : (r : Progress) → i < count → length bs ≤ here → ItemsJudged bs es₀ at count top r
+  walking-out r l o xs level s h = absurd (remaining-inside bs es₀ at count top xs level s here i l (w .rest xs level s h) o)
+
+  module _ (r : Progress) (more : i < count) (judged : ItemJudged bs es here top r) where
+    judged-at : (x : Item) (k n : ℕ) → ItemHere bs here top x k n → r ≡ progressOf (judgeItem x (scopeOf bs (drop top es₀))) (here + 2 * length (itemFields x))
+    judged-at x k n g = judged x k n g ∙ ap (λ (l : List ℕ). progressOf (judgeItem x (scopeOf bs l)) (here + 2 * length (itemFields x))) (w .kept .same)
+
+    pub walking-stop : (c : Refusal) (o : ℕ) → r ≡ Refused c o → ItemsJudged bs es₀ at count top r
+    walking-stop c o q xs level s h = remaining-stop bs es₀ at count top xs level s here i more r judged-at c o q (w .rest xs level s h)
+
+    pub walking-step :
+        {es₁ ends₁ : List ℕ} (next : ℕ) → r ≡ At next → Ahead here (length bs) r → length es₁ ≡ length es → Kept bs es es₁ ends₁ top → Walking bs es₀ es₁ ends₁ at next (i + 1) count top
+    walking-step next q a n k =
+        let on : (here ≤ next) × (next ≤ length bs + 131076) = subst (Ahead here (length bs)) q a in
+        record {
+          within = omega arith;
+          from = omega (arith, on .0);
+          near = on .1;
+          long = n ∙ w .long;
+          kept = record { same = k .same ∙ w .kept .same; chained = k .chained; noted = k .noted };
+          rest = λ xs level s h. remaining-step bs es₀ at count top xs level s here i more r judged-at next q (w .rest xs level s h);
+        }
+
+pub kept-all : (bs es ends : List ℕ) (top : ℕ) → Ready bs es ends top → Kept bs es es ends top
+kept-all bs es ends top r = record { same = refl; chained = r .chained; noted = r .noted }
+
+pub kept-again : (bs es es₁ es₂ ends ends₁ : List ℕ) (top : ℕ) → Kept bs es es₁ ends top → Kept bs es₁ es₂ ends₁ top → Kept bs es es₂ ends₁ top
+kept-again bs es es₁ es₂ ends ends₁ top k j = record { same = j .same ∙ k .same; chained = j .chained; noted = j .noted }

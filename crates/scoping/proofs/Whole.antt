@@ -21,7 +21,6 @@ use Rattle.scoping.specs.Walking.{progressOf, settledOf, Judged, BlockHe
 use Rattle.language.specs.declared.Verdict.{Verdict}
 
 settled-verdict : (v : definitions.Judgement) (end : ℕ) → settledOf (progressOf v end) ≡ verdictOf v
-unfolding settledOf progressOf verdictOf
 settled-verdict fine end = refl
 settled-verdict (wrong c o) end = refl
 

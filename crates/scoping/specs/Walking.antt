@@ -2,7 +2,7 @@
 use Prim.Native.Nat.{ℕ, _+_, _*_, _≤_}
 use mathlib.Core.List.{List, [], _∷_}
 use mathlib.Core.Path.{_≡_}
-use lib.ListN.{length}
+use lib.ListN.{length, drop}
 use Rattle.language.specs.Text.{Formal, Block}
 use Rattle.language.specs.Encoding.{formalsFields, blockFields}
 use Rattle.language.specs.Structure as structure
@@ -13,13 +13,15 @@ use Rattle.records.specs.declared.Progress.the-variants.{At, Refused}
 use Rattle.grammar.specs.Rules.{FormedFormals, FormedBlock, FormedDecl, FormedStmt}
 use Rattle.uses.specs.Meanings.{verdictOf, scopeFrom}
 use Rattle.laws.specs.Fields.{FieldsStand}
+use Rattle.symbols.specs.Chains.{Chained}
+use Rattle.extents.specs.Passing.{Ends}
 use Rattle.extents.specs.Items.{Item, formal, body, declared, stated, itemFields, itemsFields}
 use Rattle.language.specs.declared.Verdict.{Verdict}
 use Rattle.language.specs.declared.Verdict.the-variants.{Fit}
 use Rattle.language.specs.declared.Verdict.the-variants as verdicts
 
 -- a verdict, with where the walk goes on
-unfoldable pub progressOf : definitions.Judgement → ℕ → Progress
+abbrev pub progressOf : definitions.Judgement → ℕ → Progress
 progressOf fine end = At end
 progressOf (wrong c o) end = Refused c o
 
@@ -70,7 +72,7 @@ pub record ItemHere (bs : List ℕ) (at top : ℕ) (x : Item) (level s : ℕ) : 
   pub formed : FormedItem x level s at
   pub room : 1280 ≤ top + 32 * level
 
-unfoldable pub settledOf : Progress → Verdict
+abbrev pub settledOf : Progress → Verdict
 settledOf (At end) = Fit
 settledOf (Refused c o) = verdicts.Refused c o
 
@@ -79,6 +81,19 @@ abbrev pub Judged : structure.Reading Block → Verdict → Type 0
 Judged (structure.read t at []) r = r ≡ verdictOf (judgeBlock t [] [])
 Judged (structure.read t at (w ∷ ws)) r = Unit {0}
 Judged (structure.refuse c o) r = Unit {0}
+
+-- what a walk is given: a short script, the entries from `top` on in their chains, and ends that are right
+pub record Ready (bs es ends : List ℕ) (top : ℕ) : Type 0 where
+  pub short : length bs ≤ 8192
+  pub room : top ≤ 1280
+  pub chained : Chained es top
+  pub noted : Ends bs ends
+
+-- and what it leaves: the same entries in their chains, and ends that are right
+pub record Kept (bs es es′ ends : List ℕ) (top : ℕ) : Type 0 where
+  pub same : drop top es′ ≡ drop top es
+  pub chained : Chained es′ top
+  pub noted : Ends bs ends
 
 -- what the walk of a block, of records and of one record answers, with the entries as they were
 abbrev pub BlockJudged : List ℕ → List ℕ → ℕ → ℕ → ℕ → Progress → Type 0

@@ -15,12 +15,9 @@ use records::Progress;
 use symbols::insert;
 use symbols::remove;
 use words::word;
-ghost use mathlib.Core.Path.{_≡_};
 ghost use Prim.Native.Nat.{_+_, _<_, _≤_};
-ghost use lib.ListN.{length, drop};
-ghost use Rattle.symbols.specs.Chains.{Chained};
-ghost use Rattle.extents.specs.Passing.{Ends};
-ghost use Rattle.scoping.specs.Walking.{Ahead, BlockJudged, ItemsJudged, ItemJudged};
+ghost use lib.ListN.{length};
+ghost use Rattle.scoping.specs.Walking.{Ready, Kept, Ahead, BlockJudged, ItemsJudged, ItemJudged};
 
 // So many formals at an offset and their block after them. Its names are put below `top` before any of its text is judged.
 pub fn block(
@@ -31,12 +28,10 @@ pub fn block(
     count: usize,
     top: usize,
 ) -> Progress
-    requires { ⌜ (length (now script) ≤ 8192) × (at ≤ 500000) × (count < 65536) × (top ≤ length (now entries)) × Chained (now entries) top × Ends (now script) (now ends) ⌝ }
+    requires { ⌜ Ready (now script) (now entries) (now ends) top × (at ≤ 500000) × (count < 65536) ⌝ }
     ensures judged { λ r. ⌜ BlockJudged (now (script .entry)) (now (entries .entry)) at count top r ⌝ }
     ensures ahead { λ r. ⌜ Ahead at (length (now (script .entry))) r ⌝ }
-    ensures kept { λ r. ⌜ drop top (now (entries .exit)) ≡ drop top (now (entries .entry)) ⌝ }
-    ensures chained { λ r. ⌜ Chained (now (entries .exit)) top ⌝ }
-    ensures noted { λ r. ⌜ Ends (now (script .entry)) (now (ends .exit)) ⌝ }
+    ensures kept { λ r. ⌜ Kept (now (script .entry)) (now (entries .entry)) (now (entries .exit)) (now (ends .exit)) top ⌝ }
 {
     let start = at + FM_BYTES * count;
     if word(script, start) != BK {
@@ -65,12 +60,10 @@ fn items(
     count: usize,
     top: usize,
 ) -> Progress
-    requires { ⌜ (length (now script) ≤ 8192) × (at ≤ length (now script) + 131076) × (count ≤ 131070) × (top ≤ length (now entries)) × Chained (now entries) top × Ends (now script) (now ends) ⌝ }
+    requires { ⌜ Ready (now script) (now entries) (now ends) top × (at ≤ length (now script) + 131076) × (count ≤ 131070) ⌝ }
     ensures judged { λ r. ⌜ ItemsJudged (now (script .entry)) (now (entries .entry)) at count top r ⌝ }
     ensures ahead { λ r. ⌜ Ahead at (length (now (script .entry))) r ⌝ }
-    ensures kept { λ r. ⌜ drop top (now (entries .exit)) ≡ drop top (now (entries .entry)) ⌝ }
-    ensures chained { λ r. ⌜ Chained (now (entries .exit)) top ⌝ }
-    ensures noted { λ r. ⌜ Ends (now (script .entry)) (now (ends .exit)) ⌝ }
+    ensures kept { λ r. ⌜ Kept (now (script .entry)) (now (entries .entry)) (now (entries .exit)) (now (ends .exit)) top ⌝ }
 {
     let mut here = at;
     let mut i = 0;
@@ -96,12 +89,10 @@ fn item(
     at: usize,
     top: usize,
 ) -> Progress
-    requires { ⌜ (length (now script) ≤ 8192) × (at < length (now script)) × (top ≤ length (now entries)) × Chained (now entries) top × Ends (now script) (now ends) ⌝ }
+    requires { ⌜ Ready (now script) (now entries) (now ends) top × (at < length (now script)) ⌝ }
     ensures judged { λ r. ⌜ ItemJudged (now (script .entry)) (now (entries .entry)) at top r ⌝ }
     ensures ahead { λ r. ⌜ Ahead at (length (now (script .entry))) r ⌝ }
-    ensures kept { λ r. ⌜ drop top (now (entries .exit)) ≡ drop top (now (entries .entry)) ⌝ }
-    ensures chained { λ r. ⌜ Chained (now (entries .exit)) top ⌝ }
-    ensures noted { λ r. ⌜ Ends (now (script .entry)) (now (ends .exit)) ⌝ }
+    ensures kept { λ r. ⌜ Kept (now (script .entry)) (now (entries .entry)) (now (entries .exit)) (now (ends .exit)) top ⌝ }
 {
     let mark = word(script, at);
     if mark == PR {

@@ -9,7 +9,7 @@ use native.Mathlib.Omega.{arith}
 use lib.ListN.{length, getD, take, drop, set, length-set}
 use lib.Seq.{getD-set-same, getD-set-other, drop-set-lt, getD-drop, getD-take, drop-drop}
 use Rattle.symbols.specs.Entries.{foundIn}
-use Rattle.symbols.specs.Chains.{Chained}
+use Rattle.symbols.specs.Chains.{Chained, Rechained}
 use Rattle.symbols.proofs.Entries.{found-later, found-none}
 
 -- a name's remainder is its entry's
@@ -44,6 +44,9 @@ module _ (es : List ℕ) (top : ℕ) (h : Chained es top) where
   from-head n le =
       over n es top (getD es (n % 256) 0) le
       (λ k a b c p. h .heads (n % 256) k (mod-lt n (omega arith)) a (omega (arith, h .long)) c (remainder _ n p))
+
+  pub linked : (i : ℕ) → top ≤ i → i < length es → i < getD es (i - 512) 0
+  linked i t l = h .forward i t (omega (arith, h .long))
 
   pub along : (n i : ℕ) → top ≤ i → i < length es → (getD es i 0 % 65536 ≡ n → ⊥) → getD es i 0 % 256 ≡ n % 256 → foundIn n (drop (getD es (i - 512) 0) es) ≡ foundIn n (drop i es)
   along n i t l other same =
@@ -215,16 +218,28 @@ none-chained es n = record {
 pub record Between (es₀ es : List ℕ) (base top i : ℕ) : Type 0 where
   pub low : base ≤ i
   pub high : i ≤ top
-  pub same-length : length es ≡ length es₀
-  pub kept : drop 768 es ≡ drop 768 es₀
-  pub chained : Chained es i
+  pub long : length es ≡ length es₀
+  pub moved : Rechained es₀ es i
 
-module _ (es₀ : List ℕ) (base top : ℕ) where
-  pub between-start : (i : ℕ) → base ≤ i → i ≤ top → Chained es₀ i → Between es₀ es₀ base top i
-  between-start i l u h = record { low = l; high = u; same-length = refl; kept = refl; chained = h }
+pub between-start : (es : List ℕ) (base top i : ℕ) → base ≤ i → i ≤ top → Chained es i → Between es es base top i
+between-start es base top i l u h = record { low = l; high = u; long = refl; moved = record { chained = h; same = refl } }
 
-  pub between-step : (es es′ : List ℕ) (i j : ℕ) → Between es₀ es base top i → base ≤ j → j ≤ top → length es′ ≡ length es → drop 768 es′ ≡ drop 768 es → Chained es′ j → Between es₀ es′ base top j
-  between-step es es′ i j b l u n k h = record { low = l; high = u; same-length = n ∙ b .same-length; kept = k ∙ b .kept; chained = h }
+module _ {es₀ es : List ℕ} {base top i : ℕ} (b : Between es₀ es base top i) where
+  between-step : {es′ : List ℕ} {j : ℕ} → base ≤ j → j ≤ top → length es′ ≡ length es → Rechained es es′ j → Between es₀ es′ base top j
+  between-step l u n r =
+      record { low = l; high = u; long = n ∙ b .long; moved = record { chained = r .chained; same = r .same ∙ b .moved .same } }
 
-  pub between-end : (es : List ℕ) (i j : ℕ) → i ≡ j → Between es₀ es base top i → Chained es j × (drop 768 es ≡ drop 768 es₀)
-  between-end es i j e b = (subst (Chained es) e (b .chained), b .kept)
+  pub before-step : {es′ : List ℕ} → base < i → length es′ ≡ length es → Rechained es es′ (i - 1) → Between es₀ es′ base top (i - 1)
+  before-step l n r = between-step (omega arith) (omega (arith, b .high)) n r
+
+  pub after-step : {es′ : List ℕ} → i < top → length es′ ≡ length es → Rechained es es′ (i + 1) → Between es₀ es′ base top (i + 1)
+  after-step l n r = between-step (omega (arith, b .low)) (omega arith) n r
+
+  pub before-last : base < i → Chained es (i - 1 + 1)
+  before-last l = let e : i ≡ i - 1 + 1 = omega arith in subst (Chained es) e (b .moved .chained)
+
+  pub before-end : i ≤ base → Rechained es₀ es base
+  before-end l = let e : i ≡ base = omega (arith, b .low) in subst (Rechained es₀ es) e (b .moved)
+
+  pub after-end : top ≤ i → Rechained es₀ es top
+  after-end l = let e : i ≡ top = omega (arith, b .high) in subst (Rechained es₀ es) e (b .moved)

@@ -1,13 +1,14 @@
 -- What is found from an entry on.
 -- Assumes nothing.
-use mathlib.Core.Path.{_≡_, sym}
+use mathlib.Core.Path.{_≡_, sym, _∙_}
 use mathlib.Core.List.{List}
 use Prim.Native.Nat.{ℕ, _+_, _/_, _%_, _<_, _≤_, _^_}
 use native.Mathlib.Numerals.{add-one}
+use native.Mathlib.Omega.{arith}
 use lib.ListN.{length, getD, drop, drop-of-length-le}
 use lib.Seq.{drop-cons}
 use borrow.Author.Tests.{eq-eqb, ne-eqb}
-use Rattle.symbols.specs.Entries.{foundIn, Near}
+use Rattle.symbols.specs.Entries.{foundIn, Near, Seeking}
 use Rattle.symbols.specs.declared.Binding.{Binding}
 use Rattle.symbols.specs.declared.Binding.the-variants.{At, Nothing}
 
@@ -26,3 +27,14 @@ found-none n es i h = rw (drop-of-length-le es h)
 
 pub near-place : (r : Binding) (place : ℕ) → r ≡ At place → Near r → place < 2 ^ 48
 near-place r place e h = rw e at h
+
+-- the search as the code has it: an entry read, the next one, none left
+module _ {es : List ℕ} {top n i : ℕ} (s : Seeking es top n i) where
+  pub seeking-hit : i < length es → getD es i 0 % 65536 ≡ n → At (getD es i 0 / 65536) ≡ foundIn n (drop top es)
+  seeking-hit h e = sym (found-at n es i h e) ∙ s .same
+
+  pub seeking-on : {j : ℕ} → i < j → foundIn n (drop j es) ≡ foundIn n (drop i es) → Seeking es top n j
+  seeking-on l e = record { from = omega (arith, s .from); same = e ∙ s .same }
+
+  pub seeking-none : length es ≤ i → Nothing ≡ foundIn n (drop top es)
+  seeking-none h = sym (found-none n es i h) ∙ s .same

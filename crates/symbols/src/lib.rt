@@ -4,8 +4,8 @@
 ghost use mathlib.Core.Path.{_≡_};
 ghost use Prim.Native.Nat.{_+_, _%_, _^_, _<_, _≤_, max};
 ghost use lib.ListN.{length, getD, drop};
-ghost use Rattle.symbols.specs.Entries.{foundIn, Near};
-ghost use Rattle.symbols.specs.Chains.{Chained};
+ghost use Rattle.symbols.specs.Entries.{foundIn, Near, Seeking, entryFrom};
+ghost use Rattle.symbols.specs.Chains.{Chained, Rechained};
 
 // What is kept of a name.
 pub enum Binding {
@@ -25,10 +25,18 @@ pub fn empty_chains(entries: &mut [usize])
     }
 }
 
+// An entry: a name, and the number kept of it.
+pub fn entry_of(name: usize, number: usize) -> usize
+    requires { ⌜ (name < 65536) × (number < 2 ^ 48) ⌝ }
+    ensures { λ r. ⌜ r ≡ entryFrom name number ⌝ }
+{
+    name + 65536 * number
+}
+
 // The first entry from `top` on that can have a name.
 fn first(entries: &[usize], top: usize, name: usize) -> usize
     requires { ⌜ Chained (now entries) top ⌝ }
-    ensures { λ r. ⌜ (top ≤ r) × (foundIn name (drop r (now (entries .entry))) ≡ foundIn name (drop top (now (entries .entry)))) ⌝ }
+    ensures { λ r. ⌜ Seeking (now (entries .entry)) top name r ⌝ }
 {
     let i = entries[name % 256];
     if i < top {
@@ -77,8 +85,7 @@ fn later(i: usize, at: usize) -> usize
 // An entry becomes the first of its chain.
 fn insert_one(entries: &mut [usize], at: usize)
     requires { ⌜ Chained (now entries) (at + 1) × (768 ≤ at) × (at < 1280) ⌝ }
-    ensures chained { λ _. ⌜ Chained (now (entries .exit)) at ⌝ }
-    ensures kept { λ _. ⌜ drop 768 (now (entries .exit)) ≡ drop 768 (now (entries .entry)) ⌝ }
+    ensures { λ _. ⌜ Rechained (now (entries .entry)) (now (entries .exit)) at ⌝ }
 {
     let h = entries[at] % 256;
     let i = entries[h];
@@ -89,8 +96,7 @@ fn insert_one(entries: &mut [usize], at: usize)
 // The entries from `base` to `top`, the last one first.
 pub fn insert(entries: &mut [usize], base: usize, top: usize)
     requires { ⌜ Chained (now entries) top × (768 ≤ base) × (base ≤ top) × (top ≤ 1280) ⌝ }
-    ensures chained { λ _. ⌜ Chained (now (entries .exit)) base ⌝ }
-    ensures kept { λ _. ⌜ drop 768 (now (entries .exit)) ≡ drop 768 (now (entries .entry)) ⌝ }
+    ensures { λ _. ⌜ Rechained (now (entries .entry)) (now (entries .exit)) base ⌝ }
 {
     let mut i = top;
     while base < i {
@@ -102,8 +108,7 @@ pub fn insert(entries: &mut [usize], base: usize, top: usize)
 // The nearest entry leaves its chain.
 fn remove_one(entries: &mut [usize], at: usize)
     requires { ⌜ Chained (now entries) at × (at < 1280) ⌝ }
-    ensures chained { λ _. ⌜ Chained (now (entries .exit)) (at + 1) ⌝ }
-    ensures kept { λ _. ⌜ drop 768 (now (entries .exit)) ≡ drop 768 (now (entries .entry)) ⌝ }
+    ensures { λ _. ⌜ Rechained (now (entries .entry)) (now (entries .exit)) (at + 1) ⌝ }
 {
     let h = entries[at] % 256;
     entries[h] = entries[at - 512];
@@ -111,8 +116,7 @@ fn remove_one(entries: &mut [usize], at: usize)
 
 pub fn remove(entries: &mut [usize], base: usize, top: usize)
     requires { ⌜ Chained (now entries) base × (base ≤ top) × (top ≤ 1280) ⌝ }
-    ensures chained { λ _. ⌜ Chained (now (entries .exit)) top ⌝ }
-    ensures kept { λ _. ⌜ drop 768 (now (entries .exit)) ≡ drop 768 (now (entries .entry)) ⌝ }
+    ensures { λ _. ⌜ Rechained (now (entries .entry)) (now (entries .exit)) top ⌝ }
 {
     let mut i = base;
     while i < top {

@@ -1,10 +1,10 @@
 -- What is found among the entries is what the definitions look up; the meaning that each mark gives.
 -- Assumes nothing.
-use mathlib.Core.Path.{_≡_, refl, _∙_}
+use mathlib.Core.Path.{_≡_, refl, sym, ap, _∙_}
 use mathlib.Core.Bool.{Bool, true, false}
 use mathlib.Core.List.{List, [], _∷_}
 use mathlib.Core.Option.{Option, none, some}
-use Prim.Native.Nat.{ℕ, zero, suc, _+_, _%_, _≤_}
+use Prim.Native.Nat.{ℕ, zero, suc, _+_, _%_, _<_, _≤_}
 use native.Mathlib.Omega.{arith}
 use lib.Dec.{eqb}
 use borrow.Author.Tests.{eq-eqb, ne-eqb}
@@ -15,7 +15,9 @@ use Rattle.language.specs.Scope.{Meaning, fine, wrong, ofKind}
 use Rattle.language.specs.Scope as definitions
 use Rattle.language.specs.declared.Refusal.the-variants.{NotVisible, WrongKind}
 use Rattle.laws.specs.Fields.{fieldAt}
-use Rattle.uses.specs.Meanings.{kindFrom, kindsAt, meaningAt, scopeOf}
+use Rattle.language.specs.declared.Verdict.{Verdict}
+use Rattle.language.specs.declared.Verdict.the-variants.{Fit, Refused}
+use Rattle.uses.specs.Meanings.{kindFrom, kindsAt, meaningAt, scopeOf, verdictOf}
 use Rattle.symbols.specs.Entries.{foundIn}
 use Rattle.symbols.specs.declared.Binding.{Binding}
 use Rattle.symbols.specs.declared.Binding.the-variants.{At, Nothing}
@@ -35,14 +37,17 @@ found-lookup bs n [] = refl
 found-lookup bs n (e ∷ es) = found-case bs n e es (eqb n (e % 65536)) refl (found-lookup bs n es)
 
 pub kind-is : (x : ℕ) → x ≤ 2 → x ≡ kindField (kindFrom x)
-unfolding kindField kindFrom
+unfolding kindField
 kind-is zero h = refl
 kind-is (suc zero) h = refl
 kind-is (suc (suc zero)) h = refl
 kind-is (suc (suc (suc x))) h = absurd (omega arith)
 
+pub kind-small : (x : ℕ) → x < 2 → x ≡ kindField (kindFrom x)
+kind-small x h = kind-is x (omega arith)
+
 pub kind-large : (x : ℕ) → 2 ≤ x → 2 ≡ kindField (kindFrom x)
-unfolding kindField kindFrom
+unfolding kindField
 kind-large zero h = absurd (omega arith)
 kind-large (suc zero) h = absurd (omega arith)
 kind-large (suc (suc x)) h = refl
@@ -64,6 +69,24 @@ module _ (bs : List ℕ) (place : ℕ) where
   unfolding meaningAt
   means-other e f g = rw (ne-eqb _ PR-mark e, ne-eqb _ LB-mark f, ne-eqb _ FM-mark g, meaningAt)
 
+-- the kind that a record declares, by its mark as it was read
+module _ (bs : List ℕ) (place mark : ℕ) (read : mark ≡ fieldAt bs place) where
+  pub kind-PR : mark ≡ PR-mark → 2 ≡ kindField (meaningAt bs place .kind)
+  unfolding kindField
+  kind-PR e = rw (means-PR bs place (sym read ∙ e))
+
+  pub kind-LB : mark ≡ LB-mark → 1 ≡ kindField (meaningAt bs place .kind)
+  unfolding kindField
+  kind-LB e = rw (means-LB bs place (sym read ∙ e))
+
+  pub kind-FM : (x r : ℕ) → mark ≡ FM-mark → x ≡ fieldAt bs (place + 4) → r ≡ kindField (kindFrom x) → r ≡ kindField (meaningAt bs place .kind)
+  kind-FM x r e f q =
+      q ∙ ap (λ (y : ℕ). kindField (kindFrom y)) f ∙ sym (ap (λ (m : Meaning). kindField (m .kind)) (means-FM bs place (sym read ∙ e)))
+
+  pub kind-other : (mark ≡ PR-mark → ⊥) → (mark ≡ LB-mark → ⊥) → (mark ≡ FM-mark → ⊥) → 0 ≡ kindField (meaningAt bs place .kind)
+  unfolding kindField
+  kind-other e f g = rw (means-other bs place (λ p. e (read ∙ p)) (λ p. f (read ∙ p)) (λ p. g (read ∙ p)))
+
 same-kind : (k j : Kind) → sameKind k j ≡ eqb (kindField j) (kindField k)
 unfolding sameKind kindField
 same-kind variable variable = refl
@@ -84,7 +107,7 @@ kinds-differ k j e = same-kind k j ∙ ne-eqb _ _ e
 
 -- a use, by what is found
 module _ (bs : List ℕ) (es : List ℕ) (at : ℕ) (k : Kind) (n : ℕ) where
-  pub use-none : foundIn n es ≡ Nothing → definitions.uses (scopeOf bs es) at k n ≡ wrong NotVisible at
+  use-none : foundIn n es ≡ Nothing → definitions.uses (scopeOf bs es) at k n ≡ wrong NotVisible at
   unfolding definitions.uses ofKind
   use-none e = rw (found-lookup bs n es, e)
 
@@ -92,6 +115,21 @@ module _ (bs : List ℕ) (es : List ℕ) (at : ℕ) (k : Kind) (n : ℕ) where
   unfolding definitions.uses ofKind
   use-right place e f = rw (found-lookup bs n es, e, kinds-agree k (meaningAt bs place .kind) f, ofKind)
 
-  pub use-wrong : (place : ℕ) → foundIn n es ≡ At place → (kindField (meaningAt bs place .kind) ≡ kindField k → ⊥) → definitions.uses (scopeOf bs es) at k n ≡ wrong WrongKind at
+  use-wrong : (place : ℕ) → foundIn n es ≡ At place → (kindField (meaningAt bs place .kind) ≡ kindField k → ⊥) → definitions.uses (scopeOf bs es) at k n ≡ wrong WrongKind at
   unfolding definitions.uses ofKind
   use-wrong place e f = rw (found-lookup bs n es, e, kinds-differ k (meaningAt bs place .kind) f, ofKind)
+
+-- the same as the code has it
+module _ (bs es : List ℕ) (at k n : ℕ) (b : Binding) (found : b ≡ foundIn n es) where
+  abbrev judged : Verdict
+  judged = verdictOf (definitions.uses (scopeOf bs es) at (kindFrom k) n)
+
+  pub used-none : b ≡ Nothing → Refused NotVisible at ≡ judged
+  used-none e = sym (ap verdictOf (use-none bs es at (kindFrom k) n (sym found ∙ e)))
+
+  module _ (place x : ℕ) (there : b ≡ At place) (is : x ≡ kindField (meaningAt bs place .kind)) (small : k ≤ 2) where
+    pub used-right : x ≡ k → Fit ≡ judged
+    used-right e = sym (ap verdictOf (use-right bs es at (kindFrom k) n place (sym found ∙ there) (sym is ∙ e ∙ kind-is k small)))
+
+    pub used-wrong : (x ≡ k → ⊥) → Refused WrongKind at ≡ judged
+    used-wrong e = sym (ap verdictOf (use-wrong bs es at (kindFrom k) n place (sym found ∙ there) (λ p. e (is ∙ p ∙ sym (kind-is k small)))))

@@ -14,7 +14,7 @@ use Rattle.language.specs.declared.Verdict.{Verdict}
 use Rattle.language.specs.declared.Verdict.the-variants.{Fit, Refused}
 use Rattle.laws.specs.Fields.{fieldAt}
 
-unfoldable pub kindFrom : ℕ → Kind
+abbrev pub kindFrom : ℕ → Kind
 kindFrom zero = variable
 kindFrom (suc zero) = label
 kindFrom (suc (suc n)) = procedure
@@ -47,13 +47,13 @@ abbrev pub scopeFrom : List ℕ → List ℕ → ℕ → Scope
 scopeFrom bs es top = scopeOf bs (drop top es)
 
 -- a verdict as the code gives it
-unfoldable pub verdictOf : definitions.Judgement → Verdict
+abbrev pub verdictOf : definitions.Judgement → Verdict
 verdictOf fine = Fit
 verdictOf (wrong c o) = Refused c o
 
 -- two names of one record, and three variables, left to right
-unfoldable pub pairJudged : Scope → ℕ → Kind → ℕ → Kind → ℕ → definitions.Judgement
+abbrev pub pairJudged : Scope → ℕ → Kind → ℕ → Kind → ℕ → definitions.Judgement
 pairJudged sc at k n j m = _then_ (uses sc at k n) (uses sc at j m)
 
-unfoldable pub tripleJudged : Scope → ℕ → ℕ → ℕ → ℕ → definitions.Judgement
+abbrev pub tripleJudged : Scope → ℕ → ℕ → ℕ → ℕ → definitions.Judgement
 tripleJudged sc at n m l = _then_ (uses sc at variable n) (pairJudged sc at variable m variable l)

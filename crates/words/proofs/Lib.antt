@@ -1,3 +1,4 @@
 pub mod Held
 pub mod Thin
 pub mod Walk
+pub mod Cycles

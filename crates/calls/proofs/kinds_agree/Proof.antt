@@ -28,44 +28,14 @@ markedOf c = c .before .before
 near : (c : tie.After-known-told) → c .before .place .given .0 .0 < 2 ^ 48
 near c = near-place (foundOf c .find .result) _ (c .before .place .given .1) (foundOf c .find .ensures .1)
 
-add-word : tie.Need-add-word
-add-word c = search needs
-
-word-requires : tie.Need-word-requires
-word-requires c κs = search needs
-
-add-word-2 : tie.Need-add-word-2
-add-word-2 c = search needs
-
-word-requires-2 : tie.Need-word-requires-2
-word-requires-2 c κs = search needs
-
-find-requires : tie.Need-find-requires
-find-requires c κs = search needs
-
-enum-known-place : tie.Need-enum-known-place
-enum-known-place c = search needs
-
-enum-told : tie.Need-enum-told
-enum-told c = search needs
-
-returns : tie.Need-returns
-returns c = λ e. no-true e
-
 word-requires-3 : tie.Need-word-requires-3
 word-requires-3 c κs = omega (arith, near c)
-
-returns-2 : tie.Need-returns-2
-returns-2 c = λ e. no-true e
 
 add-word-3 : tie.Need-add-word-3
 add-word-3 c = omega (arith, near (placeOf c))
 
 word-requires-4 : tie.Need-word-requires-4
 word-requires-4 c κs = omega (arith, near (placeOf c))
-
-returns-3 : tie.Need-returns-3
-returns-3 c = λ e. no-true e
 
 add-matching : tie.Need-add-matching
 add-matching c = omega (arith, near (placeOf (markedOf c)))
@@ -74,38 +44,15 @@ matching-requires : tie.Need-matching-requires
 matching-requires c κs =
     let k = placeOf (markedOf c) in
     let f = foundOf k in
-    let st = startOf (readOf f) in
-    (st .pre .0, omega (arith, near k), f .before .word2 .ensures .1, st .pre .1)
-
-returns-4 : tie.Need-returns-4
-returns-4 c =
-    let m = markedOf (c .before) in
-    let x = placeOf m in
-    let f = foundOf x in
-    let w = readOf f in
-    let a = startOf w .args in
-    λ e. agreed (a .script .now) (drop (a .top) (a .entries .now)) (a .at) (w .word .result) (f .before .word2 .result) (x .before .place .given .0 .0)
-    (w .word .ensures .0) (f .before .word2 .ensures .0) (sym (f .find .ensures .0) ∙ x .before .place .given .1)
-    (sym (m .before .word3 .ensures .0) ∙ m .if1 .left) (sym (c .before .before .word4 .ensures .0) ∙ c .before .if2 .left)
-    (sym (c .matching .ensures) ∙ e)
+    let st = startOf (readOf f) in (
+      st .pre .0,
+      omega (arith, near k),
+      search needs,
+      st .pre .1,
+    )
 
 pub kinds-agree-spec : {M : Type 1} → statement M
 kinds-agree-spec =
-    tie.close
-    (tie.spec
-    add-word
-    word-requires
-    add-word-2
-    word-requires-2
-    find-requires
-    enum-known-place
-    enum-told
-    returns
-    word-requires-3
-    returns-2
-    add-word-3
-    word-requires-4
-    returns-3
-    add-matching
-    matching-requires
-    returns-4)
+    tie.close (tie.spec (λ c. search needs) (λ c κs. search needs) (λ c. search needs) (λ c κs. search needs) (λ c κs. search needs)
+    (λ c. search needs) (λ c. search needs) (λ c. search (needs, no-true)) word-requires-3 (λ c. search (needs, no-true)) add-word-3
+    word-requires-4 (λ c. search (needs, no-true)) add-matching matching-requires (λ c. search (needs, agreed)))

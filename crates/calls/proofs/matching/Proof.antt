@@ -1,163 +1,29 @@
 -- `calls::matching` meets its contract: what is left of the arguments agrees exactly where all of them do. Assumes nothing.
-use mathlib.Core.Path.{_≡_, sym, ap, _∙_}
-use mathlib.Core.List.{map}
-use Prim.Native.Nat.{ℕ, _≤_, _+_, _*_, _-_}
+use Prim.Native.Nat.{_-_}
 use native.Mathlib.Omega.{arith}
 use lib.ListN.{drop}
-use Rattle.language.specs.Encoding.{kindField}
-use Rattle.language.specs.Scope.{agree, kindIn}
-use Rattle.laws.specs.Fields.{fieldsAt}
-use Rattle.uses.specs.Meanings.{kindFrom, kindsAt, scopeOf}
 use Rattle.symbols.proofs.Entries.{near-place}
-use Rattle.calls.proofs.Calls.{words-all, kinds-all, match-on, match-off, match-miss, match-all}
+use Rattle.calls.proofs.Calls.{Matching, matching-start, matching-step, matching-miss, matching-off, matching-end}
 use borrow.Author.Needs.{needs}
 use Rattle.calls.proofs.matching.Statement.{statement}
 use Rattle.calls.proofs.matching.Tie as tie
 
 abbrev Inv-loop : tie.InvT-loop
-Inv-loop script entries top at formals count i₀ i =
-    (i ≤ count)
-    × (agree (kindsAt script (formals + 6 * i) (count - i)) (map (kindIn (scopeOf script (drop top entries))) (fieldsAt script (at + 6 + 2 * i) (count - i)))
-    ≡ agree (kindsAt script formals count) (map (kindIn (scopeOf script (drop top entries))) (fieldsAt script (at + 6) count)))
+Inv-loop script entries top at formals count i₀ i = Matching script (drop top entries) at formals count i
 
 abbrev μ-loop : tie.MeasureT-loop
 μ-loop script entries top at formals count i₀ i = count - i
 
--- the places: the start, an argument's entry found, its kind wanted
-abbrev startOf : tie.In-loop Inv-loop μ-loop → tie.Start Inv-loop μ-loop
-startOf c = c .before .before .before .before
-
-abbrev turnOf : tie.After-find Inv-loop μ-loop → tie.In-loop Inv-loop μ-loop
-turnOf c = c .before .before
-
-abbrev foundOf : tie.After-place Inv-loop μ-loop → tie.After-find Inv-loop μ-loop
-foundOf c = c .before .before
-
-abbrev placeOf : tie.After-kind-number Inv-loop μ-loop → tie.After-place Inv-loop μ-loop
-placeOf c = c .before .before .before
-
-loop-holds : tie.Need-loop-holds Inv-loop μ-loop
-loop-holds c =
-    let a = c .before .before .args in
-    (search needs, rw (words-all (a .script .now) (a .at + 6) (a .count), kinds-all (a .script .now) (a .formals) (a .count)))
-
-add-word : tie.Need-add-word Inv-loop μ-loop
-add-word c = search needs
-
-mul-word : tie.Need-mul-word Inv-loop μ-loop
-mul-word c = search needs
-
-add-word-2 : tie.Need-add-word-2 Inv-loop μ-loop
-add-word-2 c = search needs
-
-word-requires : tie.Need-word-requires Inv-loop μ-loop
-word-requires c κs = search needs
-
-find-requires : tie.Need-find-requires Inv-loop μ-loop
-find-requires c κs = search needs
-
-enum-known-place : tie.Need-enum-known-place Inv-loop μ-loop
-enum-known-place c = search needs
-
-enum-told : tie.Need-enum-told Inv-loop μ-loop
-enum-told c = search needs
-
-returns : tie.Need-returns Inv-loop μ-loop
-returns c =
-    let f = c .before .before in
-    let l = turnOf f in
-    let a = startOf l .args in
-    sym
-    (sym (l .before .loop .inv .1)
-    ∙ match-miss (a .script .now) (drop (a .top) (a .entries .now)) (a .at) (a .count) (l .before .loop .i) (f .before .word .result)
-    (l .loop-test .taken) (f .before .word .ensures .0) (a .formals) (sym (f .find .ensures .0) ∙ c .enum-told .given .1))
-
-add-word-3 : tie.Need-add-word-3 Inv-loop μ-loop
-add-word-3 c = search needs
-
-mul-word-2 : tie.Need-mul-word-2 Inv-loop μ-loop
-mul-word-2 c = search needs
-
-add-word-4 : tie.Need-add-word-4 Inv-loop μ-loop
-add-word-4 c = search needs
-
-word-requires-2 : tie.Need-word-requires-2 Inv-loop μ-loop
-word-requires-2 c κs = search needs
-
-kind-number-requires : tie.Need-kind-number-requires Inv-loop μ-loop
-kind-number-requires c κs = search needs
-
 kind-at-requires : tie.Need-kind-at-requires Inv-loop μ-loop
 kind-at-requires c κs =
-    let p = placeOf c in
-    omega (arith, near-place (foundOf p .find .result) _ (p .place .given .1) (foundOf p .find .ensures .1))
-
-returns-2 : tie.Need-returns-2 Inv-loop μ-loop
-returns-2 c =
-    let k = c .before in
-    let n = k .before in
-    let p = placeOf n in
-    let f = foundOf p in
-    let l = turnOf f in
-    let a = startOf l .args in
-    sym
-    (sym (l .before .loop .inv .1)
-    ∙ match-off (a .script .now) (drop (a .top) (a .entries .now)) (a .at) (a .count) (l .before .loop .i) (f .before .word .result)
-    (l .loop-test .taken) (f .before .word .ensures .0) (a .formals) (p .place .given .0 .0) (sym (f .find .ensures .0) ∙ p .place .given .1)
-    (λ e. c .if1 .taken (k .kind-at .ensures ∙ e ∙ sym (n .kind-number .ensures ∙ ap (λ (x : ℕ). kindField (kindFrom x)) (n .before .word2 .ensures .0)))))
-
-add-i : tie.Need-add-i Inv-loop μ-loop
-add-i c = search needs
-
-loop-less : tie.Need-loop-less Inv-loop μ-loop
-loop-less c = search needs
-
-loop-again : tie.Need-loop-again Inv-loop μ-loop
-loop-again c =
-    let k = c .before in
-    let n = k .before in
-    let p = placeOf n in
-    let f = foundOf p in
-    let l = turnOf f in
-    let a = startOf l .args in (
-      search needs,
-      match-on (a .script .now) (drop (a .top) (a .entries .now)) (a .at) (a .count) (l .before .loop .i) (f .before .word .result)
-          (l .loop-test .taken) (f .before .word .ensures .0) (a .formals) (p .place .given .0 .0) (sym (f .find .ensures .0) ∙ p .place .given .1)
-          (sym (k .kind-at .ensures) ∙ c .if1 .left ∙ n .kind-number .ensures ∙ ap (λ (x : ℕ). kindField (kindFrom x)) (n .before .word2 .ensures .0))
-          ∙ l .before .loop .inv .1,
-    )
-
-returns-3 : tie.Need-returns-3 Inv-loop μ-loop
-returns-3 c =
-    let a = c .before .before .before .before .args in
-    sym
-    (sym (c .before .loop .inv .1)
-    ∙ match-all (a .script .now) (scopeOf (a .script .now) (drop (a .top) (a .entries .now))) _ _ (a .count) (c .before .loop .i)
-    (c .loop-test .left))
+    let p = c .before .before .before in
+    let f = p .before .before .find in
+    omega (arith, near-place (f .result) _ (p .place .given .1) (f .ensures .1))
 
 pub matching-spec : {M : Type 1} → statement M
 matching-spec =
-    tie.close
-    (tie.spec
-    Inv-loop
-    μ-loop
-    loop-holds
-    add-word
-    mul-word
-    add-word-2
-    word-requires
-    find-requires
-    enum-known-place
-    enum-told
-    returns
-    add-word-3
-    mul-word-2
-    add-word-4
-    word-requires-2
-    kind-number-requires
-    kind-at-requires
-    returns-2
-    add-i
-    loop-less
-    loop-again
-    returns-3)
+    tie.close (tie.spec Inv-loop μ-loop (λ c. search (needs, matching-start)) (λ c. search needs) (λ c. search needs)
+    (λ c. search needs) (λ c κs. search needs) (λ c κs. search needs) (λ c. search needs) (λ c. search needs)
+    (λ c. search (needs, matching-miss)) (λ c. search needs) (λ c. search needs) (λ c. search needs) (λ c κs. search needs)
+    (λ c κs. search needs) kind-at-requires (λ c. search (needs, matching-off)) (λ c. search needs) (λ c. search needs)
+    (λ c. search (needs, matching-step)) (λ c. search (needs, matching-end)))

@@ -9,21 +9,6 @@ use Rattle.checking.proofs.check_script.Lts as lts
 use Rattle.scoping.proofs.scope_verdict.Reads as scope-verdict-reads
 use Rattle.vetting.proofs.structure.Reads as structure-reads
 
-structure-requires : tie.Need-structure-requires
-structure-requires c κs = search needs
-
-enum-told : tie.Need-enum-told
-enum-told c = search needs
-
-enum-told-2 : tie.Need-enum-told-2
-enum-told-2 c = search needs
-
-returns : tie.Need-returns
-returns c = refused-whole _ _ (c .before .before .structure .ensures) _ _ (c .enum-told2 .given .1)
-
-scope-verdict-requires : tie.Need-scope-verdict-requires
-scope-verdict-requires c κs = search needs
-
 returns-2 : tie.Need-returns-2
 returns-2 c =
     let s = c .before .before .before .structure .ensures in
@@ -32,5 +17,5 @@ returns-2 c =
 
 pub check-script-spec : {M : Type 1} → statement M
 check-script-spec =
-    tie.close
-    (tie.spec structure-requires enum-told enum-told-2 returns scope-verdict-requires returns-2)
+    tie.close (tie.spec (λ c κs. search needs) (λ c. search needs) (λ c. search needs) (λ c. search (needs, refused-whole))
+    (λ c κs. search needs) returns-2)

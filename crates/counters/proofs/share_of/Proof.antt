@@ -15,8 +15,4 @@ returns-3 c = room-of 0 (c .before .before .args .limit) (λ e. absurd (omega ar
 
 pub share-of-spec : {M : Type 1} → statement M
 share-of-spec =
-    tie.close
-    (tie.spec
-    returns
-    returns-2
-    returns-3)
+    tie.close (tie.spec returns returns-2 returns-3)

@@ -1,6 +1,7 @@
 -- `count_all` meets its contract. The loop's invariant: the pairs passed are counted, and as long as no counter was full, none is.
+use borrow.Author.Needs.{needs}
 use Prim.Native.Nat.{ℕ, _≤_, _<_, _-_}
-use mathlib.Core.Path.{_≡_, sym, _∙_, subst}
+use mathlib.Core.Path.{_≡_, subst}
 use native.Mathlib.Omega.{arith}
 use Rattle.counters.specs.Counters.{heldAt}
 use Rattle.counting.specs.Bounds.{Bounded}
@@ -14,34 +15,16 @@ Inv-loop table count whole share most counters₀ full₀ i₀ counters full i =
 abbrev μ-loop : tie.MeasureT-loop
 μ-loop table count whole share most counters₀ full₀ i₀ counters full i = count - i
 
-loop-holds : tie.Need-loop-holds Inv-loop μ-loop
-loop-holds c = let s = c .before in (omega arith, omega arith, s .pre .1 .1 .0, λ e. s .pre .1 .1 .1)
-
-count-one-requires : tie.Need-count-one-requires Inv-loop μ-loop
-count-one-requires c κs =
-    let l = c .before .before in
-    (omega arith, (l .before .before .pre .1 .0, l .loop .inv .2))
-
-add-full : tie.Need-add-full Inv-loop μ-loop
-add-full c =
-    let k = c .before .before in
-    omega (arith, k .count-one .ensures .1 .1, k .before .before .before .loop .inv .1)
-
-add-i : tie.Need-add-i Inv-loop μ-loop
-add-i c = omega arith
-
-loop-less : tie.Need-loop-less Inv-loop μ-loop
-loop-less c = omega arith
-
 loop-again : tie.Need-loop-again Inv-loop μ-loop
 loop-again c =
     let k = c .before .before in
     let l = k .before .before .before in
-    let one = k .count-one .ensures in
-    (omega arith, omega (arith, one .1 .1, l .loop .inv .1), one .0, λ e. one .1 .0 (omega arith) (l .loop .inv .3 (omega arith)))
-
-same-length : tie.Need-same-length Inv-loop μ-loop
-same-length c = c .before .loop .inv .2 .counter-words ∙ sym (c .before .before .before .pre .1 .1 .0 .counter-words)
+    let one = k .count-one .ensures in (
+      omega arith,
+      search needs,
+      one .0,
+      λ e. one .1 .0 (omega arith) (l .loop .inv .3 (omega arith)),
+    )
 
 returns : tie.Need-returns Inv-loop μ-loop
 returns c =
@@ -52,15 +35,5 @@ returns c =
 
 pub count-all-spec : {M : Type 1} → statement M
 count-all-spec =
-    tie.close
-    (tie.spec
-    Inv-loop
-    μ-loop
-    loop-holds
-    count-one-requires
-    add-full
-    add-i
-    loop-less
-    loop-again
-    same-length
-    returns)
+    tie.close (tie.spec Inv-loop μ-loop (λ c. search needs) (λ c κs. search needs) (λ c. search needs) (λ c. omega arith)
+    (λ c. omega arith) loop-again (λ c. search needs) returns)

@@ -37,24 +37,10 @@ held-is c = c .held-at .ensures ∙ ap (heldAt (begin c .args .share) (begin c .
 abbrev Next : tie.Start → List ℕ → Type 0
 Next s = Bounded (s .args .whole) (s .args .table .now) (s .args .share) (s .args .most) (s .args .i + 1)
 
-counters-for-requires : tie.Need-counters-for-requires
-counters-for-requires c κs = search needs
-
-hash-requires : tie.Need-hash-requires
-hash-requires c κs = search needs
-
 bucket-of-requires : tie.Need-bucket-of-requires
 bucket-of-requires c κs =
     let p = c .before in
     subst (λ (n : ℕ). (n ≤ 4294967296) × (0 < n)) (sym (p .counters-for .ensures)) (counters-range (p .before .before .args .share))
-
-held-at-requires : tie.Need-held-at-requires
-held-at-requires c κs =
-    let k = c .before in
-    (startOf k .pre .1 .1 .counter-words, inside k)
-
-same-length : tie.Need-same-length
-same-length c = search needs
 
 returns : tie.Need-returns
 returns c =
@@ -62,7 +48,7 @@ returns c =
     let s = begin k in (
       bounded-full (s .args .whole) (s .args .table .now) (s .args .share) (s .args .most) (s .args .i) (s .args .counters .now) (s .pre .1 .1)
           (λ l. omega (arith, held-is k, c .if1 .taken)),
-      (λ e. absurd (omega arith), omega arith),
+      search needs,
     )
 
 abbrev heldOf : tie.After-raise → tie.After-held-at
@@ -86,26 +72,11 @@ next c =
     subst (Next s) (sym (raised-is c))
     (bounded-next (s .args .whole) (s .args .table .now) (s .args .share) (s .args .most) (s .args .i) (s .args .counters .now) (s .pre .1 .1) (fits c) (room c) (less c))
 
-raise-requires : tie.Need-raise-requires
-raise-requires c κs =
-    let d = c .before in
-    let k = d .before in
-    let s = begin k in
-    (s .pre .1 .1 .counter-words, (inside (spotOf k), omega (arith, k .held-at .ensures, d .if1 .left, s .pre .1 .0)))
-
-add-if2 : tie.Need-add-if2
-add-if2 c =
-    let d = c .before .before .before .before in
-    omega (arith, d .if1 .left, begin (d .before) .fits .most)
-
-same-length-2 : tie.Need-same-length-2
-same-length-2 c = search needs
-
 returns-2 : tie.Need-returns-2
-returns-2 c = (next (c .before .before .before), (λ e. absurd (omega arith), omega arith))
-
-same-length-3 : tie.Need-same-length-3
-same-length-3 c = search needs
+returns-2 c = (
+  search (needs, next),
+  search needs,
+)
 
 returns-3 : tie.Need-returns-3
 returns-3 c =
@@ -123,17 +94,6 @@ returns-3 c =
 
 pub count-one-spec : {M : Type 1} → statement M
 count-one-spec =
-    tie.close
-    (tie.spec
-    counters-for-requires
-    hash-requires
-    bucket-of-requires
-    held-at-requires
-    same-length
-    returns
-    raise-requires
-    add-if2
-    same-length-2
-    returns-2
-    same-length-3
-    returns-3)
+    tie.close (tie.spec (λ c κs. search needs) (λ c κs. search needs) bucket-of-requires (λ c κs. search (needs, inside))
+    (λ c. search needs) returns (λ c κs. search (needs, inside)) (λ c. search (needs, fits)) (λ c. search needs) returns-2
+    (λ c. search needs) returns-3)

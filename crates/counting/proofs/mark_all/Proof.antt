@@ -1,6 +1,7 @@
 -- `mark_all` meets its contract. The loop's invariant: the pairs passed are told of.
+use borrow.Author.Needs.{needs}
 use Prim.Native.Nat.{ℕ, _≤_, _<_, _-_}
-use mathlib.Core.Path.{_≡_, sym, _∙_, subst}
+use mathlib.Core.Path.{_≡_, sym, subst}
 use mathlib.Core.Logic.{inl, inr, ⊎-elim}
 use native.Mathlib.Omega.{arith}
 use lib.ListN.{length}
@@ -17,23 +18,12 @@ abbrev μ-loop : tie.MeasureT-loop
 μ-loop table count whole share most counters marks₀ new₀ i₀ marks new i = count - i
 
 loop-holds : tie.Need-loop-holds Inv-loop μ-loop
-loop-holds c = (omega arith, omega arith, c .before .before .pre .1 .1, λ j l. absurd (omega arith))
-
-mark-one-requires : tie.Need-mark-one-requires Inv-loop μ-loop
-mark-one-requires c κs =
-    let l = c .before .before in
-    (omega arith, (l .before .before .before .pre .1 .0, l .loop .inv .2))
-
-add-new : tie.Need-add-new Inv-loop μ-loop
-add-new c =
-    let k = c .before .before in
-    omega (arith, k .mark-one .ensures .1, k .before .before .before .loop .inv .1)
-
-add-i : tie.Need-add-i Inv-loop μ-loop
-add-i c = omega arith
-
-loop-less : tie.Need-loop-less Inv-loop μ-loop
-loop-less c = omega arith
+loop-holds c = (
+  omega arith,
+  omega arith,
+  search needs,
+  λ j l. absurd (omega arith),
+)
 
 loop-again : tie.Need-loop-again Inv-loop μ-loop
 loop-again c =
@@ -42,29 +32,19 @@ loop-again c =
     let s = l .before .before .before in
     let m = k .mark-one .ensures .0 in (
       omega arith,
-      omega (arith, k .mark-one .ensures .1, l .loop .inv .1),
+      search needs,
       m .mark-words,
       λ j h. below-next j (l .loop .i) (λ o. ⊎-elim inl (λ t. inr (m .older j t)) (l .loop .inv .3 j o))
           (λ z. subst (Accounted (s .args .whole) (s .args .table .now) (s .args .share) (s .args .most) (s .args .counters .now) (k .mark-one .last .1 .1 .1 .1 .1 .1 .0)) (sym z) (m .accounted)) h,
     )
 
-same-length : tie.Need-same-length Inv-loop μ-loop
-same-length c = c .before .loop .inv .2 ∙ sym (c .before .before .before .before .pre .1 .1)
-
 returns : tie.Need-returns Inv-loop μ-loop
-returns c = (λ j l. c .before .loop .inv .3 j (omega arith), omega (arith, c .before .loop .inv .1))
+returns c = (
+  λ j l. c .before .loop .inv .3 j (omega arith),
+  search needs,
+)
 
 pub mark-all-spec : {M : Type 1} → statement M
 mark-all-spec =
-    tie.close
-    (tie.spec
-    Inv-loop
-    μ-loop
-    loop-holds
-    mark-one-requires
-    add-new
-    add-i
-    loop-less
-    loop-again
-    same-length
-    returns)
+    tie.close (tie.spec Inv-loop μ-loop loop-holds (λ c κs. search needs) (λ c. search needs) (λ c. omega arith) (λ c. omega arith)
+    loop-again (λ c. search needs) returns)

@@ -35,32 +35,13 @@ held-is c =
 abbrev Gives : tie.Start → List ℕ → Type 0
 Gives s = Marked (s .args .whole) (s .args .table .now) (s .args .share) (s .args .most) (s .args .counters .now) (s .args .i) (s .args .marks .now)
 
-hash-requires : tie.Need-hash-requires
-hash-requires c κs = search needs
-
-counters-for-requires : tie.Need-counters-for-requires
-counters-for-requires c κs = search needs
-
 bucket-of-requires : tie.Need-bucket-of-requires
 bucket-of-requires c κs = subst (λ (n : ℕ). (n ≤ 4294967296) × (0 < n)) (sym (c .counters-for .ensures)) (counters-range (startOf (c .before) .args .share))
-
-held-at-requires : tie.Need-held-at-requires
-held-at-requires c κs =
-    let p = c .before in
-    (startOf (p .before) .pre .1 .0, subst (λ (n : ℕ). c .bucket-of .result < n) (p .counters-for .ensures) (c .bucket-of .ensures .1))
 
 returns : tie.Need-returns
 returns c =
     let k = c .before in
     (record { mark-words = begin k .pre .1 .1; accounted = inl (omega (arith, held-is k, c .if1 .taken)); older = λ j s. s }, omega arith)
-
-is-suspected-requires : tie.Need-is-suspected-requires
-is-suspected-requires c κs =
-    let h = hashOf (c .before .before) in
-    (h .hash .ensures, startOf h .pre .1 .1)
-
-same-length : tie.Need-same-length
-same-length c = search needs
 
 returns-2 : tie.Need-returns-2
 returns-2 c =
@@ -70,21 +51,6 @@ returns-2 c =
 
 abbrev heldOf : tie.Else2 → tie.After-held-at
 heldOf c = c .before .before .before .before
-
-mark-of-requires : tie.Need-mark-of-requires
-mark-of-requires c κs = search needs
-
-mask-of-requires : tie.Need-mask-of-requires
-mask-of-requires c κs = search needs
-
-put-requires : tie.Need-put-requires
-put-requires c κs =
-    let q = c .before in
-    let h = hashOf (heldOf (q .before .before)) in
-    omega (arith, q .mark-of .ensures .1, startOf h .pre .1 .1)
-
-same-length-2 : tie.Need-same-length-2
-same-length-2 c = search needs
 
 returns-3 : tie.Need-returns-3
 returns-3 c =
@@ -111,18 +77,6 @@ returns-3 c =
 
 pub mark-one-spec : {M : Type 1} → statement M
 mark-one-spec =
-    tie.close
-    (tie.spec
-    hash-requires
-    counters-for-requires
-    bucket-of-requires
-    held-at-requires
-    returns
-    is-suspected-requires
-    same-length
-    returns-2
-    mark-of-requires
-    mask-of-requires
-    put-requires
-    same-length-2
-    returns-3)
+    tie.close (tie.spec (λ c κs. search needs) (λ c κs. search needs) bucket-of-requires (λ c κs. search needs) returns
+    (λ c κs. search needs) (λ c. search needs) returns-2 (λ c κs. search needs) (λ c κs. search needs) (λ c κs. search needs)
+    (λ c. search needs) returns-3)

@@ -37,15 +37,6 @@ ranked c j l h =
     bounded-rank (s .args .whole) (s .args .table .now) (shareOf c) (m .most-of .result) (s .args .count) (s .args .limit) (c .count-all .last .1 .1 .1 .1 .1 .0)
     (c .count-all .ensures .0) (omega (arith, m .most-of .ensures)) j l h
 
-share-of-requires : tie.Need-share-of-requires
-share-of-requires c κs = search needs
-
-most-of-requires : tie.Need-most-of-requires
-most-of-requires c κs = search needs
-
-slice-aggregate-count-all : tie.Need-slice-aggregate-count-all
-slice-aggregate-count-all c = search needs
-
 count-all-requires : tie.Need-count-all-requires
 count-all-requires c κs =
     let m = c .before in
@@ -69,57 +60,24 @@ returns c =
       (λ j l. inl (ranked k j l (low _)), omega arith),
     )
 
-slice-aggregate-mark-all : tie.Need-slice-aggregate-mark-all
-slice-aggregate-mark-all c = search needs
-
-mark-all-requires : tie.Need-mark-all-requires
-mark-all-requires c κs =
-    let k = c .before .before .before .before in
-    let s = startOf k in
-    (s .pre .0, (k .count-all .ensures .0 .counter-words, s .pre .1 .1))
-
-add-result : tie.Need-add-result
-add-result c = search needs
-
-same-length : tie.Need-same-length
-same-length c = search needs
-
 returns-2 : tie.Need-returns-2
 returns-2 c =
     let n = c .before .before .before in
     let k = countedOf n in (
-      λ e. absurd (omega arith),
+      search needs,
       (λ j l. ⊎-elim (λ h. inl (ranked k j l h)) inr (n .mark-all .ensures .0 j l), omega arith),
     )
-
-add-result-2 : tie.Need-add-result-2
-add-result-2 c = search needs
-
-same-length-2 : tie.Need-same-length-2
-same-length-2 c = search needs
 
 returns-3 : tie.Need-returns-3
 returns-3 c =
     let n = c .before .before .before in
     let k = countedOf n in (
-      λ e. absurd (omega arith),
+      search needs,
       (λ j l. ⊎-elim (λ h. inl (ranked k j l h)) inr (n .mark-all .ensures .0 j l), omega arith),
     )
 
 pub suspects-spec : {M : Type 1} → statement M
 suspects-spec =
-    tie.close
-    (tie.spec
-    share-of-requires
-    most-of-requires
-    slice-aggregate-count-all
-    count-all-requires
-    returns
-    slice-aggregate-mark-all
-    mark-all-requires
-    add-result
-    same-length
-    returns-2
-    add-result-2
-    same-length-2
-    returns-3)
+    tie.close (tie.spec (λ c κs. search needs) (λ c κs. search needs) (λ c. search needs) count-all-requires returns
+    (λ c. search needs) (λ c κs. search needs) (λ c. search needs) (λ c. search needs) returns-2 (λ c. search needs)
+    (λ c. search needs) returns-3)

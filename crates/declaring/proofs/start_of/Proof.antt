@@ -6,21 +6,11 @@ use borrow.Author.Needs.{needs}
 use Rattle.declaring.proofs.start_of.Statement.{statement}
 use Rattle.declaring.proofs.start_of.Tie as tie
 
-mul-wide : tie.Need-mul-wide
-mul-wide c = search needs
-
-shared-slice-read-wide : tie.Need-shared-slice-read-wide
-shared-slice-read-wide c = search needs
-
-wide-requires : tie.Need-wide-requires
-wide-requires c κs = search needs
-
-returns : tie.Need-returns
-returns c = search needs
-
 returns-2 : tie.Need-returns-2
-returns-2 c = (sym (List·getD-eq-default (c .before .before .args .starts .now) 0 {n = c .before .before .args .i} (c .if1 .left)), omega arith)
+returns-2 c =
+    let a = c .before .before .args in
+    (sym (List·getD-eq-default (a .starts .now) 0 {n = a .i} (c .if1 .left)), omega arith)
 
 pub start-of-spec : {M : Type 1} → statement M
 start-of-spec =
-    tie.close (tie.spec mul-wide shared-slice-read-wide wide-requires returns returns-2)
+    tie.close (tie.spec (λ c. search needs) (λ c. search needs) (λ c κs. search needs) (λ c. search needs) returns-2)

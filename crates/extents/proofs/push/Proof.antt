@@ -1,120 +1,18 @@
-use borrow.Author.Needs.{needs}
 -- `extents::push` meets its contract: the entries put so far with those still to come are those of the records. Assumes nothing.
-use mathlib.Core.Path.{_≡_, refl, ap, _∙_}
-use mathlib.Core.List.{List}
-use Prim.Native.Nat.{ℕ, _+_, _*_, _-_, _≤_, max}
-use native.Mathlib.Omega.{arith}
-use lib.ListN.{length, take, drop, length-set}
-use lib.Seq.{take-set-le}
-use Rattle.laws.specs.Fields.{FieldsStand}
-use Rattle.extents.specs.Items.{Item, itemsFields}
-use Rattle.extents.specs.Passing.{Ends}
-use Rattle.extents.proofs.Pushing.{Rest, push-start, push-step, push-end, kept-step}
+use Prim.Native.Nat.{_-_}
+use Rattle.extents.proofs.Pushing.{Pushing, pushing-start, pushing-step, pushing-end}
+use borrow.Author.Needs.{needs}
 use Rattle.extents.proofs.push.Statement.{statement}
 use Rattle.extents.proofs.push.Tie as tie
 
 abbrev Inv-loop : tie.InvT-loop
-Inv-loop script entries₀ ends₀ at count base here₀ i₀ entries ends here i =
-    (i ≤ count)
-    × (here ≤ max at (length script + 131076))
-    × (length entries ≡ length entries₀)
-    × (drop (base + i) entries ≡ drop (base + i) entries₀)
-    × ((xs : List Item) → length xs ≡ count → FieldsStand script at (itemsFields xs) → Rest script entries base at here i count xs)
-    × (take base entries ≡ take base entries₀)
-    × Ends script ends
+Inv-loop script entries₀ ends₀ at count base here₀ i₀ entries ends here i = Pushing script entries₀ entries ends at here i count base
 
 abbrev μ-loop : tie.MeasureT-loop
 μ-loop script entries₀ ends₀ at count base here₀ i₀ entries ends here i = count - i
 
--- the places: the start, and the loop of a record skipped
-abbrev startOf : tie.At-loop Inv-loop μ-loop → tie.Start Inv-loop μ-loop
-startOf c = c .before .before .before
-
-abbrev loopOf : tie.After-word Inv-loop μ-loop → tie.At-loop Inv-loop μ-loop
-loopOf c = c .before .before
-
-loop-holds : tie.Need-loop-holds Inv-loop μ-loop
-loop-holds c =
-    (omega arith, omega arith, refl, refl, λ xs n h. push-start _ _ _ _ _ xs n h, refl, c .before .before .pre .3)
-
-add-word : tie.Need-add-word Inv-loop μ-loop
-add-word c = search needs
-
-word-requires : tie.Need-word-requires Inv-loop μ-loop
-word-requires c κs = search needs
-
-mul-entries : tie.Need-mul-entries Inv-loop μ-loop
-mul-entries c = search needs
-
-add-entries : tie.Need-add-entries Inv-loop μ-loop
-add-entries c = search needs
-
-add-entries-2 : tie.Need-add-entries-2 Inv-loop μ-loop
-add-entries-2 c = search needs
-
-mul-entries-2 : tie.Need-mul-entries-2 Inv-loop μ-loop
-mul-entries-2 c = search needs
-
-slice-write-entries : tie.Need-slice-write-entries Inv-loop μ-loop
-slice-write-entries c = search needs
-
-skip-requires : tie.Need-skip-requires Inv-loop μ-loop
-skip-requires c κs = search needs
-
-add-i : tie.Need-add-i Inv-loop μ-loop
-add-i c = search needs
-
-loop-less : tie.Need-loop-less Inv-loop μ-loop
-loop-less c = search needs
-
-loop-again : tie.Need-loop-again Inv-loop μ-loop
-loop-again c =
-    let s = c .skip in
-    let w = c .before .before .word in
-    let at = loopOf (c .before .before) in
-    let l = at .loop in
-    let st = startOf at in
-    let a = st .args in (
-      omega arith,
-      omega (arith, s .ensures .0 .close),
-      length-set (l .entries) (a .base + l .i) (w .result + 65536 * l .here) ∙ l .inv .2,
-      kept-step (l .entries) (a .entries .now) (a .base) (l .i) (w .result + 65536 * l .here) (l .inv .3),
-      λ xs n h. push-step (a .script .now) (l .entries) (a .base) (a .at) (l .here) (l .i) (a .count) (w .result + 65536 * l .here) xs
-          (omega (arith, l .inv .2, st .pre .2)) (c .before .before .before .loop-test .taken)
-          (ap (λ (v : ℕ). v + 65536 * l .here) (w .ensures .0)) (s .result) (s .ensures .0) (l .inv .4 xs n h),
-      take-set-le (a .base) (l .entries) (a .base + l .i) (w .result + 65536 * l .here) (omega arith) ∙ l .inv .5,
-      s .ensures .1,
-    )
-
-same-length : tie.Need-same-length Inv-loop μ-loop
-same-length c = c .before .loop .inv .2
-
-returns : tie.Need-returns Inv-loop μ-loop
-returns c =
-    let l = c .before .loop in
-    let a = startOf (c .before) .args in
-    let e : l .i ≡ a .count = omega arith in (
-      λ xs n h. push-end (a .script .now) (l .entries) (a .base) (a .at) (l .here) (l .i) (a .count) xs e (l .inv .4 xs n h),
-      (rw e at (l .inv .3), (l .inv .5, l .inv .6)),
-    )
-
 pub push-spec : {M : Type 1} → statement M
 push-spec =
-    tie.close
-    (tie.spec
-    Inv-loop
-    μ-loop
-    loop-holds
-    add-word
-    word-requires
-    mul-entries
-    add-entries
-    add-entries-2
-    mul-entries-2
-    slice-write-entries
-    skip-requires
-    add-i
-    loop-less
-    loop-again
-    same-length
-    returns)
+    tie.close (tie.spec Inv-loop μ-loop (λ c. search (needs, pushing-start)) (λ c. search needs) (λ c κs. search needs)
+    (λ c κs. search needs) (λ c. search needs) (λ c. search needs) (λ c. search needs) (λ c κs. search needs) (λ c. search needs)
+    (λ c. search needs) (λ c. search (needs, pushing-step)) (λ c. search needs) (λ c. search (needs, pushing-end)))

@@ -1,4 +1,5 @@
 -- `clear_marks` meets its contract. The loop's invariant: the words passed are 0.
+use borrow.Author.Needs.{needs}
 use Prim.Native.Nat.{ℕ, _≤_, _<_, _-_}
 use mathlib.Core.Path.{_≡_, refl, sym, _∙_, subst}
 use mathlib.Core.Bool.{Bool, true, false}
@@ -17,21 +18,6 @@ Inv-loop marks₀ i₀ marks i = (i ≤ 4096) × (length marks ≡ 4096) × ((q 
 abbrev μ-loop : tie.MeasureT-loop
 μ-loop marks₀ i₀ marks i = 4096 - i
 
-loop-holds : tie.Need-loop-holds Inv-loop μ-loop
-loop-holds c = (omega arith, c .pre, λ q l. absurd (omega arith))
-
-mul-marks : tie.Need-mul-marks Inv-loop μ-loop
-mul-marks c = omega arith
-
-slice-write-marks : tie.Need-slice-write-marks Inv-loop μ-loop
-slice-write-marks c = omega arith
-
-add-i : tie.Need-add-i Inv-loop μ-loop
-add-i c = omega arith
-
-loop-less : tie.Need-loop-less Inv-loop μ-loop
-loop-less c = omega arith
-
 loop-again : tie.Need-loop-again Inv-loop μ-loop
 loop-again c =
     let l = c .before in
@@ -39,12 +25,9 @@ loop-again c =
     let marks = l .loop .marks in
     let own = getD-set-same marks i 0 0 (omega arith) in (
       omega arith,
-      length-set marks i 0 ∙ l .loop .inv .1,
+      search (needs, length-set),
       λ q h. below-next q i (λ o. getD-set-other marks i q 0 0 (λ z. omega arith) ∙ l .loop .inv .2 q o) (λ z. subst (λ (x : ℕ). getD (set marks i 0) x 0 ≡ 0) (sym z) own) h,
     )
-
-same-length : tie.Need-same-length Inv-loop μ-loop
-same-length c = c .before .loop .inv .1 ∙ sym (c .before .before .pre)
 
 returns : tie.Need-returns Inv-loop μ-loop
 returns c = λ q. go q (ltb q 4096) refl
@@ -58,15 +41,5 @@ returns c = λ q. go q (ltb q 4096) refl
 
 pub clear-marks-spec : {M : Type 1} → statement M
 clear-marks-spec =
-    tie.close
-    (tie.spec
-    Inv-loop
-    μ-loop
-    loop-holds
-    mul-marks
-    slice-write-marks
-    add-i
-    loop-less
-    loop-again
-    same-length
-    returns)
+    tie.close (tie.spec Inv-loop μ-loop (λ c. search needs) (λ c. omega arith) (λ c. omega arith) (λ c. omega arith)
+    (λ c. omega arith) loop-again (λ c. search needs) returns)

@@ -91,45 +91,6 @@ done c after g cleared = go (own k) refl
         (insert-skip (s .args .whole) (s .args .table .now) (s .args .classes) (s .args .class) (s .args .i) (s .args .seen .now) (s .args .marks .now) (s .pre .1 .1) (wordOf c .word-for .result) (putOf c .before .mask-for .result) after g
         (λ m. never (mine-own k m) e))
 
-hash-requires : tie.Need-hash-requires
-hash-requires c κs = search needs
-
-mask-of-requires : tie.Need-mask-of-requires
-mask-of-requires c κs = search needs
-
-class-of-requires : tie.Need-class-of-requires
-class-of-requires c κs = search needs
-
-word-for-requires : tie.Need-word-for-requires
-word-for-requires c κs = search needs
-
-mul-word : tie.Need-mul-word
-mul-word c = search needs
-
-slice-read-word : tie.Need-slice-read-word
-slice-read-word c = search needs
-
-mask-for-requires : tie.Need-mask-for-requires
-mask-for-requires c κs = search needs
-
-put-requires : tie.Need-put-requires
-put-requires c κs = search needs
-
-is-covered-requires : tie.Need-is-covered-requires
-is-covered-requires c κs = search needs
-
-mark-of-requires : tie.Need-mark-of-requires
-mark-of-requires c κs = search needs
-
-put-requires-2 : tie.Need-put-requires-2
-put-requires-2 c κs = search needs
-
-same-length : tie.Need-same-length
-same-length c = search needs
-
-same-length-2 : tie.Need-same-length-2
-same-length-2 c = search needs
-
 returns : tie.Need-returns
 returns c =
     let p = c .before .before in
@@ -144,9 +105,6 @@ returns c =
     (grown-put (s .args .whole) ws (s .args .classes) (s .args .class) (s .args .i) (s .args .seen .now) marks (s .pre .1 .1) (markAt (s .args .whole) ws (s .args .i)) (maskAt (s .args .whole) ws (s .args .i)))
     (λ m. inr (suspected-own (s .args .whole) ws marks (s .args .i) fits)))
 
-same-length-3 : tie.Need-same-length-3
-same-length-3 c = search needs
-
 returns-2 : tie.Need-returns-2
 returns-2 c =
     let k = c .before in
@@ -157,21 +115,6 @@ returns-2 c =
 
 pub insert-spec : {M : Type 1} → statement M
 insert-spec =
-    tie.close
-    (tie.spec
-    hash-requires
-    mask-of-requires
-    class-of-requires
-    word-for-requires
-    mul-word
-    slice-read-word
-    mask-for-requires
-    put-requires
-    is-covered-requires
-    mark-of-requires
-    put-requires-2
-    same-length
-    same-length-2
-    returns
-    same-length-3
-    returns-2)
+    tie.close (tie.spec (λ c κs. search needs) (λ c κs. search needs) (λ c κs. search needs) (λ c κs. search needs)
+    (λ c. search needs) (λ c. search needs) (λ c κs. search needs) (λ c κs. search needs) (λ c κs. search needs)
+    (λ c κs. search needs) (λ c κs. search needs) (λ c. search needs) (λ c. search needs) returns (λ c. search needs) returns-2)

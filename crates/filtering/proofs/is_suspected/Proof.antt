@@ -8,21 +8,6 @@ use borrow.Author.Needs.{needs}
 use Rattle.filtering.proofs.is_suspected.Statement.{statement}
 use Rattle.filtering.proofs.is_suspected.Tie as tie
 
-mark-of-requires : tie.Need-mark-of-requires
-mark-of-requires c κs = search needs
-
-mul-is-covered : tie.Need-mul-is-covered
-mul-is-covered c = search needs
-
-shared-slice-read-is-covered : tie.Need-shared-slice-read-is-covered
-shared-slice-read-is-covered c = search needs
-
-mask-of-requires : tie.Need-mask-of-requires
-mask-of-requires c κs = search needs
-
-is-covered-requires : tie.Need-is-covered-requires
-is-covered-requires c κs = search needs
-
 returns : tie.Need-returns
 unfolding suspected
 returns c =
@@ -33,11 +18,5 @@ returns c =
 
 pub is-suspected-spec : {M : Type 1} → statement M
 is-suspected-spec =
-    tie.close
-    (tie.spec
-    mark-of-requires
-    mul-is-covered
-    shared-slice-read-is-covered
-    mask-of-requires
-    is-covered-requires
+    tie.close (tie.spec (λ c κs. search needs) (λ c. search needs) (λ c. search needs) (λ c κs. search needs) (λ c κs. search needs)
     returns)

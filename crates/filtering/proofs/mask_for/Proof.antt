@@ -4,11 +4,8 @@ use Rattle.laws.specs.Tests.{never}
 use Rattle.filtering.proofs.mask_for.Statement.{statement}
 use Rattle.filtering.proofs.mask_for.Tie as tie
 
-returns : tie.Need-returns
-returns c = search needs
-
 returns-2 : tie.Need-returns-2
 returns-2 c = λ e. never e (c .if1 .left)
 
 pub mask-for-spec : {M : Type 1} → statement M
-mask-for-spec = tie.close (tie.spec returns returns-2)
+mask-for-spec = tie.close (tie.spec (λ c. search needs) returns-2)

@@ -6,24 +6,6 @@ use borrow.Author.Needs.{needs}
 use Rattle.filtering.proofs.put.Statement.{statement}
 use Rattle.filtering.proofs.put.Tie as tie
 
-mul-joined : tie.Need-mul-joined
-mul-joined c = search needs
-
-slice-read-joined : tie.Need-slice-read-joined
-slice-read-joined c = search needs
-
-joined-requires : tie.Need-joined-requires
-joined-requires c κs = search needs
-
-mul-bits : tie.Need-mul-bits
-mul-bits c = search needs
-
-slice-write-bits : tie.Need-slice-write-bits
-slice-write-bits c = search needs
-
-same-length : tie.Need-same-length
-same-length c = search needs
-
 returns : tie.Need-returns
 returns c =
     let s = c .before .before .before in
@@ -31,12 +13,5 @@ returns c =
 
 pub put-spec : {M : Type 1} → statement M
 put-spec =
-    tie.close
-    (tie.spec
-    mul-joined
-    slice-read-joined
-    joined-requires
-    mul-bits
-    slice-write-bits
-    same-length
-    returns)
+    tie.close (tie.spec (λ c. search needs) (λ c. search needs) (λ c κs. search needs) (λ c. search needs) (λ c. search needs)
+    (λ c. search needs) returns)

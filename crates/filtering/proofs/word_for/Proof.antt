@@ -5,14 +5,8 @@ use Rattle.laws.specs.Tests.{never}
 use Rattle.filtering.proofs.word_for.Statement.{statement}
 use Rattle.filtering.proofs.word_for.Tie as tie
 
-bucket-of-requires : tie.Need-bucket-of-requires
-bucket-of-requires c κs = search needs
-
-returns : tie.Need-returns
-returns c = search needs
-
 returns-2 : tie.Need-returns-2
 returns-2 c = (λ e. never e (c .if1 .left), omega arith)
 
 pub word-for-spec : {M : Type 1} → statement M
-word-for-spec = tie.close (tie.spec bucket-of-requires returns returns-2)
+word-for-spec = tie.close (tie.spec (λ c κs. search needs) (λ c. search needs) returns-2)

@@ -9,35 +9,11 @@ use borrow.Author.Needs.{needs}
 use Rattle.governed.proofs.note.Statement.{statement}
 use Rattle.governed.proofs.note.Tie as tie
 
-add-cross : tie.Need-add-cross
-add-cross c = search needs
-
-cross-requires : tie.Need-cross-requires
-cross-requires c κs = search needs
-
 returns : tie.Need-returns
 returns c =
     let st = c .before .before .before .before in
     let a = st .args in
     (if-noted (a .script .now) (a .code .now) (a .names .now) (c .cross .last .1 .0) (a .at) (st .pre .0) (c .cross .ensures .0) (omega (arith, st .pre .2)), c .cross .ensures .1)
-
-add-take : tie.Need-add-take
-add-take c = search needs
-
-leading-requires : tie.Need-leading-requires
-leading-requires c κs = search needs
-
-take-requires : tie.Need-take-requires
-take-requires c κs = search needs
-
-add-take-2 : tie.Need-add-take-2
-add-take-2 c = search needs
-
-trailing-requires : tie.Need-trailing-requires
-trailing-requires c κs = search needs
-
-take-requires-2 : tie.Need-take-requires-2
-take-requires-2 c κs = search needs
 
 returns-2 : tie.Need-returns-2
 returns-2 c =
@@ -57,15 +33,5 @@ returns-2 c =
 
 pub note-spec : {M : Type 1} → statement M
 note-spec =
-    tie.close
-    (tie.spec
-    add-cross
-    cross-requires
-    returns
-    add-take
-    leading-requires
-    take-requires
-    add-take-2
-    trailing-requires
-    take-requires-2
-    returns-2)
+    tie.close (tie.spec (λ c. search needs) (λ c κs. search needs) returns (λ c. search needs) (λ c κs. search needs)
+    (λ c κs. search needs) (λ c. search needs) (λ c κs. search needs) (λ c κs. search needs) returns-2)

@@ -23,55 +23,19 @@ loop-holds c =
     let k : a .count - 0 ≡ a .count = omega arith in
     (omega arith, c .pre .0, λ j. taken (a .code .now) (a .names .now) (f j) (k j))
 
-add-place : tie.Need-add-place Inv-loop μ-loop
-add-place c = search needs
-
-mul-names : tie.Need-mul-names Inv-loop μ-loop
-mul-names c = search needs
-
-element-copy-out-names : tie.Need-element-copy-out-names Inv-loop μ-loop
-element-copy-out-names c = search needs
-
-mul-names-2 : tie.Need-mul-names-2 Inv-loop μ-loop
-mul-names-2 c = search needs
-
-element-write-names : tie.Need-element-write-names Inv-loop μ-loop
-element-write-names c = search needs
-
-add-i : tie.Need-add-i Inv-loop μ-loop
-add-i c = search needs
-
-loop-less : tie.Need-loop-less Inv-loop μ-loop
-loop-less c = search needs
-
 loop-again : tie.Need-loop-again Inv-loop μ-loop
 loop-again c =
     let l = c .before .before .loop in
     let a = c .before .before .before .args in
     let place = a .from + l .i in
     let w = getD (a .code .now) place 0 in
-    let put : c .if1 .names ≡ set (l .names) place w = ⊎-elim (λ x. x .2) (λ x. x .1 ∙ past-end (l .names) place w (l .inv .1) (omega (arith, x .0 .left))) (c .if1 .came) in
-    (omega arith, ap length put ∙ length-set (l .names) place w ∙ l .inv .1, taken-next (a .code .now) (l .names) (c .if1 .names) _ (a .from) (a .count) (l .i) (omega arith) put (l .inv .2))
-
-returns : tie.Need-returns Inv-loop μ-loop
-returns c =
-    let l = c .before .loop in
-    let a = c .before .before .args in
-    (taken-all (a .code .now) (l .names) _ (a .from + l .i) (a .count) (l .i) (omega arith) (l .inv .2), l .inv .1)
+    let put : c .if1 .names ≡ set (l .names) place w = ⊎-elim (λ x. x .2) (λ x. x .1 ∙ past-end (l .names) place w (l .inv .1) (omega (arith, x .0 .left))) (c .if1 .came) in (
+      omega arith,
+      ap length put ∙ length-set (l .names) place w ∙ l .inv .1,
+      search (needs, taken-next),
+    )
 
 pub take-spec : {M : Type 1} → statement M
 take-spec =
-    tie.close
-    (tie.spec
-    Inv-loop
-    μ-loop
-    loop-holds
-    add-place
-    mul-names
-    element-copy-out-names
-    mul-names-2
-    element-write-names
-    add-i
-    loop-less
-    loop-again
-    returns)
+    tie.close (tie.spec Inv-loop μ-loop loop-holds (λ c. search needs) (λ c. search needs) (λ c. search needs) (λ c. search needs)
+    (λ c. search needs) (λ c. search needs) (λ c. search needs) loop-again (λ c. search (needs, taken-all)))

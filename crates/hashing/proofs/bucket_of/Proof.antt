@@ -1,6 +1,6 @@
 -- `bucket_of` meets its contract.
+use borrow.Author.Needs.{needs}
 use Prim.Native.Nat.{_/_, _%_, _<_}
-use mathlib.Core.Path.{refl}
 use native.Mathlib.Nat.{mod-lt, mul-lt-mul-of-pos-right}
 use native.Mathlib.Omega.{arith}
 use Rattle.hashing.specs.Hashes.{bucket}
@@ -16,7 +16,7 @@ mul-result c =
 
 returns : tie.Need-returns
 unfolding bucket
-returns c = (refl, bucket-below (c .args .buckets) (c .args .hash) (c .pre .1))
+returns c = search (needs, bucket-below)
 
 pub bucket-of-spec : {M : Type 1} → statement M
 bucket-of-spec = tie.close (tie.spec mul-result returns)

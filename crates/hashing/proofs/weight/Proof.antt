@@ -1,11 +1,8 @@
 -- `weight` meets its contract.
-use native.Mathlib.Omega.{arith}
+use borrow.Author.Needs.{needs}
 use Rattle.hashing.proofs.Weights.{negative-weight, whole-cast, whole-weight}
 use Rattle.hashing.proofs.weight.Statement.{statement}
 use Rattle.hashing.proofs.weight.Tie as tie
-
-returns : tie.Need-returns
-returns c = (negative-weight (c .before .args .number) (c .before .fits .number .sfits) (c .if1 .taken), omega arith)
 
 cast-result : tie.Need-cast-result
 cast-result c = whole-cast (c .before .args .number) (c .before .fits .number .sfits) (c .if1 .left)
@@ -14,4 +11,4 @@ returns-2 : tie.Need-returns-2
 returns-2 c = whole-weight (c .before .args .number) (c .before .fits .number .sfits) (c .if1 .left)
 
 pub weight-spec : {M : Type 1} → statement M
-weight-spec = tie.close (tie.spec returns cast-result returns-2)
+weight-spec = tie.close (tie.spec (λ c. search (needs, negative-weight)) cast-result returns-2)

@@ -1,4 +1,5 @@
 -- `rank` meets its contract. The loop's invariant: the pairs with the key among those passed are counted.
+use borrow.Author.Needs.{needs}
 use Prim.Native.Nat.{suc, _≤_, _-_}
 use mathlib.Core.Path.{_≡_, sym, _∙_, ap}
 use mathlib.Core.Logic.{⊎-elim}
@@ -16,24 +17,12 @@ Inv-loop table whole i found₀ j₀ found j = (j ≤ suc i) × (found ≡ alike
 abbrev μ-loop : tie.MeasureT-loop
 μ-loop table whole i found₀ j₀ found j = suc i - j
 
-loop-holds : tie.Need-loop-holds Inv-loop μ-loop
-loop-holds c = (omega arith, sym (alike-none _ _ _ _))
-
-same-key-requires : tie.Need-same-key-requires Inv-loop μ-loop
-same-key-requires c κs = omega arith
-
 add-found : tie.Need-add-found Inv-loop μ-loop
 add-found c =
     let l = c .before .before .before in
     let s = l .before in
     let ws = s .args .table .now in
     omega (arith, alike-within (s .args .whole) (groupAt (s .args .i) ws) (memberAt (s .args .i) ws) (l .loop .j) ws)
-
-add-j : tie.Need-add-j Inv-loop μ-loop
-add-j c = omega arith
-
-loop-less : tie.Need-loop-less Inv-loop μ-loop
-loop-less c = omega arith
 
 loop-again : tie.Need-loop-again Inv-loop μ-loop
 unfolding sameAt
@@ -60,14 +49,5 @@ returns c =
 
 pub rank-spec : {M : Type 1} → statement M
 rank-spec =
-    tie.close
-    (tie.spec
-    Inv-loop
-    μ-loop
-    loop-holds
-    same-key-requires
-    add-found
-    add-j
-    loop-less
-    loop-again
-    returns)
+    tie.close (tie.spec Inv-loop μ-loop (λ c. search (needs, alike-none)) (λ c κs. omega arith) add-found (λ c. omega arith)
+    (λ c. omega arith) loop-again returns)

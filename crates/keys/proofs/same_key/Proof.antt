@@ -9,24 +9,6 @@ use borrow.Author.Needs.{needs}
 use Rattle.keys.proofs.same_key.Statement.{statement}
 use Rattle.keys.proofs.same_key.Tie as tie
 
-group-at-requires : tie.Need-group-at-requires
-group-at-requires c κs = search needs
-
-group-at-requires-2 : tie.Need-group-at-requires-2
-group-at-requires-2 c κs = search needs
-
-same-number-requires : tie.Need-same-number-requires
-same-number-requires c κs = search needs
-
-member-at-requires : tie.Need-member-at-requires
-member-at-requires c κs = search needs
-
-member-at-requires-2 : tie.Need-member-at-requires-2
-member-at-requires-2 c κs = search needs
-
-same-number-requires-2 : tie.Need-same-number-requires-2
-same-number-requires-2 c κs = search needs
-
 groups :
     (c : tie.After-same-number) → let s = c .before .before .before in
     c .same-number .result ≡ eqZ (groupAt (s .args .j) (s .args .table .now)) (groupAt (s .args .i) (s .args .table .now))
@@ -52,14 +34,5 @@ returns-3 c = differ (c .before .before .before .before .args .whole) _ _ _ _ (s
 
 pub same-key-spec : {M : Type 1} → statement M
 same-key-spec =
-    tie.close
-    (tie.spec
-    group-at-requires
-    group-at-requires-2
-    same-number-requires
-    member-at-requires
-    member-at-requires-2
-    same-number-requires-2
-    returns
-    returns-2
-    returns-3)
+    tie.close (tie.spec (λ c κs. search needs) (λ c κs. search needs) (λ c κs. search needs) (λ c κs. search needs)
+    (λ c κs. search needs) (λ c κs. search needs) returns returns-2 returns-3)

@@ -15,21 +15,6 @@ Inv-loop letters marks bit i₀ i = fitFrom bit letters (drop i marks) ≡ fitFr
 abbrev μ-loop : tie.MeasureT-loop
 μ-loop letters marks bit i₀ i = 13 - i
 
-bit-of-requires : tie.Need-bit-of-requires Inv-loop μ-loop
-bit-of-requires c κs = search needs
-
-loop-holds : tie.Need-loop-holds Inv-loop μ-loop
-loop-holds c = refl
-
-mul-e : tie.Need-mul-e Inv-loop μ-loop
-mul-e c = search needs
-
-array-copy-out-e : tie.Need-array-copy-out-e Inv-loop μ-loop
-array-copy-out-e c = search needs
-
-div-if1 : tie.Need-div-if1 Inv-loop μ-loop
-div-if1 c = search needs
-
 returns : tie.Need-returns Inv-loop μ-loop
 returns c =
     let b = c .before .before .before .before .before .before .before in
@@ -40,12 +25,6 @@ returns c =
     (c .before .before .if1 .taken) (c .if2 .taken))
     ∙ l .inv
     ∙ bit-rule (a .place) (a .letters) (b .bit-of .ensures .0)
-
-add-i : tie.Need-add-i Inv-loop μ-loop
-add-i c = search needs
-
-loop-less : tie.Need-loop-less Inv-loop μ-loop
-loop-less c = search needs
 
 loop-again : tie.Need-loop-again Inv-loop μ-loop
 loop-again c =
@@ -68,17 +47,5 @@ returns-2 c =
 
 pub find-mark-spec : {M : Type 1} → statement M
 find-mark-spec =
-    tie.close
-    (tie.spec
-    Inv-loop
-    μ-loop
-    bit-of-requires
-    loop-holds
-    mul-e
-    array-copy-out-e
-    div-if1
-    returns
-    add-i
-    loop-less
-    loop-again
-    returns-2)
+    tie.close (tie.spec Inv-loop μ-loop (λ c κs. search needs) (λ c. refl) (λ c. search needs) (λ c. search needs)
+    (λ c. search needs) returns (λ c. search needs) (λ c. search needs) loop-again returns-2)

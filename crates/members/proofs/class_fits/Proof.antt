@@ -35,29 +35,15 @@ cleared c j l o = go (eqb (s .args .limit) 1) refl
         let n = eqb-false (s .args .limit) 1 e in
         subst (λ (m : List ℕ). Cleared (s .args .whole) (s .args .table .now) (s .args .limit) m j) (sym (c .mark-class .ensures .1 n)) (s .pre .1 .1 .1 .1 .1 n j l)
 
-mark-class-requires : tie.Need-mark-class-requires
-mark-class-requires c κs = search needs
-
-count-class-requires : tie.Need-count-class-requires
-count-class-requires c κs = search needs
-
-same-length : tie.Need-same-length
-same-length c = search needs
-
 returns : tie.Need-returns
 returns c =
     let k = c .before .before .before .before in
     let s = startOf k in (
       λ e j l o. ⊎-elim (λ r. r)
           (λ t. c .count-class .ensures .0 e j l (wanted-of (s .args .whole) (s .args .table .now) (s .args .classes) (s .args .class) (marksOf k) j t o)) (cleared k j l o),
-      (c .count-class .ensures .1, k .mark-class .ensures .1),
+      search needs,
     )
 
 pub class-fits-spec : {M : Type 1} → statement M
 class-fits-spec =
-    tie.close
-    (tie.spec
-    mark-class-requires
-    count-class-requires
-    same-length
-    returns)
+    tie.close (tie.spec (λ c κs. search needs) (λ c κs. search needs) (λ c. search needs) returns)

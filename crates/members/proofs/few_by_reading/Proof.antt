@@ -1,4 +1,5 @@
 -- `few_by_reading` meets its contract. The loop's invariant: the pairs passed have ranks within the limit.
+use borrow.Author.Needs.{needs}
 use Prim.Native.Nat.{_<_, _≤_, _-_}
 use mathlib.Core.Path.{_≡_, sym}
 use mathlib.Core.Bool.{true}
@@ -17,12 +18,6 @@ Inv-loop table count whole limit i₀ i = (i ≤ count) × (each (rankFits whole
 abbrev μ-loop : tie.MeasureT-loop
 μ-loop table count whole limit i₀ i = count - i
 
-loop-holds : tie.Need-loop-holds Inv-loop μ-loop
-loop-holds c = (omega arith, each-none _)
-
-rank-requires : tie.Need-rank-requires Inv-loop μ-loop
-rank-requires c κs = omega arith
-
 returns : tie.Need-returns Inv-loop μ-loop
 unfolding within
 returns c =
@@ -32,19 +27,15 @@ returns c =
     let h : s .args .limit < rankAt (s .args .whole) (l .loop .i) (s .args .table .now) = omega arith in
     sym (each-false (rankFits (s .args .whole) (s .args .limit) (s .args .table .now)) (s .args .count) (l .loop .i) (omega arith) (lt-leb _ _ h))
 
-add-i : tie.Need-add-i Inv-loop μ-loop
-add-i c = omega arith
-
-loop-less : tie.Need-loop-less Inv-loop μ-loop
-loop-less c = omega arith
-
 loop-again : tie.Need-loop-again Inv-loop μ-loop
 loop-again c =
     let r = c .before in
     let l = r .before .before in
     let s = l .before in
-    let h : rankAt (s .args .whole) (l .loop .i) (s .args .table .now) ≤ s .args .limit = omega arith in
-    (omega arith, rw (add-one (l .loop .i)) (each-next _ (l .loop .i) (l .loop .inv .1) (le-leb _ _ h)))
+    let h : rankAt (s .args .whole) (l .loop .i) (s .args .table .now) ≤ s .args .limit = omega arith in (
+      omega arith,
+      search (needs, add-one, each-next, le-leb),
+    )
 
 returns-2 : tie.Need-returns-2 Inv-loop μ-loop
 unfolding within
@@ -55,14 +46,5 @@ returns-2 c =
 
 pub few-by-reading-spec : {M : Type 1} → statement M
 few-by-reading-spec =
-    tie.close
-    (tie.spec
-    Inv-loop
-    μ-loop
-    loop-holds
-    rank-requires
-    returns
-    add-i
-    loop-less
-    loop-again
-    returns-2)
+    tie.close (tie.spec Inv-loop μ-loop (λ c. search (needs, each-none)) (λ c κs. omega arith) returns (λ c. omega arith)
+    (λ c. omega arith) loop-again returns-2)

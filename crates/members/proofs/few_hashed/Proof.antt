@@ -1,7 +1,7 @@
 -- `few_hashed` meets its contract. The loop's invariant: the ranks of the classes passed are within the limit, and the marks still tell
 -- of all pairs where they are not made anew.
 use Prim.Native.Nat.{ℕ, _≤_, _<_, _-_}
-use mathlib.Core.Path.{_≡_, refl, sym, _∙_, subst}
+use mathlib.Core.Path.{_≡_, refl, sym, subst}
 use mathlib.Core.Bool.{Bool, true, false}
 use mathlib.Core.List.{List}
 use native.Mathlib.Omega.{arith}
@@ -26,18 +26,6 @@ Inv-loop table count whole limit marks₀ classes class₀ marks class =
 abbrev μ-loop : tie.MeasureT-loop
 μ-loop table count whole limit marks₀ classes class₀ marks class = classes - class
 
-slice-aggregate-classes-of : tie.Need-slice-aggregate-classes-of Inv-loop μ-loop
-slice-aggregate-classes-of c = search needs
-
-classes-of-requires : tie.Need-classes-of-requires Inv-loop μ-loop
-classes-of-requires c κs = let s = c .before in (s .pre .0, (s .pre .1 .0, refl))
-
-loop-holds : tie.Need-loop-holds Inv-loop μ-loop
-loop-holds c = (omega arith, search needs, c .before .classes-of .ensures .1 .0, λ j l h. absurd (omega arith))
-
-slice-aggregate-class-fits : tie.Need-slice-aggregate-class-fits Inv-loop μ-loop
-slice-aggregate-class-fits c = sym (c .before .before .loop .inv .1)
-
 class-fits-requires : tie.Need-class-fits-requires Inv-loop μ-loop
 class-fits-requires c κs =
     let l = c .before .before in
@@ -48,12 +36,6 @@ class-fits-requires c κs =
 returns : tie.Need-returns Inv-loop μ-loop
 returns c = sym (c .before .before .class-fits .ensures .1 .0 (not-true _ (c .if1 .taken)))
 
-add-class : tie.Need-add-class Inv-loop μ-loop
-add-class c = omega arith
-
-loop-less : tie.Need-loop-less Inv-loop μ-loop
-loop-less c = omega arith
-
 loop-again : tie.Need-loop-again Inv-loop μ-loop
 loop-again c =
     let f = c .before .before in
@@ -61,7 +43,7 @@ loop-again c =
     let k = l .before .before in
     let s = k .before .before in (
       omega arith,
-      f .class-fits .kept .1 .1 .1 .1 .1 .1 .0 ∙ l .loop .inv .1,
+      search needs,
       λ n. subst (λ (m : List ℕ). (j : ℕ) → j < s .args .count → Cleared (s .args .whole) (s .args .table .now) (s .args .limit) m j) (sym (f .class-fits .ensures .1 .1 n)) (l .loop .inv .2 n),
       λ j h b. below-next _ (l .loop .class) (l .loop .inv .3 j h) (f .class-fits .ensures .0 (not-false _ (c .if1 .left)) j h) b,
     )
@@ -89,17 +71,5 @@ returns-2 c = go (ltb 0 (k .classes-of .result)) refl
 
 pub few-hashed-spec : {M : Type 1} → statement M
 few-hashed-spec =
-    tie.close
-    (tie.spec
-    Inv-loop
-    μ-loop
-    slice-aggregate-classes-of
-    classes-of-requires
-    loop-holds
-    slice-aggregate-class-fits
-    class-fits-requires
-    returns
-    add-class
-    loop-less
-    loop-again
-    returns-2)
+    tie.close (tie.spec Inv-loop μ-loop (λ c. search needs) (λ c κs. search needs) (λ c. search needs) (λ c. search needs)
+    class-fits-requires returns (λ c. omega arith) (λ c. omega arith) loop-again returns-2)

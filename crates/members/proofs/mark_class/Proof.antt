@@ -10,27 +10,16 @@ clearedOf c = c .before .before .before .before
 abbrev thenOf : tie.After-clear-marks → tie.Then1
 thenOf c = c .before .before
 
-clear-marks-requires : tie.Need-clear-marks-requires
-clear-marks-requires c κs = search needs
-
-insert-all-requires : tie.Need-insert-all-requires
-insert-all-requires c κs = search needs
-
-same-length : tie.Need-same-length
-same-length c = search needs
-
 returns : tie.Need-returns
-returns c = let a = c .before .before in (λ e. a .insert-all .ensures, λ n. absurd (n (thenOf (clearedOf a) .if1 .taken)))
+returns c =
+    let a = c .before .before in (
+      search needs,
+      λ n. absurd (n (thenOf (clearedOf a) .if1 .taken)),
+    )
 
 returns-2 : tie.Need-returns-2
 returns-2 c = (λ e. absurd (c .if1 .left e), λ n. refl)
 
 pub mark-class-spec : {M : Type 1} → statement M
 mark-class-spec =
-    tie.close
-    (tie.spec
-    clear-marks-requires
-    insert-all-requires
-    same-length
-    returns
-    returns-2)
+    tie.close (tie.spec (λ c κs. search needs) (λ c κs. search needs) (λ c. search needs) returns returns-2)

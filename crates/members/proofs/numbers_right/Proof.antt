@@ -1,4 +1,5 @@
 -- `numbers_right` meets its contract. The loop's invariant: the pairs passed have numbers of at least 1.
+use borrow.Author.Needs.{needs}
 use Prim.Native.Nat.{_≤_, _-_}
 use mathlib.Core.Path.{_≡_, sym, _∙_}
 use mathlib.Core.Bool.{true}
@@ -18,18 +19,6 @@ Inv-loop table count i₀ i = (i ≤ count) × (each (numbersAt table) i ≡ tru
 abbrev μ-loop : tie.MeasureT-loop
 μ-loop table count i₀ i = count - i
 
-loop-holds : tie.Need-loop-holds Inv-loop μ-loop
-loop-holds c = (omega arith, each-none _)
-
-group-at-requires : tie.Need-group-at-requires Inv-loop μ-loop
-group-at-requires c κs = omega arith
-
-member-at-requires : tie.Need-member-at-requires Inv-loop μ-loop
-member-at-requires c κs = omega arith
-
-numbers-fit-requires : tie.Need-numbers-fit-requires Inv-loop μ-loop
-numbers-fit-requires c κs = tt
-
 abbrev loopOf : tie.After-numbers-fit Inv-loop μ-loop → tie.At-loop Inv-loop μ-loop
 loopOf c = c .before .before .before .before
 
@@ -47,12 +36,6 @@ returns c =
     sym (numbers-each (s .args .table .now) (s .args .count) (s .pre)
     ∙ each-false (numbersAt (s .args .table .now)) (s .args .count) (l .loop .i) (omega arith) (sym (tested (c .before)) ∙ not-true _ (c .if1 .taken)))
 
-add-i : tie.Need-add-i Inv-loop μ-loop
-add-i c = omega arith
-
-loop-less : tie.Need-loop-less Inv-loop μ-loop
-loop-less c = omega arith
-
 loop-again : tie.Need-loop-again Inv-loop μ-loop
 loop-again c =
     let l = loopOf (c .before) in
@@ -67,16 +50,5 @@ returns-2 c =
 
 pub numbers-right-spec : {M : Type 1} → statement M
 numbers-right-spec =
-    tie.close
-    (tie.spec
-    Inv-loop
-    μ-loop
-    loop-holds
-    group-at-requires
-    member-at-requires
-    numbers-fit-requires
-    returns
-    add-i
-    loop-less
-    loop-again
-    returns-2)
+    tie.close (tie.spec Inv-loop μ-loop (λ c. search (needs, each-none)) (λ c κs. omega arith) (λ c κs. omega arith) (λ c κs. tt)
+    returns (λ c. omega arith) (λ c. omega arith) loop-again returns-2)

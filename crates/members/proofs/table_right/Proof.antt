@@ -19,24 +19,10 @@ rest c =
     let s = c .before .before in
     right-is (s .args .limit) (s .args .table .now) (s .args .count) (c .before .if1 .left) (c .if2 .left)
 
-returns : tie.Need-returns
-returns c = sym (right-odd (c .before .args .limit) (c .before .args .table .now) (c .before .args .count) (c .if1 .taken))
-
-returns-2 : tie.Need-returns-2
-returns-2 c =
-    let s = c .before .before in
-    sym (right-short (s .args .limit) (s .args .table .now) (s .args .count) (c .before .if1 .left) (c .if2 .taken))
-
-numbers-right-requires : tie.Need-numbers-right-requires
-numbers-right-requires c κs = search needs
-
 returns-3 : tie.Need-returns-3
 returns-3 c =
     let k = c .before in
     rw (rest (k .before), sym (k .numbers-right .ensures) ∙ not-true _ (c .if3 .taken))
-
-few-alike-requires : tie.Need-few-alike-requires
-few-alike-requires c κs = search needs
 
 returns-4 : tie.Need-returns-4
 returns-4 c =
@@ -56,9 +42,6 @@ returns-5 c =
       small-within false (s .args .limit) (s .args .table .now) (s .args .count) (c .if5 .taken),
     )
 
-few-alike-requires-2 : tie.Need-few-alike-requires-2
-few-alike-requires-2 c κs = search needs
-
 returns-6 : tie.Need-returns-6
 returns-6 c =
     let f = c .before .before .before in
@@ -68,14 +51,5 @@ returns-6 c =
 
 pub table-right-spec : {M : Type 1} → statement M
 table-right-spec =
-    tie.close
-    (tie.spec
-    returns
-    returns-2
-    numbers-right-requires
-    returns-3
-    few-alike-requires
-    returns-4
-    returns-5
-    few-alike-requires-2
-    returns-6)
+    tie.close (tie.spec (λ c. search (needs, right-odd)) (λ c. search (needs, right-short)) (λ c κs. search needs) returns-3
+    (λ c κs. search needs) returns-4 returns-5 (λ c κs. search needs) returns-6)

@@ -4,9 +4,6 @@ use Rattle.hashing.proofs.Weights.{whole-cast, whole-weight}
 use Rattle.members_samples.proofs.natural.Statement.{statement}
 use Rattle.members_samples.proofs.natural.Tie as tie
 
-returns : tie.Need-returns
-returns c = omega arith
-
 cast-result : tie.Need-cast-result
 cast-result c = whole-cast (c .before .args .number) (c .before .fits .number .sfits) (c .if1 .left)
 
@@ -14,4 +11,4 @@ returns-2 : tie.Need-returns-2
 returns-2 c = whole-weight (c .before .args .number) (c .before .fits .number .sfits) (c .if1 .left) .1
 
 pub natural-spec : {M : Type 1} → statement M
-natural-spec = tie.close (tie.spec returns cast-result returns-2)
+natural-spec = tie.close (tie.spec (λ c. omega arith) cast-result returns-2)

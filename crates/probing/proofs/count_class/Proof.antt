@@ -1,6 +1,7 @@
 -- `count_class` meets its contract. The loop's invariant: the slots are good, and the ranks passed are within the limit.
+use borrow.Author.Needs.{needs}
 use Prim.Native.Nat.{ℕ, _≤_, _<_, _-_}
-use mathlib.Core.Path.{_≡_, refl, sym}
+use mathlib.Core.Path.{_≡_, refl}
 use mathlib.Core.Bool.{true}
 use native.Mathlib.Omega.{arith}
 use borrow.Author.Count.{below-more}
@@ -22,12 +23,6 @@ Inv-loop table count whole limit class classes marks slots₀ i₀ slots i =
 abbrev μ-loop : tie.MeasureT-loop
 μ-loop table count whole limit class classes marks slots₀ i₀ slots i = count - i
 
-loop-holds : tie.Need-loop-holds Inv-loop μ-loop
-loop-holds c = (omega arith, good-start _ _ _, λ j l. absurd (omega arith))
-
-slice-aggregate-count-wanted : tie.Need-slice-aggregate-count-wanted Inv-loop μ-loop
-slice-aggregate-count-wanted c = sym (c .before .before .loop .inv .1 .slot-words)
-
 count-wanted-requires : tie.Need-count-wanted-requires Inv-loop μ-loop
 count-wanted-requires c κs =
     let l = c .before .before in
@@ -44,12 +39,6 @@ returns c =
       λ e. each-false (rankFits (s .args .whole) (s .args .limit) (s .args .table .now)) (s .args .count) (l .loop .i) (omega arith) (lt-leb _ _ (k .count-wanted .ensures .1 .1 (not-true _ (c .if1 .taken)))),
     )
 
-add-i : tie.Need-add-i Inv-loop μ-loop
-add-i c = omega arith
-
-loop-less : tie.Need-loop-less Inv-loop μ-loop
-loop-less c = omega arith
-
 loop-again : tie.Need-loop-again Inv-loop μ-loop
 loop-again c =
     let k = c .before .before in
@@ -62,15 +51,5 @@ returns-2 c = (λ e j l m. c .before .loop .inv .2 j (omega arith) m, λ e. neve
 
 pub count-class-spec : {M : Type 1} → statement M
 count-class-spec =
-    tie.close
-    (tie.spec
-    Inv-loop
-    μ-loop
-    loop-holds
-    slice-aggregate-count-wanted
-    count-wanted-requires
-    returns
-    add-i
-    loop-less
-    loop-again
-    returns-2)
+    tie.close (tie.spec Inv-loop μ-loop (λ c. search (needs, good-start)) (λ c. search needs) count-wanted-requires returns
+    (λ c. omega arith) (λ c. omega arith) loop-again returns-2)

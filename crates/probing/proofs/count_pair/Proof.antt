@@ -51,43 +51,10 @@ held-fits c =
     let s = startOf (c .before .before) in
     omega (arith, at-held c .there, at-held c .within, slot-below (s .args .whole) (s .args .table .now) (s .args .i), size (c .before .before))
 
-bucket-of-requires : tie.Need-bucket-of-requires
-bucket-of-requires c κs = (omega arith, omega arith)
-
 probe-requires : tie.Need-probe-requires
 probe-requires c κs =
     let s = c .before .before .before in
     (s .pre .0, (omega (arith, c .bucket-of .ensures .1, s .pre .1 .1 .1 .1 .0), λ q. omega (arith, s .pre .0, s .pre .1 .1 .1 .1 .1 q)))
-
-enum-known-found : tie.Need-enum-known-found
-enum-known-found c = search needs
-
-add-slots : tie.Need-add-slots
-add-slots c = search needs
-
-add-slots-2 : tie.Need-add-slots-2
-add-slots-2 c = search needs
-
-mul-slots : tie.Need-mul-slots
-mul-slots c = omega (arith, empty-fits (c .before), size (c .before .before .before))
-
-slice-write-slots : tie.Need-slice-write-slots
-slice-write-slots c = empty-fits (c .before)
-
-enum-known-found-2 : tie.Need-enum-known-found-2
-enum-known-found-2 c = search needs
-
-mul-v : tie.Need-mul-v
-mul-v c = omega (arith, held-fits (c .before), size (c .before .before .before))
-
-slice-read-v : tie.Need-slice-read-v
-slice-read-v c = held-fits (c .before .before)
-
-number-in-requires : tie.Need-number-in-requires
-number-in-requires c κs = search needs
-
-same-length : tie.Need-same-length
-same-length c = search needs
 
 returns : tie.Need-returns
 returns c =
@@ -103,21 +70,6 @@ add-slots-3 c =
     let s = startOf (f .before .before) in
     omega (arith, number-room (getD (s .args .slots .now) (f .found2 .given .0 .0) 0) (s .args .limit) (omega (arith, c .before .number-in .ensures, c .if1 .left)) (omega (arith, s .fits .limit)))
 
-mul-slots-2 : tie.Need-mul-slots-2
-mul-slots-2 c = let f = c .before .before .before .before in omega (arith, held-fits f, size (f .before .before))
-
-slice-write-slots-2 : tie.Need-slice-write-slots-2
-slice-write-slots-2 c = held-fits (c .before .before .before .before)
-
-enum-told : tie.Need-enum-told
-enum-told c = search needs
-
-rank-requires : tie.Need-rank-requires
-rank-requires c κs = search needs
-
-same-length-2 : tie.Need-same-length-2
-same-length-2 c = search needs
-
 returns-2 : tie.Need-returns-2
 returns-2 c =
     let f = c .before in
@@ -129,9 +81,6 @@ returns-2 c =
       λ e. never refl e,
     )
 
-same-length-3 : tie.Need-same-length-3
-same-length-3 c = search needs
-
 returns-3 : tie.Need-returns-3
 returns-3 c =
     let f = c .before .before .before .before in
@@ -142,9 +91,6 @@ returns-3 c =
       ),
       λ e. never refl e,
     )
-
-same-length-4 : tie.Need-same-length-4
-same-length-4 c = search needs
 
 returns-4 : tie.Need-returns-4
 returns-4 c =
@@ -159,29 +105,8 @@ returns-4 c =
 
 pub count-pair-spec : {M : Type 1} → statement M
 count-pair-spec =
-    tie.close
-    (tie.spec
-    bucket-of-requires
-    probe-requires
-    enum-known-found
-    add-slots
-    add-slots-2
-    mul-slots
-    slice-write-slots
-    enum-known-found-2
-    mul-v
-    slice-read-v
-    number-in-requires
-    same-length
-    returns
-    add-slots-3
-    mul-slots-2
-    slice-write-slots-2
-    enum-told
-    rank-requires
-    same-length-2
-    returns-2
-    same-length-3
-    returns-3
-    same-length-4
-    returns-4)
+    tie.close (tie.spec (λ c κs. search needs) probe-requires (λ c. search needs) (λ c. search needs) (λ c. search needs)
+    (λ c. search (needs, empty-fits, size)) (λ c. search (needs, empty-fits)) (λ c. search needs)
+    (λ c. search (needs, held-fits, size)) (λ c. search (needs, held-fits)) (λ c κs. search needs) (λ c. search needs) returns
+    add-slots-3 (λ c. search (needs, held-fits, size)) (λ c. search (needs, held-fits)) (λ c. search needs) (λ c κs. search needs)
+    (λ c. search needs) returns-2 (λ c. search needs) returns-3 (λ c. search needs) returns-4)

@@ -34,12 +34,6 @@ wants-is : (s : tie.Start) {a b : Bool} → suspected (s .args .whole) (s .args 
 unfolding wanted
 wants-is s p q = ap₂ (λ (x y : Bool). x && y) p q
 
-hash-requires : tie.Need-hash-requires
-hash-requires c κs = search needs
-
-is-suspected-requires : tie.Need-is-suspected-requires
-is-suspected-requires c κs = (c .hash .ensures, c .before .before .before .pre .1 .1 .1 .1 .0)
-
 returns : tie.Need-returns
 returns c =
     let k = c .before in
@@ -48,9 +42,6 @@ returns c =
       λ e. good-skip (s .args .whole) (s .args .table .now) (wants s) (wanted-key _ _ _ _ _) (s .args .i) (s .args .slots .now) (good s) (λ m. never m no),
       (λ e m. never m no, λ e. never refl e),
     )
-
-class-of-requires : tie.Need-class-of-requires
-class-of-requires c κs = search needs
 
 returns-2 : tie.Need-returns-2
 returns-2 c =
@@ -69,9 +60,6 @@ count-pair-requires c κs =
     let s = startOf k in
     (s .pre .0, (s .pre .1 .0, (s .pre .1 .1 .0, (k .before .hash .ensures, (good s .slot-words, good s .low)))))
 
-same-length : tie.Need-same-length
-same-length c = search needs
-
 returns-3 : tie.Need-returns-3
 returns-3 c =
     let t = c .before .before in
@@ -87,13 +75,5 @@ returns-3 c =
 
 pub count-wanted-spec : {M : Type 1} → statement M
 count-wanted-spec =
-    tie.close
-    (tie.spec
-    hash-requires
-    is-suspected-requires
-    returns
-    class-of-requires
-    returns-2
-    count-pair-requires
-    same-length
-    returns-3)
+    tie.close (tie.spec (λ c κs. search needs) (λ c κs. search needs) returns (λ c κs. search needs) returns-2 count-pair-requires
+    (λ c. search needs) returns-3)

@@ -1,4 +1,5 @@
 -- `probe` meets its contract. The loop's invariant: the slots passed are in use by other keys.
+use borrow.Author.Needs.{needs}
 use Prim.Native.Nat.{ℕ, _≤_, _<_, _+_, _*_, _-_}
 use mathlib.Core.Path.{_≡_, refl, sym, _∙_, subst}
 use mathlib.Core.Bool.{true, false}
@@ -30,38 +31,14 @@ read c = c .place-in .ensures ∙ sym (first-in (startOf c .args .slots .now) (s
 loop-holds : tie.Need-loop-holds Inv-loop μ-loop
 loop-holds c = (omega arith, λ s l. absurd (omega arith))
 
-add-place-in : tie.Need-add-place-in Inv-loop μ-loop
-add-place-in c = omega arith
-
-mul-place-in : tie.Need-mul-place-in Inv-loop μ-loop
-mul-place-in c = omega arith
-
-shared-slice-read-place-in : tie.Need-shared-slice-read-place-in Inv-loop μ-loop
-shared-slice-read-place-in c = omega arith
-
-place-in-requires : tie.Need-place-in-requires Inv-loop μ-loop
-place-in-requires c κs = tt
-
-add-t13 : tie.Need-add-t13 Inv-loop μ-loop
-add-t13 c = omega arith
-
 returns : tie.Need-returns Inv-loop μ-loop
 returns c =
     let l = loopOf (c .before) in
     record { steps = l .loop .t; within = omega arith; there = refl; passed = l .loop .inv .1; empty = sym (read (c .before)) ∙ c .if1 .taken }
 
-sub-same-key : tie.Need-sub-same-key Inv-loop μ-loop
-sub-same-key c = omega arith
-
 -- a slot in use has a place of the table
 there : (c : tie.Else1 Inv-loop μ-loop) → 2 * (c .before .place-in .result - 1) + 1 < length (startOf (c .before) .args .table .now)
 there c = let s = startOf (c .before) in omega (arith, c .if1 .left, read (c .before), s .pre .1 .1 (s .args .slot + loopOf (c .before) .loop .t))
-
-same-key-requires : tie.Need-same-key-requires Inv-loop μ-loop
-same-key-requires c κs = (startOf (c .before) .pre .0, there c)
-
-add-t15 : tie.Need-add-t15 Inv-loop μ-loop
-add-t15 c = omega arith
 
 returns-2 : tie.Need-returns-2 Inv-loop μ-loop
 returns-2 c =
@@ -78,12 +55,6 @@ returns-2 c =
       held = λ z. d .if1 .left (read p ∙ z);
       own = subst (λ (f : ℕ). sameAt (s .args .whole) (s .args .table .now) (s .args .i) (f - 1) ≡ true) (read p) (sym (k .same-key .ensures) ∙ c .if2 .taken);
     }
-
-add-t : tie.Need-add-t Inv-loop μ-loop
-add-t c = omega arith
-
-loop-less : tie.Need-loop-less Inv-loop μ-loop
-loop-less c = omega arith
 
 loop-again : tie.Need-loop-again Inv-loop μ-loop
 loop-again c =
@@ -102,22 +73,6 @@ returns-3 c = λ s l. c .before .loop .inv .1 s (omega arith)
 
 pub probe-spec : {M : Type 1} → statement M
 probe-spec =
-    tie.close
-    (tie.spec
-    Inv-loop
-    μ-loop
-    loop-holds
-    add-place-in
-    mul-place-in
-    shared-slice-read-place-in
-    place-in-requires
-    add-t13
-    returns
-    sub-same-key
-    same-key-requires
-    add-t15
-    returns-2
-    add-t
-    loop-less
-    loop-again
-    returns-3)
+    tie.close (tie.spec Inv-loop μ-loop loop-holds (λ c. omega arith) (λ c. omega arith) (λ c. omega arith) (λ c κs. tt)
+    (λ c. omega arith) returns (λ c. omega arith) (λ c κs. search (needs, there)) (λ c. omega arith) returns-2 (λ c. omega arith)
+    (λ c. omega arith) loop-again returns-3)

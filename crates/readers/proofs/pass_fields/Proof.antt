@@ -22,19 +22,10 @@ module _ (bs : List ℕ) (at from count : ℕ) where
   unfolding forget
   all-there fits = sym (ap forget (fields-all at count from (unread bs from) fits))
 
-left-requires : tie.Need-left-requires
-left-requires c κs = search needs
-
 returns : tie.Need-returns
 returns c =
     let a = c .before .before .before .args in
     cut-off (a .script .now) (a .at) (a .from) (a .count) (omega (arith, c .before .left .ensures .0))
-
-mul-t5 : tie.Need-mul-t5
-mul-t5 c = search needs
-
-add-t8 : tie.Need-add-t8
-add-t8 c = search needs
 
 returns-2 : tie.Need-returns-2
 returns-2 c =
@@ -42,4 +33,4 @@ returns-2 c =
     all-there (a .script .now) (a .at) (a .from) (a .count) (omega (arith, c .before .left .ensures .0))
 
 pub pass-fields-spec : {M : Type 1} → statement M
-pass-fields-spec = tie.close (tie.spec left-requires returns mul-t5 add-t8 returns-2)
+pass-fields-spec = tie.close (tie.spec (λ c κs. search needs) returns (λ c. search needs) (λ c. search needs) returns-2)

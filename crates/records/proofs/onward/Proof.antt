@@ -5,12 +5,6 @@ use Rattle.records.specs.Taking.{progressOf}
 use Rattle.records.proofs.onward.Statement.{statement}
 use Rattle.records.proofs.onward.Tie as tie
 
-enum-known-r : tie.Need-enum-known-r
-enum-known-r c = search needs
-
-enum-known-r-2 : tie.Need-enum-known-r-2
-enum-known-r-2 c = search needs
-
 returns : tie.Need-returns
 returns c = ap progressOf (sym (c .before .r .given .1))
 
@@ -18,4 +12,4 @@ returns-2 : tie.Need-returns-2
 returns-2 c = ap progressOf (sym (c .before .r2 .given .1))
 
 pub onward-spec : {M : Type 1} → statement M
-onward-spec = tie.close (tie.spec enum-known-r enum-known-r-2 returns returns-2)
+onward-spec = tie.close (tie.spec (λ c. search needs) (λ c. search needs) returns returns-2)

@@ -1,6 +1,7 @@
 -- `block_holds` meets its contract. The loop's invariant: hits were counted where the pair is among those passed.
+use borrow.Author.Needs.{needs}
 use Prim.Native.Nat.{_≤_, _-_}
-use mathlib.Core.Path.{_≡_, refl, sym, _∙_}
+use mathlib.Core.Path.{_≡_, sym, _∙_}
 use mathlib.Core.Logic.{⊎-elim}
 use native.Mathlib.Numerals.{add-one}
 use native.Mathlib.Omega.{arith}
@@ -21,25 +22,10 @@ abbrev μ-loop : tie.MeasureT-loop
 
 loop-holds : tie.Need-loop-holds Inv-loop μ-loop
 unfolding among
-loop-holds c = (omega arith, omega arith, refl)
+loop-holds c = search needs
 
 abbrev loopOf : tie.After-pair-is Inv-loop μ-loop → tie.At-loop Inv-loop μ-loop
 loopOf c = c .before .before
-
-add-pair-is : tie.Need-add-pair-is Inv-loop μ-loop
-add-pair-is c = omega arith
-
-pair-is-requires : tie.Need-pair-is-requires Inv-loop μ-loop
-pair-is-requires c κs = omega arith
-
-add-hits : tie.Need-add-hits Inv-loop μ-loop
-add-hits c = omega arith
-
-add-j : tie.Need-add-j Inv-loop μ-loop
-add-j c = omega arith
-
-loop-less : tie.Need-loop-less Inv-loop μ-loop
-loop-less c = omega arith
 
 loop-again : tie.Need-loop-again Inv-loop μ-loop
 loop-again c =
@@ -63,15 +49,5 @@ returns c =
 
 pub block-holds-spec : {M : Type 1} → statement M
 block-holds-spec =
-    tie.close
-    (tie.spec
-    Inv-loop
-    μ-loop
-    loop-holds
-    add-pair-is
-    pair-is-requires
-    add-hits
-    add-j
-    loop-less
-    loop-again
-    returns)
+    tie.close (tie.spec Inv-loop μ-loop loop-holds (λ c. omega arith) (λ c κs. omega arith) (λ c. omega arith) (λ c. omega arith)
+    (λ c. omega arith) loop-again returns)

@@ -1,4 +1,5 @@
 -- `group_size` meets its contract. The loop's invariant: the pairs of the group among those passed are counted.
+use borrow.Author.Needs.{needs}
 use Prim.Native.Nat.{suc, _≤_, _-_, _/_, min}
 use mathlib.Core.Path.{_≡_, sym, _∙_, ap}
 use mathlib.Core.Logic.{⊎-elim}
@@ -29,30 +30,12 @@ startOf c = c .before .before
 abbrev loopOf : tie.After-same-number Inv-loop μ-loop → tie.At-loop Inv-loop μ-loop
 loopOf c = c .before .before .before
 
-pairs-in-requires : tie.Need-pairs-in-requires Inv-loop μ-loop
-pairs-in-requires c κs = tt
-
-loop-holds : tie.Need-loop-holds Inv-loop μ-loop
-loop-holds c = (omega arith, sym (members-zero _ _))
-
-group-at-requires : tie.Need-group-at-requires Inv-loop μ-loop
-group-at-requires c κs = omega arith
-
-same-number-requires : tie.Need-same-number-requires Inv-loop μ-loop
-same-number-requires c κs = tt
-
 add-found : tie.Need-add-found Inv-loop μ-loop
 add-found c =
     let k = loopOf (c .before) in
     let l = k .loop in
     let s = startOf k in
     omega (arith, members-within (toZ w32 (ofZ w32 (s .args .group))) (l .i) (s .args .table .now))
-
-add-i : tie.Need-add-i Inv-loop μ-loop
-add-i c = omega arith
-
-loop-less : tie.Need-loop-less Inv-loop μ-loop
-loop-less c = omega arith
 
 tested :
     (c : tie.After-same-number Inv-loop μ-loop) → let l = loopOf c in let s = startOf l in
@@ -83,16 +66,5 @@ returns c =
 
 pub group-size-spec : {M : Type 1} → statement M
 group-size-spec =
-    tie.close
-    (tie.spec
-    Inv-loop
-    μ-loop
-    pairs-in-requires
-    loop-holds
-    group-at-requires
-    same-number-requires
-    add-found
-    add-i
-    loop-less
-    loop-again
-    returns)
+    tie.close (tie.spec Inv-loop μ-loop (λ c κs. tt) (λ c. search (needs, members-zero)) (λ c κs. omega arith) (λ c κs. tt)
+    add-found (λ c. omega arith) (λ c. omega arith) loop-again returns)

@@ -6,12 +6,6 @@ use Rattle.language.specs.Table.{atLeastOne}
 use Rattle.searching.proofs.numbers_fit.Statement.{statement}
 use Rattle.searching.proofs.numbers_fit.Tie as tie
 
-at-least-one-requires : tie.Need-at-least-one-requires
-at-least-one-requires c κs = search needs
-
-at-least-one-requires-2 : tie.Need-at-least-one-requires-2
-at-least-one-requires-2 c κs = search needs
-
 group-fits : (c : tie.After-at-least-one) → c .at-least-one .result ≡ atLeastOne (c .before .args .group)
 group-fits c = c .at-least-one .ensures ∙ ap atLeastOne (toZ-ofZ (c .before .fits .group))
 
@@ -25,4 +19,4 @@ returns-2 c = rw (sym (group-fits (c .before)) ∙ c .if1 .left)
 
 pub numbers-fit-spec : {M : Type 1} → statement M
 numbers-fit-spec =
-    tie.close (tie.spec at-least-one-requires at-least-one-requires-2 returns returns-2)
+    tie.close (tie.spec (λ c κs. search needs) (λ c κs. search needs) returns returns-2)

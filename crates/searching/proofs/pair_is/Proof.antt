@@ -7,18 +7,6 @@ use Rattle.searching.proofs.pair_is.Statement.{statement}
 use Rattle.searching.proofs.pair_is.Tie as tie
 use Rattle.searching.proofs.Signed.{same-words}
 
-group-at-requires : tie.Need-group-at-requires
-group-at-requires c κs = search needs
-
-member-at-requires : tie.Need-member-at-requires
-member-at-requires c κs = search needs
-
-same-number-requires : tie.Need-same-number-requires
-same-number-requires c κs = search needs
-
-same-number-requires-2 : tie.Need-same-number-requires-2
-same-number-requires-2 c κs = search needs
-
 abbrev startOf : tie.After-same-number → tie.Start
 startOf c = c .before .before .before
 
@@ -36,11 +24,5 @@ returns-2 c = rw (sym (group-same (c .before)) ∙ c .if1 .left)
 
 pub pair-is-spec : {M : Type 1} → statement M
 pair-is-spec =
-    tie.close
-    (tie.spec
-    group-at-requires
-    member-at-requires
-    same-number-requires
-    same-number-requires-2
-    returns
+    tie.close (tie.spec (λ c κs. search needs) (λ c κs. search needs) (λ c κs. search needs) (λ c κs. search needs) returns
     returns-2)

@@ -1,4 +1,5 @@
 -- `place_of` meets its contract. The loop's invariant: the pair is not found among those passed.
+use borrow.Author.Needs.{needs}
 use Prim.Native.Nat.{ℕ, _≤_, _-_, _/_, min}
 use mathlib.Core.Path.{_≡_, refl, sym, _∙_, ap}
 use mathlib.Core.List.{List}
@@ -28,18 +29,6 @@ startOf c = c .before .before .before
 abbrev loopOf : tie.After-pair-is Inv-loop μ-loop → tie.At-loop Inv-loop μ-loop
 loopOf c = c .before .before
 
-pairs-in-requires : tie.Need-pairs-in-requires Inv-loop μ-loop
-pairs-in-requires c κs = tt
-
-without-requires : tie.Need-without-requires Inv-loop μ-loop
-without-requires c κs = omega (arith, c .pairs-in .ensures)
-
-loop-holds : tie.Need-loop-holds Inv-loop μ-loop
-loop-holds c = c .without .ensures
-
-pair-is-requires : tie.Need-pair-is-requires Inv-loop μ-loop
-pair-is-requires c κs = omega arith
-
 answer : {g m : ℤ} → SFits w32 g → SFits w32 m → (count : ℕ) (ws : List ℤ) (i : ℕ) {n : ℕ} {r : Option ℕ} → i ≡ n → n ≡ min count (length ws / 2) → find (toZ w32 (ofZ w32 g)) (toZ w32 (ofZ w32 m)) i ws ≡ r → placed r ≡ placed (find g m count ws)
 answer {g} {m} fg fm count ws i h e q = ap placed (sym q ∙ rw (h, e, toZ-ofZ fg, toZ-ofZ fm) (find-clamped g m count ws))
 
@@ -53,12 +42,6 @@ returns c =
     answer (s .fits .group) (s .fits .member) (s .args .count) (s .args .table .now) (n .result) refl (n .ensures)
     (find-hit _ _ (n .result) (room (l .i) _ (omega arith)) (l .inv .1) (sym (c .before .pair-is .ensures) ∙ c .if1 .taken) (omega arith))
 
-add-i : tie.Need-add-i Inv-loop μ-loop
-add-i c = omega arith
-
-loop-less : tie.Need-loop-less Inv-loop μ-loop
-loop-less c = omega arith
-
 loop-again : tie.Need-loop-again Inv-loop μ-loop
 loop-again c = (omega arith, rw add-one (find-fresh _ _ (room _ _ (omega arith)) (loopOf (c .before) .loop .inv .1) (sym (c .before .pair-is .ensures) ∙ c .if1 .left)))
 
@@ -71,16 +54,5 @@ returns-2 c =
 
 pub place-of-spec : {M : Type 1} → statement M
 place-of-spec =
-    tie.close
-    (tie.spec
-    Inv-loop
-    μ-loop
-    pairs-in-requires
-    without-requires
-    loop-holds
-    pair-is-requires
-    returns
-    add-i
-    loop-less
-    loop-again
-    returns-2)
+    tie.close (tie.spec Inv-loop μ-loop (λ c κs. tt) (λ c κs. search needs) (λ c. search needs) (λ c κs. omega arith) returns
+    (λ c. omega arith) (λ c. omega arith) loop-again returns-2)

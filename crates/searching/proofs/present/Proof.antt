@@ -31,16 +31,12 @@ held :
     v ≡ isSome (find (s .args .group) (s .args .member) (s .args .count) (s .args .table .now))
 held c q = let s = startOf c in rw (toZ-ofZ (s .fits .group), toZ-ofZ (s .fits .member)) at (sym q ∙ c .loop .inv .1)
 
-pairs-in-requires : tie.Need-pairs-in-requires Inv-loop μ-loop
-pairs-in-requires c κs = search needs
-
 loop-holds : tie.Need-loop-holds Inv-loop μ-loop
 loop-holds c =
-    let s = c .before in
-    (omega (arith, c .pairs-in .ensures), rw (c .pairs-in .ensures) (ap isSome (find-clamped _ _ (s .args .count) (s .args .table .now))))
-
-block-holds-requires : tie.Need-block-holds-requires Inv-loop μ-loop
-block-holds-requires c κs = omega arith
+    let s = c .before in (
+      search needs,
+      rw (c .pairs-in .ensures) (ap isSome (find-clamped _ _ (s .args .count) (s .args .table .now))),
+    )
 
 abbrev loopOf : tie.After-block-holds Inv-loop μ-loop → tie.At-loop Inv-loop μ-loop
 loopOf c = c .before .before
@@ -54,9 +50,6 @@ returns c =
     let i = k .loop .i in
     held k (rw (whole i (omega arith)) at (found-there _ _ (i - 32) 32 _ (omega arith) (sym (c .before .block-holds .ensures) ∙ c .if1 .taken)))
 
-loop-less : tie.Need-loop-less Inv-loop μ-loop
-loop-less c = omega arith
-
 loop-again : tie.Need-loop-again Inv-loop μ-loop
 loop-again c =
     let k = loopOf (c .before) in
@@ -64,15 +57,6 @@ loop-again c =
       omega arith,
       sym (rw (whole i (omega arith)) at (found-before _ _ (i - 32) 32 _ (omega arith) (sym (c .before .block-holds .ensures) ∙ c .if1 .left))) ∙ k .loop .inv .1,
     )
-
-place-of-requires : tie.Need-place-of-requires Inv-loop μ-loop
-place-of-requires c κs = search needs
-
-enum-told : tie.Need-enum-told Inv-loop μ-loop
-enum-told c = search needs
-
-enum-told-2 : tie.Need-enum-told-2 Inv-loop μ-loop
-enum-told-2 c = search needs
 
 returns-2 : tie.Need-returns-2 Inv-loop μ-loop
 returns-2 c = let p = c .before .before in held (p .before .before) (held-at _ (sym (p .place-of .ensures) ∙ c .enum-told .given .1))
@@ -82,18 +66,5 @@ returns-3 c = let p = c .before .before in held (p .before .before) (held-not _ 
 
 pub present-spec : {M : Type 1} → statement M
 present-spec =
-    tie.close
-    (tie.spec
-    Inv-loop
-    μ-loop
-    pairs-in-requires
-    loop-holds
-    block-holds-requires
-    returns
-    loop-less
-    loop-again
-    place-of-requires
-    enum-told
-    enum-told-2
-    returns-2
-    returns-3)
+    tie.close (tie.spec Inv-loop μ-loop (λ c κs. search needs) loop-holds (λ c κs. omega arith) returns (λ c. omega arith)
+    loop-again (λ c κs. search needs) (λ c. search needs) (λ c. search needs) returns-2 returns-3)

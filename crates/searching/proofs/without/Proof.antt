@@ -1,4 +1,5 @@
 -- `without` meets its contract. The loop's invariant: the pair is not among those passed.
+use borrow.Author.Needs.{needs}
 use Prim.Native.Nat.{_≤_, _-_}
 use mathlib.Core.Path.{_≡_, sym, _∙_}
 use mathlib.Core.Option.{none}
@@ -18,51 +19,18 @@ Inv-loop table n group member i₀ i = (i ≤ n) × (find (toZ w32 group) (toZ w
 abbrev μ-loop : tie.MeasureT-loop
 μ-loop table n group member i₀ i = n - i
 
-loop-holds : tie.Need-loop-holds Inv-loop μ-loop
-loop-holds c = (omega arith, find-zero _ _ _)
-
 abbrev loopOf : tie.After-block-holds Inv-loop μ-loop → tie.At-loop Inv-loop μ-loop
 loopOf c = c .before .before
 
 absent : (c : tie.At-loop Inv-loop μ-loop) → find (c .before .args .group) (c .before .args .member) (c .loop .i) (c .before .args .table .now) ≡ none
 absent c = rw (toZ-ofZ (c .before .fits .group), toZ-ofZ (c .before .fits .member)) at (c .loop .inv .1)
 
-sub-loop : tie.Need-sub-loop Inv-loop μ-loop
-sub-loop c = omega arith
-
-block-holds-requires : tie.Need-block-holds-requires Inv-loop μ-loop
-block-holds-requires c κs = omega (arith, c .before .before .pre)
-
-returns : tie.Need-returns Inv-loop μ-loop
-returns c =
-    let k = loopOf (c .before) in
-    (k .loop .inv .0, absent k)
-
-add-i : tie.Need-add-i Inv-loop μ-loop
-add-i c = omega arith
-
-loop-less : tie.Need-loop-less Inv-loop μ-loop
-loop-less c = omega arith
-
 loop-again : tie.Need-loop-again Inv-loop μ-loop
 loop-again c =
     let k = loopOf (c .before) in
     (omega arith, still-none _ _ _ _ _ (omega (arith, k .before .pre)) (k .loop .inv .1) (sym (c .before .block-holds .ensures) ∙ c .if1 .left))
 
-returns-2 : tie.Need-returns-2 Inv-loop μ-loop
-returns-2 c = (c .before .loop .inv .0, absent (c .before))
-
 pub without-spec : {M : Type 1} → statement M
 without-spec =
-    tie.close
-    (tie.spec
-    Inv-loop
-    μ-loop
-    loop-holds
-    sub-loop
-    block-holds-requires
-    returns
-    add-i
-    loop-less
-    loop-again
-    returns-2)
+    tie.close (tie.spec Inv-loop μ-loop (λ c. search (needs, find-zero)) (λ c. omega arith) (λ c κs. search needs)
+    (λ c. search (needs, absent)) (λ c. omega arith) (λ c. omega arith) loop-again (λ c. search (needs, absent)))

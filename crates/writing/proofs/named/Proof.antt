@@ -7,15 +7,6 @@ use borrow.Author.Needs.{needs}
 use Rattle.writing.proofs.named.Statement.{statement}
 use Rattle.writing.proofs.named.Tie as tie
 
-find-requires : tie.Need-find-requires
-find-requires c κs = search needs
-
-enum-known-w : tie.Need-enum-known-w
-enum-known-w c = search needs
-
-enum-told : tie.Need-enum-told
-enum-told c = search needs
-
 returns : tie.Need-returns
 unfolding wordIn wordOf
 returns c = let f = c .before .before .find in (ap wordOf (sym (c .enum-told .given .1) ∙ f .ensures .0), omega arith)
@@ -23,8 +14,10 @@ returns c = let f = c .before .before .find in (ap wordOf (sym (c .enum-told .gi
 returns-2 : tie.Need-returns-2
 unfolding wordIn wordOf
 returns-2 c =
-    let f = c .before .before .before .find in
-    (ap wordOf (sym (c .before .w .given .1) ∙ f .ensures .0), near-place (f .result) (c .before .w .given .0 .0) (c .before .w .given .1) (f .ensures .1))
+    let f = c .before .before .before .find in (
+      ap wordOf (sym (c .before .w .given .1) ∙ f .ensures .0),
+      search (needs, near-place),
+    )
 
 pub named-spec : {M : Type 1} → statement M
-named-spec = tie.close (tie.spec find-requires enum-known-w enum-told returns returns-2)
+named-spec = tie.close (tie.spec (λ c κs. search needs) (λ c. search needs) (λ c. search needs) returns returns-2)

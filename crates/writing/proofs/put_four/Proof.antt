@@ -9,21 +9,9 @@ use Rattle.writing.proofs.put_four.Tie as tie
 abbrev firstOf : tie.After-put-two2 → tie.After-put-two
 firstOf c = c .before .before .before .before
 
-put-two-requires : tie.Need-put-two-requires
-put-two-requires c κs = search needs
-
-add-put-two : tie.Need-add-put-two
-add-put-two c = search needs
-
-put-two-requires-2 : tie.Need-put-two-requires-2
-put-two-requires-2 c κs = search needs
-
-same-length : tie.Need-same-length
-same-length c = search needs
-
 returns : tie.Need-returns
 returns c = λ sa sb sd se. grown-then (omega arith) (firstOf (c .before .before) .put-two .ensures sa sb) (c .before .before .put-two2 .ensures sd se)
 
 pub put-four-spec : {M : Type 1} → statement M
 put-four-spec =
-    tie.close (tie.spec put-two-requires add-put-two put-two-requires-2 same-length returns)
+    tie.close (tie.spec (λ c κs. search needs) (λ c. search needs) (λ c κs. search needs) (λ c. search needs) returns)

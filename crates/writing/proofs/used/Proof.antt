@@ -7,12 +7,6 @@ use borrow.Author.Needs.{needs}
 use Rattle.writing.proofs.used.Statement.{statement}
 use Rattle.writing.proofs.used.Tie as tie
 
-word-requires : tie.Need-word-requires
-word-requires c κs = search needs
-
-named-requires : tie.Need-named-requires
-named-requires c κs = search needs
-
 returns : tie.Need-returns
 unfolding usedAt
 returns c =
@@ -20,4 +14,4 @@ returns c =
     (c .named .ensures .0 ∙ ap (λ (n : ℕ). wordIn n (drop (a .top) (a .entries .now))) (c .before .word .ensures .0), c .named .ensures .1)
 
 pub used-spec : {M : Type 1} → statement M
-used-spec = tie.close (tie.spec word-requires named-requires returns)
+used-spec = tie.close (tie.spec (λ c κs. search needs) (λ c κs. search needs) returns)

@@ -82,21 +82,6 @@ abbrev fill-loopOf :
     fill-lts.At-loop (fill-claims t) (fill-at t) fill.Post fill-Inv-loop fill-μ-loop
 fill-loopOf c = c .before .before .before .before
 
-abbrev over-startOf : {t : ℕ} → over-lts.After-word (over-claims t) (over-at t) over.Post → over-lts.Start (over-claims t) (over-at t) over.Post
-over-startOf c = c .before .before
-
-fill-loop-holds : (t : ℕ) → fill-lts.Need-loop-holds (fill-claims t) (fill-at t) fill.Post fill-Inv-loop fill-μ-loop
-fill-loop-holds t c =
-    let st = c .before in
-    let a = st .args in
-    let p = st .pre .1 .3 in (
-      p .on,
-      omega (arith, p .near, st .pre .1 .1),
-      omega (arith, p .few, p .on),
-      λ x h. left-first (a .script .now) (a .at) x (a .first) p h,
-      st .pre .1 .2,
-    )
-
 fill-returns : (t : ℕ) → fill-lts.Need-returns (fill-claims t) (fill-at t) fill.Post fill-Inv-loop fill-μ-loop
 fill-returns t c =
     let l = c .before .before .loop in
@@ -113,33 +98,18 @@ fill-returns t c =
       l .inv .4,
     )
 
-fill-over-requires : (t : ℕ) → fill-lts.Need-over-requires (fill-claims t) (fill-at t) fill.Post fill-Inv-loop fill-μ-loop
-fill-over-requires t c κs = search needs
-
-fill-sub-pending : (t : ℕ) → fill-lts.Need-sub-pending (fill-claims t) (fill-at t) fill.Post fill-Inv-loop fill-μ-loop
-fill-sub-pending t c = search needs
-
-fill-add-pending : (t : ℕ) → fill-lts.Need-add-pending (fill-claims t) (fill-at t) fill.Post fill-Inv-loop fill-μ-loop
-fill-add-pending t c = search needs
-
-fill-loop-less : (t : ℕ) → fill-lts.Need-loop-less (fill-claims t) (fill-at t) fill.Post fill-Inv-loop fill-μ-loop
-fill-loop-less t c = search needs
-
 fill-loop-again : (t : ℕ) → fill-lts.Need-loop-again (fill-claims t) (fill-at t) fill.Post fill-Inv-loop fill-μ-loop
 fill-loop-again t c =
     let o = c .before .over in
     let at = fill-loopOf (c .before) in
     let l = at .loop in
     let a = fill-startOf at .args in (
-      omega (arith, o .ensures .0 .on, l .inv .0),
+      search needs,
       o .ensures .0 .near,
-      omega (arith, o .ensures .0 .few, o .ensures .0 .on, l .inv .2),
+      search needs,
       λ x h. o .ensures .0 .steps (a .at) (l .pending) x (c .before .before .before .before .loop-test .taken) (l .inv .3 x h),
       o .ensures .1,
     )
-
-fill-note-requires : (t : ℕ) → fill-lts.Need-note-requires (fill-claims t) (fill-at t) fill.Post fill-Inv-loop fill-μ-loop
-fill-note-requires t c κs = search needs
 
 fill-returns-2 : (t : ℕ) → fill-lts.Need-returns-2 (fill-claims t) (fill-at t) fill.Post fill-Inv-loop fill-μ-loop
 fill-returns-2 t c =
@@ -153,68 +123,17 @@ fill-returns-2 t c =
     } in
     ((s, l .inv .0), c .note .ensures (a .script .now) s (l .inv .4))
 
-over-word-requires : (t : ℕ) → over-lts.Need-word-requires (over-claims t) (over-at t) over.Post
-over-word-requires t c κs = search needs
-
-over-procedure-head-requires : (t : ℕ) → over-lts.Need-procedure-head-requires (over-claims t) (over-at t) over.Post
-over-procedure-head-requires t c κs = search needs
-
-over-fill-requires : (t : ℕ) → over-lts.Need-fill-requires (over-claims t) (over-at t) over.Post
-over-fill-requires t c κs = search needs
-
 over-returns : (t : ℕ) → over-lts.Need-returns (over-claims t) (over-at t) over.Post
 over-returns t c =
-    let f = c .fill in
-    let st = over-startOf (c .before .before .before .before) in
-    let a = st .args in (
-      record {
-        steps = λ from pending x more l. left-whole (a .script .now) from x (a .at) pending (f .result) more (f .ensures .0 .0) l;
-        on = f .ensures .0 .1;
-        near = omega (arith, f .ensures .0 .0 .close, st .pre .1 .1);
-        few = omega arith;
-      },
+    let f = c .fill in (
+      search (needs, left-whole),
       f .ensures .1,
     )
 
-over-block-head-requires : (t : ℕ) → over-lts.Need-block-head-requires (over-claims t) (over-at t) over.Post
-over-block-head-requires t c κs = search needs
-
-over-returns-2 : (t : ℕ) → over-lts.Need-returns-2 (over-claims t) (over-at t) over.Post
-over-returns-2 t c =
-    let st = over-startOf (c .before .before .before) in
-    (stepped-head (st .args .script .now) (st .args .at) (st .pre .1 .1) (c .block-head .result) (c .block-head .ensures), st .pre .1 .2)
-
-over-past-requires : (t : ℕ) → over-lts.Need-past-requires (over-claims t) (over-at t) over.Post
-over-past-requires t c κs = search needs
-
-over-returns-3 : (t : ℕ) → over-lts.Need-returns-3 (over-claims t) (over-at t) over.Post
-over-returns-3 t c =
-    let st = over-startOf (c .before .before .before) in
-    (stepped-head (st .args .script .now) (st .args .at) (st .pre .1 .1) _ (c .past .ensures), st .pre .1 .2)
-
 pub +fill+over-spec : {M : Type 1} → statement M
-+fill+over-spec = close μ-fill μ-over (λ t. fill-lts.spec (fill-claims t)
-    (fill-at t)
-    fill.Post
-    fill-Inv-loop
-    fill-μ-loop
-    (fill-loop-holds t)
-    (fill-returns t)
-    (fill-over-requires t)
-    (fill-sub-pending t)
-    (fill-add-pending t)
-    (fill-loop-less t)
-    (fill-loop-again t)
-    (fill-note-requires t)
-    (fill-returns-2 t))
-    λ t. over-lts.spec (over-claims t)
-    (over-at t)
-    over.Post
-    (over-word-requires t)
-    (over-procedure-head-requires t)
-    (over-fill-requires t)
-    (over-returns t)
-    (over-block-head-requires t)
-    (over-returns-2 t)
-    (over-past-requires t)
-    (over-returns-3 t)
++fill+over-spec =
+    close μ-fill μ-over (λ t. fill-lts.spec (fill-claims t) (fill-at t) fill.Post fill-Inv-loop fill-μ-loop
+    (λ c. search (needs, left-first)) (fill-returns t) (λ c κs. search needs) (λ c. search needs) (λ c. search needs)
+    (λ c. search needs) (fill-loop-again t) (λ c κs. search needs) (fill-returns-2 t)) λ t. over-lts.spec (over-claims t)
+    (over-at t) over.Post (λ c κs. search needs) (λ c κs. search needs) (λ c κs. search needs) (over-returns t)
+    (λ c κs. search needs) (λ c. search (needs, stepped-head)) (λ c κs. search needs) (λ c. search (needs, stepped-head))

@@ -6,24 +6,6 @@ use Rattle.extents.proofs.Noting.{ends-noted}
 use Rattle.extents.proofs.ends.note.Statement.{statement}
 use Rattle.extents.proofs.ends.note.Tie as tie
 
-returns : tie.Need-returns
-returns c = search needs
-
-mul-ends : tie.Need-mul-ends
-mul-ends c = search needs
-
-add-ends : tie.Need-add-ends
-add-ends c = search needs
-
-cast-ends : tie.Need-cast-ends
-cast-ends c = search needs
-
-mul-ends-2 : tie.Need-mul-ends-2
-mul-ends-2 c = search needs
-
-element-write-ends : tie.Need-element-write-ends
-element-write-ends c = search needs
-
 returns-2 : tie.Need-returns-2
 returns-2 c =
     let st = c .before in
@@ -32,12 +14,5 @@ returns-2 c =
 
 pub note-spec : {M : Type 1} → statement M
 note-spec =
-    tie.close
-    (tie.spec
-    returns
-    mul-ends
-    add-ends
-    cast-ends
-    mul-ends-2
-    element-write-ends
-    returns-2)
+    tie.close (tie.spec (λ c. search needs) (λ c. search needs) (λ c. search needs) (λ c. search needs) (λ c. search needs)
+    (λ c. search needs) returns-2)

@@ -8,9 +8,6 @@ use Rattle.extents.specs.Passing.{Skipped}
 use Rattle.extents.proofs.ends.procedure.Statement.{statement}
 use Rattle.extents.proofs.ends.procedure.Tie as tie
 
-noted-requires : tie.Need-noted-requires
-noted-requires c κs = search needs
-
 returns : tie.Need-returns
 returns c =
     let n = c .before .noted .ensures (c .if1 .taken) in
@@ -22,15 +19,6 @@ returns c =
       st .pre .2,
     )
 
-procedure-head-requires : tie.Need-procedure-head-requires
-procedure-head-requires c κs = search needs
-
-fill-requires : tie.Need-fill-requires
-fill-requires c κs = search needs
-
-returns-2 : tie.Need-returns-2
-returns-2 c = search needs
-
 pub procedure-spec : {M : Type 1} → statement M
 procedure-spec =
-    tie.close (tie.spec noted-requires returns procedure-head-requires fill-requires returns-2)
+    tie.close (tie.spec (λ c κs. search needs) returns (λ c κs. search needs) (λ c κs. search needs) (λ c. search needs))

@@ -34,33 +34,6 @@ module _ (c : tie.After-field-count) where
         few = omega arith;
       }
 
-add-end : tie.Need-add-end
-add-end c = search needs
-
-cast-field-count : tie.Need-cast-field-count
-cast-field-count c = search needs
-
-field-count-requires : tie.Need-field-count-requires
-field-count-requires c κs = search needs
-
-mul-end : tie.Need-mul-end
-mul-end c = search needs
-
-add-end-2 : tie.Need-add-end-2
-add-end-2 c = search needs
-
-add-word : tie.Need-add-word
-add-word c = search needs
-
-word-requires : tie.Need-word-requires
-word-requires c κs = search needs
-
-mul-result : tie.Need-mul-result
-mul-result c = search needs
-
-add-result : tie.Need-add-result
-add-result c = search needs
-
 returns : tie.Need-returns
 returns c =
     let f = c .before .before in
@@ -69,7 +42,6 @@ returns c =
     let e = size-CL (fieldAt (bs f) (at f)) (fieldAt (bs f) (at f + 4)) m in
     let two = count-CL (fieldAt (bs f) (at f)) m in
     let n = f .field-count .ensures .0 ∙ ap fieldCount (st .pre .2) in
-    let v = c .word .ensures .0 in
     alone f _ (omega arith) (omega arith) (omega arith)
 
 returns-2 : tie.Need-returns-2
@@ -82,16 +54,5 @@ returns-2 c =
 
 pub past-spec : {M : Type 1} → statement M
 past-spec =
-    tie.close
-    (tie.spec
-    add-end
-    cast-field-count
-    field-count-requires
-    mul-end
-    add-end-2
-    add-word
-    word-requires
-    mul-result
-    add-result
-    returns
-    returns-2)
+    tie.close (tie.spec (λ c. search needs) (λ c. search needs) (λ c κs. search needs) (λ c. search needs) (λ c. search needs)
+    (λ c. search needs) (λ c κs. search needs) (λ c. search needs) (λ c. search needs) returns returns-2)

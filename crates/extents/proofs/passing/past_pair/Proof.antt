@@ -12,21 +12,6 @@ use borrow.Author.Needs.{needs}
 use Rattle.extents.proofs.passing.past_pair.Statement.{statement}
 use Rattle.extents.proofs.passing.past_pair.Tie as tie
 
-add-result : tie.Need-add-result
-add-result c = search needs
-
-cast-field-count : tie.Need-cast-field-count
-cast-field-count c = search needs
-
-field-count-requires : tie.Need-field-count-requires
-field-count-requires c κs = search needs
-
-mul-result : tie.Need-mul-result
-mul-result c = search needs
-
-add-result-2 : tie.Need-add-result-2
-add-result-2 c = search needs
-
 returns : tie.Need-returns
 unfolding fieldCount fitAt fitIn stmtMarks
 returns c =
@@ -46,4 +31,6 @@ returns c =
     }
 
 pub past-pair-spec : {M : Type 1} → statement M
-past-pair-spec = tie.close (tie.spec add-result cast-field-count field-count-requires mul-result add-result-2 returns)
+past-pair-spec =
+    tie.close (tie.spec (λ c. search needs) (λ c. search needs) (λ c κs. search needs) (λ c. search needs) (λ c. search needs)
+    returns)

@@ -1,11 +1,9 @@
 -- `judging::block::opened` meets its contract. Assumes nothing.
+use borrow.Author.Needs.{needs}
 use native.Mathlib.Omega.{arith}
 use Rattle.judging.proofs.BlockTests.{opened-deep, opened-many, opened-fits}
 use Rattle.judging.proofs.block.opened.Statement.{statement}
 use Rattle.judging.proofs.block.opened.Tie as tie
-
-returns : tie.Need-returns
-returns c = opened-deep _ _ _ _ _ (omega arith)
 
 returns-2 : tie.Need-returns-2
 returns-2 c = opened-many _ _ _ _ _ (c .before .if1 .left) (omega arith)
@@ -17,4 +15,4 @@ returns-4 : tie.Need-returns-4
 returns-4 c = opened-fits _ _ _ _ _ (c .before .before .if1 .left) (omega arith)
 
 pub opened-spec : {M : Type 1} → statement M
-opened-spec = tie.close (tie.spec returns returns-2 returns-3 returns-4)
+opened-spec = tie.close (tie.spec (λ c. search (needs, opened-deep)) returns-2 returns-3 returns-4)

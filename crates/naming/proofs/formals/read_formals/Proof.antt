@@ -1,6 +1,6 @@
 -- `naming::formals::read_formals` meets its contract: the formals done, whose names are held, come before those that are left. Assumes nothing.
-use mathlib.Core.Path.{_≡_, _∙_, refl, ap}
-use Prim.Native.Nat.{_≤_, _+_, _-_}
+use mathlib.Core.Path.{_≡_, _∙_, ap}
+use Prim.Native.Nat.{_≤_, _-_}
 use native.Mathlib.Omega.{arith}
 use borrow.Author.Needs.{needs}
 use lib.ListN.{length, take, length-set}
@@ -31,24 +31,6 @@ recordOf c = c .before .before .before
 abbrev kindKnown : tie.After-seen Inv-loop μ-loop → tie.Else1 Inv-loop μ-loop
 kindKnown c = c .before .before
 
-loop-holds : tie.Need-loop-holds Inv-loop μ-loop
-loop-holds c = (search needs, refl, refl, at-start _ _ _ _ _)
-
-read-formal-requires : tie.Need-read-formal-requires Inv-loop μ-loop
-read-formal-requires c κs = search needs
-
-enum-known-reading : tie.Need-enum-known-reading Inv-loop μ-loop
-enum-known-reading c = search needs
-
-enum-told : tie.Need-enum-told Inv-loop μ-loop
-enum-told c = search needs
-
-onward-requires : tie.Need-onward-requires Inv-loop μ-loop
-onward-requires c κs = search needs
-
-same-length : tie.Need-same-length Inv-loop μ-loop
-same-length c = loopOf (c .before .before .before) .loop .inv .1
-
 returns : tie.Need-returns Inv-loop μ-loop
 returns c =
     let r = c .before .before .before in
@@ -56,9 +38,6 @@ returns c =
     let told = c .before .enum-told .given .1 in
     let q = post-refused _ (namesAt (l .names) _ _) (refused-there (l .inv .3) (r .before .loop-test .taken) (r .read-formal .ensures .0) told) in
     (c .onward .ensures ∙ ap progressOf told ∙ q .0, (q .1, l .inv .2))
-
-same-length-2 : tie.Need-same-length-2 Inv-loop μ-loop
-same-length-2 c = loopOf (recordOf (c .before)) .loop .inv .1
 
 returns-2 : tie.Need-returns-2 Inv-loop μ-loop
 returns-2 c =
@@ -68,12 +47,6 @@ returns-2 c =
     let q = post-refused _ (namesAt (l .names) _ _) (wrong-kind (l .inv .3) (r .before .loop-test .taken) (r .read-formal .ensures .0) (t .reading .given .1) (omega arith)) in
     (q .0, (q .1, l .inv .2))
 
-seen-requires : tie.Need-seen-requires Inv-loop μ-loop
-seen-requires c κs = let l = loopOf (recordOf (c .before .before)) in omega (arith, l .loop .inv, entryOf l .pre)
-
-same-length-3 : tie.Need-same-length-3 Inv-loop μ-loop
-same-length-3 c = loopOf (recordOf (kindKnown (c .before) .before)) .loop .inv .1
-
 returns-3 : tie.Need-returns-3 Inv-loop μ-loop
 returns-3 c =
     let k = kindKnown (c .before) in
@@ -82,38 +55,19 @@ returns-3 c =
     let q = post-refused _ (namesAt (l .names) _ _) (named-twice (l .inv .3) (r .before .loop-test .taken) (r .read-formal .ensures .0) (k .before .before .reading .given .1) (omega arith) (c .before .seen .ensures) (c .if2 .taken)) in
     (q .0, (q .1, l .inv .2))
 
-add-names : tie.Need-add-names Inv-loop μ-loop
-add-names c = search needs
-
-mul-names : tie.Need-mul-names Inv-loop μ-loop
-mul-names c = search needs
-
-slice-write-names : tie.Need-slice-write-names Inv-loop μ-loop
-slice-write-names c = let l = loopOf (recordOf (kindKnown (c .before) .before)) in omega (arith, l .loop .inv, entryOf l .pre)
-
-add-i : tie.Need-add-i Inv-loop μ-loop
-add-i c = search needs
-
-loop-less : tie.Need-loop-less Inv-loop μ-loop
-loop-less c = search needs
-
 loop-again : tie.Need-loop-again Inv-loop μ-loop
 loop-again c =
     let k = kindKnown (c .before) in
     let r = recordOf (k .before) in
     let lp = loopOf r in
     let l = lp .loop in
-    let a = entryOf lp .args in
     let t = k .before .before .reading in
     let more = r .before .loop-test .taken in (
       omega (arith, more),
-      length-set (l .names) (a .base + l .i) (t .given .0 .1 .1 .0) ∙ l .inv .1,
-      front-set (l .names) (a .base) (l .i) (t .given .0 .1 .1 .0) ∙ l .inv .2,
+      search (needs, length-set),
+      search (needs, front-set),
       one-more (l .inv .3) more (r .read-formal .ensures .0) (t .given .1) (omega arith) (c .before .seen .ensures) (c .if2 .left) (omega (arith, l .inv, entryOf lp .pre)),
     )
-
-same-length-4 : tie.Need-same-length-4 Inv-loop μ-loop
-same-length-4 c = c .before .loop .inv .1
 
 returns-4 : tie.Need-returns-4 Inv-loop μ-loop
 returns-4 c =
@@ -123,27 +77,7 @@ returns-4 c =
 
 pub read-formals-spec : {M : Type 1} → statement M
 read-formals-spec =
-    tie.close
-    (tie.spec
-    Inv-loop
-    μ-loop
-    loop-holds
-    read-formal-requires
-    enum-known-reading
-    enum-told
-    onward-requires
-    same-length
-    returns
-    same-length-2
-    returns-2
-    seen-requires
-    same-length-3
-    returns-3
-    add-names
-    mul-names
-    slice-write-names
-    add-i
-    loop-less
-    loop-again
-    same-length-4
-    returns-4)
+    tie.close (tie.spec Inv-loop μ-loop (λ c. search (needs, at-start)) (λ c κs. search needs) (λ c. search needs)
+    (λ c. search needs) (λ c κs. search needs) (λ c. search needs) returns (λ c. search needs) returns-2 (λ c κs. search needs)
+    (λ c. search needs) returns-3 (λ c. search needs) (λ c. search needs) (λ c. search needs) (λ c. search needs)
+    (λ c. search needs) loop-again (λ c. search needs) returns-4)

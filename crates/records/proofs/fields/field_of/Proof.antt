@@ -10,15 +10,6 @@ use borrow.Author.Needs.{needs}
 use Rattle.records.proofs.fields.field_of.Statement.{statement}
 use Rattle.records.proofs.fields.field_of.Tie as tie
 
-mul-field-at : tie.Need-mul-field-at
-mul-field-at c = search needs
-
-add-field-at : tie.Need-add-field-at
-add-field-at c = search needs
-
-field-at-requires : tie.Need-field-at-requires
-field-at-requires c κs = search needs
-
 returns : tie.Need-returns
 returns c =
     let a = c .before .before .before .args in
@@ -39,4 +30,4 @@ returns-2 c =
     )
 
 pub field-of-spec : {M : Type 1} → statement M
-field-of-spec = tie.close (tie.spec mul-field-at add-field-at field-at-requires returns returns-2)
+field-of-spec = tie.close (tie.spec (λ c. search needs) (λ c. search needs) (λ c κs. search needs) returns returns-2)

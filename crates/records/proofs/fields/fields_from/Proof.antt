@@ -10,13 +10,10 @@ returns c =
     let a = c .before .args in
     (unread-number (a .script .now) (a .at) 0 (omega arith) (omega arith), omega arith)
 
-sub-result : tie.Need-sub-result
-sub-result c = search needs
-
 returns-2 : tie.Need-returns-2
 returns-2 c =
     let a = c .before .args in
     (unread-number (a .script .now) (a .at) _ (omega arith) (omega arith), omega arith)
 
 pub fields-from-spec : {M : Type 1} → statement M
-fields-from-spec = tie.close (tie.spec returns sub-result returns-2)
+fields-from-spec = tie.close (tie.spec returns (λ c. search needs) returns-2)
