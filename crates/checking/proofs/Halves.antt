@@ -25,7 +25,7 @@ use Rattle.uses.specs.Meanings as entries
 use Rattle.checking.specs.Verdicts.{verdictOf}
 
 as-judged : (t : Block) (v : definitions.Judgement) → verdictOf (judged t v) ≡ entries.verdictOf v
-unfolding verdictOf judged entries.verdictOf
+unfolding verdictOf judged
 as-judged t fine = refl
 as-judged t (wrong c o) = refl
 

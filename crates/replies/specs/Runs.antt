@@ -44,10 +44,11 @@ module _ {e : Engine} {f : Fed} (bytes : Bytes (f .script)) {t : Block} (h : Adm
   run-replies is l a =
       let w = is ((frameRunOf f t) .final .frames) held (sym (ended .live-is)) in
       let lent = ran-lent e f bytes t h in
+      let n : steps ≡ (frameRunOf f t) .final .steps = omega (arith, ended .steps-are) in
       let q = ran-answer e f bytes t h _ _ _ _ _ _ _
       (record {
         end-is = ended .end-is;
-        steps-are = omega (arith, ended .steps-are);
+        steps-are = n;
         offset-is = ended .offset-is;
         pairs-are = ended .pairs-are;
         sheet-is = w .1;

@@ -25,7 +25,7 @@ use Rattle.symbols.proofs.Chains.{kept-from, pushed-chained}
 use Rattle.extents.specs.Passing.{Placed}
 use Rattle.extents.proofs.Inside.{items-append, block-opens, formal-items, decl-items}
 use Rattle.scoping.proofs.Names.{formals-mean, decls-mean}
-use Rattle.scoping.proofs.Statements.{block-mark}
+use Rattle.scoping.proofs.Marked.{block-mark}
 
 pub word-within : (bs : List ℕ) (at : ℕ) → 0 < fieldAt bs at → at < length bs
 word-within bs at p = go (leb (length bs) at) refl

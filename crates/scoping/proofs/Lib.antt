@@ -1,4 +1,5 @@
 pub mod Names
+pub mod Marked
 pub mod Walking
 pub mod Statements
 pub mod Blocks

@@ -11,10 +11,9 @@ use Rattle.language.specs.declared.Refusal.{Refusal}
 use Rattle.records.specs.declared.Progress.{Progress}
 use Rattle.records.specs.declared.Progress.the-variants.{At, Refused}
 use Rattle.uses.specs.Meanings.{scopeOf}
-use Rattle.laws.specs.Fields.{FieldsStand, field-inside, fields-first, fields-after}
 use Rattle.extents.specs.Items.{Item, itemFields, itemsFields}
-use Rattle.scoping.specs.Walking.{progressOf, judgeItem, judgeItems, FormedItems, ItemsHere, ItemHere, Ahead, Ready, Kept, ItemJudged, ItemsJudged}
-use Rattle.extents.proofs.Inside.{item-opens, head-marked}
+use Rattle.scoping.specs.Walking.{progressOf, judgeItem, judgeItems, ItemsHere, ItemHere, Ahead, Ready, Kept, ItemJudged, ItemsJudged}
+use Rattle.scoping.proofs.Marked.{first-here, first-inside, others-here}
 
 -- a verdict, then another: where the first refuses, and where it does not
 stops : (r : Progress) (v w : definitions.Judgement) (c : Refusal) (o e e′ : ℕ) → r ≡ progressOf v e → r ≡ Refused c o → r ≡ progressOf (_then_ v w) e′
@@ -60,46 +59,35 @@ module _ (bs es : List ℕ) (at count top : ℕ) (xs : List Item) (level s : ℕ
 
     -- the next record: it begins inside the script, and is judged
     module _ (more : i < count) where
-      head-inside : (l : List Item) → length l + i ≡ count → FieldsStand bs here (itemsFields l) → length bs ≤ here → ⊥
-      unfolding itemsFields
-      head-inside [] n h out = omega arith
-      head-inside (y ∷ ys) n h out =
-          let f = fields-first bs here (itemFields y) (itemsFields ys) h in
-          field-inside bs here (head-marked bs here _ y (subst (FieldsStand bs here) (item-opens y) f)) out
-
       remaining-inside : Remaining bs es at here i count top xs level s → length bs ≤ here → ⊥
-      remaining-inside r = head-inside (r .left) (r .number) (r .rest .stand)
+      remaining-inside r = go (r .left) (r .number) (r .rest)
+        where
+          go : (l : List Item) → length l + i ≡ count → ItemsHere bs here (length l) top l level s → length bs ≤ here → ⊥
+          go [] n h out = omega arith
+          go (y ∷ ys) n h out = first-inside bs here top level s y ys h out
 
       module _ (r : Progress) (judged : (x : Item) (k n : ℕ) → ItemHere bs here top x k n → r ≡ progressOf (judgeItem x (scopeOf bs (drop top es))) (here + 2 * length (itemFields x))) where
         stop-at : (c : Refusal) (o : ℕ) → r ≡ Refused c o → (l : List Item) → length l + i ≡ count → ItemsHere bs here (length l) top l level s → progressOf (judgeItems l (scopeOf bs (drop top es))) (here + 2 * length (itemsFields l)) ≡ answer → r ≡ answer
-        unfolding judgeItems itemsFields FormedItems
+        unfolding judgeItems
         stop-at c o q [] n h v = absurd (omega arith)
         stop-at c o q (y ∷ ys) n h v =
-            stops r (judgeItem y (scopeOf bs (drop top es))) (judgeItems ys (scopeOf bs (drop top es))) c o _ _
-            (judged y level s (record { stand = fields-first bs here (itemFields y) (itemsFields ys) (h .stand); formed = h .formed .0; room = h .room })) q
-            ∙ v
+            stops r (judgeItem y (scopeOf bs (drop top es))) (judgeItems ys (scopeOf bs (drop top es))) c o _ _ (judged y level s (first-here bs here top level s y ys h)) q ∙ v
 
         remaining-stop : (c : Refusal) (o : ℕ) → r ≡ Refused c o → Remaining bs es at here i count top xs level s → r ≡ answer
         remaining-stop c o q m = stop-at c o q (m .left) (m .number) (m .rest) (m .verdict)
 
         go-on : (next : ℕ) → r ≡ At next → (l : List Item) → length l + i ≡ count → ItemsHere bs here (length l) top l level s → progressOf (judgeItems l (scopeOf bs (drop top es))) (here + 2 * length (itemsFields l)) ≡ answer → Remaining bs es at next (i + 1) count top xs level s
-        unfolding judgeItems itemsFields FormedItems
+        unfolding judgeItems itemsFields
         go-on next q [] n h v = absurd (omega arith)
         go-on next q (y ∷ ys) n h v =
             let sc = scopeOf bs (drop top es) in
-            let j = judged y level s (record { stand = fields-first bs here (itemFields y) (itemsFields ys) (h .stand); formed = h .formed .0; room = h .room }) in
             let end = here + 2 * length (itemFields y ++ itemsFields ys) in
-            let g = goes r (judgeItem y sc) (judgeItems ys sc) next (here + 2 * length (itemFields y)) end j q in
+            let g = goes r (judgeItem y sc) (judgeItems ys sc) next (here + 2 * length (itemFields y)) end (judged y level s (first-here bs here top level s y ys h)) q in
             let e : here + 2 * length (itemFields y) + 2 * length (itemsFields ys) ≡ end = omega (arith, length-append (itemFields y) (itemsFields ys)) in
             record {
               left = ys;
               number = omega arith;
-              rest = record {
-                number = refl;
-                stand = subst (λ (o : ℕ). FieldsStand bs o (itemsFields ys)) (sym (g .0)) (fields-after bs here (itemFields y) (itemsFields ys) (h .stand));
-                formed = subst (λ (o : ℕ). FormedItems ys level s o) (sym (g .0)) (h .formed .1);
-                room = h .room;
-              };
+              rest = others-here bs here top level s y ys h next (g .0);
               verdict = ap (λ (o : ℕ). progressOf (judgeItems ys sc) (o + 2 * length (itemsFields ys))) (g .0) ∙ ap (progressOf (judgeItems ys sc)) e ∙ g .1 ∙ v;
             }
 
