@@ -26,10 +26,10 @@ use Rattle.answers.specs.Answers.{ranAnswer}
 use Rattle.sheets.specs.Held.{Held}
 use Rattle.replies.specs.Replies.{no-links}
 use Rattle.replies.specs.Runs.{sheet-held, sheet-room, run-answer, run-lent}
-use Rattle.copy_moves.specs.Running.{limitsBy}
+use Rattle.run_state.specs.Scenes.{limitsBy}
 use Rattle.copying.specs.Beginning.{Beginning}
 use Rattle.copying.specs.Turning.{Ended}
-use Rattle.copying.specs.declared.run.Halt.{Halt}
+use Rattle.run_state.specs.declared.Halt.{Halt}
 
 zero-at : (n i : ℕ) → getD (replicate n (pos 0)) i (pos 0) ≡ pos 0
 zero-at zero i = refl
