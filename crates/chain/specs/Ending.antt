@@ -26,7 +26,7 @@ use Rattle.run_state.specs.declared.Turn.{Turn}
 use Rattle.run_state.specs.declared.Turn.the-variants.{Went, Finished, Stopped}
 use Rattle.run_state.specs.declared.Halt.{Halt}
 use Rattle.run_state.specs.Scenes.{limitsBy}
-use Rattle.run_state.specs.Halts.{finishedAfter, haltOf, spentAfter, stoppedAfter}
+use Rattle.run_state.specs.Halts.{finishedAfter, haltOf, spentAfter, stoppedAfter, namedBy}
 use Rattle.run_state.specs.Ended as state
 use Rattle.links.specs.declared.Found.{Found}
 use Rattle.links.specs.Records.{blocksIn, nextsIn, linksIn, withNext, Room, pushed, next-set, column-length}
@@ -44,9 +44,9 @@ startBy code pairs =
     record { live = 0; at = getD code 1 0 / 65536; end = getD code 1 0 % 65536; pairs = pairs; level = getD code 0 0 / 256 % 256; fresh = 0 }
 
 unfoldable pub haltBy : Registers → Turn → Found → ℕ → ℕ → Halt
-haltBy here (Went n) found allowance left = spentAfter here (allowance - left) (found .designator) (found .links)
-haltBy here Finished found allowance left = spentAfter here (allowance - left) (found .designator) (found .links)
-haltBy here (Stopped c) found allowance left = stoppedAfter here c (allowance - left) (found .designator) (found .links)
+haltBy here (Went n) found allowance left = namedBy (spentAfter here (allowance - left)) (found .designator) (found .links)
+haltBy here Finished found allowance left = namedBy (spentAfter here (allowance - left)) (found .designator) (found .links)
+haltBy here (Stopped c) found allowance left = namedBy (stoppedAfter here c (allowance - left)) (found .designator) (found .links)
 
 -- the records once the place of the innermost activation's next statement is put with the others'
 abbrev pub settled : List Activation → Registers → List Activation
@@ -158,35 +158,35 @@ module _ {code : List ℕ} {limit group : ℕ} {words₀ : List ℤ} {records₀
 
     -- the same of the records, and the links that were counted
     put : (e : End) (n offset : ℕ) → result ≡ results e offset s
-        → state.RunFrom (w .standing) allowance (haltOf here e n offset (found .designator) (found .links)) words (blocksIn records)
+        → state.RunFrom (w .standing) allowance (namedBy (haltOf here e n offset) (found .designator) (found .links)) words (blocksIn records)
         (set (nextsIn records) (here .live) (here .at)) (linksIn records) table
-        → RunFrom w allowance (haltOf here e n offset (found .designator) (found .links)) words (settled records here) table
+        → RunFrom w allowance (namedBy (haltOf here e n offset) (found .designator) (found .links)) words (settled records here) table
     unfolding results
     put e n offset q h =
         let set-so = next-set records (here .live) (here .at) (room-there (u .running) (here .live) (omega arith)) in
         record {
           ended = subst (λ (T : Type 0). T)
-              (λ i. state.RunFrom (w .standing) allowance (haltOf here e n offset (found .designator) (found .links)) words
+              (λ i. state.RunFrom (w .standing) allowance (namedBy (haltOf here e n offset) (found .designator) (found .links)) words
               (sym (set-so .blocks) i) (sym (set-so .nexts) i) (sym (set-so .links) i) table)
               h;
           links-are = ap (λ (f : Found). f .links) is ∙ ap (linksFollowed (s .frames)) (u .underway .same-name)
               ∙ sym (ap (λ (v : Result). linksFollowed (v .final .frames) (w .standing .name)) q);
         }
 
-    pub spent : left ≡ 0 → RunFrom w allowance (spentAfter here (allowance - left) (found .designator) (found .links)) words (settled records here) table
+    pub spent : left ≡ 0 → RunFrom w allowance (namedBy (spentAfter here (allowance - left)) (found .designator) (found .links)) words (settled records here) table
     spent z =
         let n : allowance ≡ allowance - left = omega arith in
-        subst (λ (k : ℕ). RunFrom w allowance (spentAfter here k (found .designator) (found .links)) words (settled records here) table) n
+        subst (λ (k : ℕ). RunFrom w allowance (namedBy (spentAfter here k) (found .designator) (found .links)) words (settled records here) table) n
         (put Spent allowance 0 (u .underway .runs ∙ ap (λ k. frameRun (limitsBy limit group) k s) z ∙ spends (u .running .standing))
-        (state.spent-end here (u .running .standing) (u .underway) _ refl (found .designator) (ap (λ (f : Found). f .designator) is) (found .links) _ z refl))
+        (state.spent-end here (u .running .standing) (u .underway) _ refl (found .designator) (ap (λ (f : Found). f .designator) is) (found .links) _ _ refl z refl))
 
     pub stopped : (c : Stop) → frameStep (limitsBy limit group) s ≡ halted c → 1 ≤ left
-        → RunFrom w allowance (stoppedAfter here c (allowance - left) (found .designator) (found .links)) words (settled records here) table
+        → RunFrom w allowance (namedBy (stoppedAfter here c (allowance - left)) (found .designator) (found .links)) words (settled records here) table
     stopped c stop more =
         let one : left ≡ suc (left - 1) = omega arith in
         put (Halts c) (allowance - left) _
         (u .underway .runs ∙ ap (λ k. frameRun (limitsBy limit group) k s) one ∙ stops (u .running .standing) (left - 1) c stop)
-        (state.stopped-end here (u .running .standing) (u .underway) _ refl (found .designator) (ap (λ (f : Found). f .designator) is) (found .links) _ c stop
+        (state.stopped-end here (u .running .standing) (u .underway) _ refl (found .designator) (ap (λ (f : Found). f .designator) is) (found .links) _ _ refl c stop
         more refl)
 
 -- What a run ends with
@@ -251,14 +251,14 @@ module _ {code : List ℕ} {words : List ℤ} {records : List Activation} {here 
       let g = e .last .going in
       let x = e .last .ends in
       let i = subst (FoundIn code words here found) (x .1) is in
-      subst (λ (rs : List Activation). EndedAt e (spentAfter here (allowance - left) (found .designator) (found .links)) (settled rs here)) (sym (x .1))
+      subst (λ (rs : List Activation). EndedAt e (namedBy (spentAfter here (allowance - left)) (found .designator) (found .links)) (settled rs here)) (sym (x .1))
       (spent g found (i (looking g)) (x .0))
   halted-end Finished e q found is = yes-no q
   halted-end (Stopped c) e q found is =
       let g = e .last .going in
       let x = e .last .ends in
       let i = subst (FoundIn code words here found) (x .2) is in
-      subst (λ (rs : List Activation). EndedAt e (stoppedAfter here c (allowance - left) (found .designator) (found .links)) (settled rs here)) (sym (x .2))
+      subst (λ (rs : List Activation). EndedAt e (namedBy (stoppedAfter here c (allowance - left)) (found .designator) (found .links)) (settled rs here)) (sym (x .2))
       (stopped g found (i (looking g)) c (x .0) (x .1))
 
 -- The start of a program

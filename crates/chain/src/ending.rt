@@ -6,6 +6,7 @@ use run_state::Halt;
 use run_state::Registers;
 use run_state::Turn;
 use run_state::finished;
+use run_state::named;
 use run_state::spent;
 use run_state::stopped;
 ghost use mathlib.Core.Bool.{not};
@@ -62,9 +63,9 @@ fn halted(here: Registers, turn: Turn, found: Found, allowance: u32, left: u32) 
 {
     let steps = allowance - left;
     match turn {
-        Turn::Went(next) => spent(here, steps, found.designator, found.links),
-        Turn::Finished => spent(here, steps, found.designator, found.links),
-        Turn::Stopped(cause) => stopped(here, cause, steps, found.designator, found.links),
+        Turn::Went(next) => named(spent(here, steps), found.designator, found.links),
+        Turn::Finished => named(spent(here, steps), found.designator, found.links),
+        Turn::Stopped(cause) => named(stopped(here, cause, steps), found.designator, found.links),
     }
 }
 

@@ -10,20 +10,14 @@ use lib.Signed.{mag, ltZ}
 use Rattle.language.specs.Basics.{eqZ}
 use Rattle.language.specs.Text.{Operation, less}
 use Rattle.language.specs.Machine.{compute}
-use Rattle.language.specs.Table.{Effect as Effect-of-table}
-use Rattle.language.specs.declared.Stop as Stop
-use Rattle.pairs.specs.declared.Change.{Change}
-use Rattle.pairs.specs.declared.Query.{Query}
-use Rattle.pairs.specs.declared.Query.the-variants.{Value, Stopped as Refused}
-use Rattle.pairs.specs.Outcomes.{changeOf, wordsAfter}
 use Rattle.acting.specs.declared.Effect.{Effect}
 use Rattle.acting.specs.declared.Effect.the-variants.{Done}
 use Rattle.acting.specs.declared.Move.{Move}
-use Rattle.acting.specs.declared.Move.the-variants.{On, Stop as Halt}
+use Rattle.acting.specs.declared.Move.the-variants.{On}
 use Rattle.acting.specs.Effects.{effectOf, wordsOf}
 use Rattle.acting.specs.Acting.{operationOf}
-use Rattle.statements.specs.Pieces.{moveAfter, moveChanged}
-use Rattle.copy_arms.specs.Parts.{branchMove, queryMove, queryWords}
+use Rattle.statements.specs.Pieces.{moveAfter}
+use Rattle.copy_arms.specs.Parts.{branchMove}
 
 -- AR
 
@@ -74,27 +68,3 @@ module _ (words : List ℤ) (next : ℕ) (jump : Move) {c d : ℕ} (p : c ≡ d)
   pub goes : eqZ (getD words c (pos 0)) (pos 0) ≡ false → jump ≡ branchMove (getD words d (pos 0)) next jump
   unfolding branchMove
   goes e = rw (branchMove, tested e)
-
--- AD and RM, with the numbers read
-module _ (f : ℤ → ℤ → Effect-of-table) (before : List ℤ) (next : ℕ) {a b group member : ℤ} (p : a ≡ group) (q : b ≡ member) where
-  pub changes :
-      {m : Move} {c : Change} {ws : List ℤ} → m ≡ moveChanged c next → c ≡ changeOf (f a b) → ws ≡ wordsAfter before (f a b) →
-      (m ≡ moveChanged (changeOf (f group member)) next) × (ws ≡ wordsAfter before (f group member))
-  changes m c ws =
-      let e : f a b ≡ f group member = ap₂ f p q in
-      (m ∙ ap (λ (c : Change). moveChanged c next) (c ∙ ap changeOf e), ws ∙ ap (wordsAfter before) e)
-
--- QY
-module _ (f : ℤ → ℤ → Query) (words : List ℤ) (next : ℕ) {a b group member : ℤ} (p : a ≡ group) (q : b ≡ member) {c to : ℕ} (t : c ≡ to)
-    {x : Query} (e : x ≡ f a b) where
-  answer : {y : Query} → x ≡ y → y ≡ f group member
-  answer d = sym d ∙ e ∙ ap₂ f p q
-
-  pub gives : {z : ℤ} → x ≡ Value z → (On next ≡ queryMove (f group member) next) × (set words c z ≡ queryWords (f group member) words to)
-  unfolding queryMove queryWords
-  gives {z} d =
-      (ap (λ (y : Query). queryMove y next) (answer d), ap (λ (k : ℕ). set words k z) t ∙ ap (λ (y : Query). queryWords y words to) (answer d))
-
-  pub refuses : {s : Stop.Stop} → x ≡ Refused s → (Halt s ≡ queryMove (f group member) next) × (words ≡ queryWords (f group member) words to)
-  unfolding queryMove queryWords
-  refuses d = (ap (λ (y : Query). queryMove y next) (answer d), ap (λ (y : Query). queryWords y words to) (answer d))

@@ -5,12 +5,10 @@ use mathlib.Core.List.{List, [], _∷_}
 use mathlib.Core.Path.{_≡_}
 use lib.Dec.{eqb}
 use lib.IntN.{ℤ, pos}
-use lib.ListN.{length, getD, set}
+use lib.ListN.{length, getD}
 use Rattle.language.specs.Basics.{eqZ}
 use Rattle.language.specs.Machine.{compute}
 use Rattle.language.specs.declared.Stop.the-variants.{NoActivationLeft, ArgumentsDiffer}
-use Rattle.pairs.specs.declared.Query.{Query}
-use Rattle.pairs.specs.declared.Query.the-variants.{Value, Stopped}
 use Rattle.acting.specs.declared.Move.{Move}
 use Rattle.acting.specs.declared.Move.the-variants.{On, Jump, Enter, Stop}
 use Rattle.acting.specs.Effects.{sameKinds}
@@ -99,12 +97,3 @@ pub record CallAt (code area firsts starts targets : List ℕ) (limit live at pl
   pub arguments : ArgumentsAt area firsts starts live (place + 3) (getD area (place + 2) 0)
   pub bounded : limit ≤ 256
   pub body : Callable code at (getD targets (cellAt area firsts starts live (place + 1)) 0)
-
--- QY
-unfoldable pub queryMove : Query → ℕ → Move
-queryMove (Value z) next = On next
-queryMove (Stopped c) next = Stop c
-
-unfoldable pub queryWords : Query → List ℤ → ℕ → List ℤ
-queryWords (Value z) words cell = set words cell z
-queryWords (Stopped c) words cell = words

@@ -18,10 +18,10 @@ use Rattle.resolved.specs.Resolved.{resolvedOf, Covers}
 use Rattle.resolving.specs.Resolving.{Resolved, resolved-covers}
 use Rattle.governed.specs.Governing.{Governs}
 use Rattle.replies.specs.Replies.{steps-fit}
-use Rattle.copy_moves.specs.Running.{limitsBy}
+use Rattle.run_state.specs.Scenes.{limitsBy}
 use Rattle.copying.specs.Beginning.{Beginning}
 use Rattle.copying.specs.Turning.{Ended}
-use Rattle.copying.specs.declared.run.Halt.{Halt}
+use Rattle.run_state.specs.declared.Halt.{Halt}
 
 module _ (area : List ℕ) (f : Fed) (bytes : Bytes (f .script)) (small : f .name < 65536) (t : Block) (h : Admitted (copying (length area)) f t) (code names : List ℕ)
     (resolved : Resolved (f .script) (f .name) code) (governs : Governs (f .script) code names) where

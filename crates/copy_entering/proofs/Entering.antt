@@ -12,7 +12,7 @@ use Rattle.resolved.specs.Resolved.{levelIn, direct}
 use Rattle.acting.specs.Effects.{Cleared}
 use Rattle.texts.specs.Texts.{renewed, Copied, notedFrom}
 use Rattle.texts.specs.Copying.{Renewable, Copyable}
-use Rattle.copy_entering.specs.declared.Now.{Now}
+use Rattle.run_state.specs.declared.Registers.{Registers}
 use Rattle.copy_entering.specs.Anew.{formalsAt, levelAt, givenAt, Enterable, Noted, AnewIn}
 
 -- Rooms of the area, one behind the other
@@ -27,11 +27,11 @@ lower : (k n width : ℕ) → k ≤ n → k * width ≤ n * width
 lower k n width h = mul-le-mul-right width h
 
 -- the place where a room begins fits a word
-pub room-small : {code names area : List ℕ} {width : ℕ} {here : Now} {body link back : ℕ} → Enterable code names area width here body link back
+pub room-small : {code names area : List ℕ} {width : ℕ} {here : Registers} {body link back : ℕ} → Enterable code names area width here body link back
     → (n : ℕ) → n ≤ here .live + 1 → n * width < 1048576
 room-small {width} w n h = omega (arith, lower n 255 width (omega (arith, w .room)), w .small)
 
-module _ {code names area : List ℕ} {width : ℕ} {here : Now} {body link back : ℕ} (w : Enterable code names area width here body link back) (head : ℕ) (head-is : head ≡ getD code body 0) where
+module _ {code names area : List ℕ} {width : ℕ} {here : Registers} {body link back : ℕ} (w : Enterable code names area width here body link back) (head : ℕ) (head-is : head ≡ getD code body 0) where
   abbrev given : ℕ
   given = givenAt width here
 
@@ -93,7 +93,7 @@ module _ {code names area : List ℕ} {width : ℕ} {here : Now} {body link back
       → Cleared words (cells + formals) (cells + head / 16777216) words′
       → AnewIn code names width here body link back words area blocks nexts firsts starts targets looked words′ area′ blocks′ nexts′ firsts′ starts′
       targets′ (set looked (here .live + 1) new)
-      (record { live = here .live + 1; at = bounds / 65536; end = bounds % 65536; pairs = here .pairs; fresh = first + head / 16777216 })
+      (record { live = here .live + 1; at = bounds / 65536; end = bounds % 65536; pairs = here .pairs; level = here .level; fresh = first + head / 16777216 })
   entered bounds word new bounds-is word-is words blocks nexts firsts starts targets looked words′ area′ blocks′ nexts′ firsts′ starts′ targets′ n r k t z =
       record {
         noted = subst (λ (h : ℕ). Noted blocks nexts firsts starts here body (h / 65536 % 256) back blocks′ nexts′ firsts′ starts′) head-is n;
@@ -110,6 +110,7 @@ module _ {code names area : List ℕ} {width : ℕ} {here : Now} {body link back
           at = bounds-is i / 65536;
           end = bounds-is i % 65536;
           pairs = here .pairs;
+          level = here .level;
           fresh = here .fresh - head-is i / 65536 % 256 + head-is i / 16777216;
         };
       }

@@ -1,28 +1,13 @@
 // Entering a block, of the copying engine: its text is copied anew into the area, and no copy is used twice.
+use run_state::Registers;
 use run_state::narrow;
+use run_state::narrow_u32;
 use stepping::clear;
 use stepping::code_at;
 use texts::copy_text;
 use texts::renew;
-ghost use mathlib.Core.Path.{_≡_};
 ghost use Prim.Native.Nat.{_+_, _<_, _≤_};
 ghost use Rattle.copy_entering.specs.Anew.{Enterable, Noted, AnewIn};
-
-// The innermost activation, the place of its next statement, where its text ends, the pairs in use, and the new name to be given out next.
-pub struct Now {
-    pub live: usize,
-    pub at: usize,
-    pub end: usize,
-    pub pairs: usize,
-    pub fresh: usize,
-}
-
-fn narrow_name(x: usize) -> u32
-    requires { ⌜ x < 4294967296 ⌝ }
-    ensures { λ r. ⌜ r ≡ x ⌝ }
-{
-    x as u32
-}
 
 // What is noted of a new activation: its block, its first new name and that name's cell, and where the activation below goes on.
 fn note(
@@ -30,7 +15,7 @@ fn note(
     nexts: &mut [u16; 256],
     firsts: &mut [u32; 256],
     starts: &mut [u16; 256],
-    here: Now,
+    here: Registers,
     body: usize,
     formals: usize,
     back: usize,
@@ -43,7 +28,7 @@ fn note(
     let live = below + 1;
     nexts[below] = narrow(back);
     blocks[live] = narrow(body);
-    firsts[live] = narrow_name(here.fresh);
+    firsts[live] = narrow_u32(here.fresh);
     starts[live] = narrow(32 * live + formals);
 }
 
@@ -61,11 +46,11 @@ pub fn enter(
     starts: &mut [u16; 256],
     targets: &mut [u16; 8224],
     looked: &mut [u32; 256],
-    here: Now,
+    here: Registers,
     body: usize,
     link: usize,
     back: usize,
-) -> Now
+) -> Registers
     requires { ⌜ Enterable (now code) (now names) (now area) width here body link back ⌝ }
     ensures { λ r. ⌜ AnewIn (now (code .entry)) (now (names .entry)) width here body link back (now (words .entry)) (now (area .entry))
         (now (blocks .entry)) (now (nexts .entry)) (now (firsts .entry)) (now (starts .entry)) (now (targets .entry)) (now (looked .entry))
@@ -101,11 +86,11 @@ pub fn enter(
         end,
     );
     clear(words, cells + formals, cells + count);
-    Now {
+    Registers {
         live,
         at: bounds / 65536,
         end,
-        pairs: here.pairs,
         fresh,
+        ..here
     }
 }

@@ -44,7 +44,7 @@ module _ {script code names area : List ℕ} (w : Beginnable script code names a
         → Copied filled area′ names 0 0 0 1 65536 0 (bounds % 65536)
         → targets′ ≡ notedFrom targets names 0 1 0 (bounds % 65536 - 0)
         → BegunIn script code names area firsts targets looked pairs area′ (set firsts 0 65536) targets′ (set looked 0 new)
-        (record { live = 0; at = bounds / 65536; end = bounds % 65536; pairs = pairs; fresh = 65536 + head / 16777216 })
+        (record { live = 0; at = bounds / 65536; end = bounds % 65536; pairs = pairs; level = 0; fresh = 65536 + head / 16777216 })
     begun head word new pairs head-is word-is firsts targets looked area′ targets′ f r k t =
         record {
           filled = filled;
@@ -54,5 +54,5 @@ module _ {script code names area : List ℕ} (w : Beginnable script code names a
           targets-are = t ∙ ap (notedFrom targets names 0 1 0) (omega (arith, end-is));
           firsts-are = refl;
           looked-is = ap (set looked 0) (r ∙ ap (λ (x : ℕ). renewed filled 0 1 65536 x 0) word-is);
-          now-is = λ i. record { live = 0; at = bounds-is i / 65536; end = end-is i; pairs = pairs; fresh = 65536 + head-is i / 16777216 };
+          now-is = λ i. record { live = 0; at = bounds-is i / 65536; end = end-is i; pairs = pairs; level = 0; fresh = 65536 + head-is i / 16777216 };
         }

@@ -7,7 +7,7 @@ use lib.ListN.{length, getD, set}
 use Rattle.laws.specs.Fields.{fieldAt}
 use Rattle.resolved.specs.Resolved.{levelIn, direct}
 use Rattle.texts.specs.Texts.{renewed, Copied, notedFrom}
-use Rattle.copy_entering.specs.declared.Now.{Now}
+use Rattle.run_state.specs.declared.Registers.{Registers}
 use Rattle.copy_entering.specs.Anew.{namesAt, endAt}
 
 pub record Beginnable (script code names area : List ℕ) : Type 0 where
@@ -20,7 +20,7 @@ pub record Beginnable (script code names area : List ℕ) : Type 0 where
   pub no-formals : (q : ℕ) → q < endAt code 0 → levelIn (getD names q 0) ≡ 1 → direct (getD names q 0) ≡ true
   pub no-formal-looked : levelIn (getD code 2 0) ≡ 1 → direct (getD code 2 0) ≡ true
 
-pub record BegunIn (script code names area firsts targets looked : List ℕ) (pairs : ℕ) (area′ firsts′ targets′ looked′ : List ℕ) (r : Now) : Type 0 where
+pub record BegunIn (script code names area firsts targets looked : List ℕ) (pairs : ℕ) (area′ firsts′ targets′ looked′ : List ℕ) (r : Registers) : Type 0 where
   pub filled : List ℕ
   pub fields : (i : ℕ) → i < length script / 2 → getD filled i 0 ≡ fieldAt script (2 * i)
   pub as-long : length filled ≡ length area
@@ -28,4 +28,4 @@ pub record BegunIn (script code names area firsts targets looked : List ℕ) (pa
   pub targets-are : targets′ ≡ notedFrom targets names 0 1 0 (endAt code 0)
   pub firsts-are : firsts′ ≡ set firsts 0 65536
   pub looked-is : looked′ ≡ set looked 0 (renewed filled 0 1 65536 (getD code 2 0) 0)
-  pub now-is : r ≡ record { live = 0; at = getD code 1 0 / 65536; end = endAt code 0; pairs = pairs; fresh = 65536 + namesAt code 0 }
+  pub now-is : r ≡ record { live = 0; at = getD code 1 0 / 65536; end = endAt code 0; pairs = pairs; level = 0; fresh = 65536 + namesAt code 0 }

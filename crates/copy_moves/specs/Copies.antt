@@ -38,7 +38,7 @@ use Rattle.governed.specs.Standing.{block-fields-stand, block-governed}
 use Rattle.texts.specs.Texts.{reading, Texts}
 use Rattle.texts.specs.Readings.{Narrow, narrow-of-text, word-says, zip-missing}
 use Rattle.texts.specs.Renewing.{valuesOf, reading-plain, reading-in}
-use Rattle.copy_entering.specs.declared.Now.{Now}
+use Rattle.run_state.specs.declared.Registers.{Registers}
 use Rattle.copy_moves.specs.Running.{Running}
 use Rattle.copy_moves.specs.Settled.{own-enclosure, encloses-at}
 use Rattle.copy_moves.specs.Renamed.{readings, Replaces, block-read}
@@ -187,7 +187,7 @@ module _ (program : Block) (keeps : Keeps program) (s : State) (t : Stack) (rela
       (readings-covered area (a .reads) (k * width + placeOf (blockAt (f .text))) (governedBlock (f .text) (f .formals) os) (blockFields (f .text))
       (field-read k a e f (twin .1)))
 
-module _ {code names : List ℕ} {limit group : ℕ} {words : List ℤ} {area : List ℕ} {width : ℕ} {blocks nexts firsts starts targets looked : List ℕ} {table : List ℤ} {here : Now}
+module _ {code names : List ℕ} {limit group : ℕ} {words : List ℤ} {area : List ℕ} {width : ℕ} {blocks nexts firsts starts targets looked : List ℕ} {table : List ℤ} {here : Registers}
     (w : Running code names limit group words area width blocks nexts firsts starts targets looked table here) where
   pub running-copies : (k : ℕ) (a : Activation) → getElem? (w .copies .live) k ≡ some a
       → Covers area (k * width + placeOf (blockAt (a .text))) (blockFields (a .text))

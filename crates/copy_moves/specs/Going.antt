@@ -1,13 +1,12 @@
 -- A step that enters nothing leaves the area and what is noted of new names as they are: `runs-on`, `goes-on`. The copy-rule machine makes the step with the
 -- frame machine, and its activations are those of before, or some of them (`keeps`), or one more (`enters`).
-use Prim.Native.Nat.{ℕ, suc, pred, _+_, _≤_, _<_}
+use Prim.Native.Nat.{ℕ, suc, _≤_, _<_}
 use native.Mathlib.Omega.{arith}
 use mathlib.Core.List.{List}
-use mathlib.Core.Logic.{_⊎_, inl, inr}
 use mathlib.Core.Option.{some}
-use mathlib.Core.Path.{_≡_, refl, sym, ap, _∙_, subst}
+use mathlib.Core.Path.{_≡_, sym, ap, _∙_, subst}
 use lib.IntN.{ℤ}
-use lib.ListN.{length, getD, set, getElem?}
+use lib.ListN.{length, getD}
 use Rattle.language.specs.Basics.{last?}
 use Rattle.language.specs.Text.{Block}
 use Rattle.language.specs.Encoding.{blockFields}
@@ -33,11 +32,12 @@ use Rattle.texts.specs.Stacks.{SameActivations}
 use Rattle.texts.specs.Entering.{texts-kept}
 use Rattle.texts.specs.Aiming.{aims-kept}
 use Rattle.texts.specs.Looking.{looks-kept}
-use Rattle.copy_entering.specs.declared.Now.{Now}
-use Rattle.copy_moves.specs.Running.{limitsBy, Running, Succeeds}
+use Rattle.run_state.specs.declared.Registers.{Registers}
+use Rattle.run_state.specs.Scenes.{limitsBy, goesTo}
+use Rattle.copy_moves.specs.Running.{Running, Succeeds}
 use Rattle.copy_moves.specs.Settled.{same-outline, outlines}
 
-module _ {code names : List ℕ} {limit group : ℕ} {words : List ℤ} {area : List ℕ} {width : ℕ} {blocks nexts firsts starts targets looked : List ℕ} {table : List ℤ} {here : Now}
+module _ {code names : List ℕ} {limit group : ℕ} {words : List ℤ} {area : List ℕ} {width : ℕ} {blocks nexts firsts starts targets looked : List ℕ} {table : List ℤ} {here : Registers}
     (w : Running code names limit group words area width blocks nexts firsts starts targets looked table here)
     {words′ : List ℤ} {blocks′ nexts′ links′ : List ℕ} {table′ : List ℤ} {pairs′ live′ at′ end′ : ℕ}
     (st : Standing code (limitsBy limit group) words′ blocks′ nexts′ links′ table′ pairs′ live′ at′ end′)
@@ -127,7 +127,7 @@ module _ {code names : List ℕ} {limit group : ℕ} {words : List ℤ} {area : 
     outlines-live : SameOutlines (length (after .live)) fs gs
     outlines-live = subst (λ n. SameOutlines n fs gs) (sym deep) alike
 
-    pub runs-on : Running code names limit group words′ area width blocks′ nexts′ firsts starts targets looked table′ (record { live = live′; at = at′; end = end′; pairs = pairs′; fresh = here .fresh })
+    pub runs-on : Running code names limit group words′ area width blocks′ nexts′ firsts starts targets looked table′ (goesTo here live′ at′ end′ pairs′)
     runs-on =
         record {
           links = links′;
@@ -151,6 +151,6 @@ module _ {code names : List ℕ} {limit group : ℕ} {words : List ℤ} {area : 
           looked-long = w .looked-long;
         }
 
-    pub goes-on : Succeeds w words′ area blocks′ nexts′ firsts starts targets looked table′ (record { live = live′; at = at′; end = end′; pairs = pairs′; fresh = here .fresh })
+    pub goes-on : Succeeds w words′ area blocks′ nexts′ firsts starts targets looked table′ (goesTo here live′ at′ end′ pairs′)
     unfolding runs-on
     goes-on = record { running = runs-on; follows = follows; few-more = omega arith }

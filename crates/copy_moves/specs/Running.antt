@@ -7,22 +7,19 @@ use mathlib.Core.Path.{_≡_}
 use lib.IntN.{ℤ}
 use lib.ListN.{length, getD}
 use Rattle.language.specs.Encoding.{blockFields}
-use Rattle.language.specs.Machine.{State, Limits}
+use Rattle.language.specs.Machine.{State}
 use Rattle.instances.specs.Invariant.{Invariant}
 use Rattle.frames.specs.Related.{Related}
 use Rattle.resolved.specs.Resolved.{Covers}
-use Rattle.acting.specs.Acting.{Scene}
 use Rattle.steps.specs.Standing.{Standing}
-use Rattle.steps.specs.Means.{Follows, JumpsTo, EntersAt}
+use Rattle.steps.specs.Means.{Follows}
 use Rattle.governed.specs.Governed.{governedOf}
 use Rattle.new_names.specs.Owner.{NewNames}
 use Rattle.texts.specs.Texts.{Texts, Aims, Looks}
-use Rattle.copy_entering.specs.declared.Now.{Now}
+use Rattle.run_state.specs.declared.Registers.{Registers}
+use Rattle.run_state.specs.Scenes.{limitsBy, goesTo}
 
-abbrev pub limitsBy : ℕ → ℕ → Limits
-limitsBy limit group = record { activations = limit; group = group }
-
-pub record Running (code names : List ℕ) (limit group : ℕ) (words : List ℤ) (area : List ℕ) (width : ℕ) (blocks nexts firsts starts targets looked : List ℕ) (table : List ℤ) (here : Now) : Type 0 where
+pub record Running (code names : List ℕ) (limit group : ℕ) (words : List ℤ) (area : List ℕ) (width : ℕ) (blocks nexts firsts starts targets looked : List ℕ) (table : List ℤ) (here : Registers) : Type 0 where
   pub links : List ℕ
   pub standing : Standing code (limitsBy limit group) words blocks nexts links table (here .pairs) (here .live) (here .at) (here .end)
   pub copies : State
@@ -44,14 +41,14 @@ pub record Running (code names : List ℕ) (limit group : ℕ) (words : List ℤ
   pub looked-long : length looked ≡ 256
 
 -- where an activation of the stack goes on as the innermost one
-abbrev pub nowAt : List ℕ → List ℕ → Now → ℕ → ℕ → Now
+abbrev pub nowAt : List ℕ → List ℕ → Registers → ℕ → ℕ → Registers
 nowAt code blocks here home at =
-    record { live = home; at = at; end = getD code (getD blocks home 0 + 1) 0 % 65536; pairs = here .pairs; fresh = here .fresh }
+    goesTo here home at (getD code (getD blocks home 0 + 1) 0 % 65536) (here .pairs)
 
 -- the state of the arrays one step behind
-pub record Succeeds {code names : List ℕ} {limit group : ℕ} {words : List ℤ} {area : List ℕ} {width : ℕ} {blocks nexts firsts starts targets looked : List ℕ} {table : List ℤ} {here : Now}
+pub record Succeeds {code names : List ℕ} {limit group : ℕ} {words : List ℤ} {area : List ℕ} {width : ℕ} {blocks nexts firsts starts targets looked : List ℕ} {table : List ℤ} {here : Registers}
     (w : Running code names limit group words area width blocks nexts firsts starts targets looked table here)
-    (words′ : List ℤ) (area′ blocks′ nexts′ firsts′ starts′ targets′ looked′ : List ℕ) (table′ : List ℤ) (here′ : Now) : Type 0 where
+    (words′ : List ℤ) (area′ blocks′ nexts′ firsts′ starts′ targets′ looked′ : List ℕ) (table′ : List ℤ) (here′ : Registers) : Type 0 where
   pub running : Running code names limit group words′ area′ width blocks′ nexts′ firsts′ starts′ targets′ looked′ table′ here′
   pub follows : Follows (w .standing) (running .standing .stack) (running .standing .program) (running .standing .name)
   pub few-more : here′ .fresh ≤ here .fresh + 32

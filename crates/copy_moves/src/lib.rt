@@ -1,8 +1,9 @@
 // The start, leaving and jumping, of the copying engine.
-use copy_entering::Now;
 use new_names::cell_of;
+use run_state::Registers;
 use run_state::narrow;
 use run_state::wide;
+use run_state::wide_u32;
 use sheets::designator_of;
 use stepping::code_at;
 use texts::copy_text;
@@ -15,28 +16,32 @@ ghost use Rattle.copy_moves.specs.Running.{nowAt};
 ghost use Rattle.copy_moves.specs.Begun.{Beginnable, BegunIn};
 ghost use Rattle.copy_moves.specs.Looked.{Lookable, lookedUp};
 
-fn wide_name(x: u32) -> usize
-    ensures { λ r. ⌜ r ≡ x ⌝ }
-{
-    x as usize
-}
-
 // An activation of the stack becomes the innermost one and goes on at a place.
-fn resume(code: &[u32; 4096], blocks: &[u16; 256], here: Now, home: usize, at: usize) -> Now
+fn resume(
+    code: &[u32; 4096],
+    blocks: &[u16; 256],
+    here: Registers,
+    home: usize,
+    at: usize,
+) -> Registers
     requires { ⌜ (home < 256) × (getD (now blocks) home 0 + 1 < 4096) ⌝ }
     ensures { λ r. ⌜ r ≡ nowAt (now (code .entry)) (now (blocks .entry)) here home at ⌝ }
 {
-    Now {
+    Registers {
         live: home,
         at,
         end: code_at(code, wide(blocks[home]) + 1) % 65536,
-        pairs: here.pairs,
-        fresh: here.fresh,
+        ..here
     }
 }
 
 // The activation below goes on.
-pub fn leave(code: &[u32; 4096], blocks: &[u16; 256], nexts: &[u16; 256], here: Now) -> Now
+pub fn leave(
+    code: &[u32; 4096],
+    blocks: &[u16; 256],
+    nexts: &[u16; 256],
+    here: Registers,
+) -> Registers
     requires { ⌜ (1 ≤ here .live) × (here .live ≤ 256) × (getD (now blocks) (here .live - 1) 0 + 1 < 4096) ⌝ }
     ensures { λ r. ⌜ r ≡ nowAt (now (code .entry)) (now (blocks .entry)) here (here .live - 1) (getD (now (nexts .entry)) (here .live - 1) 0) ⌝ }
 {
@@ -45,17 +50,21 @@ pub fn leave(code: &[u32; 4096], blocks: &[u16; 256], nexts: &[u16; 256], here: 
 }
 
 // An activation that is live becomes the innermost one.
-pub fn jump(code: &[u32; 4096], blocks: &[u16; 256], here: Now, home: usize, at: usize) -> Now
+pub fn jump(
+    code: &[u32; 4096],
+    blocks: &[u16; 256],
+    here: Registers,
+    home: usize,
+    at: usize,
+) -> Registers
     requires { ⌜ (home < 256) × (getD (now blocks) home 0 + 1 < 4096) × (home ≡ here .live → here .end ≡ getD (now code) (getD (now blocks) home 0 + 1) 0 % 65536) ⌝ }
     ensures { λ r. ⌜ r ≡ nowAt (now (code .entry)) (now (blocks .entry)) here home at ⌝ }
 {
     if home == here.live {
-        return Now {
+        return Registers {
             live: home,
             at,
-            end: here.end,
-            pairs: here.pairs,
-            fresh: here.fresh,
+            ..here
         };
     }
     resume(code, blocks, here, home, at)
@@ -74,7 +83,7 @@ pub fn looked_up(firsts: &[u32; 256], starts: &[u16; 256], looked: &[u32; 256], 
     requires { ⌜ Lookable (now firsts) (now starts) (now looked) live ⌝ }
     ensures { λ r. ⌜ r ≡ lookedUp (now (firsts .entry)) (now (starts .entry)) (now (looked .entry)) live ⌝ }
 {
-    let name = wide_name(looked[live]);
+    let name = wide_u32(looked[live]);
     if name == 0 {
         return 0;
     }
@@ -91,7 +100,7 @@ pub fn begin(
     targets: &mut [u16; 8224],
     looked: &mut [u32; 256],
     pairs: usize,
-) -> Now
+) -> Registers
     requires { ⌜ Beginnable (now script) (now code) (now names) (now area) ⌝ }
     ensures { λ r. ⌜ BegunIn (now (script .entry)) (now (code .entry)) (now (names .entry)) (now (area .entry)) (now (firsts .entry)) (now (targets .entry))
         (now (looked .entry)) pairs (now (area .exit)) (now (firsts .exit)) (now (targets .exit)) (now (looked .exit)) r ⌝ }
@@ -103,11 +112,12 @@ pub fn begin(
     firsts[0] = 65536;
     looked[0] = renew(area, 0, 1, 65536, code_at(code, 2), 0);
     copy_text(area, names, targets, 0, 0, 0, 1, 65536, 0, 0, end);
-    Now {
+    Registers {
         live: 0,
         at: bounds / 65536,
         end,
         pairs,
+        level: 0,
         fresh: 65536 + head / 16777216,
     }
 }

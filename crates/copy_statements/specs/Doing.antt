@@ -9,12 +9,12 @@ use lib.IntN.{ℤ, pos}
 use lib.ListN.{getD, set}
 use Rattle.language.specs.Basics.{eqZ}
 use Rattle.language.specs.Encoding.{signed, BK-mark, CL-mark, GO-mark, IF-mark, KN-mark, AR-mark, AD-mark, RM-mark, QY-mark}
-use Rattle.language.specs.Table.{Table, Effect, leaves, halts, Asked, gives, refuses, added, removed, queried}
 use Rattle.language.specs.Machine.{compute}
 use Rattle.language.specs.declared.Stop.the-variants.{NoActivationLeft, ArgumentsDiffer}
-use Rattle.acting.specs.declared.Effect.{Effect as Done-or-not}
+use Rattle.acting.specs.declared.Ask.{Ask}
+use Rattle.acting.specs.declared.Ask.the-variants.{Add, Remove, Query}
 use Rattle.acting.specs.declared.Move.{Move}
-use Rattle.acting.specs.declared.Move.the-variants.{On, Pairs, Jump, Enter, Stop}
+use Rattle.acting.specs.declared.Move.the-variants.{On, Table as Asks, Jump, Enter, Stop}
 use Rattle.acting.specs.Effects.{effectOf, wordsOf, sameKinds}
 use Rattle.acting.specs.Acting.{Scene, Happened, moves, rewrites, operationOf, setAll}
 use Rattle.statements.specs.Pieces.{moveAfter, blockMove}
@@ -81,25 +81,12 @@ module _ (c : Copy) (s : Scene) where
         ]
       ]
 
-  unfoldable pub changes : Effect → Happened
-  changes (leaves t) = record { move = Pairs (s .at + 3) (t .used); words = s .words; table = t .words }
-  changes (halts e) = moves s (Stop e)
-
-  abbrev pub tableNow : Table
-  tableNow = record { words = s .table; used = s .pairs }
-
-  unfoldable pub doAdd : Happened
-  doAdd = changes (added (s .limits .group) (valueAt 1) (valueAt 2) tableNow)
-
-  unfoldable pub doRemove : Happened
-  doRemove = changes (removed (valueAt 1) (valueAt 2) tableNow)
-
-  unfoldable pub answers : Asked → Happened
-  answers (gives z) = rewrites s (On (s .at + 4)) (set (s .words) (cell 1) z)
-  answers (refuses e) = moves s (Stop e)
+  -- AD and RM
+  unfoldable pub doChange : Ask → Happened
+  doChange a = moves s (Asks (s .at + 3) (cell 1) (cell 2) 0 a)
 
   unfoldable pub doQuery : Happened
-  doQuery = answers (queried (valueAt 2) (valueAt 3) tableNow)
+  doQuery = moves s (Asks (s .at + 4) (cell 2) (cell 3) (cell 1) Query)
 
 -- A statement's mark; QY's is the last.
 pub data Mark : Type 0 where
@@ -134,8 +121,8 @@ happens c s constant = doConstant c s
 happens c s call = doCall c s
 happens c s goto = doGoto c s 1
 happens c s block = doBlock c s
-happens c s pair = doAdd c s
-happens c s unpair = doRemove c s
+happens c s pair = doChange c s Add
+happens c s unpair = doChange c s Remove
 happens c s query = doQuery c s
 
 unfoldable pub doing : Copy → Scene → Happened

@@ -1,4 +1,5 @@
-// The statement at a place is done as far as words and table go, by its mark in the copied text; where the run goes on is the answer.
+// The statement at a place is done as far as words go, by its mark in the copied text; where the run goes on is the answer.
+use acting::Ask;
 use copy_arms::do_arithmetic;
 use copy_arms::do_branch;
 use copy_arms::do_call;
@@ -13,16 +14,16 @@ use marks::GO;
 use marks::IF;
 use marks::KN;
 use marks::RM;
-use membership::do_add_pair;
+use membership::do_change;
 use membership::do_query;
-use membership::do_remove_pair;
 use moved::came_to;
 use statements::do_block;
 ghost use mathlib.Core.Path.{_≡_};
+ghost use Rattle.acting.specs.Acting.{sceneBy};
 ghost use Rattle.copy_statements.specs.Doing.{doing};
 ghost use Rattle.copy_statements.specs.Moved.{movedBy};
 ghost use Rattle.copy_statements.specs.Ready.{Ready};
-ghost use Rattle.copy_statements.specs.Scenes.{copyBy, sceneBy};
+ghost use Rattle.copy_statements.specs.Scenes.{copyBy};
 
 mod membership;
 mod moved;
@@ -37,66 +38,36 @@ pub fn act(
     firsts: &[u32; 256],
     starts: &[u16; 256],
     targets: &[u16; 8224],
-    table: &mut [i32],
-    pairs: usize,
-    group: u32,
     limit: usize,
     live: usize,
     at: usize,
 ) -> Moved
-    requires { ⌜ Ready (copyBy (now area) base (now firsts) (now starts) (now targets)) (sceneBy (now code) (now words) (now table) pairs group limit live at) ⌝ }
-    ensures { λ r. ⌜ r ≡ movedBy pairs ((doing (copyBy (now (area .entry)) base (now (firsts .entry)) (now (starts .entry)) (now (targets .entry))) (sceneBy (now (code .entry)) (now (words .entry)) (now (table .entry)) pairs group limit live at)) .move) ⌝ }
-    ensures { λ _. ⌜ now (words .exit) ≡ (doing (copyBy (now (area .entry)) base (now (firsts .entry)) (now (starts .entry)) (now (targets .entry))) (sceneBy (now (code .entry)) (now (words .entry)) (now (table .entry)) pairs group limit live at)) .words ⌝ }
-    ensures { λ _. ⌜ now (table .exit) ≡ (doing (copyBy (now (area .entry)) base (now (firsts .entry)) (now (starts .entry)) (now (targets .entry))) (sceneBy (now (code .entry)) (now (words .entry)) (now (table .entry)) pairs group limit live at)) .table ⌝ }
+    requires { ⌜ Ready (copyBy (now area) base (now firsts) (now starts) (now targets)) (sceneBy (now code) (now words) limit live at) ⌝ }
+    ensures { λ r. ⌜ r ≡ movedBy ((doing (copyBy (now (area .entry)) base (now (firsts .entry)) (now (starts .entry)) (now (targets .entry))) (sceneBy (now (code .entry)) (now (words .entry)) limit live at)) .move) ⌝ }
+    ensures { λ _. ⌜ now (words .exit) ≡ (doing (copyBy (now (area .entry)) base (now (firsts .entry)) (now (starts .entry)) (now (targets .entry))) (sceneBy (now (code .entry)) (now (words .entry)) limit live at)) .words ⌝ }
 {
     let place = base + at;
     let mark = field(area, place);
     match mark {
-        AR => came_to(
-            pairs,
-            do_arithmetic(words, area, firsts, starts, live, place, at),
-        ),
-        IF => came_to(
-            pairs,
-            do_branch(words, area, firsts, starts, targets, live, place, at),
-        ),
-        KN => came_to(
-            pairs,
-            do_constant(words, area, firsts, starts, live, place, at),
-        ),
-        CL => came_to(
-            pairs,
-            do_call(
-                code,
-                words,
-                area,
-                firsts,
-                starts,
-                targets,
-                limit,
-                live,
-                place,
-                at,
-            ),
-        ),
-        GO => came_to(
-            pairs,
-            do_goto(area, firsts, starts, targets, live, place + 1),
-        ),
-        BK => came_to(pairs, do_block(code, limit, live, at)),
-        AD => do_add_pair(
+        AR => came_to(do_arithmetic(words, area, firsts, starts, live, place, at)),
+        IF => came_to(do_branch(words, area, firsts, starts, targets, live, place, at)),
+        KN => came_to(do_constant(words, area, firsts, starts, live, place, at)),
+        CL => came_to(do_call(
+            code,
             words,
             area,
             firsts,
             starts,
-            table,
-            pairs,
-            group,
+            targets,
+            limit,
             live,
             place,
             at,
-        ),
-        RM => do_remove_pair(words, area, firsts, starts, table, pairs, live, place, at),
-        _ => do_query(words, area, firsts, starts, table, pairs, live, place, at),
+        )),
+        GO => came_to(do_goto(area, firsts, starts, targets, live, place + 1)),
+        BK => came_to(do_block(code, limit, live, at)),
+        AD => came_to(do_change(area, firsts, starts, live, place, at, Ask::Add)),
+        RM => came_to(do_change(area, firsts, starts, live, place, at, Ask::Remove)),
+        _ => came_to(do_query(area, firsts, starts, live, place, at)),
     }
 }

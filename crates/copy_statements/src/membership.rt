@@ -1,94 +1,46 @@
 // AD, RM and QY, each with its mark at `place` of the area and its operation at `at` of the resolved script.
-use super::moved::Moved;
-use super::moved::came_to;
+use acting::Ask;
+use acting::Move;
 use copy_arms::named;
-use pairs::Query;
-use statements::changed;
 ghost use mathlib.Core.Path.{_≡_};
 ghost use Prim.Native.Nat.{_+_, _≤_};
-ghost use Rattle.language.specs.Table.{added, removed, queried};
-ghost use Rattle.pairs.specs.Outcomes.{tableOf, changeOf, wordsAfter, valueOf};
-ghost use Rattle.statements.specs.Pieces.{moveChanged};
-ghost use Rattle.copy_statements.specs.Moved.{movedBy};
-ghost use Rattle.copy_arms.specs.Parts.{cellAt, variableAt, NameAt, queryMove, queryWords};
+ghost use Rattle.copy_arms.specs.Parts.{cellAt, NameAt};
 
-pub fn do_add_pair(
-    words: &[i32; 8224],
+pub fn do_change(
     area: &[u32],
     firsts: &[u32; 256],
     starts: &[u16; 256],
-    table: &mut [i32],
-    pairs: usize,
-    group: u32,
     live: usize,
     place: usize,
     at: usize,
-) -> Moved
+    ask: Ask,
+) -> Move
     requires { ⌜ at + 3 ≤ 4096 ⌝ }
     requires { ⌜ NameAt (now area) (now firsts) (now starts) live (place + 1) ⌝ }
     requires { ⌜ NameAt (now area) (now firsts) (now starts) live (place + 2) ⌝ }
-    ensures { λ r. ⌜ r ≡ movedBy pairs (moveChanged (changeOf (added group (variableAt (now (words .entry)) (now (area .entry)) (now (firsts .entry)) (now (starts .entry)) live (place + 1)) (variableAt (now (words .entry)) (now (area .entry)) (now (firsts .entry)) (now (starts .entry)) live (place + 2)) (tableOf (now (table .entry)) pairs))) (at + 3)) ⌝ }
-    ensures { λ _. ⌜ now (table .exit) ≡ wordsAfter (now (table .entry)) (added group (variableAt (now (words .entry)) (now (area .entry)) (now (firsts .entry)) (now (starts .entry)) live (place + 1)) (variableAt (now (words .entry)) (now (area .entry)) (now (firsts .entry)) (now (starts .entry)) live (place + 2)) (tableOf (now (table .entry)) pairs)) ⌝ }
+    ensures { λ r. ⌜ r ≡ Move.Table (at + 3) (cellAt (now (area .entry)) (now (firsts .entry)) (now (starts .entry)) live (place + 1)) (cellAt (now (area .entry)) (now (firsts .entry)) (now (starts .entry)) live (place + 2)) 0 ask ⌝ }
 {
-    let of = words[named(area, firsts, starts, live, place + 1)];
-    let member = words[named(area, firsts, starts, live, place + 2)];
-    came_to(
-        pairs,
-        changed(pairs::add_pair(table, pairs, group, of, member), at),
-    )
-}
-
-pub fn do_remove_pair(
-    words: &[i32; 8224],
-    area: &[u32],
-    firsts: &[u32; 256],
-    starts: &[u16; 256],
-    table: &mut [i32],
-    pairs: usize,
-    live: usize,
-    place: usize,
-    at: usize,
-) -> Moved
-    requires { ⌜ at + 3 ≤ 4096 ⌝ }
-    requires { ⌜ NameAt (now area) (now firsts) (now starts) live (place + 1) ⌝ }
-    requires { ⌜ NameAt (now area) (now firsts) (now starts) live (place + 2) ⌝ }
-    ensures { λ r. ⌜ r ≡ movedBy pairs (moveChanged (changeOf (removed (variableAt (now (words .entry)) (now (area .entry)) (now (firsts .entry)) (now (starts .entry)) live (place + 1)) (variableAt (now (words .entry)) (now (area .entry)) (now (firsts .entry)) (now (starts .entry)) live (place + 2)) (tableOf (now (table .entry)) pairs))) (at + 3)) ⌝ }
-    ensures { λ _. ⌜ now (table .exit) ≡ wordsAfter (now (table .entry)) (removed (variableAt (now (words .entry)) (now (area .entry)) (now (firsts .entry)) (now (starts .entry)) live (place + 1)) (variableAt (now (words .entry)) (now (area .entry)) (now (firsts .entry)) (now (starts .entry)) live (place + 2)) (tableOf (now (table .entry)) pairs)) ⌝ }
-{
-    let group = words[named(area, firsts, starts, live, place + 1)];
-    let member = words[named(area, firsts, starts, live, place + 2)];
-    came_to(
-        pairs,
-        changed(pairs::remove_pair(table, pairs, group, member), at),
-    )
+    let group = named(area, firsts, starts, live, place + 1);
+    let member = named(area, firsts, starts, live, place + 2);
+    Move::Table(at + 3, group, member, 0, ask)
 }
 
 pub fn do_query(
-    words: &mut [i32; 8224],
     area: &[u32],
     firsts: &[u32; 256],
     starts: &[u16; 256],
-    table: &[i32],
-    pairs: usize,
     live: usize,
     place: usize,
     at: usize,
-) -> Moved
+) -> Move
     requires { ⌜ at + 4 ≤ 4096 ⌝ }
     requires { ⌜ NameAt (now area) (now firsts) (now starts) live (place + 1) ⌝ }
     requires { ⌜ NameAt (now area) (now firsts) (now starts) live (place + 2) ⌝ }
     requires { ⌜ NameAt (now area) (now firsts) (now starts) live (place + 3) ⌝ }
-    ensures { λ r. ⌜ r ≡ movedBy pairs (queryMove (valueOf (queried (variableAt (now (words .entry)) (now (area .entry)) (now (firsts .entry)) (now (starts .entry)) live (place + 2)) (variableAt (now (words .entry)) (now (area .entry)) (now (firsts .entry)) (now (starts .entry)) live (place + 3)) (tableOf (now (table .entry)) pairs))) (at + 4)) ⌝ }
-    ensures { λ _. ⌜ now (words .exit) ≡ queryWords (valueOf (queried (variableAt (now (words .entry)) (now (area .entry)) (now (firsts .entry)) (now (starts .entry)) live (place + 2)) (variableAt (now (words .entry)) (now (area .entry)) (now (firsts .entry)) (now (starts .entry)) live (place + 3)) (tableOf (now (table .entry)) pairs))) (now (words .entry)) (cellAt (now (area .entry)) (now (firsts .entry)) (now (starts .entry)) live (place + 1)) ⌝ }
+    ensures { λ r. ⌜ r ≡ Move.Table (at + 4) (cellAt (now (area .entry)) (now (firsts .entry)) (now (starts .entry)) live (place + 2)) (cellAt (now (area .entry)) (now (firsts .entry)) (now (starts .entry)) live (place + 3)) (cellAt (now (area .entry)) (now (firsts .entry)) (now (starts .entry)) live (place + 1)) Ask.Query ⌝ }
 {
     let to = named(area, firsts, starts, live, place + 1);
-    let group = words[named(area, firsts, starts, live, place + 2)];
-    let member = words[named(area, firsts, starts, live, place + 3)];
-    match pairs::query_pair(table, pairs, group, member) {
-        Query::Value(value) => {
-            stepping::store(words, to, value);
-            Moved::Went(at + 4, pairs)
-        }
-        Query::Stopped(cause) => Moved::Stop(cause),
-    }
+    let group = named(area, firsts, starts, live, place + 2);
+    let member = named(area, firsts, starts, live, place + 3);
+    Move::Table(at + 4, group, member, to, Ask::Query)
 }

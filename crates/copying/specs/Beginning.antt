@@ -2,7 +2,7 @@
 use Prim.Native.Nat.{ℕ, _*_, _/_, _≤_, _<_}
 use mathlib.Core.Bool.{true}
 use mathlib.Core.List.{List}
-use mathlib.Core.Path.{_≡_, sym, subst}
+use mathlib.Core.Path.{_≡_}
 use lib.IntN.{ℤ, pos}
 use lib.ListN.{length, getD}
 use Rattle.language.specs.Text.{Block}
@@ -32,28 +32,3 @@ pub record Beginning (script code names : List ℕ) (words : List ℤ) (area blo
   pub nexts-long : length nexts ≡ 256
   pub zeros : (i : ℕ) → i < 32 → getD words i (pos 0) ≡ pos 0
   pub no-block : getD blocks 0 0 ≡ 0
-
--- it asks of the area only that there is room
-abbrev pub with-area : {script code names : List ℕ} {words : List ℤ} {area blocks nexts : List ℕ} {table : List ℤ} {pairs group limit allowance : ℕ}
-    → Beginning script code names words area blocks nexts table pairs group limit allowance
-    → (area′ : List ℕ) → length area′ ≡ length area → Beginning script code names words area′ blocks nexts table pairs group limit allowance
-with-area {script = script} {limit = limit} b area′ e =
-    record {
-      program = b .program;
-      name = b .name;
-      keeps = b .keeps;
-      written = b .written;
-      covers = b .covers;
-      governs = b .governs;
-      name-small = b .name-small;
-      some-live = b .some-live;
-      few-live = b .few-live;
-      few-steps = b .few-steps;
-      table-right = b .table-right;
-      room = subst (λ n. limit * (length script / 2) ≤ n) (sym e) (b .room);
-      words-long = b .words-long;
-      blocks-long = b .blocks-long;
-      nexts-long = b .nexts-long;
-      zeros = b .zeros;
-      no-block = b .no-block;
-    }

@@ -28,14 +28,14 @@ use Rattle.governed.specs.Governed.{governedAction, governedStmt}
 use Rattle.texts.specs.Texts.{reading}
 use Rattle.copy_statements.specs.Doing.{Copy, text, target, call, markOf, happens, doCall}
 use Rattle.copy_statements.specs.Ready.{Named}
-use Rattle.copy_entering.specs.declared.Now.{Now}
+use Rattle.run_state.specs.declared.Registers.{Registers}
 use Rattle.copy_moves.specs.Running.{Running}
 use Rattle.copying.specs.Agreeing.{Agrees, call-same, call-formal-same}
 use Rattle.copying.specs.Words.{copyOf, sceneIn, around, GovernedHere, WrittenHere, plain, next-known, fields-there, resolved-word, word-read}
 use Rattle.copying.specs.Names.{byLinks, CellOfName, reads-name, named}
 use Rattle.copying.specs.Statements.{Comes, comes, acts-by}
 
-module _ {code names : List ℕ} {limit group : ℕ} {words : List ℤ} {area : List ℕ} {width : ℕ} {blocks nexts firsts starts targets looked : List ℕ} {table : List ℤ} {now : Now}
+module _ {code names : List ℕ} {limit group : ℕ} {words : List ℤ} {area : List ℕ} {width : ℕ} {blocks nexts firsts starts targets looked : List ℕ} {table : List ℤ} {now : Registers}
     (w : Running code names limit group words area width blocks nexts firsts starts targets looked table now)
     (a : Activation) (innermost : getElem? (w .copies .live) (now .live) ≡ some a)
     (governed : GovernedHere w) (written : WrittenHere w) (cell-of-name : CellOfName w a)

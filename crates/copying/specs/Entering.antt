@@ -1,10 +1,10 @@
 -- Entering a block. `enterable`: what the code asks holds; `enters-on`: what it makes of the arrays is the state one step behind.
-use Prim.Native.Nat.{ℕ, suc, pred, _+_, _*_, _-_, _/_, _%_, _≤_, _<_}
+use Prim.Native.Nat.{ℕ, suc, _+_, _*_, _-_, _≤_, _<_}
 use native.Mathlib.Omega.{arith}
 use native.Mathlib.Nat.{mul-le-mul-right}
 use mathlib.Core.Bool.{false}
 use mathlib.Core.List.{List, [], _∷_, _++_}
-use mathlib.Core.Logic.{_⊎_, inl, inr}
+use mathlib.Core.Logic.{inl, inr}
 use mathlib.Core.Option.{some}
 use mathlib.Core.Path.{_≡_, refl, sym, ap, _∙_, subst}
 use lib.IntN.{ℤ}
@@ -16,11 +16,10 @@ use Rattle.language.specs.Machine.{Activation, State}
 use Rattle.laws.specs.Tests.{some-inj}
 use Rattle.laws.specs.Lists.{getElem-in}
 use Rattle.grammar.specs.Formed.{block-few}
-use Rattle.frames.specs.Frame.{Frame, Stack, newFrame, stepped, withFrames}
+use Rattle.frames.specs.Frame.{Frame, Stack, newFrame, stepped}
 use Rattle.frames.specs.Related.{Related, as-deep}
-use Rattle.frame_laws.specs.Bounds.{FrameBounded}
 use Rattle.coordinates.specs.Enclosure.{Enclosing, enclosed, Enclosure, Encloses}
-use Rattle.coordinates.specs.Chain.{enclosing, enclosureOf, levelOf, SameOutlines}
+use Rattle.coordinates.specs.Chain.{enclosing, enclosureOf}
 use Rattle.coordinates.specs.Coordinates.{level-of-text}
 use Rattle.resolved.specs.Resolved.{placeOf, endPlace, stmtPlace, levelIn, positionIn, direct, nameWord, Covers}
 use Rattle.resolved.specs.Places.{block-fields, end-is, end-bound, place-bound, enclosed-formed}
@@ -29,7 +28,7 @@ use Rattle.governed.specs.Governed.{governedOf}
 use Rattle.acting.specs.Effects.{Cleared}
 use Rattle.steps.specs.Standing.{Standing}
 use Rattle.steps.specs.Means.{Follows, EntersAt}
-use Rattle.steps.specs.Here.{many, live-few, downward, encloses-here}
+use Rattle.steps.specs.Here.{many, downward, encloses-here}
 use Rattle.steps.specs.Reads.{at-within}
 use Rattle.steps.specs.Entered.{BodyHead, body-head, entered}
 use Rattle.new_names.specs.Owner.{NewNames}
@@ -37,20 +36,21 @@ use Rattle.new_names.specs.Finding.{new-names-more}
 use Rattle.texts.specs.Texts.{renewed, Copied, notedFrom, Texts, Aims, Looks}
 use Rattle.texts.specs.Readings.{own-formal}
 use Rattle.texts.specs.Renewing.{Governs}
-use Rattle.texts.specs.Stacks.{SameActivations, OneMore}
+use Rattle.texts.specs.Stacks.{OneMore}
 use Rattle.texts.specs.Entering.{texts-entered}
 use Rattle.texts.specs.Noting.{noted-long}
 use Rattle.texts.specs.Aiming.{aims-entered}
 use Rattle.texts.specs.Looking.{looks-entered}
-use Rattle.copy_entering.specs.declared.Now.{Now}
-use Rattle.copy_moves.specs.Running.{limitsBy, Running, Succeeds}
+use Rattle.run_state.specs.declared.Registers.{Registers}
+use Rattle.run_state.specs.Scenes.{limitsBy}
+use Rattle.copy_moves.specs.Running.{Running, Succeeds}
 use Rattle.copy_moves.specs.Settled.{own-enclosure, encloses-at}
 use Rattle.copy_entering.specs.Anew.{formalsAt, namesAt, levelAt, endAt, givenAt, Enterable, AnewIn}
-use Rattle.copy_moves.specs.Going.{same-outlines, chained, program-is}
+use Rattle.copy_moves.specs.Going.{same-outlines, chained}
 use Rattle.copying.specs.Within.{text-within, within-outer}
 use Rattle.copying.specs.Entries as entry
 
-module _ {code names : List ℕ} {limit group : ℕ} {words : List ℤ} {area : List ℕ} {width : ℕ} {blocks nexts firsts starts targets looked : List ℕ} {table : List ℤ} {now : Now}
+module _ {code names : List ℕ} {limit group : ℕ} {words : List ℤ} {area : List ℕ} {width : ℕ} {blocks nexts firsts starts targets looked : List ℕ} {table : List ℤ} {now : Registers}
     (w : Running code names limit group words area width blocks nexts firsts starts targets looked table now)
     (body link back : ℕ) (words₁ : List ℤ) (j : EntersAt (w .standing) body link back words₁) where
   abbrev fs : List Frame
@@ -127,7 +127,7 @@ module _ {code names : List ℕ} {limit group : ℕ} {words : List ℤ} {area : 
 
   -- What the code makes of the arrays
 
-  module _ (words′ : List ℤ) (area′ blocks′ nexts′ firsts′ starts′ targets′ looked′ : List ℕ) (r : Now)
+  module _ (words′ : List ℤ) (area′ blocks′ nexts′ firsts′ starts′ targets′ looked′ : List ℕ) (r : Registers)
       (n : AnewIn code names width now body link back words₁ area blocks nexts firsts starts targets looked words′ area′ blocks′ nexts′ firsts′ starts′ targets′ looked′ r) where
     abbrev live : ℕ
     live = now .live
@@ -285,8 +285,8 @@ module _ {code names : List ℕ} {limit group : ℕ} {words : List ℤ} {area : 
         (new-names-more firsts starts (w .copies .live) (later .live) (w .copies .fresh) new (a .deep) (λ k c h q. let o = a .kept k c h q in (o .0, o .1, o .2 .0, o .2 .1, o .2 .2)) (a .there) (a .names-are)
         (w .firsts-long) (w .starts-long) (omega (arith, many-before, j .room, w .standing .sound .limit)) (w .new-names))
 
-    abbrev behind : Now
-    behind = record { live = live + 1; at = stmtPlace (j .text) 1; end = endPlace (j .text); pairs = now .pairs; fresh = now .fresh + names-many }
+    abbrev behind : Registers
+    behind = record { live = live + 1; at = stmtPlace (j .text) 1; end = endPlace (j .text); pairs = now .pairs; level = now .level; fresh = now .fresh + names-many }
 
     entered-so : Succeeds w words′ area′ (set blocks (live + 1) body) (set nexts live back) (set firsts (live + 1) (now .fresh)) (set starts (live + 1) (32 * (live + 1) + formalsAt code body)) targets′ looked′ table behind
     entered-so =
@@ -319,7 +319,7 @@ module _ {code names : List ℕ} {limit group : ℕ} {words : List ℤ} {area : 
     now-is : behind ≡ r
     now-is =
         let h : now .fresh + names-many ≡ now .fresh - formalsAt code body + namesAt code body = omega (arith, head .formals, head .names, entry.fresh-high w body link back words₁ j, entry.few-names w body link back words₁ j) in
-        (λ i. record { live = live + 1; at = sym (head .first) i; end = sym (head .ends) i; pairs = now .pairs; fresh = h i }) ∙ sym (n .now-is)
+        (λ i. record { live = live + 1; at = sym (head .first) i; end = sym (head .ends) i; pairs = now .pairs; level = now .level; fresh = h i }) ∙ sym (n .now-is)
 
     pub enters-on : Succeeds w words′ area′ blocks′ nexts′ firsts′ starts′ targets′ looked′ table r
     enters-on =

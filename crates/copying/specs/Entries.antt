@@ -1,21 +1,21 @@
 -- A block is about to be entered (`EntersAt`): what the copy-rule machine's new activation is then. `anew`: it is entered above the others; `enters`: its
 -- arguments stand in the area behind the CL, its own names are the next new ones, and it reads all others as the activation from whose copy its
 -- text is taken; `inside-here`, `declared-here`: the words of names in that text.
-use Prim.Native.Nat.{ℕ, suc, pred, _+_, _*_, _≤_, _<_}
+use Prim.Native.Nat.{ℕ, suc, _+_, _*_, _≤_, _<_}
 use native.Mathlib.Omega.{arith}
 use mathlib.Core.List.{List, [], _∷_, _++_, map}
-use mathlib.Core.Logic.{_⊎_, inl, inr}
+use mathlib.Core.Logic.{inl, inr}
 use mathlib.Core.Option.{Option, none, some, Option·map}
 use mathlib.Core.Path.{_≡_, refl, sym, ap, _∙_, subst}
 use lib.IntN.{ℤ}
 use lib.ListN.{length, getD, getElem?, length-map}
 use Rattle.language.specs.Basics.{upFrom, last?}
-use Rattle.language.specs.Text.{Action, CL, GO, IF, KN, AR, AD, RM, QY, Formal, Block, Decl, Stmt, BK, DO, blockAt, blockDecls, declName, declaredNames}
+use Rattle.language.specs.Text.{CL, GO, IF, KN, AR, AD, RM, QY, Block, Stmt, BK, DO, blockAt, blockDecls, declName, declaredNames}
 use Rattle.language.specs.Encoding.{blockFields, stmtFields, actionFields}
 use Rattle.language.specs.Copy.{Replacement, renamed, renameAction, renameStmt}
-use Rattle.language.specs.Machine.{Activation, State, Limits, counted, nextStmt}
+use Rattle.language.specs.Machine.{Activation, State, Limits, counted}
 use Rattle.laws.specs.Tests.{none≢some, some-inj}
-use Rattle.laws.specs.Lists.{snoc-length, getElem-seam, getElem-in, getElem-bound, getD-elem, getElem?-map}
+use Rattle.laws.specs.Lists.{snoc-length, getElem-seam, getElem-in, getD-elem, getElem?-map}
 use Rattle.laws.specs.Rising.{rising-within}
 use Rattle.laws.specs.Distinct.{Distinct}
 use Rattle.grammar.specs.Formed.{block-once, block-few}
@@ -25,7 +25,7 @@ use Rattle.frames.specs.Related.{readsIn, readsAt, joined, ownOf, Twin, twin-at
 use Rattle.frames.specs.Find.{as-many-decls}
 use Rattle.frames.specs.Steps.{next-renamed}
 use Rattle.coordinates.specs.Enclosure.{Enclosing, enclosed, Enclosure, namesOf}
-use Rattle.coordinates.specs.Chain.{enclosureOf, levelOf}
+use Rattle.coordinates.specs.Chain.{enclosureOf}
 use Rattle.coordinates.specs.Coordinates.{level-of-text}
 use Rattle.resolved.specs.Resolved.{placeOf}
 use Rattle.resolved.specs.Places.{enclosed-formed}
@@ -39,10 +39,11 @@ use Rattle.copy_steps.specs.Together.{copies-entered}
 use Rattle.texts.specs.Readings.{Narrow, narrow-of-text}
 use Rattle.texts.specs.Renewing.{Governs, Inside, Declared, Enters}
 use Rattle.copy_statements.specs.Doing.{text}
-use Rattle.copy_entering.specs.declared.Now.{Now}
-use Rattle.copy_moves.specs.Running.{limitsBy, Running}
+use Rattle.run_state.specs.declared.Registers.{Registers}
+use Rattle.run_state.specs.Scenes.{limitsBy}
+use Rattle.copy_moves.specs.Running.{Running}
 use Rattle.copying.specs.Depth.{reads-deep}
-use Rattle.copying.specs.Words.{copyOf, sceneIn, innermost-activation, ends, end-within-script}
+use Rattle.copying.specs.Words.{innermost-activation, ends, end-within-script}
 use Rattle.copying.specs.Calling.{argument-reads}
 use Rattle.copying.specs.Here.{governed-here, written-here, cells-here, many-copies}
 
@@ -61,7 +62,7 @@ called-written σ (some (DO o′ (AD g m))) o p xs q = let z : _≡_ {A = ℕ} 0
 called-written σ (some (DO o′ (RM g m))) o p xs q = let z : _≡_ {A = ℕ} 0 1 = cc in absurd (omega arith)
 called-written σ (some (DO o′ (QY t g m))) o p xs q = let z : _≡_ {A = ℕ} 0 1 = cc in absurd (omega arith)
 
-module _ {code names : List ℕ} {limit group : ℕ} {words : List ℤ} {area : List ℕ} {width : ℕ} {blocks nexts firsts starts targets looked : List ℕ} {table : List ℤ} {now : Now}
+module _ {code names : List ℕ} {limit group : ℕ} {words : List ℤ} {area : List ℕ} {width : ℕ} {blocks nexts firsts starts targets looked : List ℕ} {table : List ℤ} {now : Registers}
     (w : Running code names limit group words area width blocks nexts firsts starts targets looked table now)
     (body link back : ℕ) (words₁ : List ℤ) (j : EntersAt (w .standing) body link back words₁) where
   abbrev pub l : Limits

@@ -1,13 +1,12 @@
 -- What `Meaning` asks, of an engine that runs: the words of names and the fields at the next statement (`governed-here`, `written-here`), and the cells
 -- of its names (`cells-here`, `sorted-here`). So the statement means a step: `means-here`, `ready-here`.
-use Prim.Native.Nat.{ℕ, suc, pred, _≤_, _<_}
-use native.Mathlib.Omega.{arith}
-use mathlib.Core.List.{List, _∷_}
+use Prim.Native.Nat.{ℕ, suc, pred}
+use mathlib.Core.List.{List}
 use mathlib.Core.Option.{some}
 use mathlib.Core.Path.{_≡_, sym, _∙_, subst}
 use lib.IntN.{ℤ}
 use lib.ListN.{length, getElem?}
-use Rattle.language.specs.Text.{Stmt, blockStmts, stmtAt}
+use Rattle.language.specs.Text.{stmtAt}
 use Rattle.language.specs.Encoding.{blockFields, stmtFields}
 use Rattle.language.specs.Machine.{Activation}
 use Rattle.frames.specs.Frame.{frameStmt}
@@ -23,13 +22,13 @@ use Rattle.steps.specs.Means.{Means}
 use Rattle.steps.specs.Here.{many, last-is, encloses-here, stands-at}
 use Rattle.copy_statements.specs.Doing.{doing}
 use Rattle.copy_statements.specs.Ready.{Ready}
-use Rattle.copy_entering.specs.declared.Now.{Now}
+use Rattle.run_state.specs.declared.Registers.{Registers}
 use Rattle.copy_moves.specs.Running.{Running}
 use Rattle.copying.specs.Words.{copyOf, sceneIn, around, GovernedHere, WrittenHere, innermost-activation}
 use Rattle.copying.specs.Names.{CellOfName}
 use Rattle.copying.specs.Meaning.{ready, means}
 
-module _ {code names : List ℕ} {limit group : ℕ} {words : List ℤ} {area : List ℕ} {width : ℕ} {blocks nexts firsts starts targets looked : List ℕ} {table : List ℤ} {now : Now}
+module _ {code names : List ℕ} {limit group : ℕ} {words : List ℤ} {area : List ℕ} {width : ℕ} {blocks nexts firsts starts targets looked : List ℕ} {table : List ℤ} {now : Registers}
     (w : Running code names limit group words area width blocks nexts firsts starts targets looked table now) where
   pub governed-here : GovernedHere w
   unfolding frameStmt enclosing

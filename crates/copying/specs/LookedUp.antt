@@ -1,14 +1,13 @@
 -- The looked-up name at a run's end: what it reads as in the innermost activation has the cell of what it designates.
-use Prim.Native.Nat.{ℕ, suc, _≤_, _<_}
+use Prim.Native.Nat.{ℕ, _≤_}
 use native.Mathlib.Omega.{arith}
-use mathlib.Core.Bool.{Bool, true, false}
 use mathlib.Core.List.{List}
 use mathlib.Core.Option.{some}
-use mathlib.Core.Path.{_≡_, refl, sym, ap, _∙_, subst}
+use mathlib.Core.Path.{_≡_, sym, ap, _∙_, subst}
 use borrow.Author.Tests.{eqb-true, eqb-false, eq-eqb, ne-eqb}
 use lib.Dec.{eqb}
 use lib.IntN.{ℤ}
-use lib.ListN.{length, getD, set, getElem?}
+use lib.ListN.{length, getD, set}
 use Rattle.language.specs.Copy.{renamed}
 use Rattle.language.specs.Machine.{Activation}
 use Rattle.laws.specs.Tests.{split}
@@ -28,13 +27,14 @@ use Rattle.steps.specs.Finding.{wordOf, unseen-word}
 use Rattle.new_names.specs.Owner.{cellIn}
 use Rattle.new_names.specs.Finding.{cell-of-looked}
 use Rattle.texts.specs.Texts.{readAs}
-use Rattle.copy_entering.specs.declared.Now.{Now}
-use Rattle.copy_moves.specs.Running.{limitsBy, Running}
+use Rattle.run_state.specs.declared.Registers.{Registers}
+use Rattle.run_state.specs.Scenes.{limitsBy}
+use Rattle.copy_moves.specs.Running.{Running}
 use Rattle.copy_moves.specs.Looked.{Lookable, lookedUp}
 use Rattle.copying.specs.Words.{innermost-activation}
 use Rattle.copying.specs.Here.{many-copies, sorted-here}
 
-module _ {code names : List ℕ} {limit group : ℕ} {words : List ℤ} {area : List ℕ} {width : ℕ} {blocks nexts firsts starts targets looked : List ℕ} {table : List ℤ} {now : Now}
+module _ {code names : List ℕ} {limit group : ℕ} {words : List ℤ} {area : List ℕ} {width : ℕ} {blocks nexts firsts starts targets looked : List ℕ} {table : List ℤ} {now : Registers}
     (w : Running code names limit group words area width blocks nexts firsts starts targets looked table now) where
   abbrev a : Activation
   a = (innermost-activation w) .0

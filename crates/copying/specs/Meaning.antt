@@ -19,14 +19,14 @@ use Rattle.steps.specs.Acts.{acting-means}
 use Rattle.new_names.specs.Owner.{Sorted}
 use Rattle.copy_statements.specs.Doing.{doing}
 use Rattle.copy_statements.specs.Ready.{Ready}
-use Rattle.copy_entering.specs.declared.Now.{Now}
+use Rattle.run_state.specs.declared.Registers.{Registers}
 use Rattle.copy_moves.specs.Running.{Running}
 use Rattle.copying.specs.Words.{copyOf, sceneIn, GovernedHere, WrittenHere, fields-there}
 use Rattle.copying.specs.Names.{byLinks, CellOfName}
 use Rattle.copying.specs.Statements.{Comes, constant-comes, arithmetic-comes, branch-comes, goto-comes, block-comes, add-comes, remove-comes, query-comes}
 use Rattle.copying.specs.Calling.{call-comes}
 
-module _ {code names : List ℕ} {limit group : ℕ} {words : List ℤ} {area : List ℕ} {width : ℕ} {blocks nexts firsts starts targets looked : List ℕ} {table : List ℤ} {now : Now}
+module _ {code names : List ℕ} {limit group : ℕ} {words : List ℤ} {area : List ℕ} {width : ℕ} {blocks nexts firsts starts targets looked : List ℕ} {table : List ℤ} {now : Registers}
     (w : Running code names limit group words area width blocks nexts firsts starts targets looked table now)
     (a : Activation) (innermost : getElem? (w .copies .live) (now .live) ≡ some a)
     (governed : GovernedHere w) (written : WrittenHere w) (cell-of-name : CellOfName w a) where

@@ -28,13 +28,13 @@ use Rattle.new_names.specs.Owner.{cellIn}
 use Rattle.texts.specs.Texts.{reading}
 use Rattle.copy_statements.specs.Doing.{text, cell, target}
 use Rattle.copy_statements.specs.Ready.{Named}
-use Rattle.copy_entering.specs.declared.Now.{Now}
+use Rattle.run_state.specs.declared.Registers.{Registers}
 use Rattle.copy_moves.specs.Running.{Running}
 use Rattle.copying.specs.Agreeing.{Agrees}
 use Rattle.copying.specs.Depth.{reads-deep}
 use Rattle.copying.specs.Words.{reading-named, copyOf, sceneIn, around}
 
-module _ {code names : List ℕ} {limit group : ℕ} {words : List ℤ} {area : List ℕ} {width : ℕ} {blocks nexts firsts starts targets looked : List ℕ} {table : List ℤ} {now : Now}
+module _ {code names : List ℕ} {limit group : ℕ} {words : List ℤ} {area : List ℕ} {width : ℕ} {blocks nexts firsts starts targets looked : List ℕ} {table : List ℤ} {now : Registers}
     (w : Running code names limit group words area width blocks nexts firsts starts targets looked table now) where
   abbrev fs : List Frame
   fs = w .standing .stack .frames

@@ -5,18 +5,17 @@ use native.Mathlib.Omega.{arith}
 use native.Mathlib.Nat.{mul-le-mul-right, zero-add}
 use mathlib.Core.Bool.{Bool, true, false}
 use mathlib.Core.List.{List, [], _∷_, _++_}
-use mathlib.Core.Logic.{_⊎_, inl, inr}
+use mathlib.Core.Logic.{inl, inr}
 use mathlib.Core.Option.{some}
 use mathlib.Core.Path.{_≡_, refl, sym, ap, _∙_, subst}
-use lib.IntN.{ℤ, pos}
-use lib.ListN.{length, getD, set, getElem?, length-set, length-map, replicate}
+use lib.IntN.{ℤ}
+use lib.ListN.{length, getD, getElem?, length-set, length-map, replicate}
 use lib.Seq.{getD-set-same}
 use Rattle.language.specs.Basics.{upFrom}
-use Rattle.language.specs.Text.{Block, blockAt, blockDecls, declName, declaredNames, formalNames}
+use Rattle.language.specs.Text.{Block, blockAt, blockDecls, declName, declaredNames}
 use Rattle.language.specs.Encoding.{blockFields, encode}
-use Rattle.language.specs.Table.{Table, right}
-use Rattle.language.specs.Copy.{Replacement}
-use Rattle.language.specs.Machine.{Activation, State, start}
+use Rattle.language.specs.Table.{Table}
+use Rattle.language.specs.Machine.{Activation, start}
 use Rattle.laws.specs.Fields.{fieldAt, FieldsStand, field-is}
 use Rattle.laws.specs.Tests.{some-inj}
 use Rattle.laws.specs.Distinct.{Distinct}
@@ -28,7 +27,7 @@ use Rattle.frames.specs.Frame.{Frame, Stack, newFrame, frameStart, numbered}
 use Rattle.frames.specs.Related.{readsIn, readsAt, ownOf, Twin, Related, twin-at}
 use Rattle.frames.specs.Runs.{start-related}
 use Rattle.frames.specs.Find.{as-many-decls}
-use Rattle.coordinates.specs.Enclosure.{Enclosing, enclosed, Enclosure, whole, namesOf, Encloses}
+use Rattle.coordinates.specs.Enclosure.{Enclosing, enclosed, whole, namesOf, Encloses}
 use Rattle.resolved.specs.Resolved.{placeOf, endPlace, stmtPlace, levelIn, positionIn, direct, nameWord, resolvedOf, Covers}
 use Rattle.resolved.specs.Places.{block-at, block-place, end-bound, end-is}
 use Rattle.resolved.specs.Standing.{head-stands, looked-up-stands}
@@ -49,8 +48,9 @@ use Rattle.texts.specs.Entering.{texts-start}
 use Rattle.texts.specs.Noting.{noted-long}
 use Rattle.texts.specs.Aiming.{aims-start}
 use Rattle.texts.specs.Looking.{looks-start}
-use Rattle.copy_entering.specs.declared.Now.{Now}
-use Rattle.copy_moves.specs.Running.{limitsBy, Running}
+use Rattle.run_state.specs.declared.Registers.{Registers}
+use Rattle.run_state.specs.Scenes.{limitsBy}
+use Rattle.copy_moves.specs.Running.{Running}
 use Rattle.copy_entering.specs.Anew.{namesAt, endAt}
 use Rattle.copy_moves.specs.Begun.{Beginnable, BegunIn}
 use Rattle.copying.specs.Beginning.{Beginning}
@@ -191,7 +191,7 @@ module _ {script code names : List ℕ} {limit group : ℕ} {words : List ℤ} {
         around = refl;
       }
 
-  module _ (firsts starts targets looked area′ firsts′ targets′ looked′ : List ℕ) (r : Now) (n : BegunIn script code names area firsts targets looked pairs area′ firsts′ targets′ looked′ r)
+  module _ (firsts starts targets looked area′ firsts′ targets′ looked′ : List ℕ) (r : Registers) (n : BegunIn script code names area firsts targets looked pairs area′ firsts′ targets′ looked′ r)
       (firsts-long : length firsts ≡ 256) (starts-long : length starts ≡ 256) (targets-long : length targets ≡ 8224) (looked-long : length looked ≡ 256) (no-start : getD starts 0 0 ≡ 0) where
     abbrev links : List ℕ
     links = replicate 256 0
@@ -244,14 +244,14 @@ module _ {script code names : List ℕ} {limit group : ℕ} {words : List ℤ} {
         subst (λ (fs : List ℕ). NewNames (new ∷ []) (65536 + length (blockDecls (new .text))) fs starts) (sym (n .firsts-are))
         (new-names-start firsts starts new 65536 (anew .names-are) (no-start ∙ sym (ap length (anew .arguments-are))) (omega (arith, firsts-long)))
 
-    abbrev here : Now
-    here = record { live = 0; at = stmtPlace t 1; end = endPlace t; pairs = pairs; fresh = 65536 + length (blockDecls t) }
+    abbrev here : Registers
+    here = record { live = 0; at = stmtPlace t 1; end = endPlace t; pairs = pairs; level = 0; fresh = 65536 + length (blockDecls t) }
 
     frames-are : (stands .0 .stack) .frames ≡ f ∷ []
     unfolding frameStart
     frames-are = ap (λ (s : Stack). s .frames) (stands .1)
 
-    pub record Begun (now : Now) : Type 0 where
+    pub record Begun (now : Registers) : Type 0 where
       pub running : Running code names limit group words area′ width blocks nexts firsts′ starts targets′ looked′ table now
       pub stack-is : running .standing .stack ≡ frameStart t tab
       pub program-is : running .standing .program ≡ t
@@ -290,7 +290,7 @@ module _ {script code names : List ℕ} {limit group : ℕ} {words : List ℤ} {
     pub begun : Begun r
     begun =
         subst Begun
-        ((λ i. record { live = 0; at = sym (reads .0) i; end = sym (reads .1) i; pairs = pairs; fresh = 65536 + sym names-are i }) ∙ sym (n .now-is)) begun-so
+        ((λ i. record { live = 0; at = sym (reads .0) i; end = sym (reads .1) i; pairs = pairs; level = 0; fresh = 65536 + sym names-are i }) ∙ sym (n .now-is)) begun-so
 
     pub begun-few : r .fresh ≤ 65568
-    begun-few = omega (arith, ap (λ (k : Now). k .fresh) (n .now-is), names-are, few-names)
+    begun-few = omega (arith, ap (λ (k : Registers). k .fresh) (n .now-is), names-are, few-names)

@@ -24,7 +24,7 @@ use Rattle.governed.specs.Governed.{governedAction, governedStmt}
 use Rattle.texts.specs.Texts.{reading}
 use Rattle.copy_statements.specs.Doing.{Copy, text, target, Mark, arithmetic, branch, constant, goto, block, pair, unpair, query, markOf, happens, doing}
 use Rattle.copy_statements.specs.Ready.{Named, By}
-use Rattle.copy_entering.specs.declared.Now.{Now}
+use Rattle.run_state.specs.declared.Registers.{Registers}
 use Rattle.copy_moves.specs.Running.{Running}
 use Rattle.copying.specs.Agreeing.{Agrees, constant-same, arithmetic-same, goto-same, branch-same, block-same, add-same, remove-same, query-same}
 use Rattle.copying.specs.Words.{copyOf, sceneIn, around, GovernedHere, WrittenHere, plain, next-known, fields-there, resolved-word, word-read}
@@ -56,7 +56,7 @@ unfolding unsigned
 unsigned-small (pos n) h = omega arith
 unsigned-small (negsuc n) h = omega arith
 
-module _ {code names : List ℕ} {limit group : ℕ} {words : List ℤ} {area : List ℕ} {width : ℕ} {blocks nexts firsts starts targets looked : List ℕ} {table : List ℤ} {now : Now}
+module _ {code names : List ℕ} {limit group : ℕ} {words : List ℤ} {area : List ℕ} {width : ℕ} {blocks nexts firsts starts targets looked : List ℕ} {table : List ℤ} {now : Registers}
     (w : Running code names limit group words area width blocks nexts firsts starts targets looked table now)
     (a : Activation) (innermost : getElem? (w .copies .live) (now .live) ≡ some a)
     (governed : GovernedHere w) (written : WrittenHere w) (cell-of-name : CellOfName w a) where

@@ -1,32 +1,72 @@
--- What a step comes to (`Turned`), and what a run ends with (`Ended`): the frame machine's result, with the arrays that hold its stack. Of the area
--- only the length is known then.
-use Prim.Native.Nat.{ℕ, _+_}
+-- What a step asks (`Ready`) and comes to (`Turned`), and what a run ends with (`Ended`, and from where the engine stands, `RunFrom`): the frame machine's
+-- result, with the arrays that hold its stack. Of the area only the length is known then.
+use Prim.Native.Nat.{ℕ, _+_, _*_, _≤_}
 use mathlib.Core.List.{List}
-use mathlib.Core.Path.{_≡_}
 use lib.IntN.{ℤ}
 use Rattle.language.specs.Text.{Block}
-use Rattle.language.specs.declared.End.{End}
-use Rattle.frames.specs.Frame.{Result, halted, frameStep}
-use Rattle.steps.specs.Underway as steps
-use Rattle.copy_entering.specs.declared.Now.{Now}
-use Rattle.copy_moves.specs.Running.{limitsBy, Running, Succeeds}
-use Rattle.copying.specs.declared.run.Turn.{Turn}
-use Rattle.copying.specs.declared.run.Turn.the-variants.{Went, Finished, Stopped}
-use Rattle.copying.specs.declared.run.Halt.{Halt}
+use Rattle.frames.specs.Frame.{Result, frameRun}
+use Rattle.run_state.specs.declared.Registers.{Registers}
+use Rattle.run_state.specs.declared.Turn.{Turn}
+use Rattle.run_state.specs.declared.Turn.the-variants.{Went, Finished, Stopped}
+use Rattle.run_state.specs.declared.Halt.{Halt}
+use Rattle.run_state.specs.Scenes.{limitsBy}
+use Rattle.run_state.specs.Turns.{Leaves, Stops}
+use Rattle.run_state.specs.Ended as state
+use Rattle.copy_moves.specs.Running.{Running, Succeeds}
 
-module _ {code names : List ℕ} {limit group : ℕ} {words : List ℤ} {area : List ℕ} {width : ℕ} {blocks nexts firsts starts targets looked : List ℕ} {table : List ℤ} {here : Now}
+-- what a step may write
+pub record Arrays : Type 0 where
+  pub words : List ℤ
+  pub area : List ℕ
+  pub blocks : List ℕ
+  pub nexts : List ℕ
+  pub firsts : List ℕ
+  pub starts : List ℕ
+  pub targets : List ℕ
+  pub looked : List ℕ
+  pub table : List ℤ
+
+abbrev pub arraysOf : List ℤ → List ℕ → List ℕ → List ℕ → List ℕ → List ℕ → List ℕ → List ℕ → List ℤ → Arrays
+arraysOf words area blocks nexts firsts starts targets looked table =
+    record {
+      words = words;
+      area = area;
+      blocks = blocks;
+      nexts = nexts;
+      firsts = firsts;
+      starts = starts;
+      targets = targets;
+      looked = looked;
+      table = table;
+    }
+
+-- the engine runs, and there are new names for so many steps
+pub record Ready (code names : List ℕ) (limit group : ℕ) (words : List ℤ) (area : List ℕ) (width : ℕ) (blocks nexts firsts starts targets looked : List ℕ)
+    (table : List ℤ) (here : Registers) (steps : ℕ) : Type 0 where
+  pub running : Running code names limit group words area width blocks nexts firsts starts targets looked table here
+  pub names-left : here .fresh + 32 * steps + 32 ≤ 4294967296
+
+module _ {code names : List ℕ} {limit group : ℕ} {words : List ℤ} {area : List ℕ} {width : ℕ} {blocks nexts firsts starts targets looked : List ℕ} {table : List ℤ} {here : Registers}
     (w : Running code names limit group words area width blocks nexts firsts starts targets looked table here) where
   abbrev pub Turned : Turn → List ℤ → List ℕ → List ℕ → List ℕ → List ℕ → List ℕ → List ℕ → List ℕ → List ℤ → Type 0
   Turned (Went here′) words′ area′ blocks′ nexts′ firsts′ starts′ targets′ looked′ table′ = Succeeds w words′ area′ blocks′ nexts′ firsts′ starts′ targets′ looked′ table′ here′
-  Turned Finished words′ area′ blocks′ nexts′ firsts′ starts′ targets′ looked′ table′ = (here .at ≡ here .end) × (here .live ≡ 0) × (words′ ≡ words) × (table′ ≡ table)
+  Turned Finished words′ area′ blocks′ nexts′ firsts′ starts′ targets′ looked′ table′ = Leaves here words table words′ table′
   Turned (Stopped c) words′ area′ blocks′ nexts′ firsts′ starts′ targets′ looked′ table′ =
-      (frameStep (limitsBy limit group) (w .standing .stack) ≡ halted c)
-      × (words′ ≡ words) × (area′ ≡ area) × (blocks′ ≡ blocks) × (nexts′ ≡ nexts) × (firsts′ ≡ firsts) × (starts′ ≡ starts) × (targets′ ≡ targets) × (looked′ ≡ looked) × (table′ ≡ table)
+      Stops (limitsBy limit group) (w .standing .stack) c (arraysOf words area blocks nexts firsts starts targets looked table)
+      (arraysOf words′ area′ blocks′ nexts′ firsts′ starts′ targets′ looked′ table′)
 
-abbrev pub haltOf : End → ℕ → ℕ → Now → ℕ → Halt
-haltOf e steps offset here designator =
-    record { end = e; steps = steps; offset = offset; live = here .live + 1; pairs = here .pairs; designator = designator }
-
-pub record Ended (program : Block) (name limit group : ℕ) (result : Result) (r : Halt) (words : List ℤ) (blocks nexts : List ℕ) (table : List ℤ) : Type 0 where
+-- from a stack at which so many steps are done; the engine keeps no links
+pub record EndedFrom (done : ℕ) (program : Block) (name limit group : ℕ) (result : Result) (r : Halt) (words : List ℤ) (blocks nexts : List ℕ)
+    (table : List ℤ) : Type 0 where
   pub links : List ℕ
-  pub ended : steps.Ended program name (limitsBy limit group) result (r .end) (r .steps) (r .offset) (r .pairs) (r .live) (r .designator) words blocks nexts links table
+  pub ended : state.EndedFrom done program name (limitsBy limit group) result r words blocks nexts links table
+
+abbrev pub Ended : Block → ℕ → ℕ → ℕ → Result → Halt → List ℤ → List ℕ → List ℕ → List ℤ → Type 0
+Ended = EndedFrom 0
+
+abbrev pub RunFrom : {code names : List ℕ} {limit group : ℕ} {words : List ℤ} {area : List ℕ} {width : ℕ} {blocks nexts firsts starts targets looked : List ℕ}
+    {table : List ℤ} {here : Registers} → Running code names limit group words area width blocks nexts firsts starts targets looked table here
+    → ℕ → Halt → List ℤ → List ℕ → List ℕ → List ℤ → Type 0
+RunFrom {limit = limit} {group = group} w allowance r words′ blocks′ nexts′ table′ =
+    let s = w .standing in
+    EndedFrom (s .stack .steps) (s .program) (s .name) limit group (frameRun (limitsBy limit group) allowance (s .stack)) r words′ blocks′ nexts′ table′

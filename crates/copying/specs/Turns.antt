@@ -1,6 +1,6 @@
 -- A step of the copying engine, by what the statement comes to (`Came`). For each move: the engine goes on (`went-on`), or may leave, jump or
 -- enter (`leave-ready`, `jump-ready`, `enter-ready`) and stands behind the step once it has (`left-on`, `jumped-on`, `entered-on`), or stops (`stopped-at`).
-use Prim.Native.Nat.{ℕ, zero, suc, _+_, _-_, _*_, _%_, _≤_, _<_}
+use Prim.Native.Nat.{ℕ, suc, _+_, _-_, _*_, _%_, _≤_, _<_}
 use native.Mathlib.Omega.{arith}
 use native.Mathlib.Nat.{mul-le-mul-right}
 use mathlib.Core.List.{List}
@@ -10,7 +10,7 @@ use lib.IntN.{ℤ}
 use lib.ListN.{length, getD, getElem?}
 use Rattle.language.specs.declared.Stop.{Stop as Cause}
 use Rattle.laws.specs.Lists.{getElem-in}
-use Rattle.frames.specs.Frame.{Frame, numbered, halted, frameStep}
+use Rattle.frames.specs.Frame.{Frame, numbered}
 use Rattle.frames.specs.Numbered.{numbered-index}
 use Rattle.resolved.specs.Resolved.{endPlace}
 use Rattle.acting.specs.declared.Move.{Move}
@@ -24,19 +24,18 @@ use Rattle.copy_statements.specs.declared.moved.Moved.{Moved}
 use Rattle.copy_statements.specs.declared.moved.Moved.the-variants.{Went, Jump as JumpTo, Enter as EnterBy, Stop as StopFor}
 use Rattle.copy_statements.specs.Doing.{doing}
 use Rattle.copy_statements.specs.Moved.{movedBy, Came}
-use Rattle.copy_entering.specs.declared.Now.{Now}
-use Rattle.copy_moves.specs.Running.{limitsBy, Running, nowAt, Succeeds}
+use Rattle.run_state.specs.declared.Registers.{Registers}
+use Rattle.run_state.specs.Scenes.{limitsBy, goesTo}
+use Rattle.copy_moves.specs.Running.{Running, nowAt, Succeeds}
 use Rattle.copy_entering.specs.Anew.{Enterable, AnewIn}
 use Rattle.copy_moves.specs.Going.{goes-on}
+use Rattle.run_state.specs.Turns.{Stops}
+use Rattle.copying.specs.Turning.{arraysOf}
 use Rattle.copying.specs.Words.{copyOf, sceneIn}
 use Rattle.copying.specs.Here.{means-here}
 use Rattle.copying.specs.Entering.{enterable, enters-on}
 
-pub above-zero : (n : ℕ) → (n ≡ 0 → ⊥) → 1 ≤ n
-above-zero zero d = absurd (d refl)
-above-zero (suc n) d = omega arith
-
-module _ {code names : List ℕ} {limit group : ℕ} {words : List ℤ} {area : List ℕ} {width : ℕ} {blocks nexts firsts starts targets looked : List ℕ} {table : List ℤ} {here : Now}
+module _ {code names : List ℕ} {limit group : ℕ} {words : List ℤ} {area : List ℕ} {width : ℕ} {blocks nexts firsts starts targets looked : List ℕ} {table : List ℤ} {here : Registers}
     (w : Running code names limit group words area width blocks nexts firsts starts targets looked table here) where
   abbrev fs : List Frame
   fs = w .standing .stack .frames
@@ -58,14 +57,14 @@ module _ {code names : List ℕ} {limit group : ℕ} {words : List ℤ} {area : 
   pub leave-ready : 1 ≤ here .live → (1 ≤ here .live) × (here .live ≤ 256) × (getD blocks (here .live - 1) 0 + 1 < 4096)
   leave-ready h = (h, omega (arith, live-few (w .standing)), within (here .live - 1) (omega arith))
 
-  pub left-on : here .at ≡ here .end → 1 ≤ here .live → (r : Now) → r ≡ nowAt code blocks here (here .live - 1) (getD nexts (here .live - 1) 0)
+  pub left-on : here .at ≡ here .end → 1 ≤ here .live → (r : Registers) → r ≡ nowAt code blocks here (here .live - 1) (getD nexts (here .live - 1) 0)
       → Succeeds w words area blocks nexts firsts starts targets looked table r
   left-on e h r is =
       let l = leaves (w .standing) e h in
       let one : suc (here .live - 1) ≡ here .live = omega arith in
       let ends = end-of (here .live - 1) (l .frame) (ap (numbered fs) one ∙ l .stands) in
-      subst (λ (n : Now). Succeeds w words area blocks nexts firsts starts targets looked table n)
-      ((λ i. record { live = here .live - 1; at = getD nexts (here .live - 1) 0; end = sym ends i; pairs = here .pairs; fresh = here .fresh }) ∙ sym is)
+      subst (λ (n : Registers). Succeeds w words area blocks nexts firsts starts targets looked table n)
+      ((λ i. goesTo here (here .live - 1) (getD nexts (here .live - 1) 0) (sym ends i) (here .pairs)) ∙ sym is)
       (goes-on w (l .standing) (l .follows) (omega arith) (λ k p. (refl, refl)))
 
   -- The next statement
@@ -104,7 +103,7 @@ module _ {code names : List ℕ} {limit group : ℕ} {words : List ℤ} {area : 
 
     pub went-on : (p n : ℕ) → r ≡ Went p n
         → Succeeds w words′ area blocks nexts firsts starts targets looked table′
-        (record { live = here .live; at = p; end = here .end; pairs = n; fresh = here .fresh })
+        (goesTo here (here .live) p (here .end) n)
     went-on p n e =
         let g = means-as (Went p n) e in
         goes-on w (g .standing) (g .follows) (omega arith) (λ k q. (refl, refl))
@@ -123,7 +122,7 @@ module _ {code names : List ℕ} {limit group : ℕ} {words : List ℤ} {area : 
           λ q. sym (ap (λ k. getD code (getD blocks k 0 + 1) 0 % 65536) q ∙ end-here (w .standing)),
         )
 
-    pub jumped-on : (home p : ℕ) → r ≡ JumpTo p home → (n : Now) → n ≡ nowAt code blocks here home p
+    pub jumped-on : (home p : ℕ) → r ≡ JumpTo p home → (n : Registers) → n ≡ nowAt code blocks here home p
         → Succeeds w words′ area blocks nexts firsts starts targets looked table′ n
     jumped-on home p e n is =
         let m = means-as (JumpTo p home) e in
@@ -131,8 +130,8 @@ module _ {code names : List ℕ} {limit group : ℕ} {words : List ℤ} {area : 
         let ends = end-of home (l .frame) (l .stands) in
         subst (λ (v : List ℤ). Succeeds w v area blocks nexts firsts starts targets looked table′ n) (sym (m .1))
         (subst (λ (v : List ℤ). Succeeds w words area blocks nexts firsts starts targets looked v n) (sym (m .2))
-        (subst (λ (v : Now). Succeeds w words area blocks nexts firsts starts targets looked table v)
-        ((λ i. record { live = home; at = p; end = sym ends i; pairs = here .pairs; fresh = here .fresh }) ∙ sym is)
+        (subst (λ (v : Registers). Succeeds w words area blocks nexts firsts starts targets looked table v)
+        ((λ i. goesTo here home p (sym ends i) (here .pairs)) ∙ sym is)
         (goes-on w (l .standing) (l .follows) (l .home-high) (λ k q. (refl, refl)))))
 
     -- An entry
@@ -140,10 +139,10 @@ module _ {code names : List ℕ} {limit group : ℕ} {words : List ℤ} {area : 
     enters : (body link back : ℕ) → r ≡ EnterBy back link body → EntersAt (w .standing) body link back words′
     enters body link back e = (means-as (EnterBy back link body) e) .0
 
-    pub enter-ready : here .fresh + 64 ≤ 4294967296 → (body link back : ℕ) → r ≡ EnterBy back link body → Enterable code names area width here body link back
-    enter-ready few body link back e = enterable w body link back words′ (enters body link back e) few
+    pub enter-ready : here .fresh + 32 * 1 + 32 ≤ 4294967296 → (body link back : ℕ) → r ≡ EnterBy back link body → Enterable code names area width here body link back
+    enter-ready few body link back e = enterable w body link back words′ (enters body link back e) (omega arith)
 
-    pub entered-on : (body link back : ℕ) → r ≡ EnterBy back link body → (words″ : List ℤ) (area′ blocks′ nexts′ firsts′ starts′ targets′ looked′ : List ℕ) (n : Now)
+    pub entered-on : (body link back : ℕ) → r ≡ EnterBy back link body → (words″ : List ℤ) (area′ blocks′ nexts′ firsts′ starts′ targets′ looked′ : List ℕ) (n : Registers)
         → AnewIn code names width here body link back words′ area blocks nexts firsts starts targets looked words″ area′ blocks′ nexts′ firsts′ starts′ targets′ looked′ n
         → Succeeds w words″ area′ blocks′ nexts′ firsts′ starts′ targets′ looked′ table′ n
     entered-on body link back e words″ area′ blocks′ nexts′ firsts′ starts′ targets′ looked′ n k =
@@ -152,5 +151,9 @@ module _ {code names : List ℕ} {limit group : ℕ} {words : List ℤ} {area : 
 
     -- A cause to stop
 
-    pub stopped-at : (c : Cause) → r ≡ StopFor c → (frameStep (limitsBy limit group) (w .standing .stack) ≡ halted c) × (words′ ≡ words) × (table′ ≡ table)
-    stopped-at c e = means-as (StopFor c) e
+    pub stopped-at : (c : Cause) → r ≡ StopFor c
+        → Stops (limitsBy limit group) (w .standing .stack) c (arraysOf words area blocks nexts firsts starts targets looked table)
+        (arraysOf words′ area blocks nexts firsts starts targets looked table′)
+    stopped-at c e =
+        let m = means-as (StopFor c) e in
+        record { stops = m .0; same = λ i. arraysOf (m .1 i) area blocks nexts firsts starts targets looked (m .2 i) }

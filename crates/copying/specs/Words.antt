@@ -34,7 +34,7 @@ use Rattle.governed.specs.Governed.{governedStmt}
 use Rattle.texts.specs.Texts.{reading}
 use Rattle.copy_statements.specs.Doing.{Copy, text}
 use Rattle.copy_statements.specs.Ready.{Fields}
-use Rattle.copy_entering.specs.declared.Now.{Now}
+use Rattle.run_state.specs.declared.Registers.{Registers}
 use Rattle.copy_moves.specs.Running.{Running}
 
 module _ (σs : List Replacement) (v n : ℕ) where
@@ -51,7 +51,7 @@ module _ (σs : List Replacement) (v n : ℕ) where
       let u : leb (levelIn v) (length σs) ≡ true = le-leb (levelIn v) (length σs) h in
       rw (reading, t, u)
 
-module _ {code names : List ℕ} {limit group : ℕ} {words : List ℤ} {area : List ℕ} {width : ℕ} {blocks nexts firsts starts targets looked : List ℕ} {table : List ℤ} {now : Now}
+module _ {code names : List ℕ} {limit group : ℕ} {words : List ℤ} {area : List ℕ} {width : ℕ} {blocks nexts firsts starts targets looked : List ℕ} {table : List ℤ} {now : Registers}
     (w : Running code names limit group words area width blocks nexts firsts starts targets looked table now) where
   -- what the next statement is read from, and what it finds
   abbrev pub copyOf : Copy

@@ -1,5 +1,4 @@
 // The run: steps until the program is left, a statement has a cause to stop, or the allowance is spent.
-use copy_entering::Now;
 use copy_entering::enter;
 use copy_moves::begin;
 use copy_moves::jump;
@@ -8,23 +7,22 @@ use copy_moves::looked_up;
 use copy_moves::set_next;
 use copy_statements::Moved;
 use copy_statements::act;
-use language::End;
-use language::Stop;
+use run_state::Halt;
+use run_state::Registers;
+use run_state::Turn;
+use run_state::finished;
+use run_state::named;
+use run_state::spent;
+use run_state::stopped;
 ghost use mathlib.Core.Path.{_≡_};
-ghost use Prim.Native.Nat.{_+_, _*_, _<_, _≤_};
-ghost use lib.ListN.{set, length};
+ghost use Prim.Native.Nat.{_<_};
+ghost use lib.ListN.{set};
 ghost use Rattle.frames.specs.Frame.{frameRun, frameStart};
-ghost use Rattle.copy_moves.specs.Running.{limitsBy, Running};
+ghost use Rattle.run_state.specs.Scenes.{limitsBy};
+ghost use Rattle.copy_moves.specs.Running.{Running};
 ghost use Rattle.copy_moves.specs.Looked.{Lookable, lookedUp};
 ghost use Rattle.copying.specs.Beginning.{Beginning};
-ghost use Rattle.copying.specs.Turning.{Turned, Ended, haltOf};
-
-// What a step comes to.
-pub enum Turn {
-    Went(Now),
-    Finished,
-    Stopped(Stop),
-}
+ghost use Rattle.copying.specs.Turning.{Ready, Turned, Ended, RunFrom};
 
 pub fn step(
     code: &[u32; 4096],
@@ -41,10 +39,10 @@ pub fn step(
     table: &mut [i32],
     group: u32,
     limit: usize,
-    here: Now,
+    here: Registers,
 ) -> Turn
-    requires { ⌜ Running (now code) (now names) limit group (now words) (now area) width (now blocks) (now nexts) (now firsts) (now starts)
-        (now targets) (now looked) (now table) here × (here .fresh + 64 ≤ 4294967296) ⌝ }
+    requires { ⌜ Ready (now code) (now names) limit group (now words) (now area) width (now blocks) (now nexts) (now firsts) (now starts)
+        (now targets) (now looked) (now table) here 1 ⌝ }
     ensures { λ r.
         ⌜ ((w : Running (now (code .entry)) (now (names .entry)) limit group (now (words .entry)) (now (area .entry)) width (now (blocks .entry)) (now (nexts .entry))
         (now (firsts .entry)) (now (starts .entry)) (now (targets .entry)) (now (looked .entry)) (now (table .entry)) here)
@@ -53,10 +51,7 @@ pub fn step(
 {
     let live = here.live;
     let at = here.at;
-    let end = here.end;
-    let pairs = here.pairs;
-    let fresh = here.fresh;
-    if at == end {
+    if at == here.end {
         if live == 0 {
             return Turn::Finished;
         }
@@ -72,18 +67,16 @@ pub fn step(
         starts,
         targets,
         table,
-        pairs,
+        here.pairs,
         group,
         limit,
         live,
         at,
     ) {
-        Moved::Went(place, used) => Turn::Went(Now {
-            live,
+        Moved::Went(place, used) => Turn::Went(Registers {
             at: place,
-            end,
             pairs: used,
-            fresh,
+            ..here
         }),
         Moved::Jump(place, home) => Turn::Went(jump(code, blocks, here, home, place)),
         Moved::Enter(back, link, body) => Turn::Went(enter(
@@ -107,42 +100,82 @@ pub fn step(
     }
 }
 
-// How a run has ended: how many activations are live, and the looked-up name's designator.
-pub struct Halt {
-    pub end: End,
-    pub steps: u32,
-    pub offset: usize,
-    pub live: usize,
-    pub pairs: usize,
-    pub designator: u32,
-}
-
-// A run that leaves activations live: the place of the innermost one's next statement is put with the others'.
-fn halted(
+// At the end of a run the name is looked up, and the place of the innermost activation's next statement is put with the others'.
+fn settle(
     nexts: &mut [u16; 256],
     firsts: &[u32; 256],
     starts: &[u16; 256],
     looked: &[u32; 256],
-    here: Now,
-    end: End,
-    steps: u32,
-    offset: usize,
-) -> Halt
+    here: Registers,
+) -> u32
     requires { ⌜ Lookable (now firsts) (now starts) (now looked) (here .live) × (here .at < 65536) ⌝ }
-    ensures { λ r. ⌜ r ≡ haltOf end steps offset here (lookedUp (now (firsts .entry)) (now (starts .entry)) (now (looked .entry)) (here .live)) ⌝ }
+    ensures { λ r. ⌜ r ≡ lookedUp (now (firsts .entry)) (now (starts .entry)) (now (looked .entry)) (here .live) ⌝ }
     ensures { λ _. ⌜ now (nexts .exit) ≡ set (now (nexts .entry)) (here .live) (here .at) ⌝ }
 {
-    let live = here.live;
-    let designator = looked_up(firsts, starts, looked, live);
-    set_next(nexts, live, here.at);
-    Halt {
-        end,
-        steps,
-        offset,
-        live: live + 1,
-        pairs: here.pairs,
-        designator,
+    let designator = looked_up(firsts, starts, looked, here.live);
+    set_next(nexts, here.live, here.at);
+    designator
+}
+
+// From any state in which the engine can stand, with new names for so many steps.
+pub fn run(
+    code: &[u32; 4096],
+    names: &[u32; 4096],
+    words: &mut [i32; 8224],
+    area: &mut [u32],
+    width: usize,
+    blocks: &mut [u16; 256],
+    nexts: &mut [u16; 256],
+    firsts: &mut [u32; 256],
+    starts: &mut [u16; 256],
+    targets: &mut [u16; 8224],
+    looked: &mut [u32; 256],
+    table: &mut [i32],
+    group: u32,
+    limit: usize,
+    allowance: u32,
+    start: Registers,
+) -> Halt
+    requires { ⌜ Ready (now code) (now names) limit group (now words) (now area) width (now blocks) (now nexts) (now firsts) (now starts)
+        (now targets) (now looked) (now table) start allowance ⌝ }
+    ensures { λ r.
+        ⌜ ((w : Running (now (code .entry)) (now (names .entry)) limit group (now (words .entry)) (now (area .entry)) width (now (blocks .entry)) (now (nexts .entry))
+        (now (firsts .entry)) (now (starts .entry)) (now (targets .entry)) (now (looked .entry)) (now (table .entry)) start)
+        → RunFrom w allowance r (now (words .exit)) (now (blocks .exit)) (now (nexts .exit)) (now (table .exit))) ⌝ }
+{
+    let mut here = start;
+    let mut left = allowance;
+    while 0 < left {
+        match step(
+            code,
+            names,
+            words,
+            area,
+            width,
+            blocks,
+            nexts,
+            firsts,
+            starts,
+            targets,
+            looked,
+            table,
+            group,
+            limit,
+            here,
+        ) {
+            Turn::Went(next) => {
+                here = next;
+                left -= 1;
+            }
+            Turn::Finished => return finished(here, allowance - left + 1),
+            Turn::Stopped(cause) => {
+                let halt = stopped(here, cause, allowance - left);
+                return named(halt, settle(nexts, firsts, starts, looked, here), 0);
+            }
+        }
     }
+    let halt = spent(here, allowance);
+    named(halt, settle(nexts, firsts, starts, looked, here), 0)
 }
 
 // The program's text is the first in the area: whatever the area held makes no difference.
@@ -173,7 +206,7 @@ pub fn run_program(
     let mut starts = [0u16; 256];
     let mut targets = [0u16; 8224];
     let mut looked = [0u32; 256];
-    let mut here = begin(
+    let start = begin(
         script,
         code,
         names,
@@ -183,63 +216,22 @@ pub fn run_program(
         &mut looked,
         pairs,
     );
-    let mut left = allowance;
-    while 0 < left {
-        match step(
-            code,
-            names,
-            words,
-            area,
-            width,
-            blocks,
-            nexts,
-            &mut firsts,
-            &mut starts,
-            &mut targets,
-            &mut looked,
-            table,
-            group,
-            limit,
-            here,
-        ) {
-            Turn::Went(next) => {
-                here = next;
-                left -= 1;
-            }
-            Turn::Finished => {
-                return Halt {
-                    end: End::Finished,
-                    steps: allowance - left + 1,
-                    offset: 0,
-                    live: 0,
-                    pairs: here.pairs,
-                    designator: 0,
-                };
-            }
-            Turn::Stopped(cause) => {
-                let done = allowance - left;
-                let place = 2 * here.at;
-                return halted(
-                    nexts,
-                    &firsts,
-                    &starts,
-                    &looked,
-                    here,
-                    End::Stopped(cause),
-                    done,
-                    place,
-                );
-            }
-        }
-    }
-    halted(
+    run(
+        code,
+        names,
+        words,
+        area,
+        width,
+        blocks,
         nexts,
-        &firsts,
-        &starts,
-        &looked,
-        here,
-        End::Spent,
+        &mut firsts,
+        &mut starts,
+        &mut targets,
+        &mut looked,
+        table,
+        group,
+        limit,
         allowance,
-        0,
+        start,
     )
 }

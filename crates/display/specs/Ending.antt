@@ -19,7 +19,7 @@ use Rattle.run_state.specs.declared.Turn.{Turn}
 use Rattle.run_state.specs.declared.Turn.the-variants.{Went, Finished, Stopped}
 use Rattle.run_state.specs.declared.Halt.{Halt}
 use Rattle.run_state.specs.Scenes.{limitsBy, goesTo}
-use Rattle.run_state.specs.Halts.{finishedAfter, spentAfter, stoppedAfter}
+use Rattle.run_state.specs.Halts.{finishedAfter, spentAfter, stoppedAfter, namedBy}
 use Rattle.run_state.specs.Ended.{RunFrom, from-start, finished-end, spent-end, stopped-end}
 use Rattle.moves.specs.Running.{Running, Looking, Placed}
 use Rattle.display.specs.Turning.{Arrays, arraysOf, Turned, Beginning, Ended, startBy}
@@ -55,18 +55,19 @@ module _ {code : List ℕ} {limit group : ℕ} {words : List ℤ} {blocks nexts 
 
   module _ (nexts′ : List ℕ) (noted : nexts′ ≡ set (a .nexts) (here .live) (here .at)) (designator : ℕ)
       (found : (v : Looking code (a .words) (a .blocks) (a .display) (here .live))
-      → designator ≡ designates (v .running .standing .stack .frames) (v .running .standing .name)) (r : Halt) where
+      → designator ≡ designates (v .running .standing .stack .frames) (v .running .standing .name)) (halt r : Halt)
+      (named : r ≡ namedBy halt designator 0) where
     abbrev Ends : Type 0
     Ends = RunFrom (w .standing) allowance r (a .words) (a .blocks) nexts′ (a .links) (a .table)
 
-    pub spent : left ≡ 0 → r ≡ spentAfter here allowance designator 0 → Ends
+    pub spent : left ≡ 0 → halt ≡ spentAfter here allowance → Ends
     unfolding looking
-    spent = spent-end here (u .running .standing) (u .underway) nexts′ noted designator (found looking) 0 r
+    spent = spent-end here (u .running .standing) (u .underway) nexts′ noted designator (found looking) 0 halt r named
 
     pub stopped : (c : Stop) → frameStep (limitsBy limit group) (u .running .standing .stack) ≡ halted c → 1 ≤ left
-        → r ≡ stoppedAfter here c (allowance - left) designator 0 → Ends
+        → halt ≡ stoppedAfter here c (allowance - left) → Ends
     unfolding looking
-    stopped = stopped-end here (u .running .standing) (u .underway) nexts′ noted designator (found looking) 0 r
+    stopped = stopped-end here (u .running .standing) (u .underway) nexts′ noted designator (found looking) 0 halt r named
 
   -- By what a step comes to
 

@@ -12,6 +12,7 @@ use run_state::Halt;
 use run_state::Registers;
 use run_state::Turn;
 use run_state::finished;
+use run_state::named;
 use run_state::spent;
 use run_state::stopped;
 use run_state::wide;
@@ -178,13 +179,13 @@ pub fn run(
             }
             Turn::Finished => return finished(here, allowance - left + 1),
             Turn::Stopped(cause) => {
-                let designator = settle(code, words, blocks, nexts, display, here);
-                return stopped(here, cause, allowance - left, designator, 0);
+                let halt = stopped(here, cause, allowance - left);
+                return named(halt, settle(code, words, blocks, nexts, display, here), 0);
             }
         }
     }
-    let designator = settle(code, words, blocks, nexts, display, here);
-    spent(here, allowance, designator, 0)
+    let halt = spent(here, allowance);
+    named(halt, settle(code, words, blocks, nexts, display, here), 0)
 }
 
 // Where the program begins.

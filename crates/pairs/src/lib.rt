@@ -128,7 +128,8 @@ pub fn remove_pair(table: &mut [i32], count: usize, group: i32, member: i32) -> 
         Search::BelowOne => Change::Stopped(Stop::NumberBelowOne),
         Search::Absent => Change::Done(count),
         Search::At(place) => {
-            take_out(table, count, place);
+            // No other place than `place`: so that the compiler does not carry what `take_out` needs of it through the search.
+            take_out(table, count, place % 9223372036854775808);
             Change::Done(count - 1)
         }
     }

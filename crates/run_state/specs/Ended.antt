@@ -15,7 +15,7 @@ use Rattle.steps.specs.Standing.{Standing}
 use Rattle.steps.specs.Underway as steps
 use Rattle.run_state.specs.declared.Registers.{Registers}
 use Rattle.run_state.specs.declared.Halt.{Halt}
-use Rattle.run_state.specs.Halts.{finishedAfter, spentAfter, stoppedAfter}
+use Rattle.run_state.specs.Halts.{finishedAfter, spentAfter, stoppedAfter, namedBy}
 
 abbrev pub EndedFrom : ℕ → Block → ℕ → Limits → Result → Halt → List ℤ → List ℕ → List ℕ → List ℕ → List ℤ → Type 0
 EndedFrom done program name l result r words blocks nexts links table =
@@ -46,19 +46,18 @@ module _ {done : ℕ} {program : Block} {name allowance : ℕ} {result : Result}
 
   -- activations are left live: the place of the innermost one is put with the others, and the name is looked up
   module _ (nexts′ : List ℕ) (noted : nexts′ ≡ set nexts (here .live) (here .at)) (designator : ℕ) (found : designator ≡ designates (w .stack .frames) (w .name))
-      (counted : ℕ) (r : Halt) where
+      (counted : ℕ) (halt r : Halt) (named : r ≡ namedBy halt designator counted) where
     abbrev Ends : Halt → List ℕ → Type 0
     Ends h ns = EndedFrom done program name l result h words blocks ns links table
 
-    reports : (h : Halt) → r ≡ h → Ends h (set nexts (here .live) (here .at)) → Ends r nexts′
-    reports h is = subst (λ (T : Type 0). T) (λ i. Ends (sym is i) (sym noted i))
+    reports : (h : Halt) → halt ≡ h → Ends (namedBy h designator counted) (set nexts (here .live) (here .at)) → Ends r nexts′
+    reports h is = subst (λ (T : Type 0). T) (λ i. Ends (sym (named ∙ ap (λ (x : Halt). namedBy x designator counted) is) i) (sym noted i))
 
-    pub spent-end : left ≡ 0 → r ≡ spentAfter here allowance designator counted → Ends r nexts′
-    spent-end z is = reports (spentAfter here allowance designator counted) is (steps.spent w u z sound designator found)
+    pub spent-end : left ≡ 0 → halt ≡ spentAfter here allowance → Ends r nexts′
+    spent-end z is = reports (spentAfter here allowance) is (steps.spent w u z sound designator found)
 
-    pub stopped-end : (c : Stop) → frameStep l (w .stack) ≡ halted c → 1 ≤ left → r ≡ stoppedAfter here c (allowance - left) designator counted → Ends r nexts′
-    stopped-end c stop more is =
-        reports (stoppedAfter here c (allowance - left) designator counted) is (steps.stopped w u c stop more sound designator found)
+    pub stopped-end : (c : Stop) → frameStep l (w .stack) ≡ halted c → 1 ≤ left → halt ≡ stoppedAfter here c (allowance - left) → Ends r nexts′
+    stopped-end c stop more is = reports (stoppedAfter here c (allowance - left)) is (steps.stopped w u c stop more sound designator found)
 
   pub finished-end : here .at ≡ here .end → here .live ≡ 0 → 1 ≤ left → (words′ : List ℤ) (blocks′ nexts′ links′ : List ℕ) (table′ : List ℤ)
       → words′ ≡ words → table′ ≡ table → (r : Halt) → r ≡ finishedAfter here (allowance - left + 1)

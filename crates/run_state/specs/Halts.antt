@@ -1,4 +1,5 @@
--- How a run ends, after so many steps: the program is left, no step is left, or the next statement has a cause to stop.
+-- How a run ends, after so many steps: the program is left, no step is left, or the next statement has a cause to stop. Where activations are left live
+-- a name is looked up: `namedBy`.
 use Prim.Native.Nat.{ℕ, _+_, _*_}
 use Rattle.language.specs.declared.Stop.{Stop}
 use Rattle.language.specs.declared.End.{End}
@@ -10,13 +11,24 @@ abbrev pub finishedAfter : Registers → ℕ → Halt
 finishedAfter here steps =
     record { end = Finished; steps = steps; offset = 0; live = 0; pairs = here .pairs; designator = 0; links = 0 }
 
--- activations are left live, and the name is looked up in the innermost one
-abbrev pub haltOf : Registers → End → ℕ → ℕ → ℕ → ℕ → Halt
-haltOf here end steps offset designator links =
-    record { end = end; steps = steps; offset = offset; live = here .live + 1; pairs = here .pairs; designator = designator; links = links }
+abbrev pub haltOf : Registers → End → ℕ → ℕ → Halt
+haltOf here end steps offset =
+    record { end = end; steps = steps; offset = offset; live = here .live + 1; pairs = here .pairs; designator = 0; links = 0 }
 
-abbrev pub spentAfter : Registers → ℕ → ℕ → ℕ → Halt
-spentAfter here steps designator links = haltOf here Spent steps 0 designator links
+abbrev pub spentAfter : Registers → ℕ → Halt
+spentAfter here steps = haltOf here Spent steps 0
 
-abbrev pub stoppedAfter : Registers → Stop → ℕ → ℕ → ℕ → Halt
-stoppedAfter here cause steps designator links = haltOf here (Stopped cause) steps (2 * here .at) designator links
+abbrev pub stoppedAfter : Registers → Stop → ℕ → Halt
+stoppedAfter here cause steps = haltOf here (Stopped cause) steps (2 * here .at)
+
+abbrev pub namedBy : Halt → ℕ → ℕ → Halt
+namedBy h designator links =
+    record {
+      end = h .end;
+      steps = h .steps;
+      offset = h .offset;
+      live = h .live;
+      pairs = h .pairs;
+      designator = designator;
+      links = links;
+    }

@@ -3,7 +3,7 @@ use language::End;
 use language::Stop;
 ghost use mathlib.Core.Path.{_≡_};
 ghost use Prim.Native.Nat.{_<_, _≤_, _^_};
-ghost use Rattle.run_state.specs.Halts.{finishedAfter, spentAfter, stoppedAfter};
+ghost use Rattle.run_state.specs.Halts.{finishedAfter, spentAfter, stoppedAfter, namedBy};
 
 // The innermost activation, the place of its next statement, where its text ends, the pairs in use. The level of the innermost block is kept by
 // the static-chain engine, and the new name to be given out next by the copying one; the others leave them at 0.
@@ -50,9 +50,9 @@ pub fn finished(here: Registers, steps: u32) -> Halt
 }
 
 // No step is left.
-pub fn spent(here: Registers, steps: u32, designator: u32, links: u32) -> Halt
+pub fn spent(here: Registers, steps: u32) -> Halt
     requires { ⌜ here .live < 256 ⌝ }
-    ensures { λ r. ⌜ r ≡ spentAfter here steps designator links ⌝ }
+    ensures { λ r. ⌜ r ≡ spentAfter here steps ⌝ }
 {
     Halt {
         end: End::Spent,
@@ -60,15 +60,15 @@ pub fn spent(here: Registers, steps: u32, designator: u32, links: u32) -> Halt
         offset: 0,
         live: here.live + 1,
         pairs: here.pairs,
-        designator,
-        links,
+        designator: 0,
+        links: 0,
     }
 }
 
 // The next statement has a cause to stop.
-pub fn stopped(here: Registers, cause: Stop, steps: u32, designator: u32, links: u32) -> Halt
+pub fn stopped(here: Registers, cause: Stop, steps: u32) -> Halt
     requires { ⌜ (here .live < 256) × (here .at ≤ 4096) ⌝ }
-    ensures { λ r. ⌜ r ≡ stoppedAfter here cause steps designator links ⌝ }
+    ensures { λ r. ⌜ r ≡ stoppedAfter here cause steps ⌝ }
 {
     Halt {
         end: End::Stopped(cause),
@@ -76,8 +76,19 @@ pub fn stopped(here: Registers, cause: Stop, steps: u32, designator: u32, links:
         offset: 2 * here.at,
         live: here.live + 1,
         pairs: here.pairs,
+        designator: 0,
+        links: 0,
+    }
+}
+
+// Activations are left live: the name that was looked up in the innermost one.
+pub fn named(halt: Halt, designator: u32, links: u32) -> Halt
+    ensures { λ r. ⌜ r ≡ namedBy halt designator links ⌝ }
+{
+    Halt {
         designator,
         links,
+        ..halt
     }
 }
 

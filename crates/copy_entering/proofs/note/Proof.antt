@@ -27,8 +27,8 @@ mul-blocks c = search needs
 element-write-blocks : tie.Need-element-write-blocks
 element-write-blocks c = search needs
 
-narrow-name-requires : tie.Need-narrow-name-requires
-narrow-name-requires c κs = search needs
+narrow-u32-requires : tie.Need-narrow-u32-requires
+narrow-u32-requires c κs = search needs
 
 mul-firsts : tie.Need-mul-firsts
 mul-firsts c = search needs
@@ -61,7 +61,7 @@ returns c =
     record {
       nexts-are = ap (set (s .nexts .now) (s .here .live)) (n .narrow .ensures);
       blocks-are = ap (set (s .blocks .now) live) (b .narrow2 .ensures);
-      firsts-are = ap (set (s .firsts .now) live) (f .narrow-name .ensures);
+      firsts-are = ap (set (s .firsts .now) live) (f .narrow-u32 .ensures);
       starts-are = ap (set (s .starts .now) live) (c .narrow3 .ensures);
     }
 
@@ -76,7 +76,7 @@ note-spec =
     narrow-requires-2
     mul-blocks
     element-write-blocks
-    narrow-name-requires
+    narrow-u32-requires
     mul-firsts
     element-write-firsts
     mul-narrow

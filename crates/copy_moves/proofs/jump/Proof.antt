@@ -7,7 +7,7 @@ returns : tie.Need-returns
 returns c =
     let s = c .before .before in
     let end = s .pre .2 (c .if1 .taken) in
-    λ i. record { live = s .args .home; at = s .args .at; end = end i; pairs = s .args .here .pairs; fresh = s .args .here .fresh }
+    λ i. record { live = s .args .home; at = s .args .at; end = end i; pairs = s .args .here .pairs; level = s .args .here .level; fresh = s .args .here .fresh }
 
 resume-requires : tie.Need-resume-requires
 resume-requires c κs = search needs

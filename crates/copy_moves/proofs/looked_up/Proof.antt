@@ -6,26 +6,26 @@ use borrow.Author.Needs.{needs}
 use Rattle.copy_moves.proofs.looked_up.Statement.{statement}
 use Rattle.copy_moves.proofs.looked_up.Tie as tie
 
-mul-wide-name : tie.Need-mul-wide-name
-mul-wide-name c = search needs
+mul-wide-u32 : tie.Need-mul-wide-u32
+mul-wide-u32 c = search needs
 
-element-copy-out-wide-name : tie.Need-element-copy-out-wide-name
-element-copy-out-wide-name c = search needs
+element-copy-out-wide-u32 : tie.Need-element-copy-out-wide-u32
+element-copy-out-wide-u32 c = search needs
 
-wide-name-requires : tie.Need-wide-name-requires
-wide-name-requires c κs = search needs
+wide-u32-requires : tie.Need-wide-u32-requires
+wide-u32-requires c κs = search needs
 
 returns : tie.Need-returns
 returns c =
     let w = c .before in
     let s = w .before .before .args in
-    looked-none (s .firsts .now) (s .starts .now) (s .looked .now) (s .live) (sym (w .wide-name .ensures) ∙ omega arith)
+    looked-none (s .firsts .now) (s .starts .now) (s .looked .now) (s .live) (sym (w .wide-u32 .ensures .0) ∙ omega arith)
 
 cell-of-requires : tie.Need-cell-of-requires
 cell-of-requires c κs =
     let w = c .before in
     let s = w .before .before in
-    let there = cell-there (s .args .firsts .now) (s .args .starts .now) (s .args .looked .now) (s .args .live) (w .wide-name .result) (w .wide-name .ensures)
+    let there = cell-there (s .args .firsts .now) (s .args .starts .now) (s .args .looked .now) (s .args .live) (w .wide-u32 .result) (w .wide-u32 .ensures .0)
     (λ z. omega arith) (s .pre) in
     (s .pre .few, s .pre .sorted, there .0, there .1)
 
@@ -33,7 +33,7 @@ designator-of-requires : tie.Need-designator-of-requires
 designator-of-requires c κs =
     let w = c .before .before in
     let s = w .before .before in
-    let there = cell-there (s .args .firsts .now) (s .args .starts .now) (s .args .looked .now) (s .args .live) (w .wide-name .result) (w .wide-name .ensures)
+    let there = cell-there (s .args .firsts .now) (s .args .starts .now) (s .args .looked .now) (s .args .live) (w .wide-u32 .result) (w .wide-u32 .ensures .0)
     (λ z. omega arith) (s .pre) in
     omega arith
 
@@ -42,16 +42,16 @@ returns-2 c =
     let f = c .before in
     let w = f .before .before in
     let s = w .before .before .args in
-    looked-cell (s .firsts .now) (s .starts .now) (s .looked .now) (s .live) (w .wide-name .result) (w .wide-name .ensures) (λ z. omega arith)
+    looked-cell (s .firsts .now) (s .starts .now) (s .looked .now) (s .live) (w .wide-u32 .result) (w .wide-u32 .ensures .0) (λ z. omega arith)
     (f .cell-of .result) (c .designator-of .result) (f .cell-of .ensures) (c .designator-of .ensures .0)
 
 pub looked-up-spec : {M : Type 1} → statement M
 looked-up-spec =
     tie.close
     (tie.spec
-    mul-wide-name
-    element-copy-out-wide-name
-    wide-name-requires
+    mul-wide-u32
+    element-copy-out-wide-u32
+    wide-u32-requires
     returns
     cell-of-requires
     designator-of-requires

@@ -27,7 +27,7 @@ returns c =
     let s = w .before .before .args in
     let end : c .code-at .result % 65536 ≡ getD (s .code .now) (getD (s .blocks .now) (s .home) 0 + 1) 0 % 65536 =
     ap (λ (x : ℕ). x % 65536) (c .code-at .ensures .0 ∙ ap (λ (x : ℕ). getD (s .code .now) (x + 1) 0) (w .wide .ensures .0)) in
-    λ i. record { live = s .home; at = s .at; end = end i; pairs = s .here .pairs; fresh = s .here .fresh }
+    λ i. record { live = s .home; at = s .at; end = end i; pairs = s .here .pairs; level = s .here .level; fresh = s .here .fresh }
 
 pub resume-spec : {M : Type 1} → statement M
 resume-spec =

@@ -1,10 +1,10 @@
 -- `act` meets its contract: each mark's function does what `doing` has for the mark.
 use Prim.Native.Nat.{ℕ}
 use native.Mathlib.Omega.{arith}
-use mathlib.Core.Path.{_≡_, refl, ap}
-use Rattle.acting.specs.Acting.{Scene}
+use mathlib.Core.Path.{_≡_, ap}
+use Rattle.acting.specs.Acting.{Scene, sceneBy}
 use Rattle.copy_statements.specs.Doing.{Copy, text, arithmetic, branch, constant, call, goto, block, pair, unpair, query, markOf, doing}
-use Rattle.copy_statements.specs.Scenes.{copyBy, sceneBy}
+use Rattle.copy_statements.specs.Scenes.{copyBy}
 use Rattle.copy_statements.specs.Moved.{came}
 use borrow.Author.Needs.{needs}
 use Rattle.copy_statements.proofs.Asks.{arithmetic-asks, branch-asks, constant-asks, call-asks, goto-asks, block-asks, pair-asks, unpair-asks, query-asks}
@@ -17,8 +17,7 @@ abbrev copy : tie.Start → Copy
 copy s = copyBy (s .args .area .now) (s .args .base) (s .args .firsts .now) (s .args .starts .now) (s .args .targets .now)
 
 abbrev scene : tie.Start → Scene
-scene s = sceneBy (s .args .code .now) (s .args .words .now) (s .args .table .now) (s .args .pairs) (s .args .group) (s .args .limit)
-    (s .args .live) (s .args .at)
+scene s = sceneBy (s .args .code .now) (s .args .words .now) (s .args .limit) (s .args .live) (s .args .at)
 
 abbrev startOf : tie.After-field → tie.Start
 startOf c = c .before .before
@@ -98,30 +97,39 @@ do-block-requires c κs =
 came-to-requires-6 : tie.Need-came-to-requires-6
 came-to-requires-6 c κs = search needs
 
-do-add-pair-requires : tie.Need-do-add-pair-requires
+do-change-requires : tie.Need-do-change-requires
 unfolding markOf
-do-add-pair-requires c κs =
-    let s = startOf (c .before .before .before) in
-    pair-asks (copy s) (scene s) (s .pre) (mark (c .before .before .before) (c .before .before .match .keys7))
+do-change-requires c κs =
+    let s = startOf (c .before) in
+    pair-asks (copy s) (scene s) (s .pre) (mark (c .before) (c .match .keys7))
 
-do-remove-pair-requires : tie.Need-do-remove-pair-requires
+came-to-requires-7 : tie.Need-came-to-requires-7
+came-to-requires-7 c κs = search needs
+
+do-change-requires-2 : tie.Need-do-change-requires-2
 unfolding markOf
-do-remove-pair-requires c κs =
-    let s = startOf (c .before .before .before) in
-    unpair-asks (copy s) (scene s) (s .pre) (mark (c .before .before .before) (c .before .before .match .keys8))
+do-change-requires-2 c κs =
+    let s = startOf (c .before) in
+    unpair-asks (copy s) (scene s) (s .pre) (mark (c .before) (c .match .keys8))
+
+came-to-requires-8 : tie.Need-came-to-requires-8
+came-to-requires-8 c κs = search needs
 
 do-query-requires : tie.Need-do-query-requires
 unfolding markOf
 do-query-requires c κs =
-    let s = startOf (c .before .before .before) in
-    query-asks (copy s) (scene s) (s .pre) (other (c .before .before))
+    let s = startOf (c .before) in
+    query-asks (copy s) (scene s) (s .pre) (other c)
+
+came-to-requires-9 : tie.Need-came-to-requires-9
+came-to-requires-9 c κs = search needs
 
 returns : tie.Need-returns
 unfolding markOf
 returns c =
     let d = c .before in
     let s = startOf (d .before .before .before) in
-    came (s .args .pairs) (doing (copy s) (scene s)) (c .came-to .ensures)
+    came (doing (copy s) (scene s)) (c .came-to .ensures)
     (acted (copy s) (scene s) arithmetic (mark (d .before .before .before) (d .before .before .match .keys1))
     (arithmetic-acts (copy s) (scene s) (d .do-arithmetic .ensures .0) (d .do-arithmetic .ensures .1)))
 
@@ -130,7 +138,7 @@ unfolding markOf
 returns-2 c =
     let d = c .before in
     let s = startOf (d .before .before .before) in
-    came (s .args .pairs) (doing (copy s) (scene s)) (c .came-to2 .ensures)
+    came (doing (copy s) (scene s)) (c .came-to2 .ensures)
     (acted (copy s) (scene s) branch (mark (d .before .before .before) (d .before .before .match .keys2))
     (branch-acts (copy s) (scene s) (d .do-branch .ensures)))
 
@@ -139,7 +147,7 @@ unfolding markOf
 returns-3 c =
     let d = c .before in
     let s = startOf (d .before .before .before) in
-    came (s .args .pairs) (doing (copy s) (scene s)) (c .came-to3 .ensures)
+    came (doing (copy s) (scene s)) (c .came-to3 .ensures)
     (acted (copy s) (scene s) constant (mark (d .before .before .before) (d .before .before .match .keys3))
     (constant-acts (copy s) (scene s) (d .do-constant .ensures .0) (d .do-constant .ensures .1)))
 
@@ -148,7 +156,7 @@ unfolding markOf
 returns-4 c =
     let d = c .before in
     let s = startOf (d .before .before .before) in
-    came (s .args .pairs) (doing (copy s) (scene s)) (c .came-to4 .ensures)
+    came (doing (copy s) (scene s)) (c .came-to4 .ensures)
     (acted (copy s) (scene s) call (mark (d .before .before .before) (d .before .before .match .keys4))
     (call-acts (copy s) (scene s) (d .do-call .ensures .0) (d .do-call .ensures .1)))
 
@@ -157,7 +165,7 @@ unfolding markOf
 returns-5 c =
     let d = c .before in
     let s = startOf (d .before .before) in
-    came (s .args .pairs) (doing (copy s) (scene s)) (c .came-to5 .ensures)
+    came (doing (copy s) (scene s)) (c .came-to5 .ensures)
     (acted (copy s) (scene s) goto (mark (d .before .before) (d .before .match .keys5))
     (goto-acts (copy s) (scene s) (d .do-goto .ensures)))
 
@@ -166,41 +174,33 @@ unfolding markOf
 returns-6 c =
     let d = c .before in
     let s = startOf (d .before .before) in
-    came (s .args .pairs) (doing (copy s) (scene s)) (c .came-to6 .ensures)
+    came (doing (copy s) (scene s)) (c .came-to6 .ensures)
     (acted (copy s) (scene s) block (mark (d .before .before) (d .before .match .keys6))
     (block-acts (copy s) (scene s) (d .do-block .ensures)))
-
-same-length : tie.Need-same-length
-same-length c = c .before .do-add-pair .kept .1 .1 .1 .1 .0
 
 returns-7 : tie.Need-returns-7
 unfolding markOf
 returns-7 c =
-    let m = c .before .before .before .before in
-    let s = startOf (m .before) in
-    came (s .args .pairs) (doing (copy s) (scene s)) (c .before .do-add-pair .ensures .0)
-    (acted (copy s) (scene s) pair (mark (m .before) (m .match .keys7)) (pair-acts (copy s) (scene s) refl (c .before .do-add-pair .ensures .1)))
-
-same-length-2 : tie.Need-same-length-2
-same-length-2 c = c .before .do-remove-pair .kept .1 .1 .1 .1 .0
+    let d = c .before in
+    let s = startOf (d .before .before) in
+    came (doing (copy s) (scene s)) (c .came-to7 .ensures)
+    (acted (copy s) (scene s) pair (mark (d .before .before) (d .before .match .keys7)) (pair-acts (copy s) (scene s) (d .do-change .ensures)))
 
 returns-8 : tie.Need-returns-8
 unfolding markOf
 returns-8 c =
-    let m = c .before .before .before .before in
-    let s = startOf (m .before) in
-    came (s .args .pairs) (doing (copy s) (scene s)) (c .before .do-remove-pair .ensures .0)
-    (acted (copy s) (scene s) unpair (mark (m .before) (m .match .keys8)) (unpair-acts (copy s) (scene s) refl (c .before .do-remove-pair .ensures .1)))
-
-same-length-3 : tie.Need-same-length-3
-same-length-3 c = refl
+    let d = c .before in
+    let s = startOf (d .before .before) in
+    came (doing (copy s) (scene s)) (c .came-to8 .ensures)
+    (acted (copy s) (scene s) unpair (mark (d .before .before) (d .before .match .keys8)) (unpair-acts (copy s) (scene s) (d .do-change2 .ensures)))
 
 returns-9 : tie.Need-returns-9
 unfolding markOf
 returns-9 c =
-    let s = startOf (c .before .before .before .before) in
-    came (s .args .pairs) (doing (copy s) (scene s)) (c .do-query .ensures .0)
-    (acted (copy s) (scene s) query (other (c .before .before .before)) (query-acts (copy s) (scene s) refl (c .do-query .ensures .1)))
+    let d = c .before in
+    let s = startOf (d .before .before) in
+    came (doing (copy s) (scene s)) (c .came-to9 .ensures)
+    (acted (copy s) (scene s) query (other (d .before)) (query-acts (copy s) (scene s) (d .do-query .ensures)))
 
 pub act-spec : {M : Type 1} → statement M
 act-spec =
@@ -221,18 +221,18 @@ act-spec =
     came-to-requires-5
     do-block-requires
     came-to-requires-6
-    do-add-pair-requires
-    do-remove-pair-requires
+    do-change-requires
+    came-to-requires-7
+    do-change-requires-2
+    came-to-requires-8
     do-query-requires
+    came-to-requires-9
     returns
     returns-2
     returns-3
     returns-4
     returns-5
     returns-6
-    same-length
     returns-7
-    same-length-2
     returns-8
-    same-length-3
     returns-9)

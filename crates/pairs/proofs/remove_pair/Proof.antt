@@ -1,11 +1,13 @@
 -- `remove_pair` meets its contract: each outcome of the search is a case of the definition.
+use Prim.Native.Nat.{ℕ, _%_, _/_, _<_, min}
 use mathlib.Core.Path.{_≡_, sym, _∙_, ap}
+use lib.ListN.{length}
 use native.Mathlib.Omega.{arith}
 use borrow.Author.Needs.{needs}
-use Rattle.language.specs.Table.{Table}
+use Rattle.language.specs.Table.{Table, takeOut}
 use Rattle.pairs.specs.Outcomes.{tableOf, changeOf, wordsAfter}
 use Rattle.pairs.specs.declared.Search.{Search}
-use Rattle.searching.proofs.Pairs.{find-below}
+use Rattle.searching.proofs.Pairs.{find-clamped, find-below}
 use Rattle.pairs.proofs.Statements.{search-read, Says, says, removed-below, removed-absent, removed-found, one-fewer}
 use Rattle.pairs.proofs.remove_pair.Statement.{statement}
 use Rattle.pairs.proofs.remove_pair.Tie as tie
@@ -81,7 +83,11 @@ returns-3 c =
     let s = startOf k in
     let h = known k _ (f .found .given .1) in
     let e = removed-found (s .args .group) (s .args .member) (lent s) (h .0) (h .1) in
-    (rw one-fewer (sym (ap changeOf e)), c .before .take-out .ensures ∙ sym (ap (wordsAfter (s .args .table .now)) e))
+    let place = f .found .given .0 .0 in
+    let short : place < min (s .args .count) (length (s .args .table .now) / 2) =
+    find-below _ _ _ _ place (find-clamped (s .args .group) (s .args .member) (s .args .count) (s .args .table .now) ∙ h .1) in
+    let same : place % 9223372036854775808 ≡ place = omega (arith, short, s .good .0 .0) in
+    (rw one-fewer (sym (ap changeOf e)), c .before .take-out .ensures ∙ ap (λ (p : ℕ). takeOut p (s .args .count) (s .args .table .now)) same ∙ sym (ap (wordsAfter (s .args .table .now)) e))
 
 pub remove-pair-spec : {M : Type 1} → statement M
 remove-pair-spec =

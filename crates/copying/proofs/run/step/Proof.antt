@@ -3,7 +3,8 @@ use mathlib.Core.List.{List}
 use mathlib.Core.Path.{refl}
 use lib.IntN.{ℤ}
 use Rattle.copying.specs.Here.{ready-here}
-use Rattle.copying.specs.Turns.{above-zero, leave-ready, left-on, base-within, went-on, jump-ready, jumped-on, enter-ready, entered-on, stopped-at}
+use Rattle.run_state.specs.Turns.{above-zero}
+use Rattle.copying.specs.Turns.{leave-ready, left-on, base-within, went-on, jump-ready, jumped-on, enter-ready, entered-on, stopped-at}
 use borrow.Author.Needs.{needs}
 use Rattle.copying.proofs.run.step.Statement.{statement}
 use Rattle.copying.proofs.run.step.Tie as tie
@@ -18,8 +19,15 @@ elseAt c = (lentOf c) .before .before .before
 abbrev elseOf : tie.After-act → tie.Else1
 elseOf a = elseAt (a .before)
 
+abbrev entryOf : tie.Else1 → tie.Start
+entryOf e = e .before .before .before
+
 abbrev startOf : tie.After-act → tie.Start
-startOf a = (elseOf a) .before .before
+startOf a = entryOf (elseOf a)
+
+-- the start, from where there is an activation below
+abbrev startAt : tie.Else2 → tie.Start
+startAt e = let first = e .before .before in first .before .before
 
 abbrev wordsOf : tie.After-act → List ℤ
 wordsOf a = a .act .last .1 .0
@@ -38,28 +46,28 @@ abbrev bodyOf : tie.After-enter-arg8 → tie.After-back
 bodyOf c = (toldOf (halfOf c)) .before
 
 returns : tie.Need-returns
-returns c = λ w. (c .before .if1 .taken, c .if2 .taken, refl, refl)
+returns c = λ w. record { ended = c .before .if1 .taken; alone = c .if2 .taken; same-words = refl; same-table = refl }
 
 leave-requires : tie.Need-leave-requires
 leave-requires c κs =
     let e = c .before .before in
-    let s = e .before .before .before in
-    leave-ready (s .pre .0) (above-zero (s .args .here .live) (e .if2 .left))
+    let s = startAt e in
+    leave-ready (s .pre .running) (above-zero (s .args .here .live) (e .if2 .left))
 
 returns-2 : tie.Need-returns-2
 returns-2 c =
     let e = c .before .before .before in
-    λ w. left-on w (e .before .if1 .taken) (above-zero (e .before .before .before .args .here .live) (e .if2 .left)) (c .leave .result) (c .leave .ensures)
+    λ w. left-on w (e .before .if1 .taken) (above-zero ((startAt e) .args .here .live) (e .if2 .left)) (c .leave .result) (c .leave .ensures)
 
 mul-base : tie.Need-mul-base
 mul-base c =
-    let within = base-within (c .before .before .pre .0) in
+    let within = base-within ((entryOf c) .pre .running) in
     search needs
 
 act-requires : tie.Need-act-requires
 act-requires c κs =
     let e = elseAt c in
-    ready-here (e .before .before .pre .0) (e .if1 .left)
+    ready-here ((entryOf e) .pre .running) (e .if1 .left)
 
 enum-known-place : tie.Need-enum-known-place
 enum-known-place c = search needs
@@ -71,7 +79,7 @@ jump-requires : tie.Need-jump-requires
 jump-requires c κs =
     let h = c .before .before in
     let a = h .before .before .before in
-    jump-ready ((startOf a) .pre .0) ((elseOf a) .if1 .left) (a .act .result) (wordsOf a) (tableOf a) (a .act .ensures) (h .place2 .given .0 .1 .0)
+    jump-ready ((startOf a) .pre .running) ((elseOf a) .if1 .left) (a .act .result) (wordsOf a) (tableOf a) (a .act .ensures) (h .place2 .given .0 .1 .0)
     (h .place2 .given .0 .0) (h .place2 .given .1)
 
 enum-known-back : tie.Need-enum-known-back
@@ -81,7 +89,7 @@ enter-requires : tie.Need-enter-requires
 enter-requires c κs =
     let b = bodyOf c in
     let a = b .before .before .before in
-    enter-ready ((startOf a) .pre .0) ((elseOf a) .if1 .left) (a .act .result) (wordsOf a) (tableOf a) (a .act .ensures) ((startOf a) .pre .1)
+    enter-ready ((startOf a) .pre .running) ((elseOf a) .if1 .left) (a .act .result) (wordsOf a) (tableOf a) (a .act .ensures) ((startOf a) .pre .names-left)
     (b .back .given .0 .1 .1 .0) (b .back .given .0 .1 .0) (b .back .given .0 .0) (b .back .given .1)
 
 enum-known-cause : tie.Need-enum-known-cause
@@ -140,9 +148,7 @@ returns-6 : tie.Need-returns-6
 returns-6 c =
     let k = c .before in
     let a = k .before .before .before in
-    λ w.
-    let m = stopped-at w ((elseOf a) .if1 .left) (a .act .result) (wordsOf a) (tableOf a) (a .act .ensures) (k .cause .given .0 .0) (k .cause .given .1) in
-    (m .0, m .1, refl, refl, refl, refl, refl, refl, refl, m .2)
+    λ w. stopped-at w ((elseOf a) .if1 .left) (a .act .result) (wordsOf a) (tableOf a) (a .act .ensures) (k .cause .given .0 .0) (k .cause .given .1)
 
 pub step-spec : {M : Type 1} → statement M
 step-spec =

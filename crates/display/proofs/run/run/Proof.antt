@@ -39,15 +39,21 @@ wentOf c = c .before .before .before .before
 abbrev finishedOf : tie.After-enum-told Inv-loop μ-loop → tie.After-step Inv-loop μ-loop
 finishedOf c = c .before .before .before
 
-abbrev causeOf : tie.After-settle-arg4 Inv-loop μ-loop → tie.After-cause Inv-loop μ-loop
-causeOf c = let second = c .before .before in second .before .before .before
+abbrev haltOf : tie.After-settle-arg4 Inv-loop μ-loop → tie.After-stopped Inv-loop μ-loop
+haltOf c = c .before .before .before .before
+
+abbrev causeOf : tie.After-stopped Inv-loop μ-loop → tie.After-cause Inv-loop μ-loop
+causeOf c = c .before .before
 
 abbrev stoppedOf : tie.After-cause Inv-loop μ-loop → tie.After-step Inv-loop μ-loop
 stoppedOf c = c .before .before .before
 
 -- the loop's end
-abbrev doneOf : tie.After-settle-arg8 Inv-loop μ-loop → tie.After-loop Inv-loop μ-loop
-doneOf c = c .before .before .before .before
+abbrev spentOf : tie.After-settle-arg8 Inv-loop μ-loop → tie.After-spent Inv-loop μ-loop
+spentOf c = c .before .before .before .before
+
+abbrev doneOf : tie.After-spent Inv-loop μ-loop → tie.After-loop Inv-loop μ-loop
+doneOf c = c .before
 
 -- what a step leaves, and how far the run had come before it
 abbrev leftBy : tie.After-step Inv-loop μ-loop → Arrays
@@ -117,53 +123,61 @@ returns c =
 enum-known-cause : tie.Need-enum-known-cause Inv-loop μ-loop
 enum-known-cause c = search needs
 
+sub-stopped : tie.Need-sub-stopped Inv-loop μ-loop
+sub-stopped c = few-left (going (loopAt (stoppedOf (c .before))))
+
+stopped-requires : tie.Need-stopped-requires Inv-loop μ-loop
+stopped-requires c κs =
+    let p = placed (going (loopAt (stoppedOf (c .before)))) in
+    (p .live, p .at)
+
 settle-requires : tie.Need-settle-requires Inv-loop μ-loop
 settle-requires c κs =
-    let k = causeOf c in
+    let k = causeOf (haltOf c) in
     let o = stoppedOf k in
     let u = going (loopAt o) in
     (looking ((stays u (leftBy o) (o .step .result) (o .step .ensures (u .running)) (k .cause .given .0 .0) (k .cause .given .1)) .0), placed u)
 
-sub-stopped : tie.Need-sub-stopped Inv-loop μ-loop
-sub-stopped c = few-left (going (loopAt (stoppedOf (causeOf (c .before)))))
-
-stopped-requires : tie.Need-stopped-requires Inv-loop μ-loop
-stopped-requires c κs =
-    let p = placed (going (loopAt (stoppedOf (causeOf (c .before))))) in
-    (p .live, p .at)
+named-requires : tie.Need-named-requires Inv-loop μ-loop
+named-requires c κs = search needs
 
 same-length-2 : tie.Need-same-length-2 Inv-loop μ-loop
-same-length-2 c = table-kept (stoppedOf (causeOf (c .before .before)))
+same-length-2 c = table-kept (stoppedOf (causeOf (haltOf (c .before .before))))
 
 returns-2 : tie.Need-returns-2 Inv-loop μ-loop
 returns-2 c =
     let e = c .before in
-    let k = causeOf (e .before) in
+    let h = haltOf (e .before) in
+    let k = causeOf h in
     let o = stoppedOf k in
     λ w.
     let u = (loopAt o) .loop .inv .0 w in
     let v = stays u (leftBy o) (o .step .result) (o .step .ensures (u .running)) (k .cause .given .0 .0) (k .cause .given .1) in
-    stopped (v .0) (e .settle .last .1 .1 .1 .0) (e .settle .ensures .1) (e .settle .result) (e .settle .ensures .0) (c .stopped .result)
-    (k .cause .given .0 .0) (v .1) ((turnOf o) .loop-test .taken) (c .stopped .ensures)
+    stopped (v .0) (e .settle .last .1 .1 .1 .0) (e .settle .ensures .1) (e .settle .result) (e .settle .ensures .0) (h .stopped .result) (c .named .result)
+    (c .named .ensures) (k .cause .given .0 .0) (v .1) ((turnOf o) .loop-test .taken) (h .stopped .ensures)
+
+spent-requires : tie.Need-spent-requires Inv-loop μ-loop
+spent-requires c κs = (placed (going (c .before))) .live
 
 settle-requires-2 : tie.Need-settle-requires-2 Inv-loop μ-loop
 settle-requires-2 c κs =
-    let u = going ((doneOf c) .before) in
+    let u = going ((doneOf (spentOf c)) .before) in
     (looking u, placed u)
 
-spent-requires : tie.Need-spent-requires Inv-loop μ-loop
-spent-requires c κs = (placed (going ((doneOf (c .before)) .before))) .live
+named-requires-2 : tie.Need-named-requires-2 Inv-loop μ-loop
+named-requires-2 c κs = search needs
 
 same-length-3 : tie.Need-same-length-3 Inv-loop μ-loop
-same-length-3 c = (doneOf (c .before .before)) .before .loop .inv .1
+same-length-3 c = (doneOf (spentOf (c .before .before))) .before .loop .inv .1
 
 returns-3 : tie.Need-returns-3 Inv-loop μ-loop
 returns-3 c =
     let e = c .before in
-    let t = doneOf (e .before) in
+    let h = spentOf (e .before) in
+    let t = doneOf h in
     λ w.
-    spent (t .before .loop .inv .0 w) (e .settle2 .last .1 .1 .1 .0) (e .settle2 .ensures .1) (e .settle2 .result) (e .settle2 .ensures .0) (c .spent .result)
-    (omega (arith, t .loop-test .left)) (c .spent .ensures)
+    spent (t .before .loop .inv .0 w) (e .settle2 .last .1 .1 .1 .0) (e .settle2 .ensures .1) (e .settle2 .result) (e .settle2 .ensures .0) (h .spent .result)
+    (c .named2 .result) (c .named2 .ensures) (omega (arith, t .loop-test .left)) (h .spent .ensures)
 
 pub run-spec : {M : Type 1} → statement M
 run-spec =
@@ -184,12 +198,14 @@ run-spec =
     same-length
     returns
     enum-known-cause
-    settle-requires
     sub-stopped
     stopped-requires
+    settle-requires
+    named-requires
     same-length-2
     returns-2
-    settle-requires-2
     spent-requires
+    settle-requires-2
+    named-requires-2
     same-length-3
     returns-3)

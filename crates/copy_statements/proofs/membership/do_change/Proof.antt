@@ -1,0 +1,30 @@
+-- `do_change` meets its contract.
+use Prim.Native.Nat.{ℕ, _+_}
+use mathlib.Core.Path.{ap₂}
+use Rattle.acting.specs.declared.Move.the-variants.{Table as Asks}
+use borrow.Author.Needs.{needs}
+use Rattle.copy_statements.proofs.membership.do_change.Statement.{statement}
+use Rattle.copy_statements.proofs.membership.do_change.Tie as tie
+
+add-named : tie.Need-add-named
+add-named c = search needs
+
+named-requires : tie.Need-named-requires
+named-requires c κs = search needs
+
+add-named-2 : tie.Need-add-named-2
+add-named-2 c = search needs
+
+named-requires-2 : tie.Need-named-requires-2
+named-requires-2 c κs = search needs
+
+add-t10 : tie.Need-add-t10
+add-t10 c = search needs
+
+returns : tie.Need-returns
+returns c =
+    let a = c .before .before .before .args in
+    ap₂ (λ (g m : ℕ). Asks (a .at + 3) g m 0 (a .ask)) (c .before .named .ensures) (c .named2 .ensures)
+
+pub do-change-spec : {M : Type 1} → statement M
+do-change-spec = tie.close (tie.spec add-named named-requires add-named-2 named-requires-2 add-t10 returns)
