@@ -1,5 +1,4 @@
 // The statement at a place is done as far as words go, by its mark in the copied text; where the run goes on is the answer.
-use acting::Ask;
 use copy_arms::do_arithmetic;
 use copy_arms::do_branch;
 use copy_arms::do_call;
@@ -14,8 +13,9 @@ use marks::GO;
 use marks::IF;
 use marks::KN;
 use marks::RM;
-use membership::do_change;
+use membership::do_add_pair;
 use membership::do_query;
+use membership::do_remove_pair;
 use moved::came_to;
 use statements::do_block;
 ghost use mathlib.Core.Path.{_≡_};
@@ -66,8 +66,8 @@ pub fn act(
         )),
         GO => came_to(do_goto(area, firsts, starts, targets, live, place + 1)),
         BK => came_to(do_block(code, limit, live, at)),
-        AD => came_to(do_change(area, firsts, starts, live, place, at, Ask::Add)),
-        RM => came_to(do_change(area, firsts, starts, live, place, at, Ask::Remove)),
+        AD => came_to(do_add_pair(area, firsts, starts, live, place, at)),
+        RM => came_to(do_remove_pair(area, firsts, starts, live, place, at)),
         _ => came_to(do_query(area, firsts, starts, live, place, at)),
     }
 }

@@ -1,4 +1,5 @@
-// AD, RM and QY, each with its mark at `place` of the area and its operation at `at` of the resolved script.
+// AD, RM and QY, each with its mark at `place` of the area and its operation at `at` of the resolved script. AD and RM have a function each, called
+// once: one that is called twice is not compiled in, and the counting loop took a fifth more instructions.
 use acting::Ask;
 use acting::Move;
 use copy_arms::named;
@@ -6,23 +7,40 @@ ghost use mathlib.Core.Path.{_≡_};
 ghost use Prim.Native.Nat.{_+_, _≤_};
 ghost use Rattle.copy_arms.specs.Parts.{cellAt, NameAt};
 
-pub fn do_change(
+pub fn do_add_pair(
     area: &[u32],
     firsts: &[u32; 256],
     starts: &[u16; 256],
     live: usize,
     place: usize,
     at: usize,
-    ask: Ask,
 ) -> Move
     requires { ⌜ at + 3 ≤ 4096 ⌝ }
     requires { ⌜ NameAt (now area) (now firsts) (now starts) live (place + 1) ⌝ }
     requires { ⌜ NameAt (now area) (now firsts) (now starts) live (place + 2) ⌝ }
-    ensures { λ r. ⌜ r ≡ Move.Table (at + 3) (cellAt (now (area .entry)) (now (firsts .entry)) (now (starts .entry)) live (place + 1)) (cellAt (now (area .entry)) (now (firsts .entry)) (now (starts .entry)) live (place + 2)) 0 ask ⌝ }
+    ensures { λ r. ⌜ r ≡ Move.Table (at + 3) (cellAt (now (area .entry)) (now (firsts .entry)) (now (starts .entry)) live (place + 1)) (cellAt (now (area .entry)) (now (firsts .entry)) (now (starts .entry)) live (place + 2)) 0 Ask.Add ⌝ }
 {
     let group = named(area, firsts, starts, live, place + 1);
     let member = named(area, firsts, starts, live, place + 2);
-    Move::Table(at + 3, group, member, 0, ask)
+    Move::Table(at + 3, group, member, 0, Ask::Add)
+}
+
+pub fn do_remove_pair(
+    area: &[u32],
+    firsts: &[u32; 256],
+    starts: &[u16; 256],
+    live: usize,
+    place: usize,
+    at: usize,
+) -> Move
+    requires { ⌜ at + 3 ≤ 4096 ⌝ }
+    requires { ⌜ NameAt (now area) (now firsts) (now starts) live (place + 1) ⌝ }
+    requires { ⌜ NameAt (now area) (now firsts) (now starts) live (place + 2) ⌝ }
+    ensures { λ r. ⌜ r ≡ Move.Table (at + 3) (cellAt (now (area .entry)) (now (firsts .entry)) (now (starts .entry)) live (place + 1)) (cellAt (now (area .entry)) (now (firsts .entry)) (now (starts .entry)) live (place + 2)) 0 Ask.Remove ⌝ }
+{
+    let group = named(area, firsts, starts, live, place + 1);
+    let member = named(area, firsts, starts, live, place + 2);
+    Move::Table(at + 3, group, member, 0, Ask::Remove)
 }
 
 pub fn do_query(

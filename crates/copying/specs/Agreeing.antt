@@ -12,17 +12,18 @@ use lib.ListN.{getD, set}
 use Rattle.language.specs.Basics.{eqZ}
 use Rattle.language.specs.Text.{Operation}
 use Rattle.language.specs.Encoding.{signed}
-use Rattle.language.specs.Table.{Effect, leaves, halts, Asked, gives, refuses, added, removed, queried}
 use Rattle.language.specs.Machine.{compute}
 use Rattle.laws.specs.Tests.{split}
 use Rattle.acting.specs.declared.Effect.{Effect as Done-or-not}
 use Rattle.acting.specs.declared.Effect.the-variants.{Done, Stopped}
 use Rattle.acting.specs.declared.Move.{Move}
-use Rattle.acting.specs.declared.Move.the-variants.{On, Jump, Enter}
+use Rattle.acting.specs.declared.Ask.{Ask}
+use Rattle.acting.specs.declared.Ask.the-variants.{Query}
+use Rattle.acting.specs.declared.Move.the-variants.{On, Table as Asks, Jump, Enter}
 use Rattle.acting.specs.Effects.{effectOf, wordsOf, sameKinds}
-use Rattle.acting.specs.Acting.{Finding, Scene, field, valueOf, moves, rewrites, operationOf, setAll, arithmeticMove, noRoom, argumentsAgree, doCallFormal, doConstant as actConstant, doArithmetic as actArithmetic, doGoto as actGoto, doBranch as actBranch, doBlock as actBlock, argumentsFrom as argumentsFound, doCall as actCall, changes as changesFound, doAdd as actAdd, doRemove as actRemove, answers as answersFound, doQuery as actQuery}
+use Rattle.acting.specs.Acting.{Finding, Scene, field, valueOf, moves, rewrites, operationOf, setAll, arithmeticMove, noRoom, argumentsAgree, doCallFormal, doConstant as actConstant, doArithmetic as actArithmetic, doGoto as actGoto, doBranch as actBranch, doBlock as actBlock, argumentsFrom as argumentsFound, doCall as actCall, doChange as actChange, doQuery as actQuery}
 use Rattle.statements.specs.Pieces.{moveAfter, blockMove}
-use Rattle.copy_statements.specs.Doing.{Copy, text, cell, target, valueAt, doConstant, doArithmetic, doGoto, doBranch, doBlock, argumentsFrom, differs, doCall, changes, tableNow, doAdd, doRemove, answers, doQuery}
+use Rattle.copy_statements.specs.Doing.{Copy, text, cell, target, valueAt, doConstant, doArithmetic, doGoto, doBranch, doBlock, argumentsFrom, differs, doCall, doChange, doQuery}
 
 module _ (c : Copy) (s : Scene) (F : Finding) where
   pub record Agrees (i j : ℕ) : Type 0 where
@@ -116,30 +117,10 @@ module _ (c : Copy) (s : Scene) (F : Finding) where
 
   -- The table
 
-  changes-same : (e : Effect) → changes c s e ≡ changesFound F s e
-  unfolding changes changesFound
-  changes-same (leaves t) = refl
-  changes-same (halts e) = refl
-
-  pub add-same : Agrees 1 1 → Agrees 2 2 → doAdd c s ≡ actAdd F s
-  unfolding doAdd actAdd
-  add-same g m =
-      (λ i. changes c s (added (s .limits .group) (getD (s .words) (g .cell-is i) (pos 0)) (getD (s .words) (m .cell-is i) (pos 0)) (tableNow c s)))
-      ∙ changes-same (added (s .limits .group) (valueOf F s (field s 1)) (valueOf F s (field s 2)) (tableNow c s))
-
-  pub remove-same : Agrees 1 1 → Agrees 2 2 → doRemove c s ≡ actRemove F s
-  unfolding doRemove actRemove
-  remove-same g m =
-      (λ i. changes c s (removed (getD (s .words) (g .cell-is i) (pos 0)) (getD (s .words) (m .cell-is i) (pos 0)) (tableNow c s)))
-      ∙ changes-same (removed (valueOf F s (field s 1)) (valueOf F s (field s 2)) (tableNow c s))
-
-  answers-same : Agrees 1 1 → (a : Asked) → answers c s a ≡ answersFound F s a
-  unfolding answers answersFound
-  answers-same t (gives z) = λ i. rewrites s (On (s .at + 4)) (set (s .words) (t .cell-is i) z)
-  answers-same t (refuses e) = refl
+  pub change-same : (a : Ask) → Agrees 1 1 → Agrees 2 2 → doChange c s a ≡ actChange F s a
+  unfolding doChange actChange
+  change-same a g m = λ i. moves s (Asks (s .at + 3) (g .cell-is i) (m .cell-is i) 0 a)
 
   pub query-same : Agrees 1 1 → Agrees 2 2 → Agrees 3 3 → doQuery c s ≡ actQuery F s
   unfolding doQuery actQuery
-  query-same t g m =
-      (λ i. answers c s (queried (getD (s .words) (g .cell-is i) (pos 0)) (getD (s .words) (m .cell-is i) (pos 0)) (tableNow c s)))
-      ∙ answers-same t (queried (valueOf F s (field s 2)) (valueOf F s (field s 3)) (tableNow c s))
+  query-same t g m = λ i. moves s (Asks (s .at + 4) (g .cell-is i) (m .cell-is i) (t .cell-is i) Query)

@@ -18,6 +18,7 @@ use Rattle.coordinates.specs.Enclosure.{Enclosing}
 use Rattle.coordinates.specs.Visible.{actionNames}
 use Rattle.coordinates.specs.Next.{Resolved}
 use Rattle.resolved.specs.Resolved.{direct, chosen, nameWord, headWord, header, resolvedAction, resolvedStmt}
+use Rattle.acting.specs.declared.Ask.the-variants.{Add, Remove}
 use Rattle.acting.specs.Acting.{Finding, Scene, Happened, field, operations, operationOf, constant-op, block-op, opOf, acting, happens as acts, doArithmetic as actArithmetic}
 use Rattle.steps.specs.Values.{operation-of}
 use Rattle.governed.specs.Governed.{governedAction, governedStmt}
@@ -26,7 +27,7 @@ use Rattle.copy_statements.specs.Doing.{Copy, text, target, Mark, arithmetic, b
 use Rattle.copy_statements.specs.Ready.{Named, By}
 use Rattle.run_state.specs.declared.Registers.{Registers}
 use Rattle.copy_moves.specs.Running.{Running}
-use Rattle.copying.specs.Agreeing.{Agrees, constant-same, arithmetic-same, goto-same, branch-same, block-same, add-same, remove-same, query-same}
+use Rattle.copying.specs.Agreeing.{Agrees, constant-same, arithmetic-same, goto-same, branch-same, block-same, change-same, query-same}
 use Rattle.copying.specs.Words.{copyOf, sceneIn, around, GovernedHere, WrittenHere, plain, next-known, fields-there, resolved-word, word-read}
 use Rattle.copying.specs.Names.{byLinks, CellOfName, named}
 
@@ -162,7 +163,7 @@ module _ {code names : List ℕ} {limit group : ℕ} {words : List ℤ} {area : 
       let f = name g (n .names .0) (n .formed .0) 1 1 (read x q 1 (omega arith) (omega arith)) (resolved x q 1 (omega arith)) in
       let h = name m (n .names .1 .0) (n .formed .1) 2 2 (read x q 2 (omega arith) (omega arith)) (resolved x q 2 (omega arith)) in
       comes c s F pair (ap markOf (plain w a 0 AD-mark (read x q 0 (omega arith) (omega arith))))
-      (add-same c s F (f .0) (h .0) ∙ acts-by c s F 8 (resolved x q 0 (omega arith)))
+      (change-same c s F Add (f .0) (h .0) ∙ acts-by c s F 8 (resolved x q 0 (omega arith)))
       (fields-there w x q 3 (omega arith), f .1, h .1)
 
   pub remove-comes : (o g m : ℕ) → frameStmt (w .standing .frame) ≡ some (DO o (RM g m)) → Comes c s F
@@ -173,7 +174,7 @@ module _ {code names : List ℕ} {limit group : ℕ} {words : List ℤ} {area : 
       let f = name g (n .names .0) (n .formed .0) 1 1 (read x q 1 (omega arith) (omega arith)) (resolved x q 1 (omega arith)) in
       let h = name m (n .names .1 .0) (n .formed .1) 2 2 (read x q 2 (omega arith) (omega arith)) (resolved x q 2 (omega arith)) in
       comes c s F unpair (ap markOf (plain w a 0 RM-mark (read x q 0 (omega arith) (omega arith))))
-      (remove-same c s F (f .0) (h .0) ∙ acts-by c s F 9 (resolved x q 0 (omega arith)))
+      (change-same c s F Remove (f .0) (h .0) ∙ acts-by c s F 9 (resolved x q 0 (omega arith)))
       (fields-there w x q 3 (omega arith), f .1, h .1)
 
   pub query-comes : (o t g m : ℕ) → frameStmt (w .standing .frame) ≡ some (DO o (QY t g m)) → Comes c s F

@@ -1,4 +1,4 @@
--- A step of the copying engine, by what the statement comes to (`Came`). For each move: the engine goes on (`went-on`), or may leave, jump or
+-- A step of the copying engine, by what the statement comes to (`Came`). For each move: the engine goes on (`went-on`, `answered-on`), or may leave, jump or
 -- enter (`leave-ready`, `jump-ready`, `enter-ready`) and stands behind the step once it has (`left-on`, `jumped-on`, `entered-on`), or stops (`stopped-at`).
 use Prim.Native.Nat.{ℕ, suc, _+_, _-_, _*_, _%_, _≤_, _<_}
 use native.Mathlib.Omega.{arith}
@@ -10,27 +10,32 @@ use lib.IntN.{ℤ}
 use lib.ListN.{length, getD, getElem?}
 use Rattle.language.specs.declared.Stop.{Stop as Cause}
 use Rattle.laws.specs.Lists.{getElem-in}
-use Rattle.frames.specs.Frame.{Frame, numbered}
+use Rattle.frames.specs.Frame.{Frame, numbered, halted, frameStep}
 use Rattle.frames.specs.Numbered.{numbered-index}
 use Rattle.resolved.specs.Resolved.{endPlace}
 use Rattle.acting.specs.declared.Move.{Move}
-use Rattle.acting.specs.declared.Move.the-variants.{On, Pairs, Jump, Enter, Stop}
-use Rattle.acting.specs.Acting.{Happened}
-use Rattle.steps.specs.Means.{GoesOn, JumpsTo, EntersAt, MoveMeans}
+use Rattle.acting.specs.declared.Move.the-variants.{On, Table as Asks, Jump, Enter, Stop}
+use Rattle.acting.specs.declared.Ask.{Ask}
+use Rattle.acting.specs.Acting.{Happened, answer}
+use Rattle.pairs.specs.declared.Change.{Change}
+use Rattle.pairs.specs.declared.Change.the-variants.{Done as Count, Stopped as Halted}
+use Rattle.statements.specs.Answers.{Answered, turnAfter, done-goes, stopped-halts}
+use Rattle.steps.specs.Means.{GoesOn, JumpsTo, EntersAt, AnswerMeans, MoveMeans}
 use Rattle.steps.specs.Here.{many, within-limit, live-few}
 use Rattle.steps.specs.Reads.{block-within, end-there, end-here}
 use Rattle.steps.specs.Loop.{leaves, jumped}
 use Rattle.copy_statements.specs.declared.moved.Moved.{Moved}
-use Rattle.copy_statements.specs.declared.moved.Moved.the-variants.{Went, Jump as JumpTo, Enter as EnterBy, Stop as StopFor}
+use Rattle.copy_statements.specs.declared.moved.Moved.the-variants.{Went, Jump as JumpTo, Enter as EnterBy, Stop as StopFor, Table as AskBy}
 use Rattle.copy_statements.specs.Doing.{doing}
 use Rattle.copy_statements.specs.Moved.{movedBy, Came}
 use Rattle.run_state.specs.declared.Registers.{Registers}
+use Rattle.run_state.specs.declared.Turn.{Turn}
 use Rattle.run_state.specs.Scenes.{limitsBy, goesTo}
 use Rattle.copy_moves.specs.Running.{Running, nowAt, Succeeds}
 use Rattle.copy_entering.specs.Anew.{Enterable, AnewIn}
 use Rattle.copy_moves.specs.Going.{goes-on}
 use Rattle.run_state.specs.Turns.{Stops}
-use Rattle.copying.specs.Turning.{arraysOf}
+use Rattle.copying.specs.Turning.{arraysOf, Turned}
 use Rattle.copying.specs.Words.{copyOf, sceneIn}
 use Rattle.copying.specs.Here.{means-here}
 use Rattle.copying.specs.Entering.{enterable, enters-on}
@@ -73,40 +78,70 @@ module _ {code names : List ℕ} {limit group : ℕ} {words : List ℤ} {area : 
   base-within = omega (arith, w .room, mul-le-mul-right width (within-limit (w .standing)))
 
   -- what the move says, as the engine goes on by it
-  abbrev MovedMeans : Moved → List ℤ → List ℤ → Type 0
-  MovedMeans (Went p n) words′ table′ = GoesOn (w .standing) words′ table′ n p
-  MovedMeans (JumpTo p home) words′ table′ = MoveMeans (w .standing) (Jump home p) words′ table′
-  MovedMeans (EnterBy back link body) words′ table′ = MoveMeans (w .standing) (Enter body link back) words′ table′
-  MovedMeans (StopFor c) words′ table′ = MoveMeans (w .standing) (Stop c) words′ table′
+  abbrev MovedMeans : Moved → List ℤ → Type 0
+  MovedMeans (Went p) words′ = MoveMeans (w .standing) (On p) words′
+  MovedMeans (JumpTo p home) words′ = MoveMeans (w .standing) (Jump home p) words′
+  MovedMeans (EnterBy back link body) words′ = MoveMeans (w .standing) (Enter body link back) words′
+  MovedMeans (StopFor c) words′ = MoveMeans (w .standing) (Stop c) words′
+  MovedMeans (AskBy p g m t a) words′ = MoveMeans (w .standing) (Asks p g m t a) words′
 
-  moved-means : (m : Move) (words′ table′ : List ℤ) → MoveMeans (w .standing) m words′ table′ → MovedMeans (movedBy (here .pairs) m) words′ table′
+  moved-means : (m : Move) (words′ : List ℤ) → MoveMeans (w .standing) m words′ → MovedMeans (movedBy m) words′
   unfolding movedBy
-  moved-means (On p) words′ table′ z = z .0
-  moved-means (Pairs p n) words′ table′ z = z .0
-  moved-means (Jump home p) words′ table′ z = z
-  moved-means (Enter body link back) words′ table′ z = z
-  moved-means (Stop c) words′ table′ z = z
+  moved-means (On p) words′ z = z
+  moved-means (Asks p g m t a) words′ z = z
+  moved-means (Jump home p) words′ z = z
+  moved-means (Enter body link back) words′ z = z
+  moved-means (Stop c) words′ z = z
 
-  module _ (before : here .at ≡ here .end → ⊥) (r : Moved) (words′ table′ : List ℤ) (h : Came (here .pairs) (doing (copyOf w) (sceneIn w)) r words′ table′) where
+  goes : (p n : ℕ) (words′ table′ : List ℤ) → GoesOn (w .standing) words′ table′ n p
+      → Succeeds w words′ area blocks nexts firsts starts targets looked table′ (goesTo here (here .live) p (here .end) n)
+  goes p n words′ table′ g = goes-on w (g .standing) (g .follows) (omega arith) (λ k q. (refl, refl))
+
+  stops : (c : Cause) (words′ table′ : List ℤ) → (frameStep (limitsBy limit group) (w .standing .stack) ≡ halted c) × (words′ ≡ words) × (table′ ≡ table)
+      → Stops (limitsBy limit group) (w .standing .stack) c (arraysOf words area blocks nexts firsts starts targets looked table)
+      (arraysOf words′ area blocks nexts firsts starts targets looked table′)
+  stops c words′ table′ m = record { stops = m .0; same = λ i. arraysOf (m .1 i) area blocks nexts firsts starts targets looked (m .2 i) }
+
+  module _ (before : here .at ≡ here .end → ⊥) (r : Moved) (words′ : List ℤ) (h : Came (doing (copyOf w) (sceneIn w)) r words′) where
     abbrev result : Happened
     result = doing (copyOf w) (sceneIn w)
 
-    means : MovedMeans r words′ table′
+    means : MovedMeans r words′
     means =
-        subst (λ (m : Moved). MovedMeans m words′ table′) (sym (h .0))
-        (moved-means (result .move) words′ table′
-        (subst (λ (v : List ℤ). MoveMeans (w .standing) (result .move) v table′) (sym (h .1 .0))
-        (subst (λ (v : List ℤ). MoveMeans (w .standing) (result .move) (result .words) v) (sym (h .1 .1)) (means-here w before))))
+        subst (λ (T : Type 0). T) (λ i. MovedMeans (sym (h .0) i) (sym (h .1) i)) (moved-means (result .move) (result .words) (means-here w before))
 
-    means-as : (m : Moved) → r ≡ m → MovedMeans m words′ table′
-    means-as m e = subst (λ (x : Moved). MovedMeans x words′ table′) e means
+    means-as : (m : Moved) → r ≡ m → MovedMeans m words′
+    means-as m e = subst (λ (x : Moved). MovedMeans x words′) e means
 
-    pub went-on : (p n : ℕ) → r ≡ Went p n
-        → Succeeds w words′ area blocks nexts firsts starts targets looked table′
-        (goesTo here (here .live) p (here .end) n)
-    went-on p n e =
-        let g = means-as (Went p n) e in
-        goes-on w (g .standing) (g .follows) (omega arith) (λ k q. (refl, refl))
+    pub went-on : (p : ℕ) → r ≡ Went p
+        → Succeeds w words′ area blocks nexts firsts starts targets looked table
+        (goesTo here (here .live) p (here .end) (here .pairs))
+    went-on p e = goes p (here .pairs) words′ table (means-as (Went p) e)
+
+    -- The table is asked
+
+    module _ (p g m t : ℕ) (a : Ask) (e : r ≡ AskBy p g m t a) where
+      pub asked-there : (g < 8192) × ((m < 8192) × (t < 8192))
+      asked-there = (means-as (AskBy p g m t a) e) .2
+
+      abbrev Told : Change → List ℤ → List ℤ → Type 0
+      Told = Answered (answer group words′ (record { words = table; used = here .pairs }) g m t a) table
+
+      answered : AnswerMeans (w .standing) p (answer group words′ (record { words = table; used = here .pairs }) g m t a)
+      answered =
+          let k = means-as (AskBy p g m t a) e in
+          subst (λ (v : List ℤ). AnswerMeans (w .standing) p (answer group v (record { words = table; used = here .pairs }) g m t a)) (sym (k .1)) (k .0)
+
+      by-change : (c : Change) (words″ table″ : List ℤ) → Told c words″ table″
+          → Turned w (turnAfter here p c) words″ area blocks nexts firsts starts targets looked table″
+      unfolding turnAfter
+      by-change (Count n) words″ table″ k = goes p n words″ table″ (done-goes (w .standing) p _ answered (Count n) words″ table″ k n refl)
+      by-change (Halted c) words″ table″ k = stops c words″ table″ (stopped-halts (w .standing) p _ answered (Halted c) words″ table″ k c refl)
+
+      pub answered-on : (c : Change) (words″ table″ : List ℤ) → Told c words″ table″ → (n : Turn) → n ≡ turnAfter here p c
+          → Turned w n words″ area blocks nexts firsts starts targets looked table″
+      answered-on c words″ table″ k n q =
+          subst (λ (x : Turn). Turned w x words″ area blocks nexts firsts starts targets looked table″) (sym q) (by-change c words″ table″ k)
 
     -- A jump
 
@@ -123,37 +158,33 @@ module _ {code names : List ℕ} {limit group : ℕ} {words : List ℤ} {area : 
         )
 
     pub jumped-on : (home p : ℕ) → r ≡ JumpTo p home → (n : Registers) → n ≡ nowAt code blocks here home p
-        → Succeeds w words′ area blocks nexts firsts starts targets looked table′ n
+        → Succeeds w words′ area blocks nexts firsts starts targets looked table n
     jumped-on home p e n is =
         let m = means-as (JumpTo p home) e in
         let l = jumped (w .standing) home p (m .0) in
         let ends = end-of home (l .frame) (l .stands) in
-        subst (λ (v : List ℤ). Succeeds w v area blocks nexts firsts starts targets looked table′ n) (sym (m .1))
-        (subst (λ (v : List ℤ). Succeeds w words area blocks nexts firsts starts targets looked v n) (sym (m .2))
+        subst (λ (v : List ℤ). Succeeds w v area blocks nexts firsts starts targets looked table n) (sym (m .1))
         (subst (λ (v : Registers). Succeeds w words area blocks nexts firsts starts targets looked table v)
         ((λ i. goesTo here home p (sym ends i) (here .pairs)) ∙ sym is)
-        (goes-on w (l .standing) (l .follows) (l .home-high) (λ k q. (refl, refl)))))
+        (goes-on w (l .standing) (l .follows) (l .home-high) (λ k q. (refl, refl))))
 
     -- An entry
 
     enters : (body link back : ℕ) → r ≡ EnterBy back link body → EntersAt (w .standing) body link back words′
-    enters body link back e = (means-as (EnterBy back link body) e) .0
+    enters body link back e = means-as (EnterBy back link body) e
 
     pub enter-ready : here .fresh + 32 * 1 + 32 ≤ 4294967296 → (body link back : ℕ) → r ≡ EnterBy back link body → Enterable code names area width here body link back
     enter-ready few body link back e = enterable w body link back words′ (enters body link back e) (omega arith)
 
     pub entered-on : (body link back : ℕ) → r ≡ EnterBy back link body → (words″ : List ℤ) (area′ blocks′ nexts′ firsts′ starts′ targets′ looked′ : List ℕ) (n : Registers)
         → AnewIn code names width here body link back words′ area blocks nexts firsts starts targets looked words″ area′ blocks′ nexts′ firsts′ starts′ targets′ looked′ n
-        → Succeeds w words″ area′ blocks′ nexts′ firsts′ starts′ targets′ looked′ table′ n
+        → Succeeds w words″ area′ blocks′ nexts′ firsts′ starts′ targets′ looked′ table n
     entered-on body link back e words″ area′ blocks′ nexts′ firsts′ starts′ targets′ looked′ n k =
-        subst (λ (v : List ℤ). Succeeds w words″ area′ blocks′ nexts′ firsts′ starts′ targets′ looked′ v n) (sym ((means-as (EnterBy back link body) e) .1))
-        (enters-on w body link back words′ (enters body link back e) words″ area′ blocks′ nexts′ firsts′ starts′ targets′ looked′ n k)
+        enters-on w body link back words′ (enters body link back e) words″ area′ blocks′ nexts′ firsts′ starts′ targets′ looked′ n k
 
     -- A cause to stop
 
     pub stopped-at : (c : Cause) → r ≡ StopFor c
         → Stops (limitsBy limit group) (w .standing .stack) c (arraysOf words area blocks nexts firsts starts targets looked table)
-        (arraysOf words′ area blocks nexts firsts starts targets looked table′)
-    stopped-at c e =
-        let m = means-as (StopFor c) e in
-        record { stops = m .0; same = λ i. arraysOf (m .1 i) area blocks nexts firsts starts targets looked (m .2 i) }
+        (arraysOf words′ area blocks nexts firsts starts targets looked table)
+    stopped-at c e = let m = means-as (StopFor c) e in stops c words′ table (m .0, m .1, refl)

@@ -1,4 +1,5 @@
 // The run: steps until the program is left, a statement has a cause to stop, or the allowance is spent.
+use acting::Ask;
 use copy_entering::enter;
 use copy_moves::begin;
 use copy_moves::jump;
@@ -7,6 +8,7 @@ use copy_moves::looked_up;
 use copy_moves::set_next;
 use copy_statements::Moved;
 use copy_statements::act;
+use pairs::Change;
 use run_state::Halt;
 use run_state::Registers;
 use run_state::Turn;
@@ -14,15 +16,41 @@ use run_state::finished;
 use run_state::named;
 use run_state::spent;
 use run_state::stopped;
+use statements::after;
 ghost use mathlib.Core.Path.{_≡_};
 ghost use Prim.Native.Nat.{_<_};
 ghost use lib.ListN.{set};
 ghost use Rattle.frames.specs.Frame.{frameRun, frameStart};
+ghost use Rattle.acting.specs.Acting.{answer};
+ghost use Rattle.pairs.specs.Outcomes.{tableOf, changeOf, wordsAfter};
 ghost use Rattle.run_state.specs.Scenes.{limitsBy};
 ghost use Rattle.copy_moves.specs.Running.{Running};
 ghost use Rattle.copy_moves.specs.Looked.{Lookable, lookedUp};
 ghost use Rattle.copying.specs.Beginning.{Beginning};
 ghost use Rattle.copying.specs.Turning.{Ready, Turned, Ended, RunFrom};
+
+// What the table answers.
+fn asked(
+    table: &mut [i32],
+    words: &mut [i32; 8224],
+    pairs: usize,
+    limit: u32,
+    group: usize,
+    member: usize,
+    target: usize,
+    ask: Ask,
+) -> Change
+    requires { ⌜ (group < 8192) × ((member < 8192) × (target < 8192)) ⌝ }
+    ensures { λ r. ⌜ r ≡ changeOf (answer limit (now (words .entry)) (tableOf (now (table .entry)) pairs) group member target ask .effect) ⌝ }
+    ensures { λ _. ⌜ now (words .exit) ≡ answer limit (now (words .entry)) (tableOf (now (table .entry)) pairs) group member target ask .words ⌝ }
+    ensures { λ _. ⌜ now (table .exit) ≡ wordsAfter (now (table .entry)) (answer limit (now (words .entry)) (tableOf (now (table .entry)) pairs) group member target ask .effect) ⌝ }
+{
+    match ask {
+        Ask::Add => statements::add(table, words, pairs, limit, group, member),
+        Ask::Remove => statements::remove(table, words, pairs, group, member),
+        Ask::Query => statements::query(table, words, pairs, group, member, target),
+    }
+}
 
 pub fn step(
     code: &[u32; 4096],
@@ -66,18 +94,11 @@ pub fn step(
         firsts,
         starts,
         targets,
-        table,
-        here.pairs,
-        group,
         limit,
         live,
         at,
     ) {
-        Moved::Went(place, used) => Turn::Went(Registers {
-            at: place,
-            pairs: used,
-            ..here
-        }),
+        Moved::Went(place) => Turn::Went(Registers { at: place, ..here }),
         Moved::Jump(place, home) => Turn::Went(jump(code, blocks, here, home, place)),
         Moved::Enter(back, link, body) => Turn::Went(enter(
             code,
@@ -97,6 +118,11 @@ pub fn step(
             back,
         )),
         Moved::Stop(cause) => Turn::Stopped(cause),
+        Moved::Table(place, of, member, target, ask) => after(
+            here,
+            place,
+            asked(table, words, here.pairs, group, of, member, target, ask),
+        ),
     }
 }
 

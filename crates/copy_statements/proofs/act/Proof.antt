@@ -97,18 +97,18 @@ do-block-requires c κs =
 came-to-requires-6 : tie.Need-came-to-requires-6
 came-to-requires-6 c κs = search needs
 
-do-change-requires : tie.Need-do-change-requires
+do-add-pair-requires : tie.Need-do-add-pair-requires
 unfolding markOf
-do-change-requires c κs =
+do-add-pair-requires c κs =
     let s = startOf (c .before) in
     pair-asks (copy s) (scene s) (s .pre) (mark (c .before) (c .match .keys7))
 
 came-to-requires-7 : tie.Need-came-to-requires-7
 came-to-requires-7 c κs = search needs
 
-do-change-requires-2 : tie.Need-do-change-requires-2
+do-remove-pair-requires : tie.Need-do-remove-pair-requires
 unfolding markOf
-do-change-requires-2 c κs =
+do-remove-pair-requires c κs =
     let s = startOf (c .before) in
     unpair-asks (copy s) (scene s) (s .pre) (mark (c .before) (c .match .keys8))
 
@@ -184,7 +184,7 @@ returns-7 c =
     let d = c .before in
     let s = startOf (d .before .before) in
     came (doing (copy s) (scene s)) (c .came-to7 .ensures)
-    (acted (copy s) (scene s) pair (mark (d .before .before) (d .before .match .keys7)) (pair-acts (copy s) (scene s) (d .do-change .ensures)))
+    (acted (copy s) (scene s) pair (mark (d .before .before) (d .before .match .keys7)) (pair-acts (copy s) (scene s) (d .do-add-pair .ensures)))
 
 returns-8 : tie.Need-returns-8
 unfolding markOf
@@ -192,7 +192,7 @@ returns-8 c =
     let d = c .before in
     let s = startOf (d .before .before) in
     came (doing (copy s) (scene s)) (c .came-to8 .ensures)
-    (acted (copy s) (scene s) unpair (mark (d .before .before) (d .before .match .keys8)) (unpair-acts (copy s) (scene s) (d .do-change2 .ensures)))
+    (acted (copy s) (scene s) unpair (mark (d .before .before) (d .before .match .keys8)) (unpair-acts (copy s) (scene s) (d .do-remove-pair .ensures)))
 
 returns-9 : tie.Need-returns-9
 unfolding markOf
@@ -221,9 +221,9 @@ act-spec =
     came-to-requires-5
     do-block-requires
     came-to-requires-6
-    do-change-requires
+    do-add-pair-requires
     came-to-requires-7
-    do-change-requires-2
+    do-remove-pair-requires
     came-to-requires-8
     do-query-requires
     came-to-requires-9

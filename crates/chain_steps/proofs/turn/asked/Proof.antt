@@ -1,6 +1,11 @@
 -- `asked` meets its contract: each question has its function.
+use mathlib.Core.Path.{refl}
+use lib.IntN.{ℤ}
+use Rattle.language.specs.Table.{removed}
+use Rattle.acting.specs.Acting.{answer}
 use Rattle.pairs.specs.Outcomes.{tableOf}
-use Rattle.statements.specs.Answers.{add-answered, remove-answered, query-answered}
+use Rattle.statements.specs.Words.{read-value}
+use Rattle.statements.specs.Answers.{changed-by, add-answered, remove-answered, query-answered}
 use borrow.Author.Needs.{needs}
 use Rattle.chain_steps.proofs.turn.asked.Statement.{statement}
 use Rattle.chain_steps.proofs.turn.asked.Tie as tie
@@ -14,8 +19,20 @@ add-requires c κs = search needs
 enum-told-2 : tie.Need-enum-told-2
 enum-told-2 c = search needs
 
-remove-requires : tie.Need-remove-requires
-remove-requires c κs = search needs
+mul-of : tie.Need-mul-of
+mul-of c = search needs
+
+element-copy-out-of : tie.Need-element-copy-out-of
+element-copy-out-of c = search needs
+
+mul-who : tie.Need-mul-who
+mul-who c = search needs
+
+element-copy-out-who : tie.Need-element-copy-out-who
+element-copy-out-who c = search needs
+
+remove-pair-requires : tie.Need-remove-pair-requires
+remove-pair-requires c κs = search needs
 
 enum-told-3 : tie.Need-enum-told-3
 enum-told-3 c = search needs
@@ -36,10 +53,16 @@ same-length-2 : tie.Need-same-length-2
 same-length-2 c = search needs
 
 returns-2 : tie.Need-returns-2
+unfolding answer
 returns-2 c =
-    let t = c .before .before .before .before in
+    let m = c .before .before .before in
+    let g = m .before in
+    let t = g .before in
     let a = t .before .before .args in
-    remove-answered (a .limit) (a .words .now) (tableOf (a .table .now) (a .pairs)) (a .group) (a .member) (a .target) (t .enum-told2 .given .1) (c .before .remove .ensures)
+    let ws = a .words .now in
+    remove-answered (a .limit) ws (tableOf (a .table .now) (a .pairs)) (a .group) (a .member) (a .target) (t .enum-told2 .given .1)
+    (changed-by (λ (x y : ℤ). removed x y (tableOf (a .table .now) (a .pairs))) (a .table .now) (read-value ws (g .of .given) refl) (read-value ws (m .who .given) refl)
+    (c .before .remove-pair .ensures .0) (c .before .remove-pair .ensures .1))
 
 same-length-3 : tie.Need-same-length-3
 same-length-3 c = search needs
@@ -57,7 +80,11 @@ asked-spec =
     enum-told
     add-requires
     enum-told-2
-    remove-requires
+    mul-of
+    element-copy-out-of
+    mul-who
+    element-copy-out-who
+    remove-pair-requires
     enum-told-3
     query-requires
     same-length

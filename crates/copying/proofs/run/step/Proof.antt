@@ -4,17 +4,14 @@ use mathlib.Core.Path.{refl}
 use lib.IntN.{ℤ}
 use Rattle.copying.specs.Here.{ready-here}
 use Rattle.run_state.specs.Turns.{above-zero}
-use Rattle.copying.specs.Turns.{leave-ready, left-on, base-within, went-on, jump-ready, jumped-on, enter-ready, entered-on, stopped-at}
+use Rattle.copying.specs.Turns.{leave-ready, left-on, base-within, went-on, asked-there, answered-on, jump-ready, jumped-on, enter-ready, entered-on, stopped-at}
 use borrow.Author.Needs.{needs}
 use Rattle.copying.proofs.run.step.Statement.{statement}
 use Rattle.copying.proofs.run.step.Tie as tie
 
--- the places before the statement's function and behind it, and what it leaves of words and table
-abbrev lentOf : tie.After-act-arg6 → tie.After-act-arg3
-lentOf c = c .before .before .before
-
-abbrev elseAt : tie.After-act-arg6 → tie.Else1
-elseAt c = (lentOf c) .before .before .before
+-- the places before the statement's function and behind it, and what it leaves of the words
+abbrev elseAt : tie.After-act-arg5 → tie.Else1
+elseAt c = let half = c .before .before in half .before .before .before
 
 abbrev elseOf : tie.After-act → tie.Else1
 elseOf a = elseAt (a .before)
@@ -31,9 +28,6 @@ startAt e = let first = e .before .before in first .before .before
 
 abbrev wordsOf : tie.After-act → List ℤ
 wordsOf a = a .act .last .1 .0
-
-abbrev tableOf : tie.After-act → List ℤ
-tableOf a = a .act .last .1 .1 .1 .1 .1 .1 .1 .0
 
 -- the block to enter, from what entering is lent
 abbrev halfOf : tie.After-enter-arg8 → tie.After-enter-arg4
@@ -78,8 +72,8 @@ enum-known-place-2 c = search needs
 jump-requires : tie.Need-jump-requires
 jump-requires c κs =
     let h = c .before .before in
-    let a = h .before .before .before in
-    jump-ready ((startOf a) .pre .running) ((elseOf a) .if1 .left) (a .act .result) (wordsOf a) (tableOf a) (a .act .ensures) (h .place2 .given .0 .1 .0)
+    let a = h .before .before in
+    jump-ready ((startOf a) .pre .running) ((elseOf a) .if1 .left) (a .act .result) (wordsOf a) (a .act .ensures) (h .place2 .given .0 .1 .0)
     (h .place2 .given .0 .0) (h .place2 .given .1)
 
 enum-known-back : tie.Need-enum-known-back
@@ -88,38 +82,70 @@ enum-known-back c = search needs
 enter-requires : tie.Need-enter-requires
 enter-requires c κs =
     let b = bodyOf c in
-    let a = b .before .before .before in
-    enter-ready ((startOf a) .pre .running) ((elseOf a) .if1 .left) (a .act .result) (wordsOf a) (tableOf a) (a .act .ensures) ((startOf a) .pre .names-left)
+    let a = b .before .before in
+    enter-ready ((startOf a) .pre .running) ((elseOf a) .if1 .left) (a .act .result) (wordsOf a) (a .act .ensures) ((startOf a) .pre .names-left)
     (b .back .given .0 .1 .1 .0) (b .back .given .0 .1 .0) (b .back .given .0 .0) (b .back .given .1)
 
 enum-known-cause : tie.Need-enum-known-cause
 enum-known-cause c = search needs
 
+enum-known-place-3 : tie.Need-enum-known-place-3
+enum-known-place-3 c = search needs
+
+abbrev askedOf : tie.After-asked-arg2 → tie.After-place3
+askedOf c = c .before .before .before
+
+asked-requires : tie.Need-asked-requires
+asked-requires c κs =
+    let p = askedOf c in
+    let a = p .before .before in
+    asked-there ((startOf a) .pre .running) ((elseOf a) .if1 .left) (a .act .result) (wordsOf a) (a .act .ensures) (p .place3 .given .0 .0) (p .place3 .given .0 .1 .0)
+    (p .place3 .given .0 .1 .1 .0) (p .place3 .given .0 .1 .1 .1 .0) (p .place3 .given .0 .1 .1 .1 .1 .0) (p .place3 .given .1)
+
+after-requires : tie.Need-after-requires
+after-requires c κs = search needs
+
 same-length : tie.Need-same-length
 same-length c = search needs
-
-same-length-2 : tie.Need-same-length-2
-same-length-2 c = search needs
 
 returns-3 : tie.Need-returns-3
 returns-3 c =
     let p = c .before in
-    let a = p .before .before .before in
-    λ w. went-on w ((elseOf a) .if1 .left) (a .act .result) (wordsOf a) (tableOf a) (a .act .ensures) (p .place .given .0 .0) (p .place .given .0 .1 .0)
-    (p .place .given .1)
+    let a = p .before .before in
+    λ w. went-on w ((elseOf a) .if1 .left) (a .act .result) (wordsOf a) (a .act .ensures) (p .place .given .0 .0) (p .place .given .1)
 
-same-length-3 : tie.Need-same-length-3
-same-length-3 c = search needs
-
-same-length-4 : tie.Need-same-length-4
-same-length-4 c = search needs
+same-length-2 : tie.Need-same-length-2
+same-length-2 c = search needs
 
 returns-4 : tie.Need-returns-4
 returns-4 c =
     let h = c .before .before .before in
-    let a = h .before .before .before in
-    λ w. jumped-on w ((elseOf a) .if1 .left) (a .act .result) (wordsOf a) (tableOf a) (a .act .ensures) (h .place2 .given .0 .1 .0)
+    let a = h .before .before in
+    λ w. jumped-on w ((elseOf a) .if1 .left) (a .act .result) (wordsOf a) (a .act .ensures) (h .place2 .given .0 .1 .0)
     (h .place2 .given .0 .0) (h .place2 .given .1) (c .jump .result) (c .jump .ensures)
+
+same-length-3 : tie.Need-same-length-3
+same-length-3 c = search needs
+
+returns-5 : tie.Need-returns-5
+returns-5 c =
+    let e = c .before .before in
+    let b = bodyOf (e .before) in
+    let a = b .before .before in
+    let d = e .enter .last .1 .1 in
+    let f = d .1 .1 .1 in
+    λ w. entered-on w ((elseOf a) .if1 .left) (a .act .result) (wordsOf a) (a .act .ensures) (b .back .given .0 .1 .1 .0)
+    (b .back .given .0 .1 .0) (b .back .given .0 .0) (b .back .given .1) (d .0) (d .1 .0) (f .0) (f .1 .0) (f .1 .1 .0) (f .1 .1 .1 .0)
+    (f .1 .1 .1 .1 .0) (f .1 .1 .1 .1 .1 .0) (e .enter .result) (e .enter .ensures)
+
+same-length-4 : tie.Need-same-length-4
+same-length-4 c = search needs
+
+returns-6 : tie.Need-returns-6
+returns-6 c =
+    let k = c .before in
+    let a = k .before .before in
+    λ w. stopped-at w ((elseOf a) .if1 .left) (a .act .result) (wordsOf a) (a .act .ensures) (k .cause .given .0 .0) (k .cause .given .1)
 
 same-length-5 : tie.Need-same-length-5
 same-length-5 c = search needs
@@ -127,28 +153,14 @@ same-length-5 c = search needs
 same-length-6 : tie.Need-same-length-6
 same-length-6 c = search needs
 
-returns-5 : tie.Need-returns-5
-returns-5 c =
-    let e = c .before .before in
-    let b = bodyOf (e .before) in
-    let a = b .before .before .before in
-    let d = e .enter .last .1 .1 in
-    let f = d .1 .1 .1 in
-    λ w. entered-on w ((elseOf a) .if1 .left) (a .act .result) (wordsOf a) (tableOf a) (a .act .ensures) (b .back .given .0 .1 .1 .0)
-    (b .back .given .0 .1 .0) (b .back .given .0 .0) (b .back .given .1) (d .0) (d .1 .0) (f .0) (f .1 .0) (f .1 .1 .0) (f .1 .1 .1 .0)
-    (f .1 .1 .1 .1 .0) (f .1 .1 .1 .1 .1 .0) (e .enter .result) (e .enter .ensures)
-
-same-length-7 : tie.Need-same-length-7
-same-length-7 c = search needs
-
-same-length-8 : tie.Need-same-length-8
-same-length-8 c = search needs
-
-returns-6 : tie.Need-returns-6
-returns-6 c =
-    let k = c .before in
-    let a = k .before .before .before in
-    λ w. stopped-at w ((elseOf a) .if1 .left) (a .act .result) (wordsOf a) (tableOf a) (a .act .ensures) (k .cause .given .0 .0) (k .cause .given .1)
+returns-7 : tie.Need-returns-7
+returns-7 c =
+    let k = c .before .before in
+    let p = askedOf (k .before) in
+    let a = p .before .before in
+    λ w. answered-on w ((elseOf a) .if1 .left) (a .act .result) (wordsOf a) (a .act .ensures) (p .place3 .given .0 .0) (p .place3 .given .0 .1 .0)
+    (p .place3 .given .0 .1 .1 .0) (p .place3 .given .0 .1 .1 .1 .0) (p .place3 .given .0 .1 .1 .1 .1 .0) (p .place3 .given .1) (k .asked .result) (k .asked .last .1 .0)
+    (k .asked .last .0) (k .asked .ensures) (c .after .result) (c .after .ensures)
 
 pub step-spec : {M : Type 1} → statement M
 step-spec =
@@ -165,15 +177,17 @@ step-spec =
     enum-known-back
     enter-requires
     enum-known-cause
+    enum-known-place-3
+    asked-requires
+    after-requires
     same-length
-    same-length-2
     returns-3
-    same-length-3
-    same-length-4
+    same-length-2
     returns-4
+    same-length-3
+    returns-5
+    same-length-4
+    returns-6
     same-length-5
     same-length-6
-    returns-5
-    same-length-7
-    same-length-8
-    returns-6)
+    returns-7)
