@@ -1,27 +1,28 @@
--- The number of fields by places, one after the other. Assumes nothing.
-use mathlib.Core.Path.{_≡_}
+-- The number of fields by places, one after the other, from what was found at each. Assumes nothing.
+use mathlib.Core.Path.{_≡_, sym, _∙_}
 use Prim.Native.Nat.{ℕ}
 use Rattle.marks.specs.Marks.{fitAt}
 use Rattle.marks.specs.Counts.{fieldCount}
 use Rattle.marks.specs.declared.Mark.{Mark}
+use Rattle.marks.specs.declared.Fit.{Fit}
 use Rattle.marks.specs.declared.Place.the-variants.{Formal, Declaration, Statement}
 use Rattle.marks.specs.declared.Fit.the-variants.{Matched, Nothing}
 
-module _ (w : ℕ) where
-  pub count-statement : (n : ℕ) (m : Mark) → fitAt Statement w ≡ Matched n m → fieldCount w ≡ n
+module _ (w r : ℕ) (f : Fit) (statement : f ≡ fitAt Statement w) where
+  pub count-statement : (n : ℕ) (m : Mark) → f ≡ Matched n m → r ≡ n → r ≡ fieldCount w
   unfolding fieldCount
-  count-statement n m e = rw (e, fieldCount)
+  count-statement n m e q = rw (sym statement ∙ e, fieldCount) q
 
-  module _ (no-statement : fitAt Statement w ≡ Nothing) where
-    pub count-declaration : (n : ℕ) (m : Mark) → fitAt Declaration w ≡ Matched n m → fieldCount w ≡ n
+  module _ (none : f ≡ Nothing) (g : Fit) (declaration : g ≡ fitAt Declaration w) where
+    pub count-declaration : (n : ℕ) (m : Mark) → g ≡ Matched n m → r ≡ n → r ≡ fieldCount w
     unfolding fieldCount
-    count-declaration n m e = rw (no-statement, e, fieldCount)
+    count-declaration n m e q = rw (sym statement ∙ none, sym declaration ∙ e, fieldCount) q
 
-    module _ (no-declaration : fitAt Declaration w ≡ Nothing) where
-      pub count-formal : (n : ℕ) (m : Mark) → fitAt Formal w ≡ Matched n m → fieldCount w ≡ n
+    module _ (neither : g ≡ Nothing) (h : Fit) (formal : h ≡ fitAt Formal w) where
+      pub count-formal : (n : ℕ) (m : Mark) → h ≡ Matched n m → r ≡ n → r ≡ fieldCount w
       unfolding fieldCount
-      count-formal n m e = rw (no-statement, no-declaration, e, fieldCount)
+      count-formal n m e q = rw (sym statement ∙ none, sym declaration ∙ neither, sym formal ∙ e, fieldCount) q
 
-      pub count-none : fitAt Formal w ≡ Nothing → fieldCount w ≡ 2
+      pub count-none : h ≡ Nothing → r ≡ 2 → r ≡ fieldCount w
       unfolding fieldCount
-      count-none e = rw (no-statement, no-declaration, e, fieldCount)
+      count-none e q = rw (sym statement ∙ none, sym declaration ∙ neither, sym formal ∙ e, fieldCount) q

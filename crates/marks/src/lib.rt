@@ -1,4 +1,5 @@
 // The table of marks (document 01, "Code places and their forms"), and the search through it.
+use numbers::from_u8;
 ghost use mathlib.Core.Path.{_≡_};
 ghost use Prim.Native.Nat.{_<_};
 ghost use Rattle.marks.specs.Marks.{bitOf, fitAt};
@@ -215,25 +216,19 @@ pub fn find_mark(letters: u32, place: Place) -> Fit
     Fit::Nothing
 }
 
-pub fn as_usize(x: u8) -> usize
-    ensures { λ r. ⌜ (r ≡ x) × (r < 256) ⌝ }
-{
-    x as usize
-}
-
 // The number of fields after a mark, wherever it may stand; 2, as most have, for letters that are no mark, so that the compiled code compares
 // only with the marks that have another number.
 pub fn field_count(letters: u32) -> usize
     ensures { λ r. ⌜ (r ≡ fieldCount letters) × (r < 256) ⌝ }
 {
     if let Fit::Matched { count, .. } = find_mark(letters, Place::Statement) {
-        return as_usize(count);
+        return from_u8(count);
     }
     if let Fit::Matched { count, .. } = find_mark(letters, Place::Declaration) {
-        return as_usize(count);
+        return from_u8(count);
     }
     if let Fit::Matched { count, .. } = find_mark(letters, Place::Formal) {
-        return as_usize(count);
+        return from_u8(count);
     }
     2
 }

@@ -6,8 +6,8 @@ use super::fields::marked;
 use language::Refusal;
 use marks::Fit;
 use marks::Place;
-use marks::as_usize;
 use marks::find_mark;
+use numbers::from_u8;
 ghost use mathlib.Core.Path.{_≡_};
 ghost use Prim.Native.Nat.{_+_, _<_, _≤_};
 ghost use lib.ListN.{length};
@@ -22,7 +22,7 @@ fn take_record(script: &[u8], at: usize, place: Place) -> Reading
         return Reading::Refused(Refusal::MarkMisplaced, at);
     };
     let from = at + 2;
-    let k = as_usize(count);
+    let k = from_u8(count);
     if script.len() - from < 2 * k {
         return Reading::Refused(Refusal::PastTheEnd, at);
     }

@@ -9,14 +9,13 @@ use Rattle.language.specs.Text.{Decls, no-decl, decl, Stmts, no-stmt, stmt, dec
 use Rattle.coordinates.specs.Enclosure.{Enclosure}
 use Rattle.resolved.specs.Resolved.{resolvedDecl, resolvedStmt, resolvedDecls, resolvedStmts}
 use Rattle.resolved.specs.Lengths.{decl-length, stmt-length}
-use Rattle.laws.specs.Fields.{FieldsStand, field-inside, fields-first, fields-after}
 use Rattle.extents.specs.Items.{Item, formal, body, declared, stated, itemFields, itemsFields}
-use Rattle.extents.proofs.Inside.{item-opens, head-marked}
-use Rattle.scoping.specs.Walking.{FormedItem, FormedItems, ItemsHere, ItemHere}
+use Rattle.scoping.proofs.Marked.{first-here, first-inside, others-here}
+use Rattle.scoping.specs.Walking.{FormedItem, ItemsHere, Ready, Kept}
 use Rattle.writing.specs.Growth.{Grown}
 use Rattle.writing.specs.Visible.{Shown}
 use Rattle.writing.proofs.Growth.{grown-nothing, grown-then}
-use Rattle.resolving.specs.Resolving.{resolvedItem, resolvedItems, ItemsIs, ItemIs, Written}
+use Rattle.resolving.specs.Resolving.{resolvedItem, resolvedItems, ItemsIs, ItemIs, Written, ItemWritten, ItemsWritten, Onward}
 
 -- declarations and statements as records
 pub stmts-resolved : (name : ℕ) (ss : Stmts) (encl : Enclosure) → resolvedStmts name ss encl ≡ resolvedItems name (map stated (stmts ss)) encl
@@ -46,7 +45,7 @@ pub record Remaining (bs c₀ c : List ℕ) (name at here i count top level : �
   pub on : (c′ : List ℕ) → Grown c c′ here (resolvedItems name left encl) → Grown c₀ c′ at (resolvedItems name xs encl)
 
 module _ (bs es c₀ : List ℕ) (name at count top level : ℕ) (xs : List Item) (encl : Enclosure) (s : ℕ) (is : ItemsIs bs es at count top level xs encl s) where
-  pub remaining-start : Remaining bs c₀ c₀ name at at 0 count top level xs encl s
+  remaining-start : Remaining bs c₀ c₀ name at at 0 count top level xs encl s
   remaining-start =
       let h = is .here in
       record {
@@ -58,7 +57,7 @@ module _ (bs es c₀ : List ℕ) (name at count top level : ℕ) (xs : List Item
       }
 
   module _ (here i : ℕ) where
-    pub remaining-end : (c : List ℕ) → count ≤ i → Remaining bs c₀ c name at here i count top level xs encl s → Written c₀ c at (at + 2 * length (itemsFields xs)) here (resolvedItems name xs encl)
+    remaining-end : (c : List ℕ) → count ≤ i → Remaining bs c₀ c name at here i count top level xs encl s → Written c₀ c at (at + 2 * length (itemsFields xs)) here (resolvedItems name xs encl)
     unfolding resolvedItems itemsFields
     remaining-end c h r = none (r .left) (r .number) (r .reach) (r .on)
       where
@@ -71,46 +70,81 @@ module _ (bs es c₀ : List ℕ) (name at count top level : ℕ) (xs : List Item
 
     -- the next record begins inside the script, and is written
     module _ (more : i < count) where
-      head-inside : (l : List Item) → length l + i ≡ count → FieldsStand bs here (itemsFields l) → length bs ≤ here → ⊥
-      unfolding itemsFields
-      head-inside [] n h out = omega arith
-      head-inside (y ∷ ys) n h out =
-          let f = fields-first bs here (itemFields y) (itemsFields ys) h in
-          field-inside bs here (head-marked bs here _ y (subst (FieldsStand bs here) (item-opens y) f)) out
+      remaining-inside : (c : List ℕ) → Remaining bs c₀ c name at here i count top level xs encl s → length bs ≤ here → ⊥
+      remaining-inside c r = go (r .left) (r .number) (r .rest)
+        where
+          go : (l : List Item) → length l + i ≡ count → ItemsHere bs here (length l) top l level s → length bs ≤ here → ⊥
+          go [] n h out = omega arith
+          go (y ∷ ys) n h out = first-inside bs here top level s y ys h out
 
-      pub remaining-inside : (c : List ℕ) → Remaining bs c₀ c name at here i count top level xs encl s → length bs ≤ here → ⊥
-      remaining-inside c r = head-inside (r .left) (r .number) (r .rest .stand)
-
-      module _ (c c₁ es₁ : List ℕ) (same : drop top es₁ ≡ drop top es) (next : ℕ)
-          (written : (x : Item) (e : Enclosure) (n : ℕ) → ItemIs bs es₁ here top level x e n → Written c c₁ here (here + 2 * length (itemFields x)) next (resolvedItem name x e)) where
+      module _ (c c₁ es₁ : List ℕ) (same : drop top es₁ ≡ drop top es) (next : ℕ) (written : ItemWritten bs es₁ name here top level c c₁ next) where
         step :
             (l : List Item) → length l + i ≡ count → ItemsHere bs here (length l) top l level s → here + 2 * length (itemsFields l) ≡ at + 2 * length (itemsFields xs) →
             ((c′ : List ℕ) → Grown c c′ here (resolvedItems name l encl) → Grown c₀ c′ at (resolvedItems name xs encl)) →
             Remaining bs c₀ c₁ name at next (i + 1) count top level xs encl s
-        unfolding resolvedItems itemsFields FormedItems
+        unfolding resolvedItems itemsFields
         step [] n h q on = absurd (omega arith)
         step (y ∷ ys) n h q on =
             let long = length-append (itemFields y) (itemsFields ys) in
-            let w = written y encl s
-            (record {
-              here = record { stand = fields-first bs here (itemFields y) (itemsFields ys) (h .stand); formed = h .formed .0; room = h .room };
-              depth = is .depth;
-              shown = subst (Shown encl) (sym same) (is .shown);
-              within = omega (arith, is .within);
-            }) in
+            let first = first-here bs here top level s y ys h in
+            let w = written y encl s (record { here = first; depth = is .depth; shown = subst (Shown encl) (sym same) (is .shown); within = omega (arith, is .within) }) in
             let e = w .ends in
             record {
               left = ys;
               number = omega arith;
-              rest = record {
-                number = refl;
-                stand = subst (λ (o : ℕ). FieldsStand bs o (itemsFields ys)) (sym e) (fields-after bs here (itemFields y) (itemsFields ys) (h .stand));
-                formed = subst (λ (o : ℕ). FormedItems ys level s o) (sym e) (h .formed .1);
-                room = h .room;
-              };
+              rest = others-here bs here top level s y ys h next e;
               reach = omega arith;
-              on = λ c′ g. on c′ (grown-then (omega (arith, item-length name y encl level s here (h .formed .0))) (w .grows) g);
+              on = λ c′ g. on c′ (grown-then (omega (arith, item-length name y encl level s here (first .formed))) (w .grows) g);
             }
 
-        pub remaining-step : Remaining bs c₀ c name at here i count top level xs encl s → Remaining bs c₀ c₁ name at next (i + 1) count top level xs encl s
+        remaining-step : Remaining bs c₀ c name at here i count top level xs encl s → Remaining bs c₀ c₁ name at next (i + 1) count top level xs encl s
         remaining-step r = step (r .left) (r .number) (r .rest) (r .reach) (r .on)
+
+-- the records walked so far, as the code has it
+pub record Walking (bs es₀ es st₀ st ends c₀ c : List ℕ) (name at here i count top level : ℕ) : Type 0 where
+  pub within : i ≤ count
+  pub from : at ≤ here
+  pub near : here ≤ length bs + 400000
+  pub entries-long : length es ≡ length es₀
+  pub starts-long : length st ≡ length st₀
+  pub code-long : length c ≡ length c₀
+  pub kept : Kept bs es₀ es ends top
+  pub rest : (xs : List Item) (encl : Enclosure) (s : ℕ) → ItemsIs bs es₀ at count top level xs encl s → Remaining bs c₀ c name at here i count top level xs encl s
+
+pub walking-start :
+    (bs es st ends c : List ℕ) (name at count top level : ℕ) → Ready bs es ends top → at ≤ length bs + 400000 → Walking bs es es st st ends c c name at at 0 count top level
+walking-start bs es st ends c name at count top level r l =
+    record {
+      within = omega arith;
+      from = omega arith;
+      near = l;
+      entries-long = refl;
+      starts-long = refl;
+      code-long = refl;
+      kept = record { same = refl; chained = r .chained; noted = r .noted };
+      rest = λ xs encl s h. remaining-start bs es c name at count top level xs encl s h;
+    }
+
+module _ {bs es₀ es st₀ st ends c₀ c : List ℕ} {name at here i count top level : ℕ} (w : Walking bs es₀ es st₀ st ends c₀ c name at here i count top level) where
+  pub walking-end : count ≤ i → ItemsWritten bs es₀ name at count top level c₀ c here
+  walking-end l xs encl s h = remaining-end bs es₀ c₀ name at count top level xs encl s h here i c l (w .rest xs encl s h)
+
+  pub walking-out : (r : ℕ) → i < count → length bs ≤ here → ItemsWritten bs es₀ name at count top level c₀ c r
+  walking-out r l o xs encl s h = absurd (remaining-inside bs es₀ c₀ name at count top level xs encl s h here i l c (w .rest xs encl s h) o)
+
+  pub walking-step :
+      {es₁ st₁ ends₁ c₁ : List ℕ} {next : ℕ} → i < count →
+      ItemWritten bs es name here top level c c₁ next × (Onward here (length bs) next × Kept bs es es₁ ends₁ top) → length es₁ ≡ length es → length st₁ ≡ length st → length c₁ ≡ length c →
+      Walking bs es₀ es₁ st₀ st₁ ends₁ c₀ c₁ name at next (i + 1) count top level
+  walking-step {es₁} {st₁} {ends₁} {c₁} {next} more g n m l =
+      let k = g .1 .1 in
+      record {
+        within = omega arith;
+        from = omega (arith, w .from, g .1 .0 .0);
+        near = g .1 .0 .1;
+        entries-long = n ∙ w .entries-long;
+        starts-long = m ∙ w .starts-long;
+        code-long = l ∙ w .code-long;
+        kept = record { same = k .same ∙ w .kept .same; chained = k .chained; noted = k .noted };
+        rest = λ xs encl s h. remaining-step bs es₀ c₀ name at count top level xs encl s h here i more c c₁ es (w .kept .same) next (g .0) (w .rest xs encl s h);
+      }

@@ -10,6 +10,8 @@ use Rattle.coordinates.specs.Enclosure.{Enclosure, enclosed}
 use Rattle.resolved.specs.Resolved.{stmtPlace, headWord, nameWord, resolvedFormals, resolvedBlock, resolvedDecl, resolvedStmt, resolvedOf, Covers}
 use Rattle.resolved.specs.Lengths.{covers-front}
 use Rattle.laws.specs.Fields.{FieldsStand}
+use Rattle.symbols.specs.Chains.{Chained}
+use Rattle.extents.specs.Passing.{Ends}
 use Rattle.extents.specs.Items.{Item, formal, body, declared, stated, itemFields, itemsFields}
 use Rattle.scoping.specs.Walking.{BlockHere, ItemsHere, ItemHere}
 use Rattle.writing.specs.Growth.{Grown}
@@ -66,6 +68,15 @@ Entered bs es es′ name at count top base level code code′ =
 abbrev pub Leads : List ℕ → List ℕ → ℕ → ℕ → ℕ → ℕ → ℕ → Type 0
 Leads bs es at count top level first =
     (b : Block) (fs : List Formal) (encl : Enclosure) → BlockIs bs es at count top level b fs encl → (first ≤ 8192) × (first / 2 ≡ stmtPlace b 1)
+
+-- a block is entered, and the entries around it are as they were
+pub record Enters (bs es es′ ends code code′ : List ℕ) (name at count d base level first : ℕ) : Type 0 where
+  pub entered : Entered bs es es′ name at count (base + (count + d)) base level code code′
+  pub leads : Leads bs es at count (base + (count + d)) level first
+  pub same : drop (base + (count + d)) es′ ≡ drop (base + (count + d)) es
+  pub chained : Chained es′ base
+  pub near : first ≤ 1000000
+  pub noted : Ends bs ends
 
 abbrev pub BlockWritten : List ℕ → List ℕ → ℕ → ℕ → ℕ → ℕ → ℕ → List ℕ → List ℕ → ℕ → Type 0
 BlockWritten bs es name at count top level code code′ r =

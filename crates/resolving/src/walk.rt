@@ -2,10 +2,17 @@
 use declaring::declare;
 use emitting::emit;
 use extents::past;
+use layout::bounds_word;
+use layout::head_word;
 use marks::BK;
+use marks::BK_BYTES;
+use marks::FM_BYTES;
 use marks::LB;
+use marks::LB_BYTES;
 use marks::PR;
+use marks::PR_BYTES;
 use marks::VR;
+use marks::VR_BYTES;
 use symbols::insert;
 use symbols::remove;
 use words::word;
@@ -14,13 +21,14 @@ use writing::named;
 use writing::put;
 use writing::put_three;
 ghost use mathlib.Core.Path.{_≡_};
-ghost use Prim.Native.Nat.{ℕ, _+_, _*_, _<_, _≤_};
-ghost use lib.ListN.{length, drop};
+ghost use Prim.Native.Nat.{ℕ, _+_, _<_, _≤_};
+ghost use lib.ListN.{length};
 ghost use Rattle.language.specs.Encoding.{BK-mark, PR-mark};
 ghost use Rattle.laws.specs.Fields.{fieldAt};
 ghost use Rattle.symbols.specs.Chains.{Chained};
-ghost use Rattle.extents.specs.Passing.{Ends};
-ghost use Rattle.resolving.specs.Resolving.{FormalsWritten, Entered, Leads, BlockWritten, ItemsWritten, ItemWritten, Onward};
+ghost use Rattle.scoping.specs.Walking.{Ready, Kept};
+ghost use Rattle.declaring.specs.Declared.{Declarable};
+ghost use Rattle.resolving.specs.Resolving.{FormalsWritten, Enters, BlockWritten, ItemsWritten, ItemWritten, Onward};
 
 // A record that holds no other, with its mark.
 fn leaf(
@@ -37,11 +45,11 @@ fn leaf(
 {
     if mark == VR {
         emit_name(script, entries, top, code, at);
-        return at + 4;
+        return at + VR_BYTES;
     }
     if mark == LB {
         emit_name(script, entries, top, code, at);
-        return at + 6;
+        return at + LB_BYTES;
     }
     emit(script, entries, top, code, at, mark);
     past(script, at, mark)
@@ -54,7 +62,7 @@ fn kinds(script: &[u8], code: &mut [u32], at: usize, count: usize)
 {
     let mut i = 0;
     while i < count {
-        let here = at + 6 * i + 4;
+        let here = at + FM_BYTES * i + 4;
         put(code, here, word(script, here));
         i += 1;
     }
@@ -75,20 +83,15 @@ fn enter(
     base: usize,
     level: usize,
 ) -> usize
-    requires { ⌜ (length (now script) ≤ 8192) × (at ≤ 200000) × (count < 65536) × (d ≡ fieldAt (now script) (at + 6 * count + 2)) × (s ≡ fieldAt (now script) (at + 6 * count + 4)) × (d < 65536) × (s < 65536) × (level ≤ 1000000) × (768 ≤ base) × (base + (count + d) ≤ 1280) × (2048 ≤ length (now starts)) × Chained (now entries) (base + (count + d)) × Ends (now script) (now ends) ⌝ }
-    ensures entered { λ r. ⌜ Entered (now (script .entry)) (now (entries .entry)) (now (entries .exit)) name at count (base + (count + d)) base level (now (code .entry)) (now (code .exit)) ⌝ }
-    ensures leads { λ r. ⌜ Leads (now (script .entry)) (now (entries .entry)) at count (base + (count + d)) level r ⌝ }
-    ensures kept { λ r. ⌜ drop (base + (count + d)) (now (entries .exit)) ≡ drop (base + (count + d)) (now (entries .entry)) ⌝ }
-    ensures chained { λ r. ⌜ Chained (now (entries .exit)) base ⌝ }
-    ensures noted { λ r. ⌜ Ends (now (script .entry)) (now (ends .exit)) ⌝ }
-    ensures near { λ r. ⌜ r ≤ 1000000 ⌝ }
+    requires { ⌜ Declarable (now script) (now entries) (now starts) (now ends) at count d s base level × (768 ≤ base) × Chained (now entries) (base + (count + d)) ⌝ }
+    ensures { λ r. ⌜ Enters (now (script .entry)) (now (entries .entry)) (now (entries .exit)) (now (ends .exit)) (now (code .entry)) (now (code .exit)) name at count d base level r ⌝ }
 {
     let first = declare(script, entries, ends, starts, at, count, d, s, base, level);
     insert(entries, base, base + (count + d));
     kinds(script, code, at, count);
     let looked = named(entries, base, name);
-    let head = 6 + 256 * level + 65536 * count + 16777216 * (count + d);
-    put_three(code, at + 6 * count, head, 0, looked);
+    let head = head_word(level, count, count + d);
+    put_three(code, at + FM_BYTES * count, head, 0, looked);
     first
 }
 
@@ -105,14 +108,12 @@ pub fn block(
     top: usize,
     level: usize,
 ) -> usize
-    requires { ⌜ (length (now script) ≤ 8192) × (at ≤ length (now script) + 6) × (count < 65536) × (top ≤ length (now entries)) × (2048 ≤ length (now starts)) × (level ≤ at + 1) × Chained (now entries) top × Ends (now script) (now ends) ⌝ }
+    requires { ⌜ Ready (now script) (now entries) (now ends) top × (2048 ≤ length (now starts)) × (at ≤ length (now script) + 6) × (count < 65536) × (level ≤ at + 1) ⌝ }
     ensures written { λ r. ⌜ BlockWritten (now (script .entry)) (now (entries .entry)) name at count top level (now (code .entry)) (now (code .exit)) r ⌝ }
     ensures onward { λ r. ⌜ Onward at (length (now (script .entry))) r ⌝ }
-    ensures kept { λ r. ⌜ drop top (now (entries .exit)) ≡ drop top (now (entries .entry)) ⌝ }
-    ensures chained { λ r. ⌜ Chained (now (entries .exit)) top ⌝ }
-    ensures noted { λ r. ⌜ Ends (now (script .entry)) (now (ends .exit)) ⌝ }
+    ensures kept { λ r. ⌜ Kept (now (script .entry)) (now (entries .entry)) (now (entries .exit)) (now (ends .exit)) top ⌝ }
 {
-    let start = at + 6 * count;
+    let start = at + FM_BYTES * count;
     if word(script, start) != BK {
         return start;
     }
@@ -143,12 +144,12 @@ pub fn block(
         starts,
         code,
         name,
-        start + 6,
+        start + BK_BYTES,
         d + s,
         base,
         level,
     );
-    put(code, start + 2, end / 2 + 65536 * (first / 2));
+    put(code, start + 2, bounds_word(end / 2, first / 2));
     remove(entries, base, top);
     end
 }
@@ -166,12 +167,10 @@ fn items(
     top: usize,
     level: usize,
 ) -> usize
-    requires { ⌜ (length (now script) ≤ 8192) × (at ≤ length (now script) + 400000) × (count ≤ 131070) × (top ≤ length (now entries)) × (2048 ≤ length (now starts)) × (level ≤ at) × Chained (now entries) top × Ends (now script) (now ends) ⌝ }
+    requires { ⌜ Ready (now script) (now entries) (now ends) top × (2048 ≤ length (now starts)) × (at ≤ length (now script) + 400000) × (count ≤ 131070) × (level ≤ at) ⌝ }
     ensures written { λ r. ⌜ ItemsWritten (now (script .entry)) (now (entries .entry)) name at count top level (now (code .entry)) (now (code .exit)) r ⌝ }
     ensures onward { λ r. ⌜ Onward at (length (now (script .entry))) r ⌝ }
-    ensures kept { λ r. ⌜ drop top (now (entries .exit)) ≡ drop top (now (entries .entry)) ⌝ }
-    ensures chained { λ r. ⌜ Chained (now (entries .exit)) top ⌝ }
-    ensures noted { λ r. ⌜ Ends (now (script .entry)) (now (ends .exit)) ⌝ }
+    ensures kept { λ r. ⌜ Kept (now (script .entry)) (now (entries .entry)) (now (entries .exit)) (now (ends .exit)) top ⌝ }
 {
     let mut here = at;
     let mut i = 0;
@@ -197,12 +196,10 @@ fn item(
     top: usize,
     level: usize,
 ) -> usize
-    requires { ⌜ (length (now script) ≤ 8192) × (at < length (now script)) × (top ≤ length (now entries)) × (2048 ≤ length (now starts)) × (level ≤ at) × Chained (now entries) top × Ends (now script) (now ends) ⌝ }
+    requires { ⌜ Ready (now script) (now entries) (now ends) top × (2048 ≤ length (now starts)) × (at < length (now script)) × (level ≤ at) ⌝ }
     ensures written { λ r. ⌜ ItemWritten (now (script .entry)) (now (entries .entry)) name at top level (now (code .entry)) (now (code .exit)) r ⌝ }
     ensures onward { λ r. ⌜ Onward at (length (now (script .entry))) r ⌝ }
-    ensures kept { λ r. ⌜ drop top (now (entries .exit)) ≡ drop top (now (entries .entry)) ⌝ }
-    ensures chained { λ r. ⌜ Chained (now (entries .exit)) top ⌝ }
-    ensures noted { λ r. ⌜ Ends (now (script .entry)) (now (ends .exit)) ⌝ }
+    ensures kept { λ r. ⌜ Kept (now (script .entry)) (now (entries .entry)) (now (entries .exit)) (now (ends .exit)) top ⌝ }
 {
     let mark = word(script, at);
     if mark == PR {
@@ -215,7 +212,7 @@ fn item(
             starts,
             code,
             name,
-            at + 6,
+            at + PR_BYTES,
             count,
             top,
             level + 1,

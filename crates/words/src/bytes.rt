@@ -1,21 +1,16 @@
 // The bytes and 16-bit fields of a script by their offsets.
+use numbers::from_u8;
 ghost use mathlib.Core.Path.{_≡_};
 ghost use Prim.Native.Nat.{_^_, _<_};
 ghost use lib.ListN.{getD};
 ghost use Rattle.laws.specs.Fields.{fieldAt};
-
-fn as_usize(x: u8) -> usize
-    ensures { λ r. ⌜ (r ≡ x) × (r < 256) ⌝ }
-{
-    x as usize
-}
 
 // A byte of the script; 0 past its end.
 fn byte(script: &[u8], at: usize) -> usize
     ensures { λ r. ⌜ (r ≡ getD (now (script .entry)) at 0) × (r < 256) ⌝ }
 {
     if at < script.len() {
-        return as_usize(script[at]);
+        return from_u8(script[at]);
     }
     0
 }
@@ -26,7 +21,7 @@ pub fn word_at(script: &[u8], at: usize) -> usize
     ensures { λ r. ⌜ (r ≡ fieldAt (now (script .entry)) at) × (r < 65536) ⌝ }
 {
     if at + 1 < script.len() {
-        return as_usize(script[at]) + 256 * as_usize(script[at + 1]);
+        return from_u8(script[at]) + 256 * from_u8(script[at + 1]);
     }
     byte(script, at)
 }

@@ -1,5 +1,5 @@
 -- `blocks::block` in the cycle of the check. Assumes nothing.
-use mathlib.Core.Path.{_≡_, _∙_, refl}
+use mathlib.Core.Path.{_≡_, _∙_}
 use Prim.Native.Nat.{ℕ, _+_, _-_, _≤_}
 use lib.ListN.{length, take}
 use borrow.Author.Needs.{needs}
@@ -47,34 +47,11 @@ module _ (t : ℕ) where
       Passed (a .left) (a .next) (a .d) (a .held) (c .opened2 .given .0 .0)
   passed c = opened-passed _ _ _ _ _ (judgedOf c .opened .ensures) (c .opened2 .given .1)
 
-  opened-requires : block-lts.Need-opened-requires calls (block-at t) block.Post
-  opened-requires c κs = search needs
-
-  enum-known-opened : block-lts.Need-enum-known-opened calls (block-at t) block.Post
-  enum-known-opened c = search needs
-
-  enum-told : block-lts.Need-enum-told calls (block-at t) block.Post
-  enum-told c = search needs
-
-  returns : block-lts.Need-returns calls (block-at t) block.Post
-  returns c =
-      let j = c .before .before in
-      (unopened _ _ _ _ _ _ _ _ (room (entryOf j)) (j .opened .ensures) (c .enum-told .given .1), refl)
-
   sub-declarations : block-lts.Need-sub-declarations calls (block-at t) block.Post
   sub-declarations c = let p = passed (passedOf c) .positive in omega (arith, entryOf (judgedOf (passedOf c)) .pre)
 
   declarations-requires : block-lts.Need-declarations-requires calls (block-at t) block.Post
   declarations-requires c κs = let p = passed (passedOf c) in omega (arith, entryOf (judgedOf (passedOf c)) .pre, p)
-
-  enum-known-declared : block-lts.Need-enum-known-declared calls (block-at t) block.Post
-  enum-known-declared c = search needs
-
-  enum-told-2 : block-lts.Need-enum-told-2 calls (block-at t) block.Post
-  enum-told-2 c = search needs
-
-  same-length : block-lts.Need-same-length calls (block-at t) block.Post
-  same-length c = readOf (c .before .before) .declarations .kept .1 .0
 
   -- the declarations leave the names of the levels above
   kept :
@@ -109,9 +86,6 @@ module _ (t : ℕ) where
       let p = passed o .positive in
       omega (arith, e .pre, on)
 
-  same-length-2 : block-lts.Need-same-length-2 calls (block-at t) block.Post
-  same-length-2 c = doneOf c .statements .kept .1 .0 ∙ readOf (declaredOf (doneOf c .before) .before .before) .declarations .kept .1 .0
-
   returns-3 : block-lts.Need-returns-3 calls (block-at t) block.Post
   returns-3 c =
       let ss = doneOf c .statements in
@@ -125,18 +99,6 @@ module _ (t : ℕ) where
 
   pub block-closed : {M : Type 1} → block-lts.Closed calls (block-at t) block.Post M
   block-closed =
-      block-lts.spec calls (block-at t) block.Post
-      opened-requires
-      enum-known-opened
-      enum-told
-      returns
-      sub-declarations
-      declarations-requires
-      enum-known-declared
-      enum-told-2
-      same-length
-      returns-2
-      sub-statements
-      statements-requires
-      same-length-2
-      returns-3
+      block-lts.spec calls (block-at t) block.Post (λ c κs. search needs) (λ c. search needs) (λ c. search needs)
+      (λ c. search (needs, unopened, room)) sub-declarations declarations-requires (λ c. search needs) (λ c. search needs)
+      (λ c. search needs) returns-2 sub-statements statements-requires (λ c. search needs) returns-3

@@ -1,5 +1,5 @@
 -- `blocks::body` in the cycle of the check. Assumes nothing.
-use mathlib.Core.Path.{_≡_, _∙_, sym, refl, subst}
+use mathlib.Core.Path.{_≡_, _∙_, subst}
 use Prim.Native.Nat.{ℕ, _≤_}
 use lib.ListN.{length}
 use borrow.Author.Needs.{needs}
@@ -45,65 +45,8 @@ module _ (t : ℕ) where
   few : (c : body-lts.After-enum-told calls (body-at t) body.Post) → entryOf c .args .p ≤ 32
   few c = few-formals _ _ (c .enum-told .given .1) (entryOf c .pre .1 .1)
 
-  enum-told : body-lts.Need-enum-told calls (body-at t) body.Post
-  enum-told c = search needs
-
-  returns : body-lts.Need-returns calls (body-at t) body.Post
-  returns c = (sym (others-below _ _ _ _ _ (c .match .keys2)), refl)
-
-  sub-base : body-lts.Need-sub-base calls (body-at t) body.Post
-  sub-base c = omega (arith, entryOf c .pre)
-
-  mul-base : body-lts.Need-mul-base calls (body-at t) body.Post
-  mul-base c = omega (arith, entryOf c .pre)
-
   read-formals-requires : body-lts.Need-read-formals-requires calls (body-at t) body.Post
   read-formals-requires c κs = let h = few (c .before) in omega (arith, entryOf (c .before) .pre, h)
-
-  enum-known-formals : body-lts.Need-enum-known-formals calls (body-at t) body.Post
-  enum-known-formals c = search needs
-
-  enum-told-2 : body-lts.Need-enum-told-2 calls (body-at t) body.Post
-  enum-told-2 c = search needs
-
-  same-length : body-lts.Need-same-length calls (body-at t) body.Post
-  same-length c = formalsOf (c .before .before) .read-formals .kept .1 .0
-
-  returns-2 : body-lts.Need-returns-2 calls (body-at t) body.Post
-  returns-2 c =
-      let f = formalsOf (c .before .before) in
-      (formals-refused _ _ _ _ _ (procedureOf f .enum-told .given .1) (f .read-formals .ensures .0) (c .enum-told2 .given .1), f .read-formals .ensures .1 .1)
-
-  read-block-requires : body-lts.Need-read-block-requires calls (body-at t) body.Post
-  read-block-requires c κs = search needs
-
-  enum-known-reading : body-lts.Need-enum-known-reading calls (body-at t) body.Post
-  enum-known-reading c = search needs
-
-  enum-told-3 : body-lts.Need-enum-told-3 calls (body-at t) body.Post
-  enum-told-3 c = search needs
-
-  onward-requires : body-lts.Need-onward-requires calls (body-at t) body.Post
-  onward-requires c κs = search needs
-
-  same-length-2 : body-lts.Need-same-length-2 calls (body-at t) body.Post
-  same-length-2 c = heldOf (namedOf (c .before .before .before)) .read-formals .kept .1 .0
-
-  returns-3 : body-lts.Need-returns-3 calls (body-at t) body.Post
-  returns-3 c =
-      let b = c .before .before .before in
-      let n = namedOf b in
-      let f = heldOf n in (
-        head-refused _ _ _ _ _ (procedureOf f .enum-told .given .1) (f .read-formals .ensures .0) (n .formals .given .1)
-            (b .read-block .ensures .0) (c .before .enum-told3 .given .1) (c .onward .ensures),
-        f .read-formals .ensures .1 .1,
-      )
-
-  cast-block : body-lts.Need-cast-block calls (body-at t) body.Post
-  cast-block c = search needs
-
-  cast-block-2 : body-lts.Need-cast-block-2 calls (body-at t) body.Post
-  cast-block-2 c = search needs
 
   block-requires : body-lts.Need-block-requires calls (body-at t) body.Post
   block-requires c κs =
@@ -118,10 +61,6 @@ module _ (t : ℕ) where
       let l : length (f .read-formals .last .1 .0) ≡ length (e .args .names .now) = f .read-formals .kept .1 .0 in
       omega (arith, e .pre, h, on, within)
 
-  same-length-3 : body-lts.Need-same-length-3 calls (body-at t) body.Post
-  same-length-3 c =
-      doneOf c .block .kept .1 .0 ∙ heldOf (namedOf (takenOf (doneOf c .before) .before .before)) .read-formals .kept .1 .0
-
   returns-4 : body-lts.Need-returns-4 calls (body-at t) body.Post
   returns-4 c =
       let bk = doneOf c .block in
@@ -129,31 +68,14 @@ module _ (t : ℕ) where
       let b = k .before .before in
       let n = namedOf b in
       let f = heldOf n in (
-        body-is _ _ _ _ _ (procedureOf f .enum-told .given .1) (f .read-formals .ensures .0) (n .formals .given .1) _ (f .read-formals .ensures .1 .0)
-            (b .read-block .ensures .0) (k .reading .given .1) (bk .ensures .0),
+        search (needs, body-is),
         bk .ensures .1 ∙ f .read-formals .ensures .1 .1,
       )
 
   pub body-closed : {M : Type 1} → body-lts.Closed calls (body-at t) body.Post M
   body-closed =
-      body-lts.spec calls (body-at t) body.Post
-      enum-told
-      returns
-      sub-base
-      mul-base
-      read-formals-requires
-      enum-known-formals
-      enum-told-2
-      same-length
-      returns-2
-      read-block-requires
-      enum-known-reading
-      enum-told-3
-      onward-requires
-      same-length-2
-      returns-3
-      cast-block
-      cast-block-2
-      block-requires
-      same-length-3
-      returns-4
+      body-lts.spec calls (body-at t) body.Post (λ c. search needs) (λ c. search (needs, others-below)) (λ c. search needs)
+      (λ c. search needs) read-formals-requires (λ c. search needs) (λ c. search needs) (λ c. search needs)
+      (λ c. search (needs, formals-refused)) (λ c κs. search needs) (λ c. search needs) (λ c. search needs) (λ c κs. search needs)
+      (λ c. search needs) (λ c. search (needs, head-refused)) (λ c. search needs) (λ c. search needs) block-requires
+      (λ c. search needs) returns-4

@@ -1,5 +1,5 @@
 -- `blocks::declarations` in the cycle of the check. Assumes nothing.
-use mathlib.Core.Path.{_≡_, _∙_, sym, refl, subst}
+use mathlib.Core.Path.{_≡_, _∙_, sym, subst}
 use Prim.Native.Nat.{ℕ, _+_, _-_, _≤_}
 use lib.ListN.{length, take, length-set}
 use borrow.Author.Needs.{needs}
@@ -54,62 +54,16 @@ module _ (t : ℕ) where
   abbrev readOf : declarations-lts.After-known-told2 calls (declarations-at t) declarations.Post Inv-loop μ-loop → declarations-lts.After-body calls (declarations-at t) declarations.Post Inv-loop μ-loop
   readOf c = bodyOf (endOf c .before .before)
 
-  add-base : declarations-lts.Need-add-base calls (declarations-at t) declarations.Post Inv-loop μ-loop
-  add-base c = omega (arith, c .before .before .pre)
-
-  sub-base : declarations-lts.Need-sub-base calls (declarations-at t) declarations.Post Inv-loop μ-loop
-  sub-base c = omega (arith, c .before .before .pre)
-
-  mul-base : declarations-lts.Need-mul-base calls (declarations-at t) declarations.Post Inv-loop μ-loop
-  mul-base c = omega (arith, c .before .before .pre)
-
-  loop-holds : declarations-lts.Need-loop-holds calls (declarations-at t) declarations.Post Inv-loop μ-loop
-  loop-holds c = (search needs, c .before .before .pre .1 .2, refl, decls-start _ _ _ _ _ _ _ _)
-
-  add-count : declarations-lts.Need-add-count calls (declarations-at t) declarations.Post Inv-loop μ-loop
-  add-count c = omega (arith, entryOf (c .before) .pre, c .before .loop .inv .0)
-
-  heading-requires : declarations-lts.Need-heading-requires calls (declarations-at t) declarations.Post Inv-loop μ-loop
-  heading-requires c κs = omega (arith, entryOf (c .before .before) .pre, c .before .before .loop .inv, c .before .loop-test .taken)
-
-  enum-known-reading : declarations-lts.Need-enum-known-reading calls (declarations-at t) declarations.Post Inv-loop μ-loop
-  enum-known-reading c = search needs
-
-  enum-told : declarations-lts.Need-enum-told calls (declarations-at t) declarations.Post Inv-loop μ-loop
-  enum-told c = search needs
-
-  onward-requires : declarations-lts.Need-onward-requires calls (declarations-at t) declarations.Post Inv-loop μ-loop
-  onward-requires c κs = search needs
-
-  same-length : declarations-lts.Need-same-length calls (declarations-at t) declarations.Post Inv-loop μ-loop
-  same-length c = let l = loopOf (c .before .before .before) in l .loop .inv .1 ∙ sym (entryOf l .pre .1 .2)
-
-  returns : declarations-lts.Need-returns calls (declarations-at t) declarations.Post Inv-loop μ-loop
-  returns c =
-      let h = c .before .before .before in
-      let l = loopOf h .loop .inv in
-      (head-refused (tracks-block _ _) (l .3) (moreOf h .loop-test .taken) (h .heading .ensures .0) (c .before .enum-told .given .1) (c .onward .ensures), l .2)
-
-  cast-body : declarations-lts.Need-cast-body calls (declarations-at t) declarations.Post Inv-loop μ-loop
-  cast-body c = search needs
-
   body-requires : declarations-lts.Need-body-requires calls (declarations-at t) declarations.Post Inv-loop μ-loop
   body-requires c κs =
       let k = takenOf c in
       let h = headOf k in
       let l = loopOf h in
       let e = entryOf l in
-      let on = l .loop .inv .3 .onward in
       let w = subst (Within (length (e .args .script .now)) (l .loop .at)) (k .reading .given .1) (h .heading .ensures .1) in (
-        omega (arith, e .pre, on, w),
-        (e .pre .1 .0, few-formals (tracks-block (e .args .script .now) (e .args .below)) (l .loop .inv .3) (moreOf h .loop-test .taken) (h .heading .ensures .0) (k .reading .given .1), l .loop .inv .1),
+        search needs,
+        search (needs, few-formals, tracks-block),
       )
-
-  enum-known-after : declarations-lts.Need-enum-known-after calls (declarations-at t) declarations.Post Inv-loop μ-loop
-  enum-known-after c = search needs
-
-  enum-told-2 : declarations-lts.Need-enum-told-2 calls (declarations-at t) declarations.Post Inv-loop μ-loop
-  enum-told-2 c = search needs
 
   same-length-2 : declarations-lts.Need-same-length-2 calls (declarations-at t) declarations.Post Inv-loop μ-loop
   same-length-2 c =
@@ -124,39 +78,6 @@ module _ (t : ℕ) where
       let l = loopOf (headOf (takenOf (c .before))) in
       let e = entryOf l in
       front-kept (l .loop .names) (c .body .last .1 .0) (baseOf (e .args .below + 1)) (baseOf (e .args .below)) (omega (arith, e .pre)) (c .body .ensures .1) ∙ l .loop .inv .2
-
-  returns-2 : declarations-lts.Need-returns-2 calls (declarations-at t) declarations.Post Inv-loop μ-loop
-  returns-2 c =
-      let b = bodyOf (c .before .before) in
-      let k = takenOf (b .before) in
-      let h = headOf k in
-      let l = loopOf h in
-      (below-refused (tracks-block _ _) (l .loop .inv .3) (moreOf h .loop-test .taken) (h .heading .ensures .0) (k .reading .given .1) (b .body .ensures .0) (c .enum-told2 .given .1), kept b)
-
-  add-names : declarations-lts.Need-add-names calls (declarations-at t) declarations.Post Inv-loop μ-loop
-  add-names c =
-      let h = headOf (takenOf (readOf c .before)) in
-      omega (arith, entryOf (loopOf h) .pre, moreOf h .loop-test .taken)
-
-  mul-names : declarations-lts.Need-mul-names calls (declarations-at t) declarations.Post Inv-loop μ-loop
-  mul-names c =
-      let h = headOf (takenOf (readOf c .before)) in
-      omega (arith, entryOf (loopOf h) .pre, moreOf h .loop-test .taken)
-
-  slice-write-names : declarations-lts.Need-slice-write-names calls (declarations-at t) declarations.Post Inv-loop μ-loop
-  slice-write-names c =
-      let b = readOf c in
-      let h = headOf (takenOf (b .before)) in
-      let l : length (b .body .last .1 .0) ≡ length (loopOf h .loop .names) = b .body .kept .1 .0 in
-      omega (arith, entryOf (loopOf h) .pre, loopOf h .loop .inv, moreOf h .loop-test .taken, l)
-
-  add-i : declarations-lts.Need-add-i calls (declarations-at t) declarations.Post Inv-loop μ-loop
-  add-i c =
-      let h = headOf (takenOf (readOf c .before)) in
-      omega (arith, entryOf (loopOf h) .pre, moreOf h .loop-test .taken)
-
-  loop-less : declarations-lts.Need-loop-less calls (declarations-at t) declarations.Post Inv-loop μ-loop
-  loop-less c = search needs
 
   loop-again : declarations-lts.Need-loop-again calls (declarations-at t) declarations.Post Inv-loop μ-loop
   loop-again c =
@@ -174,41 +95,15 @@ module _ (t : ℕ) where
       let same = names-kept (lp .names) (b .body .last .1 .0) base 32 (a .held + lp .i) (omega (arith, lp .inv)) (omega (arith, lp .inv, l)) (omega (arith, e .pre, more)) (subst (λ k. take k (b .body .last .1 .0) ≡ take k (lp .names)) next-level (b .body .ensures .1)) in (
         omega (arith, more),
         length-set (b .body .last .1 .0) (base + (a .held + lp .i)) (k .reading .given .0 .1 .1 .0) ∙ l ∙ lp .inv .1,
-        front-set (b .body .last .1 .0) base (a .held + lp .i) (k .reading .given .0 .1 .1 .0) ∙ kept b,
+        search (needs, front-set, kept),
         decls-again (tracks-block (a .script .now) (a .below)) (lp .inv .3) more (h .heading .ensures .0) (k .reading .given .1) (b .body .ensures .0) (b .body .last .1 .0) (endOf c .after .given .1) (omega (arith, w)) same (omega (arith, e .pre, lp .inv, more, l)),
       )
 
-  same-length-3 : declarations-lts.Need-same-length-3 calls (declarations-at t) declarations.Post Inv-loop μ-loop
-  same-length-3 c = c .before .loop .inv .1 ∙ sym (entryOf (c .before) .pre .1 .2)
-
-  returns-3 : declarations-lts.Need-returns-3 calls (declarations-at t) declarations.Post Inv-loop μ-loop
-  returns-3 c = (decls-end (tracks-block _ _) (c .before .loop .inv .3) (c .loop-test .left), c .before .loop .inv .2)
-
   pub declarations-closed : {M : Type 1} → declarations-lts.Closed calls (declarations-at t) declarations.Post M
   declarations-closed =
-      declarations-lts.spec calls (declarations-at t) declarations.Post Inv-loop μ-loop
-      add-base
-      sub-base
-      mul-base
-      loop-holds
-      add-count
-      heading-requires
-      enum-known-reading
-      enum-told
-      onward-requires
-      same-length
-      returns
-      cast-body
-      body-requires
-      enum-known-after
-      enum-told-2
-      same-length-2
-      returns-2
-      add-names
-      mul-names
-      slice-write-names
-      add-i
-      loop-less
-      loop-again
-      same-length-3
-      returns-3
+      declarations-lts.spec calls (declarations-at t) declarations.Post Inv-loop μ-loop (λ c. search needs) (λ c. search needs)
+      (λ c. search needs) (λ c. search (needs, decls-start)) (λ c. search needs) (λ c κs. search needs) (λ c. search needs)
+      (λ c. search needs) (λ c κs. search needs) (λ c. search needs) (λ c. search (needs, head-refused, tracks-block))
+      (λ c. search needs) body-requires (λ c. search needs) (λ c. search needs) same-length-2
+      (λ c. search (needs, below-refused, tracks-block, kept)) (λ c. search needs) (λ c. search needs) (λ c. search (needs, kept))
+      (λ c. search needs) (λ c. search needs) loop-again (λ c. search needs) (λ c. search (needs, decls-end, tracks-block))

@@ -1,5 +1,5 @@
 -- `blocks::statements` in the cycle of the check. Assumes nothing.
-use mathlib.Core.Path.{_≡_, _∙_, sym, refl, subst}
+use mathlib.Core.Path.{_≡_, _∙_, subst}
 use Prim.Native.Nat.{ℕ, _-_, _≤_}
 use lib.ListN.{length, take}
 use borrow.Author.Needs.{needs}
@@ -46,36 +46,6 @@ module _ (t : ℕ) where
   abbrev readOf : statements-lts.After-known-told2 calls (statements-at t) statements.Post Inv-loop μ-loop → statements-lts.After-statement calls (statements-at t) statements.Post Inv-loop μ-loop
   readOf c = statementOf (c .before .before .before)
 
-  loop-holds : statements-lts.Need-loop-holds calls (statements-at t) statements.Post Inv-loop μ-loop
-  loop-holds c = (search needs, c .before .before .pre .1 .1, refl, stmts-start _ _ _ _)
-
-  read-statement-requires : statements-lts.Need-read-statement-requires calls (statements-at t) statements.Post Inv-loop μ-loop
-  read-statement-requires c κs = search needs
-
-  enum-known-reading : statements-lts.Need-enum-known-reading calls (statements-at t) statements.Post Inv-loop μ-loop
-  enum-known-reading c = search needs
-
-  enum-told : statements-lts.Need-enum-told calls (statements-at t) statements.Post Inv-loop μ-loop
-  enum-told c = search needs
-
-  onward-requires : statements-lts.Need-onward-requires calls (statements-at t) statements.Post Inv-loop μ-loop
-  onward-requires c κs = search needs
-
-  same-length : statements-lts.Need-same-length calls (statements-at t) statements.Post Inv-loop μ-loop
-  same-length c = let l = loopOf (c .before .before .before) in l .loop .inv .1 ∙ sym (entryOf l .pre .1 .1)
-
-  returns : statements-lts.Need-returns calls (statements-at t) statements.Post Inv-loop μ-loop
-  returns c =
-      let r = c .before .before .before in
-      let l = loopOf r .loop .inv in
-      (stmt-refused (tracks-block _ _) (l .3) (r .before .loop-test .taken) (r .read-statement .ensures .0) (c .before .enum-told .given .1) (c .onward .ensures), l .2)
-
-  cast-statement : statements-lts.Need-cast-statement calls (statements-at t) statements.Post Inv-loop μ-loop
-  cast-statement c = search needs
-
-  cast-statement-2 : statements-lts.Need-cast-statement-2 calls (statements-at t) statements.Post Inv-loop μ-loop
-  cast-statement-2 c = search needs
-
   statement-requires : statements-lts.Need-statement-requires calls (statements-at t) statements.Post Inv-loop μ-loop
   statement-requires c κs =
       let k = takenOf c in
@@ -87,33 +57,15 @@ module _ (t : ℕ) where
       let n = l .loop .inv .1 in
       omega (arith, e .pre, on, w, n)
 
-  enum-known-after : statements-lts.Need-enum-known-after calls (statements-at t) statements.Post Inv-loop μ-loop
-  enum-known-after c = search needs
-
-  enum-told-2 : statements-lts.Need-enum-told-2 calls (statements-at t) statements.Post Inv-loop μ-loop
-  enum-told-2 c = search needs
-
-  same-length-2 : statements-lts.Need-same-length-2 calls (statements-at t) statements.Post Inv-loop μ-loop
-  same-length-2 c =
-      let s = statementOf (c .before .before) in
-      let l = loopOf (recordOf (takenOf (s .before))) in
-      s .statement .kept .1 .0 ∙ l .loop .inv .1 ∙ sym (entryOf l .pre .1 .1)
-
   returns-2 : statements-lts.Need-returns-2 calls (statements-at t) statements.Post Inv-loop μ-loop
   returns-2 c =
       let s = statementOf (c .before .before) in
       let k = takenOf (s .before) in
       let r = recordOf k in
       let l = loopOf r .loop .inv in (
-        inner-refused (tracks-block _ _) (l .3) (r .before .loop-test .taken) (r .read-statement .ensures .0) (k .reading .given .1) (s .statement .ensures .0) (c .enum-told2 .given .1),
+        search (needs, inner-refused, tracks-block),
         s .statement .ensures .1 ∙ l .2,
       )
-
-  add-i : statements-lts.Need-add-i calls (statements-at t) statements.Post Inv-loop μ-loop
-  add-i c = search needs
-
-  loop-less : statements-lts.Need-loop-less calls (statements-at t) statements.Post Inv-loop μ-loop
-  loop-less c = search needs
 
   loop-again : statements-lts.Need-loop-again calls (statements-at t) statements.Post Inv-loop μ-loop
   loop-again c =
@@ -124,36 +76,15 @@ module _ (t : ℕ) where
       let more = r .before .loop-test .taken in
       let w = subst (Within (length (entryOf l .args .script .now)) (l .loop .at)) (k .reading .given .1) (r .read-statement .ensures .1) in (
         omega (arith, more),
-        s .statement .kept .1 .0 ∙ l .loop .inv .1,
+        search needs,
         s .statement .ensures .1 ∙ l .loop .inv .2,
         stmts-again (tracks-block _ _) (l .loop .inv .3) more (r .read-statement .ensures .0) (k .reading .given .1) (s .statement .ensures .0) (c .before .after .given .1) (omega (arith, w)),
       )
 
-  same-length-3 : statements-lts.Need-same-length-3 calls (statements-at t) statements.Post Inv-loop μ-loop
-  same-length-3 c = c .before .loop .inv .1 ∙ sym (entryOf (c .before) .pre .1 .1)
-
-  returns-3 : statements-lts.Need-returns-3 calls (statements-at t) statements.Post Inv-loop μ-loop
-  returns-3 c = (stmts-end (tracks-block _ _) (c .before .loop .inv .3) (c .loop-test .left), c .before .loop .inv .2)
-
   pub statements-closed : {M : Type 1} → statements-lts.Closed calls (statements-at t) statements.Post M
   statements-closed =
-      statements-lts.spec calls (statements-at t) statements.Post Inv-loop μ-loop
-      loop-holds
-      read-statement-requires
-      enum-known-reading
-      enum-told
-      onward-requires
-      same-length
-      returns
-      cast-statement
-      cast-statement-2
-      statement-requires
-      enum-known-after
-      enum-told-2
-      same-length-2
-      returns-2
-      add-i
-      loop-less
-      loop-again
-      same-length-3
-      returns-3
+      statements-lts.spec calls (statements-at t) statements.Post Inv-loop μ-loop (λ c. search (needs, stmts-start))
+      (λ c κs. search needs) (λ c. search needs) (λ c. search needs) (λ c κs. search needs) (λ c. search needs)
+      (λ c. search (needs, stmt-refused, tracks-block)) (λ c. search needs) (λ c. search needs) statement-requires
+      (λ c. search needs) (λ c. search needs) (λ c. search needs) returns-2 (λ c. search needs) (λ c. search needs) loop-again
+      (λ c. search needs) (λ c. search (needs, stmts-end, tracks-block))

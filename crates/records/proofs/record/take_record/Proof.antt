@@ -16,7 +16,7 @@ same-fields m next p q r s = cc
 abbrev startOf : tie.After-find-mark → tie.Start
 startOf c = c .before .before .before
 
-abbrev foundOf : tie.After-as-usize → tie.After-count
+abbrev foundOf : tie.After-from-u8 → tie.After-count
 foundOf c = c .before .before
 
 returns-2 : tie.Need-returns-2
@@ -24,7 +24,7 @@ returns-2 c =
     let known = foundOf (c .before) .count .given in
     let f = foundOf (c .before) .before .before in
     let a = startOf f .args in
-    let k = c .before .as-usize in (
+    let k = c .before .from-u8 in (
       is-cut (a .place) (a .script .now) (a .at) (omega (arith, startOf f)) (f .before .field-at .ensures .0) (f .find-mark .ensures)
           (k .result) (known .0 .1 .0) (known .1 ∙ ap (λ (n : ℕ). Matched n (known .0 .1 .0)) (sym (k .ensures .0))) (omega (arith, startOf f)),
       tt,
@@ -36,7 +36,7 @@ returns-3 c =
     let known = foundOf (b .before) .count .given in
     let f = foundOf (b .before) .before .before in
     let a = startOf f .args in
-    let k = b .before .as-usize in (
+    let k = b .before .from-u8 in (
       same-fields (known .0 .1 .0) (a .at + 2 + 2 * k .result)
           (c .before .before .before .field-of .ensures .0) (c .before .before .field-of2 .ensures .0)
           (c .before .field-of3 .ensures .0) (c .field-of4 .ensures .0)
