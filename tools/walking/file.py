@@ -3,7 +3,7 @@ import re
 
 from walking.names import NAMES
 from walking.source import tokens
-from walking.walk import Value, Walk, atom, conses, pairs, proj
+from walking.walk import Value, atom, conses, pairs, proj
 
 HEAD = "{M : Type 1} (𝓤 : URA M) (H : Heap 𝓤) (A : Atoms 𝓤) (W : Given 𝓤 H A) (mem : Memory → SProp 𝓤) (run : Routine → Fun 𝓤)"
 RUN = "(WpFn 𝓤 H (𝓣 .C) (𝓣 .Λ) mine.function)"
@@ -156,6 +156,11 @@ def spec(w, used):
     return out + ")"
 
 
+def says(w):
+    """whether there is a Said.antt"""
+    return bool(w.needed or w.f.requires or w.f.ensures)
+
+
 def made_by(w):
     parts = w.path.split("::")
     return "tools/walk %s %s" % (parts[0], "::".join(parts[1:]))
@@ -176,8 +181,7 @@ def proof(w):
     words = tokens(body)
     lines = ["-- `%s` meets its contract: a walk of its MIR, written by `%s`. By hand is Proof/Facts.antt alone." % (w.path, made_by(w))]
     mine = w.types.module(w.path)[1]
-    below = [x for x in ("Facts", "Said") if x.lower() + "." in body]
-    lines += ["mod " + x for x in below]
+    lines += (["mod Facts"] if w.needed else []) + (["mod Said"] if says(w) else [])
     for module, names in NAMES:
         here = [x for x in names if x in words or x.strip("_") in words]
         lines += ["use %s.{%s}" % (module, ", ".join(here))] if here else []
@@ -193,50 +197,69 @@ def proof(w):
                   "use %s.Met as %s-thm" % (m, g.alias)]
     lines += ["use %s.Key.{name as #me}" % mine, "use %s as f" % mine, "use %s.Statement as stated" % mine, "use %s.Code as mine" % mine]
     lines += ["use %s.Code.Mir as mir′" % mine] if w.loop else []
-    lines += ["use %s.Proof.%s as %s" % (mine, x, x.lower()) for x in below]
+    lines += ["use %s.Proof.%s as %s" % (mine, x, x.lower()) for x in ("Facts", "Said") if x.lower() + "." in body]
     return "\n".join(lines) + "\n\n" + body
+
+
+class Names:
+    """the names that clauses use; where two modules have one name, the second is written with a prime"""
+
+    def __init__(self):
+        self.modules, self.taken = {}, {}
+
+    def use(self, module, name):
+        if name not in self.modules.setdefault(module, []):
+            self.modules[module].append(name)
+
+    def clause(self, text, ghosts):
+        """a clause's text, once the names in it are used"""
+        words = tokens(text)
+        for n in sorted(words | {"_%s_" % x for x in words}):
+            if n not in ghosts:
+                continue
+            module, decl = ghosts[n]
+            short = n if n.startswith("_") else n.split(".")[-1]
+            if self.taken.setdefault(short, (module, decl)) != (module, decl):
+                decl, short = "%s as %s′" % (decl.split(" as ")[0], short), short + "′"
+            self.use(module, decl)
+            if short != n:
+                text = re.sub(r"(?<![^\s(])%s(?![^\s),])" % re.escape(n), short, text)
+        return text
+
+    def lines(self):
+        return ["use %s.{%s}" % (m, ", ".join(self.modules[m])) for m in sorted(self.modules)]
+
+
+def abbreviation(name, kinds, result, lasts, clauses, g, names, w):
+    """a function's clauses of one kind, in pairs to the right, as a fact of what they speak of"""
+    text = clauses[-1].text
+    for c in reversed(clauses[:-1]):
+        text = "(%s) × (%s)" % (c.text, text)
+    text = names.clause(text, w.types.source.ghosts(g.path, w.path.split("::")[0]))
+    r = next((c.result for c in clauses if c.result and c.result != "_"), "r")
+    args = [k.source for k in kinds] + ([r] if result else []) + [k.source + "′" for k in lasts]
+    types = [k.denot for k in kinds] + ([g.result.denot] if result else []) + [k.denot for k in lasts]
+    return "abbrev pub %s : %s\n%s = %s" % (name, " → ".join(types + ["Type 0"]), " ".join([name] + args), text)
 
 
 def said(w):
-    """what the function and those that it calls ask and say, of what these clauses speak of"""
-    out, uses = [], {}
-
-    def one(name, kinds, result, lasts, clauses, g):
-        text = clauses[-1].text
-        for c in reversed(clauses[:-1]):
-            text = "(%s) × (%s)" % (c.text, text)
-        ghosts = w.types.source.ghosts(g.path, w.path.split("::")[0])
-        words = tokens(text)
-        for n in sorted(words | {"_%s_" % x for x in words}):
-            if n in ghosts:
-                uses.setdefault(ghosts[n], n)
-                if "." in n.strip("._"):
-                    text = text.replace(n, n.split(".")[-1])
-        r = next((c.result for c in clauses if c.result and c.result != "_"), "r")
-        args = [k.source for k in kinds] + ([r] if result else []) + [k.source + "′" for k in lasts]
-        types = [k.denot for k in kinds] + ([g.result.denot] if result else []) + [k.denot for k in lasts]
-        out.append("abbrev pub %s : %s\n%s = %s" % (name, " → ".join(types + ["Type 0"]), " ".join([name] + args), text))
-    for g, asks, says in [(w.f, "Pre", "Said")] + [(g, g.name + "-asks", g.name + "-says") for g in w.callees.values()]:
+    out, names = [], Names()
+    for g, asks, told in [(w.f, "Pre", "Said")] + [(g, g.name + "-asks", g.name + "-says") for g in w.callees.values()]:
         if g.requires:
-            one(asks, g.asked(), False, [], g.signature.requires, g)
+            out.append(abbreviation(asks, g.asked(), False, [], g.signature.requires, g, names, w))
         if g.ensures:
-            one(says, *g.told(), g.signature.ensures, g)
+            out.append(abbreviation(told, *g.told(), g.signature.ensures, g, names, w))
     body = "\n\n".join(out) + "\n"
     words = tokens(body)
-    by_module = {}
-    for (module, n), _ in uses.items():
-        by_module.setdefault(module, []).append(n)
-    for module, names in NAMES:
-        for n in names:
-            if n in ("ℕ", "ℤ", "List", "Bool") and n in words and n not in by_module.get(module, []):
-                by_module.setdefault(module, []).append(n)
+    for module, known in NAMES:
+        for n in [x for x in known if x in ("ℕ", "ℤ", "List", "Bool") and x in words]:
+            names.use(module, n)
     for n, module in w.types.used.items():
         if n in words:
-            by_module.setdefault(module, []).append(n)
-    lines = ["-- What `%s` and the functions that it calls ask and say, in lists and numbers: x is behind a reference at first, x′ at last. Written by `%s`." % (
-        w.path, made_by(w))]
-    lines += ["use %s.{%s}" % (m, ", ".join(by_module[m])) for m in by_module]
-    return "\n".join(lines) + "\n\n" + body
+            names.use(module, n)
+    lines = ["-- What `%s` and the functions that it calls ask and say, in lists and numbers: x is behind a reference at first, x′ at last." % w.path,
+             "-- Written by `%s`." % made_by(w)]
+    return "\n".join(lines + names.lines()) + "\n\n" + body
 
 
 def skeleton(w):
@@ -248,7 +271,7 @@ def skeleton(w):
         return text.replace("t .state .", "t .").replace("facts.", "")
     root = {"facts": [], "next": {}}
     for name, way, what in w.needed:
-        node, skip = root, len(w.f.kinds)
+        node = root
         for i, h in enumerate(way):
             node = node["next"].setdefault((h.name, plain(h.type, way[:i])), {"facts": [], "next": {}})
         node["facts"].append((name, plain(what, way)))

@@ -1,9 +1,10 @@
--- What `activations::push` and the functions that it calls ask and say, in lists and numbers: x is behind a reference at first, x′ at last. Written by `tools/walk activations push`.
+-- What `activations::push` and the functions that it calls ask and say, in lists and numbers: x is behind a reference at first, x′ at last.
+-- Written by `tools/walk activations push`.
 use Prim.Native.Nat.{_<_, ℕ}
-use lib.ListN.{length, set}
-use mathlib.Core.Path.{_≡_}
-use mathlib.Core.List.{List}
 use Rattle.activations.proofs.Elem.{recs}
+use lib.ListN.{length, set}
+use mathlib.Core.List.{List}
+use mathlib.Core.Path.{_≡_}
 
 abbrev pub Pre : List (recs .type .Denot) → ℕ → Type 0
 Pre records k = k < length records

@@ -1,10 +1,11 @@
--- What `activations::read` and the functions that it calls ask and say, in lists and numbers: x is behind a reference at first, x′ at last. Written by `tools/walk activations read`.
+-- What `activations::read` and the functions that it calls ask and say, in lists and numbers: x is behind a reference at first, x′ at last.
+-- Written by `tools/walk activations read`.
 use Prim.Native.Nat.{_<_, ℕ}
-use lib.ListN.{length}
-use mathlib.Core.Path.{_≡_}
-use Rattle.activations.specs.Records.{at}
-use mathlib.Core.List.{List}
 use Rattle.activations.proofs.Elem.{recs}
+use Rattle.activations.specs.Records.{at}
+use lib.ListN.{length}
+use mathlib.Core.List.{List}
+use mathlib.Core.Path.{_≡_}
 
 abbrev pub Pre : List (recs .type .Denot) → ℕ → Type 0
 Pre records k = k < length records
