@@ -4,6 +4,7 @@ import os
 import re
 
 from walking.names import NAMES
+from walking.source import tokens
 
 BUILTIN = {"usize": "usizes", "u64": "usizes", "u32": "words32", "u16": "words16", "i32": "ints32", "bool": "bools", "()": "units"}
 WIDTH = {"usizes": 64, "words32": 32, "words16": 16}
@@ -128,4 +129,4 @@ class Function:
         return [k for k in self.kinds if k.source in words], not self.unit, [k for k in self.muts if k.source + "′" in words]
 
     def words(self, clauses):
-        return set(re.split(r"[\s(),]+", " ".join(c.text for c in clauses)))
+        return tokens(" ".join(c.text for c in clauses))
