@@ -1,0 +1,35 @@
+-- What `chain_call::call` and the functions that it calls ask and say, in lists and numbers: x is behind a reference at first, x′ at last.
+-- Written by `tools/walk chain_call call`.
+use Prim.Native.Nat.{ℕ}
+use Rattle.activations.proofs.Elem.{recs}
+use Rattle.admission.specs.Lent.{fedOf}
+use Rattle.answers.specs.Refusals.{isRefused, refusedWords}
+use Rattle.answers.specs.Replies.{RepliesLeaving, Replies}
+use Rattle.chain_call.proofs.Rows.{numberss, verdicts}
+use Rattle.checking.specs.Verdicts.{verdictOf}
+use Rattle.language.specs.Call.{chain, admission}
+use Rattle.language.specs.Text.{Block}
+use Rattle.runs.specs.Admission.{Admitted}
+use lib.IntN.{ℤ}
+use lib.ListN.{length}
+use mathlib.Core.Bool.{Bool}
+use mathlib.Core.List.{List}
+use mathlib.Core.Path.{_≡_}
+
+abbrev pub Said : List ℕ → numberss .type .Denot → List ℤ → List ℤ → List (recs .type .Denot) → List ℤ → List ℤ → List (recs .type .Denot) → List ℕ → Type 0
+Said script numbers table sheet records table′ sheet′ records′ answer′ = RepliesLeaving (chain (length records)) (fedOf numbers script table sheet) answer′ sheet′ table′ records records′
+
+abbrev pub judged-says : List ℕ → numberss .type .Denot → List ℤ → List ℤ → ℕ → verdicts .type .Denot → Type 0
+judged-says script numbers table sheet held r = r ≡ verdictOf (admission (chain held) (fedOf numbers script table sheet))
+
+abbrev pub refuses-says : verdicts .type .Denot → Bool → Type 0
+refuses-says verdict r = r ≡ isRefused verdict
+
+abbrev pub refused-says : verdicts .type .Denot → ℕ → ℕ → List ℕ → List ℕ → Type 0
+refused-says verdict count tally answer answer′ = answer′ ≡ refusedWords verdict count tally answer
+
+abbrev pub ran-asks : List ℕ → numberss .type .Denot → List ℤ → List ℤ → List (recs .type .Denot) → Type 0
+ran-asks script numbers table sheet records = ((t : Block) × Admitted (chain (length records)) (fedOf numbers script table sheet) t)
+
+abbrev pub ran-says : List ℕ → numberss .type .Denot → List ℤ → List ℤ → List (recs .type .Denot) → List ℤ → List ℤ → List ℕ → Type 0
+ran-says script numbers table sheet records table′ sheet′ answer′ = Replies (chain (length records)) (fedOf numbers script table sheet) answer′ sheet′ table′

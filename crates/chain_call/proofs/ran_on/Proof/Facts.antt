@@ -1,0 +1,40 @@
+-- What the walk of `ran_on` shows.
+use mathlib.Core.Path.{_≡_}
+use Prim.Native.Nat.{ℕ}
+use mathlib.Core.List.{List}
+use lib.IntN.{ℤ}
+use lib.ListN.{length}
+use Rattle.language.specs.Call.{Fed}
+use Rattle.replies.specs.Replies.{tally-fits}
+use Rattle.admission.specs.Lent.{fedOf}
+use Rattle.admission.specs.declared.Numbers.{Numbers}
+use Rattle.activations.specs.declared.Activation.{Activation}
+use Rattle.chain.specs.declared.run.Halt.{Halt}
+use Rattle.chain_call.proofs.Pieces.{begins-at, sheet-ready, replied}
+use Rattle.chain_call.proofs.ran_on.Proof.Said.{Pre, Said, resolved-asks, resolved-says, limit-of-says, run-program-asks, run-program-says, write-sheet-asks, write-sheet-says, answered-asks, answered-says}
+
+module _ (code : List ℕ) (words : List ℤ) (script : List ℕ) (numbers : Numbers) (table sheet : List ℤ) (records : List Activation) (answer : List ℕ)
+    (pre : Pre code words script numbers table sheet records) where
+  abbrev fed : Fed
+  fed = fedOf numbers script table sheet
+
+  pub asks-resolved : resolved-asks code
+  asks-resolved = pre .1 .0
+
+  pub asks-answered : answered-asks numbers
+  asks-answered = tally-fits (pre .0 .1)
+
+  module _ (code′ : List ℕ) (said : resolved-says script numbers code′) (limit : ℕ) (limit-is : limit-of-says numbers limit) where
+    pub asks-run-program : run-program-asks code′ words records table (numbers .count) (numbers .g) limit
+    asks-run-program = begins-at records fed (said .1) (pre .0 .0) (pre .0 .1) code′ (said .0) words (pre .1 .1) limit limit-is
+
+    module _ (halt : Halt) (words′ : List ℤ) (records′ : List Activation) (table′ : List ℤ)
+        (ran : run-program-says code′ words records table (numbers .count) (numbers .g) limit (numbers .n) halt words′ records′ table′)
+        (long : length records′ ≡ length records) (wide : length table′ ≡ length table) where
+      pub asks-write-sheet : write-sheet-asks code′ words′ records′ (halt .live) sheet
+      asks-write-sheet = sheet-ready records fed (said .1) (pre .0 .0) (pre .0 .1) code′ (said .0) words (pre .1 .1) halt limit limit-is ran long
+
+      module _ (written : ℕ) (sheet′ : List ℤ) (wrote : write-sheet-says code′ words′ records′ (halt .live) sheet written sheet′)
+          (sheet-long : length sheet′ ≡ length sheet) (answer′ : List ℕ) (answers : answered-says halt written numbers answer′) where
+        pub says : Said script numbers table sheet records table′ sheet′ answer′
+        says = replied records fed (said .1) (pre .0 .0) (pre .0 .1) code′ (said .0) words (pre .1 .1) halt limit limit-is ran wrote answers

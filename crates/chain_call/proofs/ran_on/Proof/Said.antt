@@ -1,0 +1,57 @@
+-- What `chain_call::ran_on` and the functions that it calls ask and say, in lists and numbers: x is behind a reference at first, x′ at last.
+-- Written by `tools/walk chain_call ran_on`.
+use Prim.Native.Nat.{_*_, _≤_, ℕ}
+use Rattle.activations.proofs.Elem.{recs}
+use Rattle.admission.specs.Lent.{fedOf}
+use Rattle.answers.specs.Replies.{Replies}
+use Rattle.chain.proofs.Rows.{halts}
+use Rattle.chain.specs.Running.{Beginning, Ended}
+use Rattle.chain_call.proofs.Rows.{numberss}
+use Rattle.chain_call.specs.Calls.{haltWords}
+use Rattle.frames.specs.Frame.{frameRun, frameStart, Frame, frameSheet}
+use Rattle.grammar.specs.Rules.{Bytes}
+use Rattle.language.specs.Call.{chain, written}
+use Rattle.language.specs.Sheet.{sheetShare}
+use Rattle.language.specs.Text.{Block}
+use Rattle.links.specs.Records.{blocksIn, nextsIn}
+use Rattle.links.specs.Running.{limitsBy}
+use Rattle.resolving.specs.Resolving.{Resolved}
+use Rattle.runs.specs.Admission.{Admitted}
+use Rattle.sheets.specs.Held.{Held}
+use lib.IntN.{pos, ℤ}
+use lib.ListN.{length, replicate}
+use mathlib.Core.List.{List}
+use mathlib.Core.Path.{_≡_}
+
+abbrev pub Pre : List ℕ → List ℤ → List ℕ → numberss .type .Denot → List ℤ → List ℤ → List (recs .type .Denot) → Type 0
+Pre code words script numbers table sheet records = (((t : Block) × Admitted (chain (length records)) (fedOf numbers script table sheet) t)) × ((code ≡ replicate 4096 0) × (words ≡ replicate 8224 (pos 0)))
+
+abbrev pub Said : List ℕ → numberss .type .Denot → List ℤ → List ℤ → List (recs .type .Denot) → List ℤ → List ℤ → List ℕ → Type 0
+Said script numbers table sheet records table′ sheet′ answer′ = Replies (chain (length records)) (fedOf numbers script table sheet) answer′ sheet′ table′
+
+abbrev pub resolved-asks : List ℕ → Type 0
+resolved-asks code = code ≡ replicate 4096 0
+
+abbrev pub resolved-says : List ℕ → numberss .type .Denot → List ℕ → Type 0
+resolved-says script numbers code′ = Resolved script (numbers .name) code′ × Bytes script
+
+abbrev pub limit-of-says : numberss .type .Denot → ℕ → Type 0
+limit-of-says numbers r = r ≡ numbers .d
+
+abbrev pub run-program-asks : List ℕ → List ℤ → List (recs .type .Denot) → List ℤ → ℕ → ℕ → ℕ → Type 0
+run-program-asks code words records table pairs group limit = Beginning code words records table pairs group limit
+
+abbrev pub run-program-says : List ℕ → List ℤ → List (recs .type .Denot) → List ℤ → ℕ → ℕ → ℕ → ℕ → halts .type .Denot → List ℤ → List (recs .type .Denot) → List ℤ → Type 0
+run-program-says code words records table pairs group limit allowance r words′ records′ table′ = ((b : Beginning code words records table pairs group limit) → Ended (b .program) (b .name) limit group (frameRun (limitsBy limit group) allowance (frameStart (b .program) (record { words = table; used = pairs }))) r words′ records′ table′)
+
+abbrev pub write-sheet-asks : List ℕ → List ℤ → List (recs .type .Denot) → ℕ → List ℤ → Type 0
+write-sheet-asks code words records live sheet = (((fs : List Frame) × Held code words (blocksIn records) (nextsIn records) fs × (length fs ≡ live))) × ((live ≤ length records) × (sheetShare * live ≤ length sheet))
+
+abbrev pub write-sheet-says : List ℕ → List ℤ → List (recs .type .Denot) → ℕ → List ℤ → ℕ → List ℤ → Type 0
+write-sheet-says code words records live sheet r sheet′ = ((fs : List Frame) → Held code words (blocksIn records) (nextsIn records) fs → length fs ≡ live → (sheet′ ≡ written (frameSheet fs) sheet) × (r ≡ length (frameSheet fs)))
+
+abbrev pub answered-asks : numberss .type .Denot → Type 0
+answered-asks numbers = numbers .tally ≤ 1000000000000
+
+abbrev pub answered-says : halts .type .Denot → ℕ → numberss .type .Denot → List ℕ → Type 0
+answered-says halt written numbers answer′ = answer′ ≡ haltWords halt written (numbers .tally)

@@ -1,0 +1,17 @@
+-- What `enrol::enrol_chain` and the functions that it calls ask and say, in lists and numbers: x is behind a reference at first, x′ at last.
+-- Written by `tools/walk enrol enrol_chain`.
+use Prim.Native.Nat.{ℕ}
+use Rattle.activations.proofs.Elem.{recs}
+use Rattle.admission.specs.Lent.{fedOf}
+use Rattle.answers.specs.Replies.{RepliesLeaving}
+use Rattle.chain_call.proofs.Rows.{numberss}
+use Rattle.language.specs.Call.{chain}
+use lib.IntN.{ℤ}
+use lib.ListN.{length}
+use mathlib.Core.List.{List}
+
+abbrev pub Said : List ℕ → ℕ → ℕ → ℕ → ℕ → List ℤ → ℕ → ℕ → List ℤ → List (recs .type .Denot) → List ℤ → List ℤ → List (recs .type .Denot) → List ℕ → Type 0
+Said script d n g tally table count name sheet records table′ sheet′ records′ answer′ = RepliesLeaving (chain (length records)) (fedOf (record { d = d; n = n; g = g; tally = tally; count = count; name = name }) script table sheet) answer′ sheet′ table′ records records′
+
+abbrev pub call-says : List ℕ → numberss .type .Denot → List ℤ → List ℤ → List (recs .type .Denot) → List ℤ → List ℤ → List (recs .type .Denot) → List ℕ → Type 0
+call-says script numbers table sheet records table′ sheet′ records′ answer′ = RepliesLeaving (chain (length records)) (fedOf numbers script table sheet) answer′ sheet′ table′ records records′
