@@ -12,10 +12,18 @@ OF_WIDTH = {"64": "usizes", "32": "words32", "16": "words16"}
 DENOTATION = {"usizes": "ℕ", "words32": "ℕ", "words16": "ℕ", "ints32": "ℤ", "bools": "Bool"}
 
 
+# what the walk calls its own
+TAKEN = {"run", "mem", "walk", "walks", "meets", "exits", "stayed", "bound", "ps", "f", "mine", "stated", "facts", "said", "laws", "fm", "turn", "size", "pre"}
+
+
+def taken(name):
+    return name in TAKEN or any(name in names for _, names in NAMES)
+
+
 def safe(name):
-    """a name of the source: not one of the laws'"""
+    """a name of the source: not one of the laws' or of the walk's"""
     name = name.replace("_", "-")
-    return name + "₀" if any(name in names for _, names in NAMES) else name
+    return name + "₀" if taken(name) else name
 
 
 class Datum:
@@ -116,7 +124,7 @@ class Function:
         self.lets = s.lets
         self.requires, self.ensures = len(s.requires), len(s.ensures)
         self.name = path.split("::")[-1].replace("_", "-")
-        self.alias = self.name + "′" if any(self.name in names for _, names in NAMES) else self.name
+        self.alias = self.name + "′" if taken(self.name) else self.name
 
     def asked(self):
         """the parameters that its `requires` speak of"""
