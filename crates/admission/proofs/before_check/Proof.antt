@@ -20,37 +20,19 @@ sheetOf c = c .before .before .before
 limits : (c : tie.Else1) → limitsFit (fedOf (c .before .before .args .numbers) [] [] []) ≡ true
 limits c = sym (c .before .limits-fit .ensures) ∙ not-false _ (c .if1 .left)
 
-limits-fit-requires : tie.Need-limits-fit-requires
-limits-fit-requires c κs = search needs
-
 returns : tie.Need-returns
 unfolding limitsFit
 returns c = limits-due _ _ (sym (c .before .limits-fit .ensures) ∙ not-true _ (c .if1 .taken))
 
-cast-if2 : tie.Need-cast-if2
-cast-if2 c = search needs
-
-mul-if2 : tie.Need-mul-if2
-mul-if2 c = search needs
-
 returns-2 : tie.Need-returns-2
 unfolding limitsFit sheetFits
 returns-2 c = sheet-due _ _ (limits (c .before .before)) (lt-leb _ _ (c .if2 .taken))
-
-cast-holds-at-least : tie.Need-cast-holds-at-least
-cast-holds-at-least c = search needs
-
-holds-at-least-requires : tie.Need-holds-at-least-requires
-holds-at-least-requires c κs = search needs
 
 returns-3 : tie.Need-returns-3
 unfolding limitsFit sheetFits recordsFit
 returns-3 c =
     let u = c .before .before .before in
     records-due _ _ (limits (limitsOf u)) (le-leb _ _ (u .if2 .left)) (sym (c .before .holds-at-least .ensures) ∙ not-true _ (c .if3 .taken))
-
-table-right-requires : tie.Need-table-right-requires
-table-right-requires c κs = search needs
 
 returns-4 : tie.Need-returns-4
 unfolding limitsFit sheetFits recordsFit
@@ -70,14 +52,14 @@ pub before-check-spec : {M : Type 1} → statement M
 before-check-spec =
     tie.close
     (tie.spec
-    limits-fit-requires
+    (λ c κs. search needs)
     returns
-    cast-if2
-    mul-if2
+    (λ c. search needs)
+    (λ c. search needs)
     returns-2
-    cast-holds-at-least
-    holds-at-least-requires
+    (λ c. search needs)
+    (λ c κs. search needs)
     returns-3
-    table-right-requires
+    (λ c κs. search needs)
     returns-4
     returns-5)

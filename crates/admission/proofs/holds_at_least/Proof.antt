@@ -4,12 +4,6 @@ use borrow.Author.Needs.{needs}
 use Rattle.admission.proofs.holds_at_least.Statement.{statement}
 use Rattle.admission.proofs.holds_at_least.Tie as tie
 
-enum-told : tie.Need-enum-told
-enum-told c = search needs
-
-enum-known-area : tie.Need-enum-known-area
-enum-known-area c = search needs
-
 returns : tie.Need-returns
 returns c = unused _ _ (c .enum-told .given .1)
 
@@ -17,4 +11,4 @@ returns-2 : tie.Need-returns-2
 returns-2 c = lent _ _ _ (c .before .area .given .1)
 
 pub holds-at-least-spec : {M : Type 1} → statement M
-holds-at-least-spec = tie.close (tie.spec enum-told enum-known-area returns returns-2)
+holds-at-least-spec = tie.close (tie.spec (λ c. search needs) (λ c. search needs) returns returns-2)

@@ -31,26 +31,8 @@ admitted c =
     let a = admitAt c in
     admitted-call (engineAt a) (fedAt a) (a .admit .result) (a .admit .ensures false) (c .before .before .before .enum-told .given .1)
 
-admit-requires : tie.Need-admit-requires
-admit-requires c κs = search needs
-
-enum-known-cause : tie.Need-enum-known-cause
-enum-known-cause c = search needs
-
-refusal-words-requires : tie.Need-refusal-words-requires
-refusal-words-requires c κs = search needs
-
-enum-told : tie.Need-enum-told
-enum-told c = search needs
-
 ran-requires : tie.Need-ran-requires
 ran-requires c κs = admitted c
-
-same-length : tie.Need-same-length
-same-length c = search needs
-
-same-length-2 : tie.Need-same-length-2
-same-length-2 c = search needs
 
 returns : tie.Need-returns
 returns c =
@@ -58,15 +40,6 @@ returns c =
     let told = c .before .before .cause .given in
     let r = refused-call (engineAt a) (fedAt a) (a .admit .result) (a .admit .ensures false) (told .0 .0) (told .0 .1 .0) (told .1) (c .refusal-words .ensures) in
     leaving-all (engineAt a) (fedAt a) r ((startAt a) .args .area .now)
-
-same-length-3 : tie.Need-same-length-3
-same-length-3 c = search needs
-
-same-length-4 : tie.Need-same-length-4
-same-length-4 c = search needs
-
-same-length-5 : tie.Need-same-length-5
-same-length-5 c = search needs
 
 returns-2 : tie.Need-returns-2
 returns-2 c =
@@ -78,15 +51,15 @@ pub call-spec : {M : Type 1} → statement M
 call-spec =
     tie.close
     (tie.spec
-    admit-requires
-    enum-known-cause
-    refusal-words-requires
-    enum-told
+    (λ c κs. search needs)
+    (λ c. search needs)
+    (λ c κs. search needs)
+    (λ c. search needs)
     ran-requires
-    same-length
-    same-length-2
+    (λ c. search needs)
+    (λ c. search needs)
     returns
-    same-length-3
-    same-length-4
-    same-length-5
+    (λ c. search needs)
+    (λ c. search needs)
+    (λ c. search needs)
     returns-2)

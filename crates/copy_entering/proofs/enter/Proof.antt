@@ -16,63 +16,12 @@ fromText c = fromNote (c .before .before .before .before .before)
 abbrev fromClear : tie.After-clear-arg → tie.After-code-at3
 fromClear c = fromText (c .before .before .before .before)
 
-code-at-requires : tie.Need-code-at-requires
-code-at-requires c κs = search needs
-
-add-code-at : tie.Need-add-code-at
-add-code-at c = search needs
-
-code-at-requires-2 : tie.Need-code-at-requires-2
-code-at-requires-2 c κs = search needs
-
-add-code-at-2 : tie.Need-add-code-at-2
-add-code-at-2 c = search needs
-
-code-at-requires-3 : tie.Need-code-at-requires-3
-code-at-requires-3 c κs = search needs
-
-add-live : tie.Need-add-live
-add-live c = search needs
-
-mul-given : tie.Need-mul-given
-mul-given c = search needs
-
-add-given : tie.Need-add-given
-add-given c = search needs
-
-add-given-2 : tie.Need-add-given-2
-add-given-2 c = search needs
-
-sub-first : tie.Need-sub-first
-sub-first c = search needs
-
-add-fresh : tie.Need-add-fresh
-add-fresh c = search needs
-
-note-requires : tie.Need-note-requires
-note-requires c κs = search needs
-
-mul-renew : tie.Need-mul-renew
-mul-renew c = search needs
-
-element-copy-out-renew : tie.Need-element-copy-out-renew
-element-copy-out-renew c = search needs
-
 renew-requires : tie.Need-renew-requires
 renew-requires c κs =
     let w = fromNote (c .before .before) in
     let h = w .before .before in
     let s = h .before .before in
     renewable (s .pre) (h .code-at .result) (h .code-at .ensures .0) (w .code-at3 .result) (w .code-at3 .ensures .0)
-
-mul-looked : tie.Need-mul-looked
-mul-looked c = search needs
-
-element-write-looked : tie.Need-element-write-looked
-element-write-looked c = search needs
-
-mul-cells : tie.Need-mul-cells
-mul-cells c = search needs
 
 mul-copy-text : tie.Need-mul-copy-text
 mul-copy-text c =
@@ -112,9 +61,6 @@ clear-requires c κs =
     let few = few-names (s .pre) (h .code-at .result) (h .code-at .ensures .0) in
     (omega (arith, s .pre .room), omega (arith, s .pre .room))
 
-same-length : tie.Need-same-length
-same-length c = search needs
-
 returns : tie.Need-returns
 returns c =
     let k = c .before .before .before .before in
@@ -132,29 +78,29 @@ pub enter-spec : {M : Type 1} → statement M
 enter-spec =
     tie.close
     (tie.spec
-    code-at-requires
-    add-code-at
-    code-at-requires-2
-    add-code-at-2
-    code-at-requires-3
-    add-live
-    mul-given
-    add-given
-    add-given-2
-    sub-first
-    add-fresh
-    note-requires
-    mul-renew
-    element-copy-out-renew
+    (λ c κs. search needs)
+    (λ c. search needs)
+    (λ c κs. search needs)
+    (λ c. search needs)
+    (λ c κs. search needs)
+    (λ c. search needs)
+    (λ c. search needs)
+    (λ c. search needs)
+    (λ c. search needs)
+    (λ c. search needs)
+    (λ c. search needs)
+    (λ c κs. search needs)
+    (λ c. search needs)
+    (λ c. search needs)
     renew-requires
-    mul-looked
-    element-write-looked
-    mul-cells
+    (λ c. search needs)
+    (λ c. search needs)
+    (λ c. search needs)
     mul-copy-text
     mul-copy-text-2
     copy-text-requires
     add-clear
     add-clear-2
     clear-requires
-    same-length
+    (λ c. search needs)
     returns)

@@ -4,29 +4,11 @@ use borrow.Author.Needs.{needs}
 use Rattle.copy_moves.proofs.begin.Statement.{statement}
 use Rattle.copy_moves.proofs.begin.Tie as tie
 
-code-at-requires : tie.Need-code-at-requires
-code-at-requires c κs = search needs
-
-code-at-requires-2 : tie.Need-code-at-requires-2
-code-at-requires-2 c κs = search needs
-
-fill-requires : tie.Need-fill-requires
-fill-requires c κs = search needs
-
-element-write-firsts : tie.Need-element-write-firsts
-element-write-firsts c = search needs
-
-code-at-requires-3 : tie.Need-code-at-requires-3
-code-at-requires-3 c κs = search needs
-
 renew-requires : tie.Need-renew-requires
 renew-requires c κs =
     let f = c .before .before .before .before in
     let s = f .before .before .before .before .before .before in
     start-renewable (s .pre) _ (f .fill .ensures .1) (c .code-at3 .result) (c .code-at3 .ensures .0)
-
-element-write-looked : tie.Need-element-write-looked
-element-write-looked c = search needs
 
 copy-text-requires : tie.Need-copy-text-requires
 copy-text-requires c κs =
@@ -34,12 +16,6 @@ copy-text-requires c κs =
     let n = f .before .before in
     let s = n .before .before .before .before in
     start-copyable (s .pre) _ (f .fill .ensures .1) (n .code-at2 .result) (n .code-at2 .ensures .0)
-
-add-t27 : tie.Need-add-t27
-add-t27 c = search needs
-
-same-length : tie.Need-same-length
-same-length c = search needs
 
 returns : tie.Need-returns
 returns c =
@@ -58,14 +34,14 @@ pub begin-spec : {M : Type 1} → statement M
 begin-spec =
     tie.close
     (tie.spec
-    code-at-requires
-    code-at-requires-2
-    fill-requires
-    element-write-firsts
-    code-at-requires-3
+    (λ c κs. search needs)
+    (λ c κs. search needs)
+    (λ c κs. search needs)
+    (λ c. search needs)
+    (λ c κs. search needs)
     renew-requires
-    element-write-looked
+    (λ c. search needs)
     copy-text-requires
-    add-t27
-    same-length
+    (λ c. search needs)
+    (λ c. search needs)
     returns)

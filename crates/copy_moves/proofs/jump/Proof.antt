@@ -9,11 +9,5 @@ returns c =
     let end = s .pre .2 (c .if1 .taken) in
     λ i. record { live = s .args .home; at = s .args .at; end = end i; pairs = s .args .here .pairs; level = s .args .here .level; fresh = s .args .here .fresh }
 
-resume-requires : tie.Need-resume-requires
-resume-requires c κs = search needs
-
-returns-2 : tie.Need-returns-2
-returns-2 c = search needs
-
 pub jump-spec : {M : Type 1} → statement M
-jump-spec = tie.close (tie.spec returns resume-requires returns-2)
+jump-spec = tie.close (tie.spec returns (λ c κs. search needs) (λ c. search needs))

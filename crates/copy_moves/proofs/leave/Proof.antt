@@ -6,21 +6,6 @@ use borrow.Author.Needs.{needs}
 use Rattle.copy_moves.proofs.leave.Statement.{statement}
 use Rattle.copy_moves.proofs.leave.Tie as tie
 
-sub-live : tie.Need-sub-live
-sub-live c = search needs
-
-mul-wide : tie.Need-mul-wide
-mul-wide c = search needs
-
-element-copy-out-wide : tie.Need-element-copy-out-wide
-element-copy-out-wide c = search needs
-
-wide-requires : tie.Need-wide-requires
-wide-requires c κs = search needs
-
-resume-requires : tie.Need-resume-requires
-resume-requires c κs = search needs
-
 returns : tie.Need-returns
 returns c =
     let s = c .before .before .before .before .args in
@@ -29,4 +14,4 @@ returns c =
 pub leave-spec : {M : Type 1} → statement M
 leave-spec =
     tie.close
-    (tie.spec sub-live mul-wide element-copy-out-wide wide-requires resume-requires returns)
+    (tie.spec (λ c. search needs) (λ c. search needs) (λ c. search needs) (λ c κs. search needs) (λ c κs. search needs) returns)

@@ -6,15 +6,6 @@ use borrow.Author.Needs.{needs}
 use Rattle.copy_moves.proofs.looked_up.Statement.{statement}
 use Rattle.copy_moves.proofs.looked_up.Tie as tie
 
-mul-wide-u32 : tie.Need-mul-wide-u32
-mul-wide-u32 c = search needs
-
-element-copy-out-wide-u32 : tie.Need-element-copy-out-wide-u32
-element-copy-out-wide-u32 c = search needs
-
-wide-u32-requires : tie.Need-wide-u32-requires
-wide-u32-requires c κs = search needs
-
 returns : tie.Need-returns
 returns c =
     let w = c .before in
@@ -49,9 +40,9 @@ pub looked-up-spec : {M : Type 1} → statement M
 looked-up-spec =
     tie.close
     (tie.spec
-    mul-wide-u32
-    element-copy-out-wide-u32
-    wide-u32-requires
+    (λ c. search needs)
+    (λ c. search needs)
+    (λ c κs. search needs)
     returns
     cell-of-requires
     designator-of-requires

@@ -46,17 +46,11 @@ do-arithmetic-requires c κs =
     let s = startOf (c .before .before) in
     arithmetic-asks (copy s) (scene s) (s .pre) (mark (c .before .before) (c .before .match .keys1))
 
-came-to-requires : tie.Need-came-to-requires
-came-to-requires c κs = search needs
-
 do-branch-requires : tie.Need-do-branch-requires
 unfolding markOf
 do-branch-requires c κs =
     let s = startOf (c .before .before) in
     branch-asks (copy s) (scene s) (s .pre) (mark (c .before .before) (c .before .match .keys2))
-
-came-to-requires-2 : tie.Need-came-to-requires-2
-came-to-requires-2 c κs = search needs
 
 do-constant-requires : tie.Need-do-constant-requires
 unfolding markOf
@@ -64,17 +58,11 @@ do-constant-requires c κs =
     let s = startOf (c .before .before) in
     constant-asks (copy s) (scene s) (s .pre) (mark (c .before .before) (c .before .match .keys3))
 
-came-to-requires-3 : tie.Need-came-to-requires-3
-came-to-requires-3 c κs = search needs
-
 do-call-requires : tie.Need-do-call-requires
 unfolding markOf
 do-call-requires c κs =
     let s = startOf (c .before .before) in
     call-asks (copy s) (scene s) (s .pre) (mark (c .before .before) (c .before .match .keys4))
-
-came-to-requires-4 : tie.Need-came-to-requires-4
-came-to-requires-4 c κs = search needs
 
 add-do-goto : tie.Need-add-do-goto
 add-do-goto c = omega (arith, startOf (c .before) .pre .mark .there)
@@ -85,17 +73,11 @@ do-goto-requires c κs =
     let s = startOf (c .before) in
     goto-asks (copy s) (scene s) (s .pre) (mark (c .before) (c .match .keys5))
 
-came-to-requires-5 : tie.Need-came-to-requires-5
-came-to-requires-5 c κs = search needs
-
 do-block-requires : tie.Need-do-block-requires
 unfolding markOf
 do-block-requires c κs =
     let s = startOf (c .before) in
     block-asks (copy s) (scene s) (s .pre) (mark (c .before) (c .match .keys6))
-
-came-to-requires-6 : tie.Need-came-to-requires-6
-came-to-requires-6 c κs = search needs
 
 do-add-pair-requires : tie.Need-do-add-pair-requires
 unfolding markOf
@@ -103,26 +85,17 @@ do-add-pair-requires c κs =
     let s = startOf (c .before) in
     pair-asks (copy s) (scene s) (s .pre) (mark (c .before) (c .match .keys7))
 
-came-to-requires-7 : tie.Need-came-to-requires-7
-came-to-requires-7 c κs = search needs
-
 do-remove-pair-requires : tie.Need-do-remove-pair-requires
 unfolding markOf
 do-remove-pair-requires c κs =
     let s = startOf (c .before) in
     unpair-asks (copy s) (scene s) (s .pre) (mark (c .before) (c .match .keys8))
 
-came-to-requires-8 : tie.Need-came-to-requires-8
-came-to-requires-8 c κs = search needs
-
 do-query-requires : tie.Need-do-query-requires
 unfolding markOf
 do-query-requires c κs =
     let s = startOf (c .before) in
     query-asks (copy s) (scene s) (s .pre) (other c)
-
-came-to-requires-9 : tie.Need-came-to-requires-9
-came-to-requires-9 c κs = search needs
 
 returns : tie.Need-returns
 unfolding markOf
@@ -209,24 +182,24 @@ act-spec =
     add-place
     field-requires
     do-arithmetic-requires
-    came-to-requires
+    (λ c κs. search needs)
     do-branch-requires
-    came-to-requires-2
+    (λ c κs. search needs)
     do-constant-requires
-    came-to-requires-3
+    (λ c κs. search needs)
     do-call-requires
-    came-to-requires-4
+    (λ c κs. search needs)
     add-do-goto
     do-goto-requires
-    came-to-requires-5
+    (λ c κs. search needs)
     do-block-requires
-    came-to-requires-6
+    (λ c κs. search needs)
     do-add-pair-requires
-    came-to-requires-7
+    (λ c κs. search needs)
     do-remove-pair-requires
-    came-to-requires-8
+    (λ c κs. search needs)
     do-query-requires
-    came-to-requires-9
+    (λ c κs. search needs)
     returns
     returns-2
     returns-3

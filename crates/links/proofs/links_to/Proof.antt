@@ -9,11 +9,8 @@ use Rattle.links.proofs.links_to.Tie as tie
 returns : tie.Need-returns
 returns c = (sym (links-none-to (c .before .args .here .level) (c .before .args .word) (c .if1 .taken)), omega arith)
 
-sub-result : tie.Need-sub-result
-sub-result c = search needs
-
 returns-2 : tie.Need-returns-2
 returns-2 c = (sym (linksome-to (c .before .before .args .here .level) (c .before .before .args .word) (c .before .if1 .left)), omega arith)
 
 pub links-to-spec : {M : Type 1} → statement M
-links-to-spec = tie.close (tie.spec returns sub-result returns-2)
+links-to-spec = tie.close (tie.spec returns (λ c. search needs) returns-2)

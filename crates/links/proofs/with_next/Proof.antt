@@ -3,11 +3,8 @@ use borrow.Author.Needs.{needs}
 use Rattle.links.proofs.with_next.Statement.{statement}
 use Rattle.links.proofs.with_next.Tie as tie
 
-narrow-u32-requires : tie.Need-narrow-u32-requires
-narrow-u32-requires c κs = search needs
-
 returns : tie.Need-returns
 returns c = rw (c .narrow-u32 .ensures)
 
 pub with-next-spec : {M : Type 1} → statement M
-with-next-spec = tie.close (tie.spec narrow-u32-requires returns)
+with-next-spec = tie.close (tie.spec (λ c κs. search needs) returns)

@@ -40,64 +40,16 @@ narrow-requires c κs =
     let f = entry-fits (s .pre .running) (s .args .body) (s .args .link) (s .args .back) (s .args .words .now) (s .pre .enters) in
     omega arith
 
-mul-nexts : tie.Need-mul-nexts
-mul-nexts c = search needs
-
-element-write-nexts : tie.Need-element-write-nexts
-element-write-nexts c = search needs
-
 link-to-requires : tie.Need-link-to-requires
 link-to-requires c κs =
     let s = startOf (c .before .before .before) in
     linkable (s .pre .running) (s .args .body) (s .args .link) (s .args .back) (s .args .words .now) (s .pre .enters)
-
-add-fresh : tie.Need-add-fresh
-add-fresh c = search needs
 
 narrow-requires-2 : tie.Need-narrow-requires-2
 narrow-requires-2 c κs =
     let s = startOf (writtenOf c) in
     let f = entry-fits (s .pre .running) (s .args .body) (s .args .link) (s .args .back) (s .args .words .now) (s .pre .enters) in
     omega arith
-
-mul-blocks : tie.Need-mul-blocks
-mul-blocks c = search needs
-
-element-write-blocks : tie.Need-element-write-blocks
-element-write-blocks c = search needs
-
-narrow-requires-3 : tie.Need-narrow-requires-3
-narrow-requires-3 c κs = search needs
-
-mul-links : tie.Need-mul-links
-mul-links c = search needs
-
-element-write-links : tie.Need-element-write-links
-element-write-links c = search needs
-
-mul-narrow : tie.Need-mul-narrow
-mul-narrow c = search needs
-
-narrow-requires-4 : tie.Need-narrow-requires-4
-narrow-requires-4 c κs = search needs
-
-mul-display : tie.Need-mul-display
-mul-display c = search needs
-
-element-write-display : tie.Need-element-write-display
-element-write-display c = search needs
-
-mul-clear : tie.Need-mul-clear
-mul-clear c = search needs
-
-add-clear : tie.Need-add-clear
-add-clear c = search needs
-
-mul-clear-2 : tie.Need-mul-clear-2
-mul-clear-2 c = search needs
-
-add-clear-2 : tie.Need-add-clear-2
-add-clear-2 c = search needs
 
 clear-requires : tie.Need-clear-requires
 clear-requires c κs =
@@ -133,23 +85,23 @@ enter-spec =
     add-code-at
     code-at-requires-2
     narrow-requires
-    mul-nexts
-    element-write-nexts
+    (λ c. search needs)
+    (λ c. search needs)
     link-to-requires
-    add-fresh
+    (λ c. search needs)
     narrow-requires-2
-    mul-blocks
-    element-write-blocks
-    narrow-requires-3
-    mul-links
-    element-write-links
-    mul-narrow
-    narrow-requires-4
-    mul-display
-    element-write-display
-    mul-clear
-    add-clear
-    mul-clear-2
-    add-clear-2
+    (λ c. search needs)
+    (λ c. search needs)
+    (λ c κs. search needs)
+    (λ c. search needs)
+    (λ c. search needs)
+    (λ c. search needs)
+    (λ c κs. search needs)
+    (λ c. search needs)
+    (λ c. search needs)
+    (λ c. search needs)
+    (λ c. search needs)
+    (λ c. search needs)
+    (λ c. search needs)
     clear-requires
     returns)

@@ -14,9 +14,6 @@ levelOf c = c .before .before
 abbrev startOf : tie.After-restore → tie.Start
 startOf c = levelOf (c .before) .before
 
-sub-live : tie.Need-sub-live
-sub-live c = search needs
-
 level-of-requires : tie.Need-level-of-requires
 level-of-requires c κs =
     let r = c .pre .running in
@@ -45,9 +42,6 @@ element-copy-out-wide c =
     let s = startOf c in
     omega (arith, few-live (s .pre .running))
 
-wide-requires : tie.Need-wide-requires
-wide-requires c κs = search needs
-
 end-of-requires : tie.Need-end-of-requires
 end-of-requires c κs =
     let s = startOf (c .before .before) in
@@ -70,12 +64,12 @@ pub leave-spec : {M : Type 1} → statement M
 leave-spec =
     tie.close
     (tie.spec
-    sub-live
+    (λ c. search needs)
     level-of-requires
     level-of-requires-2
     restore-requires
     mul-wide
     element-copy-out-wide
-    wide-requires
+    (λ c κs. search needs)
     end-of-requires
     returns)

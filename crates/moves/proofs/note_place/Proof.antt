@@ -5,19 +5,10 @@ use borrow.Author.Needs.{needs}
 use Rattle.moves.proofs.note_place.Statement.{statement}
 use Rattle.moves.proofs.note_place.Tie as tie
 
-narrow-requires : tie.Need-narrow-requires
-narrow-requires c κs = search needs
-
-mul-nexts : tie.Need-mul-nexts
-mul-nexts c = search needs
-
-element-write-nexts : tie.Need-element-write-nexts
-element-write-nexts c = search needs
-
 returns : tie.Need-returns
 returns c =
     let s = c .before .args in
     ap (set (s .nexts .now) (s .here .live)) (c .narrow .ensures)
 
 pub note-place-spec : {M : Type 1} → statement M
-note-place-spec = tie.close (tie.spec narrow-requires mul-nexts element-write-nexts returns)
+note-place-spec = tie.close (tie.spec (λ c κs. search needs) (λ c. search needs) (λ c. search needs) returns)

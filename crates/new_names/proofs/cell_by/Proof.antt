@@ -31,9 +31,6 @@ returns c =
     cell-is (a .firsts .now) (a .starts .now) (a .live) (a .name) (a .live) (innermost c) (a .start + (a .name - a .first))
     (λ i. s .pre .0 .1 i + (a .name - s .pre .0 .0 i))
 
-first-of-requires : tie.Need-first-of-requires
-first-of-requires c κs = search needs
-
 -- the program's activation does
 programs : (c : tie.Then2) → let a = c .before .before .before .args in 0 ≡ ownerIn (a .firsts .now) (a .live) (a .name)
 programs c =
@@ -53,9 +50,6 @@ returns-2 : tie.Need-returns-2
 returns-2 c =
     let a = c .before .before .before .before .args in
     cell-is (a .firsts .now) (a .starts .now) (a .live) (a .name) 0 (programs (c .before)) (c .cell-in .result) (c .cell-in .ensures)
-
-outer-owner-requires : tie.Need-outer-owner-requires
-outer-owner-requires c κs = search needs
 
 cell-in-requires-2 : tie.Need-cell-in-requires-2
 cell-in-requires-2 c κs =
@@ -77,9 +71,9 @@ cell-by-spec =
     (tie.spec
     add-result
     returns
-    first-of-requires
+    (λ c κs. search needs)
     cell-in-requires
     returns-2
-    outer-owner-requires
+    (λ c κs. search needs)
     cell-in-requires-2
     returns-3)

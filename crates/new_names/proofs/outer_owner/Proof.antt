@@ -18,17 +18,8 @@ loop-holds c =
     let a = c .args in
     (omega arith, omega arith, narrowed-first (a .firsts .now) (a .live) (a .name) (omega (arith, c .pre .2)))
 
-sub-loop : tie.Need-sub-loop Inv-loop μ-loop
-sub-loop c = search needs
-
-add-middle : tie.Need-add-middle Inv-loop μ-loop
-add-middle c = search needs
-
 first-of-requires : tie.Need-first-of-requires Inv-loop μ-loop
 first-of-requires c κs = omega (arith, c .before .loop .inv .1, c .before .before .pre .0)
-
-loop-less : tie.Need-loop-less Inv-loop μ-loop
-loop-less c = search needs
 
 loop-again : tie.Need-loop-again Inv-loop μ-loop
 loop-again c =
@@ -43,9 +34,6 @@ loop-again c =
       narrowed-up (a .firsts .now) (a .live) (l .low) (l .high) (a .name) ((l .low + l .high) / 2) up (omega (arith, l .inv .1))
           (omega (arith, c .before .first-of .ensures .0)) (l .inv .2),
     )
-
-loop-less-2 : tie.Need-loop-less-2 Inv-loop μ-loop
-loop-less-2 c = search needs
 
 loop-again-2 : tie.Need-loop-again-2 Inv-loop μ-loop
 loop-again-2 c =
@@ -75,11 +63,11 @@ outer-owner-spec =
     Inv-loop
     μ-loop
     loop-holds
-    sub-loop
-    add-middle
+    (λ c. search needs)
+    (λ c. search needs)
     first-of-requires
-    loop-less
+    (λ c. search needs)
     loop-again
-    loop-less-2
+    (λ c. search needs)
     loop-again-2
     returns)

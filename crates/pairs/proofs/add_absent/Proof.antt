@@ -20,12 +20,6 @@ lent s = tableOf (s .args .table .now) (s .args .count)
 judged : (c : tie.After-crowded) {v : Bool} → c .crowded .result ≡ v → let s = startOf c in leb (s .args .limit) (size (s .args .group) (lent s)) ≡ v
 judged c q = let s = startOf c in crowded-read (s .fits .group) (s .args .limit) (s .args .count) (s .args .table .now) (c .crowded .ensures) q
 
-crowded-requires : tie.Need-crowded-requires
-crowded-requires c κs = search needs
-
-same-length : tie.Need-same-length
-same-length c = search needs
-
 returns : tie.Need-returns
 unfolding changeOf wordsAfter
 returns c =
@@ -33,24 +27,12 @@ returns c =
     let e = absent-crowded (s .args .limit) (s .args .group) (s .args .member) (lent s) (judged (c .before) (c .if1 .taken)) in
     (sym (ap changeOf e), sym (ap (wordsAfter (s .args .table .now)) e))
 
-same-length-2 : tie.Need-same-length-2
-same-length-2 c = search needs
-
 returns-2 : tie.Need-returns-2
 unfolding changeOf wordsAfter
 returns-2 c =
     let s = startOf (c .before .before) in
     let e = absent-full (s .args .limit) (s .args .group) (s .args .member) (lent s) (judged (c .before .before) (c .before .if1 .left)) (c .if2 .taken) in
     (sym (ap changeOf e), sym (ap (wordsAfter (s .args .table .now)) e))
-
-append-requires : tie.Need-append-requires
-append-requires c κs = search needs
-
-add-t10 : tie.Need-add-t10
-add-t10 c = search needs
-
-same-length-3 : tie.Need-same-length-3
-same-length-3 c = search needs
 
 returns-3 : tie.Need-returns-3
 unfolding changeOf wordsAfter add
@@ -65,12 +47,12 @@ pub add-absent-spec : {M : Type 1} → statement M
 add-absent-spec =
     tie.close
     (tie.spec
-    crowded-requires
-    same-length
+    (λ c κs. search needs)
+    (λ c. search needs)
     returns
-    same-length-2
+    (λ c. search needs)
     returns-2
-    append-requires
-    add-t10
-    same-length-3
+    (λ c κs. search needs)
+    (λ c. search needs)
+    (λ c. search needs)
     returns-3)

@@ -28,21 +28,12 @@ fit c = numbers (testOf c .before) (not-false _ (testOf c .if1 .left))
 known : (c : tie.After-present) {v : Bool} → c .present .result ≡ v → let s = startOf c in holds (s .args .group) (s .args .member) (lent s) ≡ v
 known c q = let s = startOf c in held-read (s .fits .group) (s .fits .member) (s .args .count) (s .args .table .now) (c .present .ensures) q
 
-numbers-fit-requires : tie.Need-numbers-fit-requires
-numbers-fit-requires c κs = search needs
-
 returns : tie.Need-returns
 unfolding changeOf wordsAfter
 returns c =
     let s = c .before .before in
     let e = added-below (s .args .limit) (s .args .group) (s .args .member) (lent s) (numbers (c .before) (not-true _ (c .if1 .taken))) in
     (sym (ap changeOf e), sym (ap (wordsAfter (s .args .table .now)) e))
-
-present-requires : tie.Need-present-requires
-present-requires c κs = search needs
-
-same-length : tie.Need-same-length
-same-length c = search needs
 
 returns-2 : tie.Need-returns-2
 unfolding changeOf wordsAfter
@@ -51,12 +42,6 @@ returns-2 c =
     let s = startOf k in
     let e = added-present (s .args .limit) (s .args .group) (s .args .member) (lent s) (fit k) (known k (c .if2 .taken)) in
     (sym (ap changeOf e), sym (ap (wordsAfter (s .args .table .now)) e))
-
-add-absent-requires : tie.Need-add-absent-requires
-add-absent-requires c κs = search needs
-
-same-length-2 : tie.Need-same-length-2
-same-length-2 c = search needs
 
 returns-3 : tie.Need-returns-3
 returns-3 c =
@@ -72,11 +57,11 @@ pub add-pair-spec : {M : Type 1} → statement M
 add-pair-spec =
     tie.close
     (tie.spec
-    numbers-fit-requires
+    (λ c κs. search needs)
     returns
-    present-requires
-    same-length
+    (λ c κs. search needs)
+    (λ c. search needs)
     returns-2
-    add-absent-requires
-    same-length-2
+    (λ c κs. search needs)
+    (λ c. search needs)
     returns-3)

@@ -14,24 +14,6 @@ use Rattle.pairs.proofs.append.Tie as tie
 abbrev firstOf : tie.After-table2 → tie.After-write-word
 firstOf c = c .before .before .before .before
 
-mul-write-word : tie.Need-mul-write-word
-mul-write-word c = search needs
-
-write-word-requires : tie.Need-write-word-requires
-write-word-requires c κs = search needs
-
-mul-write-word-2 : tie.Need-mul-write-word-2
-mul-write-word-2 c = search needs
-
-add-write-word : tie.Need-add-write-word
-add-write-word c = search needs
-
-write-word-requires-2 : tie.Need-write-word-requires-2
-write-word-requires-2 c κs = search needs
-
-same-length : tie.Need-same-length
-same-length c = search needs
-
 returns : tie.Need-returns
 unfolding add
 returns c =
@@ -50,11 +32,11 @@ pub append-spec : {M : Type 1} → statement M
 append-spec =
     tie.close
     (tie.spec
-    mul-write-word
-    write-word-requires
-    mul-write-word-2
-    add-write-word
-    write-word-requires-2
-    same-length
+    (λ c. search needs)
+    (λ c κs. search needs)
+    (λ c. search needs)
+    (λ c. search needs)
+    (λ c κs. search needs)
+    (λ c. search needs)
     returns
     returns-2)

@@ -24,15 +24,9 @@ fit c = numbers (c .before .before) (not-false _ (c .before .if1 .left))
 known : (c : tie.After-present) {v : Bool} → c .present .result ≡ v → let s = startOf c in holds (s .args .group) (s .args .member) (lent s) ≡ v
 known c q = let s = startOf c in held-read (s .fits .group) (s .fits .member) (s .args .count) (s .args .table .now) (c .present .ensures) q
 
-numbers-fit-requires : tie.Need-numbers-fit-requires
-numbers-fit-requires c κs = search needs
-
 returns : tie.Need-returns
 unfolding valueOf
 returns c = sym (ap valueOf (queried-below _ _ (lent (c .before .before)) (numbers (c .before) (not-true _ (c .if1 .taken)))))
-
-present-requires : tie.Need-present-requires
-present-requires c κs = search needs
 
 returns-2 : tie.Need-returns-2
 unfolding valueOf
@@ -43,4 +37,4 @@ unfolding valueOf
 returns-3 c = let k = c .before in sym (ap valueOf (queried-no _ _ (lent (startOf k)) (fit k) (known k (c .if2 .left))))
 
 pub query-pair-spec : {M : Type 1} → statement M
-query-pair-spec = tie.close (tie.spec numbers-fit-requires returns present-requires returns-2 returns-3)
+query-pair-spec = tie.close (tie.spec (λ c κs. search needs) returns (λ c κs. search needs) returns-2 returns-3)

@@ -27,30 +27,12 @@ known c r q =
 abbrev foundOf : tie.After-table → tie.After-found
 foundOf c = c .before .before .before .before
 
-searched-requires : tie.Need-searched-requires
-searched-requires c κs = search needs
-
-enum-told : tie.Need-enum-told
-enum-told c = search needs
-
-enum-told-2 : tie.Need-enum-told-2
-enum-told-2 c = search needs
-
-enum-known-found : tie.Need-enum-known-found
-enum-known-found c = search needs
-
-take-out-requires : tie.Need-take-out-requires
-take-out-requires c κs = search needs
-
 sub-t14 : tie.Need-sub-t14
 sub-t14 c =
     let f = foundOf c in
     let k = f .before .before in
     let s = startOf k in
     omega (arith, find-below (s .args .group) (s .args .member) (s .args .count) (s .args .table .now) (f .found .given .0 .0) (known k _ (f .found .given .1) .1))
-
-same-length : tie.Need-same-length
-same-length c = search needs
 
 returns : tie.Need-returns
 unfolding changeOf wordsAfter
@@ -60,9 +42,6 @@ returns c =
     let e = removed-below (s .args .group) (s .args .member) (lent s) (known k _ (c .enum-told .given .1)) in
     (sym (ap changeOf e), sym (ap (wordsAfter (s .args .table .now)) e))
 
-same-length-2 : tie.Need-same-length-2
-same-length-2 c = search needs
-
 returns-2 : tie.Need-returns-2
 unfolding changeOf wordsAfter
 returns-2 c =
@@ -71,9 +50,6 @@ returns-2 c =
     let h = known k _ (c .enum-told2 .given .1) in
     let e = removed-absent (s .args .group) (s .args .member) (lent s) (h .0) (h .1) in
     (sym (ap changeOf e), sym (ap (wordsAfter (s .args .table .now)) e))
-
-same-length-3 : tie.Need-same-length-3
-same-length-3 c = search needs
 
 returns-3 : tie.Need-returns-3
 unfolding changeOf wordsAfter
@@ -93,15 +69,15 @@ pub remove-pair-spec : {M : Type 1} → statement M
 remove-pair-spec =
     tie.close
     (tie.spec
-    searched-requires
-    enum-told
-    enum-told-2
-    enum-known-found
-    take-out-requires
+    (λ c κs. search needs)
+    (λ c. search needs)
+    (λ c. search needs)
+    (λ c. search needs)
+    (λ c κs. search needs)
     sub-t14
-    same-length
+    (λ c. search needs)
     returns
-    same-length-2
+    (λ c. search needs)
     returns-2
-    same-length-3
+    (λ c. search needs)
     returns-3)

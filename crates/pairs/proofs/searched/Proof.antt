@@ -22,20 +22,8 @@ fit c = numbers (c .before .before) (not-false _ (c .before .if1 .left))
 place : (c : tie.After-place-of) {p : PairPlace} → c .place-of .result ≡ p → let s = startOf c in placed (find (s .args .group) (s .args .member) (s .args .count) (s .args .table .now)) ≡ p
 place c q = let s = startOf c in place-read (s .fits .group) (s .fits .member) (s .args .count) (s .args .table .now) (c .place-of .ensures) q
 
-numbers-fit-requires : tie.Need-numbers-fit-requires
-numbers-fit-requires c κs = search needs
-
 returns : tie.Need-returns
 returns c = searched-below _ _ _ _ (numbers (c .before) (not-true _ (c .if1 .taken)))
-
-place-of-requires : tie.Need-place-of-requires
-place-of-requires c κs = search needs
-
-enum-known-found : tie.Need-enum-known-found
-enum-known-found c = search needs
-
-enum-told : tie.Need-enum-told
-enum-told c = search needs
 
 returns-2 : tie.Need-returns-2
 returns-2 c = let f = c .before in let p = f .before .before in searched-at _ _ _ _ (fit p) (place p (f .found .given .1))
@@ -47,10 +35,10 @@ pub searched-spec : {M : Type 1} → statement M
 searched-spec =
     tie.close
     (tie.spec
-    numbers-fit-requires
+    (λ c κs. search needs)
     returns
-    place-of-requires
-    enum-known-found
-    enum-told
+    (λ c κs. search needs)
+    (λ c. search needs)
+    (λ c. search needs)
     returns-2
     returns-3)

@@ -14,12 +14,6 @@ use Rattle.sheets.proofs.formal_shown.Tie as tie
 cast-designator-of : tie.Need-cast-designator-of
 cast-designator-of c = natural (c .args .word) (c .pre .0) (c .fits .word) (c .pre .1)
 
-designator-of-requires : tie.Need-designator-of-requires
-designator-of-requires c κs = search needs
-
-cast-result : tie.Need-cast-result
-cast-result c = search needs
-
 returns : tie.Need-returns
 returns c x e =
     let r = c .designator-of .ensures in
@@ -27,4 +21,4 @@ returns c x e =
 
 pub formal-shown-spec : {M : Type 1} → statement M
 formal-shown-spec =
-    tie.close (tie.spec cast-designator-of designator-of-requires cast-result returns)
+    tie.close (tie.spec cast-designator-of (λ c κs. search needs) (λ c. search needs) returns)

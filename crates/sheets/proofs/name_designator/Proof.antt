@@ -48,9 +48,6 @@ held-requires c κs =
     let z = getD (s .args .words .now) (s .args .first + s .args .word % 32) (pos 0) in
     ap (λ (y : ℤ). ltZ y (pos 0)) (read-back z (c .held-arg .given)) ∙ (s .pre (u .before .if1 .left)) .whole (ne-eqb (s .args .word / 32 % 2) 0 (u .if2 .left))
 
-designator-of-requires-2 : tie.Need-designator-of-requires-2
-designator-of-requires-2 c κs = search needs
-
 returns-3 : tie.Need-returns-3
 unfolding direct heldBy
 returns-3 c =
@@ -71,5 +68,5 @@ name-designator-spec =
     mul-held
     element-copy-out-held
     held-requires
-    designator-of-requires-2
+    (λ c κs. search needs)
     returns-3)

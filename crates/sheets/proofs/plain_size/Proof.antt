@@ -6,15 +6,9 @@ use borrow.Author.Needs.{needs}
 use Rattle.sheets.proofs.plain_size.Statement.{statement}
 use Rattle.sheets.proofs.plain_size.Tie as tie
 
-mul-result : tie.Need-mul-result
-mul-result c = search needs
-
-shr-result : tie.Need-shr-result
-shr-result c = search needs
-
 returns : tie.Need-returns
 unfolding plainSize
 returns c = (refl, omega arith)
 
 pub plain-size-spec : {M : Type 1} → statement M
-plain-size-spec = tie.close (tie.spec mul-result shr-result returns)
+plain-size-spec = tie.close (tie.spec (λ c. search needs) (λ c. search needs) returns)

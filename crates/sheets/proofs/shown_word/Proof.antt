@@ -5,15 +5,6 @@ use borrow.Author.Needs.{needs}
 use Rattle.sheets.proofs.shown_word.Statement.{statement}
 use Rattle.sheets.proofs.shown_word.Tie as tie
 
-add-formal-shown : tie.Need-add-formal-shown
-add-formal-shown c = search needs
-
-mul-formal-shown : tie.Need-mul-formal-shown
-mul-formal-shown c = search needs
-
-element-copy-out-formal-shown : tie.Need-element-copy-out-formal-shown
-element-copy-out-formal-shown c = search needs
-
 formal-shown-requires : tie.Need-formal-shown-requires
 formal-shown-requires c κs =
     let p = c .before .before .pre in
@@ -26,15 +17,6 @@ returns c own h l =
     let x = h .formals-are _ (u .before .if1 .taken) l in
     read-back _ (c .formal-shown .ok) ∙ c .formal-shown .ensures (x .0) (read-back _ (u .formal-shown-arg .given) ∙ x .1) ∙ sym (x .2)
 
-add-result : tie.Need-add-result
-add-result c = search needs
-
-mul-result : tie.Need-mul-result
-mul-result c = search needs
-
-element-copy-out-result : tie.Need-element-copy-out-result
-element-copy-out-result c = search needs
-
 returns-2 : tie.Need-returns-2
 returns-2 c own h l = read-back _ (c .result .given) ∙ h .others-are _ (c .before .if1 .left) l
 
@@ -42,12 +24,12 @@ pub shown-word-spec : {M : Type 1} → statement M
 shown-word-spec =
     tie.close
     (tie.spec
-    add-formal-shown
-    mul-formal-shown
-    element-copy-out-formal-shown
+    (λ c. search needs)
+    (λ c. search needs)
+    (λ c. search needs)
     formal-shown-requires
     returns
-    add-result
-    mul-result
-    element-copy-out-result
+    (λ c. search needs)
+    (λ c. search needs)
+    (λ c. search needs)
     returns-2)

@@ -7,12 +7,6 @@ use borrow.Author.Needs.{needs}
 use Rattle.sheets.proofs.size_at.Statement.{statement}
 use Rattle.sheets.proofs.size_at.Tie as tie
 
-code-at-requires : tie.Need-code-at-requires
-code-at-requires c κs = search needs
-
-add-code-at : tie.Need-add-code-at
-add-code-at c = search needs
-
 code-at-requires-2 : tie.Need-code-at-requires-2
 code-at-requires-2 c κs = (c .before .before .pre .block (ap (λ v. v % 16) (sym (c .before .code-at .ensures .0)) ∙ c .if1 .taken)) .0
 
@@ -26,25 +20,16 @@ returns c =
     let u = c .before in
     (ap (λ v. v % 65536 - u .before .before .args .at) (c .code-at2 .ensures .0) ∙ sym (size-block _ _ (ap (λ v. v % 16) (sym (u .before .code-at .ensures .0)) ∙ u .if1 .taken)), omega arith)
 
-add-code-at-2 : tie.Need-add-code-at-2
-add-code-at-2 c = search needs
-
 code-at-requires-3 : tie.Need-code-at-requires-3
 code-at-requires-3 c κs =
     let u = c .before .before in
     u .before .pre .call (ap (λ v. v % 8) (sym (u .code-at .ensures .0)) ∙ c .if2 .taken)
-
-add-result : tie.Need-add-result
-add-result c = search needs
 
 returns-2 : tie.Need-returns-2
 returns-2 c =
     let u = c .before in
     let g = u .before .before .code-at .ensures .0 in
     (ap (λ v. 3 + v) (c .code-at3 .ensures .0) ∙ sym (size-call _ _ (λ h. u .before .if1 .left (ap (λ v. v % 16) g ∙ h)) (ap (λ v. v % 8) (sym g) ∙ u .if2 .taken)), omega (arith, c .code-at3 .ensures .1))
-
-plain-size-requires : tie.Need-plain-size-requires
-plain-size-requires c κs = search needs
 
 returns-3 : tie.Need-returns-3
 returns-3 c =
@@ -56,14 +41,14 @@ pub size-at-spec : {M : Type 1} → statement M
 size-at-spec =
     tie.close
     (tie.spec
-    code-at-requires
-    add-code-at
+    (λ c κs. search needs)
+    (λ c. search needs)
     code-at-requires-2
     sub-result
     returns
-    add-code-at-2
+    (λ c. search needs)
     code-at-requires-3
-    add-result
+    (λ c. search needs)
     returns-2
-    plain-size-requires
+    (λ c κs. search needs)
     returns-3)

@@ -12,38 +12,8 @@ use borrow.Author.Needs.{needs}
 use Rattle.sheets.proofs.write_activation.Statement.{statement}
 use Rattle.sheets.proofs.write_activation.Tie as tie
 
-code-at-requires : tie.Need-code-at-requires
-code-at-requires c κs = search needs
-
-mul-word-of : tie.Need-mul-word-of
-mul-word-of c = search needs
-
-word-of-requires : tie.Need-word-of-requires
-word-of-requires c κs = search needs
-
-mul-sheet : tie.Need-mul-sheet
-mul-sheet c = search needs
-
-slice-set-from-sheet : tie.Need-slice-set-from-sheet
-slice-set-from-sheet c = search needs
-
-number-of-requires : tie.Need-number-of-requires
-number-of-requires c κs = search needs
-
-word-of-requires-2 : tie.Need-word-of-requires-2
-word-of-requires-2 c κs = search needs
-
-add-t11 : tie.Need-add-t11
-add-t11 c = search needs
-
-mul-t14 : tie.Need-mul-t14
-mul-t14 c = search needs
-
 slice-set-from-sheet-2 : tie.Need-slice-set-from-sheet-2
 slice-set-from-sheet-2 c = simp length-set (omega (arith, c .before .before .before .before .pre .3))
-
-add-write-names : tie.Need-add-write-names
-add-write-names c = search needs
 
 write-names-requires : tie.Need-write-names-requires
 write-names-requires c κs =
@@ -52,12 +22,6 @@ write-names-requires c κs =
     let head = u .code-at .ensures .0 in
     let names : u .code-at .result / 16777216 ≡ length (p .1) = ap (λ x. x / 16777216) head ∙ p .2 .names-are in
     ((p .1, subst (λ (k : ℕ). Owned (u .before .args .words .now) (u .before .args .first) k (p .1)) (ap (λ x. x / 65536 % 256) (sym head)) (p .2 .owned), sym names), simp length-set (omega (arith, p .3)))
-
-add-result : tie.Need-add-result
-add-result c = search needs
-
-add-result-2 : tie.Need-add-result-2
-add-result-2 c = search needs
 
 same-length : tie.Need-same-length
 same-length c = c .before .write-names .ensures .1 ∙ simp length-set
@@ -85,19 +49,19 @@ pub write-activation-spec : {M : Type 1} → statement M
 write-activation-spec =
     tie.close
     (tie.spec
-    code-at-requires
-    mul-word-of
-    word-of-requires
-    mul-sheet
-    slice-set-from-sheet
-    number-of-requires
-    word-of-requires-2
-    add-t11
-    mul-t14
+    (λ c κs. search needs)
+    (λ c. search needs)
+    (λ c κs. search needs)
+    (λ c. search needs)
+    (λ c. search needs)
+    (λ c κs. search needs)
+    (λ c κs. search needs)
+    (λ c. search needs)
+    (λ c. search needs)
     slice-set-from-sheet-2
-    add-write-names
+    (λ c. search needs)
     write-names-requires
-    add-result
-    add-result-2
+    (λ c. search needs)
+    (λ c. search needs)
     same-length
     returns)

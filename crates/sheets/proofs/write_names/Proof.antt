@@ -29,12 +29,6 @@ shown-word-requires c κs =
     let p = c .before .before .pre .0 in
     (p .0, p .1, omega (arith, p .2))
 
-add-t10 : tie.Need-add-t10 Inv-loop μ-loop
-add-t10 c = search needs
-
-mul-t11 : tie.Need-mul-t11 Inv-loop μ-loop
-mul-t11 c = search needs
-
 slice-set-from-sheet : tie.Need-slice-set-from-sheet Inv-loop μ-loop
 slice-set-from-sheet c = omega (arith, c .before .before .before .pre .1, c .before .before .loop .inv .1)
 
@@ -70,8 +64,8 @@ write-names-spec =
     μ-loop
     loop-holds
     shown-word-requires
-    add-t10
-    mul-t11
+    (λ c. search needs)
+    (λ c. search needs)
     slice-set-from-sheet
     add-i
     loop-less

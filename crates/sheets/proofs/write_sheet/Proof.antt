@@ -38,9 +38,6 @@ mul-widened c = omega (arith, c .before .before .pre .0 .1 .most, c .before .bef
 element-copy-out-widened : tie.Need-element-copy-out-widened Inv-loop μ-loop
 element-copy-out-widened c = omega (arith, c .before .before .pre .0 .1 .most, c .before .before .pre .0 .2)
 
-widened-requires : tie.Need-widened-requires Inv-loop μ-loop
-widened-requires c κs = search needs
-
 mul-widened-2 : tie.Need-mul-widened-2 Inv-loop μ-loop
 mul-widened-2 c =
     let s = loopOf c .before in
@@ -50,9 +47,6 @@ element-copy-out-widened-2 : tie.Need-element-copy-out-widened-2 Inv-loop μ-loo
 element-copy-out-widened-2 c =
     let s = loopOf c .before in
     omega (arith, s .pre .0 .1 .most, s .pre .0 .2)
-
-widened-requires-2 : tie.Need-widened-requires-2 Inv-loop μ-loop
-widened-requires-2 c κs = search needs
 
 mul-write-activation : tie.Need-mul-write-activation Inv-loop μ-loop
 mul-write-activation c =
@@ -115,10 +109,10 @@ write-sheet-spec =
     loop-holds
     mul-widened
     element-copy-out-widened
-    widened-requires
+    (λ c κs. search needs)
     mul-widened-2
     element-copy-out-widened-2
-    widened-requires-2
+    (λ c κs. search needs)
     mul-write-activation
     write-activation-requires
     add-k

@@ -4,15 +4,6 @@ use borrow.Author.Needs.{needs}
 use Rattle.statements.proofs.computed.Statement.{statement}
 use Rattle.statements.proofs.computed.Tie as tie
 
-enum-told : tie.Need-enum-told
-enum-told c = search needs
-
-add-t5 : tie.Need-add-t5
-add-t5 c = search needs
-
-enum-known-effect : tie.Need-enum-known-effect
-enum-known-effect c = search needs
-
 returns : tie.Need-returns
 unfolding moveAfter
 returns c = rw (c .enum-told .given .1)
@@ -22,4 +13,4 @@ unfolding moveAfter
 returns-2 c = rw (c .before .effect .given .1)
 
 pub computed-spec : {M : Type 1} → statement M
-computed-spec = tie.close (tie.spec enum-told add-t5 enum-known-effect returns returns-2)
+computed-spec = tie.close (tie.spec (λ c. search needs) (λ c. search needs) (λ c. search needs) returns returns-2)

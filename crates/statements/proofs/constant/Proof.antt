@@ -5,21 +5,6 @@ use borrow.Author.Needs.{needs}
 use Rattle.statements.proofs.constant.Statement.{statement}
 use Rattle.statements.proofs.constant.Tie as tie
 
-add-code-at : tie.Need-add-code-at
-add-code-at c = search needs
-
-code-at-requires : tie.Need-code-at-requires
-code-at-requires c κs = search needs
-
-signed-requires : tie.Need-signed-requires
-signed-requires c κs = search needs
-
-store-requires : tie.Need-store-requires
-store-requires c κs = search needs
-
-add-t8 : tie.Need-add-t8
-add-t8 c = search needs
-
 returns : tie.Need-returns
 returns c =
     let v = c .before in
@@ -27,4 +12,4 @@ returns c =
 
 pub constant-spec : {M : Type 1} → statement M
 constant-spec =
-    tie.close (tie.spec add-code-at code-at-requires signed-requires store-requires add-t8 returns)
+    tie.close (tie.spec (λ c. search needs) (λ c κs. search needs) (λ c κs. search needs) (λ c κs. search needs) (λ c. search needs) returns)

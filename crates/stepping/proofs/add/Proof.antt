@@ -7,24 +7,6 @@ use borrow.Author.Needs.{needs}
 use Rattle.stepping.proofs.add.Statement.{statement}
 use Rattle.stepping.proofs.add.Tie as tie
 
-mul-sum : tie.Need-mul-sum
-mul-sum c = search needs
-
-element-copy-out-sum : tie.Need-element-copy-out-sum
-element-copy-out-sum c = search needs
-
-mul-sum-2 : tie.Need-mul-sum-2
-mul-sum-2 c = search needs
-
-element-copy-out-sum-2 : tie.Need-element-copy-out-sum-2
-element-copy-out-sum-2 c = search needs
-
-sum-requires : tie.Need-sum-requires
-sum-requires c κs = search needs
-
-keep-requires : tie.Need-keep-requires
-keep-requires c κs = search needs
-
 returns : tie.Need-returns
 unfolding compute
 returns c =
@@ -37,10 +19,10 @@ pub add-spec : {M : Type 1} → statement M
 add-spec =
     tie.close
     (tie.spec
-    mul-sum
-    element-copy-out-sum
-    mul-sum-2
-    element-copy-out-sum-2
-    sum-requires
-    keep-requires
+    (λ c. search needs)
+    (λ c. search needs)
+    (λ c. search needs)
+    (λ c. search needs)
+    (λ c κs. search needs)
+    (λ c κs. search needs)
     returns)

@@ -12,30 +12,6 @@ use borrow.Author.Needs.{needs}
 use Rattle.stepping.proofs.compare.Statement.{statement}
 use Rattle.stepping.proofs.compare.Tie as tie
 
-mul-if1 : tie.Need-mul-if1
-mul-if1 c = search needs
-
-element-copy-out-if1 : tie.Need-element-copy-out-if1
-element-copy-out-if1 c = search needs
-
-mul-if1-2 : tie.Need-mul-if1-2
-mul-if1-2 c = search needs
-
-element-copy-out-if1-2 : tie.Need-element-copy-out-if1-2
-element-copy-out-if1-2 c = search needs
-
-mul-words : tie.Need-mul-words
-mul-words c = search needs
-
-element-set-of-words : tie.Need-element-set-of-words
-element-set-of-words c = search needs
-
-mul-words-2 : tie.Need-mul-words-2
-mul-words-2 c = search needs
-
-element-set-of-words-2 : tie.Need-element-set-of-words-2
-element-set-of-words-2 c = search needs
-
 abbrev left : tie.After-if13 → ℤ
 left c = let s = c .before .before .args in getD (s .words .now) (s .left) (pos 0)
 
@@ -59,13 +35,13 @@ pub compare-spec : {M : Type 1} → statement M
 compare-spec =
     tie.close
     (tie.spec
-    mul-if1
-    element-copy-out-if1
-    mul-if1-2
-    element-copy-out-if1-2
-    mul-words
-    element-set-of-words
-    mul-words-2
-    element-set-of-words-2
+    (λ c. search needs)
+    (λ c. search needs)
+    (λ c. search needs)
+    (λ c. search needs)
+    (λ c. search needs)
+    (λ c. search needs)
+    (λ c. search needs)
+    (λ c. search needs)
     returns
     returns-2)

@@ -6,9 +6,6 @@ use borrow.Author.Needs.{needs}
 use Rattle.stepping.proofs.fits_word.Statement.{statement}
 use Rattle.stepping.proofs.fits_word.Tie as tie
 
-sub-if1 : tie.Need-sub-if1
-sub-if1 c = search needs
-
 returns : tie.Need-returns
 returns c = sym (too-low (c .before .args .v) (rw (toZ-ofZ (c .before .fits .v)) at (c .if1 .taken)))
 
@@ -16,4 +13,4 @@ returns-2 : tie.Need-returns-2
 returns-2 c = rw (toZ-ofZ (c .before .fits .v)) (not-too-low (c .before .args .v) (rw (toZ-ofZ (c .before .fits .v)) at (c .if1 .left)))
 
 pub fits-word-spec : {M : Type 1} → statement M
-fits-word-spec = tie.close (tie.spec sub-if1 returns returns-2)
+fits-word-spec = tie.close (tie.spec (λ c. search needs) returns returns-2)

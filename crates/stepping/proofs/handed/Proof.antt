@@ -11,26 +11,11 @@ use borrow.Author.Needs.{needs}
 use Rattle.stepping.proofs.handed.Statement.{statement}
 use Rattle.stepping.proofs.handed.Tie as tie
 
-mul-word-of : tie.Need-mul-word-of
-mul-word-of c = search needs
-
-add-word-of : tie.Need-add-word-of
-add-word-of c = search needs
-
-word-of-requires : tie.Need-word-of-requires
-word-of-requires c κs = search needs
-
 returns : tie.Need-returns
 returns c =
     let s = c .before .before .args in
     let e : s .word / 32 % 2 ≡ 0 = omega arith in
     read-back (c .word-of .result) (c .word-of .ok) ∙ c .word-of .ensures ∙ handed-direct (s .words .now) (s .word) (s .cell) (eq-eqb (s .word / 32 % 2) 0 e)
-
-mul-result : tie.Need-mul-result
-mul-result c = search needs
-
-element-copy-out-result : tie.Need-element-copy-out-result
-element-copy-out-result c = search needs
 
 returns-2 : tie.Need-returns-2
 returns-2 c =
@@ -42,10 +27,10 @@ pub handed-spec : {M : Type 1} → statement M
 handed-spec =
     tie.close
     (tie.spec
-    mul-word-of
-    add-word-of
-    word-of-requires
+    (λ c. search needs)
+    (λ c. search needs)
+    (λ c κs. search needs)
     returns
-    mul-result
-    element-copy-out-result
+    (λ c. search needs)
+    (λ c. search needs)
     returns-2)

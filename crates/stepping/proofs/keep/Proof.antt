@@ -8,18 +8,9 @@ use borrow.Author.Needs.{needs}
 use Rattle.stepping.proofs.keep.Statement.{statement}
 use Rattle.stepping.proofs.keep.Tie as tie
 
-fits-word-requires : tie.Need-fits-word-requires
-fits-word-requires c κs = search needs
-
 narrowed-requires : tie.Need-narrowed-requires
 narrowed-requires c κs = rw (toZ-ofZ (c .before .before .fits .value))
     (ltb-true _ _ (sym (rw (toZ-ofZ (c .before .before .fits .value)) at (c .before .fits-word .ensures)) ∙ c .if1 .taken))
-
-mul-t6 : tie.Need-mul-t6
-mul-t6 c = search needs
-
-element-set-from-words : tie.Need-element-set-from-words
-element-set-from-words c = search needs
 
 returns : tie.Need-returns
 returns c =
@@ -36,4 +27,4 @@ returns-2 c =
 pub keep-spec : {M : Type 1} → statement M
 keep-spec =
     tie.close
-    (tie.spec fits-word-requires narrowed-requires mul-t6 element-set-from-words returns returns-2)
+    (tie.spec (λ c κs. search needs) narrowed-requires (λ c. search needs) (λ c. search needs) returns returns-2)

@@ -25,24 +25,6 @@ loop-holds c =
     let n : s .count - 0 ≡ s .count = omega arith in
     (omega arith, rw (a, f, n))
 
-add-code-at : tie.Need-add-code-at Inv-loop μ-loop
-add-code-at c = search needs
-
-code-at-requires : tie.Need-code-at-requires Inv-loop μ-loop
-code-at-requires c κs = search needs
-
-mul-code-at : tie.Need-mul-code-at Inv-loop μ-loop
-mul-code-at c = search needs
-
-add-code-at-2 : tie.Need-add-code-at-2 Inv-loop μ-loop
-add-code-at-2 c = search needs
-
-add-code-at-3 : tie.Need-add-code-at-3 Inv-loop μ-loop
-add-code-at-3 c = search needs
-
-code-at-requires-2 : tie.Need-code-at-requires-2 Inv-loop μ-loop
-code-at-requires-2 c κs = search needs
-
 read :
     (c : tie.After-code-at Inv-loop μ-loop) → let l = c .before .before in let s = l .before .args in
     c .code-at .result / 64 % 4 ≡ kindIn (getD (s .code .now) (s .arguments + l .loop .i) 0)
@@ -55,12 +37,6 @@ returns c =
     let d : kindIn (getD (s .code .now) (s .arguments + l .loop .i) 0) ≡ getD (s .code .now)
     (s .formals + 3 * l .loop .i + 2) 0 → ⊥ = λ e. c .if1 .taken (read (c .before .before) ∙ e ∙ sym (c .before .code-at2 .ensures .0)) in
     kinds-differ (s .code .now) (s .arguments) (s .formals) (s .count) (l .loop .i) (c .before .before .before .loop-test .taken) d ∙ l .loop .inv .1
-
-add-i : tie.Need-add-i Inv-loop μ-loop
-add-i c = search needs
-
-loop-less : tie.Need-loop-less Inv-loop μ-loop
-loop-less c = search needs
 
 loop-again : tie.Need-loop-again Inv-loop μ-loop
 loop-again c =
@@ -83,14 +59,14 @@ kinds-agree-spec =
     Inv-loop
     μ-loop
     loop-holds
-    add-code-at
-    code-at-requires
-    mul-code-at
-    add-code-at-2
-    add-code-at-3
-    code-at-requires-2
+    (λ c. search needs)
+    (λ c κs. search needs)
+    (λ c. search needs)
+    (λ c. search needs)
+    (λ c. search needs)
+    (λ c κs. search needs)
     returns
-    add-i
-    loop-less
+    (λ c. search needs)
+    (λ c. search needs)
     loop-again
     returns-2)

@@ -5,14 +5,8 @@ use borrow.Author.Needs.{needs}
 use Rattle.stepping.proofs.signed.Statement.{statement}
 use Rattle.stepping.proofs.signed.Tie as tie
 
-cast-result : tie.Need-cast-result
-cast-result c = search needs
-
 returns : tie.Need-returns
 returns c = signed-low (c .before .args .bits) (c .if1 .taken)
-
-cast-result-2 : tie.Need-cast-result-2
-cast-result-2 c = search needs
 
 sub-result : tie.Need-sub-result
 sub-result c = high-wide (c .before .args .bits) (omega arith) (omega arith)
@@ -25,4 +19,4 @@ returns-2 c = signed-high (c .before .args .bits) (omega arith) (omega arith)
 
 pub signed-spec : {M : Type 1} → statement M
 signed-spec =
-    tie.close (tie.spec cast-result returns cast-result-2 sub-result cast-result-3 returns-2)
+    tie.close (tie.spec (λ c. search needs) returns (λ c. search needs) sub-result cast-result-3 returns-2)

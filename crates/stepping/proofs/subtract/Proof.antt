@@ -7,24 +7,6 @@ use borrow.Author.Needs.{needs}
 use Rattle.stepping.proofs.subtract.Statement.{statement}
 use Rattle.stepping.proofs.subtract.Tie as tie
 
-mul-difference : tie.Need-mul-difference
-mul-difference c = search needs
-
-element-copy-out-difference : tie.Need-element-copy-out-difference
-element-copy-out-difference c = search needs
-
-mul-difference-2 : tie.Need-mul-difference-2
-mul-difference-2 c = search needs
-
-element-copy-out-difference-2 : tie.Need-element-copy-out-difference-2
-element-copy-out-difference-2 c = search needs
-
-difference-requires : tie.Need-difference-requires
-difference-requires c κs = search needs
-
-keep-requires : tie.Need-keep-requires
-keep-requires c κs = search needs
-
 returns : tie.Need-returns
 unfolding compute
 returns c =
@@ -37,10 +19,10 @@ pub subtract-spec : {M : Type 1} → statement M
 subtract-spec =
     tie.close
     (tie.spec
-    mul-difference
-    element-copy-out-difference
-    mul-difference-2
-    element-copy-out-difference-2
-    difference-requires
-    keep-requires
+    (λ c. search needs)
+    (λ c. search needs)
+    (λ c. search needs)
+    (λ c. search needs)
+    (λ c κs. search needs)
+    (λ c κs. search needs)
     returns)

@@ -20,21 +20,6 @@ loop-holds : tie.Need-loop-holds Inv-loop μ-loop
 loop-holds c =
     (omega arith, c .before .pre .ordered, copied-none _ _ _ _ _ _ _ _ _ _ (c .before .pre), refl)
 
-mul-wide : tie.Need-mul-wide Inv-loop μ-loop
-mul-wide c = search needs
-
-element-copy-out-wide : tie.Need-element-copy-out-wide Inv-loop μ-loop
-element-copy-out-wide c = search needs
-
-wide-requires : tie.Need-wide-requires Inv-loop μ-loop
-wide-requires c κs = search needs
-
-add-renew : tie.Need-add-renew Inv-loop μ-loop
-add-renew c = search needs
-
-mul-renew : tie.Need-mul-renew Inv-loop μ-loop
-mul-renew c = search needs
-
 slice-reshared-read-renew : tie.Need-slice-reshared-read-renew Inv-loop μ-loop
 slice-reshared-read-renew c =
     let l = c .before .before .before .before in
@@ -47,25 +32,10 @@ renew-requires c κs =
     renewable _ _ _ _ _ _ _ _ _ _ (l .before .before .pre) (l .loop .area) (l .loop .q) (l .loop .inv .0) (u .loop-test .taken) (l .loop .inv .2)
     (c .before .wide .result) (c .before .wide .ensures .0)
 
-add-area : tie.Need-add-area Inv-loop μ-loop
-add-area c = search needs
-
-mul-area : tie.Need-mul-area Inv-loop μ-loop
-mul-area c = search needs
-
 slice-write-area : tie.Need-slice-write-area Inv-loop μ-loop
 slice-write-area c =
     let l = c .before .before .before .before .before in
     omega (arith, l .before .before .pre .new-room, l .loop .inv .2 .as-long)
-
-note-requires : tie.Need-note-requires Inv-loop μ-loop
-note-requires c κs = search needs
-
-add-q : tie.Need-add-q Inv-loop μ-loop
-add-q c = search needs
-
-loop-less : tie.Need-loop-less Inv-loop μ-loop
-loop-less c = search needs
 
 loop-again : tie.Need-loop-again Inv-loop μ-loop
 loop-again c =
@@ -100,19 +70,19 @@ copy-text-spec =
     Inv-loop
     μ-loop
     loop-holds
-    mul-wide
-    element-copy-out-wide
-    wide-requires
-    add-renew
-    mul-renew
+    (λ c. search needs)
+    (λ c. search needs)
+    (λ c κs. search needs)
+    (λ c. search needs)
+    (λ c. search needs)
     slice-reshared-read-renew
     renew-requires
-    add-area
-    mul-area
+    (λ c. search needs)
+    (λ c. search needs)
     slice-write-area
-    note-requires
-    add-q
-    loop-less
+    (λ c κs. search needs)
+    (λ c. search needs)
+    (λ c. search needs)
     loop-again
     same-length
     returns)

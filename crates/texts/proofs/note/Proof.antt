@@ -9,18 +9,6 @@ use Rattle.texts.proofs.Renewing.{is-direct, is-formal, noted-new, note
 use Rattle.texts.proofs.note.Statement.{statement}
 use Rattle.texts.proofs.note.Tie as tie
 
-narrow-requires : tie.Need-narrow-requires
-narrow-requires c κs = search needs
-
-add-targets : tie.Need-add-targets
-add-targets c = search needs
-
-mul-targets : tie.Need-mul-targets
-mul-targets c = search needs
-
-element-write-targets : tie.Need-element-write-targets
-element-write-targets c = search needs
-
 returns : tie.Need-returns
 returns c =
     let o = c .before .before in
@@ -44,10 +32,10 @@ pub note-spec : {M : Type 1} → statement M
 note-spec =
     tie.close
     (tie.spec
-    narrow-requires
-    add-targets
-    mul-targets
-    element-write-targets
+    (λ c κs. search needs)
+    (λ c. search needs)
+    (λ c. search needs)
+    (λ c. search needs)
     returns
     returns-2
     returns-3)

@@ -35,12 +35,6 @@ returns-2 c =
     let l : levelIn (s .word) ≡ s .level = omega arith in
     renewed-formal (s .area .now) (s .given) (s .level) (s .first) (s .word) (s .old) l (is-formal (s .word) (λ e. omega arith))
 
-add-name-of : tie.Need-add-name-of
-add-name-of c = search needs
-
-name-of-requires : tie.Need-name-of-requires
-name-of-requires c κs = search needs
-
 returns-3 : tie.Need-returns-3
 returns-3 c =
     let o = c .before .before in
@@ -58,6 +52,6 @@ renew-spec =
     mul-result
     shared-slice-read-result
     returns-2
-    add-name-of
-    name-of-requires
+    (λ c. search needs)
+    (λ c κs. search needs)
     returns-3)

@@ -17,15 +17,6 @@ refused-so : {v : Verdict} (c : Refusal) (o count tally : ℕ) (before : List �
 unfolding refusedWords
 refused-so c o count tally before q w = w ∙ ap (λ (v : Verdict). refusedWords v count tally before) (sym q)
 
-enum-known-verdict : tie.Need-enum-known-verdict
-enum-known-verdict c = search needs
-
-refusal-words-requires : tie.Need-refusal-words-requires
-refusal-words-requires c κs = search needs
-
-enum-told : tie.Need-enum-told
-enum-told c = search needs
-
 returns : tie.Need-returns
 returns c =
     let told = c .before .before .verdict .given in
@@ -36,4 +27,4 @@ unfolding refusedWords
 returns-2 c = search needs
 
 pub refused-spec : {M : Type 1} → statement M
-refused-spec = tie.close (tie.spec enum-known-verdict refusal-words-requires enum-told returns returns-2)
+refused-spec = tie.close (tie.spec (λ c. search needs) (λ c κs. search needs) (λ c. search needs) returns returns-2)

@@ -4,12 +4,6 @@ use Rattle.answers.specs.Refusals.{isRefused}
 use Rattle.answers.proofs.refusals.refuses.Statement.{statement}
 use Rattle.answers.proofs.refusals.refuses.Tie as tie
 
-enum-known-verdict : tie.Need-enum-known-verdict
-enum-known-verdict c = search needs
-
-enum-told : tie.Need-enum-told
-enum-told c = search needs
-
 returns : tie.Need-returns
 unfolding isRefused
 returns c = search needs
@@ -19,4 +13,4 @@ unfolding isRefused
 returns-2 c = search needs
 
 pub refuses-spec : {M : Type 1} → statement M
-refuses-spec = tie.close (tie.spec enum-known-verdict enum-told returns returns-2)
+refuses-spec = tie.close (tie.spec (λ c. search needs) (λ c. search needs) returns returns-2)

@@ -3,14 +3,8 @@ use borrow.Author.Needs.{needs}
 use Rattle.chain.proofs.run.begin.Statement.{statement}
 use Rattle.chain.proofs.run.begin.Tie as tie
 
-code-at-requires : tie.Need-code-at-requires
-code-at-requires c κs = search needs
-
-code-at-requires-2 : tie.Need-code-at-requires-2
-code-at-requires-2 c κs = search needs
-
 returns : tie.Need-returns
 returns c = rw (c .code-at2 .ensures .0, c .before .code-at .ensures .0)
 
 pub begin-spec : {M : Type 1} → statement M
-begin-spec = tie.close (tie.spec code-at-requires code-at-requires-2 returns)
+begin-spec = tie.close (tie.spec (λ c κs. search needs) (λ c κs. search needs) returns)

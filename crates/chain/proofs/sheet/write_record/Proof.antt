@@ -15,22 +15,10 @@ shown-as : {code : List ℕ} {words : List ℤ} {first number : ℕ} {own : List
 shown-as {code} {words} {first} {number} {own} b b′ n n′ p q h =
     subst (λ (T : Type 0). T) (λ i. Shown code words (sym p i) (sym q i) first number own) h
 
-wide-u32-requires : tie.Need-wide-u32-requires
-wide-u32-requires c κs = search needs
-
-wide-u32-requires-2 : tie.Need-wide-u32-requires-2
-wide-u32-requires-2 c κs = search needs
-
-mul-write-activation : tie.Need-mul-write-activation
-mul-write-activation c = search needs
-
 write-activation-requires : tie.Need-write-activation-requires
 write-activation-requires c κs =
     let p = c .before .before .before .pre in
     (p .1 .0, p .1 .1, shown-as _ _ _ _ (c .before .before .wide-u32 .ensures .0) (c .before .wide-u322 .ensures .0) (p .1 .2), p .1 .3)
-
-same-length : tie.Need-same-length
-same-length c = search needs
 
 returns : tie.Need-returns
 returns c =
@@ -47,9 +35,9 @@ pub write-record-spec : {M : Type 1} → statement M
 write-record-spec =
     tie.close
     (tie.spec
-    wide-u32-requires
-    wide-u32-requires-2
-    mul-write-activation
+    (λ c κs. search needs)
+    (λ c κs. search needs)
+    (λ c. search needs)
     write-activation-requires
-    same-length
+    (λ c. search needs)
     returns)

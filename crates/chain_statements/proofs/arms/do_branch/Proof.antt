@@ -5,29 +5,11 @@ use borrow.Author.Needs.{needs}
 use Rattle.chain_statements.proofs.arms.do_branch.Statement.{statement}
 use Rattle.chain_statements.proofs.arms.do_branch.Tie as tie
 
-add-own : tie.Need-add-own
-add-own c = search needs
-
-own-requires : tie.Need-own-requires
-own-requires c κs = search needs
-
-mul-if1 : tie.Need-mul-if1
-mul-if1 c = search needs
-
-element-copy-out-if1 : tie.Need-element-copy-out-if1
-element-copy-out-if1 c = search needs
-
-add-t13 : tie.Need-add-t13
-add-t13 c = search needs
-
 returns : tie.Need-returns
 returns c =
     let s = c .before .before .before in
     stays-at (s .args .code .now) (s .args .words .now) (s .args .at) (own-cell (s .pre .2) (c .before .before .own .ensures .0))
     (is-zero _ (c .before .if12 .given) (c .if1 .taken))
-
-do-goto-requires : tie.Need-do-goto-requires
-do-goto-requires c κs = search needs
 
 returns-2 : tie.Need-returns-2
 returns-2 c =
@@ -40,11 +22,11 @@ pub do-branch-spec : {M : Type 1} → statement M
 do-branch-spec =
     tie.close
     (tie.spec
-    add-own
-    own-requires
-    mul-if1
-    element-copy-out-if1
-    add-t13
+    (λ c. search needs)
+    (λ c κs. search needs)
+    (λ c. search needs)
+    (λ c. search needs)
+    (λ c. search needs)
     returns
-    do-goto-requires
+    (λ c κs. search needs)
     returns-2)

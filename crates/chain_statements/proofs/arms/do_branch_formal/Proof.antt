@@ -10,34 +10,10 @@ use borrow.Author.Needs.{needs}
 use Rattle.chain_statements.proofs.arms.do_branch_formal.Statement.{statement}
 use Rattle.chain_statements.proofs.arms.do_branch_formal.Tie as tie
 
-add-cell : tie.Need-add-cell
-add-cell c = search needs
-
-cell-requires : tie.Need-cell-requires
-cell-requires c κs = search needs
-
-mul-if1 : tie.Need-mul-if1
-mul-if1 c = search needs
-
-element-copy-out-if1 : tie.Need-element-copy-out-if1
-element-copy-out-if1 c = search needs
-
-add-t13 : tie.Need-add-t13
-add-t13 c = search needs
-
 returns : tie.Need-returns
 returns c =
     let s = c .before .before .before in
     stays-at (s .args .code .now) (s .args .words .now) (s .args .at) (c .before .before .cell .ensures .0) (is-zero _ (c .before .if12 .given) (c .if1 .taken))
-
-add-code-at : tie.Need-add-code-at
-add-code-at c = search needs
-
-code-at-requires : tie.Need-code-at-requires
-code-at-requires c κs = search needs
-
-do-goto-requires : tie.Need-do-goto-requires
-do-goto-requires c κs = search needs
 
 abbrev startOf : tie.Else1 → tie.Start
 startOf b = b .before .before .before
@@ -70,15 +46,15 @@ pub do-branch-formal-spec : {M : Type 1} → statement M
 do-branch-formal-spec =
     tie.close
     (tie.spec
-    add-cell
-    cell-requires
-    mul-if1
-    element-copy-out-if1
-    add-t13
+    (λ c. search needs)
+    (λ c κs. search needs)
+    (λ c. search needs)
+    (λ c. search needs)
+    (λ c. search needs)
     returns
-    add-code-at
-    code-at-requires
-    do-goto-requires
+    (λ c. search needs)
+    (λ c κs. search needs)
+    (λ c κs. search needs)
     returns-2
     do-goto-formal-requires
     returns-3)

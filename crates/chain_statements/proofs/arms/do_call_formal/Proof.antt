@@ -16,21 +16,6 @@ use borrow.Author.Needs.{needs}
 use Rattle.chain_statements.proofs.arms.do_call_formal.Statement.{statement}
 use Rattle.chain_statements.proofs.arms.do_call_formal.Tie as tie
 
-add-held : tie.Need-add-held
-add-held c = search needs
-
-held-requires : tie.Need-held-requires
-held-requires c κs = search needs
-
-add-code-at : tie.Need-add-code-at
-add-code-at c = search needs
-
-code-at-requires : tie.Need-code-at-requires
-code-at-requires c κs = search needs
-
-code-at-requires-2 : tie.Need-code-at-requires-2
-code-at-requires-2 c κs = search needs
-
 abbrev startOf : tie.After-held → tie.Start
 startOf h = h .before
 
@@ -77,17 +62,8 @@ agrees c e firstOf =
     number-same (way s firstOf) (scene s) (h .held .result / 8192) (same-number (c .before)) ∙ sym
     (rw (n .code-at .ensures .0) at (c .kinds-agree .ensures)) ∙ e
 
-add-kinds-agree : tie.Need-add-kinds-agree
-add-kinds-agree c = search needs
-
-mul-kinds-agree : tie.Need-mul-kinds-agree
-mul-kinds-agree c = search needs
-
 sub-kinds-agree : tie.Need-sub-kinds-agree
 sub-kinds-agree c = omega (arith, formals (c .before), c .if1 .left)
-
-kinds-agree-requires : tie.Need-kinds-agree-requires
-kinds-agree-requires c κs = search needs
 
 returns-2 : tie.Need-returns-2
 returns-2 c =
@@ -95,9 +71,6 @@ returns-2 c =
     let h = c .before .before .before .before .before in
     let s = startOf h in
     call-refused (way s firstOf) (scene s) (body-is h firstOf p) (agrees (c .before) (not-true _ (c .if2 .taken)) firstOf) .0
-
-enter-body-requires : tie.Need-enter-body-requires
-enter-body-requires c κs = search needs
 
 returns-3 : tie.Need-returns-3
 returns-3 c =
@@ -112,16 +85,16 @@ pub do-call-formal-spec : {M : Type 1} → statement M
 do-call-formal-spec =
     tie.close
     (tie.spec
-    add-held
-    held-requires
-    add-code-at
-    code-at-requires
-    code-at-requires-2
+    (λ c. search needs)
+    (λ c κs. search needs)
+    (λ c. search needs)
+    (λ c κs. search needs)
+    (λ c κs. search needs)
     returns
-    add-kinds-agree
-    mul-kinds-agree
+    (λ c. search needs)
+    (λ c. search needs)
     sub-kinds-agree
-    kinds-agree-requires
+    (λ c κs. search needs)
     returns-2
-    enter-body-requires
+    (λ c κs. search needs)
     returns-3)

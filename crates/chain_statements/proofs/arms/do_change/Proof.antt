@@ -8,21 +8,6 @@ use borrow.Author.Needs.{needs}
 use Rattle.chain_statements.proofs.arms.do_change.Statement.{statement}
 use Rattle.chain_statements.proofs.arms.do_change.Tie as tie
 
-add-cell : tie.Need-add-cell
-add-cell c = search needs
-
-cell-requires : tie.Need-cell-requires
-cell-requires c κs = search needs
-
-add-cell-2 : tie.Need-add-cell-2
-add-cell-2 c = search needs
-
-cell-requires-2 : tie.Need-cell-requires-2
-cell-requires-2 c κs = search needs
-
-add-t9 : tie.Need-add-t9
-add-t9 c = search needs
-
 returns : tie.Need-returns
 returns c =
     λ firstOf p q.
@@ -33,4 +18,4 @@ returns c =
     (cell-by ws firstOf (name 2) q (c .cell2 .ensures .0))
 
 pub do-change-spec : {M : Type 1} → statement M
-do-change-spec = tie.close (tie.spec add-cell cell-requires add-cell-2 cell-requires-2 add-t9 returns)
+do-change-spec = tie.close (tie.spec (λ c. search needs) (λ c κs. search needs) (λ c. search needs) (λ c κs. search needs) (λ c. search needs) returns)

@@ -4,30 +4,6 @@ use borrow.Author.Needs.{needs}
 use Rattle.chain_statements.proofs.arms.do_compare.Statement.{statement}
 use Rattle.chain_statements.proofs.arms.do_compare.Tie as tie
 
-add-own : tie.Need-add-own
-add-own c = search needs
-
-own-requires : tie.Need-own-requires
-own-requires c κs = search needs
-
-add-own-2 : tie.Need-add-own-2
-add-own-2 c = search needs
-
-own-requires-2 : tie.Need-own-requires-2
-own-requires-2 c κs = search needs
-
-add-own-3 : tie.Need-add-own-3
-add-own-3 c = search needs
-
-own-requires-3 : tie.Need-own-requires-3
-own-requires-3 c κs = search needs
-
-compare-requires : tie.Need-compare-requires
-compare-requires c κs = search needs
-
-add-t10 : tie.Need-add-t10
-add-t10 c = search needs
-
 returns : tie.Need-returns
 returns c =
     let n = c .before .before in
@@ -39,12 +15,12 @@ pub do-compare-spec : {M : Type 1} → statement M
 do-compare-spec =
     tie.close
     (tie.spec
-    add-own
-    own-requires
-    add-own-2
-    own-requires-2
-    add-own-3
-    own-requires-3
-    compare-requires
-    add-t10
+    (λ c. search needs)
+    (λ c κs. search needs)
+    (λ c. search needs)
+    (λ c κs. search needs)
+    (λ c. search needs)
+    (λ c κs. search needs)
+    (λ c κs. search needs)
+    (λ c. search needs)
     returns)

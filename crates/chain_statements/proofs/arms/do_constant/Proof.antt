@@ -4,15 +4,6 @@ use borrow.Author.Needs.{needs}
 use Rattle.chain_statements.proofs.arms.do_constant.Statement.{statement}
 use Rattle.chain_statements.proofs.arms.do_constant.Tie as tie
 
-add-own : tie.Need-add-own
-add-own c = search needs
-
-own-requires : tie.Need-own-requires
-own-requires c κs = search needs
-
-constant-requires : tie.Need-constant-requires
-constant-requires c κs = search needs
-
 returns : tie.Need-returns
 returns c =
     let s = c .before .before .before in
@@ -20,4 +11,4 @@ returns c =
     (c .constant .ensures .1)
 
 pub do-constant-spec : {M : Type 1} → statement M
-do-constant-spec = tie.close (tie.spec add-own own-requires constant-requires returns)
+do-constant-spec = tie.close (tie.spec (λ c. search needs) (λ c κs. search needs) (λ c κs. search needs) returns)

@@ -4,19 +4,10 @@ use borrow.Author.Needs.{needs}
 use Rattle.chain_statements.proofs.arms.do_constant_formal.Statement.{statement}
 use Rattle.chain_statements.proofs.arms.do_constant_formal.Tie as tie
 
-add-cell : tie.Need-add-cell
-add-cell c = search needs
-
-cell-requires : tie.Need-cell-requires
-cell-requires c κs = search needs
-
-constant-requires : tie.Need-constant-requires
-constant-requires c κs = search needs
-
 returns : tie.Need-returns
 returns c =
     let s = c .before .before .before .before in
     constant-at (s .args .code .now) (s .args .words .now) (s .args .at) (c .before .cell .ensures .0) (c .constant .ensures .0) (c .constant .ensures .1)
 
 pub do-constant-formal-spec : {M : Type 1} → statement M
-do-constant-formal-spec = tie.close (tie.spec add-cell cell-requires constant-requires returns)
+do-constant-formal-spec = tie.close (tie.spec (λ c. search needs) (λ c κs. search needs) (λ c κs. search needs) returns)

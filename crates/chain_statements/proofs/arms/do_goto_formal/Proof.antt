@@ -4,16 +4,10 @@ use borrow.Author.Needs.{needs}
 use Rattle.chain_statements.proofs.arms.do_goto_formal.Statement.{statement}
 use Rattle.chain_statements.proofs.arms.do_goto_formal.Tie as tie
 
-add-held : tie.Need-add-held
-add-held c = search needs
-
-held-requires : tie.Need-held-requires
-held-requires c κs = search needs
-
 returns : tie.Need-returns
 returns c =
     let s = c .before in
     goto-held (s .args .code .now) (s .args .words .now) (s .args .at) (c .held .ensures .0) (s .pre .1 .is)
 
 pub do-goto-formal-spec : {M : Type 1} → statement M
-do-goto-formal-spec = tie.close (tie.spec add-held held-requires returns)
+do-goto-formal-spec = tie.close (tie.spec (λ c. search needs) (λ c κs. search needs) returns)

@@ -5,30 +5,6 @@ use borrow.Author.Needs.{needs}
 use Rattle.chain_statements.proofs.arms.do_subtract.Statement.{statement}
 use Rattle.chain_statements.proofs.arms.do_subtract.Tie as tie
 
-add-own : tie.Need-add-own
-add-own c = search needs
-
-own-requires : tie.Need-own-requires
-own-requires c κs = search needs
-
-add-own-2 : tie.Need-add-own-2
-add-own-2 c = search needs
-
-own-requires-2 : tie.Need-own-requires-2
-own-requires-2 c κs = search needs
-
-add-own-3 : tie.Need-add-own-3
-add-own-3 c = search needs
-
-own-requires-3 : tie.Need-own-requires-3
-own-requires-3 c κs = search needs
-
-subtract-requires : tie.Need-subtract-requires
-subtract-requires c κs = search needs
-
-computed-requires : tie.Need-computed-requires
-computed-requires c κs = search needs
-
 returns : tie.Need-returns
 returns c =
     let n = c .before .before .before in
@@ -41,12 +17,12 @@ pub do-subtract-spec : {M : Type 1} → statement M
 do-subtract-spec =
     tie.close
     (tie.spec
-    add-own
-    own-requires
-    add-own-2
-    own-requires-2
-    add-own-3
-    own-requires-3
-    subtract-requires
-    computed-requires
+    (λ c. search needs)
+    (λ c κs. search needs)
+    (λ c. search needs)
+    (λ c κs. search needs)
+    (λ c. search needs)
+    (λ c κs. search needs)
+    (λ c κs. search needs)
+    (λ c κs. search needs)
     returns)

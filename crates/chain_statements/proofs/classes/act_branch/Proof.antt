@@ -13,9 +13,6 @@ use borrow.Author.Needs.{needs}
 use Rattle.chain_statements.proofs.classes.act_branch.Statement.{statement}
 use Rattle.chain_statements.proofs.classes.act_branch.Tie as tie
 
-code-at-requires : tie.Need-code-at-requires
-code-at-requires c κs = search needs
-
 abbrev way : tie.Start → (ℕ → ℕ) → Finding
 way s firstOf = byFirst (s .args .words .now) firstOf
 
@@ -78,4 +75,4 @@ returns-2 c =
     (branch-did (way s firstOf) (scene s limit live) (c .do-branch-formal .ensures firstOf (g .0) (g .1)))
 
 pub act-branch-spec : {M : Type 1} → statement M
-act-branch-spec = tie.close (tie.spec code-at-requires do-branch-requires do-branch-formal-requires returns returns-2)
+act-branch-spec = tie.close (tie.spec (λ c κs. search needs) do-branch-requires do-branch-formal-requires returns returns-2)

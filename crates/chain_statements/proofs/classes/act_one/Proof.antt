@@ -14,9 +14,6 @@ use borrow.Author.Needs.{needs}
 use Rattle.chain_statements.proofs.classes.act_one.Statement.{statement}
 use Rattle.chain_statements.proofs.classes.act_one.Tie as tie
 
-code-at-requires : tie.Need-code-at-requires
-code-at-requires c κs = search needs
-
 abbrev way : tie.Start → (ℕ → ℕ) → Finding
 way s firstOf = byFirst (s .args .words .now) firstOf
 
@@ -151,7 +148,7 @@ pub act-one-spec : {M : Type 1} → statement M
 act-one-spec =
     tie.close
     (tie.spec
-    code-at-requires
+    (λ c κs. search needs)
     do-goto-requires
     do-block-requires
     do-call-requires

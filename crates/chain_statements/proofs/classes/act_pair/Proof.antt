@@ -14,9 +14,6 @@ use borrow.Author.Needs.{needs}
 use Rattle.chain_statements.proofs.classes.act_pair.Statement.{statement}
 use Rattle.chain_statements.proofs.classes.act_pair.Tie as tie
 
-code-at-requires : tie.Need-code-at-requires
-code-at-requires c κs = search needs
-
 abbrev way : tie.Start → (ℕ → ℕ) → Finding
 way s firstOf = byFirst (s .args .words .now) firstOf
 
@@ -77,4 +74,4 @@ returns-2 c =
     did (way s firstOf) (scene s limit live) unpair-op e (change-did (way s firstOf) (scene s limit live) Remove (c .do-change2 .ensures firstOf (g .0) (g .1)))
 
 pub act-pair-spec : {M : Type 1} → statement M
-act-pair-spec = tie.close (tie.spec code-at-requires do-change-requires do-change-requires-2 returns returns-2)
+act-pair-spec = tie.close (tie.spec (λ c κs. search needs) do-change-requires do-change-requires-2 returns returns-2)

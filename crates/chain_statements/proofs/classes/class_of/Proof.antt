@@ -10,9 +10,6 @@ use borrow.Author.Needs.{needs}
 use Rattle.chain_statements.proofs.classes.class_of.Statement.{statement}
 use Rattle.chain_statements.proofs.classes.class_of.Tie as tie
 
-code-at-requires : tie.Need-code-at-requires
-code-at-requires c κs = search needs
-
 abbrev opAt : tie.Start → Op
 opAt s = opOf (getD (s .args .code .now) (s .args .at) 0)
 
@@ -88,4 +85,4 @@ returns-16 c = one-left (c .before .code-at .result) (c .match .rest) ∙ ap cla
 pub class-of-spec : {M : Type 1} → statement M
 class-of-spec =
     tie.close
-    (tie.spec code-at-requires returns returns-2 returns-3 returns-4 returns-5 returns-6 returns-7 returns-8 returns-9 returns-10 returns-11 returns-12 returns-13 returns-14 returns-15 returns-16)
+    (tie.spec (λ c κs. search needs) returns returns-2 returns-3 returns-4 returns-5 returns-6 returns-7 returns-8 returns-9 returns-10 returns-11 returns-12 returns-13 returns-14 returns-15 returns-16)

@@ -15,12 +15,6 @@ use Rattle.chain_statements.proofs.names.cell.Tie as tie
 abbrev word : tie.Start → ℕ
 word s = getD (s .args .code .now) (s .args .place) 0
 
-code-at-requires : tie.Need-code-at-requires
-code-at-requires c κs = search needs
-
-own-requires : tie.Need-own-requires
-own-requires c κs = search needs
-
 returns : tie.Need-returns
 returns c =
     let k = c .before .before in
@@ -40,4 +34,4 @@ returns-2 c =
     (held-cell (s .args .words .now) (s .args .first) (word s) (formal (c .before)) (c .held .ensures .0), omega arith)
 
 pub cell-spec : {M : Type 1} → statement M
-cell-spec = tie.close (tie.spec code-at-requires own-requires returns held-requires returns-2)
+cell-spec = tie.close (tie.spec (λ c κs. search needs) (λ c κs. search needs) returns held-requires returns-2)

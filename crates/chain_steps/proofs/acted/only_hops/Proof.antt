@@ -8,19 +8,10 @@ use Rattle.chain_steps.specs.Acted.{none-hops, some-hops}
 use Rattle.chain_steps.proofs.acted.only_hops.Statement.{statement}
 use Rattle.chain_steps.proofs.acted.only_hops.Tie as tie
 
-code-at-requires : tie.Need-code-at-requires
-code-at-requires c κs = search needs
-
 returns : tie.Need-returns
 returns c =
     let s = c .before .before .args in
     none-hops (s .code .now) (s .here) (omega (arith, c .before .code-at .ensures .0))
-
-add-code-at : tie.Need-add-code-at
-add-code-at c = search needs
-
-code-at-requires-2 : tie.Need-code-at-requires-2
-code-at-requires-2 c κs = search needs
 
 sub-result : tie.Need-sub-result
 sub-result c =
@@ -38,4 +29,4 @@ returns-2 c =
     ∙ some-hops (s .code .now) (s .here) (λ e. c .before .before .if1 .left (omega (arith, e, c .before .before .before .code-at .ensures .0)))
 
 pub only-hops-spec : {M : Type 1} → statement M
-only-hops-spec = tie.close (tie.spec code-at-requires returns add-code-at code-at-requires-2 sub-result returns-2)
+only-hops-spec = tie.close (tie.spec (λ c κs. search needs) returns (λ c. search needs) (λ c κs. search needs) sub-result returns-2)

@@ -12,28 +12,10 @@ askedOf c = c .before .before .before
 abbrev startOf : tie.After-moved5 → tie.Start
 startOf c = c .before .before
 
-enum-known-moved : tie.Need-enum-known-moved
-enum-known-moved c = search needs
-
-enum-known-moved-2 : tie.Need-enum-known-moved-2
-enum-known-moved-2 c = search needs
-
-enum-known-moved-3 : tie.Need-enum-known-moved-3
-enum-known-moved-3 c = search needs
-
-enum-known-moved-4 : tie.Need-enum-known-moved-4
-enum-known-moved-4 c = search needs
-
-enum-known-moved-5 : tie.Need-enum-known-moved-5
-enum-known-moved-5 c = search needs
-
 asked-requires : tie.Need-asked-requires
 asked-requires c κs =
     let q = askedOf c in
     (startOf q) .pre _ _ _ _ _ (q .moved5 .given .1)
-
-after-requires : tie.Need-after-requires
-after-requires c κs = search needs
 
 returns : tie.Need-returns
 returns c = λ p g m t a e. absurd (not-asked _ (c .before .moved .given .1) refl e)
@@ -46,9 +28,6 @@ returns-3 c = λ p g m t a e. absurd (not-asked _ (c .before .moved3 .given .1) 
 
 returns-4 : tie.Need-returns-4
 returns-4 c = λ p g m t a e. absurd (not-asked _ (c .before .moved4 .given .1) refl e)
-
-same-length : tie.Need-same-length
-same-length c = search needs
 
 returns-5 : tie.Need-returns-5
 returns-5 c =
@@ -63,16 +42,16 @@ pub answered-spec : {M : Type 1} → statement M
 answered-spec =
     tie.close
     (tie.spec
-    enum-known-moved
-    enum-known-moved-2
-    enum-known-moved-3
-    enum-known-moved-4
-    enum-known-moved-5
+    (λ c. search needs)
+    (λ c. search needs)
+    (λ c. search needs)
+    (λ c. search needs)
+    (λ c. search needs)
     asked-requires
-    after-requires
+    (λ c κs. search needs)
     returns
     returns-2
     returns-3
     returns-4
-    same-length
+    (λ c. search needs)
     returns-5)

@@ -10,47 +10,11 @@ use borrow.Author.Needs.{needs}
 use Rattle.chain_steps.proofs.turn.asked.Statement.{statement}
 use Rattle.chain_steps.proofs.turn.asked.Tie as tie
 
-enum-told : tie.Need-enum-told
-enum-told c = search needs
-
-add-requires : tie.Need-add-requires
-add-requires c κs = search needs
-
-enum-told-2 : tie.Need-enum-told-2
-enum-told-2 c = search needs
-
-mul-of : tie.Need-mul-of
-mul-of c = search needs
-
-element-copy-out-of : tie.Need-element-copy-out-of
-element-copy-out-of c = search needs
-
-mul-who : tie.Need-mul-who
-mul-who c = search needs
-
-element-copy-out-who : tie.Need-element-copy-out-who
-element-copy-out-who c = search needs
-
-remove-pair-requires : tie.Need-remove-pair-requires
-remove-pair-requires c κs = search needs
-
-enum-told-3 : tie.Need-enum-told-3
-enum-told-3 c = search needs
-
-query-requires : tie.Need-query-requires
-query-requires c κs = search needs
-
-same-length : tie.Need-same-length
-same-length c = search needs
-
 returns : tie.Need-returns
 returns c =
     let t = c .before .before .before .before in
     let a = t .before .before .args in
     add-answered (a .limit) (a .words .now) (tableOf (a .table .now) (a .pairs)) (a .group) (a .member) (a .target) (t .enum-told .given .1) (c .before .add .ensures)
-
-same-length-2 : tie.Need-same-length-2
-same-length-2 c = search needs
 
 returns-2 : tie.Need-returns-2
 unfolding answer
@@ -64,9 +28,6 @@ returns-2 c =
     (changed-by (λ (x y : ℤ). removed x y (tableOf (a .table .now) (a .pairs))) (a .table .now) (read-value ws (g .of .given) refl) (read-value ws (m .who .given) refl)
     (c .before .remove-pair .ensures .0) (c .before .remove-pair .ensures .1))
 
-same-length-3 : tie.Need-same-length-3
-same-length-3 c = search needs
-
 returns-3 : tie.Need-returns-3
 returns-3 c =
     let t = c .before .before .before in
@@ -77,19 +38,19 @@ pub asked-spec : {M : Type 1} → statement M
 asked-spec =
     tie.close
     (tie.spec
-    enum-told
-    add-requires
-    enum-told-2
-    mul-of
-    element-copy-out-of
-    mul-who
-    element-copy-out-who
-    remove-pair-requires
-    enum-told-3
-    query-requires
-    same-length
+    (λ c. search needs)
+    (λ c κs. search needs)
+    (λ c. search needs)
+    (λ c. search needs)
+    (λ c. search needs)
+    (λ c. search needs)
+    (λ c. search needs)
+    (λ c κs. search needs)
+    (λ c. search needs)
+    (λ c κs. search needs)
+    (λ c. search needs)
     returns
-    same-length-2
+    (λ c. search needs)
     returns-2
-    same-length-3
+    (λ c. search needs)
     returns-3)

@@ -3,45 +3,6 @@ use borrow.Author.Needs.{needs}
 use Rattle.chain_steps.proofs.turn.entry_of.Statement.{statement}
 use Rattle.chain_steps.proofs.turn.entry_of.Tie as tie
 
-enum-known-moved : tie.Need-enum-known-moved
-enum-known-moved c = search needs
-
-no-entry-requires : tie.Need-no-entry-requires
-no-entry-requires c κs = search needs
-
-enum-known-moved-2 : tie.Need-enum-known-moved-2
-enum-known-moved-2 c = search needs
-
-no-entry-requires-2 : tie.Need-no-entry-requires-2
-no-entry-requires-2 c κs = search needs
-
-enum-known-moved-3 : tie.Need-enum-known-moved-3
-enum-known-moved-3 c = search needs
-
-enum-known-moved-4 : tie.Need-enum-known-moved-4
-enum-known-moved-4 c = search needs
-
-no-entry-requires-3 : tie.Need-no-entry-requires-3
-no-entry-requires-3 c κs = search needs
-
-enum-known-moved-5 : tie.Need-enum-known-moved-5
-enum-known-moved-5 c = search needs
-
-no-entry-requires-4 : tie.Need-no-entry-requires-4
-no-entry-requires-4 c κs = search needs
-
-returns : tie.Need-returns
-returns c = search needs
-
-returns-2 : tie.Need-returns-2
-returns-2 c = search needs
-
-returns-3 : tie.Need-returns-3
-returns-3 c = search needs
-
-returns-4 : tie.Need-returns-4
-returns-4 c = search needs
-
 returns-5 : tie.Need-returns-5
 returns-5 c = rw (c .no-entry4 .ensures, c .before .before .moved5 .given .1)
 
@@ -49,17 +10,17 @@ pub entry-of-spec : {M : Type 1} → statement M
 entry-of-spec =
     tie.close
     (tie.spec
-    enum-known-moved
-    no-entry-requires
-    enum-known-moved-2
-    no-entry-requires-2
-    enum-known-moved-3
-    enum-known-moved-4
-    no-entry-requires-3
-    enum-known-moved-5
-    no-entry-requires-4
-    returns
-    returns-2
-    returns-3
-    returns-4
+    (λ c. search needs)
+    (λ c κs. search needs)
+    (λ c. search needs)
+    (λ c κs. search needs)
+    (λ c. search needs)
+    (λ c. search needs)
+    (λ c κs. search needs)
+    (λ c. search needs)
+    (λ c κs. search needs)
+    (λ c. search needs)
+    (λ c. search needs)
+    (λ c. search needs)
+    (λ c. search needs)
     returns-5)

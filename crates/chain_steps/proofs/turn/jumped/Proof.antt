@@ -5,9 +5,6 @@ use borrow.Author.Needs.{needs}
 use Rattle.chain_steps.proofs.turn.jumped.Statement.{statement}
 use Rattle.chain_steps.proofs.turn.jumped.Tie as tie
 
-placed-requires : tie.Need-placed-requires
-placed-requires c κs = search needs
-
 returns : tie.Need-returns
 returns c = c .placed .ensures ∙ jumps-within _ _ _ (c .before .if1 .taken)
 
@@ -15,4 +12,4 @@ returns-2 : tie.Need-returns-2
 returns-2 c = jumps-out _ _ _ (c .if1 .left)
 
 pub jumped-spec : {M : Type 1} → statement M
-jumped-spec = tie.close (tie.spec placed-requires returns returns-2)
+jumped-spec = tie.close (tie.spec (λ c κs. search needs) returns returns-2)

@@ -6,15 +6,6 @@ use borrow.Author.Needs.{needs}
 use Rattle.chain_steps.proofs.turn.resumed.Statement.{statement}
 use Rattle.chain_steps.proofs.turn.resumed.Tie as tie
 
-home-of-requires : tie.Need-home-of-requires
-home-of-requires c κs = search needs
-
-place-of-requires : tie.Need-place-of-requires
-place-of-requires c κs = search needs
-
-innermost-requires : tie.Need-innermost-requires
-innermost-requires c κs = search needs
-
 returns : tie.Need-returns
 returns c =
     let s = c .before .before .before in
@@ -22,4 +13,4 @@ returns c =
     (c .before .place-of .ensures i) (s .args .here .pairs)))
 
 pub resumed-spec : {M : Type 1} → statement M
-resumed-spec = tie.close (tie.spec home-of-requires place-of-requires innermost-requires returns)
+resumed-spec = tie.close (tie.spec (λ c κs. search needs) (λ c κs. search needs) (λ c κs. search needs) returns)

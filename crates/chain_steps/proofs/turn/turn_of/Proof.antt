@@ -3,21 +3,6 @@ use borrow.Author.Needs.{needs}
 use Rattle.chain_steps.proofs.turn.turn_of.Statement.{statement}
 use Rattle.chain_steps.proofs.turn.turn_of.Tie as tie
 
-enum-known-moved : tie.Need-enum-known-moved
-enum-known-moved c = search needs
-
-enum-known-moved-2 : tie.Need-enum-known-moved-2
-enum-known-moved-2 c = search needs
-
-enum-known-moved-3 : tie.Need-enum-known-moved-3
-enum-known-moved-3 c = search needs
-
-enum-known-moved-4 : tie.Need-enum-known-moved-4
-enum-known-moved-4 c = search needs
-
-enum-known-moved-5 : tie.Need-enum-known-moved-5
-enum-known-moved-5 c = search needs
-
 returns : tie.Need-returns
 returns c = rw (c .before .moved .given .1)
 
@@ -37,11 +22,11 @@ pub turn-of-spec : {M : Type 1} → statement M
 turn-of-spec =
     tie.close
     (tie.spec
-    enum-known-moved
-    enum-known-moved-2
-    enum-known-moved-3
-    enum-known-moved-4
-    enum-known-moved-5
+    (λ c. search needs)
+    (λ c. search needs)
+    (λ c. search needs)
+    (λ c. search needs)
+    (λ c. search needs)
     returns
     returns-2
     returns-3

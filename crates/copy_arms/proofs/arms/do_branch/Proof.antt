@@ -7,32 +7,11 @@ use Rattle.copy_arms.proofs.Results.{stays, goes}
 use Rattle.copy_arms.proofs.arms.do_branch.Statement.{statement}
 use Rattle.copy_arms.proofs.arms.do_branch.Tie as tie
 
-add-named : tie.Need-add-named
-add-named c = search needs
-
-named-requires : tie.Need-named-requires
-named-requires c κs = search needs
-
-mul-if1 : tie.Need-mul-if1
-mul-if1 c = search needs
-
-element-copy-out-if1 : tie.Need-element-copy-out-if1
-element-copy-out-if1 c = search needs
-
-add-t16 : tie.Need-add-t16
-add-t16 c = search needs
-
 returns : tie.Need-returns
 returns c =
     let n = c .before .before in
     let a = n .before .before .args in
     stays (a .words .now) (a .at + 3) _ (n .named .ensures) (is-zero _ (c .before .if12 .given) (c .if1 .taken))
-
-add-do-goto : tie.Need-add-do-goto
-add-do-goto c = search needs
-
-do-goto-requires : tie.Need-do-goto-requires
-do-goto-requires c κs = search needs
 
 returns-2 : tie.Need-returns-2
 returns-2 c =
@@ -45,12 +24,12 @@ pub do-branch-spec : {M : Type 1} → statement M
 do-branch-spec =
     tie.close
     (tie.spec
-    add-named
-    named-requires
-    mul-if1
-    element-copy-out-if1
-    add-t16
+    (λ c. search needs)
+    (λ c κs. search needs)
+    (λ c. search needs)
+    (λ c. search needs)
+    (λ c. search needs)
     returns
-    add-do-goto
-    do-goto-requires
+    (λ c. search needs)
+    (λ c κs. search needs)
     returns-2)

@@ -19,18 +19,6 @@ Inv-loop words₀ area firsts starts targets live place count first start to i�
 abbrev μ-loop : tie.MeasureT-loop
 μ-loop words₀ area firsts starts targets live place count first start to i₀ words i = count - i
 
-first-of-requires : tie.Need-first-of-requires Inv-loop μ-loop
-first-of-requires c κs = search needs
-
-start-of-requires : tie.Need-start-of-requires Inv-loop μ-loop
-start-of-requires c κs = search needs
-
-mul-to : tie.Need-mul-to Inv-loop μ-loop
-mul-to c = search needs
-
-add-to : tie.Need-add-to Inv-loop μ-loop
-add-to c = search needs
-
 -- the start, from before the loop
 abbrev startOf : tie.After-start-of Inv-loop μ-loop → tie.Start Inv-loop μ-loop
 startOf c = c .before .before .before
@@ -43,29 +31,11 @@ loop-holds c =
     let n : a .count - 0 ≡ a .count = omega arith in
     (omega arith, rw (f, p, n))
 
-add-handed : tie.Need-add-handed Inv-loop μ-loop
-add-handed c = search needs
-
 handed-requires : tie.Need-handed-requires Inv-loop μ-loop
 handed-requires c κs =
     let l = c .before in
     let b = l .before in
     ((b .before .first-of .ensures .0, b .start-of .ensures), startOf b .pre .1 .named (l .loop .i) (c .loop-test .taken))
-
-add-t17 : tie.Need-add-t17 Inv-loop μ-loop
-add-t17 c = search needs
-
-mul-t18 : tie.Need-mul-t18 Inv-loop μ-loop
-mul-t18 c = search needs
-
-element-set-from-words : tie.Need-element-set-from-words Inv-loop μ-loop
-element-set-from-words c = search needs
-
-add-i : tie.Need-add-i Inv-loop μ-loop
-add-i c = search needs
-
-loop-less : tie.Need-loop-less Inv-loop μ-loop
-loop-less c = search needs
 
 loop-again : tie.Need-loop-again Inv-loop μ-loop
 loop-again c =
@@ -90,17 +60,17 @@ arguments-spec =
     (tie.spec
     Inv-loop
     μ-loop
-    first-of-requires
-    start-of-requires
-    mul-to
-    add-to
+    (λ c κs. search needs)
+    (λ c κs. search needs)
+    (λ c. search needs)
+    (λ c. search needs)
     loop-holds
-    add-handed
+    (λ c. search needs)
     handed-requires
-    add-t17
-    mul-t18
-    element-set-from-words
-    add-i
-    loop-less
+    (λ c. search needs)
+    (λ c. search needs)
+    (λ c. search needs)
+    (λ c. search needs)
+    (λ c. search needs)
     loop-again
     returns)

@@ -13,21 +13,6 @@ use Rattle.copy_arms.proofs.Entered.{call-refused, call-stops, call-ent
 use Rattle.copy_arms.proofs.calling.do_call.Statement.{statement}
 use Rattle.copy_arms.proofs.calling.do_call.Tie as tie
 
-add-named : tie.Need-add-named
-add-named c = search needs
-
-named-requires : tie.Need-named-requires
-named-requires c κs = search needs
-
-target-requires : tie.Need-target-requires
-target-requires c κs = search needs
-
-add-field : tie.Need-add-field
-add-field c = search needs
-
-field-requires : tie.Need-field-requires
-field-requires c κs = search needs
-
 abbrev startOf : tie.After-field → tie.Start
 startOf c = c .before .before .before .before
 
@@ -65,17 +50,11 @@ returns c =
     let s = startOf (c .before .before) in
     call-refused (refusal s) (s .args .limit) (s .args .live) (enter s) (s .args .words .now) (handed s) (refused-is (c .before) (c .if1 .taken))
 
-add-if2 : tie.Need-add-if2
-add-if2 c = search needs
-
 returns-2 : tie.Need-returns-2
 returns-2 c =
     let b = c .before in
     let s = startOf (b .before .before) in
     call-stops (refusal s) (s .args .limit) (s .args .live) (enter s) (s .args .words .now) (handed s) (refused-is (b .before) (b .if1 .left)) (c .if2 .taken)
-
-add-arguments : tie.Need-add-arguments
-add-arguments c = search needs
 
 arguments-requires : tie.Need-arguments-requires
 arguments-requires c κs =
@@ -83,12 +62,6 @@ arguments-requires c κs =
     let f = b .before .before .before in
     let p = startOf f .pre in
     (omega (arith, p .bounded, b .if2 .left), rw (f .field .ensures .0) (p .arguments))
-
-add-t21 : tie.Need-add-t21
-add-t21 c = search needs
-
-add-t22 : tie.Need-add-t22
-add-t22 c = search needs
 
 returns-3 : tie.Need-returns-3
 returns-3 c =
@@ -104,17 +77,17 @@ pub do-call-spec : {M : Type 1} → statement M
 do-call-spec =
     tie.close
     (tie.spec
-    add-named
-    named-requires
-    target-requires
-    add-field
-    field-requires
+    (λ c. search needs)
+    (λ c κs. search needs)
+    (λ c κs. search needs)
+    (λ c. search needs)
+    (λ c κs. search needs)
     refused-requires
     returns
-    add-if2
+    (λ c. search needs)
     returns-2
-    add-arguments
+    (λ c. search needs)
     arguments-requires
-    add-t21
-    add-t22
+    (λ c. search needs)
+    (λ c. search needs)
     returns-3)

@@ -10,9 +10,6 @@ use Rattle.copy_arms.proofs.Entered.{no-formal, number-differs, kinds-t
 use Rattle.copy_arms.proofs.calling.refused.Statement.{statement}
 use Rattle.copy_arms.proofs.calling.refused.Tie as tie
 
-code-at-requires : tie.Need-code-at-requires
-code-at-requires c κs = search needs
-
 -- the operation in a word of the script, and how many formals a body's word has
 abbrev operation : ℕ → ℕ
 operation w = w % 16
@@ -44,12 +41,6 @@ returns-2 c =
 counted : (c : tie.Else2) → let a = c .before .before .before .before .args in formals (getD (a .code .now) (a .body) 0) ≡ a .count
 counted c = sym (ap formals (c .before .code-at2 .ensures .0)) ∙ c .if2 .left
 
-add-kinds-agree : tie.Need-add-kinds-agree
-add-kinds-agree c = search needs
-
-mul-kinds-agree : tie.Need-mul-kinds-agree
-mul-kinds-agree c = search needs
-
 sub-kinds-agree : tie.Need-sub-kinds-agree
 sub-kinds-agree c = omega (arith, counted c, behind (c .before .before) .before)
 
@@ -67,12 +58,12 @@ pub refused-spec : {M : Type 1} → statement M
 refused-spec =
     tie.close
     (tie.spec
-    code-at-requires
+    (λ c κs. search needs)
     returns
     code-at-requires-2
     returns-2
-    add-kinds-agree
-    mul-kinds-agree
+    (λ c. search needs)
+    (λ c. search needs)
     sub-kinds-agree
     kinds-agree-requires
     returns-3)

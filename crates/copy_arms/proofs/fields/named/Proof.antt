@@ -3,9 +3,6 @@ use borrow.Author.Needs.{needs}
 use Rattle.copy_arms.proofs.fields.named.Statement.{statement}
 use Rattle.copy_arms.proofs.fields.named.Tie as tie
 
-field-requires : tie.Need-field-requires
-field-requires c κs = search needs
-
 cell-of-requires : tie.Need-cell-of-requires
 cell-of-requires c κs =
     let p = c .before .before .pre in
@@ -16,4 +13,4 @@ returns : tie.Need-returns
 returns c = rw (c .before .field .ensures .0) at (c .cell-of .ensures)
 
 pub named-spec : {M : Type 1} → statement M
-named-spec = tie.close (tie.spec field-requires cell-of-requires returns)
+named-spec = tie.close (tie.spec (λ c κs. search needs) cell-of-requires returns)

@@ -3,9 +3,6 @@ use borrow.Author.Needs.{needs}
 use Rattle.copy_arms.proofs.fields.named_by.Statement.{statement}
 use Rattle.copy_arms.proofs.fields.named_by.Tie as tie
 
-field-requires : tie.Need-field-requires
-field-requires c κs = search needs
-
 cell-by-requires : tie.Need-cell-by-requires
 cell-by-requires c κs =
     let s = c .before .before in
@@ -17,4 +14,4 @@ returns : tie.Need-returns
 returns c = rw (c .before .field .ensures .0) at (c .cell-by .ensures)
 
 pub named-by-spec : {M : Type 1} → statement M
-named-by-spec = tie.close (tie.spec field-requires cell-by-requires returns)
+named-by-spec = tie.close (tie.spec (λ c κs. search needs) cell-by-requires returns)

@@ -4,21 +4,6 @@ use Rattle.copy_statements.specs.Moved.{movedBy}
 use Rattle.copy_statements.proofs.moved.came_to.Statement.{statement}
 use Rattle.copy_statements.proofs.moved.came_to.Tie as tie
 
-enum-known-done : tie.Need-enum-known-done
-enum-known-done c = search needs
-
-enum-known-done-2 : tie.Need-enum-known-done-2
-enum-known-done-2 c = search needs
-
-enum-known-done-3 : tie.Need-enum-known-done-3
-enum-known-done-3 c = search needs
-
-enum-known-done-4 : tie.Need-enum-known-done-4
-enum-known-done-4 c = search needs
-
-enum-known-done-5 : tie.Need-enum-known-done-5
-enum-known-done-5 c = search needs
-
 returns : tie.Need-returns
 unfolding movedBy
 returns c = rw (c .before .done .given .1)
@@ -43,11 +28,11 @@ pub came-to-spec : {M : Type 1} → statement M
 came-to-spec =
     tie.close
     (tie.spec
-    enum-known-done
-    enum-known-done-2
-    enum-known-done-3
-    enum-known-done-4
-    enum-known-done-5
+    (λ c. search needs)
+    (λ c. search needs)
+    (λ c. search needs)
+    (λ c. search needs)
+    (λ c. search needs)
     returns
     returns-2
     returns-3

@@ -96,9 +96,6 @@ step-requires c κs =
     let t = turnAt c in
     step-ready (going (t .before)) ((startOf (t .before)) .pre .names-left) (t .loop-test .taken)
 
-enum-known-next : tie.Need-enum-known-next Inv-loop μ-loop
-enum-known-next c = search needs
-
 sub-left : tie.Need-sub-left Inv-loop μ-loop
 sub-left c = (turnOf (wentOf c)) .loop-test .taken
 
@@ -115,9 +112,6 @@ loop-again c =
       table-kept o,
     )
 
-enum-told : tie.Need-enum-told Inv-loop μ-loop
-enum-told c = search needs
-
 sub-finished : tie.Need-sub-finished Inv-loop μ-loop
 sub-finished c = few-left (going (loopAt (finishedOf c)))
 
@@ -125,9 +119,6 @@ add-finished : tie.Need-add-finished Inv-loop μ-loop
 add-finished c =
     let o = finishedOf c in
     record { fits = omega (arith, (startOf (loopAt o)) .fits .allowance .fits, (turnOf o) .loop-test .taken) }
-
-finished-requires : tie.Need-finished-requires Inv-loop μ-loop
-finished-requires c κs = search needs
 
 same-length : tie.Need-same-length Inv-loop μ-loop
 same-length c = area-kept (finishedOf (c .before))
@@ -143,9 +134,6 @@ returns c =
     finished-as u (leftBy o) (o .step .result) (o .step .ensures (u .running)) (c .before .enum-told .given .1) ((turnOf o) .loop-test .taken)
     (c .finished .result) (c .finished .ensures)
 
-enum-known-cause : tie.Need-enum-known-cause Inv-loop μ-loop
-enum-known-cause c = search needs
-
 sub-stopped : tie.Need-sub-stopped Inv-loop μ-loop
 sub-stopped c = few-left (going (loopAt (stoppedOf (c .before))))
 
@@ -160,9 +148,6 @@ settle-requires c κs =
     let o = stoppedOf k in
     let u = going (loopAt o) in
     settle-ready ((stays u (leftBy o) (o .step .result) (o .step .ensures (u .running)) (k .cause .given .0 .0) (k .cause .given .1)) .0)
-
-named-requires : tie.Need-named-requires Inv-loop μ-loop
-named-requires c κs = search needs
 
 same-length-3 : tie.Need-same-length-3 Inv-loop μ-loop
 same-length-3 c = area-kept (stoppedOf (causeOf (haltOf (c .before .before))))
@@ -188,9 +173,6 @@ spent-requires c κs = live-small (going (c .before))
 settle-requires-2 : tie.Need-settle-requires-2 Inv-loop μ-loop
 settle-requires-2 c κs = settle-ready (going ((doneOf (spentOf c)) .before))
 
-named-requires-2 : tie.Need-named-requires-2 Inv-loop μ-loop
-named-requires-2 c κs = search needs
-
 same-length-5 : tie.Need-same-length-5 Inv-loop μ-loop
 same-length-5 c = (doneOf (spentOf (c .before .before))) .before .loop .inv .1
 
@@ -214,28 +196,28 @@ run-spec =
     μ-loop
     loop-holds
     step-requires
-    enum-known-next
+    (λ c. search needs)
     sub-left
     loop-less
     loop-again
-    enum-told
+    (λ c. search needs)
     sub-finished
     add-finished
-    finished-requires
+    (λ c κs. search needs)
     same-length
     same-length-2
     returns
-    enum-known-cause
+    (λ c. search needs)
     sub-stopped
     stopped-requires
     settle-requires
-    named-requires
+    (λ c κs. search needs)
     same-length-3
     same-length-4
     returns-2
     spent-requires
     settle-requires-2
-    named-requires-2
+    (λ c κs. search needs)
     same-length-5
     same-length-6
     returns-3)

@@ -36,9 +36,6 @@ same-length c =
     let r = c .before .before .before in
     r .run .kept .1 .1 .1 .0 ∙ (beginOf (r .before)) .begin .kept .1 .1 .1 .0
 
-same-length-2 : tie.Need-same-length-2
-same-length-2 c = search needs
-
 returns : tie.Need-returns
 returns c =
     let r = c .before .before .before in
@@ -48,4 +45,4 @@ returns c =
     (r .run .ensures)
 
 pub run-program-spec : {M : Type 1} → statement M
-run-program-spec = tie.close (tie.spec begin-requires run-requires same-length same-length-2 returns)
+run-program-spec = tie.close (tie.spec begin-requires run-requires same-length (λ c. search needs) returns)

@@ -63,12 +63,6 @@ act-requires c κs =
     let e = elseAt c in
     ready-here ((entryOf e) .pre .running) (e .if1 .left)
 
-enum-known-place : tie.Need-enum-known-place
-enum-known-place c = search needs
-
-enum-known-place-2 : tie.Need-enum-known-place-2
-enum-known-place-2 c = search needs
-
 jump-requires : tie.Need-jump-requires
 jump-requires c κs =
     let h = c .before .before in
@@ -76,21 +70,12 @@ jump-requires c κs =
     jump-ready ((startOf a) .pre .running) ((elseOf a) .if1 .left) (a .act .result) (wordsOf a) (a .act .ensures) (h .place2 .given .0 .1 .0)
     (h .place2 .given .0 .0) (h .place2 .given .1)
 
-enum-known-back : tie.Need-enum-known-back
-enum-known-back c = search needs
-
 enter-requires : tie.Need-enter-requires
 enter-requires c κs =
     let b = bodyOf c in
     let a = b .before .before in
     enter-ready ((startOf a) .pre .running) ((elseOf a) .if1 .left) (a .act .result) (wordsOf a) (a .act .ensures) ((startOf a) .pre .names-left)
     (b .back .given .0 .1 .1 .0) (b .back .given .0 .1 .0) (b .back .given .0 .0) (b .back .given .1)
-
-enum-known-cause : tie.Need-enum-known-cause
-enum-known-cause c = search needs
-
-enum-known-place-3 : tie.Need-enum-known-place-3
-enum-known-place-3 c = search needs
 
 abbrev askedOf : tie.After-asked-arg2 → tie.After-place3
 askedOf c = c .before .before .before
@@ -102,20 +87,11 @@ asked-requires c κs =
     asked-there ((startOf a) .pre .running) ((elseOf a) .if1 .left) (a .act .result) (wordsOf a) (a .act .ensures) (p .place3 .given .0 .0) (p .place3 .given .0 .1 .0)
     (p .place3 .given .0 .1 .1 .0) (p .place3 .given .0 .1 .1 .1 .0) (p .place3 .given .0 .1 .1 .1 .1 .0) (p .place3 .given .1)
 
-after-requires : tie.Need-after-requires
-after-requires c κs = search needs
-
-same-length : tie.Need-same-length
-same-length c = search needs
-
 returns-3 : tie.Need-returns-3
 returns-3 c =
     let p = c .before in
     let a = p .before .before in
     λ w. went-on w ((elseOf a) .if1 .left) (a .act .result) (wordsOf a) (a .act .ensures) (p .place .given .0 .0) (p .place .given .1)
-
-same-length-2 : tie.Need-same-length-2
-same-length-2 c = search needs
 
 returns-4 : tie.Need-returns-4
 returns-4 c =
@@ -123,9 +99,6 @@ returns-4 c =
     let a = h .before .before in
     λ w. jumped-on w ((elseOf a) .if1 .left) (a .act .result) (wordsOf a) (a .act .ensures) (h .place2 .given .0 .1 .0)
     (h .place2 .given .0 .0) (h .place2 .given .1) (c .jump .result) (c .jump .ensures)
-
-same-length-3 : tie.Need-same-length-3
-same-length-3 c = search needs
 
 returns-5 : tie.Need-returns-5
 returns-5 c =
@@ -138,20 +111,11 @@ returns-5 c =
     (b .back .given .0 .1 .0) (b .back .given .0 .0) (b .back .given .1) (d .0) (d .1 .0) (f .0) (f .1 .0) (f .1 .1 .0) (f .1 .1 .1 .0)
     (f .1 .1 .1 .1 .0) (f .1 .1 .1 .1 .1 .0) (e .enter .result) (e .enter .ensures)
 
-same-length-4 : tie.Need-same-length-4
-same-length-4 c = search needs
-
 returns-6 : tie.Need-returns-6
 returns-6 c =
     let k = c .before in
     let a = k .before .before in
     λ w. stopped-at w ((elseOf a) .if1 .left) (a .act .result) (wordsOf a) (a .act .ensures) (k .cause .given .0 .0) (k .cause .given .1)
-
-same-length-5 : tie.Need-same-length-5
-same-length-5 c = search needs
-
-same-length-6 : tie.Need-same-length-6
-same-length-6 c = search needs
 
 returns-7 : tie.Need-returns-7
 returns-7 c =
@@ -171,23 +135,23 @@ step-spec =
     returns-2
     mul-base
     act-requires
-    enum-known-place
-    enum-known-place-2
+    (λ c. search needs)
+    (λ c. search needs)
     jump-requires
-    enum-known-back
+    (λ c. search needs)
     enter-requires
-    enum-known-cause
-    enum-known-place-3
+    (λ c. search needs)
+    (λ c. search needs)
     asked-requires
-    after-requires
-    same-length
+    (λ c κs. search needs)
+    (λ c. search needs)
     returns-3
-    same-length-2
+    (λ c. search needs)
     returns-4
-    same-length-3
+    (λ c. search needs)
     returns-5
-    same-length-4
+    (λ c. search needs)
     returns-6
-    same-length-5
-    same-length-6
+    (λ c. search needs)
+    (λ c. search needs)
     returns-7)

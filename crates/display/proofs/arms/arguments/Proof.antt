@@ -24,12 +24,6 @@ Inv-loop code words₀ display live at count first i₀ words i =
 abbrev μ-loop : tie.MeasureT-loop
 μ-loop code words₀ display live at count first i₀ words i = count - i
 
-mul-first : tie.Need-mul-first Inv-loop μ-loop
-mul-first c = search needs
-
-add-first : tie.Need-add-first Inv-loop μ-loop
-add-first c = search needs
-
 loop-holds : tie.Need-loop-holds Inv-loop μ-loop
 loop-holds c =
     let a = c .args in
@@ -37,15 +31,6 @@ loop-holds c =
     let p : a .at + 0 ≡ a .at = omega arith in
     let n : a .count - 0 ≡ a .count = omega arith in
     (omega arith, λ k h. refl, rw (f, p, n))
-
-add-code-at : tie.Need-add-code-at Inv-loop μ-loop
-add-code-at c = search needs
-
-code-at-requires : tie.Need-code-at-requires Inv-loop μ-loop
-code-at-requires c κs = search needs
-
-own-cell-requires : tie.Need-own-cell-requires Inv-loop μ-loop
-own-cell-requires c κs = search needs
 
 own :
     (c : tie.After-own-cell Inv-loop μ-loop) → let l = c .before .before .before .before in let a = l .before .args in
@@ -60,21 +45,6 @@ low c = let l = c .before .before .before .before in l .before .pre .1 .below (l
 
 handed-requires : tie.Need-handed-requires Inv-loop μ-loop
 handed-requires c κs = (omega (arith, c .before .before .code-at .ensures .1), omega (arith, own c, low c, c .before .before .before .before .before .pre .0))
-
-add-t15 : tie.Need-add-t15 Inv-loop μ-loop
-add-t15 c = search needs
-
-mul-t16 : tie.Need-mul-t16 Inv-loop μ-loop
-mul-t16 c = search needs
-
-element-set-from-words : tie.Need-element-set-from-words Inv-loop μ-loop
-element-set-from-words c = search needs
-
-add-i : tie.Need-add-i Inv-loop μ-loop
-add-i c = search needs
-
-loop-less : tie.Need-loop-less Inv-loop μ-loop
-loop-less c = search needs
 
 loop-again : tie.Need-loop-again Inv-loop μ-loop
 loop-again c =
@@ -105,17 +75,17 @@ arguments-spec =
     (tie.spec
     Inv-loop
     μ-loop
-    mul-first
-    add-first
+    (λ c. search needs)
+    (λ c. search needs)
     loop-holds
-    add-code-at
-    code-at-requires
-    own-cell-requires
+    (λ c. search needs)
+    (λ c κs. search needs)
+    (λ c κs. search needs)
     handed-requires
-    add-t15
-    mul-t16
-    element-set-from-words
-    add-i
-    loop-less
+    (λ c. search needs)
+    (λ c. search needs)
+    (λ c. search needs)
+    (λ c. search needs)
+    (λ c. search needs)
     loop-again
     returns)

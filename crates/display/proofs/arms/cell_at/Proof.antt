@@ -3,9 +3,6 @@ use borrow.Author.Needs.{needs}
 use Rattle.display.proofs.arms.cell_at.Statement.{statement}
 use Rattle.display.proofs.arms.cell_at.Tie as tie
 
-code-at-requires : tie.Need-code-at-requires
-code-at-requires c κs = search needs
-
 cell-requires : tie.Need-cell-requires
 cell-requires c κs = rw (c .code-at .ensures .0) (c .before .pre .1)
 
@@ -13,4 +10,4 @@ returns : tie.Need-returns
 returns c = rw (c .before .code-at .ensures .0) at (c .cell .ensures)
 
 pub cell-at-spec : {M : Type 1} → statement M
-cell-at-spec = tie.close (tie.spec code-at-requires cell-requires returns)
+cell-at-spec = tie.close (tie.spec (λ c κs. search needs) cell-requires returns)

@@ -9,36 +9,6 @@ use borrow.Author.Needs.{needs}
 use Rattle.display.proofs.arms.do_arithmetic_formal.Statement.{statement}
 use Rattle.display.proofs.arms.do_arithmetic_formal.Tie as tie
 
-add-cell-at : tie.Need-add-cell-at
-add-cell-at c = search needs
-
-cell-at-requires : tie.Need-cell-at-requires
-cell-at-requires c κs = search needs
-
-add-cell-at-2 : tie.Need-add-cell-at-2
-add-cell-at-2 c = search needs
-
-cell-at-requires-2 : tie.Need-cell-at-requires-2
-cell-at-requires-2 c κs = search needs
-
-add-cell-at-3 : tie.Need-add-cell-at-3
-add-cell-at-3 c = search needs
-
-cell-at-requires-3 : tie.Need-cell-at-requires-3
-cell-at-requires-3 c κs = search needs
-
-add-code-at : tie.Need-add-code-at
-add-code-at c = search needs
-
-code-at-requires : tie.Need-code-at-requires
-code-at-requires c κs = search needs
-
-add-requires : tie.Need-add-requires
-add-requires c κs = search needs
-
-computed-requires : tie.Need-computed-requires
-computed-requires c κs = search needs
-
 abbrev way : tie.Start → Finding
 way s = byDisplay (s .args .words .now) (s .args .display .now)
 
@@ -58,12 +28,6 @@ returns c =
     (n .cell-at3 .ensures) (c .computed .ensures) (c .before .add .ensures .0)
     (c .before .add .ensures .1))
 
-subtract-requires : tie.Need-subtract-requires
-subtract-requires c κs = search needs
-
-computed-requires-2 : tie.Need-computed-requires-2
-computed-requires-2 c κs = search needs
-
 returns-2 : tie.Need-returns-2
 returns-2 c =
     let b = c .before .before .before in
@@ -74,12 +38,6 @@ returns-2 c =
     (arithmetic-done (way s) (scene s) minus (n .before .before .before .before .cell-at .ensures) (n .before .before .cell-at2 .ensures)
     (n .cell-at3 .ensures) (c .computed2 .ensures) (c .before .subtract .ensures .0)
     (c .before .subtract .ensures .1))
-
-compare-requires : tie.Need-compare-requires
-compare-requires c κs = search needs
-
-add-t10 : tie.Need-add-t10
-add-t10 c = search needs
 
 returns-3 : tie.Need-returns-3
 returns-3 c =
@@ -95,20 +53,20 @@ pub do-arithmetic-formal-spec : {M : Type 1} → statement M
 do-arithmetic-formal-spec =
     tie.close
     (tie.spec
-    add-cell-at
-    cell-at-requires
-    add-cell-at-2
-    cell-at-requires-2
-    add-cell-at-3
-    cell-at-requires-3
-    add-code-at
-    code-at-requires
-    add-requires
-    computed-requires
+    (λ c. search needs)
+    (λ c κs. search needs)
+    (λ c. search needs)
+    (λ c κs. search needs)
+    (λ c. search needs)
+    (λ c κs. search needs)
+    (λ c. search needs)
+    (λ c κs. search needs)
+    (λ c κs. search needs)
+    (λ c κs. search needs)
     returns
-    subtract-requires
-    computed-requires-2
+    (λ c κs. search needs)
+    (λ c κs. search needs)
     returns-2
-    compare-requires
-    add-t10
+    (λ c κs. search needs)
+    (λ c. search needs)
     returns-3)

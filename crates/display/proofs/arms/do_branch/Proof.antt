@@ -11,21 +11,6 @@ use borrow.Author.Needs.{needs}
 use Rattle.display.proofs.arms.do_branch.Statement.{statement}
 use Rattle.display.proofs.arms.do_branch.Tie as tie
 
-add-own-at : tie.Need-add-own-at
-add-own-at c = search needs
-
-own-at-requires : tie.Need-own-at-requires
-own-at-requires c κs = search needs
-
-mul-if1 : tie.Need-mul-if1
-mul-if1 c = search needs
-
-element-copy-out-if1 : tie.Need-element-copy-out-if1
-element-copy-out-if1 c = search needs
-
-add-t12 : tie.Need-add-t12
-add-t12 c = search needs
-
 abbrev way : tie.Start → Finding
 way s = byDisplay (s .args .words .now) (s .args .display .now)
 
@@ -43,9 +28,6 @@ returns c =
     let s = c .before .before .before in
     branch-not (way s) (scene s) (tested (c .before .before)) (is-zero _ (c .before .if12 .given) (c .if1 .taken))
 
-do-goto-requires : tie.Need-do-goto-requires
-do-goto-requires c κs = search needs
-
 returns-2 : tie.Need-returns-2
 returns-2 c =
     let b = c .before in
@@ -60,11 +42,11 @@ pub do-branch-spec : {M : Type 1} → statement M
 do-branch-spec =
     tie.close
     (tie.spec
-    add-own-at
-    own-at-requires
-    mul-if1
-    element-copy-out-if1
-    add-t12
+    (λ c. search needs)
+    (λ c κs. search needs)
+    (λ c. search needs)
+    (λ c. search needs)
+    (λ c. search needs)
     returns
-    do-goto-requires
+    (λ c κs. search needs)
     returns-2)

@@ -15,21 +15,6 @@ use borrow.Author.Needs.{needs}
 use Rattle.display.proofs.arms.do_branch_formal.Statement.{statement}
 use Rattle.display.proofs.arms.do_branch_formal.Tie as tie
 
-add-cell-at : tie.Need-add-cell-at
-add-cell-at c = search needs
-
-cell-at-requires : tie.Need-cell-at-requires
-cell-at-requires c κs = search needs
-
-mul-if1 : tie.Need-mul-if1
-mul-if1 c = search needs
-
-element-copy-out-if1 : tie.Need-element-copy-out-if1
-element-copy-out-if1 c = search needs
-
-add-t12 : tie.Need-add-t12
-add-t12 c = search needs
-
 abbrev way : tie.Start → Finding
 way s = byDisplay (s .args .words .now) (s .args .display .now)
 
@@ -47,15 +32,6 @@ returns c =
 goes : (b : tie.Else1) → let s = b .before .before .before in doGoto (way s) (scene s) .move ≡ doBranch (way s) (scene s) .move
 goes b = let s = b .before .before .before in branch-goes (way s) (scene s) (b .before .before .cell-at .ensures)
     (not-zero _ (b .before .if12 .given) (b .if1 .left))
-
-add-code-at : tie.Need-add-code-at
-add-code-at c = search needs
-
-code-at-requires : tie.Need-code-at-requires
-code-at-requires c κs = search needs
-
-do-goto-requires : tie.Need-do-goto-requires
-do-goto-requires c κs = search needs
 
 returns-2 : tie.Need-returns-2
 returns-2 c =
@@ -80,15 +56,15 @@ pub do-branch-formal-spec : {M : Type 1} → statement M
 do-branch-formal-spec =
     tie.close
     (tie.spec
-    add-cell-at
-    cell-at-requires
-    mul-if1
-    element-copy-out-if1
-    add-t12
+    (λ c. search needs)
+    (λ c κs. search needs)
+    (λ c. search needs)
+    (λ c. search needs)
+    (λ c. search needs)
     returns
-    add-code-at
-    code-at-requires
-    do-goto-requires
+    (λ c. search needs)
+    (λ c κs. search needs)
+    (λ c κs. search needs)
     returns-2
     do-goto-formal-requires
     returns-3)

@@ -11,15 +11,6 @@ use borrow.Author.Needs.{needs}
 use Rattle.display.proofs.arms.do_call.Statement.{statement}
 use Rattle.display.proofs.arms.do_call.Tie as tie
 
-add-code-at : tie.Need-add-code-at
-add-code-at c = search needs
-
-code-at-requires : tie.Need-code-at-requires
-code-at-requires c κs = search needs
-
-first-cell-requires : tie.Need-first-cell-requires
-first-cell-requires c κs = search needs
-
 enter-body-requires : tie.Need-enter-body-requires
 enter-body-requires c κs = let p = c .before .before .before .pre in (p .0, (p .1 .0, (p .1 .1 .0, p .1 .1 .1 .0)))
 
@@ -45,4 +36,4 @@ returns c =
 pub do-call-spec : {M : Type 1} → statement M
 do-call-spec =
     tie.close
-    (tie.spec add-code-at code-at-requires first-cell-requires enter-body-requires returns)
+    (tie.spec (λ c. search needs) (λ c κs. search needs) (λ c κs. search needs) enter-body-requires returns)

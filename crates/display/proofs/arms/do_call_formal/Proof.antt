@@ -15,20 +15,8 @@ use borrow.Author.Needs.{needs}
 use Rattle.display.proofs.arms.do_call_formal.Statement.{statement}
 use Rattle.display.proofs.arms.do_call_formal.Tie as tie
 
-add-code-at : tie.Need-add-code-at
-add-code-at c = search needs
-
-code-at-requires : tie.Need-code-at-requires
-code-at-requires c κs = search needs
-
 held-requires : tie.Need-held-requires
 held-requires c κs = rw (c .code-at .ensures .0) (c .before .before .pre .1 .1 .1 .1 .0)
-
-add-code-at-2 : tie.Need-add-code-at-2
-add-code-at-2 c = search needs
-
-code-at-requires-2 : tie.Need-code-at-requires-2
-code-at-requires-2 c κs = search needs
 
 abbrev way : tie.Start → Finding
 way s = byDisplay (s .args .words .now) (s .args .display .now)
@@ -83,12 +71,6 @@ agrees c e =
     let s = startOf h in
     number-same (way s) (scene s) (h .held .result / 8192) (same-number (c .before)) ∙ sym (rw (n .code-at2 .ensures .0) at (c .kinds-agree .ensures)) ∙ e
 
-add-kinds-agree : tie.Need-add-kinds-agree
-add-kinds-agree c = search needs
-
-mul-kinds-agree : tie.Need-mul-kinds-agree
-mul-kinds-agree c = search needs
-
 sub-kinds-agree : tie.Need-sub-kinds-agree
 sub-kinds-agree c = omega (arith, formals (c .before), c .if1 .left)
 
@@ -121,15 +103,15 @@ pub do-call-formal-spec : {M : Type 1} → statement M
 do-call-formal-spec =
     tie.close
     (tie.spec
-    add-code-at
-    code-at-requires
+    (λ c. search needs)
+    (λ c κs. search needs)
     held-requires
-    add-code-at-2
-    code-at-requires-2
+    (λ c. search needs)
+    (λ c κs. search needs)
     code-at-requires-3
     returns
-    add-kinds-agree
-    mul-kinds-agree
+    (λ c. search needs)
+    (λ c. search needs)
     sub-kinds-agree
     kinds-agree-requires
     returns-2

@@ -9,30 +9,6 @@ use borrow.Author.Needs.{needs}
 use Rattle.display.proofs.arms.do_compare.Statement.{statement}
 use Rattle.display.proofs.arms.do_compare.Tie as tie
 
-add-own-at : tie.Need-add-own-at
-add-own-at c = search needs
-
-own-at-requires : tie.Need-own-at-requires
-own-at-requires c κs = search needs
-
-add-own-at-2 : tie.Need-add-own-at-2
-add-own-at-2 c = search needs
-
-own-at-requires-2 : tie.Need-own-at-requires-2
-own-at-requires-2 c κs = search needs
-
-add-own-at-3 : tie.Need-add-own-at-3
-add-own-at-3 c = search needs
-
-own-at-requires-3 : tie.Need-own-at-requires-3
-own-at-requires-3 c κs = search needs
-
-compare-requires : tie.Need-compare-requires
-compare-requires c κs = search needs
-
-add-t8 : tie.Need-add-t8
-add-t8 c = search needs
-
 abbrev way : tie.Start → Finding
 way s = byDisplay (s .args .words .now) (s .args .display .now)
 
@@ -57,12 +33,12 @@ pub do-compare-spec : {M : Type 1} → statement M
 do-compare-spec =
     tie.close
     (tie.spec
-    add-own-at
-    own-at-requires
-    add-own-at-2
-    own-at-requires-2
-    add-own-at-3
-    own-at-requires-3
-    compare-requires
-    add-t8
+    (λ c. search needs)
+    (λ c κs. search needs)
+    (λ c. search needs)
+    (λ c κs. search needs)
+    (λ c. search needs)
+    (λ c κs. search needs)
+    (λ c κs. search needs)
+    (λ c. search needs)
     returns)

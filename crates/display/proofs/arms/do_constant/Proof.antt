@@ -10,15 +10,6 @@ use borrow.Author.Needs.{needs}
 use Rattle.display.proofs.arms.do_constant.Statement.{statement}
 use Rattle.display.proofs.arms.do_constant.Tie as tie
 
-add-own-at : tie.Need-add-own-at
-add-own-at c = search needs
-
-own-at-requires : tie.Need-own-at-requires
-own-at-requires c κs = search needs
-
-constant-requires : tie.Need-constant-requires
-constant-requires c κs = search needs
-
 abbrev way : tie.Start → Finding
 way s = byDisplay (s .args .words .now) (s .args .display .now)
 
@@ -33,4 +24,4 @@ returns c =
     (c .constant .ensures .0 ∙ d .0, d .1)
 
 pub do-constant-spec : {M : Type 1} → statement M
-do-constant-spec = tie.close (tie.spec add-own-at own-at-requires constant-requires returns)
+do-constant-spec = tie.close (tie.spec (λ c. search needs) (λ c κs. search needs) (λ c κs. search needs) returns)

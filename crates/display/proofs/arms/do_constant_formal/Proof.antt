@@ -8,15 +8,6 @@ use borrow.Author.Needs.{needs}
 use Rattle.display.proofs.arms.do_constant_formal.Statement.{statement}
 use Rattle.display.proofs.arms.do_constant_formal.Tie as tie
 
-add-cell-at : tie.Need-add-cell-at
-add-cell-at c = search needs
-
-cell-at-requires : tie.Need-cell-at-requires
-cell-at-requires c κs = search needs
-
-constant-requires : tie.Need-constant-requires
-constant-requires c κs = search needs
-
 abbrev way : tie.Start → Finding
 way s = byDisplay (s .args .words .now) (s .args .display .now)
 
@@ -31,4 +22,4 @@ returns c =
 
 pub do-constant-formal-spec : {M : Type 1} → statement M
 do-constant-formal-spec =
-    tie.close (tie.spec add-cell-at cell-at-requires constant-requires returns)
+    tie.close (tie.spec (λ c. search needs) (λ c κs. search needs) (λ c κs. search needs) returns)

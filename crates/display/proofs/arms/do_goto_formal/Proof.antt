@@ -11,12 +11,6 @@ use borrow.Author.Needs.{needs}
 use Rattle.display.proofs.arms.do_goto_formal.Statement.{statement}
 use Rattle.display.proofs.arms.do_goto_formal.Tie as tie
 
-add-code-at : tie.Need-add-code-at
-add-code-at c = search needs
-
-code-at-requires : tie.Need-code-at-requires
-code-at-requires c κs = search needs
-
 held-requires : tie.Need-held-requires
 held-requires c κs = rw (c .code-at .ensures .0) (c .before .pre .1)
 
@@ -40,4 +34,4 @@ returns c =
     sym (target-formal ws first w (s .pre .1 .is)))
 
 pub do-goto-formal-spec : {M : Type 1} → statement M
-do-goto-formal-spec = tie.close (tie.spec add-code-at code-at-requires held-requires returns)
+do-goto-formal-spec = tie.close (tie.spec (λ c. search needs) (λ c κs. search needs) held-requires returns)

@@ -11,9 +11,6 @@ use borrow.Author.Needs.{needs}
 use Rattle.display.proofs.arms.enter_body.Statement.{statement}
 use Rattle.display.proofs.arms.enter_body.Tie as tie
 
-add-if1 : tie.Need-add-if1
-add-if1 c = search needs
-
 abbrev way : tie.Start → Finding
 way s = byDisplay (s .args .words .now) (s .args .display .now)
 
@@ -23,23 +20,8 @@ scene s = sceneBy (s .args .code .now) (s .args .words .now) (s .args .limit) (s
 returns : tie.Need-returns
 returns c = let s = c .before in no-room (way s) (scene s) (c .if1 .taken) (s .args .home) (s .args .body)
 
-add-code-at : tie.Need-add-code-at
-add-code-at c = search needs
-
-code-at-requires : tie.Need-code-at-requires
-code-at-requires c κs = search needs
-
-add-arguments : tie.Need-add-arguments
-add-arguments c = search needs
-
 arguments-requires : tie.Need-arguments-requires
 arguments-requires c κs = (omega arith, rw (c .before .code-at .ensures .0) (c .before .before .before .pre .1 .1 .1))
-
-add-t10 : tie.Need-add-t10
-add-t10 c = search needs
-
-add-t15 : tie.Need-add-t15
-add-t15 c = search needs
 
 returns-2 : tie.Need-returns-2
 returns-2 c =
@@ -54,12 +36,12 @@ pub enter-body-spec : {M : Type 1} → statement M
 enter-body-spec =
     tie.close
     (tie.spec
-    add-if1
+    (λ c. search needs)
     returns
-    add-code-at
-    code-at-requires
-    add-arguments
+    (λ c. search needs)
+    (λ c κs. search needs)
+    (λ c. search needs)
     arguments-requires
-    add-t10
-    add-t15
+    (λ c. search needs)
+    (λ c. search needs)
     returns-2)

@@ -3,14 +3,8 @@ use borrow.Author.Needs.{needs}
 use Rattle.display.proofs.arms.own_at.Statement.{statement}
 use Rattle.display.proofs.arms.own_at.Tie as tie
 
-code-at-requires : tie.Need-code-at-requires
-code-at-requires c κs = search needs
-
-own-cell-requires : tie.Need-own-cell-requires
-own-cell-requires c κs = search needs
-
 returns : tie.Need-returns
 returns c = rw (c .before .code-at .ensures .0) at (c .own-cell .ensures .0)
 
 pub own-at-spec : {M : Type 1} → statement M
-own-at-spec = tie.close (tie.spec code-at-requires own-cell-requires returns)
+own-at-spec = tie.close (tie.spec (λ c κs. search needs) (λ c κs. search needs) returns)

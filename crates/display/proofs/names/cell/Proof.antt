@@ -7,9 +7,6 @@ use borrow.Author.Needs.{needs}
 use Rattle.display.proofs.names.cell.Statement.{statement}
 use Rattle.display.proofs.names.cell.Tie as tie
 
-own-cell-requires : tie.Need-own-cell-requires
-own-cell-requires c κs = search needs
-
 returns : tie.Need-returns
 returns c =
     let a = c .before .before .args in
@@ -25,4 +22,4 @@ returns-2 c =
     sym (cell-formal (a .words .now) (firstCell (a .display .now) (a .word)) (a .word) (is-formal (a .word) (c .before .if1 .left)))
 
 pub cell-spec : {M : Type 1} → statement M
-cell-spec = tie.close (tie.spec own-cell-requires returns held-requires returns-2)
+cell-spec = tie.close (tie.spec (λ c κs. search needs) returns held-requires returns-2)

@@ -17,12 +17,6 @@ mul-wide c = record { fits = omega (arith, live-there (c .pre)) }
 element-copy-out-wide : tie.Need-element-copy-out-wide
 element-copy-out-wide c = live-there (c .pre)
 
-wide-requires : tie.Need-wide-requires
-wide-requires c κs = search needs
-
-add-code-at : tie.Need-add-code-at
-add-code-at c = search needs
-
 code-at-requires : tie.Need-code-at-requires
 code-at-requires c κs = omega (arith, c .wide .ensures .0, word-within (c .before .before .pre))
 
@@ -51,8 +45,8 @@ looked-up-spec =
     (tie.spec
     mul-wide
     element-copy-out-wide
-    wide-requires
-    add-code-at
+    (λ c κs. search needs)
+    (λ c. search needs)
     code-at-requires
     returns
     cell-requires

@@ -77,9 +77,6 @@ loop-holds c = (λ w. begun w (c .args .allowance), refl)
 step-requires : tie.Need-step-requires Inv-loop μ-loop
 step-requires c κs = (going ((turnAt c) .before)) .running
 
-enum-known-next : tie.Need-enum-known-next Inv-loop μ-loop
-enum-known-next c = search needs
-
 sub-left : tie.Need-sub-left Inv-loop μ-loop
 sub-left c = (turnOf (wentOf c)) .loop-test .taken
 
@@ -95,9 +92,6 @@ loop-again c =
       table-kept o,
     )
 
-enum-told : tie.Need-enum-told Inv-loop μ-loop
-enum-told c = search needs
-
 sub-finished : tie.Need-sub-finished Inv-loop μ-loop
 sub-finished c = few-left (going (loopAt (finishedOf c)))
 
@@ -105,9 +99,6 @@ add-finished : tie.Need-add-finished Inv-loop μ-loop
 add-finished c =
     let o = finishedOf c in
     record { fits = omega (arith, (loopAt o) .before .fits .allowance .fits, (turnOf o) .loop-test .taken) }
-
-finished-requires : tie.Need-finished-requires Inv-loop μ-loop
-finished-requires c κs = search needs
 
 same-length : tie.Need-same-length Inv-loop μ-loop
 same-length c = table-kept (finishedOf (c .before))
@@ -119,9 +110,6 @@ returns c =
     let u = (loopAt o) .loop .inv .0 w in
     finished-as u (leftBy o) (o .step .result) (o .step .ensures (u .running)) (c .before .enum-told .given .1) ((turnOf o) .loop-test .taken)
     (c .finished .result) (c .finished .ensures)
-
-enum-known-cause : tie.Need-enum-known-cause Inv-loop μ-loop
-enum-known-cause c = search needs
 
 sub-stopped : tie.Need-sub-stopped Inv-loop μ-loop
 sub-stopped c = few-left (going (loopAt (stoppedOf (c .before))))
@@ -137,9 +125,6 @@ settle-requires c κs =
     let o = stoppedOf k in
     let u = going (loopAt o) in
     (looking ((stays u (leftBy o) (o .step .result) (o .step .ensures (u .running)) (k .cause .given .0 .0) (k .cause .given .1)) .0), placed u)
-
-named-requires : tie.Need-named-requires Inv-loop μ-loop
-named-requires c κs = search needs
 
 same-length-2 : tie.Need-same-length-2 Inv-loop μ-loop
 same-length-2 c = table-kept (stoppedOf (causeOf (haltOf (c .before .before))))
@@ -164,9 +149,6 @@ settle-requires-2 c κs =
     let u = going ((doneOf (spentOf c)) .before) in
     (looking u, placed u)
 
-named-requires-2 : tie.Need-named-requires-2 Inv-loop μ-loop
-named-requires-2 c κs = search needs
-
 same-length-3 : tie.Need-same-length-3 Inv-loop μ-loop
 same-length-3 c = (doneOf (spentOf (c .before .before))) .before .loop .inv .1
 
@@ -187,25 +169,25 @@ run-spec =
     μ-loop
     loop-holds
     step-requires
-    enum-known-next
+    (λ c. search needs)
     sub-left
     loop-less
     loop-again
-    enum-told
+    (λ c. search needs)
     sub-finished
     add-finished
-    finished-requires
+    (λ c κs. search needs)
     same-length
     returns
-    enum-known-cause
+    (λ c. search needs)
     sub-stopped
     stopped-requires
     settle-requires
-    named-requires
+    (λ c κs. search needs)
     same-length-2
     returns-2
     spent-requires
     settle-requires-2
-    named-requires-2
+    (λ c κs. search needs)
     same-length-3
     returns-3)

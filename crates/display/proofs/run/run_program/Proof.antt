@@ -12,16 +12,10 @@ halfOf c = c .before .before .before
 abbrev beginOf : tie.After-run-arg5 → tie.After-begin
 beginOf c = (halfOf c) .before .before .before
 
-begin-requires : tie.Need-begin-requires
-begin-requires c κs = search needs
-
 run-requires : tie.Need-run-requires
 run-requires c κs =
     let s = beginOf c in
     starts (s .before .pre) _ refl refl (s .begin .result) (s .begin .ensures)
-
-same-length : tie.Need-same-length
-same-length c = search needs
 
 returns : tie.Need-returns
 returns c =
@@ -30,4 +24,4 @@ returns c =
     λ b. program-run b _ refl refl (s .begin .result) (s .begin .ensures) (s .before .args .allowance) (o .run .result) _ _ _ _ _ (o .run .ensures)
 
 pub run-program-spec : {M : Type 1} → statement M
-run-program-spec = tie.close (tie.spec begin-requires run-requires same-length returns)
+run-program-spec = tie.close (tie.spec (λ c κs. search needs) run-requires (λ c. search needs) returns)

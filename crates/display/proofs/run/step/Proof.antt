@@ -59,24 +59,12 @@ act-requires c κs =
     let e = c .before .before in
     doing (e .before .before .pre) (e .if1 .left)
 
-enum-known-place : tie.Need-enum-known-place
-enum-known-place c = search needs
-
-enum-known-place-2 : tie.Need-enum-known-place-2
-enum-known-place-2 c = search needs
-
 asked-requires : tie.Need-asked-requires
 asked-requires c κs =
     let p = askedOf c in
     let a = askOf p in
     asked-there ((startOf a) .pre) (inside a .if1 .left) (a .act .result) (a .act .last .1 .0) (a .act .ensures) (p .place2 .given .0 .0) (p .place2 .given .0 .1 .0)
     (p .place2 .given .0 .1 .1 .0) (p .place2 .given .0 .1 .1 .1 .0) (p .place2 .given .0 .1 .1 .1 .1 .0) (p .place2 .given .1)
-
-after-requires : tie.Need-after-requires
-after-requires c κs = search needs
-
-enum-known-home : tie.Need-enum-known-home
-enum-known-home c = search needs
 
 jump-requires : tie.Need-jump-requires
 jump-requires c κs =
@@ -85,9 +73,6 @@ jump-requires c κs =
     jump-ready ((startOf a) .pre) (inside a .if1 .left) (a .act .result) (a .act .last .1 .0) (a .act .ensures)
     (h .home .given .0 .0) (h .home .given .0 .1 .0) (h .home .given .1)
 
-enum-known-body : tie.Need-enum-known-body
-enum-known-body c = search needs
-
 enter-requires : tie.Need-enter-requires
 enter-requires c κs =
     let b = bodyOf (firstOf c) in
@@ -95,16 +80,10 @@ enter-requires c κs =
     enter-ready ((startOf a) .pre) (inside a .if1 .left) (a .act .result) (a .act .last .1 .0) (a .act .ensures)
     (b .body .given .0 .0) (b .body .given .0 .1 .0) (b .body .given .0 .1 .1 .0) (b .body .given .1)
 
-enum-known-cause : tie.Need-enum-known-cause
-enum-known-cause c = search needs
-
 returns-3 : tie.Need-returns-3
 returns-3 c =
     let a = c .before .before .before in
     λ w. went-on w (inside a .if1 .left) (a .act .result) (a .act .last .1 .0) (a .act .ensures) (c .before .place .given .0 .0) (c .before .place .given .1)
-
-same-length : tie.Need-same-length
-same-length c = search needs
 
 returns-4 : tie.Need-returns-4
 returns-4 c =
@@ -143,17 +122,17 @@ step-spec =
     leave-requires
     returns-2
     act-requires
-    enum-known-place
-    enum-known-place-2
+    (λ c. search needs)
+    (λ c. search needs)
     asked-requires
-    after-requires
-    enum-known-home
+    (λ c κs. search needs)
+    (λ c. search needs)
     jump-requires
-    enum-known-body
+    (λ c. search needs)
     enter-requires
-    enum-known-cause
+    (λ c. search needs)
     returns-3
-    same-length
+    (λ c. search needs)
     returns-4
     returns-5
     returns-6

@@ -17,27 +17,6 @@ within live head n k e l m = omega (arith, e, l, m)
 within-all : (live head n : ℕ) → n ≡ head / 16777216 → live + 1 < 256 → head / 16777216 ≤ 32 → 32 * (live + 1) + n ≤ 8192
 within-all live head n e l m = omega (arith, e, l, m)
 
-wide-u32-requires : tie.Need-wide-u32-requires
-wide-u32-requires c κs = search needs
-
-code-at-requires : tie.Need-code-at-requires
-code-at-requires c κs = search needs
-
-add-fresh : tie.Need-add-fresh
-add-fresh c = search needs
-
-mul-clear : tie.Need-mul-clear
-mul-clear c = search needs
-
-add-clear : tie.Need-add-clear
-add-clear c = search needs
-
-mul-clear-2 : tie.Need-mul-clear-2
-mul-clear-2 c = search needs
-
-add-clear-2 : tie.Need-add-clear-2
-add-clear-2 c = search needs
-
 head-is : (code : List ℕ) (head at block : ℕ) → head ≡ getD code at 0 → at ≡ block → head ≡ getD code block 0
 head-is code head at block e i = e ∙ ap (λ (k : ℕ). getD code k 0) i
 
@@ -53,12 +32,6 @@ clear-requires c κs =
           (pre .2),
       within-all (s .here .live) (getD (s .code .now) (s .activation .block) 0) (head / 16777216) (ap (λ (k : ℕ). k / 16777216) e) (pre .1) (pre .3),
     )
-
-wide-u32-requires-2 : tie.Need-wide-u32-requires-2
-wide-u32-requires-2 c κs = search needs
-
-innermost-requires : tie.Need-innermost-requires
-innermost-requires c κs = search needs
 
 returns : tie.Need-returns
 returns c =
@@ -77,14 +50,14 @@ pub entered-spec : {M : Type 1} → statement M
 entered-spec =
     tie.close
     (tie.spec
-    wide-u32-requires
-    code-at-requires
-    add-fresh
-    mul-clear
-    add-clear
-    mul-clear-2
-    add-clear-2
+    (λ c κs. search needs)
+    (λ c κs. search needs)
+    (λ c. search needs)
+    (λ c. search needs)
+    (λ c. search needs)
+    (λ c. search needs)
+    (λ c. search needs)
     clear-requires
-    wide-u32-requires-2
-    innermost-requires
+    (λ c κs. search needs)
+    (λ c κs. search needs)
     returns)

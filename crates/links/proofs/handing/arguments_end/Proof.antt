@@ -19,22 +19,10 @@ some-there : (code : List ℕ) (at n : ℕ) → (getD code at 0 % 16 ≡ 6 → �
 unfolding argumentsEnd
 some-there code at n d e = rw (e, argumentsEnd, ne-eqb (getD code at 0 % 16) 6 d)
 
-code-at-requires : tie.Need-code-at-requires
-code-at-requires c κs = search needs
-
 returns : tie.Need-returns
 returns c =
     let s = c .before .before .args in
     none-there (s .code .now) (s .here .at) (omega (arith, c .before .code-at .ensures .0))
-
-add-code-at : tie.Need-add-code-at
-add-code-at c = search needs
-
-code-at-requires-2 : tie.Need-code-at-requires-2
-code-at-requires-2 c κs = search needs
-
-add-result : tie.Need-add-result
-add-result c = search needs
 
 returns-2 : tie.Need-returns-2
 returns-2 c =
@@ -43,4 +31,4 @@ returns-2 c =
     (λ e. c .before .if1 .left (omega (arith, e, c .before .before .code-at .ensures .0))) (c .code-at2 .ensures .0)
 
 pub arguments-end-spec : {M : Type 1} → statement M
-arguments-end-spec = tie.close (tie.spec code-at-requires returns add-code-at code-at-requires-2 add-result returns-2)
+arguments-end-spec = tie.close (tie.spec (λ c κs. search needs) returns (λ c. search needs) (λ c κs. search needs) (λ c. search needs) returns-2)

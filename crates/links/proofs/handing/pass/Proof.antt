@@ -18,33 +18,6 @@ passed : (words ws : List ℤ) (code : List ℕ) (place cell word first : ℕ) (
 passed words ws code place cell word first v z e f g h =
     h ∙ ap (set words cell) (g ∙ f ∙ ap (λ (w : ℕ). handedWord words w (first + positionIn w)) e)
 
-add-code-at : tie.Need-add-code-at
-add-code-at c = search needs
-
-code-at-requires : tie.Need-code-at-requires
-code-at-requires c κs = search needs
-
-add-handed : tie.Need-add-handed
-add-handed c = search needs
-
-handed-requires : tie.Need-handed-requires
-handed-requires c κs = search needs
-
-mul-store : tie.Need-mul-store
-mul-store c = search needs
-
-add-store : tie.Need-add-store
-add-store c = search needs
-
-sub-store : tie.Need-sub-store
-sub-store c = search needs
-
-add-store-2 : tie.Need-add-store-2
-add-store-2 c = search needs
-
-store-requires : tie.Need-store-requires
-store-requires c κs = search needs
-
 returns : tie.Need-returns
 returns c =
     let o = c .before .before .before in
@@ -56,4 +29,4 @@ returns c =
 pub pass-spec : {M : Type 1} → statement M
 pass-spec =
     tie.close
-    (tie.spec add-code-at code-at-requires add-handed handed-requires mul-store add-store sub-store add-store-2 store-requires returns)
+    (tie.spec (λ c. search needs) (λ c κs. search needs) (λ c. search needs) (λ c κs. search needs) (λ c. search needs) (λ c. search needs) (λ c. search needs) (λ c. search needs) (λ c κs. search needs) returns)

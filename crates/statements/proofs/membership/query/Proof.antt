@@ -24,30 +24,6 @@ of q = read-value (startOf q .args .words .now) (q .before .before .of .given) r
 who : (q : tie.After-query-pair) → let s = startOf q in toZ w32 (ofZ w32 (getD (s .args .words .now) (s .args .member) (pos 0))) ≡ getD (s .args .words .now) (s .args .member) (pos 0)
 who q = read-value (startOf q .args .words .now) (q .before .who .given) refl
 
-mul-of : tie.Need-mul-of
-mul-of c = search needs
-
-element-copy-out-of : tie.Need-element-copy-out-of
-element-copy-out-of c = search needs
-
-mul-who : tie.Need-mul-who
-mul-who c = search needs
-
-element-copy-out-who : tie.Need-element-copy-out-who
-element-copy-out-who c = search needs
-
-query-pair-requires : tie.Need-query-pair-requires
-query-pair-requires c κs = search needs
-
-enum-known-value : tie.Need-enum-known-value
-enum-known-value c = search needs
-
-store-requires : tie.Need-store-requires
-store-requires c κs = search needs
-
-enum-known-cause : tie.Need-enum-known-cause
-enum-known-cause c = search needs
-
 returns : tie.Need-returns
 returns c =
     let v = c .before .before .before in
@@ -64,4 +40,4 @@ returns-2 c =
     query-refuses (s .args .words .now) (lent s) (s .args .group) (s .args .member) (s .args .target) (of q) (who q) (q .query-pair .ensures) (v .cause .given .1)
 
 pub query-spec : {M : Type 1} → statement M
-query-spec = tie.close (tie.spec mul-of element-copy-out-of mul-who element-copy-out-who query-pair-requires enum-known-value store-requires enum-known-cause returns returns-2)
+query-spec = tie.close (tie.spec (λ c. search needs) (λ c. search needs) (λ c. search needs) (λ c. search needs) (λ c κs. search needs) (λ c. search needs) (λ c κs. search needs) (λ c. search needs) returns returns-2)

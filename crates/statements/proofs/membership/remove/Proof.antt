@@ -10,24 +10,6 @@ use borrow.Author.Needs.{needs}
 use Rattle.statements.proofs.membership.remove.Statement.{statement}
 use Rattle.statements.proofs.membership.remove.Tie as tie
 
-mul-of : tie.Need-mul-of
-mul-of c = search needs
-
-element-copy-out-of : tie.Need-element-copy-out-of
-element-copy-out-of c = search needs
-
-mul-who : tie.Need-mul-who
-mul-who c = search needs
-
-element-copy-out-who : tie.Need-element-copy-out-who
-element-copy-out-who c = search needs
-
-remove-pair-requires : tie.Need-remove-pair-requires
-remove-pair-requires c κs = search needs
-
-same-length : tie.Need-same-length
-same-length c = search needs
-
 returns : tie.Need-returns
 unfolding answer
 returns c =
@@ -39,4 +21,4 @@ returns c =
     (c .before .remove-pair .ensures .0) (c .before .remove-pair .ensures .1)
 
 pub remove-spec : {M : Type 1} → statement M
-remove-spec = tie.close (tie.spec mul-of element-copy-out-of mul-who element-copy-out-who remove-pair-requires same-length returns)
+remove-spec = tie.close (tie.spec (λ c. search needs) (λ c. search needs) (λ c. search needs) (λ c. search needs) (λ c κs. search needs) (λ c. search needs) returns)
