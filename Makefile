@@ -7,7 +7,7 @@ test:
 # A script file on each engine; sample A where none is named.
 run: export SCRIPT ?=
 run:
-	@crates/run_script/run "$$SCRIPT"
+	@crates/program_run/run "$$SCRIPT"
 
 # The proved library beside the reference's fast implementation: one table of times.
 bench:

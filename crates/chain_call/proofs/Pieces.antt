@@ -15,15 +15,15 @@ use Rattle.runs.specs.Admission.{Admitted, limits-fit, records-fit, table-right
 use Rattle.frames.specs.Frame.{Frame, frameRun, frameStart, frameRunOf, frameSheet}
 use Rattle.coordinates.specs.Sound.{accepted-keeps-rules}
 use Rattle.resolved.specs.Resolved.{resolvedOf, Covers}
-use Rattle.resolving.specs.Resolving.{Resolved, resolved-covers}
-use Rattle.sheets.specs.Held.{Held}
-use Rattle.answers.specs.Replies.{Replies}
-use Rattle.replies.specs.Replies.{with-links}
-use Rattle.replies.specs.Runs.{sheet-needs, run-replies}
-use Rattle.activations.specs.declared.Activation.{Activation}
-use Rattle.links.specs.Records.{blocksIn, nextsIn}
+use Rattle.resolve_script.specs.Resolving.{Resolved, resolved-covers}
+use Rattle.run_sheet.specs.Held.{Held}
+use Rattle.call_answers.specs.Replies.{Replies}
+use Rattle.call_replies.specs.Replies.{with-links}
+use Rattle.call_replies.specs.Runs.{sheet-needs, run-replies}
+use Rattle.chain_records.specs.declared.Activation.{Activation}
+use Rattle.chain_links.specs.Records.{blocksIn, nextsIn}
 use Rattle.run_state.specs.Scenes.{limitsBy}
-use Rattle.chain.specs.Running.{Beginning, Ended}
+use Rattle.chain_run.specs.Running.{Beginning, Ended}
 use Rattle.run_state.specs.declared.Halt.{Halt}
 use Rattle.chain_call.specs.Calls.{haltWords}
 

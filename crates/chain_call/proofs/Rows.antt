@@ -1,10 +1,10 @@
 -- The arrays of this crate, a verdict and a call's numbers (`numberss`; `fitting` and `made` are to and from its fields) as data, for proofs by hand.
 use denote.Struct.Laws.{owes, owed}
-use Rattle.lending.specs.Data.{Datum, Good, enums, structs, words32, words16, usizes, ints32}
-use Rattle.lending.specs.Holes.{arrays}
-use Rattle.admission.specs.declared.Numbers.{Numbers}
-use Rattle.admission.proofs.Numbers as N
-use Rattle.admission.proofs.Numbers.Laws as N′
+use Rattle.walks.specs.Data.{Datum, Good, enums, structs, words32, words16, usizes, ints32}
+use Rattle.walks.specs.Holes.{arrays}
+use Rattle.call_admission.specs.declared.Numbers.{Numbers}
+use Rattle.call_admission.proofs.Numbers as N
+use Rattle.call_admission.proofs.Numbers.Laws as N′
 use Rattle.language.proofs.Verdict as D
 use Rattle.language.proofs.Verdict.Laws as D′
 

@@ -2,7 +2,7 @@
 use Prim.Native.Nat.{ℕ}
 use mathlib.Core.List.{List}
 use Rattle.language.specs.Numbers.{answerWords}
-use Rattle.answers.specs.Answers.{ranAnswer}
+use Rattle.call_answers.specs.Answers.{ranAnswer}
 use Rattle.run_state.specs.declared.Halt.{Halt}
 
 abbrev pub haltWords : Halt → ℕ → ℕ → List ℕ

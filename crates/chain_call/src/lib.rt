@@ -1,9 +1,9 @@
 // The static-chain engine's call: admission, the resolved script, the run on the lent records, the sheet, the answer.
-use activations::Activation;
-use admission::Area;
-use admission::Numbers;
-use answers::refused;
-use answers::refuses;
+use call_admission::Area;
+use call_admission::Numbers;
+use call_answers::refused;
+use call_answers::refuses;
+use chain_records::Activation;
 use language::Verdict;
 use run_state::Halt;
 ghost use mathlib.Core.Path.{_≡_};
@@ -13,18 +13,18 @@ ghost use lib.ListN.{length, replicate};
 ghost use Rattle.language.specs.Text.{Block};
 ghost use Rattle.language.specs.Call.{admission, chain};
 ghost use Rattle.runs.specs.Admission.{Admitted};
-ghost use Rattle.checking.specs.Verdicts.{verdictOf};
-ghost use Rattle.admission.specs.Lent.{fedOf};
-ghost use Rattle.answers.specs.Replies.{Replies, RepliesLeaving};
+ghost use Rattle.check_script.specs.Verdicts.{verdictOf};
+ghost use Rattle.call_admission.specs.Lent.{fedOf};
+ghost use Rattle.call_answers.specs.Replies.{Replies, RepliesLeaving};
 ghost use Rattle.grammar.specs.Rules.{Bytes};
-ghost use Rattle.resolving.specs.Resolving.{Resolved};
+ghost use Rattle.resolve_script.specs.Resolving.{Resolved};
 ghost use Rattle.chain_call.specs.Calls.{haltWords};
 
 // What is due to a call that is lent so many records.
 fn judged(script: &[u8], numbers: Numbers, table: &[i32], sheet: &[i32], held: usize) -> Verdict
     ensures { λ r. ⌜ r ≡ verdictOf (admission (chain held) (fedOf numbers (now (script .entry)) (now (table .entry)) (now (sheet .entry)))) ⌝ }
 {
-    admission::admit(script, numbers, table, sheet, Area::Of(held), Area::Unused)
+    call_admission::admit(script, numbers, table, sheet, Area::Of(held), Area::Unused)
 }
 
 fn limit_of(numbers: Numbers) -> usize
@@ -38,7 +38,7 @@ fn answered(halt: Halt, written: usize, numbers: Numbers, answer: &mut [u64; 9])
     ensures { λ _. ⌜ now (answer .exit) ≡ haltWords halt written (numbers .tally) ⌝ }
 {
     let end = halt.end;
-    *answer = answers::run_words(
+    *answer = call_answers::run_words(
         end,
         halt.steps,
         halt.offset,
@@ -55,7 +55,7 @@ fn resolved(script: &[u8], numbers: Numbers, code: &mut [u32; 4096])
     requires { ⌜ now code ≡ replicate 4096 0 ⌝ }
     ensures { λ _. ⌜ Resolved (now (script .entry)) (numbers .name) (now (code .exit)) × Bytes (now (script .entry)) ⌝ }
 {
-    resolving::resolve(script, numbers.name as usize, code);
+    resolve_script::resolve(script, numbers.name as usize, code);
 }
 
 // What comes of a call that is admitted, in the arrays that it works on.
@@ -75,7 +75,7 @@ fn ran_on(
         (now (answer .exit)) (now (sheet .exit)) (now (table .exit)) ⌝ }
 {
     resolved(script, numbers, code);
-    let halt = chain::run_program(
+    let halt = chain_run::run_program(
         code,
         words,
         records,
@@ -85,7 +85,7 @@ fn ran_on(
         limit_of(numbers),
         numbers.n,
     );
-    let written = chain::write_sheet(code, words, records, halt.live, sheet);
+    let written = chain_run::write_sheet(code, words, records, halt.live, sheet);
     answered(halt, written, numbers, answer);
 }
 

@@ -8,7 +8,7 @@ use Rattle.language.specs.Check.{Checked, accepted, refused}
 use Rattle.language.specs.declared.Refusal.{Refusal}
 use Rattle.language.specs.declared.Verdict.{Verdict}
 use Rattle.language.specs.declared.Verdict.the-variants.{Fit, Refused}
-use Rattle.checking.specs.Verdicts.{verdictOf}
+use Rattle.check_script.specs.Verdicts.{verdictOf}
 use Rattle.check_call.specs.Answers.{checkWords}
 
 pub fit-words : (k : Checked) (v : Verdict) → v ≡ verdictOf k → v ≡ Fit → _≡_ {A = List ℕ} (0 ∷ 0 ∷ []) (checkWords k)

@@ -8,7 +8,7 @@ ghost use Rattle.check_call.specs.Answers.{checkWords};
 pub fn call(script: &[u8]) -> [u64; 2]
     ensures { λ r. ⌜ r ≡ checkWords (check (now (script .entry))) ⌝ }
 {
-    match checking::check_script(script) {
+    match check_script::check_script(script) {
         Verdict::Fit => [0, 0],
         Verdict::Refused(cause, at) => [language::refusal_number(cause) as u64, at as u64],
     }

@@ -9,10 +9,10 @@ use lib.Dec.{leb}
 use lib.IntN.{ℤ}
 use lib.ListN.{getD, set}
 use Rattle.language.specs.declared.Stop.the-variants.{NoActivationLeft, ArgumentsDiffer}
-use Rattle.acting.specs.declared.Move.{Move}
-use Rattle.acting.specs.declared.Move.the-variants.{Enter, Stop}
-use Rattle.acting.specs.Effects.{sameKinds}
-use Rattle.acting.specs.Acting.{setAll}
+use Rattle.run_moves.specs.declared.Move.{Move}
+use Rattle.run_moves.specs.declared.Move.the-variants.{Enter, Stop}
+use Rattle.run_moves.specs.Effects.{sameKinds}
+use Rattle.run_moves.specs.Acting.{setAll}
 use Rattle.copy_arms.specs.Parts.{handedWord, handedFrom, refusedBy, callMove, callWords}
 
 -- 26

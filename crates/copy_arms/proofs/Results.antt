@@ -10,13 +10,13 @@ use lib.Signed.{mag, ltZ}
 use Rattle.language.specs.Basics.{eqZ}
 use Rattle.language.specs.Text.{Operation, less}
 use Rattle.language.specs.Machine.{compute}
-use Rattle.acting.specs.declared.Effect.{Effect}
-use Rattle.acting.specs.declared.Effect.the-variants.{Done}
-use Rattle.acting.specs.declared.Move.{Move}
-use Rattle.acting.specs.declared.Move.the-variants.{On}
-use Rattle.acting.specs.Effects.{effectOf, wordsOf}
-use Rattle.acting.specs.Acting.{operationOf}
-use Rattle.statements.specs.Pieces.{moveAfter}
+use Rattle.run_moves.specs.declared.Effect.{Effect}
+use Rattle.run_moves.specs.declared.Effect.the-variants.{Done}
+use Rattle.run_moves.specs.declared.Move.{Move}
+use Rattle.run_moves.specs.declared.Move.the-variants.{On}
+use Rattle.run_moves.specs.Effects.{effectOf, wordsOf}
+use Rattle.run_moves.specs.Acting.{operationOf}
+use Rattle.run_statements.specs.Pieces.{moveAfter}
 use Rattle.copy_arms.specs.Parts.{branchMove}
 
 -- AR

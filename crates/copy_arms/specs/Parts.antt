@@ -9,12 +9,12 @@ use lib.ListN.{length, getD}
 use Rattle.language.specs.Basics.{eqZ}
 use Rattle.language.specs.Machine.{compute}
 use Rattle.language.specs.declared.Stop.the-variants.{NoActivationLeft, ArgumentsDiffer}
-use Rattle.acting.specs.declared.Move.{Move}
-use Rattle.acting.specs.declared.Move.the-variants.{On, Jump, Enter, Stop}
-use Rattle.acting.specs.Effects.{sameKinds}
-use Rattle.acting.specs.Acting.{operationOf, setAll}
-use Rattle.statements.specs.Pieces.{FormalsBefore}
-use Rattle.new_names.specs.Owner.{cellIn, Sorted}
+use Rattle.run_moves.specs.declared.Move.{Move}
+use Rattle.run_moves.specs.declared.Move.the-variants.{On, Jump, Enter, Stop}
+use Rattle.run_moves.specs.Effects.{sameKinds}
+use Rattle.run_moves.specs.Acting.{operationOf, setAll}
+use Rattle.run_statements.specs.Pieces.{FormalsBefore}
+use Rattle.copy_names.specs.Owner.{cellIn, Sorted}
 
 -- the cell of the name at a place, and what stands there
 abbrev pub cellAt : List ℕ → List ℕ → List ℕ → ℕ → ℕ → ℕ

@@ -3,16 +3,16 @@ use super::fields::field;
 use super::fields::named;
 use super::fields::named_by;
 use super::fields::target;
-use acting::Move;
-use new_names::first_of;
-use new_names::start_of;
-use statements::computed;
+use copy_names::first_of;
+use copy_names::start_of;
+use run_moves::Move;
+use run_statements::computed;
 ghost use mathlib.Core.Path.{_≡_};
 ghost use Prim.Native.Nat.{_+_, _*_, _<_, _≤_};
 ghost use lib.ListN.{length, getD, set};
 ghost use Rattle.language.specs.Encoding.{signed};
-ghost use Rattle.acting.specs.Effects.{effectOf, wordsOf};
-ghost use Rattle.statements.specs.Pieces.{moveAfter};
+ghost use Rattle.run_moves.specs.Effects.{effectOf, wordsOf};
+ghost use Rattle.run_statements.specs.Pieces.{moveAfter};
 ghost use Rattle.copy_arms.specs.Parts.{cellAt, variableAt, NameAt, resultAt, jumpAt, branchMove};
 
 // KN
@@ -35,7 +35,7 @@ pub fn do_constant(
 {
     let bits = field(area, place + 2) + 65536 * field(area, place + 3);
     let cell = named(area, firsts, starts, live, place + 1);
-    stepping::store(words, cell, stepping::signed(bits));
+    run_words::store(words, cell, run_words::signed(bits));
     Move::On(at + 4)
 }
 
@@ -63,12 +63,12 @@ pub fn do_arithmetic(
     let right = named_by(area, firsts, starts, live, first, start, place + 4);
     let operation = field(area, place + 2);
     if operation == 0 {
-        return computed(stepping::add(words, to, left, right), at);
+        return computed(run_words::add(words, to, left, right), at);
     }
     if operation == 1 {
-        return computed(stepping::subtract(words, to, left, right), at);
+        return computed(run_words::subtract(words, to, left, right), at);
     }
-    stepping::compare(words, to, left, right);
+    run_words::compare(words, to, left, right);
     Move::On(at + 5)
 }
 

@@ -3,15 +3,15 @@ use super::fields::field;
 use super::fields::named;
 use super::fields::named_by;
 use super::fields::target;
-use acting::Move;
+use copy_names::first_of;
+use copy_names::start_of;
 use language::Stop;
-use new_names::first_of;
-use new_names::start_of;
-use stepping::code_at;
+use run_moves::Move;
+use run_words::code_at;
 ghost use mathlib.Core.Path.{_≡_};
 ghost use Prim.Native.Nat.{_+_, _*_, _≤_};
 ghost use lib.Dec.{leb};
-ghost use Rattle.acting.specs.Acting.{setAll};
+ghost use Rattle.run_moves.specs.Acting.{setAll};
 ghost use lib.ListN.{getD};
 ghost use Rattle.copy_arms.specs.Parts.{NameAt, ArgumentsAt, handedWord, handedFrom, Callable, refusedBy, refusedAt, enterAt, handedAt, callMove, callWords, CallAt};
 
@@ -28,7 +28,7 @@ fn refused(code: &[u32; 4096], at: usize, body: usize, count: usize) -> bool
     if code_at(code, body) / 65536 % 256 != count {
         return true;
     }
-    !stepping::kinds_agree(code, at + 3, body - 3 * count, count)
+    !run_words::kinds_agree(code, at + 3, body - 3 * count, count)
 }
 
 // What an argument hands on: its cell, with what it leads to.
@@ -47,7 +47,7 @@ fn handed(
     ensures { λ r. ⌜ r ≡ handedWord (now (area .entry)) (now (firsts .entry)) (now (starts .entry)) (now (targets .entry)) live place ⌝ }
 {
     let cell = named_by(area, firsts, starts, live, first, start, place);
-    stepping::word_of(cell + 8192 * target(targets, cell))
+    run_words::word_of(cell + 8192 * target(targets, cell))
 }
 
 // What the arguments from `place` on hand on goes to the first cells of the next activation.

@@ -1,6 +1,6 @@
 // The fields of a copied text, and the cells of the names in them.
-use new_names::cell_by;
-use new_names::cell_of;
+use copy_names::cell_by;
+use copy_names::cell_of;
 ghost use mathlib.Core.Path.{_≡_};
 ghost use Prim.Native.Nat.{_<_, _^_};
 ghost use lib.ListN.{length, getD};

@@ -15,12 +15,12 @@ use Rattle.runs.specs.Admission.{Admitted, limits-fit, table-right, area-fits, 
 use Rattle.frames.specs.Frame.{frameRun, frameStart, frameRunOf}
 use Rattle.coordinates.specs.Sound.{accepted-keeps-rules}
 use Rattle.resolved.specs.Resolved.{resolvedOf, Covers}
-use Rattle.resolving.specs.Resolving.{Resolved, resolved-covers}
-use Rattle.governed.specs.Governing.{Governs}
-use Rattle.replies.specs.Replies.{steps-fit}
+use Rattle.resolve_script.specs.Resolving.{Resolved, resolved-covers}
+use Rattle.copy_fields.specs.Governing.{Governs}
+use Rattle.call_replies.specs.Replies.{steps-fit}
 use Rattle.run_state.specs.Scenes.{limitsBy}
-use Rattle.copying.specs.Beginning.{Beginning}
-use Rattle.copying.specs.Turning.{Ended}
+use Rattle.copy_run.specs.Beginning.{Beginning}
+use Rattle.copy_run.specs.Turning.{Ended}
 use Rattle.run_state.specs.declared.Halt.{Halt}
 
 module _ (area : List ℕ) (f : Fed) (bytes : Bytes (f .script)) (small : f .name < 65536) (t : Block) (h : Admitted (copying (length area)) f t) (code names : List ℕ)

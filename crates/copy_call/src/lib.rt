@@ -1,13 +1,13 @@
 // The copying engine's call: admission, the resolved script and the words of its names, the run on the lent area, the sheet, the answer.
-use admission::Area;
-use admission::Numbers;
+use call_admission::Area;
+use call_admission::Numbers;
 use language::Verdict;
 ghost use lib.ListN.{length};
 ghost use Rattle.language.specs.Text.{Block};
 ghost use Rattle.language.specs.Call.{copying};
 ghost use Rattle.runs.specs.Admission.{Admitted};
-ghost use Rattle.admission.specs.Lent.{fedOf};
-ghost use Rattle.answers.specs.Replies.{Replies, RepliesLeaving};
+ghost use Rattle.call_admission.specs.Lent.{fedOf};
+ghost use Rattle.call_answers.specs.Replies.{Replies, RepliesLeaving};
 
 // What comes of a call that is admitted.
 fn ran(
@@ -22,13 +22,13 @@ fn ran(
         r (now (sheet .exit)) (now (table .exit)) ⌝ }
 {
     let mut code = [0u32; 4096];
-    resolving::resolve(script, numbers.name as usize, &mut code);
+    resolve_script::resolve(script, numbers.name as usize, &mut code);
     let mut names = [0u32; 4096];
-    governed::govern(script, &code, &mut names);
+    copy_fields::govern(script, &code, &mut names);
     let mut words = [0i32; 8224];
     let mut blocks = [0u16; 256];
     let mut nexts = [0u16; 256];
-    let halt = copying::run_program(
+    let halt = copy_run::run_program(
         script,
         &code,
         &names,
@@ -43,9 +43,9 @@ fn ran(
         numbers.n,
     );
     let live = halt.live;
-    let written = sheets::write_sheet(&code, &words, &blocks, &nexts, live, sheet);
+    let written = run_sheet::write_sheet(&code, &words, &blocks, &nexts, live, sheet);
     let end = halt.end;
-    answers::run_words(
+    call_answers::run_words(
         end,
         halt.steps,
         halt.offset,
@@ -68,9 +68,9 @@ pub fn call(
         r (now (sheet .exit)) (now (table .exit)) (now (area .entry)) (now (area .exit)) ⌝ }
 {
     let held = area.len();
-    match admission::admit(script, numbers, table, sheet, Area::Unused, Area::Of(held)) {
+    match call_admission::admit(script, numbers, table, sheet, Area::Unused, Area::Of(held)) {
         Verdict::Refused(cause, offset) => {
-            answers::refusal_words(cause, offset, numbers.count, numbers.tally)
+            call_answers::refusal_words(cause, offset, numbers.count, numbers.tally)
         }
         Verdict::Fit => ran(script, numbers, table, sheet, area),
     }

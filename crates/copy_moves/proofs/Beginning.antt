@@ -9,8 +9,8 @@ use lib.ListN.{length, getD, set}
 use Rattle.laws.specs.Tests.{never}
 use Rattle.laws.specs.Fields.{fieldAt}
 use Rattle.resolved.specs.Resolved.{levelIn, direct}
-use Rattle.texts.specs.Texts.{renewed, Copied, notedFrom}
-use Rattle.texts.specs.Copying.{Renewable, Copyable}
+use Rattle.copy_texts.specs.Texts.{renewed, Copied, notedFrom}
+use Rattle.copy_texts.specs.Copying.{Renewable, Copyable}
 use Rattle.copy_moves.specs.Begun.{Beginnable, BegunIn}
 
 module _ {script code names area : List ℕ} (w : Beginnable script code names area) (filled : List ℕ) (as-long : length filled ≡ length area) where

@@ -5,7 +5,7 @@ use mathlib.Core.Path.{_≡_, sym, ap, _∙_, subst}
 use borrow.Author.Tests.{eq-eqb, ne-eqb}
 use lib.ListN.{getD}
 use Rattle.arrays.specs.Holds.{designatorOf}
-use Rattle.new_names.specs.Owner.{cellIn}
+use Rattle.copy_names.specs.Owner.{cellIn}
 use Rattle.copy_moves.specs.Looked.{lookedUp, Lookable}
 
 module _ (firsts starts looked : List ℕ) (live : ℕ) where

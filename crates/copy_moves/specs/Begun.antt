@@ -6,9 +6,9 @@ use mathlib.Core.Path.{_≡_}
 use lib.ListN.{length, getD, set}
 use Rattle.laws.specs.Fields.{fieldAt}
 use Rattle.resolved.specs.Resolved.{levelIn, direct}
-use Rattle.texts.specs.Texts.{renewed, Copied, notedFrom}
+use Rattle.copy_texts.specs.Texts.{renewed, Copied, notedFrom}
 use Rattle.run_state.specs.declared.Registers.{Registers}
-use Rattle.copy_entering.specs.Anew.{namesAt, endAt}
+use Rattle.copy_entry.specs.Anew.{namesAt, endAt}
 
 pub record Beginnable (script code names area : List ℕ) : Type 0 where
   pub short : length script ≤ 8192

@@ -32,12 +32,12 @@ use Rattle.resolved.specs.Resolved.{placeOf, endPlace, levelIn, nameWord, Cover
 use Rattle.resolved.specs.NameWords.{word-none}
 use Rattle.resolved.specs.Lengths.{covers-at}
 use Rattle.resolved.specs.Places.{enclosed-formed}
-use Rattle.governed.specs.Governed.{governedBlock, governedOf}
-use Rattle.governed.specs.Lengths.{block-length}
-use Rattle.governed.specs.Standing.{block-fields-stand, block-governed}
-use Rattle.texts.specs.Texts.{reading, Texts}
-use Rattle.texts.specs.Readings.{Narrow, narrow-of-text, word-says, zip-missing}
-use Rattle.texts.specs.Renewing.{valuesOf, reading-plain, reading-in}
+use Rattle.copy_fields.specs.Governed.{governedBlock, governedOf}
+use Rattle.copy_fields.specs.Lengths.{block-length}
+use Rattle.copy_fields.specs.Standing.{block-fields-stand, block-governed}
+use Rattle.copy_texts.specs.Texts.{reading, Texts}
+use Rattle.copy_texts.specs.Readings.{Narrow, narrow-of-text, word-says, zip-missing}
+use Rattle.copy_texts.specs.Renewing.{valuesOf, reading-plain, reading-in}
 use Rattle.run_state.specs.declared.Registers.{Registers}
 use Rattle.copy_moves.specs.Running.{Running}
 use Rattle.copy_moves.specs.Settled.{own-enclosure, encloses-at}

@@ -18,20 +18,20 @@ use Rattle.frames.specs.Related.{Related, as-deep}
 use Rattle.instances.specs.Invariant.{Invariant}
 use Rattle.coordinates.specs.Chain.{Chained, SameOutlines}
 use Rattle.resolved.specs.Resolved.{Covers}
-use Rattle.governed.specs.Governed.{governedOf}
+use Rattle.copy_fields.specs.Governed.{governedOf}
 use Rattle.steps.specs.Standing.{Standing}
 use Rattle.steps.specs.Means.{Follows}
 use Rattle.steps.specs.Here.{many, downward}
-use Rattle.copy_steps.specs.Moved.{Keeps, EntersAnew}
+use Rattle.copy_machine.specs.Moved.{Keeps, EntersAnew}
 use Rattle.frames.specs.Runs.{CopiesStep, copies-step}
-use Rattle.copy_steps.specs.Together.{copies-kept, copies-entered}
-use Rattle.new_names.specs.Owner.{NewNames}
-use Rattle.new_names.specs.Finding.{new-names-kept}
-use Rattle.texts.specs.Texts.{Texts, Looks}
-use Rattle.texts.specs.Stacks.{SameActivations}
-use Rattle.texts.specs.Entering.{texts-kept}
-use Rattle.texts.specs.Aiming.{aims-kept}
-use Rattle.texts.specs.Looking.{looks-kept}
+use Rattle.copy_machine.specs.Together.{copies-kept, copies-entered}
+use Rattle.copy_names.specs.Owner.{NewNames}
+use Rattle.copy_names.specs.Finding.{new-names-kept}
+use Rattle.copy_texts.specs.Texts.{Texts, Looks}
+use Rattle.copy_texts.specs.Stacks.{SameActivations}
+use Rattle.copy_texts.specs.Entering.{texts-kept}
+use Rattle.copy_texts.specs.Aiming.{aims-kept}
+use Rattle.copy_texts.specs.Looking.{looks-kept}
 use Rattle.run_state.specs.declared.Registers.{Registers}
 use Rattle.run_state.specs.Scenes.{limitsBy, goesTo}
 use Rattle.copy_moves.specs.Running.{Running, Succeeds}

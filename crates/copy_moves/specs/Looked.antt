@@ -6,7 +6,7 @@ use mathlib.Core.Path.{_≡_}
 use lib.Dec.{eqb}
 use lib.ListN.{getD}
 use Rattle.arrays.specs.Holds.{designatorOf}
-use Rattle.new_names.specs.Owner.{cellIn, Sorted}
+use Rattle.copy_names.specs.Owner.{cellIn, Sorted}
 
 unfoldable pub lookedUp : List ℕ → List ℕ → List ℕ → ℕ → ℕ
 lookedUp firsts starts looked live =

@@ -24,11 +24,11 @@ use Rattle.coordinates.specs.Search.{coordinate-here}
 use Rattle.coordinates.specs.Declared.{level-here}
 use Rattle.coordinates.specs.Levels.{formed-names}
 use Rattle.resolved.specs.Resolved.{visibleWords, nameWord}
-use Rattle.governed.specs.Governed.{governedAction, governedFormals, governedBlock, governedDecl, governedStmt, governedDecls, governedStmts}
-use Rattle.governed.specs.Lengths as governed
-use Rattle.texts.specs.Texts.{reading}
-use Rattle.texts.specs.Readings.{Narrow, word-says, zip-missing}
-use Rattle.texts.specs.Renewing.{reading-plain, reading-above}
+use Rattle.copy_fields.specs.Governed.{governedAction, governedFormals, governedBlock, governedDecl, governedStmt, governedDecls, governedStmts}
+use Rattle.copy_fields.specs.Lengths as governed
+use Rattle.copy_texts.specs.Texts.{reading}
+use Rattle.copy_texts.specs.Readings.{Narrow, word-says, zip-missing}
+use Rattle.copy_texts.specs.Renewing.{reading-plain, reading-above}
 
 -- fields, each read by the word beside it
 abbrev pub readings : List Replacement → List ℕ → List ℕ → List ℕ

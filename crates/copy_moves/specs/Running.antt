@@ -13,9 +13,9 @@ use Rattle.frames.specs.Related.{Related}
 use Rattle.resolved.specs.Resolved.{Covers}
 use Rattle.steps.specs.Standing.{Standing}
 use Rattle.steps.specs.Means.{Follows}
-use Rattle.governed.specs.Governed.{governedOf}
-use Rattle.new_names.specs.Owner.{NewNames}
-use Rattle.texts.specs.Texts.{Texts, Aims, Looks}
+use Rattle.copy_fields.specs.Governed.{governedOf}
+use Rattle.copy_names.specs.Owner.{NewNames}
+use Rattle.copy_texts.specs.Texts.{Texts, Aims, Looks}
 use Rattle.run_state.specs.declared.Registers.{Registers}
 use Rattle.run_state.specs.Scenes.{limitsBy, goesTo}
 

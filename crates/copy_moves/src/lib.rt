@@ -1,14 +1,14 @@
 // The start, leaving and jumping, of the copying engine.
-use new_names::cell_of;
+use copy_names::cell_of;
+use copy_texts::copy_text;
+use copy_texts::fill;
+use copy_texts::renew;
+use run_sheet::designator_of;
 use run_state::Registers;
 use run_state::narrow;
 use run_state::wide;
 use run_state::wide_u32;
-use sheets::designator_of;
-use stepping::code_at;
-use texts::copy_text;
-use texts::fill;
-use texts::renew;
+use run_words::code_at;
 ghost use mathlib.Core.Path.{_≡_};
 ghost use Prim.Native.Nat.{_+_, _-_, _%_, _<_, _≤_};
 ghost use lib.ListN.{getD, set};

@@ -10,13 +10,13 @@ use lib.IntN.{ℤ, pos}
 use lib.ListN.{getD, set}
 use Rattle.language.specs.Basics.{eqZ}
 use Rattle.language.specs.Encoding.{signed, BK-mark, CL-mark, GO-mark, IF-mark, KN-mark, AR-mark, AD-mark, RM-mark}
-use Rattle.acting.specs.declared.Move.{Move}
-use Rattle.acting.specs.declared.Ask.the-variants.{Add, Remove, Query}
-use Rattle.acting.specs.declared.Move.the-variants.{On, Table as Asks}
-use Rattle.acting.specs.Effects.{effectOf, wordsOf}
-use Rattle.acting.specs.Acting.{Scene, moves, rewrites}
-use Rattle.statements.specs.Pieces.{moveAfter, blockMove}
-use Rattle.statements.specs.Scenes.{Done}
+use Rattle.run_moves.specs.declared.Move.{Move}
+use Rattle.run_moves.specs.declared.Ask.the-variants.{Add, Remove, Query}
+use Rattle.run_moves.specs.declared.Move.the-variants.{On, Table as Asks}
+use Rattle.run_moves.specs.Effects.{effectOf, wordsOf}
+use Rattle.run_moves.specs.Acting.{Scene, moves, rewrites}
+use Rattle.run_statements.specs.Pieces.{moveAfter, blockMove}
+use Rattle.run_statements.specs.Scenes.{Done}
 use Rattle.copy_statements.specs.Doing.{Copy, text, cell, valueAt}
 use Rattle.copy_statements.specs.Doing.{Mark, arithmetic, branch, constant, call, goto, block, pair, unpair, query, markOf, happens, doing}
 use Rattle.copy_statements.specs.Doing.{doConstant, doArithmetic, doGoto, doBranch, doBlock, argumentsFrom, differs, doCall}

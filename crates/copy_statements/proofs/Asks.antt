@@ -3,7 +3,7 @@ use Prim.Native.Nat.{ℕ, _+_, _≤_, _<_}
 use native.Mathlib.Omega.{arith}
 use mathlib.Core.Path.{_≡_, subst}
 use lib.ListN.{length}
-use Rattle.acting.specs.Acting.{Scene}
+use Rattle.run_moves.specs.Acting.{Scene}
 use Rattle.copy_statements.specs.Doing.{Copy, text, Mark, arithmetic, branch, constant, call, goto, block, pair, unpair, query, markOf}
 use Rattle.copy_statements.specs.Ready.{Fields, Named, Called, By, Ready}
 use Rattle.copy_arms.specs.Parts.{NameAt, CallAt}

@@ -11,14 +11,14 @@ use Rattle.language.specs.Basics.{eqZ}
 use Rattle.language.specs.Encoding.{signed, BK-mark, CL-mark, GO-mark, IF-mark, KN-mark, AR-mark, AD-mark, RM-mark, QY-mark}
 use Rattle.language.specs.Machine.{compute}
 use Rattle.language.specs.declared.Stop.the-variants.{NoActivationLeft, ArgumentsDiffer}
-use Rattle.acting.specs.declared.Ask.{Ask}
-use Rattle.acting.specs.declared.Ask.the-variants.{Add, Remove, Query}
-use Rattle.acting.specs.declared.Move.{Move}
-use Rattle.acting.specs.declared.Move.the-variants.{On, Table as Asks, Jump, Enter, Stop}
-use Rattle.acting.specs.Effects.{effectOf, wordsOf, sameKinds}
-use Rattle.acting.specs.Acting.{Scene, Happened, moves, rewrites, operationOf, setAll}
-use Rattle.statements.specs.Pieces.{moveAfter, blockMove}
-use Rattle.new_names.specs.Owner.{cellIn}
+use Rattle.run_moves.specs.declared.Ask.{Ask}
+use Rattle.run_moves.specs.declared.Ask.the-variants.{Add, Remove, Query}
+use Rattle.run_moves.specs.declared.Move.{Move}
+use Rattle.run_moves.specs.declared.Move.the-variants.{On, Table as Asks, Jump, Enter, Stop}
+use Rattle.run_moves.specs.Effects.{effectOf, wordsOf, sameKinds}
+use Rattle.run_moves.specs.Acting.{Scene, Happened, moves, rewrites, operationOf, setAll}
+use Rattle.run_statements.specs.Pieces.{moveAfter, blockMove}
+use Rattle.copy_names.specs.Owner.{cellIn}
 
 -- what a statement is read from
 pub record Copy : Type 0 where

@@ -2,10 +2,10 @@
 use mathlib.Core.List.{List}
 use mathlib.Core.Path.{_≡_, ap, _∙_}
 use lib.IntN.{ℤ}
-use Rattle.acting.specs.declared.Move.{Move}
-use Rattle.acting.specs.declared.Move.the-variants.{On, Table as Asks, Jump, Enter, Stop}
-use Rattle.acting.specs.Acting.{Happened}
-use Rattle.statements.specs.Scenes.{Done}
+use Rattle.run_moves.specs.declared.Move.{Move}
+use Rattle.run_moves.specs.declared.Move.the-variants.{On, Table as Asks, Jump, Enter, Stop}
+use Rattle.run_moves.specs.Acting.{Happened}
+use Rattle.run_statements.specs.Scenes.{Done}
 use Rattle.copy_statements.specs.declared.moved.Moved.{Moved}
 use Rattle.copy_statements.specs.declared.moved.Moved.the-variants.{Went, Jump as JumpTo, Enter as EnterBy, Stop as StopFor, Table as AskBy}
 

@@ -4,9 +4,9 @@ use mathlib.Core.Bool.{true}
 use mathlib.Core.Path.{_≡_}
 use lib.Dec.{eqb}
 use lib.ListN.{length, getD}
-use Rattle.acting.specs.Acting.{Scene}
-use Rattle.statements.specs.Pieces.{FormalsBefore}
-use Rattle.new_names.specs.Owner.{Sorted}
+use Rattle.run_moves.specs.Acting.{Scene}
+use Rattle.run_statements.specs.Pieces.{FormalsBefore}
+use Rattle.copy_names.specs.Owner.{Sorted}
 use Rattle.copy_statements.specs.Doing.{Copy, text, cell, target, Mark, arithmetic, branch, constant, call, goto, block, pair, unpair, query, markOf}
 
 module _ (c : Copy) (s : Scene) where

@@ -1,8 +1,8 @@
 // AD, RM and QY, each with its mark at `place` of the area and its operation at `at` of the resolved script. AD and RM have a function each, called
 // once: one that is called twice is not compiled in, and the counting loop took a fifth more instructions.
-use acting::Ask;
-use acting::Move;
 use copy_arms::named;
+use run_moves::Ask;
+use run_moves::Move;
 ghost use mathlib.Core.Path.{_≡_};
 ghost use Prim.Native.Nat.{_+_, _≤_};
 ghost use Rattle.copy_arms.specs.Parts.{cellAt, NameAt};

@@ -1,7 +1,7 @@
 // What a statement has come to, as the run goes on by it.
-use acting::Ask;
-use acting::Move;
 use language::Stop;
+use run_moves::Ask;
+use run_moves::Move;
 ghost use mathlib.Core.Path.{_≡_};
 ghost use Rattle.copy_statements.specs.Moved.{movedBy};
 

@@ -12,9 +12,9 @@ use Rattle.runs.specs.Admission.{Admitted, limits-fit, table-right, activations
 use Rattle.frames.specs.Frame.{frameRunOf}
 use Rattle.coordinates.specs.Sound.{accepted-keeps-rules}
 use Rattle.resolved.specs.Resolved.{resolvedOf, Covers}
-use Rattle.resolving.specs.Resolving.{Resolved, resolved-covers}
-use Rattle.display.specs.Turning.{Beginning, Ended}
-use Rattle.display.specs.Ending.{resultFrom}
+use Rattle.resolve_script.specs.Resolving.{Resolved, resolved-covers}
+use Rattle.display_run.specs.Turning.{Beginning, Ended}
+use Rattle.display_run.specs.Ending.{resultFrom}
 use Rattle.run_state.specs.declared.Halt.{Halt}
 
 module _ (f : Fed) (bytes : Bytes (f .script)) (t : Block) (h : Admitted display f t) (code : List ℕ) (resolved : Resolved (f .script) (f .name) code) where

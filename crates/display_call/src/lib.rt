@@ -1,12 +1,12 @@
 // The display engine's call: admission, the resolved script, the run, the sheet, the answer.
-use admission::Area;
-use admission::Numbers;
+use call_admission::Area;
+use call_admission::Numbers;
 use language::Verdict;
 ghost use Rattle.language.specs.Text.{Block};
 ghost use Rattle.language.specs.Call.{display};
 ghost use Rattle.runs.specs.Admission.{Admitted};
-ghost use Rattle.admission.specs.Lent.{fedOf};
-ghost use Rattle.answers.specs.Replies.{Replies};
+ghost use Rattle.call_admission.specs.Lent.{fedOf};
+ghost use Rattle.call_answers.specs.Replies.{Replies};
 
 // What comes of a call that is admitted.
 fn ran(script: &[u8], numbers: Numbers, table: &mut [i32], sheet: &mut [i32]) -> [u64; 9]
@@ -14,12 +14,12 @@ fn ran(script: &[u8], numbers: Numbers, table: &mut [i32], sheet: &mut [i32]) ->
     ensures { λ r. ⌜ Replies display (fedOf numbers (now (script .entry)) (now (table .entry)) (now (sheet .entry))) r (now (sheet .exit)) (now (table .exit)) ⌝ }
 {
     let mut code = [0u32; 4096];
-    resolving::resolve(script, numbers.name as usize, &mut code);
+    resolve_script::resolve(script, numbers.name as usize, &mut code);
     let mut words = [0i32; 8224];
     let mut blocks = [0u16; 256];
     let mut nexts = [0u16; 256];
     let mut links = [0u16; 256];
-    let halt = display::run_program(
+    let halt = display_run::run_program(
         &code,
         &mut words,
         &mut blocks,
@@ -32,9 +32,9 @@ fn ran(script: &[u8], numbers: Numbers, table: &mut [i32], sheet: &mut [i32]) ->
         numbers.n,
     );
     let live = halt.live;
-    let written = sheets::write_sheet(&code, &words, &blocks, &nexts, live, sheet);
+    let written = run_sheet::write_sheet(&code, &words, &blocks, &nexts, live, sheet);
     let end = halt.end;
-    answers::run_words(
+    call_answers::run_words(
         end,
         halt.steps,
         halt.offset,
@@ -49,9 +49,9 @@ fn ran(script: &[u8], numbers: Numbers, table: &mut [i32], sheet: &mut [i32]) ->
 pub fn call(script: &[u8], numbers: Numbers, table: &mut [i32], sheet: &mut [i32]) -> [u64; 9]
     ensures { λ r. ⌜ Replies display (fedOf numbers (now (script .entry)) (now (table .entry)) (now (sheet .entry))) r (now (sheet .exit)) (now (table .exit)) ⌝ }
 {
-    match admission::admit(script, numbers, table, sheet, Area::Unused, Area::Unused) {
+    match call_admission::admit(script, numbers, table, sheet, Area::Unused, Area::Unused) {
         Verdict::Refused(cause, offset) => {
-            answers::refusal_words(cause, offset, numbers.count, numbers.tally)
+            call_answers::refusal_words(cause, offset, numbers.count, numbers.tally)
         }
         Verdict::Fit => ran(script, numbers, table, sheet),
     }

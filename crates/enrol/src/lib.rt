@@ -1,12 +1,12 @@
 // What the server's C programs call. Each function is total: it requires nothing, and its contract fixes every word that it writes.
-use activations::Activation;
-use admission::Numbers;
+use call_admission::Numbers;
+use chain_records::Activation;
 ghost use mathlib.Core.Path.{_≡_};
 ghost use Rattle.language.specs.Check.{check};
 ghost use lib.ListN.{length};
 ghost use Rattle.language.specs.Call.{copying, display, chain};
-ghost use Rattle.admission.specs.Lent.{fedOf};
-ghost use Rattle.answers.specs.Replies.{Replies, RepliesLeaving};
+ghost use Rattle.call_admission.specs.Lent.{fedOf};
+ghost use Rattle.call_answers.specs.Replies.{Replies, RepliesLeaving};
 ghost use Rattle.check_call.specs.Answers.{checkWords};
 
 // The refusal's number, 0 where the script is accepted, and its offset.

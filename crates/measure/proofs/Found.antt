@@ -9,9 +9,9 @@ use mir.Val.{SFits, toZ, ofZ}
 use mir.Syntax.{w32}
 use mir.Facts.{toZ-ofZ}
 use Rattle.language.specs.Table.{find}
-use Rattle.searching.specs.Places.{placed}
-use Rattle.searching.specs.declared.PairPlace.{PairPlace}
-use Rattle.searching.specs.declared.PairPlace.the-variants.{At, Absent}
+use Rattle.table_search.specs.Places.{placed}
+use Rattle.table_search.specs.declared.PairPlace.{PairPlace}
+use Rattle.table_search.specs.declared.PairPlace.the-variants.{At, Absent}
 use Rattle.measure.specs.Found.{placeOr}
 
 placed-at : (other : ℕ) (r : Option ℕ) (i : ℕ) → placed r ≡ At i → i ≡ placeOr other r

@@ -1,11 +1,11 @@
 // The table test and the search of a pair, exported for the benchmark and its tests alone.
 ghost use mathlib.Core.Path.{_≡_};
 ghost use Rattle.language.specs.Table.{find, right};
-ghost use Rattle.pairs.specs.Outcomes.{tableOf};
+ghost use Rattle.table_pairs.specs.Outcomes.{tableOf};
 ghost use Rattle.measure.specs.Found.{placeOr};
-use members::table_right;
-use searching::PairPlace;
-use searching::place_of;
+use table_search::PairPlace;
+use table_search::place_of;
+use table_test::table_right;
 
 // Whether the table is right for a group limit.
 #[no_mangle]

@@ -12,7 +12,7 @@ use Rattle.language.specs.Machine.{Limits}
 use Rattle.frames.specs.Frame.{frameStmt}
 use Rattle.coordinates.specs.Chain.{enclosureOf}
 use Rattle.resolved.specs.Resolved.{resolvedAction, resolvedStmt}
-use Rattle.acting.specs.Acting.{Finding, operationOf, doArithmetic, Op, constant-op, add-op, subtract-op, compare-op, branch-op, goto-op, block-op, call-op, pair-op, unpair-op, query-op, constant-formal-op, arithmetic-formal-op, branch-formal-op, goto-formal-op, call-formal-op, opOf, happens, acting}
+use Rattle.run_moves.specs.Acting.{Finding, operationOf, doArithmetic, Op, constant-op, add-op, subtract-op, compare-op, branch-op, goto-op, block-op, call-op, pair-op, unpair-op, query-op, constant-formal-op, arithmetic-formal-op, branch-formal-op, goto-formal-op, call-formal-op, opOf, happens, acting}
 use Rattle.steps.specs.Standing.{Standing, Finds}
 use Rattle.steps.specs.Means.{Means}
 use Rattle.steps.specs.Here.{next-stmt, covered}

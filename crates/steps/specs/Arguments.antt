@@ -37,8 +37,8 @@ use Rattle.resolved.specs.NameWords.{name-is}
 use Rattle.arrays.specs.Holds.{Holds}
 use Rattle.arrays.specs.Names.{named-by-links}
 use Rattle.arrays.specs.Found.{direct-is}
-use Rattle.acting.specs.Effects.{sameKinds}
-use Rattle.acting.specs.Acting.{Finding, Scene, setAll, argumentsFrom}
+use Rattle.run_moves.specs.Effects.{sameKinds}
+use Rattle.run_moves.specs.Acting.{Finding, Scene, setAll, argumentsFrom}
 
 -- Words written
 

@@ -40,9 +40,9 @@ use Rattle.resolved.specs.Standing.{head-stands, formals-covered, formals-befor
 use Rattle.resolved.specs.Places.{block-fields, end-bound}
 use Rattle.arrays.specs.Holds.{formalWord}
 use Rattle.arrays.specs.Cells as cells
-use Rattle.acting.specs.declared.Move.the-variants.{Enter, Stop}
-use Rattle.acting.specs.Effects.{sameKinds}
-use Rattle.acting.specs.Acting.{Finding, Scene, field, moves, rewrites, setAll, noRoom, argumentsFrom, doCall, argumentsAgree, doCallFormal}
+use Rattle.run_moves.specs.declared.Move.the-variants.{Enter, Stop}
+use Rattle.run_moves.specs.Effects.{sameKinds}
+use Rattle.run_moves.specs.Acting.{Finding, Scene, field, moves, rewrites, setAll, noRoom, argumentsFrom, doCall, argumentsAgree, doCallFormal}
 use Rattle.steps.specs.Standing.{Standing, Finds}
 use Rattle.steps.specs.Means.{EntersAt, Means}
 use Rattle.steps.specs.Here.{many, numbered-here, live-few, last-is, downward, covered, goes-on-at}

@@ -27,7 +27,7 @@ use Rattle.resolved.specs.Words.{head-level, head-formals, head-names, bounds-e
 use Rattle.arrays.specs.Holds.{Holds, Shows}
 use Rattle.arrays.specs.Running.{holds-pushed}
 use Rattle.arrays.specs.Displays.{ShowsFrom, shows-pushed}
-use Rattle.acting.specs.Effects.{Cleared}
+use Rattle.run_moves.specs.Effects.{Cleared}
 use Rattle.steps.specs.Standing.{Standing}
 use Rattle.steps.specs.Means.{Follows, EntersAt}
 use Rattle.steps.specs.Here.{many, last-is, live-few, downward}

@@ -23,8 +23,8 @@ use Rattle.coordinates.specs.Chain.{enclosureOf}
 use Rattle.coordinates.specs.Next.{next-block}
 use Rattle.resolved.specs.Resolved.{endPlace, stmtPlace, boundsWord, header, resolvedStmt, Covers}
 use Rattle.resolved.specs.Words.{bounds-end}
-use Rattle.acting.specs.declared.Move.the-variants.{Enter, Stop}
-use Rattle.acting.specs.Acting.{Finding, Scene, field, moves, noRoom, doBlock}
+use Rattle.run_moves.specs.declared.Move.the-variants.{Enter, Stop}
+use Rattle.run_moves.specs.Acting.{Finding, Scene, field, moves, noRoom, doBlock}
 use Rattle.steps.specs.Standing.{Standing}
 use Rattle.steps.specs.Means.{EntersAt, Means}
 use Rattle.steps.specs.Here.{many, last-is, stands-at, covered, goes-on-at}

@@ -20,7 +20,7 @@ use Rattle.coordinates.specs.Visible.{actionNames}
 use Rattle.coordinates.specs.Next.{Resolved, NextAction, next-action}
 use Rattle.resolved.specs.Resolved.{direct, nameWord, resolvedAction, resolvedStmt}
 use Rattle.resolved.specs.Places.{block-fields}
-use Rattle.acting.specs.Acting.{Finding, Op, constant-op, add-op, subtract-op, compare-op, branch-op, goto-op, block-op, call-op, pair-op, unpair-op, query-op, constant-formal-op, arithmetic-formal-op, branch-formal-op, goto-formal-op, call-formal-op, opOf}
+use Rattle.run_moves.specs.Acting.{Finding, Op, constant-op, add-op, subtract-op, compare-op, branch-op, goto-op, block-op, call-op, pair-op, unpair-op, query-op, constant-formal-op, arithmetic-formal-op, branch-formal-op, goto-formal-op, call-formal-op, opOf}
 use Rattle.steps.specs.Standing.{Standing, Finds}
 use Rattle.steps.specs.Here.{last-is, next-stmt, covered}
 use Rattle.steps.specs.Ops.{AllDirect, OpIs, op-is}

@@ -21,7 +21,7 @@ use Rattle.arrays.specs.Holds.{designatorOf, Shows}
 use Rattle.arrays.specs.Cells.{Celled, cell-bound, designator-of-cell}
 use Rattle.arrays.specs.Names.{NameAt, follow, unseen, seen, named-by-display, named-by-links}
 use Rattle.arrays.specs.Found as found
-use Rattle.acting.specs.Acting.{Finding}
+use Rattle.run_moves.specs.Acting.{Finding}
 use Rattle.steps.specs.Standing.{Standing, Finds}
 use Rattle.steps.specs.Here.{many}
 

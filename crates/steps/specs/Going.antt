@@ -33,7 +33,7 @@ use Rattle.arrays.specs.Holds.{cellOf, targetOf, Holds}
 use Rattle.arrays.specs.Cells.{points-celled, name-points, cell-bound}
 use Rattle.arrays.specs.Storing.{word-held, holds-stored}
 use Rattle.arrays.specs.Running.{holds-on}
-use Rattle.acting.specs.Acting.{Finding, Scene}
+use Rattle.run_moves.specs.Acting.{Finding, Scene}
 use Rattle.steps.specs.Standing.{Standing, Finds}
 use Rattle.steps.specs.Means.{GoesOn}
 use Rattle.steps.specs.Here.{many, last-is, here, live-few, downward, goes-on-at}

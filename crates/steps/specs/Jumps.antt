@@ -26,8 +26,8 @@ use Rattle.coordinates.specs.Next.{next-action}
 use Rattle.resolved.specs.Resolved.{stmtPlace, declTarget, resolvedAction, resolvedStmt}
 use Rattle.arrays.specs.Holds.{targetOf}
 use Rattle.arrays.specs.Cells as cells
-use Rattle.acting.specs.declared.Move.the-variants.{On, Jump}
-use Rattle.acting.specs.Acting.{Finding, Scene, valueOf, field, moves, doGoto, doBranch}
+use Rattle.run_moves.specs.declared.Move.the-variants.{On, Jump}
+use Rattle.run_moves.specs.Acting.{Finding, Scene, valueOf, field, moves, doGoto, doBranch}
 use Rattle.steps.specs.Standing.{Standing, Finds}
 use Rattle.steps.specs.Means.{JumpsTo, Means}
 use Rattle.steps.specs.Here.{many, last-is, covered}

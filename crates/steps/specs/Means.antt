@@ -15,9 +15,9 @@ use Rattle.coordinates.specs.Chain.{enclosureOf, displayOf}
 use Rattle.coordinates.specs.Designated.{Designated}
 use Rattle.resolved.specs.Resolved.{placeOf, stmtPlace}
 use Rattle.arrays.specs.Holds.{formalWord}
-use Rattle.acting.specs.declared.Move.{Move}
-use Rattle.acting.specs.declared.Move.the-variants.{On, Table as Asks, Jump, Enter, Stop}
-use Rattle.acting.specs.Acting.{Happened, Answer, answer}
+use Rattle.run_moves.specs.declared.Move.{Move}
+use Rattle.run_moves.specs.declared.Move.the-variants.{On, Table as Asks, Jump, Enter, Stop}
+use Rattle.run_moves.specs.Acting.{Happened, Answer, answer}
 use Rattle.steps.specs.Standing.{Standing}
 
 module _ {code : List ℕ} {l : Limits} {words : List ℤ} {blocks nexts links : List ℕ} {table : List ℤ} {pairs live at end : ℕ} (w : Standing code l words blocks nexts links table pairs live at end) where

@@ -11,7 +11,7 @@ use Rattle.language.specs.Text.{Operation, plus, minus, less, Action, CL, GO, I
 use Rattle.language.specs.Encoding.{operationField}
 use Rattle.coordinates.specs.Enclosure.{Enclosing, enclosed, Enclosure}
 use Rattle.resolved.specs.Resolved.{nameWord, direct, chosen, headWord, header, resolvedAction, resolvedStmt, Covers}
-use Rattle.acting.specs.Acting.{Op, constant-op, add-op, subtract-op, compare-op, branch-op, goto-op, block-op, call-op, pair-op, unpair-op, query-op, constant-formal-op, arithmetic-formal-op, branch-formal-op, goto-formal-op, call-formal-op, operations, opOf}
+use Rattle.run_moves.specs.Acting.{Op, constant-op, add-op, subtract-op, compare-op, branch-op, goto-op, block-op, call-op, pair-op, unpair-op, query-op, constant-formal-op, arithmetic-formal-op, branch-formal-op, goto-formal-op, call-formal-op, operations, opOf}
 
 module _ (es : Enclosure) where
   -- no name of the three is a formal

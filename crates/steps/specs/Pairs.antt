@@ -17,8 +17,8 @@ use Rattle.coordinates.specs.Visible.{actionNames}
 use Rattle.coordinates.specs.Next.{next-action}
 use Rattle.resolved.specs.Resolved.{resolvedAction, resolvedStmt}
 use Rattle.arrays.specs.Holds.{cellOf}
-use Rattle.acting.specs.declared.Ask.the-variants.{Add, Remove}
-use Rattle.acting.specs.Acting.{Finding, field, valueOf, moves, doChange, doQuery, stored, answer}
+use Rattle.run_moves.specs.declared.Ask.the-variants.{Add, Remove}
+use Rattle.run_moves.specs.Acting.{Finding, field, valueOf, moves, doChange, doQuery, stored, answer}
 use Rattle.steps.specs.Standing.{Standing, Finds}
 use Rattle.steps.specs.Means.{GoesOn, EffectMeans, AnswerMeans, Means}
 use Rattle.steps.specs.Here.{last-is, covered}

@@ -14,7 +14,7 @@ use Rattle.coordinates.specs.Sound.{Sound}
 use Rattle.coordinates.specs.Next.{Resolved}
 use Rattle.resolved.specs.Resolved.{endPlace, nameWord, resolvedOf, Covers}
 use Rattle.arrays.specs.Holds.{cellOf, targetOf, formalWord, Holds}
-use Rattle.acting.specs.Acting.{Finding}
+use Rattle.run_moves.specs.Acting.{Finding}
 
 pub record Standing (code : List ℕ) (l : Limits) (words : List ℤ) (blocks nexts links : List ℕ) (table : List ℤ) (pairs live at end : ℕ) : Type 0 where
   pub name : ℕ

@@ -22,10 +22,10 @@ use Rattle.frame_laws.specs.Continuing.{step-acts}
 use Rattle.coordinates.specs.Visible.{actionNames}
 use Rattle.coordinates.specs.Next.{next-action}
 use Rattle.resolved.specs.Resolved.{resolvedAction, resolvedStmt}
-use Rattle.acting.specs.declared.Effect.the-variants.{Done, Stopped}
-use Rattle.acting.specs.declared.Move.the-variants.{On, Stop}
-use Rattle.acting.specs.Effects.{effectOf, wordsOf}
-use Rattle.acting.specs.Acting.{Finding, Scene, rewrites, operationOf, valueOf, field, doConstant, arithmeticMove, doArithmetic}
+use Rattle.run_moves.specs.declared.Effect.the-variants.{Done, Stopped}
+use Rattle.run_moves.specs.declared.Move.the-variants.{On, Stop}
+use Rattle.run_moves.specs.Effects.{effectOf, wordsOf}
+use Rattle.run_moves.specs.Acting.{Finding, Scene, rewrites, operationOf, valueOf, field, doConstant, arithmeticMove, doArithmetic}
 use Rattle.steps.specs.Standing.{Standing, Finds}
 use Rattle.steps.specs.Means.{GoesOn, Means}
 use Rattle.steps.specs.Here.{last-is, covered}

@@ -32,32 +32,32 @@ use denote.Triple.Statement.{Contract, Triple}
 use denote.Triple.Table.{entered, cited}
 use denote.Triple.Walked.{Stays, stay-none-slice, stay-none, gave-ref, gave-slice, walkOf, Walks, ends-at, walked, goes-none-slice, goes-none, goes-gave-ref, goes-gave-slice, walk-meets}
 use denote.Exit.{yes}
-use Rattle.lending.specs.Data.{Good, typed, usizes, bools, units}
-use Rattle.lending.specs.Loans.{Loan, loanSlice, loanRef, shrSlice, mutRef, mutSlice, gives}
-use Rattle.lending.specs.Params.{Par, dat, brw, denots, valss, vals, lfts, shares, ins, outs}
-use Rattle.lending.specs.Functions.{arrives, leaves-with}
-use Rattle.lending.specs.Calls.{to, calls-by}
-use Rattle.lending.specs.Clauses.{asks-all}
-use Rattle.lending.specs.Frames.{begins}
-use Rattle.lending.specs.Locals.{var, part, lent, lent-ptr, lent-slice, puts, lands-in, ends, if-then}
-use Rattle.lending.specs.Early.{ends-early, told, untold}
-use Rattle.lending.specs.Lends.{relent, shares-slice, unshares-slice}
-use Rattle.activations.proofs.Elem.{recs}
+use Rattle.walks.specs.Data.{Good, typed, usizes, bools, units}
+use Rattle.walks.specs.Loans.{Loan, loanSlice, loanRef, shrSlice, mutRef, mutSlice, gives}
+use Rattle.walks.specs.Params.{Par, dat, brw, denots, valss, vals, lfts, shares, ins, outs}
+use Rattle.walks.specs.Functions.{arrives, leaves-with}
+use Rattle.walks.specs.Calls.{to, calls-by}
+use Rattle.walks.specs.Clauses.{asks-all}
+use Rattle.walks.specs.Frames.{begins}
+use Rattle.walks.specs.Locals.{var, part, lent, lent-ptr, lent-slice, puts, lands-in, ends, if-then}
+use Rattle.walks.specs.Early.{ends-early, told, untold}
+use Rattle.walks.specs.Lends.{relent, shares-slice, unshares-slice}
+use Rattle.chain_records.proofs.Elem.{recs}
 use Rattle.chain_call.proofs.Rows.{numberss, verdicts}
-use Rattle.admission.proofs.Numbers as Numbers#
-use Rattle.admission.proofs.Numbers.Laws as Numbers′
+use Rattle.call_admission.proofs.Numbers as Numbers#
+use Rattle.call_admission.proofs.Numbers.Laws as Numbers′
 use Rattle.chain_call.proofs.judged as judged
 use Rattle.chain_call.proofs.judged.Symbol as judged-def
 use Rattle.chain_call.proofs.judged.Symbol.{name as #judged}
 use Rattle.chain_call.proofs.judged.Met as judged-thm
-use Rattle.answers.proofs.refuses as refuses
-use Rattle.answers.proofs.refuses.Symbol as refuses-def
-use Rattle.answers.proofs.refuses.Symbol.{name as #refuses}
-use Rattle.answers.proofs.refuses.Met as refuses-thm
-use Rattle.answers.proofs.refused as refused
-use Rattle.answers.proofs.refused.Symbol as refused-def
-use Rattle.answers.proofs.refused.Symbol.{name as #refused}
-use Rattle.answers.proofs.refused.Met as refused-thm
+use Rattle.call_answers.proofs.refuses as refuses
+use Rattle.call_answers.proofs.refuses.Symbol as refuses-def
+use Rattle.call_answers.proofs.refuses.Symbol.{name as #refuses}
+use Rattle.call_answers.proofs.refuses.Met as refuses-thm
+use Rattle.call_answers.proofs.refused as refused
+use Rattle.call_answers.proofs.refused.Symbol as refused-def
+use Rattle.call_answers.proofs.refused.Symbol.{name as #refused}
+use Rattle.call_answers.proofs.refused.Met as refused-thm
 use Rattle.chain_call.proofs.ran as ran
 use Rattle.chain_call.proofs.ran.Symbol as ran-def
 use Rattle.chain_call.proofs.ran.Symbol.{name as #ran}
@@ -212,6 +212,6 @@ call-spec 𝓤 H 𝓜 𝓖 𝓡 =
     (tables 𝓤 H 𝓜 𝓡 mine.env .C) (tables 𝓤 H 𝓜 𝓡 mine.env .Λ) #me mine.function (mine.unfolded 𝓤 H 𝓜 𝓡)
     (meets 𝓤 H (𝓖 .A) (givenOf 𝓤 H 𝓜 𝓖) (𝓜 .mem) (𝓡 .run) (tablesOf 𝓤 H 𝓜 (tables 𝓤 H 𝓜 𝓡 mine.env))
     (cited 𝓤 H (Calls-judged 𝓤 H (𝓖 .A) (𝓜 .mem) (𝓡 .run)) 𝓜 𝓡 mine.env #judged judged-def.routine mine.calls-chain-call·judged (judged-thm.met 𝓤 H 𝓜 𝓖 𝓡))
-    (cited 𝓤 H (Calls-refuses 𝓤 H (𝓖 .A) (𝓜 .mem) (𝓡 .run)) 𝓜 𝓡 mine.env #refuses refuses-def.routine mine.calls-answers·refuses (refuses-thm.met 𝓤 H 𝓜 𝓖 𝓡))
-    (cited 𝓤 H (Calls-refused 𝓤 H (𝓖 .A) (𝓜 .mem) (𝓡 .run)) 𝓜 𝓡 mine.env #refused refused-def.routine mine.calls-answers·refused (refused-thm.met 𝓤 H 𝓜 𝓖 𝓡))
+    (cited 𝓤 H (Calls-refuses 𝓤 H (𝓖 .A) (𝓜 .mem) (𝓡 .run)) 𝓜 𝓡 mine.env #refuses refuses-def.routine mine.calls-call-answers·refuses (refuses-thm.met 𝓤 H 𝓜 𝓖 𝓡))
+    (cited 𝓤 H (Calls-refused 𝓤 H (𝓖 .A) (𝓜 .mem) (𝓡 .run)) 𝓜 𝓡 mine.env #refused refused-def.routine mine.calls-call-answers·refused (refused-thm.met 𝓤 H 𝓜 𝓖 𝓡))
     (cited 𝓤 H (Calls-ran 𝓤 H (𝓖 .A) (𝓜 .mem) (𝓡 .run)) 𝓜 𝓡 mine.env #ran ran-def.routine mine.calls-chain-call·ran (ran-thm.met 𝓤 H 𝓜 𝓖 𝓡)))

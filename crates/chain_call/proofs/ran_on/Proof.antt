@@ -32,22 +32,22 @@ use denote.Triple.Statement.{Contract, Triple}
 use denote.Triple.Table.{entered, cited}
 use denote.Triple.Walked.{Stays, stay-none-slice, stay-none, gave-ref, gave-slice, walkOf, Walks, ends-at, walked, goes-none-slice, goes-none, goes-gave-ref, goes-gave-slice, walk-meets}
 use denote.Exit.{yes}
-use Rattle.lending.specs.Data.{Good, typed, usizes, words32, units}
-use Rattle.lending.specs.Loans.{Loan, loanSlice, loanRef, shrRef, shrSlice, mutRef, mutSlice, gives}
-use Rattle.lending.specs.Params.{Par, dat, brw, denots, valss, vals, lfts, shares, ins, outs}
-use Rattle.lending.specs.Functions.{arrives, leaves-with}
-use Rattle.lending.specs.Calls.{to, calls-by}
-use Rattle.lending.specs.Clauses.{needs-all, asks-all}
-use Rattle.lending.specs.Frames.{begins}
-use Rattle.lending.specs.Locals.{var, part, lent, lent-ptr, lent-slice, puts, lands-in, ends}
-use Rattle.lending.specs.Lends.{relent, lends-ref, back-ref, lends-slice, back-slice, shares-ref, unshares-ref, shares-slice, unshares-slice}
-use Rattle.activations.proofs.Elem.{recs}
-use Rattle.chain.proofs.Rows.{halts}
+use Rattle.walks.specs.Data.{Good, typed, usizes, words32, units}
+use Rattle.walks.specs.Loans.{Loan, loanSlice, loanRef, shrRef, shrSlice, mutRef, mutSlice, gives}
+use Rattle.walks.specs.Params.{Par, dat, brw, denots, valss, vals, lfts, shares, ins, outs}
+use Rattle.walks.specs.Functions.{arrives, leaves-with}
+use Rattle.walks.specs.Calls.{to, calls-by}
+use Rattle.walks.specs.Clauses.{needs-all, asks-all}
+use Rattle.walks.specs.Frames.{begins}
+use Rattle.walks.specs.Locals.{var, part, lent, lent-ptr, lent-slice, puts, lands-in, ends}
+use Rattle.walks.specs.Lends.{relent, lends-ref, back-ref, lends-slice, back-slice, shares-ref, unshares-ref, shares-slice, unshares-slice}
+use Rattle.chain_records.proofs.Elem.{recs}
+use Rattle.chain_run.proofs.Rows.{halts}
 use Rattle.chain_call.proofs.Rows.{numberss}
-use Rattle.chain.proofs.run.Halt as Halt#
-use Rattle.chain.proofs.run.Halt.Laws as Halt′
-use Rattle.admission.proofs.Numbers as Numbers#
-use Rattle.admission.proofs.Numbers.Laws as Numbers′
+use Rattle.chain_run.proofs.run.Halt as Halt#
+use Rattle.chain_run.proofs.run.Halt.Laws as Halt′
+use Rattle.call_admission.proofs.Numbers as Numbers#
+use Rattle.call_admission.proofs.Numbers.Laws as Numbers′
 use Rattle.chain_call.proofs.resolved as resolved
 use Rattle.chain_call.proofs.resolved.Symbol as resolved-def
 use Rattle.chain_call.proofs.resolved.Symbol.{name as #resolved}
@@ -56,14 +56,14 @@ use Rattle.chain_call.proofs.limit_of as limit-of
 use Rattle.chain_call.proofs.limit_of.Symbol as limit-of-def
 use Rattle.chain_call.proofs.limit_of.Symbol.{name as #limit-of}
 use Rattle.chain_call.proofs.limit_of.Met as limit-of-thm
-use Rattle.chain.proofs.run.run_program as run-program
-use Rattle.chain.proofs.run.run_program.Symbol as run-program-def
-use Rattle.chain.proofs.run.run_program.Symbol.{name as #run-program}
-use Rattle.chain.proofs.run.run_program.Met as run-program-thm
-use Rattle.chain.proofs.sheet.write_sheet as write-sheet
-use Rattle.chain.proofs.sheet.write_sheet.Symbol as write-sheet-def
-use Rattle.chain.proofs.sheet.write_sheet.Symbol.{name as #write-sheet}
-use Rattle.chain.proofs.sheet.write_sheet.Met as write-sheet-thm
+use Rattle.chain_run.proofs.run.run_program as run-program
+use Rattle.chain_run.proofs.run.run_program.Symbol as run-program-def
+use Rattle.chain_run.proofs.run.run_program.Symbol.{name as #run-program}
+use Rattle.chain_run.proofs.run.run_program.Met as run-program-thm
+use Rattle.chain_run.proofs.sheet.write_sheet as write-sheet
+use Rattle.chain_run.proofs.sheet.write_sheet.Symbol as write-sheet-def
+use Rattle.chain_run.proofs.sheet.write_sheet.Symbol.{name as #write-sheet}
+use Rattle.chain_run.proofs.sheet.write_sheet.Met as write-sheet-thm
 use Rattle.chain_call.proofs.answered as answered
 use Rattle.chain_call.proofs.answered.Symbol as answered-def
 use Rattle.chain_call.proofs.answered.Symbol.{name as #answered}
@@ -249,6 +249,6 @@ ran-on-spec 𝓤 H 𝓜 𝓖 𝓡 =
     (meets 𝓤 H (𝓖 .A) (givenOf 𝓤 H 𝓜 𝓖) (𝓜 .mem) (𝓡 .run) (tablesOf 𝓤 H 𝓜 (tables 𝓤 H 𝓜 𝓡 mine.env))
     (cited 𝓤 H (Calls-resolved 𝓤 H (𝓖 .A) (𝓜 .mem) (𝓡 .run)) 𝓜 𝓡 mine.env #resolved resolved-def.routine mine.calls-chain-call·resolved (resolved-thm.met 𝓤 H 𝓜 𝓖 𝓡))
     (cited 𝓤 H (Calls-limit-of 𝓤 H (𝓖 .A) (𝓜 .mem) (𝓡 .run)) 𝓜 𝓡 mine.env #limit-of limit-of-def.routine mine.calls-chain-call·limit-of (limit-of-thm.met 𝓤 H 𝓜 𝓖 𝓡))
-    (cited 𝓤 H (Calls-run-program 𝓤 H (𝓖 .A) (𝓜 .mem) (𝓡 .run)) 𝓜 𝓡 mine.env #run-program run-program-def.routine mine.calls-chain·run·run-program (run-program-thm.met 𝓤 H 𝓜 𝓖 𝓡))
-    (cited 𝓤 H (Calls-write-sheet 𝓤 H (𝓖 .A) (𝓜 .mem) (𝓡 .run)) 𝓜 𝓡 mine.env #write-sheet write-sheet-def.routine mine.calls-chain·sheet·write-sheet (write-sheet-thm.met 𝓤 H 𝓜 𝓖 𝓡))
+    (cited 𝓤 H (Calls-run-program 𝓤 H (𝓖 .A) (𝓜 .mem) (𝓡 .run)) 𝓜 𝓡 mine.env #run-program run-program-def.routine mine.calls-chain-run·run·run-program (run-program-thm.met 𝓤 H 𝓜 𝓖 𝓡))
+    (cited 𝓤 H (Calls-write-sheet 𝓤 H (𝓖 .A) (𝓜 .mem) (𝓡 .run)) 𝓜 𝓡 mine.env #write-sheet write-sheet-def.routine mine.calls-chain-run·sheet·write-sheet (write-sheet-thm.met 𝓤 H 𝓜 𝓖 𝓡))
     (cited 𝓤 H (Calls-answered 𝓤 H (𝓖 .A) (𝓜 .mem) (𝓡 .run)) 𝓜 𝓡 mine.env #answered answered-def.routine mine.calls-chain-call·answered (answered-thm.met 𝓤 H 𝓜 𝓖 𝓡)))

@@ -5,8 +5,8 @@ use lib.ListN.{length}
 use Rattle.language.specs.Text.{Block}
 use Rattle.language.specs.Call.{Engine, Fed, copying}
 use Rattle.runs.specs.Admission.{Admitted}
-use Rattle.admission.specs.Lent.{fedOf}
-use Rattle.replies.specs.Replies.{admitted-call, refused-call, leaving-all, leaving-length}
+use Rattle.call_admission.specs.Lent.{fedOf}
+use Rattle.call_replies.specs.Replies.{admitted-call, refused-call, leaving-all, leaving-length}
 use Rattle.copy_call.proofs.call.Statement.{statement}
 use Rattle.copy_call.proofs.call.Tie as tie
 

@@ -2,7 +2,7 @@
 use Prim.Native.Nat.{ℕ}
 use native.Mathlib.Omega.{arith}
 use mathlib.Core.Path.{_≡_, ap}
-use Rattle.acting.specs.Acting.{Scene, sceneBy}
+use Rattle.run_moves.specs.Acting.{Scene, sceneBy}
 use Rattle.copy_statements.specs.Doing.{Copy, text, arithmetic, branch, constant, call, goto, block, pair, unpair, query, markOf, doing}
 use Rattle.copy_statements.specs.Scenes.{copyBy}
 use Rattle.copy_statements.specs.Moved.{came}

@@ -2,8 +2,8 @@
 use borrow.Author.Needs.{needs}
 use mathlib.Core.Bool.{false}
 use Rattle.language.specs.Call.{Fed, display}
-use Rattle.admission.specs.Lent.{fedOf}
-use Rattle.replies.specs.Replies.{admitted-call, refused-call}
+use Rattle.call_admission.specs.Lent.{fedOf}
+use Rattle.call_replies.specs.Replies.{admitted-call, refused-call}
 use Rattle.display_call.proofs.call.Statement.{statement}
 use Rattle.display_call.proofs.call.Tie as tie
 

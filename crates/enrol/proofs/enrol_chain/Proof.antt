@@ -32,19 +32,19 @@ use denote.Triple.Statement.{Contract, Triple}
 use denote.Triple.Table.{entered, cited}
 use denote.Triple.Walked.{Stays, stay-none-slice, stay-none, gave-ref, gave-slice, walkOf, Walks, ends-at, walked, goes-none-slice, goes-none, goes-gave-ref, goes-gave-slice, walk-meets}
 use denote.Exit.{yes}
-use Rattle.lending.specs.Data.{Good, typed, usizes, words32, words16, units}
-use Rattle.lending.specs.Loans.{Loan, loanSlice, loanRef, shrSlice, mutRef, mutSlice}
-use Rattle.lending.specs.Params.{Par, dat, brw, denots, valss, vals, lfts, shares, ins, outs}
-use Rattle.lending.specs.Functions.{arrives, leaves-with}
-use Rattle.lending.specs.Calls.{to, calls-by}
-use Rattle.lending.specs.Clauses.{asks-all}
-use Rattle.lending.specs.Frames.{begins}
-use Rattle.lending.specs.Locals.{var, lent, lent-ptr, lent-slice, puts, lands-in, ends}
-use Rattle.activations.proofs.Elem.{recs}
+use Rattle.walks.specs.Data.{Good, typed, usizes, words32, words16, units}
+use Rattle.walks.specs.Loans.{Loan, loanSlice, loanRef, shrSlice, mutRef, mutSlice}
+use Rattle.walks.specs.Params.{Par, dat, brw, denots, valss, vals, lfts, shares, ins, outs}
+use Rattle.walks.specs.Functions.{arrives, leaves-with}
+use Rattle.walks.specs.Calls.{to, calls-by}
+use Rattle.walks.specs.Clauses.{asks-all}
+use Rattle.walks.specs.Frames.{begins}
+use Rattle.walks.specs.Locals.{var, lent, lent-ptr, lent-slice, puts, lands-in, ends}
+use Rattle.chain_records.proofs.Elem.{recs}
 use Rattle.chain_call.proofs.Rows.{numberss}
 use denote.Struct.Laws as laws
-use Rattle.admission.proofs.Numbers as Numbers#
-use Rattle.admission.proofs.Numbers.Laws as Numbers′
+use Rattle.call_admission.proofs.Numbers as Numbers#
+use Rattle.call_admission.proofs.Numbers.Laws as Numbers′
 use Rattle.chain_call.proofs.call as call
 use Rattle.chain_call.proofs.call.Symbol as call-def
 use Rattle.chain_call.proofs.call.Symbol.{name as #call}

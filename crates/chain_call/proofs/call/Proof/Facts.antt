@@ -8,10 +8,10 @@ use lib.IntN.{ℤ}
 use lib.ListN.{length}
 use Rattle.language.specs.Call.{Engine, Fed, chain}
 use Rattle.language.specs.declared.Verdict.{Verdict}
-use Rattle.admission.specs.Lent.{fedOf}
-use Rattle.admission.specs.declared.Numbers.{Numbers}
-use Rattle.activations.specs.declared.Activation.{Activation}
-use Rattle.replies.specs.Replies.{read-admitted, read-refused, leaving-all, leaving-length}
+use Rattle.call_admission.specs.Lent.{fedOf}
+use Rattle.call_admission.specs.declared.Numbers.{Numbers}
+use Rattle.chain_records.specs.declared.Activation.{Activation}
+use Rattle.call_replies.specs.Replies.{read-admitted, read-refused, leaving-all, leaving-length}
 use Rattle.chain_call.proofs.call.Proof.Said.{Said, judged-says, refuses-says, refused-says, ran-asks, ran-says}
 
 module _ (script : List ℕ) (numbers : Numbers) (table sheet : List ℤ) (records : List Activation) (answer : List ℕ) (verdict : Verdict)

@@ -1,12 +1,12 @@
 -- What `chain_call::call` and the functions that it calls ask and say, in lists and numbers: x is behind a reference at first, x′ at last.
 -- Written by `tools/walk chain_call call`.
 use Prim.Native.Nat.{ℕ}
-use Rattle.activations.proofs.Elem.{recs}
-use Rattle.admission.specs.Lent.{fedOf}
-use Rattle.answers.specs.Refusals.{isRefused, refusedWords}
-use Rattle.answers.specs.Replies.{RepliesLeaving, Replies}
+use Rattle.chain_records.proofs.Elem.{recs}
+use Rattle.call_admission.specs.Lent.{fedOf}
+use Rattle.call_answers.specs.Refusals.{isRefused, refusedWords}
+use Rattle.call_answers.specs.Replies.{RepliesLeaving, Replies}
 use Rattle.chain_call.proofs.Rows.{numberss, verdicts}
-use Rattle.checking.specs.Verdicts.{verdictOf}
+use Rattle.check_script.specs.Verdicts.{verdictOf}
 use Rattle.language.specs.Call.{chain, admission}
 use Rattle.language.specs.Text.{Block}
 use Rattle.runs.specs.Admission.{Admitted}

@@ -4,8 +4,8 @@ use Prim.Native.Nat.{ℕ}
 use mathlib.Core.List.{List}
 use lib.IntN.{ℤ, pos}
 use lib.ListN.{replicate}
-use Rattle.admission.specs.declared.Numbers.{Numbers}
-use Rattle.activations.specs.declared.Activation.{Activation}
+use Rattle.call_admission.specs.declared.Numbers.{Numbers}
+use Rattle.chain_records.specs.declared.Activation.{Activation}
 use Rattle.chain_call.proofs.ran.Proof.Said.{Pre, Said, ran-on-asks, ran-on-says}
 
 module _ (script : List ℕ) (numbers : Numbers) (table sheet : List ℤ) (records : List Activation) (answer : List ℕ)

@@ -4,7 +4,7 @@ use mathlib.Core.Path.{sym, _∙_}
 use lib.ListN.{getD}
 use borrow.Author.Needs.{needs}
 use Rattle.language.specs.Text.{plus, minus}
-use Rattle.statements.specs.Doing.{is-plus, is-minus, is-less}
+use Rattle.run_statements.specs.Doing.{is-plus, is-minus, is-less}
 use Rattle.copy_arms.proofs.Results.{computes, compares}
 use Rattle.copy_arms.proofs.arms.do_arithmetic.Statement.{statement}
 use Rattle.copy_arms.proofs.arms.do_arithmetic.Tie as tie

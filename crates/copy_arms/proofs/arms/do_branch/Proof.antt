@@ -2,7 +2,7 @@
 use Prim.Native.Nat.{_+_}
 use mathlib.Core.Path.{_∙_}
 use borrow.Author.Needs.{needs}
-use Rattle.statements.specs.Words.{is-zero, not-zero}
+use Rattle.run_statements.specs.Words.{is-zero, not-zero}
 use Rattle.copy_arms.proofs.Results.{stays, goes}
 use Rattle.copy_arms.proofs.arms.do_branch.Statement.{statement}
 use Rattle.copy_arms.proofs.arms.do_branch.Tie as tie

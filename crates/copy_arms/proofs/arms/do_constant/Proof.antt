@@ -1,7 +1,7 @@
 -- `do_constant` meets its contract.
 use mathlib.Core.Path.{refl, _∙_}
 use borrow.Author.Needs.{needs}
-use Rattle.statements.specs.Words.{read-back}
+use Rattle.run_statements.specs.Words.{read-back}
 use Rattle.copy_arms.proofs.arms.do_constant.Statement.{statement}
 use Rattle.copy_arms.proofs.arms.do_constant.Tie as tie
 

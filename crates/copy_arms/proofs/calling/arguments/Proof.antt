@@ -3,8 +3,8 @@ use Prim.Native.Nat.{_+_, _*_, _-_, _≤_}
 use native.Mathlib.Omega.{arith}
 use mathlib.Core.Path.{_≡_, _∙_}
 use borrow.Author.Needs.{needs}
-use Rattle.acting.specs.Acting.{setAll}
-use Rattle.statements.specs.Words.{read-back}
+use Rattle.run_moves.specs.Acting.{setAll}
+use Rattle.run_statements.specs.Words.{read-back}
 use Rattle.copy_arms.specs.Parts.{handedFrom}
 use Rattle.copy_arms.proofs.Entered.{arguments-end, arguments-next}
 use Rattle.copy_arms.proofs.calling.arguments.Statement.{statement}

@@ -7,7 +7,7 @@ use mathlib.Core.Path.{_≡_, sym, ap₂, _∙_}
 use lib.IntN.{ℤ}
 use lib.ListN.{getD}
 use borrow.Author.Needs.{needs}
-use Rattle.acting.specs.declared.Move.{Move}
+use Rattle.run_moves.specs.declared.Move.{Move}
 use Rattle.copy_arms.specs.Parts.{cellAt, refusedBy, refusedAt, enterAt, handedAt}
 use Rattle.copy_arms.proofs.Entered.{call-refused, call-stops, call-enters, enters-at}
 use Rattle.copy_arms.proofs.calling.do_call.Statement.{statement}

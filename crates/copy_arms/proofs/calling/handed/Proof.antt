@@ -1,7 +1,7 @@
 -- `handed` meets its contract.
 use mathlib.Core.Path.{_∙_}
 use borrow.Author.Needs.{needs}
-use Rattle.statements.specs.Words.{read-back}
+use Rattle.run_statements.specs.Words.{read-back}
 use Rattle.copy_arms.proofs.calling.handed.Statement.{statement}
 use Rattle.copy_arms.proofs.calling.handed.Tie as tie
 

@@ -1,8 +1,8 @@
 -- `do_add_pair` meets its contract.
 use Prim.Native.Nat.{ℕ, _+_}
 use mathlib.Core.Path.{ap₂}
-use Rattle.acting.specs.declared.Ask.the-variants.{Add}
-use Rattle.acting.specs.declared.Move.the-variants.{Table as Asks}
+use Rattle.run_moves.specs.declared.Ask.the-variants.{Add}
+use Rattle.run_moves.specs.declared.Move.the-variants.{Table as Asks}
 use borrow.Author.Needs.{needs}
 use Rattle.copy_statements.proofs.membership.do_add_pair.Statement.{statement}
 use Rattle.copy_statements.proofs.membership.do_add_pair.Tie as tie

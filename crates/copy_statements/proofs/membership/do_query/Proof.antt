@@ -1,7 +1,7 @@
 -- `do_query` meets its contract.
 use Prim.Native.Nat.{_+_}
-use Rattle.acting.specs.declared.Ask.the-variants.{Query}
-use Rattle.acting.specs.declared.Move.the-variants.{Table as Asks}
+use Rattle.run_moves.specs.declared.Ask.the-variants.{Query}
+use Rattle.run_moves.specs.declared.Move.the-variants.{Table as Asks}
 use borrow.Author.Needs.{needs}
 use Rattle.copy_statements.proofs.membership.do_query.Statement.{statement}
 use Rattle.copy_statements.proofs.membership.do_query.Tie as tie

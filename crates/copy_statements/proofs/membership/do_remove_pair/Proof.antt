@@ -1,8 +1,8 @@
 -- `do_remove_pair` meets its contract.
 use Prim.Native.Nat.{ℕ, _+_}
 use mathlib.Core.Path.{ap₂}
-use Rattle.acting.specs.declared.Ask.the-variants.{Remove}
-use Rattle.acting.specs.declared.Move.the-variants.{Table as Asks}
+use Rattle.run_moves.specs.declared.Ask.the-variants.{Remove}
+use Rattle.run_moves.specs.declared.Move.the-variants.{Table as Asks}
 use borrow.Author.Needs.{needs}
 use Rattle.copy_statements.proofs.membership.do_remove_pair.Statement.{statement}
 use Rattle.copy_statements.proofs.membership.do_remove_pair.Tie as tie

@@ -2,8 +2,8 @@
 use Prim.Native.Nat.{ℕ}
 use mathlib.Core.List.{List}
 use lib.IntN.{ℤ}
-use Rattle.admission.specs.declared.Numbers.{Numbers}
-use Rattle.activations.specs.declared.Activation.{Activation}
+use Rattle.call_admission.specs.declared.Numbers.{Numbers}
+use Rattle.chain_records.specs.declared.Activation.{Activation}
 use Rattle.enrol.proofs.enrol_chain.Proof.Said.{Said, call-says}
 
 module _ (script : List ℕ) (d n g tally : ℕ) (table : List ℤ) (count name : ℕ) (sheet : List ℤ) (records : List Activation) (answer : List ℕ) where

@@ -1,0 +1,30 @@
+-- `call_answers::refusals::refused` meets its contract. Assumes nothing.
+use borrow.Author.Needs.{needs}
+use mathlib.Core.Path.{_≡_, sym, _∙_, ap}
+use mathlib.Core.List.{List}
+use Prim.Native.Nat.{ℕ}
+use Rattle.language.specs.Numbers.{answerWords}
+use Rattle.language.specs.declared.Refusal.{Refusal}
+use Rattle.language.specs.declared.Verdict.{Verdict}
+use Rattle.language.specs.declared.Verdict.the-variants.{Refused}
+use Rattle.call_answers.specs.Answers.{refusedAnswer}
+use Rattle.call_answers.specs.Refusals.{refusedWords}
+use Rattle.call_answers.proofs.refusals.refused.Statement.{statement}
+use Rattle.call_answers.proofs.refusals.refused.Tie as tie
+
+refused-so : {v : Verdict} (c : Refusal) (o count tally : ℕ) (before : List ℕ) {words : List ℕ} → v ≡ Refused c o
+    → words ≡ answerWords (refusedAnswer c o count tally) → words ≡ refusedWords v count tally before
+unfolding refusedWords
+refused-so c o count tally before q w = w ∙ ap (λ (v : Verdict). refusedWords v count tally before) (sym q)
+
+returns : tie.Need-returns
+returns c =
+    let told = c .before .before .verdict .given in
+    refused-so (told .0 .0) (told .0 .1 .0) _ _ _ (told .1) (c .refusal-words .ensures)
+
+returns-2 : tie.Need-returns-2
+unfolding refusedWords
+returns-2 c = search needs
+
+pub refused-spec : {M : Type 1} → statement M
+refused-spec = tie.close (tie.spec (λ c. search needs) (λ c κs. search needs) (λ c. search needs) returns returns-2)

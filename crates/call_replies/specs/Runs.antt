@@ -1,0 +1,62 @@
+-- A call that is admitted, by any engine, once its run has ended (`Ended` of crate `steps`): what its sheet needs (`sheet-needs`), and that answer, sheet
+-- and table are the reply's (`run-replies`).
+use Prim.Native.Nat.{ℕ, _*_, _≤_}
+use native.Mathlib.Omega.{arith}
+use mathlib.Core.List.{List}
+use mathlib.Core.Path.{_≡_, sym, ap, _∙_, subst}
+use lib.IntN.{ℤ}
+use lib.ListN.{length}
+use Rattle.language.specs.Text.{Block}
+use Rattle.language.specs.Sheet.{sheetShare}
+use Rattle.language.specs.Numbers.{answerWords}
+use Rattle.language.specs.Call.{Engine, Fed, Lent, limitsOf, written}
+use Rattle.language.specs.declared.End.{End}
+use Rattle.grammar.specs.Rules.{Bytes}
+use Rattle.runs.specs.Admission.{Admitted}
+use Rattle.frames.specs.Frame.{Frame, frameReplied, frameRunOf, frameSheet}
+use Rattle.coordinates.specs.Sound.{accepted-keeps-rules}
+use Rattle.resolved.specs.Resolved.{resolvedOf, Covers}
+use Rattle.steps.specs.Underway.{Ended}
+use Rattle.call_answers.specs.Answers.{ranAnswer}
+use Rattle.call_answers.specs.Replies.{Replies}
+use Rattle.run_sheet.specs.Held.{Held}
+use Rattle.call_replies.specs.Replies.{ran-answer, ran-lent, result-held, room-for-sheet}
+
+module _ {e : Engine} {f : Fed} (bytes : Bytes (f .script)) {t : Block} (h : Admitted e f t)
+    {code : List ℕ} {words : List ℤ} {blocks nexts links : List ℕ} {table : List ℤ} (covers : Covers code 0 (resolvedOf (f .name) t))
+    {end : End} {steps offset pairs live designator : ℕ}
+    (ended : Ended t (f .name) (limitsOf f) (frameRunOf f t) end steps offset pairs live designator words blocks nexts links table) where
+  held : Held code words blocks nexts ((frameRunOf f t) .final .frames)
+  held =
+      result-held code words blocks nexts links (f .name) t (limitsOf f) ((frameRunOf f t) .final) (accepted-keeps-rules (f .script) bytes t (h .script)) covers (ended .sound) (ended .holds)
+
+  pub sheet-needs : ((fs : List Frame) × Held code words blocks nexts fs × (length fs ≡ live)) × (sheetShare * live ≤ length (f .lent .sheet))
+  sheet-needs = (
+    (_, held, sym (ended .live-is)),
+    subst (λ k. sheetShare * k ≤ length (f .lent .sheet)) (sym (ended .live-is)) (room-for-sheet h ((frameRunOf f t) .final) (ended .sound)),
+  )
+
+  -- from the sheet that is written, the links that are reported, and the answer's words
+  pub run-replies : {sheet : List ℤ} {count followed : ℕ}
+      → ((fs : List Frame) → Held code words blocks nexts fs → length fs ≡ live → (sheet ≡ written (frameSheet fs) (f .lent .sheet)) × (count ≡ length (frameSheet fs)))
+      → followed ≡ (frameReplied e f (frameRunOf f t)) .answer .links
+      → {answer : List ℕ} → answer ≡ answerWords (ranAnswer end steps offset pairs count (f .tally) designator followed) → Replies e f answer sheet table
+  run-replies is l a =
+      let w = is ((frameRunOf f t) .final .frames) held (sym (ended .live-is)) in
+      let lent = ran-lent e f bytes t h in
+      let n : steps ≡ (frameRunOf f t) .final .steps = omega (arith, ended .steps-are) in
+      let q = ran-answer e f bytes t h _ _ _ _ _ _ _
+      (record {
+        end-is = ended .end-is;
+        steps-are = n;
+        offset-is = ended .offset-is;
+        pairs-are = ended .pairs-are;
+        sheet-is = w .1;
+        designator-is = ended .designator-is;
+        links-are = l;
+      }) in
+      record {
+        answer-is = a ∙ ap answerWords q;
+        sheet-is = w .0 ∙ sym (ap (λ (x : Lent). x .sheet) lent);
+        table-is = ended .table-is ∙ sym (ap (λ (x : Lent). x .table .words) lent);
+      }

@@ -1,0 +1,10 @@
+-- `begin` meets its contract.
+use borrow.Author.Needs.{needs}
+use Rattle.chain_run.proofs.run.begin.Statement.{statement}
+use Rattle.chain_run.proofs.run.begin.Tie as tie
+
+returns : tie.Need-returns
+returns c = rw (c .code-at2 .ensures .0, c .before .code-at .ensures .0)
+
+pub begin-spec : {M : Type 1} → statement M
+begin-spec = tie.close (tie.spec (λ c κs. search needs) (λ c κs. search needs) returns)

@@ -1,0 +1,44 @@
+-- What `chain_run::run::run` and the functions that it calls ask and say, in lists and numbers: x is behind a reference at first, x′ at last.
+-- Written by `tools/walk chain run::run`.
+use Prim.Native.Nat.{ℕ}
+use Rattle.chain_records.proofs.Elem.{recs}
+use Rattle.chain_step.proofs.Rows.{turns}
+use Rattle.chain_step.specs.Moves.{isWent, nextIn}
+use Rattle.chain_step.specs.Turning.{Turned}
+use Rattle.chain_run.proofs.Rows.{halts}
+use Rattle.chain_run.specs.Ending.{Ending}
+use Rattle.chain_run.specs.Running.{RunFrom}
+use Rattle.chain_links.proofs.Rows.{registers}
+use Rattle.chain_links.specs.Running.{Running}
+use Rattle.run_state.specs.declared.Turn.the-variants.{Went}
+use lib.IntN.{ℤ}
+use mathlib.Core.Bool.{not, Bool}
+use mathlib.Core.List.{List}
+use mathlib.Core.Path.{_≡_}
+
+abbrev pub Pre : List ℕ → List ℤ → List (recs .type .Denot) → List ℤ → ℕ → ℕ → registers .type .Denot → Type 0
+Pre code words records table group limit start = Running code limit group words records table start
+
+abbrev pub Said : List ℕ → List ℤ → List (recs .type .Denot) → List ℤ → ℕ → ℕ → ℕ → registers .type .Denot → halts .type .Denot → List ℤ → List (recs .type .Denot) → List ℤ → Type 0
+Said code words records table group limit allowance start r words′ records′ table′ = ((w : Running code limit group words records table start) → RunFrom w allowance r words′ records′ table′)
+
+abbrev pub went-says : registers .type .Denot → turns .type .Denot → Type 0
+went-says next r = r ≡ Went next
+
+abbrev pub step-asks : List ℕ → List ℤ → List (recs .type .Denot) → List ℤ → ℕ → ℕ → registers .type .Denot → Type 0
+step-asks code words records table group limit here = Running code limit group words records table here
+
+abbrev pub step-says : List ℕ → List ℤ → List (recs .type .Denot) → List ℤ → ℕ → ℕ → registers .type .Denot → turns .type .Denot → List ℤ → List (recs .type .Denot) → List ℤ → Type 0
+step-says code words records table group limit here r words′ records′ table′ = ((w : Running code limit group words records table here) → Turned w r words′ records′ table′)
+
+abbrev pub halts-says : turns .type .Denot → Bool → Type 0
+halts-says turn r = r ≡ not (isWent turn)
+
+abbrev pub ended-asks : List ℕ → List ℤ → List (recs .type .Denot) → registers .type .Denot → turns .type .Denot → ℕ → ℕ → Type 0
+ended-asks code words records here turn allowance left = Ending code words records here turn allowance left
+
+abbrev pub ended-says : List ℕ → List ℤ → List (recs .type .Denot) → registers .type .Denot → turns .type .Denot → ℕ → ℕ → halts .type .Denot → List (recs .type .Denot) → Type 0
+ended-says code words records here turn allowance left r records′ = ((e : Ending code words records here turn allowance left) → RunFrom (e .from) allowance r words records′ (e .table))
+
+abbrev pub next-of-says : registers .type .Denot → turns .type .Denot → registers .type .Denot → Type 0
+next-of-says here turn r = r ≡ nextIn here turn

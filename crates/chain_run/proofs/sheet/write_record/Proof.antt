@@ -1,0 +1,43 @@
+-- `write_record` meets its contract.
+use Prim.Native.Nat.{ℕ, _*_}
+use mathlib.Core.List.{List, _∷_, _++_}
+use mathlib.Core.Path.{_≡_, sym, ap, _∙_, subst}
+use borrow.Author.Needs.{needs}
+use lib.IntN.{ℤ, pos}
+use Rattle.language.specs.Call.{written}
+use Rattle.run_sheet.specs.Shown.{Shown}
+use Rattle.chain_run.proofs.sheet.write_record.Statement.{statement}
+use Rattle.chain_run.proofs.sheet.write_record.Tie as tie
+
+-- the same of equal places
+shown-as : {code : List ℕ} {words : List ℤ} {first number : ℕ} {own : List ℤ} (b b′ n n′ : ℕ) → b′ ≡ b → n′ ≡ n → Shown code words b n first number own
+    → Shown code words b′ n′ first number own
+shown-as {code} {words} {first} {number} {own} b b′ n n′ p q h =
+    subst (λ (T : Type 0). T) (λ i. Shown code words (sym p i) (sym q i) first number own) h
+
+write-activation-requires : tie.Need-write-activation-requires
+write-activation-requires c κs =
+    let p = c .before .before .before .pre in
+    (p .1 .0, p .1 .1, shown-as _ _ _ _ (c .before .before .wide-u32 .ensures .0) (c .before .wide-u322 .ensures .0) (p .1 .2), p .1 .3)
+
+returns : tie.Need-returns
+returns c =
+    let w = c .before .before .before .before in
+    let n = c .before .before .before in
+    let r = c .before .write-activation .ensures in (
+      λ number own ws base shown e l.
+          let q = r .0 number own ws base (shown-as _ _ _ _ (w .wide-u32 .ensures .0) (n .wide-u322 .ensures .0) shown) e l in
+          (q .0 ∙ ap (λ (b : ℕ). written (ws ++ (pos (2 * b) ∷ pos number ∷ own)) base) (w .wide-u32 .ensures .0), q .1),
+      r .1,
+    )
+
+pub write-record-spec : {M : Type 1} → statement M
+write-record-spec =
+    tie.close
+    (tie.spec
+    (λ c κs. search needs)
+    (λ c κs. search needs)
+    (λ c. search needs)
+    write-activation-requires
+    (λ c. search needs)
+    returns)

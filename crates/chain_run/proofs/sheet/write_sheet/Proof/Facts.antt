@@ -1,0 +1,99 @@
+-- What the walk of `write_sheet` shows.
+use mathlib.Core.Path.{_≡_, refl, sym, _∙_, ap}
+use Prim.Native.Nat.{ℕ, _+_, _-_, _≤_, _<_, _^_}
+use native.Mathlib.Omega.{arith}
+use mathlib.Core.List.{List}
+use lib.IntN.{ℤ}
+use lib.ListN.{length, take, getD}
+use lib.Seq.{take-all}
+use Rattle.language.specs.Call.{written}
+use Rattle.laws.specs.Lists.{getElem-in}
+use Rattle.frames.specs.Frame.{Frame, frameSheet}
+use Rattle.run_sheet.specs.Held.{Held, shown-at, sheet-room, none-written, sheet-on, sheet-on-length}
+use Rattle.chain_records.specs.declared.Activation.{Activation}
+use Rattle.chain_links.specs.Records.{blocksIn, nextsIn, column-read}
+use Rattle.chain_run.proofs.sheet.write_sheet.Proof.Said.{Pre, Said, read-asks, read-says, write-record-asks, write-record-says}
+
+module _ (code : List ℕ) (words : List ℤ) (records : List Activation) (live : ℕ) (sheet₀ : List ℤ) where
+  abbrev Holds : List Frame → Type 0
+  Holds fs = Held code words (blocksIn records) (nextsIn records) fs
+
+  -- of the first so many activations
+  abbrev Shows : ℕ → ℕ → List ℤ → Type 0
+  Shows k r sheet = (fs : List Frame) → Holds fs → length fs ≡ live
+      → (sheet ≡ written (frameSheet (take k fs)) sheet₀) × (r ≡ length (frameSheet (take k fs)))
+
+  -- a state of the loop: how many activations are shown, what the sheet holds, and how much of it is written
+  pub record State : Type 0 where
+    pub k : ℕ
+    pub at : ℕ
+    pub sheet : List ℤ
+    pub low : k ≤ live
+    pub as-long : length sheet ≡ length sheet₀
+    pub shows : Shows k at sheet
+
+  module _ (pre : Pre code words records live sheet₀) where
+    few : live ≤ 256
+    few = omega (arith, pre .0 .1 .most, pre .0 .2)
+
+    abbrev pub start : State
+    start = record { k = 0; at = 0; sheet = sheet₀; low = omega arith; as-long = refl; shows = λ fs h l. none-written fs sheet₀ }
+
+    module _ (t : State) where
+      abbrev pub size : ℕ
+      size = live - t .k
+
+      module _ (none : t .k < live → ⊥) where
+        pub says : Said code words records live sheet₀ (t .at) (t .sheet)
+        says fs h l =
+            let r = t .shows fs h l in
+            let all : take (t .k) fs ≡ fs = take-all (t .k) fs (omega (arith, l, none)) in
+            (r .0 ∙ ap (λ (x : List Frame). written (frameSheet x) sheet₀) all, r .1 ∙ ap (λ (x : List Frame). length (frameSheet x)) all)
+
+      module _ (more : t .k < live) where
+        pub asks-read : read-asks records (t .k)
+        asks-read = omega (arith, more, pre .1 .0)
+
+        pub fits : t .k + 1 < 2 ^ 64
+        fits = omega (arith, t .low, few)
+
+        pub less : live - (t .k + 1) < live - t .k
+        less = omega (arith, more)
+
+        module _ (own : Activation) (is : read-says records (t .k) own) where
+          block-is : own .block ≡ getD (blocksIn records) (t .k) 0
+          block-is = ap (λ (a : Activation). a .block) is ∙ sym (column-read (λ a. a .block) records (t .k) (omega (arith, few)))
+
+          next-is : own .next ≡ getD (nextsIn records) (t .k) 0
+          next-is = ap (λ (a : Activation). a .next) is ∙ sym (column-read (λ a. a .next) records (t .k) (omega (arith, few)))
+
+          pub asks-write-record : write-record-asks code words own (t .k) (t .sheet) (t .at)
+          asks-write-record =
+              let fs = pre .0 .0 in
+              let h = pre .0 .1 in
+              let w = getElem-in fs (t .k) (omega (arith, pre .0 .2)) in
+              let f = h .bounded (t .k) (w .0) (w .1) in (
+                omega (arith, few),
+                (
+                  w .0 .next,
+                  w .0 .words,
+                  shown-at h (t .k) (w .0) (w .1) (own .block) (own .next) block-is next-is,
+                  omega (arith, f .few, t .as-long, t .shows fs h (pre .0 .2) .1, sheet-room h (t .k) (omega arith), pre .1 .1, pre .0 .2),
+                ),
+              )
+
+          module _ (r : ℕ) (sheet : List ℤ)
+              (said : write-record-says code words own (t .k) (t .sheet) (t .at) r sheet) (long : length sheet ≡ length (t .sheet)) where
+            pub shows-on : Shows (t .k + 1) r sheet
+            shows-on fs h l =
+                let w = getElem-in fs (t .k) (omega (arith, l)) in
+                let f = w .0 in
+                let i = t .shows fs h l in
+                let q = said .0 (f .next) (f .words) (frameSheet (take (t .k) fs)) sheet₀
+                (shown-at h (t .k) f (w .1) (own .block) (own .next) block-is next-is) (i .0) (sym (i .1)) in (
+                  q .0 ∙ ap (λ (x : List ℤ). written x sheet₀) (sheet-on h (t .k) f (w .1) (own .block) block-is),
+                  q .1 ∙ sheet-on-length h (t .k) f (w .1) (t .at) (i .1),
+                )
+
+            abbrev pub next : State
+            next = record { k = t .k + 1; at = r; sheet = sheet; low = omega (arith, more); as-long = long ∙ t .as-long; shows = shows-on }

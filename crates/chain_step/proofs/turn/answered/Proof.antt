@@ -1,0 +1,57 @@
+-- `answered` meets its contract.
+use mathlib.Core.Path.{_≡_, refl, sym, _∙_, subst}
+use Rattle.chain_step.specs.declared.turn.Moved.{Moved}
+use Rattle.chain_step.specs.Moved.{not-asked, ToldBy}
+use borrow.Author.Needs.{needs}
+use Rattle.chain_step.proofs.turn.answered.Statement.{statement}
+use Rattle.chain_step.proofs.turn.answered.Tie as tie
+
+abbrev askedOf : tie.After-asked-arg2 → tie.After-moved5
+askedOf c = c .before .before .before
+
+abbrev startOf : tie.After-moved5 → tie.Start
+startOf c = c .before .before
+
+asked-requires : tie.Need-asked-requires
+asked-requires c κs =
+    let q = askedOf c in
+    (startOf q) .pre _ _ _ _ _ (q .moved5 .given .1)
+
+returns : tie.Need-returns
+returns c = λ p g m t a e. absurd (not-asked _ (c .before .moved .given .1) refl e)
+
+returns-2 : tie.Need-returns-2
+returns-2 c = λ p g m t a e. absurd (not-asked _ (c .before .moved2 .given .1) refl e)
+
+returns-3 : tie.Need-returns-3
+returns-3 c = λ p g m t a e. absurd (not-asked _ (c .before .moved3 .given .1) refl e)
+
+returns-4 : tie.Need-returns-4
+returns-4 c = λ p g m t a e. absurd (not-asked _ (c .before .moved4 .given .1) refl e)
+
+returns-5 : tie.Need-returns-5
+returns-5 c =
+    let k = c .before .before in
+    let q = askedOf (k .before) in
+    let s = startOf q in
+    λ p g m t a e.
+    subst (λ (x : Moved). ToldBy (s .args .limit) (s .args .here) (s .args .words .now) (s .args .table .now) (c .after .result) (k .asked .last .1 .0) (k .asked .last .0) x)
+    (sym (q .moved5 .given .1) ∙ e) (k .asked .result, c .after .ensures, k .asked .ensures)
+
+pub answered-spec : {M : Type 1} → statement M
+answered-spec =
+    tie.close
+    (tie.spec
+    (λ c. search needs)
+    (λ c. search needs)
+    (λ c. search needs)
+    (λ c. search needs)
+    (λ c. search needs)
+    asked-requires
+    (λ c κs. search needs)
+    returns
+    returns-2
+    returns-3
+    returns-4
+    (λ c. search needs)
+    returns-5)

@@ -1,0 +1,419 @@
+-- The next statement, with its names found by the links: what `acted` asks (`Stating`), and where it is of a class (`Summing`, `Tabling`). Of a statement
+-- that is asked so: `by-class`, which fields its names stand in, by its class, and when their cells are those that the links lead to; `ready`, what its
+-- function may rely on then; `Does-as` and `Stores`, all this of AR, QY and KN, whose function is called at once; `only-led`, of a statement with one name or none.
+use Prim.Native.Nat.{ℕ, zero, suc, _+_, _*_, _-_, _/_, _%_, _≤_, _<_}
+use native.Mathlib.Omega.{arith}
+use mathlib.Core.Bool.{true, false}
+use mathlib.Core.List.{List}
+use mathlib.Core.Path.{_≡_, refl, sym, ap, _∙_, subst}
+use borrow.Author.Tests.{eqb-true, eqb-false, eq-eqb, ne-eqb}
+use lib.Dec.{eqb}
+use lib.IntN.{ℤ}
+use lib.ListN.{getD}
+use Rattle.language.specs.Text.{Operation, plus, minus, less}
+use Rattle.laws.specs.Tests.{split}
+use Rattle.resolved.specs.Resolved.{levelIn, direct}
+use Rattle.arrays.specs.Found.{heldBy, targetBy}
+use Rattle.arrays.specs.Names.{follow}
+use Rattle.run_moves.specs.declared.Move.{Move}
+use Rattle.run_moves.specs.Acting.{Happened, Op, constant-op, add-op, subtract-op, compare-op, branch-op, goto-op, block-op, call-op, pair-op, unpair-op, query-op}
+use Rattle.run_moves.specs.Acting.{constant-formal-op, arithmetic-formal-op, branch-formal-op, goto-formal-op, call-formal-op, operations, opOf}
+use Rattle.run_moves.specs.Acting.{Finding, Scene, sceneBy, operationOf, doConstant, doArithmetic, doQuery, happens, acting}
+use Rattle.steps.specs.Standing.{Standing}
+use Rattle.steps.specs.Here.{live-few}
+use Rattle.steps.specs.Fields as fields
+use Rattle.run_statements.specs.Pieces.{FormalsBefore, only-words}
+use Rattle.run_statements.specs.Numbers.{op-of}
+use Rattle.run_cells.specs.Finding.{Reachable, Direct, ThroughFormal}
+use Rattle.run_cells.specs.Asking.{wordBehind, Calling, Ready, Leads, Did, classOf}
+use Rattle.run_cells.specs.Moves as moves
+use Rattle.run_cells.specs.Classes.{add-only, subtract-only, compare-only, arithmetic-only, query-only, constant-only}
+use Rattle.chain_records.specs.declared.Activation.{Activation}
+use Rattle.run_state.specs.declared.Registers.{Registers}
+use Rattle.chain_links.specs.Records.{blocksIn, nextsIn, linksIn}
+use Rattle.chain_links.specs.Finding.{firstCell, byChain, Seen, Named}
+use Rattle.run_state.specs.Scenes.{limitsBy}
+use Rattle.chain_links.specs.Running.{Running}
+use Rattle.chain_links.specs.Names as links
+use Rattle.chain_step.specs.declared.turn.Moved.{Moved}
+use Rattle.chain_step.specs.Moved.{movedBy}
+
+-- an engine that runs stands before the end of a text
+pub record Stating (code : List ℕ) (words : List ℤ) (records : List Activation) (limit : ℕ) (here : Registers) : Type 0 where
+  pub group : ℕ
+  pub table : List ℤ
+  pub running : Running code limit group words records table here
+  pub before : here .at ≡ here .end → ⊥
+
+-- what the next statement does
+abbrev pub happening : List ℕ → List ℤ → List Activation → ℕ → Registers → Happened
+happening code words records limit here = acting (byChain words records (here .live) (here .level)) (sceneBy code words limit (here .live) (here .at))
+
+-- its class, and the first cell of the innermost activation
+pub record Chosen (code : List ℕ) (here : Registers) (own class : ℕ) : Type 0 where
+  pub own-is : own ≡ 32 * here .live
+  pub class-is : class ≡ classOf (opOf (getD code (here .at) 0))
+
+-- AR
+pub record Summing (code : List ℕ) (words : List ℤ) (records : List Activation) (here : Registers) (own class : ℕ) : Type 0 where
+  pub limit : ℕ
+  pub stating : Stating code words records limit here
+  pub chosen : Chosen code here own class
+  pub low : 1 ≤ class
+  pub high : class ≤ 4
+
+-- AD, RM and QY
+pub record Tabling (code : List ℕ) (words : List ℤ) (records : List Activation) (here : Registers) (own class : ℕ) : Type 0 where
+  pub limit : ℕ
+  pub stating : Stating code words records limit here
+  pub chosen : Chosen code here own class
+  pub low : 5 < class
+  pub other : class ≡ 8 → ⊥
+
+-- the statement has been done, and the engine goes on so
+pub record Does (done : Happened) (words : List ℤ) (here : Registers) (moved : Moved) (words′ : List ℤ) : Type 0 where
+  pub move : Move
+  pub did : Did done words move words′
+  pub so : moved ≡ movedBy here move
+
+unfoldable pub onlyHops : List ℕ → Registers → ℕ
+onlyHops code here =
+    elim (eqb (getD code (here .at) 0 % 16) 6) [ true ↦ 0 | false ↦ here .level - levelIn (getD code (here .at + 1) 0) ]
+
+-- The links of the only name
+
+pub none-hops : (code : List ℕ) (here : Registers) → getD code (here .at) 0 % 16 ≡ 6 → 0 ≡ onlyHops code here
+unfolding onlyHops
+none-hops code here e = rw (onlyHops, eq-eqb (getD code (here .at) 0 % 16) 6 e)
+
+pub some-hops : (code : List ℕ) (here : Registers) → (getD code (here .at) 0 % 16 ≡ 6 → ⊥) → here .level - levelIn (getD code (here .at + 1) 0) ≡ onlyHops code here
+unfolding onlyHops
+some-hops code here d = rw (onlyHops, ne-eqb (getD code (here .at) 0 % 16) 6 d)
+
+-- no other number is BK's
+block-number : (k : ℕ) → getD operations k constant-op ≡ block-op → k ≡ 6
+unfolding operations
+block-number zero e = let z : _≡_ {A = ℕ} 0 1 = cc in absurd (omega arith)
+block-number (suc zero) e = let z : _≡_ {A = ℕ} 0 1 = cc in absurd (omega arith)
+block-number (suc (suc zero)) e = let z : _≡_ {A = ℕ} 0 1 = cc in absurd (omega arith)
+block-number (suc (suc (suc zero))) e = let z : _≡_ {A = ℕ} 0 1 = cc in absurd (omega arith)
+block-number (suc (suc (suc (suc zero)))) e = let z : _≡_ {A = ℕ} 0 1 = cc in absurd (omega arith)
+block-number (suc (suc (suc (suc (suc zero))))) e = let z : _≡_ {A = ℕ} 0 1 = cc in absurd (omega arith)
+block-number (suc (suc (suc (suc (suc (suc zero)))))) e = refl
+block-number (suc (suc (suc (suc (suc (suc (suc zero))))))) e = let z : _≡_ {A = ℕ} 0 1 = cc in absurd (omega arith)
+block-number (suc (suc (suc (suc (suc (suc (suc (suc zero)))))))) e = let z : _≡_ {A = ℕ} 0 1 = cc in absurd (omega arith)
+block-number (suc (suc (suc (suc (suc (suc (suc (suc (suc zero))))))))) e = let z : _≡_ {A = ℕ} 0 1 = cc in absurd (omega arith)
+block-number (suc (suc (suc (suc (suc (suc (suc (suc (suc (suc zero)))))))))) e = let z : _≡_ {A = ℕ} 0 1 = cc in absurd (omega arith)
+block-number (suc (suc (suc (suc (suc (suc (suc (suc (suc (suc (suc zero))))))))))) e = let z : _≡_ {A = ℕ} 0 1 = cc in absurd (omega arith)
+block-number (suc (suc (suc (suc (suc (suc (suc (suc (suc (suc (suc (suc zero)))))))))))) e = let z : _≡_ {A = ℕ} 0 1 = cc in absurd (omega arith)
+block-number (suc (suc (suc (suc (suc (suc (suc (suc (suc (suc (suc (suc (suc zero))))))))))))) e = let z : _≡_ {A = ℕ} 0 1 = cc in absurd (omega arith)
+block-number (suc (suc (suc (suc (suc (suc (suc (suc (suc (suc (suc (suc (suc (suc zero)))))))))))))) e = let z : _≡_ {A = ℕ} 0 1 = cc in absurd (omega arith)
+block-number (suc (suc (suc (suc (suc (suc (suc (suc (suc (suc (suc (suc (suc (suc (suc zero))))))))))))))) e = let z : _≡_ {A = ℕ} 0 1 = cc in absurd (omega arith)
+block-number (suc (suc (suc (suc (suc (suc (suc (suc (suc (suc (suc (suc (suc (suc (suc (suc k)))))))))))))))) e = let z : _≡_ {A = ℕ} 0 1 = cc in absurd (omega arith)
+
+formal-target : (words : List ℤ) (first v : ℕ) → direct v ≡ false → targetBy words first v ≡ heldBy words first v / 8192
+unfolding targetBy
+formal-target words first v e = rw (targetBy, e)
+
+module _ {code : List ℕ} {words : List ℤ} {records : List Activation} {limit : ℕ} {here : Registers} (s : Stating code words records limit here) where
+  abbrev w : Running code limit (s .group) words records (s .table) here
+  w = s .running
+
+  abbrev st : Standing code (limitsBy limit (s .group)) words (blocksIn records) (nextsIn records) (linksIn records) (s .table) (here .pairs) (here .live)
+      (here .at) (here .end)
+  st = w .standing
+
+  abbrev word : ℕ → ℕ
+  word i = wordBehind code (here .at) i
+
+  abbrev pub op : Op
+  op = opOf (getD code (here .at) 0)
+
+  abbrev pub firstOf : ℕ → ℕ
+  firstOf = firstCell records (here .live) (here .level)
+
+  stand : fields.Fields st op
+  stand = fields.fields-stand st (s .before)
+
+  abbrev Led : (first second third : ℕ) → Op → Type 0
+  Led first second third o = Leads firstOf code (here .at) first second third o
+
+  -- a statement stands there, of two words at least
+  pub next-there : here .at + 1 < 4096
+  next-there = below op stand
+    where
+      below : (o : Op) → fields.Fields st o → here .at + 1 < 4096
+      below constant-op f = omega (arith, f .0)
+      below add-op f = omega (arith, f .0)
+      below subtract-op f = omega (arith, f .0)
+      below compare-op f = omega (arith, f .0)
+      below branch-op f = omega (arith, f .0)
+      below goto-op f = omega (arith, f .0)
+      below block-op f = omega arith
+      below call-op f = omega (arith, f .0 .there)
+      below pair-op f = omega (arith, f .0)
+      below unpair-op f = omega (arith, f .0)
+      below query-op f = omega (arith, f .0)
+      below constant-formal-op f = omega (arith, f .0)
+      below arithmetic-formal-op f = omega (arith, f .0)
+      below branch-formal-op f = omega (arith, f .0)
+      below goto-formal-op f = omega (arith, f .0)
+      below call-formal-op f = omega (arith, f .0 .there)
+
+  pub at-there : here .at < 4096
+  at-there = omega (arith, next-there)
+
+  -- a name that stands in a field
+
+  seen : (i : ℕ) → fields.FieldName st i → Seen records (here .live) (here .level) (word i)
+  seen i f = subst (Seen records (here .live) (here .level)) (sym (f .word)) (links.seen-name w (f .name) (f .resolved))
+
+  named : (i : ℕ) → here .at + i < 4096 → fields.FieldName st i → Named code records here i
+  named i h f = record { there = h; seen = seen i f }
+
+  reachable : (i first : ℕ) → first ≡ firstOf (word i) → fields.FieldName st i → Reachable words first (word i)
+  reachable i first e f =
+      subst (λ h. Reachable words h (word i)) (sym e)
+      (subst (λ v. Reachable words (firstOf v) v) (sym (f .word)) (links.reachable w (f .name) (f .resolved)))
+
+  directly : (i first : ℕ) → first ≡ firstOf (word i) → fields.Direct st i → Direct words first (word i)
+  directly i first e f = record { reachable = reachable i first e (f .0); is = f .1 }
+
+  formally : (i first : ℕ) → first ≡ firstOf (word i) → fields.ThroughFormal st i → ThroughFormal words first (word i)
+  formally i first e f = record { reachable = reachable i first e (f .0); is = f .1 }
+
+  formals-before : (first : ℕ) → first ≡ firstOf (word 1) → fields.ThroughFormal st 1 → fields.BodyStands st
+      → FormalsBefore code (heldBy words first (word 1) / 8192)
+  formals-before first e f b =
+      let h = b (byChain words records (here .live) (here .level)) (links.finds-by-chain w) in
+      subst (λ k. FormalsBefore code (heldBy words k (word 1) / 8192)) (sym e)
+      (subst (FormalsBefore code) (formal-target words (firstCell records (here .live) (here .level) (word 1)) (word 1) (f .1))
+      (record { there = h .0; before = h .1 }))
+
+  -- What its function may rely on, whatever its class is told of the limit and of the innermost activation
+
+  module _ (limit′ live′ : ℕ) (low : limit′ ≤ 256) (few : live′ ≤ 255) (first second third : ℕ) where
+    calling : fields.Arguments st → Calling code limit′ live′ (here .at)
+    calling a = record { limit-high = low; live-few = few; few = a .many; there = a .there }
+
+    ready-by : (o : Op) → fields.Fields st o → Led first second third o → Ready code words limit′ live′ (here .at) first second third o
+    ready-by constant-op f l = (f .0, directly 1 first l (f .1))
+    ready-by add-op f l = (f .0, directly 1 first (l .0) (f .1), directly 3 second (l .1) (f .2), directly 4 third (l .2) (f .3))
+    ready-by subtract-op f l = (f .0, directly 1 first (l .0) (f .1), directly 3 second (l .1) (f .2), directly 4 third (l .2) (f .3))
+    ready-by compare-op f l = (f .0, directly 1 first (l .0) (f .1), directly 3 second (l .1) (f .2), directly 4 third (l .2) (f .3))
+    ready-by branch-op f l = (f .0, directly 1 first (l .0) (f .1), directly 2 second (l .1) (f .2))
+    ready-by goto-op f l = (f .0, directly 1 first l (f .1))
+    ready-by block-op f l = (omega arith, few)
+    ready-by call-op f l = (calling (f .0), directly 1 first l (f .1))
+    ready-by pair-op f l = (f .0, reachable 1 first (l .0) (f .1), reachable 2 second (l .1) (f .2))
+    ready-by unpair-op f l = (f .0, reachable 1 first (l .0) (f .1), reachable 2 second (l .1) (f .2))
+    ready-by query-op f l = (f .0, reachable 1 first (l .0) (f .1), reachable 2 second (l .1) (f .2), reachable 3 third (l .2) (f .3))
+    ready-by constant-formal-op f l = (f .0, reachable 1 first l (f .1 .0))
+    ready-by arithmetic-formal-op f l = (f .0, reachable 1 first (l .0) (f .1), reachable 3 second (l .1) (f .2), reachable 4 third (l .2) (f .3))
+    ready-by branch-formal-op f l = (f .0, reachable 1 first (l .0) (f .1), reachable 2 second (l .1) (f .2))
+    ready-by goto-formal-op f l = (f .0, formally 1 first l (f .1))
+    ready-by call-formal-op f l = (calling (f .0), formally 1 first l (f .1), formals-before first l (f .1) (f .2))
+
+    pub ready : Led first second third op → Ready code words limit′ live′ (here .at) first second third op
+    ready l = ready-by op stand l
+
+  pub limit-high : limit ≤ 256
+  limit-high = st .sound .limit
+
+  pub live-low : here .live ≤ 255
+  live-low = omega (arith, live-few st)
+
+  -- Its names, by its class
+
+  abbrev At : ℕ → ℕ → Type 0
+  At first i = first ≡ firstOf (word i)
+
+  abbrev N : ℕ → Type 0
+  N i = Named code records here i
+
+  abbrev Two : Op → Type 0
+  Two o = (N 1 × N 2) × ((first second : ℕ) → At first 1 → At second 2 → Led first second 0 o)
+
+  abbrev ByClass : Op → ℕ → Type 0
+  ByClass o zero = (first : ℕ) → At first 1 → Led first 0 0 o
+  ByClass o (suc zero) = Unit {0}
+  ByClass o (suc (suc zero)) = Unit {0}
+  ByClass o (suc (suc (suc zero))) = Unit {0}
+  ByClass o (suc (suc (suc (suc zero)))) = Unit {0}
+  ByClass o (suc (suc (suc (suc (suc zero))))) = Two o
+  ByClass o (suc (suc (suc (suc (suc (suc zero)))))) = Two o
+  ByClass o (suc (suc (suc (suc (suc (suc (suc zero))))))) = Unit {0}
+  ByClass o (suc (suc (suc (suc (suc (suc (suc (suc zero)))))))) = Unit {0}
+  ByClass o (suc (suc (suc (suc (suc (suc (suc (suc (suc n))))))))) = ⊥
+
+  classed-by : (o : Op) → fields.Fields st o → ByClass o (classOf o)
+  unfolding classOf
+  classed-by constant-op f = tt
+  classed-by add-op f = tt
+  classed-by subtract-op f = tt
+  classed-by compare-op f = tt
+  classed-by branch-op f = ((named 1 (omega (arith, f .0)) (f .1 .0), named 2 (omega (arith, f .0)) (f .2 .0)), λ a b p q. (p, q))
+  classed-by goto-op f = λ a p. p
+  classed-by block-op f = λ a p. tt
+  classed-by call-op f = λ a p. p
+  classed-by pair-op f = ((named 1 (omega (arith, f .0)) (f .1), named 2 (omega (arith, f .0)) (f .2)), λ a b p q. (p, q))
+  classed-by unpair-op f = ((named 1 (omega (arith, f .0)) (f .1), named 2 (omega (arith, f .0)) (f .2)), λ a b p q. (p, q))
+  classed-by query-op f = tt
+  classed-by constant-formal-op f = λ a p. p
+  classed-by arithmetic-formal-op f = tt
+  classed-by branch-formal-op f = ((named 1 (omega (arith, f .0)) (f .1), named 2 (omega (arith, f .0)) (f .2)), λ a b p q. (p, q))
+  classed-by goto-formal-op f = λ a p. p
+  classed-by call-formal-op f = λ a p. p
+
+  pub by-class : (n : ℕ) → classOf op ≡ n → ByClass op n
+  by-class n e = subst (ByClass op) e (classed-by op stand)
+
+  -- the class that is left
+  pub seven-left : (n : ℕ) → ByClass op n → 5 < n → (n ≡ 6 → ⊥) → (n ≡ 8 → ⊥) → n ≡ 7
+  seven-left zero b h d e = absurd (omega arith)
+  seven-left (suc zero) b h d e = absurd (omega arith)
+  seven-left (suc (suc zero)) b h d e = absurd (omega arith)
+  seven-left (suc (suc (suc zero))) b h d e = absurd (omega arith)
+  seven-left (suc (suc (suc (suc zero)))) b h d e = absurd (omega arith)
+  seven-left (suc (suc (suc (suc (suc zero))))) b h d e = absurd (omega arith)
+  seven-left (suc (suc (suc (suc (suc (suc zero)))))) b h d e = absurd (d refl)
+  seven-left (suc (suc (suc (suc (suc (suc (suc zero))))))) b h d e = refl
+  seven-left (suc (suc (suc (suc (suc (suc (suc (suc zero)))))))) b h d e = absurd (e refl)
+  seven-left (suc (suc (suc (suc (suc (suc (suc (suc (suc n))))))))) b h d e = absurd b
+
+  -- AR and QY
+
+  abbrev way : Finding
+  way = byChain words records (here .live) (here .level)
+
+  abbrev scene : Scene
+  scene = sceneBy code words limit (here .live) (here .at)
+
+  -- three names in these fields, of which `Asks` is asked, and what is done by what is `Said`
+  pub record Does-as (j k : ℕ) (Asks : ℕ → ℕ → ℕ → Type 0) (Said : Move → List ℤ → Type 0) : Type 0 where
+    pub named : N 1 × N j × N k
+    pub asks : (first second third : ℕ) → At first 1 → At second j → At third k → Asks first second third
+    pub did : {r : Move} {words′ : List ℤ} → Said r words′ → Did (acting way scene) words r words′
+
+  abbrev Summed : Operation → Move → List ℤ → Type 0
+  Summed f r words′ = (r ≡ doArithmetic way (only-words code words (here .at)) f .move)
+      × (words′ ≡ doArithmetic way (only-words code words (here .at)) f .words)
+
+  abbrev Own : ℕ → ℕ → ℕ → Type 0
+  Own first second third = (here .at + 5 ≤ 4096) × Direct words first (word 1) × Direct words second (word 3) × Direct words third (word 4)
+
+  abbrev pub Sum : Operation → Type 0
+  Sum f = Does-as 3 4 Own (Summed f)
+
+  sum : (p : Op) (f : Operation) → op ≡ p → fields.Fields st add-op → doArithmetic way scene f ≡ happens way scene p → Sum f
+  sum p f is fs e =
+      record {
+        named = (
+          named 1 (omega (arith, fs .0)) (fs .1 .0),
+          named 3 (omega (arith, fs .0)) (fs .2 .0),
+          named 4 (omega (arith, fs .0)) (fs .3 .0),
+        );
+        asks = λ a b c p q r. (fs .0, directly 1 a p (fs .1), directly 3 b q (fs .2), directly 4 c r (fs .3));
+        did = λ {r} {words′} d.
+            moves.did way scene p is (subst (λ (x : Happened). Did x words r words′) e (moves.arithmetic-did way scene f d));
+      }
+
+  pub adds : classOf op ≡ 1 → Sum plus
+  unfolding operations happens
+  adds e = let is : op ≡ add-op = op-of (getD code (here .at) 0) 1 (add-only _ e) in sum add-op plus is (subst (fields.Fields st) is stand) refl
+
+  pub subtracts : classOf op ≡ 2 → Sum minus
+  unfolding operations happens
+  subtracts e =
+      let is : op ≡ subtract-op = op-of (getD code (here .at) 0) 2 (subtract-only _ e) in
+      sum subtract-op minus is (subst (fields.Fields st) is stand) refl
+
+  pub compares : classOf op ≡ 3 → Sum less
+  unfolding operations happens
+  compares e =
+      let is : op ≡ compare-op = op-of (getD code (here .at) 0) 3 (compare-only _ e) in
+      sum compare-op less is (subst (fields.Fields st) is stand) refl
+
+  abbrev Final : (j k l : ℕ) → ℕ → ℕ → ℕ → Type 0
+  Final j k l first second third = (here .at + l ≤ 4096) × Reachable words first (word 1) × Reachable words second (word j) × Reachable words third (word k)
+
+  abbrev pub Formal : Type 0
+  Formal = Does-as 3 4 (Final 3 4 5) (Summed (operationOf (word 2)))
+
+  pub through-formals : classOf op ≡ 4 → Formal
+  unfolding operations happens
+  through-formals e =
+      let is : op ≡ arithmetic-formal-op = op-of (getD code (here .at) 0) 12 (arithmetic-only _ e) in
+      let fs = subst (fields.Fields st) is stand in
+      record {
+        named = (named 1 (omega (arith, fs .0)) (fs .1), named 3 (omega (arith, fs .0)) (fs .2), named 4 (omega (arith, fs .0)) (fs .3));
+        asks = λ a b c p q r. (fs .0, reachable 1 a p (fs .1), reachable 3 b q (fs .2), reachable 4 c r (fs .3));
+        did = λ d. moves.did way scene arithmetic-formal-op is (moves.arithmetic-did way scene (operationOf (word 2)) d);
+      }
+
+  abbrev pub Query : Type 0
+  Query = Does-as 2 3 (Final 2 3 4) (λ r words′. (r ≡ doQuery way (only-words code words (here .at)) .move) × (words′ ≡ words))
+
+  pub queries : classOf op ≡ 7 → Query
+  unfolding operations happens
+  queries e =
+      let is : op ≡ query-op = op-of (getD code (here .at) 0) 10 (query-only _ e) in
+      let fs = subst (fields.Fields st) is stand in
+      record {
+        named = (named 1 (omega (arith, fs .0)) (fs .1), named 2 (omega (arith, fs .0)) (fs .2), named 3 (omega (arith, fs .0)) (fs .3));
+        asks = λ a b c p q r. (fs .0, reachable 1 a p (fs .1), reachable 2 b q (fs .2), reachable 3 c r (fs .3));
+        did = λ {r} {words′} d. subst (λ (v : List ℤ). Did (acting way scene) words r v) (sym (d .1)) (moves.did way scene query-op is (moves.query-did way scene (d .0)));
+      }
+
+  -- KN of no formal
+
+  pub record Stores : Type 0 where
+    pub named : N 1
+    pub asks : (first : ℕ) → At first 1 → (here .at + 4 ≤ 4096) × Direct words first (word 1)
+    pub did : {r : Move} {words′ : List ℤ} → (r ≡ doConstant way (only-words code words (here .at)) .move)
+        × (words′ ≡ doConstant way (only-words code words (here .at)) .words) → Did (acting way scene) words r words′
+
+  pub stores : classOf op ≡ 8 → Stores
+  unfolding operations happens
+  stores e =
+      let is : op ≡ constant-op = op-of (getD code (here .at) 0) 0 (constant-only _ e) in
+      let fs = subst (fields.Fields st) is stand in
+      record {
+        named = named 1 (omega (arith, fs .0)) (fs .1 .0);
+        asks = λ a p. (fs .0, directly 1 a p (fs .1));
+        did = λ d. moves.did way scene constant-op is (moves.constant-did way scene d);
+      }
+
+  -- A statement with one name or none
+
+  first-name : (o : Op) → (o ≡ block-op → ⊥) → fields.Fields st o → fields.FieldName st 1
+  first-name constant-op d f = f .1 .0
+  first-name add-op d f = f .1 .0
+  first-name subtract-op d f = f .1 .0
+  first-name compare-op d f = f .1 .0
+  first-name branch-op d f = f .1 .0
+  first-name goto-op d f = f .1 .0
+  first-name block-op d f = absurd (d refl)
+  first-name call-op d f = f .1 .0
+  first-name pair-op d f = f .1
+  first-name unpair-op d f = f .1
+  first-name query-op d f = f .1
+  first-name constant-formal-op d f = f .1 .0
+  first-name arithmetic-formal-op d f = f .1
+  first-name branch-formal-op d f = f .1
+  first-name goto-formal-op d f = f .1 .0
+  first-name call-formal-op d f = f .1 .0
+
+  pub first-outer : (getD code (here .at) 0 % 16 ≡ 6 → ⊥) → levelIn (word 1) ≤ here .level
+  unfolding opOf
+  first-outer d = seen 1 (first-name op (λ e. d (block-number (getD code (here .at) 0 % 16) e)) stand) .outer
+
+  is-block : (first : ℕ) → getD code (here .at) 0 % 16 ≡ 6 → Led first 0 0 op
+  unfolding operations
+  is-block first t = subst (λ o. Led first 0 0 o) (sym (op-of (getD code (here .at) 0) 6 t)) tt
+
+  pub only-led : (first : ℕ) → first ≡ 32 * follow (linksIn records) (here .live) (onlyHops code here) → classOf op ≡ 0 → Led first 0 0 op
+  only-led first e one =
+      split (eqb (getD code (here .at) 0 % 16) 6) (λ t. is-block first (eqb-true (getD code (here .at) 0 % 16) 6 t))
+      (λ t. by-class 0 one first (e ∙ ap (λ (n : ℕ). 32 * follow (linksIn records) (here .live) n)
+      (sym (some-hops code here (eqb-false (getD code (here .at) 0 % 16) 6 t)))))

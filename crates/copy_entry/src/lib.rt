@@ -1,0 +1,96 @@
+// Entering a block, of the copying engine: its text is copied anew into the area, and no copy is used twice.
+use copy_texts::copy_text;
+use copy_texts::renew;
+use run_state::Registers;
+use run_state::narrow;
+use run_state::narrow_u32;
+use run_words::clear;
+use run_words::code_at;
+ghost use Prim.Native.Nat.{_+_, _<_, _≤_};
+ghost use Rattle.copy_entry.specs.Anew.{Enterable, Noted, AnewIn};
+
+// What is noted of a new activation: its block, its first new name and that name's cell, and where the activation below goes on.
+fn note(
+    blocks: &mut [u16; 256],
+    nexts: &mut [u16; 256],
+    firsts: &mut [u32; 256],
+    starts: &mut [u16; 256],
+    here: Registers,
+    body: usize,
+    formals: usize,
+    back: usize,
+)
+    requires { ⌜ (here .live + 1 < 256) × (body < 65536) × (back < 65536) × (formals ≤ 32) × (here .fresh < 4294967296) ⌝ }
+    ensures { λ _. ⌜ Noted (now (blocks .entry)) (now (nexts .entry)) (now (firsts .entry)) (now (starts .entry)) here body formals back
+        (now (blocks .exit)) (now (nexts .exit)) (now (firsts .exit)) (now (starts .exit)) ⌝ }
+{
+    let below = here.live;
+    let live = below + 1;
+    nexts[below] = narrow(back);
+    blocks[live] = narrow(body);
+    firsts[live] = narrow_u32(here.fresh);
+    starts[live] = narrow(32 * live + formals);
+}
+
+// A new activation of the block at a place, whose text is copied from the activation `link`. The arguments' words stand in its first cells, and
+// their names behind the CL.
+pub fn enter(
+    code: &[u32; 4096],
+    names: &[u32; 4096],
+    words: &mut [i32; 8224],
+    area: &mut [u32],
+    width: usize,
+    blocks: &mut [u16; 256],
+    nexts: &mut [u16; 256],
+    firsts: &mut [u32; 256],
+    starts: &mut [u16; 256],
+    targets: &mut [u16; 8224],
+    looked: &mut [u32; 256],
+    here: Registers,
+    body: usize,
+    link: usize,
+    back: usize,
+) -> Registers
+    requires { ⌜ Enterable (now code) (now names) (now area) width here body link back ⌝ }
+    ensures { λ r. ⌜ AnewIn (now (code .entry)) (now (names .entry)) width here body link back (now (words .entry)) (now (area .entry))
+        (now (blocks .entry)) (now (nexts .entry)) (now (firsts .entry)) (now (starts .entry)) (now (targets .entry)) (now (looked .entry))
+        (now (words .exit)) (now (area .exit)) (now (blocks .exit)) (now (nexts .exit)) (now (firsts .exit)) (now (starts .exit))
+        (now (targets .exit)) (now (looked .exit)) r ⌝ }
+{
+    let head = code_at(code, body);
+    let bounds = code_at(code, body + 1);
+    let word = code_at(code, body + 2);
+    let count = head / 16777216;
+    let formals = head / 65536 % 256;
+    let level = head / 256 % 256;
+    let below = here.live;
+    let live = below + 1;
+    let given = below * width + (here.at + 3);
+    let first = here.fresh - formals;
+    let fresh = first + count;
+    note(blocks, nexts, firsts, starts, here, body, formals, back);
+    looked[live] = renew(area, given, level, first, word, looked[link]);
+    let cells = 32 * live;
+    let end = bounds % 65536;
+    copy_text(
+        area,
+        names,
+        targets,
+        link * width,
+        live * width,
+        given,
+        level,
+        first,
+        cells,
+        body,
+        end,
+    );
+    clear(words, cells + formals, cells + count);
+    Registers {
+        live,
+        at: bounds / 65536,
+        end,
+        fresh,
+        ..here
+    }
+}

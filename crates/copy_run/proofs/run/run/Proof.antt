@@ -1,0 +1,223 @@
+-- `run` meets its contract. The loop's invariant: the run has come so far that so many steps are left.
+use native.Mathlib.Omega.{arith}
+use mathlib.Core.Path.{_≡_, refl, _∙_}
+use borrow.Author.Needs.{needs}
+use lib.ListN.{length}
+use Rattle.copy_moves.specs.Running.{Running}
+use Rattle.copy_run.specs.Turning.{Arrays, arraysOf}
+use Rattle.copy_run.specs.Ending.{Going, begun, step-ready, settle-ready, live-small, at-small, few-left, spent, stopped, went-as, finished-as, stays}
+use Rattle.copy_run.proofs.run.run.Statement.{statement}
+use Rattle.copy_run.proofs.run.run.Tie as tie
+
+abbrev Inv-loop : tie.InvT-loop
+Inv-loop code names words₀ area₀ width blocks₀ nexts₀ firsts₀ starts₀ targets₀ looked₀ table₀ group limit allowance here₀ left₀ words area blocks nexts firsts starts targets looked table here left =
+    ((w : Running code names limit group words₀ area₀ width blocks₀ nexts₀ firsts₀ starts₀ targets₀ looked₀ table₀ here₀)
+    → Going w allowance (arraysOf words area blocks nexts firsts starts targets looked table) here left)
+    × (length area ≡ length area₀) × (length table ≡ length table₀)
+
+abbrev μ-loop : tie.MeasureT-loop
+μ-loop code names words₀ area₀ width blocks₀ nexts₀ firsts₀ starts₀ targets₀ looked₀ table₀ group limit allowance here₀ left₀ words area blocks nexts firsts starts targets looked table here left =
+    left
+
+-- the places: a turn from where its step is called and from behind the step, the loop, and the start
+abbrev sixthOf : tie.After-step-arg9 Inv-loop μ-loop → tie.After-step-arg6 Inv-loop μ-loop
+sixthOf c = c .before .before .before
+
+abbrev thirdOf : tie.After-step-arg6 Inv-loop μ-loop → tie.After-step-arg3 Inv-loop μ-loop
+thirdOf c = c .before .before .before
+
+abbrev turnAt : tie.After-step-arg9 Inv-loop μ-loop → tie.In-loop Inv-loop μ-loop
+turnAt c = (thirdOf (sixthOf c)) .before .before .before
+
+abbrev turnOf : tie.After-step Inv-loop μ-loop → tie.In-loop Inv-loop μ-loop
+turnOf c = turnAt (c .before)
+
+abbrev loopAt : tie.After-step Inv-loop μ-loop → tie.At-loop Inv-loop μ-loop
+loopAt c = (turnOf c) .before
+
+abbrev startOf : tie.At-loop Inv-loop μ-loop → tie.Start Inv-loop μ-loop
+startOf l = l .before .before
+
+-- a turn's step, from behind each of its ways
+abbrev stepOf : tie.After-table Inv-loop μ-loop → tie.After-step Inv-loop μ-loop
+stepOf c = c .before .before .before
+
+abbrev wentOf : tie.After-known-told Inv-loop μ-loop → tie.After-step Inv-loop μ-loop
+wentOf c = stepOf (c .before .before .before)
+
+abbrev finishedOf : tie.After-enum-told Inv-loop μ-loop → tie.After-step Inv-loop μ-loop
+finishedOf c = stepOf (c .before .before)
+
+abbrev haltOf : tie.After-settle-arg4 Inv-loop μ-loop → tie.After-stopped Inv-loop μ-loop
+haltOf c = c .before .before .before .before
+
+abbrev causeOf : tie.After-stopped Inv-loop μ-loop → tie.After-cause Inv-loop μ-loop
+causeOf c = c .before .before
+
+abbrev stoppedOf : tie.After-cause Inv-loop μ-loop → tie.After-step Inv-loop μ-loop
+stoppedOf c = stepOf (c .before .before)
+
+-- the loop's end
+abbrev spentOf : tie.After-settle-arg8 Inv-loop μ-loop → tie.After-spent Inv-loop μ-loop
+spentOf c = c .before .before .before .before
+
+abbrev doneOf : tie.After-spent Inv-loop μ-loop → tie.After-loop Inv-loop μ-loop
+doneOf c = c .before
+
+-- what a step leaves
+abbrev leftBy : tie.After-step Inv-loop μ-loop → Arrays
+leftBy o =
+    let d = o .step .last .1 .1 in
+    let e = d .1 .1 .1 in
+    arraysOf (d .0) (d .1 .0) (e .0) (e .1 .0) (e .1 .1 .0) (e .1 .1 .1 .0) (e .1 .1 .1 .1 .0) (e .1 .1 .1 .1 .1 .0) (e .1 .1 .1 .1 .1 .1 .0)
+
+-- area and table keep their lengths
+area-kept : (o : tie.After-step Inv-loop μ-loop) → length ((leftBy o) .area) ≡ length ((startOf (loopAt o)) .args .area .now)
+area-kept o = o .step .kept .1 .1 .1 .0 ∙ (loopAt o) .loop .inv .1
+
+table-kept : (o : tie.After-step Inv-loop μ-loop) → length ((leftBy o) .table) ≡ length ((startOf (loopAt o)) .args .table .now)
+table-kept o = o .step .kept .1 .1 .1 .1 .1 .1 .1 .1 .1 .1 .1 .0 ∙ (loopAt o) .loop .inv .2
+
+-- the arrays as a turn finds them, and that the run has come so far
+abbrev foundBy : tie.At-loop Inv-loop μ-loop → Arrays
+foundBy l =
+    let v = l .loop in
+    arraysOf (v .words) (v .area) (v .blocks) (v .nexts) (v .firsts) (v .starts) (v .targets) (v .looked) (v .table)
+
+going : (l : tie.At-loop Inv-loop μ-loop)
+    → Going ((startOf l) .pre .running) ((startOf l) .args .allowance) (foundBy l) (l .loop .here) (l .loop .left)
+going l = l .loop .inv .0 ((startOf l) .pre .running)
+
+loop-holds : tie.Need-loop-holds Inv-loop μ-loop
+loop-holds c = (λ w. begun w (c .before .args .allowance), refl, refl)
+
+step-requires : tie.Need-step-requires Inv-loop μ-loop
+step-requires c κs =
+    let t = turnAt c in
+    step-ready (going (t .before)) ((startOf (t .before)) .pre .names-left) (t .loop-test .taken)
+
+sub-left : tie.Need-sub-left Inv-loop μ-loop
+sub-left c = (turnOf (wentOf c)) .loop-test .taken
+
+loop-less : tie.Need-loop-less Inv-loop μ-loop
+loop-less c = omega (arith, (turnOf (wentOf c)) .loop-test .taken)
+
+loop-again : tie.Need-loop-again Inv-loop μ-loop
+loop-again c =
+    let o = wentOf c in
+    let i = (loopAt o) .loop .inv in (
+      λ w. went-as (i .0 w) (leftBy o) (o .step .result) (o .step .ensures (i .0 w .running)) (c .before .next .given .0 .0) (c .before .next .given .1)
+          ((turnOf o) .loop-test .taken),
+      area-kept o,
+      table-kept o,
+    )
+
+sub-finished : tie.Need-sub-finished Inv-loop μ-loop
+sub-finished c = few-left (going (loopAt (finishedOf c)))
+
+add-finished : tie.Need-add-finished Inv-loop μ-loop
+add-finished c =
+    let o = finishedOf c in
+    record { fits = omega (arith, (startOf (loopAt o)) .fits .allowance .fits, (turnOf o) .loop-test .taken) }
+
+same-length : tie.Need-same-length Inv-loop μ-loop
+same-length c = area-kept (finishedOf (c .before))
+
+same-length-2 : tie.Need-same-length-2 Inv-loop μ-loop
+same-length-2 c = table-kept (finishedOf (c .before))
+
+returns : tie.Need-returns Inv-loop μ-loop
+returns c =
+    let o = finishedOf (c .before) in
+    λ w.
+    let u = (loopAt o) .loop .inv .0 w in
+    finished-as u (leftBy o) (o .step .result) (o .step .ensures (u .running)) (c .before .enum-told .given .1) ((turnOf o) .loop-test .taken)
+    (c .finished .result) (c .finished .ensures)
+
+sub-stopped : tie.Need-sub-stopped Inv-loop μ-loop
+sub-stopped c = few-left (going (loopAt (stoppedOf (c .before))))
+
+stopped-requires : tie.Need-stopped-requires Inv-loop μ-loop
+stopped-requires c κs =
+    let u = going (loopAt (stoppedOf (c .before))) in
+    (live-small u, at-small u)
+
+settle-requires : tie.Need-settle-requires Inv-loop μ-loop
+settle-requires c κs =
+    let k = causeOf (haltOf c) in
+    let o = stoppedOf k in
+    let u = going (loopAt o) in
+    settle-ready ((stays u (leftBy o) (o .step .result) (o .step .ensures (u .running)) (k .cause .given .0 .0) (k .cause .given .1)) .0)
+
+same-length-3 : tie.Need-same-length-3 Inv-loop μ-loop
+same-length-3 c = area-kept (stoppedOf (causeOf (haltOf (c .before .before))))
+
+same-length-4 : tie.Need-same-length-4 Inv-loop μ-loop
+same-length-4 c = table-kept (stoppedOf (causeOf (haltOf (c .before .before))))
+
+returns-2 : tie.Need-returns-2 Inv-loop μ-loop
+returns-2 c =
+    let e = c .before in
+    let h = haltOf (e .before) in
+    let k = causeOf h in
+    let o = stoppedOf k in
+    λ w.
+    let u = (loopAt o) .loop .inv .0 w in
+    let v = stays u (leftBy o) (o .step .result) (o .step .ensures (u .running)) (k .cause .given .0 .0) (k .cause .given .1) in
+    stopped (v .0) (e .settle .last .0) (e .settle .ensures .1) (e .settle .result) (e .settle .ensures .0) (h .stopped .result) (c .named .result)
+    (c .named .ensures) (k .cause .given .0 .0) (v .1) ((turnOf o) .loop-test .taken) (h .stopped .ensures)
+
+spent-requires : tie.Need-spent-requires Inv-loop μ-loop
+spent-requires c κs = live-small (going (c .before))
+
+settle-requires-2 : tie.Need-settle-requires-2 Inv-loop μ-loop
+settle-requires-2 c κs = settle-ready (going ((doneOf (spentOf c)) .before))
+
+same-length-5 : tie.Need-same-length-5 Inv-loop μ-loop
+same-length-5 c = (doneOf (spentOf (c .before .before))) .before .loop .inv .1
+
+same-length-6 : tie.Need-same-length-6 Inv-loop μ-loop
+same-length-6 c = (doneOf (spentOf (c .before .before))) .before .loop .inv .2
+
+returns-3 : tie.Need-returns-3 Inv-loop μ-loop
+returns-3 c =
+    let e = c .before in
+    let h = spentOf (e .before) in
+    let t = doneOf h in
+    λ w.
+    spent (t .before .loop .inv .0 w) (e .settle2 .last .0) (e .settle2 .ensures .1) (e .settle2 .result) (e .settle2 .ensures .0) (h .spent .result)
+    (c .named2 .result) (c .named2 .ensures) (omega (arith, t .loop-test .left)) (h .spent .ensures)
+
+pub run-spec : {M : Type 1} → statement M
+run-spec =
+    tie.close
+    (tie.spec
+    Inv-loop
+    μ-loop
+    loop-holds
+    step-requires
+    (λ c. search needs)
+    sub-left
+    loop-less
+    loop-again
+    (λ c. search needs)
+    sub-finished
+    add-finished
+    (λ c κs. search needs)
+    same-length
+    same-length-2
+    returns
+    (λ c. search needs)
+    sub-stopped
+    stopped-requires
+    settle-requires
+    (λ c κs. search needs)
+    same-length-3
+    same-length-4
+    returns-2
+    spent-requires
+    settle-requires-2
+    (λ c κs. search needs)
+    same-length-5
+    same-length-6
+    returns-3)

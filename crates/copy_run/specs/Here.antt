@@ -1,0 +1,69 @@
+-- What `Meaning` asks, of an engine that runs: the words of names and the fields at the next statement (`governed-here`, `written-here`), and the cells
+-- of its names (`cells-here`, `sorted-here`). So the statement means a step: `means-here`, `ready-here`.
+use Prim.Native.Nat.{ℕ, suc, pred}
+use mathlib.Core.List.{List}
+use mathlib.Core.Option.{some}
+use mathlib.Core.Path.{_≡_, sym, _∙_, subst}
+use lib.IntN.{ℤ}
+use lib.ListN.{length, getElem?}
+use Rattle.language.specs.Text.{stmtAt}
+use Rattle.language.specs.Encoding.{blockFields, stmtFields}
+use Rattle.language.specs.Machine.{Activation}
+use Rattle.frames.specs.Frame.{frameStmt}
+use Rattle.frames.specs.Related.{as-deep}
+use Rattle.coordinates.specs.Chain.{enclosing, enclosureOf}
+use Rattle.coordinates.specs.Levels.{in-innermost}
+use Rattle.resolved.specs.Resolved.{placeOf, Covers}
+use Rattle.copy_fields.specs.Governed.{governedStmt}
+use Rattle.copy_fields.specs.Standing.{stmt-governed, stmt-fields-stand}
+use Rattle.copy_names.specs.Owner.{Sorted}
+use Rattle.copy_names.specs.Finding.{sorted, cell-of-name}
+use Rattle.steps.specs.Means.{Means}
+use Rattle.steps.specs.Here.{many, last-is, encloses-here, stands-at}
+use Rattle.copy_statements.specs.Doing.{doing}
+use Rattle.copy_statements.specs.Ready.{Ready}
+use Rattle.run_state.specs.declared.Registers.{Registers}
+use Rattle.copy_moves.specs.Running.{Running}
+use Rattle.copy_run.specs.Words.{copyOf, sceneIn, around, GovernedHere, WrittenHere, innermost-activation}
+use Rattle.copy_run.specs.Names.{CellOfName}
+use Rattle.copy_run.specs.Meaning.{ready, means}
+
+module _ {code names : List ℕ} {limit group : ℕ} {words : List ℤ} {area : List ℕ} {width : ℕ} {blocks nexts firsts starts targets looked : List ℕ} {table : List ℤ} {now : Registers}
+    (w : Running code names limit group words area width blocks nexts firsts starts targets looked table now) where
+  pub governed-here : GovernedHere w
+  unfolding frameStmt enclosing
+  governed-here x q =
+      let s = w .standing in
+      subst (λ i. Covers names i (governedStmt x (around w))) (sym (stands-at s x q))
+      (in-innermost (s .program) (s .stack .frames) (s .sound .chained) (s .frame) (last-is s) (λ es. Covers names (placeOf (stmtAt x)) (governedStmt x es))
+      (λ es h. stmt-governed names (s .program) (s .keeps) (w .governs) (enclosing (s .frame)) es h (pred (s .frame .next)) x q))
+
+  pub written-here : WrittenHere w
+  unfolding frameStmt enclosing
+  written-here x q =
+      let s = w .standing in
+      subst (λ i. Covers (blockFields (s .program)) i (stmtFields x)) (sym (stands-at s x q))
+      (stmt-fields-stand (s .program) (s .keeps) (enclosing (s .frame)) (enclosureOf (s .stack .frames) (s .frame .link)) (encloses-here s) (pred (s .frame .next)) x q)
+
+  pub many-copies : length (w .copies .live) ≡ suc (now .live)
+  many-copies = as-deep (w .copies) (w .standing .stack) (w .related) ∙ many (w .standing)
+
+  module _ (a : Activation) (e : getElem? (w .copies .live) (now .live) ≡ some a) where
+    pub cells-here : CellOfName w a
+    cells-here = cell-of-name (w .copies) (w .standing .stack) (w .related) firsts starts (w .new-names) (now .live) a many-copies e
+
+    pub sorted-at : Sorted firsts (now .live)
+    sorted-at = sorted (w .copies) (w .standing .stack) (w .related) firsts starts (w .new-names) (now .live) a many-copies e
+
+  pub sorted-here : Sorted firsts (now .live)
+  sorted-here = let a = innermost-activation w in sorted-at (a .0) (a .1)
+
+  pub means-here : (now .at ≡ now .end → ⊥) → Means (w .standing) (doing (copyOf w) (sceneIn w))
+  means-here d =
+      let a = innermost-activation w in
+      means w (a .0) (a .1) governed-here written-here (cells-here (a .0) (a .1)) d
+
+  pub ready-here : (now .at ≡ now .end → ⊥) → Ready (copyOf w) (sceneIn w)
+  ready-here d =
+      let a = innermost-activation w in
+      ready w (a .0) (a .1) governed-here written-here (cells-here (a .0) (a .1)) d (sorted-at (a .0) (a .1))

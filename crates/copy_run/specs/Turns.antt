@@ -1,0 +1,190 @@
+-- A step of the copying engine, by what the statement comes to (`Came`). For each move: the engine goes on (`went-on`, `answered-on`), or may leave, jump or
+-- enter (`leave-ready`, `jump-ready`, `enter-ready`) and stands behind the step once it has (`left-on`, `jumped-on`, `entered-on`), or stops (`stopped-at`).
+use Prim.Native.Nat.{ℕ, suc, _+_, _-_, _*_, _%_, _≤_, _<_}
+use native.Mathlib.Omega.{arith}
+use native.Mathlib.Nat.{mul-le-mul-right}
+use mathlib.Core.List.{List}
+use mathlib.Core.Option.{some}
+use mathlib.Core.Path.{_≡_, refl, sym, ap, _∙_, subst}
+use lib.IntN.{ℤ}
+use lib.ListN.{length, getD, getElem?}
+use Rattle.language.specs.declared.Stop.{Stop as Cause}
+use Rattle.laws.specs.Lists.{getElem-in}
+use Rattle.frames.specs.Frame.{Frame, numbered, halted, frameStep}
+use Rattle.frames.specs.Numbered.{numbered-index}
+use Rattle.resolved.specs.Resolved.{endPlace}
+use Rattle.run_moves.specs.declared.Move.{Move}
+use Rattle.run_moves.specs.declared.Move.the-variants.{On, Table as Asks, Jump, Enter, Stop}
+use Rattle.run_moves.specs.declared.Ask.{Ask}
+use Rattle.run_moves.specs.Acting.{Happened, answer}
+use Rattle.table_pairs.specs.declared.Change.{Change}
+use Rattle.table_pairs.specs.declared.Change.the-variants.{Done as Count, Stopped as Halted}
+use Rattle.run_statements.specs.Answers.{Answered, turnAfter, done-goes, stopped-halts}
+use Rattle.steps.specs.Means.{GoesOn, JumpsTo, EntersAt, AnswerMeans, MoveMeans}
+use Rattle.steps.specs.Here.{many, within-limit, live-few}
+use Rattle.steps.specs.Reads.{block-within, end-there, end-here}
+use Rattle.steps.specs.Loop.{leaves, jumped}
+use Rattle.copy_statements.specs.declared.moved.Moved.{Moved}
+use Rattle.copy_statements.specs.declared.moved.Moved.the-variants.{Went, Jump as JumpTo, Enter as EnterBy, Stop as StopFor, Table as AskBy}
+use Rattle.copy_statements.specs.Doing.{doing}
+use Rattle.copy_statements.specs.Moved.{movedBy, Came}
+use Rattle.run_state.specs.declared.Registers.{Registers}
+use Rattle.run_state.specs.declared.Turn.{Turn}
+use Rattle.run_state.specs.Scenes.{limitsBy, goesTo}
+use Rattle.copy_moves.specs.Running.{Running, nowAt, Succeeds}
+use Rattle.copy_entry.specs.Anew.{Enterable, AnewIn}
+use Rattle.copy_moves.specs.Going.{goes-on}
+use Rattle.run_state.specs.Turns.{Stops}
+use Rattle.copy_run.specs.Turning.{arraysOf, Turned}
+use Rattle.copy_run.specs.Words.{copyOf, sceneIn}
+use Rattle.copy_run.specs.Here.{means-here}
+use Rattle.copy_run.specs.Entering.{enterable, enters-on}
+
+module _ {code names : List ℕ} {limit group : ℕ} {words : List ℤ} {area : List ℕ} {width : ℕ} {blocks nexts firsts starts targets looked : List ℕ} {table : List ℤ} {here : Registers}
+    (w : Running code names limit group words area width blocks nexts firsts starts targets looked table here) where
+  abbrev fs : List Frame
+  fs = w .standing .stack .frames
+
+  -- an activation that is live
+  live-frame : (k : ℕ) → k ≤ here .live → (f : Frame) × (getElem? fs k ≡ some f)
+  live-frame k h = getElem-in fs k (omega (arith, many (w .standing)))
+
+  within : (k : ℕ) → k ≤ here .live → getD blocks k 0 + 1 < 4096
+  within k h =
+      let f = live-frame k h in
+      omega (arith, block-within (w .standing) k (f .0) (f .1))
+
+  end-of : (k : ℕ) (f : Frame) → numbered fs (suc k) ≡ some f → getD code (getD blocks k 0 + 1) 0 % 65536 ≡ endPlace (f .text)
+  end-of k f e = end-there (w .standing) k f (numbered-index fs (suc k) f e)
+
+  -- The end of the text
+
+  pub leave-ready : 1 ≤ here .live → (1 ≤ here .live) × (here .live ≤ 256) × (getD blocks (here .live - 1) 0 + 1 < 4096)
+  leave-ready h = (h, omega (arith, live-few (w .standing)), within (here .live - 1) (omega arith))
+
+  pub left-on : here .at ≡ here .end → 1 ≤ here .live → (r : Registers) → r ≡ nowAt code blocks here (here .live - 1) (getD nexts (here .live - 1) 0)
+      → Succeeds w words area blocks nexts firsts starts targets looked table r
+  left-on e h r is =
+      let l = leaves (w .standing) e h in
+      let one : suc (here .live - 1) ≡ here .live = omega arith in
+      let ends = end-of (here .live - 1) (l .frame) (ap (numbered fs) one ∙ l .stands) in
+      subst (λ (n : Registers). Succeeds w words area blocks nexts firsts starts targets looked table n)
+      ((λ i. goesTo here (here .live - 1) (getD nexts (here .live - 1) 0) (sym ends i) (here .pairs)) ∙ sym is)
+      (goes-on w (l .standing) (l .follows) (omega arith) (λ k p. (refl, refl)))
+
+  -- The next statement
+
+  pub base-within : here .live * width ≤ length area
+  base-within = omega (arith, w .room, mul-le-mul-right width (within-limit (w .standing)))
+
+  -- what the move says, as the engine goes on by it
+  abbrev MovedMeans : Moved → List ℤ → Type 0
+  MovedMeans (Went p) words′ = MoveMeans (w .standing) (On p) words′
+  MovedMeans (JumpTo p home) words′ = MoveMeans (w .standing) (Jump home p) words′
+  MovedMeans (EnterBy back link body) words′ = MoveMeans (w .standing) (Enter body link back) words′
+  MovedMeans (StopFor c) words′ = MoveMeans (w .standing) (Stop c) words′
+  MovedMeans (AskBy p g m t a) words′ = MoveMeans (w .standing) (Asks p g m t a) words′
+
+  moved-means : (m : Move) (words′ : List ℤ) → MoveMeans (w .standing) m words′ → MovedMeans (movedBy m) words′
+  unfolding movedBy
+  moved-means (On p) words′ z = z
+  moved-means (Asks p g m t a) words′ z = z
+  moved-means (Jump home p) words′ z = z
+  moved-means (Enter body link back) words′ z = z
+  moved-means (Stop c) words′ z = z
+
+  goes : (p n : ℕ) (words′ table′ : List ℤ) → GoesOn (w .standing) words′ table′ n p
+      → Succeeds w words′ area blocks nexts firsts starts targets looked table′ (goesTo here (here .live) p (here .end) n)
+  goes p n words′ table′ g = goes-on w (g .standing) (g .follows) (omega arith) (λ k q. (refl, refl))
+
+  stops : (c : Cause) (words′ table′ : List ℤ) → (frameStep (limitsBy limit group) (w .standing .stack) ≡ halted c) × (words′ ≡ words) × (table′ ≡ table)
+      → Stops (limitsBy limit group) (w .standing .stack) c (arraysOf words area blocks nexts firsts starts targets looked table)
+      (arraysOf words′ area blocks nexts firsts starts targets looked table′)
+  stops c words′ table′ m = record { stops = m .0; same = λ i. arraysOf (m .1 i) area blocks nexts firsts starts targets looked (m .2 i) }
+
+  module _ (before : here .at ≡ here .end → ⊥) (r : Moved) (words′ : List ℤ) (h : Came (doing (copyOf w) (sceneIn w)) r words′) where
+    abbrev result : Happened
+    result = doing (copyOf w) (sceneIn w)
+
+    means : MovedMeans r words′
+    means =
+        subst (λ (T : Type 0). T) (λ i. MovedMeans (sym (h .0) i) (sym (h .1) i)) (moved-means (result .move) (result .words) (means-here w before))
+
+    means-as : (m : Moved) → r ≡ m → MovedMeans m words′
+    means-as m e = subst (λ (x : Moved). MovedMeans x words′) e means
+
+    pub went-on : (p : ℕ) → r ≡ Went p
+        → Succeeds w words′ area blocks nexts firsts starts targets looked table
+        (goesTo here (here .live) p (here .end) (here .pairs))
+    went-on p e = goes p (here .pairs) words′ table (means-as (Went p) e)
+
+    -- The table is asked
+
+    module _ (p g m t : ℕ) (a : Ask) (e : r ≡ AskBy p g m t a) where
+      pub asked-there : (g < 8192) × ((m < 8192) × (t < 8192))
+      asked-there = (means-as (AskBy p g m t a) e) .2
+
+      abbrev Told : Change → List ℤ → List ℤ → Type 0
+      Told = Answered (answer group words′ (record { words = table; used = here .pairs }) g m t a) table
+
+      answered : AnswerMeans (w .standing) p (answer group words′ (record { words = table; used = here .pairs }) g m t a)
+      answered =
+          let k = means-as (AskBy p g m t a) e in
+          subst (λ (v : List ℤ). AnswerMeans (w .standing) p (answer group v (record { words = table; used = here .pairs }) g m t a)) (sym (k .1)) (k .0)
+
+      by-change : (c : Change) (words″ table″ : List ℤ) → Told c words″ table″
+          → Turned w (turnAfter here p c) words″ area blocks nexts firsts starts targets looked table″
+      unfolding turnAfter
+      by-change (Count n) words″ table″ k = goes p n words″ table″ (done-goes (w .standing) p _ answered (Count n) words″ table″ k n refl)
+      by-change (Halted c) words″ table″ k = stops c words″ table″ (stopped-halts (w .standing) p _ answered (Halted c) words″ table″ k c refl)
+
+      pub answered-on : (c : Change) (words″ table″ : List ℤ) → Told c words″ table″ → (n : Turn) → n ≡ turnAfter here p c
+          → Turned w n words″ area blocks nexts firsts starts targets looked table″
+      answered-on c words″ table″ k n q =
+          subst (λ (x : Turn). Turned w x words″ area blocks nexts firsts starts targets looked table″) (sym q) (by-change c words″ table″ k)
+
+    -- A jump
+
+    jumps : (home p : ℕ) → r ≡ JumpTo p home → JumpsTo (w .standing) home p
+    jumps home p e = (means-as (JumpTo p home) e) .0
+
+    pub jump-ready : (home p : ℕ) → r ≡ JumpTo p home
+        → (home < 256) × (getD blocks home 0 + 1 < 4096) × (home ≡ here .live → here .end ≡ getD code (getD blocks home 0 + 1) 0 % 65536)
+    jump-ready home p e =
+        let high = (jumped (w .standing) home p (jumps home p e)) .home-high in (
+          omega (arith, live-few (w .standing)),
+          within home high,
+          λ q. sym (ap (λ k. getD code (getD blocks k 0 + 1) 0 % 65536) q ∙ end-here (w .standing)),
+        )
+
+    pub jumped-on : (home p : ℕ) → r ≡ JumpTo p home → (n : Registers) → n ≡ nowAt code blocks here home p
+        → Succeeds w words′ area blocks nexts firsts starts targets looked table n
+    jumped-on home p e n is =
+        let m = means-as (JumpTo p home) e in
+        let l = jumped (w .standing) home p (m .0) in
+        let ends = end-of home (l .frame) (l .stands) in
+        subst (λ (v : List ℤ). Succeeds w v area blocks nexts firsts starts targets looked table n) (sym (m .1))
+        (subst (λ (v : Registers). Succeeds w words area blocks nexts firsts starts targets looked table v)
+        ((λ i. goesTo here home p (sym ends i) (here .pairs)) ∙ sym is)
+        (goes-on w (l .standing) (l .follows) (l .home-high) (λ k q. (refl, refl))))
+
+    -- An entry
+
+    enters : (body link back : ℕ) → r ≡ EnterBy back link body → EntersAt (w .standing) body link back words′
+    enters body link back e = means-as (EnterBy back link body) e
+
+    pub enter-ready : here .fresh + 32 * 1 + 32 ≤ 4294967296 → (body link back : ℕ) → r ≡ EnterBy back link body → Enterable code names area width here body link back
+    enter-ready few body link back e = enterable w body link back words′ (enters body link back e) (omega arith)
+
+    pub entered-on : (body link back : ℕ) → r ≡ EnterBy back link body → (words″ : List ℤ) (area′ blocks′ nexts′ firsts′ starts′ targets′ looked′ : List ℕ) (n : Registers)
+        → AnewIn code names width here body link back words′ area blocks nexts firsts starts targets looked words″ area′ blocks′ nexts′ firsts′ starts′ targets′ looked′ n
+        → Succeeds w words″ area′ blocks′ nexts′ firsts′ starts′ targets′ looked′ table n
+    entered-on body link back e words″ area′ blocks′ nexts′ firsts′ starts′ targets′ looked′ n k =
+        enters-on w body link back words′ (enters body link back e) words″ area′ blocks′ nexts′ firsts′ starts′ targets′ looked′ n k
+
+    -- A cause to stop
+
+    pub stopped-at : (c : Cause) → r ≡ StopFor c
+        → Stops (limitsBy limit group) (w .standing .stack) c (arraysOf words area blocks nexts firsts starts targets looked table)
+        (arraysOf words′ area blocks nexts firsts starts targets looked table)
+    stopped-at c e = let m = means-as (StopFor c) e in stops c words′ table (m .0, m .1, refl)

@@ -1,0 +1,51 @@
+-- `link_to` meets its contract: where the link is the innermost activation the display is its own.
+use Prim.Native.Nat.{_-_}
+use native.Mathlib.Omega.{arith}
+use mathlib.Core.Path.{refl}
+use Rattle.display_moves.specs.Moving.{few-live, block-within, restorable, restored, shows-home}
+use Rattle.display_moves.proofs.link_to.Statement.{statement}
+use Rattle.display_moves.proofs.link_to.Tie as tie
+
+-- the places: the start, and the innermost level read
+abbrev startOf : tie.After-level-of → tie.Start
+startOf c = c .before .before
+
+abbrev levelOf : tie.After-level-of2 → tie.After-level-of
+levelOf c = c .before .before
+
+level-of-requires : tie.Need-level-of-requires
+level-of-requires c κs =
+    let r = c .before .pre .running in
+    (few-live r, omega (arith, block-within r (c .before .args .live) (omega arith)))
+
+level-of-requires-2 : tie.Need-level-of-requires-2
+level-of-requires-2 c κs =
+    let s = startOf (c .before) in
+    let p = s .pre in
+    (omega (arith, few-live (p .running), p .high), omega (arith, block-within (p .running) (s .args .link) (p .high)))
+
+restore-requires : tie.Need-restore-requires
+restore-requires c κs =
+    let i = levelOf c in
+    let s = startOf i in
+    restorable (s .pre .running) (s .args .link) (c .level-of2 .result) (i .level-of .result) (s .pre .high)
+    (c .level-of2 .ensures .0) (i .level-of .ensures .0)
+
+returns : tie.Need-returns
+returns c =
+    let l = c .before in
+    let i = levelOf l in
+    let s = startOf i in (
+      λ w. restored (w .running) (s .args .link) (l .level-of2 .result) (i .level-of .result) (w .high) (l .level-of2 .ensures .0)
+          (i .level-of .ensures .0) (c .restore .last .1 .0) (c .restore .ensures .0),
+      c .restore .ensures .1,
+    )
+
+returns-2 : tie.Need-returns-2
+returns-2 c =
+    let s = c .before in
+    (λ w. shows-home (w .running) (s .args .link) (c .if1 .left), refl)
+
+pub link-to-spec : {M : Type 1} → statement M
+link-to-spec =
+    tie.close (tie.spec level-of-requires level-of-requires-2 restore-requires returns returns-2)

@@ -1,0 +1,260 @@
+-- Leaving, jumping and entering, of an engine that runs (`Running`). `restorable`, `restored`: what putting the display right asks, and what it comes
+-- to, for an activation that is live; `leaves-to`, `jumps-to`, `enters-to`: the state of the arrays behind each move, from what was read and written.
+use Prim.Native.Nat.{ℕ, suc, _+_, _-_, _*_, _/_, _%_, _≤_, _<_}
+use native.Mathlib.Omega.{arith}
+use mathlib.Core.List.{List, _∷_}
+use mathlib.Core.Option.{some}
+use mathlib.Core.Path.{_≡_, refl, sym, ap, _∙_, subst}
+use lib.IntN.{ℤ}
+use lib.ListN.{length, getD, set, getElem?, length-set}
+use Rattle.language.specs.Text.{Block, blockAt, blockDecls}
+use Rattle.laws.specs.Lists.{getElem-in}
+use Rattle.grammar.specs.Rules.{Keeps}
+use Rattle.grammar.specs.Formed.{block-few}
+use Rattle.frames.specs.Frame.{Frame, numbered}
+use Rattle.frames.specs.Numbered.{numbered-suc, numbered-index}
+use Rattle.coordinates.specs.Enclosure.{Enclosing, enclosed, Enclosure, Encloses}
+use Rattle.coordinates.specs.Chain.{enclosing, enclosureOf, levelOf, displayFrom}
+use Rattle.coordinates.specs.Levels.{frame-encloses}
+use Rattle.resolved.specs.Resolved.{placeOf, endPlace}
+use Rattle.resolved.specs.Places.{block-fields, end-is, end-bound, place-bound, enclosed-formed}
+use Rattle.arrays.specs.Holds.{Shows}
+use Rattle.arrays.specs.Displays.{ShowsFrom, holds-links, shows-innermost}
+use Rattle.arrays.specs.Reading.{level-read, end-read}
+use Rattle.run_moves.specs.Effects.{Cleared}
+use Rattle.steps.specs.Means.{JumpsTo, EntersAt}
+use Rattle.steps.specs.Here.{many, numbered-here, live-few, downward, encloses-here}
+use Rattle.steps.specs.Loop.{leaves, jumped}
+use Rattle.steps.specs.Entered.{body-head, entered}
+use Rattle.run_state.specs.declared.Registers.{Registers}
+use Rattle.run_state.specs.Scenes.{goesTo}
+use Rattle.display_moves.specs.Running.{Running, Succeeds, Restorable, Linkable}
+
+-- what is read of an activation's block
+abbrev pub levelAt : List ℕ → List ℕ → ℕ → ℕ
+levelAt code blocks k = getD code (getD blocks k 0) 0 / 256 % 256
+
+abbrev pub endAt : List ℕ → List ℕ → ℕ → ℕ
+endAt code blocks k = getD code (getD blocks k 0 + 1) 0 % 65536
+
+-- an enclosed block's first three words stand in the script
+within-script : (t : Block) → Keeps t → (e : Enclosing) (es : Enclosure) → Encloses t (e ∷ es) → placeOf (blockAt (e .text)) + 3 ≤ 4096
+within-script t keeps e es h =
+    let f = enclosed-formed t keeps e es h in
+    omega (arith, end-is (e .text) (suc (length es)) (e .formals) (placeOf (blockAt (e .text))) f, block-fields (e .text), end-bound t keeps e es h)
+
+module _ {code : List ℕ} {limit group : ℕ} {words : List ℤ} {blocks nexts links display : List ℕ} {table : List ℤ} {here : Registers}
+    (w : Running code limit group words blocks nexts links display table here) where
+  abbrev fs : List Frame
+  fs = w .standing .stack .frames
+
+  -- Activations that are live
+
+  live-frame : (k : ℕ) → k ≤ here .live → (f : Frame) × (getElem? fs k ≡ some f)
+  live-frame k h = getElem-in fs k (omega (arith, many (w .standing)))
+
+  frame-stands : (k : ℕ) (h : k ≤ here .live) → numbered fs (suc k) ≡ some ((live-frame k h) .0)
+  frame-stands k h = numbered-suc fs k ∙ (live-frame k h) .1
+
+  pub block-within : (k : ℕ) → k ≤ here .live → getD blocks k 0 + 3 ≤ 4096
+  unfolding enclosing
+  block-within k h =
+      let f = live-frame k h in
+      let t = w .standing .program in
+      let e = frame-encloses t fs (w .standing .sound .chained) (suc k) (f .0) (frame-stands k h) in
+      omega (arith, (w .standing .holds k (f .0) (f .1)) .block-is, within-script t (w .standing .keeps) (enclosing (f .0)) (enclosureOf fs (f .0 .link)) e)
+
+  level-there : (k : ℕ) → k ≤ here .live → levelAt code blocks k ≡ levelOf fs (suc k)
+  level-there k h =
+      let s = w .standing in
+      let f = live-frame k h in
+      level-read code (s .name) (s .program) (s .keeps) (s .covers) fs (s .sound .chained) blocks (set nexts (here .live) (here .at)) links words
+      (s .holds) k (f .0) (f .1)
+
+  end-there : (k : ℕ) (f : Frame) → numbered fs (suc k) ≡ some f → endAt code blocks k ≡ endPlace (f .text)
+  end-there k f e =
+      let s = w .standing in
+      end-read code (s .name) (s .program) (s .keeps) (s .covers) fs (s .sound .chained) blocks (set nexts (here .live) (here .at)) links words
+      (s .holds) k f (numbered-index fs (suc k) f e)
+
+  pub few-live : here .live < 256
+  few-live = omega (arith, live-few (w .standing))
+
+  shows-own : ShowsFrom fs (suc (here .live)) display
+  shows-own = subst (λ k. ShowsFrom fs k display) (many (w .standing)) (shows-innermost fs display (w .shows))
+
+  -- the innermost activation itself
+  pub shows-home : (home : ℕ) → home ≡ here .live → ShowsFrom fs (suc home) display
+  shows-home home e = subst (λ k. ShowsFrom fs (suc k) display) (sym e) shows-own
+
+  pub end-home : (home : ℕ) → home ≡ here .live → here .end ≡ endAt code blocks home
+  end-home home e = w .standing .end-is ∙ sym (end-there home (w .standing .frame) (ap (λ k. numbered fs (suc k)) e ∙ numbered-here (w .standing)))
+
+  -- The display put right
+
+  module _ (home level sure : ℕ) (high : home ≤ here .live) (level-is : level ≡ levelAt code blocks home)
+      (sure-is : sure ≡ levelAt code blocks (here .live)) where
+    pub restorable : Restorable links display home level sure
+    restorable =
+        let s = w .standing in
+        record {
+          frames = fs;
+          old = suc (here .live);
+          down = downward s;
+          few = omega (arith, many s, live-few s);
+          links-are = holds-links fs blocks (set nexts (here .live) (here .at)) links words (s .holds);
+          frame = (live-frame home high) .0;
+          there = frame-stands home high;
+          level-is = level-is ∙ level-there home high;
+          level-high = omega arith;
+          sure-is = sure-is ∙ level-there (here .live) (omega arith);
+          shows = shows-own;
+          display-long = w .display-long;
+        }
+
+    pub restored : (display′ : List ℕ) → ((r : Restorable links display home level sure) → ShowsFrom (r .frames) (suc home) display′)
+        → ShowsFrom fs (suc home) display′
+    unfolding restorable
+    restored display′ k = k restorable
+
+  pub home-live : (home at′ : ℕ) → JumpsTo (w .standing) home at′ → home ≤ here .live
+  home-live home at′ j = (jumped (w .standing) home at′ j) .home-high
+
+  module _ (display′ : List ℕ) (long : length display′ ≡ 256) where
+    -- A return
+
+    module _ (ended : here .at ≡ here .end) (above : 1 ≤ here .live) (home : ℕ) (below : home ≡ here .live - 1) where
+      pub leaves-to : ShowsFrom fs (suc home) display′ → (r : Registers) → r .live ≡ home → r .at ≡ getD nexts home 0 → r .end ≡ endAt code blocks home
+          → r .pairs ≡ here .pairs
+          → Succeeds w words blocks nexts links display′ table r
+      leaves-to shows r live at end pairs =
+          let l = leaves (w .standing) ended above in
+          let one : here .live ≡ suc home = omega arith in
+          let e : endPlace (l .frame .text) ≡ r .end = sym (end-there home (l .frame) (ap (numbered fs) (sym one) ∙ l .stands)) ∙ sym end in
+          let a : getD nexts (here .live - 1) 0 ≡ r .at = ap (λ k. getD nexts k 0) (sym below) ∙ sym at in
+          subst (λ (n : Registers). Succeeds w words blocks nexts links display′ table n)
+          (λ i. goesTo r ((sym below ∙ sym live) i) (a i) (e i) (sym pairs i))
+          (record {
+            running = record {
+              standing = l .standing;
+              shows = λ j m q. shows j m (ap (λ k. numbered (displayFrom fs k) j) (sym one) ∙ ap (λ (ms : List ℕ). numbered ms j) (sym (l .display)) ∙ q);
+              display-long = long;
+            };
+            follows = l .follows;
+          })
+
+    -- A jump
+
+    module _ (home at′ : ℕ) (j : JumpsTo (w .standing) home at′) where
+      pub jumps-to : ShowsFrom fs (suc home) display′ → (r : Registers) → r .live ≡ home → r .at ≡ at′ → r .end ≡ endAt code blocks home → r .pairs ≡ here .pairs
+          → Succeeds w words blocks nexts links display′ table r
+      jumps-to shows r live at end pairs =
+          let l = jumped (w .standing) home at′ j in
+          let e : endPlace (l .frame .text) ≡ r .end = sym (end-there home (l .frame) (l .stands)) ∙ sym end in
+          subst (λ (n : Registers). Succeeds w words blocks nexts links display′ table n)
+          (λ i. goesTo r (sym live i) (sym at i) (e i) (sym pairs i))
+          (record {
+            running = record {
+              standing = l .standing;
+              shows = λ i m q. shows i m
+                  (ap (λ (ms : List ℕ). numbered ms i) (sym (l .display)) ∙ q);
+              display-long = long;
+            };
+            follows = l .follows;
+          })
+
+-- An entry
+
+module _ {code : List ℕ} {limit group : ℕ} {words : List ℤ} {blocks nexts links display : List ℕ} {table : List ℤ} {here : Registers}
+    (w : Running code limit group words blocks nexts links display table here) (body link back : ℕ) (words′ : List ℤ)
+    (j : EntersAt (w .standing) body link back words′) where
+  abbrev around : Enclosure
+  around = enclosureOf (w .standing .stack .frames) (suc link)
+
+  -- what entering reads and writes is within its arrays
+  pub record Fits : Type 0 where
+    pub body-within : body + 3 ≤ 4096
+    pub back-within : back ≤ 4096
+    pub room : here .live + 1 < 256
+    pub link-high : link ≤ here .live
+    pub formals-few : getD code body 0 / 65536 % 256 ≤ 32
+    pub names-few : getD code body 0 / 16777216 ≤ 32
+
+  pub entry-fits : Fits
+  unfolding enclosing
+  entry-fits =
+      let s = w .standing in
+      let h = body-head s body link back words′ j in
+      let e = enclosed (j .formals) (j .text) in
+      let few = block-few (suc (length around)) (j .formals) (2 * placeOf (blockAt (j .text))) (j .text)
+      (enclosed-formed (s .program) (s .keeps) e around (j .encloses)) in
+      record {
+        body-within = omega (arith, j .body-is, within-script (s .program) (s .keeps) e around (j .encloses));
+        back-within = omega (
+          arith,
+          j .back-is,
+          place-bound (s .program) (s .keeps) (enclosing (s .frame))
+              (enclosureOf (s .stack .frames) (s .frame .link)) (encloses-here s) (suc (s .frame .next)) (omega arith),
+        );
+        room = omega (arith, j .room, s .sound .limit);
+        link-high = j .link-high;
+        formals-few = omega (arith, h .formals);
+        names-few = omega (arith, h .names);
+      }
+
+  pub linkable : Linkable code blocks links display (here .live) link
+  linkable =
+      record {
+        nexts = nexts;
+        limit = limit;
+        group = group;
+        words = words;
+        table = table;
+        here = here;
+        running = w;
+        high = j .link-high;
+      }
+
+  pub linked : (display′ : List ℕ) → ((v : Linkable code blocks links display (here .live) link) → ShowsFrom (v .running .standing .stack .frames)
+      (suc link) display′)
+      → ShowsFrom (w .standing .stack .frames) (suc link) display′
+  unfolding linkable
+  linked display′ k = k linkable
+
+  abbrev fresh : ℕ
+  fresh = here .live + 1
+
+  pub enters-to : (words″ : List ℤ) → Cleared words′ (32 * fresh + getD code body 0 / 65536 % 256) (32 * fresh + getD code body 0 / 16777216) words″
+      → (display′ : List ℕ) → length display′ ≡ 256 → ShowsFrom (w .standing .stack .frames) (suc link) display′
+      → (r : Registers) → r .live ≡ fresh → r .at ≡ getD code (body + 1) 0 / 65536 → r .end ≡ getD code (body + 1) 0 % 65536 → r .pairs ≡ here .pairs
+      → Succeeds w words″ (set blocks fresh body) (set nexts (here .live) back) (set links fresh link)
+      (set display′ (getD code body 0 / 256 % 256) (32 * fresh)) table r
+  enters-to words″ cleared display′ long shows r live at end pairs =
+      let h = body-head (w .standing) body link back words′ j in
+      let c : Cleared words′ (32 * fresh + length (j .formals)) (32 * fresh + (length (j .formals) + length (blockDecls (j .text)))) words″ =
+      subst (λ m. Cleared words′ (32 * fresh + length (j .formals)) (32 * fresh + m) words″) (h .names)
+      (subst (λ n. Cleared words′ (32 * fresh + n) (32 * fresh + getD code body 0 / 16777216) words″) (h .formals) cleared) in
+      let e = entered (w .standing) body link back words′ j words″ c in
+      let level = h .level in
+      subst (λ (n : Registers). Succeeds w words″ (set blocks fresh body) (set nexts (here .live) back) (set links fresh link)
+      (set display′ (getD code body 0 / 256 % 256) (32 * fresh)) table n)
+      (λ i. goesTo r (sym live i) ((sym (h .first) ∙ sym at) i) ((sym (h .ends) ∙ sym end) i) (sym pairs i))
+      (record {
+        running = record {
+          standing = e .standing;
+          shows = subst (λ k. Shows (e .standing .stack .frames) (set display′ k (32 * fresh))) (sym level) (e .shows display′ (omega arith) shows);
+          display-long = length-set display′ (getD code body 0 / 256 % 256) (32 * fresh) ∙ long;
+        };
+        follows = e .follows;
+      })
+
+  -- the same of the numbers as they were read and written
+  pub enters-as : (head bounds block next up entry : ℕ) → head ≡ getD code body 0 → bounds ≡ getD code (body + 1) 0 → block ≡ body → next ≡ back
+      → up ≡ link → entry ≡ 32 * fresh
+      → (words″ : List ℤ) → Cleared words′ (32 * fresh + head / 65536 % 256) (32 * fresh + head / 16777216) words″
+      → (display′ : List ℕ) → length display′ ≡ 256 → ShowsFrom (w .standing .stack .frames) (suc link) display′
+      → Succeeds w words″ (set blocks fresh block) (set nexts (here .live) next) (set links fresh up) (set display′ (head / 256 % 256) entry) table
+      (goesTo here fresh (bounds / 65536) (bounds % 65536) (here .pairs))
+  enters-as head bounds block next up entry e₁ e₂ e₃ e₄ e₅ e₆ words″ cleared display′ long shows =
+      rw (e₁, e₂, e₃, e₄, e₅, e₆) (enters-to words″ (rw e₁ at cleared) display′ long shows
+      (goesTo here fresh (getD code (body + 1) 0 / 65536) (getD code (body + 1) 0 % 65536) (here .pairs)) refl refl refl refl)

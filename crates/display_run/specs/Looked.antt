@@ -1,0 +1,47 @@
+-- The looked-up name at a run's end: what its word in the innermost block says of it.
+use Prim.Native.Nat.{ℕ, _+_, _≤_, _<_}
+use native.Mathlib.Omega.{arith}
+use mathlib.Core.List.{List}
+use mathlib.Core.Path.{_≡_, sym, ap, _∙_, subst}
+use lib.IntN.{ℤ}
+use lib.ListN.{getD}
+use Rattle.frames.specs.Frame.{designates}
+use Rattle.arrays.specs.Holds.{designatorOf}
+use Rattle.arrays.specs.Found.{cellBy}
+use Rattle.steps.specs.Here.{here, live-few}
+use Rattle.steps.specs.Reads.{block-within, looked-up-here}
+use Rattle.steps.specs.Finding.{Reaches, wordOf, unseen-word, seen-by-display}
+use Rattle.display_run.specs.Finding.{firstCell, Reachable}
+use Rattle.display_moves.specs.Running.{Looking}
+
+module _ {code : List ℕ} {words : List ℤ} {blocks display : List ℕ} {live : ℕ} (w : Looking code words blocks display live) where
+  pub live-there : live < 256
+  live-there = omega (arith, live-few (w .running .standing))
+
+  pub word-within : getD blocks live 0 + 3 ≤ 4096
+  word-within = let s = w .running .standing in block-within s live (s .frame) (here s)
+
+  module _ (v : ℕ) (e : v ≡ getD code (getD blocks live 0 + 2) 0) where
+    abbrev name : ℕ
+    name = w .running .standing .name
+
+    is-word : v ≡ wordOf (w .running .standing) name
+    is-word = e ∙ looked-up-here (w .running .standing)
+
+    pub not-seen : v ≡ 0 → 0 ≡ designates (w .running .standing .stack .frames) name
+    not-seen z = sym (unseen-word (w .running .standing) name (sym is-word ∙ z))
+
+    module _ (d : v ≡ 0 → ⊥) where
+      found : Reaches words live (firstCell display v) v × (designatorOf (cellBy words (firstCell display v) v) ≡ designates
+          (w .running .standing .stack .frames) name)
+      found =
+          subst (λ u. Reaches words live (firstCell display u) u ×
+          (designatorOf (cellBy words (firstCell display u) u) ≡ designates (w .running .standing .stack .frames) name)) (sym is-word)
+          (seen-by-display (w .running .standing) display (w .running .shows) name (λ z. d (is-word ∙ z)))
+
+      pub seen-reached : Reachable words display v
+      seen-reached = let r = found .0 in record { own = omega (arith, r .own, live-there); whole = r .whole; cell = r .cell }
+
+      pub seen-designates : (c : ℕ) → c ≡ cellBy words (firstCell display v) v
+          → designatorOf c ≡ designates (w .running .standing .stack .frames) name
+      seen-designates c q = ap designatorOf q ∙ found .1

@@ -1,0 +1,71 @@
+-- What a step comes to (`Turned`), what a run begins with (`Beginning`), and what it ends with (`Ended`): the frame machine's result, with the arrays
+-- that hold its stack.
+use Prim.Native.Nat.{ℕ, _/_, _%_, _≤_, _<_}
+use mathlib.Core.Bool.{true}
+use mathlib.Core.List.{List}
+use mathlib.Core.Path.{_≡_}
+use lib.IntN.{ℤ, pos}
+use lib.ListN.{length, getD}
+use Rattle.language.specs.Text.{Block}
+use Rattle.language.specs.Table.{right}
+use Rattle.grammar.specs.Rules.{Keeps}
+use Rattle.frames.specs.Frame.{Result}
+use Rattle.resolved.specs.Resolved.{resolvedOf, Covers}
+use Rattle.run_state.specs.declared.Registers.{Registers}
+use Rattle.run_state.specs.declared.Turn.{Turn}
+use Rattle.run_state.specs.declared.Turn.the-variants.{Went, Finished, Stopped}
+use Rattle.run_state.specs.declared.Halt.{Halt}
+use Rattle.run_state.specs.Scenes.{limitsBy}
+use Rattle.run_state.specs.Turns.{Leaves, Stops}
+use Rattle.run_state.specs.Ended.{EndedFrom}
+use Rattle.display_moves.specs.Running.{Running, Succeeds}
+
+-- what a step may write
+pub record Arrays : Type 0 where
+  pub words : List ℤ
+  pub blocks : List ℕ
+  pub nexts : List ℕ
+  pub links : List ℕ
+  pub display : List ℕ
+  pub table : List ℤ
+
+abbrev pub arraysOf : List ℤ → List ℕ → List ℕ → List ℕ → List ℕ → List ℤ → Arrays
+arraysOf words blocks nexts links display table =
+    record { words = words; blocks = blocks; nexts = nexts; links = links; display = display; table = table }
+
+-- What a step comes to
+
+module _ {code : List ℕ} {limit group : ℕ} {words : List ℤ} {blocks nexts links display : List ℕ} {table : List ℤ} {here : Registers}
+    (w : Running code limit group words blocks nexts links display table here) where
+  abbrev pub Turned : Turn → List ℤ → List ℕ → List ℕ → List ℕ → List ℕ → List ℤ → Type 0
+  Turned (Went here′) words′ blocks′ nexts′ links′ display′ table′ = Succeeds w words′ blocks′ nexts′ links′ display′ table′ here′
+  Turned Finished words′ blocks′ nexts′ links′ display′ table′ = Leaves here words table words′ table′
+  Turned (Stopped c) words′ blocks′ nexts′ links′ display′ table′ =
+      Stops (limitsBy limit group) (w .standing .stack) c (arraysOf words blocks nexts links display table) (arraysOf words′ blocks′ nexts′ links′ display′ table′)
+
+-- The run of a program
+
+-- where it begins
+abbrev pub startBy : List ℕ → ℕ → Registers
+startBy code pairs = record { live = 0; at = getD code 1 0 / 65536; end = getD code 1 0 % 65536; pairs = pairs; level = 0; fresh = 0 }
+
+-- what it begins with: the resolved script of a program that keeps the rules, arrays of zeros, limits in range and a right table
+pub record Beginning (code : List ℕ) (words : List ℤ) (blocks nexts links : List ℕ) (table : List ℤ) (pairs group limit : ℕ) : Type 0 where
+  pub program : Block
+  pub name : ℕ
+  pub keeps : Keeps program
+  pub covers : Covers code 0 (resolvedOf name program)
+  pub some-live : 1 ≤ limit
+  pub few-live : limit ≤ 256
+  pub table-right : right group (record { words = table; used = pairs }) ≡ true
+  pub words-long : length words ≡ 8224
+  pub blocks-long : length blocks ≡ 256
+  pub nexts-long : length nexts ≡ 256
+  pub links-long : length links ≡ 256
+  pub zeros : (i : ℕ) → i < 32 → getD words i (pos 0) ≡ pos 0
+  pub no-block : getD blocks 0 0 ≡ 0
+  pub no-link : getD links 0 0 ≡ 0
+
+-- what it ends with: the frame machine's result, and the arrays hold its stack
+abbrev pub Ended : Block → ℕ → ℕ → ℕ → Result → Halt → List ℤ → List ℕ → List ℕ → List ℕ → List ℤ → Type 0
+Ended program name limit group = EndedFrom 0 program name (limitsBy limit group)

@@ -1,0 +1,39 @@
+// Where a name lies, by the display: entry j is the first cell of the enclosing activation of level j.
+use run_state::wide;
+ghost use mathlib.Core.Path.{_≡_};
+ghost use Prim.Native.Nat.{_+_, _<_};
+ghost use Rattle.arrays.specs.Found.{cellBy, heldBy};
+ghost use Rattle.display_run.specs.Finding.{firstCell, ownCell, Reachable, ThroughFormal};
+
+// The first cell of the activation in which the name with this word is declared.
+pub fn first_cell(display: &[u16; 256], word: usize) -> usize
+    ensures { λ r. ⌜ (r ≡ firstCell (now (display .entry)) word) × (r < 65536) ⌝ }
+{
+    wide(display[word / 256 % 256])
+}
+
+// The name's own cell.
+pub fn own_cell(display: &[u16; 256], word: usize) -> usize
+    ensures { λ r. ⌜ (r ≡ ownCell (now (display .entry)) word) × (r < 65568) ⌝ }
+{
+    first_cell(display, word) + word % 32
+}
+
+// What a formal holds: the cell of the name that it finally stands for, and what that leads to.
+pub fn held(words: &[i32; 8224], display: &[u16; 256], word: usize) -> usize
+    requires { ⌜ ThroughFormal (now words) (now display) word ⌝ }
+    ensures { λ r. ⌜ (r ≡ heldBy (now (words .entry)) (firstCell (now (display .entry)) word) word) × (r < 2147483648) ⌝ }
+{
+    run_words::whole(words[own_cell(display, word)])
+}
+
+// The cell of the declared name that the name with this word finally stands for.
+pub fn cell(words: &[i32; 8224], display: &[u16; 256], word: usize) -> usize
+    requires { ⌜ Reachable (now words) (now display) word ⌝ }
+    ensures { λ r. ⌜ r ≡ cellBy (now (words .entry)) (firstCell (now (display .entry)) word) word ⌝ }
+{
+    if word / 32 % 2 == 0 {
+        return own_cell(display, word);
+    }
+    held(words, display, word) % 8192
+}

@@ -1,0 +1,240 @@
+// The run: steps until the program is left, a statement has a cause to stop, or the allowance is spent.
+use super::act::act;
+use super::names::cell;
+use display_moves::enter;
+use display_moves::jump;
+use display_moves::leave;
+use display_moves::note_place;
+use run_moves::Ask;
+use run_moves::Move;
+use run_sheet::designator_of;
+use run_state::Halt;
+use run_state::Registers;
+use run_state::Turn;
+use run_state::finished;
+use run_state::named;
+use run_state::spent;
+use run_state::stopped;
+use run_state::wide;
+use run_statements::after;
+use run_words::code_at;
+use table_pairs::Change;
+ghost use mathlib.Core.Path.{_≡_};
+ghost use Prim.Native.Nat.{_+_, _/_, _%_, _<_};
+ghost use lib.ListN.{set};
+ghost use Rattle.frames.specs.Frame.{designates, frameRun, frameStart};
+ghost use Rattle.run_moves.specs.Acting.{answer};
+ghost use Rattle.table_pairs.specs.Outcomes.{tableOf, changeOf, wordsAfter};
+ghost use Rattle.run_state.specs.Scenes.{limitsBy};
+ghost use Rattle.run_state.specs.Ended.{RunFrom};
+ghost use Rattle.display_moves.specs.Running.{Running, Looking, Placed};
+ghost use Rattle.display_run.specs.Turning.{Turned, Beginning, Ended, startBy};
+
+// What the table answers.
+fn asked(
+    table: &mut [i32],
+    words: &mut [i32; 8224],
+    pairs: usize,
+    limit: u32,
+    group: usize,
+    member: usize,
+    target: usize,
+    ask: Ask,
+) -> Change
+    requires { ⌜ (group < 8192) × ((member < 8192) × (target < 8192)) ⌝ }
+    ensures { λ r. ⌜ r ≡ changeOf (answer limit (now (words .entry)) (tableOf (now (table .entry)) pairs) group member target ask .effect) ⌝ }
+    ensures { λ _. ⌜ now (words .exit) ≡ answer limit (now (words .entry)) (tableOf (now (table .entry)) pairs) group member target ask .words ⌝ }
+    ensures { λ _. ⌜ now (table .exit) ≡ wordsAfter (now (table .entry)) (answer limit (now (words .entry)) (tableOf (now (table .entry)) pairs) group member target ask .effect) ⌝ }
+{
+    match ask {
+        Ask::Add => run_statements::add(table, words, pairs, limit, group, member),
+        Ask::Remove => run_statements::remove(table, words, pairs, group, member),
+        Ask::Query => run_statements::query(table, words, pairs, group, member, target),
+    }
+}
+
+pub fn step(
+    code: &[u32; 4096],
+    words: &mut [i32; 8224],
+    blocks: &mut [u16; 256],
+    nexts: &mut [u16; 256],
+    links: &mut [u16; 256],
+    display: &mut [u16; 256],
+    table: &mut [i32],
+    group: u32,
+    limit: usize,
+    here: Registers,
+) -> Turn
+    requires { ⌜ Running (now code) limit group (now words) (now blocks) (now nexts) (now links) (now display) (now table) here ⌝ }
+    ensures { λ r.
+        ⌜ ((w : Running (now (code .entry)) limit group (now (words .entry)) (now (blocks .entry)) (now (nexts .entry)) (now (links .entry)) (now (display .entry)) (now (table .entry)) here)
+        → Turned w r (now (words .exit)) (now (blocks .exit)) (now (nexts .exit)) (now (links .exit)) (now (display .exit)) (now (table .exit))) ⌝ }
+{
+    let live = here.live;
+    let at = here.at;
+    if at == here.end {
+        if live == 0 {
+            return Turn::Finished;
+        }
+        return Turn::Went(leave(code, blocks, nexts, links, display, here));
+    }
+    match act(code, words, display, limit, live, at) {
+        Move::On(place) => Turn::Went(Registers { at: place, ..here }),
+        Move::Table(place, of, member, target, ask) => after(
+            here,
+            place,
+            asked(table, words, here.pairs, group, of, member, target, ask),
+        ),
+        Move::Jump(home, place) => {
+            Turn::Went(jump(code, blocks, links, display, here, home, place))
+        }
+        Move::Enter(body, link, back) => Turn::Went(enter(
+            code,
+            words,
+            blocks,
+            nexts,
+            links,
+            display,
+            here,
+            body,
+            link,
+            back,
+        )),
+        Move::Stop(cause) => Turn::Stopped(cause),
+    }
+}
+
+// The designator of the looked-up name, whose word stands in the innermost block; 0 where it is not visible.
+fn looked_up(
+    code: &[u32; 4096],
+    words: &[i32; 8224],
+    blocks: &[u16; 256],
+    display: &[u16; 256],
+    live: usize,
+) -> u32
+    requires { ⌜ Looking (now code) (now words) (now blocks) (now display) live ⌝ }
+    ensures { λ r. ⌜ ((w : Looking (now (code .entry)) (now (words .entry)) (now (blocks .entry)) (now (display .entry)) live) → r ≡ designates (w .running .standing .stack .frames) (w .running .standing .name)) ⌝ }
+{
+    let word = code_at(code, wide(blocks[live]) + 2);
+    if word == 0 {
+        return 0;
+    }
+    designator_of(cell(words, display, word))
+}
+
+// At the end of a run the place of the innermost activation's next statement is put with the others', and the name is looked up.
+fn settle(
+    code: &[u32; 4096],
+    words: &[i32; 8224],
+    blocks: &[u16; 256],
+    nexts: &mut [u16; 256],
+    display: &[u16; 256],
+    here: Registers,
+) -> u32
+    requires { ⌜ Looking (now code) (now words) (now blocks) (now display) (here .live) × Placed here ⌝ }
+    ensures { λ r. ⌜ ((w : Looking (now (code .entry)) (now (words .entry)) (now (blocks .entry)) (now (display .entry)) (here .live)) → r ≡ designates (w .running .standing .stack .frames) (w .running .standing .name)) ⌝ }
+    ensures { λ _. ⌜ now (nexts .exit) ≡ set (now (nexts .entry)) (here .live) (here .at) ⌝ }
+{
+    note_place(nexts, here);
+    looked_up(code, words, blocks, display, here.live)
+}
+
+// From any state in which the engine can stand.
+pub fn run(
+    code: &[u32; 4096],
+    words: &mut [i32; 8224],
+    blocks: &mut [u16; 256],
+    nexts: &mut [u16; 256],
+    links: &mut [u16; 256],
+    display: &mut [u16; 256],
+    table: &mut [i32],
+    group: u32,
+    limit: usize,
+    allowance: u32,
+    start: Registers,
+) -> Halt
+    requires { ⌜ Running (now code) limit group (now words) (now blocks) (now nexts) (now links) (now display) (now table) start ⌝ }
+    ensures { λ r.
+        ⌜ ((w : Running (now (code .entry)) limit group (now (words .entry)) (now (blocks .entry)) (now (nexts .entry)) (now (links .entry)) (now (display .entry)) (now (table .entry)) start)
+        → RunFrom (w .standing) allowance r (now (words .exit)) (now (blocks .exit)) (now (nexts .exit)) (now (links .exit)) (now (table .exit))) ⌝ }
+{
+    let mut here = start;
+    let mut left = allowance;
+    while 0 < left {
+        match step(
+            code,
+            words,
+            blocks,
+            nexts,
+            links,
+            display,
+            table,
+            group,
+            limit,
+            here,
+        ) {
+            Turn::Went(next) => {
+                here = next;
+                left -= 1;
+            }
+            Turn::Finished => return finished(here, allowance - left + 1),
+            Turn::Stopped(cause) => {
+                let halt = stopped(here, cause, allowance - left);
+                return named(halt, settle(code, words, blocks, nexts, display, here), 0);
+            }
+        }
+    }
+    let halt = spent(here, allowance);
+    named(halt, settle(code, words, blocks, nexts, display, here), 0)
+}
+
+// Where the program begins.
+fn begin(code: &[u32; 4096], pairs: usize) -> Registers
+    ensures { λ r. ⌜ r ≡ startBy (now (code .entry)) pairs ⌝ }
+{
+    let bounds = code_at(code, 1);
+    Registers {
+        live: 0,
+        at: bounds / 65536,
+        end: bounds % 65536,
+        pairs,
+        level: 0,
+        fresh: 0,
+    }
+}
+
+pub fn run_program(
+    code: &[u32; 4096],
+    words: &mut [i32; 8224],
+    blocks: &mut [u16; 256],
+    nexts: &mut [u16; 256],
+    links: &mut [u16; 256],
+    table: &mut [i32],
+    pairs: usize,
+    group: u32,
+    limit: usize,
+    allowance: u32,
+) -> Halt
+    requires { ⌜ Beginning (now code) (now words) (now blocks) (now nexts) (now links) (now table) pairs group limit ⌝ }
+    ensures { λ r.
+        ⌜ ((b : Beginning (now (code .entry)) (now (words .entry)) (now (blocks .entry)) (now (nexts .entry)) (now (links .entry)) (now (table .entry)) pairs group limit)
+        → Ended (b .program) (b .name) limit group
+        (frameRun (limitsBy limit group) allowance (frameStart (b .program) (record { words = now (table .entry); used = pairs })))
+        r (now (words .exit)) (now (blocks .exit)) (now (nexts .exit)) (now (links .exit)) (now (table .exit))) ⌝ }
+{
+    let mut display = [0u16; 256];
+    let start = begin(code, pairs);
+    run(
+        code,
+        words,
+        blocks,
+        nexts,
+        links,
+        &mut display,
+        table,
+        group,
+        limit,
+        allowance,
+        start,
+    )
+}

@@ -1,0 +1,88 @@
+// The engines by name, for programs: a call of each, with an area of its own where it needs one, and its answer in print.
+use chain_records::Activation;
+
+mod printing;
+
+pub use printing::print_answer;
+pub use printing::print_number;
+pub use printing::print_words;
+pub use printing::say;
+
+// In the order in which programs name them.
+pub enum Engine {
+    Copy,
+    Chain,
+    Display,
+}
+
+// The chain engine's call, on records of its own.
+fn by_chain(
+    script: &[u8],
+    d: u32,
+    n: u32,
+    g: u32,
+    table: &mut [i32],
+    count: usize,
+    name: u16,
+    sheet: &mut [i32],
+    answer: &mut [u64; 9],
+) {
+    let mut records = [Activation {
+        block: 0,
+        next: 0,
+        link: 0,
+    }; 256];
+    enrol::enrol_chain(
+        script,
+        d,
+        n,
+        g,
+        0,
+        table,
+        count,
+        name,
+        sheet,
+        &mut records,
+        answer,
+    );
+}
+
+// A call of an engine, as C makes it. The copying area has 65,536 words, the records are for 256 activations.
+pub fn call(
+    engine: Engine,
+    script: &[u8],
+    d: u32,
+    n: u32,
+    g: u32,
+    table: &mut [i32],
+    count: usize,
+    name: u16,
+    sheet: &mut [i32],
+) -> [u64; 9] {
+    let mut answer = [0u64; 9];
+    match engine {
+        Engine::Copy => {
+            let mut area = [0u32; 65536];
+            enrol::enrol_copy(
+                script,
+                d,
+                n,
+                g,
+                0,
+                table,
+                count,
+                name,
+                sheet,
+                &mut area,
+                &mut answer,
+            );
+        }
+        Engine::Chain => {
+            by_chain(script, d, n, g, table, count, name, sheet, &mut answer);
+        }
+        Engine::Display => {
+            enrol::enrol_display(script, d, n, g, 0, table, count, name, sheet, &mut answer);
+        }
+    }
+    answer
+}

@@ -1,0 +1,60 @@
+-- `do_branch_formal` meets its contract.
+use mathlib.Core.Bool.{Bool}
+use mathlib.Core.Path.{_≡_, sym, ap, _∙_}
+use native.Mathlib.Omega.{arith}
+use Rattle.resolved.specs.Resolved.{direct}
+use Rattle.run_statements.specs.Words.{is-zero, not-zero, is-direct, is-formal}
+use Rattle.run_cells.specs.Asking.{wordBehind}
+use Rattle.run_cells.specs.Cells.{goto-own, stays-at, goes-at}
+use borrow.Author.Needs.{needs}
+use Rattle.run_cells.proofs.arms.do_branch_formal.Statement.{statement}
+use Rattle.run_cells.proofs.arms.do_branch_formal.Tie as tie
+
+returns : tie.Need-returns
+returns c =
+    let s = c .before .before .before in
+    stays-at (s .args .code .now) (s .args .words .now) (s .args .at) (c .before .before .cell .ensures .0) (is-zero _ (c .before .if12 .given) (c .if1 .taken))
+
+abbrev startOf : tie.Else1 → tie.Start
+startOf b = b .before .before .before
+
+label : (k : tie.After-code-at) {t : Bool} → direct (k .code-at .result) ≡ t → let s = startOf (k .before) in direct (wordBehind (s .args .code .now)
+    (s .args .at) 1) ≡ t
+label k e = sym (ap direct (k .code-at .ensures .0)) ∙ e
+
+returns-2 : tie.Need-returns-2
+returns-2 c =
+    let k = c .before .before in
+    let b = k .before in
+    let s = startOf b in
+    goes-at (s .args .code .now) (s .args .words .now) (s .args .at) (b .before .before .cell .ensures .0) (not-zero _ (b .before .if12 .given) (b .if1 .left))
+    (goto-own (s .args .code .now) (s .args .words .now) (s .args .at) (c .do-goto .ensures) (label k (is-direct (k .code-at .result) (c .before .if2 .taken))))
+
+do-goto-formal-requires : tie.Need-do-goto-formal-requires
+do-goto-formal-requires c κs =
+    let k = c .before in
+    (omega arith, record { reachable = startOf (k .before) .pre .1; is = label k (is-formal (k .code-at .result) (c .if2 .left)) })
+
+returns-3 : tie.Need-returns-3
+returns-3 c =
+    let b = c .before .before .before in
+    let s = startOf b in
+    goes-at (s .args .code .now) (s .args .words .now) (s .args .at) (b .before .before .cell .ensures .0) (not-zero _ (b .before .if12 .given) (b .if1 .left))
+    (c .do-goto-formal .ensures)
+
+pub do-branch-formal-spec : {M : Type 1} → statement M
+do-branch-formal-spec =
+    tie.close
+    (tie.spec
+    (λ c. search needs)
+    (λ c κs. search needs)
+    (λ c. search needs)
+    (λ c. search needs)
+    (λ c. search needs)
+    returns
+    (λ c. search needs)
+    (λ c κs. search needs)
+    (λ c κs. search needs)
+    returns-2
+    do-goto-formal-requires
+    returns-3)

@@ -1,0 +1,21 @@
+-- `do_query` meets its contract.
+use Rattle.run_statements.specs.Pieces.{only-words}
+use Rattle.run_statements.specs.Doing.{query-done}
+use Rattle.steps.specs.Finding.{byFirst}
+use Rattle.run_cells.specs.Asking.{wordBehind}
+use Rattle.run_cells.specs.Cells.{cell-by}
+use borrow.Author.Needs.{needs}
+use Rattle.run_cells.proofs.arms.do_query.Statement.{statement}
+use Rattle.run_cells.proofs.arms.do_query.Tie as tie
+
+returns : tie.Need-returns
+returns c =
+    λ firstOf p q u.
+    let a = c .before .before .before .args in
+    let ws = a .words .now in
+    let name = wordBehind (a .code .now) (a .at) in
+    query-done (byFirst ws firstOf) (only-words (a .code .now) ws (a .at)) (cell-by ws firstOf (name 1) p (c .before .before .cell .ensures .0))
+    (cell-by ws firstOf (name 2) q (c .before .cell2 .ensures .0)) (cell-by ws firstOf (name 3) u (c .cell3 .ensures .0))
+
+pub do-query-spec : {M : Type 1} → statement M
+do-query-spec = tie.close (tie.spec (λ c. search needs) (λ c κs. search needs) (λ c. search needs) (λ c κs. search needs) (λ c. search needs) (λ c κs. search needs) (λ c. search needs) returns)

@@ -1,0 +1,120 @@
+-- The statement at a place, with the first cells of the activations that declare its names, in the order of its fields: what its function asks, by the
+-- operation (`Ready`), when a way of finding names is the one by which the cells were found (`Leads`), and what it has then done (`Did`). A call's arguments
+-- are not handed on yet.
+use Prim.Native.Nat.{ℕ, _+_, _/_, _≤_}
+use mathlib.Core.Bool.{true, false}
+use mathlib.Core.List.{List}
+use mathlib.Core.Path.{_≡_}
+use lib.Dec.{leb}
+use lib.IntN.{ℤ}
+use lib.ListN.{getD}
+use Rattle.language.specs.declared.Stop.the-variants.{NoActivationLeft}
+use Rattle.arrays.specs.Found.{heldBy}
+use Rattle.run_moves.specs.declared.Move.{Move}
+use Rattle.run_moves.specs.declared.Move.the-variants.{On, Table as Asks, Jump, Enter, Stop}
+use Rattle.run_moves.specs.Acting.{Happened}
+use Rattle.run_moves.specs.Acting.{Op, constant-op, add-op, subtract-op, compare-op, branch-op, goto-op, block-op, call-op, pair-op, unpair-op, query-op}
+use Rattle.run_moves.specs.Acting.{constant-formal-op, arithmetic-formal-op, branch-formal-op, goto-formal-op, call-formal-op}
+use Rattle.run_statements.specs.Pieces.{FormalsBefore}
+use Rattle.run_cells.specs.Finding.{Reachable, Direct, ThroughFormal}
+
+-- the word so many fields behind the operation
+abbrev pub wordBehind : List ℕ → ℕ → ℕ → ℕ
+wordBehind code at i = getD code (at + i) 0
+
+-- room for one activation more is tested as it is used, and the arguments stand in the script
+pub record Calling (code : List ℕ) (limit live at : ℕ) : Type 0 where
+  pub limit-high : limit ≤ 256
+  pub live-few : live ≤ 255
+  pub few : wordBehind code at 2 ≤ 32
+  pub there : at + 3 + wordBehind code at 2 ≤ 4096
+
+module _ (code : List ℕ) (words : List ℤ) (limit live at first second third : ℕ) where
+  abbrev pub Ready : Op → Type 0
+  Ready constant-op = (at + 4 ≤ 4096) × Direct words first (wordBehind code at 1)
+  Ready add-op = (at + 5 ≤ 4096) × Direct words first (wordBehind code at 1) × Direct words second (wordBehind code at 3) × Direct words third
+      (wordBehind code at 4)
+  Ready subtract-op = (at + 5 ≤ 4096) × Direct words first (wordBehind code at 1) × Direct words second (wordBehind code at 3) × Direct words third
+      (wordBehind code at 4)
+  Ready compare-op = (at + 5 ≤ 4096) × Direct words first (wordBehind code at 1) × Direct words second (wordBehind code at 3) × Direct words third
+      (wordBehind code at 4)
+  Ready branch-op = (at + 3 ≤ 4096) × Direct words first (wordBehind code at 1) × Direct words second (wordBehind code at 2)
+  Ready goto-op = (at + 2 ≤ 4096) × Direct words first (wordBehind code at 1)
+  Ready block-op = (at + 2 ≤ 4096) × (live ≤ 255)
+  Ready call-op = Calling code limit live at × Direct words first (wordBehind code at 1)
+  Ready pair-op = (at + 3 ≤ 4096) × Reachable words first (wordBehind code at 1) × Reachable words second (wordBehind code at 2)
+  Ready unpair-op = (at + 3 ≤ 4096) × Reachable words first (wordBehind code at 1) × Reachable words second (wordBehind code at 2)
+  Ready query-op = (at + 4 ≤ 4096) × Reachable words first (wordBehind code at 1) × Reachable words second (wordBehind code at 2) × Reachable words third
+      (wordBehind code at 3)
+  Ready constant-formal-op = (at + 4 ≤ 4096) × Reachable words first (wordBehind code at 1)
+  Ready arithmetic-formal-op = (at + 5 ≤ 4096) × Reachable words first (wordBehind code at 1) × Reachable words second (wordBehind code at 3)
+      × Reachable words third (wordBehind code at 4)
+  Ready branch-formal-op = (at + 3 ≤ 4096) × Reachable words first (wordBehind code at 1) × Reachable words second (wordBehind code at 2)
+  Ready goto-formal-op = (at + 2 ≤ 4096) × ThroughFormal words first (wordBehind code at 1)
+  Ready call-formal-op = Calling code limit live at × ThroughFormal words first (wordBehind code at 1)
+      × FormalsBefore code (heldBy words first (wordBehind code at 1) / 8192)
+
+module _ (firstOf : ℕ → ℕ) (code : List ℕ) (at first second third : ℕ) where
+  -- the names in one, two and three fields
+  abbrev pub One : ℕ → Type 0
+  One i = first ≡ firstOf (wordBehind code at i)
+
+  abbrev pub Two : ℕ → ℕ → Type 0
+  Two i j = (first ≡ firstOf (wordBehind code at i)) × (second ≡ firstOf (wordBehind code at j))
+
+  abbrev pub Three : ℕ → ℕ → ℕ → Type 0
+  Three i j k = (first ≡ firstOf (wordBehind code at i)) × (second ≡ firstOf (wordBehind code at j)) × (third ≡ firstOf (wordBehind code at k))
+
+  abbrev pub Leads : Op → Type 0
+  Leads constant-op = One 1
+  Leads add-op = Three 1 3 4
+  Leads subtract-op = Three 1 3 4
+  Leads compare-op = Three 1 3 4
+  Leads branch-op = Two 1 2
+  Leads goto-op = One 1
+  Leads block-op = Unit {0}
+  Leads call-op = One 1
+  Leads pair-op = Two 1 2
+  Leads unpair-op = Two 1 2
+  Leads query-op = Three 1 2 3
+  Leads constant-formal-op = One 1
+  Leads arithmetic-formal-op = Three 1 3 4
+  Leads branch-formal-op = Two 1 2
+  Leads goto-formal-op = One 1
+  Leads call-formal-op = One 1
+
+-- the words as they are before a call's arguments are handed on
+unfoldable pub unhanded : Move → List ℤ → List ℤ → List ℤ
+unhanded (On p) words words′ = words′
+unhanded (Asks p g m t a) words words′ = words′
+unhanded (Jump h p) words words′ = words′
+unhanded (Enter b h p) words words′ = words
+unhanded (Stop c) words words′ = words′
+
+abbrev pub Did : Happened → List ℤ → Move → List ℤ → Type 0
+Did h words r words′ = (r ≡ h .move) × (words′ ≡ unhanded (h .move) words (h .words))
+
+-- a call of the procedure that activation `home` declares and whose body stands at a place: 22, or it is entered
+unfoldable pub callMove : List ℕ → ℕ → ℕ → ℕ → ℕ → ℕ → Move
+callMove code limit live at home body =
+    elim (leb limit (live + 1)) [ true ↦ Stop NoActivationLeft | false ↦ Enter body home (at + 3 + wordBehind code at 2) ]
+
+-- the class of a statement by its operation: 0 GO, BK, CL, and KN of a formal, 1 to 3 AR of which none is a formal, 4 AR of which one is, 5 IF, 6 AD and
+-- RM, 7 QY, 8 KN of no formal
+unfoldable pub classOf : Op → ℕ
+classOf constant-op = 8
+classOf add-op = 1
+classOf subtract-op = 2
+classOf compare-op = 3
+classOf branch-op = 5
+classOf goto-op = 0
+classOf block-op = 0
+classOf call-op = 0
+classOf pair-op = 6
+classOf unpair-op = 6
+classOf query-op = 7
+classOf constant-formal-op = 0
+classOf arithmetic-formal-op = 4
+classOf branch-formal-op = 5
+classOf goto-formal-op = 0
+classOf call-formal-op = 0

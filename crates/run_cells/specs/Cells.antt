@@ -1,0 +1,119 @@
+-- What the first cells of the activations that declare a statement's names give, by any way of finding names that has these: a name's cell, activation
+-- and target, and from these what the statement comes to.
+use Prim.Native.Nat.{ℕ, _+_, _*_, _/_, _%_}
+use native.Mathlib.Omega.{arith}
+use mathlib.Core.Bool.{true, false}
+use mathlib.Core.List.{List}
+use mathlib.Core.Path.{_≡_, sym, ap, _∙_}
+use lib.IntN.{ℤ, pos}
+use lib.ListN.{getD, set}
+use Rattle.language.specs.Basics.{eqZ}
+use Rattle.language.specs.Encoding.{signed}
+use Rattle.language.specs.Machine.{compute}
+use Rattle.language.specs.Text.{Operation, less}
+use Rattle.resolved.specs.Resolved.{direct, positionIn, targetIn}
+use Rattle.arrays.specs.Found.{heldBy, cellBy}
+use Rattle.run_moves.specs.declared.Effect.{Effect}
+use Rattle.run_moves.specs.declared.Move.{Move}
+use Rattle.run_moves.specs.declared.Move.the-variants.{On, Jump}
+use Rattle.run_moves.specs.Effects.{effectOf, wordsOf}
+use Rattle.run_moves.specs.Acting.{Scene, doConstant, doArithmetic, doGoto, doBranch}
+use Rattle.run_statements.specs.Pieces.{only-words, moveAfter}
+use Rattle.run_statements.specs.Words.{cell-formal, home-direct, target-direct, home-formal, target-formal}
+use Rattle.run_statements.specs.Doing.{direct-cell, constant-done, arithmetic-done, compare-done, goto-done, branch-not, branch-goes}
+use Rattle.steps.specs.Finding.{byFirst}
+use Rattle.run_cells.specs.Finding.{Direct}
+use Rattle.run_cells.specs.Asking.{wordBehind}
+
+-- the cell of a name that is no formal
+pub own-cell : {words : List ℤ} {first w c : ℕ} → Direct words first w → c ≡ first + positionIn w → c ≡ cellBy words first w
+own-cell {words} {first} {w} d e = direct-cell words first w e (d .is)
+
+-- and of a formal
+pub held-cell : (words : List ℤ) (first w : ℕ) {h : ℕ} → direct w ≡ false → h ≡ heldBy words first w → h % 8192 ≡ cellBy words first w
+held-cell words first w d e = ap (λ (n : ℕ). n % 8192) e ∙ sym (cell-formal words first w d)
+
+module _ (words : List ℤ) (firstOf : ℕ → ℕ) (w : ℕ) {first : ℕ} (e : first ≡ firstOf w) where
+  pub cell-by : {c : ℕ} → c ≡ cellBy words first w → c ≡ byFirst words firstOf .cell w
+  cell-by t = t ∙ ap (λ (m : ℕ). cellBy words m w) e
+
+  -- a name that is no formal
+  pub home-own : direct w ≡ true → first / 32 ≡ byFirst words firstOf .home w
+  home-own d = ap (λ (m : ℕ). m / 32) e ∙ sym (home-direct words (firstOf w) w d)
+
+  pub target-own : direct w ≡ true → targetIn w ≡ byFirst words firstOf .target w
+  target-own d = sym (target-direct words (firstOf w) w d)
+
+  -- a formal, by what it holds
+  module _ (d : direct w ≡ false) {h : ℕ} (t : h ≡ heldBy words first w) where
+    holds : h ≡ heldBy words (firstOf w) w
+    holds = t ∙ ap (λ (m : ℕ). heldBy words m w) e
+
+    pub home-held : h % 8192 / 32 ≡ byFirst words firstOf .home w
+    home-held = ap (λ (n : ℕ). n % 8192 / 32) holds ∙ sym (home-formal words (firstOf w) w d)
+
+    pub target-held : h / 8192 ≡ byFirst words firstOf .target w
+    target-held = ap (λ (n : ℕ). n / 8192) holds ∙ sym (target-formal words (firstOf w) w d)
+
+module _ (code : List ℕ) (words : List ℤ) (at : ℕ) where
+  abbrev name : ℕ → ℕ
+  name i = wordBehind code at i
+
+  abbrev scene : Scene
+  scene = only-words code words at
+
+  -- KN
+  pub constant-at :
+      {first target : ℕ} {m : Move} {ws : List ℤ} → target ≡ cellBy words first (name 1) → m ≡ On (at + 4) →
+      ws ≡ set words target (signed (name 2)) →
+      (firstOf : ℕ → ℕ) → first ≡ firstOf (name 1) →
+      (m ≡ doConstant (byFirst words firstOf) scene .move) × (ws ≡ doConstant (byFirst words firstOf) scene .words)
+  constant-at t m ws firstOf p =
+      let d = constant-done (byFirst words firstOf) scene (cell-by words firstOf (name 1) p t) ws in
+      (m ∙ d .0, d .1)
+
+  -- AR
+  abbrev result : Operation → ℕ → ℕ → ℤ
+  result o left right = compute o (getD words left (pos 0)) (getD words right (pos 0))
+
+  module _ {first second third target left right : ℕ} (t : target ≡ cellBy words first (name 1)) (l : left ≡ cellBy words second (name 3))
+      (r : right ≡ cellBy words third (name 4)) where
+    pub arithmetic-at :
+        (o : Operation) {m : Move} {e : Effect} {ws : List ℤ} → m ≡ moveAfter e (at + 5) → e ≡ effectOf (result o left right) →
+        ws ≡ wordsOf words target (result o left right) →
+        (firstOf : ℕ → ℕ) → first ≡ firstOf (name 1) → second ≡ firstOf (name 3) → third ≡ firstOf (name 4) →
+        (m ≡ doArithmetic (byFirst words firstOf) scene o .move) × (ws ≡ doArithmetic (byFirst words firstOf) scene o .words)
+    arithmetic-at o m e ws firstOf p q u =
+        arithmetic-done (byFirst words firstOf) scene o (cell-by words firstOf (name 1) p t) (cell-by words firstOf (name 3) q l) (cell-by words firstOf (name 4) u r)
+        m e ws
+
+    pub compare-at :
+        {ws : List ℤ} → ws ≡ set words target (result less left right) →
+        (firstOf : ℕ → ℕ) → first ≡ firstOf (name 1) → second ≡ firstOf (name 3) → third ≡ firstOf (name 4) →
+        (On (at + 5) ≡ doArithmetic (byFirst words firstOf) scene less .move) × (ws ≡ doArithmetic (byFirst words firstOf) scene less .words)
+    compare-at ws firstOf p q u =
+        compare-done (byFirst words firstOf) scene (cell-by words firstOf (name 1) p t) (cell-by words firstOf (name 3) q l) (cell-by words firstOf (name 4) u r) ws
+
+  -- GO
+  pub goto-own :
+      {first : ℕ} {m : Move} → m ≡ Jump (first / 32) (targetIn (name 1)) → direct (name 1) ≡ true →
+      (firstOf : ℕ → ℕ) → first ≡ firstOf (name 1) → m ≡ doGoto (byFirst words firstOf) scene .move
+  goto-own m d firstOf p = m ∙ goto-done (byFirst words firstOf) scene (home-own words firstOf (name 1) p d) (target-own words firstOf (name 1) p d)
+
+  pub goto-held :
+      {first h : ℕ} → h ≡ heldBy words first (name 1) → direct (name 1) ≡ false →
+      (firstOf : ℕ → ℕ) → first ≡ firstOf (name 1) → Jump (h % 8192 / 32) (h / 8192) ≡ doGoto (byFirst words firstOf) scene .move
+  goto-held t d firstOf p = goto-done (byFirst words firstOf) scene (home-held words firstOf (name 1) p d t) (target-held words firstOf (name 1) p d t)
+
+  -- IF
+  module _ {first second c : ℕ} (t : c ≡ cellBy words second (name 2)) where
+    pub stays-at :
+        eqZ (getD words c (pos 0)) (pos 0) ≡ true →
+        (firstOf : ℕ → ℕ) → first ≡ firstOf (name 1) → second ≡ firstOf (name 2) → On (at + 3) ≡ doBranch (byFirst words firstOf) scene .move
+    stays-at z firstOf p q = branch-not (byFirst words firstOf) scene (cell-by words firstOf (name 2) q t) z
+
+    pub goes-at :
+        eqZ (getD words c (pos 0)) (pos 0) ≡ false → {m : Move} →
+        ((firstOf : ℕ → ℕ) → first ≡ firstOf (name 1) → m ≡ doGoto (byFirst words firstOf) scene .move) →
+        (firstOf : ℕ → ℕ) → first ≡ firstOf (name 1) → second ≡ firstOf (name 2) → m ≡ doBranch (byFirst words firstOf) scene .move
+    goes-at z m firstOf p q = m firstOf p ∙ branch-goes (byFirst words firstOf) scene (cell-by words firstOf (name 2) q t) z

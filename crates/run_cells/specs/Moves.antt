@@ -1,0 +1,156 @@
+-- What a statement's function says of its move and words is what the statement does, but for a call's arguments, which are not handed on yet:
+-- the laws that end in `-did`, one for each function.
+use Prim.Native.Nat.{ℕ, _+_, _≤_, _<_}
+use native.Mathlib.Omega.{arith}
+use mathlib.Core.Bool.{Bool, true, false}
+use mathlib.Core.List.{List}
+use mathlib.Core.Path.{_≡_, refl, sym, ap, ap₂, _∙_, subst}
+use borrow.Author.Tests.{le-leb, lt-leb}
+use lib.Dec.{leb}
+use lib.IntN.{ℤ}
+use lib.ListN.{getD}
+use Rattle.language.specs.Machine.{compute}
+use Rattle.language.specs.Text.{Operation}
+use Rattle.language.specs.declared.Stop.the-variants.{NoActivationLeft}
+use Rattle.run_moves.specs.declared.Effect.{Effect}
+use Rattle.run_moves.specs.declared.Effect.the-variants.{Done as Stored, Stopped as Refused}
+use Rattle.run_moves.specs.declared.Ask.{Ask}
+use Rattle.run_moves.specs.declared.Move.{Move}
+use Rattle.run_moves.specs.declared.Move.the-variants.{On, Table as Asks, Jump, Enter, Stop}
+use Rattle.run_moves.specs.Effects.{effectOf}
+use Rattle.run_moves.specs.Acting.{Finding, Scene, Happened, moves, rewrites, valueOf, field, arithmeticMove, doConstant, doArithmetic, doGoto, doBranch}
+use Rattle.run_moves.specs.Acting.{noRoom, doBlock, doCall, argumentsAgree, doCallFormal, doChange, doQuery, Op, opOf}
+use Rattle.run_moves.specs.Acting.{happens, acting}
+use Rattle.run_moves.specs.Acting.{sceneBy}
+use Rattle.run_statements.specs.Pieces.{only-words, blockMove}
+use Rattle.run_statements.specs.Doing.{call-agreed}
+use Rattle.run_statements.specs.Scenes.{Done, constant-same, arithmetic-same, goto-same, branch-same, block-same, call-formal-same, change-same}
+use Rattle.run_statements.specs.Scenes.{query-same}
+use Rattle.run_cells.specs.Asking.{wordBehind, unhanded, Did, callMove}
+
+-- 22, or the procedure is entered
+module _ (code : List ℕ) (limit live at home body : ℕ) where
+  pub call-stops : limit ≤ live + 1 → Stop NoActivationLeft ≡ callMove code limit live at home body
+  unfolding callMove
+  call-stops h = let e = le-leb limit (live + 1) h in rw (callMove, e)
+
+  pub call-enters : live + 1 < limit → Enter body home (at + 3 + wordBehind code at 2) ≡ callMove code limit live at home body
+  unfolding callMove
+  call-enters h = let e = lt-leb limit (live + 1) h in rw (callMove, e)
+
+-- where the words stay there is nothing to hand on
+unhanded-same : (m : Move) (words : List ℤ) → words ≡ unhanded m words words
+unfolding unhanded
+unhanded-same (On p) words = refl
+unhanded-same (Asks p g m t a) words = refl
+unhanded-same (Jump h p) words = refl
+unhanded-same (Enter b h p) words = refl
+unhanded-same (Stop c) words = refl
+
+module _ (F : Finding) (s : Scene) where
+  acts : (p : Op) → opOf (getD (s .code) (s .at) 0) ≡ p → happens F s p ≡ acting F s
+  unfolding acting
+  acts p e =
+      let z : s .at + 0 ≡ s .at = omega arith in
+      ap (happens F s) (sym (ap (λ i. opOf (getD (s .code) i 0)) z ∙ e))
+
+  pub did : (p : Op) → opOf (getD (s .code) (s .at) 0) ≡ p → {r : Move} {words′ : List ℤ} → Did (happens F s p) (s .words) r words′ → Did (acting F s) (s .words) r words′
+  did p e {r} {words′} h = subst (λ (x : Happened). Did x (s .words) r words′) (acts p e) h
+
+  -- the scene as far as a statement looks at it
+  abbrev o : Scene
+  o = only-words (s .code) (s .words) (s .at)
+
+  abbrev t : Scene
+  t = sceneBy (s .code) (s .words) (s .limit) (s .live) (s .at)
+
+  -- statements that enter nothing
+
+  pub constant-did :
+      {r : Move} {words′ : List ℤ} → (r ≡ doConstant F o .move) × (words′ ≡ doConstant F o .words) → Did (doConstant F s) (s .words) r words′
+  unfolding doConstant rewrites unhanded
+  constant-did {r} {words′} d = constant-same F s r words′ (d .0) (d .1)
+
+  computed : (e : Effect) (words′ : List ℤ) → words′ ≡ unhanded (arithmeticMove F s e) (s .words) words′
+  unfolding arithmeticMove unhanded
+  computed Stored words′ = refl
+  computed (Refused c) words′ = refl
+
+  pub arithmetic-did :
+      (f : Operation) {r : Move} {words′ : List ℤ} → (r ≡ doArithmetic F o f .move) × (words′ ≡ doArithmetic F o f .words) →
+      Did (doArithmetic F s f) (s .words) r words′
+  unfolding doArithmetic rewrites
+  arithmetic-did f {r} {words′} d =
+      let h = arithmetic-same F s f r words′ (d .0) (d .1) in
+      (h .0, h .1 ∙ computed (effectOf (compute f (valueOf F s (field s 3)) (valueOf F s (field s 4)))) (doArithmetic F s f .words))
+
+  -- statements that leave the words
+
+  left : {h : Happened} {r : Move} → Done h r (s .words) → Did h (s .words) r (s .words)
+  left {h} d = (d .0, unhanded-same (h .move) (s .words) ∙ ap (unhanded (h .move) (s .words)) (d .1))
+
+  pub goto-did : {r : Move} → r ≡ doGoto F o .move → Did (doGoto F s) (s .words) r (s .words)
+  goto-did {r} e = left (goto-same F s r e)
+
+  pub branch-did : {r : Move} → r ≡ doBranch F o .move → Did (doBranch F s) (s .words) r (s .words)
+  branch-did {r} e = left (branch-same F s r e)
+
+  pub block-did : {r : Move} → r ≡ blockMove (s .code) (s .limit) (s .live) (s .at) → Did (doBlock F s) (s .words) r (s .words)
+  block-did {r} e = left (block-same F s r e)
+
+  pub change-did : (a : Ask) {r : Move} → r ≡ doChange F o a .move → Did (doChange F s a) (s .words) r (s .words)
+  change-did a {r} e = left (change-same F s a r e)
+
+  pub query-did : {r : Move} → r ≡ doQuery F o .move → Did (doQuery F s) (s .words) r (s .words)
+  query-did {r} e = left (query-same F s r e)
+
+  -- calls
+
+  abbrev moveTo : ℕ → ℕ → Move
+  moveTo home body = callMove (s .code) (s .limit) (s .live) (s .at) home body
+
+  abbrev full : Bool
+  full = leb (s .limit) (s .live + 1)
+
+  call-is : moveTo (F .home (field s 1)) (F .target (field s 1)) ≡ doCall F s .move
+  unfolding doCall noRoom rewrites moves callMove
+  call-is = go full refl
+    where
+      go : (b : Bool) → full ≡ b → moveTo (F .home (field s 1)) (F .target (field s 1)) ≡ doCall F s .move
+      go true e = rw (e, callMove, doCall)
+      go false e = rw (e, callMove, doCall)
+
+  pub call-move : {home body : ℕ} {r : Move} → home ≡ F .home (field s 1) → body ≡ F .target (field s 1) → r ≡ moveTo home body → r ≡ doCall F s .move
+  call-move p q e = e ∙ ap₂ moveTo p q ∙ call-is
+
+  pub call-formal-move :
+      {home body : ℕ} {r : Move} → home ≡ F .home (field s 1) → body ≡ F .target (field s 1) → argumentsAgree F s body ≡ true → r ≡ moveTo home body →
+      r ≡ doCallFormal F s .move
+  call-formal-move p q a e = call-move p q e ∙ ap (λ (x : Happened). x .move) (call-agreed F s q a)
+
+  abbrev Waits : Happened → Type 0
+  Waits h = s .words ≡ unhanded (h .move) (s .words) (h .words)
+
+  call-waits : Waits (doCall F s)
+  unfolding doCall noRoom rewrites moves unhanded
+  call-waits = go full refl
+    where
+      go : (b : Bool) → full ≡ b → Waits (doCall F s)
+      go true e = rw (e, doCall)
+      go false e = rw (e, doCall)
+
+  call-formal-waits : Waits (doCallFormal F s)
+  unfolding doCallFormal moves unhanded
+  call-formal-waits = go (argumentsAgree F s (F .target (field s 1))) refl
+    where
+      go : (b : Bool) → argumentsAgree F s (F .target (field s 1)) ≡ b → Waits (doCallFormal F s)
+      go true e = rw (e, doCallFormal) call-waits
+      go false e = rw (e, doCallFormal)
+
+  pub call-did :
+      {home body : ℕ} {r : Move} → home ≡ F .home (field s 1) → body ≡ F .target (field s 1) → r ≡ moveTo home body →
+      Did (doCall F s) (s .words) r (s .words)
+  call-did p q e = (call-move p q e, call-waits)
+
+  pub call-formal-did : {r : Move} → r ≡ doCallFormal F t .move → Did (doCallFormal F s) (s .words) r (s .words)
+  call-formal-did {r} e = (call-formal-same F s r (doCallFormal F t .words) e refl .0, call-formal-waits)

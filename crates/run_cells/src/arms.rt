@@ -1,0 +1,262 @@
+// The statements, each with the first cells of the activations that declare its names. `at` is the place of the statement's operation. A statement none of
+// whose names is a formal has a function of its own. Each does what its definition in Acting says, by whatever way of finding names has these cells.
+use super::names::cell;
+use super::names::held;
+use super::names::own;
+use language::Stop;
+use run_moves::Ask;
+use run_moves::Move;
+use run_statements::computed;
+use run_statements::constant;
+use run_words::code_at;
+ghost use mathlib.Core.Path.{_≡_};
+ghost use Prim.Native.Nat.{ℕ, _+_, _<_, _≤_, _%_, _/_};
+ghost use lib.ListN.{getD};
+ghost use Rattle.language.specs.Text.{plus, minus, less};
+ghost use Rattle.resolved.specs.Resolved.{targetIn};
+ghost use Rattle.arrays.specs.Found.{heldBy};
+ghost use Rattle.run_moves.specs.Acting.{doConstant, doArithmetic, operationOf, doGoto, doBranch, doCallFormal, doChange, doQuery};
+ghost use Rattle.run_moves.specs.Acting.{sceneBy};
+ghost use Rattle.run_statements.specs.Pieces.{only-words, FormalsBefore};
+ghost use Rattle.steps.specs.Finding.{byFirst};
+ghost use Rattle.run_cells.specs.Finding.{Reachable, Direct, ThroughFormal};
+ghost use Rattle.run_cells.specs.Asking.{wordBehind, Calling, callMove};
+
+pub fn do_constant(code: &[u32; 4096], words: &mut [i32; 8224], at: usize, first: usize) -> Move
+    requires { ⌜ (at + 4 ≤ 4096) × Direct (now words) first (wordBehind (now code) at 1) ⌝ }
+    ensures { λ r. ⌜ ((firstOf : ℕ → ℕ) → first ≡ firstOf (wordBehind (now (code .entry)) at 1) → (r ≡ doConstant (byFirst (now (words .entry)) firstOf) (only-words (now (code .entry)) (now (words .entry)) at) .move) × (now (words .exit) ≡ doConstant (byFirst (now (words .entry)) firstOf) (only-words (now (code .entry)) (now (words .entry)) at) .words)) ⌝ }
+{
+    constant(code, words, own(code, at + 1, first), at)
+}
+
+pub fn do_constant_formal(
+    code: &[u32; 4096],
+    words: &mut [i32; 8224],
+    at: usize,
+    first: usize,
+) -> Move
+    requires { ⌜ (at + 4 ≤ 4096) × Reachable (now words) first (wordBehind (now code) at 1) ⌝ }
+    ensures { λ r. ⌜ ((firstOf : ℕ → ℕ) → first ≡ firstOf (wordBehind (now (code .entry)) at 1) → (r ≡ doConstant (byFirst (now (words .entry)) firstOf) (only-words (now (code .entry)) (now (words .entry)) at) .move) × (now (words .exit) ≡ doConstant (byFirst (now (words .entry)) firstOf) (only-words (now (code .entry)) (now (words .entry)) at) .words)) ⌝ }
+{
+    constant(code, words, cell(code, words, at + 1, first), at)
+}
+
+pub fn do_add(
+    code: &[u32; 4096],
+    words: &mut [i32; 8224],
+    at: usize,
+    first: usize,
+    second: usize,
+    third: usize,
+) -> Move
+    requires { ⌜ (at + 5 ≤ 4096) × Direct (now words) first (wordBehind (now code) at 1) × Direct (now words) second (wordBehind (now code) at 3) × Direct (now words) third (wordBehind (now code) at 4) ⌝ }
+    ensures { λ r. ⌜ ((firstOf : ℕ → ℕ) → first ≡ firstOf (wordBehind (now (code .entry)) at 1) → second ≡ firstOf (wordBehind (now (code .entry)) at 3) → third ≡ firstOf (wordBehind (now (code .entry)) at 4) → (r ≡ doArithmetic (byFirst (now (words .entry)) firstOf) (only-words (now (code .entry)) (now (words .entry)) at) plus .move) × (now (words .exit) ≡ doArithmetic (byFirst (now (words .entry)) firstOf) (only-words (now (code .entry)) (now (words .entry)) at) plus .words)) ⌝ }
+{
+    let target = own(code, at + 1, first);
+    let left = own(code, at + 3, second);
+    let right = own(code, at + 4, third);
+    computed(run_words::add(words, target, left, right), at)
+}
+
+pub fn do_subtract(
+    code: &[u32; 4096],
+    words: &mut [i32; 8224],
+    at: usize,
+    first: usize,
+    second: usize,
+    third: usize,
+) -> Move
+    requires { ⌜ (at + 5 ≤ 4096) × Direct (now words) first (wordBehind (now code) at 1) × Direct (now words) second (wordBehind (now code) at 3) × Direct (now words) third (wordBehind (now code) at 4) ⌝ }
+    ensures { λ r. ⌜ ((firstOf : ℕ → ℕ) → first ≡ firstOf (wordBehind (now (code .entry)) at 1) → second ≡ firstOf (wordBehind (now (code .entry)) at 3) → third ≡ firstOf (wordBehind (now (code .entry)) at 4) → (r ≡ doArithmetic (byFirst (now (words .entry)) firstOf) (only-words (now (code .entry)) (now (words .entry)) at) minus .move) × (now (words .exit) ≡ doArithmetic (byFirst (now (words .entry)) firstOf) (only-words (now (code .entry)) (now (words .entry)) at) minus .words)) ⌝ }
+{
+    let target = own(code, at + 1, first);
+    let left = own(code, at + 3, second);
+    let right = own(code, at + 4, third);
+    computed(run_words::subtract(words, target, left, right), at)
+}
+
+pub fn do_compare(
+    code: &[u32; 4096],
+    words: &mut [i32; 8224],
+    at: usize,
+    first: usize,
+    second: usize,
+    third: usize,
+) -> Move
+    requires { ⌜ (at + 5 ≤ 4096) × Direct (now words) first (wordBehind (now code) at 1) × Direct (now words) second (wordBehind (now code) at 3) × Direct (now words) third (wordBehind (now code) at 4) ⌝ }
+    ensures { λ r. ⌜ ((firstOf : ℕ → ℕ) → first ≡ firstOf (wordBehind (now (code .entry)) at 1) → second ≡ firstOf (wordBehind (now (code .entry)) at 3) → third ≡ firstOf (wordBehind (now (code .entry)) at 4) → (r ≡ doArithmetic (byFirst (now (words .entry)) firstOf) (only-words (now (code .entry)) (now (words .entry)) at) less .move) × (now (words .exit) ≡ doArithmetic (byFirst (now (words .entry)) firstOf) (only-words (now (code .entry)) (now (words .entry)) at) less .words)) ⌝ }
+{
+    let target = own(code, at + 1, first);
+    let left = own(code, at + 3, second);
+    let right = own(code, at + 4, third);
+    run_words::compare(words, target, left, right);
+    Move::On(at + 5)
+}
+
+pub fn do_arithmetic_formal(
+    code: &[u32; 4096],
+    words: &mut [i32; 8224],
+    at: usize,
+    first: usize,
+    second: usize,
+    third: usize,
+) -> Move
+    requires { ⌜ (at + 5 ≤ 4096) × Reachable (now words) first (wordBehind (now code) at 1) × Reachable (now words) second (wordBehind (now code) at 3) × Reachable (now words) third (wordBehind (now code) at 4) ⌝ }
+    ensures { λ r. ⌜ ((firstOf : ℕ → ℕ) → first ≡ firstOf (wordBehind (now (code .entry)) at 1) → second ≡ firstOf (wordBehind (now (code .entry)) at 3) → third ≡ firstOf (wordBehind (now (code .entry)) at 4) → (r ≡ doArithmetic (byFirst (now (words .entry)) firstOf) (only-words (now (code .entry)) (now (words .entry)) at) (operationOf (wordBehind (now (code .entry)) at 2)) .move) × (now (words .exit) ≡ doArithmetic (byFirst (now (words .entry)) firstOf) (only-words (now (code .entry)) (now (words .entry)) at) (operationOf (wordBehind (now (code .entry)) at 2)) .words)) ⌝ }
+{
+    let target = cell(code, words, at + 1, first);
+    let left = cell(code, words, at + 3, second);
+    let right = cell(code, words, at + 4, third);
+    let operation = code_at(code, at + 2);
+    if operation == 0 {
+        return computed(run_words::add(words, target, left, right), at);
+    }
+    if operation == 1 {
+        return computed(run_words::subtract(words, target, left, right), at);
+    }
+    run_words::compare(words, target, left, right);
+    Move::On(at + 5)
+}
+
+// GO
+pub fn do_goto(code: &[u32; 4096], at: usize, first: usize) -> Move
+    requires { ⌜ at + 2 ≤ 4096 ⌝ }
+    ensures { λ r. ⌜ r ≡ Move.Jump (first / 32) (targetIn (wordBehind (now (code .entry)) at 1)) ⌝ }
+{
+    Move::Jump(first / 32, code_at(code, at + 1) / 65536)
+}
+
+pub fn do_goto_formal(code: &[u32; 4096], words: &[i32; 8224], at: usize, first: usize) -> Move
+    requires { ⌜ (at + 2 ≤ 4096) × ThroughFormal (now words) first (wordBehind (now code) at 1) ⌝ }
+    ensures { λ r. ⌜ ((firstOf : ℕ → ℕ) → first ≡ firstOf (wordBehind (now (code .entry)) at 1) → r ≡ doGoto (byFirst (now (words .entry)) firstOf) (only-words (now (code .entry)) (now (words .entry)) at) .move) ⌝ }
+{
+    let to = held(code, words, at + 1, first);
+    Move::Jump(to % 8192 / 32, to / 8192)
+}
+
+// IF
+pub fn do_branch(
+    code: &[u32; 4096],
+    words: &[i32; 8224],
+    at: usize,
+    first: usize,
+    second: usize,
+) -> Move
+    requires { ⌜ (at + 3 ≤ 4096) × Direct (now words) first (wordBehind (now code) at 1) × Direct (now words) second (wordBehind (now code) at 2) ⌝ }
+    ensures { λ r. ⌜ ((firstOf : ℕ → ℕ) → first ≡ firstOf (wordBehind (now (code .entry)) at 1) → second ≡ firstOf (wordBehind (now (code .entry)) at 2) → r ≡ doBranch (byFirst (now (words .entry)) firstOf) (only-words (now (code .entry)) (now (words .entry)) at) .move) ⌝ }
+{
+    if words[own(code, at + 2, second)] == 0 {
+        return Move::On(at + 3);
+    }
+    do_goto(code, at, first)
+}
+
+pub fn do_branch_formal(
+    code: &[u32; 4096],
+    words: &[i32; 8224],
+    at: usize,
+    first: usize,
+    second: usize,
+) -> Move
+    requires { ⌜ (at + 3 ≤ 4096) × Reachable (now words) first (wordBehind (now code) at 1) × Reachable (now words) second (wordBehind (now code) at 2) ⌝ }
+    ensures { λ r. ⌜ ((firstOf : ℕ → ℕ) → first ≡ firstOf (wordBehind (now (code .entry)) at 1) → second ≡ firstOf (wordBehind (now (code .entry)) at 2) → r ≡ doBranch (byFirst (now (words .entry)) firstOf) (only-words (now (code .entry)) (now (words .entry)) at) .move) ⌝ }
+{
+    if words[cell(code, words, at + 2, second)] == 0 {
+        return Move::On(at + 3);
+    }
+    if code_at(code, at + 1) / 32 % 2 == 0 {
+        return do_goto(code, at, first);
+    }
+    do_goto_formal(code, words, at, first)
+}
+
+// CL, once the procedure is found: the activation that declares it and the place of its body.
+fn enter_body(
+    code: &[u32; 4096],
+    limit: usize,
+    live: usize,
+    at: usize,
+    home: usize,
+    body: usize,
+) -> Move
+    requires { ⌜ Calling (now code) limit live at ⌝ }
+    ensures { λ r. ⌜ r ≡ callMove (now (code .entry)) limit live at home body ⌝ }
+{
+    if limit <= live + 1 {
+        return Move::Stop(Stop::NoActivationLeft);
+    }
+    Move::Enter(body, home, at + 3 + code_at(code, at + 2))
+}
+
+pub fn do_call(code: &[u32; 4096], limit: usize, live: usize, at: usize, first: usize) -> Move
+    requires { ⌜ Calling (now code) limit live at ⌝ }
+    ensures { λ r. ⌜ r ≡ callMove (now (code .entry)) limit live at (first / 32) (targetIn (wordBehind (now (code .entry)) at 1)) ⌝ }
+{
+    enter_body(
+        code,
+        limit,
+        live,
+        at,
+        first / 32,
+        code_at(code, at + 1) / 65536,
+    )
+}
+
+// 26 goes before 22.
+pub fn do_call_formal(
+    code: &[u32; 4096],
+    words: &[i32; 8224],
+    limit: usize,
+    live: usize,
+    at: usize,
+    first: usize,
+) -> Move
+    requires { ⌜ Calling (now code) limit live at × ThroughFormal (now words) first (wordBehind (now code) at 1) × FormalsBefore (now code) (heldBy (now words) first (wordBehind (now code) at 1) / 8192) ⌝ }
+    ensures { λ r. ⌜ ((firstOf : ℕ → ℕ) → first ≡ firstOf (wordBehind (now (code .entry)) at 1) → r ≡ doCallFormal (byFirst (now (words .entry)) firstOf) (sceneBy (now (code .entry)) (now (words .entry)) limit live at) .move) ⌝ }
+{
+    let procedure = held(code, words, at + 1, first);
+    let body = procedure / 8192;
+    let count = code_at(code, at + 2);
+    if code_at(code, body) / 65536 % 256 != count {
+        return Move::Stop(Stop::ArgumentsDiffer);
+    }
+    if !run_words::kinds_agree(code, at + 3, body - 3 * count, count) {
+        return Move::Stop(Stop::ArgumentsDiffer);
+    }
+    enter_body(code, limit, live, at, procedure % 8192 / 32, body)
+}
+
+// AD and RM
+pub fn do_change(
+    code: &[u32; 4096],
+    words: &[i32; 8224],
+    at: usize,
+    first: usize,
+    second: usize,
+    ask: Ask,
+) -> Move
+    requires { ⌜ (at + 3 ≤ 4096) × Reachable (now words) first (wordBehind (now code) at 1) × Reachable (now words) second (wordBehind (now code) at 2) ⌝ }
+    ensures { λ r. ⌜ ((firstOf : ℕ → ℕ) → first ≡ firstOf (wordBehind (now (code .entry)) at 1) → second ≡ firstOf (wordBehind (now (code .entry)) at 2) → r ≡ doChange (byFirst (now (words .entry)) firstOf) (only-words (now (code .entry)) (now (words .entry)) at) ask .move) ⌝ }
+{
+    let group = cell(code, words, at + 1, first);
+    let member = cell(code, words, at + 2, second);
+    Move::Table(at + 3, group, member, 0, ask)
+}
+
+// QY
+pub fn do_query(
+    code: &[u32; 4096],
+    words: &[i32; 8224],
+    at: usize,
+    first: usize,
+    second: usize,
+    third: usize,
+) -> Move
+    requires { ⌜ (at + 4 ≤ 4096) × Reachable (now words) first (wordBehind (now code) at 1) × Reachable (now words) second (wordBehind (now code) at 2) × Reachable (now words) third (wordBehind (now code) at 3) ⌝ }
+    ensures { λ r. ⌜ ((firstOf : ℕ → ℕ) → first ≡ firstOf (wordBehind (now (code .entry)) at 1) → second ≡ firstOf (wordBehind (now (code .entry)) at 2) → third ≡ firstOf (wordBehind (now (code .entry)) at 3) → r ≡ doQuery (byFirst (now (words .entry)) firstOf) (only-words (now (code .entry)) (now (words .entry)) at) .move) ⌝ }
+{
+    let target = cell(code, words, at + 1, first);
+    let group = cell(code, words, at + 2, second);
+    let member = cell(code, words, at + 3, third);
+    Move::Table(at + 4, group, member, target, Ask::Query)
+}

@@ -1,0 +1,35 @@
+// A name by the place of its word, and the first cell of the activation that declares it.
+use run_words::code_at;
+ghost use mathlib.Core.Path.{_≡_};
+ghost use Prim.Native.Nat.{_+_, _<_};
+ghost use lib.ListN.{getD};
+ghost use Rattle.resolved.specs.Resolved.{positionIn};
+ghost use Rattle.arrays.specs.Found.{cellBy, heldBy};
+ghost use Rattle.run_cells.specs.Finding.{Reachable, ThroughFormal};
+
+// The name's own cell.
+pub fn own(code: &[u32; 4096], place: usize, first: usize) -> usize
+    requires { ⌜ (place < 4096) × (first + positionIn (getD (now code) place 0) < 8192) ⌝ }
+    ensures { λ r. ⌜ (r ≡ first + positionIn (getD (now (code .entry)) place 0)) × (r < 8192) ⌝ }
+{
+    first + code_at(code, place) % 32
+}
+
+// What a formal holds: the cell of the name that it finally stands for, and what that leads to.
+pub fn held(code: &[u32; 4096], words: &[i32; 8224], place: usize, first: usize) -> usize
+    requires { ⌜ (place < 4096) × ThroughFormal (now words) first (getD (now code) place 0) ⌝ }
+    ensures { λ r. ⌜ (r ≡ heldBy (now (words .entry)) first (getD (now (code .entry)) place 0)) × (r < 2147483648) ⌝ }
+{
+    run_words::whole(words[own(code, place, first)])
+}
+
+// The cell of the declared name that the name finally stands for.
+pub fn cell(code: &[u32; 4096], words: &[i32; 8224], place: usize, first: usize) -> usize
+    requires { ⌜ (place < 4096) × Reachable (now words) first (getD (now code) place 0) ⌝ }
+    ensures { λ r. ⌜ (r ≡ cellBy (now (words .entry)) first (getD (now (code .entry)) place 0)) × (r < 8192) ⌝ }
+{
+    if code_at(code, place) / 32 % 2 == 0 {
+        return own(code, place, first);
+    }
+    held(code, words, place, first) % 8192
+}

@@ -1,0 +1,14 @@
+-- `run_sheet::plain_size` meets its contract. Assumes nothing.
+use native.Mathlib.Omega.{arith}
+use mathlib.Core.Path.{refl}
+use Rattle.run_sheet.specs.Sizes.{plainSize}
+use borrow.Author.Needs.{needs}
+use Rattle.run_sheet.proofs.plain_size.Statement.{statement}
+use Rattle.run_sheet.proofs.plain_size.Tie as tie
+
+returns : tie.Need-returns
+unfolding plainSize
+returns c = (refl, omega arith)
+
+pub plain-size-spec : {M : Type 1} → statement M
+plain-size-spec = tie.close (tie.spec (λ c. search needs) (λ c. search needs) returns)

@@ -1,0 +1,122 @@
+-- `run_sheet::write_sheet` meets its contract: the sheet of so many activations is written. Assumes nothing.
+use Prim.Native.Nat.{_-_, _≤_, _<_}
+use native.Mathlib.Omega.{arith}
+use borrow.Author.Needs.{needs}
+use mathlib.Core.List.{List}
+use mathlib.Core.Path.{_≡_, refl, sym, ap, _∙_}
+use lib.IntN.{ℤ}
+use lib.ListN.{length, take}
+use lib.Seq.{take-all}
+use Rattle.language.specs.Call.{written}
+use Rattle.laws.specs.Lists.{getElem-in}
+use Rattle.frames.specs.Frame.{Frame, frameSheet}
+use Rattle.run_sheet.specs.Held.{Held, shown-at, sheet-room, none-written, sheet-on, sheet-on-length}
+use Rattle.run_sheet.proofs.write_sheet.Statement.{statement}
+use Rattle.run_sheet.proofs.write_sheet.Tie as tie
+
+abbrev Inv-loop : tie.InvT-loop
+Inv-loop code words blocks nexts live sheet₀ at₀ k₀ sheet at k =
+    (k ≤ live) × (length sheet ≡ length sheet₀) ×
+    ((fs : List Frame) → Held code words blocks nexts fs → length fs ≡ live → (sheet ≡ written (frameSheet (take k fs)) sheet₀) × (at ≡ length (frameSheet (take k fs))))
+
+abbrev μ-loop : tie.MeasureT-loop
+μ-loop code words blocks nexts live sheet₀ at₀ k₀ sheet at k = live - k
+
+-- the places: the loop, and the words of an activation widened
+abbrev loopOf : tie.After-widened Inv-loop μ-loop → tie.At-loop Inv-loop μ-loop
+loopOf c = c .before .before .before
+
+abbrev widenedOf : tie.After-widened2 Inv-loop μ-loop → tie.After-widened Inv-loop μ-loop
+widenedOf c = c .before .before
+
+loop-holds : tie.Need-loop-holds Inv-loop μ-loop
+loop-holds c = (omega arith, refl, λ fs h l. none-written fs (c .args .sheet .now))
+
+mul-widened : tie.Need-mul-widened Inv-loop μ-loop
+mul-widened c = omega (arith, c .before .before .pre .0 .1 .most, c .before .before .pre .0 .2)
+
+element-copy-out-widened : tie.Need-element-copy-out-widened Inv-loop μ-loop
+element-copy-out-widened c = omega (arith, c .before .before .pre .0 .1 .most, c .before .before .pre .0 .2)
+
+mul-widened-2 : tie.Need-mul-widened-2 Inv-loop μ-loop
+mul-widened-2 c =
+    let s = loopOf c .before in
+    omega (arith, s .pre .0 .1 .most, s .pre .0 .2)
+
+element-copy-out-widened-2 : tie.Need-element-copy-out-widened-2 Inv-loop μ-loop
+element-copy-out-widened-2 c =
+    let s = loopOf c .before in
+    omega (arith, s .pre .0 .1 .most, s .pre .0 .2)
+
+mul-write-activation : tie.Need-mul-write-activation Inv-loop μ-loop
+mul-write-activation c =
+    let s = loopOf (widenedOf c) .before in
+    omega (arith, s .pre .0 .1 .most, s .pre .0 .2)
+
+write-activation-requires : tie.Need-write-activation-requires Inv-loop μ-loop
+write-activation-requires c κs =
+    let n = c .before in
+    let b = widenedOf n in
+    let u = loopOf b in
+    let p = u .before .pre .0 in
+    let k = u .loop .k in
+    let l : k < length (p .0) = omega (arith, p .2) in
+    let w = getElem-in (p .0) k l in
+    let i = u .loop .inv in
+    let f = p .1 .bounded k (w .0) (w .1) in
+    (w .0 .next, w .0 .words, shown-at (p .1) k (w .0) (w .1) _ _ (b .widened .ensures) (n .widened2 .ensures), omega (arith, f .few, i .1, i .2 (p .0) (p .1) (p .2) .1, sheet-room (p .1) k (omega arith), u .before .pre .1, p .2))
+
+add-k : tie.Need-add-k Inv-loop μ-loop
+add-k c = omega arith
+
+loop-less : tie.Need-loop-less Inv-loop μ-loop
+loop-less c = omega arith
+
+loop-again : tie.Need-loop-again Inv-loop μ-loop
+loop-again c =
+    let n = c .before .before .before in
+    let u = loopOf (widenedOf n) in
+    let k = u .loop .k in
+    let r = c .before .write-activation .ensures in (
+      omega arith,
+      r .1 ∙ u .loop .inv .1,
+      λ fs h l.
+          let b : k < length fs = omega arith in
+          let w = getElem-in fs k b in
+          let f = w .0 in
+          let i = u .loop .inv .2 fs h l in
+          let block = widenedOf n .widened .ensures in
+          let q = r .0 (f .next) (f .words) (frameSheet (take k fs)) (u .before .args .sheet .now) (shown-at h k f (w .1) _ _ block (n .widened2 .ensures)) (i .0) (sym (i .1)) in
+          (q .0 ∙ ap (λ (x : List ℤ). written x (u .before .args .sheet .now)) (sheet-on h k f (w .1) _ block), q .1 ∙ sheet-on-length h k f (w .1) (u .loop .at) (i .1)),
+    )
+
+same-length : tie.Need-same-length Inv-loop μ-loop
+same-length c = c .before .loop .inv .1
+
+returns : tie.Need-returns Inv-loop μ-loop
+returns c fs h l =
+    let i = c .before .loop .inv in
+    let r = i .2 fs h l in
+    let all : take (c .before .loop .k) fs ≡ fs = take-all (c .before .loop .k) fs (omega arith) in
+    (r .0 ∙ ap (λ (x : List Frame). written (frameSheet x) (c .before .before .args .sheet .now)) all, r .1 ∙ ap (λ (x : List Frame). length (frameSheet x)) all)
+
+pub write-sheet-spec : {M : Type 1} → statement M
+write-sheet-spec =
+    tie.close
+    (tie.spec
+    Inv-loop
+    μ-loop
+    loop-holds
+    mul-widened
+    element-copy-out-widened
+    (λ c κs. search needs)
+    mul-widened-2
+    element-copy-out-widened-2
+    (λ c κs. search needs)
+    mul-write-activation
+    write-activation-requires
+    add-k
+    loop-less
+    loop-again
+    same-length
+    returns)

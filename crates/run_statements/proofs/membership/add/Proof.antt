@@ -1,0 +1,24 @@
+-- `add` meets its contract.
+use lib.IntN.{ℤ}
+use Rattle.language.specs.Table.{added}
+use Rattle.run_moves.specs.Acting.{answer}
+use Rattle.table_pairs.specs.Outcomes.{tableOf}
+use Rattle.run_statements.specs.Words.{read-value}
+use Rattle.run_statements.specs.Answers.{changed-by}
+use mathlib.Core.Path.{refl}
+use borrow.Author.Needs.{needs}
+use Rattle.run_statements.proofs.membership.add.Statement.{statement}
+use Rattle.run_statements.proofs.membership.add.Tie as tie
+
+returns : tie.Need-returns
+unfolding answer
+returns c =
+    let m = c .before .before .before in
+    let g = m .before in
+    let s = g .before in
+    let ws = s .args .words .now in
+    changed-by (λ (a b : ℤ). added (s .args .limit) a b (tableOf (s .args .table .now) (s .args .pairs))) (s .args .table .now) (read-value ws (g .of .given) refl) (read-value ws (m .who .given) refl)
+    (c .before .add-pair .ensures .0) (c .before .add-pair .ensures .1)
+
+pub add-spec : {M : Type 1} → statement M
+add-spec = tie.close (tie.spec (λ c. search needs) (λ c. search needs) (λ c. search needs) (λ c. search needs) (λ c κs. search needs) (λ c. search needs) returns)

@@ -1,0 +1,183 @@
+// What statements do once their names are found, for every engine: stores, sums, arguments, and the words of a new activation. An activation
+// has 32 cells in the array of words, one for each name; the array has room behind them, so that clearing goes by four.
+ghost use mathlib.Core.Path.{_≡_};
+ghost use mathlib.Core.Bool.{false};
+ghost use Prim.Native.Nat.{ℕ, _+_, _*_, _<_, _≤_, _^_};
+ghost use lib.Dec.{ltb};
+ghost use lib.IntN.{ℤ, pos, _+ℤ_, _-ℤ_};
+ghost use lib.ListN.{length, getD, set};
+ghost use lib.Signed.{mag, ltZ};
+ghost use Rattle.language.specs.Encoding as encoding;
+ghost use Rattle.language.specs.Text.{plus, minus, less};
+ghost use Rattle.language.specs.Machine.{compute};
+ghost use Rattle.run_moves.specs.Effects.{effectOf, wordsOf, sameKinds, handedWord, Cleared};
+use language::Stop;
+use run_moves::Effect;
+
+fn wide(x: u32) -> usize
+    ensures { λ r. ⌜ (r ≡ x) × (r < 2 ^ 32) ⌝ }
+{
+    x as usize
+}
+
+// A word of the resolved script.
+pub fn code_at(code: &[u32; 4096], at: usize) -> usize
+    requires { ⌜ at < 4096 ⌝ }
+    ensures { λ r. ⌜ (r ≡ getD (now (code .entry)) at 0) × (r < 2 ^ 32) ⌝ }
+{
+    wide(code[at])
+}
+
+fn sum(a: i32, b: i32) -> i64
+    ensures { λ r. ⌜ r ≡ a +ℤ b ⌝ }
+{
+    a as i64 + b as i64
+}
+
+fn difference(a: i32, b: i32) -> i64
+    ensures { λ r. ⌜ r ≡ a -ℤ b ⌝ }
+{
+    a as i64 - b as i64
+}
+
+// Whether a value fits a word.
+fn fits_word(v: i64) -> bool
+    ensures { λ r. ⌜ r ≡ ltb (mag v) 2147483648 ⌝ }
+{
+    if v < 0 - 2147483648 {
+        return false;
+    }
+    v <= 2147483647
+}
+
+fn narrowed(v: i64) -> i32
+    requires { ⌜ mag v < 2147483648 ⌝ }
+    ensures { λ r. ⌜ r ≡ v ⌝ }
+{
+    v as i32
+}
+
+// A word that is not negative.
+pub fn whole(word: i32) -> usize
+    requires { ⌜ ltZ word (pos 0) ≡ false ⌝ }
+    ensures { λ r. ⌜ (word ≡ pos r) × (r < 2147483648) ⌝ }
+{
+    word as usize
+}
+
+pub fn word_of(x: usize) -> i32
+    requires { ⌜ x < 2147483648 ⌝ }
+    ensures { λ r. ⌜ r ≡ pos x ⌝ }
+{
+    x as i32
+}
+
+// KN's value, from its 32 bits.
+pub fn signed(bits: usize) -> i32
+    requires { ⌜ bits < 4294967296 ⌝ }
+    ensures { λ r. ⌜ r ≡ encoding.signed bits ⌝ }
+{
+    if bits < 2147483648 {
+        return bits as i32;
+    }
+    (bits as i64 - 4294967296) as i32
+}
+
+pub fn store(words: &mut [i32; 8224], cell: usize, value: i32)
+    requires { ⌜ cell < 8192 ⌝ }
+    ensures { λ _. ⌜ now (words .exit) ≡ set (now (words .entry)) cell value ⌝ }
+{
+    words[cell] = value;
+}
+
+fn keep(words: &mut [i32; 8224], cell: usize, value: i64) -> Effect
+    requires { ⌜ cell < 8192 ⌝ }
+    ensures { λ r. ⌜ (r ≡ effectOf value) × (now (words .exit) ≡ wordsOf (now (words .entry)) cell value) ⌝ }
+{
+    if fits_word(value) {
+        words[cell] = narrowed(value);
+        return Effect::Done;
+    }
+    Effect::Stopped(Stop::ResultTooLarge)
+}
+
+// AR: the cells of target, left and right.
+pub fn add(words: &mut [i32; 8224], target: usize, left: usize, right: usize) -> Effect
+    requires { ⌜ (target < 8192) × (left < 8192) × (right < 8192) ⌝ }
+    ensures { λ r. ⌜ r ≡ effectOf (compute plus (getD (now (words .entry)) left (pos 0)) (getD (now (words .entry)) right (pos 0))) ⌝ }
+    ensures { λ r. ⌜ now (words .exit) ≡ wordsOf (now (words .entry)) target (compute plus (getD (now (words .entry)) left (pos 0)) (getD (now (words .entry)) right (pos 0))) ⌝ }
+{
+    let value = sum(words[left], words[right]);
+    keep(words, target, value)
+}
+
+pub fn subtract(words: &mut [i32; 8224], target: usize, left: usize, right: usize) -> Effect
+    requires { ⌜ (target < 8192) × (left < 8192) × (right < 8192) ⌝ }
+    ensures { λ r. ⌜ r ≡ effectOf (compute minus (getD (now (words .entry)) left (pos 0)) (getD (now (words .entry)) right (pos 0))) ⌝ }
+    ensures { λ r. ⌜ now (words .exit) ≡ wordsOf (now (words .entry)) target (compute minus (getD (now (words .entry)) left (pos 0)) (getD (now (words .entry)) right (pos 0))) ⌝ }
+{
+    let value = difference(words[left], words[right]);
+    keep(words, target, value)
+}
+
+pub fn compare(words: &mut [i32; 8224], target: usize, left: usize, right: usize)
+    requires { ⌜ (target < 8192) × (left < 8192) × (right < 8192) ⌝ }
+    ensures { λ _. ⌜ now (words .exit) ≡ set (now (words .entry)) target (compute less (getD (now (words .entry)) left (pos 0)) (getD (now (words .entry)) right (pos 0))) ⌝ }
+{
+    if words[left] < words[right] {
+        words[target] = 1;
+    } else {
+        words[target] = 0;
+    }
+}
+
+// What a call hands on of an argument with this word, whose own cell is given: the cell with what the name leads to, or a formal's word.
+pub fn handed(words: &[i32; 8224], word: usize, cell: usize) -> i32
+    requires { ⌜ (word < 2 ^ 32) × (cell < 8192) ⌝ }
+    ensures { λ r. ⌜ r ≡ handedWord (now (words .entry)) word cell ⌝ }
+{
+    if word / 32 % 2 == 0 {
+        return word_of(cell + 8192 * (word / 65536));
+    }
+    words[cell]
+}
+
+// Whether so many arguments, whose words stand from a place on, are of the kinds of the formals from another place on.
+pub fn kinds_agree(code: &[u32; 4096], arguments: usize, formals: usize, count: usize) -> bool
+    requires { ⌜ (arguments + count ≤ 4096) × (formals + 3 * count ≤ 4096) ⌝ }
+    ensures { λ r. ⌜ r ≡ sameKinds (now (code .entry)) arguments formals count ⌝ }
+{
+    let mut i = 0;
+    while i < count {
+        if code_at(code, arguments + i) / 64 % 4 != code_at(code, formals + 3 * i + 2) {
+            return false;
+        }
+        i += 1;
+    }
+    true
+}
+
+fn clear_more(words: &mut [i32; 8224], from: usize, to: usize)
+    requires { ⌜ to ≤ 8192 ⌝ }
+    ensures { λ _. ⌜ Cleared (now (words .entry)) from to (now (words .exit)) ⌝ }
+{
+    let mut i = from;
+    while i < to {
+        words[i] = 0;
+        i += 1;
+    }
+}
+
+// Cells become 0. Four at once, and more only where there are more: few names need no loop. Words behind them are free.
+pub fn clear(words: &mut [i32; 8224], from: usize, to: usize)
+    requires { ⌜ (from ≤ 8192) × (to ≤ 8192) ⌝ }
+    ensures { λ _. ⌜ Cleared (now (words .entry)) from to (now (words .exit)) ⌝ }
+{
+    words[from] = 0;
+    words[from + 1] = 0;
+    words[from + 2] = 0;
+    words[from + 3] = 0;
+    if from + 4 < to {
+        clear_more(words, from + 4, to);
+    }
+}

@@ -1,7 +1,0 @@
--- `scoping::settled` meets its contract. Assumes nothing.
-use borrow.Author.Needs.{needs}
-use Rattle.scoping.proofs.settled.Statement.{statement}
-use Rattle.scoping.proofs.settled.Tie as tie
-
-pub settled-spec : {M : Type 1} → statement M
-settled-spec = tie.close (tie.spec (λ c. search needs) (λ c. search needs) (λ c. rw (c .enum-told .given .1)) (λ c. rw (c .before .p .given .1)))

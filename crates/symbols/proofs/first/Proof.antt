@@ -1,8 +1,0 @@
--- `symbols::first` meets its contract: no entry of the name stands before its head. Assumes nothing.
-use Rattle.symbols.proofs.Chains.{from-head}
-use borrow.Author.Needs.{needs}
-use Rattle.symbols.proofs.first.Statement.{statement}
-use Rattle.symbols.proofs.first.Tie as tie
-
-pub first-spec : {M : Type 1} → statement M
-first-spec = tie.close (tie.spec (λ c. search needs) (λ c. search needs) (λ c. search needs) (λ c. search (needs, from-head)))

@@ -1,9 +1,0 @@
--- `uses::kind_number` meets its contract. Assumes nothing.
-use Rattle.uses.proofs.Meanings.{kind-small, kind-large}
-use borrow.Author.Needs.{needs}
-use Rattle.uses.proofs.kind_number.Statement.{statement}
-use Rattle.uses.proofs.kind_number.Tie as tie
-
-pub kind-number-spec : {M : Type 1} → statement M
-kind-number-spec =
-    tie.close (tie.spec (λ c. search (needs, kind-small)) (λ c. search (needs, kind-large)))
