@@ -88,7 +88,7 @@ module _ (fs : List Frame) (down : Downward fs) (display : List ℕ) where
       let d = displayFrom fs (f .link) in
       shows j m (ap (λ (ms : List ℕ). numbered ms j) (display-step fs down k f e) ∙ numbered-append d (k ∷ []) j (numbered-high d j m q) ∙ q)
 
--- an entry behind the statement that makes it: the innermost frame has gone on before
+-- an entry after the statement that makes it: the innermost frame has gone on before
 module _ (fs : List Frame) (down : Downward fs) (f : Frame) (last : last? fs ≡ some f) (i : ℕ) where
   gs : List Frame
   gs = butLast fs ++ (continue f i ∷ [])

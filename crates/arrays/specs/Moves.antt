@@ -1,6 +1,6 @@
 -- The moves of the frame machine on arrays. `holds-advanced`: the innermost frame goes on at another statement; `holds-left`: a frame is left, and
 -- nothing is written; `holds-resumed`: a goto takes the frames up to the label's; `holds-entered`: a frame is entered, where the arrays have
--- the new activation behind the old ones (`Enters`); `holds-started`: the program is entered first.
+-- the new activation after the old ones (`Enters`); `holds-started`: the program is entered first.
 use Prim.Native.Nat.{ℕ, zero, suc, pred, _+_, _-_, _*_, _≤_, _<_}
 use native.Mathlib.Omega.{arith}
 use mathlib.Core.List.{List, [], _∷_, _++_, map}
@@ -104,7 +104,7 @@ word-advanced fs f e i x h =
 
 -- Entering
 
--- The arrays on the right have behind the activations of the stack fs a new one, for the block b: its formals' words are the arguments' and
+-- The arrays on the right have after the activations of the stack fs a new one, for the block b: its formals' words are the arguments' and
 -- every other name's word is 0.
 pub record Enters (fs : List Frame) (xs : List ℕ) (b : Block) (link : ℕ) (blocks nexts links : List ℕ) (words : List ℤ) (blocks′ nexts′ links′ : List ℕ) (words′ : List ℤ) : Type 0 where
   pub blocks-below : (k : ℕ) → k < length fs → getD blocks′ k 0 ≡ getD blocks k 0

@@ -1,7 +1,7 @@
 -- What an engine reads of an activation in the resolved script. At its block's place: its level (`level-read`), how many formals and names it has
 -- (`formals-read`, `names-read`), where its text ends (`end-read`) and the looked-up name's word (`looked-up-read`). At its next statement's
 -- place: the statement (`action-read`, `block-read`), or the end of the text exactly where there is none (`none-read`, `some-read`);
--- `next-read` and `after-block-read` say where the statement behind it stands.
+-- `next-read` and `after-block-read` say where the statement after it stands.
 use Prim.Native.Nat.{ℕ, suc, pred, _+_, _%_, _/_, _≤_, _<_}
 use native.Mathlib.Omega.{arith}
 use mathlib.Core.List.{List, [], _∷_}

@@ -1,7 +1,7 @@
 -- The moves with the innermost activation's next statement kept apart: an engine has its place `at` in a local, and what `nexts` has there is
 -- free. So the arrays hold the stack with `at` set in its place; live is the innermost activation. `holds-on`: it goes on elsewhere, and
 -- `holds-on-stored`: a value is stored; `holds-back`: it is left, and the one below goes on where `nexts` says; `holds-jumped`: one further
--- out goes on; `holds-pushed`: it goes on behind the statement and a new one is entered, which is three stores and the new words.
+-- out goes on; `holds-pushed`: it goes on after the statement and a new one is entered, which is three stores and the new words.
 use Prim.Native.Nat.{ℕ, suc, pred, _+_, _*_, _/_, _≤_, _<_}
 use native.Mathlib.Omega.{arith}
 use mathlib.Core.List.{List, [], _∷_, _++_}

@@ -37,7 +37,7 @@ pub record Named (code : List ℕ) (records : List Activation) (here : Registers
 
 -- A call's arguments
 
--- behind which field of the statement at a place its arguments end; they begin at the third, and a BK has none
+-- after which field of the statement at a place its arguments end; they begin at the third, and a BK has none
 unfoldable pub argumentsEnd : List ℕ → ℕ → ℕ
 argumentsEnd code at = elim (eqb (getD code at 0 % 16) 6) [ true ↦ 3 | false ↦ 3 + getD code (at + 2) 0 ]
 

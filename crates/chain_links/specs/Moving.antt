@@ -1,5 +1,5 @@
 -- Of an engine that runs (`Running`): `linked`: links can be followed from its innermost activation; `resumable`: the records of its activations can
--- be read; `leaves-to`, `jumps-to`, `enters-to`: the state behind a return, a jump and an entry, from what was read and written.
+-- be read; `leaves-to`, `jumps-to`, `enters-to`: the state after a return, a jump and an entry, from what was read and written.
 use Prim.Native.Nat.{ℕ, suc, pred, _+_, _-_, _*_, _/_, _%_, _≤_}
 use native.Mathlib.Omega.{arith}
 use mathlib.Core.List.{List}

@@ -1,5 +1,5 @@
 -- The static-chain engine between two steps: `Running` says that the records hold a sound stack, and that the level is that of the innermost block.
--- `Succeeds`: another state is the one a step behind it. The others are what its functions make and ask.
+-- `Succeeds`: another state is the one a step later. The others are what its functions make and ask.
 use Prim.Native.Nat.{ℕ, _+_, _*_, _-_, _/_, _%_, _≤_, _<_}
 use mathlib.Core.Bool.{true, false}
 use mathlib.Core.List.{List}
@@ -50,7 +50,7 @@ pub record Running (code : List ℕ) (limit group : ℕ) (words : List ℤ) (rec
   pub level-is : here .level ≡ levelAt code records (here .live)
   pub room : limit ≤ length records
 
--- the state one step behind
+-- the state one step later
 pub record Succeeds {code : List ℕ} {limit group : ℕ} {words : List ℤ} {records : List Activation} {table : List ℤ} {here : Registers}
     (w : Running code limit group words records table here)
     (words′ : List ℤ) (records′ : List Activation) (table′ : List ℤ) (here′ : Registers) : Type 0 where

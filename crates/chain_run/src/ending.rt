@@ -27,7 +27,7 @@ pub fn halts(turn: Turn) -> bool
     }
 }
 
-// The state behind a step; where there is none, any.
+// The state after a step; where there is none, any.
 pub fn next_of(here: Registers, turn: Turn) -> Registers
     ensures { λ r. ⌜ r ≡ nextIn here turn ⌝ }
 {

@@ -15,7 +15,7 @@ ghost use Rattle.run_sheet.specs.Held.{Held};
 ghost use Rattle.run_sheet.specs.Shown.{Shown};
 ghost use Rattle.chain_links.specs.Records.{blocksIn, nextsIn};
 
-// One activation from `at` on, whose record is given; what comes behind it.
+// One activation from `at` on, whose record is given; what comes after it.
 fn write_record(
     code: &[u32; 4096],
     words: &[i32; 8224],

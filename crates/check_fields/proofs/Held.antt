@@ -5,7 +5,7 @@
 --     typed, typed-local       a reader's machine value has the reader's type, as a parameter has it and as a local has it
 --     Maker            that `reader_at` meets its contract.        known-maker      it does, in any function that calls it
 --     Asked, asks      what `reader_at` asks: the slice and the lifetime's token
---     calls-reader-at  a call of it: the reader then stands in front, and the token behind it
+--     calls-reader-at  a call of it: the reader then stands in front, and the token after it
 -- Assumes nothing.
 use mathlib.Core.Path.{_≡_, refl, sym, ap, subst, _∙_}
 use Prim.Native.Nat.{ℕ, _<_, _^_}

@@ -5,7 +5,7 @@
 --     into, lands-in   a value, or what a call returned, is put into a local that holds nothing yet
 --     gone             a local is freed at the end
 --     contractOf       a function's contract.        Walked     a walk from the parameters' machine values
---     calls-fn         a call. `φ` is what the callee's `ensures` says; then the result stands in front, and the lifetimes' tokens behind it
+--     calls-fn         a call. `φ` is what the callee's `ensures` says; then the result stands in front, and the lifetimes' tokens after it
 --     ends-fn          the end of a walk: what is left to show is the tokens and the result
 --     known            a function that is called meets its contract.        proved-by   a function does by its walk
 -- Assumes nothing.

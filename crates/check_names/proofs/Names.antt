@@ -53,7 +53,7 @@ seen-none ns n base count i h = rw none-left
     none-left : count - i ≡ 0
     none-left = omega arith
 
--- a name put behind those held
+-- a name put after those held
 pub names-added : (ns : List ℕ) (base i x : ℕ) → base + i < length ns → namesAt (set ns (base + i) x) base (i + 1) ≡ namesAt ns base i ++ (x ∷ [])
 unfolding namesAt
 names-added ns base i x h = rw (add-one i, drop-set-add base ns i x, take-suc-set (drop base ns) i x (omega (arith, length-drop base ns)))

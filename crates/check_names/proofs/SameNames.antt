@@ -26,7 +26,7 @@ same-cons x xs ys h n = go (eqb n x) refl
     go true e = hit n x xs e ∙ sym (hit n x ys e)
     go false e = miss n x xs e ∙ h n ∙ sym (miss n x ys e)
 
--- a name put behind, or in front
+-- a name put after, or in front
 swapped : (n x y : ℕ) (xs : List ℕ) → among n (x ∷ y ∷ xs) ≡ among n (y ∷ x ∷ xs)
 swapped n x y xs = go (eqb n x) (eqb n y) refl refl
   where

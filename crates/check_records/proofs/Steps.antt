@@ -43,7 +43,7 @@ module _ {M : Type 0} (rows : List (Row M)) (bs : List ℕ) (at : ℕ) where
   pub resumes : Resumes bs at (take-record rows at (unread bs at))
   resumes = by-mark (decLe (at + 2) (length bs))
 
--- the definitions' record behind the code's
+-- the definitions' record for the code's
 pub record Step {M : Type 0} (f : M → Mark) (rows : List (Row M)) (bs : List ℕ) (at : ℕ) (m : Mark) (next f0 f1 f2 f3 : ℕ) : Type 0 where
   pub taking : Record M
   pub reads : take-record rows at (unread bs at) ≡ read taking next (unread bs next)

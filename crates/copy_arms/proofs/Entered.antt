@@ -1,4 +1,4 @@
--- What a call comes to, from what its functions have found: the arguments one by one, 26, and 22 behind it.
+-- What a call comes to, from what its functions have found: the arguments one by one, 26, and 22 after it.
 use Prim.Native.Nat.{ℕ, suc, _+_, _*_, _-_, _/_, _%_, _≤_, _<_}
 use native.Mathlib.Omega.{arith}
 use mathlib.Core.Bool.{Bool, true, false, not}

@@ -61,7 +61,7 @@ pub record ArgumentsAt (area firsts starts : List ℕ) (live place count : ℕ) 
   pub there : place + count ≤ length area
   pub named : (i : ℕ) → i < count → NameAt area firsts starts live (place + i)
 
--- where the called name is a formal as written, its body stands behind its formals
+-- where the called name is a formal as written, its body stands after its formals
 abbrev pub Callable : List ℕ → ℕ → ℕ → Type 0
 Callable code at body = eqb (getD code at 0 % 16) 15 ≡ true → FormalsBefore code body
 

@@ -1,4 +1,4 @@
-// The statements, each with its mark at `place` of the area, behind which its fields stand, and its operation at `at` of the resolved script.
+// The statements, each with its mark at `place` of the area, after which its fields stand, and its operation at `at` of the resolved script.
 use super::fields::field;
 use super::fields::named;
 use super::fields::named_by;

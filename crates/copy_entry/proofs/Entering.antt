@@ -15,7 +15,7 @@ use Rattle.copy_texts.specs.Copying.{Renewable, Copyable}
 use Rattle.run_state.specs.declared.Registers.{Registers}
 use Rattle.copy_entry.specs.Anew.{formalsAt, levelAt, givenAt, Enterable, Noted, AnewIn}
 
--- Rooms of the area, one behind the other
+-- Rooms of the area, one after the other
 
 one-more : (n width : ℕ) → (n + 1) * width ≡ n * width + width
 one-more n width = add-mul n 1 width ∙ omega arith

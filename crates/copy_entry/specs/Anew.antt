@@ -42,7 +42,7 @@ pub record Enterable (code names area : List ℕ) (width : ℕ) (here : Register
   pub small : width ≤ 4096
   pub here-within : here .at + 3 ≤ 65536
   pub area-long : (here .live + 2) * width ≤ length area
-  -- a formal's argument stands behind the CL
+  -- a formal's argument stands after the CL
   pub given : (q : ℕ) → body ≤ q → q < endAt code body → levelIn (getD names q 0) ≡ levelAt code body → direct (getD names q 0) ≡ false
       → here .at + 3 + positionIn (getD names q 0) < width
   pub given-looked : levelIn (getD code (body + 2) 0) ≡ levelAt code body → direct (getD code (body + 2) 0) ≡ false

@@ -33,7 +33,7 @@ fn note(
 }
 
 // A new activation of the block at a place, whose text is copied from the activation `link`. The arguments' words stand in its first cells, and
-// their names behind the CL.
+// their names after the CL.
 pub fn enter(
     code: &[u32; 4096],
     names: &[u32; 4096],

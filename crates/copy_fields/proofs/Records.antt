@@ -23,7 +23,7 @@ zeros-grow : (c : List ℕ) (at n : ℕ) → Grown c c at (replicate n 0)
 zeros-grow c at zero = grown-nothing c at
 zeros-grow c at (suc n) = grown-more refl (grown-zero c at) (zeros-grow c (at + 2) n)
 
--- Any record but IF: k names are taken behind the mark, m behind the second field.
+-- Any record but IF: k names are taken after the mark, m after the second field.
 module _ (bs code c c1 c2 : List ℕ) (at k m : ℕ) (first : c1 ≡ taken code c (at / 2 + 1) k) (second : c2 ≡ taken code c1 (at / 2 + 3) m) (k-is : k ≡ leading (fieldAt bs at)) (m-is : m ≡ trailing (fieldAt bs at) (fieldAt bs (at + 4))) where
   k-at : (w n : ℕ) → fieldAt bs at ≡ w → leading w ≡ n → k ≡ n
   k-at w n e h = k-is ∙ ap leading e ∙ h
@@ -34,14 +34,14 @@ module _ (bs code c c1 c2 : List ℕ) (at k m : ℕ) (first : c1 ≡ taken code 
   first-grows : (ws : List ℕ) → k ≡ length ws → Covers code (at / 2 + 1) ws → Grown c c1 (at + 2) ws
   first-grows ws e h = take-grows code c c1 (at + 2) (at / 2 + 1) k ws (omega arith) e first h
 
-  -- names behind the mark alone, then n other fields
+  -- names after the mark alone, then n other fields
   few : (ws : List ℕ) (n : ℕ) → k ≡ length ws → m ≡ 0 → Covers code (at / 2 + 1) ws → Grown c c2 at (0 ∷ (ws ++ replicate n 0))
   unfolding taken
   few ws n e z h =
       let same : c1 ≡ c2 = sym (second ∙ ap (taken code c1 (at / 2 + 3)) z) in
       grown-more refl (grown-zero c at) (grown-then refl (first-grows ws e h) (subst (λ (l : List ℕ). Grown c1 l (at + 2 + 2 * length ws) (replicate n 0)) same (zeros-grow c1 (at + 2 + 2 * length ws) n)))
 
-  -- one name behind the mark and others behind the second field
+  -- one name after the mark and others after the second field
   many : (w : ℕ) (ws : List ℕ) → k ≡ 1 → m ≡ length ws → Covers code (at / 2 + 1) (w ∷ []) → Covers code (at / 2 + 1 + 1 + 1) ws → Grown c c2 at (0 ∷ w ∷ 0 ∷ ws)
   many w ws e f g h =
       let p : at / 2 + 1 + 1 + 1 ≡ at / 2 + 3 = omega arith in

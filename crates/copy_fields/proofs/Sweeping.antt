@@ -58,7 +58,7 @@ fields-own (declared (PR at n gs b)) fs es = refl
 fields-own (stated (BK b)) fs es = block-fields-own b [] es
 fields-own (stated (DO at a)) fs es = refl
 
--- `done` is written, and zeros stand behind it; the words of the records that are left make up the whole with it
+-- `done` is written, and zeros stand after it; the words of the records that are left make up the whole with it
 pub record Swept (bs code names : List ℕ) (here : ℕ) (t : Block) (name : ℕ) : Type 0 where
   pub done : List ℕ
   pub left : List Part

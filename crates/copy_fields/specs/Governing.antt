@@ -26,7 +26,7 @@ taken code names from (suc k) = taken code (set names from (getD code from 0)) (
 unfoldable pub crossed : List ℕ → List ℕ → ℕ → List ℕ
 crossed code names from = set (set names from (getD code (from + 1) 0)) (from + 1) (getD code from 0)
 
--- how many names stand right behind a record's mark; a formal's is one whose word is 0
+-- how many names stand right after a record's mark; a formal's is one whose word is 0
 unfoldable pub leading : ℕ → ℕ
 leading m =
     elim (eqb m BK-mark) [
@@ -43,7 +43,7 @@ leading m =
       ]
     ]
 
--- how many stand behind the second field, which of a CL is a
+-- how many stand after the second field, which of a CL is a
 unfoldable pub trailing : ℕ → ℕ → ℕ
 trailing m a = elim (eqb m AR-mark) [ true ↦ 2 | false ↦ elim (eqb m CL-mark) [ true ↦ a | false ↦ 0 ] ]
 

@@ -84,7 +84,7 @@ module _ (l : Layout) (words : List ℕ) where
       let z : q + n + declsBefore ds i ≡ q + (n + declsBefore ds i) = omega arith in
       moved _ _ (l .ofDecl d es) z (decls-lie ds es (q + n) i d (second-of q n (l .ofDecls (decl c ds) es) (l .ofDecl c es) (l .ofDecls ds es) (l .decls-open c ds es) (l .decl-size c es) h) e)
 
-  -- behind a block's own words
+  -- after a block's own words
   opened : (at : ℕ) (ds : Decls) (ss : Stmts) (fs : List Formal) (es : Enclosure) (p : ℕ) → Covers words p (l .ofBlock (block at ds ss) fs es)
       → Covers words (p + 3) (l .ofDecls ds (enclosed fs (block at ds ss) ∷ es) ++ l .ofStmts ss (enclosed fs (block at ds ss) ∷ es))
   opened at ds ss fs es p h =

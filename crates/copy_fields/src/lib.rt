@@ -43,7 +43,7 @@ fn cross(code: &[u32; 4096], names: &mut [u32; 4096], from: usize)
     }
 }
 
-// How many names stand right behind a record's mark. A formal's word is 0 in the resolved script.
+// How many names stand right after a record's mark. A formal's word is 0 in the resolved script.
 fn leading(mark: usize) -> usize
     ensures { λ r. ⌜ (r ≡ governing.leading mark) × (r ≤ 3) ⌝ }
 {
@@ -62,7 +62,7 @@ fn leading(mark: usize) -> usize
     1
 }
 
-// How many names stand behind a record's second field.
+// How many names stand after a record's second field.
 fn trailing(script: &[u8], at: usize, mark: usize) -> usize
     requires { ⌜ at < 8192 ⌝ }
     ensures { λ r. ⌜ (r ≡ governing.trailing mark (fieldAt (now (script .entry)) (at + 4))) × (r < 65536) ⌝ }
@@ -90,7 +90,7 @@ fn note(script: &[u8], code: &[u32; 4096], names: &mut [u32; 4096], at: usize, m
     take(code, names, at / 2 + 3, trailing(script, at, mark));
 }
 
-// One pass over the records, which stand one behind the other. `names` is all zeros before it.
+// One pass over the records, which stand one after the other. `names` is all zeros before it.
 pub fn govern(script: &[u8], code: &[u32; 4096], names: &mut [u32; 4096])
     requires { ⌜ now names ≡ replicate 4096 0 ⌝ }
     ensures governs { λ _. ⌜ governing.Governs (now (script .entry)) (now (code .entry)) (now (names .exit)) ⌝ }

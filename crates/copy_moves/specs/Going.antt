@@ -59,7 +59,7 @@ module _ {code names : List ℕ} {limit group : ℕ} {words : List ℤ} {area : 
   abbrev pub made : CopiesStep (limitsBy limit group) (w .copies) (w .standing .stack) (follows .moved)
   made = copies-step (limitsBy limit group) (w .copies) (w .standing .stack) (w .related) (w .invariant) (innermost .0) (innermost .1) (follows .moved) (follows .steps)
 
-  -- the state of the copy-rule machine behind the step
+  -- the state of the copy-rule machine after the step
   abbrev pub after : State
   after = counted (w .copies) (made .0)
 

@@ -1,6 +1,6 @@
 -- The copying engine between two steps: `Running` says that its arrays hold a sound stack of frames and, beside it, the state of the copy-rule
 -- machine that runs with it: the area its texts, `firsts`, `starts` its new names, `targets` what its labels and procedures lead to, `looked` what
--- the looked-up name reads as. `Succeeds` says that another state of the arrays is the one a step behind it.
+-- the looked-up name reads as. `Succeeds` says that another state of the arrays is the one a step later.
 use Prim.Native.Nat.{ℕ, _+_, _*_, _%_, _≤_, _<_}
 use mathlib.Core.List.{List}
 use mathlib.Core.Path.{_≡_}
@@ -45,7 +45,7 @@ abbrev pub nowAt : List ℕ → List ℕ → Registers → ℕ → ℕ → Regis
 nowAt code blocks here home at =
     goesTo here home at (getD code (getD blocks home 0 + 1) 0 % 65536) (here .pairs)
 
--- the state of the arrays one step behind
+-- the state of the arrays one step later
 pub record Succeeds {code names : List ℕ} {limit group : ℕ} {words : List ℤ} {area : List ℕ} {width : ℕ} {blocks nexts firsts starts targets looked : List ℕ} {table : List ℤ} {here : Registers}
     (w : Running code names limit group words area width blocks nexts firsts starts targets looked table here)
     (words′ : List ℤ) (area′ blocks′ nexts′ firsts′ starts′ targets′ looked′ : List ℕ) (table′ : List ℤ) (here′ : Registers) : Type 0 where

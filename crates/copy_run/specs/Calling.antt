@@ -116,7 +116,7 @@ module _ {code names : List ℕ} {limit group : ℕ} {words : List ℤ} {area : 
   does true e = call-same c s F (procedure .0) count (λ i h. argument i h .0) (operation 7 e) ∙ acts-by c s F 7 e
   does false e = call-formal-same c s F (procedure .0) count (λ i h. argument i h .0) (operation 15 e) ∙ acts-by c s F 15 e
 
-  -- the body stands behind its formals
+  -- the body stands after its formals
   body : FormalsBefore code (target c s 1)
   body =
       let b = body-bounds (w .standing) o p xs q F (finds-by-links (w .standing)) in

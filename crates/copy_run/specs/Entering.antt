@@ -1,4 +1,4 @@
--- Entering a block. `enterable`: what the code asks holds; `enters-on`: what it makes of the arrays is the state one step behind.
+-- Entering a block. `enterable`: what the code asks holds; `enters-on`: what it makes of the arrays is the state one step later.
 use Prim.Native.Nat.{ℕ, suc, _+_, _*_, _-_, _≤_, _<_}
 use native.Mathlib.Omega.{arith}
 use native.Mathlib.Nat.{mul-le-mul-right}
@@ -80,7 +80,7 @@ module _ {code names : List ℕ} {limit group : ℕ} {words : List ℤ} {area : 
   text-high : endPlace (j .text) ≤ width
   text-high = omega (arith, text-within t (w .standing .keeps) e es (j .encloses), w .wide)
 
-  -- a formal of the block stands for an argument, whose name stands behind the CL
+  -- a formal of the block stands for an argument, whose name stands after the CL
   formal-within : (v n : ℕ) → Governs e es v n → levelIn v ≡ levelAt code body → direct v ≡ false → now .at + 3 + positionIn v < width
   formal-within v n (inl z) l d = absurd (omega (arith, level-is))
   formal-within v n (inr k) l d =
@@ -149,7 +149,7 @@ module _ {code names : List ℕ} {limit group : ℕ} {words : List ℤ} {area : 
         subst (λ (T : Type 0). T)
         (λ i. Copied area area′ names (link * width) ((live + 1) * width) (givenAt width now) (level-is i) (now .fresh - head .formals i) (j .body-is i) (head .ends i)) (n .copied)
 
-    -- the frame machine's arrays behind the step
+    -- the frame machine's arrays after the step
     abbrev st : Standing code (limitsBy limit group) words′ (set blocks (live + 1) body) (set nexts live back) (set (w .links) (live + 1) link) table (now .pairs) (live + 1) (stmtPlace (j .text) 1) (endPlace (j .text))
     st = (entered (w .standing) body link back words₁ j words′ cleared) .standing
 

@@ -1,5 +1,5 @@
 -- A block is about to be entered (`EntersAt`): what the copy-rule machine's new activation is then. `anew`: it is entered above the others; `enters`: its
--- arguments stand in the area behind the CL, its own names are the next new ones, and it reads all others as the activation from whose copy its
+-- arguments stand in the area after the CL, its own names are the next new ones, and it reads all others as the activation from whose copy its
 -- text is taken; `inside-here`, `declared-here`: the words of names in that text.
 use Prim.Native.Nat.{ℕ, suc, _+_, _*_, _≤_, _<_}
 use native.Mathlib.Omega.{arith}
@@ -91,7 +91,7 @@ module _ {code names : List ℕ} {limit group : ℕ} {words : List ℤ} {area : 
   pub last : last? (w .copies .live) ≡ some a
   last = last-numbered (w .copies .live) ∙ ap (numbered (w .copies .live)) (many-copies w) ∙ numbered-suc (w .copies .live) (now .live) ∙ at-innermost
 
-  -- the machines behind the step
+  -- the machines after the step
 
   abbrev pub f : Frame
   f = newFrame (j .formals) (j .arguments) (j .text) (suc link)
@@ -186,7 +186,7 @@ module _ {code names : List ℕ} {limit group : ℕ} {words : List ℤ} {area : 
   pub calls : 0 < length (new .arguments) → Calls
   calls h = calls-by (anew .arguments-are) h
 
-  -- they stand behind the CL, within the text
+  -- they stand after the CL, within the text
   pub arguments-within : (i : ℕ) → i < length (new .arguments) → now .at + 3 + i < length (blockFields t)
   unfolding stmtFields actionFields
   arguments-within i h =

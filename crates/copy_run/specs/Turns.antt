@@ -1,5 +1,5 @@
 -- A step of the copying engine, by what the statement comes to (`Came`). For each move: the engine goes on (`went-on`, `answered-on`), or may leave, jump or
--- enter (`leave-ready`, `jump-ready`, `enter-ready`) and stands behind the step once it has (`left-on`, `jumped-on`, `entered-on`), or stops (`stopped-at`).
+-- enter (`leave-ready`, `jump-ready`, `enter-ready`) and stands after the step once it has (`left-on`, `jumped-on`, `entered-on`), or stops (`stopped-at`).
 use Prim.Native.Nat.{ℕ, suc, _+_, _-_, _*_, _%_, _≤_, _<_}
 use native.Mathlib.Omega.{arith}
 use native.Mathlib.Nat.{mul-le-mul-right}

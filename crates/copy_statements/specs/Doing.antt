@@ -29,7 +29,7 @@ pub record Copy : Type 0 where
   pub targets : List ℕ
 
 module _ (c : Copy) (s : Scene) where
-  -- the word so many places behind the mark, and the cell of the name there
+  -- the word so many places after the mark, and the cell of the name there
   abbrev pub text : ℕ → ℕ
   text i = getD (c .area) (c .base + s .at + i) 0
 

@@ -1,5 +1,5 @@
 -- Leaving, jumping and entering, of an engine that runs (`Running`). `restorable`, `restored`: what putting the display right asks, and what it comes
--- to, for an activation that is live; `leaves-to`, `jumps-to`, `enters-to`: the state of the arrays behind each move, from what was read and written.
+-- to, for an activation that is live; `leaves-to`, `jumps-to`, `enters-to`: the state of the arrays after each move, from what was read and written.
 use Prim.Native.Nat.{ℕ, suc, _+_, _-_, _*_, _/_, _%_, _≤_, _<_}
 use native.Mathlib.Omega.{arith}
 use mathlib.Core.List.{List, _∷_}

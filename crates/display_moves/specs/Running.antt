@@ -1,5 +1,5 @@
 -- The display engine between two steps: `Running` says that the arrays hold a sound stack and that the display is that of its innermost frame,
--- `Succeeds` that another state of the arrays is the one a step behind it. The others are what its functions ask.
+-- `Succeeds` that another state of the arrays is the one a step later. The others are what its functions ask.
 use Prim.Native.Nat.{ℕ, suc, _≤_, _<_}
 use mathlib.Core.List.{List}
 use mathlib.Core.Option.{some}
@@ -33,7 +33,7 @@ pub record Doing (code : List ℕ) (words : List ℤ) (display : List ℕ) (limi
   pub running : Running code limit group words blocks nexts links display table (goesTo here live at end pairs)
   pub before : at ≡ end → ⊥
 
--- the state of the arrays one step behind
+-- the state of the arrays one step later
 pub record Succeeds {code : List ℕ} {limit group : ℕ} {words : List ℤ} {blocks nexts links display : List ℕ} {table : List ℤ} {here : Registers}
     (w : Running code limit group words blocks nexts links display table here)
     (words′ : List ℤ) (blocks′ nexts′ links′ display′ : List ℕ) (table′ : List ℤ) (here′ : Registers) : Type 0 where

@@ -1,5 +1,5 @@
 -- A step of the display engine, by what the statement comes to (`Done`): `act-means`. For each move: the engine goes on (`went-on`, `answered-on`), or
--- is ready to jump or to enter (`jump-ready`, `enter-ready`), and stands behind the step once it has (`jumped-on`, `entered-on`).
+-- is ready to jump or to enter (`jump-ready`, `enter-ready`), and stands after the step once it has (`jumped-on`, `entered-on`).
 use Prim.Native.Nat.{ℕ, _≤_, _<_}
 use mathlib.Core.List.{List}
 use mathlib.Core.Path.{_≡_, refl, sym, ap, _∙_, subst}

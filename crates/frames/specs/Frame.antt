@@ -23,7 +23,7 @@ use Rattle.language.specs.declared.Answer.{Answer}
 
 -- A frame: the formals of the procedure whose body its block is (none for another block), the block, where it goes on, its static link
 -- (the number of the frame that encloses its text, 0 for the program), and a word for each name, formals first. A variable's word is its
--- value, a formal's is the designator of the instance behind it, any other is 0.
+-- value, a formal's is the designator of the instance that it stands for, any other is 0.
 pub record Frame : Type 0 where
   pub formals : List Formal
   pub text : Block

@@ -32,7 +32,7 @@ pairIs g m i ws = eqZ (groupAt i ws) g && eqZ (memberAt i ws) m
 
 -- ---- find
 
--- the first place of two: the pair at the front, then what is found behind it
+-- the first place of two: the pair at the front, then what is found after it
 abbrev pub front : Bool → Option ℕ → Option ℕ
 front t o = elim t [ true ↦ some 0 | false ↦ elim o [ none ↦ none | some i ↦ some (suc i) ] ]
 

@@ -1,6 +1,6 @@
 // Document 01's samples, and more, on each engine: the rows of the standard input. A row is a line: what it shows, a colon, and the script as
 // text. Capital letters are bytes of the script and numbers its fields, KN's value two of them, the low half first; commas are for the
-// eye. A number behind another word is what the call is fed, and is kept under the word's last letter.
+// eye. A number after another word is what the call is fed, and is kept under the word's last letter.
 use program_engines::Engine;
 use program_engines::call;
 use program_engines::print_answer;

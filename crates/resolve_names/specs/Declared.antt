@@ -39,13 +39,13 @@ pub record Noted (bs st st′ ends : List ℕ) (at count base end : ℕ) : Type 
 abbrev pub Unlabelled : List ℕ → List ℕ → ℕ → Type 0
 Unlabelled bs st d = (k : ℕ) → k < d → fieldAt bs (getD st k 0) ≡ LB-mark → ⊥
 
--- where one is, the offsets of so many records are put behind those d
+-- where one is, the offsets of so many records are put after those d
 pub record IfLabelled (bs st st′ ends : List ℕ) (at count d : ℕ) : Type 0 where
   pub started : (k : ℕ) → k < d → fieldAt bs (getD st k 0) ≡ LB-mark → (end : ℕ) × Started bs at count d st′ end
   pub below : take d st′ ≡ take d st
   pub noted : Ends bs ends
 
--- the statements of a block stand behind its d declarations in the array of offsets
+-- the statements of a block stand after its d declarations in the array of offsets
 abbrev pub Stated : Block → ℕ → List ℕ → Type 0
 Stated b d st = (i : ℕ) → 1 ≤ d → 1 ≤ i → i ≤ length (blockStmts b) → getD st (d - 1 + i) 0 / 2 ≡ stmtPlace b i
 

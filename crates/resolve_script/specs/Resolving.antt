@@ -97,7 +97,7 @@ ItemWritten bs es name at top level code code′ r =
 abbrev pub Onward : ℕ → ℕ → ℕ → Type 0
 Onward at n r = (at ≤ r) × (r ≤ n + 400000)
 
--- the words of an accepted script, and zeros behind them
+-- the words of an accepted script, and zeros after them
 abbrev pub Resolved : List ℕ → ℕ → List ℕ → Type 0
 Resolved bs name code =
     (t : Block) → check bs ≡ accepted t → code ≡ resolvedOf name t ++ replicate (4096 - length (resolvedOf name t)) 0

@@ -1,7 +1,7 @@
 -- Where the parts of a script stand. A place is half a byte offset and loses nothing, since every offset of a script that keeps the rules is
 -- even (`even-block`, `even-stmt`). Of a block that is formed at place p: `block-place`, `stmt-stands`, `body-stands`: the places of its BK,
--- of a statement and of a body that it declares; `stmt-place`, `end-place`: what stmtPlace is; `next-place`: behind a statement stands the
--- next one, or the end; `place-rises`, `stmt-before-end`, `end-iff`: a statement number's place is the end exactly behind the last one.
+-- of a statement and of a body that it declares; `stmt-place`, `end-place`: what stmtPlace is; `next-place`: after a statement stands the
+-- next one, or the end; `place-rises`, `stmt-before-end`, `end-iff`: a statement number's place is the end exactly after the last one.
 -- Of an enclosed block (`enclosed-placed`): it is formed at its place and ends within the script's at most 4,096 fields (`end-bound`); the laws
 -- on statements are `enclosed-next`, `enclosed-after-block`, `enclosed-before-end`, `enclosed-end-iff`.
 use Prim.Native.Nat.{ℕ, zero, suc, _+_, _*_, _≤_, _<_}
@@ -62,7 +62,7 @@ declsBefore (decl d ds) (suc i) = length (declFields d) + declsBefore ds i
 unfoldable pub before : Block → ℕ → ℕ
 before (block at ds ss) i = 3 + (length (declsFields ds) + stmtsBefore ss i)
 
--- a procedure's body stands behind three fields and its formals
+-- a procedure's body stands after three fields and its formals
 unfoldable pub beforeBody : Block → ℕ → List Formal → ℕ
 beforeBody (block at ds ss) i fs = 3 + (declsBefore ds i + (3 + length (formalsFields fs)))
 
@@ -207,11 +207,11 @@ module _ (b : Block) (level : ℕ) (fs : List Formal) (p : ℕ) (formed : Formed
           let h : length (blockStmts b) ≤ i = getElem-past (blockStmts b) i e in
           omega (arith, place-past b i h, end-is, before-all b i h)
 
-  -- behind a statement stands the next one, or the end
+  -- after a statement stands the next one, or the end
   pub next-place : (i : ℕ) (x : Stmt) → getElem? (blockStmts b) i ≡ some x → stmtPlace b (suc (suc i)) ≡ placeOf (stmtAt x) + length (stmtFields x)
   next-place i x e = omega (arith, place-is (suc i), before-next b i x e, stmt-stands i x e)
 
-  -- behind a block's text
+  -- after a block's text
   pub next-after-block : (i : ℕ) (c : Block) → getElem? (blockStmts b) i ≡ some (BK c) → stmtPlace b (suc (suc i)) ≡ endPlace c
   unfolding endPlace stmtAt blockFields
   next-after-block i c e = next-place i (BK c) e
@@ -230,7 +230,7 @@ module _ (b : Block) (level : ℕ) (fs : List Formal) (p : ℕ) (formed : Formed
   pub stmt-before-end : (i : ℕ) → 1 ≤ i → i ≤ length (blockStmts b) → stmtPlace b i < endPlace b
   stmt-before-end i h l = omega (arith, place-rises i h l, place-within (suc i) (omega arith))
 
-  -- a statement number's place is the end exactly behind the last statement
+  -- a statement number's place is the end exactly after the last statement
   pub end-iff : (i : ℕ) → 1 ≤ i → (stmtPlace b i ≡ endPlace b) ↔ (length (blockStmts b) < i)
   end-iff zero h = absurd (omega arith)
   end-iff (suc i) h = (λ e. there e (ltb i (length (blockStmts b))) refl, λ l. place-past b i (omega arith))

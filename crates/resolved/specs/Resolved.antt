@@ -22,7 +22,7 @@ placeOf at = at / 2
 unfoldable pub endPlace : Block → ℕ
 endPlace b = placeOf (blockAt b) + length (blockFields b)
 
--- where the statement with a number stands; behind the last one stands the end of the text
+-- where the statement with a number stands; after the last one stands the end of the text
 unfoldable pub stmtPlace : Block → ℕ → ℕ
 stmtPlace b i = elim (getElem? (blockStmts b) (pred i)) [ none ↦ endPlace b | some x ↦ placeOf (stmtAt x) ]
 

@@ -172,7 +172,7 @@ module _ (code : List ℕ) (name : ℕ) (t : Block) (keeps : Keeps t) (covered :
         let z : p + beforeBody b i gs - length (formalsFields gs) ≡ placeOf (blockAt body) - 3 * length gs = omega (arith, formals-fields gs) in
         moved code _ _ (resolvedFormals gs) z (covers-first code _ (resolvedFormals gs) (resolvedBlock name body gs (e ∷ es)) (inner-decl code name b (e .formals) es p i at n gs body (block-covered e es within) q))
 
-    -- formals stand behind the declaring PR, so the place is no cut difference
+    -- formals stand after the declaring PR, so the place is no cut difference
     pub formals-before : (i at n : ℕ) (gs : List Formal) (body : Block) → getElem? (blockDecls (e .text)) i ≡ some (PR at n gs body)
         → 3 * length gs ≤ placeOf (blockAt body)
     formals-before i at n gs body q =

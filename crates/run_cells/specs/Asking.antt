@@ -18,7 +18,7 @@ use Rattle.run_moves.specs.Acting.{constant-formal-op, arithmetic-formal-op, br
 use Rattle.run_statements.specs.Pieces.{FormalsBefore}
 use Rattle.run_cells.specs.Finding.{Reachable, Direct, ThroughFormal}
 
--- the word so many fields behind the operation
+-- the word so many fields after the operation
 abbrev pub wordBehind : List ℕ → ℕ → ℕ → ℕ
 wordBehind code at i = getD code (at + i) 0
 

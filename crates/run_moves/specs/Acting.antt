@@ -45,7 +45,7 @@ pub record Happened : Type 0 where
   pub move : Move
   pub words : List ℤ
 
--- the word so many places behind the operation
+-- the word so many places after the operation
 abbrev pub field : Scene → ℕ → ℕ
 field s i = getD (s .code) (s .at + i) 0
 

@@ -148,7 +148,7 @@ fn write_names(
     }
 }
 
-// One activation from `at` on; what comes behind it.
+// One activation from `at` on; what comes after it.
 pub fn write_activation(
     code: &[u32; 4096],
     words: &[i32; 8224],

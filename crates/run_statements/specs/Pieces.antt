@@ -16,7 +16,7 @@ use Rattle.run_moves.specs.Acting.{Finding, Scene, sceneBy, Happened, field, mo
 abbrev pub only-words : List ℕ → List ℤ → ℕ → Scene
 only-words code words at = sceneBy code words 0 0 at
 
--- a procedure's body at a place stands behind so many formals, and in the script
+-- a procedure's body at a place stands after so many formals, and in the script
 pub record FormalsBefore (code : List ℕ) (body : ℕ) : Type 0 where
   pub there : body < 4096
   pub before : 3 * (getD code body 0 / 65536 % 256) ≤ body

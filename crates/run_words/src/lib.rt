@@ -1,5 +1,5 @@
 // What statements do once their names are found, for every engine: stores, sums, arguments, and the words of a new activation. An activation
-// has 32 cells in the array of words, one for each name; the array has room behind them, so that clearing goes by four.
+// has 32 cells in the array of words, one for each name; the array has room after them, so that clearing goes by four.
 ghost use mathlib.Core.Path.{_≡_};
 ghost use mathlib.Core.Bool.{false};
 ghost use Prim.Native.Nat.{ℕ, _+_, _*_, _<_, _≤_, _^_};
@@ -168,7 +168,7 @@ fn clear_more(words: &mut [i32; 8224], from: usize, to: usize)
     }
 }
 
-// Cells become 0. Four at once, and more only where there are more: few names need no loop. Words behind them are free.
+// Cells become 0. Four at once, and more only where there are more: few names need no loop. Words after them are free.
 pub fn clear(words: &mut [i32; 8224], from: usize, to: usize)
     requires { ⌜ (from ≤ 8192) × (to ≤ 8192) ⌝ }
     ensures { λ _. ⌜ Cleared (now (words .entry)) from to (now (words .exit)) ⌝ }

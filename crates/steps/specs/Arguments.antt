@@ -1,4 +1,4 @@
--- The arguments of a call. Words written one behind the other: `written-length`, `written-below`, `written-at`. What is written
+-- The arguments of a call. Words written one after the other: `written-length`, `written-below`, `written-at`. What is written
 -- (`argumentsFrom`): `handed-at`, `handed-length`. Whether kinds agree: `kinds-agree`, from what stands before the body and at the arguments;
 -- `declared-takes`: what the script check knows a procedure to take that is called by a name that is no formal.
 use Prim.Native.Nat.{ℕ, zero, suc, _+_, _-_, _*_, _≤_, _<_}

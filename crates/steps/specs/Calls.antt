@@ -212,7 +212,7 @@ module _ {code : List ℕ} {l : Limits} {words : List ℤ} {blocks nexts links :
     unfolding declTarget
     target-is = target-found w F finds p called 1 word-is ∙ cells.target-found fs x (home .0) (PR (found .0) (found .1) gs body) (home .1) declared
 
-    -- the body stands in the script, behind its formals
+    -- the body stands in the script, after its formals
     pub body-bounds : (F .target (getD code (at + 1) 0) < 4096) × (3 * (getD code (F .target (getD code (at + 1) 0)) 0 / 65536 % 256) ≤ F .target (getD code (at + 1) 0))
     unfolding enclosing endPlace
     body-bounds =

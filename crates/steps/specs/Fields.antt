@@ -47,7 +47,7 @@ module _ {code : List ℕ} {l : Limits} {words : List ℤ} {blocks nexts links :
     pub there : at + 3 + getD code (at + 2) 0 ≤ 4096
     pub each : (i : ℕ) → i < getD code (at + 2) 0 → FieldName (3 + i)
 
-  -- a body that a formal leads to stands in the script, behind its formals
+  -- a body that a formal leads to stands in the script, after its formals
   abbrev pub BodyStands : Type 0
   BodyStands = (F : Finding) → Finds (w .stack .frames) F → (F .target (getD code (at + 1) 0) < 4096) × (3 * (getD code (F .target (getD code (at + 1) 0)) 0 / 65536 % 256) ≤ F .target (getD code (at + 1) 0))
 

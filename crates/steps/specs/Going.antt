@@ -1,5 +1,5 @@
 -- The innermost activation goes on. `ahead`: the frames with its next statement number risen, which is what a statement acts on; they are like
--- those before it (`ahead-like`), keep the bounds (`ahead-bounded`), and the arrays hold them with the place behind the statement
+-- those before it (`ahead-like`), keep the bounds (`ahead-bounded`), and the arrays hold them with the place after the statement
 -- (`ahead-holds`). `goes-on`: a step that leaves frames like these, held by the arrays, is one after which the engine goes on; `stays-on`: so is
 -- one that stores nothing, `stores-on`: and one that stores a word. `cell-found`, `value-found`, `cell-there`: a name's cell and value, as an engine finds it.
 use Prim.Native.Nat.{ℕ, suc, pred, _+_, _*_, _≤_, _<_}

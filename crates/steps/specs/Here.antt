@@ -1,6 +1,6 @@
 -- What is known of an engine between two steps (`Standing`): `many`, `last-is`, `here`: which of its frames is the innermost; `at-is`: the place
 -- `at` is that of its next statement; `ended`: at the end of the text there is none; `next-stmt`: before the end there is one, and of it
--- `stands-at` (its place), `covered` (its words in the resolved script) and `goes-on-at` (the place behind it).
+-- `stands-at` (its place), `covered` (its words in the resolved script) and `goes-on-at` (the place after it).
 use Prim.Native.Nat.{ℕ, suc, pred, _+_, _*_, _≤_, _<_}
 use native.Mathlib.Omega.{arith}
 use mathlib.Core.List.{List, [], _∷_, _++_}

@@ -24,7 +24,7 @@ module _ {code : List ℕ} {l : Limits} {words : List ℤ} {blocks nexts links :
   abbrev pub frames : List Frame
   frames = w .stack .frames
 
-  -- an engine that stands behind one step of this one, for the same script; `moved` is the stack after the step and before it is counted
+  -- an engine that stands after one step of this one, for the same script; `moved` is the stack after the step and before it is counted
   pub record Follows (v : Stack) (program : Block) (name : ℕ) : Type 0 where
     pub moved : Stack
     pub steps : frameStep l (w .stack) ≡ acted moved
@@ -65,7 +65,7 @@ module _ {code : List ℕ} {l : Limits} {words : List ℤ} {blocks nexts links :
     pub kept : (i : ℕ) → i < 32 * suc live → getD words′ i (pos 0) ≡ getD words i (pos 0)
     pub handed : (i x : ℕ) → getElem? arguments i ≡ some x → getD words′ (32 * suc live + i) (pos 0) ≡ pos (formalWord frames x)
 
-  -- the table has answered a statement behind which a place stands
+  -- the table has answered a statement after which a place stands
   abbrev pub EffectMeans : ℕ → List ℤ → Effect → Type 0
   EffectMeans p words′ (leaves t) = GoesOn words′ (t .words) (t .used) p
   EffectMeans p words′ (halts c) = (frameStep l (w .stack) ≡ halted c) × (words′ ≡ words)

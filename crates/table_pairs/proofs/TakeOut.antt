@@ -1,4 +1,4 @@
--- A pair is taken out by moving the words behind it down by two, one by one. The place still to be freed goes up with them.
+-- A pair is taken out by moving the words after it down by two, one by one. The place still to be freed goes up with them.
 use Prim.Native.Nat.{ℕ, zero, suc, _+_, _*_, _-_, _/_, _<_, _≤_, min}
 use mathlib.Core.Path.{_≡_, refl, ap}
 use mathlib.Core.List.{List, [], _∷_, _++_}
@@ -9,7 +9,7 @@ use lib.ListN.{length, take, drop, getD, set}
 use Rattle.language.specs.Table.{takeOut}
 use Rattle.laws.specs.Lists.{twice-suc}
 
--- the two words at i taken out: the n words behind them move down by two and the two words after those are set to 0
+-- the two words at i taken out: the n words after them move down by two and the two words after those are set to 0
 unfoldable pub cut : ℕ → ℕ → List ℤ → List ℤ
 cut i n [] = []
 cut zero n (a ∷ []) = a ∷ []

@@ -47,7 +47,7 @@ fn write_word(table: &mut [i32], i: usize, word: i32)
     }
 }
 
-// The pair is written behind the last one, as much of it as the table has words for.
+// The pair is written after the last one, as much of it as the table has words for.
 pub fn append(table: &mut [i32], count: usize, group: i32, member: i32)
     ensures { λ _. ⌜ now (table .exit) ≡ add group member (tableOf (now (table .entry)) count) .words ⌝ }
 {
@@ -57,7 +57,7 @@ pub fn append(table: &mut [i32], count: usize, group: i32, member: i32)
     }
 }
 
-// The pair at `place` is taken out. The words behind it move down one by one, and not two by two, since a table of odd length may end with
+// The pair at `place` is taken out. The words after it move down one by one, and not two by two, since a table of odd length may end with
 // half a pair, which moves too.
 pub fn take_out(table: &mut [i32], count: usize, place: usize)
     ensures { λ _. ⌜ now (table .exit) ≡ takeOut place count (now (table .entry)) ⌝ }

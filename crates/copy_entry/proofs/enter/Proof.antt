@@ -6,7 +6,7 @@ use borrow.Author.Needs.{needs}
 use Rattle.copy_entry.proofs.enter.Statement.{statement}
 use Rattle.copy_entry.proofs.enter.Tie as tie
 
--- where the block's words were read, from behind: the activation is noted, its text is copied, its cells are cleared
+-- where the block's words were read, from its end: the activation is noted, its text is copied, its cells are cleared
 abbrev fromNote : tie.After-note → tie.After-code-at3
 fromNote c = c .before .before .before .before .before .before .before
 

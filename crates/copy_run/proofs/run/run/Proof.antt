@@ -19,7 +19,7 @@ abbrev μ-loop : tie.MeasureT-loop
 μ-loop code names words₀ area₀ width blocks₀ nexts₀ firsts₀ starts₀ targets₀ looked₀ table₀ group limit allowance here₀ left₀ words area blocks nexts firsts starts targets looked table here left =
     left
 
--- the places: a turn from where its step is called and from behind the step, the loop, and the start
+-- the places: a turn from where its step is called and from after the step, the loop, and the start
 abbrev sixthOf : tie.After-step-arg9 Inv-loop μ-loop → tie.After-step-arg6 Inv-loop μ-loop
 sixthOf c = c .before .before .before
 
@@ -38,7 +38,7 @@ loopAt c = (turnOf c) .before
 abbrev startOf : tie.At-loop Inv-loop μ-loop → tie.Start Inv-loop μ-loop
 startOf l = l .before .before
 
--- a turn's step, from behind each of its ways
+-- a turn's step, after each of its ways
 abbrev stepOf : tie.After-table Inv-loop μ-loop → tie.After-step Inv-loop μ-loop
 stepOf c = c .before .before .before
 

@@ -9,7 +9,7 @@ use borrow.Author.Needs.{needs}
 use Rattle.copy_run.proofs.run.step.Statement.{statement}
 use Rattle.copy_run.proofs.run.step.Tie as tie
 
--- the places before the statement's function and behind it, and what it leaves of the words
+-- the places before the statement's function and after it, and what it leaves of the words
 abbrev elseAt : tie.After-act-arg5 → tie.Else1
 elseAt c = let half = c .before .before in half .before .before .before
 

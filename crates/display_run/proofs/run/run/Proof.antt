@@ -19,7 +19,7 @@ abbrev μ-loop : tie.MeasureT-loop
 μ-loop code words₀ blocks₀ nexts₀ links₀ display₀ table₀ group limit allowance here₀ left₀ words blocks nexts links display table here left =
     left
 
--- the places: a turn from where its step is called and from behind the step, and the loop
+-- the places: a turn from where its step is called and from after the step, and the loop
 abbrev halfOf : tie.After-step-arg6 Inv-loop μ-loop → tie.After-step-arg3 Inv-loop μ-loop
 halfOf c = c .before .before .before
 
@@ -32,7 +32,7 @@ turnOf c = turnAt (c .before)
 abbrev loopAt : tie.After-step Inv-loop μ-loop → tie.At-loop Inv-loop μ-loop
 loopAt c = (turnOf c) .before
 
--- a turn's step, from behind each of its ways
+-- a turn's step, after each of its ways
 abbrev wentOf : tie.After-known-told Inv-loop μ-loop → tie.After-step Inv-loop μ-loop
 wentOf c = c .before .before .before .before
 
