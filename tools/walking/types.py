@@ -1,4 +1,4 @@
-"""The types of parameters, as the laws of `lending` name them. MIR has the paths of declared types, the source the signs of numbers."""
+"""The types of parameters, as the laws of `walks` name them. MIR has the paths of declared types, the source the signs of numbers."""
 import glob
 import os
 import re

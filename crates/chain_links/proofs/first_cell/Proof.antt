@@ -1,4 +1,4 @@
--- `chain_links::first_cell` meets its contract: a walk of its MIR, written by `tools/walk links first_cell`. By hand is Proof/Facts.antt alone.
+-- `chain_links::first_cell` meets its contract: a walk of its MIR, written by `tools/walk chain_links first_cell`. By hand is Proof/Facts.antt alone.
 mod Facts
 mod Said
 use mathlib.Core.Path.{refl}

@@ -1,4 +1,4 @@
--- `chain_records::follow` meets its contract: a walk of its MIR, written by `tools/walk activations follow`. By hand is Proof/Facts.antt alone.
+-- `chain_records::follow` meets its contract: a walk of its MIR, written by `tools/walk chain_records follow`. By hand is Proof/Facts.antt alone.
 mod Facts
 mod Said
 use mathlib.Core.Path.{refl, sym, ap}

@@ -1,4 +1,4 @@
--- `chain_records::push` meets its contract: a walk of its MIR, written by `tools/walk activations push`. By hand is Proof/Facts.antt alone.
+-- `chain_records::push` meets its contract: a walk of its MIR, written by `tools/walk chain_records push`. By hand is Proof/Facts.antt alone.
 mod Facts
 mod Said
 use mathlib.Core.Path.{_≡_, refl, sym, ap}

@@ -1,4 +1,4 @@
--- `chain_records::read` meets its contract: a walk of its MIR, written by `tools/walk activations read`. By hand is Proof/Facts.antt alone.
+-- `chain_records::read` meets its contract: a walk of its MIR, written by `tools/walk chain_records read`. By hand is Proof/Facts.antt alone.
 mod Facts
 mod Said
 use mathlib.Core.Path.{refl, sym, ap}

@@ -1,4 +1,4 @@
--- `program_engines::by_chain` meets its contract: a walk of its MIR, written by `tools/walk engines by_chain`. By hand is Proof/Facts.antt alone.
+-- `program_engines::by_chain` meets its contract: a walk of its MIR, written by `tools/walk program_engines by_chain`. By hand is Proof/Facts.antt alone.
 use mathlib.Core.Path.{_≡_, refl}
 use Prim.Native.Nat.{ℕ}
 use native.Mathlib.Omega.{arith}

@@ -1,4 +1,4 @@
--- `chain_links::entering::enter` meets its contract: a walk of its MIR, written by `tools/walk links entering::enter`. By hand is Proof/Facts.antt alone.
+-- `chain_links::entering::enter` meets its contract: a walk of its MIR, written by `tools/walk chain_links entering::enter`. By hand is Proof/Facts.antt alone.
 mod Facts
 mod Said
 use mathlib.Core.Path.{_≡_, refl, _∙_}

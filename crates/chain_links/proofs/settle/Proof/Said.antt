@@ -1,5 +1,5 @@
 -- What `chain_links::settle` and the functions that it calls ask and say, in lists and numbers: x is behind a reference at first, x′ at last.
--- Written by `tools/walk links settle`.
+-- Written by `tools/walk chain_links settle`.
 use Prim.Native.Nat.{_<_, _+_, _≤_, ℕ}
 use Rattle.chain_records.specs.Records.{at, Linked, hop}
 use Rattle.chain_links.proofs.Rows.{recs, registers, founds}

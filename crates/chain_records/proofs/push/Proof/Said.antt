@@ -1,5 +1,5 @@
 -- What `chain_records::push` and the functions that it calls ask and say, in lists and numbers: x is behind a reference at first, x′ at last.
--- Written by `tools/walk activations push`.
+-- Written by `tools/walk chain_records push`.
 use Prim.Native.Nat.{_<_, ℕ}
 use Rattle.chain_records.proofs.Elem.{recs}
 use lib.ListN.{length, set}

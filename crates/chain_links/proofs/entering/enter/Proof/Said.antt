@@ -1,5 +1,5 @@
 -- What `chain_links::entering::enter` and the functions that it calls ask and say, in lists and numbers: x is behind a reference at first, x′ at last.
--- Written by `tools/walk links entering::enter`.
+-- Written by `tools/walk chain_links entering::enter`.
 use Prim.Native.Nat.{_+_, _≤_, _*_, _-_, _<_, _%_, _/_, ℕ}
 use Rattle.run_moves.specs.Acting.{argumentsFrom, setAll}
 use Rattle.run_moves.specs.Effects.{Cleared}

@@ -1,5 +1,5 @@
 -- What `chain_links::handing::hand` and the functions that it calls ask and say, in lists and numbers: x is behind a reference at first, x′ at last.
--- Written by `tools/walk links handing::hand`.
+-- Written by `tools/walk chain_links handing::hand`.
 use Prim.Native.Nat.{_*_, _+_, _-_, ℕ}
 use Rattle.run_moves.specs.Acting.{argumentsFrom, setAll}
 use Rattle.run_moves.specs.Effects.{handedWord}

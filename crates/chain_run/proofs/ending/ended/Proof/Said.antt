@@ -1,5 +1,5 @@
 -- What `chain_run::ending::ended` and the functions that it calls ask and say, in lists and numbers: x is behind a reference at first, x′ at last.
--- Written by `tools/walk chain ending::ended`.
+-- Written by `tools/walk chain_run ending::ended`.
 use Prim.Native.Nat.{_≤_, _+_, _-_, _<_, ℕ}
 use Rattle.chain_records.proofs.Elem.{recs}
 use Rattle.chain_records.specs.Records.{at}

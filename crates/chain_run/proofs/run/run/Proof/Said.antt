@@ -1,5 +1,5 @@
 -- What `chain_run::run::run` and the functions that it calls ask and say, in lists and numbers: x is behind a reference at first, x′ at last.
--- Written by `tools/walk chain run::run`.
+-- Written by `tools/walk chain_run run::run`.
 use Prim.Native.Nat.{ℕ}
 use Rattle.chain_records.proofs.Elem.{recs}
 use Rattle.chain_step.proofs.Rows.{turns}

@@ -1,5 +1,5 @@
 -- What `chain_run::run::run_program` and the functions that it calls ask and say, in lists and numbers: x is behind a reference at first, x′ at last.
--- Written by `tools/walk chain run::run_program`.
+-- Written by `tools/walk chain_run run::run_program`.
 use Prim.Native.Nat.{_<_, ℕ}
 use Rattle.chain_records.proofs.Elem.{recs}
 use Rattle.chain_run.proofs.Rows.{halts}

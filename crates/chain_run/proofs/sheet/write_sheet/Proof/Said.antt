@@ -1,5 +1,5 @@
 -- What `chain_run::sheet::write_sheet` and the functions that it calls ask and say, in lists and numbers: x is behind a reference at first, x′ at last.
--- Written by `tools/walk chain sheet::write_sheet`.
+-- Written by `tools/walk chain_run sheet::write_sheet`.
 use Prim.Native.Nat.{_*_, _≤_, _<_, _+_, ℕ}
 use Rattle.chain_records.proofs.Elem.{recs}
 use Rattle.chain_records.specs.Records.{at}
