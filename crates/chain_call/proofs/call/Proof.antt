@@ -42,8 +42,8 @@ use Rattle.walks.specs.Frames.{begins}
 use Rattle.walks.specs.Locals.{var, part, lent, lent-ptr, lent-slice, puts, lands-in, ends, if-then}
 use Rattle.walks.specs.Early.{ends-early, told, untold}
 use Rattle.walks.specs.Lends.{relent, shares-slice, unshares-slice}
-use Rattle.chain_records.proofs.Elem.{recs}
 use Rattle.chain_call.proofs.Rows.{numberss, verdicts}
+use Rattle.chain_links.proofs.Rows.{recs}
 use Rattle.call_admission.proofs.Numbers as Numbers#
 use Rattle.call_admission.proofs.Numbers.Laws as Numbers′
 use Rattle.chain_call.proofs.judged as judged

@@ -41,8 +41,8 @@ use Rattle.walks.specs.Clauses.{asks-all}
 use Rattle.walks.specs.Frames.{begins}
 use Rattle.walks.specs.Holes.{lends-out, whole-again, var-in, loanAt, lends-local, back-local, arrays, repeats, repeats-good}
 use Rattle.walks.specs.Locals.{lent, lent-ptr, lent-slice, puts, lands-in, ends}
-use Rattle.chain_records.proofs.Elem.{recs}
 use Rattle.chain_call.proofs.Rows.{numberss}
+use Rattle.chain_links.proofs.Rows.{recs}
 use Rattle.chain_call.proofs.ran_on as ran-on
 use Rattle.chain_call.proofs.ran_on.Symbol as ran-on-def
 use Rattle.chain_call.proofs.ran_on.Symbol.{name as #ran-on}

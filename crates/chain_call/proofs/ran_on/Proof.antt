@@ -41,11 +41,11 @@ use Rattle.walks.specs.Clauses.{needs-all, asks-all}
 use Rattle.walks.specs.Frames.{begins}
 use Rattle.walks.specs.Locals.{var, part, lent, lent-ptr, lent-slice, puts, lands-in, ends}
 use Rattle.walks.specs.Lends.{relent, lends-ref, back-ref, lends-slice, back-slice, shares-ref, unshares-ref, shares-slice, unshares-slice}
-use Rattle.chain_records.proofs.Elem.{recs}
-use Rattle.chain_run.proofs.Rows.{halts}
 use Rattle.chain_call.proofs.Rows.{numberss}
-use Rattle.chain_run.proofs.run.Halt as Halt#
-use Rattle.chain_run.proofs.run.Halt.Laws as Halt′
+use Rattle.chain_links.proofs.Rows.{recs}
+use Rattle.chain_run.proofs.Rows.{halts}
+use Rattle.run_state.proofs.Halt as Halt#
+use Rattle.run_state.proofs.Halt.Laws as Halt′
 use Rattle.call_admission.proofs.Numbers as Numbers#
 use Rattle.call_admission.proofs.Numbers.Laws as Numbers′
 use Rattle.chain_call.proofs.resolved as resolved

@@ -1,11 +1,11 @@
 -- What `chain_call::call` and the functions that it calls ask and say, in lists and numbers: x is behind a reference at first, x′ at last.
 -- Written by `tools/walk chain_call call`.
 use Prim.Native.Nat.{ℕ}
-use Rattle.chain_records.proofs.Elem.{recs}
 use Rattle.call_admission.specs.Lent.{fedOf}
 use Rattle.call_answers.specs.Refusals.{isRefused, refusedWords}
 use Rattle.call_answers.specs.Replies.{RepliesLeaving, Replies}
 use Rattle.chain_call.proofs.Rows.{numberss, verdicts}
+use Rattle.chain_links.proofs.Rows.{recs}
 use Rattle.check_script.specs.Verdicts.{verdictOf}
 use Rattle.language.specs.Call.{chain, admission}
 use Rattle.language.specs.Text.{Block}

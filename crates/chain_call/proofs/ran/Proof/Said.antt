@@ -1,10 +1,10 @@
 -- What `chain_call::ran` and the functions that it calls ask and say, in lists and numbers: x is behind a reference at first, x′ at last.
 -- Written by `tools/walk chain_call ran`.
 use Prim.Native.Nat.{ℕ}
-use Rattle.chain_records.proofs.Elem.{recs}
 use Rattle.call_admission.specs.Lent.{fedOf}
 use Rattle.call_answers.specs.Replies.{Replies}
 use Rattle.chain_call.proofs.Rows.{numberss}
+use Rattle.chain_links.proofs.Rows.{recs}
 use Rattle.language.specs.Call.{chain}
 use Rattle.language.specs.Text.{Block}
 use Rattle.runs.specs.Admission.{Admitted}

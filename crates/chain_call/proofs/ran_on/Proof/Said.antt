@@ -1,23 +1,23 @@
 -- What `chain_call::ran_on` and the functions that it calls ask and say, in lists and numbers: x is behind a reference at first, x′ at last.
 -- Written by `tools/walk chain_call ran_on`.
 use Prim.Native.Nat.{_*_, _≤_, ℕ}
-use Rattle.chain_records.proofs.Elem.{recs}
 use Rattle.call_admission.specs.Lent.{fedOf}
 use Rattle.call_answers.specs.Replies.{Replies}
-use Rattle.chain_run.proofs.Rows.{halts}
-use Rattle.chain_run.specs.Running.{Beginning, Ended}
 use Rattle.chain_call.proofs.Rows.{numberss}
 use Rattle.chain_call.specs.Calls.{haltWords}
+use Rattle.chain_links.proofs.Rows.{recs}
+use Rattle.chain_links.specs.Records.{blocksIn, nextsIn}
+use Rattle.chain_run.proofs.Rows.{halts}
+use Rattle.chain_run.specs.Running.{Beginning, Ended}
 use Rattle.frames.specs.Frame.{frameRun, frameStart, Frame, frameSheet}
 use Rattle.grammar.specs.Rules.{Bytes}
 use Rattle.language.specs.Call.{chain, written}
 use Rattle.language.specs.Sheet.{sheetShare}
 use Rattle.language.specs.Text.{Block}
-use Rattle.chain_links.specs.Records.{blocksIn, nextsIn}
-use Rattle.chain_links.specs.Running.{limitsBy}
 use Rattle.resolve_script.specs.Resolving.{Resolved}
-use Rattle.runs.specs.Admission.{Admitted}
 use Rattle.run_sheet.specs.Held.{Held}
+use Rattle.run_state.specs.Scenes.{limitsBy}
+use Rattle.runs.specs.Admission.{Admitted}
 use lib.IntN.{pos, ℤ}
 use lib.ListN.{length, replicate}
 use mathlib.Core.List.{List}
