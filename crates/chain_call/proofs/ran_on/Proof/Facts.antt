@@ -9,7 +9,7 @@ use Rattle.call_replies.specs.Replies.{tally-fits}
 use Rattle.call_admission.specs.Lent.{fedOf}
 use Rattle.call_admission.specs.declared.Numbers.{Numbers}
 use Rattle.chain_records.specs.declared.Activation.{Activation}
-use Rattle.chain_run.specs.declared.run.Halt.{Halt}
+use Rattle.run_state.specs.declared.Halt.{Halt}
 use Rattle.chain_call.proofs.Pieces.{begins-at, sheet-ready, replied}
 use Rattle.chain_call.proofs.ran_on.Proof.Said.{Pre, Said, resolved-asks, resolved-says, limit-of-says, run-program-asks, run-program-says, write-sheet-asks, write-sheet-says, answered-asks, answered-says}
 
