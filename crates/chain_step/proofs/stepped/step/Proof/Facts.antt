@@ -1,0 +1,116 @@
+-- What the walk of `step` shows.
+use mathlib.Core.Path.{_≡_, sym, _∙_, ap, subst}
+use Prim.Native.Nat.{ℕ, _≤_}
+use native.Mathlib.Omega.{arith}
+use mathlib.Core.Bool.{Bool, true, false}
+use mathlib.Core.List.{List}
+use lib.IntN.{ℤ}
+use lib.ListN.{length}
+use Rattle.run_moves.specs.declared.Ask.{Ask}
+use Rattle.run_moves.specs.declared.Move.the-variants.{Table as Asks}
+use Rattle.chain_records.specs.Records.{at}
+use Rattle.chain_records.specs.declared.Activation.{Activation}
+use Rattle.run_state.specs.declared.Registers.{Registers}
+use Rattle.run_state.specs.declared.Turn.{Turn}
+use Rattle.run_state.specs.declared.Turn.the-variants.{Went}
+use Rattle.chain_links.specs.declared.Entry.{Entry}
+use Rattle.chain_links.specs.Running.{Succeeds, nowBy}
+use Rattle.chain_links.specs.Moving.{room-there, block-fits}
+use Rattle.chain_step.specs.declared.turn.Moved.{Moved}
+use Rattle.chain_step.specs.declared.turn.Moved.the-variants.{Table as AskBy}
+use Rattle.chain_step.specs.Moves.{staysIn, isAsked, isEntry, entryOf, homeAt, placeAt}
+use Rattle.chain_step.specs.Moved.{movedBy, isDone, turnOf, isAsk, isEnter, entryIn, homeIn, placeIn}
+use Rattle.chain_step.specs.Moved as by-move
+use Rattle.chain_step.specs.Turning.{Turned}
+use Rattle.chain_step.specs.Turns as turned
+use Rattle.chain_step.proofs.stepped.step.Proof.Said.{Pre, Said, leave-asks, leave-says, acted-asks, acted-says, is-done-says, turn-of-says, asks-says, answered-asks, answered-says, enters-says, entry-of-says, enter-asks, enter-says, went-says, home-of-says, read-asks, read-says, resumed-asks, resumed-says}
+
+module _ (code : List ℕ) (words : List ℤ) (records : List Activation) (table : List ℤ) (group limit : ℕ) (here : Registers)
+    (pre : Pre code words records table group limit here) where
+  abbrev Ends : Turn → List ℤ → List Activation → List ℤ → Type 0
+  Ends = Said code words records table group limit here
+
+  module _ (e : here .at ≡ here .end) where
+    pub asks-leave : leave-asks code records here
+    asks-leave = turned.leave-ready pre e
+
+    module _ (r : Turn) (k : leave-says code records here r) where
+      pub says-1 : Ends r words records table
+      says-1 w = turned.left-on w e r k
+
+  module _ (before : here .at ≡ here .end → ⊥) where
+    pub asks-acted : acted-asks code words records limit here
+    asks-acted = record { group = group; table = table; running = pre; before = before }
+
+    module _ (moved : Moved) (words′ : List ℤ) (does : acted-says code words records limit here moved words′) (done : Bool) (done-is : is-done-says moved done) where
+      stays-is : done ≡ staysIn here (does .move)
+      stays-is = done-is ∙ ap isDone (does .so) ∙ by-move.done-so here (does .move)
+
+      module _ (y : done ≡ true) (r : Turn) (e : turn-of-says moved r) where
+        pub says-2 : Ends r words′ records table
+        says-2 w =
+            let z = sym stays-is ∙ y in
+            subst (λ (t : Turn). Turned w t words′ records table) (sym (e ∙ ap turnOf (does .so) ∙ by-move.turn-so here (does .move) z))
+            (turned.stays w before (does .move) words′ (does .did) z)
+
+      module _ (n : done ≡ false) (asking : Bool) (asking-is : asks-says moved asking) where
+        asks-is : asking ≡ isAsked (does .move)
+        asks-is = asking-is ∙ ap isAsk (does .so) ∙ by-move.ask-so here (does .move)
+
+        module _ (y : asking ≡ true) where
+          pub asks-answered : answered-asks moved
+          asks-answered p g m t a e =
+              turned.cells-asked pre before (does .move) words′ (does .did) p g m t a (by-move.asked-back here (does .move) p g m t a (sym (does .so) ∙ e))
+
+          module _ (r : Turn) (table″ words″ : List ℤ) (k : answered-says table words′ group here moved r table″ words″) (wide : length table″ ≡ length table) where
+            pub says-3 : Ends r words″ records table″
+            says-3 w =
+                let q = by-move.asked-in (does .move) (sym asks-is ∙ y) in
+                turned.answered-on w before (does .move) words′ (does .did) (q .0) (q .1) (q .2) (q .3) (q .4) (q .5) r words″ table″
+                (k (q .0) (q .1) (q .2) (q .3) (q .4) (does .so ∙ ap (movedBy here) (q .5)))
+
+        module _ (no-ask : asking ≡ false) (entering : Bool) (entering-is : enters-says moved entering) where
+          entry-is : entering ≡ isEntry (does .move)
+          entry-is = entering-is ∙ ap isEnter (does .so) ∙ by-move.entry-so here (does .move) .0
+
+          module _ (y : entering ≡ true) (entry : Entry) (entry-so : entry-of-says moved entry) where
+            entry-by : entry ≡ entryOf (does .move)
+            entry-by = entry-so ∙ ap entryIn (does .so) ∙ by-move.entry-so here (does .move) .1
+
+            pub asks-enter : enter-asks code words′ records here entry
+            asks-enter =
+                subst (enter-asks code words′ records here) (sym entry-by) (turned.enter-ready pre before (does .move) words′ (does .did) (sym entry-is ∙ y))
+
+            module _ (now : Registers) (words″ : List ℤ) (records″ : List Activation) (k : enter-says code words′ records here entry now words″ records″)
+                (long : length records″ ≡ length records) (r : Turn) (e : went-says now r) where
+              pub says-4 : Ends r words″ records″ table
+              says-4 w = subst (λ (t : Turn). Turned w t words″ records″ table) (sym e)
+                  (turned.entered-on w before (does .move) words′ (does .did) (sym entry-is ∙ y) words″ records″ now
+                  (subst (λ (x : Entry). enter-says code words′ records here x now words″ records″) entry-by k))
+
+          module _ (no-entry : entering ≡ false) (home : ℕ) (home-is : home-of-says moved home) where
+            goes-on : staysIn here (does .move) ≡ false
+            goes-on = sym stays-is ∙ n
+
+            home-by : homeIn moved ≡ homeAt (does .move)
+            home-by = ap homeIn (does .so) ∙ by-move.resumed-so here (does .move) goes-on .0
+
+            place-by : placeIn moved ≡ placeAt (does .move)
+            place-by = ap placeIn (does .so) ∙ by-move.resumed-so here (does .move) goes-on .1
+
+            below : home ≤ here .live
+            below = omega (arith, home-is ∙ home-by, turned.home-below pre before (does .move) words′ (does .did) goes-on (sym asks-is ∙ no-ask) (sym entry-is ∙ no-entry))
+
+            pub asks-read : read-asks records home
+            asks-read = room-there pre home below .there
+
+            module _ (a : Activation) (a-is : read-says records home a) where
+              pub asks-resumed : resumed-asks a
+              asks-resumed = let h = block-fits pre home below in omega (arith, h, ap (λ (b : Activation). b .block) a-is)
+
+              module _ (r : Turn) (e : resumed-says code here moved a r) where
+                pub says-5 : Ends r words′ records table
+                says-5 w = subst (λ (t : Turn). Turned w t words′ records table)
+                    (sym (e ∙ (λ i. Went (nowBy code (a .block) (home-by i) (place-by i) (here .pairs)))))
+                    (turned.resumed-on w before (does .move) words′ (does .did) goes-on (sym asks-is ∙ no-ask) (sym entry-is ∙ no-entry) a
+                    (a-is ∙ ap (at records) (home-is ∙ home-by)))

@@ -1,0 +1,85 @@
+-- What `chain_step::stepped::step` and the functions that it calls ask and say, in lists and numbers: x is behind a reference at first, x′ at last.
+-- Written by `tools/walk chain_step stepped::step`.
+use Prim.Native.Nat.{_<_, ℕ, _+_, _≤_}
+use Rattle.chain_links.proofs.Rows.{recs, registers, entries}
+use Rattle.chain_links.specs.Running.{Running, EnterReady, Succeeds, nowBy}
+use Rattle.chain_records.specs.Records.{at}
+use Rattle.chain_step.proofs.Rows.{turns, moveds}
+use Rattle.chain_step.specs.Acted.{Stating, Does, happening}
+use Rattle.chain_step.specs.Moved.{isDone, turnOf, isAsk, isEnter, entryIn, homeIn, placeIn}
+use Rattle.chain_step.specs.Turning.{Turned, LeaveReady}
+use Rattle.chain_step.specs.declared.turn.Moved.the-variants.{Table}
+use Rattle.run_moves.specs.Acting.{answer}
+use Rattle.run_moves.specs.declared.Ask.{Ask as Asked}
+use Rattle.run_state.specs.declared.Turn.the-variants.{Went}
+use Rattle.run_statements.specs.Answers.{Answered, turnAfter}
+use Rattle.table_pairs.specs.Outcomes.{tableOf}
+use Rattle.table_pairs.specs.declared.Change.{Change as Changed}
+use lib.IntN.{ℤ}
+use lib.ListN.{length}
+use mathlib.Core.Bool.{Bool}
+use mathlib.Core.List.{List}
+use mathlib.Core.Path.{_≡_}
+
+abbrev pub Pre : List ℕ → List ℤ → List (recs .type .Denot) → List ℤ → ℕ → ℕ → registers .type .Denot → Type 0
+Pre code words records table group limit here = Running code limit group words records table here
+
+abbrev pub Said : List ℕ → List ℤ → List (recs .type .Denot) → List ℤ → ℕ → ℕ → registers .type .Denot → turns .type .Denot → List ℤ → List (recs .type .Denot) → List ℤ → Type 0
+Said code words records table group limit here r words′ records′ table′ = ((w : Running code limit group words records table here) → Turned w r words′ records′ table′)
+
+abbrev pub leave-asks : List ℕ → List (recs .type .Denot) → registers .type .Denot → Type 0
+leave-asks code records here = LeaveReady code records here
+
+abbrev pub leave-says : List ℕ → List (recs .type .Denot) → registers .type .Denot → turns .type .Denot → Type 0
+leave-says code records here r = ((v : LeaveReady code records here) → Turned (v .running) r (v .words) records (v .table))
+
+abbrev pub acted-asks : List ℕ → List ℤ → List (recs .type .Denot) → ℕ → registers .type .Denot → Type 0
+acted-asks code words records limit here = Stating code words records limit here
+
+abbrev pub acted-says : List ℕ → List ℤ → List (recs .type .Denot) → ℕ → registers .type .Denot → moveds .type .Denot → List ℤ → Type 0
+acted-says code words records limit here r words′ = Does (happening code words records limit here) words here r words′
+
+abbrev pub is-done-says : moveds .type .Denot → Bool → Type 0
+is-done-says moved r = r ≡ isDone moved
+
+abbrev pub turn-of-says : moveds .type .Denot → turns .type .Denot → Type 0
+turn-of-says moved r = r ≡ turnOf moved
+
+abbrev pub asks-says : moveds .type .Denot → Bool → Type 0
+asks-says moved r = r ≡ isAsk moved
+
+abbrev pub answered-asks : moveds .type .Denot → Type 0
+answered-asks moved = ((p g m t : ℕ) (a : Asked) → moved ≡ Table p g m t a → (g < 8192) × ((m < 8192) × (t < 8192)))
+
+abbrev pub answered-says : List ℤ → List ℤ → ℕ → registers .type .Denot → moveds .type .Denot → turns .type .Denot → List ℤ → List ℤ → Type 0
+answered-says table words limit here moved r table′ words′ = ((p g m t : ℕ) (a : Asked) → moved ≡ Table p g m t a → (c : Changed) × (r ≡ turnAfter here p c) × Answered (answer limit words (tableOf table (here .pairs)) g m t a) table c words′ table′)
+
+abbrev pub enters-says : moveds .type .Denot → Bool → Type 0
+enters-says moved r = r ≡ isEnter moved
+
+abbrev pub entry-of-says : moveds .type .Denot → entries .type .Denot → Type 0
+entry-of-says moved r = r ≡ entryIn moved
+
+abbrev pub enter-asks : List ℕ → List ℤ → List (recs .type .Denot) → registers .type .Denot → entries .type .Denot → Type 0
+enter-asks code words records here entry = EnterReady code words records here entry
+
+abbrev pub enter-says : List ℕ → List ℤ → List (recs .type .Denot) → registers .type .Denot → entries .type .Denot → registers .type .Denot → List ℤ → List (recs .type .Denot) → Type 0
+enter-says code words records here entry r words′ records′ = ((w : EnterReady code words records here entry) → Succeeds (w .running) words′ records′ (w .table) r)
+
+abbrev pub went-says : registers .type .Denot → turns .type .Denot → Type 0
+went-says next r = r ≡ Went next
+
+abbrev pub home-of-says : moveds .type .Denot → ℕ → Type 0
+home-of-says moved r = r ≡ homeIn moved
+
+abbrev pub read-asks : List (recs .type .Denot) → ℕ → Type 0
+read-asks records k = k < length records
+
+abbrev pub read-says : List (recs .type .Denot) → ℕ → recs .type .Denot → Type 0
+read-says records k r = r ≡ at records k
+
+abbrev pub resumed-asks : recs .type .Denot → Type 0
+resumed-asks activation = activation .block + 3 ≤ 4096
+
+abbrev pub resumed-says : List ℕ → registers .type .Denot → moveds .type .Denot → recs .type .Denot → turns .type .Denot → Type 0
+resumed-says code here moved activation r = r ≡ Went (nowBy code (activation .block) (homeIn moved) (placeIn moved) (here .pairs))
