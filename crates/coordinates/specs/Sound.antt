@@ -1,6 +1,6 @@
 -- The invariant of the frame machine: `Sound l t s`. `start-sound`: a run of the script t begins with it; `step-sound`: a step keeps it, from
--- any stack that has it; `run-sound`: so whatever a run leaves has it, from any such stack. `accepted-sound` says it of runs
--- of a script that the check accepts, `admitted-sound` and `call-sound` of what a call is fed.
+-- any stack that has it; `run-sound`: so whatever a run leaves has it, from any such stack. `admitted-sound` and
+-- `call-sound` say it of what a call is fed.
 use Prim.Native.Nat.{ℕ, _≤_}
 use mathlib.Core.Bool.{true}
 use mathlib.Core.List.{List, []}
@@ -95,12 +95,6 @@ run-sound t keeps l n s h = run-keeps l (Sound l t) (λ u u′ live e q. step-so
 
 pub accepted-keeps-rules : (bs : List ℕ) → Bytes bs → (t : Block) → check bs ≡ accepted t → Keeps t
 accepted-keeps-rules bs h t e = ((accepts-exactly bs h t) .0 e) .1
-
-pub accepted-sound : (bs : List ℕ) → Bytes bs → (t : Block) → check bs ≡ accepted t → (l : Limits) → 1 ≤ l .activations → l .activations ≤ 256 → (tab : Table) → right (l .group) tab ≡ true
-    → (n : ℕ) → Sound l t ((frameRun l n (frameStart t tab)) .final)
-accepted-sound bs h t e l one most tab r n =
-    let keeps = accepted-keeps-rules bs h t e in
-    run-sound t keeps l n (frameStart t tab) (start-sound l t tab one most r keeps)
 
 -- what a call is fed, where no refusal is due: the start, and what the run leaves
 module _ (e : Engine) (f : Fed) (t : Block) (b : Bytes (f .script)) (h : Admitted e f t) where

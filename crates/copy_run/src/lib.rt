@@ -1,4 +1,4 @@
 // The copying engine.
-mod run;
+pub mod run;
 
 pub use run::run_program;

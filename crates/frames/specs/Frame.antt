@@ -256,7 +256,7 @@ results e o s = record { end = e; offset = o; final = s }
 
 -- as the copy-rule machine's
 unfoldable pub frameRunWithin : ℕ → Limits → ℕ → Stack → Result
-frameRunWithin zero l left s = elim (s .frames) [ [] ↦ results Finished 0 s | f ∷ rest ↦ results Spent 0 s ]
+frameRunWithin zero l left s = results Spent 0 s
 frameRunWithin (suc bound) l left s =
     elim (s .frames) [
       | [] ↦ results Finished 0 s
@@ -273,7 +273,7 @@ frameRunWithin (suc bound) l left s =
     ]
 
 unfoldable pub frameRun : Limits → ℕ → Stack → Result
-frameRun l n s = frameRunWithin n l n s
+frameRun l n s = frameRunWithin (suc n) l n s
 
 unfoldable pub frameStart : Block → Table → Stack
 frameStart program t = record { frames = newFrame [] [] program 0 ∷ []; table = t; steps = 0 }

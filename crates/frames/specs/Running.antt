@@ -1,7 +1,7 @@
--- The frame machine by its parts (`Machines` in laws), and its run (`run-runs`), whatever the bound (`within-runs`). So the rules of a run are equations:
+-- The frame machine by its parts (`Machines` in laws), and its run (`run-runs`), by any bound above the steps allowed (`within-runs`). So the rules of a run are equations:
 -- `run-finished`, `run-spent`, `run-stops` and `run-steps`; and what every step keeps is had by the stack that a run leaves (`run-keeps`). The stacks
 -- of a run are those that its shorter runs leave.
-use Prim.Native.Nat.{ℕ, zero, suc, _-_, _≤_}
+use Prim.Native.Nat.{ℕ, zero, suc, _-_, _≤_, _<_}
 use native.Mathlib.Omega.{arith}
 use mathlib.Core.Bool.{true, false}
 use mathlib.Core.List.{[]}
@@ -43,10 +43,9 @@ module _ (l : Limits) where
         not-both = not-both;
       }
 
-  pub within-runs : (bound n : ℕ) (s : Stack) → n ≤ bound → Runs framed n s (frameRunWithin bound l n s)
+  pub within-runs : (bound n : ℕ) (s : Stack) → n < bound → Runs framed n s (frameRunWithin bound l n s)
   unfolding frameRunWithin
-  within-runs zero zero s h = runs-live framed s (results Spent 0 s) (λ k. spent k refl)
-  within-runs zero (suc n) s h = absurd {0} (omega arith)
+  within-runs zero n s h = absurd {0} (omega arith)
   within-runs (suc b) zero s h = runs-live framed s (results Spent 0 s) (λ k. spent k refl)
   within-runs (suc b) (suc n) s h = runs-live framed s _ (λ k. on k (λ m t f. within-runs b m t (omega arith)) (frameStep l s) refl)
     where
@@ -57,7 +56,7 @@ module _ (l : Limits) where
 
   pub run-runs : (n : ℕ) (s : Stack) → Runs framed n s (frameRun l n s)
   unfolding frameRun
-  run-runs n s = within-runs n n s (omega arith)
+  run-runs n s = within-runs (suc n) n s (omega arith)
 
   module _ (s : Stack) where
     pub run-finished : (n : ℕ) → s .frames ≡ [] → frameRun l n s ≡ results Finished 0 s

@@ -211,9 +211,9 @@ unfoldable pub ends : End → ℕ → State → Outcome
 ends e o s = record { end = e; offset = o; final = s }
 
 -- Before each step, with so many left: finished is asked before spent, spent before stopped, and last whether the step's cost is left. A step that stops
--- or is not begun leaves the state that it found. Every step costs at least 1, so that the steps allowed are `bound` enough.
+-- or is not begun leaves the state that it found. Every step costs at least 1, so that no run comes to the end of its bound, which the recursion goes by.
 unfoldable pub runWithin : ℕ → Limits → ℕ → State → Outcome
-runWithin zero l left s = elim (s .live) [ [] ↦ ends Finished 0 s | a ∷ rest ↦ ends Spent 0 s ]
+runWithin zero l left s = ends Spent 0 s
 runWithin (suc bound) l left s =
     elim (s .live) [
       | [] ↦ ends Finished 0 s
@@ -230,7 +230,7 @@ runWithin (suc bound) l left s =
     ]
 
 unfoldable pub run : Limits → ℕ → State → Outcome
-run l allowance s = runWithin allowance l allowance s
+run l allowance s = runWithin (suc allowance) l allowance s
 
 -- The program is entered before the first step. Names as written have 16 bits, so new ones begin at 65,536.
 unfoldable pub start : Block → Table → State

@@ -1,4 +1,4 @@
--- The effects of statements on the array of words, which the code of `stepping` has.
+-- The effects of statements on the array of words, which the code of `run_words` has.
 use Prim.Native.Nat.{ℕ, zero, suc, _+_, _*_, _≤_, _<_}
 use mathlib.Core.Bool.{Bool, true, false, _&&_}
 use mathlib.Core.List.{List}

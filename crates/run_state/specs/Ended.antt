@@ -1,5 +1,6 @@
 -- What a run ends with: the frame machine's result, and the arrays hold its stack. `EndedFrom`: by how it has ended, from a stack at which so many
 -- steps are done; `RunFrom`: from where an engine stands, and `from-start`: where that is the program's start. `spent-end`, `stopped-end`, `finished-end`: the three ends of a run that has come so far.
+-- The links of a `Halt` are the chain engine's alone, and said there.
 use Prim.Native.Nat.{ℕ, _+_, _-_, _≤_}
 use mathlib.Core.List.{List}
 use mathlib.Core.Path.{_≡_, sym, ap, _∙_, subst}

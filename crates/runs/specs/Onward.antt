@@ -1,5 +1,5 @@
 -- Running n steps and then m more from there is running n + m steps: `run-onward`. Whatever the end was and the steps cost, a run goes on from where it
--- ended as one of the steps done and m more does from the start: `run-carried`.
+-- ended as one of the steps done, which the state counts, and m more does from the start: `run-carried`.
 use Prim.Native.Nat.{ℕ, _+_, _-_}
 use native.Mathlib.Omega.{arith}
 use mathlib.Core.Path.{_≡_, sym, ap, _∙_}
@@ -7,7 +7,7 @@ use Rattle.language.specs.Machine.{State, Limits, Outcome, ends, run}
 use Rattle.language.specs.declared.End.{End}
 use Rattle.language.specs.declared.End.the-variants.{Finished, Spent, Stopped, Refused}
 use Rattle.runs.specs.Running.{run-finished, run-stopped}
-use Rattle.runs.specs.Account.{Reached, Reason, account, run-reached}
+use Rattle.runs.specs.Account.{Reached, Reason, account, run-reached, reached-steps}
 use Rattle.runs.specs.Reasons.{none-left}
 
 -- m steps more from the state left, where the steps allowed were spent; any other end is the end
@@ -30,5 +30,8 @@ pub run-onward : (l : Limits) (n m : ℕ) (s : State) → run l (n + m) s ≡ on
 unfolding ends
 run-onward l n m s = let r = run l n s in let a = account l n s in onward-by l n m (a .done) s (r .final) (r .end) (r .offset) (a .reached) (a .reason)
 
-pub run-carried : (l : Limits) (n m : ℕ) (s : State) → run l ((account l n s) .done + m) s ≡ run l m ((run l n s) .final)
-run-carried l n m s = run-reached l ((account l n s) .reached) m
+pub run-carried : (l : Limits) (n m k : ℕ) (s : State) → (run l n s) .final .steps ≡ s .steps + k → run l (k + m) s ≡ run l m ((run l n s) .final)
+run-carried l n m k s e =
+    let a = account l n s in
+    let done : k ≡ a .done = omega (arith, e, reached-steps l (a .reached)) in
+    ap (λ i. run l (i + m) s) done ∙ run-reached l (a .reached) m

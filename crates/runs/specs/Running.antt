@@ -1,6 +1,6 @@
--- The copy-rule machine by its parts (`Machines` in laws), and its run (`run-runs`), whatever the bound (`within-runs`). So the rules of a run are equations:
+-- The copy-rule machine by its parts (`Machines` in laws), and its run (`run-runs`), by any bound above the steps allowed (`within-runs`). So the rules of a run are equations:
 -- `run-finished`, `run-spent`, `run-stopped` and `run-did`.
-use Prim.Native.Nat.{ℕ, zero, suc, _-_, _≤_}
+use Prim.Native.Nat.{ℕ, zero, suc, _-_, _≤_, _<_}
 use native.Mathlib.Omega.{arith}
 use mathlib.Core.Bool.{true, false}
 use mathlib.Core.List.{[]}
@@ -46,10 +46,9 @@ module _ (l : Limits) where
         not-both = not-both;
       }
 
-  pub within-runs : (bound n : ℕ) (s : State) → n ≤ bound → Runs copied n s (runWithin bound l n s)
+  pub within-runs : (bound n : ℕ) (s : State) → n < bound → Runs copied n s (runWithin bound l n s)
   unfolding runWithin
-  within-runs zero zero s h = runs-live copied s (ends Spent 0 s) (λ k. spent k refl)
-  within-runs zero (suc n) s h = absurd {0} (omega arith)
+  within-runs zero n s h = absurd {0} (omega arith)
   within-runs (suc b) zero s h = runs-live copied s (ends Spent 0 s) (λ k. spent k refl)
   within-runs (suc b) (suc n) s h = runs-live copied s _ (λ k. on k (λ m t f. within-runs b m t (omega arith)) (step l s) refl)
     where
@@ -60,7 +59,7 @@ module _ (l : Limits) where
 
   pub run-runs : (n : ℕ) (s : State) → Runs copied n s (run l n s)
   unfolding run
-  run-runs n s = within-runs n n s (omega arith)
+  run-runs n s = within-runs (suc n) n s (omega arith)
 
   -- with nothing live a run is finished, whatever is allowed
   pub run-finished : (n : ℕ) (s : State) → s .live ≡ [] → run l n s ≡ ends Finished 0 s

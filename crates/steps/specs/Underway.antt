@@ -1,25 +1,23 @@
 -- The loop of a run, for any engine and from any sound stack. `UnderwayFrom`: so far a run has come, with the arrays as they are and so many steps
 -- left; `begun-from`: it begins so; `went`: a step keeps it. `EndedFrom`: what an engine has of a run that has ended; `spent`, `stopped`, `finished`:
 -- the three ends; `leaves-sound-from`: what a run leaves is sound. Steps are counted from the stack that the run begins with, at which `done` are
--- done. `Underway`, `begun`, `Ended`, `leaves-sound`: of a run from the program's start.
+-- done; `Ended`: of a run from the program's start.
 use Prim.Native.Nat.{ℕ, suc, _+_, _-_, _*_, _≤_}
 use native.Mathlib.Omega.{arith}
-use mathlib.Core.Bool.{true}
 use mathlib.Core.List.{List, []}
 use mathlib.Core.Option.{some}
 use mathlib.Core.Path.{_≡_, refl, sym, ap, _∙_, subst}
 use lib.IntN.{ℤ}
 use lib.ListN.{length, set, getElem?}
 use Rattle.language.specs.Text.{Block}
-use Rattle.language.specs.Table.{Table, right}
+use Rattle.language.specs.Table.{Table}
 use Rattle.language.specs.Machine.{Limits}
 use Rattle.language.specs.declared.Stop.{Stop}
 use Rattle.language.specs.declared.End.{End}
 use Rattle.language.specs.declared.End.the-variants.{Finished, Spent, Stopped}
 use Rattle.laws.specs.Tests.{none≢some}
-use Rattle.grammar.specs.Rules.{Keeps}
-use Rattle.frames.specs.Frame.{Frame, Stack, Result, results, halted, designates, frameStep, frameRun, frameStart}
-use Rattle.coordinates.specs.Sound.{Sound, start-sound, run-sound}
+use Rattle.frames.specs.Frame.{Frame, Result, results, halted, designates, frameStep, frameRun}
+use Rattle.coordinates.specs.Sound.{Sound, run-sound}
 use Rattle.arrays.specs.Holds.{Holds}
 use Rattle.arrays.specs.Names.{nothing-live}
 use Rattle.steps.specs.Standing.{Standing}
@@ -44,36 +42,6 @@ begun-from w allowance = record { same-program = refl; same-name = refl; runs = 
 pub leaves-sound-from : {code : List ℕ} {l : Limits} {words : List ℤ} {blocks nexts links : List ℕ} {table : List ℤ} {pairs live at end : ℕ}
     (w : Standing code l words blocks nexts links table pairs live at end) (allowance : ℕ) → Sound l (w .program) ((frameRun l allowance (w .stack)) .final)
 leaves-sound-from {l = l} w allowance = run-sound (w .program) (w .keeps) l allowance (w .stack) (w .sound)
-
--- From the program's start
-
-abbrev pub Underway : (program : Block) (name allowance : ℕ) (result : Result) {code : List ℕ} {l : Limits} {words : List ℤ} {blocks nexts links : List ℕ} {table : List ℤ} {pairs live at end : ℕ}
-    (w : Standing code l words blocks nexts links table pairs live at end) (left : ℕ) → Type 0
-Underway = UnderwayFrom 0
-
--- where a run that begins goes to
-abbrev pub resultFrom : Block → Limits → ℕ → List ℤ → ℕ → Result
-resultFrom program l allowance table pairs = frameRun l allowance (frameStart program (record { words = table; used = pairs }))
-
-pub begun : {program : Block} {name : ℕ} {code : List ℕ} {l : Limits} {words : List ℤ} {blocks nexts links : List ℕ} {table : List ℤ} {pairs live at end : ℕ}
-    (w : Standing code l words blocks nexts links table pairs live at end) (allowance : ℕ)
-    → w .stack ≡ frameStart program (record { words = table; used = pairs }) → w .program ≡ program → w .name ≡ name
-    → Underway program name allowance (resultFrom program l allowance table pairs) w allowance
-unfolding frameStart
-begun {l = l} w allowance stack program name =
-    record {
-      same-program = program;
-      same-name = name;
-      runs = ap (frameRun l allowance) (sym stack);
-      counts = ap (λ (v : Stack). v .steps + allowance) stack ∙ omega arith;
-      few-left = omega arith;
-    }
-
-pub leaves-sound : (program : Block) (l : Limits) (allowance : ℕ) (table : List ℤ) (pairs : ℕ) → Keeps program → 1 ≤ l .activations → l .activations ≤ 256
-    → right (l .group) (record { words = table; used = pairs }) ≡ true → Sound l program ((resultFrom program l allowance table pairs) .final)
-leaves-sound program l allowance table pairs keeps some-live few-live ok =
-    let tab : Table = record { words = table; used = pairs } in
-    run-sound program keeps l allowance (frameStart program tab) (start-sound l program tab some-live few-live ok keeps)
 
 -- what an engine has of a run that has ended: the frame machine's result, and the arrays hold its stack
 pub record EndedFrom (done : ℕ) (program : Block) (name : ℕ) (l : Limits) (result : Result) (end : End) (steps offset pairs live designator : ℕ) (words : List ℤ) (blocks nexts links : List ℕ) (table : List ℤ) : Type 0 where
