@@ -18,5 +18,4 @@ returns-2 : tie.Need-returns-2
 returns-2 c = signed-high (c .before .args .bits) (omega arith) (omega arith)
 
 pub signed-spec : {M : Type 1} → statement M
-signed-spec =
-    tie.close (tie.spec (λ c. search needs) returns (λ c. search needs) sub-result cast-result-3 returns-2)
+signed-spec = tie.close (tie.spec (λ c. search needs) returns (λ c. search needs) sub-result cast-result-3 returns-2)
