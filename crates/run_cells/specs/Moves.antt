@@ -25,7 +25,7 @@ use Rattle.run_moves.specs.Acting.{sceneBy}
 use Rattle.run_statements.specs.Pieces.{only-words, blockMove}
 use Rattle.run_statements.specs.Doing.{call-agreed}
 use Rattle.run_statements.specs.Scenes.{Done, constant-same, arithmetic-same, goto-same, branch-same, block-same, call-formal-same, change-same}
-use Rattle.run_statements.specs.Scenes.{query-same}
+use Rattle.run_statements.specs.Scenes.{query-same, acts}
 use Rattle.run_cells.specs.Asking.{wordBehind, unhanded, Did, callMove}
 
 -- 22, or the procedure is entered
@@ -48,14 +48,8 @@ unhanded-same (Enter b h p) words = refl
 unhanded-same (Stop c) words = refl
 
 module _ (F : Finding) (s : Scene) where
-  acts : (p : Op) → opOf (getD (s .code) (s .at) 0) ≡ p → happens F s p ≡ acting F s
-  unfolding acting
-  acts p e =
-      let z : s .at + 0 ≡ s .at = omega arith in
-      ap (happens F s) (sym (ap (λ i. opOf (getD (s .code) i 0)) z ∙ e))
-
   pub did : (p : Op) → opOf (getD (s .code) (s .at) 0) ≡ p → {r : Move} {words′ : List ℤ} → Did (happens F s p) (s .words) r words′ → Did (acting F s) (s .words) r words′
-  did p e {r} {words′} h = subst (λ (x : Happened). Did x (s .words) r words′) (acts p e) h
+  did p e {r} {words′} h = subst (λ (x : Happened). Did x (s .words) r words′) (acts F s p e) h
 
   -- the scene as far as a statement looks at it
   abbrev o : Scene
