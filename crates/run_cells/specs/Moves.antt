@@ -4,7 +4,7 @@ use Prim.Native.Nat.{ℕ, _+_, _≤_, _<_}
 use native.Mathlib.Omega.{arith}
 use mathlib.Core.Bool.{Bool, true, false}
 use mathlib.Core.List.{List}
-use mathlib.Core.Path.{_≡_, refl, sym, ap, ap₂, _∙_, subst}
+use mathlib.Core.Path.{_≡_, refl, ap, ap₂, _∙_, subst}
 use borrow.Author.Tests.{le-leb, lt-leb}
 use lib.Dec.{leb}
 use lib.IntN.{ℤ}
@@ -34,9 +34,9 @@ module _ (code : List ℕ) (limit live at home body : ℕ) where
   unfolding callMove
   call-stops h = let e = le-leb limit (live + 1) h in rw (callMove, e)
 
-  pub call-enters : live + 1 < limit → Enter body home (at + 3 + wordBehind code at 2) ≡ callMove code limit live at home body
+  pub call-enters : live + 1 < limit → {count : ℕ} → count ≡ wordBehind code at 2 → Enter body home (at + 3 + count) ≡ callMove code limit live at home body
   unfolding callMove
-  call-enters h = let e = lt-leb limit (live + 1) h in rw (callMove, e)
+  call-enters h c = let e = lt-leb limit (live + 1) h in rw (callMove, e, c)
 
 -- where the words stay there is nothing to hand on
 unhanded-same : (m : Move) (words : List ℤ) → words ≡ unhanded m words words

@@ -17,7 +17,6 @@ use run_statements::constant;
 use run_words::code_at;
 ghost use mathlib.Core.Path.{_≡_};
 ghost use Prim.Native.Nat.{ℕ, _+_, _≤_};
-ghost use lib.ListN.{getD};
 ghost use Rattle.language.specs.Text.{plus, minus, less};
 ghost use Rattle.resolved.specs.Resolved.{targetIn};
 ghost use Rattle.arrays.specs.Found.{heldBy};

@@ -22,7 +22,7 @@ ghost use Rattle.run_moves.specs.Acting.{sceneBy, acting, opOf};
 ghost use Rattle.steps.specs.Finding.{byFirst};
 ghost use Rattle.run_cells.specs.Asking.{Ready, Leads, Did, oneClass, branchClass, pairClass, classOf};
 
-// The class of the statement at a place. Each operation is named but the last, which is what is left of sixteen: a range needs no test then.
+// The class of the statement at a place. Each operation is named but CALL_FORMAL, which is what is left of sixteen: a range needs no test then.
 pub fn class_of(code: &[u32; 4096], at: usize) -> usize
     requires { ⌜ at < 4096 ⌝ }
     ensures { λ r. ⌜ r ≡ classOf (opOf (getD (now (code .entry)) at 0)) ⌝ }

@@ -160,9 +160,9 @@ module _ (code : List ℕ) (limit live at : ℕ) where
   unfolding blockMove
   block-stops h = let e = le-leb limit (live + 1) h in rw (blockMove, e)
 
-  pub block-enters : live + 1 < limit → Enter at live (endIn (getD code (at + 1) 0)) ≡ blockMove code limit live at
+  pub block-enters : live + 1 < limit → {word end : ℕ} → word ≡ getD code (at + 1) 0 → end ≡ endIn word → Enter at live end ≡ blockMove code limit live at
   unfolding blockMove
-  block-enters h = let e = lt-leb limit (live + 1) h in rw (blockMove, e)
+  block-enters h w b = let e = lt-leb limit (live + 1) h in ap (Enter at live) (b ∙ ap endIn w) ∙ rw (blockMove, e)
 
 -- AR's operation
 pub is-plus : {n : ℕ} → n ≡ 0 → operationOf n ≡ plus

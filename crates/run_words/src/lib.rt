@@ -2,10 +2,10 @@
 // has 32 cells in the array of words, one for each name; the array has room after them, so that clearing goes by four.
 ghost use mathlib.Core.Path.{_≡_};
 ghost use mathlib.Core.Bool.{false};
-ghost use Prim.Native.Nat.{ℕ, _+_, _*_, _<_, _≤_, _^_};
+ghost use Prim.Native.Nat.{_+_, _*_, _<_, _≤_, _^_};
 ghost use lib.Dec.{ltb};
 ghost use lib.IntN.{ℤ, pos, _+ℤ_, _-ℤ_};
-ghost use lib.ListN.{length, getD, set};
+ghost use lib.ListN.{getD, set};
 ghost use lib.Signed.{mag, ltZ};
 ghost use Rattle.language.specs.Encoding as encoding;
 ghost use Rattle.language.specs.Text.{plus, minus, less};
