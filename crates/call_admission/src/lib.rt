@@ -1,6 +1,7 @@
 // Which refusal is due to a call, for all engines (document 01, "Causes and numbers"): the tests in the list's order, each refusal straight out.
 use language::Refusal;
 use language::Verdict;
+use layout::SHEET_SHARE;
 ghost use mathlib.Core.Bool.{Bool};
 ghost use mathlib.Core.List.{[]};
 ghost use mathlib.Core.Path.{_≡_};
@@ -61,7 +62,7 @@ fn before_check(numbers: Numbers, table: &[i32], sheet: &[i32], records: Area) -
     if !limits_fit(numbers) {
         return Verdict::Refused(Refusal::LimitRange, 0);
     }
-    if sheet.len() < numbers.d as usize * 34 {
+    if sheet.len() < numbers.d as usize * SHEET_SHARE {
         return Verdict::Refused(Refusal::AreaTooShort, 0);
     }
     if !holds_at_least(numbers.d as usize, records) {

@@ -1,7 +1,7 @@
 -- The statement at a place, with the first cells of the activations that declare its names, in the order of its fields: what its function asks, by the
 -- operation (`Ready`), when a way of finding names is the one by which the cells were found (`Leads`), and what it has then done (`Did`). A call's arguments
 -- are not handed on yet.
-use Prim.Native.Nat.{ℕ, _+_, _/_, _≤_}
+use Prim.Native.Nat.{ℕ, _+_, _≤_}
 use mathlib.Core.Bool.{true, false}
 use mathlib.Core.List.{List}
 use mathlib.Core.Path.{_≡_}
@@ -15,6 +15,7 @@ use Rattle.run_moves.specs.declared.Move.the-variants.{On, Table as Asks, Jump,
 use Rattle.run_moves.specs.Acting.{Happened}
 use Rattle.run_moves.specs.Acting.{Op, constant-op, add-op, subtract-op, compare-op, branch-op, goto-op, block-op, call-op, pair-op, unpair-op, query-op}
 use Rattle.run_moves.specs.Acting.{constant-formal-op, arithmetic-formal-op, branch-formal-op, goto-formal-op, call-formal-op}
+use Rattle.layout.specs.Layout.{leadIn}
 use Rattle.run_statements.specs.Pieces.{FormalsBefore}
 use Rattle.run_cells.specs.Finding.{Reachable, Direct, ThroughFormal}
 
@@ -52,7 +53,7 @@ module _ (code : List ℕ) (words : List ℤ) (limit live at first second third 
   Ready branch-formal-op = (at + 3 ≤ 4096) × Reachable words first (wordBehind code at 1) × Reachable words second (wordBehind code at 2)
   Ready goto-formal-op = (at + 2 ≤ 4096) × ThroughFormal words first (wordBehind code at 1)
   Ready call-formal-op = Calling code limit live at × ThroughFormal words first (wordBehind code at 1)
-      × FormalsBefore code (heldBy words first (wordBehind code at 1) / 8192)
+      × FormalsBefore code (leadIn (heldBy words first (wordBehind code at 1)))
 
 module _ (firstOf : ℕ → ℕ) (code : List ℕ) (at first second third : ℕ) where
   -- the names in one, two and three fields
@@ -99,22 +100,49 @@ unfoldable pub callMove : List ℕ → ℕ → ℕ → ℕ → ℕ → ℕ → M
 callMove code limit live at home body =
     elim (leb limit (live + 1)) [ true ↦ Stop NoActivationLeft | false ↦ Enter body home (at + 3 + wordBehind code at 2) ]
 
--- the class of a statement by its operation: 0 GO, BK, CL, and KN of a formal, 1 to 3 AR of which none is a formal, 4 AR of which one is, 5 IF, 6 AD and
--- RM, 7 QY, 8 KN of no formal
+-- The classes: GO, BK, CL, and KN of a formal; AR of which none is a formal, by its operation, and AR of which one is; IF; AD and RM; QY; KN of no formal.
+abbrev pub oneClass : ℕ
+oneClass = 0
+
+abbrev pub addClass : ℕ
+addClass = 1
+
+abbrev pub subtractClass : ℕ
+subtractClass = 2
+
+abbrev pub compareClass : ℕ
+compareClass = 3
+
+abbrev pub arithmeticFormalClass : ℕ
+arithmeticFormalClass = 4
+
+abbrev pub branchClass : ℕ
+branchClass = 5
+
+abbrev pub pairClass : ℕ
+pairClass = 6
+
+abbrev pub queryClass : ℕ
+queryClass = 7
+
+abbrev pub constantClass : ℕ
+constantClass = 8
+
+-- the class of a statement by its operation
 unfoldable pub classOf : Op → ℕ
-classOf constant-op = 8
-classOf add-op = 1
-classOf subtract-op = 2
-classOf compare-op = 3
-classOf branch-op = 5
-classOf goto-op = 0
-classOf block-op = 0
-classOf call-op = 0
-classOf pair-op = 6
-classOf unpair-op = 6
-classOf query-op = 7
-classOf constant-formal-op = 0
-classOf arithmetic-formal-op = 4
-classOf branch-formal-op = 5
-classOf goto-formal-op = 0
-classOf call-formal-op = 0
+classOf constant-op = constantClass
+classOf add-op = addClass
+classOf subtract-op = subtractClass
+classOf compare-op = compareClass
+classOf branch-op = branchClass
+classOf goto-op = oneClass
+classOf block-op = oneClass
+classOf call-op = oneClass
+classOf pair-op = pairClass
+classOf unpair-op = pairClass
+classOf query-op = queryClass
+classOf constant-formal-op = oneClass
+classOf arithmetic-formal-op = arithmeticFormalClass
+classOf branch-formal-op = branchClass
+classOf goto-formal-op = oneClass
+classOf call-formal-op = oneClass

@@ -1,6 +1,6 @@
 -- What the first cells of the activations that declare a statement's names give, by any way of finding names that has these: a name's cell, activation
 -- and target, and from these what the statement comes to.
-use Prim.Native.Nat.{ℕ, _+_, _*_, _/_, _%_}
+use Prim.Native.Nat.{ℕ, _+_}
 use native.Mathlib.Omega.{arith}
 use mathlib.Core.Bool.{true, false}
 use mathlib.Core.List.{List}
@@ -18,6 +18,7 @@ use Rattle.run_moves.specs.declared.Move.{Move}
 use Rattle.run_moves.specs.declared.Move.the-variants.{On, Jump}
 use Rattle.run_moves.specs.Effects.{effectOf, wordsOf}
 use Rattle.run_moves.specs.Acting.{Scene, doConstant, doArithmetic, doGoto, doBranch}
+use Rattle.layout.specs.Layout.{activationIn, cellIn, leadIn}
 use Rattle.run_statements.specs.Pieces.{only-words, moveAfter}
 use Rattle.run_statements.specs.Words.{cell-formal, home-direct, target-direct, home-formal, target-formal}
 use Rattle.run_statements.specs.Doing.{direct-cell, constant-done, arithmetic-done, compare-done, goto-done, branch-not, branch-goes}
@@ -30,16 +31,16 @@ pub own-cell : {words : List ℤ} {first w c : ℕ} → Direct words first w →
 own-cell {words} {first} {w} d e = direct-cell words first w e (d .is)
 
 -- and of a formal
-pub held-cell : (words : List ℤ) (first w : ℕ) {h : ℕ} → direct w ≡ false → h ≡ heldBy words first w → h % 8192 ≡ cellBy words first w
-held-cell words first w d e = ap (λ (n : ℕ). n % 8192) e ∙ sym (cell-formal words first w d)
+pub held-cell : (words : List ℤ) (first w : ℕ) {h : ℕ} → direct w ≡ false → h ≡ heldBy words first w → cellIn h ≡ cellBy words first w
+held-cell words first w d e = ap cellIn e ∙ sym (cell-formal words first w d)
 
 module _ (words : List ℤ) (firstOf : ℕ → ℕ) (w : ℕ) {first : ℕ} (e : first ≡ firstOf w) where
   pub cell-by : {c : ℕ} → c ≡ cellBy words first w → c ≡ byFirst words firstOf .cell w
   cell-by t = t ∙ ap (λ (m : ℕ). cellBy words m w) e
 
   -- a name that is no formal
-  pub home-own : direct w ≡ true → first / 32 ≡ byFirst words firstOf .home w
-  home-own d = ap (λ (m : ℕ). m / 32) e ∙ sym (home-direct words (firstOf w) w d)
+  pub home-own : direct w ≡ true → activationIn first ≡ byFirst words firstOf .home w
+  home-own d = ap activationIn e ∙ sym (home-direct words (firstOf w) w d)
 
   pub target-own : direct w ≡ true → targetIn w ≡ byFirst words firstOf .target w
   target-own d = sym (target-direct words (firstOf w) w d)
@@ -49,11 +50,11 @@ module _ (words : List ℤ) (firstOf : ℕ → ℕ) (w : ℕ) {first : ℕ} (e :
     holds : h ≡ heldBy words (firstOf w) w
     holds = t ∙ ap (λ (m : ℕ). heldBy words m w) e
 
-    pub home-held : h % 8192 / 32 ≡ byFirst words firstOf .home w
-    home-held = ap (λ (n : ℕ). n % 8192 / 32) holds ∙ sym (home-formal words (firstOf w) w d)
+    pub home-held : {cell home : ℕ} → cell ≡ cellIn h → home ≡ activationIn cell → home ≡ byFirst words firstOf .home w
+    home-held c k = k ∙ ap activationIn (c ∙ ap cellIn holds) ∙ sym (home-formal words (firstOf w) w d)
 
-    pub target-held : h / 8192 ≡ byFirst words firstOf .target w
-    target-held = ap (λ (n : ℕ). n / 8192) holds ∙ sym (target-formal words (firstOf w) w d)
+    pub target-held : {place : ℕ} → place ≡ leadIn h → place ≡ byFirst words firstOf .target w
+    target-held k = k ∙ ap leadIn holds ∙ sym (target-formal words (firstOf w) w d)
 
 module _ (code : List ℕ) (words : List ℤ) (at : ℕ) where
   abbrev name : ℕ → ℕ
@@ -96,14 +97,16 @@ module _ (code : List ℕ) (words : List ℤ) (at : ℕ) where
 
   -- GO
   pub goto-own :
-      {first : ℕ} {m : Move} → m ≡ Jump (first / 32) (targetIn (name 1)) → direct (name 1) ≡ true →
+      {first : ℕ} {m : Move} → m ≡ Jump (activationIn first) (targetIn (name 1)) → direct (name 1) ≡ true →
       (firstOf : ℕ → ℕ) → first ≡ firstOf (name 1) → m ≡ doGoto (byFirst words firstOf) scene .move
   goto-own m d firstOf p = m ∙ goto-done (byFirst words firstOf) scene (home-own words firstOf (name 1) p d) (target-own words firstOf (name 1) p d)
 
   pub goto-held :
-      {first h : ℕ} → h ≡ heldBy words first (name 1) → direct (name 1) ≡ false →
-      (firstOf : ℕ → ℕ) → first ≡ firstOf (name 1) → Jump (h % 8192 / 32) (h / 8192) ≡ doGoto (byFirst words firstOf) scene .move
-  goto-held t d firstOf p = goto-done (byFirst words firstOf) scene (home-held words firstOf (name 1) p d t) (target-held words firstOf (name 1) p d t)
+      {first h cell home place : ℕ} → h ≡ heldBy words first (name 1) → direct (name 1) ≡ false →
+      cell ≡ cellIn h → home ≡ activationIn cell → place ≡ leadIn h →
+      (firstOf : ℕ → ℕ) → first ≡ firstOf (name 1) → Jump home place ≡ doGoto (byFirst words firstOf) scene .move
+  goto-held t d c k l firstOf p =
+      goto-done (byFirst words firstOf) scene (home-held words firstOf (name 1) p d t c k) (target-held words firstOf (name 1) p d t l)
 
   -- IF
   module _ {first second c : ℕ} (t : c ≡ cellBy words second (name 2)) where

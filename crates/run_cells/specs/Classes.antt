@@ -1,17 +1,18 @@
 -- What is left where a statement's operation is none of those that a match names: a test of all sixteen numbers.
-use Prim.Native.Nat.{ℕ, zero, suc, _%_, _<_}
+use Prim.Native.Nat.{ℕ, zero, suc, _<_}
 use native.Mathlib.Omega.{arith}
 use mathlib.Core.Bool.{Bool, true, false, _&&_}
 use mathlib.Core.List.{List, [], _∷_}
-use mathlib.Core.Path.{_≡_, refl, sym, ap, _∙_}
+use mathlib.Core.Path.{_≡_, refl, sym, ap, _∙_, subst}
 use borrow.Author.Tests.{eqb-true, eqb-false, eq-eqb, ne-eqb}
 use lib.Dec.{eqb}
 use lib.ListN.{getD}
 use Rattle.language.specs.Basics.{among}
 use Rattle.laws.specs.Tests.{split, both}
-use Rattle.run_moves.specs.Acting.{Op, constant-op, operations, opOf}
+use Rattle.run_moves.specs.Acting.{Op, constant-op, unpair-op, branch-formal-op, call-formal-op, operations, opOf}
+use Rattle.layout.specs.Layout.{operationIn}
 use Rattle.run_statements.specs.Numbers.{op-of}
-use Rattle.run_cells.specs.Asking.{classOf}
+use Rattle.run_cells.specs.Asking.{oneClass, addClass, subtractClass, compareClass, arithmeticFormalClass, branchClass, pairClass, queryClass, constantClass, classOf}
 
 -- none of these numbers: those that a match names, its last one first
 abbrev pub NoneOf : List ℕ → ℕ → Type 0
@@ -34,7 +35,7 @@ below t (suc m) n a h =
     let b = both (t m) (allBelow t m) a in
     split (eqb n m) (λ e. ap t (eqb-true n m e) ∙ b .0) (λ e. below t m n (b .1) (omega (arith, eqb-false n m e)))
 
-abbrev numbered : ℕ → Op
+abbrev pub numbered : ℕ → Op
 numbered n = getD operations n constant-op
 
 unfoldable unless : List ℕ → (ℕ → Bool) → ℕ → Bool
@@ -45,59 +46,73 @@ module _ (ks : List ℕ) (t : ℕ → Bool) (a : allBelow (unless ks t) 16 ≡ t
   unfolding unless
   rest-holds n h r = let e = none-among ks n r in rw (e, unless) at (below (unless ks t) 16 n a h)
 
--- the class of a statement whose operation is none of these
 abbrev hasOne : ℕ → Bool
-hasOne n = eqb (classOf (numbered n)) 0
-
-pub one-left : (v : ℕ) → NoneOf (14 ∷ 13 ∷ 12 ∷ 11 ∷ 10 ∷ 9 ∷ 8 ∷ 7 ∷ 6 ∷ 5 ∷ 4 ∷ 3 ∷ 2 ∷ 1 ∷ 0 ∷ []) (v % 16) → 0 ≡ classOf (opOf v)
-unfolding allBelow unless among operations classOf
-one-left v r =
-    let e = rest-holds (14 ∷ 13 ∷ 12 ∷ 11 ∷ 10 ∷ 9 ∷ 8 ∷ 7 ∷ 6 ∷ 5 ∷ 4 ∷ 3 ∷ 2 ∷ 1 ∷ 0 ∷ []) hasOne refl (v % 16) (omega arith) r in
-    sym (ap classOf (op-of v (v % 16) refl) ∙ eqb-true (classOf (numbered (v % 16))) 0 e)
+hasOne n = eqb (classOf (numbered n)) oneClass
 
 -- the operation of a class that is none of these
 unfoldable isLast : ℕ → ℕ → ℕ → Bool
 isLast class last n = elim (eqb (classOf (numbered n)) class) [ true ↦ eqb n last | false ↦ true ]
 
 module _ (class last : ℕ) (ks : List ℕ) (a : allBelow (unless ks (isLast class last)) 16 ≡ true) where
-  last-left : (v : ℕ) → classOf (opOf v) ≡ class → NoneOf ks (v % 16) → v % 16 ≡ last
+  last-left : (v : ℕ) → classOf (opOf v) ≡ class → NoneOf ks (operationIn v) → operationIn v ≡ last
   unfolding isLast
   last-left v e r =
-      let q = eq-eqb (classOf (numbered (v % 16))) class (sym (ap classOf (op-of v (v % 16) refl)) ∙ e) in
-      eqb-true (v % 16) last (rw (q, isLast) at (rest-holds ks (isLast class last) a (v % 16) (omega arith) r))
+      let q = eq-eqb (classOf (numbered (operationIn v))) class (sym (ap classOf (op-of v (operationIn v) refl)) ∙ e) in
+      eqb-true (operationIn v) last (rw (q, isLast) at (rest-holds ks (isLast class last) a (operationIn v) (omega arith) r))
 
-pub call-left : (v : ℕ) → classOf (opOf v) ≡ 0 → NoneOf (14 ∷ 11 ∷ 7 ∷ 6 ∷ 5 ∷ []) (v % 16) → v % 16 ≡ 15
+pub add-only : (v : ℕ) → classOf (opOf v) ≡ addClass → operationIn v ≡ 1
 unfolding allBelow unless among isLast operations classOf
-call-left = last-left 0 15 (14 ∷ 11 ∷ 7 ∷ 6 ∷ 5 ∷ []) refl
+add-only v e = last-left addClass 1 [] refl v e tt
 
-pub add-only : (v : ℕ) → classOf (opOf v) ≡ 1 → v % 16 ≡ 1
+pub subtract-only : (v : ℕ) → classOf (opOf v) ≡ subtractClass → operationIn v ≡ 2
 unfolding allBelow unless among isLast operations classOf
-add-only v e = last-left 1 1 [] refl v e tt
+subtract-only v e = last-left subtractClass 2 [] refl v e tt
 
-pub subtract-only : (v : ℕ) → classOf (opOf v) ≡ 2 → v % 16 ≡ 2
+pub compare-only : (v : ℕ) → classOf (opOf v) ≡ compareClass → operationIn v ≡ 3
 unfolding allBelow unless among isLast operations classOf
-subtract-only v e = last-left 2 2 [] refl v e tt
+compare-only v e = last-left compareClass 3 [] refl v e tt
 
-pub compare-only : (v : ℕ) → classOf (opOf v) ≡ 3 → v % 16 ≡ 3
+pub arithmetic-only : (v : ℕ) → classOf (opOf v) ≡ arithmeticFormalClass → operationIn v ≡ 12
 unfolding allBelow unless among isLast operations classOf
-compare-only v e = last-left 3 3 [] refl v e tt
+arithmetic-only v e = last-left arithmeticFormalClass 12 [] refl v e tt
 
-pub arithmetic-only : (v : ℕ) → classOf (opOf v) ≡ 4 → v % 16 ≡ 12
+pub query-only : (v : ℕ) → classOf (opOf v) ≡ queryClass → operationIn v ≡ 10
 unfolding allBelow unless among isLast operations classOf
-arithmetic-only v e = last-left 4 12 [] refl v e tt
+query-only v e = last-left queryClass 10 [] refl v e tt
 
-pub branch-left : (v : ℕ) → classOf (opOf v) ≡ 5 → NoneOf (4 ∷ []) (v % 16) → v % 16 ≡ 13
+pub constant-only : (v : ℕ) → classOf (opOf v) ≡ constantClass → operationIn v ≡ 0
 unfolding allBelow unless among isLast operations classOf
-branch-left = last-left 5 13 (4 ∷ []) refl
+constant-only v e = last-left constantClass 0 [] refl v e tt
 
-pub unpair-left : (v : ℕ) → classOf (opOf v) ≡ 6 → NoneOf (8 ∷ []) (v % 16) → v % 16 ≡ 9
-unfolding allBelow unless among isLast operations classOf
-unpair-left = last-left 6 9 (8 ∷ []) refl
+-- A match on the operation at a place, from what the code has read there: the word, and its operation.
 
-pub query-only : (v : ℕ) → classOf (opOf v) ≡ 7 → v % 16 ≡ 10
-unfolding allBelow unless among isLast operations classOf
-query-only v e = last-left 7 10 [] refl v e tt
+module _ {v w o : ℕ} (p : v ≡ w) (q : o ≡ operationIn v) where
+  -- an arm's operation
+  pub op-at : (n : ℕ) → o ≡ n → opOf w ≡ numbered n
+  op-at n e = ap opOf (sym p) ∙ op-of v n (sym q ∙ e)
 
-pub constant-only : (v : ℕ) → classOf (opOf v) ≡ 8 → v % 16 ≡ 0
-unfolding allBelow unless among isLast operations classOf
-constant-only v e = last-left 8 0 [] refl v e tt
+  pub class-at : (n : ℕ) → o ≡ n → classOf (numbered n) ≡ classOf (opOf w)
+  class-at n e = ap classOf (sym (op-at n e))
+
+  -- and what is left for the last arm
+  module _ (class last : ℕ) (ks : List ℕ) (a : allBelow (unless ks (isLast class last)) 16 ≡ true) where
+    rest-is : classOf (opOf w) ≡ class → NoneOf ks o → opOf w ≡ numbered last
+    rest-is e r = op-at last (q ∙ last-left class last ks a v (ap classOf (ap opOf p) ∙ e) (subst (NoneOf ks) q r))
+
+  pub one-left : NoneOf (14 ∷ 13 ∷ 12 ∷ 11 ∷ 10 ∷ 9 ∷ 8 ∷ 7 ∷ 6 ∷ 5 ∷ 4 ∷ 3 ∷ 2 ∷ 1 ∷ 0 ∷ []) o → oneClass ≡ classOf (opOf w)
+  unfolding allBelow unless among operations classOf
+  one-left r =
+      let e = rest-holds (14 ∷ 13 ∷ 12 ∷ 11 ∷ 10 ∷ 9 ∷ 8 ∷ 7 ∷ 6 ∷ 5 ∷ 4 ∷ 3 ∷ 2 ∷ 1 ∷ 0 ∷ []) hasOne refl o (omega arith) r in
+      sym (eqb-true (classOf (numbered o)) oneClass e) ∙ class-at o refl
+
+  pub call-left : classOf (opOf w) ≡ oneClass → NoneOf (14 ∷ 11 ∷ 7 ∷ 6 ∷ 5 ∷ []) o → opOf w ≡ call-formal-op
+  unfolding allBelow unless among isLast operations classOf
+  call-left = rest-is oneClass 15 (14 ∷ 11 ∷ 7 ∷ 6 ∷ 5 ∷ []) refl
+
+  pub branch-left : classOf (opOf w) ≡ branchClass → NoneOf (4 ∷ []) o → opOf w ≡ branch-formal-op
+  unfolding allBelow unless among isLast operations classOf
+  branch-left = rest-is branchClass 13 (4 ∷ []) refl
+
+  pub unpair-left : classOf (opOf w) ≡ pairClass → NoneOf (8 ∷ []) o → opOf w ≡ unpair-op
+  unfolding allBelow unless among isLast operations classOf
+  unpair-left = rest-is pairClass 9 (8 ∷ []) refl

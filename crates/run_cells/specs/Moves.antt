@@ -4,7 +4,7 @@ use Prim.Native.Nat.{ℕ, _+_, _≤_, _<_}
 use native.Mathlib.Omega.{arith}
 use mathlib.Core.Bool.{Bool, true, false}
 use mathlib.Core.List.{List}
-use mathlib.Core.Path.{_≡_, refl, sym, ap, ap₂, _∙_, subst}
+use mathlib.Core.Path.{_≡_, refl, ap, ap₂, _∙_, subst}
 use borrow.Author.Tests.{le-leb, lt-leb}
 use lib.Dec.{leb}
 use lib.IntN.{ℤ}
@@ -25,7 +25,7 @@ use Rattle.run_moves.specs.Acting.{sceneBy}
 use Rattle.run_statements.specs.Pieces.{only-words, blockMove}
 use Rattle.run_statements.specs.Doing.{call-agreed}
 use Rattle.run_statements.specs.Scenes.{Done, constant-same, arithmetic-same, goto-same, branch-same, block-same, call-formal-same, change-same}
-use Rattle.run_statements.specs.Scenes.{query-same}
+use Rattle.run_statements.specs.Scenes.{query-same, acts}
 use Rattle.run_cells.specs.Asking.{wordBehind, unhanded, Did, callMove}
 
 -- 22, or the procedure is entered
@@ -34,9 +34,9 @@ module _ (code : List ℕ) (limit live at home body : ℕ) where
   unfolding callMove
   call-stops h = let e = le-leb limit (live + 1) h in rw (callMove, e)
 
-  pub call-enters : live + 1 < limit → Enter body home (at + 3 + wordBehind code at 2) ≡ callMove code limit live at home body
+  pub call-enters : live + 1 < limit → {count : ℕ} → count ≡ wordBehind code at 2 → Enter body home (at + 3 + count) ≡ callMove code limit live at home body
   unfolding callMove
-  call-enters h = let e = lt-leb limit (live + 1) h in rw (callMove, e)
+  call-enters h c = let e = lt-leb limit (live + 1) h in rw (callMove, e, c)
 
 -- where the words stay there is nothing to hand on
 unhanded-same : (m : Move) (words : List ℤ) → words ≡ unhanded m words words
@@ -48,14 +48,8 @@ unhanded-same (Enter b h p) words = refl
 unhanded-same (Stop c) words = refl
 
 module _ (F : Finding) (s : Scene) where
-  acts : (p : Op) → opOf (getD (s .code) (s .at) 0) ≡ p → happens F s p ≡ acting F s
-  unfolding acting
-  acts p e =
-      let z : s .at + 0 ≡ s .at = omega arith in
-      ap (happens F s) (sym (ap (λ i. opOf (getD (s .code) i 0)) z ∙ e))
-
   pub did : (p : Op) → opOf (getD (s .code) (s .at) 0) ≡ p → {r : Move} {words′ : List ℤ} → Did (happens F s p) (s .words) r words′ → Did (acting F s) (s .words) r words′
-  did p e {r} {words′} h = subst (λ (x : Happened). Did x (s .words) r words′) (acts p e) h
+  did p e {r} {words′} h = subst (λ (x : Happened). Did x (s .words) r words′) (acts F s p e) h
 
   -- the scene as far as a statement looks at it
   abbrev o : Scene

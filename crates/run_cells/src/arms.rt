@@ -4,17 +4,23 @@ use super::names::cell;
 use super::names::held;
 use super::names::own;
 use language::Stop;
+use layout::activation_of;
+use layout::cell_of;
+use layout::formal_of;
+use layout::formals_of;
+use layout::lead_of;
+use layout::target_of;
 use run_moves::Ask;
 use run_moves::Move;
 use run_statements::computed;
 use run_statements::constant;
 use run_words::code_at;
 ghost use mathlib.Core.Path.{_≡_};
-ghost use Prim.Native.Nat.{ℕ, _+_, _<_, _≤_, _%_, _/_};
-ghost use lib.ListN.{getD};
+ghost use Prim.Native.Nat.{ℕ, _+_, _≤_};
 ghost use Rattle.language.specs.Text.{plus, minus, less};
 ghost use Rattle.resolved.specs.Resolved.{targetIn};
 ghost use Rattle.arrays.specs.Found.{heldBy};
+ghost use Rattle.layout.specs.Layout.{activationIn, leadIn};
 ghost use Rattle.run_moves.specs.Acting.{doConstant, doArithmetic, operationOf, doGoto, doBranch, doCallFormal, doChange, doQuery};
 ghost use Rattle.run_moves.specs.Acting.{sceneBy};
 ghost use Rattle.run_statements.specs.Pieces.{only-words, FormalsBefore};
@@ -121,9 +127,9 @@ pub fn do_arithmetic_formal(
 // GO
 pub fn do_goto(code: &[u32; 4096], at: usize, first: usize) -> Move
     requires { ⌜ at + 2 ≤ 4096 ⌝ }
-    ensures { λ r. ⌜ r ≡ Move.Jump (first / 32) (targetIn (wordBehind (now (code .entry)) at 1)) ⌝ }
+    ensures { λ r. ⌜ r ≡ Move.Jump (activationIn first) (targetIn (wordBehind (now (code .entry)) at 1)) ⌝ }
 {
-    Move::Jump(first / 32, code_at(code, at + 1) / 65536)
+    Move::Jump(activation_of(first), target_of(code_at(code, at + 1)))
 }
 
 pub fn do_goto_formal(code: &[u32; 4096], words: &[i32; 8224], at: usize, first: usize) -> Move
@@ -131,7 +137,7 @@ pub fn do_goto_formal(code: &[u32; 4096], words: &[i32; 8224], at: usize, first:
     ensures { λ r. ⌜ ((firstOf : ℕ → ℕ) → first ≡ firstOf (wordBehind (now (code .entry)) at 1) → r ≡ doGoto (byFirst (now (words .entry)) firstOf) (only-words (now (code .entry)) (now (words .entry)) at) .move) ⌝ }
 {
     let to = held(code, words, at + 1, first);
-    Move::Jump(to % 8192 / 32, to / 8192)
+    Move::Jump(activation_of(cell_of(to)), lead_of(to))
 }
 
 // IF
@@ -164,7 +170,7 @@ pub fn do_branch_formal(
     if words[cell(code, words, at + 2, second)] == 0 {
         return Move::On(at + 3);
     }
-    if code_at(code, at + 1) / 32 % 2 == 0 {
+    if formal_of(code_at(code, at + 1)) == 0 {
         return do_goto(code, at, first);
     }
     do_goto_formal(code, words, at, first)
@@ -190,15 +196,15 @@ fn enter_body(
 
 pub fn do_call(code: &[u32; 4096], limit: usize, live: usize, at: usize, first: usize) -> Move
     requires { ⌜ Calling (now code) limit live at ⌝ }
-    ensures { λ r. ⌜ r ≡ callMove (now (code .entry)) limit live at (first / 32) (targetIn (wordBehind (now (code .entry)) at 1)) ⌝ }
+    ensures { λ r. ⌜ r ≡ callMove (now (code .entry)) limit live at (activationIn first) (targetIn (wordBehind (now (code .entry)) at 1)) ⌝ }
 {
     enter_body(
         code,
         limit,
         live,
         at,
-        first / 32,
-        code_at(code, at + 1) / 65536,
+        activation_of(first),
+        target_of(code_at(code, at + 1)),
     )
 }
 
@@ -211,19 +217,26 @@ pub fn do_call_formal(
     at: usize,
     first: usize,
 ) -> Move
-    requires { ⌜ Calling (now code) limit live at × ThroughFormal (now words) first (wordBehind (now code) at 1) × FormalsBefore (now code) (heldBy (now words) first (wordBehind (now code) at 1) / 8192) ⌝ }
+    requires { ⌜ Calling (now code) limit live at × ThroughFormal (now words) first (wordBehind (now code) at 1) × FormalsBefore (now code) (leadIn (heldBy (now words) first (wordBehind (now code) at 1))) ⌝ }
     ensures { λ r. ⌜ ((firstOf : ℕ → ℕ) → first ≡ firstOf (wordBehind (now (code .entry)) at 1) → r ≡ doCallFormal (byFirst (now (words .entry)) firstOf) (sceneBy (now (code .entry)) (now (words .entry)) limit live at) .move) ⌝ }
 {
     let procedure = held(code, words, at + 1, first);
-    let body = procedure / 8192;
+    let body = lead_of(procedure);
     let count = code_at(code, at + 2);
-    if code_at(code, body) / 65536 % 256 != count {
+    if formals_of(code_at(code, body)) != count {
         return Move::Stop(Stop::ArgumentsDiffer);
     }
     if !run_words::kinds_agree(code, at + 3, body - 3 * count, count) {
         return Move::Stop(Stop::ArgumentsDiffer);
     }
-    enter_body(code, limit, live, at, procedure % 8192 / 32, body)
+    enter_body(
+        code,
+        limit,
+        live,
+        at,
+        activation_of(cell_of(procedure)),
+        body,
+    )
 }
 
 // AD and RM

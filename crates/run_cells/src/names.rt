@@ -1,4 +1,7 @@
 // A name by the place of its word, and the first cell of the activation that declares it.
+use layout::cell_of;
+use layout::formal_of;
+use layout::position_of;
 use run_words::code_at;
 ghost use mathlib.Core.Path.{_≡_};
 ghost use Prim.Native.Nat.{_+_, _<_};
@@ -12,7 +15,7 @@ pub fn own(code: &[u32; 4096], place: usize, first: usize) -> usize
     requires { ⌜ (place < 4096) × (first + positionIn (getD (now code) place 0) < 8192) ⌝ }
     ensures { λ r. ⌜ (r ≡ first + positionIn (getD (now (code .entry)) place 0)) × (r < 8192) ⌝ }
 {
-    first + code_at(code, place) % 32
+    first + position_of(code_at(code, place))
 }
 
 // What a formal holds: the cell of the name that it finally stands for, and what that leads to.
@@ -28,8 +31,8 @@ pub fn cell(code: &[u32; 4096], words: &[i32; 8224], place: usize, first: usize)
     requires { ⌜ (place < 4096) × Reachable (now words) first (getD (now code) place 0) ⌝ }
     ensures { λ r. ⌜ (r ≡ cellBy (now (words .entry)) first (getD (now (code .entry)) place 0)) × (r < 8192) ⌝ }
 {
-    if code_at(code, place) / 32 % 2 == 0 {
+    if formal_of(code_at(code, place)) == 0 {
         return own(code, place, first);
     }
-    held(code, words, place, first) % 8192
+    cell_of(held(code, words, place, first))
 }

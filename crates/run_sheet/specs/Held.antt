@@ -1,5 +1,5 @@
 -- Arrays that hold a stack of frames show its sheet: `frame-shown`, for each activation; `sheet-more`: the sheet goes on with the next one's words.
-use Prim.Native.Nat.{ℕ, zero, suc, _+_, _*_, _/_, _%_, _≤_, _<_}
+use Prim.Native.Nat.{ℕ, zero, suc, _+_, _*_, _≤_, _<_}
 use native.Mathlib.Omega.{arith}
 use native.Mathlib.Numerals.{add-one}
 use mathlib.Core.List.{List, [], _∷_, _++_, append-assoc, append-nil}
@@ -28,6 +28,7 @@ use Rattle.resolved.specs.Words.{bounds-first}
 use Rattle.arrays.specs.Holds.{designatorOf, formalWord, Holds}
 use Rattle.arrays.specs.Cells.{points-celled, designator-of-cell, word-cell}
 use Rattle.arrays.specs.Reading.{formals-read, names-read}
+use Rattle.layout.specs.Layout.{firstIn, cellFrom, cellIn}
 use Rattle.run_sheet.specs.Sizes.{sizeAt, readable, end-sum, size-read}
 use Rattle.run_sheet.specs.Shown.{Passes, Counts, Owned, Shown, written-none}
 
@@ -80,13 +81,13 @@ module _ {code : List ℕ} {words : List ℤ} {blocks nexts : List ℕ} {fs : Li
   counts =
       record {
         places = stmtPlace (f .text);
-        first = ap (λ p. getD code (p + 1) 0 / 65536) block-is ∙ ap (λ v. v / 65536) (bounds-stands code (h .name) (h .program) (h .keeps) (h .covers) (enclosing f) around within) ∙ bounds-first (h .program) (h .keeps) (enclosing f) around within;
+        first = ap (λ p. firstIn (getD code (p + 1) 0)) block-is ∙ ap firstIn (bounds-stands code (h .name) (h .program) (h .keeps) (h .covers) (enclosing f) around within) ∙ bounds-first (h .program) (h .keeps) (enclosing f) around within;
         one = (h .bounded k f e) .next-first;
         last = sym ((h .holds k f e) .next-is);
         step = passes;
       }
 
-  formal-shown : (i : ℕ) → i < length (f .formals) → (x : ℕ) × (getD words (32 * k + i) (pos 0) ≡ pos x) × (getD (f .words) i (pos 0) ≡ pos (designatorOf (x % 8192)))
+  formal-shown : (i : ℕ) → i < length (f .formals) → (x : ℕ) × (getD words (cellFrom k i) (pos 0) ≡ pos x) × (getD (f .words) i (pos 0) ≡ pos (designatorOf (cellIn x)))
   unfolding designatorIn
   formal-shown i l =
       let w = (h .bounded k f e) .handed i l in

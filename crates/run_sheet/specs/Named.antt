@@ -1,17 +1,19 @@
 -- The looked-up name, from its word and the first cell of the activation that declares it: 0 where it has no word, which no visible name has
 -- (`looked-up-none`), else the designator of the name that it finally stands for (`looked-up-some`).
-use Prim.Native.Nat.{ℕ, _+_, _%_, _<_}
+use Prim.Native.Nat.{ℕ, _+_, _<_}
 use mathlib.Core.Bool.{true, false}
 use mathlib.Core.List.{List}
-use mathlib.Core.Path.{_≡_}
+use mathlib.Core.Path.{_≡_, sym, ap, _∙_}
 use lib.Dec.{eqb}
 use lib.IntN.{ℤ, pos}
 use lib.ListN.{getD}
 use lib.Signed.{ltZ}
 use borrow.Author.Tests.{eq-eqb, ne-eqb}
-use Rattle.resolved.specs.Resolved.{positionIn, direct}
+use Rattle.frames.specs.Frame.{designatorIn}
+use Rattle.resolved.specs.Resolved.{positionIn, formalIn, direct}
 use Rattle.arrays.specs.Holds.{designatorOf}
 use Rattle.arrays.specs.Found.{heldBy, cellBy}
+use Rattle.layout.specs.Layout.{cellIn}
 
 unfoldable pub lookedUpBy : List ℤ → ℕ → ℕ → ℕ
 lookedUpBy words first w = elim (eqb w 0) [ true ↦ 0 | false ↦ designatorOf (cellBy words first w) ]
@@ -30,10 +32,34 @@ module _ (words : List ℤ) (first w : ℕ) where
   unfolding lookedUpBy
   looked-up-some d = rw (lookedUpBy, ne-eqb w 0 d)
 
-  pub cell-direct : direct w ≡ true → cellBy words first w ≡ first + positionIn w
+  cell-direct : direct w ≡ true → cellBy words first w ≡ first + positionIn w
   unfolding cellBy
   cell-direct e = rw (cellBy, e)
 
-  pub cell-formal : direct w ≡ false → cellBy words first w ≡ heldBy words first w % 8192
+  cell-formal : direct w ≡ false → cellBy words first w ≡ cellIn (heldBy words first w)
   unfolding cellBy
   cell-formal e = rw (cellBy, e)
+
+  -- a name that has a word, from the parts of it that were read
+  module _ (d : w ≡ 0 → ⊥) {formal position : ℕ} (f : formal ≡ formalIn w) (p : position ≡ positionIn w) where
+    is-formal : (formal ≡ 0 → ⊥) → direct w ≡ false
+    unfolding direct
+    is-formal q = ne-eqb (formalIn w) 0 (λ e. q (f ∙ e))
+
+    own-cell : getD words (first + position) (pos 0) ≡ getD words (first + positionIn w) (pos 0)
+    own-cell = ap (λ (n : ℕ). getD words (first + n) (pos 0)) p
+
+    pub designator-direct : formal ≡ 0 → {r : ℕ} → r ≡ designatorOf (first + position) → r ≡ lookedUpBy words first w
+    unfolding direct
+    designator-direct q r =
+        r ∙ ap designatorOf (ap (λ (n : ℕ). first + n) p ∙ sym (cell-direct (eq-eqb (formalIn w) 0 (sym f ∙ q)))) ∙ sym (looked-up-some d)
+
+    pub held-whole : (formal ≡ 0 → ⊥) → Nameable words first w → {z : ℤ} → z ≡ getD words (first + position) (pos 0) → ltZ z (pos 0) ≡ false
+    held-whole q n e = ap (λ (y : ℤ). ltZ y (pos 0)) (e ∙ own-cell) ∙ n .whole (is-formal q)
+
+    pub designator-formal :
+        (formal ≡ 0 → ⊥) → {h cell r : ℕ} → getD words (first + position) (pos 0) ≡ pos h → cell ≡ cellIn h → r ≡ designatorOf cell →
+        r ≡ lookedUpBy words first w
+    unfolding heldBy designatorIn
+    designator-formal q h c r =
+        r ∙ ap designatorOf (c ∙ ap cellIn (sym (ap designatorIn (sym own-cell ∙ h))) ∙ sym (cell-formal (is-formal q))) ∙ sym (looked-up-some d)

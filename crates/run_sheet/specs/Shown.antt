@@ -1,6 +1,6 @@
 -- What the sheet shows of an activation, in terms of the arrays. `Counts`: walking the statements of a block from its first one, the next
 -- statement's place is that of a number. `Owned`: what the words of its names come to. `Shown` has both. `written-more`: one word more.
-use Prim.Native.Nat.{ℕ, zero, suc, _+_, _-_, _/_, _%_, _≤_, _<_}
+use Prim.Native.Nat.{ℕ, zero, suc, _+_, _-_, _≤_, _<_}
 use native.Mathlib.Omega.{arith}
 use native.Mathlib.Numerals.{add-one}
 use mathlib.Core.List.{List, [], _∷_, _++_, append-assoc}
@@ -13,6 +13,7 @@ use lib.Seq.{drop-cons, take-suc, length-take-le}
 use Rattle.language.specs.Call.{written}
 use Rattle.laws.specs.Tests.{split}
 use Rattle.arrays.specs.Holds.{designatorOf}
+use Rattle.layout.specs.Layout.{formalsIn, namesIn, firstIn, cellIn}
 use Rattle.run_sheet.specs.Sizes.{sizeAt, Readable}
 
 -- one statement on
@@ -23,10 +24,17 @@ pub record Passes (code : List ℕ) (p q : ℕ) : Type 0 where
 
 pub record Counts (code : List ℕ) (block next number : ℕ) : Type 0 where
   pub places : ℕ → ℕ
-  pub first : getD code (block + 1) 0 / 65536 ≡ places 1
+  pub first : firstIn (getD code (block + 1) 0) ≡ places 1
   pub one : 1 ≤ number
   pub last : places number ≡ next
   pub step : (i : ℕ) → 1 ≤ i → i < number → Passes code (places i) (places (suc i))
+
+-- a walk as the code needs it: the block's words and the next statement's place stand in the script
+pub record Countable (code : List ℕ) (block next : ℕ) : Type 0 where
+  pub within : block + 1 < 4096
+  pub ends : next ≤ 4096
+  pub number : ℕ
+  pub counts : Counts code block next number
 
 module _ {code : List ℕ} {block next number : ℕ} (c : Counts code block next number) where
   -- so many statements further on
@@ -58,15 +66,15 @@ on {code} {block} {next} {n} c {i} {p} l h b =
 -- the words of the names, from their cells: a formal shows the designator of the name that it finally stands for
 pub record Owned (words : List ℤ) (first formals : ℕ) (own : List ℤ) : Type 0 where
   pub within : first + length own ≤ 8192
-  pub formals-are : (i : ℕ) → i < formals → i < length own → (x : ℕ) × (getD words (first + i) (pos 0) ≡ pos x) × (getD own i (pos 0) ≡ pos (designatorOf (x % 8192)))
+  pub formals-are : (i : ℕ) → i < formals → i < length own → (x : ℕ) × (getD words (first + i) (pos 0) ≡ pos x) × (getD own i (pos 0) ≡ pos (designatorOf (cellIn x)))
   pub others-are : (i : ℕ) → formals ≤ i → i < length own → getD words (first + i) (pos 0) ≡ getD own i (pos 0)
 
 pub record Shown (code : List ℕ) (words : List ℤ) (block next first number : ℕ) (own : List ℤ) : Type 0 where
   pub within : block + 1 < 4096
   pub counts : Counts code block next number
   pub ends : next ≤ 4096
-  pub names-are : getD code block 0 / 16777216 ≡ length own
-  pub owned : Owned words first (getD code block 0 / 65536 % 256) own
+  pub names-are : namesIn (getD code block 0) ≡ length own
+  pub owned : Owned words first (formalsIn (getD code block 0)) own
 
 -- words written from the front, and what was there past them
 

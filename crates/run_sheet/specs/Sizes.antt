@@ -16,6 +16,7 @@ use Rattle.resolved.specs.Resolved.{placeOf, endPlace, chosen, resolvedAction, 
 use Rattle.resolved.specs.Places.{block-fields}
 use Rattle.resolved.specs.Standing.{action-covered, head-stands, bounds-stands}
 use Rattle.resolved.specs.Words.{head-operation, bounds-end}
+use Rattle.layout.specs.Layout.{operationIn, endIn}
 
 -- four bits for each operation but the one that enters a block; a call's arguments come on top
 abbrev pub sizes : ℕ
@@ -27,36 +28,36 @@ plainSize operation = sizes / 2 ^ (4 * operation) % 16
 -- a block goes on to where its text ends
 unfoldable pub sizeAt : List ℕ → ℕ → ℕ
 sizeAt code p =
-    elim (eqb (getD code p 0 % 16) 6) [
-      | true ↦ getD code (p + 1) 0 % 65536 - p
-      | false ↦ elim (eqb (getD code p 0 % 8) 7) [ true ↦ 3 + getD code (p + 2) 0 | false ↦ plainSize (getD code p 0 % 16) ]
+    elim (eqb (operationIn (getD code p 0)) 6) [
+      | true ↦ endIn (getD code (p + 1) 0) - p
+      | false ↦ elim (eqb (getD code p 0 % 8) 7) [ true ↦ 3 + getD code (p + 2) 0 | false ↦ plainSize (operationIn (getD code p 0)) ]
     ]
 
 -- what is read of a statement at p stands in the array
 pub record Readable (code : List ℕ) (p : ℕ) : Type 0 where
   pub here : p < 4096
-  pub block : getD code p 0 % 16 ≡ 6 → (p + 1 < 4096) × (p ≤ getD code (p + 1) 0 % 65536)
+  pub block : operationIn (getD code p 0) ≡ 6 → (p + 1 < 4096) × (p ≤ endIn (getD code (p + 1) 0))
   pub call : getD code p 0 % 8 ≡ 7 → p + 2 < 4096
 
 module _ (code : List ℕ) (p : ℕ) where
-  pub size-block : getD code p 0 % 16 ≡ 6 → sizeAt code p ≡ getD code (p + 1) 0 % 65536 - p
+  pub size-block : operationIn (getD code p 0) ≡ 6 → sizeAt code p ≡ endIn (getD code (p + 1) 0) - p
   unfolding sizeAt
-  size-block e = rw (sizeAt, eq-eqb (getD code p 0 % 16) 6 e)
+  size-block e = rw (sizeAt, eq-eqb (operationIn (getD code p 0)) 6 e)
 
-  pub size-call : (getD code p 0 % 16 ≡ 6 → ⊥) → getD code p 0 % 8 ≡ 7 → sizeAt code p ≡ 3 + getD code (p + 2) 0
+  pub size-call : (operationIn (getD code p 0) ≡ 6 → ⊥) → getD code p 0 % 8 ≡ 7 → sizeAt code p ≡ 3 + getD code (p + 2) 0
   unfolding sizeAt
-  size-call d e = rw (sizeAt, ne-eqb (getD code p 0 % 16) 6 d, eq-eqb (getD code p 0 % 8) 7 e)
+  size-call d e = rw (sizeAt, ne-eqb (operationIn (getD code p 0)) 6 d, eq-eqb (getD code p 0 % 8) 7 e)
 
-  pub size-plain : (getD code p 0 % 16 ≡ 6 → ⊥) → (getD code p 0 % 8 ≡ 7 → ⊥) → sizeAt code p ≡ plainSize (getD code p 0 % 16)
+  pub size-plain : (operationIn (getD code p 0) ≡ 6 → ⊥) → (getD code p 0 % 8 ≡ 7 → ⊥) → sizeAt code p ≡ plainSize (operationIn (getD code p 0))
   unfolding sizeAt
-  size-plain d e = rw (sizeAt, ne-eqb (getD code p 0 % 16) 6 d, ne-eqb (getD code p 0 % 8) 7 e)
+  size-plain d e = rw (sizeAt, ne-eqb (operationIn (getD code p 0)) 6 d, ne-eqb (getD code p 0 % 8) 7 e)
 
   -- an operation that is neither
-  plain : (w n : ℕ) → getD code p 0 ≡ w → (w % 16 ≡ 6 → ⊥) → (w % 8 ≡ 7 → ⊥) → plainSize (w % 16) ≡ n → sizeAt code p ≡ n
-  plain w n e d f q = size-plain (λ h. d (ap (λ x. x % 16) (sym e) ∙ h)) (λ h. f (ap (λ x. x % 8) (sym e) ∙ h)) ∙ ap (λ x. plainSize (x % 16)) e ∙ q
+  plain : (w n : ℕ) → getD code p 0 ≡ w → (operationIn w ≡ 6 → ⊥) → (w % 8 ≡ 7 → ⊥) → plainSize (operationIn w) ≡ n → sizeAt code p ≡ n
+  plain w n e d f q = size-plain (λ h. d (ap operationIn (sym e) ∙ h)) (λ h. f (ap (λ x. x % 8) (sym e) ∙ h)) ∙ ap (λ x. plainSize (operationIn x)) e ∙ q
 
-  called : (w n : ℕ) → getD code p 0 ≡ w → (w % 16 ≡ 6 → ⊥) → w % 8 ≡ 7 → getD code (p + 2) 0 ≡ n → sizeAt code p ≡ 3 + n
-  called w n e d f q = size-call (λ h. d (ap (λ x. x % 16) (sym e) ∙ h)) (ap (λ x. x % 8) e ∙ f) ∙ ap (λ x. 3 + x) q
+  called : (w n : ℕ) → getD code p 0 ≡ w → (operationIn w ≡ 6 → ⊥) → w % 8 ≡ 7 → getD code (p + 2) 0 ≡ n → sizeAt code p ≡ 3 + n
+  called w n e d f q = size-call (λ h. d (ap operationIn (sym e) ∙ h)) (ap (λ x. x % 8) e ∙ f) ∙ ap (λ x. 3 + x) q
 
   either : (b : Bool) (v w n : ℕ) → getD code p 0 ≡ chosen b v w → (getD code p 0 ≡ v → sizeAt code p ≡ n) → (getD code p 0 ≡ w → sizeAt code p ≡ n) → sizeAt code p ≡ n
   unfolding chosen
@@ -113,5 +114,5 @@ module _ (code : List ℕ) (name : ℕ) (t : Block) (keeps : Keeps t) (covered :
       let w : Encloses t (enclosed [] b ∷ e ∷ es) = (as-block i q refl, within) in
       let p = placeOf (blockAt b) in
       let head : getD code p 0 % 256 ≡ 6 = ap (λ v. v % 256) (head-stands code name t keeps covered (enclosed [] b) (e ∷ es) w) ∙ head-operation t keeps (enclosed [] b) (e ∷ es) w in
-      let bounds : getD code (p + 1) 0 % 65536 ≡ endPlace b = ap (λ v. v % 65536) (bounds-stands code name t keeps covered (enclosed [] b) (e ∷ es) w) ∙ bounds-end t keeps (enclosed [] b) (e ∷ es) w in
+      let bounds : endIn (getD code (p + 1) 0) ≡ endPlace b = ap endIn (bounds-stands code name t keeps covered (enclosed [] b) (e ∷ es) w) ∙ bounds-end t keeps (enclosed [] b) (e ∷ es) w in
       (omega (arith, size-block code p (omega arith), end-sum b), omega (arith, block-fields b))

@@ -1,62 +1,43 @@
 // The sheet, written from an engine's arrays: the resolved script, 32 words for each activation, the place of its block and of its next statement.
-ghost use mathlib.Core.Bool.{false};
+use layout::BLOCK;
+use layout::CALL;
+use layout::SHARE;
+use layout::activation_of;
+use layout::cell_of;
+use layout::end_of;
+use layout::first_of;
+use layout::formal_of;
+use layout::formals_of;
+use layout::names_of;
+use layout::operation_of;
+use layout::position_of;
+use numbers::from_u16;
+use run_words::code_at;
+use run_words::whole;
+use run_words::word_of;
 ghost use mathlib.Core.List.{List, _∷_, _++_};
 ghost use mathlib.Core.Path.{_≡_};
-ghost use Prim.Native.Nat.{ℕ, _+_, _*_, _<_, _≤_, _^_, _%_};
+ghost use Prim.Native.Nat.{ℕ, _+_, _*_, _<_, _≤_, _^_};
 ghost use lib.IntN.{ℤ, pos};
 ghost use lib.ListN.{length, getD};
-ghost use lib.Signed.{ltZ};
 ghost use Rattle.language.specs.Sheet.{sheetShare};
 ghost use Rattle.language.specs.Call.{written};
-ghost use Rattle.frames.specs.Frame.{Frame, designatorIn, frameSheet};
+ghost use Rattle.frames.specs.Frame.{Frame, frameSheet};
 ghost use Rattle.arrays.specs.Holds.{designatorOf};
+ghost use Rattle.layout.specs.Layout.{cellIn};
 ghost use Rattle.run_sheet.specs.Sizes.{plainSize, sizeAt, Readable};
-ghost use Rattle.run_sheet.specs.Shown.{Counts, Owned, Shown};
+ghost use Rattle.run_sheet.specs.Shown.{Counts, Countable, Owned, Shown};
 ghost use Rattle.run_sheet.specs.Held.{Held};
 ghost use Rattle.run_sheet.specs.Named.{lookedUpBy, Nameable};
 
 const SIZES: usize = 3617872862303704404;
-
-fn wide(x: u32) -> usize
-    ensures { λ r. ⌜ (r ≡ x) × (r < 2 ^ 32) ⌝ }
-{
-    x as usize
-}
-
-fn widened(x: u16) -> usize
-    ensures { λ r. ⌜ r ≡ x ⌝ }
-{
-    x as usize
-}
-
-fn word_of(x: usize) -> i32
-    requires { ⌜ x < 2147483648 ⌝ }
-    ensures { λ r. ⌜ r ≡ pos x ⌝ }
-{
-    x as i32
-}
-
-fn code_at(code: &[u32; 4096], at: usize) -> usize
-    requires { ⌜ at < 4096 ⌝ }
-    ensures { λ r. ⌜ (r ≡ getD (now (code .entry)) at 0) × (r < 2 ^ 32) ⌝ }
-{
-    wide(code[at])
-}
 
 // The designator of a cell.
 pub fn designator_of(cell: usize) -> u32
     requires { ⌜ cell < 8192 ⌝ }
     ensures { λ r. ⌜ (r ≡ designatorOf cell) × (r < 32768) ⌝ }
 {
-    (64 * (cell / 32 + 1) + (cell % 32 + 1)) as u32
-}
-
-// What a formal holds.
-fn held(word: i32) -> usize
-    requires { ⌜ ltZ word (pos 0) ≡ false ⌝ }
-    ensures { λ r. ⌜ r ≡ designatorIn word ⌝ }
-{
-    word as usize
+    (64 * (activation_of(cell) + 1) + (cell % SHARE + 1)) as u32
 }
 
 // The designator of the name with this word, declared in the activation whose cells begin at `first`; 0 where it has no word.
@@ -67,10 +48,10 @@ pub fn name_designator(words: &[i32; 8224], first: usize, word: usize) -> u32
     if word == 0 {
         return 0;
     }
-    if word / 32 % 2 == 0 {
-        return designator_of(first + word % 32);
+    if formal_of(word) == 0 {
+        return designator_of(first + position_of(word));
     }
-    designator_of(held(words[first + word % 32]) % 8192)
+    designator_of(cell_of(whole(words[first + position_of(word)])))
 }
 
 fn plain_size(operation: usize) -> usize
@@ -86,22 +67,24 @@ fn size_at(code: &[u32; 4096], at: usize) -> usize
     ensures { λ r. ⌜ (r ≡ sizeAt (now (code .entry)) at) × (r < 2 ^ 33) ⌝ }
 {
     let word = code_at(code, at);
-    if word % 16 == 6 {
-        return code_at(code, at + 1) % 65536 - at;
+    let operation = operation_of(word);
+    if operation == BLOCK {
+        return end_of(code_at(code, at + 1)) - at;
     }
-    if word % 8 == 7 {
+    // CALL or CALL_FORMAL
+    if word % 8 == CALL {
         return 3 + code_at(code, at + 2);
     }
-    plain_size(word % 16)
+    plain_size(operation)
 }
 
 // The number of the statement at a place, by walking there from the block's first one.
 fn number_of(code: &[u32; 4096], block: usize, next: usize) -> usize
-    requires { ⌜ (block + 1 < 4096) × (next ≤ 4096) × ((n : ℕ) × Counts (now code) block next n) ⌝ }
+    requires { ⌜ Countable (now code) block next ⌝ }
     ensures { λ r. ⌜ ((n : ℕ) → Counts (now (code .entry)) block next n → r ≡ n) ⌝ }
     ensures { λ r. ⌜ r ≤ 4097 ⌝ }
 {
-    let mut at = code_at(code, block + 1) / 65536;
+    let mut at = first_of(code_at(code, block + 1));
     let mut number = 1;
     while at < next {
         at += size_at(code, at);
@@ -113,9 +96,9 @@ fn number_of(code: &[u32; 4096], block: usize, next: usize) -> usize
 // A formal's word shows the designator of the name that it finally stands for.
 fn formal_shown(word: i32) -> i32
     requires { ⌜ ((x : ℕ) × (word ≡ pos x)) ⌝ }
-    ensures { λ r. ⌜ ((x : ℕ) → word ≡ pos x → r ≡ pos (designatorOf (x % 8192))) ⌝ }
+    ensures { λ r. ⌜ ((x : ℕ) → word ≡ pos x → r ≡ pos (designatorOf (cellIn x))) ⌝ }
 {
-    designator_of(word as usize % 8192) as i32
+    designator_of(cell_of(whole(word))) as i32
 }
 
 fn shown_word(words: &[i32; 8224], first: usize, formals: usize, i: usize) -> i32
@@ -163,10 +146,10 @@ pub fn write_activation(
     ensures { λ _. ⌜ length (now (sheet .exit)) ≡ length (now (sheet .entry)) ⌝ }
 {
     let head = code_at(code, block);
-    let names = head / 16777216;
+    let names = names_of(head);
     sheet[at] = word_of(2 * block);
     sheet[at + 1] = word_of(number_of(code, block, next));
-    write_names(words, first, head / 65536 % 256, names, sheet, at + 2);
+    write_names(words, first, formals_of(head), names, sheet, at + 2);
     at + 2 + names
 }
 
@@ -189,9 +172,9 @@ pub fn write_sheet(
         at = write_activation(
             code,
             words,
-            widened(blocks[k]),
-            widened(nexts[k]),
-            32 * k,
+            from_u16(blocks[k]),
+            from_u16(nexts[k]),
+            SHARE * k,
             sheet,
             at,
         );

@@ -1,5 +1,5 @@
 -- What each statement comes to, from what its function has done: the definitions of Acting, by any way of finding names.
-use Prim.Native.Nat.{ℕ, zero, suc, _+_, _*_, _-_, _/_, _%_, _≤_, _<_}
+use Prim.Native.Nat.{ℕ, zero, suc, _+_, _*_, _-_, _≤_, _<_}
 use native.Mathlib.Omega.{arith}
 use mathlib.Core.Bool.{Bool, true, false}
 use mathlib.Core.List.{List, _∷_}
@@ -27,6 +27,7 @@ use Rattle.run_moves.specs.Acting.{doGoto, doBranch, noRoom, argumentsFrom, doC
 use Rattle.resolved.specs.Resolved.{direct, positionIn}
 use Rattle.arrays.specs.Found.{cellBy}
 use Rattle.run_moves.specs.Acting.{sceneBy}
+use Rattle.layout.specs.Layout.{formalsIn, endIn}
 use Rattle.run_statements.specs.Pieces.{only-words, moveAfter, blockMove, enteredBy}
 use Rattle.run_statements.specs.Words.{cell-direct}
 
@@ -118,12 +119,12 @@ module _ (F : Finding) (s : Scene) where
   call-is p q = ap₂ (enteredBy F s) p q
 
   -- 26
-  pub number-differs : (body : ℕ) → (getD (s .code) body 0 / 65536 % 256 ≡ field s 2 → ⊥) → argumentsAgree F s body ≡ false
+  pub number-differs : (body : ℕ) → (formalsIn (getD (s .code) body 0) ≡ field s 2 → ⊥) → argumentsAgree F s body ≡ false
   unfolding argumentsAgree
   number-differs body d = rw (argumentsAgree, ne-eqb _ _ d)
 
   pub number-same :
-      (body : ℕ) → getD (s .code) body 0 / 65536 % 256 ≡ field s 2 →
+      (body : ℕ) → formalsIn (getD (s .code) body 0) ≡ field s 2 →
       argumentsAgree F s body ≡ sameKinds (s .code) (s .at + 3) (body - 3 * field s 2) (field s 2)
   unfolding argumentsAgree
   number-same body e = rw (argumentsAgree, eq-eqb _ _ e)
@@ -159,9 +160,9 @@ module _ (code : List ℕ) (limit live at : ℕ) where
   unfolding blockMove
   block-stops h = let e = le-leb limit (live + 1) h in rw (blockMove, e)
 
-  pub block-enters : live + 1 < limit → Enter at live (getD code (at + 1) 0 % 65536) ≡ blockMove code limit live at
+  pub block-enters : live + 1 < limit → {word end : ℕ} → word ≡ getD code (at + 1) 0 → end ≡ endIn word → Enter at live end ≡ blockMove code limit live at
   unfolding blockMove
-  block-enters h = let e = lt-leb limit (live + 1) h in rw (blockMove, e)
+  block-enters h w b = let e = lt-leb limit (live + 1) h in ap (Enter at live) (b ∙ ap endIn w) ∙ rw (blockMove, e)
 
 -- AR's operation
 pub is-plus : {n : ℕ} → n ≡ 0 → operationOf n ≡ plus

@@ -1,5 +1,5 @@
 -- Which operation a statement has, by its number.
-use Prim.Native.Nat.{ℕ, _+_, _%_, _≤_, _<_}
+use Prim.Native.Nat.{ℕ, _+_, _≤_, _<_}
 use native.Mathlib.Omega.{arith}
 use mathlib.Core.Path.{_≡_, ap}
 use borrow.Author.Tests.{ltb-true, ltb-false}
@@ -7,9 +7,10 @@ use lib.Dec.{ltb}
 use lib.ListN.{getD}
 use Rattle.laws.specs.Tests.{split}
 use Rattle.run_moves.specs.Acting.{constant-op, operations, opOf}
+use Rattle.layout.specs.Layout.{operationIn}
 
 -- the operation by its number
-pub op-of : (v k : ℕ) → v % 16 ≡ k → opOf v ≡ getD operations k constant-op
+pub op-of : (v k : ℕ) → operationIn v ≡ k → opOf v ≡ getD operations k constant-op
 unfolding opOf
 op-of v k e = ap (λ i. getD operations i constant-op) e
 

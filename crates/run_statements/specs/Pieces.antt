@@ -1,5 +1,5 @@
 -- A scene as far as a statement looks at it, and the pieces from which the statements' functions are made.
-use Prim.Native.Nat.{ℕ, _+_, _*_, _/_, _%_, _≤_, _<_}
+use Prim.Native.Nat.{ℕ, _+_, _*_, _≤_, _<_}
 use mathlib.Core.Bool.{true, false}
 use mathlib.Core.List.{List}
 use lib.IntN.{ℤ}
@@ -11,6 +11,7 @@ use Rattle.run_moves.specs.declared.Effect.the-variants.{Done, Stopped}
 use Rattle.run_moves.specs.declared.Move.{Move}
 use Rattle.run_moves.specs.declared.Move.the-variants.{On, Enter, Stop}
 use Rattle.run_moves.specs.Acting.{Finding, Scene, sceneBy, Happened, field, moves, rewrites, noRoom, argumentsFrom, setAll}
+use Rattle.layout.specs.Layout.{formalsIn, endIn}
 
 -- a scene as far as most statements look at it
 abbrev pub only-words : List ℕ → List ℤ → ℕ → Scene
@@ -19,7 +20,7 @@ only-words code words at = sceneBy code words 0 0 at
 -- a procedure's body at a place stands after so many formals, and in the script
 pub record FormalsBefore (code : List ℕ) (body : ℕ) : Type 0 where
   pub there : body < 4096
-  pub before : 3 * (getD code body 0 / 65536 % 256) ≤ body
+  pub before : 3 * formalsIn (getD code body 0) ≤ body
 
 -- The pieces from which the statements' functions are made.
 
@@ -29,7 +30,7 @@ moveAfter (Stopped c) next = Stop c
 
 unfoldable pub blockMove : List ℕ → ℕ → ℕ → ℕ → Move
 blockMove code limit live at =
-    elim (leb limit (live + 1)) [ true ↦ Stop NoActivationLeft | false ↦ Enter at live (getD code (at + 1) 0 % 65536) ]
+    elim (leb limit (live + 1)) [ true ↦ Stop NoActivationLeft | false ↦ Enter at live (endIn (getD code (at + 1) 0)) ]
 
 -- a call of the procedure that activation `home` declares and whose body stands at a place
 unfoldable pub enteredBy : Finding → Scene → ℕ → ℕ → Happened

@@ -48,7 +48,7 @@ module _ (F : Finding) (s : Scene) where
   abbrev t : Scene
   t = sceneBy code words limit live at
 
-  acts : (p : Op) → opOf (getD code at 0) ≡ p → happens F s p ≡ acting F s
+  pub acts : (p : Op) → opOf (getD code at 0) ≡ p → happens F s p ≡ acting F s
   unfolding acting
   acts p e =
       let z : at + 0 ≡ at = omega arith in

@@ -1,5 +1,5 @@
 -- A name's cell, home and target by whether it is a formal; and what a word of a local is, whose bits are held.
-use Prim.Native.Nat.{ℕ, _+_, _*_, _/_, _%_, _<_}
+use Prim.Native.Nat.{ℕ, _+_, _<_}
 use native.Mathlib.Omega.{arith}
 use mathlib.Core.Bool.{true, false}
 use mathlib.Core.List.{List}
@@ -13,9 +13,10 @@ use mir.Syntax.{w32}
 use mir.Val.{toZ, ofZ}
 use Rattle.language.specs.Basics.{eqZ}
 use Rattle.frames.specs.Frame.{designatorIn}
-use Rattle.resolved.specs.Resolved.{direct, positionIn, targetIn}
+use Rattle.resolved.specs.Resolved.{direct, positionIn, formalIn, targetIn}
 use Rattle.arrays.specs.Found.{heldBy, cellBy, homeBy, targetBy, handedBy}
 use Rattle.run_moves.specs.Effects.{handedWord}
+use Rattle.layout.specs.Layout.{activationIn, heldFrom, cellIn, leadIn}
 
 pub read-back : (z : ℤ) → mag z < 2147483648 → toZ w32 (ofZ w32 z) ≡ z
 read-back z h = toZ-ofZ (record { sfits = h })
@@ -34,20 +35,20 @@ unfolding eqZ
 not-zero (pos n) h d = ne-eqb n 0 d
 not-zero (negsuc n) h d = refl
 
-pub is-direct : (w : ℕ) → w / 32 % 2 ≡ 0 → direct w ≡ true
+pub is-direct : (w : ℕ) → formalIn w ≡ 0 → direct w ≡ true
 unfolding direct
-is-direct w e = eq-eqb (w / 32 % 2) 0 e
+is-direct w e = eq-eqb (formalIn w) 0 e
 
-pub is-formal : (w : ℕ) → (w / 32 % 2 ≡ 0 → ⊥) → direct w ≡ false
+pub is-formal : (w : ℕ) → (formalIn w ≡ 0 → ⊥) → direct w ≡ false
 unfolding direct
-is-formal w d = ne-eqb (w / 32 % 2) 0 d
+is-formal w d = ne-eqb (formalIn w) 0 d
 
 module _ (words : List ℤ) (first w : ℕ) where
   pub cell-direct : direct w ≡ true → cellBy words first w ≡ first + positionIn w
   unfolding cellBy
   cell-direct e = rw (cellBy, e)
 
-  pub home-direct : direct w ≡ true → homeBy words first w ≡ first / 32
+  pub home-direct : direct w ≡ true → homeBy words first w ≡ activationIn first
   unfolding homeBy
   home-direct e = rw (homeBy, e)
 
@@ -55,15 +56,15 @@ module _ (words : List ℤ) (first w : ℕ) where
   unfolding targetBy
   target-direct e = rw (targetBy, e)
 
-  pub cell-formal : direct w ≡ false → cellBy words first w ≡ heldBy words first w % 8192
+  pub cell-formal : direct w ≡ false → cellBy words first w ≡ cellIn (heldBy words first w)
   unfolding cellBy
   cell-formal e = rw (cellBy, e)
 
-  pub home-formal : direct w ≡ false → homeBy words first w ≡ heldBy words first w % 8192 / 32
+  pub home-formal : direct w ≡ false → homeBy words first w ≡ activationIn (cellIn (heldBy words first w))
   unfolding homeBy
   home-formal e = rw (homeBy, e)
 
-  pub target-formal : direct w ≡ false → targetBy words first w ≡ heldBy words first w / 8192
+  pub target-formal : direct w ≡ false → targetBy words first w ≡ leadIn (heldBy words first w)
   unfolding targetBy
   target-formal e = rw (targetBy, e)
 
@@ -75,4 +76,4 @@ module _ (words : List ℤ) (first w : ℕ) where
       (vs : List ℤ) → getD vs (first + positionIn w) (pos 0) ≡ getD words (first + positionIn w) (pos 0) →
       handedWord vs w (first + positionIn w) ≡ handedBy words first w
   unfolding handedWord handedBy
-  handed-is vs e = ap (λ (z : ℤ). elim (direct w) as (λ b. ℤ) [ true ↦ pos (first + positionIn w + 8192 * targetIn w) | false ↦ z ]) e
+  handed-is vs e = ap (λ (z : ℤ). elim (direct w) as (λ b. ℤ) [ true ↦ pos (heldFrom (first + positionIn w) (targetIn w)) | false ↦ z ]) e

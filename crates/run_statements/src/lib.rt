@@ -1,5 +1,6 @@
 // The parts of statements that are the same for every engine, once names are found.
 use language::Stop;
+use layout::end_of;
 use run_moves::Effect;
 use run_moves::Move;
 use run_words::code_at;
@@ -44,5 +45,5 @@ pub fn do_block(code: &[u32; 4096], limit: usize, live: usize, at: usize) -> Mov
     if limit <= live + 1 {
         return Move::Stop(Stop::NoActivationLeft);
     }
-    Move::Enter(at, live, code_at(code, at + 1) % 65536)
+    Move::Enter(at, live, end_of(code_at(code, at + 1)))
 }

@@ -1,9 +1,9 @@
 -- AR's effect by whether its value fits; what a comparison stores; what is handed on; and cells cleared one after another.
-use Prim.Native.Nat.{ℕ, zero, suc, _+_, _*_, _-_, _/_, _%_, _≤_, _<_}
+use Prim.Native.Nat.{ℕ, zero, suc, _+_, _*_, _-_, _≤_, _<_}
 use native.Mathlib.Omega.{arith}
 use mathlib.Core.Bool.{Bool, true, false}
 use mathlib.Core.List.{List, [], _∷_}
-use mathlib.Core.Path.{_≡_, refl, _∙_}
+use mathlib.Core.Path.{_≡_, refl, sym, ap, _∙_}
 use borrow.Author.Tests.{eq-eqb, ne-eqb, eqb-true, eqb-false, ltb-true, ltb-false}
 use lib.Dec.{eqb, ltb}
 use lib.IntN.{ℤ, pos}
@@ -13,9 +13,10 @@ use lib.Signed.{mag, ltZ}
 use Rattle.language.specs.Text.{less}
 use Rattle.language.specs.Machine.{compute}
 use Rattle.language.specs.declared.Stop.the-variants.{ResultTooLarge}
-use Rattle.resolved.specs.Resolved.{kindIn, direct}
+use Rattle.resolved.specs.Resolved.{kindIn, formalIn, targetIn, direct}
 use Rattle.run_moves.specs.declared.Effect.the-variants.{Done, Stopped}
 use Rattle.run_moves.specs.Effects.{effectOf, wordsOf, handedWord, sameKinds, Cleared}
+use Rattle.layout.specs.Layout.{heldFrom}
 
 pub effect-fits : (z : ℤ) → ltb (mag z) 2147483648 ≡ true → Done ≡ effectOf z
 unfolding effectOf
@@ -41,13 +42,15 @@ pub compared-not : (a b : ℤ) → ltZ a b ≡ false → pos 0 ≡ compute less 
 unfolding compute
 compared-not a b e = rw (e, compute)
 
-pub handed-direct : (ws : List ℤ) (w c : ℕ) → eqb (w / 32 % 2) 0 ≡ true → pos (c + 8192 * (w / 65536)) ≡ handedWord ws w c
-unfolding handedWord direct
-handed-direct ws w c e = rw (e, handedWord)
+-- what is handed on, from the parts of a word that were read
+module _ (ws : List ℤ) (w c : ℕ) {formal : ℕ} (p : formal ≡ formalIn w) where
+  pub handed-direct : formal ≡ 0 → {target held : ℕ} → target ≡ targetIn w → held ≡ heldFrom c target → pos held ≡ handedWord ws w c
+  unfolding handedWord direct
+  handed-direct q t h = let e = eq-eqb (formalIn w) 0 (sym p ∙ q) in ap pos (h ∙ ap (heldFrom c) t) ∙ rw (e, handedWord)
 
-pub handed-formal : (ws : List ℤ) (w c : ℕ) → eqb (w / 32 % 2) 0 ≡ false → getD ws c (pos 0) ≡ handedWord ws w c
-unfolding handedWord direct
-handed-formal ws w c e = rw (e, handedWord)
+  pub handed-formal : (formal ≡ 0 → ⊥) → getD ws c (pos 0) ≡ handedWord ws w c
+  unfolding handedWord direct
+  handed-formal d = let e = ne-eqb (formalIn w) 0 (λ q. d (p ∙ q)) in rw (e, handedWord)
 
 -- Kinds, one by one, of n arguments from a on and formals from f on
 

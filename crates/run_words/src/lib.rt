@@ -2,30 +2,29 @@
 // has 32 cells in the array of words, one for each name; the array has room after them, so that clearing goes by four.
 ghost use mathlib.Core.Path.{_≡_};
 ghost use mathlib.Core.Bool.{false};
-ghost use Prim.Native.Nat.{ℕ, _+_, _*_, _<_, _≤_, _^_};
+ghost use Prim.Native.Nat.{_+_, _*_, _<_, _≤_, _^_};
 ghost use lib.Dec.{ltb};
 ghost use lib.IntN.{ℤ, pos, _+ℤ_, _-ℤ_};
-ghost use lib.ListN.{length, getD, set};
+ghost use lib.ListN.{getD, set};
 ghost use lib.Signed.{mag, ltZ};
 ghost use Rattle.language.specs.Encoding as encoding;
 ghost use Rattle.language.specs.Text.{plus, minus, less};
 ghost use Rattle.language.specs.Machine.{compute};
 ghost use Rattle.run_moves.specs.Effects.{effectOf, wordsOf, sameKinds, handedWord, Cleared};
 use language::Stop;
+use layout::formal_of;
+use layout::held_word;
+use layout::kind_of;
+use layout::target_of;
+use numbers::from_u32;
 use run_moves::Effect;
-
-fn wide(x: u32) -> usize
-    ensures { λ r. ⌜ (r ≡ x) × (r < 2 ^ 32) ⌝ }
-{
-    x as usize
-}
 
 // A word of the resolved script.
 pub fn code_at(code: &[u32; 4096], at: usize) -> usize
     requires { ⌜ at < 4096 ⌝ }
     ensures { λ r. ⌜ (r ≡ getD (now (code .entry)) at 0) × (r < 2 ^ 32) ⌝ }
 {
-    wide(code[at])
+    from_u32(code[at])
 }
 
 fn sum(a: i32, b: i32) -> i64
@@ -136,8 +135,8 @@ pub fn handed(words: &[i32; 8224], word: usize, cell: usize) -> i32
     requires { ⌜ (word < 2 ^ 32) × (cell < 8192) ⌝ }
     ensures { λ r. ⌜ r ≡ handedWord (now (words .entry)) word cell ⌝ }
 {
-    if word / 32 % 2 == 0 {
-        return word_of(cell + 8192 * (word / 65536));
+    if formal_of(word) == 0 {
+        return word_of(held_word(cell, target_of(word)));
     }
     words[cell]
 }
@@ -149,7 +148,7 @@ pub fn kinds_agree(code: &[u32; 4096], arguments: usize, formals: usize, count: 
 {
     let mut i = 0;
     while i < count {
-        if code_at(code, arguments + i) / 64 % 4 != code_at(code, formals + 3 * i + 2) {
+        if kind_of(code_at(code, arguments + i)) != code_at(code, formals + 3 * i + 2) {
             return false;
         }
         i += 1;

@@ -17,12 +17,4 @@ returns-2 c links =
     c .check-and-after .ensures ∙ passed _ _ _ (u .before .before .before-check .ensures) (u .enum-told .given .1)
 
 pub admit-spec : {M : Type 1} → statement M
-admit-spec =
-    tie.close
-    (tie.spec
-    (λ c κs. search needs)
-    (λ c. search needs)
-    (λ c. search needs)
-    returns
-    (λ c κs. search needs)
-    returns-2)
+admit-spec = tie.close (tie.spec (λ c κs. search needs) (λ c. search needs) (λ c. search needs) returns (λ c κs. search needs) returns-2)

@@ -10,7 +10,10 @@ returns : tie.Need-returns
 returns c = refusal-stands _ _ _ _ (c .before .before .check-script .ensures) _ _ (c .enum-told2 .given .1)
 
 mul-holds-at-least : tie.Need-mul-holds-at-least
-mul-holds-at-least c = small (c .before .before .before .before .args .d) _ (c .before .before .before .before .fits .d) (fit-length _ _ (c .before .before .check-script .ensures) (c .enum-told .given .1))
+mul-holds-at-least c =
+    let k = c .before .before in
+    let s = k .before .before in
+    small (s .args .d) _ (s .fits .d) (fit-length _ _ (k .check-script .ensures) (c .enum-told .given .1))
 
 returns-2 : tie.Need-returns-2
 returns-2 c =
@@ -24,13 +27,5 @@ returns-3 c =
 
 pub check-and-after-spec : {M : Type 1} → statement M
 check-and-after-spec =
-    tie.close
-    (tie.spec
-    (λ c κs. search needs)
-    (λ c. search needs)
-    (λ c. search needs)
-    returns
-    mul-holds-at-least
-    (λ c κs. search needs)
-    returns-2
+    tie.close (tie.spec (λ c κs. search needs) (λ c. search needs) (λ c. search needs) returns mul-holds-at-least (λ c κs. search needs) returns-2
     returns-3)

@@ -4,11 +4,5 @@ use borrow.Author.Needs.{needs}
 use Rattle.call_admission.proofs.holds_at_least.Statement.{statement}
 use Rattle.call_admission.proofs.holds_at_least.Tie as tie
 
-returns : tie.Need-returns
-returns c = unused _ _ (c .enum-told .given .1)
-
-returns-2 : tie.Need-returns-2
-returns-2 c = lent _ _ _ (c .before .area .given .1)
-
 pub holds-at-least-spec : {M : Type 1} → statement M
-holds-at-least-spec = tie.close (tie.spec (λ c. search needs) (λ c. search needs) returns returns-2)
+holds-at-least-spec = tie.close (tie.spec (λ c. search needs) (λ c. search needs) (λ c. search (needs, unused)) (λ c. search (needs, lent)))

@@ -4,9 +4,6 @@ use Rattle.language.specs.Numbers.{answerWords}
 use Rattle.call_answers.proofs.refusal_words.Statement.{statement}
 use Rattle.call_answers.proofs.refusal_words.Tie as tie
 
-returns : tie.Need-returns
-unfolding answerWords
-returns c = search needs
-
 pub refusal-words-spec : {M : Type 1} → statement M
-refusal-words-spec = tie.close (tie.spec (λ c κs. search needs) (λ c. search needs) returns)
+unfolding answerWords
+refusal-words-spec = tie.close (tie.spec (λ c κs. search needs) (λ c. search needs) (λ c. search needs))

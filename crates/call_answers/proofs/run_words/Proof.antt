@@ -4,11 +4,7 @@ use Rattle.language.specs.Numbers.{answerWords}
 use Rattle.call_answers.proofs.run_words.Statement.{statement}
 use Rattle.call_answers.proofs.run_words.Tie as tie
 
-returns : tie.Need-returns
-unfolding answerWords
-returns c = search needs
-
 pub run-words-spec : {M : Type 1} → statement M
+unfolding answerWords
 run-words-spec =
-    tie.close
-    (tie.spec (λ c κs. search needs) (λ c. search needs) (λ c κs. search needs) (λ c. search needs) (λ c. search needs) returns)
+    tie.close (tie.spec (λ c κs. search needs) (λ c. search needs) (λ c κs. search needs) (λ c. search needs) (λ c. search needs) (λ c. search needs))

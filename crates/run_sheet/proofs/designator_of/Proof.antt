@@ -11,4 +11,5 @@ returns c = (omega arith, omega arith)
 
 pub designator-of-spec : {M : Type 1} → statement M
 designator-of-spec =
-    tie.close (tie.spec (λ c. search needs) (λ c. search needs) (λ c. search needs) (λ c. search needs) (λ c. search needs) returns)
+    tie.close (tie.spec (λ c κs. search needs) (λ c. search needs) (λ c. search needs) (λ c. search needs) (λ c. search needs) (λ c. search needs)
+    returns)

@@ -6,9 +6,6 @@ use borrow.Author.Needs.{needs}
 use Rattle.run_sheet.proofs.plain_size.Statement.{statement}
 use Rattle.run_sheet.proofs.plain_size.Tie as tie
 
-returns : tie.Need-returns
-unfolding plainSize
-returns c = (refl, omega arith)
-
 pub plain-size-spec : {M : Type 1} → statement M
-plain-size-spec = tie.close (tie.spec (λ c. search needs) (λ c. search needs) returns)
+unfolding plainSize
+plain-size-spec = tie.close (tie.spec (λ c. search needs) (λ c. search needs) (λ c. (refl, omega arith)))

@@ -22,14 +22,5 @@ returns-2 c own h l = read-back _ (c .result .given) ∙ h .others-are _ (c .bef
 
 pub shown-word-spec : {M : Type 1} → statement M
 shown-word-spec =
-    tie.close
-    (tie.spec
-    (λ c. search needs)
-    (λ c. search needs)
-    (λ c. search needs)
-    formal-shown-requires
-    returns
-    (λ c. search needs)
-    (λ c. search needs)
-    (λ c. search needs)
-    returns-2)
+    tie.close (tie.spec (λ c. search needs) (λ c. search needs) (λ c. search needs) formal-shown-requires returns (λ c. search needs)
+    (λ c. search needs) (λ c. search needs) returns-2)

@@ -32,12 +32,6 @@ shown-word-requires c κs =
 slice-set-from-sheet : tie.Need-slice-set-from-sheet Inv-loop μ-loop
 slice-set-from-sheet c = omega (arith, c .before .before .before .pre .1, c .before .before .loop .inv .1)
 
-add-i : tie.Need-add-i Inv-loop μ-loop
-add-i c = omega arith
-
-loop-less : tie.Need-loop-less Inv-loop μ-loop
-loop-less c = omega arith
-
 loop-again : tie.Need-loop-again Inv-loop μ-loop
 loop-again c =
     let u = c .before .before in
@@ -58,17 +52,5 @@ returns c =
 
 pub write-names-spec : {M : Type 1} → statement M
 write-names-spec =
-    tie.close
-    (tie.spec
-    Inv-loop
-    μ-loop
-    loop-holds
-    shown-word-requires
-    (λ c. search needs)
-    (λ c. search needs)
-    slice-set-from-sheet
-    add-i
-    loop-less
-    loop-again
-    same-length
-    returns)
+    tie.close (tie.spec Inv-loop μ-loop loop-holds shown-word-requires (λ c. search needs) (λ c. search needs) slice-set-from-sheet
+    (λ c. search needs) (λ c. search needs) loop-again same-length returns)

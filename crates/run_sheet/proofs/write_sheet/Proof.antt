@@ -22,41 +22,23 @@ Inv-loop code words blocks nexts live sheet₀ at₀ k₀ sheet at k =
 abbrev μ-loop : tie.MeasureT-loop
 μ-loop code words blocks nexts live sheet₀ at₀ k₀ sheet at k = live - k
 
--- the places: the loop, and the words of an activation widened
-abbrev loopOf : tie.After-widened Inv-loop μ-loop → tie.At-loop Inv-loop μ-loop
+-- the places: the loop, and an activation's two places as numbers
+abbrev loopOf : tie.After-from-u16 Inv-loop μ-loop → tie.At-loop Inv-loop μ-loop
 loopOf c = c .before .before .before
 
-abbrev widenedOf : tie.After-widened2 Inv-loop μ-loop → tie.After-widened Inv-loop μ-loop
-widenedOf c = c .before .before
+abbrev blockOf : tie.After-from-u162 Inv-loop μ-loop → tie.After-from-u16 Inv-loop μ-loop
+blockOf c = c .before .before
+
+live-few : (s : tie.Start Inv-loop μ-loop) → s .args .live ≤ 256
+live-few s = let p = s .pre .0 in omega (arith, p .1 .most, p .2)
 
 loop-holds : tie.Need-loop-holds Inv-loop μ-loop
 loop-holds c = (omega arith, refl, λ fs h l. none-written fs (c .args .sheet .now))
 
-mul-widened : tie.Need-mul-widened Inv-loop μ-loop
-mul-widened c = omega (arith, c .before .before .pre .0 .1 .most, c .before .before .pre .0 .2)
-
-element-copy-out-widened : tie.Need-element-copy-out-widened Inv-loop μ-loop
-element-copy-out-widened c = omega (arith, c .before .before .pre .0 .1 .most, c .before .before .pre .0 .2)
-
-mul-widened-2 : tie.Need-mul-widened-2 Inv-loop μ-loop
-mul-widened-2 c =
-    let s = loopOf c .before in
-    omega (arith, s .pre .0 .1 .most, s .pre .0 .2)
-
-element-copy-out-widened-2 : tie.Need-element-copy-out-widened-2 Inv-loop μ-loop
-element-copy-out-widened-2 c =
-    let s = loopOf c .before in
-    omega (arith, s .pre .0 .1 .most, s .pre .0 .2)
-
-mul-write-activation : tie.Need-mul-write-activation Inv-loop μ-loop
-mul-write-activation c =
-    let s = loopOf (widenedOf c) .before in
-    omega (arith, s .pre .0 .1 .most, s .pre .0 .2)
-
 write-activation-requires : tie.Need-write-activation-requires Inv-loop μ-loop
 write-activation-requires c κs =
     let n = c .before in
-    let b = widenedOf n in
+    let b = blockOf n in
     let u = loopOf b in
     let p = u .before .pre .0 in
     let k = u .loop .k in
@@ -64,18 +46,12 @@ write-activation-requires c κs =
     let w = getElem-in (p .0) k l in
     let i = u .loop .inv in
     let f = p .1 .bounded k (w .0) (w .1) in
-    (w .0 .next, w .0 .words, shown-at (p .1) k (w .0) (w .1) _ _ (b .widened .ensures) (n .widened2 .ensures), omega (arith, f .few, i .1, i .2 (p .0) (p .1) (p .2) .1, sheet-room (p .1) k (omega arith), u .before .pre .1, p .2))
-
-add-k : tie.Need-add-k Inv-loop μ-loop
-add-k c = omega arith
-
-loop-less : tie.Need-loop-less Inv-loop μ-loop
-loop-less c = omega arith
+    (w .0 .next, w .0 .words, shown-at (p .1) k (w .0) (w .1) _ _ (b .from-u16 .ensures .0) (n .from-u162 .ensures .0), omega (arith, f .few, i .1, i .2 (p .0) (p .1) (p .2) .1, sheet-room (p .1) k (omega arith), u .before .pre .1, p .2))
 
 loop-again : tie.Need-loop-again Inv-loop μ-loop
 loop-again c =
     let n = c .before .before .before in
-    let u = loopOf (widenedOf n) in
+    let u = loopOf (blockOf n) in
     let k = u .loop .k in
     let r = c .before .write-activation .ensures in (
       omega arith,
@@ -85,8 +61,8 @@ loop-again c =
           let w = getElem-in fs k b in
           let f = w .0 in
           let i = u .loop .inv .2 fs h l in
-          let block = widenedOf n .widened .ensures in
-          let q = r .0 (f .next) (f .words) (frameSheet (take k fs)) (u .before .args .sheet .now) (shown-at h k f (w .1) _ _ block (n .widened2 .ensures)) (i .0) (sym (i .1)) in
+          let block = blockOf n .from-u16 .ensures .0 in
+          let q = r .0 (f .next) (f .words) (frameSheet (take k fs)) (u .before .args .sheet .now) (shown-at h k f (w .1) _ _ block (n .from-u162 .ensures .0)) (i .0) (sym (i .1)) in
           (q .0 ∙ ap (λ (x : List ℤ). written x (u .before .args .sheet .now)) (sheet-on h k f (w .1) _ block), q .1 ∙ sheet-on-length h k f (w .1) (u .loop .at) (i .1)),
     )
 
@@ -102,21 +78,7 @@ returns c fs h l =
 
 pub write-sheet-spec : {M : Type 1} → statement M
 write-sheet-spec =
-    tie.close
-    (tie.spec
-    Inv-loop
-    μ-loop
-    loop-holds
-    mul-widened
-    element-copy-out-widened
-    (λ c κs. search needs)
-    mul-widened-2
-    element-copy-out-widened-2
-    (λ c κs. search needs)
-    mul-write-activation
-    write-activation-requires
-    add-k
-    loop-less
-    loop-again
-    same-length
-    returns)
+    tie.close (tie.spec Inv-loop μ-loop loop-holds (λ c. omega (arith, live-few (c .before .before)))
+    (λ c. omega (arith, live-few (c .before .before))) (λ c κs. search needs) (λ c. omega (arith, live-few (loopOf c .before)))
+    (λ c. omega (arith, live-few (loopOf c .before))) (λ c κs. search needs) (λ c. omega (arith, live-few (loopOf (blockOf c) .before)))
+    write-activation-requires (λ c. search needs) (λ c. search needs) loop-again same-length returns)

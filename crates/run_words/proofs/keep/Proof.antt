@@ -25,6 +25,4 @@ returns-2 c =
     (effect-past (s .args .value) e, words-past _ _ _ e)
 
 pub keep-spec : {M : Type 1} → statement M
-keep-spec =
-    tie.close
-    (tie.spec (λ c κs. search needs) narrowed-requires (λ c. search needs) (λ c. search needs) returns returns-2)
+keep-spec = tie.close (tie.spec (λ c κs. search needs) narrowed-requires (λ c. search needs) (λ c. search needs) returns returns-2)

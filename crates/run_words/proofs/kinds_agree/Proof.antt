@@ -1,5 +1,5 @@
 -- `kinds_agree` meets its contract. The loop's invariant: the kinds from i on agree exactly where all do.
-use Prim.Native.Nat.{_+_, _*_, _-_, _/_, _%_, _≤_}
+use Prim.Native.Nat.{_+_, _*_, _-_, _≤_}
 use mathlib.Core.Path.{_≡_, sym, ap, _∙_}
 use native.Mathlib.Omega.{arith}
 use borrow.Author.Needs.{needs}
@@ -25,26 +25,31 @@ loop-holds c =
     let n : s .count - 0 ≡ s .count = omega arith in
     (omega arith, rw (a, f, n))
 
+-- the kind of an argument is read in the loop
+abbrev loopOf : tie.After-kind-of Inv-loop μ-loop → tie.At-loop Inv-loop μ-loop
+loopOf k = k .before .before .before
+
 read :
-    (c : tie.After-code-at Inv-loop μ-loop) → let l = c .before .before in let s = l .before .args in
-    c .code-at .result / 64 % 4 ≡ kindIn (getD (s .code .now) (s .arguments + l .loop .i) 0)
-read c = ap kindIn (c .code-at .ensures .0)
+    (k : tie.After-kind-of Inv-loop μ-loop) → let l = loopOf k in let s = l .before .args in
+    k .kind-of .result ≡ kindIn (getD (s .code .now) (s .arguments + l .loop .i) 0)
+read k = k .kind-of .ensures .0 ∙ ap kindIn (k .before .code-at .ensures .0)
 
 returns : tie.Need-returns Inv-loop μ-loop
 returns c =
-    let l = c .before .before .before .before in
+    let k = c .before .before in
+    let l = loopOf k in
     let s = l .before .args in
-    let d : kindIn (getD (s .code .now) (s .arguments + l .loop .i) 0) ≡ getD (s .code .now)
-    (s .formals + 3 * l .loop .i + 2) 0 → ⊥ = λ e. c .if1 .taken (read (c .before .before) ∙ e ∙ sym (c .before .code-at2 .ensures .0)) in
-    kinds-differ (s .code .now) (s .arguments) (s .formals) (s .count) (l .loop .i) (c .before .before .before .loop-test .taken) d ∙ l .loop .inv .1
+    kinds-differ (s .code .now) (s .arguments) (s .formals) (s .count) (l .loop .i) (k .before .before .loop-test .taken)
+    (λ e. c .if1 .taken (read k ∙ e ∙ sym (c .before .code-at2 .ensures .0))) ∙ l .loop .inv .1
 
 loop-again : tie.Need-loop-again Inv-loop μ-loop
 loop-again c =
-    let l = c .before .before .before .before in
+    let k = c .before .before in
+    let l = loopOf k in
     let s = l .before .args in (
       omega arith,
-      kinds-same (s .code .now) (s .arguments) (s .formals) (s .count) (l .loop .i) (c .before .before .before .loop-test .taken)
-          (sym (read (c .before .before)) ∙ c .if1 .left ∙ c .before .code-at2 .ensures .0) ∙ l .loop .inv .1,
+      kinds-same (s .code .now) (s .arguments) (s .formals) (s .count) (l .loop .i) (k .before .before .loop-test .taken)
+          (sym (read k) ∙ c .if1 .left ∙ c .before .code-at2 .ensures .0) ∙ l .loop .inv .1,
     )
 
 returns-2 : tie.Need-returns-2 Inv-loop μ-loop
@@ -54,19 +59,5 @@ returns-2 c =
 
 pub kinds-agree-spec : {M : Type 1} → statement M
 kinds-agree-spec =
-    tie.close
-    (tie.spec
-    Inv-loop
-    μ-loop
-    loop-holds
-    (λ c. search needs)
-    (λ c κs. search needs)
-    (λ c. search needs)
-    (λ c. search needs)
-    (λ c. search needs)
-    (λ c κs. search needs)
-    returns
-    (λ c. search needs)
-    (λ c. search needs)
-    loop-again
-    returns-2)
+    tie.close (tie.spec Inv-loop μ-loop loop-holds (λ c. search needs) (λ c κs. search needs) (λ c κs. search needs) (λ c. search needs)
+    (λ c. search needs) (λ c. search needs) (λ c κs. search needs) returns (λ c. search needs) (λ c. search needs) loop-again returns-2)

@@ -5,8 +5,5 @@ use borrow.Author.Needs.{needs}
 use Rattle.run_words.proofs.word_of.Statement.{statement}
 use Rattle.run_words.proofs.word_of.Tie as tie
 
-returns : tie.Need-returns
-returns c = toZ-pos w32 (c .pre)
-
 pub word-of-spec : {M : Type 1} → statement M
-word-of-spec = tie.close (tie.spec (λ c. search needs) returns)
+word-of-spec = tie.close (tie.spec (λ c. search needs) (λ c. toZ-pos w32 (c .pre)))

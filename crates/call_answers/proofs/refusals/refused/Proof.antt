@@ -22,9 +22,6 @@ returns c =
     let told = c .before .before .verdict .given in
     refused-so (told .0 .0) (told .0 .1 .0) _ _ _ (told .1) (c .refusal-words .ensures)
 
-returns-2 : tie.Need-returns-2
-unfolding refusedWords
-returns-2 c = search needs
-
 pub refused-spec : {M : Type 1} → statement M
-refused-spec = tie.close (tie.spec (λ c. search needs) (λ c κs. search needs) (λ c. search needs) returns returns-2)
+unfolding refusedWords
+refused-spec = tie.close (tie.spec (λ c. search needs) (λ c κs. search needs) (λ c. search needs) returns (λ c. search needs))

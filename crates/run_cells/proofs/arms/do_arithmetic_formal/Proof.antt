@@ -18,10 +18,11 @@ startOf n = firstOf n .before .before
 
 returns : tie.Need-returns
 returns c =
-    let o = c .before .before .before .before in
+    let b = c .before .before .before in
+    let o = b .before in
     let n = o .before in
     let s = startOf n in
-    rw (is-plus (sym (o .code-at .ensures .0) ∙ c .before .before .before .if1 .taken))
+    rw (is-plus (sym (o .code-at .ensures .0) ∙ b .if1 .taken))
     (arithmetic-at (s .args .code .now) (s .args .words .now) (s .args .at) (firstOf n .cell .ensures .0) (secondOf n .cell2 .ensures .0)
     (n .cell3 .ensures .0) plus (c .computed .ensures) (c .before .add .ensures .0) (c .before .add .ensures .1))
 
@@ -47,22 +48,6 @@ returns-3 c =
 
 pub do-arithmetic-formal-spec : {M : Type 1} → statement M
 do-arithmetic-formal-spec =
-    tie.close
-    (tie.spec
-    (λ c. search needs)
-    (λ c κs. search needs)
-    (λ c. search needs)
-    (λ c κs. search needs)
-    (λ c. search needs)
-    (λ c κs. search needs)
-    (λ c. search needs)
-    (λ c κs. search needs)
-    (λ c κs. search needs)
-    (λ c κs. search needs)
-    returns
-    (λ c κs. search needs)
-    (λ c κs. search needs)
-    returns-2
-    (λ c κs. search needs)
-    (λ c. search needs)
-    returns-3)
+    tie.close (tie.spec (λ c. search needs) (λ c κs. search needs) (λ c. search needs) (λ c κs. search needs) (λ c. search needs)
+    (λ c κs. search needs) (λ c. search needs) (λ c κs. search needs) (λ c κs. search needs) (λ c κs. search needs) returns (λ c κs. search needs)
+    (λ c κs. search needs) returns-2 (λ c κs. search needs) (λ c. search needs) returns-3)

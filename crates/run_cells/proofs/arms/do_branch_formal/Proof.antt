@@ -18,43 +18,34 @@ returns c =
 abbrev startOf : tie.Else1 → tie.Start
 startOf b = b .before .before .before
 
-label : (k : tie.After-code-at) {t : Bool} → direct (k .code-at .result) ≡ t → let s = startOf (k .before) in direct (wordBehind (s .args .code .now)
+abbrev testOf : tie.After-formal-of → tie.Else1
+testOf f = f .before .before
+
+label : (f : tie.After-formal-of) {t : Bool} → direct (f .before .code-at .result) ≡ t → let s = startOf (testOf f) in direct (wordBehind (s .args .code .now)
     (s .args .at) 1) ≡ t
-label k e = sym (ap direct (k .code-at .ensures .0)) ∙ e
+label f e = sym (ap direct (f .before .code-at .ensures .0)) ∙ e
 
 returns-2 : tie.Need-returns-2
 returns-2 c =
-    let k = c .before .before in
-    let b = k .before in
+    let f = c .before .before in
+    let b = testOf f in
     let s = startOf b in
     goes-at (s .args .code .now) (s .args .words .now) (s .args .at) (b .before .before .cell .ensures .0) (not-zero _ (b .before .if12 .given) (b .if1 .left))
-    (goto-own (s .args .code .now) (s .args .words .now) (s .args .at) (c .do-goto .ensures) (label k (is-direct (k .code-at .result) (c .before .if2 .taken))))
+    (goto-own (s .args .code .now) (s .args .words .now) (s .args .at) (c .do-goto .ensures) (label f (is-direct _ (sym (f .formal-of .ensures .0) ∙ c .before .if2 .taken))))
 
 do-goto-formal-requires : tie.Need-do-goto-formal-requires
 do-goto-formal-requires c κs =
-    let k = c .before in
-    (omega arith, record { reachable = startOf (k .before) .pre .1; is = label k (is-formal (k .code-at .result) (c .if2 .left)) })
+    let f = c .before in
+    (omega arith, record { reachable = startOf (testOf f) .pre .1; is = label f (is-formal _ (λ e. c .if2 .left (f .formal-of .ensures .0 ∙ e))) })
 
 returns-3 : tie.Need-returns-3
 returns-3 c =
-    let b = c .before .before .before in
+    let b = testOf (c .before .before) in
     let s = startOf b in
     goes-at (s .args .code .now) (s .args .words .now) (s .args .at) (b .before .before .cell .ensures .0) (not-zero _ (b .before .if12 .given) (b .if1 .left))
     (c .do-goto-formal .ensures)
 
 pub do-branch-formal-spec : {M : Type 1} → statement M
 do-branch-formal-spec =
-    tie.close
-    (tie.spec
-    (λ c. search needs)
-    (λ c κs. search needs)
-    (λ c. search needs)
-    (λ c. search needs)
-    (λ c. search needs)
-    returns
-    (λ c. search needs)
-    (λ c κs. search needs)
-    (λ c κs. search needs)
-    returns-2
-    do-goto-formal-requires
-    returns-3)
+    tie.close (tie.spec (λ c. search needs) (λ c κs. search needs) (λ c. search needs) (λ c. search needs) (λ c. search needs) returns
+    (λ c. search needs) (λ c κs. search needs) (λ c κs. search needs) (λ c κs. search needs) returns-2 do-goto-formal-requires returns-3)

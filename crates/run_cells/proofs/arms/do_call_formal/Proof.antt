@@ -1,12 +1,13 @@
 -- `do_call_formal` meets its contract.
-use Prim.Native.Nat.{ℕ, _*_, _/_, _%_, _≤_}
+use Prim.Native.Nat.{ℕ, _*_, _≤_}
 use mathlib.Core.Bool.{Bool}
-use mathlib.Core.Path.{_≡_, sym, ap, _∙_}
+use mathlib.Core.Path.{_≡_, sym, ap, _∙_, subst}
 use native.Mathlib.Omega.{arith}
 use borrow.Author.Tests.{not-true, not-false}
 use lib.ListN.{getD}
 use Rattle.run_moves.specs.Acting.{Finding, Scene, argumentsAgree}
 use Rattle.run_moves.specs.Acting.{sceneBy}
+use Rattle.layout.specs.Layout.{formalsIn, activationIn, cellIn, leadIn}
 use Rattle.run_statements.specs.Doing.{number-differs, number-same, call-refused}
 use Rattle.steps.specs.Finding.{byFirst}
 use Rattle.run_cells.specs.Asking.{wordBehind}
@@ -15,9 +16,6 @@ use Rattle.run_cells.specs.Moves.{call-formal-move}
 use borrow.Author.Needs.{needs}
 use Rattle.run_cells.proofs.arms.do_call_formal.Statement.{statement}
 use Rattle.run_cells.proofs.arms.do_call_formal.Tie as tie
-
-abbrev startOf : tie.After-held → tie.Start
-startOf h = h .before
 
 abbrev scene : tie.Start → Scene
 scene s = sceneBy (s .args .code .now) (s .args .words .now) (s .args .limit) (s .args .live) (s .args .at)
@@ -28,73 +26,74 @@ way s firstOf = byFirst (s .args .words .now) firstOf
 abbrev word : tie.Start → ℕ
 word s = wordBehind (s .args .code .now) (s .args .at) 1
 
-module _ (h : tie.After-held) (firstOf : ℕ → ℕ) (p : startOf h .args .first ≡ firstOf (word (startOf h))) where
-  body-is : h .held .result / 8192 ≡ way (startOf h) firstOf .target (word (startOf h))
-  body-is = let s = startOf h in target-held (s .args .words .now) firstOf (word s) p (s .pre .1 .is) (h .held .ensures .0)
+-- the places: the arguments counted, the body found, and the start
+abbrev countOf : tie.After-formals-of → tie.After-code-at
+countOf m = m .before .before
 
-  home-is : h .held .result % 8192 / 32 ≡ way (startOf h) firstOf .home (word (startOf h))
-  home-is = let s = startOf h in home-held (s .args .words .now) firstOf (word s) p (s .pre .1 .is) (h .held .ensures .0)
+abbrev leadOf : tie.After-formals-of → tie.After-lead-of
+leadOf m = countOf m .before
+
+abbrev startOf : tie.After-lead-of → tie.Start
+startOf b = b .before .before
+
+module _ (b : tie.After-lead-of) (firstOf : ℕ → ℕ) (p : startOf b .args .first ≡ firstOf (word (startOf b))) where
+  body-is : b .lead-of .result ≡ way (startOf b) firstOf .target (word (startOf b))
+  body-is = let s = startOf b in target-held (s .args .words .now) firstOf (word s) p (s .pre .1 .is) (b .before .held .ensures .0) (b .lead-of .ensures)
+
+  home-is : {cell home : ℕ} → cell ≡ cellIn (b .before .held .result) → home ≡ activationIn cell → home ≡ way (startOf b) firstOf .home (word (startOf b))
+  home-is = let s = startOf b in home-held (s .args .words .now) firstOf (word s) p (s .pre .1 .is) (b .before .held .ensures .0)
+
+-- how many formals the body has
+read : (m : tie.After-formals-of) → let b = leadOf m in m .formals-of .result ≡ formalsIn (getD (startOf b .args .code .now) (b .lead-of .result) 0)
+read m = m .formals-of .ensures .0 ∙ ap formalsIn (m .before .code-at2 .ensures .0)
+
+formals : (b : tie.After-lead-of) → 3 * formalsIn (getD (startOf b .args .code .now) (b .lead-of .result) 0) ≤ b .lead-of .result
+formals b =
+    let s = startOf b in
+    subst (λ (n : ℕ). 3 * formalsIn (getD (s .args .code .now) n 0) ≤ n) (sym (b .lead-of .ensures ∙ ap leadIn (b .before .held .ensures .0))) (s .pre .2 .before)
 
 returns : tie.Need-returns
 returns c =
     λ firstOf p.
-    let n = c .before .before in
-    let h = n .before in
-    let s = startOf h in
-    call-refused (way s firstOf) (scene s) (body-is h firstOf p)
-    (number-differs (way s firstOf) (scene s) (h .held .result / 8192)
-    (λ e. c .if1 .taken (ap (λ (x : ℕ). x / 65536 % 256) (c .before .code-at2 .ensures .0) ∙ e ∙ sym (n .code-at .ensures .0)))) .0
-
-formals : (c : tie.After-code-at2) → 3 * (c .code-at2 .result / 65536 % 256) ≤ c .before .before .held .result / 8192
-formals c = let h = c .before .before in rw (c .code-at2 .ensures .0, h .held .ensures .0) (startOf h .pre .2 .before)
-
-same-number : (c : tie.Else1) → let h = c .before .before .before in let s = startOf h in getD (s .args .code .now) (h .held .result / 8192)
-    0 / 65536 % 256 ≡ wordBehind (s .args .code .now) (s .args .at) 2
-same-number c = sym (ap (λ (x : ℕ). x / 65536 % 256) (c .before .code-at2 .ensures .0)) ∙ c .if1 .left ∙ c .before .before .code-at .ensures .0
+    let m = c .before in
+    let b = leadOf m in
+    let s = startOf b in
+    call-refused (way s firstOf) (scene s) (body-is b firstOf p)
+    (number-differs (way s firstOf) (scene s) (b .lead-of .result) (λ e. c .if1 .taken (read m ∙ e ∙ sym (countOf m .code-at .ensures .0)))) .0
 
 agrees :
-    (c : tie.After-kinds-agree) {t : Bool} → c .kinds-agree .result ≡ t → (firstOf : ℕ → ℕ) → let h = c .before .before .before .before in
-    let s = startOf h in argumentsAgree (way s firstOf) (scene s) (h .held .result / 8192) ≡ t
-agrees c e firstOf =
-    let n = c .before .before .before in
-    let h = n .before in
-    let s = startOf h in
-    number-same (way s firstOf) (scene s) (h .held .result / 8192) (same-number (c .before)) ∙ sym
-    (rw (n .code-at .ensures .0) at (c .kinds-agree .ensures)) ∙ e
+    (k : tie.After-kinds-agree) {t : Bool} → k .kinds-agree .result ≡ t → (firstOf : ℕ → ℕ) → let b = leadOf (k .before .before) in
+    let s = startOf b in argumentsAgree (way s firstOf) (scene s) (b .lead-of .result) ≡ t
+agrees k e firstOf =
+    let m = k .before .before in
+    let n = countOf m .code-at .ensures .0 in
+    let s = startOf (leadOf m) in
+    number-same (way s firstOf) (scene s) (leadOf m .lead-of .result) (sym (read m) ∙ k .before .if1 .left ∙ n) ∙ sym (rw n at (k .kinds-agree .ensures)) ∙ e
 
 sub-kinds-agree : tie.Need-sub-kinds-agree
-sub-kinds-agree c = omega (arith, formals (c .before), c .if1 .left)
+sub-kinds-agree c = let m = c .before in omega (arith, formals (leadOf m), read m, c .if1 .left)
 
 returns-2 : tie.Need-returns-2
 returns-2 c =
     λ firstOf p.
-    let h = c .before .before .before .before .before in
-    let s = startOf h in
-    call-refused (way s firstOf) (scene s) (body-is h firstOf p) (agrees (c .before) (not-true _ (c .if2 .taken)) firstOf) .0
+    let k = c .before in
+    let b = leadOf (k .before .before) in
+    let s = startOf b in
+    call-refused (way s firstOf) (scene s) (body-is b firstOf p) (agrees k (not-true _ (c .if2 .taken)) firstOf) .0
 
 returns-3 : tie.Need-returns-3
 returns-3 c =
     λ firstOf p.
-    let k = c .before .before in
-    let h = k .before .before .before .before in
-    let s = startOf h in
-    call-formal-move (way s firstOf) (scene s) (home-is h firstOf p) (body-is h firstOf p) (agrees k (not-false _ (c .before .if2 .left)) firstOf)
-    (c .enter-body .ensures)
+    let a = c .before in
+    let l = a .before in
+    let k = l .before .before in
+    let b = leadOf (k .before .before) in
+    let s = startOf b in
+    call-formal-move (way s firstOf) (scene s) (home-is b firstOf p (l .cell-of .ensures .0) (a .activation-of .ensures)) (body-is b firstOf p)
+    (agrees k (not-false _ (l .before .if2 .left)) firstOf) (c .enter-body .ensures)
 
 pub do-call-formal-spec : {M : Type 1} → statement M
 do-call-formal-spec =
-    tie.close
-    (tie.spec
-    (λ c. search needs)
-    (λ c κs. search needs)
-    (λ c. search needs)
-    (λ c κs. search needs)
-    (λ c κs. search needs)
-    returns
-    (λ c. search needs)
-    (λ c. search needs)
-    sub-kinds-agree
-    (λ c κs. search needs)
-    returns-2
-    (λ c κs. search needs)
-    returns-3)
+    tie.close (tie.spec (λ c. search needs) (λ c κs. search needs) (λ c κs. search needs) (λ c. search needs) (λ c κs. search needs)
+    (λ c κs. search needs) (λ c κs. search needs) returns (λ c. search needs) (λ c. search needs) sub-kinds-agree (λ c κs. search needs) returns-2
+    (λ c κs. search needs) (λ c κs. search needs) (λ c κs. search needs) returns-3)

@@ -4,10 +4,5 @@ use borrow.Author.Needs.{needs}
 use Rattle.run_cells.proofs.arms.do_goto_formal.Statement.{statement}
 use Rattle.run_cells.proofs.arms.do_goto_formal.Tie as tie
 
-returns : tie.Need-returns
-returns c =
-    let s = c .before in
-    goto-held (s .args .code .now) (s .args .words .now) (s .args .at) (c .held .ensures .0) (s .pre .1 .is)
-
 pub do-goto-formal-spec : {M : Type 1} → statement M
-do-goto-formal-spec = tie.close (tie.spec (λ c. search needs) (λ c κs. search needs) returns)
+do-goto-formal-spec = tie.close (tie.spec (λ c. search needs) (λ c κs. search needs) (λ c κs. search needs) (λ c κs. search needs) (λ c κs. search needs) (λ c. search (needs, goto-held)))

@@ -18,4 +18,6 @@ returns c =
     (cell-by ws firstOf (name 2) q (c .before .cell2 .ensures .0)) (cell-by ws firstOf (name 3) u (c .cell3 .ensures .0))
 
 pub do-query-spec : {M : Type 1} → statement M
-do-query-spec = tie.close (tie.spec (λ c. search needs) (λ c κs. search needs) (λ c. search needs) (λ c κs. search needs) (λ c. search needs) (λ c κs. search needs) (λ c. search needs) returns)
+do-query-spec =
+    tie.close (tie.spec (λ c. search needs) (λ c κs. search needs) (λ c. search needs) (λ c κs. search needs) (λ c. search needs)
+    (λ c κs. search needs) (λ c. search needs) returns)

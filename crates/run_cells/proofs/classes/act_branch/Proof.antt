@@ -1,14 +1,13 @@
 -- `act_branch` meets its contract.
-use Prim.Native.Nat.{ℕ, _%_}
-use mathlib.Core.Path.{_≡_, sym, ap, _∙_, subst}
+use Prim.Native.Nat.{ℕ}
+use mathlib.Core.Path.{_≡_, subst}
 use lib.ListN.{getD}
-use Rattle.run_moves.specs.Acting.{Finding, Scene, sceneBy, Op, constant-op, branch-op, branch-formal-op}
+use Rattle.run_moves.specs.Acting.{Finding, Scene, sceneBy, Op, branch-op, branch-formal-op}
 use Rattle.run_moves.specs.Acting.{operations, opOf, happens}
-use Rattle.run_statements.specs.Numbers.{op-of}
 use Rattle.steps.specs.Finding.{byFirst}
-use Rattle.run_cells.specs.Asking.{Ready, Leads, classOf}
+use Rattle.run_cells.specs.Asking.{Ready, Leads}
 use Rattle.run_cells.specs.Moves.{did, branch-did}
-use Rattle.run_cells.specs.Classes.{branch-left}
+use Rattle.run_cells.specs.Classes.{numbered, op-at, branch-left}
 use borrow.Author.Needs.{needs}
 use Rattle.run_cells.proofs.classes.act_branch.Statement.{statement}
 use Rattle.run_cells.proofs.classes.act_branch.Tie as tie
@@ -29,14 +28,14 @@ abbrev ReadyFor : tie.Start → Op → Type 0
 ReadyFor s p = Ready (s .args .code .now) (s .args .words .now) 0 0 (s .args .at) (s .args .first) (s .args .second) 0 p
 
 -- the operation at the place
-read : (k : tie.After-code-at) → opOf (k .code-at .result) ≡ opAt (k .before)
-read k = ap opOf (k .code-at .ensures .0)
+abbrev startOf : tie.After-operation-of → tie.Start
+startOf o = o .before .before
 
-op : (k : tie.After-code-at) (n : ℕ) → k .code-at .result % 16 ≡ n → opAt (k .before) ≡ getD operations n constant-op
-op k n e = sym (read k) ∙ op-of (k .code-at .result) n e
+op : (o : tie.After-operation-of) (n : ℕ) → o .operation-of .result ≡ n → opAt (startOf o) ≡ numbered n
+op o = op-at (o .before .code-at .ensures .0) (o .operation-of .ensures .0)
 
-other : (c : tie.At-match-rest) → c .before .code-at .result % 16 ≡ 13
-other c = branch-left (c .before .code-at .result) (ap classOf (read (c .before)) ∙ c .before .before .pre .1) (c .match .rest)
+other : (c : tie.At-match-rest) → opAt (startOf (c .before)) ≡ branch-formal-op
+other c = let o = c .before in branch-left (o .before .code-at .ensures .0) (o .operation-of .ensures .0) (startOf o .pre .1) (c .match .rest)
 
 ready : (s : tie.Start) (p : Op) → opAt s ≡ p → ReadyFor s p
 ready s p e = subst (λ (x : Op). ReadyFor s x) e (s .pre .2)
@@ -46,18 +45,18 @@ leads s p e firstOf l = subst (λ (x : Op). Found s firstOf x) e l
 
 do-branch-requires : tie.Need-do-branch-requires
 unfolding operations
-do-branch-requires c κs = ready (c .before .before) branch-op (op (c .before) 4 (c .match .keys1))
+do-branch-requires c κs = ready (startOf (c .before)) branch-op (op (c .before) 4 (c .match .keys1))
 
 do-branch-formal-requires : tie.Need-do-branch-formal-requires
 unfolding operations
-do-branch-formal-requires c κs = ready (c .before .before) branch-formal-op (op (c .before) 13 (other c))
+do-branch-formal-requires c κs = ready (startOf (c .before)) branch-formal-op (other c)
 
 returns : tie.Need-returns
 unfolding operations happens
 returns c =
     λ firstOf limit live l.
     let m = c .before in
-    let s = m .before .before in
+    let s = startOf (m .before) in
     let e = op (m .before) 4 (m .match .keys1) in
     let g = leads s branch-op e firstOf l in
     did (way s firstOf) (scene s limit live) branch-op e
@@ -68,11 +67,11 @@ unfolding operations happens
 returns-2 c =
     λ firstOf limit live l.
     let m = c .before in
-    let s = m .before .before in
-    let e = op (m .before) 13 (other m) in
+    let s = startOf (m .before) in
+    let e = other m in
     let g = leads s branch-formal-op e firstOf l in
     did (way s firstOf) (scene s limit live) branch-formal-op e
     (branch-did (way s firstOf) (scene s limit live) (c .do-branch-formal .ensures firstOf (g .0) (g .1)))
 
 pub act-branch-spec : {M : Type 1} → statement M
-act-branch-spec = tie.close (tie.spec (λ c κs. search needs) do-branch-requires do-branch-formal-requires returns returns-2)
+act-branch-spec = tie.close (tie.spec (λ c κs. search needs) (λ c κs. search needs) do-branch-requires do-branch-formal-requires returns returns-2)

@@ -1,15 +1,14 @@
 -- `act_pair` meets its contract.
-use Prim.Native.Nat.{ℕ, _%_}
-use mathlib.Core.Path.{_≡_, sym, ap, _∙_, subst}
+use Prim.Native.Nat.{ℕ}
+use mathlib.Core.Path.{_≡_, subst}
 use lib.ListN.{getD}
 use Rattle.run_moves.specs.declared.Ask.the-variants.{Add, Remove}
-use Rattle.run_moves.specs.Acting.{Finding, Scene, sceneBy, Op, constant-op, pair-op, unpair-op}
+use Rattle.run_moves.specs.Acting.{Finding, Scene, sceneBy, Op, pair-op, unpair-op}
 use Rattle.run_moves.specs.Acting.{operations, opOf, happens}
-use Rattle.run_statements.specs.Numbers.{op-of}
 use Rattle.steps.specs.Finding.{byFirst}
-use Rattle.run_cells.specs.Asking.{Ready, Leads, classOf}
+use Rattle.run_cells.specs.Asking.{Ready, Leads}
 use Rattle.run_cells.specs.Moves.{did, change-did}
-use Rattle.run_cells.specs.Classes.{unpair-left}
+use Rattle.run_cells.specs.Classes.{numbered, op-at, unpair-left}
 use borrow.Author.Needs.{needs}
 use Rattle.run_cells.proofs.classes.act_pair.Statement.{statement}
 use Rattle.run_cells.proofs.classes.act_pair.Tie as tie
@@ -30,14 +29,14 @@ abbrev ReadyFor : tie.Start → Op → Type 0
 ReadyFor s p = Ready (s .args .code .now) (s .args .words .now) 0 0 (s .args .at) (s .args .first) (s .args .second) 0 p
 
 -- the operation at the place
-read : (k : tie.After-code-at) → opOf (k .code-at .result) ≡ opAt (k .before)
-read k = ap opOf (k .code-at .ensures .0)
+abbrev startOf : tie.After-operation-of → tie.Start
+startOf o = o .before .before
 
-op : (k : tie.After-code-at) (n : ℕ) → k .code-at .result % 16 ≡ n → opAt (k .before) ≡ getD operations n constant-op
-op k n e = sym (read k) ∙ op-of (k .code-at .result) n e
+op : (o : tie.After-operation-of) (n : ℕ) → o .operation-of .result ≡ n → opAt (startOf o) ≡ numbered n
+op o = op-at (o .before .code-at .ensures .0) (o .operation-of .ensures .0)
 
-other : (c : tie.At-match-rest) → c .before .code-at .result % 16 ≡ 9
-other c = unpair-left (c .before .code-at .result) (ap classOf (read (c .before)) ∙ c .before .before .pre .1) (c .match .rest)
+other : (c : tie.At-match-rest) → opAt (startOf (c .before)) ≡ unpair-op
+other c = let o = c .before in unpair-left (o .before .code-at .ensures .0) (o .operation-of .ensures .0) (startOf o .pre .1) (c .match .rest)
 
 ready : (s : tie.Start) (p : Op) → opAt s ≡ p → ReadyFor s p
 ready s p e = subst (λ (x : Op). ReadyFor s x) e (s .pre .2)
@@ -47,18 +46,18 @@ leads s p e firstOf l = subst (λ (x : Op). Found s firstOf x) e l
 
 do-change-requires : tie.Need-do-change-requires
 unfolding operations
-do-change-requires c κs = ready (c .before .before) pair-op (op (c .before) 8 (c .match .keys1))
+do-change-requires c κs = ready (startOf (c .before)) pair-op (op (c .before) 8 (c .match .keys1))
 
 do-change-requires-2 : tie.Need-do-change-requires-2
 unfolding operations
-do-change-requires-2 c κs = ready (c .before .before) unpair-op (op (c .before) 9 (other c))
+do-change-requires-2 c κs = ready (startOf (c .before)) unpair-op (other c)
 
 returns : tie.Need-returns
 unfolding operations happens
 returns c =
     λ firstOf limit live l.
     let m = c .before in
-    let s = m .before .before in
+    let s = startOf (m .before) in
     let e = op (m .before) 8 (m .match .keys1) in
     let g = leads s pair-op e firstOf l in
     did (way s firstOf) (scene s limit live) pair-op e (change-did (way s firstOf) (scene s limit live) Add (c .do-change .ensures firstOf (g .0) (g .1)))
@@ -68,10 +67,10 @@ unfolding operations happens
 returns-2 c =
     λ firstOf limit live l.
     let m = c .before in
-    let s = m .before .before in
-    let e = op (m .before) 9 (other m) in
+    let s = startOf (m .before) in
+    let e = other m in
     let g = leads s unpair-op e firstOf l in
     did (way s firstOf) (scene s limit live) unpair-op e (change-did (way s firstOf) (scene s limit live) Remove (c .do-change2 .ensures firstOf (g .0) (g .1)))
 
 pub act-pair-spec : {M : Type 1} → statement M
-act-pair-spec = tie.close (tie.spec (λ c κs. search needs) do-change-requires do-change-requires-2 returns returns-2)
+act-pair-spec = tie.close (tie.spec (λ c κs. search needs) (λ c κs. search needs) do-change-requires do-change-requires-2 returns returns-2)

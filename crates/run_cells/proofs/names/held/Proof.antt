@@ -18,5 +18,4 @@ returns c =
     (sym (held-is (a .words .now) (a .first) (getD (a .code .now) (a .place) 0) e), c .whole .ensures .1)
 
 pub held-spec : {M : Type 1} → statement M
-held-spec =
-    tie.close (tie.spec (λ c κs. search needs) (λ c. search needs) (λ c. search needs) whole-requires returns)
+held-spec = tie.close (tie.spec (λ c κs. search needs) (λ c. search needs) (λ c. search needs) whole-requires returns)
