@@ -21,7 +21,8 @@ use Rattle.coordinates.specs.Chain.{enclosing, outline, SameOutlines}
 use Rattle.coordinates.specs.Along.{alike-none, alike-some}
 use Rattle.coordinates.specs.Statement.{declared-alike}
 use Rattle.coordinates.specs.Designated.{Designated}
-use Rattle.resolved.specs.Resolved.{declTarget}
+use Rattle.resolved.specs.Resolved.{declTarget, positionIn}
+use Rattle.resolved.specs.Layout.{activationIn, heldFrom, cellIn, leadIn}
 use Rattle.arrays.specs.Holds.{cellOf, designatorOf, targetOf, formalWord}
 
 pub record Celled (x : ℕ) : Type 0 where
@@ -73,13 +74,13 @@ module _ (x : ℕ) (c : Celled x) where
   unfolding designatorOf
   designator-of-cell = omega (arith, cell-sum x c)
 
-  pub cell-activation : cellOf x / 32 ≡ pred (frameNumber x)
+  pub cell-activation : activationIn (cellOf x) ≡ pred (frameNumber x)
   unfolding frameNumber
   cell-activation =
       let e : cellOf x / 32 ≡ pred (x / 64) = omega (arith, cell-sum x c) in
       e
 
-  pub cell-place : cellOf x % 32 ≡ place x
+  pub cell-place : positionIn (cellOf x) ≡ place x
   unfolding place
   cell-place =
       let e : cellOf x % 32 ≡ pred (x % 64) = omega (arith, cell-sum x c) in
@@ -91,11 +92,11 @@ cell-injective x y p q e = sym (designator-of-cell x p) ∙ ap designatorOf e �
 -- a formal's word
 
 module _ (fs : List Frame) (x : ℕ) (c : Celled x) where
-  pub word-cell : formalWord fs x % 8192 ≡ cellOf x
+  pub word-cell : cellIn (formalWord fs x) ≡ cellOf x
   unfolding formalWord
   word-cell = omega (arith, cell-bound x c)
 
-  pub word-target : formalWord fs x / 8192 ≡ targetOf fs x
+  pub word-target : leadIn (formalWord fs x) ≡ targetOf fs x
   unfolding formalWord
   word-target = omega (arith, cell-bound x c)
 
@@ -129,4 +130,4 @@ module _ (fs gs : List Frame) (b : ℕ) (a : SameOutlines b fs gs) (x : ℕ) (h 
 
   pub word-alike : formalWord gs x ≡ formalWord fs x
   unfolding formalWord
-  word-alike = ap (λ (t : ℕ). cellOf x + 8192 * t) target-alike
+  word-alike = ap (heldFrom (cellOf x)) target-alike

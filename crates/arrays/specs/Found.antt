@@ -19,6 +19,7 @@ use Rattle.coordinates.specs.Enclosure.{Coordinate, coordinateOf}
 use Rattle.coordinates.specs.Chain.{enclosureOf, levelOf}
 use Rattle.coordinates.specs.Sound.{Sound}
 use Rattle.resolved.specs.Resolved.{positionIn, formalIn, levelIn, targetIn, nameWord, direct}
+use Rattle.resolved.specs.Layout.{activationIn, heldFrom, cellIn, leadIn}
 use Rattle.arrays.specs.Holds.{cellOf, targetOf, formalWord, Holds, Shows}
 use Rattle.arrays.specs.Cells.{Celled, points-celled, cell-activation, word-cell, word-target}
 use Rattle.arrays.specs.Names.{NameAt, handed-word, follow, named-points, named-by-display, named-by-links}
@@ -28,17 +29,17 @@ unfoldable pub heldBy : List ℤ → ℕ → ℕ → ℕ
 heldBy words first w = designatorIn (getD words (first + positionIn w) (pos 0))
 
 unfoldable pub cellBy : List ℤ → ℕ → ℕ → ℕ
-cellBy words first w = elim (direct w) [ true ↦ first + positionIn w | false ↦ heldBy words first w % 8192 ]
+cellBy words first w = elim (direct w) [ true ↦ first + positionIn w | false ↦ cellIn (heldBy words first w) ]
 
 unfoldable pub homeBy : List ℤ → ℕ → ℕ → ℕ
-homeBy words first w = elim (direct w) [ true ↦ first / 32 | false ↦ heldBy words first w % 8192 / 32 ]
+homeBy words first w = elim (direct w) [ true ↦ activationIn first | false ↦ activationIn (cellIn (heldBy words first w)) ]
 
 unfoldable pub targetBy : List ℤ → ℕ → ℕ → ℕ
-targetBy words first w = elim (direct w) [ true ↦ targetIn w | false ↦ heldBy words first w / 8192 ]
+targetBy words first w = elim (direct w) [ true ↦ targetIn w | false ↦ leadIn (heldBy words first w) ]
 
 unfoldable pub handedBy : List ℤ → ℕ → ℕ → ℤ
 handedBy words first w =
-    elim (direct w) [ true ↦ pos (first + positionIn w + 8192 * targetIn w) | false ↦ getD words (first + positionIn w) (pos 0) ]
+    elim (direct w) [ true ↦ pos (heldFrom (first + positionIn w) (targetIn w)) | false ↦ getD words (first + positionIn w) (pos 0) ]
 
 pub record Finds (fs : List Frame) (words : List ℤ) (n w first : ℕ) : Type 0 where
   pub cell : cellBy words first w ≡ cellOf (designates fs n)
@@ -64,7 +65,7 @@ module _ (fs : List Frame) (words : List ℤ) (n w first : ℕ) (at : NameAt fs 
   pub own-cell-bound : first + positionIn w < 32 * length fs
   own-cell-bound = omega (arith, at .within)
 
-  home-direct : formalIn w ≡ 0 → first / 32 ≡ pred (frameNumber (designates fs n))
+  home-direct : formalIn w ≡ 0 → activationIn first ≡ pred (frameNumber (designates fs n))
   home-direct z =
       let e : first / 32 ≡ cellOf (designates fs n) / 32 = omega (arith, at .direct-cell z, at .whole) in
       e ∙ cell-activation (designates fs n) c
@@ -73,8 +74,8 @@ module _ (fs : List Frame) (words : List ℤ) (n w first : ℕ) (at : NameAt fs 
   unfolding heldBy designatorIn
   held-is z = ap designatorIn (at .formal-word z)
 
-  cell-formal : formalIn w ≡ 1 → heldBy words first w % 8192 ≡ cellOf (designates fs n)
-  cell-formal z = ap (λ v. v % 8192) (held-is z) ∙ word-cell fs (designates fs n) c
+  cell-formal : formalIn w ≡ 1 → cellIn (heldBy words first w) ≡ cellOf (designates fs n)
+  cell-formal z = ap cellIn (held-is z) ∙ word-cell fs (designates fs n) c
 
   found : (b : Bool) → direct w ≡ b → Finds fs words n w first
   unfolding cellBy homeBy targetBy handedBy
@@ -90,8 +91,8 @@ module _ (fs : List Frame) (words : List ℤ) (n w first : ℕ) (at : NameAt fs 
       let z = formal-is w e in
       record {
         cell = rw (cellBy, e) (cell-formal z);
-        home = rw (homeBy, e) (ap (λ v. v / 32) (cell-formal z) ∙ cell-activation (designates fs n) c);
-        target = rw (targetBy, e) (ap (λ v. v / 8192) (held-is z) ∙ word-target fs (designates fs n) c);
+        home = rw (homeBy, e) (ap activationIn (cell-formal z) ∙ cell-activation (designates fs n) c);
+        target = rw (targetBy, e) (ap leadIn (held-is z) ∙ word-target fs (designates fs n) c);
         handed = rw (handedBy, e) (at .formal-word z);
       }
 

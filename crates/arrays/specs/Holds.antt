@@ -10,15 +10,16 @@ use lib.ListN.{length, getD, getElem?}
 use Rattle.language.specs.Text.{blockAt}
 use Rattle.frames.specs.Frame.{Frame, numbered, designatorIn, frameNumber, place, declOf}
 use Rattle.coordinates.specs.Chain.{displayOf}
-use Rattle.resolved.specs.Resolved.{placeOf, stmtPlace, declTarget}
+use Rattle.resolved.specs.Resolved.{placeOf, stmtPlace, declTarget, positionIn}
+use Rattle.resolved.specs.Layout.{cellFrom, activationIn, heldFrom}
 
 -- the cell of a declared name's word, by its designator
 unfoldable pub cellOf : ℕ → ℕ
-cellOf x = 32 * pred (frameNumber x) + place x
+cellOf x = cellFrom (pred (frameNumber x)) (place x)
 
 -- the designator of a cell
 unfoldable pub designatorOf : ℕ → ℕ
-designatorOf c = 64 * (c / 32 + 1) + (c % 32 + 1)
+designatorOf c = 64 * (activationIn c + 1) + (positionIn c + 1)
 
 -- what a declared name leads to, by its designator
 unfoldable pub targetOf : List Frame → ℕ → ℕ
@@ -27,7 +28,7 @@ targetOf fs x =
 
 -- a formal's word, by the designator that it holds in the frame machine
 unfoldable pub formalWord : List Frame → ℕ → ℕ
-formalWord fs x = cellOf x + 8192 * targetOf fs x
+formalWord fs x = heldFrom (cellOf x) (targetOf fs x)
 
 -- activation k holds the frame f of the stack fs
 pub record HoldsFrame (fs : List Frame) (words : List ℤ) (block next link k : ℕ) (f : Frame) : Type 0 where

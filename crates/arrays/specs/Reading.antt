@@ -20,10 +20,11 @@ use Rattle.coordinates.specs.Chain.{enclosing, enclosureOf, levelOf, Chained}
 use Rattle.coordinates.specs.Search.{enclosure-step}
 use Rattle.coordinates.specs.Kept.{chained-downward}
 use Rattle.coordinates.specs.Levels.{frame-encloses}
-use Rattle.resolved.specs.Resolved.{placeOf, endPlace, stmtPlace, nameWord, resolvedOf, resolvedAction, resolvedBlock, Covers}
+use Rattle.resolved.specs.Resolved.{placeOf, endPlace, stmtPlace, nameWord, resolvedOf, resolvedAction, resolvedBlock, Covers, levelIn}
 use Rattle.resolved.specs.Places.{place-bound, enclosed-next, enclosed-after-block, enclosed-before-end}
 use Rattle.resolved.specs.Standing.{stmt-covered, action-covered, head-stands, bounds-stands, looked-up-stands}
 use Rattle.resolved.specs.Words.{head-level, head-formals, head-names, bounds-end}
+use Rattle.resolved.specs.Layout.{formalsIn, namesIn, endIn}
 use Rattle.arrays.specs.Holds.{Holds}
 use Rattle.arrays.specs.Names.{frame-level}
 
@@ -55,26 +56,26 @@ module _ (code : List ℕ) (name : ℕ) (t : Block) (keeps : Keeps t) (covered :
   block-is : getD blocks k 0 ≡ placeOf (blockAt (f .text))
   block-is = (holds k f e) .block-is
 
-  pub level-read : getD code (getD blocks k 0) 0 / 256 % 256 ≡ levelOf fs (suc k)
+  pub level-read : levelIn (getD code (getD blocks k 0) 0) ≡ levelOf fs (suc k)
   unfolding enclosing around
   level-read =
-      ap (λ p. getD code p 0 / 256 % 256) block-is ∙ ap (λ v. v / 256 % 256) (head-stands code name t keeps covered (enclosing f) around within) ∙ head-level t keeps (enclosing f) around within
+      ap (λ p. levelIn (getD code p 0)) block-is ∙ ap levelIn (head-stands code name t keeps covered (enclosing f) around within) ∙ head-level t keeps (enclosing f) around within
       ∙ sym (frame-level fs (chained-downward t fs chain) (suc k) f stands)
 
-  pub formals-read : getD code (getD blocks k 0) 0 / 65536 % 256 ≡ length (f .formals)
+  pub formals-read : formalsIn (getD code (getD blocks k 0) 0) ≡ length (f .formals)
   unfolding enclosing
   formals-read =
-      ap (λ p. getD code p 0 / 65536 % 256) block-is ∙ ap (λ v. v / 65536 % 256) (head-stands code name t keeps covered (enclosing f) around within) ∙ head-formals t keeps (enclosing f) around within
+      ap (λ p. formalsIn (getD code p 0)) block-is ∙ ap formalsIn (head-stands code name t keeps covered (enclosing f) around within) ∙ head-formals t keeps (enclosing f) around within
 
-  pub names-read : getD code (getD blocks k 0) 0 / 16777216 ≡ length (f .formals) + length (blockDecls (f .text))
+  pub names-read : namesIn (getD code (getD blocks k 0) 0) ≡ length (f .formals) + length (blockDecls (f .text))
   unfolding enclosing
   names-read =
-      ap (λ p. getD code p 0 / 16777216) block-is ∙ ap (λ v. v / 16777216) (head-stands code name t keeps covered (enclosing f) around within) ∙ head-names t keeps (enclosing f) around within
+      ap (λ p. namesIn (getD code p 0)) block-is ∙ ap namesIn (head-stands code name t keeps covered (enclosing f) around within) ∙ head-names t keeps (enclosing f) around within
 
-  pub end-read : getD code (getD blocks k 0 + 1) 0 % 65536 ≡ endPlace (f .text)
+  pub end-read : endIn (getD code (getD blocks k 0 + 1) 0) ≡ endPlace (f .text)
   unfolding enclosing
   end-read =
-      ap (λ p. getD code (p + 1) 0 % 65536) block-is ∙ ap (λ v. v % 65536) (bounds-stands code name t keeps covered (enclosing f) around within) ∙ bounds-end t keeps (enclosing f) around within
+      ap (λ p. endIn (getD code (p + 1) 0)) block-is ∙ ap endIn (bounds-stands code name t keeps covered (enclosing f) around within) ∙ bounds-end t keeps (enclosing f) around within
 
   pub looked-up-read : getD code (getD blocks k 0 + 2) 0 ≡ nameWord (enclosureOf fs (suc k)) name
   unfolding enclosing

@@ -2,7 +2,7 @@
 ghost use mathlib.Core.Path.{_≡_};
 ghost use Prim.Native.Nat.{_*_, _^_, _<_, _≤_};
 ghost use Rattle.resolved.specs.Resolved.{packed, positionIn, formalIn, kindIn, levelIn, targetIn};
-ghost use Rattle.layout.specs.Layout.{operationIn, formalsIn, namesIn, endIn, firstIn, headFrom, boundsFrom, cellFrom, activationIn, heldFrom, cellIn, leadIn};
+ghost use Rattle.resolved.specs.Layout.{operationIn, formalsIn, namesIn, endIn, firstIn, headFrom, boundsFrom, cellFrom, activationIn, heldFrom, cellIn, leadIn};
 
 // The operations of statements that have no formal among their names, then those of statements that have one. AD, RM and QY have one each.
 pub const CONSTANT: usize = 0;

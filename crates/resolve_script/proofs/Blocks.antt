@@ -14,7 +14,7 @@ use Rattle.resolved.specs.Lengths.{formals-length, formals-fields}
 use Rattle.laws.specs.Fields.{fieldAt}
 use Rattle.check_symbols.specs.Chains.{Chained, Rechained}
 use Rattle.check_symbols.proofs.Chains.{kept-from, chained-still}
-use Rattle.layout.specs.Layout.{headFrom, boundsFrom}
+use Rattle.resolved.specs.Layout.{headFrom, boundsFrom}
 use Rattle.check_extents.specs.Items.{itemsFields, inBlock, declared, stated}
 use Rattle.check_scope.specs.Walking.{BlockHere, Ready, Kept}
 use Rattle.check_scope.proofs.Marked.{block-mark}

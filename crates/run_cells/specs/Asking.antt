@@ -15,7 +15,7 @@ use Rattle.run_moves.specs.declared.Move.the-variants.{On, Table as Asks, Jump,
 use Rattle.run_moves.specs.Acting.{Happened}
 use Rattle.run_moves.specs.Acting.{Op, constant-op, add-op, subtract-op, compare-op, branch-op, goto-op, block-op, call-op, pair-op, unpair-op, query-op}
 use Rattle.run_moves.specs.Acting.{constant-formal-op, arithmetic-formal-op, branch-formal-op, goto-formal-op, call-formal-op}
-use Rattle.layout.specs.Layout.{leadIn}
+use Rattle.resolved.specs.Layout.{leadIn}
 use Rattle.run_statements.specs.Pieces.{FormalsBefore}
 use Rattle.run_cells.specs.Finding.{Reachable, Direct, ThroughFormal}
 

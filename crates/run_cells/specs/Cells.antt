@@ -18,7 +18,7 @@ use Rattle.run_moves.specs.declared.Move.{Move}
 use Rattle.run_moves.specs.declared.Move.the-variants.{On, Jump}
 use Rattle.run_moves.specs.Effects.{effectOf, wordsOf}
 use Rattle.run_moves.specs.Acting.{Scene, doConstant, doArithmetic, doGoto, doBranch}
-use Rattle.layout.specs.Layout.{activationIn, cellIn, leadIn}
+use Rattle.resolved.specs.Layout.{activationIn, cellIn, leadIn}
 use Rattle.run_statements.specs.Pieces.{only-words, moveAfter}
 use Rattle.run_statements.specs.Words.{cell-formal, home-direct, target-direct, home-formal, target-formal}
 use Rattle.run_statements.specs.Doing.{direct-cell, constant-done, arithmetic-done, compare-done, goto-done, branch-not, branch-goes}

@@ -10,7 +10,7 @@ use lib.ListN.{getD}
 use Rattle.language.specs.Basics.{among}
 use Rattle.laws.specs.Tests.{split, both}
 use Rattle.run_moves.specs.Acting.{Op, constant-op, unpair-op, branch-formal-op, call-formal-op, operations, opOf}
-use Rattle.layout.specs.Layout.{operationIn}
+use Rattle.resolved.specs.Layout.{operationIn}
 use Rattle.run_statements.specs.Numbers.{op-of}
 use Rattle.run_cells.specs.Asking.{oneClass, addClass, subtractClass, compareClass, arithmeticFormalClass, branchClass, pairClass, queryClass, constantClass, classOf}
 

@@ -20,7 +20,7 @@ ghost use Prim.Native.Nat.{ℕ, _+_, _≤_};
 ghost use Rattle.language.specs.Text.{plus, minus, less};
 ghost use Rattle.resolved.specs.Resolved.{targetIn};
 ghost use Rattle.arrays.specs.Found.{heldBy};
-ghost use Rattle.layout.specs.Layout.{activationIn, leadIn};
+ghost use Rattle.resolved.specs.Layout.{activationIn, leadIn};
 ghost use Rattle.run_moves.specs.Acting.{doConstant, doArithmetic, operationOf, doGoto, doBranch, doCallFormal, doChange, doQuery};
 ghost use Rattle.run_moves.specs.Acting.{sceneBy};
 ghost use Rattle.run_statements.specs.Pieces.{only-words, FormalsBefore};

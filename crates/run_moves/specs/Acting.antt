@@ -14,6 +14,7 @@ use Rattle.language.specs.Table.{Table, Effect, leaves, halts, Asked, gives, re
 use Rattle.language.specs.Machine.{compute}
 use Rattle.language.specs.declared.Stop.{Stop}
 use Rattle.language.specs.declared.Stop.the-variants.{NoActivationLeft, ArgumentsDiffer}
+use Rattle.resolved.specs.Layout.{formalsIn, operationIn, endIn}
 use Rattle.run_moves.specs.declared.Effect.{Effect as Done-or-not}
 use Rattle.run_moves.specs.declared.Effect.the-variants.{Done, Stopped}
 use Rattle.run_moves.specs.declared.Move.{Move}
@@ -93,7 +94,7 @@ module _ (F : Finding) (s : Scene) where
   noRoom = leb (s .limit) (s .live + 1)
 
   unfoldable pub doBlock : Happened
-  doBlock = elim noRoom [ true ↦ moves s (Halt NoActivationLeft) | false ↦ moves s (Enter (s .at) (s .live) (field s 1 % 65536)) ]
+  doBlock = elim noRoom [ true ↦ moves s (Halt NoActivationLeft) | false ↦ moves s (Enter (s .at) (s .live) (endIn (field s 1))) ]
 
   -- so many arguments from a place on
   unfoldable pub argumentsFrom : ℕ → ℕ → List ℤ
@@ -111,7 +112,7 @@ module _ (F : Finding) (s : Scene) where
   -- 26 goes before 22: number and kinds of the arguments are those of the formals before the body
   unfoldable pub argumentsAgree : ℕ → Bool
   argumentsAgree body =
-      eqb (getD (s .code) body 0 / 65536 % 256) (field s 2) && sameKinds (s .code) (s .at + 3) (body - 3 * field s 2) (field s 2)
+      eqb (formalsIn (getD (s .code) body 0)) (field s 2) && sameKinds (s .code) (s .at + 3) (body - 3 * field s 2) (field s 2)
 
   unfoldable pub doCallFormal : Happened
   doCallFormal = elim (argumentsAgree (F .target (field s 1))) [ true ↦ doCall | false ↦ moves s (Halt ArgumentsDiffer) ]
@@ -134,7 +135,7 @@ operations =
     constant-formal-op ∷ arithmetic-formal-op ∷ branch-formal-op ∷ goto-formal-op ∷ call-formal-op ∷ []
 
 unfoldable pub opOf : ℕ → Op
-opOf w = getD operations (w % 16) constant-op
+opOf w = getD operations (operationIn w) constant-op
 
 unfoldable pub happens : Finding → Scene → Op → Happened
 happens F s constant-op = doConstant F s

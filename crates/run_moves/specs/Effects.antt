@@ -9,6 +9,7 @@ use lib.ListN.{length, getD, set}
 use lib.Signed.{mag}
 use Rattle.language.specs.declared.Stop.the-variants.{ResultTooLarge}
 use Rattle.resolved.specs.Resolved.{kindIn, targetIn, direct}
+use Rattle.resolved.specs.Layout.{heldFrom}
 use Rattle.run_moves.specs.declared.Effect.{Effect}
 use Rattle.run_moves.specs.declared.Effect.the-variants.{Done, Stopped}
 
@@ -21,7 +22,7 @@ wordsOf words cell z = elim (ltb (mag z) 2147483648) [ true ↦ set words cell z
 
 -- what is handed on of an argument with a word, found at a cell
 unfoldable pub handedWord : List ℤ → ℕ → ℕ → ℤ
-handedWord words w cell = elim (direct w) [ true ↦ pos (cell + 8192 * targetIn w) | false ↦ getD words cell (pos 0) ]
+handedWord words w cell = elim (direct w) [ true ↦ pos (heldFrom cell (targetIn w)) | false ↦ getD words cell (pos 0) ]
 
 -- so many arguments' words and formals' kinds
 unfoldable pub sameKinds : List ℕ → ℕ → ℕ → ℕ → Bool

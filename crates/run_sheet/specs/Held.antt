@@ -28,7 +28,7 @@ use Rattle.resolved.specs.Words.{bounds-first}
 use Rattle.arrays.specs.Holds.{designatorOf, formalWord, Holds}
 use Rattle.arrays.specs.Cells.{points-celled, designator-of-cell, word-cell}
 use Rattle.arrays.specs.Reading.{formals-read, names-read}
-use Rattle.layout.specs.Layout.{firstIn, cellFrom, cellIn}
+use Rattle.resolved.specs.Layout.{firstIn, cellFrom, cellIn}
 use Rattle.run_sheet.specs.Sizes.{sizeAt, readable, end-sum, size-read}
 use Rattle.run_sheet.specs.Shown.{Passes, Counts, Owned, Shown, written-none}
 

@@ -13,7 +13,7 @@ use Rattle.frames.specs.Frame.{designatorIn}
 use Rattle.resolved.specs.Resolved.{positionIn, formalIn, direct}
 use Rattle.arrays.specs.Holds.{designatorOf}
 use Rattle.arrays.specs.Found.{heldBy, cellBy}
-use Rattle.layout.specs.Layout.{cellIn}
+use Rattle.resolved.specs.Layout.{cellIn}
 
 unfoldable pub lookedUpBy : List ℤ → ℕ → ℕ → ℕ
 lookedUpBy words first w = elim (eqb w 0) [ true ↦ 0 | false ↦ designatorOf (cellBy words first w) ]

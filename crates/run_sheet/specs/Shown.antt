@@ -13,7 +13,7 @@ use lib.Seq.{drop-cons, take-suc, length-take-le}
 use Rattle.language.specs.Call.{written}
 use Rattle.laws.specs.Tests.{split}
 use Rattle.arrays.specs.Holds.{designatorOf}
-use Rattle.layout.specs.Layout.{formalsIn, namesIn, firstIn, cellIn}
+use Rattle.resolved.specs.Layout.{formalsIn, namesIn, firstIn, cellIn}
 use Rattle.run_sheet.specs.Sizes.{sizeAt, Readable}
 
 -- one statement on

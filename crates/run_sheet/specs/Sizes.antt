@@ -16,7 +16,7 @@ use Rattle.resolved.specs.Resolved.{placeOf, endPlace, chosen, resolvedAction, 
 use Rattle.resolved.specs.Places.{block-fields}
 use Rattle.resolved.specs.Standing.{action-covered, head-stands, bounds-stands}
 use Rattle.resolved.specs.Words.{head-operation, bounds-end}
-use Rattle.layout.specs.Layout.{operationIn, endIn}
+use Rattle.resolved.specs.Layout.{operationIn, endIn}
 
 -- four bits for each operation but the one that enters a block; a call's arguments come on top
 abbrev pub sizes : ℕ

@@ -24,7 +24,7 @@ ghost use Rattle.language.specs.Sheet.{sheetShare};
 ghost use Rattle.language.specs.Call.{written};
 ghost use Rattle.frames.specs.Frame.{Frame, frameSheet};
 ghost use Rattle.arrays.specs.Holds.{designatorOf};
-ghost use Rattle.layout.specs.Layout.{cellIn};
+ghost use Rattle.resolved.specs.Layout.{cellIn};
 ghost use Rattle.run_sheet.specs.Sizes.{plainSize, sizeAt, Readable};
 ghost use Rattle.run_sheet.specs.Shown.{Counts, Countable, Owned, Shown};
 ghost use Rattle.run_sheet.specs.Held.{Held};

@@ -27,7 +27,7 @@ use Rattle.run_moves.specs.Acting.{doGoto, doBranch, noRoom, argumentsFrom, doC
 use Rattle.resolved.specs.Resolved.{direct, positionIn}
 use Rattle.arrays.specs.Found.{cellBy}
 use Rattle.run_moves.specs.Acting.{sceneBy}
-use Rattle.layout.specs.Layout.{formalsIn, endIn}
+use Rattle.resolved.specs.Layout.{formalsIn, endIn}
 use Rattle.run_statements.specs.Pieces.{only-words, moveAfter, blockMove, enteredBy}
 use Rattle.run_statements.specs.Words.{cell-direct}
 

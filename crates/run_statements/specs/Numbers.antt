@@ -7,7 +7,7 @@ use lib.Dec.{ltb}
 use lib.ListN.{getD}
 use Rattle.laws.specs.Tests.{split}
 use Rattle.run_moves.specs.Acting.{constant-op, operations, opOf}
-use Rattle.layout.specs.Layout.{operationIn}
+use Rattle.resolved.specs.Layout.{operationIn}
 
 -- the operation by its number
 pub op-of : (v k : ℕ) → operationIn v ≡ k → opOf v ≡ getD operations k constant-op

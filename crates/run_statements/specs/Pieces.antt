@@ -11,7 +11,7 @@ use Rattle.run_moves.specs.declared.Effect.the-variants.{Done, Stopped}
 use Rattle.run_moves.specs.declared.Move.{Move}
 use Rattle.run_moves.specs.declared.Move.the-variants.{On, Enter, Stop}
 use Rattle.run_moves.specs.Acting.{Finding, Scene, sceneBy, Happened, field, moves, rewrites, noRoom, argumentsFrom, setAll}
-use Rattle.layout.specs.Layout.{formalsIn, endIn}
+use Rattle.resolved.specs.Layout.{formalsIn, endIn}
 
 -- a scene as far as most statements look at it
 abbrev pub only-words : List ℕ → List ℤ → ℕ → Scene

@@ -16,7 +16,7 @@ use Rattle.frames.specs.Frame.{designatorIn}
 use Rattle.resolved.specs.Resolved.{direct, positionIn, formalIn, targetIn}
 use Rattle.arrays.specs.Found.{heldBy, cellBy, homeBy, targetBy, handedBy}
 use Rattle.run_moves.specs.Effects.{handedWord}
-use Rattle.layout.specs.Layout.{activationIn, heldFrom, cellIn, leadIn}
+use Rattle.resolved.specs.Layout.{activationIn, heldFrom, cellIn, leadIn}
 
 pub read-back : (z : ℤ) → mag z < 2147483648 → toZ w32 (ofZ w32 z) ≡ z
 read-back z h = toZ-ofZ (record { sfits = h })

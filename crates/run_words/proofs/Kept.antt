@@ -16,7 +16,7 @@ use Rattle.language.specs.declared.Stop.the-variants.{ResultTooLarge}
 use Rattle.resolved.specs.Resolved.{kindIn, formalIn, targetIn, direct}
 use Rattle.run_moves.specs.declared.Effect.the-variants.{Done, Stopped}
 use Rattle.run_moves.specs.Effects.{effectOf, wordsOf, handedWord, sameKinds, Cleared}
-use Rattle.layout.specs.Layout.{heldFrom}
+use Rattle.resolved.specs.Layout.{heldFrom}
 
 pub effect-fits : (z : ℤ) → ltb (mag z) 2147483648 ≡ true → Done ≡ effectOf z
 unfolding effectOf

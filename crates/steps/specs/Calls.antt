@@ -38,6 +38,7 @@ use Rattle.resolved.specs.Lengths.{covers-at}
 use Rattle.resolved.specs.Words.{head-formals}
 use Rattle.resolved.specs.Standing.{head-stands, formals-covered, formals-before}
 use Rattle.resolved.specs.Places.{block-fields, end-bound}
+use Rattle.resolved.specs.Layout.{formalsIn}
 use Rattle.arrays.specs.Holds.{formalWord}
 use Rattle.arrays.specs.Cells as cells
 use Rattle.run_moves.specs.declared.Move.the-variants.{Enter, Stop}
@@ -188,9 +189,9 @@ module _ {code : List ℕ} {l : Limits} {words : List ℤ} {blocks nexts links :
 
   -- By a formal
 
-  formals-are : getD code (placeOf (blockAt body)) 0 / 65536 % 256 ≡ length gs
+  formals-are : formalsIn (getD code (placeOf (blockAt body)) 0) ≡ length gs
   formals-are =
-      ap (λ v. v / 65536 % 256) (head-stands code (w .name) (w .program) (w .keeps) (w .covers) (enclosed gs body) (enclosing (home .0) ∷ enclosureOf fs (home .0 .link)) body-encloses)
+      ap formalsIn (head-stands code (w .name) (w .program) (w .keeps) (w .covers) (enclosed gs body) (enclosing (home .0) ∷ enclosureOf fs (home .0 .link)) body-encloses)
       ∙ head-formals (w .program) (w .keeps) (enclosed gs body) (enclosing (home .0) ∷ enclosureOf fs (home .0 .link)) body-encloses
 
   formals-stand : Covers code (placeOf (blockAt body) - 3 * length gs) (resolvedFormals gs)
@@ -213,10 +214,10 @@ module _ {code : List ℕ} {l : Limits} {words : List ℤ} {blocks nexts links :
     target-is = target-found w F finds p called 1 word-is ∙ cells.target-found fs x (home .0) (PR (found .0) (found .1) gs body) (home .1) declared
 
     -- the body stands in the script, after its formals
-    pub body-bounds : (F .target (getD code (at + 1) 0) < 4096) × (3 * (getD code (F .target (getD code (at + 1) 0)) 0 / 65536 % 256) ≤ F .target (getD code (at + 1) 0))
+    pub body-bounds : (F .target (getD code (at + 1) 0) < 4096) × (3 * (formalsIn (getD code (F .target (getD code (at + 1) 0)) 0)) ≤ F .target (getD code (at + 1) 0))
     unfolding enclosing endPlace
     body-bounds =
-        let heads : getD code (F .target (getD code (at + 1) 0)) 0 / 65536 % 256 ≡ length gs = ap (λ k. getD code k 0 / 65536 % 256) target-is ∙ formals-are in
+        let heads : formalsIn (getD code (F .target (getD code (at + 1) 0)) 0) ≡ length gs = ap (λ k. formalsIn (getD code k 0)) target-is ∙ formals-are in
         let last = end-bound (w .program) (w .keeps) (enclosed gs body) (enclosing (home .0) ∷ enclosureOf fs (home .0 .link)) body-encloses in
         let behind = formals-before code (w .name) (w .program) (w .keeps) (w .covers) (enclosing (home .0)) (enclosureOf fs (home .0 .link)) around (place x - length (home .0 .formals)) (found .0) (found .1) gs body (home .2) in
         (omega (arith, target-is, block-fields body), omega (arith, target-is))
@@ -282,7 +283,7 @@ module _ {code : List ℕ} {l : Limits} {words : List ℤ} {blocks nexts links :
     agree-is : argumentsAgree F (sceneOf w) (F .target (getD code (at + 1) 0)) ≡ agreed
     unfolding argumentsAgree
     agree-is =
-        let heads : getD code (F .target (getD code (at + 1) 0)) 0 / 65536 % 256 ≡ length gs = ap (λ k. getD code k 0 / 65536 % 256) target-is ∙ formals-are in
+        let heads : formalsIn (getD code (F .target (getD code (at + 1) 0)) 0) ≡ length gs = ap (λ k. formalsIn (getD code k 0)) target-is ∙ formals-are in
         (λ i. eqb (heads i) (count-is i) && sameKinds code (at + 3) (target-is i - 3 * count-is i) (count-is i)) ∙ compared
 
     pub call-formal-means : Means w (doCallFormal F (sceneOf w))

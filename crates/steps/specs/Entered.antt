@@ -21,9 +21,10 @@ use Rattle.coordinates.specs.Enclosure.{enclosed}
 use Rattle.coordinates.specs.Chain.{enclosureOf, levelOf}
 use Rattle.coordinates.specs.Coordinates.{level-of-text}
 use Rattle.coordinates.specs.Sound.{Sound}
-use Rattle.resolved.specs.Resolved.{endPlace, stmtPlace, headWord, boundsWord}
+use Rattle.resolved.specs.Resolved.{endPlace, stmtPlace, headWord, boundsWord, levelIn}
 use Rattle.resolved.specs.Standing.{head-stands, bounds-stands}
 use Rattle.resolved.specs.Words.{head-level, head-formals, head-names, bounds-end, bounds-first}
+use Rattle.resolved.specs.Layout.{formalsIn, namesIn, endIn, firstIn}
 use Rattle.arrays.specs.Holds.{Holds, Shows}
 use Rattle.arrays.specs.Running.{holds-pushed}
 use Rattle.arrays.specs.Displays.{ShowsFrom, shows-pushed}
@@ -38,11 +39,11 @@ module _ {code : List ℕ} {l : Limits} {words : List ℤ} {blocks nexts links :
     (body link back : ℕ) (words′ : List ℤ) (j : EntersAt w body link back words′) where
   -- the block's first words
   pub record BodyHead : Type 0 where
-    pub level : getD code body 0 / 256 % 256 ≡ suc (levelOf (w .stack .frames) (suc link))
-    pub formals : getD code body 0 / 65536 % 256 ≡ length (j .formals)
-    pub names : getD code body 0 / 16777216 ≡ length (j .formals) + length (blockDecls (j .text))
-    pub ends : getD code (body + 1) 0 % 65536 ≡ endPlace (j .text)
-    pub first : getD code (body + 1) 0 / 65536 ≡ stmtPlace (j .text) 1
+    pub level : levelIn (getD code body 0) ≡ suc (levelOf (w .stack .frames) (suc link))
+    pub formals : formalsIn (getD code body 0) ≡ length (j .formals)
+    pub names : namesIn (getD code body 0) ≡ length (j .formals) + length (blockDecls (j .text))
+    pub ends : endIn (getD code (body + 1) 0) ≡ endPlace (j .text)
+    pub first : firstIn (getD code (body + 1) 0) ≡ stmtPlace (j .text) 1
 
   pub body-head : BodyHead
   body-head =
@@ -52,11 +53,11 @@ module _ {code : List ℕ} {l : Limits} {words : List ℤ} {blocks nexts links :
       let head : getD code body 0 ≡ headWord e (suc (length es)) = ap (λ i. getD code i 0) (j .body-is) ∙ head-stands code (w .name) t (w .keeps) (w .covers) e es (j .encloses) in
       let bounds : getD code (body + 1) 0 ≡ boundsWord (j .text) = ap (λ i. getD code (i + 1) 0) (j .body-is) ∙ bounds-stands code (w .name) t (w .keeps) (w .covers) e es (j .encloses) in
       record {
-        level = ap (λ v. v / 256 % 256) head ∙ head-level t (w .keeps) e es (j .encloses) ∙ ap suc (sym (level-of-text (w .stack .frames) (suc link)));
-        formals = ap (λ v. v / 65536 % 256) head ∙ head-formals t (w .keeps) e es (j .encloses);
-        names = ap (λ v. v / 16777216) head ∙ head-names t (w .keeps) e es (j .encloses);
-        ends = ap (λ v. v % 65536) bounds ∙ bounds-end t (w .keeps) e es (j .encloses);
-        first = ap (λ v. v / 65536) bounds ∙ bounds-first t (w .keeps) e es (j .encloses);
+        level = ap levelIn head ∙ head-level t (w .keeps) e es (j .encloses) ∙ ap suc (sym (level-of-text (w .stack .frames) (suc link)));
+        formals = ap formalsIn head ∙ head-formals t (w .keeps) e es (j .encloses);
+        names = ap namesIn head ∙ head-names t (w .keeps) e es (j .encloses);
+        ends = ap endIn bounds ∙ bounds-end t (w .keeps) e es (j .encloses);
+        first = ap firstIn bounds ∙ bounds-first t (w .keeps) e es (j .encloses);
       }
 
   abbrev new : Frame

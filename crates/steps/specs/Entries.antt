@@ -23,6 +23,7 @@ use Rattle.coordinates.specs.Chain.{enclosureOf}
 use Rattle.coordinates.specs.Next.{next-block}
 use Rattle.resolved.specs.Resolved.{endPlace, stmtPlace, boundsWord, header, resolvedStmt, Covers}
 use Rattle.resolved.specs.Words.{bounds-end}
+use Rattle.resolved.specs.Layout.{endIn}
 use Rattle.run_moves.specs.declared.Move.the-variants.{Enter, Stop}
 use Rattle.run_moves.specs.Acting.{Finding, Scene, field, moves, noRoom, doBlock}
 use Rattle.steps.specs.Standing.{Standing}
@@ -34,7 +35,7 @@ blocks-full : (F : Finding) (s : Scene) → leb (s .limit) (s .live + 1) ≡ tru
 unfolding doBlock noRoom
 blocks-full F s e = rw (doBlock, e)
 
-blocks-enter : (F : Finding) (s : Scene) → leb (s .limit) (s .live + 1) ≡ false → doBlock F s ≡ moves s (Enter (s .at) (s .live) (field s 1 % 65536))
+blocks-enter : (F : Finding) (s : Scene) → leb (s .limit) (s .live + 1) ≡ false → doBlock F s ≡ moves s (Enter (s .at) (s .live) (endIn (field s 1)))
 unfolding doBlock noRoom
 blocks-enter F s e = rw (doBlock, e)
 
@@ -58,13 +59,13 @@ module _ {code : List ℕ} {l : Limits} {words : List ℤ} {blocks nexts links :
     unfolding around
     stands = (next-block l (w .program) (w .keeps) (w .stack) (w .sound) (w .frame) (last-is w) b q) .stands
 
-    back : getD code (at + 1) 0 % 65536 ≡ stmtPlace (w .frame .text) (suc (w .frame .next))
+    back : endIn (getD code (at + 1) 0) ≡ stmtPlace (w .frame .text) (suc (w .frame .next))
     unfolding around endPlace stmtAt blockFields
     back =
         let bounds : getD code (at + 1) 0 ≡ boundsWord b = bounds-of code at (w .name) b around (covered w (BK b) q) in
-        ap (λ v. v % 65536) bounds ∙ bounds-end (w .program) (w .keeps) (enclosed [] b) around stands ∙ ap (λ i. i + length (blockFields b)) (sym (stands-at w (BK b) q)) ∙ sym (goes-on-at w (BK b) q)
+        ap endIn bounds ∙ bounds-end (w .program) (w .keeps) (enclosed [] b) around stands ∙ ap (λ i. i + length (blockFields b)) (sym (stands-at w (BK b) q)) ∙ sym (goes-on-at w (BK b) q)
 
-    entering : leb (l .activations) (live + 1) ≡ false → EntersAt w at live (getD code (at + 1) 0 % 65536) words
+    entering : leb (l .activations) (live + 1) ≡ false → EntersAt w at live (endIn (getD code (at + 1) 0)) words
     unfolding around withFrames stmtAt
     entering e =
         record {

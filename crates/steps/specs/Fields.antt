@@ -20,6 +20,7 @@ use Rattle.coordinates.specs.Visible.{actionNames}
 use Rattle.coordinates.specs.Next.{Resolved, NextAction, next-action}
 use Rattle.resolved.specs.Resolved.{direct, nameWord, resolvedAction, resolvedStmt}
 use Rattle.resolved.specs.Places.{block-fields}
+use Rattle.resolved.specs.Layout.{formalsIn}
 use Rattle.run_moves.specs.Acting.{Finding, Op, constant-op, add-op, subtract-op, compare-op, branch-op, goto-op, block-op, call-op, pair-op, unpair-op, query-op, constant-formal-op, arithmetic-formal-op, branch-formal-op, goto-formal-op, call-formal-op, opOf}
 use Rattle.steps.specs.Standing.{Standing, Finds}
 use Rattle.steps.specs.Here.{last-is, next-stmt, covered}
@@ -49,7 +50,7 @@ module _ {code : List ℕ} {l : Limits} {words : List ℤ} {blocks nexts links :
 
   -- a body that a formal leads to stands in the script, after its formals
   abbrev pub BodyStands : Type 0
-  BodyStands = (F : Finding) → Finds (w .stack .frames) F → (F .target (getD code (at + 1) 0) < 4096) × (3 * (getD code (F .target (getD code (at + 1) 0)) 0 / 65536 % 256) ≤ F .target (getD code (at + 1) 0))
+  BodyStands = (F : Finding) → Finds (w .stack .frames) F → (F .target (getD code (at + 1) 0) < 4096) × (3 * (formalsIn (getD code (F .target (getD code (at + 1) 0)) 0)) ≤ F .target (getD code (at + 1) 0))
 
   abbrev pub Fields : Op → Type 0
   Fields constant-op = Within 4 × Direct 1

@@ -17,10 +17,11 @@ use Rattle.frames.specs.Numbered.{numbered-suc}
 use Rattle.coordinates.specs.Enclosure.{whole}
 use Rattle.coordinates.specs.Levels.{frame-encloses, level-bound}
 use Rattle.coordinates.specs.Chain.{enclosing, enclosureOf, levelOf}
-use Rattle.resolved.specs.Resolved.{placeOf, endPlace, stmtPlace, nameWord, boundsWord, resolvedOf, Covers}
+use Rattle.resolved.specs.Resolved.{placeOf, endPlace, stmtPlace, nameWord, boundsWord, resolvedOf, Covers, levelIn}
 use Rattle.resolved.specs.Standing.{bounds-stands}
 use Rattle.resolved.specs.Words.{bounds-end, bounds-first}
 use Rattle.resolved.specs.Places.{block-fields, block-place, end-bound, place-bound}
+use Rattle.resolved.specs.Layout.{endIn, firstIn}
 use Rattle.arrays.specs.Displays.{LinksOf, holds-links}
 use Rattle.arrays.specs.Reading.{level-read, end-read, looked-up-read}
 use Rattle.steps.specs.Standing.{Standing}
@@ -28,7 +29,7 @@ use Rattle.steps.specs.Here.{many, here, at-is, here-bounded, encloses-h
 
 module _ {code : List ℕ} {l : Limits} {words : List ℤ} {blocks nexts links : List ℕ} {table : List ℤ} {pairs live at end : ℕ} (w : Standing code l words blocks nexts links table pairs live at end) where
   -- of any activation
-  pub level-there : (k : ℕ) (f : Frame) → getElem? (w .stack .frames) k ≡ some f → getD code (getD blocks k 0) 0 / 256 % 256 ≡ levelOf (w .stack .frames) (suc k)
+  pub level-there : (k : ℕ) (f : Frame) → getElem? (w .stack .frames) k ≡ some f → levelIn (getD code (getD blocks k 0) 0) ≡ levelOf (w .stack .frames) (suc k)
   level-there k f e = level-read code (w .name) (w .program) (w .keeps) (w .covers) (w .stack .frames) (w .sound .chained) blocks (set nexts live at) links words (w .holds) k f e
 
   pub level-few : (k : ℕ) (f : Frame) → getElem? (w .stack .frames) k ≡ some f → (1 ≤ levelOf (w .stack .frames) (suc k)) × (levelOf (w .stack .frames) (suc k) ≤ 16)
@@ -40,16 +41,16 @@ module _ {code : List ℕ} {l : Limits} {words : List ℤ} {blocks nexts links :
       let within = frame-encloses (w .program) (w .stack .frames) (w .sound .chained) (suc k) f (numbered-suc (w .stack .frames) k ∙ e) in
       omega (arith, (w .holds k f e) .block-is, block-fields (f .text), end-bound (w .program) (w .keeps) (enclosing f) (enclosureOf (w .stack .frames) (f .link)) within)
 
-  pub end-there : (k : ℕ) (f : Frame) → getElem? (w .stack .frames) k ≡ some f → getD code (getD blocks k 0 + 1) 0 % 65536 ≡ endPlace (f .text)
+  pub end-there : (k : ℕ) (f : Frame) → getElem? (w .stack .frames) k ≡ some f → endIn (getD code (getD blocks k 0 + 1) 0) ≡ endPlace (f .text)
   end-there k f e = end-read code (w .name) (w .program) (w .keeps) (w .covers) (w .stack .frames) (w .sound .chained) blocks (set nexts live at) links words (w .holds) k f e
 
   pub links-there : LinksOf (w .stack .frames) links
   links-there = holds-links (w .stack .frames) blocks (set nexts live at) links words (w .holds)
 
-  pub level-here : getD code (getD blocks live 0) 0 / 256 % 256 ≡ levelOf (w .stack .frames) (length (w .stack .frames))
+  pub level-here : levelIn (getD code (getD blocks live 0) 0) ≡ levelOf (w .stack .frames) (length (w .stack .frames))
   level-here = level-there live (w .frame) (here w) ∙ ap (levelOf (w .stack .frames)) (sym (many w))
 
-  pub end-here : getD code (getD blocks live 0 + 1) 0 % 65536 ≡ end
+  pub end-here : endIn (getD code (getD blocks live 0 + 1) 0) ≡ end
   end-here = end-there live (w .frame) (here w) ∙ sym (w .end-is)
 
   pub looked-up-here : getD code (getD blocks live 0 + 2) 0 ≡ nameWord (enclosureOf (w .stack .frames) (length (w .stack .frames))) (w .name)
@@ -71,10 +72,10 @@ module _ {code : List ℕ} {l : Limits} {words : List ℤ} {blocks nexts links :
       omega (arith, goes-on-at w x q, place-bound (w .program) (w .keeps) (enclosing (w .frame)) (enclosureOf (w .stack .frames) (w .frame .link)) (encloses-here w) (suc (w .frame .next)) (omega arith))
 
 -- the program's second word
-pub begin-reads : (code : List ℕ) (t : Block) (name : ℕ) → Keeps t → Covers code 0 (resolvedOf name t) → (getD code 1 0 / 65536 ≡ stmtPlace t 1) × (getD code 1 0 % 65536 ≡ endPlace t)
+pub begin-reads : (code : List ℕ) (t : Block) (name : ℕ) → Keeps t → Covers code 0 (resolvedOf name t) → (firstIn (getD code 1 0) ≡ stmtPlace t 1) × (endIn (getD code 1 0) ≡ endPlace t)
 unfolding whole
 begin-reads code t name keeps covers =
     let first : placeOf (blockAt t) ≡ 0 = block-place t 1 [] 0 (keeps .formed) in
     let one : 1 ≡ placeOf (blockAt t) + 1 = omega arith in
     let bounds : getD code 1 0 ≡ boundsWord t = ap (λ i. getD code i 0) one ∙ bounds-stands code name t keeps covers (whole t) [] refl in
-    (ap (λ v. v / 65536) bounds ∙ bounds-first t keeps (whole t) [] refl, ap (λ v. v % 65536) bounds ∙ bounds-end t keeps (whole t) [] refl)
+    (ap firstIn bounds ∙ bounds-first t keeps (whole t) [] refl, ap endIn bounds ∙ bounds-end t keeps (whole t) [] refl)

@@ -5,7 +5,7 @@ use lib.IntN.{pos, natAbs}
 use mir.Facts.{toZ-ofZ, toZ-pos}
 use mir.Syntax.{w32}
 use Rattle.arrays.specs.Holds.{designatorOf}
-use Rattle.layout.specs.Layout.{cellIn}
+use Rattle.resolved.specs.Layout.{cellIn}
 use Rattle.run_sheet.proofs.Values.{natural}
 use borrow.Author.Needs.{needs}
 use Rattle.run_sheet.proofs.formal_shown.Statement.{statement}

@@ -3,7 +3,7 @@ use Prim.Native.Nat.{ℕ, _+_, _-_, _≤_}
 use native.Mathlib.Numerals.{add-one}
 use native.Mathlib.Omega.{arith}
 use mathlib.Core.Path.{_≡_, sym, ap, _∙_}
-use Rattle.layout.specs.Layout.{firstIn}
+use Rattle.resolved.specs.Layout.{firstIn}
 use Rattle.run_sheet.specs.Shown.{Counts, on, counted}
 use borrow.Author.Needs.{needs}
 use Rattle.run_sheet.proofs.number_of.Statement.{statement}

@@ -3,7 +3,7 @@ use Prim.Native.Nat.{ℕ, _+_, _-_, _%_}
 use native.Mathlib.Omega.{arith}
 use mathlib.Core.Path.{_≡_, sym, ap, _∙_}
 use lib.ListN.{getD}
-use Rattle.layout.specs.Layout.{operationIn, endIn}
+use Rattle.resolved.specs.Layout.{operationIn, endIn}
 use Rattle.run_sheet.specs.Sizes.{plainSize, size-block, size-call, size-plain}
 use borrow.Author.Needs.{needs}
 use Rattle.run_sheet.proofs.size_at.Statement.{statement}

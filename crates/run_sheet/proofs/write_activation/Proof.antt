@@ -6,7 +6,7 @@ use mathlib.Core.Path.{_≡_, sym, ap, _∙_, subst}
 use lib.IntN.{ℤ, pos}
 use lib.ListN.{length, set, length-set, length-append}
 use Rattle.language.specs.Call.{written}
-use Rattle.layout.specs.Layout.{formalsIn, namesIn}
+use Rattle.resolved.specs.Layout.{formalsIn, namesIn}
 use Rattle.run_sheet.specs.Shown.{Shown, Owned, heads}
 use Rattle.run_sheet.proofs.Values.{read-back}
 use borrow.Author.Needs.{needs}

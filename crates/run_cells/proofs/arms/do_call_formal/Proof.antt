@@ -7,7 +7,7 @@ use borrow.Author.Tests.{not-true, not-false}
 use lib.ListN.{getD}
 use Rattle.run_moves.specs.Acting.{Finding, Scene, argumentsAgree}
 use Rattle.run_moves.specs.Acting.{sceneBy}
-use Rattle.layout.specs.Layout.{formalsIn, activationIn, cellIn, leadIn}
+use Rattle.resolved.specs.Layout.{formalsIn, activationIn, cellIn, leadIn}
 use Rattle.run_statements.specs.Doing.{number-differs, number-same, call-refused}
 use Rattle.steps.specs.Finding.{byFirst}
 use Rattle.run_cells.specs.Asking.{wordBehind}

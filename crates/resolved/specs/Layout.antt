@@ -1,4 +1,4 @@
--- The parts of a block's first two words and of what a formal's cell holds. Those of a name's word are in `resolved`.
+-- The parts of a statement's first word, of a block's first two words, of a cell's number and of what a formal's cell holds. Those of a name's word stand in `Resolved`.
 use Prim.Native.Nat.{ℕ, _+_, _*_, _/_, _%_}
 
 abbrev pub operationIn : ℕ → ℕ
