@@ -3,20 +3,7 @@ use borrow.Author.Needs.{needs}
 use Rattle.chain_step.proofs.turn.asks.Statement.{statement}
 use Rattle.chain_step.proofs.turn.asks.Tie as tie
 
-returns-5 : tie.Need-returns-5
-returns-5 c = rw (c .before .moved5 .given .1)
-
 pub asks-spec : {M : Type 1} → statement M
 asks-spec =
-    tie.close
-    (tie.spec
-    (λ c. search needs)
-    (λ c. search needs)
-    (λ c. search needs)
-    (λ c. search needs)
-    (λ c. search needs)
-    (λ c. search needs)
-    (λ c. search needs)
-    (λ c. search needs)
-    (λ c. search needs)
-    returns-5)
+    tie.close (tie.spec (λ c. search needs) (λ c. search needs) (λ c. search needs) (λ c. search needs) (λ c. search needs) (λ c. search needs)
+    (λ c. search needs) (λ c. search needs) (λ c. search needs) (λ c. rw (c .before .moved5 .given .1)))

@@ -3,24 +3,8 @@ use borrow.Author.Needs.{needs}
 use Rattle.chain_step.proofs.turn.entry_of.Statement.{statement}
 use Rattle.chain_step.proofs.turn.entry_of.Tie as tie
 
-returns-5 : tie.Need-returns-5
-returns-5 c = rw (c .no-entry4 .ensures, c .before .before .moved5 .given .1)
-
 pub entry-of-spec : {M : Type 1} → statement M
 entry-of-spec =
-    tie.close
-    (tie.spec
-    (λ c. search needs)
-    (λ c κs. search needs)
-    (λ c. search needs)
-    (λ c κs. search needs)
-    (λ c. search needs)
-    (λ c. search needs)
-    (λ c κs. search needs)
-    (λ c. search needs)
-    (λ c κs. search needs)
-    (λ c. search needs)
-    (λ c. search needs)
-    (λ c. search needs)
-    (λ c. search needs)
-    returns-5)
+    tie.close (tie.spec (λ c. search needs) (λ c κs. search needs) (λ c. search needs) (λ c κs. search needs) (λ c. search needs) (λ c. search needs)
+    (λ c κs. search needs) (λ c. search needs) (λ c κs. search needs) (λ c. search needs) (λ c. search needs) (λ c. search needs) (λ c. search needs)
+    (λ c. rw (c .no-entry4 .ensures, c .before .before .moved5 .given .1)))
