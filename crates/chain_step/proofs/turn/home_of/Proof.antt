@@ -1,9 +1,0 @@
--- `home_of` meets its contract.
-use borrow.Author.Needs.{needs}
-use Rattle.chain_step.proofs.turn.home_of.Statement.{statement}
-use Rattle.chain_step.proofs.turn.home_of.Tie as tie
-
-pub home-of-spec : {M : Type 1} → statement M
-home-of-spec =
-    tie.close (tie.spec (λ c. search needs) (λ c. search needs) (λ c. search needs) (λ c. search needs) (λ c. search needs) (λ c. search needs)
-    (λ c. search needs) (λ c. search needs) (λ c. search needs) (λ c. rw (c .before .moved5 .given .1)))
