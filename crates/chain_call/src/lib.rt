@@ -8,7 +8,6 @@ use language::Verdict;
 use run_state::Halt;
 ghost use mathlib.Core.Path.{_≡_};
 ghost use Prim.Native.Nat.{_≤_};
-ghost use lib.IntN.{pos};
 ghost use lib.ListN.{length, replicate};
 ghost use Rattle.language.specs.Text.{Block};
 ghost use Rattle.language.specs.Call.{admission, chain};
@@ -18,7 +17,7 @@ ghost use Rattle.call_admission.specs.Lent.{fedOf};
 ghost use Rattle.call_answers.specs.Replies.{Replies, RepliesLeaving};
 ghost use Rattle.grammar.specs.Rules.{Bytes};
 ghost use Rattle.resolve_script.specs.Resolving.{Resolved};
-ghost use Rattle.chain_call.specs.Calls.{haltWords};
+ghost use Rattle.chain_call.specs.Calls.{haltWords, AdmittedOn};
 
 // What is due to a call that is lent so many records.
 fn judged(script: &[u8], numbers: Numbers, table: &[i32], sheet: &[i32], held: usize) -> Verdict
@@ -69,8 +68,7 @@ fn ran_on(
     records: &mut [Activation],
     answer: &mut [u64; 9],
 )
-    requires { ⌜ ((t : Block) × Admitted (chain (length (now records))) (fedOf numbers (now script) (now table) (now sheet)) t) ⌝ }
-    requires { ⌜ (now code ≡ replicate 4096 0) × (now words ≡ replicate 8224 (pos 0)) ⌝ }
+    requires { ⌜ AdmittedOn (now code) (now words) (chain (length (now records))) (fedOf numbers (now script) (now table) (now sheet)) ⌝ }
     ensures { λ _. ⌜ Replies (chain (length (now (records .entry)))) (fedOf numbers (now (script .entry)) (now (table .entry)) (now (sheet .entry)))
         (now (answer .exit)) (now (sheet .exit)) (now (table .exit)) ⌝ }
 {

@@ -1,6 +1,6 @@
 -- How the static-chain engine finds a name: from the innermost activation, as many links as the innermost block's level is above the name's lead to
 -- the activation that declares it.
-use Prim.Native.Nat.{ℕ, _+_, _*_, _-_, _%_, _≤_, _<_}
+use Prim.Native.Nat.{ℕ, _+_, _*_, _-_, _≤_, _<_}
 use mathlib.Core.Bool.{true, false}
 use mathlib.Core.List.{List}
 use lib.Dec.{eqb}
@@ -8,6 +8,7 @@ use lib.IntN.{ℤ}
 use lib.ListN.{getD}
 use Rattle.chain_records.specs.declared.Activation.{Activation}
 use Rattle.resolved.specs.Resolved.{levelIn, positionIn}
+use Rattle.layout.specs.Layout.{operationIn}
 use Rattle.arrays.specs.Names.{follow}
 use Rattle.run_moves.specs.Acting.{Finding, setAll, argumentsFrom}
 use Rattle.run_statements.specs.Pieces.{only-words}
@@ -39,7 +40,7 @@ pub record Named (code : List ℕ) (records : List Activation) (here : Registers
 
 -- after which field of the statement at a place its arguments end; they begin at the third, and a BK has none
 unfoldable pub argumentsEnd : List ℕ → ℕ → ℕ
-argumentsEnd code at = elim (eqb (getD code at 0 % 16) 6) [ true ↦ 3 | false ↦ 3 + getD code (at + 2) 0 ]
+argumentsEnd code at = elim (eqb (operationIn (getD code at 0)) 6) [ true ↦ 3 | false ↦ 3 + getD code (at + 2) 0 ]
 
 -- the words once they are handed on
 abbrev pub handedOn : List ℕ → List ℤ → List Activation → Registers → List ℤ

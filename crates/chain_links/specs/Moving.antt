@@ -1,6 +1,6 @@
 -- Of an engine that runs (`Running`): `linked`: links can be followed from its innermost activation; `resumable`: the records of its activations can
 -- be read; `leaves-to`, `jumps-to`, `enters-to`: the state after a return, a jump and an entry, from what was read and written.
-use Prim.Native.Nat.{ℕ, suc, pred, _+_, _-_, _*_, _/_, _%_, _≤_}
+use Prim.Native.Nat.{ℕ, suc, pred, _+_, _-_, _*_, _≤_}
 use native.Mathlib.Omega.{arith}
 use mathlib.Core.List.{List}
 use mathlib.Core.Option.{some}
@@ -16,7 +16,8 @@ use Rattle.frames.specs.Frame.{Frame}
 use Rattle.frames.specs.Numbered.{numbered-suc, numbered-index}
 use Rattle.coordinates.specs.Enclosure.{enclosed, Enclosure}
 use Rattle.coordinates.specs.Chain.{enclosing, enclosureOf}
-use Rattle.resolved.specs.Resolved.{placeOf, endPlace}
+use Rattle.resolved.specs.Resolved.{placeOf, endPlace, levelIn}
+use Rattle.layout.specs.Layout.{formalsIn, namesIn, endIn, firstIn, cellFrom}
 use Rattle.resolved.specs.Places.{block-fields, end-is, end-bound, place-bound, enclosed-formed}
 use Rattle.arrays.specs.Holds.{Holds}
 use Rattle.run_moves.specs.Effects.{Cleared}
@@ -162,8 +163,8 @@ module _ {code : List ℕ} {limit group : ℕ} {words : List ℤ} {records : Lis
       pub room-here : Room records (here .live)
       pub room-next : Room records (here .live + 1)
       pub link-high : link ≤ here .live
-      pub formals-few : getD code body 0 / 65536 % 256 ≤ 32
-      pub names-few : getD code body 0 / 16777216 ≤ 32
+      pub formals-few : formalsIn (getD code body 0) ≤ 32
+      pub names-few : namesIn (getD code body 0) ≤ 32
 
     pub entry-fits : Fits
     unfolding enclosing
@@ -203,26 +204,26 @@ module _ {code : List ℕ} {limit group : ℕ} {words : List ℤ} {records : Lis
         (s .program) (s .name)
 
     module _ (head bounds : ℕ) (head-is : head ≡ getD code body 0) (bounds-are : bounds ≡ getD code (body + 1) 0)
-        (records₁ records₂ : List Activation) (n : NextSet records records₁ (here .live) back) (p : Pushed records₁ records₂ fresh body (bounds / 65536) link)
-        (words″ : List ℤ) (cleared : Cleared words′ (32 * fresh + head / 65536 % 256) (32 * fresh + head / 16777216) words″) where
-      stood : Stood words″ (blocksIn records₂) (nextsIn records₂) (linksIn records₂) (bounds / 65536) (bounds % 65536)
+        (records₁ records₂ : List Activation) (n : NextSet records records₁ (here .live) back) (p : Pushed records₁ records₂ fresh body (firstIn bounds) link)
+        (words″ : List ℤ) (cleared : Cleared words′ (cellFrom fresh (formalsIn head)) (cellFrom fresh (namesIn head)) words″) where
+      stood : Stood words″ (blocksIn records₂) (nextsIn records₂) (linksIn records₂) (firstIn bounds) (endIn bounds)
       unfolding written-next
       stood =
           let h = body-head (w .standing) body link back words′ j in
-          let fe : head / 65536 % 256 ≡ length (j .formals) = ap (λ x. x / 65536 % 256) head-is ∙ h .formals in
-          let ne : head / 16777216 ≡ length (j .formals) + length (blockDecls (j .text)) = ap (λ x. x / 16777216) head-is ∙ h .names in
-          let c : Cleared words′ (32 * fresh + length (j .formals)) (32 * fresh + (length (j .formals) + length (blockDecls (j .text)))) words″ =
-          subst (λ m. Cleared words′ (32 * fresh + length (j .formals)) (32 * fresh + m) words″) ne
-          (subst (λ m. Cleared words′ (32 * fresh + m) (32 * fresh + head / 16777216) words″) fe cleared) in
+          let fe : formalsIn head ≡ length (j .formals) = ap formalsIn head-is ∙ h .formals in
+          let ne : namesIn head ≡ length (j .formals) + length (blockDecls (j .text)) = ap namesIn head-is ∙ h .names in
+          let c : Cleared words′ (cellFrom fresh (length (j .formals))) (cellFrom fresh (length (j .formals) + length (blockDecls (j .text)))) words″ =
+          subst (λ m. Cleared words′ (cellFrom fresh (length (j .formals))) (cellFrom fresh m) words″) ne
+          (subst (λ m. Cleared words′ (cellFrom fresh m) (cellFrom fresh (namesIn head)) words″) fe cleared) in
           let e = entered (w .standing) body link back words′ j words″ c in
           let bs : set (blocksIn records) fresh body ≡ blocksIn records₂ = sym (p .blocks ∙ ap (λ (xs : List ℕ). set xs fresh body) (n .blocks)) in
-          let ns : set (set (nextsIn records) (here .live) back) fresh (bounds / 65536) ≡ nextsIn records₂ = sym
-          (p .nexts ∙ ap (λ (xs : List ℕ). set xs fresh (bounds / 65536)) (n .nexts)) in
+          let ns : set (set (nextsIn records) (here .live) back) fresh (firstIn bounds) ≡ nextsIn records₂ = sym
+          (p .nexts ∙ ap (λ (xs : List ℕ). set xs fresh (firstIn bounds)) (n .nexts)) in
           let ls : set (linksIn records) fresh link ≡ linksIn records₂ = sym (p .links ∙ ap (λ (xs : List ℕ). set xs fresh link) (n .links)) in
-          let first = sym (ap (λ x. x / 65536) bounds-are ∙ h .first) in
-          let ends = sym (ap (λ x. x % 65536) bounds-are ∙ h .ends) in
+          let first = sym (ap firstIn bounds-are ∙ h .first) in
+          let ends = sym (ap endIn bounds-are ∙ h .ends) in
           subst (λ (T : Type 0). T) (λ i. Stood words″ (bs i) (ns i) (ls i) (first i) (ends i))
-          (written-next (e .standing) (bounds / 65536), e .follows)
+          (written-next (e .standing) (firstIn bounds), e .follows)
 
       block-there : getD (blocksIn records₂) fresh 0 ≡ body
       block-there =
@@ -230,13 +231,13 @@ module _ {code : List ℕ} {limit group : ℕ} {words : List ℤ} {records : Lis
           (omega (arith, entry-fits .room-next .few, column-length (λ a. a .block) records₁ 0 256))
 
       pub enters-to : Succeeds w words″ records₂ table
-          (record { live = fresh; at = bounds / 65536; end = bounds % 65536; pairs = here .pairs; level = head / 256 % 256; fresh = 0 })
+          (record { live = fresh; at = firstIn bounds; end = endIn bounds; pairs = here .pairs; level = levelIn head; fresh = 0 })
       enters-to =
           let s = stood in
           record {
             running = record {
               standing = s .0;
-              level-is = ap (λ x. x / 256 % 256) head-is ∙ ap (λ b. getD code b 0 / 256 % 256) (sym block-there);
+              level-is = ap levelIn head-is ∙ ap (λ b. levelIn (getD code b 0)) (sym block-there);
               room = omega (arith, w .room, p .long, n .long);
             };
             follows = s .1;

@@ -1,6 +1,6 @@
 -- The static-chain engine between two steps: `Running` says that the records hold a sound stack, and that the level is that of the innermost block.
 -- `Succeeds`: another state is the one a step later. The others are what its functions make and ask.
-use Prim.Native.Nat.{ℕ, _+_, _*_, _-_, _/_, _%_, _≤_, _<_}
+use Prim.Native.Nat.{ℕ, _+_, _*_, _-_, _≤_, _<_}
 use mathlib.Core.Bool.{true, false}
 use mathlib.Core.List.{List}
 use mathlib.Core.Path.{_≡_}
@@ -12,6 +12,7 @@ use Rattle.chain_records.specs.declared.Activation.{Activation}
 use Rattle.resolved.specs.Resolved.{levelIn}
 use Rattle.steps.specs.Standing.{Standing}
 use Rattle.steps.specs.Means.{Follows, EntersAt}
+use Rattle.layout.specs.Layout.{endIn, firstIn}
 use Rattle.run_sheet.specs.Named.{lookedUpBy, Nameable}
 use Rattle.run_state.specs.declared.Registers.{Registers}
 use Rattle.run_state.specs.Scenes.{limitsBy}
@@ -25,21 +26,21 @@ use Rattle.chain_links.specs.Finding.{Handing, argumentsEnd, handedOn}
 -- an activation becomes the innermost one, whose block's place is given
 abbrev pub nowBy : List ℕ → ℕ → ℕ → ℕ → ℕ → Registers
 nowBy code block home place pairs =
-    record { live = home; at = place; end = getD code (block + 1) 0 % 65536; pairs = pairs; level = getD code block 0 / 256 % 256; fresh = 0 }
+    record { live = home; at = place; end = endIn (getD code (block + 1) 0); pairs = pairs; level = levelIn (getD code block 0); fresh = 0 }
 
 abbrev pub enteredBy : List ℕ → Registers → Activation → Registers
 enteredBy code here a = nowBy code (a .block) (here .live + 1) (a .next) (here .pairs)
 
 -- the record of a new activation of the block at a place
 abbrev pub activationOf : List ℕ → ℕ → ℕ → Activation
-activationOf code body link = record { block = body; next = getD code (body + 1) 0 / 65536; link = link }
+activationOf code body link = record { block = body; next = firstIn (getD code (body + 1) 0); link = link }
 
 -- what is read of an activation's block
 abbrev pub levelAt : List ℕ → List Activation → ℕ → ℕ
-levelAt code records k = getD code (getD (blocksIn records) k 0) 0 / 256 % 256
+levelAt code records k = levelIn (getD code (getD (blocksIn records) k 0) 0)
 
 abbrev pub endAt : List ℕ → List Activation → ℕ → ℕ
-endAt code records k = getD code (getD (blocksIn records) k 0 + 1) 0 % 65536
+endAt code records k = endIn (getD code (getD (blocksIn records) k 0 + 1) 0)
 
 abbrev pub nowAt : List ℕ → List Activation → ℕ → ℕ → ℕ → Registers
 nowAt code records home place pairs = nowBy code (getD (blocksIn records) home 0) home place pairs

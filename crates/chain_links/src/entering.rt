@@ -7,14 +7,19 @@ use super::with_next;
 use chain_records::Activation;
 use chain_records::push;
 use chain_records::read;
+use layout::cell_at;
+use layout::first_of;
+use layout::formals_of;
+use layout::names_of;
 use run_state::Registers;
 use run_state::narrow_u32;
 use run_state::wide_u32;
 use run_words::clear;
 use run_words::code_at;
 ghost use mathlib.Core.Path.{_≡_};
-ghost use Prim.Native.Nat.{_+_, _*_, _/_, _%_, _<_, _≤_};
+ghost use Prim.Native.Nat.{_+_, _<_, _≤_};
 ghost use lib.ListN.{getD};
+ghost use Rattle.layout.specs.Layout.{cellFrom, formalsIn, namesIn};
 ghost use Rattle.run_moves.specs.Effects.{Cleared};
 ghost use Rattle.chain_links.specs.Running.{activationOf, enteredBy, EnterReady, Succeeds};
 
@@ -27,7 +32,7 @@ fn begun(code: &[u32; 4096], entry: Entry) -> Activation
     let bounds = code_at(code, body + 1);
     Activation {
         block: narrow_u32(body),
-        next: narrow_u32(bounds / 65536),
+        next: narrow_u32(first_of(bounds)),
         link: narrow_u32(entry.link),
     }
 }
@@ -39,19 +44,19 @@ fn entered(
     here: Registers,
     activation: Activation,
 ) -> Registers
-    requires { ⌜ (activation .block + 3 ≤ 4096) × (here .live + 1 < 256) × (getD (now code) (activation .block) 0 / 65536 % 256 ≤ 32)
-        × (getD (now code) (activation .block) 0 / 16777216 ≤ 32) ⌝ }
+    requires { ⌜ (activation .block + 3 ≤ 4096) × (here .live + 1 < 256) × (formalsIn (getD (now code) (activation .block) 0) ≤ 32)
+        × (namesIn (getD (now code) (activation .block) 0) ≤ 32) ⌝ }
     ensures { λ r. ⌜ (r ≡ enteredBy (now (code .entry)) here activation) × Cleared (now (words .entry))
-        (32 * (here .live + 1) + getD (now (code .entry)) (activation .block) 0 / 65536 % 256)
-        (32 * (here .live + 1) + getD (now (code .entry)) (activation .block) 0 / 16777216) (now (words .exit)) ⌝ }
+        (cellFrom (here .live + 1) (formalsIn (getD (now (code .entry)) (activation .block) 0)))
+        (cellFrom (here .live + 1) (namesIn (getD (now (code .entry)) (activation .block) 0))) (now (words .exit)) ⌝ }
 {
     let block = wide_u32(activation.block);
     let head = code_at(code, block);
     let fresh = here.live + 1;
     clear(
         words,
-        32 * fresh + head / 65536 % 256,
-        32 * fresh + head / 16777216,
+        cell_at(fresh, formals_of(head)),
+        cell_at(fresh, names_of(head)),
     );
     innermost(
         code,

@@ -1,6 +1,10 @@
 // A call's arguments go to the first cells of the next activation, each found by the links.
 use super::first_cell;
 use chain_records::Activation;
+use layout::BLOCK;
+use layout::SHARE;
+use layout::operation_of;
+use layout::position_of;
 use run_state::Registers;
 use run_words::code_at;
 ghost use mathlib.Core.Path.{_≡_};
@@ -18,7 +22,7 @@ pub fn arguments_end(code: &[u32; 4096], here: Registers) -> usize
     ensures { λ r. ⌜ r ≡ argumentsEnd (now (code .entry)) (here .at) ⌝ }
 {
     let at = here.at;
-    if code_at(code, at) % 16 == 6 {
+    if operation_of(code_at(code, at)) == BLOCK {
         return 3;
     }
     3 + code_at(code, at + 2)
@@ -32,8 +36,8 @@ fn pass(code: &[u32; 4096], words: &mut [i32; 8224], here: Registers, field: usi
         (first + positionIn (getD (now (code .entry)) (here .at + field) 0))) ⌝ }
 {
     let word = code_at(code, here.at + field);
-    let value = run_words::handed(words, word, first + word % 32);
-    run_words::store(words, 32 * here.live + 32 + (field - 3), value);
+    let value = run_words::handed(words, word, first + position_of(word));
+    run_words::store(words, SHARE * here.live + SHARE + (field - 3), value);
 }
 
 // The arguments stand in the fields from the third on up to `last`.
@@ -49,7 +53,7 @@ pub fn hand(
         (argumentsFrom (byChain (now (words .entry)) (now (records .entry)) (here .live) (here .level))
         (only-words (now (code .entry)) (now (words .entry)) (here .at)) (here .at + 3) (last - 3)) ⌝ }
 {
-    let own = 32 * here.live;
+    let own = SHARE * here.live;
     let mut field = 3;
     while field < last {
         let first = first_cell(code, records, here, own, field);

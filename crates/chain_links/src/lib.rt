@@ -4,13 +4,16 @@ use chain_records::follow;
 use chain_records::push;
 use chain_records::read;
 pub use entering::enter;
+use layout::SHARE;
+use layout::end_of;
+use layout::level_of;
 use run_sheet::name_designator;
 use run_state::Registers;
 use run_state::narrow_u32;
 use run_state::wide_u32;
 use run_words::code_at;
 ghost use mathlib.Core.Path.{_≡_};
-ghost use Prim.Native.Nat.{_+_, _*_, _-_, _/_, _%_, _<_, _≤_};
+ghost use Prim.Native.Nat.{_+_, _*_, _-_, _<_, _≤_};
 ghost use lib.ListN.{getD, set};
 ghost use Rattle.chain_records.specs.Records.{at};
 ghost use Rattle.resolved.specs.Resolved.{levelIn};
@@ -34,8 +37,7 @@ fn hops(code: &[u32; 4096], here: Registers, field: usize) -> usize
     requires { ⌜ (here .at + field < 4096) × (levelIn (getD (now code) (here .at + field) 0) ≤ here .level) ⌝ }
     ensures { λ r. ⌜ r ≡ here .level - levelIn (getD (now (code .entry)) (here .at + field) 0) ⌝ }
 {
-    let at = here.at;
-    here.level - code_at(code, at + field) / 256 % 256
+    here.level - level_of(code_at(code, here.at + field))
 }
 
 // The first cell of that activation; the innermost one's own is given, since most names are declared there.
@@ -53,7 +55,7 @@ pub fn first_cell(
     if count == 0 {
         return own;
     }
-    32 * follow(records, here.live, count)
+    SHARE * follow(records, here.live, count)
 }
 
 pub fn with_next(activation: Activation, place: usize) -> Activation
@@ -82,9 +84,9 @@ pub fn innermost(
     Registers {
         live: home,
         at: place,
-        end: code_at(code, block + 1) % 65536,
+        end: end_of(code_at(code, block + 1)),
         pairs,
-        level: code_at(code, block) / 256 % 256,
+        level: level_of(code_at(code, block)),
         fresh: 0,
     }
 }
@@ -124,7 +126,7 @@ fn links_to(here: Registers, word: usize) -> usize
     if word == 0 {
         return 0;
     }
-    here.level - word / 256 % 256
+    here.level - level_of(word)
 }
 
 // What is found of the name with this word, once the activation that declares it is.
@@ -133,7 +135,7 @@ fn found_by(words: &[i32; 8224], here: Registers, word: usize, home: usize) -> F
     ensures { λ r. ⌜ r ≡ foundBy (now (words .entry)) here word home ⌝ }
 {
     Found {
-        designator: name_designator(words, 32 * home, word),
+        designator: name_designator(words, SHARE * home, word),
         links: narrow_u32(links_to(here, word)),
     }
 }

@@ -2,7 +2,7 @@
 -- many steps left. `Last`: what the last step came to ends it; `Ending`: what is asked at the end.
 -- `begun`: a run begins so; `went-as`: a step keeps it; `over-as`: a step ends it; `out-of-steps`: no step is left. `finished-end`, `halted-end`: what a run
 -- then ends with. `starts`: the engine can stand where a program begins, and `program-run`: what a run from there is to the program.
-use Prim.Native.Nat.{ℕ, suc, _+_, _-_, _/_, _%_, _≤_, _<_}
+use Prim.Native.Nat.{ℕ, suc, _+_, _-_, _≤_, _<_}
 use native.Mathlib.Omega.{arith}
 use mathlib.Core.Bool.{Bool, true, false}
 use mathlib.Core.List.{List, [], _∷_}
@@ -14,11 +14,13 @@ use Rattle.language.specs.declared.Stop.{Stop}
 use Rattle.language.specs.declared.End.{End}
 use Rattle.language.specs.declared.End.the-variants.{Spent, Stopped as Halts}
 use Rattle.frames.specs.Frame.{Frame, Stack, Result, results, halted, linksFollowed, frameStep, frameRun, frameStart}
+use Rattle.resolved.specs.Resolved.{levelIn}
 use Rattle.arrays.specs.Names.{nothing-live}
 use Rattle.steps.specs.Here.{live-few}
 use Rattle.steps.specs.Reads.{at-within, begin-reads}
 use Rattle.steps.specs.Loop.{begins, spent as spends, stops}
 use Rattle.steps.specs.Underway as steps
+use Rattle.layout.specs.Layout.{endIn, firstIn}
 use Rattle.chain_records.specs.declared.Activation.{Activation}
 use Rattle.chain_records.specs.Records.{at as record-at}
 use Rattle.run_state.specs.declared.Registers.{Registers}
@@ -41,7 +43,7 @@ use Rattle.chain_run.specs.Running.{Beginning, Ended, EndedFrom, RunFrom
 
 abbrev pub startBy : List ℕ → ℕ → Registers
 startBy code pairs =
-    record { live = 0; at = getD code 1 0 / 65536; end = getD code 1 0 % 65536; pairs = pairs; level = getD code 0 0 / 256 % 256; fresh = 0 }
+    record { live = 0; at = firstIn (getD code 1 0); end = endIn (getD code 1 0); pairs = pairs; level = levelIn (getD code 0 0); fresh = 0 }
 
 unfoldable pub haltBy : Registers → Turn → Found → ℕ → ℕ → Halt
 haltBy here (Went n) found allowance left = namedBy (spentAfter here (allowance - left)) (found .designator) (found .links)
@@ -289,11 +291,11 @@ module _ {code : List ℕ} {words : List ℤ} {records : List Activation} {table
       (column-length (λ a. a .link) rs 0 256) (b .zeros) block link in
       let reads = begin-reads code t (b .name) (b .keeps) (b .covers) in
       subst (Starts rs)
-      (λ i. record { live = 0; at = sym (reads .0) i; end = sym (reads .1) i; pairs = pairs; level = getD code 0 0 / 256 % 256; fresh = 0 })
+      (λ i. record { live = 0; at = sym (reads .0) i; end = sym (reads .1) i; pairs = pairs; level = levelIn (getD code 0 0); fresh = 0 })
       (record {
         running = record {
           standing = s .0;
-          level-is = ap (λ k. getD code k 0 / 256 % 256) (sym block);
+          level-is = ap (λ k. levelIn (getD code k 0)) (sym block);
           room = omega (arith, b .room, p .long);
         };
         stack-is = s .1;

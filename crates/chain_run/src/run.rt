@@ -6,12 +6,14 @@ use chain_records::Activation;
 use chain_records::push;
 use chain_step::step;
 use chain_step::went;
+use layout::end_of;
+use layout::first_of;
+use layout::level_of;
 use run_state::Halt;
 use run_state::Registers;
 use run_state::narrow_u32;
 use run_words::code_at;
 ghost use mathlib.Core.Path.{_≡_};
-ghost use Prim.Native.Nat.{_/_, _%_};
 ghost use Rattle.frames.specs.Frame.{frameRun, frameStart};
 ghost use Rattle.run_state.specs.Scenes.{limitsBy};
 ghost use Rattle.chain_links.specs.Running.{activationOf, Running};
@@ -54,7 +56,7 @@ fn program_record(code: &[u32; 4096]) -> Activation
 {
     Activation {
         block: 0,
-        next: narrow_u32(code_at(code, 1) / 65536),
+        next: narrow_u32(first_of(code_at(code, 1))),
         link: 0,
     }
 }
@@ -66,10 +68,10 @@ fn begin(code: &[u32; 4096], pairs: usize) -> Registers
     let bounds = code_at(code, 1);
     Registers {
         live: 0,
-        at: bounds / 65536,
-        end: bounds % 65536,
+        at: first_of(bounds),
+        end: end_of(bounds),
         pairs,
-        level: head / 256 % 256,
+        level: level_of(head),
         fresh: 0,
     }
 }

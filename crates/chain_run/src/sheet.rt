@@ -1,6 +1,7 @@
 // The sheet, written from the activation records.
 use chain_records::Activation;
 use chain_records::read;
+use layout::SHARE;
 use run_sheet::write_activation;
 use run_state::wide_u32;
 ghost use mathlib.Core.List.{List, _∷_, _++_};
@@ -36,7 +37,7 @@ fn write_record(
         words,
         wide_u32(activation.block),
         wide_u32(activation.next),
-        32 * k,
+        SHARE * k,
         sheet,
         at,
     )

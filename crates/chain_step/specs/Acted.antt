@@ -1,7 +1,7 @@
 -- The next statement, with its names found by the links: what `acted` asks (`Stating`), and where it is of a class (`Summing`, `Tabling`). Of a statement
 -- that is asked so: `by-class`, which fields its names stand in, by its class, and when their cells are those that the links lead to; `ready`, what its
 -- function may rely on then; `Does-as` and `Stores`, all this of AR, QY and KN, whose function is called at once; `only-led`, of a statement with one name or none.
-use Prim.Native.Nat.{ℕ, zero, suc, _+_, _*_, _-_, _/_, _%_, _≤_, _<_}
+use Prim.Native.Nat.{ℕ, zero, suc, _+_, _*_, _-_, _≤_, _<_}
 use native.Mathlib.Omega.{arith}
 use mathlib.Core.Bool.{true, false}
 use mathlib.Core.List.{List}
@@ -22,21 +22,25 @@ use Rattle.run_moves.specs.Acting.{Finding, Scene, sceneBy, operationOf, doCons
 use Rattle.steps.specs.Standing.{Standing}
 use Rattle.steps.specs.Here.{live-few}
 use Rattle.steps.specs.Fields as fields
+use Rattle.layout.specs.Layout.{operationIn, leadIn}
 use Rattle.run_statements.specs.Pieces.{FormalsBefore, only-words}
 use Rattle.run_statements.specs.Numbers.{op-of}
 use Rattle.run_cells.specs.Finding.{Reachable, Direct, ThroughFormal}
 use Rattle.run_cells.specs.Asking.{wordBehind, Calling, Ready, Leads, Did, classOf}
+use Rattle.run_cells.specs.Asking.{oneClass, addClass, subtractClass, compareClass, arithmeticFormalClass, branchClass, pairClass, queryClass, constantClass}
 use Rattle.run_cells.specs.Moves as moves
 use Rattle.run_cells.specs.Classes.{add-only, subtract-only, compare-only, arithmetic-only, query-only, constant-only}
 use Rattle.chain_records.specs.declared.Activation.{Activation}
 use Rattle.run_state.specs.declared.Registers.{Registers}
 use Rattle.chain_links.specs.Records.{blocksIn, nextsIn, linksIn}
-use Rattle.chain_links.specs.Finding.{firstCell, byChain, Seen, Named}
+use Rattle.chain_links.specs.Finding.{firstCell, byChain, Named}
 use Rattle.run_state.specs.Scenes.{limitsBy}
 use Rattle.chain_links.specs.Running.{Running}
 use Rattle.chain_links.specs.Names as links
 use Rattle.chain_step.specs.declared.turn.Moved.{Moved}
 use Rattle.chain_step.specs.Moved.{movedBy}
+use Rattle.chain_step.specs.Numbers.{numberOf, number-of}
+use Rattle.chain_step.specs.Fields as found
 
 -- an engine that runs stands before the end of a text
 pub record Stating (code : List ℕ) (words : List ℤ) (records : List Activation) (limit : ℕ) (here : Registers) : Type 0 where
@@ -59,16 +63,16 @@ pub record Summing (code : List ℕ) (words : List ℤ) (records : List Activati
   pub limit : ℕ
   pub stating : Stating code words records limit here
   pub chosen : Chosen code here own class
-  pub low : 1 ≤ class
-  pub high : class ≤ 4
+  pub low : addClass ≤ class
+  pub high : class ≤ arithmeticFormalClass
 
 -- AD, RM and QY
 pub record Tabling (code : List ℕ) (words : List ℤ) (records : List Activation) (here : Registers) (own class : ℕ) : Type 0 where
   pub limit : ℕ
   pub stating : Stating code words records limit here
   pub chosen : Chosen code here own class
-  pub low : 5 < class
-  pub other : class ≡ 8 → ⊥
+  pub low : branchClass < class
+  pub other : class ≡ constantClass → ⊥
 
 -- the statement has been done, and the engine goes on so
 pub record Does (done : Happened) (words : List ℤ) (here : Registers) (moved : Moved) (words′ : List ℤ) : Type 0 where
@@ -78,40 +82,19 @@ pub record Does (done : Happened) (words : List ℤ) (here : Registers) (moved :
 
 unfoldable pub onlyHops : List ℕ → Registers → ℕ
 onlyHops code here =
-    elim (eqb (getD code (here .at) 0 % 16) 6) [ true ↦ 0 | false ↦ here .level - levelIn (getD code (here .at + 1) 0) ]
+    elim (eqb (operationIn (getD code (here .at) 0)) 6) [ true ↦ 0 | false ↦ here .level - levelIn (getD code (here .at + 1) 0) ]
 
 -- The links of the only name
 
-pub none-hops : (code : List ℕ) (here : Registers) → getD code (here .at) 0 % 16 ≡ 6 → 0 ≡ onlyHops code here
+pub none-hops : (code : List ℕ) (here : Registers) → operationIn (getD code (here .at) 0) ≡ 6 → 0 ≡ onlyHops code here
 unfolding onlyHops
-none-hops code here e = rw (onlyHops, eq-eqb (getD code (here .at) 0 % 16) 6 e)
+none-hops code here e = rw (onlyHops, eq-eqb (operationIn (getD code (here .at) 0)) 6 e)
 
-pub some-hops : (code : List ℕ) (here : Registers) → (getD code (here .at) 0 % 16 ≡ 6 → ⊥) → here .level - levelIn (getD code (here .at + 1) 0) ≡ onlyHops code here
+pub some-hops : (code : List ℕ) (here : Registers) → (operationIn (getD code (here .at) 0) ≡ 6 → ⊥) → here .level - levelIn (getD code (here .at + 1) 0) ≡ onlyHops code here
 unfolding onlyHops
-some-hops code here d = rw (onlyHops, ne-eqb (getD code (here .at) 0 % 16) 6 d)
+some-hops code here d = rw (onlyHops, ne-eqb (operationIn (getD code (here .at) 0)) 6 d)
 
--- no other number is BK's
-block-number : (k : ℕ) → getD operations k constant-op ≡ block-op → k ≡ 6
-unfolding operations
-block-number zero e = let z : _≡_ {A = ℕ} 0 1 = cc in absurd (omega arith)
-block-number (suc zero) e = let z : _≡_ {A = ℕ} 0 1 = cc in absurd (omega arith)
-block-number (suc (suc zero)) e = let z : _≡_ {A = ℕ} 0 1 = cc in absurd (omega arith)
-block-number (suc (suc (suc zero))) e = let z : _≡_ {A = ℕ} 0 1 = cc in absurd (omega arith)
-block-number (suc (suc (suc (suc zero)))) e = let z : _≡_ {A = ℕ} 0 1 = cc in absurd (omega arith)
-block-number (suc (suc (suc (suc (suc zero))))) e = let z : _≡_ {A = ℕ} 0 1 = cc in absurd (omega arith)
-block-number (suc (suc (suc (suc (suc (suc zero)))))) e = refl
-block-number (suc (suc (suc (suc (suc (suc (suc zero))))))) e = let z : _≡_ {A = ℕ} 0 1 = cc in absurd (omega arith)
-block-number (suc (suc (suc (suc (suc (suc (suc (suc zero)))))))) e = let z : _≡_ {A = ℕ} 0 1 = cc in absurd (omega arith)
-block-number (suc (suc (suc (suc (suc (suc (suc (suc (suc zero))))))))) e = let z : _≡_ {A = ℕ} 0 1 = cc in absurd (omega arith)
-block-number (suc (suc (suc (suc (suc (suc (suc (suc (suc (suc zero)))))))))) e = let z : _≡_ {A = ℕ} 0 1 = cc in absurd (omega arith)
-block-number (suc (suc (suc (suc (suc (suc (suc (suc (suc (suc (suc zero))))))))))) e = let z : _≡_ {A = ℕ} 0 1 = cc in absurd (omega arith)
-block-number (suc (suc (suc (suc (suc (suc (suc (suc (suc (suc (suc (suc zero)))))))))))) e = let z : _≡_ {A = ℕ} 0 1 = cc in absurd (omega arith)
-block-number (suc (suc (suc (suc (suc (suc (suc (suc (suc (suc (suc (suc (suc zero))))))))))))) e = let z : _≡_ {A = ℕ} 0 1 = cc in absurd (omega arith)
-block-number (suc (suc (suc (suc (suc (suc (suc (suc (suc (suc (suc (suc (suc (suc zero)))))))))))))) e = let z : _≡_ {A = ℕ} 0 1 = cc in absurd (omega arith)
-block-number (suc (suc (suc (suc (suc (suc (suc (suc (suc (suc (suc (suc (suc (suc (suc zero))))))))))))))) e = let z : _≡_ {A = ℕ} 0 1 = cc in absurd (omega arith)
-block-number (suc (suc (suc (suc (suc (suc (suc (suc (suc (suc (suc (suc (suc (suc (suc (suc k)))))))))))))))) e = let z : _≡_ {A = ℕ} 0 1 = cc in absurd (omega arith)
-
-formal-target : (words : List ℤ) (first v : ℕ) → direct v ≡ false → targetBy words first v ≡ heldBy words first v / 8192
+formal-target : (words : List ℤ) (first v : ℕ) → direct v ≡ false → targetBy words first v ≡ leadIn (heldBy words first v)
 unfolding targetBy
 formal-target words first v e = rw (targetBy, e)
 
@@ -165,11 +148,8 @@ module _ {code : List ℕ} {words : List ℤ} {records : List Activation} {limit
 
   -- a name that stands in a field
 
-  seen : (i : ℕ) → fields.FieldName st i → Seen records (here .live) (here .level) (word i)
-  seen i f = subst (Seen records (here .live) (here .level)) (sym (f .word)) (links.seen-name w (f .name) (f .resolved))
-
   named : (i : ℕ) → here .at + i < 4096 → fields.FieldName st i → Named code records here i
-  named i h f = record { there = h; seen = seen i f }
+  named i h f = record { there = h; seen = found.seen w i f }
 
   reachable : (i first : ℕ) → first ≡ firstOf (word i) → fields.FieldName st i → Reachable words first (word i)
   reachable i first e f =
@@ -183,10 +163,10 @@ module _ {code : List ℕ} {words : List ℤ} {records : List Activation} {limit
   formally i first e f = record { reachable = reachable i first e (f .0); is = f .1 }
 
   formals-before : (first : ℕ) → first ≡ firstOf (word 1) → fields.ThroughFormal st 1 → fields.BodyStands st
-      → FormalsBefore code (heldBy words first (word 1) / 8192)
+      → FormalsBefore code (leadIn (heldBy words first (word 1)))
   formals-before first e f b =
       let h = b (byChain words records (here .live) (here .level)) (links.finds-by-chain w) in
-      subst (λ k. FormalsBefore code (heldBy words k (word 1) / 8192)) (sym e)
+      subst (λ k. FormalsBefore code (leadIn (heldBy words k (word 1)))) (sym e)
       (subst (FormalsBefore code) (formal-target words (firstCell records (here .live) (here .level) (word 1)) (word 1) (f .1))
       (record { there = h .0; before = h .1 }))
 
@@ -231,8 +211,11 @@ module _ {code : List ℕ} {words : List ℤ} {records : List Activation} {limit
   abbrev N : ℕ → Type 0
   N i = Named code records here i
 
-  abbrev Two : Op → Type 0
-  Two o = (N 1 × N 2) × ((first second : ℕ) → At first 1 → At second 2 → Led first second 0 o)
+  -- two names, in the fields 1 and 2
+  pub record Two (o : Op) : Type 0 where
+    pub one : N 1
+    pub other : N 2
+    pub led : (first second : ℕ) → At first 1 → At second 2 → Led first second 0 o
 
   abbrev ByClass : Op → ℕ → Type 0
   ByClass o zero = (first : ℕ) → At first 1 → Led first 0 0 o
@@ -252,16 +235,16 @@ module _ {code : List ℕ} {words : List ℤ} {records : List Activation} {limit
   classed-by add-op f = tt
   classed-by subtract-op f = tt
   classed-by compare-op f = tt
-  classed-by branch-op f = ((named 1 (omega (arith, f .0)) (f .1 .0), named 2 (omega (arith, f .0)) (f .2 .0)), λ a b p q. (p, q))
+  classed-by branch-op f = record { one = named 1 (omega (arith, f .0)) (f .1 .0); other = named 2 (omega (arith, f .0)) (f .2 .0); led = λ a b p q. (p, q) }
   classed-by goto-op f = λ a p. p
   classed-by block-op f = λ a p. tt
   classed-by call-op f = λ a p. p
-  classed-by pair-op f = ((named 1 (omega (arith, f .0)) (f .1), named 2 (omega (arith, f .0)) (f .2)), λ a b p q. (p, q))
-  classed-by unpair-op f = ((named 1 (omega (arith, f .0)) (f .1), named 2 (omega (arith, f .0)) (f .2)), λ a b p q. (p, q))
+  classed-by pair-op f = record { one = named 1 (omega (arith, f .0)) (f .1); other = named 2 (omega (arith, f .0)) (f .2); led = λ a b p q. (p, q) }
+  classed-by unpair-op f = record { one = named 1 (omega (arith, f .0)) (f .1); other = named 2 (omega (arith, f .0)) (f .2); led = λ a b p q. (p, q) }
   classed-by query-op f = tt
   classed-by constant-formal-op f = λ a p. p
   classed-by arithmetic-formal-op f = tt
-  classed-by branch-formal-op f = ((named 1 (omega (arith, f .0)) (f .1), named 2 (omega (arith, f .0)) (f .2)), λ a b p q. (p, q))
+  classed-by branch-formal-op f = record { one = named 1 (omega (arith, f .0)) (f .1); other = named 2 (omega (arith, f .0)) (f .2); led = λ a b p q. (p, q) }
   classed-by goto-formal-op f = λ a p. p
   classed-by call-formal-op f = λ a p. p
 
@@ -269,17 +252,17 @@ module _ {code : List ℕ} {words : List ℤ} {records : List Activation} {limit
   by-class n e = subst (ByClass op) e (classed-by op stand)
 
   -- the class that is left
-  pub seven-left : (n : ℕ) → ByClass op n → 5 < n → (n ≡ 6 → ⊥) → (n ≡ 8 → ⊥) → n ≡ 7
-  seven-left zero b h d e = absurd (omega arith)
-  seven-left (suc zero) b h d e = absurd (omega arith)
-  seven-left (suc (suc zero)) b h d e = absurd (omega arith)
-  seven-left (suc (suc (suc zero))) b h d e = absurd (omega arith)
-  seven-left (suc (suc (suc (suc zero)))) b h d e = absurd (omega arith)
-  seven-left (suc (suc (suc (suc (suc zero))))) b h d e = absurd (omega arith)
-  seven-left (suc (suc (suc (suc (suc (suc zero)))))) b h d e = absurd (d refl)
-  seven-left (suc (suc (suc (suc (suc (suc (suc zero))))))) b h d e = refl
-  seven-left (suc (suc (suc (suc (suc (suc (suc (suc zero)))))))) b h d e = absurd (e refl)
-  seven-left (suc (suc (suc (suc (suc (suc (suc (suc (suc n))))))))) b h d e = absurd b
+  pub query-left : (n : ℕ) → ByClass op n → branchClass < n → (n ≡ pairClass → ⊥) → (n ≡ constantClass → ⊥) → n ≡ queryClass
+  query-left zero b h d e = absurd (omega arith)
+  query-left (suc zero) b h d e = absurd (omega arith)
+  query-left (suc (suc zero)) b h d e = absurd (omega arith)
+  query-left (suc (suc (suc zero))) b h d e = absurd (omega arith)
+  query-left (suc (suc (suc (suc zero)))) b h d e = absurd (omega arith)
+  query-left (suc (suc (suc (suc (suc zero))))) b h d e = absurd (omega arith)
+  query-left (suc (suc (suc (suc (suc (suc zero)))))) b h d e = absurd (d refl)
+  query-left (suc (suc (suc (suc (suc (suc (suc zero))))))) b h d e = refl
+  query-left (suc (suc (suc (suc (suc (suc (suc (suc zero)))))))) b h d e = absurd (e refl)
+  query-left (suc (suc (suc (suc (suc (suc (suc (suc (suc n))))))))) b h d e = absurd b
 
   -- AR and QY
 
@@ -318,17 +301,17 @@ module _ {code : List ℕ} {words : List ℤ} {records : List Activation} {limit
             moves.did way scene p is (subst (λ (x : Happened). Did x words r words′) e (moves.arithmetic-did way scene f d));
       }
 
-  pub adds : classOf op ≡ 1 → Sum plus
+  pub adds : classOf op ≡ addClass → Sum plus
   unfolding operations happens
   adds e = let is : op ≡ add-op = op-of (getD code (here .at) 0) 1 (add-only _ e) in sum add-op plus is (subst (fields.Fields st) is stand) refl
 
-  pub subtracts : classOf op ≡ 2 → Sum minus
+  pub subtracts : classOf op ≡ subtractClass → Sum minus
   unfolding operations happens
   subtracts e =
       let is : op ≡ subtract-op = op-of (getD code (here .at) 0) 2 (subtract-only _ e) in
       sum subtract-op minus is (subst (fields.Fields st) is stand) refl
 
-  pub compares : classOf op ≡ 3 → Sum less
+  pub compares : classOf op ≡ compareClass → Sum less
   unfolding operations happens
   compares e =
       let is : op ≡ compare-op = op-of (getD code (here .at) 0) 3 (compare-only _ e) in
@@ -340,7 +323,7 @@ module _ {code : List ℕ} {words : List ℤ} {records : List Activation} {limit
   abbrev pub Formal : Type 0
   Formal = Does-as 3 4 (Final 3 4 5) (Summed (operationOf (word 2)))
 
-  pub through-formals : classOf op ≡ 4 → Formal
+  pub through-formals : classOf op ≡ arithmeticFormalClass → Formal
   unfolding operations happens
   through-formals e =
       let is : op ≡ arithmetic-formal-op = op-of (getD code (here .at) 0) 12 (arithmetic-only _ e) in
@@ -354,7 +337,7 @@ module _ {code : List ℕ} {words : List ℤ} {records : List Activation} {limit
   abbrev pub Query : Type 0
   Query = Does-as 2 3 (Final 2 3 4) (λ r words′. (r ≡ doQuery way (only-words code words (here .at)) .move) × (words′ ≡ words))
 
-  pub queries : classOf op ≡ 7 → Query
+  pub queries : classOf op ≡ queryClass → Query
   unfolding operations happens
   queries e =
       let is : op ≡ query-op = op-of (getD code (here .at) 0) 10 (query-only _ e) in
@@ -373,7 +356,7 @@ module _ {code : List ℕ} {words : List ℤ} {records : List Activation} {limit
     pub did : {r : Move} {words′ : List ℤ} → (r ≡ doConstant way (only-words code words (here .at)) .move)
         × (words′ ≡ doConstant way (only-words code words (here .at)) .words) → Did (acting way scene) words r words′
 
-  pub stores : classOf op ≡ 8 → Stores
+  pub stores : classOf op ≡ constantClass → Stores
   unfolding operations happens
   stores e =
       let is : op ≡ constant-op = op-of (getD code (here .at) 0) 0 (constant-only _ e) in
@@ -404,16 +387,16 @@ module _ {code : List ℕ} {words : List ℤ} {records : List Activation} {limit
   first-name goto-formal-op d f = f .1 .0
   first-name call-formal-op d f = f .1 .0
 
-  pub first-outer : (getD code (here .at) 0 % 16 ≡ 6 → ⊥) → levelIn (word 1) ≤ here .level
-  unfolding opOf
-  first-outer d = seen 1 (first-name op (λ e. d (block-number (getD code (here .at) 0 % 16) e)) stand) .outer
+  pub first-outer : (operationIn (getD code (here .at) 0) ≡ 6 → ⊥) → levelIn (word 1) ≤ here .level
+  unfolding numberOf
+  first-outer d = found.seen w 1 (first-name op (λ e. d (number-of (getD code (here .at) 0) block-op e)) stand) .outer
 
-  is-block : (first : ℕ) → getD code (here .at) 0 % 16 ≡ 6 → Led first 0 0 op
+  is-block : (first : ℕ) → operationIn (getD code (here .at) 0) ≡ 6 → Led first 0 0 op
   unfolding operations
   is-block first t = subst (λ o. Led first 0 0 o) (sym (op-of (getD code (here .at) 0) 6 t)) tt
 
-  pub only-led : (first : ℕ) → first ≡ 32 * follow (linksIn records) (here .live) (onlyHops code here) → classOf op ≡ 0 → Led first 0 0 op
+  pub only-led : (first : ℕ) → first ≡ 32 * follow (linksIn records) (here .live) (onlyHops code here) → classOf op ≡ oneClass → Led first 0 0 op
   only-led first e one =
-      split (eqb (getD code (here .at) 0 % 16) 6) (λ t. is-block first (eqb-true (getD code (here .at) 0 % 16) 6 t))
-      (λ t. by-class 0 one first (e ∙ ap (λ (n : ℕ). 32 * follow (linksIn records) (here .live) n)
-      (sym (some-hops code here (eqb-false (getD code (here .at) 0 % 16) 6 t)))))
+      split (eqb (operationIn (getD code (here .at) 0)) 6) (λ t. is-block first (eqb-true (operationIn (getD code (here .at) 0)) 6 t))
+      (λ t. by-class oneClass one first (e ∙ ap (λ (n : ℕ). 32 * follow (linksIn records) (here .live) n)
+      (sym (some-hops code here (eqb-false (operationIn (getD code (here .at) 0)) 6 t)))))

@@ -1,13 +1,13 @@
 -- Where the next statement enters a block, its arguments can be handed on, and nothing else becomes of the words (`enters-handing`).
-use Prim.Native.Nat.{ℕ, zero, suc, _+_, _-_, _*_, _%_, _≤_, _<_}
+use Prim.Native.Nat.{ℕ, zero, suc, _+_, _-_, _*_, _≤_, _<_}
 use native.Mathlib.Omega.{arith}
 use mathlib.Core.Bool.{true, false, false≢true}
-use mathlib.Core.List.{List, [], _∷_}
+use mathlib.Core.List.{List, _∷_}
 use mathlib.Core.Path.{_≡_, refl, sym, ap, _∙_, subst}
 use borrow.Author.Tests.{eq-eqb, ne-eqb}
 use lib.Dec.{leb}
 use lib.IntN.{ℤ, pos}
-use lib.ListN.{length, getD}
+use lib.ListN.{getD}
 use Rattle.language.specs.Basics.{eqZ}
 use Rattle.language.specs.Text.{Operation, plus, minus, less}
 use Rattle.laws.specs.Tests.{split}
@@ -20,9 +20,10 @@ use Rattle.language.specs.declared.Stop.the-variants.{NoActivationLeft, Argumen
 use Rattle.run_moves.specs.Acting.{Finding, Scene, sceneBy, Happened, field, valueOf, moves, rewrites, setAll, doConstant, arithmeticMove, doArithmetic, doGoto}
 use Rattle.run_moves.specs.Acting.{doBranch, noRoom, argumentsFrom, doCall, argumentsAgree, doCallFormal, doChange, doQuery}
 use Rattle.run_moves.specs.Acting.{Op, constant-op, add-op, subtract-op, compare-op, branch-op, goto-op, block-op, call-op, pair-op, unpair-op, query-op}
-use Rattle.run_moves.specs.Acting.{constant-formal-op, arithmetic-formal-op, branch-formal-op, goto-formal-op, call-formal-op, operations, opOf, happens, acting}
+use Rattle.run_moves.specs.Acting.{constant-formal-op, arithmetic-formal-op, branch-formal-op, goto-formal-op, call-formal-op, opOf, happens, acting}
 use Rattle.steps.specs.Standing.{Standing}
 use Rattle.steps.specs.Fields as fields
+use Rattle.layout.specs.Layout.{operationIn}
 use Rattle.run_statements.specs.Pieces.{only-words, blockMove}
 use Rattle.run_statements.specs.Scenes.{block-same}
 use Rattle.chain_records.specs.declared.Activation.{Activation}
@@ -33,57 +34,17 @@ use Rattle.run_state.specs.Scenes.{limitsBy}
 use Rattle.chain_links.specs.Running.{Running}
 use Rattle.chain_step.specs.Moves.{isEntry}
 use Rattle.chain_step.specs.Fields.{seen, reached}
-
--- An operation's number
-
-unfoldable numberOf : Op → ℕ
-numberOf constant-op = 0
-numberOf add-op = 1
-numberOf subtract-op = 2
-numberOf compare-op = 3
-numberOf branch-op = 4
-numberOf goto-op = 5
-numberOf block-op = 6
-numberOf call-op = 7
-numberOf pair-op = 8
-numberOf unpair-op = 9
-numberOf query-op = 10
-numberOf constant-formal-op = 11
-numberOf arithmetic-formal-op = 12
-numberOf branch-formal-op = 13
-numberOf goto-formal-op = 14
-numberOf call-formal-op = 15
-
--- operations that are numbered from a number on
-abbrev Numbered : ℕ → List Op → Type 0
-Numbered n [] = Unit {0}
-Numbered n (o ∷ os) = (numberOf o ≡ n) × Numbered (suc n) os
-
-number-at : (n : ℕ) (os : List Op) → Numbered n os → (k : ℕ) → k < length os → numberOf (getD os k constant-op) ≡ n + k
-number-at n [] h k l = absurd (omega arith)
-number-at n (o ∷ os) h zero l = let e : n ≡ n + 0 = omega arith in h .0 ∙ e
-number-at n (o ∷ os) h (suc k) l = let e : suc n + k ≡ n + suc k = omega arith in number-at (suc n) os (h .1) k (omega arith) ∙ e
-
-all-numbered : Numbered 0 operations
-unfolding numberOf operations
-all-numbered = (refl, (refl, (refl, (refl, (refl, (refl, (refl, (refl, (refl, (refl, (refl, (refl, (refl, (refl, (refl, (refl, tt))))))))))))))))
-
-number-of : (v : ℕ) (o : Op) → opOf v ≡ o → v % 16 ≡ numberOf o
-unfolding opOf operations
-number-of v o e =
-    let n = number-at 0 operations all-numbered (v % 16) (omega arith) in
-    let z : 0 + v % 16 ≡ v % 16 = omega arith in
-    sym (n ∙ z) ∙ ap numberOf e
+use Rattle.chain_step.specs.Numbers.{numberOf, number-of}
 
 -- Where a call's arguments end
 
-ends-block : (code : List ℕ) (at : ℕ) → getD code at 0 % 16 ≡ 6 → argumentsEnd code at ≡ 3
+ends-block : (code : List ℕ) (at : ℕ) → operationIn (getD code at 0) ≡ 6 → argumentsEnd code at ≡ 3
 unfolding argumentsEnd
-ends-block code at e = rw (argumentsEnd, eq-eqb (getD code at 0 % 16) 6 e)
+ends-block code at e = rw (argumentsEnd, eq-eqb (operationIn (getD code at 0)) 6 e)
 
-ends-call : (code : List ℕ) (at : ℕ) → (getD code at 0 % 16 ≡ 6 → ⊥) → argumentsEnd code at ≡ 3 + getD code (at + 2) 0
+ends-call : (code : List ℕ) (at : ℕ) → (operationIn (getD code at 0) ≡ 6 → ⊥) → argumentsEnd code at ≡ 3 + getD code (at + 2) 0
 unfolding argumentsEnd
-ends-call code at d = rw (argumentsEnd, ne-eqb (getD code at 0 % 16) 6 d)
+ends-call code at d = rw (argumentsEnd, ne-eqb (operationIn (getD code at 0)) 6 d)
 
 arguments-alike : (F : Finding) (s t : Scene) → s .code ≡ t .code → (from n : ℕ) → argumentsFrom F s from n ≡ argumentsFrom F t from n
 unfolding argumentsFrom

@@ -6,16 +6,17 @@ use mathlib.Core.Path.{_≡_, refl, sym, ap, _∙_}
 use borrow.Author.Tests.{eq-eqb, ne-eqb}
 use lib.Dec.{eqb}
 use lib.IntN.{ℤ}
-use Rattle.run_moves.specs.Acting.{answer}
+use Rattle.language.specs.Table.{Table}
+use Rattle.run_moves.specs.Acting.{Answer, answer}
 use Rattle.table_pairs.specs.declared.Change.{Change}
 use Rattle.run_statements.specs.Answers.{Answered, turnAfter}
-use Rattle.run_moves.specs.declared.Ask.{Ask}
 use Rattle.run_moves.specs.declared.Move.{Move}
 use Rattle.run_moves.specs.declared.Move.the-variants.{On, Table as Asks, Jump, Enter, Stop}
 use Rattle.run_state.specs.declared.Registers.{Registers}
 use Rattle.chain_links.specs.declared.Entry.{Entry}
 use Rattle.run_state.specs.declared.Turn.{Turn}
 use Rattle.run_state.specs.declared.Turn.the-variants.{Went, Finished, Stopped}
+use Rattle.chain_step.specs.declared.turn.Asking.{Asking}
 use Rattle.chain_step.specs.declared.turn.Moved.{Moved}
 use Rattle.chain_step.specs.declared.turn.Moved.the-variants.{Went as WentTo, Resume, Enter as EnterBy, Stopped as StoppedFor, Table as AskBy}
 use Rattle.chain_step.specs.Moves.{staysIn, placed, stayedBy, isAsked, isEntry, noEntry, entryOf, homeAt, placeAt}
@@ -29,7 +30,7 @@ jumpedBy here home p = jumpedIf here home p (eqb home (here .live))
 
 abbrev pub movedBy : Registers → Move → Moved
 movedBy here (On p) = WentTo (placed here p (here .pairs))
-movedBy here (Asks p g m t a) = AskBy p g m t a
+movedBy here (Asks p g m t a) = AskBy (record { place = p; group = g; member = m; target = t; ask = a })
 movedBy here (Jump home p) = jumpedBy here home p
 movedBy here (Enter b l k) = EnterBy (record { body = b; link = l; back = k })
 movedBy here (Stop c) = StoppedFor c
@@ -39,49 +40,49 @@ isDone (WentTo n) = true
 isDone (Resume home p) = false
 isDone (EnterBy e) = false
 isDone (StoppedFor c) = true
-isDone (AskBy p g m t a) = false
+isDone (AskBy k) = false
 
 abbrev pub turnOf : Moved → Turn
 turnOf (WentTo n) = Went n
 turnOf (Resume home p) = Finished
 turnOf (EnterBy e) = Finished
 turnOf (StoppedFor c) = Stopped c
-turnOf (AskBy p g m t a) = Finished
+turnOf (AskBy k) = Finished
 
 abbrev pub isAsk : Moved → Bool
 isAsk (WentTo n) = false
 isAsk (Resume home p) = false
 isAsk (EnterBy e) = false
 isAsk (StoppedFor c) = false
-isAsk (AskBy p g m t a) = true
+isAsk (AskBy k) = true
 
 abbrev pub isEnter : Moved → Bool
 isEnter (WentTo n) = false
 isEnter (Resume home p) = false
 isEnter (EnterBy e) = true
 isEnter (StoppedFor c) = false
-isEnter (AskBy p g m t a) = false
+isEnter (AskBy k) = false
 
 abbrev pub entryIn : Moved → Entry
 entryIn (WentTo n) = noEntry
 entryIn (Resume home p) = noEntry
 entryIn (EnterBy e) = e
 entryIn (StoppedFor c) = noEntry
-entryIn (AskBy p g m t a) = noEntry
+entryIn (AskBy k) = noEntry
 
 abbrev pub homeIn : Moved → ℕ
 homeIn (WentTo n) = 0
 homeIn (Resume home p) = home
 homeIn (EnterBy e) = 0
 homeIn (StoppedFor c) = 0
-homeIn (AskBy p g m t a) = 0
+homeIn (AskBy k) = 0
 
 abbrev pub placeIn : Moved → ℕ
 placeIn (WentTo n) = 0
 placeIn (Resume home p) = p
 placeIn (EnterBy e) = 0
 placeIn (StoppedFor c) = 0
-placeIn (AskBy p g m t a) = 0
+placeIn (AskBy k) = 0
 
 -- A jump
 
@@ -155,8 +156,15 @@ ask-so here (Stop c) = refl
 
 -- What is asked
 
-pub not-asked : {x : Moved} (y : Moved) → x ≡ y → isAsk y ≡ false → {p g m t : ℕ} {a : Ask} → x ≡ AskBy p g m t a → ⊥
+pub not-asked : {x : Moved} (y : Moved) → x ≡ y → isAsk y ≡ false → {k : Asking} → x ≡ AskBy k → ⊥
 not-asked y q z e = true≢false (sym (ap isAsk e) ∙ ap isAsk q ∙ z)
+
+-- what the table answers
+abbrev pub answerTo : ℕ → List ℤ → Table → Asking → Answer
+answerTo limit words table k = answer limit words table (k .group) (k .member) (k .target) (k .ask)
+
+abbrev pub asksBy : Asking → Move
+asksBy k = Asks (k .place) (k .group) (k .member) (k .target) (k .ask)
 
 -- what the table has answered, and the step comes to
 abbrev pub ToldBy : ℕ → Registers → List ℤ → List ℤ → Turn → List ℤ → List ℤ → Moved → Type 0
@@ -164,24 +172,25 @@ ToldBy limit here words table r words′ table′ (WentTo n) = Unit {0}
 ToldBy limit here words table r words′ table′ (Resume home p) = Unit {0}
 ToldBy limit here words table r words′ table′ (EnterBy e) = Unit {0}
 ToldBy limit here words table r words′ table′ (StoppedFor c) = Unit {0}
-ToldBy limit here words table r words′ table′ (AskBy p g m t a) =
-    (c : Change) × (r ≡ turnAfter here p c) × Answered (answer limit words (record { words = table; used = here .pairs }) g m t a) table c words′ table′
+ToldBy limit here words table r words′ table′ (AskBy k) =
+    (c : Change) × (r ≡ turnAfter here (k .place) c) × Answered (answerTo limit words (record { words = table; used = here .pairs }) k) table c words′ table′
 
-if-not-asked : (here : Registers) (home q : ℕ) (b : Bool) {p g m t : ℕ} {a : Ask} → jumpedIf here home q b ≡ AskBy p g m t a → ⊥
+if-not-asked : (here : Registers) (home q : ℕ) (b : Bool) {k : Asking} → jumpedIf here home q b ≡ AskBy k → ⊥
 if-not-asked here home q true e = not-asked _ refl refl e
 if-not-asked here home q false e = not-asked _ refl refl e
 
-pub asked-back : (here : Registers) (x : Move) (p g m t : ℕ) (a : Ask) → movedBy here x ≡ AskBy p g m t a → x ≡ Asks p g m t a
-asked-back here (On q) p g m t a e = absurd (not-asked _ refl refl e)
-asked-back here (Asks q h n u b) p g m t a e = cc
-asked-back here (Jump home q) p g m t a e = absurd (if-not-asked here home q (eqb home (here .live)) e)
-asked-back here (Enter b l k) p g m t a e = absurd (not-asked _ refl refl e)
-asked-back here (Stop c) p g m t a e = absurd (not-asked _ refl refl e)
+pub asked-back : (here : Registers) (x : Move) (k : Asking) → movedBy here x ≡ AskBy k → x ≡ asksBy k
+asked-back here (On q) k e = absurd (not-asked _ refl refl e)
+asked-back here (Asks p g m t a) k e =
+    let same : _≡_ {A = Asking} (record { place = p; group = g; member = m; target = t; ask = a }) k = cc in λ i. asksBy (same i)
+asked-back here (Jump home q) k e = absurd (if-not-asked here home q (eqb home (here .live)) e)
+asked-back here (Enter b l q) k e = absurd (not-asked _ refl refl e)
+asked-back here (Stop c) k e = absurd (not-asked _ refl refl e)
 
-pub asked-in : (m : Move) → isAsked m ≡ true → (p g k t : ℕ) × (a : Ask) × (m ≡ Asks p g k t a)
+pub asked-in : (m : Move) → isAsked m ≡ true → (k : Asking) × (m ≡ asksBy k)
 unfolding isAsked
 asked-in (On p) z = absurd (false≢true z)
-asked-in (Asks p g m t a) z = (p, g, m, t, a, refl)
+asked-in (Asks p g m t a) z = (record { place = p; group = g; member = m; target = t; ask = a }, refl)
 asked-in (Jump home p) z = absurd (false≢true z)
 asked-in (Enter b l k) z = absurd (false≢true z)
 asked-in (Stop c) z = absurd (false≢true z)

@@ -9,9 +9,8 @@ use mathlib.Core.Path.{_≡_, refl, sym, ap, subst}
 use borrow.Author.Tests.{eqb-true}
 use lib.IntN.{ℤ}
 use Rattle.run_moves.specs.declared.Move.{Move}
-use Rattle.run_moves.specs.declared.Ask.{Ask}
 use Rattle.run_moves.specs.declared.Move.the-variants.{On, Table as Asks, Jump, Enter, Stop}
-use Rattle.run_moves.specs.Acting.{sceneBy, Happened, acting, answer}
+use Rattle.run_moves.specs.Acting.{sceneBy, Happened, acting}
 use Rattle.table_pairs.specs.declared.Change.{Change}
 use Rattle.table_pairs.specs.declared.Change.the-variants.{Done as Count, Stopped as Halted}
 use Rattle.language.specs.declared.Stop.{Stop as Cause}
@@ -33,7 +32,9 @@ use Rattle.chain_links.specs.Moving.{home-live, jumps-here, jumps-by, leaves-by
 use Rattle.chain_links.specs.Names.{finds-by-chain}
 use Rattle.run_state.specs.declared.Turn.{Turn}
 use Rattle.run_state.specs.declared.Turn.the-variants.{Went, Finished, Stopped}
+use Rattle.chain_step.specs.declared.turn.Asking.{Asking}
 use Rattle.chain_step.specs.Moves.{staysIn, placed, stayedBy, isAsked, isEntry, entryOf, homeAt, placeAt}
+use Rattle.chain_step.specs.Moved.{answerTo, asksBy}
 use Rattle.chain_step.specs.Entries.{enters-handing}
 use Rattle.chain_step.specs.Turning.{listsOf, Turned, LeaveReady}
 
@@ -126,18 +127,18 @@ module _ {code : List ℕ} {limit group : ℕ} {words : List ℤ} {records : Lis
 
   -- The table is asked
 
-  module _ (words₁ : List ℤ) (p g m t : ℕ) (a : Ask) (k : MoveMeans st (Asks p g m t a) words₁) where
+  module _ (words₁ : List ℤ) (k : Asking) (so : MoveMeans st (asksBy k) words₁) where
     abbrev Told : Change → List ℤ → List ℤ → Type 0
-    Told = Answered (answer group words₁ (record { words = table; used = here .pairs }) g m t a) table
+    Told = Answered (answerTo group words₁ (record { words = table; used = here .pairs }) k) table
 
-    means-told : AnswerMeans st p (answer group words₁ (record { words = table; used = here .pairs }) g m t a)
+    means-told : AnswerMeans st (k .place) (answerTo group words₁ (record { words = table; used = here .pairs }) k)
     means-told =
-        subst (λ (v : List ℤ). AnswerMeans st p (answer group v (record { words = table; used = here .pairs }) g m t a)) (sym (k .1)) (k .0)
+        subst (λ (v : List ℤ). AnswerMeans st (k .place) (answerTo group v (record { words = table; used = here .pairs }) k)) (sym (so .1)) (so .0)
 
-    told-by : (c : Change) (words″ table″ : List ℤ) → Told c words″ table″ → Turned w (turnAfter here p c) words″ records table″
+    told-by : (c : Change) (words″ table″ : List ℤ) → Told c words″ table″ → Turned w (turnAfter here (k .place) c) words″ records table″
     unfolding turnAfter
-    told-by (Count n) words″ table″ h = goes words″ table″ p n (done-goes st p _ means-told (Count n) words″ table″ h n refl)
-    told-by (Halted c) words″ table″ h = stops c words″ table″ (stopped-halts st p _ means-told (Halted c) words″ table″ h c refl)
+    told-by (Count n) words″ table″ h = goes words″ table″ (k .place) n (done-goes st (k .place) _ means-told (Count n) words″ table″ h n refl)
+    told-by (Halted c) words″ table″ h = stops c words″ table″ (stopped-halts st (k .place) _ means-told (Halted c) words″ table″ h c refl)
 
   -- The next statement
 
@@ -156,20 +157,20 @@ module _ {code : List ℕ} {limit group : ℕ} {words : List ℤ} {records : Lis
         (stays-by (result .words) (result .move) (means before))
 
     -- what is asked is asked of the words as they are
-    asks-so : (p g m t : ℕ) (a : Ask) → r ≡ Asks p g m t a → MoveMeans st (Asks p g m t a) words′
+    asks-so : (k : Asking) → r ≡ asksBy k → MoveMeans st (asksBy k) words′
     unfolding unhanded
-    asks-so p g m t a = at-move (λ x ws. x ≡ Asks p g m t a → MoveMeans st (Asks p g m t a) ws)
-        (λ e. subst (λ (ws : List ℤ). MoveMeans st (Asks p g m t a) ws) (sym (ap (λ (x : Move). unhanded x words (result .words)) e))
+    asks-so k = at-move (λ x ws. x ≡ asksBy k → MoveMeans st (asksBy k) ws)
+        (λ e. subst (λ (ws : List ℤ). MoveMeans st (asksBy k) ws) (sym (ap (λ (x : Move). unhanded x words (result .words)) e))
         (subst (λ (x : Move). MoveMeans st x (result .words)) e (means before)))
 
-    pub cells-asked : (p g m t : ℕ) (a : Ask) → r ≡ Asks p g m t a → (g < 8192) × ((m < 8192) × (t < 8192))
-    cells-asked p g m t a e = asks-so p g m t a e .2
+    pub cells-asked : (k : Asking) → r ≡ asksBy k → (k .group < 8192) × ((k .member < 8192) × (k .target < 8192))
+    cells-asked k e = asks-so k e .2
 
-    pub answered-on : (p g m t : ℕ) (a : Ask) → r ≡ Asks p g m t a → (n : Turn) (words″ table″ : List ℤ)
-        → ((c : Change) × (n ≡ turnAfter here p c) × Answered (answer group words′ (record { words = table; used = here .pairs }) g m t a) table c words″ table″)
+    pub answered-on : (k : Asking) → r ≡ asksBy k → (n : Turn) (words″ table″ : List ℤ)
+        → ((c : Change) × (n ≡ turnAfter here (k .place) c) × Answered (answerTo group words′ (record { words = table; used = here .pairs }) k) table c words″ table″)
         → Turned w n words″ records table″
-    answered-on p g m t a e n words″ table″ h =
-        subst (λ (x : Turn). Turned w x words″ records table″) (sym (h .1)) (told-by words′ p g m t a (asks-so p g m t a e) (h .0) words″ table″ (h .2))
+    answered-on k e n words″ table″ h =
+        subst (λ (x : Turn). Turned w x words″ records table″) (sym (h .1)) (told-by words′ k (asks-so k e) (h .0) words″ table″ (h .2))
 
     hands : isEntry (result .move) ≡ true
         → (result .words ≡ handedOn code words records here) × Handing code records here (argumentsEnd code (here .at))

@@ -7,6 +7,13 @@ use super::turn::came_to;
 use chain_links::first_cell;
 use chain_records::Activation;
 use chain_records::follow;
+use layout::BLOCK;
+use layout::SHARE;
+use layout::level_of;
+use layout::operation_of;
+use run_cells::CLASS_BRANCH;
+use run_cells::CLASS_CONSTANT;
+use run_cells::CLASS_ONE;
 use run_cells::act_branch;
 use run_cells::act_one;
 use run_cells::class_of;
@@ -14,22 +21,23 @@ use run_cells::do_constant;
 use run_state::Registers;
 use run_words::code_at;
 ghost use mathlib.Core.Path.{_≡_};
-ghost use Prim.Native.Nat.{_+_, _%_, _<_, _≤_};
+ghost use Prim.Native.Nat.{_+_, _<_, _≤_};
 ghost use lib.ListN.{getD};
 ghost use Rattle.resolved.specs.Resolved.{levelIn};
+ghost use Rattle.layout.specs.Layout.{operationIn};
 ghost use Rattle.chain_step.specs.Acted.{onlyHops, Stating, Does, happening};
 
 // The links to the only name of a statement; a BK has none, and is linked to the innermost activation itself.
 fn only_hops(code: &[u32; 4096], here: Registers) -> usize
     requires { ⌜ (here .at + 1 < 4096)
-        × ((getD (now code) (here .at) 0 % 16 ≡ 6 → ⊥) → levelIn (getD (now code) (here .at + 1) 0) ≤ here .level) ⌝ }
+        × ((operationIn (getD (now code) (here .at) 0) ≡ 6 → ⊥) → levelIn (getD (now code) (here .at + 1) 0) ≤ here .level) ⌝ }
     ensures { λ r. ⌜ r ≡ onlyHops (now (code .entry)) here ⌝ }
 {
     let at = here.at;
-    if code_at(code, at) % 16 == 6 {
+    if operation_of(code_at(code, at)) == BLOCK {
         return 0;
     }
-    here.level - code_at(code, at + 1) / 256 % 256
+    here.level - level_of(code_at(code, at + 1))
 }
 
 pub fn acted(
@@ -43,24 +51,24 @@ pub fn acted(
     ensures { λ r. ⌜ Does (happening (now (code .entry)) (now (words .entry)) (now (records .entry)) limit here) (now (words .entry)) here r (now (words .exit)) ⌝ }
 {
     let class = class_of(code, here.at);
-    let own = 32 * here.live;
-    if class == 0 {
-        let first = 32 * follow(records, here.live, only_hops(code, here));
+    let own = SHARE * here.live;
+    if class == CLASS_ONE {
+        let first = SHARE * follow(records, here.live, only_hops(code, here));
         let done = act_one(code, words, limit, here.live, here.at, first);
         return came_to(here, done);
     }
-    if class == 5 {
+    if class == CLASS_BRANCH {
         let first = first_cell(code, records, here, own, 1);
         let second = first_cell(code, records, here, own, 2);
         let done = act_branch(code, words, here.at, first, second);
         return came_to(here, done);
     }
-    if class == 8 {
+    if class == CLASS_CONSTANT {
         let first = first_cell(code, records, here, own, 1);
         let done = do_constant(code, words, here.at, first);
         return came_to(here, done);
     }
-    if 5 < class {
+    if CLASS_BRANCH < class {
         return tabled(code, words, records, here, own, class);
     }
     summed(code, words, records, here, own, class)

@@ -3,6 +3,9 @@ use super::turn::Moved;
 use super::turn::came_to;
 use chain_links::first_cell;
 use chain_records::Activation;
+use run_cells::CLASS_ADD;
+use run_cells::CLASS_COMPARE;
+use run_cells::CLASS_SUBTRACT;
 use run_cells::do_add;
 use run_cells::do_arithmetic_formal;
 use run_cells::do_compare;
@@ -23,21 +26,21 @@ pub fn summed(
         → Does (happening (now (code .entry)) (now (words .entry)) (now (records .entry)) (w .limit) here)
         (now (words .entry)) here r (now (words .exit))) ⌝ }
 {
-    if class == 1 {
+    if class == CLASS_ADD {
         let second = first_cell(code, records, here, own, 3);
         let third = first_cell(code, records, here, own, 4);
         let first = first_cell(code, records, here, own, 1);
         let done = do_add(code, words, here.at, first, second, third);
         return came_to(here, done);
     }
-    if class == 3 {
+    if class == CLASS_COMPARE {
         let second = first_cell(code, records, here, own, 3);
         let third = first_cell(code, records, here, own, 4);
         let first = first_cell(code, records, here, own, 1);
         let done = do_compare(code, words, here.at, first, second, third);
         return came_to(here, done);
     }
-    if class == 2 {
+    if class == CLASS_SUBTRACT {
         let second = first_cell(code, records, here, own, 3);
         let third = first_cell(code, records, here, own, 4);
         let first = first_cell(code, records, here, own, 1);

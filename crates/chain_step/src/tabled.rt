@@ -3,6 +3,7 @@ use super::turn::Moved;
 use super::turn::came_to;
 use chain_links::first_cell;
 use chain_records::Activation;
+use run_cells::CLASS_PAIR;
 use run_cells::act_pair;
 use run_cells::do_query;
 use run_state::Registers;
@@ -21,7 +22,7 @@ pub fn tabled(
         → Does (happening (now (code .entry)) (now (words .entry)) (now (records .entry)) (w .limit) here)
         (now (words .entry)) here r (now (words .entry))) ⌝ }
 {
-    if class == 6 {
+    if class == CLASS_PAIR {
         let first = first_cell(code, records, here, own, 1);
         let second = first_cell(code, records, here, own, 2);
         let done = act_pair(code, words, here.at, first, second);

@@ -10,15 +10,24 @@ use run_state::Turn;
 use run_statements::after;
 use table_pairs::Change;
 ghost use mathlib.Core.Path.{_≡_};
-ghost use Prim.Native.Nat.{ℕ, _+_, _-_, _≤_, _<_};
-ghost use Rattle.run_moves.specs.declared.Ask.{Ask as Asked};
+ghost use Prim.Native.Nat.{_+_, _-_, _≤_, _<_};
 ghost use Rattle.run_moves.specs.Acting.{answer};
 ghost use Rattle.table_pairs.specs.declared.Change.{Change as Changed};
 ghost use Rattle.table_pairs.specs.Outcomes.{tableOf, changeOf, wordsAfter};
 ghost use Rattle.run_statements.specs.Answers.{Answered, turnAfter};
 ghost use Rattle.chain_links.specs.Running.{nowBy};
+ghost use Rattle.chain_step.specs.declared.turn.Asking.{Asking as Asked};
 ghost use Rattle.chain_step.specs.Moves.{noEntry, placed};
-ghost use Rattle.chain_step.specs.Moved.{movedBy, jumpedBy, isDone, turnOf, isAsk, isEnter, entryIn, homeIn, placeIn};
+ghost use Rattle.chain_step.specs.Moved.{answerTo, movedBy, jumpedBy, isDone, turnOf, isAsk, isEnter, entryIn, homeIn, placeIn};
+
+// The table is asked: where the run goes on, the cells of a group and a member, the one for the answer, and the question.
+pub struct Asking {
+    pub place: usize,
+    pub group: usize,
+    pub member: usize,
+    pub target: usize,
+    pub ask: Ask,
+}
 
 // What a statement has come to: the innermost activation goes on, another one does, at a place, a block is entered, the run ends, or the table is asked.
 pub enum Moved {
@@ -26,7 +35,7 @@ pub enum Moved {
     Resume(usize, usize),
     Enter(Entry),
     Stopped(Stop),
-    Table(usize, usize, usize, usize, Ask),
+    Table(Asking),
 }
 
 pub fn went(next: Registers) -> Turn
@@ -74,7 +83,13 @@ pub fn came_to(here: Registers, done: Move) -> Moved
     match done {
         Move::On(place) => placed(here, place, here.pairs),
         Move::Table(place, group, member, target, ask) => {
-            Moved::Table(place, group, member, target, ask)
+            Moved::Table(Asking {
+                place,
+                group,
+                member,
+                target,
+                ask,
+            })
         }
         Move::Jump(home, place) => jumped(here, home, place),
         Move::Enter(body, link, back) => Moved::Enter(Entry { body, link, back }),
@@ -90,7 +105,7 @@ pub fn is_done(moved: Moved) -> bool
         Moved::Resume(home, place) => false,
         Moved::Enter(entry) => false,
         Moved::Stopped(cause) => true,
-        Moved::Table(place, group, member, target, ask) => false,
+        Moved::Table(asking) => false,
     }
 }
 
@@ -102,7 +117,7 @@ pub fn turn_of(moved: Moved) -> Turn
         Moved::Resume(home, place) => Turn::Finished,
         Moved::Enter(entry) => Turn::Finished,
         Moved::Stopped(cause) => Turn::Stopped(cause),
-        Moved::Table(place, group, member, target, ask) => Turn::Finished,
+        Moved::Table(asking) => Turn::Finished,
     }
 }
 
@@ -114,7 +129,7 @@ pub fn asks(moved: Moved) -> bool
         Moved::Resume(home, place) => false,
         Moved::Enter(entry) => false,
         Moved::Stopped(cause) => false,
-        Moved::Table(place, group, member, target, ask) => true,
+        Moved::Table(asking) => true,
     }
 }
 
@@ -153,9 +168,9 @@ pub fn answered(
     here: Registers,
     moved: Moved,
 ) -> Turn
-    requires { ⌜ ((p g m t : ℕ) (a : Asked) → moved ≡ Moved.Table p g m t a → (g < 8192) × ((m < 8192) × (t < 8192))) ⌝ }
-    ensures { λ r. ⌜ ((p g m t : ℕ) (a : Asked) → moved ≡ Moved.Table p g m t a
-        → (c : Changed) × (r ≡ turnAfter here p c) × Answered (answer limit (now (words .entry)) (tableOf (now (table .entry)) (here .pairs)) g m t a)
+    requires { ⌜ ((k : Asked) → moved ≡ Moved.Table k → (k .group < 8192) × ((k .member < 8192) × (k .target < 8192))) ⌝ }
+    ensures { λ r. ⌜ ((k : Asked) → moved ≡ Moved.Table k
+        → (c : Changed) × (r ≡ turnAfter here (k .place) c) × Answered (answerTo limit (now (words .entry)) (tableOf (now (table .entry)) (here .pairs)) k)
         (now (table .entry)) c (now (words .exit)) (now (table .exit))) ⌝ }
 {
     match moved {
@@ -163,11 +178,20 @@ pub fn answered(
         Moved::Resume(home, place) => Turn::Finished,
         Moved::Enter(entry) => Turn::Finished,
         Moved::Stopped(cause) => Turn::Stopped(cause),
-        Moved::Table(place, group, member, target, ask) => after(
-            here,
-            place,
-            asked(table, words, here.pairs, limit, group, member, target, ask),
-        ),
+        Moved::Table(asking) => {
+            let Asking {
+                place,
+                group,
+                member,
+                target,
+                ask,
+            } = asking;
+            after(
+                here,
+                place,
+                asked(table, words, here.pairs, limit, group, member, target, ask),
+            )
+        }
     }
 }
 
@@ -179,7 +203,7 @@ pub fn enters(moved: Moved) -> bool
         Moved::Resume(home, place) => false,
         Moved::Enter(entry) => true,
         Moved::Stopped(cause) => false,
-        Moved::Table(place, group, member, target, ask) => false,
+        Moved::Table(asking) => false,
     }
 }
 
@@ -201,7 +225,7 @@ pub fn entry_of(moved: Moved) -> Entry
         Moved::Resume(home, place) => no_entry(),
         Moved::Enter(entry) => entry,
         Moved::Stopped(cause) => no_entry(),
-        Moved::Table(place, group, member, target, ask) => no_entry(),
+        Moved::Table(asking) => no_entry(),
     }
 }
 
@@ -214,7 +238,7 @@ pub fn home_of(moved: Moved) -> usize
         Moved::Resume(home, place) => home,
         Moved::Enter(entry) => 0,
         Moved::Stopped(cause) => 0,
-        Moved::Table(place, group, member, target, ask) => 0,
+        Moved::Table(asking) => 0,
     }
 }
 
@@ -226,7 +250,7 @@ fn place_of(moved: Moved) -> usize
         Moved::Resume(home, place) => place,
         Moved::Enter(entry) => 0,
         Moved::Stopped(cause) => 0,
-        Moved::Table(place, group, member, target, ask) => 0,
+        Moved::Table(asking) => 0,
     }
 }
 

@@ -37,7 +37,6 @@ use Rattle.walks.specs.Loans.{Loan, loanSlice, loanRef, shrSlice, mutRef, mutSl
 use Rattle.walks.specs.Params.{Par, dat, brw, denots, valss, vals, lfts, shares, ins, outs}
 use Rattle.walks.specs.Functions.{arrives, leaves-with}
 use Rattle.walks.specs.Calls.{to, calls-by}
-use Rattle.walks.specs.Clauses.{asks-all}
 use Rattle.walks.specs.Frames.{begins}
 use Rattle.walks.specs.Holes.{lends-out, whole-again, var-in, loanAt, lends-local, back-local, arrays, repeats, repeats-good}
 use Rattle.walks.specs.Locals.{lent, lent-ptr, lent-slice, puts, lands-in, ends}
@@ -134,7 +133,7 @@ module _ {M : Type 1} (𝓤 : URA M) (H : Heap 𝓤) (A : Atoms 𝓤) (W : Given
         lends-out ! 5 refl $
         lends-local ! tt (arrays words32 4096) 5 7 own-code (repeats-good words32 4096 0 own-code-is (refl, omega arith)) refl refl tt refl (λ ν1-own-code δ1-own-code.
         lends-local ! tt (arrays ints32 8224) 7 8 own-words (repeats-good ints32 8224 (pos 0) own-words-is (refl, omega arith)) refl refl tt refl (λ ν1-own-words δ1-own-words.
-        move ! (2 ∷ 0 ∷ 4 ∷ 5 ∷ 6 ∷ 7 ∷ 8 ∷ []) $ calls-by ! fm (Calls-ran-on 𝓤 H A mem run) known-ran-on (to (for-ran-on (loanAt (β 7) ν1-own-code δ1-own-code) own-code (loanAt (β 8) ν1-own-words δ1-own-words) own-words h-script script numbers h-table table h-sheet sheet h-records records h-answer answer)) (for-ran-on (loanAt (β 7) ν1-own-code δ1-own-code) own-code (loanAt (β 8) ν1-own-words δ1-own-words) own-words h-script script numbers h-table table h-sheet sheet h-records records h-answer answer) refl (g-numbers, tt) _ (facts.asks-ran-on script numbers table sheet records answer pre own-code own-code-is own-words own-words-is) (asks-all 𝓤 H A (for-ran-on (loanAt (β 7) ν1-own-code δ1-own-code) own-code (loanAt (β 8) ν1-own-words δ1-own-words) own-words h-script script numbers h-table table h-sheet sheet h-records records h-answer answer) (_ ∷ _ ∷ [])) units _ (λ v. id⊢ 𝓤 _)
+        move ! (2 ∷ 0 ∷ 4 ∷ 5 ∷ 6 ∷ 7 ∷ 8 ∷ []) $ calls-by ! fm (Calls-ran-on 𝓤 H A mem run) known-ran-on (to (for-ran-on (loanAt (β 7) ν1-own-code δ1-own-code) own-code (loanAt (β 8) ν1-own-words δ1-own-words) own-words h-script script numbers h-table table h-sheet sheet h-records records h-answer answer)) (for-ran-on (loanAt (β 7) ν1-own-code δ1-own-code) own-code (loanAt (β 8) ν1-own-words δ1-own-words) own-words h-script script numbers h-table table h-sheet sheet h-records records h-answer answer) refl (g-numbers, tt) _ (facts.asks-ran-on script numbers table sheet records answer pre own-code own-code-is own-words own-words-is) (id⊢ 𝓤 _) units _ (λ v. id⊢ 𝓤 _)
         (and-then ! (var-in ! 9 10 refl refl tt) (and-then ! (var-in ! 9 11 refl refl tt) (and-then ! (var-in ! 9 1 refl refl tt) (and-then ! (var-in ! 9 2 refl refl tt) (and-then ! (var-in ! 9 13 refl refl tt) (and-then ! (var-in ! 9 15 refl refl tt) (and-then ! (var-in ! 9 17 refl refl tt) (and-then ! (var-in ! 9 18 refl refl tt) (no-more !))))))))) (λ _ ws1 _ e1 same1.
         move ! (0 ∷ 8 ∷ []) $ back-local ! tt (arrays words32 4096) 7 7 (β 7) (ws1 .0) ν1-own-code δ1-own-code refl refl tt refl refl (λ g1-own-code.
         move ! (0 ∷ 6 ∷ []) $ back-local ! tt (arrays ints32 8224) 5 8 (β 8) (ws1 .1 .0) ν1-own-words δ1-own-words refl refl tt refl refl (λ g1-own-words.

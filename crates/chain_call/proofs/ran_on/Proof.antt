@@ -30,14 +30,14 @@ use denote.Triple.Entry.{onEntry}
 use denote.Triple.Spec.{Meets, tripleOf}
 use denote.Triple.Statement.{Contract, Triple}
 use denote.Triple.Table.{entered, cited}
-use denote.Triple.Walked.{Stays, stay-none-slice, stay-none, gave-ref, gave-slice, walkOf, Walks, ends-at, walked, goes-none-slice, goes-none, goes-gave-ref, goes-gave-slice, walk-meets}
+use denote.Triple.Walked.{needs, Stays, stay-none-slice, stay-none, gave-ref, gave-slice, walkOf, Walks, ends-at, walked, goes-none-slice, goes-none, goes-gave-ref, goes-gave-slice, walk-meets}
 use denote.Exit.{yes}
 use Rattle.walks.specs.Data.{Good, typed, usizes, words32, units}
 use Rattle.walks.specs.Loans.{Loan, loanSlice, loanRef, shrRef, shrSlice, mutRef, mutSlice, gives}
 use Rattle.walks.specs.Params.{Par, dat, brw, denots, valss, vals, lfts, shares, ins, outs}
 use Rattle.walks.specs.Functions.{arrives, leaves-with}
 use Rattle.walks.specs.Calls.{to, calls-by}
-use Rattle.walks.specs.Clauses.{needs-all, asks-all}
+use Rattle.walks.specs.Clauses.{asks-all}
 use Rattle.walks.specs.Frames.{begins}
 use Rattle.walks.specs.Locals.{var, part, lent, lent-ptr, lent-slice, puts, lands-in, ends}
 use Rattle.walks.specs.Lends.{relent, lends-ref, back-ref, lends-slice, back-slice, shares-ref, unshares-ref, shares-slice, unshares-slice}
@@ -235,7 +235,7 @@ module _ {M : Type 1} (𝓤 : URA M) (H : Heap 𝓤) (A : Atoms 𝓤) (W : Given
   walks = walked 𝓤 H A f.ended stayed (f.clauses 𝓤 H A mem run) (WpFn 𝓤 H (𝓣 .C) (𝓣 .Λ) mine.function)
       (λ κs. (ptr-vals, (ptr-vals, (slice-vals, ((λ (x : numberss .type .Denot). numberss .val x ∷ []), (slice-vals, (slice-vals, (slice-vals, (ptr-vals, tt)))))))))
       (λ κs. (mut-tells (named 0) (κs .0) (Array u32 tt 4096), (mut-tells (named 1) (κs .1 .0) (Array i32 tt 8224), (shr-slice-tells (named 2) (κs .1 .1 .0) u8, (numberss .tells, (mut-slice-tells (named 3) (κs .1 .1 .1 .0) i32, (mut-slice-tells (named 4) (κs .1 .1 .1 .1 .0) i32, (mut-slice-tells (named 5) (κs .1 .1 .1 .1 .1 .0) (recs .type), (mut-tells (named 6) (κs .1 .1 .1 .1 .1 .1 .0) (Array u64 tt 9), tt)))))))))
-      (λ κs qs bounds a g are. needs-all 𝓤 (_ ∷ _ ∷ []) _ (λ pre. walk 𝓤 H A W mem run (κs .0) (κs .1 .0) (κs .1 .1 .0) (κs .1 .1 .1 .0) (κs .1 .1 .1 .1 .0) (κs .1 .1 .1 .1 .1 .0) (κs .1 .1 .1 .1 .1 .1 .0) (qs .0) (qs .1 .0) (qs .1 .1 .0) (qs .1 .1 .1 .0) (qs .1 .1 .1 .1 .0) (qs .1 .1 .1 .1 .1 .0) (qs .1 .1 .1 .1 .1 .1 .0) (a .0) (a .1 .0) (a .1 .1 .0) (a .1 .1 .1 .0) (a .1 .1 .1 .1 .0) (a .1 .1 .1 .1 .1 .0) (a .1 .1 .1 .1 .1 .1 .0) (a .1 .1 .1 .1 .1 .1 .1 .0) (are .1 .1 .0 .0 .1) (are .1 .1 .1 .1 .0 .0 .1) (are .1 .1 .1 .1 .1 .0 .0 .1) (are .1 .1 .1 .1 .1 .1 .0 .0 .1) (are .1 .1 .1 .0) pre 𝓣 known-resolved known-limit-of known-run-program known-write-sheet known-answered))
+      (λ κs qs bounds a g are. needs 𝓤 (said.Pre ((a .0) .now) ((a .1 .0) .now) ((a .1 .1 .0) .now) (a .1 .1 .1 .0) ((a .1 .1 .1 .1 .0) .now) ((a .1 .1 .1 .1 .1 .0) .now) ((a .1 .1 .1 .1 .1 .1 .0) .now)) _ (λ pre. walk 𝓤 H A W mem run (κs .0) (κs .1 .0) (κs .1 .1 .0) (κs .1 .1 .1 .0) (κs .1 .1 .1 .1 .0) (κs .1 .1 .1 .1 .1 .0) (κs .1 .1 .1 .1 .1 .1 .0) (qs .0) (qs .1 .0) (qs .1 .1 .0) (qs .1 .1 .1 .0) (qs .1 .1 .1 .1 .0) (qs .1 .1 .1 .1 .1 .0) (qs .1 .1 .1 .1 .1 .1 .0) (a .0) (a .1 .0) (a .1 .1 .0) (a .1 .1 .1 .0) (a .1 .1 .1 .1 .0) (a .1 .1 .1 .1 .1 .0) (a .1 .1 .1 .1 .1 .1 .0) (a .1 .1 .1 .1 .1 .1 .1 .0) (are .1 .1 .0 .0 .1) (are .1 .1 .1 .1 .0 .0 .1) (are .1 .1 .1 .1 .1 .0 .0 .1) (are .1 .1 .1 .1 .1 .1 .0 .0 .1) (are .1 .1 .1 .0) pre 𝓣 known-resolved known-limit-of known-run-program known-write-sheet known-answered))
 
   meets : Meets 𝓤 H A f.signature (WpFn 𝓤 H (𝓣 .C) (𝓣 .Λ) mine.function) (f.spec 𝓤 H A mem run)
   meets = walk-meets 𝓤 H A f.ended stayed W (goes-gave-ref 𝓤 H A W 7 0 tt (arrayOf (plain (λ _. u32)) 4096), (goes-gave-ref 𝓤 H A W 7 1 tt (arrayOf (plain (λ _. i32)) 8224), (goes-none-slice 𝓤 H A W 7 (2 ∷ []) tt (plain (λ _. u8)) yes, (goes-none 𝓤 H A W 7 (λ _. numberss .type) yes (λ κs x f. refl), (goes-gave-slice 𝓤 H A W 7 3 tt (plain (λ _. i32)), (goes-gave-slice 𝓤 H A W 7 4 tt (plain (λ _. i32)), (goes-gave-slice 𝓤 H A W 7 5 tt (plain (λ _. recs .type)), (goes-gave-ref 𝓤 H A W 7 6 tt (arrayOf (plain (λ _. u64)) 9), tt))))))))

@@ -12,7 +12,7 @@ module _ (script : List ℕ) (numbers : Numbers) (table sheet : List ℤ) (recor
     (pre : Pre script numbers table sheet records) (code : List ℕ) (code-is : code ≡ replicate 4096 0) (words : List ℤ)
     (words-is : words ≡ replicate 8224 (pos 0)) where
   pub asks-ran-on : ran-on-asks code words script numbers table sheet records
-  asks-ran-on = (pre, (code-is, words-is))
+  asks-ran-on = record { program = pre .0; admitted = pre .1; code-zero = code-is; words-zero = words-is }
 
   module _ (code′ : List ℕ) (words′ table′ sheet′ : List ℤ) (records′ : List Activation) (answer′ : List ℕ)
       (said : ran-on-says script numbers table sheet records table′ sheet′ answer′) where

@@ -19,22 +19,22 @@ module _ (code : List ℕ) (words : List ℤ) (script : List ℕ) (numbers : Num
   fed = fedOf numbers script table sheet
 
   pub asks-resolved : resolved-asks code
-  asks-resolved = pre .1 .0
+  asks-resolved = pre .code-zero
 
   pub asks-answered : answered-asks numbers
-  asks-answered = tally-fits (pre .0 .1)
+  asks-answered = tally-fits (pre .admitted)
 
   module _ (code′ : List ℕ) (said : resolved-says script numbers code′) (limit : ℕ) (limit-is : limit-of-says numbers limit) where
     pub asks-run-program : run-program-asks code′ words records table (numbers .count) (numbers .g) limit
-    asks-run-program = begins-at records fed (said .1) (pre .0 .0) (pre .0 .1) code′ (said .0) words (pre .1 .1) limit limit-is
+    asks-run-program = begins-at records fed (said .1) (pre .program) (pre .admitted) code′ (said .0) words (pre .words-zero) limit limit-is
 
     module _ (halt : Halt) (words′ : List ℤ) (records′ : List Activation) (table′ : List ℤ)
         (ran : run-program-says code′ words records table (numbers .count) (numbers .g) limit (numbers .n) halt words′ records′ table′)
         (long : length records′ ≡ length records) (wide : length table′ ≡ length table) where
       pub asks-write-sheet : write-sheet-asks code′ words′ records′ (halt .live) sheet
-      asks-write-sheet = sheet-ready records fed (said .1) (pre .0 .0) (pre .0 .1) code′ (said .0) words (pre .1 .1) halt limit limit-is ran long
+      asks-write-sheet = sheet-ready records fed (said .1) (pre .program) (pre .admitted) code′ (said .0) words (pre .words-zero) halt limit limit-is ran long
 
       module _ (written : ℕ) (sheet′ : List ℤ) (wrote : write-sheet-says code′ words′ records′ (halt .live) sheet written sheet′)
           (sheet-long : length sheet′ ≡ length sheet) (answer′ : List ℕ) (answers : answered-says halt written numbers answer′) where
         pub says : Said script numbers table sheet records table′ sheet′ answer′
-        says = replied records fed (said .1) (pre .0 .0) (pre .0 .1) code′ (said .0) words (pre .1 .1) halt limit limit-is ran wrote answers
+        says = replied records fed (said .1) (pre .program) (pre .admitted) code′ (said .0) words (pre .words-zero) halt limit limit-is ran wrote answers

@@ -4,7 +4,7 @@ use Prim.Native.Nat.{_*_, _≤_, ℕ}
 use Rattle.call_admission.specs.Lent.{fedOf}
 use Rattle.call_answers.specs.Replies.{Replies}
 use Rattle.chain_call.proofs.Rows.{numberss}
-use Rattle.chain_call.specs.Calls.{haltWords}
+use Rattle.chain_call.specs.Calls.{AdmittedOn, haltWords}
 use Rattle.chain_links.proofs.Rows.{recs}
 use Rattle.chain_links.specs.Records.{blocksIn, nextsIn}
 use Rattle.chain_run.proofs.Rows.{halts}
@@ -13,18 +13,16 @@ use Rattle.frames.specs.Frame.{frameRun, frameStart, Frame, frameSheet}
 use Rattle.grammar.specs.Rules.{Bytes}
 use Rattle.language.specs.Call.{chain, written}
 use Rattle.language.specs.Sheet.{sheetShare}
-use Rattle.language.specs.Text.{Block}
 use Rattle.resolve_script.specs.Resolving.{Resolved}
 use Rattle.run_sheet.specs.Held.{Held}
 use Rattle.run_state.specs.Scenes.{limitsBy}
-use Rattle.runs.specs.Admission.{Admitted}
-use lib.IntN.{pos, ℤ}
+use lib.IntN.{ℤ}
 use lib.ListN.{length, replicate}
 use mathlib.Core.List.{List}
 use mathlib.Core.Path.{_≡_}
 
 abbrev pub Pre : List ℕ → List ℤ → List ℕ → numberss .type .Denot → List ℤ → List ℤ → List (recs .type .Denot) → Type 0
-Pre code words script numbers table sheet records = (((t : Block) × Admitted (chain (length records)) (fedOf numbers script table sheet) t)) × ((code ≡ replicate 4096 0) × (words ≡ replicate 8224 (pos 0)))
+Pre code words script numbers table sheet records = AdmittedOn code words (chain (length records)) (fedOf numbers script table sheet)
 
 abbrev pub Said : List ℕ → numberss .type .Denot → List ℤ → List ℤ → List (recs .type .Denot) → List ℤ → List ℤ → List ℕ → Type 0
 Said script numbers table sheet records table′ sheet′ answer′ = Replies (chain (length records)) (fedOf numbers script table sheet) answer′ sheet′ table′

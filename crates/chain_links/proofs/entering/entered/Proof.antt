@@ -1,63 +1,49 @@
 -- `entered` meets its contract.
-use mathlib.Core.List.{List}
 use mathlib.Core.Path.{_≡_, ap, subst, _∙_}
 use native.Mathlib.Omega.{arith}
-use Prim.Native.Nat.{ℕ, _+_, _*_, _/_, _%_, _<_, _≤_}
+use Prim.Native.Nat.{ℕ, _+_}
 use lib.ListN.{getD}
 use borrow.Author.Needs.{needs}
+use Rattle.layout.specs.Layout.{cellFrom, formalsIn, namesIn}
 use Rattle.run_moves.specs.Effects.{Cleared}
-use Rattle.chain_links.specs.Running.{nowBy}
 use Rattle.chain_links.proofs.entering.entered.Statement.{statement}
 use Rattle.chain_links.proofs.entering.entered.Tie as tie
 
--- the cells from an argument count on, and those below a cell count, lie within the words
-within : (live head n k : ℕ) → n ≡ head / k % 256 → live + 1 < 256 → head / k % 256 ≤ 32 → 32 * (live + 1) + n ≤ 8192
-within live head n k e l m = omega (arith, e, l, m)
+-- where the cells to be cleared are known, the block's head was read before, and before that is the start
+abbrev readOf : tie.After-cell-at2 → tie.After-code-at
+readOf c = c .before .before .before .before .before .before
 
-within-all : (live head n : ℕ) → n ≡ head / 16777216 → live + 1 < 256 → head / 16777216 ≤ 32 → 32 * (live + 1) + n ≤ 8192
-within-all live head n e l m = omega (arith, e, l, m)
+abbrev startOf : tie.After-cell-at2 → tie.Start
+startOf c = readOf c .before .before
 
-head-is : (code : List ℕ) (head at block : ℕ) → head ≡ getD code at 0 → at ≡ block → head ≡ getD code block 0
-head-is code head at block e i = e ∙ ap (λ (k : ℕ). getD code k 0) i
+abbrev headOf : tie.After-cell-at2 → ℕ
+headOf c = let s = startOf c .args in getD (s .code .now) (s .activation .block) 0
+
+abbrev freshOf : tie.After-cell-at2 → ℕ
+freshOf c = startOf c .args .here .live + 1
+
+head-is : (c : tie.After-cell-at2) → readOf c .code-at .result ≡ headOf c
+head-is c = readOf c .code-at .ensures .0 ∙ ap (λ (k : ℕ). getD (startOf c .args .code .now) k 0) (readOf c .before .wide-u32 .ensures .0)
+
+from-is : (c : tie.After-cell-at2) → c .before .before .cell-at .result ≡ cellFrom (freshOf c) (formalsIn (headOf c))
+from-is c =
+    let f = c .before .before in
+    f .cell-at .ensures ∙ ap (cellFrom (freshOf c)) (f .before .formals-of .ensures .0 ∙ ap formalsIn (head-is c))
+
+to-is : (c : tie.After-cell-at2) → c .cell-at2 .result ≡ cellFrom (freshOf c) (namesIn (headOf c))
+to-is c = c .cell-at2 .ensures ∙ ap (cellFrom (freshOf c)) (c .before .names-of .ensures ∙ ap namesIn (head-is c))
 
 clear-requires : tie.Need-clear-requires
-clear-requires c κs =
-    let s = c .before .before .before .before .args in
-    let pre = c .before .before .before .before .pre in
-    let head = c .before .before .code-at .result in
-    let e : head ≡ getD (s .code .now) (s .activation .block) 0 =
-    head-is (s .code .now) head (c .before .before .before .wide-u32 .result) (s .activation .block) (c .before .before .code-at .ensures .0)
-    (c .before .before .before .wide-u32 .ensures .0) in (
-      within (s .here .live) (getD (s .code .now) (s .activation .block) 0) (head / 65536 % 256) 65536 (ap (λ (k : ℕ). k / 65536 % 256) e) (pre .1)
-          (pre .2),
-      within-all (s .here .live) (getD (s .code .now) (s .activation .block) 0) (head / 16777216) (ap (λ (k : ℕ). k / 16777216) e) (pre .1) (pre .3),
-    )
+clear-requires c κs = let p = startOf c .pre in (omega (arith, from-is c, p .1, p .2), omega (arith, to-is c, p .1, p .3))
 
 returns : tie.Need-returns
 returns c =
-    let s = c .before .before .before .before .before .before .before .args in
-    let head = c .before .before .before .before .before .code-at .result in
-    let e : head ≡ getD (s .code .now) (s .activation .block) 0 =
-    head-is (s .code .now) head (c .before .before .before .before .before .before .wide-u32 .result) (s .activation .block)
-    (c .before .before .before .before .before .code-at .ensures .0) (c .before .before .before .before .before .before .wide-u32 .ensures .0) in (
-      c .innermost .ensures ∙ ap (λ (k : ℕ). nowBy (s .code .now) (s .activation .block) (s .here .live + 1) k (s .here .pairs))
-          (c .before .wide-u322 .ensures .0),
-      subst (λ (k : ℕ). Cleared (s .words .now) (32 * (s .here .live + 1) + k / 65536 % 256) (32 * (s .here .live + 1) + k / 16777216)
-          (c .before .before .clear .last .0)) e (c .before .before .clear .ensures),
+    let k = c .before .before in (
+      rw (c .innermost .ensures, c .before .wide-u322 .ensures .0),
+      subst (λ (T : Type 0). T) (λ i. Cleared (startOf (k .before) .args .words .now) (from-is (k .before) i) (to-is (k .before) i) (k .clear .last .0)) (k .clear .ensures),
     )
 
 pub entered-spec : {M : Type 1} → statement M
 entered-spec =
-    tie.close
-    (tie.spec
-    (λ c κs. search needs)
-    (λ c κs. search needs)
-    (λ c. search needs)
-    (λ c. search needs)
-    (λ c. search needs)
-    (λ c. search needs)
-    (λ c. search needs)
-    clear-requires
-    (λ c κs. search needs)
-    (λ c κs. search needs)
-    returns)
+    tie.close (tie.spec (λ c κs. search needs) (λ c κs. search needs) (λ c. search needs) (λ c κs. search needs) (λ c κs. search needs)
+    (λ c κs. search needs) (λ c κs. search needs) clear-requires (λ c κs. search needs) (λ c κs. search needs) returns)

@@ -1,9 +1,9 @@
 -- What `chain_links::first_cell` and the functions that it calls ask and say, in lists and numbers: x is behind a reference at first, x′ at last.
 -- Written by `tools/walk chain_links first_cell`.
 use Prim.Native.Nat.{_*_, _+_, _<_, _≤_, _-_, ℕ}
-use Rattle.chain_records.specs.Records.{Linked, hop}
 use Rattle.chain_links.proofs.Rows.{recs, registers}
 use Rattle.chain_links.specs.Finding.{Named, firstCell}
+use Rattle.chain_records.specs.Records.{Linked, hop}
 use Rattle.resolved.specs.Resolved.{levelIn}
 use lib.ListN.{getD}
 use mathlib.Core.List.{List}

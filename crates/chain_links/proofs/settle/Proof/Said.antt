@@ -1,11 +1,11 @@
 -- What `chain_links::settle` and the functions that it calls ask and say, in lists and numbers: x is behind a reference at first, x′ at last.
 -- Written by `tools/walk chain_links settle`.
 use Prim.Native.Nat.{_<_, _+_, _≤_, ℕ}
-use Rattle.chain_records.specs.Records.{at, Linked, hop}
 use Rattle.chain_links.proofs.Rows.{recs, registers, founds}
 use Rattle.chain_links.specs.Names.{foundIn}
 use Rattle.chain_links.specs.Records.{withNext}
 use Rattle.chain_links.specs.Running.{Looking, linksTo, Reached, foundBy}
+use Rattle.chain_records.specs.Records.{at, Linked, hop}
 use Rattle.resolved.specs.Resolved.{levelIn}
 use lib.IntN.{ℤ}
 use lib.ListN.{set, length, getD}

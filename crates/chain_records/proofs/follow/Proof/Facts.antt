@@ -21,10 +21,6 @@ hop-none : (xs : List Activation) (k n : ℕ) → (0 < n → ⊥) → hop xs k n
 hop-none xs k zero l = refl
 hop-none xs k (suc n) l = absurd (l (omega arith))
 
-above-zero : (n : ℕ) → (n ≡ 0 → ⊥) → 0 < n
-above-zero zero d = absurd (d refl)
-above-zero (suc n) d = omega arith
-
 module _ (records : List Activation) (from count : ℕ) where
   -- a state of the loop: the activation reached, the links left, and that the rest of the way leads where the whole does
   pub record State : Type 0 where
@@ -44,7 +40,7 @@ module _ (records : List Activation) (from count : ℕ) where
       within-1 = pre .there
 
       pub fits-1 : 1 ≤ count
-      fits-1 = above-zero count some
+      fits-1 = omega (arith, some)
 
       abbrev pub start : State
       start = record {

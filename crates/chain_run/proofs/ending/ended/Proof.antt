@@ -40,10 +40,9 @@ use Rattle.walks.specs.Clauses.{asks-all}
 use Rattle.walks.specs.Frames.{begins}
 use Rattle.walks.specs.Locals.{var, lent-ptr, lent-slice, puts, lands-in, ends, if-then}
 use Rattle.walks.specs.Early.{ends-early, told, untold}
-use Rattle.chain_records.proofs.Elem.{recs}
-use Rattle.chain_step.proofs.Rows.{turns}
+use Rattle.chain_links.proofs.Rows.{founds, recs, registers}
 use Rattle.chain_run.proofs.Rows.{halts}
-use Rattle.chain_links.proofs.Rows.{founds, registers}
+use Rattle.chain_step.proofs.Rows.{turns}
 use Rattle.chain_run.proofs.ending.is_finished as is-finished
 use Rattle.chain_run.proofs.ending.is_finished.Symbol as is-finished-def
 use Rattle.chain_run.proofs.ending.is_finished.Symbol.{name as #is-finished}

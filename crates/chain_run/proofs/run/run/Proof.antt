@@ -44,10 +44,9 @@ use Rattle.walks.specs.Frames.{begins, tysOf, envAt, fr, forgets}
 use Rattle.walks.specs.Locals.{var, lent, lent-ptr, lent-slice, puts, puts-last, lands-in, ends, tests, breaks, by-size, by-size-wf}
 use Rattle.walks.specs.Early.{told, untold, not-below}
 use Rattle.walks.specs.Lends.{relent, lends-ref, back-ref, lends-slice, back-slice, shares-ref, unshares-ref}
-use Rattle.chain_records.proofs.Elem.{recs}
-use Rattle.chain_step.proofs.Rows.{turns}
+use Rattle.chain_links.proofs.Rows.{recs, registers}
 use Rattle.chain_run.proofs.Rows.{halts}
-use Rattle.chain_links.proofs.Rows.{registers}
+use Rattle.chain_step.proofs.Rows.{turns}
 use Rattle.chain_step.proofs.went as went
 use Rattle.chain_step.proofs.went.Symbol as went-def
 use Rattle.chain_step.proofs.went.Symbol.{name as #went}

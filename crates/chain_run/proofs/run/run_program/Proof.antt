@@ -41,9 +41,8 @@ use Rattle.walks.specs.Clauses.{asks-all}
 use Rattle.walks.specs.Frames.{begins}
 use Rattle.walks.specs.Locals.{var, lent, lent-ptr, lent-slice, puts, lands-in, ends}
 use Rattle.walks.specs.Lends.{relent, lends-slice, back-slice}
-use Rattle.chain_records.proofs.Elem.{recs}
+use Rattle.chain_links.proofs.Rows.{recs, registers}
 use Rattle.chain_run.proofs.Rows.{halts}
-use Rattle.chain_links.proofs.Rows.{registers}
 use Rattle.chain_run.proofs.run.program_record as program-record
 use Rattle.chain_run.proofs.run.program_record.Symbol as program-record-def
 use Rattle.chain_run.proofs.run.program_record.Symbol.{name as #program-record}

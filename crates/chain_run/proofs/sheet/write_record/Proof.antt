@@ -15,15 +15,20 @@ shown-as : {code : List ℕ} {words : List ℤ} {first number : ℕ} {own : List
 shown-as {code} {words} {first} {number} {own} b b′ n n′ p q h =
     subst (λ (T : Type 0). T) (λ i. Shown code words (sym p i) (sym q i) first number own) h
 
+-- the block's place is read, then the next statement's
+abbrev blockOf : tie.After-wide-u322 → tie.After-wide-u32
+blockOf n = n .before
+
 write-activation-requires : tie.Need-write-activation-requires
 write-activation-requires c κs =
-    let p = c .before .before .before .pre in
-    (p .1 .0, p .1 .1, shown-as _ _ _ _ (c .before .before .wide-u32 .ensures .0) (c .before .wide-u322 .ensures .0) (p .1 .2), p .1 .3)
+    let n = c .before in
+    let p = blockOf n .before .pre .1 in
+    (p .0, p .1, shown-as _ _ _ _ (blockOf n .wide-u32 .ensures .0) (n .wide-u322 .ensures .0) (p .2), p .3)
 
 returns : tie.Need-returns
 returns c =
-    let w = c .before .before .before .before in
     let n = c .before .before .before in
+    let w = blockOf n in
     let r = c .before .write-activation .ensures in (
       λ number own ws base shown e l.
           let q = r .0 number own ws base (shown-as _ _ _ _ (w .wide-u32 .ensures .0) (n .wide-u322 .ensures .0) shown) e l in
@@ -33,11 +38,4 @@ returns c =
 
 pub write-record-spec : {M : Type 1} → statement M
 write-record-spec =
-    tie.close
-    (tie.spec
-    (λ c κs. search needs)
-    (λ c κs. search needs)
-    (λ c. search needs)
-    write-activation-requires
-    (λ c. search needs)
-    returns)
+    tie.close (tie.spec (λ c κs. search needs) (λ c κs. search needs) (λ c. search needs) write-activation-requires (λ c. search needs) returns)

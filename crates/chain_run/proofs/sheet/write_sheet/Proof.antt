@@ -44,7 +44,7 @@ use Rattle.walks.specs.Frames.{begins, tysOf, envAt, fr, forgets}
 use Rattle.walks.specs.Locals.{var, lent-ptr, lent-slice, puts, puts-last, lands-in, ends, tests, by-size, by-size-wf}
 use Rattle.walks.specs.Early.{not-below}
 use Rattle.walks.specs.Lends.{relent, lends-slice, back-slice}
-use Rattle.chain_records.proofs.Elem.{recs}
+use Rattle.chain_links.proofs.Rows.{recs}
 use Rattle.chain_records.proofs.read as read
 use Rattle.chain_records.proofs.read.Symbol as read-def
 use Rattle.chain_records.proofs.read.Symbol.{name as #read}

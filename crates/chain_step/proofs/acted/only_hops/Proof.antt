@@ -1,32 +1,35 @@
 -- `only_hops` meets its contract.
-use Prim.Native.Nat.{_-_}
-use native.Mathlib.Omega.{arith}
-use mathlib.Core.Path.{ap, _∙_}
-use Rattle.resolved.specs.Resolved.{levelIn}
+use Prim.Native.Nat.{ℕ, _+_, _-_, _≤_}
+use mathlib.Core.List.{List}
+use mathlib.Core.Path.{_≡_, sym, ap, _∙_, subst}
 use borrow.Author.Needs.{needs}
-use Rattle.chain_step.specs.Acted.{none-hops, some-hops}
+use lib.ListN.{getD}
+use Rattle.resolved.specs.Resolved.{levelIn}
+use Rattle.layout.specs.Layout.{operationIn}
+use Rattle.run_state.specs.declared.Registers.{Registers}
+use Rattle.chain_step.specs.Acted.{onlyHops, none-hops, some-hops}
 use Rattle.chain_step.proofs.acted.only_hops.Statement.{statement}
 use Rattle.chain_step.proofs.acted.only_hops.Tie as tie
 
-returns : tie.Need-returns
-returns c =
-    let s = c .before .before .args in
-    none-hops (s .code .now) (s .here) (omega (arith, c .before .code-at .ensures .0))
+-- from what is read: the operation, and the name's level
+module _ (code : List ℕ) (here : Registers) (w o : ℕ) (head : w ≡ getD code (here .at) 0) (is : o ≡ operationIn w) where
+  block : o ≡ 6 → 0 ≡ onlyHops code here
+  block e = none-hops code here (ap operationIn (sym head) ∙ sym is ∙ e)
 
-sub-result : tie.Need-sub-result
-sub-result c =
-    omega (
-      arith,
-      c .before .code-at2 .ensures .0,
-      c .before .before .before .before .pre .1
-          (λ e. c .before .before .if1 .left (omega (arith, e, c .before .before .before .code-at .ensures .0))),
-    )
+  module _ (other : o ≡ 6 → ⊥) (v l : ℕ) (name : v ≡ getD code (here .at + 1) 0) (level : l ≡ levelIn v) where
+    no-block : operationIn (getD code (here .at) 0) ≡ 6 → ⊥
+    no-block e = other (is ∙ ap operationIn head ∙ e)
 
-returns-2 : tie.Need-returns-2
-returns-2 c =
-    let s = c .before .before .before .before .args in
-    ap (λ v. s .here .level - levelIn v) (c .before .code-at2 .ensures .0)
-    ∙ some-hops (s .code .now) (s .here) (λ e. c .before .before .if1 .left (omega (arith, e, c .before .before .before .code-at .ensures .0)))
+    level-is : l ≡ levelIn (getD code (here .at + 1) 0)
+    level-is = level ∙ ap levelIn name
+
+    outer : ((operationIn (getD code (here .at) 0) ≡ 6 → ⊥) → levelIn (getD code (here .at + 1) 0) ≤ here .level) → l ≤ here .level
+    outer within = subst (λ n. n ≤ here .level) (sym level-is) (within no-block)
+
+    named : here .level - l ≡ onlyHops code here
+    named = ap (λ n. here .level - n) level-is ∙ some-hops code here no-block
 
 pub only-hops-spec : {M : Type 1} → statement M
-only-hops-spec = tie.close (tie.spec (λ c κs. search needs) returns (λ c. search needs) (λ c κs. search needs) sub-result returns-2)
+only-hops-spec =
+    tie.close (tie.spec (λ c κs. search needs) (λ c κs. search needs) (λ c. search (needs, block)) (λ c. search needs) (λ c κs. search needs)
+    (λ c κs. search needs) (λ c. search (needs, outer)) (λ c. search (needs, named)))

@@ -15,43 +15,21 @@ startOf c = c .before .before
 asked-requires : tie.Need-asked-requires
 asked-requires c κs =
     let q = askedOf c in
-    (startOf q) .pre _ _ _ _ _ (q .moved5 .given .1)
-
-returns : tie.Need-returns
-returns c = λ p g m t a e. absurd (not-asked _ (c .before .moved .given .1) refl e)
-
-returns-2 : tie.Need-returns-2
-returns-2 c = λ p g m t a e. absurd (not-asked _ (c .before .moved2 .given .1) refl e)
-
-returns-3 : tie.Need-returns-3
-returns-3 c = λ p g m t a e. absurd (not-asked _ (c .before .moved3 .given .1) refl e)
-
-returns-4 : tie.Need-returns-4
-returns-4 c = λ p g m t a e. absurd (not-asked _ (c .before .moved4 .given .1) refl e)
+    (startOf q) .pre _ (q .moved5 .given .1)
 
 returns-5 : tie.Need-returns-5
 returns-5 c =
-    let k = c .before .before in
-    let q = askedOf (k .before) in
+    let d = c .before .before in
+    let q = askedOf (d .before) in
     let s = startOf q in
-    λ p g m t a e.
-    subst (λ (x : Moved). ToldBy (s .args .limit) (s .args .here) (s .args .words .now) (s .args .table .now) (c .after .result) (k .asked .last .1 .0) (k .asked .last .0) x)
-    (sym (q .moved5 .given .1) ∙ e) (k .asked .result, c .after .ensures, k .asked .ensures)
+    λ k e.
+    subst (λ (x : Moved). ToldBy (s .args .limit) (s .args .here) (s .args .words .now) (s .args .table .now) (c .after .result) (d .asked .last .1 .0) (d .asked .last .0) x)
+    (sym (q .moved5 .given .1) ∙ e) (d .asked .result, c .after .ensures, d .asked .ensures)
 
 pub answered-spec : {M : Type 1} → statement M
 answered-spec =
-    tie.close
-    (tie.spec
-    (λ c. search needs)
-    (λ c. search needs)
-    (λ c. search needs)
-    (λ c. search needs)
-    (λ c. search needs)
-    asked-requires
-    (λ c κs. search needs)
-    returns
-    returns-2
-    returns-3
-    returns-4
-    (λ c. search needs)
-    returns-5)
+    tie.close (tie.spec (λ c. search needs) (λ c. search needs) (λ c. search needs) (λ c. search needs) (λ c. search needs) asked-requires
+    (λ c κs. search needs) (λ c k e. absurd (not-asked _ (c .before .moved .given .1) refl e))
+    (λ c k e. absurd (not-asked _ (c .before .moved2 .given .1) refl e))
+    (λ c k e. absurd (not-asked _ (c .before .moved3 .given .1) refl e))
+    (λ c k e. absurd (not-asked _ (c .before .moved4 .given .1) refl e)) (λ c. search needs) returns-5)

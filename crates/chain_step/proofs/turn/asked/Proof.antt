@@ -12,9 +12,10 @@ use Rattle.chain_step.proofs.turn.asked.Tie as tie
 
 returns : tie.Need-returns
 returns c =
-    let t = c .before .before .before .before in
+    let d = c .before in
+    let t = d .before .before .before in
     let a = t .before .before .args in
-    add-answered (a .limit) (a .words .now) (tableOf (a .table .now) (a .pairs)) (a .group) (a .member) (a .target) (t .enum-told .given .1) (c .before .add .ensures)
+    add-answered (a .limit) (a .words .now) (tableOf (a .table .now) (a .pairs)) (a .group) (a .member) (a .target) (t .enum-told .given .1) (d .add .ensures)
 
 returns-2 : tie.Need-returns-2
 unfolding answer
@@ -36,21 +37,6 @@ returns-3 c =
 
 pub asked-spec : {M : Type 1} → statement M
 asked-spec =
-    tie.close
-    (tie.spec
-    (λ c. search needs)
-    (λ c κs. search needs)
-    (λ c. search needs)
-    (λ c. search needs)
-    (λ c. search needs)
-    (λ c. search needs)
-    (λ c. search needs)
-    (λ c κs. search needs)
-    (λ c. search needs)
-    (λ c κs. search needs)
-    (λ c. search needs)
-    returns
-    (λ c. search needs)
-    returns-2
-    (λ c. search needs)
-    returns-3)
+    tie.close (tie.spec (λ c. search needs) (λ c κs. search needs) (λ c. search needs) (λ c. search needs) (λ c. search needs) (λ c. search needs)
+    (λ c. search needs) (λ c κs. search needs) (λ c. search needs) (λ c κs. search needs) (λ c. search needs) returns (λ c. search needs) returns-2
+    (λ c. search needs) returns-3)

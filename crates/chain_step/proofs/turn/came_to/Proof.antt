@@ -3,34 +3,8 @@ use borrow.Author.Needs.{needs}
 use Rattle.chain_step.proofs.turn.came_to.Statement.{statement}
 use Rattle.chain_step.proofs.turn.came_to.Tie as tie
 
-returns : tie.Need-returns
-returns c = rw (c .placed .ensures, c .before .before .done .given .1)
-
-returns-2 : tie.Need-returns-2
-returns-2 c = rw (c .before .done2 .given .1)
-
-returns-3 : tie.Need-returns-3
-returns-3 c = rw (c .jumped .ensures, c .before .before .done3 .given .1)
-
-returns-4 : tie.Need-returns-4
-returns-4 c = rw (c .before .done4 .given .1)
-
-returns-5 : tie.Need-returns-5
-returns-5 c = rw (c .before .done5 .given .1)
-
 pub came-to-spec : {M : Type 1} → statement M
 came-to-spec =
-    tie.close
-    (tie.spec
-    (λ c. search needs)
-    (λ c κs. search needs)
-    (λ c. search needs)
-    (λ c. search needs)
-    (λ c κs. search needs)
-    (λ c. search needs)
-    (λ c. search needs)
-    returns
-    returns-2
-    returns-3
-    returns-4
-    returns-5)
+    tie.close (tie.spec (λ c. search needs) (λ c κs. search needs) (λ c. search needs) (λ c. search needs) (λ c κs. search needs) (λ c. search needs)
+    (λ c. search needs) (λ c. rw (c .placed .ensures, c .before .before .done .given .1)) (λ c. rw (c .before .done2 .given .1))
+    (λ c. rw (c .jumped .ensures, c .before .before .done3 .given .1)) (λ c. rw (c .before .done4 .given .1)) (λ c. rw (c .before .done5 .given .1)))

@@ -1,12 +1,13 @@
 -- What the walk of `enter` shows.
 use mathlib.Core.Path.{_≡_, refl, sym, _∙_, ap, subst}
-use Prim.Native.Nat.{ℕ, _+_, _*_, _-_, _/_, _%_, _≤_, _<_, _^_}
+use Prim.Native.Nat.{ℕ, _+_, _*_, _-_, _≤_, _<_, _^_}
 use native.Mathlib.Omega.{arith}
 use mathlib.Core.List.{List}
 use lib.IntN.{ℤ}
 use lib.ListN.{length, getD, set}
 use Rattle.chain_records.specs.Records.{at}
 use Rattle.chain_records.specs.declared.Activation.{Activation}
+use Rattle.layout.specs.Layout.{cellFrom, formalsIn, namesIn}
 use Rattle.run_moves.specs.Acting.{argumentsFrom, setAll}
 use Rattle.run_moves.specs.Effects.{Cleared}
 use Rattle.run_statements.specs.Pieces.{only-words}
@@ -34,7 +35,7 @@ module _ (code : List ℕ) (words : List ℤ) (records : List Activation) (here 
 
   -- what `entered` does to the words
   abbrev Clears : ℕ → List ℤ → List ℤ → Type 0
-  Clears block words₁ words₂ = Cleared words₁ (32 * fresh + getD code block 0 / 65536 % 256) (32 * fresh + getD code block 0 / 16777216) words₂
+  Clears block words₁ words₂ = Cleared words₁ (cellFrom fresh (formalsIn (getD code block 0))) (cellFrom fresh (namesIn (getD code block 0))) words₂
 
   module _ (pre : Pre code words records here entry) where
     fitting : Fits (pre .running) (entry .body) (entry .link) (entry .back) handed (pre .enters)

@@ -1,13 +1,14 @@
 -- What `chain_links::entering::enter` and the functions that it calls ask and say, in lists and numbers: x is behind a reference at first, x′ at last.
 -- Written by `tools/walk chain_links entering::enter`.
-use Prim.Native.Nat.{_+_, _≤_, _*_, _-_, _<_, _%_, _/_, ℕ}
-use Rattle.run_moves.specs.Acting.{argumentsFrom, setAll}
-use Rattle.run_moves.specs.Effects.{Cleared}
-use Rattle.chain_records.specs.Records.{at}
+use Prim.Native.Nat.{_+_, _≤_, _*_, _-_, _<_, ℕ}
 use Rattle.chain_links.proofs.Rows.{recs, registers, entries}
 use Rattle.chain_links.specs.Finding.{argumentsEnd, Handing, byChain}
 use Rattle.chain_links.specs.Records.{withNext}
 use Rattle.chain_links.specs.Running.{EnterReady, Succeeds, activationOf, enteredBy}
+use Rattle.chain_records.specs.Records.{at}
+use Rattle.layout.specs.Layout.{formalsIn, namesIn, cellFrom}
+use Rattle.run_moves.specs.Acting.{argumentsFrom, setAll}
+use Rattle.run_moves.specs.Effects.{Cleared}
 use Rattle.run_statements.specs.Pieces.{only-words}
 use lib.IntN.{ℤ}
 use lib.ListN.{length, set, getD}
@@ -57,7 +58,7 @@ abbrev pub begun-says : List ℕ → entries .type .Denot → recs .type .Denot 
 begun-says code entry r = r ≡ activationOf code (entry .body) (entry .link)
 
 abbrev pub entered-asks : List ℕ → registers .type .Denot → recs .type .Denot → Type 0
-entered-asks code here activation = (activation .block + 3 ≤ 4096) × (here .live + 1 < 256) × (getD code (activation .block) 0 / 65536 % 256 ≤ 32) × (getD code (activation .block) 0 / 16777216 ≤ 32)
+entered-asks code here activation = (activation .block + 3 ≤ 4096) × (here .live + 1 < 256) × (formalsIn (getD code (activation .block) 0) ≤ 32) × (namesIn (getD code (activation .block) 0) ≤ 32)
 
 abbrev pub entered-says : List ℕ → List ℤ → registers .type .Denot → recs .type .Denot → registers .type .Denot → List ℤ → Type 0
-entered-says code words here activation r words′ = (r ≡ enteredBy code here activation) × Cleared words (32 * (here .live + 1) + getD code (activation .block) 0 / 65536 % 256) (32 * (here .live + 1) + getD code (activation .block) 0 / 16777216) words′
+entered-says code words here activation r words′ = (r ≡ enteredBy code here activation) × Cleared words (cellFrom (here .live + 1) (formalsIn (getD code (activation .block) 0))) (cellFrom (here .live + 1) (namesIn (getD code (activation .block) 0))) words′

@@ -1,11 +1,11 @@
 -- What `chain_links::handing::hand` and the functions that it calls ask and say, in lists and numbers: x is behind a reference at first, x′ at last.
 -- Written by `tools/walk chain_links handing::hand`.
 use Prim.Native.Nat.{_*_, _+_, _-_, ℕ}
-use Rattle.run_moves.specs.Acting.{argumentsFrom, setAll}
-use Rattle.run_moves.specs.Effects.{handedWord}
 use Rattle.chain_links.proofs.Rows.{recs, registers}
 use Rattle.chain_links.specs.Finding.{Handing, byChain, Named, firstCell, Passing}
 use Rattle.resolved.specs.Resolved.{positionIn}
+use Rattle.run_moves.specs.Acting.{argumentsFrom, setAll}
+use Rattle.run_moves.specs.Effects.{handedWord}
 use Rattle.run_statements.specs.Pieces.{only-words}
 use lib.IntN.{ℤ}
 use lib.ListN.{getD, set}

@@ -1,17 +1,16 @@
 -- What `chain_run::ending::ended` and the functions that it calls ask and say, in lists and numbers: x is behind a reference at first, x′ at last.
 -- Written by `tools/walk chain_run ending::ended`.
 use Prim.Native.Nat.{_≤_, _+_, _-_, _<_, ℕ}
-use Rattle.chain_records.proofs.Elem.{recs}
-use Rattle.chain_records.specs.Records.{at}
-use Rattle.chain_step.proofs.Rows.{turns}
-use Rattle.chain_step.specs.Moves.{isFinished}
-use Rattle.chain_run.proofs.Rows.{halts}
-use Rattle.chain_run.specs.Ending.{Ending, haltBy}
-use Rattle.chain_run.specs.Running.{RunFrom}
-use Rattle.chain_links.proofs.Rows.{registers, founds}
+use Rattle.chain_links.proofs.Rows.{recs, registers, founds}
 use Rattle.chain_links.specs.Names.{foundIn}
 use Rattle.chain_links.specs.Records.{withNext}
 use Rattle.chain_links.specs.Running.{Looking}
+use Rattle.chain_records.specs.Records.{at}
+use Rattle.chain_run.proofs.Rows.{halts}
+use Rattle.chain_run.specs.Ending.{Ending, haltBy}
+use Rattle.chain_run.specs.Running.{RunFrom}
+use Rattle.chain_step.proofs.Rows.{turns}
+use Rattle.chain_step.specs.Moves.{isFinished}
 use Rattle.run_state.specs.Halts.{finishedAfter}
 use lib.IntN.{ℤ}
 use lib.ListN.{set}

@@ -1,8 +1,8 @@
 -- What the walk of `run` shows.
-use mathlib.Core.Path.{_≡_, refl, sym, ap, subst}
+use mathlib.Core.Path.{_≡_, refl, sym, ap, _∙_, subst}
 use Prim.Native.Nat.{ℕ, _-_, _≤_, _<_}
 use native.Mathlib.Omega.{arith}
-use mathlib.Core.Bool.{Bool, true, false, not}
+use mathlib.Core.Bool.{Bool, true, false, not, false≢true, true≢false}
 use mathlib.Core.List.{List}
 use lib.IntN.{ℤ}
 use lib.ListN.{length}
@@ -15,18 +15,12 @@ use Rattle.chain_run.specs.Ending.{Going, Last, Ending, begun, went-as, 
 use Rattle.chain_run.proofs.run.run.Proof.Said.{Pre, Said, went-says, step-asks, step-says, halts-says, next-of-says, ended-asks, ended-says}
 
 is-not : (b c : Bool) → b ≡ not c → b ≡ true → c ≡ false
-is-not b true e y = absurd (let z : _≡_ {A = ℕ} 0 1 = cc in absurd-zero z)
-  where
-    absurd-zero : _≡_ {A = ℕ} 0 1 → ⊥
-    absurd-zero z = omega arith
+is-not b true e y = absurd (false≢true (sym e ∙ y))
 is-not b false e y = refl
 
 pub is-so : (b c : Bool) → b ≡ not c → b ≡ false → c ≡ true
 is-so b true e n = refl
-is-so b false e n = absurd (let z : _≡_ {A = ℕ} 0 1 = cc in absurd-zero z)
-  where
-    absurd-zero : _≡_ {A = ℕ} 0 1 → ⊥
-    absurd-zero z = omega arith
+is-so b false e n = absurd (true≢false (sym e ∙ n))
 
 module _ (code : List ℕ) (words₀ : List ℤ) (records₀ : List Activation) (table₀ : List ℤ) (group limit allowance : ℕ) (from : Registers) where
   abbrev Pre# : Type 0

@@ -1,15 +1,14 @@
 -- What `chain_run::run::run` and the functions that it calls ask and say, in lists and numbers: x is behind a reference at first, x′ at last.
 -- Written by `tools/walk chain_run run::run`.
 use Prim.Native.Nat.{ℕ}
-use Rattle.chain_records.proofs.Elem.{recs}
-use Rattle.chain_step.proofs.Rows.{turns}
-use Rattle.chain_step.specs.Moves.{isWent, nextIn}
-use Rattle.chain_step.specs.Turning.{Turned}
+use Rattle.chain_links.proofs.Rows.{recs, registers}
+use Rattle.chain_links.specs.Running.{Running}
 use Rattle.chain_run.proofs.Rows.{halts}
 use Rattle.chain_run.specs.Ending.{Ending}
 use Rattle.chain_run.specs.Running.{RunFrom}
-use Rattle.chain_links.proofs.Rows.{registers}
-use Rattle.chain_links.specs.Running.{Running}
+use Rattle.chain_step.proofs.Rows.{turns}
+use Rattle.chain_step.specs.Moves.{isWent, nextIn}
+use Rattle.chain_step.specs.Turning.{Turned}
 use Rattle.run_state.specs.declared.Turn.the-variants.{Went}
 use lib.IntN.{ℤ}
 use mathlib.Core.Bool.{not, Bool}

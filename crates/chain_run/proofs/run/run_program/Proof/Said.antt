@@ -1,13 +1,12 @@
 -- What `chain_run::run::run_program` and the functions that it calls ask and say, in lists and numbers: x is behind a reference at first, x′ at last.
 -- Written by `tools/walk chain_run run::run_program`.
 use Prim.Native.Nat.{_<_, ℕ}
-use Rattle.chain_records.proofs.Elem.{recs}
+use Rattle.chain_links.proofs.Rows.{recs, registers}
+use Rattle.chain_links.specs.Running.{activationOf, Running}
 use Rattle.chain_run.proofs.Rows.{halts}
 use Rattle.chain_run.specs.Ending.{startBy}
 use Rattle.chain_run.specs.Running.{Beginning, Ended, RunFrom}
 use Rattle.frames.specs.Frame.{frameRun, frameStart}
-use Rattle.chain_links.proofs.Rows.{registers}
-use Rattle.chain_links.specs.Running.{activationOf, Running}
 use Rattle.run_state.specs.Scenes.{limitsBy}
 use lib.IntN.{ℤ}
 use lib.ListN.{length, set}

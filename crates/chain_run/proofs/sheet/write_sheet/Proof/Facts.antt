@@ -33,8 +33,17 @@ module _ (code : List ℕ) (words : List ℤ) (records : List Activation) (live 
     pub shows : Shows k at sheet
 
   module _ (pre : Pre code words records live sheet₀) where
+    abbrev frames : List Frame
+    frames = pre .0 .0
+
+    abbrev held : Holds frames
+    held = pre .0 .1
+
+    abbrev as-many : length frames ≡ live
+    as-many = pre .0 .2
+
     few : live ≤ 256
-    few = omega (arith, pre .0 .1 .most, pre .0 .2)
+    few = omega (arith, held .most, as-many)
 
     abbrev pub start : State
     start = record { k = 0; at = 0; sheet = sheet₀; low = omega arith; as-long = refl; shows = λ fs h l. none-written fs sheet₀ }
@@ -69,16 +78,14 @@ module _ (code : List ℕ) (words : List ℤ) (records : List Activation) (live 
 
           pub asks-write-record : write-record-asks code words own (t .k) (t .sheet) (t .at)
           asks-write-record =
-              let fs = pre .0 .0 in
-              let h = pre .0 .1 in
-              let w = getElem-in fs (t .k) (omega (arith, pre .0 .2)) in
-              let f = h .bounded (t .k) (w .0) (w .1) in (
+              let w = getElem-in frames (t .k) (omega (arith, as-many)) in
+              let f = held .bounded (t .k) (w .0) (w .1) in (
                 omega (arith, few),
                 (
                   w .0 .next,
                   w .0 .words,
-                  shown-at h (t .k) (w .0) (w .1) (own .block) (own .next) block-is next-is,
-                  omega (arith, f .few, t .as-long, t .shows fs h (pre .0 .2) .1, sheet-room h (t .k) (omega arith), pre .1 .1, pre .0 .2),
+                  shown-at held (t .k) (w .0) (w .1) (own .block) (own .next) block-is next-is,
+                  omega (arith, f .few, t .as-long, t .shows frames held as-many .1, sheet-room held (t .k) (omega arith), pre .1 .1, as-many),
                 ),
               )
 

@@ -1,12 +1,12 @@
 -- What `chain_run::sheet::write_sheet` and the functions that it calls ask and say, in lists and numbers: x is behind a reference at first, x′ at last.
 -- Written by `tools/walk chain_run sheet::write_sheet`.
 use Prim.Native.Nat.{_*_, _≤_, _<_, _+_, ℕ}
-use Rattle.chain_records.proofs.Elem.{recs}
+use Rattle.chain_links.proofs.Rows.{recs}
+use Rattle.chain_links.specs.Records.{blocksIn, nextsIn}
 use Rattle.chain_records.specs.Records.{at}
 use Rattle.frames.specs.Frame.{Frame, frameSheet}
 use Rattle.language.specs.Call.{written}
 use Rattle.language.specs.Sheet.{sheetShare}
-use Rattle.chain_links.specs.Records.{blocksIn, nextsIn}
 use Rattle.run_sheet.specs.Held.{Held}
 use Rattle.run_sheet.specs.Shown.{Shown}
 use lib.IntN.{ℤ, pos}

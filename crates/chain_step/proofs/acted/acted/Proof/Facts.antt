@@ -1,6 +1,6 @@
 -- What the walk of `acted` shows.
 use mathlib.Core.Path.{_≡_, refl, sym, ap, _∙_}
-use Prim.Native.Nat.{ℕ, zero, suc, _+_, _*_, _≤_, _<_, _^_}
+use Prim.Native.Nat.{ℕ, _+_, _*_, _≤_, _<_, _^_}
 use native.Mathlib.Omega.{arith}
 use mathlib.Core.List.{List}
 use lib.IntN.{ℤ}
@@ -9,7 +9,7 @@ use Rattle.arrays.specs.Names.{follow as follows}
 use Rattle.chain_records.specs.declared.Activation.{Activation}
 use Rattle.run_moves.specs.declared.Move.{Move}
 use Rattle.run_moves.specs.Acting.{opOf}
-use Rattle.run_cells.specs.Asking.{Leads, Did, classOf}
+use Rattle.run_cells.specs.Asking.{Leads, Did, classOf, oneClass, branchClass, constantClass}
 use Rattle.run_state.specs.declared.Registers.{Registers}
 use Rattle.chain_links.specs.Records.{linksIn, as-linked, hop-follows}
 use Rattle.chain_links.specs.Finding.{firstCell}
@@ -18,16 +18,6 @@ use Rattle.chain_step.specs.declared.turn.Moved.{Moved}
 use Rattle.chain_step.specs.Acted as acts
 use Rattle.chain_step.specs.Acted.{happening}
 use Rattle.chain_step.proofs.acted.acted.Proof.Said.{Pre, Said, class-of-asks, class-of-says, only-hops-asks, only-hops-says, follow-asks, follow-says, act-one-asks, act-one-says, first-cell-asks, first-cell-says, act-branch-asks, act-branch-says, do-constant-asks, do-constant-says, tabled-asks, tabled-says, summed-asks, summed-says, came-to-says}
-
--- the classes that are left
-pub sums-left : (n : ℕ) → (n ≡ 0 → ⊥) → (n ≡ 5 → ⊥) → (5 < n → ⊥) → (1 ≤ n) × (n ≤ 4)
-sums-left zero x y z = absurd (x refl)
-sums-left (suc zero) x y z = (omega arith, omega arith)
-sums-left (suc (suc zero)) x y z = (omega arith, omega arith)
-sums-left (suc (suc (suc zero))) x y z = (omega arith, omega arith)
-sums-left (suc (suc (suc (suc zero)))) x y z = (omega arith, omega arith)
-sums-left (suc (suc (suc (suc (suc zero))))) x y z = absurd (y refl)
-sums-left (suc (suc (suc (suc (suc (suc n)))))) x y z = absurd (z (omega arith))
 
 module _ (code : List ℕ) (words : List ℤ) (records : List Activation) (limit : ℕ) (here : Registers) (pre : Pre code words records limit here) where
   abbrev firstOf : ℕ → ℕ
@@ -51,7 +41,7 @@ module _ (code : List ℕ) (words : List ℤ) (records : List Activation) (limit
 
   module _ (class : ℕ) (is : class-of-says code (here .at) class) where
     -- one name or none
-    module _ (e : class ≡ 0) where
+    module _ (e : class ≡ oneClass) where
       pub asks-only-hops : only-hops-asks code here
       asks-only-hops = (acts.next-there pre, acts.first-outer pre)
 
@@ -75,18 +65,18 @@ module _ (code : List ℕ) (words : List ℤ) (records : List Activation) (limit
           pub says-1 : Said code words records limit here m words′
           says-1 = so m-is (did firstOf led)
 
-    module _ (not-one : class ≡ 0 → ⊥) where
+    module _ (not-one : class ≡ oneClass → ⊥) where
       -- IF
-      module _ (e : class ≡ 5) where
+      module _ (e : class ≡ branchClass) where
         pub asks-first-cell : first-cell-asks code records here own 1
-        asks-first-cell = (acts.by-class pre 5 (sym is ∙ e) .0 .0, refl)
+        asks-first-cell = (acts.by-class pre branchClass (sym is ∙ e) .one, refl)
 
         pub asks-first-cell-2 : first-cell-asks code records here own 2
-        asks-first-cell-2 = (acts.by-class pre 5 (sym is ∙ e) .0 .1, refl)
+        asks-first-cell-2 = (acts.by-class pre branchClass (sym is ∙ e) .other, refl)
 
         module _ (a : ℕ) (a-is : first-cell-says code records here 1 a) (b : ℕ) (b-is : first-cell-says code records here 2 b) where
           both-led : Led a b
-          both-led = acts.by-class pre 5 (sym is ∙ e) .1 a b a-is b-is
+          both-led = acts.by-class pre branchClass (sym is ∙ e) .led a b a-is b-is
 
           pub asks-act-branch : act-branch-asks code words (here .at) a b
           asks-act-branch = (acts.at-there pre, sym is ∙ e, acts.ready pre 0 0 (omega arith) (omega arith) a b 0 both-led)
@@ -95,8 +85,8 @@ module _ (code : List ℕ) (words : List ℤ) (records : List Activation) (limit
             pub says-2 : Said code words records limit here m words
             says-2 = so m-is (did firstOf limit (here .live) both-led)
 
-      module _ (not-branch : class ≡ 5 → ⊥) where
-        module _ (e : class ≡ 8) where
+      module _ (not-branch : class ≡ branchClass → ⊥) where
+        module _ (e : class ≡ constantClass) where
           pub asks-first-cell-3 : first-cell-asks code records here own 1
           asks-first-cell-3 = (acts.stores pre (sym is ∙ e) .named, refl)
 
@@ -108,8 +98,8 @@ module _ (code : List ℕ) (words : List ℤ) (records : List Activation) (limit
               pub says-3 : Said code words records limit here m words′
               says-3 = so m-is (acts.stores pre (sym is ∙ e) .did (did firstOf a-is))
 
-        module _ (other : class ≡ 8 → ⊥) where
-          module _ (low : 5 < class) where
+        module _ (other : class ≡ constantClass → ⊥) where
+          module _ (low : branchClass < class) where
             abbrev pub asks-tabled : tabled-asks code words records here own class
             asks-tabled = record { limit = limit; stating = pre; chosen = record { own-is = refl; class-is = is }; low = low; other = other }
 
@@ -117,17 +107,10 @@ module _ (code : List ℕ) (words : List ℤ) (records : List Activation) (limit
               pub says-4 : Said code words records limit here m words
               says-4 = did asks-tabled
 
-          module _ (not-more : 5 < class → ⊥) where
+          module _ (not-more : branchClass < class → ⊥) where
             abbrev pub asks-summed : summed-asks code words records here own class
             asks-summed =
-                let within = sums-left class not-one not-branch not-more in
-                record {
-                  limit = limit;
-                  stating = pre;
-                  chosen = record { own-is = refl; class-is = is };
-                  low = within .0;
-                  high = within .1;
-                }
+                record { limit = limit; stating = pre; chosen = record { own-is = refl; class-is = is }; low = omega arith; high = omega arith }
 
             module _ (m : Moved) (words′ : List ℤ) (did : summed-says code words records here own class m words′) where
               pub says-5 : Said code words records limit here m words′

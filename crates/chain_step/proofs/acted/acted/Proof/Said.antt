@@ -1,14 +1,15 @@
 -- What `chain_step::acted::acted` and the functions that it calls ask and say, in lists and numbers: x is behind a reference at first, x′ at last.
 -- Written by `tools/walk chain_step acted::acted`.
-use Prim.Native.Nat.{_<_, _%_, _+_, _≤_, ℕ, _*_}
+use Prim.Native.Nat.{_<_, _+_, _≤_, ℕ, _*_}
 use Rattle.chain_links.proofs.Rows.{recs, registers}
 use Rattle.chain_links.specs.Finding.{Named, firstCell}
 use Rattle.chain_records.specs.Records.{Linked, hop}
 use Rattle.chain_step.proofs.Rows.{moveds, moves}
 use Rattle.chain_step.specs.Acted.{Stating, Does, happening, onlyHops, Tabling, Summing}
 use Rattle.chain_step.specs.Moved.{movedBy}
+use Rattle.layout.specs.Layout.{operationIn}
 use Rattle.resolved.specs.Resolved.{levelIn}
-use Rattle.run_cells.specs.Asking.{classOf, Ready, Did, Leads, wordBehind}
+use Rattle.run_cells.specs.Asking.{classOf, Ready, oneClass, Did, Leads, branchClass, wordBehind}
 use Rattle.run_cells.specs.Finding.{Direct}
 use Rattle.run_moves.specs.Acting.{opOf, acting, sceneBy, doConstant}
 use Rattle.run_statements.specs.Pieces.{only-words}
@@ -31,7 +32,7 @@ abbrev pub class-of-says : List ℕ → ℕ → ℕ → Type 0
 class-of-says code at r = r ≡ classOf (opOf (getD code at 0))
 
 abbrev pub only-hops-asks : List ℕ → registers .type .Denot → Type 0
-only-hops-asks code here = (here .at + 1 < 4096) × ((getD code (here .at) 0 % 16 ≡ 6 → ⊥) → levelIn (getD code (here .at + 1) 0) ≤ here .level)
+only-hops-asks code here = (here .at + 1 < 4096) × ((operationIn (getD code (here .at) 0) ≡ 6 → ⊥) → levelIn (getD code (here .at + 1) 0) ≤ here .level)
 
 abbrev pub only-hops-says : List ℕ → registers .type .Denot → ℕ → Type 0
 only-hops-says code here r = r ≡ onlyHops code here
@@ -43,7 +44,7 @@ abbrev pub follow-says : List (recs .type .Denot) → ℕ → ℕ → ℕ → Ty
 follow-says records from count r = (r ≡ hop records from count) × (r ≤ from)
 
 abbrev pub act-one-asks : List ℕ → List ℤ → ℕ → ℕ → ℕ → ℕ → Type 0
-act-one-asks code words limit live at first = (at < 4096) × (classOf (opOf (getD code at 0)) ≡ 0) × Ready code words limit live at first 0 0 (opOf (getD code at 0))
+act-one-asks code words limit live at first = (at < 4096) × (classOf (opOf (getD code at 0)) ≡ oneClass) × Ready code words limit live at first 0 0 (opOf (getD code at 0))
 
 abbrev pub act-one-says : List ℕ → List ℤ → ℕ → ℕ → ℕ → ℕ → moves .type .Denot → List ℤ → Type 0
 act-one-says code words limit live at first r words′ = ((firstOf : ℕ → ℕ) → Leads firstOf code at first 0 0 (opOf (getD code at 0)) → Did (acting (byFirst words firstOf) (sceneBy code words limit live at)) words r words′)
@@ -58,7 +59,7 @@ abbrev pub first-cell-says : List ℕ → List (recs .type .Denot) → registers
 first-cell-says code records here field r = r ≡ firstCell records (here .live) (here .level) (getD code (here .at + field) 0)
 
 abbrev pub act-branch-asks : List ℕ → List ℤ → ℕ → ℕ → ℕ → Type 0
-act-branch-asks code words at first second = (at < 4096) × (classOf (opOf (getD code at 0)) ≡ 5) × Ready code words 0 0 at first second 0 (opOf (getD code at 0))
+act-branch-asks code words at first second = (at < 4096) × (classOf (opOf (getD code at 0)) ≡ branchClass) × Ready code words 0 0 at first second 0 (opOf (getD code at 0))
 
 abbrev pub act-branch-says : List ℕ → List ℤ → ℕ → ℕ → ℕ → moves .type .Denot → Type 0
 act-branch-says code words at first second r = ((firstOf : ℕ → ℕ) (limit live : ℕ) → Leads firstOf code at first second 0 (opOf (getD code at 0)) → Did (acting (byFirst words firstOf) (sceneBy code words limit live at)) words r words)

@@ -6,8 +6,6 @@ use mathlib.Core.Bool.{Bool, true, false}
 use mathlib.Core.List.{List}
 use lib.IntN.{ℤ}
 use lib.ListN.{length}
-use Rattle.run_moves.specs.declared.Ask.{Ask}
-use Rattle.run_moves.specs.declared.Move.the-variants.{Table as Asks}
 use Rattle.chain_records.specs.Records.{at}
 use Rattle.chain_records.specs.declared.Activation.{Activation}
 use Rattle.run_state.specs.declared.Registers.{Registers}
@@ -17,7 +15,6 @@ use Rattle.chain_links.specs.declared.Entry.{Entry}
 use Rattle.chain_links.specs.Running.{Succeeds, nowBy}
 use Rattle.chain_links.specs.Moving.{room-there, block-fits}
 use Rattle.chain_step.specs.declared.turn.Moved.{Moved}
-use Rattle.chain_step.specs.declared.turn.Moved.the-variants.{Table as AskBy}
 use Rattle.chain_step.specs.Moves.{staysIn, isAsked, isEntry, entryOf, homeAt, placeAt}
 use Rattle.chain_step.specs.Moved.{movedBy, isDone, turnOf, isAsk, isEnter, entryIn, homeIn, placeIn}
 use Rattle.chain_step.specs.Moved as by-move
@@ -59,15 +56,14 @@ module _ (code : List ℕ) (words : List ℤ) (records : List Activation) (table
 
         module _ (y : asking ≡ true) where
           pub asks-answered : answered-asks moved
-          asks-answered p g m t a e =
-              turned.cells-asked pre before (does .move) words′ (does .did) p g m t a (by-move.asked-back here (does .move) p g m t a (sym (does .so) ∙ e))
+          asks-answered k e = turned.cells-asked pre before (does .move) words′ (does .did) k (by-move.asked-back here (does .move) k (sym (does .so) ∙ e))
 
           module _ (r : Turn) (table″ words″ : List ℤ) (k : answered-says table words′ group here moved r table″ words″) (wide : length table″ ≡ length table) where
             pub says-3 : Ends r words″ records table″
             says-3 w =
                 let q = by-move.asked-in (does .move) (sym asks-is ∙ y) in
-                turned.answered-on w before (does .move) words′ (does .did) (q .0) (q .1) (q .2) (q .3) (q .4) (q .5) r words″ table″
-                (k (q .0) (q .1) (q .2) (q .3) (q .4) (does .so ∙ ap (movedBy here) (q .5)))
+                turned.answered-on w before (does .move) words′ (does .did) (q .0) (q .1) r words″ table″
+                (k (q .0) (does .so ∙ ap (movedBy here) (q .1)))
 
         module _ (no-ask : asking ≡ false) (entering : Bool) (entering-is : enters-says moved entering) where
           entry-is : entering ≡ isEntry (does .move)

@@ -1,16 +1,15 @@
 -- What `chain_step::stepped::step` and the functions that it calls ask and say, in lists and numbers: x is behind a reference at first, x′ at last.
 -- Written by `tools/walk chain_step stepped::step`.
-use Prim.Native.Nat.{_<_, ℕ, _+_, _≤_}
+use Prim.Native.Nat.{_<_, _+_, _≤_, ℕ}
 use Rattle.chain_links.proofs.Rows.{recs, registers, entries}
 use Rattle.chain_links.specs.Running.{Running, EnterReady, Succeeds, nowBy}
 use Rattle.chain_records.specs.Records.{at}
 use Rattle.chain_step.proofs.Rows.{turns, moveds}
 use Rattle.chain_step.specs.Acted.{Stating, Does, happening}
-use Rattle.chain_step.specs.Moved.{isDone, turnOf, isAsk, isEnter, entryIn, homeIn, placeIn}
+use Rattle.chain_step.specs.Moved.{isDone, turnOf, isAsk, answerTo, isEnter, entryIn, homeIn, placeIn}
 use Rattle.chain_step.specs.Turning.{Turned, LeaveReady}
+use Rattle.chain_step.specs.declared.turn.Asking.{Asking as Asked}
 use Rattle.chain_step.specs.declared.turn.Moved.the-variants.{Table}
-use Rattle.run_moves.specs.Acting.{answer}
-use Rattle.run_moves.specs.declared.Ask.{Ask as Asked}
 use Rattle.run_state.specs.declared.Turn.the-variants.{Went}
 use Rattle.run_statements.specs.Answers.{Answered, turnAfter}
 use Rattle.table_pairs.specs.Outcomes.{tableOf}
@@ -49,10 +48,10 @@ abbrev pub asks-says : moveds .type .Denot → Bool → Type 0
 asks-says moved r = r ≡ isAsk moved
 
 abbrev pub answered-asks : moveds .type .Denot → Type 0
-answered-asks moved = ((p g m t : ℕ) (a : Asked) → moved ≡ Table p g m t a → (g < 8192) × ((m < 8192) × (t < 8192)))
+answered-asks moved = ((k : Asked) → moved ≡ Table k → (k .group < 8192) × ((k .member < 8192) × (k .target < 8192)))
 
 abbrev pub answered-says : List ℤ → List ℤ → ℕ → registers .type .Denot → moveds .type .Denot → turns .type .Denot → List ℤ → List ℤ → Type 0
-answered-says table words limit here moved r table′ words′ = ((p g m t : ℕ) (a : Asked) → moved ≡ Table p g m t a → (c : Changed) × (r ≡ turnAfter here p c) × Answered (answer limit words (tableOf table (here .pairs)) g m t a) table c words′ table′)
+answered-says table words limit here moved r table′ words′ = ((k : Asked) → moved ≡ Table k → (c : Changed) × (r ≡ turnAfter here (k .place) c) × Answered (answerTo limit words (tableOf table (here .pairs)) k) table c words′ table′)
 
 abbrev pub enters-says : moveds .type .Denot → Bool → Type 0
 enters-says moved r = r ≡ isEnter moved

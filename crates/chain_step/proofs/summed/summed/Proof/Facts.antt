@@ -1,6 +1,6 @@
 -- What the walk of `summed` shows.
-use mathlib.Core.Path.{_≡_, refl, sym, _∙_}
-use Prim.Native.Nat.{ℕ, zero, suc, _+_, _≤_}
+use mathlib.Core.Path.{_≡_, sym, _∙_}
+use Prim.Native.Nat.{ℕ, _+_, _≤_}
 use native.Mathlib.Omega.{arith}
 use mathlib.Core.List.{List}
 use lib.IntN.{ℤ}
@@ -9,22 +9,13 @@ use Rattle.language.specs.Text.{plus, minus, less}
 use Rattle.chain_records.specs.declared.Activation.{Activation}
 use Rattle.run_moves.specs.declared.Move.{Move}
 use Rattle.run_moves.specs.Acting.{opOf}
-use Rattle.run_cells.specs.Asking.{Did, classOf}
+use Rattle.run_cells.specs.Asking.{Did, classOf, addClass, subtractClass, compareClass, arithmeticFormalClass}
 use Rattle.run_state.specs.declared.Registers.{Registers}
 use Rattle.chain_links.specs.Finding.{firstCell}
 use Rattle.chain_step.specs.declared.turn.Moved.{Moved}
 use Rattle.chain_step.specs.Acted as acts
 use Rattle.chain_step.specs.Acted.{Summing, happening}
 use Rattle.chain_step.proofs.summed.summed.Proof.Said.{Pre, Said, first-cell-asks, first-cell-says, do-add-asks, do-add-says, do-compare-asks, do-compare-says, do-subtract-asks, do-subtract-says, do-arithmetic-formal-asks, do-arithmetic-formal-says, came-to-says}
-
--- the class that is left
-four-left : (n : ℕ) → 1 ≤ n → n ≤ 4 → (n ≡ 1 → ⊥) → (n ≡ 3 → ⊥) → (n ≡ 2 → ⊥) → n ≡ 4
-four-left zero l h x y z = absurd (omega arith)
-four-left (suc zero) l h x y z = absurd (x refl)
-four-left (suc (suc zero)) l h x y z = absurd (z refl)
-four-left (suc (suc (suc zero))) l h x y z = absurd (y refl)
-four-left (suc (suc (suc (suc zero)))) l h x y z = refl
-four-left (suc (suc (suc (suc (suc n))))) l h x y z = absurd (omega arith)
 
 module _ (code : List ℕ) (words : List ℤ) (records : List Activation) (here : Registers) (own class : ℕ) (pre : Pre code words records here own class) where
   abbrev W : Type 0
@@ -46,9 +37,9 @@ module _ (code : List ℕ) (words : List ℤ) (records : List Activation) (here 
       → ((w : W) → Did (happening code words records (w .limit) here) words r words′) → Said code words records here own class m words′
   so {r} e did w = record { move = r; did = did w; so = e }
 
-  module _ (e : class ≡ 1) where
+  module _ (e : class ≡ addClass) where
     adding : (w : W) → acts.Sum (w .stating) plus
-    adding w = acts.adds (w .stating) (is-class w 1 e)
+    adding w = acts.adds (w .stating) (is-class w addClass e)
 
     pub asks-first-cell : Asks 3
     asks-first-cell = (adding pre .named .1, pre .chosen .own-is)
@@ -67,10 +58,10 @@ module _ (code : List ℕ) (words : List ℤ) (records : List Activation) (here 
         pub says-1 : Said code words records here own class m words′
         says-1 = so m-is (λ w. adding w .did (did firstOf a-is b-is c-is))
 
-  module _ (not-1 : class ≡ 1 → ⊥) where
-    module _ (e : class ≡ 3) where
+  module _ (not-add : class ≡ addClass → ⊥) where
+    module _ (e : class ≡ compareClass) where
       comparing : (w : W) → acts.Sum (w .stating) less
-      comparing w = acts.compares (w .stating) (is-class w 3 e)
+      comparing w = acts.compares (w .stating) (is-class w compareClass e)
 
       pub asks-first-cell-4 : Asks 3
       asks-first-cell-4 = (comparing pre .named .1, pre .chosen .own-is)
@@ -89,10 +80,10 @@ module _ (code : List ℕ) (words : List ℤ) (records : List Activation) (here 
           pub says-2 : Said code words records here own class m words′
           says-2 = so m-is (λ w. comparing w .did (did firstOf a-is b-is c-is))
 
-    module _ (not-3 : class ≡ 3 → ⊥) where
-      module _ (e : class ≡ 2) where
+    module _ (not-compare : class ≡ compareClass → ⊥) where
+      module _ (e : class ≡ subtractClass) where
         subtracting : (w : W) → acts.Sum (w .stating) minus
-        subtracting w = acts.subtracts (w .stating) (is-class w 2 e)
+        subtracting w = acts.subtracts (w .stating) (is-class w subtractClass e)
 
         pub asks-first-cell-7 : Asks 3
         asks-first-cell-7 = (subtracting pre .named .1, pre .chosen .own-is)
@@ -111,9 +102,9 @@ module _ (code : List ℕ) (words : List ℤ) (records : List Activation) (here 
             pub says-3 : Said code words records here own class m words′
             says-3 = so m-is (λ w. subtracting w .did (did firstOf a-is b-is c-is))
 
-      module _ (not-2 : class ≡ 2 → ⊥) where
+      module _ (not-subtract : class ≡ subtractClass → ⊥) where
         by-formals : (w : W) → acts.Formal (w .stating)
-        by-formals w = acts.through-formals (w .stating) (is-class w 4 (four-left class (pre .low) (pre .high) not-1 not-3 not-2))
+        by-formals w = acts.through-formals (w .stating) (is-class w arithmeticFormalClass (omega (arith, pre .low, pre .high)))
 
         pub asks-first-cell-10 : Asks 3
         asks-first-cell-10 = (by-formals pre .named .1, pre .chosen .own-is)

@@ -8,7 +8,7 @@ use lib.ListN.{getD}
 use Rattle.chain_records.specs.declared.Activation.{Activation}
 use Rattle.run_moves.specs.declared.Move.{Move}
 use Rattle.run_moves.specs.Acting.{opOf}
-use Rattle.run_cells.specs.Asking.{Leads, Did, classOf}
+use Rattle.run_cells.specs.Asking.{Leads, Did, classOf, pairClass}
 use Rattle.run_state.specs.declared.Registers.{Registers}
 use Rattle.chain_links.specs.Finding.{firstCell}
 use Rattle.chain_step.specs.declared.turn.Moved.{Moved}
@@ -31,19 +31,19 @@ module _ (code : List ℕ) (words : List ℤ) (records : List Activation) (here 
   so {r} e did w = record { move = r; did = did w; so = e }
 
   -- AD and RM
-  module _ (e : class ≡ 6) where
-    is-class : classOf (opOf (getD code (here .at) 0)) ≡ 6
+  module _ (e : class ≡ pairClass) where
+    is-class : classOf (opOf (getD code (here .at) 0)) ≡ pairClass
     is-class = sym (pre .chosen .class-is) ∙ e
 
     pub asks-first-cell : first-cell-asks code records here own 1
-    asks-first-cell = (acts.by-class (pre .stating) 6 is-class .0 .0, pre .chosen .own-is)
+    asks-first-cell = (acts.by-class (pre .stating) pairClass is-class .one, pre .chosen .own-is)
 
     pub asks-first-cell-2 : first-cell-asks code records here own 2
-    asks-first-cell-2 = (acts.by-class (pre .stating) 6 is-class .0 .1, pre .chosen .own-is)
+    asks-first-cell-2 = (acts.by-class (pre .stating) pairClass is-class .other, pre .chosen .own-is)
 
     module _ (a : ℕ) (a-is : At 1 a) (b : ℕ) (b-is : At 2 b) where
       led : Leads firstOf code (here .at) a b 0 (opOf (getD code (here .at) 0))
-      led = acts.by-class (pre .stating) 6 is-class .1 a b a-is b-is
+      led = acts.by-class (pre .stating) pairClass is-class .led a b a-is b-is
 
       pub asks-act-pair : act-pair-asks code words (here .at) a b
       asks-act-pair = (acts.at-there (pre .stating), is-class, acts.ready (pre .stating) 0 0 (omega arith) (omega arith) a b 0 led)
@@ -53,11 +53,11 @@ module _ (code : List ℕ) (words : List ℤ) (records : List Activation) (here 
         says-1 = so m-is (λ w. did firstOf (w .limit) (here .live) led)
 
   -- QY
-  module _ (d : class ≡ 6 → ⊥) where
+  module _ (d : class ≡ pairClass → ⊥) where
     asking : (w : W) → acts.Query (w .stating)
     asking w =
-        let seven = acts.seven-left (w .stating) class (acts.by-class (w .stating) class (sym (w .chosen .class-is))) (w .low) d (w .other) in
-        acts.queries (w .stating) (sym (w .chosen .class-is) ∙ seven)
+        let query = acts.query-left (w .stating) class (acts.by-class (w .stating) class (sym (w .chosen .class-is))) (w .low) d (w .other) in
+        acts.queries (w .stating) (sym (w .chosen .class-is) ∙ query)
 
     pub asks-first-cell-3 : first-cell-asks code records here own 1
     asks-first-cell-3 = (asking pre .named .0, pre .chosen .own-is)

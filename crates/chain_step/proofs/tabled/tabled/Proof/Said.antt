@@ -6,7 +6,7 @@ use Rattle.chain_links.specs.Finding.{Named, firstCell}
 use Rattle.chain_step.proofs.Rows.{moveds, moves}
 use Rattle.chain_step.specs.Acted.{Tabling, Does, happening}
 use Rattle.chain_step.specs.Moved.{movedBy}
-use Rattle.run_cells.specs.Asking.{Ready, classOf, Did, Leads, wordBehind}
+use Rattle.run_cells.specs.Asking.{Ready, classOf, pairClass, Did, Leads, wordBehind}
 use Rattle.run_cells.specs.Finding.{Reachable}
 use Rattle.run_moves.specs.Acting.{opOf, acting, sceneBy, doQuery}
 use Rattle.run_statements.specs.Pieces.{only-words}
@@ -29,7 +29,7 @@ abbrev pub first-cell-says : List ℕ → List (recs .type .Denot) → registers
 first-cell-says code records here field r = r ≡ firstCell records (here .live) (here .level) (getD code (here .at + field) 0)
 
 abbrev pub act-pair-asks : List ℕ → List ℤ → ℕ → ℕ → ℕ → Type 0
-act-pair-asks code words at first second = (at < 4096) × (classOf (opOf (getD code at 0)) ≡ 6) × Ready code words 0 0 at first second 0 (opOf (getD code at 0))
+act-pair-asks code words at first second = (at < 4096) × (classOf (opOf (getD code at 0)) ≡ pairClass) × Ready code words 0 0 at first second 0 (opOf (getD code at 0))
 
 abbrev pub act-pair-says : List ℕ → List ℤ → ℕ → ℕ → ℕ → moves .type .Denot → Type 0
 act-pair-says code words at first second r = ((firstOf : ℕ → ℕ) (limit live : ℕ) → Leads firstOf code at first second 0 (opOf (getD code at 0)) → Did (acting (byFirst words firstOf) (sceneBy code words limit live at)) words r words)
