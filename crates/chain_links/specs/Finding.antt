@@ -8,7 +8,7 @@ use lib.IntN.{ℤ}
 use lib.ListN.{getD}
 use Rattle.chain_records.specs.declared.Activation.{Activation}
 use Rattle.resolved.specs.Resolved.{levelIn, positionIn}
-use Rattle.layout.specs.Layout.{operationIn}
+use Rattle.resolved.specs.Layout.{operationIn}
 use Rattle.arrays.specs.Names.{follow}
 use Rattle.run_moves.specs.Acting.{Finding, setAll, argumentsFrom}
 use Rattle.run_statements.specs.Pieces.{only-words}

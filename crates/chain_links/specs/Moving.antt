@@ -17,7 +17,7 @@ use Rattle.frames.specs.Numbered.{numbered-suc, numbered-index}
 use Rattle.coordinates.specs.Enclosure.{enclosed, Enclosure}
 use Rattle.coordinates.specs.Chain.{enclosing, enclosureOf}
 use Rattle.resolved.specs.Resolved.{placeOf, endPlace, levelIn}
-use Rattle.layout.specs.Layout.{formalsIn, namesIn, endIn, firstIn, cellFrom}
+use Rattle.resolved.specs.Layout.{formalsIn, namesIn, endIn, firstIn, cellFrom}
 use Rattle.resolved.specs.Places.{block-fields, end-is, end-bound, place-bound, enclosed-formed}
 use Rattle.arrays.specs.Holds.{Holds}
 use Rattle.run_moves.specs.Effects.{Cleared}

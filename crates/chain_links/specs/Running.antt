@@ -12,7 +12,7 @@ use Rattle.chain_records.specs.declared.Activation.{Activation}
 use Rattle.resolved.specs.Resolved.{levelIn}
 use Rattle.steps.specs.Standing.{Standing}
 use Rattle.steps.specs.Means.{Follows, EntersAt}
-use Rattle.layout.specs.Layout.{endIn, firstIn}
+use Rattle.resolved.specs.Layout.{endIn, firstIn}
 use Rattle.run_sheet.specs.Named.{lookedUpBy, Nameable}
 use Rattle.run_state.specs.declared.Registers.{Registers}
 use Rattle.run_state.specs.Scenes.{limitsBy}

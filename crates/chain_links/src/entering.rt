@@ -19,7 +19,7 @@ use run_words::code_at;
 ghost use mathlib.Core.Path.{_≡_};
 ghost use Prim.Native.Nat.{_+_, _<_, _≤_};
 ghost use lib.ListN.{getD};
-ghost use Rattle.layout.specs.Layout.{cellFrom, formalsIn, namesIn};
+ghost use Rattle.resolved.specs.Layout.{cellFrom, formalsIn, namesIn};
 ghost use Rattle.run_moves.specs.Effects.{Cleared};
 ghost use Rattle.chain_links.specs.Running.{activationOf, enteredBy, EnterReady, Succeeds};
 

@@ -20,7 +20,7 @@ use Rattle.steps.specs.Here.{live-few}
 use Rattle.steps.specs.Reads.{at-within, begin-reads}
 use Rattle.steps.specs.Loop.{begins, spent as spends, stops}
 use Rattle.steps.specs.Underway as steps
-use Rattle.layout.specs.Layout.{endIn, firstIn}
+use Rattle.resolved.specs.Layout.{endIn, firstIn}
 use Rattle.chain_records.specs.declared.Activation.{Activation}
 use Rattle.chain_records.specs.Records.{at as record-at}
 use Rattle.run_state.specs.declared.Registers.{Registers}

@@ -22,7 +22,7 @@ use Rattle.run_moves.specs.Acting.{Finding, Scene, sceneBy, operationOf, doCons
 use Rattle.steps.specs.Standing.{Standing}
 use Rattle.steps.specs.Here.{live-few}
 use Rattle.steps.specs.Fields as fields
-use Rattle.layout.specs.Layout.{operationIn, leadIn}
+use Rattle.resolved.specs.Layout.{operationIn, leadIn}
 use Rattle.run_statements.specs.Pieces.{FormalsBefore, only-words}
 use Rattle.run_statements.specs.Numbers.{op-of}
 use Rattle.run_cells.specs.Finding.{Reachable, Direct, ThroughFormal}

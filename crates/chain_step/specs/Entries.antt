@@ -23,7 +23,7 @@ use Rattle.run_moves.specs.Acting.{Op, constant-op, add-op, subtract-op, compar
 use Rattle.run_moves.specs.Acting.{constant-formal-op, arithmetic-formal-op, branch-formal-op, goto-formal-op, call-formal-op, opOf, happens, acting}
 use Rattle.steps.specs.Standing.{Standing}
 use Rattle.steps.specs.Fields as fields
-use Rattle.layout.specs.Layout.{operationIn}
+use Rattle.resolved.specs.Layout.{operationIn}
 use Rattle.run_statements.specs.Pieces.{only-words, blockMove}
 use Rattle.run_statements.specs.Scenes.{block-same}
 use Rattle.chain_records.specs.declared.Activation.{Activation}

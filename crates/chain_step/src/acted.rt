@@ -24,7 +24,7 @@ ghost use mathlib.Core.Path.{_≡_};
 ghost use Prim.Native.Nat.{_+_, _<_, _≤_};
 ghost use lib.ListN.{getD};
 ghost use Rattle.resolved.specs.Resolved.{levelIn};
-ghost use Rattle.layout.specs.Layout.{operationIn};
+ghost use Rattle.resolved.specs.Layout.{operationIn};
 ghost use Rattle.chain_step.specs.Acted.{onlyHops, Stating, Does, happening};
 
 // The links to the only name of a statement; a BK has none, and is linked to the innermost activation itself.

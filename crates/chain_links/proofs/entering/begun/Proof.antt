@@ -1,7 +1,7 @@
 -- `begun` meets its contract.
 use mathlib.Core.Path.{ap, _∙_}
 use borrow.Author.Needs.{needs}
-use Rattle.layout.specs.Layout.{firstIn}
+use Rattle.resolved.specs.Layout.{firstIn}
 use Rattle.chain_links.proofs.entering.begun.Statement.{statement}
 use Rattle.chain_links.proofs.entering.begun.Tie as tie
 

@@ -4,7 +4,7 @@ use native.Mathlib.Omega.{arith}
 use Prim.Native.Nat.{ℕ, _+_}
 use lib.ListN.{getD}
 use borrow.Author.Needs.{needs}
-use Rattle.layout.specs.Layout.{cellFrom, formalsIn, namesIn}
+use Rattle.resolved.specs.Layout.{cellFrom, formalsIn, namesIn}
 use Rattle.run_moves.specs.Effects.{Cleared}
 use Rattle.chain_links.proofs.entering.entered.Statement.{statement}
 use Rattle.chain_links.proofs.entering.entered.Tie as tie

@@ -5,7 +5,7 @@ use mathlib.Core.Path.{_≡_, sym, ap, _∙_}
 use borrow.Author.Needs.{needs}
 use borrow.Author.Tests.{eq-eqb, ne-eqb}
 use lib.ListN.{getD}
-use Rattle.layout.specs.Layout.{operationIn}
+use Rattle.resolved.specs.Layout.{operationIn}
 use Rattle.chain_links.specs.Finding.{argumentsEnd}
 use Rattle.chain_links.proofs.handing.arguments_end.Statement.{statement}
 use Rattle.chain_links.proofs.handing.arguments_end.Tie as tie

@@ -5,7 +5,7 @@ use mathlib.Core.Path.{_≡_, sym, ap, _∙_, subst}
 use borrow.Author.Needs.{needs}
 use lib.ListN.{getD}
 use Rattle.resolved.specs.Resolved.{levelIn}
-use Rattle.layout.specs.Layout.{operationIn}
+use Rattle.resolved.specs.Layout.{operationIn}
 use Rattle.run_state.specs.declared.Registers.{Registers}
 use Rattle.chain_step.specs.Acted.{onlyHops, none-hops, some-hops}
 use Rattle.chain_step.proofs.acted.only_hops.Statement.{statement}

@@ -7,7 +7,7 @@ use lib.IntN.{ℤ}
 use lib.ListN.{length, getD, set}
 use Rattle.chain_records.specs.Records.{at}
 use Rattle.chain_records.specs.declared.Activation.{Activation}
-use Rattle.layout.specs.Layout.{cellFrom, formalsIn, namesIn}
+use Rattle.resolved.specs.Layout.{cellFrom, formalsIn, namesIn}
 use Rattle.run_moves.specs.Acting.{argumentsFrom, setAll}
 use Rattle.run_moves.specs.Effects.{Cleared}
 use Rattle.run_statements.specs.Pieces.{only-words}

@@ -6,7 +6,7 @@ use Rattle.chain_links.specs.Finding.{argumentsEnd, Handing, byChain}
 use Rattle.chain_links.specs.Records.{withNext}
 use Rattle.chain_links.specs.Running.{EnterReady, Succeeds, activationOf, enteredBy}
 use Rattle.chain_records.specs.Records.{at}
-use Rattle.layout.specs.Layout.{formalsIn, namesIn, cellFrom}
+use Rattle.resolved.specs.Layout.{formalsIn, namesIn, cellFrom}
 use Rattle.run_moves.specs.Acting.{argumentsFrom, setAll}
 use Rattle.run_moves.specs.Effects.{Cleared}
 use Rattle.run_statements.specs.Pieces.{only-words}

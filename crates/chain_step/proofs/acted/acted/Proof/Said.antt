@@ -7,7 +7,7 @@ use Rattle.chain_records.specs.Records.{Linked, hop}
 use Rattle.chain_step.proofs.Rows.{moveds, moves}
 use Rattle.chain_step.specs.Acted.{Stating, Does, happening, onlyHops, Tabling, Summing}
 use Rattle.chain_step.specs.Moved.{movedBy}
-use Rattle.layout.specs.Layout.{operationIn}
+use Rattle.resolved.specs.Layout.{operationIn}
 use Rattle.resolved.specs.Resolved.{levelIn}
 use Rattle.run_cells.specs.Asking.{classOf, Ready, oneClass, Did, Leads, branchClass, wordBehind}
 use Rattle.run_cells.specs.Finding.{Direct}
