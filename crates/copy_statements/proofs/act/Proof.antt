@@ -178,34 +178,7 @@ returns-9 c =
 pub act-spec : {M : Type 1} → statement M
 act-spec =
     tie.close
-    (tie.spec
-    add-place
-    field-requires
-    do-arithmetic-requires
-    (λ c κs. search needs)
-    do-branch-requires
-    (λ c κs. search needs)
-    do-constant-requires
-    (λ c κs. search needs)
-    do-call-requires
-    (λ c κs. search needs)
-    add-do-goto
-    do-goto-requires
-    (λ c κs. search needs)
-    do-block-requires
-    (λ c κs. search needs)
-    do-add-pair-requires
-    (λ c κs. search needs)
-    do-remove-pair-requires
-    (λ c κs. search needs)
-    do-query-requires
-    (λ c κs. search needs)
-    returns
-    returns-2
-    returns-3
-    returns-4
-    returns-5
-    returns-6
-    returns-7
-    returns-8
-    returns-9)
+    (tie.spec add-place field-requires do-arithmetic-requires (λ c κs. search needs) do-branch-requires (λ c κs. search needs) do-constant-requires
+    (λ c κs. search needs) do-call-requires (λ c κs. search needs) add-do-goto do-goto-requires (λ c κs. search needs) do-block-requires
+    (λ c κs. search needs) do-add-pair-requires (λ c κs. search needs) do-remove-pair-requires (λ c κs. search needs) do-query-requires
+    (λ c κs. search needs) returns returns-2 returns-3 returns-4 returns-5 returns-6 returns-7 returns-8 returns-9)

@@ -4,10 +4,7 @@ use Rattle.copy_arms.proofs.fields.named.Statement.{statement}
 use Rattle.copy_arms.proofs.fields.named.Tie as tie
 
 cell-of-requires : tie.Need-cell-of-requires
-cell-of-requires c κs =
-    let p = c .before .before .pre in
-    let e = c .field .ensures .0 in
-    (p .few, p .sorted, rw e (p .new), rw e (p .has))
+cell-of-requires c κs = rw (c .field .ensures .0) (c .before .before .pre .found)
 
 returns : tie.Need-returns
 returns c = rw (c .before .field .ensures .0) at (c .cell-of .ensures)

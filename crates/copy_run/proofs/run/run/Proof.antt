@@ -191,33 +191,6 @@ returns-3 c =
 pub run-spec : {M : Type 1} → statement M
 run-spec =
     tie.close
-    (tie.spec
-    Inv-loop
-    μ-loop
-    loop-holds
-    step-requires
-    (λ c. search needs)
-    sub-left
-    loop-less
-    loop-again
-    (λ c. search needs)
-    sub-finished
-    add-finished
-    (λ c κs. search needs)
-    same-length
-    same-length-2
-    returns
-    (λ c. search needs)
-    sub-stopped
-    stopped-requires
-    settle-requires
-    (λ c κs. search needs)
-    same-length-3
-    same-length-4
-    returns-2
-    spent-requires
-    settle-requires-2
-    (λ c κs. search needs)
-    same-length-5
-    same-length-6
-    returns-3)
+    (tie.spec Inv-loop μ-loop loop-holds step-requires (λ c. search needs) sub-left loop-less loop-again (λ c. search needs) sub-finished add-finished
+    (λ c κs. search needs) same-length same-length-2 returns (λ c. search needs) sub-stopped stopped-requires settle-requires (λ c κs. search needs)
+    same-length-3 same-length-4 returns-2 spent-requires settle-requires-2 (λ c κs. search needs) same-length-5 same-length-6 returns-3)
