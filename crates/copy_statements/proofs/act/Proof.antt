@@ -34,11 +34,8 @@ mark c e = mark-is (copy (startOf c)) (scene (startOf c)) (c .field .ensures .0)
 
 other : (c : tie.At-match-rest) → let s = startOf (c .before) in markOf (text (copy s) (scene s) 0) ≡ query
 other c =
-    let r = c .match .rest in
     let s = startOf (c .before) in
-    mark-is (copy s) (scene s) (c .before .field .ensures .0)
-    (last-mark (c .before .field .result) (r .0 .0 .0 .0 .0 .0 .0 .1) (r .0 .0 .0 .0 .0 .0 .1) (r .0 .0 .0 .0 .0 .1) (r .0 .0 .0 .0 .1)
-    (r .0 .0 .0 .1) (r .0 .0 .1) (r .0 .1) (r .1))
+    mark-is (copy s) (scene s) (c .before .field .ensures .0) (search (needs, last-mark))
 
 do-arithmetic-requires : tie.Need-do-arithmetic-requires
 unfolding markOf
