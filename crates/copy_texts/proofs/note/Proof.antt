@@ -1,6 +1,5 @@
 -- `note` meets its contract.
 use native.Mathlib.Omega.{arith}
-use Rattle.resolved.specs.Resolved.{levelIn}
 use borrow.Author.Needs.{needs}
 use Rattle.copy_texts.proofs.Renewing.{is-direct, is-formal, noted-new, noted-formal, noted-other}
 use Rattle.copy_texts.proofs.note.Statement.{statement}

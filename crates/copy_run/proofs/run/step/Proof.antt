@@ -51,11 +51,6 @@ returns-2 c =
     let e = c .before .before .before in
     λ w. left-on w (e .before .if1 .taken) (above-zero ((startAt e) .args .here .live) (e .if2 .left)) (c .leave .result) (c .leave .ensures)
 
-mul-base : tie.Need-mul-base
-mul-base c =
-    let within = base-within ((entryOf c) .pre .running) in
-    search needs
-
 act-requires : tie.Need-act-requires
 act-requires c κs =
     let e = elseAt c in
@@ -115,6 +110,7 @@ returns-7 c =
 pub step-spec : {M : Type 1} → statement M
 step-spec =
     tie.close
-    (tie.spec returns leave-requires returns-2 mul-base act-requires (λ c. search needs) (λ c. search needs) jump-requires (λ c. search needs)
-    enter-requires (λ c. search needs) (λ c. search needs) asked-requires (λ c κs. search needs) (λ c. search needs) returns-3 (λ c. search needs)
-    returns-4 (λ c. search needs) returns-5 (λ c. search needs) returns-6 (λ c. search needs) (λ c. search needs) returns-7)
+    (tie.spec returns leave-requires returns-2 (λ c. search (needs, base-within ((entryOf c) .pre .running))) act-requires (λ c. search needs)
+    (λ c. search needs) jump-requires (λ c. search needs) enter-requires (λ c. search needs) (λ c. search needs) asked-requires (λ c κs. search needs)
+    (λ c. search needs) returns-3 (λ c. search needs) returns-4 (λ c. search needs) returns-5 (λ c. search needs) returns-6 (λ c. search needs)
+    (λ c. search needs) returns-7)
