@@ -1,5 +1,5 @@
 -- What a call comes to, from what its functions have found: the arguments one by one, 26, and 22 after it.
-use Prim.Native.Nat.{ℕ, suc, _+_, _*_, _-_, _/_, _%_, _≤_, _<_}
+use Prim.Native.Nat.{ℕ, suc, _+_, _*_, _-_, _≤_, _<_}
 use native.Mathlib.Omega.{arith}
 use mathlib.Core.Bool.{Bool, true, false, not}
 use mathlib.Core.List.{List}
@@ -13,20 +13,21 @@ use Rattle.run_moves.specs.declared.Move.{Move}
 use Rattle.run_moves.specs.declared.Move.the-variants.{Enter, Stop}
 use Rattle.run_moves.specs.Effects.{sameKinds}
 use Rattle.run_moves.specs.Acting.{setAll}
+use Rattle.layout.specs.Layout.{operationIn, formalsIn, activationIn}
 use Rattle.copy_arms.specs.Parts.{handedWord, handedFrom, refusedBy, callMove, callWords}
 
 -- 26
 module _ (code : List ℕ) (at body count : ℕ) where
-  pub no-formal : (getD code at 0 % 16 ≡ 15 → ⊥) → false ≡ refusedBy code at body count
+  pub no-formal : (operationIn (getD code at 0) ≡ 15 → ⊥) → false ≡ refusedBy code at body count
   unfolding refusedBy
   no-formal d = rw (refusedBy, ne-eqb _ _ d)
 
-  pub number-differs : getD code at 0 % 16 ≡ 15 → (getD code body 0 / 65536 % 256 ≡ count → ⊥) → true ≡ refusedBy code at body count
+  pub number-differs : operationIn (getD code at 0) ≡ 15 → (formalsIn (getD code body 0) ≡ count → ⊥) → true ≡ refusedBy code at body count
   unfolding refusedBy
   number-differs o d = rw (refusedBy, eq-eqb _ _ o, ne-eqb _ _ d)
 
   pub kinds-tell :
-      getD code at 0 % 16 ≡ 15 → getD code body 0 / 65536 % 256 ≡ count → {t : Bool} → t ≡ sameKinds code (at + 3) (body - 3 * count) count →
+      operationIn (getD code at 0) ≡ 15 → formalsIn (getD code body 0) ≡ count → {t : Bool} → t ≡ sameKinds code (at + 3) (body - 3 * count) count →
       not t ≡ refusedBy code at body count
   unfolding refusedBy
   kinds-tell o e f = rw (refusedBy, eq-eqb _ _ o, eq-eqb _ _ e, f)
@@ -49,8 +50,9 @@ module _ (area firsts starts targets : List ℕ) (live place count i : ℕ) (ws 
       rw (p, a, f, e, handedFrom, setAll)
 
 pub enters-at :
-    (at : ℕ) {b c n body cell count : ℕ} → b ≡ body → c ≡ cell → n ≡ count → Enter b (c / 32) (at + 3 + n) ≡ Enter body (cell / 32) (at + 3 + count)
-enters-at at p q r = rw (p, q, r)
+    (at : ℕ) {b k c n body cell count : ℕ} → b ≡ body → k ≡ activationIn c → c ≡ cell → n ≡ count →
+    Enter b k (at + 3 + n) ≡ Enter body (activationIn cell) (at + 3 + count)
+enters-at at p k q r = rw (p, k, q, r)
 
 -- 26, then 22
 module _ (refused : Bool) (limit live : ℕ) (enter : Move) (before after : List ℤ) where

@@ -1,5 +1,5 @@
 -- The parts from which the statements' functions are made, by the place of a field in the area.
-use Prim.Native.Nat.{ℕ, zero, suc, _+_, _*_, _-_, _/_, _%_, _≤_, _<_}
+use Prim.Native.Nat.{ℕ, zero, suc, _+_, _*_, _-_, _≤_, _<_}
 use mathlib.Core.Bool.{Bool, true, false, _&&_, not}
 use mathlib.Core.List.{List, [], _∷_}
 use mathlib.Core.Path.{_≡_}
@@ -13,8 +13,9 @@ use Rattle.run_moves.specs.declared.Move.{Move}
 use Rattle.run_moves.specs.declared.Move.the-variants.{On, Jump, Enter, Stop}
 use Rattle.run_moves.specs.Effects.{sameKinds}
 use Rattle.run_moves.specs.Acting.{operationOf, setAll}
+use Rattle.layout.specs.Layout.{operationIn, formalsIn, cellFrom, activationIn, heldFrom}
 use Rattle.run_statements.specs.Pieces.{FormalsBefore}
-use Rattle.copy_names.specs.Owner.{cellIn, Sorted}
+use Rattle.copy_names.specs.Owner.{cellIn, Findable}
 
 -- the cell of the name at a place, and what stands there
 abbrev pub cellAt : List ℕ → List ℕ → List ℕ → ℕ → ℕ → ℕ
@@ -23,13 +24,10 @@ cellAt area firsts starts live place = cellIn firsts starts live (getD area plac
 abbrev pub variableAt : List ℤ → List ℕ → List ℕ → List ℕ → ℕ → ℕ → ℤ
 variableAt words area firsts starts live place = getD words (cellAt area firsts starts live place) (pos 0)
 
--- a new name stands at the place, and it has a cell
+-- a new name stands at the place, and its cell can be found
 pub record NameAt (area firsts starts : List ℕ) (live place : ℕ) : Type 0 where
-  pub few : live ≤ 255
-  pub sorted : Sorted firsts live
   pub there : place < length area
-  pub new : getD firsts 0 0 ≤ getD area place 0
-  pub has : cellAt area firsts starts live place < 8192
+  pub found : Findable firsts starts live (getD area place 0)
 
 -- AR, whose mark stands at the place
 abbrev pub resultAt : List ℤ → List ℕ → List ℕ → List ℕ → ℕ → ℕ → ℤ
@@ -39,7 +37,7 @@ resultAt words area firsts starts live place =
 -- to the label at the place
 abbrev pub jumpAt : List ℕ → List ℕ → List ℕ → List ℕ → ℕ → ℕ → Move
 jumpAt area firsts starts targets live place =
-    Jump (cellAt area firsts starts live place / 32) (getD targets (cellAt area firsts starts live place) 0)
+    Jump (activationIn (cellAt area firsts starts live place)) (getD targets (cellAt area firsts starts live place) 0)
 
 -- IF, by the variable's value
 unfoldable pub branchMove : ℤ → ℕ → Move → Move
@@ -48,7 +46,7 @@ branchMove z next jump = elim (eqZ z (pos 0)) [ true ↦ On next | false ↦ jum
 -- CL: what the argument at the place hands on, and so many from there on
 abbrev pub handedWord : List ℕ → List ℕ → List ℕ → List ℕ → ℕ → ℕ → ℤ
 handedWord area firsts starts targets live place =
-    pos (cellAt area firsts starts live place + 8192 * getD targets (cellAt area firsts starts live place) 0)
+    pos (heldFrom (cellAt area firsts starts live place) (getD targets (cellAt area firsts starts live place) 0))
 
 unfoldable pub handedFrom : List ℕ → List ℕ → List ℕ → List ℕ → ℕ → ℕ → ℕ → List ℤ
 handedFrom area firsts starts targets live place zero = []
@@ -63,12 +61,12 @@ pub record ArgumentsAt (area firsts starts : List ℕ) (live place count : ℕ) 
 
 -- where the called name is a formal as written, its body stands after its formals
 abbrev pub Callable : List ℕ → ℕ → ℕ → Type 0
-Callable code at body = eqb (getD code at 0 % 16) 15 ≡ true → FormalsBefore code body
+Callable code at body = eqb (operationIn (getD code at 0)) 15 ≡ true → FormalsBefore code body
 
 -- cause 26: so it is, and the arguments are not as the formals
 unfoldable pub refusedBy : List ℕ → ℕ → ℕ → ℕ → Bool
 refusedBy code at body count =
-    eqb (getD code at 0 % 16) 15 && not (eqb (getD code body 0 / 65536 % 256) count && sameKinds code (at + 3) (body - 3 * count) count)
+    eqb (operationIn (getD code at 0)) 15 && not (eqb (formalsIn (getD code body 0)) count && sameKinds code (at + 3) (body - 3 * count) count)
 
 abbrev pub refusedAt : List ℕ → List ℕ → List ℕ → List ℕ → List ℕ → ℕ → ℕ → ℕ → Bool
 refusedAt code area firsts starts targets live at place =
@@ -76,11 +74,11 @@ refusedAt code area firsts starts targets live at place =
 
 abbrev pub enterAt : List ℕ → List ℕ → List ℕ → List ℕ → ℕ → ℕ → ℕ → Move
 enterAt area firsts starts targets live at place =
-    Enter (getD targets (cellAt area firsts starts live (place + 1)) 0) (cellAt area firsts starts live (place + 1) / 32) (at + 3 + getD area (place + 2) 0)
+    Enter (getD targets (cellAt area firsts starts live (place + 1)) 0) (activationIn (cellAt area firsts starts live (place + 1))) (at + 3 + getD area (place + 2) 0)
 
 abbrev pub handedAt : List ℤ → List ℕ → List ℕ → List ℕ → List ℕ → ℕ → ℕ → List ℤ
 handedAt words area firsts starts targets live place =
-    setAll words (32 * live + 32) (handedFrom area firsts starts targets live (place + 3) (getD area (place + 2) 0))
+    setAll words (cellFrom live 32) (handedFrom area firsts starts targets live (place + 3) (getD area (place + 2) 0))
 
 -- what a call comes to, by whether there is cause 26 and whether there is cause 22
 unfoldable pub callMove : Bool → Bool → Move → Move

@@ -5,6 +5,7 @@ use super::fields::named_by;
 use super::fields::target;
 use copy_names::first_of;
 use copy_names::start_of;
+use layout::activation_of;
 use run_moves::Move;
 use run_statements::computed;
 ghost use mathlib.Core.Path.{_≡_};
@@ -85,7 +86,7 @@ pub fn do_goto(
     ensures { λ r. ⌜ r ≡ jumpAt (now (area .entry)) (now (firsts .entry)) (now (starts .entry)) (now (targets .entry)) live place ⌝ }
 {
     let label = named(area, firsts, starts, live, place);
-    Move::Jump(label / 32, target(targets, label))
+    Move::Jump(activation_of(label), target(targets, label))
 }
 
 // IF

@@ -6,13 +6,21 @@ use super::fields::target;
 use copy_names::first_of;
 use copy_names::start_of;
 use language::Stop;
+use layout::CALL_FORMAL;
+use layout::SHARE;
+use layout::activation_of;
+use layout::cell_at;
+use layout::formals_of;
+use layout::held_word;
+use layout::operation_of;
 use run_moves::Move;
 use run_words::code_at;
 ghost use mathlib.Core.Path.{_≡_};
-ghost use Prim.Native.Nat.{_+_, _*_, _≤_};
+ghost use Prim.Native.Nat.{_+_, _≤_};
 ghost use lib.Dec.{leb};
 ghost use Rattle.run_moves.specs.Acting.{setAll};
-ghost use lib.ListN.{getD};
+ghost use Rattle.layout.specs.Layout.{cellFrom};
+ghost use Rattle.copy_names.specs.Owner.{Innermost};
 ghost use Rattle.copy_arms.specs.Parts.{NameAt, ArgumentsAt, handedWord, handedFrom, Callable, refusedBy, refusedAt, enterAt, handedAt, callMove, callWords, CallAt};
 
 // Whether there is cause 26: the called name is a formal as written, which the operation says, and so many arguments are not as the formals
@@ -22,10 +30,10 @@ fn refused(code: &[u32; 4096], at: usize, body: usize, count: usize) -> bool
     requires { ⌜ Callable (now code) at body ⌝ }
     ensures { λ r. ⌜ r ≡ refusedBy (now (code .entry)) at body count ⌝ }
 {
-    if code_at(code, at) % 16 != 15 {
+    if operation_of(code_at(code, at)) != CALL_FORMAL {
         return false;
     }
-    if code_at(code, body) / 65536 % 256 != count {
+    if formals_of(code_at(code, body)) != count {
         return true;
     }
     !run_words::kinds_agree(code, at + 3, body - 3 * count, count)
@@ -42,12 +50,12 @@ fn handed(
     start: usize,
     place: usize,
 ) -> i32
-    requires { ⌜ (first ≡ getD (now firsts) live 0) × (start ≡ getD (now starts) live 0) ⌝ }
+    requires { ⌜ Innermost (now firsts) (now starts) live first start ⌝ }
     requires { ⌜ NameAt (now area) (now firsts) (now starts) live place ⌝ }
     ensures { λ r. ⌜ r ≡ handedWord (now (area .entry)) (now (firsts .entry)) (now (starts .entry)) (now (targets .entry)) live place ⌝ }
 {
     let cell = named_by(area, firsts, starts, live, first, start, place);
-    run_words::word_of(cell + 8192 * target(targets, cell))
+    run_words::word_of(held_word(cell, target(targets, cell)))
 }
 
 // What the arguments from `place` on hand on goes to the first cells of the next activation.
@@ -62,11 +70,11 @@ fn arguments(
     count: usize,
 )
     requires { ⌜ (live ≤ 254) × ArgumentsAt (now area) (now firsts) (now starts) live place count ⌝ }
-    ensures { λ _. ⌜ now (words .exit) ≡ setAll (now (words .entry)) (32 * live + 32) (handedFrom (now (area .entry)) (now (firsts .entry)) (now (starts .entry)) (now (targets .entry)) live place count) ⌝ }
+    ensures { λ _. ⌜ now (words .exit) ≡ setAll (now (words .entry)) (cellFrom live 32) (handedFrom (now (area .entry)) (now (firsts .entry)) (now (starts .entry)) (now (targets .entry)) live place count) ⌝ }
 {
     let first = first_of(firsts, live);
     let start = start_of(starts, live);
-    let to = 32 * live + 32;
+    let to = cell_at(live, SHARE);
     let mut i = 0;
     while i < count {
         words[to + i] = handed(area, firsts, starts, targets, live, first, start, place + i);
@@ -101,5 +109,5 @@ pub fn do_call(
         return Move::Stop(Stop::NoActivationLeft);
     }
     arguments(words, area, firsts, starts, targets, live, place + 3, count);
-    Move::Enter(body, procedure / 32, at + 3 + count)
+    Move::Enter(body, activation_of(procedure), at + 3 + count)
 }

@@ -1,29 +1,20 @@
 // The fields of a copied text, and the cells of the names in them.
 use copy_names::cell_by;
 use copy_names::cell_of;
+use numbers::from_u16;
+use numbers::from_u32;
 ghost use mathlib.Core.Path.{_≡_};
 ghost use Prim.Native.Nat.{_<_, _^_};
 ghost use lib.ListN.{length, getD};
+ghost use Rattle.copy_names.specs.Owner.{Innermost};
 ghost use Rattle.copy_arms.specs.Parts.{cellAt, NameAt};
-
-fn wide(x: u32) -> usize
-    ensures { λ r. ⌜ (r ≡ x) × (r < 2 ^ 32) ⌝ }
-{
-    x as usize
-}
-
-fn wider(x: u16) -> usize
-    ensures { λ r. ⌜ (r ≡ x) × (r < 65536) ⌝ }
-{
-    x as usize
-}
 
 // The word at a place of the area.
 pub fn field(area: &[u32], place: usize) -> usize
     requires { ⌜ place < length (now area) ⌝ }
     ensures { λ r. ⌜ (r ≡ getD (now (area .entry)) place 0) × (r < 2 ^ 32) ⌝ }
 {
-    wide(area[place])
+    from_u32(area[place])
 }
 
 // The cell of the name there, with the innermost activation's first new name and that name's cell.
@@ -36,7 +27,7 @@ pub fn named_by(
     start: usize,
     place: usize,
 ) -> usize
-    requires { ⌜ (first ≡ getD (now firsts) live 0) × (start ≡ getD (now starts) live 0) ⌝ }
+    requires { ⌜ Innermost (now firsts) (now starts) live first start ⌝ }
     requires { ⌜ NameAt (now area) (now firsts) (now starts) live place ⌝ }
     ensures { λ r. ⌜ r ≡ cellAt (now (area .entry)) (now (firsts .entry)) (now (starts .entry)) live place ⌝ }
 {
@@ -61,5 +52,5 @@ pub fn target(targets: &[u16; 8224], cell: usize) -> usize
     requires { ⌜ cell < 8192 ⌝ }
     ensures { λ r. ⌜ (r ≡ getD (now (targets .entry)) cell 0) × (r < 65536) ⌝ }
 {
-    wider(targets[cell])
+    from_u16(targets[cell])
 }

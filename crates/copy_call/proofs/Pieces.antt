@@ -23,8 +23,8 @@ use Rattle.copy_run.specs.Beginning.{Beginning}
 use Rattle.copy_run.specs.Turning.{Ended}
 use Rattle.run_state.specs.declared.Halt.{Halt}
 
-module _ (area : List ℕ) (f : Fed) (bytes : Bytes (f .script)) (small : f .name < 65536) (t : Block) (h : Admitted (copying (length area)) f t) (code names : List ℕ)
-    (resolved : Resolved (f .script) (f .name) code) (governs : Governs (f .script) code names) where
+module _ (area : List ℕ) {f : Fed} (bytes : Bytes (f .script)) (small : f .name < 65536) {t : Block} (h : Admitted (copying (length area)) f t) {code : List ℕ}
+    (resolved : Resolved (f .script) (f .name) code) (names : List ℕ) (governs : Governs (f .script) code names) where
   covers : Covers code 0 (resolvedOf (f .name) t)
   covers = resolved-covers (f .script) (f .name) code resolved t (h .script)
 
@@ -60,7 +60,7 @@ module _ (area : List ℕ) (f : Fed) (bytes : Bytes (f .script)) (small : f .nam
         no-block = refl;
       }
 
-  module _ (r : Halt) {words : List ℤ} {blocks nexts : List ℕ} {table : List ℤ}
+  module _ {r : Halt} {words : List ℤ} {blocks nexts : List ℕ} {table : List ℤ}
       (run : (b : Begins) → Ended (b .program) (b .name) (f .activations) (f .group)
       (frameRun (limitsBy (f .activations) (f .group)) (f .allowance) (frameStart (b .program) (f .lent .table))) r words blocks nexts table) where
     pub ended : Ended t (f .name) (f .activations) (f .group) (frameRunOf f t) r words blocks nexts table

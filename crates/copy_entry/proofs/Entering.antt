@@ -1,6 +1,5 @@
--- Entering a block, in numbers: what its functions ask holds, and what they make is what `AnewIn` says. `head`, `bounds` and `word` are the words
--- of the block as they were read.
-use Prim.Native.Nat.{ℕ, _+_, _*_, _-_, _/_, _%_, _≤_, _<_}
+-- Entering a block, in numbers: what its functions ask holds, and what they make is what `AnewIn` says. `Head` is what was read of the block.
+use Prim.Native.Nat.{ℕ, _+_, _*_, _-_, _≤_, _<_}
 use native.Mathlib.Nat.{add-mul, mul-le-mul-right}
 use native.Mathlib.Omega.{arith}
 use mathlib.Core.List.{List}
@@ -10,10 +9,11 @@ use lib.IntN.{ℤ}
 use lib.ListN.{getD, set}
 use Rattle.resolved.specs.Resolved.{levelIn, direct}
 use Rattle.run_moves.specs.Effects.{Cleared}
+use Rattle.layout.specs.Layout.{firstIn}
 use Rattle.copy_texts.specs.Texts.{renewed, Copied, notedFrom}
 use Rattle.copy_texts.specs.Copying.{Renewable, Copyable}
 use Rattle.run_state.specs.declared.Registers.{Registers}
-use Rattle.copy_entry.specs.Anew.{formalsAt, levelAt, givenAt, Enterable, Noted, AnewIn}
+use Rattle.copy_entry.specs.Anew.{formalsAt, namesAt, levelAt, endAt, givenAt, Enterable, Noted, AnewIn}
 
 -- Rooms of the area, one after the other
 
@@ -31,15 +31,17 @@ pub room-small : {code names area : List ℕ} {width : ℕ} {here : Registers} {
     → (n : ℕ) → n ≤ here .live + 1 → n * width < 1048576
 room-small {width} w n h = omega (arith, lower n 255 width (omega (arith, w .room)), w .small)
 
-module _ {code names area : List ℕ} {width : ℕ} {here : Registers} {body link back : ℕ} (w : Enterable code names area width here body link back) (head : ℕ) (head-is : head ≡ getD code body 0) where
+-- what was read of a block, and the word of the looked-up name there
+pub record Head (code : List ℕ) (body level formals count word : ℕ) : Type 0 where
+  pub level-is : level ≡ levelAt code body
+  pub formals-is : formals ≡ formalsAt code body
+  pub count-is : count ≡ namesAt code body
+  pub word-is : word ≡ getD code (body + 2) 0
+
+module _ {code names area : List ℕ} {width : ℕ} {here : Registers} {body link back : ℕ} (w : Enterable code names area width here body link back)
+    {level formals count word : ℕ} (h : Head code body level formals count word) where
   abbrev given : ℕ
   given = givenAt width here
-
-  abbrev level : ℕ
-  level = head / 256 % 256
-
-  abbrev formals : ℕ
-  formals = head / 65536 % 256
 
   abbrev first : ℕ
   first = here .fresh - formals
@@ -50,67 +52,67 @@ module _ {code names area : List ℕ} {width : ℕ} {here : Registers} {body lin
   abbrev cells : ℕ
   cells = 32 * (here .live + 1)
 
-  pub few-names : (formals ≤ 32) × (head / 16777216 ≤ 32)
-  few-names = (omega (arith, w .formals-few, w .names-few), omega (arith, w .names-few))
+  -- few names, in an activation with room for its cells
+  pub few-names : (formals ≤ 32) × (count ≤ 32) × (here .live + 1 < 256)
+  few-names = (omega (arith, h .formals-is, w .formals-few, w .names-few), omega (arith, h .count-is, w .names-few), w .room)
 
-  pub renewable : (word : ℕ) → word ≡ getD code (body + 2) 0 → Renewable area given level first word
-  renewable word word-is =
+  pub renewable : Renewable area given level first word
+  renewable =
       record {
         fits = omega (arith, w .few-names);
         argument = λ l d. omega (
           arith,
-          w .given-looked (ap levelIn (sym word-is) ∙ l ∙ ap levelIn head-is) (ap direct (sym word-is) ∙ d),
+          w .given-looked (ap levelIn (sym (h .word-is)) ∙ l ∙ h .level-is) (ap direct (sym (h .word-is)) ∙ d),
+          h .word-is,
           two-more (here .live) width,
           w .area-long,
         );
       }
 
-  pub copyable : (bounds : ℕ) → bounds ≡ getD code (body + 1) 0
-      → Copyable area names (link * width) to given level first cells body (bounds % 65536)
-  copyable bounds bounds-is =
-      record {
-        ordered = omega (arith, w .text);
-        script = omega (arith, w .text-within);
-        old-room = omega (arith, behind, w .area-long, two-more (here .live) width);
-        new-room = omega (arith, one-more (here .live) width, two-more (here .live) width, w .fits, w .area-long);
-        apart = inr (omega (arith, behind));
-        fits = omega (arith, w .few-names);
-        noting = omega (arith, w .room);
-        arguments = λ q l h e d. omega (arith, w .given q l (omega arith) (e ∙ ap levelIn head-is) d, one-more (here .live) width);
-      }
-    where
-      -- the text that is copied ends before the new room
-      behind : link * width + bounds % 65536 ≤ to
-      behind = omega (arith, lower link (here .live) width (w .link-high), one-more (here .live) width, w .fits)
+  module _ {end : ℕ} (end-is : end ≡ endAt code body) where
+    pub copyable : Copyable area names (link * width) to given level first cells body end
+    copyable =
+        record {
+          ordered = omega (arith, end-is, w .text);
+          script = omega (arith, end-is, w .text-within);
+          old-room = omega (arith, behind, w .area-long, two-more (here .live) width);
+          new-room = omega (arith, end-is, one-more (here .live) width, two-more (here .live) width, w .fits, w .area-long);
+          apart = inr (omega (arith, behind));
+          fits = omega (arith, w .few-names);
+          noting = omega (arith, w .room);
+          arguments = λ q l m e d. omega (arith, w .given q l (omega (arith, end-is)) (e ∙ h .level-is) d, one-more (here .live) width);
+        }
+      where
+        -- the text that is copied ends before the new room
+        behind : link * width + end ≤ to
+        behind = omega (arith, end-is, lower link (here .live) width (w .link-high), one-more (here .live) width, w .fits)
 
-  -- what the functions have made
-  pub entered : (bounds word new : ℕ) → bounds ≡ getD code (body + 1) 0 → word ≡ getD code (body + 2) 0
-      → (words : List ℤ) (blocks nexts firsts starts targets looked : List ℕ) (words′ : List ℤ) (area′ blocks′ nexts′ firsts′ starts′ targets′ : List ℕ)
-      → Noted blocks nexts firsts starts here body formals back blocks′ nexts′ firsts′ starts′
-      → new ≡ renewed area given level first word (getD looked link 0)
-      → Copied area area′ names (link * width) to given level first body (bounds % 65536)
-      → targets′ ≡ notedFrom targets names cells level body (bounds % 65536 - body)
-      → Cleared words (cells + formals) (cells + head / 16777216) words′
-      → AnewIn code names width here body link back words area blocks nexts firsts starts targets looked words′ area′ blocks′ nexts′ firsts′ starts′
-      targets′ (set looked (here .live + 1) new)
-      (record { live = here .live + 1; at = bounds / 65536; end = bounds % 65536; pairs = here .pairs; level = here .level; fresh = first + head / 16777216 })
-  entered bounds word new bounds-is word-is words blocks nexts firsts starts targets looked words′ area′ blocks′ nexts′ firsts′ starts′ targets′ n r k t z =
-      record {
-        noted = subst (λ (h : ℕ). Noted blocks nexts firsts starts here body (h / 65536 % 256) back blocks′ nexts′ firsts′ starts′) head-is n;
-        copied = subst (λ (b : ℕ). Copied area area′ names (link * width) to given (levelAt code body) (here .fresh - formalsAt code body) body (b % 65536)) bounds-is
-            (subst (λ (h : ℕ). Copied area area′ names (link * width) to given (h / 256 % 256) (here .fresh - h / 65536 % 256) body (bounds % 65536)) head-is k);
-        targets-are = t ∙ ap (λ (h : ℕ). notedFrom targets names cells (h / 256 % 256) body (bounds % 65536 - body)) head-is
-            ∙ ap (λ (b : ℕ). notedFrom targets names cells (levelAt code body) body (b % 65536 - body)) bounds-is;
-        looked-is = ap (set looked (here .live + 1)) (r
-            ∙ ap (λ (h : ℕ). renewed area given (h / 256 % 256) (here .fresh - h / 65536 % 256) word (getD looked link 0)) head-is
-            ∙ ap (λ (x : ℕ). renewed area given (levelAt code body) (here .fresh - formalsAt code body) x (getD looked link 0)) word-is);
-        cleared = subst (λ (h : ℕ). Cleared words (cells + h / 65536 % 256) (cells + h / 16777216) words′) head-is z;
-        now-is = λ i. record {
-          live = here .live + 1;
-          at = bounds-is i / 65536;
-          end = bounds-is i % 65536;
-          pairs = here .pairs;
-          level = here .level;
-          fresh = here .fresh - head-is i / 65536 % 256 + head-is i / 16777216;
-        };
-      }
+    -- what the functions have made
+    pub entered : {at new : ℕ} → at ≡ firstIn (getD code (body + 1) 0)
+        → {words : List ℤ} {blocks nexts firsts starts targets looked : List ℕ} {words′ : List ℤ} {area′ blocks′ nexts′ firsts′ starts′ targets′ : List ℕ}
+        → Noted blocks nexts firsts starts here body formals back blocks′ nexts′ firsts′ starts′
+        → new ≡ renewed area given level first word (getD looked link 0)
+        → Copied area area′ names (link * width) to given level first body end
+        → targets′ ≡ notedFrom targets names cells level body (end - body)
+        → Cleared words (cells + formals) (cells + count) words′
+        → AnewIn code names width here body link back words area blocks nexts firsts starts targets looked words′ area′ blocks′ nexts′ firsts′ starts′
+        targets′ (set looked (here .live + 1) new)
+        (record { live = here .live + 1; at = at; end = end; pairs = here .pairs; level = here .level; fresh = first + count })
+    entered at-is {words} {blocks} {nexts} {firsts} {starts} {targets} {looked} {words′} {area′} {blocks′} {nexts′} {firsts′} {starts′} n r k t z =
+        record {
+          noted = subst (λ (f : ℕ). Noted blocks nexts firsts starts here body f back blocks′ nexts′ firsts′ starts′) (h .formals-is) n;
+          copied = subst (λ (T : Type 0). T)
+              (λ i. Copied area area′ names (link * width) to given (h .level-is i) (here .fresh - h .formals-is i) body (end-is i)) k;
+          targets-are = t ∙ (λ i. notedFrom targets names cells (h .level-is i) body (end-is i - body));
+          looked-is = ap (set looked (here .live + 1)) (r
+              ∙ (λ i. renewed area given (h .level-is i) (here .fresh - h .formals-is i) (h .word-is i) (getD looked link 0)));
+          cleared = subst (λ (T : Type 0). T) (λ i. Cleared words (cells + h .formals-is i) (cells + h .count-is i) words′) z;
+          now-is = λ i. record {
+            live = here .live + 1;
+            at = at-is i;
+            end = end-is i;
+            pairs = here .pairs;
+            level = here .level;
+            fresh = here .fresh - h .formals-is i + h .count-is i;
+          };
+        }

@@ -1,5 +1,5 @@
 -- What entering a block asks, in numbers (`Enterable`), and what it makes of the arrays (`AnewIn`).
-use Prim.Native.Nat.{ℕ, _+_, _*_, _-_, _/_, _%_, _≤_, _<_}
+use Prim.Native.Nat.{ℕ, _+_, _*_, _-_, _≤_, _<_}
 use mathlib.Core.Bool.{false}
 use mathlib.Core.List.{List}
 use mathlib.Core.Path.{_≡_}
@@ -7,21 +7,22 @@ use lib.IntN.{ℤ}
 use lib.ListN.{length, getD, set}
 use Rattle.resolved.specs.Resolved.{levelIn, positionIn, direct}
 use Rattle.run_moves.specs.Effects.{Cleared}
+use Rattle.layout.specs.Layout.{formalsIn, namesIn, endIn, firstIn, cellFrom}
 use Rattle.copy_texts.specs.Texts.{renewed, Copied, notedFrom}
 use Rattle.run_state.specs.declared.Registers.{Registers}
 
 -- what the head of a block at a place says
 abbrev pub formalsAt : List ℕ → ℕ → ℕ
-formalsAt code body = getD code body 0 / 65536 % 256
+formalsAt code body = formalsIn (getD code body 0)
 
 abbrev pub namesAt : List ℕ → ℕ → ℕ
-namesAt code body = getD code body 0 / 16777216
+namesAt code body = namesIn (getD code body 0)
 
 abbrev pub levelAt : List ℕ → ℕ → ℕ
-levelAt code body = getD code body 0 / 256 % 256
+levelAt code body = levelIn (getD code body 0)
 
 abbrev pub endAt : List ℕ → ℕ → ℕ
-endAt code body = getD code (body + 1) 0 % 65536
+endAt code body = endIn (getD code (body + 1) 0)
 
 -- where the arguments' names stand in the area
 abbrev pub givenAt : ℕ → Registers → ℕ
@@ -52,7 +53,7 @@ pub record Noted (blocks nexts firsts starts : List ℕ) (here : Registers) (bod
   pub nexts-are : nexts′ ≡ set nexts (here .live) back
   pub blocks-are : blocks′ ≡ set blocks (here .live + 1) body
   pub firsts-are : firsts′ ≡ set firsts (here .live + 1) (here .fresh)
-  pub starts-are : starts′ ≡ set starts (here .live + 1) (32 * (here .live + 1) + formals)
+  pub starts-are : starts′ ≡ set starts (here .live + 1) (cellFrom (here .live + 1) formals)
 
 pub record AnewIn (code names : List ℕ) (width : ℕ) (here : Registers) (body link back : ℕ)
     (words : List ℤ) (area blocks nexts firsts starts targets looked : List ℕ)
@@ -61,5 +62,5 @@ pub record AnewIn (code names : List ℕ) (width : ℕ) (here : Registers) (body
   pub copied : Copied area area′ names (link * width) ((here .live + 1) * width) (givenAt width here) (levelAt code body) (here .fresh - formalsAt code body) body (endAt code body)
   pub targets-are : targets′ ≡ notedFrom targets names (32 * (here .live + 1)) (levelAt code body) body (endAt code body - body)
   pub looked-is : looked′ ≡ set looked (here .live + 1) (renewed area (givenAt width here) (levelAt code body) (here .fresh - formalsAt code body) (getD code (body + 2) 0) (getD looked link 0))
-  pub cleared : Cleared words (32 * (here .live + 1) + formalsAt code body) (32 * (here .live + 1) + namesAt code body) words′
-  pub now-is : r ≡ record { live = here .live + 1; at = getD code (body + 1) 0 / 65536; end = endAt code body; pairs = here .pairs; level = here .level; fresh = here .fresh - formalsAt code body + namesAt code body }
+  pub cleared : Cleared words (cellFrom (here .live + 1) (formalsAt code body)) (cellFrom (here .live + 1) (namesAt code body)) words′
+  pub now-is : r ≡ record { live = here .live + 1; at = firstIn (getD code (body + 1) 0); end = endAt code body; pairs = here .pairs; level = here .level; fresh = here .fresh - formalsAt code body + namesAt code body }

@@ -1,6 +1,13 @@
 // Entering a block, of the copying engine: its text is copied anew into the area, and no copy is used twice.
 use copy_texts::copy_text;
 use copy_texts::renew;
+use layout::SHARE;
+use layout::cell_at;
+use layout::end_of;
+use layout::first_of;
+use layout::formals_of;
+use layout::level_of;
+use layout::names_of;
 use run_state::Registers;
 use run_state::narrow;
 use run_state::narrow_u32;
@@ -29,7 +36,7 @@ fn note(
     nexts[below] = narrow(back);
     blocks[live] = narrow(body);
     firsts[live] = narrow_u32(here.fresh);
-    starts[live] = narrow(32 * live + formals);
+    starts[live] = narrow(cell_at(live, formals));
 }
 
 // A new activation of the block at a place, whose text is copied from the activation `link`. The arguments' words stand in its first cells, and
@@ -60,9 +67,9 @@ pub fn enter(
     let head = code_at(code, body);
     let bounds = code_at(code, body + 1);
     let word = code_at(code, body + 2);
-    let count = head / 16777216;
-    let formals = head / 65536 % 256;
-    let level = head / 256 % 256;
+    let count = names_of(head);
+    let formals = formals_of(head);
+    let level = level_of(head);
     let below = here.live;
     let live = below + 1;
     let given = below * width + (here.at + 3);
@@ -70,8 +77,8 @@ pub fn enter(
     let fresh = first + count;
     note(blocks, nexts, firsts, starts, here, body, formals, back);
     looked[live] = renew(area, given, level, first, word, looked[link]);
-    let cells = 32 * live;
-    let end = bounds % 65536;
+    let cells = SHARE * live;
+    let end = end_of(bounds);
     copy_text(
         area,
         names,
@@ -88,7 +95,7 @@ pub fn enter(
     clear(words, cells + formals, cells + count);
     Registers {
         live,
-        at: bounds / 65536,
+        at: first_of(bounds),
         end,
         fresh,
         ..here

@@ -1,6 +1,5 @@
 -- The program's start, in numbers: what its functions ask holds of the area once the script is in it, and what they make is what `BegunIn` says.
--- `head`, `bounds` and `word` are the program's words as they were read.
-use Prim.Native.Nat.{ℕ, _+_, _*_, _-_, _/_, _%_, _<_}
+use Prim.Native.Nat.{ℕ, _+_, _*_, _-_, _/_, _<_}
 use native.Mathlib.Omega.{arith}
 use mathlib.Core.List.{List}
 use mathlib.Core.Logic.{inl}
@@ -9,23 +8,22 @@ use lib.ListN.{length, getD, set}
 use Rattle.laws.specs.Tests.{never}
 use Rattle.laws.specs.Fields.{fieldAt}
 use Rattle.resolved.specs.Resolved.{levelIn, direct}
+use Rattle.layout.specs.Layout.{firstIn}
 use Rattle.copy_texts.specs.Texts.{renewed, Copied, notedFrom}
 use Rattle.copy_texts.specs.Copying.{Renewable, Copyable}
+use Rattle.copy_entry.specs.Anew.{namesAt, endAt}
 use Rattle.copy_moves.specs.Begun.{Beginnable, BegunIn}
 
-module _ {script code names area : List ℕ} (w : Beginnable script code names area) (filled : List ℕ) (as-long : length filled ≡ length area) where
-  pub start-renewable : (word : ℕ) → word ≡ getD code 2 0 → Renewable filled 0 1 65536 word
-  start-renewable word word-is =
+module _ {script code names area : List ℕ} (w : Beginnable script code names area) {filled : List ℕ} (as-long : length filled ≡ length area) where
+  pub start-renewable : {word : ℕ} → word ≡ getD code 2 0 → Renewable filled 0 1 65536 word
+  start-renewable word-is =
       record {
         fits = omega arith;
         argument = λ l d. never (w .no-formal-looked (ap levelIn (sym word-is) ∙ l)) (ap direct (sym word-is) ∙ d);
       }
 
-  module _ (bounds : ℕ) (bounds-is : bounds ≡ getD code 1 0) where
-    end-is : bounds % 65536 ≡ getD code (0 + 1) 0 % 65536
-    end-is = ap (λ (b : ℕ). b % 65536) bounds-is
-
-    pub start-copyable : Copyable filled names 0 0 0 1 65536 0 0 (bounds % 65536)
+  module _ {end : ℕ} (end-is : end ≡ endAt code 0) where
+    pub start-copyable : Copyable filled names 0 0 0 1 65536 0 0 end
     start-copyable =
         record {
           ordered = omega arith;
@@ -38,14 +36,15 @@ module _ {script code names area : List ℕ} (w : Beginnable script code names a
           arguments = λ q l h e d. never (w .no-formals q (omega (arith, end-is)) e) d;
         }
 
-    pub begun : (head word new pairs : ℕ) → head ≡ getD code 0 0 → word ≡ getD code 2 0 → (firsts targets looked area′ targets′ : List ℕ)
+    pub begun : {at count word new pairs : ℕ} → at ≡ firstIn (getD code 1 0) → count ≡ namesAt code 0 → word ≡ getD code 2 0
+        → {firsts targets looked area′ targets′ : List ℕ}
         → ((i : ℕ) → i < length script / 2 → getD filled i 0 ≡ fieldAt script (2 * i))
         → new ≡ renewed filled 0 1 65536 word 0
-        → Copied filled area′ names 0 0 0 1 65536 0 (bounds % 65536)
-        → targets′ ≡ notedFrom targets names 0 1 0 (bounds % 65536 - 0)
+        → Copied filled area′ names 0 0 0 1 65536 0 end
+        → targets′ ≡ notedFrom targets names 0 1 0 (end - 0)
         → BegunIn script code names area firsts targets looked pairs area′ (set firsts 0 65536) targets′ (set looked 0 new)
-        (record { live = 0; at = bounds / 65536; end = bounds % 65536; pairs = pairs; level = 0; fresh = 65536 + head / 16777216 })
-    begun head word new pairs head-is word-is firsts targets looked area′ targets′ f r k t =
+        (record { live = 0; at = at; end = end; pairs = pairs; level = 0; fresh = 65536 + count })
+    begun {pairs} at-is count-is word-is {targets} {looked} {area′} f r k t =
         record {
           filled = filled;
           fields = f;
@@ -54,5 +53,5 @@ module _ {script code names area : List ℕ} (w : Beginnable script code names a
           targets-are = t ∙ ap (notedFrom targets names 0 1 0) (omega (arith, end-is));
           firsts-are = refl;
           looked-is = ap (set looked 0) (r ∙ ap (λ (x : ℕ). renewed filled 0 1 65536 x 0) word-is);
-          now-is = λ i. record { live = 0; at = bounds-is i / 65536; end = end-is i; pairs = pairs; level = 0; fresh = 65536 + head-is i / 16777216 };
+          now-is = λ i. record { live = 0; at = at-is i; end = end-is i; pairs = pairs; level = 0; fresh = 65536 + count-is i };
         }

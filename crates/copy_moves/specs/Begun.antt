@@ -6,6 +6,7 @@ use mathlib.Core.Path.{_≡_}
 use lib.ListN.{length, getD, set}
 use Rattle.laws.specs.Fields.{fieldAt}
 use Rattle.resolved.specs.Resolved.{levelIn, direct}
+use Rattle.layout.specs.Layout.{firstIn}
 use Rattle.copy_texts.specs.Texts.{renewed, Copied, notedFrom}
 use Rattle.run_state.specs.declared.Registers.{Registers}
 use Rattle.copy_entry.specs.Anew.{namesAt, endAt}
@@ -28,4 +29,4 @@ pub record BegunIn (script code names area firsts targets looked : List ℕ) (pa
   pub targets-are : targets′ ≡ notedFrom targets names 0 1 0 (endAt code 0)
   pub firsts-are : firsts′ ≡ set firsts 0 65536
   pub looked-is : looked′ ≡ set looked 0 (renewed filled 0 1 65536 (getD code 2 0) 0)
-  pub now-is : r ≡ record { live = 0; at = getD code 1 0 / 65536; end = endAt code 0; pairs = pairs; level = 0; fresh = 65536 + namesAt code 0 }
+  pub now-is : r ≡ record { live = 0; at = firstIn (getD code 1 0); end = endAt code 0; pairs = pairs; level = 0; fresh = 65536 + namesAt code 0 }

@@ -1,12 +1,12 @@
 -- The looked-up name at a run's end, in numbers.
-use Prim.Native.Nat.{ℕ, _≤_, _<_}
+use Prim.Native.Nat.{ℕ, _≤_}
 use mathlib.Core.Bool.{true, false}
 use mathlib.Core.List.{List}
 use mathlib.Core.Path.{_≡_}
 use lib.Dec.{eqb}
 use lib.ListN.{getD}
 use Rattle.arrays.specs.Holds.{designatorOf}
-use Rattle.copy_names.specs.Owner.{cellIn, Sorted}
+use Rattle.copy_names.specs.Owner.{cellIn, Findable}
 
 unfoldable pub lookedUp : List ℕ → List ℕ → List ℕ → ℕ → ℕ
 lookedUp firsts starts looked live =
@@ -14,6 +14,4 @@ lookedUp firsts starts looked live =
 
 pub record Lookable (firsts starts looked : List ℕ) (live : ℕ) : Type 0 where
   pub few : live ≤ 255
-  pub sorted : Sorted firsts live
-  pub new : (getD looked live 0 ≡ 0 → ⊥) → getD firsts 0 0 ≤ getD looked live 0
-  pub has : (getD looked live 0 ≡ 0 → ⊥) → cellIn firsts starts live (getD looked live 0) < 8192
+  pub found : (getD looked live 0 ≡ 0 → ⊥) → Findable firsts starts live (getD looked live 0)

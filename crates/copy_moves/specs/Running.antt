@@ -1,7 +1,7 @@
 -- The copying engine between two steps: `Running` says that its arrays hold a sound stack of frames and, beside it, the state of the copy-rule
 -- machine that runs with it: the area its texts, `firsts`, `starts` its new names, `targets` what its labels and procedures lead to, `looked` what
 -- the looked-up name reads as. `Succeeds` says that another state of the arrays is the one a step later.
-use Prim.Native.Nat.{ℕ, _+_, _*_, _%_, _≤_, _<_}
+use Prim.Native.Nat.{ℕ, _+_, _*_, _≤_, _<_}
 use mathlib.Core.List.{List}
 use mathlib.Core.Path.{_≡_}
 use lib.IntN.{ℤ}
@@ -13,6 +13,7 @@ use Rattle.frames.specs.Related.{Related}
 use Rattle.resolved.specs.Resolved.{Covers}
 use Rattle.steps.specs.Standing.{Standing}
 use Rattle.steps.specs.Means.{Follows}
+use Rattle.layout.specs.Layout.{endIn}
 use Rattle.copy_fields.specs.Governed.{governedOf}
 use Rattle.copy_names.specs.Owner.{NewNames}
 use Rattle.copy_texts.specs.Texts.{Texts, Aims, Looks}
@@ -43,7 +44,7 @@ pub record Running (code names : List ℕ) (limit group : ℕ) (words : List ℤ
 -- where an activation of the stack goes on as the innermost one
 abbrev pub nowAt : List ℕ → List ℕ → Registers → ℕ → ℕ → Registers
 nowAt code blocks here home at =
-    goesTo here home at (getD code (getD blocks home 0 + 1) 0 % 65536) (here .pairs)
+    goesTo here home at (endIn (getD code (getD blocks home 0 + 1) 0)) (here .pairs)
 
 -- the state of the arrays one step later
 pub record Succeeds {code names : List ℕ} {limit group : ℕ} {words : List ℤ} {area : List ℕ} {width : ℕ} {blocks nexts firsts starts targets looked : List ℕ} {table : List ℤ} {here : Registers}

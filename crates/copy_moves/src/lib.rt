@@ -3,15 +3,19 @@ use copy_names::cell_of;
 use copy_texts::copy_text;
 use copy_texts::fill;
 use copy_texts::renew;
+use layout::end_of;
+use layout::first_of;
+use layout::names_of;
+use numbers::from_u16;
+use numbers::from_u32;
 use run_sheet::designator_of;
 use run_state::Registers;
 use run_state::narrow;
-use run_state::wide;
-use run_state::wide_u32;
 use run_words::code_at;
 ghost use mathlib.Core.Path.{_≡_};
-ghost use Prim.Native.Nat.{_+_, _-_, _%_, _<_, _≤_};
+ghost use Prim.Native.Nat.{_+_, _-_, _<_, _≤_};
 ghost use lib.ListN.{getD, set};
+ghost use Rattle.layout.specs.Layout.{endIn};
 ghost use Rattle.copy_moves.specs.Running.{nowAt};
 ghost use Rattle.copy_moves.specs.Begun.{Beginnable, BegunIn};
 ghost use Rattle.copy_moves.specs.Looked.{Lookable, lookedUp};
@@ -30,7 +34,7 @@ fn resume(
     Registers {
         live: home,
         at,
-        end: code_at(code, wide(blocks[home]) + 1) % 65536,
+        end: end_of(code_at(code, from_u16(blocks[home]) + 1)),
         ..here
     }
 }
@@ -46,7 +50,7 @@ pub fn leave(
     ensures { λ r. ⌜ r ≡ nowAt (now (code .entry)) (now (blocks .entry)) here (here .live - 1) (getD (now (nexts .entry)) (here .live - 1) 0) ⌝ }
 {
     let live = here.live - 1;
-    resume(code, blocks, here, live, wide(nexts[live]))
+    resume(code, blocks, here, live, from_u16(nexts[live]))
 }
 
 // An activation that is live becomes the innermost one.
@@ -57,7 +61,7 @@ pub fn jump(
     home: usize,
     at: usize,
 ) -> Registers
-    requires { ⌜ (home < 256) × (getD (now blocks) home 0 + 1 < 4096) × (home ≡ here .live → here .end ≡ getD (now code) (getD (now blocks) home 0 + 1) 0 % 65536) ⌝ }
+    requires { ⌜ (home < 256) × (getD (now blocks) home 0 + 1 < 4096) × (home ≡ here .live → here .end ≡ endIn (getD (now code) (getD (now blocks) home 0 + 1) 0)) ⌝ }
     ensures { λ r. ⌜ r ≡ nowAt (now (code .entry)) (now (blocks .entry)) here home at ⌝ }
 {
     if home == here.live {
@@ -83,7 +87,7 @@ pub fn looked_up(firsts: &[u32; 256], starts: &[u16; 256], looked: &[u32; 256], 
     requires { ⌜ Lookable (now firsts) (now starts) (now looked) live ⌝ }
     ensures { λ r. ⌜ r ≡ lookedUp (now (firsts .entry)) (now (starts .entry)) (now (looked .entry)) live ⌝ }
 {
-    let name = wide_u32(looked[live]);
+    let name = from_u32(looked[live]);
     if name == 0 {
         return 0;
     }
@@ -107,17 +111,17 @@ pub fn begin(
 {
     let head = code_at(code, 0);
     let bounds = code_at(code, 1);
-    let end = bounds % 65536;
+    let end = end_of(bounds);
     fill(script, area);
     firsts[0] = 65536;
     looked[0] = renew(area, 0, 1, 65536, code_at(code, 2), 0);
     copy_text(area, names, targets, 0, 0, 0, 1, 65536, 0, 0, end);
     Registers {
         live: 0,
-        at: bounds / 65536,
+        at: first_of(bounds),
         end,
         pairs,
         level: 0,
-        fresh: 65536 + head / 16777216,
+        fresh: 65536 + names_of(head),
     }
 }

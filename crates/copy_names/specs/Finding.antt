@@ -25,6 +25,7 @@ use Rattle.frames.specs.Related.{joined, designatorFor, designatorAt, Related, 
 use Rattle.frames.specs.Find.{as-many-decls, designates-name}
 use Rattle.coordinates.specs.Next.{Resolved}
 use Rattle.arrays.specs.Holds.{cellOf}
+use Rattle.layout.specs.Layout.{cellFrom}
 use Rattle.copy_names.specs.Owner.{ownerIn, cellIn, Sorted, NewNames}
 use Rattle.copy_names.specs.Search.{owner-is}
 
@@ -41,7 +42,7 @@ module _ (s : State) (t : Stack) (r : Related s t) where
       let few = block-few (w .fine .level) (f .formals) (w .fine .here) (f .text) (w .fine .formed) in
       omega (arith, w .as-many, as-many-decls (s .live) (s .values) k a f w)
 
-cell-of-place : (number position : ℕ) → position ≤ 32 → cellOf (number * 64 + position) ≡ 32 * pred number + pred position
+cell-of-place : (number position : ℕ) → position ≤ 32 → cellOf (number * 64 + position) ≡ cellFrom (pred number) (pred position)
 unfolding cellOf frameNumber place
 cell-of-place number position h =
     let q : (number * 64 + position) / 64 ≡ number = omega arith in
@@ -84,11 +85,11 @@ module _
         owner-is firsts k (w .depth) (w .depth + 1) x (omega arith)
         (record { within = depth-bound; from = λ q. omega (arith, name-is); below = λ j p low high. later j low high })
 
-    cell-found : cellIn firsts starts k x ≡ 32 * w .depth + (length (i .home .arguments) + w .index)
+    cell-found : cellIn firsts starts k x ≡ cellFrom (w .depth) (length (i .home .arguments) + w .index)
     unfolding cellIn
     cell-found = rw owner-found (omega (arith, name-is, n .starts-are (w .depth) (i .home) (w .home-at)))
 
-    designator-found : cellOf (i .number * 64 + i .position) ≡ 32 * w .depth + (length (i .home .arguments) + w .index)
+    designator-found : cellOf (i .number * 64 + i .position) ≡ cellFrom (w .depth) (length (i .home .arguments) + w .index)
     designator-found =
         let few : i .position ≤ 32 = omega (arith, w .position-is, index-bound, few-names s t r (w .depth) (i .home) (w .home-at)) in
         cell-of-place (i .number) (i .position) few ∙ omega (arith, w .number-is, w .position-is)
@@ -144,7 +145,7 @@ module _ (firsts starts : List ℕ) where
         given-out = λ k c q.
             let b = stays k c q in
             subst (λ (x : Block). getD firsts k 0 + length (blockDecls x) ≤ fresh) (b .2) (n .given-out k (b .0) (b .1));
-        starts-are = λ k c q. let b = stays k c q in n .starts-are k (b .0) (b .1) ∙ ap (λ (xs : List ℕ). 32 * k + length xs) (b .3);
+        starts-are = λ k c q. let b = stays k c q in n .starts-are k (b .0) (b .1) ∙ ap (λ (xs : List ℕ). cellFrom k (length xs)) (b .3);
       }
 
   -- one activation more is entered
@@ -153,7 +154,7 @@ module _ (firsts starts : List ℕ) where
         → getElem? as″ (length as′) ≡ some new → declaredNames (new .text) ≡ upFrom fresh (length (blockDecls (new .text)))
         → length firsts ≡ 256 → length starts ≡ 256 → length as′ < 256 → NewNames as′ fresh firsts starts
         → NewNames as″ (fresh + length (blockDecls (new .text)))
-        (set firsts (length as′) fresh) (set starts (length as′) (32 * length as′ + length (new .arguments)))
+        (set firsts (length as′) fresh) (set starts (length as′) (cellFrom (length as′) (length (new .arguments))))
     new-names-more deep stays newest named long-firsts long-starts room n =
         record { names-are = names; rise = rises; given-out = given; starts-are = begun }
       where
@@ -164,7 +165,7 @@ module _ (firsts starts : List ℕ) where
         firsts′ = set firsts after fresh
 
         starts′ : List ℕ
-        starts′ = set starts after (32 * after + length (new .arguments))
+        starts′ = set starts after (cellFrom after (length (new .arguments)))
 
         first-here : getD firsts′ after 0 ≡ fresh
         first-here = getD-set-same firsts after fresh 0 (omega (arith, long-firsts, room))
@@ -173,7 +174,7 @@ module _ (firsts starts : List ℕ) where
         first-below k h = getD-set-other firsts after k fresh 0 (λ z. let y = z in omega arith)
 
         start-below : (k : ℕ) → k < after → getD starts′ k 0 ≡ getD starts k 0
-        start-below k h = getD-set-other starts after k (32 * after + length (new .arguments)) 0 (λ z. let y = z in omega arith)
+        start-below k h = getD-set-other starts after k (cellFrom after (length (new .arguments))) 0 (λ z. let y = z in omega arith)
 
         -- an activation is the one entered, or one of those before
         which : (X : ℕ → Activation → Type 0) → X after new → ((k : ℕ) (c : Activation) → k < after → Stays as′ k c → X k c)
@@ -203,11 +204,11 @@ module _ (firsts starts : List ℕ) where
             (omega (arith, first-here))
             λ k c h b. omega (arith, first-below k h, n .given-out k (b .0) (b .1), ap (λ (x : Block). length (blockDecls x)) (b .2))
 
-        begun : (k : ℕ) (c : Activation) → getElem? as″ k ≡ some c → getD starts′ k 0 ≡ 32 * k + length (c .arguments)
+        begun : (k : ℕ) (c : Activation) → getElem? as″ k ≡ some c → getD starts′ k 0 ≡ cellFrom k (length (c .arguments))
         begun =
-            which (λ k c. getD starts′ k 0 ≡ 32 * k + length (c .arguments))
-            (getD-set-same starts after (32 * after + length (new .arguments)) 0 (omega (arith, long-starts, room)))
-            λ k c h b. start-below k h ∙ (n .starts-are k (b .0) (b .1) ∙ ap (λ (xs : List ℕ). 32 * k + length xs) (b .3))
+            which (λ k c. getD starts′ k 0 ≡ cellFrom k (length (c .arguments)))
+            (getD-set-same starts after (cellFrom after (length (new .arguments))) 0 (omega (arith, long-starts, room)))
+            λ k c h b. start-below k h ∙ (n .starts-are k (b .0) (b .1) ∙ ap (λ (xs : List ℕ). cellFrom k (length xs)) (b .3))
 
         rises : (j k : ℕ) (c : Activation) → j < k → k < length as″ → getElem? as″ j ≡ some c
             → getD firsts′ j 0 + length (blockDecls (c .text)) ≤ getD firsts′ k 0
@@ -238,7 +239,7 @@ module _ (firsts starts : List ℕ) where
         rise = λ j k c low high q. absurd (omega arith);
         given-out = alone (λ k c. getD (set firsts 0 fresh) k 0 + length (blockDecls (c .text)) ≤ fresh + length (blockDecls (new .text)))
             (omega (arith, first-here));
-        starts-are = alone (λ k c. getD starts k 0 ≡ 32 * k + length (c .arguments)) (omega (arith, begun));
+        starts-are = alone (λ k c. getD starts k 0 ≡ cellFrom k (length (c .arguments))) (omega (arith, begun));
       }
     where
       first-here : getD (set firsts 0 fresh) 0 0 ≡ fresh

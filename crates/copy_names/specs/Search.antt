@@ -9,7 +9,7 @@ use mathlib.Core.Path.{_≡_, refl, ap, _∙_}
 use borrow.Author.Tests.{le-leb, lt-leb, leb-true, leb-false}
 use lib.Dec.{leb}
 use lib.ListN.{getD}
-use Rattle.copy_names.specs.Owner.{ownerIn, cellIn, Sorted}
+use Rattle.copy_names.specs.Owner.{ownerIn, cellIn, Sorted, Findable}
 
 -- the outermost activation is the answer where no other is, whatever its first name
 pub record Narrowed (firsts : List ℕ) (live low high x : ℕ) : Type 0 where
@@ -87,7 +87,7 @@ module _ (firsts starts : List ℕ) (live x home : ℕ) (owns : home ≡ ownerIn
   cell-is r e = e ∙ sum-is
 
   -- what finding the cell there asks
-  pub cell-asks : home ≤ 255 → getD firsts 0 0 ≤ x → cellIn firsts starts live x < 8192
+  pub cell-asks : home ≤ 255 → Findable firsts starts live x
       → (home ≤ 255) × (getD firsts home 0 ≤ x) × (getD starts home 0 + (x - getD firsts home 0) < 8192)
-  cell-asks few new has =
-      (few, omega (arith, ap (λ (o : ℕ). getD firsts o 0) owns, owner-reached firsts live x new), omega (arith, sum-is, has))
+  cell-asks few w =
+      (few, omega (arith, ap (λ (o : ℕ). getD firsts o 0) owns, owner-reached firsts live x (w .new)), omega (arith, sum-is, w .has))

@@ -1,28 +1,18 @@
 // The activation and the cell of a new name, from the name alone: each activation's first new name is noted, and these do not fall. The innermost
 // activation is tried first and the program's next, since a name is most often one of theirs; the others are searched by halves.
+use numbers::from_u16;
+use numbers::from_u32;
 ghost use mathlib.Core.Path.{_≡_};
 ghost use Prim.Native.Nat.{_+_, _-_, _≤_, _<_, _^_};
 ghost use lib.ListN.{getD};
-ghost use Rattle.copy_names.specs.Owner.{ownerIn, cellIn, Sorted};
-
-fn wide(x: u32) -> usize
-    ensures { λ r. ⌜ (r ≡ x) × (r < 2 ^ 32) ⌝ }
-{
-    x as usize
-}
-
-fn widened(x: u16) -> usize
-    ensures { λ r. ⌜ (r ≡ x) × (r < 65536) ⌝ }
-{
-    x as usize
-}
+ghost use Rattle.copy_names.specs.Owner.{ownerIn, cellIn, Sorted, Findable, Innermost};
 
 // The first new name of an activation.
 pub fn first_of(firsts: &[u32; 256], activation: usize) -> usize
     requires { ⌜ activation < 256 ⌝ }
     ensures { λ r. ⌜ (r ≡ getD (now (firsts .entry)) activation 0) × (r < 2 ^ 32) ⌝ }
 {
-    wide(firsts[activation])
+    from_u32(firsts[activation])
 }
 
 // The activation below the innermost one that declares a name.
@@ -48,7 +38,7 @@ fn cell_in(firsts: &[u32; 256], starts: &[u16; 256], home: usize, name: usize) -
     requires { ⌜ (home ≤ 255) × (getD (now firsts) home 0 ≤ name) × (getD (now starts) home 0 + (name - getD (now firsts) home 0) < 8192) ⌝ }
     ensures { λ r. ⌜ r ≡ getD (now (starts .entry)) home 0 + (name - getD (now (firsts .entry)) home 0) ⌝ }
 {
-    widened(starts[home]) + (name - first_of(firsts, home))
+    from_u16(starts[home]) + (name - first_of(firsts, home))
 }
 
 // The cell of an activation's first new name.
@@ -56,7 +46,7 @@ pub fn start_of(starts: &[u16; 256], activation: usize) -> usize
     requires { ⌜ activation < 256 ⌝ }
     ensures { λ r. ⌜ r ≡ getD (now (starts .entry)) activation 0 ⌝ }
 {
-    widened(starts[activation])
+    from_u16(starts[activation])
 }
 
 // The cell of a name. The innermost activation's first new name and that name's cell are read once for all names of a statement.
@@ -68,8 +58,8 @@ pub fn cell_by(
     start: usize,
     name: usize,
 ) -> usize
-    requires { ⌜ (first ≡ getD (now firsts) live 0) × (start ≡ getD (now starts) live 0) ⌝ }
-    requires { ⌜ (live ≤ 255) × Sorted (now firsts) live × (getD (now firsts) 0 0 ≤ name) × (cellIn (now firsts) (now starts) live name < 8192) ⌝ }
+    requires { ⌜ Innermost (now firsts) (now starts) live first start ⌝ }
+    requires { ⌜ Findable (now firsts) (now starts) live name ⌝ }
     ensures { λ r. ⌜ r ≡ cellIn (now (firsts .entry)) (now (starts .entry)) live name ⌝ }
 {
     if first <= name {
@@ -82,7 +72,7 @@ pub fn cell_by(
 }
 
 pub fn cell_of(firsts: &[u32; 256], starts: &[u16; 256], live: usize, name: usize) -> usize
-    requires { ⌜ (live ≤ 255) × Sorted (now firsts) live × (getD (now firsts) 0 0 ≤ name) × (cellIn (now firsts) (now starts) live name < 8192) ⌝ }
+    requires { ⌜ Findable (now firsts) (now starts) live name ⌝ }
     ensures { λ r. ⌜ r ≡ cellIn (now (firsts .entry)) (now (starts .entry)) live name ⌝ }
 {
     cell_by(

@@ -1,7 +1,7 @@
 -- A statement read from a copy does what it does in the resolved script, where the names in its fields lead to what an engine's way of finding
 -- names finds. `Agrees i j`: so does the name in the copy's field i, with its word in field j of the resolved script. For each mark one law, from what
 -- its fields agree in, to each operation that has the mark: `constant-same` to `query-same`.
-use Prim.Native.Nat.{ℕ, zero, suc, _+_, _*_, _-_, _/_, _%_, _<_}
+use Prim.Native.Nat.{ℕ, zero, suc, _+_, _*_, _-_, _<_}
 use native.Mathlib.Omega.{arith}
 use mathlib.Core.Bool.{Bool, true, false, _&&_, not}
 use mathlib.Core.List.{_∷_}
@@ -22,15 +22,16 @@ use Rattle.run_moves.specs.declared.Ask.the-variants.{Query}
 use Rattle.run_moves.specs.declared.Move.the-variants.{On, Table as Asks, Jump, Enter}
 use Rattle.run_moves.specs.Effects.{effectOf, wordsOf, sameKinds}
 use Rattle.run_moves.specs.Acting.{Finding, Scene, field, valueOf, moves, rewrites, operationOf, setAll, arithmeticMove, noRoom, argumentsAgree, doCallFormal, doConstant as actConstant, doArithmetic as actArithmetic, doGoto as actGoto, doBranch as actBranch, doBlock as actBlock, argumentsFrom as argumentsFound, doCall as actCall, doChange as actChange, doQuery as actQuery}
+use Rattle.layout.specs.Layout.{operationIn, formalsIn, cellFrom, activationIn, heldFrom}
 use Rattle.run_statements.specs.Pieces.{moveAfter, blockMove}
 use Rattle.copy_statements.specs.Doing.{Copy, text, cell, target, valueAt, doConstant, doArithmetic, doGoto, doBranch, doBlock, argumentsFrom, differs, doCall, doChange, doQuery}
 
 module _ (c : Copy) (s : Scene) (F : Finding) where
   pub record Agrees (i j : ℕ) : Type 0 where
     pub cell-is : cell c s i ≡ F .cell (field s j)
-    pub home-is : cell c s i / 32 ≡ F .home (field s j)
+    pub home-is : activationIn (cell c s i) ≡ F .home (field s j)
     pub target-is : target c s i ≡ F .target (field s j)
-    pub handed-is : pos (cell c s i + 8192 * target c s i) ≡ F .handed (field s j)
+    pub handed-is : pos (heldFrom (cell c s i) (target c s i)) ≡ F .handed (field s j)
 
   -- Values
 
@@ -94,23 +95,23 @@ module _ (c : Copy) (s : Scene) (F : Finding) where
         split (leb (s .limit) (s .live + 1))
         (λ e. rw (doCall, d, e, actCall))
         (λ e. (rw (doCall, d, e))
-        ∙ (λ i. rewrites s (Enter (procedure .target-is i) (procedure .home-is i) (s .at + 3 + count i)) (setAll (s .words) (32 * s .live + 32) (given-same i)))
+        ∙ (λ i. rewrites s (Enter (procedure .target-is i) (procedure .home-is i) (s .at + 3 + count i)) (setAll (s .words) (cellFrom (s .live) 32) (given-same i)))
         ∙ rw (actCall, e))
 
     -- by a name that is no formal
-    pub call-same : eqb (getD (s .code) (s .at) 0 % 16) 15 ≡ false → doCall c s ≡ actCall F s
+    pub call-same : eqb (operationIn (getD (s .code) (s .at) 0)) 15 ≡ false → doCall c s ≡ actCall F s
     unfolding differs
     call-same e =
-        let agreed = eqb (getD (s .code) (target c s 1) 0 / 65536 % 256) (text c s 2) && sameKinds (s .code) (s .at + 3) (target c s 1 - 3 * text c s 2) (text c s 2) in
+        let agreed = eqb (formalsIn (getD (s .code) (target c s 1) 0)) (text c s 2) && sameKinds (s .code) (s .at + 3) (target c s 1 - 3 * text c s 2) (text c s 2) in
         called-same (ap (λ (t : Bool). t && not agreed) e)
 
     -- by a formal
-    pub call-formal-same : eqb (getD (s .code) (s .at) 0 % 16) 15 ≡ true → doCall c s ≡ doCallFormal F s
+    pub call-formal-same : eqb (operationIn (getD (s .code) (s .at) 0)) 15 ≡ true → doCall c s ≡ doCallFormal F s
     unfolding differs argumentsAgree doCall doCallFormal
     call-formal-same e =
         let agreed = argumentsAgree F s (F .target (field s 1)) in
         let same : differs c s ≡ not agreed
-        = λ i. e i && not (eqb (getD (s .code) (procedure .target-is i) 0 / 65536 % 256) (count i) && sameKinds (s .code) (s .at + 3) (procedure .target-is i - 3 * count i) (count i)) in
+        = λ i. e i && not (eqb (formalsIn (getD (s .code) (procedure .target-is i) 0)) (count i) && sameKinds (s .code) (s .at + 3) (procedure .target-is i - 3 * count i) (count i)) in
         split agreed
         (λ a. called-same (same ∙ ap not a) ∙ sym (rw (doCallFormal, a)))
         (λ a. let d : differs c s ≡ true = same ∙ ap not a in rw (doCall, d, doCallFormal, a))

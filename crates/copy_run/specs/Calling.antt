@@ -1,5 +1,5 @@
 -- CL, read from the innermost activation's copy: `call-comes`, by a name that is a formal as written and by one that is not.
-use Prim.Native.Nat.{ℕ, suc, _+_, _%_, _<_}
+use Prim.Native.Nat.{ℕ, suc, _+_, _<_}
 use native.Mathlib.Omega.{arith}
 use mathlib.Core.Bool.{Bool, true, false}
 use mathlib.Core.List.{List, map}
@@ -23,6 +23,7 @@ use Rattle.resolved.specs.Resolved.{direct, chosen, nameWord, resolvedAction, r
 use Rattle.run_moves.specs.Acting.{Finding, Scene, field, operations, opOf, acting, happens as acts}
 use Rattle.steps.specs.Finding.{finds-by-links}
 use Rattle.steps.specs.Calls.{body-bounds}
+use Rattle.layout.specs.Layout.{operationIn}
 use Rattle.run_statements.specs.Pieces.{FormalsBefore}
 use Rattle.copy_fields.specs.Governed.{governedAction, governedStmt}
 use Rattle.copy_texts.specs.Texts.{reading}
@@ -106,10 +107,10 @@ module _ {code names : List ℕ} {limit group : ℕ} {words : List ℤ} {area : 
       j (read j (omega arith) ∙ (λ k. reading (a .reads) (word k) (own k))) j (resolved j (omega arith) ∙ word))
 
   -- by the operation that stands there
-  operation : (v : ℕ) → field s 0 ≡ v → eqb (getD code (now .at) 0 % 16) 15 ≡ eqb (v % 16) 15
+  operation : (v : ℕ) → field s 0 ≡ v → eqb (operationIn (getD code (now .at) 0)) 15 ≡ eqb (operationIn v) 15
   operation v e =
       let z : now .at ≡ now .at + 0 = omega arith in
-      ap (λ i. eqb (getD code i 0 % 16) 15) z ∙ ap (λ n. eqb (n % 16) 15) e
+      ap (λ i. eqb (operationIn (getD code i 0)) 15) z ∙ ap (λ n. eqb (operationIn n) 15) e
 
   does : (t : Bool) → field s 0 ≡ chosen t 7 15 → doCall c s ≡ acting F s
   unfolding chosen acts opOf operations

@@ -60,21 +60,21 @@ module _ {code names : List ℕ} {limit group : ℕ} {words : List ℤ} {area : 
 
   -- The ends that leave activations live
 
-  module _ (nexts′ : List ℕ) (noted : nexts′ ≡ set (a .nexts) (here .live) (here .at)) (designator : ℕ)
-      (found : designator ≡ lookedUp (a .firsts) (a .starts) (a .looked) (here .live)) (halt r : Halt) (named : r ≡ namedBy halt designator 0) where
-    abbrev Ends : Type 0
-    Ends = RunFrom w allowance r (a .words) (a .blocks) nexts′ (a .table)
+  abbrev Ends : List ℕ → Halt → Type 0
+  Ends nexts′ r = RunFrom w allowance r (a .words) (a .blocks) nexts′ (a .table)
 
-    pub spent : left ≡ 0 → halt ≡ spentAfter here allowance → Ends
+  module _ {nexts′ : List ℕ} (noted : nexts′ ≡ set (a .nexts) (here .live) (here .at)) {designator : ℕ}
+      (found : designator ≡ lookedUp (a .firsts) (a .starts) (a .looked) (here .live)) {halt r : Halt} (named : r ≡ namedBy halt designator 0) where
+    pub spent : left ≡ 0 → halt ≡ spentAfter here allowance → Ends nexts′ r
     spent z is =
         record {
           links = u .running .links;
           ended = spent-end here (u .running .standing) (u .underway) nexts′ noted designator (found ∙ looked-designates (u .running)) 0 halt r named z is;
         }
 
-    pub stopped : (c : Stop) → frameStep (limitsBy limit group) (u .running .standing .stack) ≡ halted c → 1 ≤ left
-        → halt ≡ stoppedAfter here c (allowance - left) → Ends
-    stopped c stop more is =
+    pub stopped : {c : Stop} → frameStep (limitsBy limit group) (u .running .standing .stack) ≡ halted c → 1 ≤ left
+        → halt ≡ stoppedAfter here c (allowance - left) → Ends nexts′ r
+    stopped {c} stop more is =
         record {
           links = u .running .links;
           ended = stopped-end here (u .running .standing) (u .underway) nexts′ noted designator (found ∙ looked-designates (u .running)) 0 halt r named c stop more is;
@@ -82,47 +82,47 @@ module _ {code names : List ℕ} {limit group : ℕ} {words : List ℤ} {area : 
 
   -- By what a step comes to
 
-  module _ (after : Arrays) (t : Turn)
+  -- a statement that stops leaves all as it was
+  abbrev Stays : Stop → Arrays → Type 0
+  Stays c x = (v : Going w allowance x here left) × (frameStep (limitsBy limit group) (v .running .standing .stack) ≡ halted c)
+
+  module _ (after : Arrays) {t : Turn}
       (k : Turned (u .running) t (after .words) (after .area) (after .blocks) (after .nexts) (after .firsts) (after .starts) (after .targets) (after .looked) (after .table)) where
-    turned-as : (m : Turn) → t ≡ m
+    turned-as : {m : Turn} → t ≡ m
         → Turned (u .running) m (after .words) (after .area) (after .blocks) (after .nexts) (after .firsts) (after .starts) (after .targets) (after .looked) (after .table)
-    turned-as m e =
+    turned-as e =
         subst (λ (x : Turn). Turned (u .running) x (after .words) (after .area) (after .blocks) (after .nexts) (after .firsts) (after .starts) (after .targets)
         (after .looked) (after .table)) e k
 
-    pub went-as : (here′ : Registers) → t ≡ Went here′ → 1 ≤ left → Going w allowance after here′ (left - 1)
-    went-as here′ e h =
-        let m = turned-as (Went here′) e in
+    pub went-as : {here′ : Registers} → t ≡ Went here′ → 1 ≤ left → Going w allowance after here′ (left - 1)
+    went-as e h =
+        let m = turned-as e in
         record {
           running = m .running;
           underway = steps.went (u .running .standing) (u .underway) (m .running .standing) (m .follows) h;
           few-names = omega (arith, u .few-names, m .few-more);
         }
 
-    pub finished-as : t ≡ Finished → 1 ≤ left → (r : Halt) → r ≡ finishedAfter here (allowance - left + 1)
+    pub finished-as : t ≡ Finished → 1 ≤ left → {r : Halt} → r ≡ finishedAfter here (allowance - left + 1)
         → RunFrom w allowance r (after .words) (after .blocks) (after .nexts) (after .table)
-    finished-as e h r is =
-        let m = turned-as Finished e in
+    finished-as e h {r} is =
+        let m = turned-as e in
         record {
           links = u .running .links;
           ended = finished-end here (u .running .standing) (u .underway) (m .ended) (m .alone) h (after .words) (after .blocks) (after .nexts)
               (u .running .links) (after .table) (m .same-words) (m .same-table) r is;
         }
 
-    -- a statement that stops leaves all as it was
-    abbrev Stays : Stop → Arrays → Type 0
-    Stays c x = (v : Going w allowance x here left) × (frameStep (limitsBy limit group) (v .running .standing .stack) ≡ halted c)
-
-    pub stays : (c : Stop) → t ≡ Stopped c → Stays c after
-    stays c e =
-        let m = turned-as (Stopped c) e in
+    pub stays : {c : Stop} → t ≡ Stopped c → Stays c after
+    stays {c} e =
+        let m = turned-as e in
         subst (Stays c) (sym (m .same)) (u, m .stops)
 
 -- The start of a program
 
 module _ {script code names : List ℕ} {words : List ℤ} {area blocks nexts : List ℕ} {table : List ℤ} {pairs group limit allowance : ℕ}
-    (b : Beginning script code names words area blocks nexts table pairs group limit allowance) (firsts starts targets looked area′ firsts′ targets′ looked′ : List ℕ)
-    (r : Registers) (k : BegunIn script code names area firsts targets looked pairs area′ firsts′ targets′ looked′ r) (long-firsts : length firsts ≡ 256)
+    (b : Beginning script code names words area blocks nexts table pairs group limit allowance) {firsts starts targets looked area′ firsts′ targets′ looked′ : List ℕ}
+    {r : Registers} (k : BegunIn script code names area firsts targets looked pairs area′ firsts′ targets′ looked′ r) (long-firsts : length firsts ≡ 256)
     (long-starts : length starts ≡ 256) (long-targets : length targets ≡ 8224) (long-looked : length looked ≡ 256) (no-start : getD starts 0 0 ≡ 0) where
   abbrev there : start.Begun b firsts starts targets looked area′ firsts′ targets′ looked′ r k long-firsts long-starts long-targets long-looked no-start r
   there = start.begun b firsts starts targets looked area′ firsts′ targets′ looked′ r k long-firsts long-starts long-targets long-looked no-start
@@ -132,12 +132,12 @@ module _ {script code names : List ℕ} {words : List ℤ} {area blocks nexts : 
       let few = start.begun-few b firsts starts targets looked area′ firsts′ targets′ looked′ r k long-firsts long-starts long-targets long-looked no-start in
       record { running = there .running; names-left = omega (arith, few, b .few-steps) }
 
-  pub program-run : (h : Halt) (words′ : List ℤ) (blocks′ nexts′ : List ℕ) (table′ : List ℤ)
+  pub program-run : {h : Halt} {words′ : List ℤ} {blocks′ nexts′ : List ℕ} {table′ : List ℤ}
       → ((w : Running code names limit group words area′ (length script / 2) blocks nexts firsts′ starts targets′ looked′ table r)
       → RunFrom w allowance h words′ blocks′ nexts′ table′)
       → Ended (b .program) (b .name) limit group
       (frameRun (limitsBy limit group) allowance (frameStart (b .program) (record { words = table; used = pairs }))) h words′ blocks′ nexts′ table′
-  program-run h words′ blocks′ nexts′ table′ f =
+  program-run {h} f =
       let e = f (there .running) in
       record {
         links = e .links;

@@ -31,6 +31,7 @@ use Rattle.steps.specs.Means.{Follows, EntersAt}
 use Rattle.steps.specs.Here.{many, downward, encloses-here}
 use Rattle.steps.specs.Reads.{at-within}
 use Rattle.steps.specs.Entered.{BodyHead, body-head, entered}
+use Rattle.layout.specs.Layout.{cellFrom}
 use Rattle.copy_names.specs.Owner.{NewNames}
 use Rattle.copy_names.specs.Finding.{new-names-more}
 use Rattle.copy_texts.specs.Texts.{renewed, Copied, notedFrom, Texts, Aims, Looks}
@@ -141,8 +142,8 @@ module _ {code names : List ℕ} {limit group : ℕ} {words : List ℤ} {area : 
     abbrev later : State
     later = entry.later w body link back words₁ j
 
-    cleared : Cleared words₁ (32 * (live + 1) + length (j .formals)) (32 * (live + 1) + (length (j .formals) + length (blockDecls (j .text)))) words′
-    cleared = subst (λ (T : Type 0). T) (λ i. Cleared words₁ (32 * (live + 1) + head .formals i) (32 * (live + 1) + head .names i) words′) (n .cleared)
+    cleared : Cleared words₁ (cellFrom (live + 1) (length (j .formals))) (cellFrom (live + 1) (length (j .formals) + length (blockDecls (j .text)))) words′
+    cleared = subst (λ (T : Type 0). T) (λ i. Cleared words₁ (cellFrom (live + 1) (head .formals i)) (cellFrom (live + 1) (head .names i)) words′) (n .cleared)
 
     copied : Copied area area′ names (link * width) ((live + 1) * width) (givenAt width now) (suc (length es)) (now .fresh - length (j .formals)) (placeOf (blockAt (j .text))) (endPlace (j .text))
     copied =
@@ -277,18 +278,18 @@ module _ {code names : List ℕ} {limit group : ℕ} {words : List ℤ} {area : 
     fresh-after : now .fresh + names-many ≡ later .fresh
     fresh-after = omega (arith, entry.anew w body link back words₁ j .fresh-is, entry.declared-many w body link back words₁ j, w .fresh-is)
 
-    new-names-after : NewNames (later .live) (later .fresh) (set firsts (live + 1) (now .fresh)) (set starts (live + 1) (32 * (live + 1) + formalsAt code body))
+    new-names-after : NewNames (later .live) (later .fresh) (set firsts (live + 1) (now .fresh)) (set starts (live + 1) (cellFrom (live + 1) (formalsAt code body)))
     new-names-after =
         let a = entry.anew w body link back words₁ j in
         subst (λ (T : Type 0). T)
-        (λ i. NewNames (later .live) (sym (a .fresh-is) i) (set firsts (many-before i) (sym (w .fresh-is) i)) (set starts (many-before i) (32 * many-before i + (entry.as-many w body link back words₁ j ∙ sym (head .formals)) i)))
+        (λ i. NewNames (later .live) (sym (a .fresh-is) i) (set firsts (many-before i) (sym (w .fresh-is) i)) (set starts (many-before i) (cellFrom (many-before i) ((entry.as-many w body link back words₁ j ∙ sym (head .formals)) i))))
         (new-names-more firsts starts (w .copies .live) (later .live) (w .copies .fresh) new (a .deep) (λ k c h q. let o = a .kept k c h q in (o .0, o .1, o .2 .0, o .2 .1, o .2 .2)) (a .there) (a .names-are)
         (w .firsts-long) (w .starts-long) (omega (arith, many-before, j .room, w .standing .sound .limit)) (w .new-names))
 
     abbrev behind : Registers
     behind = record { live = live + 1; at = stmtPlace (j .text) 1; end = endPlace (j .text); pairs = now .pairs; level = now .level; fresh = now .fresh + names-many }
 
-    entered-so : Succeeds w words′ area′ (set blocks (live + 1) body) (set nexts live back) (set firsts (live + 1) (now .fresh)) (set starts (live + 1) (32 * (live + 1) + formalsAt code body)) targets′ looked′ table behind
+    entered-so : Succeeds w words′ area′ (set blocks (live + 1) body) (set nexts live back) (set firsts (live + 1) (now .fresh)) (set starts (live + 1) (cellFrom (live + 1) (formalsAt code body))) targets′ looked′ table behind
     entered-so =
         record {
           running = record {
@@ -308,7 +309,7 @@ module _ {code names : List ℕ} {limit group : ℕ} {words : List ℤ} {area : 
             small = w .small;
             room = subst (λ k. limit * width ≤ k) (sym (n .copied .as-long)) (w .room);
             firsts-long = length-set firsts (live + 1) (now .fresh) ∙ w .firsts-long;
-            starts-long = length-set starts (live + 1) (32 * (live + 1) + formalsAt code body) ∙ w .starts-long;
+            starts-long = length-set starts (live + 1) (cellFrom (live + 1) (formalsAt code body)) ∙ w .starts-long;
             targets-long = ap length (n .targets-are) ∙ noted-long names (32 * (live + 1)) (levelAt code body) targets body (endAt code body - body) ∙ w .targets-long;
             looked-long = ap length (n .looked-is) ∙ length-set looked (live + 1) _ ∙ w .looked-long;
           };

@@ -93,9 +93,12 @@ module _ {code names : List ℕ} {limit group : ℕ} {words : List ℤ} {area : 
   lookable =
       record {
         few = omega (arith, live-few (w .standing));
-        sorted = sorted-here w;
-        new = λ d. by-word (λ z. absurd (d (unseen-reads z))) (λ k. found k .1);
-        has = λ d. by-word (λ z. absurd (d (unseen-reads z))) (λ k. omega (arith, found k .0, cell-bound (designates (w .standing .stack .frames) name) (celled k)));
+        found = λ d. by-word (λ z. absurd (d (unseen-reads z))) λ k. record {
+          few = omega (arith, live-few (w .standing));
+          sorted = sorted-here w;
+          new = found k .1;
+          has = omega (arith, found k .0, cell-bound (designates (w .standing .stack .frames) name) (celled k));
+        };
       }
 
   pub looked-designates : lookedUp firsts starts looked (now .live) ≡ designates (w .standing .stack .frames) name

@@ -1,6 +1,6 @@
 -- A name of the next statement: where a field of the innermost activation's copy reads as a visible name does, and a field of the resolved script has the
 -- name's word, the new name there has a cell, and all that it leads to is what the links find: `named`.
-use Prim.Native.Nat.{ℕ, pred, _+_, _*_, _-_, _/_, _≤_, _<_}
+use Prim.Native.Nat.{ℕ, pred, _+_, _-_, _≤_, _<_}
 use native.Mathlib.Omega.{arith}
 use mathlib.Core.List.{List}
 use mathlib.Core.Option.{some}
@@ -24,6 +24,7 @@ use Rattle.arrays.specs.Found.{named-celled}
 use Rattle.run_moves.specs.Acting.{Finding, field}
 use Rattle.steps.specs.Here.{many, numbered-here, downward}
 use Rattle.steps.specs.Finding.{byFirst, firstByLinks, finds-by-links}
+use Rattle.layout.specs.Layout.{cellFrom, activationIn, heldFrom}
 use Rattle.copy_names.specs.Owner.{cellIn}
 use Rattle.copy_texts.specs.Texts.{reading}
 use Rattle.copy_statements.specs.Doing.{text, cell, target}
@@ -71,7 +72,7 @@ module _ {code names : List ℕ} {limit group : ℕ} {words : List ℤ} {area : 
         let d = r .instance in
         let f = d .home in
         let j = place x - length (f .formals) in
-        let cell-is : 32 * pred (frameNumber x) + place x ≡ 32 * pred (frameNumber x) + (length (f .formals) + j) = omega (arith, d .past) in
+        let cell-is : cellFrom (pred (frameNumber x)) (place x) ≡ cellFrom (pred (frameNumber x)) (length (f .formals) + j) = omega (arith, d .past) in
         ap (λ i. getD targets i 0) cell-is
         ∙ w .aims .each (pred (frameNumber x)) j f (d .decl) (numbered-index fs (frameNumber x) f (d .stands)) (sym (declOf-found fs x f (d .stands)) ∙ d .declared)
         ∙ sym (target-found fs x f (d .decl) (d .stands) (d .declared))
@@ -95,9 +96,9 @@ module _ {code names : List ℕ} {limit group : ℕ} {words : List ℤ} {area : 
           let found = finds-by-links (w .standing) n r in
           record {
             cell-is = cell-is ∙ sym (ap (byLinks .cell) word ∙ found .cell-is);
-            home-is = ap (λ k. k / 32) cell-is ∙ cell-activation (designates fs n) celled ∙ sym (ap (byLinks .home) word ∙ found .home-is);
+            home-is = ap (λ k. activationIn k) cell-is ∙ cell-activation (designates fs n) celled ∙ sym (ap (byLinks .home) word ∙ found .home-is);
             target-is = target-is ∙ sym (ap (byLinks .target) word ∙ found .target-is);
-            handed-is = (λ k. pos (cell-is k + 8192 * target-is k)) ∙ sym (ap (byLinks .handed) word ∙ found .handed-is);
+            handed-is = (λ k. pos (heldFrom (cell-is k) (target-is k))) ∙ sym (ap (byLinks .handed) word ∙ found .handed-is);
           }
 
       pub named : (j : ℕ) → field (sceneIn w) j ≡ nameWord (around w) n → Agrees (copyOf w) (sceneIn w) byLinks i j × Named (copyOf w) (sceneIn w) i

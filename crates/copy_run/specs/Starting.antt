@@ -1,6 +1,6 @@
 -- The program's start. `beginnable`: what the code asks holds; `begun`: what it makes of the arrays is an engine that runs, at the program's first
 -- statement.
-use Prim.Native.Nat.{ℕ, zero, suc, _+_, _*_, _-_, _/_, _%_, _≤_, _<_}
+use Prim.Native.Nat.{ℕ, zero, suc, _+_, _*_, _-_, _/_, _≤_, _<_}
 use native.Mathlib.Omega.{arith}
 use native.Mathlib.Nat.{mul-le-mul-right, zero-add}
 use mathlib.Core.Bool.{Bool, true, false}
@@ -38,6 +38,7 @@ use Rattle.copy_fields.specs.Standing.{declared-governed}
 use Rattle.steps.specs.Standing.{Standing}
 use Rattle.steps.specs.Reads.{begin-reads}
 use Rattle.steps.specs.Loop.{begins}
+use Rattle.layout.specs.Layout.{namesIn, endIn, firstIn}
 use Rattle.copy_machine.specs.Start.{StartsAnew, starts-anew, start-invariant}
 use Rattle.copy_names.specs.Owner.{NewNames}
 use Rattle.copy_names.specs.Finding.{new-names-start}
@@ -97,7 +98,7 @@ module _ {script code names : List ℕ} {limit group : ℕ} {words : List ℤ} {
   end-here : endPlace t ≡ length (blockFields t)
   end-here = omega (arith, end-is t 1 [] 0 (keeps .formed))
 
-  reads : (getD code 1 0 / 65536 ≡ stmtPlace t 1) × (getD code 1 0 % 65536 ≡ endPlace t)
+  reads : (firstIn (getD code 1 0) ≡ stmtPlace t 1) × (endIn (getD code 1 0) ≡ endPlace t)
   reads = begin-reads code t name keeps covers
 
   text-long : endPlace t ≤ 4096
@@ -108,7 +109,7 @@ module _ {script code names : List ℕ} {limit group : ℕ} {words : List ℤ} {
 
   names-are : namesAt code 0 ≡ length (blockDecls t)
   names-are =
-      ap (λ i. getD code i 0 / 16777216) (sym program-place) ∙ ap (λ v. v / 16777216) (head-stands code name t keeps covers e [] encloses) ∙ head-names t keeps e [] encloses ∙ zero-add (length (blockDecls t))
+      ap (λ i. namesIn (getD code i 0)) (sym program-place) ∙ ap (λ v. namesIn v) (head-stands code name t keeps covers e [] encloses) ∙ head-names t keeps e [] encloses ∙ zero-add (length (blockDecls t))
 
   few-names : length (blockDecls t) ≤ 32
   few-names = let h = block-few 1 [] 0 t (keeps .formed) in omega arith

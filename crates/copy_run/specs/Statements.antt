@@ -21,6 +21,7 @@ use Rattle.resolved.specs.Resolved.{direct, chosen, nameWord, headWord, header,
 use Rattle.run_moves.specs.declared.Ask.the-variants.{Add, Remove}
 use Rattle.run_moves.specs.Acting.{Finding, Scene, Happened, field, operations, operationOf, constant-op, block-op, opOf, acting, happens as acts, doArithmetic as actArithmetic}
 use Rattle.steps.specs.Values.{operation-of}
+use Rattle.layout.specs.Layout.{operationIn}
 use Rattle.copy_fields.specs.Governed.{governedAction, governedStmt}
 use Rattle.copy_texts.specs.Texts.{reading}
 use Rattle.copy_statements.specs.Doing.{Copy, text, target, Mark, arithmetic, branch, constant, goto, block, pair, unpair, query, markOf, happens, doing}
@@ -194,7 +195,7 @@ module _ {code names : List ℕ} {limit group : ℕ} {words : List ℤ} {area : 
   block-op-is : (e : Enclosing) (level v : ℕ) → v ≡ headWord e level → opOf v ≡ block-op
   unfolding opOf operations headWord
   block-op-is e level v h =
-      let m : v % 16 ≡ 6 = omega arith in
+      let m : operationIn v ≡ 6 = omega arith in
       ap (λ i. getD operations i constant-op) m
 
   pub block-comes : (b : Block) → frameStmt (w .standing .frame) ≡ some (BK b) → Comes c s F

@@ -1,6 +1,6 @@
 -- A step of the copying engine, by what the statement comes to (`Came`). For each move: the engine goes on (`went-on`, `answered-on`), or may leave, jump or
 -- enter (`leave-ready`, `jump-ready`, `enter-ready`) and stands after the step once it has (`left-on`, `jumped-on`, `entered-on`), or stops (`stopped-at`).
-use Prim.Native.Nat.{ℕ, suc, _+_, _-_, _*_, _%_, _≤_, _<_}
+use Prim.Native.Nat.{ℕ, suc, _+_, _-_, _*_, _≤_, _<_}
 use native.Mathlib.Omega.{arith}
 use native.Mathlib.Nat.{mul-le-mul-right}
 use mathlib.Core.List.{List}
@@ -19,6 +19,7 @@ use Rattle.run_moves.specs.declared.Ask.{Ask}
 use Rattle.run_moves.specs.Acting.{Happened, answer}
 use Rattle.table_pairs.specs.declared.Change.{Change}
 use Rattle.table_pairs.specs.declared.Change.the-variants.{Done as Count, Stopped as Halted}
+use Rattle.layout.specs.Layout.{endIn}
 use Rattle.run_statements.specs.Answers.{Answered, turnAfter, done-goes, stopped-halts}
 use Rattle.steps.specs.Means.{GoesOn, JumpsTo, EntersAt, AnswerMeans, MoveMeans}
 use Rattle.steps.specs.Here.{many, within-limit, live-few}
@@ -54,7 +55,7 @@ module _ {code names : List ℕ} {limit group : ℕ} {words : List ℤ} {area : 
       let f = live-frame k h in
       omega (arith, block-within (w .standing) k (f .0) (f .1))
 
-  end-of : (k : ℕ) (f : Frame) → numbered fs (suc k) ≡ some f → getD code (getD blocks k 0 + 1) 0 % 65536 ≡ endPlace (f .text)
+  end-of : (k : ℕ) (f : Frame) → numbered fs (suc k) ≡ some f → endIn (getD code (getD blocks k 0 + 1) 0) ≡ endPlace (f .text)
   end-of k f e = end-there (w .standing) k f (numbered-index fs (suc k) f e)
 
   -- The end of the text
@@ -102,7 +103,7 @@ module _ {code names : List ℕ} {limit group : ℕ} {words : List ℤ} {area : 
       (arraysOf words′ area blocks nexts firsts starts targets looked table′)
   stops c words′ table′ m = record { stops = m .0; same = λ i. arraysOf (m .1 i) area blocks nexts firsts starts targets looked (m .2 i) }
 
-  module _ (before : here .at ≡ here .end → ⊥) (r : Moved) (words′ : List ℤ) (h : Came (doing (copyOf w) (sceneIn w)) r words′) where
+  module _ (before : here .at ≡ here .end → ⊥) {r : Moved} {words′ : List ℤ} (h : Came (doing (copyOf w) (sceneIn w)) r words′) where
     abbrev result : Happened
     result = doing (copyOf w) (sceneIn w)
 
@@ -110,26 +111,26 @@ module _ {code names : List ℕ} {limit group : ℕ} {words : List ℤ} {area : 
     means =
         subst (λ (T : Type 0). T) (λ i. MovedMeans (sym (h .0) i) (sym (h .1) i)) (moved-means (result .move) (result .words) (means-here w before))
 
-    means-as : (m : Moved) → r ≡ m → MovedMeans m words′
-    means-as m e = subst (λ (x : Moved). MovedMeans x words′) e means
+    means-as : {m : Moved} → r ≡ m → MovedMeans m words′
+    means-as e = subst (λ (x : Moved). MovedMeans x words′) e means
 
-    pub went-on : (p : ℕ) → r ≡ Went p
+    pub went-on : {p : ℕ} → r ≡ Went p
         → Succeeds w words′ area blocks nexts firsts starts targets looked table
         (goesTo here (here .live) p (here .end) (here .pairs))
-    went-on p e = goes p (here .pairs) words′ table (means-as (Went p) e)
+    went-on {p} e = goes p (here .pairs) words′ table (means-as e)
 
     -- The table is asked
 
-    module _ (p g m t : ℕ) (a : Ask) (e : r ≡ AskBy p g m t a) where
+    module _ {p g m t : ℕ} {a : Ask} (e : r ≡ AskBy p g m t a) where
       pub asked-there : (g < 8192) × ((m < 8192) × (t < 8192))
-      asked-there = (means-as (AskBy p g m t a) e) .2
+      asked-there = means-as e .2
 
       abbrev Told : Change → List ℤ → List ℤ → Type 0
       Told = Answered (answer group words′ (record { words = table; used = here .pairs }) g m t a) table
 
       answered : AnswerMeans (w .standing) p (answer group words′ (record { words = table; used = here .pairs }) g m t a)
       answered =
-          let k = means-as (AskBy p g m t a) e in
+          let k = means-as e in
           subst (λ (v : List ℤ). AnswerMeans (w .standing) p (answer group v (record { words = table; used = here .pairs }) g m t a)) (sym (k .1)) (k .0)
 
       by-change : (c : Change) (words″ table″ : List ℤ) → Told c words″ table″
@@ -138,29 +139,29 @@ module _ {code names : List ℕ} {limit group : ℕ} {words : List ℤ} {area : 
       by-change (Count n) words″ table″ k = goes p n words″ table″ (done-goes (w .standing) p _ answered (Count n) words″ table″ k n refl)
       by-change (Halted c) words″ table″ k = stops c words″ table″ (stopped-halts (w .standing) p _ answered (Halted c) words″ table″ k c refl)
 
-      pub answered-on : (c : Change) (words″ table″ : List ℤ) → Told c words″ table″ → (n : Turn) → n ≡ turnAfter here p c
+      pub answered-on : {c : Change} {words″ table″ : List ℤ} → Told c words″ table″ → {n : Turn} → n ≡ turnAfter here p c
           → Turned w n words″ area blocks nexts firsts starts targets looked table″
-      answered-on c words″ table″ k n q =
+      answered-on {c} {words″} {table″} k q =
           subst (λ (x : Turn). Turned w x words″ area blocks nexts firsts starts targets looked table″) (sym q) (by-change c words″ table″ k)
 
     -- A jump
 
-    jumps : (home p : ℕ) → r ≡ JumpTo p home → JumpsTo (w .standing) home p
-    jumps home p e = (means-as (JumpTo p home) e) .0
+    jumps : {home p : ℕ} → r ≡ JumpTo p home → JumpsTo (w .standing) home p
+    jumps e = means-as e .0
 
-    pub jump-ready : (home p : ℕ) → r ≡ JumpTo p home
-        → (home < 256) × (getD blocks home 0 + 1 < 4096) × (home ≡ here .live → here .end ≡ getD code (getD blocks home 0 + 1) 0 % 65536)
-    jump-ready home p e =
-        let high = (jumped (w .standing) home p (jumps home p e)) .home-high in (
+    pub jump-ready : {home p : ℕ} → r ≡ JumpTo p home
+        → (home < 256) × (getD blocks home 0 + 1 < 4096) × (home ≡ here .live → here .end ≡ endIn (getD code (getD blocks home 0 + 1) 0))
+    jump-ready {home} {p} e =
+        let high = (jumped (w .standing) home p (jumps e)) .home-high in (
           omega (arith, live-few (w .standing)),
           within home high,
-          λ q. sym (ap (λ k. getD code (getD blocks k 0 + 1) 0 % 65536) q ∙ end-here (w .standing)),
+          λ q. sym (ap (λ k. endIn (getD code (getD blocks k 0 + 1) 0)) q ∙ end-here (w .standing)),
         )
 
-    pub jumped-on : (home p : ℕ) → r ≡ JumpTo p home → (n : Registers) → n ≡ nowAt code blocks here home p
+    pub jumped-on : {home p : ℕ} → r ≡ JumpTo p home → {n : Registers} → n ≡ nowAt code blocks here home p
         → Succeeds w words′ area blocks nexts firsts starts targets looked table n
-    jumped-on home p e n is =
-        let m = means-as (JumpTo p home) e in
+    jumped-on {home} {p} e {n} is =
+        let m = means-as e in
         let l = jumped (w .standing) home p (m .0) in
         let ends = end-of home (l .frame) (l .stands) in
         subst (λ (v : List ℤ). Succeeds w v area blocks nexts firsts starts targets looked table n) (sym (m .1))
@@ -170,21 +171,21 @@ module _ {code names : List ℕ} {limit group : ℕ} {words : List ℤ} {area : 
 
     -- An entry
 
-    enters : (body link back : ℕ) → r ≡ EnterBy back link body → EntersAt (w .standing) body link back words′
-    enters body link back e = means-as (EnterBy back link body) e
+    enters : {body link back : ℕ} → r ≡ EnterBy back link body → EntersAt (w .standing) body link back words′
+    enters e = means-as e
 
-    pub enter-ready : here .fresh + 32 * 1 + 32 ≤ 4294967296 → (body link back : ℕ) → r ≡ EnterBy back link body → Enterable code names area width here body link back
-    enter-ready few body link back e = enterable w body link back words′ (enters body link back e) (omega arith)
+    pub enter-ready : here .fresh + 32 * 1 + 32 ≤ 4294967296 → {body link back : ℕ} → r ≡ EnterBy back link body → Enterable code names area width here body link back
+    enter-ready few {body} {link} {back} e = enterable w body link back words′ (enters e) (omega arith)
 
-    pub entered-on : (body link back : ℕ) → r ≡ EnterBy back link body → (words″ : List ℤ) (area′ blocks′ nexts′ firsts′ starts′ targets′ looked′ : List ℕ) (n : Registers)
+    pub entered-on : {body link back : ℕ} → r ≡ EnterBy back link body → {words″ : List ℤ} {area′ blocks′ nexts′ firsts′ starts′ targets′ looked′ : List ℕ} {n : Registers}
         → AnewIn code names width here body link back words′ area blocks nexts firsts starts targets looked words″ area′ blocks′ nexts′ firsts′ starts′ targets′ looked′ n
         → Succeeds w words″ area′ blocks′ nexts′ firsts′ starts′ targets′ looked′ table n
-    entered-on body link back e words″ area′ blocks′ nexts′ firsts′ starts′ targets′ looked′ n k =
-        enters-on w body link back words′ (enters body link back e) words″ area′ blocks′ nexts′ firsts′ starts′ targets′ looked′ n k
+    entered-on {body} {link} {back} e {words″} {area′} {blocks′} {nexts′} {firsts′} {starts′} {targets′} {looked′} {n} k =
+        enters-on w body link back words′ (enters e) words″ area′ blocks′ nexts′ firsts′ starts′ targets′ looked′ n k
 
     -- A cause to stop
 
-    pub stopped-at : (c : Cause) → r ≡ StopFor c
+    pub stopped-at : {c : Cause} → r ≡ StopFor c
         → Stops (limitsBy limit group) (w .standing .stack) c (arraysOf words area blocks nexts firsts starts targets looked table)
         (arraysOf words′ area blocks nexts firsts starts targets looked table)
-    stopped-at c e = let m = means-as (StopFor c) e in stops c words′ table (m .0, m .1, refl)
+    stopped-at {c} e = let m = means-as e in stops c words′ table (m .0, m .1, refl)

@@ -17,7 +17,7 @@ module _ (c : Copy) (s : Scene) (r : Ready c s) where
   NameIn i = NameAt (c .area) (c .firsts) (c .starts) (s .live) (place + i)
 
   name-in : {n : ℕ} (i : ℕ) → Fields c s n → i < n → Named c s i → NameIn i
-  name-in i f h x = record { few = r .few; sorted = r .sorted; there = omega (arith, f .there, h); new = x .new; has = x .has }
+  name-in i f h x = record { there = omega (arith, f .there, h); found = record { few = r .few; sorted = r .sorted; new = x .new; has = x .has } }
 
   asks : (m : Mark) → markOf (text c s 0) ≡ m → By c s m
   asks m e = subst (By c s) e (r .by)

@@ -1,7 +1,7 @@
 -- What a statement does, read from the innermost activation's copy: its mark and its fields are words of the area, and a name there is a new one
 -- (`cellIn`). Beside the copy, the resolved script says only where a text ends, whether a called name is a formal as written, and of what kinds
 -- formals and arguments are. The names are those of `Acting`.
-use Prim.Native.Nat.{ℕ, zero, suc, _+_, _*_, _-_, _/_, _%_}
+use Prim.Native.Nat.{ℕ, zero, suc, _+_, _*_, _-_}
 use mathlib.Core.Bool.{Bool, true, false, _&&_, not}
 use mathlib.Core.List.{List, [], _∷_}
 use lib.Dec.{eqb, leb}
@@ -17,6 +17,7 @@ use Rattle.run_moves.specs.declared.Move.{Move}
 use Rattle.run_moves.specs.declared.Move.the-variants.{On, Table as Asks, Jump, Enter, Stop}
 use Rattle.run_moves.specs.Effects.{effectOf, wordsOf, sameKinds}
 use Rattle.run_moves.specs.Acting.{Scene, Happened, moves, rewrites, operationOf, setAll}
+use Rattle.layout.specs.Layout.{operationIn, formalsIn, cellFrom, activationIn, heldFrom}
 use Rattle.run_statements.specs.Pieces.{moveAfter, blockMove}
 use Rattle.copy_names.specs.Owner.{cellIn}
 
@@ -52,7 +53,7 @@ module _ (c : Copy) (s : Scene) where
 
   -- to the label in a field
   unfoldable pub doGoto : ℕ → Happened
-  doGoto i = moves s (Jump (cell i / 32) (target i))
+  doGoto i = moves s (Jump (activationIn (cell i)) (target i))
 
   unfoldable pub doBranch : Happened
   doBranch = elim (eqZ (valueAt 1) (pos 0)) [ true ↦ moves s (On (s .at + 3)) | false ↦ doGoto 2 ]
@@ -63,13 +64,13 @@ module _ (c : Copy) (s : Scene) where
   -- what the arguments from field i on hand on
   unfoldable pub argumentsFrom : ℕ → ℕ → List ℤ
   argumentsFrom i zero = []
-  argumentsFrom i (suc n) = pos (cell i + 8192 * target i) ∷ argumentsFrom (i + 1) n
+  argumentsFrom i (suc n) = pos (heldFrom (cell i) (target i)) ∷ argumentsFrom (i + 1) n
 
   -- the called name is a formal as written, and the arguments are not as the procedure's formals: 26 goes before 22
   unfoldable pub differs : Bool
   differs =
-      eqb (getD (s .code) (s .at) 0 % 16) 15
-      && not (eqb (getD (s .code) (target 1) 0 / 65536 % 256) (text 2) && sameKinds (s .code) (s .at + 3) (target 1 - 3 * text 2) (text 2))
+      eqb (operationIn (getD (s .code) (s .at) 0)) 15
+      && not (eqb (formalsIn (getD (s .code) (target 1) 0)) (text 2) && sameKinds (s .code) (s .at + 3) (target 1 - 3 * text 2) (text 2))
 
   unfoldable pub doCall : Happened
   doCall =
@@ -77,7 +78,7 @@ module _ (c : Copy) (s : Scene) where
         | true ↦ moves s (Stop ArgumentsDiffer)
         | false ↦ elim (leb (s .limit) (s .live + 1)) [
           | true ↦ moves s (Stop NoActivationLeft)
-          | false ↦ rewrites s (Enter (target 1) (cell 1 / 32) (s .at + 3 + text 2)) (setAll (s .words) (32 * s .live + 32) (argumentsFrom 3 (text 2)))
+          | false ↦ rewrites s (Enter (target 1) (activationIn (cell 1)) (s .at + 3 + text 2)) (setAll (s .words) (cellFrom (s .live) 32) (argumentsFrom 3 (text 2)))
         ]
       ]
 

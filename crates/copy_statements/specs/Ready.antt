@@ -1,10 +1,11 @@
 -- What the statement at a place asks of the copy, by its mark: its fields are there, and the names in them have cells.
-use Prim.Native.Nat.{ℕ, _+_, _*_, _/_, _%_, _≤_, _<_}
+use Prim.Native.Nat.{ℕ, _+_, _≤_, _<_}
 use mathlib.Core.Bool.{true}
 use mathlib.Core.Path.{_≡_}
 use lib.Dec.{eqb}
 use lib.ListN.{length, getD}
 use Rattle.run_moves.specs.Acting.{Scene}
+use Rattle.layout.specs.Layout.{operationIn}
 use Rattle.run_statements.specs.Pieces.{FormalsBefore}
 use Rattle.copy_names.specs.Owner.{Sorted}
 use Rattle.copy_statements.specs.Doing.{Copy, text, cell, target, Mark, arithmetic, branch, constant, call, goto, block, pair, unpair, query, markOf}
@@ -27,7 +28,7 @@ module _ (c : Copy) (s : Scene) where
     pub arguments : (i : ℕ) → i < text c s 2 → Named (3 + i)
     pub limit : s .limit ≤ 256
     -- where the called name is a formal as written, its body stands after its formals
-    pub body : eqb (getD (s .code) (s .at) 0 % 16) 15 ≡ true → FormalsBefore (s .code) (target c s 1)
+    pub body : eqb (operationIn (getD (s .code) (s .at) 0)) 15 ≡ true → FormalsBefore (s .code) (target c s 1)
 
   abbrev pub By : Mark → Type 0
   By arithmetic = Fields 5 × Named 1 × Named 3 × Named 4

@@ -21,6 +21,7 @@ use Rattle.coordinates.specs.Chain.{enclosing, outline, SameOutlines}
 use Rattle.coordinates.specs.Search.{coordinate-here}
 use Rattle.coordinates.specs.Declared.{level-here}
 use Rattle.resolved.specs.Resolved.{placeOf, endPlace, positionIn, levelIn, targetIn, direct, declTarget, nameWord}
+use Rattle.layout.specs.Layout.{cellFrom}
 use Rattle.copy_texts.specs.Texts.{Aims, notedFrom}
 use Rattle.copy_texts.specs.Readings.{Narrow, word-says, position-here, position-there, owned}
 use Rattle.copy_texts.specs.Renewing.{Governs, Inside, Declared}
@@ -96,14 +97,14 @@ block-aims targets names fields cells e es narrow once inside declared room few 
 -- the targets of one frame's declarations
 abbrev Leading : List ℕ → ℕ → Frame → Type 0
 Leading targets k f =
-    (j : ℕ) (d : Decl) → getElem? (blockDecls (f .text)) j ≡ some d → getD targets (32 * k + (length (f .formals) + j)) 0 ≡ declTarget (f .text) d
+    (j : ℕ) (d : Decl) → getElem? (blockDecls (f .text)) j ≡ some d → getD targets (cellFrom k (length (f .formals) + j)) 0 ≡ declTarget (f .text) d
 
 cells-kept : (targets : List ℕ) (fs fs″ : List Frame) → Aims targets fs → (n : ℕ) → SameOutlines n fs fs″ → (k : ℕ) (f : Frame) → k < n → getElem? fs″ k ≡ some f → Leading targets k f
 unfolding outline enclosing
 cells-kept targets fs fs″ aims n same k f l r =
     let g = frame-before n k l fs fs″ same f r in
     let block : enclosed (g .0 .formals) (g .0 .text) ≡ enclosed (f .formals) (f .text) = ap (λ (x : Enclosing × ℕ). x .0) (g .2) in
-    subst (λ (e : Enclosing). (j : ℕ) (d : Decl) → getElem? (blockDecls (e .text)) j ≡ some d → getD targets (32 * k + (length (e .formals) + j)) 0 ≡ declTarget (e .text) d)
+    subst (λ (e : Enclosing). (j : ℕ) (d : Decl) → getElem? (blockDecls (e .text)) j ≡ some d → getD targets (cellFrom k (length (e .formals) + j)) 0 ≡ declTarget (e .text) d)
     block (λ j d q. aims .each k j (g .0) d (g .1) q)
 
 pub aims-kept : (targets : List ℕ) (fs fs″ : List Frame) → Aims targets fs → SameOutlines (length fs″) fs fs″ → Aims targets fs″
@@ -128,7 +129,7 @@ module _ {targets targets′ names fields : List ℕ} {live : ℕ} {as′ as″ 
     (h : AimsReady targets targets′ names fields live as′ as″ fs fs″ es f new) where
   old-leading : (k : ℕ) (x : Frame) → getElem? fs″ k ≡ some x → k < live + 1 → Leading targets′ k x
   old-leading k x r l j d q =
-      let i = 32 * k + (length (x .formals) + j) in
+      let i = cellFrom k (length (x .formals) + j) in
       let below : i < 32 * (live + 1) = omega (arith, h .few k x r, getElem-bound (blockDecls (x .text)) j d q) in
       ap (λ (ts : List ℕ). getD ts i 0) (h .targets-are)
       ∙ from-below names (32 * (live + 1)) (suc (length es)) targets (placeOf (blockAt (f .text))) (endPlace (f .text) - placeOf (blockAt (f .text))) i below
@@ -137,7 +138,7 @@ module _ {targets targets′ names fields : List ℕ} {live : ℕ} {as′ as″ 
   new-leading : Leading targets′ (live + 1) f
   new-leading j d q =
       let e = enclosed (f .formals) (f .text) in
-      ap (λ (ts : List ℕ). getD ts (32 * (live + 1) + (length (f .formals) + j)) 0) (h .targets-are)
+      ap (λ (ts : List ℕ). getD ts (cellFrom (live + 1) (length (f .formals) + j)) 0) (h .targets-are)
       ∙ block-aims targets names fields (32 * (live + 1)) e es (h .narrow) (h .once) (h .inside) (h .declared) (omega (arith, h .long, h .room)) (h .few (live + 1) f (h .more .top-frame)) j d q
 
   top-leading : (k : ℕ) (x : Frame) → getElem? fs″ k ≡ some x → k ≡ live + 1 → Leading targets′ k x

@@ -4,7 +4,6 @@
 use Prim.Native.Nat.{ℕ, zero, suc, _+_, _*_, _≤_, _<_}
 use mathlib.Core.Bool.{true, false, _&&_}
 use mathlib.Core.List.{List}
-use mathlib.Core.Logic.{_⊎_}
 use mathlib.Core.Option.{some}
 use mathlib.Core.Path.{_≡_}
 use lib.Dec.{eqb, leb, ltb}
@@ -16,6 +15,7 @@ use Rattle.frames.specs.Frame.{Frame}
 use Rattle.frames.specs.Related.{joined}
 use Rattle.coordinates.specs.Chain.{enclosureOf}
 use Rattle.resolved.specs.Resolved.{placeOf, endPlace, levelIn, positionIn, targetIn, direct, declTarget, nameWord}
+use Rattle.layout.specs.Layout.{cellFrom}
 
 -- What a field of a copy is: a name that the copy's block, or one around it, declares reads as that activation has it; all else is as written.
 unfoldable pub reading : List Replacement → ℕ → ℕ → ℕ
@@ -29,7 +29,7 @@ pub record Texts (area : List ℕ) (width : ℕ) (names fields : List ℕ) (as�
 -- What each label and procedure of the live activations leads to.
 pub record Aims (targets : List ℕ) (fs : List Frame) : Type 0 where
   pub each : (k j : ℕ) (f : Frame) (d : Decl) → getElem? fs k ≡ some f → getElem? (blockDecls (f .text)) j ≡ some d →
-      getD targets (32 * k + (length (f .formals) + j)) 0 ≡ declTarget (f .text) d
+      getD targets (cellFrom k (length (f .formals) + j)) 0 ≡ declTarget (f .text) d
 
 -- What the looked-up name reads as in each live activation; 0 where it is not visible.
 unfoldable pub readAs : List Replacement → ℕ → ℕ → ℕ

@@ -1,17 +1,16 @@
 // Texts copied in the copying area. The words of a block go from one activation's room to another's, and the names of the block entered become
 // new ones on the way.
+use layout::formal_of;
+use layout::level_of;
+use layout::position_of;
+use layout::target_of;
+use numbers::from_u32;
 ghost use mathlib.Core.Path.{_≡_};
 ghost use Prim.Native.Nat.{ℕ, _+_, _*_, _-_, _/_, _<_, _≤_, _^_};
 ghost use lib.ListN.{length, getD};
 ghost use Rattle.laws.specs.Fields.{fieldAt};
 ghost use Rattle.copy_texts.specs.Texts.{renewed, Copied, noted, notedFrom};
 ghost use Rattle.copy_texts.specs.Copying.{Renewable, Copyable};
-
-fn wide(x: u32) -> usize
-    ensures { λ r. ⌜ (r ≡ x) × (r < 2 ^ 32) ⌝ }
-{
-    x as usize
-}
 
 fn narrow(x: usize) -> u16
     requires { ⌜ x < 65536 ⌝ }
@@ -32,13 +31,13 @@ pub fn renew(area: &[u32], given: usize, level: usize, first: usize, word: usize
     requires { ⌜ Renewable (now area) given level first word ⌝ }
     ensures { λ r. ⌜ r ≡ renewed (now (area .entry)) given level first word old ⌝ }
 {
-    if word / 256 % 256 != level {
+    if level_of(word) != level {
         return old;
     }
-    if word / 32 % 2 == 1 {
-        return area[given + word % 32];
+    if formal_of(word) == 1 {
+        return area[given + position_of(word)];
     }
-    name_of(first + word % 32)
+    name_of(first + position_of(word))
 }
 
 // What a declared name of the level leads to is put into its cell.
@@ -46,9 +45,9 @@ fn note(targets: &mut [u16; 8224], cells: usize, level: usize, word: usize)
     requires { ⌜ (cells + 32 ≤ 8224) × (word < 2 ^ 32) ⌝ }
     ensures { λ _. ⌜ now (targets .exit) ≡ noted (now (targets .entry)) cells level word ⌝ }
 {
-    if word / 256 % 256 == level {
-        if word / 32 % 2 == 0 {
-            targets[cells + word % 32] = narrow(word / 65536);
+    if level_of(word) == level {
+        if formal_of(word) == 0 {
+            targets[cells + position_of(word)] = narrow(target_of(word));
         }
     }
 }
@@ -73,7 +72,7 @@ pub fn copy_text(
 {
     let mut q = place;
     while q < end {
-        let word = wide(names[q]);
+        let word = from_u32(names[q]);
         area[to + q] = renew(area, given, level, first, word, area[from + q]);
         note(targets, cells, level, word);
         q += 1;

@@ -22,44 +22,33 @@ fedAt a =
 abbrev engineAt : tie.After-admit → Engine
 engineAt a = copying (length ((startAt a) .args .area .now))
 
--- admission, from where the run is due
+-- admission, from where the run is due, and the run from its end
 abbrev admitAt : tie.After-ran-arg3 → tie.After-admit
 admitAt c = c .before .before .before .before .before
+
+abbrev ranAt : tie.After-slice-known2 → tie.After-ran
+ranAt c = c .before .before .before .before
 
 admitted : (c : tie.After-ran-arg3) → (t : Block) × Admitted (engineAt (admitAt c)) (fedAt (admitAt c)) t
 admitted c =
     let a = admitAt c in
-    admitted-call (engineAt a) (fedAt a) (a .admit .result) (a .admit .ensures false) (c .before .before .before .enum-told .given .1)
-
-ran-requires : tie.Need-ran-requires
-ran-requires c κs = admitted c
+    admitted-call (engineAt a) (fedAt a) _ (a .admit .ensures false) (c .before .before .before .enum-told .given .1)
 
 returns : tie.Need-returns
 returns c =
-    let a = c .before .before .before .before in
-    let told = c .before .before .cause .given in
-    let r = refused-call (engineAt a) (fedAt a) (a .admit .result) (a .admit .ensures false) (told .0 .0) (told .0 .1 .0) (told .1) (c .refusal-words .ensures) in
+    let k = c .before .before in
+    let a = k .before .before in
+    let r = refused-call (engineAt a) (fedAt a) _ (a .admit .ensures false) _ _ (k .cause .given .1) (c .refusal-words .ensures) in
     leaving-all (engineAt a) (fedAt a) r ((startAt a) .args .area .now)
 
 returns-2 : tie.Need-returns-2
 returns-2 c =
-    let k = c .before .before .before .before in
+    let k = ranAt c in
     let a = admitAt (k .before) in
     leaving-length (engineAt a) (fedAt a) (k .ran .ensures) (admitted (k .before) .1) (k .ran .kept .1 .1 .1 .1 .0)
 
 pub call-spec : {M : Type 1} → statement M
 call-spec =
     tie.close
-    (tie.spec
-    (λ c κs. search needs)
-    (λ c. search needs)
-    (λ c κs. search needs)
-    (λ c. search needs)
-    ran-requires
-    (λ c. search needs)
-    (λ c. search needs)
-    returns
-    (λ c. search needs)
-    (λ c. search needs)
-    (λ c. search needs)
-    returns-2)
+    (tie.spec (λ c κs. search needs) (λ c. search needs) (λ c κs. search needs) (λ c. search needs) (λ c κs. admitted c) (λ c. search needs)
+    (λ c. search needs) returns (λ c. search needs) (λ c. search needs) (λ c. search needs) returns-2)

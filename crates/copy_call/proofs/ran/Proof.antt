@@ -17,15 +17,18 @@ use Rattle.copy_call.proofs.Pieces.{beginning, ended}
 use Rattle.copy_call.proofs.ran.Statement.{statement}
 use Rattle.copy_call.proofs.ran.Tie as tie
 
--- the places: where the words of names are found, where the script is resolved, where the run returns, where the sheet is written
+-- the places: where the words of names are found, where the script is resolved, its bytes, where the run returns, where the sheet is written
 abbrev namesAt : tie.After-struct-known2 → tie.After-govern
 namesAt c = c .before .before .before .before .before .before .before .before
 
 abbrev resolvedAt : tie.After-govern → tie.After-resolve
 resolvedAt c = c .before .before .before .before
 
+abbrev knownAt : tie.After-resolve → tie.After-shared-slice-known
+knownAt c = c .before .before .before .before
+
 abbrev startAt : tie.After-resolve → tie.Start
-startAt c = c .before .before .before .before .before
+startAt c = knownAt c .before
 
 abbrev ranAt : tie.After-write-sheet-arg → tie.After-run-program
 ranAt c = c .before .before .before .before .before .before .before .before
@@ -43,7 +46,7 @@ abbrev areaAt : tie.After-resolve → List ℕ
 areaAt z = (startAt z) .args .area .now
 
 bytesAt : (z : tie.After-resolve) → Bytes ((fedAt z) .script)
-bytesAt z = bytes-are ((fedAt z) .script) (λ i. z .before .before .before .before .shared-slice-known .given i .fits)
+bytesAt z = bytes-are ((fedAt z) .script) (λ i. knownAt z .shared-slice-known .given i .fits)
 
 nameAt : (z : tie.After-resolve) → Fits w16 ((fedAt z) .name)
 nameAt z = search needs
@@ -53,7 +56,7 @@ run-program-requires c κs =
     let g = namesAt c in
     let z = resolvedAt g in
     let p = (startAt z) .pre in
-    beginning (areaAt z) (fedAt z) (bytesAt z) (nameAt z .fits) (p .0) (p .1) _ _ (z .resolve .ensures) (g .govern .ensures .0)
+    beginning (areaAt z) (bytesAt z) (nameAt z .fits) (p .1) (z .resolve .ensures) _ (g .govern .ensures .0)
 
 write-sheet-requires : tie.Need-write-sheet-requires
 write-sheet-requires c κs =
@@ -62,7 +65,7 @@ write-sheet-requires c κs =
     let z = resolvedAt g in
     let p = (startAt z) .pre in
     sheet-needs (bytesAt z) (p .1) (resolved-covers _ _ _ (z .resolve .ensures) _ (p .1 .script))
-    (ended (areaAt z) (fedAt z) (bytesAt z) (nameAt z .fits) (p .0) (p .1) _ _ (z .resolve .ensures) (g .govern .ensures .0) (u .run-program .result) (u .run-program .ensures) .ended)
+    (ended (areaAt z) (bytesAt z) (nameAt z .fits) (p .1) (z .resolve .ensures) _ (g .govern .ensures .0) (u .run-program .ensures) .ended)
 
 run-words-requires : tie.Need-run-words-requires
 run-words-requires c κs = tally-fits ((startAt (resolvedAt (namesAt (ranAt (c .before .before) .before)))) .pre .1)
@@ -75,22 +78,11 @@ returns c =
     let z = resolvedAt g in
     let p = (startAt z) .pre in
     run-replies (bytesAt z) (p .1) (resolved-covers _ _ _ (z .resolve .ensures) _ (p .1 .script))
-    (ended (areaAt z) (fedAt z) (bytesAt z) (nameAt z .fits) (p .0) (p .1) _ _ (z .resolve .ensures) (g .govern .ensures .0) (u .run-program .result) (u .run-program .ensures) .ended)
+    (ended (areaAt z) (bytesAt z) (nameAt z .fits) (p .1) (z .resolve .ensures) _ (g .govern .ensures .0) (u .run-program .ensures) .ended)
     (v .write-sheet .ensures) (no-links (copying (length (areaAt z))) (fedAt z) _ refl) (c .run-words .ensures)
 
 pub ran-spec : {M : Type 1} → statement M
 ran-spec =
     tie.close
-    (tie.spec
-    (λ c. search needs)
-    (λ c. search needs)
-    (λ c κs. search needs)
-    (λ c κs. search needs)
-    (λ c. search needs)
-    run-program-requires
-    write-sheet-requires
-    run-words-requires
-    (λ c. search needs)
-    (λ c. search needs)
-    (λ c. search needs)
-    returns)
+    (tie.spec (λ c. search needs) (λ c. search needs) (λ c κs. search needs) (λ c κs. search needs) (λ c. search needs) run-program-requires
+    write-sheet-requires run-words-requires (λ c. search needs) (λ c. search needs) (λ c. search needs) returns)

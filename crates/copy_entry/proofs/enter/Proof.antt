@@ -1,106 +1,95 @@
 -- `enter` meets its contract.
-use Prim.Native.Nat.{_+_}
+use Prim.Native.Nat.{_+_, _≤_, _<_}
 use native.Mathlib.Omega.{arith}
-use Rattle.copy_entry.proofs.Entering.{room-small, few-names, renewable, copyable, entered}
+use mathlib.Core.Path.{_≡_, ap, _∙_}
+use Rattle.resolved.specs.Resolved.{levelIn}
+use Rattle.layout.specs.Layout.{formalsIn, namesIn, endIn, firstIn}
+use Rattle.copy_entry.specs.Anew.{endAt}
+use Rattle.copy_entry.proofs.Entering.{Head, room-small, few-names, renewable, copyable, entered}
 use borrow.Author.Needs.{needs}
 use Rattle.copy_entry.proofs.enter.Statement.{statement}
 use Rattle.copy_entry.proofs.enter.Tie as tie
 
--- where the block's words were read, from its end: the activation is noted, its text is copied, its cells are cleared
-abbrev fromNote : tie.After-note → tie.After-code-at3
-fromNote c = c .before .before .before .before .before .before .before
+-- the places, from the end: the text is copied, its end is known, the activation is noted, the block's parts are known, its words are read
+abbrev copiedOf : tie.After-clear-arg → tie.After-copy-text
+copiedOf c = c .before .before .before
 
-abbrev fromText : tie.After-copy-text-arg2 → tie.After-code-at3
-fromText c = fromNote (c .before .before .before .before .before)
+abbrev endOf : tie.After-copy-text-arg2 → tie.After-end-of
+endOf c = c .before .before
 
-abbrev fromClear : tie.After-clear-arg → tie.After-code-at3
-fromClear c = fromText (c .before .before .before .before)
+abbrev notedOf : tie.After-renew → tie.After-note
+notedOf c = c .before .before .before
+
+abbrev partsOf : tie.After-note → tie.After-level-of
+partsOf c = c .before .before .before .before .before .before .before
+
+abbrev wordsOf : tie.After-level-of → tie.After-code-at3
+wordsOf c = c .before .before .before
+
+abbrev startOf : tie.After-level-of → tie.Start
+startOf c = let h = wordsOf c .before .before in h .before .before
+
+abbrev fromEnd : tie.After-end-of → tie.After-level-of
+fromEnd c = partsOf (notedOf (c .before))
+
+abbrev fromText : tie.After-copy-text → tie.After-level-of
+fromText c = fromEnd (endOf (c .before))
+
+head : (c : tie.After-level-of) → let a = startOf c .args in
+    Head (a .code .now) (a .body) (c .level-of .result) (c .before .formals-of .result) (c .before .before .names-of .result) (wordsOf c .code-at3 .result)
+head c =
+    let f = c .before in
+    let w = wordsOf c in
+    let e = w .before .before .code-at .ensures .0 in
+    record {
+      level-is = c .level-of .ensures .0 ∙ ap levelIn e;
+      formals-is = f .formals-of .ensures .0 ∙ ap formalsIn e;
+      count-is = f .before .names-of .ensures ∙ ap namesIn e;
+      word-is = w .code-at3 .ensures .0;
+    }
+
+end-is : (c : tie.After-end-of) → let a = startOf (fromEnd c) .args in c .end-of .result ≡ endAt (a .code .now) (a .body)
+end-is c = c .end-of .ensures .0 ∙ ap endIn (wordsOf (fromEnd c) .before .code-at2 .ensures .0)
 
 renew-requires : tie.Need-renew-requires
-renew-requires c κs =
-    let w = fromNote (c .before .before) in
-    let h = w .before .before in
-    let s = h .before .before in
-    renewable (s .pre) (h .code-at .result) (h .code-at .ensures .0) (w .code-at3 .result) (w .code-at3 .ensures .0)
+renew-requires c κs = let p = partsOf (c .before .before) in renewable (startOf p .pre) (head p)
 
 mul-copy-text : tie.Need-mul-copy-text
 mul-copy-text c =
-    let s = fromText c .before .before .before .before in
-    let small = room-small (s .pre) (s .args .link) (omega (arith, s .pre .link-high)) in
-    search needs
+    let s = startOf (fromEnd (endOf c)) in
+    search (needs, room-small (s .pre) (s .args .link) (omega (arith, s .pre .link-high)))
 
 mul-copy-text-2 : tie.Need-mul-copy-text-2
 mul-copy-text-2 c =
-    let s = fromText c .before .before .before .before in
-    let small = room-small (s .pre) (s .args .here .live + 1) (omega arith) in
-    search needs
+    let s = startOf (fromEnd (endOf c)) in
+    search (needs, room-small (s .pre) (s .args .here .live + 1) (omega arith))
 
 copy-text-requires : tie.Need-copy-text-requires
 copy-text-requires c κs =
-    let n = fromText c .before in
-    let h = n .before in
-    let s = h .before .before in
-    copyable (s .pre) (h .code-at .result) (h .code-at .ensures .0) (n .code-at2 .result) (n .code-at2 .ensures .0)
+    let e = endOf c in
+    let p = fromEnd e in
+    copyable (startOf p .pre) (head p) (end-is e)
 
-add-clear : tie.Need-add-clear
-add-clear c =
-    let h = fromClear c .before .before in
-    let few = few-names (h .before .before .pre) (h .code-at .result) (h .code-at .ensures .0) in
-    search needs
-
-add-clear-2 : tie.Need-add-clear-2
-add-clear-2 c =
-    let h = fromClear c .before .before in
-    let few = few-names (h .before .before .pre) (h .code-at .result) (h .code-at .ensures .0) in
-    search needs
-
-clear-requires : tie.Need-clear-requires
-clear-requires c κs =
-    let h = fromClear c .before .before in
-    let s = h .before .before in
-    let few = few-names (s .pre) (h .code-at .result) (h .code-at .ensures .0) in
-    (omega (arith, s .pre .room), omega (arith, s .pre .room))
+few : (c : tie.After-clear-arg) → let p = fromText (copiedOf c) in
+    (p .before .formals-of .result ≤ 32) × (p .before .before .names-of .result ≤ 32) × (startOf p .args .here .live + 1 < 256)
+few c = let p = fromText (copiedOf c) in few-names (startOf p .pre) (head p)
 
 returns : tie.Need-returns
 returns c =
-    let k = c .before .before .before .before in
-    let r = k .before .before .before in
-    let o = r .before .before .before in
-    let w = fromNote o in
-    let n = w .before in
-    let h = n .before in
-    let s = h .before .before in
-    entered (s .pre) (h .code-at .result) (h .code-at .ensures .0) (n .code-at2 .result) (w .code-at3 .result) (r .renew .result) (n .code-at2 .ensures .0)
-    (w .code-at3 .ensures .0) _ _ _ _ _ _ _ _ _ _ _ _ _ _ (o .note .ensures) (r .renew .ensures) (k .copy-text .ensures .0) (k .copy-text .ensures .1)
-    (c .clear .ensures)
+    let z = c .before in
+    let k = copiedOf (z .before) in
+    let e = endOf (k .before) in
+    let r = e .before in
+    let o = notedOf r in
+    let p = partsOf o in
+    entered (startOf p .pre) (head p) (end-is e) (c .first-of .ensures ∙ ap firstIn (wordsOf p .before .code-at2 .ensures .0)) (o .note .ensures) (r .renew .ensures)
+    (k .copy-text .ensures .0) (k .copy-text .ensures .1) (z .clear .ensures)
 
 pub enter-spec : {M : Type 1} → statement M
 enter-spec =
     tie.close
-    (tie.spec
-    (λ c κs. search needs)
-    (λ c. search needs)
-    (λ c κs. search needs)
-    (λ c. search needs)
-    (λ c κs. search needs)
-    (λ c. search needs)
-    (λ c. search needs)
-    (λ c. search needs)
-    (λ c. search needs)
-    (λ c. search needs)
-    (λ c. search needs)
-    (λ c κs. search needs)
-    (λ c. search needs)
-    (λ c. search needs)
-    renew-requires
-    (λ c. search needs)
-    (λ c. search needs)
-    (λ c. search needs)
-    mul-copy-text
-    mul-copy-text-2
-    copy-text-requires
-    add-clear
-    add-clear-2
-    clear-requires
-    (λ c. search needs)
-    returns)
+    (tie.spec (λ c κs. search needs) (λ c. search needs) (λ c κs. search needs) (λ c. search needs) (λ c κs. search needs) (λ c κs. search needs)
+    (λ c κs. search needs) (λ c κs. search needs) (λ c. search needs) (λ c. search needs) (λ c. search needs) (λ c. search needs) (λ c. search needs)
+    (λ c. search needs) (λ c κs. search needs) (λ c. search needs) (λ c. search needs) renew-requires (λ c. search needs) (λ c. search needs)
+    (λ c. search needs) (λ c κs. search needs) mul-copy-text mul-copy-text-2 copy-text-requires (λ c. search (needs, few c)) (λ c. search (needs, few c))
+    (λ c κs. search (needs, few c)) (λ c κs. search needs) (λ c. search needs) returns)

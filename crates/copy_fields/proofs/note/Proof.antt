@@ -9,11 +9,14 @@ use borrow.Author.Needs.{needs}
 use Rattle.copy_fields.proofs.note.Statement.{statement}
 use Rattle.copy_fields.proofs.note.Tie as tie
 
+-- the start, from where IF's words are taken
+abbrev startOf : tie.After-cross → tie.Start
+startOf c = c .before .before .before .before
+
 returns : tie.Need-returns
 returns c =
-    let st = c .before .before .before .before in
-    let a = st .args in
-    (if-noted (a .script .now) (a .code .now) (a .names .now) (c .cross .last .1 .0) (a .at) (st .pre .0) (c .cross .ensures .0) (omega (arith, st .pre .2)), c .cross .ensures .1)
+    let p = startOf c .pre in
+    (if-noted _ _ _ _ _ (p .0) (c .cross .ensures .0) (omega (arith, p .2)), c .cross .ensures .1)
 
 returns-2 : tie.Need-returns-2
 returns-2 c =
@@ -24,7 +27,7 @@ returns-2 c =
     let st = e .before .before in
     let a = st .args in
     let mark = st .pre .2 in (
-      other-noted (a .script .now) (a .code .now) (a .names .now) (u .take .last .1 .0) (c .take2 .last .1 .0) (a .at) (l .leading .result) (t .trailing .result) (u .take .ensures .0) (c .take2 .ensures .0)
+      other-noted _ _ _ _ _ _ _ _ (u .take .ensures .0) (c .take2 .ensures .0)
           (l .leading .ensures .0 ∙ ap leading mark)
           (t .trailing .ensures .0 ∙ ap (λ (w : ℕ). trailing w (fieldAt (a .script .now) (a .at + 4))) mark)
           (λ i. e .if1 .left (mark ∙ i)),

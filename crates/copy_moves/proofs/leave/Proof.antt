@@ -8,8 +8,9 @@ use Rattle.copy_moves.proofs.leave.Tie as tie
 
 returns : tie.Need-returns
 returns c =
-    let s = c .before .before .before .before .args in
-    c .resume .ensures ∙ ap (nowAt (s .code .now) (s .blocks .now) (s .here) (s .here .live - 1)) (c .before .wide .ensures .0)
+    let w = c .before in
+    let s = w .before .before .before .args in
+    c .resume .ensures ∙ ap (nowAt (s .code .now) (s .blocks .now) (s .here) (s .here .live - 1)) (w .from-u16 .ensures .0)
 
 pub leave-spec : {M : Type 1} → statement M
 leave-spec =

@@ -13,6 +13,10 @@ Inv-loop firsts live name low₀ high₀ low high = (low ≤ high) × (high ≤ 
 abbrev μ-loop : tie.MeasureT-loop
 μ-loop firsts live name low₀ high₀ low high = high - low
 
+-- the turn, from its test
+abbrev turnOf : tie.After-first-of Inv-loop μ-loop → tie.At-loop Inv-loop μ-loop
+turnOf c = c .before .before
+
 loop-holds : tie.Need-loop-holds Inv-loop μ-loop
 loop-holds c =
     let a = c .args in
@@ -23,8 +27,9 @@ first-of-requires c κs = omega (arith, c .before .loop .inv .1, c .before .befo
 
 loop-again : tie.Need-loop-again Inv-loop μ-loop
 loop-again c =
-    let l = c .before .before .before .loop in
-    let st = c .before .before .before .before in
+    let t = turnOf (c .before) in
+    let l = t .loop in
+    let st = t .before in
     let a = st .args in
     let up : l .low ≤ (l .low + l .high) / 2 = omega (arith, l .inv .0) in
     let down : (l .low + l .high) / 2 ≤ l .high = omega (arith, l .inv .0) in
@@ -37,8 +42,9 @@ loop-again c =
 
 loop-again-2 : tie.Need-loop-again-2 Inv-loop μ-loop
 loop-again-2 c =
-    let l = c .before .before .before .loop in
-    let st = c .before .before .before .before in
+    let t = turnOf (c .before) in
+    let l = t .loop in
+    let st = t .before in
     let a = st .args in
     let up : l .low ≤ (l .low + l .high) / 2 = omega (arith, l .inv .0) in
     let down : (l .low + l .high) / 2 ≤ l .high = omega (arith, l .inv .0) in
@@ -59,15 +65,5 @@ returns c =
 pub outer-owner-spec : {M : Type 1} → statement M
 outer-owner-spec =
     tie.close
-    (tie.spec
-    Inv-loop
-    μ-loop
-    loop-holds
-    (λ c. search needs)
-    (λ c. search needs)
-    first-of-requires
-    (λ c. search needs)
-    loop-again
-    (λ c. search needs)
-    loop-again-2
-    returns)
+    (tie.spec Inv-loop μ-loop loop-holds (λ c. search needs) (λ c. search needs) first-of-requires (λ c. search needs) loop-again
+    (λ c. search needs) loop-again-2 returns)

@@ -22,23 +22,14 @@ scene s = sceneBy (s .args .code .now) (s .args .words .now) (s .args .limit) (s
 abbrev startOf : tie.After-field → tie.Start
 startOf c = c .before .before
 
-add-place : tie.Need-add-place
-add-place c = omega (arith, c .before .pre .mark .there)
-
-field-requires : tie.Need-field-requires
-field-requires c κs = omega (arith, c .before .pre .mark .there)
-
 -- the mark at the place
 mark : (c : tie.After-field) {k : ℕ} → c .field .result ≡ k → markOf (text (copy (startOf c)) (scene (startOf c)) 0) ≡ markOf k
 mark c e = mark-is (copy (startOf c)) (scene (startOf c)) (c .field .ensures .0) (ap markOf e)
 
 other : (c : tie.At-match-rest) → let s = startOf (c .before) in markOf (text (copy s) (scene s) 0) ≡ query
 other c =
-    let r = c .match .rest in
     let s = startOf (c .before) in
-    mark-is (copy s) (scene s) (c .before .field .ensures .0)
-    (last-mark (c .before .field .result) (r .0 .0 .0 .0 .0 .0 .0 .1) (r .0 .0 .0 .0 .0 .0 .1) (r .0 .0 .0 .0 .0 .1) (r .0 .0 .0 .0 .1)
-    (r .0 .0 .0 .1) (r .0 .0 .1) (r .0 .1) (r .1))
+    mark-is (copy s) (scene s) (c .before .field .ensures .0) (search (needs, last-mark))
 
 do-arithmetic-requires : tie.Need-do-arithmetic-requires
 unfolding markOf
@@ -63,9 +54,6 @@ unfolding markOf
 do-call-requires c κs =
     let s = startOf (c .before .before) in
     call-asks (copy s) (scene s) (s .pre) (mark (c .before .before) (c .before .match .keys4))
-
-add-do-goto : tie.Need-add-do-goto
-add-do-goto c = omega (arith, startOf (c .before) .pre .mark .there)
 
 do-goto-requires : tie.Need-do-goto-requires
 unfolding markOf
@@ -178,34 +166,8 @@ returns-9 c =
 pub act-spec : {M : Type 1} → statement M
 act-spec =
     tie.close
-    (tie.spec
-    add-place
-    field-requires
-    do-arithmetic-requires
-    (λ c κs. search needs)
-    do-branch-requires
-    (λ c κs. search needs)
-    do-constant-requires
-    (λ c κs. search needs)
-    do-call-requires
-    (λ c κs. search needs)
-    add-do-goto
-    do-goto-requires
-    (λ c κs. search needs)
-    do-block-requires
-    (λ c κs. search needs)
-    do-add-pair-requires
-    (λ c κs. search needs)
-    do-remove-pair-requires
-    (λ c κs. search needs)
-    do-query-requires
-    (λ c κs. search needs)
-    returns
-    returns-2
-    returns-3
-    returns-4
-    returns-5
-    returns-6
-    returns-7
-    returns-8
-    returns-9)
+    (tie.spec (λ c. omega (arith, c .before .pre .mark .there)) (λ c κs. omega (arith, c .before .pre .mark .there)) do-arithmetic-requires
+    (λ c κs. search needs) do-branch-requires (λ c κs. search needs) do-constant-requires (λ c κs. search needs) do-call-requires
+    (λ c κs. search needs) (λ c. omega (arith, startOf (c .before) .pre .mark .there)) do-goto-requires (λ c κs. search needs) do-block-requires
+    (λ c κs. search needs) do-add-pair-requires (λ c κs. search needs) do-remove-pair-requires (λ c κs. search needs) do-query-requires
+    (λ c κs. search needs) returns returns-2 returns-3 returns-4 returns-5 returns-6 returns-7 returns-8 returns-9)

@@ -16,40 +16,48 @@ Inv-loop area₀ names targets₀ from to given level first cells place end q₀
 abbrev μ-loop : tie.MeasureT-loop
 μ-loop area₀ names targets₀ from to given level first cells place end q₀ area targets q = end - q
 
+-- the turn, from where its word is read, and the start
+abbrev turnOf : tie.After-from-u32 Inv-loop μ-loop → tie.In-loop Inv-loop μ-loop
+turnOf c = c .before .before
+
+abbrev startOf : tie.At-loop Inv-loop μ-loop → tie.Start Inv-loop μ-loop
+startOf c = c .before .before
+
 loop-holds : tie.Need-loop-holds Inv-loop μ-loop
 loop-holds c =
     (omega arith, c .before .pre .ordered, copied-none _ _ _ _ _ _ _ _ _ _ (c .before .pre), refl)
 
 slice-reshared-read-renew : tie.Need-slice-reshared-read-renew Inv-loop μ-loop
 slice-reshared-read-renew c =
-    let l = c .before .before .before .before in
-    omega (arith, l .before .before .pre .old-room, l .loop .inv .2 .as-long)
+    let l = turnOf (c .before) .before in
+    omega (arith, startOf l .pre .old-room, l .loop .inv .2 .as-long)
 
 renew-requires : tie.Need-renew-requires Inv-loop μ-loop
 renew-requires c κs =
-    let u = c .before .before .before in
+    let w = c .before in
+    let u = turnOf w in
     let l = u .before in
-    renewable _ _ _ _ _ _ _ _ _ _ (l .before .before .pre) (l .loop .area) (l .loop .q) (l .loop .inv .0) (u .loop-test .taken) (l .loop .inv .2)
-    (c .before .wide .result) (c .before .wide .ensures .0)
+    renewable _ _ _ _ _ _ _ _ _ _ (startOf l .pre) (l .loop .area) (l .loop .q) (l .loop .inv .0) (u .loop-test .taken) (l .loop .inv .2)
+    (w .from-u32 .result) (w .from-u32 .ensures .0)
 
 slice-write-area : tie.Need-slice-write-area Inv-loop μ-loop
 slice-write-area c =
-    let l = c .before .before .before .before .before in
-    omega (arith, l .before .before .pre .new-room, l .loop .inv .2 .as-long)
+    let l = turnOf (c .before .before) .before in
+    omega (arith, startOf l .pre .new-room, l .loop .inv .2 .as-long)
 
 loop-again : tie.Need-loop-again Inv-loop μ-loop
 loop-again c =
     let n = c .before .before in
     let w = n .before .before in
-    let u = w .before .before in
+    let u = turnOf w in
     let l = u .before in
-    let s = l .before .before in (
+    let s = startOf l in (
       omega arith,
       omega arith,
       copied-more _ _ _ _ _ _ _ _ _ _ (s .pre) (l .loop .area) (l .loop .q) (l .loop .inv .0) (u .loop-test .taken) (l .loop .inv .2)
-          (w .wide .result) (n .renew .result) (w .wide .ensures .0) (n .renew .ensures),
-      notes-more (s .args .names .now) (s .args .cells) (s .args .level) (l .loop .targets) (c .note .last .0) (l .loop .q) (s .args .end) (w .wide .result)
-          (u .loop-test .taken) (w .wide .ensures .0) (c .note .ensures) ∙ l .loop .inv .3,
+          (w .from-u32 .result) (n .renew .result) (w .from-u32 .ensures .0) (n .renew .ensures),
+      notes-more (s .args .names .now) (s .args .cells) (s .args .level) (l .loop .targets) (c .note .last .0) (l .loop .q) (s .args .end) (w .from-u32 .result)
+          (u .loop-test .taken) (w .from-u32 .ensures .0) (c .note .ensures) ∙ l .loop .inv .3,
     )
 
 same-length : tie.Need-same-length Inv-loop μ-loop
@@ -58,7 +66,7 @@ same-length c = c .before .loop .inv .2 .as-long
 returns : tie.Need-returns Inv-loop μ-loop
 returns c =
     let l = c .before .loop in
-    let s = c .before .before .before in (
+    let s = startOf (c .before) in (
       copied-all _ _ _ _ _ _ _ _ _ _ (s .pre) (l .area) (l .q) (l .inv .1) (c .loop-test .left) (l .inv .2),
       notes-done (s .args .names .now) (s .args .cells) (s .args .level) (l .targets) (l .q) (s .args .end) (c .loop-test .left) ∙ l .inv .3,
     )
@@ -66,23 +74,6 @@ returns c =
 pub copy-text-spec : {M : Type 1} → statement M
 copy-text-spec =
     tie.close
-    (tie.spec
-    Inv-loop
-    μ-loop
-    loop-holds
-    (λ c. search needs)
-    (λ c. search needs)
-    (λ c κs. search needs)
-    (λ c. search needs)
-    (λ c. search needs)
-    slice-reshared-read-renew
-    renew-requires
-    (λ c. search needs)
-    (λ c. search needs)
-    slice-write-area
-    (λ c κs. search needs)
-    (λ c. search needs)
-    (λ c. search needs)
-    loop-again
-    same-length
-    returns)
+    (tie.spec Inv-loop μ-loop loop-holds (λ c. search needs) (λ c. search needs) (λ c κs. search needs) (λ c. search needs) (λ c. search needs)
+    slice-reshared-read-renew renew-requires (λ c. search needs) (λ c. search needs) slice-write-area (λ c κs. search needs) (λ c. search needs)
+    (λ c. search needs) loop-again same-length returns)

@@ -18,11 +18,12 @@ operation s = getD (s .args .area .now) (s .args .place + 2) 0
 
 returns : tie.Need-returns
 returns c =
-    let o = c .before .before .before .before in
+    let t = c .before .before .before in
+    let o = t .before in
     let s = startOf o in
     let n = o .before in
     computes (s .args .words .now) (s .args .at + 5) (operation s) (n .before .before .named-by .ensures) (n .before .named-by2 .ensures) (n .named-by3 .ensures) plus
-    (is-plus (sym (o .field .ensures .0) ∙ c .before .before .before .if1 .taken)) (c .computed .ensures) (c .before .add .ensures .0) (c .before .add .ensures .1)
+    (is-plus (sym (o .field .ensures .0) ∙ t .if1 .taken)) (c .computed .ensures) (c .before .add .ensures .0) (c .before .add .ensures .1)
 
 returns-2 : tie.Need-returns-2
 returns-2 c =
@@ -45,23 +46,6 @@ returns-3 c =
 pub do-arithmetic-spec : {M : Type 1} → statement M
 do-arithmetic-spec =
     tie.close
-    (tie.spec
-    (λ c κs. search needs)
-    (λ c κs. search needs)
-    (λ c. search needs)
-    (λ c κs. search needs)
-    (λ c. search needs)
-    (λ c κs. search needs)
-    (λ c. search needs)
-    (λ c κs. search needs)
-    (λ c. search needs)
-    (λ c κs. search needs)
-    (λ c κs. search needs)
-    (λ c κs. search needs)
-    returns
-    (λ c κs. search needs)
-    (λ c κs. search needs)
-    returns-2
-    (λ c κs. search needs)
-    (λ c. search needs)
-    returns-3)
+    (tie.spec (λ c κs. search needs) (λ c κs. search needs) (λ c. search needs) (λ c κs. search needs) (λ c. search needs) (λ c κs. search needs)
+    (λ c. search needs) (λ c κs. search needs) (λ c. search needs) (λ c κs. search needs) (λ c κs. search needs) (λ c κs. search needs) returns
+    (λ c κs. search needs) (λ c κs. search needs) returns-2 (λ c κs. search needs) (λ c. search needs) returns-3)

@@ -3,8 +3,8 @@ use borrow.Author.Needs.{needs}
 use Rattle.copy_arms.proofs.arms.do_goto.Statement.{statement}
 use Rattle.copy_arms.proofs.arms.do_goto.Tie as tie
 
-returns : tie.Need-returns
-returns c = rw (c .target .ensures .0, c .before .named .ensures)
-
 pub do-goto-spec : {M : Type 1} → statement M
-do-goto-spec = tie.close (tie.spec (λ c κs. search needs) (λ c κs. search needs) returns)
+do-goto-spec =
+    tie.close
+    (tie.spec (λ c κs. search needs) (λ c κs. search needs) (λ c κs. search needs)
+    (λ c. rw (c .target .ensures .0, c .before .activation-of .ensures, c .before .before .named .ensures)))

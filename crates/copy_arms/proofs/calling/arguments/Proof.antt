@@ -1,5 +1,5 @@
 -- `arguments` meets its contract. The loop's invariant: setting the arguments from i on gives what setting all of them gives.
-use Prim.Native.Nat.{_+_, _*_, _-_, _≤_}
+use Prim.Native.Nat.{_+_, _-_, _≤_}
 use native.Mathlib.Omega.{arith}
 use mathlib.Core.Path.{_≡_, _∙_}
 use borrow.Author.Needs.{needs}
@@ -20,13 +20,13 @@ abbrev μ-loop : tie.MeasureT-loop
 μ-loop words₀ area firsts starts targets live place count first start to i₀ words i = count - i
 
 -- the start, from before the loop
-abbrev startOf : tie.After-start-of Inv-loop μ-loop → tie.Start Inv-loop μ-loop
-startOf c = c .before .before .before
+abbrev startOf : tie.After-cell-at Inv-loop μ-loop → tie.Start Inv-loop μ-loop
+startOf c = c .before .before .before .before
 
 loop-holds : tie.Need-loop-holds Inv-loop μ-loop
 loop-holds c =
     let a = startOf c .args in
-    let f : 32 * a .live + 32 + 0 ≡ 32 * a .live + 32 = omega arith in
+    let f : c .cell-at .result + 0 ≡ c .cell-at .result = omega arith in
     let p : a .place + 0 ≡ a .place = omega arith in
     let n : a .count - 0 ≡ a .count = omega arith in
     (omega arith, rw (f, p, n))
@@ -34,8 +34,10 @@ loop-holds c =
 handed-requires : tie.Need-handed-requires Inv-loop μ-loop
 handed-requires c κs =
     let l = c .before in
-    let b = l .before in
-    ((b .before .first-of .ensures .0, b .start-of .ensures), startOf b .pre .1 .named (l .loop .i) (c .loop-test .taken))
+    let s = l .before .before in (
+      record { first-is = s .before .first-of .ensures .0; start-is = s .start-of .ensures },
+      startOf (l .before) .pre .1 .named (l .loop .i) (c .loop-test .taken),
+    )
 
 loop-again : tie.Need-loop-again Inv-loop μ-loop
 loop-again c =
@@ -44,33 +46,20 @@ loop-again c =
     let z = read-back (c .handed .result) (c .handed .ok) ∙ c .handed .ensures in
     let t = c .before .loop-test .taken in
     let step = arguments-next (a .area .now) (a .firsts .now) (a .starts .now) (a .targets .now) (a .live) (a .place) (a .count) (l .loop .i)
-    (l .loop .words) (32 * a .live + 32) t z in
+    (l .loop .words) (l .before .cell-at .result) t z in
     (omega (arith, t), step ∙ l .loop .inv .1)
 
 returns : tie.Need-returns Inv-loop μ-loop
 returns c =
     let l = c .before in
-    let a = startOf (l .before) .args in
-    arguments-end (a .area .now) (a .firsts .now) (a .starts .now) (a .targets .now) (a .live) (a .place) (a .count) (l .loop .i)
-    (l .loop .words) (32 * a .live + 32) (c .loop-test .left) ∙ l .loop .inv .1
+    let f = l .before in
+    let a = startOf f .args in
+    let to = f .cell-at .result in
+    rw (f .cell-at .ensures) at (arguments-end (a .area .now) (a .firsts .now) (a .starts .now) (a .targets .now) (a .live) (a .place) (a .count)
+    (l .loop .i) (l .loop .words) to (c .loop-test .left) ∙ l .loop .inv .1)
 
 pub arguments-spec : {M : Type 1} → statement M
 arguments-spec =
     tie.close
-    (tie.spec
-    Inv-loop
-    μ-loop
-    (λ c κs. search needs)
-    (λ c κs. search needs)
-    (λ c. search needs)
-    (λ c. search needs)
-    loop-holds
-    (λ c. search needs)
-    handed-requires
-    (λ c. search needs)
-    (λ c. search needs)
-    (λ c. search needs)
-    (λ c. search needs)
-    (λ c. search needs)
-    loop-again
-    returns)
+    (tie.spec Inv-loop μ-loop (λ c κs. search needs) (λ c κs. search needs) (λ c κs. search needs) loop-holds (λ c. search needs) handed-requires
+    (λ c. search needs) (λ c. search needs) (λ c. search needs) (λ c. search needs) (λ c. search needs) loop-again returns)

@@ -65,29 +65,19 @@ arguments-requires c κs =
 
 returns-3 : tie.Need-returns-3
 returns-3 c =
-    let b = c .before .before in
+    let g = c .before in
+    let b = g .before .before in
     let r = b .before .before in
     let f = r .before in
     let s = startOf f in
     let d = call-enters (refusal s) (s .args .limit) (s .args .live) (enter s) (s .args .words .now) (handed s) (refused-is r (b .before .if1 .left))
-    (omega (arith, b .if2 .left)) in
-    (enters-at (s .args .at) (body-is f) (f .before .before .named .ensures) (f .field .ensures .0) ∙ d .0, (rw (f .field .ensures .0) at (c .arguments .ensures)) ∙ d .1)
+    (omega (arith, b .if2 .left)) in (
+      enters-at (s .args .at) (body-is f) (c .activation-of .ensures) (f .before .before .named .ensures) (f .field .ensures .0) ∙ d .0,
+      (rw (f .field .ensures .0) at (g .arguments .ensures)) ∙ d .1,
+    )
 
 pub do-call-spec : {M : Type 1} → statement M
 do-call-spec =
     tie.close
-    (tie.spec
-    (λ c. search needs)
-    (λ c κs. search needs)
-    (λ c κs. search needs)
-    (λ c. search needs)
-    (λ c κs. search needs)
-    refused-requires
-    returns
-    (λ c. search needs)
-    returns-2
-    (λ c. search needs)
-    arguments-requires
-    (λ c. search needs)
-    (λ c. search needs)
-    returns-3)
+    (tie.spec (λ c. search needs) (λ c κs. search needs) (λ c κs. search needs) (λ c. search needs) (λ c κs. search needs) refused-requires returns
+    (λ c. search needs) returns-2 (λ c. search needs) arguments-requires (λ c κs. search needs) (λ c. search needs) (λ c. search needs) returns-3)

@@ -7,10 +7,10 @@ use Rattle.copy_arms.proofs.calling.handed.Tie as tie
 
 returns : tie.Need-returns
 returns c =
-    let n = c .before .before in
-    rw (c .before .target .ensures .0, n .named-by .ensures) at (read-back (c .word-of .result) (c .word-of .ok) ∙ c .word-of .ensures)
+    let h = c .before in
+    let t = h .before in
+    rw (h .held-word .ensures, t .target .ensures .0, t .before .named-by .ensures) at (read-back (c .word-of .result) (c .word-of .ok) ∙ c .word-of .ensures)
 
 pub handed-spec : {M : Type 1} → statement M
 handed-spec =
-    tie.close
-    (tie.spec (λ c κs. search needs) (λ c κs. search needs) (λ c. search needs) (λ c. search needs) (λ c κs. search needs) returns)
+    tie.close (tie.spec (λ c κs. search needs) (λ c κs. search needs) (λ c κs. search needs) (λ c κs. search needs) returns)

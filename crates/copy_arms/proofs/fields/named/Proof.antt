@@ -3,14 +3,8 @@ use borrow.Author.Needs.{needs}
 use Rattle.copy_arms.proofs.fields.named.Statement.{statement}
 use Rattle.copy_arms.proofs.fields.named.Tie as tie
 
-cell-of-requires : tie.Need-cell-of-requires
-cell-of-requires c κs =
-    let p = c .before .before .pre in
-    let e = c .field .ensures .0 in
-    (p .few, p .sorted, rw e (p .new), rw e (p .has))
-
-returns : tie.Need-returns
-returns c = rw (c .before .field .ensures .0) at (c .cell-of .ensures)
-
 pub named-spec : {M : Type 1} → statement M
-named-spec = tie.close (tie.spec (λ c κs. search needs) cell-of-requires returns)
+named-spec =
+    tie.close
+    (tie.spec (λ c κs. search needs) (λ c κs. rw (c .field .ensures .0) (c .before .before .pre .found))
+    (λ c. rw (c .before .field .ensures .0) at (c .cell-of .ensures)))

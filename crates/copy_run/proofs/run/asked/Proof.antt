@@ -1,5 +1,4 @@
 -- `asked` meets its contract: each question has its function.
-use Rattle.table_pairs.specs.Outcomes.{tableOf}
 use Rattle.run_statements.specs.Answers.{add-answered, remove-answered, query-answered}
 use borrow.Author.Needs.{needs}
 use Rattle.copy_run.proofs.run.asked.Statement.{statement}
@@ -7,35 +6,19 @@ use Rattle.copy_run.proofs.run.asked.Tie as tie
 
 returns : tie.Need-returns
 returns c =
-    let t = c .before .before .before .before in
-    let a = t .before .before .args in
-    add-answered (a .limit) (a .words .now) (tableOf (a .table .now) (a .pairs)) (a .group) (a .member) (a .target) (t .enum-told .given .1) (c .before .add .ensures)
+    let d = c .before in
+    add-answered _ _ _ _ _ _ (d .before .before .before .enum-told .given .1) (d .add .ensures)
 
 returns-2 : tie.Need-returns-2
 returns-2 c =
-    let t = c .before .before .before .before in
-    let a = t .before .before .args in
-    remove-answered (a .limit) (a .words .now) (tableOf (a .table .now) (a .pairs)) (a .group) (a .member) (a .target) (t .enum-told2 .given .1) (c .before .remove .ensures)
+    let d = c .before in
+    remove-answered _ _ _ _ _ _ (d .before .before .before .enum-told2 .given .1) (d .remove .ensures)
 
 returns-3 : tie.Need-returns-3
-returns-3 c =
-    let t = c .before .before .before in
-    let a = t .before .before .args in
-    query-answered (a .limit) (a .words .now) (tableOf (a .table .now) (a .pairs)) (a .group) (a .member) (a .target) (t .enum-told3 .given .1) (c .query .ensures)
+returns-3 c = query-answered _ _ _ _ _ _ (c .before .before .before .enum-told3 .given .1) (c .query .ensures)
 
 pub asked-spec : {M : Type 1} → statement M
 asked-spec =
     tie.close
-    (tie.spec
-    (λ c. search needs)
-    (λ c κs. search needs)
-    (λ c. search needs)
-    (λ c κs. search needs)
-    (λ c. search needs)
-    (λ c κs. search needs)
-    (λ c. search needs)
-    returns
-    (λ c. search needs)
-    returns-2
-    (λ c. search needs)
-    returns-3)
+    (tie.spec (λ c. search needs) (λ c κs. search needs) (λ c. search needs) (λ c κs. search needs) (λ c. search needs) (λ c κs. search needs)
+    (λ c. search needs) returns (λ c. search needs) returns-2 (λ c. search needs) returns-3)

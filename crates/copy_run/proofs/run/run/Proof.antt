@@ -1,6 +1,6 @@
 -- `run` meets its contract. The loop's invariant: the run has come so far that so many steps are left.
 use native.Mathlib.Omega.{arith}
-use mathlib.Core.Path.{_≡_, refl, _∙_}
+use mathlib.Core.Path.{_≡_, refl}
 use borrow.Author.Needs.{needs}
 use lib.ListN.{length}
 use Rattle.copy_moves.specs.Running.{Running}
@@ -73,10 +73,10 @@ leftBy o =
 
 -- area and table keep their lengths
 area-kept : (o : tie.After-step Inv-loop μ-loop) → length ((leftBy o) .area) ≡ length ((startOf (loopAt o)) .args .area .now)
-area-kept o = o .step .kept .1 .1 .1 .0 ∙ (loopAt o) .loop .inv .1
+area-kept o = cc ((loopAt o) .loop .inv .1)
 
 table-kept : (o : tie.After-step Inv-loop μ-loop) → length ((leftBy o) .table) ≡ length ((startOf (loopAt o)) .args .table .now)
-table-kept o = o .step .kept .1 .1 .1 .1 .1 .1 .1 .1 .1 .1 .1 .0 ∙ (loopAt o) .loop .inv .2
+table-kept o = cc ((loopAt o) .loop .inv .2)
 
 -- the arrays as a turn finds them, and that the run has come so far
 abbrev foundBy : tie.At-loop Inv-loop μ-loop → Arrays
@@ -106,8 +106,7 @@ loop-again : tie.Need-loop-again Inv-loop μ-loop
 loop-again c =
     let o = wentOf c in
     let i = (loopAt o) .loop .inv in (
-      λ w. went-as (i .0 w) (leftBy o) (o .step .result) (o .step .ensures (i .0 w .running)) (c .before .next .given .0 .0) (c .before .next .given .1)
-          ((turnOf o) .loop-test .taken),
+      λ w. went-as (i .0 w) (leftBy o) (o .step .ensures (i .0 w .running)) (c .before .next .given .1) ((turnOf o) .loop-test .taken),
       area-kept o,
       table-kept o,
     )
@@ -131,8 +130,7 @@ returns c =
     let o = finishedOf (c .before) in
     λ w.
     let u = (loopAt o) .loop .inv .0 w in
-    finished-as u (leftBy o) (o .step .result) (o .step .ensures (u .running)) (c .before .enum-told .given .1) ((turnOf o) .loop-test .taken)
-    (c .finished .result) (c .finished .ensures)
+    finished-as u (leftBy o) (o .step .ensures (u .running)) (c .before .enum-told .given .1) ((turnOf o) .loop-test .taken) (c .finished .ensures)
 
 sub-stopped : tie.Need-sub-stopped Inv-loop μ-loop
 sub-stopped c = few-left (going (loopAt (stoppedOf (c .before))))
@@ -147,7 +145,7 @@ settle-requires c κs =
     let k = causeOf (haltOf c) in
     let o = stoppedOf k in
     let u = going (loopAt o) in
-    settle-ready ((stays u (leftBy o) (o .step .result) (o .step .ensures (u .running)) (k .cause .given .0 .0) (k .cause .given .1)) .0)
+    settle-ready ((stays u (leftBy o) (o .step .ensures (u .running)) (k .cause .given .1)) .0)
 
 same-length-3 : tie.Need-same-length-3 Inv-loop μ-loop
 same-length-3 c = area-kept (stoppedOf (causeOf (haltOf (c .before .before))))
@@ -163,9 +161,8 @@ returns-2 c =
     let o = stoppedOf k in
     λ w.
     let u = (loopAt o) .loop .inv .0 w in
-    let v = stays u (leftBy o) (o .step .result) (o .step .ensures (u .running)) (k .cause .given .0 .0) (k .cause .given .1) in
-    stopped (v .0) (e .settle .last .0) (e .settle .ensures .1) (e .settle .result) (e .settle .ensures .0) (h .stopped .result) (c .named .result)
-    (c .named .ensures) (k .cause .given .0 .0) (v .1) ((turnOf o) .loop-test .taken) (h .stopped .ensures)
+    let v = stays u (leftBy o) (o .step .ensures (u .running)) (k .cause .given .1) in
+    stopped (v .0) (e .settle .ensures .1) (e .settle .ensures .0) (c .named .ensures) (v .1) ((turnOf o) .loop-test .taken) (h .stopped .ensures)
 
 spent-requires : tie.Need-spent-requires Inv-loop μ-loop
 spent-requires c κs = live-small (going (c .before))
@@ -185,39 +182,11 @@ returns-3 c =
     let h = spentOf (e .before) in
     let t = doneOf h in
     λ w.
-    spent (t .before .loop .inv .0 w) (e .settle2 .last .0) (e .settle2 .ensures .1) (e .settle2 .result) (e .settle2 .ensures .0) (h .spent .result)
-    (c .named2 .result) (c .named2 .ensures) (omega (arith, t .loop-test .left)) (h .spent .ensures)
+    spent (t .before .loop .inv .0 w) (e .settle2 .ensures .1) (e .settle2 .ensures .0) (c .named2 .ensures) (omega (arith, t .loop-test .left)) (h .spent .ensures)
 
 pub run-spec : {M : Type 1} → statement M
 run-spec =
     tie.close
-    (tie.spec
-    Inv-loop
-    μ-loop
-    loop-holds
-    step-requires
-    (λ c. search needs)
-    sub-left
-    loop-less
-    loop-again
-    (λ c. search needs)
-    sub-finished
-    add-finished
-    (λ c κs. search needs)
-    same-length
-    same-length-2
-    returns
-    (λ c. search needs)
-    sub-stopped
-    stopped-requires
-    settle-requires
-    (λ c κs. search needs)
-    same-length-3
-    same-length-4
-    returns-2
-    spent-requires
-    settle-requires-2
-    (λ c κs. search needs)
-    same-length-5
-    same-length-6
-    returns-3)
+    (tie.spec Inv-loop μ-loop loop-holds step-requires (λ c. search needs) sub-left loop-less loop-again (λ c. search needs) sub-finished add-finished
+    (λ c κs. search needs) same-length same-length-2 returns (λ c. search needs) sub-stopped stopped-requires settle-requires (λ c κs. search needs)
+    same-length-3 same-length-4 returns-2 spent-requires settle-requires-2 (λ c κs. search needs) same-length-5 same-length-6 returns-3)

@@ -1,5 +1,5 @@
 -- `run_program` meets its contract: the engine can stand where the program begins, and runs from there.
-use mathlib.Core.Path.{refl, _∙_}
+use mathlib.Core.Path.{refl}
 use borrow.Author.Needs.{needs}
 use Rattle.copy_run.specs.Starting.{beginnable}
 use Rattle.copy_run.specs.Ending.{begin-ready, program-run}
@@ -28,21 +28,19 @@ begin-requires c κs = beginnable ((startAt c) .pre)
 run-requires : tie.Need-run-requires
 run-requires c κs =
     let o = beginOf c in
-    let d = o .begin .last .1 .1 .1 in
-    begin-ready ((startAt (o .before)) .pre) _ _ _ _ (d .0) (d .1 .0) (d .1 .1 .0) (d .1 .1 .1 .0) (o .begin .result) (o .begin .ensures) refl refl refl refl refl
+    begin-ready ((startAt (o .before)) .pre) (o .begin .ensures) refl refl refl refl refl
 
 same-length : tie.Need-same-length
 same-length c =
     let r = c .before .before .before in
-    r .run .kept .1 .1 .1 .0 ∙ (beginOf (r .before)) .begin .kept .1 .1 .1 .0
+    let run = r .run in
+    let begun = beginOf (r .before) .begin in
+    cc
 
 returns : tie.Need-returns
 returns c =
     let r = c .before .before .before in
-    let o = beginOf (r .before) in
-    let d = o .begin .last .1 .1 .1 in
-    λ b. program-run b _ _ _ _ (d .0) (d .1 .0) (d .1 .1 .0) (d .1 .1 .1 .0) (o .begin .result) (o .begin .ensures) refl refl refl refl refl (r .run .result) _ _ _ _
-    (r .run .ensures)
+    λ b. program-run b (beginOf (r .before) .begin .ensures) refl refl refl refl refl (r .run .ensures)
 
 pub run-program-spec : {M : Type 1} → statement M
 run-program-spec = tie.close (tie.spec begin-requires run-requires same-length (λ c. search needs) returns)

@@ -1,7 +1,5 @@
 -- `step` meets its contract: at the end of the text the activation is left, and before it the statement is done.
-use mathlib.Core.List.{List}
 use mathlib.Core.Path.{refl}
-use lib.IntN.{ℤ}
 use Rattle.copy_run.specs.Here.{ready-here}
 use Rattle.run_state.specs.Turns.{above-zero}
 use Rattle.copy_run.specs.Turns.{leave-ready, left-on, base-within, went-on, asked-there, answered-on, jump-ready, jumped-on, enter-ready, entered-on, stopped-at}
@@ -9,7 +7,7 @@ use borrow.Author.Needs.{needs}
 use Rattle.copy_run.proofs.run.step.Statement.{statement}
 use Rattle.copy_run.proofs.run.step.Tie as tie
 
--- the places before the statement's function and after it, and what it leaves of the words
+-- the places before the statement's function and after it
 abbrev elseAt : tie.After-act-arg5 → tie.Else1
 elseAt c = let half = c .before .before in half .before .before .before
 
@@ -26,9 +24,6 @@ startOf a = entryOf (elseOf a)
 abbrev startAt : tie.Else2 → tie.Start
 startAt e = let first = e .before .before in first .before .before
 
-abbrev wordsOf : tie.After-act → List ℤ
-wordsOf a = a .act .last .1 .0
-
 -- the block to enter, from what entering is lent
 abbrev halfOf : tie.After-enter-arg8 → tie.After-enter-arg4
 halfOf c = c .before .before .before .before
@@ -38,6 +33,9 @@ toldOf c = c .before .before .before .before
 
 abbrev bodyOf : tie.After-enter-arg8 → tie.After-back
 bodyOf c = (toldOf (halfOf c)) .before
+
+abbrev askedOf : tie.After-asked-arg2 → tie.After-place3
+askedOf c = c .before .before .before
 
 returns : tie.Need-returns
 returns c = λ w. record { ended = c .before .if1 .taken; alone = c .if2 .taken; same-words = refl; same-table = refl }
@@ -53,11 +51,6 @@ returns-2 c =
     let e = c .before .before .before in
     λ w. left-on w (e .before .if1 .taken) (above-zero ((startAt e) .args .here .live) (e .if2 .left)) (c .leave .result) (c .leave .ensures)
 
-mul-base : tie.Need-mul-base
-mul-base c =
-    let within = base-within ((entryOf c) .pre .running) in
-    search needs
-
 act-requires : tie.Need-act-requires
 act-requires c κs =
     let e = elseAt c in
@@ -67,91 +60,57 @@ jump-requires : tie.Need-jump-requires
 jump-requires c κs =
     let h = c .before .before in
     let a = h .before .before in
-    jump-ready ((startOf a) .pre .running) ((elseOf a) .if1 .left) (a .act .result) (wordsOf a) (a .act .ensures) (h .place2 .given .0 .1 .0)
-    (h .place2 .given .0 .0) (h .place2 .given .1)
+    jump-ready ((startOf a) .pre .running) ((elseOf a) .if1 .left) (a .act .ensures) (h .place2 .given .1)
 
 enter-requires : tie.Need-enter-requires
 enter-requires c κs =
     let b = bodyOf c in
     let a = b .before .before in
-    enter-ready ((startOf a) .pre .running) ((elseOf a) .if1 .left) (a .act .result) (wordsOf a) (a .act .ensures) ((startOf a) .pre .names-left)
-    (b .back .given .0 .1 .1 .0) (b .back .given .0 .1 .0) (b .back .given .0 .0) (b .back .given .1)
-
-abbrev askedOf : tie.After-asked-arg2 → tie.After-place3
-askedOf c = c .before .before .before
+    let p = (startOf a) .pre in
+    enter-ready (p .running) ((elseOf a) .if1 .left) (a .act .ensures) (p .names-left) (b .back .given .1)
 
 asked-requires : tie.Need-asked-requires
 asked-requires c κs =
     let p = askedOf c in
     let a = p .before .before in
-    asked-there ((startOf a) .pre .running) ((elseOf a) .if1 .left) (a .act .result) (wordsOf a) (a .act .ensures) (p .place3 .given .0 .0) (p .place3 .given .0 .1 .0)
-    (p .place3 .given .0 .1 .1 .0) (p .place3 .given .0 .1 .1 .1 .0) (p .place3 .given .0 .1 .1 .1 .1 .0) (p .place3 .given .1)
+    asked-there ((startOf a) .pre .running) ((elseOf a) .if1 .left) (a .act .ensures) (p .place3 .given .1)
 
 returns-3 : tie.Need-returns-3
 returns-3 c =
     let p = c .before in
     let a = p .before .before in
-    λ w. went-on w ((elseOf a) .if1 .left) (a .act .result) (wordsOf a) (a .act .ensures) (p .place .given .0 .0) (p .place .given .1)
+    λ w. went-on w ((elseOf a) .if1 .left) (a .act .ensures) (p .place .given .1)
 
 returns-4 : tie.Need-returns-4
 returns-4 c =
     let h = c .before .before .before in
     let a = h .before .before in
-    λ w. jumped-on w ((elseOf a) .if1 .left) (a .act .result) (wordsOf a) (a .act .ensures) (h .place2 .given .0 .1 .0)
-    (h .place2 .given .0 .0) (h .place2 .given .1) (c .jump .result) (c .jump .ensures)
+    λ w. jumped-on w ((elseOf a) .if1 .left) (a .act .ensures) (h .place2 .given .1) (c .jump .ensures)
 
 returns-5 : tie.Need-returns-5
 returns-5 c =
     let e = c .before .before in
     let b = bodyOf (e .before) in
     let a = b .before .before in
-    let d = e .enter .last .1 .1 in
-    let f = d .1 .1 .1 in
-    λ w. entered-on w ((elseOf a) .if1 .left) (a .act .result) (wordsOf a) (a .act .ensures) (b .back .given .0 .1 .1 .0)
-    (b .back .given .0 .1 .0) (b .back .given .0 .0) (b .back .given .1) (d .0) (d .1 .0) (f .0) (f .1 .0) (f .1 .1 .0) (f .1 .1 .1 .0)
-    (f .1 .1 .1 .1 .0) (f .1 .1 .1 .1 .1 .0) (e .enter .result) (e .enter .ensures)
+    λ w. entered-on w ((elseOf a) .if1 .left) (a .act .ensures) (b .back .given .1) (e .enter .ensures)
 
 returns-6 : tie.Need-returns-6
 returns-6 c =
     let k = c .before in
     let a = k .before .before in
-    λ w. stopped-at w ((elseOf a) .if1 .left) (a .act .result) (wordsOf a) (a .act .ensures) (k .cause .given .0 .0) (k .cause .given .1)
+    λ w. stopped-at w ((elseOf a) .if1 .left) (a .act .ensures) (k .cause .given .1)
 
 returns-7 : tie.Need-returns-7
 returns-7 c =
     let k = c .before .before in
     let p = askedOf (k .before) in
     let a = p .before .before in
-    λ w. answered-on w ((elseOf a) .if1 .left) (a .act .result) (wordsOf a) (a .act .ensures) (p .place3 .given .0 .0) (p .place3 .given .0 .1 .0)
-    (p .place3 .given .0 .1 .1 .0) (p .place3 .given .0 .1 .1 .1 .0) (p .place3 .given .0 .1 .1 .1 .1 .0) (p .place3 .given .1) (k .asked .result) (k .asked .last .1 .0)
-    (k .asked .last .0) (k .asked .ensures) (c .after .result) (c .after .ensures)
+    λ w. answered-on w ((elseOf a) .if1 .left) (a .act .ensures) (p .place3 .given .1) (k .asked .ensures) (c .after .ensures)
 
 pub step-spec : {M : Type 1} → statement M
 step-spec =
     tie.close
-    (tie.spec
-    returns
-    leave-requires
-    returns-2
-    mul-base
-    act-requires
-    (λ c. search needs)
-    (λ c. search needs)
-    jump-requires
-    (λ c. search needs)
-    enter-requires
-    (λ c. search needs)
-    (λ c. search needs)
-    asked-requires
-    (λ c κs. search needs)
-    (λ c. search needs)
-    returns-3
-    (λ c. search needs)
-    returns-4
-    (λ c. search needs)
-    returns-5
-    (λ c. search needs)
-    returns-6
-    (λ c. search needs)
-    (λ c. search needs)
-    returns-7)
+    (tie.spec returns leave-requires returns-2 (λ c. search (needs, base-within ((entryOf c) .pre .running))) act-requires (λ c. search needs)
+    (λ c. search needs) jump-requires (λ c. search needs) enter-requires (λ c. search needs) (λ c. search needs) asked-requires (λ c κs. search needs)
+    (λ c. search needs) returns-3 (λ c. search needs) returns-4 (λ c. search needs) returns-5 (λ c. search needs) returns-6 (λ c. search needs)
+    (λ c. search needs) returns-7)
