@@ -13,7 +13,7 @@ use Rattle.run_moves.specs.declared.Move.{Move}
 use Rattle.run_moves.specs.declared.Move.the-variants.{Enter, Stop}
 use Rattle.run_moves.specs.Effects.{sameKinds}
 use Rattle.run_moves.specs.Acting.{setAll}
-use Rattle.layout.specs.Layout.{operationIn, formalsIn, activationIn}
+use Rattle.resolved.specs.Layout.{operationIn, formalsIn, activationIn}
 use Rattle.copy_arms.specs.Parts.{handedWord, handedFrom, refusedBy, callMove, callWords}
 
 -- 26

@@ -13,7 +13,7 @@ use Rattle.run_moves.specs.declared.Move.{Move}
 use Rattle.run_moves.specs.declared.Move.the-variants.{On, Jump, Enter, Stop}
 use Rattle.run_moves.specs.Effects.{sameKinds}
 use Rattle.run_moves.specs.Acting.{operationOf, setAll}
-use Rattle.layout.specs.Layout.{operationIn, formalsIn, cellFrom, activationIn, heldFrom}
+use Rattle.resolved.specs.Layout.{operationIn, formalsIn, cellFrom, activationIn, heldFrom}
 use Rattle.run_statements.specs.Pieces.{FormalsBefore}
 use Rattle.copy_names.specs.Owner.{cellIn, Findable}
 

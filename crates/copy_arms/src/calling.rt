@@ -19,7 +19,7 @@ ghost use mathlib.Core.Path.{_≡_};
 ghost use Prim.Native.Nat.{_+_, _≤_};
 ghost use lib.Dec.{leb};
 ghost use Rattle.run_moves.specs.Acting.{setAll};
-ghost use Rattle.layout.specs.Layout.{cellFrom};
+ghost use Rattle.resolved.specs.Layout.{cellFrom};
 ghost use Rattle.copy_names.specs.Owner.{Innermost};
 ghost use Rattle.copy_arms.specs.Parts.{NameAt, ArgumentsAt, handedWord, handedFrom, Callable, refusedBy, refusedAt, enterAt, handedAt, callMove, callWords, CallAt};
 

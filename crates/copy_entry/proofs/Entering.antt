@@ -9,7 +9,7 @@ use lib.IntN.{ℤ}
 use lib.ListN.{getD, set}
 use Rattle.resolved.specs.Resolved.{levelIn, direct}
 use Rattle.run_moves.specs.Effects.{Cleared}
-use Rattle.layout.specs.Layout.{firstIn}
+use Rattle.resolved.specs.Layout.{firstIn}
 use Rattle.copy_texts.specs.Texts.{renewed, Copied, notedFrom}
 use Rattle.copy_texts.specs.Copying.{Renewable, Copyable}
 use Rattle.run_state.specs.declared.Registers.{Registers}

@@ -7,7 +7,7 @@ use lib.IntN.{ℤ}
 use lib.ListN.{length, getD, set}
 use Rattle.resolved.specs.Resolved.{levelIn, positionIn, direct}
 use Rattle.run_moves.specs.Effects.{Cleared}
-use Rattle.layout.specs.Layout.{formalsIn, namesIn, endIn, firstIn, cellFrom}
+use Rattle.resolved.specs.Layout.{formalsIn, namesIn, endIn, firstIn, cellFrom}
 use Rattle.copy_texts.specs.Texts.{renewed, Copied, notedFrom}
 use Rattle.run_state.specs.declared.Registers.{Registers}
 

@@ -8,7 +8,7 @@ use lib.ListN.{length, getD, set}
 use Rattle.laws.specs.Tests.{never}
 use Rattle.laws.specs.Fields.{fieldAt}
 use Rattle.resolved.specs.Resolved.{levelIn, direct}
-use Rattle.layout.specs.Layout.{firstIn}
+use Rattle.resolved.specs.Layout.{firstIn}
 use Rattle.copy_texts.specs.Texts.{renewed, Copied, notedFrom}
 use Rattle.copy_texts.specs.Copying.{Renewable, Copyable}
 use Rattle.copy_entry.specs.Anew.{namesAt, endAt}

@@ -6,7 +6,7 @@ use mathlib.Core.Path.{_≡_}
 use lib.ListN.{length, getD, set}
 use Rattle.laws.specs.Fields.{fieldAt}
 use Rattle.resolved.specs.Resolved.{levelIn, direct}
-use Rattle.layout.specs.Layout.{firstIn}
+use Rattle.resolved.specs.Layout.{firstIn}
 use Rattle.copy_texts.specs.Texts.{renewed, Copied, notedFrom}
 use Rattle.run_state.specs.declared.Registers.{Registers}
 use Rattle.copy_entry.specs.Anew.{namesAt, endAt}

@@ -13,7 +13,7 @@ use Rattle.frames.specs.Related.{Related}
 use Rattle.resolved.specs.Resolved.{Covers}
 use Rattle.steps.specs.Standing.{Standing}
 use Rattle.steps.specs.Means.{Follows}
-use Rattle.layout.specs.Layout.{endIn}
+use Rattle.resolved.specs.Layout.{endIn}
 use Rattle.copy_fields.specs.Governed.{governedOf}
 use Rattle.copy_names.specs.Owner.{NewNames}
 use Rattle.copy_texts.specs.Texts.{Texts, Aims, Looks}

@@ -15,7 +15,7 @@ use run_words::code_at;
 ghost use mathlib.Core.Path.{_≡_};
 ghost use Prim.Native.Nat.{_+_, _-_, _<_, _≤_};
 ghost use lib.ListN.{getD, set};
-ghost use Rattle.layout.specs.Layout.{endIn};
+ghost use Rattle.resolved.specs.Layout.{endIn};
 ghost use Rattle.copy_moves.specs.Running.{nowAt};
 ghost use Rattle.copy_moves.specs.Begun.{Beginnable, BegunIn};
 ghost use Rattle.copy_moves.specs.Looked.{Lookable, lookedUp};

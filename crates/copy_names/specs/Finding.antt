@@ -25,7 +25,7 @@ use Rattle.frames.specs.Related.{joined, designatorFor, designatorAt, Related, 
 use Rattle.frames.specs.Find.{as-many-decls, designates-name}
 use Rattle.coordinates.specs.Next.{Resolved}
 use Rattle.arrays.specs.Holds.{cellOf}
-use Rattle.layout.specs.Layout.{cellFrom}
+use Rattle.resolved.specs.Layout.{cellFrom}
 use Rattle.copy_names.specs.Owner.{ownerIn, cellIn, Sorted, NewNames}
 use Rattle.copy_names.specs.Search.{owner-is}
 

@@ -10,7 +10,7 @@ use lib.ListN.{length, getD, getElem?}
 use Rattle.language.specs.Basics.{upFrom}
 use Rattle.language.specs.Text.{blockDecls, declaredNames}
 use Rattle.language.specs.Machine.{Activation}
-use Rattle.layout.specs.Layout.{cellFrom}
+use Rattle.resolved.specs.Layout.{cellFrom}
 
 -- the innermost activation, up to `live`, whose first new name is not above x
 unfoldable pub ownerIn : List ℕ → ℕ → ℕ → ℕ

@@ -22,7 +22,7 @@ use Rattle.run_moves.specs.declared.Ask.the-variants.{Query}
 use Rattle.run_moves.specs.declared.Move.the-variants.{On, Table as Asks, Jump, Enter}
 use Rattle.run_moves.specs.Effects.{effectOf, wordsOf, sameKinds}
 use Rattle.run_moves.specs.Acting.{Finding, Scene, field, valueOf, moves, rewrites, operationOf, setAll, arithmeticMove, noRoom, argumentsAgree, doCallFormal, doConstant as actConstant, doArithmetic as actArithmetic, doGoto as actGoto, doBranch as actBranch, doBlock as actBlock, argumentsFrom as argumentsFound, doCall as actCall, doChange as actChange, doQuery as actQuery}
-use Rattle.layout.specs.Layout.{operationIn, formalsIn, cellFrom, activationIn, heldFrom}
+use Rattle.resolved.specs.Layout.{operationIn, formalsIn, cellFrom, activationIn, heldFrom}
 use Rattle.run_statements.specs.Pieces.{moveAfter, blockMove}
 use Rattle.copy_statements.specs.Doing.{Copy, text, cell, target, valueAt, doConstant, doArithmetic, doGoto, doBranch, doBlock, argumentsFrom, differs, doCall, doChange, doQuery}
 

@@ -23,7 +23,7 @@ use Rattle.resolved.specs.Resolved.{direct, chosen, nameWord, resolvedAction, r
 use Rattle.run_moves.specs.Acting.{Finding, Scene, field, operations, opOf, acting, happens as acts}
 use Rattle.steps.specs.Finding.{finds-by-links}
 use Rattle.steps.specs.Calls.{body-bounds}
-use Rattle.layout.specs.Layout.{operationIn}
+use Rattle.resolved.specs.Layout.{operationIn}
 use Rattle.run_statements.specs.Pieces.{FormalsBefore}
 use Rattle.copy_fields.specs.Governed.{governedAction, governedStmt}
 use Rattle.copy_texts.specs.Texts.{reading}

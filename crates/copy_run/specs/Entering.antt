@@ -31,7 +31,7 @@ use Rattle.steps.specs.Means.{Follows, EntersAt}
 use Rattle.steps.specs.Here.{many, downward, encloses-here}
 use Rattle.steps.specs.Reads.{at-within}
 use Rattle.steps.specs.Entered.{BodyHead, body-head, entered}
-use Rattle.layout.specs.Layout.{cellFrom}
+use Rattle.resolved.specs.Layout.{cellFrom}
 use Rattle.copy_names.specs.Owner.{NewNames}
 use Rattle.copy_names.specs.Finding.{new-names-more}
 use Rattle.copy_texts.specs.Texts.{renewed, Copied, notedFrom, Texts, Aims, Looks}

@@ -24,7 +24,7 @@ use Rattle.arrays.specs.Found.{named-celled}
 use Rattle.run_moves.specs.Acting.{Finding, field}
 use Rattle.steps.specs.Here.{many, numbered-here, downward}
 use Rattle.steps.specs.Finding.{byFirst, firstByLinks, finds-by-links}
-use Rattle.layout.specs.Layout.{cellFrom, activationIn, heldFrom}
+use Rattle.resolved.specs.Layout.{cellFrom, activationIn, heldFrom}
 use Rattle.copy_names.specs.Owner.{cellIn}
 use Rattle.copy_texts.specs.Texts.{reading}
 use Rattle.copy_statements.specs.Doing.{text, cell, target}

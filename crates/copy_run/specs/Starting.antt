@@ -38,7 +38,7 @@ use Rattle.copy_fields.specs.Standing.{declared-governed}
 use Rattle.steps.specs.Standing.{Standing}
 use Rattle.steps.specs.Reads.{begin-reads}
 use Rattle.steps.specs.Loop.{begins}
-use Rattle.layout.specs.Layout.{namesIn, endIn, firstIn}
+use Rattle.resolved.specs.Layout.{namesIn, endIn, firstIn}
 use Rattle.copy_machine.specs.Start.{StartsAnew, starts-anew, start-invariant}
 use Rattle.copy_names.specs.Owner.{NewNames}
 use Rattle.copy_names.specs.Finding.{new-names-start}

@@ -21,7 +21,7 @@ use Rattle.resolved.specs.Resolved.{direct, chosen, nameWord, headWord, header,
 use Rattle.run_moves.specs.declared.Ask.the-variants.{Add, Remove}
 use Rattle.run_moves.specs.Acting.{Finding, Scene, Happened, field, operations, operationOf, constant-op, block-op, opOf, acting, happens as acts, doArithmetic as actArithmetic}
 use Rattle.steps.specs.Values.{operation-of}
-use Rattle.layout.specs.Layout.{operationIn}
+use Rattle.resolved.specs.Layout.{operationIn}
 use Rattle.copy_fields.specs.Governed.{governedAction, governedStmt}
 use Rattle.copy_texts.specs.Texts.{reading}
 use Rattle.copy_statements.specs.Doing.{Copy, text, target, Mark, arithmetic, branch, constant, goto, block, pair, unpair, query, markOf, happens, doing}

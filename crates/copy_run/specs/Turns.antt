@@ -19,7 +19,7 @@ use Rattle.run_moves.specs.declared.Ask.{Ask}
 use Rattle.run_moves.specs.Acting.{Happened, answer}
 use Rattle.table_pairs.specs.declared.Change.{Change}
 use Rattle.table_pairs.specs.declared.Change.the-variants.{Done as Count, Stopped as Halted}
-use Rattle.layout.specs.Layout.{endIn}
+use Rattle.resolved.specs.Layout.{endIn}
 use Rattle.run_statements.specs.Answers.{Answered, turnAfter, done-goes, stopped-halts}
 use Rattle.steps.specs.Means.{GoesOn, JumpsTo, EntersAt, AnswerMeans, MoveMeans}
 use Rattle.steps.specs.Here.{many, within-limit, live-few}

@@ -17,7 +17,7 @@ use Rattle.run_moves.specs.declared.Move.{Move}
 use Rattle.run_moves.specs.declared.Move.the-variants.{On, Table as Asks, Jump, Enter, Stop}
 use Rattle.run_moves.specs.Effects.{effectOf, wordsOf, sameKinds}
 use Rattle.run_moves.specs.Acting.{Scene, Happened, moves, rewrites, operationOf, setAll}
-use Rattle.layout.specs.Layout.{operationIn, formalsIn, cellFrom, activationIn, heldFrom}
+use Rattle.resolved.specs.Layout.{operationIn, formalsIn, cellFrom, activationIn, heldFrom}
 use Rattle.run_statements.specs.Pieces.{moveAfter, blockMove}
 use Rattle.copy_names.specs.Owner.{cellIn}
 

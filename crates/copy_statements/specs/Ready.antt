@@ -5,7 +5,7 @@ use mathlib.Core.Path.{_≡_}
 use lib.Dec.{eqb}
 use lib.ListN.{length, getD}
 use Rattle.run_moves.specs.Acting.{Scene}
-use Rattle.layout.specs.Layout.{operationIn}
+use Rattle.resolved.specs.Layout.{operationIn}
 use Rattle.run_statements.specs.Pieces.{FormalsBefore}
 use Rattle.copy_names.specs.Owner.{Sorted}
 use Rattle.copy_statements.specs.Doing.{Copy, text, cell, target, Mark, arithmetic, branch, constant, call, goto, block, pair, unpair, query, markOf}

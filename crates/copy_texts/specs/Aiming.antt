@@ -21,7 +21,7 @@ use Rattle.coordinates.specs.Chain.{enclosing, outline, SameOutlines}
 use Rattle.coordinates.specs.Search.{coordinate-here}
 use Rattle.coordinates.specs.Declared.{level-here}
 use Rattle.resolved.specs.Resolved.{placeOf, endPlace, positionIn, levelIn, targetIn, direct, declTarget, nameWord}
-use Rattle.layout.specs.Layout.{cellFrom}
+use Rattle.resolved.specs.Layout.{cellFrom}
 use Rattle.copy_texts.specs.Texts.{Aims, notedFrom}
 use Rattle.copy_texts.specs.Readings.{Narrow, word-says, position-here, position-there, owned}
 use Rattle.copy_texts.specs.Renewing.{Governs, Inside, Declared}

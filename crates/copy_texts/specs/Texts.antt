@@ -15,7 +15,7 @@ use Rattle.frames.specs.Frame.{Frame}
 use Rattle.frames.specs.Related.{joined}
 use Rattle.coordinates.specs.Chain.{enclosureOf}
 use Rattle.resolved.specs.Resolved.{placeOf, endPlace, levelIn, positionIn, targetIn, direct, declTarget, nameWord}
-use Rattle.layout.specs.Layout.{cellFrom}
+use Rattle.resolved.specs.Layout.{cellFrom}
 
 -- What a field of a copy is: a name that the copy's block, or one around it, declares reads as that activation has it; all else is as written.
 unfoldable pub reading : List Replacement → ℕ → ℕ → ℕ

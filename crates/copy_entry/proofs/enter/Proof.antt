@@ -3,7 +3,7 @@ use Prim.Native.Nat.{_+_, _≤_, _<_}
 use native.Mathlib.Omega.{arith}
 use mathlib.Core.Path.{_≡_, ap, _∙_}
 use Rattle.resolved.specs.Resolved.{levelIn}
-use Rattle.layout.specs.Layout.{formalsIn, namesIn, endIn, firstIn}
+use Rattle.resolved.specs.Layout.{formalsIn, namesIn, endIn, firstIn}
 use Rattle.copy_entry.specs.Anew.{endAt}
 use Rattle.copy_entry.proofs.Entering.{Head, room-small, few-names, renewable, copyable, entered}
 use borrow.Author.Needs.{needs}

@@ -1,6 +1,6 @@
 -- `begin` meets its contract.
 use mathlib.Core.Path.{_≡_, ap, _∙_}
-use Rattle.layout.specs.Layout.{namesIn, endIn, firstIn}
+use Rattle.resolved.specs.Layout.{namesIn, endIn, firstIn}
 use Rattle.copy_entry.specs.Anew.{endAt}
 use Rattle.copy_moves.proofs.Beginning.{start-renewable, start-copyable, begun}
 use borrow.Author.Needs.{needs}

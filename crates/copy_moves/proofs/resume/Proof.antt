@@ -2,7 +2,7 @@
 use Prim.Native.Nat.{ℕ, _+_}
 use mathlib.Core.Path.{_≡_, ap, _∙_}
 use lib.ListN.{getD}
-use Rattle.layout.specs.Layout.{endIn}
+use Rattle.resolved.specs.Layout.{endIn}
 use borrow.Author.Needs.{needs}
 use Rattle.copy_moves.proofs.resume.Statement.{statement}
 use Rattle.copy_moves.proofs.resume.Tie as tie

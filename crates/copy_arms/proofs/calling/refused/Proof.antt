@@ -4,7 +4,7 @@ use mathlib.Core.Path.{_≡_, sym, ap, _∙_}
 use borrow.Author.Tests.{eq-eqb}
 use lib.ListN.{getD}
 use borrow.Author.Needs.{needs}
-use Rattle.layout.specs.Layout.{operationIn, formalsIn}
+use Rattle.resolved.specs.Layout.{operationIn, formalsIn}
 use Rattle.run_statements.specs.Pieces.{FormalsBefore}
 use Rattle.copy_arms.proofs.Entered.{no-formal, number-differs, kinds-tell}
 use Rattle.copy_arms.proofs.calling.refused.Statement.{statement}
