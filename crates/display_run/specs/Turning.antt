@@ -1,6 +1,6 @@
 -- What a step comes to (`Turned`), what a run begins with (`Beginning`), and what it ends with (`Ended`): the frame machine's result, with the arrays
 -- that hold its stack.
-use Prim.Native.Nat.{ℕ, _/_, _%_, _≤_, _<_}
+use Prim.Native.Nat.{ℕ, _≤_, _<_}
 use mathlib.Core.Bool.{true}
 use mathlib.Core.List.{List}
 use mathlib.Core.Path.{_≡_}
@@ -11,6 +11,7 @@ use Rattle.language.specs.Table.{right}
 use Rattle.grammar.specs.Rules.{Keeps}
 use Rattle.frames.specs.Frame.{Result}
 use Rattle.resolved.specs.Resolved.{resolvedOf, Covers}
+use Rattle.layout.specs.Layout.{endIn, firstIn}
 use Rattle.run_state.specs.declared.Registers.{Registers}
 use Rattle.run_state.specs.declared.Turn.{Turn}
 use Rattle.run_state.specs.declared.Turn.the-variants.{Went, Finished, Stopped}
@@ -47,7 +48,7 @@ module _ {code : List ℕ} {limit group : ℕ} {words : List ℤ} {blocks nexts 
 
 -- where it begins
 abbrev pub startBy : List ℕ → ℕ → Registers
-startBy code pairs = record { live = 0; at = getD code 1 0 / 65536; end = getD code 1 0 % 65536; pairs = pairs; level = 0; fresh = 0 }
+startBy code pairs = record { live = 0; at = firstIn (getD code 1 0); end = endIn (getD code 1 0); pairs = pairs; level = 0; fresh = 0 }
 
 -- what it begins with: the resolved script of a program that keeps the rules, arrays of zeros, limits in range and a right table
 pub record Beginning (code : List ℕ) (words : List ℤ) (blocks nexts links : List ℕ) (table : List ℤ) (pairs group limit : ℕ) : Type 0 where

@@ -5,6 +5,8 @@ use display_moves::enter;
 use display_moves::jump;
 use display_moves::leave;
 use display_moves::note_place;
+use layout::end_of;
+use layout::first_of;
 use run_moves::Ask;
 use run_moves::Move;
 use run_sheet::designator_of;
@@ -20,7 +22,7 @@ use run_statements::after;
 use run_words::code_at;
 use table_pairs::Change;
 ghost use mathlib.Core.Path.{_≡_};
-ghost use Prim.Native.Nat.{_+_, _/_, _%_, _<_};
+ghost use Prim.Native.Nat.{_<_};
 ghost use lib.ListN.{set};
 ghost use Rattle.frames.specs.Frame.{designates, frameRun, frameStart};
 ghost use Rattle.run_moves.specs.Acting.{answer};
@@ -195,8 +197,8 @@ fn begin(code: &[u32; 4096], pairs: usize) -> Registers
     let bounds = code_at(code, 1);
     Registers {
         live: 0,
-        at: bounds / 65536,
-        end: bounds % 65536,
+        at: first_of(bounds),
+        end: end_of(bounds),
         pairs,
         level: 0,
         fresh: 0,
