@@ -9,7 +9,7 @@ use lib.IntN.{ℤ, pos}
 use lib.ListN.{getD, set}
 use lib.Signed.{mag}
 use mir.Syntax.{w32}
-use mir.Val.{ofZ}
+use mir.Val.{toZ, ofZ}
 use Rattle.language.specs.Text.{Operation, plus, minus, less}
 use Rattle.language.specs.Encoding.{signed}
 use Rattle.language.specs.Machine.{compute}
@@ -19,7 +19,7 @@ use Rattle.run_moves.specs.declared.Ask.the-variants.{Query}
 use Rattle.run_moves.specs.declared.Effect.{Effect}
 use Rattle.run_moves.specs.declared.Move.{Move}
 use Rattle.run_moves.specs.declared.Move.the-variants.{On, Table as Asks, Jump, Enter, Stop}
-use Rattle.run_moves.specs.Effects.{effectOf, wordsOf, sameKinds}
+use Rattle.run_moves.specs.Effects.{effectOf, wordsOf, sameKinds, handedWord}
 use Rattle.run_moves.specs.Acting.{Finding, Scene, sceneBy, Happened, setAll, argumentsFrom, operationOf}
 use Rattle.run_moves.specs.Acting.{doConstant, doArithmetic, doGoto, doBranch, doCall, argumentsAgree, doCallFormal, doChange, doQuery}
 use Rattle.resolved.specs.Resolved.{direct, formalIn, levelIn, positionIn, targetIn}
@@ -27,9 +27,9 @@ use Rattle.arrays.specs.Found.{heldBy, cellBy}
 use Rattle.layout.specs.Layout.{activationIn, cellIn, leadIn, formalsIn}
 use Rattle.run_statements.specs.Pieces.{only-words, moveAfter, enteredBy, FormalsBefore}
 use Rattle.run_statements.specs.Scenes.{Done}
-use Rattle.run_statements.specs.Words.{is-zero, not-zero, is-direct, is-formal, cell-direct, cell-formal, home-direct, target-direct, home-formal, target-formal}
+use Rattle.run_statements.specs.Words.{read-back, is-zero, not-zero, is-direct, is-formal, cell-direct, cell-formal, home-direct, target-direct, home-formal, target-formal, handed-is}
 use Rattle.run_statements.specs.Doing.{direct-cell, constant-done, is-plus, is-minus, is-less, arithmetic-done, compare-done, goto-done, branch-not, branch-goes}
-use Rattle.run_statements.specs.Doing.{no-room, entered, arguments-alike, call-is, number-differs, number-same, call-refused, call-agreed, change-done, query-done}
+use Rattle.run_statements.specs.Doing.{no-room, entered, arguments-alike, arguments-end, arguments-next, kept-below, call-is, number-differs, number-same, call-refused, call-agreed, change-done, query-done}
 use Rattle.display_run.specs.Finding.{firstCell, ownCell, byDisplay, Reachable, Direct, ThroughFormal, TwoNames, Operands, ArgumentsReachable}
 
 -- Names
@@ -219,3 +219,45 @@ module _ (code : List ℕ) (words : List ℤ) (display : List ℕ) (at : ℕ) wh
             called-held t p q {m} {ws} did =
                 let e = q ∙ ap (λ (n : ℕ). activationIn n) p ∙ home-held read is d in
                 subst (λ (x : Happened). Done x m ws) (call-is F s e body-is ∙ call-agreed F s body-is (agree (not-false a t))) did
+
+-- Arguments handed on: those still to come give all of them, and what lies below the next activation is as it was
+
+pub record Handing (code : List ℕ) (words : List ℤ) (display : List ℕ) (live at count : ℕ) (now : List ℤ) (i : ℕ) : Type 0 where
+  few : i ≤ count
+  kept : (k : ℕ) → k < 32 * live + 32 → getD now k (pos 0) ≡ getD words k (pos 0)
+  rest : setAll now (32 * live + 32 + i) (argumentsFrom (F code words display at) (o code words display at) (at + i) (count - i)) ≡
+      setAll words (32 * live + 32) (argumentsFrom (F code words display at) (o code words display at) at count)
+
+module _ {code : List ℕ} {words : List ℤ} {display : List ℕ} {live at count : ℕ} where
+  pub handing-start : Handing code words display live at count words 0
+  handing-start =
+      let f : 32 * live + 32 + 0 ≡ 32 * live + 32 = omega arith in
+      let p : at + 0 ≡ at = omega arith in
+      let n : count - 0 ≡ count = omega arith in
+      record { few = omega arith; kept = λ k h. refl; rest = rw (f, p, n) }
+
+  module _ {now : List ℤ} {i : ℕ} (done : Handing code words display live at count now i) where
+    pub handing-end : count ≤ i → now ≡ setAll words (32 * live + 32) (argumentsFrom (F code words display at) (o code words display at) at count)
+    handing-end h = arguments-end (F code words display at) (o code words display at) now (32 * live + 32) at count i h ∙ done .rest
+
+    -- the next argument, by its word and its own cell as they were read
+    module _ {v c : ℕ} (more : i < count) (reachable : ArgumentsReachable code display live at count) (read : v ≡ getD code (at + i) 0) (own : c ≡ ownCell display v) where
+      below : c < 32 * live + 32
+      below = let e = rw read at own in omega (arith, e, reachable .below i more)
+
+      pub cell-below : live ≤ 254 → c < 8192
+      cell-below h = omega (arith, below)
+
+      pub handing-step : {z : ℤ} → mag z < 2147483648 → z ≡ handedWord now v c
+          → Handing code words display live at count (set now (32 * live + 32 + i) (toZ w32 (ofZ w32 z))) (i + 1)
+      handing-step {z} small is =
+          let u = getD code (at + i) 0 in
+          let e = rw read at own in
+          let l : ownCell display u < 32 * live + 32 = reachable .below i more in
+          let h = rw (own, read) at is in
+          let q = read-back z small ∙ h ∙ handed-is words (firstCell display u) u now (done .kept (ownCell display u) l) in
+          record {
+            few = omega arith;
+            kept = kept-below now words (32 * live + 32) i _ (done .kept);
+            rest = arguments-next (F code words display at) (o code words display at) now (32 * live + 32) at count i more q ∙ done .rest;
+          }

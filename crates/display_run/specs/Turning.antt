@@ -44,6 +44,11 @@ module _ {code : List ℕ} {limit group : ℕ} {words : List ℤ} {blocks nexts 
   Turned (Stopped c) words′ blocks′ nexts′ links′ display′ table′ =
       Stops (limitsBy limit group) (w .standing .stack) c (arraysOf words blocks nexts links display table) (arraysOf words′ blocks′ nexts′ links′ display′ table′)
 
+-- from whichever state in which the engine can stand
+pub record TurnsTo (code : List ℕ) (limit group : ℕ) (words : List ℤ) (blocks nexts links display : List ℕ) (table : List ℤ) (here : Registers)
+    (t : Turn) (words′ : List ℤ) (blocks′ nexts′ links′ display′ : List ℕ) (table′ : List ℤ) : Type 0 where
+  pub turned : (w : Running code limit group words blocks nexts links display table here) → Turned w t words′ blocks′ nexts′ links′ display′ table′
+
 -- The run of a program
 
 -- where it begins

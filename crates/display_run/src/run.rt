@@ -30,7 +30,7 @@ ghost use Rattle.table_pairs.specs.Outcomes.{tableOf, changeOf, wordsAfter};
 ghost use Rattle.run_state.specs.Scenes.{limitsBy};
 ghost use Rattle.run_state.specs.Ended.{RunFrom};
 ghost use Rattle.display_moves.specs.Running.{Running, Looking, Placed};
-ghost use Rattle.display_run.specs.Turning.{Turned, Beginning, Ended, startBy};
+ghost use Rattle.display_run.specs.Turning.{TurnsTo, Beginning, Ended, startBy};
 
 // What the table answers.
 fn asked(
@@ -69,8 +69,8 @@ pub fn step(
 ) -> Turn
     requires { ⌜ Running (now code) limit group (now words) (now blocks) (now nexts) (now links) (now display) (now table) here ⌝ }
     ensures { λ r.
-        ⌜ ((w : Running (now (code .entry)) limit group (now (words .entry)) (now (blocks .entry)) (now (nexts .entry)) (now (links .entry)) (now (display .entry)) (now (table .entry)) here)
-        → Turned w r (now (words .exit)) (now (blocks .exit)) (now (nexts .exit)) (now (links .exit)) (now (display .exit)) (now (table .exit))) ⌝ }
+        ⌜ TurnsTo (now (code .entry)) limit group (now (words .entry)) (now (blocks .entry)) (now (nexts .entry)) (now (links .entry)) (now (display .entry)) (now (table .entry)) here
+        r (now (words .exit)) (now (blocks .exit)) (now (nexts .exit)) (now (links .exit)) (now (display .exit)) (now (table .exit)) ⌝ }
 {
     let live = here.live;
     let at = here.at;

@@ -32,7 +32,7 @@ enter-requires c κs =
 
 pub step-spec : {M : Type 1} → statement M
 step-spec =
-    tie.close (tie.spec (λ c w. search needs) (λ c κs. search (leave-ready, above-zero)) (λ c w. search (left-on, above-zero))
+    tie.close (tie.spec (λ c. record { turned = λ w. search needs }) (λ c κs. search (leave-ready, above-zero)) (λ c. record { turned = λ w. search (left-on, above-zero) })
     (λ c κs. search doing) (λ c. search needs) (λ c. search needs) asked-requires (λ c κs. search needs) (λ c. search needs)
-    (λ c κs. search jump-ready) (λ c. search needs) enter-requires (λ c. search needs) (λ c w. search went-on) (λ c. search needs)
-    (λ c w. search answered-on) (λ c w. search jumped-on) (λ c w. search entered-on) (λ c w. search stopped-at))
+    (λ c κs. search jump-ready) (λ c. search needs) enter-requires (λ c. search needs) (λ c. record { turned = λ w. search went-on }) (λ c. search needs)
+    (λ c. record { turned = λ w. search answered-on }) (λ c. record { turned = λ w. search jumped-on }) (λ c. record { turned = λ w. search entered-on }) (λ c. record { turned = λ w. search stopped-at }))
