@@ -1,6 +1,6 @@
 -- Leaving, jumping and entering, of an engine that runs (`Running`). `restorable`, `restored`: what putting the display right asks, and what it comes
 -- to, for an activation that is live; `leaves-to`, `jumps-to`, `enters-to`: the state of the arrays after each move, from what was read and written.
-use Prim.Native.Nat.{ℕ, suc, _+_, _-_, _*_, _/_, _%_, _≤_, _<_}
+use Prim.Native.Nat.{ℕ, suc, _+_, _-_, _*_, _≤_, _<_}
 use native.Mathlib.Omega.{arith}
 use mathlib.Core.List.{List, _∷_}
 use mathlib.Core.Option.{some}
@@ -16,12 +16,13 @@ use Rattle.frames.specs.Numbered.{numbered-suc, numbered-index}
 use Rattle.coordinates.specs.Enclosure.{Enclosing, enclosed, Enclosure, Encloses}
 use Rattle.coordinates.specs.Chain.{enclosing, enclosureOf, levelOf, displayFrom}
 use Rattle.coordinates.specs.Levels.{frame-encloses}
-use Rattle.resolved.specs.Resolved.{placeOf, endPlace}
+use Rattle.resolved.specs.Resolved.{placeOf, endPlace, levelIn}
 use Rattle.resolved.specs.Places.{block-fields, end-is, end-bound, place-bound, enclosed-formed}
 use Rattle.arrays.specs.Holds.{Shows}
 use Rattle.arrays.specs.Displays.{ShowsFrom, holds-links, shows-innermost}
 use Rattle.arrays.specs.Reading.{level-read, end-read}
 use Rattle.run_moves.specs.Effects.{Cleared}
+use Rattle.layout.specs.Layout.{formalsIn, namesIn, endIn, firstIn, cellFrom}
 use Rattle.steps.specs.Means.{JumpsTo, EntersAt}
 use Rattle.steps.specs.Here.{many, numbered-here, live-few, downward, encloses-here}
 use Rattle.steps.specs.Loop.{leaves, jumped}
@@ -32,10 +33,10 @@ use Rattle.display_moves.specs.Running.{Running, Succeeds, Restorable, L
 
 -- what is read of an activation's block
 abbrev pub levelAt : List ℕ → List ℕ → ℕ → ℕ
-levelAt code blocks k = getD code (getD blocks k 0) 0 / 256 % 256
+levelAt code blocks k = levelIn (getD code (getD blocks k 0) 0)
 
 abbrev pub endAt : List ℕ → List ℕ → ℕ → ℕ
-endAt code blocks k = getD code (getD blocks k 0 + 1) 0 % 65536
+endAt code blocks k = endIn (getD code (getD blocks k 0 + 1) 0)
 
 -- an enclosed block's first three words stand in the script
 within-script : (t : Block) → Keeps t → (e : Enclosing) (es : Enclosure) → Encloses t (e ∷ es) → placeOf (blockAt (e .text)) + 3 ≤ 4096
@@ -171,14 +172,21 @@ module _ {code : List ℕ} {limit group : ℕ} {words : List ℤ} {blocks nexts 
   abbrev around : Enclosure
   around = enclosureOf (w .standing .stack .frames) (suc link)
 
+  -- the block's first two words
+  abbrev head : ℕ
+  head = getD code body 0
+
+  abbrev bounds : ℕ
+  bounds = getD code (body + 1) 0
+
   -- what entering reads and writes is within its arrays
   pub record Fits : Type 0 where
     pub body-within : body + 3 ≤ 4096
     pub back-within : back ≤ 4096
     pub room : here .live + 1 < 256
     pub link-high : link ≤ here .live
-    pub formals-few : getD code body 0 / 65536 % 256 ≤ 32
-    pub names-few : getD code body 0 / 16777216 ≤ 32
+    pub formals-few : formalsIn head ≤ 32
+    pub names-few : namesIn head ≤ 32
 
   pub entry-fits : Fits
   unfolding enclosing
@@ -224,37 +232,39 @@ module _ {code : List ℕ} {limit group : ℕ} {words : List ℤ} {blocks nexts 
   abbrev fresh : ℕ
   fresh = here .live + 1
 
-  pub enters-to : (words″ : List ℤ) → Cleared words′ (32 * fresh + getD code body 0 / 65536 % 256) (32 * fresh + getD code body 0 / 16777216) words″
+  pub enters-to : (words″ : List ℤ) → Cleared words′ (cellFrom fresh (formalsIn head)) (cellFrom fresh (namesIn head)) words″
       → (display′ : List ℕ) → length display′ ≡ 256 → ShowsFrom (w .standing .stack .frames) (suc link) display′
-      → (r : Registers) → r .live ≡ fresh → r .at ≡ getD code (body + 1) 0 / 65536 → r .end ≡ getD code (body + 1) 0 % 65536 → r .pairs ≡ here .pairs
+      → (r : Registers) → r .live ≡ fresh → r .at ≡ firstIn bounds → r .end ≡ endIn bounds → r .pairs ≡ here .pairs
       → Succeeds w words″ (set blocks fresh body) (set nexts (here .live) back) (set links fresh link)
-      (set display′ (getD code body 0 / 256 % 256) (32 * fresh)) table r
+      (set display′ (levelIn head) (32 * fresh)) table r
   enters-to words″ cleared display′ long shows r live at end pairs =
       let h = body-head (w .standing) body link back words′ j in
-      let c : Cleared words′ (32 * fresh + length (j .formals)) (32 * fresh + (length (j .formals) + length (blockDecls (j .text)))) words″ =
-      subst (λ m. Cleared words′ (32 * fresh + length (j .formals)) (32 * fresh + m) words″) (h .names)
-      (subst (λ n. Cleared words′ (32 * fresh + n) (32 * fresh + getD code body 0 / 16777216) words″) (h .formals) cleared) in
+      let c : Cleared words′ (cellFrom fresh (length (j .formals))) (cellFrom fresh (length (j .formals) + length (blockDecls (j .text)))) words″ =
+      subst (λ (T : Type 0). T) (λ i. Cleared words′ (cellFrom fresh (h .formals i)) (cellFrom fresh (h .names i)) words″) cleared in
       let e = entered (w .standing) body link back words′ j words″ c in
       let level = h .level in
       subst (λ (n : Registers). Succeeds w words″ (set blocks fresh body) (set nexts (here .live) back) (set links fresh link)
-      (set display′ (getD code body 0 / 256 % 256) (32 * fresh)) table n)
+      (set display′ (levelIn head) (32 * fresh)) table n)
       (λ i. goesTo r (sym live i) ((sym (h .first) ∙ sym at) i) ((sym (h .ends) ∙ sym end) i) (sym pairs i))
       (record {
         running = record {
           standing = e .standing;
           shows = subst (λ k. Shows (e .standing .stack .frames) (set display′ k (32 * fresh))) (sym level) (e .shows display′ (omega arith) shows);
-          display-long = length-set display′ (getD code body 0 / 256 % 256) (32 * fresh) ∙ long;
+          display-long = length-set display′ (levelIn head) (32 * fresh) ∙ long;
         };
         follows = e .follows;
       })
 
   -- the same of the numbers as they were read and written
-  pub enters-as : (head bounds block next up entry : ℕ) → head ≡ getD code body 0 → bounds ≡ getD code (body + 1) 0 → block ≡ body → next ≡ back
-      → up ≡ link → entry ≡ 32 * fresh
-      → (words″ : List ℤ) → Cleared words′ (32 * fresh + head / 65536 % 256) (32 * fresh + head / 16777216) words″
-      → (display′ : List ℕ) → length display′ ≡ 256 → ShowsFrom (w .standing .stack .frames) (suc link) display′
-      → Succeeds w words″ (set blocks fresh block) (set nexts (here .live) next) (set links fresh up) (set display′ (head / 256 % 256) entry) table
-      (goesTo here fresh (bounds / 65536) (bounds % 65536) (here .pairs))
-  enters-as head bounds block next up entry e₁ e₂ e₃ e₄ e₅ e₆ words″ cleared display′ long shows =
-      rw (e₁, e₂, e₃, e₄, e₅, e₆) (enters-to words″ (rw e₁ at cleared) display′ long shows
-      (goesTo here fresh (getD code (body + 1) 0 / 65536) (getD code (body + 1) 0 % 65536) (here .pairs)) refl refl refl refl)
+  module _ {h b : ℕ} (head-read : h ≡ head) (bounds-read : b ≡ bounds) where
+    pub enters-as : {block next up entry level formals names from to at end : ℕ} → block ≡ body → next ≡ back
+        → up ≡ link → entry ≡ 32 * fresh
+        → level ≡ levelIn h → formals ≡ formalsIn h → names ≡ namesIn h → from ≡ cellFrom fresh formals → to ≡ cellFrom fresh names → at ≡ firstIn b → end ≡ endIn b
+        → {words″ : List ℤ} → Cleared words′ from to words″
+        → (display′ : List ℕ) → length display′ ≡ 256 → ShowsFrom (w .standing .stack .frames) (suc link) display′
+        → Succeeds w words″ (set blocks fresh block) (set nexts (here .live) next) (set links fresh up) (set display′ level entry) table
+        (goesTo here fresh at end (here .pairs))
+    enters-as e₁ e₂ e₃ e₄ level formals names from to at end {words″} cleared display′ long shows =
+        let c = rw (from, to, formals, names, head-read) at cleared in
+        rw (e₁, e₂, e₃, e₄, level, at, end, head-read, bounds-read) (enters-to words″ c display′ long shows
+        (goesTo here fresh (firstIn bounds) (endIn bounds) (here .pairs)) refl refl refl refl)

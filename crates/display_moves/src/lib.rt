@@ -1,37 +1,46 @@
 // Entering, leaving and jumping: the activations' records and the display are put right. Nothing is copied aside: the display is written
 // along the links of the activation that becomes the innermost one, until an entry fits.
+use layout::SHARE;
+use layout::cell_at;
+use layout::end_of;
+use layout::first_of;
+use layout::formals_of;
+use layout::level_of;
+use layout::names_of;
 use run_state::Registers;
 use run_state::narrow;
 use run_state::wide;
 use run_words::clear;
 use run_words::code_at;
 ghost use mathlib.Core.Path.{_≡_};
-ghost use Prim.Native.Nat.{suc, _+_, _/_, _%_, _<_};
+ghost use Prim.Native.Nat.{suc, _+_, _<_};
 ghost use lib.ListN.{length, getD, set};
+ghost use Rattle.resolved.specs.Resolved.{levelIn};
 ghost use Rattle.arrays.specs.Displays.{ShowsFrom};
 ghost use Rattle.display_moves.specs.Running.{Restorable, Linkable, LeaveReady, JumpReady, EnterReady, Succeeds, Placed};
+ghost use Rattle.display_moves.specs.Moving.{levelAt, endAt};
 
 // The level of the block at a place.
 fn level_at(code: &[u32; 4096], block: usize) -> usize
     requires { ⌜ block < 4096 ⌝ }
-    ensures { λ r. ⌜ (r ≡ getD (now (code .entry)) block 0 / 256 % 256) × (r < 256) ⌝ }
+    ensures { λ r. ⌜ (r ≡ levelIn (getD (now (code .entry)) block 0)) × (r < 256) ⌝ }
 {
-    code_at(code, block) / 256 % 256
+    level_of(code_at(code, block))
 }
 
-fn level_of(code: &[u32; 4096], blocks: &[u16; 256], activation: usize) -> usize
+fn activation_level(code: &[u32; 4096], blocks: &[u16; 256], activation: usize) -> usize
     requires { ⌜ (activation < 256) × (getD (now blocks) activation 0 < 4096) ⌝ }
-    ensures { λ r. ⌜ (r ≡ getD (now (code .entry)) (getD (now (blocks .entry)) activation 0) 0 / 256 % 256) × (r < 256) ⌝ }
+    ensures { λ r. ⌜ (r ≡ levelAt (now (code .entry)) (now (blocks .entry)) activation) × (r < 256) ⌝ }
 {
     level_at(code, wide(blocks[activation]))
 }
 
 // Where the text of an activation's block ends.
-fn end_of(code: &[u32; 4096], blocks: &[u16; 256], activation: usize) -> usize
+fn activation_end(code: &[u32; 4096], blocks: &[u16; 256], activation: usize) -> usize
     requires { ⌜ (activation < 256) × (getD (now blocks) activation 0 + 1 < 4096) ⌝ }
-    ensures { λ r. ⌜ r ≡ getD (now (code .entry)) (getD (now (blocks .entry)) activation 0 + 1) 0 % 65536 ⌝ }
+    ensures { λ r. ⌜ r ≡ endAt (now (code .entry)) (now (blocks .entry)) activation ⌝ }
 {
-    code_at(code, wide(blocks[activation]) + 1) % 65536
+    end_of(code_at(code, wide(blocks[activation]) + 1))
 }
 
 // The display becomes that of an activation of a level; the entries up to `sure` are those of the innermost activation before.
@@ -50,11 +59,11 @@ fn restore(
     let mut l = level;
     while 0 < l {
         if l <= sure {
-            if wide(display[l]) == 32 * a {
+            if wide(display[l]) == SHARE * a {
                 return;
             }
         }
-        display[l] = narrow(32 * a);
+        display[l] = narrow(SHARE * a);
         a = wide(links[a]);
         l -= 1;
     }
@@ -74,12 +83,13 @@ pub fn leave(
 {
     let above = here.live;
     let live = above - 1;
-    let sure = level_of(code, blocks, above);
-    restore(links, display, live, level_of(code, blocks, live), sure);
+    let sure = activation_level(code, blocks, above);
+    let level = activation_level(code, blocks, live);
+    restore(links, display, live, level, sure);
     Registers {
         live,
         at: wide(nexts[live]),
-        end: end_of(code, blocks, live),
+        end: activation_end(code, blocks, live),
         ..here
     }
 }
@@ -101,12 +111,13 @@ pub fn jump(
     if home == live {
         return Registers { at, ..here };
     }
-    let sure = level_of(code, blocks, live);
-    restore(links, display, home, level_of(code, blocks, home), sure);
+    let sure = activation_level(code, blocks, live);
+    let level = activation_level(code, blocks, home);
+    restore(links, display, home, level, sure);
     Registers {
         live: home,
         at,
-        end: end_of(code, blocks, home),
+        end: activation_end(code, blocks, home),
         ..here
     }
 }
@@ -125,8 +136,9 @@ fn link_to(
     ensures { λ _. ⌜ length (now (display .exit)) ≡ length (now (display .entry)) ⌝ }
 {
     if link != live {
-        let sure = level_of(code, blocks, live);
-        restore(links, display, link, level_of(code, blocks, link), sure);
+        let sure = activation_level(code, blocks, live);
+        let level = activation_level(code, blocks, link);
+        restore(links, display, link, level, sure);
     }
 }
 
@@ -154,16 +166,16 @@ pub fn enter(
     let fresh = live + 1;
     blocks[fresh] = narrow(body);
     links[fresh] = narrow(link);
-    display[head / 256 % 256] = narrow(32 * fresh);
+    display[level_of(head)] = narrow(SHARE * fresh);
     clear(
         words,
-        32 * fresh + head / 65536 % 256,
-        32 * fresh + head / 16777216,
+        cell_at(fresh, formals_of(head)),
+        cell_at(fresh, names_of(head)),
     );
     Registers {
         live: fresh,
-        at: bounds / 65536,
-        end: bounds % 65536,
+        at: first_of(bounds),
+        end: end_of(bounds),
         ..here
     }
 }

@@ -1,15 +1,17 @@
--- The loop of a run, from any state in which the engine can stand. `Going`: so far it has come, with the arrays as they are and so many steps left.
--- `begun`: it begins so; `went-as`: a step keeps it; `finished-as`, `stopped`, `spent`: the three ends; `stays`: a statement that stops leaves all as it
--- was. `starts`: the engine can stand where a program begins, and `program-run`: what a run from there is to the program.
-use Prim.Native.Nat.{ℕ, _+_, _-_, _≤_}
+-- The loop of a run, from any state in which the engine can stand. `Going`: so far it has come, with the arrays as they are and so many steps left; `Goes`:
+-- so it is from whichever state it began. `goes-begun`: it begins so; `goes-further`: a step keeps it; `finished-as`, `stopped`, `spent`: the three ends;
+-- `stays`: a statement that stops leaves all as it was. `starts`: the engine can stand where a program begins, and `program-run`: what a run from there is
+-- to the program.
+use Prim.Native.Nat.{ℕ, _+_, _-_, _≤_, _<_}
 use native.Mathlib.Omega.{arith}
 use mathlib.Core.List.{List}
-use mathlib.Core.Path.{_≡_, sym, subst}
+use mathlib.Core.Path.{_≡_, refl, sym, _∙_, subst}
 use lib.IntN.{ℤ}
 use lib.ListN.{length, getD, set}
 use Rattle.language.specs.declared.Stop.{Stop}
 use Rattle.frames.specs.Frame.{Stack, Result, designates, halted, frameStep, frameRun, frameStart}
 use Rattle.arrays.specs.Holds.{Shows}
+use Rattle.steps.specs.Standing.{Standing}
 use Rattle.steps.specs.Here.{live-few}
 use Rattle.steps.specs.Reads.{at-within, end-within, begin-reads}
 use Rattle.steps.specs.Loop.{begins, shows-begun}
@@ -22,82 +24,132 @@ use Rattle.run_state.specs.Scenes.{limitsBy, goesTo}
 use Rattle.run_state.specs.Halts.{finishedAfter, spentAfter, stoppedAfter, namedBy}
 use Rattle.run_state.specs.Ended.{RunFrom, from-start, finished-end, spent-end, stopped-end}
 use Rattle.display_moves.specs.Running.{Running, Looking, Placed}
-use Rattle.display_run.specs.Turning.{Arrays, arraysOf, Turned, Beginning, Ended, startBy}
-
-abbrev RunningIn : List ℕ → ℕ → ℕ → Arrays → Registers → Type 0
-RunningIn code limit group a here = Running code limit group (a .words) (a .blocks) (a .nexts) (a .links) (a .display) (a .table) here
+use Rattle.display_run.specs.Turning.{Arrays, arraysOf, Turned, TurnsTo, Beginning, Ended, startBy}
 
 module _ {code : List ℕ} {limit group : ℕ} {words : List ℤ} {blocks nexts links display : List ℕ} {table : List ℤ} {start : Registers}
     (w : Running code limit group words blocks nexts links display table start) (allowance : ℕ) where
-  pub record Going (a : Arrays) (here : Registers) (left : ℕ) : Type 0 where
-    pub running : RunningIn code limit group a here
+  pub record Going (words′ : List ℤ) (blocks′ nexts′ links′ display′ : List ℕ) (table′ : List ℤ) (here : Registers) (left : ℕ) : Type 0 where
+    pub running : Running code limit group words′ blocks′ nexts′ links′ display′ table′ here
     pub underway : steps.UnderwayFrom (w .standing .stack .steps) (w .standing .program) (w .standing .name) allowance
         (frameRun (limitsBy limit group) allowance (w .standing .stack)) (running .standing) left
 
-  pub begun : Going (arraysOf words blocks nexts links display table) start allowance
+  pub begun : Going words blocks nexts links display table start allowance
   begun = record { running = w; underway = steps.begun-from (w .standing) allowance }
 
+-- the engine at one place of a run
 module _ {code : List ℕ} {limit group : ℕ} {words : List ℤ} {blocks nexts links display : List ℕ} {table : List ℤ} {start : Registers}
-    {w : Running code limit group words blocks nexts links display table start} {allowance : ℕ} {a : Arrays} {here : Registers} {left : ℕ}
-    (u : Going w allowance a here left) where
-  pub looking : Looking code (a .words) (a .blocks) (a .display) (here .live)
-  looking = record { nexts = a .nexts; links = a .links; limit = limit; group = group; table = a .table; here = here; running = u .running }
+    {w : Running code limit group words blocks nexts links display table start} {allowance : ℕ}
+    {words′ : List ℤ} {blocks′ nexts′ links′ display′ : List ℕ} {table′ : List ℤ} {here : Registers} {left : ℕ}
+    (u : Going w allowance words′ blocks′ nexts′ links′ display′ table′ here left) where
+  looks : Looking code words′ blocks′ display′ (here .live)
+  looks = record { nexts = nexts′; links = links′; limit = limit; group = group; table = table′; here = here; running = u .running }
 
-  pub placed : Placed here
-  placed =
-      let st = u .running .standing in
-      record { live = omega (arith, live-few st); at = at-within st; end = end-within st }
-
-  pub few-left : left ≤ allowance
-  few-left = u .underway .few-left
-
-  -- The ends that leave activations live
-
-  module _ (nexts′ : List ℕ) (noted : nexts′ ≡ set (a .nexts) (here .live) (here .at)) (designator : ℕ)
-      (found : (v : Looking code (a .words) (a .blocks) (a .display) (here .live))
+  -- the ends that leave activations live
+  module _ (nexts″ : List ℕ) (noted : nexts″ ≡ set nexts′ (here .live) (here .at)) (designator : ℕ)
+      (found : (v : Looking code words′ blocks′ display′ (here .live))
       → designator ≡ designates (v .running .standing .stack .frames) (v .running .standing .name)) (halt r : Halt)
       (named : r ≡ namedBy halt designator 0) where
     abbrev Ends : Type 0
-    Ends = RunFrom (w .standing) allowance r (a .words) (a .blocks) nexts′ (a .links) (a .table)
+    Ends = RunFrom (w .standing) allowance r words′ blocks′ nexts″ links′ table′
 
-    pub spent : left ≡ 0 → halt ≡ spentAfter here allowance → Ends
-    unfolding looking
-    spent = spent-end here (u .running .standing) (u .underway) nexts′ noted designator (found looking) 0 halt r named
+    spends : left ≡ 0 → halt ≡ spentAfter here allowance → Ends
+    unfolding looks
+    spends = spent-end here (u .running .standing) (u .underway) nexts″ noted designator (found looks) 0 halt r named
 
-    pub stopped : (c : Stop) → frameStep (limitsBy limit group) (u .running .standing .stack) ≡ halted c → 1 ≤ left
+    stops : (c : Stop) → frameStep (limitsBy limit group) (u .running .standing .stack) ≡ halted c → 1 ≤ left
         → halt ≡ stoppedAfter here c (allowance - left) → Ends
-    unfolding looking
-    stopped = stopped-end here (u .running .standing) (u .underway) nexts′ noted designator (found looking) 0 halt r named
+    unfolding looks
+    stops = stopped-end here (u .running .standing) (u .underway) nexts″ noted designator (found looks) 0 halt r named
 
-  -- By what a step comes to
+-- so it is from whichever state it began, and the table is as long as it was
+pub record Goes (code : List ℕ) (limit group : ℕ) (words : List ℤ) (blocks nexts links display : List ℕ) (table : List ℤ) (start : Registers) (allowance : ℕ)
+    (words′ : List ℤ) (blocks′ nexts′ links′ display′ : List ℕ) (table′ : List ℤ) (here : Registers) (left : ℕ) : Type 0 where
+  pub going : (w : Running code limit group words blocks nexts links display table start) → Going w allowance words′ blocks′ nexts′ links′ display′ table′ here left
+  pub as-long : length table′ ≡ length table
 
-  module _ (after : Arrays) (t : Turn)
-      (k : Turned (u .running) t (after .words) (after .blocks) (after .nexts) (after .links) (after .display) (after .table)) where
-    turned-as : (m : Turn) → t ≡ m
-        → Turned (u .running) m (after .words) (after .blocks) (after .nexts) (after .links) (after .display) (after .table)
-    turned-as m e =
-        subst (λ (x : Turn). Turned (u .running) x (after .words) (after .blocks) (after .nexts) (after .links) (after .display) (after .table)) e k
+module _ {code : List ℕ} {limit group : ℕ} {words : List ℤ} {blocks nexts links display : List ℕ} {table : List ℤ} {start : Registers} {allowance : ℕ} where
+  pub goes-begun : Goes code limit group words blocks nexts links display table start allowance words blocks nexts links display table start allowance
+  goes-begun = record { going = λ w. begun w allowance; as-long = refl }
 
-    pub went-as : (here′ : Registers) → t ≡ Went here′ → 1 ≤ left → Going w allowance after here′ (left - 1)
-    went-as here′ e h =
+-- each law takes what the loop's functions say as it comes
+module _ {code : List ℕ} {limit group : ℕ} {words : List ℤ} {blocks nexts links display : List ℕ} {table : List ℤ} {start : Registers}
+    {allowance : ℕ} {words′ : List ℤ} {blocks′ nexts′ links′ display′ : List ℕ} {table′ : List ℤ} {here : Registers} {left : ℕ}
+    (goes : Goes code limit group words blocks nexts links display table start allowance words′ blocks′ nexts′ links′ display′ table′ here left)
+    (w : Running code limit group words blocks nexts links display table start) where
+  abbrev st : Standing code (limitsBy limit group) words′ blocks′ nexts′ links′ table′ (here .pairs) (here .live) (here .at) (here .end)
+  st = goes .going w .running .standing
+
+  pub goes-on : Running code limit group words′ blocks′ nexts′ links′ display′ table′ here
+  goes-on = goes .going w .running
+
+  pub looking : Looking code words′ blocks′ display′ (here .live)
+  looking = looks (goes .going w)
+
+  pub live-placed : here .live < 256
+  live-placed = omega (arith, live-few st)
+
+  pub at-placed : here .at ≤ 4096
+  at-placed = at-within st
+
+  pub placed : Placed here
+  placed = record { live = live-placed; at = at-placed; end = end-within st }
+
+  pub few-left : left ≤ allowance
+  few-left = goes .going w .underway .few-left
+
+  pub spent : {nexts″ : List ℕ} → nexts″ ≡ set nexts′ (here .live) (here .at) → {designator : ℕ}
+      → ((v : Looking code words′ blocks′ display′ (here .live)) → designator ≡ designates (v .running .standing .stack .frames) (v .running .standing .name))
+      → {halt r : Halt} → r ≡ namedBy halt designator 0 → left ≤ 0 → halt ≡ spentAfter here allowance
+      → RunFrom (w .standing) allowance r words′ blocks′ nexts″ links′ table′
+  spent noted found named none is = spends (goes .going w) _ noted _ found _ _ named (omega arith) is
+
+  module _ {t : Turn} {words″ : List ℤ} {blocks″ nexts″ links″ display″ : List ℕ} {table″ : List ℤ}
+      (turns : TurnsTo code limit group words′ blocks′ nexts′ links′ display′ table′ here t words″ blocks″ nexts″ links″ display″ table″) where
+    turned-as : (m : Turn) → t ≡ m → Turned goes-on m words″ blocks″ nexts″ links″ display″ table″
+    turned-as m e = subst (λ (x : Turn). Turned goes-on x words″ blocks″ nexts″ links″ display″ table″) e (turns .turned goes-on)
+
+    went-as : {here′ : Registers} → t ≡ Went here′ → 1 ≤ left → Going w allowance words″ blocks″ nexts″ links″ display″ table″ here′ (left - 1)
+    unfolding goes-on
+    went-as {here′} e h =
         let m = turned-as (Went here′) e in
-        record { running = m .running; underway = steps.went (u .running .standing) (u .underway) (m .running .standing) (m .follows) h }
+        record { running = m .running; underway = steps.went st (goes .going w .underway) (m .running .standing) (m .follows) h }
 
-    pub finished-as : t ≡ Finished → 1 ≤ left → (r : Halt) → r ≡ finishedAfter here (allowance - left + 1)
-        → RunFrom (w .standing) allowance r (after .words) (after .blocks) (after .nexts) (after .links) (after .table)
-    finished-as e h =
+    pub finished-as : t ≡ Finished → 1 ≤ left → {r : Halt} → r ≡ finishedAfter here (allowance - left + 1)
+        → RunFrom (w .standing) allowance r words″ blocks″ nexts″ links″ table″
+    finished-as e h {r} =
         let m = turned-as Finished e in
-        finished-end here (u .running .standing) (u .underway) (m .ended) (m .alone) h (after .words) (after .blocks) (after .nexts) (after .links)
-        (after .table) (m .same-words) (m .same-table)
+        finished-end here st (goes .going w .underway) (m .ended) (m .alone) h words″ blocks″ nexts″ links″ table″ (m .same-words) (m .same-table) r
 
     -- a statement that stops leaves all as it was
-    abbrev Stays : Stop → Arrays → Type 0
-    Stays c x = (v : Going w allowance x here left) × (frameStep (limitsBy limit group) (v .running .standing .stack) ≡ halted c)
+    module _ {c : Stop} (e : t ≡ Stopped c) where
+      abbrev Stays : Arrays → Type 0
+      Stays x =
+          (v : Going w allowance (x .words) (x .blocks) (x .nexts) (x .links) (x .display) (x .table) here left)
+          × (frameStep (limitsBy limit group) (v .running .standing .stack) ≡ halted c)
 
-    pub stays : (c : Stop) → t ≡ Stopped c → Stays c after
-    stays c e =
-        let m = turned-as (Stopped c) e in
-        subst (Stays c) (sym (m .same)) (u, m .stops)
+      stays : Stays (arraysOf words″ blocks″ nexts″ links″ display″ table″)
+      unfolding goes-on
+      stays =
+          let m = turned-as (Stopped c) e in
+          subst Stays (sym (m .same)) (goes .going w, m .stops)
+
+      pub stopped-looking : Looking code words″ blocks″ display″ (here .live)
+      stopped-looking = looks (stays .0)
+
+      pub stopped : {nexts‴ : List ℕ} → nexts‴ ≡ set nexts″ (here .live) (here .at) → {designator : ℕ}
+          → ((v : Looking code words″ blocks″ display″ (here .live)) → designator ≡ designates (v .running .standing .stack .frames) (v .running .standing .name))
+          → {halt r : Halt} → r ≡ namedBy halt designator 0 → 1 ≤ left → halt ≡ stoppedAfter here c (allowance - left)
+          → RunFrom (w .standing) allowance r words″ blocks″ nexts‴ links″ table″
+      stopped noted found named more is = stops (stays .0) _ noted _ found _ _ named c (stays .1) more is
+
+module _ {code : List ℕ} {limit group : ℕ} {words : List ℤ} {blocks nexts links display : List ℕ} {table : List ℤ} {start : Registers}
+    {allowance : ℕ} {words′ : List ℤ} {blocks′ nexts′ links′ display′ : List ℕ} {table′ : List ℤ} {here : Registers} {left : ℕ} where
+  pub goes-further : Goes code limit group words blocks nexts links display table start allowance words′ blocks′ nexts′ links′ display′ table′ here left
+      → {t : Turn} {words″ : List ℤ} {blocks″ nexts″ links″ display″ : List ℕ} {table″ : List ℤ}
+      → TurnsTo code limit group words′ blocks′ nexts′ links′ display′ table′ here t words″ blocks″ nexts″ links″ display″ table″
+      → length table″ ≡ length table′ → {here′ : Registers} → t ≡ Went here′ → 1 ≤ left
+      → Goes code limit group words blocks nexts links display table start allowance words″ blocks″ nexts″ links″ display″ table″ here′ (left - 1)
+  goes-further goes turns long e h = record { going = λ w. went-as goes w turns e h; as-long = long ∙ goes .as-long }
 
 -- The start of a program
 

@@ -46,3 +46,33 @@ pub record ArgumentsReachable (code : List ℕ) (display : List ℕ) (live from 
   pub few : count ≤ 32
   pub there : from + count ≤ 4096
   pub below : (i : ℕ) → i < count → ownCell display (getD code (from + i) 0) < 32 * live + 32
+
+-- What a statement asks: its words stand in the script, and its names are such as P says
+
+module _ (P : ℕ → Type 0) (code : List ℕ) (at : ℕ) where
+  -- of a label and the name that is tested, or of a group and a member
+  pub record TwoNames : Type 0 where
+    pub within : at + 3 ≤ 4096
+    pub first : P (getD code (at + 1) 0)
+    pub second : P (getD code (at + 2) 0)
+
+  -- of a target, a group and a member
+  pub record ThreeNames : Type 0 where
+    pub within : at + 4 ≤ 4096
+    pub first : P (getD code (at + 1) 0)
+    pub second : P (getD code (at + 2) 0)
+    pub third : P (getD code (at + 3) 0)
+
+  -- of an AR
+  pub record Operands : Type 0 where
+    pub within : at + 5 ≤ 4096
+    pub target : P (getD code (at + 1) 0)
+    pub left : P (getD code (at + 3) 0)
+    pub right : P (getD code (at + 4) 0)
+
+-- a call, whichever way its procedure is found
+pub record Callable (code : List ℕ) (display : List ℕ) (limit live at : ℕ) : Type 0 where
+  pub limit-few : limit ≤ 256
+  pub live-few : live ≤ 255
+  pub within : at + 3 ≤ 4096
+  pub arguments : ArgumentsReachable code display live (at + 3) (getD code (at + 2) 0)

@@ -21,12 +21,13 @@ module _ {code : List ℕ} {words : List ℤ} {blocks display : List ℕ} {live 
   pub word-within : getD blocks live 0 + 3 ≤ 4096
   word-within = let s = w .running .standing in block-within s live (s .frame) (here s)
 
-  module _ (v : ℕ) (e : v ≡ getD code (getD blocks live 0 + 2) 0) where
+  -- by where the block stands and the word there, as they were read
+  module _ {b v : ℕ} (block : b ≡ getD blocks live 0) (read : v ≡ getD code (b + 2) 0) where
     abbrev name : ℕ
     name = w .running .standing .name
 
     is-word : v ≡ wordOf (w .running .standing) name
-    is-word = e ∙ looked-up-here (w .running .standing)
+    is-word = read ∙ ap (λ k. getD code (k + 2) 0) block ∙ looked-up-here (w .running .standing)
 
     pub not-seen : v ≡ 0 → 0 ≡ designates (w .running .standing .stack .frames) name
     not-seen z = sym (unseen-word (w .running .standing) name (sym is-word ∙ z))
@@ -42,6 +43,9 @@ module _ {code : List ℕ} {words : List ℤ} {blocks display : List ℕ} {live 
       pub seen-reached : Reachable words display v
       seen-reached = let r = found .0 in record { own = omega (arith, r .own, live-there); whole = r .whole; cell = r .cell }
 
-      pub seen-designates : (c : ℕ) → c ≡ cellBy words (firstCell display v) v
-          → designatorOf c ≡ designates (w .running .standing .stack .frames) name
-      seen-designates c q = ap designatorOf q ∙ found .1
+      module _ {c : ℕ} (is : c ≡ cellBy words (firstCell display v) v) where
+        pub seen-cell : c < 8192
+        seen-cell = omega (arith, is, found .0 .cell)
+
+        pub seen-designates : {r : ℕ} → r ≡ designatorOf c → r ≡ designates (w .running .standing .stack .frames) name
+        seen-designates e = e ∙ ap designatorOf is ∙ found .1

@@ -1,5 +1,5 @@
 -- What the statement at a place asks of the display, by its operation: `ready`.
-use Prim.Native.Nat.{ℕ, _+_, _*_, _/_, _≤_, _<_}
+use Prim.Native.Nat.{ℕ, _+_, _*_, _≤_, _<_}
 use native.Mathlib.Omega.{arith}
 use mathlib.Core.Bool.{false}
 use mathlib.Core.List.{List}
@@ -13,12 +13,13 @@ use Rattle.steps.specs.Standing.{Standing}
 use Rattle.steps.specs.Here.{live-few}
 use Rattle.steps.specs.Fields as fields
 use Rattle.steps.specs.Finding.{Reaches, reached-by-display, finds-by-display}
+use Rattle.layout.specs.Layout.{leadIn}
 use Rattle.run_statements.specs.Pieces.{FormalsBefore}
-use Rattle.display_run.specs.Finding.{firstCell, ownCell, byDisplay, Reachable, Direct, ThroughFormal, ArgumentsReachable}
+use Rattle.display_run.specs.Finding.{firstCell, ownCell, byDisplay, Reachable, Direct, ThroughFormal, ArgumentsReachable, TwoNames, ThreeNames, Operands, Callable}
 use Rattle.run_state.specs.Scenes.{limitsBy}
 use Rattle.display_moves.specs.Running.{Doing}
 
-formal-target : (words : List ℤ) (first v : ℕ) → direct v ≡ false → targetBy words first v ≡ heldBy words first v / 8192
+formal-target : (words : List ℤ) (first v : ℕ) → direct v ≡ false → targetBy words first v ≡ leadIn (heldBy words first v)
 unfolding targetBy
 formal-target words first v e = rw (targetBy, e)
 
@@ -52,7 +53,7 @@ module _ {code : List ℕ} {words : List ℤ} {display : List ℕ} {limit live a
       }
 
   abbrev Formals : Type 0
-  Formals = FormalsBefore code (heldBy words (firstCell display (getD code (at + 1) 0)) (getD code (at + 1) 0) / 8192)
+  Formals = FormalsBefore code (leadIn (heldBy words (firstCell display (getD code (at + 1) 0)) (getD code (at + 1) 0)))
 
   formals-before : fields.ThroughFormal st 1 → fields.BodyStands st → Formals
   formals-before f b =
@@ -71,43 +72,51 @@ module _ {code : List ℕ} {words : List ℤ} {display : List ℕ} {limit live a
 
   abbrev pub Ready : Op → Type 0
   Ready constant-op = (at + 4 ≤ 4096) × D 1
-  Ready add-op = (at + 5 ≤ 4096) × (D 1 × (D 3 × D 4))
-  Ready subtract-op = (at + 5 ≤ 4096) × (D 1 × (D 3 × D 4))
-  Ready compare-op = (at + 5 ≤ 4096) × (D 1 × (D 3 × D 4))
-  Ready branch-op = (at + 3 ≤ 4096) × (D 1 × D 2)
+  Ready add-op = Operands (Direct words display) code at
+  Ready subtract-op = Operands (Direct words display) code at
+  Ready compare-op = Operands (Direct words display) code at
+  Ready branch-op = TwoNames (Direct words display) code at
   Ready goto-op = (at + 2 ≤ 4096) × D 1
   Ready block-op = (at + 2 ≤ 4096) × (live ≤ 255)
-  Ready call-op = (limit ≤ 256) × ((live ≤ 255) × ((at + 3 ≤ 4096) × (ArgumentsReachable code display live (at + 3) (getD code (at + 2) 0) × D 1)))
-  Ready pair-op = (at + 3 ≤ 4096) × (R 1 × R 2)
-  Ready unpair-op = (at + 3 ≤ 4096) × (R 1 × R 2)
-  Ready query-op = (at + 4 ≤ 4096) × (R 1 × (R 2 × R 3))
+  Ready call-op = Callable code display limit live at × D 1
+  Ready pair-op = TwoNames (Reachable words display) code at
+  Ready unpair-op = TwoNames (Reachable words display) code at
+  Ready query-op = ThreeNames (Reachable words display) code at
   Ready constant-formal-op = (at + 4 ≤ 4096) × R 1
-  Ready arithmetic-formal-op = (at + 5 ≤ 4096) × (R 1 × (R 3 × R 4))
-  Ready branch-formal-op = (at + 3 ≤ 4096) × (R 1 × R 2)
+  Ready arithmetic-formal-op = Operands (Reachable words display) code at
+  Ready branch-formal-op = TwoNames (Reachable words display) code at
   Ready goto-formal-op = (at + 2 ≤ 4096) × F 1
-  Ready call-formal-op = (limit ≤ 256) × ((live ≤ 255) × ((at + 3 ≤ 4096) ×
-      (ArgumentsReachable code display live (at + 3) (getD code (at + 2) 0) × (F 1 × Formals))))
+  Ready call-formal-op = Callable code display limit live at × (F 1 × Formals)
 
   few : live ≤ 255
   few = omega (arith, live-few st)
 
+  direct-operands : fields.Fields st add-op → Operands (Direct words display) code at
+  direct-operands f = record { within = f .0; target = directly 1 (f .1); left = directly 3 (f .2); right = directly 4 (f .3) }
+
+  two-reachable : fields.Fields st pair-op → TwoNames (Reachable words display) code at
+  two-reachable f = record { within = f .0; first = reachable 1 (f .1); second = reachable 2 (f .2) }
+
+  callable : fields.Arguments st → Callable code display limit live at
+  callable a = record { limit-few = st .sound .limit; live-few = few; within = omega (arith, a .there); arguments = arguments a }
+
   ready-by : (o : Op) → fields.Fields st o → Ready o
   ready-by constant-op f = (f .0, directly 1 (f .1))
-  ready-by add-op f = (f .0, (directly 1 (f .1), (directly 3 (f .2), directly 4 (f .3))))
-  ready-by subtract-op f = (f .0, (directly 1 (f .1), (directly 3 (f .2), directly 4 (f .3))))
-  ready-by compare-op f = (f .0, (directly 1 (f .1), (directly 3 (f .2), directly 4 (f .3))))
-  ready-by branch-op f = (f .0, (directly 1 (f .1), directly 2 (f .2)))
+  ready-by add-op f = direct-operands f
+  ready-by subtract-op f = direct-operands f
+  ready-by compare-op f = direct-operands f
+  ready-by branch-op f = record { within = f .0; first = directly 1 (f .1); second = directly 2 (f .2) }
   ready-by goto-op f = (f .0, directly 1 (f .1))
   ready-by block-op f = (omega arith, few)
-  ready-by call-op f = (st .sound .limit, (few, (omega (arith, f .0 .there), (arguments (f .0), directly 1 (f .1)))))
-  ready-by pair-op f = (f .0, (reachable 1 (f .1), reachable 2 (f .2)))
-  ready-by unpair-op f = (f .0, (reachable 1 (f .1), reachable 2 (f .2)))
-  ready-by query-op f = (f .0, (reachable 1 (f .1), (reachable 2 (f .2), reachable 3 (f .3))))
+  ready-by call-op f = (callable (f .0), directly 1 (f .1))
+  ready-by pair-op f = two-reachable f
+  ready-by unpair-op f = two-reachable f
+  ready-by query-op f = record { within = f .0; first = reachable 1 (f .1); second = reachable 2 (f .2); third = reachable 3 (f .3) }
   ready-by constant-formal-op f = (f .0, reachable 1 (f .1 .0))
-  ready-by arithmetic-formal-op f = (f .0, (reachable 1 (f .1), (reachable 3 (f .2), reachable 4 (f .3))))
-  ready-by branch-formal-op f = (f .0, (reachable 1 (f .1), reachable 2 (f .2)))
+  ready-by arithmetic-formal-op f = record { within = f .0; target = reachable 1 (f .1); left = reachable 3 (f .2); right = reachable 4 (f .3) }
+  ready-by branch-formal-op f = two-reachable f
   ready-by goto-formal-op f = (f .0, formally 1 (f .1))
-  ready-by call-formal-op f = (st .sound .limit, (few, (omega (arith, f .0 .there), (arguments (f .0), (formally 1 (f .1), formals-before (f .1) (f .2))))))
+  ready-by call-formal-op f = (callable (f .0), (formally 1 (f .1), formals-before (f .1) (f .2)))
 
   pub ready : (o : Op) → opOf (getD code at 0) ≡ o → Ready o
   ready o e = ready-by o (subst (fields.Fields st) e (fields.fields-stand st (d .before)))

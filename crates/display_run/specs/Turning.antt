@@ -1,6 +1,6 @@
 -- What a step comes to (`Turned`), what a run begins with (`Beginning`), and what it ends with (`Ended`): the frame machine's result, with the arrays
 -- that hold its stack.
-use Prim.Native.Nat.{ℕ, _/_, _%_, _≤_, _<_}
+use Prim.Native.Nat.{ℕ, _≤_, _<_}
 use mathlib.Core.Bool.{true}
 use mathlib.Core.List.{List}
 use mathlib.Core.Path.{_≡_}
@@ -11,6 +11,7 @@ use Rattle.language.specs.Table.{right}
 use Rattle.grammar.specs.Rules.{Keeps}
 use Rattle.frames.specs.Frame.{Result}
 use Rattle.resolved.specs.Resolved.{resolvedOf, Covers}
+use Rattle.layout.specs.Layout.{endIn, firstIn}
 use Rattle.run_state.specs.declared.Registers.{Registers}
 use Rattle.run_state.specs.declared.Turn.{Turn}
 use Rattle.run_state.specs.declared.Turn.the-variants.{Went, Finished, Stopped}
@@ -43,11 +44,16 @@ module _ {code : List ℕ} {limit group : ℕ} {words : List ℤ} {blocks nexts 
   Turned (Stopped c) words′ blocks′ nexts′ links′ display′ table′ =
       Stops (limitsBy limit group) (w .standing .stack) c (arraysOf words blocks nexts links display table) (arraysOf words′ blocks′ nexts′ links′ display′ table′)
 
+-- from whichever state in which the engine can stand
+pub record TurnsTo (code : List ℕ) (limit group : ℕ) (words : List ℤ) (blocks nexts links display : List ℕ) (table : List ℤ) (here : Registers)
+    (t : Turn) (words′ : List ℤ) (blocks′ nexts′ links′ display′ : List ℕ) (table′ : List ℤ) : Type 0 where
+  pub turned : (w : Running code limit group words blocks nexts links display table here) → Turned w t words′ blocks′ nexts′ links′ display′ table′
+
 -- The run of a program
 
 -- where it begins
 abbrev pub startBy : List ℕ → ℕ → Registers
-startBy code pairs = record { live = 0; at = getD code 1 0 / 65536; end = getD code 1 0 % 65536; pairs = pairs; level = 0; fresh = 0 }
+startBy code pairs = record { live = 0; at = firstIn (getD code 1 0); end = endIn (getD code 1 0); pairs = pairs; level = 0; fresh = 0 }
 
 -- what it begins with: the resolved script of a program that keeps the rules, arrays of zeros, limits in range and a right table
 pub record Beginning (code : List ℕ) (words : List ℤ) (blocks nexts links : List ℕ) (table : List ℤ) (pairs group limit : ℕ) : Type 0 where

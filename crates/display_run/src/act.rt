@@ -1,10 +1,12 @@
 // The statement at a place is done as far as words go; where the run goes on is the answer.
 use super::arms;
+use layout::operation_of;
 use run_moves::Ask;
 use run_moves::Move;
 use run_words::code_at;
 ghost use mathlib.Core.Path.{_≡_};
 ghost use Rattle.run_moves.specs.Acting.{sceneBy, acting};
+ghost use Rattle.run_statements.specs.Scenes.{Done};
 ghost use Rattle.display_run.specs.Finding.{byDisplay};
 ghost use Rattle.display_moves.specs.Running.{Doing};
 
@@ -17,26 +19,25 @@ pub fn act(
     at: usize,
 ) -> Move
     requires { ⌜ Doing (now code) (now words) (now display) limit live at ⌝ }
-    ensures { λ r. ⌜ r ≡ (acting (byDisplay (now (words .entry)) (now (display .entry))) (sceneBy (now (code .entry)) (now (words .entry)) limit live at)) .move ⌝ }
-    ensures { λ _. ⌜ now (words .exit) ≡ (acting (byDisplay (now (words .entry)) (now (display .entry))) (sceneBy (now (code .entry)) (now (words .entry)) limit live at)) .words ⌝ }
+    ensures { λ r. ⌜ Done (acting (byDisplay (now (words .entry)) (now (display .entry))) (sceneBy (now (code .entry)) (now (words .entry)) limit live at)) r (now (words .exit)) ⌝ }
 {
-    let operation = code_at(code, at) % 16;
+    let operation = operation_of(code_at(code, at));
     match operation {
-        0 => arms::do_constant(code, words, display, at),
-        1 => arms::do_add(code, words, display, at),
-        2 => arms::do_subtract(code, words, display, at),
-        3 => arms::do_compare(code, words, display, at),
-        4 => arms::do_branch(code, words, display, at),
-        5 => arms::do_goto(code, display, at),
-        6 => run_statements::do_block(code, limit, live, at),
-        7 => arms::do_call(code, words, display, limit, live, at),
-        8 => arms::do_change(code, words, display, at, Ask::Add),
-        9 => arms::do_change(code, words, display, at, Ask::Remove),
-        10 => arms::do_query(code, words, display, at),
-        11 => arms::do_constant_formal(code, words, display, at),
-        12 => arms::do_arithmetic_formal(code, words, display, at),
-        13 => arms::do_branch_formal(code, words, display, at),
-        14 => arms::do_goto_formal(code, words, display, at),
+        layout::CONSTANT => arms::do_constant(code, words, display, at),
+        layout::ADD => arms::do_add(code, words, display, at),
+        layout::SUBTRACT => arms::do_subtract(code, words, display, at),
+        layout::COMPARE => arms::do_compare(code, words, display, at),
+        layout::BRANCH => arms::do_branch(code, words, display, at),
+        layout::GOTO => arms::do_goto(code, display, at),
+        layout::BLOCK => run_statements::do_block(code, limit, live, at),
+        layout::CALL => arms::do_call(code, words, display, limit, live, at),
+        layout::ADD_PAIR => arms::do_change(code, words, display, at, Ask::Add),
+        layout::REMOVE_PAIR => arms::do_change(code, words, display, at, Ask::Remove),
+        layout::QUERY => arms::do_query(code, words, display, at),
+        layout::CONSTANT_FORMAL => arms::do_constant_formal(code, words, display, at),
+        layout::ARITHMETIC_FORMAL => arms::do_arithmetic_formal(code, words, display, at),
+        layout::BRANCH_FORMAL => arms::do_branch_formal(code, words, display, at),
+        layout::GOTO_FORMAL => arms::do_goto_formal(code, words, display, at),
         _ => arms::do_call_formal(code, words, display, limit, live, at),
     }
 }

@@ -5,21 +5,30 @@ use super::names::first_cell;
 use super::names::held;
 use super::names::own_cell;
 use language::Stop;
+use layout::SHARE;
+use layout::activation_of;
+use layout::cell_of;
+use layout::formal_of;
+use layout::formals_of;
+use layout::lead_of;
+use layout::target_of;
 use run_moves::Ask;
 use run_moves::Move;
 use run_statements::computed;
 use run_statements::constant;
 use run_words::code_at;
 ghost use mathlib.Core.Path.{_≡_};
-ghost use Prim.Native.Nat.{_+_, _*_, _<_, _≤_, _%_, _/_};
+ghost use Prim.Native.Nat.{_+_, _*_, _<_, _≤_};
 ghost use lib.ListN.{getD};
 ghost use Rattle.language.specs.Text.{plus, minus, less};
 ghost use Rattle.resolved.specs.Resolved.{targetIn};
 ghost use Rattle.arrays.specs.Found.{cellBy, heldBy};
 ghost use Rattle.run_moves.specs.Acting.{doConstant, doArithmetic, operationOf, doGoto, doBranch, doCall, doCallFormal, doChange, doQuery, argumentsFrom, setAll};
 ghost use Rattle.run_moves.specs.Acting.{sceneBy};
+ghost use Rattle.layout.specs.Layout.{activationIn, leadIn};
 ghost use Rattle.run_statements.specs.Pieces.{only-words, FormalsBefore, enteredBy};
-ghost use Rattle.display_run.specs.Finding.{firstCell, ownCell, byDisplay, Reachable, Direct, ThroughFormal, ArgumentsReachable};
+ghost use Rattle.run_statements.specs.Scenes.{Done};
+ghost use Rattle.display_run.specs.Finding.{firstCell, ownCell, byDisplay, Reachable, Direct, ThroughFormal, TwoNames, ThreeNames, Operands, ArgumentsReachable, Callable};
 
 fn own_at(code: &[u32; 4096], display: &[u16; 256], place: usize) -> usize
     requires { ⌜ place < 4096 ⌝ }
@@ -42,8 +51,7 @@ pub fn do_constant(
     at: usize,
 ) -> Move
     requires { ⌜ (at + 4 ≤ 4096) × Direct (now words) (now display) (getD (now code) (at + 1) 0) ⌝ }
-    ensures { λ r. ⌜ r ≡ (doConstant (byDisplay (now (words .entry)) (now (display .entry))) (only-words (now (code .entry)) (now (words .entry)) at)) .move ⌝ }
-    ensures { λ _. ⌜ now (words .exit) ≡ (doConstant (byDisplay (now (words .entry)) (now (display .entry))) (only-words (now (code .entry)) (now (words .entry)) at)) .words ⌝ }
+    ensures { λ r. ⌜ Done (doConstant (byDisplay (now (words .entry)) (now (display .entry))) (only-words (now (code .entry)) (now (words .entry)) at)) r (now (words .exit)) ⌝ }
 {
     constant(code, words, own_at(code, display, at + 1), at)
 }
@@ -55,19 +63,14 @@ pub fn do_constant_formal(
     at: usize,
 ) -> Move
     requires { ⌜ (at + 4 ≤ 4096) × Reachable (now words) (now display) (getD (now code) (at + 1) 0) ⌝ }
-    ensures { λ r. ⌜ r ≡ (doConstant (byDisplay (now (words .entry)) (now (display .entry))) (only-words (now (code .entry)) (now (words .entry)) at)) .move ⌝ }
-    ensures { λ _. ⌜ now (words .exit) ≡ (doConstant (byDisplay (now (words .entry)) (now (display .entry))) (only-words (now (code .entry)) (now (words .entry)) at)) .words ⌝ }
+    ensures { λ r. ⌜ Done (doConstant (byDisplay (now (words .entry)) (now (display .entry))) (only-words (now (code .entry)) (now (words .entry)) at)) r (now (words .exit)) ⌝ }
 {
     constant(code, words, cell_at(code, words, display, at + 1), at)
 }
 
 pub fn do_add(code: &[u32; 4096], words: &mut [i32; 8224], display: &[u16; 256], at: usize) -> Move
-    requires { ⌜ at + 5 ≤ 4096 ⌝ }
-    requires { ⌜ Direct (now words) (now display) (getD (now code) (at + 1) 0) ⌝ }
-    requires { ⌜ Direct (now words) (now display) (getD (now code) (at + 3) 0) ⌝ }
-    requires { ⌜ Direct (now words) (now display) (getD (now code) (at + 4) 0) ⌝ }
-    ensures { λ r. ⌜ r ≡ (doArithmetic (byDisplay (now (words .entry)) (now (display .entry))) (only-words (now (code .entry)) (now (words .entry)) at) plus) .move ⌝ }
-    ensures { λ _. ⌜ now (words .exit) ≡ (doArithmetic (byDisplay (now (words .entry)) (now (display .entry))) (only-words (now (code .entry)) (now (words .entry)) at) plus) .words ⌝ }
+    requires { ⌜ Operands (Direct (now words) (now display)) (now code) at ⌝ }
+    ensures { λ r. ⌜ Done (doArithmetic (byDisplay (now (words .entry)) (now (display .entry))) (only-words (now (code .entry)) (now (words .entry)) at) plus) r (now (words .exit)) ⌝ }
 {
     let target = own_at(code, display, at + 1);
     let left = own_at(code, display, at + 3);
@@ -81,12 +84,8 @@ pub fn do_subtract(
     display: &[u16; 256],
     at: usize,
 ) -> Move
-    requires { ⌜ at + 5 ≤ 4096 ⌝ }
-    requires { ⌜ Direct (now words) (now display) (getD (now code) (at + 1) 0) ⌝ }
-    requires { ⌜ Direct (now words) (now display) (getD (now code) (at + 3) 0) ⌝ }
-    requires { ⌜ Direct (now words) (now display) (getD (now code) (at + 4) 0) ⌝ }
-    ensures { λ r. ⌜ r ≡ (doArithmetic (byDisplay (now (words .entry)) (now (display .entry))) (only-words (now (code .entry)) (now (words .entry)) at) minus) .move ⌝ }
-    ensures { λ _. ⌜ now (words .exit) ≡ (doArithmetic (byDisplay (now (words .entry)) (now (display .entry))) (only-words (now (code .entry)) (now (words .entry)) at) minus) .words ⌝ }
+    requires { ⌜ Operands (Direct (now words) (now display)) (now code) at ⌝ }
+    ensures { λ r. ⌜ Done (doArithmetic (byDisplay (now (words .entry)) (now (display .entry))) (only-words (now (code .entry)) (now (words .entry)) at) minus) r (now (words .exit)) ⌝ }
 {
     let target = own_at(code, display, at + 1);
     let left = own_at(code, display, at + 3);
@@ -100,12 +99,8 @@ pub fn do_compare(
     display: &[u16; 256],
     at: usize,
 ) -> Move
-    requires { ⌜ at + 5 ≤ 4096 ⌝ }
-    requires { ⌜ Direct (now words) (now display) (getD (now code) (at + 1) 0) ⌝ }
-    requires { ⌜ Direct (now words) (now display) (getD (now code) (at + 3) 0) ⌝ }
-    requires { ⌜ Direct (now words) (now display) (getD (now code) (at + 4) 0) ⌝ }
-    ensures { λ r. ⌜ r ≡ (doArithmetic (byDisplay (now (words .entry)) (now (display .entry))) (only-words (now (code .entry)) (now (words .entry)) at) less) .move ⌝ }
-    ensures { λ _. ⌜ now (words .exit) ≡ (doArithmetic (byDisplay (now (words .entry)) (now (display .entry))) (only-words (now (code .entry)) (now (words .entry)) at) less) .words ⌝ }
+    requires { ⌜ Operands (Direct (now words) (now display)) (now code) at ⌝ }
+    ensures { λ r. ⌜ Done (doArithmetic (byDisplay (now (words .entry)) (now (display .entry))) (only-words (now (code .entry)) (now (words .entry)) at) less) r (now (words .exit)) ⌝ }
 {
     let target = own_at(code, display, at + 1);
     let left = own_at(code, display, at + 3);
@@ -120,12 +115,8 @@ pub fn do_arithmetic_formal(
     display: &[u16; 256],
     at: usize,
 ) -> Move
-    requires { ⌜ at + 5 ≤ 4096 ⌝ }
-    requires { ⌜ Reachable (now words) (now display) (getD (now code) (at + 1) 0) ⌝ }
-    requires { ⌜ Reachable (now words) (now display) (getD (now code) (at + 3) 0) ⌝ }
-    requires { ⌜ Reachable (now words) (now display) (getD (now code) (at + 4) 0) ⌝ }
-    ensures { λ r. ⌜ r ≡ (doArithmetic (byDisplay (now (words .entry)) (now (display .entry))) (only-words (now (code .entry)) (now (words .entry)) at) (operationOf (getD (now (code .entry)) (at + 2) 0))) .move ⌝ }
-    ensures { λ _. ⌜ now (words .exit) ≡ (doArithmetic (byDisplay (now (words .entry)) (now (display .entry))) (only-words (now (code .entry)) (now (words .entry)) at) (operationOf (getD (now (code .entry)) (at + 2) 0))) .words ⌝ }
+    requires { ⌜ Operands (Reachable (now words) (now display)) (now code) at ⌝ }
+    ensures { λ r. ⌜ Done (doArithmetic (byDisplay (now (words .entry)) (now (display .entry))) (only-words (now (code .entry)) (now (words .entry)) at) (operationOf (getD (now (code .entry)) (at + 2) 0))) r (now (words .exit)) ⌝ }
 {
     let target = cell_at(code, words, display, at + 1);
     let left = cell_at(code, words, display, at + 3);
@@ -144,10 +135,10 @@ pub fn do_arithmetic_formal(
 // GO
 pub fn do_goto(code: &[u32; 4096], display: &[u16; 256], at: usize) -> Move
     requires { ⌜ at + 2 ≤ 4096 ⌝ }
-    ensures { λ r. ⌜ r ≡ Move.Jump (firstCell (now (display .entry)) (getD (now (code .entry)) (at + 1) 0) / 32) (targetIn (getD (now (code .entry)) (at + 1) 0)) ⌝ }
+    ensures { λ r. ⌜ r ≡ Move.Jump (activationIn (firstCell (now (display .entry)) (getD (now (code .entry)) (at + 1) 0))) (targetIn (getD (now (code .entry)) (at + 1) 0)) ⌝ }
 {
     let label = code_at(code, at + 1);
-    Move::Jump(first_cell(display, label) / 32, label / 65536)
+    Move::Jump(activation_of(first_cell(display, label)), target_of(label))
 }
 
 pub fn do_goto_formal(
@@ -160,14 +151,12 @@ pub fn do_goto_formal(
     ensures { λ r. ⌜ r ≡ (doGoto (byDisplay (now (words .entry)) (now (display .entry))) (only-words (now (code .entry)) (now (words .entry)) at)) .move ⌝ }
 {
     let to = held(words, display, code_at(code, at + 1));
-    Move::Jump(to % 8192 / 32, to / 8192)
+    Move::Jump(activation_of(cell_of(to)), lead_of(to))
 }
 
 // IF
 pub fn do_branch(code: &[u32; 4096], words: &[i32; 8224], display: &[u16; 256], at: usize) -> Move
-    requires { ⌜ at + 3 ≤ 4096 ⌝ }
-    requires { ⌜ Direct (now words) (now display) (getD (now code) (at + 1) 0) ⌝ }
-    requires { ⌜ Direct (now words) (now display) (getD (now code) (at + 2) 0) ⌝ }
+    requires { ⌜ TwoNames (Direct (now words) (now display)) (now code) at ⌝ }
     ensures { λ r. ⌜ r ≡ (doBranch (byDisplay (now (words .entry)) (now (display .entry))) (only-words (now (code .entry)) (now (words .entry)) at)) .move ⌝ }
 {
     if words[own_at(code, display, at + 2)] == 0 {
@@ -182,15 +171,13 @@ pub fn do_branch_formal(
     display: &[u16; 256],
     at: usize,
 ) -> Move
-    requires { ⌜ at + 3 ≤ 4096 ⌝ }
-    requires { ⌜ Reachable (now words) (now display) (getD (now code) (at + 1) 0) ⌝ }
-    requires { ⌜ Reachable (now words) (now display) (getD (now code) (at + 2) 0) ⌝ }
+    requires { ⌜ TwoNames (Reachable (now words) (now display)) (now code) at ⌝ }
     ensures { λ r. ⌜ r ≡ (doBranch (byDisplay (now (words .entry)) (now (display .entry))) (only-words (now (code .entry)) (now (words .entry)) at)) .move ⌝ }
 {
     if words[cell_at(code, words, display, at + 2)] == 0 {
         return Move::On(at + 3);
     }
-    if code_at(code, at + 1) / 32 % 2 == 0 {
+    if formal_of(code_at(code, at + 1)) == 0 {
         return do_goto(code, display, at);
     }
     do_goto_formal(code, words, display, at)
@@ -208,7 +195,7 @@ fn arguments(
     requires { ⌜ (live ≤ 254) × ArgumentsReachable (now code) (now display) live at count ⌝ }
     ensures { λ _. ⌜ now (words .exit) ≡ setAll (now (words .entry)) (32 * live + 32) (argumentsFrom (byDisplay (now (words .entry)) (now (display .entry))) (only-words (now (code .entry)) (now (words .entry)) at) at count) ⌝ }
 {
-    let first = 32 * live + 32;
+    let first = SHARE * live + SHARE;
     let mut i = 0;
     while i < count {
         let word = code_at(code, at + i);
@@ -228,12 +215,8 @@ fn enter_body(
     home: usize,
     body: usize,
 ) -> Move
-    requires { ⌜ limit ≤ 256 ⌝ }
-    requires { ⌜ live ≤ 255 ⌝ }
-    requires { ⌜ at + 3 ≤ 4096 ⌝ }
-    requires { ⌜ ArgumentsReachable (now code) (now display) live (at + 3) (getD (now code) (at + 2) 0) ⌝ }
-    ensures { λ r. ⌜ r ≡ (enteredBy (byDisplay (now (words .entry)) (now (display .entry))) (sceneBy (now (code .entry)) (now (words .entry)) limit live at) home body) .move ⌝ }
-    ensures { λ _. ⌜ now (words .exit) ≡ (enteredBy (byDisplay (now (words .entry)) (now (display .entry))) (sceneBy (now (code .entry)) (now (words .entry)) limit live at) home body) .words ⌝ }
+    requires { ⌜ Callable (now code) (now display) limit live at ⌝ }
+    ensures { λ r. ⌜ Done (enteredBy (byDisplay (now (words .entry)) (now (display .entry))) (sceneBy (now (code .entry)) (now (words .entry)) limit live at) home body) r (now (words .exit)) ⌝ }
 {
     if limit <= live + 1 {
         return Move::Stop(Stop::NoActivationLeft);
@@ -251,16 +234,12 @@ pub fn do_call(
     live: usize,
     at: usize,
 ) -> Move
-    requires { ⌜ limit ≤ 256 ⌝ }
-    requires { ⌜ live ≤ 255 ⌝ }
-    requires { ⌜ at + 3 ≤ 4096 ⌝ }
-    requires { ⌜ ArgumentsReachable (now code) (now display) live (at + 3) (getD (now code) (at + 2) 0) ⌝ }
+    requires { ⌜ Callable (now code) (now display) limit live at ⌝ }
     requires { ⌜ Direct (now words) (now display) (getD (now code) (at + 1) 0) ⌝ }
-    ensures { λ r. ⌜ r ≡ (doCall (byDisplay (now (words .entry)) (now (display .entry))) (sceneBy (now (code .entry)) (now (words .entry)) limit live at)) .move ⌝ }
-    ensures { λ _. ⌜ now (words .exit) ≡ (doCall (byDisplay (now (words .entry)) (now (display .entry))) (sceneBy (now (code .entry)) (now (words .entry)) limit live at)) .words ⌝ }
+    ensures { λ r. ⌜ Done (doCall (byDisplay (now (words .entry)) (now (display .entry))) (sceneBy (now (code .entry)) (now (words .entry)) limit live at)) r (now (words .exit)) ⌝ }
 {
     let procedure = code_at(code, at + 1);
-    let home = first_cell(display, procedure) / 32;
+    let home = activation_of(first_cell(display, procedure));
     enter_body(
         code,
         words,
@@ -269,7 +248,7 @@ pub fn do_call(
         live,
         at,
         home,
-        procedure / 65536,
+        target_of(procedure),
     )
 }
 
@@ -282,19 +261,15 @@ pub fn do_call_formal(
     live: usize,
     at: usize,
 ) -> Move
-    requires { ⌜ limit ≤ 256 ⌝ }
-    requires { ⌜ live ≤ 255 ⌝ }
-    requires { ⌜ at + 3 ≤ 4096 ⌝ }
-    requires { ⌜ ArgumentsReachable (now code) (now display) live (at + 3) (getD (now code) (at + 2) 0) ⌝ }
+    requires { ⌜ Callable (now code) (now display) limit live at ⌝ }
     requires { ⌜ ThroughFormal (now words) (now display) (getD (now code) (at + 1) 0) ⌝ }
-    requires { ⌜ FormalsBefore (now code) (heldBy (now words) (firstCell (now display) (getD (now code) (at + 1) 0)) (getD (now code) (at + 1) 0) / 8192) ⌝ }
-    ensures { λ r. ⌜ r ≡ (doCallFormal (byDisplay (now (words .entry)) (now (display .entry))) (sceneBy (now (code .entry)) (now (words .entry)) limit live at)) .move ⌝ }
-    ensures { λ _. ⌜ now (words .exit) ≡ (doCallFormal (byDisplay (now (words .entry)) (now (display .entry))) (sceneBy (now (code .entry)) (now (words .entry)) limit live at)) .words ⌝ }
+    requires { ⌜ FormalsBefore (now code) (leadIn (heldBy (now words) (firstCell (now display) (getD (now code) (at + 1) 0)) (getD (now code) (at + 1) 0))) ⌝ }
+    ensures { λ r. ⌜ Done (doCallFormal (byDisplay (now (words .entry)) (now (display .entry))) (sceneBy (now (code .entry)) (now (words .entry)) limit live at)) r (now (words .exit)) ⌝ }
 {
     let procedure = held(words, display, code_at(code, at + 1));
-    let body = procedure / 8192;
+    let body = lead_of(procedure);
     let count = code_at(code, at + 2);
-    if code_at(code, body) / 65536 % 256 != count {
+    if formals_of(code_at(code, body)) != count {
         return Move::Stop(Stop::ArgumentsDiffer);
     }
     if !run_words::kinds_agree(code, at + 3, body - 3 * count, count) {
@@ -307,7 +282,7 @@ pub fn do_call_formal(
         limit,
         live,
         at,
-        procedure % 8192 / 32,
+        activation_of(cell_of(procedure)),
         body,
     )
 }
@@ -320,9 +295,7 @@ pub fn do_change(
     at: usize,
     ask: Ask,
 ) -> Move
-    requires { ⌜ at + 3 ≤ 4096 ⌝ }
-    requires { ⌜ Reachable (now words) (now display) (getD (now code) (at + 1) 0) ⌝ }
-    requires { ⌜ Reachable (now words) (now display) (getD (now code) (at + 2) 0) ⌝ }
+    requires { ⌜ TwoNames (Reachable (now words) (now display)) (now code) at ⌝ }
     ensures { λ r. ⌜ r ≡ (doChange (byDisplay (now (words .entry)) (now (display .entry))) (only-words (now (code .entry)) (now (words .entry)) at) ask) .move ⌝ }
 {
     let group = cell_at(code, words, display, at + 1);
@@ -332,10 +305,7 @@ pub fn do_change(
 
 // QY
 pub fn do_query(code: &[u32; 4096], words: &[i32; 8224], display: &[u16; 256], at: usize) -> Move
-    requires { ⌜ at + 4 ≤ 4096 ⌝ }
-    requires { ⌜ Reachable (now words) (now display) (getD (now code) (at + 1) 0) ⌝ }
-    requires { ⌜ Reachable (now words) (now display) (getD (now code) (at + 2) 0) ⌝ }
-    requires { ⌜ Reachable (now words) (now display) (getD (now code) (at + 3) 0) ⌝ }
+    requires { ⌜ ThreeNames (Reachable (now words) (now display)) (now code) at ⌝ }
     ensures { λ r. ⌜ r ≡ (doQuery (byDisplay (now (words .entry)) (now (display .entry))) (only-words (now (code .entry)) (now (words .entry)) at)) .move ⌝ }
 {
     let target = cell_at(code, words, display, at + 1);

@@ -1,4 +1,8 @@
 // Where a name lies, by the display: entry j is the first cell of the enclosing activation of level j.
+use layout::cell_of;
+use layout::formal_of;
+use layout::level_of;
+use layout::position_of;
 use run_state::wide;
 ghost use mathlib.Core.Path.{_≡_};
 ghost use Prim.Native.Nat.{_+_, _<_};
@@ -9,14 +13,14 @@ ghost use Rattle.display_run.specs.Finding.{firstCell, ownCell, Reachabl
 pub fn first_cell(display: &[u16; 256], word: usize) -> usize
     ensures { λ r. ⌜ (r ≡ firstCell (now (display .entry)) word) × (r < 65536) ⌝ }
 {
-    wide(display[word / 256 % 256])
+    wide(display[level_of(word)])
 }
 
 // The name's own cell.
 pub fn own_cell(display: &[u16; 256], word: usize) -> usize
     ensures { λ r. ⌜ (r ≡ ownCell (now (display .entry)) word) × (r < 65568) ⌝ }
 {
-    first_cell(display, word) + word % 32
+    first_cell(display, word) + position_of(word)
 }
 
 // What a formal holds: the cell of the name that it finally stands for, and what that leads to.
@@ -32,8 +36,8 @@ pub fn cell(words: &[i32; 8224], display: &[u16; 256], word: usize) -> usize
     requires { ⌜ Reachable (now words) (now display) word ⌝ }
     ensures { λ r. ⌜ r ≡ cellBy (now (words .entry)) (firstCell (now (display .entry)) word) word ⌝ }
 {
-    if word / 32 % 2 == 0 {
+    if formal_of(word) == 0 {
         return own_cell(display, word);
     }
-    held(words, display, word) % 8192
+    cell_of(held(words, display, word))
 }

@@ -5,6 +5,8 @@ use display_moves::enter;
 use display_moves::jump;
 use display_moves::leave;
 use display_moves::note_place;
+use layout::end_of;
+use layout::first_of;
 use run_moves::Ask;
 use run_moves::Move;
 use run_sheet::designator_of;
@@ -20,7 +22,7 @@ use run_statements::after;
 use run_words::code_at;
 use table_pairs::Change;
 ghost use mathlib.Core.Path.{_≡_};
-ghost use Prim.Native.Nat.{_+_, _/_, _%_, _<_};
+ghost use Prim.Native.Nat.{_<_};
 ghost use lib.ListN.{set};
 ghost use Rattle.frames.specs.Frame.{designates, frameRun, frameStart};
 ghost use Rattle.run_moves.specs.Acting.{answer};
@@ -28,7 +30,7 @@ ghost use Rattle.table_pairs.specs.Outcomes.{tableOf, changeOf, wordsAfter};
 ghost use Rattle.run_state.specs.Scenes.{limitsBy};
 ghost use Rattle.run_state.specs.Ended.{RunFrom};
 ghost use Rattle.display_moves.specs.Running.{Running, Looking, Placed};
-ghost use Rattle.display_run.specs.Turning.{Turned, Beginning, Ended, startBy};
+ghost use Rattle.display_run.specs.Turning.{TurnsTo, Beginning, Ended, startBy};
 
 // What the table answers.
 fn asked(
@@ -67,8 +69,8 @@ pub fn step(
 ) -> Turn
     requires { ⌜ Running (now code) limit group (now words) (now blocks) (now nexts) (now links) (now display) (now table) here ⌝ }
     ensures { λ r.
-        ⌜ ((w : Running (now (code .entry)) limit group (now (words .entry)) (now (blocks .entry)) (now (nexts .entry)) (now (links .entry)) (now (display .entry)) (now (table .entry)) here)
-        → Turned w r (now (words .exit)) (now (blocks .exit)) (now (nexts .exit)) (now (links .exit)) (now (display .exit)) (now (table .exit))) ⌝ }
+        ⌜ TurnsTo (now (code .entry)) limit group (now (words .entry)) (now (blocks .entry)) (now (nexts .entry)) (now (links .entry)) (now (display .entry)) (now (table .entry)) here
+        r (now (words .exit)) (now (blocks .exit)) (now (nexts .exit)) (now (links .exit)) (now (display .exit)) (now (table .exit)) ⌝ }
 {
     let live = here.live;
     let at = here.at;
@@ -195,8 +197,8 @@ fn begin(code: &[u32; 4096], pairs: usize) -> Registers
     let bounds = code_at(code, 1);
     Registers {
         live: 0,
-        at: bounds / 65536,
-        end: bounds % 65536,
+        at: first_of(bounds),
+        end: end_of(bounds),
         pairs,
         level: 0,
         fresh: 0,

@@ -7,7 +7,13 @@ use Rattle.call_replies.specs.Replies.{admitted-call, refused-call}
 use Rattle.display_call.proofs.call.Statement.{statement}
 use Rattle.display_call.proofs.call.Tie as tie
 
--- the start, from where admission has answered, and what the call is fed
+-- the places: where admission has answered, before what is run and before a refusal's words, and the start; what the call is fed
+abbrev fitOf : tie.After-ran-arg2 → tie.After-admit
+fitOf c = c .before .before .before .before
+
+abbrev refusedOf : tie.After-refusal-words → tie.After-admit
+refusedOf c = c .before .before .before .before
+
 abbrev startAt : tie.After-admit → tie.Start
 startAt a = a .before .before .before .before
 
@@ -18,27 +24,15 @@ fedAt a =
 
 ran-requires : tie.Need-ran-requires
 ran-requires c κs =
-    let a = c .before .before .before .before in
+    let a = fitOf c in
     admitted-call display (fedAt a) (a .admit .result) (a .admit .ensures false) (c .before .before .enum-told .given .1)
 
 returns : tie.Need-returns
 returns c =
-    let a = c .before .before .before .before in
-    let told = c .before .before .cause .given in
-    refused-call display (fedAt a) (a .admit .result) (a .admit .ensures false) (told .0 .0) (told .0 .1 .0) (told .1) (c .refusal-words .ensures)
+    let a = refusedOf c in
+    refused-call display (fedAt a) (a .admit .result) (a .admit .ensures false) _ _ (c .before .before .cause .given .1) (c .refusal-words .ensures)
 
 pub call-spec : {M : Type 1} → statement M
 call-spec =
-    tie.close
-    (tie.spec
-    (λ c κs. search needs)
-    (λ c. search needs)
-    (λ c κs. search needs)
-    (λ c. search needs)
-    ran-requires
-    (λ c. search needs)
-    (λ c. search needs)
-    returns
-    (λ c. search needs)
-    (λ c. search needs)
-    (λ c. search needs))
+    tie.close (tie.spec (λ c κs. search needs) (λ c. search needs) (λ c κs. search needs) (λ c. search needs) ran-requires
+    (λ c. search needs) (λ c. search needs) returns (λ c. search needs) (λ c. search needs) (λ c. search needs))

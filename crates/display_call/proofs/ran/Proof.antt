@@ -63,15 +63,5 @@ returns c =
 
 pub ran-spec : {M : Type 1} → statement M
 ran-spec =
-    tie.close
-    (tie.spec
-    (λ c. search needs)
-    (λ c. search needs)
-    (λ c κs. search needs)
-    (λ c. search needs)
-    run-program-requires
-    write-sheet-requires
-    run-words-requires
-    (λ c. search needs)
-    (λ c. search needs)
-    returns)
+    tie.close (tie.spec (λ c. search needs) (λ c. search needs) (λ c κs. search needs) (λ c. search needs) run-program-requires
+    write-sheet-requires run-words-requires (λ c. search needs) (λ c. search needs) returns)

@@ -45,43 +45,17 @@ within c =
       );
     }
 
-mul-wide : tie.Need-mul-wide Inv-loop μ-loop
-mul-wide c = let h = within (c .before) in search needs
-
-element-copy-out-wide : tie.Need-element-copy-out-wide Inv-loop μ-loop
-element-copy-out-wide c = let h = within (c .before) in search needs
-
-mul-if2 : tie.Need-mul-if2 Inv-loop μ-loop
-mul-if2 c = let h = within (c .before .before .before) in search needs
-
 returns : tie.Need-returns Inv-loop μ-loop
 returns c =
-    let o = c .before .before .before .before in
+    let t = c .before .before .before in
+    let o = t .before in
     let l = o .before .loop in
     let s = o .before .before in (
       λ w. restoring-meets (w .frames) (w .down) (w .old) (suc (s .args .activation)) (l .display) (l .a) (l .l) (l .inv .0 w) (o .loop-test .taken)
-          (omega (arith, w .sure-is, c .before .before .before .if1 .taken))
+          (omega (arith, w .sure-is, t .if1 .taken))
           (sym (c .before .wide .ensures .0) ∙ c .if2 .taken),
       l .inv .1,
     )
-
-mul-narrow : tie.Need-mul-narrow Inv-loop μ-loop
-mul-narrow c = let h = within (c .before) in search needs
-
-narrow-requires : tie.Need-narrow-requires Inv-loop μ-loop
-narrow-requires c κs = let h = within (c .before) in search needs
-
-mul-display : tie.Need-mul-display Inv-loop μ-loop
-mul-display c = let h = within (c .before .before) in search needs
-
-element-write-display : tie.Need-element-write-display Inv-loop μ-loop
-element-write-display c = let h = within (c .before .before) in search needs
-
-mul-wide-2 : tie.Need-mul-wide-2 Inv-loop μ-loop
-mul-wide-2 c = let h = within (c .before .before) in search needs
-
-element-copy-out-wide-2 : tie.Need-element-copy-out-wide-2 Inv-loop μ-loop
-element-copy-out-wide-2 c = let h = within (c .before .before) in search needs
 
 loop-again : tie.Need-loop-again Inv-loop μ-loop
 loop-again c =
@@ -104,24 +78,9 @@ returns-2 c =
 
 pub restore-spec : {M : Type 1} → statement M
 restore-spec =
-    tie.close
-    (tie.spec
-    Inv-loop
-    μ-loop
-    loop-holds
-    mul-wide
-    element-copy-out-wide
-    (λ c κs. search needs)
-    mul-if2
-    returns
-    mul-narrow
-    narrow-requires
-    mul-display
-    element-write-display
-    mul-wide-2
-    element-copy-out-wide-2
-    (λ c κs. search needs)
-    (λ c. search needs)
-    (λ c. search needs)
-    loop-again
-    returns-2)
+    tie.close (tie.spec Inv-loop μ-loop loop-holds (λ c. let h = within (c .before) in search needs)
+    (λ c. let h = within (c .before) in search needs) (λ c κs. search needs) (λ c. let h = within (c .before .before .before) in search needs)
+    returns (λ c. let h = within (c .before) in search needs) (λ c κs. let h = within (c .before) in search needs)
+    (λ c. let h = within (c .before .before) in search needs) (λ c. let h = within (c .before .before) in search needs)
+    (λ c. let h = within (c .before .before) in search needs) (λ c. let h = within (c .before .before) in search needs)
+    (λ c κs. search needs) (λ c. search needs) (λ c. search needs) loop-again returns-2)

@@ -3,8 +3,5 @@ use borrow.Author.Needs.{needs}
 use Rattle.display_run.proofs.arms.own_at.Statement.{statement}
 use Rattle.display_run.proofs.arms.own_at.Tie as tie
 
-returns : tie.Need-returns
-returns c = rw (c .before .code-at .ensures .0) at (c .own-cell .ensures .0)
-
 pub own-at-spec : {M : Type 1} → statement M
-own-at-spec = tie.close (tie.spec (λ c κs. search needs) (λ c κs. search needs) returns)
+own-at-spec = tie.close (tie.spec (λ c κs. search needs) (λ c κs. search needs) (λ c. cc))

@@ -5,37 +5,9 @@ use borrow.Author.Needs.{needs}
 use Rattle.display_run.proofs.run.asked.Statement.{statement}
 use Rattle.display_run.proofs.run.asked.Tie as tie
 
-returns : tie.Need-returns
-returns c =
-    let t = c .before .before .before .before in
-    let a = t .before .before .args in
-    add-answered (a .limit) (a .words .now) (tableOf (a .table .now) (a .pairs)) (a .group) (a .member) (a .target) (t .enum-told .given .1) (c .before .add .ensures)
-
-returns-2 : tie.Need-returns-2
-returns-2 c =
-    let t = c .before .before .before .before in
-    let a = t .before .before .args in
-    remove-answered (a .limit) (a .words .now) (tableOf (a .table .now) (a .pairs)) (a .group) (a .member) (a .target) (t .enum-told2 .given .1) (c .before .remove .ensures)
-
-returns-3 : tie.Need-returns-3
-returns-3 c =
-    let t = c .before .before .before in
-    let a = t .before .before .args in
-    query-answered (a .limit) (a .words .now) (tableOf (a .table .now) (a .pairs)) (a .group) (a .member) (a .target) (t .enum-told3 .given .1) (c .query .ensures)
-
 pub asked-spec : {M : Type 1} → statement M
 asked-spec =
-    tie.close
-    (tie.spec
-    (λ c. search needs)
-    (λ c κs. search needs)
-    (λ c. search needs)
-    (λ c κs. search needs)
-    (λ c. search needs)
-    (λ c κs. search needs)
-    (λ c. search needs)
-    returns
-    (λ c. search needs)
-    returns-2
-    (λ c. search needs)
-    returns-3)
+    tie.close (tie.spec (λ c. search needs) (λ c κs. search needs) (λ c. search needs) (λ c κs. search needs) (λ c. search needs)
+    (λ c κs. search needs) (λ c. search needs) (λ c. add-answered _ _ (tableOf _ _) _ _ _ (search needs) (search needs))
+    (λ c. search needs) (λ c. remove-answered _ _ (tableOf _ _) _ _ _ (search needs) (search needs)) (λ c. search needs)
+    (λ c. query-answered _ _ (tableOf _ _) _ _ _ (search needs) (search needs)))

@@ -1,193 +1,60 @@
 -- `run` meets its contract. The loop's invariant: the run has come so far that so many steps are left.
-use native.Mathlib.Omega.{arith}
-use mathlib.Core.Path.{_≡_, refl, _∙_}
+use mathlib.Core.Path.{_∙_}
 use borrow.Author.Needs.{needs}
-use lib.ListN.{length}
-use Rattle.display_moves.specs.Running.{Running}
-use Rattle.display_run.specs.Turning.{Arrays, arraysOf}
-use Rattle.display_run.specs.Ending.{Going, begun, looking, placed, few-left, spent, stopped, went-as, finished-as, stays}
+use Rattle.display_run.specs.Ending.{Goes, goes-begun, goes-further, goes-on, looking, live-placed, at-placed, placed, few-left, spent, stopped-looking, stopped, finished-as}
 use Rattle.display_run.proofs.run.run.Statement.{statement}
 use Rattle.display_run.proofs.run.run.Tie as tie
 
 abbrev Inv-loop : tie.InvT-loop
 Inv-loop code words₀ blocks₀ nexts₀ links₀ display₀ table₀ group limit allowance here₀ left₀ words blocks nexts links display table here left =
-    ((w : Running code limit group words₀ blocks₀ nexts₀ links₀ display₀ table₀ here₀)
-    → Going w allowance (arraysOf words blocks nexts links display table) here left)
-    × (length table ≡ length table₀)
+    Goes code limit group words₀ blocks₀ nexts₀ links₀ display₀ table₀ here₀ allowance words blocks nexts links display table here left
 
 abbrev μ-loop : tie.MeasureT-loop
 μ-loop code words₀ blocks₀ nexts₀ links₀ display₀ table₀ group limit allowance here₀ left₀ words blocks nexts links display table here left =
     left
 
--- the places: a turn from where its step is called and from after the step, and the loop
-abbrev halfOf : tie.After-step-arg6 Inv-loop μ-loop → tie.After-step-arg3 Inv-loop μ-loop
-halfOf c = c .before .before .before
-
-abbrev turnAt : tie.After-step-arg6 Inv-loop μ-loop → tie.In-loop Inv-loop μ-loop
-turnAt c = (halfOf c) .before .before .before
-
-abbrev turnOf : tie.After-step Inv-loop μ-loop → tie.In-loop Inv-loop μ-loop
-turnOf c = turnAt (c .before)
-
-abbrev loopAt : tie.After-step Inv-loop μ-loop → tie.At-loop Inv-loop μ-loop
-loopAt c = (turnOf c) .before
-
--- a turn's step, after each of its ways
-abbrev wentOf : tie.After-known-told Inv-loop μ-loop → tie.After-step Inv-loop μ-loop
-wentOf c = c .before .before .before .before
-
-abbrev finishedOf : tie.After-enum-told Inv-loop μ-loop → tie.After-step Inv-loop μ-loop
-finishedOf c = c .before .before .before
+-- the places on the way to a stop: the cause read and the halt made; the step that stops, and the loop's turn
+abbrev causeOf : tie.After-stopped Inv-loop μ-loop → tie.After-cause Inv-loop μ-loop
+causeOf c = c .before .before
 
 abbrev haltOf : tie.After-settle-arg4 Inv-loop μ-loop → tie.After-stopped Inv-loop μ-loop
 haltOf c = c .before .before .before .before
 
-abbrev causeOf : tie.After-stopped Inv-loop μ-loop → tie.After-cause Inv-loop μ-loop
-causeOf c = c .before .before
+abbrev stepOf : tie.After-cause Inv-loop μ-loop → tie.After-step Inv-loop μ-loop
+stepOf c = c .before .before .before
 
-abbrev stoppedOf : tie.After-cause Inv-loop μ-loop → tie.After-step Inv-loop μ-loop
-stoppedOf c = c .before .before .before
-
--- the loop's end
-abbrev spentOf : tie.After-settle-arg8 Inv-loop μ-loop → tie.After-spent Inv-loop μ-loop
-spentOf c = c .before .before .before .before
-
-abbrev doneOf : tie.After-spent Inv-loop μ-loop → tie.After-loop Inv-loop μ-loop
-doneOf c = c .before
-
--- what a step leaves, and how far the run had come before it
-abbrev leftBy : tie.After-step Inv-loop μ-loop → Arrays
-leftBy o =
-    let d = o .step .last .1 in
-    arraysOf (d .0) (d .1 .0) (d .1 .1 .0) (d .1 .1 .1 .0) (d .1 .1 .1 .1 .0) (d .1 .1 .1 .1 .1 .0)
-
-table-kept : (o : tie.After-step Inv-loop μ-loop) → length ((leftBy o) .table) ≡ length ((loopAt o) .before .args .table .now)
-table-kept o = o .step .kept .1 .1 .1 .1 .1 .1 .0 ∙ (loopAt o) .loop .inv .1
-
--- the arrays as a turn finds them, and that the run has come so far
-abbrev foundBy : tie.At-loop Inv-loop μ-loop → Arrays
-foundBy l = arraysOf (l .loop .words) (l .loop .blocks) (l .loop .nexts) (l .loop .links) (l .loop .display) (l .loop .table)
-
-going : (l : tie.At-loop Inv-loop μ-loop) → Going (l .before .pre) (l .before .args .allowance) (foundBy l) (l .loop .here) (l .loop .left)
-going l = l .loop .inv .0 (l .before .pre)
-
-loop-holds : tie.Need-loop-holds Inv-loop μ-loop
-loop-holds c = (λ w. begun w (c .args .allowance), refl)
-
-step-requires : tie.Need-step-requires Inv-loop μ-loop
-step-requires c κs = (going ((turnAt c) .before)) .running
-
-sub-left : tie.Need-sub-left Inv-loop μ-loop
-sub-left c = (turnOf (wentOf c)) .loop-test .taken
-
-loop-less : tie.Need-loop-less Inv-loop μ-loop
-loop-less c = omega (arith, (turnOf (wentOf c)) .loop-test .taken)
-
-loop-again : tie.Need-loop-again Inv-loop μ-loop
-loop-again c =
-    let o = wentOf c in
-    let i = (loopAt o) .loop .inv in (
-      λ w. went-as (i .0 w) (leftBy o) (o .step .result) (o .step .ensures (i .0 w .running)) (c .before .next .given .0 .0) (c .before .next .given .1)
-          ((turnOf o) .loop-test .taken),
-      table-kept o,
-    )
-
-sub-finished : tie.Need-sub-finished Inv-loop μ-loop
-sub-finished c = few-left (going (loopAt (finishedOf c)))
-
-add-finished : tie.Need-add-finished Inv-loop μ-loop
-add-finished c =
-    let o = finishedOf c in
-    record { fits = omega (arith, (loopAt o) .before .fits .allowance .fits, (turnOf o) .loop-test .taken) }
-
-same-length : tie.Need-same-length Inv-loop μ-loop
-same-length c = table-kept (finishedOf (c .before))
-
-returns : tie.Need-returns Inv-loop μ-loop
-returns c =
-    let o = finishedOf (c .before) in
-    λ w.
-    let u = (loopAt o) .loop .inv .0 w in
-    finished-as u (leftBy o) (o .step .result) (o .step .ensures (u .running)) (c .before .enum-told .given .1) ((turnOf o) .loop-test .taken)
-    (c .finished .result) (c .finished .ensures)
-
-sub-stopped : tie.Need-sub-stopped Inv-loop μ-loop
-sub-stopped c = few-left (going (loopAt (stoppedOf (c .before))))
-
-stopped-requires : tie.Need-stopped-requires Inv-loop μ-loop
-stopped-requires c κs =
-    let p = placed (going (loopAt (stoppedOf (c .before)))) in
-    (p .live, p .at)
+abbrev turnOf : tie.After-step Inv-loop μ-loop → tie.In-loop Inv-loop μ-loop
+turnOf c = c .before .before .before .before .before .before .before
 
 settle-requires : tie.Need-settle-requires Inv-loop μ-loop
 settle-requires c κs =
     let k = causeOf (haltOf c) in
-    let o = stoppedOf k in
-    let u = going (loopAt o) in
-    (looking ((stays u (leftBy o) (o .step .result) (o .step .ensures (u .running)) (k .cause .given .0 .0) (k .cause .given .1)) .0), placed u)
+    let o = stepOf k in
+    let l = (turnOf o) .before in
+    (stopped-looking (l .loop .inv) (l .before .pre) (o .step .ensures) (k .cause .given .1), placed (l .loop .inv) (l .before .pre))
 
-same-length-2 : tie.Need-same-length-2 Inv-loop μ-loop
-same-length-2 c = table-kept (stoppedOf (causeOf (haltOf (c .before .before))))
+same-length : tie.Need-same-length-2 Inv-loop μ-loop
+same-length c =
+    let o = stepOf (causeOf (haltOf (c .before .before))) in
+    let kept = o .step .kept in
+    let i = (turnOf o) .before .loop .inv in
+    search (needs, _∙_)
 
-returns-2 : tie.Need-returns-2 Inv-loop μ-loop
-returns-2 c =
+returns : tie.Need-returns-2 Inv-loop μ-loop
+returns c =
     let e = c .before in
     let h = haltOf (e .before) in
     let k = causeOf h in
-    let o = stoppedOf k in
+    let o = stepOf k in
+    let t = turnOf o in
     λ w.
-    let u = (loopAt o) .loop .inv .0 w in
-    let v = stays u (leftBy o) (o .step .result) (o .step .ensures (u .running)) (k .cause .given .0 .0) (k .cause .given .1) in
-    stopped (v .0) (e .settle .last .1 .1 .1 .0) (e .settle .ensures .1) (e .settle .result) (e .settle .ensures .0) (h .stopped .result) (c .named .result)
-    (c .named .ensures) (k .cause .given .0 .0) (v .1) ((turnOf o) .loop-test .taken) (h .stopped .ensures)
-
-spent-requires : tie.Need-spent-requires Inv-loop μ-loop
-spent-requires c κs = (placed (going (c .before))) .live
-
-settle-requires-2 : tie.Need-settle-requires-2 Inv-loop μ-loop
-settle-requires-2 c κs =
-    let u = going ((doneOf (spentOf c)) .before) in
-    (looking u, placed u)
-
-same-length-3 : tie.Need-same-length-3 Inv-loop μ-loop
-same-length-3 c = (doneOf (spentOf (c .before .before))) .before .loop .inv .1
-
-returns-3 : tie.Need-returns-3 Inv-loop μ-loop
-returns-3 c =
-    let e = c .before in
-    let h = spentOf (e .before) in
-    let t = doneOf h in
-    λ w.
-    spent (t .before .loop .inv .0 w) (e .settle2 .last .1 .1 .1 .0) (e .settle2 .ensures .1) (e .settle2 .result) (e .settle2 .ensures .0) (h .spent .result)
-    (c .named2 .result) (c .named2 .ensures) (omega (arith, t .loop-test .left)) (h .spent .ensures)
+    stopped (t .before .loop .inv) w (o .step .ensures) (k .cause .given .1) (e .settle .ensures .1) (e .settle .ensures .0) (c .named .ensures)
+    (t .loop-test .taken) (h .stopped .ensures)
 
 pub run-spec : {M : Type 1} → statement M
 run-spec =
-    tie.close
-    (tie.spec
-    Inv-loop
-    μ-loop
-    loop-holds
-    step-requires
-    (λ c. search needs)
-    sub-left
-    loop-less
-    loop-again
-    (λ c. search needs)
-    sub-finished
-    add-finished
-    (λ c κs. search needs)
-    same-length
-    returns
-    (λ c. search needs)
-    sub-stopped
-    stopped-requires
-    settle-requires
-    (λ c κs. search needs)
-    same-length-2
-    returns-2
-    spent-requires
-    settle-requires-2
-    (λ c κs. search needs)
-    same-length-3
-    returns-3)
+    tie.close (tie.spec Inv-loop μ-loop (λ c. search goes-begun) (λ c κs. search goes-on) (λ c. search needs) (λ c. search needs)
+    (λ c. search needs) (λ c. search (needs, goes-further)) (λ c. search needs) (λ c. search few-left) (λ c. search needs)
+    (λ c κs. search needs) (λ c. cc) (λ c w. search (needs, finished-as)) (λ c. search needs) (λ c. search few-left)
+    (λ c κs. search (live-placed, at-placed)) settle-requires (λ c κs. search needs) same-length returns (λ c κs. search live-placed)
+    (λ c κs. search (looking, placed)) (λ c κs. search needs) (λ c. search needs) (λ c w. search (needs, spent)))

@@ -1,11 +1,11 @@
--- `level_of` meets its contract.
+-- `activation_level` meets its contract.
 use borrow.Author.Needs.{needs}
-use Rattle.display_moves.proofs.level_of.Statement.{statement}
-use Rattle.display_moves.proofs.level_of.Tie as tie
+use Rattle.display_moves.proofs.activation_level.Statement.{statement}
+use Rattle.display_moves.proofs.activation_level.Tie as tie
 
 returns : tie.Need-returns
 returns c = (rw (c .level-at .ensures .0, c .before .wide .ensures .0), c .level-at .ensures .1)
 
-pub level-of-spec : {M : Type 1} → statement M
-level-of-spec =
+pub activation-level-spec : {M : Type 1} → statement M
+activation-level-spec =
     tie.close (tie.spec (λ c. search needs) (λ c. search needs) (λ c κs. search needs) (λ c κs. search needs) returns)

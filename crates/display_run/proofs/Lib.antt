@@ -1,0 +1,2 @@
+-- What the proofs of the display engine share.
+pub mod Statements
