@@ -22,7 +22,7 @@ use Rattle.arrays.specs.Holds.{Shows}
 use Rattle.arrays.specs.Displays.{ShowsFrom, holds-links, shows-innermost}
 use Rattle.arrays.specs.Reading.{level-read, end-read}
 use Rattle.run_moves.specs.Effects.{Cleared}
-use Rattle.layout.specs.Layout.{formalsIn, namesIn, endIn, firstIn, cellFrom}
+use Rattle.resolved.specs.Layout.{formalsIn, namesIn, endIn, firstIn, cellFrom}
 use Rattle.steps.specs.Means.{JumpsTo, EntersAt}
 use Rattle.steps.specs.Here.{many, numbered-here, live-few, downward, encloses-here}
 use Rattle.steps.specs.Loop.{leaves, jumped}

@@ -24,7 +24,7 @@ use Rattle.run_moves.specs.Acting.{Finding, Scene, sceneBy, Happened, setAll, a
 use Rattle.run_moves.specs.Acting.{doConstant, doArithmetic, doGoto, doBranch, doCall, argumentsAgree, doCallFormal, doChange, doQuery}
 use Rattle.resolved.specs.Resolved.{direct, formalIn, levelIn, positionIn, targetIn}
 use Rattle.arrays.specs.Found.{heldBy, cellBy}
-use Rattle.layout.specs.Layout.{activationIn, cellIn, leadIn, formalsIn}
+use Rattle.resolved.specs.Layout.{activationIn, cellIn, leadIn, formalsIn}
 use Rattle.run_statements.specs.Pieces.{only-words, moveAfter, enteredBy, FormalsBefore}
 use Rattle.run_statements.specs.Scenes.{Done}
 use Rattle.run_statements.specs.Words.{read-back, is-zero, not-zero, is-direct, is-formal, cell-direct, cell-formal, home-direct, target-direct, home-formal, target-formal, handed-is}

@@ -13,7 +13,7 @@ use Rattle.steps.specs.Standing.{Standing}
 use Rattle.steps.specs.Here.{live-few}
 use Rattle.steps.specs.Fields as fields
 use Rattle.steps.specs.Finding.{Reaches, reached-by-display, finds-by-display}
-use Rattle.layout.specs.Layout.{leadIn}
+use Rattle.resolved.specs.Layout.{leadIn}
 use Rattle.run_statements.specs.Pieces.{FormalsBefore}
 use Rattle.display_run.specs.Finding.{firstCell, ownCell, byDisplay, Reachable, Direct, ThroughFormal, ArgumentsReachable, TwoNames, ThreeNames, Operands, Callable}
 use Rattle.run_state.specs.Scenes.{limitsBy}

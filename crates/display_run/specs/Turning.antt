@@ -11,7 +11,7 @@ use Rattle.language.specs.Table.{right}
 use Rattle.grammar.specs.Rules.{Keeps}
 use Rattle.frames.specs.Frame.{Result}
 use Rattle.resolved.specs.Resolved.{resolvedOf, Covers}
-use Rattle.layout.specs.Layout.{endIn, firstIn}
+use Rattle.resolved.specs.Layout.{endIn, firstIn}
 use Rattle.run_state.specs.declared.Registers.{Registers}
 use Rattle.run_state.specs.declared.Turn.{Turn}
 use Rattle.run_state.specs.declared.Turn.the-variants.{Went, Finished, Stopped}

@@ -25,7 +25,7 @@ ghost use Rattle.resolved.specs.Resolved.{targetIn};
 ghost use Rattle.arrays.specs.Found.{cellBy, heldBy};
 ghost use Rattle.run_moves.specs.Acting.{doConstant, doArithmetic, operationOf, doGoto, doBranch, doCall, doCallFormal, doChange, doQuery, argumentsFrom, setAll};
 ghost use Rattle.run_moves.specs.Acting.{sceneBy};
-ghost use Rattle.layout.specs.Layout.{activationIn, leadIn};
+ghost use Rattle.resolved.specs.Layout.{activationIn, leadIn};
 ghost use Rattle.run_statements.specs.Pieces.{only-words, FormalsBefore, enteredBy};
 ghost use Rattle.run_statements.specs.Scenes.{Done};
 ghost use Rattle.display_run.specs.Finding.{firstCell, ownCell, byDisplay, Reachable, Direct, ThroughFormal, TwoNames, ThreeNames, Operands, ArgumentsReachable, Callable};

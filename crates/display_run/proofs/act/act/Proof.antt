@@ -9,7 +9,7 @@ use Rattle.language.specs.Text.{plus, minus, less}
 use Rattle.run_moves.specs.declared.Move.{Move}
 use Rattle.run_moves.specs.declared.Ask.the-variants.{Add, Remove}
 use Rattle.run_moves.specs.Acting.{Finding, Scene, sceneBy, Op, constant-op, operationOf, operations, opOf, happens, acting}
-use Rattle.layout.specs.Layout.{operationIn}
+use Rattle.resolved.specs.Layout.{operationIn}
 use Rattle.display_run.specs.Finding.{firstCell, byDisplay}
 use Rattle.display_run.specs.Ready.{Ready, ready, at-there}
 use Rattle.run_statements.specs.Words.{home-direct, target-direct}
