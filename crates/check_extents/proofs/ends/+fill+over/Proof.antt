@@ -69,18 +69,18 @@ fill-Inv-loop script ends₀ at here₀ pending₀ ends here pending =
 abbrev fill-μ-loop : fill-lts.MeasureT-loop
 fill-μ-loop script ends₀ at here₀ pending₀ ends here pending = length script - here
 
--- the places: the starts, and the loop of a record passed over
+-- the places: the start, and a turn in which a record is passed over
 abbrev fill-startOf :
     {t : ℕ} →
     fill-lts.At-loop (fill-claims t) (fill-at t) fill.Post fill-Inv-loop fill-μ-loop →
     fill-lts.Start (fill-claims t) (fill-at t) fill.Post fill-Inv-loop fill-μ-loop
 fill-startOf c = c .before .before
 
-abbrev fill-loopOf :
+abbrev fill-turnOf :
     {t : ℕ} →
     fill-lts.After-over (fill-claims t) (fill-at t) fill.Post fill-Inv-loop fill-μ-loop →
-    fill-lts.At-loop (fill-claims t) (fill-at t) fill.Post fill-Inv-loop fill-μ-loop
-fill-loopOf c = c .before .before .before .before
+    fill-lts.In-loop (fill-claims t) (fill-at t) fill.Post fill-Inv-loop fill-μ-loop
+fill-turnOf c = c .before .before .before
 
 fill-returns : (t : ℕ) → fill-lts.Need-returns (fill-claims t) (fill-at t) fill.Post fill-Inv-loop fill-μ-loop
 fill-returns t c =
@@ -101,13 +101,14 @@ fill-returns t c =
 fill-loop-again : (t : ℕ) → fill-lts.Need-loop-again (fill-claims t) (fill-at t) fill.Post fill-Inv-loop fill-μ-loop
 fill-loop-again t c =
     let o = c .before .over in
-    let at = fill-loopOf (c .before) in
+    let turn = fill-turnOf (c .before) in
+    let at = turn .before in
     let l = at .loop in
     let a = fill-startOf at .args in (
       search needs,
       o .ensures .0 .near,
       search needs,
-      λ x h. o .ensures .0 .steps (a .at) (l .pending) x (c .before .before .before .before .loop-test .taken) (l .inv .3 x h),
+      λ x h. o .ensures .0 .steps (a .at) (l .pending) x (turn .loop-test .taken) (l .inv .3 x h),
       o .ensures .1,
     )
 
