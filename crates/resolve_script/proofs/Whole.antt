@@ -48,8 +48,8 @@ module _ (bs : List ℕ) (bytes : Bytes bs) (t : Block) (e : check bs ≡ accept
   whole es long = record { here = here; depth = refl; shown = record { same = drop-of-length-le es long; fit = tt }; within = omega (arith, fields-fit) }
 
   pub words-are :
-      (es code′ : List ℕ) (name r : ℕ) → length es ≤ 1280 → BlockWritten bs es name 0 0 1280 1 (replicate 4096 0) code′ r →
+      (es code code′ : List ℕ) (name r : ℕ) → length es ≤ 1280 → code ≡ replicate 4096 0 → BlockWritten bs es name 0 0 1280 1 code code′ r →
       code′ ≡ resolvedOf name t ++ replicate (4096 - length (resolvedOf name t)) 0
   unfolding resolvedOf resolvedFormals
-  words-are es code′ name r long written =
-      written t [] [] (whole es long) .grows .grown [] 4096 refl refl (omega (arith, fields-fit, block-length name t [] []))
+  words-are es code code′ name r long empty written =
+      written t [] [] (whole es long) .grows .grown [] 4096 refl empty (omega (arith, fields-fit, block-length name t [] []))
