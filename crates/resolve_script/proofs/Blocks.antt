@@ -1,6 +1,6 @@
 -- A block with its formals: its names in the array, and its words.
 -- Assumes nothing.
-use mathlib.Core.Path.{_≡_, refl, sym, _∙_, ap, ap₂, subst}
+use mathlib.Core.Path.{_≡_, sym, _∙_, ap, ap₂, subst}
 use mathlib.Core.List.{List, [], _∷_, _++_, map, append-assoc}
 use Prim.Native.Nat.{ℕ, suc, _+_, _*_, _-_, _/_, _%_, _<_, _≤_}
 use native.Mathlib.Omega.{arith}
@@ -9,13 +9,13 @@ use Rattle.language.specs.Text.{Formal, Block, block, Decls, Stmts, decls, stmt
 use Rattle.language.specs.Encoding.{blockFields, BK-mark}
 use Rattle.grammar.specs.Rules.{FormedBlock}
 use Rattle.coordinates.specs.Enclosure.{enclosed, Enclosure}
-use Rattle.resolved.specs.Resolved.{endPlace, stmtPlace, headWord, boundsWord, header, nameWord, resolvedFormals, resolvedBlock, resolvedDecls, resolvedStmts}
+use Rattle.resolved.specs.Resolved.{endPlace, headWord, boundsWord, header, nameWord, resolvedFormals, resolvedBlock, resolvedDecls}
 use Rattle.resolved.specs.Lengths.{formals-length, formals-fields}
 use Rattle.laws.specs.Fields.{fieldAt}
 use Rattle.check_symbols.specs.Chains.{Chained, Rechained}
 use Rattle.check_symbols.proofs.Chains.{kept-from, chained-still}
 use Rattle.layout.specs.Layout.{headFrom, boundsFrom}
-use Rattle.check_extents.specs.Items.{itemsFields, inBlock, declared, stated}
+use Rattle.check_extents.specs.Items.{inBlock, stated}
 use Rattle.check_scope.specs.Walking.{BlockHere, Ready, Kept}
 use Rattle.check_scope.proofs.Marked.{block-mark}
 use Rattle.check_scope.proofs.Blocks.{block-room, items-here, reaches}
@@ -24,7 +24,7 @@ use Rattle.resolve_words.specs.Visible.{wordIn, Short, Shown}
 use Rattle.resolve_words.proofs.Growth.{grown-then, grown-patched}
 use Rattle.resolve_words.proofs.Lookups.{word-is, word-short}
 use Rattle.resolve_names.specs.Declared.{Declarable, Declares}
-use Rattle.resolve_script.specs.Resolving.{resolvedItems, BlockIs, ItemsIs, Written, FormalsWritten, Entered, Leads, Enters, BlockWritten, ItemsWritten, Onward}
+use Rattle.resolve_script.specs.Resolving.{resolvedItems, FormalsWritten, Entered, Leads, Enters, BlockWritten, ItemsWritten, Onward}
 use Rattle.resolve_script.proofs.Items.{stmts-resolved, decls-resolved}
 
 formals-place : (fs : List Formal) (at count : ℕ) → length fs ≡ count → at + 6 * count ≡ at + 2 * length (resolvedFormals fs)

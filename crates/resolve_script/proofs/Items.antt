@@ -15,7 +15,7 @@ use Rattle.check_scope.specs.Walking.{FormedItem, ItemsHere, Ready, Kept}
 use Rattle.resolve_words.specs.Growth.{Grown}
 use Rattle.resolve_words.specs.Visible.{Shown}
 use Rattle.resolve_words.proofs.Growth.{grown-nothing, grown-then}
-use Rattle.resolve_script.specs.Resolving.{resolvedItem, resolvedItems, ItemsIs, ItemIs, Written, ItemWritten, ItemsWritten, Onward}
+use Rattle.resolve_script.specs.Resolving.{resolvedItem, resolvedItems, ItemsIs, Written, ItemWritten, ItemsWritten, Onward}
 
 -- declarations and statements as records
 pub stmts-resolved : (name : ℕ) (ss : Stmts) (encl : Enclosure) → resolvedStmts name ss encl ≡ resolvedItems name (map stated (stmts ss)) encl

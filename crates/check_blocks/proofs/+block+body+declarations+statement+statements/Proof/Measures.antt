@@ -16,7 +16,7 @@ use Rattle.check_blocks.proofs.statements.Reads as statements
 use Rattle.check_blocks.proofs.statements.Kinds as statements-kinds
 
 abbrev pub μ-block : Measures 2 block-kinds.ps ℕ
-μ-block κs a = 8 * (length (a .0 .now) - a .1 .1 .1 .0) + 2
+μ-block κs a = let (script, (names, (at, (next, more)))) = a in 8 * (length (script .now) - next) + 2
 
 abbrev pub block-at : ℕ → In 2 block-kinds.ps
 block-at t = and 2 block-kinds.ps (is 2 block-kinds.ps μ-block t) block.Pre
@@ -25,7 +25,7 @@ abbrev pub block-below : ℕ → In 2 block-kinds.ps
 block-below t = and 2 block-kinds.ps (falls 2 block-kinds.ps _<_ μ-block t) block.Pre
 
 abbrev pub μ-body : Measures 2 body-kinds.ps ℕ
-μ-body κs a = 8 * (length (a .0 .now) - a .1 .1 .1 .0)
+μ-body κs a = let (script, (names, (mark, (start, more)))) = a in 8 * (length (script .now) - start)
 
 abbrev pub body-at : ℕ → In 2 body-kinds.ps
 body-at t = and 2 body-kinds.ps (is 2 body-kinds.ps μ-body t) body.Pre
@@ -34,7 +34,7 @@ abbrev pub body-below : ℕ → In 2 body-kinds.ps
 body-below t = and 2 body-kinds.ps (falls 2 body-kinds.ps _<_ μ-body t) body.Pre
 
 abbrev pub μ-declarations : Measures 2 declarations-kinds.ps ℕ
-μ-declarations κs a = 8 * (length (a .0 .now) - a .1 .1 .0) + 1
+μ-declarations κs a = let (script, (names, (start, more))) = a in 8 * (length (script .now) - start) + 1
 
 abbrev pub declarations-at : ℕ → In 2 declarations-kinds.ps
 declarations-at t = and 2 declarations-kinds.ps (is 2 declarations-kinds.ps μ-declarations t) declarations.Pre
@@ -43,7 +43,7 @@ abbrev pub declarations-below : ℕ → In 2 declarations-kinds.ps
 declarations-below t = and 2 declarations-kinds.ps (falls 2 declarations-kinds.ps _<_ μ-declarations t) declarations.Pre
 
 abbrev pub μ-statement : Measures 2 statement-kinds.ps ℕ
-μ-statement κs a = 8 * (length (a .0 .now) - a .1 .1 .1 .1 .0) + 3
+μ-statement κs a = let (script, (names, (mark, (at, (next, more))))) = a in 8 * (length (script .now) - next) + 3
 
 abbrev pub statement-at : ℕ → In 2 statement-kinds.ps
 statement-at t = and 2 statement-kinds.ps (is 2 statement-kinds.ps μ-statement t) statement′.Pre
@@ -52,7 +52,7 @@ abbrev pub statement-below : ℕ → In 2 statement-kinds.ps
 statement-below t = and 2 statement-kinds.ps (falls 2 statement-kinds.ps _<_ μ-statement t) statement′.Pre
 
 abbrev pub μ-statements : Measures 2 statements-kinds.ps ℕ
-μ-statements κs a = 8 * (length (a .0 .now) - a .1 .1 .0) + 1
+μ-statements κs a = let (script, (names, (start, more))) = a in 8 * (length (script .now) - start) + 1
 
 abbrev pub statements-at : ℕ → In 2 statements-kinds.ps
 statements-at t = and 2 statements-kinds.ps (is 2 statements-kinds.ps μ-statements t) statements.Pre
