@@ -111,28 +111,18 @@ module _ {whole : Bool} {ws : List ℤ} {mine : ℕ → Bool} {i : ℕ} {slots :
   higher : (q : ℕ) → getD (firsts slots) q 0 ≤ suc i
   higher q = omega (arith, good .low q)
 
+  -- the slots stay
+  good-same : laws.All keys (suc i) (firsts slots) (numbers slots) → Good whole ws mine (i + 1) slots
+  good-same all = record { slot-words = good .slot-words; low = λ q. omega (arith, good .low q); kept = rw (add-one i) all }
+
   pub good-skip : (Mine i → ⊥) → Good whole ws mine (i + 1) slots
-  good-skip h =
-      record {
-        slot-words = good .slot-words;
-        low = λ q. omega (arith, good .low q);
-        kept = rw (add-one i)
-            (laws.skipped keys i (firsts slots) (numbers slots) (good .kept) h);
-      }
+  good-skip h = good-same (laws.skipped keys i (firsts slots) (numbers slots) (good .kept) h)
 
   pub good-full : Passed (sameAt whole ws i) (slotAt whole ws i) (firsts slots) 256 → Good whole ws mine (i + 1) slots
-  good-full p =
-      record {
-        slot-words = good .slot-words;
-        low = λ q. omega (arith, good .low q);
-        kept = rw (add-one i)
-            (laws.filled keys i (firsts slots) (numbers slots) (good .kept) p);
-      }
+  good-full p = good-same (laws.filled keys i (firsts slots) (numbers slots) (good .kept) p)
 
   pub held-count : {q : ℕ} → Mine i → EndsHeld (sameAt whole ws i) (slotAt whole ws i) (firsts slots) q → numberIn (getD slots q 0) ≡ counted whole ws i i
-  held-count {q} m r =
-      sym (number-of slots q) ∙
-      laws.known keys i (firsts slots) (numbers slots) (good .kept) m (good .low) r
+  held-count {q} m r = sym (number-of slots q) ∙ laws.known keys i (firsts slots) (numbers slots) (good .kept) m (good .low) r
 
   pub good-held :
       {q : ℕ} → Mine i → EndsHeld (sameAt whole ws i) (slotAt whole ws i) (firsts slots) q → Good whole ws mine (i + 1) (set slots q (getD slots q 0 + 4294967296))
@@ -145,9 +135,7 @@ module _ {whole : Bool} {ws : List ℤ} {mine : ℕ → Bool} {i : ℕ} {slots :
       }
 
   pub empty-count : {q : ℕ} → Mine i → EndsEmpty (sameAt whole ws i) (slotAt whole ws i) (firsts slots) q → counted whole ws i i ≡ 0
-  empty-count m r =
-      none-of whole ws i i
-      (laws.new keys i (firsts slots) (numbers slots) (good .kept) m r)
+  empty-count m r = none-of whole ws i i (laws.new keys i (firsts slots) (numbers slots) (good .kept) m r)
 
   pub good-new :
       {q : ℕ} → i < 4294967295 → Mine i → EndsEmpty (sameAt whole ws i) (slotAt whole ws i) (firsts slots) q → Good whole ws mine (i + 1) (set slots q (i + 1 + 4294967296))

@@ -48,7 +48,7 @@ module _ {same : ℕ → ℕ → Bool} {slot : ℕ → ℕ} {mine : ℕ → Type
   turn : (i j : ℕ) → same i j ≡ true → same j i ≡ true
   turn i j e = sym (keys .key i j e i) ∙ keys .self i
 
-  abbrev All : ℕ → List ℕ → List ℕ → Type 0
+  abbrev pub All : ℕ → List ℕ → List ℕ → Type 0
   All i first number = (j : ℕ) → j < i → mine j → Kept (same j) (slot j) first number (counted j i)
 
   -- one place more: its own key, and the others
