@@ -72,12 +72,6 @@ raised-is c = let s = begin (heldOf c) in c .raise .ensures ∙ ap (raised (s .a
 next : (c : tie.After-raise) → Next (begin (heldOf c)) (c .raise .last .0)
 next c = let s = begin (heldOf c) in subst (Next s) (sym (raised-is c)) (bounded-next (bounded s) (fits c) (room c) (less c))
 
-returns-2 : tie.Need-returns-2
-returns-2 c = (
-  search (needs, next),
-  search needs,
-)
-
 returns-3 : tie.Need-returns-3
 returns-3 c =
     let k = c .before .before .before in
@@ -94,5 +88,5 @@ returns-3 c =
 pub count-one-spec : {M : Type 1} → statement M
 count-one-spec =
     tie.close (tie.spec (λ c κs. search needs) (λ c κs. search needs) bucket-of-requires (λ c κs. search (needs, inside))
-    (λ c. search needs) returns (λ c κs. search (needs, inside)) (λ c. search (needs, fits)) (λ c. search needs) returns-2
-    (λ c. search needs) returns-3)
+    (λ c. search needs) returns (λ c κs. search (needs, inside)) (λ c. search (needs, fits)) (λ c. search needs)
+    (λ c. (search (needs, next), search needs)) (λ c. search needs) returns-3)
