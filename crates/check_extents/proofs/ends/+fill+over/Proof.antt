@@ -1,15 +1,16 @@
-use borrow.Author.Needs.{needs}
 -- `check_extents::ends::fill` and `over` call each other and meet their contracts. What is unread falls; at one offset, `over` calls `fill`.
 -- Assumes nothing.
-use Prim.Native.Nat.{ℕ, _+_, _*_, _-_, _<_, _≤_}
+use Prim.Native.Nat.{ℕ, _+_, _*_, _-_, _≤_}
 use native.Mathlib.Omega.{arith}
 use lib.ListN.{length}
 use Rattle.laws.specs.Fields.{FieldsStand}
 use Rattle.check_extents.specs.Items.{Item, itemFields}
 use Rattle.check_extents.specs.Passing.{Skipped, Left, Ends}
 use Rattle.check_extents.proofs.Skipping.{left-first, left-whole, left-end, left-inside, stepped-head}
+use borrow.Author.Needs.{needs}
 use borrow.Fn.Kinds.{In}
-use borrow.Fn.PlainCycle.{Measures, is, falls, and}
+use borrow.Fn.PlainCycle.{Measures}
+use Rattle.check_fields.proofs.Cycles.{entered, called}
 use Rattle.check_extents.proofs.ends.fill.Reads as fill
 use Rattle.check_extents.proofs.ends.fill.Kinds as fill-kinds
 use Rattle.check_extents.proofs.ends.+fill+over.Lts-fill as fill-lts
@@ -25,22 +26,22 @@ use Rattle.check_extents.proofs.ends.+fill+over.{statement}
 use Rattle.check_extents.proofs.ends.+fill+over.Tie.{close}
 
 abbrev μ-fill : Measures 2 fill-kinds.ps ℕ
-μ-fill κs a = 2 * (length (a .0 .now) - a .1 .1 .0)
+μ-fill κs a = let (script, (ends, (at, more))) = a in 2 * (length (script .now) - at)
 
 abbrev μ-over : Measures 2 over-kinds.ps ℕ
-μ-over κs a = 2 * (length (a .0 .now) - a .1 .1 .0) + 1
+μ-over κs a = let (script, (ends, (at, more))) = a in 2 * (length (script .now) - at) + 1
 
 abbrev fill-at : ℕ → In 2 fill-kinds.ps
-fill-at t = and 2 fill-kinds.ps (is 2 fill-kinds.ps μ-fill t) fill.Pre
+fill-at t = entered 2 fill-kinds.ps μ-fill fill.Pre t
 
 abbrev fill-below : ℕ → In 2 fill-kinds.ps
-fill-below t = and 2 fill-kinds.ps (falls 2 fill-kinds.ps _<_ μ-fill t) fill.Pre
+fill-below t = called 2 fill-kinds.ps μ-fill fill.Pre t
 
 abbrev over-at : ℕ → In 2 over-kinds.ps
-over-at t = and 2 over-kinds.ps (is 2 over-kinds.ps μ-over t) over.Pre
+over-at t = entered 2 over-kinds.ps μ-over over.Pre t
 
 abbrev over-below : ℕ → In 2 over-kinds.ps
-over-below t = and 2 over-kinds.ps (falls 2 over-kinds.ps _<_ μ-over t) over.Pre
+over-below t = called 2 over-kinds.ps μ-over over.Pre t
 
 -- what each may use of those that it calls
 abbrev fill-claims : ℕ → fill-lts.Claims
