@@ -11,9 +11,9 @@ use layout::cell_at;
 use layout::first_of;
 use layout::formals_of;
 use layout::names_of;
+use numbers::from_u32;
 use run_state::Registers;
 use run_state::narrow_u32;
-use run_state::wide_u32;
 use run_words::clear;
 use run_words::code_at;
 ghost use mathlib.Core.Path.{_≡_};
@@ -50,7 +50,7 @@ fn entered(
         (cellFrom (here .live + 1) (formalsIn (getD (now (code .entry)) (activation .block) 0)))
         (cellFrom (here .live + 1) (namesIn (getD (now (code .entry)) (activation .block) 0))) (now (words .exit)) ⌝ }
 {
-    let block = wide_u32(activation.block);
+    let block = from_u32(activation.block);
     let head = code_at(code, block);
     let fresh = here.live + 1;
     clear(
@@ -62,7 +62,7 @@ fn entered(
         code,
         activation,
         fresh,
-        wide_u32(activation.next),
+        from_u32(activation.next),
         here.pairs,
     )
 }

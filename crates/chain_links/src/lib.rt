@@ -7,10 +7,10 @@ pub use entering::enter;
 use layout::SHARE;
 use layout::end_of;
 use layout::level_of;
+use numbers::from_u32;
 use run_sheet::name_designator;
 use run_state::Registers;
 use run_state::narrow_u32;
-use run_state::wide_u32;
 use run_words::code_at;
 ghost use mathlib.Core.Path.{_≡_};
 ghost use Prim.Native.Nat.{_+_, _*_, _-_, _<_, _≤_};
@@ -80,7 +80,7 @@ pub fn innermost(
     requires { ⌜ activation .block + 3 ≤ 4096 ⌝ }
     ensures { λ r. ⌜ r ≡ nowBy (now (code .entry)) (activation .block) home place pairs ⌝ }
 {
-    let block = wide_u32(activation.block);
+    let block = from_u32(activation.block);
     Registers {
         live: home,
         at: place,
@@ -100,7 +100,7 @@ pub fn left(code: &[u32; 4096], here: Registers, activation: Activation) -> Regi
         code,
         activation,
         here.live - 1,
-        wide_u32(activation.next),
+        from_u32(activation.next),
         here.pairs,
     )
 }
@@ -116,7 +116,7 @@ fn looked_up(code: &[u32; 4096], activation: Activation) -> usize
     requires { ⌜ activation .block + 3 ≤ 4096 ⌝ }
     ensures { λ r. ⌜ r ≡ getD (now (code .entry)) (activation .block + 2) 0 ⌝ }
 {
-    code_at(code, wide_u32(activation.block) + 2)
+    code_at(code, from_u32(activation.block) + 2)
 }
 
 fn links_to(here: Registers, word: usize) -> usize

@@ -2,8 +2,8 @@
 use chain_records::Activation;
 use chain_records::read;
 use layout::SHARE;
+use numbers::from_u32;
 use run_sheet::write_activation;
-use run_state::wide_u32;
 ghost use mathlib.Core.List.{List, _∷_, _++_};
 ghost use mathlib.Core.Path.{_≡_};
 ghost use Prim.Native.Nat.{ℕ, _+_, _*_, _≤_, _<_};
@@ -35,8 +35,8 @@ fn write_record(
     write_activation(
         code,
         words,
-        wide_u32(activation.block),
-        wide_u32(activation.next),
+        from_u32(activation.block),
+        from_u32(activation.next),
         SHARE * k,
         sheet,
         at,

@@ -264,5 +264,6 @@ module _ (bs es es₁ es₂ ends₁ ends₂ : List ℕ) (at count d top : ℕ) (
           (s : ℕ) (r : Progress) (es₄ es₅ ends : List ℕ) → d ≡ fieldAt bs (at + 6 * count + 2) → s ≡ fieldAt bs (at + 6 * count + 4) →
           ItemsJudged bs es₃ (at + 6 * count + 6) (d + s) base r × (Ahead (at + 6 * count + 6) (length bs) r × Kept bs es₃ es₄ ends base) →
           Rechained es₄ es₅ top → BlockJudged bs es at count top r × (Ahead at (length bs) r × Kept bs es es₅ ends top)
-      block-walked s r es₄ es₅ ends d-read s-read w out =
-          (block-judged s r d-read s-read (w .0), (ahead-from at (at + 6 * count + 6) (length bs) r (omega arith) (w .1 .0), block-kept es₄ es₅ ends (w .1 .1) out))
+      block-walked s r es₄ es₅ ends d-read s-read walked out =
+          let (judged, (ahead, k)) = walked in
+          (block-judged s r d-read s-read judged, (ahead-from at (at + 6 * count + 6) (length bs) r (omega arith) ahead, block-kept es₄ es₅ ends k out))

@@ -7,9 +7,9 @@ use layout::first_of;
 use layout::formals_of;
 use layout::level_of;
 use layout::names_of;
+use numbers::from_u16;
 use run_state::Registers;
 use run_state::narrow;
-use run_state::wide;
 use run_words::clear;
 use run_words::code_at;
 ghost use mathlib.Core.Path.{_≡_};
@@ -32,7 +32,7 @@ fn activation_level(code: &[u32; 4096], blocks: &[u16; 256], activation: usize) 
     requires { ⌜ (activation < 256) × (getD (now blocks) activation 0 < 4096) ⌝ }
     ensures { λ r. ⌜ (r ≡ levelAt (now (code .entry)) (now (blocks .entry)) activation) × (r < 256) ⌝ }
 {
-    level_at(code, wide(blocks[activation]))
+    level_at(code, from_u16(blocks[activation]))
 }
 
 // Where the text of an activation's block ends.
@@ -40,7 +40,7 @@ fn activation_end(code: &[u32; 4096], blocks: &[u16; 256], activation: usize) ->
     requires { ⌜ (activation < 256) × (getD (now blocks) activation 0 + 1 < 4096) ⌝ }
     ensures { λ r. ⌜ r ≡ endAt (now (code .entry)) (now (blocks .entry)) activation ⌝ }
 {
-    end_of(code_at(code, wide(blocks[activation]) + 1))
+    end_of(code_at(code, from_u16(blocks[activation]) + 1))
 }
 
 // The display becomes that of an activation of a level; the entries up to `sure` are those of the innermost activation before.
@@ -59,12 +59,12 @@ fn restore(
     let mut l = level;
     while 0 < l {
         if l <= sure {
-            if wide(display[l]) == SHARE * a {
+            if from_u16(display[l]) == SHARE * a {
                 return;
             }
         }
         display[l] = narrow(SHARE * a);
-        a = wide(links[a]);
+        a = from_u16(links[a]);
         l -= 1;
     }
 }
@@ -88,7 +88,7 @@ pub fn leave(
     restore(links, display, live, level, sure);
     Registers {
         live,
-        at: wide(nexts[live]),
+        at: from_u16(nexts[live]),
         end: activation_end(code, blocks, live),
         ..here
     }

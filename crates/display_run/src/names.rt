@@ -3,7 +3,7 @@ use layout::cell_of;
 use layout::formal_of;
 use layout::level_of;
 use layout::position_of;
-use run_state::wide;
+use numbers::from_u16;
 ghost use mathlib.Core.Path.{_≡_};
 ghost use Prim.Native.Nat.{_+_, _<_};
 ghost use Rattle.arrays.specs.Found.{cellBy, heldBy};
@@ -13,7 +13,7 @@ ghost use Rattle.display_run.specs.Finding.{firstCell, ownCell, Reachabl
 pub fn first_cell(display: &[u16; 256], word: usize) -> usize
     ensures { λ r. ⌜ (r ≡ firstCell (now (display .entry)) word) × (r < 65536) ⌝ }
 {
-    wide(display[level_of(word)])
+    from_u16(display[level_of(word)])
 }
 
 // The name's own cell.

@@ -7,6 +7,7 @@ use display_moves::leave;
 use display_moves::note_place;
 use layout::end_of;
 use layout::first_of;
+use numbers::from_u16;
 use run_moves::Ask;
 use run_moves::Move;
 use run_sheet::designator_of;
@@ -17,7 +18,6 @@ use run_state::finished;
 use run_state::named;
 use run_state::spent;
 use run_state::stopped;
-use run_state::wide;
 use run_statements::after;
 use run_words::code_at;
 use table_pairs::Change;
@@ -117,7 +117,7 @@ fn looked_up(
     requires { ⌜ Looking (now code) (now words) (now blocks) (now display) live ⌝ }
     ensures { λ r. ⌜ ((w : Looking (now (code .entry)) (now (words .entry)) (now (blocks .entry)) (now (display .entry)) live) → r ≡ designates (w .running .standing .stack .frames) (w .running .standing .name)) ⌝ }
 {
-    let word = code_at(code, wide(blocks[live]) + 2);
+    let word = code_at(code, from_u16(blocks[live]) + 2);
     if word == 0 {
         return 0;
     }

@@ -1,6 +1,6 @@
 -- A block with its formals: its names in the array, and its words.
 -- Assumes nothing.
-use mathlib.Core.Path.{_≡_, refl, sym, _∙_, ap, ap₂, subst}
+use mathlib.Core.Path.{_≡_, sym, _∙_, ap, ap₂, subst}
 use mathlib.Core.List.{List, [], _∷_, _++_, map, append-assoc}
 use Prim.Native.Nat.{ℕ, suc, _+_, _*_, _-_, _/_, _%_, _<_, _≤_}
 use native.Mathlib.Omega.{arith}
@@ -9,13 +9,13 @@ use Rattle.language.specs.Text.{Formal, Block, block, Decls, Stmts, decls, stmt
 use Rattle.language.specs.Encoding.{blockFields, BK-mark}
 use Rattle.grammar.specs.Rules.{FormedBlock}
 use Rattle.coordinates.specs.Enclosure.{enclosed, Enclosure}
-use Rattle.resolved.specs.Resolved.{endPlace, stmtPlace, headWord, boundsWord, header, nameWord, resolvedFormals, resolvedBlock, resolvedDecls, resolvedStmts}
+use Rattle.resolved.specs.Resolved.{endPlace, headWord, boundsWord, header, nameWord, resolvedFormals, resolvedBlock, resolvedDecls}
 use Rattle.resolved.specs.Lengths.{formals-length, formals-fields}
 use Rattle.laws.specs.Fields.{fieldAt}
 use Rattle.check_symbols.specs.Chains.{Chained, Rechained}
 use Rattle.check_symbols.proofs.Chains.{kept-from, chained-still}
 use Rattle.resolved.specs.Layout.{headFrom, boundsFrom}
-use Rattle.check_extents.specs.Items.{itemsFields, inBlock, declared, stated}
+use Rattle.check_extents.specs.Items.{inBlock, stated}
 use Rattle.check_scope.specs.Walking.{BlockHere, Ready, Kept}
 use Rattle.check_scope.proofs.Marked.{block-mark}
 use Rattle.check_scope.proofs.Blocks.{block-room, items-here, reaches}
@@ -24,7 +24,7 @@ use Rattle.resolve_words.specs.Visible.{wordIn, Short, Shown}
 use Rattle.resolve_words.proofs.Growth.{grown-then, grown-patched}
 use Rattle.resolve_words.proofs.Lookups.{word-is, word-short}
 use Rattle.resolve_names.specs.Declared.{Declarable, Declares}
-use Rattle.resolve_script.specs.Resolving.{resolvedItems, BlockIs, ItemsIs, Written, FormalsWritten, Entered, Leads, Enters, BlockWritten, ItemsWritten, Onward}
+use Rattle.resolve_script.specs.Resolving.{resolvedItems, FormalsWritten, Entered, Leads, Enters, BlockWritten, ItemsWritten, Onward}
 use Rattle.resolve_script.proofs.Items.{stmts-resolved, decls-resolved}
 
 formals-place : (fs : List Formal) (at count : ℕ) → length fs ≡ count → at + 6 * count ≡ at + 2 * length (resolvedFormals fs)
@@ -147,10 +147,12 @@ no-room bs es c c′ name at count top level d r e l b fs encl h = absurd (omega
 
 -- what entering it asks
 pub enterable :
-    (bs es st ends : List ℕ) (at count d s top level : ℕ) → Ready bs es ends top → 2048 ≤ length st → at ≤ length bs + 6 → count < 65536 → level ≤ at + 1 →
+    (bs es st ends : List ℕ) (at count d s top level : ℕ) →
+    Ready bs es ends top × (2048 ≤ length st) × (at ≤ length bs + 6) × (count < 65536) × (level ≤ at + 1) →
     (d ≡ fieldAt bs (at + 6 * count + 2)) × (d < 65536) → (s ≡ fieldAt bs (at + 6 * count + 4)) × (s < 65536) → 768 + (count + d) ≤ top →
     Declarable bs es st ends at count d s (top - (count + d)) level × (768 ≤ top - (count + d)) × Chained es (top - (count + d) + (count + d))
-enterable bs es st ends at count d s top level r long near few low dr sr fits =
+enterable bs es st ends at count d s top level asked dr sr fits =
+    let (r, long, near, few, low) = asked in
     let whole : top ≡ top - (count + d) + (count + d) = omega arith in (
       record {
         short = r .short;
@@ -169,6 +171,24 @@ enterable bs es st ends at count d s top level r long near few low dr sr fits =
       subst (Chained es) whole (r .chained),
     )
 
+-- and what the walk of its records asks
+pub walkable :
+    (bs es es₁ ends ends₁ c c₁ : List ℕ) (name at count d s top level first n n₁ : ℕ) →
+    Ready bs es ends top × (2048 ≤ n) × (at ≤ length bs + 6) × (count < 65536) × (level ≤ at + 1) →
+    Enters bs es es₁ ends₁ c c₁ name at count d (top - (count + d)) level first → n₁ ≡ n →
+    (d ≡ fieldAt bs (at + 6 * count + 2)) × (d < 65536) → (s ≡ fieldAt bs (at + 6 * count + 4)) × (s < 65536) → at + 6 * count + 6 ≤ length bs + 400000 →
+    Ready bs es₁ ends₁ (top - (count + d)) × (2048 ≤ n₁) × (at + 6 * count + 6 ≤ length bs + 400000) × (d + s ≤ 131070) × (level ≤ at + 6 * count + 6)
+walkable bs es es₁ ends ends₁ c c₁ name at count d s top level first n n₁ asked enters same dr sr near =
+    let (r, long, close, few, low) = asked in
+    (record { short = r .short; room = omega (arith, r .room); chained = enters .chained; noted = enters .noted }, omega arith, near, omega arith, omega arith)
+
+-- what a walk answers after the words written: it goes on, and leaves the entries
+abbrev pub onward : {A B C : Type 0} → A × (B × C) → B
+onward r = r .1 .0
+
+abbrev pub kept : {A B C : Type 0} → A × (B × C) → C
+kept r = r .1 .1
+
 pub onward-start : (at count n : ℕ) → at ≤ n + 6 → count < 65536 → Onward at n (at + 6 * count)
 onward-start at count n l m = (omega arith, omega arith)
 
@@ -185,18 +205,18 @@ module _ (bs es es₁ ends₁ c c₁ : List ℕ) (name at count d top level firs
         ItemsWritten bs es₁ name (at + 6 * count + 6) (d + s) base level c₁ c₂ end × (Onward (at + 6 * count + 6) (length bs) end × Kept bs es₁ es₂ ends base) →
         w ≡ boundsFrom (end / 2) (first / 2) → c₃ ≡ set c₂ ((at + 6 * count + 2) / 2) (w % 4294967296) → Rechained es₂ es₃ top →
         BlockWritten bs es name at count top level c c₃ end × (Onward at (length bs) end × Kept bs es es₃ ends top)
-    block-walked es₂ es₃ ends c₂ c₃ s end w d-read s-read g b put out = (
+    block-walked es₂ es₃ ends c₂ c₃ s end w d-read s-read walked b put out = (
       block-written bs es es₁ c c₁ c₂ c₃ name at count top base level first end d s d-read s-read whole
           (subst (λ (k : ℕ). Entered bs es es₁ name at count k base level c c₁) whole (enters .entered))
-          (subst (λ (k : ℕ). Leads bs es at count k level first) whole (enters .leads)) (g .0) (put ∙ ap (λ (x : ℕ). set c₂ ((at + 6 * count + 2) / 2) (x % 4294967296)) b),
+          (subst (λ (k : ℕ). Leads bs es at count k level first) whole (enters .leads)) (walked .0) (put ∙ ap (λ (x : ℕ). set c₂ ((at + 6 * count + 2) / 2) (x % 4294967296)) b),
       (
-        (omega (arith, g .1 .0 .0), g .1 .0 .1),
+        (omega (arith, onward walked), onward walked .1),
         record {
           same =
-              kept-from es₃ es₂ 768 top (omega arith) (out .same) ∙ kept-from es₂ es₁ base top (omega arith) (g .1 .1 .same)
+              kept-from es₃ es₂ 768 top (omega arith) (out .same) ∙ kept-from es₂ es₁ base top (omega arith) (kept walked .same)
               ∙ subst (λ (k : ℕ). drop k es₁ ≡ drop k es) whole (enters .same);
           chained = out .chained;
-          noted = g .1 .1 .noted;
+          noted = kept walked .noted;
         },
       ),
     )

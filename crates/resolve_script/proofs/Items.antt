@@ -15,7 +15,7 @@ use Rattle.check_scope.specs.Walking.{FormedItem, ItemsHere, Ready, Kept}
 use Rattle.resolve_words.specs.Growth.{Grown}
 use Rattle.resolve_words.specs.Visible.{Shown}
 use Rattle.resolve_words.proofs.Growth.{grown-nothing, grown-then}
-use Rattle.resolve_script.specs.Resolving.{resolvedItem, resolvedItems, ItemsIs, ItemIs, Written, ItemWritten, ItemsWritten, Onward}
+use Rattle.resolve_script.specs.Resolving.{resolvedItem, resolvedItems, ItemsIs, Written, ItemWritten, ItemsWritten, Onward}
 
 -- declarations and statements as records
 pub stmts-resolved : (name : ℕ) (ss : Stmts) (encl : Enclosure) → resolvedStmts name ss encl ≡ resolvedItems name (map stated (stmts ss)) encl
@@ -137,14 +137,14 @@ module _ {bs es₀ es st₀ st ends c₀ c : List ℕ} {name at here i count top
       ItemWritten bs es name here top level c c₁ next × (Onward here (length bs) next × Kept bs es es₁ ends₁ top) → length es₁ ≡ length es → length st₁ ≡ length st → length c₁ ≡ length c →
       Walking bs es₀ es₁ st₀ st₁ ends₁ c₀ c₁ name at next (i + 1) count top level
   walking-step {es₁} {st₁} {ends₁} {c₁} {next} more g n m l =
-      let k = g .1 .1 in
+      let (written, (on, k)) = g in
       record {
         within = omega arith;
-        from = omega (arith, w .from, g .1 .0 .0);
-        near = g .1 .0 .1;
+        from = omega (arith, w .from);
+        near = on .1;
         entries-long = n ∙ w .entries-long;
         starts-long = m ∙ w .starts-long;
         code-long = l ∙ w .code-long;
         kept = record { same = k .same ∙ w .kept .same; chained = k .chained; noted = k .noted };
-        rest = λ xs encl s h. remaining-step bs es₀ c₀ name at count top level xs encl s h here i more c c₁ es (w .kept .same) next (g .0) (w .rest xs encl s h);
+        rest = λ xs encl s h. remaining-step bs es₀ c₀ name at count top level xs encl s h here i more c c₁ es (w .kept .same) next written (w .rest xs encl s h);
       }

@@ -92,24 +92,12 @@ pub fn named(halt: Halt, designator: u32, links: u32) -> Halt
     }
 }
 
-// Numbers of the arrays, which have 16 bits or 32, as indices, and back.
-pub fn wide(x: u16) -> usize
-    ensures { λ r. ⌜ (r ≡ x) × (r < 65536) ⌝ }
-{
-    x as usize
-}
-
+// Indices as numbers of the arrays, which have 16 bits or 32.
 pub fn narrow(x: usize) -> u16
     requires { ⌜ x < 65536 ⌝ }
     ensures { λ r. ⌜ r ≡ x ⌝ }
 {
     x as u16
-}
-
-pub fn wide_u32(x: u32) -> usize
-    ensures { λ r. ⌜ (r ≡ x) × (r < 2 ^ 32) ⌝ }
-{
-    x as usize
 }
 
 pub fn narrow_u32(x: usize) -> u32

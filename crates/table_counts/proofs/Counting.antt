@@ -19,11 +19,11 @@ use Rattle.table_counters.specs.Counters.{countersOf, roomOf, heldAt, raised}
 use Rattle.table_counters.proofs.Packed.{raised-length, held-own, held-other}
 use Rattle.table_counts.specs.Bounds.{counterAt, Bounded}
 
-module _ (whole : Bool) (ws : List ℤ) (share most : ℕ) where
-  counter-key : (j i : ℕ) → sameAt whole ws j i ≡ true → counterAt share whole ws j ≡ counterAt share whole ws i
-  counter-key j i e = ap (bucket (countersOf share)) (hash-key whole ws j i e)
+counter-key : (whole : Bool) (ws : List ℤ) (share j i : ℕ) → sameAt whole ws j i ≡ true → counterAt share whole ws j ≡ counterAt share whole ws i
+counter-key whole ws share j i e = ap (bucket (countersOf share)) (hash-key whole ws j i e)
 
-  module _ (i : ℕ) (counters : List ℕ) (b : Bounded whole ws share most i counters) where
+module _ {whole : Bool} {ws : List ℤ} {share most : ℕ} where
+  module _ {i : ℕ} {counters : List ℕ} (b : Bounded whole ws share most i counters) where
     abbrev q : ℕ
     q = counterAt share whole ws i
 
@@ -33,7 +33,7 @@ module _ (whole : Bool) (ws : List ℤ) (share most : ℕ) where
       where
         go : (j : ℕ) (s : Bool) → sameAt whole ws j i ≡ s → heldAt share counters (counterAt share whole ws j) < most →
             counted whole ws j (i + 1) ≤ heldAt share counters (counterAt share whole ws j)
-        go j true e h = absurd (f (subst (λ (x : ℕ). heldAt share counters x < most) (counter-key j i e) h))
+        go j true e h = absurd (f (subst (λ (x : ℕ). heldAt share counters x < most) (counter-key whole ws share j i e) h))
         go j false e h = rw (add-one i) (omega (arith, counted-miss whole ws j i e, b .bound j h))
 
     module _ (inside : q < countersOf share) (room : heldAt share counters q < roomOf share) (less : heldAt share counters q < most) where
@@ -56,7 +56,7 @@ module _ (whole : Bool) (ws : List ℤ) (share most : ℕ) where
           let z = eqb-true (counterAt share whole ws j) q t in
           let l = subst (λ (x : ℕ). heldAt share counters x < most → counted whole ws j i ≤ heldAt share counters x) z (b .bound j) less in
           subst (λ (x : ℕ). counted whole ws j (i + 1) ≤ heldAt share after x) (sym z) (rw (add-one i) (omega (arith, own, counted-miss whole ws j i e, l)))
-      bound-at j false t true e h = absurd (eqb-false (counterAt share whole ws j) q t (counter-key j i e))
+      bound-at j false t true e h = absurd (eqb-false (counterAt share whole ws j) q t (counter-key whole ws share j i e))
       bound-at j false t false e h =
           let z = other (counterAt share whole ws j) (eqb-false (counterAt share whole ws j) q t) in
           let l = b .bound j (subst (λ (x : ℕ). x < most) z h) in
@@ -86,6 +86,6 @@ module _ (whole : Bool) (ws : List ℤ) (share most : ℕ) where
 
   -- what a counter that is not full says of a pair's rank
   pub bounded-rank :
-      (n limit : ℕ) (counters : List ℕ) → Bounded whole ws share most n counters → most ≤ limit + 1 → (j : ℕ) → j < n →
+      {n limit : ℕ} {counters : List ℕ} → Bounded whole ws share most n counters → most ≤ limit + 1 → (j : ℕ) → j < n →
       heldAt share counters (counterAt share whole ws j) < most → rankAt whole j ws ≤ limit
-  bounded-rank n limit counters b m j l h = omega (arith, rank-rises whole j n ws l, b .bound j h)
+  bounded-rank {n} b m j l h = omega (arith, rank-rises whole j n ws l, b .bound j h)

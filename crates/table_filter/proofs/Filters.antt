@@ -85,54 +85,6 @@ module _ (whole : Bool) (ws : List ℤ) where
   unfolding suspected
   suspected-own marks i = has-own marks (markAt whole ws i) (maskAt whole ws i)
 
-  -- ---- one pair more is inserted
-
-  module _ (classes class i : ℕ) (seen marks : List ℕ) (done : Inserted whole ws classes class i seen marks) where
-    abbrev Mine : ℕ → Type 0
-    Mine = OfClass whole ws classes class
-
-    -- a bit is clear: no pair before has the key
-    pub fresh : Mine i → covers (getD seen (bucketAt 28160 whole ws i) 0) (maskAt whole ws i) ≡ false → rankAt whole i ws ≤ 1
-    fresh m h =
-        rank-one whole ws i
-        (λ j l e. never (subst (λ (x : ℕ). Has seen (bucket 28160 x) (maskOf x)) (sym (hash-key whole ws i j e)) (done .inserted j l (sym (class-key whole ws classes i j e) ∙ m))) h)
-
-    abbrev pub Grown : List ℕ → Type 0
-    Grown after = (length after ≡ 4096) × ((j : ℕ) → suspected whole ws marks j ≡ true → suspected whole ws after j ≡ true)
-
-    pub grown-same : Grown marks
-    grown-same = (done .mark-words, λ j s. s)
-
-    pub grown-put : (p c : ℕ) → Grown (putIn marks p c)
-    grown-put p c = (length-set marks p _ ∙ done .mark-words, suspected-more marks p c)
-
-    still : (after : List ℕ) → Grown after → (j : ℕ) → Cleared whole ws 1 marks j → Cleared whole ws 1 after j
-    still after g j = ⊎-elim inl (λ s. inr (g .1 j s))
-
-    -- a pair of another class
-    pub insert-skip : (p c : ℕ) (after : List ℕ) → Grown after → (Mine i → ⊥) → Inserted whole ws classes class (i + 1) (putIn seen p c) after
-    insert-skip p c after g h =
-        record {
-          seen-words = length-set seen p _ ∙ done .seen-words;
-          mark-words = g .0;
-          inserted = λ j l m. below-next j i (λ k. has-more seen p c (bucketAt 28160 whole ws j) (maskAt whole ws j) (done .inserted j k m)) (λ z. absurd (h (subst Mine z m))) l;
-          cleared = λ j l m. below-next j i (λ k. still after g j (done .cleared j k m)) (λ z. absurd (h (subst Mine z m))) l;
-        }
-
-    pub insert-next :
-        (after : List ℕ) → Grown after → Cleared whole ws 1 after i → Inserted whole ws classes class (i + 1) (putIn seen (bucketAt 28160 whole ws i) (maskAt whole ws i)) after
-    insert-next after g t =
-        let q = bucketAt 28160 whole ws i in
-        let mask = maskAt whole ws i in
-        record {
-          seen-words = length-set seen q _ ∙ done .seen-words;
-          mark-words = g .0;
-          inserted = λ j l m. below-next j i (λ k. has-more seen q mask (bucketAt 28160 whole ws j) (maskAt whole ws j) (done .inserted j k m))
-              (λ z. subst (λ (x : ℕ). Has (putIn seen q mask) (bucketAt 28160 whole ws x) (maskAt whole ws x)) (sym z)
-              (has-own seen q mask (omega (arith, done .seen-words, bucket-below 28160 (hashAt whole ws i) (omega arith))))) l;
-          cleared = λ j l m. below-next j i (λ k. still after g j (done .cleared j k m)) (λ z. subst (Cleared whole ws 1 after) (sym z) t) l;
-        }
-
   pub insert-start : (classes class : ℕ) (marks : List ℕ) → length marks ≡ 4096 → Inserted whole ws classes class 0 (replicate 28161 0) marks
   insert-start classes class marks h =
       record {
@@ -140,4 +92,52 @@ module _ (whole : Bool) (ws : List ℤ) where
         mark-words = h;
         inserted = λ j l. absurd (omega arith);
         cleared = λ j l. absurd (omega arith);
+      }
+
+-- ---- one pair more is inserted
+
+module _ {whole : Bool} {ws : List ℤ} {classes class i : ℕ} {seen marks : List ℕ} (done : Inserted whole ws classes class i seen marks) where
+  abbrev Mine : ℕ → Type 0
+  Mine = OfClass whole ws classes class
+
+  -- a bit is clear: no pair before has the key
+  pub fresh : Mine i → covers (getD seen (bucketAt 28160 whole ws i) 0) (maskAt whole ws i) ≡ false → rankAt whole i ws ≤ 1
+  fresh m h =
+      rank-one whole ws i
+      (λ j l e. never (subst (λ (x : ℕ). Has seen (bucket 28160 x) (maskOf x)) (sym (hash-key whole ws i j e)) (done .inserted j l (sym (class-key whole ws classes i j e) ∙ m))) h)
+
+  abbrev pub Grown : List ℕ → Type 0
+  Grown after = (length after ≡ 4096) × ((j : ℕ) → suspected whole ws marks j ≡ true → suspected whole ws after j ≡ true)
+
+  pub grown-same : Grown marks
+  grown-same = (done .mark-words, λ j s. s)
+
+  pub grown-put : (p c : ℕ) → Grown (putIn marks p c)
+  grown-put p c = (length-set marks p _ ∙ done .mark-words, suspected-more whole ws marks p c)
+
+  still : (after : List ℕ) → Grown after → (j : ℕ) → Cleared whole ws 1 marks j → Cleared whole ws 1 after j
+  still after g j = ⊎-elim inl (λ s. inr (g .1 j s))
+
+  -- a pair of another class
+  pub insert-skip : (p c : ℕ) (after : List ℕ) → Grown after → (Mine i → ⊥) → Inserted whole ws classes class (i + 1) (putIn seen p c) after
+  insert-skip p c after g h =
+      record {
+        seen-words = length-set seen p _ ∙ done .seen-words;
+        mark-words = g .0;
+        inserted = λ j l m. below-next j i (λ k. has-more seen p c (bucketAt 28160 whole ws j) (maskAt whole ws j) (done .inserted j k m)) (λ z. absurd (h (subst Mine z m))) l;
+        cleared = λ j l m. below-next j i (λ k. still after g j (done .cleared j k m)) (λ z. absurd (h (subst Mine z m))) l;
+      }
+
+  pub insert-next :
+      (after : List ℕ) → Grown after → Cleared whole ws 1 after i → Inserted whole ws classes class (i + 1) (putIn seen (bucketAt 28160 whole ws i) (maskAt whole ws i)) after
+  insert-next after g t =
+      let q = bucketAt 28160 whole ws i in
+      let mask = maskAt whole ws i in
+      record {
+        seen-words = length-set seen q _ ∙ done .seen-words;
+        mark-words = g .0;
+        inserted = λ j l m. below-next j i (λ k. has-more seen q mask (bucketAt 28160 whole ws j) (maskAt whole ws j) (done .inserted j k m))
+            (λ z. subst (λ (x : ℕ). Has (putIn seen q mask) (bucketAt 28160 whole ws x) (maskAt whole ws x)) (sym z)
+            (has-own seen q mask (omega (arith, done .seen-words, bucket-below 28160 (hashAt whole ws i) (omega arith))))) l;
+        cleared = λ j l m. below-next j i (λ k. still after g j (done .cleared j k m)) (λ z. subst (Cleared whole ws 1 after) (sym z) t) l;
       }

@@ -70,8 +70,15 @@ module _ (slots : List ℕ) (q : ℕ) where
 
 -- ---- a pass
 
-pub slot-below : (whole : Bool) (ws : List ℤ) (i : ℕ) → slotAt whole ws i < 27904
+slot-below : (whole : Bool) (ws : List ℤ) (i : ℕ) → slotAt whole ws i < 27904
 slot-below whole ws i = bucket-below 27904 (hashAt whole ws i) (omega arith)
+
+-- a search ends within the slots
+pub empty-below : (whole : Bool) (ws : List ℤ) (i : ℕ) (first : List ℕ) {q : ℕ} → EndsEmpty (sameAt whole ws i) (slotAt whole ws i) first q → q < 28160
+empty-below whole ws i first r = omega (arith, r .there, r .within, slot-below whole ws i)
+
+pub held-below : (whole : Bool) (ws : List ℤ) (i : ℕ) (first : List ℕ) {q : ℕ} → EndsHeld (sameAt whole ws i) (slotAt whole ws i) first q → q < 28160
+held-below whole ws i first r = omega (arith, r .there, r .within, slot-below whole ws i)
 
 pub wanted-key : (whole : Bool) (ws : List ℤ) (classes class : ℕ) (marks : List ℕ) → Keyed whole ws (wanted whole ws classes class marks)
 unfolding wanted
@@ -84,51 +91,38 @@ pub wanted-of :
 unfolding wanted
 wanted-of whole ws classes class marks j s c = ap₂ (λ (a b : Bool). a && b) s (eq-eqb (classAt whole ws classes j) class c)
 
-module _ (whole : Bool) (ws : List ℤ) (mine : ℕ → Bool) (keyed : Keyed whole ws mine) (i : ℕ) (slots : List ℕ) (good : Good whole ws mine i slots) where
+module _ {whole : Bool} {ws : List ℤ} {mine : ℕ → Bool} {i : ℕ} {slots : List ℕ} (keyed : Keyed whole ws mine) (good : Good whole ws mine i slots) where
   abbrev Mine : ℕ → Type 0
   Mine j = mine j ≡ true
 
-  mine-key : (j k : ℕ) → sameAt whole ws j k ≡ true → Mine j → Mine k
-  mine-key j k e m = sym (keyed j k e) ∙ m
-
-  slot-key : (j k : ℕ) → sameAt whole ws j k ≡ true → slotAt whole ws j ≡ slotAt whole ws k
-  slot-key j k e = ap (bucket 27904) (hash-key whole ws j k e)
-
-  -- a search ends within the slots
-  pub empty-below : {q : ℕ} → EndsEmpty (sameAt whole ws i) (slotAt whole ws i) (firsts slots) q → q < 28160
-  empty-below r = omega (arith, r .there, r .within, slot-below whole ws i)
-
-  pub held-below : {q : ℕ} → EndsHeld (sameAt whole ws i) (slotAt whole ws i) (firsts slots) q → q < 28160
-  held-below r = omega (arith, r .there, r .within, slot-below whole ws i)
+  keys : laws.Keys (sameAt whole ws) (slotAt whole ws) Mine (counted whole ws)
+  keys =
+      record {
+        self = self whole ws;
+        key = key whole ws;
+        slot-key = λ j k e. ap (bucket 27904) (hash-key whole ws j k e);
+        mine-key = λ j k e m. sym (keyed j k e) ∙ m;
+        counted-key = counted-key whole ws;
+        counted-hit = counted-hit whole ws;
+        counted-miss = counted-miss whole ws;
+        counted-none = λ j. none-of whole ws j j;
+      }
 
   higher : (q : ℕ) → getD (firsts slots) q 0 ≤ suc i
   higher q = omega (arith, good .low q)
 
+  -- the slots stay
+  good-same : laws.All keys (suc i) (firsts slots) (numbers slots) → Good whole ws mine (i + 1) slots
+  good-same all = record { slot-words = good .slot-words; low = λ q. omega (arith, good .low q); kept = rw (add-one i) all }
+
   pub good-skip : (Mine i → ⊥) → Good whole ws mine (i + 1) slots
-  good-skip h =
-      record {
-        slot-words = good .slot-words;
-        low = λ q. omega (arith, good .low q);
-        kept = rw (add-one i)
-            (laws.skipped (sameAt whole ws) (slotAt whole ws) Mine (counted whole ws) (self whole ws) (key whole ws) slot-key mine-key (counted-key whole ws)
-            (counted-hit whole ws) (counted-miss whole ws) (λ j. none-of whole ws j j) i (firsts slots) (numbers slots) (good .kept) h);
-      }
+  good-skip h = good-same (laws.skipped keys i (firsts slots) (numbers slots) (good .kept) h)
 
   pub good-full : Passed (sameAt whole ws i) (slotAt whole ws i) (firsts slots) 256 → Good whole ws mine (i + 1) slots
-  good-full p =
-      record {
-        slot-words = good .slot-words;
-        low = λ q. omega (arith, good .low q);
-        kept = rw (add-one i)
-            (laws.filled (sameAt whole ws) (slotAt whole ws) Mine (counted whole ws) (self whole ws) (key whole ws) slot-key mine-key (counted-key whole ws)
-            (counted-hit whole ws) (counted-miss whole ws) (λ j. none-of whole ws j j) i (firsts slots) (numbers slots) (good .kept) p);
-      }
+  good-full p = good-same (laws.filled keys i (firsts slots) (numbers slots) (good .kept) p)
 
   pub held-count : {q : ℕ} → Mine i → EndsHeld (sameAt whole ws i) (slotAt whole ws i) (firsts slots) q → numberIn (getD slots q 0) ≡ counted whole ws i i
-  held-count {q} m r =
-      sym (number-of slots q) ∙
-      laws.known (sameAt whole ws) (slotAt whole ws) Mine (counted whole ws) (self whole ws) (key whole ws) slot-key mine-key (counted-key whole ws)
-      (counted-hit whole ws) (counted-miss whole ws) (λ j. none-of whole ws j j) i (firsts slots) (numbers slots) (good .kept) m (good .low) r
+  held-count {q} m r = sym (number-of slots q) ∙ laws.known keys i (firsts slots) (numbers slots) (good .kept) m (good .low) r
 
   pub good-held :
       {q : ℕ} → Mine i → EndsHeld (sameAt whole ws i) (slotAt whole ws i) (firsts slots) q → Good whole ws mine (i + 1) (set slots q (getD slots q 0 + 4294967296))
@@ -137,15 +131,11 @@ module _ (whole : Bool) (ws : List ℤ) (mine : ℕ → Bool) (keyed : Keyed who
         slot-words = length-set slots q (getD slots q 0 + 4294967296) ∙ good .slot-words;
         low = rw (firsts-more slots q, add-one i) higher;
         kept = rw (firsts-more slots q, numbers-more slots q, add-one i)
-            (laws.counted-on (sameAt whole ws) (slotAt whole ws) Mine (counted whole ws) (self whole ws) (key whole ws) slot-key mine-key (counted-key whole ws)
-            (counted-hit whole ws) (counted-miss whole ws) (λ j. none-of whole ws j j) i (firsts slots) (numbers slots) (good .kept) r (omega (arith, held-below r, good .slot-words, length-map slots numberIn)) (getD (numbers slots) q 0) (number-of slots q ∙ held-count m r));
+            (laws.counted-on keys i (firsts slots) (numbers slots) (good .kept) r (omega (arith, held-below whole ws i (firsts slots) r, good .slot-words, length-map slots numberIn)) (getD (numbers slots) q 0) (number-of slots q ∙ held-count m r));
       }
 
   pub empty-count : {q : ℕ} → Mine i → EndsEmpty (sameAt whole ws i) (slotAt whole ws i) (firsts slots) q → counted whole ws i i ≡ 0
-  empty-count m r =
-      none-of whole ws i i
-      (laws.new (sameAt whole ws) (slotAt whole ws) Mine (counted whole ws) (self whole ws) (key whole ws) slot-key mine-key (counted-key whole ws)
-      (counted-hit whole ws) (counted-miss whole ws) (λ j. none-of whole ws j j) i (firsts slots) (numbers slots) (good .kept) m r)
+  empty-count m r = none-of whole ws i i (laws.new keys i (firsts slots) (numbers slots) (good .kept) m r)
 
   pub good-new :
       {q : ℕ} → i < 4294967295 → Mine i → EndsEmpty (sameAt whole ws i) (slotAt whole ws i) (firsts slots) q → Good whole ws mine (i + 1) (set slots q (i + 1 + 4294967296))
@@ -154,8 +144,7 @@ module _ (whole : Bool) (ws : List ℤ) (mine : ℕ → Bool) (keyed : Keyed who
         slot-words = length-set slots q (i + 1 + 4294967296) ∙ good .slot-words;
         low = rw (firsts-new slots q i l, add-one i) (λ x. set-low (firsts slots) (suc i) (suc i) q x (omega arith) higher);
         kept = rw (firsts-new slots q i l, numbers-new slots q i l, add-one i)
-            (laws.opened (sameAt whole ws) (slotAt whole ws) Mine (counted whole ws) (self whole ws) (key whole ws) slot-key mine-key (counted-key whole ws)
-            (counted-hit whole ws) (counted-miss whole ws) (λ j. none-of whole ws j j) i (firsts slots) (numbers slots) (good .kept) m r (omega (arith, empty-below r, good .slot-words, length-map slots placeIn)) (omega (arith, empty-below r, good .slot-words, length-map slots numberIn)));
+            (laws.opened keys i (firsts slots) (numbers slots) (good .kept) m r (omega (arith, empty-below whole ws i (firsts slots) r, good .slot-words, length-map slots placeIn)) (omega (arith, empty-below whole ws i (firsts slots) r, good .slot-words, length-map slots numberIn)));
       }
 
 firsts-none : (n q : ℕ) → getD (firsts (replicate n 0)) q 0 ≡ 0

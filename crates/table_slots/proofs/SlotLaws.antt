@@ -33,20 +33,22 @@ before f a first t u own p = go (ltb t u) refl
     go true q = never own (p t (ltb-true t u q) .1)
     go false q = ltb-false t u q
 
-module _
-    (same : ℕ → ℕ → Bool) (slot : ℕ → ℕ) (mine : ℕ → Type 0) (counted : ℕ → ℕ → ℕ)
-    (self : (i : ℕ) → same i i ≡ true)
-    (key : (i j : ℕ) → same i j ≡ true → (k : ℕ) → same i k ≡ same j k)
-    (slot-key : (i j : ℕ) → same i j ≡ true → slot i ≡ slot j)
-    (mine-key : (i j : ℕ) → same i j ≡ true → mine i → mine j)
-    (counted-key : (i j : ℕ) → same i j ≡ true → (k : ℕ) → counted i k ≡ counted j k)
-    (counted-hit : (j i : ℕ) → same j i ≡ true → counted j (suc i) ≡ suc (counted j i))
-    (counted-miss : (j i : ℕ) → same j i ≡ false → counted j (suc i) ≡ counted j i)
-    (counted-none : (i : ℕ) → ((j : ℕ) → j < i → same i j ≡ false) → counted i i ≡ 0) where
-  turn : (i j : ℕ) → same i j ≡ true → same j i ≡ true
-  turn i j e = sym (key i j e i) ∙ self i
+-- places that have keys: the slot of a key, whether its places are counted, and how many are before a place
+pub record Keys (same : ℕ → ℕ → Bool) (slot : ℕ → ℕ) (mine : ℕ → Type 0) (counted : ℕ → ℕ → ℕ) : Type 0 where
+  pub self : (i : ℕ) → same i i ≡ true
+  pub key : (i j : ℕ) → same i j ≡ true → (k : ℕ) → same i k ≡ same j k
+  pub slot-key : (i j : ℕ) → same i j ≡ true → slot i ≡ slot j
+  pub mine-key : (i j : ℕ) → same i j ≡ true → mine i → mine j
+  pub counted-key : (i j : ℕ) → same i j ≡ true → (k : ℕ) → counted i k ≡ counted j k
+  pub counted-hit : (j i : ℕ) → same j i ≡ true → counted j (suc i) ≡ suc (counted j i)
+  pub counted-miss : (j i : ℕ) → same j i ≡ false → counted j (suc i) ≡ counted j i
+  pub counted-none : (i : ℕ) → ((j : ℕ) → j < i → same i j ≡ false) → counted i i ≡ 0
 
-  abbrev All : ℕ → List ℕ → List ℕ → Type 0
+module _ {same : ℕ → ℕ → Bool} {slot : ℕ → ℕ} {mine : ℕ → Type 0} {counted : ℕ → ℕ → ℕ} (keys : Keys same slot mine counted) where
+  turn : (i j : ℕ) → same i j ≡ true → same j i ≡ true
+  turn i j e = sym (keys .key i j e i) ∙ keys .self i
+
+  abbrev pub All : ℕ → List ℕ → List ℕ → Type 0
   All i first number = (j : ℕ) → j < i → mine j → Kept (same j) (slot j) first number (counted j i)
 
   -- one place more: its own key, and the others
@@ -57,15 +59,15 @@ module _
     where
       go : (b : Bool) → same j i ≡ b → Kept (same j) (slot j) first number (counted j (suc i))
       go true e =
-          kept-key first number (same i) (same j) (sym (slot-key j i e)) (λ k. sym (key j i e k)) (sym (counted-key j i e (suc i))) (own (mine-key j i e mj))
+          kept-key first number (same i) (same j) (sym (keys .slot-key j i e)) (λ k. sym (keys .key j i e k)) (sym (keys .counted-key j i e (suc i))) (own (keys .mine-key j i e mj))
       go false e =
-          kept-key first number (same j) (same j) refl (λ k. refl) (sym (counted-miss j i e)) (others j (other (ltb j i) refl) mj e)
+          kept-key first number (same j) (same j) refl (λ k. refl) (sym (keys .counted-miss j i e)) (others j (other (ltb j i) refl) mj e)
         where
           other : (b : Bool) → ltb j i ≡ b → j < i
           other true q = ltb-true j i q
           other false q =
               let z : j ≡ i = omega (arith, ltb-false j i q) in
-              never (self j) (subst (λ (k : ℕ). same j k ≡ false) (sym z) e)
+              never (keys .self j) (subst (λ (k : ℕ). same j k ≡ false) (sym z) e)
 
   module _ (i : ℕ) (first number : List ℕ) (all : All i first number) where
     -- a place of another class
@@ -82,8 +84,8 @@ module _
       where
         go : (b : Bool) → same i j ≡ b → b ≡ false
         go true e =
-            let k = all j l (mine-key i j e m) (r .steps) (r .within) (passed-key first (r .steps) (same i) (same j) (slot-key i j e) (key i j e) (r .passed)) in
-            absurd (k .0 (subst (λ (a : ℕ). getD first (a + r .steps) 0 ≡ 0) (slot-key i j e) (r .empty)))
+            let k = all j l (keys .mine-key i j e m) (r .steps) (r .within) (passed-key first (r .steps) (same i) (same j) (keys .slot-key i j e) (keys .key i j e) (r .passed)) in
+            absurd (k .0 (subst (λ (a : ℕ). getD first (a + r .steps) 0 ≡ 0) (keys .slot-key i j e) (r .empty)))
         go false e = refl
 
     -- the key's own slot: what is counted there
@@ -92,9 +94,9 @@ module _
         let x = getD first (slot i + r .steps) 0 - 1 in
         let l : x < i = omega (arith, low (slot i + r .steps), r .held) in
         let e = r .own in
-        let k = all x l (mine-key i x e m) (r .steps) (r .within) (passed-key first (r .steps) (same i) (same x) (slot-key i x e) (key i x e) (r .passed)) in
+        let k = all x l (keys .mine-key i x e m) (r .steps) (r .within) (passed-key first (r .steps) (same i) (same x) (keys .slot-key i x e) (keys .key i x e) (r .passed)) in
         rw (r .there)
-        (subst (λ (a : ℕ). same x (getD first (a + r .steps) 0 - 1) ≡ true → getD number (a + r .steps) 0 ≡ counted x i) (sym (slot-key i x e)) (k .1) (self x) ∙ sym (counted-key i x e i))
+        (subst (λ (a : ℕ). same x (getD first (a + r .steps) 0 - 1) ≡ true → getD number (a + r .steps) 0 ≡ counted x i) (sym (keys .slot-key i x e)) (k .1) (keys .self x) ∙ sym (keys .counted-key i x e i))
 
     -- counted there
     own-counted :
@@ -102,7 +104,7 @@ module _
     own-counted {q} r h n e t l p = go (ltb t (r .steps)) refl
       where
         there : getD (set number q (suc n)) (slot i + r .steps) 0 ≡ counted i (suc i)
-        there = subst (λ (x : ℕ). getD (set number q (suc n)) x 0 ≡ suc n) (r .there) (getD-set-same number q (suc n) 0 h) ∙ ap suc e ∙ sym (counted-hit i i (self i))
+        there = subst (λ (x : ℕ). getD (set number q (suc n)) x 0 ≡ suc n) (r .there) (getD-set-same number q (suc n) 0 h) ∙ ap suc e ∙ sym (keys .counted-hit i i (keys .self i))
 
         go : (b : Bool) → ltb t (r .steps) ≡ b → (getD first (slot i + t) 0 ≡ 0 → ⊥) × (same i (getD first (slot i + t) 0 - 1) ≡ true → getD (set number q (suc n)) (slot i + t) 0 ≡ counted i (suc i))
         go true b = let k = r .passed t (ltb-true t (r .steps) b) in (k .0, λ o. never o (k .1))
@@ -119,7 +121,7 @@ module _
         shared : slot j + t ≡ slot i + r .steps → same j (getD first (slot j + t) 0 - 1) ≡ true → same j i ≡ true
         shared z o =
             let x = getD first (slot i + r .steps) 0 - 1 in
-            key j x (subst (λ (y : ℕ). same j (getD first y 0 - 1) ≡ true) z o) i ∙ turn i x (r .own)
+            keys .key j x (subst (λ (y : ℕ). same j (getD first y 0 - 1) ≡ true) z o) i ∙ turn i x (r .own)
 
     pub counted-on :
         {q : ℕ} → EndsHeld (same i) (slot i) first q → q < length number → (n : ℕ) → n ≡ counted i i → All (suc i) first (set number q (suc n))
@@ -162,12 +164,12 @@ module _
         taken = subst (λ (x : ℕ). getD first′ x 0 ≡ suc i) (r .there) (getD-set-same first q (suc i) 0 hf)
 
         own : same i (getD first′ (slot i + r .steps) 0 - 1) ≡ true
-        own = let z : getD first′ (slot i + r .steps) 0 - 1 ≡ i = omega (arith, taken) in subst (λ (x : ℕ). same i x ≡ true) (sym z) (self i)
+        own = let z : getD first′ (slot i + r .steps) 0 - 1 ≡ i = omega (arith, taken) in subst (λ (x : ℕ). same i x ≡ true) (sym z) (keys .self i)
 
         there : getD (set number q 1) (slot i + r .steps) 0 ≡ counted i (suc i)
         there =
-            subst (λ (x : ℕ). getD (set number q 1) x 0 ≡ 1) (r .there) (getD-set-same number q 1 0 hn) ∙ ap suc (sym (counted-none i (new m r))) ∙
-            sym (counted-hit i i (self i))
+            subst (λ (x : ℕ). getD (set number q 1) x 0 ≡ 1) (r .there) (getD-set-same number q 1 0 hn) ∙ ap suc (sym (keys .counted-none i (new m r))) ∙
+            sym (keys .counted-hit i i (keys .self i))
 
         go : (b : Bool) → ltb t (r .steps) ≡ b → (getD first′ (slot i + t) 0 ≡ 0 → ⊥) × (same i (getD first′ (slot i + t) 0 - 1) ≡ true → getD (set number q 1) (slot i + t) 0 ≡ counted i (suc i))
         go true b =

@@ -16,9 +16,5 @@ use Rattle.check_blocks.proofs.+block+body+declarations+statement+state
 
 pub +block+body+declarations+statement+statements-spec : {M : Type 1} → statement M
 +block+body+declarations+statement+statements-spec =
-    close μ-block μ-body μ-declarations μ-statement μ-statements
-    (λ t. block-closed t)
-    (λ t. body-closed t)
-    (λ t. declarations-closed t)
-    (λ t. statement-closed t)
-    (λ t. statements-closed t)
+    close μ-block μ-body μ-declarations μ-statement μ-statements (λ t. block-closed t) (λ t. body-closed t)
+    (λ t. declarations-closed t) (λ t. statement-closed t) (λ t. statements-closed t)

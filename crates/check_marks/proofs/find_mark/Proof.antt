@@ -17,21 +17,22 @@ abbrev μ-loop : tie.MeasureT-loop
 
 returns : tie.Need-returns Inv-loop μ-loop
 returns c =
-    let b = c .before .before .before .before .before .before .before in
+    let met = c .before .before in
+    let turn = met .before .before .before in
+    let l = turn .before .loop in
+    let b = turn .before .before in
     let a = b .before .args in
-    let l = c .before .before .before .before .before .before .loop in
-    sym
-    (at-fits (b .bit-of .result) (a .letters) _ (l .i) _ (c .before .before .before .before .before .loop-test .taken)
-    (c .before .before .if1 .taken) (c .if2 .taken))
+    sym (at-fits (b .bit-of .result) (a .letters) _ (l .i) _ (turn .loop-test .taken) (met .if1 .taken) (c .if2 .taken))
     ∙ l .inv
     ∙ bit-rule (a .place) (a .letters) (b .bit-of .ensures .0)
 
 loop-again : tie.Need-loop-again Inv-loop μ-loop
 loop-again c =
-    let b = c .before .before .before .before .before in
+    let turn = c .before .before .before in
+    let l = turn .before .loop in
+    let b = turn .before .before in
     let w = b .before .args .letters in
-    let l = c .before .before .before .before .loop in
-    let more = c .before .before .before .loop-test .taken in
+    let more = turn .loop-test .taken in
     ⊎-elim (λ x. at-other (b .bit-of .result) w _ (l .i) _ more (x .0 .taken) (x .2 .left))
     (λ x. at-barred (b .bit-of .result) w _ (l .i) _ more (x .left)) (c .if1 .came)
     ∙ l .inv

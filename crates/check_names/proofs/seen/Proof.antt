@@ -44,8 +44,9 @@ abbrev μ-loop : tie.MeasureT-loop
 
 loop-again : tie.Need-loop-again Inv-loop μ-loop
 loop-again c =
-    let a = c .before .before .before .before .args in
-    let l = c .before .before .before .loop in (
+    let at = c .before .before .before in
+    let a = at .before .args in
+    let l = at .loop in (
       search needs,
       ⊎-elim
           (λ w. hit (l .found) _ (l .inv .1)

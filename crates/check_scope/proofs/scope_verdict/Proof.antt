@@ -8,10 +8,13 @@ use borrow.Author.Needs.{needs}
 use Rattle.check_scope.proofs.scope_verdict.Statement.{statement}
 use Rattle.check_scope.proofs.scope_verdict.Tie as tie
 
+abbrev emptiedOf : tie.After-block → tie.After-empty-chains
+emptiedOf c = c .before .before .before .before
+
 returns-2 : tie.Need-returns-2
 returns-2 c h =
     let b = c .before .before in
-    let e = b .before .before .before .before in
+    let e = emptiedOf b in
     let known = e .before .before .before in
     let bs = known .before .args .script .now in
     whole-judged bs (bytes-are bs (λ i. known .shared-slice-known .given i .fits)) (e .empty-chains .last .0) (le-of-eq (e .empty-chains .ensures .long))

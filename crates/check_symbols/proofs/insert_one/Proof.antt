@@ -8,9 +8,12 @@ use borrow.Author.Needs.{needs}
 use Rattle.check_symbols.proofs.insert_one.Statement.{statement}
 use Rattle.check_symbols.proofs.insert_one.Tie as tie
 
+abbrev startOf : tie.After-later → tie.Start
+startOf c = c .before .before .before .before
+
 slice-write-entries-2 : tie.Need-slice-write-entries-2
 slice-write-entries-2 c =
-    let st = c .before .before .before .before in
+    let st = startOf c in
     let a = st .args in
     let es = a .entries .now in
     omega (arith, length-set es (a .at - 512) (c .later .result), st .pre .0 .long, mod-lt (getD es (a .at) 0) {m = 256} (omega arith))

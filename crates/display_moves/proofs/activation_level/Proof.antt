@@ -4,7 +4,7 @@ use Rattle.display_moves.proofs.activation_level.Statement.{statement}
 use Rattle.display_moves.proofs.activation_level.Tie as tie
 
 returns : tie.Need-returns
-returns c = (rw (c .level-at .ensures .0, c .before .wide .ensures .0), c .level-at .ensures .1)
+returns c = (rw (c .level-at .ensures .0, c .before .from-u16 .ensures .0), c .level-at .ensures .1)
 
 pub activation-level-spec : {M : Type 1} → statement M
 activation-level-spec =

@@ -48,7 +48,7 @@ returns c =
     leaves-to (w .running) (o .restore .last .1 .0) (o .restore .ensures .1 ∙ w .running .display-long) (w .ended) (w .above) home refl
     (restored (w .running) home (l .activation-level2 .result) (i .activation-level .result) (omega arith) (l .activation-level2 .ensures .0)
     (i .activation-level .ensures .0) (o .restore .last .1 .0) (o .restore .ensures .0))
-    _ refl (c .before .wide .ensures .0) (c .activation-end .ensures) refl
+    _ refl (c .before .from-u16 .ensures .0) (c .activation-end .ensures) refl
 
 pub leave-spec : {M : Type 1} → statement M
 leave-spec =

@@ -53,7 +53,7 @@ returns c =
     let s = o .before .before in (
       λ w. restoring-meets (w .frames) (w .down) (w .old) (suc (s .args .activation)) (l .display) (l .a) (l .l) (l .inv .0 w) (o .loop-test .taken)
           (omega (arith, w .sure-is, t .if1 .taken))
-          (sym (c .before .wide .ensures .0) ∙ c .if2 .taken),
+          (sym (c .before .from-u16 .ensures .0) ∙ c .if2 .taken),
       l .inv .1,
     )
 

@@ -4,13 +4,22 @@ use borrow.Author.Needs.{needs}
 use Rattle.resolve_names.proofs.declare.Statement.{statement}
 use Rattle.resolve_names.proofs.declare.Tie as tie
 
+-- the places: the statements noted, the names placed, and the start
+abbrev notedOf : tie.After-push-own → tie.After-note-statements
+notedOf c = c .before .before .before .before .before
+
+abbrev placedOf : tie.After-note-statements → tie.After-places
+placedOf c = c .before .before .before .before .before
+
+abbrev startOf : tie.After-places → tie.Start
+startOf c = c .before .before .before .before .before .before
+
 returns : tie.Need-returns
 returns c =
     let put = c .before .before in
-    let noted = put .before .before .before .before .before in
-    let placed = noted .before .before .before .before .before in
-    let start = placed .before .before .before .before .before .before in
-    let p = start .pre in
+    let noted = notedOf put in
+    let placed = placedOf noted in
+    let p = startOf placed .pre in
     declares _ _ _ _ _ _ _ _ _ _ _ _ _ _ _ (p .d-read) (p .s-read) (p .starts) (placed .places .kept .1 .1 .0) (noted .note-statements .kept .1 .1 .0) (p .room)
     (placed .places .ensures) (noted .note-statements .ensures) (put .push-own .ensures)
 

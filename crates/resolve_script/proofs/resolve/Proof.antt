@@ -1,33 +1,37 @@
 -- `resolve_script::resolve` meets its contract: the program is a block with no formals, and no name is visible around it. Assumes nothing.
-use mathlib.Core.Path.{_≡_, subst}
-use mathlib.Core.List.{List}
-use Prim.Native.Nat.{ℕ}
 use native.Mathlib.Nat.{le-of-eq}
 use native.Mathlib.Omega.{arith}
 use Rattle.check_extents.proofs.Noting.{none-noted}
 use Rattle.grammar.specs.Words.{bytes-are}
-use Rattle.resolve_script.specs.Resolving.{BlockWritten}
 use Rattle.resolve_script.proofs.Whole.{accepted-short, words-are}
 use borrow.Author.Needs.{needs}
 use Rattle.resolve_script.proofs.resolve.Statement.{statement}
 use Rattle.resolve_script.proofs.resolve.Tie as tie
 
+-- the places: the block walked, the chains emptied, and the script lent
+abbrev walkedOf : tie.After-slice-known2 → tie.After-block
+walkedOf c = c .before .before .before .before
+
+abbrev emptiedOf : tie.After-block → tie.After-empty-chains
+emptiedOf c = c .before .before .before .before .before .before
+
+abbrev lentOf : tie.After-empty-chains → tie.After-shared-slice-known
+lentOf c = c .before .before .before .before
+
 returns : tie.Need-returns
 returns c =
-    let a = c .before .before .before .args in
-    λ t e. absurd (omega (arith, c .if1 .taken, accepted-short (a .script .now) (bytes-are (a .script .now) (λ i. c .before .before .shared-slice-known .given i .fits)) t e))
+    let lent = c .before .before in
+    let bs = lent .before .args .script .now in
+    λ t e. absurd (omega (arith, c .if1 .taken, accepted-short bs (bytes-are bs (λ i. lent .shared-slice-known .given i .fits)) t e))
 
 returns-2 : tie.Need-returns-2
 returns-2 c =
-    let walked = c .before .before .before .before in
-    let emptied = walked .before .before .before .before .before .before in
-    let lent = emptied .before .before .before .before in
-    let a = lent .before .args in
-    let b = walked .block in
-    let es = emptied .empty-chains .last .0 in
-    λ t x. words-are (a .script .now) (bytes-are (a .script .now) (λ i. lent .shared-slice-known .given i .fits)) t x es _ (a .name) (b .result)
-    (le-of-eq (emptied .empty-chains .ensures .long))
-    (subst (λ (l : List ℕ). BlockWritten (a .script .now) es (a .name) 0 0 1280 1 l (b .last .1 .1 .1 .1 .0) (b .result)) (lent .before .pre) (b .ensures .0))
+    let walked = walkedOf c in
+    let emptied = emptiedOf walked in
+    let lent = lentOf emptied in
+    let bs = lent .before .args .script .now in
+    λ t x. words-are bs (bytes-are bs (λ i. lent .shared-slice-known .given i .fits)) t x _ _ _ _ _
+    (le-of-eq (emptied .empty-chains .ensures .long)) (lent .before .pre) (walked .block .ensures .0)
 
 pub resolve-spec : {M : Type 1} → statement M
 resolve-spec =

@@ -15,6 +15,10 @@ use Rattle.table_counts.proofs.count_one.Tie as tie
 abbrev startOf : tie.After-bucket-of → tie.Start
 startOf c = c .before .before .before .before
 
+-- what is asked: the pairs before are counted
+abbrev bounded : (s : tie.Start) → Bounded (s .args .whole) (s .args .table .now) (s .args .share) (s .args .most) (s .args .i) (s .args .counters .now)
+bounded s = s .pre .1 .1
+
 abbrev counterOf : tie.Start → ℕ
 counterOf s = counterAt (s .args .share) (s .args .whole) (s .args .table .now) (s .args .i)
 
@@ -46,8 +50,7 @@ returns : tie.Need-returns
 returns c =
     let k = c .before in
     let s = begin k in (
-      bounded-full (s .args .whole) (s .args .table .now) (s .args .share) (s .args .most) (s .args .i) (s .args .counters .now) (s .pre .1 .1)
-          (λ l. omega (arith, held-is k, c .if1 .taken)),
+      bounded-full (bounded s) (λ l. omega (arith, held-is k, c .if1 .taken)),
       search needs,
     )
 
@@ -58,7 +61,7 @@ less : (c : tie.After-raise) → let s = begin (heldOf c) in heldAt (s .args .sh
 less c = omega (arith, held-is (heldOf c), c .before .before .if1 .left)
 
 room : (c : tie.After-raise) → let s = begin (heldOf c) in heldAt (s .args .share) (s .args .counters .now) (counterOf s) < roomOf (s .args .share)
-room c = omega (arith, less c, begin (heldOf c) .pre .1 .0)
+room c = omega (arith, less c, begin (heldOf c) .pre)
 
 fits : (c : tie.After-raise) → counterOf (begin (heldOf c)) < countersOf (begin (heldOf c) .args .share)
 fits c = subst (λ (q : ℕ). q < countersOf (begin (heldOf c) .args .share)) (counter-is (spotOf (heldOf c))) (inside (spotOf (heldOf c)))
@@ -67,16 +70,7 @@ raised-is : (c : tie.After-raise) → let s = begin (heldOf c) in c .raise .last
 raised-is c = let s = begin (heldOf c) in c .raise .ensures ∙ ap (raised (s .args .share) (s .args .counters .now)) (counter-is (spotOf (heldOf c)))
 
 next : (c : tie.After-raise) → Next (begin (heldOf c)) (c .raise .last .0)
-next c =
-    let s = begin (heldOf c) in
-    subst (Next s) (sym (raised-is c))
-    (bounded-next (s .args .whole) (s .args .table .now) (s .args .share) (s .args .most) (s .args .i) (s .args .counters .now) (s .pre .1 .1) (fits c) (room c) (less c))
-
-returns-2 : tie.Need-returns-2
-returns-2 c = (
-  search (needs, next),
-  search needs,
-)
+next c = let s = begin (heldOf c) in subst (Next s) (sym (raised-is c)) (bounded-next (bounded s) (fits c) (room c) (less c))
 
 returns-3 : tie.Need-returns-3
 returns-3 c =
@@ -86,8 +80,7 @@ returns-3 c =
       next k,
       (
         λ e low. subst (λ (l : List ℕ). (q : ℕ) → heldAt (s .args .share) l q < s .args .most) (sym (raised-is k))
-            (not-full-next (s .args .whole) (s .args .table .now) (s .args .share) (s .args .most) (s .args .i) (s .args .counters .now) (s .pre .1 .1) (fits k) (room k) (less k)
-            (omega (arith, less k, held-is h, c .if2 .left)) low),
+            (not-full-next (bounded s) (fits k) (room k) (less k) (omega (arith, less k, held-is h, c .if2 .left)) low),
         omega arith,
       ),
     )
@@ -95,5 +88,5 @@ returns-3 c =
 pub count-one-spec : {M : Type 1} → statement M
 count-one-spec =
     tie.close (tie.spec (λ c κs. search needs) (λ c κs. search needs) bucket-of-requires (λ c κs. search (needs, inside))
-    (λ c. search needs) returns (λ c κs. search (needs, inside)) (λ c. search (needs, fits)) (λ c. search needs) returns-2
-    (λ c. search needs) returns-3)
+    (λ c. search needs) returns (λ c κs. search (needs, inside)) (λ c. search (needs, fits)) (λ c. search needs)
+    (λ c. (search (needs, next), search needs)) (λ c. search needs) returns-3)

@@ -1,7 +1,7 @@
 -- `mark_all` meets its contract. The loop's invariant: the pairs passed are told of.
 use borrow.Author.Needs.{needs}
 use Prim.Native.Nat.{ℕ, _≤_, _<_, _-_}
-use mathlib.Core.Path.{_≡_, sym, subst}
+use mathlib.Core.Path.{_≡_}
 use mathlib.Core.Logic.{inl, inr, ⊎-elim}
 use native.Mathlib.Omega.{arith}
 use lib.ListN.{length}
@@ -29,13 +29,12 @@ loop-again : tie.Need-loop-again Inv-loop μ-loop
 loop-again c =
     let k = c .before .before in
     let l = k .before .before .before in
-    let s = l .before .before .before in
     let m = k .mark-one .ensures .0 in (
       omega arith,
       search needs,
       m .mark-words,
       λ j h. below-next j (l .loop .i) (λ o. ⊎-elim inl (λ t. inr (m .older j t)) (l .loop .inv .3 j o))
-          (λ z. subst (Accounted (s .args .whole) (s .args .table .now) (s .args .share) (s .args .most) (s .args .counters .now) (k .mark-one .last .1 .1 .1 .1 .1 .1 .0)) (sym z) (m .accounted)) h,
+          (λ z. rw z (m .accounted)) h,
     )
 
 returns : tie.Need-returns Inv-loop μ-loop

@@ -17,6 +17,10 @@ use Rattle.table_counts.proofs.mark_one.Tie as tie
 abbrev startOf : tie.After-hash → tie.Start
 startOf c = c .before .before .before
 
+-- what is asked of the marks
+abbrev mark-words : (s : tie.Start) → length (s .args .marks .now) ≡ 4096
+mark-words s = s .pre .1 .1
+
 abbrev hashOf : tie.After-held-at → tie.After-hash
 hashOf c = c .before .before .before
 
@@ -41,13 +45,13 @@ bucket-of-requires c κs = subst (λ (n : ℕ). (n ≤ 4294967296) × (0 < n)) (
 returns : tie.Need-returns
 returns c =
     let k = c .before in
-    (record { mark-words = begin k .pre .1 .1; accounted = inl (omega (arith, held-is k, c .if1 .taken)); older = λ j s. s }, omega arith)
+    (record { mark-words = mark-words (begin k); accounted = inl (omega (arith, held-is k, c .if1 .taken)); older = λ j s. s }, omega arith)
 
 returns-2 : tie.Need-returns-2
 returns-2 c =
     let k = c .before in
     let s = begin (k .before .before .before) in
-    (record { mark-words = s .pre .1 .1; accounted = inr (sym (k .is-suspected .ensures) ∙ c .if2 .taken); older = λ j h. h }, omega arith)
+    (record { mark-words = mark-words s; accounted = inr (sym (k .is-suspected .ensures) ∙ c .if2 .taken); older = λ j h. h }, omega arith)
 
 abbrev heldOf : tie.Else2 → tie.After-held-at
 heldOf c = c .before .before .before .before
@@ -65,10 +69,10 @@ returns-3 c =
     let i = s .args .i in
     let marked : q .mark-of .result ≡ markAt (s .args .whole) ws i = q .mark-of .ensures .0 ∙ ap markOf (h .hash .ensures) in
     let masked : m .mask-of .result ≡ maskAt (s .args .whole) ws i = m .mask-of .ensures ∙ ap maskOf (h .hash .ensures) in
-    let fits : markAt (s .args .whole) ws i < length marks = subst (λ (x : ℕ). x < length marks) marked (omega (arith, q .mark-of .ensures .1, s .pre .1 .1)) in (
+    let fits : markAt (s .args .whole) ws i < length marks = subst (λ (x : ℕ). x < length marks) marked (omega (arith, q .mark-of .ensures .1, mark-words s)) in (
       subst (Gives s) (sym (p .put .ensures ∙ ap₂ (putIn marks) marked masked))
           (record {
-            mark-words = length-set marks (markAt (s .args .whole) ws i) _ ∙ s .pre .1 .1;
+            mark-words = length-set marks (markAt (s .args .whole) ws i) _ ∙ mark-words s;
             accounted = inr (suspected-own (s .args .whole) ws marks i fits);
             older = suspected-more (s .args .whole) ws marks (markAt (s .args .whole) ws i) (maskAt (s .args .whole) ws i);
           }),

@@ -1,9 +1,11 @@
 -- `suspects` meets its contract: a pair whose counter is not full has a rank within the limit, and the others are marked.
 use Prim.Native.Nat.{ℕ, _≤_, _<_}
+use mathlib.Core.List.{List}
 use mathlib.Core.Logic.{inl, inr, ⊎-elim}
 use native.Mathlib.Omega.{arith}
 use Rattle.table_keys.specs.Keys.{rankAt}
 use Rattle.table_counters.specs.Counters.{heldAt}
+use Rattle.table_filter.specs.Filter.{Cleared}
 use Rattle.table_counts.specs.Bounds.{counterAt}
 use Rattle.table_counters.proofs.Packed.{held-none}
 use Rattle.table_counts.proofs.Counting.{bounded-start, bounded-rank}
@@ -26,16 +28,24 @@ shareOf c = sharedOf c .share-of .result
 abbrev startOf : tie.After-count-all → tie.Start
 startOf c = sharedOf c .before .before
 
+abbrev countersOf : tie.After-count-all → List ℕ
+countersOf c = c .count-all .last .1 .1 .1 .1 .1 .0
+
+abbrev marksOf : tie.After-mark-all → List ℕ
+marksOf c = c .mark-all .last .1 .1 .1 .1 .1 .1 .0
+
 -- what a counter that is not full says
 ranked :
     (c : tie.After-count-all) (j : ℕ) → let s = startOf c in j < s .args .count →
-    heldAt (shareOf c) (c .count-all .last .1 .1 .1 .1 .1 .0) (counterAt (shareOf c) (s .args .whole) (s .args .table .now) j) < c .before .before .most-of .result →
+    heldAt (shareOf c) (countersOf c) (counterAt (shareOf c) (s .args .whole) (s .args .table .now) j) < c .before .before .most-of .result →
     rankAt (s .args .whole) j (s .args .table .now) ≤ s .args .limit
-ranked c j l h =
-    let s = startOf c in
-    let m = c .before .before in
-    bounded-rank (s .args .whole) (s .args .table .now) (shareOf c) (m .most-of .result) (s .args .count) (s .args .limit) (c .count-all .last .1 .1 .1 .1 .1 .0)
-    (c .count-all .ensures .0) (omega (arith, m .most-of .ensures)) j l h
+ranked c j l h = bounded-rank (c .count-all .ensures .0) (omega (arith, c .before .before .most-of .ensures)) j l h
+
+-- a pair's counter is not full, or it is marked
+told :
+    (c : tie.After-mark-all) (j : ℕ) → let s = startOf (countedOf c) in j < s .args .count →
+    Cleared (s .args .whole) (s .args .table .now) (s .args .limit) (marksOf c) j
+told c j l = ⊎-elim (λ h. inl (ranked (countedOf c) j l h)) inr (c .mark-all .ensures .0 j l)
 
 count-all-requires : tie.Need-count-all-requires
 count-all-requires c κs =
@@ -46,7 +56,7 @@ count-all-requires c κs =
       (
         omega (arith, m .most-of .ensures, h .share-of .ensures),
         (
-          bounded-start (s .args .whole) (s .args .table .now) (h .share-of .result) (m .most-of .result),
+          bounded-start,
           λ q. omega (arith, held-none (h .share-of .result) q, m .most-of .ensures),
         ),
       ),
@@ -60,24 +70,9 @@ returns c =
       (λ j l. inl (ranked k j l (low _)), omega arith),
     )
 
-returns-2 : tie.Need-returns-2
-returns-2 c =
-    let n = c .before .before .before in
-    let k = countedOf n in (
-      search needs,
-      (λ j l. ⊎-elim (λ h. inl (ranked k j l h)) inr (n .mark-all .ensures .0 j l), omega arith),
-    )
-
-returns-3 : tie.Need-returns-3
-returns-3 c =
-    let n = c .before .before .before in
-    let k = countedOf n in (
-      search needs,
-      (λ j l. ⊎-elim (λ h. inl (ranked k j l h)) inr (n .mark-all .ensures .0 j l), omega arith),
-    )
-
 pub suspects-spec : {M : Type 1} → statement M
 suspects-spec =
     tie.close (tie.spec (λ c κs. search needs) (λ c κs. search needs) (λ c. search needs) count-all-requires returns
-    (λ c. search needs) (λ c κs. search needs) (λ c. search needs) (λ c. search needs) returns-2 (λ c. search needs)
-    (λ c. search needs) returns-3)
+    (λ c. search needs) (λ c κs. search needs) (λ c. search needs) (λ c. search needs)
+    (λ c. (search needs, (search (needs, told), search needs))) (λ c. search needs) (λ c. search needs)
+    (λ c. (search needs, (search (needs, told), search needs))))

@@ -22,8 +22,9 @@ Mine s = OfClass (s .args .whole) (s .args .table .now) (s .args .classes) (s .a
 abbrev Next : tie.Start → List ℕ → List ℕ → Type 0
 Next s = Inserted (s .args .whole) (s .args .table .now) (s .args .classes) (s .args .class) (s .args .i + 1)
 
-abbrev Grows : tie.Start → List ℕ → Type 0
-Grows s = Grown (s .args .whole) (s .args .table .now) (s .args .classes) (s .args .class) (s .args .i) (s .args .seen .now) (s .args .marks .now) (s .pre .1 .1)
+-- what is asked: the pairs before are inserted
+abbrev inserted : (s : tie.Start) → Inserted (s .args .whole) (s .args .table .now) (s .args .classes) (s .args .class) (s .args .i) (s .args .seen .now) (s .args .marks .now)
+inserted s = s .pre .1 .1
 
 abbrev beginOf : tie.After-mask-of → tie.Start
 beginOf c = c .before .before .before .before
@@ -70,7 +71,7 @@ tested :
 tested c e = c .is-covered .ensures ∙ ap₂ (λ (q m : ℕ). covers (getD (first c .args .seen .now) q 0) m) (seen-is (wordOf c) e) (mask-is (wordOf c .before .before))
 
 done :
-    (c : tie.After-is-covered) (after : List ℕ) → Grows (first c) after →
+    (c : tie.After-is-covered) (after : List ℕ) → Grown (inserted (first c)) after →
     (Mine (first c) → Cleared (first c .args .whole) (first c .args .table .now) 1 after (first c .args .i)) →
     Next (first c) (putOf c .put .last .0) after
 done c after g cleared = go (own k) refl
@@ -85,32 +86,30 @@ done c after g cleared = go (own k) refl
     go true e =
         subst (λ (seen : List ℕ). Next s seen after)
         (sym (putOf c .put .ensures ∙ ap₂ (putIn (s .args .seen .now)) (seen-is (wordOf c) e) (putOf c .before .mask-for .ensures e ∙ mask-is (k .before))))
-        (insert-next (s .args .whole) (s .args .table .now) (s .args .classes) (s .args .class) (s .args .i) (s .args .seen .now) (s .args .marks .now) (s .pre .1 .1) after g (cleared (own-mine k e)))
+        (insert-next (inserted s) after g (cleared (own-mine k e)))
     go false e =
         subst (λ (seen : List ℕ). Next s seen after) (sym (putOf c .put .ensures))
-        (insert-skip (s .args .whole) (s .args .table .now) (s .args .classes) (s .args .class) (s .args .i) (s .args .seen .now) (s .args .marks .now) (s .pre .1 .1) (wordOf c .word-for .result) (putOf c .before .mask-for .result) after g
-        (λ m. never (mine-own k m) e))
+        (insert-skip (inserted s) (wordOf c .word-for .result) (putOf c .before .mask-for .result) after g (λ m. never (mine-own k m) e))
 
 returns : tie.Need-returns
 returns c =
     let p = c .before .before in
-    let k = p .before .before .before .before in
+    let spot = p .before in
+    let k = spot .before .before .before in
     let s = first k in
     let ws = s .args .table .now in
     let marks = s .args .marks .now in
-    let marked : p .before .mark-of .result ≡ markAt (s .args .whole) ws (s .args .i) = p .before .mark-of .ensures .0 ∙ ap markOf (wordOf k .before .before .before .hash .ensures) in
-    let fits : markAt (s .args .whole) ws (s .args .i) < length marks = subst (λ (q : ℕ). q < length marks) marked (omega (arith, p .before .mark-of .ensures .1, s .pre .1 .1 .mark-words)) in
+    let marked : spot .mark-of .result ≡ markAt (s .args .whole) ws (s .args .i) = spot .mark-of .ensures .0 ∙ ap markOf (wordOf k .before .before .before .hash .ensures) in
+    let fits : markAt (s .args .whole) ws (s .args .i) < length marks = subst (λ (q : ℕ). q < length marks) marked (omega (arith, spot .mark-of .ensures .1, inserted s .mark-words)) in
     subst (Next s (putOf k .put .last .0)) (sym (p .put2 .ensures ∙ ap₂ (putIn marks) marked (mask-is (wordOf k .before .before))))
     (done k (putIn marks (markAt (s .args .whole) ws (s .args .i)) (maskAt (s .args .whole) ws (s .args .i)))
-    (grown-put (s .args .whole) ws (s .args .classes) (s .args .class) (s .args .i) (s .args .seen .now) marks (s .pre .1 .1) (markAt (s .args .whole) ws (s .args .i)) (maskAt (s .args .whole) ws (s .args .i)))
-    (λ m. inr (suspected-own (s .args .whole) ws marks (s .args .i) fits)))
+    (grown-put (inserted s) (markAt (s .args .whole) ws (s .args .i)) (maskAt (s .args .whole) ws (s .args .i))) (λ m. inr (suspected-own (s .args .whole) ws marks (s .args .i) fits)))
 
 returns-2 : tie.Need-returns-2
 returns-2 c =
     let k = c .before in
     let s = first k in
-    done k (s .args .marks .now) (grown-same (s .args .whole) (s .args .table .now) (s .args .classes) (s .args .class) (s .args .i) (s .args .seen .now) (s .args .marks .now) (s .pre .1 .1))
-    (λ m. inl (fresh (s .args .whole) (s .args .table .now) (s .args .classes) (s .args .class) (s .args .i) (s .args .seen .now) (s .args .marks .now) (s .pre .1 .1) m
+    done k (s .args .marks .now) (grown-same (inserted s)) (λ m. inl (fresh (inserted s) m
     (sym (tested k (mine-own (wordOf k .before) m)) ∙ c .if1 .left)))
 
 pub insert-spec : {M : Type 1} → statement M

@@ -9,8 +9,11 @@ use borrow.Author.Needs.{needs}
 use Rattle.table_keys.proofs.same_key.Statement.{statement}
 use Rattle.table_keys.proofs.same_key.Tie as tie
 
+abbrev startOf : tie.After-same-number → tie.Start
+startOf c = c .before .before .before
+
 groups :
-    (c : tie.After-same-number) → let s = c .before .before .before in
+    (c : tie.After-same-number) → let s = startOf c in
     c .same-number .result ≡ eqZ (groupAt (s .args .j) (s .args .table .now)) (groupAt (s .args .i) (s .args .table .now))
 groups c =
     let d = c .before in
@@ -30,7 +33,7 @@ returns-2 c = rw (c .if2 .left, sym (groups (c .before .before)) ∙ c .before .
 
 returns-3 : tie.Need-returns-3
 unfolding same sameAt
-returns-3 c = differ (c .before .before .before .before .args .whole) _ _ _ _ (sym (groups (c .before)) ∙ c .if1 .left)
+returns-3 c = differ (startOf (c .before) .args .whole) _ _ _ _ (sym (groups (c .before)) ∙ c .if1 .left)
 
 pub same-key-spec : {M : Type 1} → statement M
 same-key-spec =

@@ -67,17 +67,5 @@ returns-3 c =
 
 pub remove-pair-spec : {M : Type 1} → statement M
 remove-pair-spec =
-    tie.close
-    (tie.spec
-    (λ c κs. search needs)
-    (λ c. search needs)
-    (λ c. search needs)
-    (λ c. search needs)
-    (λ c κs. search needs)
-    sub-t14
-    (λ c. search needs)
-    returns
-    (λ c. search needs)
-    returns-2
-    (λ c. search needs)
-    returns-3)
+    tie.close (tie.spec (λ c κs. search needs) (λ c. search needs) (λ c. search needs) (λ c. search needs)
+    (λ c κs. search needs) sub-t14 (λ c. search needs) returns (λ c. search needs) returns-2 (λ c. search needs) returns-3)

@@ -33,12 +33,5 @@ returns-3 c = let p = c .before .before in searched-absent _ _ _ _ (fit p) (plac
 
 pub searched-spec : {M : Type 1} → statement M
 searched-spec =
-    tie.close
-    (tie.spec
-    (λ c κs. search needs)
-    returns
-    (λ c κs. search needs)
-    (λ c. search needs)
-    (λ c. search needs)
-    returns-2
+    tie.close (tie.spec (λ c κs. search needs) returns (λ c κs. search needs) (λ c. search needs) (λ c. search needs) returns-2
     returns-3)

@@ -27,16 +27,18 @@ count-wanted-requires : tie.Need-count-wanted-requires Inv-loop μ-loop
 count-wanted-requires c κs =
     let l = c .before .before in
     let s = l .before .before in
-    (omega arith, (omega arith, (s .pre .1 .1 .0, (s .pre .1 .1 .1 .0, (s .pre .1 .1 .1 .1, l .loop .inv .1)))))
+    let (words, (near, (some, (classes, mark-words)))) = s .pre in
+    (omega arith, (omega arith, (some, (classes, (mark-words, l .loop .inv .1)))))
 
 returns : tie.Need-returns Inv-loop μ-loop
 unfolding within
 returns c =
     let k = c .before .before in
     let l = k .before .before .before in
-    let s = l .before .before in (
+    let s = l .before .before in
+    let (counted, (few, many)) = k .count-wanted .ensures in (
       λ e. never e refl,
-      λ e. each-false (rankFits (s .args .whole) (s .args .limit) (s .args .table .now)) (s .args .count) (l .loop .i) (omega arith) (lt-leb _ _ (k .count-wanted .ensures .1 .1 (not-true _ (c .if1 .taken)))),
+      λ e. each-false (rankFits (s .args .whole) (s .args .limit) (s .args .table .now)) (s .args .count) (l .loop .i) (omega arith) (lt-leb _ _ (many (not-true _ (c .if1 .taken)))),
     )
 
 loop-again : tie.Need-loop-again Inv-loop μ-loop
@@ -44,7 +46,8 @@ loop-again c =
     let k = c .before .before in
     let l = k .before .before .before in
     let done = not-false _ (c .if1 .left) in
-    (omega arith, k .count-wanted .ensures .0 done, below-more _ _ (l .loop .inv .2) (k .count-wanted .ensures .1 .0 done))
+    let (counted, (few, many)) = k .count-wanted .ensures in
+    (omega arith, counted done, below-more _ _ (l .loop .inv .2) (few done))
 
 returns-2 : tie.Need-returns-2 Inv-loop μ-loop
 returns-2 c = (λ e j l m. c .before .loop .inv .2 j (omega arith) m, λ e. never refl e)

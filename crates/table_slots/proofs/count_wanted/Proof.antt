@@ -20,7 +20,7 @@ abbrev wants : tie.Start → ℕ → Bool
 wants s = wanted (s .args .whole) (s .args .table .now) (s .args .classes) (s .args .class) (s .args .marks .now)
 
 abbrev good : (s : tie.Start) → Good (s .args .whole) (s .args .table .now) (wants s) (s .args .i) (s .args .slots .now)
-good s = s .pre .1 .1 .1 .1 .1
+good s = let (words, (near, (some, (classes, (mark-words, so-far))))) = s .pre in so-far
 
 classed : (c : tie.After-class-of) → let s = startOf (c .before .before) in c .class-of .result ≡ classAt (s .args .whole) (s .args .table .now) (s .args .classes) (s .args .i)
 unfolding classAt
@@ -39,7 +39,7 @@ returns c =
     let k = c .before in
     let s = startOf k in
     let no = wants-is s {a = false} {b = eqb (classAt (s .args .whole) (s .args .table .now) (s .args .classes) (s .args .i)) (s .args .class)} (sym (k .is-suspected .ensures) ∙ not-true _ (c .if1 .taken)) refl in (
-      λ e. good-skip (s .args .whole) (s .args .table .now) (wants s) (wanted-key _ _ _ _ _) (s .args .i) (s .args .slots .now) (good s) (λ m. never m no),
+      λ e. good-skip (wanted-key _ _ _ _ _) (good s) (λ m. never m no),
       (λ e m. never m no, λ e. never refl e),
     )
 
@@ -49,7 +49,7 @@ returns-2 c =
     let d = k .before in
     let s = startOf (d .before) in
     let no = wants-is s {a = true} {b = false} (sym (d .before .is-suspected .ensures) ∙ not-false _ (d .if1 .left)) (ne-eqb _ _ (λ z. c .if2 .taken (classed k ∙ z))) in (
-      λ e. good-skip (s .args .whole) (s .args .table .now) (wants s) (wanted-key _ _ _ _ _) (s .args .i) (s .args .slots .now) (good s) (λ m. never m no),
+      λ e. good-skip (wanted-key _ _ _ _ _) (good s) (λ m. never m no),
       (λ e m. never m no, λ e. never refl e),
     )
 
@@ -58,7 +58,8 @@ count-pair-requires c κs =
     let d = c .before .before .before in
     let k = d .before in
     let s = startOf k in
-    (s .pre .0, (s .pre .1 .0, (s .pre .1 .1 .0, (k .before .hash .ensures, (good s .slot-words, good s .low)))))
+    let (words, (near, (some, more))) = s .pre in
+    (words, (near, (some, (k .before .hash .ensures, (good s .slot-words, good s .low)))))
 
 returns-3 : tie.Need-returns-3
 returns-3 c =

@@ -38,7 +38,10 @@ returns c =
 
 -- a slot in use has a place of the table
 there : (c : tie.Else1 Inv-loop μ-loop) → 2 * (c .before .place-in .result - 1) + 1 < length (startOf (c .before) .args .table .now)
-there c = let s = startOf (c .before) in omega (arith, c .if1 .left, read (c .before), s .pre .1 .1 (s .args .slot + loopOf (c .before) .loop .t))
+there c =
+    let s = startOf (c .before) in
+    let (words, (slots, low)) = s .pre in
+    omega (arith, c .if1 .left, read (c .before), low (s .args .slot + loopOf (c .before) .loop .t))
 
 returns-2 : tie.Need-returns-2 Inv-loop μ-loop
 returns-2 c =

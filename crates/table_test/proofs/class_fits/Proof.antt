@@ -15,6 +15,9 @@ use Rattle.table_test.proofs.class_fits.Tie as tie
 abbrev startOf : tie.After-mark-class → tie.Start
 startOf c = c .before .before .before
 
+abbrev markedOf : tie.After-count-class → tie.After-mark-class
+markedOf c = c .before .before .before .before
+
 abbrev marksOf : tie.After-mark-class → List ℕ
 marksOf c = c .mark-class .last .1 .1 .1 .1 .1 .1 .0
 
@@ -33,11 +36,12 @@ cleared c j l o = go (eqb (s .args .limit) 1) refl
         subst (λ (n : ℕ). Cleared (s .args .whole) (s .args .table .now) n (marksOf c) j) (sym z) (c .mark-class .ensures .0 z j l o)
     go false e =
         let n = eqb-false (s .args .limit) 1 e in
-        subst (λ (m : List ℕ). Cleared (s .args .whole) (s .args .table .now) (s .args .limit) m j) (sym (c .mark-class .ensures .1 n)) (s .pre .1 .1 .1 .1 .1 n j l)
+        let (words, (near, (some, (classes, (mark-words, cleared-so-far))))) = s .pre in
+        subst (λ (m : List ℕ). Cleared (s .args .whole) (s .args .table .now) (s .args .limit) m j) (sym (c .mark-class .ensures .1 n)) (cleared-so-far n j l)
 
 returns : tie.Need-returns
 returns c =
-    let k = c .before .before .before .before in
+    let k = markedOf c in
     let s = startOf k in (
       λ e j l o. ⊎-elim (λ r. r)
           (λ t. c .count-class .ensures .0 e j l (wanted-of (s .args .whole) (s .args .table .now) (s .args .classes) (s .args .class) (marksOf k) j t o)) (cleared k j l o),

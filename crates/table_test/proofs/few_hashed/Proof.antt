@@ -31,21 +31,26 @@ class-fits-requires c κs =
     let l = c .before .before in
     let k = l .before .before in
     let s = k .before .before in
-    (s .pre .0, (s .pre .1 .0, (s .pre .1 .1, (k .classes-of .ensures .1 .1, (l .loop .inv .1, l .loop .inv .2)))))
+    let (words, (near, some)) = s .pre in
+    let (few, (cleared, classes)) = k .classes-of .ensures in
+    (words, (near, (some, (classes, (l .loop .inv .1, l .loop .inv .2)))))
 
 returns : tie.Need-returns Inv-loop μ-loop
-returns c = sym (c .before .before .class-fits .ensures .1 .0 (not-true _ (c .if1 .taken)))
+returns c =
+    let (few, (many, same)) = c .before .before .class-fits .ensures in
+    sym (many (not-true _ (c .if1 .taken)))
 
 loop-again : tie.Need-loop-again Inv-loop μ-loop
 loop-again c =
     let f = c .before .before in
     let l = f .before .before .before in
     let k = l .before .before in
-    let s = k .before .before in (
+    let s = k .before .before in
+    let (few, (many, same)) = f .class-fits .ensures in (
       omega arith,
       search needs,
-      λ n. subst (λ (m : List ℕ). (j : ℕ) → j < s .args .count → Cleared (s .args .whole) (s .args .table .now) (s .args .limit) m j) (sym (f .class-fits .ensures .1 .1 n)) (l .loop .inv .2 n),
-      λ j h b. below-next _ (l .loop .class) (l .loop .inv .3 j h) (f .class-fits .ensures .0 (not-false _ (c .if1 .left)) j h) b,
+      λ n. subst (λ (m : List ℕ). (j : ℕ) → j < s .args .count → Cleared (s .args .whole) (s .args .table .now) (s .args .limit) m j) (sym (same n)) (l .loop .inv .2 n),
+      λ j h b. below-next _ (l .loop .class) (l .loop .inv .3 j h) (few (not-false _ (c .if1 .left)) j h) b,
     )
 
 returns-2 : tie.Need-returns-2 Inv-loop μ-loop

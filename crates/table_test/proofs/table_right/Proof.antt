@@ -11,12 +11,15 @@ use borrow.Author.Needs.{needs}
 use Rattle.table_test.proofs.table_right.Statement.{statement}
 use Rattle.table_test.proofs.table_right.Tie as tie
 
+abbrev startOf : tie.Else2 → tie.Start
+startOf c = c .before .before
+
 -- what is left to be tested once the length is even and the count fits
 rest :
-    (c : tie.Else2) → let s = c .before .before in let ws = s .args .table .now in let n = s .args .count in
+    (c : tie.Else2) → let s = startOf c in let ws = s .args .table .now in let n = s .args .count in
     right (s .args .limit) (tableOf ws n) ≡ (numbersRight n ws && within true 1 n ws && within false (s .args .limit) n ws)
 rest c =
-    let s = c .before .before in
+    let s = startOf c in
     right-is (s .args .limit) (s .args .table .now) (s .args .count) (c .before .if1 .left) (c .if2 .left)
 
 returns-3 : tie.Need-returns-3
@@ -34,7 +37,7 @@ returns-5 : tie.Need-returns-5
 returns-5 c =
     let f = c .before .before in
     let d = f .before in
-    let s = d .before .before .before .before in
+    let s = startOf (d .before .before) in
     rw (
       rest (d .before .before),
       sym (d .before .numbers-right .ensures) ∙ not-false _ (d .if3 .left),

@@ -23,7 +23,7 @@ abbrev freshOf : tie.After-cell-at2 → ℕ
 freshOf c = startOf c .args .here .live + 1
 
 head-is : (c : tie.After-cell-at2) → readOf c .code-at .result ≡ headOf c
-head-is c = readOf c .code-at .ensures .0 ∙ ap (λ (k : ℕ). getD (startOf c .args .code .now) k 0) (readOf c .before .wide-u32 .ensures .0)
+head-is c = readOf c .code-at .ensures .0 ∙ ap (λ (k : ℕ). getD (startOf c .args .code .now) k 0) (readOf c .before .from-u32 .ensures .0)
 
 from-is : (c : tie.After-cell-at2) → c .before .before .cell-at .result ≡ cellFrom (freshOf c) (formalsIn (headOf c))
 from-is c =
@@ -39,7 +39,7 @@ clear-requires c κs = let p = startOf c .pre in (omega (arith, from-is c, p .1,
 returns : tie.Need-returns
 returns c =
     let k = c .before .before in (
-      rw (c .innermost .ensures, c .before .wide-u322 .ensures .0),
+      rw (c .innermost .ensures, c .before .from-u322 .ensures .0),
       subst (λ (T : Type 0). T) (λ i. Cleared (startOf (k .before) .args .words .now) (from-is (k .before) i) (to-is (k .before) i) (k .clear .last .0)) (k .clear .ensures),
     )
 

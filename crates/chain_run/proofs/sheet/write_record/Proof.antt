@@ -16,14 +16,14 @@ shown-as {code} {words} {first} {number} {own} b b′ n n′ p q h =
     subst (λ (T : Type 0). T) (λ i. Shown code words (sym p i) (sym q i) first number own) h
 
 -- the block's place is read, then the next statement's
-abbrev blockOf : tie.After-wide-u322 → tie.After-wide-u32
+abbrev blockOf : tie.After-from-u322 → tie.After-from-u32
 blockOf n = n .before
 
 write-activation-requires : tie.Need-write-activation-requires
 write-activation-requires c κs =
     let n = c .before in
     let p = blockOf n .before .pre .1 in
-    (p .0, p .1, shown-as _ _ _ _ (blockOf n .wide-u32 .ensures .0) (n .wide-u322 .ensures .0) (p .2), p .3)
+    (p .0, p .1, shown-as _ _ _ _ (blockOf n .from-u32 .ensures .0) (n .from-u322 .ensures .0) (p .2), p .3)
 
 returns : tie.Need-returns
 returns c =
@@ -31,8 +31,8 @@ returns c =
     let w = blockOf n in
     let r = c .before .write-activation .ensures in (
       λ number own ws base shown e l.
-          let q = r .0 number own ws base (shown-as _ _ _ _ (w .wide-u32 .ensures .0) (n .wide-u322 .ensures .0) shown) e l in
-          (q .0 ∙ ap (λ (b : ℕ). written (ws ++ (pos (2 * b) ∷ pos number ∷ own)) base) (w .wide-u32 .ensures .0), q .1),
+          let q = r .0 number own ws base (shown-as _ _ _ _ (w .from-u32 .ensures .0) (n .from-u322 .ensures .0) shown) e l in
+          (q .0 ∙ ap (λ (b : ℕ). written (ws ++ (pos (2 * b) ∷ pos number ∷ own)) base) (w .from-u32 .ensures .0), q .1),
       r .1,
     )
 

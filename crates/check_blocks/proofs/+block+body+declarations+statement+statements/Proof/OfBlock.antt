@@ -1,6 +1,7 @@
 -- `check_blocks::block` in the cycle of the check. Assumes nothing.
 use mathlib.Core.Path.{_≡_, _∙_}
 use Prim.Native.Nat.{ℕ, _+_, _-_, _≤_}
+use mathlib.Core.List.{List}
 use lib.ListN.{length, take}
 use borrow.Author.Needs.{needs}
 use native.Mathlib.Omega.{arith}
@@ -32,6 +33,9 @@ module _ (t : ℕ) where
   abbrev readOf : block-lts.After-slice-known2 calls (block-at t) block.Post → block-lts.After-declarations calls (block-at t) block.Post
   readOf c = c .before .before
 
+  abbrev namesOf : block-lts.After-declarations calls (block-at t) block.Post → List ℕ
+  namesOf c = c .declarations .last .1 .0
+
   abbrev declaredOf : block-lts.After-statements-arg calls (block-at t) block.Post → block-lts.After-declared calls (block-at t) block.Post
   declaredOf c = c .before .before
 
@@ -57,11 +61,11 @@ module _ (t : ℕ) where
   kept :
       (c : block-lts.After-declarations calls (block-at t) block.Post) →
       let a = entryOf (judgedOf (passedOf (c .before))) .args in
-      take (baseOf (a .left)) (c .declarations .last .1 .0) ≡ take (baseOf (a .left)) (a .names .now)
+      take (baseOf (a .left)) (namesOf c) ≡ take (baseOf (a .left)) (a .names .now)
   kept c =
       let o = passedOf (c .before) in
       let a = entryOf (judgedOf o) .args in
-      same-front (a .script .now) (a .names .now) (a .left) (a .at) (a .d) (a .s) (a .held) (a .next) (room (entryOf (judgedOf o))) (passed o) (c .declarations .last .1 .0) (c .declarations .ensures .1)
+      same-front (a .script .now) (a .names .now) (a .left) (a .at) (a .d) (a .s) (a .held) (a .next) (room (entryOf (judgedOf o))) (passed o) (namesOf c) (c .declarations .ensures .1)
 
   returns-2 : block-lts.Need-returns-2 calls (block-at t) block.Post
   returns-2 c =
@@ -82,9 +86,8 @@ module _ (t : ℕ) where
       let o = passedOf (d .before) in
       let e = entryOf (judgedOf o) in
       let on = rest-onward _ _ _ (e .args .at) _ _ _ _ (room e) (passed o) (d .declarations .ensures .0) (declaredOf c .declared .given .1) in
-      let l : length (d .declarations .last .1 .0) ≡ length (e .args .names .now) = d .declarations .kept .1 .0 in
       let p = passed o .positive in
-      omega (arith, e .pre, on)
+      omega (arith, e .pre, on, d .declarations .kept)
 
   returns-3 : block-lts.Need-returns-3 calls (block-at t) block.Post
   returns-3 c =
@@ -94,7 +97,7 @@ module _ (t : ℕ) where
       let o = passedOf (d .before) in
       let e = entryOf (judgedOf o) in (
         rest-is _ _ _ _ _ _ _ _ (room e) (passed o) (d .declarations .ensures .0) (dd .declared .given .1) (ss .ensures .0),
-        front-kept (d .declarations .last .1 .0) (ss .last .1 .0) (baseOf (e .args .left)) (baseOf (e .args .left - 1)) (omega arith) (ss .ensures .1) ∙ kept d,
+        front-kept (namesOf d) (ss .last .1 .0) (baseOf (e .args .left)) (baseOf (e .args .left - 1)) (omega arith) (ss .ensures .1) ∙ kept d,
       )
 
   pub block-closed : {M : Type 1} → block-lts.Closed calls (block-at t) block.Post M

@@ -1,5 +1,5 @@
 -- `check_blocks::body` in the cycle of the check. Assumes nothing.
-use mathlib.Core.Path.{_≡_, _∙_, subst}
+use mathlib.Core.Path.{_∙_, subst}
 use Prim.Native.Nat.{ℕ, _≤_}
 use lib.ListN.{length}
 use borrow.Author.Needs.{needs}
@@ -43,7 +43,7 @@ module _ (t : ℕ) where
   doneOf c = c .before .before
 
   few : (c : body-lts.After-enum-told calls (body-at t) body.Post) → entryOf c .args .p ≤ 32
-  few c = few-formals _ _ (c .enum-told .given .1) (entryOf c .pre .1 .1)
+  few c = let (falls, (deep, formals, long)) = entryOf c .pre in few-formals _ _ (c .enum-told .given .1) formals
 
   read-formals-requires : body-lts.Need-read-formals-requires calls (body-at t) body.Post
   read-formals-requires c κs = let h = few (c .before) in omega (arith, entryOf (c .before) .pre, h)
@@ -58,8 +58,7 @@ module _ (t : ℕ) where
       let h = few (procedureOf f) in
       let on = formals-onward (blockWith (e .args .below)) _ _ _ _ (procedureOf f .enum-told .given .1) (f .read-formals .ensures .0) (n .formals .given .1) in
       let within = subst (Within (length (e .args .script .now)) (n .formals .given .0 .0)) (k .reading .given .1) (b .read-block .ensures .1) in
-      let l : length (f .read-formals .last .1 .0) ≡ length (e .args .names .now) = f .read-formals .kept .1 .0 in
-      omega (arith, e .pre, h, on, within)
+      omega (arith, e .pre, h, on, within, f .read-formals .kept)
 
   returns-4 : body-lts.Need-returns-4 calls (body-at t) body.Post
   returns-4 c =

@@ -1,6 +1,7 @@
 -- `check_blocks::declarations` in the cycle of the check. Assumes nothing.
-use mathlib.Core.Path.{_≡_, _∙_, sym, subst}
+use mathlib.Core.Path.{_≡_, _∙_, subst}
 use Prim.Native.Nat.{ℕ, _+_, _-_, _≤_}
+use mathlib.Core.List.{List}
 use lib.ListN.{length, take, length-set}
 use borrow.Author.Needs.{needs}
 use native.Mathlib.Omega.{arith}
@@ -54,6 +55,9 @@ module _ (t : ℕ) where
   abbrev readOf : declarations-lts.After-known-told2 calls (declarations-at t) declarations.Post Inv-loop μ-loop → declarations-lts.After-body calls (declarations-at t) declarations.Post Inv-loop μ-loop
   readOf c = bodyOf (endOf c .before .before)
 
+  abbrev namesOf : declarations-lts.After-body calls (declarations-at t) declarations.Post Inv-loop μ-loop → List ℕ
+  namesOf c = c .body .last .1 .0
+
   body-requires : declarations-lts.Need-body-requires calls (declarations-at t) declarations.Post Inv-loop μ-loop
   body-requires c κs =
       let k = takenOf c in
@@ -69,15 +73,15 @@ module _ (t : ℕ) where
   same-length-2 c =
       let b = bodyOf (c .before .before) in
       let l = loopOf (headOf (takenOf (b .before))) in
-      b .body .kept .1 .0 ∙ l .loop .inv .1 ∙ sym (entryOf l .pre .1 .2)
+      omega (arith, b .body .kept, l .loop .inv, entryOf l .pre)
 
   -- what comes after a declaration leaves the names of its level and of those above
   kept : (c : declarations-lts.After-body calls (declarations-at t) declarations.Post Inv-loop μ-loop) → let l = loopOf (headOf (takenOf (c .before))) in let e = entryOf l in
-      take (baseOf (e .args .below + 1)) (c .body .last .1 .0) ≡ take (baseOf (e .args .below + 1)) (e .args .names .now)
+      take (baseOf (e .args .below + 1)) (namesOf c) ≡ take (baseOf (e .args .below + 1)) (e .args .names .now)
   kept c =
       let l = loopOf (headOf (takenOf (c .before))) in
       let e = entryOf l in
-      front-kept (l .loop .names) (c .body .last .1 .0) (baseOf (e .args .below + 1)) (baseOf (e .args .below)) (omega (arith, e .pre)) (c .body .ensures .1) ∙ l .loop .inv .2
+      front-kept (l .loop .names) (namesOf c) (baseOf (e .args .below + 1)) (baseOf (e .args .below)) (omega (arith, e .pre)) (c .body .ensures .1) ∙ l .loop .inv .2
 
   loop-again : declarations-lts.Need-loop-again calls (declarations-at t) declarations.Post Inv-loop μ-loop
   loop-again c =
@@ -90,13 +94,13 @@ module _ (t : ℕ) where
       let more = moreOf h .loop-test .taken in
       let base = baseOf (a .below + 1) in
       let w = subst (Within (length (a .script .now)) (lp .at)) (k .reading .given .1) (h .heading .ensures .1) in
-      let l : length (b .body .last .1 .0) ≡ length (lp .names) = b .body .kept .1 .0 in
+      let l : length (namesOf b) ≡ length (lp .names) = b .body .kept .1 .0 in
       let next-level : baseOf (a .below) ≡ base + 32 = omega (arith, e .pre) in
-      let same = names-kept (lp .names) (b .body .last .1 .0) base 32 (a .held + lp .i) (omega (arith, lp .inv)) (omega (arith, lp .inv, l)) (omega (arith, e .pre, more)) (subst (λ k. take k (b .body .last .1 .0) ≡ take k (lp .names)) next-level (b .body .ensures .1)) in (
+      let same = names-kept (lp .names) (namesOf b) base 32 (a .held + lp .i) (omega (arith, lp .inv)) (omega (arith, lp .inv, l)) (omega (arith, e .pre, more)) (subst (λ k. take k (namesOf b) ≡ take k (lp .names)) next-level (b .body .ensures .1)) in (
         omega (arith, more),
-        length-set (b .body .last .1 .0) (base + (a .held + lp .i)) (k .reading .given .0 .1 .1 .0) ∙ l ∙ lp .inv .1,
+        length-set (namesOf b) (base + (a .held + lp .i)) (k .reading .given .0 .1 .1 .0) ∙ l ∙ lp .inv .1,
         search (needs, front-set, kept),
-        decls-again (tracks-block (a .script .now) (a .below)) (lp .inv .3) more (h .heading .ensures .0) (k .reading .given .1) (b .body .ensures .0) (b .body .last .1 .0) (endOf c .after .given .1) (omega (arith, w)) same (omega (arith, e .pre, lp .inv, more, l)),
+        decls-again (tracks-block (a .script .now) (a .below)) (lp .inv .3) more (h .heading .ensures .0) (k .reading .given .1) (b .body .ensures .0) (namesOf b) (endOf c .after .given .1) (omega (arith, w)) same (omega (arith, e .pre, lp .inv, more, l)),
       )
 
   pub declarations-closed : {M : Type 1} → declarations-lts.Closed calls (declarations-at t) declarations.Post M

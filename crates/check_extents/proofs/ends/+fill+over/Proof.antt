@@ -1,15 +1,16 @@
-use borrow.Author.Needs.{needs}
 -- `check_extents::ends::fill` and `over` call each other and meet their contracts. What is unread falls; at one offset, `over` calls `fill`.
 -- Assumes nothing.
-use Prim.Native.Nat.{ℕ, _+_, _*_, _-_, _<_, _≤_}
+use Prim.Native.Nat.{ℕ, _+_, _*_, _-_, _≤_}
 use native.Mathlib.Omega.{arith}
 use lib.ListN.{length}
 use Rattle.laws.specs.Fields.{FieldsStand}
 use Rattle.check_extents.specs.Items.{Item, itemFields}
 use Rattle.check_extents.specs.Passing.{Skipped, Left, Ends}
 use Rattle.check_extents.proofs.Skipping.{left-first, left-whole, left-end, left-inside, stepped-head}
+use borrow.Author.Needs.{needs}
 use borrow.Fn.Kinds.{In}
-use borrow.Fn.PlainCycle.{Measures, is, falls, and}
+use borrow.Fn.PlainCycle.{Measures}
+use Rattle.check_fields.proofs.Cycles.{entered, called}
 use Rattle.check_extents.proofs.ends.fill.Reads as fill
 use Rattle.check_extents.proofs.ends.fill.Kinds as fill-kinds
 use Rattle.check_extents.proofs.ends.+fill+over.Lts-fill as fill-lts
@@ -25,22 +26,22 @@ use Rattle.check_extents.proofs.ends.+fill+over.{statement}
 use Rattle.check_extents.proofs.ends.+fill+over.Tie.{close}
 
 abbrev μ-fill : Measures 2 fill-kinds.ps ℕ
-μ-fill κs a = 2 * (length (a .0 .now) - a .1 .1 .0)
+μ-fill κs a = let (script, (ends, (at, more))) = a in 2 * (length (script .now) - at)
 
 abbrev μ-over : Measures 2 over-kinds.ps ℕ
-μ-over κs a = 2 * (length (a .0 .now) - a .1 .1 .0) + 1
+μ-over κs a = let (script, (ends, (at, more))) = a in 2 * (length (script .now) - at) + 1
 
 abbrev fill-at : ℕ → In 2 fill-kinds.ps
-fill-at t = and 2 fill-kinds.ps (is 2 fill-kinds.ps μ-fill t) fill.Pre
+fill-at t = entered 2 fill-kinds.ps μ-fill fill.Pre t
 
 abbrev fill-below : ℕ → In 2 fill-kinds.ps
-fill-below t = and 2 fill-kinds.ps (falls 2 fill-kinds.ps _<_ μ-fill t) fill.Pre
+fill-below t = called 2 fill-kinds.ps μ-fill fill.Pre t
 
 abbrev over-at : ℕ → In 2 over-kinds.ps
-over-at t = and 2 over-kinds.ps (is 2 over-kinds.ps μ-over t) over.Pre
+over-at t = entered 2 over-kinds.ps μ-over over.Pre t
 
 abbrev over-below : ℕ → In 2 over-kinds.ps
-over-below t = and 2 over-kinds.ps (falls 2 over-kinds.ps _<_ μ-over t) over.Pre
+over-below t = called 2 over-kinds.ps μ-over over.Pre t
 
 -- what each may use of those that it calls
 abbrev fill-claims : ℕ → fill-lts.Claims
@@ -69,18 +70,18 @@ fill-Inv-loop script ends₀ at here₀ pending₀ ends here pending =
 abbrev fill-μ-loop : fill-lts.MeasureT-loop
 fill-μ-loop script ends₀ at here₀ pending₀ ends here pending = length script - here
 
--- the places: the starts, and the loop of a record passed over
+-- the places: the start, and a turn in which a record is passed over
 abbrev fill-startOf :
     {t : ℕ} →
     fill-lts.At-loop (fill-claims t) (fill-at t) fill.Post fill-Inv-loop fill-μ-loop →
     fill-lts.Start (fill-claims t) (fill-at t) fill.Post fill-Inv-loop fill-μ-loop
 fill-startOf c = c .before .before
 
-abbrev fill-loopOf :
+abbrev fill-turnOf :
     {t : ℕ} →
     fill-lts.After-over (fill-claims t) (fill-at t) fill.Post fill-Inv-loop fill-μ-loop →
-    fill-lts.At-loop (fill-claims t) (fill-at t) fill.Post fill-Inv-loop fill-μ-loop
-fill-loopOf c = c .before .before .before .before
+    fill-lts.In-loop (fill-claims t) (fill-at t) fill.Post fill-Inv-loop fill-μ-loop
+fill-turnOf c = c .before .before .before
 
 fill-returns : (t : ℕ) → fill-lts.Need-returns (fill-claims t) (fill-at t) fill.Post fill-Inv-loop fill-μ-loop
 fill-returns t c =
@@ -101,13 +102,14 @@ fill-returns t c =
 fill-loop-again : (t : ℕ) → fill-lts.Need-loop-again (fill-claims t) (fill-at t) fill.Post fill-Inv-loop fill-μ-loop
 fill-loop-again t c =
     let o = c .before .over in
-    let at = fill-loopOf (c .before) in
+    let turn = fill-turnOf (c .before) in
+    let at = turn .before in
     let l = at .loop in
     let a = fill-startOf at .args in (
       search needs,
       o .ensures .0 .near,
       search needs,
-      λ x h. o .ensures .0 .steps (a .at) (l .pending) x (c .before .before .before .before .loop-test .taken) (l .inv .3 x h),
+      λ x h. o .ensures .0 .steps (a .at) (l .pending) x (turn .loop-test .taken) (l .inv .3 x h),
       o .ensures .1,
     )
 

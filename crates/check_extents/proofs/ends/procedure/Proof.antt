@@ -10,11 +10,12 @@ use Rattle.check_extents.proofs.ends.procedure.Tie as tie
 
 returns : tie.Need-returns
 returns c =
-    let n = c .before .noted .ensures (c .if1 .taken) in
-    let st = c .before .before .before .before in
+    let noted = c .before in
+    let n = noted .noted .ensures (c .if1 .taken) in
+    let st = noted .before .before .before in
     let a = st .args in
     let e = getD (a .ends .now) (a .at / 12) 0 in (
-      subst (λ (o : ℕ). Skipped (a .script .now) o (c .before .noted .result)) (sym (n .0))
+      subst (λ (o : ℕ). Skipped (a .script .now) o (noted .noted .result)) (sym (n .0))
           (subst (Skipped (a .script .now) (e / 65536)) (sym (n .1)) (st .pre .2 .right (a .at / 12) (omega (arith, n .1, c .if1 .taken)))),
       st .pre .2,
     )

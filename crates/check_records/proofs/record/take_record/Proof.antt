@@ -32,13 +32,14 @@ returns-2 c =
 
 returns-3 : tie.Need-returns-3
 returns-3 c =
-    let b = c .before .before .before .before in
+    let first = c .before .before .before in
+    let b = first .before in
     let known = foundOf (b .before) .count .given in
     let f = foundOf (b .before) .before .before in
     let a = startOf f .args in
     let k = b .before .from-u8 in (
       same-fields (known .0 .1 .0) (a .at + 2 + 2 * k .result)
-          (c .before .before .before .field-of .ensures .0) (c .before .before .field-of2 .ensures .0)
+          (first .field-of .ensures .0) (c .before .before .field-of2 .ensures .0)
           (c .before .field-of3 .ensures .0) (c .field-of4 .ensures .0)
           ∙ is-whole (a .place) (a .script .now) (a .at) (omega (arith, startOf f)) (f .before .field-at .ensures .0) (f .find-mark .ensures)
           (k .result) (known .0 .1 .0) (known .1 ∙ ap (λ (n : ℕ). Matched n (known .0 .1 .0)) (sym (k .ensures .0))) (omega (arith, b)),

@@ -5,7 +5,13 @@ use borrow.Author.Needs.{needs}
 use Rattle.resolve_script.proofs.walk.enter.Statement.{statement}
 use Rattle.resolve_script.proofs.walk.enter.Tie as tie
 
--- the places: the names declared, and the start
+-- the places: the formals' kinds written, the names in their chains, the names declared, and the start
+abbrev kindsOf : tie.After-named → tie.After-kinds
+kindsOf c = c .before .before .before .before
+
+abbrev insertedOf : tie.After-kinds → tie.After-insert
+insertedOf c = c .before .before .before .before
+
 abbrev declaredOf : tie.After-insert-arg → tie.After-declare
 declaredOf c = c .before .before .before .before .before
 
@@ -25,8 +31,8 @@ returns c =
     let put = c .before .before in
     let head = put .before .before in
     let named = head .before in
-    let kinds = named .before .before .before .before in
-    let inserted = kinds .before .before .before .before in
+    let kinds = kindsOf named in
+    let inserted = insertedOf kinds in
     let declared = declaredOf (inserted .before) in
     let p = startOf declared .pre in
     enters _ _ _ _ _ _ _ (p .0 .d-read) _ _ _ _ _ _ _ _ _ _ (p .1) (declared .declare .ensures) (inserted .insert .ensures) (kinds .kinds .ensures) (named .named .ensures .0)
