@@ -18,7 +18,7 @@ use run_statements::computed;
 use run_statements::constant;
 use run_words::code_at;
 ghost use mathlib.Core.Path.{_≡_};
-ghost use Prim.Native.Nat.{_+_, _*_, _<_, _≤_};
+ghost use Prim.Native.Nat.{_+_, _<_, _≤_};
 ghost use lib.ListN.{getD};
 ghost use Rattle.language.specs.Text.{plus, minus, less};
 ghost use Rattle.resolved.specs.Resolved.{targetIn};
@@ -28,7 +28,7 @@ ghost use Rattle.run_moves.specs.Acting.{sceneBy};
 ghost use Rattle.layout.specs.Layout.{activationIn, leadIn};
 ghost use Rattle.run_statements.specs.Pieces.{only-words, FormalsBefore, enteredBy};
 ghost use Rattle.run_statements.specs.Scenes.{Done};
-ghost use Rattle.display_run.specs.Finding.{firstCell, ownCell, byDisplay, Reachable, Direct, ThroughFormal, TwoNames, ThreeNames, Operands, ArgumentsReachable, Callable};
+ghost use Rattle.display_run.specs.Finding.{firstCell, ownCell, nextFirst, byDisplay, Reachable, Direct, ThroughFormal, TwoNames, ThreeNames, Operands, ArgumentsReachable, Callable};
 
 fn own_at(code: &[u32; 4096], display: &[u16; 256], place: usize) -> usize
     requires { ⌜ place < 4096 ⌝ }
@@ -193,7 +193,7 @@ fn arguments(
     count: usize,
 )
     requires { ⌜ (live ≤ 254) × ArgumentsReachable (now code) (now display) live at count ⌝ }
-    ensures { λ _. ⌜ now (words .exit) ≡ setAll (now (words .entry)) (32 * live + 32) (argumentsFrom (byDisplay (now (words .entry)) (now (display .entry))) (only-words (now (code .entry)) (now (words .entry)) at) at count) ⌝ }
+    ensures { λ _. ⌜ now (words .exit) ≡ setAll (now (words .entry)) (nextFirst live) (argumentsFrom (byDisplay (now (words .entry)) (now (display .entry))) (only-words (now (code .entry)) (now (words .entry)) at) at count) ⌝ }
 {
     let first = SHARE * live + SHARE;
     let mut i = 0;
