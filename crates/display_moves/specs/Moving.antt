@@ -29,7 +29,7 @@ use Rattle.steps.specs.Loop.{leaves, jumped}
 use Rattle.steps.specs.Entered.{body-head, entered}
 use Rattle.run_state.specs.declared.Registers.{Registers}
 use Rattle.run_state.specs.Scenes.{goesTo}
-use Rattle.display_moves.specs.Running.{Running, Succeeds, Restorable, Linkable}
+use Rattle.display_moves.specs.Running.{Running, Succeeds, HeadThere, BoundsThere, Restorable, LeaveReady, JumpReady, Linkable}
 
 -- what is read of an activation's block
 abbrev pub levelAt : List ℕ → List ℕ → ℕ → ℕ
@@ -57,7 +57,7 @@ module _ {code : List ℕ} {limit group : ℕ} {words : List ℤ} {blocks nexts 
   frame-stands : (k : ℕ) (h : k ≤ here .live) → numbered fs (suc k) ≡ some ((live-frame k h) .0)
   frame-stands k h = numbered-suc fs k ∙ (live-frame k h) .1
 
-  pub block-within : (k : ℕ) → k ≤ here .live → getD blocks k 0 + 3 ≤ 4096
+  block-within : (k : ℕ) → k ≤ here .live → getD blocks k 0 + 3 ≤ 4096
   unfolding enclosing
   block-within k h =
       let f = live-frame k h in
@@ -78,8 +78,15 @@ module _ {code : List ℕ} {limit group : ℕ} {words : List ℤ} {blocks nexts 
       end-read code (s .name) (s .program) (s .keeps) (s .covers) fs (s .sound .chained) blocks (set nexts (here .live) (here .at)) links words
       (s .holds) k f (numbered-index fs (suc k) f e)
 
-  pub few-live : here .live < 256
+  few-live : here .live < 256
   few-live = omega (arith, live-few (w .standing))
+
+  -- the words of its block can be read
+  pub head-there : {k : ℕ} → k ≤ here .live → HeadThere blocks k
+  head-there {k} h = record { few = omega (arith, few-live); within = omega (arith, block-within k h) }
+
+  pub bounds-there : {k : ℕ} → k ≤ here .live → BoundsThere blocks k
+  bounds-there {k} h = record { few = omega (arith, few-live); within = omega (arith, block-within k h) }
 
   shows-own : ShowsFrom fs (suc (here .live)) display
   shows-own = subst (λ k. ShowsFrom fs k display) (many (w .standing)) (shows-innermost fs display (w .shows))
@@ -118,7 +125,7 @@ module _ {code : List ℕ} {limit group : ℕ} {words : List ℤ} {blocks nexts 
     unfolding restorable
     restored display′ k = k restorable
 
-  pub home-live : (home at′ : ℕ) → JumpsTo (w .standing) home at′ → home ≤ here .live
+  home-live : (home at′ : ℕ) → JumpsTo (w .standing) home at′ → home ≤ here .live
   home-live home at′ j = (jumped (w .standing) home at′ j) .home-high
 
   module _ (display′ : List ℕ) (long : length display′ ≡ 256) where
@@ -163,6 +170,39 @@ module _ {code : List ℕ} {limit group : ℕ} {words : List ℤ} {blocks nexts 
             };
             follows = l .follows;
           })
+
+-- A return and a jump from what was read and written on the way
+
+pub one-below : (n : ℕ) → n - 1 ≤ n
+one-below n = omega arith
+
+pub few-below : {code blocks nexts links display : List ℕ} {here : Registers} → LeaveReady code blocks nexts links display here → here .live - 1 < 256
+few-below r = omega (arith, few-live (r .running))
+
+pub leaves-restored : {code blocks nexts links display : List ℕ} {here : Registers} (r : LeaveReady code blocks nexts links display here)
+    {level sure next end : ℕ} {display′ : List ℕ} → sure ≡ levelAt code blocks (here .live) → level ≡ levelAt code blocks (here .live - 1)
+    → ((v : Restorable links display (here .live - 1) level sure) → ShowsFrom (v .frames) (suc (here .live - 1)) display′)
+    → length display′ ≡ length display → next ≡ getD nexts (here .live - 1) 0 → end ≡ endAt code blocks (here .live - 1)
+    → Succeeds (r .running) (r .words) blocks nexts links display′ (r .table) (goesTo here (here .live - 1) next end (here .pairs))
+leaves-restored {here = here} r {display′ = display′} sure level shows long next end =
+    leaves-to (r .running) display′ (long ∙ r .running .display-long) (r .ended) (r .above) (here .live - 1) refl
+    (restored (r .running) (here .live - 1) _ _ (omega arith) level sure display′ shows) _ refl next end refl
+
+module _ {code blocks links display : List ℕ} {here : Registers} {home at : ℕ} (r : JumpReady code blocks links display here home at) where
+  pub home-high : {live : ℕ} → here .live ≡ live → home ≤ live
+  home-high e = omega (arith, home-live (r .running) home at (r .jumps))
+
+  pub jumps-here : home ≡ here .live → Succeeds (r .running) (r .words) blocks (r .nexts) links display (r .table) (goesTo here (here .live) at (here .end) (here .pairs))
+  jumps-here e =
+      jumps-to (r .running) display (r .running .display-long) home at (r .jumps) (shows-home (r .running) home e) _ (sym e) refl (end-home (r .running) home e) refl
+
+  pub jumps-restored : {level sure end : ℕ} {display′ : List ℕ} → sure ≡ levelAt code blocks (here .live) → level ≡ levelAt code blocks home
+      → ((v : Restorable links display home level sure) → ShowsFrom (v .frames) (suc home) display′)
+      → length display′ ≡ length display → end ≡ endAt code blocks home
+      → Succeeds (r .running) (r .words) blocks (r .nexts) links display′ (r .table) (goesTo here home at end (here .pairs))
+  jumps-restored {display′ = display′} sure level shows long end =
+      jumps-to (r .running) display′ (long ∙ r .running .display-long) home at (r .jumps)
+      (restored (r .running) home _ _ (home-live (r .running) home at (r .jumps)) level sure display′ shows) _ refl refl end refl
 
 -- An entry
 
@@ -229,14 +269,18 @@ module _ {code : List ℕ} {limit group : ℕ} {words : List ℤ} {blocks nexts 
   unfolding linkable
   linked display′ k = k linkable
 
+  -- the new activation, and its first cell
   abbrev fresh : ℕ
   fresh = here .live + 1
+
+  abbrev first : ℕ
+  first = 32 * fresh
 
   pub enters-to : (words″ : List ℤ) → Cleared words′ (cellFrom fresh (formalsIn head)) (cellFrom fresh (namesIn head)) words″
       → (display′ : List ℕ) → length display′ ≡ 256 → ShowsFrom (w .standing .stack .frames) (suc link) display′
       → (r : Registers) → r .live ≡ fresh → r .at ≡ firstIn bounds → r .end ≡ endIn bounds → r .pairs ≡ here .pairs
       → Succeeds w words″ (set blocks fresh body) (set nexts (here .live) back) (set links fresh link)
-      (set display′ (levelIn head) (32 * fresh)) table r
+      (set display′ (levelIn head) first) table r
   enters-to words″ cleared display′ long shows r live at end pairs =
       let h = body-head (w .standing) body link back words′ j in
       let c : Cleared words′ (cellFrom fresh (length (j .formals))) (cellFrom fresh (length (j .formals) + length (blockDecls (j .text)))) words″ =
@@ -244,13 +288,13 @@ module _ {code : List ℕ} {limit group : ℕ} {words : List ℤ} {blocks nexts 
       let e = entered (w .standing) body link back words′ j words″ c in
       let level = h .level in
       subst (λ (n : Registers). Succeeds w words″ (set blocks fresh body) (set nexts (here .live) back) (set links fresh link)
-      (set display′ (levelIn head) (32 * fresh)) table n)
+      (set display′ (levelIn head) first) table n)
       (λ i. goesTo r (sym live i) ((sym (h .first) ∙ sym at) i) ((sym (h .ends) ∙ sym end) i) (sym pairs i))
       (record {
         running = record {
           standing = e .standing;
-          shows = subst (λ k. Shows (e .standing .stack .frames) (set display′ k (32 * fresh))) (sym level) (e .shows display′ (omega arith) shows);
-          display-long = length-set display′ (levelIn head) (32 * fresh) ∙ long;
+          shows = subst (λ k. Shows (e .standing .stack .frames) (set display′ k first)) (sym level) (e .shows display′ (omega arith) shows);
+          display-long = length-set display′ (levelIn head) first ∙ long;
         };
         follows = e .follows;
       })
@@ -258,7 +302,7 @@ module _ {code : List ℕ} {limit group : ℕ} {words : List ℤ} {blocks nexts 
   -- the same of the numbers as they were read and written
   module _ {h b : ℕ} (head-read : h ≡ head) (bounds-read : b ≡ bounds) where
     pub enters-as : {block next up entry level formals names from to at end : ℕ} → block ≡ body → next ≡ back
-        → up ≡ link → entry ≡ 32 * fresh
+        → up ≡ link → entry ≡ first
         → level ≡ levelIn h → formals ≡ formalsIn h → names ≡ namesIn h → from ≡ cellFrom fresh formals → to ≡ cellFrom fresh names → at ≡ firstIn b → end ≡ endIn b
         → {words″ : List ℤ} → Cleared words′ from to words″
         → (display′ : List ℕ) → length display′ ≡ 256 → ShowsFrom (w .standing .stack .frames) (suc link) display′

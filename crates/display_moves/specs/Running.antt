@@ -1,11 +1,11 @@
 -- The display engine between two steps: `Running` says that the arrays hold a sound stack and that the display is that of its innermost frame,
 -- `Succeeds` that another state of the arrays is the one a step later. The others are what its functions ask.
-use Prim.Native.Nat.{ℕ, suc, _≤_, _<_}
+use Prim.Native.Nat.{ℕ, suc, _+_, _≤_, _<_}
 use mathlib.Core.List.{List}
 use mathlib.Core.Option.{some}
 use mathlib.Core.Path.{_≡_}
 use lib.IntN.{ℤ}
-use lib.ListN.{length}
+use lib.ListN.{length, getD}
 use Rattle.frames.specs.Frame.{Frame, numbered}
 use Rattle.coordinates.specs.Chain.{levelOf, Downward}
 use Rattle.arrays.specs.Holds.{Shows}
@@ -45,6 +45,15 @@ pub record Placed (here : Registers) : Type 0 where
   pub live : here .live < 256
   pub at : here .at ≤ 4096
   pub end : here .end ≤ 4096
+
+-- the first word of an activation's block can be read, and the second
+pub record HeadThere (blocks : List ℕ) (activation : ℕ) : Type 0 where
+  pub few : activation < 256
+  pub within : getD blocks activation 0 < 4096
+
+pub record BoundsThere (blocks : List ℕ) (activation : ℕ) : Type 0 where
+  pub few : activation < 256
+  pub within : getD blocks activation 0 + 1 < 4096
 
 -- the looked-up name can be found in the innermost activation
 pub record Looking (code : List ℕ) (words : List ℤ) (blocks display : List ℕ) (live : ℕ) : Type 0 where

@@ -17,7 +17,7 @@ ghost use Prim.Native.Nat.{suc, _+_, _<_};
 ghost use lib.ListN.{length, getD, set};
 ghost use Rattle.resolved.specs.Resolved.{levelIn};
 ghost use Rattle.arrays.specs.Displays.{ShowsFrom};
-ghost use Rattle.display_moves.specs.Running.{Restorable, Linkable, LeaveReady, JumpReady, EnterReady, Succeeds, Placed};
+ghost use Rattle.display_moves.specs.Running.{Restorable, Linkable, LeaveReady, JumpReady, EnterReady, Succeeds, HeadThere, BoundsThere, Placed};
 ghost use Rattle.display_moves.specs.Moving.{levelAt, endAt};
 
 // The level of the block at a place.
@@ -29,7 +29,7 @@ fn level_at(code: &[u32; 4096], block: usize) -> usize
 }
 
 fn activation_level(code: &[u32; 4096], blocks: &[u16; 256], activation: usize) -> usize
-    requires { ⌜ (activation < 256) × (getD (now blocks) activation 0 < 4096) ⌝ }
+    requires { ⌜ HeadThere (now blocks) activation ⌝ }
     ensures { λ r. ⌜ (r ≡ levelAt (now (code .entry)) (now (blocks .entry)) activation) × (r < 256) ⌝ }
 {
     level_at(code, from_u16(blocks[activation]))
@@ -37,7 +37,7 @@ fn activation_level(code: &[u32; 4096], blocks: &[u16; 256], activation: usize) 
 
 // Where the text of an activation's block ends.
 fn activation_end(code: &[u32; 4096], blocks: &[u16; 256], activation: usize) -> usize
-    requires { ⌜ (activation < 256) × (getD (now blocks) activation 0 + 1 < 4096) ⌝ }
+    requires { ⌜ BoundsThere (now blocks) activation ⌝ }
     ensures { λ r. ⌜ r ≡ endAt (now (code .entry)) (now (blocks .entry)) activation ⌝ }
 {
     end_of(code_at(code, from_u16(blocks[activation]) + 1))

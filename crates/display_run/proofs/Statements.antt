@@ -30,7 +30,7 @@ use Rattle.run_statements.specs.Scenes.{Done}
 use Rattle.run_statements.specs.Words.{read-back, is-zero, not-zero, is-direct, is-formal, cell-direct, cell-formal, home-direct, target-direct, home-formal, target-formal, handed-is}
 use Rattle.run_statements.specs.Doing.{direct-cell, constant-done, is-plus, is-minus, is-less, arithmetic-done, compare-done, goto-done, branch-not, branch-goes}
 use Rattle.run_statements.specs.Doing.{no-room, entered, arguments-alike, arguments-end, arguments-next, kept-below, call-is, number-differs, number-same, call-refused, call-agreed, change-done, query-done}
-use Rattle.display_run.specs.Finding.{firstCell, ownCell, byDisplay, Reachable, Direct, ThroughFormal, TwoNames, Operands, ArgumentsReachable}
+use Rattle.display_run.specs.Finding.{firstCell, ownCell, nextFirst, byDisplay, Reachable, Direct, ThroughFormal, TwoNames, Operands, ArgumentsReachable}
 
 -- Names
 
@@ -163,12 +163,12 @@ module _ (code : List ℕ) (words : List ℤ) (display : List ℕ) (at : ℕ) wh
 
     pub body-entered :
         (home body : ℕ) {count : ℕ} {ws : List ℤ} → live + 1 < limit → count ≡ w 2 →
-        ws ≡ setAll words (32 * live + 32) (argumentsFrom F (only-words code words (at + 3)) (at + 3) count) →
+        ws ≡ setAll words (nextFirst live) (argumentsFrom F (only-words code words (at + 3)) (at + 3) count) →
         Done (enteredBy F s home body) (Enter body home (at + 3 + count)) ws
     body-entered home body h k e =
         let d = entered F s h home body in
         let same = arguments-alike F code words limit live (at + 3) at (at + 3) (w 2) in
-        (rw k (d .0), (rw k at e) ∙ ap (setAll words (32 * live + 32)) same ∙ d .1)
+        (rw k (d .0), (rw k at e) ∙ ap (setAll words (nextFirst live)) same ∙ d .1)
 
     module _ {home body : ℕ} {m : Move} {ws : List ℤ} (did : Done (enteredBy F s home body) m ws) where
       pub called-own : {label f : ℕ} → label ≡ w 1 → f ≡ firstCell display label → home ≡ activationIn f → body ≡ targetIn label
@@ -224,40 +224,40 @@ module _ (code : List ℕ) (words : List ℤ) (display : List ℕ) (at : ℕ) wh
 
 pub record Handing (code : List ℕ) (words : List ℤ) (display : List ℕ) (live at count : ℕ) (now : List ℤ) (i : ℕ) : Type 0 where
   few : i ≤ count
-  kept : (k : ℕ) → k < 32 * live + 32 → getD now k (pos 0) ≡ getD words k (pos 0)
-  rest : setAll now (32 * live + 32 + i) (argumentsFrom (F code words display at) (o code words display at) (at + i) (count - i)) ≡
-      setAll words (32 * live + 32) (argumentsFrom (F code words display at) (o code words display at) at count)
+  kept : (k : ℕ) → k < nextFirst live → getD now k (pos 0) ≡ getD words k (pos 0)
+  rest : setAll now (nextFirst live + i) (argumentsFrom (byDisplay words display) (only-words code words at) (at + i) (count - i)) ≡
+      setAll words (nextFirst live) (argumentsFrom (byDisplay words display) (only-words code words at) at count)
 
 module _ {code : List ℕ} {words : List ℤ} {display : List ℕ} {live at count : ℕ} where
   pub handing-start : Handing code words display live at count words 0
   handing-start =
-      let f : 32 * live + 32 + 0 ≡ 32 * live + 32 = omega arith in
+      let f : nextFirst live + 0 ≡ nextFirst live = omega arith in
       let p : at + 0 ≡ at = omega arith in
       let n : count - 0 ≡ count = omega arith in
       record { few = omega arith; kept = λ k h. refl; rest = rw (f, p, n) }
 
   module _ {now : List ℤ} {i : ℕ} (done : Handing code words display live at count now i) where
-    pub handing-end : count ≤ i → now ≡ setAll words (32 * live + 32) (argumentsFrom (F code words display at) (o code words display at) at count)
-    handing-end h = arguments-end (F code words display at) (o code words display at) now (32 * live + 32) at count i h ∙ done .rest
+    pub handing-end : count ≤ i → now ≡ setAll words (nextFirst live) (argumentsFrom (byDisplay words display) (only-words code words at) at count)
+    handing-end h = arguments-end (byDisplay words display) (only-words code words at) now (nextFirst live) at count i h ∙ done .rest
 
     -- the next argument, by its word and its own cell as they were read
     module _ {v c : ℕ} (more : i < count) (reachable : ArgumentsReachable code display live at count) (read : v ≡ getD code (at + i) 0) (own : c ≡ ownCell display v) where
-      below : c < 32 * live + 32
+      below : c < nextFirst live
       below = let e = rw read at own in omega (arith, e, reachable .below i more)
 
       pub cell-below : live ≤ 254 → c < 8192
       cell-below h = omega (arith, below)
 
       pub handing-step : {z : ℤ} → mag z < 2147483648 → z ≡ handedWord now v c
-          → Handing code words display live at count (set now (32 * live + 32 + i) (toZ w32 (ofZ w32 z))) (i + 1)
+          → Handing code words display live at count (set now (nextFirst live + i) (toZ w32 (ofZ w32 z))) (i + 1)
       handing-step {z} small is =
           let u = getD code (at + i) 0 in
           let e = rw read at own in
-          let l : ownCell display u < 32 * live + 32 = reachable .below i more in
+          let l : ownCell display u < nextFirst live = reachable .below i more in
           let h = rw (own, read) at is in
           let q = read-back z small ∙ h ∙ handed-is words (firstCell display u) u now (done .kept (ownCell display u) l) in
           record {
             few = omega arith;
-            kept = kept-below now words (32 * live + 32) i _ (done .kept);
-            rest = arguments-next (F code words display at) (o code words display at) now (32 * live + 32) at count i more q ∙ done .rest;
+            kept = kept-below now words (nextFirst live) i _ (done .kept);
+            rest = arguments-next (byDisplay words display) (only-words code words at) now (nextFirst live) at count i more q ∙ done .rest;
           }

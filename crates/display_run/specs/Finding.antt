@@ -1,5 +1,5 @@
 -- How the display engine finds a name: the first cell of the declaring activation stands in the display at the name's level.
-use Prim.Native.Nat.{ℕ, _+_, _*_, _≤_, _<_}
+use Prim.Native.Nat.{ℕ, _+_, _≤_, _<_}
 use mathlib.Core.Bool.{true, false}
 use mathlib.Core.List.{List}
 use mathlib.Core.Path.{_≡_}
@@ -8,6 +8,7 @@ use lib.ListN.{getD}
 use lib.Signed.{ltZ}
 use Rattle.resolved.specs.Resolved.{levelIn, positionIn, direct}
 use Rattle.arrays.specs.Found.{cellBy, homeBy, targetBy, handedBy}
+use Rattle.resolved.specs.Layout.{cellFrom}
 use Rattle.run_moves.specs.Acting.{Finding}
 
 abbrev pub firstCell : List ℕ → ℕ → ℕ
@@ -15,6 +16,10 @@ firstCell display w = getD display (levelIn w) 0
 
 abbrev pub ownCell : List ℕ → ℕ → ℕ
 ownCell display w = firstCell display w + positionIn w
+
+-- the first cell of the activation after the innermost one
+abbrev pub nextFirst : ℕ → ℕ
+nextFirst live = cellFrom live 32
 
 abbrev pub byDisplay : List ℤ → List ℕ → Finding
 byDisplay words display =
@@ -45,7 +50,7 @@ pub record ThroughFormal (words : List ℤ) (display : List ℕ) (w : ℕ) : Typ
 pub record ArgumentsReachable (code : List ℕ) (display : List ℕ) (live from count : ℕ) : Type 0 where
   pub few : count ≤ 32
   pub there : from + count ≤ 4096
-  pub below : (i : ℕ) → i < count → ownCell display (getD code (from + i) 0) < 32 * live + 32
+  pub below : (i : ℕ) → i < count → ownCell display (getD code (from + i) 0) < nextFirst live
 
 -- What a statement asks: its words stand in the script, and its names are such as P says
 

@@ -1,5 +1,5 @@
 -- What the statement at a place asks of the display, by its operation: `ready`.
-use Prim.Native.Nat.{ℕ, _+_, _*_, _≤_, _<_}
+use Prim.Native.Nat.{ℕ, _+_, _≤_, _<_}
 use native.Mathlib.Omega.{arith}
 use mathlib.Core.Bool.{false}
 use mathlib.Core.List.{List}
@@ -15,7 +15,7 @@ use Rattle.steps.specs.Fields as fields
 use Rattle.steps.specs.Finding.{Reaches, reached-by-display, finds-by-display}
 use Rattle.resolved.specs.Layout.{leadIn}
 use Rattle.run_statements.specs.Pieces.{FormalsBefore}
-use Rattle.display_run.specs.Finding.{firstCell, ownCell, byDisplay, Reachable, Direct, ThroughFormal, ArgumentsReachable, TwoNames, ThreeNames, Operands, Callable}
+use Rattle.display_run.specs.Finding.{firstCell, ownCell, nextFirst, byDisplay, Reachable, Direct, ThroughFormal, ArgumentsReachable, TwoNames, ThreeNames, Operands, Callable}
 use Rattle.run_state.specs.Scenes.{limitsBy}
 use Rattle.display_moves.specs.Running.{Doing}
 
@@ -49,7 +49,7 @@ module _ {code : List ℕ} {words : List ℤ} {display : List ℕ} {limit live a
         there = a .there;
         below = λ i h.
             let p : at + (3 + i) ≡ at + 3 + i = omega arith in
-            subst (λ k. ownCell display (getD code k 0) < 32 * live + 32) p ((reached (3 + i) (a .each i h)) .own);
+            subst (λ k. ownCell display (getD code k 0) < nextFirst live) p ((reached (3 + i) (a .each i h)) .own);
       }
 
   abbrev Formals : Type 0

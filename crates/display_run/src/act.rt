@@ -4,7 +4,6 @@ use layout::operation_of;
 use run_moves::Ask;
 use run_moves::Move;
 use run_words::code_at;
-ghost use mathlib.Core.Path.{_≡_};
 ghost use Rattle.run_moves.specs.Acting.{sceneBy, acting};
 ghost use Rattle.run_statements.specs.Scenes.{Done};
 ghost use Rattle.display_run.specs.Finding.{byDisplay};

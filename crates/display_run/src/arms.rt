@@ -18,7 +18,7 @@ use run_statements::computed;
 use run_statements::constant;
 use run_words::code_at;
 ghost use mathlib.Core.Path.{_≡_};
-ghost use Prim.Native.Nat.{_+_, _*_, _<_, _≤_};
+ghost use Prim.Native.Nat.{_+_, _<_, _≤_};
 ghost use lib.ListN.{getD};
 ghost use Rattle.language.specs.Text.{plus, minus, less};
 ghost use Rattle.resolved.specs.Resolved.{targetIn};
@@ -28,8 +28,9 @@ ghost use Rattle.run_moves.specs.Acting.{sceneBy};
 ghost use Rattle.resolved.specs.Layout.{activationIn, leadIn};
 ghost use Rattle.run_statements.specs.Pieces.{only-words, FormalsBefore, enteredBy};
 ghost use Rattle.run_statements.specs.Scenes.{Done};
-ghost use Rattle.display_run.specs.Finding.{firstCell, ownCell, byDisplay, Reachable, Direct, ThroughFormal, TwoNames, ThreeNames, Operands, ArgumentsReachable, Callable};
+ghost use Rattle.display_run.specs.Finding.{firstCell, ownCell, nextFirst, byDisplay, Reachable, Direct, ThroughFormal, TwoNames, ThreeNames, Operands, ArgumentsReachable, Callable};
 
+// The own cell of the name whose word stands at a place, and the cell that it finally stands for.
 fn own_at(code: &[u32; 4096], display: &[u16; 256], place: usize) -> usize
     requires { ⌜ place < 4096 ⌝ }
     ensures { λ r. ⌜ r ≡ ownCell (now (display .entry)) (getD (now (code .entry)) place 0) ⌝ }
@@ -37,7 +38,7 @@ fn own_at(code: &[u32; 4096], display: &[u16; 256], place: usize) -> usize
     own_cell(display, code_at(code, place))
 }
 
-fn cell_at(code: &[u32; 4096], words: &[i32; 8224], display: &[u16; 256], place: usize) -> usize
+fn found_at(code: &[u32; 4096], words: &[i32; 8224], display: &[u16; 256], place: usize) -> usize
     requires { ⌜ (place < 4096) × Reachable (now words) (now display) (getD (now code) place 0) ⌝ }
     ensures { λ r. ⌜ r ≡ cellBy (now (words .entry)) (firstCell (now (display .entry)) (getD (now (code .entry)) place 0)) (getD (now (code .entry)) place 0) ⌝ }
 {
@@ -65,7 +66,7 @@ pub fn do_constant_formal(
     requires { ⌜ (at + 4 ≤ 4096) × Reachable (now words) (now display) (getD (now code) (at + 1) 0) ⌝ }
     ensures { λ r. ⌜ Done (doConstant (byDisplay (now (words .entry)) (now (display .entry))) (only-words (now (code .entry)) (now (words .entry)) at)) r (now (words .exit)) ⌝ }
 {
-    constant(code, words, cell_at(code, words, display, at + 1), at)
+    constant(code, words, found_at(code, words, display, at + 1), at)
 }
 
 pub fn do_add(code: &[u32; 4096], words: &mut [i32; 8224], display: &[u16; 256], at: usize) -> Move
@@ -118,9 +119,9 @@ pub fn do_arithmetic_formal(
     requires { ⌜ Operands (Reachable (now words) (now display)) (now code) at ⌝ }
     ensures { λ r. ⌜ Done (doArithmetic (byDisplay (now (words .entry)) (now (display .entry))) (only-words (now (code .entry)) (now (words .entry)) at) (operationOf (getD (now (code .entry)) (at + 2) 0))) r (now (words .exit)) ⌝ }
 {
-    let target = cell_at(code, words, display, at + 1);
-    let left = cell_at(code, words, display, at + 3);
-    let right = cell_at(code, words, display, at + 4);
+    let target = found_at(code, words, display, at + 1);
+    let left = found_at(code, words, display, at + 3);
+    let right = found_at(code, words, display, at + 4);
     let operation = code_at(code, at + 2);
     if operation == 0 {
         return computed(run_words::add(words, target, left, right), at);
@@ -174,7 +175,7 @@ pub fn do_branch_formal(
     requires { ⌜ TwoNames (Reachable (now words) (now display)) (now code) at ⌝ }
     ensures { λ r. ⌜ r ≡ (doBranch (byDisplay (now (words .entry)) (now (display .entry))) (only-words (now (code .entry)) (now (words .entry)) at)) .move ⌝ }
 {
-    if words[cell_at(code, words, display, at + 2)] == 0 {
+    if words[found_at(code, words, display, at + 2)] == 0 {
         return Move::On(at + 3);
     }
     if formal_of(code_at(code, at + 1)) == 0 {
@@ -193,7 +194,7 @@ fn arguments(
     count: usize,
 )
     requires { ⌜ (live ≤ 254) × ArgumentsReachable (now code) (now display) live at count ⌝ }
-    ensures { λ _. ⌜ now (words .exit) ≡ setAll (now (words .entry)) (32 * live + 32) (argumentsFrom (byDisplay (now (words .entry)) (now (display .entry))) (only-words (now (code .entry)) (now (words .entry)) at) at count) ⌝ }
+    ensures { λ _. ⌜ now (words .exit) ≡ setAll (now (words .entry)) (nextFirst live) (argumentsFrom (byDisplay (now (words .entry)) (now (display .entry))) (only-words (now (code .entry)) (now (words .entry)) at) at count) ⌝ }
 {
     let first = SHARE * live + SHARE;
     let mut i = 0;
@@ -298,8 +299,8 @@ pub fn do_change(
     requires { ⌜ TwoNames (Reachable (now words) (now display)) (now code) at ⌝ }
     ensures { λ r. ⌜ r ≡ (doChange (byDisplay (now (words .entry)) (now (display .entry))) (only-words (now (code .entry)) (now (words .entry)) at) ask) .move ⌝ }
 {
-    let group = cell_at(code, words, display, at + 1);
-    let member = cell_at(code, words, display, at + 2);
+    let group = found_at(code, words, display, at + 1);
+    let member = found_at(code, words, display, at + 2);
     Move::Table(at + 3, group, member, 0, ask)
 }
 
@@ -308,8 +309,8 @@ pub fn do_query(code: &[u32; 4096], words: &[i32; 8224], display: &[u16; 256], a
     requires { ⌜ ThreeNames (Reachable (now words) (now display)) (now code) at ⌝ }
     ensures { λ r. ⌜ r ≡ (doQuery (byDisplay (now (words .entry)) (now (display .entry))) (only-words (now (code .entry)) (now (words .entry)) at)) .move ⌝ }
 {
-    let target = cell_at(code, words, display, at + 1);
-    let group = cell_at(code, words, display, at + 2);
-    let member = cell_at(code, words, display, at + 3);
+    let target = found_at(code, words, display, at + 1);
+    let group = found_at(code, words, display, at + 2);
+    let member = found_at(code, words, display, at + 3);
     Move::Table(at + 4, group, member, target, Ask::Query)
 }

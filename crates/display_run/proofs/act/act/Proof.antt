@@ -1,6 +1,5 @@
 -- `act` meets its contract: each arm's function does what `acting` has for its operation.
 use Prim.Native.Nat.{ℕ, _+_}
-use native.Mathlib.Omega.{arith}
 use mathlib.Core.List.{List}
 use mathlib.Core.Path.{_≡_, sym, ap, _∙_}
 use lib.IntN.{ℤ}
@@ -8,7 +7,7 @@ use lib.ListN.{getD}
 use Rattle.language.specs.Text.{plus, minus, less}
 use Rattle.run_moves.specs.declared.Move.{Move}
 use Rattle.run_moves.specs.declared.Ask.the-variants.{Add, Remove}
-use Rattle.run_moves.specs.Acting.{Finding, Scene, sceneBy, Op, constant-op, operationOf, operations, opOf, happens, acting}
+use Rattle.run_moves.specs.Acting.{Finding, Scene, sceneBy, constant-op, operations, opOf, happens, acting}
 use Rattle.resolved.specs.Layout.{operationIn}
 use Rattle.display_run.specs.Finding.{firstCell, byDisplay}
 use Rattle.display_run.specs.Ready.{Ready, ready, at-there}
