@@ -136,8 +136,8 @@ apart j l d h = go (ltb l j) refl
 abbrev pub LinksOf : List Frame → List ℕ → Type 0
 LinksOf fs links = (k : ℕ) (f : Frame) → getElem? fs k ≡ some f → getD links k 0 ≡ pred (f .link)
 
-pub holds-links : (fs : List Frame) (blocks nexts links : List ℕ) (words : List ℤ) → Holds fs blocks nexts links words → LinksOf fs links
-holds-links fs blocks nexts links words holds k f e = (holds k f e) .link-is
+pub holds-links : (fs : List Frame) (blocks nexts links : List ℕ) (cells : List ℤ) → Holds fs blocks nexts links cells → LinksOf fs links
+holds-links fs blocks nexts links cells holds k f e = (holds k f e) .link-is
 
 -- one link more
 pub climb-on : (fs : List Frame) (k j : ℕ) (g : Frame) → numbered fs (climb fs k j) ≡ some g → climb fs k (suc j) ≡ g .link

@@ -26,26 +26,26 @@ use Rattle.arrays.specs.Names.{NameAt, handed-word, follow, named-points
 
 -- what a formal's word holds
 unfoldable pub heldBy : List ℤ → ℕ → ℕ → ℕ
-heldBy words first w = designatorIn (getD words (first + positionIn w) (pos 0))
+heldBy cells first w = designatorIn (getD cells (first + positionIn w) (pos 0))
 
 unfoldable pub cellBy : List ℤ → ℕ → ℕ → ℕ
-cellBy words first w = elim (direct w) [ true ↦ first + positionIn w | false ↦ cellIn (heldBy words first w) ]
+cellBy cells first w = elim (direct w) [ true ↦ first + positionIn w | false ↦ cellIn (heldBy cells first w) ]
 
 unfoldable pub homeBy : List ℤ → ℕ → ℕ → ℕ
-homeBy words first w = elim (direct w) [ true ↦ activationIn first | false ↦ activationIn (cellIn (heldBy words first w)) ]
+homeBy cells first w = elim (direct w) [ true ↦ activationIn first | false ↦ activationIn (cellIn (heldBy cells first w)) ]
 
 unfoldable pub targetBy : List ℤ → ℕ → ℕ → ℕ
-targetBy words first w = elim (direct w) [ true ↦ targetIn w | false ↦ leadIn (heldBy words first w) ]
+targetBy cells first w = elim (direct w) [ true ↦ targetIn w | false ↦ leadIn (heldBy cells first w) ]
 
 unfoldable pub handedBy : List ℤ → ℕ → ℕ → ℤ
-handedBy words first w =
-    elim (direct w) [ true ↦ pos (heldFrom (first + positionIn w) (targetIn w)) | false ↦ getD words (first + positionIn w) (pos 0) ]
+handedBy cells first w =
+    elim (direct w) [ true ↦ pos (heldFrom (first + positionIn w) (targetIn w)) | false ↦ getD cells (first + positionIn w) (pos 0) ]
 
-pub record Finds (fs : List Frame) (words : List ℤ) (n w first : ℕ) : Type 0 where
-  pub cell : cellBy words first w ≡ cellOf (designates fs n)
-  pub home : homeBy words first w ≡ pred (frameNumber (designates fs n))
-  pub target : targetBy words first w ≡ targetOf fs (designates fs n)
-  pub handed : handedBy words first w ≡ pos (formalWord fs (designates fs n))
+pub record Finds (fs : List Frame) (cells : List ℤ) (n w first : ℕ) : Type 0 where
+  pub cell : cellBy cells first w ≡ cellOf (designates fs n)
+  pub home : homeBy cells first w ≡ pred (frameNumber (designates fs n))
+  pub target : targetBy cells first w ≡ targetOf fs (designates fs n)
+  pub handed : handedBy cells first w ≡ pos (formalWord fs (designates fs n))
 
 pub direct-is : (w : ℕ) → direct w ≡ true → formalIn w ≡ 0
 unfolding direct
@@ -60,7 +60,7 @@ formal-is w e = one (formalIn w) (omega arith) (eqb-false (formalIn w) 0 e)
     one (suc zero) h d = refl
     one (suc (suc b)) h d = absurd (omega arith)
 
-module _ (fs : List Frame) (words : List ℤ) (n w first : ℕ) (at : NameAt fs words n w first) (c : Celled (designates fs n)) where
+module _ (fs : List Frame) (cells : List ℤ) (n w first : ℕ) (at : NameAt fs cells n w first) (c : Celled (designates fs n)) where
   -- the name's own cell is one of the stack's
   pub own-cell-bound : first + positionIn w < 32 * length fs
   own-cell-bound = omega (arith, at .within)
@@ -70,14 +70,14 @@ module _ (fs : List Frame) (words : List ℤ) (n w first : ℕ) (at : NameAt fs 
       let e : first / 32 ≡ cellOf (designates fs n) / 32 = omega (arith, at .direct-cell z, at .whole) in
       e ∙ cell-activation (designates fs n) c
 
-  pub held-is : formalIn w ≡ 1 → heldBy words first w ≡ formalWord fs (designates fs n)
+  pub held-is : formalIn w ≡ 1 → heldBy cells first w ≡ formalWord fs (designates fs n)
   unfolding heldBy designatorIn
   held-is z = ap designatorIn (at .formal-word z)
 
-  cell-formal : formalIn w ≡ 1 → cellIn (heldBy words first w) ≡ cellOf (designates fs n)
+  cell-formal : formalIn w ≡ 1 → cellIn (heldBy cells first w) ≡ cellOf (designates fs n)
   cell-formal z = ap cellIn (held-is z) ∙ word-cell fs (designates fs n) c
 
-  found : (b : Bool) → direct w ≡ b → Finds fs words n w first
+  found : (b : Bool) → direct w ≡ b → Finds fs cells n w first
   unfolding cellBy homeBy targetBy handedBy
   found true e =
       let z = direct-is w e in
@@ -85,7 +85,7 @@ module _ (fs : List Frame) (words : List ℤ) (n w first : ℕ) (at : NameAt fs 
         cell = rw (cellBy, e) (at .direct-cell z);
         home = rw (homeBy, e) (home-direct z);
         target = rw (targetBy, e) (at .direct-target z);
-        handed = rw (handedBy, e) (ap pos (handed-word fs words n w first at z));
+        handed = rw (handedBy, e) (ap pos (handed-word fs cells n w first at z));
       }
   found false e =
       let z = formal-is w e in
@@ -96,12 +96,12 @@ module _ (fs : List Frame) (words : List ℤ) (n w first : ℕ) (at : NameAt fs 
         handed = rw (handedBy, e) (at .formal-word z);
       }
 
-  pub finds : Finds fs words n w first
+  pub finds : Finds fs cells n w first
   finds = found (direct w) refl
 
 -- The two ways, from the invariant of a run
 
-module _ (l : Limits) (t : Block) (keeps : Keeps t) (s : Stack) (sound : Sound l t s) (blocks nexts links : List ℕ) (words : List ℤ) (holds : Holds (s .frames) blocks nexts links words)
+module _ (l : Limits) (t : Block) (keeps : Keeps t) (s : Stack) (sound : Sound l t s) (blocks nexts links : List ℕ) (cells : List ℤ) (holds : Holds (s .frames) blocks nexts links cells)
     (n : ℕ) (c : Coordinate) (here : coordinateOf (enclosureOf (s .frames) (length (s .frames))) n ≡ some c) where
   abbrev fs : List Frame
   fs = s .frames
@@ -112,11 +112,11 @@ module _ (l : Limits) (t : Block) (keeps : Keeps t) (s : Stack) (sound : Sound l
   -- what it designates has a cell
   pub named-celled : Celled (designates fs n)
   named-celled =
-      points-celled fs (length fs) (designates fs n) (sound .bounded .each) (omega (arith, sound .bounded .live, sound .limit)) (named-points t keeps fs (sound .chained) n c here (sound .bounded .each))
+      points-celled fs (length fs) (designates fs n) (sound .bounded .each) (omega (arith, sound .bounded .live, sound .few)) (named-points t keeps fs (sound .chained) n c here (sound .bounded .each))
 
-  pub found-by-display : (display : List ℕ) → Shows fs display → Finds fs words n w (getD display (levelIn w) 0)
+  pub found-by-display : (display : List ℕ) → Shows fs display → Finds fs cells n w (getD display (levelIn w) 0)
   found-by-display display shows =
-      finds fs words n w (getD display (levelIn w) 0) (named-by-display t keeps fs (sound .chained) n c here (sound .wired) blocks nexts links words holds display shows) named-celled
+      finds fs cells n w (getD display (levelIn w) 0) (named-by-display t keeps fs (sound .chained) n c here (sound .wired) blocks nexts links cells holds display shows) named-celled
 
-  pub found-by-links : Finds fs words n w (32 * follow links (pred (length fs)) (levelOf fs (length fs) - levelIn w))
-  found-by-links = finds fs words n w _ (named-by-links t keeps fs (sound .chained) n c here (sound .wired) blocks nexts links words holds) named-celled
+  pub found-by-links : Finds fs cells n w (32 * follow links (pred (length fs)) (levelOf fs (length fs) - levelIn w))
+  found-by-links = finds fs cells n w _ (named-by-links t keeps fs (sound .chained) n c here (sound .wired) blocks nexts links cells holds) named-celled

@@ -31,16 +31,16 @@ unfoldable pub formalWord : List Frame → ℕ → ℕ
 formalWord fs x = heldFrom (cellOf x) (targetOf fs x)
 
 -- activation k holds the frame f of the stack fs
-pub record HoldsFrame (fs : List Frame) (words : List ℤ) (block next link k : ℕ) (f : Frame) : Type 0 where
+pub record HoldsFrame (fs : List Frame) (cells : List ℤ) (block next link k : ℕ) (f : Frame) : Type 0 where
   pub block-is : block ≡ placeOf (blockAt (f .text))
   pub next-is : next ≡ stmtPlace (f .text) (f .next)
   pub link-is : link ≡ pred (f .link)
-  pub formals-are : (i : ℕ) → i < length (f .formals) → getD words (32 * k + i) (pos 0) ≡ pos (formalWord fs (designatorIn (getD (f .words) i (pos 0))))
-  pub others-are : (i : ℕ) → length (f .formals) ≤ i → i < length (f .words) → getD words (32 * k + i) (pos 0) ≡ getD (f .words) i (pos 0)
+  pub formals-are : (i : ℕ) → i < length (f .formals) → getD cells (32 * k + i) (pos 0) ≡ pos (formalWord fs (designatorIn (getD (f .words) i (pos 0))))
+  pub others-are : (i : ℕ) → length (f .formals) ≤ i → i < length (f .words) → getD cells (32 * k + i) (pos 0) ≡ getD (f .words) i (pos 0)
 
 abbrev pub Holds : List Frame → List ℕ → List ℕ → List ℕ → List ℤ → Type 0
-Holds fs blocks nexts links words =
-    (k : ℕ) (f : Frame) → getElem? fs k ≡ some f → HoldsFrame fs words (getD blocks k 0) (getD nexts k 0) (getD links k 0) k f
+Holds fs blocks nexts links cells =
+    (k : ℕ) (f : Frame) → getElem? fs k ≡ some f → HoldsFrame fs cells (getD blocks k 0) (getD nexts k 0) (getD links k 0) k f
 
 -- a display in an array: at each level up to the innermost one's stands the first cell of the enclosing activation of that level
 abbrev pub Shows : List Frame → List ℕ → Type 0

@@ -37,17 +37,17 @@ snoc-frames gs g P old new k f e =
     (λ t. let c : length gs ≡ k = omega (arith, ltb-false k (length gs) t) in
     subst₂ P c (some-inj (sym (getElem-seam gs g []) ∙ ap (getElem? (gs ++ (g ∷ []))) c ∙ e)) new)
 
-module _ (fs : List Frame) (blocks nexts links : List ℕ) (words : List ℤ) (bounded : BoundedFrames fs) (holds : Holds fs blocks nexts links words) where
+module _ (fs : List Frame) (blocks nexts links : List ℕ) (cells : List ℤ) (bounded : BoundedFrames fs) (holds : Holds fs blocks nexts links cells) where
   -- Frames left
 
-  pub holds-taken : (n : ℕ) → n ≤ length fs → Holds (take n fs) blocks nexts links words
+  pub holds-taken : (n : ℕ) → n ≤ length fs → Holds (take n fs) blocks nexts links cells
   holds-taken n h k f e =
       let l = length-take-le n fs h in
       let s : k < n = omega (arith, getElem-bound (take n fs) k f e) in
       let q : getElem? fs k ≡ some f = sym (getElem-take fs n k s) ∙ e in
-      frame-over fs (take n fs) n (alike-take n fs) words (getD blocks k 0) (getD nexts k 0) (getD links k 0) k f (omega arith) (bounded-outer fs k f (bounded k f q)) (holds k f q)
+      frame-over fs (take n fs) n (alike-take n fs) cells (getD blocks k 0) (getD nexts k 0) (getD links k 0) k f (omega arith) (bounded-outer fs k f (bounded k f q)) (holds k f q)
 
-  pub holds-left : Holds (butLast fs) blocks nexts links words
+  pub holds-left : Holds (butLast fs) blocks nexts links cells
   holds-left = rw butLast-take (holds-taken (pred (length fs)) (omega arith))
 
   -- Going on at another statement
@@ -59,14 +59,14 @@ module _ (fs : List Frame) (blocks nexts links : List ℕ) (words : List ℤ) (b
     nexts′ : List ℕ
     nexts′ = set nexts (pred n) (stmtPlace (f .text) i)
 
-    here : HoldsFrame fs words (getD blocks (pred n) 0) (getD nexts′ (pred n) 0) (getD links (pred n) 0) (pred n) (continue f i)
+    here : HoldsFrame fs cells (getD blocks (pred n) 0) (getD nexts′ (pred n) 0) (getD links (pred n) 0) (pred n) (continue f i)
     unfolding continue nexts′
     here =
         let h = holds (pred n) f (numbered-index fs n f e) in
         let low = numbered-low fs n f e in
         record { block-is = h .block-is; next-is = getD-set-same nexts (pred n) (stmtPlace (f .text) i) 0 (omega arith); link-is = h .link-is; formals-are = h .formals-are; others-are = h .others-are }
 
-    below : (k : ℕ) (g : Frame) → k < pred n → getElem? fs k ≡ some g → HoldsFrame fs words (getD blocks k 0) (getD nexts′ k 0) (getD links k 0) k g
+    below : (k : ℕ) (g : Frame) → k < pred n → getElem? fs k ≡ some g → HoldsFrame fs cells (getD blocks k 0) (getD nexts′ k 0) (getD links k 0) k g
     unfolding nexts′
     below k g s q =
         let h = holds k g q in
@@ -77,7 +77,7 @@ module _ (fs : List Frame) (blocks nexts links : List ℕ) (words : List ℤ) (b
     outer-here = bounded-outer fs (pred n) f (bounded (pred n) f (numbered-index fs n f e))
 
     abbrev Kept : ℕ → Frame → Type 0
-    Kept k g = (k ≤ n) × Outer k g × HoldsFrame fs words (getD blocks k 0) (getD nexts′ k 0) (getD links k 0) k g
+    Kept k g = (k ≤ n) × Outer k g × HoldsFrame fs cells (getD blocks k 0) (getD nexts′ k 0) (getD links k 0) k g
 
     frames-kept : (k : ℕ) (g : Frame) → getElem? resumed k ≡ some g → Kept k g
     unfolding resumed
@@ -88,13 +88,13 @@ module _ (fs : List Frame) (blocks nexts links : List ℕ) (words : List ℤ) (b
         (omega arith, bounded-outer fs k g (bounded k g r), below k g (omega arith) r))
         (subst (λ j. Kept j (continue f i)) (sym l) (omega arith, outer-here, here))
 
-    pub holds-resumed : Holds (take (pred n) fs ++ (continue f i ∷ [])) blocks (set nexts (pred n) (stmtPlace (f .text) i)) links words
+    pub holds-resumed : Holds (take (pred n) fs ++ (continue f i ∷ [])) blocks (set nexts (pred n) (stmtPlace (f .text) i)) links cells
     unfolding resumed nexts′
     holds-resumed k g q =
         let h = frames-kept k g q in
-        frame-over fs resumed n (alike-cut fs n f (continue f i) e (outline-continue f i)) words (getD blocks k 0) (getD nexts′ k 0) (getD links k 0) k g (h .0) (h .1) (h .2)
+        frame-over fs resumed n (alike-cut fs n f (continue f i) e (outline-continue f i)) cells (getD blocks k 0) (getD nexts′ k 0) (getD links k 0) k g (h .0) (h .1) (h .2)
 
-  pub holds-advanced : (f : Frame) → last? fs ≡ some f → (i : ℕ) → length fs ≤ length nexts → Holds (butLast fs ++ (continue f i ∷ [])) blocks (set nexts (pred (length fs)) (stmtPlace (f .text) i)) links words
+  pub holds-advanced : (f : Frame) → last? fs ≡ some f → (i : ℕ) → length fs ≤ length nexts → Holds (butLast fs ++ (continue f i ∷ [])) blocks (set nexts (pred (length fs)) (stmtPlace (f .text) i)) links cells
   holds-advanced f e i room = rw butLast-take (holds-resumed (length fs) f (sym (last-numbered fs) ∙ e) i room)
 
 -- what a formal's word is does not change as a frame goes on
@@ -106,16 +106,16 @@ word-advanced fs f e i x h =
 
 -- The arrays on the right have after the activations of the stack fs a new one, for the block b: its formals' words are the arguments' and
 -- every other name's word is 0.
-pub record Enters (fs : List Frame) (xs : List ℕ) (b : Block) (link : ℕ) (blocks nexts links : List ℕ) (words : List ℤ) (blocks′ nexts′ links′ : List ℕ) (words′ : List ℤ) : Type 0 where
+pub record Enters (fs : List Frame) (xs : List ℕ) (b : Block) (link : ℕ) (blocks nexts links : List ℕ) (cells : List ℤ) (blocks′ nexts′ links′ : List ℕ) (cells′ : List ℤ) : Type 0 where
   pub blocks-below : (k : ℕ) → k < length fs → getD blocks′ k 0 ≡ getD blocks k 0
   pub nexts-below : (k : ℕ) → k < length fs → getD nexts′ k 0 ≡ getD nexts k 0
   pub links-below : (k : ℕ) → k < length fs → getD links′ k 0 ≡ getD links k 0
-  pub words-below : (c : ℕ) → c < 32 * length fs → getD words′ c (pos 0) ≡ getD words c (pos 0)
+  pub words-below : (c : ℕ) → c < 32 * length fs → getD cells′ c (pos 0) ≡ getD cells c (pos 0)
   pub block-new : getD blocks′ (length fs) 0 ≡ placeOf (blockAt b)
   pub next-new : getD nexts′ (length fs) 0 ≡ stmtPlace b 1
   pub link-new : getD links′ (length fs) 0 ≡ pred link
-  pub arguments : (i x : ℕ) → getElem? xs i ≡ some x → getD words′ (32 * length fs + i) (pos 0) ≡ pos (formalWord fs x)
-  pub others : (i : ℕ) → length xs ≤ i → i < length xs + length (blockDecls b) → getD words′ (32 * length fs + i) (pos 0) ≡ pos 0
+  pub arguments : (i x : ℕ) → getElem? xs i ≡ some x → getD cells′ (32 * length fs + i) (pos 0) ≡ pos (formalWord fs x)
+  pub others : (i : ℕ) → length xs ≤ i → i < length xs + length (blockDecls b) → getD cells′ (32 * length fs + i) (pos 0) ≡ pos 0
 
 zero-at : (ds : List Decl) (j : ℕ) → getD (zeroWords ds) j (pos 0) ≡ pos 0
 unfolding zeroWords
@@ -141,9 +141,9 @@ module _ (formals : List Formal) (xs : List ℕ) (b : Block) (link : ℕ) where
   unfolding newFrame zeroWords
   words-length = length-append (map pos xs) (zeroWords (blockDecls b)) ∙ omega (arith, length-map xs pos, length-map (blockDecls b) (λ (d : Decl). pos 0))
 
-module _ (fs : List Frame) (blocks nexts links : List ℕ) (words : List ℤ) (bounded : BoundedFrames fs) (holds : Holds fs blocks nexts links words)
+module _ (fs : List Frame) (blocks nexts links : List ℕ) (cells : List ℤ) (bounded : BoundedFrames fs) (holds : Holds fs blocks nexts links cells)
     (formals : List Formal) (xs : List ℕ) (b : Block) (link : ℕ) (count : length xs ≡ length formals) (given : (i x : ℕ) → getElem? xs i ≡ some x → frameNumber x ≤ length fs)
-    (blocks′ nexts′ links′ : List ℕ) (words′ : List ℤ) (new : Enters fs xs b link blocks nexts links words blocks′ nexts′ links′ words′) where
+    (blocks′ nexts′ links′ : List ℕ) (cells′ : List ℤ) (new : Enters fs xs b link blocks nexts links cells blocks′ nexts′ links′ cells′) where
   f : Frame
   f = newFrame formals xs b link
 
@@ -154,7 +154,7 @@ module _ (fs : List Frame) (blocks nexts links : List ℕ) (words : List ℤ) (b
   unfolding gs
   alike = alike-append fs (f ∷ [])
 
-  entered : HoldsFrame gs words′ (getD blocks′ (length fs) 0) (getD nexts′ (length fs) 0) (getD links′ (length fs) 0) (length fs) f
+  entered : HoldsFrame gs cells′ (getD blocks′ (length fs) 0) (getD nexts′ (length fs) 0) (getD links′ (length fs) 0) (length fs) f
   unfolding f newFrame
   entered =
       record {
@@ -167,22 +167,22 @@ module _ (fs : List Frame) (blocks nexts links : List ℕ) (words : List ℤ) (b
         others-are = λ i p q. new .others i (omega arith) (omega (arith, words-length formals xs b link)) ∙ sym (other-word formals xs b link i (omega arith));
       }
 
-  older : (k : ℕ) (g : Frame) → k < length fs → getElem? fs k ≡ some g → HoldsFrame gs words′ (getD blocks′ k 0) (getD nexts′ k 0) (getD links′ k 0) k g
+  older : (k : ℕ) (g : Frame) → k < length fs → getElem? fs k ≡ some g → HoldsFrame gs cells′ (getD blocks′ k 0) (getD nexts′ k 0) (getD links′ k 0) k g
   older k g p e =
       let s = bounded k g e in
-      let h = frame-words fs words (getD blocks k 0) (getD nexts k 0) (getD links k 0) k g s (holds k g e) words′ (λ i q. new .words-below (32 * k + i) (omega arith)) in
-      let o = frame-over fs gs (length fs) alike words′ (getD blocks k 0) (getD nexts k 0) (getD links k 0) k g (omega arith) (bounded-outer fs k g s) h in
+      let h = frame-words fs cells (getD blocks k 0) (getD nexts k 0) (getD links k 0) k g s (holds k g e) cells′ (λ i q. new .words-below (32 * k + i) (omega arith)) in
+      let o = frame-over fs gs (length fs) alike cells′ (getD blocks k 0) (getD nexts k 0) (getD links k 0) k g (omega arith) (bounded-outer fs k g s) h in
       record { block-is = new .blocks-below k p ∙ o .block-is; next-is = new .nexts-below k p ∙ o .next-is; link-is = new .links-below k p ∙ o .link-is; formals-are = o .formals-are; others-are = o .others-are }
 
-  pub holds-entered : Holds (fs ++ (newFrame formals xs b link ∷ [])) blocks′ nexts′ links′ words′
+  pub holds-entered : Holds (fs ++ (newFrame formals xs b link ∷ [])) blocks′ nexts′ links′ cells′
   unfolding gs f
-  holds-entered = snoc-frames fs f (λ k g. HoldsFrame gs words′ (getD blocks′ k 0) (getD nexts′ k 0) (getD links′ k 0) k g) older entered
+  holds-entered = snoc-frames fs f (λ k g. HoldsFrame gs cells′ (getD blocks′ k 0) (getD nexts′ k 0) (getD links′ k 0) k g) older entered
 
 -- the program's frame is entered on no frames
-pub holds-started : (t : Block) (blocks nexts links : List ℕ) (words : List ℤ) → getD blocks 0 0 ≡ placeOf (blockAt t) → getD nexts 0 0 ≡ stmtPlace t 1 → getD links 0 0 ≡ 0
-    → ((i : ℕ) → i < length (blockDecls t) → getD words i (pos 0) ≡ pos 0) → Holds (newFrame [] [] t 0 ∷ []) blocks nexts links words
-holds-started t blocks nexts links words b n l w =
-    holds-entered [] blocks nexts links words (λ k f e. none≢some e) (λ k f e. none≢some e) [] [] t 0 refl (λ i x e. none≢some e) blocks nexts links words
+pub holds-started : (t : Block) (blocks nexts links : List ℕ) (cells : List ℤ) → getD blocks 0 0 ≡ placeOf (blockAt t) → getD nexts 0 0 ≡ stmtPlace t 1 → getD links 0 0 ≡ 0
+    → ((i : ℕ) → i < length (blockDecls t) → getD cells i (pos 0) ≡ pos 0) → Holds (newFrame [] [] t 0 ∷ []) blocks nexts links cells
+holds-started t blocks nexts links cells b n l w =
+    holds-entered [] blocks nexts links cells (λ k f e. none≢some e) (λ k f e. none≢some e) [] [] t 0 refl (λ i x e. none≢some e) blocks nexts links cells
     (record {
       blocks-below = λ k h. refl;
       nexts-below = λ k h. refl;
@@ -192,5 +192,5 @@ holds-started t blocks nexts links words b n l w =
       next-new = n;
       link-new = l;
       arguments = λ i x e. none≢some e;
-      others = λ i p q. let e : 32 * 0 + i ≡ i = omega arith in ap (λ j. getD words j (pos 0)) e ∙ w i (omega arith);
+      others = λ i p q. let e : 32 * 0 + i ≡ i = omega arith in ap (λ j. getD cells j (pos 0)) e ∙ w i (omega arith);
     })

@@ -1,4 +1,4 @@
--- Names found in arrays, for frames linked as the text says. `NameAt fs words n w first`: what the name n, whose word is w, leads to, where `first`
+-- Names found in arrays, for frames linked as the text says. `NameAt fs cells n w first`: what the name n, whose word is w, leads to, where `first`
 -- is the first cell of the activation that declares it. `named-by-display`: the display's entry of the word's level is that cell;
 -- `named-by-links`: following the links as many levels out leads to that activation. `unseen`: a word of 0 is that of a name that is not
 -- visible, which designates nothing; `seen`: any other is that of a name with a coordinate. `direct-shows`: for a name that is no formal the
@@ -39,14 +39,14 @@ use Rattle.arrays.specs.Holds.{cellOf, targetOf, formalWord, Holds, Show
 use Rattle.arrays.specs.Cells.{target-found}
 use Rattle.arrays.specs.Displays.{ShowsFrom, LinksOf, holds-links, shows-innermost, shows-entry, shows-outer}
 
-pub record NameAt (fs : List Frame) (words : List ℤ) (n w first : ℕ) : Type 0 where
+pub record NameAt (fs : List Frame) (cells : List ℤ) (n w first : ℕ) : Type 0 where
   pub level-low : 1 ≤ levelIn w
   pub level-high : levelIn w ≤ levelOf fs (length fs)
   pub whole : first % 32 ≡ 0
   pub within : first + 32 ≤ 32 * length fs
   pub direct-cell : formalIn w ≡ 0 → first + positionIn w ≡ cellOf (designates fs n)
   pub direct-target : formalIn w ≡ 0 → targetIn w ≡ targetOf fs (designates fs n)
-  pub formal-word : formalIn w ≡ 1 → getD words (first + positionIn w) (pos 0) ≡ pos (formalWord fs (designates fs n))
+  pub formal-word : formalIn w ≡ 1 → getD cells (first + positionIn w) (pos 0) ≡ pos (formalWord fs (designates fs n))
   pub kind : (k : Kind) → Designated fs (designates fs n) k → kindIn w ≡ kindField k
 
 -- the frame of a level on a chain has that level
@@ -172,9 +172,9 @@ module _ (t : Block) (keeps : Keeps t) (fs : List Frame) (chain : Chained t fs) 
     formal-designates =
         designates-by-links fs down n c found ∙ finally-formal fs (instanceAt (climb fs (length fs) up) (c .position) up) (home .frame) (home .stands) (le-leb (c .position) (length (home .frame .formals)) h)
 
-    word-there : (blocks nexts links : List ℕ) (words : List ℤ) → Holds fs blocks nexts links words → getD words (32 * pred holder + positionIn w) (pos 0) ≡ pos (formalWord fs (designates fs n))
-    word-there blocks nexts links words holds =
-        ap (λ i. getD words (32 * pred holder + i) (pos 0)) (word-is .position)
+    word-there : (blocks nexts links : List ℕ) (cells : List ℤ) → Holds fs blocks nexts links cells → getD cells (32 * pred holder + positionIn w) (pos 0) ≡ pos (formalWord fs (designates fs n))
+    word-there blocks nexts links cells holds =
+        ap (λ i. getD cells (32 * pred holder + i) (pos 0)) (word-is .position)
         ∙ (holds (pred holder) (home .frame) (numbered-index fs holder (home .frame) home-stands)) .formals-are (pred (c .position)) (omega (arith, position-range .0))
         ∙ ap (λ x. pos (formalWord fs x)) (sym formal-designates)
 
@@ -200,8 +200,8 @@ module _ (t : Block) (keeps : Keeps t) (fs : List Frame) (chain : Chained t fs) 
       split (leb (c .position) (length (home .frame .formals))) (λ q. leb-true (c .position) (length (home .frame .formals)) q)
       (λ q. absurd (omega (arith, word-is .declared (leb-false (c .position) (length (home .frame .formals)) q))))
 
-  named : Wired fs → (blocks nexts links : List ℕ) (words : List ℤ) → Holds fs blocks nexts links words → (first : ℕ) → first ≡ 32 * pred holder → NameAt fs words n w first
-  named wired blocks nexts links words holds first e =
+  named : Wired fs → (blocks nexts links : List ℕ) (cells : List ℤ) → Holds fs blocks nexts links cells → (first : ℕ) → first ≡ 32 * pred holder → NameAt fs cells n w first
+  named wired blocks nexts links cells holds first e =
       record {
         level-low = omega (arith, word-is .level, level-bounds .0);
         level-high = omega (arith, word-is .level, level-bounds .1);
@@ -209,7 +209,7 @@ module _ (t : Block) (keeps : Keeps t) (fs : List Frame) (chain : Chained t fs) 
         within = omega (arith, holder-bounds .0, holder-bounds .1);
         direct-cell = λ z. ap (λ i. i + positionIn w) e ∙ cell-is (not-formal z);
         direct-target = λ z. target-is (not-formal z);
-        formal-word = λ z. ap (λ i. getD words (i + positionIn w) (pos 0)) e ∙ word-there (not-declared z) blocks nexts links words holds;
+        formal-word = λ z. ap (λ i. getD cells (i + positionIn w) (pos 0)) e ∙ word-there (not-declared z) blocks nexts links cells holds;
         kind = λ k d.
             split (leb (c .position) (length (home .frame .formals))) (λ q. formal-kind (leb-true (c .position) (length (home .frame .formals)) q) wired k d)
             (λ q. direct-kind (leb-false (c .position) (length (home .frame .formals)) q) k d);
@@ -222,12 +222,12 @@ module _ (t : Block) (keeps : Keeps t) (fs : List Frame) (chain : Chained t fs) 
   entry-is display shows =
       ap (λ j. getD display j 0) (word-is .level) ∙ shows-entry fs down display (length fs) (c .level) (level-bounds .0) (level-bounds .1) (shows-innermost fs display shows)
 
-  followed-is : (blocks nexts links : List ℕ) (words : List ℤ) → Holds fs blocks nexts links words → follow links (pred (length fs)) (levelOf fs (length fs) - levelIn w) ≡ pred holder
+  followed-is : (blocks nexts links : List ℕ) (cells : List ℤ) → Holds fs blocks nexts links cells → follow links (pred (length fs)) (levelOf fs (length fs) - levelIn w) ≡ pred holder
   unfolding holder
-  followed-is blocks nexts links words holds =
+  followed-is blocks nexts links cells holds =
       let f = numbered-exists fs (length fs) (omega (arith, holder-bounds .0, holder-bounds .1)) (omega arith) in
       ap (λ j. follow links (pred (length fs)) (levelOf fs (length fs) - j)) (word-is .level)
-      ∙ follow-climbs fs down links (holds-links fs blocks nexts links words holds) up (length fs) (f .0) (f .1) (omega (arith, level-bounds .0, level-bounds .1))
+      ∙ follow-climbs fs down links (holds-links fs blocks nexts links cells holds) up (length fs) (f .0) (f .1) (omega (arith, level-bounds .0, level-bounds .1))
 
   -- What it designates is a declared name of a live frame
 
@@ -247,9 +247,9 @@ module _ (t : Block) (keeps : Keeps t) (fs : List Frame) (chain : Chained t fs) 
 -- The laws
 
 -- the word that a name that is no formal hands over as an argument
-pub handed-word : (fs : List Frame) (words : List ℤ) (n w first : ℕ) → NameAt fs words n w first → formalIn w ≡ 0 → first + positionIn w + 8192 * targetIn w ≡ formalWord fs (designates fs n)
+pub handed-word : (fs : List Frame) (cells : List ℤ) (n w first : ℕ) → NameAt fs cells n w first → formalIn w ≡ 0 → first + positionIn w + 8192 * targetIn w ≡ formalWord fs (designates fs n)
 unfolding formalWord
-handed-word fs words n w first h z = omega (arith, h .direct-cell z, h .direct-target z)
+handed-word fs cells n w first h z = omega (arith, h .direct-cell z, h .direct-target z)
 
 -- with no frame live, nothing is found
 pub nothing-live : (n : ℕ) → (designates [] n ≡ 0) × (linksFollowed [] n ≡ 0)
@@ -273,14 +273,14 @@ module _ (t : Block) (keeps : Keeps t) (fs : List Frame) (chain : Chained t fs) 
     unfolding w
     followed-links = links-counted fs (chained-downward t fs chain) n c found ∙ ap (λ j. levelOf fs (length fs) - j) (sym (word-is t keeps fs chain n c found .level))
 
-    module _ (wired : Wired fs) (blocks nexts links : List ℕ) (words : List ℤ) (holds : Holds fs blocks nexts links words) where
-      pub named-by-display : (display : List ℕ) → Shows fs display → NameAt fs words n (wordOf n) (getD display (levelIn (wordOf n)) 0)
+    module _ (wired : Wired fs) (blocks nexts links : List ℕ) (cells : List ℤ) (holds : Holds fs blocks nexts links cells) where
+      pub named-by-display : (display : List ℕ) → Shows fs display → NameAt fs cells n (wordOf n) (getD display (levelIn (wordOf n)) 0)
       unfolding w
-      named-by-display display shows = named t keeps fs chain n c found wired blocks nexts links words holds _ (entry-is t keeps fs chain n c found display shows)
+      named-by-display display shows = named t keeps fs chain n c found wired blocks nexts links cells holds _ (entry-is t keeps fs chain n c found display shows)
 
-      pub named-by-links : NameAt fs words n (wordOf n) (32 * follow links (pred (length fs)) (levelOf fs (length fs) - levelIn (wordOf n)))
+      pub named-by-links : NameAt fs cells n (wordOf n) (32 * follow links (pred (length fs)) (levelOf fs (length fs) - levelIn (wordOf n)))
       unfolding w
-      named-by-links = named t keeps fs chain n c found wired blocks nexts links words holds _ (ap (λ a. 32 * a) (followed-is t keeps fs chain n c found blocks nexts links words holds))
+      named-by-links = named t keeps fs chain n c found wired blocks nexts links cells holds _ (ap (λ a. 32 * a) (followed-is t keeps fs chain n c found blocks nexts links cells holds))
 
     pub named-points : BoundedFrames fs → Points fs (length fs) (designates fs n)
     named-points bounded =

@@ -38,7 +38,7 @@ unfolding frameStmt stmtPlace
 next-none f q = rw (stmtPlace, q)
 
 module _ (code : List ℕ) (name : ℕ) (t : Block) (keeps : Keeps t) (covered : Covers code 0 (resolvedOf name t)) (fs : List Frame) (chain : Chained t fs)
-    (blocks nexts links : List ℕ) (words : List ℤ) (holds : Holds fs blocks nexts links words) (k : ℕ) (f : Frame) (e : getElem? fs k ≡ some f) where
+    (blocks nexts links : List ℕ) (cells : List ℤ) (holds : Holds fs blocks nexts links cells) (k : ℕ) (f : Frame) (e : getElem? fs k ≡ some f) where
   stands : numbered fs (suc k) ≡ some f
   stands = numbered-suc fs k ∙ e
 

@@ -30,8 +30,8 @@ unfolding frameNumber designatorIn
 bounded-outer fs k f s i h = let w = s .handed i h in subst (λ (z : ℤ). designatorIn z / 64 ≤ k) (sym (w .1)) (w .2 .last)
 
 -- a frame depends on the stack only through what its formals lead to
-pub frame-over : (fs gs : List Frame) (b : ℕ) → SameOutlines b fs gs → (words : List ℤ) (block next link k : ℕ) (f : Frame) → k ≤ b → Outer k f → HoldsFrame fs words block next link k f → HoldsFrame gs words block next link k f
-frame-over fs gs b a words block next link k f l outer h =
+pub frame-over : (fs gs : List Frame) (b : ℕ) → SameOutlines b fs gs → (cells : List ℤ) (block next link k : ℕ) (f : Frame) → k ≤ b → Outer k f → HoldsFrame fs cells block next link k f → HoldsFrame gs cells block next link k f
+frame-over fs gs b a cells block next link k f l outer h =
     record {
       block-is = h .block-is;
       next-is = h .next-is;
@@ -40,10 +40,10 @@ frame-over fs gs b a words block next link k f l outer h =
       others-are = h .others-are;
     }
 
-module _ (fs : List Frame) (words : List ℤ) (block next link k : ℕ) (f : Frame) (s : FrameBounded fs k f) (h : HoldsFrame fs words block next link k f) where
+module _ (fs : List Frame) (cells : List ℤ) (block next link k : ℕ) (f : Frame) (s : FrameBounded fs k f) (h : HoldsFrame fs cells block next link k f) where
   -- and on the words of its own names alone
-  pub frame-words : (words′ : List ℤ) → ((i : ℕ) → i < 32 → getD words′ (32 * k + i) (pos 0) ≡ getD words (32 * k + i) (pos 0)) → HoldsFrame fs words′ block next link k f
-  frame-words words′ same =
+  pub frame-words : (cells′ : List ℤ) → ((i : ℕ) → i < 32 → getD cells′ (32 * k + i) (pos 0) ≡ getD cells (32 * k + i) (pos 0)) → HoldsFrame fs cells′ block next link k f
+  frame-words cells′ same =
       record {
         block-is = h .block-is;
         next-is = h .next-is;
@@ -54,22 +54,22 @@ module _ (fs : List Frame) (words : List ℤ) (block next link k : ℕ) (f : Fra
 
 -- Arrays that agree as far as the stack goes
 
-pub holds-agreeing : (fs : List Frame) (blocks blocks′ nexts nexts′ links links′ : List ℕ) (words words′ : List ℤ) → BoundedFrames fs
+pub holds-agreeing : (fs : List Frame) (blocks blocks′ nexts nexts′ links links′ : List ℕ) (cells cells′ : List ℤ) → BoundedFrames fs
     → ((k : ℕ) → k < length fs → getD blocks′ k 0 ≡ getD blocks k 0) → ((k : ℕ) → k < length fs → getD nexts′ k 0 ≡ getD nexts k 0) → ((k : ℕ) → k < length fs → getD links′ k 0 ≡ getD links k 0)
-    → ((c : ℕ) → c < 32 * length fs → getD words′ c (pos 0) ≡ getD words c (pos 0)) → Holds fs blocks nexts links words → Holds fs blocks′ nexts′ links′ words′
-holds-agreeing fs blocks blocks′ nexts nexts′ links links′ words words′ bounded b n l w h k f e =
+    → ((c : ℕ) → c < 32 * length fs → getD cells′ c (pos 0) ≡ getD cells c (pos 0)) → Holds fs blocks nexts links cells → Holds fs blocks′ nexts′ links′ cells′
+holds-agreeing fs blocks blocks′ nexts nexts′ links links′ cells cells′ bounded b n l w h k f e =
     let p = getElem-bound fs k f e in
-    let g = frame-words fs words (getD blocks k 0) (getD nexts k 0) (getD links k 0) k f (bounded k f e) (h k f e) words′ (λ i q. w (32 * k + i) (omega arith)) in
+    let g = frame-words fs cells (getD blocks k 0) (getD nexts k 0) (getD links k 0) k f (bounded k f e) (h k f e) cells′ (λ i q. w (32 * k + i) (omega arith)) in
     record { block-is = b k p ∙ g .block-is; next-is = n k p ∙ g .next-is; link-is = l k p ∙ g .link-is; formals-are = g .formals-are; others-are = g .others-are }
 
 -- The word of a declared name
 
-module _ (fs : List Frame) (blocks nexts links : List ℕ) (words : List ℤ) (bounded : BoundedFrames fs) (holds : Holds fs blocks nexts links words) (m x : ℕ) (p : Points fs m x) where
+module _ (fs : List Frame) (blocks nexts links : List ℕ) (cells : List ℤ) (bounded : BoundedFrames fs) (holds : Holds fs blocks nexts links cells) (m x : ℕ) (p : Points fs m x) where
   home-index : getElem? fs (pred (frameNumber x)) ≡ some (p .home)
   unfolding frameNumber
   home-index = numbered-index fs (x / 64) (p .home) (p .stands)
 
-  home-held : HoldsFrame fs words (getD blocks (pred (frameNumber x)) 0) (getD nexts (pred (frameNumber x)) 0) (getD links (pred (frameNumber x)) 0) (pred (frameNumber x)) (p .home)
+  home-held : HoldsFrame fs cells (getD blocks (pred (frameNumber x)) 0) (getD nexts (pred (frameNumber x)) 0) (getD links (pred (frameNumber x)) 0) (pred (frameNumber x)) (p .home)
   home-held = holds (pred (frameNumber x)) (p .home) home-index
 
   home-bounded : FrameBounded fs (pred (frameNumber x)) (p .home)
@@ -84,13 +84,13 @@ module _ (fs : List Frame) (blocks nexts links : List ℕ) (words : List ℤ) (b
   unfolding place
   within-words = let e : pred (x % 64) < length (p .home .words) = omega (arith, p .past, p .within, home-bounded .count) in e
 
-  pub word-held : getD words (cellOf x) (pos 0) ≡ wordAt fs x
+  pub word-held : getD cells (cellOf x) (pos 0) ≡ wordAt fs x
   unfolding cellOf frameNumber
   word-held = home-held .others-are (place x) past-formals within-words ∙ sym (wordAt-found fs x (p .home) (p .stands))
 
   -- A store
 
-  module _ (z : ℤ) (room : 32 * length fs ≤ length words) where
+  module _ (z : ℤ) (room : 32 * length fs ≤ length cells) where
     stored : Frame
     stored = rewritten (p .home) (set (p .home .words) (place x) z)
 
@@ -101,14 +101,14 @@ module _ (fs : List Frame) (blocks nexts links : List ℕ) (words : List ℤ) (b
     unfolding stored after frameNumber
     alike = alike-set fs (x / 64) (p .home) stored (p .stands) (outline-rewritten (p .home) (set (p .home .words) (place x) z)) (length fs)
 
-    cell-room : cellOf x < length words
+    cell-room : cellOf x < length cells
     unfolding cellOf frameNumber
     cell-room =
         let h : x / 64 ≤ length fs = numbered-high fs (x / 64) (p .home) (p .stands) in
-        let e : 32 * pred (x / 64) + place x < length words = omega (arith, p .first, within-words, home-bounded .few) in
+        let e : 32 * pred (x / 64) + place x < length cells = omega (arith, p .first, within-words, home-bounded .few) in
         e
 
-    home-stored : HoldsFrame fs (set words (cellOf x) z) (getD blocks (pred (frameNumber x)) 0) (getD nexts (pred (frameNumber x)) 0) (getD links (pred (frameNumber x)) 0) (pred (frameNumber x)) stored
+    home-stored : HoldsFrame fs (set cells (cellOf x) z) (getD blocks (pred (frameNumber x)) 0) (getD nexts (pred (frameNumber x)) 0) (getD links (pred (frameNumber x)) 0) (pred (frameNumber x)) stored
     unfolding stored rewritten cellOf
     home-stored =
         let c = 32 * pred (frameNumber x) + place x in
@@ -119,23 +119,23 @@ module _ (fs : List Frame) (blocks nexts links : List ℕ) (words : List ℤ) (b
           next-is = h .next-is;
           link-is = h .link-is;
           formals-are = λ i q.
-              getD-set-other words c (32 * pred (frameNumber x) + i) z (pos 0) (λ e. omega (arith, past-formals)) ∙ h .formals-are i q
+              getD-set-other cells c (32 * pred (frameNumber x) + i) z (pos 0) (λ e. omega (arith, past-formals)) ∙ h .formals-are i q
               ∙ ap (λ (y : ℤ). pos (formalWord fs (designatorIn y))) (sym (getD-set-other (f .words) (place x) i z (pos 0) (λ e. omega (arith, past-formals))));
           others-are = λ i q r.
               split (eqb i (place x))
               (λ t. let e : i ≡ place x = eqb-true i (place x) t in
-              ap (λ j. getD (set words c z) (32 * pred (frameNumber x) + j) (pos 0)) e ∙ getD-set-same words c z (pos 0) cell-room
+              ap (λ j. getD (set cells c z) (32 * pred (frameNumber x) + j) (pos 0)) e ∙ getD-set-same cells c z (pos 0) cell-room
               ∙ sym (ap (λ j. getD (set (f .words) (place x) z) j (pos 0)) e ∙ getD-set-same (f .words) (place x) z (pos 0) within-words))
               (λ t. let d = eqb-false i (place x) t in
-              getD-set-other words c (32 * pred (frameNumber x) + i) z (pos 0) (λ e. d (omega arith)) ∙ h .others-are i q (omega (arith, length-set (f .words) (place x) z))
+              getD-set-other cells c (32 * pred (frameNumber x) + i) z (pos 0) (λ e. d (omega arith)) ∙ h .others-are i q (omega (arith, length-set (f .words) (place x) z))
               ∙ sym (getD-set-other (f .words) (place x) i z (pos 0) d));
         }
 
-    other-stored : (k : ℕ) (f : Frame) → getElem? fs k ≡ some f → (k ≡ pred (frameNumber x) → ⊥) → HoldsFrame fs (set words (cellOf x) z) (getD blocks k 0) (getD nexts k 0) (getD links k 0) k f
+    other-stored : (k : ℕ) (f : Frame) → getElem? fs k ≡ some f → (k ≡ pred (frameNumber x) → ⊥) → HoldsFrame fs (set cells (cellOf x) z) (getD blocks k 0) (getD nexts k 0) (getD links k 0) k f
     unfolding cellOf
     other-stored k f e d =
-        frame-words fs words (getD blocks k 0) (getD nexts k 0) (getD links k 0) k f (bounded k f e) (holds k f e) (set words (cellOf x) z)
-        (λ i q. getD-set-other words (32 * pred (frameNumber x) + place x) (32 * k + i) z (pos 0) (λ j. d (omega (arith, within-words, home-bounded .few))))
+        frame-words fs cells (getD blocks k 0) (getD nexts k 0) (getD links k 0) k f (bounded k f e) (holds k f e) (set cells (cellOf x) z)
+        (λ i q. getD-set-other cells (32 * pred (frameNumber x) + place x) (32 * k + i) z (pos 0) (λ j. d (omega (arith, within-words, home-bounded .few))))
 
     outer-stored : Outer (pred (frameNumber x)) stored
     unfolding stored rewritten
@@ -155,16 +155,16 @@ module _ (fs : List Frame) (blocks nexts links : List ℕ) (words : List ℤ) (b
         old k f (sym (getElem-set-other fs (pred (x / 64)) k stored d) ∙ e) d)
 
     abbrev Kept : ℕ → Frame → Type 0
-    Kept k f = (k < length fs) × Outer k f × HoldsFrame fs (set words (cellOf x) z) (getD blocks k 0) (getD nexts k 0) (getD links k 0) k f
+    Kept k f = (k < length fs) × Outer k f × HoldsFrame fs (set cells (cellOf x) z) (getD blocks k 0) (getD nexts k 0) (getD links k 0) k f
 
     frames-kept : (k : ℕ) (f : Frame) → getElem? after k ≡ some f → Kept k f
     frames-kept =
         by-stored Kept (getElem-bound fs (pred (frameNumber x)) (p .home) home-index, outer-stored, home-stored)
         (λ k f e d. (getElem-bound fs k f e, bounded-outer fs k f (bounded k f e), other-stored k f e d))
 
-    pub holds-stored : Holds (putWord fs x z) blocks nexts links (set words (cellOf x) z)
+    pub holds-stored : Holds (putWord fs x z) blocks nexts links (set cells (cellOf x) z)
     unfolding after stored frameNumber
     holds-stored =
-        subst (λ (gs : List Frame). Holds gs blocks nexts links (set words (cellOf x) z)) (sym (putWord-found fs x z (p .home) (p .stands)))
+        subst (λ (gs : List Frame). Holds gs blocks nexts links (set cells (cellOf x) z)) (sym (putWord-found fs x z (p .home) (p .stands)))
         (λ k f e. let h = frames-kept k f e in
-        frame-over fs after (length fs) alike (set words (cellOf x) z) (getD blocks k 0) (getD nexts k 0) (getD links k 0) k f (omega (arith, h .0)) (h .1) (h .2))
+        frame-over fs after (length fs) alike (set cells (cellOf x) z) (getD blocks k 0) (getD nexts k 0) (getD links k 0) k f (omega (arith, h .0)) (h .1) (h .2))

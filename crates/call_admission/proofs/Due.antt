@@ -53,11 +53,11 @@ module _ (e : Engine) (f : Fed) where
   unfolding testsBefore dueOf
   records-due p q r = ap dueOf (sym (holds-here _ _ p ∙ holds-here _ _ q ∙ fails-here _ _ r))
 
-  pub table-due : limitsFit f ≡ true → sheetFits f ≡ true → recordsFit e f ≡ true → right (f .group) (f .lent .table) ≡ false → Refused TableNotRight 0 ≡ dueOf (firstFailing (testsBefore e f))
+  pub table-due : limitsFit f ≡ true → sheetFits f ≡ true → recordsFit e f ≡ true → right (f .limit) (f .lent .table) ≡ false → Refused TableNotRight 0 ≡ dueOf (firstFailing (testsBefore e f))
   unfolding testsBefore dueOf
   table-due p q r x = ap dueOf (sym (holds-here _ _ p ∙ holds-here _ _ q ∙ holds-here _ _ r ∙ fails-here _ _ x))
 
-  pub none-due : limitsFit f ≡ true → sheetFits f ≡ true → recordsFit e f ≡ true → right (f .group) (f .lent .table) ≡ true → Fit ≡ dueOf (firstFailing (testsBefore e f))
+  pub none-due : limitsFit f ≡ true → sheetFits f ≡ true → recordsFit e f ≡ true → right (f .limit) (f .lent .table) ≡ true → Fit ≡ dueOf (firstFailing (testsBefore e f))
   unfolding testsBefore dueOf
   none-due p q r x = ap dueOf (sym (all-hold _ (p, (q, (r, (x, tt))))))
 

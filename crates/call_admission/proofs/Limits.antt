@@ -25,20 +25,20 @@ module _ (f : Fed) where
       many-steps h = rw (le-leb 1 (f .activations) h1, le-leb (f .activations) 256 h2, lt-leb (f .allowance) 1000000 h)
 
       module _ (h3 : f .allowance ≤ 1000000) where
-        pub no-group : f .group < 1 → false ≡ limitsFit f
+        pub no-group : f .limit < 1 → false ≡ limitsFit f
         unfolding limitsFit
-        no-group h = rw (le-leb 1 (f .activations) h1, le-leb (f .activations) 256 h2, le-leb (f .allowance) 1000000 h3, lt-leb 1 (f .group) h)
+        no-group h = rw (le-leb 1 (f .activations) h1, le-leb (f .activations) 256 h2, le-leb (f .allowance) 1000000 h3, lt-leb 1 (f .limit) h)
 
-        module _ (h4 : 1 ≤ f .group) where
-          pub large-group : 65535 < f .group → false ≡ limitsFit f
+        module _ (h4 : 1 ≤ f .limit) where
+          pub large-group : 65535 < f .limit → false ≡ limitsFit f
           unfolding limitsFit
           large-group h =
-              rw (le-leb 1 (f .activations) h1, le-leb (f .activations) 256 h2, le-leb (f .allowance) 1000000 h3, le-leb 1 (f .group) h4, lt-leb (f .group) 65535 h)
+              rw (le-leb 1 (f .activations) h1, le-leb (f .activations) 256 h2, le-leb (f .allowance) 1000000 h3, le-leb 1 (f .limit) h4, lt-leb (f .limit) 65535 h)
 
-          pub by-tally : f .group ≤ 65535 → leb (f .tally) 1000000000000 ≡ limitsFit f
+          pub by-tally : f .limit ≤ 65535 → leb (f .tally) 1000000000000 ≡ limitsFit f
           unfolding limitsFit
           by-tally h =
-              rw (le-leb 1 (f .activations) h1, le-leb (f .activations) 256 h2, le-leb (f .allowance) 1000000 h3, le-leb 1 (f .group) h4, le-leb (f .group) 65535 h)
+              rw (le-leb 1 (f .activations) h1, le-leb (f .activations) 256 h2, le-leb (f .allowance) 1000000 h3, le-leb 1 (f .limit) h4, le-leb (f .limit) 65535 h)
 
 pub unused : (asked : ℕ) (area : Area) → area ≡ Unused → true ≡ holdsAtLeast asked (heldIn area)
 unfolding holdsAtLeast

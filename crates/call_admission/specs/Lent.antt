@@ -12,7 +12,7 @@ use Rattle.language.specs.declared.Refusal.the-variants.{AreaTooShort}
 use Rattle.language.specs.declared.Verdict.{Verdict}
 use Rattle.language.specs.declared.Verdict.the-variants.{Fit, Refused}
 use Rattle.table_pairs.specs.Outcomes.{tableOf}
-use Rattle.call_admission.specs.declared.Numbers.{Numbers}
+use Rattle.call_admission.specs.declared.CallNumbers.{CallNumbers}
 use Rattle.call_admission.specs.declared.Area.{Area}
 use Rattle.call_admission.specs.declared.Area.the-variants.{Unused, Of}
 
@@ -23,13 +23,13 @@ heldIn (Of held) = some held
 abbrev pub engineOf : Area → Area → Bool → Engine
 engineOf records area links = record { records = heldIn records; area = heldIn area; links = links }
 
-abbrev pub fedOf : Numbers → List ℕ → List ℤ → List ℤ → Fed
+abbrev pub fedOf : CallNumbers → List ℕ → List ℤ → List ℤ → Fed
 fedOf k script table sheet =
     record {
       script = script;
       activations = k .d;
       allowance = k .n;
-      group = k .g;
+      limit = k .g;
       tally = k .tally;
       name = k .name;
       lent = record { sheet = sheet; table = tableOf table (k .count) };

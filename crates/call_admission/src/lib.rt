@@ -16,7 +16,7 @@ pub enum Area {
 }
 
 // A call's numbers: D, N, G, the caller's tally, the pairs in use in the table, and the name looked up.
-pub struct Numbers {
+pub struct CallNumbers {
     pub d: u32,
     pub n: u32,
     pub g: u32,
@@ -25,7 +25,7 @@ pub struct Numbers {
     pub name: u16,
 }
 
-fn limits_fit(numbers: Numbers) -> bool
+fn limits_fit(numbers: CallNumbers) -> bool
     ensures { λ r. ⌜ r ≡ limitsFit (fedOf numbers [] [] []) ⌝ }
 {
     if numbers.d < 1 {
@@ -56,7 +56,7 @@ fn holds_at_least(asked: usize, area: Area) -> bool
 }
 
 // The tests before the script check.
-fn before_check(numbers: Numbers, table: &[i32], sheet: &[i32], records: Area) -> Verdict
+fn before_check(numbers: CallNumbers, table: &[i32], sheet: &[i32], records: Area) -> Verdict
     ensures { λ r. ⌜ r ≡ dueOf (firstFailing (testsBefore (withRecords records) (fedOf numbers [] (now (table .entry)) (now (sheet .entry))))) ⌝ }
 {
     if !limits_fit(numbers) {
@@ -90,7 +90,7 @@ fn check_and_after(script: &[u8], d: u32, area: Area) -> Verdict
 
 pub fn admit(
     script: &[u8],
-    numbers: Numbers,
+    numbers: CallNumbers,
     table: &[i32],
     sheet: &[i32],
     records: Area,

@@ -47,7 +47,7 @@ pub fn refusal_words(cause: Refusal, offset: usize, pairs: usize, tally: u64) ->
 }
 
 // The words of a call that has run.
-pub fn run_words(
+pub fn ran_words(
     end: End,
     steps: u32,
     offset: usize,

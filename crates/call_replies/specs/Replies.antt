@@ -134,9 +134,9 @@ unfolding frameReplied linksOf
 with-links e f r q = rw q
 
 -- Arrays that hold the frames of a sound stack can be written as a sheet
-pub result-held : (code : List ℕ) (words : List ℤ) (blocks nexts links : List ℕ) (name : ℕ) (t : Block) (l : Limits) (s : Stack) → Keeps t → Covers code 0 (resolvedOf name t) → Sound l t s
-    → Holds (s .frames) blocks nexts links words → Held code words blocks nexts (s .frames)
-result-held code words blocks nexts links name t l s keeps covers sound holds =
+pub result-held : (code : List ℕ) (cells : List ℤ) (blocks nexts links : List ℕ) (name : ℕ) (t : Block) (l : Limits) (s : Stack) → Keeps t → Covers code 0 (resolvedOf name t) → Sound l t s
+    → Holds (s .frames) blocks nexts links cells → Held code cells blocks nexts (s .frames)
+result-held code cells blocks nexts links name t l s keeps covers sound holds =
     record {
       name = name;
       program = t;
@@ -144,7 +144,7 @@ result-held code words blocks nexts links name t l s keeps covers sound holds =
       covers = covers;
       chained = sound .chained;
       bounded = sound .bounded .each;
-      most = omega (arith, sound .bounded .live, sound .limit);
+      most = omega (arith, sound .bounded .live, sound .few);
       links = links;
       holds = holds;
     }
@@ -158,7 +158,7 @@ module _ {e : Engine} {f : Fed} {t : Block} (h : Admitted e f t) where
   stepsIn = leb 1 (f .activations) && leb (f .activations) 256 && leb (f .allowance) 1000000
 
   abbrev groupsIn : Bool
-  groupsIn = stepsIn && leb 1 (f .group) && leb (f .group) 65535
+  groupsIn = stepsIn && leb 1 (f .limit) && leb (f .limit) 65535
 
   limits : (groupsIn ≡ true) × (leb (f .tally) 1000000000000 ≡ true)
   unfolding limitsFit
@@ -169,5 +169,5 @@ module _ {e : Engine} {f : Fed} {t : Block} (h : Admitted e f t) where
 
   pub steps-fit : f .allowance ≤ 1000000
   steps-fit =
-      let steps = (both stepsIn (leb 1 (f .group)) ((both (stepsIn && leb 1 (f .group)) (leb (f .group) 65535) (limits .0)) .0)) .0 in
+      let steps = (both stepsIn (leb 1 (f .limit)) ((both (stepsIn && leb 1 (f .limit)) (leb (f .limit) 65535) (limits .0)) .0)) .0 in
       leb-true (f .allowance) 1000000 ((both (leb 1 (f .activations) && leb (f .activations) 256) (leb (f .allowance) 1000000) steps) .1)

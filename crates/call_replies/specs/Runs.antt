@@ -23,14 +23,14 @@ use Rattle.run_sheet.specs.Held.{Held}
 use Rattle.call_replies.specs.Replies.{ran-answer, ran-lent, result-held, room-for-sheet}
 
 module _ {e : Engine} {f : Fed} (bytes : Bytes (f .script)) {t : Block} (h : Admitted e f t)
-    {code : List ℕ} {words : List ℤ} {blocks nexts links : List ℕ} {table : List ℤ} (covers : Covers code 0 (resolvedOf (f .name) t))
+    {code : List ℕ} {cells : List ℤ} {blocks nexts links : List ℕ} {table : List ℤ} (covers : Covers code 0 (resolvedOf (f .name) t))
     {end : End} {steps offset pairs live designator : ℕ}
-    (ended : Ended t (f .name) (limitsOf f) (frameRunOf f t) end steps offset pairs live designator words blocks nexts links table) where
-  held : Held code words blocks nexts ((frameRunOf f t) .final .frames)
+    (ended : Ended t (f .name) (limitsOf f) (frameRunOf f t) end steps offset pairs live designator cells blocks nexts links table) where
+  held : Held code cells blocks nexts ((frameRunOf f t) .final .frames)
   held =
-      result-held code words blocks nexts links (f .name) t (limitsOf f) ((frameRunOf f t) .final) (accepted-keeps-rules (f .script) bytes t (h .script)) covers (ended .sound) (ended .holds)
+      result-held code cells blocks nexts links (f .name) t (limitsOf f) ((frameRunOf f t) .final) (accepted-keeps-rules (f .script) bytes t (h .script)) covers (ended .sound) (ended .holds)
 
-  pub sheet-needs : ((fs : List Frame) × Held code words blocks nexts fs × (length fs ≡ live)) × (sheetShare * live ≤ length (f .lent .sheet))
+  pub sheet-needs : ((fs : List Frame) × Held code cells blocks nexts fs × (length fs ≡ live)) × (sheetShare * live ≤ length (f .lent .sheet))
   sheet-needs = (
     (_, held, sym (ended .live-is)),
     subst (λ k. sheetShare * k ≤ length (f .lent .sheet)) (sym (ended .live-is)) (room-for-sheet h ((frameRunOf f t) .final) (ended .sound)),
@@ -38,7 +38,7 @@ module _ {e : Engine} {f : Fed} (bytes : Bytes (f .script)) {t : Block} (h : Adm
 
   -- from the sheet that is written, the links that are reported, and the answer's words
   pub run-replies : {sheet : List ℤ} {count followed : ℕ}
-      → ((fs : List Frame) → Held code words blocks nexts fs → length fs ≡ live → (sheet ≡ written (frameSheet fs) (f .lent .sheet)) × (count ≡ length (frameSheet fs)))
+      → ((fs : List Frame) → Held code cells blocks nexts fs → length fs ≡ live → (sheet ≡ written (frameSheet fs) (f .lent .sheet)) × (count ≡ length (frameSheet fs)))
       → followed ≡ (frameReplied e f (frameRunOf f t)) .answer .links
       → {answer : List ℕ} → answer ≡ answerWords (ranAnswer end steps offset pairs count (f .tally) designator followed) → Replies e f answer sheet table
   run-replies is l a =

@@ -22,13 +22,13 @@ use Rattle.call_replies.specs.Replies.{with-links}
 use Rattle.call_replies.specs.Runs.{sheet-needs, run-replies}
 use Rattle.chain_records.specs.declared.Activation.{Activation}
 use Rattle.chain_links.specs.Records.{blocksIn, nextsIn}
-use Rattle.run_state.specs.Scenes.{limitsBy}
+use Rattle.run_state.specs.Limits.{limitsBy}
 use Rattle.chain_run.specs.Running.{Beginning, Ended}
 use Rattle.run_state.specs.declared.Halt.{Halt}
 use Rattle.chain_call.specs.Calls.{haltWords}
 
 module _ (records : List Activation) (f : Fed) (bytes : Bytes (f .script)) (t : Block) (h : Admitted (chain (length records)) f t) (code : List ℕ)
-    (resolved : Resolved (f .script) (f .name) code) (words : List ℤ) (zero : words ≡ replicate 8224 (pos 0)) where
+    (resolved : Resolved (f .script) (f .name) code) (cells : List ℤ) (zero : cells ≡ replicate 8224 (pos 0)) where
   covers : Covers code 0 (resolvedOf (f .name) t)
   covers = resolved-covers (f .script) (f .name) code resolved t (h .script)
 
@@ -37,7 +37,7 @@ module _ (records : List Activation) (f : Fed) (bytes : Bytes (f .script)) (t : 
   records-room = leb-true (f .activations) (length records) (records-fit h)
 
   abbrev Begins : Type 0
-  Begins = Beginning code words records (f .lent .table .words) (f .lent .table .used) (f .group) (f .activations)
+  Begins = Beginning code cells records (f .lent .table .words) (f .lent .table .used) (f .limit) (f .activations)
 
   beginning : Begins
   beginning =
@@ -50,37 +50,37 @@ module _ (records : List Activation) (f : Fed) (bytes : Bytes (f .script)) (t : 
         some-live = few .0;
         few-live = few .1;
         table-right = table-right h;
-        words-long = ap length zero ∙ length-replicate 8224 (pos 0);
+        cells-long = ap length zero ∙ length-replicate 8224 (pos 0);
         zeros = λ i p. ap (λ (ws : List ℤ). getD ws i (pos 0)) zero ∙ getD-replicate 8224 i (pos 0) (pos 0) (omega arith);
         room = records-room;
       }
 
   -- the same of what the code has as the limit
-  pub begins-at : (limit : ℕ) → limit ≡ f .activations → Beginning code words records (f .lent .table .words) (f .lent .table .used) (f .group) limit
-  begins-at limit q = subst (λ (k : ℕ). Beginning code words records (f .lent .table .words) (f .lent .table .used) (f .group) k) (sym q) beginning
+  pub begins-at : (activations : ℕ) → activations ≡ f .activations → Beginning code cells records (f .lent .table .words) (f .lent .table .used) (f .limit) activations
+  begins-at activations q = subst (λ (k : ℕ). Beginning code cells records (f .lent .table .words) (f .lent .table .used) (f .limit) k) (sym q) beginning
 
-  module _ (r : Halt) {words′ : List ℤ} {records′ : List Activation} {table′ : List ℤ} (limit : ℕ) (q : limit ≡ f .activations)
-      (run : (b : Beginning code words records (f .lent .table .words) (f .lent .table .used) (f .group) limit) → Ended (b .program) (b .name) limit (f
-      .group)
-      (frameRun (limitsBy limit (f .group)) (f .allowance) (frameStart (b .program) (f .lent .table))) r words′ records′ table′) where
-    run-so : (b : Begins) → Ended (b .program) (b .name) (f .activations) (f .group)
-        (frameRun (limitsBy (f .activations) (f .group)) (f .allowance) (frameStart (b .program) (f .lent .table))) r words′ records′ table′
-    run-so = subst (λ (k : ℕ). (b : Beginning code words records (f .lent .table .words) (f .lent .table .used) (f .group) k) → Ended (b .program) (b .name) k
-        (f .group)
-        (frameRun (limitsBy k (f .group)) (f .allowance) (frameStart (b .program) (f .lent .table))) r words′ records′ table′) q run
+  module _ (r : Halt) {cells′ : List ℤ} {records′ : List Activation} {table′ : List ℤ} (activations : ℕ) (q : activations ≡ f .activations)
+      (run : (b : Beginning code cells records (f .lent .table .words) (f .lent .table .used) (f .limit) activations) → Ended (b .program) (b .name) activations (f
+      .limit)
+      (frameRun (limitsBy activations (f .limit)) (f .allowance) (frameStart (b .program) (f .lent .table))) r cells′ records′ table′) where
+    run-ends : (b : Begins) → Ended (b .program) (b .name) (f .activations) (f .limit)
+        (frameRun (limitsBy (f .activations) (f .limit)) (f .allowance) (frameStart (b .program) (f .lent .table))) r cells′ records′ table′
+    run-ends = subst (λ (k : ℕ). (b : Beginning code cells records (f .lent .table .words) (f .lent .table .used) (f .limit) k) → Ended (b .program) (b .name) k
+        (f .limit)
+        (frameRun (limitsBy k (f .limit)) (f .allowance) (frameStart (b .program) (f .lent .table))) r cells′ records′ table′) q run
 
-    ended : Ended t (f .name) (f .activations) (f .group) (frameRunOf f t) r words′ records′ table′
+    ended : Ended t (f .name) (f .activations) (f .limit) (frameRunOf f t) r cells′ records′ table′
     unfolding frameRunOf beginning
-    ended = run-so beginning
+    ended = run-ends beginning
 
-    pub sheet-ready : length records′ ≡ length records → ((fs : List Frame) × Held code words′ (blocksIn records′) (nextsIn records′) fs × (length fs ≡ r .live)) ×
+    pub sheet-ready : length records′ ≡ length records → ((fs : List Frame) × Held code cells′ (blocksIn records′) (nextsIn records′) fs × (length fs ≡ r .live)) ×
         ((r .live ≤ length records′) × (sheetShare * r .live ≤ length (f .lent .sheet)))
     sheet-ready e =
         let s = sheet-needs bytes h covers (ended .ended) in
         (s .0, (omega (arith, records-room, ended .ended .live-is, ended .ended .sound .bounded .live), s .1))
 
     pub replied : {sheet : List ℤ} {count : ℕ}
-        → ((fs : List Frame) → Held code words′ (blocksIn records′) (nextsIn records′) fs → length fs ≡ r .live
+        → ((fs : List Frame) → Held code cells′ (blocksIn records′) (nextsIn records′) fs → length fs ≡ r .live
         → (sheet ≡ written (frameSheet fs) (f .lent .sheet)) × (count ≡ length (frameSheet fs)))
         → {answer : List ℕ} → answer ≡ haltWords r count (f .tally) → Replies (chain (length records)) f answer sheet table′
     replied is a = run-replies bytes h covers (ended .ended) is (ended .links-are ∙ with-links (chain (length records)) f (frameRunOf f t) refl) a

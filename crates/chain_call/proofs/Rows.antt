@@ -2,9 +2,9 @@
 use denote.Struct.Laws.{owes, owed}
 use Rattle.walks.specs.Data.{Datum, Good, enums, structs, words32, words16, usizes, ints32}
 use Rattle.walks.specs.Holes.{arrays}
-use Rattle.call_admission.specs.declared.Numbers.{Numbers}
-use Rattle.call_admission.proofs.Numbers as N
-use Rattle.call_admission.proofs.Numbers.Laws as N′
+use Rattle.call_admission.specs.declared.CallNumbers.{CallNumbers}
+use Rattle.call_admission.proofs.CallNumbers as N
+use Rattle.call_admission.proofs.CallNumbers.Laws as N′
 use Rattle.language.proofs.Verdict as D
 use Rattle.language.proofs.Verdict.Laws as D′
 
@@ -24,7 +24,7 @@ abbrev pub numberss : Datum
 numberss = structs N.the-type N′.the-laws N′.the-plain
 
 -- that each of them fits
-pub record Fitting (k : Numbers) : Type 0 where
+pub record Fitting (k : CallNumbers) : Type 0 where
   pub d : Good words32 (k .d)
   pub n : Good words32 (k .n)
   pub g : Good words32 (k .g)
@@ -32,10 +32,10 @@ pub record Fitting (k : Numbers) : Type 0 where
   pub count : Good usizes (k .count)
   pub name : Good words16 (k .name)
 
-pub fitting : (k : Numbers) → Good numberss k → Fitting k
+pub fitting : (k : CallNumbers) → Good numberss k → Fitting k
 fitting k good =
     let p = owed N.the-type N′.the-laws k _ good in
     record { d = p .0; n = p .1 .0; g = p .1 .1 .0; tally = p .1 .1 .1 .0; count = p .1 .1 .1 .1 .0; name = p .1 .1 .1 .1 .1 .0 }
 
-pub made : (k : Numbers) → Fitting k → Good numberss k
+pub made : (k : CallNumbers) → Fitting k → Good numberss k
 made k f = owes N.the-type N′.the-laws k (f .d, (f .n, (f .g, (f .tally, (f .count, (f .name, tt))))))

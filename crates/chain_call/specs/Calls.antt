@@ -15,8 +15,8 @@ abbrev pub haltWords : Halt → ℕ → ℕ → List ℕ
 haltWords r written tally = answerWords (ranAnswer (r .end) (r .steps) (r .offset) (r .pairs) written tally (r .designator) (r .links))
 
 -- a call that is admitted, in arrays that are 0
-pub record AdmittedOn (code : List ℕ) (words : List ℤ) (e : Engine) (f : Fed) : Type 0 where
+pub record AdmittedOn (code : List ℕ) (cells : List ℤ) (e : Engine) (f : Fed) : Type 0 where
   pub program : Block
   pub admitted : Admitted e f program
   pub code-zero : code ≡ replicate 4096 0
-  pub words-zero : words ≡ replicate 8224 (pos 0)
+  pub words-zero : cells ≡ replicate 8224 (pos 0)

@@ -1,6 +1,6 @@
 // The static-chain engine's call: admission, the resolved script, the run on the lent records, the sheet, the answer.
 use call_admission::Area;
-use call_admission::Numbers;
+use call_admission::CallNumbers;
 use call_answers::refused;
 use call_answers::refuses;
 use chain_records::Activation;
@@ -20,24 +20,24 @@ ghost use Rattle.resolve_script.specs.Resolving.{Resolved};
 ghost use Rattle.chain_call.specs.Calls.{haltWords, AdmittedOn};
 
 // What is due to a call that is lent so many records.
-fn judged(script: &[u8], numbers: Numbers, table: &[i32], sheet: &[i32], held: usize) -> Verdict
+fn judged(script: &[u8], numbers: CallNumbers, table: &[i32], sheet: &[i32], held: usize) -> Verdict
     ensures { λ r. ⌜ r ≡ verdictOf (admission (chain held) (fedOf numbers (now (script .entry)) (now (table .entry)) (now (sheet .entry)))) ⌝ }
 {
     call_admission::admit(script, numbers, table, sheet, Area::Of(held), Area::Unused)
 }
 
-fn limit_of(numbers: Numbers) -> usize
+fn activations_of(numbers: CallNumbers) -> usize
     ensures { λ r. ⌜ r ≡ numbers .d ⌝ }
 {
     numbers.d as usize
 }
 
-fn answered(halt: Halt, written: usize, numbers: Numbers, answer: &mut [u64; 9])
+fn answered(halt: Halt, written: usize, numbers: CallNumbers, answer: &mut [u64; 9])
     requires { ⌜ numbers .tally ≤ 1000000000000 ⌝ }
     ensures { λ _. ⌜ now (answer .exit) ≡ haltWords halt written (numbers .tally) ⌝ }
 {
     let end = halt.end;
-    *answer = call_answers::run_words(
+    *answer = call_answers::ran_words(
         end,
         halt.steps,
         halt.offset,
@@ -50,7 +50,7 @@ fn answered(halt: Halt, written: usize, numbers: Numbers, answer: &mut [u64; 9])
 }
 
 // The resolved script, in words that are 0.
-fn resolved(script: &[u8], numbers: Numbers, code: &mut [u32; 4096])
+fn resolved(script: &[u8], numbers: CallNumbers, code: &mut [u32; 4096])
     requires { ⌜ now code ≡ replicate 4096 0 ⌝ }
     ensures { λ _. ⌜ Resolved (now (script .entry)) (numbers .name) (now (code .exit)) × Bytes (now (script .entry)) ⌝ }
 {
@@ -60,37 +60,37 @@ fn resolved(script: &[u8], numbers: Numbers, code: &mut [u32; 4096])
 // What comes of a call that is admitted, in the arrays that it works on.
 fn ran_on(
     code: &mut [u32; 4096],
-    words: &mut [i32; 8224],
+    cells: &mut [i32; 8224],
     script: &[u8],
-    numbers: Numbers,
+    numbers: CallNumbers,
     table: &mut [i32],
     sheet: &mut [i32],
     records: &mut [Activation],
     answer: &mut [u64; 9],
 )
-    requires { ⌜ AdmittedOn (now code) (now words) (chain (length (now records))) (fedOf numbers (now script) (now table) (now sheet)) ⌝ }
+    requires { ⌜ AdmittedOn (now code) (now cells) (chain (length (now records))) (fedOf numbers (now script) (now table) (now sheet)) ⌝ }
     ensures { λ _. ⌜ Replies (chain (length (now (records .entry)))) (fedOf numbers (now (script .entry)) (now (table .entry)) (now (sheet .entry)))
         (now (answer .exit)) (now (sheet .exit)) (now (table .exit)) ⌝ }
 {
     resolved(script, numbers, code);
     let halt = chain_run::run_program(
         code,
-        words,
+        cells,
         records,
         table,
         numbers.count,
         numbers.g,
-        limit_of(numbers),
+        activations_of(numbers),
         numbers.n,
     );
-    let written = chain_run::write_sheet(code, words, records, halt.live, sheet);
+    let written = chain_run::write_sheet(code, cells, records, halt.live, sheet);
     answered(halt, written, numbers, answer);
 }
 
 // What comes of a call that is admitted.
 fn ran(
     script: &[u8],
-    numbers: Numbers,
+    numbers: CallNumbers,
     table: &mut [i32],
     sheet: &mut [i32],
     records: &mut [Activation],
@@ -101,10 +101,10 @@ fn ran(
         (now (answer .exit)) (now (sheet .exit)) (now (table .exit)) ⌝ }
 {
     let mut code = [0u32; 4096];
-    let mut words = [0i32; 8224];
+    let mut cells = [0i32; 8224];
     ran_on(
         &mut code,
-        &mut words,
+        &mut cells,
         script,
         numbers,
         table,
@@ -116,7 +116,7 @@ fn ran(
 
 pub fn call(
     script: &[u8],
-    numbers: Numbers,
+    numbers: CallNumbers,
     table: &mut [i32],
     sheet: &mut [i32],
     records: &mut [Activation],

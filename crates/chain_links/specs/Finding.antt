@@ -24,7 +24,7 @@ abbrev pub firstCell : List Activation → ℕ → ℕ → ℕ → ℕ
 firstCell records live level w = 32 * homeOf records live level w
 
 abbrev pub byChain : List ℤ → List Activation → ℕ → ℕ → Finding
-byChain words records live level = byFirst words (firstCell records live level)
+byChain cells records live level = byFirst cells (firstCell records live level)
 
 -- the links to the activation that declares the name with a word can be followed
 pub record Seen (records : List Activation) (live level w : ℕ) : Type 0 where
@@ -44,8 +44,8 @@ argumentsEnd code at = elim (eqb (operationIn (getD code at 0)) 6) [ true ↦ 3 
 
 -- the words once they are handed on
 abbrev pub handedOn : List ℕ → List ℤ → List Activation → Registers → List ℤ
-handedOn code words records here = setAll words (32 * here .live + 32)
-    (argumentsFrom (byChain words records (here .live) (here .level)) (only-words code words (here .at)) (here .at + 3) (argumentsEnd code (here .at) - 3))
+handedOn code cells records here = setAll cells (32 * here .live + 32)
+    (argumentsFrom (byChain cells records (here .live) (here .level)) (only-words code cells (here .at)) (here .at + 3) (argumentsEnd code (here .at) - 3))
 
 -- one of them can be handed on: its own cell is below the next activation's
 pub record Passing (code : List ℕ) (here : Registers) (field first : ℕ) : Type 0 where

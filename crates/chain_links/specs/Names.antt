@@ -32,17 +32,17 @@ use Rattle.chain_links.specs.declared.Found.{Found}
 use Rattle.chain_links.specs.Records.{blocksIn, nextsIn, linksIn}
 use Rattle.run_cells.specs.Finding.{Reachable}
 use Rattle.chain_links.specs.Finding.{homeOf, firstCell, byChain, Seen}
-use Rattle.run_state.specs.Scenes.{limitsBy}
-use Rattle.chain_links.specs.Running.{Running, linksTo, links-none-to, linksome-to, foundBy, Reached}
+use Rattle.run_state.specs.Limits.{limitsBy}
+use Rattle.chain_links.specs.Running.{Running, linksTo, links-none-to, links-some-to, foundBy, Reached}
 use Rattle.chain_links.specs.Moving.{linked}
 
 -- what is found of a name
 abbrev pub foundIn : List Frame → ℕ → Found
 foundIn fs name = record { designator = designates fs name; links = linksFollowed fs name }
 
-module _ {code : List ℕ} {limit group : ℕ} {words : List ℤ} {records : List Activation} {table : List ℤ} {here : Registers}
-    (w : Running code limit group words records table here) where
-  abbrev st : Standing code (limitsBy limit group) words (blocksIn records) (nextsIn records) (linksIn records) table (here .pairs) (here .live)
+module _ {code : List ℕ} {activations limit : ℕ} {cells : List ℤ} {records : List Activation} {table : List ℤ} {here : Registers}
+    (w : Running code activations limit cells records table here) where
+  abbrev st : Standing code (limitsBy activations limit) cells (blocksIn records) (nextsIn records) (linksIn records) table (here .pairs) (here .live)
       (here .at) (here .end)
   st = w .standing
 
@@ -58,19 +58,19 @@ module _ {code : List ℕ} {limit group : ℕ} {words : List ℤ} {records : Lis
   first-is : (v : ℕ) → firstByLinks st v ≡ firstCell records (here .live) (here .level) v
   first-is v = λ i. 32 * follow (linksIn records) (live-is i) (level-there i - levelIn v)
 
-  pub finds-by-chain : Finds fs (byChain words records (here .live) (here .level))
-  finds-by-chain = subst (λ (f : ℕ → ℕ). Finds fs (byFirst words f)) (λ i v. first-is v i) (finds-by-links st)
+  pub finds-by-chain : Finds fs (byChain cells records (here .live) (here .level))
+  finds-by-chain = subst (λ (f : ℕ → ℕ). Finds fs (byFirst cells f)) (λ i v. first-is v i) (finds-by-links st)
 
   -- a name that is seen
   module _ (n : ℕ) (c : Coordinate) (e : coordinateOf (enclosureOf fs (length fs)) n ≡ some c) where
     seen-at : Seen records (here .live) (here .level) (wordOf st n)
     seen-at =
         let a = named-by-links (st .program) (st .keeps) fs (st .sound .chained) n c e (st .sound .wired) (blocksIn records)
-        (set (nextsIn records) (here .live) (here .at)) (linksIn records) words (st .holds) in
+        (set (nextsIn records) (here .live) (here .at)) (linksIn records) cells (st .holds) in
         record { linked = linked w; outer = subst (λ m. levelIn (wordOf st n) ≤ m) level-there (a .level-high) }
 
-  as-reachable : (v : ℕ) → Reaches words (here .live) (firstCell records (here .live) (here .level) v) v
-      → Reachable words (firstCell records (here .live) (here .level) v) v
+  as-reachable : (v : ℕ) → Reaches cells (here .live) (firstCell records (here .live) (here .level) v) v
+      → Reachable cells (firstCell records (here .live) (here .level) v) v
   as-reachable v r = record { own = omega (arith, r .own, live-few st); whole = r .whole; cell = r .cell }
 
   -- the names of the next statement
@@ -78,10 +78,10 @@ module _ {code : List ℕ} {limit group : ℕ} {words : List ℤ} {records : Lis
   pub seen-name : (n : ℕ) → Resolved fs n → Seen records (here .live) (here .level) (wordOf st n)
   seen-name n r = seen-at n (r .coordinate) (r .here)
 
-  pub reached : (n : ℕ) → Resolved fs n → Reaches words (here .live) (firstCell records (here .live) (here .level) (wordOf st n)) (wordOf st n)
-  reached n r = subst (λ m. Reaches words (here .live) m (wordOf st n)) (first-is (wordOf st n)) (reached-by-links st n r)
+  pub reached : (n : ℕ) → Resolved fs n → Reaches cells (here .live) (firstCell records (here .live) (here .level) (wordOf st n)) (wordOf st n)
+  reached n r = subst (λ m. Reaches cells (here .live) m (wordOf st n)) (first-is (wordOf st n)) (reached-by-links st n r)
 
-  pub reachable : (n : ℕ) → Resolved fs n → Reachable words (firstCell records (here .live) (here .level) (wordOf st n)) (wordOf st n)
+  pub reachable : (n : ℕ) → Resolved fs n → Reachable cells (firstCell records (here .live) (here .level) (wordOf st n)) (wordOf st n)
   reachable n r = as-reachable (wordOf st n) (reached n r)
 
   -- The looked-up name
@@ -107,22 +107,22 @@ module _ {code : List ℕ} {limit group : ℕ} {words : List ℤ} {records : Lis
       coordinate : (c : Coordinate) × (coordinateOf (enclosureOf fs (length fs)) name ≡ some c)
       coordinate = seen (st .program) (st .keeps) fs (st .sound .chained) name (λ z. d (is-word ∙ z))
 
-      found : Reaches words (here .live) (firstCell records (here .live) (here .level) (wordOf st name)) (wordOf st name)
-          × (designatorOf (cellBy words (firstCell records (here .live) (here .level) (wordOf st name)) (wordOf st name)) ≡ designates fs name)
+      found : Reaches cells (here .live) (firstCell records (here .live) (here .level) (wordOf st name)) (wordOf st name)
+          × (designatorOf (cellBy cells (firstCell records (here .live) (here .level) (wordOf st name)) (wordOf st name)) ≡ designates fs name)
       found =
-          subst (λ m. Reaches words (here .live) m (wordOf st name) × (designatorOf (cellBy words m (wordOf st name)) ≡ designates fs name))
+          subst (λ m. Reaches cells (here .live) m (wordOf st name) × (designatorOf (cellBy cells m (wordOf st name)) ≡ designates fs name))
           (first-is (wordOf st name))
           (seen-by-links st name (λ z. d (is-word ∙ z)))
 
       seen-outer : levelIn v ≤ here .level
       seen-outer = subst (λ u. levelIn u ≤ here .level) (sym is-word) ((seen-at name (coordinate .0) (coordinate .1)) .outer)
 
-      seen-reached : Reachable words (firstCell records (here .live) (here .level) v) v
+      seen-reached : Reachable cells (firstCell records (here .live) (here .level) v) v
       seen-reached =
-          subst (λ u. Reachable words (firstCell records (here .live) (here .level) u) u) (sym is-word) (as-reachable (wordOf st name) (found .0))
+          subst (λ u. Reachable cells (firstCell records (here .live) (here .level) u) u) (sym is-word) (as-reachable (wordOf st name) (found .0))
 
-      pub seen-designates : (c : ℕ) → c ≡ cellBy words (firstCell records (here .live) (here .level) v) v → designatorOf c ≡ designates fs name
-      seen-designates c q = ap designatorOf (q ∙ ap (λ u. cellBy words (firstCell records (here .live) (here .level) u) u) is-word) ∙ found .1
+      pub seen-designates : (c : ℕ) → c ≡ cellBy cells (firstCell records (here .live) (here .level) v) v → designatorOf c ≡ designates fs name
+      seen-designates c q = ap designatorOf (q ∙ ap (λ u. cellBy cells (firstCell records (here .live) (here .level) u) u) is-word) ∙ found .1
 
       pub seen-links : here .level - levelIn v ≡ linksFollowed fs name
       seen-links =
@@ -139,32 +139,32 @@ module _ {code : List ℕ} {limit group : ℕ} {words : List ℤ} {records : Lis
     -- the activation that so many links lead to
     module _ (home : ℕ) (few : home < 256) (led : home ≡ follow (linksIn records) (here .live) (linksTo (here .level) v)) where
       is-home : (v ≡ 0 → ⊥) → home ≡ homeOf records (here .live) (here .level) v
-      is-home d = led ∙ ap (follow (linksIn records) (here .live)) (linksome-to (here .level) v d)
+      is-home d = led ∙ ap (follow (linksIn records) (here .live)) (links-some-to (here .level) v d)
 
-      pub reached-there : Reached words here v home
+      pub reached-there : Reached cells here v home
       reached-there =
           record {
             few = few;
             outer = outer-there;
             low = omega (arith, w .level-is);
-            nameable = λ d. let r = subst (λ h. Reachable words (32 * h) v) (sym (is-home d)) (seen-reached d) in record { own = r .own; whole = r .whole };
+            nameable = λ d. let r = subst (λ h. Reachable cells (32 * h) v) (sym (is-home d)) (seen-reached d) in record { own = r .own; whole = r .whole };
           }
 
-      found-none : v ≡ 0 → foundBy words here v home ≡ foundIn fs name
+      found-none : v ≡ 0 → foundBy cells here v home ≡ foundIn fs name
       found-none z =
           let p = not-seen z in
           λ i. record {
-            designator = (looked-up-none words (32 * home) v z ∙ p .0) i;
+            designator = (looked-up-none cells (32 * home) v z ∙ p .0) i;
             links = (links-none-to (here .level) v z ∙ p .1) i;
           }
 
-      found-some : (v ≡ 0 → ⊥) → foundBy words here v home ≡ foundIn fs name
+      found-some : (v ≡ 0 → ⊥) → foundBy cells here v home ≡ foundIn fs name
       found-some d =
-          let same = ap (λ h. cellBy words (32 * h) v) (is-home d) in
+          let same = ap (λ h. cellBy cells (32 * h) v) (is-home d) in
           λ i. record {
-            designator = (looked-up-some words (32 * home) v d ∙ seen-designates d (cellBy words (32 * home) v) same) i;
-            links = (linksome-to (here .level) v d ∙ seen-links d) i;
+            designator = (looked-up-some cells (32 * home) v d ∙ seen-designates d (cellBy cells (32 * home) v) same) i;
+            links = (links-some-to (here .level) v d ∙ seen-links d) i;
           }
 
-      pub found-there : foundBy words here v home ≡ foundIn fs name
+      pub found-there : foundBy cells here v home ≡ foundIn fs name
       found-there = split (eqb v 0) (λ t. found-none (eqb-true v 0 t)) (λ t. found-some (eqb-false v 0 t))

@@ -15,7 +15,7 @@ use Rattle.steps.specs.Means.{Follows, EntersAt}
 use Rattle.resolved.specs.Layout.{endIn, firstIn}
 use Rattle.run_sheet.specs.Named.{lookedUpBy, Nameable}
 use Rattle.run_state.specs.declared.Registers.{Registers}
-use Rattle.run_state.specs.Scenes.{limitsBy}
+use Rattle.run_state.specs.Limits.{limitsBy}
 use Rattle.chain_links.specs.declared.Entry.{Entry}
 use Rattle.chain_links.specs.declared.Found.{Found}
 use Rattle.chain_links.specs.Records.{blocksIn, nextsIn, linksIn}
@@ -45,36 +45,36 @@ endAt code records k = endIn (getD code (getD (blocksIn records) k 0 + 1) 0)
 abbrev pub nowAt : List ℕ → List Activation → ℕ → ℕ → ℕ → Registers
 nowAt code records home place pairs = nowBy code (getD (blocksIn records) home 0) home place pairs
 
-pub record Running (code : List ℕ) (limit group : ℕ) (words : List ℤ) (records : List Activation) (table : List ℤ) (here : Registers) : Type 0 where
-  pub standing : Standing code (limitsBy limit group) words (blocksIn records) (nextsIn records) (linksIn records) table (here .pairs) (here .live)
+pub record Running (code : List ℕ) (activations limit : ℕ) (cells : List ℤ) (records : List Activation) (table : List ℤ) (here : Registers) : Type 0 where
+  pub standing : Standing code (limitsBy activations limit) cells (blocksIn records) (nextsIn records) (linksIn records) table (here .pairs) (here .live)
       (here .at) (here .end)
   pub level-is : here .level ≡ levelAt code records (here .live)
-  pub room : limit ≤ length records
+  pub room : activations ≤ length records
 
 -- the state one step later
-pub record Succeeds {code : List ℕ} {limit group : ℕ} {words : List ℤ} {records : List Activation} {table : List ℤ} {here : Registers}
-    (w : Running code limit group words records table here)
-    (words′ : List ℤ) (records′ : List Activation) (table′ : List ℤ) (here′ : Registers) : Type 0 where
-  pub running : Running code limit group words′ records′ table′ here′
+pub record Succeeds {code : List ℕ} {activations limit : ℕ} {cells : List ℤ} {records : List Activation} {table : List ℤ} {here : Registers}
+    (w : Running code activations limit cells records table here)
+    (cells′ : List ℤ) (records′ : List Activation) (table′ : List ℤ) (here′ : Registers) : Type 0 where
+  pub running : Running code activations limit cells′ records′ table′ here′
   pub follows : Follows (w .standing) (running .standing .stack) (running .standing .program) (running .standing .name)
 
 -- What entering a block asks: where the run stands, and that this is the next step, once the arguments are handed on
-pub record EnterReady (code : List ℕ) (words : List ℤ) (records : List Activation) (here : Registers) (entry : Entry) : Type 0 where
+pub record EnterReady (code : List ℕ) (cells : List ℤ) (records : List Activation) (here : Registers) (entry : Entry) : Type 0 where
+  pub activations : ℕ
   pub limit : ℕ
-  pub group : ℕ
   pub table : List ℤ
-  pub running : Running code limit group words records table here
+  pub running : Running code activations limit cells records table here
   pub handing : Handing code records here (argumentsEnd code (here .at))
-  pub enters : EntersAt (running .standing) (entry .body) (entry .link) (entry .back) (handedOn code words records here)
+  pub enters : EntersAt (running .standing) (entry .body) (entry .link) (entry .back) (handedOn code cells records here)
 
 -- The looked-up name
 
 -- it can be found from the innermost activation
-pub record Looking (code : List ℕ) (words : List ℤ) (records : List Activation) (here : Registers) : Type 0 where
+pub record Looking (code : List ℕ) (cells : List ℤ) (records : List Activation) (here : Registers) : Type 0 where
+  pub activations : ℕ
   pub limit : ℕ
-  pub group : ℕ
   pub table : List ℤ
-  pub running : Running code limit group words records table here
+  pub running : Running code activations limit cells records table here
 
 -- the links that lead to it by its word; 0 where it has none
 unfoldable pub linksTo : ℕ → ℕ → ℕ
@@ -84,16 +84,16 @@ pub links-none-to : (level word : ℕ) → word ≡ 0 → linksTo level word ≡
 unfolding linksTo
 links-none-to level word e = rw (linksTo, eq-eqb word 0 e)
 
-pub linksome-to : (level word : ℕ) → (word ≡ 0 → ⊥) → linksTo level word ≡ level - levelIn word
+pub links-some-to : (level word : ℕ) → (word ≡ 0 → ⊥) → linksTo level word ≡ level - levelIn word
 unfolding linksTo
-linksome-to level word d = rw (linksTo, ne-eqb word 0 d)
+links-some-to level word d = rw (linksTo, ne-eqb word 0 d)
 
 abbrev pub foundBy : List ℤ → Registers → ℕ → ℕ → Found
-foundBy words here word home = record { designator = lookedUpBy words (32 * home) word; links = linksTo (here .level) word }
+foundBy cells here word home = record { designator = lookedUpBy cells (32 * home) word; links = linksTo (here .level) word }
 
 -- what is asked of its word and of the activation that declares it
-pub record Reached (words : List ℤ) (here : Registers) (word home : ℕ) : Type 0 where
+pub record Reached (cells : List ℤ) (here : Registers) (word home : ℕ) : Type 0 where
   pub few : home < 256
   pub outer : levelIn word ≤ here .level
   pub low : here .level < 65536
-  pub nameable : (word ≡ 0 → ⊥) → Nameable words (32 * home) word
+  pub nameable : (word ≡ 0 → ⊥) → Nameable cells (32 * home) word

@@ -40,21 +40,21 @@ fn begun(code: &[u32; 4096], entry: Entry) -> Activation
 // A new activation, whose record is given, is the innermost one. The arguments stand in its first cells.
 fn entered(
     code: &[u32; 4096],
-    words: &mut [i32; 8224],
+    cells: &mut [i32; 8224],
     here: Registers,
     activation: Activation,
 ) -> Registers
     requires { ⌜ (activation .block + 3 ≤ 4096) × (here .live + 1 < 256) × (formalsIn (getD (now code) (activation .block) 0) ≤ 32)
         × (namesIn (getD (now code) (activation .block) 0) ≤ 32) ⌝ }
-    ensures { λ r. ⌜ (r ≡ enteredBy (now (code .entry)) here activation) × Cleared (now (words .entry))
+    ensures { λ r. ⌜ (r ≡ enteredBy (now (code .entry)) here activation) × Cleared (now (cells .entry))
         (cellFrom (here .live + 1) (formalsIn (getD (now (code .entry)) (activation .block) 0)))
-        (cellFrom (here .live + 1) (namesIn (getD (now (code .entry)) (activation .block) 0))) (now (words .exit)) ⌝ }
+        (cellFrom (here .live + 1) (namesIn (getD (now (code .entry)) (activation .block) 0))) (now (cells .exit)) ⌝ }
 {
     let block = from_u32(activation.block);
     let head = code_at(code, block);
     let fresh = here.live + 1;
     clear(
-        words,
+        cells,
         cell_at(fresh, formals_of(head)),
         cell_at(fresh, names_of(head)),
     );
@@ -69,19 +69,19 @@ fn entered(
 
 pub fn enter(
     code: &[u32; 4096],
-    words: &mut [i32; 8224],
+    cells: &mut [i32; 8224],
     records: &mut [Activation],
     here: Registers,
     entry: Entry,
 ) -> Registers
-    requires { ⌜ EnterReady (now code) (now words) (now records) here entry ⌝ }
-    ensures { λ r. ⌜ ((w : EnterReady (now (code .entry)) (now (words .entry)) (now (records .entry)) here entry) → Succeeds (w .running)
-        (now (words .exit)) (now (records .exit)) (w .table) r) ⌝ }
+    requires { ⌜ EnterReady (now code) (now cells) (now records) here entry ⌝ }
+    ensures { λ r. ⌜ ((w : EnterReady (now (code .entry)) (now (cells .entry)) (now (records .entry)) here entry) → Succeeds (w .running)
+        (now (cells .exit)) (now (records .exit)) (w .table) r) ⌝ }
 {
-    hand(code, words, records, here, arguments_end(code, here));
+    hand(code, cells, records, here, arguments_end(code, here));
     let own = read(records, here.live);
     push(records, here.live, with_next(own, entry.back));
     let new = begun(code, entry);
     push(records, here.live + 1, new);
-    entered(code, words, here, new)
+    entered(code, cells, here, new)
 }

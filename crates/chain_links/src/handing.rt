@@ -29,35 +29,35 @@ pub fn arguments_end(code: &[u32; 4096], here: Registers) -> usize
 }
 
 // The argument in a field, once the first cell of the activation that declares it is found.
-fn pass(code: &[u32; 4096], words: &mut [i32; 8224], here: Registers, field: usize, first: usize)
+fn pass(code: &[u32; 4096], cells: &mut [i32; 8224], here: Registers, field: usize, first: usize)
     requires { ⌜ Passing (now code) here field first ⌝ }
-    ensures { λ _. ⌜ now (words .exit) ≡ set (now (words .entry)) (32 * here .live + 32 + (field - 3))
-        (handedWord (now (words .entry)) (getD (now (code .entry)) (here .at + field) 0)
+    ensures { λ _. ⌜ now (cells .exit) ≡ set (now (cells .entry)) (32 * here .live + 32 + (field - 3))
+        (handedWord (now (cells .entry)) (getD (now (code .entry)) (here .at + field) 0)
         (first + positionIn (getD (now (code .entry)) (here .at + field) 0))) ⌝ }
 {
     let word = code_at(code, here.at + field);
-    let value = run_words::handed(words, word, first + position_of(word));
-    run_words::store(words, SHARE * here.live + SHARE + (field - 3), value);
+    let value = run_words::handed(cells, word, first + position_of(word));
+    run_words::store(cells, SHARE * here.live + SHARE + (field - 3), value);
 }
 
 // The arguments stand in the fields from the third on up to `last`.
 pub fn hand(
     code: &[u32; 4096],
-    words: &mut [i32; 8224],
+    cells: &mut [i32; 8224],
     records: &[Activation],
     here: Registers,
     last: usize,
 )
     requires { ⌜ Handing (now code) (now records) here last ⌝ }
-    ensures { λ _. ⌜ now (words .exit) ≡ setAll (now (words .entry)) (32 * here .live + 32)
-        (argumentsFrom (byChain (now (words .entry)) (now (records .entry)) (here .live) (here .level))
-        (only-words (now (code .entry)) (now (words .entry)) (here .at)) (here .at + 3) (last - 3)) ⌝ }
+    ensures { λ _. ⌜ now (cells .exit) ≡ setAll (now (cells .entry)) (32 * here .live + 32)
+        (argumentsFrom (byChain (now (cells .entry)) (now (records .entry)) (here .live) (here .level))
+        (only-words (now (code .entry)) (now (cells .entry)) (here .at)) (here .at + 3) (last - 3)) ⌝ }
 {
     let own = SHARE * here.live;
     let mut field = 3;
     while field < last {
         let first = first_cell(code, records, here, own, field);
-        pass(code, words, here, field, first);
+        pass(code, cells, here, field, first);
         field = field + 1;
     }
 }

@@ -130,12 +130,12 @@ fn links_to(here: Registers, word: usize) -> usize
 }
 
 // What is found of the name with this word, once the activation that declares it is.
-fn found_by(words: &[i32; 8224], here: Registers, word: usize, home: usize) -> Found
-    requires { ⌜ Reached (now words) here word home ⌝ }
-    ensures { λ r. ⌜ r ≡ foundBy (now (words .entry)) here word home ⌝ }
+fn found_by(cells: &[i32; 8224], here: Registers, word: usize, home: usize) -> Found
+    requires { ⌜ Reached (now cells) here word home ⌝ }
+    ensures { λ r. ⌜ r ≡ foundBy (now (cells .entry)) here word home ⌝ }
 {
     Found {
-        designator: name_designator(words, SHARE * home, word),
+        designator: name_designator(cells, SHARE * home, word),
         links: narrow_u32(links_to(here, word)),
     }
 }
@@ -143,12 +143,12 @@ fn found_by(words: &[i32; 8224], here: Registers, word: usize, home: usize) -> F
 // At the end of a run: what the looked-up name is, and the place of the innermost activation's next statement is put with the others'.
 pub fn settle(
     code: &[u32; 4096],
-    words: &[i32; 8224],
+    cells: &[i32; 8224],
     records: &mut [Activation],
     here: Registers,
 ) -> Found
-    requires { ⌜ Looking (now code) (now words) (now records) here × (here .at < 65536) ⌝ }
-    ensures { λ r. ⌜ ((w : Looking (now (code .entry)) (now (words .entry)) (now (records .entry)) here)
+    requires { ⌜ Looking (now code) (now cells) (now records) here × (here .at < 65536) ⌝ }
+    ensures { λ r. ⌜ ((w : Looking (now (code .entry)) (now (cells .entry)) (now (records .entry)) here)
         → r ≡ foundIn (w .running .standing .stack .frames) (w .running .standing .name))
         × (now (records .exit) ≡ set (now (records .entry)) (here .live) (withNext (at (now (records .entry)) (here .live)) (here .at))) ⌝ }
 {
@@ -156,5 +156,5 @@ pub fn settle(
     let word = looked_up(code, own);
     let there = follow(records, here.live, links_to(here, word));
     push(records, here.live, with_next(own, here.at));
-    found_by(words, here, word, there)
+    found_by(cells, here, word, there)
 }

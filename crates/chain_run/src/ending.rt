@@ -72,21 +72,21 @@ fn halted(here: Registers, turn: Turn, found: Found, allowance: u32, left: u32) 
 // What the last step came to, and so many steps left.
 pub fn ended(
     code: &[u32; 4096],
-    words: &[i32; 8224],
+    cells: &[i32; 8224],
     records: &mut [Activation],
     here: Registers,
     turn: Turn,
     allowance: u32,
     left: u32,
 ) -> Halt
-    requires { ⌜ Ending (now code) (now words) (now records) here turn allowance left ⌝ }
+    requires { ⌜ Ending (now code) (now cells) (now records) here turn allowance left ⌝ }
     ensures { λ r.
-        ⌜ ((e : Ending (now (code .entry)) (now (words .entry)) (now (records .entry)) here turn allowance left)
-        → RunFrom (e .from) allowance r (now (words .entry)) (now (records .exit)) (e .table)) ⌝ }
+        ⌜ ((e : Ending (now (code .entry)) (now (cells .entry)) (now (records .entry)) here turn allowance left)
+        → RunFrom (e .from) allowance r (now (cells .entry)) (now (records .exit)) (e .table)) ⌝ }
 {
     if is_finished(turn) {
         return finished_halt(here, allowance, left);
     }
-    let found = settle(code, words, records, here);
+    let found = settle(code, cells, records, here);
     halted(here, turn, found, allowance, left)
 }

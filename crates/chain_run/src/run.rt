@@ -15,7 +15,7 @@ use run_state::narrow_u32;
 use run_words::code_at;
 ghost use mathlib.Core.Path.{_≡_};
 ghost use Rattle.frames.specs.Frame.{frameRun, frameStart};
-ghost use Rattle.run_state.specs.Scenes.{limitsBy};
+ghost use Rattle.run_state.specs.Limits.{limitsBy};
 ghost use Rattle.chain_links.specs.Running.{activationOf, Running};
 ghost use Rattle.chain_run.specs.Running.{Beginning, Ended, RunFrom};
 ghost use Rattle.chain_run.specs.Ending.{startBy};
@@ -23,31 +23,31 @@ ghost use Rattle.chain_run.specs.Ending.{startBy};
 // From any state in which the engine can stand.
 pub fn run(
     code: &[u32; 4096],
-    words: &mut [i32; 8224],
+    cells: &mut [i32; 8224],
     records: &mut [Activation],
     table: &mut [i32],
-    group: u32,
-    limit: usize,
+    limit: u32,
+    activations: usize,
     allowance: u32,
     start: Registers,
 ) -> Halt
-    requires { ⌜ Running (now code) limit group (now words) (now records) (now table) start ⌝ }
+    requires { ⌜ Running (now code) activations limit (now cells) (now records) (now table) start ⌝ }
     ensures { λ r.
-        ⌜ ((w : Running (now (code .entry)) limit group (now (words .entry)) (now (records .entry)) (now (table .entry)) start)
-        → RunFrom w allowance r (now (words .exit)) (now (records .exit)) (now (table .exit))) ⌝ }
+        ⌜ ((w : Running (now (code .entry)) activations limit (now (cells .entry)) (now (records .entry)) (now (table .entry)) start)
+        → RunFrom w allowance r (now (cells .exit)) (now (records .exit)) (now (table .exit))) ⌝ }
 {
     let mut here = start;
     let mut turn = went(start);
     let mut left = allowance;
     while 0 < left {
-        turn = step(code, words, records, table, group, limit, here);
+        turn = step(code, cells, records, table, limit, activations, here);
         if halts(turn) {
             break;
         }
         here = next_of(here, turn);
         left = left - 1;
     }
-    ended(code, words, records, here, turn, allowance, left)
+    ended(code, cells, records, here, turn, allowance, left)
 }
 
 // The program's record, and the state in which it begins.
@@ -79,22 +79,31 @@ fn begin(code: &[u32; 4096], pairs: usize) -> Registers
 // The program's own record is written first: whatever the records held makes no difference.
 pub fn run_program(
     code: &[u32; 4096],
-    words: &mut [i32; 8224],
+    cells: &mut [i32; 8224],
     records: &mut [Activation],
     table: &mut [i32],
     pairs: usize,
-    group: u32,
-    limit: usize,
+    limit: u32,
+    activations: usize,
     allowance: u32,
 ) -> Halt
-    requires { ⌜ Beginning (now code) (now words) (now records) (now table) pairs group limit ⌝ }
+    requires { ⌜ Beginning (now code) (now cells) (now records) (now table) pairs limit activations ⌝ }
     ensures { λ r.
-        ⌜ ((b : Beginning (now (code .entry)) (now (words .entry)) (now (records .entry)) (now (table .entry)) pairs group limit)
-        → Ended (b .program) (b .name) limit group
-        (frameRun (limitsBy limit group) allowance (frameStart (b .program) (record { words = now (table .entry); used = pairs })))
-        r (now (words .exit)) (now (records .exit)) (now (table .exit))) ⌝ }
+        ⌜ ((b : Beginning (now (code .entry)) (now (cells .entry)) (now (records .entry)) (now (table .entry)) pairs limit activations)
+        → Ended (b .program) (b .name) activations limit
+        (frameRun (limitsBy activations limit) allowance (frameStart (b .program) (record { words = now (table .entry); used = pairs })))
+        r (now (cells .exit)) (now (records .exit)) (now (table .exit))) ⌝ }
 {
     push(records, 0, program_record(code));
     let start = begin(code, pairs);
-    run(code, words, records, table, group, limit, allowance, start)
+    run(
+        code,
+        cells,
+        records,
+        table,
+        limit,
+        activations,
+        allowance,
+        start,
+    )
 }

@@ -19,22 +19,22 @@ ghost use Rattle.chain_links.specs.Records.{blocksIn, nextsIn};
 // One activation from `at` on, whose record is given; what comes after it.
 fn write_record(
     code: &[u32; 4096],
-    words: &[i32; 8224],
+    cells: &[i32; 8224],
     activation: Activation,
     k: usize,
     sheet: &mut [i32],
     at: usize,
 ) -> usize
-    requires { ⌜ (k < 256) × ((number : ℕ) × (own : List ℤ) × Shown (now code) (now words) (activation .block) (activation .next) (32 * k) number own
+    requires { ⌜ (k < 256) × ((number : ℕ) × (own : List ℤ) × Shown (now code) (now cells) (activation .block) (activation .next) (32 * k) number own
         × (at + 2 + length own ≤ length (now sheet))) ⌝ }
-    ensures { λ r. ⌜ ((number : ℕ) (own ws base : List ℤ) → Shown (now (code .entry)) (now (words .entry)) (activation .block) (activation .next) (32 * k)
+    ensures { λ r. ⌜ ((number : ℕ) (own ws base : List ℤ) → Shown (now (code .entry)) (now (cells .entry)) (activation .block) (activation .next) (32 * k)
         number own → now (sheet .entry) ≡ written ws base → length ws ≡ at
         → (now (sheet .exit) ≡ written (ws ++ (pos (2 * activation .block) ∷ pos number ∷ own)) base) × (r ≡ at + 2 + length own)) ⌝ }
     ensures { λ _. ⌜ length (now (sheet .exit)) ≡ length (now (sheet .entry)) ⌝ }
 {
     write_activation(
         code,
-        words,
+        cells,
         from_u32(activation.block),
         from_u32(activation.next),
         SHARE * k,
@@ -46,16 +46,16 @@ fn write_record(
 // The sheet of `live` activations, outermost first; how many words it takes.
 pub fn write_sheet(
     code: &[u32; 4096],
-    words: &[i32; 8224],
+    cells: &[i32; 8224],
     records: &[Activation],
     live: usize,
     sheet: &mut [i32],
 ) -> usize
-    requires { ⌜ ((fs : List Frame) × Held (now code) (now words) (blocksIn (now records)) (nextsIn (now records)) fs × (length fs ≡ live)) ⌝ }
+    requires { ⌜ ((fs : List Frame) × Held (now code) (now cells) (blocksIn (now records)) (nextsIn (now records)) fs × (length fs ≡ live)) ⌝ }
     requires { ⌜ live ≤ length (now records) ⌝ }
     requires { ⌜ sheetShare * live ≤ length (now sheet) ⌝ }
     ensures { λ r.
-        ⌜ ((fs : List Frame) → Held (now (code .entry)) (now (words .entry)) (blocksIn (now (records .entry))) (nextsIn (now (records .entry))) fs
+        ⌜ ((fs : List Frame) → Held (now (code .entry)) (now (cells .entry)) (blocksIn (now (records .entry))) (nextsIn (now (records .entry))) fs
         → length fs ≡ live
         → (now (sheet .exit) ≡ written (frameSheet fs) (now (sheet .entry))) × (r ≡ length (frameSheet fs))) ⌝ }
 {
@@ -63,7 +63,7 @@ pub fn write_sheet(
     let mut k = 0;
     while k < live {
         let activation = read(records, k);
-        at = write_record(code, words, activation, k, sheet, at);
+        at = write_record(code, cells, activation, k, sheet, at);
         k = k + 1;
     }
     at

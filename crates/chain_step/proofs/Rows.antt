@@ -1,4 +1,4 @@
--- The enums of this crate and of `acting` as data, for proofs by hand.
+-- The enums of this crate and of `run_moves` as data, for proofs by hand.
 use Rattle.walks.specs.Data.{Datum, enums}
 use Rattle.run_moves.proofs.Move as M
 use Rattle.run_moves.proofs.Move.Laws as M′

@@ -26,7 +26,7 @@ use Rattle.resolved.specs.Layout.{operationIn, leadIn}
 use Rattle.run_statements.specs.Pieces.{FormalsBefore, only-words}
 use Rattle.run_statements.specs.Numbers.{op-of}
 use Rattle.run_cells.specs.Finding.{Reachable, Direct, ThroughFormal}
-use Rattle.run_cells.specs.Asking.{wordBehind, Calling, Ready, Leads, Did, classOf}
+use Rattle.run_cells.specs.Asking.{wordAfter, Calling, Ready, Leads, Did, classOf}
 use Rattle.run_cells.specs.Asking.{oneClass, addClass, subtractClass, compareClass, arithmeticFormalClass, branchClass, pairClass, queryClass, constantClass}
 use Rattle.run_cells.specs.Moves as moves
 use Rattle.run_cells.specs.Classes.{add-only, subtract-only, compare-only, arithmetic-only, query-only, constant-only}
@@ -34,7 +34,7 @@ use Rattle.chain_records.specs.declared.Activation.{Activation}
 use Rattle.run_state.specs.declared.Registers.{Registers}
 use Rattle.chain_links.specs.Records.{blocksIn, nextsIn, linksIn}
 use Rattle.chain_links.specs.Finding.{firstCell, byChain, Named}
-use Rattle.run_state.specs.Scenes.{limitsBy}
+use Rattle.run_state.specs.Limits.{limitsBy}
 use Rattle.chain_links.specs.Running.{Running}
 use Rattle.chain_links.specs.Names as links
 use Rattle.chain_step.specs.declared.turn.Moved.{Moved}
@@ -43,15 +43,15 @@ use Rattle.chain_step.specs.Numbers.{numberOf, number-of}
 use Rattle.chain_step.specs.Fields as found
 
 -- an engine that runs stands before the end of a text
-pub record Stating (code : List ℕ) (words : List ℤ) (records : List Activation) (limit : ℕ) (here : Registers) : Type 0 where
-  pub group : ℕ
+pub record Stating (code : List ℕ) (cells : List ℤ) (records : List Activation) (activations : ℕ) (here : Registers) : Type 0 where
+  pub limit : ℕ
   pub table : List ℤ
-  pub running : Running code limit group words records table here
+  pub running : Running code activations limit cells records table here
   pub before : here .at ≡ here .end → ⊥
 
 -- what the next statement does
 abbrev pub happening : List ℕ → List ℤ → List Activation → ℕ → Registers → Happened
-happening code words records limit here = acting (byChain words records (here .live) (here .level)) (sceneBy code words limit (here .live) (here .at))
+happening code cells records activations here = acting (byChain cells records (here .live) (here .level)) (sceneBy code cells activations (here .live) (here .at))
 
 -- its class, and the first cell of the innermost activation
 pub record Chosen (code : List ℕ) (here : Registers) (own class : ℕ) : Type 0 where
@@ -59,26 +59,26 @@ pub record Chosen (code : List ℕ) (here : Registers) (own class : ℕ) : Type 
   pub class-is : class ≡ classOf (opOf (getD code (here .at) 0))
 
 -- AR
-pub record Summing (code : List ℕ) (words : List ℤ) (records : List Activation) (here : Registers) (own class : ℕ) : Type 0 where
-  pub limit : ℕ
-  pub stating : Stating code words records limit here
+pub record Summing (code : List ℕ) (cells : List ℤ) (records : List Activation) (here : Registers) (own class : ℕ) : Type 0 where
+  pub activations : ℕ
+  pub stating : Stating code cells records activations here
   pub chosen : Chosen code here own class
   pub low : addClass ≤ class
   pub high : class ≤ arithmeticFormalClass
 
 -- AD, RM and QY
-pub record Tabling (code : List ℕ) (words : List ℤ) (records : List Activation) (here : Registers) (own class : ℕ) : Type 0 where
-  pub limit : ℕ
-  pub stating : Stating code words records limit here
+pub record Tabling (code : List ℕ) (cells : List ℤ) (records : List Activation) (here : Registers) (own class : ℕ) : Type 0 where
+  pub activations : ℕ
+  pub stating : Stating code cells records activations here
   pub chosen : Chosen code here own class
   pub low : branchClass < class
   pub other : class ≡ constantClass → ⊥
 
 -- the statement has been done, and the engine goes on so
-pub record Does (done : Happened) (words : List ℤ) (here : Registers) (moved : Moved) (words′ : List ℤ) : Type 0 where
+pub record Does (done : Happened) (cells : List ℤ) (here : Registers) (moved : Moved) (cells′ : List ℤ) : Type 0 where
   pub move : Move
-  pub did : Did done words move words′
-  pub so : moved ≡ movedBy here move
+  pub did : Did done cells move cells′
+  pub is : moved ≡ movedBy here move
 
 unfoldable pub onlyHops : List ℕ → Registers → ℕ
 onlyHops code here =
@@ -94,20 +94,20 @@ pub some-hops : (code : List ℕ) (here : Registers) → (operationIn (getD code
 unfolding onlyHops
 some-hops code here d = rw (onlyHops, ne-eqb (operationIn (getD code (here .at) 0)) 6 d)
 
-formal-target : (words : List ℤ) (first v : ℕ) → direct v ≡ false → targetBy words first v ≡ leadIn (heldBy words first v)
+formal-target : (cells : List ℤ) (first v : ℕ) → direct v ≡ false → targetBy cells first v ≡ leadIn (heldBy cells first v)
 unfolding targetBy
-formal-target words first v e = rw (targetBy, e)
+formal-target cells first v e = rw (targetBy, e)
 
-module _ {code : List ℕ} {words : List ℤ} {records : List Activation} {limit : ℕ} {here : Registers} (s : Stating code words records limit here) where
-  abbrev w : Running code limit (s .group) words records (s .table) here
+module _ {code : List ℕ} {cells : List ℤ} {records : List Activation} {activations : ℕ} {here : Registers} (s : Stating code cells records activations here) where
+  abbrev w : Running code activations (s .limit) cells records (s .table) here
   w = s .running
 
-  abbrev st : Standing code (limitsBy limit (s .group)) words (blocksIn records) (nextsIn records) (linksIn records) (s .table) (here .pairs) (here .live)
+  abbrev st : Standing code (limitsBy activations (s .limit)) cells (blocksIn records) (nextsIn records) (linksIn records) (s .table) (here .pairs) (here .live)
       (here .at) (here .end)
   st = w .standing
 
   abbrev word : ℕ → ℕ
-  word i = wordBehind code (here .at) i
+  word i = wordAfter code (here .at) i
 
   abbrev pub op : Op
   op = opOf (getD code (here .at) 0)
@@ -151,23 +151,23 @@ module _ {code : List ℕ} {words : List ℤ} {records : List Activation} {limit
   named : (i : ℕ) → here .at + i < 4096 → fields.FieldName st i → Named code records here i
   named i h f = record { there = h; seen = found.seen w i f }
 
-  reachable : (i first : ℕ) → first ≡ firstOf (word i) → fields.FieldName st i → Reachable words first (word i)
+  reachable : (i first : ℕ) → first ≡ firstOf (word i) → fields.FieldName st i → Reachable cells first (word i)
   reachable i first e f =
-      subst (λ h. Reachable words h (word i)) (sym e)
-      (subst (λ v. Reachable words (firstOf v) v) (sym (f .word)) (links.reachable w (f .name) (f .resolved)))
+      subst (λ h. Reachable cells h (word i)) (sym e)
+      (subst (λ v. Reachable cells (firstOf v) v) (sym (f .word)) (links.reachable w (f .name) (f .resolved)))
 
-  directly : (i first : ℕ) → first ≡ firstOf (word i) → fields.Direct st i → Direct words first (word i)
+  directly : (i first : ℕ) → first ≡ firstOf (word i) → fields.Direct st i → Direct cells first (word i)
   directly i first e f = record { reachable = reachable i first e (f .0); is = f .1 }
 
-  formally : (i first : ℕ) → first ≡ firstOf (word i) → fields.ThroughFormal st i → ThroughFormal words first (word i)
+  formally : (i first : ℕ) → first ≡ firstOf (word i) → fields.ThroughFormal st i → ThroughFormal cells first (word i)
   formally i first e f = record { reachable = reachable i first e (f .0); is = f .1 }
 
   formals-before : (first : ℕ) → first ≡ firstOf (word 1) → fields.ThroughFormal st 1 → fields.BodyStands st
-      → FormalsBefore code (leadIn (heldBy words first (word 1)))
+      → FormalsBefore code (leadIn (heldBy cells first (word 1)))
   formals-before first e f b =
-      let h = b (byChain words records (here .live) (here .level)) (links.finds-by-chain w) in
-      subst (λ k. FormalsBefore code (leadIn (heldBy words k (word 1)))) (sym e)
-      (subst (FormalsBefore code) (formal-target words (firstCell records (here .live) (here .level) (word 1)) (word 1) (f .1))
+      let h = b (byChain cells records (here .live) (here .level)) (links.finds-by-chain w) in
+      subst (λ k. FormalsBefore code (leadIn (heldBy cells k (word 1)))) (sym e)
+      (subst (FormalsBefore code) (formal-target cells (firstCell records (here .live) (here .level) (word 1)) (word 1) (f .1))
       (record { there = h .0; before = h .1 }))
 
   -- What its function may rely on, whatever its class is told of the limit and of the innermost activation
@@ -176,7 +176,7 @@ module _ {code : List ℕ} {words : List ℤ} {records : List Activation} {limit
     calling : fields.Arguments st → Calling code limit′ live′ (here .at)
     calling a = record { limit-high = low; live-few = few; few = a .many; there = a .there }
 
-    ready-by : (o : Op) → fields.Fields st o → Led first second third o → Ready code words limit′ live′ (here .at) first second third o
+    ready-by : (o : Op) → fields.Fields st o → Led first second third o → Ready code cells limit′ live′ (here .at) first second third o
     ready-by constant-op f l = (f .0, directly 1 first l (f .1))
     ready-by add-op f l = (f .0, directly 1 first (l .0) (f .1), directly 3 second (l .1) (f .2), directly 4 third (l .2) (f .3))
     ready-by subtract-op f l = (f .0, directly 1 first (l .0) (f .1), directly 3 second (l .1) (f .2), directly 4 third (l .2) (f .3))
@@ -194,11 +194,11 @@ module _ {code : List ℕ} {words : List ℤ} {records : List Activation} {limit
     ready-by goto-formal-op f l = (f .0, formally 1 first l (f .1))
     ready-by call-formal-op f l = (calling (f .0), formally 1 first l (f .1), formals-before first l (f .1) (f .2))
 
-    pub ready : Led first second third op → Ready code words limit′ live′ (here .at) first second third op
+    pub ready : Led first second third op → Ready code cells limit′ live′ (here .at) first second third op
     ready l = ready-by op stand l
 
-  pub limit-high : limit ≤ 256
-  limit-high = st .sound .limit
+  pub limit-high : activations ≤ 256
+  limit-high = st .sound .few
 
   pub live-low : here .live ≤ 255
   live-low = omega (arith, live-few st)
@@ -267,23 +267,23 @@ module _ {code : List ℕ} {words : List ℤ} {records : List Activation} {limit
   -- AR and QY
 
   abbrev way : Finding
-  way = byChain words records (here .live) (here .level)
+  way = byChain cells records (here .live) (here .level)
 
   abbrev scene : Scene
-  scene = sceneBy code words limit (here .live) (here .at)
+  scene = sceneBy code cells activations (here .live) (here .at)
 
   -- three names in these fields, of which `Asks` is asked, and what is done by what is `Said`
   pub record Does-as (j k : ℕ) (Asks : ℕ → ℕ → ℕ → Type 0) (Said : Move → List ℤ → Type 0) : Type 0 where
     pub named : N 1 × N j × N k
     pub asks : (first second third : ℕ) → At first 1 → At second j → At third k → Asks first second third
-    pub did : {r : Move} {words′ : List ℤ} → Said r words′ → Did (acting way scene) words r words′
+    pub did : {r : Move} {cells′ : List ℤ} → Said r cells′ → Did (acting way scene) cells r cells′
 
   abbrev Summed : Operation → Move → List ℤ → Type 0
-  Summed f r words′ = (r ≡ doArithmetic way (only-words code words (here .at)) f .move)
-      × (words′ ≡ doArithmetic way (only-words code words (here .at)) f .words)
+  Summed f r cells′ = (r ≡ doArithmetic way (only-words code cells (here .at)) f .move)
+      × (cells′ ≡ doArithmetic way (only-words code cells (here .at)) f .cells)
 
   abbrev Own : ℕ → ℕ → ℕ → Type 0
-  Own first second third = (here .at + 5 ≤ 4096) × Direct words first (word 1) × Direct words second (word 3) × Direct words third (word 4)
+  Own first second third = (here .at + 5 ≤ 4096) × Direct cells first (word 1) × Direct cells second (word 3) × Direct cells third (word 4)
 
   abbrev pub Sum : Operation → Type 0
   Sum f = Does-as 3 4 Own (Summed f)
@@ -297,8 +297,8 @@ module _ {code : List ℕ} {words : List ℤ} {records : List Activation} {limit
           named 4 (omega (arith, fs .0)) (fs .3 .0),
         );
         asks = λ a b c p q r. (fs .0, directly 1 a p (fs .1), directly 3 b q (fs .2), directly 4 c r (fs .3));
-        did = λ {r} {words′} d.
-            moves.did way scene p is (subst (λ (x : Happened). Did x words r words′) e (moves.arithmetic-did way scene f d));
+        did = λ {r} {cells′} d.
+            moves.did way scene p is (subst (λ (x : Happened). Did x cells r cells′) e (moves.arithmetic-did way scene f d));
       }
 
   pub adds : classOf op ≡ addClass → Sum plus
@@ -318,7 +318,7 @@ module _ {code : List ℕ} {words : List ℤ} {records : List Activation} {limit
       sum compare-op less is (subst (fields.Fields st) is stand) refl
 
   abbrev Final : (j k l : ℕ) → ℕ → ℕ → ℕ → Type 0
-  Final j k l first second third = (here .at + l ≤ 4096) × Reachable words first (word 1) × Reachable words second (word j) × Reachable words third (word k)
+  Final j k l first second third = (here .at + l ≤ 4096) × Reachable cells first (word 1) × Reachable cells second (word j) × Reachable cells third (word k)
 
   abbrev pub Formal : Type 0
   Formal = Does-as 3 4 (Final 3 4 5) (Summed (operationOf (word 2)))
@@ -335,7 +335,7 @@ module _ {code : List ℕ} {words : List ℤ} {records : List Activation} {limit
       }
 
   abbrev pub Query : Type 0
-  Query = Does-as 2 3 (Final 2 3 4) (λ r words′. (r ≡ doQuery way (only-words code words (here .at)) .move) × (words′ ≡ words))
+  Query = Does-as 2 3 (Final 2 3 4) (λ r cells′. (r ≡ doQuery way (only-words code cells (here .at)) .move) × (cells′ ≡ cells))
 
   pub queries : classOf op ≡ queryClass → Query
   unfolding operations happens
@@ -345,16 +345,16 @@ module _ {code : List ℕ} {words : List ℤ} {records : List Activation} {limit
       record {
         named = (named 1 (omega (arith, fs .0)) (fs .1), named 2 (omega (arith, fs .0)) (fs .2), named 3 (omega (arith, fs .0)) (fs .3));
         asks = λ a b c p q r. (fs .0, reachable 1 a p (fs .1), reachable 2 b q (fs .2), reachable 3 c r (fs .3));
-        did = λ {r} {words′} d. subst (λ (v : List ℤ). Did (acting way scene) words r v) (sym (d .1)) (moves.did way scene query-op is (moves.query-did way scene (d .0)));
+        did = λ {r} {cells′} d. subst (λ (v : List ℤ). Did (acting way scene) cells r v) (sym (d .1)) (moves.did way scene query-op is (moves.query-did way scene (d .0)));
       }
 
   -- KN of no formal
 
   pub record Stores : Type 0 where
     pub named : N 1
-    pub asks : (first : ℕ) → At first 1 → (here .at + 4 ≤ 4096) × Direct words first (word 1)
-    pub did : {r : Move} {words′ : List ℤ} → (r ≡ doConstant way (only-words code words (here .at)) .move)
-        × (words′ ≡ doConstant way (only-words code words (here .at)) .words) → Did (acting way scene) words r words′
+    pub asks : (first : ℕ) → At first 1 → (here .at + 4 ≤ 4096) × Direct cells first (word 1)
+    pub did : {r : Move} {cells′ : List ℤ} → (r ≡ doConstant way (only-words code cells (here .at)) .move)
+        × (cells′ ≡ doConstant way (only-words code cells (here .at)) .cells) → Did (acting way scene) cells r cells′
 
   pub stores : classOf op ≡ constantClass → Stores
   unfolding operations happens

@@ -30,7 +30,7 @@ use Rattle.chain_records.specs.declared.Activation.{Activation}
 use Rattle.run_state.specs.declared.Registers.{Registers}
 use Rattle.chain_links.specs.Records.{blocksIn, nextsIn, linksIn}
 use Rattle.chain_links.specs.Finding.{byChain, Handing, argumentsEnd, handedOn}
-use Rattle.run_state.specs.Scenes.{limitsBy}
+use Rattle.run_state.specs.Limits.{limitsBy}
 use Rattle.chain_links.specs.Running.{Running}
 use Rattle.chain_step.specs.Moves.{isEntry}
 use Rattle.chain_step.specs.Fields.{seen, reached}
@@ -91,42 +91,42 @@ module _ (F : Finding) (s : Scene) where
 
   -- a call that enters hands its arguments on
   abbrev handed : List ℤ
-  handed = setAll (s .words) (32 * s .live + 32) (argumentsFrom F s (s .at + 3) (field s 2))
+  handed = setAll (s .cells) (32 * s .live + 32) (argumentsFrom F s (s .at + 3) (field s 2))
 
-  call-hands : Entry (doCall F s) → doCall F s .words ≡ handed
+  call-hands : Entry (doCall F s) → doCall F s .cells ≡ handed
   unfolding doCall noRoom moves rewrites isEntry
-  call-hands z = split (leb (s .limit) (s .live + 1))
+  call-hands z = split (leb (s .activations) (s .live + 1))
       (λ e. let q : doCall F s ≡ moves s (Stop NoActivationLeft) = rw (doCall, e) in absurd (false≢true (subst Entry q z)))
       (λ e. rw (doCall, e))
 
-  formal-hands : Entry (doCallFormal F s) → doCallFormal F s .words ≡ handed
+  formal-hands : Entry (doCallFormal F s) → doCallFormal F s .cells ≡ handed
   unfolding doCallFormal moves isEntry
   formal-hands z = split (argumentsAgree F s (F .target (field s 1)))
-      (λ e. let q : doCallFormal F s ≡ doCall F s = rw (doCallFormal, e) in ap (λ (h : Happened). h .words) q ∙ call-hands (subst Entry q z))
+      (λ e. let q : doCallFormal F s ≡ doCall F s = rw (doCallFormal, e) in ap (λ (h : Happened). h .cells) q ∙ call-hands (subst Entry q z))
       (λ e. let q : doCallFormal F s ≡ moves s (Stop ArgumentsDiffer) = rw (doCallFormal, e) in absurd (false≢true (subst Entry q z)))
 
-module _ {code : List ℕ} {limit group : ℕ} {words : List ℤ} {records : List Activation} {table : List ℤ} {here : Registers}
-    (w : Running code limit group words records table here) where
-  abbrev st : Standing code (limitsBy limit group) words (blocksIn records) (nextsIn records) (linksIn records) table (here .pairs) (here .live)
+module _ {code : List ℕ} {activations limit : ℕ} {cells : List ℤ} {records : List Activation} {table : List ℤ} {here : Registers}
+    (w : Running code activations limit cells records table here) where
+  abbrev st : Standing code (limitsBy activations limit) cells (blocksIn records) (nextsIn records) (linksIn records) table (here .pairs) (here .live)
       (here .at) (here .end)
   st = w .standing
 
   abbrev way : Finding
-  way = byChain words records (here .live) (here .level)
+  way = byChain cells records (here .live) (here .level)
 
   abbrev scene : Scene
-  scene = sceneBy code words limit (here .live) (here .at)
+  scene = sceneBy code cells activations (here .live) (here .at)
 
   -- The words
 
   handed-to : (n : ℕ) → argumentsEnd code (here .at) ≡ 3 + n
-      → setAll words (32 * here .live + 32) (argumentsFrom way scene (here .at + 3) n) ≡ handedOn code words records here
+      → setAll cells (32 * here .live + 32) (argumentsFrom way scene (here .at + 3) n) ≡ handedOn code cells records here
   handed-to n e =
       let m : n ≡ argumentsEnd code (here .at) - 3 = omega (arith, e) in
-      ap (setAll words (32 * here .live + 32)) (arguments-alike way scene (only-words code words (here .at)) refl (here .at + 3) n
-      ∙ ap (argumentsFrom way (only-words code words (here .at)) (here .at + 3)) m)
+      ap (setAll cells (32 * here .live + 32)) (arguments-alike way scene (only-words code cells (here .at)) refl (here .at + 3) n
+      ∙ ap (argumentsFrom way (only-words code cells (here .at)) (here .at + 3)) m)
 
-  block-hands : argumentsEnd code (here .at) ≡ 3 → words ≡ handedOn code words records here
+  block-hands : argumentsEnd code (here .at) ≡ 3 → cells ≡ handedOn code cells records here
   unfolding setAll argumentsFrom
   block-hands e = let z : argumentsEnd code (here .at) ≡ 3 + 0 = omega (arith, e) in handed-to 0 z
 
@@ -158,13 +158,13 @@ module _ {code : List ℕ} {limit group : ℕ} {words : List ℤ} {records : Lis
       }
 
   abbrev Hands : Op → Type 0
-  Hands o = (happens way scene o .words ≡ handedOn code words records here) × Handing code records here (argumentsEnd code (here .at))
+  Hands o = (happens way scene o .cells ≡ handedOn code cells records here) × Handing code records here (argumentsEnd code (here .at))
 
   hands-block : opOf (getD code (here .at) 0) ≡ block-op → here .at + 3 ≤ 4096 → here .live ≤ 254 → Hands block-op
   unfolding happens numberOf
   hands-block e h few =
       let z = ends-block code (here .at) (number-of (getD code (here .at) 0) block-op e) in (
-        sym (block-same way scene (blockMove code limit (here .live) (here .at)) refl .1) ∙ block-hands z,
+        sym (block-same way scene (blockMove code activations (here .live) (here .at)) refl .1) ∙ block-hands z,
         subst (Handing code records here) (sym z) (no-arguments h few),
       )
 
@@ -196,7 +196,7 @@ module _ {code : List ℕ} {limit group : ℕ} {words : List ℤ} {records : Lis
 
   -- the next statement
   pub enters-handing : (here .at ≡ here .end → ⊥) → here .live ≤ 254 → isEntry (acting way scene .move) ≡ true
-      → (acting way scene .words ≡ handedOn code words records here) × Handing code records here (argumentsEnd code (here .at))
+      → (acting way scene .cells ≡ handedOn code cells records here) × Handing code records here (argumentsEnd code (here .at))
   unfolding acting
   enters-handing before few =
       let z : here .at ≡ here .at + 0 = omega arith in

@@ -110,49 +110,49 @@ if-resumed here home p false z = (refl, refl)
 
 -- All moves
 
-pub done-so : (here : Registers) (m : Move) → isDone (movedBy here m) ≡ staysIn here m
+pub done-is : (here : Registers) (m : Move) → isDone (movedBy here m) ≡ staysIn here m
 unfolding staysIn
-done-so here (On p) = refl
-done-so here (Asks p g m t a) = refl
-done-so here (Jump home p) = if-done here home p (eqb home (here .live))
-done-so here (Enter b l k) = refl
-done-so here (Stop c) = refl
+done-is here (On p) = refl
+done-is here (Asks p g m t a) = refl
+done-is here (Jump home p) = if-done here home p (eqb home (here .live))
+done-is here (Enter b l k) = refl
+done-is here (Stop c) = refl
 
-pub turn-so : (here : Registers) (m : Move) → staysIn here m ≡ true → turnOf (movedBy here m) ≡ stayedBy here m
+pub turn-is : (here : Registers) (m : Move) → staysIn here m ≡ true → turnOf (movedBy here m) ≡ stayedBy here m
 unfolding staysIn stayedBy
-turn-so here (On p) z = refl
-turn-so here (Asks p g m t a) z = absurd (false≢true z)
-turn-so here (Jump home p) z = if-turn here home p (eqb home (here .live)) z
-turn-so here (Enter b l k) z = absurd (false≢true z)
-turn-so here (Stop c) z = refl
+turn-is here (On p) z = refl
+turn-is here (Asks p g m t a) z = absurd (false≢true z)
+turn-is here (Jump home p) z = if-turn here home p (eqb home (here .live)) z
+turn-is here (Enter b l k) z = absurd (false≢true z)
+turn-is here (Stop c) z = refl
 
-pub entry-so : (here : Registers) (m : Move) → (isEnter (movedBy here m) ≡ isEntry m) × (entryIn (movedBy here m) ≡ entryOf m)
+pub entry-is : (here : Registers) (m : Move) → (isEnter (movedBy here m) ≡ isEntry m) × (entryIn (movedBy here m) ≡ entryOf m)
 unfolding isEntry entryOf
-entry-so here (On p) = (refl, refl)
-entry-so here (Asks p g m t a) = (refl, refl)
-entry-so here (Jump home p) = if-no-entry here home p (eqb home (here .live))
-entry-so here (Enter b l k) = (refl, refl)
-entry-so here (Stop c) = (refl, refl)
+entry-is here (On p) = (refl, refl)
+entry-is here (Asks p g m t a) = (refl, refl)
+entry-is here (Jump home p) = if-no-entry here home p (eqb home (here .live))
+entry-is here (Enter b l k) = (refl, refl)
+entry-is here (Stop c) = (refl, refl)
 
-pub resumed-so : (here : Registers) (m : Move) → staysIn here m ≡ false → (homeIn (movedBy here m) ≡ homeAt m) × (placeIn (movedBy here m) ≡ placeAt m)
+pub resumed-is : (here : Registers) (m : Move) → staysIn here m ≡ false → (homeIn (movedBy here m) ≡ homeAt m) × (placeIn (movedBy here m) ≡ placeAt m)
 unfolding staysIn homeAt placeAt
-resumed-so here (On p) z = absurd (true≢false z)
-resumed-so here (Asks p g m t a) z = (refl, refl)
-resumed-so here (Jump home p) z = if-resumed here home p (eqb home (here .live)) z
-resumed-so here (Enter b l k) z = (refl, refl)
-resumed-so here (Stop c) z = absurd (true≢false z)
+resumed-is here (On p) z = absurd (true≢false z)
+resumed-is here (Asks p g m t a) z = (refl, refl)
+resumed-is here (Jump home p) z = if-resumed here home p (eqb home (here .live)) z
+resumed-is here (Enter b l k) z = (refl, refl)
+resumed-is here (Stop c) z = absurd (true≢false z)
 
 if-no-ask : (here : Registers) (home p : ℕ) (b : Bool) → isAsk (jumpedIf here home p b) ≡ false
 if-no-ask here home p true = refl
 if-no-ask here home p false = refl
 
-pub ask-so : (here : Registers) (m : Move) → isAsk (movedBy here m) ≡ isAsked m
+pub ask-is : (here : Registers) (m : Move) → isAsk (movedBy here m) ≡ isAsked m
 unfolding isAsked
-ask-so here (On p) = refl
-ask-so here (Asks p g m t a) = refl
-ask-so here (Jump home p) = if-no-ask here home p (eqb home (here .live))
-ask-so here (Enter b l k) = refl
-ask-so here (Stop c) = refl
+ask-is here (On p) = refl
+ask-is here (Asks p g m t a) = refl
+ask-is here (Jump home p) = if-no-ask here home p (eqb home (here .live))
+ask-is here (Enter b l k) = refl
+ask-is here (Stop c) = refl
 
 -- What is asked
 
@@ -161,19 +161,19 @@ not-asked y q z e = true≢false (sym (ap isAsk e) ∙ ap isAsk q ∙ z)
 
 -- what the table answers
 abbrev pub answerTo : ℕ → List ℤ → Table → Asking → Answer
-answerTo limit words table k = answer limit words table (k .group) (k .member) (k .target) (k .ask)
+answerTo limit cells table k = answer limit cells table (k .group) (k .member) (k .target) (k .ask)
 
 abbrev pub asksBy : Asking → Move
 asksBy k = Asks (k .place) (k .group) (k .member) (k .target) (k .ask)
 
 -- what the table has answered, and the step comes to
 abbrev pub ToldBy : ℕ → Registers → List ℤ → List ℤ → Turn → List ℤ → List ℤ → Moved → Type 0
-ToldBy limit here words table r words′ table′ (WentTo n) = Unit {0}
-ToldBy limit here words table r words′ table′ (Resume home p) = Unit {0}
-ToldBy limit here words table r words′ table′ (EnterBy e) = Unit {0}
-ToldBy limit here words table r words′ table′ (StoppedFor c) = Unit {0}
-ToldBy limit here words table r words′ table′ (AskBy k) =
-    (c : Change) × (r ≡ turnAfter here (k .place) c) × Answered (answerTo limit words (record { words = table; used = here .pairs }) k) table c words′ table′
+ToldBy limit here cells table r cells′ table′ (WentTo n) = Unit {0}
+ToldBy limit here cells table r cells′ table′ (Resume home p) = Unit {0}
+ToldBy limit here cells table r cells′ table′ (EnterBy e) = Unit {0}
+ToldBy limit here cells table r cells′ table′ (StoppedFor c) = Unit {0}
+ToldBy limit here cells table r cells′ table′ (AskBy k) =
+    (c : Change) × (r ≡ turnAfter here (k .place) c) × Answered (answerTo limit cells (record { words = table; used = here .pairs }) k) table c cells′ table′
 
 if-not-asked : (here : Registers) (home q : ℕ) (b : Bool) {k : Asking} → jumpedIf here home q b ≡ AskBy k → ⊥
 if-not-asked here home q true e = not-asked _ refl refl e

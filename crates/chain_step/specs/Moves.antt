@@ -5,7 +5,7 @@ use lib.Dec.{eqb}
 use Rattle.run_moves.specs.declared.Move.{Move}
 use Rattle.run_moves.specs.declared.Move.the-variants.{On, Table as Asks, Jump, Enter, Stop}
 use Rattle.run_state.specs.declared.Registers.{Registers}
-use Rattle.run_state.specs.Scenes.{goesTo}
+use Rattle.run_state.specs.Limits.{goesTo}
 use Rattle.chain_links.specs.declared.Entry.{Entry}
 use Rattle.run_state.specs.declared.Turn.{Turn}
 use Rattle.run_state.specs.declared.Turn.the-variants.{Went, Finished, Stopped}

@@ -5,7 +5,7 @@ use mathlib.Core.Path.{_≡_}
 use lib.IntN.{ℤ}
 use Rattle.chain_records.specs.declared.Activation.{Activation}
 use Rattle.run_state.specs.declared.Registers.{Registers}
-use Rattle.run_state.specs.Scenes.{limitsBy}
+use Rattle.run_state.specs.Limits.{limitsBy}
 use Rattle.run_state.specs.Turns.{Leaves, Stops}
 use Rattle.chain_links.specs.Running.{Running, Succeeds}
 use Rattle.run_state.specs.declared.Turn.{Turn}
@@ -13,26 +13,26 @@ use Rattle.run_state.specs.declared.Turn.the-variants.{Went, Finished, Stopped}
 
 -- what a step may write
 pub record Lists : Type 0 where
-  pub words : List ℤ
+  pub cells : List ℤ
   pub records : List Activation
   pub table : List ℤ
 
 abbrev pub listsOf : List ℤ → List Activation → List ℤ → Lists
-listsOf words records table = record { words = words; records = records; table = table }
+listsOf cells records table = record { cells = cells; records = records; table = table }
 
-module _ {code : List ℕ} {limit group : ℕ} {words : List ℤ} {records : List Activation} {table : List ℤ} {here : Registers}
-    (w : Running code limit group words records table here) where
+module _ {code : List ℕ} {activations limit : ℕ} {cells : List ℤ} {records : List Activation} {table : List ℤ} {here : Registers}
+    (w : Running code activations limit cells records table here) where
   abbrev pub Turned : Turn → List ℤ → List Activation → List ℤ → Type 0
-  Turned (Went here′) words′ records′ table′ = Succeeds w words′ records′ table′ here′
-  Turned Finished words′ records′ table′ = Leaves here words table words′ table′
-  Turned (Stopped c) words′ records′ table′ =
-      Stops (limitsBy limit group) (w .standing .stack) c (listsOf words records table) (listsOf words′ records′ table′)
+  Turned (Went here′) cells′ records′ table′ = Succeeds w cells′ records′ table′ here′
+  Turned Finished cells′ records′ table′ = Leaves here cells table cells′ table′
+  Turned (Stopped c) cells′ records′ table′ =
+      Stops (limitsBy activations limit) (w .standing .stack) c (listsOf cells records table) (listsOf cells′ records′ table′)
 
 -- what leaving asks: the innermost activation is at the end of its text
 pub record LeaveReady (code : List ℕ) (records : List Activation) (here : Registers) : Type 0 where
+  pub activations : ℕ
   pub limit : ℕ
-  pub group : ℕ
-  pub words : List ℤ
+  pub cells : List ℤ
   pub table : List ℤ
-  pub running : Running code limit group words records table here
+  pub running : Running code activations limit cells records table here
   pub ended : here .at ≡ here .end

@@ -1,4 +1,4 @@
-// The next statement is done as far as words go. Its names are found by following links from the innermost activation, as many of them as
+// The next statement is done as far as cells go. Its names are found by following links from the innermost activation, as many of them as
 // it has.
 use super::summed::summed;
 use super::tabled::tabled;
@@ -42,34 +42,34 @@ fn only_hops(code: &[u32; 4096], here: Registers) -> usize
 
 pub fn acted(
     code: &[u32; 4096],
-    words: &mut [i32; 8224],
+    cells: &mut [i32; 8224],
     records: &[Activation],
-    limit: usize,
+    activations: usize,
     here: Registers,
 ) -> Moved
-    requires { ⌜ Stating (now code) (now words) (now records) limit here ⌝ }
-    ensures { λ r. ⌜ Does (happening (now (code .entry)) (now (words .entry)) (now (records .entry)) limit here) (now (words .entry)) here r (now (words .exit)) ⌝ }
+    requires { ⌜ Stating (now code) (now cells) (now records) activations here ⌝ }
+    ensures { λ r. ⌜ Does (happening (now (code .entry)) (now (cells .entry)) (now (records .entry)) activations here) (now (cells .entry)) here r (now (cells .exit)) ⌝ }
 {
     let class = class_of(code, here.at);
     let own = SHARE * here.live;
     if class == CLASS_ONE {
         let first = SHARE * follow(records, here.live, only_hops(code, here));
-        let done = act_one(code, words, limit, here.live, here.at, first);
+        let done = act_one(code, cells, activations, here.live, here.at, first);
         return came_to(here, done);
     }
     if class == CLASS_BRANCH {
         let first = first_cell(code, records, here, own, 1);
         let second = first_cell(code, records, here, own, 2);
-        let done = act_branch(code, words, here.at, first, second);
+        let done = act_branch(code, cells, here.at, first, second);
         return came_to(here, done);
     }
     if class == CLASS_CONSTANT {
         let first = first_cell(code, records, here, own, 1);
-        let done = do_constant(code, words, here.at, first);
+        let done = do_constant(code, cells, here.at, first);
         return came_to(here, done);
     }
     if CLASS_BRANCH < class {
-        return tabled(code, words, records, here, own, class);
+        return tabled(code, cells, records, here, own, class);
     }
-    summed(code, words, records, here, own, class)
+    summed(code, cells, records, here, own, class)
 }

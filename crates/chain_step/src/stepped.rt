@@ -24,7 +24,7 @@ ghost use Rattle.chain_step.specs.Turning.{Turned, LeaveReady};
 // At the end of its text the innermost activation is left.
 fn leave(code: &[u32; 4096], records: &[Activation], here: Registers) -> Turn
     requires { ⌜ LeaveReady (now code) (now records) here ⌝ }
-    ensures { λ r. ⌜ ((v : LeaveReady (now (code .entry)) (now (records .entry)) here) → Turned (v .running) r (v .words) (now (records .entry)) (v .table)) ⌝ }
+    ensures { λ r. ⌜ ((v : LeaveReady (now (code .entry)) (now (records .entry)) here) → Turned (v .running) r (v .cells) (now (records .entry)) (v .table)) ⌝ }
 {
     if here.live == 0 {
         return finished();
@@ -35,30 +35,30 @@ fn leave(code: &[u32; 4096], records: &[Activation], here: Registers) -> Turn
 
 pub fn step(
     code: &[u32; 4096],
-    words: &mut [i32; 8224],
+    cells: &mut [i32; 8224],
     records: &mut [Activation],
     table: &mut [i32],
-    group: u32,
-    limit: usize,
+    limit: u32,
+    activations: usize,
     here: Registers,
 ) -> Turn
-    requires { ⌜ Running (now code) limit group (now words) (now records) (now table) here ⌝ }
+    requires { ⌜ Running (now code) activations limit (now cells) (now records) (now table) here ⌝ }
     ensures { λ r.
-        ⌜ ((w : Running (now (code .entry)) limit group (now (words .entry)) (now (records .entry)) (now (table .entry)) here)
-        → Turned w r (now (words .exit)) (now (records .exit)) (now (table .exit))) ⌝ }
+        ⌜ ((w : Running (now (code .entry)) activations limit (now (cells .entry)) (now (records .entry)) (now (table .entry)) here)
+        → Turned w r (now (cells .exit)) (now (records .exit)) (now (table .exit))) ⌝ }
 {
     if here.at == here.end {
         return leave(code, records, here);
     }
-    let done = acted(code, words, records, limit, here);
+    let done = acted(code, cells, records, activations, here);
     if is_done(done) {
         return turn_of(done);
     }
     if asks(done) {
-        return answered(table, words, group, here, done);
+        return answered(table, cells, limit, here, done);
     }
     if enters(done) {
-        return went(enter(code, words, records, here, entry_of(done)));
+        return went(enter(code, cells, records, here, entry_of(done)));
     }
     let activation = read(records, home_of(done));
     resumed(code, here, done, activation)

@@ -136,7 +136,7 @@ pub fn asks(moved: Moved) -> bool
 // What the table answers.
 fn asked(
     table: &mut [i32],
-    words: &mut [i32; 8224],
+    cells: &mut [i32; 8224],
     pairs: usize,
     limit: u32,
     group: usize,
@@ -145,33 +145,33 @@ fn asked(
     ask: Ask,
 ) -> Change
     requires { ⌜ (group < 8192) × ((member < 8192) × (target < 8192)) ⌝ }
-    ensures { λ r. ⌜ r ≡ changeOf (answer limit (now (words .entry)) (tableOf (now (table .entry)) pairs) group member target ask .effect) ⌝ }
-    ensures { λ _. ⌜ now (words .exit) ≡ answer limit (now (words .entry)) (tableOf (now (table .entry)) pairs) group member target ask .words ⌝ }
-    ensures { λ _. ⌜ now (table .exit) ≡ wordsAfter (now (table .entry)) (answer limit (now (words .entry)) (tableOf (now (table .entry)) pairs) group member target ask .effect) ⌝ }
+    ensures { λ r. ⌜ r ≡ changeOf (answer limit (now (cells .entry)) (tableOf (now (table .entry)) pairs) group member target ask .effect) ⌝ }
+    ensures { λ _. ⌜ now (cells .exit) ≡ answer limit (now (cells .entry)) (tableOf (now (table .entry)) pairs) group member target ask .cells ⌝ }
+    ensures { λ _. ⌜ now (table .exit) ≡ wordsAfter (now (table .entry)) (answer limit (now (cells .entry)) (tableOf (now (table .entry)) pairs) group member target ask .effect) ⌝ }
 {
     match ask {
-        Ask::Add => run_statements::add(table, words, pairs, limit, group, member),
+        Ask::Add => run_statements::add(table, cells, pairs, limit, group, member),
         Ask::Remove => {
             // Not `run_statements::remove`, which is a call: with one more of them in the step the others take longer.
-            let of = words[group];
-            let who = words[member];
+            let of = cells[group];
+            let who = cells[member];
             table_pairs::remove_pair(table, pairs, of, who)
         }
-        Ask::Query => run_statements::query(table, words, pairs, group, member, target),
+        Ask::Query => run_statements::query(table, cells, pairs, group, member, target),
     }
 }
 
 pub fn answered(
     table: &mut [i32],
-    words: &mut [i32; 8224],
+    cells: &mut [i32; 8224],
     limit: u32,
     here: Registers,
     moved: Moved,
 ) -> Turn
     requires { ⌜ ((k : Asked) → moved ≡ Moved.Table k → (k .group < 8192) × ((k .member < 8192) × (k .target < 8192))) ⌝ }
     ensures { λ r. ⌜ ((k : Asked) → moved ≡ Moved.Table k
-        → (c : Changed) × (r ≡ turnAfter here (k .place) c) × Answered (answerTo limit (now (words .entry)) (tableOf (now (table .entry)) (here .pairs)) k)
-        (now (table .entry)) c (now (words .exit)) (now (table .exit))) ⌝ }
+        → (c : Changed) × (r ≡ turnAfter here (k .place) c) × Answered (answerTo limit (now (cells .entry)) (tableOf (now (table .entry)) (here .pairs)) k)
+        (now (table .entry)) c (now (cells .exit)) (now (table .exit))) ⌝ }
 {
     match moved {
         Moved::Went(next) => Turn::Went(next),
@@ -189,7 +189,7 @@ pub fn answered(
             after(
                 here,
                 place,
-                asked(table, words, here.pairs, limit, group, member, target, ask),
+                asked(table, cells, here.pairs, limit, group, member, target, ask),
             )
         }
     }

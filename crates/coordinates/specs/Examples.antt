@@ -12,7 +12,7 @@ use Rattle.coordinates.specs.Enclosure.{Coordinate, namesOf, coordinateO
 use Rattle.coordinates.specs.Chain.{enclosing, along, chainOf, enclosureOf, climb, displayFrom, displayOf}
 
 framesAfter : ℕ → Checked → List Frame
-framesAfter n (accepted t) = (frameRun (record { activations = 16; group = 3 }) n (frameStart t (record { words = noPairs 8; used = 0 }))) .final .frames
+framesAfter n (accepted t) = (frameRun (record { activations = 16; limit = 3 }) n (frameStart t (record { words = noPairs 8; used = 0 }))) .final .frames
 framesAfter n (refused c o) = []
 
 pub record Seen : Type 0 where

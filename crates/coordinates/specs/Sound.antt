@@ -30,11 +30,11 @@ use Rattle.coordinates.specs.Wiring.{step-wired, step-linked, start-wire
 -- D is at most 256; the frames keep the bounds; they are linked as the text says; every formal's word designates an instance of its kind;
 -- and the table is right for G.
 pub record Sound (l : Limits) (t : Block) (s : Stack) : Type 0 where
-  pub limit : l .activations ≤ 256
+  pub few : l .activations ≤ 256
   pub bounded : Bounded l s
   pub chained : Chained t (s .frames)
   pub wired : Wired (s .frames)
-  pub table : right (l .group) (s .table) ≡ true
+  pub table : right (l .limit) (s .table) ≡ true
 
 -- A goto lands on a label
 
@@ -59,15 +59,15 @@ landing t keeps s chain wired pre f at a e q =
 
 -- The start, a step, a run
 
-pub start-sound : (l : Limits) (t : Block) (tab : Table) → 1 ≤ l .activations → l .activations ≤ 256 → right (l .group) tab ≡ true → Keeps t → Sound l t (frameStart t tab)
+pub start-sound : (l : Limits) (t : Block) (tab : Table) → 1 ≤ l .activations → l .activations ≤ 256 → right (l .limit) tab ≡ true → Keeps t → Sound l t (frameStart t tab)
 unfolding frameStart
 start-sound l t tab one most r keeps =
-    record { limit = most; bounded = start-bounded l t tab one keeps; chained = start-chained t tab; wired = start-wired t tab; table = r }
+    record { few = most; bounded = start-bounded l t tab one keeps; chained = start-chained t tab; wired = start-wired t tab; table = r }
 
 -- the steps done count for nothing
 sound-stepped : (l : Limits) (t : Block) (s s′ : Stack) → Sound l t s′ → Sound l t (stepped s s′)
 unfolding stepped
-sound-stepped l t s s′ h = record { limit = h .limit; bounded = bounded-stepped l s s′ (h .bounded); chained = h .chained; wired = h .wired; table = h .table }
+sound-stepped l t s s′ h = record { few = h .few; bounded = bounded-stepped l s s′ (h .bounded); chained = h .chained; wired = h .wired; table = h .table }
 
 pub step-sound : (t : Block) → Keeps t → (l : Limits) (s s′ : Stack) → Sound l t s → frameStep l s ≡ acted s′ → Sound l t (stepped s s′)
 unfolding stepped
@@ -81,11 +81,11 @@ step-sound t keeps l s s′ h e = by-elements (s .frames) none live
     live : 1 ≤ length (s .frames) → Sound l t (stepped s s′)
     live n =
         record {
-          limit = h .limit;
-          bounded = subst (After (λ u. Bounded l (stepped s u))) e (step-bounded l (h .limit) s n (h .bounded) (landing t keeps s (h .chained) (h .wired)));
+          few = h .few;
+          bounded = subst (After (λ u. Bounded l (stepped s u))) e (step-bounded l (h .few) s n (h .bounded) (landing t keeps s (h .chained) (h .wired)));
           chained = step-linked t keeps l s s′ e (h .chained) (h .wired);
           wired = step-wired t keeps l s s′ e (h .chained) (h .wired);
-          table = subst (After (λ u. right (l .group) ((stepped s u) .table) ≡ true)) e (step-right l s n (h .table));
+          table = subst (After (λ u. right (l .limit) ((stepped s u) .table) ≡ true)) e (step-right l s n (h .table));
         }
 
 pub run-sound : (t : Block) → Keeps t → (l : Limits) (n : ℕ) (s : Stack) → Sound l t s → Sound l t ((frameRun l n s) .final)

@@ -55,20 +55,20 @@ pub enters-at :
 enters-at at p k q r = rw (p, k, q, r)
 
 -- 26, then 22
-module _ (refused : Bool) (limit live : ℕ) (enter : Move) (before after : List ℤ) where
-  pub call-refused : refused ≡ true → (Stop ArgumentsDiffer ≡ callMove refused (leb limit (live + 1)) enter)
-      × (before ≡ callWords refused (leb limit (live + 1)) before after)
+module _ (refused : Bool) (activations live : ℕ) (enter : Move) (before after : List ℤ) where
+  pub call-refused : refused ≡ true → (Stop ArgumentsDiffer ≡ callMove refused (leb activations (live + 1)) enter)
+      × (before ≡ callWords refused (leb activations (live + 1)) before after)
   unfolding callMove callWords
   call-refused e = (rw (callMove, e), rw (callWords, e))
 
   pub call-stops :
-      refused ≡ false → limit ≤ live + 1 → (Stop NoActivationLeft ≡ callMove refused (leb limit (live + 1)) enter)
-      × (before ≡ callWords refused (leb limit (live + 1)) before after)
+      refused ≡ false → activations ≤ live + 1 → (Stop NoActivationLeft ≡ callMove refused (leb activations (live + 1)) enter)
+      × (before ≡ callWords refused (leb activations (live + 1)) before after)
   unfolding callMove callWords
-  call-stops e h = let f = le-leb limit (live + 1) h in (rw (callMove, e, f), rw (callWords, e, f))
+  call-stops e h = let f = le-leb activations (live + 1) h in (rw (callMove, e, f), rw (callWords, e, f))
 
   pub call-enters :
-      refused ≡ false → live + 1 < limit → (enter ≡ callMove refused (leb limit (live + 1)) enter)
-      × (after ≡ callWords refused (leb limit (live + 1)) before after)
+      refused ≡ false → live + 1 < activations → (enter ≡ callMove refused (leb activations (live + 1)) enter)
+      × (after ≡ callWords refused (leb activations (live + 1)) before after)
   unfolding callMove callWords
-  call-enters e h = let f = lt-leb limit (live + 1) h in (rw (callMove, e, f), rw (callWords, e, f))
+  call-enters e h = let f = lt-leb activations (live + 1) h in (rw (callMove, e, f), rw (callWords, e, f))

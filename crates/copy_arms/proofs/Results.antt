@@ -34,37 +34,37 @@ less-words : (ws : List ℤ) (c : ℕ) (a b : ℤ) → set ws c (compute less a 
 unfolding wordsOf
 less-words ws c a b = rw (wordsOf, less-small a b (ltZ a b) refl)
 
-module _ (words : List ℤ) (next n : ℕ) where
+module _ (cells : List ℤ) (next n : ℕ) where
   abbrev result : Operation → ℕ → ℕ → ℤ
-  result o a b = compute o (getD words a (pos 0)) (getD words b (pos 0))
+  result o a b = compute o (getD cells a (pos 0)) (getD cells b (pos 0))
 
   module _ {to left right t l r : ℕ} (p : t ≡ to) (q : l ≡ left) (s : r ≡ right) where
     pub computes :
         (o : Operation) → operationOf n ≡ o → {m : Move} {e : Effect} {ws : List ℤ} →
-        m ≡ moveAfter e next → e ≡ effectOf (result o l r) → ws ≡ wordsOf words t (result o l r) →
-        (m ≡ moveAfter (effectOf (result (operationOf n) left right)) next) × (ws ≡ wordsOf words to (result (operationOf n) left right))
+        m ≡ moveAfter e next → e ≡ effectOf (result o l r) → ws ≡ wordsOf cells t (result o l r) →
+        (m ≡ moveAfter (effectOf (result (operationOf n) left right)) next) × (ws ≡ wordsOf cells to (result (operationOf n) left right))
     computes o k m e ws =
         let z : result o l r ≡ result (operationOf n) left right = rw (q, s, k) in
-        (m ∙ ap (λ (e : Effect). moveAfter e next) (e ∙ ap effectOf z), ws ∙ ap₂ (wordsOf words) p z)
+        (m ∙ ap (λ (e : Effect). moveAfter e next) (e ∙ ap effectOf z), ws ∙ ap₂ (wordsOf cells) p z)
 
     pub compares :
-        operationOf n ≡ less → {ws : List ℤ} → ws ≡ set words t (result less l r) →
-        (On next ≡ moveAfter (effectOf (result (operationOf n) left right)) next) × (ws ≡ wordsOf words to (result (operationOf n) left right))
+        operationOf n ≡ less → {ws : List ℤ} → ws ≡ set cells t (result less l r) →
+        (On next ≡ moveAfter (effectOf (result (operationOf n) left right)) next) × (ws ≡ wordsOf cells to (result (operationOf n) left right))
     unfolding moveAfter
     compares k ws =
-        let a = getD words l (pos 0) in
-        let b = getD words r (pos 0) in
-        computes less k refl (less-done a b) (ws ∙ less-words words t a b)
+        let a = getD cells l (pos 0) in
+        let b = getD cells r (pos 0) in
+        computes less k refl (less-done a b) (ws ∙ less-words cells t a b)
 
 -- IF
-module _ (words : List ℤ) (next : ℕ) (jump : Move) {c d : ℕ} (p : c ≡ d) where
-  tested : {t : Bool} → eqZ (getD words c (pos 0)) (pos 0) ≡ t → eqZ (getD words d (pos 0)) (pos 0) ≡ t
-  tested e = sym (ap (λ (k : ℕ). eqZ (getD words k (pos 0)) (pos 0)) p) ∙ e
+module _ (cells : List ℤ) (next : ℕ) (jump : Move) {c d : ℕ} (p : c ≡ d) where
+  tested : {t : Bool} → eqZ (getD cells c (pos 0)) (pos 0) ≡ t → eqZ (getD cells d (pos 0)) (pos 0) ≡ t
+  tested e = sym (ap (λ (k : ℕ). eqZ (getD cells k (pos 0)) (pos 0)) p) ∙ e
 
-  pub stays : eqZ (getD words c (pos 0)) (pos 0) ≡ true → On next ≡ branchMove (getD words d (pos 0)) next jump
+  pub stays : eqZ (getD cells c (pos 0)) (pos 0) ≡ true → On next ≡ branchMove (getD cells d (pos 0)) next jump
   unfolding branchMove
   stays e = rw (branchMove, tested e)
 
-  pub goes : eqZ (getD words c (pos 0)) (pos 0) ≡ false → jump ≡ branchMove (getD words d (pos 0)) next jump
+  pub goes : eqZ (getD cells c (pos 0)) (pos 0) ≡ false → jump ≡ branchMove (getD cells d (pos 0)) next jump
   unfolding branchMove
   goes e = rw (branchMove, tested e)

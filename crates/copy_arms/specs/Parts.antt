@@ -22,7 +22,7 @@ abbrev pub cellAt : List ℕ → List ℕ → List ℕ → ℕ → ℕ → ℕ
 cellAt area firsts starts live place = cellIn firsts starts live (getD area place 0)
 
 abbrev pub variableAt : List ℤ → List ℕ → List ℕ → List ℕ → ℕ → ℕ → ℤ
-variableAt words area firsts starts live place = getD words (cellAt area firsts starts live place) (pos 0)
+variableAt cells area firsts starts live place = getD cells (cellAt area firsts starts live place) (pos 0)
 
 -- a new name stands at the place, and its cell can be found
 pub record NameAt (area firsts starts : List ℕ) (live place : ℕ) : Type 0 where
@@ -31,8 +31,8 @@ pub record NameAt (area firsts starts : List ℕ) (live place : ℕ) : Type 0 wh
 
 -- AR, whose mark stands at the place
 abbrev pub resultAt : List ℤ → List ℕ → List ℕ → List ℕ → ℕ → ℕ → ℤ
-resultAt words area firsts starts live place =
-    compute (operationOf (getD area (place + 2) 0)) (variableAt words area firsts starts live (place + 3)) (variableAt words area firsts starts live (place + 4))
+resultAt cells area firsts starts live place =
+    compute (operationOf (getD area (place + 2) 0)) (variableAt cells area firsts starts live (place + 3)) (variableAt cells area firsts starts live (place + 4))
 
 -- to the label at the place
 abbrev pub jumpAt : List ℕ → List ℕ → List ℕ → List ℕ → ℕ → ℕ → Move
@@ -77,8 +77,8 @@ enterAt area firsts starts targets live at place =
     Enter (getD targets (cellAt area firsts starts live (place + 1)) 0) (activationIn (cellAt area firsts starts live (place + 1))) (at + 3 + getD area (place + 2) 0)
 
 abbrev pub handedAt : List ℤ → List ℕ → List ℕ → List ℕ → List ℕ → ℕ → ℕ → List ℤ
-handedAt words area firsts starts targets live place =
-    setAll words (cellFrom live 32) (handedFrom area firsts starts targets live (place + 3) (getD area (place + 2) 0))
+handedAt cells area firsts starts targets live place =
+    setAll cells (cellFrom live 32) (handedFrom area firsts starts targets live (place + 3) (getD area (place + 2) 0))
 
 -- what a call comes to, by whether there is cause 26 and whether there is cause 22
 unfoldable pub callMove : Bool → Bool → Move → Move
@@ -89,9 +89,9 @@ unfoldable pub callWords : Bool → Bool → List ℤ → List ℤ → List ℤ
 callWords refused full before after = elim refused [ true ↦ before | false ↦ elim full [ true ↦ before | false ↦ after ] ]
 
 -- the call whose operation stands at a place of the script, and its mark at the place in the area
-pub record CallAt (code area firsts starts targets : List ℕ) (limit live at place : ℕ) : Type 0 where
+pub record CallAt (code area firsts starts targets : List ℕ) (activations live at place : ℕ) : Type 0 where
   pub within : at + 3 + getD area (place + 2) 0 ≤ 4096
   pub procedure : NameAt area firsts starts live (place + 1)
   pub arguments : ArgumentsAt area firsts starts live (place + 3) (getD area (place + 2) 0)
-  pub bounded : limit ≤ 256
+  pub bounded : activations ≤ 256
   pub body : Callable code at (getD targets (cellAt area firsts starts live (place + 1)) 0)

@@ -18,7 +18,7 @@ ghost use Rattle.copy_arms.specs.Parts.{cellAt, variableAt, NameAt, resu
 
 // KN
 pub fn do_constant(
-    words: &mut [i32; 8224],
+    cells: &mut [i32; 8224],
     area: &[u32],
     firsts: &[u32; 256],
     starts: &[u16; 256],
@@ -32,17 +32,17 @@ pub fn do_constant(
     requires { ⌜ getD (now area) (place + 2) 0 < 65536 ⌝ }
     requires { ⌜ getD (now area) (place + 3) 0 < 65536 ⌝ }
     ensures { λ r. ⌜ r ≡ Move.On (at + 4) ⌝ }
-    ensures { λ _. ⌜ now (words .exit) ≡ set (now (words .entry)) (cellAt (now (area .entry)) (now (firsts .entry)) (now (starts .entry)) live (place + 1)) (signed (getD (now (area .entry)) (place + 2) 0 + 65536 * getD (now (area .entry)) (place + 3) 0)) ⌝ }
+    ensures { λ _. ⌜ now (cells .exit) ≡ set (now (cells .entry)) (cellAt (now (area .entry)) (now (firsts .entry)) (now (starts .entry)) live (place + 1)) (signed (getD (now (area .entry)) (place + 2) 0 + 65536 * getD (now (area .entry)) (place + 3) 0)) ⌝ }
 {
     let bits = field(area, place + 2) + 65536 * field(area, place + 3);
     let cell = named(area, firsts, starts, live, place + 1);
-    run_words::store(words, cell, run_words::signed(bits));
+    run_words::store(cells, cell, run_words::signed(bits));
     Move::On(at + 4)
 }
 
 // AR
 pub fn do_arithmetic(
-    words: &mut [i32; 8224],
+    cells: &mut [i32; 8224],
     area: &[u32],
     firsts: &[u32; 256],
     starts: &[u16; 256],
@@ -54,8 +54,8 @@ pub fn do_arithmetic(
     requires { ⌜ NameAt (now area) (now firsts) (now starts) live (place + 1) ⌝ }
     requires { ⌜ NameAt (now area) (now firsts) (now starts) live (place + 3) ⌝ }
     requires { ⌜ NameAt (now area) (now firsts) (now starts) live (place + 4) ⌝ }
-    ensures { λ r. ⌜ r ≡ moveAfter (effectOf (resultAt (now (words .entry)) (now (area .entry)) (now (firsts .entry)) (now (starts .entry)) live place)) (at + 5) ⌝ }
-    ensures { λ _. ⌜ now (words .exit) ≡ wordsOf (now (words .entry)) (cellAt (now (area .entry)) (now (firsts .entry)) (now (starts .entry)) live (place + 1)) (resultAt (now (words .entry)) (now (area .entry)) (now (firsts .entry)) (now (starts .entry)) live place) ⌝ }
+    ensures { λ r. ⌜ r ≡ moveAfter (effectOf (resultAt (now (cells .entry)) (now (area .entry)) (now (firsts .entry)) (now (starts .entry)) live place)) (at + 5) ⌝ }
+    ensures { λ _. ⌜ now (cells .exit) ≡ wordsOf (now (cells .entry)) (cellAt (now (area .entry)) (now (firsts .entry)) (now (starts .entry)) live (place + 1)) (resultAt (now (cells .entry)) (now (area .entry)) (now (firsts .entry)) (now (starts .entry)) live place) ⌝ }
 {
     let first = first_of(firsts, live);
     let start = start_of(starts, live);
@@ -64,12 +64,12 @@ pub fn do_arithmetic(
     let right = named_by(area, firsts, starts, live, first, start, place + 4);
     let operation = field(area, place + 2);
     if operation == 0 {
-        return computed(run_words::add(words, to, left, right), at);
+        return computed(run_words::add(cells, to, left, right), at);
     }
     if operation == 1 {
-        return computed(run_words::subtract(words, to, left, right), at);
+        return computed(run_words::subtract(cells, to, left, right), at);
     }
-    run_words::compare(words, to, left, right);
+    run_words::compare(cells, to, left, right);
     Move::On(at + 5)
 }
 
@@ -91,7 +91,7 @@ pub fn do_goto(
 
 // IF
 pub fn do_branch(
-    words: &[i32; 8224],
+    cells: &[i32; 8224],
     area: &[u32],
     firsts: &[u32; 256],
     starts: &[u16; 256],
@@ -103,9 +103,9 @@ pub fn do_branch(
     requires { ⌜ at + 3 ≤ 4096 ⌝ }
     requires { ⌜ NameAt (now area) (now firsts) (now starts) live (place + 1) ⌝ }
     requires { ⌜ NameAt (now area) (now firsts) (now starts) live (place + 2) ⌝ }
-    ensures { λ r. ⌜ r ≡ branchMove (variableAt (now (words .entry)) (now (area .entry)) (now (firsts .entry)) (now (starts .entry)) live (place + 1)) (at + 3) (jumpAt (now (area .entry)) (now (firsts .entry)) (now (starts .entry)) (now (targets .entry)) live (place + 2)) ⌝ }
+    ensures { λ r. ⌜ r ≡ branchMove (variableAt (now (cells .entry)) (now (area .entry)) (now (firsts .entry)) (now (starts .entry)) live (place + 1)) (at + 3) (jumpAt (now (area .entry)) (now (firsts .entry)) (now (starts .entry)) (now (targets .entry)) live (place + 2)) ⌝ }
 {
-    if words[named(area, firsts, starts, live, place + 1)] == 0 {
+    if cells[named(area, firsts, starts, live, place + 1)] == 0 {
         return Move::On(at + 3);
     }
     do_goto(area, firsts, starts, targets, live, place + 2)

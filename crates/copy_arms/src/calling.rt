@@ -60,7 +60,7 @@ fn handed(
 
 // What the arguments from `place` on hand on goes to the first cells of the next activation.
 fn arguments(
-    words: &mut [i32; 8224],
+    cells: &mut [i32; 8224],
     area: &[u32],
     firsts: &[u32; 256],
     starts: &[u16; 256],
@@ -70,14 +70,14 @@ fn arguments(
     count: usize,
 )
     requires { ⌜ (live ≤ 254) × ArgumentsAt (now area) (now firsts) (now starts) live place count ⌝ }
-    ensures { λ _. ⌜ now (words .exit) ≡ setAll (now (words .entry)) (cellFrom live 32) (handedFrom (now (area .entry)) (now (firsts .entry)) (now (starts .entry)) (now (targets .entry)) live place count) ⌝ }
+    ensures { λ _. ⌜ now (cells .exit) ≡ setAll (now (cells .entry)) (cellFrom live 32) (handedFrom (now (area .entry)) (now (firsts .entry)) (now (starts .entry)) (now (targets .entry)) live place count) ⌝ }
 {
     let first = first_of(firsts, live);
     let start = start_of(starts, live);
     let to = cell_at(live, SHARE);
     let mut i = 0;
     while i < count {
-        words[to + i] = handed(area, firsts, starts, targets, live, first, start, place + i);
+        cells[to + i] = handed(area, firsts, starts, targets, live, first, start, place + i);
         i += 1;
     }
 }
@@ -85,19 +85,19 @@ fn arguments(
 // 26 goes before 22.
 pub fn do_call(
     code: &[u32; 4096],
-    words: &mut [i32; 8224],
+    cells: &mut [i32; 8224],
     area: &[u32],
     firsts: &[u32; 256],
     starts: &[u16; 256],
     targets: &[u16; 8224],
-    limit: usize,
+    activations: usize,
     live: usize,
     place: usize,
     at: usize,
 ) -> Move
-    requires { ⌜ CallAt (now code) (now area) (now firsts) (now starts) (now targets) limit live at place ⌝ }
-    ensures { λ r. ⌜ r ≡ callMove (refusedAt (now (code .entry)) (now (area .entry)) (now (firsts .entry)) (now (starts .entry)) (now (targets .entry)) live at place) (leb limit (live + 1)) (enterAt (now (area .entry)) (now (firsts .entry)) (now (starts .entry)) (now (targets .entry)) live at place) ⌝ }
-    ensures { λ _. ⌜ now (words .exit) ≡ callWords (refusedAt (now (code .entry)) (now (area .entry)) (now (firsts .entry)) (now (starts .entry)) (now (targets .entry)) live at place) (leb limit (live + 1)) (now (words .entry)) (handedAt (now (words .entry)) (now (area .entry)) (now (firsts .entry)) (now (starts .entry)) (now (targets .entry)) live place) ⌝ }
+    requires { ⌜ CallAt (now code) (now area) (now firsts) (now starts) (now targets) activations live at place ⌝ }
+    ensures { λ r. ⌜ r ≡ callMove (refusedAt (now (code .entry)) (now (area .entry)) (now (firsts .entry)) (now (starts .entry)) (now (targets .entry)) live at place) (leb activations (live + 1)) (enterAt (now (area .entry)) (now (firsts .entry)) (now (starts .entry)) (now (targets .entry)) live at place) ⌝ }
+    ensures { λ _. ⌜ now (cells .exit) ≡ callWords (refusedAt (now (code .entry)) (now (area .entry)) (now (firsts .entry)) (now (starts .entry)) (now (targets .entry)) live at place) (leb activations (live + 1)) (now (cells .entry)) (handedAt (now (cells .entry)) (now (area .entry)) (now (firsts .entry)) (now (starts .entry)) (now (targets .entry)) live place) ⌝ }
 {
     let procedure = named(area, firsts, starts, live, place + 1);
     let body = target(targets, procedure);
@@ -105,9 +105,9 @@ pub fn do_call(
     if refused(code, at, body, count) {
         return Move::Stop(Stop::ArgumentsDiffer);
     }
-    if limit <= live + 1 {
+    if activations <= live + 1 {
         return Move::Stop(Stop::NoActivationLeft);
     }
-    arguments(words, area, firsts, starts, targets, live, place + 3, count);
+    arguments(cells, area, firsts, starts, targets, live, place + 3, count);
     Move::Enter(body, activation_of(procedure), at + 3 + count)
 }

@@ -16,15 +16,15 @@ use Rattle.frames.specs.Frame.{frameRun, frameStart, frameRunOf}
 use Rattle.coordinates.specs.Sound.{accepted-keeps-rules}
 use Rattle.resolved.specs.Resolved.{resolvedOf, Covers}
 use Rattle.resolve_script.specs.Resolving.{Resolved, resolved-covers}
-use Rattle.copy_fields.specs.Governing.{Governs}
+use Rattle.copy_fields.specs.Naming.{NamesStand}
 use Rattle.call_replies.specs.Replies.{steps-fit}
-use Rattle.run_state.specs.Scenes.{limitsBy}
+use Rattle.run_state.specs.Limits.{limitsBy}
 use Rattle.copy_run.specs.Beginning.{Beginning}
 use Rattle.copy_run.specs.Turning.{Ended}
 use Rattle.run_state.specs.declared.Halt.{Halt}
 
 module _ (area : List ℕ) {f : Fed} (bytes : Bytes (f .script)) (small : f .name < 65536) {t : Block} (h : Admitted (copying (length area)) f t) {code : List ℕ}
-    (resolved : Resolved (f .script) (f .name) code) (names : List ℕ) (governs : Governs (f .script) code names) where
+    (resolved : Resolved (f .script) (f .name) code) (names : List ℕ) (names-stand : NamesStand (f .script) code names) where
   covers : Covers code 0 (resolvedOf (f .name) t)
   covers = resolved-covers (f .script) (f .name) code resolved t (h .script)
 
@@ -34,7 +34,7 @@ module _ (area : List ℕ) {f : Fed} (bytes : Bytes (f .script)) (small : f .nam
 
   abbrev Begins : Type 0
   Begins =
-      Beginning (f .script) code names (replicate 8224 (pos 0)) area (replicate 256 0) (replicate 256 0) (f .lent .table .words) (f .lent .table .used) (f .group) (f .activations)
+      Beginning (f .script) code names (replicate 8224 (pos 0)) area (replicate 256 0) (replicate 256 0) (f .lent .table .words) (f .lent .table .used) (f .limit) (f .activations)
       (f .allowance)
 
   pub beginning : Begins
@@ -46,23 +46,23 @@ module _ (area : List ℕ) {f : Fed} (bytes : Bytes (f .script)) (small : f .nam
         keeps = accepted-keeps-rules (f .script) bytes t (h .script);
         written = (accepts-exactly (f .script) bytes t .0 (h .script)) .0;
         covers = covers;
-        governs = governs t (f .name) (h .script) covers;
+        names-stand = names-stand t (f .name) (h .script) covers;
         name-small = small;
         some-live = few .0;
         few-live = few .1;
         few-steps = steps-fit h;
         table-right = table-right h;
         room = area-room;
-        words-long = length-replicate 8224 (pos 0);
+        cells-long = length-replicate 8224 (pos 0);
         blocks-long = length-replicate {A = ℕ} 256 0;
         nexts-long = length-replicate {A = ℕ} 256 0;
         zeros = λ i p. getD-replicate 8224 i (pos 0) (pos 0) (omega arith);
         no-block = refl;
       }
 
-  module _ {r : Halt} {words : List ℤ} {blocks nexts : List ℕ} {table : List ℤ}
-      (run : (b : Begins) → Ended (b .program) (b .name) (f .activations) (f .group)
-      (frameRun (limitsBy (f .activations) (f .group)) (f .allowance) (frameStart (b .program) (f .lent .table))) r words blocks nexts table) where
-    pub ended : Ended t (f .name) (f .activations) (f .group) (frameRunOf f t) r words blocks nexts table
+  module _ {r : Halt} {cells : List ℤ} {blocks nexts : List ℕ} {table : List ℤ}
+      (run : (b : Begins) → Ended (b .program) (b .name) (f .activations) (f .limit)
+      (frameRun (limitsBy (f .activations) (f .limit)) (f .allowance) (frameStart (b .program) (f .lent .table))) r cells blocks nexts table) where
+    pub ended : Ended t (f .name) (f .activations) (f .limit) (frameRunOf f t) r cells blocks nexts table
     unfolding frameRunOf beginning
     ended = run beginning

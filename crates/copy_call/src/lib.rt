@@ -1,6 +1,6 @@
 // The copying engine's call: admission, the resolved script and the words of its names, the run on the lent area, the sheet, the answer.
 use call_admission::Area;
-use call_admission::Numbers;
+use call_admission::CallNumbers;
 use language::Verdict;
 ghost use lib.ListN.{length};
 ghost use Rattle.language.specs.Text.{Block};
@@ -12,7 +12,7 @@ ghost use Rattle.call_answers.specs.Replies.{Replies, RepliesLeaving};
 // What comes of a call that is admitted.
 fn ran(
     script: &[u8],
-    numbers: Numbers,
+    numbers: CallNumbers,
     table: &mut [i32],
     sheet: &mut [i32],
     area: &mut [u32],
@@ -24,15 +24,15 @@ fn ran(
     let mut code = [0u32; 4096];
     resolve_script::resolve(script, numbers.name as usize, &mut code);
     let mut names = [0u32; 4096];
-    copy_fields::govern(script, &code, &mut names);
-    let mut words = [0i32; 8224];
+    copy_fields::name_fields(script, &code, &mut names);
+    let mut cells = [0i32; 8224];
     let mut blocks = [0u16; 256];
     let mut nexts = [0u16; 256];
     let halt = copy_run::run_program(
         script,
         &code,
         &names,
-        &mut words,
+        &mut cells,
         area,
         &mut blocks,
         &mut nexts,
@@ -43,9 +43,9 @@ fn ran(
         numbers.n,
     );
     let live = halt.live;
-    let written = run_sheet::write_sheet(&code, &words, &blocks, &nexts, live, sheet);
+    let written = run_sheet::write_sheet(&code, &cells, &blocks, &nexts, live, sheet);
     let end = halt.end;
-    call_answers::run_words(
+    call_answers::ran_words(
         end,
         halt.steps,
         halt.offset,
@@ -59,7 +59,7 @@ fn ran(
 
 pub fn call(
     script: &[u8],
-    numbers: Numbers,
+    numbers: CallNumbers,
     table: &mut [i32],
     sheet: &mut [i32],
     area: &mut [u32],

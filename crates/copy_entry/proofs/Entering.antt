@@ -49,8 +49,8 @@ module _ {code names area : List ℕ} {width : ℕ} {here : Registers} {body lin
   abbrev to : ℕ
   to = (here .live + 1) * width
 
-  abbrev cells : ℕ
-  cells = 32 * (here .live + 1)
+  abbrev lowest : ℕ
+  lowest = 32 * (here .live + 1)
 
   -- few names, in an activation with room for its cells
   pub few-names : (formals ≤ 32) × (count ≤ 32) × (here .live + 1 < 256)
@@ -70,44 +70,44 @@ module _ {code names area : List ℕ} {width : ℕ} {here : Registers} {body lin
       }
 
   module _ {end : ℕ} (end-is : end ≡ endAt code body) where
-    pub copyable : Copyable area names (link * width) to given level first cells body end
+    pub copyable : Copyable area names (link * width) to given level first lowest body end
     copyable =
         record {
           ordered = omega (arith, end-is, w .text);
           script = omega (arith, end-is, w .text-within);
-          old-room = omega (arith, behind, w .area-long, two-more (here .live) width);
+          old-room = omega (arith, after, w .area-long, two-more (here .live) width);
           new-room = omega (arith, end-is, one-more (here .live) width, two-more (here .live) width, w .fits, w .area-long);
-          apart = inr (omega (arith, behind));
+          apart = inr (omega (arith, after));
           fits = omega (arith, w .few-names);
           noting = omega (arith, w .room);
           arguments = λ q l m e d. omega (arith, w .given q l (omega (arith, end-is)) (e ∙ h .level-is) d, one-more (here .live) width);
         }
       where
         -- the text that is copied ends before the new room
-        behind : link * width + end ≤ to
-        behind = omega (arith, end-is, lower link (here .live) width (w .link-high), one-more (here .live) width, w .fits)
+        after : link * width + end ≤ to
+        after = omega (arith, end-is, lower link (here .live) width (w .link-high), one-more (here .live) width, w .fits)
 
     -- what the functions have made
     pub entered : {at new : ℕ} → at ≡ firstIn (getD code (body + 1) 0)
-        → {words : List ℤ} {blocks nexts firsts starts targets looked : List ℕ} {words′ : List ℤ} {area′ blocks′ nexts′ firsts′ starts′ targets′ : List ℕ}
+        → {cells : List ℤ} {blocks nexts firsts starts targets looked : List ℕ} {cells′ : List ℤ} {area′ blocks′ nexts′ firsts′ starts′ targets′ : List ℕ}
         → Noted blocks nexts firsts starts here body formals back blocks′ nexts′ firsts′ starts′
         → new ≡ renewed area given level first word (getD looked link 0)
         → Copied area area′ names (link * width) to given level first body end
-        → targets′ ≡ notedFrom targets names cells level body (end - body)
-        → Cleared words (cells + formals) (cells + count) words′
-        → AnewIn code names width here body link back words area blocks nexts firsts starts targets looked words′ area′ blocks′ nexts′ firsts′ starts′
+        → targets′ ≡ notedFrom targets names lowest level body (end - body)
+        → Cleared cells (lowest + formals) (lowest + count) cells′
+        → AnewIn code names width here body link back cells area blocks nexts firsts starts targets looked cells′ area′ blocks′ nexts′ firsts′ starts′
         targets′ (set looked (here .live + 1) new)
         (record { live = here .live + 1; at = at; end = end; pairs = here .pairs; level = here .level; fresh = first + count })
-    entered at-is {words} {blocks} {nexts} {firsts} {starts} {targets} {looked} {words′} {area′} {blocks′} {nexts′} {firsts′} {starts′} n r k t z =
+    entered at-is {cells} {blocks} {nexts} {firsts} {starts} {targets} {looked} {cells′} {area′} {blocks′} {nexts′} {firsts′} {starts′} n r k t z =
         record {
           noted = subst (λ (f : ℕ). Noted blocks nexts firsts starts here body f back blocks′ nexts′ firsts′ starts′) (h .formals-is) n;
           copied = subst (λ (T : Type 0). T)
               (λ i. Copied area area′ names (link * width) to given (h .level-is i) (here .fresh - h .formals-is i) body (end-is i)) k;
-          targets-are = t ∙ (λ i. notedFrom targets names cells (h .level-is i) body (end-is i - body));
+          targets-are = t ∙ (λ i. notedFrom targets names lowest (h .level-is i) body (end-is i - body));
           looked-is = ap (set looked (here .live + 1)) (r
               ∙ (λ i. renewed area given (h .level-is i) (here .fresh - h .formals-is i) (h .word-is i) (getD looked link 0)));
-          cleared = subst (λ (T : Type 0). T) (λ i. Cleared words (cells + h .formals-is i) (cells + h .count-is i) words′) z;
-          now-is = λ i. record {
+          cleared = subst (λ (T : Type 0). T) (λ i. Cleared cells (lowest + h .formals-is i) (lowest + h .count-is i) cells′) z;
+          registers-are = λ i. record {
             live = here .live + 1;
             at = at-is i;
             end = end-is i;

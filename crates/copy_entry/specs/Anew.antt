@@ -56,11 +56,11 @@ pub record Noted (blocks nexts firsts starts : List ℕ) (here : Registers) (bod
   pub starts-are : starts′ ≡ set starts (here .live + 1) (cellFrom (here .live + 1) formals)
 
 pub record AnewIn (code names : List ℕ) (width : ℕ) (here : Registers) (body link back : ℕ)
-    (words : List ℤ) (area blocks nexts firsts starts targets looked : List ℕ)
-    (words′ : List ℤ) (area′ blocks′ nexts′ firsts′ starts′ targets′ looked′ : List ℕ) (r : Registers) : Type 0 where
+    (cells : List ℤ) (area blocks nexts firsts starts targets looked : List ℕ)
+    (cells′ : List ℤ) (area′ blocks′ nexts′ firsts′ starts′ targets′ looked′ : List ℕ) (r : Registers) : Type 0 where
   pub noted : Noted blocks nexts firsts starts here body (formalsAt code body) back blocks′ nexts′ firsts′ starts′
   pub copied : Copied area area′ names (link * width) ((here .live + 1) * width) (givenAt width here) (levelAt code body) (here .fresh - formalsAt code body) body (endAt code body)
   pub targets-are : targets′ ≡ notedFrom targets names (32 * (here .live + 1)) (levelAt code body) body (endAt code body - body)
   pub looked-is : looked′ ≡ set looked (here .live + 1) (renewed area (givenAt width here) (levelAt code body) (here .fresh - formalsAt code body) (getD code (body + 2) 0) (getD looked link 0))
-  pub cleared : Cleared words (cellFrom (here .live + 1) (formalsAt code body)) (cellFrom (here .live + 1) (namesAt code body)) words′
-  pub now-is : r ≡ record { live = here .live + 1; at = firstIn (getD code (body + 1) 0); end = endAt code body; pairs = here .pairs; level = here .level; fresh = here .fresh - formalsAt code body + namesAt code body }
+  pub cleared : Cleared cells (cellFrom (here .live + 1) (formalsAt code body)) (cellFrom (here .live + 1) (namesAt code body)) cells′
+  pub registers-are : r ≡ record { live = here .live + 1; at = firstIn (getD code (body + 1) 0); end = endAt code body; pairs = here .pairs; level = here .level; fresh = here .fresh - formalsAt code body + namesAt code body }

@@ -44,7 +44,7 @@ fn note(
 pub fn enter(
     code: &[u32; 4096],
     names: &[u32; 4096],
-    words: &mut [i32; 8224],
+    cells: &mut [i32; 8224],
     area: &mut [u32],
     width: usize,
     blocks: &mut [u16; 256],
@@ -59,9 +59,9 @@ pub fn enter(
     back: usize,
 ) -> Registers
     requires { ⌜ Enterable (now code) (now names) (now area) width here body link back ⌝ }
-    ensures { λ r. ⌜ AnewIn (now (code .entry)) (now (names .entry)) width here body link back (now (words .entry)) (now (area .entry))
+    ensures { λ r. ⌜ AnewIn (now (code .entry)) (now (names .entry)) width here body link back (now (cells .entry)) (now (area .entry))
         (now (blocks .entry)) (now (nexts .entry)) (now (firsts .entry)) (now (starts .entry)) (now (targets .entry)) (now (looked .entry))
-        (now (words .exit)) (now (area .exit)) (now (blocks .exit)) (now (nexts .exit)) (now (firsts .exit)) (now (starts .exit))
+        (now (cells .exit)) (now (area .exit)) (now (blocks .exit)) (now (nexts .exit)) (now (firsts .exit)) (now (starts .exit))
         (now (targets .exit)) (now (looked .exit)) r ⌝ }
 {
     let head = code_at(code, body);
@@ -77,7 +77,7 @@ pub fn enter(
     let fresh = first + count;
     note(blocks, nexts, firsts, starts, here, body, formals, back);
     looked[live] = renew(area, given, level, first, word, looked[link]);
-    let cells = SHARE * live;
+    let lowest = SHARE * live;
     let end = end_of(bounds);
     copy_text(
         area,
@@ -88,11 +88,11 @@ pub fn enter(
         given,
         level,
         first,
-        cells,
+        lowest,
         body,
         end,
     );
-    clear(words, cells + formals, cells + count);
+    clear(cells, lowest + formals, lowest + count);
     Registers {
         live,
         at: first_of(bounds),

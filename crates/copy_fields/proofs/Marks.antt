@@ -4,7 +4,7 @@ use mathlib.Core.Path.{_≡_}
 use Prim.Native.Nat.{ℕ}
 use borrow.Author.Tests.{ne-eqb}
 use Rattle.language.specs.Encoding.{BK-mark, QY-mark, AD-mark, RM-mark, AR-mark, CL-mark}
-use Rattle.copy_fields.specs.Governing.{leading, trailing}
+use Rattle.copy_fields.specs.Naming.{leading, trailing}
 
 module _ (m : ℕ) where
   pub leading-BK : m ≡ BK-mark → 0 ≡ leading m

@@ -13,10 +13,10 @@ use Rattle.laws.specs.Fields.{fieldAt, FieldsStand, fields-third}
 use Rattle.check_extents.specs.Items.{formal, body, declared, stated, blockHead, headFields}
 use Rattle.resolve_words.specs.Growth.{Grown}
 use Rattle.resolve_words.proofs.Growth.{grown-nothing, grown-zero, grown-then, grown-more}
-use Rattle.copy_fields.specs.Governed.{governedAction, governedFormals, governedBlock}
-use Rattle.copy_fields.specs.Layouts.{governedLayout, resolvedLayout}
+use Rattle.copy_fields.specs.NameFields.{namedAction, namedFormals, namedBlock}
+use Rattle.copy_fields.specs.Layouts.{namedLayout, resolvedLayout}
 use Rattle.copy_fields.specs.Parts.{ownWords}
-use Rattle.copy_fields.specs.Governing.{taken, crossed, leading, trailing, Noted}
+use Rattle.copy_fields.specs.Naming.{taken, crossed, leading, trailing, Noted}
 use Rattle.copy_fields.proofs.Taking.{take-grows, cross-grows}
 
 zeros-grow : (c : List ℕ) (at n : ℕ) → Grown c c at (replicate n 0)
@@ -52,8 +52,8 @@ module _ (bs code c c1 c2 : List ℕ) (at k m : ℕ) (first : c1 ≡ taken code 
   unfolding blockHead leading trailing
   block-noted (block o ds ss) s = few [] 2 (k-at _ _ (s .0) refl) (m-at _ _ (s .0) refl) tt
 
-  action-noted : (other : fieldAt bs at ≡ IF-mark → ⊥) (es : Enclosure) (a : Action) → FieldsStand bs at (actionFields a) → Covers code (at / 2) (resolvedAction es a) → Grown c c2 at (governedAction es a)
-  unfolding actionFields resolvedAction governedAction leading trailing
+  action-noted : (other : fieldAt bs at ≡ IF-mark → ⊥) (es : Enclosure) (a : Action) → FieldsStand bs at (actionFields a) → Covers code (at / 2) (resolvedAction es a) → Grown c c2 at (namedAction es a)
+  unfolding actionFields resolvedAction namedAction leading trailing
   action-noted other es (CL p xs) s h =
       let a : fieldAt bs (at + 4) ≡ length (map (nameWord es) xs) = fields-third bs at CL-mark p (length xs) xs s ∙ sym (length-map xs (nameWord es)) in
       many (nameWord es p) (map (nameWord es) xs) (k-at _ _ (s .0) refl) (m-at _ _ (s .0) a) (h .1 .0, tt) (h .1 .1 .1)
@@ -66,7 +66,7 @@ module _ (bs code c c1 c2 : List ℕ) (at k m : ℕ) (first : c1 ≡ taken code 
   action-noted other es (QY t g m) s h = few (nameWord es t ∷ nameWord es g ∷ nameWord es m ∷ []) 0 (k-at _ _ (s .0) refl) (m-at _ _ (s .0) refl) (h .1)
 
   pub other-noted : (fieldAt bs at ≡ IF-mark → ⊥) → Noted bs code at c c2
-  unfolding headFields ownWords resolvedLayout governedLayout governedBlock governedFormals resolvedBlock resolvedFormals blockFields formalsFields leading trailing
+  unfolding headFields ownWords resolvedLayout namedLayout namedBlock namedFormals resolvedBlock resolvedFormals blockFields formalsFields leading trailing
   other-noted other name (formal f) fs es s h = few (0 ∷ []) 1 (k-at _ _ (s .0) refl) (m-at _ _ (s .0) refl) (h .1 .0, tt)
   other-noted other name (body b) fs es s h = block-noted b s
   other-noted other name (declared (VR o n)) fs es s h = few (nameWord es n ∷ []) 0 (k-at _ _ (s .0) refl) (m-at _ _ (s .0) refl) (h .1)
@@ -81,8 +81,8 @@ module _ (bs code c c′ : List ℕ) (at : ℕ) (long : length c ≡ 4096) (done
   unfolding blockHead
   no-block (block o ds ss) s = omega (arith, if, s .0)
 
-  if-action : (es : Enclosure) (a : Action) → FieldsStand bs at (actionFields a) → Covers code (at / 2) (resolvedAction es a) → Grown c c′ at (governedAction es a)
-  unfolding actionFields resolvedAction governedAction
+  if-action : (es : Enclosure) (a : Action) → FieldsStand bs at (actionFields a) → Covers code (at / 2) (resolvedAction es a) → Grown c c′ at (namedAction es a)
+  unfolding actionFields resolvedAction namedAction
   if-action es (CL p xs) s h = absurd (omega (arith, if, s .0))
   if-action es (GO l) s h = absurd (omega (arith, if, s .0))
   if-action es (IF v l) s h = grown-more refl (grown-zero c at) (cross-grows code c c′ (at + 2) (at / 2 + 1) (nameWord es v) (nameWord es l) long (omega arith) done (h .1))
@@ -93,7 +93,7 @@ module _ (bs code c c′ : List ℕ) (at : ℕ) (long : length c ≡ 4096) (done
   if-action es (QY t g m) s h = absurd (omega (arith, if, s .0))
 
   pub if-noted : Noted bs code at c c′
-  unfolding headFields ownWords resolvedLayout governedLayout governedBlock resolvedBlock blockFields formalsFields
+  unfolding headFields ownWords resolvedLayout namedLayout namedBlock resolvedBlock blockFields formalsFields
   if-noted name (formal f) fs es s h = absurd (omega (arith, if, s .0))
   if-noted name (body b) fs es s h = absurd (no-block b s)
   if-noted name (declared (VR o n)) fs es s h = absurd (omega (arith, if, s .0))

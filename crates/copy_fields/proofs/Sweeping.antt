@@ -21,12 +21,12 @@ use Rattle.check_extents.specs.Items.{Item, formal, body, declared, stated, blo
 use Rattle.check_extents.specs.Passing.{Passed}
 use Rattle.check_extents.specs.declared.passing.Step.{Step}
 use Rattle.check_extents.proofs.Inside.{head-size, head-marked}
-use Rattle.copy_fields.specs.Governed.{governedOf}
+use Rattle.copy_fields.specs.NameFields.{namedOf}
 use Rattle.copy_fields.specs.Lengths.{block-length}
 use Rattle.copy_fields.specs.Layout.{Layout}
-use Rattle.copy_fields.specs.Layouts.{fieldsLayout, governedLayout, resolvedLayout}
+use Rattle.copy_fields.specs.Layouts.{fieldsLayout, namedLayout, resolvedLayout}
 use Rattle.copy_fields.specs.Parts.{Part, placed, itemWords, partsWords, ownWords, inside, parts-open}
-use Rattle.copy_fields.specs.Governing.{Noted, Governs}
+use Rattle.copy_fields.specs.Naming.{Noted, NamesStand}
 
 -- A record's own words
 
@@ -67,9 +67,9 @@ pub record Swept (bs code names : List ℕ) (here : ℕ) (t : Block) (name : ℕ
   pub stand : FieldsStand bs here (partsWords fieldsLayout left)
   pub resolved : Covers code (here / 2) (partsWords (resolvedLayout name) left)
   pub written : names ≡ done ++ replicate room 0
-  pub fits : length (partsWords governedLayout left) ≤ room
-  pub whole : governedOf t ≡ done ++ partsWords governedLayout left
-  pub size : length bs ≡ 2 * length (governedOf t)
+  pub fits : length (partsWords namedLayout left) ≤ room
+  pub whole : namedOf t ≡ done ++ partsWords namedLayout left
+  pub size : length bs ≡ 2 * length (namedOf t)
 
 abbrev pub Sweeps : List ℕ → List ℕ → List ℕ → ℕ → Type 0
 Sweeps bs code names here = (t : Block) (name : ℕ) → check bs ≡ accepted t → Covers code 0 (resolvedOf name t) → Swept bs code names here t name
@@ -87,8 +87,8 @@ module _ (bs : List ℕ) (bytes : Bytes bs) (t : Block) (e : check bs ≡ accept
   unfolding encode
   bytes-many = ap length (keeps .0) ∙ length-bytes (blockFields t)
 
-  words-many : length bs ≡ 2 * length (governedOf t)
-  unfolding governedOf
+  words-many : length bs ≡ 2 * length (namedOf t)
+  unfolding namedOf
   words-many = omega (arith, bytes-many, block-length t [] [])
 
   fields-there : FieldsStand bs 0 (blockFields t)
@@ -100,7 +100,7 @@ module _ (bs : List ℕ) (bytes : Bytes bs) (t : Block) (e : check bs ≡ accept
   alone l = append-nil (l .ofBlock t [] [])
 
   swept-first : (code names : List ℕ) (name : ℕ) → names ≡ replicate 4096 0 → Covers code 0 (resolvedOf name t) → Swept bs code names 0 t name
-  unfolding fieldsLayout governedLayout resolvedLayout governedOf resolvedOf
+  unfolding fieldsLayout namedLayout resolvedLayout namedOf resolvedOf
   swept-first code names name zeros h =
       record {
         done = [];
@@ -110,8 +110,8 @@ module _ (bs : List ℕ) (bytes : Bytes bs) (t : Block) (e : check bs ≡ accept
         stand = subst (FieldsStand bs 0) (sym (alone fieldsLayout)) fields-there;
         resolved = subst (Covers code 0) (sym (alone (resolvedLayout name))) h;
         written = zeros;
-        fits = omega (arith, ap length (alone governedLayout), words-many, accepted-short);
-        whole = sym (alone governedLayout);
+        fits = omega (arith, ap length (alone namedLayout), words-many, accepted-short);
+        whole = sym (alone namedLayout);
         size = words-many;
       }
 
@@ -123,7 +123,7 @@ swept-start bs code names bytes zeros t name e h = swept-first bs bytes t e code
 module _ (bs code names names′ : List ℕ) (here : ℕ) (t : Block) (name : ℕ) (far-in : here < length bs) (noted : Noted bs code here names names′) (s : Step) (p : Passed bs here s) (w : Swept bs code names here t name) where
   past : (left : List Part) → left ≡ w .left → Swept bs code names′ (s .next) t name
   unfolding partsWords
-  past [] e = absurd (omega (arith, w .far, w .size, ap length (w .whole ∙ ap (λ (l : List Part). w .done ++ partsWords governedLayout l) (sym e) ∙ append-nil (w .done))))
+  past [] e = absurd (omega (arith, w .far, w .size, ap length (w .whole ∙ ap (λ (l : List Part). w .done ++ partsWords namedLayout l) (sym e) ∙ append-nil (w .done))))
   past (q ∷ qs) e =
       let x = q .item in
       let fs = q .formals in
@@ -132,12 +132,12 @@ module _ (bs code names names′ : List ℕ) (here : ℕ) (t : Block) (name : �
       let opens : (l : Layout) → partsWords l (w .left) ≡ ownWords l x fs es ++ partsWords l rest = λ l. ap (partsWords l) (sym e) ∙ parts-open l x fs es qs in
       let there : FieldsStand bs here (headFields x ++ partsWords fieldsLayout rest) = subst (FieldsStand bs here) (opens fieldsLayout ∙ ap (λ (l : List ℕ). l ++ partsWords fieldsLayout rest) (fields-own x fs es)) (w .stand) in
       let words : Covers code (here / 2) (ownWords (resolvedLayout name) x fs es ++ partsWords (resolvedLayout name) rest) = subst (Covers code (here / 2)) (opens (resolvedLayout name)) (w .resolved) in
-      let own = ownWords governedLayout x fs es in
+      let own = ownWords namedLayout x fs es in
       let n = length (headFields x) in
-      let own-n = own-size governedLayout x fs es in
+      let own-n = own-size namedLayout x fs es in
       let resolved-n = own-size (resolvedLayout name) x fs es in
       let next : s .next ≡ here + 2 * n = p .next-is ∙ ap (λ (k : ℕ). here + k) (head-size bs here (partsWords fieldsLayout rest) x there) in
-      let total = ap length (opens governedLayout) ∙ length-append own (partsWords governedLayout rest) in
+      let total = ap length (opens namedLayout) ∙ length-append own (partsWords namedLayout rest) in
       let more = length-append (w .done) own in
       let grown = noted name x fs es (fields-first bs here (headFields x) (partsWords fieldsLayout rest) there) (covers-first code (here / 2) (ownWords (resolvedLayout name) x fs es) (partsWords (resolvedLayout name) rest) words) in
       let half : here / 2 + length (ownWords (resolvedLayout name) x fs es) ≡ s .next / 2 = omega (arith, w .far) in
@@ -150,7 +150,7 @@ module _ (bs code names names′ : List ℕ) (here : ℕ) (t : Block) (name : �
         resolved = subst (λ (o : ℕ). Covers code o (partsWords (resolvedLayout name) rest)) half (covers-second code (here / 2) (ownWords (resolvedLayout name) x fs es) (partsWords (resolvedLayout name) rest) words);
         written = grown .grown (w .done) (w .room) (w .far) (w .written) (omega (arith, w .fits)) ∙ sym (append-assoc (w .done) own (replicate (w .room - length own) 0));
         fits = omega (arith, w .fits);
-        whole = w .whole ∙ ap (λ (l : List ℕ). w .done ++ l) (opens governedLayout) ∙ sym (append-assoc (w .done) own (partsWords governedLayout rest));
+        whole = w .whole ∙ ap (λ (l : List ℕ). w .done ++ l) (opens namedLayout) ∙ sym (append-assoc (w .done) own (partsWords namedLayout rest));
         size = w .size;
       }
 
@@ -164,11 +164,11 @@ swept-step bs code names names′ here l noted s p w t name e h =
 -- The end
 
 module _ (bs code names : List ℕ) (here : ℕ) (t : Block) (name : ℕ) (out : length bs ≤ here) (w : Swept bs code names here t name) where
-  none-left : (left : List Part) → left ≡ w .left → Covers names 0 (governedOf t)
+  none-left : (left : List Part) → left ≡ w .left → Covers names 0 (namedOf t)
   unfolding partsWords
   none-left [] e =
-      let all : governedOf t ≡ w .done = w .whole ∙ ap (λ (l : List Part). w .done ++ partsWords governedLayout l) (sym e) ∙ append-nil (w .done) in
-      subst (λ (l : List ℕ). Covers l 0 (governedOf t)) (ap (λ (l : List ℕ). l ++ replicate (w .room) 0) all ∙ sym (w .written)) (covers-front (governedOf t) (replicate (w .room) 0))
+      let all : namedOf t ≡ w .done = w .whole ∙ ap (λ (l : List Part). w .done ++ partsWords namedLayout l) (sym e) ∙ append-nil (w .done) in
+      subst (λ (l : List ℕ). Covers l 0 (namedOf t)) (ap (λ (l : List ℕ). l ++ replicate (w .room) 0) all ∙ sym (w .written)) (covers-front (namedOf t) (replicate (w .room) 0))
   none-left (q ∷ qs) e =
       let x = q .item in
       let fs = q .formals in
@@ -177,7 +177,7 @@ module _ (bs code names : List ℕ) (here : ℕ) (t : Block) (name : ℕ) (out :
       let there : FieldsStand bs here (headFields x ++ rest) = subst (FieldsStand bs here) (ap (partsWords fieldsLayout) (sym e) ∙ parts-open fieldsLayout x fs es qs ∙ ap (λ (l : List ℕ). l ++ rest) (fields-own x fs es)) (w .stand) in
       absurd (field-inside bs here (head-marked bs here rest x there) out)
 
-pub swept-end : (bs code names : List ℕ) (here : ℕ) → length bs ≤ here → Sweeps bs code names here → Governs bs code names
+pub swept-end : (bs code names : List ℕ) (here : ℕ) → length bs ≤ here → Sweeps bs code names here → NamesStand bs code names
 swept-end bs code names here out w t name e h =
     let v = w t name e h in
     none-left bs code names here t name out v (v .left) refl

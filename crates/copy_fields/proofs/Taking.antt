@@ -9,7 +9,7 @@ use lib.Seq.{set-at, set-out}
 use Rattle.laws.specs.Lists.{set-append-add}
 use Rattle.resolved.specs.Resolved.{Covers}
 use Rattle.resolve_words.specs.Growth.{Grown}
-use Rattle.copy_fields.specs.Governing.{taken, crossed}
+use Rattle.copy_fields.specs.Naming.{taken, crossed}
 
 -- one word more, or a place past the end
 pub taken-next :

@@ -1,4 +1,4 @@
--- What each field inside an enclosed block holds (`governed-inside`): no name, so that its word has level 0, or a name, whose word is that of the
+-- What each field inside an enclosed block holds (`named-inside`): no name, so that its word has level 0, or a name, whose word is that of the
 -- name in an enclosure that ends with the block's.
 use Prim.Native.Nat.{ℕ, zero, suc, _+_, _*_, _-_, _≤_, _<_}
 use native.Mathlib.Omega.{arith}
@@ -16,9 +16,9 @@ use Rattle.coordinates.specs.Levels.{formed-names, enclosure-level, enclosure-n
 use Rattle.resolved.specs.Resolved.{placeOf, endPlace, levelIn, nameWord, Covers}
 use Rattle.resolved.specs.Lengths.{covers-at}
 use Rattle.resolved.specs.Places.{enclosed-formed}
-use Rattle.copy_fields.specs.Governed.{governedAction, governedFormals, governedBlock, governedDecl, governedStmt, governedDecls, governedStmts, governedOf}
+use Rattle.copy_fields.specs.NameFields.{namedAction, namedFormals, namedBlock, namedDecl, namedStmt, namedDecls, namedStmts, namedOf}
 use Rattle.copy_fields.specs.Lengths.{block-length}
-use Rattle.copy_fields.specs.Standing.{block-fields-stand, block-governed}
+use Rattle.copy_fields.specs.Standing.{block-fields-stand, block-fields-named}
 
 -- no deeper and with no more names than the rules allow
 abbrev pub Fit : Enclosure → Type 0
@@ -63,8 +63,8 @@ module _ (os : Enclosure) where
     names-named [] h = tt
     names-named (n ∷ ns) h = (a-name n (h .0), names-named ns (h .1))
 
-    action-named : (a : Action) → FormedAction a → AllNamed os (governedAction (inner ++ os) a) (actionFields a)
-    unfolding governedAction actionFields FormedAction
+    action-named : (a : Action) → FormedAction a → AllNamed os (namedAction (inner ++ os) a) (actionFields a)
+    unfolding namedAction actionFields FormedAction
     action-named (CL p xs) h = (nameless _, (a-name p (h .called), (nameless _, names-named xs (h .arguments))))
     action-named (GO l) h = (nameless _, (a-name l h, tt))
     action-named (IF v l) h = (nameless _, (a-name v (h .0), (a-name l (h .1), tt)))
@@ -74,52 +74,52 @@ module _ (os : Enclosure) where
     action-named (RM g m) h = (nameless _, (a-name g (h .0), (a-name m (h .1), tt)))
     action-named (QY t g m) h = (nameless _, (a-name t (h .0), (a-name g (h .1), (a-name m (h .2), tt))))
 
-  formals-named : (fs : List Formal) → AllNamed os (governedFormals fs) (formalsFields fs)
-  unfolding governedFormals formalsFields
+  formals-named : (fs : List Formal) → AllNamed os (namedFormals fs) (formalsFields fs)
+  unfolding namedFormals formalsFields
   formals-named [] = tt
   formals-named (f ∷ fs) = (nameless _, (nameless _, (nameless _, formals-named fs)))
 
   mutual
-    unfolding governedBlock blockFields FormedBlock
+    unfolding namedBlock blockFields FormedBlock
 
     inner-named : (b : Block) (fs : List Formal) (inner : Enclosure) (level here : ℕ) → Fit (inner ++ os) → length (inner ++ os) ≡ level → FormedBlock b (suc level) fs here
-        → AllNamed os (governedBlock b fs (inner ++ os)) (blockFields b)
+        → AllNamed os (namedBlock b fs (inner ++ os)) (blockFields b)
     inner-named (block at ds ss) fs inner level here fit deep h =
         let more = enclosed fs (block at ds ss) ∷ inner in
         let more-fit : Fit (more ++ os) = (omega (arith, h .nesting), (own-few (block at ds ss) (suc level) fs here h, fit .1)) in
         let deeper : length (more ++ os) ≡ suc level = ap suc deep in
         let d = decls-named ds more (suc level) (length (stmts ss)) (here + 6) more-fit deeper (h .declarations) in
         let s = stmts-named ss more (suc level) (here + 6 + 2 * length (declsFields ds)) more-fit deeper (h .statements) in
-        (nameless _, (nameless _, (nameless _, named-append (governedDecls ds (more ++ os)) (governedStmts ss (more ++ os)) (declsFields ds) (stmtsFields ss) d s)))
+        (nameless _, (nameless _, (nameless _, named-append (namedDecls ds (more ++ os)) (namedStmts ss (more ++ os)) (declsFields ds) (stmtsFields ss) d s)))
 
-    decl-named : (d : Decl) (inner : Enclosure) (level s here : ℕ) → Fit (inner ++ os) → length (inner ++ os) ≡ level → FormedDecl d level s here → AllNamed os (governedDecl d (inner ++ os)) (declFields d)
+    decl-named : (d : Decl) (inner : Enclosure) (level s here : ℕ) → Fit (inner ++ os) → length (inner ++ os) ≡ level → FormedDecl d level s here → AllNamed os (namedDecl d (inner ++ os)) (declFields d)
     decl-named (VR at n) inner level s here fit deep h = (nameless _, (a-name inner fit n (h .name), tt))
     decl-named (LB at n i) inner level s here fit deep h = (nameless _, (a-name inner fit n (h .name), (nameless _, tt)))
     decl-named (PR at n fs b) inner level s here fit deep h =
-        (nameless _, (a-name inner fit n (h .name), (nameless _, named-append (governedFormals fs) (governedBlock b fs (inner ++ os)) (formalsFields fs) (blockFields b) (formals-named fs) (inner-named b fs inner level (here + 6 + 2 * length (formalsFields fs)) fit deep (h .body)))))
+        (nameless _, (a-name inner fit n (h .name), (nameless _, named-append (namedFormals fs) (namedBlock b fs (inner ++ os)) (formalsFields fs) (blockFields b) (formals-named fs) (inner-named b fs inner level (here + 6 + 2 * length (formalsFields fs)) fit deep (h .body)))))
 
-    stmt-named : (x : Stmt) (inner : Enclosure) (level here : ℕ) → Fit (inner ++ os) → length (inner ++ os) ≡ level → FormedStmt x level here → AllNamed os (governedStmt x (inner ++ os)) (stmtFields x)
+    stmt-named : (x : Stmt) (inner : Enclosure) (level here : ℕ) → Fit (inner ++ os) → length (inner ++ os) ≡ level → FormedStmt x level here → AllNamed os (namedStmt x (inner ++ os)) (stmtFields x)
     stmt-named (BK b) inner level here fit deep h = inner-named b [] inner level here fit deep h
     stmt-named (DO at a) inner level here fit deep h = action-named inner fit a (h .action)
 
-    decls-named : (ds : Decls) (inner : Enclosure) (level s here : ℕ) → Fit (inner ++ os) → length (inner ++ os) ≡ level → FormedDecls ds level s here → AllNamed os (governedDecls ds (inner ++ os)) (declsFields ds)
+    decls-named : (ds : Decls) (inner : Enclosure) (level s here : ℕ) → Fit (inner ++ os) → length (inner ++ os) ≡ level → FormedDecls ds level s here → AllNamed os (namedDecls ds (inner ++ os)) (declsFields ds)
     decls-named no-decl inner level s here fit deep h = tt
     decls-named (decl d ds) inner level s here fit deep h =
-        named-append (governedDecl d (inner ++ os)) (governedDecls ds (inner ++ os)) (declFields d) (declsFields ds) (decl-named d inner level s here fit deep (h .0)) (decls-named ds inner level s (here + 2 * length (declFields d)) fit deep (h .1))
+        named-append (namedDecl d (inner ++ os)) (namedDecls ds (inner ++ os)) (declFields d) (declsFields ds) (decl-named d inner level s here fit deep (h .0)) (decls-named ds inner level s (here + 2 * length (declFields d)) fit deep (h .1))
 
-    stmts-named : (ss : Stmts) (inner : Enclosure) (level here : ℕ) → Fit (inner ++ os) → length (inner ++ os) ≡ level → FormedStmts ss level here → AllNamed os (governedStmts ss (inner ++ os)) (stmtsFields ss)
+    stmts-named : (ss : Stmts) (inner : Enclosure) (level here : ℕ) → Fit (inner ++ os) → length (inner ++ os) ≡ level → FormedStmts ss level here → AllNamed os (namedStmts ss (inner ++ os)) (stmtsFields ss)
     stmts-named no-stmt inner level here fit deep h = tt
     stmts-named (stmt x ss) inner level here fit deep h =
-        named-append (governedStmt x (inner ++ os)) (governedStmts ss (inner ++ os)) (stmtFields x) (stmtsFields ss) (stmt-named x inner level here fit deep (h .0)) (stmts-named ss inner level (here + 2 * length (stmtFields x)) fit deep (h .1))
+        named-append (namedStmt x (inner ++ os)) (namedStmts ss (inner ++ os)) (stmtFields x) (stmtsFields ss) (stmt-named x inner level here fit deep (h .0)) (stmts-named ss inner level (here + 2 * length (stmtFields x)) fit deep (h .1))
 
 block-named : (b : Block) (fs : List Formal) (es : Enclosure) (here : ℕ) → Fit (enclosed fs b ∷ es) → FormedBlock b (suc (length es)) fs here
-    → AllNamed (enclosed fs b ∷ es) (governedBlock b fs es) (blockFields b)
-unfolding governedBlock blockFields FormedBlock
+    → AllNamed (enclosed fs b ∷ es) (namedBlock b fs es) (blockFields b)
+unfolding namedBlock blockFields FormedBlock
 block-named (block at ds ss) fs es here fit h =
     let os = enclosed fs (block at ds ss) ∷ es in
     let d = decls-named os ds [] (suc (length es)) (length (stmts ss)) (here + 6) fit refl (h .declarations) in
     let s = stmts-named os ss [] (suc (length es)) (here + 6 + 2 * length (declsFields ds)) fit refl (h .statements) in
-    (nameless os _, (nameless os _, (nameless os _, named-append os (governedDecls ds os) (governedStmts ss os) (declsFields ds) (stmtsFields ss) d s)))
+    (nameless os _, (nameless os _, (nameless os _, named-append os (namedDecls ds os) (namedStmts ss os) (declsFields ds) (stmtsFields ss) d s)))
 
 pub fit-of-text : (t : Block) → Keeps t → (es : Enclosure) → Encloses t es → Fit es
 fit-of-text t keeps es w = ((enclosure-level t keeps es w) .1, few es w)
@@ -129,17 +129,17 @@ fit-of-text t keeps es w = ((enclosure-level t keeps es w) .1, few es w)
     few (e ∷ []) h = (enclosure-names t keeps e [] h, tt)
     few (e ∷ o ∷ os) h = (enclosure-names t keeps e (o ∷ os) h, few (o ∷ os) (h .1))
 
-pub governed-inside : (names : List ℕ) (t : Block) → Keeps t → Covers names 0 (governedOf t) → (e : Enclosing) (es : Enclosure) → Encloses t (e ∷ es)
+pub named-inside : (names : List ℕ) (t : Block) → Keeps t → Covers names 0 (namedOf t) → (e : Enclosing) (es : Enclosure) → Encloses t (e ∷ es)
     → (q : ℕ) → placeOf (blockAt (e .text)) ≤ q → q < endPlace (e .text) → Named (e ∷ es) (getD names q 0) (getD (blockFields t) q 0)
 unfolding endPlace
-governed-inside names t keeps covered e es within q low high =
+named-inside names t keeps covered e es within q low high =
     let b = e .text in
     let p = placeOf (blockAt b) in
     let i = q - p in
     let z : p + i ≡ q = omega arith in
     let many = block-length b (e .formals) es in
-    let word : getD names (p + i) 0 ≡ getD (governedBlock b (e .formals) es) i 0 = covers-at names p (governedBlock b (e .formals) es) (block-governed names t keeps covered e es within) i (omega arith) in
+    let word : getD names (p + i) 0 ≡ getD (namedBlock b (e .formals) es) i 0 = covers-at names p (namedBlock b (e .formals) es) (block-fields-named names t keeps covered e es within) i (omega arith) in
     let field : getD (blockFields t) (p + i) 0 ≡ getD (blockFields b) i 0 = covers-at (blockFields t) p (blockFields b) (block-fields-stand t keeps e es within) i (omega arith) in
-    let h : Named (e ∷ es) (getD (governedBlock b (e .formals) es) i 0) (getD (blockFields b) i 0) =
-    named-at (e ∷ es) (governedBlock b (e .formals) es) (blockFields b) (block-named b (e .formals) es (2 * p) (fit-of-text t keeps (e ∷ es) within) (enclosed-formed t keeps e es within)) i (omega arith) in
+    let h : Named (e ∷ es) (getD (namedBlock b (e .formals) es) i 0) (getD (blockFields b) i 0) =
+    named-at (e ∷ es) (namedBlock b (e .formals) es) (blockFields b) (block-named b (e .formals) es (2 * p) (fit-of-text t keeps (e ∷ es) within) (enclosed-formed t keeps e es within)) i (omega arith) in
     subst (λ k. Named (e ∷ es) (getD names k 0) (getD (blockFields t) k 0)) z (subst (λ (c : ℕ × ℕ). Named (e ∷ es) (c .0) (c .1)) (λ j. (sym word j, sym field j)) h)

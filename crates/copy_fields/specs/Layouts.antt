@@ -7,8 +7,8 @@ use Rattle.language.specs.Text.{blockDecls, blockStmts}
 use Rattle.language.specs.Encoding.{BK-mark, PR-mark, formalsFields, blockFields, declFields, stmtFields, declsFields, stmtsFields}
 use Rattle.resolved.specs.Resolved.{nameWord, header, resolvedFormals, resolvedBlock, resolvedDecl, resolvedStmt, resolvedDecls, resolvedStmts}
 use Rattle.resolved.specs.Lengths as resolved
-use Rattle.copy_fields.specs.Governed.{governedFormals, governedBlock, governedDecl, governedStmt, governedDecls, governedStmts}
-use Rattle.copy_fields.specs.Lengths as governed
+use Rattle.copy_fields.specs.NameFields.{namedFormals, namedBlock, namedDecl, namedStmt, namedDecls, namedStmts}
+use Rattle.copy_fields.specs.Lengths as lengths
 use Rattle.copy_fields.specs.Layout.{Layout}
 
 unfoldable pub fieldsLayout : Layout
@@ -39,15 +39,15 @@ fieldsLayout = record {
   decls-size = λ ds es. refl;
 }
 
-unfoldable pub governedLayout : Layout
-unfolding governedBlock governedFormals
-governedLayout = record {
-  ofFormals = governedFormals;
-  ofBlock = governedBlock;
-  ofDecl = governedDecl;
-  ofStmt = governedStmt;
-  ofDecls = governedDecls;
-  ofStmts = governedStmts;
+unfoldable pub namedLayout : Layout
+unfolding namedBlock namedFormals
+namedLayout = record {
+  ofFormals = namedFormals;
+  ofBlock = namedBlock;
+  ofDecl = namedDecl;
+  ofStmt = namedStmt;
+  ofDecls = namedDecls;
+  ofStmts = namedStmts;
   ofHead = λ e es. 0 ∷ 0 ∷ 0 ∷ [];
   ofHeading = λ n fs es. 0 ∷ nameWord es n ∷ 0 ∷ [];
   no-formals = refl;
@@ -61,10 +61,10 @@ governedLayout = record {
   stmts-open = λ x ss es. refl;
   head-size = λ e es. refl;
   heading-size = λ n fs es. refl;
-  formals-size = governed.formals-length;
-  decl-size = governed.decl-length;
-  stmt-size = governed.stmt-length;
-  decls-size = governed.decls-length;
+  formals-size = lengths.formals-length;
+  decl-size = lengths.decl-length;
+  stmt-size = lengths.stmt-length;
+  decls-size = lengths.decls-length;
 }
 
 -- `name` is the looked-up name

@@ -1,5 +1,5 @@
--- What stands at the places of an enclosed block and of its statements. In an array that holds the words of a script's names: `block-governed`,
--- `stmt-governed`, `action-governed` and, at a declaration's name, `declared-governed`. Among the script's own fields: `block-fields-stand`,
+-- What stands at the places of an enclosed block and of its statements. In an array that holds the words of a script's names: `block-fields-named`,
+-- `stmt-fields-named`, `action-fields-named` and, at a declaration's name, `declared-fields-named`. Among the script's own fields: `block-fields-stand`,
 -- `stmt-fields-stand`, `action-fields-stand`.
 use Prim.Native.Nat.{ℕ, zero, suc, _+_, _≤_, _<_}
 use native.Mathlib.Omega.{arith}
@@ -15,9 +15,9 @@ use Rattle.coordinates.specs.Enclosure.{Enclosing, Enclosure, Encloses}
 use Rattle.resolved.specs.Resolved.{placeOf, endPlace, nameWord, Covers}
 use Rattle.resolved.specs.Lengths.{covers-self}
 use Rattle.resolved.specs.Places.{declsBefore}
-use Rattle.copy_fields.specs.Governed.{governedAction, governedBlock, governedDecl, governedStmt, governedOf}
+use Rattle.copy_fields.specs.NameFields.{namedAction, namedBlock, namedDecl, namedStmt, namedOf}
 use Rattle.copy_fields.specs.Layout.{beforeDecl, block-laid, stmt-laid, decl-laid}
-use Rattle.copy_fields.specs.Layouts.{fieldsLayout, governedLayout}
+use Rattle.copy_fields.specs.Layouts.{fieldsLayout, namedLayout}
 
 -- The script's own fields
 
@@ -36,27 +36,27 @@ module _ (t : Block) (keeps : Keeps t) (e : Enclosing) (es : Enclosure) (within 
 
 -- The words of the names
 
-module _ (names : List ℕ) (t : Block) (keeps : Keeps t) (covered : Covers names 0 (governedOf t)) (e : Enclosing) (es : Enclosure) (within : Encloses t (e ∷ es)) where
-  pub block-governed : Covers names (placeOf (blockAt (e .text))) (governedBlock (e .text) (e .formals) es)
-  unfolding governedLayout governedOf
-  block-governed = block-laid governedLayout names t keeps covered e es within
+module _ (names : List ℕ) (t : Block) (keeps : Keeps t) (covered : Covers names 0 (namedOf t)) (e : Enclosing) (es : Enclosure) (within : Encloses t (e ∷ es)) where
+  pub block-fields-named : Covers names (placeOf (blockAt (e .text))) (namedBlock (e .text) (e .formals) es)
+  unfolding namedLayout namedOf
+  block-fields-named = block-laid namedLayout names t keeps covered e es within
 
-  pub stmt-governed : (i : ℕ) (x : Stmt) → getElem? (blockStmts (e .text)) i ≡ some x → Covers names (placeOf (stmtAt x)) (governedStmt x (e ∷ es))
-  unfolding governedLayout governedOf
-  stmt-governed i x q = stmt-laid governedLayout names t keeps covered e es within i x q
+  pub stmt-fields-named : (i : ℕ) (x : Stmt) → getElem? (blockStmts (e .text)) i ≡ some x → Covers names (placeOf (stmtAt x)) (namedStmt x (e ∷ es))
+  unfolding namedLayout namedOf
+  stmt-fields-named i x q = stmt-laid namedLayout names t keeps covered e es within i x q
 
-  pub action-governed : (i at : ℕ) (a : Action) → getElem? (blockStmts (e .text)) i ≡ some (DO at a) → Covers names (placeOf at) (governedAction (e ∷ es) a)
-  unfolding stmtAt governedBlock
-  action-governed i at a q = stmt-governed i (DO at a) q
+  pub action-fields-named : (i at : ℕ) (a : Action) → getElem? (blockStmts (e .text)) i ≡ some (DO at a) → Covers names (placeOf at) (namedAction (e ∷ es) a)
+  unfolding stmtAt namedBlock
+  action-fields-named i at a q = stmt-fields-named i (DO at a) q
 
-  decl-governed : (j : ℕ) (d : Decl) → getElem? (blockDecls (e .text)) j ≡ some d → Covers names (placeOf (blockAt (e .text)) + beforeDecl (e .text) j) (governedDecl d (e ∷ es))
-  unfolding governedLayout governedOf
-  decl-governed j d q = decl-laid governedLayout names t keeps covered e es within j d q
+  decl-fields-named : (j : ℕ) (d : Decl) → getElem? (blockDecls (e .text)) j ≡ some d → Covers names (placeOf (blockAt (e .text)) + beforeDecl (e .text) j) (namedDecl d (e ∷ es))
+  unfolding namedLayout namedOf
+  decl-fields-named j d q = decl-laid namedLayout names t keeps covered e es within j d q
 
 -- A declaration's name
 
-name-there : (names : List ℕ) (p : ℕ) (d : Decl) (es : Enclosure) → Covers names p (governedDecl d es) → getD names (p + 1) 0 ≡ nameWord es (declName d)
-unfolding governedBlock declName
+name-there : (names : List ℕ) (p : ℕ) (d : Decl) (es : Enclosure) → Covers names p (namedDecl d es) → getD names (p + 1) 0 ≡ nameWord es (declName d)
+unfolding namedBlock declName
 name-there names p (VR at n) es h = h .1 .0
 name-there names p (LB at n i) es h = h .1 .0
 name-there names p (PR at n fs b) es h = h .1 .0
@@ -78,10 +78,10 @@ decl-within : (b : Block) (j : ℕ) (d : Decl) → getElem? (blockDecls b) j ≡
 unfolding blockDecls beforeDecl blockFields
 decl-within (block at ds ss) j d e = omega (arith, decls-within ds j d e, two-fields d, length-append (declsFields ds) (stmtsFields ss))
 
-pub declared-governed : (names : List ℕ) (t : Block) → Keeps t → Covers names 0 (governedOf t) → (e : Enclosing) (es : Enclosure) → Encloses t (e ∷ es)
+pub declared-fields-named : (names : List ℕ) (t : Block) → Keeps t → Covers names 0 (namedOf t) → (e : Enclosing) (es : Enclosure) → Encloses t (e ∷ es)
     → (j : ℕ) (d : Decl) → getElem? (blockDecls (e .text)) j ≡ some d
     → (q : ℕ) × (placeOf (blockAt (e .text)) ≤ q) × (q < endPlace (e .text)) × (getD names q 0 ≡ nameWord (e ∷ es) (declName d))
 unfolding endPlace
-declared-governed names t keeps covered e es within j d q =
+declared-fields-named names t keeps covered e es within j d q =
     let p = placeOf (blockAt (e .text)) in
-    (p + beforeDecl (e .text) j + 1, omega arith, omega (arith, decl-within (e .text) j d q), name-there names (p + beforeDecl (e .text) j) d (e ∷ es) (decl-governed names t keeps covered e es within j d q))
+    (p + beforeDecl (e .text) j + 1, omega arith, omega (arith, decl-within (e .text) j d q), name-there names (p + beforeDecl (e .text) j) d (e ∷ es) (decl-fields-named names t keeps covered e es within j d q))

@@ -13,12 +13,12 @@ ghost use mathlib.Core.Path.{_≡_};
 ghost use Prim.Native.Nat.{_+_, _<_, _≤_};
 ghost use lib.ListN.{length, replicate};
 ghost use Rattle.laws.specs.Fields.{fieldAt};
-ghost use Rattle.copy_fields.specs.Governing as governing;
+ghost use Rattle.copy_fields.specs.Naming as naming;
 
 // So many words from a place on. Past the end nothing is written.
 fn take(code: &[u32; 4096], names: &mut [u32; 4096], from: usize, count: usize)
     requires { ⌜ (length (now names) ≡ 4096) × (from < 5000) × (count < 65536) ⌝ }
-    ensures taken { λ _. ⌜ now (names .exit) ≡ governing.taken (now (code .entry)) (now (names .entry)) from count ⌝ }
+    ensures taken { λ _. ⌜ now (names .exit) ≡ naming.taken (now (code .entry)) (now (names .entry)) from count ⌝ }
     ensures long { λ _. ⌜ length (now (names .exit)) ≡ 4096 ⌝ }
 {
     let mut i = 0;
@@ -34,7 +34,7 @@ fn take(code: &[u32; 4096], names: &mut [u32; 4096], from: usize, count: usize)
 // Two words in the other order. Past the end nothing is written.
 fn cross(code: &[u32; 4096], names: &mut [u32; 4096], from: usize)
     requires { ⌜ (length (now names) ≡ 4096) × (from < 5000) ⌝ }
-    ensures crossed { λ _. ⌜ (from + 1 < 4096 → now (names .exit) ≡ governing.crossed (now (code .entry)) (now (names .entry)) from) ⌝ }
+    ensures crossed { λ _. ⌜ (from + 1 < 4096 → now (names .exit) ≡ naming.crossed (now (code .entry)) (now (names .entry)) from) ⌝ }
     ensures long { λ _. ⌜ length (now (names .exit)) ≡ 4096 ⌝ }
 {
     if from + 1 < 4096 {
@@ -45,7 +45,7 @@ fn cross(code: &[u32; 4096], names: &mut [u32; 4096], from: usize)
 
 // How many names stand right after a record's mark. A formal's word is 0 in the resolved script.
 fn leading(mark: usize) -> usize
-    ensures { λ r. ⌜ (r ≡ governing.leading mark) × (r ≤ 3) ⌝ }
+    ensures { λ r. ⌜ (r ≡ naming.leading mark) × (r ≤ 3) ⌝ }
 {
     if mark == BK {
         return 0;
@@ -65,7 +65,7 @@ fn leading(mark: usize) -> usize
 // How many names stand after a record's second field.
 fn trailing(script: &[u8], at: usize, mark: usize) -> usize
     requires { ⌜ at < 8192 ⌝ }
-    ensures { λ r. ⌜ (r ≡ governing.trailing mark (fieldAt (now (script .entry)) (at + 4))) × (r < 65536) ⌝ }
+    ensures { λ r. ⌜ (r ≡ naming.trailing mark (fieldAt (now (script .entry)) (at + 4))) × (r < 65536) ⌝ }
 {
     if mark == AR {
         return 2;
@@ -79,7 +79,7 @@ fn trailing(script: &[u8], at: usize, mark: usize) -> usize
 // The words of one record. IF's label comes first in the resolved script.
 fn note(script: &[u8], code: &[u32; 4096], names: &mut [u32; 4096], at: usize, mark: usize)
     requires { ⌜ (length (now names) ≡ 4096) × (at < 8192) × (mark ≡ fieldAt (now script) at) ⌝ }
-    ensures noted { λ _. ⌜ governing.Noted (now (script .entry)) (now (code .entry)) at (now (names .entry)) (now (names .exit)) ⌝ }
+    ensures noted { λ _. ⌜ naming.Noted (now (script .entry)) (now (code .entry)) at (now (names .entry)) (now (names .exit)) ⌝ }
     ensures long { λ _. ⌜ length (now (names .exit)) ≡ 4096 ⌝ }
 {
     if mark == IF {
@@ -91,9 +91,9 @@ fn note(script: &[u8], code: &[u32; 4096], names: &mut [u32; 4096], at: usize, m
 }
 
 // One pass over the records, which stand one after the other. `names` is all zeros before it.
-pub fn govern(script: &[u8], code: &[u32; 4096], names: &mut [u32; 4096])
+pub fn name_fields(script: &[u8], code: &[u32; 4096], names: &mut [u32; 4096])
     requires { ⌜ now names ≡ replicate 4096 0 ⌝ }
-    ensures governs { λ _. ⌜ governing.Governs (now (script .entry)) (now (code .entry)) (now (names .exit)) ⌝ }
+    ensures noted { λ _. ⌜ naming.NamesStand (now (script .entry)) (now (code .entry)) (now (names .exit)) ⌝ }
     ensures long { λ _. ⌜ length (now (names .exit)) ≡ 4096 ⌝ }
 {
     if 8192 < script.len() {

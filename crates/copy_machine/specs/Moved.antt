@@ -177,7 +177,7 @@ module _ (l : Limits) (s : State) (a : Activation) (inv : Invariant s) (last : l
   action-moved at (IF v x) n = branch-moved x (eqZ (value ahead v) (pos 0))
   action-moved at (KN t z) n = stored-moved t z
   action-moved at (AR t o b c) n = fits-moved t (compute o (value ahead b) (value ahead c))
-  action-moved at (AD g m) n = tabled-moved (added (l .group) (value ahead g) (value ahead m) (ahead .table))
+  action-moved at (AD g m) n = tabled-moved (added (l .limit) (value ahead g) (value ahead m) (ahead .table))
   action-moved at (RM g m) n = tabled-moved (removed (value ahead g) (value ahead m) (ahead .table))
   action-moved at (QY t g m) n = asked-moved t (queried (value ahead g) (value ahead m) (ahead .table))
 

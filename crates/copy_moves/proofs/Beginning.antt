@@ -53,5 +53,5 @@ module _ {script code names area : List ℕ} (w : Beginnable script code names a
           targets-are = t ∙ ap (notedFrom targets names 0 1 0) (omega (arith, end-is));
           firsts-are = refl;
           looked-is = ap (set looked 0) (r ∙ ap (λ (x : ℕ). renewed filled 0 1 65536 x 0) word-is);
-          now-is = λ i. record { live = 0; at = at-is i; end = end-is i; pairs = pairs; level = 0; fresh = 65536 + count-is i };
+          registers-are = λ i. record { live = 0; at = at-is i; end = end-is i; pairs = pairs; level = 0; fresh = 65536 + count-is i };
         }

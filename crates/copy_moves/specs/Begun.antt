@@ -29,4 +29,4 @@ pub record BegunIn (script code names area firsts targets looked : List ℕ) (pa
   pub targets-are : targets′ ≡ notedFrom targets names 0 1 0 (endAt code 0)
   pub firsts-are : firsts′ ≡ set firsts 0 65536
   pub looked-is : looked′ ≡ set looked 0 (renewed filled 0 1 65536 (getD code 2 0) 0)
-  pub now-is : r ≡ record { live = 0; at = firstIn (getD code 1 0); end = endAt code 0; pairs = pairs; level = 0; fresh = 65536 + namesAt code 0 }
+  pub registers-are : r ≡ record { live = 0; at = firstIn (getD code 1 0); end = endAt code 0; pairs = pairs; level = 0; fresh = 65536 + namesAt code 0 }

@@ -32,9 +32,9 @@ use Rattle.resolved.specs.Resolved.{placeOf, endPlace, levelIn, nameWord, Cover
 use Rattle.resolved.specs.NameWords.{word-none}
 use Rattle.resolved.specs.Lengths.{covers-at}
 use Rattle.resolved.specs.Places.{enclosed-formed}
-use Rattle.copy_fields.specs.Governed.{governedBlock, governedOf}
+use Rattle.copy_fields.specs.NameFields.{namedBlock, namedOf}
 use Rattle.copy_fields.specs.Lengths.{block-length}
-use Rattle.copy_fields.specs.Standing.{block-fields-stand, block-governed}
+use Rattle.copy_fields.specs.Standing.{block-fields-stand, block-fields-named}
 use Rattle.copy_texts.specs.Texts.{reading, Texts}
 use Rattle.copy_texts.specs.Readings.{Narrow, narrow-of-text, word-says, zip-missing}
 use Rattle.copy_texts.specs.Renewing.{valuesOf, reading-plain, reading-in}
@@ -129,7 +129,7 @@ module _ (program : Block) (s : State) (t : Stack) (related : Related s t) (chai
   -- the fields of a copy
   pub copy-read : Keeps program → (k : ℕ) (a : Activation) (f : Frame) → getElem? (s .live) k ≡ some a → getElem? (t .frames) k ≡ some f
       → Twin (s .live) (s .values) k a f
-      → blockFields (a .text) ≡ readings (a .reads) (governedBlock (f .text) (f .formals) (enclosureOf (t .frames) (f .link))) (blockFields (f .text))
+      → blockFields (a .text) ≡ readings (a .reads) (namedBlock (f .text) (f .formals) (enclosureOf (t .frames) (f .link))) (blockFields (f .text))
   unfolding enclosing
   copy-read keeps k a f e q twin =
       let es = enclosureOf (t .frames) (f .link) in
@@ -153,7 +153,7 @@ readings-covered area σs p (w ∷ ws) (n ∷ ns) h =
     )
 
 module _ (program : Block) (keeps : Keeps program) (s : State) (t : Stack) (related : Related s t) (chained : Chained program (t .frames))
-    (names : List ℕ) (governs : Covers names 0 (governedOf program))
+    (names : List ℕ) (names-stand : Covers names 0 (namedOf program))
     (area : List ℕ) (width : ℕ) (texts : Texts area width names (blockFields program) (s .live) (t .frames)) where
   module _ (k : ℕ) (a : Activation) (e : getElem? (s .live) k ≡ some a) (f : Frame) (q : getElem? (t .frames) k ≡ some f) where
     abbrev es : Enclosure
@@ -166,13 +166,13 @@ module _ (program : Block) (keeps : Keeps program) (s : State) (t : Stack) (rela
     around = encloses-at program (t .frames) chained k f q
 
     field-read : (i : ℕ) → i < length (blockFields (f .text))
-        → getD area (k * width + place + i) 0 ≡ reading (a .reads) (getD (governedBlock (f .text) (f .formals) es) i 0) (getD (blockFields (f .text)) i 0)
+        → getD area (k * width + place + i) 0 ≡ reading (a .reads) (getD (namedBlock (f .text) (f .formals) es) i 0) (getD (blockFields (f .text)) i 0)
     unfolding endPlace enclosing
     field-read i l =
         let z : k * width + place + i ≡ k * width + (place + i) = omega arith in
-        let ws = governedBlock (f .text) (f .formals) es in
-        let governed = block-governed names program keeps governs (enclosing f) es around in
-        let word = covers-at names place ws governed i (omega (arith, block-length (f .text) (f .formals) es)) in
+        let ws = namedBlock (f .text) (f .formals) es in
+        let fields-named = block-fields-named names program keeps names-stand (enclosing f) es around in
+        let word = covers-at names place ws fields-named i (omega (arith, block-length (f .text) (f .formals) es)) in
         let field = covers-at (blockFields program) place (blockFields (f .text)) (block-fields-stand program keeps (enclosing f) es around) i l in
         ap (λ j. getD area j 0) z ∙ texts .each k a f e q (place + i) (omega arith) (omega arith) ∙ ap₂ (reading (a .reads)) word field
 
@@ -184,13 +184,13 @@ module _ (program : Block) (keeps : Keeps program) (s : State) (t : Stack) (rela
       let at : blockAt (a .text) ≡ blockAt (f .text) = ap blockAt (twin .2 .text-is) ∙ blockAt-renamed (f .text) (joined (a .reads)) in
       let fields = copy-read program s t related chained keeps k a f e (twin .1) (twin .2) in
       subst₂ (λ (o : ℕ) (xs : List ℕ). Covers area (k * width + placeOf o) xs) (sym at) (sym fields)
-      (readings-covered area (a .reads) (k * width + placeOf (blockAt (f .text))) (governedBlock (f .text) (f .formals) os) (blockFields (f .text))
+      (readings-covered area (a .reads) (k * width + placeOf (blockAt (f .text))) (namedBlock (f .text) (f .formals) os) (blockFields (f .text))
       (field-read k a e f (twin .1)))
 
-module _ {code names : List ℕ} {limit group : ℕ} {words : List ℤ} {area : List ℕ} {width : ℕ} {blocks nexts firsts starts targets looked : List ℕ} {table : List ℤ} {here : Registers}
-    (w : Running code names limit group words area width blocks nexts firsts starts targets looked table here) where
+module _ {code names : List ℕ} {activations limit : ℕ} {cells : List ℤ} {area : List ℕ} {width : ℕ} {blocks nexts firsts starts targets looked : List ℕ} {table : List ℤ} {here : Registers}
+    (w : Running code names activations limit cells area width blocks nexts firsts starts targets looked table here) where
   pub running-copies : (k : ℕ) (a : Activation) → getElem? (w .copies .live) k ≡ some a
       → Covers area (k * width + placeOf (blockAt (a .text))) (blockFields (a .text))
   running-copies =
       texts-are-copies (w .standing .program) (w .standing .keeps) (w .copies) (w .standing .stack) (w .related) (w .standing .sound .chained)
-      names (w .governs) area width (w .texts)
+      names (w .names-stand) area width (w .texts)

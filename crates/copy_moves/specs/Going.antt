@@ -18,7 +18,7 @@ use Rattle.frames.specs.Related.{Related, as-deep}
 use Rattle.instances.specs.Invariant.{Invariant}
 use Rattle.coordinates.specs.Chain.{Chained, SameOutlines}
 use Rattle.resolved.specs.Resolved.{Covers}
-use Rattle.copy_fields.specs.Governed.{governedOf}
+use Rattle.copy_fields.specs.NameFields.{namedOf}
 use Rattle.steps.specs.Standing.{Standing}
 use Rattle.steps.specs.Means.{Follows}
 use Rattle.steps.specs.Here.{many, downward}
@@ -33,14 +33,14 @@ use Rattle.copy_texts.specs.Entering.{texts-kept}
 use Rattle.copy_texts.specs.Aiming.{aims-kept}
 use Rattle.copy_texts.specs.Looking.{looks-kept}
 use Rattle.run_state.specs.declared.Registers.{Registers}
-use Rattle.run_state.specs.Scenes.{limitsBy, goesTo}
+use Rattle.run_state.specs.Limits.{limitsBy, goesTo}
 use Rattle.copy_moves.specs.Running.{Running, Succeeds}
 use Rattle.copy_moves.specs.Settled.{same-outline, outlines}
 
-module _ {code names : List ℕ} {limit group : ℕ} {words : List ℤ} {area : List ℕ} {width : ℕ} {blocks nexts firsts starts targets looked : List ℕ} {table : List ℤ} {here : Registers}
-    (w : Running code names limit group words area width blocks nexts firsts starts targets looked table here)
-    {words′ : List ℤ} {blocks′ nexts′ links′ : List ℕ} {table′ : List ℤ} {pairs′ live′ at′ end′ : ℕ}
-    (st : Standing code (limitsBy limit group) words′ blocks′ nexts′ links′ table′ pairs′ live′ at′ end′)
+module _ {code names : List ℕ} {activations limit : ℕ} {cells : List ℤ} {area : List ℕ} {width : ℕ} {blocks nexts firsts starts targets looked : List ℕ} {table : List ℤ} {here : Registers}
+    (w : Running code names activations limit cells area width blocks nexts firsts starts targets looked table here)
+    {cells′ : List ℤ} {blocks′ nexts′ links′ : List ℕ} {table′ : List ℤ} {pairs′ live′ at′ end′ : ℕ}
+    (st : Standing code (limitsBy activations limit) cells′ blocks′ nexts′ links′ table′ pairs′ live′ at′ end′)
     (follows : Follows (w .standing) (st .stack) (st .program) (st .name)) where
   abbrev fs : List Frame
   fs = w .standing .stack .frames
@@ -56,8 +56,8 @@ module _ {code names : List ℕ} {limit group : ℕ} {words : List ℤ} {area : 
   abbrev pub innermost : (a : Activation) × (last? (w .copies .live) ≡ some a)
   innermost = some-last (w .copies .live) (omega (arith, live-is))
 
-  abbrev pub made : CopiesStep (limitsBy limit group) (w .copies) (w .standing .stack) (follows .moved)
-  made = copies-step (limitsBy limit group) (w .copies) (w .standing .stack) (w .related) (w .invariant) (innermost .0) (innermost .1) (follows .moved) (follows .steps)
+  abbrev pub made : CopiesStep (limitsBy activations limit) (w .copies) (w .standing .stack) (follows .moved)
+  made = copies-step (limitsBy activations limit) (w .copies) (w .standing .stack) (w .related) (w .invariant) (innermost .0) (innermost .1) (follows .moved) (follows .steps)
 
   -- the state of the copy-rule machine after the step
   abbrev pub after : State
@@ -78,12 +78,12 @@ module _ {code names : List ℕ} {limit group : ℕ} {words : List ℤ} {area : 
 
   pub keeps : live′ ≤ here .live → Keeps (w .copies) after
   keeps h =
-      copies-kept (limitsBy limit group) (w .copies) (w .standing .stack) (follows .moved) (w .related) (w .invariant) (innermost .0) (innermost .1) (made .0) (made .1) (made .2)
+      copies-kept (limitsBy activations limit) (w .copies) (w .standing .stack) (follows .moved) (w .related) (w .invariant) (innermost .0) (innermost .1) (made .0) (made .1) (made .2)
       (omega (arith, many st, many (w .standing), ap length frames-are))
 
   pub enters : here .live < live′ → EntersAnew (w .copies) after (innermost .0)
   enters h =
-      copies-entered (limitsBy limit group) (w .copies) (w .standing .stack) (follows .moved) (w .related) (w .invariant) (innermost .0) (innermost .1) (made .0) (made .1) (made .2)
+      copies-entered (limitsBy activations limit) (w .copies) (w .standing .stack) (follows .moved) (w .related) (w .invariant) (innermost .0) (innermost .1) (made .0) (made .1) (made .2)
       (omega (arith, many st, many (w .standing), ap length frames-are))
 
   -- frames at the same number
@@ -127,7 +127,7 @@ module _ {code names : List ℕ} {limit group : ℕ} {words : List ℤ} {area : 
     outlines-live : SameOutlines (length (after .live)) fs gs
     outlines-live = subst (λ n. SameOutlines n fs gs) (sym deep) alike
 
-    pub runs-on : Running code names limit group words′ area width blocks′ nexts′ firsts starts targets looked table′ (goesTo here live′ at′ end′ pairs′)
+    pub runs-on : Running code names activations limit cells′ area width blocks′ nexts′ firsts starts targets looked table′ (goesTo here live′ at′ end′ pairs′)
     runs-on =
         record {
           links = links′;
@@ -135,7 +135,7 @@ module _ {code names : List ℕ} {limit group : ℕ} {words : List ℤ} {area : 
           copies = after;
           related = related-after;
           invariant = invariant-after;
-          governs = subst (λ (t : Block). Covers names 0 (governedOf t)) (sym program-is) (w .governs);
+          names-stand = subst (λ (t : Block). Covers names 0 (namedOf t)) (sym program-is) (w .names-stand);
           texts = subst (λ (t : Block). Texts area width names (blockFields t) (after .live) gs) (sym program-is) (texts-kept (w .texts) (after .live) gs fewer-live alike-activations outlines-live);
           new-names = subst (λ n. NewNames (after .live) n firsts starts) (sym (k .fresh-is)) (new-names-kept firsts starts (w .copies .live) (after .live) (w .copies .fresh) (λ j c q. let o = k .kept j c q in (o .0, o .1, o .2 .0, o .2 .1, o .2 .2)) (w .new-names));
           aims = aims-kept targets fs gs (w .aims) (subst (λ n. SameOutlines n fs gs) (sym (many st)) alike);
@@ -151,6 +151,6 @@ module _ {code names : List ℕ} {limit group : ℕ} {words : List ℤ} {area : 
           looked-long = w .looked-long;
         }
 
-    pub goes-on : Succeeds w words′ area blocks′ nexts′ firsts starts targets looked table′ (goesTo here live′ at′ end′ pairs′)
+    pub goes-on : Succeeds w cells′ area blocks′ nexts′ firsts starts targets looked table′ (goesTo here live′ at′ end′ pairs′)
     unfolding runs-on
     goes-on = record { running = runs-on; follows = follows; few-more = omega arith }

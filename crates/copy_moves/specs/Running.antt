@@ -14,19 +14,19 @@ use Rattle.resolved.specs.Resolved.{Covers}
 use Rattle.steps.specs.Standing.{Standing}
 use Rattle.steps.specs.Means.{Follows}
 use Rattle.resolved.specs.Layout.{endIn}
-use Rattle.copy_fields.specs.Governed.{governedOf}
+use Rattle.copy_fields.specs.NameFields.{namedOf}
 use Rattle.copy_names.specs.Owner.{NewNames}
 use Rattle.copy_texts.specs.Texts.{Texts, Aims, Looks}
 use Rattle.run_state.specs.declared.Registers.{Registers}
-use Rattle.run_state.specs.Scenes.{limitsBy, goesTo}
+use Rattle.run_state.specs.Limits.{limitsBy, goesTo}
 
-pub record Running (code names : List ℕ) (limit group : ℕ) (words : List ℤ) (area : List ℕ) (width : ℕ) (blocks nexts firsts starts targets looked : List ℕ) (table : List ℤ) (here : Registers) : Type 0 where
+pub record Running (code names : List ℕ) (activations limit : ℕ) (cells : List ℤ) (area : List ℕ) (width : ℕ) (blocks nexts firsts starts targets looked : List ℕ) (table : List ℤ) (here : Registers) : Type 0 where
   pub links : List ℕ
-  pub standing : Standing code (limitsBy limit group) words blocks nexts links table (here .pairs) (here .live) (here .at) (here .end)
+  pub standing : Standing code (limitsBy activations limit) cells blocks nexts links table (here .pairs) (here .live) (here .at) (here .end)
   pub copies : State
   pub related : Related copies (standing .stack)
   pub invariant : Invariant copies
-  pub governs : Covers names 0 (governedOf (standing .program))
+  pub names-stand : Covers names 0 (namedOf (standing .program))
   pub texts : Texts area width names (blockFields (standing .program)) (copies .live) (standing .stack .frames)
   pub new-names : NewNames (copies .live) (copies .fresh) firsts starts
   pub aims : Aims targets (standing .stack .frames)
@@ -35,7 +35,7 @@ pub record Running (code names : List ℕ) (limit group : ℕ) (words : List ℤ
   pub fresh-is : here .fresh ≡ copies .fresh
   pub wide : length (blockFields (standing .program)) ≤ width
   pub small : width ≤ 4096
-  pub room : limit * width ≤ length area
+  pub room : activations * width ≤ length area
   pub firsts-long : length firsts ≡ 256
   pub starts-long : length starts ≡ 256
   pub targets-long : length targets ≡ 8224
@@ -47,9 +47,9 @@ nowAt code blocks here home at =
     goesTo here home at (endIn (getD code (getD blocks home 0 + 1) 0)) (here .pairs)
 
 -- the state of the arrays one step later
-pub record Succeeds {code names : List ℕ} {limit group : ℕ} {words : List ℤ} {area : List ℕ} {width : ℕ} {blocks nexts firsts starts targets looked : List ℕ} {table : List ℤ} {here : Registers}
-    (w : Running code names limit group words area width blocks nexts firsts starts targets looked table here)
-    (words′ : List ℤ) (area′ blocks′ nexts′ firsts′ starts′ targets′ looked′ : List ℕ) (table′ : List ℤ) (here′ : Registers) : Type 0 where
-  pub running : Running code names limit group words′ area′ width blocks′ nexts′ firsts′ starts′ targets′ looked′ table′ here′
+pub record Succeeds {code names : List ℕ} {activations limit : ℕ} {cells : List ℤ} {area : List ℕ} {width : ℕ} {blocks nexts firsts starts targets looked : List ℕ} {table : List ℤ} {here : Registers}
+    (w : Running code names activations limit cells area width blocks nexts firsts starts targets looked table here)
+    (cells′ : List ℤ) (area′ blocks′ nexts′ firsts′ starts′ targets′ looked′ : List ℕ) (table′ : List ℤ) (here′ : Registers) : Type 0 where
+  pub running : Running code names activations limit cells′ area′ width blocks′ nexts′ firsts′ starts′ targets′ looked′ table′ here′
   pub follows : Follows (w .standing) (running .standing .stack) (running .standing .program) (running .standing .name)
   pub few-more : here′ .fresh ≤ here .fresh + 32

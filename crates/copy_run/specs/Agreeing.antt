@@ -37,7 +37,7 @@ module _ (c : Copy) (s : Scene) (F : Finding) where
 
   pub constant-same : Agrees 1 1 → text c s 2 + 65536 * text c s 3 ≡ field s 2 → doConstant c s ≡ actConstant F s
   unfolding doConstant actConstant
-  constant-same a v = λ i. rewrites s (On (s .at + 4)) (set (s .words) (a .cell-is i) (signed (v i)))
+  constant-same a v = λ i. rewrites s (On (s .at + 4)) (set (s .cells) (a .cell-is i) (signed (v i)))
 
   move-same : (e : Done-or-not) → moveAfter e (s .at + 5) ≡ arithmeticMove F s e
   unfolding moveAfter arithmeticMove
@@ -49,9 +49,9 @@ module _ (c : Copy) (s : Scene) (F : Finding) where
   arithmetic-same o e t a b =
       let y = compute o (valueOf F s (field s 3)) (valueOf F s (field s 4)) in
       let z : compute (operationOf (text c s 2)) (valueAt c s 3) (valueAt c s 4) ≡ y =
-      λ i. compute (e i) (getD (s .words) (a .cell-is i) (pos 0)) (getD (s .words) (b .cell-is i) (pos 0)) in
-      (λ i. rewrites s (moveAfter (effectOf (z i)) (s .at + 5)) (wordsOf (s .words) (t .cell-is i) (z i)))
-      ∙ ap (λ (m : Move). rewrites s m (wordsOf (s .words) (F .cell (field s 1)) y)) (move-same (effectOf y))
+      λ i. compute (e i) (getD (s .cells) (a .cell-is i) (pos 0)) (getD (s .cells) (b .cell-is i) (pos 0)) in
+      (λ i. rewrites s (moveAfter (effectOf (z i)) (s .at + 5)) (wordsOf (s .cells) (t .cell-is i) (z i)))
+      ∙ ap (λ (m : Move). rewrites s m (wordsOf (s .cells) (F .cell (field s 1)) y)) (move-same (effectOf y))
 
   -- Jumps
 
@@ -63,14 +63,14 @@ module _ (c : Copy) (s : Scene) (F : Finding) where
   unfolding doBranch actBranch
   branch-same v n =
       let g = goto-same 2 n in
-      λ i. elim (eqZ (getD (s .words) (v .cell-is i) (pos 0)) (pos 0)) [ true ↦ moves s (On (s .at + 3)) | false ↦ g i ]
+      λ i. elim (eqZ (getD (s .cells) (v .cell-is i) (pos 0)) (pos 0)) [ true ↦ moves s (On (s .at + 3)) | false ↦ g i ]
 
   -- Entries
 
   pub block-same : doBlock c s ≡ actBlock F s
   unfolding doBlock actBlock blockMove noRoom
   block-same =
-      split (leb (s .limit) (s .live + 1))
+      split (leb (s .activations) (s .live + 1))
       (λ e. rw (doBlock, actBlock, blockMove, e))
       (λ e. rw (doBlock, actBlock, blockMove, e))
 
@@ -92,10 +92,10 @@ module _ (c : Copy) (s : Scene) (F : Finding) where
     called-same : differs c s ≡ false → doCall c s ≡ actCall F s
     unfolding doCall actCall noRoom
     called-same d =
-        split (leb (s .limit) (s .live + 1))
+        split (leb (s .activations) (s .live + 1))
         (λ e. rw (doCall, d, e, actCall))
         (λ e. (rw (doCall, d, e))
-        ∙ (λ i. rewrites s (Enter (procedure .target-is i) (procedure .home-is i) (s .at + 3 + count i)) (setAll (s .words) (cellFrom (s .live) 32) (given-same i)))
+        ∙ (λ i. rewrites s (Enter (procedure .target-is i) (procedure .home-is i) (s .at + 3 + count i)) (setAll (s .cells) (cellFrom (s .live) 32) (given-same i)))
         ∙ rw (actCall, e))
 
     -- by a name that is no formal

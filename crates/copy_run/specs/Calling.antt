@@ -25,21 +25,21 @@ use Rattle.steps.specs.Finding.{finds-by-links}
 use Rattle.steps.specs.Calls.{body-bounds}
 use Rattle.resolved.specs.Layout.{operationIn}
 use Rattle.run_statements.specs.Pieces.{FormalsBefore}
-use Rattle.copy_fields.specs.Governed.{governedAction, governedStmt}
+use Rattle.copy_fields.specs.NameFields.{namedAction, namedStmt}
 use Rattle.copy_texts.specs.Texts.{reading}
 use Rattle.copy_statements.specs.Doing.{Copy, text, target, call, markOf, happens, doCall}
 use Rattle.copy_statements.specs.Ready.{Named}
 use Rattle.run_state.specs.declared.Registers.{Registers}
 use Rattle.copy_moves.specs.Running.{Running}
 use Rattle.copy_run.specs.Agreeing.{Agrees, call-same, call-formal-same}
-use Rattle.copy_run.specs.Words.{copyOf, sceneIn, around, GovernedHere, WrittenHere, plain, next-known, fields-there, resolved-word, word-read}
+use Rattle.copy_run.specs.Words.{copyOf, sceneIn, around, NamedHere, WrittenHere, plain, next-known, fields-there, resolved-word, word-read}
 use Rattle.copy_run.specs.Names.{byLinks, CellOfName, reads-name, named}
 use Rattle.copy_run.specs.Statements.{Comes, comes, acts-by}
 
-module _ {code names : List ℕ} {limit group : ℕ} {words : List ℤ} {area : List ℕ} {width : ℕ} {blocks nexts firsts starts targets looked : List ℕ} {table : List ℤ} {now : Registers}
-    (w : Running code names limit group words area width blocks nexts firsts starts targets looked table now)
-    (a : Activation) (innermost : getElem? (w .copies .live) (now .live) ≡ some a)
-    (governed : GovernedHere w) (written : WrittenHere w) (cell-of-name : CellOfName w a)
+module _ {code names : List ℕ} {activations limit : ℕ} {cells : List ℤ} {area : List ℕ} {width : ℕ} {blocks nexts firsts starts targets looked : List ℕ} {table : List ℤ} {here : Registers}
+    (w : Running code names activations limit cells area width blocks nexts firsts starts targets looked table here)
+    (a : Activation) (innermost : getElem? (w .copies .live) (here .live) ≡ some a)
+    (fields-named : NamedHere w) (written : WrittenHere w) (cell-of-name : CellOfName w a)
     (o p : ℕ) (xs : List ℕ) (q : frameStmt (w .standing .frame) ≡ some (DO o (CL p xs))) where
   abbrev fs : List Frame
   fs = w .standing .stack .frames
@@ -57,22 +57,22 @@ module _ {code names : List ℕ} {limit group : ℕ} {words : List ℤ} {area : 
   wordOf n = nameWord (around w) n
 
   -- the words of the copy and of the resolved script
-  read : (i : ℕ) → i < 3 + length xs → text c s i ≡ reading (a .reads) (getD (governedStmt (DO o (CL p xs)) (around w)) i 0) (getD (stmtFields (DO o (CL p xs))) i 0)
-  unfolding governedStmt governedAction stmtFields actionFields
-  read i h = word-read w (DO o (CL p xs)) q a innermost governed written i (omega arith) (omega (arith, length-map xs wordOf))
+  read : (i : ℕ) → i < 3 + length xs → text c s i ≡ reading (a .reads) (getD (namedStmt (DO o (CL p xs)) (around w)) i 0) (getD (stmtFields (DO o (CL p xs))) i 0)
+  unfolding namedStmt namedAction stmtFields actionFields
+  read i h = word-read w (DO o (CL p xs)) q a innermost fields-named written i (omega arith) (omega (arith, length-map xs wordOf))
 
   resolved : (i : ℕ) → i < 3 + length xs → field s i ≡ getD (resolvedStmt (w .standing .name) (DO o (CL p xs)) (around w)) i 0
   unfolding resolvedStmt resolvedAction
   resolved i h = resolved-word w (DO o (CL p xs)) q i (omega (arith, length-map xs wordOf))
 
   procedure : Agrees c s F 1 1 × Named c s 1
-  unfolding governedStmt governedAction stmtFields actionFields resolvedStmt resolvedAction actionNames FormedAction
+  unfolding namedStmt namedAction stmtFields actionFields resolvedStmt resolvedAction actionNames FormedAction
   procedure =
       let n = next-known w o (CL p xs) q in
       named w a innermost p (n .names .0) (n .formed .called) cell-of-name 1 (read 1 (omega arith)) 1 (resolved 1 (omega arith))
 
   many : text c s 2 ≡ length xs
-  unfolding governedStmt governedAction stmtFields actionFields
+  unfolding namedStmt namedAction stmtFields actionFields
   many = plain w a 2 (length xs) (read 2 (omega arith))
 
   count : text c s 2 ≡ field s 2
@@ -81,7 +81,7 @@ module _ {code names : List ℕ} {limit group : ℕ} {words : List ℤ} {area : 
 
   -- what an argument's name reads as
   pub argument-reads : (i y : ℕ) → getElem? xs i ≡ some y → text c s (3 + i) ≡ renamed (joined (a .reads)) y
-  unfolding governedStmt governedAction stmtFields actionFields actionNames
+  unfolding namedStmt namedAction stmtFields actionFields actionNames
   argument-reads i y e =
       let n = next-known w o (CL p xs) q in
       let k = getElem-bound xs i y e in
@@ -93,7 +93,7 @@ module _ {code names : List ℕ} {limit group : ℕ} {words : List ℤ} {area : 
       (read j (omega arith) ∙ (λ k. reading (a .reads) (word k) (own k)) ∙ reads-name w a innermost y (each-at (Resolved fs) xs i y e (n .names .1)))
 
   argument : (i : ℕ) → i < text c s 2 → Agrees c s F (3 + i) (3 + i) × Named c s (3 + i)
-  unfolding governedStmt governedAction stmtFields actionFields resolvedStmt resolvedAction actionNames FormedAction
+  unfolding namedStmt namedAction stmtFields actionFields resolvedStmt resolvedAction actionNames FormedAction
   argument i h =
       let n = next-known w o (CL p xs) q in
       let k : i < length xs = omega (arith, many) in
@@ -107,9 +107,9 @@ module _ {code names : List ℕ} {limit group : ℕ} {words : List ℤ} {area : 
       j (read j (omega arith) ∙ (λ k. reading (a .reads) (word k) (own k))) j (resolved j (omega arith) ∙ word))
 
   -- by the operation that stands there
-  operation : (v : ℕ) → field s 0 ≡ v → eqb (operationIn (getD code (now .at) 0)) 15 ≡ eqb (operationIn v) 15
+  operation : (v : ℕ) → field s 0 ≡ v → eqb (operationIn (getD code (here .at) 0)) 15 ≡ eqb (operationIn v) 15
   operation v e =
-      let z : now .at ≡ now .at + 0 = omega arith in
+      let z : here .at ≡ here .at + 0 = omega arith in
       ap (λ i. eqb (operationIn (getD code i 0)) 15) z ∙ ap (λ n. eqb (operationIn n) 15) e
 
   does : (t : Bool) → field s 0 ≡ chosen t 7 15 → doCall c s ≡ acting F s
@@ -124,7 +124,7 @@ module _ {code names : List ℕ} {limit group : ℕ} {words : List ℤ} {area : 
       subst (FormalsBefore code) (sym (procedure .0 .target-is)) (record { there = b .0; before = b .1 })
 
   pub call-comes : Comes c s F
-  unfolding governedStmt governedAction stmtFields actionFields resolvedStmt resolvedAction FormedAction markOf happens
+  unfolding namedStmt namedAction stmtFields actionFields resolvedStmt resolvedAction FormedAction markOf happens
   call-comes =
       let x = DO o (CL p xs) in
       let n = next-known w o (CL p xs) q in
@@ -135,6 +135,6 @@ module _ {code names : List ℕ} {limit group : ℕ} {words : List ℤ} {area : 
         fields = fields-there w x q (3 + text c s 2) (omega (arith, many));
         procedure = procedure .1;
         arguments = λ i h. argument i h .1;
-        limit = w .standing .sound .limit;
+        activations = w .standing .sound .few;
         body = λ e. body;
       })

@@ -29,23 +29,23 @@ use Rattle.coordinates.specs.Chain.{enclosureOf}
 use Rattle.coordinates.specs.Coordinates.{level-of-text}
 use Rattle.resolved.specs.Resolved.{placeOf}
 use Rattle.resolved.specs.Places.{enclosed-formed}
-use Rattle.copy_fields.specs.Inside.{Named, governed-inside}
-use Rattle.copy_fields.specs.Standing.{declared-governed}
+use Rattle.copy_fields.specs.Inside.{Named, named-inside}
+use Rattle.copy_fields.specs.Standing.{declared-fields-named}
 use Rattle.steps.specs.Means.{EntersAt}
-use Rattle.steps.specs.Here.{many, here, downward}
+use Rattle.steps.specs.Here.{many, here as last-here, downward}
 use Rattle.copy_machine.specs.Moved.{Hands, EntersAnew}
 use Rattle.frames.specs.Runs.{CopiesStep, copies-step}
 use Rattle.copy_machine.specs.Together.{copies-entered}
 use Rattle.copy_texts.specs.Readings.{Narrow, narrow-of-text}
-use Rattle.copy_texts.specs.Renewing.{Governs, Inside, Declared, Enters}
+use Rattle.copy_texts.specs.Renewing.{NamesStand, Inside, Declared, Enters}
 use Rattle.copy_statements.specs.Doing.{text}
 use Rattle.run_state.specs.declared.Registers.{Registers}
-use Rattle.run_state.specs.Scenes.{limitsBy}
+use Rattle.run_state.specs.Limits.{limitsBy}
 use Rattle.copy_moves.specs.Running.{Running}
 use Rattle.copy_run.specs.Depth.{reads-deep}
 use Rattle.copy_run.specs.Words.{innermost-activation, ends, end-within-script}
 use Rattle.copy_run.specs.Calling.{argument-reads}
-use Rattle.copy_run.specs.Here.{governed-here, written-here, cells-here, many-copies}
+use Rattle.copy_run.specs.Here.{named-here, written-here, cells-here, many-copies}
 
 -- a call in a copy is a call in the text as written
 called-written : (σ : Replacement) (x : Option Stmt) (o p : ℕ) (xs : List ℕ) → Option·map (λ (y : Stmt). renameStmt y σ) x ≡ some (DO o (CL p xs))
@@ -62,11 +62,11 @@ called-written σ (some (DO o′ (AD g m))) o p xs q = let z : _≡_ {A = ℕ} 0
 called-written σ (some (DO o′ (RM g m))) o p xs q = let z : _≡_ {A = ℕ} 0 1 = cc in absurd (omega arith)
 called-written σ (some (DO o′ (QY t g m))) o p xs q = let z : _≡_ {A = ℕ} 0 1 = cc in absurd (omega arith)
 
-module _ {code names : List ℕ} {limit group : ℕ} {words : List ℤ} {area : List ℕ} {width : ℕ} {blocks nexts firsts starts targets looked : List ℕ} {table : List ℤ} {now : Registers}
-    (w : Running code names limit group words area width blocks nexts firsts starts targets looked table now)
-    (body link back : ℕ) (words₁ : List ℤ) (j : EntersAt (w .standing) body link back words₁) where
+module _ {code names : List ℕ} {activations limit : ℕ} {cells : List ℤ} {area : List ℕ} {width : ℕ} {blocks nexts firsts starts targets looked : List ℕ} {table : List ℤ} {here : Registers}
+    (w : Running code names activations limit cells area width blocks nexts firsts starts targets looked table here)
+    (body link back : ℕ) (cells₁ : List ℤ) (j : EntersAt (w .standing) body link back cells₁) where
   abbrev pub l : Limits
-  l = limitsBy limit group
+  l = limitsBy activations limit
 
   abbrev pub fs : List Frame
   fs = w .standing .stack .frames
@@ -85,11 +85,11 @@ module _ {code names : List ℕ} {limit group : ℕ} {words : List ℤ} {area : 
   abbrev pub a : Activation
   a = (innermost-activation w) .0
 
-  abbrev pub at-innermost : getElem? (w .copies .live) (now .live) ≡ some a
+  abbrev pub at-innermost : getElem? (w .copies .live) (here .live) ≡ some a
   at-innermost = (innermost-activation w) .1
 
   pub last : last? (w .copies .live) ≡ some a
-  last = last-numbered (w .copies .live) ∙ ap (numbered (w .copies .live)) (many-copies w) ∙ numbered-suc (w .copies .live) (now .live) ∙ at-innermost
+  last = last-numbered (w .copies .live) ∙ ap (numbered (w .copies .live)) (many-copies w) ∙ numbered-suc (w .copies .live) (here .live) ∙ at-innermost
 
   -- the machines after the step
 
@@ -108,14 +108,14 @@ module _ {code names : List ℕ} {limit group : ℕ} {words : List ℤ} {area : 
   abbrev pub later : State
   later = counted (w .copies) (made .0)
 
-  ahead-deep : length ahead ≡ suc (now .live)
+  ahead-deep : length ahead ≡ suc (here .live)
   ahead-deep = snoc-length (w .standing .below) (continue (w .standing .frame) (suc (w .standing .frame .next))) ∙ ap suc (w .standing .depth)
 
-  frames-deep : length (v .frames) ≡ suc (suc (now .live))
+  frames-deep : length (v .frames) ≡ suc (suc (here .live))
   unfolding withFrames
   frames-deep = snoc-length ahead f ∙ ap suc ahead-deep
 
-  before-deep : length fs ≡ suc (now .live)
+  before-deep : length fs ≡ suc (here .live)
   before-deep = many (w .standing)
 
   pub anew : EntersAnew (w .copies) later a
@@ -124,17 +124,17 @@ module _ {code names : List ℕ} {limit group : ℕ} {words : List ℤ} {area : 
   abbrev pub new : Activation
   new = anew .new
 
-  pub there : getElem? (later .live) (suc (now .live)) ≡ some new
+  pub there : getElem? (later .live) (suc (here .live)) ≡ some new
   there = ap (getElem? (later .live)) (sym (many-copies w)) ∙ anew .there
 
-  pub top-frame : getElem? ((stepped (w .standing .stack) v) .frames) (suc (now .live)) ≡ some f
+  pub top-frame : getElem? ((stepped (w .standing .stack) v) .frames) (suc (here .live)) ≡ some f
   unfolding stepped withFrames
   top-frame = ap (getElem? (ahead ++ (f ∷ []))) (sym ahead-deep) ∙ getElem-seam ahead f []
 
-  twin : Twin (later .live) (later .values) (suc (now .live)) new f
+  twin : Twin (later .live) (later .values) (suc (here .live)) new f
   twin =
-      let p = twin-at later (stepped (w .standing .stack) v) (made .2) (suc (now .live)) new there in
-      subst (Twin (later .live) (later .values) (suc (now .live)) new) (some-inj (sym (p .1) ∙ top-frame)) (p .2)
+      let p = twin-at later (stepped (w .standing .stack) v) (made .2) (suc (here .live)) new there in
+      subst (Twin (later .live) (later .values) (suc (here .live)) new) (some-inj (sym (p .1) ∙ top-frame)) (p .2)
 
   -- the activation from whose copy the text is taken
 
@@ -164,10 +164,10 @@ module _ {code names : List ℕ} {limit group : ℕ} {words : List ℤ} {area : 
   unfolding newFrame
   as-many = twin .as-many
 
-  innermost-twin : Twin (w .copies .live) (w .copies .values) (now .live) a (w .standing .frame)
+  innermost-twin : Twin (w .copies .live) (w .copies .values) (here .live) a (w .standing .frame)
   innermost-twin =
-      let p = twin-at (w .copies) (w .standing .stack) (w .related) (now .live) a at-innermost in
-      subst (Twin (w .copies .live) (w .copies .values) (now .live) a) (some-inj (sym (p .1) ∙ here (w .standing))) (p .2)
+      let p = twin-at (w .copies) (w .standing .stack) (w .related) (here .live) a at-innermost in
+      subst (Twin (w .copies .live) (w .copies .values) (here .live) a) (some-inj (sym (p .1) ∙ last-here (w .standing))) (p .2)
 
   -- the call, as written
   pub record Calls : Type 0 where
@@ -179,7 +179,7 @@ module _ {code names : List ℕ} {limit group : ℕ} {words : List ℤ} {area : 
 
   calls-by : Hands a (new .arguments) → 0 < length (new .arguments) → Calls
   calls-by (inl h) some-one =
-      let c = called-written (joined (a .reads)) (frameStmt (w .standing .frame)) (h .0) (h .1) (h .2) (sym (next-renamed (w .copies .live) (w .copies .values) (now .live) a (w .standing .frame) innermost-twin) ∙ h .3) in
+      let c = called-written (joined (a .reads)) (frameStmt (w .standing .frame)) (h .0) (h .1) (h .2) (sym (next-renamed (w .copies .live) (w .copies .values) (here .live) a (w .standing .frame) innermost-twin) ∙ h .3) in
       record { offset = c .0; called = c .1; given = c .2; next = c .3; arguments-are = h .4 ∙ c .4 }
   calls-by (inr h) some-one = absurd (omega (arith, ap length (h .2)))
 
@@ -187,23 +187,23 @@ module _ {code names : List ℕ} {limit group : ℕ} {words : List ℤ} {area : 
   calls h = calls-by (anew .arguments-are) h
 
   -- they stand after the CL, within the text
-  pub arguments-within : (i : ℕ) → i < length (new .arguments) → now .at + 3 + i < length (blockFields t)
+  pub arguments-within : (i : ℕ) → i < length (new .arguments) → here .at + 3 + i < length (blockFields t)
   unfolding stmtFields actionFields
   arguments-within i h =
       let c = calls (omega arith) in
       let n : length (new .arguments) ≡ length (c .given) = ap length (c .arguments-are) ∙ length-map (c .given) (renamed (joined (a .reads))) in
       omega (arith, ends w (DO (c .offset) (CL (c .called) (c .given))) (c .next), end-within-script w)
 
-  pub handed : (i : ℕ) → i < length (new .arguments) → getD area (now .live * width + (now .at + 3) + i) 0 ≡ getD (new .arguments) i 0
+  pub handed : (i : ℕ) → i < length (new .arguments) → getD area (here .live * width + (here .at + 3) + i) 0 ≡ getD (new .arguments) i 0
   handed i h =
       let c = calls (omega arith) in
       let n : length (new .arguments) ≡ length (c .given) = ap length (c .arguments-are) ∙ length-map (c .given) (renamed (joined (a .reads))) in
       let y = getElem-in (c .given) i (omega arith) in
       let own : getElem? (new .arguments) i ≡ some (renamed (joined (a .reads)) (y .0)) =
       ap (λ (xs : List ℕ). getElem? xs i) (c .arguments-are) ∙ getElem?-map (renamed (joined (a .reads))) (c .given) i ∙ ap (Option·map (renamed (joined (a .reads)))) (y .1) in
-      let place : now .live * width + (now .at + 3) + i ≡ now .live * width + now .at + (3 + i) = omega arith in
+      let place : here .live * width + (here .at + 3) + i ≡ here .live * width + here .at + (3 + i) = omega arith in
       ap (λ k. getD area k 0) place
-      ∙ argument-reads w a at-innermost (governed-here w) (written-here w) (cells-here w a at-innermost) (c .offset) (c .called) (c .given) (c .next) i (y .0) (y .1)
+      ∙ argument-reads w a at-innermost (named-here w) (written-here w) (cells-here w a at-innermost) (c .offset) (c .called) (c .given) (c .next) i (y .0) (y .1)
       ∙ sym (getD-elem (new .arguments) i (renamed (joined (a .reads)) (y .0)) 0 own)
 
   -- its names
@@ -211,21 +211,21 @@ module _ {code names : List ℕ} {limit group : ℕ} {words : List ℤ} {area : 
   pub declared-many : length (blockDecls (new .text)) ≡ length (blockDecls (j .text))
   unfolding declaredNames newFrame
   declared-many =
-      sym (length-map (blockDecls (new .text)) declName) ∙ sym (as-many-decls (later .live) (later .values) (suc (now .live)) new f twin) ∙ length-map (blockDecls (j .text)) declName
+      sym (length-map (blockDecls (new .text)) declName) ∙ sym (as-many-decls (later .live) (later .values) (suc (here .live)) new f twin) ∙ length-map (blockDecls (j .text)) declName
 
-  pub fresh-high : 65536 ≤ now .fresh
+  pub fresh-high : 65536 ≤ here .fresh
   fresh-high = omega (arith, w .fresh-is, rising-within 65536 (w .copies .live) (w .copies .fresh) (w .related .rising))
 
   pub few-names : length (j .formals) + length (blockDecls (j .text)) ≤ 32
   few-names = block-few (suc (length es)) (j .formals) (2 * placeOf (blockAt (j .text))) (j .text) (enclosed-formed t (w .standing .keeps) e es (j .encloses))
 
-  pub enters : Enters area (now .live * width + (now .at + 3)) (now .fresh) e es (source .reads) new
+  pub enters : Enters area (here .live * width + (here .at + 3)) (here .fresh) e es (source .reads) new
   unfolding newFrame ownOf
   enters =
       record {
         as-many = as-many;
         handed = handed;
-        new-names = anew .names-are ∙ ap (λ n. upFrom n (length (blockDecls (new .text)))) (sym (w .fresh-is)) ∙ ap (upFrom (now .fresh)) declared-many;
+        new-names = anew .names-are ∙ ap (λ n. upFrom n (length (blockDecls (new .text)))) (sym (w .fresh-is)) ∙ ap (upFrom (here .fresh)) declared-many;
         above = omega (arith, few-names, fresh-high);
         reads-are = twin .reads-are ∙ ap (λ (σs : List Replacement). ownOf f new ∷ σs) source-reads;
         around = around-deep;
@@ -234,14 +234,14 @@ module _ {code names : List ℕ} {limit group : ℕ} {words : List ℤ} {area : 
   -- the words of names in the text
 
   pub inside-here : Inside names (blockFields t) e es
-  inside-here q low high = by (governed-inside names t (w .standing .keeps) (w .governs) e es (j .encloses) q low high)
+  inside-here q low high = by (named-inside names t (w .standing .keeps) (w .names-stand) e es (j .encloses) q low high)
     where
-      by : Named (e ∷ es) (getD names q 0) (getD (blockFields t) q 0) → Governs e es (getD names q 0) (getD (blockFields t) q 0)
+      by : Named (e ∷ es) (getD names q 0) (getD (blockFields t) q 0) → NamesStand e es (getD names q 0) (getD (blockFields t) q 0)
       by (inl z) = inl z
       by (inr k) = inr (k .0, k .1, k .2, record { shallow = k .3 .0; few = k .3 .1 })
 
   pub declared-here : Declared names e es
-  declared-here = declared-governed names t (w .standing .keeps) (w .governs) e es (j .encloses)
+  declared-here = declared-fields-named names t (w .standing .keeps) (w .names-stand) e es (j .encloses)
 
   pub narrow-here : Narrow (e ∷ es)
   narrow-here = narrow-of-text t (w .standing .keeps) (e ∷ es) (j .encloses)

@@ -1,4 +1,4 @@
--- What `Meaning` asks, of an engine that runs: the words of names and the fields at the next statement (`governed-here`, `written-here`), and the cells
+-- What `Meaning` asks, of an engine that runs: the words of names and the fields at the next statement (`named-here`, `written-here`), and the cells
 -- of its names (`cells-here`, `sorted-here`). So the statement means a step: `means-here`, `ready-here`.
 use Prim.Native.Nat.{ℕ, suc, pred}
 use mathlib.Core.List.{List}
@@ -14,8 +14,8 @@ use Rattle.frames.specs.Related.{as-deep}
 use Rattle.coordinates.specs.Chain.{enclosing, enclosureOf}
 use Rattle.coordinates.specs.Levels.{in-innermost}
 use Rattle.resolved.specs.Resolved.{placeOf, Covers}
-use Rattle.copy_fields.specs.Governed.{governedStmt}
-use Rattle.copy_fields.specs.Standing.{stmt-governed, stmt-fields-stand}
+use Rattle.copy_fields.specs.NameFields.{namedStmt}
+use Rattle.copy_fields.specs.Standing.{stmt-fields-named, stmt-fields-stand}
 use Rattle.copy_names.specs.Owner.{Sorted}
 use Rattle.copy_names.specs.Finding.{sorted, cell-of-name}
 use Rattle.steps.specs.Means.{Means}
@@ -24,19 +24,19 @@ use Rattle.copy_statements.specs.Doing.{doing}
 use Rattle.copy_statements.specs.Ready.{Ready}
 use Rattle.run_state.specs.declared.Registers.{Registers}
 use Rattle.copy_moves.specs.Running.{Running}
-use Rattle.copy_run.specs.Words.{copyOf, sceneIn, around, GovernedHere, WrittenHere, innermost-activation}
+use Rattle.copy_run.specs.Words.{copyOf, sceneIn, around, NamedHere, WrittenHere, innermost-activation}
 use Rattle.copy_run.specs.Names.{CellOfName}
 use Rattle.copy_run.specs.Meaning.{ready, means}
 
-module _ {code names : List ℕ} {limit group : ℕ} {words : List ℤ} {area : List ℕ} {width : ℕ} {blocks nexts firsts starts targets looked : List ℕ} {table : List ℤ} {now : Registers}
-    (w : Running code names limit group words area width blocks nexts firsts starts targets looked table now) where
-  pub governed-here : GovernedHere w
+module _ {code names : List ℕ} {activations limit : ℕ} {cells : List ℤ} {area : List ℕ} {width : ℕ} {blocks nexts firsts starts targets looked : List ℕ} {table : List ℤ} {here : Registers}
+    (w : Running code names activations limit cells area width blocks nexts firsts starts targets looked table here) where
+  pub named-here : NamedHere w
   unfolding frameStmt enclosing
-  governed-here x q =
+  named-here x q =
       let s = w .standing in
-      subst (λ i. Covers names i (governedStmt x (around w))) (sym (stands-at s x q))
-      (in-innermost (s .program) (s .stack .frames) (s .sound .chained) (s .frame) (last-is s) (λ es. Covers names (placeOf (stmtAt x)) (governedStmt x es))
-      (λ es h. stmt-governed names (s .program) (s .keeps) (w .governs) (enclosing (s .frame)) es h (pred (s .frame .next)) x q))
+      subst (λ i. Covers names i (namedStmt x (around w))) (sym (stands-at s x q))
+      (in-innermost (s .program) (s .stack .frames) (s .sound .chained) (s .frame) (last-is s) (λ es. Covers names (placeOf (stmtAt x)) (namedStmt x es))
+      (λ es h. stmt-fields-named names (s .program) (s .keeps) (w .names-stand) (enclosing (s .frame)) es h (pred (s .frame .next)) x q))
 
   pub written-here : WrittenHere w
   unfolding frameStmt enclosing
@@ -45,25 +45,25 @@ module _ {code names : List ℕ} {limit group : ℕ} {words : List ℤ} {area : 
       subst (λ i. Covers (blockFields (s .program)) i (stmtFields x)) (sym (stands-at s x q))
       (stmt-fields-stand (s .program) (s .keeps) (enclosing (s .frame)) (enclosureOf (s .stack .frames) (s .frame .link)) (encloses-here s) (pred (s .frame .next)) x q)
 
-  pub many-copies : length (w .copies .live) ≡ suc (now .live)
+  pub many-copies : length (w .copies .live) ≡ suc (here .live)
   many-copies = as-deep (w .copies) (w .standing .stack) (w .related) ∙ many (w .standing)
 
-  module _ (a : Activation) (e : getElem? (w .copies .live) (now .live) ≡ some a) where
+  module _ (a : Activation) (e : getElem? (w .copies .live) (here .live) ≡ some a) where
     pub cells-here : CellOfName w a
-    cells-here = cell-of-name (w .copies) (w .standing .stack) (w .related) firsts starts (w .new-names) (now .live) a many-copies e
+    cells-here = cell-of-name (w .copies) (w .standing .stack) (w .related) firsts starts (w .new-names) (here .live) a many-copies e
 
-    pub sorted-at : Sorted firsts (now .live)
-    sorted-at = sorted (w .copies) (w .standing .stack) (w .related) firsts starts (w .new-names) (now .live) a many-copies e
+    pub sorted-at : Sorted firsts (here .live)
+    sorted-at = sorted (w .copies) (w .standing .stack) (w .related) firsts starts (w .new-names) (here .live) a many-copies e
 
-  pub sorted-here : Sorted firsts (now .live)
+  pub sorted-here : Sorted firsts (here .live)
   sorted-here = let a = innermost-activation w in sorted-at (a .0) (a .1)
 
-  pub means-here : (now .at ≡ now .end → ⊥) → Means (w .standing) (doing (copyOf w) (sceneIn w))
+  pub means-here : (here .at ≡ here .end → ⊥) → Means (w .standing) (doing (copyOf w) (sceneIn w))
   means-here d =
       let a = innermost-activation w in
-      means w (a .0) (a .1) governed-here written-here (cells-here (a .0) (a .1)) d
+      means w (a .0) (a .1) named-here written-here (cells-here (a .0) (a .1)) d
 
-  pub ready-here : (now .at ≡ now .end → ⊥) → Ready (copyOf w) (sceneIn w)
+  pub ready-here : (here .at ≡ here .end → ⊥) → Ready (copyOf w) (sceneIn w)
   ready-here d =
       let a = innermost-activation w in
-      ready w (a .0) (a .1) governed-here written-here (cells-here (a .0) (a .1)) d (sorted-at (a .0) (a .1))
+      ready w (a .0) (a .1) named-here written-here (cells-here (a .0) (a .1)) d (sorted-at (a .0) (a .1))

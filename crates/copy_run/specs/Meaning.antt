@@ -21,33 +21,33 @@ use Rattle.copy_statements.specs.Doing.{doing}
 use Rattle.copy_statements.specs.Ready.{Ready}
 use Rattle.run_state.specs.declared.Registers.{Registers}
 use Rattle.copy_moves.specs.Running.{Running}
-use Rattle.copy_run.specs.Words.{copyOf, sceneIn, GovernedHere, WrittenHere, fields-there}
+use Rattle.copy_run.specs.Words.{copyOf, sceneIn, NamedHere, WrittenHere, fields-there}
 use Rattle.copy_run.specs.Names.{byLinks, CellOfName}
 use Rattle.copy_run.specs.Statements.{Comes, constant-comes, arithmetic-comes, branch-comes, goto-comes, block-comes, add-comes, remove-comes, query-comes}
 use Rattle.copy_run.specs.Calling.{call-comes}
 
-module _ {code names : List ℕ} {limit group : ℕ} {words : List ℤ} {area : List ℕ} {width : ℕ} {blocks nexts firsts starts targets looked : List ℕ} {table : List ℤ} {now : Registers}
-    (w : Running code names limit group words area width blocks nexts firsts starts targets looked table now)
-    (a : Activation) (innermost : getElem? (w .copies .live) (now .live) ≡ some a)
-    (governed : GovernedHere w) (written : WrittenHere w) (cell-of-name : CellOfName w a) where
+module _ {code names : List ℕ} {activations limit : ℕ} {cells : List ℤ} {area : List ℕ} {width : ℕ} {blocks nexts firsts starts targets looked : List ℕ} {table : List ℤ} {here : Registers}
+    (w : Running code names activations limit cells area width blocks nexts firsts starts targets looked table here)
+    (a : Activation) (innermost : getElem? (w .copies .live) (here .live) ≡ some a)
+    (fields-named : NamedHere w) (written : WrittenHere w) (cell-of-name : CellOfName w a) where
   by-statement : (x : Stmt) → frameStmt (w .standing .frame) ≡ some x → Comes (copyOf w) (sceneIn w) (byLinks w)
-  by-statement (BK b) q = block-comes w a innermost governed written cell-of-name b q
-  by-statement (DO o (KN t z)) q = constant-comes w a innermost governed written cell-of-name o t z q
-  by-statement (DO o (AR t p l r)) q = arithmetic-comes w a innermost governed written cell-of-name o t p l r q
-  by-statement (DO o (IF v l)) q = branch-comes w a innermost governed written cell-of-name o v l q
-  by-statement (DO o (GO l)) q = goto-comes w a innermost governed written cell-of-name o l q
-  by-statement (DO o (CL p xs)) q = call-comes w a innermost governed written cell-of-name o p xs q
-  by-statement (DO o (AD g m)) q = add-comes w a innermost governed written cell-of-name o g m q
-  by-statement (DO o (RM g m)) q = remove-comes w a innermost governed written cell-of-name o g m q
-  by-statement (DO o (QY t g m)) q = query-comes w a innermost governed written cell-of-name o t g m q
+  by-statement (BK b) q = block-comes w a innermost fields-named written cell-of-name b q
+  by-statement (DO o (KN t z)) q = constant-comes w a innermost fields-named written cell-of-name o t z q
+  by-statement (DO o (AR t p l r)) q = arithmetic-comes w a innermost fields-named written cell-of-name o t p l r q
+  by-statement (DO o (IF v l)) q = branch-comes w a innermost fields-named written cell-of-name o v l q
+  by-statement (DO o (GO l)) q = goto-comes w a innermost fields-named written cell-of-name o l q
+  by-statement (DO o (CL p xs)) q = call-comes w a innermost fields-named written cell-of-name o p xs q
+  by-statement (DO o (AD g m)) q = add-comes w a innermost fields-named written cell-of-name o g m q
+  by-statement (DO o (RM g m)) q = remove-comes w a innermost fields-named written cell-of-name o g m q
+  by-statement (DO o (QY t g m)) q = query-comes w a innermost fields-named written cell-of-name o t g m q
 
-  module _ (d : now .at ≡ now .end → ⊥) where
+  module _ (d : here .at ≡ here .end → ⊥) where
     pub same : doing (copyOf w) (sceneIn w) ≡ acting (byLinks w) (sceneIn w)
     same =
         let x = next-stmt (w .standing) d in
         (by-statement (x .0) (x .1)) .same
 
-    pub ready : Sorted firsts (now .live) → Ready (copyOf w) (sceneIn w)
+    pub ready : Sorted firsts (here .live) → Ready (copyOf w) (sceneIn w)
     ready sorted =
         let x = next-stmt (w .standing) d in
         record {

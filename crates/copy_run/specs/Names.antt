@@ -35,25 +35,25 @@ use Rattle.copy_run.specs.Agreeing.{Agrees}
 use Rattle.copy_run.specs.Depth.{reads-deep}
 use Rattle.copy_run.specs.Words.{reading-named, copyOf, sceneIn, around}
 
-module _ {code names : List ℕ} {limit group : ℕ} {words : List ℤ} {area : List ℕ} {width : ℕ} {blocks nexts firsts starts targets looked : List ℕ} {table : List ℤ} {now : Registers}
-    (w : Running code names limit group words area width blocks nexts firsts starts targets looked table now) where
+module _ {code names : List ℕ} {activations limit : ℕ} {cells : List ℤ} {area : List ℕ} {width : ℕ} {blocks nexts firsts starts targets looked : List ℕ} {table : List ℤ} {here : Registers}
+    (w : Running code names activations limit cells area width blocks nexts firsts starts targets looked table here) where
   abbrev fs : List Frame
   fs = w .standing .stack .frames
 
   -- the way of finding names that the statement is held to
   abbrev pub byLinks : Finding
-  byLinks = byFirst words (firstByLinks (w .standing))
+  byLinks = byFirst cells (firstByLinks (w .standing))
 
   -- each name that is seen from an activation's text reads there as a new one, with the cell of what it designates
   abbrev pub CellOfName : Activation → Type 0
   CellOfName a =
       (m : ℕ) → m < 65536 → Resolved fs m
-      → (cellIn firsts starts (now .live) (renamed (joined (a .reads)) m) ≡ cellOf (designates fs m)) × (getD firsts 0 0 ≤ renamed (joined (a .reads)) m)
+      → (cellIn firsts starts (here .live) (renamed (joined (a .reads)) m) ≡ cellOf (designates fs m)) × (getD firsts 0 0 ≤ renamed (joined (a .reads)) m)
 
-  module _ (a : Activation) (innermost : getElem? (w .copies .live) (now .live) ≡ some a) (n : ℕ) (r : Resolved fs n) where
+  module _ (a : Activation) (innermost : getElem? (w .copies .live) (here .live) ≡ some a) (n : ℕ) (r : Resolved fs n) where
     celled : Celled (designates fs n)
     celled =
-        named-celled _ (w .standing .program) (w .standing .keeps) (w .standing .stack) (w .standing .sound) blocks (set nexts (now .live) (now .at)) (w .links) words
+        named-celled _ (w .standing .program) (w .standing .keeps) (w .standing .stack) (w .standing .sound) blocks (set nexts (here .live) (here .at)) (w .links) cells
         (w .standing .holds) n (r .coordinate) (r .here)
 
     pub reads-name : reading (a .reads) (nameWord (around w) n) n ≡ renamed (joined (a .reads)) n
@@ -61,7 +61,7 @@ module _ {code names : List ℕ} {limit group : ℕ} {words : List ℤ} {area : 
         let v = w .standing in
         let within = enclosure-of-text (v .program) fs (v .sound .chained) (length fs) (v .frame) (ap (numbered fs) (many v) ∙ numbered-here v) in
         let level = (name-is (v .program) (v .keeps) (around w) within n (r .coordinate) (r .here) (enclosing (r .declarer .frame)) (r .declarer .block)) .level in
-        let deep = reads-deep (w .copies) (v .stack) (w .related) (downward v) (now .live) a innermost ∙ ap (levelOf fs) (sym (many v)) in
+        let deep = reads-deep (w .copies) (v .stack) (w .related) (downward v) (here .live) a innermost ∙ ap (levelOf fs) (sym (many v)) in
         reading-named (a .reads) (nameWord (around w) n) n (omega (arith, r .level-low)) (omega (arith, r .level-high))
 
     -- what the name's declaration leads to is noted at its cell
@@ -82,7 +82,7 @@ module _ {code names : List ℕ} {limit group : ℕ} {words : List ℤ} {area : 
       text-is = reads ∙ reads-name
 
       cell-is : cell (copyOf w) (sceneIn w) i ≡ cellOf (designates fs n)
-      cell-is = ap (cellIn firsts starts (now .live)) text-is ∙ (cell-of-name n small r) .0
+      cell-is = ap (cellIn firsts starts (here .live)) text-is ∙ (cell-of-name n small r) .0
 
       target-is : target (copyOf w) (sceneIn w) i ≡ targetOf fs (designates fs n)
       target-is = ap (λ k. getD targets k 0) cell-is ∙ aimed

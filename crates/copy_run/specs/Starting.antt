@@ -32,9 +32,9 @@ use Rattle.resolved.specs.Resolved.{placeOf, endPlace, stmtPlace, levelIn, posi
 use Rattle.resolved.specs.Places.{block-at, block-place, end-bound, end-is}
 use Rattle.resolved.specs.Standing.{head-stands, looked-up-stands}
 use Rattle.resolved.specs.Words.{head-names}
-use Rattle.copy_fields.specs.Governed.{governedOf}
-use Rattle.copy_fields.specs.Inside.{Named, governed-inside}
-use Rattle.copy_fields.specs.Standing.{declared-governed}
+use Rattle.copy_fields.specs.NameFields.{namedOf}
+use Rattle.copy_fields.specs.Inside.{Named, named-inside}
+use Rattle.copy_fields.specs.Standing.{declared-fields-named}
 use Rattle.steps.specs.Standing.{Standing}
 use Rattle.steps.specs.Reads.{begin-reads}
 use Rattle.steps.specs.Loop.{begins}
@@ -44,13 +44,13 @@ use Rattle.copy_names.specs.Owner.{NewNames}
 use Rattle.copy_names.specs.Finding.{new-names-start}
 use Rattle.copy_texts.specs.Texts.{renewed, Copied, notedFrom, Texts, Aims, Looks}
 use Rattle.copy_texts.specs.Readings.{Narrow, narrow-of-text, own-formal}
-use Rattle.copy_texts.specs.Renewing.{Governs, Inside, Declared, Enters}
+use Rattle.copy_texts.specs.Renewing.{NamesStand, Inside, Declared, Enters}
 use Rattle.copy_texts.specs.Entering.{texts-start}
 use Rattle.copy_texts.specs.Noting.{noted-long}
 use Rattle.copy_texts.specs.Aiming.{aims-start}
 use Rattle.copy_texts.specs.Looking.{looks-start}
 use Rattle.run_state.specs.declared.Registers.{Registers}
-use Rattle.run_state.specs.Scenes.{limitsBy}
+use Rattle.run_state.specs.Limits.{limitsBy}
 use Rattle.copy_moves.specs.Running.{Running}
 use Rattle.copy_entry.specs.Anew.{namesAt, endAt}
 use Rattle.copy_moves.specs.Begun.{Beginnable, BegunIn}
@@ -60,8 +60,8 @@ long : (n : ℕ) → length {A = ℕ} (replicate n 0) ≡ n
 long zero = refl
 long (suc n) = ap suc (long n)
 
-module _ {script code names : List ℕ} {limit group : ℕ} {words : List ℤ} {area blocks nexts : List ℕ} {table : List ℤ} {pairs allowance : ℕ}
-    (b : Beginning script code names words area blocks nexts table pairs group limit allowance) where
+module _ {script code names : List ℕ} {activations limit : ℕ} {cells : List ℤ} {area blocks nexts : List ℕ} {table : List ℤ} {pairs allowance : ℕ}
+    (b : Beginning script code names cells area blocks nexts table pairs limit activations allowance) where
   abbrev t : Block
   t = b .program
 
@@ -118,14 +118,14 @@ module _ {script code names : List ℕ} {limit group : ℕ} {words : List ℤ} {
   narrow = narrow-of-text t keeps (e ∷ []) encloses
 
   inside : Inside names (blockFields t) e []
-  inside q low high = by (governed-inside names t keeps (b .governs) e [] encloses q low high)
+  inside q low high = by (named-inside names t keeps (b .names-stand) e [] encloses q low high)
     where
-      by : Named (e ∷ []) (getD names q 0) (getD (blockFields t) q 0) → Governs e [] (getD names q 0) (getD (blockFields t) q 0)
+      by : Named (e ∷ []) (getD names q 0) (getD (blockFields t) q 0) → NamesStand e [] (getD names q 0) (getD (blockFields t) q 0)
       by (inl z) = inl z
       by (inr k) = inr (k .0, k .1, k .2, record { shallow = k .3 .0; few = k .3 .1 })
 
   -- the program has no formals
-  no-formal : (v n : ℕ) → Governs e [] v n → levelIn v ≡ 1 → direct v ≡ true
+  no-formal : (v n : ℕ) → NamesStand e [] v n → levelIn v ≡ 1 → direct v ≡ true
   no-formal v n (inl z) l = absurd (omega arith)
   no-formal v n (inr k) l = go (direct v) refl
     where
@@ -198,9 +198,9 @@ module _ {script code names : List ℕ} {limit group : ℕ} {words : List ℤ} {
     links = replicate 256 0
 
     -- the frame machine's arrays
-    stands : (w : Standing code (limitsBy limit group) words blocks nexts links table pairs 0 (stmtPlace t 1) (endPlace t)) × (w .stack ≡ frameStart t tab) × (w .program ≡ t) × (w .name ≡ name)
+    stands : (w : Standing code (limitsBy activations limit) cells blocks nexts links table pairs 0 (stmtPlace t 1) (endPlace t)) × (w .stack ≡ frameStart t tab) × (w .program ≡ t) × (w .name ≡ name)
     stands =
-        begins code (limitsBy limit group) t name words blocks nexts links table pairs keeps covers (b .some-live) (b .few-live) (b .table-right) (b .words-long) (b .blocks-long) (b .nexts-long)
+        begins code (limitsBy activations limit) t name cells blocks nexts links table pairs keeps covers (b .some-live) (b .few-live) (b .table-right) (b .cells-long) (b .blocks-long) (b .nexts-long)
         (long 256) (b .zeros) (b .no-block) refl
 
     copied : Copied (n .filled) area′ names 0 0 0 1 65536 (placeOf (blockAt t)) (endPlace t)
@@ -213,7 +213,7 @@ module _ {script code names : List ℕ} {limit group : ℕ} {words : List ℤ} {
     filled-is q h = n .fields q (omega (arith, fields-many)) ∙ ap (fieldAt script) (sym (zero-add (2 * q))) ∙ field-is script 0 (blockFields t) first-fields q h
 
     declared : Declared names e []
-    declared = declared-governed names t keeps (b .governs) e [] encloses
+    declared = declared-fields-named names t keeps (b .names-stand) e [] encloses
 
     once : Distinct (namesOf e)
     unfolding namesOf
@@ -252,14 +252,14 @@ module _ {script code names : List ℕ} {limit group : ℕ} {words : List ℤ} {
     unfolding frameStart
     frames-are = ap (λ (s : Stack). s .frames) (stands .1)
 
-    pub record Begun (now : Registers) : Type 0 where
-      pub running : Running code names limit group words area′ width blocks nexts firsts′ starts targets′ looked′ table now
+    pub record Begun (here : Registers) : Type 0 where
+      pub running : Running code names activations limit cells area′ width blocks nexts firsts′ starts targets′ looked′ table here
       pub stack-is : running .standing .stack ≡ frameStart t tab
       pub program-is : running .standing .program ≡ t
       pub name-is : running .standing .name ≡ name
 
-    begun-so : Begun here
-    begun-so =
+    begun-there : Begun here
+    begun-there =
         let s = stands in
         record {
           running = record {
@@ -268,7 +268,7 @@ module _ {script code names : List ℕ} {limit group : ℕ} {words : List ℤ} {
             copies = start t tab;
             related = subst (Related (start t tab)) (sym (s .1)) (start-related t keeps tab);
             invariant = start-invariant t keeps tab;
-            governs = subst (λ (p : Block). Covers names 0 (governedOf p)) (sym (s .2)) (b .governs);
+            names-stand = subst (λ (p : Block). Covers names 0 (namedOf p)) (sym (s .2)) (b .names-stand);
             texts = subst (λ (T : Type 0). T) (λ i. Texts area′ width names (blockFields (sym (s .2) i)) (sym (anew .live-is) i) (sym frames-are i)) texts;
             new-names = subst (λ (T : Type 0). T) (λ i. NewNames (sym (anew .live-is) i) (sym (anew .fresh-is) i) firsts′ starts) new-names;
             aims = subst (Aims targets′) (sym frames-are) aims;
@@ -277,7 +277,7 @@ module _ {script code names : List ℕ} {limit group : ℕ} {words : List ℤ} {
             fresh-is = ap (λ k. 65536 + k) (sym declared-many) ∙ sym (anew .fresh-is);
             wide = subst (λ (p : Block). length (blockFields p) ≤ width) (sym (s .2)) (omega (arith, fields-many));
             small = omega (arith, fields-many, end-here, text-long);
-            room = subst (λ k. limit * width ≤ k) (sym (n .copied .as-long ∙ n .as-long)) (b .room);
+            room = subst (λ k. activations * width ≤ k) (sym (n .copied .as-long ∙ n .as-long)) (b .room);
             firsts-long = ap length (n .firsts-are) ∙ length-set firsts 0 65536 ∙ firsts-long;
             starts-long = starts-long;
             targets-long = ap length (n .targets-are) ∙ noted-long names 0 1 targets 0 (endAt code 0) ∙ targets-long;
@@ -291,7 +291,7 @@ module _ {script code names : List ℕ} {limit group : ℕ} {words : List ℤ} {
     pub begun : Begun r
     begun =
         subst Begun
-        ((λ i. record { live = 0; at = sym (reads .0) i; end = sym (reads .1) i; pairs = pairs; level = 0; fresh = 65536 + sym names-are i }) ∙ sym (n .now-is)) begun-so
+        ((λ i. record { live = 0; at = sym (reads .0) i; end = sym (reads .1) i; pairs = pairs; level = 0; fresh = 65536 + sym names-are i }) ∙ sym (n .registers-are)) begun-there
 
     pub begun-few : r .fresh ≤ 65568
-    begun-few = omega (arith, ap (λ (k : Registers). k .fresh) (n .now-is), names-are, few-names)
+    begun-few = omega (arith, ap (λ (k : Registers). k .fresh) (n .registers-are), names-are, few-names)

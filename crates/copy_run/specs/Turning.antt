@@ -9,14 +9,14 @@ use Rattle.run_state.specs.declared.Registers.{Registers}
 use Rattle.run_state.specs.declared.Turn.{Turn}
 use Rattle.run_state.specs.declared.Turn.the-variants.{Went, Finished, Stopped}
 use Rattle.run_state.specs.declared.Halt.{Halt}
-use Rattle.run_state.specs.Scenes.{limitsBy}
+use Rattle.run_state.specs.Limits.{limitsBy}
 use Rattle.run_state.specs.Turns.{Leaves, Stops}
 use Rattle.run_state.specs.Ended as state
 use Rattle.copy_moves.specs.Running.{Running, Succeeds}
 
 -- what a step may write
 pub record Arrays : Type 0 where
-  pub words : List ℤ
+  pub cells : List ℤ
   pub area : List ℕ
   pub blocks : List ℕ
   pub nexts : List ℕ
@@ -27,9 +27,9 @@ pub record Arrays : Type 0 where
   pub table : List ℤ
 
 abbrev pub arraysOf : List ℤ → List ℕ → List ℕ → List ℕ → List ℕ → List ℕ → List ℕ → List ℕ → List ℤ → Arrays
-arraysOf words area blocks nexts firsts starts targets looked table =
+arraysOf cells area blocks nexts firsts starts targets looked table =
     record {
-      words = words;
+      cells = cells;
       area = area;
       blocks = blocks;
       nexts = nexts;
@@ -41,32 +41,32 @@ arraysOf words area blocks nexts firsts starts targets looked table =
     }
 
 -- the engine runs, and there are new names for so many steps
-pub record Ready (code names : List ℕ) (limit group : ℕ) (words : List ℤ) (area : List ℕ) (width : ℕ) (blocks nexts firsts starts targets looked : List ℕ)
+pub record Ready (code names : List ℕ) (activations limit : ℕ) (cells : List ℤ) (area : List ℕ) (width : ℕ) (blocks nexts firsts starts targets looked : List ℕ)
     (table : List ℤ) (here : Registers) (steps : ℕ) : Type 0 where
-  pub running : Running code names limit group words area width blocks nexts firsts starts targets looked table here
+  pub running : Running code names activations limit cells area width blocks nexts firsts starts targets looked table here
   pub names-left : here .fresh + 32 * steps + 32 ≤ 4294967296
 
-module _ {code names : List ℕ} {limit group : ℕ} {words : List ℤ} {area : List ℕ} {width : ℕ} {blocks nexts firsts starts targets looked : List ℕ} {table : List ℤ} {here : Registers}
-    (w : Running code names limit group words area width blocks nexts firsts starts targets looked table here) where
+module _ {code names : List ℕ} {activations limit : ℕ} {cells : List ℤ} {area : List ℕ} {width : ℕ} {blocks nexts firsts starts targets looked : List ℕ} {table : List ℤ} {here : Registers}
+    (w : Running code names activations limit cells area width blocks nexts firsts starts targets looked table here) where
   abbrev pub Turned : Turn → List ℤ → List ℕ → List ℕ → List ℕ → List ℕ → List ℕ → List ℕ → List ℕ → List ℤ → Type 0
-  Turned (Went here′) words′ area′ blocks′ nexts′ firsts′ starts′ targets′ looked′ table′ = Succeeds w words′ area′ blocks′ nexts′ firsts′ starts′ targets′ looked′ table′ here′
-  Turned Finished words′ area′ blocks′ nexts′ firsts′ starts′ targets′ looked′ table′ = Leaves here words table words′ table′
-  Turned (Stopped c) words′ area′ blocks′ nexts′ firsts′ starts′ targets′ looked′ table′ =
-      Stops (limitsBy limit group) (w .standing .stack) c (arraysOf words area blocks nexts firsts starts targets looked table)
-      (arraysOf words′ area′ blocks′ nexts′ firsts′ starts′ targets′ looked′ table′)
+  Turned (Went here′) cells′ area′ blocks′ nexts′ firsts′ starts′ targets′ looked′ table′ = Succeeds w cells′ area′ blocks′ nexts′ firsts′ starts′ targets′ looked′ table′ here′
+  Turned Finished cells′ area′ blocks′ nexts′ firsts′ starts′ targets′ looked′ table′ = Leaves here cells table cells′ table′
+  Turned (Stopped c) cells′ area′ blocks′ nexts′ firsts′ starts′ targets′ looked′ table′ =
+      Stops (limitsBy activations limit) (w .standing .stack) c (arraysOf cells area blocks nexts firsts starts targets looked table)
+      (arraysOf cells′ area′ blocks′ nexts′ firsts′ starts′ targets′ looked′ table′)
 
 -- from a stack at which so many steps are done; the engine keeps no links
-pub record EndedFrom (done : ℕ) (program : Block) (name limit group : ℕ) (result : Result) (r : Halt) (words : List ℤ) (blocks nexts : List ℕ)
+pub record EndedFrom (done : ℕ) (program : Block) (name activations limit : ℕ) (result : Result) (r : Halt) (cells : List ℤ) (blocks nexts : List ℕ)
     (table : List ℤ) : Type 0 where
   pub links : List ℕ
-  pub ended : state.EndedFrom done program name (limitsBy limit group) result r words blocks nexts links table
+  pub ended : state.EndedFrom done program name (limitsBy activations limit) result r cells blocks nexts links table
 
 abbrev pub Ended : Block → ℕ → ℕ → ℕ → Result → Halt → List ℤ → List ℕ → List ℕ → List ℤ → Type 0
 Ended = EndedFrom 0
 
-abbrev pub RunFrom : {code names : List ℕ} {limit group : ℕ} {words : List ℤ} {area : List ℕ} {width : ℕ} {blocks nexts firsts starts targets looked : List ℕ}
-    {table : List ℤ} {here : Registers} → Running code names limit group words area width blocks nexts firsts starts targets looked table here
+abbrev pub RunFrom : {code names : List ℕ} {activations limit : ℕ} {cells : List ℤ} {area : List ℕ} {width : ℕ} {blocks nexts firsts starts targets looked : List ℕ}
+    {table : List ℤ} {here : Registers} → Running code names activations limit cells area width blocks nexts firsts starts targets looked table here
     → ℕ → Halt → List ℤ → List ℕ → List ℕ → List ℤ → Type 0
-RunFrom {limit = limit} {group = group} w allowance r words′ blocks′ nexts′ table′ =
+RunFrom {activations = activations} {limit = limit} w allowance r cells′ blocks′ nexts′ table′ =
     let s = w .standing in
-    EndedFrom (s .stack .steps) (s .program) (s .name) limit group (frameRun (limitsBy limit group) allowance (s .stack)) r words′ blocks′ nexts′ table′
+    EndedFrom (s .stack .steps) (s .program) (s .name) activations limit (frameRun (limitsBy activations limit) allowance (s .stack)) r cells′ blocks′ nexts′ table′

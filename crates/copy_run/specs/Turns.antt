@@ -31,7 +31,7 @@ use Rattle.copy_statements.specs.Doing.{doing}
 use Rattle.copy_statements.specs.Moved.{movedBy, Came}
 use Rattle.run_state.specs.declared.Registers.{Registers}
 use Rattle.run_state.specs.declared.Turn.{Turn}
-use Rattle.run_state.specs.Scenes.{limitsBy, goesTo}
+use Rattle.run_state.specs.Limits.{limitsBy, goesTo}
 use Rattle.copy_moves.specs.Running.{Running, nowAt, Succeeds}
 use Rattle.copy_entry.specs.Anew.{Enterable, AnewIn}
 use Rattle.copy_moves.specs.Going.{goes-on}
@@ -41,8 +41,8 @@ use Rattle.copy_run.specs.Words.{copyOf, sceneIn}
 use Rattle.copy_run.specs.Here.{means-here}
 use Rattle.copy_run.specs.Entering.{enterable, enters-on}
 
-module _ {code names : List ℕ} {limit group : ℕ} {words : List ℤ} {area : List ℕ} {width : ℕ} {blocks nexts firsts starts targets looked : List ℕ} {table : List ℤ} {here : Registers}
-    (w : Running code names limit group words area width blocks nexts firsts starts targets looked table here) where
+module _ {code names : List ℕ} {activations limit : ℕ} {cells : List ℤ} {area : List ℕ} {width : ℕ} {blocks nexts firsts starts targets looked : List ℕ} {table : List ℤ} {here : Registers}
+    (w : Running code names activations limit cells area width blocks nexts firsts starts targets looked table here) where
   abbrev fs : List Frame
   fs = w .standing .stack .frames
 
@@ -64,12 +64,12 @@ module _ {code names : List ℕ} {limit group : ℕ} {words : List ℤ} {area : 
   leave-ready h = (h, omega (arith, live-few (w .standing)), within (here .live - 1) (omega arith))
 
   pub left-on : here .at ≡ here .end → 1 ≤ here .live → (r : Registers) → r ≡ nowAt code blocks here (here .live - 1) (getD nexts (here .live - 1) 0)
-      → Succeeds w words area blocks nexts firsts starts targets looked table r
+      → Succeeds w cells area blocks nexts firsts starts targets looked table r
   left-on e h r is =
       let l = leaves (w .standing) e h in
       let one : suc (here .live - 1) ≡ here .live = omega arith in
       let ends = end-of (here .live - 1) (l .frame) (ap (numbered fs) one ∙ l .stands) in
-      subst (λ (n : Registers). Succeeds w words area blocks nexts firsts starts targets looked table n)
+      subst (λ (n : Registers). Succeeds w cells area blocks nexts firsts starts targets looked table n)
       ((λ i. goesTo here (here .live - 1) (getD nexts (here .live - 1) 0) (sym ends i) (here .pairs)) ∙ sym is)
       (goes-on w (l .standing) (l .follows) (omega arith) (λ k p. (refl, refl)))
 
@@ -80,44 +80,44 @@ module _ {code names : List ℕ} {limit group : ℕ} {words : List ℤ} {area : 
 
   -- what the move says, as the engine goes on by it
   abbrev MovedMeans : Moved → List ℤ → Type 0
-  MovedMeans (Went p) words′ = MoveMeans (w .standing) (On p) words′
-  MovedMeans (JumpTo p home) words′ = MoveMeans (w .standing) (Jump home p) words′
-  MovedMeans (EnterBy back link body) words′ = MoveMeans (w .standing) (Enter body link back) words′
-  MovedMeans (StopFor c) words′ = MoveMeans (w .standing) (Stop c) words′
-  MovedMeans (AskBy p g m t a) words′ = MoveMeans (w .standing) (Asks p g m t a) words′
+  MovedMeans (Went p) cells′ = MoveMeans (w .standing) (On p) cells′
+  MovedMeans (JumpTo p home) cells′ = MoveMeans (w .standing) (Jump home p) cells′
+  MovedMeans (EnterBy back link body) cells′ = MoveMeans (w .standing) (Enter body link back) cells′
+  MovedMeans (StopFor c) cells′ = MoveMeans (w .standing) (Stop c) cells′
+  MovedMeans (AskBy p g m t a) cells′ = MoveMeans (w .standing) (Asks p g m t a) cells′
 
-  moved-means : (m : Move) (words′ : List ℤ) → MoveMeans (w .standing) m words′ → MovedMeans (movedBy m) words′
+  moved-means : (m : Move) (cells′ : List ℤ) → MoveMeans (w .standing) m cells′ → MovedMeans (movedBy m) cells′
   unfolding movedBy
-  moved-means (On p) words′ z = z
-  moved-means (Asks p g m t a) words′ z = z
-  moved-means (Jump home p) words′ z = z
-  moved-means (Enter body link back) words′ z = z
-  moved-means (Stop c) words′ z = z
+  moved-means (On p) cells′ z = z
+  moved-means (Asks p g m t a) cells′ z = z
+  moved-means (Jump home p) cells′ z = z
+  moved-means (Enter body link back) cells′ z = z
+  moved-means (Stop c) cells′ z = z
 
-  goes : (p n : ℕ) (words′ table′ : List ℤ) → GoesOn (w .standing) words′ table′ n p
-      → Succeeds w words′ area blocks nexts firsts starts targets looked table′ (goesTo here (here .live) p (here .end) n)
-  goes p n words′ table′ g = goes-on w (g .standing) (g .follows) (omega arith) (λ k q. (refl, refl))
+  goes : (p n : ℕ) (cells′ table′ : List ℤ) → GoesOn (w .standing) cells′ table′ n p
+      → Succeeds w cells′ area blocks nexts firsts starts targets looked table′ (goesTo here (here .live) p (here .end) n)
+  goes p n cells′ table′ g = goes-on w (g .standing) (g .follows) (omega arith) (λ k q. (refl, refl))
 
-  stops : (c : Cause) (words′ table′ : List ℤ) → (frameStep (limitsBy limit group) (w .standing .stack) ≡ halted c) × (words′ ≡ words) × (table′ ≡ table)
-      → Stops (limitsBy limit group) (w .standing .stack) c (arraysOf words area blocks nexts firsts starts targets looked table)
-      (arraysOf words′ area blocks nexts firsts starts targets looked table′)
-  stops c words′ table′ m = record { stops = m .0; same = λ i. arraysOf (m .1 i) area blocks nexts firsts starts targets looked (m .2 i) }
+  stops : (c : Cause) (cells′ table′ : List ℤ) → (frameStep (limitsBy activations limit) (w .standing .stack) ≡ halted c) × (cells′ ≡ cells) × (table′ ≡ table)
+      → Stops (limitsBy activations limit) (w .standing .stack) c (arraysOf cells area blocks nexts firsts starts targets looked table)
+      (arraysOf cells′ area blocks nexts firsts starts targets looked table′)
+  stops c cells′ table′ m = record { stops = m .0; same = λ i. arraysOf (m .1 i) area blocks nexts firsts starts targets looked (m .2 i) }
 
-  module _ (before : here .at ≡ here .end → ⊥) {r : Moved} {words′ : List ℤ} (h : Came (doing (copyOf w) (sceneIn w)) r words′) where
+  module _ (before : here .at ≡ here .end → ⊥) {r : Moved} {cells′ : List ℤ} (h : Came (doing (copyOf w) (sceneIn w)) r cells′) where
     abbrev result : Happened
     result = doing (copyOf w) (sceneIn w)
 
-    means : MovedMeans r words′
+    means : MovedMeans r cells′
     means =
-        subst (λ (T : Type 0). T) (λ i. MovedMeans (sym (h .0) i) (sym (h .1) i)) (moved-means (result .move) (result .words) (means-here w before))
+        subst (λ (T : Type 0). T) (λ i. MovedMeans (sym (h .0) i) (sym (h .1) i)) (moved-means (result .move) (result .cells) (means-here w before))
 
-    means-as : {m : Moved} → r ≡ m → MovedMeans m words′
-    means-as e = subst (λ (x : Moved). MovedMeans x words′) e means
+    means-as : {m : Moved} → r ≡ m → MovedMeans m cells′
+    means-as e = subst (λ (x : Moved). MovedMeans x cells′) e means
 
     pub went-on : {p : ℕ} → r ≡ Went p
-        → Succeeds w words′ area blocks nexts firsts starts targets looked table
+        → Succeeds w cells′ area blocks nexts firsts starts targets looked table
         (goesTo here (here .live) p (here .end) (here .pairs))
-    went-on {p} e = goes p (here .pairs) words′ table (means-as e)
+    went-on {p} e = goes p (here .pairs) cells′ table (means-as e)
 
     -- The table is asked
 
@@ -126,23 +126,23 @@ module _ {code names : List ℕ} {limit group : ℕ} {words : List ℤ} {area : 
       asked-there = means-as e .2
 
       abbrev Told : Change → List ℤ → List ℤ → Type 0
-      Told = Answered (answer group words′ (record { words = table; used = here .pairs }) g m t a) table
+      Told = Answered (answer limit cells′ (record { words = table; used = here .pairs }) g m t a) table
 
-      answered : AnswerMeans (w .standing) p (answer group words′ (record { words = table; used = here .pairs }) g m t a)
+      answered : AnswerMeans (w .standing) p (answer limit cells′ (record { words = table; used = here .pairs }) g m t a)
       answered =
           let k = means-as e in
-          subst (λ (v : List ℤ). AnswerMeans (w .standing) p (answer group v (record { words = table; used = here .pairs }) g m t a)) (sym (k .1)) (k .0)
+          subst (λ (v : List ℤ). AnswerMeans (w .standing) p (answer limit v (record { words = table; used = here .pairs }) g m t a)) (sym (k .1)) (k .0)
 
-      by-change : (c : Change) (words″ table″ : List ℤ) → Told c words″ table″
-          → Turned w (turnAfter here p c) words″ area blocks nexts firsts starts targets looked table″
+      by-change : (c : Change) (cells″ table″ : List ℤ) → Told c cells″ table″
+          → Turned w (turnAfter here p c) cells″ area blocks nexts firsts starts targets looked table″
       unfolding turnAfter
-      by-change (Count n) words″ table″ k = goes p n words″ table″ (done-goes (w .standing) p _ answered (Count n) words″ table″ k n refl)
-      by-change (Halted c) words″ table″ k = stops c words″ table″ (stopped-halts (w .standing) p _ answered (Halted c) words″ table″ k c refl)
+      by-change (Count n) cells″ table″ k = goes p n cells″ table″ (done-goes (w .standing) p _ answered (Count n) cells″ table″ k n refl)
+      by-change (Halted c) cells″ table″ k = stops c cells″ table″ (stopped-halts (w .standing) p _ answered (Halted c) cells″ table″ k c refl)
 
-      pub answered-on : {c : Change} {words″ table″ : List ℤ} → Told c words″ table″ → {n : Turn} → n ≡ turnAfter here p c
-          → Turned w n words″ area blocks nexts firsts starts targets looked table″
-      answered-on {c} {words″} {table″} k q =
-          subst (λ (x : Turn). Turned w x words″ area blocks nexts firsts starts targets looked table″) (sym q) (by-change c words″ table″ k)
+      pub answered-on : {c : Change} {cells″ table″ : List ℤ} → Told c cells″ table″ → {n : Turn} → n ≡ turnAfter here p c
+          → Turned w n cells″ area blocks nexts firsts starts targets looked table″
+      answered-on {c} {cells″} {table″} k q =
+          subst (λ (x : Turn). Turned w x cells″ area blocks nexts firsts starts targets looked table″) (sym q) (by-change c cells″ table″ k)
 
     -- A jump
 
@@ -159,33 +159,33 @@ module _ {code names : List ℕ} {limit group : ℕ} {words : List ℤ} {area : 
         )
 
     pub jumped-on : {home p : ℕ} → r ≡ JumpTo p home → {n : Registers} → n ≡ nowAt code blocks here home p
-        → Succeeds w words′ area blocks nexts firsts starts targets looked table n
+        → Succeeds w cells′ area blocks nexts firsts starts targets looked table n
     jumped-on {home} {p} e {n} is =
         let m = means-as e in
         let l = jumped (w .standing) home p (m .0) in
         let ends = end-of home (l .frame) (l .stands) in
         subst (λ (v : List ℤ). Succeeds w v area blocks nexts firsts starts targets looked table n) (sym (m .1))
-        (subst (λ (v : Registers). Succeeds w words area blocks nexts firsts starts targets looked table v)
+        (subst (λ (v : Registers). Succeeds w cells area blocks nexts firsts starts targets looked table v)
         ((λ i. goesTo here home p (sym ends i) (here .pairs)) ∙ sym is)
         (goes-on w (l .standing) (l .follows) (l .home-high) (λ k q. (refl, refl))))
 
     -- An entry
 
-    enters : {body link back : ℕ} → r ≡ EnterBy back link body → EntersAt (w .standing) body link back words′
+    enters : {body link back : ℕ} → r ≡ EnterBy back link body → EntersAt (w .standing) body link back cells′
     enters e = means-as e
 
     pub enter-ready : here .fresh + 32 * 1 + 32 ≤ 4294967296 → {body link back : ℕ} → r ≡ EnterBy back link body → Enterable code names area width here body link back
-    enter-ready few {body} {link} {back} e = enterable w body link back words′ (enters e) (omega arith)
+    enter-ready few {body} {link} {back} e = enterable w body link back cells′ (enters e) (omega arith)
 
-    pub entered-on : {body link back : ℕ} → r ≡ EnterBy back link body → {words″ : List ℤ} {area′ blocks′ nexts′ firsts′ starts′ targets′ looked′ : List ℕ} {n : Registers}
-        → AnewIn code names width here body link back words′ area blocks nexts firsts starts targets looked words″ area′ blocks′ nexts′ firsts′ starts′ targets′ looked′ n
-        → Succeeds w words″ area′ blocks′ nexts′ firsts′ starts′ targets′ looked′ table n
-    entered-on {body} {link} {back} e {words″} {area′} {blocks′} {nexts′} {firsts′} {starts′} {targets′} {looked′} {n} k =
-        enters-on w body link back words′ (enters e) words″ area′ blocks′ nexts′ firsts′ starts′ targets′ looked′ n k
+    pub entered-on : {body link back : ℕ} → r ≡ EnterBy back link body → {cells″ : List ℤ} {area′ blocks′ nexts′ firsts′ starts′ targets′ looked′ : List ℕ} {n : Registers}
+        → AnewIn code names width here body link back cells′ area blocks nexts firsts starts targets looked cells″ area′ blocks′ nexts′ firsts′ starts′ targets′ looked′ n
+        → Succeeds w cells″ area′ blocks′ nexts′ firsts′ starts′ targets′ looked′ table n
+    entered-on {body} {link} {back} e {cells″} {area′} {blocks′} {nexts′} {firsts′} {starts′} {targets′} {looked′} {n} k =
+        enters-on w body link back cells′ (enters e) cells″ area′ blocks′ nexts′ firsts′ starts′ targets′ looked′ n k
 
     -- A cause to stop
 
     pub stopped-at : {c : Cause} → r ≡ StopFor c
-        → Stops (limitsBy limit group) (w .standing .stack) c (arraysOf words area blocks nexts firsts starts targets looked table)
-        (arraysOf words′ area blocks nexts firsts starts targets looked table)
-    stopped-at {c} e = let m = means-as e in stops c words′ table (m .0, m .1, refl)
+        → Stops (limitsBy activations limit) (w .standing .stack) c (arraysOf cells area blocks nexts firsts starts targets looked table)
+        (arraysOf cells′ area blocks nexts firsts starts targets looked table)
+    stopped-at {c} e = let m = means-as e in stops c cells′ table (m .0, m .1, refl)

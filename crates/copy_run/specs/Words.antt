@@ -1,4 +1,4 @@
--- The next statement's words in the innermost activation's copy, from the names that its fields hold (`governed`) and the script's own fields
+-- The next statement's words in the innermost activation's copy, from the names that its fields hold (`fields-named`) and the script's own fields
 -- (`written`): `word-read`, and `plain` where there is no name; its words in the resolved script: `resolved-word`. `reading-plain`, `reading-named`: what
 -- a word with no name and a visible name read as. `fields-there`: the statement's fields stand in the area and in the script.
 -- `innermost-activation`: the activation whose copy it is.
@@ -27,10 +27,10 @@ use Rattle.resolved.specs.Resolved.{placeOf, endPlace, stmtPlace, levelIn, reso
 use Rattle.resolved.specs.Lengths.{covers-at}
 use Rattle.resolved.specs.Places.{Placed, enclosed-placed, block-place, end-is, place-is, place-within}
 use Rattle.run_moves.specs.Acting.{Scene, field}
-use Rattle.steps.specs.Here.{many, last-is, here, covered, at-is, here-bounded, encloses-here, within-limit, goes-on-at}
+use Rattle.steps.specs.Here.{many, last-is, here as last-here, covered, at-is, here-bounded, encloses-here, within-limit, goes-on-at}
 use Rattle.steps.specs.Reads.{fields-within}
 use Rattle.steps.specs.Going.{sceneOf}
-use Rattle.copy_fields.specs.Governed.{governedStmt}
+use Rattle.copy_fields.specs.NameFields.{namedStmt}
 use Rattle.copy_texts.specs.Texts.{reading}
 use Rattle.copy_statements.specs.Doing.{Copy, text}
 use Rattle.copy_statements.specs.Ready.{Fields}
@@ -51,11 +51,11 @@ module _ (σs : List Replacement) (v n : ℕ) where
       let u : leb (levelIn v) (length σs) ≡ true = le-leb (levelIn v) (length σs) h in
       rw (reading, t, u)
 
-module _ {code names : List ℕ} {limit group : ℕ} {words : List ℤ} {area : List ℕ} {width : ℕ} {blocks nexts firsts starts targets looked : List ℕ} {table : List ℤ} {now : Registers}
-    (w : Running code names limit group words area width blocks nexts firsts starts targets looked table now) where
+module _ {code names : List ℕ} {activations limit : ℕ} {cells : List ℤ} {area : List ℕ} {width : ℕ} {blocks nexts firsts starts targets looked : List ℕ} {table : List ℤ} {here : Registers}
+    (w : Running code names activations limit cells area width blocks nexts firsts starts targets looked table here) where
   -- what the next statement is read from, and what it finds
   abbrev pub copyOf : Copy
-  copyOf = record { area = area; base = now .live * width; firsts = firsts; starts = starts; targets = targets }
+  copyOf = record { area = area; base = here .live * width; firsts = firsts; starts = starts; targets = targets }
 
   abbrev pub sceneIn : Scene
   sceneIn = sceneOf (w .standing)
@@ -64,14 +64,14 @@ module _ {code names : List ℕ} {limit group : ℕ} {words : List ℤ} {area : 
   around = enclosureOf (w .standing .stack .frames) (length (w .standing .stack .frames))
 
   -- the names' words and the script's fields, at the next statement
-  abbrev pub GovernedHere : Type 0
-  GovernedHere = (x : Stmt) → frameStmt (w .standing .frame) ≡ some x → Covers names (now .at) (governedStmt x around)
+  abbrev pub NamedHere : Type 0
+  NamedHere = (x : Stmt) → frameStmt (w .standing .frame) ≡ some x → Covers names (here .at) (namedStmt x around)
 
   abbrev pub WrittenHere : Type 0
-  WrittenHere = (x : Stmt) → frameStmt (w .standing .frame) ≡ some x → Covers (blockFields (w .standing .program)) (now .at) (stmtFields x)
+  WrittenHere = (x : Stmt) → frameStmt (w .standing .frame) ≡ some x → Covers (blockFields (w .standing .program)) (here .at) (stmtFields x)
 
-  pub innermost-activation : (a : Activation) × (getElem? (w .copies .live) (now .live) ≡ some a)
-  innermost-activation = getElem-in (w .copies .live) (now .live) (omega (arith, as-deep (w .copies) (w .standing .stack) (w .related), many (w .standing)))
+  pub innermost-activation : (a : Activation) × (getElem? (w .copies .live) (here .live) ≡ some a)
+  innermost-activation = getElem-in (w .copies .live) (here .live) (omega (arith, as-deep (w .copies) (w .standing .stack) (w .related), many (w .standing)))
 
   -- a field with no name
   pub plain : (a : Activation) (i m : ℕ) → text copyOf sceneIn i ≡ reading (a .reads) 0 m → text copyOf sceneIn i ≡ m
@@ -90,7 +90,7 @@ module _ {code names : List ℕ} {limit group : ℕ} {words : List ℤ} {area : 
       enclosed-placed (w .standing .program) (w .standing .keeps) (enclosing (w .standing .frame)) (enclosureOf (w .standing .stack .frames) (w .standing .frame .link))
       (encloses-here (w .standing))
 
-  begins : placeOf (blockAt (w .standing .frame .text)) ≤ now .at
+  begins : placeOf (blockAt (w .standing .frame .text)) ≤ here .at
   unfolding enclosing
   begins =
       let f = w .standing .frame in
@@ -105,27 +105,27 @@ module _ {code names : List ℕ} {limit group : ℕ} {words : List ℤ} {area : 
       omega (arith, end-is (f .text) _ (f .formals) (text-placed .place) (text-placed .formed), text-placed .within)
 
   module _ (x : Stmt) (q : frameStmt (w .standing .frame) ≡ some x) where
-    pub ends : now .at + length (stmtFields x) ≤ endPlace (w .standing .frame .text)
+    pub ends : here .at + length (stmtFields x) ≤ endPlace (w .standing .frame .text)
     unfolding enclosing
     ends =
         let f = w .standing .frame in
         omega (arith, goes-on-at (w .standing) x q, place-within (f .text) _ (f .formals) (text-placed .place) (text-placed .formed) (suc (f .next)) (omega arith))
 
     pub resolved-word : (i : ℕ) → i < length (resolvedStmt (w .standing .name) x around) → field sceneIn i ≡ getD (resolvedStmt (w .standing .name) x around) i 0
-    resolved-word = covers-at code (now .at) (resolvedStmt (w .standing .name) x around) (covered (w .standing) x q)
+    resolved-word = covers-at code (here .at) (resolvedStmt (w .standing .name) x around) (covered (w .standing) x q)
 
     pub fields-there : (n : ℕ) → n ≤ length (stmtFields x) → Fields copyOf sceneIn n
     fields-there n h =
         let rooms = mul-le-mul-right width (within-limit (w .standing)) in
         record { within = omega (arith, fields-within (w .standing) x q); there = omega (arith, ends, end-within-script, w .wide, w .room, rooms) }
 
-    module _ (a : Activation) (innermost : getElem? (w .copies .live) (now .live) ≡ some a) (governed : GovernedHere) (written : WrittenHere) where
-      pub word-read : (i : ℕ) → i < length (stmtFields x) → i < length (governedStmt x around)
-          → text copyOf sceneIn i ≡ reading (a .reads) (getD (governedStmt x around) i 0) (getD (stmtFields x) i 0)
+    module _ (a : Activation) (innermost : getElem? (w .copies .live) (here .live) ≡ some a) (fields-named : NamedHere) (written : WrittenHere) where
+      pub word-read : (i : ℕ) → i < length (stmtFields x) → i < length (namedStmt x around)
+          → text copyOf sceneIn i ≡ reading (a .reads) (getD (namedStmt x around) i 0) (getD (stmtFields x) i 0)
       word-read i h k =
-          let behind : now .live * width + now .at + i ≡ now .live * width + (now .at + i) = omega arith in
-          let name = covers-at names (now .at) (governedStmt x around) (governed x q) i k in
-          let own = covers-at (blockFields (w .standing .program)) (now .at) (stmtFields x) (written x q) i h in
-          ap (λ p. getD area p 0) behind
-          ∙ w .texts .each (now .live) a (w .standing .frame) innermost (here (w .standing)) (now .at + i) (omega (arith, begins)) (omega (arith, ends))
+          let after : here .live * width + here .at + i ≡ here .live * width + (here .at + i) = omega arith in
+          let name = covers-at names (here .at) (namedStmt x around) (fields-named x q) i k in
+          let own = covers-at (blockFields (w .standing .program)) (here .at) (stmtFields x) (written x q) i h in
+          ap (λ p. getD area p 0) after
+          ∙ w .texts .each (here .live) a (w .standing .frame) innermost (last-here (w .standing)) (here .at + i) (omega (arith, begins)) (omega (arith, ends))
           ∙ (λ j. reading (a .reads) (name j) (own j))

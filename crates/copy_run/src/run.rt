@@ -23,7 +23,7 @@ ghost use lib.ListN.{set};
 ghost use Rattle.frames.specs.Frame.{frameRun, frameStart};
 ghost use Rattle.run_moves.specs.Acting.{answer};
 ghost use Rattle.table_pairs.specs.Outcomes.{tableOf, changeOf, wordsAfter};
-ghost use Rattle.run_state.specs.Scenes.{limitsBy};
+ghost use Rattle.run_state.specs.Limits.{limitsBy};
 ghost use Rattle.copy_moves.specs.Running.{Running};
 ghost use Rattle.copy_moves.specs.Looked.{Lookable, lookedUp};
 ghost use Rattle.copy_run.specs.Beginning.{Beginning};
@@ -32,7 +32,7 @@ ghost use Rattle.copy_run.specs.Turning.{Ready, Turned, Ended, RunFrom};
 // What the table answers.
 fn asked(
     table: &mut [i32],
-    words: &mut [i32; 8224],
+    cells: &mut [i32; 8224],
     pairs: usize,
     limit: u32,
     group: usize,
@@ -41,21 +41,21 @@ fn asked(
     ask: Ask,
 ) -> Change
     requires { ⌜ (group < 8192) × ((member < 8192) × (target < 8192)) ⌝ }
-    ensures { λ r. ⌜ r ≡ changeOf (answer limit (now (words .entry)) (tableOf (now (table .entry)) pairs) group member target ask .effect) ⌝ }
-    ensures { λ _. ⌜ now (words .exit) ≡ answer limit (now (words .entry)) (tableOf (now (table .entry)) pairs) group member target ask .words ⌝ }
-    ensures { λ _. ⌜ now (table .exit) ≡ wordsAfter (now (table .entry)) (answer limit (now (words .entry)) (tableOf (now (table .entry)) pairs) group member target ask .effect) ⌝ }
+    ensures { λ r. ⌜ r ≡ changeOf (answer limit (now (cells .entry)) (tableOf (now (table .entry)) pairs) group member target ask .effect) ⌝ }
+    ensures { λ _. ⌜ now (cells .exit) ≡ answer limit (now (cells .entry)) (tableOf (now (table .entry)) pairs) group member target ask .cells ⌝ }
+    ensures { λ _. ⌜ now (table .exit) ≡ wordsAfter (now (table .entry)) (answer limit (now (cells .entry)) (tableOf (now (table .entry)) pairs) group member target ask .effect) ⌝ }
 {
     match ask {
-        Ask::Add => run_statements::add(table, words, pairs, limit, group, member),
-        Ask::Remove => run_statements::remove(table, words, pairs, group, member),
-        Ask::Query => run_statements::query(table, words, pairs, group, member, target),
+        Ask::Add => run_statements::add(table, cells, pairs, limit, group, member),
+        Ask::Remove => run_statements::remove(table, cells, pairs, group, member),
+        Ask::Query => run_statements::query(table, cells, pairs, group, member, target),
     }
 }
 
 pub fn step(
     code: &[u32; 4096],
     names: &[u32; 4096],
-    words: &mut [i32; 8224],
+    cells: &mut [i32; 8224],
     area: &mut [u32],
     width: usize,
     blocks: &mut [u16; 256],
@@ -65,16 +65,16 @@ pub fn step(
     targets: &mut [u16; 8224],
     looked: &mut [u32; 256],
     table: &mut [i32],
-    group: u32,
-    limit: usize,
+    limit: u32,
+    activations: usize,
     here: Registers,
 ) -> Turn
-    requires { ⌜ Ready (now code) (now names) limit group (now words) (now area) width (now blocks) (now nexts) (now firsts) (now starts)
+    requires { ⌜ Ready (now code) (now names) activations limit (now cells) (now area) width (now blocks) (now nexts) (now firsts) (now starts)
         (now targets) (now looked) (now table) here 1 ⌝ }
     ensures { λ r.
-        ⌜ ((w : Running (now (code .entry)) (now (names .entry)) limit group (now (words .entry)) (now (area .entry)) width (now (blocks .entry)) (now (nexts .entry))
+        ⌜ ((w : Running (now (code .entry)) (now (names .entry)) activations limit (now (cells .entry)) (now (area .entry)) width (now (blocks .entry)) (now (nexts .entry))
         (now (firsts .entry)) (now (starts .entry)) (now (targets .entry)) (now (looked .entry)) (now (table .entry)) here)
-        → Turned w r (now (words .exit)) (now (area .exit)) (now (blocks .exit)) (now (nexts .exit)) (now (firsts .exit)) (now (starts .exit))
+        → Turned w r (now (cells .exit)) (now (area .exit)) (now (blocks .exit)) (now (nexts .exit)) (now (firsts .exit)) (now (starts .exit))
         (now (targets .exit)) (now (looked .exit)) (now (table .exit))) ⌝ }
 {
     let live = here.live;
@@ -88,13 +88,13 @@ pub fn step(
     let base = live * width;
     match act(
         code,
-        words,
+        cells,
         area,
         base,
         firsts,
         starts,
         targets,
-        limit,
+        activations,
         live,
         at,
     ) {
@@ -103,7 +103,7 @@ pub fn step(
         Moved::Enter(back, link, body) => Turn::Went(enter(
             code,
             names,
-            words,
+            cells,
             area,
             width,
             blocks,
@@ -118,10 +118,10 @@ pub fn step(
             back,
         )),
         Moved::Stop(cause) => Turn::Stopped(cause),
-        Moved::Table(place, of, member, target, ask) => after(
+        Moved::Table(place, group, member, target, ask) => after(
             here,
             place,
-            asked(table, words, here.pairs, group, of, member, target, ask),
+            asked(table, cells, here.pairs, limit, group, member, target, ask),
         ),
     }
 }
@@ -147,7 +147,7 @@ fn settle(
 pub fn run(
     code: &[u32; 4096],
     names: &[u32; 4096],
-    words: &mut [i32; 8224],
+    cells: &mut [i32; 8224],
     area: &mut [u32],
     width: usize,
     blocks: &mut [u16; 256],
@@ -157,17 +157,17 @@ pub fn run(
     targets: &mut [u16; 8224],
     looked: &mut [u32; 256],
     table: &mut [i32],
-    group: u32,
-    limit: usize,
+    limit: u32,
+    activations: usize,
     allowance: u32,
     start: Registers,
 ) -> Halt
-    requires { ⌜ Ready (now code) (now names) limit group (now words) (now area) width (now blocks) (now nexts) (now firsts) (now starts)
+    requires { ⌜ Ready (now code) (now names) activations limit (now cells) (now area) width (now blocks) (now nexts) (now firsts) (now starts)
         (now targets) (now looked) (now table) start allowance ⌝ }
     ensures { λ r.
-        ⌜ ((w : Running (now (code .entry)) (now (names .entry)) limit group (now (words .entry)) (now (area .entry)) width (now (blocks .entry)) (now (nexts .entry))
+        ⌜ ((w : Running (now (code .entry)) (now (names .entry)) activations limit (now (cells .entry)) (now (area .entry)) width (now (blocks .entry)) (now (nexts .entry))
         (now (firsts .entry)) (now (starts .entry)) (now (targets .entry)) (now (looked .entry)) (now (table .entry)) start)
-        → RunFrom w allowance r (now (words .exit)) (now (blocks .exit)) (now (nexts .exit)) (now (table .exit))) ⌝ }
+        → RunFrom w allowance r (now (cells .exit)) (now (blocks .exit)) (now (nexts .exit)) (now (table .exit))) ⌝ }
 {
     let mut here = start;
     let mut left = allowance;
@@ -175,7 +175,7 @@ pub fn run(
         match step(
             code,
             names,
-            words,
+            cells,
             area,
             width,
             blocks,
@@ -185,8 +185,8 @@ pub fn run(
             targets,
             looked,
             table,
-            group,
             limit,
+            activations,
             here,
         ) {
             Turn::Went(next) => {
@@ -209,23 +209,23 @@ pub fn run_program(
     script: &[u8],
     code: &[u32; 4096],
     names: &[u32; 4096],
-    words: &mut [i32; 8224],
+    cells: &mut [i32; 8224],
     area: &mut [u32],
     blocks: &mut [u16; 256],
     nexts: &mut [u16; 256],
     table: &mut [i32],
     pairs: usize,
-    group: u32,
-    limit: usize,
+    limit: u32,
+    activations: usize,
     allowance: u32,
 ) -> Halt
-    requires { ⌜ Beginning (now script) (now code) (now names) (now words) (now area) (now blocks) (now nexts) (now table) pairs group limit allowance ⌝ }
+    requires { ⌜ Beginning (now script) (now code) (now names) (now cells) (now area) (now blocks) (now nexts) (now table) pairs limit activations allowance ⌝ }
     ensures { λ r.
-        ⌜ ((b : Beginning (now (script .entry)) (now (code .entry)) (now (names .entry)) (now (words .entry)) (now (area .entry)) (now (blocks .entry)) (now (nexts .entry))
-        (now (table .entry)) pairs group limit allowance)
-        → Ended (b .program) (b .name) limit group
-        (frameRun (limitsBy limit group) allowance (frameStart (b .program) (record { words = now (table .entry); used = pairs })))
-        r (now (words .exit)) (now (blocks .exit)) (now (nexts .exit)) (now (table .exit))) ⌝ }
+        ⌜ ((b : Beginning (now (script .entry)) (now (code .entry)) (now (names .entry)) (now (cells .entry)) (now (area .entry)) (now (blocks .entry)) (now (nexts .entry))
+        (now (table .entry)) pairs limit activations allowance)
+        → Ended (b .program) (b .name) activations limit
+        (frameRun (limitsBy activations limit) allowance (frameStart (b .program) (record { words = now (table .entry); used = pairs })))
+        r (now (cells .exit)) (now (blocks .exit)) (now (nexts .exit)) (now (table .exit))) ⌝ }
 {
     let width = script.len() / 2;
     let mut firsts = [0u32; 256];
@@ -245,7 +245,7 @@ pub fn run_program(
     run(
         code,
         names,
-        words,
+        cells,
         area,
         width,
         blocks,
@@ -255,8 +255,8 @@ pub fn run_program(
         &mut targets,
         &mut looked,
         table,
-        group,
         limit,
+        activations,
         allowance,
         start,
     )

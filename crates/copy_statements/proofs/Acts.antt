@@ -47,14 +47,14 @@ module _ (c : Copy) (s : Scene) where
 
   pub constant-acts :
       {r : Move} {ws : List ℤ} → r ≡ On (s .at + 4) →
-      ws ≡ set (s .words) (cellAt (c .area) (c .firsts) (c .starts) (s .live) (place + 1)) (signed (text c s 2 + 65536 * text c s 3)) →
+      ws ≡ set (s .cells) (cellAt (c .area) (c .firsts) (c .starts) (s .live) (place + 1)) (signed (text c s 2 + 65536 * text c s 3)) →
       Done (happens c s constant) r ws
   unfolding happens doConstant rewrites
   constant-acts p q = (p, q)
 
   pub arithmetic-acts :
-      {r : Move} {ws : List ℤ} → let z = resultAt (s .words) (c .area) (c .firsts) (c .starts) (s .live) place in
-      r ≡ moveAfter (effectOf z) (s .at + 5) → ws ≡ wordsOf (s .words) (cellAt (c .area) (c .firsts) (c .starts) (s .live) (place + 1)) z →
+      {r : Move} {ws : List ℤ} → let z = resultAt (s .cells) (c .area) (c .firsts) (c .starts) (s .live) place in
+      r ≡ moveAfter (effectOf z) (s .at + 5) → ws ≡ wordsOf (s .cells) (cellAt (c .area) (c .firsts) (c .starts) (s .live) (place + 1)) z →
       Done (happens c s arithmetic) r ws
   unfolding happens doArithmetic rewrites
   arithmetic-acts p q = (p, q)
@@ -62,22 +62,22 @@ module _ (c : Copy) (s : Scene) where
   abbrev jump : ℕ → Move
   jump i = jumpAt (c .area) (c .firsts) (c .starts) (c .targets) (s .live) (place + i)
 
-  pub goto-acts : {r : Move} → r ≡ jump 1 → Done (happens c s goto) r (s .words)
+  pub goto-acts : {r : Move} → r ≡ jump 1 → Done (happens c s goto) r (s .cells)
   unfolding happens doGoto moves
   goto-acts p = (p, refl)
 
   pub branch-acts :
-      {r : Move} → r ≡ branchMove (variableAt (s .words) (c .area) (c .firsts) (c .starts) (s .live) (place + 1)) (s .at + 3) (jump 2) →
-      Done (happens c s branch) r (s .words)
+      {r : Move} → r ≡ branchMove (variableAt (s .cells) (c .area) (c .firsts) (c .starts) (s .live) (place + 1)) (s .at + 3) (jump 2) →
+      Done (happens c s branch) r (s .cells)
   unfolding happens doBranch doGoto moves branchMove
   branch-acts {r} p = go (eqZ (valueAt c s 1) (pos 0)) refl
     where
-      go : (b : Bool) → eqZ (valueAt c s 1) (pos 0) ≡ b → Done (doBranch c s) r (s .words)
+      go : (b : Bool) → eqZ (valueAt c s 1) (pos 0) ≡ b → Done (doBranch c s) r (s .cells)
       go true e = (p ∙ rw (e, branchMove, doBranch), rw (e, doBranch))
       go false e = (p ∙ rw (e, branchMove, doBranch), rw (e, doBranch))
 
   pub block-acts :
-      {r : Move} → r ≡ blockMove (s .code) (s .limit) (s .live) (s .at) → Done (happens c s block) r (s .words)
+      {r : Move} → r ≡ blockMove (s .code) (s .activations) (s .live) (s .at) → Done (happens c s block) r (s .cells)
   unfolding happens doBlock moves
   block-acts p = (p, refl)
 
@@ -94,12 +94,12 @@ module _ (c : Copy) (s : Scene) where
   refused = refusedAt (s .code) (c .area) (c .firsts) (c .starts) (c .targets) (s .live) (s .at) place
 
   abbrev full : Bool
-  full = leb (s .limit) (s .live + 1)
+  full = leb (s .activations) (s .live + 1)
 
   pub call-acts :
       {r : Move} {ws : List ℤ} →
       r ≡ callMove refused full (enterAt (c .area) (c .firsts) (c .starts) (c .targets) (s .live) (s .at) place) →
-      ws ≡ callWords refused full (s .words) (handedAt (s .words) (c .area) (c .firsts) (c .starts) (c .targets) (s .live) place) →
+      ws ≡ callWords refused full (s .cells) (handedAt (s .cells) (c .area) (c .firsts) (c .starts) (c .targets) (s .live) place) →
       Done (happens c s call) r ws
   unfolding happens doCall differs refusedBy callMove callWords moves rewrites
   call-acts {r} {ws} p q = go refused full refl refl
@@ -115,14 +115,14 @@ module _ (c : Copy) (s : Scene) where
   abbrev cellIn-field : ℕ → ℕ
   cellIn-field i = cellAt (c .area) (c .firsts) (c .starts) (s .live) (place + i)
 
-  pub pair-acts : {r : Move} → r ≡ Asks (s .at + 3) (cellIn-field 1) (cellIn-field 2) 0 Add → Done (happens c s pair) r (s .words)
+  pub pair-acts : {r : Move} → r ≡ Asks (s .at + 3) (cellIn-field 1) (cellIn-field 2) 0 Add → Done (happens c s pair) r (s .cells)
   unfolding happens doChange moves
   pair-acts p = (p, refl)
 
-  pub unpair-acts : {r : Move} → r ≡ Asks (s .at + 3) (cellIn-field 1) (cellIn-field 2) 0 Remove → Done (happens c s unpair) r (s .words)
+  pub unpair-acts : {r : Move} → r ≡ Asks (s .at + 3) (cellIn-field 1) (cellIn-field 2) 0 Remove → Done (happens c s unpair) r (s .cells)
   unfolding happens doChange moves
   unpair-acts p = (p, refl)
 
-  pub query-acts : {r : Move} → r ≡ Asks (s .at + 4) (cellIn-field 2) (cellIn-field 3) (cellIn-field 1) Query → Done (happens c s query) r (s .words)
+  pub query-acts : {r : Move} → r ≡ Asks (s .at + 4) (cellIn-field 2) (cellIn-field 3) (cellIn-field 1) Query → Done (happens c s query) r (s .cells)
   unfolding happens doQuery moves
   query-acts p = (p, refl)

@@ -39,7 +39,7 @@ module _ (c : Copy) (s : Scene) (r : Ready c s) where
 
   pub call-asks :
       markOf (text c s 0) ≡ call →
-      CallAt (s .code) (c .area) (c .firsts) (c .starts) (c .targets) (s .limit) (s .live) (s .at) place
+      CallAt (s .code) (c .area) (c .firsts) (c .starts) (c .targets) (s .activations) (s .live) (s .at) place
   call-asks e =
       let b = asks call e in
       let n = text c s 2 in
@@ -49,7 +49,7 @@ module _ (c : Copy) (s : Scene) (r : Ready c s) where
         within = within;
         procedure = name-in 1 (b .fields) (omega arith) (b .procedure);
         arguments = record { few = b .few; there = there; named = argument b };
-        bounded = b .limit;
+        bounded = b .activations;
         body = b .body;
       }
     where

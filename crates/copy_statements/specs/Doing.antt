@@ -41,15 +41,15 @@ module _ (c : Copy) (s : Scene) where
   target i = getD (c .targets) (cell i) 0
 
   abbrev pub valueAt : ℕ → ℤ
-  valueAt i = getD (s .words) (cell i) (pos 0)
+  valueAt i = getD (s .cells) (cell i) (pos 0)
 
   unfoldable pub doConstant : Happened
-  doConstant = rewrites s (On (s .at + 4)) (set (s .words) (cell 1) (signed (text 2 + 65536 * text 3)))
+  doConstant = rewrites s (On (s .at + 4)) (set (s .cells) (cell 1) (signed (text 2 + 65536 * text 3)))
 
   unfoldable pub doArithmetic : Happened
   doArithmetic =
       let z = compute (operationOf (text 2)) (valueAt 3) (valueAt 4) in
-      rewrites s (moveAfter (effectOf z) (s .at + 5)) (wordsOf (s .words) (cell 1) z)
+      rewrites s (moveAfter (effectOf z) (s .at + 5)) (wordsOf (s .cells) (cell 1) z)
 
   -- to the label in a field
   unfoldable pub doGoto : ℕ → Happened
@@ -59,7 +59,7 @@ module _ (c : Copy) (s : Scene) where
   doBranch = elim (eqZ (valueAt 1) (pos 0)) [ true ↦ moves s (On (s .at + 3)) | false ↦ doGoto 2 ]
 
   unfoldable pub doBlock : Happened
-  doBlock = moves s (blockMove (s .code) (s .limit) (s .live) (s .at))
+  doBlock = moves s (blockMove (s .code) (s .activations) (s .live) (s .at))
 
   -- what the arguments from field i on hand on
   unfoldable pub argumentsFrom : ℕ → ℕ → List ℤ
@@ -76,9 +76,9 @@ module _ (c : Copy) (s : Scene) where
   doCall =
       elim differs [
         | true ↦ moves s (Stop ArgumentsDiffer)
-        | false ↦ elim (leb (s .limit) (s .live + 1)) [
+        | false ↦ elim (leb (s .activations) (s .live + 1)) [
           | true ↦ moves s (Stop NoActivationLeft)
-          | false ↦ rewrites s (Enter (target 1) (activationIn (cell 1)) (s .at + 3 + text 2)) (setAll (s .words) (cellFrom (s .live) 32) (argumentsFrom 3 (text 2)))
+          | false ↦ rewrites s (Enter (target 1) (activationIn (cell 1)) (s .at + 3 + text 2)) (setAll (s .cells) (cellFrom (s .live) 32) (argumentsFrom 3 (text 2)))
         ]
       ]
 

@@ -17,7 +17,7 @@ movedBy (Enter body link back) = EnterBy back link body
 movedBy (Stop c) = StopFor c
 
 abbrev pub Came : Happened → Moved → List ℤ → Type 0
-Came h r words = (r ≡ movedBy (h .move)) × (words ≡ h .words)
+Came h r cells = (r ≡ movedBy (h .move)) × (cells ≡ h .cells)
 
-pub came : (h : Happened) {r : Moved} {m : Move} {words : List ℤ} → r ≡ movedBy m → Done h m words → Came h r words
+pub came : (h : Happened) {r : Moved} {m : Move} {cells : List ℤ} → r ≡ movedBy m → Done h m cells → Came h r cells
 came h e a = (e ∙ ap movedBy (a .0), a .1)

@@ -26,7 +26,7 @@ module _ (c : Copy) (s : Scene) where
     pub fields : Fields (3 + text c s 2)
     pub procedure : Named 1
     pub arguments : (i : ℕ) → i < text c s 2 → Named (3 + i)
-    pub limit : s .limit ≤ 256
+    pub activations : s .activations ≤ 256
     -- where the called name is a formal as written, its body stands after its formals
     pub body : eqb (operationIn (getD (s .code) (s .at) 0)) 15 ≡ true → FormalsBefore (s .code) (target c s 1)
 

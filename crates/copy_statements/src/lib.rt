@@ -1,4 +1,4 @@
-// The statement at a place is done as far as words go, by its mark in the copied text; where the run goes on is the answer.
+// The statement at a place is done as far as cells go, by its mark in the copied text; where the run goes on is the answer.
 use check_marks::AD;
 use check_marks::AR;
 use check_marks::BK;
@@ -32,40 +32,40 @@ pub use moved::Moved;
 
 pub fn act(
     code: &[u32; 4096],
-    words: &mut [i32; 8224],
+    cells: &mut [i32; 8224],
     area: &[u32],
     base: usize,
     firsts: &[u32; 256],
     starts: &[u16; 256],
     targets: &[u16; 8224],
-    limit: usize,
+    activations: usize,
     live: usize,
     at: usize,
 ) -> Moved
-    requires { ⌜ Ready (copyBy (now area) base (now firsts) (now starts) (now targets)) (sceneBy (now code) (now words) limit live at) ⌝ }
-    ensures { λ r. ⌜ r ≡ movedBy ((doing (copyBy (now (area .entry)) base (now (firsts .entry)) (now (starts .entry)) (now (targets .entry))) (sceneBy (now (code .entry)) (now (words .entry)) limit live at)) .move) ⌝ }
-    ensures { λ _. ⌜ now (words .exit) ≡ (doing (copyBy (now (area .entry)) base (now (firsts .entry)) (now (starts .entry)) (now (targets .entry))) (sceneBy (now (code .entry)) (now (words .entry)) limit live at)) .words ⌝ }
+    requires { ⌜ Ready (copyBy (now area) base (now firsts) (now starts) (now targets)) (sceneBy (now code) (now cells) activations live at) ⌝ }
+    ensures { λ r. ⌜ r ≡ movedBy ((doing (copyBy (now (area .entry)) base (now (firsts .entry)) (now (starts .entry)) (now (targets .entry))) (sceneBy (now (code .entry)) (now (cells .entry)) activations live at)) .move) ⌝ }
+    ensures { λ _. ⌜ now (cells .exit) ≡ (doing (copyBy (now (area .entry)) base (now (firsts .entry)) (now (starts .entry)) (now (targets .entry))) (sceneBy (now (code .entry)) (now (cells .entry)) activations live at)) .cells ⌝ }
 {
     let place = base + at;
     let mark = field(area, place);
     match mark {
-        AR => came_to(do_arithmetic(words, area, firsts, starts, live, place, at)),
-        IF => came_to(do_branch(words, area, firsts, starts, targets, live, place, at)),
-        KN => came_to(do_constant(words, area, firsts, starts, live, place, at)),
+        AR => came_to(do_arithmetic(cells, area, firsts, starts, live, place, at)),
+        IF => came_to(do_branch(cells, area, firsts, starts, targets, live, place, at)),
+        KN => came_to(do_constant(cells, area, firsts, starts, live, place, at)),
         CL => came_to(do_call(
             code,
-            words,
+            cells,
             area,
             firsts,
             starts,
             targets,
-            limit,
+            activations,
             live,
             place,
             at,
         )),
         GO => came_to(do_goto(area, firsts, starts, targets, live, place + 1)),
-        BK => came_to(do_block(code, limit, live, at)),
+        BK => came_to(do_block(code, activations, live, at)),
         AD => came_to(do_add_pair(area, firsts, starts, live, place, at)),
         RM => came_to(do_remove_pair(area, firsts, starts, live, place, at)),
         _ => came_to(do_query(area, firsts, starts, live, place, at)),

@@ -20,9 +20,9 @@ pub fn do_add_pair(
     requires { ⌜ NameAt (now area) (now firsts) (now starts) live (place + 2) ⌝ }
     ensures { λ r. ⌜ r ≡ Move.Table (at + 3) (cellAt (now (area .entry)) (now (firsts .entry)) (now (starts .entry)) live (place + 1)) (cellAt (now (area .entry)) (now (firsts .entry)) (now (starts .entry)) live (place + 2)) 0 Ask.Add ⌝ }
 {
-    let group = named(area, firsts, starts, live, place + 1);
+    let limit = named(area, firsts, starts, live, place + 1);
     let member = named(area, firsts, starts, live, place + 2);
-    Move::Table(at + 3, group, member, 0, Ask::Add)
+    Move::Table(at + 3, limit, member, 0, Ask::Add)
 }
 
 pub fn do_remove_pair(
@@ -38,9 +38,9 @@ pub fn do_remove_pair(
     requires { ⌜ NameAt (now area) (now firsts) (now starts) live (place + 2) ⌝ }
     ensures { λ r. ⌜ r ≡ Move.Table (at + 3) (cellAt (now (area .entry)) (now (firsts .entry)) (now (starts .entry)) live (place + 1)) (cellAt (now (area .entry)) (now (firsts .entry)) (now (starts .entry)) live (place + 2)) 0 Ask.Remove ⌝ }
 {
-    let group = named(area, firsts, starts, live, place + 1);
+    let limit = named(area, firsts, starts, live, place + 1);
     let member = named(area, firsts, starts, live, place + 2);
-    Move::Table(at + 3, group, member, 0, Ask::Remove)
+    Move::Table(at + 3, limit, member, 0, Ask::Remove)
 }
 
 pub fn do_query(
@@ -58,7 +58,7 @@ pub fn do_query(
     ensures { λ r. ⌜ r ≡ Move.Table (at + 4) (cellAt (now (area .entry)) (now (firsts .entry)) (now (starts .entry)) live (place + 2)) (cellAt (now (area .entry)) (now (firsts .entry)) (now (starts .entry)) live (place + 3)) (cellAt (now (area .entry)) (now (firsts .entry)) (now (starts .entry)) live (place + 1)) Ask.Query ⌝ }
 {
     let to = named(area, firsts, starts, live, place + 1);
-    let group = named(area, firsts, starts, live, place + 2);
+    let limit = named(area, firsts, starts, live, place + 2);
     let member = named(area, firsts, starts, live, place + 3);
-    Move::Table(at + 4, group, member, to, Ask::Query)
+    Move::Table(at + 4, limit, member, to, Ask::Query)
 }

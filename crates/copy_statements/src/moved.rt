@@ -20,8 +20,8 @@ pub fn came_to(done: Move) -> Moved
 {
     match done {
         Move::On(place) => Moved::Went(place),
-        Move::Table(place, group, member, target, ask) => {
-            Moved::Table(place, group, member, target, ask)
+        Move::Table(place, limit, member, target, ask) => {
+            Moved::Table(place, limit, member, target, ask)
         }
         Move::Jump(home, place) => Moved::Jump(place, home),
         Move::Enter(body, link, back) => Moved::Enter(back, link, body),

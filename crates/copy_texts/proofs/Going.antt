@@ -14,18 +14,18 @@ use Rattle.copy_texts.specs.Texts.{renewed, Copied, noted, notedFrom}
 use Rattle.copy_texts.specs.Copying.{Renewable, Copyable}
 use Rattle.copy_texts.proofs.Renewing.{renewed-kept, renewed-new, renewed-formal}
 
-module _ (names : List ℕ) (cells level : ℕ) where
-  pub notes-done : (targets : List ℕ) (q end : ℕ) → end ≤ q → targets ≡ notedFrom targets names cells level q (end - q)
+module _ (names : List ℕ) (lowest level : ℕ) where
+  pub notes-done : (targets : List ℕ) (q end : ℕ) → end ≤ q → targets ≡ notedFrom targets names lowest level q (end - q)
   unfolding notedFrom
   notes-done targets q end h = let e : end - q ≡ 0 = omega arith in rw (e, notedFrom)
 
   pub notes-more :
-      (targets targets′ : List ℕ) (q end w : ℕ) → q < end → w ≡ getD names q 0 → targets′ ≡ noted targets cells level w →
-      notedFrom targets′ names cells level (q + 1) (end - (q + 1)) ≡ notedFrom targets names cells level q (end - q)
+      (targets targets′ : List ℕ) (q end w : ℕ) → q < end → w ≡ getD names q 0 → targets′ ≡ noted targets lowest level w →
+      notedFrom targets′ names lowest level (q + 1) (end - (q + 1)) ≡ notedFrom targets names lowest level q (end - q)
   unfolding notedFrom
   notes-more targets targets′ q end w h e t =
       let n : end - q ≡ suc (end - (q + 1)) = omega arith in
-      let p : targets′ ≡ noted targets cells level (getD names q 0) = t ∙ ap (noted targets cells level) e in
+      let p : targets′ ≡ noted targets lowest level (getD names q 0) = t ∙ ap (noted targets lowest level) e in
       rw (n, notedFrom, p)
 
 -- a name becomes the same where its argument is the same
@@ -46,9 +46,9 @@ renewed-same area area′ given level first w old same = go (eqb (levelIn w) lev
         let l = eqb-false _ _ e in
         sym (renewed-kept area′ given level first w old l) ∙ renewed-kept area given level first w old l
 
-module _ (area names : List ℕ) (from to given level first cells place end : ℕ) (can : Copyable area names from to given level first cells place end) where
+module _ (area names : List ℕ) (from to given level first lowest place end : ℕ) (can : Copyable area names from to given level first lowest place end) where
   pub copied-none : Copied area area names from to given level first place place
-  copied-none = record { as-long = refl; copied = λ q l h. absurd (omega arith); before = λ i h. refl; behind = λ i h. refl }
+  copied-none = record { as-long = refl; copied = λ q l h. absurd (omega arith); before = λ i h. refl; after = λ i h. refl }
 
   pub copied-all :
       (area′ : List ℕ) (q : ℕ) → q ≤ end → end ≤ q → Copied area area′ names from to given level first place q →
@@ -61,7 +61,7 @@ module _ (area names : List ℕ) (from to given level first cells place end : �
     old-there = go (can .apart)
       where
         go : (from ≡ to) ⊎ (from + end ≤ to + place) → getD area′ (from + q) 0 ≡ getD area (from + q) 0
-        go (inl e) = c .behind (from + q) (omega arith)
+        go (inl e) = c .after (from + q) (omega arith)
         go (inr l) = c .before (from + q) (omega arith)
 
     pub renewable : (w : ℕ) → w ≡ getD names q 0 → Renewable area′ given level first w
@@ -81,7 +81,7 @@ module _ (area names : List ℕ) (from to given level first cells place end : �
           as-long = length-set area′ (to + q) x ∙ c .as-long;
           copied = λ p l h. go p l h (eqb p q) refl;
           before = λ i h. getD-set-other area′ (to + q) i x 0 (λ n. omega arith) ∙ c .before i h;
-          behind = λ i h. getD-set-other area′ (to + q) i x 0 (λ n. omega arith) ∙ c .behind i (omega arith);
+          after = λ i h. getD-set-other area′ (to + q) i x 0 (λ n. omega arith) ∙ c .after i (omega arith);
         }
       where
         new : x ≡ renewed area given level first (getD names q 0) (getD area (from + q) 0)

@@ -30,19 +30,19 @@ module _ (area : List ℕ) (given level first w old : ℕ) where
   unfolding renewed
   renewed-formal e d = rw (eq-eqb _ _ e, renewed, d)
 
-module _ (targets : List ℕ) (cells level w : ℕ) where
-  pub noted-new : levelIn w ≡ level → direct w ≡ true → set targets (cells + positionIn w) (targetIn w) ≡ noted targets cells level w
+module _ (targets : List ℕ) (lowest level w : ℕ) where
+  pub noted-new : levelIn w ≡ level → direct w ≡ true → set targets (lowest + positionIn w) (targetIn w) ≡ noted targets lowest level w
   unfolding noted
   noted-new e d = rw (eq-eqb _ _ e, noted, d)
 
-  pub noted-formal : direct w ≡ false → targets ≡ noted targets cells level w
+  pub noted-formal : direct w ≡ false → targets ≡ noted targets lowest level w
   unfolding noted
   noted-formal d = go (eqb (levelIn w) level) refl
     where
-      go : (t : Bool) → eqb (levelIn w) level ≡ t → targets ≡ noted targets cells level w
+      go : (t : Bool) → eqb (levelIn w) level ≡ t → targets ≡ noted targets lowest level w
       go true e = rw (e, noted, d)
       go false e = rw (e, noted)
 
-  pub noted-other : (levelIn w ≡ level → ⊥) → targets ≡ noted targets cells level w
+  pub noted-other : (levelIn w ≡ level → ⊥) → targets ≡ noted targets lowest level w
   unfolding noted
   noted-other d = rw (ne-eqb _ _ d, noted)

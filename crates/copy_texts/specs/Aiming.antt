@@ -24,7 +24,7 @@ use Rattle.resolved.specs.Resolved.{placeOf, endPlace, positionIn, levelIn, tar
 use Rattle.resolved.specs.Layout.{cellFrom}
 use Rattle.copy_texts.specs.Texts.{Aims, notedFrom}
 use Rattle.copy_texts.specs.Readings.{Narrow, word-says, position-here, position-there, owned}
-use Rattle.copy_texts.specs.Renewing.{Governs, Inside, Declared}
+use Rattle.copy_texts.specs.Renewing.{NamesStand, Inside, Declared}
 use Rattle.copy_texts.specs.Stacks.{OneMore, frame-before, by-index}
 use Rattle.copy_texts.specs.Noting.{Leads, from-below, from-reached}
 
@@ -68,10 +68,10 @@ word-declared e es narrow once j d q =
 
 -- The cells of one block
 
-governed-leads : (e : Enclosing) (es : Enclosure) (j : ℕ) (d : Decl) → getElem? (blockDecls (e .text)) j ≡ some d → (w n : ℕ) → Governs e es w n
+named-leads : (e : Enclosing) (es : Enclosure) (j : ℕ) (d : Decl) → getElem? (blockDecls (e .text)) j ≡ some d → (w n : ℕ) → NamesStand e es w n
     → Leads (suc (length es)) (length (e .formals) + j) (declTarget (e .text) d) w
-governed-leads e es j d q w n (inl z) l k s = absurd (omega arith)
-governed-leads e es j d q w n (inr c) l k s =
+named-leads e es j d q w n (inl z) l k s = absurd (omega arith)
+named-leads e es j d q w n (inr c) l k s =
     let m = length (e .formals) in
     let word = nameWord (c .0 ++ (e ∷ es)) n in
     let at : positionIn word ≡ m + j = ap positionIn (sym (c .1)) ∙ s in
@@ -79,17 +79,17 @@ governed-leads e es j d q w n (inr c) l k s =
     let z : positionIn word - m ≡ j = omega arith in
     ap targetIn (c .1) ∙ o .target d (omega arith) (ap (getElem? (blockDecls (e .text))) z ∙ q)
 
-pub block-aims : (targets names fields : List ℕ) (cells : ℕ) (e : Enclosing) (es : Enclosure) → Narrow (e ∷ es) → Distinct (namesOf e) → Inside names fields e es → Declared names e es
-    → cells + 32 ≤ length targets → length (e .formals) + length (blockDecls (e .text)) ≤ 32 → (j : ℕ) (d : Decl) → getElem? (blockDecls (e .text)) j ≡ some d
-    → getD (notedFrom targets names cells (suc (length es)) (placeOf (blockAt (e .text))) (endPlace (e .text) - placeOf (blockAt (e .text)))) (cells + (length (e .formals) + j)) 0 ≡ declTarget (e .text) d
-block-aims targets names fields cells e es narrow once inside declared room few j d q =
+pub block-aims : (targets names fields : List ℕ) (lowest : ℕ) (e : Enclosing) (es : Enclosure) → Narrow (e ∷ es) → Distinct (namesOf e) → Inside names fields e es → Declared names e es
+    → lowest + 32 ≤ length targets → length (e .formals) + length (blockDecls (e .text)) ≤ 32 → (j : ℕ) (d : Decl) → getElem? (blockDecls (e .text)) j ≡ some d
+    → getD (notedFrom targets names lowest (suc (length es)) (placeOf (blockAt (e .text))) (endPlace (e .text) - placeOf (blockAt (e .text)))) (lowest + (length (e .formals) + j)) 0 ≡ declTarget (e .text) d
+block-aims targets names fields lowest e es narrow once inside declared room few j d q =
     let place = placeOf (blockAt (e .text)) in
     let n = endPlace (e .text) - place in
     let b = getElem-bound (blockDecls (e .text)) j d q in
     let s = declared j d q in
     let w = word-declared e es narrow once j d q in
-    from-reached names cells (suc (length es)) (length (e .formals) + j) (declTarget (e .text) d) targets place n (s .0) (omega arith)
-    (λ i low high. governed-leads e es j d q (getD names i 0) (getD fields i 0) (inside i low (omega arith))) (s .1) (omega (arith, s .1, s .2))
+    from-reached names lowest (suc (length es)) (length (e .formals) + j) (declTarget (e .text) d) targets place n (s .0) (omega arith)
+    (λ i low high. named-leads e es j d q (getD names i 0) (getD fields i 0) (inside i low (omega arith))) (s .1) (omega (arith, s .1, s .2))
     (ap levelIn (s .3) ∙ w .level) (ap direct (s .3) ∙ w .is-direct) (ap positionIn (s .3) ∙ w .position)
 
 -- The activations that were there before

@@ -122,12 +122,12 @@ texts-start area area′ names fields width given a f no-formals enters inside f
     source : (q : ℕ) → q < endPlace (f .text) → getD area (0 + q) 0 ≡ reading [] (getD names q 0) (getD fields q 0)
     source q high = ap (λ i. getD area i 0) (zero-add q) ∙ filled q (omega arith) ∙ sym (reading-nothing (getD names q 0) (getD fields q 0))
 
-    words : TextStands area′ width names fields 0 a f
-    words q low high =
+    cells : TextStands area′ width names fields 0 a f
+    cells q low high =
         let z : 0 * width + q ≡ 0 + q = omega arith in
         ap (λ i. getD area′ i 0) z
         ∙ words-copied area area′ names fields 0 0 given 65536 (enclosed (f .formals) (f .text)) [] [] a enters inside copy (λ i l b. source i b) q low high
 
     right : (k : ℕ) (b : Activation) (x : Frame) → getElem? (a ∷ []) k ≡ some b → getElem? (f ∷ []) k ≡ some x → TextStands area′ width names fields k b x
-    right zero b x p r = subst₂ (TextStands area′ width names fields 0) (some-inj p) (some-inj r) words
+    right zero b x p r = subst₂ (TextStands area′ width names fields 0) (some-inj p) (some-inj r) cells
     right (suc k) b x p r = none≢some p

@@ -28,11 +28,11 @@ use Rattle.copy_texts.specs.Texts.{reading, renewed}
 use Rattle.copy_texts.specs.Readings.{Narrow, Owned, owned, own-within, own-reads, own-hidden}
 
 -- the word of a field with what is written there, n, in the text of block e: of level 0, or that of the name n at some place in the text
-abbrev pub Governs : Enclosing → Enclosure → ℕ → ℕ → Type 0
-Governs e es w n = (levelIn w ≡ 0) ⊎ ((inner : Enclosure) × (w ≡ nameWord (inner ++ (e ∷ es)) n) × (n < 65536) × Narrow (inner ++ (e ∷ es)))
+abbrev pub NamesStand : Enclosing → Enclosure → ℕ → ℕ → Type 0
+NamesStand e es w n = (levelIn w ≡ 0) ⊎ ((inner : Enclosure) × (w ≡ nameWord (inner ++ (e ∷ es)) n) × (n < 65536) × Narrow (inner ++ (e ∷ es)))
 
 abbrev pub Inside : List ℕ → List ℕ → Enclosing → Enclosure → Type 0
-Inside names fields e es = (q : ℕ) → placeOf (blockAt (e .text)) ≤ q → q < endPlace (e .text) → Governs e es (getD names q 0) (getD fields q 0)
+Inside names fields e es = (q : ℕ) → placeOf (blockAt (e .text)) ≤ q → q < endPlace (e .text) → NamesStand e es (getD names q 0) (getD fields q 0)
 
 -- each declared name has its word somewhere in the text
 abbrev pub Declared : List ℕ → Enclosing → Enclosure → Type 0
@@ -189,9 +189,9 @@ module _ {area : List ℕ} {given fresh : ℕ} {e : Enclosing} {es : Enclosure} 
         (λ t. inward (leb-false (levelIn w) level t))))
 
   -- one field
-  pub field-read : (w n : ℕ) → Governs e es w n → taken w (reading outer w n) ≡ reading (new .reads) w n
+  pub field-read : (w n : ℕ) → NamesStand e es w n → taken w (reading outer w n) ≡ reading (new .reads) w n
   field-read w n c = by c ∙ ap (λ (σs : List Replacement). reading σs w n) (sym (reads-own h))
     where
-      by : Governs e es w n → taken w (reading outer w n) ≡ reading (own ∷ outer) w n
+      by : NamesStand e es w n → taken w (reading outer w n) ≡ reading (own ∷ outer) w n
       by (inl z) = plain w n z
       by (inr k) = subst (λ x. taken x (reading outer x n) ≡ reading (own ∷ outer) x n) (sym (k .1)) (named (k .0) (k .3) n)

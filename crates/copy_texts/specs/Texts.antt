@@ -49,12 +49,12 @@ pub record Copied (area area′ names : List ℕ) (from to given level first pla
   pub as-long : length area′ ≡ length area
   pub copied : (q : ℕ) → place ≤ q → q < end → getD area′ (to + q) 0 ≡ renewed area given level first (getD names q 0) (getD area (from + q) 0)
   pub before : (i : ℕ) → i < to + place → getD area′ i 0 ≡ getD area i 0
-  pub behind : (i : ℕ) → to + end ≤ i → getD area′ i 0 ≡ getD area i 0
+  pub after : (i : ℕ) → to + end ≤ i → getD area′ i 0 ≡ getD area i 0
 
 -- what a word that declares or uses a name of the level says of the name's target
 unfoldable pub noted : List ℕ → ℕ → ℕ → ℕ → List ℕ
-noted targets cells level w = elim (eqb (levelIn w) level && direct w) [ true ↦ set targets (cells + positionIn w) (targetIn w) | false ↦ targets ]
+noted targets lowest level w = elim (eqb (levelIn w) level && direct w) [ true ↦ set targets (lowest + positionIn w) (targetIn w) | false ↦ targets ]
 
 unfoldable pub notedFrom : List ℕ → List ℕ → ℕ → ℕ → ℕ → ℕ → List ℕ
-notedFrom targets names cells level q zero = targets
-notedFrom targets names cells level q (suc n) = notedFrom (noted targets cells level (getD names q 0)) names cells level (q + 1) n
+notedFrom targets names lowest level q zero = targets
+notedFrom targets names lowest level q (suc n) = notedFrom (noted targets lowest level (getD names q 0)) names lowest level (q + 1) n

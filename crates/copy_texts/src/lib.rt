@@ -41,13 +41,13 @@ pub fn renew(area: &[u32], given: usize, level: usize, first: usize, word: usize
 }
 
 // What a declared name of the level leads to is put into its cell.
-fn note(targets: &mut [u16; 8224], cells: usize, level: usize, word: usize)
-    requires { ⌜ (cells + 32 ≤ 8224) × (word < 2 ^ 32) ⌝ }
-    ensures { λ _. ⌜ now (targets .exit) ≡ noted (now (targets .entry)) cells level word ⌝ }
+fn note(targets: &mut [u16; 8224], lowest: usize, level: usize, word: usize)
+    requires { ⌜ (lowest + 32 ≤ 8224) × (word < 2 ^ 32) ⌝ }
+    ensures { λ _. ⌜ now (targets .exit) ≡ noted (now (targets .entry)) lowest level word ⌝ }
 {
     if level_of(word) == level {
         if formal_of(word) == 0 {
-            targets[cells + position_of(word)] = narrow(target_of(word));
+            targets[lowest + position_of(word)] = narrow(target_of(word));
         }
     }
 }
@@ -62,19 +62,19 @@ pub fn copy_text(
     given: usize,
     level: usize,
     first: usize,
-    cells: usize,
+    lowest: usize,
     place: usize,
     end: usize,
 )
-    requires { ⌜ Copyable (now area) (now names) from to given level first cells place end ⌝ }
+    requires { ⌜ Copyable (now area) (now names) from to given level first lowest place end ⌝ }
     ensures { λ _. ⌜ Copied (now (area .entry)) (now (area .exit)) (now (names .entry)) from to given level first place end ⌝ }
-    ensures { λ _. ⌜ now (targets .exit) ≡ notedFrom (now (targets .entry)) (now (names .entry)) cells level place (end - place) ⌝ }
+    ensures { λ _. ⌜ now (targets .exit) ≡ notedFrom (now (targets .entry)) (now (names .entry)) lowest level place (end - place) ⌝ }
 {
     let mut q = place;
     while q < end {
         let word = from_u32(names[q]);
         area[to + q] = renew(area, given, level, first, word, area[from + q]);
-        note(targets, cells, level, word);
+        note(targets, lowest, level, word);
         q += 1;
     }
 }

@@ -22,7 +22,7 @@ module _ (f : Fed) (bytes : Bytes (f .script)) (t : Block) (h : Admitted display
   covers = resolved-covers (f .script) (f .name) code resolved t (h .script)
 
   abbrev Begins : Type 0
-  Begins = Beginning code (replicate 8224 (pos 0)) (replicate 256 0) (replicate 256 0) (replicate 256 0) (f .lent .table .words) (f .lent .table .used) (f .group) (f .activations)
+  Begins = Beginning code (replicate 8224 (pos 0)) (replicate 256 0) (replicate 256 0) (replicate 256 0) (f .lent .table .words) (f .lent .table .used) (f .limit) (f .activations)
 
   pub beginning : Begins
   beginning =
@@ -35,7 +35,7 @@ module _ (f : Fed) (bytes : Bytes (f .script)) (t : Block) (h : Admitted display
         some-live = few .0;
         few-live = few .1;
         table-right = table-right h;
-        words-long = length-replicate 8224 (pos 0);
+        cells-long = length-replicate 8224 (pos 0);
         blocks-long = length-replicate {A = ℕ} 256 0;
         nexts-long = length-replicate {A = ℕ} 256 0;
         links-long = length-replicate {A = ℕ} 256 0;
@@ -44,8 +44,8 @@ module _ (f : Fed) (bytes : Bytes (f .script)) (t : Block) (h : Admitted display
         no-link = refl;
       }
 
-  module _ (r : Halt) {words : List ℤ} {blocks nexts links : List ℕ} {table : List ℤ}
-      (run : (b : Begins) → Ended (b .program) (b .name) (f .activations) (f .group) (resultFrom b (f .allowance)) r words blocks nexts links table) where
-    pub ended : Ended t (f .name) (f .activations) (f .group) (frameRunOf f t) r words blocks nexts links table
+  module _ (r : Halt) {cells : List ℤ} {blocks nexts links : List ℕ} {table : List ℤ}
+      (run : (b : Begins) → Ended (b .program) (b .name) (f .activations) (f .limit) (resultFrom b (f .allowance)) r cells blocks nexts links table) where
+    pub ended : Ended t (f .name) (f .activations) (f .limit) (frameRunOf f t) r cells blocks nexts links table
     unfolding frameRunOf beginning
     ended = run beginning

@@ -1,6 +1,6 @@
 // The display engine's call: admission, the resolved script, the run, the sheet, the answer.
 use call_admission::Area;
-use call_admission::Numbers;
+use call_admission::CallNumbers;
 use language::Verdict;
 ghost use Rattle.language.specs.Text.{Block};
 ghost use Rattle.language.specs.Call.{display};
@@ -9,19 +9,19 @@ ghost use Rattle.call_admission.specs.Lent.{fedOf};
 ghost use Rattle.call_answers.specs.Replies.{Replies};
 
 // What comes of a call that is admitted.
-fn ran(script: &[u8], numbers: Numbers, table: &mut [i32], sheet: &mut [i32]) -> [u64; 9]
+fn ran(script: &[u8], numbers: CallNumbers, table: &mut [i32], sheet: &mut [i32]) -> [u64; 9]
     requires { ⌜ ((t : Block) × Admitted display (fedOf numbers (now script) (now table) (now sheet)) t) ⌝ }
     ensures { λ r. ⌜ Replies display (fedOf numbers (now (script .entry)) (now (table .entry)) (now (sheet .entry))) r (now (sheet .exit)) (now (table .exit)) ⌝ }
 {
     let mut code = [0u32; 4096];
     resolve_script::resolve(script, numbers.name as usize, &mut code);
-    let mut words = [0i32; 8224];
+    let mut cells = [0i32; 8224];
     let mut blocks = [0u16; 256];
     let mut nexts = [0u16; 256];
     let mut links = [0u16; 256];
     let halt = display_run::run_program(
         &code,
-        &mut words,
+        &mut cells,
         &mut blocks,
         &mut nexts,
         &mut links,
@@ -32,9 +32,9 @@ fn ran(script: &[u8], numbers: Numbers, table: &mut [i32], sheet: &mut [i32]) ->
         numbers.n,
     );
     let live = halt.live;
-    let written = run_sheet::write_sheet(&code, &words, &blocks, &nexts, live, sheet);
+    let written = run_sheet::write_sheet(&code, &cells, &blocks, &nexts, live, sheet);
     let end = halt.end;
-    call_answers::run_words(
+    call_answers::ran_words(
         end,
         halt.steps,
         halt.offset,
@@ -46,7 +46,7 @@ fn ran(script: &[u8], numbers: Numbers, table: &mut [i32], sheet: &mut [i32]) ->
     )
 }
 
-pub fn call(script: &[u8], numbers: Numbers, table: &mut [i32], sheet: &mut [i32]) -> [u64; 9]
+pub fn call(script: &[u8], numbers: CallNumbers, table: &mut [i32], sheet: &mut [i32]) -> [u64; 9]
     ensures { λ r. ⌜ Replies display (fedOf numbers (now (script .entry)) (now (table .entry)) (now (sheet .entry))) r (now (sheet .exit)) (now (table .exit)) ⌝ }
 {
     match call_admission::admit(script, numbers, table, sheet, Area::Unused, Area::Unused) {

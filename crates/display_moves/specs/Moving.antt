@@ -28,7 +28,7 @@ use Rattle.steps.specs.Here.{many, numbered-here, live-few, downward, encloses-
 use Rattle.steps.specs.Loop.{leaves, jumped}
 use Rattle.steps.specs.Entered.{body-head, entered}
 use Rattle.run_state.specs.declared.Registers.{Registers}
-use Rattle.run_state.specs.Scenes.{goesTo}
+use Rattle.run_state.specs.Limits.{goesTo}
 use Rattle.display_moves.specs.Running.{Running, Succeeds, HeadThere, BoundsThere, Restorable, LeaveReady, JumpReady, Linkable}
 
 -- what is read of an activation's block
@@ -44,8 +44,8 @@ within-script t keeps e es h =
     let f = enclosed-formed t keeps e es h in
     omega (arith, end-is (e .text) (suc (length es)) (e .formals) (placeOf (blockAt (e .text))) f, block-fields (e .text), end-bound t keeps e es h)
 
-module _ {code : List ℕ} {limit group : ℕ} {words : List ℤ} {blocks nexts links display : List ℕ} {table : List ℤ} {here : Registers}
-    (w : Running code limit group words blocks nexts links display table here) where
+module _ {code : List ℕ} {activations limit : ℕ} {cells : List ℤ} {blocks nexts links display : List ℕ} {table : List ℤ} {here : Registers}
+    (w : Running code activations limit cells blocks nexts links display table here) where
   abbrev fs : List Frame
   fs = w .standing .stack .frames
 
@@ -69,13 +69,13 @@ module _ {code : List ℕ} {limit group : ℕ} {words : List ℤ} {blocks nexts 
   level-there k h =
       let s = w .standing in
       let f = live-frame k h in
-      level-read code (s .name) (s .program) (s .keeps) (s .covers) fs (s .sound .chained) blocks (set nexts (here .live) (here .at)) links words
+      level-read code (s .name) (s .program) (s .keeps) (s .covers) fs (s .sound .chained) blocks (set nexts (here .live) (here .at)) links cells
       (s .holds) k (f .0) (f .1)
 
   end-there : (k : ℕ) (f : Frame) → numbered fs (suc k) ≡ some f → endAt code blocks k ≡ endPlace (f .text)
   end-there k f e =
       let s = w .standing in
-      end-read code (s .name) (s .program) (s .keeps) (s .covers) fs (s .sound .chained) blocks (set nexts (here .live) (here .at)) links words
+      end-read code (s .name) (s .program) (s .keeps) (s .covers) fs (s .sound .chained) blocks (set nexts (here .live) (here .at)) links cells
       (s .holds) k f (numbered-index fs (suc k) f e)
 
   few-live : here .live < 256
@@ -110,7 +110,7 @@ module _ {code : List ℕ} {limit group : ℕ} {words : List ℤ} {blocks nexts 
           old = suc (here .live);
           down = downward s;
           few = omega (arith, many s, live-few s);
-          links-are = holds-links fs blocks (set nexts (here .live) (here .at)) links words (s .holds);
+          links-are = holds-links fs blocks (set nexts (here .live) (here .at)) links cells (s .holds);
           frame = (live-frame home high) .0;
           there = frame-stands home high;
           level-is = level-is ∙ level-there home high;
@@ -134,13 +134,13 @@ module _ {code : List ℕ} {limit group : ℕ} {words : List ℤ} {blocks nexts 
     module _ (ended : here .at ≡ here .end) (above : 1 ≤ here .live) (home : ℕ) (below : home ≡ here .live - 1) where
       pub leaves-to : ShowsFrom fs (suc home) display′ → (r : Registers) → r .live ≡ home → r .at ≡ getD nexts home 0 → r .end ≡ endAt code blocks home
           → r .pairs ≡ here .pairs
-          → Succeeds w words blocks nexts links display′ table r
+          → Succeeds w cells blocks nexts links display′ table r
       leaves-to shows r live at end pairs =
           let l = leaves (w .standing) ended above in
           let one : here .live ≡ suc home = omega arith in
           let e : endPlace (l .frame .text) ≡ r .end = sym (end-there home (l .frame) (ap (numbered fs) (sym one) ∙ l .stands)) ∙ sym end in
           let a : getD nexts (here .live - 1) 0 ≡ r .at = ap (λ k. getD nexts k 0) (sym below) ∙ sym at in
-          subst (λ (n : Registers). Succeeds w words blocks nexts links display′ table n)
+          subst (λ (n : Registers). Succeeds w cells blocks nexts links display′ table n)
           (λ i. goesTo r ((sym below ∙ sym live) i) (a i) (e i) (sym pairs i))
           (record {
             running = record {
@@ -155,11 +155,11 @@ module _ {code : List ℕ} {limit group : ℕ} {words : List ℤ} {blocks nexts 
 
     module _ (home at′ : ℕ) (j : JumpsTo (w .standing) home at′) where
       pub jumps-to : ShowsFrom fs (suc home) display′ → (r : Registers) → r .live ≡ home → r .at ≡ at′ → r .end ≡ endAt code blocks home → r .pairs ≡ here .pairs
-          → Succeeds w words blocks nexts links display′ table r
+          → Succeeds w cells blocks nexts links display′ table r
       jumps-to shows r live at end pairs =
           let l = jumped (w .standing) home at′ j in
           let e : endPlace (l .frame .text) ≡ r .end = sym (end-there home (l .frame) (l .stands)) ∙ sym end in
-          subst (λ (n : Registers). Succeeds w words blocks nexts links display′ table n)
+          subst (λ (n : Registers). Succeeds w cells blocks nexts links display′ table n)
           (λ i. goesTo r (sym live i) (sym at i) (e i) (sym pairs i))
           (record {
             running = record {
@@ -183,7 +183,7 @@ pub leaves-restored : {code blocks nexts links display : List ℕ} {here : Regis
     {level sure next end : ℕ} {display′ : List ℕ} → sure ≡ levelAt code blocks (here .live) → level ≡ levelAt code blocks (here .live - 1)
     → ((v : Restorable links display (here .live - 1) level sure) → ShowsFrom (v .frames) (suc (here .live - 1)) display′)
     → length display′ ≡ length display → next ≡ getD nexts (here .live - 1) 0 → end ≡ endAt code blocks (here .live - 1)
-    → Succeeds (r .running) (r .words) blocks nexts links display′ (r .table) (goesTo here (here .live - 1) next end (here .pairs))
+    → Succeeds (r .running) (r .cells) blocks nexts links display′ (r .table) (goesTo here (here .live - 1) next end (here .pairs))
 leaves-restored {here = here} r {display′ = display′} sure level shows long next end =
     leaves-to (r .running) display′ (long ∙ r .running .display-long) (r .ended) (r .above) (here .live - 1) refl
     (restored (r .running) (here .live - 1) _ _ (omega arith) level sure display′ shows) _ refl next end refl
@@ -192,23 +192,23 @@ module _ {code blocks links display : List ℕ} {here : Registers} {home at : �
   pub home-high : {live : ℕ} → here .live ≡ live → home ≤ live
   home-high e = omega (arith, home-live (r .running) home at (r .jumps))
 
-  pub jumps-here : home ≡ here .live → Succeeds (r .running) (r .words) blocks (r .nexts) links display (r .table) (goesTo here (here .live) at (here .end) (here .pairs))
+  pub jumps-here : home ≡ here .live → Succeeds (r .running) (r .cells) blocks (r .nexts) links display (r .table) (goesTo here (here .live) at (here .end) (here .pairs))
   jumps-here e =
       jumps-to (r .running) display (r .running .display-long) home at (r .jumps) (shows-home (r .running) home e) _ (sym e) refl (end-home (r .running) home e) refl
 
   pub jumps-restored : {level sure end : ℕ} {display′ : List ℕ} → sure ≡ levelAt code blocks (here .live) → level ≡ levelAt code blocks home
       → ((v : Restorable links display home level sure) → ShowsFrom (v .frames) (suc home) display′)
       → length display′ ≡ length display → end ≡ endAt code blocks home
-      → Succeeds (r .running) (r .words) blocks (r .nexts) links display′ (r .table) (goesTo here home at end (here .pairs))
+      → Succeeds (r .running) (r .cells) blocks (r .nexts) links display′ (r .table) (goesTo here home at end (here .pairs))
   jumps-restored {display′ = display′} sure level shows long end =
       jumps-to (r .running) display′ (long ∙ r .running .display-long) home at (r .jumps)
       (restored (r .running) home _ _ (home-live (r .running) home at (r .jumps)) level sure display′ shows) _ refl refl end refl
 
 -- An entry
 
-module _ {code : List ℕ} {limit group : ℕ} {words : List ℤ} {blocks nexts links display : List ℕ} {table : List ℤ} {here : Registers}
-    (w : Running code limit group words blocks nexts links display table here) (body link back : ℕ) (words′ : List ℤ)
-    (j : EntersAt (w .standing) body link back words′) where
+module _ {code : List ℕ} {activations limit : ℕ} {cells : List ℤ} {blocks nexts links display : List ℕ} {table : List ℤ} {here : Registers}
+    (w : Running code activations limit cells blocks nexts links display table here) (body link back : ℕ) (cells′ : List ℤ)
+    (j : EntersAt (w .standing) body link back cells′) where
   abbrev around : Enclosure
   around = enclosureOf (w .standing .stack .frames) (suc link)
 
@@ -232,7 +232,7 @@ module _ {code : List ℕ} {limit group : ℕ} {words : List ℤ} {blocks nexts 
   unfolding enclosing
   entry-fits =
       let s = w .standing in
-      let h = body-head s body link back words′ j in
+      let h = body-head s body link back cells′ j in
       let e = enclosed (j .formals) (j .text) in
       let few = block-few (suc (length around)) (j .formals) (2 * placeOf (blockAt (j .text))) (j .text)
       (enclosed-formed (s .program) (s .keeps) e around (j .encloses)) in
@@ -244,7 +244,7 @@ module _ {code : List ℕ} {limit group : ℕ} {words : List ℤ} {blocks nexts 
           place-bound (s .program) (s .keeps) (enclosing (s .frame))
               (enclosureOf (s .stack .frames) (s .frame .link)) (encloses-here s) (suc (s .frame .next)) (omega arith),
         );
-        room = omega (arith, j .room, s .sound .limit);
+        room = omega (arith, j .room, s .sound .few);
         link-high = j .link-high;
         formals-few = omega (arith, h .formals);
         names-few = omega (arith, h .names);
@@ -254,9 +254,9 @@ module _ {code : List ℕ} {limit group : ℕ} {words : List ℤ} {blocks nexts 
   linkable =
       record {
         nexts = nexts;
+        activations = activations;
         limit = limit;
-        group = group;
-        words = words;
+        cells = cells;
         table = table;
         here = here;
         running = w;
@@ -276,18 +276,18 @@ module _ {code : List ℕ} {limit group : ℕ} {words : List ℤ} {blocks nexts 
   abbrev first : ℕ
   first = 32 * fresh
 
-  pub enters-to : (words″ : List ℤ) → Cleared words′ (cellFrom fresh (formalsIn head)) (cellFrom fresh (namesIn head)) words″
+  pub enters-to : (cells″ : List ℤ) → Cleared cells′ (cellFrom fresh (formalsIn head)) (cellFrom fresh (namesIn head)) cells″
       → (display′ : List ℕ) → length display′ ≡ 256 → ShowsFrom (w .standing .stack .frames) (suc link) display′
       → (r : Registers) → r .live ≡ fresh → r .at ≡ firstIn bounds → r .end ≡ endIn bounds → r .pairs ≡ here .pairs
-      → Succeeds w words″ (set blocks fresh body) (set nexts (here .live) back) (set links fresh link)
+      → Succeeds w cells″ (set blocks fresh body) (set nexts (here .live) back) (set links fresh link)
       (set display′ (levelIn head) first) table r
-  enters-to words″ cleared display′ long shows r live at end pairs =
-      let h = body-head (w .standing) body link back words′ j in
-      let c : Cleared words′ (cellFrom fresh (length (j .formals))) (cellFrom fresh (length (j .formals) + length (blockDecls (j .text)))) words″ =
-      subst (λ (T : Type 0). T) (λ i. Cleared words′ (cellFrom fresh (h .formals i)) (cellFrom fresh (h .names i)) words″) cleared in
-      let e = entered (w .standing) body link back words′ j words″ c in
+  enters-to cells″ cleared display′ long shows r live at end pairs =
+      let h = body-head (w .standing) body link back cells′ j in
+      let c : Cleared cells′ (cellFrom fresh (length (j .formals))) (cellFrom fresh (length (j .formals) + length (blockDecls (j .text)))) cells″ =
+      subst (λ (T : Type 0). T) (λ i. Cleared cells′ (cellFrom fresh (h .formals i)) (cellFrom fresh (h .names i)) cells″) cleared in
+      let e = entered (w .standing) body link back cells′ j cells″ c in
       let level = h .level in
-      subst (λ (n : Registers). Succeeds w words″ (set blocks fresh body) (set nexts (here .live) back) (set links fresh link)
+      subst (λ (n : Registers). Succeeds w cells″ (set blocks fresh body) (set nexts (here .live) back) (set links fresh link)
       (set display′ (levelIn head) first) table n)
       (λ i. goesTo r (sym live i) ((sym (h .first) ∙ sym at) i) ((sym (h .ends) ∙ sym end) i) (sym pairs i))
       (record {
@@ -304,11 +304,11 @@ module _ {code : List ℕ} {limit group : ℕ} {words : List ℤ} {blocks nexts 
     pub enters-as : {block next up entry level formals names from to at end : ℕ} → block ≡ body → next ≡ back
         → up ≡ link → entry ≡ first
         → level ≡ levelIn h → formals ≡ formalsIn h → names ≡ namesIn h → from ≡ cellFrom fresh formals → to ≡ cellFrom fresh names → at ≡ firstIn b → end ≡ endIn b
-        → {words″ : List ℤ} → Cleared words′ from to words″
+        → {cells″ : List ℤ} → Cleared cells′ from to cells″
         → (display′ : List ℕ) → length display′ ≡ 256 → ShowsFrom (w .standing .stack .frames) (suc link) display′
-        → Succeeds w words″ (set blocks fresh block) (set nexts (here .live) next) (set links fresh up) (set display′ level entry) table
+        → Succeeds w cells″ (set blocks fresh block) (set nexts (here .live) next) (set links fresh up) (set display′ level entry) table
         (goesTo here fresh at end (here .pairs))
-    enters-as e₁ e₂ e₃ e₄ level formals names from to at end {words″} cleared display′ long shows =
+    enters-as e₁ e₂ e₃ e₄ level formals names from to at end {cells″} cleared display′ long shows =
         let c = rw (from, to, formals, names, head-read) at cleared in
-        rw (e₁, e₂, e₃, e₄, level, at, end, head-read, bounds-read) (enters-to words″ c display′ long shows
+        rw (e₁, e₂, e₃, e₄, level, at, end, head-read, bounds-read) (enters-to cells″ c display′ long shows
         (goesTo here fresh (firstIn bounds) (endIn bounds) (here .pairs)) refl refl refl refl)

@@ -13,16 +13,16 @@ use Rattle.arrays.specs.Displays.{ShowsFrom, LinksOf}
 use Rattle.steps.specs.Standing.{Standing}
 use Rattle.steps.specs.Means.{Follows, JumpsTo, EntersAt}
 use Rattle.run_state.specs.declared.Registers.{Registers}
-use Rattle.run_state.specs.Scenes.{limitsBy, goesTo}
+use Rattle.run_state.specs.Limits.{limitsBy, goesTo}
 
-pub record Running (code : List ℕ) (limit group : ℕ) (words : List ℤ) (blocks nexts links display : List ℕ) (table : List ℤ) (here : Registers) : Type 0 where
-  pub standing : Standing code (limitsBy limit group) words blocks nexts links table (here .pairs) (here .live) (here .at) (here .end)
+pub record Running (code : List ℕ) (activations limit : ℕ) (cells : List ℤ) (blocks nexts links display : List ℕ) (table : List ℤ) (here : Registers) : Type 0 where
+  pub standing : Standing code (limitsBy activations limit) cells blocks nexts links table (here .pairs) (here .live) (here .at) (here .end)
   pub shows : Shows (standing .stack .frames) display
   pub display-long : length display ≡ 256
 
 -- what the statement at a place asks: an engine that runs stands there, before the end of its text
-pub record Doing (code : List ℕ) (words : List ℤ) (display : List ℕ) (limit live at : ℕ) : Type 0 where
-  pub group : ℕ
+pub record Doing (code : List ℕ) (cells : List ℤ) (display : List ℕ) (activations live at : ℕ) : Type 0 where
+  pub limit : ℕ
   pub table : List ℤ
   pub pairs : ℕ
   pub blocks : List ℕ
@@ -30,14 +30,14 @@ pub record Doing (code : List ℕ) (words : List ℤ) (display : List ℕ) (limi
   pub links : List ℕ
   pub here : Registers
   pub end : ℕ
-  pub running : Running code limit group words blocks nexts links display table (goesTo here live at end pairs)
+  pub running : Running code activations limit cells blocks nexts links display table (goesTo here live at end pairs)
   pub before : at ≡ end → ⊥
 
 -- the state of the arrays one step later
-pub record Succeeds {code : List ℕ} {limit group : ℕ} {words : List ℤ} {blocks nexts links display : List ℕ} {table : List ℤ} {here : Registers}
-    (w : Running code limit group words blocks nexts links display table here)
-    (words′ : List ℤ) (blocks′ nexts′ links′ display′ : List ℕ) (table′ : List ℤ) (here′ : Registers) : Type 0 where
-  pub running : Running code limit group words′ blocks′ nexts′ links′ display′ table′ here′
+pub record Succeeds {code : List ℕ} {activations limit : ℕ} {cells : List ℤ} {blocks nexts links display : List ℕ} {table : List ℤ} {here : Registers}
+    (w : Running code activations limit cells blocks nexts links display table here)
+    (cells′ : List ℤ) (blocks′ nexts′ links′ display′ : List ℕ) (table′ : List ℤ) (here′ : Registers) : Type 0 where
+  pub running : Running code activations limit cells′ blocks′ nexts′ links′ display′ table′ here′
   pub follows : Follows (w .standing) (running .standing .stack) (running .standing .program) (running .standing .name)
 
 -- the engine's numbers are in range
@@ -56,14 +56,14 @@ pub record BoundsThere (blocks : List ℕ) (activation : ℕ) : Type 0 where
   pub within : getD blocks activation 0 + 1 < 4096
 
 -- the looked-up name can be found in the innermost activation
-pub record Looking (code : List ℕ) (words : List ℤ) (blocks display : List ℕ) (live : ℕ) : Type 0 where
+pub record Looking (code : List ℕ) (cells : List ℤ) (blocks display : List ℕ) (live : ℕ) : Type 0 where
   pub nexts : List ℕ
   pub links : List ℕ
+  pub activations : ℕ
   pub limit : ℕ
-  pub group : ℕ
   pub table : List ℤ
   pub here : Registers
-  pub running : Running code limit group words blocks nexts links display table (goesTo here live (here .at) (here .end) (here .pairs))
+  pub running : Running code activations limit cells blocks nexts links display table (goesTo here live (here .at) (here .end) (here .pairs))
 
 -- Putting the display right: it is that of frame `old` of some frames, and the entries up to `sure` are its own
 pub record Restorable (links display : List ℕ) (activation level sure : ℕ) : Type 0 where
@@ -83,38 +83,38 @@ pub record Restorable (links display : List ℕ) (activation level sure : ℕ) :
 -- What leaving, jumping and entering ask of arrays that they are not lent
 
 pub record LeaveReady (code blocks nexts links display : List ℕ) (here : Registers) : Type 0 where
+  pub activations : ℕ
   pub limit : ℕ
-  pub group : ℕ
-  pub words : List ℤ
+  pub cells : List ℤ
   pub table : List ℤ
-  pub running : Running code limit group words blocks nexts links display table here
+  pub running : Running code activations limit cells blocks nexts links display table here
   pub ended : here .at ≡ here .end
   pub above : 1 ≤ here .live
 
 pub record JumpReady (code blocks links display : List ℕ) (here : Registers) (home at : ℕ) : Type 0 where
   pub nexts : List ℕ
+  pub activations : ℕ
   pub limit : ℕ
-  pub group : ℕ
-  pub words : List ℤ
+  pub cells : List ℤ
   pub table : List ℤ
-  pub running : Running code limit group words blocks nexts links display table here
+  pub running : Running code activations limit cells blocks nexts links display table here
   pub jumps : JumpsTo (running .standing) home at
 
 -- a new activation can be linked to one that is live
 pub record Linkable (code blocks links display : List ℕ) (live link : ℕ) : Type 0 where
   pub nexts : List ℕ
+  pub activations : ℕ
   pub limit : ℕ
-  pub group : ℕ
-  pub words : List ℤ
+  pub cells : List ℤ
   pub table : List ℤ
   pub here : Registers
-  pub running : Running code limit group words blocks nexts links display table (goesTo here live (here .at) (here .end) (here .pairs))
+  pub running : Running code activations limit cells blocks nexts links display table (goesTo here live (here .at) (here .end) (here .pairs))
   pub high : link ≤ live
 
-pub record EnterReady (code : List ℕ) (words : List ℤ) (blocks nexts links display : List ℕ) (here : Registers) (body link back : ℕ) : Type 0 where
+pub record EnterReady (code : List ℕ) (cells : List ℤ) (blocks nexts links display : List ℕ) (here : Registers) (body link back : ℕ) : Type 0 where
+  pub activations : ℕ
   pub limit : ℕ
-  pub group : ℕ
   pub before : List ℤ
   pub table : List ℤ
-  pub running : Running code limit group before blocks nexts links display table here
-  pub enters : EntersAt (running .standing) body link back words
+  pub running : Running code activations limit before blocks nexts links display table here
+  pub enters : EntersAt (running .standing) body link back cells

@@ -79,7 +79,7 @@ pub fn leave(
     here: Registers,
 ) -> Registers
     requires { ⌜ LeaveReady (now code) (now blocks) (now nexts) (now links) (now display) here ⌝ }
-    ensures { λ r. ⌜ ((w : LeaveReady (now (code .entry)) (now (blocks .entry)) (now (nexts .entry)) (now (links .entry)) (now (display .entry)) here) → Succeeds (w .running) (w .words) (now (blocks .entry)) (now (nexts .entry)) (now (links .entry)) (now (display .exit)) (w .table) r) ⌝ }
+    ensures { λ r. ⌜ ((w : LeaveReady (now (code .entry)) (now (blocks .entry)) (now (nexts .entry)) (now (links .entry)) (now (display .entry)) here) → Succeeds (w .running) (w .cells) (now (blocks .entry)) (now (nexts .entry)) (now (links .entry)) (now (display .exit)) (w .table) r) ⌝ }
 {
     let above = here.live;
     let live = above - 1;
@@ -105,7 +105,7 @@ pub fn jump(
     at: usize,
 ) -> Registers
     requires { ⌜ JumpReady (now code) (now blocks) (now links) (now display) here home at ⌝ }
-    ensures { λ r. ⌜ ((w : JumpReady (now (code .entry)) (now (blocks .entry)) (now (links .entry)) (now (display .entry)) here home at) → Succeeds (w .running) (w .words) (now (blocks .entry)) (w .nexts) (now (links .entry)) (now (display .exit)) (w .table) r) ⌝ }
+    ensures { λ r. ⌜ ((w : JumpReady (now (code .entry)) (now (blocks .entry)) (now (links .entry)) (now (display .entry)) here home at) → Succeeds (w .running) (w .cells) (now (blocks .entry)) (w .nexts) (now (links .entry)) (now (display .exit)) (w .table) r) ⌝ }
 {
     let live = here.live;
     if home == live {
@@ -145,7 +145,7 @@ fn link_to(
 // A new activation of the block at a place. The arguments stand in its first cells.
 pub fn enter(
     code: &[u32; 4096],
-    words: &mut [i32; 8224],
+    cells: &mut [i32; 8224],
     blocks: &mut [u16; 256],
     nexts: &mut [u16; 256],
     links: &mut [u16; 256],
@@ -155,8 +155,8 @@ pub fn enter(
     link: usize,
     back: usize,
 ) -> Registers
-    requires { ⌜ EnterReady (now code) (now words) (now blocks) (now nexts) (now links) (now display) here body link back ⌝ }
-    ensures { λ r. ⌜ ((w : EnterReady (now (code .entry)) (now (words .entry)) (now (blocks .entry)) (now (nexts .entry)) (now (links .entry)) (now (display .entry)) here body link back) → Succeeds (w .running) (now (words .exit)) (now (blocks .exit)) (now (nexts .exit)) (now (links .exit)) (now (display .exit)) (w .table) r) ⌝ }
+    requires { ⌜ EnterReady (now code) (now cells) (now blocks) (now nexts) (now links) (now display) here body link back ⌝ }
+    ensures { λ r. ⌜ ((w : EnterReady (now (code .entry)) (now (cells .entry)) (now (blocks .entry)) (now (nexts .entry)) (now (links .entry)) (now (display .entry)) here body link back) → Succeeds (w .running) (now (cells .exit)) (now (blocks .exit)) (now (nexts .exit)) (now (links .exit)) (now (display .exit)) (w .table) r) ⌝ }
 {
     let live = here.live;
     let head = code_at(code, body);
@@ -168,7 +168,7 @@ pub fn enter(
     links[fresh] = narrow(link);
     display[level_of(head)] = narrow(SHARE * fresh);
     clear(
-        words,
+        cells,
         cell_at(fresh, formals_of(head)),
         cell_at(fresh, names_of(head)),
     );

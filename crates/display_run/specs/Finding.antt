@@ -22,28 +22,28 @@ abbrev pub nextFirst : ℕ → ℕ
 nextFirst live = cellFrom live 32
 
 abbrev pub byDisplay : List ℤ → List ℕ → Finding
-byDisplay words display =
+byDisplay cells display =
     record {
-      cell = λ w. cellBy words (firstCell display w) w;
-      home = λ w. homeBy words (firstCell display w) w;
-      target = λ w. targetBy words (firstCell display w) w;
-      handed = λ w. handedBy words (firstCell display w) w;
+      cell = λ w. cellBy cells (firstCell display w) w;
+      home = λ w. homeBy cells (firstCell display w) w;
+      target = λ w. targetBy cells (firstCell display w) w;
+      handed = λ w. handedBy cells (firstCell display w) w;
     }
 
 -- the name with a word can be reached: its own cell is one of the words, what a formal holds is not negative, and the cell that it finally
 -- stands for is one of the words
-pub record Reachable (words : List ℤ) (display : List ℕ) (w : ℕ) : Type 0 where
+pub record Reachable (cells : List ℤ) (display : List ℕ) (w : ℕ) : Type 0 where
   pub own : ownCell display w < 8192
-  pub whole : direct w ≡ false → ltZ (getD words (ownCell display w) (pos 0)) (pos 0) ≡ false
-  pub cell : cellBy words (firstCell display w) w < 8192
+  pub whole : direct w ≡ false → ltZ (getD cells (ownCell display w) (pos 0)) (pos 0) ≡ false
+  pub cell : cellBy cells (firstCell display w) w < 8192
 
 -- and it is no formal
-pub record Direct (words : List ℤ) (display : List ℕ) (w : ℕ) : Type 0 where
-  pub reachable : Reachable words display w
+pub record Direct (cells : List ℤ) (display : List ℕ) (w : ℕ) : Type 0 where
+  pub reachable : Reachable cells display w
   pub is : direct w ≡ true
 
-pub record ThroughFormal (words : List ℤ) (display : List ℕ) (w : ℕ) : Type 0 where
-  pub reachable : Reachable words display w
+pub record ThroughFormal (cells : List ℤ) (display : List ℕ) (w : ℕ) : Type 0 where
+  pub reachable : Reachable cells display w
   pub is : direct w ≡ false
 
 -- so many arguments from a place on have their own cells below the next activation's
@@ -76,8 +76,8 @@ module _ (P : ℕ → Type 0) (code : List ℕ) (at : ℕ) where
     pub right : P (getD code (at + 4) 0)
 
 -- a call, whichever way its procedure is found
-pub record Callable (code : List ℕ) (display : List ℕ) (limit live at : ℕ) : Type 0 where
-  pub limit-few : limit ≤ 256
+pub record Callable (code : List ℕ) (display : List ℕ) (activations live at : ℕ) : Type 0 where
+  pub limit-few : activations ≤ 256
   pub live-few : live ≤ 255
   pub within : at + 3 ≤ 4096
   pub arguments : ArgumentsReachable code display live (at + 3) (getD code (at + 2) 0)

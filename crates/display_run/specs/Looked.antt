@@ -14,7 +14,7 @@ use Rattle.steps.specs.Finding.{Reaches, wordOf, unseen-word, seen-by-display}
 use Rattle.display_run.specs.Finding.{firstCell, Reachable}
 use Rattle.display_moves.specs.Running.{Looking}
 
-module _ {code : List ℕ} {words : List ℤ} {blocks display : List ℕ} {live : ℕ} (w : Looking code words blocks display live) where
+module _ {code : List ℕ} {cells : List ℤ} {blocks display : List ℕ} {live : ℕ} (w : Looking code cells blocks display live) where
   pub live-there : live < 256
   live-there = omega (arith, live-few (w .running .standing))
 
@@ -33,17 +33,17 @@ module _ {code : List ℕ} {words : List ℤ} {blocks display : List ℕ} {live 
     not-seen z = sym (unseen-word (w .running .standing) name (sym is-word ∙ z))
 
     module _ (d : v ≡ 0 → ⊥) where
-      found : Reaches words live (firstCell display v) v × (designatorOf (cellBy words (firstCell display v) v) ≡ designates
+      found : Reaches cells live (firstCell display v) v × (designatorOf (cellBy cells (firstCell display v) v) ≡ designates
           (w .running .standing .stack .frames) name)
       found =
-          subst (λ u. Reaches words live (firstCell display u) u ×
-          (designatorOf (cellBy words (firstCell display u) u) ≡ designates (w .running .standing .stack .frames) name)) (sym is-word)
+          subst (λ u. Reaches cells live (firstCell display u) u ×
+          (designatorOf (cellBy cells (firstCell display u) u) ≡ designates (w .running .standing .stack .frames) name)) (sym is-word)
           (seen-by-display (w .running .standing) display (w .running .shows) name (λ z. d (is-word ∙ z)))
 
-      pub seen-reached : Reachable words display v
+      pub seen-reached : Reachable cells display v
       seen-reached = let r = found .0 in record { own = omega (arith, r .own, live-there); whole = r .whole; cell = r .cell }
 
-      module _ {c : ℕ} (is : c ≡ cellBy words (firstCell display v) v) where
+      module _ {c : ℕ} (is : c ≡ cellBy cells (firstCell display v) v) where
         pub seen-cell : c < 8192
         seen-cell = omega (arith, is, found .0 .cell)
 

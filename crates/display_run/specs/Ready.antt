@@ -16,30 +16,30 @@ use Rattle.steps.specs.Finding.{Reaches, reached-by-display, finds-by-display}
 use Rattle.resolved.specs.Layout.{leadIn}
 use Rattle.run_statements.specs.Pieces.{FormalsBefore}
 use Rattle.display_run.specs.Finding.{firstCell, ownCell, nextFirst, byDisplay, Reachable, Direct, ThroughFormal, ArgumentsReachable, TwoNames, ThreeNames, Operands, Callable}
-use Rattle.run_state.specs.Scenes.{limitsBy}
+use Rattle.run_state.specs.Limits.{limitsBy}
 use Rattle.display_moves.specs.Running.{Doing}
 
-formal-target : (words : List ℤ) (first v : ℕ) → direct v ≡ false → targetBy words first v ≡ leadIn (heldBy words first v)
+formal-target : (cells : List ℤ) (first v : ℕ) → direct v ≡ false → targetBy cells first v ≡ leadIn (heldBy cells first v)
 unfolding targetBy
-formal-target words first v e = rw (targetBy, e)
+formal-target cells first v e = rw (targetBy, e)
 
-module _ {code : List ℕ} {words : List ℤ} {display : List ℕ} {limit live at : ℕ} (d : Doing code words display limit live at) where
-  abbrev st : Standing code (limitsBy limit (d .group)) words (d .blocks) (d .nexts) (d .links) (d .table) (d .pairs) live at (d .end)
+module _ {code : List ℕ} {cells : List ℤ} {display : List ℕ} {activations live at : ℕ} (d : Doing code cells display activations live at) where
+  abbrev st : Standing code (limitsBy activations (d .limit)) cells (d .blocks) (d .nexts) (d .links) (d .table) (d .pairs) live at (d .end)
   st = d .running .standing
 
-  reached : (i : ℕ) (f : fields.FieldName st i) → Reaches words live (firstCell display (getD code (at + i) 0)) (getD code (at + i) 0)
-  reached i f = subst (λ v. Reaches words live (firstCell display v) v) (sym (f .word))
+  reached : (i : ℕ) (f : fields.FieldName st i) → Reaches cells live (firstCell display (getD code (at + i) 0)) (getD code (at + i) 0)
+  reached i f = subst (λ v. Reaches cells live (firstCell display v) v) (sym (f .word))
       (reached-by-display st display (d .running .shows) (f .name) (f .resolved))
 
-  reachable : (i : ℕ) → fields.FieldName st i → Reachable words display (getD code (at + i) 0)
+  reachable : (i : ℕ) → fields.FieldName st i → Reachable cells display (getD code (at + i) 0)
   reachable i f =
       let r = reached i f in
       record { own = omega (arith, r .own, live-few st); whole = r .whole; cell = r .cell }
 
-  directly : (i : ℕ) → fields.Direct st i → Direct words display (getD code (at + i) 0)
+  directly : (i : ℕ) → fields.Direct st i → Direct cells display (getD code (at + i) 0)
   directly i f = record { reachable = reachable i (f .0); is = f .1 }
 
-  formally : (i : ℕ) → fields.ThroughFormal st i → ThroughFormal words display (getD code (at + i) 0)
+  formally : (i : ℕ) → fields.ThroughFormal st i → ThroughFormal cells display (getD code (at + i) 0)
   formally i f = record { reachable = reachable i (f .0); is = f .1 }
 
   arguments : fields.Arguments st → ArgumentsReachable code display live (at + 3) (getD code (at + 2) 0)
@@ -53,52 +53,52 @@ module _ {code : List ℕ} {words : List ℤ} {display : List ℕ} {limit live a
       }
 
   abbrev Formals : Type 0
-  Formals = FormalsBefore code (leadIn (heldBy words (firstCell display (getD code (at + 1) 0)) (getD code (at + 1) 0)))
+  Formals = FormalsBefore code (leadIn (heldBy cells (firstCell display (getD code (at + 1) 0)) (getD code (at + 1) 0)))
 
   formals-before : fields.ThroughFormal st 1 → fields.BodyStands st → Formals
   formals-before f b =
-      let h = b (byDisplay words display) (finds-by-display st display (d .running .shows)) in
-      subst (FormalsBefore code) (formal-target words (firstCell display (getD code (at + 1) 0)) (getD code (at + 1) 0) (f .1))
+      let h = b (byDisplay cells display) (finds-by-display st display (d .running .shows)) in
+      subst (FormalsBefore code) (formal-target cells (firstCell display (getD code (at + 1) 0)) (getD code (at + 1) 0) (f .1))
       (record { there = h .0; before = h .1 })
 
   abbrev D : ℕ → Type 0
-  D i = Direct words display (getD code (at + i) 0)
+  D i = Direct cells display (getD code (at + i) 0)
 
   abbrev R : ℕ → Type 0
-  R i = Reachable words display (getD code (at + i) 0)
+  R i = Reachable cells display (getD code (at + i) 0)
 
   abbrev F : ℕ → Type 0
-  F i = ThroughFormal words display (getD code (at + i) 0)
+  F i = ThroughFormal cells display (getD code (at + i) 0)
 
   abbrev pub Ready : Op → Type 0
   Ready constant-op = (at + 4 ≤ 4096) × D 1
-  Ready add-op = Operands (Direct words display) code at
-  Ready subtract-op = Operands (Direct words display) code at
-  Ready compare-op = Operands (Direct words display) code at
-  Ready branch-op = TwoNames (Direct words display) code at
+  Ready add-op = Operands (Direct cells display) code at
+  Ready subtract-op = Operands (Direct cells display) code at
+  Ready compare-op = Operands (Direct cells display) code at
+  Ready branch-op = TwoNames (Direct cells display) code at
   Ready goto-op = (at + 2 ≤ 4096) × D 1
   Ready block-op = (at + 2 ≤ 4096) × (live ≤ 255)
-  Ready call-op = Callable code display limit live at × D 1
-  Ready pair-op = TwoNames (Reachable words display) code at
-  Ready unpair-op = TwoNames (Reachable words display) code at
-  Ready query-op = ThreeNames (Reachable words display) code at
+  Ready call-op = Callable code display activations live at × D 1
+  Ready pair-op = TwoNames (Reachable cells display) code at
+  Ready unpair-op = TwoNames (Reachable cells display) code at
+  Ready query-op = ThreeNames (Reachable cells display) code at
   Ready constant-formal-op = (at + 4 ≤ 4096) × R 1
-  Ready arithmetic-formal-op = Operands (Reachable words display) code at
-  Ready branch-formal-op = TwoNames (Reachable words display) code at
+  Ready arithmetic-formal-op = Operands (Reachable cells display) code at
+  Ready branch-formal-op = TwoNames (Reachable cells display) code at
   Ready goto-formal-op = (at + 2 ≤ 4096) × F 1
-  Ready call-formal-op = Callable code display limit live at × (F 1 × Formals)
+  Ready call-formal-op = Callable code display activations live at × (F 1 × Formals)
 
   few : live ≤ 255
   few = omega (arith, live-few st)
 
-  direct-operands : fields.Fields st add-op → Operands (Direct words display) code at
+  direct-operands : fields.Fields st add-op → Operands (Direct cells display) code at
   direct-operands f = record { within = f .0; target = directly 1 (f .1); left = directly 3 (f .2); right = directly 4 (f .3) }
 
-  two-reachable : fields.Fields st pair-op → TwoNames (Reachable words display) code at
+  two-reachable : fields.Fields st pair-op → TwoNames (Reachable cells display) code at
   two-reachable f = record { within = f .0; first = reachable 1 (f .1); second = reachable 2 (f .2) }
 
-  callable : fields.Arguments st → Callable code display limit live at
-  callable a = record { limit-few = st .sound .limit; live-few = few; within = omega (arith, a .there); arguments = arguments a }
+  callable : fields.Arguments st → Callable code display activations live at
+  callable a = record { limit-few = st .sound .few; live-few = few; within = omega (arith, a .there); arguments = arguments a }
 
   ready-by : (o : Op) → fields.Fields st o → Ready o
   ready-by constant-op f = (f .0, directly 1 (f .1))

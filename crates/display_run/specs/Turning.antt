@@ -16,14 +16,14 @@ use Rattle.run_state.specs.declared.Registers.{Registers}
 use Rattle.run_state.specs.declared.Turn.{Turn}
 use Rattle.run_state.specs.declared.Turn.the-variants.{Went, Finished, Stopped}
 use Rattle.run_state.specs.declared.Halt.{Halt}
-use Rattle.run_state.specs.Scenes.{limitsBy}
+use Rattle.run_state.specs.Limits.{limitsBy}
 use Rattle.run_state.specs.Turns.{Leaves, Stops}
 use Rattle.run_state.specs.Ended.{EndedFrom}
 use Rattle.display_moves.specs.Running.{Running, Succeeds}
 
 -- what a step may write
 pub record Arrays : Type 0 where
-  pub words : List ℤ
+  pub cells : List ℤ
   pub blocks : List ℕ
   pub nexts : List ℕ
   pub links : List ℕ
@@ -31,23 +31,23 @@ pub record Arrays : Type 0 where
   pub table : List ℤ
 
 abbrev pub arraysOf : List ℤ → List ℕ → List ℕ → List ℕ → List ℕ → List ℤ → Arrays
-arraysOf words blocks nexts links display table =
-    record { words = words; blocks = blocks; nexts = nexts; links = links; display = display; table = table }
+arraysOf cells blocks nexts links display table =
+    record { cells = cells; blocks = blocks; nexts = nexts; links = links; display = display; table = table }
 
 -- What a step comes to
 
-module _ {code : List ℕ} {limit group : ℕ} {words : List ℤ} {blocks nexts links display : List ℕ} {table : List ℤ} {here : Registers}
-    (w : Running code limit group words blocks nexts links display table here) where
+module _ {code : List ℕ} {activations limit : ℕ} {cells : List ℤ} {blocks nexts links display : List ℕ} {table : List ℤ} {here : Registers}
+    (w : Running code activations limit cells blocks nexts links display table here) where
   abbrev pub Turned : Turn → List ℤ → List ℕ → List ℕ → List ℕ → List ℕ → List ℤ → Type 0
-  Turned (Went here′) words′ blocks′ nexts′ links′ display′ table′ = Succeeds w words′ blocks′ nexts′ links′ display′ table′ here′
-  Turned Finished words′ blocks′ nexts′ links′ display′ table′ = Leaves here words table words′ table′
-  Turned (Stopped c) words′ blocks′ nexts′ links′ display′ table′ =
-      Stops (limitsBy limit group) (w .standing .stack) c (arraysOf words blocks nexts links display table) (arraysOf words′ blocks′ nexts′ links′ display′ table′)
+  Turned (Went here′) cells′ blocks′ nexts′ links′ display′ table′ = Succeeds w cells′ blocks′ nexts′ links′ display′ table′ here′
+  Turned Finished cells′ blocks′ nexts′ links′ display′ table′ = Leaves here cells table cells′ table′
+  Turned (Stopped c) cells′ blocks′ nexts′ links′ display′ table′ =
+      Stops (limitsBy activations limit) (w .standing .stack) c (arraysOf cells blocks nexts links display table) (arraysOf cells′ blocks′ nexts′ links′ display′ table′)
 
 -- from whichever state in which the engine can stand
-pub record TurnsTo (code : List ℕ) (limit group : ℕ) (words : List ℤ) (blocks nexts links display : List ℕ) (table : List ℤ) (here : Registers)
-    (t : Turn) (words′ : List ℤ) (blocks′ nexts′ links′ display′ : List ℕ) (table′ : List ℤ) : Type 0 where
-  pub turned : (w : Running code limit group words blocks nexts links display table here) → Turned w t words′ blocks′ nexts′ links′ display′ table′
+pub record TurnsTo (code : List ℕ) (activations limit : ℕ) (cells : List ℤ) (blocks nexts links display : List ℕ) (table : List ℤ) (here : Registers)
+    (t : Turn) (cells′ : List ℤ) (blocks′ nexts′ links′ display′ : List ℕ) (table′ : List ℤ) : Type 0 where
+  pub turned : (w : Running code activations limit cells blocks nexts links display table here) → Turned w t cells′ blocks′ nexts′ links′ display′ table′
 
 -- The run of a program
 
@@ -56,22 +56,22 @@ abbrev pub startBy : List ℕ → ℕ → Registers
 startBy code pairs = record { live = 0; at = firstIn (getD code 1 0); end = endIn (getD code 1 0); pairs = pairs; level = 0; fresh = 0 }
 
 -- what it begins with: the resolved script of a program that keeps the rules, arrays of zeros, limits in range and a right table
-pub record Beginning (code : List ℕ) (words : List ℤ) (blocks nexts links : List ℕ) (table : List ℤ) (pairs group limit : ℕ) : Type 0 where
+pub record Beginning (code : List ℕ) (cells : List ℤ) (blocks nexts links : List ℕ) (table : List ℤ) (pairs limit activations : ℕ) : Type 0 where
   pub program : Block
   pub name : ℕ
   pub keeps : Keeps program
   pub covers : Covers code 0 (resolvedOf name program)
-  pub some-live : 1 ≤ limit
-  pub few-live : limit ≤ 256
-  pub table-right : right group (record { words = table; used = pairs }) ≡ true
-  pub words-long : length words ≡ 8224
+  pub some-live : 1 ≤ activations
+  pub few-live : activations ≤ 256
+  pub table-right : right limit (record { words = table; used = pairs }) ≡ true
+  pub cells-long : length cells ≡ 8224
   pub blocks-long : length blocks ≡ 256
   pub nexts-long : length nexts ≡ 256
   pub links-long : length links ≡ 256
-  pub zeros : (i : ℕ) → i < 32 → getD words i (pos 0) ≡ pos 0
+  pub zeros : (i : ℕ) → i < 32 → getD cells i (pos 0) ≡ pos 0
   pub no-block : getD blocks 0 0 ≡ 0
   pub no-link : getD links 0 0 ≡ 0
 
 -- what it ends with: the frame machine's result, and the arrays hold its stack
 abbrev pub Ended : Block → ℕ → ℕ → ℕ → Result → Halt → List ℤ → List ℕ → List ℕ → List ℕ → List ℤ → Type 0
-Ended program name limit group = EndedFrom 0 program name (limitsBy limit group)
+Ended program name activations limit = EndedFrom 0 program name (limitsBy activations limit)

@@ -38,98 +38,98 @@ fn own_at(code: &[u32; 4096], display: &[u16; 256], place: usize) -> usize
     own_cell(display, code_at(code, place))
 }
 
-fn found_at(code: &[u32; 4096], words: &[i32; 8224], display: &[u16; 256], place: usize) -> usize
-    requires { ⌜ (place < 4096) × Reachable (now words) (now display) (getD (now code) place 0) ⌝ }
-    ensures { λ r. ⌜ r ≡ cellBy (now (words .entry)) (firstCell (now (display .entry)) (getD (now (code .entry)) place 0)) (getD (now (code .entry)) place 0) ⌝ }
+fn found_at(code: &[u32; 4096], cells: &[i32; 8224], display: &[u16; 256], place: usize) -> usize
+    requires { ⌜ (place < 4096) × Reachable (now cells) (now display) (getD (now code) place 0) ⌝ }
+    ensures { λ r. ⌜ r ≡ cellBy (now (cells .entry)) (firstCell (now (display .entry)) (getD (now (code .entry)) place 0)) (getD (now (code .entry)) place 0) ⌝ }
 {
-    cell(words, display, code_at(code, place))
+    cell(cells, display, code_at(code, place))
 }
 
 pub fn do_constant(
     code: &[u32; 4096],
-    words: &mut [i32; 8224],
+    cells: &mut [i32; 8224],
     display: &[u16; 256],
     at: usize,
 ) -> Move
-    requires { ⌜ (at + 4 ≤ 4096) × Direct (now words) (now display) (getD (now code) (at + 1) 0) ⌝ }
-    ensures { λ r. ⌜ Done (doConstant (byDisplay (now (words .entry)) (now (display .entry))) (only-words (now (code .entry)) (now (words .entry)) at)) r (now (words .exit)) ⌝ }
+    requires { ⌜ (at + 4 ≤ 4096) × Direct (now cells) (now display) (getD (now code) (at + 1) 0) ⌝ }
+    ensures { λ r. ⌜ Done (doConstant (byDisplay (now (cells .entry)) (now (display .entry))) (only-words (now (code .entry)) (now (cells .entry)) at)) r (now (cells .exit)) ⌝ }
 {
-    constant(code, words, own_at(code, display, at + 1), at)
+    constant(code, cells, own_at(code, display, at + 1), at)
 }
 
 pub fn do_constant_formal(
     code: &[u32; 4096],
-    words: &mut [i32; 8224],
+    cells: &mut [i32; 8224],
     display: &[u16; 256],
     at: usize,
 ) -> Move
-    requires { ⌜ (at + 4 ≤ 4096) × Reachable (now words) (now display) (getD (now code) (at + 1) 0) ⌝ }
-    ensures { λ r. ⌜ Done (doConstant (byDisplay (now (words .entry)) (now (display .entry))) (only-words (now (code .entry)) (now (words .entry)) at)) r (now (words .exit)) ⌝ }
+    requires { ⌜ (at + 4 ≤ 4096) × Reachable (now cells) (now display) (getD (now code) (at + 1) 0) ⌝ }
+    ensures { λ r. ⌜ Done (doConstant (byDisplay (now (cells .entry)) (now (display .entry))) (only-words (now (code .entry)) (now (cells .entry)) at)) r (now (cells .exit)) ⌝ }
 {
-    constant(code, words, found_at(code, words, display, at + 1), at)
+    constant(code, cells, found_at(code, cells, display, at + 1), at)
 }
 
-pub fn do_add(code: &[u32; 4096], words: &mut [i32; 8224], display: &[u16; 256], at: usize) -> Move
-    requires { ⌜ Operands (Direct (now words) (now display)) (now code) at ⌝ }
-    ensures { λ r. ⌜ Done (doArithmetic (byDisplay (now (words .entry)) (now (display .entry))) (only-words (now (code .entry)) (now (words .entry)) at) plus) r (now (words .exit)) ⌝ }
+pub fn do_add(code: &[u32; 4096], cells: &mut [i32; 8224], display: &[u16; 256], at: usize) -> Move
+    requires { ⌜ Operands (Direct (now cells) (now display)) (now code) at ⌝ }
+    ensures { λ r. ⌜ Done (doArithmetic (byDisplay (now (cells .entry)) (now (display .entry))) (only-words (now (code .entry)) (now (cells .entry)) at) plus) r (now (cells .exit)) ⌝ }
 {
     let target = own_at(code, display, at + 1);
     let left = own_at(code, display, at + 3);
     let right = own_at(code, display, at + 4);
-    computed(run_words::add(words, target, left, right), at)
+    computed(run_words::add(cells, target, left, right), at)
 }
 
 pub fn do_subtract(
     code: &[u32; 4096],
-    words: &mut [i32; 8224],
+    cells: &mut [i32; 8224],
     display: &[u16; 256],
     at: usize,
 ) -> Move
-    requires { ⌜ Operands (Direct (now words) (now display)) (now code) at ⌝ }
-    ensures { λ r. ⌜ Done (doArithmetic (byDisplay (now (words .entry)) (now (display .entry))) (only-words (now (code .entry)) (now (words .entry)) at) minus) r (now (words .exit)) ⌝ }
+    requires { ⌜ Operands (Direct (now cells) (now display)) (now code) at ⌝ }
+    ensures { λ r. ⌜ Done (doArithmetic (byDisplay (now (cells .entry)) (now (display .entry))) (only-words (now (code .entry)) (now (cells .entry)) at) minus) r (now (cells .exit)) ⌝ }
 {
     let target = own_at(code, display, at + 1);
     let left = own_at(code, display, at + 3);
     let right = own_at(code, display, at + 4);
-    computed(run_words::subtract(words, target, left, right), at)
+    computed(run_words::subtract(cells, target, left, right), at)
 }
 
 pub fn do_compare(
     code: &[u32; 4096],
-    words: &mut [i32; 8224],
+    cells: &mut [i32; 8224],
     display: &[u16; 256],
     at: usize,
 ) -> Move
-    requires { ⌜ Operands (Direct (now words) (now display)) (now code) at ⌝ }
-    ensures { λ r. ⌜ Done (doArithmetic (byDisplay (now (words .entry)) (now (display .entry))) (only-words (now (code .entry)) (now (words .entry)) at) less) r (now (words .exit)) ⌝ }
+    requires { ⌜ Operands (Direct (now cells) (now display)) (now code) at ⌝ }
+    ensures { λ r. ⌜ Done (doArithmetic (byDisplay (now (cells .entry)) (now (display .entry))) (only-words (now (code .entry)) (now (cells .entry)) at) less) r (now (cells .exit)) ⌝ }
 {
     let target = own_at(code, display, at + 1);
     let left = own_at(code, display, at + 3);
     let right = own_at(code, display, at + 4);
-    run_words::compare(words, target, left, right);
+    run_words::compare(cells, target, left, right);
     Move::On(at + 5)
 }
 
 pub fn do_arithmetic_formal(
     code: &[u32; 4096],
-    words: &mut [i32; 8224],
+    cells: &mut [i32; 8224],
     display: &[u16; 256],
     at: usize,
 ) -> Move
-    requires { ⌜ Operands (Reachable (now words) (now display)) (now code) at ⌝ }
-    ensures { λ r. ⌜ Done (doArithmetic (byDisplay (now (words .entry)) (now (display .entry))) (only-words (now (code .entry)) (now (words .entry)) at) (operationOf (getD (now (code .entry)) (at + 2) 0))) r (now (words .exit)) ⌝ }
+    requires { ⌜ Operands (Reachable (now cells) (now display)) (now code) at ⌝ }
+    ensures { λ r. ⌜ Done (doArithmetic (byDisplay (now (cells .entry)) (now (display .entry))) (only-words (now (code .entry)) (now (cells .entry)) at) (operationOf (getD (now (code .entry)) (at + 2) 0))) r (now (cells .exit)) ⌝ }
 {
-    let target = found_at(code, words, display, at + 1);
-    let left = found_at(code, words, display, at + 3);
-    let right = found_at(code, words, display, at + 4);
+    let target = found_at(code, cells, display, at + 1);
+    let left = found_at(code, cells, display, at + 3);
+    let right = found_at(code, cells, display, at + 4);
     let operation = code_at(code, at + 2);
     if operation == 0 {
-        return computed(run_words::add(words, target, left, right), at);
+        return computed(run_words::add(cells, target, left, right), at);
     }
     if operation == 1 {
-        return computed(run_words::subtract(words, target, left, right), at);
+        return computed(run_words::subtract(cells, target, left, right), at);
     }
-    run_words::compare(words, target, left, right);
+    run_words::compare(cells, target, left, right);
     Move::On(at + 5)
 }
 
@@ -144,23 +144,23 @@ pub fn do_goto(code: &[u32; 4096], display: &[u16; 256], at: usize) -> Move
 
 pub fn do_goto_formal(
     code: &[u32; 4096],
-    words: &[i32; 8224],
+    cells: &[i32; 8224],
     display: &[u16; 256],
     at: usize,
 ) -> Move
-    requires { ⌜ (at + 2 ≤ 4096) × ThroughFormal (now words) (now display) (getD (now code) (at + 1) 0) ⌝ }
-    ensures { λ r. ⌜ r ≡ (doGoto (byDisplay (now (words .entry)) (now (display .entry))) (only-words (now (code .entry)) (now (words .entry)) at)) .move ⌝ }
+    requires { ⌜ (at + 2 ≤ 4096) × ThroughFormal (now cells) (now display) (getD (now code) (at + 1) 0) ⌝ }
+    ensures { λ r. ⌜ r ≡ (doGoto (byDisplay (now (cells .entry)) (now (display .entry))) (only-words (now (code .entry)) (now (cells .entry)) at)) .move ⌝ }
 {
-    let to = held(words, display, code_at(code, at + 1));
+    let to = held(cells, display, code_at(code, at + 1));
     Move::Jump(activation_of(cell_of(to)), lead_of(to))
 }
 
 // IF
-pub fn do_branch(code: &[u32; 4096], words: &[i32; 8224], display: &[u16; 256], at: usize) -> Move
-    requires { ⌜ TwoNames (Direct (now words) (now display)) (now code) at ⌝ }
-    ensures { λ r. ⌜ r ≡ (doBranch (byDisplay (now (words .entry)) (now (display .entry))) (only-words (now (code .entry)) (now (words .entry)) at)) .move ⌝ }
+pub fn do_branch(code: &[u32; 4096], cells: &[i32; 8224], display: &[u16; 256], at: usize) -> Move
+    requires { ⌜ TwoNames (Direct (now cells) (now display)) (now code) at ⌝ }
+    ensures { λ r. ⌜ r ≡ (doBranch (byDisplay (now (cells .entry)) (now (display .entry))) (only-words (now (code .entry)) (now (cells .entry)) at)) .move ⌝ }
 {
-    if words[own_at(code, display, at + 2)] == 0 {
+    if cells[own_at(code, display, at + 2)] == 0 {
         return Move::On(at + 3);
     }
     do_goto(code, display, at)
@@ -168,39 +168,39 @@ pub fn do_branch(code: &[u32; 4096], words: &[i32; 8224], display: &[u16; 256], 
 
 pub fn do_branch_formal(
     code: &[u32; 4096],
-    words: &[i32; 8224],
+    cells: &[i32; 8224],
     display: &[u16; 256],
     at: usize,
 ) -> Move
-    requires { ⌜ TwoNames (Reachable (now words) (now display)) (now code) at ⌝ }
-    ensures { λ r. ⌜ r ≡ (doBranch (byDisplay (now (words .entry)) (now (display .entry))) (only-words (now (code .entry)) (now (words .entry)) at)) .move ⌝ }
+    requires { ⌜ TwoNames (Reachable (now cells) (now display)) (now code) at ⌝ }
+    ensures { λ r. ⌜ r ≡ (doBranch (byDisplay (now (cells .entry)) (now (display .entry))) (only-words (now (code .entry)) (now (cells .entry)) at)) .move ⌝ }
 {
-    if words[found_at(code, words, display, at + 2)] == 0 {
+    if cells[found_at(code, cells, display, at + 2)] == 0 {
         return Move::On(at + 3);
     }
     if formal_of(code_at(code, at + 1)) == 0 {
         return do_goto(code, display, at);
     }
-    do_goto_formal(code, words, display, at)
+    do_goto_formal(code, cells, display, at)
 }
 
 // What the arguments hand on goes to the first cells of the next activation.
 fn arguments(
     code: &[u32; 4096],
-    words: &mut [i32; 8224],
+    cells: &mut [i32; 8224],
     display: &[u16; 256],
     live: usize,
     at: usize,
     count: usize,
 )
     requires { ⌜ (live ≤ 254) × ArgumentsReachable (now code) (now display) live at count ⌝ }
-    ensures { λ _. ⌜ now (words .exit) ≡ setAll (now (words .entry)) (nextFirst live) (argumentsFrom (byDisplay (now (words .entry)) (now (display .entry))) (only-words (now (code .entry)) (now (words .entry)) at) at count) ⌝ }
+    ensures { λ _. ⌜ now (cells .exit) ≡ setAll (now (cells .entry)) (nextFirst live) (argumentsFrom (byDisplay (now (cells .entry)) (now (display .entry))) (only-words (now (code .entry)) (now (cells .entry)) at) at count) ⌝ }
 {
     let first = SHARE * live + SHARE;
     let mut i = 0;
     while i < count {
         let word = code_at(code, at + i);
-        words[first + i] = run_words::handed(words, word, own_cell(display, word));
+        cells[first + i] = run_words::handed(cells, word, own_cell(display, word));
         i += 1;
     }
 }
@@ -208,44 +208,44 @@ fn arguments(
 // CL, once the procedure is found: the activation that declares it and the place of its body.
 fn enter_body(
     code: &[u32; 4096],
-    words: &mut [i32; 8224],
+    cells: &mut [i32; 8224],
     display: &[u16; 256],
-    limit: usize,
+    activations: usize,
     live: usize,
     at: usize,
     home: usize,
     body: usize,
 ) -> Move
-    requires { ⌜ Callable (now code) (now display) limit live at ⌝ }
-    ensures { λ r. ⌜ Done (enteredBy (byDisplay (now (words .entry)) (now (display .entry))) (sceneBy (now (code .entry)) (now (words .entry)) limit live at) home body) r (now (words .exit)) ⌝ }
+    requires { ⌜ Callable (now code) (now display) activations live at ⌝ }
+    ensures { λ r. ⌜ Done (enteredBy (byDisplay (now (cells .entry)) (now (display .entry))) (sceneBy (now (code .entry)) (now (cells .entry)) activations live at) home body) r (now (cells .exit)) ⌝ }
 {
-    if limit <= live + 1 {
+    if activations <= live + 1 {
         return Move::Stop(Stop::NoActivationLeft);
     }
     let count = code_at(code, at + 2);
-    arguments(code, words, display, live, at + 3, count);
+    arguments(code, cells, display, live, at + 3, count);
     Move::Enter(body, home, at + 3 + count)
 }
 
 pub fn do_call(
     code: &[u32; 4096],
-    words: &mut [i32; 8224],
+    cells: &mut [i32; 8224],
     display: &[u16; 256],
-    limit: usize,
+    activations: usize,
     live: usize,
     at: usize,
 ) -> Move
-    requires { ⌜ Callable (now code) (now display) limit live at ⌝ }
-    requires { ⌜ Direct (now words) (now display) (getD (now code) (at + 1) 0) ⌝ }
-    ensures { λ r. ⌜ Done (doCall (byDisplay (now (words .entry)) (now (display .entry))) (sceneBy (now (code .entry)) (now (words .entry)) limit live at)) r (now (words .exit)) ⌝ }
+    requires { ⌜ Callable (now code) (now display) activations live at ⌝ }
+    requires { ⌜ Direct (now cells) (now display) (getD (now code) (at + 1) 0) ⌝ }
+    ensures { λ r. ⌜ Done (doCall (byDisplay (now (cells .entry)) (now (display .entry))) (sceneBy (now (code .entry)) (now (cells .entry)) activations live at)) r (now (cells .exit)) ⌝ }
 {
     let procedure = code_at(code, at + 1);
     let home = activation_of(first_cell(display, procedure));
     enter_body(
         code,
-        words,
+        cells,
         display,
-        limit,
+        activations,
         live,
         at,
         home,
@@ -256,18 +256,18 @@ pub fn do_call(
 // 26 goes before 22.
 pub fn do_call_formal(
     code: &[u32; 4096],
-    words: &mut [i32; 8224],
+    cells: &mut [i32; 8224],
     display: &[u16; 256],
-    limit: usize,
+    activations: usize,
     live: usize,
     at: usize,
 ) -> Move
-    requires { ⌜ Callable (now code) (now display) limit live at ⌝ }
-    requires { ⌜ ThroughFormal (now words) (now display) (getD (now code) (at + 1) 0) ⌝ }
-    requires { ⌜ FormalsBefore (now code) (leadIn (heldBy (now words) (firstCell (now display) (getD (now code) (at + 1) 0)) (getD (now code) (at + 1) 0))) ⌝ }
-    ensures { λ r. ⌜ Done (doCallFormal (byDisplay (now (words .entry)) (now (display .entry))) (sceneBy (now (code .entry)) (now (words .entry)) limit live at)) r (now (words .exit)) ⌝ }
+    requires { ⌜ Callable (now code) (now display) activations live at ⌝ }
+    requires { ⌜ ThroughFormal (now cells) (now display) (getD (now code) (at + 1) 0) ⌝ }
+    requires { ⌜ FormalsBefore (now code) (leadIn (heldBy (now cells) (firstCell (now display) (getD (now code) (at + 1) 0)) (getD (now code) (at + 1) 0))) ⌝ }
+    ensures { λ r. ⌜ Done (doCallFormal (byDisplay (now (cells .entry)) (now (display .entry))) (sceneBy (now (code .entry)) (now (cells .entry)) activations live at)) r (now (cells .exit)) ⌝ }
 {
-    let procedure = held(words, display, code_at(code, at + 1));
+    let procedure = held(cells, display, code_at(code, at + 1));
     let body = lead_of(procedure);
     let count = code_at(code, at + 2);
     if formals_of(code_at(code, body)) != count {
@@ -278,9 +278,9 @@ pub fn do_call_formal(
     }
     enter_body(
         code,
-        words,
+        cells,
         display,
-        limit,
+        activations,
         live,
         at,
         activation_of(cell_of(procedure)),
@@ -291,26 +291,26 @@ pub fn do_call_formal(
 // AD and RM
 pub fn do_change(
     code: &[u32; 4096],
-    words: &[i32; 8224],
+    cells: &[i32; 8224],
     display: &[u16; 256],
     at: usize,
     ask: Ask,
 ) -> Move
-    requires { ⌜ TwoNames (Reachable (now words) (now display)) (now code) at ⌝ }
-    ensures { λ r. ⌜ r ≡ (doChange (byDisplay (now (words .entry)) (now (display .entry))) (only-words (now (code .entry)) (now (words .entry)) at) ask) .move ⌝ }
+    requires { ⌜ TwoNames (Reachable (now cells) (now display)) (now code) at ⌝ }
+    ensures { λ r. ⌜ r ≡ (doChange (byDisplay (now (cells .entry)) (now (display .entry))) (only-words (now (code .entry)) (now (cells .entry)) at) ask) .move ⌝ }
 {
-    let group = found_at(code, words, display, at + 1);
-    let member = found_at(code, words, display, at + 2);
+    let group = found_at(code, cells, display, at + 1);
+    let member = found_at(code, cells, display, at + 2);
     Move::Table(at + 3, group, member, 0, ask)
 }
 
 // QY
-pub fn do_query(code: &[u32; 4096], words: &[i32; 8224], display: &[u16; 256], at: usize) -> Move
-    requires { ⌜ ThreeNames (Reachable (now words) (now display)) (now code) at ⌝ }
-    ensures { λ r. ⌜ r ≡ (doQuery (byDisplay (now (words .entry)) (now (display .entry))) (only-words (now (code .entry)) (now (words .entry)) at)) .move ⌝ }
+pub fn do_query(code: &[u32; 4096], cells: &[i32; 8224], display: &[u16; 256], at: usize) -> Move
+    requires { ⌜ ThreeNames (Reachable (now cells) (now display)) (now code) at ⌝ }
+    ensures { λ r. ⌜ r ≡ (doQuery (byDisplay (now (cells .entry)) (now (display .entry))) (only-words (now (code .entry)) (now (cells .entry)) at)) .move ⌝ }
 {
-    let target = found_at(code, words, display, at + 1);
-    let group = found_at(code, words, display, at + 2);
-    let member = found_at(code, words, display, at + 3);
+    let target = found_at(code, cells, display, at + 1);
+    let group = found_at(code, cells, display, at + 2);
+    let member = found_at(code, cells, display, at + 3);
     Move::Table(at + 4, group, member, target, Ask::Query)
 }

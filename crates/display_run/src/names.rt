@@ -24,20 +24,20 @@ pub fn own_cell(display: &[u16; 256], word: usize) -> usize
 }
 
 // What a formal holds: the cell of the name that it finally stands for, and what that leads to.
-pub fn held(words: &[i32; 8224], display: &[u16; 256], word: usize) -> usize
-    requires { ⌜ ThroughFormal (now words) (now display) word ⌝ }
-    ensures { λ r. ⌜ (r ≡ heldBy (now (words .entry)) (firstCell (now (display .entry)) word) word) × (r < 2147483648) ⌝ }
+pub fn held(cells: &[i32; 8224], display: &[u16; 256], word: usize) -> usize
+    requires { ⌜ ThroughFormal (now cells) (now display) word ⌝ }
+    ensures { λ r. ⌜ (r ≡ heldBy (now (cells .entry)) (firstCell (now (display .entry)) word) word) × (r < 2147483648) ⌝ }
 {
-    run_words::whole(words[own_cell(display, word)])
+    run_words::whole(cells[own_cell(display, word)])
 }
 
 // The cell of the declared name that the name with this word finally stands for.
-pub fn cell(words: &[i32; 8224], display: &[u16; 256], word: usize) -> usize
-    requires { ⌜ Reachable (now words) (now display) word ⌝ }
-    ensures { λ r. ⌜ r ≡ cellBy (now (words .entry)) (firstCell (now (display .entry)) word) word ⌝ }
+pub fn cell(cells: &[i32; 8224], display: &[u16; 256], word: usize) -> usize
+    requires { ⌜ Reachable (now cells) (now display) word ⌝ }
+    ensures { λ r. ⌜ r ≡ cellBy (now (cells .entry)) (firstCell (now (display .entry)) word) word ⌝ }
 {
     if formal_of(word) == 0 {
         return own_cell(display, word);
     }
-    cell_of(held(words, display, word))
+    cell_of(held(cells, display, word))
 }

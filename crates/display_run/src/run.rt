@@ -27,7 +27,7 @@ ghost use lib.ListN.{set};
 ghost use Rattle.frames.specs.Frame.{designates, frameRun, frameStart};
 ghost use Rattle.run_moves.specs.Acting.{answer};
 ghost use Rattle.table_pairs.specs.Outcomes.{tableOf, changeOf, wordsAfter};
-ghost use Rattle.run_state.specs.Scenes.{limitsBy};
+ghost use Rattle.run_state.specs.Limits.{limitsBy};
 ghost use Rattle.run_state.specs.Ended.{RunFrom};
 ghost use Rattle.display_moves.specs.Running.{Running, Looking, Placed};
 ghost use Rattle.display_run.specs.Turning.{TurnsTo, Beginning, Ended, startBy};
@@ -35,7 +35,7 @@ ghost use Rattle.display_run.specs.Turning.{TurnsTo, Beginning, Ended, s
 // What the table answers.
 fn asked(
     table: &mut [i32],
-    words: &mut [i32; 8224],
+    cells: &mut [i32; 8224],
     pairs: usize,
     limit: u32,
     group: usize,
@@ -44,33 +44,33 @@ fn asked(
     ask: Ask,
 ) -> Change
     requires { ⌜ (group < 8192) × ((member < 8192) × (target < 8192)) ⌝ }
-    ensures { λ r. ⌜ r ≡ changeOf (answer limit (now (words .entry)) (tableOf (now (table .entry)) pairs) group member target ask .effect) ⌝ }
-    ensures { λ _. ⌜ now (words .exit) ≡ answer limit (now (words .entry)) (tableOf (now (table .entry)) pairs) group member target ask .words ⌝ }
-    ensures { λ _. ⌜ now (table .exit) ≡ wordsAfter (now (table .entry)) (answer limit (now (words .entry)) (tableOf (now (table .entry)) pairs) group member target ask .effect) ⌝ }
+    ensures { λ r. ⌜ r ≡ changeOf (answer limit (now (cells .entry)) (tableOf (now (table .entry)) pairs) group member target ask .effect) ⌝ }
+    ensures { λ _. ⌜ now (cells .exit) ≡ answer limit (now (cells .entry)) (tableOf (now (table .entry)) pairs) group member target ask .cells ⌝ }
+    ensures { λ _. ⌜ now (table .exit) ≡ wordsAfter (now (table .entry)) (answer limit (now (cells .entry)) (tableOf (now (table .entry)) pairs) group member target ask .effect) ⌝ }
 {
     match ask {
-        Ask::Add => run_statements::add(table, words, pairs, limit, group, member),
-        Ask::Remove => run_statements::remove(table, words, pairs, group, member),
-        Ask::Query => run_statements::query(table, words, pairs, group, member, target),
+        Ask::Add => run_statements::add(table, cells, pairs, limit, group, member),
+        Ask::Remove => run_statements::remove(table, cells, pairs, group, member),
+        Ask::Query => run_statements::query(table, cells, pairs, group, member, target),
     }
 }
 
 pub fn step(
     code: &[u32; 4096],
-    words: &mut [i32; 8224],
+    cells: &mut [i32; 8224],
     blocks: &mut [u16; 256],
     nexts: &mut [u16; 256],
     links: &mut [u16; 256],
     display: &mut [u16; 256],
     table: &mut [i32],
-    group: u32,
-    limit: usize,
+    limit: u32,
+    activations: usize,
     here: Registers,
 ) -> Turn
-    requires { ⌜ Running (now code) limit group (now words) (now blocks) (now nexts) (now links) (now display) (now table) here ⌝ }
+    requires { ⌜ Running (now code) activations limit (now cells) (now blocks) (now nexts) (now links) (now display) (now table) here ⌝ }
     ensures { λ r.
-        ⌜ TurnsTo (now (code .entry)) limit group (now (words .entry)) (now (blocks .entry)) (now (nexts .entry)) (now (links .entry)) (now (display .entry)) (now (table .entry)) here
-        r (now (words .exit)) (now (blocks .exit)) (now (nexts .exit)) (now (links .exit)) (now (display .exit)) (now (table .exit)) ⌝ }
+        ⌜ TurnsTo (now (code .entry)) activations limit (now (cells .entry)) (now (blocks .entry)) (now (nexts .entry)) (now (links .entry)) (now (display .entry)) (now (table .entry)) here
+        r (now (cells .exit)) (now (blocks .exit)) (now (nexts .exit)) (now (links .exit)) (now (display .exit)) (now (table .exit)) ⌝ }
 {
     let live = here.live;
     let at = here.at;
@@ -80,19 +80,19 @@ pub fn step(
         }
         return Turn::Went(leave(code, blocks, nexts, links, display, here));
     }
-    match act(code, words, display, limit, live, at) {
+    match act(code, cells, display, activations, live, at) {
         Move::On(place) => Turn::Went(Registers { at: place, ..here }),
-        Move::Table(place, of, member, target, ask) => after(
+        Move::Table(place, group, member, target, ask) => after(
             here,
             place,
-            asked(table, words, here.pairs, group, of, member, target, ask),
+            asked(table, cells, here.pairs, limit, group, member, target, ask),
         ),
         Move::Jump(home, place) => {
             Turn::Went(jump(code, blocks, links, display, here, home, place))
         }
         Move::Enter(body, link, back) => Turn::Went(enter(
             code,
-            words,
+            cells,
             blocks,
             nexts,
             links,
@@ -109,70 +109,70 @@ pub fn step(
 // The designator of the looked-up name, whose word stands in the innermost block; 0 where it is not visible.
 fn looked_up(
     code: &[u32; 4096],
-    words: &[i32; 8224],
+    cells: &[i32; 8224],
     blocks: &[u16; 256],
     display: &[u16; 256],
     live: usize,
 ) -> u32
-    requires { ⌜ Looking (now code) (now words) (now blocks) (now display) live ⌝ }
-    ensures { λ r. ⌜ ((w : Looking (now (code .entry)) (now (words .entry)) (now (blocks .entry)) (now (display .entry)) live) → r ≡ designates (w .running .standing .stack .frames) (w .running .standing .name)) ⌝ }
+    requires { ⌜ Looking (now code) (now cells) (now blocks) (now display) live ⌝ }
+    ensures { λ r. ⌜ ((w : Looking (now (code .entry)) (now (cells .entry)) (now (blocks .entry)) (now (display .entry)) live) → r ≡ designates (w .running .standing .stack .frames) (w .running .standing .name)) ⌝ }
 {
     let word = code_at(code, from_u16(blocks[live]) + 2);
     if word == 0 {
         return 0;
     }
-    designator_of(cell(words, display, word))
+    designator_of(cell(cells, display, word))
 }
 
 // At the end of a run the place of the innermost activation's next statement is put with the others', and the name is looked up.
 fn settle(
     code: &[u32; 4096],
-    words: &[i32; 8224],
+    cells: &[i32; 8224],
     blocks: &[u16; 256],
     nexts: &mut [u16; 256],
     display: &[u16; 256],
     here: Registers,
 ) -> u32
-    requires { ⌜ Looking (now code) (now words) (now blocks) (now display) (here .live) × Placed here ⌝ }
-    ensures { λ r. ⌜ ((w : Looking (now (code .entry)) (now (words .entry)) (now (blocks .entry)) (now (display .entry)) (here .live)) → r ≡ designates (w .running .standing .stack .frames) (w .running .standing .name)) ⌝ }
+    requires { ⌜ Looking (now code) (now cells) (now blocks) (now display) (here .live) × Placed here ⌝ }
+    ensures { λ r. ⌜ ((w : Looking (now (code .entry)) (now (cells .entry)) (now (blocks .entry)) (now (display .entry)) (here .live)) → r ≡ designates (w .running .standing .stack .frames) (w .running .standing .name)) ⌝ }
     ensures { λ _. ⌜ now (nexts .exit) ≡ set (now (nexts .entry)) (here .live) (here .at) ⌝ }
 {
     note_place(nexts, here);
-    looked_up(code, words, blocks, display, here.live)
+    looked_up(code, cells, blocks, display, here.live)
 }
 
 // From any state in which the engine can stand.
 pub fn run(
     code: &[u32; 4096],
-    words: &mut [i32; 8224],
+    cells: &mut [i32; 8224],
     blocks: &mut [u16; 256],
     nexts: &mut [u16; 256],
     links: &mut [u16; 256],
     display: &mut [u16; 256],
     table: &mut [i32],
-    group: u32,
-    limit: usize,
+    limit: u32,
+    activations: usize,
     allowance: u32,
     start: Registers,
 ) -> Halt
-    requires { ⌜ Running (now code) limit group (now words) (now blocks) (now nexts) (now links) (now display) (now table) start ⌝ }
+    requires { ⌜ Running (now code) activations limit (now cells) (now blocks) (now nexts) (now links) (now display) (now table) start ⌝ }
     ensures { λ r.
-        ⌜ ((w : Running (now (code .entry)) limit group (now (words .entry)) (now (blocks .entry)) (now (nexts .entry)) (now (links .entry)) (now (display .entry)) (now (table .entry)) start)
-        → RunFrom (w .standing) allowance r (now (words .exit)) (now (blocks .exit)) (now (nexts .exit)) (now (links .exit)) (now (table .exit))) ⌝ }
+        ⌜ ((w : Running (now (code .entry)) activations limit (now (cells .entry)) (now (blocks .entry)) (now (nexts .entry)) (now (links .entry)) (now (display .entry)) (now (table .entry)) start)
+        → RunFrom (w .standing) allowance r (now (cells .exit)) (now (blocks .exit)) (now (nexts .exit)) (now (links .exit)) (now (table .exit))) ⌝ }
 {
     let mut here = start;
     let mut left = allowance;
     while 0 < left {
         match step(
             code,
-            words,
+            cells,
             blocks,
             nexts,
             links,
             display,
             table,
-            group,
             limit,
+            activations,
             here,
         ) {
             Turn::Went(next) => {
@@ -182,12 +182,12 @@ pub fn run(
             Turn::Finished => return finished(here, allowance - left + 1),
             Turn::Stopped(cause) => {
                 let halt = stopped(here, cause, allowance - left);
-                return named(halt, settle(code, words, blocks, nexts, display, here), 0);
+                return named(halt, settle(code, cells, blocks, nexts, display, here), 0);
             }
         }
     }
     let halt = spent(here, allowance);
-    named(halt, settle(code, words, blocks, nexts, display, here), 0)
+    named(halt, settle(code, cells, blocks, nexts, display, here), 0)
 }
 
 // Where the program begins.
@@ -207,35 +207,35 @@ fn begin(code: &[u32; 4096], pairs: usize) -> Registers
 
 pub fn run_program(
     code: &[u32; 4096],
-    words: &mut [i32; 8224],
+    cells: &mut [i32; 8224],
     blocks: &mut [u16; 256],
     nexts: &mut [u16; 256],
     links: &mut [u16; 256],
     table: &mut [i32],
     pairs: usize,
-    group: u32,
-    limit: usize,
+    limit: u32,
+    activations: usize,
     allowance: u32,
 ) -> Halt
-    requires { ⌜ Beginning (now code) (now words) (now blocks) (now nexts) (now links) (now table) pairs group limit ⌝ }
+    requires { ⌜ Beginning (now code) (now cells) (now blocks) (now nexts) (now links) (now table) pairs limit activations ⌝ }
     ensures { λ r.
-        ⌜ ((b : Beginning (now (code .entry)) (now (words .entry)) (now (blocks .entry)) (now (nexts .entry)) (now (links .entry)) (now (table .entry)) pairs group limit)
-        → Ended (b .program) (b .name) limit group
-        (frameRun (limitsBy limit group) allowance (frameStart (b .program) (record { words = now (table .entry); used = pairs })))
-        r (now (words .exit)) (now (blocks .exit)) (now (nexts .exit)) (now (links .exit)) (now (table .exit))) ⌝ }
+        ⌜ ((b : Beginning (now (code .entry)) (now (cells .entry)) (now (blocks .entry)) (now (nexts .entry)) (now (links .entry)) (now (table .entry)) pairs limit activations)
+        → Ended (b .program) (b .name) activations limit
+        (frameRun (limitsBy activations limit) allowance (frameStart (b .program) (record { words = now (table .entry); used = pairs })))
+        r (now (cells .exit)) (now (blocks .exit)) (now (nexts .exit)) (now (links .exit)) (now (table .exit))) ⌝ }
 {
     let mut display = [0u16; 256];
     let start = begin(code, pairs);
     run(
         code,
-        words,
+        cells,
         blocks,
         nexts,
         links,
         &mut display,
         table,
-        group,
         limit,
+        activations,
         allowance,
         start,
     )

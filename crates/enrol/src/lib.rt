@@ -1,5 +1,5 @@
 // What the server's C programs call. Each function is total: it requires nothing, and its contract fixes every word that it writes.
-use call_admission::Numbers;
+use call_admission::CallNumbers;
 use chain_records::Activation;
 ghost use mathlib.Core.Path.{_≡_};
 ghost use Rattle.language.specs.Check.{check};
@@ -37,7 +37,7 @@ pub extern "C" fn enrol_copy(
         (now (script .entry)) (now (table .entry)) (now (sheet .entry)))
         (now (answer .exit)) (now (sheet .exit)) (now (table .exit)) (now (area .entry)) (now (area .exit)) ⌝ }
 {
-    let numbers = Numbers {
+    let numbers = CallNumbers {
         d,
         n,
         g,
@@ -66,7 +66,7 @@ pub extern "C" fn enrol_display(
         (now (script .entry)) (now (table .entry)) (now (sheet .entry)))
         (now (answer .exit)) (now (sheet .exit)) (now (table .exit)) ⌝ }
 {
-    let numbers = Numbers {
+    let numbers = CallNumbers {
         d,
         n,
         g,
@@ -96,7 +96,7 @@ pub extern "C" fn enrol_chain(
         (now (script .entry)) (now (table .entry)) (now (sheet .entry)))
         (now (answer .exit)) (now (sheet .exit)) (now (table .exit)) (now (records .entry)) (now (records .exit)) ⌝ }
 {
-    let numbers = Numbers {
+    let numbers = CallNumbers {
         d,
         n,
         g,

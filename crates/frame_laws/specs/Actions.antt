@@ -37,15 +37,15 @@ module _ (l : Limits) (s : Stack) where
     unfolding addTo added asActed tableChanged
     held n h = rw (added, n, h)
 
-    group-full : atLeastOne g && atLeastOne m ≡ true → holds g m (s .table) ≡ false → leb (l .group) (size g (s .table)) ≡ true → addTo l s g m ≡ halted GroupFull
+    group-full : atLeastOne g && atLeastOne m ≡ true → holds g m (s .table) ≡ false → leb (l .limit) (size g (s .table)) ≡ true → addTo l s g m ≡ halted GroupFull
     unfolding addTo added asActed
     group-full n h z = rw (added, n, h, z)
 
-    table-full : atLeastOne g && atLeastOne m ≡ true → holds g m (s .table) ≡ false → leb (l .group) (size g (s .table)) ≡ false → full (s .table) ≡ true → addTo l s g m ≡ halted TableFull
+    table-full : atLeastOne g && atLeastOne m ≡ true → holds g m (s .table) ≡ false → leb (l .limit) (size g (s .table)) ≡ false → full (s .table) ≡ true → addTo l s g m ≡ halted TableFull
     unfolding addTo added asActed
     table-full n h z f = rw (added, n, h, z, f)
 
-    appended : atLeastOne g && atLeastOne m ≡ true → holds g m (s .table) ≡ false → leb (l .group) (size g (s .table)) ≡ false → full (s .table) ≡ false → addTo l s g m ≡ acted (tableChanged s (add g m (s .table)))
+    appended : atLeastOne g && atLeastOne m ≡ true → holds g m (s .table) ≡ false → leb (l .limit) (size g (s .table)) ≡ false → full (s .table) ≡ false → addTo l s g m ≡ acted (tableChanged s (add g m (s .table)))
     unfolding addTo added asActed
     appended n h z f = rw (added, n, h, z, f)
 
@@ -162,17 +162,17 @@ module _ (l : Limits) (s : Stack) where
     unfolding act
     adds-held n h = rw (eg, em) (held l s g m n h)
 
-    pub adds-group-full : atLeastOne g && atLeastOne m ≡ true → holds g m (s .table) ≡ false → leb (l .group) (size g (s .table)) ≡ true
+    pub adds-group-full : atLeastOne g && atLeastOne m ≡ true → holds g m (s .table) ≡ false → leb (l .limit) (size g (s .table)) ≡ true
         → act l s (AD x y) ≡ halted GroupFull
     unfolding act
     adds-group-full n h z = rw (eg, em) (group-full l s g m n h z)
 
-    pub adds-table-full : atLeastOne g && atLeastOne m ≡ true → holds g m (s .table) ≡ false → leb (l .group) (size g (s .table)) ≡ false → full (s .table) ≡ true
+    pub adds-table-full : atLeastOne g && atLeastOne m ≡ true → holds g m (s .table) ≡ false → leb (l .limit) (size g (s .table)) ≡ false → full (s .table) ≡ true
         → act l s (AD x y) ≡ halted TableFull
     unfolding act
     adds-table-full n h z f = rw (eg, em) (table-full l s g m n h z f)
 
-    pub adds : atLeastOne g && atLeastOne m ≡ true → holds g m (s .table) ≡ false → leb (l .group) (size g (s .table)) ≡ false → full (s .table) ≡ false
+    pub adds : atLeastOne g && atLeastOne m ≡ true → holds g m (s .table) ≡ false → leb (l .limit) (size g (s .table)) ≡ false → full (s .table) ≡ false
         → act l s (AD x y) ≡ acted (tableChanged s (add g m (s .table)))
     unfolding act
     adds n h z f = rw (eg, em) (appended l s g m n h z f)

@@ -54,14 +54,14 @@ module _ (l : Limits) (s : Stack) (Q : Acted → Type 0) (stops : (c : Stop) →
       split (ltb (mag (compute o (wordAt (s .frames) a) (wordAt (s .frames) b))) 2147483648) (λ e. subst Q (sym (computes l s t o a b _ _ refl refl e)) (h _ (ltb-true _ _ e))) (λ e. subst Q (sym (computes-past l s t o a b _ _ refl refl e)) (stops ResultTooLarge))
 
   pub add-cases : (x y : ℕ) → Q (acted s)
-      → ((g m : ℤ) → atLeastOne g && atLeastOne m ≡ true → holds g m (s .table) ≡ false → size g (s .table) < l .group → full (s .table) ≡ false → Q (acted (tableChanged s (add g m (s .table)))))
+      → ((g m : ℤ) → atLeastOne g && atLeastOne m ≡ true → holds g m (s .table) ≡ false → size g (s .table) < l .limit → full (s .table) ≡ false → Q (acted (tableChanged s (add g m (s .table)))))
       → Q (act l s (AD x y))
   add-cases x y n h =
       let g = wordAt (s .frames) x in
       let m = wordAt (s .frames) y in
       split (atLeastOne g && atLeastOne m)
       (λ e. split (holds g m (s .table)) (λ i. subst Q (sym (adds-held l s x y g m refl refl e i)) n)
-      (λ i. split (leb (l .group) (size g (s .table))) (λ z. subst Q (sym (adds-group-full l s x y g m refl refl e i z)) (stops GroupFull))
+      (λ i. split (leb (l .limit) (size g (s .table))) (λ z. subst Q (sym (adds-group-full l s x y g m refl refl e i z)) (stops GroupFull))
       (λ z. split (full (s .table)) (λ f. subst Q (sym (adds-table-full l s x y g m refl refl e i z f)) (stops TableFull))
       (λ f. subst Q (sym (adds l s x y g m refl refl e i z f)) (h g m e i (leb-false _ _ z) f)))))
       (λ e. subst Q (sym (adds-below-one l s x y g m refl refl e)) (stops NumberBelowOne))

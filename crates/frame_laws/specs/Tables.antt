@@ -16,7 +16,7 @@ use Rattle.frames.specs.Running.{After, run-keeps}
 use Rattle.frame_laws.specs.Cases.{enter-cases, call-cases, go-cases, if-cases, compute-cases, add-cases, remove-cases, ask-cases, step-cases}
 
 pub record TableKept (l : Limits) (P : Table → Type 0) : Type 0 where
-  pub added : (g m : ℤ) (t : Table) → atLeastOne g && atLeastOne m ≡ true → holds g m t ≡ false → size g t < l .group → full t ≡ false → P t → P (add g m t)
+  pub added : (g m : ℤ) (t : Table) → atLeastOne g && atLeastOne m ≡ true → holds g m t ≡ false → size g t < l .limit → full t ≡ false → P t → P (add g m t)
   pub removed : (g m : ℤ) (t : Table) → P t → P (remove g m t)
 
 module _ (l : Limits) (P : Table → Type 0) (k : TableKept l P) where
@@ -50,11 +50,11 @@ pub table-length : (l : Limits) (n : ℕ) (s : Stack) → length ((frameRun l n 
 table-length l n s =
     run-table l (λ t. length (t .words) ≡ length (s .table .words)) (record { added = λ g m t a b c d h. add-length g m t ∙ h; removed = λ g m t h. remove-length g m t ∙ h }) n s refl
 
-kept-right : (l : Limits) → TableKept l (λ t. right (l .group) t ≡ true)
-kept-right l = record { added = λ g m t a b c d q. add-right (l .group) g m t q a b c d; removed = λ g m t q. remove-right (l .group) g m t q }
+kept-right : (l : Limits) → TableKept l (λ t. right (l .limit) t ≡ true)
+kept-right l = record { added = λ g m t a b c d q. add-right (l .limit) g m t q a b c d; removed = λ g m t q. remove-right (l .limit) g m t q }
 
-pub step-right : (l : Limits) (s : Stack) → 1 ≤ length (s .frames) → right (l .group) (s .table) ≡ true → After (λ s′. right (l .group) ((stepped s s′) .table) ≡ true) (frameStep l s)
-step-right l s n h = step-table l (λ t. right (l .group) t ≡ true) (kept-right l) s n h
+pub step-right : (l : Limits) (s : Stack) → 1 ≤ length (s .frames) → right (l .limit) (s .table) ≡ true → After (λ s′. right (l .limit) ((stepped s s′) .table) ≡ true) (frameStep l s)
+step-right l s n h = step-table l (λ t. right (l .limit) t ≡ true) (kept-right l) s n h
 
-pub table-right : (l : Limits) (n : ℕ) (s : Stack) → right (l .group) (s .table) ≡ true → right (l .group) ((frameRun l n s) .final .table) ≡ true
-table-right l n s h = run-table l (λ t. right (l .group) t ≡ true) (kept-right l) n s h
+pub table-right : (l : Limits) (n : ℕ) (s : Stack) → right (l .limit) (s .table) ≡ true → right (l .limit) ((frameRun l n s) .final .table) ≡ true
+table-right l n s h = run-table l (λ t. right (l .limit) t ≡ true) (kept-right l) n s h

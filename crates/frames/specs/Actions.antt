@@ -82,7 +82,7 @@ module _ (s : State) (t : Stack) (r : Related s t) where
   -- the frames' table is the machine's: what comes of the one comes of the other
   pub add-alike : (l : Limits) (g m : ℤ) → Alike (addPair l s g m) (addTo l t g m)
   unfolding addPair addTo
-  add-alike l g m = subst (λ (u : Table). Alike (addPair l s g m) (asActed t (added (l .group) g m u))) (r .table-is) (effect-alike (added (l .group) g m (s .table)))
+  add-alike l g m = subst (λ (u : Table). Alike (addPair l s g m) (asActed t (added (l .limit) g m u))) (r .table-is) (effect-alike (added (l .limit) g m (s .table)))
 
   pub remove-alike : (g m : ℤ) → Alike (removePair s g m) (removeFrom t g m)
   unfolding removePair removeFrom

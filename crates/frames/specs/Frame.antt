@@ -198,7 +198,7 @@ asPut s x (gives z) = acted (put s x z)
 asPut s x (refuses c) = halted c
 
 unfoldable pub addTo : Limits → Stack → ℤ → ℤ → Acted
-addTo l s g m = asActed s (added (l .group) g m (s .table))
+addTo l s g m = asActed s (added (l .limit) g m (s .table))
 
 unfoldable pub removeFrom : Stack → ℤ → ℤ → Acted
 removeFrom s g m = asActed s (removed g m (s .table))

@@ -44,7 +44,7 @@ pub record Fed : Type 0 where
   pub script : List ℕ
   pub activations : ℕ
   pub allowance : ℕ
-  pub group : ℕ
+  pub limit : ℕ
   pub tally : ℕ
   pub name : ℕ
   pub lent : Lent
@@ -54,15 +54,15 @@ pub record Reply : Type 0 where
   pub lent : Lent
 
 abbrev pub limitsOf : Fed → Limits
-limitsOf f = record { activations = f .activations; group = f .group }
+limitsOf f = record { activations = f .activations; limit = f .limit }
 
 -- Which refusal is due
 
 -- 12
 unfoldable pub limitsFit : Fed → Bool
 limitsFit f =
-    leb 1 (f .activations) && leb (f .activations) 256 && leb (f .allowance) 1000000 && leb 1 (f .group) &&
-    leb (f .group) 65535 && leb (f .tally) 1000000000000
+    leb 1 (f .activations) && leb (f .activations) 256 && leb (f .allowance) 1000000 && leb 1 (f .limit) &&
+    leb (f .limit) 65535 && leb (f .tally) 1000000000000
 
 -- 13: an area that an engine uses holds what is asked
 unfoldable pub holdsAtLeast : ℕ → Option ℕ → Bool
@@ -93,7 +93,7 @@ testsBefore e f =
     record { holds = limitsFit f; otherwise = LimitRange } ∷
     record { holds = sheetFits f; otherwise = AreaTooShort } ∷
     record { holds = recordsFit e f; otherwise = AreaTooShort } ∷
-    record { holds = right (f .group) (f .lent .table); otherwise = TableNotRight } ∷ []
+    record { holds = right (f .limit) (f .lent .table); otherwise = TableNotRight } ∷ []
 
 unfoldable pub testsAfter : Engine → Fed → List Test
 testsAfter e f = record { holds = areaFits e f; otherwise = AreaTooShort } ∷ []

@@ -36,7 +36,7 @@ pub record State : Type 0 where
 -- D and G
 pub record Limits : Type 0 where
   pub activations : ℕ
-  pub group : ℕ
+  pub limit : ℕ
 
 unfoldable pub withLive : State → List Activation → State
 withLive s as′ = record { live = as′; values = s .values; fresh = s .fresh; table = s .table; steps = s .steps }
@@ -151,7 +151,7 @@ asStored s x (gives z) = did (store s x z)
 asStored s x (refuses c) = stop c
 
 unfoldable pub addPair : Limits → State → ℤ → ℤ → Done
-addPair l s g m = asDone s (added (l .group) g m (s .table))
+addPair l s g m = asDone s (added (l .limit) g m (s .table))
 
 unfoldable pub removePair : State → ℤ → ℤ → Done
 removePair s g m = asDone s (removed g m (s .table))

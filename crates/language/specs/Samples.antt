@@ -32,7 +32,7 @@ pub record Sample : Type 0 where
   pub script : List ℕ
   pub activations : ℕ
   pub allowance : ℕ
-  pub group : ℕ
+  pub limit : ℕ
   pub about : About
   pub short : ℕ
   pub table : Table
@@ -59,7 +59,7 @@ lentSheet r = r .activations * 34 - r .short
 
 unfoldable pub fed : Sample → Fed
 fed r =
-    record { script = r .script; activations = r .activations; allowance = r .allowance; group = r .group; tally = lentTally; name = r .name; lent = record { sheet = replicate (lentSheet r) lentWord; table = r .table } }
+    record { script = r .script; activations = r .activations; allowance = r .allowance; limit = r .limit; tally = lentTally; name = r .name; lent = record { sheet = replicate (lentSheet r) lentWord; table = r .table } }
 
 -- An engine of a row, with the links that it must give.
 pub record Party : Type 0 where
@@ -161,7 +161,7 @@ script-highest =
 -- a call that runs to its end, stops or is refused, with N, from an empty table of eight pairs
 unfoldable pub ends-within : ℕ → List ℕ → ℕ → End → ℕ → ℕ → List ℤ → Sample
 ends-within allowance script d e n o ws =
-    record { script = script; activations = d; allowance = allowance; group = 3; about = all; short = 0; table = record { words = noPairs 8; used = 0 }; name = 9; end = e; steps = n; offset = o; pairs = 0; designator = 0; links = 0; sheet = ws; words = noPairs 8 }
+    record { script = script; activations = d; allowance = allowance; limit = 3; about = all; short = 0; table = record { words = noPairs 8; used = 0 }; name = 9; end = e; steps = n; offset = o; pairs = 0; designator = 0; links = 0; sheet = ws; words = noPairs 8 }
 
 unfoldable pub ends-with : List ℕ → ℕ → End → ℕ → ℕ → List ℤ → Sample
 ends-with script d e n o ws = ends-within 1000 script d e n o ws
@@ -169,7 +169,7 @@ ends-with script d e n o ws = ends-within 1000 script d e n o ws
 -- script A with group limit, table and its count; what comes of it
 unfoldable pub of-A : ℕ → List ℤ → ℕ → End → ℕ → ℕ → ℕ → List ℤ → List ℤ → Sample
 of-A g table used e n o pairs ws table′ =
-    record { script = script-A; activations = 16; allowance = 1000; group = g; about = all; short = 0; table = record { words = table; used = used }; name = 9; end = e; steps = n; offset = o; pairs = pairs; designator = 0; links = 0; sheet = ws; words = table′ }
+    record { script = script-A; activations = 16; allowance = 1000; limit = g; about = all; short = 0; table = record { words = table; used = used }; name = 9; end = e; steps = n; offset = o; pairs = pairs; designator = 0; links = 0; sheet = ws; words = table′ }
 
 -- script A stopped at its AD, which stands at offset 30
 unfoldable pub A-stopped : List ℤ
@@ -183,12 +183,12 @@ B-spent =
 -- a spent run, with the looked-up name
 unfoldable pub spent-at : List ℕ → ℕ → ℕ → ℕ → ℕ → List ℤ → Sample
 spent-at script n name designator links ws =
-    record { script = script; activations = 16; allowance = n; group = 3; about = all; short = 0; table = record { words = noPairs 8; used = 0 }; name = name; end = Spent; steps = n; offset = 0; pairs = 0; designator = designator; links = links; sheet = ws; words = noPairs 8 }
+    record { script = script; activations = 16; allowance = n; limit = 3; about = all; short = 0; table = record { words = noPairs 8; used = 0 }; name = name; end = Spent; steps = n; offset = 0; pairs = 0; designator = designator; links = links; sheet = ws; words = noPairs 8 }
 
 -- a refused call with N at its highest: script, G, engines, words short, table; cause and offset
 unfoldable pub refused-with : List ℕ → ℕ → About → ℕ → Table → Refusal → ℕ → Sample
 refused-with script g about short t c o =
-    record { script = script; activations = 16; allowance = 1000000; group = g; about = about; short = short; table = t; name = 9; end = Refused c; steps = 0; offset = o; pairs = t .used; designator = 0; links = 0; sheet = []; words = t .words }
+    record { script = script; activations = 16; allowance = 1000000; limit = g; about = about; short = short; table = t; name = 9; end = Refused c; steps = 0; offset = o; pairs = t .used; designator = 0; links = 0; sheet = []; words = t .words }
 
 -- the script is empty and a number of the table is 0; G, engines and words short vary
 unfoldable pub all-wrong : ℕ → About → ℕ → Refusal → Sample
@@ -197,7 +197,7 @@ all-wrong g about short c = refused-with script-empty g about short (record { wo
 -- the first of three pairs in use taken out of four places
 unfoldable pub pair-taken-out : Sample
 pair-taken-out =
-    record { script = script-pair; activations = 16; allowance = 4; group = 3; about = all; short = 0; table = record { words = pos 5 ∷ pos 7 ∷ pos 6 ∷ pos 1 ∷ pos 6 ∷ pos 2 ∷ pos 8 ∷ pos 9 ∷ []; used = 3 }; name = 3; end = Spent; steps = 4; offset = 0; pairs = 2; designator = 67; links = 0; sheet = pos 0 ∷ pos 5 ∷ pos 5 ∷ pos 7 ∷ pos 1 ∷ []; words = pos 6 ∷ pos 1 ∷ pos 6 ∷ pos 2 ∷ pos 0 ∷ pos 0 ∷ pos 8 ∷ pos 9 ∷ [] }
+    record { script = script-pair; activations = 16; allowance = 4; limit = 3; about = all; short = 0; table = record { words = pos 5 ∷ pos 7 ∷ pos 6 ∷ pos 1 ∷ pos 6 ∷ pos 2 ∷ pos 8 ∷ pos 9 ∷ []; used = 3 }; name = 3; end = Spent; steps = 4; offset = 0; pairs = 2; designator = 67; links = 0; sheet = pos 0 ∷ pos 5 ∷ pos 5 ∷ pos 7 ∷ pos 1 ∷ []; words = pos 6 ∷ pos 1 ∷ pos 6 ∷ pos 2 ∷ pos 0 ∷ pos 0 ∷ pos 8 ∷ pos 9 ∷ [] }
 
 unfoldable pub samples : List Sample
 samples =

@@ -20,51 +20,51 @@ use Rattle.run_statements.specs.Pieces.{FormalsBefore}
 use Rattle.run_cells.specs.Finding.{Reachable, Direct, ThroughFormal}
 
 -- the word so many fields after the operation
-abbrev pub wordBehind : List ℕ → ℕ → ℕ → ℕ
-wordBehind code at i = getD code (at + i) 0
+abbrev pub wordAfter : List ℕ → ℕ → ℕ → ℕ
+wordAfter code at i = getD code (at + i) 0
 
 -- room for one activation more is tested as it is used, and the arguments stand in the script
-pub record Calling (code : List ℕ) (limit live at : ℕ) : Type 0 where
-  pub limit-high : limit ≤ 256
+pub record Calling (code : List ℕ) (activations live at : ℕ) : Type 0 where
+  pub limit-high : activations ≤ 256
   pub live-few : live ≤ 255
-  pub few : wordBehind code at 2 ≤ 32
-  pub there : at + 3 + wordBehind code at 2 ≤ 4096
+  pub few : wordAfter code at 2 ≤ 32
+  pub there : at + 3 + wordAfter code at 2 ≤ 4096
 
-module _ (code : List ℕ) (words : List ℤ) (limit live at first second third : ℕ) where
+module _ (code : List ℕ) (cells : List ℤ) (activations live at first second third : ℕ) where
   abbrev pub Ready : Op → Type 0
-  Ready constant-op = (at + 4 ≤ 4096) × Direct words first (wordBehind code at 1)
-  Ready add-op = (at + 5 ≤ 4096) × Direct words first (wordBehind code at 1) × Direct words second (wordBehind code at 3) × Direct words third
-      (wordBehind code at 4)
-  Ready subtract-op = (at + 5 ≤ 4096) × Direct words first (wordBehind code at 1) × Direct words second (wordBehind code at 3) × Direct words third
-      (wordBehind code at 4)
-  Ready compare-op = (at + 5 ≤ 4096) × Direct words first (wordBehind code at 1) × Direct words second (wordBehind code at 3) × Direct words third
-      (wordBehind code at 4)
-  Ready branch-op = (at + 3 ≤ 4096) × Direct words first (wordBehind code at 1) × Direct words second (wordBehind code at 2)
-  Ready goto-op = (at + 2 ≤ 4096) × Direct words first (wordBehind code at 1)
+  Ready constant-op = (at + 4 ≤ 4096) × Direct cells first (wordAfter code at 1)
+  Ready add-op = (at + 5 ≤ 4096) × Direct cells first (wordAfter code at 1) × Direct cells second (wordAfter code at 3) × Direct cells third
+      (wordAfter code at 4)
+  Ready subtract-op = (at + 5 ≤ 4096) × Direct cells first (wordAfter code at 1) × Direct cells second (wordAfter code at 3) × Direct cells third
+      (wordAfter code at 4)
+  Ready compare-op = (at + 5 ≤ 4096) × Direct cells first (wordAfter code at 1) × Direct cells second (wordAfter code at 3) × Direct cells third
+      (wordAfter code at 4)
+  Ready branch-op = (at + 3 ≤ 4096) × Direct cells first (wordAfter code at 1) × Direct cells second (wordAfter code at 2)
+  Ready goto-op = (at + 2 ≤ 4096) × Direct cells first (wordAfter code at 1)
   Ready block-op = (at + 2 ≤ 4096) × (live ≤ 255)
-  Ready call-op = Calling code limit live at × Direct words first (wordBehind code at 1)
-  Ready pair-op = (at + 3 ≤ 4096) × Reachable words first (wordBehind code at 1) × Reachable words second (wordBehind code at 2)
-  Ready unpair-op = (at + 3 ≤ 4096) × Reachable words first (wordBehind code at 1) × Reachable words second (wordBehind code at 2)
-  Ready query-op = (at + 4 ≤ 4096) × Reachable words first (wordBehind code at 1) × Reachable words second (wordBehind code at 2) × Reachable words third
-      (wordBehind code at 3)
-  Ready constant-formal-op = (at + 4 ≤ 4096) × Reachable words first (wordBehind code at 1)
-  Ready arithmetic-formal-op = (at + 5 ≤ 4096) × Reachable words first (wordBehind code at 1) × Reachable words second (wordBehind code at 3)
-      × Reachable words third (wordBehind code at 4)
-  Ready branch-formal-op = (at + 3 ≤ 4096) × Reachable words first (wordBehind code at 1) × Reachable words second (wordBehind code at 2)
-  Ready goto-formal-op = (at + 2 ≤ 4096) × ThroughFormal words first (wordBehind code at 1)
-  Ready call-formal-op = Calling code limit live at × ThroughFormal words first (wordBehind code at 1)
-      × FormalsBefore code (leadIn (heldBy words first (wordBehind code at 1)))
+  Ready call-op = Calling code activations live at × Direct cells first (wordAfter code at 1)
+  Ready pair-op = (at + 3 ≤ 4096) × Reachable cells first (wordAfter code at 1) × Reachable cells second (wordAfter code at 2)
+  Ready unpair-op = (at + 3 ≤ 4096) × Reachable cells first (wordAfter code at 1) × Reachable cells second (wordAfter code at 2)
+  Ready query-op = (at + 4 ≤ 4096) × Reachable cells first (wordAfter code at 1) × Reachable cells second (wordAfter code at 2) × Reachable cells third
+      (wordAfter code at 3)
+  Ready constant-formal-op = (at + 4 ≤ 4096) × Reachable cells first (wordAfter code at 1)
+  Ready arithmetic-formal-op = (at + 5 ≤ 4096) × Reachable cells first (wordAfter code at 1) × Reachable cells second (wordAfter code at 3)
+      × Reachable cells third (wordAfter code at 4)
+  Ready branch-formal-op = (at + 3 ≤ 4096) × Reachable cells first (wordAfter code at 1) × Reachable cells second (wordAfter code at 2)
+  Ready goto-formal-op = (at + 2 ≤ 4096) × ThroughFormal cells first (wordAfter code at 1)
+  Ready call-formal-op = Calling code activations live at × ThroughFormal cells first (wordAfter code at 1)
+      × FormalsBefore code (leadIn (heldBy cells first (wordAfter code at 1)))
 
 module _ (firstOf : ℕ → ℕ) (code : List ℕ) (at first second third : ℕ) where
   -- the names in one, two and three fields
   abbrev pub One : ℕ → Type 0
-  One i = first ≡ firstOf (wordBehind code at i)
+  One i = first ≡ firstOf (wordAfter code at i)
 
   abbrev pub Two : ℕ → ℕ → Type 0
-  Two i j = (first ≡ firstOf (wordBehind code at i)) × (second ≡ firstOf (wordBehind code at j))
+  Two i j = (first ≡ firstOf (wordAfter code at i)) × (second ≡ firstOf (wordAfter code at j))
 
   abbrev pub Three : ℕ → ℕ → ℕ → Type 0
-  Three i j k = (first ≡ firstOf (wordBehind code at i)) × (second ≡ firstOf (wordBehind code at j)) × (third ≡ firstOf (wordBehind code at k))
+  Three i j k = (first ≡ firstOf (wordAfter code at i)) × (second ≡ firstOf (wordAfter code at j)) × (third ≡ firstOf (wordAfter code at k))
 
   abbrev pub Leads : Op → Type 0
   Leads constant-op = One 1
@@ -86,19 +86,19 @@ module _ (firstOf : ℕ → ℕ) (code : List ℕ) (at first second third : ℕ)
 
 -- the words as they are before a call's arguments are handed on
 unfoldable pub unhanded : Move → List ℤ → List ℤ → List ℤ
-unhanded (On p) words words′ = words′
-unhanded (Asks p g m t a) words words′ = words′
-unhanded (Jump h p) words words′ = words′
-unhanded (Enter b h p) words words′ = words
-unhanded (Stop c) words words′ = words′
+unhanded (On p) cells cells′ = cells′
+unhanded (Asks p g m t a) cells cells′ = cells′
+unhanded (Jump h p) cells cells′ = cells′
+unhanded (Enter b h p) cells cells′ = cells
+unhanded (Stop c) cells cells′ = cells′
 
 abbrev pub Did : Happened → List ℤ → Move → List ℤ → Type 0
-Did h words r words′ = (r ≡ h .move) × (words′ ≡ unhanded (h .move) words (h .words))
+Did h cells r cells′ = (r ≡ h .move) × (cells′ ≡ unhanded (h .move) cells (h .cells))
 
 -- a call of the procedure that activation `home` declares and whose body stands at a place: 22, or it is entered
 unfoldable pub callMove : List ℕ → ℕ → ℕ → ℕ → ℕ → ℕ → Move
-callMove code limit live at home body =
-    elim (leb limit (live + 1)) [ true ↦ Stop NoActivationLeft | false ↦ Enter body home (at + 3 + wordBehind code at 2) ]
+callMove code activations live at home body =
+    elim (leb activations (live + 1)) [ true ↦ Stop NoActivationLeft | false ↦ Enter body home (at + 3 + wordAfter code at 2) ]
 
 -- The classes: GO, BK, CL, and KN of a formal; AR of which none is a formal, by its operation, and AR of which one is; IF; AD and RM; QY; KN of no formal.
 abbrev pub oneClass : ℕ

@@ -26,85 +26,85 @@ use Rattle.run_statements.specs.Pieces.{only-words, blockMove}
 use Rattle.run_statements.specs.Doing.{call-agreed}
 use Rattle.run_statements.specs.Scenes.{Done, constant-same, arithmetic-same, goto-same, branch-same, block-same, call-formal-same, change-same}
 use Rattle.run_statements.specs.Scenes.{query-same, acts}
-use Rattle.run_cells.specs.Asking.{wordBehind, unhanded, Did, callMove}
+use Rattle.run_cells.specs.Asking.{wordAfter, unhanded, Did, callMove}
 
 -- 22, or the procedure is entered
-module _ (code : List ℕ) (limit live at home body : ℕ) where
-  pub call-stops : limit ≤ live + 1 → Stop NoActivationLeft ≡ callMove code limit live at home body
+module _ (code : List ℕ) (activations live at home body : ℕ) where
+  pub call-stops : activations ≤ live + 1 → Stop NoActivationLeft ≡ callMove code activations live at home body
   unfolding callMove
-  call-stops h = let e = le-leb limit (live + 1) h in rw (callMove, e)
+  call-stops h = let e = le-leb activations (live + 1) h in rw (callMove, e)
 
-  pub call-enters : live + 1 < limit → {count : ℕ} → count ≡ wordBehind code at 2 → Enter body home (at + 3 + count) ≡ callMove code limit live at home body
+  pub call-enters : live + 1 < activations → {count : ℕ} → count ≡ wordAfter code at 2 → Enter body home (at + 3 + count) ≡ callMove code activations live at home body
   unfolding callMove
-  call-enters h c = let e = lt-leb limit (live + 1) h in rw (callMove, e, c)
+  call-enters h c = let e = lt-leb activations (live + 1) h in rw (callMove, e, c)
 
 -- where the words stay there is nothing to hand on
-unhanded-same : (m : Move) (words : List ℤ) → words ≡ unhanded m words words
+unhanded-same : (m : Move) (cells : List ℤ) → cells ≡ unhanded m cells cells
 unfolding unhanded
-unhanded-same (On p) words = refl
-unhanded-same (Asks p g m t a) words = refl
-unhanded-same (Jump h p) words = refl
-unhanded-same (Enter b h p) words = refl
-unhanded-same (Stop c) words = refl
+unhanded-same (On p) cells = refl
+unhanded-same (Asks p g m t a) cells = refl
+unhanded-same (Jump h p) cells = refl
+unhanded-same (Enter b h p) cells = refl
+unhanded-same (Stop c) cells = refl
 
 module _ (F : Finding) (s : Scene) where
-  pub did : (p : Op) → opOf (getD (s .code) (s .at) 0) ≡ p → {r : Move} {words′ : List ℤ} → Did (happens F s p) (s .words) r words′ → Did (acting F s) (s .words) r words′
-  did p e {r} {words′} h = subst (λ (x : Happened). Did x (s .words) r words′) (acts F s p e) h
+  pub did : (p : Op) → opOf (getD (s .code) (s .at) 0) ≡ p → {r : Move} {cells′ : List ℤ} → Did (happens F s p) (s .cells) r cells′ → Did (acting F s) (s .cells) r cells′
+  did p e {r} {cells′} h = subst (λ (x : Happened). Did x (s .cells) r cells′) (acts F s p e) h
 
   -- the scene as far as a statement looks at it
   abbrev o : Scene
-  o = only-words (s .code) (s .words) (s .at)
+  o = only-words (s .code) (s .cells) (s .at)
 
   abbrev t : Scene
-  t = sceneBy (s .code) (s .words) (s .limit) (s .live) (s .at)
+  t = sceneBy (s .code) (s .cells) (s .activations) (s .live) (s .at)
 
   -- statements that enter nothing
 
   pub constant-did :
-      {r : Move} {words′ : List ℤ} → (r ≡ doConstant F o .move) × (words′ ≡ doConstant F o .words) → Did (doConstant F s) (s .words) r words′
+      {r : Move} {cells′ : List ℤ} → (r ≡ doConstant F o .move) × (cells′ ≡ doConstant F o .cells) → Did (doConstant F s) (s .cells) r cells′
   unfolding doConstant rewrites unhanded
-  constant-did {r} {words′} d = constant-same F s r words′ (d .0) (d .1)
+  constant-did {r} {cells′} d = constant-same F s r cells′ (d .0) (d .1)
 
-  computed : (e : Effect) (words′ : List ℤ) → words′ ≡ unhanded (arithmeticMove F s e) (s .words) words′
+  computed : (e : Effect) (cells′ : List ℤ) → cells′ ≡ unhanded (arithmeticMove F s e) (s .cells) cells′
   unfolding arithmeticMove unhanded
-  computed Stored words′ = refl
-  computed (Refused c) words′ = refl
+  computed Stored cells′ = refl
+  computed (Refused c) cells′ = refl
 
   pub arithmetic-did :
-      (f : Operation) {r : Move} {words′ : List ℤ} → (r ≡ doArithmetic F o f .move) × (words′ ≡ doArithmetic F o f .words) →
-      Did (doArithmetic F s f) (s .words) r words′
+      (f : Operation) {r : Move} {cells′ : List ℤ} → (r ≡ doArithmetic F o f .move) × (cells′ ≡ doArithmetic F o f .cells) →
+      Did (doArithmetic F s f) (s .cells) r cells′
   unfolding doArithmetic rewrites
-  arithmetic-did f {r} {words′} d =
-      let h = arithmetic-same F s f r words′ (d .0) (d .1) in
-      (h .0, h .1 ∙ computed (effectOf (compute f (valueOf F s (field s 3)) (valueOf F s (field s 4)))) (doArithmetic F s f .words))
+  arithmetic-did f {r} {cells′} d =
+      let h = arithmetic-same F s f r cells′ (d .0) (d .1) in
+      (h .0, h .1 ∙ computed (effectOf (compute f (valueOf F s (field s 3)) (valueOf F s (field s 4)))) (doArithmetic F s f .cells))
 
   -- statements that leave the words
 
-  left : {h : Happened} {r : Move} → Done h r (s .words) → Did h (s .words) r (s .words)
-  left {h} d = (d .0, unhanded-same (h .move) (s .words) ∙ ap (unhanded (h .move) (s .words)) (d .1))
+  left : {h : Happened} {r : Move} → Done h r (s .cells) → Did h (s .cells) r (s .cells)
+  left {h} d = (d .0, unhanded-same (h .move) (s .cells) ∙ ap (unhanded (h .move) (s .cells)) (d .1))
 
-  pub goto-did : {r : Move} → r ≡ doGoto F o .move → Did (doGoto F s) (s .words) r (s .words)
+  pub goto-did : {r : Move} → r ≡ doGoto F o .move → Did (doGoto F s) (s .cells) r (s .cells)
   goto-did {r} e = left (goto-same F s r e)
 
-  pub branch-did : {r : Move} → r ≡ doBranch F o .move → Did (doBranch F s) (s .words) r (s .words)
+  pub branch-did : {r : Move} → r ≡ doBranch F o .move → Did (doBranch F s) (s .cells) r (s .cells)
   branch-did {r} e = left (branch-same F s r e)
 
-  pub block-did : {r : Move} → r ≡ blockMove (s .code) (s .limit) (s .live) (s .at) → Did (doBlock F s) (s .words) r (s .words)
+  pub block-did : {r : Move} → r ≡ blockMove (s .code) (s .activations) (s .live) (s .at) → Did (doBlock F s) (s .cells) r (s .cells)
   block-did {r} e = left (block-same F s r e)
 
-  pub change-did : (a : Ask) {r : Move} → r ≡ doChange F o a .move → Did (doChange F s a) (s .words) r (s .words)
+  pub change-did : (a : Ask) {r : Move} → r ≡ doChange F o a .move → Did (doChange F s a) (s .cells) r (s .cells)
   change-did a {r} e = left (change-same F s a r e)
 
-  pub query-did : {r : Move} → r ≡ doQuery F o .move → Did (doQuery F s) (s .words) r (s .words)
+  pub query-did : {r : Move} → r ≡ doQuery F o .move → Did (doQuery F s) (s .cells) r (s .cells)
   query-did {r} e = left (query-same F s r e)
 
   -- calls
 
   abbrev moveTo : ℕ → ℕ → Move
-  moveTo home body = callMove (s .code) (s .limit) (s .live) (s .at) home body
+  moveTo home body = callMove (s .code) (s .activations) (s .live) (s .at) home body
 
   abbrev full : Bool
-  full = leb (s .limit) (s .live + 1)
+  full = leb (s .activations) (s .live + 1)
 
   call-is : moveTo (F .home (field s 1)) (F .target (field s 1)) ≡ doCall F s .move
   unfolding doCall noRoom rewrites moves callMove
@@ -123,7 +123,7 @@ module _ (F : Finding) (s : Scene) where
   call-formal-move p q a e = call-move p q e ∙ ap (λ (x : Happened). x .move) (call-agreed F s q a)
 
   abbrev Waits : Happened → Type 0
-  Waits h = s .words ≡ unhanded (h .move) (s .words) (h .words)
+  Waits h = s .cells ≡ unhanded (h .move) (s .cells) (h .cells)
 
   call-waits : Waits (doCall F s)
   unfolding doCall noRoom rewrites moves unhanded
@@ -143,8 +143,8 @@ module _ (F : Finding) (s : Scene) where
 
   pub call-did :
       {home body : ℕ} {r : Move} → home ≡ F .home (field s 1) → body ≡ F .target (field s 1) → r ≡ moveTo home body →
-      Did (doCall F s) (s .words) r (s .words)
+      Did (doCall F s) (s .cells) r (s .cells)
   call-did p q e = (call-move p q e, call-waits)
 
-  pub call-formal-did : {r : Move} → r ≡ doCallFormal F t .move → Did (doCallFormal F s) (s .words) r (s .words)
-  call-formal-did {r} e = (call-formal-same F s r (doCallFormal F t .words) e refl .0, call-formal-waits)
+  pub call-formal-did : {r : Move} → r ≡ doCallFormal F t .move → Did (doCallFormal F s) (s .cells) r (s .cells)
+  call-formal-did {r} e = (call-formal-same F s r (doCallFormal F t .cells) e refl .0, call-formal-waits)

@@ -26,132 +26,132 @@ ghost use Rattle.run_moves.specs.Acting.{sceneBy};
 ghost use Rattle.run_statements.specs.Pieces.{only-words, FormalsBefore};
 ghost use Rattle.steps.specs.Finding.{byFirst};
 ghost use Rattle.run_cells.specs.Finding.{Reachable, Direct, ThroughFormal};
-ghost use Rattle.run_cells.specs.Asking.{wordBehind, Calling, callMove};
+ghost use Rattle.run_cells.specs.Asking.{wordAfter, Calling, callMove};
 
-pub fn do_constant(code: &[u32; 4096], words: &mut [i32; 8224], at: usize, first: usize) -> Move
-    requires { ⌜ (at + 4 ≤ 4096) × Direct (now words) first (wordBehind (now code) at 1) ⌝ }
-    ensures { λ r. ⌜ ((firstOf : ℕ → ℕ) → first ≡ firstOf (wordBehind (now (code .entry)) at 1) → (r ≡ doConstant (byFirst (now (words .entry)) firstOf) (only-words (now (code .entry)) (now (words .entry)) at) .move) × (now (words .exit) ≡ doConstant (byFirst (now (words .entry)) firstOf) (only-words (now (code .entry)) (now (words .entry)) at) .words)) ⌝ }
+pub fn do_constant(code: &[u32; 4096], cells: &mut [i32; 8224], at: usize, first: usize) -> Move
+    requires { ⌜ (at + 4 ≤ 4096) × Direct (now cells) first (wordAfter (now code) at 1) ⌝ }
+    ensures { λ r. ⌜ ((firstOf : ℕ → ℕ) → first ≡ firstOf (wordAfter (now (code .entry)) at 1) → (r ≡ doConstant (byFirst (now (cells .entry)) firstOf) (only-words (now (code .entry)) (now (cells .entry)) at) .move) × (now (cells .exit) ≡ doConstant (byFirst (now (cells .entry)) firstOf) (only-words (now (code .entry)) (now (cells .entry)) at) .cells)) ⌝ }
 {
-    constant(code, words, own(code, at + 1, first), at)
+    constant(code, cells, own(code, at + 1, first), at)
 }
 
 pub fn do_constant_formal(
     code: &[u32; 4096],
-    words: &mut [i32; 8224],
+    cells: &mut [i32; 8224],
     at: usize,
     first: usize,
 ) -> Move
-    requires { ⌜ (at + 4 ≤ 4096) × Reachable (now words) first (wordBehind (now code) at 1) ⌝ }
-    ensures { λ r. ⌜ ((firstOf : ℕ → ℕ) → first ≡ firstOf (wordBehind (now (code .entry)) at 1) → (r ≡ doConstant (byFirst (now (words .entry)) firstOf) (only-words (now (code .entry)) (now (words .entry)) at) .move) × (now (words .exit) ≡ doConstant (byFirst (now (words .entry)) firstOf) (only-words (now (code .entry)) (now (words .entry)) at) .words)) ⌝ }
+    requires { ⌜ (at + 4 ≤ 4096) × Reachable (now cells) first (wordAfter (now code) at 1) ⌝ }
+    ensures { λ r. ⌜ ((firstOf : ℕ → ℕ) → first ≡ firstOf (wordAfter (now (code .entry)) at 1) → (r ≡ doConstant (byFirst (now (cells .entry)) firstOf) (only-words (now (code .entry)) (now (cells .entry)) at) .move) × (now (cells .exit) ≡ doConstant (byFirst (now (cells .entry)) firstOf) (only-words (now (code .entry)) (now (cells .entry)) at) .cells)) ⌝ }
 {
-    constant(code, words, cell(code, words, at + 1, first), at)
+    constant(code, cells, cell(code, cells, at + 1, first), at)
 }
 
 pub fn do_add(
     code: &[u32; 4096],
-    words: &mut [i32; 8224],
+    cells: &mut [i32; 8224],
     at: usize,
     first: usize,
     second: usize,
     third: usize,
 ) -> Move
-    requires { ⌜ (at + 5 ≤ 4096) × Direct (now words) first (wordBehind (now code) at 1) × Direct (now words) second (wordBehind (now code) at 3) × Direct (now words) third (wordBehind (now code) at 4) ⌝ }
-    ensures { λ r. ⌜ ((firstOf : ℕ → ℕ) → first ≡ firstOf (wordBehind (now (code .entry)) at 1) → second ≡ firstOf (wordBehind (now (code .entry)) at 3) → third ≡ firstOf (wordBehind (now (code .entry)) at 4) → (r ≡ doArithmetic (byFirst (now (words .entry)) firstOf) (only-words (now (code .entry)) (now (words .entry)) at) plus .move) × (now (words .exit) ≡ doArithmetic (byFirst (now (words .entry)) firstOf) (only-words (now (code .entry)) (now (words .entry)) at) plus .words)) ⌝ }
+    requires { ⌜ (at + 5 ≤ 4096) × Direct (now cells) first (wordAfter (now code) at 1) × Direct (now cells) second (wordAfter (now code) at 3) × Direct (now cells) third (wordAfter (now code) at 4) ⌝ }
+    ensures { λ r. ⌜ ((firstOf : ℕ → ℕ) → first ≡ firstOf (wordAfter (now (code .entry)) at 1) → second ≡ firstOf (wordAfter (now (code .entry)) at 3) → third ≡ firstOf (wordAfter (now (code .entry)) at 4) → (r ≡ doArithmetic (byFirst (now (cells .entry)) firstOf) (only-words (now (code .entry)) (now (cells .entry)) at) plus .move) × (now (cells .exit) ≡ doArithmetic (byFirst (now (cells .entry)) firstOf) (only-words (now (code .entry)) (now (cells .entry)) at) plus .cells)) ⌝ }
 {
     let target = own(code, at + 1, first);
     let left = own(code, at + 3, second);
     let right = own(code, at + 4, third);
-    computed(run_words::add(words, target, left, right), at)
+    computed(run_words::add(cells, target, left, right), at)
 }
 
 pub fn do_subtract(
     code: &[u32; 4096],
-    words: &mut [i32; 8224],
+    cells: &mut [i32; 8224],
     at: usize,
     first: usize,
     second: usize,
     third: usize,
 ) -> Move
-    requires { ⌜ (at + 5 ≤ 4096) × Direct (now words) first (wordBehind (now code) at 1) × Direct (now words) second (wordBehind (now code) at 3) × Direct (now words) third (wordBehind (now code) at 4) ⌝ }
-    ensures { λ r. ⌜ ((firstOf : ℕ → ℕ) → first ≡ firstOf (wordBehind (now (code .entry)) at 1) → second ≡ firstOf (wordBehind (now (code .entry)) at 3) → third ≡ firstOf (wordBehind (now (code .entry)) at 4) → (r ≡ doArithmetic (byFirst (now (words .entry)) firstOf) (only-words (now (code .entry)) (now (words .entry)) at) minus .move) × (now (words .exit) ≡ doArithmetic (byFirst (now (words .entry)) firstOf) (only-words (now (code .entry)) (now (words .entry)) at) minus .words)) ⌝ }
+    requires { ⌜ (at + 5 ≤ 4096) × Direct (now cells) first (wordAfter (now code) at 1) × Direct (now cells) second (wordAfter (now code) at 3) × Direct (now cells) third (wordAfter (now code) at 4) ⌝ }
+    ensures { λ r. ⌜ ((firstOf : ℕ → ℕ) → first ≡ firstOf (wordAfter (now (code .entry)) at 1) → second ≡ firstOf (wordAfter (now (code .entry)) at 3) → third ≡ firstOf (wordAfter (now (code .entry)) at 4) → (r ≡ doArithmetic (byFirst (now (cells .entry)) firstOf) (only-words (now (code .entry)) (now (cells .entry)) at) minus .move) × (now (cells .exit) ≡ doArithmetic (byFirst (now (cells .entry)) firstOf) (only-words (now (code .entry)) (now (cells .entry)) at) minus .cells)) ⌝ }
 {
     let target = own(code, at + 1, first);
     let left = own(code, at + 3, second);
     let right = own(code, at + 4, third);
-    computed(run_words::subtract(words, target, left, right), at)
+    computed(run_words::subtract(cells, target, left, right), at)
 }
 
 pub fn do_compare(
     code: &[u32; 4096],
-    words: &mut [i32; 8224],
+    cells: &mut [i32; 8224],
     at: usize,
     first: usize,
     second: usize,
     third: usize,
 ) -> Move
-    requires { ⌜ (at + 5 ≤ 4096) × Direct (now words) first (wordBehind (now code) at 1) × Direct (now words) second (wordBehind (now code) at 3) × Direct (now words) third (wordBehind (now code) at 4) ⌝ }
-    ensures { λ r. ⌜ ((firstOf : ℕ → ℕ) → first ≡ firstOf (wordBehind (now (code .entry)) at 1) → second ≡ firstOf (wordBehind (now (code .entry)) at 3) → third ≡ firstOf (wordBehind (now (code .entry)) at 4) → (r ≡ doArithmetic (byFirst (now (words .entry)) firstOf) (only-words (now (code .entry)) (now (words .entry)) at) less .move) × (now (words .exit) ≡ doArithmetic (byFirst (now (words .entry)) firstOf) (only-words (now (code .entry)) (now (words .entry)) at) less .words)) ⌝ }
+    requires { ⌜ (at + 5 ≤ 4096) × Direct (now cells) first (wordAfter (now code) at 1) × Direct (now cells) second (wordAfter (now code) at 3) × Direct (now cells) third (wordAfter (now code) at 4) ⌝ }
+    ensures { λ r. ⌜ ((firstOf : ℕ → ℕ) → first ≡ firstOf (wordAfter (now (code .entry)) at 1) → second ≡ firstOf (wordAfter (now (code .entry)) at 3) → third ≡ firstOf (wordAfter (now (code .entry)) at 4) → (r ≡ doArithmetic (byFirst (now (cells .entry)) firstOf) (only-words (now (code .entry)) (now (cells .entry)) at) less .move) × (now (cells .exit) ≡ doArithmetic (byFirst (now (cells .entry)) firstOf) (only-words (now (code .entry)) (now (cells .entry)) at) less .cells)) ⌝ }
 {
     let target = own(code, at + 1, first);
     let left = own(code, at + 3, second);
     let right = own(code, at + 4, third);
-    run_words::compare(words, target, left, right);
+    run_words::compare(cells, target, left, right);
     Move::On(at + 5)
 }
 
 pub fn do_arithmetic_formal(
     code: &[u32; 4096],
-    words: &mut [i32; 8224],
+    cells: &mut [i32; 8224],
     at: usize,
     first: usize,
     second: usize,
     third: usize,
 ) -> Move
-    requires { ⌜ (at + 5 ≤ 4096) × Reachable (now words) first (wordBehind (now code) at 1) × Reachable (now words) second (wordBehind (now code) at 3) × Reachable (now words) third (wordBehind (now code) at 4) ⌝ }
-    ensures { λ r. ⌜ ((firstOf : ℕ → ℕ) → first ≡ firstOf (wordBehind (now (code .entry)) at 1) → second ≡ firstOf (wordBehind (now (code .entry)) at 3) → third ≡ firstOf (wordBehind (now (code .entry)) at 4) → (r ≡ doArithmetic (byFirst (now (words .entry)) firstOf) (only-words (now (code .entry)) (now (words .entry)) at) (operationOf (wordBehind (now (code .entry)) at 2)) .move) × (now (words .exit) ≡ doArithmetic (byFirst (now (words .entry)) firstOf) (only-words (now (code .entry)) (now (words .entry)) at) (operationOf (wordBehind (now (code .entry)) at 2)) .words)) ⌝ }
+    requires { ⌜ (at + 5 ≤ 4096) × Reachable (now cells) first (wordAfter (now code) at 1) × Reachable (now cells) second (wordAfter (now code) at 3) × Reachable (now cells) third (wordAfter (now code) at 4) ⌝ }
+    ensures { λ r. ⌜ ((firstOf : ℕ → ℕ) → first ≡ firstOf (wordAfter (now (code .entry)) at 1) → second ≡ firstOf (wordAfter (now (code .entry)) at 3) → third ≡ firstOf (wordAfter (now (code .entry)) at 4) → (r ≡ doArithmetic (byFirst (now (cells .entry)) firstOf) (only-words (now (code .entry)) (now (cells .entry)) at) (operationOf (wordAfter (now (code .entry)) at 2)) .move) × (now (cells .exit) ≡ doArithmetic (byFirst (now (cells .entry)) firstOf) (only-words (now (code .entry)) (now (cells .entry)) at) (operationOf (wordAfter (now (code .entry)) at 2)) .cells)) ⌝ }
 {
-    let target = cell(code, words, at + 1, first);
-    let left = cell(code, words, at + 3, second);
-    let right = cell(code, words, at + 4, third);
+    let target = cell(code, cells, at + 1, first);
+    let left = cell(code, cells, at + 3, second);
+    let right = cell(code, cells, at + 4, third);
     let operation = code_at(code, at + 2);
     if operation == 0 {
-        return computed(run_words::add(words, target, left, right), at);
+        return computed(run_words::add(cells, target, left, right), at);
     }
     if operation == 1 {
-        return computed(run_words::subtract(words, target, left, right), at);
+        return computed(run_words::subtract(cells, target, left, right), at);
     }
-    run_words::compare(words, target, left, right);
+    run_words::compare(cells, target, left, right);
     Move::On(at + 5)
 }
 
 // GO
 pub fn do_goto(code: &[u32; 4096], at: usize, first: usize) -> Move
     requires { ⌜ at + 2 ≤ 4096 ⌝ }
-    ensures { λ r. ⌜ r ≡ Move.Jump (activationIn first) (targetIn (wordBehind (now (code .entry)) at 1)) ⌝ }
+    ensures { λ r. ⌜ r ≡ Move.Jump (activationIn first) (targetIn (wordAfter (now (code .entry)) at 1)) ⌝ }
 {
     Move::Jump(activation_of(first), target_of(code_at(code, at + 1)))
 }
 
-pub fn do_goto_formal(code: &[u32; 4096], words: &[i32; 8224], at: usize, first: usize) -> Move
-    requires { ⌜ (at + 2 ≤ 4096) × ThroughFormal (now words) first (wordBehind (now code) at 1) ⌝ }
-    ensures { λ r. ⌜ ((firstOf : ℕ → ℕ) → first ≡ firstOf (wordBehind (now (code .entry)) at 1) → r ≡ doGoto (byFirst (now (words .entry)) firstOf) (only-words (now (code .entry)) (now (words .entry)) at) .move) ⌝ }
+pub fn do_goto_formal(code: &[u32; 4096], cells: &[i32; 8224], at: usize, first: usize) -> Move
+    requires { ⌜ (at + 2 ≤ 4096) × ThroughFormal (now cells) first (wordAfter (now code) at 1) ⌝ }
+    ensures { λ r. ⌜ ((firstOf : ℕ → ℕ) → first ≡ firstOf (wordAfter (now (code .entry)) at 1) → r ≡ doGoto (byFirst (now (cells .entry)) firstOf) (only-words (now (code .entry)) (now (cells .entry)) at) .move) ⌝ }
 {
-    let to = held(code, words, at + 1, first);
+    let to = held(code, cells, at + 1, first);
     Move::Jump(activation_of(cell_of(to)), lead_of(to))
 }
 
 // IF
 pub fn do_branch(
     code: &[u32; 4096],
-    words: &[i32; 8224],
+    cells: &[i32; 8224],
     at: usize,
     first: usize,
     second: usize,
 ) -> Move
-    requires { ⌜ (at + 3 ≤ 4096) × Direct (now words) first (wordBehind (now code) at 1) × Direct (now words) second (wordBehind (now code) at 2) ⌝ }
-    ensures { λ r. ⌜ ((firstOf : ℕ → ℕ) → first ≡ firstOf (wordBehind (now (code .entry)) at 1) → second ≡ firstOf (wordBehind (now (code .entry)) at 2) → r ≡ doBranch (byFirst (now (words .entry)) firstOf) (only-words (now (code .entry)) (now (words .entry)) at) .move) ⌝ }
+    requires { ⌜ (at + 3 ≤ 4096) × Direct (now cells) first (wordAfter (now code) at 1) × Direct (now cells) second (wordAfter (now code) at 2) ⌝ }
+    ensures { λ r. ⌜ ((firstOf : ℕ → ℕ) → first ≡ firstOf (wordAfter (now (code .entry)) at 1) → second ≡ firstOf (wordAfter (now (code .entry)) at 2) → r ≡ doBranch (byFirst (now (cells .entry)) firstOf) (only-words (now (code .entry)) (now (cells .entry)) at) .move) ⌝ }
 {
-    if words[own(code, at + 2, second)] == 0 {
+    if cells[own(code, at + 2, second)] == 0 {
         return Move::On(at + 3);
     }
     do_goto(code, at, first)
@@ -159,48 +159,48 @@ pub fn do_branch(
 
 pub fn do_branch_formal(
     code: &[u32; 4096],
-    words: &[i32; 8224],
+    cells: &[i32; 8224],
     at: usize,
     first: usize,
     second: usize,
 ) -> Move
-    requires { ⌜ (at + 3 ≤ 4096) × Reachable (now words) first (wordBehind (now code) at 1) × Reachable (now words) second (wordBehind (now code) at 2) ⌝ }
-    ensures { λ r. ⌜ ((firstOf : ℕ → ℕ) → first ≡ firstOf (wordBehind (now (code .entry)) at 1) → second ≡ firstOf (wordBehind (now (code .entry)) at 2) → r ≡ doBranch (byFirst (now (words .entry)) firstOf) (only-words (now (code .entry)) (now (words .entry)) at) .move) ⌝ }
+    requires { ⌜ (at + 3 ≤ 4096) × Reachable (now cells) first (wordAfter (now code) at 1) × Reachable (now cells) second (wordAfter (now code) at 2) ⌝ }
+    ensures { λ r. ⌜ ((firstOf : ℕ → ℕ) → first ≡ firstOf (wordAfter (now (code .entry)) at 1) → second ≡ firstOf (wordAfter (now (code .entry)) at 2) → r ≡ doBranch (byFirst (now (cells .entry)) firstOf) (only-words (now (code .entry)) (now (cells .entry)) at) .move) ⌝ }
 {
-    if words[cell(code, words, at + 2, second)] == 0 {
+    if cells[cell(code, cells, at + 2, second)] == 0 {
         return Move::On(at + 3);
     }
     if formal_of(code_at(code, at + 1)) == 0 {
         return do_goto(code, at, first);
     }
-    do_goto_formal(code, words, at, first)
+    do_goto_formal(code, cells, at, first)
 }
 
 // CL, once the procedure is found: the activation that declares it and the place of its body.
 fn enter_body(
     code: &[u32; 4096],
-    limit: usize,
+    activations: usize,
     live: usize,
     at: usize,
     home: usize,
     body: usize,
 ) -> Move
-    requires { ⌜ Calling (now code) limit live at ⌝ }
-    ensures { λ r. ⌜ r ≡ callMove (now (code .entry)) limit live at home body ⌝ }
+    requires { ⌜ Calling (now code) activations live at ⌝ }
+    ensures { λ r. ⌜ r ≡ callMove (now (code .entry)) activations live at home body ⌝ }
 {
-    if limit <= live + 1 {
+    if activations <= live + 1 {
         return Move::Stop(Stop::NoActivationLeft);
     }
     Move::Enter(body, home, at + 3 + code_at(code, at + 2))
 }
 
-pub fn do_call(code: &[u32; 4096], limit: usize, live: usize, at: usize, first: usize) -> Move
-    requires { ⌜ Calling (now code) limit live at ⌝ }
-    ensures { λ r. ⌜ r ≡ callMove (now (code .entry)) limit live at (activationIn first) (targetIn (wordBehind (now (code .entry)) at 1)) ⌝ }
+pub fn do_call(code: &[u32; 4096], activations: usize, live: usize, at: usize, first: usize) -> Move
+    requires { ⌜ Calling (now code) activations live at ⌝ }
+    ensures { λ r. ⌜ r ≡ callMove (now (code .entry)) activations live at (activationIn first) (targetIn (wordAfter (now (code .entry)) at 1)) ⌝ }
 {
     enter_body(
         code,
-        limit,
+        activations,
         live,
         at,
         activation_of(first),
@@ -211,16 +211,16 @@ pub fn do_call(code: &[u32; 4096], limit: usize, live: usize, at: usize, first: 
 // 26 goes before 22.
 pub fn do_call_formal(
     code: &[u32; 4096],
-    words: &[i32; 8224],
-    limit: usize,
+    cells: &[i32; 8224],
+    activations: usize,
     live: usize,
     at: usize,
     first: usize,
 ) -> Move
-    requires { ⌜ Calling (now code) limit live at × ThroughFormal (now words) first (wordBehind (now code) at 1) × FormalsBefore (now code) (leadIn (heldBy (now words) first (wordBehind (now code) at 1))) ⌝ }
-    ensures { λ r. ⌜ ((firstOf : ℕ → ℕ) → first ≡ firstOf (wordBehind (now (code .entry)) at 1) → r ≡ doCallFormal (byFirst (now (words .entry)) firstOf) (sceneBy (now (code .entry)) (now (words .entry)) limit live at) .move) ⌝ }
+    requires { ⌜ Calling (now code) activations live at × ThroughFormal (now cells) first (wordAfter (now code) at 1) × FormalsBefore (now code) (leadIn (heldBy (now cells) first (wordAfter (now code) at 1))) ⌝ }
+    ensures { λ r. ⌜ ((firstOf : ℕ → ℕ) → first ≡ firstOf (wordAfter (now (code .entry)) at 1) → r ≡ doCallFormal (byFirst (now (cells .entry)) firstOf) (sceneBy (now (code .entry)) (now (cells .entry)) activations live at) .move) ⌝ }
 {
-    let procedure = held(code, words, at + 1, first);
+    let procedure = held(code, cells, at + 1, first);
     let body = lead_of(procedure);
     let count = code_at(code, at + 2);
     if formals_of(code_at(code, body)) != count {
@@ -231,7 +231,7 @@ pub fn do_call_formal(
     }
     enter_body(
         code,
-        limit,
+        activations,
         live,
         at,
         activation_of(cell_of(procedure)),
@@ -242,34 +242,34 @@ pub fn do_call_formal(
 // AD and RM
 pub fn do_change(
     code: &[u32; 4096],
-    words: &[i32; 8224],
+    cells: &[i32; 8224],
     at: usize,
     first: usize,
     second: usize,
     ask: Ask,
 ) -> Move
-    requires { ⌜ (at + 3 ≤ 4096) × Reachable (now words) first (wordBehind (now code) at 1) × Reachable (now words) second (wordBehind (now code) at 2) ⌝ }
-    ensures { λ r. ⌜ ((firstOf : ℕ → ℕ) → first ≡ firstOf (wordBehind (now (code .entry)) at 1) → second ≡ firstOf (wordBehind (now (code .entry)) at 2) → r ≡ doChange (byFirst (now (words .entry)) firstOf) (only-words (now (code .entry)) (now (words .entry)) at) ask .move) ⌝ }
+    requires { ⌜ (at + 3 ≤ 4096) × Reachable (now cells) first (wordAfter (now code) at 1) × Reachable (now cells) second (wordAfter (now code) at 2) ⌝ }
+    ensures { λ r. ⌜ ((firstOf : ℕ → ℕ) → first ≡ firstOf (wordAfter (now (code .entry)) at 1) → second ≡ firstOf (wordAfter (now (code .entry)) at 2) → r ≡ doChange (byFirst (now (cells .entry)) firstOf) (only-words (now (code .entry)) (now (cells .entry)) at) ask .move) ⌝ }
 {
-    let group = cell(code, words, at + 1, first);
-    let member = cell(code, words, at + 2, second);
+    let group = cell(code, cells, at + 1, first);
+    let member = cell(code, cells, at + 2, second);
     Move::Table(at + 3, group, member, 0, ask)
 }
 
 // QY
 pub fn do_query(
     code: &[u32; 4096],
-    words: &[i32; 8224],
+    cells: &[i32; 8224],
     at: usize,
     first: usize,
     second: usize,
     third: usize,
 ) -> Move
-    requires { ⌜ (at + 4 ≤ 4096) × Reachable (now words) first (wordBehind (now code) at 1) × Reachable (now words) second (wordBehind (now code) at 2) × Reachable (now words) third (wordBehind (now code) at 3) ⌝ }
-    ensures { λ r. ⌜ ((firstOf : ℕ → ℕ) → first ≡ firstOf (wordBehind (now (code .entry)) at 1) → second ≡ firstOf (wordBehind (now (code .entry)) at 2) → third ≡ firstOf (wordBehind (now (code .entry)) at 3) → r ≡ doQuery (byFirst (now (words .entry)) firstOf) (only-words (now (code .entry)) (now (words .entry)) at) .move) ⌝ }
+    requires { ⌜ (at + 4 ≤ 4096) × Reachable (now cells) first (wordAfter (now code) at 1) × Reachable (now cells) second (wordAfter (now code) at 2) × Reachable (now cells) third (wordAfter (now code) at 3) ⌝ }
+    ensures { λ r. ⌜ ((firstOf : ℕ → ℕ) → first ≡ firstOf (wordAfter (now (code .entry)) at 1) → second ≡ firstOf (wordAfter (now (code .entry)) at 2) → third ≡ firstOf (wordAfter (now (code .entry)) at 3) → r ≡ doQuery (byFirst (now (cells .entry)) firstOf) (only-words (now (code .entry)) (now (cells .entry)) at) .move) ⌝ }
 {
-    let target = cell(code, words, at + 1, first);
-    let group = cell(code, words, at + 2, second);
-    let member = cell(code, words, at + 3, third);
+    let target = cell(code, cells, at + 1, first);
+    let group = cell(code, cells, at + 2, second);
+    let member = cell(code, cells, at + 3, third);
     Move::Table(at + 4, group, member, target, Ask::Query)
 }

@@ -1,5 +1,5 @@
 // The statements in classes: those of a class have as many names, and a function of their own that is handed the first cells of the activations that
-// declare these. The statement at a place is done as far as words go; where the run goes on is the answer. A call's arguments are not handed on
+// declare these. The statement at a place is done as far as cells go; where the run goes on is the answer. A call's arguments are not handed on
 // yet.
 use super::CLASS_ADD;
 use super::CLASS_ARITHMETIC_FORMAL;
@@ -50,64 +50,64 @@ pub fn class_of(code: &[u32; 4096], at: usize) -> usize
 // GO, BK, CL, and KN of a formal
 pub fn act_one(
     code: &[u32; 4096],
-    words: &mut [i32; 8224],
-    limit: usize,
+    cells: &mut [i32; 8224],
+    activations: usize,
     live: usize,
     at: usize,
     first: usize,
 ) -> Move
-    requires { ⌜ (at < 4096) × (classOf (opOf (getD (now code) at 0)) ≡ oneClass) × Ready (now code) (now words) limit live at first 0 0
+    requires { ⌜ (at < 4096) × (classOf (opOf (getD (now code) at 0)) ≡ oneClass) × Ready (now code) (now cells) activations live at first 0 0
         (opOf (getD (now code) at 0)) ⌝ }
     ensures { λ r. ⌜ ((firstOf : ℕ → ℕ) → Leads firstOf (now (code .entry)) at first 0 0 (opOf (getD (now (code .entry)) at 0))
-        → Did (acting (byFirst (now (words .entry)) firstOf) (sceneBy (now (code .entry)) (now (words .entry)) limit live at))
-        (now (words .entry)) r (now (words .exit))) ⌝ }
+        → Did (acting (byFirst (now (cells .entry)) firstOf) (sceneBy (now (code .entry)) (now (cells .entry)) activations live at))
+        (now (cells .entry)) r (now (cells .exit))) ⌝ }
 {
     match operation_of(code_at(code, at)) {
         layout::GOTO => arms::do_goto(code, at, first),
-        layout::BLOCK => run_statements::do_block(code, limit, live, at),
-        layout::CALL => arms::do_call(code, limit, live, at, first),
-        layout::CONSTANT_FORMAL => arms::do_constant_formal(code, words, at, first),
-        layout::GOTO_FORMAL => arms::do_goto_formal(code, words, at, first),
-        _ => arms::do_call_formal(code, words, limit, live, at, first),
+        layout::BLOCK => run_statements::do_block(code, activations, live, at),
+        layout::CALL => arms::do_call(code, activations, live, at, first),
+        layout::CONSTANT_FORMAL => arms::do_constant_formal(code, cells, at, first),
+        layout::GOTO_FORMAL => arms::do_goto_formal(code, cells, at, first),
+        _ => arms::do_call_formal(code, cells, activations, live, at, first),
     }
 }
 
 // IF
 pub fn act_branch(
     code: &[u32; 4096],
-    words: &[i32; 8224],
+    cells: &[i32; 8224],
     at: usize,
     first: usize,
     second: usize,
 ) -> Move
-    requires { ⌜ (at < 4096) × (classOf (opOf (getD (now code) at 0)) ≡ branchClass) × Ready (now code) (now words) 0 0 at first second 0
+    requires { ⌜ (at < 4096) × (classOf (opOf (getD (now code) at 0)) ≡ branchClass) × Ready (now code) (now cells) 0 0 at first second 0
         (opOf (getD (now code) at 0)) ⌝ }
-    ensures { λ r. ⌜ ((firstOf : ℕ → ℕ) (limit live : ℕ) → Leads firstOf (now (code .entry)) at first second 0 (opOf (getD (now (code .entry)) at 0))
-        → Did (acting (byFirst (now (words .entry)) firstOf) (sceneBy (now (code .entry)) (now (words .entry)) limit live at))
-        (now (words .entry)) r (now (words .entry))) ⌝ }
+    ensures { λ r. ⌜ ((firstOf : ℕ → ℕ) (activations live : ℕ) → Leads firstOf (now (code .entry)) at first second 0 (opOf (getD (now (code .entry)) at 0))
+        → Did (acting (byFirst (now (cells .entry)) firstOf) (sceneBy (now (code .entry)) (now (cells .entry)) activations live at))
+        (now (cells .entry)) r (now (cells .entry))) ⌝ }
 {
     match operation_of(code_at(code, at)) {
-        layout::BRANCH => arms::do_branch(code, words, at, first, second),
-        _ => arms::do_branch_formal(code, words, at, first, second),
+        layout::BRANCH => arms::do_branch(code, cells, at, first, second),
+        _ => arms::do_branch_formal(code, cells, at, first, second),
     }
 }
 
 // AD and RM
 pub fn act_pair(
     code: &[u32; 4096],
-    words: &[i32; 8224],
+    cells: &[i32; 8224],
     at: usize,
     first: usize,
     second: usize,
 ) -> Move
-    requires { ⌜ (at < 4096) × (classOf (opOf (getD (now code) at 0)) ≡ pairClass) × Ready (now code) (now words) 0 0 at first second 0
+    requires { ⌜ (at < 4096) × (classOf (opOf (getD (now code) at 0)) ≡ pairClass) × Ready (now code) (now cells) 0 0 at first second 0
         (opOf (getD (now code) at 0)) ⌝ }
-    ensures { λ r. ⌜ ((firstOf : ℕ → ℕ) (limit live : ℕ) → Leads firstOf (now (code .entry)) at first second 0 (opOf (getD (now (code .entry)) at 0))
-        → Did (acting (byFirst (now (words .entry)) firstOf) (sceneBy (now (code .entry)) (now (words .entry)) limit live at))
-        (now (words .entry)) r (now (words .entry))) ⌝ }
+    ensures { λ r. ⌜ ((firstOf : ℕ → ℕ) (activations live : ℕ) → Leads firstOf (now (code .entry)) at first second 0 (opOf (getD (now (code .entry)) at 0))
+        → Did (acting (byFirst (now (cells .entry)) firstOf) (sceneBy (now (code .entry)) (now (cells .entry)) activations live at))
+        (now (cells .entry)) r (now (cells .entry))) ⌝ }
 {
     match operation_of(code_at(code, at)) {
-        layout::ADD_PAIR => arms::do_change(code, words, at, first, second, Ask::Add),
-        _ => arms::do_change(code, words, at, first, second, Ask::Remove),
+        layout::ADD_PAIR => arms::do_change(code, cells, at, first, second, Ask::Add),
+        _ => arms::do_change(code, cells, at, first, second, Ask::Remove),
     }
 }

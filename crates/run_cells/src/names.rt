@@ -19,20 +19,20 @@ pub fn own(code: &[u32; 4096], place: usize, first: usize) -> usize
 }
 
 // What a formal holds: the cell of the name that it finally stands for, and what that leads to.
-pub fn held(code: &[u32; 4096], words: &[i32; 8224], place: usize, first: usize) -> usize
-    requires { ⌜ (place < 4096) × ThroughFormal (now words) first (getD (now code) place 0) ⌝ }
-    ensures { λ r. ⌜ (r ≡ heldBy (now (words .entry)) first (getD (now (code .entry)) place 0)) × (r < 2147483648) ⌝ }
+pub fn held(code: &[u32; 4096], cells: &[i32; 8224], place: usize, first: usize) -> usize
+    requires { ⌜ (place < 4096) × ThroughFormal (now cells) first (getD (now code) place 0) ⌝ }
+    ensures { λ r. ⌜ (r ≡ heldBy (now (cells .entry)) first (getD (now (code .entry)) place 0)) × (r < 2147483648) ⌝ }
 {
-    run_words::whole(words[own(code, place, first)])
+    run_words::whole(cells[own(code, place, first)])
 }
 
 // The cell of the declared name that the name finally stands for.
-pub fn cell(code: &[u32; 4096], words: &[i32; 8224], place: usize, first: usize) -> usize
-    requires { ⌜ (place < 4096) × Reachable (now words) first (getD (now code) place 0) ⌝ }
-    ensures { λ r. ⌜ (r ≡ cellBy (now (words .entry)) first (getD (now (code .entry)) place 0)) × (r < 8192) ⌝ }
+pub fn cell(code: &[u32; 4096], cells: &[i32; 8224], place: usize, first: usize) -> usize
+    requires { ⌜ (place < 4096) × Reachable (now cells) first (getD (now code) place 0) ⌝ }
+    ensures { λ r. ⌜ (r ≡ cellBy (now (cells .entry)) first (getD (now (code .entry)) place 0)) × (r < 8192) ⌝ }
 {
     if formal_of(code_at(code, place)) == 0 {
         return own(code, place, first);
     }
-    cell_of(held(code, words, place, first))
+    cell_of(held(code, cells, place, first))
 }

@@ -34,27 +34,27 @@ pub record Finding : Type 0 where
 -- What is there as a statement is done.
 pub record Scene : Type 0 where
   pub code : List ℕ
-  pub words : List ℤ
-  pub limit : ℕ
+  pub cells : List ℤ
+  pub activations : ℕ
   pub live : ℕ
   pub at : ℕ
 
 abbrev pub sceneBy : List ℕ → List ℤ → ℕ → ℕ → ℕ → Scene
-sceneBy code words limit live at = record { code = code; words = words; limit = limit; live = live; at = at }
+sceneBy code cells activations live at = record { code = code; cells = cells; activations = activations; live = live; at = at }
 
 pub record Happened : Type 0 where
   pub move : Move
-  pub words : List ℤ
+  pub cells : List ℤ
 
 -- the word so many places after the operation
 abbrev pub field : Scene → ℕ → ℕ
 field s i = getD (s .code) (s .at + i) 0
 
 unfoldable pub moves : Scene → Move → Happened
-moves s m = record { move = m; words = s .words }
+moves s m = record { move = m; cells = s .cells }
 
 unfoldable pub rewrites : Scene → Move → List ℤ → Happened
-rewrites s m ws = record { move = m; words = ws }
+rewrites s m ws = record { move = m; cells = ws }
 
 -- AR's operation by its field
 unfoldable pub operationOf : ℕ → Operation
@@ -69,10 +69,10 @@ setAll ws first (z ∷ zs) = setAll (set ws first z) (first + 1) zs
 module _ (F : Finding) (s : Scene) where
   -- the value of a variable by its word
   abbrev pub valueOf : ℕ → ℤ
-  valueOf w = getD (s .words) (F .cell w) (pos 0)
+  valueOf w = getD (s .cells) (F .cell w) (pos 0)
 
   unfoldable pub doConstant : Happened
-  doConstant = rewrites s (On (s .at + 4)) (set (s .words) (F .cell (field s 1)) (signed (field s 2)))
+  doConstant = rewrites s (On (s .at + 4)) (set (s .cells) (F .cell (field s 1)) (signed (field s 2)))
 
   unfoldable pub arithmeticMove : Done-or-not → Move
   arithmeticMove Done = On (s .at + 5)
@@ -81,7 +81,7 @@ module _ (F : Finding) (s : Scene) where
   unfoldable pub doArithmetic : Operation → Happened
   doArithmetic o =
       let z = compute o (valueOf (field s 3)) (valueOf (field s 4)) in
-      rewrites s (arithmeticMove (effectOf z)) (wordsOf (s .words) (F .cell (field s 1)) z)
+      rewrites s (arithmeticMove (effectOf z)) (wordsOf (s .cells) (F .cell (field s 1)) z)
 
   unfoldable pub doGoto : Happened
   doGoto = moves s (Jump (F .home (field s 1)) (F .target (field s 1)))
@@ -91,7 +91,7 @@ module _ (F : Finding) (s : Scene) where
 
   -- D activations are live: 22
   unfoldable pub noRoom : Bool
-  noRoom = leb (s .limit) (s .live + 1)
+  noRoom = leb (s .activations) (s .live + 1)
 
   unfoldable pub doBlock : Happened
   doBlock = elim noRoom [ true ↦ moves s (Halt NoActivationLeft) | false ↦ moves s (Enter (s .at) (s .live) (endIn (field s 1))) ]
@@ -106,7 +106,7 @@ module _ (F : Finding) (s : Scene) where
   doCall =
       elim noRoom [
         | true ↦ moves s (Halt NoActivationLeft)
-        | false ↦ rewrites s (Enter (F .target (field s 1)) (F .home (field s 1)) (s .at + 3 + field s 2)) (setAll (s .words) (32 * s .live + 32) (argumentsFrom (s .at + 3) (field s 2)))
+        | false ↦ rewrites s (Enter (F .target (field s 1)) (F .home (field s 1)) (s .at + 3 + field s 2)) (setAll (s .cells) (32 * s .live + 32) (argumentsFrom (s .at + 3) (field s 2)))
       ]
 
   -- 26 goes before 22: number and kinds of the arguments are those of the formals before the body
@@ -161,17 +161,17 @@ acting F s = happens F s (opOf (field s 0))
 -- What the table answers: the table after it or the cause to stop, and the words after it.
 pub record Answer : Type 0 where
   pub effect : Effect
-  pub words : List ℤ
+  pub cells : List ℤ
 
-module _ (limit : ℕ) (words : List ℤ) (table : Table) (group member target : ℕ) where
+module _ (limit : ℕ) (cells : List ℤ) (table : Table) (group member target : ℕ) where
   abbrev pub valueAt : ℕ → ℤ
-  valueAt cell = getD words cell (pos 0)
+  valueAt cell = getD cells cell (pos 0)
 
   unfoldable pub stored : Asked → Answer
-  stored (gives z) = record { effect = leaves table; words = set words target z }
-  stored (refuses c) = record { effect = halts c; words = words }
+  stored (gives z) = record { effect = leaves table; cells = set cells target z }
+  stored (refuses c) = record { effect = halts c; cells = cells }
 
   unfoldable pub answer : Ask → Answer
-  answer Add = record { effect = added limit (valueAt group) (valueAt member) table; words = words }
-  answer Remove = record { effect = removed (valueAt group) (valueAt member) table; words = words }
+  answer Add = record { effect = added limit (valueAt group) (valueAt member) table; cells = cells }
+  answer Remove = record { effect = removed (valueAt group) (valueAt member) table; cells = cells }
   answer Query = stored (queried (valueAt group) (valueAt member) table)

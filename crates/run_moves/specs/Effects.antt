@@ -1,4 +1,4 @@
--- The effects of statements on the array of words, which the code of `run_words` has.
+-- The effects of statements on the array of cells, which the code of `run_words` has.
 use Prim.Native.Nat.{ℕ, zero, suc, _+_, _*_, _≤_, _<_}
 use mathlib.Core.Bool.{Bool, true, false, _&&_}
 use mathlib.Core.List.{List}
@@ -18,11 +18,11 @@ unfoldable pub effectOf : ℤ → Effect
 effectOf z = elim (ltb (mag z) 2147483648) [ true ↦ Done | false ↦ Stopped ResultTooLarge ]
 
 unfoldable pub wordsOf : List ℤ → ℕ → ℤ → List ℤ
-wordsOf words cell z = elim (ltb (mag z) 2147483648) [ true ↦ set words cell z | false ↦ words ]
+wordsOf cells cell z = elim (ltb (mag z) 2147483648) [ true ↦ set cells cell z | false ↦ cells ]
 
 -- what is handed on of an argument with a word, found at a cell
 unfoldable pub handedWord : List ℤ → ℕ → ℕ → ℤ
-handedWord words w cell = elim (direct w) [ true ↦ pos (heldFrom cell (targetIn w)) | false ↦ getD words cell (pos 0) ]
+handedWord cells w cell = elim (direct w) [ true ↦ pos (heldFrom cell (targetIn w)) | false ↦ getD cells cell (pos 0) ]
 
 -- so many arguments' words and formals' kinds
 unfoldable pub sameKinds : List ℕ → ℕ → ℕ → ℕ → Bool

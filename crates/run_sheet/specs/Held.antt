@@ -33,7 +33,7 @@ use Rattle.run_sheet.specs.Sizes.{sizeAt, readable, end-sum, size-read}
 use Rattle.run_sheet.specs.Shown.{Passes, Counts, Owned, Shown, written-none}
 
 -- the arrays, with any links, hold the frames of a script that keeps the rules
-pub record Held (code : List ℕ) (words : List ℤ) (blocks nexts : List ℕ) (fs : List Frame) : Type 0 where
+pub record Held (code : List ℕ) (cells : List ℤ) (blocks nexts : List ℕ) (fs : List Frame) : Type 0 where
   pub name : ℕ
   pub program : Block
   pub keeps : Keeps program
@@ -42,9 +42,9 @@ pub record Held (code : List ℕ) (words : List ℤ) (blocks nexts : List ℕ) (
   pub bounded : BoundedFrames fs
   pub most : length fs ≤ 256
   pub links : List ℕ
-  pub holds : Holds fs blocks nexts links words
+  pub holds : Holds fs blocks nexts links cells
 
-module _ {code : List ℕ} {words : List ℤ} {blocks nexts : List ℕ} {fs : List Frame} (h : Held code words blocks nexts fs) (k : ℕ) (f : Frame) (e : getElem? fs k ≡ some f) where
+module _ {code : List ℕ} {cells : List ℤ} {blocks nexts : List ℕ} {fs : List Frame} (h : Held code cells blocks nexts fs) (k : ℕ) (f : Frame) (e : getElem? fs k ≡ some f) where
   around : Enclosure
   around = enclosureOf fs (f .link)
 
@@ -73,7 +73,7 @@ module _ {code : List ℕ} {words : List ℤ} {blocks nexts : List ℕ} {fs : Li
       record {
         readable = readable code (stmtPlace (f .text) (suc i)) (length (stmtFields x)) size (s .1) (omega arith);
         rises = omega arith;
-        behind = omega arith;
+        after = omega arith;
       }
 
   counts : Counts code (getD blocks k 0) (getD nexts k 0) (f .next)
@@ -87,7 +87,7 @@ module _ {code : List ℕ} {words : List ℤ} {blocks nexts : List ℕ} {fs : Li
         step = passes;
       }
 
-  formal-shown : (i : ℕ) → i < length (f .formals) → (x : ℕ) × (getD words (cellFrom k i) (pos 0) ≡ pos x) × (getD (f .words) i (pos 0) ≡ pos (designatorOf (cellIn x)))
+  formal-shown : (i : ℕ) → i < length (f .formals) → (x : ℕ) × (getD cells (cellFrom k i) (pos 0) ≡ pos x) × (getD (f .words) i (pos 0) ≡ pos (designatorOf (cellIn x)))
   unfolding designatorIn
   formal-shown i l =
       let w = (h .bounded k f e) .handed i l in
@@ -95,7 +95,7 @@ module _ {code : List ℕ} {words : List ℤ} {blocks nexts : List ℕ} {fs : Li
       let c = points-celled fs k y (h .bounded) (h .most) (w .2) in
       (formalWord fs y, (h .holds k f e) .formals-are i l ∙ ap (λ (z : ℤ). pos (formalWord fs (designatorIn z))) (w .1), w .1 ∙ ap pos (sym (ap designatorOf (word-cell fs y c) ∙ designator-of-cell y c)))
 
-  owned : Owned words (32 * k) (length (f .formals)) (f .words)
+  owned : Owned cells (32 * k) (length (f .formals)) (f .words)
   owned =
       let b = h .bounded k f e in
       record {
@@ -104,18 +104,18 @@ module _ {code : List ℕ} {words : List ℤ} {blocks nexts : List ℕ} {fs : Li
         others-are = λ i l m. (h .holds k f e) .others-are i l m;
       }
 
-  pub frame-shown : Shown code words (getD blocks k 0) (getD nexts k 0) (32 * k) (f .next) (f .words)
+  pub frame-shown : Shown code cells (getD blocks k 0) (getD nexts k 0) (32 * k) (f .next) (f .words)
   unfolding enclosing
   frame-shown =
       let b = h .bounded k f e in
-      let formals = formals-read code (h .name) (h .program) (h .keeps) (h .covers) fs (h .chained) blocks nexts (h .links) words (h .holds) k f e in
-      let names = names-read code (h .name) (h .program) (h .keeps) (h .covers) fs (h .chained) blocks nexts (h .links) words (h .holds) k f e in
+      let formals = formals-read code (h .name) (h .program) (h .keeps) (h .covers) fs (h .chained) blocks nexts (h .links) cells (h .holds) k f e in
+      let names = names-read code (h .name) (h .program) (h .keeps) (h .covers) fs (h .chained) blocks nexts (h .links) cells (h .holds) k f e in
       record {
         within = omega (arith, block-is, end-sum (f .text), block-fields (f .text), end-bound (h .program) (h .keeps) (enclosing f) around within);
         counts = counts;
         ends = omega (arith, (h .holds k f e) .next-is, place-bound (h .program) (h .keeps) (enclosing f) around within (f .next) (b .next-first));
         names-are = names ∙ sym (b .count);
-        owned = subst (λ n. Owned words (32 * k) n (f .words)) (sym formals) owned;
+        owned = subst (λ n. Owned cells (32 * k) n (f .words)) (sym formals) owned;
       }
 
 -- the sheet of one activation more
@@ -132,7 +132,7 @@ none-shown fs = refl
 pub none-written : (fs : List Frame) (sheet : List ℤ) → (sheet ≡ written (frameSheet (take 0 fs)) sheet) × (0 ≡ length (frameSheet (take 0 fs)))
 none-written fs sheet = (sym (ap (λ (x : List ℤ). written x sheet) (none-shown fs) ∙ written-none sheet), sym (ap length (none-shown fs)))
 
-module _ {code : List ℕ} {words : List ℤ} {blocks nexts : List ℕ} {fs : List Frame} (h : Held code words blocks nexts fs) where
+module _ {code : List ℕ} {cells : List ℤ} {blocks nexts : List ℕ} {fs : List Frame} (h : Held code cells blocks nexts fs) where
   -- there is room for it
   pub sheet-room : (k : ℕ) → k ≤ length fs → length (frameSheet (take k fs)) ≤ sheetShare * k
   sheet-room zero l = omega (arith, ap length (none-shown fs))
@@ -141,7 +141,7 @@ module _ {code : List ℕ} {words : List ℤ} {blocks nexts : List ℕ} {fs : Li
       omega (arith, sheet-room k (omega arith), ap length (sheet-more fs k (w .0) (w .1)), length-append (frameSheet (take k fs)) (frameWords (w .0)), frameWords-length (w .0), (h .bounded k (w .0) (w .1)) .few)
 
   module _ (k : ℕ) (f : Frame) (e : getElem? fs k ≡ some f) where
-    pub shown-at : (block next : ℕ) → block ≡ getD blocks k 0 → next ≡ getD nexts k 0 → Shown code words block next (32 * k) (f .next) (f .words)
+    pub shown-at : (block next : ℕ) → block ≡ getD blocks k 0 → next ≡ getD nexts k 0 → Shown code cells block next (32 * k) (f .next) (f .words)
     shown-at block next p q = rw (p, q) (frame-shown h k f e)
 
     shown-words : pos (2 * getD blocks k 0) ∷ pos (f .next) ∷ f .words ≡ frameWords f

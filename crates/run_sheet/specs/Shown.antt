@@ -20,7 +20,7 @@ use Rattle.run_sheet.specs.Sizes.{sizeAt, Readable}
 pub record Passes (code : List ℕ) (p q : ℕ) : Type 0 where
   pub readable : Readable code p
   pub rises : p < q
-  pub behind : q ≡ p + sizeAt code p
+  pub after : q ≡ p + sizeAt code p
 
 pub record Counts (code : List ℕ) (block next number : ℕ) : Type 0 where
   pub places : ℕ → ℕ
@@ -64,17 +64,17 @@ on {code} {block} {next} {n} c {i} {p} l h b =
     (λ q. let e : i ≡ n = omega (arith, ltb-false i n q) in absurd (omega (arith, h .1, ap (c .places) e, c .last)))
 
 -- the words of the names, from their cells: a formal shows the designator of the name that it finally stands for
-pub record Owned (words : List ℤ) (first formals : ℕ) (own : List ℤ) : Type 0 where
+pub record Owned (cells : List ℤ) (first formals : ℕ) (own : List ℤ) : Type 0 where
   pub within : first + length own ≤ 8192
-  pub formals-are : (i : ℕ) → i < formals → i < length own → (x : ℕ) × (getD words (first + i) (pos 0) ≡ pos x) × (getD own i (pos 0) ≡ pos (designatorOf (cellIn x)))
-  pub others-are : (i : ℕ) → formals ≤ i → i < length own → getD words (first + i) (pos 0) ≡ getD own i (pos 0)
+  pub formals-are : (i : ℕ) → i < formals → i < length own → (x : ℕ) × (getD cells (first + i) (pos 0) ≡ pos x) × (getD own i (pos 0) ≡ pos (designatorOf (cellIn x)))
+  pub others-are : (i : ℕ) → formals ≤ i → i < length own → getD cells (first + i) (pos 0) ≡ getD own i (pos 0)
 
-pub record Shown (code : List ℕ) (words : List ℤ) (block next first number : ℕ) (own : List ℤ) : Type 0 where
+pub record Shown (code : List ℕ) (cells : List ℤ) (block next first number : ℕ) (own : List ℤ) : Type 0 where
   pub within : block + 1 < 4096
   pub counts : Counts code block next number
   pub ends : next ≤ 4096
   pub names-are : namesIn (getD code block 0) ≡ length own
-  pub owned : Owned words first (formalsIn (getD code block 0)) own
+  pub owned : Owned cells first (formalsIn (getD code block 0)) own
 
 -- words written from the front, and what was there past them
 

@@ -41,9 +41,9 @@ pub fn designator_of(cell: usize) -> u32
 }
 
 // The designator of the name with this word, declared in the activation whose cells begin at `first`; 0 where it has no word.
-pub fn name_designator(words: &[i32; 8224], first: usize, word: usize) -> u32
-    requires { ⌜ ((word ≡ 0 → ⊥) → Nameable (now words) first word) ⌝ }
-    ensures { λ r. ⌜ r ≡ lookedUpBy (now (words .entry)) first word ⌝ }
+pub fn name_designator(cells: &[i32; 8224], first: usize, word: usize) -> u32
+    requires { ⌜ ((word ≡ 0 → ⊥) → Nameable (now cells) first word) ⌝ }
+    ensures { λ r. ⌜ r ≡ lookedUpBy (now (cells .entry)) first word ⌝ }
 {
     if word == 0 {
         return 0;
@@ -51,7 +51,7 @@ pub fn name_designator(words: &[i32; 8224], first: usize, word: usize) -> u32
     if formal_of(word) == 0 {
         return designator_of(first + position_of(word));
     }
-    designator_of(cell_of(whole(words[first + position_of(word)])))
+    designator_of(cell_of(whole(cells[first + position_of(word)])))
 }
 
 fn plain_size(operation: usize) -> usize
@@ -101,32 +101,32 @@ fn formal_shown(word: i32) -> i32
     designator_of(cell_of(whole(word))) as i32
 }
 
-fn shown_word(words: &[i32; 8224], first: usize, formals: usize, i: usize) -> i32
-    requires { ⌜ ((own : List ℤ) × Owned (now words) first formals own × (i < length own)) ⌝ }
-    ensures { λ r. ⌜ ((own : List ℤ) → Owned (now (words .entry)) first formals own → i < length own → r ≡ getD own i (pos 0)) ⌝ }
+fn shown_word(cells: &[i32; 8224], first: usize, formals: usize, i: usize) -> i32
+    requires { ⌜ ((own : List ℤ) × Owned (now cells) first formals own × (i < length own)) ⌝ }
+    ensures { λ r. ⌜ ((own : List ℤ) → Owned (now (cells .entry)) first formals own → i < length own → r ≡ getD own i (pos 0)) ⌝ }
 {
     if i < formals {
-        return formal_shown(words[first + i]);
+        return formal_shown(cells[first + i]);
     }
-    words[first + i]
+    cells[first + i]
 }
 
 fn write_names(
-    words: &[i32; 8224],
+    cells: &[i32; 8224],
     first: usize,
     formals: usize,
     count: usize,
     sheet: &mut [i32],
     at: usize,
 )
-    requires { ⌜ ((own : List ℤ) × Owned (now words) first formals own × (length own ≡ count)) ⌝ }
+    requires { ⌜ ((own : List ℤ) × Owned (now cells) first formals own × (length own ≡ count)) ⌝ }
     requires { ⌜ at + count ≤ length (now sheet) ⌝ }
-    ensures { λ _. ⌜ ((own ws base : List ℤ) → Owned (now (words .entry)) first formals own → length own ≡ count → now (sheet .entry) ≡ written ws base → length ws ≡ at → now (sheet .exit) ≡ written (ws ++ own) base) ⌝ }
+    ensures { λ _. ⌜ ((own ws base : List ℤ) → Owned (now (cells .entry)) first formals own → length own ≡ count → now (sheet .entry) ≡ written ws base → length ws ≡ at → now (sheet .exit) ≡ written (ws ++ own) base) ⌝ }
     ensures { λ _. ⌜ length (now (sheet .exit)) ≡ length (now (sheet .entry)) ⌝ }
 {
     let mut i = 0;
     while i < count {
-        sheet[at + i] = shown_word(words, first, formals, i);
+        sheet[at + i] = shown_word(cells, first, formals, i);
         i += 1;
     }
 }
@@ -134,44 +134,44 @@ fn write_names(
 // One activation from `at` on; what comes after it.
 pub fn write_activation(
     code: &[u32; 4096],
-    words: &[i32; 8224],
+    cells: &[i32; 8224],
     block: usize,
     next: usize,
     first: usize,
     sheet: &mut [i32],
     at: usize,
 ) -> usize
-    requires { ⌜ ((number : ℕ) × (own : List ℤ) × Shown (now code) (now words) block next first number own × (at + 2 + length own ≤ length (now sheet))) ⌝ }
-    ensures { λ r. ⌜ ((number : ℕ) (own ws base : List ℤ) → Shown (now (code .entry)) (now (words .entry)) block next first number own → now (sheet .entry) ≡ written ws base → length ws ≡ at → (now (sheet .exit) ≡ written (ws ++ (pos (2 * block) ∷ pos number ∷ own)) base) × (r ≡ at + 2 + length own)) ⌝ }
+    requires { ⌜ ((number : ℕ) × (own : List ℤ) × Shown (now code) (now cells) block next first number own × (at + 2 + length own ≤ length (now sheet))) ⌝ }
+    ensures { λ r. ⌜ ((number : ℕ) (own ws base : List ℤ) → Shown (now (code .entry)) (now (cells .entry)) block next first number own → now (sheet .entry) ≡ written ws base → length ws ≡ at → (now (sheet .exit) ≡ written (ws ++ (pos (2 * block) ∷ pos number ∷ own)) base) × (r ≡ at + 2 + length own)) ⌝ }
     ensures { λ _. ⌜ length (now (sheet .exit)) ≡ length (now (sheet .entry)) ⌝ }
 {
     let head = code_at(code, block);
     let names = names_of(head);
     sheet[at] = word_of(2 * block);
     sheet[at + 1] = word_of(number_of(code, block, next));
-    write_names(words, first, formals_of(head), names, sheet, at + 2);
+    write_names(cells, first, formals_of(head), names, sheet, at + 2);
     at + 2 + names
 }
 
 // The sheet of `live` activations, outermost first; how many words it takes.
 pub fn write_sheet(
     code: &[u32; 4096],
-    words: &[i32; 8224],
+    cells: &[i32; 8224],
     blocks: &[u16; 256],
     nexts: &[u16; 256],
     live: usize,
     sheet: &mut [i32],
 ) -> usize
-    requires { ⌜ ((fs : List Frame) × Held (now code) (now words) (now blocks) (now nexts) fs × (length fs ≡ live)) ⌝ }
+    requires { ⌜ ((fs : List Frame) × Held (now code) (now cells) (now blocks) (now nexts) fs × (length fs ≡ live)) ⌝ }
     requires { ⌜ sheetShare * live ≤ length (now sheet) ⌝ }
-    ensures { λ r. ⌜ ((fs : List Frame) → Held (now (code .entry)) (now (words .entry)) (now (blocks .entry)) (now (nexts .entry)) fs → length fs ≡ live → (now (sheet .exit) ≡ written (frameSheet fs) (now (sheet .entry))) × (r ≡ length (frameSheet fs))) ⌝ }
+    ensures { λ r. ⌜ ((fs : List Frame) → Held (now (code .entry)) (now (cells .entry)) (now (blocks .entry)) (now (nexts .entry)) fs → length fs ≡ live → (now (sheet .exit) ≡ written (frameSheet fs) (now (sheet .entry))) × (r ≡ length (frameSheet fs))) ⌝ }
 {
     let mut at = 0;
     let mut k = 0;
     while k < live {
         at = write_activation(
             code,
-            words,
+            cells,
             from_u16(blocks[k]),
             from_u16(nexts[k]),
             SHARE * k,

@@ -19,27 +19,27 @@ use Rattle.run_state.specs.declared.Halt.{Halt}
 use Rattle.run_state.specs.Halts.{finishedAfter, spentAfter, stoppedAfter, namedBy}
 
 abbrev pub EndedFrom : ℕ → Block → ℕ → Limits → Result → Halt → List ℤ → List ℕ → List ℕ → List ℕ → List ℤ → Type 0
-EndedFrom done program name l result r words blocks nexts links table =
-    steps.EndedFrom done program name l result (r .end) (r .steps) (r .offset) (r .pairs) (r .live) (r .designator) words blocks nexts links table
+EndedFrom done program name l result r cells blocks nexts links table =
+    steps.EndedFrom done program name l result (r .end) (r .steps) (r .offset) (r .pairs) (r .live) (r .designator) cells blocks nexts links table
 
-abbrev pub RunFrom : {code : List ℕ} {l : Limits} {words : List ℤ} {blocks nexts links : List ℕ} {table : List ℤ} {pairs live at end : ℕ}
-    → Standing code l words blocks nexts links table pairs live at end → ℕ → Halt → List ℤ → List ℕ → List ℕ → List ℕ → List ℤ → Type 0
-RunFrom {l = l} w allowance r words′ blocks′ nexts′ links′ table′ =
-    EndedFrom (w .stack .steps) (w .program) (w .name) l (frameRun l allowance (w .stack)) r words′ blocks′ nexts′ links′ table′
+abbrev pub RunFrom : {code : List ℕ} {l : Limits} {cells : List ℤ} {blocks nexts links : List ℕ} {table : List ℤ} {pairs live at end : ℕ}
+    → Standing code l cells blocks nexts links table pairs live at end → ℕ → Halt → List ℤ → List ℕ → List ℕ → List ℕ → List ℤ → Type 0
+RunFrom {l = l} w allowance r cells′ blocks′ nexts′ links′ table′ =
+    EndedFrom (w .stack .steps) (w .program) (w .name) l (frameRun l allowance (w .stack)) r cells′ blocks′ nexts′ links′ table′
 
-pub from-start : {code : List ℕ} {l : Limits} {words : List ℤ} {blocks nexts links : List ℕ} {table : List ℤ} {pairs live at end : ℕ}
-    (w : Standing code l words blocks nexts links table pairs live at end) (program : Block) (name : ℕ) (before : Table)
+pub from-start : {code : List ℕ} {l : Limits} {cells : List ℤ} {blocks nexts links : List ℕ} {table : List ℤ} {pairs live at end : ℕ}
+    (w : Standing code l cells blocks nexts links table pairs live at end) (program : Block) (name : ℕ) (before : Table)
     → w .stack ≡ frameStart program before → w .program ≡ program → w .name ≡ name
-    → (allowance : ℕ) (r : Halt) {words′ : List ℤ} {blocks′ nexts′ links′ : List ℕ} {table′ : List ℤ}
-    → RunFrom w allowance r words′ blocks′ nexts′ links′ table′
-    → EndedFrom 0 program name l (frameRun l allowance (frameStart program before)) r words′ blocks′ nexts′ links′ table′
+    → (allowance : ℕ) (r : Halt) {cells′ : List ℤ} {blocks′ nexts′ links′ : List ℕ} {table′ : List ℤ}
+    → RunFrom w allowance r cells′ blocks′ nexts′ links′ table′
+    → EndedFrom 0 program name l (frameRun l allowance (frameStart program before)) r cells′ blocks′ nexts′ links′ table′
 unfolding frameStart
-from-start {l = l} w program name before stack-is program-is name-is allowance r {words′} {blocks′} {nexts′} {links′} {table′} =
+from-start {l = l} w program name before stack-is program-is name-is allowance r {cells′} {blocks′} {nexts′} {links′} {table′} =
     subst (λ (T : Type 0). T)
-    (λ i. EndedFrom (stack-is i .steps) (program-is i) (name-is i) l (frameRun l allowance (stack-is i)) r words′ blocks′ nexts′ links′ table′)
+    (λ i. EndedFrom (stack-is i .steps) (program-is i) (name-is i) l (frameRun l allowance (stack-is i)) r cells′ blocks′ nexts′ links′ table′)
 
-module _ {done : ℕ} {program : Block} {name allowance : ℕ} {result : Result} {code : List ℕ} {l : Limits} {words : List ℤ} {blocks nexts links : List ℕ}
-    {table : List ℤ} {left : ℕ} (here : Registers) (w : Standing code l words blocks nexts links table (here .pairs) (here .live) (here .at) (here .end))
+module _ {done : ℕ} {program : Block} {name allowance : ℕ} {result : Result} {code : List ℕ} {l : Limits} {cells : List ℤ} {blocks nexts links : List ℕ}
+    {table : List ℤ} {left : ℕ} (here : Registers) (w : Standing code l cells blocks nexts links table (here .pairs) (here .live) (here .at) (here .end))
     (u : steps.UnderwayFrom done program name allowance result w left) where
   -- what a run leaves is sound
   sound : Sound l program (result .final)
@@ -49,7 +49,7 @@ module _ {done : ℕ} {program : Block} {name allowance : ℕ} {result : Result}
   module _ (nexts′ : List ℕ) (noted : nexts′ ≡ set nexts (here .live) (here .at)) (designator : ℕ) (found : designator ≡ designates (w .stack .frames) (w .name))
       (counted : ℕ) (halt r : Halt) (named : r ≡ namedBy halt designator counted) where
     abbrev Ends : Halt → List ℕ → Type 0
-    Ends h ns = EndedFrom done program name l result h words blocks ns links table
+    Ends h ns = EndedFrom done program name l result h cells blocks ns links table
 
     reports : (h : Halt) → halt ≡ h → Ends (namedBy h designator counted) (set nexts (here .live) (here .at)) → Ends r nexts′
     reports h is = subst (λ (T : Type 0). T) (λ i. Ends (sym (named ∙ ap (λ (x : Halt). namedBy x designator counted) is) i) (sym noted i))
@@ -60,9 +60,9 @@ module _ {done : ℕ} {program : Block} {name allowance : ℕ} {result : Result}
     pub stopped-end : (c : Stop) → frameStep l (w .stack) ≡ halted c → 1 ≤ left → halt ≡ stoppedAfter here c (allowance - left) → Ends r nexts′
     stopped-end c stop more is = reports (stoppedAfter here c (allowance - left)) is (steps.stopped w u c stop more sound designator found)
 
-  pub finished-end : here .at ≡ here .end → here .live ≡ 0 → 1 ≤ left → (words′ : List ℤ) (blocks′ nexts′ links′ : List ℕ) (table′ : List ℤ)
-      → words′ ≡ words → table′ ≡ table → (r : Halt) → r ≡ finishedAfter here (allowance - left + 1)
-      → EndedFrom done program name l result r words′ blocks′ nexts′ links′ table′
-  finished-end ended alone more words′ blocks′ nexts′ links′ table′ same-words same-table r is =
-      subst (λ (h : Halt). EndedFrom done program name l result h words′ blocks′ nexts′ links′ table′) (sym is)
-      (steps.finished w u ended alone more sound words′ blocks′ nexts′ links′ table′ same-table (ap length same-words ∙ w .words-long))
+  pub finished-end : here .at ≡ here .end → here .live ≡ 0 → 1 ≤ left → (cells′ : List ℤ) (blocks′ nexts′ links′ : List ℕ) (table′ : List ℤ)
+      → cells′ ≡ cells → table′ ≡ table → (r : Halt) → r ≡ finishedAfter here (allowance - left + 1)
+      → EndedFrom done program name l result r cells′ blocks′ nexts′ links′ table′
+  finished-end ended alone more cells′ blocks′ nexts′ links′ table′ same-cells same-table r is =
+      subst (λ (h : Halt). EndedFrom done program name l result h cells′ blocks′ nexts′ links′ table′) (sym is)
+      (steps.finished w u ended alone more sound cells′ blocks′ nexts′ links′ table′ same-table (ap length same-cells ∙ w .cells-long))

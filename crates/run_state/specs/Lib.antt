@@ -1,5 +1,5 @@
 -- The state of a run, in reading order.
-pub mod Scenes
+pub mod Limits
 pub mod Turns
 pub mod Halts
 pub mod Ended

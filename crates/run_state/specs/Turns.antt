@@ -9,10 +9,10 @@ use Rattle.language.specs.declared.Stop.{Stop}
 use Rattle.frames.specs.Frame.{Stack, halted, frameStep}
 use Rattle.run_state.specs.declared.Registers.{Registers}
 
-pub record Leaves (here : Registers) (words table words′ table′ : List ℤ) : Type 0 where
+pub record Leaves (here : Registers) (cells table cells′ table′ : List ℤ) : Type 0 where
   pub ended : here .at ≡ here .end
   pub alone : here .live ≡ 0
-  pub same-words : words′ ≡ words
+  pub same-cells : cells′ ≡ cells
   pub same-table : table′ ≡ table
 
 -- what a step may write, before and after

@@ -2,7 +2,7 @@
 use language::End;
 use language::Stop;
 ghost use mathlib.Core.Path.{_≡_};
-ghost use Prim.Native.Nat.{_<_, _≤_, _^_};
+ghost use Prim.Native.Nat.{_<_, _≤_};
 ghost use Rattle.run_state.specs.Halts.{finishedAfter, spentAfter, stoppedAfter, namedBy};
 
 // The innermost activation, the place of its next statement, where its text ends, the pairs in use. The level of the innermost block is kept by

@@ -23,14 +23,14 @@ use Rattle.steps.specs.Means.{GoesOn, EffectMeans, AnswerMeans}
 use Rattle.run_state.specs.declared.Registers.{Registers}
 use Rattle.run_state.specs.declared.Turn.{Turn}
 use Rattle.run_state.specs.declared.Turn.the-variants.{Went, Stopped}
-use Rattle.run_state.specs.Scenes.{goesTo}
+use Rattle.run_state.specs.Limits.{goesTo}
 
 unfoldable pub turnAfter : Registers → ℕ → Change → Turn
 turnAfter here place (Count n) = Went (goesTo here (here .live) place (here .end) n)
 turnAfter here place (Halted c) = Stopped c
 
 abbrev pub Answered : Answer → List ℤ → Change → List ℤ → List ℤ → Type 0
-Answered x table r words′ table′ = (r ≡ changeOf (x .effect)) × ((words′ ≡ x .words) × (table′ ≡ wordsAfter table (x .effect)))
+Answered x table r cells′ table′ = (r ≡ changeOf (x .effect)) × ((cells′ ≡ x .cells) × (table′ ≡ wordsAfter table (x .effect)))
 
 -- AD and RM, with the values that the code has read
 pub changed-by : (f : ℤ → ℤ → Effect) (before : List ℤ) {a b x y : ℤ} {c : Change} {after : List ℤ} → a ≡ x → b ≡ y → c ≡ changeOf (f a b) → after ≡ wordsAfter before (f a b)
@@ -48,88 +48,88 @@ unfolding valueOf
 asked-refused (gives y) c e = let f : _≡_ {A = ℕ} 0 1 = cc in absurd (omega arith)
 asked-refused (refuses d) c e = cc
 
-module _ (words : List ℤ) (t : Table) (group member target : ℕ) {a b : ℤ} {q : Query} (p : a ≡ getD words group (pos 0)) (r : b ≡ getD words member (pos 0))
+module _ (cells : List ℤ) (t : Table) (group member target : ℕ) {a b : ℤ} {q : Query} (p : a ≡ getD cells group (pos 0)) (r : b ≡ getD cells member (pos 0))
     (e : q ≡ valueOf (queried a b t)) where
   abbrev asked : Asked
-  asked = queried (getD words group (pos 0)) (getD words member (pos 0)) t
+  asked = queried (getD cells group (pos 0)) (getD cells member (pos 0)) t
 
   read : q ≡ valueOf asked
   read = e ∙ ap₂ (λ (x y : ℤ). valueOf (queried x y t)) p r
 
   abbrev told : Answer
-  told = answer 0 words t group member target Queried
+  told = answer 0 cells t group member target Queried
 
-  pub query-gives : {z : ℤ} → q ≡ Value z → (Count (t .used) ≡ changeOf (told .effect)) × (set words target z ≡ told .words)
+  pub query-gives : {z : ℤ} → q ≡ Value z → (Count (t .used) ≡ changeOf (told .effect)) × (set cells target z ≡ told .cells)
   unfolding answer stored changeOf
   query-gives {z} f =
       let g : asked ≡ gives z = asked-value asked z (sym read ∙ f) in
-      (sym (ap (λ (x : Asked). changeOf (stored 0 words t group member target x .effect)) g), sym (ap (λ (x : Asked). stored 0 words t group member target x .words) g))
+      (sym (ap (λ (x : Asked). changeOf (stored 0 cells t group member target x .effect)) g), sym (ap (λ (x : Asked). stored 0 cells t group member target x .cells) g))
 
-  pub query-refuses : {c : Stop} → q ≡ Refused c → (Halted c ≡ changeOf (told .effect)) × (words ≡ told .words)
+  pub query-refuses : {c : Stop} → q ≡ Refused c → (Halted c ≡ changeOf (told .effect)) × (cells ≡ told .cells)
   unfolding answer stored changeOf
   query-refuses {c} f =
       let g : asked ≡ refuses c = asked-refused asked c (sym read ∙ f) in
-      (sym (ap (λ (x : Asked). changeOf (stored 0 words t group member target x .effect)) g), sym (ap (λ (x : Asked). stored 0 words t group member target x .words) g))
+      (sym (ap (λ (x : Asked). changeOf (stored 0 cells t group member target x .effect)) g), sym (ap (λ (x : Asked). stored 0 cells t group member target x .cells) g))
 
 -- an engine's choice among the three functions, by what was asked
 
-module _ (limit : ℕ) (words : List ℤ) (t : Table) (group member target : ℕ) where
+module _ (limit : ℕ) (cells : List ℤ) (t : Table) (group member target : ℕ) where
   abbrev Is : Ask → Change → List ℤ → List ℤ → Type 0
-  Is a = Answered (answer limit words t group member target a) (t .words)
+  Is a = Answered (answer limit cells t group member target a) (t .words)
 
   pub add-answered : {a : Ask} {c : Change} {table′ : List ℤ} → a ≡ Add
-      → (c ≡ changeOf (answer limit words t group member 0 Add .effect)) × (table′ ≡ wordsAfter (t .words) (answer limit words t group member 0 Add .effect)) → Is a c words table′
+      → (c ≡ changeOf (answer limit cells t group member 0 Add .effect)) × (table′ ≡ wordsAfter (t .words) (answer limit cells t group member 0 Add .effect)) → Is a c cells table′
   unfolding answer
-  add-answered {c = c} {table′ = table′} e h = subst (λ (x : Ask). Is x c words table′) (sym e) (h .0, (refl, h .1))
+  add-answered {c = c} {table′ = table′} e h = subst (λ (x : Ask). Is x c cells table′) (sym e) (h .0, (refl, h .1))
 
   pub remove-answered : {a : Ask} {c : Change} {table′ : List ℤ} → a ≡ Remove
-      → (c ≡ changeOf (answer 0 words t group member 0 Remove .effect)) × (table′ ≡ wordsAfter (t .words) (answer 0 words t group member 0 Remove .effect)) → Is a c words table′
+      → (c ≡ changeOf (answer 0 cells t group member 0 Remove .effect)) × (table′ ≡ wordsAfter (t .words) (answer 0 cells t group member 0 Remove .effect)) → Is a c cells table′
   unfolding answer
-  remove-answered {c = c} {table′ = table′} e h = subst (λ (x : Ask). Is x c words table′) (sym e) (h .0, (refl, h .1))
+  remove-answered {c = c} {table′ = table′} e h = subst (λ (x : Ask). Is x c cells table′) (sym e) (h .0, (refl, h .1))
 
-  told-by : (x : Asked) {c : Change} {words′ : List ℤ}
-      → (c ≡ changeOf (stored 0 words t group member target x .effect)) × (words′ ≡ stored 0 words t group member target x .words)
-      → Answered (stored limit words t group member target x) (t .words) c words′ (t .words)
+  told-by : (x : Asked) {c : Change} {cells′ : List ℤ}
+      → (c ≡ changeOf (stored 0 cells t group member target x .effect)) × (cells′ ≡ stored 0 cells t group member target x .cells)
+      → Answered (stored limit cells t group member target x) (t .words) c cells′ (t .words)
   unfolding stored wordsAfter
   told-by (gives z) h = (h .0, (h .1, refl))
   told-by (refuses c) h = (h .0, (h .1, refl))
 
-  pub query-answered : {a : Ask} {c : Change} {words′ : List ℤ} → a ≡ Queried
-      → (c ≡ changeOf (answer 0 words t group member target Queried .effect)) × (words′ ≡ answer 0 words t group member target Queried .words) → Is a c words′ (t .words)
+  pub query-answered : {a : Ask} {c : Change} {cells′ : List ℤ} → a ≡ Queried
+      → (c ≡ changeOf (answer 0 cells t group member target Queried .effect)) × (cells′ ≡ answer 0 cells t group member target Queried .cells) → Is a c cells′ (t .words)
   unfolding answer
-  query-answered {c = c} {words′ = words′} e h =
-      subst (λ (x : Ask). Is x c words′ (t .words)) (sym e) (told-by (queried (getD words group (pos 0)) (getD words member (pos 0)) t) h)
+  query-answered {c = c} {cells′ = cells′} e h =
+      subst (λ (x : Ask). Is x c cells′ (t .words)) (sym e) (told-by (queried (getD cells group (pos 0)) (getD cells member (pos 0)) t) h)
 
-module _ {code : List ℕ} {l : Limits} {words : List ℤ} {blocks nexts links : List ℕ} {table : List ℤ} {pairs live at end : ℕ} (w : Standing code l words blocks nexts links table pairs live at end) where
-  goes-by : (p n : ℕ) (words′ : List ℤ) (e : Effect) → EffectMeans w p words′ e → changeOf e ≡ Count n → GoesOn w words′ (wordsAfter table e) n p
+module _ {code : List ℕ} {l : Limits} {cells : List ℤ} {blocks nexts links : List ℕ} {table : List ℤ} {pairs live at end : ℕ} (w : Standing code l cells blocks nexts links table pairs live at end) where
+  goes-by : (p n : ℕ) (cells′ : List ℤ) (e : Effect) → EffectMeans w p cells′ e → changeOf e ≡ Count n → GoesOn w cells′ (wordsAfter table e) n p
   unfolding changeOf wordsAfter
-  goes-by p n words′ (leaves t) m q = subst (λ k. GoesOn w words′ (t .words) k p) (count q) m
+  goes-by p n cells′ (leaves t) m q = subst (λ k. GoesOn w cells′ (t .words) k p) (count q) m
     where
       count : Count (t .used) ≡ Count n → t .used ≡ n
       count e = cc
-  goes-by p n words′ (halts c) m q = absurd (other q)
+  goes-by p n cells′ (halts c) m q = absurd (other q)
     where
       other : Halted c ≡ Count n → ⊥
       other e = let z : _≡_ {A = ℕ} 0 1 = cc in absurd (omega arith)
 
-  halts-by : (p : ℕ) (c : Stop) (words′ : List ℤ) (e : Effect) → EffectMeans w p words′ e → changeOf e ≡ Halted c
-      → (frameStep l (w .stack) ≡ halted c) × (words′ ≡ words) × (wordsAfter table e ≡ table)
+  halts-by : (p : ℕ) (c : Stop) (cells′ : List ℤ) (e : Effect) → EffectMeans w p cells′ e → changeOf e ≡ Halted c
+      → (frameStep l (w .stack) ≡ halted c) × (cells′ ≡ cells) × (wordsAfter table e ≡ table)
   unfolding changeOf wordsAfter
-  halts-by p c words′ (leaves t) m q = absurd (other q)
+  halts-by p c cells′ (leaves t) m q = absurd (other q)
     where
       other : Count (t .used) ≡ Halted c → ⊥
       other e = let z : _≡_ {A = ℕ} 0 1 = cc in absurd (omega arith)
-  halts-by p c words′ (halts d) m q = (m .0 ∙ ap halted (cause q), m .1, refl)
+  halts-by p c cells′ (halts d) m q = (m .0 ∙ ap halted (cause q), m .1, refl)
     where
       cause : Halted d ≡ Halted c → d ≡ c
       cause e = cc
 
-  module _ (p : ℕ) (x : Answer) (m : AnswerMeans w p x) (r : Change) (words′ table′ : List ℤ) (h : Answered x table r words′ table′) where
-    pub done-goes : (n : ℕ) → r ≡ Count n → GoesOn w words′ table′ n p
+  module _ (p : ℕ) (x : Answer) (m : AnswerMeans w p x) (r : Change) (cells′ table′ : List ℤ) (h : Answered x table r cells′ table′) where
+    pub done-goes : (n : ℕ) → r ≡ Count n → GoesOn w cells′ table′ n p
     done-goes n e =
-        subst (λ (T : Type 0). T) (λ i. GoesOn w (sym (h .1 .0) i) (sym (h .1 .1) i) n p) (goes-by p n (x .words) (x .effect) m (sym (h .0) ∙ e))
+        subst (λ (T : Type 0). T) (λ i. GoesOn w (sym (h .1 .0) i) (sym (h .1 .1) i) n p) (goes-by p n (x .cells) (x .effect) m (sym (h .0) ∙ e))
 
-    pub stopped-halts : (c : Stop) → r ≡ Halted c → (frameStep l (w .stack) ≡ halted c) × (words′ ≡ words) × (table′ ≡ table)
+    pub stopped-halts : (c : Stop) → r ≡ Halted c → (frameStep l (w .stack) ≡ halted c) × (cells′ ≡ cells) × (table′ ≡ table)
     stopped-halts c e =
-        let k = halts-by p c (x .words) (x .effect) m (sym (h .0) ∙ e) in
+        let k = halts-by p c (x .cells) (x .effect) m (sym (h .0) ∙ e) in
         (k .0, h .1 .0 ∙ k .1, h .1 .1 ∙ k .2)

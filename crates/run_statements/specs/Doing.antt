@@ -36,10 +36,10 @@ use Rattle.run_statements.specs.Words.{cell-direct}
 module _ (F : Finding) (s : Scene) where
   -- KN
   pub constant-done :
-      {target : ℕ} {ws : List ℤ} → target ≡ F .cell (field s 1) → ws ≡ set (s .words) target (signed (field s 2)) →
-      (On (s .at + 4) ≡ doConstant F s .move) × (ws ≡ doConstant F s .words)
+      {target : ℕ} {ws : List ℤ} → target ≡ F .cell (field s 1) → ws ≡ set (s .cells) target (signed (field s 2)) →
+      (On (s .at + 4) ≡ doConstant F s .move) × (ws ≡ doConstant F s .cells)
   unfolding doConstant rewrites
-  constant-done e f = (refl, f ∙ ap (λ (c : ℕ). set (s .words) c (signed (field s 2))) e)
+  constant-done e f = (refl, f ∙ ap (λ (c : ℕ). set (s .cells) c (signed (field s 2))) e)
 
   -- AR
   after : (e : Effect) → moveAfter e (s .at + 5) ≡ arithmeticMove F s e
@@ -48,17 +48,17 @@ module _ (F : Finding) (s : Scene) where
   after (Stopped c) = refl
 
   abbrev pub result : Operation → ℕ → ℕ → ℤ
-  result o left right = compute o (getD (s .words) left (pos 0)) (getD (s .words) right (pos 0))
+  result o left right = compute o (getD (s .cells) left (pos 0)) (getD (s .cells) right (pos 0))
 
   pub arithmetic-done :
       (o : Operation) {target left right : ℕ} {m : Move} {e : Effect} {ws : List ℤ} →
       target ≡ F .cell (field s 1) → left ≡ F .cell (field s 3) → right ≡ F .cell (field s 4) →
-      m ≡ moveAfter e (s .at + 5) → e ≡ effectOf (result o left right) → ws ≡ wordsOf (s .words) target (result o left right) →
-      (m ≡ doArithmetic F s o .move) × (ws ≡ doArithmetic F s o .words)
+      m ≡ moveAfter e (s .at + 5) → e ≡ effectOf (result o left right) → ws ≡ wordsOf (s .cells) target (result o left right) →
+      (m ≡ doArithmetic F s o .move) × (ws ≡ doArithmetic F s o .cells)
   unfolding doArithmetic rewrites
   arithmetic-done o {target} {left} {right} {e} p q r m f ws =
       let z : result o left right ≡ compute o (valueOf F s (field s 3)) (valueOf F s (field s 4)) = ap₂ (λ (a b : ℕ). result o a b) q r in
-      (m ∙ after e ∙ ap (arithmeticMove F s) (f ∙ ap effectOf z), ws ∙ ap₂ (wordsOf (s .words)) p z)
+      (m ∙ after e ∙ ap (arithmeticMove F s) (f ∙ ap effectOf z), ws ∙ ap₂ (wordsOf (s .cells)) p z)
 
   less-small : (a b : ℤ) (t : Bool) → ltZ a b ≡ t → ltb (mag (compute less a b)) 2147483648 ≡ true
   unfolding compute
@@ -75,13 +75,13 @@ module _ (F : Finding) (s : Scene) where
 
   pub compare-done :
       {target left right : ℕ} {ws : List ℤ} →
-      target ≡ F .cell (field s 1) → left ≡ F .cell (field s 3) → right ≡ F .cell (field s 4) → ws ≡ set (s .words) target (result less left right) →
-      (On (s .at + 5) ≡ doArithmetic F s less .move) × (ws ≡ doArithmetic F s less .words)
+      target ≡ F .cell (field s 1) → left ≡ F .cell (field s 3) → right ≡ F .cell (field s 4) → ws ≡ set (s .cells) target (result less left right) →
+      (On (s .at + 5) ≡ doArithmetic F s less .move) × (ws ≡ doArithmetic F s less .cells)
   unfolding moveAfter
   compare-done {target} {left} {right} p q r ws =
-      let a = getD (s .words) left (pos 0) in
-      let b = getD (s .words) right (pos 0) in
-      arithmetic-done less p q r refl (less-done a b) (ws ∙ less-words (s .words) target a b)
+      let a = getD (s .cells) left (pos 0) in
+      let b = getD (s .cells) right (pos 0) in
+      arithmetic-done less p q r refl (less-done a b) (ws ∙ less-words (s .cells) target a b)
 
   -- GO
   pub goto-done : {home place : ℕ} → home ≡ F .home (field s 1) → place ≡ F .target (field s 1) → Jump home place ≡ doGoto F s .move
@@ -89,30 +89,30 @@ module _ (F : Finding) (s : Scene) where
   goto-done p q = ap₂ Jump p q
 
   -- IF
-  same-test : {c : ℕ} {t : Bool} → c ≡ F .cell (field s 2) → eqZ (getD (s .words) c (pos 0)) (pos 0) ≡ t → eqZ (valueOf F s (field s 2)) (pos 0) ≡ t
-  same-test p e = sym (ap (λ (c : ℕ). eqZ (getD (s .words) c (pos 0)) (pos 0)) p) ∙ e
+  same-test : {c : ℕ} {t : Bool} → c ≡ F .cell (field s 2) → eqZ (getD (s .cells) c (pos 0)) (pos 0) ≡ t → eqZ (valueOf F s (field s 2)) (pos 0) ≡ t
+  same-test p e = sym (ap (λ (c : ℕ). eqZ (getD (s .cells) c (pos 0)) (pos 0)) p) ∙ e
 
-  pub branch-not : {c : ℕ} → c ≡ F .cell (field s 2) → eqZ (getD (s .words) c (pos 0)) (pos 0) ≡ true → On (s .at + 3) ≡ doBranch F s .move
+  pub branch-not : {c : ℕ} → c ≡ F .cell (field s 2) → eqZ (getD (s .cells) c (pos 0)) (pos 0) ≡ true → On (s .at + 3) ≡ doBranch F s .move
   unfolding doBranch moves
   branch-not p e = let f = same-test p e in rw (doBranch, f)
 
-  pub branch-goes : {c : ℕ} → c ≡ F .cell (field s 2) → eqZ (getD (s .words) c (pos 0)) (pos 0) ≡ false → doGoto F s .move ≡ doBranch F s .move
+  pub branch-goes : {c : ℕ} → c ≡ F .cell (field s 2) → eqZ (getD (s .cells) c (pos 0)) (pos 0) ≡ false → doGoto F s .move ≡ doBranch F s .move
   unfolding doBranch
   branch-goes p e = let f = same-test p e in rw (doBranch, f)
 
   -- CL
   pub no-room :
-      s .limit ≤ s .live + 1 → (home body : ℕ) →
-      (Stop NoActivationLeft ≡ enteredBy F s home body .move) × (s .words ≡ enteredBy F s home body .words)
+      s .activations ≤ s .live + 1 → (home body : ℕ) →
+      (Stop NoActivationLeft ≡ enteredBy F s home body .move) × (s .cells ≡ enteredBy F s home body .cells)
   unfolding enteredBy noRoom moves
-  no-room h home body = let e = le-leb (s .limit) (s .live + 1) h in (rw (enteredBy, e), rw (enteredBy, e))
+  no-room h home body = let e = le-leb (s .activations) (s .live + 1) h in (rw (enteredBy, e), rw (enteredBy, e))
 
   pub entered :
-      s .live + 1 < s .limit → (home body : ℕ) →
+      s .live + 1 < s .activations → (home body : ℕ) →
       (Enter body home (s .at + 3 + field s 2) ≡ enteredBy F s home body .move) ×
-      (setAll (s .words) (32 * s .live + 32) (argumentsFrom F s (s .at + 3) (field s 2)) ≡ enteredBy F s home body .words)
+      (setAll (s .cells) (32 * s .live + 32) (argumentsFrom F s (s .at + 3) (field s 2)) ≡ enteredBy F s home body .cells)
   unfolding enteredBy noRoom rewrites
-  entered h home body = let e = lt-leb (s .limit) (s .live + 1) h in (rw (enteredBy, e), rw (enteredBy, e))
+  entered h home body = let e = lt-leb (s .activations) (s .live + 1) h in (rw (enteredBy, e), rw (enteredBy, e))
 
   pub call-is : {home body : ℕ} → home ≡ F .home (field s 1) → body ≡ F .target (field s 1) → enteredBy F s home body ≡ doCall F s
   unfolding enteredBy doCall
@@ -131,7 +131,7 @@ module _ (F : Finding) (s : Scene) where
 
   pub call-refused :
       {body : ℕ} → body ≡ F .target (field s 1) → argumentsAgree F s body ≡ false →
-      (Stop ArgumentsDiffer ≡ doCallFormal F s .move) × (s .words ≡ doCallFormal F s .words)
+      (Stop ArgumentsDiffer ≡ doCallFormal F s .move) × (s .cells ≡ doCallFormal F s .cells)
   unfolding doCallFormal moves
   call-refused p e = let f = sym (ap (argumentsAgree F s) p) ∙ e in (rw (doCallFormal, f), rw (doCallFormal, f))
 
@@ -151,18 +151,18 @@ module _ (F : Finding) (s : Scene) where
 
 -- A name that is no formal has its own cell
 
-pub direct-cell : (words : List ℤ) (first w : ℕ) {c : ℕ} → c ≡ first + positionIn w → direct w ≡ true → c ≡ cellBy words first w
-direct-cell words first w p d = p ∙ sym (cell-direct words first w d)
+pub direct-cell : (cells : List ℤ) (first w : ℕ) {c : ℕ} → c ≡ first + positionIn w → direct w ≡ true → c ≡ cellBy cells first w
+direct-cell cells first w p d = p ∙ sym (cell-direct cells first w d)
 
 -- BK
-module _ (code : List ℕ) (limit live at : ℕ) where
-  pub block-stops : limit ≤ live + 1 → Stop NoActivationLeft ≡ blockMove code limit live at
+module _ (code : List ℕ) (activations live at : ℕ) where
+  pub block-stops : activations ≤ live + 1 → Stop NoActivationLeft ≡ blockMove code activations live at
   unfolding blockMove
-  block-stops h = let e = le-leb limit (live + 1) h in rw (blockMove, e)
+  block-stops h = let e = le-leb activations (live + 1) h in rw (blockMove, e)
 
-  pub block-enters : live + 1 < limit → {word end : ℕ} → word ≡ getD code (at + 1) 0 → end ≡ endIn word → Enter at live end ≡ blockMove code limit live at
+  pub block-enters : live + 1 < activations → {word end : ℕ} → word ≡ getD code (at + 1) 0 → end ≡ endIn word → Enter at live end ≡ blockMove code activations live at
   unfolding blockMove
-  block-enters h w b = let e = lt-leb limit (live + 1) h in ap (Enter at live) (b ∙ ap endIn w) ∙ rw (blockMove, e)
+  block-enters h w b = let e = lt-leb activations (live + 1) h in ap (Enter at live) (b ∙ ap endIn w) ∙ rw (blockMove, e)
 
 -- AR's operation
 pub is-plus : {n : ℕ} → n ≡ 0 → operationOf n ≡ plus
@@ -182,12 +182,12 @@ is-less (suc (suc n)) d e = refl
 -- Arguments, which do not depend on anything but the script's words
 
 pub arguments-alike :
-    (F : Finding) (code : List ℕ) (words : List ℤ) (limit live at at′ from n : ℕ) →
-    argumentsFrom F (only-words code words at) from n ≡ argumentsFrom F (sceneBy code words limit live at′) from n
+    (F : Finding) (code : List ℕ) (cells : List ℤ) (activations live at at′ from n : ℕ) →
+    argumentsFrom F (only-words code cells at) from n ≡ argumentsFrom F (sceneBy code cells activations live at′) from n
 unfolding argumentsFrom
-arguments-alike F code words limit live at at′ from zero = refl
-arguments-alike F code words limit live at at′ from (suc n) =
-    ap (λ (zs : List ℤ). F .handed (getD code from 0) ∷ zs) (arguments-alike F code words limit live at at′ (from + 1) n)
+arguments-alike F code cells activations live at at′ from zero = refl
+arguments-alike F code cells activations live at at′ from (suc n) =
+    ap (λ (zs : List ℤ). F .handed (getD code from 0) ∷ zs) (arguments-alike F code cells activations live at at′ (from + 1) n)
 
 module _ (F : Finding) (s : Scene) (ws : List ℤ) (first at count i : ℕ) where
   pub arguments-end : count ≤ i → ws ≡ setAll ws (first + i) (argumentsFrom F s (at + i) (count - i))

@@ -15,7 +15,7 @@ use Rattle.resolved.specs.Layout.{formalsIn, endIn}
 
 -- a scene as far as most statements look at it
 abbrev pub only-words : List ℕ → List ℤ → ℕ → Scene
-only-words code words at = sceneBy code words 0 0 at
+only-words code cells at = sceneBy code cells 0 0 at
 
 -- a procedure's body at a place stands after so many formals, and in the script
 pub record FormalsBefore (code : List ℕ) (body : ℕ) : Type 0 where
@@ -29,8 +29,8 @@ moveAfter Done next = On next
 moveAfter (Stopped c) next = Stop c
 
 unfoldable pub blockMove : List ℕ → ℕ → ℕ → ℕ → Move
-blockMove code limit live at =
-    elim (leb limit (live + 1)) [ true ↦ Stop NoActivationLeft | false ↦ Enter at live (endIn (getD code (at + 1) 0)) ]
+blockMove code activations live at =
+    elim (leb activations (live + 1)) [ true ↦ Stop NoActivationLeft | false ↦ Enter at live (endIn (getD code (at + 1) 0)) ]
 
 -- a call of the procedure that activation `home` declares and whose body stands at a place
 unfoldable pub enteredBy : Finding → Scene → ℕ → ℕ → Happened
@@ -38,5 +38,5 @@ enteredBy F s home body =
     elim (noRoom F s) [
       | true ↦ moves s (Stop NoActivationLeft)
       | false ↦ rewrites s (Enter body home (s .at + 3 + field s 2))
-          (setAll (s .words) (32 * s .live + 32) (argumentsFrom F s (s .at + 3) (field s 2)))
+          (setAll (s .cells) (32 * s .live + 32) (argumentsFrom F s (s .at + 3) (field s 2)))
     ]

@@ -43,37 +43,37 @@ pub is-formal : (w : ℕ) → (formalIn w ≡ 0 → ⊥) → direct w ≡ false
 unfolding direct
 is-formal w d = ne-eqb (formalIn w) 0 d
 
-module _ (words : List ℤ) (first w : ℕ) where
-  pub cell-direct : direct w ≡ true → cellBy words first w ≡ first + positionIn w
+module _ (cells : List ℤ) (first w : ℕ) where
+  pub cell-direct : direct w ≡ true → cellBy cells first w ≡ first + positionIn w
   unfolding cellBy
   cell-direct e = rw (cellBy, e)
 
-  pub home-direct : direct w ≡ true → homeBy words first w ≡ activationIn first
+  pub home-direct : direct w ≡ true → homeBy cells first w ≡ activationIn first
   unfolding homeBy
   home-direct e = rw (homeBy, e)
 
-  pub target-direct : direct w ≡ true → targetBy words first w ≡ targetIn w
+  pub target-direct : direct w ≡ true → targetBy cells first w ≡ targetIn w
   unfolding targetBy
   target-direct e = rw (targetBy, e)
 
-  pub cell-formal : direct w ≡ false → cellBy words first w ≡ cellIn (heldBy words first w)
+  pub cell-formal : direct w ≡ false → cellBy cells first w ≡ cellIn (heldBy cells first w)
   unfolding cellBy
   cell-formal e = rw (cellBy, e)
 
-  pub home-formal : direct w ≡ false → homeBy words first w ≡ activationIn (cellIn (heldBy words first w))
+  pub home-formal : direct w ≡ false → homeBy cells first w ≡ activationIn (cellIn (heldBy cells first w))
   unfolding homeBy
   home-formal e = rw (homeBy, e)
 
-  pub target-formal : direct w ≡ false → targetBy words first w ≡ leadIn (heldBy words first w)
+  pub target-formal : direct w ≡ false → targetBy cells first w ≡ leadIn (heldBy cells first w)
   unfolding targetBy
   target-formal e = rw (targetBy, e)
 
-  pub held-is : {n : ℕ} → getD words (first + positionIn w) (pos 0) ≡ pos n → heldBy words first w ≡ n
+  pub held-is : {n : ℕ} → getD cells (first + positionIn w) (pos 0) ≡ pos n → heldBy cells first w ≡ n
   unfolding heldBy designatorIn
   held-is e = ap designatorIn e
 
   pub handed-is :
-      (vs : List ℤ) → getD vs (first + positionIn w) (pos 0) ≡ getD words (first + positionIn w) (pos 0) →
-      handedWord vs w (first + positionIn w) ≡ handedBy words first w
+      (vs : List ℤ) → getD vs (first + positionIn w) (pos 0) ≡ getD cells (first + positionIn w) (pos 0) →
+      handedWord vs w (first + positionIn w) ≡ handedBy cells first w
   unfolding handedWord handedBy
   handed-is vs e = ap (λ (z : ℤ). elim (direct w) as (λ b. ℤ) [ true ↦ pos (heldFrom (first + positionIn w) (targetIn w)) | false ↦ z ]) e

@@ -18,11 +18,11 @@ pub use membership::query;
 pub use membership::remove;
 
 // KN, with its target's cell.
-pub fn constant(code: &[u32; 4096], words: &mut [i32; 8224], target: usize, at: usize) -> Move
+pub fn constant(code: &[u32; 4096], cells: &mut [i32; 8224], target: usize, at: usize) -> Move
     requires { ⌜ (target < 8192) × (at + 4 ≤ 4096) ⌝ }
-    ensures { λ r. ⌜ (r ≡ Move.On (at + 4)) × (now (words .exit) ≡ set (now (words .entry)) target (signed (getD (now (code .entry)) (at + 2) 0))) ⌝ }
+    ensures { λ r. ⌜ (r ≡ Move.On (at + 4)) × (now (cells .exit) ≡ set (now (cells .entry)) target (signed (getD (now (code .entry)) (at + 2) 0))) ⌝ }
 {
-    run_words::store(words, target, run_words::signed(code_at(code, at + 2)));
+    run_words::store(cells, target, run_words::signed(code_at(code, at + 2)));
     Move::On(at + 4)
 }
 
@@ -38,11 +38,11 @@ pub fn computed(effect: Effect, at: usize) -> Move
 }
 
 // BK: the new activation is linked to the innermost one.
-pub fn do_block(code: &[u32; 4096], limit: usize, live: usize, at: usize) -> Move
+pub fn do_block(code: &[u32; 4096], activations: usize, live: usize, at: usize) -> Move
     requires { ⌜ (at + 2 ≤ 4096) × (live ≤ 255) ⌝ }
-    ensures { λ r. ⌜ r ≡ blockMove (now (code .entry)) limit live at ⌝ }
+    ensures { λ r. ⌜ r ≡ blockMove (now (code .entry)) activations live at ⌝ }
 {
-    if limit <= live + 1 {
+    if activations <= live + 1 {
         return Move::Stop(Stop::NoActivationLeft);
     }
     Move::Enter(at, live, end_of(code_at(code, at + 1)))

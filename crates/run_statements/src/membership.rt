@@ -13,54 +13,54 @@ ghost use Rattle.run_statements.specs.Answers.{turnAfter};
 
 pub fn add(
     table: &mut [i32],
-    words: &[i32; 8224],
+    cells: &[i32; 8224],
     pairs: usize,
     limit: u32,
     group: usize,
     member: usize,
 ) -> Change
     requires { ⌜ (group < 8192) × (member < 8192) ⌝ }
-    ensures { λ r. ⌜ r ≡ changeOf (answer limit (now (words .entry)) (tableOf (now (table .entry)) pairs) group member 0 Add .effect) ⌝ }
-    ensures { λ _. ⌜ now (table .exit) ≡ wordsAfter (now (table .entry)) (answer limit (now (words .entry)) (tableOf (now (table .entry)) pairs) group member 0 Add .effect) ⌝ }
+    ensures { λ r. ⌜ r ≡ changeOf (answer limit (now (cells .entry)) (tableOf (now (table .entry)) pairs) group member 0 Add .effect) ⌝ }
+    ensures { λ _. ⌜ now (table .exit) ≡ wordsAfter (now (table .entry)) (answer limit (now (cells .entry)) (tableOf (now (table .entry)) pairs) group member 0 Add .effect) ⌝ }
 {
-    let of = words[group];
-    let who = words[member];
+    let of = cells[group];
+    let who = cells[member];
     table_pairs::add_pair(table, pairs, limit, of, who)
 }
 
 pub fn remove(
     table: &mut [i32],
-    words: &[i32; 8224],
+    cells: &[i32; 8224],
     pairs: usize,
     group: usize,
     member: usize,
 ) -> Change
     requires { ⌜ (group < 8192) × (member < 8192) ⌝ }
-    ensures { λ r. ⌜ r ≡ changeOf (answer 0 (now (words .entry)) (tableOf (now (table .entry)) pairs) group member 0 Remove .effect) ⌝ }
-    ensures { λ _. ⌜ now (table .exit) ≡ wordsAfter (now (table .entry)) (answer 0 (now (words .entry)) (tableOf (now (table .entry)) pairs) group member 0 Remove .effect) ⌝ }
+    ensures { λ r. ⌜ r ≡ changeOf (answer 0 (now (cells .entry)) (tableOf (now (table .entry)) pairs) group member 0 Remove .effect) ⌝ }
+    ensures { λ _. ⌜ now (table .exit) ≡ wordsAfter (now (table .entry)) (answer 0 (now (cells .entry)) (tableOf (now (table .entry)) pairs) group member 0 Remove .effect) ⌝ }
 {
-    let of = words[group];
-    let who = words[member];
+    let of = cells[group];
+    let who = cells[member];
     table_pairs::remove_pair(table, pairs, of, who)
 }
 
 pub fn query(
     table: &[i32],
-    words: &mut [i32; 8224],
+    cells: &mut [i32; 8224],
     pairs: usize,
     group: usize,
     member: usize,
     target: usize,
 ) -> Change
     requires { ⌜ (group < 8192) × ((member < 8192) × (target < 8192)) ⌝ }
-    ensures { λ r. ⌜ r ≡ changeOf (answer 0 (now (words .entry)) (tableOf (now (table .entry)) pairs) group member target Queried .effect) ⌝ }
-    ensures { λ _. ⌜ now (words .exit) ≡ answer 0 (now (words .entry)) (tableOf (now (table .entry)) pairs) group member target Queried .words ⌝ }
+    ensures { λ r. ⌜ r ≡ changeOf (answer 0 (now (cells .entry)) (tableOf (now (table .entry)) pairs) group member target Queried .effect) ⌝ }
+    ensures { λ _. ⌜ now (cells .exit) ≡ answer 0 (now (cells .entry)) (tableOf (now (table .entry)) pairs) group member target Queried .cells ⌝ }
 {
-    let of = words[group];
-    let who = words[member];
+    let of = cells[group];
+    let who = cells[member];
     match table_pairs::query_pair(table, pairs, of, who) {
         Query::Value(value) => {
-            run_words::store(words, target, value);
+            run_words::store(cells, target, value);
             Change::Done(pairs)
         }
         Query::Stopped(cause) => Change::Stopped(cause),

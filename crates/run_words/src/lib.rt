@@ -1,5 +1,5 @@
 // What statements do once their names are found, for every engine: stores, sums, arguments, and the words of a new activation. An activation
-// has 32 cells in the array of words, one for each name; the array has room after them, so that clearing goes by four.
+// has 32 cells, one for each name; the array has room after them, so that clearing goes by four.
 ghost use mathlib.Core.Path.{_≡_};
 ghost use mathlib.Core.Bool.{false};
 ghost use Prim.Native.Nat.{_+_, _*_, _<_, _≤_, _^_};
@@ -82,63 +82,63 @@ pub fn signed(bits: usize) -> i32
     (bits as i64 - 4294967296) as i32
 }
 
-pub fn store(words: &mut [i32; 8224], cell: usize, value: i32)
+pub fn store(cells: &mut [i32; 8224], cell: usize, value: i32)
     requires { ⌜ cell < 8192 ⌝ }
-    ensures { λ _. ⌜ now (words .exit) ≡ set (now (words .entry)) cell value ⌝ }
+    ensures { λ _. ⌜ now (cells .exit) ≡ set (now (cells .entry)) cell value ⌝ }
 {
-    words[cell] = value;
+    cells[cell] = value;
 }
 
-fn keep(words: &mut [i32; 8224], cell: usize, value: i64) -> Effect
+fn keep(cells: &mut [i32; 8224], cell: usize, value: i64) -> Effect
     requires { ⌜ cell < 8192 ⌝ }
-    ensures { λ r. ⌜ (r ≡ effectOf value) × (now (words .exit) ≡ wordsOf (now (words .entry)) cell value) ⌝ }
+    ensures { λ r. ⌜ (r ≡ effectOf value) × (now (cells .exit) ≡ wordsOf (now (cells .entry)) cell value) ⌝ }
 {
     if fits_word(value) {
-        words[cell] = narrowed(value);
+        cells[cell] = narrowed(value);
         return Effect::Done;
     }
     Effect::Stopped(Stop::ResultTooLarge)
 }
 
 // AR: the cells of target, left and right.
-pub fn add(words: &mut [i32; 8224], target: usize, left: usize, right: usize) -> Effect
+pub fn add(cells: &mut [i32; 8224], target: usize, left: usize, right: usize) -> Effect
     requires { ⌜ (target < 8192) × (left < 8192) × (right < 8192) ⌝ }
-    ensures { λ r. ⌜ r ≡ effectOf (compute plus (getD (now (words .entry)) left (pos 0)) (getD (now (words .entry)) right (pos 0))) ⌝ }
-    ensures { λ r. ⌜ now (words .exit) ≡ wordsOf (now (words .entry)) target (compute plus (getD (now (words .entry)) left (pos 0)) (getD (now (words .entry)) right (pos 0))) ⌝ }
+    ensures { λ r. ⌜ r ≡ effectOf (compute plus (getD (now (cells .entry)) left (pos 0)) (getD (now (cells .entry)) right (pos 0))) ⌝ }
+    ensures { λ r. ⌜ now (cells .exit) ≡ wordsOf (now (cells .entry)) target (compute plus (getD (now (cells .entry)) left (pos 0)) (getD (now (cells .entry)) right (pos 0))) ⌝ }
 {
-    let value = sum(words[left], words[right]);
-    keep(words, target, value)
+    let value = sum(cells[left], cells[right]);
+    keep(cells, target, value)
 }
 
-pub fn subtract(words: &mut [i32; 8224], target: usize, left: usize, right: usize) -> Effect
+pub fn subtract(cells: &mut [i32; 8224], target: usize, left: usize, right: usize) -> Effect
     requires { ⌜ (target < 8192) × (left < 8192) × (right < 8192) ⌝ }
-    ensures { λ r. ⌜ r ≡ effectOf (compute minus (getD (now (words .entry)) left (pos 0)) (getD (now (words .entry)) right (pos 0))) ⌝ }
-    ensures { λ r. ⌜ now (words .exit) ≡ wordsOf (now (words .entry)) target (compute minus (getD (now (words .entry)) left (pos 0)) (getD (now (words .entry)) right (pos 0))) ⌝ }
+    ensures { λ r. ⌜ r ≡ effectOf (compute minus (getD (now (cells .entry)) left (pos 0)) (getD (now (cells .entry)) right (pos 0))) ⌝ }
+    ensures { λ r. ⌜ now (cells .exit) ≡ wordsOf (now (cells .entry)) target (compute minus (getD (now (cells .entry)) left (pos 0)) (getD (now (cells .entry)) right (pos 0))) ⌝ }
 {
-    let value = difference(words[left], words[right]);
-    keep(words, target, value)
+    let value = difference(cells[left], cells[right]);
+    keep(cells, target, value)
 }
 
-pub fn compare(words: &mut [i32; 8224], target: usize, left: usize, right: usize)
+pub fn compare(cells: &mut [i32; 8224], target: usize, left: usize, right: usize)
     requires { ⌜ (target < 8192) × (left < 8192) × (right < 8192) ⌝ }
-    ensures { λ _. ⌜ now (words .exit) ≡ set (now (words .entry)) target (compute less (getD (now (words .entry)) left (pos 0)) (getD (now (words .entry)) right (pos 0))) ⌝ }
+    ensures { λ _. ⌜ now (cells .exit) ≡ set (now (cells .entry)) target (compute less (getD (now (cells .entry)) left (pos 0)) (getD (now (cells .entry)) right (pos 0))) ⌝ }
 {
-    if words[left] < words[right] {
-        words[target] = 1;
+    if cells[left] < cells[right] {
+        cells[target] = 1;
     } else {
-        words[target] = 0;
+        cells[target] = 0;
     }
 }
 
 // What a call hands on of an argument with this word, whose own cell is given: the cell with what the name leads to, or a formal's word.
-pub fn handed(words: &[i32; 8224], word: usize, cell: usize) -> i32
+pub fn handed(cells: &[i32; 8224], word: usize, cell: usize) -> i32
     requires { ⌜ (word < 2 ^ 32) × (cell < 8192) ⌝ }
-    ensures { λ r. ⌜ r ≡ handedWord (now (words .entry)) word cell ⌝ }
+    ensures { λ r. ⌜ r ≡ handedWord (now (cells .entry)) word cell ⌝ }
 {
     if formal_of(word) == 0 {
         return word_of(held_word(cell, target_of(word)));
     }
-    words[cell]
+    cells[cell]
 }
 
 // Whether so many arguments, whose words stand from a place on, are of the kinds of the formals from another place on.
@@ -156,27 +156,27 @@ pub fn kinds_agree(code: &[u32; 4096], arguments: usize, formals: usize, count: 
     true
 }
 
-fn clear_more(words: &mut [i32; 8224], from: usize, to: usize)
+fn clear_more(cells: &mut [i32; 8224], from: usize, to: usize)
     requires { ⌜ to ≤ 8192 ⌝ }
-    ensures { λ _. ⌜ Cleared (now (words .entry)) from to (now (words .exit)) ⌝ }
+    ensures { λ _. ⌜ Cleared (now (cells .entry)) from to (now (cells .exit)) ⌝ }
 {
     let mut i = from;
     while i < to {
-        words[i] = 0;
+        cells[i] = 0;
         i += 1;
     }
 }
 
 // Cells become 0. Four at once, and more only where there are more: few names need no loop. Words after them are free.
-pub fn clear(words: &mut [i32; 8224], from: usize, to: usize)
+pub fn clear(cells: &mut [i32; 8224], from: usize, to: usize)
     requires { ⌜ (from ≤ 8192) × (to ≤ 8192) ⌝ }
-    ensures { λ _. ⌜ Cleared (now (words .entry)) from to (now (words .exit)) ⌝ }
+    ensures { λ _. ⌜ Cleared (now (cells .entry)) from to (now (cells .exit)) ⌝ }
 {
-    words[from] = 0;
-    words[from + 1] = 0;
-    words[from + 2] = 0;
-    words[from + 3] = 0;
+    cells[from] = 0;
+    cells[from + 1] = 0;
+    cells[from + 2] = 0;
+    cells[from + 3] = 0;
     if from + 4 < to {
-        clear_more(words, from + 4, to);
+        clear_more(cells, from + 4, to);
     }
 }

@@ -65,20 +65,20 @@ one-more l n k c Spent o t f h = (omega (arith, h .0), h .1, h .2, later l n k c
 one-more l n k c (Stopped d) o t f h = (omega (arith, h .0), h .1, h .2, h .3)
 one-more l n k c (Refused d) o t f h = h
 
-live-so : (s : State) → 1 ≤ length (s .live) → s .live ≢ []
-live-so s h e = omega (arith, ap length e)
+some-live : (s : State) → 1 ≤ length (s .live) → s .live ≢ []
+some-live s h e = omega (arith, ap length e)
 
 of-run : (l : Limits) {n : ℕ} {s : State} {r : Outcome} → Runs (copied l) n s r → Account l n s r
 unfolding ends
 of-run l (finished e) = record { done = 0; reached = no-step; reason = (zero-le, e, refl) }
-of-run l {s = s} (spent h z) = record { done = 0; reached = no-step; reason = (zero-le, live-so s h, refl, inl (sym z)) }
-of-run l {s = s} (stopped c h k x) = record { done = 0; reached = no-step; reason = (k, live-so s h, refl, x) }
-of-run l {s = s} (short s′ h k g f) = record { done = 0; reached = no-step; reason = (zero-le, live-so s h, refl, inr (s′, g, omega arith)) }
+of-run l {s = s} (spent h z) = record { done = 0; reached = no-step; reason = (zero-le, some-live s h, refl, inl (sym z)) }
+of-run l {s = s} (stopped c h k x) = record { done = 0; reached = no-step; reason = (k, some-live s h, refl, x) }
+of-run l {s = s} (short s′ h k g f) = record { done = 0; reached = no-step; reason = (zero-le, some-live s h, refl, inr (s′, g, omega arith)) }
 of-run l {n} {s} {r} (gone s′ h k g f rest) =
     let a = of-run l rest in
     record {
       done = cost s s′ + a .done;
-      reached = a-step (live-so s h) g (a .reached);
+      reached = a-step (some-live s h) g (a .reached);
       reason = one-more l n (a .done) (cost s s′) (r .end) (r .offset) (r .final) f (a .reason);
     }
 

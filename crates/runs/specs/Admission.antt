@@ -120,7 +120,7 @@ module _ {e : Engine} {f : Fed} {t : Block} (h : Admitted e f t) where
   unfolding testsBefore
   records-fit = h .before .1 .1 .0
 
-  pub table-right : right (f .group) (f .lent .table) ≡ true
+  pub table-right : right (f .limit) (f .lent .table) ≡ true
   unfolding testsBefore
   table-right = h .before .1 .1 .1 .0
 
@@ -134,7 +134,7 @@ first a b q = ((and-eq-true-iff a b) .0 q) .0
 pub activations-fit : (f : Fed) → limitsFit f ≡ true → (1 ≤ f .activations) × (f .activations ≤ 256)
 unfolding limitsFit
 activations-fit f e =
-    let q = (and-eq-true-iff (leb 1 (f .activations)) (leb (f .activations) 256)) .0 (first _ (leb (f .allowance) 1000000) (first _ (leb 1 (f .group)) (first _ (leb (f .group) 65535) (first _ (leb (f .tally) 1000000000000) e)))) in
+    let q = (and-eq-true-iff (leb 1 (f .activations)) (leb (f .activations) 256)) .0 (first _ (leb (f .allowance) 1000000) (first _ (leb 1 (f .limit)) (first _ (leb (f .limit) 65535) (first _ (leb (f .tally) 1000000000000) e)))) in
     (leb-true 1 (f .activations) (q .0), leb-true (f .activations) 256 (q .1))
 
 pub sheet-lent : (f : Fed) → sheetFits f ≡ true → f .activations * sheetShare ≤ length (f .lent .sheet)

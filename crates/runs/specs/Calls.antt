@@ -139,7 +139,7 @@ pub record Reported (f : Fed) (r : Reply) : Type 0 where
   -- what lies past the sheet is as it was
   pub past : drop (r .answer .sheet) (r .lent .sheet) ≡ drop (r .answer .sheet) (f .lent .sheet)
   -- a right table comes back right
-  pub table : right (f .group) (f .lent .table) ≡ true → right (f .group) (r .lent .table) ≡ true
+  pub table : right (f .limit) (f .lent .table) ≡ true → right (f .limit) (r .lent .table) ≡ true
 
 away-reported : (f : Fed) (c : Refusal) (o : ℕ) → Reported f (turnedAway f c o)
 unfolding turnedAway
@@ -152,7 +152,7 @@ ran-reported e f t h =
     let u = f .lent .table in
     let s = start t u in
     let ws = sheetWords ((run (limitsOf f) n s) .final) in
-    record { steps = omega (arith, steps-at-most (limitsOf f) n s, start-steps t u); tally = refl; pairs = refl; words = words-fit t h; designator = designator-fits t h; past = drop-append-seam ws (drop (length ws) (f .lent .sheet)); table = λ r. run-right (limitsOf f) n s (ap (right (f .group)) (start-table t u) ∙ r) }
+    record { steps = omega (arith, steps-at-most (limitsOf f) n s, start-steps t u); tally = refl; pairs = refl; words = words-fit t h; designator = designator-fits t h; past = drop-append-seam ws (drop (length ws) (f .lent .sheet)); table = λ r. run-right (limitsOf f) n s (ap (right (f .limit)) (start-table t u) ∙ r) }
 
 pub reported : (e : Engine) (f : Fed) → Reported f (reply e f)
 reported e f = reply-cases (Reported f) e f (λ c o h. away-reported f c o) (λ t h. ran-reported e f t h)

@@ -75,7 +75,7 @@ pub record Adds (s : State) : Type 0 where
   pub absent : holds (value s group) (value s member) (s .table) ≡ false
 
 abbrev pub NoMember : Limits → State → Type 0
-NoMember l s = (a : Adds s) × (l .group ≤ size (value s (a .group)) (s .table))
+NoMember l s = (a : Adds s) × (l .limit ≤ size (value s (a .group)) (s .table))
 
 abbrev pub NoPlace : State → Type 0
 NoPlace s = Adds s × (full (s .table) ≡ true)

@@ -29,7 +29,7 @@ pub record Kept (l : Limits) (P : State → Type 0) : Type 0 where
   pub entered : (s : State) (a : Activation) (b : Block) → last? (s .live) ≡ some a → nextStmt a ≡ some (BK b) → length ((advance s a) .live) < l .activations → P s → P (enter (advance s a) [] [] b (a .reads))
   pub called : (s : State) (p : ℕ) (xs : List ℕ) (i : Instance) → instance s p ≡ some i → agree (formalKinds (declFormals (i .decl))) (map (kindAt s) xs) ≡ true → length (s .live) < l .activations → P s → P (enter s (formalNames (declFormals (i .decl))) xs (declBody (i .decl)) (i .home .reads))
   pub jumped : (s : State) (x : ℕ) (i : Instance) → instance s x ≡ some i → P s → P (withLive s (take (pred (i .number)) (s .live) ++ (resume (i .home) (labelIndex (i .decl)) ∷ [])))
-  pub added : (s : State) (g m : ℤ) → atLeastOne g && atLeastOne m ≡ true → holds g m (s .table) ≡ false → size g (s .table) < l .group → full (s .table) ≡ false → P s → P (withTable s (add g m (s .table)))
+  pub added : (s : State) (g m : ℤ) → atLeastOne g && atLeastOne m ≡ true → holds g m (s .table) ≡ false → size g (s .table) < l .limit → full (s .table) ≡ false → P s → P (withTable s (add g m (s .table)))
   pub removed : (s : State) (g m : ℤ) → P s → P (withTable s (remove g m (s .table)))
 
 pub record Known (l : Limits) (P : State → Type 0) (U : State → Action → Type 0) : Type 0 where
@@ -41,7 +41,7 @@ pub record Known (l : Limits) (P : State → Type 0) (U : State → Action → T
   pub jumped : (s : State) (x : ℕ) (i : Instance) → U s (GO x) → instance s x ≡ some i → P s → P (withLive s (take (pred (i .number)) (s .live) ++ (resume (i .home) (labelIndex (i .decl)) ∷ [])))
   -- an IF asks of its label what a GO does
   pub branched : (s : State) (v x : ℕ) → U s (IF v x) → U s (GO x)
-  pub added : (s : State) (g m : ℤ) → atLeastOne g && atLeastOne m ≡ true → holds g m (s .table) ≡ false → size g (s .table) < l .group → full (s .table) ≡ false → P s → P (withTable s (add g m (s .table)))
+  pub added : (s : State) (g m : ℤ) → atLeastOne g && atLeastOne m ≡ true → holds g m (s .table) ≡ false → size g (s .table) < l .limit → full (s .table) ≡ false → P s → P (withTable s (add g m (s .table)))
   pub removed : (s : State) (g m : ℤ) → P s → P (withTable s (remove g m (s .table)))
 
 -- from a property P of the state before a step, which advancing keeps, to a property Q of the state after it
@@ -55,7 +55,7 @@ pub record Leads (l : Limits) (P Q : State → Type 0) (U : State → Action →
   pub jumped : (s : State) (x : ℕ) (i : Instance) → U s (GO x) → instance s x ≡ some i → P s → Q (withLive s (take (pred (i .number)) (s .live) ++ (resume (i .home) (labelIndex (i .decl)) ∷ [])))
   -- an IF asks of its label what a GO does
   pub branched : (s : State) (v x : ℕ) → U s (IF v x) → U s (GO x)
-  pub added : (s : State) (g m : ℤ) → atLeastOne g && atLeastOne m ≡ true → holds g m (s .table) ≡ false → size g (s .table) < l .group → full (s .table) ≡ false → P s → Q (withTable s (add g m (s .table)))
+  pub added : (s : State) (g m : ℤ) → atLeastOne g && atLeastOne m ≡ true → holds g m (s .table) ≡ false → size g (s .table) < l .limit → full (s .table) ≡ false → P s → Q (withTable s (add g m (s .table)))
   pub removed : (s : State) (g m : ℤ) → P s → Q (withTable s (remove g m (s .table)))
 
 -- a property of the state after a statement, where it did not stop
@@ -112,9 +112,9 @@ module _ (l : Limits) (P Q : State → Type 0) (U : State → Action → Type 0)
 
   addPair-keeps : (s : State) (g m : ℤ) → P s → After Q (addPair l s g m)
   unfolding addPair added asDone withTable
-  addPair-keeps s g m h = go (atLeastOne g && atLeastOne m) refl (holds g m (s .table)) refl (leb (l .group) (size g (s .table))) refl (full (s .table)) refl
+  addPair-keeps s g m h = go (atLeastOne g && atLeastOne m) refl (holds g m (s .table)) refl (leb (l .limit) (size g (s .table))) refl (full (s .table)) refl
     where
-      go : (n : Bool) → atLeastOne g && atLeastOne m ≡ n → (a : Bool) → holds g m (s .table) ≡ a → (z : Bool) → leb (l .group) (size g (s .table)) ≡ z → (f : Bool) → full (s .table) ≡ f → After Q (addPair l s g m)
+      go : (n : Bool) → atLeastOne g && atLeastOne m ≡ n → (a : Bool) → holds g m (s .table) ≡ a → (z : Bool) → leb (l .limit) (size g (s .table)) ≡ z → (f : Bool) → full (s .table) ≡ f → After Q (addPair l s g m)
       go false n a a′ z z′ f f′ = rw (n, added) tt
       go true n true a z z′ f f′ = rw (n, a, added) (k .stays s h)
       go true n false a true z f f′ = rw (n, a, z, added) tt

@@ -101,11 +101,11 @@ not-below s at a g m n p h w =
     (subst (λ (x : ℕ × ℕ). (atLeastOne (value s (x .0)) ≡ false) ⊎ (atLeastOne (value s (x .1)) ≡ false)) pair (w .below))
 
 -- not 24, where the group has fewer members
-not-member : (l : Limits) (s : State) (at g m : ℕ) → Next s (DO at (AD g m)) → size (value s g) (s .table) < l .group → NoMember l s → ⊥
+not-member : (l : Limits) (s : State) (at g m : ℕ) → Next s (DO at (AD g m)) → size (value s g) (s .table) < l .limit → NoMember l s → ⊥
 not-member l s at g m n h w =
     let same : AD g m ≡ AD (w .0 .group) (w .0 .member) = action-same s at (w .0 .at) (AD g m) (AD (w .0 .group) (w .0 .member)) n (w .0 .next) in
     let group : g ≡ w .0 .group = cc in
-    let most : l .group ≤ size (value s g) (s .table) = subst (λ (x : ℕ). l .group ≤ size (value s x) (s .table)) (sym group) (w .1) in
+    let most : l .limit ≤ size (value s g) (s .table) = subst (λ (x : ℕ). l .limit ≤ size (value s x) (s .table)) (sym group) (w .1) in
     omega arith
 
 -- not 26, where the arguments agree
@@ -178,7 +178,7 @@ module _ (l : Limits) (s : State) (a : Activation) (e : last? (s .live) ≡ some
 
   add-judged : (at g m : ℕ) → nextStmt a ≡ some (DO at (AD g m)) → Judged l s (addPair l u (value u g) (value u m))
   unfolding addPair added asDone advance withLive value pairOf
-  add-judged at g m n = go (atLeastOne (value s g) && atLeastOne (value s m)) refl (holds (value s g) (value s m) (s .table)) refl (leb (l .group) (size (value s g) (s .table))) refl (full (s .table)) refl
+  add-judged at g m n = go (atLeastOne (value s g) && atLeastOne (value s m)) refl (holds (value s g) (value s m) (s .table)) refl (leb (l .limit) (size (value s g) (s .table))) refl (full (s .table)) refl
     where
       fits : atLeastOne (value s g) && atLeastOne (value s m) ≡ true → BelowOne s → ⊥
       fits = not-below s at (AD g m) g m (next-is _ n) refl
@@ -186,11 +186,11 @@ module _ (l : Limits) (s : State) (a : Activation) (e : last? (s .live) ≡ some
       adds : holds (value s g) (value s m) (s .table) ≡ false → Adds s
       adds h = record { at = at; group = g; member = m; next = next-is _ n; absent = h }
 
-      go : (p : Bool) → atLeastOne (value s g) && atLeastOne (value s m) ≡ p → (h : Bool) → holds (value s g) (value s m) (s .table) ≡ h → (z : Bool) → leb (l .group) (size (value s g) (s .table)) ≡ z → (f : Bool) → full (s .table) ≡ f → Judged l s (addPair l u (value s g) (value s m))
+      go : (p : Bool) → atLeastOne (value s g) && atLeastOne (value s m) ≡ p → (h : Bool) → holds (value s g) (value s m) (s .table) ≡ h → (z : Bool) → leb (l .limit) (size (value s g) (s .table)) ≡ z → (f : Bool) → full (s .table) ≡ f → Judged l s (addPair l u (value s g) (value s m))
       go false p h h′ z z′ f f′ = rw (p, added) (below-one at (AD g m) g m n refl p)
       go true p true h z z′ f f′ = rw (p, h, added) tt
-      go true p false h true z f f′ = rw (p, h, z, added) ((adds h, leb-true (l .group) (size (value s g) (s .table)) z), fits p)
-      go true p false h false z true f = rw (p, h, z, f, added) ((adds h, f), fits p, not-member l s at g m (next-is _ n) (leb-false (l .group) (size (value s g) (s .table)) z))
+      go true p false h true z f f′ = rw (p, h, z, added) ((adds h, leb-true (l .limit) (size (value s g) (s .table)) z), fits p)
+      go true p false h false z true f = rw (p, h, z, f, added) ((adds h, f), fits p, not-member l s at g m (next-is _ n) (leb-false (l .limit) (size (value s g) (s .table)) z))
       go true p false h false z false f = rw (p, h, z, f, added) tt
 
   remove-judged : (at g m : ℕ) → nextStmt a ≡ some (DO at (RM g m)) → Judged l s (removePair u (value u g) (value u m))
@@ -315,13 +315,13 @@ module _ (l : Limits) (u : State) (g m : ℤ) where
   unfolding addPair added asDone
   add-below p = rw (p, added)
 
-  add-refused : atLeastOne g && atLeastOne m ≡ true → holds g m (u .table) ≡ false → l .group ≤ size g (u .table) → addPair l u g m ≡ stop GroupFull
+  add-refused : atLeastOne g && atLeastOne m ≡ true → holds g m (u .table) ≡ false → l .limit ≤ size g (u .table) → addPair l u g m ≡ stop GroupFull
   unfolding addPair added asDone
-  add-refused p h z = rw (p, h, le-leb (l .group) (size g (u .table)) z, added)
+  add-refused p h z = rw (p, h, le-leb (l .limit) (size g (u .table)) z, added)
 
-  add-crowded : atLeastOne g && atLeastOne m ≡ true → holds g m (u .table) ≡ false → size g (u .table) < l .group → full (u .table) ≡ true → addPair l u g m ≡ stop TableFull
+  add-crowded : atLeastOne g && atLeastOne m ≡ true → holds g m (u .table) ≡ false → size g (u .table) < l .limit → full (u .table) ≡ true → addPair l u g m ≡ stop TableFull
   unfolding addPair added asDone
-  add-crowded p h z f = rw (p, h, lt-leb (l .group) (size g (u .table)) z, f, added)
+  add-crowded p h z f = rw (p, h, lt-leb (l .limit) (size g (u .table)) z, f, added)
 
   remove-below : atLeastOne g && atLeastOne m ≡ false → removePair u g m ≡ stop NumberBelowOne
   unfolding removePair removed asDone
@@ -369,7 +369,7 @@ module _ (l : Limits) (s : State) where
   unfolding doAction value advance withLive
   due-25 w not room =
       let a = w .0 in
-      let less : size (value s (a .group)) (s .table) < l .group = split (leb (l .group) (size (value s (a .group)) (s .table))) (λ t. absurd (room (a, leb-true (l .group) (size (value s (a .group)) (s .table)) t))) (leb-false (l .group) (size (value s (a .group)) (s .table))) in
+      let less : size (value s (a .group)) (s .table) < l .limit = split (leb (l .limit) (size (value s (a .group)) (s .table))) (λ t. absurd (room (a, leb-true (l .limit) (size (value s (a .group)) (s .table)) t))) (leb-false (l .limit) (size (value s (a .group)) (s .table))) in
       does-action l s (a .at) (AD (a .group) (a .member)) (a .next) ∙ add-crowded l (advance s (a .next .innermost)) (value s (a .group)) (value s (a .member)) (fitting a not) (a .absent) less (w .1)
 
   -- The theorems

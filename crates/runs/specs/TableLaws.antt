@@ -244,12 +244,12 @@ remove-size h g m t f = go (find g m (t .used) (t .words)) refl
         takeOut-members h i (t .used) (t .words) f (p .0) ∙ ap₂ (λ x a. members h (x .used) (x .words) + cond (eqZ a h) 1 0) (sym (remove-present g m t i e)) (p .1 .0)
 
 -- Running.
-right-kept : (l : Limits) → Kept l (λ s. right (l .group) (s .table) ≡ true)
+right-kept : (l : Limits) → Kept l (λ s. right (l .limit) (s .table) ≡ true)
 unfolding withLive withTable store enter advance
 right-kept l =
-    record { left = λ s h. h; advanced = λ s a e h. h; stored = λ s x z h. h; entered = λ s a b e n r h. h; called = λ s p xs i e g r h. h; jumped = λ s x i e h. h; added = λ s g m n a z f h. add-right (l .group) g m (s .table) h n a z f; removed = λ s g m h. remove-right (l .group) g m (s .table) h }
+    record { left = λ s h. h; advanced = λ s a e h. h; stored = λ s x z h. h; entered = λ s a b e n r h. h; called = λ s p xs i e g r h. h; jumped = λ s x i e h. h; added = λ s g m n a z f h. add-right (l .limit) g m (s .table) h n a z f; removed = λ s g m h. remove-right (l .limit) g m (s .table) h }
 
 -- a table that is right at first is right when the run ends
-pub run-right : (l : Limits) (n : ℕ) (s : State) → right (l .group) (s .table) ≡ true → right (l .group) ((run l n s) .final .table) ≡ true
+pub run-right : (l : Limits) (n : ℕ) (s : State) → right (l .limit) (s .table) ≡ true → right (l .limit) ((run l n s) .final .table) ≡ true
 unfolding counted
-run-right l n s h = run-keeps l (λ x. right (l .group) (x .table) ≡ true) (right-kept l) (λ x y q. q) n s h
+run-right l n s h = run-keeps l (λ x. right (l .limit) (x .table) ≡ true) (right-kept l) (λ x y q. q) n s h

@@ -24,7 +24,7 @@ use Rattle.steps.specs.Jumps.{goto-means, branch-means}
 use Rattle.steps.specs.Entries.{block-means}
 use Rattle.steps.specs.Calls.{call-means, call-formal-means}
 
-module _ {code : List ℕ} {l : Limits} {words : List ℤ} {blocks nexts links : List ℕ} {table : List ℤ} {pairs live at end : ℕ} (w : Standing code l words blocks nexts links table pairs live at end)
+module _ {code : List ℕ} {l : Limits} {cells : List ℤ} {blocks nexts links : List ℕ} {table : List ℤ} {pairs live at end : ℕ} (w : Standing code l cells blocks nexts links table pairs live at end)
     (F : Finding) (finds : Finds (w .stack .frames) F) where
   -- AR's operation by its field
   by-operation : (o t : ℕ) (p : Operation) (a b : ℕ) → frameStmt (w .frame) ≡ some (DO o (AR t p a b)) → Means w (doArithmetic F (sceneOf w) (operationOf (getD code (at + 2) 0)))

@@ -124,12 +124,12 @@ module _ (t : Block) (keeps : Keeps t) (fs : List Frame) (chain : Chained t fs) 
   abbrev scope : Scope
   scope = scopeOf (enclosureOf fs (length fs))
 
-  pub kinds-stand : (code : List ℕ) (blocks nexts links : List ℕ) (words : List ℤ) → Holds fs blocks nexts links words → (from : ℕ) (xs : List ℕ) → Covers code from (map wordOf xs) → Each (Resolved fs) xs → KindsStand code fs from xs
-  kinds-stand code blocks nexts links words holds from [] c r = tt
-  kinds-stand code blocks nexts links words holds from (a ∷ xs) c r =
+  pub kinds-stand : (code : List ℕ) (blocks nexts links : List ℕ) (cells : List ℤ) → Holds fs blocks nexts links cells → (from : ℕ) (xs : List ℕ) → Covers code from (map wordOf xs) → Each (Resolved fs) xs → KindsStand code fs from xs
+  kinds-stand code blocks nexts links cells holds from [] c r = tt
+  kinds-stand code blocks nexts links cells holds from (a ∷ xs) c r =
       let k = r .0 .meaning .kind in
-      let named = named-by-links t keeps fs chain a (r .0 .coordinate) (r .0 .here) wired blocks nexts links words holds in
-      ((k, ap kindIn (c .0) ∙ named .kind k (r .0 .instance), kind-designated fs (designates fs a) k (r .0 .instance)), kinds-stand code blocks nexts links words holds (from + 1) xs (c .1) (r .1))
+      let named = named-by-links t keeps fs chain a (r .0 .coordinate) (r .0 .here) wired blocks nexts links cells holds in
+      ((k, ap kindIn (c .0) ∙ named .kind k (r .0 .instance), kind-designated fs (designates fs a) k (r .0 .instance)), kinds-stand code blocks nexts links cells holds (from + 1) xs (c .1) (r .1))
 
   -- The script check
 

@@ -40,7 +40,7 @@ use Rattle.resolved.specs.Standing.{head-stands, formals-covered, formals-befor
 use Rattle.resolved.specs.Places.{block-fields, end-bound}
 use Rattle.resolved.specs.Layout.{formalsIn}
 use Rattle.arrays.specs.Holds.{formalWord}
-use Rattle.arrays.specs.Cells as cells
+use Rattle.arrays.specs.Cells as celled
 use Rattle.run_moves.specs.declared.Move.the-variants.{Enter, Stop}
 use Rattle.run_moves.specs.Effects.{sameKinds}
 use Rattle.run_moves.specs.Acting.{Finding, Scene, field, moves, rewrites, setAll, noRoom, argumentsFrom, doCall, argumentsAgree, doCallFormal}
@@ -59,12 +59,12 @@ is-procedure (LB at n i) e = let z : _≡_ {A = ℕ} 0 1 = cc in absurd (omega a
 is-procedure (PR at n gs b) e = (at, n, gs, b, refl)
 
 module _ (F : Finding) (s : Scene) where
-  call-full : leb (s .limit) (s .live + 1) ≡ true → doCall F s ≡ moves s (Stop NoActivationLeft)
+  call-full : leb (s .activations) (s .live + 1) ≡ true → doCall F s ≡ moves s (Stop NoActivationLeft)
   unfolding doCall noRoom
   call-full e = rw (doCall, e)
 
-  call-enters : leb (s .limit) (s .live + 1) ≡ false
-      → doCall F s ≡ rewrites s (Enter (F .target (field s 1)) (F .home (field s 1)) (s .at + 3 + field s 2)) (setAll (s .words) (32 * s .live + 32) (argumentsFrom F s (s .at + 3) (field s 2)))
+  call-enters : leb (s .activations) (s .live + 1) ≡ false
+      → doCall F s ≡ rewrites s (Enter (F .target (field s 1)) (F .home (field s 1)) (s .at + 3 + field s 2)) (setAll (s .cells) (32 * s .live + 32) (argumentsFrom F s (s .at + 3) (field s 2)))
   unfolding doCall noRoom
   call-enters e = rw (doCall, e)
 
@@ -76,7 +76,7 @@ module _ (F : Finding) (s : Scene) where
   unfolding doCallFormal
   formal-differs e = rw (doCallFormal, e)
 
-module _ {code : List ℕ} {l : Limits} {words : List ℤ} {blocks nexts links : List ℕ} {table : List ℤ} {pairs live at end : ℕ} (w : Standing code l words blocks nexts links table pairs live at end)
+module _ {code : List ℕ} {l : Limits} {cells : List ℤ} {blocks nexts links : List ℕ} {table : List ℤ} {pairs live at end : ℕ} (w : Standing code l cells blocks nexts links table pairs live at end)
     (o p : ℕ) (xs : List ℕ) (q : frameStmt (w .frame) ≡ some (DO o (CL p xs))) where
   abbrev fs : List Frame
   fs = w .stack .frames
@@ -204,14 +204,14 @@ module _ {code : List ℕ} {l : Limits} {words : List ℤ} {blocks nexts links :
       (λ e. let n : length gs ≡ length xs = eqb-true (length gs) (length xs) e in
       (λ i. e i && sameKinds code (at + 3) (placeOf (blockAt body) - 3 * length xs) (length xs))
       ∙ kinds-agree code fs gs xs (at + 3) (placeOf (blockAt body) - 3 * length xs) n (subst (λ k. Covers code (placeOf (blockAt body) - 3 * k) (resolvedFormals gs)) n formals-stand)
-      (kinds-stand (w .program) (w .keeps) fs (w .sound .chained) (w .sound .wired) code blocks (set nexts live at) links words (w .holds) (at + 3) xs arguments-covered given))
+      (kinds-stand (w .program) (w .keeps) fs (w .sound .chained) (w .sound .wired) code blocks (set nexts live at) links cells (w .holds) (at + 3) xs arguments-covered given))
       (λ e. (λ i. e i && sameKinds code (at + 3) (placeOf (blockAt body) - 3 * length xs) (length xs))
       ∙ split agreed (λ a. absurd (eqb-false (length gs) (length xs) e (sym (agree-many (kindOf fs) gs ys a) ∙ length-map xs (designates fs)))) (λ a. sym a))
 
   module _ (F : Finding) (finds : Finds (w .stack .frames) F) where
     target-is : F .target (getD code (at + 1) 0) ≡ placeOf (blockAt body)
     unfolding declTarget
-    target-is = target-found w F finds p called 1 word-is ∙ cells.target-found fs x (home .0) (PR (found .0) (found .1) gs body) (home .1) declared
+    target-is = target-found w F finds p called 1 word-is ∙ celled.target-found fs x (home .0) (PR (found .0) (found .1) gs body) (home .1) declared
 
     -- the body stands in the script, after its formals
     pub body-bounds : (F .target (getD code (at + 1) 0) < 4096) × (3 * (formalsIn (getD code (F .target (getD code (at + 1) 0)) 0)) ≤ F .target (getD code (at + 1) 0))
@@ -219,7 +219,7 @@ module _ {code : List ℕ} {l : Limits} {words : List ℤ} {blocks nexts links :
     body-bounds =
         let heads : formalsIn (getD code (F .target (getD code (at + 1) 0)) 0) ≡ length gs = ap (λ k. formalsIn (getD code k 0)) target-is ∙ formals-are in
         let last = end-bound (w .program) (w .keeps) (enclosed gs body) (enclosing (home .0) ∷ enclosureOf fs (home .0 .link)) body-encloses in
-        let behind = formals-before code (w .name) (w .program) (w .keeps) (w .covers) (enclosing (home .0)) (enclosureOf fs (home .0 .link)) around (place x - length (home .0 .formals)) (found .0) (found .1) gs body (home .2) in
+        let formals = formals-before code (w .name) (w .program) (w .keeps) (w .covers) (enclosing (home .0)) (enclosureOf fs (home .0 .link)) around (place x - length (home .0 .formals)) (found .0) (found .1) gs body (home .2) in
         (omega (arith, target-is, block-fields body), omega (arith, target-is))
 
     -- entering the body
@@ -227,19 +227,19 @@ module _ {code : List ℕ} {l : Limits} {words : List ℤ} {blocks nexts links :
     abbrev handedWords : List ℤ
     handedWords = argumentsFrom F (sceneOf w) (at + 3) (getD code (at + 2) 0)
 
-    handed-word : (i y : ℕ) → getElem? ys i ≡ some y → getD (setAll words (32 * live + 32) handedWords) (32 * suc live + i) (pos 0) ≡ pos (formalWord fs y)
+    handed-word : (i y : ℕ) → getElem? ys i ≡ some y → getD (setAll cells (32 * live + 32) handedWords) (32 * suc live + i) (pos 0) ≡ pos (formalWord fs y)
     handed-word i y e =
         let a = image-at (designates fs) xs i y e in
         let b : i < getD code (at + 2) 0 = omega (arith, count-is, getElem-bound xs i (a .0) (a .1)) in
         let n : 32 * suc live + i ≡ 32 * live + 32 + i = omega arith in
-        let room : 32 * live + 32 + length handedWords ≤ length words = omega (arith, handed-length F (sceneOf w) (at + 3) (getD code (at + 2) 0), count-is, few, w .words-long, live-few w) in
-        ap (λ k. getD (setAll words (32 * live + 32) handedWords) k (pos 0)) n
-        ∙ written-at words (32 * live + 32) handedWords i _ room (handed-at F (sceneOf w) (at + 3) (getD code (at + 2) 0) i b)
+        let room : 32 * live + 32 + length handedWords ≤ length cells = omega (arith, handed-length F (sceneOf w) (at + 3) (getD code (at + 2) 0), count-is, few, w .cells-long, live-few w) in
+        ap (λ k. getD (setAll cells (32 * live + 32) handedWords) k (pos 0)) n
+        ∙ written-at cells (32 * live + 32) handedWords i _ room (handed-at F (sceneOf w) (at + 3) (getD code (at + 2) 0) i b)
         ∙ ap (F .handed) (argument-is i (a .0) (a .1)) ∙ (finds (a .0) (each-at (Resolved fs) xs i (a .0) (a .1) given)) .handed-is
         ∙ ap (λ z. pos (formalWord fs z)) (sym (a .2))
 
     entering : agreed ≡ true → leb (l .activations) (live + 1) ≡ false
-        → EntersAt w (F .target (getD code (at + 1) 0)) (pred (frameNumber x)) (at + 3 + getD code (at + 2) 0) (setAll words (32 * live + 32) handedWords)
+        → EntersAt w (F .target (getD code (at + 1) 0)) (pred (frameNumber x)) (at + 3 + getD code (at + 2) 0) (setAll cells (32 * live + 32) handedWords)
     unfolding withFrames mapAction declFormals declBody
     entering a e =
         record {
@@ -260,8 +260,8 @@ module _ {code : List ℕ} {l : Limits} {words : List ℤ} {blocks nexts links :
               let b = image-at (designates fs) xs i y c in
               let r = each-at (Resolved fs) xs i (b .0) (b .1) given in
               (r .meaning .kind, subst (λ z. Designated fs z (r .meaning .kind)) (sym (b .2)) (r .instance));
-          as-long = written-length words (32 * live + 32) handedWords;
-          kept = λ i h. written-below words (32 * live + 32) handedWords i (omega arith);
+          as-long = written-length cells (32 * live + 32) handedWords;
+          kept = λ i h. written-below cells (32 * live + 32) handedWords i (omega arith);
           handed = handed-word;
         }
 
@@ -275,7 +275,7 @@ module _ {code : List ℕ} {l : Limits} {words : List ℤ} {blocks nexts links :
           refl,
         ))
         (λ e. subst (Means w) (sym (call-enters F (sceneOf w) e))
-        (subst (λ k. EntersAt w (F .target (getD code (at + 1) 0)) k (at + 3 + getD code (at + 2) 0) (setAll words (32 * live + 32) handedWords)) (sym (home-found w F finds p called 1 word-is)) (entering a e)))
+        (subst (λ k. EntersAt w (F .target (getD code (at + 1) 0)) k (at + 3 + getD code (at + 2) 0) (setAll cells (32 * live + 32) handedWords)) (sym (home-found w F finds p called 1 word-is)) (entering a e)))
 
     pub call-means : direct (nameWord es p) ≡ true → Means w (doCall F (sceneOf w))
     call-means d = agreeing-means (agreed-declared d)

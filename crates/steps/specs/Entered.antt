@@ -35,8 +35,8 @@ use Rattle.steps.specs.Here.{many, last-is, live-few, downward}
 use Rattle.steps.specs.Loop.{sound-after, follows-step}
 use Rattle.steps.specs.Going.{ahead, ahead-many}
 
-module _ {code : List ℕ} {l : Limits} {words : List ℤ} {blocks nexts links : List ℕ} {table : List ℤ} {pairs live at end : ℕ} (w : Standing code l words blocks nexts links table pairs live at end)
-    (body link back : ℕ) (words′ : List ℤ) (j : EntersAt w body link back words′) where
+module _ {code : List ℕ} {l : Limits} {cells : List ℤ} {blocks nexts links : List ℕ} {table : List ℤ} {pairs live at end : ℕ} (w : Standing code l cells blocks nexts links table pairs live at end)
+    (body link back : ℕ) (cells′ : List ℤ) (j : EntersAt w body link back cells′) where
   -- the block's first words
   pub record BodyHead : Type 0 where
     pub level : levelIn (getD code body 0) ≡ suc (levelOf (w .stack .frames) (suc link))
@@ -80,7 +80,7 @@ module _ {code : List ℕ} {l : Limits} {words : List ℤ} {blocks nexts links :
   deep = ahead-many w ∙ omega arith
 
   room : live + 1 < 256
-  room = omega (arith, j .room, w .sound .limit)
+  room = omega (arith, j .room, w .sound .few)
 
   under : butLast (w .stack .frames) ≡ w .below
   under = butLast-innermost (w .stack) (w .below) (w .frame) (w .frames-are)
@@ -92,24 +92,24 @@ module _ {code : List ℕ} {l : Limits} {words : List ℤ} {blocks nexts links :
   given : (i x : ℕ) → getElem? (j .arguments) i ≡ some x → frameNumber x ≤ length (w .stack .frames)
   given i x e = let d = j .designate i x e in numbered-high (w .stack .frames) (frameNumber x) (d .1 .home) (d .1 .stands)
 
-  module _ (words″ : List ℤ) (cleared : Cleared words′ (32 * (live + 1) + length (j .formals)) (32 * (live + 1) + (length (j .formals) + length (blockDecls (j .text)))) words″) where
-    held : Holds gs (set blocks (live + 1) body) (set (set nexts live back) (live + 1) (stmtPlace (j .text) 1)) (set links (live + 1) link) words″
+  module _ (cells″ : List ℤ) (cleared : Cleared cells′ (32 * (live + 1) + length (j .formals)) (32 * (live + 1) + (length (j .formals) + length (blockDecls (j .text)))) cells″) where
+    held : Holds gs (set blocks (live + 1) body) (set (set nexts live back) (live + 1) (stmtPlace (j .text) 1)) (set links (live + 1) link) cells″
     held =
         let fs = w .stack .frames in
         let few = live-few w in
         let n = many w in
         let z : 32 * length fs ≡ 32 * suc live = ap (λ k. 32 * k) n in
-        let h = holds-pushed fs blocks nexts links words (w .sound .bounded .each) live at n (omega (arith, w .nexts-long)) (w .holds) (w .frame) (last-is w) (suc (w .frame .next))
-        (subst (λ (ps : List Frame). BoundedFrames (ps ++ (continue (w .frame) (suc (w .frame .next)) ∷ []))) (sym under) bounded) (j .formals) (j .arguments) (j .text) (suc link) (j .count) given words″
+        let h = holds-pushed fs blocks nexts links cells (w .sound .bounded .each) live at n (omega (arith, w .nexts-long)) (w .holds) (w .frame) (last-is w) (suc (w .frame .next))
+        (subst (λ (ps : List Frame). BoundedFrames (ps ++ (continue (w .frame) (suc (w .frame .next)) ∷ []))) (sym under) bounded) (j .formals) (j .arguments) (j .text) (suc link) (j .count) given cells″
         (λ c p. cleared .kept c (omega arith) ∙ j .kept c (omega arith))
-        (λ i x e. ap (λ c. getD words″ (c + i) (pos 0)) z ∙ cleared .kept (32 * suc live + i) (omega (arith, getElem-bound (j .arguments) i x e, j .count)) ∙ j .handed i x e)
-        (λ i p q. ap (λ c. getD words″ (c + i) (pos 0)) z ∙ cleared .zeros (32 * suc live + i) (omega (arith, j .count)) (omega (arith, j .count)))
+        (λ i x e. ap (λ c. getD cells″ (c + i) (pos 0)) z ∙ cleared .kept (32 * suc live + i) (omega (arith, getElem-bound (j .arguments) i x e, j .count)) ∙ j .handed i x e)
+        (λ i p q. ap (λ c. getD cells″ (c + i) (pos 0)) z ∙ cleared .zeros (32 * suc live + i) (omega (arith, j .count)) (omega (arith, j .count)))
         (omega (arith, room, w .blocks-long)) (omega (arith, room, w .nexts-long)) (omega (arith, room, w .links-long)) in
         subst (λ (T : Type 0). T)
-        (λ i. Holds ((under i ++ (continue (w .frame) (suc (w .frame .next)) ∷ [])) ++ (new ∷ [])) (set blocks (one i) (sym (j .body-is) i)) (set (set nexts live (sym (j .back-is) i)) (one i) (stmtPlace (j .text) 1)) (set links (one i) link) words″) h
+        (λ i. Holds ((under i ++ (continue (w .frame) (suc (w .frame .next)) ∷ [])) ++ (new ∷ [])) (set blocks (one i) (sym (j .body-is) i)) (set (set nexts live (sym (j .back-is) i)) (one i) (stmtPlace (j .text) 1)) (set links (one i) link) cells″) h
 
     pub record Entered : Type 0 where
-      pub standing : Standing code l words″ (set blocks (live + 1) body) (set nexts live back) (set links (live + 1) link) table pairs (live + 1) (stmtPlace (j .text) 1) (endPlace (j .text))
+      pub standing : Standing code l cells″ (set blocks (live + 1) body) (set nexts live back) (set links (live + 1) link) table pairs (live + 1) (stmtPlace (j .text) 1) (endPlace (j .text))
       pub follows : Follows w (standing .stack) (standing .program) (standing .name)
       pub shows : (display : List ℕ) → suc (levelOf (w .stack .frames) (suc link)) < length display → ShowsFrom (w .stack .frames) (suc link) display
           → Shows (standing .stack .frames) (set display (suc (levelOf (w .stack .frames) (suc link))) (32 * (live + 1)))
@@ -140,7 +140,7 @@ module _ {code : List ℕ} {l : Limits} {words : List ℤ} {blocks nexts links :
             table-is = w .table-is;
             holds = held;
             end-is = refl;
-            words-long = cleared .as-long ∙ j .as-long ∙ w .words-long;
+            cells-long = cleared .as-long ∙ j .as-long ∙ w .cells-long;
             blocks-long = length-set blocks (live + 1) body ∙ w .blocks-long;
             nexts-long = length-set nexts live back ∙ w .nexts-long;
             links-long = length-set links (live + 1) link ∙ w .links-long;

@@ -31,11 +31,11 @@ use Rattle.steps.specs.Means.{EntersAt, Means}
 use Rattle.steps.specs.Here.{many, last-is, stands-at, covered, goes-on-at}
 use Rattle.steps.specs.Going.{sceneOf, ahead, aheadStack, ahead-many}
 
-blocks-full : (F : Finding) (s : Scene) → leb (s .limit) (s .live + 1) ≡ true → doBlock F s ≡ moves s (Stop NoActivationLeft)
+blocks-full : (F : Finding) (s : Scene) → leb (s .activations) (s .live + 1) ≡ true → doBlock F s ≡ moves s (Stop NoActivationLeft)
 unfolding doBlock noRoom
 blocks-full F s e = rw (doBlock, e)
 
-blocks-enter : (F : Finding) (s : Scene) → leb (s .limit) (s .live + 1) ≡ false → doBlock F s ≡ moves s (Enter (s .at) (s .live) (endIn (field s 1)))
+blocks-enter : (F : Finding) (s : Scene) → leb (s .activations) (s .live + 1) ≡ false → doBlock F s ≡ moves s (Enter (s .at) (s .live) (endIn (field s 1)))
 unfolding doBlock noRoom
 blocks-enter F s e = rw (doBlock, e)
 
@@ -44,7 +44,7 @@ bounds-of : (code : List ℕ) (p name : ℕ) (b : Block) (es : Enclosure) → Co
 unfolding resolvedStmt header
 bounds-of code p name (block at ds ss) es h = h .1 .0
 
-module _ {code : List ℕ} {l : Limits} {words : List ℤ} {blocks nexts links : List ℕ} {table : List ℤ} {pairs live at end : ℕ} (w : Standing code l words blocks nexts links table pairs live at end) where
+module _ {code : List ℕ} {l : Limits} {cells : List ℤ} {blocks nexts links : List ℕ} {table : List ℤ} {pairs live at end : ℕ} (w : Standing code l cells blocks nexts links table pairs live at end) where
   pub room-none : leb (l .activations) (live + 1) ≡ true → ltb (length (ahead w)) (l .activations) ≡ false
   room-none e = le-ltb (length (ahead w)) (l .activations) (omega (arith, ahead-many w, leb-true (l .activations) (live + 1) e))
 
@@ -65,7 +65,7 @@ module _ {code : List ℕ} {l : Limits} {words : List ℤ} {blocks nexts links :
         let bounds : getD code (at + 1) 0 ≡ boundsWord b = bounds-of code at (w .name) b around (covered w (BK b) q) in
         ap endIn bounds ∙ bounds-end (w .program) (w .keeps) (enclosed [] b) around stands ∙ ap (λ i. i + length (blockFields b)) (sym (stands-at w (BK b) q)) ∙ sym (goes-on-at w (BK b) q)
 
-    entering : leb (l .activations) (live + 1) ≡ false → EntersAt w at live (endIn (getD code (at + 1) 0)) words
+    entering : leb (l .activations) (live + 1) ≡ false → EntersAt w at live (endIn (getD code (at + 1) 0)) cells
     unfolding around withFrames stmtAt
     entering e =
         record {

@@ -28,7 +28,7 @@ use Rattle.steps.specs.Ops.{AllDirect, OpIs, op-is}
 use Rattle.steps.specs.Reads.{fields-within}
 use Rattle.steps.specs.Calls.{few, count-is, argument-is, body-bounds}
 
-module _ {code : List ℕ} {l : Limits} {words : List ℤ} {blocks nexts links : List ℕ} {table : List ℤ} {pairs live at end : ℕ} (w : Standing code l words blocks nexts links table pairs live at end) where
+module _ {code : List ℕ} {l : Limits} {cells : List ℤ} {blocks nexts links : List ℕ} {table : List ℤ} {pairs live at end : ℕ} (w : Standing code l cells blocks nexts links table pairs live at end) where
   pub record FieldName (i : ℕ) : Type 0 where
     pub name : ℕ
     pub resolved : Resolved (w .stack .frames) name

@@ -26,25 +26,25 @@ use Rattle.steps.specs.Standing.{Standing, Finds}
 use Rattle.steps.specs.Here.{many}
 
 abbrev pub byFirst : List ℤ → (ℕ → ℕ) → Finding
-byFirst words first =
+byFirst cells first =
     record {
-      cell = λ v. found.cellBy words (first v) v;
-      home = λ v. found.homeBy words (first v) v;
-      target = λ v. found.targetBy words (first v) v;
-      handed = λ v. found.handedBy words (first v) v;
+      cell = λ v. found.cellBy cells (first v) v;
+      home = λ v. found.homeBy cells (first v) v;
+      target = λ v. found.targetBy cells (first v) v;
+      handed = λ v. found.handedBy cells (first v) v;
     }
 
 -- the name's own cell is one of the live activations', what a formal holds is not negative, and the cell that it finally stands for is one of
 -- all words
-pub record Reaches (words : List ℤ) (live first v : ℕ) : Type 0 where
+pub record Reaches (cells : List ℤ) (live first v : ℕ) : Type 0 where
   pub own : first + positionIn v < 32 * live + 32
-  pub whole : direct v ≡ false → ltZ (getD words (first + positionIn v) (pos 0)) (pos 0) ≡ false
-  pub cell : found.cellBy words first v < 8192
+  pub whole : direct v ≡ false → ltZ (getD cells (first + positionIn v) (pos 0)) (pos 0) ≡ false
+  pub cell : found.cellBy cells first v < 8192
 
 not-negative : (z : ℤ) (n : ℕ) → z ≡ pos n → ltZ z (pos 0) ≡ false
 not-negative z n e = ap (λ (y : ℤ). ltZ y (pos 0)) e ∙ le-ltb n 0 (omega arith)
 
-module _ {code : List ℕ} {l : Limits} {words : List ℤ} {blocks nexts links : List ℕ} {table : List ℤ} {pairs live at end : ℕ} (w : Standing code l words blocks nexts links table pairs live at end) where
+module _ {code : List ℕ} {l : Limits} {cells : List ℤ} {blocks nexts links : List ℕ} {table : List ℤ} {pairs live at end : ℕ} (w : Standing code l cells blocks nexts links table pairs live at end) where
   abbrev pub wordOf : ℕ → ℕ
   wordOf n = nameWord (enclosureOf (w .stack .frames) (length (w .stack .frames))) n
 
@@ -55,43 +55,43 @@ module _ {code : List ℕ} {l : Limits} {words : List ℤ} {blocks nexts links :
   -- a name that is seen
   module _ (n : ℕ) (c : Coordinate) (e : coordinateOf (enclosureOf (w .stack .frames) (length (w .stack .frames))) n ≡ some c) where
     celled : Celled (designates (w .stack .frames) n)
-    celled = found.named-celled l (w .program) (w .keeps) (w .stack) (w .sound) blocks (set nexts live at) links words (w .holds) n c e
+    celled = found.named-celled l (w .program) (w .keeps) (w .stack) (w .sound) blocks (set nexts live at) links cells (w .holds) n c e
 
-    at-display : (display : List ℕ) → Shows (w .stack .frames) display → NameAt (w .stack .frames) words n (wordOf n) (getD display (levelIn (wordOf n)) 0)
-    at-display display shows = named-by-display (w .program) (w .keeps) (w .stack .frames) (w .sound .chained) n c e (w .sound .wired) blocks (set nexts live at) links words (w .holds) display shows
+    at-display : (display : List ℕ) → Shows (w .stack .frames) display → NameAt (w .stack .frames) cells n (wordOf n) (getD display (levelIn (wordOf n)) 0)
+    at-display display shows = named-by-display (w .program) (w .keeps) (w .stack .frames) (w .sound .chained) n c e (w .sound .wired) blocks (set nexts live at) links cells (w .holds) display shows
 
-    at-links : NameAt (w .stack .frames) words n (wordOf n) (firstByLinks (wordOf n))
-    at-links = named-by-links (w .program) (w .keeps) (w .stack .frames) (w .sound .chained) n c e (w .sound .wired) blocks (set nexts live at) links words (w .holds)
+    at-links : NameAt (w .stack .frames) cells n (wordOf n) (firstByLinks (wordOf n))
+    at-links = named-by-links (w .program) (w .keeps) (w .stack .frames) (w .sound .chained) n c e (w .sound .wired) blocks (set nexts live at) links cells (w .holds)
 
-    module _ (first : ℕ) (a : NameAt (w .stack .frames) words n (wordOf n) first) where
-      as-found : found.Finds (w .stack .frames) words n (wordOf n) first
-      as-found = found.finds (w .stack .frames) words n (wordOf n) first a celled
+    module _ (first : ℕ) (a : NameAt (w .stack .frames) cells n (wordOf n) first) where
+      as-found : found.Finds (w .stack .frames) cells n (wordOf n) first
+      as-found = found.finds (w .stack .frames) cells n (wordOf n) first a celled
 
-      reaches : Reaches words live first (wordOf n)
+      reaches : Reaches cells live first (wordOf n)
       reaches =
           record {
-            own = omega (arith, found.own-cell-bound (w .stack .frames) words n (wordOf n) first a celled, many w);
+            own = omega (arith, found.own-cell-bound (w .stack .frames) cells n (wordOf n) first a celled, many w);
             whole = λ d. not-negative _ _ (a .formal-word (found.formal-is (wordOf n) d));
             cell = omega (arith, as-found .cell, cell-bound (designates (w .stack .frames) n) celled);
           }
 
-      designator : designatorOf (found.cellBy words first (wordOf n)) ≡ designates (w .stack .frames) n
+      designator : designatorOf (found.cellBy cells first (wordOf n)) ≡ designates (w .stack .frames) n
       designator = ap designatorOf (as-found .cell) ∙ designator-of-cell (designates (w .stack .frames) n) celled
 
   -- the names of the next statement
 
-  pub reached-by-display : (display : List ℕ) → Shows (w .stack .frames) display → (n : ℕ) → Resolved (w .stack .frames) n → Reaches words live (getD display (levelIn (wordOf n)) 0) (wordOf n)
+  pub reached-by-display : (display : List ℕ) → Shows (w .stack .frames) display → (n : ℕ) → Resolved (w .stack .frames) n → Reaches cells live (getD display (levelIn (wordOf n)) 0) (wordOf n)
   reached-by-display display shows n r = reaches n (r .coordinate) (r .here) (getD display (levelIn (wordOf n)) 0) (at-display n (r .coordinate) (r .here) display shows)
 
-  pub reached-by-links : (n : ℕ) → Resolved (w .stack .frames) n → Reaches words live (firstByLinks (wordOf n)) (wordOf n)
+  pub reached-by-links : (n : ℕ) → Resolved (w .stack .frames) n → Reaches cells live (firstByLinks (wordOf n)) (wordOf n)
   reached-by-links n r = reaches n (r .coordinate) (r .here) (firstByLinks (wordOf n)) (at-links n (r .coordinate) (r .here))
 
-  pub finds-by-display : (display : List ℕ) → Shows (w .stack .frames) display → Finds (w .stack .frames) (byFirst words (λ v. getD display (levelIn v) 0))
+  pub finds-by-display : (display : List ℕ) → Shows (w .stack .frames) display → Finds (w .stack .frames) (byFirst cells (λ v. getD display (levelIn v) 0))
   finds-by-display display shows n r =
       let f = as-found n (r .coordinate) (r .here) (getD display (levelIn (wordOf n)) 0) (at-display n (r .coordinate) (r .here) display shows) in
       record { cell-is = f .cell; home-is = f .home; target-is = f .target; handed-is = f .handed }
 
-  pub finds-by-links : Finds (w .stack .frames) (byFirst words firstByLinks)
+  pub finds-by-links : Finds (w .stack .frames) (byFirst cells firstByLinks)
   finds-by-links n r =
       let f = as-found n (r .coordinate) (r .here) (firstByLinks (wordOf n)) (at-links n (r .coordinate) (r .here)) in
       record { cell-is = f .cell; home-is = f .home; target-is = f .target; handed-is = f .handed }
@@ -102,14 +102,14 @@ module _ {code : List ℕ} {l : Limits} {words : List ℤ} {blocks nexts links :
   unseen-word = unseen (w .program) (w .keeps) (w .stack .frames) (w .sound .chained)
 
   pub seen-by-display : (display : List ℕ) → Shows (w .stack .frames) display → (n : ℕ) → (wordOf n ≡ 0 → ⊥)
-      → Reaches words live (getD display (levelIn (wordOf n)) 0) (wordOf n) × (designatorOf (found.cellBy words (getD display (levelIn (wordOf n)) 0) (wordOf n)) ≡ designates (w .stack .frames) n)
+      → Reaches cells live (getD display (levelIn (wordOf n)) 0) (wordOf n) × (designatorOf (found.cellBy cells (getD display (levelIn (wordOf n)) 0) (wordOf n)) ≡ designates (w .stack .frames) n)
   seen-by-display display shows n d =
       let c = seen (w .program) (w .keeps) (w .stack .frames) (w .sound .chained) n d in
       let a = at-display n (c .0) (c .1) display shows in
       (reaches n (c .0) (c .1) (getD display (levelIn (wordOf n)) 0) a, designator n (c .0) (c .1) (getD display (levelIn (wordOf n)) 0) a)
 
   pub seen-by-links : (n : ℕ) → (wordOf n ≡ 0 → ⊥)
-      → Reaches words live (firstByLinks (wordOf n)) (wordOf n) × (designatorOf (found.cellBy words (firstByLinks (wordOf n)) (wordOf n)) ≡ designates (w .stack .frames) n)
+      → Reaches cells live (firstByLinks (wordOf n)) (wordOf n) × (designatorOf (found.cellBy cells (firstByLinks (wordOf n)) (wordOf n)) ≡ designates (w .stack .frames) n)
   seen-by-links n d =
       let c = seen (w .program) (w .keeps) (w .stack .frames) (w .sound .chained) n d in
       let a = at-links n (c .0) (c .1) in

@@ -68,10 +68,10 @@ like-trans fs gs hs p q =
           );
     }
 
-module _ {code : List ℕ} {l : Limits} {words : List ℤ} {blocks nexts links : List ℕ} {table : List ℤ} {pairs live at end : ℕ} (w : Standing code l words blocks nexts links table pairs live at end) where
+module _ {code : List ℕ} {l : Limits} {cells : List ℤ} {blocks nexts links : List ℕ} {table : List ℤ} {pairs live at end : ℕ} (w : Standing code l cells blocks nexts links table pairs live at end) where
   -- what a statement finds
   abbrev pub sceneOf : Scene
-  sceneOf = record { code = code; words = words; limit = l .activations; live = live; at = at }
+  sceneOf = record { code = code; cells = cells; activations = l .activations; live = live; at = at }
 
   abbrev pub ahead : List Frame
   ahead = w .below ++ (continue (w .frame) (suc (w .frame .next)) ∷ [])
@@ -85,12 +85,12 @@ module _ {code : List ℕ} {l : Limits} {words : List ℤ} {blocks nexts links :
   pub ahead-many : length ahead ≡ suc live
   ahead-many = ahead-like .count ∙ many w
 
-  pub ahead-held : Holds ahead blocks (set nexts live (stmtPlace (w .frame .text) (suc (w .frame .next)))) links words
+  pub ahead-held : Holds ahead blocks (set nexts live (stmtPlace (w .frame .text) (suc (w .frame .next)))) links cells
   ahead-held =
       let i = suc (w .frame .next) in
       let under : butLast (w .stack .frames) ≡ w .below = ap butLast (w .frames-are) ∙ butLast-snoc (w .below) (w .frame) in
-      subst (λ (fs : List Frame). Holds (fs ++ (continue (w .frame) i ∷ [])) blocks (set nexts live (stmtPlace (w .frame .text) i)) links words) under
-      (holds-on (w .stack .frames) blocks nexts links words (w .sound .bounded .each) live at (many w) (omega (arith, w .nexts-long, live-few w)) (w .holds) (w .frame) (last-is w) i)
+      subst (λ (fs : List Frame). Holds (fs ++ (continue (w .frame) i ∷ [])) blocks (set nexts live (stmtPlace (w .frame .text) i)) links cells) under
+      (holds-on (w .stack .frames) blocks nexts links cells (w .sound .bounded .each) live at (many w) (omega (arith, w .nexts-long, live-few w)) (w .holds) (w .frame) (last-is w) i)
 
   -- The engine after a step
 
@@ -101,10 +101,10 @@ module _ {code : List ℕ} {l : Limits} {words : List ℤ} {blocks nexts links :
         ap (displayFrom (v .frames)) (like .count)
         ∙ display-alike (w .stack .frames) (v .frames) (length (w .stack .frames)) (like-outlines (w .stack .frames) (v .frames) like (length (w .stack .frames))) (downward w) (length (w .stack .frames)) (omega arith)
 
-    pub goes-on : (words′ table′ : List ℤ) (pairs′ at′ : ℕ) → v .table ≡ record { words = table′; used = pairs′ } → Holds (v .frames) blocks (set nexts live at′) links words′
-        → length words′ ≡ 8224 → GoesOn w words′ table′ pairs′ at′
+    pub goes-on : (cells′ table′ : List ℤ) (pairs′ at′ : ℕ) → v .table ≡ record { words = table′; used = pairs′ } → Holds (v .frames) blocks (set nexts live at′) links cells′
+        → length cells′ ≡ 8224 → GoesOn w cells′ table′ pairs′ at′
     unfolding stepped
-    goes-on words′ table′ pairs′ at′ t holds long =
+    goes-on cells′ table′ pairs′ at′ t holds long =
         let g = like .each live (w .frame) (here w) in
         let count : length (v .frames) ≡ suc live = like .count ∙ many w in
         let last : last? (v .frames) ≡ some (g .0) = last-numbered (v .frames) ∙ ap (numbered (v .frames)) count ∙ numbered-suc (v .frames) live ∙ g .1 in
@@ -124,7 +124,7 @@ module _ {code : List ℕ} {l : Limits} {words : List ℤ} {blocks nexts links :
             table-is = t;
             holds = holds;
             end-is = w .end-is ∙ ap endPlace (sym (g .2 .text));
-            words-long = long;
+            cells-long = long;
             blocks-long = w .blocks-long;
             nexts-long = w .nexts-long;
             links-long = w .links-long;
@@ -140,32 +140,32 @@ module _ {code : List ℕ} {l : Limits} {words : List ℤ} {blocks nexts links :
     unfolding withFrames
     ahead-bounded = (advanced-bounded l (w .stack) (w .below) (w .frame) x (w .sound .bounded) (w .frames-are) q) .each
 
-    pub ahead-holds : Holds ahead blocks (set nexts live (at + length (stmtFields x))) links words
-    ahead-holds = subst (λ i. Holds ahead blocks (set nexts live i) links words) (goes-on-at w x q) ahead-held
+    pub ahead-holds : Holds ahead blocks (set nexts live (at + length (stmtFields x))) links cells
+    ahead-holds = subst (λ i. Holds ahead blocks (set nexts live i) links cells) (goes-on-at w x q) ahead-held
 
     pub points-ahead : (k y : ℕ) → Points (w .stack .frames) k y → Points ahead k y
     points-ahead k y p = points-alike (w .stack .frames) ahead k y (λ j f s e. let g = ahead-like .each j f e in (g .0, g .1, g .2 .formals, g .2 .text)) p
 
     -- with another table
-    pub stays-on : (t : Table) → frameStep l (w .stack) ≡ acted (tableChanged aheadStack t) → GoesOn w words (t .words) (t .used) (at + length (stmtFields x))
+    pub stays-on : (t : Table) → frameStep l (w .stack) ≡ acted (tableChanged aheadStack t) → GoesOn w cells (t .words) (t .used) (at + length (stmtFields x))
     unfolding tableChanged withFrames
-    stays-on t step = goes-on (tableChanged aheadStack t) step ahead-like words (t .words) (t .used) (at + length (stmtFields x)) refl ahead-holds (w .words-long)
+    stays-on t step = goes-on (tableChanged aheadStack t) step ahead-like cells (t .words) (t .used) (at + length (stmtFields x)) refl ahead-holds (w .cells-long)
 
-    pub passes-on : frameStep l (w .stack) ≡ acted aheadStack → GoesOn w words table pairs (at + length (stmtFields x))
+    pub passes-on : frameStep l (w .stack) ≡ acted aheadStack → GoesOn w cells table pairs (at + length (stmtFields x))
     unfolding withFrames
-    passes-on step = goes-on aheadStack step ahead-like words table pairs (at + length (stmtFields x)) (w .table-is) ahead-holds (w .words-long)
+    passes-on step = goes-on aheadStack step ahead-like cells table pairs (at + length (stmtFields x)) (w .table-is) ahead-holds (w .cells-long)
 
     pub stores-on : (y : ℕ) (z : ℤ) → Points (w .stack .frames) (length (w .stack .frames)) y → frameStep l (w .stack) ≡ acted (withFrames aheadStack (putWord ahead y z))
-        → GoesOn w (set words (cellOf y) z) table pairs (at + length (stmtFields x))
+        → GoesOn w (set cells (cellOf y) z) table pairs (at + length (stmtFields x))
     unfolding withFrames
     stores-on y z p step =
-        let many-words : 32 * length ahead ≤ length words = omega (arith, ahead-many, w .words-long, live-few w) in
+        let many-words : 32 * length ahead ≤ length cells = omega (arith, ahead-many, w .cells-long, live-few w) in
         let there = points-ahead (length (w .stack .frames)) y p in
         let target : Points ahead (length ahead) y = subst (λ k. Points ahead k y) (sym (ahead-like .count)) there in
         goes-on (withFrames aheadStack (putWord ahead y z)) step (like-trans (w .stack .frames) ahead (putWord ahead y z) ahead-like (like-put ahead y z (inr target)))
-        (set words (cellOf y) z) table pairs (at + length (stmtFields x)) (w .table-is)
-        (holds-stored ahead blocks (set nexts live (at + length (stmtFields x))) links words ahead-bounded ahead-holds (length (w .stack .frames)) y there z many-words)
-        (length-set words (cellOf y) z ∙ w .words-long)
+        (set cells (cellOf y) z) table pairs (at + length (stmtFields x)) (w .table-is)
+        (holds-stored ahead blocks (set nexts live (at + length (stmtFields x))) links cells ahead-bounded ahead-holds (length (w .stack .frames)) y there z many-words)
+        (length-set cells (cellOf y) z ∙ w .cells-long)
 
   -- Names
 
@@ -190,8 +190,8 @@ module _ {code : List ℕ} {l : Limits} {words : List ℤ} {blocks nexts links :
           omega (arith, cell-found, cell-bound y (points-celled (w .stack .frames) (length (w .stack .frames)) y (w .sound .bounded .each) (omega (arith, many w, live-few w)) points-found))
 
       -- the value of a variable, in the frames that the statement acts on
-      pub value-found : wordAt (aheadStack .frames) (designates (w .stack .frames) n) ≡ getD words (F .cell (getD code (at + i) 0)) (pos 0)
+      pub value-found : wordAt (aheadStack .frames) (designates (w .stack .frames) n) ≡ getD cells (F .cell (getD code (at + i) 0)) (pos 0)
       value-found =
           wordAt-advanced (w .stack) (w .below) (w .frame) (suc (w .frame .next)) (w .frames-are) (designates (w .stack .frames) n)
-          ∙ sym (word-held (w .stack .frames) blocks (set nexts live at) links words (w .sound .bounded .each) (w .holds) (length (w .stack .frames)) (designates (w .stack .frames) n) points-found)
-          ∙ ap (λ c. getD words c (pos 0)) (sym cell-found)
+          ∙ sym (word-held (w .stack .frames) blocks (set nexts live at) links cells (w .sound .bounded .each) (w .holds) (length (w .stack .frames)) (designates (w .stack .frames) n) points-found)
+          ∙ ap (λ c. getD cells c (pos 0)) (sym cell-found)

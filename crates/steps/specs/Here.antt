@@ -31,7 +31,7 @@ use Rattle.resolved.specs.Standing.{stmt-covered}
 use Rattle.arrays.specs.Holds.{HoldsFrame}
 use Rattle.steps.specs.Standing.{Standing}
 
-module _ {code : List ℕ} {l : Limits} {words : List ℤ} {blocks nexts links : List ℕ} {table : List ℤ} {pairs live at end : ℕ} (w : Standing code l words blocks nexts links table pairs live at end) where
+module _ {code : List ℕ} {l : Limits} {cells : List ℤ} {blocks nexts links : List ℕ} {table : List ℤ} {pairs live at end : ℕ} (w : Standing code l cells blocks nexts links table pairs live at end) where
   pub many : length (w .stack .frames) ≡ suc live
   many = ap length (w .frames-are) ∙ snoc-length (w .below) (w .frame) ∙ ap suc (w .depth)
 
@@ -51,9 +51,9 @@ module _ {code : List ℕ} {l : Limits} {words : List ℤ} {blocks nexts links :
   within-limit = omega (arith, many, w .sound .bounded .live)
 
   pub live-few : suc live ≤ 256
-  live-few = omega (arith, within-limit, w .sound .limit)
+  live-few = omega (arith, within-limit, w .sound .few)
 
-  pub held : HoldsFrame (w .stack .frames) words (getD blocks live 0) (getD (set nexts live at) live 0) (getD links live 0) live (w .frame)
+  pub held : HoldsFrame (w .stack .frames) cells (getD blocks live 0) (getD (set nexts live at) live 0) (getD links live 0) live (w .frame)
   held = w .holds live (w .frame) here
 
   pub at-is : at ≡ stmtPlace (w .frame .text) (w .frame .next)

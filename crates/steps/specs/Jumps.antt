@@ -25,7 +25,7 @@ use Rattle.coordinates.specs.Visible.{actionNames}
 use Rattle.coordinates.specs.Next.{next-action}
 use Rattle.resolved.specs.Resolved.{stmtPlace, declTarget, resolvedAction, resolvedStmt}
 use Rattle.arrays.specs.Holds.{targetOf}
-use Rattle.arrays.specs.Cells as cells
+use Rattle.arrays.specs.Cells as celled
 use Rattle.run_moves.specs.declared.Move.the-variants.{On, Jump}
 use Rattle.run_moves.specs.Acting.{Finding, Scene, valueOf, field, moves, doGoto, doBranch}
 use Rattle.steps.specs.Standing.{Standing, Finds}
@@ -48,7 +48,7 @@ branches-off : (F : Finding) (s : Scene) → eqZ (valueOf F s (field s 2)) (pos 
 unfolding doBranch
 branches-off F s e = rw (e, doBranch)
 
-module _ {code : List ℕ} {l : Limits} {words : List ℤ} {blocks nexts links : List ℕ} {table : List ℤ} {pairs live at end : ℕ} (w : Standing code l words blocks nexts links table pairs live at end) where
+module _ {code : List ℕ} {l : Limits} {cells : List ℤ} {blocks nexts links : List ℕ} {table : List ℤ} {pairs live at end : ℕ} (w : Standing code l cells blocks nexts links table pairs live at end) where
   -- a frame of the stack, found in the frames that the statement acts on
   ahead-numbered : (k : ℕ) (f : Frame) → numbered (w .stack .frames) k ≡ some f → (g : Frame) × (numbered (ahead w) k ≡ some g) × ((i : ℕ) → continue g i ≡ continue f i)
   unfolding continue
@@ -82,7 +82,7 @@ module _ {code : List ℕ} {l : Limits} {words : List ℤ} {blocks nexts links :
         frame = d .home;
         index = labelIndex (d .decl);
         stands = ap (numbered fs) (sym number) ∙ d .stands;
-        place-is = cells.target-found fs x (d .home) (d .decl) (d .stands) (d .declared) ∙ label-target (d .home .text) (d .decl) (d .kind);
+        place-is = celled.target-found fs x (d .home) (d .decl) (d .stands) (d .declared) ∙ label-target (d .home .text) (d .decl) (d .kind);
         steps = step ∙ goes l (aheadStack w) x (g .0) (d .decl) (g .1) declared
             ∙ (λ i. acted (withFrames (w .stack) (ahead-taken home high i ++ (g .2 (labelIndex (d .decl)) i ∷ []))));
       }

@@ -42,7 +42,7 @@ use Rattle.steps.specs.Here.{many, live-few, downward, ended, even-at}
 pub shows-by : (fs gs : List Frame) (k : ℕ) (display : List ℕ) → displayOf gs ≡ displayFrom fs k → ShowsFrom fs k display → Shows gs display
 shows-by fs gs k display e h j m q = h j m (ap (λ (ms : List ℕ). numbered ms j) (sym e) ∙ q)
 
-module _ {code : List ℕ} {l : Limits} {words : List ℤ} {blocks nexts links : List ℕ} {table : List ℤ} {pairs live at end : ℕ} (w : Standing code l words blocks nexts links table pairs live at end) where
+module _ {code : List ℕ} {l : Limits} {cells : List ℤ} {blocks nexts links : List ℕ} {table : List ℤ} {pairs live at end : ℕ} (w : Standing code l cells blocks nexts links table pairs live at end) where
   some-live : 1 ≤ length (w .stack .frames)
   some-live = omega (arith, many w)
 
@@ -99,7 +99,7 @@ module _ {code : List ℕ} {l : Limits} {words : List ℤ} {blocks nexts links :
   pub record Leaves : Type 0 where
     pub frame : Frame
     pub stands : numbered (w .stack .frames) live ≡ some frame
-    pub standing : Standing code l words blocks nexts links table pairs (live - 1) (getD nexts (live - 1) 0) (endPlace (frame .text))
+    pub standing : Standing code l cells blocks nexts links table pairs (live - 1) (getD nexts (live - 1) 0) (endPlace (frame .text))
     pub follows : Follows w (standing .stack) (standing .program) (standing .name)
     pub display : displayOf (standing .stack .frames) ≡ displayFrom (w .stack .frames) live
 
@@ -112,7 +112,7 @@ module _ {code : List ℕ} {l : Limits} {words : List ℤ} {blocks nexts links :
       let under : butLast (w .stack .frames) ≡ w .below = ap butLast (w .frames-are) ∙ butLast-snoc (w .below) (w .frame) in
       let parts : w .below ≡ butLast (w .below) ++ (f .0 ∷ []) = last-split (w .below) (f .0) (f .1) in
       let deep : length (butLast (w .below)) ≡ live - 1 = omega (arith, w .depth, ap length parts, snoc-length (butLast (w .below)) (f .0)) in
-      let held : Holds (butLast (w .stack .frames)) blocks (set nexts (pred live) (getD nexts (pred live) 0)) links words = holds-back (w .stack .frames) blocks nexts links words (w .sound .bounded .each) live at (many w) (omega (arith, w .nexts-long, live-few w)) (w .holds) in
+      let held : Holds (butLast (w .stack .frames)) blocks (set nexts (pred live) (getD nexts (pred live) 0)) links cells = holds-back (w .stack .frames) blocks nexts links cells (w .sound .bounded .each) live at (many w) (omega (arith, w .nexts-long, live-few w)) (w .holds) in
       let one : pred live ≡ live - 1 = omega arith in
       record {
         frame = f .0;
@@ -129,10 +129,10 @@ module _ {code : List ℕ} {l : Limits} {words : List ℤ} {blocks nexts links :
           frames-are = parts;
           depth = deep;
           table-is = w .table-is;
-          holds = subst (λ (fs : List Frame). Holds fs blocks (set nexts (live - 1) (getD nexts (live - 1) 0)) links words) under
-              (subst (λ k. Holds (butLast (w .stack .frames)) blocks (set nexts k (getD nexts k 0)) links words) one held);
+          holds = subst (λ (fs : List Frame). Holds fs blocks (set nexts (live - 1) (getD nexts (live - 1) 0)) links cells) under
+              (subst (λ k. Holds (butLast (w .stack .frames)) blocks (set nexts k (getD nexts k 0)) links cells) one held);
           end-is = refl;
-          words-long = w .words-long;
+          cells-long = w .cells-long;
           blocks-long = w .blocks-long;
           nexts-long = w .nexts-long;
           links-long = w .links-long;
@@ -155,7 +155,7 @@ module _ {code : List ℕ} {l : Limits} {words : List ℤ} {blocks nexts links :
     pub frame : Frame
     pub stands : numbered (w .stack .frames) (suc home) ≡ some frame
     pub home-high : home ≤ live
-    pub standing : Standing code l words blocks nexts links table pairs home at′ (endPlace (frame .text))
+    pub standing : Standing code l cells blocks nexts links table pairs home at′ (endPlace (frame .text))
     pub follows : Follows w (standing .stack) (standing .program) (standing .name)
     pub display : displayOf (standing .stack .frames) ≡ displayFrom (w .stack .frames) (suc home)
 
@@ -168,7 +168,7 @@ module _ {code : List ℕ} {l : Limits} {words : List ℤ} {blocks nexts links :
       let sound = sound-after v (j .steps) in
       let high : suc home ≤ length fs = numbered-high fs (suc home) (j .frame) (j .stands) in
       let deep : length (take home fs) ≡ home = length-take-le home fs (omega arith) in
-      let held : Holds gs blocks (set nexts home (stmtPlace (j .frame .text) (j .index))) links words = holds-jumped fs blocks nexts links words (w .sound .bounded .each) live at (many w) (omega (arith, w .nexts-long, live-few w)) (w .holds) home (j .frame) (j .stands) (j .index) in
+      let held : Holds gs blocks (set nexts home (stmtPlace (j .frame .text) (j .index))) links cells = holds-jumped fs blocks nexts links cells (w .sound .bounded .each) live at (many w) (omega (arith, w .nexts-long, live-few w)) (w .holds) home (j .frame) (j .stands) (j .index) in
       record {
         frame = j .frame;
         stands = j .stands;
@@ -185,9 +185,9 @@ module _ {code : List ℕ} {l : Limits} {words : List ℤ} {blocks nexts links :
           frames-are = refl;
           depth = deep;
           table-is = w .table-is;
-          holds = subst (λ i. Holds gs blocks (set nexts home i) links words) (sym (j .place-is)) held;
+          holds = subst (λ i. Holds gs blocks (set nexts home i) links cells) (sym (j .place-is)) held;
           end-is = refl;
-          words-long = w .words-long;
+          cells-long = w .cells-long;
           blocks-long = w .blocks-long;
           nexts-long = w .nexts-long;
           links-long = w .links-long;
@@ -198,13 +198,13 @@ module _ {code : List ℕ} {l : Limits} {words : List ℤ} {blocks nexts links :
 
 -- The start
 
-pub begins : (code : List ℕ) (l : Limits) (t : Block) (name : ℕ) (words : List ℤ) (blocks nexts links : List ℕ) (table : List ℤ) (pairs : ℕ)
-    → Keeps t → Covers code 0 (resolvedOf name t) → 1 ≤ l .activations → l .activations ≤ 256 → right (l .group) (record { words = table; used = pairs }) ≡ true
-    → length words ≡ 8224 → length blocks ≡ 256 → length nexts ≡ 256 → length links ≡ 256
-    → ((i : ℕ) → i < 32 → getD words i (pos 0) ≡ pos 0) → getD blocks 0 0 ≡ 0 → getD links 0 0 ≡ 0
-    → (w : Standing code l words blocks nexts links table pairs 0 (stmtPlace t 1) (endPlace t)) × (w .stack ≡ frameStart t (record { words = table; used = pairs })) × (w .program ≡ t) × (w .name ≡ name)
+pub begins : (code : List ℕ) (l : Limits) (t : Block) (name : ℕ) (cells : List ℤ) (blocks nexts links : List ℕ) (table : List ℤ) (pairs : ℕ)
+    → Keeps t → Covers code 0 (resolvedOf name t) → 1 ≤ l .activations → l .activations ≤ 256 → right (l .limit) (record { words = table; used = pairs }) ≡ true
+    → length cells ≡ 8224 → length blocks ≡ 256 → length nexts ≡ 256 → length links ≡ 256
+    → ((i : ℕ) → i < 32 → getD cells i (pos 0) ≡ pos 0) → getD blocks 0 0 ≡ 0 → getD links 0 0 ≡ 0
+    → (w : Standing code l cells blocks nexts links table pairs 0 (stmtPlace t 1) (endPlace t)) × (w .stack ≡ frameStart t (record { words = table; used = pairs })) × (w .program ≡ t) × (w .name ≡ name)
 unfolding frameStart newFrame
-begins code l t name words blocks nexts links table pairs keeps covers one most ok wl bl nl ll zeros b0 k0 =
+begins code l t name cells blocks nexts links table pairs keeps covers one most ok wl bl nl ll zeros b0 k0 =
     let tab : Table = record { words = table; used = pairs } in
     let sound = start-sound l t tab one most ok keeps in
     let few = (sound .bounded .each 0 (newFrame [] [] t 0) refl) .few in
@@ -221,10 +221,10 @@ begins code l t name words blocks nexts links table pairs keeps covers one most 
         frames-are = refl;
         depth = refl;
         table-is = refl;
-        holds = holds-started t blocks (set nexts 0 (stmtPlace t 1)) links words (b0 ∙ sym (block-place t 1 [] 0 (keeps .formed)))
+        holds = holds-started t blocks (set nexts 0 (stmtPlace t 1)) links cells (b0 ∙ sym (block-place t 1 [] 0 (keeps .formed)))
             (getD-set-same nexts 0 (stmtPlace t 1) 0 (omega arith)) k0 (λ i h. zeros i (omega arith));
         end-is = refl;
-        words-long = wl;
+        cells-long = wl;
         blocks-long = bl;
         nexts-long = nl;
         links-long = ll;

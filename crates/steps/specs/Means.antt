@@ -20,7 +20,7 @@ use Rattle.run_moves.specs.declared.Move.the-variants.{On, Table as Asks, Jump,
 use Rattle.run_moves.specs.Acting.{Happened, Answer, answer}
 use Rattle.steps.specs.Standing.{Standing}
 
-module _ {code : List ℕ} {l : Limits} {words : List ℤ} {blocks nexts links : List ℕ} {table : List ℤ} {pairs live at end : ℕ} (w : Standing code l words blocks nexts links table pairs live at end) where
+module _ {code : List ℕ} {l : Limits} {cells : List ℤ} {blocks nexts links : List ℕ} {table : List ℤ} {pairs live at end : ℕ} (w : Standing code l cells blocks nexts links table pairs live at end) where
   abbrev pub frames : List Frame
   frames = w .stack .frames
 
@@ -35,8 +35,8 @@ module _ {code : List ℕ} {l : Limits} {words : List ℤ} {blocks nexts links :
     pub same-name : name ≡ w .name
 
   -- the innermost activation goes on, and the display is as it was
-  pub record GoesOn (words′ table′ : List ℤ) (pairs′ at′ : ℕ) : Type 0 where
-    pub standing : Standing code l words′ blocks nexts links table′ pairs′ live at′ end
+  pub record GoesOn (cells′ table′ : List ℤ) (pairs′ at′ : ℕ) : Type 0 where
+    pub standing : Standing code l cells′ blocks nexts links table′ pairs′ live at′ end
     pub follows : Follows (standing .stack) (standing .program) (standing .name)
     pub same-display : displayOf (standing .stack .frames) ≡ displayOf frames
 
@@ -49,7 +49,7 @@ module _ {code : List ℕ} {l : Limits} {words : List ℤ} {blocks nexts links :
     pub steps : frameStep l (w .stack) ≡ acted (withFrames (w .stack) (take home frames ++ (continue frame index ∷ [])))
 
   -- a block is entered; the arguments stand in the first cells of the next activation
-  pub record EntersAt (body link back : ℕ) (words′ : List ℤ) : Type 0 where
+  pub record EntersAt (body link back : ℕ) (cells′ : List ℤ) : Type 0 where
     pub formals : List Formal
     pub arguments : List ℕ
     pub text : Block
@@ -61,28 +61,28 @@ module _ {code : List ℕ} {l : Limits} {words : List ℤ} {blocks nexts links :
     pub steps : frameStep l (w .stack) ≡ acted (withFrames (w .stack) ((w .below ++ (continue (w .frame) (suc (w .frame .next)) ∷ [])) ++ (newFrame formals arguments text (suc link) ∷ [])))
     pub count : length arguments ≡ length formals
     pub designate : (i x : ℕ) → getElem? arguments i ≡ some x → (k : Kind) × Designated frames x k
-    pub as-long : length words′ ≡ length words
-    pub kept : (i : ℕ) → i < 32 * suc live → getD words′ i (pos 0) ≡ getD words i (pos 0)
-    pub handed : (i x : ℕ) → getElem? arguments i ≡ some x → getD words′ (32 * suc live + i) (pos 0) ≡ pos (formalWord frames x)
+    pub as-long : length cells′ ≡ length cells
+    pub kept : (i : ℕ) → i < 32 * suc live → getD cells′ i (pos 0) ≡ getD cells i (pos 0)
+    pub handed : (i x : ℕ) → getElem? arguments i ≡ some x → getD cells′ (32 * suc live + i) (pos 0) ≡ pos (formalWord frames x)
 
   -- the table has answered a statement after which a place stands
   abbrev pub EffectMeans : ℕ → List ℤ → Effect → Type 0
-  EffectMeans p words′ (leaves t) = GoesOn words′ (t .words) (t .used) p
-  EffectMeans p words′ (halts c) = (frameStep l (w .stack) ≡ halted c) × (words′ ≡ words)
+  EffectMeans p cells′ (leaves t) = GoesOn cells′ (t .words) (t .used) p
+  EffectMeans p cells′ (halts c) = (frameStep l (w .stack) ≡ halted c) × (cells′ ≡ cells)
 
   abbrev pub AnswerMeans : ℕ → Answer → Type 0
-  AnswerMeans p x = EffectMeans p (x .words) (x .effect)
+  AnswerMeans p x = EffectMeans p (x .cells) (x .effect)
 
   abbrev pub CellsThere : ℕ → ℕ → ℕ → Type 0
   CellsThere g m t = (g < 8192) × ((m < 8192) × (t < 8192))
 
   abbrev pub MoveMeans : Move → List ℤ → Type 0
-  MoveMeans (On p) words′ = GoesOn words′ table pairs p
-  MoveMeans (Asks p g m t a) words′ =
-      AnswerMeans p (answer (l .group) words (record { words = table; used = pairs }) g m t a) × (words′ ≡ words) × CellsThere g m t
-  MoveMeans (Jump home p) words′ = JumpsTo home p × (words′ ≡ words)
-  MoveMeans (Enter body link back) words′ = EntersAt body link back words′
-  MoveMeans (Stop c) words′ = (frameStep l (w .stack) ≡ halted c) × (words′ ≡ words)
+  MoveMeans (On p) cells′ = GoesOn cells′ table pairs p
+  MoveMeans (Asks p g m t a) cells′ =
+      AnswerMeans p (answer (l .limit) cells (record { words = table; used = pairs }) g m t a) × (cells′ ≡ cells) × CellsThere g m t
+  MoveMeans (Jump home p) cells′ = JumpsTo home p × (cells′ ≡ cells)
+  MoveMeans (Enter body link back) cells′ = EntersAt body link back cells′
+  MoveMeans (Stop c) cells′ = (frameStep l (w .stack) ≡ halted c) × (cells′ ≡ cells)
 
   abbrev pub Means : Happened → Type 0
-  Means h = MoveMeans (h .move) (h .words)
+  Means h = MoveMeans (h .move) (h .cells)

@@ -27,10 +27,10 @@ use Rattle.arrays.specs.Reading.{level-read, end-read, looked-up-read}
 use Rattle.steps.specs.Standing.{Standing}
 use Rattle.steps.specs.Here.{many, here, at-is, here-bounded, encloses-here, goes-on-at}
 
-module _ {code : List ℕ} {l : Limits} {words : List ℤ} {blocks nexts links : List ℕ} {table : List ℤ} {pairs live at end : ℕ} (w : Standing code l words blocks nexts links table pairs live at end) where
+module _ {code : List ℕ} {l : Limits} {cells : List ℤ} {blocks nexts links : List ℕ} {table : List ℤ} {pairs live at end : ℕ} (w : Standing code l cells blocks nexts links table pairs live at end) where
   -- of any activation
   pub level-there : (k : ℕ) (f : Frame) → getElem? (w .stack .frames) k ≡ some f → levelIn (getD code (getD blocks k 0) 0) ≡ levelOf (w .stack .frames) (suc k)
-  level-there k f e = level-read code (w .name) (w .program) (w .keeps) (w .covers) (w .stack .frames) (w .sound .chained) blocks (set nexts live at) links words (w .holds) k f e
+  level-there k f e = level-read code (w .name) (w .program) (w .keeps) (w .covers) (w .stack .frames) (w .sound .chained) blocks (set nexts live at) links cells (w .holds) k f e
 
   pub level-few : (k : ℕ) (f : Frame) → getElem? (w .stack .frames) k ≡ some f → (1 ≤ levelOf (w .stack .frames) (suc k)) × (levelOf (w .stack .frames) (suc k) ≤ 16)
   level-few k f e = level-bound (w .program) (w .keeps) (w .stack .frames) (w .sound .chained) (suc k) f (numbered-suc (w .stack .frames) k ∙ e)
@@ -42,10 +42,10 @@ module _ {code : List ℕ} {l : Limits} {words : List ℤ} {blocks nexts links :
       omega (arith, (w .holds k f e) .block-is, block-fields (f .text), end-bound (w .program) (w .keeps) (enclosing f) (enclosureOf (w .stack .frames) (f .link)) within)
 
   pub end-there : (k : ℕ) (f : Frame) → getElem? (w .stack .frames) k ≡ some f → endIn (getD code (getD blocks k 0 + 1) 0) ≡ endPlace (f .text)
-  end-there k f e = end-read code (w .name) (w .program) (w .keeps) (w .covers) (w .stack .frames) (w .sound .chained) blocks (set nexts live at) links words (w .holds) k f e
+  end-there k f e = end-read code (w .name) (w .program) (w .keeps) (w .covers) (w .stack .frames) (w .sound .chained) blocks (set nexts live at) links cells (w .holds) k f e
 
   pub links-there : LinksOf (w .stack .frames) links
-  links-there = holds-links (w .stack .frames) blocks (set nexts live at) links words (w .holds)
+  links-there = holds-links (w .stack .frames) blocks (set nexts live at) links cells (w .holds)
 
   pub level-here : levelIn (getD code (getD blocks live 0) 0) ≡ levelOf (w .stack .frames) (length (w .stack .frames))
   level-here = level-there live (w .frame) (here w) ∙ ap (levelOf (w .stack .frames)) (sym (many w))
@@ -55,7 +55,7 @@ module _ {code : List ℕ} {l : Limits} {words : List ℤ} {blocks nexts links :
 
   pub looked-up-here : getD code (getD blocks live 0 + 2) 0 ≡ nameWord (enclosureOf (w .stack .frames) (length (w .stack .frames))) (w .name)
   looked-up-here =
-      looked-up-read code (w .name) (w .program) (w .keeps) (w .covers) (w .stack .frames) (w .sound .chained) blocks (set nexts live at) links words (w .holds) live (w .frame) (here w)
+      looked-up-read code (w .name) (w .program) (w .keeps) (w .covers) (w .stack .frames) (w .sound .chained) blocks (set nexts live at) links cells (w .holds) live (w .frame) (here w)
       ∙ ap (λ k. nameWord (enclosureOf (w .stack .frames) k) (w .name)) (sym (many w))
 
   pub end-within : end ≤ 4096

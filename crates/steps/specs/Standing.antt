@@ -16,7 +16,7 @@ use Rattle.resolved.specs.Resolved.{endPlace, nameWord, resolvedOf, Covers}
 use Rattle.arrays.specs.Holds.{cellOf, targetOf, formalWord, Holds}
 use Rattle.run_moves.specs.Acting.{Finding}
 
-pub record Standing (code : List ℕ) (l : Limits) (words : List ℤ) (blocks nexts links : List ℕ) (table : List ℤ) (pairs live at end : ℕ) : Type 0 where
+pub record Standing (code : List ℕ) (l : Limits) (cells : List ℤ) (blocks nexts links : List ℕ) (table : List ℤ) (pairs live at end : ℕ) : Type 0 where
   pub name : ℕ
   pub program : Block
   pub keeps : Keeps program
@@ -28,9 +28,9 @@ pub record Standing (code : List ℕ) (l : Limits) (words : List ℤ) (blocks ne
   pub frames-are : stack .frames ≡ below ++ (frame ∷ [])
   pub depth : length below ≡ live
   pub table-is : stack .table ≡ record { words = table; used = pairs }
-  pub holds : Holds (stack .frames) blocks (set nexts live at) links words
+  pub holds : Holds (stack .frames) blocks (set nexts live at) links cells
   pub end-is : end ≡ endPlace (frame .text)
-  pub words-long : length words ≡ 8224
+  pub cells-long : length cells ≡ 8224
   pub blocks-long : length blocks ≡ 256
   pub nexts-long : length nexts ≡ 256
   pub links-long : length links ≡ 256

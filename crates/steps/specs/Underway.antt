@@ -26,25 +26,25 @@ use Rattle.steps.specs.Counts.{costs-one}
 use Rattle.steps.specs.Here.{many}
 use Rattle.steps.specs.Loop as loop
 
-pub record UnderwayFrom (done : ℕ) (program : Block) (name allowance : ℕ) (result : Result) {code : List ℕ} {l : Limits} {words : List ℤ} {blocks nexts links : List ℕ} {table : List ℤ} {pairs live at end : ℕ}
-    (w : Standing code l words blocks nexts links table pairs live at end) (left : ℕ) : Type 0 where
+pub record UnderwayFrom (done : ℕ) (program : Block) (name allowance : ℕ) (result : Result) {code : List ℕ} {l : Limits} {cells : List ℤ} {blocks nexts links : List ℕ} {table : List ℤ} {pairs live at end : ℕ}
+    (w : Standing code l cells blocks nexts links table pairs live at end) (left : ℕ) : Type 0 where
   pub same-program : w .program ≡ program
   pub same-name : w .name ≡ name
   pub runs : result ≡ frameRun l left (w .stack)
   pub counts : w .stack .steps + left ≡ allowance + done
   pub few-left : left ≤ allowance
 
-pub begun-from : {code : List ℕ} {l : Limits} {words : List ℤ} {blocks nexts links : List ℕ} {table : List ℤ} {pairs live at end : ℕ}
-    (w : Standing code l words blocks nexts links table pairs live at end) (allowance : ℕ)
+pub begun-from : {code : List ℕ} {l : Limits} {cells : List ℤ} {blocks nexts links : List ℕ} {table : List ℤ} {pairs live at end : ℕ}
+    (w : Standing code l cells blocks nexts links table pairs live at end) (allowance : ℕ)
     → UnderwayFrom (w .stack .steps) (w .program) (w .name) allowance (frameRun l allowance (w .stack)) w allowance
 begun-from w allowance = record { same-program = refl; same-name = refl; runs = refl; counts = omega arith; few-left = omega arith }
 
-pub leaves-sound-from : {code : List ℕ} {l : Limits} {words : List ℤ} {blocks nexts links : List ℕ} {table : List ℤ} {pairs live at end : ℕ}
-    (w : Standing code l words blocks nexts links table pairs live at end) (allowance : ℕ) → Sound l (w .program) ((frameRun l allowance (w .stack)) .final)
+pub leaves-sound-from : {code : List ℕ} {l : Limits} {cells : List ℤ} {blocks nexts links : List ℕ} {table : List ℤ} {pairs live at end : ℕ}
+    (w : Standing code l cells blocks nexts links table pairs live at end) (allowance : ℕ) → Sound l (w .program) ((frameRun l allowance (w .stack)) .final)
 leaves-sound-from {l = l} w allowance = run-sound (w .program) (w .keeps) l allowance (w .stack) (w .sound)
 
 -- what an engine has of a run that has ended: the frame machine's result, and the arrays hold its stack
-pub record EndedFrom (done : ℕ) (program : Block) (name : ℕ) (l : Limits) (result : Result) (end : End) (steps offset pairs live designator : ℕ) (words : List ℤ) (blocks nexts links : List ℕ) (table : List ℤ) : Type 0 where
+pub record EndedFrom (done : ℕ) (program : Block) (name : ℕ) (l : Limits) (result : Result) (end : End) (steps offset pairs live designator : ℕ) (cells : List ℤ) (blocks nexts links : List ℕ) (table : List ℤ) : Type 0 where
   pub end-is : end ≡ result .end
   pub steps-are : steps + done ≡ result .final .steps
   pub offset-is : offset ≡ result .offset
@@ -53,15 +53,15 @@ pub record EndedFrom (done : ℕ) (program : Block) (name : ℕ) (l : Limits) (r
   pub live-is : live ≡ length (result .final .frames)
   pub designator-is : designator ≡ designates (result .final .frames) name
   pub sound : Sound l program (result .final)
-  pub holds : Holds (result .final .frames) blocks nexts links words
-  pub words-long : length words ≡ 8224
+  pub holds : Holds (result .final .frames) blocks nexts links cells
+  pub cells-long : length cells ≡ 8224
 
-abbrev pub Ended : (program : Block) (name : ℕ) (l : Limits) (result : Result) (end : End) (steps offset pairs live designator : ℕ) (words : List ℤ) (blocks nexts links : List ℕ) (table : List ℤ) → Type 0
+abbrev pub Ended : (program : Block) (name : ℕ) (l : Limits) (result : Result) (end : End) (steps offset pairs live designator : ℕ) (cells : List ℤ) (blocks nexts links : List ℕ) (table : List ℤ) → Type 0
 Ended = EndedFrom 0
 
-module _ {done : ℕ} {program : Block} {name allowance : ℕ} {result : Result} {code : List ℕ} {l : Limits} {words : List ℤ} {blocks nexts links : List ℕ} {table : List ℤ} {pairs live at end left : ℕ}
-    (w : Standing code l words blocks nexts links table pairs live at end) (u : UnderwayFrom done program name allowance result w left) where
-  pub went : {words′ : List ℤ} {blocks′ nexts′ links′ : List ℕ} {table′ : List ℤ} {pairs′ live′ at′ end′ : ℕ} (v : Standing code l words′ blocks′ nexts′ links′ table′ pairs′ live′ at′ end′)
+module _ {done : ℕ} {program : Block} {name allowance : ℕ} {result : Result} {code : List ℕ} {l : Limits} {cells : List ℤ} {blocks nexts links : List ℕ} {table : List ℤ} {pairs live at end left : ℕ}
+    (w : Standing code l cells blocks nexts links table pairs live at end) (u : UnderwayFrom done program name allowance result w left) where
+  pub went : {cells′ : List ℤ} {blocks′ nexts′ links′ : List ℕ} {table′ : List ℤ} {pairs′ live′ at′ end′ : ℕ} (v : Standing code l cells′ blocks′ nexts′ links′ table′ pairs′ live′ at′ end′)
       → Follows w (v .stack) (v .program) (v .name) → 1 ≤ left → UnderwayFrom done program name allowance result v (left - 1)
   went v f h =
       let one = costs-one (w .stack) (f .moved) in
@@ -76,7 +76,7 @@ module _ {done : ℕ} {program : Block} {name allowance : ℕ} {result : Result}
   -- a run that leaves activations live
   halts : (e : End) (offset steps : ℕ) → result ≡ results e offset (w .stack) → steps + done ≡ w .stack .steps → Sound l program (result .final)
       → (designator : ℕ) → designator ≡ designates (w .stack .frames) (w .name)
-      → EndedFrom done program name l result e steps offset pairs (live + 1) designator words blocks (set nexts live at) links table
+      → EndedFrom done program name l result e steps offset pairs (live + 1) designator cells blocks (set nexts live at) links table
   unfolding results
   halts e offset steps q n sound designator d =
       record {
@@ -88,24 +88,24 @@ module _ {done : ℕ} {program : Block} {name allowance : ℕ} {result : Result}
         live-is = sym (ap (λ (v : Result). length (v .final .frames)) q ∙ many w ∙ omega arith);
         designator-is = d ∙ ap (designates (w .stack .frames)) (u .same-name) ∙ sym (ap (λ (v : Result). designates (v .final .frames) name) q);
         sound = sound;
-        holds = subst (λ (v : Result). Holds (v .final .frames) blocks (set nexts live at) links words) (sym q) (w .holds);
-        words-long = w .words-long;
+        holds = subst (λ (v : Result). Holds (v .final .frames) blocks (set nexts live at) links cells) (sym q) (w .holds);
+        cells-long = w .cells-long;
       }
 
   pub spent : left ≡ 0 → Sound l program (result .final) → (designator : ℕ) → designator ≡ designates (w .stack .frames) (w .name)
-      → EndedFrom done program name l result Spent allowance 0 pairs (live + 1) designator words blocks (set nexts live at) links table
+      → EndedFrom done program name l result Spent allowance 0 pairs (live + 1) designator cells blocks (set nexts live at) links table
   spent z sound = halts Spent 0 allowance (u .runs ∙ ap (λ n. frameRun l n (w .stack)) z ∙ loop.spent w) (omega (arith, u .counts, u .few-left)) sound
 
   pub stopped : (c : Stop) → frameStep l (w .stack) ≡ halted c → 1 ≤ left → Sound l program (result .final) → (designator : ℕ) → designator ≡ designates (w .stack .frames) (w .name)
-      → EndedFrom done program name l result (Stopped c) (allowance - left) (2 * at) pairs (live + 1) designator words blocks (set nexts live at) links table
+      → EndedFrom done program name l result (Stopped c) (allowance - left) (2 * at) pairs (live + 1) designator cells blocks (set nexts live at) links table
   stopped c stop more sound =
       let one : left ≡ suc (left - 1) = omega arith in
       halts (Stopped c) (2 * at) (allowance - left) (u .runs ∙ ap (λ k. frameRun l k (w .stack)) one ∙ loop.stops w (left - 1) c stop) (omega (arith, u .counts, u .few-left)) sound
 
-  pub finished : at ≡ end → live ≡ 0 → 1 ≤ left → Sound l program (result .final) → (words′ : List ℤ) (blocks′ nexts′ links′ : List ℕ) (table′ : List ℤ) → table′ ≡ table → length words′ ≡ 8224
-      → EndedFrom done program name l result Finished (allowance - left + 1) 0 pairs 0 0 words′ blocks′ nexts′ links′ table′
+  pub finished : at ≡ end → live ≡ 0 → 1 ≤ left → Sound l program (result .final) → (cells′ : List ℤ) (blocks′ nexts′ links′ : List ℕ) (table′ : List ℤ) → table′ ≡ table → length cells′ ≡ 8224
+      → EndedFrom done program name l result Finished (allowance - left + 1) 0 pairs 0 0 cells′ blocks′ nexts′ links′ table′
   unfolding results
-  finished ends none more sound words′ blocks′ nexts′ links′ table′ same long =
+  finished ends none more sound cells′ blocks′ nexts′ links′ table′ same long =
       let one : left ≡ suc (left - 1) = omega arith in
       let n : allowance - left + 1 + done ≡ suc (w .stack .steps) = omega (arith, u .counts, u .few-left) in
       let q = u .runs ∙ ap (λ k. frameRun l k (w .stack)) one ∙ loop.finishes w ends none (left - 1) in
@@ -119,7 +119,7 @@ module _ {done : ℕ} {program : Block} {name allowance : ℕ} {result : Result}
         designator-is = sym (ap (λ (v : Result). designates (v .final .frames) name) q ∙ (nothing-live name) .0);
         sound = sound;
         holds = λ k f e. absurd (none-there k f (sym (ap (λ (v : Result). getElem? (v .final .frames) k) q) ∙ e));
-        words-long = long;
+        cells-long = long;
       }
     where
       none-there : (k : ℕ) (f : Frame) → getElem? [] k ≡ some f → ⊥

@@ -37,18 +37,18 @@ module _ (F : Finding) (s : Scene) (o : Operation) where
   abbrev result : ℤ
   result = compute o (valueOf F s (field s 3)) (valueOf F s (field s 4))
 
-  fitting : ltb (mag result) 2147483648 ≡ true → doArithmetic F s o ≡ rewrites s (On (s .at + 5)) (set (s .words) (F .cell (field s 1)) result)
+  fitting : ltb (mag result) 2147483648 ≡ true → doArithmetic F s o ≡ rewrites s (On (s .at + 5)) (set (s .cells) (F .cell (field s 1)) result)
   unfolding doArithmetic arithmeticMove effectOf wordsOf
   fitting e =
       let p : effectOf result ≡ Done = rw (e, effectOf) in
-      let q : wordsOf (s .words) (F .cell (field s 1)) result ≡ set (s .words) (F .cell (field s 1)) result = rw (e, wordsOf) in
+      let q : wordsOf (s .cells) (F .cell (field s 1)) result ≡ set (s .cells) (F .cell (field s 1)) result = rw (e, wordsOf) in
       λ i. rewrites s (arithmeticMove F s (p i)) (q i)
 
-  not-fitting : ltb (mag result) 2147483648 ≡ false → doArithmetic F s o ≡ rewrites s (Stop ResultTooLarge) (s .words)
+  not-fitting : ltb (mag result) 2147483648 ≡ false → doArithmetic F s o ≡ rewrites s (Stop ResultTooLarge) (s .cells)
   unfolding doArithmetic arithmeticMove effectOf wordsOf
   not-fitting e =
       let p : effectOf result ≡ Stopped ResultTooLarge = rw (e, effectOf) in
-      let q : wordsOf (s .words) (F .cell (field s 1)) result ≡ s .words = rw (e, wordsOf) in
+      let q : wordsOf (s .cells) (F .cell (field s 1)) result ≡ s .cells = rw (e, wordsOf) in
       λ i. rewrites s (arithmeticMove F s (p i)) (q i)
 
 pub operation-of : (o : Operation) → operationOf (operationField o) ≡ o
@@ -57,12 +57,12 @@ operation-of plus = refl
 operation-of minus = refl
 operation-of less = refl
 
-module _ {code : List ℕ} {l : Limits} {words : List ℤ} {blocks nexts links : List ℕ} {table : List ℤ} {pairs live at end : ℕ} (w : Standing code l words blocks nexts links table pairs live at end)
+module _ {code : List ℕ} {l : Limits} {cells : List ℤ} {blocks nexts links : List ℕ} {table : List ℤ} {pairs live at end : ℕ} (w : Standing code l cells blocks nexts links table pairs live at end)
     (F : Finding) (finds : Finds (w .stack .frames) F) where
   -- a word stored at a name's cell
-  stored : (words′ words″ : List ℤ) (at′ at″ : ℕ) → words′ ≡ words″ → at′ ≡ at″ → GoesOn w words′ table pairs at′ → Means w (rewrites (sceneOf w) (On at″) words″)
+  stored : (cells′ cells″ : List ℤ) (at′ at″ : ℕ) → cells′ ≡ cells″ → at′ ≡ at″ → GoesOn w cells′ table pairs at′ → Means w (rewrites (sceneOf w) (On at″) cells″)
   unfolding rewrites
-  stored words′ words″ at′ at″ p q g = subst (λ i. GoesOn w words″ table pairs i) q (subst (λ (ws : List ℤ). GoesOn w ws table pairs at′) p g)
+  stored cells′ cells″ at′ at″ p q g = subst (λ i. GoesOn w cells″ table pairs i) q (subst (λ (ws : List ℤ). GoesOn w ws table pairs at′) p g)
 
   -- KN
 
@@ -76,7 +76,7 @@ module _ {code : List ℕ} {l : Limits} {words : List ℤ} {blocks nexts links :
       let cell = cell-found w F finds t (a .names .0) 1 (c .1 .0) in
       let value : signed (getD code (at + 2) 0) ≡ z = ap (λ i. signed (getD code i 0)) (sym two) ∙ ap signed (c .1 .1 .0) ∙ signed-unsigned z (a .formed .value) in
       let step = step-acts l (w .stack) (w .below) (w .frame) o (KN t z) (w .frames-are) q ∙ stores l (aheadStack w) (designates fs t) z in
-      stored _ _ (at + 4) (at + 4) (λ i. set words (sym cell i) (sym value i)) refl
+      stored _ _ (at + 4) (at + 4) (λ i. set cells (sym cell i) (sym value i)) refl
       (stores-on w (DO o (KN t z)) q (designates fs t) z (points-found w F finds t (a .names .0) 1 (c .1 .0) variable (a .kinds)) step)
 
   -- AR
@@ -98,7 +98,7 @@ module _ {code : List ℕ} {l : Limits} {words : List ℤ} {blocks nexts links :
       let acts = step-acts l (w .stack) (w .below) (w .frame) at′ (AR t o a b) (w .frames-are) q in
       split (ltb (mag (result F s o)) 2147483648)
       (λ e. subst (Means w) (sym (fitting F s o e))
-      (stored _ _ (at + 5) (at + 5) (λ i. set words (sym cell i) (result F s o)) refl
+      (stored _ _ (at + 5) (at + 5) (λ i. set cells (sym cell i) (result F s o)) refl
       (stores-on w (DO at′ (AR t o a b)) q (designates fs t) (result F s o) (points-found w F finds t (n .names .0) 1 (c .1 .0) variable (n .kinds .0))
       (acts ∙ computes l (aheadStack w) (designates fs t) o (designates fs a) (designates fs b) _ _ left right e))))
       (λ e. subst (Means w) (sym (not-fitting F s o e)) (acts ∙ computes-past l (aheadStack w) (designates fs t) o (designates fs a) (designates fs b) _ _ left right e, refl))

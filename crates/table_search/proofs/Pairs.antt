@@ -12,7 +12,7 @@ use lib.ListN.{length}
 use Rattle.language.specs.Basics.{eqZ}
 use Rattle.language.specs.Table.{find, isSome, members}
 use Rattle.laws.specs.Tables.{groupAt, pairIs, front, orElse, find-front, find-next, members-front, members-next}
-use Rattle.table_search.specs.Places.{among}
+use Rattle.table_search.specs.Places.{amongPairs}
 
 -- The list has a pair at place i.
 pub data Room : ℕ → List ℤ → Type 0 where
@@ -75,13 +75,13 @@ or-or false b c = refl
 
 -- hits among the j pairs from place i on, and one pair more
 module _ (g m : ℤ) (i j : ℕ) (ws : List ℤ) {h k : ℕ} where
-  pub hits-more : pairIs g m (i + j) ws ≡ true → k ≡ suc h → ltb 0 k ≡ among g m i (suc j) ws
-  unfolding among
-  hits-more f e = lt-ltb 0 k (omega arith) ∙ sym (ap (among g m i j ws ||_) f ∙ or-true (among g m i j ws))
+  pub hits-more : pairIs g m (i + j) ws ≡ true → k ≡ suc h → ltb 0 k ≡ amongPairs g m i (suc j) ws
+  unfolding amongPairs
+  hits-more f e = lt-ltb 0 k (omega arith) ∙ sym (ap (amongPairs g m i j ws ||_) f ∙ or-true (amongPairs g m i j ws))
 
-  pub hits-same : pairIs g m (i + j) ws ≡ false → k ≡ h → ltb 0 h ≡ among g m i j ws → ltb 0 k ≡ among g m i (suc j) ws
-  unfolding among
-  hits-same f e q = ap (ltb 0) e ∙ q ∙ sym (ap (among g m i j ws ||_) f ∙ or-false (among g m i j ws))
+  pub hits-same : pairIs g m (i + j) ws ≡ false → k ≡ h → ltb 0 h ≡ amongPairs g m i j ws → ltb 0 k ≡ amongPairs g m i (suc j) ws
+  unfolding amongPairs
+  hits-same f e q = ap (ltb 0) e ∙ q ∙ sym (ap (amongPairs g m i j ws ||_) f ∙ or-false (amongPairs g m i j ws))
 
 or-else : (o : Option ℕ) (t : Bool) (k : ℕ) → isSome (orElse o t k) ≡ (isSome o || t)
 unfolding isSome
@@ -91,8 +91,8 @@ or-else (some i) t k = refl
 
 -- k pairs more: found before them, or one of them
 pub found-among :
-    (g m : ℤ) (i k : ℕ) (ws : List ℤ) → 2 * (i + k) ≤ length ws → isSome (find g m (i + k) ws) ≡ (isSome (find g m i ws) || among g m i k ws)
-unfolding among
+    (g m : ℤ) (i k : ℕ) (ws : List ℤ) → 2 * (i + k) ≤ length ws → isSome (find g m (i + k) ws) ≡ (isSome (find g m i ws) || amongPairs g m i k ws)
+unfolding amongPairs
 found-among g m i zero ws h =
     let e : i + 0 ≡ i = omega arith in
     ap (λ (n : ℕ). isSome (find g m n ws)) e ∙ sym (or-false (isSome (find g m i ws)))
@@ -100,16 +100,16 @@ found-among g m i (suc k) ws h =
     let e : i + suc k ≡ suc (i + k) = omega arith in
     ap (λ (n : ℕ). isSome (find g m n ws)) e ∙ ap isSome (find-next g m (i + k) ws (omega arith)) ∙
     or-else (find g m (i + k) ws) (pairIs g m (i + k) ws) (i + k) ∙ ap (_|| pairIs g m (i + k) ws) (found-among g m i k ws (omega arith)) ∙
-    or-or (isSome (find g m i ws)) (among g m i k ws) (pairIs g m (i + k) ws)
+    or-or (isSome (find g m i ws)) (amongPairs g m i k ws) (pairIs g m (i + k) ws)
 
 module _ (g m : ℤ) (i k : ℕ) (ws : List ℤ) (h : 2 * (i + k) ≤ length ws) where
-  pub found-there : among g m i k ws ≡ true → isSome (find g m (i + k) ws) ≡ true
+  pub found-there : amongPairs g m i k ws ≡ true → isSome (find g m (i + k) ws) ≡ true
   found-there e = found-among g m i k ws h ∙ ap (isSome (find g m i ws) ||_) e ∙ or-true (isSome (find g m i ws))
 
-  pub found-before : among g m i k ws ≡ false → isSome (find g m (i + k) ws) ≡ isSome (find g m i ws)
+  pub found-before : amongPairs g m i k ws ≡ false → isSome (find g m (i + k) ws) ≡ isSome (find g m i ws)
   found-before e = found-among g m i k ws h ∙ ap (isSome (find g m i ws) ||_) e ∙ or-false (isSome (find g m i ws))
 
-  pub still-none : find g m i ws ≡ none → among g m i k ws ≡ false → find g m (i + k) ws ≡ none
+  pub still-none : find g m i ws ≡ none → amongPairs g m i k ws ≡ false → find g m (i + k) ws ≡ none
   unfolding isSome
   still-none e f = not-some (find g m (i + k) ws) (found-before f ∙ ap isSome e)
 

@@ -33,8 +33,8 @@ from-one a f = ap (leZ (pos 1)) (toZ-ofZ f)
 pub back : (z : ℤ) → mag z < 2147483648 → toZ w32 (ofZ w32 z) ≡ z
 back z h = toZ-ofZ (record { sfits = h })
 
-pub same-words : {r : Bool} {x y a b : ℤ} → r ≡ eqZ (toZ w32 (ofZ w32 x)) (toZ w32 (ofZ w32 y)) → mag x < 2147483648 → mag y < 2147483648 → x ≡ a → y ≡ b → r ≡ eqZ a b
-same-words {x} {y} e h k p q = e ∙ ap₂ eqZ (back x h ∙ p) (back y k ∙ q)
+pub same-cells : {r : Bool} {x y a b : ℤ} → r ≡ eqZ (toZ w32 (ofZ w32 x)) (toZ w32 (ofZ w32 y)) → mag x < 2147483648 → mag y < 2147483648 → x ≡ a → y ≡ b → r ≡ eqZ a b
+same-cells {x} {y} e h k p q = e ∙ ap₂ eqZ (back x h ∙ p) (back y k ∙ q)
 
 pub number-words : {r : Bool} {x y a b : ℤ} → r ≡ (atLeastOne (toZ w32 (ofZ w32 x)) && atLeastOne (toZ w32 (ofZ w32 y))) → mag x < 2147483648 → mag y < 2147483648 → x ≡ a → y ≡ b → r ≡ (atLeastOne a && atLeastOne b)
 number-words {x} {y} e h k p q = e ∙ ap₂ (λ (u v : ℤ). atLeastOne u && atLeastOne v) (back x h ∙ p) (back y k ∙ q)

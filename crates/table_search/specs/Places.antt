@@ -13,6 +13,6 @@ placed none = Absent
 placed (some i) = At i
 
 -- whether (g, m) is one of the k pairs from place i on
-unfoldable pub among : ℤ → ℤ → ℕ → ℕ → List ℤ → Bool
-among g m i zero ws = false
-among g m i (suc k) ws = among g m i k ws || pairIs g m (i + k) ws
+unfoldable pub amongPairs : ℤ → ℤ → ℕ → ℕ → List ℤ → Bool
+amongPairs g m i zero ws = false
+amongPairs g m i (suc k) ws = amongPairs g m i k ws || pairIs g m (i + k) ws

@@ -9,7 +9,7 @@ ghost use lib.ListN.{length};
 ghost use Rattle.language.specs.Basics.{eqZ};
 ghost use Rattle.language.specs.Table.{find, isSome, members, atLeastOne};
 ghost use Rattle.laws.specs.Tables.{groupAt, memberAt};
-ghost use Rattle.table_search.specs.Places.{placed, among};
+ghost use Rattle.table_search.specs.Places.{placed, amongPairs};
 
 // Where a pair stands, counted in pairs from 0.
 pub enum PairPlace {
@@ -75,7 +75,7 @@ pub fn numbers_fit(group: i32, member: i32) -> bool
 // Whether the pair is one of the 32 from place `from` on. All 32 are compared, with no way out at the first hit.
 fn block_holds(table: &[i32], from: usize, group: i32, member: i32) -> bool
     requires { ⌜ 2 * (from + 32) ≤ length (now table) ⌝ }
-    ensures { λ r. ⌜ r ≡ among group member from 32 (now (table .entry)) ⌝ }
+    ensures { λ r. ⌜ r ≡ amongPairs group member from 32 (now (table .entry)) ⌝ }
 {
     let mut hits: u32 = 0;
     let mut j = 0;

@@ -39,11 +39,11 @@ get [] i = none
 get (o ∷ vs) zero = o
 get (o ∷ vs) (suc i) = get vs i
 
-abbrev pub set : List (Option Val) → ℕ → Option Val → List (Option Val)
-set [] zero p = p ∷ []
-set [] (suc i) p = none ∷ set [] i p
-set (o ∷ vs) zero p = p ∷ vs
-set (o ∷ vs) (suc i) p = o ∷ set vs i p
+abbrev pub replace : List (Option Val) → ℕ → Option Val → List (Option Val)
+replace [] zero p = p ∷ []
+replace [] (suc i) p = none ∷ replace [] i p
+replace (o ∷ vs) zero p = p ∷ vs
+replace (o ∷ vs) (suc i) p = o ∷ replace vs i p
 
 abbrev pub Among : List Ty → ℕ → Type 0
 Among [] i = ⊥
@@ -70,15 +70,15 @@ among-one (τ ∷ τs) (suc i) b h = among-one τs i b h
 
 abbrev pub unset : List (Option Val) → List ℕ → List (Option Val)
 unset vs [] = vs
-unset vs (i ∷ is) = unset (set vs i none) is
+unset vs (i ∷ is) = unset (replace vs i none) is
 
-set-get : (vs : List (Option Val)) (i : ℕ) (v : Val) → get vs i ≡ some v → set vs i (some v) ≡ vs
-set-get [] i v e = absurd (let z : _≡_ {A = ℕ} 0 1 = cc in absurd-zero z)
+replace-same : (vs : List (Option Val)) (i : ℕ) (v : Val) → get vs i ≡ some v → replace vs i (some v) ≡ vs
+replace-same [] i v e = absurd (let z : _≡_ {A = ℕ} 0 1 = cc in absurd-zero z)
   where
     absurd-zero : _≡_ {A = ℕ} 0 1 → ⊥
     absurd-zero z = omega arith
-set-get (o ∷ vs) zero v e = ap (λ (p : Option Val). p ∷ vs) (sym e)
-set-get (o ∷ vs) (suc i) v e = ap (λ (us : List (Option Val)). o ∷ us) (set-get vs i v e)
+replace-same (o ∷ vs) zero v e = ap (λ (p : Option Val). p ∷ vs) (sym e)
+replace-same (o ∷ vs) (suc i) v e = ap (λ (us : List (Option Val)). o ∷ us) (replace-same vs i v e)
 
 -- says nothing: by it a rule reads off a frame's entry what the locals hold
 pub data Holds (τs : List Ty) (β : ℕ → ℕ) (vs : List (Option Val)) : Type 0 where
@@ -103,7 +103,7 @@ module _ {M : Type 1} (𝓤 : URA M) (H : Heap 𝓤) where
 
   -- another content of local i gives the frame back
   abbrev Back : List Ty → (ℕ → ℕ) → List (Option Val) → ℕ → SProp 𝓤
-  Back τs β vs i = all 𝓤 (λ (o : Option Val). wand 𝓤 (Cell (typeOf τs β i) (blockOf τs β i) o) (Frame τs β (set vs i o)))
+  Back τs β vs i = all 𝓤 (λ (o : Option Val). wand 𝓤 (Cell (typeOf τs β i) (blockOf τs β i) o) (Frame τs β (replace vs i o)))
 
   -- under one more cell in front
   pub under : {X : Type 0} (C P : SProp 𝓤) (Q F : X → SProp 𝓤) → ent 𝓤 (sep 𝓤 C (sep 𝓤 P (all 𝓤 (λ o. wand 𝓤 (Q o) (F o)))))
@@ -128,12 +128,12 @@ module _ {M : Type 1} (𝓤 : URA M) (H : Heap 𝓤) where
       via 𝓤 (sep 𝓤 (Cell τ (β 0) none) (sep 𝓤 (Cell (typeOf τs (λ j. β (suc j)) i) (blockOf τs (λ j. β (suc j)) i) none) (Back τs (λ j. β (suc j)) [] i)))
       (monoR 𝓤 (Cell τ (β 0) none) (out-of τs (λ j. β (suc j)) [] i a))
       (under (Cell τ (β 0) none) (Cell (typeOf τs (λ j. β (suc j)) i) (blockOf τs (λ j. β (suc j)) i) none) (Cell (typeOf τs (λ j. β (suc j)) i)
-      (blockOf τs (λ j. β (suc j)) i)) (λ o. Frame τs (λ j. β (suc j)) (set [] i o)))
+      (blockOf τs (λ j. β (suc j)) i)) (λ o. Frame τs (λ j. β (suc j)) (replace [] i o)))
   out-of (τ ∷ τs) β (o ∷ vs) (suc i) a =
       via 𝓤 (sep 𝓤 (Cell τ (β 0) o) (sep 𝓤 (Cell (typeOf τs (λ j. β (suc j)) i) (blockOf τs (λ j. β (suc j)) i) (get vs i)) (Back τs (λ j. β (suc j)) vs i)))
       (monoR 𝓤 (Cell τ (β 0) o) (out-of τs (λ j. β (suc j)) vs i a))
       (under (Cell τ (β 0) o) (Cell (typeOf τs (λ j. β (suc j)) i) (blockOf τs (λ j. β (suc j)) i) (get vs i)) (Cell (typeOf τs (λ j. β (suc j)) i)
-      (blockOf τs (λ j. β (suc j)) i)) (λ p. Frame τs (λ j. β (suc j)) (set vs i p)))
+      (blockOf τs (λ j. β (suc j)) i)) (λ p. Frame τs (λ j. β (suc j)) (replace vs i p)))
 
   -- the entry
   abbrev pub fr : List Ty → (ℕ → ℕ) → List (Option Val) → Item 𝓤
@@ -141,12 +141,12 @@ module _ {M : Type 1} (𝓤 : URA M) (H : Heap 𝓤) where
 
 module _ {M : Type 1} {𝓤 : URA M} {H : Heap 𝓤} {A : Atoms 𝓤} {K : Type 0} {W : Given 𝓤 H A} where
   pub cell-of : K → (i : ℕ) {τs : List Ty} {β : ℕ → ℕ} {vs : List (Option Val)} {v : Val} → get vs i ≡ some v → Among τs i
-      → Part K W (fr 𝓤 H τs β vs) fullShare (typeOf 𝓤 H τs β i) (blockOf 𝓤 H τs β i) zero v (λ u. fr 𝓤 H τs β (set vs i (some u)))
+      → Part K W (fr 𝓤 H τs β vs) fullShare (typeOf 𝓤 H τs β i) (blockOf 𝓤 H τs β i) zero v (λ u. fr 𝓤 H τs β (replace vs i (some u)))
   cell-of t i {τs} {β} {vs} {v} g a = record {
     out = guardE 𝓤 (Holds τs β vs) (Frame 𝓤 H τs β vs) (λ _. via 𝓤 (sep 𝓤 (sep 𝓤 (at v) dies) B) taken
         (via 𝓤 (sep 𝓤 (at v) (sep 𝓤 dies B)) (assoc∗ 𝓤 (at v) dies B)
-        (monoR 𝓤 (at v) (allI 𝓤 (λ (u : Val). wand 𝓤 (at u) (guard 𝓤 (Holds τs β (set vs i (some u))) (Frame 𝓤 H τs β (set vs i (some u))))) back))));
-    same = ap (λ (us : List (Option Val)). fr 𝓤 H τs β us) (set-get vs i v g);
+        (monoR 𝓤 (at v) (allI 𝓤 (λ (u : Val). wand 𝓤 (at u) (guard 𝓤 (Holds τs β (replace vs i (some u))) (Frame 𝓤 H τs β (replace vs i (some u))))) back))));
+    same = ap (λ (us : List (Option Val)). fr 𝓤 H τs β us) (replace-same vs i v g);
   }
     where
       at : Val → SProp 𝓤
@@ -156,17 +156,17 @@ module _ {M : Type 1} {𝓤 : URA M} {H : Heap 𝓤} {A : Atoms 𝓤} {K : Type 
       dies = H .dies (typeOf 𝓤 H τs β i) (blockOf 𝓤 H τs β i)
 
       B : SProp 𝓤
-      B = all 𝓤 (λ (o : Option Val). wand 𝓤 (Cell 𝓤 H (typeOf 𝓤 H τs β i) (blockOf 𝓤 H τs β i) o) (Frame 𝓤 H τs β (set vs i o)))
+      B = all 𝓤 (λ (o : Option Val). wand 𝓤 (Cell 𝓤 H (typeOf 𝓤 H τs β i) (blockOf 𝓤 H τs β i) o) (Frame 𝓤 H τs β (replace vs i o)))
 
       taken : ent 𝓤 (Frame 𝓤 H τs β vs) (sep 𝓤 (sep 𝓤 (at v) dies) B)
       taken = subst (λ (o : Option Val). ent 𝓤 (Frame 𝓤 H τs β vs) (sep 𝓤 (Cell 𝓤 H (typeOf 𝓤 H τs β i) (blockOf 𝓤 H τs β i) o) B)) g (out-of 𝓤 H τs β vs i a)
 
-      back : (u : Val) → ent 𝓤 (sep 𝓤 dies B) (wand 𝓤 (at u) (guard 𝓤 (Holds τs β (set vs i (some u))) (Frame 𝓤 H τs β (set vs i (some u)))))
-      back u = wandI 𝓤 (sep 𝓤 dies B) (at u) (guard 𝓤 (Holds τs β (set vs i (some u))) (Frame 𝓤 H τs β (set vs i (some u))))
+      back : (u : Val) → ent 𝓤 (sep 𝓤 dies B) (wand 𝓤 (at u) (guard 𝓤 (Holds τs β (replace vs i (some u))) (Frame 𝓤 H τs β (replace vs i (some u)))))
+      back u = wandI 𝓤 (sep 𝓤 dies B) (at u) (guard 𝓤 (Holds τs β (replace vs i (some u))) (Frame 𝓤 H τs β (replace vs i (some u))))
           (qed W ((raw dies ⊛ raw B) ∷ raw (at u) ∷ []) ∵ split ! $ move ! (2 ∷ 0 ∷ []) $ join ! $ move ! (1 ∷ []) $
-          use1 W (raw (wand 𝓤 (sep 𝓤 (at u) dies) (Frame 𝓤 H τs β (set vs i (some u)))))
-          (allE 𝓤 (λ (o : Option Val). wand 𝓤 (Cell 𝓤 H (typeOf 𝓤 H τs β i) (blockOf 𝓤 H τs β i) o) (Frame 𝓤 H τs β (set vs i o))) (some u)) $
-          move ! (1 ∷ 0 ∷ []) $ use2 W (raw (Frame 𝓤 H τs β (set vs i (some u)))) (apply∗ 𝓤 (sep 𝓤 (at u) dies) (Frame 𝓤 H τs β (set vs i (some u)))) $
+          use1 W (raw (wand 𝓤 (sep 𝓤 (at u) dies) (Frame 𝓤 H τs β (replace vs i (some u)))))
+          (allE 𝓤 (λ (o : Option Val). wand 𝓤 (Cell 𝓤 H (typeOf 𝓤 H τs β i) (blockOf 𝓤 H τs β i) o) (Frame 𝓤 H τs β (replace vs i o))) (some u)) $
+          move ! (1 ∷ 0 ∷ []) $ use2 W (raw (Frame 𝓤 H τs β (replace vs i (some u)))) (apply∗ 𝓤 (sep 𝓤 (at u) dies) (Frame 𝓤 H τs β (replace vs i (some u)))) $
           check ! holds $ done !)
 
 -- ---- a local is written, whatever it holds
@@ -178,7 +178,7 @@ module _ {M : Type 1} (𝓤 : URA M) (H : Heap 𝓤) (A : Atoms 𝓤) (W : Given
   -- the room of local i, and what makes a frame of it again
   abbrev pub Again : List Ty → (ℕ → ℕ) → List (Option Val) → ℕ → SProp 𝓤
   Again τs β vs i = sep 𝓤 (H .dies (typeOf 𝓤 H τs β i) (blockOf 𝓤 H τs β i))
-      (all 𝓤 (λ (o : Option Val). wand 𝓤 (Cell 𝓤 H (typeOf 𝓤 H τs β i) (blockOf 𝓤 H τs β i) o) (Frame 𝓤 H τs β (set vs i o))))
+      (all 𝓤 (λ (o : Option Val). wand 𝓤 (Cell 𝓤 H (typeOf 𝓤 H τs β i) (blockOf 𝓤 H τs β i) o) (Frame 𝓤 H τs β (replace vs i o))))
 
   pub room-of : (τs : List Ty) (β : ℕ → ℕ) (vs : List (Option Val)) (i : ℕ) → Among τs i → ent 𝓤 (mean 𝓤 H A (fr 𝓤 H τs β vs))
       (sep 𝓤 (H .room (typeOf 𝓤 H τs β i) (blockOf 𝓤 H τs β i) zero) (Again τs β vs i))
@@ -193,16 +193,16 @@ module _ {M : Type 1} (𝓤 : URA M) (H : Heap 𝓤) (A : Atoms 𝓤) (W : Given
       b = blockOf 𝓤 H τs β i
 
       B : SProp 𝓤
-      B = all 𝓤 (λ (o : Option Val). wand 𝓤 (Cell 𝓤 H t b o) (Frame 𝓤 H τs β (set vs i o)))
+      B = all 𝓤 (λ (o : Option Val). wand 𝓤 (Cell 𝓤 H t b o) (Frame 𝓤 H τs β (replace vs i o)))
 
   -- with a content of local i
   pub filled : (τs : List Ty) (β : ℕ → ℕ) (vs : List (Option Val)) (i : ℕ) (v : Val)
-      → ent 𝓤 (sep 𝓤 (Again τs β vs i) (H .at fullShare (typeOf 𝓤 H τs β i) (blockOf 𝓤 H τs β i) zero v)) (mean 𝓤 H A (fr 𝓤 H τs β (set vs i (some v))))
+      → ent 𝓤 (sep 𝓤 (Again τs β vs i) (H .at fullShare (typeOf 𝓤 H τs β i) (blockOf 𝓤 H τs β i) zero v)) (mean 𝓤 H A (fr 𝓤 H τs β (replace vs i (some v))))
   filled τs β vs i v =
       qed W ((raw (H .dies t b) ⊛ raw B) ∷ raw (H .at fullShare t b zero v) ∷ []) ∵ split ! $ move ! (2 ∷ 0 ∷ []) $ join ! $ move ! (1 ∷ []) $
-      use1 W (raw (wand 𝓤 (Cell 𝓤 H t b (some v)) (Frame 𝓤 H τs β (set vs i (some v))))) (allE 𝓤 (λ (o : Option Val). wand 𝓤 (Cell 𝓤 H t b o)
-      (Frame 𝓤 H τs β (set vs i o))) (some v)) $
-      move ! (1 ∷ 0 ∷ []) $ use2 W (raw (Frame 𝓤 H τs β (set vs i (some v)))) (apply∗ 𝓤 (Cell 𝓤 H t b (some v)) (Frame 𝓤 H τs β (set vs i (some v)))) $
+      use1 W (raw (wand 𝓤 (Cell 𝓤 H t b (some v)) (Frame 𝓤 H τs β (replace vs i (some v))))) (allE 𝓤 (λ (o : Option Val). wand 𝓤 (Cell 𝓤 H t b o)
+      (Frame 𝓤 H τs β (replace vs i o))) (some v)) $
+      move ! (1 ∷ 0 ∷ []) $ use2 W (raw (Frame 𝓤 H τs β (replace vs i (some v)))) (apply∗ 𝓤 (Cell 𝓤 H t b (some v)) (Frame 𝓤 H τs β (replace vs i (some v)))) $
       check ! holds $ done !
     where
       t : Ty
@@ -212,14 +212,14 @@ module _ {M : Type 1} (𝓤 : URA M) (H : Heap 𝓤) (A : Atoms 𝓤) (W : Given
       b = blockOf 𝓤 H τs β i
 
       B : SProp 𝓤
-      B = all 𝓤 (λ (o : Option Val). wand 𝓤 (Cell 𝓤 H t b o) (Frame 𝓤 H τs β (set vs i o)))
+      B = all 𝓤 (λ (o : Option Val). wand 𝓤 (Cell 𝓤 H t b o) (Frame 𝓤 H τs β (replace vs i o)))
 
-  forgotten : (τs : List Ty) (β : ℕ → ℕ) (vs : List (Option Val)) (i : ℕ) → Among τs i → ent 𝓤 (Frame 𝓤 H τs β vs) (Frame 𝓤 H τs β (set vs i none))
+  forgotten : (τs : List Ty) (β : ℕ → ℕ) (vs : List (Option Val)) (i : ℕ) → Among τs i → ent 𝓤 (Frame 𝓤 H τs β vs) (Frame 𝓤 H τs β (replace vs i none))
   forgotten τs β vs i a =
       via 𝓤 (sep 𝓤 (Cell 𝓤 H t b (get vs i)) B) (out-of 𝓤 H τs β vs i a)
-      (via 𝓤 (sep 𝓤 (Cell 𝓤 H t b none) (wand 𝓤 (Cell 𝓤 H t b none) (Frame 𝓤 H τs β (set vs i none))))
-      (mono∗ 𝓤 (roomy t b (get vs i)) (allE 𝓤 (λ (o : Option Val). wand 𝓤 (Cell 𝓤 H t b o) (Frame 𝓤 H τs β (set vs i o))) none)) (apply∗ 𝓤 (Cell 𝓤 H t b none)
-      (Frame 𝓤 H τs β (set vs i none))))
+      (via 𝓤 (sep 𝓤 (Cell 𝓤 H t b none) (wand 𝓤 (Cell 𝓤 H t b none) (Frame 𝓤 H τs β (replace vs i none))))
+      (mono∗ 𝓤 (roomy t b (get vs i)) (allE 𝓤 (λ (o : Option Val). wand 𝓤 (Cell 𝓤 H t b o) (Frame 𝓤 H τs β (replace vs i o))) none)) (apply∗ 𝓤 (Cell 𝓤 H t b none)
+      (Frame 𝓤 H τs β (replace vs i none))))
     where
       t : Ty
       t = typeOf 𝓤 H τs β i
@@ -228,13 +228,13 @@ module _ {M : Type 1} (𝓤 : URA M) (H : Heap 𝓤) (A : Atoms 𝓤) (W : Given
       b = blockOf 𝓤 H τs β i
 
       B : SProp 𝓤
-      B = all 𝓤 (λ (o : Option Val). wand 𝓤 (Cell 𝓤 H t b o) (Frame 𝓤 H τs β (set vs i o)))
+      B = all 𝓤 (λ (o : Option Val). wand 𝓤 (Cell 𝓤 H t b o) (Frame 𝓤 H τs β (replace vs i o)))
 
   all-forgotten : (τs : List Ty) (β : ℕ → ℕ) (vs : List (Option Val)) (is : List ℕ) → Amongs τs is → ent 𝓤 (Frame 𝓤 H τs β vs) (Frame 𝓤 H τs β (unset vs is))
   all-forgotten τs β vs [] a = id⊢ 𝓤 (Frame 𝓤 H τs β vs)
   all-forgotten τs β vs (i ∷ is) a =
       let p = among-one τs i (all-within τs is) a in
-      via 𝓤 (Frame 𝓤 H τs β (set vs i none)) (forgotten τs β vs i (p .0)) (all-forgotten τs β (set vs i none) is (p .1))
+      via 𝓤 (Frame 𝓤 H τs β (replace vs i none)) (forgotten τs β vs i (p .0)) (all-forgotten τs β (replace vs i none) is (p .1))
 
 module _ {M : Type 1} {𝓤 : URA M} {H : Heap 𝓤} {A : Atoms 𝓤} {K : Type 0} {W : Given 𝓤 H A} {Γ : List (Item 𝓤)} where
   pub forgets : K → (n : ℕ) (is : List ℕ) {τs : List Ty} {β : ℕ → ℕ} {vs : List (Option Val)} {G : Goal 𝓤 H} → nth 𝓤 H A n Γ ≡ fr 𝓤 H τs β vs → Amongs τs is
@@ -252,12 +252,12 @@ module _ {M : Type 1} {𝓤 : URA M} {H : Heap 𝓤} {A : Atoms 𝓤} {K : Type 
 
   pub writes-local : K → (n i : ℕ) {τs : List Ty} {β : ℕ → ℕ} {vs : List (Option Val)} {v : Val} → nth 𝓤 H A n Γ ≡ fr 𝓤 H τs β vs → Among τs i
       → T (hasTy (typeOf 𝓤 H τs β i) v) × WT v
-      → Writes K W Γ (typeOf 𝓤 H τs β i) (blockOf 𝓤 H τs β i) zero v (put 𝓤 H A n (fr 𝓤 H τs β (set vs i (some v))) Γ)
+      → Writes K W Γ (typeOf 𝓤 H τs β i) (blockOf 𝓤 H τs β i) zero v (put 𝓤 H A n (fr 𝓤 H τs β (replace vs i (some v))) Γ)
   writes-local t n i {τs} {β} {vs} {v} e a wt = record {
     go = λ P h. via 𝓤 (sep 𝓤 (mean 𝓤 H A (fr 𝓤 H τs β vs)) R) (subst (λ (j : Item 𝓤). ent 𝓤 (⋆ 𝓤 H A Γ) (sep 𝓤 (mean 𝓤 H A j) R)) e (pull 𝓤 H A n Γ))
         (via 𝓤 (sep 𝓤 (sep 𝓤 room G) R) (monoL 𝓤 R (room-of 𝓤 H A W τs β vs i a)) (via 𝓤 (sep 𝓤 room (sep 𝓤 G R)) (assoc∗ 𝓤 room G R)
         (via 𝓤 (sep 𝓤 room (wand 𝓤 at P)) (monoR 𝓤 room (wandI 𝓤 (sep 𝓤 G R) at P
-        (via 𝓤 (⋆ 𝓤 H A (put 𝓤 H A n (fr 𝓤 H τs β (set vs i (some v))) Γ)) again h)))
+        (via 𝓤 (⋆ 𝓤 H A (put 𝓤 H A n (fr 𝓤 H τs β (replace vs i (some v))) Γ)) again h)))
         (guardI 𝓤 (T (hasTy (typeOf 𝓤 H τs β i) v) × WT v) (sep 𝓤 room (wand 𝓤 at P)) wt))));
   }
     where
@@ -273,11 +273,11 @@ module _ {M : Type 1} {𝓤 : URA M} {H : Heap 𝓤} {A : Atoms 𝓤} {K : Type 
       at : SProp 𝓤
       at = H .at fullShare (typeOf 𝓤 H τs β i) (blockOf 𝓤 H τs β i) zero v
 
-      again : ent 𝓤 (sep 𝓤 (sep 𝓤 G R) at) (⋆ 𝓤 H A (put 𝓤 H A n (fr 𝓤 H τs β (set vs i (some v))) Γ))
+      again : ent 𝓤 (sep 𝓤 (sep 𝓤 G R) at) (⋆ 𝓤 H A (put 𝓤 H A n (fr 𝓤 H τs β (replace vs i (some v))) Γ))
       again = via 𝓤 (sep 𝓤 (sep 𝓤 G at) R)
           (via 𝓤 (sep 𝓤 G (sep 𝓤 R at)) (assoc∗ 𝓤 G R at) (via 𝓤 (sep 𝓤 G (sep 𝓤 at R)) (monoR 𝓤 G (comm∗ 𝓤 R at)) (assoc′ 𝓤 G at R)))
-          (via 𝓤 (sep 𝓤 (mean 𝓤 H A (fr 𝓤 H τs β (set vs i (some v)))) R) (monoL 𝓤 R (filled 𝓤 H A W τs β vs i v))
-          (fill 𝓤 H A n (fr 𝓤 H τs β (set vs i (some v))) Γ))
+          (via 𝓤 (sep 𝓤 (mean 𝓤 H A (fr 𝓤 H τs β (replace vs i (some v)))) R) (monoL 𝓤 R (filled 𝓤 H A W τs β vs i v))
+          (fill 𝓤 H A n (fr 𝓤 H τs β (replace vs i (some v))) Γ))
 
 -- ---- a function's locals: made, given its arguments, freed
 abbrev pub somes : List Val → List (Option Val)

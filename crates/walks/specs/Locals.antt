@@ -29,7 +29,7 @@ use types.Kit.{Given, Item, nth, del, put, Post, post, anyQ, atRet, Goal, prop, 
 use types.Part.{Part, agg, sub, look-in}
 use types.Run.{Reads, Opd, Rv, load, from, stop, fld, hop, addr, and-then, no-more, assigns, assigns-last, land, returns, returns-within, first, branches, skips, jumps}
 use denote.Slice.{sliceTy, sliceVal}
-use Rattle.walks.specs.Frames.{envAt, get, set, Among, typeOf, blockOf, fr, cell-of, writes-local, frees-all}
+use Rattle.walks.specs.Frames.{envAt, get, replace, Among, typeOf, blockOf, fr, cell-of, writes-local, frees-all}
 
 -- ---- a state's order
 module _ {X : Type 0} (size : X → ℕ) where
@@ -42,15 +42,15 @@ module _ {X : Type 0} (size : X → ℕ) where
 module _ {M : Type 1} {𝓤 : URA M} {H : Heap 𝓤} {A : Atoms 𝓤} {K : Type 0} {W : Given 𝓤 H A} (Γ : List (Item 𝓤)) {τs : List Ty} {β : ℕ
     → ℕ} {vs : List (Option Val)} where
   there : K → (n i : ℕ) {v : Val} → nth 𝓤 H A n Γ ≡ fr 𝓤 H τs β vs → get vs i ≡ some v → Among τs i
-      → Part K W (nth 𝓤 H A n Γ) fullShare (typeOf 𝓤 H τs β i) (blockOf 𝓤 H τs β i) zero v (λ u. fr 𝓤 H τs β (set vs i (some u)))
-  there t n i {v} e g a = subst (λ (j : Item 𝓤). Part K W j fullShare (typeOf 𝓤 H τs β i) (blockOf 𝓤 H τs β i) zero v (λ u. fr 𝓤 H τs β (set vs i (some u))))
+      → Part K W (nth 𝓤 H A n Γ) fullShare (typeOf 𝓤 H τs β i) (blockOf 𝓤 H τs β i) zero v (λ u. fr 𝓤 H τs β (replace vs i (some u)))
+  there t n i {v} e g a = subst (λ (j : Item 𝓤). Part K W j fullShare (typeOf 𝓤 H τs β i) (blockOf 𝓤 H τs β i) zero v (λ u. fr 𝓤 H τs β (replace vs i (some u))))
       (sym e) (cell-of t i g a)
 
   there-in : K → (n i k : ℕ) {ν : Sym} {ρs : Tys} {us : Vals} {ρ : Ty} {d : ℕ} → nth 𝓤 H A n Γ ≡ fr 𝓤 H τs β vs → get vs i ≡ some (vstruct us) → Among τs i
       → typeOf 𝓤 H τs β i ≡ tyStruct ν ρs → fieldAt zero ρs k ≡ some (ρ, d)
-      → Part K W (nth 𝓤 H A n Γ) fullShare ρ (blockOf 𝓤 H τs β i) (zero + d) (getV us k) (λ u. fr 𝓤 H τs β (set vs i (some (vstruct (setV us k u)))))
+      → Part K W (nth 𝓤 H A n Γ) fullShare ρ (blockOf 𝓤 H τs β i) (zero + d) (getV us k) (λ u. fr 𝓤 H τs β (replace vs i (some (vstruct (setV us k u)))))
   there-in t n i k {ν} {ρs} {us} {ρ} {d} e g a q f =
-      sub t k f (subst (λ (τ : Ty). Part K W (nth 𝓤 H A n Γ) fullShare τ (blockOf 𝓤 H τs β i) zero (vstruct us) (λ u. fr 𝓤 H τs β (set vs i (some u)))) q
+      sub t k f (subst (λ (τ : Ty). Part K W (nth 𝓤 H A n Γ) fullShare τ (blockOf 𝓤 H τs β i) zero (vstruct us) (λ u. fr 𝓤 H τs β (replace vs i (some u)))) q
       (there t n i e g a))
 
 module _ {M : Type 1} {𝓤 : URA M} {H : Heap 𝓤} {A : Atoms 𝓤} {K : Type 0} {W : Given 𝓤 H A} {Γ : List (Item 𝓤)} {τs : List Ty} {β : ℕ
@@ -88,17 +88,17 @@ module _ {M : Type 1} {𝓤 : URA M} {H : Heap 𝓤} {A : Atoms 𝓤} {K : Type 
   module _ {C : Calls 𝓤 H} {Λ : Loops 𝓤 H} {q : Post 𝓤 H} where
     pub puts : K → (n i : ℕ) {rv : RValue} {rest : Body} {v : Val} → nth 𝓤 H A n Γ ≡ fr 𝓤 H τs β vs → Rv K W Γ (envAt τs β) rv v → Among τs i
         → T (hasTy (typeOf 𝓤 H τs β i) v) × WT v
-        → Step K W (put 𝓤 H A n (fr 𝓤 H τs β (set vs i (some v))) Γ) (runs C Λ (envAt τs β) rest q) Γ
+        → Step K W (put 𝓤 H A n (fr 𝓤 H τs β (replace vs i (some v))) Γ) (runs C Λ (envAt τs β) rest q) Γ
         (runs C Λ (envAt τs β) (seq (assign (place i []) rv) rest) q)
     puts t n i e r a wt = assigns t r (from t (stop t)) (writes-local t n i e a wt)
 
     pub puts-last : K → (n i : ℕ) {rv : RValue} {v : Val} → nth 𝓤 H A n Γ ≡ fr 𝓤 H τs β vs → Rv K W Γ (envAt τs β) rv v → Among τs i
         → T (hasTy (typeOf 𝓤 H τs β i) v) × WT v
-        → Step K W (put 𝓤 H A n (fr 𝓤 H τs β (set vs i (some v))) Γ) (prop (post 𝓤 H q next)) Γ (runs C Λ (envAt τs β) (assign (place i []) rv) q)
+        → Step K W (put 𝓤 H A n (fr 𝓤 H τs β (replace vs i (some v))) Γ) (prop (post 𝓤 H q next)) Γ (runs C Λ (envAt τs β) (assign (place i []) rv) q)
     puts-last t n i e r a wt = assigns-last t r (from t (stop t)) (writes-local t n i e a wt)
 
     pub lands-in : K → (n i : ℕ) {rest : Body} {v : Val} → nth 𝓤 H A n Γ ≡ fr 𝓤 H τs β vs → Among τs i → T (hasTy (typeOf 𝓤 H τs β i) v) × WT v
-        → Step K W (put 𝓤 H A n (fr 𝓤 H τs β (set vs i (some v))) Γ) (runs C Λ (envAt τs β) rest q) Γ (lands C Λ (envAt τs β) (place i []) v rest q)
+        → Step K W (put 𝓤 H A n (fr 𝓤 H τs β (replace vs i (some v))) Γ) (runs C Λ (envAt τs β) rest q) Γ (lands C Λ (envAt τs β) (place i []) v rest q)
     lands-in t n i e a wt = land t (from t (stop t)) (writes-local t n i e a wt)
 
   pub ends : K → (n : ℕ) {C : Calls 𝓤 H} {Λ : Loops 𝓤 H} {Kf : Val → SProp 𝓤} {r : Val} → nth 𝓤 H A n Γ ≡ fr 𝓤 H τs β vs → get vs 0 ≡ some r → Among τs 0

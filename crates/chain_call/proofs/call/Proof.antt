@@ -44,8 +44,8 @@ use Rattle.walks.specs.Early.{ends-early, told, untold}
 use Rattle.walks.specs.Lends.{relent, shares-slice, unshares-slice}
 use Rattle.chain_call.proofs.Rows.{numberss, verdicts}
 use Rattle.chain_links.proofs.Rows.{recs}
-use Rattle.call_admission.proofs.Numbers as Numbers#
-use Rattle.call_admission.proofs.Numbers.Laws as Numbers′
+use Rattle.call_admission.proofs.CallNumbers as CallNumbers#
+use Rattle.call_admission.proofs.CallNumbers.Laws as CallNumbers′
 use Rattle.chain_call.proofs.judged as judged
 use Rattle.chain_call.proofs.judged.Symbol as judged-def
 use Rattle.chain_call.proofs.judged.Symbol.{name as #judged}
@@ -171,7 +171,7 @@ module _ {M : Type 1} (𝓤 : URA M) (H : Heap 𝓤) (A : Atoms 𝓤) (W : Given
         if-then ! (var ! 5 13 refl refl tt)
         (λ y1.
         puts ! 5 15 refl (lent ! 5 6 refl refl tt) tt (tt, tt) $
-        move ! (4 ∷ []) $ calls-by ! fm (Calls-refused 𝓤 H A mem run) known-refused (to (for-refused verdict1 (numbers .count) (numbers .tally) h-answer answer)) (for-refused verdict1 (numbers .count) (numbers .tally) h-answer answer) refl (g-verdict1, ((owed Numbers#.the-type Numbers′.the-laws numbers _ g-numbers .1 .1 .1 .1 .0), ((owed Numbers#.the-type Numbers′.the-laws numbers _ g-numbers .1 .1 .1 .0), tt))) (Unit {0}) tt (asks-all 𝓤 H A (for-refused verdict1 (numbers .count) (numbers .tally) h-answer answer) []) units _ (λ v. id⊢ 𝓤 _)
+        move ! (4 ∷ []) $ calls-by ! fm (Calls-refused 𝓤 H A mem run) known-refused (to (for-refused verdict1 (numbers .count) (numbers .tally) h-answer answer)) (for-refused verdict1 (numbers .count) (numbers .tally) h-answer answer) refl (g-verdict1, ((owed CallNumbers#.the-type CallNumbers′.the-laws numbers _ g-numbers .1 .1 .1 .1 .0), ((owed CallNumbers#.the-type CallNumbers′.the-laws numbers _ g-numbers .1 .1 .1 .0), tt))) (Unit {0}) tt (asks-all 𝓤 H A (for-refused verdict1 (numbers .count) (numbers .tally) h-answer answer) []) units _ (λ v. id⊢ 𝓤 _)
         (and-then ! (var ! 5 7 refl refl tt) (and-then ! (part ! 5 2 4 refl refl tt refl refl refl) (and-then ! (part ! 5 2 3 refl refl tt refl refl refl) (and-then ! (var ! 5 15 refl refl tt) (no-more !))))) (λ _ ws3 _ e3 _.
         lands-in ! 5 14 refl tt (tt, tt) $
         puts ! 5 0 refl (of-opd ! (unit-lit !)) tt (tt, tt) $

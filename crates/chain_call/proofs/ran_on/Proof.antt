@@ -46,16 +46,16 @@ use Rattle.chain_links.proofs.Rows.{recs}
 use Rattle.chain_run.proofs.Rows.{halts}
 use Rattle.run_state.proofs.Halt as Halt#
 use Rattle.run_state.proofs.Halt.Laws as Halt′
-use Rattle.call_admission.proofs.Numbers as Numbers#
-use Rattle.call_admission.proofs.Numbers.Laws as Numbers′
+use Rattle.call_admission.proofs.CallNumbers as CallNumbers#
+use Rattle.call_admission.proofs.CallNumbers.Laws as CallNumbers′
 use Rattle.chain_call.proofs.resolved as resolved
 use Rattle.chain_call.proofs.resolved.Symbol as resolved-def
 use Rattle.chain_call.proofs.resolved.Symbol.{name as #resolved}
 use Rattle.chain_call.proofs.resolved.Met as resolved-thm
-use Rattle.chain_call.proofs.limit_of as limit-of
-use Rattle.chain_call.proofs.limit_of.Symbol as limit-of-def
-use Rattle.chain_call.proofs.limit_of.Symbol.{name as #limit-of}
-use Rattle.chain_call.proofs.limit_of.Met as limit-of-thm
+use Rattle.chain_call.proofs.activations_of as activations-of
+use Rattle.chain_call.proofs.activations_of.Symbol as activations-of-def
+use Rattle.chain_call.proofs.activations_of.Symbol.{name as #activations-of}
+use Rattle.chain_call.proofs.activations_of.Met as activations-of-thm
 use Rattle.chain_run.proofs.run.run_program as run-program
 use Rattle.chain_run.proofs.run.run_program.Symbol as run-program-def
 use Rattle.chain_run.proofs.run.run_program.Symbol.{name as #run-program}
@@ -81,11 +81,11 @@ Calls-resolved 𝓤 H A mem run = tripleOf 𝓤 H A resolved.signature (resolved
 abbrev for-resolved : Loan → List ℕ → numberss .type .Denot → Loan → List ℕ → List Par
 for-resolved h0 x0 x1 h2 x2 = brw (shrSlice u8) h0 x0 ∷ dat numberss x1 ∷ brw (mutRef (Array u32 tt 4096)) h2 x2 ∷ []
 
-abbrev Calls-limit-of : {M : Type 1} (𝓤 : URA M) (H : Heap 𝓤) (A : Atoms 𝓤) → (Memory → SProp 𝓤) → (Routine → Fun 𝓤) → Contract 𝓤
-Calls-limit-of 𝓤 H A mem run = tripleOf 𝓤 H A limit-of.signature (limit-of.spec 𝓤 H A mem run)
+abbrev Calls-activations-of : {M : Type 1} (𝓤 : URA M) (H : Heap 𝓤) (A : Atoms 𝓤) → (Memory → SProp 𝓤) → (Routine → Fun 𝓤) → Contract 𝓤
+Calls-activations-of 𝓤 H A mem run = tripleOf 𝓤 H A activations-of.signature (activations-of.spec 𝓤 H A mem run)
 
-abbrev for-limit-of : numberss .type .Denot → List Par
-for-limit-of x0 = dat numberss x0 ∷ []
+abbrev for-activations-of : numberss .type .Denot → List Par
+for-activations-of x0 = dat numberss x0 ∷ []
 
 abbrev Calls-run-program : {M : Type 1} (𝓤 : URA M) (H : Heap 𝓤) (A : Atoms 𝓤) → (Memory → SProp 𝓤) → (Routine → Fun 𝓤) → Contract 𝓤
 Calls-run-program 𝓤 H A mem run = tripleOf 𝓤 H A run-program.signature (run-program.spec 𝓤 H A mem run)
@@ -109,9 +109,9 @@ abbrev stayed : Stays (f.ended .signature .params) (f.ended .kept)
 stayed = (gave-ref (0 ∷ []) tt (arrayOf (plain (λ _. u32)) 4096), (gave-ref (1 ∷ []) tt (arrayOf (plain (λ _. i32)) 8224), (stay-none-slice (2 ∷ []) tt (plain (λ _. u8)) yes, (stay-none (λ _. numberss .type) yes, (gave-slice (3 ∷ []) tt (plain (λ _. i32)), (gave-slice (4 ∷ []) tt (plain (λ _. i32)), (gave-slice (5 ∷ []) tt (plain (λ _. recs .type)), (gave-ref (6 ∷ []) tt (arrayOf (plain (λ _. u64)) 9), tt))))))))
 
 module _ {M : Type 1} (𝓤 : URA M) (H : Heap 𝓤) (A : Atoms 𝓤) (W : Given 𝓤 H A) (mem : Memory → SProp 𝓤) (run : Routine → Fun 𝓤) (κ0 κ1 κ2 κ3 κ4 κ5 κ6 : Lft) (q0 q1 q2 q3 q4 q5 q6 : Share)
-    (code# : RefT (List ℕ)) (words# : RefT (List ℤ)) (script# : RefT (List ℕ)) (numbers : numberss .type .Denot) (table# : RefT (List ℤ)) (sheet# : RefT (List ℤ)) (records# : RefT (List (recs .type .Denot))) (answer# : RefT (List ℕ))
+    (code# : RefT (List ℕ)) (cells# : RefT (List ℤ)) (script# : RefT (List ℕ)) (numbers : numberss .type .Denot) (table# : RefT (List ℤ)) (sheet# : RefT (List ℤ)) (records# : RefT (List (recs .type .Denot))) (answer# : RefT (List ℕ))
     (room-script : Room u8 (length (script# .now))) (room-table : Room i32 (length (table# .now))) (room-sheet : Room i32 (length (sheet# .now))) (room-records : Room (recs .type) (length (records# .now))) (g-numbers : Good numberss numbers)
-    (pre : said.Pre (code# .now) (words# .now) (script# .now) numbers (table# .now) (sheet# .now) (records# .now)) where
+    (pre : said.Pre (code# .now) (cells# .now) (script# .now) numbers (table# .now) (sheet# .now) (records# .now)) where
   abbrev h-code : Loan
   h-code = loanRef κ0 q0 code#
 
@@ -119,10 +119,10 @@ module _ {M : Type 1} (𝓤 : URA M) (H : Heap 𝓤) (A : Atoms 𝓤) (W : Given
   code = code# .now
 
   abbrev h-words : Loan
-  h-words = loanRef κ1 q1 words#
+  h-words = loanRef κ1 q1 cells#
 
-  abbrev words : List ℤ
-  words = words# .now
+  abbrev cells : List ℤ
+  cells = cells# .now
 
   abbrev h-script : Loan
   h-script = loanSlice κ2 q2 script#
@@ -155,7 +155,7 @@ module _ {M : Type 1} (𝓤 : URA M) (H : Heap 𝓤) (A : Atoms 𝓤) (W : Given
   answer = answer# .now
 
   abbrev ps : List Par
-  ps = brw (mutRef (Array u32 tt 4096)) h-code code ∷ brw (mutRef (Array i32 tt 8224)) h-words words ∷ brw (shrSlice u8) h-script script ∷ dat numberss numbers ∷ brw (mutSlice i32) h-table table ∷ brw (mutSlice i32) h-sheet sheet ∷ brw (mutSlice (recs .type)) h-records records ∷ brw (mutRef (Array u64 tt 9)) h-answer answer ∷ []
+  ps = brw (mutRef (Array u32 tt 4096)) h-code code ∷ brw (mutRef (Array i32 tt 8224)) h-words cells ∷ brw (shrSlice u8) h-script script ∷ dat numberss numbers ∷ brw (mutSlice i32) h-table table ∷ brw (mutSlice i32) h-sheet sheet ∷ brw (mutSlice (recs .type)) h-records records ∷ brw (mutRef (Array u64 tt 9)) h-answer answer ∷ []
 
   abbrev bound : walkOf 𝓤 H A f.ended stayed (f.clauses 𝓤 H A mem run) .Ghost
   bound = ((lfts ps, shares ps, tt, denots 0 ps, valss 0 ps), tt)
@@ -163,13 +163,13 @@ module _ {M : Type 1} (𝓤 : URA M) (H : Heap 𝓤) (A : Atoms 𝓤) (W : Given
   abbrev Post : Val → SProp 𝓤
   Post = walkOf 𝓤 H A f.ended stayed (f.clauses 𝓤 H A mem run) .post bound
 
-  exits : (code′ : List ℕ) (words′ : List ℤ) (table′ : List ℤ) (sheet′ : List ℤ) (records′ : List (recs .type .Denot)) (answer′ : List ℕ) → length table′ ≡ length table → length sheet′ ≡ length sheet → length records′ ≡ length records → said.Said script numbers table sheet records table′ sheet′ answer′ → ent 𝓤 (⋆ 𝓤 H A (outs 𝓤 0 ps (code′, (words′, (tt, (tt, (table′, (sheet′, (records′, (answer′, tt)))))))))) (Post vunit)
-  exits code′ words′ table′ sheet′ records′ answer′ same-table same-sheet same-records says = via 𝓤 _ (leaves-with 𝓤 H A W ps (code′, (words′, (tt, (tt, (table′, (sheet′, (records′, (answer′, tt)))))))) (g-numbers, tt) units tt refl (said.Said script numbers table sheet records table′ sheet′ answer′) says)
-      (ends-at 𝓤 H A f.ended stayed (f.clauses 𝓤 H A mem run) W bound vunit tt (code′, (words′, (tt, (tt, (table′, (sheet′, (records′, (answer′, tt)))))))) (tt, (tt, (tt, (tt, (same-table, (same-sheet, (same-records, (tt, tt)))))))))
+  exits : (code′ : List ℕ) (cells′ : List ℤ) (table′ : List ℤ) (sheet′ : List ℤ) (records′ : List (recs .type .Denot)) (answer′ : List ℕ) → length table′ ≡ length table → length sheet′ ≡ length sheet → length records′ ≡ length records → said.Said script numbers table sheet records table′ sheet′ answer′ → ent 𝓤 (⋆ 𝓤 H A (outs 𝓤 0 ps (code′, (cells′, (tt, (tt, (table′, (sheet′, (records′, (answer′, tt)))))))))) (Post vunit)
+  exits code′ cells′ table′ sheet′ records′ answer′ same-table same-sheet same-records says = via 𝓤 _ (leaves-with 𝓤 H A W ps (code′, (cells′, (tt, (tt, (table′, (sheet′, (records′, (answer′, tt)))))))) (g-numbers, tt) units tt refl (said.Said script numbers table sheet records table′ sheet′ answer′) says)
+      (ends-at 𝓤 H A f.ended stayed (f.clauses 𝓤 H A mem run) W bound vunit tt (code′, (cells′, (tt, (tt, (table′, (sheet′, (records′, (answer′, tt)))))))) (tt, (tt, (tt, (tt, (same-table, (same-sheet, (same-records, (tt, tt)))))))))
 
   module _ (𝓣 : Tables 𝓤 H)
       (known-resolved : Triple 𝓤 (𝓣 .C #resolved) (Calls-resolved 𝓤 H A mem run))
-      (known-limit-of : Triple 𝓤 (𝓣 .C #limit-of) (Calls-limit-of 𝓤 H A mem run))
+      (known-activations-of : Triple 𝓤 (𝓣 .C #activations-of) (Calls-activations-of 𝓤 H A mem run))
       (known-run-program : Triple 𝓤 (𝓣 .C #run-program) (Calls-run-program 𝓤 H A mem run))
       (known-write-sheet : Triple 𝓤 (𝓣 .C #write-sheet) (Calls-write-sheet 𝓤 H A mem run))
       (known-answered : Triple 𝓤 (𝓣 .C #answered) (Calls-answered 𝓤 H A mem run)) where
@@ -181,7 +181,7 @@ module _ {M : Type 1} (𝓤 : URA M) (H : Heap 𝓤) (A : Atoms 𝓤) (W : Given
         begins ! (𝓣 .C) (𝓣 .Λ) mine.function (vals ps) Post ((tt, tt), ((tt, tt), ((tt, (tt, (record { fits = room-script .0 }, tt))), (typed 𝓤 H A W numberss numbers g-numbers, ((tt, (tt, (record { fits = room-table .0 }, tt))), ((tt, (tt, (record { fits = room-sheet .0 }, tt))), ((tt, (tt, (record { fits = room-records .0 }, tt))), ((tt, tt), tt)))))))) (λ β. move ! (1 ∷ 2 ∷ 3 ∷ 4 ∷ 5 ∷ 6 ∷ 7 ∷ []) $
         puts ! 7 12 refl (lent ! 7 1 refl refl tt) tt (tt, tt) $
         lends-ref ! tt (Array u32 tt 4096) h-code code (λ p1-code ν1-code δ1-code.
-        move ! (3 ∷ 0 ∷ []) $ calls-by ! fm (Calls-resolved 𝓤 H A mem run) known-resolved (to (for-resolved h-script script numbers (relent h-code ν1-code δ1-code) code)) (for-resolved h-script script numbers (relent h-code ν1-code δ1-code) code) refl (g-numbers, tt) _ (facts.asks-resolved code words script numbers table sheet records answer pre) (id⊢ 𝓤 _) units _ (λ v. id⊢ 𝓤 _)
+        move ! (3 ∷ 0 ∷ []) $ calls-by ! fm (Calls-resolved 𝓤 H A mem run) known-resolved (to (for-resolved h-script script numbers (relent h-code ν1-code δ1-code) code)) (for-resolved h-script script numbers (relent h-code ν1-code δ1-code) code) refl (g-numbers, tt) _ (facts.asks-resolved code cells script numbers table sheet records answer pre) (id⊢ 𝓤 _) units _ (λ v. id⊢ 𝓤 _)
         (and-then ! (var ! 8 3 refl refl tt) (and-then ! (var ! 8 4 refl refl tt) (and-then ! (var ! 8 12 refl refl tt) (no-more !)))) (λ _ ws1 _ e1 _.
         lands-in ! 8 11 refl tt (tt, tt) $
         move ! (1 ∷ 2 ∷ []) $ back-ref ! tt (Array u32 tt 4096) h-code code (ws1 .1 .1 .0) ν1-code δ1-code p1-code $
@@ -191,17 +191,17 @@ module _ {M : Type 1} (𝓤 : URA M) (H : Heap 𝓤) (A : Atoms 𝓤) (W : Given
         puts ! 7 16 refl (lent-slice ! 7 7 15 refl refl refl tt tt refl refl) tt (tt, (tt, (record { fits = room-records .0 }, tt))) $
         puts ! 7 17 refl (lent-ptr ! 7 5 refl refl tt refl refl) tt (tt, tt) $
         puts ! 7 18 refl (lent-slice ! 7 5 17 refl refl refl tt tt refl refl) tt (tt, (tt, (record { fits = room-table .0 }, tt))) $
-        calls-by ! fm (Calls-limit-of 𝓤 H A mem run) known-limit-of (to (for-limit-of numbers)) (for-limit-of numbers) refl (g-numbers, tt) (Unit {0}) tt (asks-all 𝓤 H A (for-limit-of numbers) []) usizes _ (λ v. id⊢ 𝓤 _)
-        (and-then ! (var ! 7 4 refl refl tt) (no-more !)) (λ limit-of2 _ g-limit-of2 e2 _.
-        lands-in ! 7 19 refl tt (typed 𝓤 H A W usizes limit-of2 g-limit-of2) $
+        calls-by ! fm (Calls-activations-of 𝓤 H A mem run) known-activations-of (to (for-activations-of numbers)) (for-activations-of numbers) refl (g-numbers, tt) (Unit {0}) tt (asks-all 𝓤 H A (for-activations-of numbers) []) usizes _ (λ v. id⊢ 𝓤 _)
+        (and-then ! (var ! 7 4 refl refl tt) (no-more !)) (λ activations-of2 _ g-activations-of2 e2 _.
+        lands-in ! 7 19 refl tt (typed 𝓤 H A W usizes activations-of2 g-activations-of2) $
         shares-ref ! tt (Array u32 tt 4096) h-code (ws1 .1 .1 .0) (λ p3-code ν3-code δ3-code.
-        move ! (3 ∷ []) $ lends-ref ! tt (Array i32 tt 8224) h-words words (λ p3-words ν3-words δ3-words.
+        move ! (3 ∷ []) $ lends-ref ! tt (Array i32 tt 8224) h-words cells (λ p3-words ν3-words δ3-words.
         move ! (7 ∷ []) $ lends-slice ! tt (recs .type) h-records records (λ ν3-records δ3-records.
-        move ! (4 ∷ 2 ∷ 0 ∷ 7 ∷ []) $ calls-by ! fm (Calls-run-program 𝓤 H A mem run) known-run-program (to (for-run-program (relent h-code ν3-code δ3-code) (ws1 .1 .1 .0) (relent h-words ν3-words δ3-words) words (relent h-records ν3-records δ3-records) records h-table table (numbers .count) (numbers .g) limit-of2 (numbers .n))) (for-run-program (relent h-code ν3-code δ3-code) (ws1 .1 .1 .0) (relent h-words ν3-words δ3-words) words (relent h-records ν3-records δ3-records) records h-table table (numbers .count) (numbers .g) limit-of2 (numbers .n)) refl ((owed Numbers#.the-type Numbers′.the-laws numbers _ g-numbers .1 .1 .1 .1 .0), ((owed Numbers#.the-type Numbers′.the-laws numbers _ g-numbers .1 .1 .0), (g-limit-of2, ((owed Numbers#.the-type Numbers′.the-laws numbers _ g-numbers .1 .0), tt)))) _ (facts.asks-run-program code words script numbers table sheet records answer pre (ws1 .1 .1 .0) e1 limit-of2 e2) (id⊢ 𝓤 _) halts _ (λ v. id⊢ 𝓤 _)
+        move ! (4 ∷ 2 ∷ 0 ∷ 7 ∷ []) $ calls-by ! fm (Calls-run-program 𝓤 H A mem run) known-run-program (to (for-run-program (relent h-code ν3-code δ3-code) (ws1 .1 .1 .0) (relent h-words ν3-words δ3-words) cells (relent h-records ν3-records δ3-records) records h-table table (numbers .count) (numbers .g) activations-of2 (numbers .n))) (for-run-program (relent h-code ν3-code δ3-code) (ws1 .1 .1 .0) (relent h-words ν3-words δ3-words) cells (relent h-records ν3-records δ3-records) records h-table table (numbers .count) (numbers .g) activations-of2 (numbers .n)) refl ((owed CallNumbers#.the-type CallNumbers′.the-laws numbers _ g-numbers .1 .1 .1 .1 .0), ((owed CallNumbers#.the-type CallNumbers′.the-laws numbers _ g-numbers .1 .1 .0), (g-activations-of2, ((owed CallNumbers#.the-type CallNumbers′.the-laws numbers _ g-numbers .1 .0), tt)))) _ (facts.asks-run-program code cells script numbers table sheet records answer pre (ws1 .1 .1 .0) e1 activations-of2 e2) (id⊢ 𝓤 _) halts _ (λ v. id⊢ 𝓤 _)
         (and-then ! (var ! 10 13 refl refl tt) (and-then ! (var ! 10 14 refl refl tt) (and-then ! (var ! 10 16 refl refl tt) (and-then ! (var ! 10 18 refl refl tt) (and-then ! (part ! 10 4 4 refl refl tt refl refl refl) (and-then ! (part ! 10 4 2 refl refl tt refl refl refl) (and-then ! (var ! 10 19 refl refl tt) (and-then ! (part ! 10 4 1 refl refl tt refl refl refl) (no-more !))))))))) (λ halt3 ws3 g-halt3 e3 same3.
         lands-in ! 10 9 refl tt (typed 𝓤 H A W halts halt3 g-halt3) $
         move ! (0 ∷ 6 ∷ []) $ unshares-ref ! tt (Array u32 tt 4096) h-code (ws1 .1 .1 .0) ν3-code δ3-code p3-code $
-        move ! (1 ∷ 5 ∷ []) $ back-ref ! tt (Array i32 tt 8224) h-words words (ws3 .1 .0) ν3-words δ3-words p3-words $
+        move ! (1 ∷ 5 ∷ []) $ back-ref ! tt (Array i32 tt 8224) h-words cells (ws3 .1 .0) ν3-words δ3-words p3-words $
         move ! (2 ∷ 4 ∷ []) $ back-slice ! tt (recs .type) h-records records (ws3 .1 .1 .0) ν3-records δ3-records (same3 .1 .1 .0) $
         puts ! 7 20 refl (lent ! 7 1 refl refl tt) tt (tt, tt) $
         puts ! 7 21 refl (lent ! 7 2 refl refl tt) tt (tt, tt) $
@@ -212,22 +212,22 @@ module _ {M : Type 1} (𝓤 : URA M) (H : Heap 𝓤) (A : Atoms 𝓤) (W : Given
         move ! (2 ∷ []) $ shares-ref ! tt (Array u32 tt 4096) h-code (ws1 .1 .1 .0) (λ p4-code ν4-code δ4-code.
         move ! (3 ∷ []) $ shares-ref ! tt (Array i32 tt 8224) h-words (ws3 .1 .0) (λ p4-words ν4-words δ4-words.
         move ! (4 ∷ []) $ shares-slice ! tt (recs .type) h-records (ws3 .1 .1 .0) (λ ν4-records δ4-records.
-        move ! (4 ∷ 2 ∷ 0 ∷ 8 ∷ []) $ calls-by ! fm (Calls-write-sheet 𝓤 H A mem run) known-write-sheet (to (for-write-sheet (relent h-code ν4-code δ4-code) (ws1 .1 .1 .0) (relent h-words ν4-words δ4-words) (ws3 .1 .0) (relent h-records ν4-records δ4-records) (ws3 .1 .1 .0) (halt3 .live) h-sheet sheet)) (for-write-sheet (relent h-code ν4-code δ4-code) (ws1 .1 .1 .0) (relent h-words ν4-words δ4-words) (ws3 .1 .0) (relent h-records ν4-records δ4-records) (ws3 .1 .1 .0) (halt3 .live) h-sheet sheet) refl ((owed Halt#.the-type Halt′.the-laws halt3 _ g-halt3 .1 .1 .1 .0), tt) _ (facts.asks-write-sheet code words script numbers table sheet records answer pre (ws1 .1 .1 .0) e1 limit-of2 e2 halt3 (ws3 .1 .0) (ws3 .1 .1 .0) (ws3 .1 .1 .1 .0) e3 (same3 .1 .1 .0) (same3 .1 .1 .1 .0)) (asks-all 𝓤 H A (for-write-sheet (relent h-code ν4-code δ4-code) (ws1 .1 .1 .0) (relent h-words ν4-words δ4-words) (ws3 .1 .0) (relent h-records ν4-records δ4-records) (ws3 .1 .1 .0) (halt3 .live) h-sheet sheet) (_ ∷ _ ∷ _ ∷ [])) usizes _ (λ v. id⊢ 𝓤 _)
+        move ! (4 ∷ 2 ∷ 0 ∷ 8 ∷ []) $ calls-by ! fm (Calls-write-sheet 𝓤 H A mem run) known-write-sheet (to (for-write-sheet (relent h-code ν4-code δ4-code) (ws1 .1 .1 .0) (relent h-words ν4-words δ4-words) (ws3 .1 .0) (relent h-records ν4-records δ4-records) (ws3 .1 .1 .0) (halt3 .live) h-sheet sheet)) (for-write-sheet (relent h-code ν4-code δ4-code) (ws1 .1 .1 .0) (relent h-words ν4-words δ4-words) (ws3 .1 .0) (relent h-records ν4-records δ4-records) (ws3 .1 .1 .0) (halt3 .live) h-sheet sheet) refl ((owed Halt#.the-type Halt′.the-laws halt3 _ g-halt3 .1 .1 .1 .0), tt) _ (facts.asks-write-sheet code cells script numbers table sheet records answer pre (ws1 .1 .1 .0) e1 activations-of2 e2 halt3 (ws3 .1 .0) (ws3 .1 .1 .0) (ws3 .1 .1 .1 .0) e3 (same3 .1 .1 .0) (same3 .1 .1 .1 .0)) (asks-all 𝓤 H A (for-write-sheet (relent h-code ν4-code δ4-code) (ws1 .1 .1 .0) (relent h-words ν4-words δ4-words) (ws3 .1 .0) (relent h-records ν4-records δ4-records) (ws3 .1 .1 .0) (halt3 .live) h-sheet sheet) (_ ∷ _ ∷ _ ∷ [])) usizes _ (λ v. id⊢ 𝓤 _)
         (and-then ! (var ! 10 20 refl refl tt) (and-then ! (var ! 10 21 refl refl tt) (and-then ! (var ! 10 23 refl refl tt) (and-then ! (part ! 10 9 3 refl refl tt refl refl refl) (and-then ! (var ! 10 25 refl refl tt) (no-more !)))))) (λ written4 ws4 g-written4 e4 same4.
         lands-in ! 10 10 refl tt (typed 𝓤 H A W usizes written4 g-written4) $
         move ! (0 ∷ 6 ∷ []) $ unshares-ref ! tt (Array u32 tt 4096) h-code (ws1 .1 .1 .0) ν4-code δ4-code p4-code $
         move ! (1 ∷ 5 ∷ []) $ unshares-ref ! tt (Array i32 tt 8224) h-words (ws3 .1 .0) ν4-words δ4-words p4-words $
         move ! (2 ∷ 4 ∷ []) $ unshares-slice ! tt (recs .type) h-records (ws3 .1 .1 .0) ν4-records δ4-records $
         puts ! 7 26 refl (lent ! 7 8 refl refl tt) tt (tt, tt) $
-        move ! (6 ∷ []) $ calls-by ! fm (Calls-answered 𝓤 H A mem run) known-answered (to (for-answered halt3 written4 numbers h-answer answer)) (for-answered halt3 written4 numbers h-answer answer) refl (g-halt3, (g-written4, (g-numbers, tt))) _ (facts.asks-answered code words script numbers table sheet records answer pre) (id⊢ 𝓤 _) units _ (λ v. id⊢ 𝓤 _)
+        move ! (6 ∷ []) $ calls-by ! fm (Calls-answered 𝓤 H A mem run) known-answered (to (for-answered halt3 written4 numbers h-answer answer)) (for-answered halt3 written4 numbers h-answer answer) refl (g-halt3, (g-written4, (g-numbers, tt))) _ (facts.asks-answered code cells script numbers table sheet records answer pre) (id⊢ 𝓤 _) units _ (λ v. id⊢ 𝓤 _)
         (and-then ! (var ! 7 9 refl refl tt) (and-then ! (var ! 7 10 refl refl tt) (and-then ! (var ! 7 4 refl refl tt) (and-then ! (var ! 7 26 refl refl tt) (no-more !))))) (λ _ ws5 _ e5 _.
         lands-in ! 7 11 refl tt (tt, tt) $
         puts ! 7 0 refl (of-opd ! (unit-lit !)) tt (tt, tt) $
-        ends ! 7 refl refl tt $ move ! (3 ∷ []) $ gives ! (mutRef (Array u32 tt 4096)) h-code (ws1 .1 .1 .0) $ move ! (3 ∷ []) $ gives ! (mutRef (Array i32 tt 8224)) h-words (ws3 .1 .0) $ move ! (3 ∷ []) $ gives ! (mutSlice (recs .type)) h-records (ws3 .1 .1 .0) $ move ! (2 ∷ 1 ∷ 6 ∷ 5 ∷ 4 ∷ 0 ∷ 3 ∷ []) $ by ! (exits (ws1 .1 .1 .0) (ws3 .1 .0) (ws3 .1 .1 .1 .0) (ws4 .1 .1 .1 .1 .0) (ws3 .1 .1 .0) (ws5 .1 .1 .1 .0) (same3 .1 .1 .1 .0) (same4 .1 .1 .1 .0) (same3 .1 .1 .0) (facts.says code words script numbers table sheet records answer pre (ws1 .1 .1 .0) e1 limit-of2 e2 halt3 (ws3 .1 .0) (ws3 .1 .1 .0) (ws3 .1 .1 .1 .0) e3 (same3 .1 .1 .0) (same3 .1 .1 .1 .0) written4 (ws4 .1 .1 .1 .1 .0) e4 (same4 .1 .1 .1 .0) (ws5 .1 .1 .1 .0) e5))))))))))))))))
+        ends ! 7 refl refl tt $ move ! (3 ∷ []) $ gives ! (mutRef (Array u32 tt 4096)) h-code (ws1 .1 .1 .0) $ move ! (3 ∷ []) $ gives ! (mutRef (Array i32 tt 8224)) h-words (ws3 .1 .0) $ move ! (3 ∷ []) $ gives ! (mutSlice (recs .type)) h-records (ws3 .1 .1 .0) $ move ! (2 ∷ 1 ∷ 6 ∷ 5 ∷ 4 ∷ 0 ∷ 3 ∷ []) $ by ! (exits (ws1 .1 .1 .0) (ws3 .1 .0) (ws3 .1 .1 .1 .0) (ws4 .1 .1 .1 .1 .0) (ws3 .1 .1 .0) (ws5 .1 .1 .1 .0) (same3 .1 .1 .1 .0) (same4 .1 .1 .1 .0) (same3 .1 .1 .0) (facts.says code cells script numbers table sheet records answer pre (ws1 .1 .1 .0) e1 activations-of2 e2 halt3 (ws3 .1 .0) (ws3 .1 .1 .0) (ws3 .1 .1 .1 .0) e3 (same3 .1 .1 .0) (same3 .1 .1 .1 .0) written4 (ws4 .1 .1 .1 .1 .0) e4 (same4 .1 .1 .1 .0) (ws5 .1 .1 .1 .0) e5))))))))))))))))
 
 module _ {M : Type 1} (𝓤 : URA M) (H : Heap 𝓤) (A : Atoms 𝓤) (W : Given 𝓤 H A) (mem : Memory → SProp 𝓤) (run : Routine → Fun 𝓤) (𝓣 : Tables 𝓤 H)
     (known-resolved : Triple 𝓤 (𝓣 .C #resolved) (Calls-resolved 𝓤 H A mem run))
-    (known-limit-of : Triple 𝓤 (𝓣 .C #limit-of) (Calls-limit-of 𝓤 H A mem run))
+    (known-activations-of : Triple 𝓤 (𝓣 .C #activations-of) (Calls-activations-of 𝓤 H A mem run))
     (known-run-program : Triple 𝓤 (𝓣 .C #run-program) (Calls-run-program 𝓤 H A mem run))
     (known-write-sheet : Triple 𝓤 (𝓣 .C #write-sheet) (Calls-write-sheet 𝓤 H A mem run))
     (known-answered : Triple 𝓤 (𝓣 .C #answered) (Calls-answered 𝓤 H A mem run)) where
@@ -235,7 +235,7 @@ module _ {M : Type 1} (𝓤 : URA M) (H : Heap 𝓤) (A : Atoms 𝓤) (W : Given
   walks = walked 𝓤 H A f.ended stayed (f.clauses 𝓤 H A mem run) (WpFn 𝓤 H (𝓣 .C) (𝓣 .Λ) mine.function)
       (λ κs. (ptr-vals, (ptr-vals, (slice-vals, ((λ (x : numberss .type .Denot). numberss .val x ∷ []), (slice-vals, (slice-vals, (slice-vals, (ptr-vals, tt)))))))))
       (λ κs. (mut-tells (named 0) (κs .0) (Array u32 tt 4096), (mut-tells (named 1) (κs .1 .0) (Array i32 tt 8224), (shr-slice-tells (named 2) (κs .1 .1 .0) u8, (numberss .tells, (mut-slice-tells (named 3) (κs .1 .1 .1 .0) i32, (mut-slice-tells (named 4) (κs .1 .1 .1 .1 .0) i32, (mut-slice-tells (named 5) (κs .1 .1 .1 .1 .1 .0) (recs .type), (mut-tells (named 6) (κs .1 .1 .1 .1 .1 .1 .0) (Array u64 tt 9), tt)))))))))
-      (λ κs qs bounds a g are. needs 𝓤 (said.Pre ((a .0) .now) ((a .1 .0) .now) ((a .1 .1 .0) .now) (a .1 .1 .1 .0) ((a .1 .1 .1 .1 .0) .now) ((a .1 .1 .1 .1 .1 .0) .now) ((a .1 .1 .1 .1 .1 .1 .0) .now)) _ (λ pre. walk 𝓤 H A W mem run (κs .0) (κs .1 .0) (κs .1 .1 .0) (κs .1 .1 .1 .0) (κs .1 .1 .1 .1 .0) (κs .1 .1 .1 .1 .1 .0) (κs .1 .1 .1 .1 .1 .1 .0) (qs .0) (qs .1 .0) (qs .1 .1 .0) (qs .1 .1 .1 .0) (qs .1 .1 .1 .1 .0) (qs .1 .1 .1 .1 .1 .0) (qs .1 .1 .1 .1 .1 .1 .0) (a .0) (a .1 .0) (a .1 .1 .0) (a .1 .1 .1 .0) (a .1 .1 .1 .1 .0) (a .1 .1 .1 .1 .1 .0) (a .1 .1 .1 .1 .1 .1 .0) (a .1 .1 .1 .1 .1 .1 .1 .0) (are .1 .1 .0 .0 .1) (are .1 .1 .1 .1 .0 .0 .1) (are .1 .1 .1 .1 .1 .0 .0 .1) (are .1 .1 .1 .1 .1 .1 .0 .0 .1) (are .1 .1 .1 .0) pre 𝓣 known-resolved known-limit-of known-run-program known-write-sheet known-answered))
+      (λ κs qs bounds a g are. needs 𝓤 (said.Pre ((a .0) .now) ((a .1 .0) .now) ((a .1 .1 .0) .now) (a .1 .1 .1 .0) ((a .1 .1 .1 .1 .0) .now) ((a .1 .1 .1 .1 .1 .0) .now) ((a .1 .1 .1 .1 .1 .1 .0) .now)) _ (λ pre. walk 𝓤 H A W mem run (κs .0) (κs .1 .0) (κs .1 .1 .0) (κs .1 .1 .1 .0) (κs .1 .1 .1 .1 .0) (κs .1 .1 .1 .1 .1 .0) (κs .1 .1 .1 .1 .1 .1 .0) (qs .0) (qs .1 .0) (qs .1 .1 .0) (qs .1 .1 .1 .0) (qs .1 .1 .1 .1 .0) (qs .1 .1 .1 .1 .1 .0) (qs .1 .1 .1 .1 .1 .1 .0) (a .0) (a .1 .0) (a .1 .1 .0) (a .1 .1 .1 .0) (a .1 .1 .1 .1 .0) (a .1 .1 .1 .1 .1 .0) (a .1 .1 .1 .1 .1 .1 .0) (a .1 .1 .1 .1 .1 .1 .1 .0) (are .1 .1 .0 .0 .1) (are .1 .1 .1 .1 .0 .0 .1) (are .1 .1 .1 .1 .1 .0 .0 .1) (are .1 .1 .1 .1 .1 .1 .0 .0 .1) (are .1 .1 .1 .0) pre 𝓣 known-resolved known-activations-of known-run-program known-write-sheet known-answered))
 
   meets : Meets 𝓤 H A f.signature (WpFn 𝓤 H (𝓣 .C) (𝓣 .Λ) mine.function) (f.spec 𝓤 H A mem run)
   meets = walk-meets 𝓤 H A f.ended stayed W (goes-gave-ref 𝓤 H A W 7 0 tt (arrayOf (plain (λ _. u32)) 4096), (goes-gave-ref 𝓤 H A W 7 1 tt (arrayOf (plain (λ _. i32)) 8224), (goes-none-slice 𝓤 H A W 7 (2 ∷ []) tt (plain (λ _. u8)) yes, (goes-none 𝓤 H A W 7 (λ _. numberss .type) yes (λ κs x f. refl), (goes-gave-slice 𝓤 H A W 7 3 tt (plain (λ _. i32)), (goes-gave-slice 𝓤 H A W 7 4 tt (plain (λ _. i32)), (goes-gave-slice 𝓤 H A W 7 5 tt (plain (λ _. recs .type)), (goes-gave-ref 𝓤 H A W 7 6 tt (arrayOf (plain (λ _. u64)) 9), tt))))))))
@@ -248,7 +248,7 @@ ran-on-spec 𝓤 H 𝓜 𝓖 𝓡 =
     (tables 𝓤 H 𝓜 𝓡 mine.env .C) (tables 𝓤 H 𝓜 𝓡 mine.env .Λ) #me mine.function (mine.unfolded 𝓤 H 𝓜 𝓡)
     (meets 𝓤 H (𝓖 .A) (givenOf 𝓤 H 𝓜 𝓖) (𝓜 .mem) (𝓡 .run) (tablesOf 𝓤 H 𝓜 (tables 𝓤 H 𝓜 𝓡 mine.env))
     (cited 𝓤 H (Calls-resolved 𝓤 H (𝓖 .A) (𝓜 .mem) (𝓡 .run)) 𝓜 𝓡 mine.env #resolved resolved-def.routine mine.calls-chain-call·resolved (resolved-thm.met 𝓤 H 𝓜 𝓖 𝓡))
-    (cited 𝓤 H (Calls-limit-of 𝓤 H (𝓖 .A) (𝓜 .mem) (𝓡 .run)) 𝓜 𝓡 mine.env #limit-of limit-of-def.routine mine.calls-chain-call·limit-of (limit-of-thm.met 𝓤 H 𝓜 𝓖 𝓡))
+    (cited 𝓤 H (Calls-activations-of 𝓤 H (𝓖 .A) (𝓜 .mem) (𝓡 .run)) 𝓜 𝓡 mine.env #activations-of activations-of-def.routine mine.calls-chain-call·activations-of (activations-of-thm.met 𝓤 H 𝓜 𝓖 𝓡))
     (cited 𝓤 H (Calls-run-program 𝓤 H (𝓖 .A) (𝓜 .mem) (𝓡 .run)) 𝓜 𝓡 mine.env #run-program run-program-def.routine mine.calls-chain-run·run·run-program (run-program-thm.met 𝓤 H 𝓜 𝓖 𝓡))
     (cited 𝓤 H (Calls-write-sheet 𝓤 H (𝓖 .A) (𝓜 .mem) (𝓡 .run)) 𝓜 𝓡 mine.env #write-sheet write-sheet-def.routine mine.calls-chain-run·sheet·write-sheet (write-sheet-thm.met 𝓤 H 𝓜 𝓖 𝓡))
     (cited 𝓤 H (Calls-answered 𝓤 H (𝓖 .A) (𝓜 .mem) (𝓡 .run)) 𝓜 𝓡 mine.env #answered answered-def.routine mine.calls-chain-call·answered (answered-thm.met 𝓤 H 𝓜 𝓖 𝓡)))

@@ -124,9 +124,9 @@ abbrev stayed : Stays (f.ended .signature .params) (f.ended .kept)
 stayed = (stay-none-ref (0 ∷ []) tt (arrayOf (plain (λ _. u32)) 4096) yes, (stay-none-ref (1 ∷ []) tt (arrayOf (plain (λ _. i32)) 8224) yes, (gave-slice (2 ∷ []) tt (plain (λ _. recs .type)), (stay-none (λ _. registers .type) yes, tt))))
 
 module _ {M : Type 1} (𝓤 : URA M) (H : Heap 𝓤) (A : Atoms 𝓤) (W : Given 𝓤 H A) (mem : Memory → SProp 𝓤) (run : Routine → Fun 𝓤) (κ0 κ1 κ2 : Lft) (q0 q1 q2 : Share)
-    (code# : RefT (List ℕ)) (words# : RefT (List ℤ)) (records# : RefT (List (recs .type .Denot))) (here : registers .type .Denot)
+    (code# : RefT (List ℕ)) (cells# : RefT (List ℤ)) (records# : RefT (List (recs .type .Denot))) (here : registers .type .Denot)
     (room-records : Room (recs .type) (length (records# .now))) (g-here : Good registers here)
-    (pre : said.Pre (code# .now) (words# .now) (records# .now) here) where
+    (pre : said.Pre (code# .now) (cells# .now) (records# .now) here) where
   abbrev h-code : Loan
   h-code = loanRef κ0 q0 code#
 
@@ -134,10 +134,10 @@ module _ {M : Type 1} (𝓤 : URA M) (H : Heap 𝓤) (A : Atoms 𝓤) (W : Given
   code = code# .now
 
   abbrev h-words : Loan
-  h-words = loanRef κ1 q1 words#
+  h-words = loanRef κ1 q1 cells#
 
-  abbrev words : List ℤ
-  words = words# .now
+  abbrev cells : List ℤ
+  cells = cells# .now
 
   abbrev h-records : Loan
   h-records = loanSlice κ2 q2 records#
@@ -146,7 +146,7 @@ module _ {M : Type 1} (𝓤 : URA M) (H : Heap 𝓤) (A : Atoms 𝓤) (W : Given
   records = records# .now
 
   abbrev ps : List Par
-  ps = brw (shrRef (Array u32 tt 4096)) h-code code ∷ brw (shrRef (Array i32 tt 8224)) h-words words ∷ brw (mutSlice (recs .type)) h-records records ∷ dat registers here ∷ []
+  ps = brw (shrRef (Array u32 tt 4096)) h-code code ∷ brw (shrRef (Array i32 tt 8224)) h-words cells ∷ brw (mutSlice (recs .type)) h-records records ∷ dat registers here ∷ []
 
   abbrev bound : walkOf 𝓤 H A f.ended stayed (f.clauses 𝓤 H A mem run) .Ghost
   bound = ((lfts ps, shares ps, tt, denots 0 ps, valss 0 ps), tt)
@@ -154,8 +154,8 @@ module _ {M : Type 1} (𝓤 : URA M) (H : Heap 𝓤) (A : Atoms 𝓤) (W : Given
   abbrev Post : Val → SProp 𝓤
   Post = walkOf 𝓤 H A f.ended stayed (f.clauses 𝓤 H A mem run) .post bound
 
-  exits : (r : founds .type .Denot) (records′ : List (recs .type .Denot)) → length records′ ≡ length records → Good founds r → said.Said code words records here r records′ → ent 𝓤 (⋆ 𝓤 H A (outs 𝓤 0 ps (tt, (tt, (records′, (tt, tt)))))) (Post (founds .val r))
-  exits r records′ same-records good says = via 𝓤 _ (leaves-with 𝓤 H A W ps (tt, (tt, (records′, (tt, tt)))) (g-here, tt) founds r good (said.Said code words records here r records′) says)
+  exits : (r : founds .type .Denot) (records′ : List (recs .type .Denot)) → length records′ ≡ length records → Good founds r → said.Said code cells records here r records′ → ent 𝓤 (⋆ 𝓤 H A (outs 𝓤 0 ps (tt, (tt, (records′, (tt, tt)))))) (Post (founds .val r))
+  exits r records′ same-records good says = via 𝓤 _ (leaves-with 𝓤 H A W ps (tt, (tt, (records′, (tt, tt)))) (g-here, tt) founds r good (said.Said code cells records here r records′) says)
       (ends-at 𝓤 H A f.ended stayed (f.clauses 𝓤 H A mem run) W bound (founds .val r) r (tt, (tt, (records′, (tt, tt)))) (tt, (tt, (same-records, (tt, tt)))))
 
   module _ (𝓣 : Tables 𝓤 H)
@@ -175,35 +175,35 @@ module _ {M : Type 1} (𝓤 : URA M) (H : Heap 𝓤) (A : Atoms 𝓤) (W : Given
         puts ! 3 8 refl (lent-ptr ! 3 3 refl refl tt refl refl) tt (tt, tt) $
         puts ! 3 9 refl (lent-slice ! 3 3 8 refl refl refl tt tt refl refl) tt (tt, (tt, (record { fits = room-records .0 }, tt))) $
         move ! (2 ∷ []) $ shares-slice ! tt (recs .type) h-records records (λ ν1-records δ1-records.
-        calls-by ! fm (Calls-read 𝓤 H A mem run) known-read (to (for-read (relent h-records ν1-records δ1-records) records (here .live))) (for-read (relent h-records ν1-records δ1-records) records (here .live)) refl ((owed Registers#.the-type Registers′.the-laws here _ g-here .0), tt) _ (facts.asks-read code words records here pre) (id⊢ 𝓤 _) recs _ (λ v. id⊢ 𝓤 _)
+        calls-by ! fm (Calls-read 𝓤 H A mem run) known-read (to (for-read (relent h-records ν1-records δ1-records) records (here .live))) (for-read (relent h-records ν1-records δ1-records) records (here .live)) refl ((owed Registers#.the-type Registers′.the-laws here _ g-here .0), tt) _ (facts.asks-read code cells records here pre) (id⊢ 𝓤 _) recs _ (λ v. id⊢ 𝓤 _)
         (and-then ! (var ! 4 9 refl refl tt) (and-then ! (part ! 4 4 0 refl refl tt refl refl refl) (no-more !))) (λ own1 _ g-own1 e1 _.
         lands-in ! 4 5 refl tt (typed 𝓤 H A W recs own1 g-own1) $
         unshares-slice ! tt (recs .type) h-records records ν1-records δ1-records $
-        move ! (1 ∷ []) $ calls-by ! fm (Calls-looked-up 𝓤 H A mem run) known-looked-up (to (for-looked-up h-code code own1)) (for-looked-up h-code code own1) refl (g-own1, tt) _ (facts.asks-looked-up code words records here pre own1 e1) (id⊢ 𝓤 _) usizes _ (λ v. id⊢ 𝓤 _)
+        move ! (1 ∷ []) $ calls-by ! fm (Calls-looked-up 𝓤 H A mem run) known-looked-up (to (for-looked-up h-code code own1)) (for-looked-up h-code code own1) refl (g-own1, tt) _ (facts.asks-looked-up code cells records here pre own1 e1) (id⊢ 𝓤 _) usizes _ (λ v. id⊢ 𝓤 _)
         (and-then ! (var ! 3 1 refl refl tt) (and-then ! (var ! 3 5 refl refl tt) (no-more !))) (λ word2 _ g-word2 e2 _.
         lands-in ! 3 6 refl tt (typed 𝓤 H A W usizes word2 g-word2) $
         puts ! 3 10 refl (lent-ptr ! 3 3 refl refl tt refl refl) tt (tt, tt) $
         puts ! 3 11 refl (lent-slice ! 3 3 10 refl refl refl tt tt refl refl) tt (tt, (tt, (record { fits = room-records .0 }, tt))) $
-        calls-by ! fm (Calls-links-to 𝓤 H A mem run) known-links-to (to (for-links-to here word2)) (for-links-to here word2) refl (g-here, (g-word2, tt)) _ (facts.asks-links-to code words records here pre own1 e1 word2 e2) (id⊢ 𝓤 _) usizes _ (λ v. id⊢ 𝓤 _)
+        calls-by ! fm (Calls-links-to 𝓤 H A mem run) known-links-to (to (for-links-to here word2)) (for-links-to here word2) refl (g-here, (g-word2, tt)) _ (facts.asks-links-to code cells records here pre own1 e1 word2 e2) (id⊢ 𝓤 _) usizes _ (λ v. id⊢ 𝓤 _)
         (and-then ! (var ! 3 4 refl refl tt) (and-then ! (var ! 3 6 refl refl tt) (no-more !))) (λ links-to3 _ g-links-to3 e3 _.
         lands-in ! 3 12 refl tt (typed 𝓤 H A W usizes links-to3 g-links-to3) $
         move ! (1 ∷ []) $ shares-slice ! tt (recs .type) h-records records (λ ν4-records δ4-records.
-        calls-by ! fm (Calls-follow 𝓤 H A mem run) known-follow (to (for-follow (relent h-records ν4-records δ4-records) records (here .live) links-to3)) (for-follow (relent h-records ν4-records δ4-records) records (here .live) links-to3) refl ((owed Registers#.the-type Registers′.the-laws here _ g-here .0), (g-links-to3, tt)) _ (facts.asks-follow code words records here pre) (id⊢ 𝓤 _) usizes _ (λ v. id⊢ 𝓤 _)
+        calls-by ! fm (Calls-follow 𝓤 H A mem run) known-follow (to (for-follow (relent h-records ν4-records δ4-records) records (here .live) links-to3)) (for-follow (relent h-records ν4-records δ4-records) records (here .live) links-to3) refl ((owed Registers#.the-type Registers′.the-laws here _ g-here .0), (g-links-to3, tt)) _ (facts.asks-follow code cells records here pre) (id⊢ 𝓤 _) usizes _ (λ v. id⊢ 𝓤 _)
         (and-then ! (var ! 4 11 refl refl tt) (and-then ! (part ! 4 4 0 refl refl tt refl refl refl) (and-then ! (var ! 4 12 refl refl tt) (no-more !)))) (λ there4 _ g-there4 e4 _.
         lands-in ! 4 7 refl tt (typed 𝓤 H A W usizes there4 g-there4) $
         unshares-slice ! tt (recs .type) h-records records ν4-records δ4-records $
         puts ! 3 14 refl (lent-ptr ! 3 3 refl refl tt refl refl) tt (tt, tt) $
         puts ! 3 15 refl (lent-slice ! 3 3 14 refl refl refl tt tt refl refl) tt (tt, (tt, (record { fits = room-records .0 }, tt))) $
-        calls-by ! fm (Calls-with-next 𝓤 H A mem run) known-with-next (to (for-with-next own1 (here .at))) (for-with-next own1 (here .at)) refl (g-own1, ((owed Registers#.the-type Registers′.the-laws here _ g-here .1 .0), tt)) _ (facts.asks-with-next code words records here pre) (id⊢ 𝓤 _) recs _ (λ v. id⊢ 𝓤 _)
+        calls-by ! fm (Calls-with-next 𝓤 H A mem run) known-with-next (to (for-with-next own1 (here .at))) (for-with-next own1 (here .at)) refl (g-own1, ((owed Registers#.the-type Registers′.the-laws here _ g-here .1 .0), tt)) _ (facts.asks-with-next code cells records here pre) (id⊢ 𝓤 _) recs _ (λ v. id⊢ 𝓤 _)
         (and-then ! (var ! 3 5 refl refl tt) (and-then ! (part ! 3 4 1 refl refl tt refl refl refl) (no-more !))) (λ with-next5 _ g-with-next5 e5 _.
         lands-in ! 3 16 refl tt (typed 𝓤 H A W recs with-next5 g-with-next5) $
-        calls-by ! fm (Calls-push 𝓤 H A mem run) known-push (to (for-push h-records records (here .live) with-next5)) (for-push h-records records (here .live) with-next5) refl ((owed Registers#.the-type Registers′.the-laws here _ g-here .0), (g-with-next5, tt)) _ (facts.asks-push code words records here pre) (id⊢ 𝓤 _) units _ (λ v. id⊢ 𝓤 _)
+        calls-by ! fm (Calls-push 𝓤 H A mem run) known-push (to (for-push h-records records (here .live) with-next5)) (for-push h-records records (here .live) with-next5) refl ((owed Registers#.the-type Registers′.the-laws here _ g-here .0), (g-with-next5, tt)) _ (facts.asks-push code cells records here pre) (id⊢ 𝓤 _) units _ (λ v. id⊢ 𝓤 _)
         (and-then ! (var ! 3 15 refl refl tt) (and-then ! (part ! 3 4 0 refl refl tt refl refl refl) (and-then ! (var ! 3 16 refl refl tt) (no-more !)))) (λ _ ws6 _ e6 same6.
         lands-in ! 3 13 refl tt (tt, tt) $
-        move ! (2 ∷ []) $ calls-by ! fm (Calls-found-by 𝓤 H A mem run) known-found-by (to (for-found-by h-words words here word2 there4)) (for-found-by h-words words here word2 there4) refl (g-here, (g-word2, (g-there4, tt))) _ (facts.asks-found-by code words records here pre own1 e1 word2 e2 links-to3 e3 there4 e4) (id⊢ 𝓤 _) founds _ (λ v. id⊢ 𝓤 _)
+        move ! (2 ∷ []) $ calls-by ! fm (Calls-found-by 𝓤 H A mem run) known-found-by (to (for-found-by h-words cells here word2 there4)) (for-found-by h-words cells here word2 there4) refl (g-here, (g-word2, (g-there4, tt))) _ (facts.asks-found-by code cells records here pre own1 e1 word2 e2 links-to3 e3 there4 e4) (id⊢ 𝓤 _) founds _ (λ v. id⊢ 𝓤 _)
         (and-then ! (var ! 3 2 refl refl tt) (and-then ! (var ! 3 4 refl refl tt) (and-then ! (var ! 3 6 refl refl tt) (and-then ! (var ! 3 7 refl refl tt) (no-more !))))) (λ found-by7 _ g-found-by7 e7 _.
         lands-in ! 3 0 refl tt (typed 𝓤 H A W founds found-by7 g-found-by7) $
-        ends ! 3 refl refl tt $ move ! (2 ∷ 0 ∷ 1 ∷ []) $ by ! (exits found-by7 (ws6 .0) (same6 .0) g-found-by7 (facts.says code words records here pre own1 e1 word2 e2 links-to3 e3 there4 e4 with-next5 e5 (ws6 .0) e6 (same6 .0) found-by7 e7)))))))))))))
+        ends ! 3 refl refl tt $ move ! (2 ∷ 0 ∷ 1 ∷ []) $ by ! (exits found-by7 (ws6 .0) (same6 .0) g-found-by7 (facts.says code cells records here pre own1 e1 word2 e2 links-to3 e3 there4 e4 with-next5 e5 (ws6 .0) e6 (same6 .0) found-by7 e7)))))))))))))
 
 module _ {M : Type 1} (𝓤 : URA M) (H : Heap 𝓤) (A : Atoms 𝓤) (W : Given 𝓤 H A) (mem : Memory → SProp 𝓤) (run : Routine → Fun 𝓤) (𝓣 : Tables 𝓤 H)
     (known-read : Triple 𝓤 (𝓣 .C #read) (Calls-read 𝓤 H A mem run))

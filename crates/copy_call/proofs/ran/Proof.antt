@@ -18,10 +18,10 @@ use Rattle.copy_call.proofs.ran.Statement.{statement}
 use Rattle.copy_call.proofs.ran.Tie as tie
 
 -- the places: where the words of names are found, where the script is resolved, its bytes, where the run returns, where the sheet is written
-abbrev namesAt : tie.After-struct-known2 → tie.After-govern
+abbrev namesAt : tie.After-struct-known2 → tie.After-name-fields
 namesAt c = c .before .before .before .before .before .before .before .before
 
-abbrev resolvedAt : tie.After-govern → tie.After-resolve
+abbrev resolvedAt : tie.After-name-fields → tie.After-resolve
 resolvedAt c = c .before .before .before .before
 
 abbrev knownAt : tie.After-resolve → tie.After-shared-slice-known
@@ -33,7 +33,7 @@ startAt c = knownAt c .before
 abbrev ranAt : tie.After-write-sheet-arg → tie.After-run-program
 ranAt c = c .before .before .before .before .before .before .before .before
 
-abbrev writtenAt : tie.After-run-words → tie.After-write-sheet
+abbrev writtenAt : tie.After-ran-words → tie.After-write-sheet
 writtenAt c = c .before .before
 
 -- what the call is fed, and the area
@@ -56,7 +56,7 @@ run-program-requires c κs =
     let g = namesAt c in
     let z = resolvedAt g in
     let p = (startAt z) .pre in
-    beginning (areaAt z) (bytesAt z) (nameAt z .fits) (p .1) (z .resolve .ensures) _ (g .govern .ensures .0)
+    beginning (areaAt z) (bytesAt z) (nameAt z .fits) (p .1) (z .resolve .ensures) _ (g .name-fields .ensures .0)
 
 write-sheet-requires : tie.Need-write-sheet-requires
 write-sheet-requires c κs =
@@ -65,10 +65,10 @@ write-sheet-requires c κs =
     let z = resolvedAt g in
     let p = (startAt z) .pre in
     sheet-needs (bytesAt z) (p .1) (resolved-covers _ _ _ (z .resolve .ensures) _ (p .1 .script))
-    (ended (areaAt z) (bytesAt z) (nameAt z .fits) (p .1) (z .resolve .ensures) _ (g .govern .ensures .0) (u .run-program .ensures) .ended)
+    (ended (areaAt z) (bytesAt z) (nameAt z .fits) (p .1) (z .resolve .ensures) _ (g .name-fields .ensures .0) (u .run-program .ensures) .ended)
 
-run-words-requires : tie.Need-run-words-requires
-run-words-requires c κs = tally-fits ((startAt (resolvedAt (namesAt (ranAt (c .before .before) .before)))) .pre .1)
+ran-words-requires : tie.Need-ran-words-requires
+ran-words-requires c κs = tally-fits ((startAt (resolvedAt (namesAt (ranAt (c .before .before) .before)))) .pre .1)
 
 returns : tie.Need-returns
 returns c =
@@ -78,11 +78,11 @@ returns c =
     let z = resolvedAt g in
     let p = (startAt z) .pre in
     run-replies (bytesAt z) (p .1) (resolved-covers _ _ _ (z .resolve .ensures) _ (p .1 .script))
-    (ended (areaAt z) (bytesAt z) (nameAt z .fits) (p .1) (z .resolve .ensures) _ (g .govern .ensures .0) (u .run-program .ensures) .ended)
-    (v .write-sheet .ensures) (no-links (copying (length (areaAt z))) (fedAt z) _ refl) (c .run-words .ensures)
+    (ended (areaAt z) (bytesAt z) (nameAt z .fits) (p .1) (z .resolve .ensures) _ (g .name-fields .ensures .0) (u .run-program .ensures) .ended)
+    (v .write-sheet .ensures) (no-links (copying (length (areaAt z))) (fedAt z) _ refl) (c .ran-words .ensures)
 
 pub ran-spec : {M : Type 1} → statement M
 ran-spec =
     tie.close
     (tie.spec (λ c. search needs) (λ c. search needs) (λ c κs. search needs) (λ c κs. search needs) (λ c. search needs) run-program-requires
-    write-sheet-requires run-words-requires (λ c. search needs) (λ c. search needs) (λ c. search needs) returns)
+    write-sheet-requires ran-words-requires (λ c. search needs) (λ c. search needs) (λ c. search needs) returns)

@@ -1,7 +1,7 @@
 -- `copy_fields::cross` meets its contract. Assumes nothing.
 use native.Mathlib.Omega.{arith}
 use borrow.Author.Needs.{needs}
-use Rattle.copy_fields.specs.Governing.{crossed}
+use Rattle.copy_fields.specs.Naming.{crossed}
 use Rattle.copy_fields.proofs.cross.Statement.{statement}
 use Rattle.copy_fields.proofs.cross.Tie as tie
 

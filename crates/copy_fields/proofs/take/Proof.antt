@@ -5,7 +5,7 @@ use Prim.Native.Nat.{_+_, _-_, _≤_}
 use native.Mathlib.Omega.{arith}
 use lib.ListN.{length, getD, set, length-set}
 use borrow.Author.Needs.{needs}
-use Rattle.copy_fields.specs.Governing.{taken}
+use Rattle.copy_fields.specs.Naming.{taken}
 use Rattle.copy_fields.proofs.Taking.{taken-next, taken-all, past-end}
 use Rattle.copy_fields.proofs.take.Statement.{statement}
 use Rattle.copy_fields.proofs.take.Tie as tie

@@ -17,7 +17,7 @@ abbrev copy : tie.Start → Copy
 copy s = copyBy (s .args .area .now) (s .args .base) (s .args .firsts .now) (s .args .starts .now) (s .args .targets .now)
 
 abbrev scene : tie.Start → Scene
-scene s = sceneBy (s .args .code .now) (s .args .words .now) (s .args .limit) (s .args .live) (s .args .at)
+scene s = sceneBy (s .args .code .now) (s .args .cells .now) (s .args .activations) (s .args .live) (s .args .at)
 
 abbrev startOf : tie.After-field → tie.Start
 startOf c = c .before .before

@@ -9,12 +9,12 @@ use Rattle.copy_texts.proofs.copy_text.Statement.{statement}
 use Rattle.copy_texts.proofs.copy_text.Tie as tie
 
 abbrev Inv-loop : tie.InvT-loop
-Inv-loop area₀ names targets₀ from to given level first cells place end q₀ area targets q =
+Inv-loop area₀ names targets₀ from to given level first lowest place end q₀ area targets q =
     (place ≤ q) × (q ≤ end) × Copied area₀ area names from to given level first place q ×
-    (notedFrom targets names cells level q (end - q) ≡ notedFrom targets₀ names cells level place (end - place))
+    (notedFrom targets names lowest level q (end - q) ≡ notedFrom targets₀ names lowest level place (end - place))
 
 abbrev μ-loop : tie.MeasureT-loop
-μ-loop area₀ names targets₀ from to given level first cells place end q₀ area targets q = end - q
+μ-loop area₀ names targets₀ from to given level first lowest place end q₀ area targets q = end - q
 
 -- the turn, from where its word is read, and the start
 abbrev turnOf : tie.After-from-u32 Inv-loop μ-loop → tie.In-loop Inv-loop μ-loop
@@ -56,7 +56,7 @@ loop-again c =
       omega arith,
       copied-more _ _ _ _ _ _ _ _ _ _ (s .pre) (l .loop .area) (l .loop .q) (l .loop .inv .0) (u .loop-test .taken) (l .loop .inv .2)
           (w .from-u32 .result) (n .renew .result) (w .from-u32 .ensures .0) (n .renew .ensures),
-      notes-more (s .args .names .now) (s .args .cells) (s .args .level) (l .loop .targets) (c .note .last .0) (l .loop .q) (s .args .end) (w .from-u32 .result)
+      notes-more (s .args .names .now) (s .args .lowest) (s .args .level) (l .loop .targets) (c .note .last .0) (l .loop .q) (s .args .end) (w .from-u32 .result)
           (u .loop-test .taken) (w .from-u32 .ensures .0) (c .note .ensures) ∙ l .loop .inv .3,
     )
 
@@ -68,7 +68,7 @@ returns c =
     let l = c .before .loop in
     let s = startOf (c .before) in (
       copied-all _ _ _ _ _ _ _ _ _ _ (s .pre) (l .area) (l .q) (l .inv .1) (c .loop-test .left) (l .inv .2),
-      notes-done (s .args .names .now) (s .args .cells) (s .args .level) (l .targets) (l .q) (s .args .end) (c .loop-test .left) ∙ l .inv .3,
+      notes-done (s .args .names .now) (s .args .lowest) (s .args .level) (l .targets) (l .q) (s .args .end) (c .loop-test .left) ∙ l .inv .3,
     )
 
 pub copy-text-spec : {M : Type 1} → statement M

@@ -23,13 +23,13 @@ abbrev formalsOf : tie.After-cell-at2 → tie.After-formals-of
 formalsOf c = c .before .before .before
 
 -- what entering reads and writes is within its arrays
-fits : (s : tie.Start) → Fits (s .pre .running) (s .args .body) (s .args .link) (s .args .back) (s .args .words .now) (s .pre .enters)
-fits s = entry-fits (s .pre .running) (s .args .body) (s .args .link) (s .args .back) (s .args .words .now) (s .pre .enters)
+fits : (s : tie.Start) → Fits (s .pre .running) (s .args .body) (s .args .link) (s .args .back) (s .args .cells .now) (s .pre .enters)
+fits s = entry-fits (s .pre .running) (s .args .body) (s .args .link) (s .args .back) (s .args .cells .now) (s .pre .enters)
 
 link-to-requires : tie.Need-link-to-requires
 link-to-requires c κs =
     let s = startOf (c .before .before .before) in
-    linkable (s .pre .running) (s .args .body) (s .args .link) (s .args .back) (s .args .words .now) (s .pre .enters)
+    linkable (s .pre .running) (s .args .body) (s .args .link) (s .args .back) (s .args .cells .now) (s .pre .enters)
 
 clear-requires : tie.Need-clear-requires
 clear-requires c κs =
@@ -50,11 +50,11 @@ returns c =
     let s = startOf n in
     let display = k .link-to .last .1 .1 .1 .0 in
     λ w.
-    enters-as (w .running) (s .args .body) (s .args .link) (s .args .back) (s .args .words .now) (w .enters) (p .before .code-at .ensures .0)
+    enters-as (w .running) (s .args .body) (s .args .link) (s .args .back) (s .args .cells .now) (w .enters) (p .before .code-at .ensures .0)
     (p .code-at2 .ensures .0) (a .before .before .before .narrow2 .ensures) (n .narrow .ensures) (a .before .before .narrow3 .ensures) (a .before .narrow4 .ensures)
     (a .level-of .ensures .0) (u .formals-of .ensures .0) (y .before .names-of .ensures) (y .before .before .cell-at .ensures) (y .cell-at2 .ensures)
     (c .before .first-of .ensures) (c .end-of .ensures .0) (z .clear .ensures) display (k .link-to .ensures .1 ∙ w .running .display-long)
-    (linked (w .running) (s .args .body) (s .args .link) (s .args .back) (s .args .words .now) (w .enters) display (k .link-to .ensures .0))
+    (linked (w .running) (s .args .body) (s .args .link) (s .args .back) (s .args .cells .now) (w .enters) display (k .link-to .ensures .0))
 
 pub enter-spec : {M : Type 1} → statement M
 enter-spec =

@@ -64,7 +64,7 @@ loop-again c =
     let l = o .before .loop in
     let s = o .before .before in
     let h = within o in (
-      λ w. rw (n .narrow .ensures, c .wide2 .ensures .0)
+      λ w. rw (n .narrow .ensures, c .from-u162 .ensures .0)
           (restoring-step (w .frames) (w .down) (w .old) (suc (s .args .activation)) (l .display) (l .a) (l .l) (l .inv .0 w) (s .args .links .now)
           (w .links-are) (o .loop-test .taken) (omega (arith, l .inv .1, w .display-long, h .level))),
       length-set (l .display) (l .l) (n .narrow .result) ∙ l .inv .1,

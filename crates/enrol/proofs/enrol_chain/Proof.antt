@@ -43,8 +43,8 @@ use Rattle.walks.specs.Locals.{var, lent, lent-ptr, lent-slice, puts, lands-in,
 use Rattle.chain_records.proofs.Elem.{recs}
 use Rattle.chain_call.proofs.Rows.{numberss}
 use denote.Struct.Laws as laws
-use Rattle.call_admission.proofs.Numbers as Numbers#
-use Rattle.call_admission.proofs.Numbers.Laws as Numbers′
+use Rattle.call_admission.proofs.CallNumbers as CallNumbers#
+use Rattle.call_admission.proofs.CallNumbers.Laws as CallNumbers′
 use Rattle.chain_call.proofs.call as call
 use Rattle.chain_call.proofs.call.Symbol as call-def
 use Rattle.chain_call.proofs.call.Symbol.{name as #call}
@@ -119,7 +119,7 @@ module _ {M : Type 1} (𝓤 : URA M) (H : Heap 𝓤) (A : Atoms 𝓤) (W : Given
     walk : ent 𝓤 (onEntry 𝓤 H A f.signature (lfts ps) (shares ps) (denots 0 ps) (valss 0 ps)) (WpFn 𝓤 H (𝓣 .C) (𝓣 .Λ) mine.function (vals ps) Post)
     walk = via 𝓤 (⋆ 𝓤 H A (ins 𝓤 ps)) (arrives 𝓤 H A W 0 ps) (qed W (ins 𝓤 ps) ∵
         begins ! (𝓣 .C) (𝓣 .Λ) mine.function (vals ps) Post ((tt, (tt, (record { fits = room-script .0 }, tt))), (typed 𝓤 H A W words32 d g-d, (typed 𝓤 H A W words32 n g-n, (typed 𝓤 H A W words32 g g-g, (typed 𝓤 H A W usizes tally g-tally, ((tt, (tt, (record { fits = room-table .0 }, tt))), (typed 𝓤 H A W usizes count g-count, (typed 𝓤 H A W words16 name g-name, ((tt, (tt, (record { fits = room-sheet .0 }, tt))), ((tt, (tt, (record { fits = room-records .0 }, tt))), ((tt, tt), tt))))))))))) (λ β. move ! (1 ∷ 2 ∷ 3 ∷ 4 ∷ 5 ∷ []) $
-        puts ! 5 12 refl (agg ! (and-then ! (var ! 5 2 refl refl tt) (and-then ! (var ! 5 3 refl refl tt) (and-then ! (var ! 5 4 refl refl tt) (and-then ! (var ! 5 5 refl refl tt) (and-then ! (var ! 5 7 refl refl tt) (and-then ! (var ! 5 8 refl refl tt) (no-more !)))))))) tt (typed 𝓤 H A W numberss (record { d = d; n = n; g = g; tally = tally; count = count; name = name }) (laws.owes Numbers#.the-type Numbers′.the-laws (record { d = d; n = n; g = g; tally = tally; count = count; name = name }) (g-d, (g-n, (g-g, (g-tally, (g-count, (g-name, tt)))))))) $
+        puts ! 5 12 refl (agg ! (and-then ! (var ! 5 2 refl refl tt) (and-then ! (var ! 5 3 refl refl tt) (and-then ! (var ! 5 4 refl refl tt) (and-then ! (var ! 5 5 refl refl tt) (and-then ! (var ! 5 7 refl refl tt) (and-then ! (var ! 5 8 refl refl tt) (no-more !)))))))) tt (typed 𝓤 H A W numberss (record { d = d; n = n; g = g; tally = tally; count = count; name = name }) (laws.owes CallNumbers#.the-type CallNumbers′.the-laws (record { d = d; n = n; g = g; tally = tally; count = count; name = name }) (g-d, (g-n, (g-g, (g-tally, (g-count, (g-name, tt)))))))) $
         puts ! 5 14 refl (lent-ptr ! 5 6 refl refl tt refl refl) tt (tt, tt) $
         puts ! 5 15 refl (lent-slice ! 5 6 14 refl refl refl tt tt refl refl) tt (tt, (tt, (record { fits = room-table .0 }, tt))) $
         puts ! 5 16 refl (lent-ptr ! 5 9 refl refl tt refl refl) tt (tt, tt) $
@@ -127,7 +127,7 @@ module _ {M : Type 1} (𝓤 : URA M) (H : Heap 𝓤) (A : Atoms 𝓤) (W : Given
         puts ! 5 18 refl (lent-ptr ! 5 10 refl refl tt refl refl) tt (tt, tt) $
         puts ! 5 19 refl (lent-slice ! 5 10 18 refl refl refl tt tt refl refl) tt (tt, (tt, (record { fits = room-records .0 }, tt))) $
         puts ! 5 20 refl (lent ! 5 11 refl refl tt) tt (tt, tt) $
-        calls-by ! fm (Calls-call 𝓤 H A mem run) known-call (to (for-call h-script script (record { d = d; n = n; g = g; tally = tally; count = count; name = name }) h-table table h-sheet sheet h-records records h-answer answer)) (for-call h-script script (record { d = d; n = n; g = g; tally = tally; count = count; name = name }) h-table table h-sheet sheet h-records records h-answer answer) refl ((laws.owes Numbers#.the-type Numbers′.the-laws (record { d = d; n = n; g = g; tally = tally; count = count; name = name }) (g-d, (g-n, (g-g, (g-tally, (g-count, (g-name, tt))))))), tt) (Unit {0}) tt (asks-all 𝓤 H A (for-call h-script script (record { d = d; n = n; g = g; tally = tally; count = count; name = name }) h-table table h-sheet sheet h-records records h-answer answer) []) units _ (λ v. id⊢ 𝓤 _)
+        calls-by ! fm (Calls-call 𝓤 H A mem run) known-call (to (for-call h-script script (record { d = d; n = n; g = g; tally = tally; count = count; name = name }) h-table table h-sheet sheet h-records records h-answer answer)) (for-call h-script script (record { d = d; n = n; g = g; tally = tally; count = count; name = name }) h-table table h-sheet sheet h-records records h-answer answer) refl ((laws.owes CallNumbers#.the-type CallNumbers′.the-laws (record { d = d; n = n; g = g; tally = tally; count = count; name = name }) (g-d, (g-n, (g-g, (g-tally, (g-count, (g-name, tt))))))), tt) (Unit {0}) tt (asks-all 𝓤 H A (for-call h-script script (record { d = d; n = n; g = g; tally = tally; count = count; name = name }) h-table table h-sheet sheet h-records records h-answer answer) []) units _ (λ v. id⊢ 𝓤 _)
         (and-then ! (var ! 5 1 refl refl tt) (and-then ! (var ! 5 12 refl refl tt) (and-then ! (var ! 5 15 refl refl tt) (and-then ! (var ! 5 17 refl refl tt) (and-then ! (var ! 5 19 refl refl tt) (and-then ! (var ! 5 20 refl refl tt) (no-more !))))))) (λ _ ws1 _ e1 same1.
         lands-in ! 5 13 refl tt (tt, tt) $
         puts ! 5 0 refl (of-opd ! (unit-lit !)) tt (tt, tt) $

@@ -8,7 +8,7 @@ use Rattle.run_sheet.proofs.name_designator.Statement.{statement}
 use Rattle.run_sheet.proofs.name_designator.Tie as tie
 
 -- the name has a word
-nameable : (f : tie.After-formal-of) → let s = f .before .before .args in Nameable (s .words .now) (s .first) (s .word)
+nameable : (f : tie.After-formal-of) → let s = f .before .before .args in Nameable (s .cells .now) (s .first) (s .word)
 nameable f = f .before .before .pre (f .before .if1 .left)
 
 -- and is a formal

@@ -34,7 +34,7 @@ loop-less c =
     let u = c .before .before in
     let w = startOf u .pre .counts in
     let s = (on w (u .loop .inv .0) (u .loop .inv .2 _ w) (omega arith)) .1 in
-    omega (arith, s .rises, s .behind, c .size-at .ensures .0)
+    omega (arith, s .rises, s .after, c .size-at .ensures .0)
 
 loop-again : tie.Need-loop-again Inv-loop μ-loop
 loop-again c =
@@ -42,10 +42,10 @@ loop-again c =
     let w = startOf u .pre .counts in
     let s = (on w (u .loop .inv .0) (u .loop .inv .2 _ w) (omega arith)) .1 in (
       omega arith,
-      omega (arith, s .rises, s .behind, c .size-at .ensures .0),
+      omega (arith, s .rises, s .after, c .size-at .ensures .0),
       λ n h.
           let o = on h (u .loop .inv .0) (u .loop .inv .2 n h) (omega arith) in
-          (omega (arith, o .0), ap (λ v. u .loop .at + v) (c .size-at .ensures .0) ∙ sym (o .1 .behind) ∙ ap (h .places) (sym (add-one (u .loop .number)))),
+          (omega (arith, o .0), ap (λ v. u .loop .at + v) (c .size-at .ensures .0) ∙ sym (o .1 .after) ∙ ap (h .places) (sym (add-one (u .loop .number)))),
     )
 
 returns : tie.Need-returns Inv-loop μ-loop

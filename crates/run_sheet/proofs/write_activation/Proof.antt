@@ -25,15 +25,15 @@ startOf u = namesOf u .before .before
 
 -- what an activation shows, by the numbers that were read of its block
 module _ (f : tie.After-formals-of) {number : ℕ} {own : List ℤ} (h : let s = startOf (f .before) .args in
-    Shown (s .code .now) (s .words .now) (s .block) (s .next) (s .first) number own) where
+    Shown (s .code .now) (s .cells .now) (s .block) (s .next) (s .first) number own) where
   names-are : namesOf (f .before) .names-of .result ≡ length own
   names-are = let n = namesOf (f .before) in n .names-of .ensures ∙ ap namesIn (n .before .code-at .ensures .0) ∙ h .names-are
 
-  owned : let s = startOf (f .before) .args in Owned (s .words .now) (s .first) (f .formals-of .result) own
+  owned : let s = startOf (f .before) .args in Owned (s .cells .now) (s .first) (f .formals-of .result) own
   owned =
       let s = startOf (f .before) .args in
       let k = namesOf (f .before) .before in
-      subst (λ (n : ℕ). Owned (s .words .now) (s .first) n own) (sym (f .formals-of .ensures .0 ∙ ap formalsIn (k .code-at .ensures .0))) (h .owned)
+      subst (λ (n : ℕ). Owned (s .cells .now) (s .first) n own) (sym (f .formals-of .ensures .0 ∙ ap formalsIn (k .code-at .ensures .0))) (h .owned)
 
 slice-set-from-sheet-2 : tie.Need-slice-set-from-sheet-2
 slice-set-from-sheet-2 c = simp length-set (omega (arith, startOf c .pre .3))

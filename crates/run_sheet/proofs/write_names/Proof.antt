@@ -14,12 +14,12 @@ use Rattle.run_sheet.proofs.write_names.Statement.{statement}
 use Rattle.run_sheet.proofs.write_names.Tie as tie
 
 abbrev Inv-loop : tie.InvT-loop
-Inv-loop words first formals count sheet₀ at i₀ sheet i =
+Inv-loop cells first formals count sheet₀ at i₀ sheet i =
     (i ≤ count) × (length sheet ≡ length sheet₀) ×
-    ((own ws base : List ℤ) → Owned words first formals own → length own ≡ count → sheet₀ ≡ written ws base → length ws ≡ at → sheet ≡ written (ws ++ take i own) base)
+    ((own ws base : List ℤ) → Owned cells first formals own → length own ≡ count → sheet₀ ≡ written ws base → length ws ≡ at → sheet ≡ written (ws ++ take i own) base)
 
 abbrev μ-loop : tie.MeasureT-loop
-μ-loop words first formals count sheet₀ at i₀ sheet i = count - i
+μ-loop cells first formals count sheet₀ at i₀ sheet i = count - i
 
 loop-holds : tie.Need-loop-holds Inv-loop μ-loop
 loop-holds c = (omega arith, refl, λ own ws base h l e n. e ∙ ap (λ (x : List ℤ). written x base) (sym (append-nil ws)))

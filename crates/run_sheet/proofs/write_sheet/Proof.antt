@@ -15,12 +15,12 @@ use Rattle.run_sheet.proofs.write_sheet.Statement.{statement}
 use Rattle.run_sheet.proofs.write_sheet.Tie as tie
 
 abbrev Inv-loop : tie.InvT-loop
-Inv-loop code words blocks nexts live sheet₀ at₀ k₀ sheet at k =
+Inv-loop code cells blocks nexts live sheet₀ at₀ k₀ sheet at k =
     (k ≤ live) × (length sheet ≡ length sheet₀) ×
-    ((fs : List Frame) → Held code words blocks nexts fs → length fs ≡ live → (sheet ≡ written (frameSheet (take k fs)) sheet₀) × (at ≡ length (frameSheet (take k fs))))
+    ((fs : List Frame) → Held code cells blocks nexts fs → length fs ≡ live → (sheet ≡ written (frameSheet (take k fs)) sheet₀) × (at ≡ length (frameSheet (take k fs))))
 
 abbrev μ-loop : tie.MeasureT-loop
-μ-loop code words blocks nexts live sheet₀ at₀ k₀ sheet at k = live - k
+μ-loop code cells blocks nexts live sheet₀ at₀ k₀ sheet at k = live - k
 
 -- the places: the loop, and an activation's two places as numbers
 abbrev loopOf : tie.After-from-u16 Inv-loop μ-loop → tie.At-loop Inv-loop μ-loop

@@ -12,7 +12,7 @@ unfolding compute
 returns c =
     let s = c .before .before in
     let a = s .before .before .before .args in
-    rw (sum-of-words (getD (a .words .now) (a .left) (pos 0)) (getD (a .words .now) (a .right) (pos 0)) (s .sum .ensures) (s .sum .ok)
+    rw (sum-of-words (getD (a .cells .now) (a .left) (pos 0)) (getD (a .cells .now) (a .right) (pos 0)) (s .sum .ensures) (s .sum .ok)
     (s .before .before .sum-arg .given) (s .before .sum-arg2 .given)) at (c .keep .ensures)
 
 pub add-spec : {M : Type 1} → statement M

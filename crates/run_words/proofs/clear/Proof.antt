@@ -9,13 +9,13 @@ use Rattle.run_words.proofs.clear.Tie as tie
 returns : tie.Need-returns
 returns c =
     let s = c .before .before .before .args in
-    let ws = s .words .now in
+    let ws = s .cells .now in
     cleared-join ws (four ws (s .from)) (c .clear-more .last .0) (s .from) (s .from + 4) (s .to) (omega arith) (cleared-four ws (s .from)) (c .clear-more .ensures)
 
 returns-2 : tie.Need-returns-2
 returns-2 c =
     let s = c .before .args in
-    let ws = s .words .now in
+    let ws = s .cells .now in
     cleared-less ws (four ws (s .from)) (s .from) (s .from + 4) (s .to) (omega arith) (cleared-four ws (s .from))
 
 pub clear-spec : {M : Type 1} → statement M

@@ -14,13 +14,13 @@ returns c =
     let f = t .before .before in
     let s = f .before .args in
     read-back _ (c .word-of .ok) ∙ c .word-of .ensures
-    ∙ handed-direct (s .words .now) (s .word) (s .cell) (f .formal-of .ensures .0) (omega arith) (t .target-of .ensures) (h .held-word .ensures)
+    ∙ handed-direct (s .cells .now) (s .word) (s .cell) (f .formal-of .ensures .0) (omega arith) (t .target-of .ensures) (h .held-word .ensures)
 
 returns-2 : tie.Need-returns-2
 returns-2 c =
     let f = c .before .before in
     let s = f .before .args in
-    read-back _ (c .result .given) ∙ handed-formal (s .words .now) (s .word) (s .cell) (f .formal-of .ensures .0) (λ e. omega arith)
+    read-back _ (c .result .given) ∙ handed-formal (s .cells .now) (s .word) (s .cell) (f .formal-of .ensures .0) (λ e. omega arith)
 
 pub handed-spec : {M : Type 1} → statement M
 handed-spec =

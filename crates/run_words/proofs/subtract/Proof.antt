@@ -12,7 +12,7 @@ unfolding compute
 returns c =
     let s = c .before .before in
     let a = s .before .before .before .args in
-    rw (difference-of-words (getD (a .words .now) (a .left) (pos 0)) (getD (a .words .now) (a .right) (pos 0)) (s .difference .ensures)
+    rw (difference-of-words (getD (a .cells .now) (a .left) (pos 0)) (getD (a .cells .now) (a .right) (pos 0)) (s .difference .ensures)
     (s .difference .ok) (s .before .before .difference-arg .given) (s .before .difference-arg2 .given)) at (c .keep .ensures)
 
 pub subtract-spec : {M : Type 1} → statement M

@@ -3,7 +3,7 @@ use mathlib.Core.Path.{_≡_, sym, _∙_}
 use Rattle.language.specs.Basics.{eqZ}
 use Rattle.laws.specs.Tables.{groupAt}
 use Rattle.table_keys.specs.Keys.{same, sameAt}
-use Rattle.table_search.proofs.Signed.{same-words}
+use Rattle.table_search.proofs.Signed.{same-cells}
 use Rattle.table_keys.proofs.Keys.{differ}
 use borrow.Author.Needs.{needs}
 use Rattle.table_keys.proofs.same_key.Statement.{statement}
@@ -17,7 +17,7 @@ groups :
     c .same-number .result ≡ eqZ (groupAt (s .args .j) (s .args .table .now)) (groupAt (s .args .i) (s .args .table .now))
 groups c =
     let d = c .before in
-    same-words (c .same-number .ensures) (d .before .group-at .ok) (d .group-at2 .ok) (d .before .group-at .ensures) (d .group-at2 .ensures)
+    same-cells (c .same-number .ensures) (d .before .group-at .ok) (d .group-at2 .ok) (d .before .group-at .ensures) (d .group-at2 .ensures)
 
 returns : tie.Need-returns
 unfolding same sameAt
@@ -25,7 +25,7 @@ returns c =
     let d = c .before in
     let w = d .before .before in
     rw (w .if2 .taken, sym (groups (w .before .before)) ∙ w .before .if1 .taken)
-    (same-words (c .same-number2 .ensures) (d .before .member-at .ok) (d .member-at2 .ok) (d .before .member-at .ensures) (d .member-at2 .ensures))
+    (same-cells (c .same-number2 .ensures) (d .before .member-at .ok) (d .member-at2 .ok) (d .before .member-at .ensures) (d .member-at2 .ensures))
 
 returns-2 : tie.Need-returns-2
 unfolding same sameAt

@@ -9,19 +9,19 @@ use lib.Dec.{ltb}
 use mir.Val.{toZ}
 use mir.Syntax.{w32}
 use mir.Facts.{toZ-ofZ}
-use Rattle.table_search.specs.Places.{among}
+use Rattle.table_search.specs.Places.{amongPairs}
 use Rattle.table_search.proofs.Pairs.{hits-more, hits-same}
 use Rattle.table_search.proofs.block_holds.Statement.{statement}
 use Rattle.table_search.proofs.block_holds.Tie as tie
 
 abbrev Inv-loop : tie.InvT-loop
-Inv-loop table from group member hits₀ j₀ hits j = (j ≤ 32) × (hits ≤ j) × (ltb 0 hits ≡ among (toZ w32 group) (toZ w32 member) from j table)
+Inv-loop table from group member hits₀ j₀ hits j = (j ≤ 32) × (hits ≤ j) × (ltb 0 hits ≡ amongPairs (toZ w32 group) (toZ w32 member) from j table)
 
 abbrev μ-loop : tie.MeasureT-loop
 μ-loop table from group member hits₀ j₀ hits j = 32 - j
 
 loop-holds : tie.Need-loop-holds Inv-loop μ-loop
-unfolding among
+unfolding amongPairs
 loop-holds c = search needs
 
 abbrev loopOf : tie.After-pair-is Inv-loop μ-loop → tie.At-loop Inv-loop μ-loop

@@ -12,15 +12,15 @@ use Rattle.call_answers.specs.Refusals.{refusedWords}
 use Rattle.call_answers.proofs.refusals.refused.Statement.{statement}
 use Rattle.call_answers.proofs.refusals.refused.Tie as tie
 
-refused-so : {v : Verdict} (c : Refusal) (o count tally : ℕ) (before : List ℕ) {words : List ℕ} → v ≡ Refused c o
+refused-words : {v : Verdict} (c : Refusal) (o count tally : ℕ) (before : List ℕ) {words : List ℕ} → v ≡ Refused c o
     → words ≡ answerWords (refusedAnswer c o count tally) → words ≡ refusedWords v count tally before
 unfolding refusedWords
-refused-so c o count tally before q w = w ∙ ap (λ (v : Verdict). refusedWords v count tally before) (sym q)
+refused-words c o count tally before q w = w ∙ ap (λ (v : Verdict). refusedWords v count tally before) (sym q)
 
 returns : tie.Need-returns
 returns c =
     let told = c .before .before .verdict .given in
-    refused-so (told .0 .0) (told .0 .1 .0) _ _ _ (told .1) (c .refusal-words .ensures)
+    refused-words (told .0 .0) (told .0 .1 .0) _ _ _ (told .1) (c .refusal-words .ensures)
 
 pub refused-spec : {M : Type 1} → statement M
 unfolding refusedWords

@@ -9,12 +9,12 @@ use lib.ListN.{length}
 use Rattle.language.specs.Call.{Engine, Fed, chain}
 use Rattle.language.specs.declared.Verdict.{Verdict}
 use Rattle.call_admission.specs.Lent.{fedOf}
-use Rattle.call_admission.specs.declared.Numbers.{Numbers}
+use Rattle.call_admission.specs.declared.CallNumbers.{CallNumbers}
 use Rattle.chain_records.specs.declared.Activation.{Activation}
 use Rattle.call_replies.specs.Replies.{read-admitted, read-refused, leaving-all, leaving-length}
 use Rattle.chain_call.proofs.call.Proof.Said.{Said, judged-says, refuses-says, refused-says, ran-asks, ran-says}
 
-module _ (script : List ℕ) (numbers : Numbers) (table sheet : List ℤ) (records : List Activation) (answer : List ℕ) (verdict : Verdict)
+module _ (script : List ℕ) (numbers : CallNumbers) (table sheet : List ℤ) (records : List Activation) (answer : List ℕ) (verdict : Verdict)
     (judges : judged-says script numbers table sheet (length records) verdict) (refuses : Bool) (refuses-is : refuses-says verdict refuses) where
   abbrev fed : Fed
   fed = fedOf numbers script table sheet

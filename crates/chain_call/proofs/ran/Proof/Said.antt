@@ -20,7 +20,7 @@ abbrev pub Said : List ℕ → numberss .type .Denot → List ℤ → List ℤ �
 Said script numbers table sheet records table′ sheet′ answer′ = Replies (chain (length records)) (fedOf numbers script table sheet) answer′ sheet′ table′
 
 abbrev pub ran-on-asks : List ℕ → List ℤ → List ℕ → numberss .type .Denot → List ℤ → List ℤ → List (recs .type .Denot) → Type 0
-ran-on-asks code words script numbers table sheet records = AdmittedOn code words (chain (length records)) (fedOf numbers script table sheet)
+ran-on-asks code cells script numbers table sheet records = AdmittedOn code cells (chain (length records)) (fedOf numbers script table sheet)
 
 abbrev pub ran-on-says : List ℕ → numberss .type .Denot → List ℤ → List ℤ → List (recs .type .Denot) → List ℤ → List ℤ → List ℕ → Type 0
 ran-on-says script numbers table sheet records table′ sheet′ answer′ = Replies (chain (length records)) (fedOf numbers script table sheet) answer′ sheet′ table′

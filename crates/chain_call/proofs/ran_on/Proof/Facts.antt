@@ -7,14 +7,14 @@ use lib.ListN.{length}
 use Rattle.language.specs.Call.{Fed}
 use Rattle.call_replies.specs.Replies.{tally-fits}
 use Rattle.call_admission.specs.Lent.{fedOf}
-use Rattle.call_admission.specs.declared.Numbers.{Numbers}
+use Rattle.call_admission.specs.declared.CallNumbers.{CallNumbers}
 use Rattle.chain_records.specs.declared.Activation.{Activation}
 use Rattle.run_state.specs.declared.Halt.{Halt}
 use Rattle.chain_call.proofs.Pieces.{begins-at, sheet-ready, replied}
-use Rattle.chain_call.proofs.ran_on.Proof.Said.{Pre, Said, resolved-asks, resolved-says, limit-of-says, run-program-asks, run-program-says, write-sheet-asks, write-sheet-says, answered-asks, answered-says}
+use Rattle.chain_call.proofs.ran_on.Proof.Said.{Pre, Said, resolved-asks, resolved-says, activations-of-says, run-program-asks, run-program-says, write-sheet-asks, write-sheet-says, answered-asks, answered-says}
 
-module _ (code : List ℕ) (words : List ℤ) (script : List ℕ) (numbers : Numbers) (table sheet : List ℤ) (records : List Activation) (answer : List ℕ)
-    (pre : Pre code words script numbers table sheet records) where
+module _ (code : List ℕ) (cells : List ℤ) (script : List ℕ) (numbers : CallNumbers) (table sheet : List ℤ) (records : List Activation) (answer : List ℕ)
+    (pre : Pre code cells script numbers table sheet records) where
   abbrev fed : Fed
   fed = fedOf numbers script table sheet
 
@@ -24,17 +24,17 @@ module _ (code : List ℕ) (words : List ℤ) (script : List ℕ) (numbers : Num
   pub asks-answered : answered-asks numbers
   asks-answered = tally-fits (pre .admitted)
 
-  module _ (code′ : List ℕ) (said : resolved-says script numbers code′) (limit : ℕ) (limit-is : limit-of-says numbers limit) where
-    pub asks-run-program : run-program-asks code′ words records table (numbers .count) (numbers .g) limit
-    asks-run-program = begins-at records fed (said .1) (pre .program) (pre .admitted) code′ (said .0) words (pre .words-zero) limit limit-is
+  module _ (code′ : List ℕ) (said : resolved-says script numbers code′) (activations : ℕ) (limit-is : activations-of-says numbers activations) where
+    pub asks-run-program : run-program-asks code′ cells records table (numbers .count) (numbers .g) activations
+    asks-run-program = begins-at records fed (said .1) (pre .program) (pre .admitted) code′ (said .0) cells (pre .words-zero) activations limit-is
 
-    module _ (halt : Halt) (words′ : List ℤ) (records′ : List Activation) (table′ : List ℤ)
-        (ran : run-program-says code′ words records table (numbers .count) (numbers .g) limit (numbers .n) halt words′ records′ table′)
+    module _ (halt : Halt) (cells′ : List ℤ) (records′ : List Activation) (table′ : List ℤ)
+        (ran : run-program-says code′ cells records table (numbers .count) (numbers .g) activations (numbers .n) halt cells′ records′ table′)
         (long : length records′ ≡ length records) (wide : length table′ ≡ length table) where
-      pub asks-write-sheet : write-sheet-asks code′ words′ records′ (halt .live) sheet
-      asks-write-sheet = sheet-ready records fed (said .1) (pre .program) (pre .admitted) code′ (said .0) words (pre .words-zero) halt limit limit-is ran long
+      pub asks-write-sheet : write-sheet-asks code′ cells′ records′ (halt .live) sheet
+      asks-write-sheet = sheet-ready records fed (said .1) (pre .program) (pre .admitted) code′ (said .0) cells (pre .words-zero) halt activations limit-is ran long
 
-      module _ (written : ℕ) (sheet′ : List ℤ) (wrote : write-sheet-says code′ words′ records′ (halt .live) sheet written sheet′)
+      module _ (written : ℕ) (sheet′ : List ℤ) (wrote : write-sheet-says code′ cells′ records′ (halt .live) sheet written sheet′)
           (sheet-long : length sheet′ ≡ length sheet) (answer′ : List ℕ) (answers : answered-says halt written numbers answer′) where
         pub says : Said script numbers table sheet records table′ sheet′ answer′
-        says = replied records fed (said .1) (pre .program) (pre .admitted) code′ (said .0) words (pre .words-zero) halt limit limit-is ran wrote answers
+        says = replied records fed (said .1) (pre .program) (pre .admitted) code′ (said .0) cells (pre .words-zero) halt activations limit-is ran wrote answers

@@ -15,14 +15,14 @@ use Rattle.language.specs.Call.{chain, written}
 use Rattle.language.specs.Sheet.{sheetShare}
 use Rattle.resolve_script.specs.Resolving.{Resolved}
 use Rattle.run_sheet.specs.Held.{Held}
-use Rattle.run_state.specs.Scenes.{limitsBy}
+use Rattle.run_state.specs.Limits.{limitsBy}
 use lib.IntN.{ℤ}
 use lib.ListN.{length, replicate}
 use mathlib.Core.List.{List}
 use mathlib.Core.Path.{_≡_}
 
 abbrev pub Pre : List ℕ → List ℤ → List ℕ → numberss .type .Denot → List ℤ → List ℤ → List (recs .type .Denot) → Type 0
-Pre code words script numbers table sheet records = AdmittedOn code words (chain (length records)) (fedOf numbers script table sheet)
+Pre code cells script numbers table sheet records = AdmittedOn code cells (chain (length records)) (fedOf numbers script table sheet)
 
 abbrev pub Said : List ℕ → numberss .type .Denot → List ℤ → List ℤ → List (recs .type .Denot) → List ℤ → List ℤ → List ℕ → Type 0
 Said script numbers table sheet records table′ sheet′ answer′ = Replies (chain (length records)) (fedOf numbers script table sheet) answer′ sheet′ table′
@@ -33,20 +33,20 @@ resolved-asks code = code ≡ replicate 4096 0
 abbrev pub resolved-says : List ℕ → numberss .type .Denot → List ℕ → Type 0
 resolved-says script numbers code′ = Resolved script (numbers .name) code′ × Bytes script
 
-abbrev pub limit-of-says : numberss .type .Denot → ℕ → Type 0
-limit-of-says numbers r = r ≡ numbers .d
+abbrev pub activations-of-says : numberss .type .Denot → ℕ → Type 0
+activations-of-says numbers r = r ≡ numbers .d
 
 abbrev pub run-program-asks : List ℕ → List ℤ → List (recs .type .Denot) → List ℤ → ℕ → ℕ → ℕ → Type 0
-run-program-asks code words records table pairs group limit = Beginning code words records table pairs group limit
+run-program-asks code cells records table pairs limit activations = Beginning code cells records table pairs limit activations
 
 abbrev pub run-program-says : List ℕ → List ℤ → List (recs .type .Denot) → List ℤ → ℕ → ℕ → ℕ → ℕ → halts .type .Denot → List ℤ → List (recs .type .Denot) → List ℤ → Type 0
-run-program-says code words records table pairs group limit allowance r words′ records′ table′ = ((b : Beginning code words records table pairs group limit) → Ended (b .program) (b .name) limit group (frameRun (limitsBy limit group) allowance (frameStart (b .program) (record { words = table; used = pairs }))) r words′ records′ table′)
+run-program-says code cells records table pairs limit activations allowance r cells′ records′ table′ = ((b : Beginning code cells records table pairs limit activations) → Ended (b .program) (b .name) activations limit (frameRun (limitsBy activations limit) allowance (frameStart (b .program) (record { words = table; used = pairs }))) r cells′ records′ table′)
 
 abbrev pub write-sheet-asks : List ℕ → List ℤ → List (recs .type .Denot) → ℕ → List ℤ → Type 0
-write-sheet-asks code words records live sheet = (((fs : List Frame) × Held code words (blocksIn records) (nextsIn records) fs × (length fs ≡ live))) × ((live ≤ length records) × (sheetShare * live ≤ length sheet))
+write-sheet-asks code cells records live sheet = (((fs : List Frame) × Held code cells (blocksIn records) (nextsIn records) fs × (length fs ≡ live))) × ((live ≤ length records) × (sheetShare * live ≤ length sheet))
 
 abbrev pub write-sheet-says : List ℕ → List ℤ → List (recs .type .Denot) → ℕ → List ℤ → ℕ → List ℤ → Type 0
-write-sheet-says code words records live sheet r sheet′ = ((fs : List Frame) → Held code words (blocksIn records) (nextsIn records) fs → length fs ≡ live → (sheet′ ≡ written (frameSheet fs) sheet) × (r ≡ length (frameSheet fs)))
+write-sheet-says code cells records live sheet r sheet′ = ((fs : List Frame) → Held code cells (blocksIn records) (nextsIn records) fs → length fs ≡ live → (sheet′ ≡ written (frameSheet fs) sheet) × (r ≡ length (frameSheet fs)))
 
 abbrev pub answered-asks : numberss .type .Denot → Type 0
 answered-asks numbers = numbers .tally ≤ 1000000000000

@@ -126,9 +126,9 @@ abbrev stayed : Stays (f.ended .signature .params) (f.ended .kept)
 stayed = (stay-none-ref (0 ∷ []) tt (arrayOf (plain (λ _. u32)) 4096) yes, (gave-ref (1 ∷ []) tt (arrayOf (plain (λ _. i32)) 8224), (gave-slice (2 ∷ []) tt (plain (λ _. recs .type)), (stay-none (λ _. registers .type) yes, (stay-none (λ _. entries .type) yes, tt)))))
 
 module _ {M : Type 1} (𝓤 : URA M) (H : Heap 𝓤) (A : Atoms 𝓤) (W : Given 𝓤 H A) (mem : Memory → SProp 𝓤) (run : Routine → Fun 𝓤) (κ0 κ1 κ2 : Lft) (q0 q1 q2 : Share)
-    (code# : RefT (List ℕ)) (words# : RefT (List ℤ)) (records# : RefT (List (recs .type .Denot))) (here : registers .type .Denot) (entry : entries .type .Denot)
+    (code# : RefT (List ℕ)) (cells# : RefT (List ℤ)) (records# : RefT (List (recs .type .Denot))) (here : registers .type .Denot) (entry : entries .type .Denot)
     (room-records : Room (recs .type) (length (records# .now))) (g-here : Good registers here) (g-entry : Good entries entry)
-    (pre : said.Pre (code# .now) (words# .now) (records# .now) here entry) where
+    (pre : said.Pre (code# .now) (cells# .now) (records# .now) here entry) where
   abbrev h-code : Loan
   h-code = loanRef κ0 q0 code#
 
@@ -136,10 +136,10 @@ module _ {M : Type 1} (𝓤 : URA M) (H : Heap 𝓤) (A : Atoms 𝓤) (W : Given
   code = code# .now
 
   abbrev h-words : Loan
-  h-words = loanRef κ1 q1 words#
+  h-words = loanRef κ1 q1 cells#
 
-  abbrev words : List ℤ
-  words = words# .now
+  abbrev cells : List ℤ
+  cells = cells# .now
 
   abbrev h-records : Loan
   h-records = loanSlice κ2 q2 records#
@@ -148,7 +148,7 @@ module _ {M : Type 1} (𝓤 : URA M) (H : Heap 𝓤) (A : Atoms 𝓤) (W : Given
   records = records# .now
 
   abbrev ps : List Par
-  ps = brw (shrRef (Array u32 tt 4096)) h-code code ∷ brw (mutRef (Array i32 tt 8224)) h-words words ∷ brw (mutSlice (recs .type)) h-records records ∷ dat registers here ∷ dat entries entry ∷ []
+  ps = brw (shrRef (Array u32 tt 4096)) h-code code ∷ brw (mutRef (Array i32 tt 8224)) h-words cells ∷ brw (mutSlice (recs .type)) h-records records ∷ dat registers here ∷ dat entries entry ∷ []
 
   abbrev bound : walkOf 𝓤 H A f.ended stayed (f.clauses 𝓤 H A mem run) .Ghost
   bound = ((lfts ps, shares ps, tt, denots 0 ps, valss 0 ps), tt)
@@ -156,9 +156,9 @@ module _ {M : Type 1} (𝓤 : URA M) (H : Heap 𝓤) (A : Atoms 𝓤) (W : Given
   abbrev Post : Val → SProp 𝓤
   Post = walkOf 𝓤 H A f.ended stayed (f.clauses 𝓤 H A mem run) .post bound
 
-  exits : (r : registers .type .Denot) (words′ : List ℤ) (records′ : List (recs .type .Denot)) → length records′ ≡ length records → Good registers r → said.Said code words records here entry r words′ records′ → ent 𝓤 (⋆ 𝓤 H A (outs 𝓤 0 ps (tt, (words′, (records′, (tt, (tt, tt))))))) (Post (registers .val r))
-  exits r words′ records′ same-records good says = via 𝓤 _ (leaves-with 𝓤 H A W ps (tt, (words′, (records′, (tt, (tt, tt))))) (g-here, (g-entry, tt)) registers r good (said.Said code words records here entry r words′ records′) says)
-      (ends-at 𝓤 H A f.ended stayed (f.clauses 𝓤 H A mem run) W bound (registers .val r) r (tt, (words′, (records′, (tt, (tt, tt))))) (tt, (tt, (same-records, (tt, (tt, tt))))))
+  exits : (r : registers .type .Denot) (cells′ : List ℤ) (records′ : List (recs .type .Denot)) → length records′ ≡ length records → Good registers r → said.Said code cells records here entry r cells′ records′ → ent 𝓤 (⋆ 𝓤 H A (outs 𝓤 0 ps (tt, (cells′, (records′, (tt, (tt, tt))))))) (Post (registers .val r))
+  exits r cells′ records′ same-records good says = via 𝓤 _ (leaves-with 𝓤 H A W ps (tt, (cells′, (records′, (tt, (tt, tt))))) (g-here, (g-entry, tt)) registers r good (said.Said code cells records here entry r cells′ records′) says)
+      (ends-at 𝓤 H A f.ended stayed (f.clauses 𝓤 H A mem run) W bound (registers .val r) r (tt, (cells′, (records′, (tt, (tt, tt))))) (tt, (tt, (same-records, (tt, (tt, tt))))))
 
   module _ (𝓣 : Tables 𝓤 H)
       (known-arguments-end : Triple 𝓤 (𝓣 .C #arguments-end) (Calls-arguments-end 𝓤 H A mem run))
@@ -177,47 +177,47 @@ module _ {M : Type 1} (𝓤 : URA M) (H : Heap 𝓤) (A : Atoms 𝓤) (W : Given
         puts ! 3 9 refl (lent ! 3 2 refl refl tt) tt (tt, tt) $
         puts ! 3 10 refl (lent-ptr ! 3 3 refl refl tt refl refl) tt (tt, tt) $
         puts ! 3 11 refl (lent-slice ! 3 3 10 refl refl refl tt tt refl refl) tt (tt, (tt, (record { fits = room-records .0 }, tt))) $
-        calls-by ! fm (Calls-arguments-end 𝓤 H A mem run) known-arguments-end (to (for-arguments-end h-code code here)) (for-arguments-end h-code code here) refl (g-here, tt) _ (facts.asks-arguments-end code words records here entry pre) (id⊢ 𝓤 _) usizes _ (λ v. id⊢ 𝓤 _)
+        calls-by ! fm (Calls-arguments-end 𝓤 H A mem run) known-arguments-end (to (for-arguments-end h-code code here)) (for-arguments-end h-code code here) refl (g-here, tt) _ (facts.asks-arguments-end code cells records here entry pre) (id⊢ 𝓤 _) usizes _ (λ v. id⊢ 𝓤 _)
         (and-then ! (var ! 3 1 refl refl tt) (and-then ! (var ! 3 4 refl refl tt) (no-more !))) (λ arguments-end1 _ g-arguments-end1 e1 _.
         lands-in ! 3 12 refl tt (typed 𝓤 H A W usizes arguments-end1 g-arguments-end1) $
-        move ! (1 ∷ []) $ lends-ref ! tt (Array i32 tt 8224) h-words words (λ p2-words ν2-words δ2-words.
+        move ! (1 ∷ []) $ lends-ref ! tt (Array i32 tt 8224) h-words cells (λ p2-words ν2-words δ2-words.
         move ! (3 ∷ []) $ shares-slice ! tt (recs .type) h-records records (λ ν2-records δ2-records.
-        move ! (4 ∷ 2 ∷ 0 ∷ []) $ calls-by ! fm (Calls-hand 𝓤 H A mem run) known-hand (to (for-hand h-code code (relent h-words ν2-words δ2-words) words (relent h-records ν2-records δ2-records) records here arguments-end1)) (for-hand h-code code (relent h-words ν2-words δ2-words) words (relent h-records ν2-records δ2-records) records here arguments-end1) refl (g-here, (g-arguments-end1, tt)) _ (facts.asks-hand code words records here entry pre arguments-end1 e1) (id⊢ 𝓤 _) units _ (λ v. id⊢ 𝓤 _)
+        move ! (4 ∷ 2 ∷ 0 ∷ []) $ calls-by ! fm (Calls-hand 𝓤 H A mem run) known-hand (to (for-hand h-code code (relent h-words ν2-words δ2-words) cells (relent h-records ν2-records δ2-records) records here arguments-end1)) (for-hand h-code code (relent h-words ν2-words δ2-words) cells (relent h-records ν2-records δ2-records) records here arguments-end1) refl (g-here, (g-arguments-end1, tt)) _ (facts.asks-hand code cells records here entry pre arguments-end1 e1) (id⊢ 𝓤 _) units _ (λ v. id⊢ 𝓤 _)
         (and-then ! (var ! 5 1 refl refl tt) (and-then ! (var ! 5 9 refl refl tt) (and-then ! (var ! 5 11 refl refl tt) (and-then ! (var ! 5 4 refl refl tt) (and-then ! (var ! 5 12 refl refl tt) (no-more !)))))) (λ _ ws2 _ e2 _.
         lands-in ! 5 8 refl tt (tt, tt) $
-        move ! (1 ∷ 4 ∷ []) $ back-ref ! tt (Array i32 tt 8224) h-words words (ws2 .1 .0) ν2-words δ2-words p2-words $
+        move ! (1 ∷ 4 ∷ []) $ back-ref ! tt (Array i32 tt 8224) h-words cells (ws2 .1 .0) ν2-words δ2-words p2-words $
         move ! (2 ∷ 3 ∷ []) $ unshares-slice ! tt (recs .type) h-records records ν2-records δ2-records $
         puts ! 3 13 refl (lent-ptr ! 3 3 refl refl tt refl refl) tt (tt, tt) $
         puts ! 3 14 refl (lent-slice ! 3 3 13 refl refl refl tt tt refl refl) tt (tt, (tt, (record { fits = room-records .0 }, tt))) $
         shares-slice ! tt (recs .type) h-records records (λ ν3-records δ3-records.
-        calls-by ! fm (Calls-read 𝓤 H A mem run) known-read (to (for-read (relent h-records ν3-records δ3-records) records (here .live))) (for-read (relent h-records ν3-records δ3-records) records (here .live)) refl ((owed Registers#.the-type Registers′.the-laws here _ g-here .0), tt) _ (facts.asks-read code words records here entry pre) (id⊢ 𝓤 _) recs _ (λ v. id⊢ 𝓤 _)
+        calls-by ! fm (Calls-read 𝓤 H A mem run) known-read (to (for-read (relent h-records ν3-records δ3-records) records (here .live))) (for-read (relent h-records ν3-records δ3-records) records (here .live)) refl ((owed Registers#.the-type Registers′.the-laws here _ g-here .0), tt) _ (facts.asks-read code cells records here entry pre) (id⊢ 𝓤 _) recs _ (λ v. id⊢ 𝓤 _)
         (and-then ! (var ! 4 14 refl refl tt) (and-then ! (part ! 4 4 0 refl refl tt refl refl refl) (no-more !))) (λ own3 _ g-own3 e3 _.
         lands-in ! 4 6 refl tt (typed 𝓤 H A W recs own3 g-own3) $
         unshares-slice ! tt (recs .type) h-records records ν3-records δ3-records $
         puts ! 3 15 refl (lent-ptr ! 3 3 refl refl tt refl refl) tt (tt, tt) $
         puts ! 3 16 refl (lent-slice ! 3 3 15 refl refl refl tt tt refl refl) tt (tt, (tt, (record { fits = room-records .0 }, tt))) $
-        calls-by ! fm (Calls-with-next 𝓤 H A mem run) known-with-next (to (for-with-next own3 (entry .back))) (for-with-next own3 (entry .back)) refl (g-own3, ((owed Entry#.the-type Entry′.the-laws entry _ g-entry .1 .1 .0), tt)) _ (facts.asks-with-next code words records here entry pre) (id⊢ 𝓤 _) recs _ (λ v. id⊢ 𝓤 _)
+        calls-by ! fm (Calls-with-next 𝓤 H A mem run) known-with-next (to (for-with-next own3 (entry .back))) (for-with-next own3 (entry .back)) refl (g-own3, ((owed Entry#.the-type Entry′.the-laws entry _ g-entry .1 .1 .0), tt)) _ (facts.asks-with-next code cells records here entry pre) (id⊢ 𝓤 _) recs _ (λ v. id⊢ 𝓤 _)
         (and-then ! (var ! 3 6 refl refl tt) (and-then ! (part ! 3 5 2 refl refl tt refl refl refl) (no-more !))) (λ with-next4 _ g-with-next4 e4 _.
         lands-in ! 3 17 refl tt (typed 𝓤 H A W recs with-next4 g-with-next4) $
         lends-slice ! tt (recs .type) h-records records (λ ν5-records δ5-records.
-        calls-by ! fm (Calls-push 𝓤 H A mem run) known-push (to (for-push (relent h-records ν5-records δ5-records) records (here .live) with-next4)) (for-push (relent h-records ν5-records δ5-records) records (here .live) with-next4) refl ((owed Registers#.the-type Registers′.the-laws here _ g-here .0), (g-with-next4, tt)) _ (facts.asks-push code words records here entry pre) (id⊢ 𝓤 _) units _ (λ v. id⊢ 𝓤 _)
+        calls-by ! fm (Calls-push 𝓤 H A mem run) known-push (to (for-push (relent h-records ν5-records δ5-records) records (here .live) with-next4)) (for-push (relent h-records ν5-records δ5-records) records (here .live) with-next4) refl ((owed Registers#.the-type Registers′.the-laws here _ g-here .0), (g-with-next4, tt)) _ (facts.asks-push code cells records here entry pre) (id⊢ 𝓤 _) units _ (λ v. id⊢ 𝓤 _)
         (and-then ! (var ! 4 16 refl refl tt) (and-then ! (part ! 4 4 0 refl refl tt refl refl refl) (and-then ! (var ! 4 17 refl refl tt) (no-more !)))) (λ _ ws5 _ e5 same5.
         lands-in ! 4 8 refl tt (tt, tt) $
         back-slice ! tt (recs .type) h-records records (ws5 .0) ν5-records δ5-records (same5 .0) $
-        move ! (2 ∷ []) $ calls-by ! fm (Calls-begun 𝓤 H A mem run) known-begun (to (for-begun h-code code entry)) (for-begun h-code code entry) refl (g-entry, tt) _ (facts.asks-begun code words records here entry pre) (id⊢ 𝓤 _) recs _ (λ v. id⊢ 𝓤 _)
+        move ! (2 ∷ []) $ calls-by ! fm (Calls-begun 𝓤 H A mem run) known-begun (to (for-begun h-code code entry)) (for-begun h-code code entry) refl (g-entry, tt) _ (facts.asks-begun code cells records here entry pre) (id⊢ 𝓤 _) recs _ (λ v. id⊢ 𝓤 _)
         (and-then ! (var ! 3 1 refl refl tt) (and-then ! (var ! 3 5 refl refl tt) (no-more !))) (λ new6 _ g-new6 e6 _.
         lands-in ! 3 7 refl tt (typed 𝓤 H A W recs new6 g-new6) $
         puts ! 3 18 refl (lent-ptr ! 3 3 refl refl tt refl refl) tt (tt, tt) $
         puts ! 3 19 refl (lent-slice ! 3 3 18 refl refl refl tt tt refl refl) tt (tt, (tt, (record { fits = room-records .0 }, tt))) $
-        puts ! 3 12 refl (bin ! (part ! 3 4 0 refl refl tt refl refl refl) (lit ! tt) (record { fits = (facts.fits code words records here entry pre) })) tt (tt, record { fits = (facts.fits code words records here entry pre) }) $
-        move ! (1 ∷ []) $ calls-by ! fm (Calls-push 𝓤 H A mem run) known-push (to (for-push h-records (ws5 .0) ((here .live) + 1) new6)) (for-push h-records (ws5 .0) ((here .live) + 1) new6) refl ((refl, (facts.fits code words records here entry pre)), (g-new6, tt)) _ (facts.asks-push-2 code words records here entry pre arguments-end1 e1 (ws2 .1 .0) e2 own3 e3 with-next4 e4 (ws5 .0) e5 (same5 .0) new6 e6) (id⊢ 𝓤 _) units _ (λ v. id⊢ 𝓤 _)
+        puts ! 3 12 refl (bin ! (part ! 3 4 0 refl refl tt refl refl refl) (lit ! tt) (record { fits = (facts.fits code cells records here entry pre) })) tt (tt, record { fits = (facts.fits code cells records here entry pre) }) $
+        move ! (1 ∷ []) $ calls-by ! fm (Calls-push 𝓤 H A mem run) known-push (to (for-push h-records (ws5 .0) ((here .live) + 1) new6)) (for-push h-records (ws5 .0) ((here .live) + 1) new6) refl ((refl, (facts.fits code cells records here entry pre)), (g-new6, tt)) _ (facts.asks-push-2 code cells records here entry pre arguments-end1 e1 (ws2 .1 .0) e2 own3 e3 with-next4 e4 (ws5 .0) e5 (same5 .0) new6 e6) (id⊢ 𝓤 _) units _ (λ v. id⊢ 𝓤 _)
         (and-then ! (var ! 3 19 refl refl tt) (and-then ! (var ! 3 12 refl refl tt) (and-then ! (var ! 3 7 refl refl tt) (no-more !)))) (λ _ ws7 _ e7 same7.
         lands-in ! 3 8 refl tt (tt, tt) $
         puts ! 3 20 refl (lent ! 3 2 refl refl tt) tt (tt, tt) $
-        move ! (1 ∷ 2 ∷ []) $ calls-by ! fm (Calls-entered′ 𝓤 H A mem run) known-entered′ (to (for-entered′ h-code code h-words (ws2 .1 .0) here new6)) (for-entered′ h-code code h-words (ws2 .1 .0) here new6) refl (g-here, (g-new6, tt)) _ (facts.asks-entered code words records here entry pre arguments-end1 e1 (ws2 .1 .0) e2 own3 e3 with-next4 e4 (ws5 .0) e5 (same5 .0) new6 e6) (id⊢ 𝓤 _) registers _ (λ v. id⊢ 𝓤 _)
+        move ! (1 ∷ 2 ∷ []) $ calls-by ! fm (Calls-entered′ 𝓤 H A mem run) known-entered′ (to (for-entered′ h-code code h-words (ws2 .1 .0) here new6)) (for-entered′ h-code code h-words (ws2 .1 .0) here new6) refl (g-here, (g-new6, tt)) _ (facts.asks-entered code cells records here entry pre arguments-end1 e1 (ws2 .1 .0) e2 own3 e3 with-next4 e4 (ws5 .0) e5 (same5 .0) new6 e6) (id⊢ 𝓤 _) registers _ (λ v. id⊢ 𝓤 _)
         (and-then ! (var ! 3 1 refl refl tt) (and-then ! (var ! 3 20 refl refl tt) (and-then ! (var ! 3 4 refl refl tt) (and-then ! (var ! 3 7 refl refl tt) (no-more !))))) (λ entered8 ws8 g-entered8 e8 _.
         lands-in ! 3 0 refl tt (typed 𝓤 H A W registers entered8 g-entered8) $
-        ends ! 3 refl refl tt $ by ! (exits entered8 (ws8 .1 .0) (ws7 .0) ((same7 .0) ∙ (same5 .0)) g-entered8 (facts.says code words records here entry pre arguments-end1 e1 (ws2 .1 .0) e2 own3 e3 with-next4 e4 (ws5 .0) e5 (same5 .0) new6 e6 (ws7 .0) e7 (same7 .0) entered8 (ws8 .1 .0) e8))))))))))))))))
+        ends ! 3 refl refl tt $ by ! (exits entered8 (ws8 .1 .0) (ws7 .0) ((same7 .0) ∙ (same5 .0)) g-entered8 (facts.says code cells records here entry pre arguments-end1 e1 (ws2 .1 .0) e2 own3 e3 with-next4 e4 (ws5 .0) e5 (same5 .0) new6 e6 (ws7 .0) e7 (same7 .0) entered8 (ws8 .1 .0) e8))))))))))))))))
 
 module _ {M : Type 1} (𝓤 : URA M) (H : Heap 𝓤) (A : Atoms 𝓤) (W : Given 𝓤 H A) (mem : Memory → SProp 𝓤) (run : Routine → Fun 𝓤) (𝓣 : Tables 𝓤 H)
     (known-arguments-end : Triple 𝓤 (𝓣 .C #arguments-end) (Calls-arguments-end 𝓤 H A mem run))

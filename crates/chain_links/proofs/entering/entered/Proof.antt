@@ -40,7 +40,7 @@ returns : tie.Need-returns
 returns c =
     let k = c .before .before in (
       rw (c .innermost .ensures, c .before .from-u322 .ensures .0),
-      subst (λ (T : Type 0). T) (λ i. Cleared (startOf (k .before) .args .words .now) (from-is (k .before) i) (to-is (k .before) i) (k .clear .last .0)) (k .clear .ensures),
+      subst (λ (T : Type 0). T) (λ i. Cleared (startOf (k .before) .args .cells .now) (from-is (k .before) i) (to-is (k .before) i) (k .clear .last .0)) (k .clear .ensures),
     )
 
 pub entered-spec : {M : Type 1} → statement M

@@ -77,13 +77,13 @@ for-pass h0 x0 h1 x1 x2 x3 x4 = brw (shrRef (Array u32 tt 4096)) h0 x0 ∷ brw (
 abbrev stayed : Stays (f.ended .signature .params) (f.ended .kept)
 stayed = (stay-none-ref (0 ∷ []) tt (arrayOf (plain (λ _. u32)) 4096) yes, (gave-ref (1 ∷ []) tt (arrayOf (plain (λ _. i32)) 8224), (stay-none-slice (2 ∷ []) tt (plain (λ _. recs .type)) yes, (stay-none (λ _. registers .type) yes, (stay-none (λ _. usizes .type) yes, tt)))))
 
-module _ (code : List ℕ) (words : List ℤ) (records : List (recs .type .Denot)) (here : registers .type .Denot) (last : ℕ) (pre : said.Pre code records here last) where
+module _ (code : List ℕ) (cells : List ℤ) (records : List (recs .type .Denot)) (here : registers .type .Denot) (last : ℕ) (pre : said.Pre code records here last) where
   record Loop : Type 0 where
-    state : facts.State code words records here last
+    state : facts.State code cells records here last
     good-field : Good usizes (state .field)
 
 module _ {M : Type 1} (𝓤 : URA M) (H : Heap 𝓤) (A : Atoms 𝓤) (W : Given 𝓤 H A) (mem : Memory → SProp 𝓤) (run : Routine → Fun 𝓤) (κ0 κ1 κ2 : Lft) (q0 q1 q2 : Share)
-    (code# : RefT (List ℕ)) (words# : RefT (List ℤ)) (records# : RefT (List (recs .type .Denot))) (here : registers .type .Denot) (last : ℕ)
+    (code# : RefT (List ℕ)) (cells# : RefT (List ℤ)) (records# : RefT (List (recs .type .Denot))) (here : registers .type .Denot) (last : ℕ)
     (room-records : Room (recs .type) (length (records# .now))) (g-here : Good registers here) (g-last : Good usizes last)
     (pre : said.Pre (code# .now) (records# .now) here last) where
   abbrev h-code : Loan
@@ -93,10 +93,10 @@ module _ {M : Type 1} (𝓤 : URA M) (H : Heap 𝓤) (A : Atoms 𝓤) (W : Given
   code = code# .now
 
   abbrev h-words : Loan
-  h-words = loanRef κ1 q1 words#
+  h-words = loanRef κ1 q1 cells#
 
-  abbrev words : List ℤ
-  words = words# .now
+  abbrev cells : List ℤ
+  cells = cells# .now
 
   abbrev h-records : Loan
   h-records = loanSlice κ2 q2 records#
@@ -105,7 +105,7 @@ module _ {M : Type 1} (𝓤 : URA M) (H : Heap 𝓤) (A : Atoms 𝓤) (W : Given
   records = records# .now
 
   abbrev ps : List Par
-  ps = brw (shrRef (Array u32 tt 4096)) h-code code ∷ brw (mutRef (Array i32 tt 8224)) h-words words ∷ brw (shrSlice (recs .type)) h-records records ∷ dat registers here ∷ dat usizes last ∷ []
+  ps = brw (shrRef (Array u32 tt 4096)) h-code code ∷ brw (mutRef (Array i32 tt 8224)) h-words cells ∷ brw (shrSlice (recs .type)) h-records records ∷ dat registers here ∷ dat usizes last ∷ []
 
   abbrev bound : walkOf 𝓤 H A f.ended stayed (f.clauses 𝓤 H A mem run) .Ghost
   bound = ((lfts ps, shares ps, tt, denots 0 ps, valss 0 ps), tt)
@@ -113,15 +113,15 @@ module _ {M : Type 1} (𝓤 : URA M) (H : Heap 𝓤) (A : Atoms 𝓤) (W : Given
   abbrev Post : Val → SProp 𝓤
   Post = walkOf 𝓤 H A f.ended stayed (f.clauses 𝓤 H A mem run) .post bound
 
-  exits : (words′ : List ℤ) → said.Said code words records here last words′ → ent 𝓤 (⋆ 𝓤 H A (outs 𝓤 0 ps (tt, (words′, (tt, (tt, (tt, tt))))))) (Post vunit)
-  exits words′ says = via 𝓤 _ (leaves-with 𝓤 H A W ps (tt, (words′, (tt, (tt, (tt, tt))))) (g-here, (g-last, tt)) units tt refl (said.Said code words records here last words′) says)
-      (ends-at 𝓤 H A f.ended stayed (f.clauses 𝓤 H A mem run) W bound vunit tt (tt, (words′, (tt, (tt, (tt, tt))))) (tt, (tt, (tt, (tt, (tt, tt))))))
+  exits : (cells′ : List ℤ) → said.Said code cells records here last cells′ → ent 𝓤 (⋆ 𝓤 H A (outs 𝓤 0 ps (tt, (cells′, (tt, (tt, (tt, tt))))))) (Post vunit)
+  exits cells′ says = via 𝓤 _ (leaves-with 𝓤 H A W ps (tt, (cells′, (tt, (tt, (tt, tt))))) (g-here, (g-last, tt)) units tt refl (said.Said code cells records here last cells′) says)
+      (ends-at 𝓤 H A f.ended stayed (f.clauses 𝓤 H A mem run) W bound vunit tt (tt, (cells′, (tt, (tt, (tt, tt))))) (tt, (tt, (tt, (tt, (tt, tt))))))
 
   abbrev St : Type 0
-  St = Loop code words records here last pre
+  St = Loop code cells records here last pre
 
   abbrev size : St → ℕ
-  size t = facts.size code words records here last pre (t .state)
+  size t = facts.size code cells records here last pre (t .state)
 
   module _ (𝓣 : Tables 𝓤 H)
       (known-first-cell : Triple 𝓤 (𝓣 .C #first-cell) (Calls-first-cell 𝓤 H A mem run))
@@ -134,7 +134,7 @@ module _ {M : Type 1} (𝓤 : URA M) (H : Heap 𝓤) (A : Atoms 𝓤) (W : Given
       E# = envAt (tysOf (mine.function .locals)) β
 
       abbrev Inv : St → List (Item 𝓤)
-      Inv t = ‵ (In (shrRef (Array u32 tt 4096)) h-code code) ∷ ‵ (In (mutRef (Array i32 tt 8224)) h-words (t .state .words)) ∷ ‵ (In (shrSlice (recs .type)) h-records records) ∷ fr 𝓤 H (tysOf (mine.function .locals)) β (none ∷ some (h-code .val) ∷ some (h-words .val) ∷ some (h-records .val) ∷ some (registers .val here) ∷ some (usizes .val last) ∷ some (usizes .val (32 * (here .live))) ∷ some (usizes .val (t .state .field)) ∷ none ∷ none ∷ none ∷ none ∷ []) ∷ []
+      Inv t = ‵ (In (shrRef (Array u32 tt 4096)) h-code code) ∷ ‵ (In (mutRef (Array i32 tt 8224)) h-words (t .state .cells)) ∷ ‵ (In (shrSlice (recs .type)) h-records records) ∷ fr 𝓤 H (tysOf (mine.function .locals)) β (none ∷ some (h-code .val) ∷ some (h-words .val) ∷ some (h-records .val) ∷ some (registers .val here) ∷ some (usizes .val last) ∷ some (usizes .val (32 * (here .live))) ∷ some (usizes .val (t .state .field)) ∷ none ∷ none ∷ none ∷ none ∷ []) ∷ []
 
       turn : (t : St) → Sq W (Inv t) (runs (𝓣 .C) (𝓣 .Λ) E# mir′.turn-1 (anyQ (afterTurn 𝓤 H (Below 𝓤 H A (by-size size) Inv t)
           (afterBlock 𝓤 H (afterSeq 𝓤 H (Wp 𝓤 H (𝓣 .C) (𝓣 .Λ) E# mir′.t-4 (atReturn 𝓤 H E# Post)) (atReturn 𝓤 H E# Post))))))
@@ -143,27 +143,27 @@ module _ {M : Type 1} (𝓤 : URA M) (H : Heap 𝓤) (A : Atoms 𝓤) (W : Given
           puts ! 3 9 refl (bin ! (var ! 3 7 refl refl tt) (var ! 3 5 refl refl tt) tt) tt (tt, tt) $
           tests ! (var ! 3 9 refl refl tt)
           (λ y1.
-          move ! (0 ∷ 2 ∷ []) $ calls-by ! fm (Calls-first-cell 𝓤 H A mem run) known-first-cell (to (for-first-cell h-code code h-records records here (32 * (here .live)) (t .state .field))) (for-first-cell h-code code h-records records here (32 * (here .live)) (t .state .field)) refl (g-here, ((refl, (facts.fits-1 code words records here last pre)), ((t .good-field), tt))) _ (facts.asks-first-cell code words records here last pre (t .state) (ltb→lt (t .state .field) last y1)) (id⊢ 𝓤 _) usizes _ (λ v. id⊢ 𝓤 _)
+          move ! (0 ∷ 2 ∷ []) $ calls-by ! fm (Calls-first-cell 𝓤 H A mem run) known-first-cell (to (for-first-cell h-code code h-records records here (32 * (here .live)) (t .state .field))) (for-first-cell h-code code h-records records here (32 * (here .live)) (t .state .field)) refl (g-here, ((refl, (facts.fits-1 code cells records here last pre)), ((t .good-field), tt))) _ (facts.asks-first-cell code cells records here last pre (t .state) (ltb→lt (t .state .field) last y1)) (id⊢ 𝓤 _) usizes _ (λ v. id⊢ 𝓤 _)
           (and-then ! (var ! 3 1 refl refl tt) (and-then ! (var ! 3 3 refl refl tt) (and-then ! (var ! 3 4 refl refl tt) (and-then ! (var ! 3 6 refl refl tt) (and-then ! (var ! 3 7 refl refl tt) (no-more !)))))) (λ first1 _ g-first1 e1 _.
           lands-in ! 3 8 refl tt (typed 𝓤 H A W usizes first1 g-first1) $
           puts ! 3 11 refl (lent ! 3 2 refl refl tt) tt (tt, tt) $
-          move ! (2 ∷ []) $ lends-ref ! tt (Array i32 tt 8224) h-words (t .state .words) (λ p2-words ν2-words δ2-words.
-          move ! (2 ∷ 0 ∷ []) $ calls-by ! fm (Calls-pass 𝓤 H A mem run) known-pass (to (for-pass h-code code (relent h-words ν2-words δ2-words) (t .state .words) here (t .state .field) first1)) (for-pass h-code code (relent h-words ν2-words δ2-words) (t .state .words) here (t .state .field) first1) refl (g-here, ((t .good-field), (g-first1, tt))) _ (facts.asks-pass code words records here last pre (t .state) (ltb→lt (t .state .field) last y1) first1 e1) (id⊢ 𝓤 _) units _ (λ v. id⊢ 𝓤 _)
+          move ! (2 ∷ []) $ lends-ref ! tt (Array i32 tt 8224) h-words (t .state .cells) (λ p2-words ν2-words δ2-words.
+          move ! (2 ∷ 0 ∷ []) $ calls-by ! fm (Calls-pass 𝓤 H A mem run) known-pass (to (for-pass h-code code (relent h-words ν2-words δ2-words) (t .state .cells) here (t .state .field) first1)) (for-pass h-code code (relent h-words ν2-words δ2-words) (t .state .cells) here (t .state .field) first1) refl (g-here, ((t .good-field), (g-first1, tt))) _ (facts.asks-pass code cells records here last pre (t .state) (ltb→lt (t .state .field) last y1) first1 e1) (id⊢ 𝓤 _) units _ (λ v. id⊢ 𝓤 _)
           (and-then ! (var ! 4 1 refl refl tt) (and-then ! (var ! 4 11 refl refl tt) (and-then ! (var ! 4 4 refl refl tt) (and-then ! (var ! 4 7 refl refl tt) (and-then ! (var ! 4 8 refl refl tt) (no-more !)))))) (λ _ ws2 _ e2 _.
           lands-in ! 4 10 refl tt (tt, tt) $
-          move ! (1 ∷ 2 ∷ []) $ back-ref ! tt (Array i32 tt 8224) h-words (t .state .words) (ws2 .1 .0) ν2-words δ2-words p2-words $
-          puts-last ! 3 7 refl (bin ! (var ! 3 7 refl refl tt) (lit ! tt) (record { fits = (facts.fits-2 code words records here last pre (t .state) (ltb→lt (t .state .field) last y1) first1 e1) })) tt (tt, record { fits = (facts.fits-2 code words records here last pre (t .state) (ltb→lt (t .state .field) last y1) first1 e1) }) $
-          forgets ! 3 (8 ∷ 9 ∷ 10 ∷ 11 ∷ []) refl tt $ move ! (1 ∷ 0 ∷ 2 ∷ []) $ again ! (by-size size) Inv t (record { state = (facts.next code words records here last pre (t .state) (ltb→lt (t .state .field) last y1) first1 e1 (ws2 .1 .0) e2); good-field = (refl, (facts.fits-2 code words records here last pre (t .state) (ltb→lt (t .state .field) last y1) first1 e1)) }) (facts.less code words records here last pre (t .state) (ltb→lt (t .state .field) last y1) first1 e1 (ws2 .1 .0) e2)))))
+          move ! (1 ∷ 2 ∷ []) $ back-ref ! tt (Array i32 tt 8224) h-words (t .state .cells) (ws2 .1 .0) ν2-words δ2-words p2-words $
+          puts-last ! 3 7 refl (bin ! (var ! 3 7 refl refl tt) (lit ! tt) (record { fits = (facts.fits-2 code cells records here last pre (t .state) (ltb→lt (t .state .field) last y1) first1 e1) })) tt (tt, record { fits = (facts.fits-2 code cells records here last pre (t .state) (ltb→lt (t .state .field) last y1) first1 e1) }) $
+          forgets ! 3 (8 ∷ 9 ∷ 10 ∷ 11 ∷ []) refl tt $ move ! (1 ∷ 0 ∷ 2 ∷ []) $ again ! (by-size size) Inv t (record { state = (facts.next code cells records here last pre (t .state) (ltb→lt (t .state .field) last y1) first1 e1 (ws2 .1 .0) e2); good-field = (refl, (facts.fits-2 code cells records here last pre (t .state) (ltb→lt (t .state .field) last y1) first1 e1)) }) (facts.less code cells records here last pre (t .state) (ltb→lt (t .state .field) last y1) first1 e1 (ws2 .1 .0) e2)))))
           (λ y1. exec ! (𝓣 .C) (𝓣 .Λ) E# mir′.t-4 (atRet E# Post) $
           puts ! 3 0 refl (of-opd ! (unit-lit !)) tt (tt, tt) $
-          ends ! 3 refl refl tt $ move ! (1 ∷ []) $ gives ! (mutRef (Array i32 tt 8224)) h-words (t .state .words) $ move ! (1 ∷ 0 ∷ 2 ∷ []) $ by ! (exits (t .state .words) (facts.says code words records here last pre (t .state) (not-below (t .state .field) last y1))))
+          ends ! 3 refl refl tt $ move ! (1 ∷ []) $ gives ! (mutRef (Array i32 tt 8224)) h-words (t .state .cells) $ move ! (1 ∷ 0 ∷ 2 ∷ []) $ by ! (exits (t .state .cells) (facts.says code cells records here last pre (t .state) (not-below (t .state .field) last y1))))
 
     walk : ent 𝓤 (onEntry 𝓤 H A f.signature (lfts ps) (shares ps) (denots 0 ps) (valss 0 ps)) (WpFn 𝓤 H (𝓣 .C) (𝓣 .Λ) mine.function (vals ps) Post)
     walk = via 𝓤 (⋆ 𝓤 H A (ins 𝓤 ps)) (arrives 𝓤 H A W 0 ps) (qed W (ins 𝓤 ps) ∵
         begins ! (𝓣 .C) (𝓣 .Λ) mine.function (vals ps) Post ((tt, tt), ((tt, tt), ((tt, (tt, (record { fits = room-records .0 }, tt))), (typed 𝓤 H A W registers here g-here, (typed 𝓤 H A W usizes last g-last, tt))))) (λ β. move ! (1 ∷ 2 ∷ 3 ∷ []) $
-        puts ! 3 6 refl (bin ! (lit ! tt) (part ! 3 4 0 refl refl tt refl refl refl) (record { fits = (facts.fits-1 code words records here last pre) })) tt (tt, record { fits = (facts.fits-1 code words records here last pre) }) $
+        puts ! 3 6 refl (bin ! (lit ! tt) (part ! 3 4 0 refl refl tt refl refl refl) (record { fits = (facts.fits-1 code cells records here last pre) })) tt (tt, record { fits = (facts.fits-1 code cells records here last pre) }) $
         puts ! 3 7 refl (of-opd ! (lit ! tt)) tt (typed 𝓤 H A W usizes 3 (refl, omega arith)) $
-        forgets ! 3 (8 ∷ 9 ∷ 10 ∷ 11 ∷ []) refl tt $ first ! $ blocks ! $ loops ! 𝓣 (by-size size) (by-size-wf size) (Inv β) (turn β) (record { state = (facts.start code words records here last pre); good-field = (refl, omega arith) })))
+        forgets ! 3 (8 ∷ 9 ∷ 10 ∷ 11 ∷ []) refl tt $ first ! $ blocks ! $ loops ! 𝓣 (by-size size) (by-size-wf size) (Inv β) (turn β) (record { state = (facts.start code cells records here last pre); good-field = (refl, omega arith) })))
 
 module _ {M : Type 1} (𝓤 : URA M) (H : Heap 𝓤) (A : Atoms 𝓤) (W : Given 𝓤 H A) (mem : Memory → SProp 𝓤) (run : Routine → Fun 𝓤) (𝓣 : Tables 𝓤 H)
     (known-first-cell : Triple 𝓤 (𝓣 .C #first-cell) (Calls-first-cell 𝓤 H A mem run))

@@ -12,11 +12,11 @@ use Rattle.chain_links.proofs.handing.pass.Statement.{statement}
 use Rattle.chain_links.proofs.handing.pass.Tie as tie
 
 -- the word of the argument is the one in its field
-passed : (words ws : List ℤ) (code : List ℕ) (place cell word position first : ℕ) (v z : ℤ) → word ≡ getD code place 0 → position ≡ positionIn word
-    → v ≡ handedWord words word (first + position) → z ≡ v → ws ≡ set words cell z
-    → ws ≡ set words cell (handedWord words (getD code place 0) (first + positionIn (getD code place 0)))
-passed words ws code place cell word position first v z e p f g h =
-    h ∙ ap (set words cell) (g ∙ f ∙ (λ i. handedWord words (e i) (first + (p ∙ ap positionIn e) i)))
+passed : (cells ws : List ℤ) (code : List ℕ) (place cell word position first : ℕ) (v z : ℤ) → word ≡ getD code place 0 → position ≡ positionIn word
+    → v ≡ handedWord cells word (first + position) → z ≡ v → ws ≡ set cells cell z
+    → ws ≡ set cells cell (handedWord cells (getD code place 0) (first + positionIn (getD code place 0)))
+passed cells ws code place cell word position first v z e p f g h =
+    h ∙ ap (set cells cell) (g ∙ f ∙ (λ i. handedWord cells (e i) (first + (p ∙ ap positionIn e) i)))
 
 returns : tie.Need-returns
 returns c =

@@ -15,11 +15,11 @@ use Rattle.chain_links.specs.Moving.{room-there, linked, block-read, blo
 use Rattle.chain_links.specs.Names.{outer-there, reached-there, found-there}
 use Rattle.chain_links.proofs.settle.Proof.Said.{Pre, Said, read-asks, read-says, looked-up-asks, looked-up-says, links-to-asks, links-to-says, follow-asks, follow-says, with-next-asks, with-next-says, push-asks, push-says, found-by-asks, found-by-says}
 
-module _ (code : List ℕ) (words : List ℤ) (records : List Activation) (here : Registers) (pre : Pre code words records here) where
+module _ (code : List ℕ) (cells : List ℤ) (records : List Activation) (here : Registers) (pre : Pre code cells records here) where
   abbrev live : ℕ
   live = here .live
 
-  abbrev w : Running code (pre .0 .limit) (pre .0 .group) words records (pre .0 .table) here
+  abbrev w : Running code (pre .0 .activations) (pre .0 .limit) cells records (pre .0 .table) here
   w = pre .0 .running
 
   pub asks-read : read-asks records live
@@ -39,7 +39,7 @@ module _ (code : List ℕ) (words : List ℤ) (records : List Activation) (here 
     asks-looked-up = let f = block-fits w live (omega arith) in omega (arith, f, ap (λ (a : Activation). a .block) own-is)
 
     module _ (word : ℕ) (read-it : looked-up-says code own word) where
-      word-is : {limit group : ℕ} {table : List ℤ} → Running code limit group words records table here → word ≡ getD code (getD (blocksIn records) live 0 + 2) 0
+      word-is : {activations limit : ℕ} {table : List ℤ} → Running code activations limit cells records table here → word ≡ getD code (getD (blocksIn records) live 0 + 2) 0
       word-is v = read-it ∙ ap (λ (k : ℕ). getD code (k + 2) 0) (ap (λ (a : Activation). a .block) own-is ∙ sym (block-read v live (omega arith)))
 
       pub asks-links-to : links-to-asks here word
@@ -52,12 +52,12 @@ module _ (code : List ℕ) (words : List ℤ) (records : List Activation) (here 
         leads : home ≡ follows (linksIn records) live (linksTo (here .level) word)
         leads = led .0 ∙ hop-follows (linked w) live n (omega arith) ∙ ap (follows (linksIn records) live) (so-many .0)
 
-        pub asks-found-by : found-by-asks words here word home
+        pub asks-found-by : found-by-asks cells here word home
         asks-found-by = reached-there w word (word-is w) home few leads
 
         module _ (new : Activation) (new-is : with-next-says own (here .at) new) (records′ : List Activation) (pushed : push-says records live new records′)
-            (long : length records′ ≡ length records) (r : Found) (found : found-by-says words here word home r) where
-          pub says : Said code words records here r records′
+            (long : length records′ ≡ length records) (r : Found) (found : found-by-says cells here word home r) where
+          pub says : Said code cells records here r records′
           says = (
             λ v. found ∙ found-there (v .running) word (word-is (v .running)) home few leads,
             pushed ∙ ap (set records live) (new-is ∙ ap (λ (a : Activation). withNext a (here .at)) own-is),

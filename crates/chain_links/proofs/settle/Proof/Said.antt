@@ -13,10 +13,10 @@ use mathlib.Core.List.{List}
 use mathlib.Core.Path.{_≡_}
 
 abbrev pub Pre : List ℕ → List ℤ → List (recs .type .Denot) → registers .type .Denot → Type 0
-Pre code words records here = Looking code words records here × (here .at < 65536)
+Pre code cells records here = Looking code cells records here × (here .at < 65536)
 
 abbrev pub Said : List ℕ → List ℤ → List (recs .type .Denot) → registers .type .Denot → founds .type .Denot → List (recs .type .Denot) → Type 0
-Said code words records here r records′ = ((w : Looking code words records here) → r ≡ foundIn (w .running .standing .stack .frames) (w .running .standing .name)) × (records′ ≡ set records (here .live) (withNext (at records (here .live)) (here .at)))
+Said code cells records here r records′ = ((w : Looking code cells records here) → r ≡ foundIn (w .running .standing .stack .frames) (w .running .standing .name)) × (records′ ≡ set records (here .live) (withNext (at records (here .live)) (here .at)))
 
 abbrev pub read-asks : List (recs .type .Denot) → ℕ → Type 0
 read-asks records k = k < length records
@@ -55,7 +55,7 @@ abbrev pub push-says : List (recs .type .Denot) → ℕ → recs .type .Denot �
 push-says records k activation records′ = records′ ≡ set records k activation
 
 abbrev pub found-by-asks : List ℤ → registers .type .Denot → ℕ → ℕ → Type 0
-found-by-asks words here word home = Reached words here word home
+found-by-asks cells here word home = Reached cells here word home
 
 abbrev pub found-by-says : List ℤ → registers .type .Denot → ℕ → ℕ → founds .type .Denot → Type 0
-found-by-says words here word home r = r ≡ foundBy words here word home
+found-by-says cells here word home r = r ≡ foundBy cells here word home

@@ -94,9 +94,9 @@ abbrev stayed : Stays (f.ended .signature .params) (f.ended .kept)
 stayed = (stay-none-ref (0 ∷ []) tt (arrayOf (plain (λ _. u32)) 4096) yes, (stay-none-ref (1 ∷ []) tt (arrayOf (plain (λ _. i32)) 8224) yes, (gave-slice (2 ∷ []) tt (plain (λ _. recs .type)), (stay-none (λ _. registers .type) yes, (stay-none (λ _. turns .type) yes, (stay-none (λ _. words32 .type) yes, (stay-none (λ _. words32 .type) yes, tt)))))))
 
 module _ {M : Type 1} (𝓤 : URA M) (H : Heap 𝓤) (A : Atoms 𝓤) (W : Given 𝓤 H A) (mem : Memory → SProp 𝓤) (run : Routine → Fun 𝓤) (κ0 κ1 κ2 : Lft) (q0 q1 q2 : Share)
-    (code# : RefT (List ℕ)) (words# : RefT (List ℤ)) (records# : RefT (List (recs .type .Denot))) (here : registers .type .Denot) (turn₀ : turns .type .Denot) (allowance : ℕ) (left : ℕ)
+    (code# : RefT (List ℕ)) (cells# : RefT (List ℤ)) (records# : RefT (List (recs .type .Denot))) (here : registers .type .Denot) (turn₀ : turns .type .Denot) (allowance : ℕ) (left : ℕ)
     (room-records : Room (recs .type) (length (records# .now))) (g-here : Good registers here) (g-turn₀ : Good turns turn₀) (g-allowance : Good words32 allowance) (g-left : Good words32 left)
-    (pre : said.Pre (code# .now) (words# .now) (records# .now) here turn₀ allowance left) where
+    (pre : said.Pre (code# .now) (cells# .now) (records# .now) here turn₀ allowance left) where
   abbrev h-code : Loan
   h-code = loanRef κ0 q0 code#
 
@@ -104,10 +104,10 @@ module _ {M : Type 1} (𝓤 : URA M) (H : Heap 𝓤) (A : Atoms 𝓤) (W : Given
   code = code# .now
 
   abbrev h-words : Loan
-  h-words = loanRef κ1 q1 words#
+  h-words = loanRef κ1 q1 cells#
 
-  abbrev words : List ℤ
-  words = words# .now
+  abbrev cells : List ℤ
+  cells = cells# .now
 
   abbrev h-records : Loan
   h-records = loanSlice κ2 q2 records#
@@ -116,7 +116,7 @@ module _ {M : Type 1} (𝓤 : URA M) (H : Heap 𝓤) (A : Atoms 𝓤) (W : Given
   records = records# .now
 
   abbrev ps : List Par
-  ps = brw (shrRef (Array u32 tt 4096)) h-code code ∷ brw (shrRef (Array i32 tt 8224)) h-words words ∷ brw (mutSlice (recs .type)) h-records records ∷ dat registers here ∷ dat turns turn₀ ∷ dat words32 allowance ∷ dat words32 left ∷ []
+  ps = brw (shrRef (Array u32 tt 4096)) h-code code ∷ brw (shrRef (Array i32 tt 8224)) h-words cells ∷ brw (mutSlice (recs .type)) h-records records ∷ dat registers here ∷ dat turns turn₀ ∷ dat words32 allowance ∷ dat words32 left ∷ []
 
   abbrev bound : walkOf 𝓤 H A f.ended stayed (f.clauses 𝓤 H A mem run) .Ghost
   bound = ((lfts ps, shares ps, tt, denots 0 ps, valss 0 ps), tt)
@@ -124,8 +124,8 @@ module _ {M : Type 1} (𝓤 : URA M) (H : Heap 𝓤) (A : Atoms 𝓤) (W : Given
   abbrev Post : Val → SProp 𝓤
   Post = walkOf 𝓤 H A f.ended stayed (f.clauses 𝓤 H A mem run) .post bound
 
-  exits : (r : halts .type .Denot) (records′ : List (recs .type .Denot)) → length records′ ≡ length records → Good halts r → said.Said code words records here turn₀ allowance left r records′ → ent 𝓤 (⋆ 𝓤 H A (outs 𝓤 0 ps (tt, (tt, (records′, (tt, (tt, (tt, (tt, tt))))))))) (Post (halts .val r))
-  exits r records′ same-records good says = via 𝓤 _ (leaves-with 𝓤 H A W ps (tt, (tt, (records′, (tt, (tt, (tt, (tt, tt))))))) (g-here, (g-turn₀, (g-allowance, (g-left, tt)))) halts r good (said.Said code words records here turn₀ allowance left r records′) says)
+  exits : (r : halts .type .Denot) (records′ : List (recs .type .Denot)) → length records′ ≡ length records → Good halts r → said.Said code cells records here turn₀ allowance left r records′ → ent 𝓤 (⋆ 𝓤 H A (outs 𝓤 0 ps (tt, (tt, (records′, (tt, (tt, (tt, (tt, tt))))))))) (Post (halts .val r))
+  exits r records′ same-records good says = via 𝓤 _ (leaves-with 𝓤 H A W ps (tt, (tt, (records′, (tt, (tt, (tt, (tt, tt))))))) (g-here, (g-turn₀, (g-allowance, (g-left, tt)))) halts r good (said.Said code cells records here turn₀ allowance left r records′) says)
       (ends-at 𝓤 H A f.ended stayed (f.clauses 𝓤 H A mem run) W bound (halts .val r) r (tt, (tt, (records′, (tt, (tt, (tt, (tt, tt))))))) (tt, (tt, (same-records, (tt, (tt, (tt, (tt, tt))))))))
 
   module _ (𝓣 : Tables 𝓤 H)
@@ -144,20 +144,20 @@ module _ {M : Type 1} (𝓤 : URA M) (H : Heap 𝓤) (A : Atoms 𝓤) (W : Given
         lands-in ! 3 9 refl tt (tt, tt) $
         if-then ! (var ! 3 9 refl refl tt)
         (λ y1.
-        calls-by ! fm (Calls-finished-halt 𝓤 H A mem run) known-finished-halt (to (for-finished-halt here allowance left)) (for-finished-halt here allowance left) refl (g-here, (g-allowance, (g-left, tt))) _ (facts.asks-finished-halt code words records here turn₀ allowance left pre is-finished1 e1 (told is-finished1 y1)) (id⊢ 𝓤 _) halts _ (λ v. id⊢ 𝓤 _)
+        calls-by ! fm (Calls-finished-halt 𝓤 H A mem run) known-finished-halt (to (for-finished-halt here allowance left)) (for-finished-halt here allowance left) refl (g-here, (g-allowance, (g-left, tt))) _ (facts.asks-finished-halt code cells records here turn₀ allowance left pre is-finished1 e1 (told is-finished1 y1)) (id⊢ 𝓤 _) halts _ (λ v. id⊢ 𝓤 _)
         (and-then ! (var ! 3 4 refl refl tt) (and-then ! (var ! 3 6 refl refl tt) (and-then ! (var ! 3 7 refl refl tt) (no-more !)))) (λ finished-halt2 _ g-finished-halt2 e2 _.
         lands-in ! 3 0 refl tt (typed 𝓤 H A W halts finished-halt2 g-finished-halt2) $
-        ends-early ! 3 Post refl refl refl tt $ move ! (2 ∷ []) $ gives ! (mutSlice (recs .type)) h-records records $ move ! (1 ∷ 2 ∷ 0 ∷ []) $ by ! (exits finished-halt2 records refl g-finished-halt2 (facts.says-1 code words records here turn₀ allowance left pre is-finished1 e1 (told is-finished1 y1) finished-halt2 e2))))
+        ends-early ! 3 Post refl refl refl tt $ move ! (2 ∷ []) $ gives ! (mutSlice (recs .type)) h-records records $ move ! (1 ∷ 2 ∷ 0 ∷ []) $ by ! (exits finished-halt2 records refl g-finished-halt2 (facts.says-1 code cells records here turn₀ allowance left pre is-finished1 e1 (told is-finished1 y1) finished-halt2 e2))))
         (λ y1.
         puts ! 3 10 refl (lent-ptr ! 3 3 refl refl tt refl refl) tt (tt, tt) $
         puts ! 3 11 refl (lent-slice ! 3 3 10 refl refl refl tt tt refl refl) tt (tt, (tt, (record { fits = room-records .0 }, tt))) $
-        calls-by ! fm (Calls-settle 𝓤 H A mem run) known-settle (to (for-settle h-code code h-words words h-records records here)) (for-settle h-code code h-words words h-records records here) refl (g-here, tt) _ (facts.asks-settle code words records here turn₀ allowance left pre is-finished1 e1 (untold is-finished1 y1)) (id⊢ 𝓤 _) founds _ (λ v. id⊢ 𝓤 _)
+        calls-by ! fm (Calls-settle 𝓤 H A mem run) known-settle (to (for-settle h-code code h-words cells h-records records here)) (for-settle h-code code h-words cells h-records records here) refl (g-here, tt) _ (facts.asks-settle code cells records here turn₀ allowance left pre is-finished1 e1 (untold is-finished1 y1)) (id⊢ 𝓤 _) founds _ (λ v. id⊢ 𝓤 _)
         (and-then ! (var ! 3 1 refl refl tt) (and-then ! (var ! 3 2 refl refl tt) (and-then ! (var ! 3 11 refl refl tt) (and-then ! (var ! 3 4 refl refl tt) (no-more !))))) (λ found3 ws3 g-found3 e3 same3.
         lands-in ! 3 8 refl tt (typed 𝓤 H A W founds found3 g-found3) $
-        calls-by ! fm (Calls-halted 𝓤 H A mem run) known-halted (to (for-halted here turn₀ found3 allowance left)) (for-halted here turn₀ found3 allowance left) refl (g-here, (g-turn₀, (g-found3, (g-allowance, (g-left, tt))))) _ (facts.asks-halted code words records here turn₀ allowance left pre is-finished1 e1 (untold is-finished1 y1)) (id⊢ 𝓤 _) halts _ (λ v. id⊢ 𝓤 _)
+        calls-by ! fm (Calls-halted 𝓤 H A mem run) known-halted (to (for-halted here turn₀ found3 allowance left)) (for-halted here turn₀ found3 allowance left) refl (g-here, (g-turn₀, (g-found3, (g-allowance, (g-left, tt))))) _ (facts.asks-halted code cells records here turn₀ allowance left pre is-finished1 e1 (untold is-finished1 y1)) (id⊢ 𝓤 _) halts _ (λ v. id⊢ 𝓤 _)
         (and-then ! (var ! 3 4 refl refl tt) (and-then ! (var ! 3 5 refl refl tt) (and-then ! (var ! 3 8 refl refl tt) (and-then ! (var ! 3 6 refl refl tt) (and-then ! (var ! 3 7 refl refl tt) (no-more !)))))) (λ halted4 _ g-halted4 e4 _.
         lands-in ! 3 0 refl tt (typed 𝓤 H A W halts halted4 g-halted4) $
-        ends ! 3 refl refl tt $ by ! (exits halted4 (ws3 .1 .1 .0) (same3 .1 .1 .0) g-halted4 (facts.says-2 code words records here turn₀ allowance left pre is-finished1 e1 (untold is-finished1 y1) found3 (ws3 .1 .1 .0) e3 (same3 .1 .1 .0) halted4 e4))))))))
+        ends ! 3 refl refl tt $ by ! (exits halted4 (ws3 .1 .1 .0) (same3 .1 .1 .0) g-halted4 (facts.says-2 code cells records here turn₀ allowance left pre is-finished1 e1 (untold is-finished1 y1) found3 (ws3 .1 .1 .0) e3 (same3 .1 .1 .0) halted4 e4))))))))
 
 module _ {M : Type 1} (𝓤 : URA M) (H : Heap 𝓤) (A : Atoms 𝓤) (W : Given 𝓤 H A) (mem : Memory → SProp 𝓤) (run : Routine → Fun 𝓤) (𝓣 : Tables 𝓤 H)
     (known-is-finished : Triple 𝓤 (𝓣 .C #is-finished) (Calls-is-finished 𝓤 H A mem run))

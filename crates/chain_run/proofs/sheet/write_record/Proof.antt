@@ -10,10 +10,10 @@ use Rattle.chain_run.proofs.sheet.write_record.Statement.{statement}
 use Rattle.chain_run.proofs.sheet.write_record.Tie as tie
 
 -- the same of equal places
-shown-as : {code : List ℕ} {words : List ℤ} {first number : ℕ} {own : List ℤ} (b b′ n n′ : ℕ) → b′ ≡ b → n′ ≡ n → Shown code words b n first number own
-    → Shown code words b′ n′ first number own
-shown-as {code} {words} {first} {number} {own} b b′ n n′ p q h =
-    subst (λ (T : Type 0). T) (λ i. Shown code words (sym p i) (sym q i) first number own) h
+shown-as : {code : List ℕ} {cells : List ℤ} {first number : ℕ} {own : List ℤ} (b b′ n n′ : ℕ) → b′ ≡ b → n′ ≡ n → Shown code cells b n first number own
+    → Shown code cells b′ n′ first number own
+shown-as {code} {cells} {first} {number} {own} b b′ n n′ p q h =
+    subst (λ (T : Type 0). T) (λ i. Shown code cells (sym p i) (sym q i) first number own) h
 
 -- the block's place is read, then the next statement's
 abbrev blockOf : tie.After-from-u322 → tie.After-from-u32

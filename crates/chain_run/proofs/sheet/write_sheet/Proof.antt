@@ -76,17 +76,17 @@ for-write-record h0 x0 h1 x1 x2 x3 h4 x4 x5 = brw (shrRef (Array u32 tt 4096)) h
 abbrev stayed : Stays (f.ended .signature .params) (f.ended .kept)
 stayed = (stay-none-ref (0 ∷ []) tt (arrayOf (plain (λ _. u32)) 4096) yes, (stay-none-ref (1 ∷ []) tt (arrayOf (plain (λ _. i32)) 8224) yes, (stay-none-slice (2 ∷ []) tt (plain (λ _. recs .type)) yes, (stay-none (λ _. usizes .type) yes, (gave-slice (3 ∷ []) tt (plain (λ _. i32)), tt)))))
 
-module _ (code : List ℕ) (words : List ℤ) (records : List (recs .type .Denot)) (live : ℕ) (sheet : List ℤ) (pre : said.Pre code words records live sheet) where
+module _ (code : List ℕ) (cells : List ℤ) (records : List (recs .type .Denot)) (live : ℕ) (sheet : List ℤ) (pre : said.Pre code cells records live sheet) where
   record Loop : Type 0 where
-    state : facts.State code words records live sheet
+    state : facts.State code cells records live sheet
     good-at : Good usizes (state .at)
     good-k : Good usizes (state .k)
     long-sheet : length (state .sheet) ≡ length sheet
 
 module _ {M : Type 1} (𝓤 : URA M) (H : Heap 𝓤) (A : Atoms 𝓤) (W : Given 𝓤 H A) (mem : Memory → SProp 𝓤) (run : Routine → Fun 𝓤) (κ0 κ1 κ2 κ3 : Lft) (q0 q1 q2 q3 : Share)
-    (code# : RefT (List ℕ)) (words# : RefT (List ℤ)) (records# : RefT (List (recs .type .Denot))) (live : ℕ) (sheet# : RefT (List ℤ))
+    (code# : RefT (List ℕ)) (cells# : RefT (List ℤ)) (records# : RefT (List (recs .type .Denot))) (live : ℕ) (sheet# : RefT (List ℤ))
     (room-records : Room (recs .type) (length (records# .now))) (room-sheet : Room i32 (length (sheet# .now))) (g-live : Good usizes live)
-    (pre : said.Pre (code# .now) (words# .now) (records# .now) live (sheet# .now)) where
+    (pre : said.Pre (code# .now) (cells# .now) (records# .now) live (sheet# .now)) where
   abbrev h-code : Loan
   h-code = loanRef κ0 q0 code#
 
@@ -94,10 +94,10 @@ module _ {M : Type 1} (𝓤 : URA M) (H : Heap 𝓤) (A : Atoms 𝓤) (W : Given
   code = code# .now
 
   abbrev h-words : Loan
-  h-words = loanRef κ1 q1 words#
+  h-words = loanRef κ1 q1 cells#
 
-  abbrev words : List ℤ
-  words = words# .now
+  abbrev cells : List ℤ
+  cells = cells# .now
 
   abbrev h-records : Loan
   h-records = loanSlice κ2 q2 records#
@@ -112,7 +112,7 @@ module _ {M : Type 1} (𝓤 : URA M) (H : Heap 𝓤) (A : Atoms 𝓤) (W : Given
   sheet = sheet# .now
 
   abbrev ps : List Par
-  ps = brw (shrRef (Array u32 tt 4096)) h-code code ∷ brw (shrRef (Array i32 tt 8224)) h-words words ∷ brw (shrSlice (recs .type)) h-records records ∷ dat usizes live ∷ brw (mutSlice i32) h-sheet sheet ∷ []
+  ps = brw (shrRef (Array u32 tt 4096)) h-code code ∷ brw (shrRef (Array i32 tt 8224)) h-words cells ∷ brw (shrSlice (recs .type)) h-records records ∷ dat usizes live ∷ brw (mutSlice i32) h-sheet sheet ∷ []
 
   abbrev bound : walkOf 𝓤 H A f.ended stayed (f.clauses 𝓤 H A mem run) .Ghost
   bound = ((lfts ps, shares ps, tt, denots 0 ps, valss 0 ps), tt)
@@ -120,15 +120,15 @@ module _ {M : Type 1} (𝓤 : URA M) (H : Heap 𝓤) (A : Atoms 𝓤) (W : Given
   abbrev Post : Val → SProp 𝓤
   Post = walkOf 𝓤 H A f.ended stayed (f.clauses 𝓤 H A mem run) .post bound
 
-  exits : (r : ℕ) (sheet′ : List ℤ) → length sheet′ ≡ length sheet → Good usizes r → said.Said code words records live sheet r sheet′ → ent 𝓤 (⋆ 𝓤 H A (outs 𝓤 0 ps (tt, (tt, (tt, (tt, (sheet′, tt))))))) (Post (usizes .val r))
-  exits r sheet′ same-sheet good says = via 𝓤 _ (leaves-with 𝓤 H A W ps (tt, (tt, (tt, (tt, (sheet′, tt))))) (g-live, tt) usizes r good (said.Said code words records live sheet r sheet′) says)
+  exits : (r : ℕ) (sheet′ : List ℤ) → length sheet′ ≡ length sheet → Good usizes r → said.Said code cells records live sheet r sheet′ → ent 𝓤 (⋆ 𝓤 H A (outs 𝓤 0 ps (tt, (tt, (tt, (tt, (sheet′, tt))))))) (Post (usizes .val r))
+  exits r sheet′ same-sheet good says = via 𝓤 _ (leaves-with 𝓤 H A W ps (tt, (tt, (tt, (tt, (sheet′, tt))))) (g-live, tt) usizes r good (said.Said code cells records live sheet r sheet′) says)
       (ends-at 𝓤 H A f.ended stayed (f.clauses 𝓤 H A mem run) W bound (usizes .val r) r (tt, (tt, (tt, (tt, (sheet′, tt))))) (tt, (tt, (tt, (tt, (same-sheet, tt))))))
 
   abbrev St : Type 0
-  St = Loop code words records live sheet pre
+  St = Loop code cells records live sheet pre
 
   abbrev size : St → ℕ
-  size t = facts.size code words records live sheet pre (t .state)
+  size t = facts.size code cells records live sheet pre (t .state)
 
   module _ (𝓣 : Tables 𝓤 H)
       (known-read : Triple 𝓤 (𝓣 .C #read) (Calls-read 𝓤 H A mem run))
@@ -141,7 +141,7 @@ module _ {M : Type 1} (𝓤 : URA M) (H : Heap 𝓤) (A : Atoms 𝓤) (W : Given
       E# = envAt (tysOf (mine.function .locals)) β
 
       abbrev Inv : St → List (Item 𝓤)
-      Inv t = ‵ (In (shrRef (Array u32 tt 4096)) h-code code) ∷ ‵ (In (shrRef (Array i32 tt 8224)) h-words words) ∷ ‵ (In (shrSlice (recs .type)) h-records records) ∷ ‵ (In (mutSlice i32) h-sheet (t .state .sheet)) ∷ fr 𝓤 H (tysOf (mine.function .locals)) β (none ∷ some (h-code .val) ∷ some (h-words .val) ∷ some (h-records .val) ∷ some (usizes .val live) ∷ some (h-sheet .val) ∷ some (usizes .val (t .state .at)) ∷ some (usizes .val (t .state .k)) ∷ none ∷ none ∷ none ∷ none ∷ []) ∷ []
+      Inv t = ‵ (In (shrRef (Array u32 tt 4096)) h-code code) ∷ ‵ (In (shrRef (Array i32 tt 8224)) h-words cells) ∷ ‵ (In (shrSlice (recs .type)) h-records records) ∷ ‵ (In (mutSlice i32) h-sheet (t .state .sheet)) ∷ fr 𝓤 H (tysOf (mine.function .locals)) β (none ∷ some (h-code .val) ∷ some (h-words .val) ∷ some (h-records .val) ∷ some (usizes .val live) ∷ some (h-sheet .val) ∷ some (usizes .val (t .state .at)) ∷ some (usizes .val (t .state .k)) ∷ none ∷ none ∷ none ∷ none ∷ []) ∷ []
 
       turn : (t : St) → Sq W (Inv t) (runs (𝓣 .C) (𝓣 .Λ) E# mir′.turn-1 (anyQ (afterTurn 𝓤 H (Below 𝓤 H A (by-size size) Inv t)
           (afterBlock 𝓤 H (afterSeq 𝓤 H (Wp 𝓤 H (𝓣 .C) (𝓣 .Λ) E# mir′.t-4 (atReturn 𝓤 H E# Post)) (atReturn 𝓤 H E# Post))))))
@@ -150,28 +150,28 @@ module _ {M : Type 1} (𝓤 : URA M) (H : Heap 𝓤) (A : Atoms 𝓤) (W : Given
           puts ! 4 9 refl (bin ! (var ! 4 7 refl refl tt) (var ! 4 4 refl refl tt) tt) tt (tt, tt) $
           tests ! (var ! 4 9 refl refl tt)
           (λ y1.
-          move ! (2 ∷ []) $ calls-by ! fm (Calls-read 𝓤 H A mem run) known-read (to (for-read h-records records (t .state .k))) (for-read h-records records (t .state .k)) refl ((t .good-k), tt) _ (facts.asks-read code words records live sheet pre (t .state) (ltb→lt (t .state .k) live y1)) (id⊢ 𝓤 _) recs _ (λ v. id⊢ 𝓤 _)
+          move ! (2 ∷ []) $ calls-by ! fm (Calls-read 𝓤 H A mem run) known-read (to (for-read h-records records (t .state .k))) (for-read h-records records (t .state .k)) refl ((t .good-k), tt) _ (facts.asks-read code cells records live sheet pre (t .state) (ltb→lt (t .state .k) live y1)) (id⊢ 𝓤 _) recs _ (λ v. id⊢ 𝓤 _)
           (and-then ! (var ! 4 3 refl refl tt) (and-then ! (var ! 4 7 refl refl tt) (no-more !))) (λ activation1 _ g-activation1 e1 _.
           lands-in ! 4 8 refl tt (typed 𝓤 H A W recs activation1 g-activation1) $
           puts ! 4 10 refl (lent-ptr ! 4 5 refl refl tt refl refl) tt (tt, tt) $
           puts ! 4 11 refl (lent-slice ! 4 5 10 refl refl refl tt tt refl refl) tt (tt, (tt, (record { fits = room-sheet .0 }, tt))) $
           move ! (3 ∷ []) $ lends-slice ! tt i32 h-sheet (t .state .sheet) (λ ν2-sheet δ2-sheet.
-          move ! (3 ∷ 4 ∷ 0 ∷ []) $ calls-by ! fm (Calls-write-record 𝓤 H A mem run) known-write-record (to (for-write-record h-code code h-words words activation1 (t .state .k) (relent h-sheet ν2-sheet δ2-sheet) (t .state .sheet) (t .state .at))) (for-write-record h-code code h-words words activation1 (t .state .k) (relent h-sheet ν2-sheet δ2-sheet) (t .state .sheet) (t .state .at)) refl (g-activation1, ((t .good-k), ((t .good-at), tt))) _ (facts.asks-write-record code words records live sheet pre (t .state) (ltb→lt (t .state .k) live y1) activation1 e1) (id⊢ 𝓤 _) usizes _ (said-together 𝓤 H A W (for-write-record h-code code h-words words activation1 (t .state .k) (relent h-sheet ν2-sheet δ2-sheet) (t .state .sheet) (t .state .at)) (usizes .type) (_ ∷ _ ∷ []))
+          move ! (3 ∷ 4 ∷ 0 ∷ []) $ calls-by ! fm (Calls-write-record 𝓤 H A mem run) known-write-record (to (for-write-record h-code code h-words cells activation1 (t .state .k) (relent h-sheet ν2-sheet δ2-sheet) (t .state .sheet) (t .state .at))) (for-write-record h-code code h-words cells activation1 (t .state .k) (relent h-sheet ν2-sheet δ2-sheet) (t .state .sheet) (t .state .at)) refl (g-activation1, ((t .good-k), ((t .good-at), tt))) _ (facts.asks-write-record code cells records live sheet pre (t .state) (ltb→lt (t .state .k) live y1) activation1 e1) (id⊢ 𝓤 _) usizes _ (said-together 𝓤 H A W (for-write-record h-code code h-words cells activation1 (t .state .k) (relent h-sheet ν2-sheet δ2-sheet) (t .state .sheet) (t .state .at)) (usizes .type) (_ ∷ _ ∷ []))
           (and-then ! (var ! 5 1 refl refl tt) (and-then ! (var ! 5 2 refl refl tt) (and-then ! (var ! 5 8 refl refl tt) (and-then ! (var ! 5 7 refl refl tt) (and-then ! (var ! 5 11 refl refl tt) (and-then ! (var ! 5 6 refl refl tt) (no-more !))))))) (λ at2 ws2 g-at2 e2 same2.
           lands-in ! 5 6 refl tt (typed 𝓤 H A W usizes at2 g-at2) $
           move ! (2 ∷ 3 ∷ []) $ back-slice ! tt i32 h-sheet (t .state .sheet) (ws2 .1 .1 .1 .1 .0) ν2-sheet δ2-sheet (same2 .1 .1 .0) $
-          puts-last ! 4 7 refl (bin ! (var ! 4 7 refl refl tt) (lit ! tt) (record { fits = (facts.fits code words records live sheet pre (t .state) (ltb→lt (t .state .k) live y1)) })) tt (tt, record { fits = (facts.fits code words records live sheet pre (t .state) (ltb→lt (t .state .k) live y1)) }) $
-          forgets ! 4 (8 ∷ 9 ∷ 10 ∷ 11 ∷ []) refl tt $ move ! (1 ∷ 2 ∷ 3 ∷ 0 ∷ []) $ again ! (by-size size) Inv t (record { state = (facts.next code words records live sheet pre (t .state) (ltb→lt (t .state .k) live y1) activation1 e1 at2 (ws2 .1 .1 .1 .1 .0) e2 (same2 .1 .1 .0)); good-at = g-at2; good-k = (refl, (facts.fits code words records live sheet pre (t .state) (ltb→lt (t .state .k) live y1))); long-sheet = ((same2 .1 .1 .0) ∙ (t .long-sheet)) }) (facts.less code words records live sheet pre (t .state) (ltb→lt (t .state .k) live y1))))))
+          puts-last ! 4 7 refl (bin ! (var ! 4 7 refl refl tt) (lit ! tt) (record { fits = (facts.fits code cells records live sheet pre (t .state) (ltb→lt (t .state .k) live y1)) })) tt (tt, record { fits = (facts.fits code cells records live sheet pre (t .state) (ltb→lt (t .state .k) live y1)) }) $
+          forgets ! 4 (8 ∷ 9 ∷ 10 ∷ 11 ∷ []) refl tt $ move ! (1 ∷ 2 ∷ 3 ∷ 0 ∷ []) $ again ! (by-size size) Inv t (record { state = (facts.next code cells records live sheet pre (t .state) (ltb→lt (t .state .k) live y1) activation1 e1 at2 (ws2 .1 .1 .1 .1 .0) e2 (same2 .1 .1 .0)); good-at = g-at2; good-k = (refl, (facts.fits code cells records live sheet pre (t .state) (ltb→lt (t .state .k) live y1))); long-sheet = ((same2 .1 .1 .0) ∙ (t .long-sheet)) }) (facts.less code cells records live sheet pre (t .state) (ltb→lt (t .state .k) live y1))))))
           (λ y1. exec ! (𝓣 .C) (𝓣 .Λ) E# mir′.t-4 (atRet E# Post) $
           puts ! 4 0 refl (of-opd ! (var ! 4 6 refl refl tt)) tt (typed 𝓤 H A W usizes (t .state .at) (t .good-at)) $
-          ends ! 4 refl refl tt $ move ! (3 ∷ []) $ gives ! (mutSlice i32) h-sheet (t .state .sheet) $ move ! (1 ∷ 2 ∷ 3 ∷ 0 ∷ []) $ by ! (exits (t .state .at) (t .state .sheet) (t .long-sheet) (t .good-at) (facts.says code words records live sheet pre (t .state) (not-below (t .state .k) live y1))))
+          ends ! 4 refl refl tt $ move ! (3 ∷ []) $ gives ! (mutSlice i32) h-sheet (t .state .sheet) $ move ! (1 ∷ 2 ∷ 3 ∷ 0 ∷ []) $ by ! (exits (t .state .at) (t .state .sheet) (t .long-sheet) (t .good-at) (facts.says code cells records live sheet pre (t .state) (not-below (t .state .k) live y1))))
 
     walk : ent 𝓤 (onEntry 𝓤 H A f.signature (lfts ps) (shares ps) (denots 0 ps) (valss 0 ps)) (WpFn 𝓤 H (𝓣 .C) (𝓣 .Λ) mine.function (vals ps) Post)
     walk = via 𝓤 (⋆ 𝓤 H A (ins 𝓤 ps)) (arrives 𝓤 H A W 0 ps) (qed W (ins 𝓤 ps) ∵
         begins ! (𝓣 .C) (𝓣 .Λ) mine.function (vals ps) Post ((tt, tt), ((tt, tt), ((tt, (tt, (record { fits = room-records .0 }, tt))), (typed 𝓤 H A W usizes live g-live, ((tt, (tt, (record { fits = room-sheet .0 }, tt))), tt))))) (λ β. move ! (1 ∷ 2 ∷ 3 ∷ 4 ∷ []) $
         puts ! 4 6 refl (of-opd ! (lit ! tt)) tt (typed 𝓤 H A W usizes 0 (refl, omega arith)) $
         puts ! 4 7 refl (of-opd ! (lit ! tt)) tt (typed 𝓤 H A W usizes 0 (refl, omega arith)) $
-        forgets ! 4 (8 ∷ 9 ∷ 10 ∷ 11 ∷ []) refl tt $ first ! $ blocks ! $ loops ! 𝓣 (by-size size) (by-size-wf size) (Inv β) (turn β) (record { state = (facts.start code words records live sheet pre); good-at = (refl, omega arith); good-k = (refl, omega arith); long-sheet = refl })))
+        forgets ! 4 (8 ∷ 9 ∷ 10 ∷ 11 ∷ []) refl tt $ first ! $ blocks ! $ loops ! 𝓣 (by-size size) (by-size-wf size) (Inv β) (turn β) (record { state = (facts.start code cells records live sheet pre); good-at = (refl, omega arith); good-k = (refl, omega arith); long-sheet = refl })))
 
 module _ {M : Type 1} (𝓤 : URA M) (H : Heap 𝓤) (A : Atoms 𝓤) (W : Given 𝓤 H A) (mem : Memory → SProp 𝓤) (run : Routine → Fun 𝓤) (𝓣 : Tables 𝓤 H)
     (known-read : Triple 𝓤 (𝓣 .C #read) (Calls-read 𝓤 H A mem run))

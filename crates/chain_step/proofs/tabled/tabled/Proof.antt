@@ -98,9 +98,9 @@ abbrev stayed : Stays (f.ended .signature .params) (f.ended .kept)
 stayed = (stay-none-ref (0 ∷ []) tt (arrayOf (plain (λ _. u32)) 4096) yes, (stay-none-ref (1 ∷ []) tt (arrayOf (plain (λ _. i32)) 8224) yes, (stay-none-slice (2 ∷ []) tt (plain (λ _. recs .type)) yes, (stay-none (λ _. registers .type) yes, (stay-none (λ _. usizes .type) yes, (stay-none (λ _. usizes .type) yes, tt))))))
 
 module _ {M : Type 1} (𝓤 : URA M) (H : Heap 𝓤) (A : Atoms 𝓤) (W : Given 𝓤 H A) (mem : Memory → SProp 𝓤) (run : Routine → Fun 𝓤) (κ0 κ1 κ2 : Lft) (q0 q1 q2 : Share)
-    (code# : RefT (List ℕ)) (words# : RefT (List ℤ)) (records# : RefT (List (recs .type .Denot))) (here : registers .type .Denot) (own : ℕ) (class : ℕ)
+    (code# : RefT (List ℕ)) (cells# : RefT (List ℤ)) (records# : RefT (List (recs .type .Denot))) (here : registers .type .Denot) (own : ℕ) (class : ℕ)
     (room-records : Room (recs .type) (length (records# .now))) (g-here : Good registers here) (g-own : Good usizes own) (g-class : Good usizes class)
-    (pre : said.Pre (code# .now) (words# .now) (records# .now) here own class) where
+    (pre : said.Pre (code# .now) (cells# .now) (records# .now) here own class) where
   abbrev h-code : Loan
   h-code = loanRef κ0 q0 code#
 
@@ -108,10 +108,10 @@ module _ {M : Type 1} (𝓤 : URA M) (H : Heap 𝓤) (A : Atoms 𝓤) (W : Given
   code = code# .now
 
   abbrev h-words : Loan
-  h-words = loanRef κ1 q1 words#
+  h-words = loanRef κ1 q1 cells#
 
-  abbrev words : List ℤ
-  words = words# .now
+  abbrev cells : List ℤ
+  cells = cells# .now
 
   abbrev h-records : Loan
   h-records = loanSlice κ2 q2 records#
@@ -120,7 +120,7 @@ module _ {M : Type 1} (𝓤 : URA M) (H : Heap 𝓤) (A : Atoms 𝓤) (W : Given
   records = records# .now
 
   abbrev ps : List Par
-  ps = brw (shrRef (Array u32 tt 4096)) h-code code ∷ brw (shrRef (Array i32 tt 8224)) h-words words ∷ brw (shrSlice (recs .type)) h-records records ∷ dat registers here ∷ dat usizes own ∷ dat usizes class ∷ []
+  ps = brw (shrRef (Array u32 tt 4096)) h-code code ∷ brw (shrRef (Array i32 tt 8224)) h-words cells ∷ brw (shrSlice (recs .type)) h-records records ∷ dat registers here ∷ dat usizes own ∷ dat usizes class ∷ []
 
   abbrev bound : walkOf 𝓤 H A f.ended stayed (f.clauses 𝓤 H A mem run) .Ghost
   bound = ((lfts ps, shares ps, tt, denots 0 ps, valss 0 ps), tt)
@@ -128,8 +128,8 @@ module _ {M : Type 1} (𝓤 : URA M) (H : Heap 𝓤) (A : Atoms 𝓤) (W : Given
   abbrev Post : Val → SProp 𝓤
   Post = walkOf 𝓤 H A f.ended stayed (f.clauses 𝓤 H A mem run) .post bound
 
-  exits : (r : moveds .type .Denot) → Good moveds r → said.Said code words records here own class r → ent 𝓤 (⋆ 𝓤 H A (outs 𝓤 0 ps (tt, (tt, (tt, (tt, (tt, (tt, tt)))))))) (Post (moveds .val r))
-  exits r good says = via 𝓤 _ (leaves-with 𝓤 H A W ps (tt, (tt, (tt, (tt, (tt, (tt, tt)))))) (g-here, (g-own, (g-class, tt))) moveds r good (said.Said code words records here own class r) says)
+  exits : (r : moveds .type .Denot) → Good moveds r → said.Said code cells records here own class r → ent 𝓤 (⋆ 𝓤 H A (outs 𝓤 0 ps (tt, (tt, (tt, (tt, (tt, (tt, tt)))))))) (Post (moveds .val r))
+  exits r good says = via 𝓤 _ (leaves-with 𝓤 H A W ps (tt, (tt, (tt, (tt, (tt, (tt, tt)))))) (g-here, (g-own, (g-class, tt))) moveds r good (said.Said code cells records here own class r) says)
       (ends-at 𝓤 H A f.ended stayed (f.clauses 𝓤 H A mem run) W bound (moveds .val r) r (tt, (tt, (tt, (tt, (tt, (tt, tt)))))) (tt, (tt, (tt, (tt, (tt, (tt, tt)))))))
 
   module _ (𝓣 : Tables 𝓤 H)
@@ -146,36 +146,36 @@ module _ {M : Type 1} (𝓤 : URA M) (H : Heap 𝓤) (A : Atoms 𝓤) (W : Given
         puts ! 3 14 refl (bin ! (var ! 3 6 refl refl tt) (lit ! tt) tt) tt (tt, tt) $
         if-then ! (var ! 3 14 refl refl tt)
         (λ y1.
-        move ! (0 ∷ 2 ∷ []) $ calls-by ! fm (Calls-first-cell 𝓤 H A mem run) known-first-cell (to (for-first-cell h-code code h-records records here own 1)) (for-first-cell h-code code h-records records here own 1) refl (g-here, (g-own, ((refl, omega arith), tt))) _ (facts.asks-first-cell code words records here own class pre (eqb→eq class 6 y1)) (id⊢ 𝓤 _) usizes _ (λ v. id⊢ 𝓤 _)
+        move ! (0 ∷ 2 ∷ []) $ calls-by ! fm (Calls-first-cell 𝓤 H A mem run) known-first-cell (to (for-first-cell h-code code h-records records here own 1)) (for-first-cell h-code code h-records records here own 1) refl (g-here, (g-own, ((refl, omega arith), tt))) _ (facts.asks-first-cell code cells records here own class pre (eqb→eq class 6 y1)) (id⊢ 𝓤 _) usizes _ (λ v. id⊢ 𝓤 _)
         (and-then ! (var ! 3 1 refl refl tt) (and-then ! (var ! 3 3 refl refl tt) (and-then ! (var ! 3 4 refl refl tt) (and-then ! (var ! 3 5 refl refl tt) (and-then ! (lit ! tt) (no-more !)))))) (λ first1 _ g-first1 e1 _.
         lands-in ! 3 7 refl tt (typed 𝓤 H A W usizes first1 g-first1) $
-        calls-by ! fm (Calls-first-cell 𝓤 H A mem run) known-first-cell (to (for-first-cell h-code code h-records records here own 2)) (for-first-cell h-code code h-records records here own 2) refl (g-here, (g-own, ((refl, omega arith), tt))) _ (facts.asks-first-cell-2 code words records here own class pre (eqb→eq class 6 y1)) (id⊢ 𝓤 _) usizes _ (λ v. id⊢ 𝓤 _)
+        calls-by ! fm (Calls-first-cell 𝓤 H A mem run) known-first-cell (to (for-first-cell h-code code h-records records here own 2)) (for-first-cell h-code code h-records records here own 2) refl (g-here, (g-own, ((refl, omega arith), tt))) _ (facts.asks-first-cell-2 code cells records here own class pre (eqb→eq class 6 y1)) (id⊢ 𝓤 _) usizes _ (λ v. id⊢ 𝓤 _)
         (and-then ! (var ! 3 1 refl refl tt) (and-then ! (var ! 3 3 refl refl tt) (and-then ! (var ! 3 4 refl refl tt) (and-then ! (var ! 3 5 refl refl tt) (and-then ! (lit ! tt) (no-more !)))))) (λ second2 _ g-second2 e2 _.
         lands-in ! 3 8 refl tt (typed 𝓤 H A W usizes second2 g-second2) $
-        move ! (0 ∷ 2 ∷ []) $ calls-by ! fm (Calls-act-pair 𝓤 H A mem run) known-act-pair (to (for-act-pair h-code code h-words words (here .at) first1 second2)) (for-act-pair h-code code h-words words (here .at) first1 second2) refl ((owed Registers#.the-type Registers′.the-laws here _ g-here .1 .0), (g-first1, (g-second2, tt))) _ (facts.asks-act-pair code words records here own class pre (eqb→eq class 6 y1) first1 e1 second2 e2) (id⊢ 𝓤 _) moves _ (λ v. id⊢ 𝓤 _)
+        move ! (0 ∷ 2 ∷ []) $ calls-by ! fm (Calls-act-pair 𝓤 H A mem run) known-act-pair (to (for-act-pair h-code code h-words cells (here .at) first1 second2)) (for-act-pair h-code code h-words cells (here .at) first1 second2) refl ((owed Registers#.the-type Registers′.the-laws here _ g-here .1 .0), (g-first1, (g-second2, tt))) _ (facts.asks-act-pair code cells records here own class pre (eqb→eq class 6 y1) first1 e1 second2 e2) (id⊢ 𝓤 _) moves _ (λ v. id⊢ 𝓤 _)
         (and-then ! (var ! 3 1 refl refl tt) (and-then ! (var ! 3 2 refl refl tt) (and-then ! (part ! 3 4 1 refl refl tt refl refl refl) (and-then ! (var ! 3 7 refl refl tt) (and-then ! (var ! 3 8 refl refl tt) (no-more !)))))) (λ done3 _ g-done3 e3 _.
         lands-in ! 3 9 refl tt (typed 𝓤 H A W moves done3 g-done3) $
         calls-by ! fm (Calls-came-to 𝓤 H A mem run) known-came-to (to (for-came-to here done3)) (for-came-to here done3) refl (g-here, (g-done3, tt)) (Unit {0}) tt (asks-all 𝓤 H A (for-came-to here done3) []) moveds _ (λ v. id⊢ 𝓤 _)
         (and-then ! (var ! 3 4 refl refl tt) (and-then ! (var ! 3 9 refl refl tt) (no-more !))) (λ came-to4 _ g-came-to4 e4 _.
         lands-in ! 3 0 refl tt (typed 𝓤 H A W moveds came-to4 g-came-to4) $
-        ends-early ! 3 Post refl refl refl tt $ by ! (exits came-to4 g-came-to4 (facts.says-1 code words records here own class pre (eqb→eq class 6 y1) first1 e1 second2 e2 done3 e3 came-to4 e4)))))))
+        ends-early ! 3 Post refl refl refl tt $ by ! (exits came-to4 g-came-to4 (facts.says-1 code cells records here own class pre (eqb→eq class 6 y1) first1 e1 second2 e2 done3 e3 came-to4 e4)))))))
         (λ y1.
-        move ! (0 ∷ 2 ∷ []) $ calls-by ! fm (Calls-first-cell 𝓤 H A mem run) known-first-cell (to (for-first-cell h-code code h-records records here own 1)) (for-first-cell h-code code h-records records here own 1) refl (g-here, (g-own, ((refl, omega arith), tt))) _ (facts.asks-first-cell-3 code words records here own class pre (not-equal class 6 y1)) (id⊢ 𝓤 _) usizes _ (λ v. id⊢ 𝓤 _)
+        move ! (0 ∷ 2 ∷ []) $ calls-by ! fm (Calls-first-cell 𝓤 H A mem run) known-first-cell (to (for-first-cell h-code code h-records records here own 1)) (for-first-cell h-code code h-records records here own 1) refl (g-here, (g-own, ((refl, omega arith), tt))) _ (facts.asks-first-cell-3 code cells records here own class pre (not-equal class 6 y1)) (id⊢ 𝓤 _) usizes _ (λ v. id⊢ 𝓤 _)
         (and-then ! (var ! 3 1 refl refl tt) (and-then ! (var ! 3 3 refl refl tt) (and-then ! (var ! 3 4 refl refl tt) (and-then ! (var ! 3 5 refl refl tt) (and-then ! (lit ! tt) (no-more !)))))) (λ first5 _ g-first5 e5 _.
         lands-in ! 3 10 refl tt (typed 𝓤 H A W usizes first5 g-first5) $
-        calls-by ! fm (Calls-first-cell 𝓤 H A mem run) known-first-cell (to (for-first-cell h-code code h-records records here own 2)) (for-first-cell h-code code h-records records here own 2) refl (g-here, (g-own, ((refl, omega arith), tt))) _ (facts.asks-first-cell-4 code words records here own class pre (not-equal class 6 y1)) (id⊢ 𝓤 _) usizes _ (λ v. id⊢ 𝓤 _)
+        calls-by ! fm (Calls-first-cell 𝓤 H A mem run) known-first-cell (to (for-first-cell h-code code h-records records here own 2)) (for-first-cell h-code code h-records records here own 2) refl (g-here, (g-own, ((refl, omega arith), tt))) _ (facts.asks-first-cell-4 code cells records here own class pre (not-equal class 6 y1)) (id⊢ 𝓤 _) usizes _ (λ v. id⊢ 𝓤 _)
         (and-then ! (var ! 3 1 refl refl tt) (and-then ! (var ! 3 3 refl refl tt) (and-then ! (var ! 3 4 refl refl tt) (and-then ! (var ! 3 5 refl refl tt) (and-then ! (lit ! tt) (no-more !)))))) (λ second6 _ g-second6 e6 _.
         lands-in ! 3 11 refl tt (typed 𝓤 H A W usizes second6 g-second6) $
-        calls-by ! fm (Calls-first-cell 𝓤 H A mem run) known-first-cell (to (for-first-cell h-code code h-records records here own 3)) (for-first-cell h-code code h-records records here own 3) refl (g-here, (g-own, ((refl, omega arith), tt))) _ (facts.asks-first-cell-5 code words records here own class pre (not-equal class 6 y1)) (id⊢ 𝓤 _) usizes _ (λ v. id⊢ 𝓤 _)
+        calls-by ! fm (Calls-first-cell 𝓤 H A mem run) known-first-cell (to (for-first-cell h-code code h-records records here own 3)) (for-first-cell h-code code h-records records here own 3) refl (g-here, (g-own, ((refl, omega arith), tt))) _ (facts.asks-first-cell-5 code cells records here own class pre (not-equal class 6 y1)) (id⊢ 𝓤 _) usizes _ (λ v. id⊢ 𝓤 _)
         (and-then ! (var ! 3 1 refl refl tt) (and-then ! (var ! 3 3 refl refl tt) (and-then ! (var ! 3 4 refl refl tt) (and-then ! (var ! 3 5 refl refl tt) (and-then ! (lit ! tt) (no-more !)))))) (λ third7 _ g-third7 e7 _.
         lands-in ! 3 12 refl tt (typed 𝓤 H A W usizes third7 g-third7) $
-        move ! (0 ∷ 2 ∷ []) $ calls-by ! fm (Calls-do-query 𝓤 H A mem run) known-do-query (to (for-do-query h-code code h-words words (here .at) first5 second6 third7)) (for-do-query h-code code h-words words (here .at) first5 second6 third7) refl ((owed Registers#.the-type Registers′.the-laws here _ g-here .1 .0), (g-first5, (g-second6, (g-third7, tt)))) _ (facts.asks-do-query code words records here own class pre (not-equal class 6 y1) first5 e5 second6 e6 third7 e7) (id⊢ 𝓤 _) moves _ (λ v. id⊢ 𝓤 _)
+        move ! (0 ∷ 2 ∷ []) $ calls-by ! fm (Calls-do-query 𝓤 H A mem run) known-do-query (to (for-do-query h-code code h-words cells (here .at) first5 second6 third7)) (for-do-query h-code code h-words cells (here .at) first5 second6 third7) refl ((owed Registers#.the-type Registers′.the-laws here _ g-here .1 .0), (g-first5, (g-second6, (g-third7, tt)))) _ (facts.asks-do-query code cells records here own class pre (not-equal class 6 y1) first5 e5 second6 e6 third7 e7) (id⊢ 𝓤 _) moves _ (λ v. id⊢ 𝓤 _)
         (and-then ! (var ! 3 1 refl refl tt) (and-then ! (var ! 3 2 refl refl tt) (and-then ! (part ! 3 4 1 refl refl tt refl refl refl) (and-then ! (var ! 3 10 refl refl tt) (and-then ! (var ! 3 11 refl refl tt) (and-then ! (var ! 3 12 refl refl tt) (no-more !))))))) (λ done8 _ g-done8 e8 _.
         lands-in ! 3 13 refl tt (typed 𝓤 H A W moves done8 g-done8) $
         calls-by ! fm (Calls-came-to 𝓤 H A mem run) known-came-to (to (for-came-to here done8)) (for-came-to here done8) refl (g-here, (g-done8, tt)) (Unit {0}) tt (asks-all 𝓤 H A (for-came-to here done8) []) moveds _ (λ v. id⊢ 𝓤 _)
         (and-then ! (var ! 3 4 refl refl tt) (and-then ! (var ! 3 13 refl refl tt) (no-more !))) (λ came-to9 _ g-came-to9 e9 _.
         lands-in ! 3 0 refl tt (typed 𝓤 H A W moveds came-to9 g-came-to9) $
-        ends ! 3 refl refl tt $ by ! (exits came-to9 g-came-to9 (facts.says-2 code words records here own class pre (not-equal class 6 y1) first5 e5 second6 e6 third7 e7 done8 e8 came-to9 e9))))))))))
+        ends ! 3 refl refl tt $ by ! (exits came-to9 g-came-to9 (facts.says-2 code cells records here own class pre (not-equal class 6 y1) first5 e5 second6 e6 third7 e7 done8 e8 came-to9 e9))))))))))
 
 module _ {M : Type 1} (𝓤 : URA M) (H : Heap 𝓤) (A : Atoms 𝓤) (W : Given 𝓤 H A) (mem : Memory → SProp 𝓤) (run : Routine → Fun 𝓤) (𝓣 : Tables 𝓤 H)
     (known-first-cell : Triple 𝓤 (𝓣 .C #first-cell) (Calls-first-cell 𝓤 H A mem run))

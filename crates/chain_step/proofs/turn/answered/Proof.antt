@@ -23,7 +23,7 @@ returns-5 c =
     let q = askedOf (d .before) in
     let s = startOf q in
     λ k e.
-    subst (λ (x : Moved). ToldBy (s .args .limit) (s .args .here) (s .args .words .now) (s .args .table .now) (c .after .result) (d .asked .last .1 .0) (d .asked .last .0) x)
+    subst (λ (x : Moved). ToldBy (s .args .limit) (s .args .here) (s .args .cells .now) (s .args .table .now) (c .after .result) (d .asked .last .1 .0) (d .asked .last .0) x)
     (sym (q .moved5 .given .1) ∙ e) (d .asked .result, c .after .ensures, d .asked .ensures)
 
 pub answered-spec : {M : Type 1} → statement M

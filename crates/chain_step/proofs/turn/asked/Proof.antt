@@ -15,7 +15,7 @@ returns c =
     let d = c .before in
     let t = d .before .before .before in
     let a = t .before .before .args in
-    add-answered (a .limit) (a .words .now) (tableOf (a .table .now) (a .pairs)) (a .group) (a .member) (a .target) (t .enum-told .given .1) (d .add .ensures)
+    add-answered (a .limit) (a .cells .now) (tableOf (a .table .now) (a .pairs)) (a .group) (a .member) (a .target) (t .enum-told .given .1) (d .add .ensures)
 
 returns-2 : tie.Need-returns-2
 unfolding answer
@@ -24,7 +24,7 @@ returns-2 c =
     let g = m .before in
     let t = g .before in
     let a = t .before .before .args in
-    let ws = a .words .now in
+    let ws = a .cells .now in
     remove-answered (a .limit) ws (tableOf (a .table .now) (a .pairs)) (a .group) (a .member) (a .target) (t .enum-told2 .given .1)
     (changed-by (λ (x y : ℤ). removed x y (tableOf (a .table .now) (a .pairs))) (a .table .now) (read-value ws (g .of .given) refl) (read-value ws (m .who .given) refl)
     (c .before .remove-pair .ensures .0) (c .before .remove-pair .ensures .1))
@@ -33,7 +33,7 @@ returns-3 : tie.Need-returns-3
 returns-3 c =
     let t = c .before .before .before in
     let a = t .before .before .args in
-    query-answered (a .limit) (a .words .now) (tableOf (a .table .now) (a .pairs)) (a .group) (a .member) (a .target) (t .enum-told3 .given .1) (c .query .ensures)
+    query-answered (a .limit) (a .cells .now) (tableOf (a .table .now) (a .pairs)) (a .group) (a .member) (a .target) (t .enum-told3 .given .1) (c .query .ensures)
 
 pub asked-spec : {M : Type 1} → statement M
 asked-spec =

@@ -22,7 +22,7 @@ returns c =
     let o = t .before in
     let s = startOf o in
     let n = o .before in
-    computes (s .args .words .now) (s .args .at + 5) (operation s) (n .before .before .named-by .ensures) (n .before .named-by2 .ensures) (n .named-by3 .ensures) plus
+    computes (s .args .cells .now) (s .args .at + 5) (operation s) (n .before .before .named-by .ensures) (n .before .named-by2 .ensures) (n .named-by3 .ensures) plus
     (is-plus (sym (o .field .ensures .0) ∙ t .if1 .taken)) (c .computed .ensures) (c .before .add .ensures .0) (c .before .add .ensures .1)
 
 returns-2 : tie.Need-returns-2
@@ -31,7 +31,7 @@ returns-2 c =
     let o = b .before .before in
     let s = startOf o in
     let n = o .before in
-    computes (s .args .words .now) (s .args .at + 5) (operation s) (n .before .before .named-by .ensures) (n .before .named-by2 .ensures) (n .named-by3 .ensures) minus
+    computes (s .args .cells .now) (s .args .at + 5) (operation s) (n .before .before .named-by .ensures) (n .before .named-by2 .ensures) (n .named-by3 .ensures) minus
     (is-minus (sym (o .field .ensures .0) ∙ b .if2 .taken)) (c .computed2 .ensures) (c .before .subtract .ensures .0) (c .before .subtract .ensures .1)
 
 returns-3 : tie.Need-returns-3
@@ -40,7 +40,7 @@ returns-3 c =
     let o = b .before .before in
     let s = startOf o in
     let n = o .before in
-    compares (s .args .words .now) (s .args .at + 5) (operation s) (n .before .before .named-by .ensures) (n .before .named-by2 .ensures) (n .named-by3 .ensures)
+    compares (s .args .cells .now) (s .args .at + 5) (operation s) (n .before .before .named-by .ensures) (n .before .named-by2 .ensures) (n .named-by3 .ensures)
     (is-less _ (λ e. b .before .if1 .left (o .field .ensures .0 ∙ e)) (λ e. b .if2 .left (o .field .ensures .0 ∙ e))) (c .compare .ensures)
 
 pub do-arithmetic-spec : {M : Type 1} → statement M

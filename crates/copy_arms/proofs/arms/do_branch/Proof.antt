@@ -11,14 +11,14 @@ returns : tie.Need-returns
 returns c =
     let n = c .before .before in
     let a = n .before .before .args in
-    stays (a .words .now) (a .at + 3) _ (n .named .ensures) (is-zero _ (c .before .if12 .given) (c .if1 .taken))
+    stays (a .cells .now) (a .at + 3) _ (n .named .ensures) (is-zero _ (c .before .if12 .given) (c .if1 .taken))
 
 returns-2 : tie.Need-returns-2
 returns-2 c =
     let b = c .before in
     let n = b .before .before in
     let a = n .before .before .args in
-    c .do-goto .ensures ∙ goes (a .words .now) (a .at + 3) _ (n .named .ensures) (not-zero _ (b .before .if12 .given) (b .if1 .left))
+    c .do-goto .ensures ∙ goes (a .cells .now) (a .at + 3) _ (n .named .ensures) (not-zero _ (b .before .if12 .given) (b .if1 .left))
 
 pub do-branch-spec : {M : Type 1} → statement M
 do-branch-spec =

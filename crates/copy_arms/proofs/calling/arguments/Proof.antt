@@ -11,13 +11,13 @@ use Rattle.copy_arms.proofs.calling.arguments.Statement.{statement}
 use Rattle.copy_arms.proofs.calling.arguments.Tie as tie
 
 abbrev Inv-loop : tie.InvT-loop
-Inv-loop words₀ area firsts starts targets live place count first start to i₀ words i =
+Inv-loop cells₀ area firsts starts targets live place count first start to i₀ cells i =
     (i ≤ count) ×
-    (setAll words (to + i) (handedFrom area firsts starts targets live (place + i) (count - i))
-    ≡ setAll words₀ to (handedFrom area firsts starts targets live place count))
+    (setAll cells (to + i) (handedFrom area firsts starts targets live (place + i) (count - i))
+    ≡ setAll cells₀ to (handedFrom area firsts starts targets live place count))
 
 abbrev μ-loop : tie.MeasureT-loop
-μ-loop words₀ area firsts starts targets live place count first start to i₀ words i = count - i
+μ-loop cells₀ area firsts starts targets live place count first start to i₀ cells i = count - i
 
 -- the start, from before the loop
 abbrev startOf : tie.After-cell-at Inv-loop μ-loop → tie.Start Inv-loop μ-loop
@@ -46,7 +46,7 @@ loop-again c =
     let z = read-back (c .handed .result) (c .handed .ok) ∙ c .handed .ensures in
     let t = c .before .loop-test .taken in
     let step = arguments-next (a .area .now) (a .firsts .now) (a .starts .now) (a .targets .now) (a .live) (a .place) (a .count) (l .loop .i)
-    (l .loop .words) (l .before .cell-at .result) t z in
+    (l .loop .cells) (l .before .cell-at .result) t z in
     (omega (arith, t), step ∙ l .loop .inv .1)
 
 returns : tie.Need-returns Inv-loop μ-loop
@@ -56,7 +56,7 @@ returns c =
     let a = startOf f .args in
     let to = f .cell-at .result in
     rw (f .cell-at .ensures) at (arguments-end (a .area .now) (a .firsts .now) (a .starts .now) (a .targets .now) (a .live) (a .place) (a .count)
-    (l .loop .i) (l .loop .words) to (c .loop-test .left) ∙ l .loop .inv .1)
+    (l .loop .i) (l .loop .cells) to (c .loop-test .left) ∙ l .loop .inv .1)
 
 pub arguments-spec : {M : Type 1} → statement M
 arguments-spec =

@@ -30,7 +30,7 @@ enter s =
 
 abbrev handed : tie.Start → List ℤ
 handed s =
-    handedAt (s .args .words .now) (s .args .area .now) (s .args .firsts .now) (s .args .starts .now) (s .args .targets .now) (s .args .live) (s .args .place)
+    handedAt (s .args .cells .now) (s .args .area .now) (s .args .firsts .now) (s .args .starts .now) (s .args .targets .now) (s .args .live) (s .args .place)
 
 body-is : (c : tie.After-field) → let s = startOf c in c .before .target .result ≡ getD (s .args .targets .now) (cell s) 0
 body-is c = rw (c .before .before .named .ensures) at (c .before .target .ensures .0)
@@ -48,13 +48,13 @@ refused-is c e =
 returns : tie.Need-returns
 returns c =
     let s = startOf (c .before .before) in
-    call-refused (refusal s) (s .args .limit) (s .args .live) (enter s) (s .args .words .now) (handed s) (refused-is (c .before) (c .if1 .taken))
+    call-refused (refusal s) (s .args .activations) (s .args .live) (enter s) (s .args .cells .now) (handed s) (refused-is (c .before) (c .if1 .taken))
 
 returns-2 : tie.Need-returns-2
 returns-2 c =
     let b = c .before in
     let s = startOf (b .before .before) in
-    call-stops (refusal s) (s .args .limit) (s .args .live) (enter s) (s .args .words .now) (handed s) (refused-is (b .before) (b .if1 .left)) (c .if2 .taken)
+    call-stops (refusal s) (s .args .activations) (s .args .live) (enter s) (s .args .cells .now) (handed s) (refused-is (b .before) (b .if1 .left)) (c .if2 .taken)
 
 arguments-requires : tie.Need-arguments-requires
 arguments-requires c κs =
@@ -70,7 +70,7 @@ returns-3 c =
     let r = b .before .before in
     let f = r .before in
     let s = startOf f in
-    let d = call-enters (refusal s) (s .args .limit) (s .args .live) (enter s) (s .args .words .now) (handed s) (refused-is r (b .before .if1 .left))
+    let d = call-enters (refusal s) (s .args .activations) (s .args .live) (enter s) (s .args .cells .now) (handed s) (refused-is r (b .before .if1 .left))
     (omega (arith, b .if2 .left)) in (
       enters-at (s .args .at) (body-is f) (c .activation-of .ensures) (f .before .before .named .ensures) (f .field .ensures .0) ∙ d .0,
       (rw (f .field .ensures .0) at (g .arguments .ensures)) ∙ d .1,

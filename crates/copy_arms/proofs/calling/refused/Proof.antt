@@ -28,8 +28,8 @@ returns c =
 formal : (c : tie.Else1) → let a = startOf (c .before) .args in operationIn (getD (a .code .now) (a .at) 0) ≡ 15
 formal c = sym (operation-is (c .before)) ∙ c .if1 .left
 
-behind : (c : tie.Else1) → let a = startOf (c .before) .args in FormalsBefore (a .code .now) (a .body)
-behind c = startOf (c .before) .pre .1 (eq-eqb _ _ (formal c))
+formals-there : (c : tie.Else1) → let a = startOf (c .before) .args in FormalsBefore (a .code .now) (a .body)
+formals-there c = startOf (c .before) .pre .1 (eq-eqb _ _ (formal c))
 
 formals-are : (c : tie.After-formals-of) → let a = startOf (formalOf c .before) .args in c .formals-of .result ≡ formalsIn (getD (a .code .now) (a .body) 0)
 formals-are c = c .formals-of .ensures .0 ∙ ap formalsIn (c .before .code-at2 .ensures .0)
@@ -44,12 +44,12 @@ counted : (c : tie.Else2) → let a = startOf (formalOf (c .before) .before) .ar
 counted c = sym (formals-are (c .before)) ∙ c .if2 .left
 
 sub-kinds-agree : tie.Need-sub-kinds-agree
-sub-kinds-agree c = omega (arith, counted c, behind (formalOf (c .before)) .before)
+sub-kinds-agree c = omega (arith, counted c, formals-there (formalOf (c .before)) .before)
 
 kinds-agree-requires : tie.Need-kinds-agree-requires
 kinds-agree-requires c κs =
     let f = formalOf (c .before) in
-    let b = behind f in
+    let b = formals-there f in
     (startOf (f .before) .pre .0, omega (arith, counted c, b .before, b .there))
 
 returns-3 : tie.Need-returns-3
@@ -61,5 +61,5 @@ returns-3 c =
 pub refused-spec : {M : Type 1} → statement M
 refused-spec =
     tie.close
-    (tie.spec (λ c κs. search needs) (λ c κs. search needs) returns (λ c κs. behind c .there) (λ c κs. search needs) returns-2 (λ c. search needs)
+    (tie.spec (λ c κs. search needs) (λ c κs. search needs) returns (λ c κs. formals-there c .there) (λ c κs. search needs) returns-2 (λ c. search needs)
     (λ c. search needs) sub-kinds-agree kinds-agree-requires returns-3)

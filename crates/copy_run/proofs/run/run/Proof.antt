@@ -10,13 +10,13 @@ use Rattle.copy_run.proofs.run.run.Statement.{statement}
 use Rattle.copy_run.proofs.run.run.Tie as tie
 
 abbrev Inv-loop : tie.InvT-loop
-Inv-loop code names words₀ area₀ width blocks₀ nexts₀ firsts₀ starts₀ targets₀ looked₀ table₀ group limit allowance here₀ left₀ words area blocks nexts firsts starts targets looked table here left =
-    ((w : Running code names limit group words₀ area₀ width blocks₀ nexts₀ firsts₀ starts₀ targets₀ looked₀ table₀ here₀)
-    → Going w allowance (arraysOf words area blocks nexts firsts starts targets looked table) here left)
+Inv-loop code names cells₀ area₀ width blocks₀ nexts₀ firsts₀ starts₀ targets₀ looked₀ table₀ limit activations allowance here₀ left₀ cells area blocks nexts firsts starts targets looked table here left =
+    ((w : Running code names activations limit cells₀ area₀ width blocks₀ nexts₀ firsts₀ starts₀ targets₀ looked₀ table₀ here₀)
+    → Going w allowance (arraysOf cells area blocks nexts firsts starts targets looked table) here left)
     × (length area ≡ length area₀) × (length table ≡ length table₀)
 
 abbrev μ-loop : tie.MeasureT-loop
-μ-loop code names words₀ area₀ width blocks₀ nexts₀ firsts₀ starts₀ targets₀ looked₀ table₀ group limit allowance here₀ left₀ words area blocks nexts firsts starts targets looked table here left =
+μ-loop code names cells₀ area₀ width blocks₀ nexts₀ firsts₀ starts₀ targets₀ looked₀ table₀ limit activations allowance here₀ left₀ cells area blocks nexts firsts starts targets looked table here left =
     left
 
 -- the places: a turn from where its step is called and from after the step, the loop, and the start
@@ -82,7 +82,7 @@ table-kept o = cc ((loopAt o) .loop .inv .2)
 abbrev foundBy : tie.At-loop Inv-loop μ-loop → Arrays
 foundBy l =
     let v = l .loop in
-    arraysOf (v .words) (v .area) (v .blocks) (v .nexts) (v .firsts) (v .starts) (v .targets) (v .looked) (v .table)
+    arraysOf (v .cells) (v .area) (v .blocks) (v .nexts) (v .firsts) (v .starts) (v .targets) (v .looked) (v .table)
 
 going : (l : tie.At-loop Inv-loop μ-loop)
     → Going ((startOf l) .pre .running) ((startOf l) .args .allowance) (foundBy l) (l .loop .here) (l .loop .left)

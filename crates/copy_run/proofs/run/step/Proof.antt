@@ -38,7 +38,7 @@ abbrev askedOf : tie.After-asked-arg2 → tie.After-place3
 askedOf c = c .before .before .before
 
 returns : tie.Need-returns
-returns c = λ w. record { ended = c .before .if1 .taken; alone = c .if2 .taken; same-words = refl; same-table = refl }
+returns c = λ w. record { ended = c .before .if1 .taken; alone = c .if2 .taken; same-cells = refl; same-table = refl }
 
 leave-requires : tie.Need-leave-requires
 leave-requires c κs =

@@ -29,10 +29,10 @@ abbrev number : Read → ℕ
 number c = c .operation-of .result
 
 abbrev F : Read → Finding
-F c = byDisplay (startOf c .args .words .now) (startOf c .args .display .now)
+F c = byDisplay (startOf c .args .cells .now) (startOf c .args .display .now)
 
 abbrev scene : Read → Scene
-scene c = let a = startOf c .args in sceneBy (a .code .now) (a .words .now) (a .limit) (a .live) (a .at)
+scene c = let a = startOf c .args in sceneBy (a .code .now) (a .cells .now) (a .activations) (a .live) (a .at)
 
 -- by the operation's number: which it is, what its function asks, and what is done once its function has
 op : (c : Read) (k : ℕ) → number c ≡ k → opOf (getD (scene c .code) (scene c .at) 0) ≡ getD operations k constant-op
@@ -55,7 +55,7 @@ unfolding operations happens
 jumped c =
     let r = c .before .before in
     let e = c .before .match .keys6 in
-    let ws = scene r .words in
+    let ws = scene r .cells in
     let w = getD (scene r .code) (scene r .at + 1) 0 in
     let first = firstCell (startOf r .args .display .now) w in
     let d = (asks r 5 e) .1 .is in

@@ -6,10 +6,10 @@ use Rattle.display_run.proofs.arms.arguments.Statement.{statement}
 use Rattle.display_run.proofs.arms.arguments.Tie as tie
 
 abbrev Inv-loop : tie.InvT-loop
-Inv-loop code words₀ display live at count first i₀ words i = Handing code words₀ display live at count words i
+Inv-loop code cells₀ display live at count first i₀ cells i = Handing code cells₀ display live at count cells i
 
 abbrev μ-loop : tie.MeasureT-loop
-μ-loop code words₀ display live at count first i₀ words i = count - i
+μ-loop code cells₀ display live at count first i₀ cells i = count - i
 
 pub arguments-spec : {M : Type 1} → statement M
 arguments-spec =

@@ -15,7 +15,7 @@ returns : tie.Need-returns
 returns c =
     let a = c .before .before .before .args in
     let e = rw (read-back _ (c .before .whole-arg .given), c .before .before .own-cell .ensures .0) at (c .whole .ensures .0) in
-    (sym (held-is (a .words .now) (firstCell (a .display .now) (a .word)) (a .word) e), c .whole .ensures .1)
+    (sym (held-is (a .cells .now) (firstCell (a .display .now) (a .word)) (a .word) e), c .whole .ensures .1)
 
 pub held-spec : {M : Type 1} → statement M
 held-spec =

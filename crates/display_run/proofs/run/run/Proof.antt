@@ -6,11 +6,11 @@ use Rattle.display_run.proofs.run.run.Statement.{statement}
 use Rattle.display_run.proofs.run.run.Tie as tie
 
 abbrev Inv-loop : tie.InvT-loop
-Inv-loop code words₀ blocks₀ nexts₀ links₀ display₀ table₀ group limit allowance here₀ left₀ words blocks nexts links display table here left =
-    Goes code limit group words₀ blocks₀ nexts₀ links₀ display₀ table₀ here₀ allowance words blocks nexts links display table here left
+Inv-loop code cells₀ blocks₀ nexts₀ links₀ display₀ table₀ limit activations allowance here₀ left₀ cells blocks nexts links display table here left =
+    Goes code activations limit cells₀ blocks₀ nexts₀ links₀ display₀ table₀ here₀ allowance cells blocks nexts links display table here left
 
 abbrev μ-loop : tie.MeasureT-loop
-μ-loop code words₀ blocks₀ nexts₀ links₀ display₀ table₀ group limit allowance here₀ left₀ words blocks nexts links display table here left =
+μ-loop code cells₀ blocks₀ nexts₀ links₀ display₀ table₀ limit activations allowance here₀ left₀ cells blocks nexts links display table here left =
     left
 
 -- the places on the way to a stop: the cause read and the halt made; the step that stops, and the loop's turn

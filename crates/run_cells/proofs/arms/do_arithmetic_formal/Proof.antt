@@ -23,7 +23,7 @@ returns c =
     let n = o .before in
     let s = startOf n in
     rw (is-plus (sym (o .code-at .ensures .0) ∙ b .if1 .taken))
-    (arithmetic-at (s .args .code .now) (s .args .words .now) (s .args .at) (firstOf n .cell .ensures .0) (secondOf n .cell2 .ensures .0)
+    (arithmetic-at (s .args .code .now) (s .args .cells .now) (s .args .at) (firstOf n .cell .ensures .0) (secondOf n .cell2 .ensures .0)
     (n .cell3 .ensures .0) plus (c .computed .ensures) (c .before .add .ensures .0) (c .before .add .ensures .1))
 
 returns-2 : tie.Need-returns-2
@@ -33,7 +33,7 @@ returns-2 c =
     let n = o .before in
     let s = startOf n in
     rw (is-minus (sym (o .code-at .ensures .0) ∙ b .if2 .taken))
-    (arithmetic-at (s .args .code .now) (s .args .words .now) (s .args .at) (firstOf n .cell .ensures .0) (secondOf n .cell2 .ensures .0)
+    (arithmetic-at (s .args .code .now) (s .args .cells .now) (s .args .at) (firstOf n .cell .ensures .0) (secondOf n .cell2 .ensures .0)
     (n .cell3 .ensures .0) minus (c .computed2 .ensures) (c .before .subtract .ensures .0) (c .before .subtract .ensures .1))
 
 returns-3 : tie.Need-returns-3
@@ -43,7 +43,7 @@ returns-3 c =
     let n = o .before in
     let s = startOf n in
     rw (is-less _ (λ e. b .before .if1 .left (o .code-at .ensures .0 ∙ e)) (λ e. b .if2 .left (o .code-at .ensures .0 ∙ e)))
-    (compare-at (s .args .code .now) (s .args .words .now) (s .args .at) (firstOf n .cell .ensures .0) (secondOf n .cell2 .ensures .0)
+    (compare-at (s .args .code .now) (s .args .cells .now) (s .args .at) (firstOf n .cell .ensures .0) (secondOf n .cell2 .ensures .0)
     (n .cell3 .ensures .0) (c .compare .ensures))
 
 pub do-arithmetic-formal-spec : {M : Type 1} → statement M

@@ -10,7 +10,7 @@ use Rattle.run_moves.specs.Acting.{sceneBy}
 use Rattle.resolved.specs.Layout.{formalsIn, activationIn, cellIn, leadIn}
 use Rattle.run_statements.specs.Doing.{number-differs, number-same, call-refused}
 use Rattle.steps.specs.Finding.{byFirst}
-use Rattle.run_cells.specs.Asking.{wordBehind}
+use Rattle.run_cells.specs.Asking.{wordAfter}
 use Rattle.run_cells.specs.Cells.{home-held, target-held}
 use Rattle.run_cells.specs.Moves.{call-formal-move}
 use borrow.Author.Needs.{needs}
@@ -18,13 +18,13 @@ use Rattle.run_cells.proofs.arms.do_call_formal.Statement.{statement}
 use Rattle.run_cells.proofs.arms.do_call_formal.Tie as tie
 
 abbrev scene : tie.Start → Scene
-scene s = sceneBy (s .args .code .now) (s .args .words .now) (s .args .limit) (s .args .live) (s .args .at)
+scene s = sceneBy (s .args .code .now) (s .args .cells .now) (s .args .activations) (s .args .live) (s .args .at)
 
 abbrev way : tie.Start → (ℕ → ℕ) → Finding
-way s firstOf = byFirst (s .args .words .now) firstOf
+way s firstOf = byFirst (s .args .cells .now) firstOf
 
 abbrev word : tie.Start → ℕ
-word s = wordBehind (s .args .code .now) (s .args .at) 1
+word s = wordAfter (s .args .code .now) (s .args .at) 1
 
 -- the places: the arguments counted, the body found, and the start
 abbrev countOf : tie.After-formals-of → tie.After-code-at
@@ -38,10 +38,10 @@ startOf b = b .before .before
 
 module _ (b : tie.After-lead-of) (firstOf : ℕ → ℕ) (p : startOf b .args .first ≡ firstOf (word (startOf b))) where
   body-is : b .lead-of .result ≡ way (startOf b) firstOf .target (word (startOf b))
-  body-is = let s = startOf b in target-held (s .args .words .now) firstOf (word s) p (s .pre .1 .is) (b .before .held .ensures .0) (b .lead-of .ensures)
+  body-is = let s = startOf b in target-held (s .args .cells .now) firstOf (word s) p (s .pre .1 .is) (b .before .held .ensures .0) (b .lead-of .ensures)
 
   home-is : {cell home : ℕ} → cell ≡ cellIn (b .before .held .result) → home ≡ activationIn cell → home ≡ way (startOf b) firstOf .home (word (startOf b))
-  home-is = let s = startOf b in home-held (s .args .words .now) firstOf (word s) p (s .pre .1 .is) (b .before .held .ensures .0)
+  home-is = let s = startOf b in home-held (s .args .cells .now) firstOf (word s) p (s .pre .1 .is) (b .before .held .ensures .0)
 
 -- how many formals the body has
 read : (m : tie.After-formals-of) → let b = leadOf m in m .formals-of .result ≡ formalsIn (getD (startOf b .args .code .now) (b .lead-of .result) 0)

@@ -8,7 +8,7 @@ returns : tie.Need-returns
 returns c =
     let n = c .before in
     let s = n .before .before .before in
-    constant-at (s .args .code .now) (s .args .words .now) (s .args .at) (n .cell .ensures .0) (c .constant .ensures .0) (c .constant .ensures .1)
+    constant-at (s .args .code .now) (s .args .cells .now) (s .args .at) (n .cell .ensures .0) (c .constant .ensures .0) (c .constant .ensures .1)
 
 pub do-constant-formal-spec : {M : Type 1} → statement M
 do-constant-formal-spec = tie.close (tie.spec (λ c. search needs) (λ c κs. search needs) (λ c κs. search needs) returns)

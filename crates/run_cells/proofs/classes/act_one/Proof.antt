@@ -5,7 +5,7 @@ use lib.ListN.{getD}
 use Rattle.run_moves.specs.Acting.{Finding, Scene, sceneBy, Op, goto-op, block-op, call-op, constant-formal-op, goto-formal-op, call-formal-op}
 use Rattle.run_moves.specs.Acting.{operations, opOf, happens}
 use Rattle.steps.specs.Finding.{byFirst}
-use Rattle.run_cells.specs.Asking.{wordBehind, Ready, Leads}
+use Rattle.run_cells.specs.Asking.{wordAfter, Ready, Leads}
 use Rattle.run_cells.specs.Cells.{home-own, target-own, goto-own}
 use Rattle.run_cells.specs.Moves.{did, constant-did, goto-did, block-did, call-did, call-formal-did}
 use Rattle.run_cells.specs.Classes.{numbered, op-at, call-left}
@@ -14,10 +14,10 @@ use Rattle.run_cells.proofs.classes.act_one.Statement.{statement}
 use Rattle.run_cells.proofs.classes.act_one.Tie as tie
 
 abbrev way : tie.Start → (ℕ → ℕ) → Finding
-way s firstOf = byFirst (s .args .words .now) firstOf
+way s firstOf = byFirst (s .args .cells .now) firstOf
 
 abbrev scene : tie.Start → Scene
-scene s = sceneBy (s .args .code .now) (s .args .words .now) (s .args .limit) (s .args .live) (s .args .at)
+scene s = sceneBy (s .args .code .now) (s .args .cells .now) (s .args .activations) (s .args .live) (s .args .at)
 
 abbrev opAt : tie.Start → Op
 opAt s = opOf (getD (s .args .code .now) (s .args .at) 0)
@@ -26,7 +26,7 @@ abbrev Found : tie.Start → (ℕ → ℕ) → Op → Type 0
 Found s firstOf p = Leads firstOf (s .args .code .now) (s .args .at) (s .args .first) 0 0 p
 
 abbrev ReadyFor : tie.Start → Op → Type 0
-ReadyFor s p = Ready (s .args .code .now) (s .args .words .now) (s .args .limit) (s .args .live) (s .args .at) (s .args .first) 0 0 p
+ReadyFor s p = Ready (s .args .code .now) (s .args .cells .now) (s .args .activations) (s .args .live) (s .args .at) (s .args .first) 0 0 p
 
 -- the operation at the place
 abbrev startOf : tie.After-operation-of → tie.Start
@@ -84,7 +84,7 @@ returns c =
     let g = leads s goto-op e firstOf l in
     did (way s firstOf) (scene s) goto-op e
     (goto-did (way s firstOf) (scene s)
-    (goto-own (s .args .code .now) (s .args .words .now) (s .args .at) (c .do-goto .ensures) (ready s goto-op e .1 .is) firstOf g))
+    (goto-own (s .args .code .now) (s .args .cells .now) (s .args .at) (c .do-goto .ensures) (ready s goto-op e .1 .is) firstOf g))
 
 returns-2 : tie.Need-returns-2
 unfolding operations happens
@@ -104,10 +104,10 @@ returns-3 c =
     let s = startOf (m .before) in
     let e = op (m .before) 7 (m .match .keys3) in
     let g = leads s call-op e firstOf l in
-    let w = wordBehind (s .args .code .now) (s .args .at) 1 in
+    let w = wordAfter (s .args .code .now) (s .args .at) 1 in
     let d = ready s call-op e .1 .is in
     did (way s firstOf) (scene s) call-op e
-    (call-did (way s firstOf) (scene s) (home-own (s .args .words .now) firstOf w g d) (target-own (s .args .words .now) firstOf w g d)
+    (call-did (way s firstOf) (scene s) (home-own (s .args .cells .now) firstOf w g d) (target-own (s .args .cells .now) firstOf w g d)
     (c .do-call .ensures))
 
 returns-4 : tie.Need-returns-4

@@ -19,7 +19,7 @@ returns c =
     let f = c .before .before in
     let s = f .before .before in
     let d : direct (word s) ≡ true = sym (ap direct (f .before .code-at .ensures .0)) ∙ is-direct _ (sym (f .formal-of .ensures .0) ∙ c .before .if1 .taken) in
-    (direct-cell (s .args .words .now) (s .args .first) (word s) (c .own .ensures .0) d, c .own .ensures .1)
+    (direct-cell (s .args .cells .now) (s .args .first) (word s) (c .own .ensures .0) d, c .own .ensures .1)
 
 abbrev startOf : tie.Else1 → tie.Start
 startOf c = c .before .before .before
@@ -36,7 +36,7 @@ returns-2 : tie.Need-returns-2
 returns-2 c =
     let h = c .before in
     let s = startOf (h .before) in
-    (c .cell-of .ensures .0 ∙ held-cell (s .args .words .now) (s .args .first) (word s) (formal (h .before)) (h .held .ensures .0), c .cell-of .ensures .1)
+    (c .cell-of .ensures .0 ∙ held-cell (s .args .cells .now) (s .args .first) (word s) (formal (h .before)) (h .held .ensures .0), c .cell-of .ensures .1)
 
 pub cell-spec : {M : Type 1} → statement M
 cell-spec = tie.close (tie.spec (λ c κs. search needs) (λ c κs. search needs) (λ c κs. search needs) returns held-requires (λ c κs. search needs) returns-2)

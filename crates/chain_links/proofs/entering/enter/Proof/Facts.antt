@@ -20,7 +20,7 @@ use Rattle.chain_links.specs.Running.{activationOf, enteredBy, Succeeds}
 use Rattle.chain_links.specs.Moving.{Fits, entry-fits, enters-to}
 use Rattle.chain_links.proofs.entering.enter.Proof.Said.{Pre, Said, arguments-end-asks, arguments-end-says, hand-asks, hand-says, read-asks, read-says, with-next-asks, with-next-says, push-asks, push-says, begun-asks, begun-says, entered-asks, entered-says}
 
-module _ (code : List ℕ) (words : List ℤ) (records : List Activation) (here : Registers) (entry : Entry) where
+module _ (code : List ℕ) (cells : List ℤ) (records : List Activation) (here : Registers) (entry : Entry) where
   abbrev live : ℕ
   live = here .live
 
@@ -31,13 +31,13 @@ module _ (code : List ℕ) (words : List ℤ) (records : List Activation) (here 
   made = activationOf code (entry .body) (entry .link)
 
   abbrev handed : List ℤ
-  handed = handedOn code words records here
+  handed = handedOn code cells records here
 
   -- what `entered` does to the words
   abbrev Clears : ℕ → List ℤ → List ℤ → Type 0
-  Clears block words₁ words₂ = Cleared words₁ (cellFrom fresh (formalsIn (getD code block 0))) (cellFrom fresh (namesIn (getD code block 0))) words₂
+  Clears block cells₁ cells₂ = Cleared cells₁ (cellFrom fresh (formalsIn (getD code block 0))) (cellFrom fresh (namesIn (getD code block 0))) cells₂
 
-  module _ (pre : Pre code words records here entry) where
+  module _ (pre : Pre code cells records here entry) where
     fitting : Fits (pre .running) (entry .body) (entry .link) (entry .back) handed (pre .enters)
     fitting = entry-fits (pre .running) (entry .body) (entry .link) (entry .back) handed (pre .enters)
 
@@ -63,7 +63,7 @@ module _ (code : List ℕ) (words : List ℤ) (records : List Activation) (here 
       pub asks-hand : hand-asks code records here last
       asks-hand = subst (hand-asks code records here) (sym last-is) (pre .handing)
 
-      module _ (words₁ : List ℤ) (said : hand-says code words records here last words₁) (own : Activation) (own-is : read-says records live own) (old : Activation)
+      module _ (cells₁ : List ℤ) (said : hand-says code cells records here last cells₁) (own : Activation) (own-is : read-says records live own) (old : Activation)
           (old-is : with-next-says own (entry .back) old) (records₁ : List Activation) (wrote : push-says records live old records₁)
           (long₁ : length records₁ ≡ length records) (new : Activation) (new-is : begun-says code entry new) where
         -- the caller's record keeps the place to come back to
@@ -83,21 +83,21 @@ module _ (code : List ℕ) (words : List ℤ) (records : List Activation) (here 
         asks-entered = subst (entered-asks code here) (sym new-is) (fitting .body-within, fitting .room-next .few, fitting .formals-few, fitting .names-few)
 
         module _ (records₂ : List Activation) (wrote-new : push-says records₁ fresh new records₂) (long₂ : length records₂ ≡ length records₁) (r : Registers)
-            (words₂ : List ℤ) (came : entered-says code words₁ here new r words₂) where
+            (cells₂ : List ℤ) (came : entered-says code cells₁ here new r cells₂) where
           pushed-there : Pushed records₁ records₂ fresh (entry .body) (made .next) (entry .link)
           pushed-there =
               subst (λ (T : Type 0). T) (λ i. Pushed records₁ (sym wrote-new i) fresh (new-is i .block) (new-is i .next) (new-is i .link))
               (pushed records₁ fresh new room-there)
 
-          handed-on : words₁ ≡ handed
-          handed-on = said ∙ ap (λ (n : ℕ). setAll words (32 * live + 32) (argumentsFrom (byChain words records live (here .level))
-              (only-words code words (here .at)) (here .at + 3) (n - 3))) last-is
+          handed-on : cells₁ ≡ handed
+          handed-on = said ∙ ap (λ (n : ℕ). setAll cells (32 * live + 32) (argumentsFrom (byChain cells records live (here .level))
+              (only-words code cells (here .at)) (here .at + 3) (n - 3))) last-is
 
-          cleared-there : Clears (entry .body) handed words₂
-          cleared-there = subst (λ (T : Type 0). T) (λ i. Clears (new-is i .block) (handed-on i) words₂) (came .1)
+          cleared-there : Clears (entry .body) handed cells₂
+          cleared-there = subst (λ (T : Type 0). T) (λ i. Clears (new-is i .block) (handed-on i) cells₂) (came .1)
 
-          pub says : Said code words records here entry r words₂ records₂
+          pub says : Said code cells records here entry r cells₂ records₂
           says w =
-              subst (λ (n : Registers). Succeeds (w .running) words₂ records₂ (w .table) n) (sym (came .0 ∙ ap (enteredBy code here) new-is))
+              subst (λ (n : Registers). Succeeds (w .running) cells₂ records₂ (w .table) n) (sym (came .0 ∙ ap (enteredBy code here) new-is))
               (enters-to (w .running) (entry .body) (entry .link) (entry .back) handed (w .enters) (getD code (entry .body) 0)
-              (getD code (entry .body + 1) 0) refl refl records₁ records₂ next-there pushed-there words₂ cleared-there)
+              (getD code (entry .body + 1) 0) refl refl records₁ records₂ next-there pushed-there cells₂ cleared-there)

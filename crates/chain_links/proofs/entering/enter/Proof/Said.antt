@@ -16,10 +16,10 @@ use mathlib.Core.List.{List}
 use mathlib.Core.Path.{_≡_}
 
 abbrev pub Pre : List ℕ → List ℤ → List (recs .type .Denot) → registers .type .Denot → entries .type .Denot → Type 0
-Pre code words records here entry = EnterReady code words records here entry
+Pre code cells records here entry = EnterReady code cells records here entry
 
 abbrev pub Said : List ℕ → List ℤ → List (recs .type .Denot) → registers .type .Denot → entries .type .Denot → registers .type .Denot → List ℤ → List (recs .type .Denot) → Type 0
-Said code words records here entry r words′ records′ = ((w : EnterReady code words records here entry) → Succeeds (w .running) words′ records′ (w .table) r)
+Said code cells records here entry r cells′ records′ = ((w : EnterReady code cells records here entry) → Succeeds (w .running) cells′ records′ (w .table) r)
 
 abbrev pub arguments-end-asks : registers .type .Denot → Type 0
 arguments-end-asks here = here .at + 3 ≤ 4096
@@ -31,7 +31,7 @@ abbrev pub hand-asks : List ℕ → List (recs .type .Denot) → registers .type
 hand-asks code records here last = Handing code records here last
 
 abbrev pub hand-says : List ℕ → List ℤ → List (recs .type .Denot) → registers .type .Denot → ℕ → List ℤ → Type 0
-hand-says code words records here last words′ = words′ ≡ setAll words (32 * here .live + 32) (argumentsFrom (byChain words records (here .live) (here .level)) (only-words code words (here .at)) (here .at + 3) (last - 3))
+hand-says code cells records here last cells′ = cells′ ≡ setAll cells (32 * here .live + 32) (argumentsFrom (byChain cells records (here .live) (here .level)) (only-words code cells (here .at)) (here .at + 3) (last - 3))
 
 abbrev pub read-asks : List (recs .type .Denot) → ℕ → Type 0
 read-asks records k = k < length records
@@ -61,4 +61,4 @@ abbrev pub entered-asks : List ℕ → registers .type .Denot → recs .type .De
 entered-asks code here activation = (activation .block + 3 ≤ 4096) × (here .live + 1 < 256) × (formalsIn (getD code (activation .block) 0) ≤ 32) × (namesIn (getD code (activation .block) 0) ≤ 32)
 
 abbrev pub entered-says : List ℕ → List ℤ → registers .type .Denot → recs .type .Denot → registers .type .Denot → List ℤ → Type 0
-entered-says code words here activation r words′ = (r ≡ enteredBy code here activation) × Cleared words (cellFrom (here .live + 1) (formalsIn (getD code (activation .block) 0))) (cellFrom (here .live + 1) (namesIn (getD code (activation .block) 0))) words′
+entered-says code cells here activation r cells′ = (r ≡ enteredBy code here activation) × Cleared cells (cellFrom (here .live + 1) (formalsIn (getD code (activation .block) 0))) (cellFrom (here .live + 1) (namesIn (getD code (activation .block) 0))) cells′

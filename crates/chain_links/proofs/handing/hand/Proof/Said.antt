@@ -16,7 +16,7 @@ abbrev pub Pre : List ℕ → List (recs .type .Denot) → registers .type .Deno
 Pre code records here last = Handing code records here last
 
 abbrev pub Said : List ℕ → List ℤ → List (recs .type .Denot) → registers .type .Denot → ℕ → List ℤ → Type 0
-Said code words records here last words′ = words′ ≡ setAll words (32 * here .live + 32) (argumentsFrom (byChain words records (here .live) (here .level)) (only-words code words (here .at)) (here .at + 3) (last - 3))
+Said code cells records here last cells′ = cells′ ≡ setAll cells (32 * here .live + 32) (argumentsFrom (byChain cells records (here .live) (here .level)) (only-words code cells (here .at)) (here .at + 3) (last - 3))
 
 abbrev pub first-cell-asks : List ℕ → List (recs .type .Denot) → registers .type .Denot → ℕ → ℕ → Type 0
 first-cell-asks code records here own field = Named code records here field × (own ≡ 32 * here .live)
@@ -28,4 +28,4 @@ abbrev pub pass-asks : List ℕ → registers .type .Denot → ℕ → ℕ → T
 pass-asks code here field first = Passing code here field first
 
 abbrev pub pass-says : List ℕ → List ℤ → registers .type .Denot → ℕ → ℕ → List ℤ → Type 0
-pass-says code words here field first words′ = words′ ≡ set words (32 * here .live + 32 + (field - 3)) (handedWord words (getD code (here .at + field) 0) (first + positionIn (getD code (here .at + field) 0)))
+pass-says code cells here field first cells′ = cells′ ≡ set cells (32 * here .live + 32 + (field - 3)) (handedWord cells (getD code (here .at + field) 0) (first + positionIn (getD code (here .at + field) 0)))

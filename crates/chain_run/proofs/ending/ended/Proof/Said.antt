@@ -19,10 +19,10 @@ use mathlib.Core.List.{List}
 use mathlib.Core.Path.{_≡_}
 
 abbrev pub Pre : List ℕ → List ℤ → List (recs .type .Denot) → registers .type .Denot → turns .type .Denot → ℕ → ℕ → Type 0
-Pre code words records here turn allowance left = Ending code words records here turn allowance left
+Pre code cells records here turn allowance left = Ending code cells records here turn allowance left
 
 abbrev pub Said : List ℕ → List ℤ → List (recs .type .Denot) → registers .type .Denot → turns .type .Denot → ℕ → ℕ → halts .type .Denot → List (recs .type .Denot) → Type 0
-Said code words records here turn allowance left r records′ = ((e : Ending code words records here turn allowance left) → RunFrom (e .from) allowance r words records′ (e .table))
+Said code cells records here turn allowance left r records′ = ((e : Ending code cells records here turn allowance left) → RunFrom (e .from) allowance r cells records′ (e .table))
 
 abbrev pub is-finished-says : turns .type .Denot → Bool → Type 0
 is-finished-says turn r = r ≡ isFinished turn
@@ -34,10 +34,10 @@ abbrev pub finished-halt-says : registers .type .Denot → ℕ → ℕ → halts
 finished-halt-says here allowance left r = r ≡ finishedAfter here (allowance - left + 1)
 
 abbrev pub settle-asks : List ℕ → List ℤ → List (recs .type .Denot) → registers .type .Denot → Type 0
-settle-asks code words records here = Looking code words records here × (here .at < 65536)
+settle-asks code cells records here = Looking code cells records here × (here .at < 65536)
 
 abbrev pub settle-says : List ℕ → List ℤ → List (recs .type .Denot) → registers .type .Denot → founds .type .Denot → List (recs .type .Denot) → Type 0
-settle-says code words records here r records′ = ((w : Looking code words records here) → r ≡ foundIn (w .running .standing .stack .frames) (w .running .standing .name)) × (records′ ≡ set records (here .live) (withNext (at records (here .live)) (here .at)))
+settle-says code cells records here r records′ = ((w : Looking code cells records here) → r ≡ foundIn (w .running .standing .stack .frames) (w .running .standing .name)) × (records′ ≡ set records (here .live) (withNext (at records (here .live)) (here .at)))
 
 abbrev pub halted-asks : registers .type .Denot → ℕ → ℕ → Type 0
 halted-asks here allowance left = (left ≤ allowance) × (here .at ≤ 4096) × (here .live < 256)

@@ -16,28 +16,28 @@ use mathlib.Core.List.{List}
 use mathlib.Core.Path.{_≡_}
 
 abbrev pub Pre : List ℕ → List ℤ → List (recs .type .Denot) → List ℤ → ℕ → ℕ → registers .type .Denot → Type 0
-Pre code words records table group limit start = Running code limit group words records table start
+Pre code cells records table limit activations start = Running code activations limit cells records table start
 
 abbrev pub Said : List ℕ → List ℤ → List (recs .type .Denot) → List ℤ → ℕ → ℕ → ℕ → registers .type .Denot → halts .type .Denot → List ℤ → List (recs .type .Denot) → List ℤ → Type 0
-Said code words records table group limit allowance start r words′ records′ table′ = ((w : Running code limit group words records table start) → RunFrom w allowance r words′ records′ table′)
+Said code cells records table limit activations allowance start r cells′ records′ table′ = ((w : Running code activations limit cells records table start) → RunFrom w allowance r cells′ records′ table′)
 
 abbrev pub went-says : registers .type .Denot → turns .type .Denot → Type 0
 went-says next r = r ≡ Went next
 
 abbrev pub step-asks : List ℕ → List ℤ → List (recs .type .Denot) → List ℤ → ℕ → ℕ → registers .type .Denot → Type 0
-step-asks code words records table group limit here = Running code limit group words records table here
+step-asks code cells records table limit activations here = Running code activations limit cells records table here
 
 abbrev pub step-says : List ℕ → List ℤ → List (recs .type .Denot) → List ℤ → ℕ → ℕ → registers .type .Denot → turns .type .Denot → List ℤ → List (recs .type .Denot) → List ℤ → Type 0
-step-says code words records table group limit here r words′ records′ table′ = ((w : Running code limit group words records table here) → Turned w r words′ records′ table′)
+step-says code cells records table limit activations here r cells′ records′ table′ = ((w : Running code activations limit cells records table here) → Turned w r cells′ records′ table′)
 
 abbrev pub halts-says : turns .type .Denot → Bool → Type 0
 halts-says turn r = r ≡ not (isWent turn)
 
 abbrev pub ended-asks : List ℕ → List ℤ → List (recs .type .Denot) → registers .type .Denot → turns .type .Denot → ℕ → ℕ → Type 0
-ended-asks code words records here turn allowance left = Ending code words records here turn allowance left
+ended-asks code cells records here turn allowance left = Ending code cells records here turn allowance left
 
 abbrev pub ended-says : List ℕ → List ℤ → List (recs .type .Denot) → registers .type .Denot → turns .type .Denot → ℕ → ℕ → halts .type .Denot → List (recs .type .Denot) → Type 0
-ended-says code words records here turn allowance left r records′ = ((e : Ending code words records here turn allowance left) → RunFrom (e .from) allowance r words records′ (e .table))
+ended-says code cells records here turn allowance left r records′ = ((e : Ending code cells records here turn allowance left) → RunFrom (e .from) allowance r cells records′ (e .table))
 
 abbrev pub next-of-says : registers .type .Denot → turns .type .Denot → registers .type .Denot → Type 0
 next-of-says here turn r = r ≡ nextIn here turn

@@ -11,8 +11,8 @@ use Rattle.chain_links.specs.Running.{activationOf}
 use Rattle.chain_run.specs.Ending.{room-first, starts, program-run}
 use Rattle.chain_run.proofs.run.run_program.Proof.Said.{Pre, Said, program-record-says, push-asks, push-says, begin-says, run-asks, run-says}
 
-module _ (code : List ℕ) (words : List ℤ) (records : List Activation) (table : List ℤ) (pairs group limit allowance : ℕ)
-    (pre : Pre code words records table pairs group limit) where
+module _ (code : List ℕ) (cells : List ℤ) (records : List Activation) (table : List ℤ) (pairs limit activations allowance : ℕ)
+    (pre : Pre code cells records table pairs limit activations) where
   pub asks-push : push-asks records 0
   asks-push = room-first pre .there
 
@@ -21,10 +21,10 @@ module _ (code : List ℕ) (words : List ℤ) (records : List Activation) (table
     written : records′ ≡ set records 0 (activationOf code 0 0)
     written = pushed ∙ ap (set records 0) new-is
 
-    pub asks-run : run-asks code words records′ table group limit start
+    pub asks-run : run-asks code cells records′ table limit activations start
     asks-run = starts pre records′ written start start-is
 
-    module _ (r : Halt) (words′ : List ℤ) (records″ : List Activation) (table′ : List ℤ)
-        (said : run-says code words records′ table group limit allowance start r words′ records″ table′) where
-      pub says : Said code words records table pairs group limit allowance r words′ records″ table′
-      says b = program-run b records′ written start start-is allowance r words′ records″ table′ said
+    module _ (r : Halt) (cells′ : List ℤ) (records″ : List Activation) (table′ : List ℤ)
+        (said : run-says code cells records′ table limit activations allowance start r cells′ records″ table′) where
+      pub says : Said code cells records table pairs limit activations allowance r cells′ records″ table′
+      says b = program-run b records′ written start start-is allowance r cells′ records″ table′ said

@@ -7,17 +7,17 @@ use Rattle.chain_run.proofs.Rows.{halts}
 use Rattle.chain_run.specs.Ending.{startBy}
 use Rattle.chain_run.specs.Running.{Beginning, Ended, RunFrom}
 use Rattle.frames.specs.Frame.{frameRun, frameStart}
-use Rattle.run_state.specs.Scenes.{limitsBy}
+use Rattle.run_state.specs.Limits.{limitsBy}
 use lib.IntN.{ℤ}
 use lib.ListN.{length, set}
 use mathlib.Core.List.{List}
 use mathlib.Core.Path.{_≡_}
 
 abbrev pub Pre : List ℕ → List ℤ → List (recs .type .Denot) → List ℤ → ℕ → ℕ → ℕ → Type 0
-Pre code words records table pairs group limit = Beginning code words records table pairs group limit
+Pre code cells records table pairs limit activations = Beginning code cells records table pairs limit activations
 
 abbrev pub Said : List ℕ → List ℤ → List (recs .type .Denot) → List ℤ → ℕ → ℕ → ℕ → ℕ → halts .type .Denot → List ℤ → List (recs .type .Denot) → List ℤ → Type 0
-Said code words records table pairs group limit allowance r words′ records′ table′ = ((b : Beginning code words records table pairs group limit) → Ended (b .program) (b .name) limit group (frameRun (limitsBy limit group) allowance (frameStart (b .program) (record { words = table; used = pairs }))) r words′ records′ table′)
+Said code cells records table pairs limit activations allowance r cells′ records′ table′ = ((b : Beginning code cells records table pairs limit activations) → Ended (b .program) (b .name) activations limit (frameRun (limitsBy activations limit) allowance (frameStart (b .program) (record { words = table; used = pairs }))) r cells′ records′ table′)
 
 abbrev pub program-record-says : List ℕ → recs .type .Denot → Type 0
 program-record-says code r = r ≡ activationOf code 0 0
@@ -32,7 +32,7 @@ abbrev pub begin-says : List ℕ → ℕ → registers .type .Denot → Type 0
 begin-says code pairs r = r ≡ startBy code pairs
 
 abbrev pub run-asks : List ℕ → List ℤ → List (recs .type .Denot) → List ℤ → ℕ → ℕ → registers .type .Denot → Type 0
-run-asks code words records table group limit start = Running code limit group words records table start
+run-asks code cells records table limit activations start = Running code activations limit cells records table start
 
 abbrev pub run-says : List ℕ → List ℤ → List (recs .type .Denot) → List ℤ → ℕ → ℕ → ℕ → registers .type .Denot → halts .type .Denot → List ℤ → List (recs .type .Denot) → List ℤ → Type 0
-run-says code words records table group limit allowance start r words′ records′ table′ = ((w : Running code limit group words records table start) → RunFrom w allowance r words′ records′ table′)
+run-says code cells records table limit activations allowance start r cells′ records′ table′ = ((w : Running code activations limit cells records table start) → RunFrom w allowance r cells′ records′ table′)

@@ -14,9 +14,9 @@ use Rattle.chain_records.specs.declared.Activation.{Activation}
 use Rattle.chain_links.specs.Records.{blocksIn, nextsIn, column-read}
 use Rattle.chain_run.proofs.sheet.write_sheet.Proof.Said.{Pre, Said, read-asks, read-says, write-record-asks, write-record-says}
 
-module _ (code : List ℕ) (words : List ℤ) (records : List Activation) (live : ℕ) (sheet₀ : List ℤ) where
+module _ (code : List ℕ) (cells : List ℤ) (records : List Activation) (live : ℕ) (sheet₀ : List ℤ) where
   abbrev Holds : List Frame → Type 0
-  Holds fs = Held code words (blocksIn records) (nextsIn records) fs
+  Holds fs = Held code cells (blocksIn records) (nextsIn records) fs
 
   -- of the first so many activations
   abbrev Shows : ℕ → ℕ → List ℤ → Type 0
@@ -32,7 +32,7 @@ module _ (code : List ℕ) (words : List ℤ) (records : List Activation) (live 
     pub as-long : length sheet ≡ length sheet₀
     pub shows : Shows k at sheet
 
-  module _ (pre : Pre code words records live sheet₀) where
+  module _ (pre : Pre code cells records live sheet₀) where
     abbrev frames : List Frame
     frames = pre .0 .0
 
@@ -53,7 +53,7 @@ module _ (code : List ℕ) (words : List ℤ) (records : List Activation) (live 
       size = live - t .k
 
       module _ (none : t .k < live → ⊥) where
-        pub says : Said code words records live sheet₀ (t .at) (t .sheet)
+        pub says : Said code cells records live sheet₀ (t .at) (t .sheet)
         says fs h l =
             let r = t .shows fs h l in
             let all : take (t .k) fs ≡ fs = take-all (t .k) fs (omega (arith, l, none)) in
@@ -76,7 +76,7 @@ module _ (code : List ℕ) (words : List ℤ) (records : List Activation) (live 
           next-is : own .next ≡ getD (nextsIn records) (t .k) 0
           next-is = ap (λ (a : Activation). a .next) is ∙ sym (column-read (λ a. a .next) records (t .k) (omega (arith, few)))
 
-          pub asks-write-record : write-record-asks code words own (t .k) (t .sheet) (t .at)
+          pub asks-write-record : write-record-asks code cells own (t .k) (t .sheet) (t .at)
           asks-write-record =
               let w = getElem-in frames (t .k) (omega (arith, as-many)) in
               let f = held .bounded (t .k) (w .0) (w .1) in (
@@ -90,7 +90,7 @@ module _ (code : List ℕ) (words : List ℤ) (records : List Activation) (live 
               )
 
           module _ (r : ℕ) (sheet : List ℤ)
-              (said : write-record-says code words own (t .k) (t .sheet) (t .at) r sheet) (long : length sheet ≡ length (t .sheet)) where
+              (said : write-record-says code cells own (t .k) (t .sheet) (t .at) r sheet) (long : length sheet ≡ length (t .sheet)) where
             pub shows-on : Shows (t .k + 1) r sheet
             shows-on fs h l =
                 let w = getElem-in fs (t .k) (omega (arith, l)) in

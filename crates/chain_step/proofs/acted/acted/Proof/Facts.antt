@@ -19,7 +19,7 @@ use Rattle.chain_step.specs.Acted as acts
 use Rattle.chain_step.specs.Acted.{happening}
 use Rattle.chain_step.proofs.acted.acted.Proof.Said.{Pre, Said, class-of-asks, class-of-says, only-hops-asks, only-hops-says, follow-asks, follow-says, act-one-asks, act-one-says, first-cell-asks, first-cell-says, act-branch-asks, act-branch-says, do-constant-asks, do-constant-says, tabled-asks, tabled-says, summed-asks, summed-says, came-to-says}
 
-module _ (code : List ℕ) (words : List ℤ) (records : List Activation) (limit : ℕ) (here : Registers) (pre : Pre code words records limit here) where
+module _ (code : List ℕ) (cells : List ℤ) (records : List Activation) (activations : ℕ) (here : Registers) (pre : Pre code cells records activations here) where
   abbrev firstOf : ℕ → ℕ
   firstOf = firstCell records (here .live) (here .level)
 
@@ -29,9 +29,9 @@ module _ (code : List ℕ) (words : List ℤ) (records : List Activation) (limit
   abbrev own : ℕ
   own = 32 * here .live
 
-  so : {r : Move} {m : Moved} → came-to-says here r m → {words′ : List ℤ} → Did (happening code words records limit here) words r words′
-      → Said code words records limit here m words′
-  so {r} e did = record { move = r; did = did; so = e }
+  so : {r : Move} {m : Moved} → came-to-says here r m → {cells′ : List ℤ} → Did (happening code cells records activations here) cells r cells′
+      → Said code cells records activations here m cells′
+  so {r} e did = record { move = r; did = did; is = e }
 
   pub asks-class-of : class-of-asks (here .at)
   asks-class-of = acts.at-there pre
@@ -57,12 +57,12 @@ module _ (code : List ℕ) (words : List ℤ) (records : List Activation) (limit
             acts.only-led pre (32 * k) (ap (λ (m : ℕ). 32 * m) (found .0 ∙ hop-follows (linked (pre .running)) (here .live) n (omega arith)
             ∙ ap (follows (linksIn records) (here .live)) n-is)) (sym is ∙ e)
 
-        pub asks-act-one : act-one-asks code words limit (here .live) (here .at) (32 * k)
+        pub asks-act-one : act-one-asks code cells activations (here .live) (here .at) (32 * k)
         asks-act-one =
-            (acts.at-there pre, sym is ∙ e, acts.ready pre limit (here .live) (acts.limit-high pre) (acts.live-low pre) (32 * k) 0 0 led)
+            (acts.at-there pre, sym is ∙ e, acts.ready pre activations (here .live) (acts.limit-high pre) (acts.live-low pre) (32 * k) 0 0 led)
 
-        module _ (r : Move) (words′ : List ℤ) (did : act-one-says code words limit (here .live) (here .at) (32 * k) r words′) (m : Moved) (m-is : came-to-says here r m) where
-          pub says-1 : Said code words records limit here m words′
+        module _ (r : Move) (cells′ : List ℤ) (did : act-one-says code cells activations (here .live) (here .at) (32 * k) r cells′) (m : Moved) (m-is : came-to-says here r m) where
+          pub says-1 : Said code cells records activations here m cells′
           says-1 = so m-is (did firstOf led)
 
     module _ (not-one : class ≡ oneClass → ⊥) where
@@ -78,12 +78,12 @@ module _ (code : List ℕ) (words : List ℤ) (records : List Activation) (limit
           both-led : Led a b
           both-led = acts.by-class pre branchClass (sym is ∙ e) .led a b a-is b-is
 
-          pub asks-act-branch : act-branch-asks code words (here .at) a b
+          pub asks-act-branch : act-branch-asks code cells (here .at) a b
           asks-act-branch = (acts.at-there pre, sym is ∙ e, acts.ready pre 0 0 (omega arith) (omega arith) a b 0 both-led)
 
-          module _ (r : Move) (did : act-branch-says code words (here .at) a b r) (m : Moved) (m-is : came-to-says here r m) where
-            pub says-2 : Said code words records limit here m words
-            says-2 = so m-is (did firstOf limit (here .live) both-led)
+          module _ (r : Move) (did : act-branch-says code cells (here .at) a b r) (m : Moved) (m-is : came-to-says here r m) where
+            pub says-2 : Said code cells records activations here m cells
+            says-2 = so m-is (did firstOf activations (here .live) both-led)
 
       module _ (not-branch : class ≡ branchClass → ⊥) where
         module _ (e : class ≡ constantClass) where
@@ -91,27 +91,27 @@ module _ (code : List ℕ) (words : List ℤ) (records : List Activation) (limit
           asks-first-cell-3 = (acts.stores pre (sym is ∙ e) .named, refl)
 
           module _ (a : ℕ) (a-is : first-cell-says code records here 1 a) where
-            pub asks-do-constant : do-constant-asks code words (here .at) a
+            pub asks-do-constant : do-constant-asks code cells (here .at) a
             asks-do-constant = acts.stores pre (sym is ∙ e) .asks a a-is
 
-            module _ (r : Move) (words′ : List ℤ) (did : do-constant-says code words (here .at) a r words′) (m : Moved) (m-is : came-to-says here r m) where
-              pub says-3 : Said code words records limit here m words′
+            module _ (r : Move) (cells′ : List ℤ) (did : do-constant-says code cells (here .at) a r cells′) (m : Moved) (m-is : came-to-says here r m) where
+              pub says-3 : Said code cells records activations here m cells′
               says-3 = so m-is (acts.stores pre (sym is ∙ e) .did (did firstOf a-is))
 
         module _ (other : class ≡ constantClass → ⊥) where
           module _ (low : branchClass < class) where
-            abbrev pub asks-tabled : tabled-asks code words records here own class
-            asks-tabled = record { limit = limit; stating = pre; chosen = record { own-is = refl; class-is = is }; low = low; other = other }
+            abbrev pub asks-tabled : tabled-asks code cells records here own class
+            asks-tabled = record { activations = activations; stating = pre; chosen = record { own-is = refl; class-is = is }; low = low; other = other }
 
-            module _ (m : Moved) (did : tabled-says code words records here own class m) where
-              pub says-4 : Said code words records limit here m words
+            module _ (m : Moved) (did : tabled-says code cells records here own class m) where
+              pub says-4 : Said code cells records activations here m cells
               says-4 = did asks-tabled
 
           module _ (not-more : branchClass < class → ⊥) where
-            abbrev pub asks-summed : summed-asks code words records here own class
+            abbrev pub asks-summed : summed-asks code cells records here own class
             asks-summed =
-                record { limit = limit; stating = pre; chosen = record { own-is = refl; class-is = is }; low = omega arith; high = omega arith }
+                record { activations = activations; stating = pre; chosen = record { own-is = refl; class-is = is }; low = omega arith; high = omega arith }
 
-            module _ (m : Moved) (words′ : List ℤ) (did : summed-says code words records here own class m words′) where
-              pub says-5 : Said code words records limit here m words′
+            module _ (m : Moved) (cells′ : List ℤ) (did : summed-says code cells records here own class m cells′) where
+              pub says-5 : Said code cells records activations here m cells′
               says-5 = did asks-summed

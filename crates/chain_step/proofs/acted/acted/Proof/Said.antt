@@ -9,7 +9,7 @@ use Rattle.chain_step.specs.Acted.{Stating, Does, happening, onlyHops, T
 use Rattle.chain_step.specs.Moved.{movedBy}
 use Rattle.resolved.specs.Layout.{operationIn}
 use Rattle.resolved.specs.Resolved.{levelIn}
-use Rattle.run_cells.specs.Asking.{classOf, Ready, oneClass, Did, Leads, branchClass, wordBehind}
+use Rattle.run_cells.specs.Asking.{classOf, Ready, oneClass, Did, Leads, branchClass, wordAfter}
 use Rattle.run_cells.specs.Finding.{Direct}
 use Rattle.run_moves.specs.Acting.{opOf, acting, sceneBy, doConstant}
 use Rattle.run_statements.specs.Pieces.{only-words}
@@ -20,10 +20,10 @@ use mathlib.Core.List.{List}
 use mathlib.Core.Path.{_≡_}
 
 abbrev pub Pre : List ℕ → List ℤ → List (recs .type .Denot) → ℕ → registers .type .Denot → Type 0
-Pre code words records limit here = Stating code words records limit here
+Pre code cells records activations here = Stating code cells records activations here
 
 abbrev pub Said : List ℕ → List ℤ → List (recs .type .Denot) → ℕ → registers .type .Denot → moveds .type .Denot → List ℤ → Type 0
-Said code words records limit here r words′ = Does (happening code words records limit here) words here r words′
+Said code cells records activations here r cells′ = Does (happening code cells records activations here) cells here r cells′
 
 abbrev pub class-of-asks : ℕ → Type 0
 class-of-asks at = at < 4096
@@ -44,10 +44,10 @@ abbrev pub follow-says : List (recs .type .Denot) → ℕ → ℕ → ℕ → Ty
 follow-says records from count r = (r ≡ hop records from count) × (r ≤ from)
 
 abbrev pub act-one-asks : List ℕ → List ℤ → ℕ → ℕ → ℕ → ℕ → Type 0
-act-one-asks code words limit live at first = (at < 4096) × (classOf (opOf (getD code at 0)) ≡ oneClass) × Ready code words limit live at first 0 0 (opOf (getD code at 0))
+act-one-asks code cells activations live at first = (at < 4096) × (classOf (opOf (getD code at 0)) ≡ oneClass) × Ready code cells activations live at first 0 0 (opOf (getD code at 0))
 
 abbrev pub act-one-says : List ℕ → List ℤ → ℕ → ℕ → ℕ → ℕ → moves .type .Denot → List ℤ → Type 0
-act-one-says code words limit live at first r words′ = ((firstOf : ℕ → ℕ) → Leads firstOf code at first 0 0 (opOf (getD code at 0)) → Did (acting (byFirst words firstOf) (sceneBy code words limit live at)) words r words′)
+act-one-says code cells activations live at first r cells′ = ((firstOf : ℕ → ℕ) → Leads firstOf code at first 0 0 (opOf (getD code at 0)) → Did (acting (byFirst cells firstOf) (sceneBy code cells activations live at)) cells r cells′)
 
 abbrev pub came-to-says : registers .type .Denot → moves .type .Denot → moveds .type .Denot → Type 0
 came-to-says here done r = r ≡ movedBy here done
@@ -59,25 +59,25 @@ abbrev pub first-cell-says : List ℕ → List (recs .type .Denot) → registers
 first-cell-says code records here field r = r ≡ firstCell records (here .live) (here .level) (getD code (here .at + field) 0)
 
 abbrev pub act-branch-asks : List ℕ → List ℤ → ℕ → ℕ → ℕ → Type 0
-act-branch-asks code words at first second = (at < 4096) × (classOf (opOf (getD code at 0)) ≡ branchClass) × Ready code words 0 0 at first second 0 (opOf (getD code at 0))
+act-branch-asks code cells at first second = (at < 4096) × (classOf (opOf (getD code at 0)) ≡ branchClass) × Ready code cells 0 0 at first second 0 (opOf (getD code at 0))
 
 abbrev pub act-branch-says : List ℕ → List ℤ → ℕ → ℕ → ℕ → moves .type .Denot → Type 0
-act-branch-says code words at first second r = ((firstOf : ℕ → ℕ) (limit live : ℕ) → Leads firstOf code at first second 0 (opOf (getD code at 0)) → Did (acting (byFirst words firstOf) (sceneBy code words limit live at)) words r words)
+act-branch-says code cells at first second r = ((firstOf : ℕ → ℕ) (activations live : ℕ) → Leads firstOf code at first second 0 (opOf (getD code at 0)) → Did (acting (byFirst cells firstOf) (sceneBy code cells activations live at)) cells r cells)
 
 abbrev pub do-constant-asks : List ℕ → List ℤ → ℕ → ℕ → Type 0
-do-constant-asks code words at first = (at + 4 ≤ 4096) × Direct words first (wordBehind code at 1)
+do-constant-asks code cells at first = (at + 4 ≤ 4096) × Direct cells first (wordAfter code at 1)
 
 abbrev pub do-constant-says : List ℕ → List ℤ → ℕ → ℕ → moves .type .Denot → List ℤ → Type 0
-do-constant-says code words at first r words′ = ((firstOf : ℕ → ℕ) → first ≡ firstOf (wordBehind code at 1) → (r ≡ doConstant (byFirst words firstOf) (only-words code words at) .move) × (words′ ≡ doConstant (byFirst words firstOf) (only-words code words at) .words))
+do-constant-says code cells at first r cells′ = ((firstOf : ℕ → ℕ) → first ≡ firstOf (wordAfter code at 1) → (r ≡ doConstant (byFirst cells firstOf) (only-words code cells at) .move) × (cells′ ≡ doConstant (byFirst cells firstOf) (only-words code cells at) .cells))
 
 abbrev pub tabled-asks : List ℕ → List ℤ → List (recs .type .Denot) → registers .type .Denot → ℕ → ℕ → Type 0
-tabled-asks code words records here own class = Tabling code words records here own class
+tabled-asks code cells records here own class = Tabling code cells records here own class
 
 abbrev pub tabled-says : List ℕ → List ℤ → List (recs .type .Denot) → registers .type .Denot → ℕ → ℕ → moveds .type .Denot → Type 0
-tabled-says code words records here own class r = ((w : Tabling code words records here own class) → Does (happening code words records (w .limit) here) words here r words)
+tabled-says code cells records here own class r = ((w : Tabling code cells records here own class) → Does (happening code cells records (w .activations) here) cells here r cells)
 
 abbrev pub summed-asks : List ℕ → List ℤ → List (recs .type .Denot) → registers .type .Denot → ℕ → ℕ → Type 0
-summed-asks code words records here own class = Summing code words records here own class
+summed-asks code cells records here own class = Summing code cells records here own class
 
 abbrev pub summed-says : List ℕ → List ℤ → List (recs .type .Denot) → registers .type .Denot → ℕ → ℕ → moveds .type .Denot → List ℤ → Type 0
-summed-says code words records here own class r words′ = ((w : Summing code words records here own class) → Does (happening code words records (w .limit) here) words here r words′)
+summed-says code cells records here own class r cells′ = ((w : Summing code cells records here own class) → Does (happening code cells records (w .activations) here) cells here r cells′)

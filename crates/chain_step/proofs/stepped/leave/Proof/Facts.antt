@@ -20,7 +20,7 @@ module _ (code : List ℕ) (records : List Activation) (here : Registers) (pre :
 
   module _ (z : live ≡ 0) (r : Turn) (e : finished-says r) where
     pub says-1 : Said code records here r
-    says-1 v = subst (λ (t : Turn). Turned (v .running) t (v .words) records (v .table)) (sym e) (finishes (v .running) (v .ended) z)
+    says-1 v = subst (λ (t : Turn). Turned (v .running) t (v .cells) records (v .table)) (sym e) (finishes (v .running) (v .ended) z)
 
   module _ (d : live ≡ 0 → ⊥) where
     pub asks-below : below-asks here
@@ -31,15 +31,15 @@ module _ (code : List ℕ) (records : List Activation) (here : Registers) (pre :
       asks-read = omega (arith, k-is, asks-below, room-there (pre .running) (live - 1) (omega arith) .there)
 
       module _ (a : Activation) (a-is : read-says records k a) where
-        read-so : a ≡ at records (live - 1)
-        read-so = a-is ∙ ap (at records) k-is
+        read-is : a ≡ at records (live - 1)
+        read-is = a-is ∙ ap (at records) k-is
 
         pub asks-left : left-asks here a
         asks-left =
             let h = block-fits (pre .running) (live - 1) (omega arith) in
-            (omega (arith, h, ap (λ (b : Activation). b .block) read-so), asks-below)
+            (omega (arith, h, ap (λ (b : Activation). b .block) read-is), asks-below)
 
         module _ (n : Registers) (n-is : left-says code here a n) (r : Turn) (e : went-says n r) where
           pub says-2 : Said code records here r
-          says-2 v = subst (λ (t : Turn). Turned (v .running) t (v .words) records (v .table)) (sym (e ∙ ap Went n-is))
-              (leaves-on (v .running) (v .ended) d a read-so)
+          says-2 v = subst (λ (t : Turn). Turned (v .running) t (v .cells) records (v .table)) (sym (e ∙ ap Went n-is))
+              (leaves-on (v .running) (v .ended) d a read-is)

@@ -15,7 +15,7 @@ abbrev pub Pre : List ℕ → List (recs .type .Denot) → registers .type .Deno
 Pre code records here = LeaveReady code records here
 
 abbrev pub Said : List ℕ → List (recs .type .Denot) → registers .type .Denot → turns .type .Denot → Type 0
-Said code records here r = ((v : LeaveReady code records here) → Turned (v .running) r (v .words) records (v .table))
+Said code records here r = ((v : LeaveReady code records here) → Turned (v .running) r (v .cells) records (v .table))
 
 abbrev pub finished-says : turns .type .Denot → Type 0
 finished-says r = r ≡ Finished

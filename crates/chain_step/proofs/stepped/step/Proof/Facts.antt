@@ -22,80 +22,80 @@ use Rattle.chain_step.specs.Turning.{Turned}
 use Rattle.chain_step.specs.Turns as turned
 use Rattle.chain_step.proofs.stepped.step.Proof.Said.{Pre, Said, leave-asks, leave-says, acted-asks, acted-says, is-done-says, turn-of-says, asks-says, answered-asks, answered-says, enters-says, entry-of-says, enter-asks, enter-says, went-says, home-of-says, read-asks, read-says, resumed-asks, resumed-says}
 
-module _ (code : List ℕ) (words : List ℤ) (records : List Activation) (table : List ℤ) (group limit : ℕ) (here : Registers)
-    (pre : Pre code words records table group limit here) where
+module _ (code : List ℕ) (cells : List ℤ) (records : List Activation) (table : List ℤ) (limit activations : ℕ) (here : Registers)
+    (pre : Pre code cells records table limit activations here) where
   abbrev Ends : Turn → List ℤ → List Activation → List ℤ → Type 0
-  Ends = Said code words records table group limit here
+  Ends = Said code cells records table limit activations here
 
   module _ (e : here .at ≡ here .end) where
     pub asks-leave : leave-asks code records here
     asks-leave = turned.leave-ready pre e
 
     module _ (r : Turn) (k : leave-says code records here r) where
-      pub says-1 : Ends r words records table
+      pub says-1 : Ends r cells records table
       says-1 w = turned.left-on w e r k
 
   module _ (before : here .at ≡ here .end → ⊥) where
-    pub asks-acted : acted-asks code words records limit here
-    asks-acted = record { group = group; table = table; running = pre; before = before }
+    pub asks-acted : acted-asks code cells records activations here
+    asks-acted = record { limit = limit; table = table; running = pre; before = before }
 
-    module _ (moved : Moved) (words′ : List ℤ) (does : acted-says code words records limit here moved words′) (done : Bool) (done-is : is-done-says moved done) where
+    module _ (moved : Moved) (cells′ : List ℤ) (does : acted-says code cells records activations here moved cells′) (done : Bool) (done-is : is-done-says moved done) where
       stays-is : done ≡ staysIn here (does .move)
-      stays-is = done-is ∙ ap isDone (does .so) ∙ by-move.done-so here (does .move)
+      stays-is = done-is ∙ ap isDone (does .is) ∙ by-move.done-is here (does .move)
 
       module _ (y : done ≡ true) (r : Turn) (e : turn-of-says moved r) where
-        pub says-2 : Ends r words′ records table
+        pub says-2 : Ends r cells′ records table
         says-2 w =
             let z = sym stays-is ∙ y in
-            subst (λ (t : Turn). Turned w t words′ records table) (sym (e ∙ ap turnOf (does .so) ∙ by-move.turn-so here (does .move) z))
-            (turned.stays w before (does .move) words′ (does .did) z)
+            subst (λ (t : Turn). Turned w t cells′ records table) (sym (e ∙ ap turnOf (does .is) ∙ by-move.turn-is here (does .move) z))
+            (turned.stays w before (does .move) cells′ (does .did) z)
 
       module _ (n : done ≡ false) (asking : Bool) (asking-is : asks-says moved asking) where
         asks-is : asking ≡ isAsked (does .move)
-        asks-is = asking-is ∙ ap isAsk (does .so) ∙ by-move.ask-so here (does .move)
+        asks-is = asking-is ∙ ap isAsk (does .is) ∙ by-move.ask-is here (does .move)
 
         module _ (y : asking ≡ true) where
           pub asks-answered : answered-asks moved
-          asks-answered k e = turned.cells-asked pre before (does .move) words′ (does .did) k (by-move.asked-back here (does .move) k (sym (does .so) ∙ e))
+          asks-answered k e = turned.cells-asked pre before (does .move) cells′ (does .did) k (by-move.asked-back here (does .move) k (sym (does .is) ∙ e))
 
-          module _ (r : Turn) (table″ words″ : List ℤ) (k : answered-says table words′ group here moved r table″ words″) (wide : length table″ ≡ length table) where
-            pub says-3 : Ends r words″ records table″
+          module _ (r : Turn) (table″ cells″ : List ℤ) (k : answered-says table cells′ limit here moved r table″ cells″) (wide : length table″ ≡ length table) where
+            pub says-3 : Ends r cells″ records table″
             says-3 w =
                 let q = by-move.asked-in (does .move) (sym asks-is ∙ y) in
-                turned.answered-on w before (does .move) words′ (does .did) (q .0) (q .1) r words″ table″
-                (k (q .0) (does .so ∙ ap (movedBy here) (q .1)))
+                turned.answered-on w before (does .move) cells′ (does .did) (q .0) (q .1) r cells″ table″
+                (k (q .0) (does .is ∙ ap (movedBy here) (q .1)))
 
         module _ (no-ask : asking ≡ false) (entering : Bool) (entering-is : enters-says moved entering) where
           entry-is : entering ≡ isEntry (does .move)
-          entry-is = entering-is ∙ ap isEnter (does .so) ∙ by-move.entry-so here (does .move) .0
+          entry-is = entering-is ∙ ap isEnter (does .is) ∙ by-move.entry-is here (does .move) .0
 
-          module _ (y : entering ≡ true) (entry : Entry) (entry-so : entry-of-says moved entry) where
+          module _ (y : entering ≡ true) (entry : Entry) (entry-said : entry-of-says moved entry) where
             entry-by : entry ≡ entryOf (does .move)
-            entry-by = entry-so ∙ ap entryIn (does .so) ∙ by-move.entry-so here (does .move) .1
+            entry-by = entry-said ∙ ap entryIn (does .is) ∙ by-move.entry-is here (does .move) .1
 
-            pub asks-enter : enter-asks code words′ records here entry
+            pub asks-enter : enter-asks code cells′ records here entry
             asks-enter =
-                subst (enter-asks code words′ records here) (sym entry-by) (turned.enter-ready pre before (does .move) words′ (does .did) (sym entry-is ∙ y))
+                subst (enter-asks code cells′ records here) (sym entry-by) (turned.enter-ready pre before (does .move) cells′ (does .did) (sym entry-is ∙ y))
 
-            module _ (now : Registers) (words″ : List ℤ) (records″ : List Activation) (k : enter-says code words′ records here entry now words″ records″)
+            module _ (now : Registers) (cells″ : List ℤ) (records″ : List Activation) (k : enter-says code cells′ records here entry now cells″ records″)
                 (long : length records″ ≡ length records) (r : Turn) (e : went-says now r) where
-              pub says-4 : Ends r words″ records″ table
-              says-4 w = subst (λ (t : Turn). Turned w t words″ records″ table) (sym e)
-                  (turned.entered-on w before (does .move) words′ (does .did) (sym entry-is ∙ y) words″ records″ now
-                  (subst (λ (x : Entry). enter-says code words′ records here x now words″ records″) entry-by k))
+              pub says-4 : Ends r cells″ records″ table
+              says-4 w = subst (λ (t : Turn). Turned w t cells″ records″ table) (sym e)
+                  (turned.entered-on w before (does .move) cells′ (does .did) (sym entry-is ∙ y) cells″ records″ now
+                  (subst (λ (x : Entry). enter-says code cells′ records here x now cells″ records″) entry-by k))
 
           module _ (no-entry : entering ≡ false) (home : ℕ) (home-is : home-of-says moved home) where
             goes-on : staysIn here (does .move) ≡ false
             goes-on = sym stays-is ∙ n
 
             home-by : homeIn moved ≡ homeAt (does .move)
-            home-by = ap homeIn (does .so) ∙ by-move.resumed-so here (does .move) goes-on .0
+            home-by = ap homeIn (does .is) ∙ by-move.resumed-is here (does .move) goes-on .0
 
             place-by : placeIn moved ≡ placeAt (does .move)
-            place-by = ap placeIn (does .so) ∙ by-move.resumed-so here (does .move) goes-on .1
+            place-by = ap placeIn (does .is) ∙ by-move.resumed-is here (does .move) goes-on .1
 
             below : home ≤ here .live
-            below = omega (arith, home-is ∙ home-by, turned.home-below pre before (does .move) words′ (does .did) goes-on (sym asks-is ∙ no-ask) (sym entry-is ∙ no-entry))
+            below = omega (arith, home-is ∙ home-by, turned.home-below pre before (does .move) cells′ (does .did) goes-on (sym asks-is ∙ no-ask) (sym entry-is ∙ no-entry))
 
             pub asks-read : read-asks records home
             asks-read = room-there pre home below .there
@@ -105,8 +105,8 @@ module _ (code : List ℕ) (words : List ℤ) (records : List Activation) (table
               asks-resumed = let h = block-fits pre home below in omega (arith, h, ap (λ (b : Activation). b .block) a-is)
 
               module _ (r : Turn) (e : resumed-says code here moved a r) where
-                pub says-5 : Ends r words′ records table
-                says-5 w = subst (λ (t : Turn). Turned w t words′ records table)
+                pub says-5 : Ends r cells′ records table
+                says-5 w = subst (λ (t : Turn). Turned w t cells′ records table)
                     (sym (e ∙ (λ i. Went (nowBy code (a .block) (home-by i) (place-by i) (here .pairs)))))
-                    (turned.resumed-on w before (does .move) words′ (does .did) goes-on (sym asks-is ∙ no-ask) (sym entry-is ∙ no-entry) a
+                    (turned.resumed-on w before (does .move) cells′ (does .did) goes-on (sym asks-is ∙ no-ask) (sym entry-is ∙ no-entry) a
                     (a-is ∙ ap (at records) (home-is ∙ home-by)))

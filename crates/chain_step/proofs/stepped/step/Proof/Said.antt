@@ -21,22 +21,22 @@ use mathlib.Core.List.{List}
 use mathlib.Core.Path.{_≡_}
 
 abbrev pub Pre : List ℕ → List ℤ → List (recs .type .Denot) → List ℤ → ℕ → ℕ → registers .type .Denot → Type 0
-Pre code words records table group limit here = Running code limit group words records table here
+Pre code cells records table limit activations here = Running code activations limit cells records table here
 
 abbrev pub Said : List ℕ → List ℤ → List (recs .type .Denot) → List ℤ → ℕ → ℕ → registers .type .Denot → turns .type .Denot → List ℤ → List (recs .type .Denot) → List ℤ → Type 0
-Said code words records table group limit here r words′ records′ table′ = ((w : Running code limit group words records table here) → Turned w r words′ records′ table′)
+Said code cells records table limit activations here r cells′ records′ table′ = ((w : Running code activations limit cells records table here) → Turned w r cells′ records′ table′)
 
 abbrev pub leave-asks : List ℕ → List (recs .type .Denot) → registers .type .Denot → Type 0
 leave-asks code records here = LeaveReady code records here
 
 abbrev pub leave-says : List ℕ → List (recs .type .Denot) → registers .type .Denot → turns .type .Denot → Type 0
-leave-says code records here r = ((v : LeaveReady code records here) → Turned (v .running) r (v .words) records (v .table))
+leave-says code records here r = ((v : LeaveReady code records here) → Turned (v .running) r (v .cells) records (v .table))
 
 abbrev pub acted-asks : List ℕ → List ℤ → List (recs .type .Denot) → ℕ → registers .type .Denot → Type 0
-acted-asks code words records limit here = Stating code words records limit here
+acted-asks code cells records activations here = Stating code cells records activations here
 
 abbrev pub acted-says : List ℕ → List ℤ → List (recs .type .Denot) → ℕ → registers .type .Denot → moveds .type .Denot → List ℤ → Type 0
-acted-says code words records limit here r words′ = Does (happening code words records limit here) words here r words′
+acted-says code cells records activations here r cells′ = Does (happening code cells records activations here) cells here r cells′
 
 abbrev pub is-done-says : moveds .type .Denot → Bool → Type 0
 is-done-says moved r = r ≡ isDone moved
@@ -51,7 +51,7 @@ abbrev pub answered-asks : moveds .type .Denot → Type 0
 answered-asks moved = ((k : Asked) → moved ≡ Table k → (k .group < 8192) × ((k .member < 8192) × (k .target < 8192)))
 
 abbrev pub answered-says : List ℤ → List ℤ → ℕ → registers .type .Denot → moveds .type .Denot → turns .type .Denot → List ℤ → List ℤ → Type 0
-answered-says table words limit here moved r table′ words′ = ((k : Asked) → moved ≡ Table k → (c : Changed) × (r ≡ turnAfter here (k .place) c) × Answered (answerTo limit words (tableOf table (here .pairs)) k) table c words′ table′)
+answered-says table cells activations here moved r table′ cells′ = ((k : Asked) → moved ≡ Table k → (c : Changed) × (r ≡ turnAfter here (k .place) c) × Answered (answerTo activations cells (tableOf table (here .pairs)) k) table c cells′ table′)
 
 abbrev pub enters-says : moveds .type .Denot → Bool → Type 0
 enters-says moved r = r ≡ isEnter moved
@@ -60,10 +60,10 @@ abbrev pub entry-of-says : moveds .type .Denot → entries .type .Denot → Type
 entry-of-says moved r = r ≡ entryIn moved
 
 abbrev pub enter-asks : List ℕ → List ℤ → List (recs .type .Denot) → registers .type .Denot → entries .type .Denot → Type 0
-enter-asks code words records here entry = EnterReady code words records here entry
+enter-asks code cells records here entry = EnterReady code cells records here entry
 
 abbrev pub enter-says : List ℕ → List ℤ → List (recs .type .Denot) → registers .type .Denot → entries .type .Denot → registers .type .Denot → List ℤ → List (recs .type .Denot) → Type 0
-enter-says code words records here entry r words′ records′ = ((w : EnterReady code words records here entry) → Succeeds (w .running) words′ records′ (w .table) r)
+enter-says code cells records here entry r cells′ records′ = ((w : EnterReady code cells records here entry) → Succeeds (w .running) cells′ records′ (w .table) r)
 
 abbrev pub went-says : registers .type .Denot → turns .type .Denot → Type 0
 went-says next r = r ≡ Went next

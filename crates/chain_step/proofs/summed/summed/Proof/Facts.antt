@@ -17,9 +17,9 @@ use Rattle.chain_step.specs.Acted as acts
 use Rattle.chain_step.specs.Acted.{Summing, happening}
 use Rattle.chain_step.proofs.summed.summed.Proof.Said.{Pre, Said, first-cell-asks, first-cell-says, do-add-asks, do-add-says, do-compare-asks, do-compare-says, do-subtract-asks, do-subtract-says, do-arithmetic-formal-asks, do-arithmetic-formal-says, came-to-says}
 
-module _ (code : List ℕ) (words : List ℤ) (records : List Activation) (here : Registers) (own class : ℕ) (pre : Pre code words records here own class) where
+module _ (code : List ℕ) (cells : List ℤ) (records : List Activation) (here : Registers) (own class : ℕ) (pre : Pre code cells records here own class) where
   abbrev W : Type 0
-  W = Summing code words records here own class
+  W = Summing code cells records here own class
 
   abbrev firstOf : ℕ → ℕ
   firstOf = firstCell records (here .live) (here .level)
@@ -33,9 +33,9 @@ module _ (code : List ℕ) (words : List ℤ) (records : List Activation) (here 
   is-class : (w : W) (n : ℕ) → class ≡ n → classOf (opOf (getD code (here .at) 0)) ≡ n
   is-class w n e = sym (w .chosen .class-is) ∙ e
 
-  so : {r : Move} {m : Moved} → came-to-says here r m → {words′ : List ℤ}
-      → ((w : W) → Did (happening code words records (w .limit) here) words r words′) → Said code words records here own class m words′
-  so {r} e did w = record { move = r; did = did w; so = e }
+  so : {r : Move} {m : Moved} → came-to-says here r m → {cells′ : List ℤ}
+      → ((w : W) → Did (happening code cells records (w .activations) here) cells r cells′) → Said code cells records here own class m cells′
+  so {r} e did w = record { move = r; did = did w; is = e }
 
   module _ (e : class ≡ addClass) where
     adding : (w : W) → acts.Sum (w .stating) plus
@@ -51,11 +51,11 @@ module _ (code : List ℕ) (words : List ℤ) (records : List Activation) (here 
     asks-first-cell-3 = (adding pre .named .0, pre .chosen .own-is)
 
     module _ (b : ℕ) (b-is : At 3 b) (c : ℕ) (c-is : At 4 c) (a : ℕ) (a-is : At 1 a) where
-      pub asks-do-add : do-add-asks code words (here .at) a b c
+      pub asks-do-add : do-add-asks code cells (here .at) a b c
       asks-do-add = adding pre .asks a b c a-is b-is c-is
 
-      module _ (r : Move) (words′ : List ℤ) (did : do-add-says code words (here .at) a b c r words′) (m : Moved) (m-is : came-to-says here r m) where
-        pub says-1 : Said code words records here own class m words′
+      module _ (r : Move) (cells′ : List ℤ) (did : do-add-says code cells (here .at) a b c r cells′) (m : Moved) (m-is : came-to-says here r m) where
+        pub says-1 : Said code cells records here own class m cells′
         says-1 = so m-is (λ w. adding w .did (did firstOf a-is b-is c-is))
 
   module _ (not-add : class ≡ addClass → ⊥) where
@@ -73,11 +73,11 @@ module _ (code : List ℕ) (words : List ℤ) (records : List Activation) (here 
       asks-first-cell-6 = (comparing pre .named .0, pre .chosen .own-is)
 
       module _ (b : ℕ) (b-is : At 3 b) (c : ℕ) (c-is : At 4 c) (a : ℕ) (a-is : At 1 a) where
-        pub asks-do-compare : do-compare-asks code words (here .at) a b c
+        pub asks-do-compare : do-compare-asks code cells (here .at) a b c
         asks-do-compare = comparing pre .asks a b c a-is b-is c-is
 
-        module _ (r : Move) (words′ : List ℤ) (did : do-compare-says code words (here .at) a b c r words′) (m : Moved) (m-is : came-to-says here r m) where
-          pub says-2 : Said code words records here own class m words′
+        module _ (r : Move) (cells′ : List ℤ) (did : do-compare-says code cells (here .at) a b c r cells′) (m : Moved) (m-is : came-to-says here r m) where
+          pub says-2 : Said code cells records here own class m cells′
           says-2 = so m-is (λ w. comparing w .did (did firstOf a-is b-is c-is))
 
     module _ (not-compare : class ≡ compareClass → ⊥) where
@@ -95,11 +95,11 @@ module _ (code : List ℕ) (words : List ℤ) (records : List Activation) (here 
         asks-first-cell-9 = (subtracting pre .named .0, pre .chosen .own-is)
 
         module _ (b : ℕ) (b-is : At 3 b) (c : ℕ) (c-is : At 4 c) (a : ℕ) (a-is : At 1 a) where
-          pub asks-do-subtract : do-subtract-asks code words (here .at) a b c
+          pub asks-do-subtract : do-subtract-asks code cells (here .at) a b c
           asks-do-subtract = subtracting pre .asks a b c a-is b-is c-is
 
-          module _ (r : Move) (words′ : List ℤ) (did : do-subtract-says code words (here .at) a b c r words′) (m : Moved) (m-is : came-to-says here r m) where
-            pub says-3 : Said code words records here own class m words′
+          module _ (r : Move) (cells′ : List ℤ) (did : do-subtract-says code cells (here .at) a b c r cells′) (m : Moved) (m-is : came-to-says here r m) where
+            pub says-3 : Said code cells records here own class m cells′
             says-3 = so m-is (λ w. subtracting w .did (did firstOf a-is b-is c-is))
 
       module _ (not-subtract : class ≡ subtractClass → ⊥) where
@@ -116,9 +116,9 @@ module _ (code : List ℕ) (words : List ℤ) (records : List Activation) (here 
         asks-first-cell-12 = (by-formals pre .named .0, pre .chosen .own-is)
 
         module _ (b : ℕ) (b-is : At 3 b) (c : ℕ) (c-is : At 4 c) (a : ℕ) (a-is : At 1 a) where
-          pub asks-do-arithmetic-formal : do-arithmetic-formal-asks code words (here .at) a b c
+          pub asks-do-arithmetic-formal : do-arithmetic-formal-asks code cells (here .at) a b c
           asks-do-arithmetic-formal = by-formals pre .asks a b c a-is b-is c-is
 
-          module _ (r : Move) (words′ : List ℤ) (did : do-arithmetic-formal-says code words (here .at) a b c r words′) (m : Moved) (m-is : came-to-says here r m) where
-            pub says-4 : Said code words records here own class m words′
+          module _ (r : Move) (cells′ : List ℤ) (did : do-arithmetic-formal-says code cells (here .at) a b c r cells′) (m : Moved) (m-is : came-to-says here r m) where
+            pub says-4 : Said code cells records here own class m cells′
             says-4 = so m-is (λ w. by-formals w .did (did firstOf a-is b-is c-is))

@@ -16,9 +16,9 @@ use Rattle.chain_step.specs.Acted as acts
 use Rattle.chain_step.specs.Acted.{Tabling, happening}
 use Rattle.chain_step.proofs.tabled.tabled.Proof.Said.{Pre, Said, first-cell-asks, first-cell-says, act-pair-asks, act-pair-says, do-query-asks, do-query-says, came-to-says}
 
-module _ (code : List ℕ) (words : List ℤ) (records : List Activation) (here : Registers) (own class : ℕ) (pre : Pre code words records here own class) where
+module _ (code : List ℕ) (cells : List ℤ) (records : List Activation) (here : Registers) (own class : ℕ) (pre : Pre code cells records here own class) where
   abbrev W : Type 0
-  W = Tabling code words records here own class
+  W = Tabling code cells records here own class
 
   abbrev firstOf : ℕ → ℕ
   firstOf = firstCell records (here .live) (here .level)
@@ -26,9 +26,9 @@ module _ (code : List ℕ) (words : List ℤ) (records : List Activation) (here 
   abbrev At : ℕ → ℕ → Type 0
   At field first = first-cell-says code records here field first
 
-  so : {r : Move} {m : Moved} → came-to-says here r m → ((w : W) → Did (happening code words records (w .limit) here) words r words)
-      → Said code words records here own class m
-  so {r} e did w = record { move = r; did = did w; so = e }
+  so : {r : Move} {m : Moved} → came-to-says here r m → ((w : W) → Did (happening code cells records (w .activations) here) cells r cells)
+      → Said code cells records here own class m
+  so {r} e did w = record { move = r; did = did w; is = e }
 
   -- AD and RM
   module _ (e : class ≡ pairClass) where
@@ -45,12 +45,12 @@ module _ (code : List ℕ) (words : List ℤ) (records : List Activation) (here 
       led : Leads firstOf code (here .at) a b 0 (opOf (getD code (here .at) 0))
       led = acts.by-class (pre .stating) pairClass is-class .led a b a-is b-is
 
-      pub asks-act-pair : act-pair-asks code words (here .at) a b
+      pub asks-act-pair : act-pair-asks code cells (here .at) a b
       asks-act-pair = (acts.at-there (pre .stating), is-class, acts.ready (pre .stating) 0 0 (omega arith) (omega arith) a b 0 led)
 
-      module _ (r : Move) (did : act-pair-says code words (here .at) a b r) (m : Moved) (m-is : came-to-says here r m) where
-        pub says-1 : Said code words records here own class m
-        says-1 = so m-is (λ w. did firstOf (w .limit) (here .live) led)
+      module _ (r : Move) (did : act-pair-says code cells (here .at) a b r) (m : Moved) (m-is : came-to-says here r m) where
+        pub says-1 : Said code cells records here own class m
+        says-1 = so m-is (λ w. did firstOf (w .activations) (here .live) led)
 
   -- QY
   module _ (d : class ≡ pairClass → ⊥) where
@@ -69,9 +69,9 @@ module _ (code : List ℕ) (words : List ℤ) (records : List Activation) (here 
     asks-first-cell-5 = (asking pre .named .2, pre .chosen .own-is)
 
     module _ (a : ℕ) (a-is : At 1 a) (b : ℕ) (b-is : At 2 b) (c : ℕ) (c-is : At 3 c) where
-      pub asks-do-query : do-query-asks code words (here .at) a b c
+      pub asks-do-query : do-query-asks code cells (here .at) a b c
       asks-do-query = asking pre .asks a b c a-is b-is c-is
 
-      module _ (r : Move) (did : do-query-says code words (here .at) a b c r) (m : Moved) (m-is : came-to-says here r m) where
-        pub says-2 : Said code words records here own class m
+      module _ (r : Move) (did : do-query-says code cells (here .at) a b c r) (m : Moved) (m-is : came-to-says here r m) where
+        pub says-2 : Said code cells records here own class m
         says-2 = so m-is (λ w. asking w .did (did firstOf a-is b-is c-is, refl))

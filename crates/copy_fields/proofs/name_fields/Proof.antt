@@ -1,4 +1,4 @@
--- `copy_fields::govern` meets its contract: between two records, what is written and what is still to come make up the whole. Assumes nothing.
+-- `copy_fields::name_fields` meets its contract: between two records, what is written and what is still to come make up the whole. Assumes nothing.
 use mathlib.Core.Path.{_≡_, _∙_, ap}
 use Prim.Native.Nat.{ℕ, _+_, _-_, _≤_}
 use native.Mathlib.Omega.{arith}
@@ -6,8 +6,8 @@ use lib.ListN.{length, length-replicate}
 use borrow.Author.Needs.{needs}
 use Rattle.grammar.specs.Words.{bytes-are}
 use Rattle.copy_fields.proofs.Sweeping.{Sweeps, accepted-short, swept-start, swept-step, swept-end}
-use Rattle.copy_fields.proofs.govern.Statement.{statement}
-use Rattle.copy_fields.proofs.govern.Tie as tie
+use Rattle.copy_fields.proofs.name_fields.Statement.{statement}
+use Rattle.copy_fields.proofs.name_fields.Tie as tie
 
 abbrev Inv-loop : tie.InvT-loop
 Inv-loop script code names₀ at₀ names at = (at ≤ length script + 131076) × (length names ≡ 4096) × Sweeps script code names at
@@ -32,7 +32,7 @@ loop-holds c =
       search (needs, swept-start),
     )
 
-pub govern-spec : {M : Type 1} → statement M
-govern-spec =
+pub name-fields-spec : {M : Type 1} → statement M
+name-fields-spec =
     tie.close (tie.spec Inv-loop μ-loop returns loop-holds (λ c κs. search needs) (λ c κs. search needs) (λ c κs. search needs)
     (λ c. search needs) (λ c. search (needs, swept-step)) (λ c. search (needs, swept-end)))

@@ -13,8 +13,8 @@ use Rattle.resolved.specs.Resolved.{resolvedOf, Covers}
 use Rattle.laws.specs.Fields.{FieldsStand}
 use Rattle.check_extents.specs.Items.{Item, headFields}
 use Rattle.resolve_words.specs.Growth.{Grown}
-use Rattle.copy_fields.specs.Governed.{governedOf}
-use Rattle.copy_fields.specs.Layouts.{governedLayout, resolvedLayout}
+use Rattle.copy_fields.specs.NameFields.{namedOf}
+use Rattle.copy_fields.specs.Layouts.{namedLayout, resolvedLayout}
 use Rattle.copy_fields.specs.Parts.{ownWords}
 
 -- so many words from a place on, as the resolved script has them
@@ -51,8 +51,8 @@ trailing m a = elim (eqb m AR-mark) [ true ↦ 2 | false ↦ elim (eqb m CL-mark
 abbrev pub Noted : List ℕ → List ℕ → ℕ → List ℕ → List ℕ → Type 0
 Noted bs code at names names′ =
     (name : ℕ) (x : Item) (fs : List Formal) (es : Enclosure) → FieldsStand bs at (headFields x) → Covers code (at / 2) (ownWords (resolvedLayout name) x fs es)
-    → Grown names names′ at (ownWords governedLayout x fs es)
+    → Grown names names′ at (ownWords namedLayout x fs es)
 
 -- the words of the names of an accepted script, from its resolved script
-abbrev pub Governs : List ℕ → List ℕ → List ℕ → Type 0
-Governs bs code names = (t : Block) (name : ℕ) → check bs ≡ accepted t → Covers code 0 (resolvedOf name t) → Covers names 0 (governedOf t)
+abbrev pub NamesStand : List ℕ → List ℕ → List ℕ → Type 0
+NamesStand bs code names = (t : Block) (name : ℕ) → check bs ≡ accepted t → Covers code 0 (resolvedOf name t) → Covers names 0 (namedOf t)

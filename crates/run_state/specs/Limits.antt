@@ -1,4 +1,4 @@
--- What every engine has between two steps: the limits of a call, what is there as a statement is done, and the registers as they go on.
+-- What every engine has between two steps: the limits of a call, and the registers as they go on.
 use Prim.Native.Nat.{ℕ}
 use mathlib.Core.List.{List}
 use lib.IntN.{ℤ}
@@ -6,7 +6,7 @@ use Rattle.language.specs.Machine.{Limits}
 use Rattle.run_state.specs.declared.Registers.{Registers}
 
 abbrev pub limitsBy : ℕ → ℕ → Limits
-limitsBy limit group = record { activations = limit; group = group }
+limitsBy activations limit = record { activations = activations; limit = limit }
 
 -- another activation, place, end and number of pairs; what one engine alone keeps stays
 abbrev pub goesTo : Registers → ℕ → ℕ → ℕ → ℕ → Registers
