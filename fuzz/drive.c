@@ -13,8 +13,8 @@ enum {
     PAGE = 4096,
     ROOM = 4 * PAGE,
     GUARD = 16,
-    BEHIND = ENROL_LONGEST_SCRIPT / 2, /* words of the longest script */
-    MOST_OWN = ENROL_MOST_ACTIVATIONS * BEHIND,
+    PAST_OWN = ENROL_LONGEST_SCRIPT / 2, /* words of the longest script */
+    MOST_OWN = ENROL_MOST_ACTIVATIONS * PAST_OWN,
     CAUSES = 27
 };
 
@@ -25,10 +25,10 @@ struct lent {
     int32_t sheet[GUARD + MOST_SHEET + GUARD];
 };
 
-/* What only one engine is lent: the copying area or the chain's records. The guard behind it is as long as the copy of a
+/* What only one engine is lent: the copying area or the chain's records. The guard after it is as long as the copy of a
  * text may be, so that an activation too many shows. It is large, so it is rubbish before every call and is put right only
  * where a call may have written. */
-static uint32_t own[GUARD + MOST_OWN + BEHIND], rubbish[GUARD + MOST_OWN + BEHIND];
+static uint32_t own[GUARD + MOST_OWN + PAST_OWN], rubbish[GUARD + MOST_OWN + PAST_OWN];
 
 /* As the functions of the library. */
 void reference_check(const uint8_t *script, size_t script_len, uint64_t answer[ENROL_CHECK_WORDS]);
@@ -256,7 +256,7 @@ static void compare_own(const struct export *export, const struct call *call, ui
     if (end != ENROL_REFUSED) {
         memcpy(own + GUARD, rubbish + GUARD, length * sizeof own[0]);
     }
-    if (memcmp(own, rubbish, (GUARD + length + BEHIND) * sizeof own[0]) == 0) {
+    if (memcmp(own, rubbish, (GUARD + length + PAST_OWN) * sizeof own[0]) == 0) {
         return;
     }
     while (own[at] == rubbish[at]) {

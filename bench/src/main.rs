@@ -13,7 +13,7 @@ mod scripts;
 #[cfg(feature = "measure")]
 mod tables;
 
-/// Where code stands moves its time, so the table is taken at several places: what is linked behind this stands so many bytes further on.
+/// Where code stands moves its time, so the table is taken at several places: what is linked after this stands so many bytes further on.
 const PLACE: usize = match option_env!("BENCH_PLACE") {
     Some(digits) => number(digits.as_bytes(), 0),
     None => 0,

@@ -110,7 +110,7 @@ pub record Enters (fs : List Frame) (xs : List ℕ) (b : Block) (link : ℕ) (bl
   pub blocks-below : (k : ℕ) → k < length fs → getD blocks′ k 0 ≡ getD blocks k 0
   pub nexts-below : (k : ℕ) → k < length fs → getD nexts′ k 0 ≡ getD nexts k 0
   pub links-below : (k : ℕ) → k < length fs → getD links′ k 0 ≡ getD links k 0
-  pub words-below : (c : ℕ) → c < 32 * length fs → getD cells′ c (pos 0) ≡ getD cells c (pos 0)
+  pub cells-below : (c : ℕ) → c < 32 * length fs → getD cells′ c (pos 0) ≡ getD cells c (pos 0)
   pub block-new : getD blocks′ (length fs) 0 ≡ placeOf (blockAt b)
   pub next-new : getD nexts′ (length fs) 0 ≡ stmtPlace b 1
   pub link-new : getD links′ (length fs) 0 ≡ pred link
@@ -170,7 +170,7 @@ module _ (fs : List Frame) (blocks nexts links : List ℕ) (cells : List ℤ) (b
   older : (k : ℕ) (g : Frame) → k < length fs → getElem? fs k ≡ some g → HoldsFrame gs cells′ (getD blocks′ k 0) (getD nexts′ k 0) (getD links′ k 0) k g
   older k g p e =
       let s = bounded k g e in
-      let h = frame-words fs cells (getD blocks k 0) (getD nexts k 0) (getD links k 0) k g s (holds k g e) cells′ (λ i q. new .words-below (32 * k + i) (omega arith)) in
+      let h = frame-words fs cells (getD blocks k 0) (getD nexts k 0) (getD links k 0) k g s (holds k g e) cells′ (λ i q. new .cells-below (32 * k + i) (omega arith)) in
       let o = frame-over fs gs (length fs) alike cells′ (getD blocks k 0) (getD nexts k 0) (getD links k 0) k g (omega arith) (bounded-outer fs k g s) h in
       record { block-is = new .blocks-below k p ∙ o .block-is; next-is = new .nexts-below k p ∙ o .next-is; link-is = new .links-below k p ∙ o .link-is; formals-are = o .formals-are; others-are = o .others-are }
 
@@ -187,7 +187,7 @@ holds-started t blocks nexts links cells b n l w =
       blocks-below = λ k h. refl;
       nexts-below = λ k h. refl;
       links-below = λ k h. refl;
-      words-below = λ c h. refl;
+      cells-below = λ c h. refl;
       block-new = b;
       next-new = n;
       link-new = l;

@@ -105,7 +105,7 @@ module _ (fs : List Frame) (blocks nexts links : List ℕ) (cells : List ℤ) (b
           blocks-below = λ k h. getD-set-other blocks (suc live) k (placeOf (blockAt b)) 0 (λ c. omega arith);
           nexts-below = λ k h. getD-set-other (set nexts live back) (suc live) k (stmtPlace b 1) 0 (λ c. omega arith);
           links-below = λ k h. getD-set-other links (suc live) k (pred link) 0 (λ c. omega arith);
-          words-below = λ c h. kept c (omega arith);
+          cells-below = λ c h. kept c (omega arith);
           block-new = ap (λ k. getD (set blocks (suc live) (placeOf (blockAt b))) k 0) n ∙ getD-set-same blocks (suc live) (placeOf (blockAt b)) 0 blocks-room;
           next-new = ap (λ k. getD (set (set nexts live back) (suc live) (stmtPlace b 1)) k 0) n ∙ getD-set-same (set nexts live back) (suc live) (stmtPlace b 1) 0 (omega (arith, length-set nexts live back));
           link-new = ap (λ k. getD (set links (suc live) (pred link)) k 0) n ∙ getD-set-same links (suc live) (pred link) 0 links-room;

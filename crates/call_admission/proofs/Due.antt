@@ -1,4 +1,4 @@
--- The refusal due, from the tests as they are made: `limits-due` to `none-due` before the script check, `refused-check`, `area-due` and
+-- The refusal due, from the tests as they are made: `limits-due` to `none-due` before the script check, `refused-check` and
 -- `area-held` after it, and `turned-away` and `passed` for the whole. Assumes nothing.
 use Prim.Native.Nat.{ℕ, _*_, _/_, _%_, _≤_, _<_}
 use native.Mathlib.Omega.{arith}

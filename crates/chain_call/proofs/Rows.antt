@@ -11,8 +11,8 @@ use Rattle.language.proofs.Verdict.Laws as D′
 abbrev pub codes : Datum
 codes = arrays words32 4096
 
-abbrev pub wordss : Datum
-wordss = arrays ints32 8224
+abbrev pub cellss : Datum
+cellss = arrays ints32 8224
 
 abbrev pub answerss : Datum
 answerss = arrays usizes 9

@@ -19,4 +19,4 @@ pub record AdmittedOn (code : List ℕ) (cells : List ℤ) (e : Engine) (f : Fed
   pub program : Block
   pub admitted : Admitted e f program
   pub code-zero : code ≡ replicate 4096 0
-  pub words-zero : cells ≡ replicate 8224 (pos 0)
+  pub cells-zero : cells ≡ replicate 8224 (pos 0)

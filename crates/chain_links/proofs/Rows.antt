@@ -1,5 +1,5 @@
 -- What proofs by hand of this crate use of its structs, of the records, and of the arrays.
---     Code, Words, Rec     the types behind the references.        recs, registers, entries, founds      the structs as data
+--     Code, Cells, Rec     the types behind the references.        recs, registers, entries, founds      the structs as data
 --     fields-of-registers, fields-of-entry       the registers and the fields of an `Entry` fit
 use Prim.Native.Nat.{ℕ}
 use denote.RattleType.{RattleType}
@@ -20,8 +20,8 @@ use Rattle.chain_links.proofs.Found.Laws as F′
 abbrev pub Code : RattleType
 Code = Array u32 tt 4096
 
-abbrev pub Words : RattleType
-Words = Array i32 tt 8224
+abbrev pub Cells : RattleType
+Cells = Array i32 tt 8224
 
 abbrev pub recs : Datum
 recs = structs A.the-type A′.the-laws A′.the-plain

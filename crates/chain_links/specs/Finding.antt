@@ -11,7 +11,7 @@ use Rattle.resolved.specs.Resolved.{levelIn, positionIn}
 use Rattle.resolved.specs.Layout.{operationIn}
 use Rattle.arrays.specs.Names.{follow}
 use Rattle.run_moves.specs.Acting.{Finding, setAll, argumentsFrom}
-use Rattle.run_statements.specs.Pieces.{only-words}
+use Rattle.run_statements.specs.Pieces.{only-cells}
 use Rattle.steps.specs.Finding.{byFirst}
 use Rattle.run_state.specs.declared.Registers.{Registers}
 use Rattle.chain_links.specs.Records.{linksIn, Linked}
@@ -45,7 +45,7 @@ argumentsEnd code at = elim (eqb (operationIn (getD code at 0)) 6) [ true ↦ 3 
 -- the words once they are handed on
 abbrev pub handedOn : List ℕ → List ℤ → List Activation → Registers → List ℤ
 handedOn code cells records here = setAll cells (32 * here .live + 32)
-    (argumentsFrom (byChain cells records (here .live) (here .level)) (only-words code cells (here .at)) (here .at + 3) (argumentsEnd code (here .at) - 3))
+    (argumentsFrom (byChain cells records (here .live) (here .level)) (only-cells code cells (here .at)) (here .at + 3) (argumentsEnd code (here .at) - 3))
 
 -- one of them can be handed on: its own cell is below the next activation's
 pub record Passing (code : List ℕ) (here : Registers) (field first : ℕ) : Type 0 where

@@ -23,7 +23,7 @@ use Rattle.arrays.specs.Holds.{Holds}
 use Rattle.run_moves.specs.Effects.{Cleared}
 use Rattle.steps.specs.Standing.{Standing}
 use Rattle.steps.specs.Means.{Follows, JumpsTo, EntersAt}
-use Rattle.steps.specs.Here.{many, within-limit, live-few, downward, encloses-here}
+use Rattle.steps.specs.Here.{many, within-activations, live-few, downward, encloses-here}
 use Rattle.steps.specs.Reads as reads
 use Rattle.steps.specs.Loop.{leaves, jumped}
 use Rattle.steps.specs.Entered.{body-head, entered}
@@ -68,7 +68,7 @@ module _ {code : List ℕ} {activations limit : ℕ} {cells : List ℤ} {records
   live-frame k h = getElem-in fs k (omega (arith, many (w .standing)))
 
   pub room-there : (k : ℕ) → k ≤ here .live → Room records k
-  room-there k h = record { few = omega (arith, live-few (w .standing)); there = omega (arith, w .room, within-limit (w .standing)) }
+  room-there k h = record { few = omega (arith, live-few (w .standing)); there = omega (arith, w .room, within-activations (w .standing)) }
 
   pub linked : Linked records (here .live)
   linked =

@@ -13,10 +13,10 @@ ghost use lib.ListN.{getD, set};
 ghost use Rattle.resolved.specs.Resolved.{positionIn};
 ghost use Rattle.run_moves.specs.Effects.{handedWord};
 ghost use Rattle.run_moves.specs.Acting.{argumentsFrom, setAll};
-ghost use Rattle.run_statements.specs.Pieces.{only-words};
+ghost use Rattle.run_statements.specs.Pieces.{only-cells};
 ghost use Rattle.chain_links.specs.Finding.{byChain, Handing, Passing, argumentsEnd};
 
-// Behind which field of the next statement its arguments end; a BK has none.
+// After which field of the next statement its arguments end; a BK has none.
 pub fn arguments_end(code: &[u32; 4096], here: Registers) -> usize
     requires { ⌜ here .at + 3 ≤ 4096 ⌝ }
     ensures { λ r. ⌜ r ≡ argumentsEnd (now (code .entry)) (here .at) ⌝ }
@@ -51,7 +51,7 @@ pub fn hand(
     requires { ⌜ Handing (now code) (now records) here last ⌝ }
     ensures { λ _. ⌜ now (cells .exit) ≡ setAll (now (cells .entry)) (32 * here .live + 32)
         (argumentsFrom (byChain (now (cells .entry)) (now (records .entry)) (here .live) (here .level))
-        (only-words (now (code .entry)) (now (cells .entry)) (here .at)) (here .at + 3) (last - 3)) ⌝ }
+        (only-cells (now (code .entry)) (now (cells .entry)) (here .at)) (here .at + 3) (last - 3)) ⌝ }
 {
     let own = SHARE * here.live;
     let mut field = 3;

@@ -23,7 +23,7 @@ use Rattle.steps.specs.Standing.{Standing}
 use Rattle.steps.specs.Here.{live-few}
 use Rattle.steps.specs.Fields as fields
 use Rattle.resolved.specs.Layout.{operationIn, leadIn}
-use Rattle.run_statements.specs.Pieces.{FormalsBefore, only-words}
+use Rattle.run_statements.specs.Pieces.{FormalsBefore, only-cells}
 use Rattle.run_statements.specs.Numbers.{op-of}
 use Rattle.run_cells.specs.Finding.{Reachable, Direct, ThroughFormal}
 use Rattle.run_cells.specs.Asking.{wordAfter, Calling, Ready, Leads, Did, classOf}
@@ -172,11 +172,11 @@ module _ {code : List ℕ} {cells : List ℤ} {records : List Activation} {activ
 
   -- What its function may rely on, whatever its class is told of the limit and of the innermost activation
 
-  module _ (limit′ live′ : ℕ) (low : limit′ ≤ 256) (few : live′ ≤ 255) (first second third : ℕ) where
-    calling : fields.Arguments st → Calling code limit′ live′ (here .at)
-    calling a = record { limit-high = low; live-few = few; few = a .many; there = a .there }
+  module _ (activations′ live′ : ℕ) (low : activations′ ≤ 256) (few : live′ ≤ 255) (first second third : ℕ) where
+    calling : fields.Arguments st → Calling code activations′ live′ (here .at)
+    calling a = record { activations-high = low; live-few = few; few = a .many; there = a .there }
 
-    ready-by : (o : Op) → fields.Fields st o → Led first second third o → Ready code cells limit′ live′ (here .at) first second third o
+    ready-by : (o : Op) → fields.Fields st o → Led first second third o → Ready code cells activations′ live′ (here .at) first second third o
     ready-by constant-op f l = (f .0, directly 1 first l (f .1))
     ready-by add-op f l = (f .0, directly 1 first (l .0) (f .1), directly 3 second (l .1) (f .2), directly 4 third (l .2) (f .3))
     ready-by subtract-op f l = (f .0, directly 1 first (l .0) (f .1), directly 3 second (l .1) (f .2), directly 4 third (l .2) (f .3))
@@ -194,11 +194,11 @@ module _ {code : List ℕ} {cells : List ℤ} {records : List Activation} {activ
     ready-by goto-formal-op f l = (f .0, formally 1 first l (f .1))
     ready-by call-formal-op f l = (calling (f .0), formally 1 first l (f .1), formals-before first l (f .1) (f .2))
 
-    pub ready : Led first second third op → Ready code cells limit′ live′ (here .at) first second third op
+    pub ready : Led first second third op → Ready code cells activations′ live′ (here .at) first second third op
     ready l = ready-by op stand l
 
-  pub limit-high : activations ≤ 256
-  limit-high = st .sound .few
+  pub activations-high : activations ≤ 256
+  activations-high = st .sound .few
 
   pub live-low : here .live ≤ 255
   live-low = omega (arith, live-few st)
@@ -279,8 +279,8 @@ module _ {code : List ℕ} {cells : List ℤ} {records : List Activation} {activ
     pub did : {r : Move} {cells′ : List ℤ} → Said r cells′ → Did (acting way scene) cells r cells′
 
   abbrev Summed : Operation → Move → List ℤ → Type 0
-  Summed f r cells′ = (r ≡ doArithmetic way (only-words code cells (here .at)) f .move)
-      × (cells′ ≡ doArithmetic way (only-words code cells (here .at)) f .cells)
+  Summed f r cells′ = (r ≡ doArithmetic way (only-cells code cells (here .at)) f .move)
+      × (cells′ ≡ doArithmetic way (only-cells code cells (here .at)) f .cells)
 
   abbrev Own : ℕ → ℕ → ℕ → Type 0
   Own first second third = (here .at + 5 ≤ 4096) × Direct cells first (word 1) × Direct cells second (word 3) × Direct cells third (word 4)
@@ -335,7 +335,7 @@ module _ {code : List ℕ} {cells : List ℤ} {records : List Activation} {activ
       }
 
   abbrev pub Query : Type 0
-  Query = Does-as 2 3 (Final 2 3 4) (λ r cells′. (r ≡ doQuery way (only-words code cells (here .at)) .move) × (cells′ ≡ cells))
+  Query = Does-as 2 3 (Final 2 3 4) (λ r cells′. (r ≡ doQuery way (only-cells code cells (here .at)) .move) × (cells′ ≡ cells))
 
   pub queries : classOf op ≡ queryClass → Query
   unfolding operations happens
@@ -353,8 +353,8 @@ module _ {code : List ℕ} {cells : List ℤ} {records : List Activation} {activ
   pub record Stores : Type 0 where
     pub named : N 1
     pub asks : (first : ℕ) → At first 1 → (here .at + 4 ≤ 4096) × Direct cells first (word 1)
-    pub did : {r : Move} {cells′ : List ℤ} → (r ≡ doConstant way (only-words code cells (here .at)) .move)
-        × (cells′ ≡ doConstant way (only-words code cells (here .at)) .cells) → Did (acting way scene) cells r cells′
+    pub did : {r : Move} {cells′ : List ℤ} → (r ≡ doConstant way (only-cells code cells (here .at)) .move)
+        × (cells′ ≡ doConstant way (only-cells code cells (here .at)) .cells) → Did (acting way scene) cells r cells′
 
   pub stores : classOf op ≡ constantClass → Stores
   unfolding operations happens

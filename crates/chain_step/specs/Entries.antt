@@ -24,7 +24,7 @@ use Rattle.run_moves.specs.Acting.{constant-formal-op, arithmetic-formal-op, br
 use Rattle.steps.specs.Standing.{Standing}
 use Rattle.steps.specs.Fields as fields
 use Rattle.resolved.specs.Layout.{operationIn}
-use Rattle.run_statements.specs.Pieces.{only-words, blockMove}
+use Rattle.run_statements.specs.Pieces.{only-cells, blockMove}
 use Rattle.run_statements.specs.Scenes.{block-same}
 use Rattle.chain_records.specs.declared.Activation.{Activation}
 use Rattle.run_state.specs.declared.Registers.{Registers}
@@ -123,8 +123,8 @@ module _ {code : List ℕ} {activations limit : ℕ} {cells : List ℤ} {records
       → setAll cells (32 * here .live + 32) (argumentsFrom way scene (here .at + 3) n) ≡ handedOn code cells records here
   handed-to n e =
       let m : n ≡ argumentsEnd code (here .at) - 3 = omega (arith, e) in
-      ap (setAll cells (32 * here .live + 32)) (arguments-alike way scene (only-words code cells (here .at)) refl (here .at + 3) n
-      ∙ ap (argumentsFrom way (only-words code cells (here .at)) (here .at + 3)) m)
+      ap (setAll cells (32 * here .live + 32)) (arguments-alike way scene (only-cells code cells (here .at)) refl (here .at + 3) n
+      ∙ ap (argumentsFrom way (only-cells code cells (here .at)) (here .at + 3)) m)
 
   block-hands : argumentsEnd code (here .at) ≡ 3 → cells ≡ handedOn code cells records here
   unfolding setAll argumentsFrom

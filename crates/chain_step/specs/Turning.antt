@@ -6,7 +6,7 @@ use lib.IntN.{ℤ}
 use Rattle.chain_records.specs.declared.Activation.{Activation}
 use Rattle.run_state.specs.declared.Registers.{Registers}
 use Rattle.run_state.specs.Limits.{limitsBy}
-use Rattle.run_state.specs.Turns.{Leaves, Stops}
+use Rattle.run_state.specs.Turns.{LeavesProgram, Stops}
 use Rattle.chain_links.specs.Running.{Running, Succeeds}
 use Rattle.run_state.specs.declared.Turn.{Turn}
 use Rattle.run_state.specs.declared.Turn.the-variants.{Went, Finished, Stopped}
@@ -24,7 +24,7 @@ module _ {code : List ℕ} {activations limit : ℕ} {cells : List ℤ} {records
     (w : Running code activations limit cells records table here) where
   abbrev pub Turned : Turn → List ℤ → List Activation → List ℤ → Type 0
   Turned (Went here′) cells′ records′ table′ = Succeeds w cells′ records′ table′ here′
-  Turned Finished cells′ records′ table′ = Leaves here cells table cells′ table′
+  Turned Finished cells′ records′ table′ = LeavesProgram here cells table cells′ table′
   Turned (Stopped c) cells′ records′ table′ =
       Stops (limitsBy activations limit) (w .standing .stack) c (listsOf cells records table) (listsOf cells′ records′ table′)
 

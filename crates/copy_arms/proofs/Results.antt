@@ -14,7 +14,7 @@ use Rattle.run_moves.specs.declared.Effect.{Effect}
 use Rattle.run_moves.specs.declared.Effect.the-variants.{Done}
 use Rattle.run_moves.specs.declared.Move.{Move}
 use Rattle.run_moves.specs.declared.Move.the-variants.{On}
-use Rattle.run_moves.specs.Effects.{effectOf, wordsOf}
+use Rattle.run_moves.specs.Effects.{effectOf, cellsOf}
 use Rattle.run_moves.specs.Acting.{operationOf}
 use Rattle.run_statements.specs.Pieces.{moveAfter}
 use Rattle.copy_arms.specs.Parts.{branchMove}
@@ -30,9 +30,9 @@ less-done : (a b : ℤ) → Done ≡ effectOf (compute less a b)
 unfolding effectOf
 less-done a b = rw (effectOf, less-small a b (ltZ a b) refl)
 
-less-words : (ws : List ℤ) (c : ℕ) (a b : ℤ) → set ws c (compute less a b) ≡ wordsOf ws c (compute less a b)
-unfolding wordsOf
-less-words ws c a b = rw (wordsOf, less-small a b (ltZ a b) refl)
+less-words : (ws : List ℤ) (c : ℕ) (a b : ℤ) → set ws c (compute less a b) ≡ cellsOf ws c (compute less a b)
+unfolding cellsOf
+less-words ws c a b = rw (cellsOf, less-small a b (ltZ a b) refl)
 
 module _ (cells : List ℤ) (next n : ℕ) where
   abbrev result : Operation → ℕ → ℕ → ℤ
@@ -41,15 +41,15 @@ module _ (cells : List ℤ) (next n : ℕ) where
   module _ {to left right t l r : ℕ} (p : t ≡ to) (q : l ≡ left) (s : r ≡ right) where
     pub computes :
         (o : Operation) → operationOf n ≡ o → {m : Move} {e : Effect} {ws : List ℤ} →
-        m ≡ moveAfter e next → e ≡ effectOf (result o l r) → ws ≡ wordsOf cells t (result o l r) →
-        (m ≡ moveAfter (effectOf (result (operationOf n) left right)) next) × (ws ≡ wordsOf cells to (result (operationOf n) left right))
+        m ≡ moveAfter e next → e ≡ effectOf (result o l r) → ws ≡ cellsOf cells t (result o l r) →
+        (m ≡ moveAfter (effectOf (result (operationOf n) left right)) next) × (ws ≡ cellsOf cells to (result (operationOf n) left right))
     computes o k m e ws =
         let z : result o l r ≡ result (operationOf n) left right = rw (q, s, k) in
-        (m ∙ ap (λ (e : Effect). moveAfter e next) (e ∙ ap effectOf z), ws ∙ ap₂ (wordsOf cells) p z)
+        (m ∙ ap (λ (e : Effect). moveAfter e next) (e ∙ ap effectOf z), ws ∙ ap₂ (cellsOf cells) p z)
 
     pub compares :
         operationOf n ≡ less → {ws : List ℤ} → ws ≡ set cells t (result less l r) →
-        (On next ≡ moveAfter (effectOf (result (operationOf n) left right)) next) × (ws ≡ wordsOf cells to (result (operationOf n) left right))
+        (On next ≡ moveAfter (effectOf (result (operationOf n) left right)) next) × (ws ≡ cellsOf cells to (result (operationOf n) left right))
     unfolding moveAfter
     compares k ws =
         let a = getD cells l (pos 0) in

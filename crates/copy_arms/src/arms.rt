@@ -12,7 +12,7 @@ ghost use mathlib.Core.Path.{_≡_};
 ghost use Prim.Native.Nat.{_+_, _*_, _<_, _≤_};
 ghost use lib.ListN.{length, getD, set};
 ghost use Rattle.language.specs.Encoding.{signed};
-ghost use Rattle.run_moves.specs.Effects.{effectOf, wordsOf};
+ghost use Rattle.run_moves.specs.Effects.{effectOf, cellsOf};
 ghost use Rattle.run_statements.specs.Pieces.{moveAfter};
 ghost use Rattle.copy_arms.specs.Parts.{cellAt, variableAt, NameAt, resultAt, jumpAt, branchMove};
 
@@ -55,7 +55,7 @@ pub fn do_arithmetic(
     requires { ⌜ NameAt (now area) (now firsts) (now starts) live (place + 3) ⌝ }
     requires { ⌜ NameAt (now area) (now firsts) (now starts) live (place + 4) ⌝ }
     ensures { λ r. ⌜ r ≡ moveAfter (effectOf (resultAt (now (cells .entry)) (now (area .entry)) (now (firsts .entry)) (now (starts .entry)) live place)) (at + 5) ⌝ }
-    ensures { λ _. ⌜ now (cells .exit) ≡ wordsOf (now (cells .entry)) (cellAt (now (area .entry)) (now (firsts .entry)) (now (starts .entry)) live (place + 1)) (resultAt (now (cells .entry)) (now (area .entry)) (now (firsts .entry)) (now (starts .entry)) live place) ⌝ }
+    ensures { λ _. ⌜ now (cells .exit) ≡ cellsOf (now (cells .entry)) (cellAt (now (area .entry)) (now (firsts .entry)) (now (starts .entry)) live (place + 1)) (resultAt (now (cells .entry)) (now (area .entry)) (now (firsts .entry)) (now (starts .entry)) live place) ⌝ }
 {
     let first = first_of(firsts, live);
     let start = start_of(starts, live);
@@ -63,10 +63,10 @@ pub fn do_arithmetic(
     let left = named_by(area, firsts, starts, live, first, start, place + 3);
     let right = named_by(area, firsts, starts, live, first, start, place + 4);
     let operation = field(area, place + 2);
-    if operation == 0 {
+    if operation == layout::PLUS {
         return computed(run_words::add(cells, to, left, right), at);
     }
-    if operation == 1 {
+    if operation == layout::MINUS {
         return computed(run_words::subtract(cells, to, left, right), at);
     }
     run_words::compare(cells, to, left, right);

@@ -20,7 +20,7 @@ use Rattle.run_moves.specs.declared.Move.{Move}
 use Rattle.run_moves.specs.declared.Ask.{Ask}
 use Rattle.run_moves.specs.declared.Ask.the-variants.{Query}
 use Rattle.run_moves.specs.declared.Move.the-variants.{On, Table as Asks, Jump, Enter}
-use Rattle.run_moves.specs.Effects.{effectOf, wordsOf, sameKinds}
+use Rattle.run_moves.specs.Effects.{effectOf, cellsOf, sameKinds}
 use Rattle.run_moves.specs.Acting.{Finding, Scene, field, valueOf, moves, rewrites, operationOf, setAll, arithmeticMove, noRoom, argumentsAgree, doCallFormal, doConstant as actConstant, doArithmetic as actArithmetic, doGoto as actGoto, doBranch as actBranch, doBlock as actBlock, argumentsFrom as argumentsFound, doCall as actCall, doChange as actChange, doQuery as actQuery}
 use Rattle.resolved.specs.Layout.{operationIn, formalsIn, cellFrom, activationIn, heldFrom}
 use Rattle.run_statements.specs.Pieces.{moveAfter, blockMove}
@@ -50,8 +50,8 @@ module _ (c : Copy) (s : Scene) (F : Finding) where
       let y = compute o (valueOf F s (field s 3)) (valueOf F s (field s 4)) in
       let z : compute (operationOf (text c s 2)) (valueAt c s 3) (valueAt c s 4) ≡ y =
       λ i. compute (e i) (getD (s .cells) (a .cell-is i) (pos 0)) (getD (s .cells) (b .cell-is i) (pos 0)) in
-      (λ i. rewrites s (moveAfter (effectOf (z i)) (s .at + 5)) (wordsOf (s .cells) (t .cell-is i) (z i)))
-      ∙ ap (λ (m : Move). rewrites s m (wordsOf (s .cells) (F .cell (field s 1)) y)) (move-same (effectOf y))
+      (λ i. rewrites s (moveAfter (effectOf (z i)) (s .at + 5)) (cellsOf (s .cells) (t .cell-is i) (z i)))
+      ∙ ap (λ (m : Move). rewrites s m (cellsOf (s .cells) (F .cell (field s 1)) y)) (move-same (effectOf y))
 
   -- Jumps
 

@@ -10,7 +10,7 @@ use Rattle.run_state.specs.declared.Turn.{Turn}
 use Rattle.run_state.specs.declared.Turn.the-variants.{Went, Finished, Stopped}
 use Rattle.run_state.specs.declared.Halt.{Halt}
 use Rattle.run_state.specs.Limits.{limitsBy}
-use Rattle.run_state.specs.Turns.{Leaves, Stops}
+use Rattle.run_state.specs.Turns.{LeavesProgram, Stops}
 use Rattle.run_state.specs.Ended as state
 use Rattle.copy_moves.specs.Running.{Running, Succeeds}
 
@@ -50,7 +50,7 @@ module _ {code names : List ℕ} {activations limit : ℕ} {cells : List ℤ} {a
     (w : Running code names activations limit cells area width blocks nexts firsts starts targets looked table here) where
   abbrev pub Turned : Turn → List ℤ → List ℕ → List ℕ → List ℕ → List ℕ → List ℕ → List ℕ → List ℕ → List ℤ → Type 0
   Turned (Went here′) cells′ area′ blocks′ nexts′ firsts′ starts′ targets′ looked′ table′ = Succeeds w cells′ area′ blocks′ nexts′ firsts′ starts′ targets′ looked′ table′ here′
-  Turned Finished cells′ area′ blocks′ nexts′ firsts′ starts′ targets′ looked′ table′ = Leaves here cells table cells′ table′
+  Turned Finished cells′ area′ blocks′ nexts′ firsts′ starts′ targets′ looked′ table′ = LeavesProgram here cells table cells′ table′
   Turned (Stopped c) cells′ area′ blocks′ nexts′ firsts′ starts′ targets′ looked′ table′ =
       Stops (limitsBy activations limit) (w .standing .stack) c (arraysOf cells area blocks nexts firsts starts targets looked table)
       (arraysOf cells′ area′ blocks′ nexts′ firsts′ starts′ targets′ looked′ table′)

@@ -22,7 +22,7 @@ use Rattle.table_pairs.specs.declared.Change.the-variants.{Done as Count, Stopp
 use Rattle.resolved.specs.Layout.{endIn}
 use Rattle.run_statements.specs.Answers.{Answered, turnAfter, done-goes, stopped-halts}
 use Rattle.steps.specs.Means.{GoesOn, JumpsTo, EntersAt, AnswerMeans, MoveMeans}
-use Rattle.steps.specs.Here.{many, within-limit, live-few}
+use Rattle.steps.specs.Here.{many, within-activations, live-few}
 use Rattle.steps.specs.Reads.{block-within, end-there, end-here}
 use Rattle.steps.specs.Loop.{leaves, jumped}
 use Rattle.copy_statements.specs.declared.moved.Moved.{Moved}
@@ -76,7 +76,7 @@ module _ {code names : List ℕ} {activations limit : ℕ} {cells : List ℤ} {a
   -- The next statement
 
   pub base-within : here .live * width ≤ length area
-  base-within = omega (arith, w .room, mul-le-mul-right width (within-limit (w .standing)))
+  base-within = omega (arith, w .room, mul-le-mul-right width (within-activations (w .standing)))
 
   -- what the move says, as the engine goes on by it
   abbrev MovedMeans : Moved → List ℤ → Type 0

@@ -27,7 +27,7 @@ use Rattle.resolved.specs.Resolved.{placeOf, endPlace, stmtPlace, levelIn, reso
 use Rattle.resolved.specs.Lengths.{covers-at}
 use Rattle.resolved.specs.Places.{Placed, enclosed-placed, block-place, end-is, place-is, place-within}
 use Rattle.run_moves.specs.Acting.{Scene, field}
-use Rattle.steps.specs.Here.{many, last-is, here as last-here, covered, at-is, here-bounded, encloses-here, within-limit, goes-on-at}
+use Rattle.steps.specs.Here.{many, last-is, here as last-here, covered, at-is, here-bounded, encloses-here, within-activations, goes-on-at}
 use Rattle.steps.specs.Reads.{fields-within}
 use Rattle.steps.specs.Going.{sceneOf}
 use Rattle.copy_fields.specs.NameFields.{namedStmt}
@@ -116,7 +116,7 @@ module _ {code names : List ℕ} {activations limit : ℕ} {cells : List ℤ} {a
 
     pub fields-there : (n : ℕ) → n ≤ length (stmtFields x) → Fields copyOf sceneIn n
     fields-there n h =
-        let rooms = mul-le-mul-right width (within-limit (w .standing)) in
+        let rooms = mul-le-mul-right width (within-activations (w .standing)) in
         record { within = omega (arith, fields-within (w .standing) x q); there = omega (arith, ends, end-within-script, w .wide, w .room, rooms) }
 
     module _ (a : Activation) (innermost : getElem? (w .copies .live) (here .live) ≡ some a) (fields-named : NamedHere) (written : WrittenHere) where

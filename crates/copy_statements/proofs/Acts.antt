@@ -13,7 +13,7 @@ use Rattle.language.specs.Encoding.{signed, BK-mark, CL-mark, GO-mark, IF-mark,
 use Rattle.run_moves.specs.declared.Move.{Move}
 use Rattle.run_moves.specs.declared.Ask.the-variants.{Add, Remove, Query}
 use Rattle.run_moves.specs.declared.Move.the-variants.{On, Table as Asks}
-use Rattle.run_moves.specs.Effects.{effectOf, wordsOf}
+use Rattle.run_moves.specs.Effects.{effectOf, cellsOf}
 use Rattle.run_moves.specs.Acting.{Scene, moves, rewrites}
 use Rattle.run_statements.specs.Pieces.{moveAfter, blockMove}
 use Rattle.run_statements.specs.Scenes.{Done}
@@ -54,7 +54,7 @@ module _ (c : Copy) (s : Scene) where
 
   pub arithmetic-acts :
       {r : Move} {ws : List ℤ} → let z = resultAt (s .cells) (c .area) (c .firsts) (c .starts) (s .live) place in
-      r ≡ moveAfter (effectOf z) (s .at + 5) → ws ≡ wordsOf (s .cells) (cellAt (c .area) (c .firsts) (c .starts) (s .live) (place + 1)) z →
+      r ≡ moveAfter (effectOf z) (s .at + 5) → ws ≡ cellsOf (s .cells) (cellAt (c .area) (c .firsts) (c .starts) (s .live) (place + 1)) z →
       Done (happens c s arithmetic) r ws
   unfolding happens doArithmetic rewrites
   arithmetic-acts p q = (p, q)

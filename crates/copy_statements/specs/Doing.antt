@@ -15,7 +15,7 @@ use Rattle.run_moves.specs.declared.Ask.{Ask}
 use Rattle.run_moves.specs.declared.Ask.the-variants.{Add, Remove, Query}
 use Rattle.run_moves.specs.declared.Move.{Move}
 use Rattle.run_moves.specs.declared.Move.the-variants.{On, Table as Asks, Jump, Enter, Stop}
-use Rattle.run_moves.specs.Effects.{effectOf, wordsOf, sameKinds}
+use Rattle.run_moves.specs.Effects.{effectOf, cellsOf, sameKinds}
 use Rattle.run_moves.specs.Acting.{Scene, Happened, moves, rewrites, operationOf, setAll}
 use Rattle.resolved.specs.Layout.{operationIn, formalsIn, cellFrom, activationIn, heldFrom}
 use Rattle.run_statements.specs.Pieces.{moveAfter, blockMove}
@@ -49,7 +49,7 @@ module _ (c : Copy) (s : Scene) where
   unfoldable pub doArithmetic : Happened
   doArithmetic =
       let z = compute (operationOf (text 2)) (valueAt 3) (valueAt 4) in
-      rewrites s (moveAfter (effectOf z) (s .at + 5)) (wordsOf (s .cells) (cell 1) z)
+      rewrites s (moveAfter (effectOf z) (s .at + 5)) (cellsOf (s .cells) (cell 1) z)
 
   -- to the label in a field
   unfoldable pub doGoto : ℕ → Happened

@@ -19,13 +19,13 @@ use Rattle.run_moves.specs.declared.Ask.the-variants.{Query}
 use Rattle.run_moves.specs.declared.Effect.{Effect}
 use Rattle.run_moves.specs.declared.Move.{Move}
 use Rattle.run_moves.specs.declared.Move.the-variants.{On, Table as Asks, Jump, Enter, Stop}
-use Rattle.run_moves.specs.Effects.{effectOf, wordsOf, sameKinds, handedWord}
+use Rattle.run_moves.specs.Effects.{effectOf, cellsOf, sameKinds, handedWord}
 use Rattle.run_moves.specs.Acting.{Finding, Scene, sceneBy, Happened, setAll, argumentsFrom, operationOf}
 use Rattle.run_moves.specs.Acting.{doConstant, doArithmetic, doGoto, doBranch, doCall, argumentsAgree, doCallFormal, doChange, doQuery}
 use Rattle.resolved.specs.Resolved.{direct, formalIn, levelIn, positionIn, targetIn}
 use Rattle.arrays.specs.Found.{heldBy, cellBy}
 use Rattle.resolved.specs.Layout.{activationIn, cellIn, leadIn, formalsIn}
-use Rattle.run_statements.specs.Pieces.{only-words, moveAfter, enteredBy, FormalsBefore}
+use Rattle.run_statements.specs.Pieces.{only-cells, moveAfter, enteredBy, FormalsBefore}
 use Rattle.run_statements.specs.Scenes.{Done}
 use Rattle.run_statements.specs.Words.{read-back, is-zero, not-zero, is-direct, is-formal, cell-direct, cell-formal, home-direct, target-direct, home-formal, target-formal, handed-is}
 use Rattle.run_statements.specs.Doing.{direct-cell, constant-done, is-plus, is-minus, is-less, arithmetic-done, compare-done, goto-done, branch-not, branch-goes}
@@ -62,7 +62,7 @@ module _ (code : List ℕ) (cells : List ℤ) (display : List ℕ) (at : ℕ) wh
   F = byDisplay cells display
 
   abbrev o : Scene
-  o = only-words code cells at
+  o = only-cells code cells at
 
   abbrev w : ℕ → ℕ
   w i = getD code (at + i) 0
@@ -87,16 +87,16 @@ module _ (code : List ℕ) (cells : List ℤ) (display : List ℕ) (at : ℕ) wh
 
   module _ {t l r : ℕ} {m : Move} {e : Effect} {ws : List ℤ} where
     pub sum-own : (p : Operation) → t ≡ ownCell display (w 1) → l ≡ ownCell display (w 3) → r ≡ ownCell display (w 4) → Operands (Direct cells display) code at
-        → m ≡ moveAfter e (at + 5) → e ≡ effectOf (result p l r) → ws ≡ wordsOf cells t (result p l r) → Done (doArithmetic F o p) m ws
+        → m ≡ moveAfter e (at + 5) → e ≡ effectOf (result p l r) → ws ≡ cellsOf cells t (result p l r) → Done (doArithmetic F o p) m ws
     sum-own p t l r d = arithmetic-done F o p (own 1 t (d .target)) (own 3 l (d .left)) (own 4 r (d .right))
 
     module _ {n : ℕ} (read : n ≡ w 2) where
       pub sum-found : n ≡ 0 → t ≡ F .cell (w 1) → l ≡ F .cell (w 3) → r ≡ F .cell (w 4)
-          → m ≡ moveAfter e (at + 5) → e ≡ effectOf (result plus l r) → ws ≡ wordsOf cells t (result plus l r) → Done (doArithmetic F o (operationOf (w 2))) m ws
+          → m ≡ moveAfter e (at + 5) → e ≡ effectOf (result plus l r) → ws ≡ cellsOf cells t (result plus l r) → Done (doArithmetic F o (operationOf (w 2))) m ws
       sum-found z t l r q a b = rw (is-plus (sym read ∙ z)) (arithmetic-done F o plus t l r q a b)
 
       pub difference-found : n ≡ 1 → t ≡ F .cell (w 1) → l ≡ F .cell (w 3) → r ≡ F .cell (w 4)
-          → m ≡ moveAfter e (at + 5) → e ≡ effectOf (result minus l r) → ws ≡ wordsOf cells t (result minus l r) → Done (doArithmetic F o (operationOf (w 2))) m ws
+          → m ≡ moveAfter e (at + 5) → e ≡ effectOf (result minus l r) → ws ≡ cellsOf cells t (result minus l r) → Done (doArithmetic F o (operationOf (w 2))) m ws
       difference-found z t l r q a b = rw (is-minus (sym read ∙ z)) (arithmetic-done F o minus t l r q a b)
 
   module _ {t l r : ℕ} {ws : List ℤ} where
@@ -163,7 +163,7 @@ module _ (code : List ℕ) (cells : List ℤ) (display : List ℕ) (at : ℕ) wh
 
     pub body-entered :
         (home body : ℕ) {count : ℕ} {ws : List ℤ} → live + 1 < activations → count ≡ w 2 →
-        ws ≡ setAll cells (nextFirst live) (argumentsFrom F (only-words code cells (at + 3)) (at + 3) count) →
+        ws ≡ setAll cells (nextFirst live) (argumentsFrom F (only-cells code cells (at + 3)) (at + 3) count) →
         Done (enteredBy F s home body) (Enter body home (at + 3 + count)) ws
     body-entered home body h k e =
         let d = entered F s h home body in
@@ -225,8 +225,8 @@ module _ (code : List ℕ) (cells : List ℤ) (display : List ℕ) (at : ℕ) wh
 pub record Handing (code : List ℕ) (cells : List ℤ) (display : List ℕ) (live at count : ℕ) (now : List ℤ) (i : ℕ) : Type 0 where
   few : i ≤ count
   kept : (k : ℕ) → k < nextFirst live → getD now k (pos 0) ≡ getD cells k (pos 0)
-  rest : setAll now (nextFirst live + i) (argumentsFrom (byDisplay cells display) (only-words code cells at) (at + i) (count - i)) ≡
-      setAll cells (nextFirst live) (argumentsFrom (byDisplay cells display) (only-words code cells at) at count)
+  rest : setAll now (nextFirst live + i) (argumentsFrom (byDisplay cells display) (only-cells code cells at) (at + i) (count - i)) ≡
+      setAll cells (nextFirst live) (argumentsFrom (byDisplay cells display) (only-cells code cells at) at count)
 
 module _ {code : List ℕ} {cells : List ℤ} {display : List ℕ} {live at count : ℕ} where
   pub handing-start : Handing code cells display live at count cells 0
@@ -237,8 +237,8 @@ module _ {code : List ℕ} {cells : List ℤ} {display : List ℕ} {live at coun
       record { few = omega arith; kept = λ k h. refl; rest = rw (f, p, n) }
 
   module _ {now : List ℤ} {i : ℕ} (done : Handing code cells display live at count now i) where
-    pub handing-end : count ≤ i → now ≡ setAll cells (nextFirst live) (argumentsFrom (byDisplay cells display) (only-words code cells at) at count)
-    handing-end h = arguments-end (byDisplay cells display) (only-words code cells at) now (nextFirst live) at count i h ∙ done .rest
+    pub handing-end : count ≤ i → now ≡ setAll cells (nextFirst live) (argumentsFrom (byDisplay cells display) (only-cells code cells at) at count)
+    handing-end h = arguments-end (byDisplay cells display) (only-cells code cells at) now (nextFirst live) at count i h ∙ done .rest
 
     -- the next argument, by its word and its own cell as they were read
     module _ {v c : ℕ} (more : i < count) (reachable : ArgumentsReachable code display live at count) (read : v ≡ getD code (at + i) 0) (own : c ≡ ownCell display v) where
@@ -259,5 +259,5 @@ module _ {code : List ℕ} {cells : List ℤ} {display : List ℕ} {live at coun
           record {
             few = omega arith;
             kept = kept-below now cells (nextFirst live) i _ (done .kept);
-            rest = arguments-next (byDisplay cells display) (only-words code cells at) now (nextFirst live) at count i more q ∙ done .rest;
+            rest = arguments-next (byDisplay cells display) (only-cells code cells at) now (nextFirst live) at count i more q ∙ done .rest;
           }

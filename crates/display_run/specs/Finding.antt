@@ -77,7 +77,7 @@ module _ (P : ℕ → Type 0) (code : List ℕ) (at : ℕ) where
 
 -- a call, whichever way its procedure is found
 pub record Callable (code : List ℕ) (display : List ℕ) (activations live at : ℕ) : Type 0 where
-  pub limit-few : activations ≤ 256
+  pub activations-few : activations ≤ 256
   pub live-few : live ≤ 255
   pub within : at + 3 ≤ 4096
   pub arguments : ArgumentsReachable code display live (at + 3) (getD code (at + 2) 0)

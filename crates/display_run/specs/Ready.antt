@@ -98,7 +98,7 @@ module _ {code : List ℕ} {cells : List ℤ} {display : List ℕ} {activations 
   two-reachable f = record { within = f .0; first = reachable 1 (f .1); second = reachable 2 (f .2) }
 
   callable : fields.Arguments st → Callable code display activations live at
-  callable a = record { limit-few = st .sound .few; live-few = few; within = omega (arith, a .there); arguments = arguments a }
+  callable a = record { activations-few = st .sound .few; live-few = few; within = omega (arith, a .there); arguments = arguments a }
 
   ready-by : (o : Op) → fields.Fields st o → Ready o
   ready-by constant-op f = (f .0, directly 1 (f .1))

@@ -17,7 +17,7 @@ use Rattle.run_state.specs.declared.Turn.{Turn}
 use Rattle.run_state.specs.declared.Turn.the-variants.{Went, Finished, Stopped}
 use Rattle.run_state.specs.declared.Halt.{Halt}
 use Rattle.run_state.specs.Limits.{limitsBy}
-use Rattle.run_state.specs.Turns.{Leaves, Stops}
+use Rattle.run_state.specs.Turns.{LeavesProgram, Stops}
 use Rattle.run_state.specs.Ended.{EndedFrom}
 use Rattle.display_moves.specs.Running.{Running, Succeeds}
 
@@ -40,7 +40,7 @@ module _ {code : List ℕ} {activations limit : ℕ} {cells : List ℤ} {blocks 
     (w : Running code activations limit cells blocks nexts links display table here) where
   abbrev pub Turned : Turn → List ℤ → List ℕ → List ℕ → List ℕ → List ℕ → List ℤ → Type 0
   Turned (Went here′) cells′ blocks′ nexts′ links′ display′ table′ = Succeeds w cells′ blocks′ nexts′ links′ display′ table′ here′
-  Turned Finished cells′ blocks′ nexts′ links′ display′ table′ = Leaves here cells table cells′ table′
+  Turned Finished cells′ blocks′ nexts′ links′ display′ table′ = LeavesProgram here cells table cells′ table′
   Turned (Stopped c) cells′ blocks′ nexts′ links′ display′ table′ =
       Stops (limitsBy activations limit) (w .standing .stack) c (arraysOf cells blocks nexts links display table) (arraysOf cells′ blocks′ nexts′ links′ display′ table′)
 

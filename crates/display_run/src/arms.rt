@@ -26,7 +26,7 @@ ghost use Rattle.arrays.specs.Found.{cellBy, heldBy};
 ghost use Rattle.run_moves.specs.Acting.{doConstant, doArithmetic, operationOf, doGoto, doBranch, doCall, doCallFormal, doChange, doQuery, argumentsFrom, setAll};
 ghost use Rattle.run_moves.specs.Acting.{sceneBy};
 ghost use Rattle.resolved.specs.Layout.{activationIn, leadIn};
-ghost use Rattle.run_statements.specs.Pieces.{only-words, FormalsBefore, enteredBy};
+ghost use Rattle.run_statements.specs.Pieces.{only-cells, FormalsBefore, enteredBy};
 ghost use Rattle.run_statements.specs.Scenes.{Done};
 ghost use Rattle.display_run.specs.Finding.{firstCell, ownCell, nextFirst, byDisplay, Reachable, Direct, ThroughFormal, TwoNames, ThreeNames, Operands, ArgumentsReachable, Callable};
 
@@ -52,7 +52,7 @@ pub fn do_constant(
     at: usize,
 ) -> Move
     requires { ⌜ (at + 4 ≤ 4096) × Direct (now cells) (now display) (getD (now code) (at + 1) 0) ⌝ }
-    ensures { λ r. ⌜ Done (doConstant (byDisplay (now (cells .entry)) (now (display .entry))) (only-words (now (code .entry)) (now (cells .entry)) at)) r (now (cells .exit)) ⌝ }
+    ensures { λ r. ⌜ Done (doConstant (byDisplay (now (cells .entry)) (now (display .entry))) (only-cells (now (code .entry)) (now (cells .entry)) at)) r (now (cells .exit)) ⌝ }
 {
     constant(code, cells, own_at(code, display, at + 1), at)
 }
@@ -64,14 +64,14 @@ pub fn do_constant_formal(
     at: usize,
 ) -> Move
     requires { ⌜ (at + 4 ≤ 4096) × Reachable (now cells) (now display) (getD (now code) (at + 1) 0) ⌝ }
-    ensures { λ r. ⌜ Done (doConstant (byDisplay (now (cells .entry)) (now (display .entry))) (only-words (now (code .entry)) (now (cells .entry)) at)) r (now (cells .exit)) ⌝ }
+    ensures { λ r. ⌜ Done (doConstant (byDisplay (now (cells .entry)) (now (display .entry))) (only-cells (now (code .entry)) (now (cells .entry)) at)) r (now (cells .exit)) ⌝ }
 {
     constant(code, cells, found_at(code, cells, display, at + 1), at)
 }
 
 pub fn do_add(code: &[u32; 4096], cells: &mut [i32; 8224], display: &[u16; 256], at: usize) -> Move
     requires { ⌜ Operands (Direct (now cells) (now display)) (now code) at ⌝ }
-    ensures { λ r. ⌜ Done (doArithmetic (byDisplay (now (cells .entry)) (now (display .entry))) (only-words (now (code .entry)) (now (cells .entry)) at) plus) r (now (cells .exit)) ⌝ }
+    ensures { λ r. ⌜ Done (doArithmetic (byDisplay (now (cells .entry)) (now (display .entry))) (only-cells (now (code .entry)) (now (cells .entry)) at) plus) r (now (cells .exit)) ⌝ }
 {
     let target = own_at(code, display, at + 1);
     let left = own_at(code, display, at + 3);
@@ -86,7 +86,7 @@ pub fn do_subtract(
     at: usize,
 ) -> Move
     requires { ⌜ Operands (Direct (now cells) (now display)) (now code) at ⌝ }
-    ensures { λ r. ⌜ Done (doArithmetic (byDisplay (now (cells .entry)) (now (display .entry))) (only-words (now (code .entry)) (now (cells .entry)) at) minus) r (now (cells .exit)) ⌝ }
+    ensures { λ r. ⌜ Done (doArithmetic (byDisplay (now (cells .entry)) (now (display .entry))) (only-cells (now (code .entry)) (now (cells .entry)) at) minus) r (now (cells .exit)) ⌝ }
 {
     let target = own_at(code, display, at + 1);
     let left = own_at(code, display, at + 3);
@@ -101,7 +101,7 @@ pub fn do_compare(
     at: usize,
 ) -> Move
     requires { ⌜ Operands (Direct (now cells) (now display)) (now code) at ⌝ }
-    ensures { λ r. ⌜ Done (doArithmetic (byDisplay (now (cells .entry)) (now (display .entry))) (only-words (now (code .entry)) (now (cells .entry)) at) less) r (now (cells .exit)) ⌝ }
+    ensures { λ r. ⌜ Done (doArithmetic (byDisplay (now (cells .entry)) (now (display .entry))) (only-cells (now (code .entry)) (now (cells .entry)) at) less) r (now (cells .exit)) ⌝ }
 {
     let target = own_at(code, display, at + 1);
     let left = own_at(code, display, at + 3);
@@ -117,16 +117,16 @@ pub fn do_arithmetic_formal(
     at: usize,
 ) -> Move
     requires { ⌜ Operands (Reachable (now cells) (now display)) (now code) at ⌝ }
-    ensures { λ r. ⌜ Done (doArithmetic (byDisplay (now (cells .entry)) (now (display .entry))) (only-words (now (code .entry)) (now (cells .entry)) at) (operationOf (getD (now (code .entry)) (at + 2) 0))) r (now (cells .exit)) ⌝ }
+    ensures { λ r. ⌜ Done (doArithmetic (byDisplay (now (cells .entry)) (now (display .entry))) (only-cells (now (code .entry)) (now (cells .entry)) at) (operationOf (getD (now (code .entry)) (at + 2) 0))) r (now (cells .exit)) ⌝ }
 {
     let target = found_at(code, cells, display, at + 1);
     let left = found_at(code, cells, display, at + 3);
     let right = found_at(code, cells, display, at + 4);
     let operation = code_at(code, at + 2);
-    if operation == 0 {
+    if operation == layout::PLUS {
         return computed(run_words::add(cells, target, left, right), at);
     }
-    if operation == 1 {
+    if operation == layout::MINUS {
         return computed(run_words::subtract(cells, target, left, right), at);
     }
     run_words::compare(cells, target, left, right);
@@ -149,7 +149,7 @@ pub fn do_goto_formal(
     at: usize,
 ) -> Move
     requires { ⌜ (at + 2 ≤ 4096) × ThroughFormal (now cells) (now display) (getD (now code) (at + 1) 0) ⌝ }
-    ensures { λ r. ⌜ r ≡ (doGoto (byDisplay (now (cells .entry)) (now (display .entry))) (only-words (now (code .entry)) (now (cells .entry)) at)) .move ⌝ }
+    ensures { λ r. ⌜ r ≡ (doGoto (byDisplay (now (cells .entry)) (now (display .entry))) (only-cells (now (code .entry)) (now (cells .entry)) at)) .move ⌝ }
 {
     let to = held(cells, display, code_at(code, at + 1));
     Move::Jump(activation_of(cell_of(to)), lead_of(to))
@@ -158,7 +158,7 @@ pub fn do_goto_formal(
 // IF
 pub fn do_branch(code: &[u32; 4096], cells: &[i32; 8224], display: &[u16; 256], at: usize) -> Move
     requires { ⌜ TwoNames (Direct (now cells) (now display)) (now code) at ⌝ }
-    ensures { λ r. ⌜ r ≡ (doBranch (byDisplay (now (cells .entry)) (now (display .entry))) (only-words (now (code .entry)) (now (cells .entry)) at)) .move ⌝ }
+    ensures { λ r. ⌜ r ≡ (doBranch (byDisplay (now (cells .entry)) (now (display .entry))) (only-cells (now (code .entry)) (now (cells .entry)) at)) .move ⌝ }
 {
     if cells[own_at(code, display, at + 2)] == 0 {
         return Move::On(at + 3);
@@ -173,7 +173,7 @@ pub fn do_branch_formal(
     at: usize,
 ) -> Move
     requires { ⌜ TwoNames (Reachable (now cells) (now display)) (now code) at ⌝ }
-    ensures { λ r. ⌜ r ≡ (doBranch (byDisplay (now (cells .entry)) (now (display .entry))) (only-words (now (code .entry)) (now (cells .entry)) at)) .move ⌝ }
+    ensures { λ r. ⌜ r ≡ (doBranch (byDisplay (now (cells .entry)) (now (display .entry))) (only-cells (now (code .entry)) (now (cells .entry)) at)) .move ⌝ }
 {
     if cells[found_at(code, cells, display, at + 2)] == 0 {
         return Move::On(at + 3);
@@ -194,7 +194,7 @@ fn arguments(
     count: usize,
 )
     requires { ⌜ (live ≤ 254) × ArgumentsReachable (now code) (now display) live at count ⌝ }
-    ensures { λ _. ⌜ now (cells .exit) ≡ setAll (now (cells .entry)) (nextFirst live) (argumentsFrom (byDisplay (now (cells .entry)) (now (display .entry))) (only-words (now (code .entry)) (now (cells .entry)) at) at count) ⌝ }
+    ensures { λ _. ⌜ now (cells .exit) ≡ setAll (now (cells .entry)) (nextFirst live) (argumentsFrom (byDisplay (now (cells .entry)) (now (display .entry))) (only-cells (now (code .entry)) (now (cells .entry)) at) at count) ⌝ }
 {
     let first = SHARE * live + SHARE;
     let mut i = 0;
@@ -297,7 +297,7 @@ pub fn do_change(
     ask: Ask,
 ) -> Move
     requires { ⌜ TwoNames (Reachable (now cells) (now display)) (now code) at ⌝ }
-    ensures { λ r. ⌜ r ≡ (doChange (byDisplay (now (cells .entry)) (now (display .entry))) (only-words (now (code .entry)) (now (cells .entry)) at) ask) .move ⌝ }
+    ensures { λ r. ⌜ r ≡ (doChange (byDisplay (now (cells .entry)) (now (display .entry))) (only-cells (now (code .entry)) (now (cells .entry)) at) ask) .move ⌝ }
 {
     let group = found_at(code, cells, display, at + 1);
     let member = found_at(code, cells, display, at + 2);
@@ -307,7 +307,7 @@ pub fn do_change(
 // QY
 pub fn do_query(code: &[u32; 4096], cells: &[i32; 8224], display: &[u16; 256], at: usize) -> Move
     requires { ⌜ ThreeNames (Reachable (now cells) (now display)) (now code) at ⌝ }
-    ensures { λ r. ⌜ r ≡ (doQuery (byDisplay (now (cells .entry)) (now (display .entry))) (only-words (now (code .entry)) (now (cells .entry)) at)) .move ⌝ }
+    ensures { λ r. ⌜ r ≡ (doQuery (byDisplay (now (cells .entry)) (now (display .entry))) (only-cells (now (code .entry)) (now (cells .entry)) at)) .move ⌝ }
 {
     let target = found_at(code, cells, display, at + 1);
     let group = found_at(code, cells, display, at + 2);

@@ -37,6 +37,11 @@ pub const GOTO_FORMAL: usize = 14;
 
 pub const CALL_FORMAL: usize = 15;
 
+// AR's field for a sum and for a difference; the operations from ADD on go in the same order.
+pub const PLUS: usize = 0;
+
+pub const MINUS: usize = 1;
+
 // The kinds of names.
 pub const VARIABLE: usize = 0;
 

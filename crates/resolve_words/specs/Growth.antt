@@ -1,4 +1,4 @@
--- An array that is written from its start on. Behind what is written stand zeros.
+-- An array that is written from its start on. After what is written stand zeros.
 use Prim.Native.Nat.{ℕ, _*_, _-_, _≤_}
 use mathlib.Core.List.{List, _++_}
 use mathlib.Core.Path.{_≡_}

@@ -25,7 +25,7 @@ wordAfter code at i = getD code (at + i) 0
 
 -- room for one activation more is tested as it is used, and the arguments stand in the script
 pub record Calling (code : List ℕ) (activations live at : ℕ) : Type 0 where
-  pub limit-high : activations ≤ 256
+  pub activations-high : activations ≤ 256
   pub live-few : live ≤ 255
   pub few : wordAfter code at 2 ≤ 32
   pub there : at + 3 + wordAfter code at 2 ≤ 4096

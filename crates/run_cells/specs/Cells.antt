@@ -16,10 +16,10 @@ use Rattle.arrays.specs.Found.{heldBy, cellBy}
 use Rattle.run_moves.specs.declared.Effect.{Effect}
 use Rattle.run_moves.specs.declared.Move.{Move}
 use Rattle.run_moves.specs.declared.Move.the-variants.{On, Jump}
-use Rattle.run_moves.specs.Effects.{effectOf, wordsOf}
+use Rattle.run_moves.specs.Effects.{effectOf, cellsOf}
 use Rattle.run_moves.specs.Acting.{Scene, doConstant, doArithmetic, doGoto, doBranch}
 use Rattle.resolved.specs.Layout.{activationIn, cellIn, leadIn}
-use Rattle.run_statements.specs.Pieces.{only-words, moveAfter}
+use Rattle.run_statements.specs.Pieces.{only-cells, moveAfter}
 use Rattle.run_statements.specs.Words.{cell-formal, home-direct, target-direct, home-formal, target-formal}
 use Rattle.run_statements.specs.Doing.{direct-cell, constant-done, arithmetic-done, compare-done, goto-done, branch-not, branch-goes}
 use Rattle.steps.specs.Finding.{byFirst}
@@ -61,7 +61,7 @@ module _ (code : List ℕ) (cells : List ℤ) (at : ℕ) where
   name i = wordAfter code at i
 
   abbrev scene : Scene
-  scene = only-words code cells at
+  scene = only-cells code cells at
 
   -- KN
   pub constant-at :
@@ -81,7 +81,7 @@ module _ (code : List ℕ) (cells : List ℤ) (at : ℕ) where
       (r : right ≡ cellBy cells third (name 4)) where
     pub arithmetic-at :
         (o : Operation) {m : Move} {e : Effect} {ws : List ℤ} → m ≡ moveAfter e (at + 5) → e ≡ effectOf (result o left right) →
-        ws ≡ wordsOf cells target (result o left right) →
+        ws ≡ cellsOf cells target (result o left right) →
         (firstOf : ℕ → ℕ) → first ≡ firstOf (name 1) → second ≡ firstOf (name 3) → third ≡ firstOf (name 4) →
         (m ≡ doArithmetic (byFirst cells firstOf) scene o .move) × (ws ≡ doArithmetic (byFirst cells firstOf) scene o .cells)
     arithmetic-at o m e ws firstOf p q u =

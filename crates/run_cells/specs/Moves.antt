@@ -22,7 +22,7 @@ use Rattle.run_moves.specs.Acting.{Finding, Scene, Happened, moves, rewrites, v
 use Rattle.run_moves.specs.Acting.{noRoom, doBlock, doCall, argumentsAgree, doCallFormal, doChange, doQuery, Op, opOf}
 use Rattle.run_moves.specs.Acting.{happens, acting}
 use Rattle.run_moves.specs.Acting.{sceneBy}
-use Rattle.run_statements.specs.Pieces.{only-words, blockMove}
+use Rattle.run_statements.specs.Pieces.{only-cells, blockMove}
 use Rattle.run_statements.specs.Doing.{call-agreed}
 use Rattle.run_statements.specs.Scenes.{Done, constant-same, arithmetic-same, goto-same, branch-same, block-same, call-formal-same, change-same}
 use Rattle.run_statements.specs.Scenes.{query-same, acts}
@@ -53,7 +53,7 @@ module _ (F : Finding) (s : Scene) where
 
   -- the scene as far as a statement looks at it
   abbrev o : Scene
-  o = only-words (s .code) (s .cells) (s .at)
+  o = only-cells (s .code) (s .cells) (s .at)
 
   abbrev t : Scene
   t = sceneBy (s .code) (s .cells) (s .activations) (s .live) (s .at)

@@ -23,14 +23,14 @@ ghost use Rattle.arrays.specs.Found.{heldBy};
 ghost use Rattle.resolved.specs.Layout.{activationIn, leadIn};
 ghost use Rattle.run_moves.specs.Acting.{doConstant, doArithmetic, operationOf, doGoto, doBranch, doCallFormal, doChange, doQuery};
 ghost use Rattle.run_moves.specs.Acting.{sceneBy};
-ghost use Rattle.run_statements.specs.Pieces.{only-words, FormalsBefore};
+ghost use Rattle.run_statements.specs.Pieces.{only-cells, FormalsBefore};
 ghost use Rattle.steps.specs.Finding.{byFirst};
 ghost use Rattle.run_cells.specs.Finding.{Reachable, Direct, ThroughFormal};
 ghost use Rattle.run_cells.specs.Asking.{wordAfter, Calling, callMove};
 
 pub fn do_constant(code: &[u32; 4096], cells: &mut [i32; 8224], at: usize, first: usize) -> Move
     requires { ⌜ (at + 4 ≤ 4096) × Direct (now cells) first (wordAfter (now code) at 1) ⌝ }
-    ensures { λ r. ⌜ ((firstOf : ℕ → ℕ) → first ≡ firstOf (wordAfter (now (code .entry)) at 1) → (r ≡ doConstant (byFirst (now (cells .entry)) firstOf) (only-words (now (code .entry)) (now (cells .entry)) at) .move) × (now (cells .exit) ≡ doConstant (byFirst (now (cells .entry)) firstOf) (only-words (now (code .entry)) (now (cells .entry)) at) .cells)) ⌝ }
+    ensures { λ r. ⌜ ((firstOf : ℕ → ℕ) → first ≡ firstOf (wordAfter (now (code .entry)) at 1) → (r ≡ doConstant (byFirst (now (cells .entry)) firstOf) (only-cells (now (code .entry)) (now (cells .entry)) at) .move) × (now (cells .exit) ≡ doConstant (byFirst (now (cells .entry)) firstOf) (only-cells (now (code .entry)) (now (cells .entry)) at) .cells)) ⌝ }
 {
     constant(code, cells, own(code, at + 1, first), at)
 }
@@ -42,7 +42,7 @@ pub fn do_constant_formal(
     first: usize,
 ) -> Move
     requires { ⌜ (at + 4 ≤ 4096) × Reachable (now cells) first (wordAfter (now code) at 1) ⌝ }
-    ensures { λ r. ⌜ ((firstOf : ℕ → ℕ) → first ≡ firstOf (wordAfter (now (code .entry)) at 1) → (r ≡ doConstant (byFirst (now (cells .entry)) firstOf) (only-words (now (code .entry)) (now (cells .entry)) at) .move) × (now (cells .exit) ≡ doConstant (byFirst (now (cells .entry)) firstOf) (only-words (now (code .entry)) (now (cells .entry)) at) .cells)) ⌝ }
+    ensures { λ r. ⌜ ((firstOf : ℕ → ℕ) → first ≡ firstOf (wordAfter (now (code .entry)) at 1) → (r ≡ doConstant (byFirst (now (cells .entry)) firstOf) (only-cells (now (code .entry)) (now (cells .entry)) at) .move) × (now (cells .exit) ≡ doConstant (byFirst (now (cells .entry)) firstOf) (only-cells (now (code .entry)) (now (cells .entry)) at) .cells)) ⌝ }
 {
     constant(code, cells, cell(code, cells, at + 1, first), at)
 }
@@ -56,7 +56,7 @@ pub fn do_add(
     third: usize,
 ) -> Move
     requires { ⌜ (at + 5 ≤ 4096) × Direct (now cells) first (wordAfter (now code) at 1) × Direct (now cells) second (wordAfter (now code) at 3) × Direct (now cells) third (wordAfter (now code) at 4) ⌝ }
-    ensures { λ r. ⌜ ((firstOf : ℕ → ℕ) → first ≡ firstOf (wordAfter (now (code .entry)) at 1) → second ≡ firstOf (wordAfter (now (code .entry)) at 3) → third ≡ firstOf (wordAfter (now (code .entry)) at 4) → (r ≡ doArithmetic (byFirst (now (cells .entry)) firstOf) (only-words (now (code .entry)) (now (cells .entry)) at) plus .move) × (now (cells .exit) ≡ doArithmetic (byFirst (now (cells .entry)) firstOf) (only-words (now (code .entry)) (now (cells .entry)) at) plus .cells)) ⌝ }
+    ensures { λ r. ⌜ ((firstOf : ℕ → ℕ) → first ≡ firstOf (wordAfter (now (code .entry)) at 1) → second ≡ firstOf (wordAfter (now (code .entry)) at 3) → third ≡ firstOf (wordAfter (now (code .entry)) at 4) → (r ≡ doArithmetic (byFirst (now (cells .entry)) firstOf) (only-cells (now (code .entry)) (now (cells .entry)) at) plus .move) × (now (cells .exit) ≡ doArithmetic (byFirst (now (cells .entry)) firstOf) (only-cells (now (code .entry)) (now (cells .entry)) at) plus .cells)) ⌝ }
 {
     let target = own(code, at + 1, first);
     let left = own(code, at + 3, second);
@@ -73,7 +73,7 @@ pub fn do_subtract(
     third: usize,
 ) -> Move
     requires { ⌜ (at + 5 ≤ 4096) × Direct (now cells) first (wordAfter (now code) at 1) × Direct (now cells) second (wordAfter (now code) at 3) × Direct (now cells) third (wordAfter (now code) at 4) ⌝ }
-    ensures { λ r. ⌜ ((firstOf : ℕ → ℕ) → first ≡ firstOf (wordAfter (now (code .entry)) at 1) → second ≡ firstOf (wordAfter (now (code .entry)) at 3) → third ≡ firstOf (wordAfter (now (code .entry)) at 4) → (r ≡ doArithmetic (byFirst (now (cells .entry)) firstOf) (only-words (now (code .entry)) (now (cells .entry)) at) minus .move) × (now (cells .exit) ≡ doArithmetic (byFirst (now (cells .entry)) firstOf) (only-words (now (code .entry)) (now (cells .entry)) at) minus .cells)) ⌝ }
+    ensures { λ r. ⌜ ((firstOf : ℕ → ℕ) → first ≡ firstOf (wordAfter (now (code .entry)) at 1) → second ≡ firstOf (wordAfter (now (code .entry)) at 3) → third ≡ firstOf (wordAfter (now (code .entry)) at 4) → (r ≡ doArithmetic (byFirst (now (cells .entry)) firstOf) (only-cells (now (code .entry)) (now (cells .entry)) at) minus .move) × (now (cells .exit) ≡ doArithmetic (byFirst (now (cells .entry)) firstOf) (only-cells (now (code .entry)) (now (cells .entry)) at) minus .cells)) ⌝ }
 {
     let target = own(code, at + 1, first);
     let left = own(code, at + 3, second);
@@ -90,7 +90,7 @@ pub fn do_compare(
     third: usize,
 ) -> Move
     requires { ⌜ (at + 5 ≤ 4096) × Direct (now cells) first (wordAfter (now code) at 1) × Direct (now cells) second (wordAfter (now code) at 3) × Direct (now cells) third (wordAfter (now code) at 4) ⌝ }
-    ensures { λ r. ⌜ ((firstOf : ℕ → ℕ) → first ≡ firstOf (wordAfter (now (code .entry)) at 1) → second ≡ firstOf (wordAfter (now (code .entry)) at 3) → third ≡ firstOf (wordAfter (now (code .entry)) at 4) → (r ≡ doArithmetic (byFirst (now (cells .entry)) firstOf) (only-words (now (code .entry)) (now (cells .entry)) at) less .move) × (now (cells .exit) ≡ doArithmetic (byFirst (now (cells .entry)) firstOf) (only-words (now (code .entry)) (now (cells .entry)) at) less .cells)) ⌝ }
+    ensures { λ r. ⌜ ((firstOf : ℕ → ℕ) → first ≡ firstOf (wordAfter (now (code .entry)) at 1) → second ≡ firstOf (wordAfter (now (code .entry)) at 3) → third ≡ firstOf (wordAfter (now (code .entry)) at 4) → (r ≡ doArithmetic (byFirst (now (cells .entry)) firstOf) (only-cells (now (code .entry)) (now (cells .entry)) at) less .move) × (now (cells .exit) ≡ doArithmetic (byFirst (now (cells .entry)) firstOf) (only-cells (now (code .entry)) (now (cells .entry)) at) less .cells)) ⌝ }
 {
     let target = own(code, at + 1, first);
     let left = own(code, at + 3, second);
@@ -108,16 +108,16 @@ pub fn do_arithmetic_formal(
     third: usize,
 ) -> Move
     requires { ⌜ (at + 5 ≤ 4096) × Reachable (now cells) first (wordAfter (now code) at 1) × Reachable (now cells) second (wordAfter (now code) at 3) × Reachable (now cells) third (wordAfter (now code) at 4) ⌝ }
-    ensures { λ r. ⌜ ((firstOf : ℕ → ℕ) → first ≡ firstOf (wordAfter (now (code .entry)) at 1) → second ≡ firstOf (wordAfter (now (code .entry)) at 3) → third ≡ firstOf (wordAfter (now (code .entry)) at 4) → (r ≡ doArithmetic (byFirst (now (cells .entry)) firstOf) (only-words (now (code .entry)) (now (cells .entry)) at) (operationOf (wordAfter (now (code .entry)) at 2)) .move) × (now (cells .exit) ≡ doArithmetic (byFirst (now (cells .entry)) firstOf) (only-words (now (code .entry)) (now (cells .entry)) at) (operationOf (wordAfter (now (code .entry)) at 2)) .cells)) ⌝ }
+    ensures { λ r. ⌜ ((firstOf : ℕ → ℕ) → first ≡ firstOf (wordAfter (now (code .entry)) at 1) → second ≡ firstOf (wordAfter (now (code .entry)) at 3) → third ≡ firstOf (wordAfter (now (code .entry)) at 4) → (r ≡ doArithmetic (byFirst (now (cells .entry)) firstOf) (only-cells (now (code .entry)) (now (cells .entry)) at) (operationOf (wordAfter (now (code .entry)) at 2)) .move) × (now (cells .exit) ≡ doArithmetic (byFirst (now (cells .entry)) firstOf) (only-cells (now (code .entry)) (now (cells .entry)) at) (operationOf (wordAfter (now (code .entry)) at 2)) .cells)) ⌝ }
 {
     let target = cell(code, cells, at + 1, first);
     let left = cell(code, cells, at + 3, second);
     let right = cell(code, cells, at + 4, third);
     let operation = code_at(code, at + 2);
-    if operation == 0 {
+    if operation == layout::PLUS {
         return computed(run_words::add(cells, target, left, right), at);
     }
-    if operation == 1 {
+    if operation == layout::MINUS {
         return computed(run_words::subtract(cells, target, left, right), at);
     }
     run_words::compare(cells, target, left, right);
@@ -134,7 +134,7 @@ pub fn do_goto(code: &[u32; 4096], at: usize, first: usize) -> Move
 
 pub fn do_goto_formal(code: &[u32; 4096], cells: &[i32; 8224], at: usize, first: usize) -> Move
     requires { ⌜ (at + 2 ≤ 4096) × ThroughFormal (now cells) first (wordAfter (now code) at 1) ⌝ }
-    ensures { λ r. ⌜ ((firstOf : ℕ → ℕ) → first ≡ firstOf (wordAfter (now (code .entry)) at 1) → r ≡ doGoto (byFirst (now (cells .entry)) firstOf) (only-words (now (code .entry)) (now (cells .entry)) at) .move) ⌝ }
+    ensures { λ r. ⌜ ((firstOf : ℕ → ℕ) → first ≡ firstOf (wordAfter (now (code .entry)) at 1) → r ≡ doGoto (byFirst (now (cells .entry)) firstOf) (only-cells (now (code .entry)) (now (cells .entry)) at) .move) ⌝ }
 {
     let to = held(code, cells, at + 1, first);
     Move::Jump(activation_of(cell_of(to)), lead_of(to))
@@ -149,7 +149,7 @@ pub fn do_branch(
     second: usize,
 ) -> Move
     requires { ⌜ (at + 3 ≤ 4096) × Direct (now cells) first (wordAfter (now code) at 1) × Direct (now cells) second (wordAfter (now code) at 2) ⌝ }
-    ensures { λ r. ⌜ ((firstOf : ℕ → ℕ) → first ≡ firstOf (wordAfter (now (code .entry)) at 1) → second ≡ firstOf (wordAfter (now (code .entry)) at 2) → r ≡ doBranch (byFirst (now (cells .entry)) firstOf) (only-words (now (code .entry)) (now (cells .entry)) at) .move) ⌝ }
+    ensures { λ r. ⌜ ((firstOf : ℕ → ℕ) → first ≡ firstOf (wordAfter (now (code .entry)) at 1) → second ≡ firstOf (wordAfter (now (code .entry)) at 2) → r ≡ doBranch (byFirst (now (cells .entry)) firstOf) (only-cells (now (code .entry)) (now (cells .entry)) at) .move) ⌝ }
 {
     if cells[own(code, at + 2, second)] == 0 {
         return Move::On(at + 3);
@@ -165,7 +165,7 @@ pub fn do_branch_formal(
     second: usize,
 ) -> Move
     requires { ⌜ (at + 3 ≤ 4096) × Reachable (now cells) first (wordAfter (now code) at 1) × Reachable (now cells) second (wordAfter (now code) at 2) ⌝ }
-    ensures { λ r. ⌜ ((firstOf : ℕ → ℕ) → first ≡ firstOf (wordAfter (now (code .entry)) at 1) → second ≡ firstOf (wordAfter (now (code .entry)) at 2) → r ≡ doBranch (byFirst (now (cells .entry)) firstOf) (only-words (now (code .entry)) (now (cells .entry)) at) .move) ⌝ }
+    ensures { λ r. ⌜ ((firstOf : ℕ → ℕ) → first ≡ firstOf (wordAfter (now (code .entry)) at 1) → second ≡ firstOf (wordAfter (now (code .entry)) at 2) → r ≡ doBranch (byFirst (now (cells .entry)) firstOf) (only-cells (now (code .entry)) (now (cells .entry)) at) .move) ⌝ }
 {
     if cells[cell(code, cells, at + 2, second)] == 0 {
         return Move::On(at + 3);
@@ -249,7 +249,7 @@ pub fn do_change(
     ask: Ask,
 ) -> Move
     requires { ⌜ (at + 3 ≤ 4096) × Reachable (now cells) first (wordAfter (now code) at 1) × Reachable (now cells) second (wordAfter (now code) at 2) ⌝ }
-    ensures { λ r. ⌜ ((firstOf : ℕ → ℕ) → first ≡ firstOf (wordAfter (now (code .entry)) at 1) → second ≡ firstOf (wordAfter (now (code .entry)) at 2) → r ≡ doChange (byFirst (now (cells .entry)) firstOf) (only-words (now (code .entry)) (now (cells .entry)) at) ask .move) ⌝ }
+    ensures { λ r. ⌜ ((firstOf : ℕ → ℕ) → first ≡ firstOf (wordAfter (now (code .entry)) at 1) → second ≡ firstOf (wordAfter (now (code .entry)) at 2) → r ≡ doChange (byFirst (now (cells .entry)) firstOf) (only-cells (now (code .entry)) (now (cells .entry)) at) ask .move) ⌝ }
 {
     let group = cell(code, cells, at + 1, first);
     let member = cell(code, cells, at + 2, second);
@@ -266,7 +266,7 @@ pub fn do_query(
     third: usize,
 ) -> Move
     requires { ⌜ (at + 4 ≤ 4096) × Reachable (now cells) first (wordAfter (now code) at 1) × Reachable (now cells) second (wordAfter (now code) at 2) × Reachable (now cells) third (wordAfter (now code) at 3) ⌝ }
-    ensures { λ r. ⌜ ((firstOf : ℕ → ℕ) → first ≡ firstOf (wordAfter (now (code .entry)) at 1) → second ≡ firstOf (wordAfter (now (code .entry)) at 2) → third ≡ firstOf (wordAfter (now (code .entry)) at 3) → r ≡ doQuery (byFirst (now (cells .entry)) firstOf) (only-words (now (code .entry)) (now (cells .entry)) at) .move) ⌝ }
+    ensures { λ r. ⌜ ((firstOf : ℕ → ℕ) → first ≡ firstOf (wordAfter (now (code .entry)) at 1) → second ≡ firstOf (wordAfter (now (code .entry)) at 2) → third ≡ firstOf (wordAfter (now (code .entry)) at 3) → r ≡ doQuery (byFirst (now (cells .entry)) firstOf) (only-cells (now (code .entry)) (now (cells .entry)) at) .move) ⌝ }
 {
     let target = cell(code, cells, at + 1, first);
     let group = cell(code, cells, at + 2, second);

@@ -21,7 +21,7 @@ use Rattle.run_moves.specs.declared.Move.{Move}
 use Rattle.run_moves.specs.declared.Ask.{Ask}
 use Rattle.run_moves.specs.declared.Ask.the-variants.{Add, Remove, Query}
 use Rattle.run_moves.specs.declared.Move.the-variants.{On, Table as Asks, Jump, Enter, Stop as Halt}
-use Rattle.run_moves.specs.Effects.{effectOf, wordsOf, sameKinds}
+use Rattle.run_moves.specs.Effects.{effectOf, cellsOf, sameKinds}
 
 -- By a name's word: the cell of the declared name that it finally stands for, the activation that declares that name, what it leads to, and
 -- what a call hands on of it.
@@ -81,7 +81,7 @@ module _ (F : Finding) (s : Scene) where
   unfoldable pub doArithmetic : Operation → Happened
   doArithmetic o =
       let z = compute o (valueOf (field s 3)) (valueOf (field s 4)) in
-      rewrites s (arithmeticMove (effectOf z)) (wordsOf (s .cells) (F .cell (field s 1)) z)
+      rewrites s (arithmeticMove (effectOf z)) (cellsOf (s .cells) (F .cell (field s 1)) z)
 
   unfoldable pub doGoto : Happened
   doGoto = moves s (Jump (F .home (field s 1)) (F .target (field s 1)))

@@ -17,8 +17,8 @@ use Rattle.run_moves.specs.declared.Effect.the-variants.{Done, Stopped}
 unfoldable pub effectOf : ℤ → Effect
 effectOf z = elim (ltb (mag z) 2147483648) [ true ↦ Done | false ↦ Stopped ResultTooLarge ]
 
-unfoldable pub wordsOf : List ℤ → ℕ → ℤ → List ℤ
-wordsOf cells cell z = elim (ltb (mag z) 2147483648) [ true ↦ set cells cell z | false ↦ cells ]
+unfoldable pub cellsOf : List ℤ → ℕ → ℤ → List ℤ
+cellsOf cells cell z = elim (ltb (mag z) 2147483648) [ true ↦ set cells cell z | false ↦ cells ]
 
 -- what is handed on of an argument with a word, found at a cell
 unfoldable pub handedWord : List ℤ → ℕ → ℕ → ℤ

@@ -30,6 +30,7 @@ ghost use Rattle.run_sheet.specs.Shown.{Counts, Countable, Owned, Shown}
 ghost use Rattle.run_sheet.specs.Held.{Held};
 ghost use Rattle.run_sheet.specs.Named.{lookedUpBy, Nameable};
 
+// Four bits for each operation, from CONSTANT on: how many words its statement takes.
 const SIZES: usize = 3617872862303704404;
 
 // The designator of a cell.
@@ -71,7 +72,7 @@ fn size_at(code: &[u32; 4096], at: usize) -> usize
     if operation == BLOCK {
         return end_of(code_at(code, at + 1)) - at;
     }
-    // CALL or CALL_FORMAL
+    // CALL or CALL_FORMAL: their numbers alone are 7 but for a multiple of 8
     if word % 8 == CALL {
         return 3 + code_at(code, at + 2);
     }

@@ -1,4 +1,4 @@
--- What a step says where a run ends with it: the program is left (`Leaves`), or the statement has a cause to stop and nothing is written (`Stops`).
+-- What a step says where a run ends with it: the program is left (`LeavesProgram`), or the statement has a cause to stop and nothing is written (`Stops`).
 use Prim.Native.Nat.{ℕ, zero, suc, _≤_}
 use native.Mathlib.Omega.{arith}
 use mathlib.Core.List.{List}
@@ -9,7 +9,7 @@ use Rattle.language.specs.declared.Stop.{Stop}
 use Rattle.frames.specs.Frame.{Stack, halted, frameStep}
 use Rattle.run_state.specs.declared.Registers.{Registers}
 
-pub record Leaves (here : Registers) (cells table cells′ table′ : List ℤ) : Type 0 where
+pub record LeavesProgram (here : Registers) (cells table cells′ table′ : List ℤ) : Type 0 where
   pub ended : here .at ≡ here .end
   pub alone : here .live ≡ 0
   pub same-cells : cells′ ≡ cells

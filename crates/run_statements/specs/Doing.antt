@@ -21,14 +21,14 @@ use Rattle.run_moves.specs.declared.Ask.{Ask}
 use Rattle.run_moves.specs.declared.Ask.the-variants.{Query}
 use Rattle.run_moves.specs.declared.Move.{Move}
 use Rattle.run_moves.specs.declared.Move.the-variants.{On, Table as Asks, Jump, Enter, Stop}
-use Rattle.run_moves.specs.Effects.{effectOf, wordsOf, sameKinds}
+use Rattle.run_moves.specs.Effects.{effectOf, cellsOf, sameKinds}
 use Rattle.run_moves.specs.Acting.{Finding, Scene, field, moves, rewrites, setAll, valueOf, doConstant, arithmeticMove, doArithmetic, operationOf}
 use Rattle.run_moves.specs.Acting.{doGoto, doBranch, noRoom, argumentsFrom, doCall, argumentsAgree, doCallFormal, doChange, doQuery}
 use Rattle.resolved.specs.Resolved.{direct, positionIn}
 use Rattle.arrays.specs.Found.{cellBy}
 use Rattle.run_moves.specs.Acting.{sceneBy}
 use Rattle.resolved.specs.Layout.{formalsIn, endIn}
-use Rattle.run_statements.specs.Pieces.{only-words, moveAfter, blockMove, enteredBy}
+use Rattle.run_statements.specs.Pieces.{only-cells, moveAfter, blockMove, enteredBy}
 use Rattle.run_statements.specs.Words.{cell-direct}
 
 -- For any way of finding names
@@ -53,12 +53,12 @@ module _ (F : Finding) (s : Scene) where
   pub arithmetic-done :
       (o : Operation) {target left right : ℕ} {m : Move} {e : Effect} {ws : List ℤ} →
       target ≡ F .cell (field s 1) → left ≡ F .cell (field s 3) → right ≡ F .cell (field s 4) →
-      m ≡ moveAfter e (s .at + 5) → e ≡ effectOf (result o left right) → ws ≡ wordsOf (s .cells) target (result o left right) →
+      m ≡ moveAfter e (s .at + 5) → e ≡ effectOf (result o left right) → ws ≡ cellsOf (s .cells) target (result o left right) →
       (m ≡ doArithmetic F s o .move) × (ws ≡ doArithmetic F s o .cells)
   unfolding doArithmetic rewrites
   arithmetic-done o {target} {left} {right} {e} p q r m f ws =
       let z : result o left right ≡ compute o (valueOf F s (field s 3)) (valueOf F s (field s 4)) = ap₂ (λ (a b : ℕ). result o a b) q r in
-      (m ∙ after e ∙ ap (arithmeticMove F s) (f ∙ ap effectOf z), ws ∙ ap₂ (wordsOf (s .cells)) p z)
+      (m ∙ after e ∙ ap (arithmeticMove F s) (f ∙ ap effectOf z), ws ∙ ap₂ (cellsOf (s .cells)) p z)
 
   less-small : (a b : ℤ) (t : Bool) → ltZ a b ≡ t → ltb (mag (compute less a b)) 2147483648 ≡ true
   unfolding compute
@@ -69,9 +69,9 @@ module _ (F : Finding) (s : Scene) where
   unfolding effectOf
   less-done a b = rw (effectOf, less-small a b (ltZ a b) refl)
 
-  less-words : (ws : List ℤ) (c : ℕ) (a b : ℤ) → set ws c (compute less a b) ≡ wordsOf ws c (compute less a b)
-  unfolding wordsOf
-  less-words ws c a b = rw (wordsOf, less-small a b (ltZ a b) refl)
+  less-words : (ws : List ℤ) (c : ℕ) (a b : ℤ) → set ws c (compute less a b) ≡ cellsOf ws c (compute less a b)
+  unfolding cellsOf
+  less-words ws c a b = rw (cellsOf, less-small a b (ltZ a b) refl)
 
   pub compare-done :
       {target left right : ℕ} {ws : List ℤ} →
@@ -183,7 +183,7 @@ is-less (suc (suc n)) d e = refl
 
 pub arguments-alike :
     (F : Finding) (code : List ℕ) (cells : List ℤ) (activations live at at′ from n : ℕ) →
-    argumentsFrom F (only-words code cells at) from n ≡ argumentsFrom F (sceneBy code cells activations live at′) from n
+    argumentsFrom F (only-cells code cells at) from n ≡ argumentsFrom F (sceneBy code cells activations live at′) from n
 unfolding argumentsFrom
 arguments-alike F code cells activations live at at′ from zero = refl
 arguments-alike F code cells activations live at at′ from (suc n) =

@@ -14,8 +14,8 @@ use Rattle.run_moves.specs.Acting.{Finding, Scene, sceneBy, Happened, field, mo
 use Rattle.resolved.specs.Layout.{formalsIn, endIn}
 
 -- a scene as far as most statements look at it
-abbrev pub only-words : List ℕ → List ℤ → ℕ → Scene
-only-words code cells at = sceneBy code cells 0 0 at
+abbrev pub only-cells : List ℕ → List ℤ → ℕ → Scene
+only-cells code cells at = sceneBy code cells 0 0 at
 
 -- a procedure's body at a place stands after so many formals, and in the script
 pub record FormalsBefore (code : List ℕ) (body : ℕ) : Type 0 where

@@ -1,4 +1,4 @@
--- A statement's function says what it does in a scene as far as it looks at it (`only-words`, `sceneBy`). In the whole scene
+-- A statement's function says what it does in a scene as far as it looks at it (`only-cells`, `sceneBy`). In the whole scene
 -- the statement comes to the same, and what it does not look at stays: `constant-same` and so on, a law for each. `done`: so it is with `acting`.
 use Prim.Native.Nat.{ℕ, zero, suc, _+_}
 use native.Mathlib.Omega.{arith}
@@ -21,7 +21,7 @@ use Rattle.run_moves.specs.Acting.{Finding, Scene, Happened, moves, rewrites, v
 use Rattle.run_moves.specs.Acting.{noRoom, doBlock, argumentsFrom, doCall, argumentsAgree, doCallFormal, doChange, doQuery, Op}
 use Rattle.run_moves.specs.Acting.{opOf, happens, acting}
 use Rattle.run_moves.specs.Acting.{sceneBy}
-use Rattle.run_statements.specs.Pieces.{only-words, blockMove}
+use Rattle.run_statements.specs.Pieces.{only-cells, blockMove}
 
 abbrev pub Done : Happened → Move → List ℤ → Type 0
 Done h r cells = (r ≡ h .move) × (cells ≡ h .cells)
@@ -43,7 +43,7 @@ module _ (F : Finding) (s : Scene) where
   at = s .at
 
   abbrev o : Scene
-  o = only-words code cells at
+  o = only-cells code cells at
 
   abbrev t : Scene
   t = sceneBy code cells activations live at

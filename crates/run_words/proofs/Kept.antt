@@ -15,7 +15,7 @@ use Rattle.language.specs.Machine.{compute}
 use Rattle.language.specs.declared.Stop.the-variants.{ResultTooLarge}
 use Rattle.resolved.specs.Resolved.{kindIn, formalIn, targetIn, direct}
 use Rattle.run_moves.specs.declared.Effect.the-variants.{Done, Stopped}
-use Rattle.run_moves.specs.Effects.{effectOf, wordsOf, handedWord, sameKinds, Cleared}
+use Rattle.run_moves.specs.Effects.{effectOf, cellsOf, handedWord, sameKinds, Cleared}
 use Rattle.resolved.specs.Layout.{heldFrom}
 
 pub effect-fits : (z : ℤ) → ltb (mag z) 2147483648 ≡ true → Done ≡ effectOf z
@@ -26,13 +26,13 @@ pub effect-past : (z : ℤ) → ltb (mag z) 2147483648 ≡ false → Stopped Res
 unfolding effectOf
 effect-past z e = rw (e, effectOf)
 
-pub words-fits : (ws : List ℤ) (c : ℕ) (z : ℤ) → ltb (mag z) 2147483648 ≡ true → set ws c z ≡ wordsOf ws c z
-unfolding wordsOf
-words-fits ws c z e = rw (e, wordsOf)
+pub cells-fits : (ws : List ℤ) (c : ℕ) (z : ℤ) → ltb (mag z) 2147483648 ≡ true → set ws c z ≡ cellsOf ws c z
+unfolding cellsOf
+cells-fits ws c z e = rw (e, cellsOf)
 
-pub words-past : (ws : List ℤ) (c : ℕ) (z : ℤ) → ltb (mag z) 2147483648 ≡ false → ws ≡ wordsOf ws c z
-unfolding wordsOf
-words-past ws c z e = rw (e, wordsOf)
+pub cells-past : (ws : List ℤ) (c : ℕ) (z : ℤ) → ltb (mag z) 2147483648 ≡ false → ws ≡ cellsOf ws c z
+unfolding cellsOf
+cells-past ws c z e = rw (e, cellsOf)
 
 pub compared-less : (a b : ℤ) → ltZ a b ≡ true → pos 1 ≡ compute less a b
 unfolding compute

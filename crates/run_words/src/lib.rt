@@ -10,7 +10,7 @@ ghost use lib.Signed.{mag, ltZ};
 ghost use Rattle.language.specs.Encoding as encoding;
 ghost use Rattle.language.specs.Text.{plus, minus, less};
 ghost use Rattle.language.specs.Machine.{compute};
-ghost use Rattle.run_moves.specs.Effects.{effectOf, wordsOf, sameKinds, handedWord, Cleared};
+ghost use Rattle.run_moves.specs.Effects.{effectOf, cellsOf, sameKinds, handedWord, Cleared};
 use language::Stop;
 use layout::formal_of;
 use layout::held_word;
@@ -91,7 +91,7 @@ pub fn store(cells: &mut [i32; 8224], cell: usize, value: i32)
 
 fn keep(cells: &mut [i32; 8224], cell: usize, value: i64) -> Effect
     requires { ⌜ cell < 8192 ⌝ }
-    ensures { λ r. ⌜ (r ≡ effectOf value) × (now (cells .exit) ≡ wordsOf (now (cells .entry)) cell value) ⌝ }
+    ensures { λ r. ⌜ (r ≡ effectOf value) × (now (cells .exit) ≡ cellsOf (now (cells .entry)) cell value) ⌝ }
 {
     if fits_word(value) {
         cells[cell] = narrowed(value);
@@ -104,7 +104,7 @@ fn keep(cells: &mut [i32; 8224], cell: usize, value: i64) -> Effect
 pub fn add(cells: &mut [i32; 8224], target: usize, left: usize, right: usize) -> Effect
     requires { ⌜ (target < 8192) × (left < 8192) × (right < 8192) ⌝ }
     ensures { λ r. ⌜ r ≡ effectOf (compute plus (getD (now (cells .entry)) left (pos 0)) (getD (now (cells .entry)) right (pos 0))) ⌝ }
-    ensures { λ r. ⌜ now (cells .exit) ≡ wordsOf (now (cells .entry)) target (compute plus (getD (now (cells .entry)) left (pos 0)) (getD (now (cells .entry)) right (pos 0))) ⌝ }
+    ensures { λ r. ⌜ now (cells .exit) ≡ cellsOf (now (cells .entry)) target (compute plus (getD (now (cells .entry)) left (pos 0)) (getD (now (cells .entry)) right (pos 0))) ⌝ }
 {
     let value = sum(cells[left], cells[right]);
     keep(cells, target, value)
@@ -113,7 +113,7 @@ pub fn add(cells: &mut [i32; 8224], target: usize, left: usize, right: usize) ->
 pub fn subtract(cells: &mut [i32; 8224], target: usize, left: usize, right: usize) -> Effect
     requires { ⌜ (target < 8192) × (left < 8192) × (right < 8192) ⌝ }
     ensures { λ r. ⌜ r ≡ effectOf (compute minus (getD (now (cells .entry)) left (pos 0)) (getD (now (cells .entry)) right (pos 0))) ⌝ }
-    ensures { λ r. ⌜ now (cells .exit) ≡ wordsOf (now (cells .entry)) target (compute minus (getD (now (cells .entry)) left (pos 0)) (getD (now (cells .entry)) right (pos 0))) ⌝ }
+    ensures { λ r. ⌜ now (cells .exit) ≡ cellsOf (now (cells .entry)) target (compute minus (getD (now (cells .entry)) left (pos 0)) (getD (now (cells .entry)) right (pos 0))) ⌝ }
 {
     let value = difference(cells[left], cells[right]);
     keep(cells, target, value)

@@ -133,7 +133,7 @@ module _ {code : List ℕ} {l : Limits} {cells : List ℤ} {blocks nexts links :
           same-display = same-display;
         }
 
-  -- Behind the next statement
+  -- After the next statement
 
   module _ (x : Stmt) (q : frameStmt (w .frame) ≡ some x) where
     pub ahead-bounded : BoundedFrames ahead

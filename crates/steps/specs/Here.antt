@@ -47,11 +47,11 @@ module _ {code : List ℕ} {l : Limits} {cells : List ℤ} {blocks nexts links :
   pub same-end : (f : Frame) → numbered (w .stack .frames) (suc live) ≡ some f → endPlace (f .text) ≡ end
   same-end f e = ap (λ (g : Frame). endPlace (g .text)) (some-inj (sym e ∙ numbered-here)) ∙ sym (w .end-is)
 
-  pub within-limit : suc live ≤ l .activations
-  within-limit = omega (arith, many, w .sound .bounded .live)
+  pub within-activations : suc live ≤ l .activations
+  within-activations = omega (arith, many, w .sound .bounded .live)
 
   pub live-few : suc live ≤ 256
-  live-few = omega (arith, within-limit, w .sound .few)
+  live-few = omega (arith, within-activations, w .sound .few)
 
   pub held : HoldsFrame (w .stack .frames) cells (getD blocks live 0) (getD (set nexts live at) live 0) (getD links live 0) live (w .frame)
   held = w .holds live (w .frame) here

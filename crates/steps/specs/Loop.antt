@@ -96,14 +96,14 @@ module _ {code : List ℕ} {l : Limits} {cells : List ℤ} {blocks nexts links :
       no-frames (f ∷ fs) h = absurd (omega arith)
 
   -- the activation below becomes the innermost one
-  pub record Leaves : Type 0 where
+  pub record LeavesBlock : Type 0 where
     pub frame : Frame
     pub stands : numbered (w .stack .frames) live ≡ some frame
     pub standing : Standing code l cells blocks nexts links table pairs (live - 1) (getD nexts (live - 1) 0) (endPlace (frame .text))
     pub follows : Follows w (standing .stack) (standing .program) (standing .name)
     pub display : displayOf (standing .stack .frames) ≡ displayFrom (w .stack .frames) live
 
-  pub leaves : at ≡ end → 1 ≤ live → Leaves
+  pub leaves : at ≡ end → 1 ≤ live → LeavesBlock
   unfolding stepped withFrames
   leaves e h =
       let f = some-last (w .below) (omega (arith, w .depth)) in

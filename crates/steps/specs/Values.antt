@@ -24,7 +24,7 @@ use Rattle.coordinates.specs.Next.{next-action}
 use Rattle.resolved.specs.Resolved.{resolvedAction, resolvedStmt}
 use Rattle.run_moves.specs.declared.Effect.the-variants.{Done, Stopped}
 use Rattle.run_moves.specs.declared.Move.the-variants.{On, Stop}
-use Rattle.run_moves.specs.Effects.{effectOf, wordsOf}
+use Rattle.run_moves.specs.Effects.{effectOf, cellsOf}
 use Rattle.run_moves.specs.Acting.{Finding, Scene, rewrites, operationOf, valueOf, field, doConstant, arithmeticMove, doArithmetic}
 use Rattle.steps.specs.Standing.{Standing, Finds}
 use Rattle.steps.specs.Means.{GoesOn, Means}
@@ -38,17 +38,17 @@ module _ (F : Finding) (s : Scene) (o : Operation) where
   result = compute o (valueOf F s (field s 3)) (valueOf F s (field s 4))
 
   fitting : ltb (mag result) 2147483648 ≡ true → doArithmetic F s o ≡ rewrites s (On (s .at + 5)) (set (s .cells) (F .cell (field s 1)) result)
-  unfolding doArithmetic arithmeticMove effectOf wordsOf
+  unfolding doArithmetic arithmeticMove effectOf cellsOf
   fitting e =
       let p : effectOf result ≡ Done = rw (e, effectOf) in
-      let q : wordsOf (s .cells) (F .cell (field s 1)) result ≡ set (s .cells) (F .cell (field s 1)) result = rw (e, wordsOf) in
+      let q : cellsOf (s .cells) (F .cell (field s 1)) result ≡ set (s .cells) (F .cell (field s 1)) result = rw (e, cellsOf) in
       λ i. rewrites s (arithmeticMove F s (p i)) (q i)
 
   not-fitting : ltb (mag result) 2147483648 ≡ false → doArithmetic F s o ≡ rewrites s (Stop ResultTooLarge) (s .cells)
-  unfolding doArithmetic arithmeticMove effectOf wordsOf
+  unfolding doArithmetic arithmeticMove effectOf cellsOf
   not-fitting e =
       let p : effectOf result ≡ Stopped ResultTooLarge = rw (e, effectOf) in
-      let q : wordsOf (s .cells) (F .cell (field s 1)) result ≡ s .cells = rw (e, wordsOf) in
+      let q : cellsOf (s .cells) (F .cell (field s 1)) result ≡ s .cells = rw (e, cellsOf) in
       λ i. rewrites s (arithmeticMove F s (p i)) (q i)
 
 pub operation-of : (o : Operation) → operationOf (operationField o) ≡ o

@@ -20,7 +20,7 @@ fn name(name: Name, readings: &Readings) -> Name {
     *readings.get(&name).unwrap_or(&name)
 }
 
-/// A name declared again nearer is not governed from outside.
+/// A name declared again nearer is not replaced from outside.
 fn without(readings: &Readings, declared: impl Iterator<Item = Name>) -> Readings {
     let mut inner = readings.clone();
     for name in declared {

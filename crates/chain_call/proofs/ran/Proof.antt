@@ -66,7 +66,7 @@ module _ {M : Type 1} (𝓤 : URA M) (H : Heap 𝓤) (A : Atoms 𝓤) (W : Given
     (script# : RefT (List ℕ)) (numbers : numberss .type .Denot) (table# : RefT (List ℤ)) (sheet# : RefT (List ℤ)) (records# : RefT (List (recs .type .Denot))) (answer# : RefT (List ℕ))
     (room-script : Room u8 (length (script# .now))) (room-table : Room i32 (length (table# .now))) (room-sheet : Room i32 (length (sheet# .now))) (room-records : Room (recs .type) (length (records# .now))) (g-numbers : Good numberss numbers)
     (own-code : List (ℕ)) (own-code-is : own-code ≡ replicate 4096 0)
-    (own-words : List (ℤ)) (own-words-is : own-words ≡ replicate 8224 (pos 0))
+    (own-cells : List (ℤ)) (own-cells-is : own-cells ≡ replicate 8224 (pos 0))
     (pre : said.Pre (script# .now) numbers (table# .now) (sheet# .now) (records# .now)) where
   abbrev h-script : Loan
   h-script = loanSlice κ0 q0 script#
@@ -120,7 +120,7 @@ module _ {M : Type 1} (𝓤 : URA M) (H : Heap 𝓤) (A : Atoms 𝓤) (W : Given
     walk = via 𝓤 (⋆ 𝓤 H A (ins 𝓤 ps)) (arrives 𝓤 H A W 0 ps) (qed W (ins 𝓤 ps) ∵
         begins ! (𝓣 .C) (𝓣 .Λ) mine.function (vals ps) Post ((tt, (tt, (record { fits = room-script .0 }, tt))), (typed 𝓤 H A W numberss numbers g-numbers, ((tt, (tt, (record { fits = room-table .0 }, tt))), ((tt, (tt, (record { fits = room-sheet .0 }, tt))), ((tt, (tt, (record { fits = room-records .0 }, tt))), ((tt, tt), tt)))))) (λ β. move ! (1 ∷ 2 ∷ 3 ∷ 4 ∷ 5 ∷ []) $
         puts ! 5 7 refl (repeats ! words32 4096 0 own-code-is (lit ! tt)) tt (typed 𝓤 H A W (arrays words32 4096) own-code (repeats-good words32 4096 0 own-code-is (refl, omega arith))) $
-        puts ! 5 8 refl (repeats ! ints32 8224 (pos 0) own-words-is (lit ! tt)) tt (typed 𝓤 H A W (arrays ints32 8224) own-words (repeats-good ints32 8224 (pos 0) own-words-is (refl, omega arith))) $
+        puts ! 5 8 refl (repeats ! ints32 8224 (pos 0) own-cells-is (lit ! tt)) tt (typed 𝓤 H A W (arrays ints32 8224) own-cells (repeats-good ints32 8224 (pos 0) own-cells-is (refl, omega arith))) $
         puts ! 5 10 refl (addr ! (from ! (stop !))) tt (tt, tt) $
         puts ! 5 11 refl (addr ! (from ! (stop !))) tt (tt, tt) $
         puts ! 5 12 refl (lent-ptr ! 5 3 refl refl tt refl refl) tt (tt, tt) $
@@ -132,14 +132,14 @@ module _ {M : Type 1} (𝓤 : URA M) (H : Heap 𝓤) (A : Atoms 𝓤) (W : Given
         puts ! 5 18 refl (lent ! 5 6 refl refl tt) tt (tt, tt) $
         lends-out ! 5 refl $
         lends-local ! tt (arrays words32 4096) 5 7 own-code (repeats-good words32 4096 0 own-code-is (refl, omega arith)) refl refl tt refl (λ ν1-own-code δ1-own-code.
-        lends-local ! tt (arrays ints32 8224) 7 8 own-words (repeats-good ints32 8224 (pos 0) own-words-is (refl, omega arith)) refl refl tt refl (λ ν1-own-words δ1-own-words.
-        move ! (2 ∷ 0 ∷ 4 ∷ 5 ∷ 6 ∷ 7 ∷ 8 ∷ []) $ calls-by ! fm (Calls-ran-on 𝓤 H A mem run) known-ran-on (to (for-ran-on (loanAt (β 7) ν1-own-code δ1-own-code) own-code (loanAt (β 8) ν1-own-words δ1-own-words) own-words h-script script numbers h-table table h-sheet sheet h-records records h-answer answer)) (for-ran-on (loanAt (β 7) ν1-own-code δ1-own-code) own-code (loanAt (β 8) ν1-own-words δ1-own-words) own-words h-script script numbers h-table table h-sheet sheet h-records records h-answer answer) refl (g-numbers, tt) _ (facts.asks-ran-on script numbers table sheet records answer pre own-code own-code-is own-words own-words-is) (id⊢ 𝓤 _) units _ (λ v. id⊢ 𝓤 _)
+        lends-local ! tt (arrays ints32 8224) 7 8 own-cells (repeats-good ints32 8224 (pos 0) own-cells-is (refl, omega arith)) refl refl tt refl (λ ν1-own-cells δ1-own-cells.
+        move ! (2 ∷ 0 ∷ 4 ∷ 5 ∷ 6 ∷ 7 ∷ 8 ∷ []) $ calls-by ! fm (Calls-ran-on 𝓤 H A mem run) known-ran-on (to (for-ran-on (loanAt (β 7) ν1-own-code δ1-own-code) own-code (loanAt (β 8) ν1-own-cells δ1-own-cells) own-cells h-script script numbers h-table table h-sheet sheet h-records records h-answer answer)) (for-ran-on (loanAt (β 7) ν1-own-code δ1-own-code) own-code (loanAt (β 8) ν1-own-cells δ1-own-cells) own-cells h-script script numbers h-table table h-sheet sheet h-records records h-answer answer) refl (g-numbers, tt) _ (facts.asks-ran-on script numbers table sheet records answer pre own-code own-code-is own-cells own-cells-is) (id⊢ 𝓤 _) units _ (λ v. id⊢ 𝓤 _)
         (and-then ! (var-in ! 9 10 refl refl tt) (and-then ! (var-in ! 9 11 refl refl tt) (and-then ! (var-in ! 9 1 refl refl tt) (and-then ! (var-in ! 9 2 refl refl tt) (and-then ! (var-in ! 9 13 refl refl tt) (and-then ! (var-in ! 9 15 refl refl tt) (and-then ! (var-in ! 9 17 refl refl tt) (and-then ! (var-in ! 9 18 refl refl tt) (no-more !))))))))) (λ _ ws1 _ e1 same1.
         move ! (0 ∷ 8 ∷ []) $ back-local ! tt (arrays words32 4096) 7 7 (β 7) (ws1 .0) ν1-own-code δ1-own-code refl refl tt refl refl (λ g1-own-code.
-        move ! (0 ∷ 6 ∷ []) $ back-local ! tt (arrays ints32 8224) 5 8 (β 8) (ws1 .1 .0) ν1-own-words δ1-own-words refl refl tt refl refl (λ g1-own-words.
+        move ! (0 ∷ 6 ∷ []) $ back-local ! tt (arrays ints32 8224) 5 8 (β 8) (ws1 .1 .0) ν1-own-cells δ1-own-cells refl refl tt refl refl (λ g1-own-words.
         whole-again ! 5 refl tt $ lands-in ! 5 9 refl tt (tt, tt) $
         puts ! 5 0 refl (of-opd ! (unit-lit !)) tt (tt, tt) $
-        ends ! 5 refl refl tt $ by ! (exits (ws1 .1 .1 .1 .1 .0) (ws1 .1 .1 .1 .1 .1 .0) (ws1 .1 .1 .1 .1 .1 .1 .0) (ws1 .1 .1 .1 .1 .1 .1 .1 .0) (same1 .1 .1 .1 .0) (same1 .1 .1 .1 .1 .0) (same1 .1 .1 .1 .1 .1 .0) (facts.says script numbers table sheet records answer pre own-code own-code-is own-words own-words-is (ws1 .0) (ws1 .1 .0) (ws1 .1 .1 .1 .1 .0) (ws1 .1 .1 .1 .1 .1 .0) (ws1 .1 .1 .1 .1 .1 .1 .0) (ws1 .1 .1 .1 .1 .1 .1 .1 .0) e1)))))))))
+        ends ! 5 refl refl tt $ by ! (exits (ws1 .1 .1 .1 .1 .0) (ws1 .1 .1 .1 .1 .1 .0) (ws1 .1 .1 .1 .1 .1 .1 .0) (ws1 .1 .1 .1 .1 .1 .1 .1 .0) (same1 .1 .1 .1 .0) (same1 .1 .1 .1 .1 .0) (same1 .1 .1 .1 .1 .1 .0) (facts.says script numbers table sheet records answer pre own-code own-code-is own-cells own-cells-is (ws1 .0) (ws1 .1 .0) (ws1 .1 .1 .1 .1 .0) (ws1 .1 .1 .1 .1 .1 .0) (ws1 .1 .1 .1 .1 .1 .1 .0) (ws1 .1 .1 .1 .1 .1 .1 .1 .0) e1)))))))))
 
 module _ {M : Type 1} (𝓤 : URA M) (H : Heap 𝓤) (A : Atoms 𝓤) (W : Given 𝓤 H A) (mem : Memory → SProp 𝓤) (run : Routine → Fun 𝓤) (𝓣 : Tables 𝓤 H)
     (known-ran-on : Triple 𝓤 (𝓣 .C #ran-on) (Calls-ran-on 𝓤 H A mem run)) where

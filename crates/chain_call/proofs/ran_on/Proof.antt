@@ -118,8 +118,8 @@ module _ {M : Type 1} (𝓤 : URA M) (H : Heap 𝓤) (A : Atoms 𝓤) (W : Given
   abbrev code : List ℕ
   code = code# .now
 
-  abbrev h-words : Loan
-  h-words = loanRef κ1 q1 cells#
+  abbrev h-cells : Loan
+  h-cells = loanRef κ1 q1 cells#
 
   abbrev cells : List ℤ
   cells = cells# .now
@@ -155,7 +155,7 @@ module _ {M : Type 1} (𝓤 : URA M) (H : Heap 𝓤) (A : Atoms 𝓤) (W : Given
   answer = answer# .now
 
   abbrev ps : List Par
-  ps = brw (mutRef (Array u32 tt 4096)) h-code code ∷ brw (mutRef (Array i32 tt 8224)) h-words cells ∷ brw (shrSlice u8) h-script script ∷ dat numberss numbers ∷ brw (mutSlice i32) h-table table ∷ brw (mutSlice i32) h-sheet sheet ∷ brw (mutSlice (recs .type)) h-records records ∷ brw (mutRef (Array u64 tt 9)) h-answer answer ∷ []
+  ps = brw (mutRef (Array u32 tt 4096)) h-code code ∷ brw (mutRef (Array i32 tt 8224)) h-cells cells ∷ brw (shrSlice u8) h-script script ∷ dat numberss numbers ∷ brw (mutSlice i32) h-table table ∷ brw (mutSlice i32) h-sheet sheet ∷ brw (mutSlice (recs .type)) h-records records ∷ brw (mutRef (Array u64 tt 9)) h-answer answer ∷ []
 
   abbrev bound : walkOf 𝓤 H A f.ended stayed (f.clauses 𝓤 H A mem run) .Ghost
   bound = ((lfts ps, shares ps, tt, denots 0 ps, valss 0 ps), tt)
@@ -195,13 +195,13 @@ module _ {M : Type 1} (𝓤 : URA M) (H : Heap 𝓤) (A : Atoms 𝓤) (W : Given
         (and-then ! (var ! 7 4 refl refl tt) (no-more !)) (λ activations-of2 _ g-activations-of2 e2 _.
         lands-in ! 7 19 refl tt (typed 𝓤 H A W usizes activations-of2 g-activations-of2) $
         shares-ref ! tt (Array u32 tt 4096) h-code (ws1 .1 .1 .0) (λ p3-code ν3-code δ3-code.
-        move ! (3 ∷ []) $ lends-ref ! tt (Array i32 tt 8224) h-words cells (λ p3-words ν3-words δ3-words.
+        move ! (3 ∷ []) $ lends-ref ! tt (Array i32 tt 8224) h-cells cells (λ p3-cells ν3-cells δ3-cells.
         move ! (7 ∷ []) $ lends-slice ! tt (recs .type) h-records records (λ ν3-records δ3-records.
-        move ! (4 ∷ 2 ∷ 0 ∷ 7 ∷ []) $ calls-by ! fm (Calls-run-program 𝓤 H A mem run) known-run-program (to (for-run-program (relent h-code ν3-code δ3-code) (ws1 .1 .1 .0) (relent h-words ν3-words δ3-words) cells (relent h-records ν3-records δ3-records) records h-table table (numbers .count) (numbers .g) activations-of2 (numbers .n))) (for-run-program (relent h-code ν3-code δ3-code) (ws1 .1 .1 .0) (relent h-words ν3-words δ3-words) cells (relent h-records ν3-records δ3-records) records h-table table (numbers .count) (numbers .g) activations-of2 (numbers .n)) refl ((owed CallNumbers#.the-type CallNumbers′.the-laws numbers _ g-numbers .1 .1 .1 .1 .0), ((owed CallNumbers#.the-type CallNumbers′.the-laws numbers _ g-numbers .1 .1 .0), (g-activations-of2, ((owed CallNumbers#.the-type CallNumbers′.the-laws numbers _ g-numbers .1 .0), tt)))) _ (facts.asks-run-program code cells script numbers table sheet records answer pre (ws1 .1 .1 .0) e1 activations-of2 e2) (id⊢ 𝓤 _) halts _ (λ v. id⊢ 𝓤 _)
+        move ! (4 ∷ 2 ∷ 0 ∷ 7 ∷ []) $ calls-by ! fm (Calls-run-program 𝓤 H A mem run) known-run-program (to (for-run-program (relent h-code ν3-code δ3-code) (ws1 .1 .1 .0) (relent h-cells ν3-cells δ3-cells) cells (relent h-records ν3-records δ3-records) records h-table table (numbers .count) (numbers .g) activations-of2 (numbers .n))) (for-run-program (relent h-code ν3-code δ3-code) (ws1 .1 .1 .0) (relent h-cells ν3-cells δ3-cells) cells (relent h-records ν3-records δ3-records) records h-table table (numbers .count) (numbers .g) activations-of2 (numbers .n)) refl ((owed CallNumbers#.the-type CallNumbers′.the-laws numbers _ g-numbers .1 .1 .1 .1 .0), ((owed CallNumbers#.the-type CallNumbers′.the-laws numbers _ g-numbers .1 .1 .0), (g-activations-of2, ((owed CallNumbers#.the-type CallNumbers′.the-laws numbers _ g-numbers .1 .0), tt)))) _ (facts.asks-run-program code cells script numbers table sheet records answer pre (ws1 .1 .1 .0) e1 activations-of2 e2) (id⊢ 𝓤 _) halts _ (λ v. id⊢ 𝓤 _)
         (and-then ! (var ! 10 13 refl refl tt) (and-then ! (var ! 10 14 refl refl tt) (and-then ! (var ! 10 16 refl refl tt) (and-then ! (var ! 10 18 refl refl tt) (and-then ! (part ! 10 4 4 refl refl tt refl refl refl) (and-then ! (part ! 10 4 2 refl refl tt refl refl refl) (and-then ! (var ! 10 19 refl refl tt) (and-then ! (part ! 10 4 1 refl refl tt refl refl refl) (no-more !))))))))) (λ halt3 ws3 g-halt3 e3 same3.
         lands-in ! 10 9 refl tt (typed 𝓤 H A W halts halt3 g-halt3) $
         move ! (0 ∷ 6 ∷ []) $ unshares-ref ! tt (Array u32 tt 4096) h-code (ws1 .1 .1 .0) ν3-code δ3-code p3-code $
-        move ! (1 ∷ 5 ∷ []) $ back-ref ! tt (Array i32 tt 8224) h-words cells (ws3 .1 .0) ν3-words δ3-words p3-words $
+        move ! (1 ∷ 5 ∷ []) $ back-ref ! tt (Array i32 tt 8224) h-cells cells (ws3 .1 .0) ν3-cells δ3-cells p3-cells $
         move ! (2 ∷ 4 ∷ []) $ back-slice ! tt (recs .type) h-records records (ws3 .1 .1 .0) ν3-records δ3-records (same3 .1 .1 .0) $
         puts ! 7 20 refl (lent ! 7 1 refl refl tt) tt (tt, tt) $
         puts ! 7 21 refl (lent ! 7 2 refl refl tt) tt (tt, tt) $
@@ -210,20 +210,20 @@ module _ {M : Type 1} (𝓤 : URA M) (H : Heap 𝓤) (A : Atoms 𝓤) (W : Given
         puts ! 7 24 refl (lent-ptr ! 7 6 refl refl tt refl refl) tt (tt, tt) $
         puts ! 7 25 refl (lent-slice ! 7 6 24 refl refl refl tt tt refl refl) tt (tt, (tt, (record { fits = room-sheet .0 }, tt))) $
         move ! (2 ∷ []) $ shares-ref ! tt (Array u32 tt 4096) h-code (ws1 .1 .1 .0) (λ p4-code ν4-code δ4-code.
-        move ! (3 ∷ []) $ shares-ref ! tt (Array i32 tt 8224) h-words (ws3 .1 .0) (λ p4-words ν4-words δ4-words.
+        move ! (3 ∷ []) $ shares-ref ! tt (Array i32 tt 8224) h-cells (ws3 .1 .0) (λ p4-cells ν4-cells δ4-cells.
         move ! (4 ∷ []) $ shares-slice ! tt (recs .type) h-records (ws3 .1 .1 .0) (λ ν4-records δ4-records.
-        move ! (4 ∷ 2 ∷ 0 ∷ 8 ∷ []) $ calls-by ! fm (Calls-write-sheet 𝓤 H A mem run) known-write-sheet (to (for-write-sheet (relent h-code ν4-code δ4-code) (ws1 .1 .1 .0) (relent h-words ν4-words δ4-words) (ws3 .1 .0) (relent h-records ν4-records δ4-records) (ws3 .1 .1 .0) (halt3 .live) h-sheet sheet)) (for-write-sheet (relent h-code ν4-code δ4-code) (ws1 .1 .1 .0) (relent h-words ν4-words δ4-words) (ws3 .1 .0) (relent h-records ν4-records δ4-records) (ws3 .1 .1 .0) (halt3 .live) h-sheet sheet) refl ((owed Halt#.the-type Halt′.the-laws halt3 _ g-halt3 .1 .1 .1 .0), tt) _ (facts.asks-write-sheet code cells script numbers table sheet records answer pre (ws1 .1 .1 .0) e1 activations-of2 e2 halt3 (ws3 .1 .0) (ws3 .1 .1 .0) (ws3 .1 .1 .1 .0) e3 (same3 .1 .1 .0) (same3 .1 .1 .1 .0)) (asks-all 𝓤 H A (for-write-sheet (relent h-code ν4-code δ4-code) (ws1 .1 .1 .0) (relent h-words ν4-words δ4-words) (ws3 .1 .0) (relent h-records ν4-records δ4-records) (ws3 .1 .1 .0) (halt3 .live) h-sheet sheet) (_ ∷ _ ∷ _ ∷ [])) usizes _ (λ v. id⊢ 𝓤 _)
+        move ! (4 ∷ 2 ∷ 0 ∷ 8 ∷ []) $ calls-by ! fm (Calls-write-sheet 𝓤 H A mem run) known-write-sheet (to (for-write-sheet (relent h-code ν4-code δ4-code) (ws1 .1 .1 .0) (relent h-cells ν4-cells δ4-cells) (ws3 .1 .0) (relent h-records ν4-records δ4-records) (ws3 .1 .1 .0) (halt3 .live) h-sheet sheet)) (for-write-sheet (relent h-code ν4-code δ4-code) (ws1 .1 .1 .0) (relent h-cells ν4-cells δ4-cells) (ws3 .1 .0) (relent h-records ν4-records δ4-records) (ws3 .1 .1 .0) (halt3 .live) h-sheet sheet) refl ((owed Halt#.the-type Halt′.the-laws halt3 _ g-halt3 .1 .1 .1 .0), tt) _ (facts.asks-write-sheet code cells script numbers table sheet records answer pre (ws1 .1 .1 .0) e1 activations-of2 e2 halt3 (ws3 .1 .0) (ws3 .1 .1 .0) (ws3 .1 .1 .1 .0) e3 (same3 .1 .1 .0) (same3 .1 .1 .1 .0)) (asks-all 𝓤 H A (for-write-sheet (relent h-code ν4-code δ4-code) (ws1 .1 .1 .0) (relent h-cells ν4-cells δ4-cells) (ws3 .1 .0) (relent h-records ν4-records δ4-records) (ws3 .1 .1 .0) (halt3 .live) h-sheet sheet) (_ ∷ _ ∷ _ ∷ [])) usizes _ (λ v. id⊢ 𝓤 _)
         (and-then ! (var ! 10 20 refl refl tt) (and-then ! (var ! 10 21 refl refl tt) (and-then ! (var ! 10 23 refl refl tt) (and-then ! (part ! 10 9 3 refl refl tt refl refl refl) (and-then ! (var ! 10 25 refl refl tt) (no-more !)))))) (λ written4 ws4 g-written4 e4 same4.
         lands-in ! 10 10 refl tt (typed 𝓤 H A W usizes written4 g-written4) $
         move ! (0 ∷ 6 ∷ []) $ unshares-ref ! tt (Array u32 tt 4096) h-code (ws1 .1 .1 .0) ν4-code δ4-code p4-code $
-        move ! (1 ∷ 5 ∷ []) $ unshares-ref ! tt (Array i32 tt 8224) h-words (ws3 .1 .0) ν4-words δ4-words p4-words $
+        move ! (1 ∷ 5 ∷ []) $ unshares-ref ! tt (Array i32 tt 8224) h-cells (ws3 .1 .0) ν4-cells δ4-cells p4-cells $
         move ! (2 ∷ 4 ∷ []) $ unshares-slice ! tt (recs .type) h-records (ws3 .1 .1 .0) ν4-records δ4-records $
         puts ! 7 26 refl (lent ! 7 8 refl refl tt) tt (tt, tt) $
         move ! (6 ∷ []) $ calls-by ! fm (Calls-answered 𝓤 H A mem run) known-answered (to (for-answered halt3 written4 numbers h-answer answer)) (for-answered halt3 written4 numbers h-answer answer) refl (g-halt3, (g-written4, (g-numbers, tt))) _ (facts.asks-answered code cells script numbers table sheet records answer pre) (id⊢ 𝓤 _) units _ (λ v. id⊢ 𝓤 _)
         (and-then ! (var ! 7 9 refl refl tt) (and-then ! (var ! 7 10 refl refl tt) (and-then ! (var ! 7 4 refl refl tt) (and-then ! (var ! 7 26 refl refl tt) (no-more !))))) (λ _ ws5 _ e5 _.
         lands-in ! 7 11 refl tt (tt, tt) $
         puts ! 7 0 refl (of-opd ! (unit-lit !)) tt (tt, tt) $
-        ends ! 7 refl refl tt $ move ! (3 ∷ []) $ gives ! (mutRef (Array u32 tt 4096)) h-code (ws1 .1 .1 .0) $ move ! (3 ∷ []) $ gives ! (mutRef (Array i32 tt 8224)) h-words (ws3 .1 .0) $ move ! (3 ∷ []) $ gives ! (mutSlice (recs .type)) h-records (ws3 .1 .1 .0) $ move ! (2 ∷ 1 ∷ 6 ∷ 5 ∷ 4 ∷ 0 ∷ 3 ∷ []) $ by ! (exits (ws1 .1 .1 .0) (ws3 .1 .0) (ws3 .1 .1 .1 .0) (ws4 .1 .1 .1 .1 .0) (ws3 .1 .1 .0) (ws5 .1 .1 .1 .0) (same3 .1 .1 .1 .0) (same4 .1 .1 .1 .0) (same3 .1 .1 .0) (facts.says code cells script numbers table sheet records answer pre (ws1 .1 .1 .0) e1 activations-of2 e2 halt3 (ws3 .1 .0) (ws3 .1 .1 .0) (ws3 .1 .1 .1 .0) e3 (same3 .1 .1 .0) (same3 .1 .1 .1 .0) written4 (ws4 .1 .1 .1 .1 .0) e4 (same4 .1 .1 .1 .0) (ws5 .1 .1 .1 .0) e5))))))))))))))))
+        ends ! 7 refl refl tt $ move ! (3 ∷ []) $ gives ! (mutRef (Array u32 tt 4096)) h-code (ws1 .1 .1 .0) $ move ! (3 ∷ []) $ gives ! (mutRef (Array i32 tt 8224)) h-cells (ws3 .1 .0) $ move ! (3 ∷ []) $ gives ! (mutSlice (recs .type)) h-records (ws3 .1 .1 .0) $ move ! (2 ∷ 1 ∷ 6 ∷ 5 ∷ 4 ∷ 0 ∷ 3 ∷ []) $ by ! (exits (ws1 .1 .1 .0) (ws3 .1 .0) (ws3 .1 .1 .1 .0) (ws4 .1 .1 .1 .1 .0) (ws3 .1 .1 .0) (ws5 .1 .1 .1 .0) (same3 .1 .1 .1 .0) (same4 .1 .1 .1 .0) (same3 .1 .1 .0) (facts.says code cells script numbers table sheet records answer pre (ws1 .1 .1 .0) e1 activations-of2 e2 halt3 (ws3 .1 .0) (ws3 .1 .1 .0) (ws3 .1 .1 .1 .0) e3 (same3 .1 .1 .0) (same3 .1 .1 .1 .0) written4 (ws4 .1 .1 .1 .1 .0) e4 (same4 .1 .1 .1 .0) (ws5 .1 .1 .1 .0) e5))))))))))))))))
 
 module _ {M : Type 1} (𝓤 : URA M) (H : Heap 𝓤) (A : Atoms 𝓤) (W : Given 𝓤 H A) (mem : Memory → SProp 𝓤) (run : Routine → Fun 𝓤) (𝓣 : Tables 𝓤 H)
     (known-resolved : Triple 𝓤 (𝓣 .C #resolved) (Calls-resolved 𝓤 H A mem run))

@@ -133,8 +133,8 @@ module _ {M : Type 1} (𝓤 : URA M) (H : Heap 𝓤) (A : Atoms 𝓤) (W : Given
   abbrev code : List ℕ
   code = code# .now
 
-  abbrev h-words : Loan
-  h-words = loanRef κ1 q1 cells#
+  abbrev h-cells : Loan
+  h-cells = loanRef κ1 q1 cells#
 
   abbrev cells : List ℤ
   cells = cells# .now
@@ -146,7 +146,7 @@ module _ {M : Type 1} (𝓤 : URA M) (H : Heap 𝓤) (A : Atoms 𝓤) (W : Given
   records = records# .now
 
   abbrev ps : List Par
-  ps = brw (shrRef (Array u32 tt 4096)) h-code code ∷ brw (shrRef (Array i32 tt 8224)) h-words cells ∷ brw (mutSlice (recs .type)) h-records records ∷ dat registers here ∷ []
+  ps = brw (shrRef (Array u32 tt 4096)) h-code code ∷ brw (shrRef (Array i32 tt 8224)) h-cells cells ∷ brw (mutSlice (recs .type)) h-records records ∷ dat registers here ∷ []
 
   abbrev bound : walkOf 𝓤 H A f.ended stayed (f.clauses 𝓤 H A mem run) .Ghost
   bound = ((lfts ps, shares ps, tt, denots 0 ps, valss 0 ps), tt)
@@ -200,7 +200,7 @@ module _ {M : Type 1} (𝓤 : URA M) (H : Heap 𝓤) (A : Atoms 𝓤) (W : Given
         calls-by ! fm (Calls-push 𝓤 H A mem run) known-push (to (for-push h-records records (here .live) with-next5)) (for-push h-records records (here .live) with-next5) refl ((owed Registers#.the-type Registers′.the-laws here _ g-here .0), (g-with-next5, tt)) _ (facts.asks-push code cells records here pre) (id⊢ 𝓤 _) units _ (λ v. id⊢ 𝓤 _)
         (and-then ! (var ! 3 15 refl refl tt) (and-then ! (part ! 3 4 0 refl refl tt refl refl refl) (and-then ! (var ! 3 16 refl refl tt) (no-more !)))) (λ _ ws6 _ e6 same6.
         lands-in ! 3 13 refl tt (tt, tt) $
-        move ! (2 ∷ []) $ calls-by ! fm (Calls-found-by 𝓤 H A mem run) known-found-by (to (for-found-by h-words cells here word2 there4)) (for-found-by h-words cells here word2 there4) refl (g-here, (g-word2, (g-there4, tt))) _ (facts.asks-found-by code cells records here pre own1 e1 word2 e2 links-to3 e3 there4 e4) (id⊢ 𝓤 _) founds _ (λ v. id⊢ 𝓤 _)
+        move ! (2 ∷ []) $ calls-by ! fm (Calls-found-by 𝓤 H A mem run) known-found-by (to (for-found-by h-cells cells here word2 there4)) (for-found-by h-cells cells here word2 there4) refl (g-here, (g-word2, (g-there4, tt))) _ (facts.asks-found-by code cells records here pre own1 e1 word2 e2 links-to3 e3 there4 e4) (id⊢ 𝓤 _) founds _ (λ v. id⊢ 𝓤 _)
         (and-then ! (var ! 3 2 refl refl tt) (and-then ! (var ! 3 4 refl refl tt) (and-then ! (var ! 3 6 refl refl tt) (and-then ! (var ! 3 7 refl refl tt) (no-more !))))) (λ found-by7 _ g-found-by7 e7 _.
         lands-in ! 3 0 refl tt (typed 𝓤 H A W founds found-by7 g-found-by7) $
         ends ! 3 refl refl tt $ move ! (2 ∷ 0 ∷ 1 ∷ []) $ by ! (exits found-by7 (ws6 .0) (same6 .0) g-found-by7 (facts.says code cells records here pre own1 e1 word2 e2 links-to3 e3 there4 e4 with-next5 e5 (ws6 .0) e6 (same6 .0) found-by7 e7)))))))))))))

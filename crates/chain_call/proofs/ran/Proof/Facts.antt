@@ -12,7 +12,7 @@ module _ (script : List ℕ) (numbers : CallNumbers) (table sheet : List ℤ) (r
     (pre : Pre script numbers table sheet records) (code : List ℕ) (code-is : code ≡ replicate 4096 0) (cells : List ℤ)
     (words-is : cells ≡ replicate 8224 (pos 0)) where
   pub asks-ran-on : ran-on-asks code cells script numbers table sheet records
-  asks-ran-on = record { program = pre .0; admitted = pre .1; code-zero = code-is; words-zero = words-is }
+  asks-ran-on = record { program = pre .0; admitted = pre .1; code-zero = code-is; cells-zero = words-is }
 
   module _ (code′ : List ℕ) (cells′ table′ sheet′ : List ℤ) (records′ : List Activation) (answer′ : List ℕ)
       (said : ran-on-says script numbers table sheet records table′ sheet′ answer′) where

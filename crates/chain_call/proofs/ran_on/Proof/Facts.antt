@@ -24,17 +24,17 @@ module _ (code : List ℕ) (cells : List ℤ) (script : List ℕ) (numbers : Cal
   pub asks-answered : answered-asks numbers
   asks-answered = tally-fits (pre .admitted)
 
-  module _ (code′ : List ℕ) (said : resolved-says script numbers code′) (activations : ℕ) (limit-is : activations-of-says numbers activations) where
+  module _ (code′ : List ℕ) (said : resolved-says script numbers code′) (activations : ℕ) (activations-is : activations-of-says numbers activations) where
     pub asks-run-program : run-program-asks code′ cells records table (numbers .count) (numbers .g) activations
-    asks-run-program = begins-at records fed (said .1) (pre .program) (pre .admitted) code′ (said .0) cells (pre .words-zero) activations limit-is
+    asks-run-program = begins-at records fed (said .1) (pre .program) (pre .admitted) code′ (said .0) cells (pre .cells-zero) activations activations-is
 
     module _ (halt : Halt) (cells′ : List ℤ) (records′ : List Activation) (table′ : List ℤ)
         (ran : run-program-says code′ cells records table (numbers .count) (numbers .g) activations (numbers .n) halt cells′ records′ table′)
         (long : length records′ ≡ length records) (wide : length table′ ≡ length table) where
       pub asks-write-sheet : write-sheet-asks code′ cells′ records′ (halt .live) sheet
-      asks-write-sheet = sheet-ready records fed (said .1) (pre .program) (pre .admitted) code′ (said .0) cells (pre .words-zero) halt activations limit-is ran long
+      asks-write-sheet = sheet-ready records fed (said .1) (pre .program) (pre .admitted) code′ (said .0) cells (pre .cells-zero) halt activations activations-is ran long
 
       module _ (written : ℕ) (sheet′ : List ℤ) (wrote : write-sheet-says code′ cells′ records′ (halt .live) sheet written sheet′)
           (sheet-long : length sheet′ ≡ length sheet) (answer′ : List ℕ) (answers : answered-says halt written numbers answer′) where
         pub says : Said script numbers table sheet records table′ sheet′ answer′
-        says = replied records fed (said .1) (pre .program) (pre .admitted) code′ (said .0) cells (pre .words-zero) halt activations limit-is ran wrote answers
+        says = replied records fed (said .1) (pre .program) (pre .admitted) code′ (said .0) cells (pre .cells-zero) halt activations activations-is ran wrote answers

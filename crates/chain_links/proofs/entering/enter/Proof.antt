@@ -135,8 +135,8 @@ module _ {M : Type 1} (𝓤 : URA M) (H : Heap 𝓤) (A : Atoms 𝓤) (W : Given
   abbrev code : List ℕ
   code = code# .now
 
-  abbrev h-words : Loan
-  h-words = loanRef κ1 q1 cells#
+  abbrev h-cells : Loan
+  h-cells = loanRef κ1 q1 cells#
 
   abbrev cells : List ℤ
   cells = cells# .now
@@ -148,7 +148,7 @@ module _ {M : Type 1} (𝓤 : URA M) (H : Heap 𝓤) (A : Atoms 𝓤) (W : Given
   records = records# .now
 
   abbrev ps : List Par
-  ps = brw (shrRef (Array u32 tt 4096)) h-code code ∷ brw (mutRef (Array i32 tt 8224)) h-words cells ∷ brw (mutSlice (recs .type)) h-records records ∷ dat registers here ∷ dat entries entry ∷ []
+  ps = brw (shrRef (Array u32 tt 4096)) h-code code ∷ brw (mutRef (Array i32 tt 8224)) h-cells cells ∷ brw (mutSlice (recs .type)) h-records records ∷ dat registers here ∷ dat entries entry ∷ []
 
   abbrev bound : walkOf 𝓤 H A f.ended stayed (f.clauses 𝓤 H A mem run) .Ghost
   bound = ((lfts ps, shares ps, tt, denots 0 ps, valss 0 ps), tt)
@@ -180,12 +180,12 @@ module _ {M : Type 1} (𝓤 : URA M) (H : Heap 𝓤) (A : Atoms 𝓤) (W : Given
         calls-by ! fm (Calls-arguments-end 𝓤 H A mem run) known-arguments-end (to (for-arguments-end h-code code here)) (for-arguments-end h-code code here) refl (g-here, tt) _ (facts.asks-arguments-end code cells records here entry pre) (id⊢ 𝓤 _) usizes _ (λ v. id⊢ 𝓤 _)
         (and-then ! (var ! 3 1 refl refl tt) (and-then ! (var ! 3 4 refl refl tt) (no-more !))) (λ arguments-end1 _ g-arguments-end1 e1 _.
         lands-in ! 3 12 refl tt (typed 𝓤 H A W usizes arguments-end1 g-arguments-end1) $
-        move ! (1 ∷ []) $ lends-ref ! tt (Array i32 tt 8224) h-words cells (λ p2-words ν2-words δ2-words.
+        move ! (1 ∷ []) $ lends-ref ! tt (Array i32 tt 8224) h-cells cells (λ p2-cells ν2-cells δ2-cells.
         move ! (3 ∷ []) $ shares-slice ! tt (recs .type) h-records records (λ ν2-records δ2-records.
-        move ! (4 ∷ 2 ∷ 0 ∷ []) $ calls-by ! fm (Calls-hand 𝓤 H A mem run) known-hand (to (for-hand h-code code (relent h-words ν2-words δ2-words) cells (relent h-records ν2-records δ2-records) records here arguments-end1)) (for-hand h-code code (relent h-words ν2-words δ2-words) cells (relent h-records ν2-records δ2-records) records here arguments-end1) refl (g-here, (g-arguments-end1, tt)) _ (facts.asks-hand code cells records here entry pre arguments-end1 e1) (id⊢ 𝓤 _) units _ (λ v. id⊢ 𝓤 _)
+        move ! (4 ∷ 2 ∷ 0 ∷ []) $ calls-by ! fm (Calls-hand 𝓤 H A mem run) known-hand (to (for-hand h-code code (relent h-cells ν2-cells δ2-cells) cells (relent h-records ν2-records δ2-records) records here arguments-end1)) (for-hand h-code code (relent h-cells ν2-cells δ2-cells) cells (relent h-records ν2-records δ2-records) records here arguments-end1) refl (g-here, (g-arguments-end1, tt)) _ (facts.asks-hand code cells records here entry pre arguments-end1 e1) (id⊢ 𝓤 _) units _ (λ v. id⊢ 𝓤 _)
         (and-then ! (var ! 5 1 refl refl tt) (and-then ! (var ! 5 9 refl refl tt) (and-then ! (var ! 5 11 refl refl tt) (and-then ! (var ! 5 4 refl refl tt) (and-then ! (var ! 5 12 refl refl tt) (no-more !)))))) (λ _ ws2 _ e2 _.
         lands-in ! 5 8 refl tt (tt, tt) $
-        move ! (1 ∷ 4 ∷ []) $ back-ref ! tt (Array i32 tt 8224) h-words cells (ws2 .1 .0) ν2-words δ2-words p2-words $
+        move ! (1 ∷ 4 ∷ []) $ back-ref ! tt (Array i32 tt 8224) h-cells cells (ws2 .1 .0) ν2-cells δ2-cells p2-cells $
         move ! (2 ∷ 3 ∷ []) $ unshares-slice ! tt (recs .type) h-records records ν2-records δ2-records $
         puts ! 3 13 refl (lent-ptr ! 3 3 refl refl tt refl refl) tt (tt, tt) $
         puts ! 3 14 refl (lent-slice ! 3 3 13 refl refl refl tt tt refl refl) tt (tt, (tt, (record { fits = room-records .0 }, tt))) $
@@ -214,7 +214,7 @@ module _ {M : Type 1} (𝓤 : URA M) (H : Heap 𝓤) (A : Atoms 𝓤) (W : Given
         (and-then ! (var ! 3 19 refl refl tt) (and-then ! (var ! 3 12 refl refl tt) (and-then ! (var ! 3 7 refl refl tt) (no-more !)))) (λ _ ws7 _ e7 same7.
         lands-in ! 3 8 refl tt (tt, tt) $
         puts ! 3 20 refl (lent ! 3 2 refl refl tt) tt (tt, tt) $
-        move ! (1 ∷ 2 ∷ []) $ calls-by ! fm (Calls-entered′ 𝓤 H A mem run) known-entered′ (to (for-entered′ h-code code h-words (ws2 .1 .0) here new6)) (for-entered′ h-code code h-words (ws2 .1 .0) here new6) refl (g-here, (g-new6, tt)) _ (facts.asks-entered code cells records here entry pre arguments-end1 e1 (ws2 .1 .0) e2 own3 e3 with-next4 e4 (ws5 .0) e5 (same5 .0) new6 e6) (id⊢ 𝓤 _) registers _ (λ v. id⊢ 𝓤 _)
+        move ! (1 ∷ 2 ∷ []) $ calls-by ! fm (Calls-entered′ 𝓤 H A mem run) known-entered′ (to (for-entered′ h-code code h-cells (ws2 .1 .0) here new6)) (for-entered′ h-code code h-cells (ws2 .1 .0) here new6) refl (g-here, (g-new6, tt)) _ (facts.asks-entered code cells records here entry pre arguments-end1 e1 (ws2 .1 .0) e2 own3 e3 with-next4 e4 (ws5 .0) e5 (same5 .0) new6 e6) (id⊢ 𝓤 _) registers _ (λ v. id⊢ 𝓤 _)
         (and-then ! (var ! 3 1 refl refl tt) (and-then ! (var ! 3 20 refl refl tt) (and-then ! (var ! 3 4 refl refl tt) (and-then ! (var ! 3 7 refl refl tt) (no-more !))))) (λ entered8 ws8 g-entered8 e8 _.
         lands-in ! 3 0 refl tt (typed 𝓤 H A W registers entered8 g-entered8) $
         ends ! 3 refl refl tt $ by ! (exits entered8 (ws8 .1 .0) (ws7 .0) ((same7 .0) ∙ (same5 .0)) g-entered8 (facts.says code cells records here entry pre arguments-end1 e1 (ws2 .1 .0) e2 own3 e3 with-next4 e4 (ws5 .0) e5 (same5 .0) new6 e6 (ws7 .0) e7 (same7 .0) entered8 (ws8 .1 .0) e8))))))))))))))))

@@ -92,8 +92,8 @@ module _ {M : Type 1} (𝓤 : URA M) (H : Heap 𝓤) (A : Atoms 𝓤) (W : Given
   abbrev code : List ℕ
   code = code# .now
 
-  abbrev h-words : Loan
-  h-words = loanRef κ1 q1 cells#
+  abbrev h-cells : Loan
+  h-cells = loanRef κ1 q1 cells#
 
   abbrev cells : List ℤ
   cells = cells# .now
@@ -105,7 +105,7 @@ module _ {M : Type 1} (𝓤 : URA M) (H : Heap 𝓤) (A : Atoms 𝓤) (W : Given
   records = records# .now
 
   abbrev ps : List Par
-  ps = brw (shrRef (Array u32 tt 4096)) h-code code ∷ brw (mutRef (Array i32 tt 8224)) h-words cells ∷ brw (shrSlice (recs .type)) h-records records ∷ dat registers here ∷ dat usizes last ∷ []
+  ps = brw (shrRef (Array u32 tt 4096)) h-code code ∷ brw (mutRef (Array i32 tt 8224)) h-cells cells ∷ brw (shrSlice (recs .type)) h-records records ∷ dat registers here ∷ dat usizes last ∷ []
 
   abbrev bound : walkOf 𝓤 H A f.ended stayed (f.clauses 𝓤 H A mem run) .Ghost
   bound = ((lfts ps, shares ps, tt, denots 0 ps, valss 0 ps), tt)
@@ -134,7 +134,7 @@ module _ {M : Type 1} (𝓤 : URA M) (H : Heap 𝓤) (A : Atoms 𝓤) (W : Given
       E# = envAt (tysOf (mine.function .locals)) β
 
       abbrev Inv : St → List (Item 𝓤)
-      Inv t = ‵ (In (shrRef (Array u32 tt 4096)) h-code code) ∷ ‵ (In (mutRef (Array i32 tt 8224)) h-words (t .state .cells)) ∷ ‵ (In (shrSlice (recs .type)) h-records records) ∷ fr 𝓤 H (tysOf (mine.function .locals)) β (none ∷ some (h-code .val) ∷ some (h-words .val) ∷ some (h-records .val) ∷ some (registers .val here) ∷ some (usizes .val last) ∷ some (usizes .val (32 * (here .live))) ∷ some (usizes .val (t .state .field)) ∷ none ∷ none ∷ none ∷ none ∷ []) ∷ []
+      Inv t = ‵ (In (shrRef (Array u32 tt 4096)) h-code code) ∷ ‵ (In (mutRef (Array i32 tt 8224)) h-cells (t .state .cells)) ∷ ‵ (In (shrSlice (recs .type)) h-records records) ∷ fr 𝓤 H (tysOf (mine.function .locals)) β (none ∷ some (h-code .val) ∷ some (h-cells .val) ∷ some (h-records .val) ∷ some (registers .val here) ∷ some (usizes .val last) ∷ some (usizes .val (32 * (here .live))) ∷ some (usizes .val (t .state .field)) ∷ none ∷ none ∷ none ∷ none ∷ []) ∷ []
 
       turn : (t : St) → Sq W (Inv t) (runs (𝓣 .C) (𝓣 .Λ) E# mir′.turn-1 (anyQ (afterTurn 𝓤 H (Below 𝓤 H A (by-size size) Inv t)
           (afterBlock 𝓤 H (afterSeq 𝓤 H (Wp 𝓤 H (𝓣 .C) (𝓣 .Λ) E# mir′.t-4 (atReturn 𝓤 H E# Post)) (atReturn 𝓤 H E# Post))))))
@@ -147,16 +147,16 @@ module _ {M : Type 1} (𝓤 : URA M) (H : Heap 𝓤) (A : Atoms 𝓤) (W : Given
           (and-then ! (var ! 3 1 refl refl tt) (and-then ! (var ! 3 3 refl refl tt) (and-then ! (var ! 3 4 refl refl tt) (and-then ! (var ! 3 6 refl refl tt) (and-then ! (var ! 3 7 refl refl tt) (no-more !)))))) (λ first1 _ g-first1 e1 _.
           lands-in ! 3 8 refl tt (typed 𝓤 H A W usizes first1 g-first1) $
           puts ! 3 11 refl (lent ! 3 2 refl refl tt) tt (tt, tt) $
-          move ! (2 ∷ []) $ lends-ref ! tt (Array i32 tt 8224) h-words (t .state .cells) (λ p2-words ν2-words δ2-words.
-          move ! (2 ∷ 0 ∷ []) $ calls-by ! fm (Calls-pass 𝓤 H A mem run) known-pass (to (for-pass h-code code (relent h-words ν2-words δ2-words) (t .state .cells) here (t .state .field) first1)) (for-pass h-code code (relent h-words ν2-words δ2-words) (t .state .cells) here (t .state .field) first1) refl (g-here, ((t .good-field), (g-first1, tt))) _ (facts.asks-pass code cells records here last pre (t .state) (ltb→lt (t .state .field) last y1) first1 e1) (id⊢ 𝓤 _) units _ (λ v. id⊢ 𝓤 _)
+          move ! (2 ∷ []) $ lends-ref ! tt (Array i32 tt 8224) h-cells (t .state .cells) (λ p2-cells ν2-cells δ2-cells.
+          move ! (2 ∷ 0 ∷ []) $ calls-by ! fm (Calls-pass 𝓤 H A mem run) known-pass (to (for-pass h-code code (relent h-cells ν2-cells δ2-cells) (t .state .cells) here (t .state .field) first1)) (for-pass h-code code (relent h-cells ν2-cells δ2-cells) (t .state .cells) here (t .state .field) first1) refl (g-here, ((t .good-field), (g-first1, tt))) _ (facts.asks-pass code cells records here last pre (t .state) (ltb→lt (t .state .field) last y1) first1 e1) (id⊢ 𝓤 _) units _ (λ v. id⊢ 𝓤 _)
           (and-then ! (var ! 4 1 refl refl tt) (and-then ! (var ! 4 11 refl refl tt) (and-then ! (var ! 4 4 refl refl tt) (and-then ! (var ! 4 7 refl refl tt) (and-then ! (var ! 4 8 refl refl tt) (no-more !)))))) (λ _ ws2 _ e2 _.
           lands-in ! 4 10 refl tt (tt, tt) $
-          move ! (1 ∷ 2 ∷ []) $ back-ref ! tt (Array i32 tt 8224) h-words (t .state .cells) (ws2 .1 .0) ν2-words δ2-words p2-words $
+          move ! (1 ∷ 2 ∷ []) $ back-ref ! tt (Array i32 tt 8224) h-cells (t .state .cells) (ws2 .1 .0) ν2-cells δ2-cells p2-cells $
           puts-last ! 3 7 refl (bin ! (var ! 3 7 refl refl tt) (lit ! tt) (record { fits = (facts.fits-2 code cells records here last pre (t .state) (ltb→lt (t .state .field) last y1) first1 e1) })) tt (tt, record { fits = (facts.fits-2 code cells records here last pre (t .state) (ltb→lt (t .state .field) last y1) first1 e1) }) $
           forgets ! 3 (8 ∷ 9 ∷ 10 ∷ 11 ∷ []) refl tt $ move ! (1 ∷ 0 ∷ 2 ∷ []) $ again ! (by-size size) Inv t (record { state = (facts.next code cells records here last pre (t .state) (ltb→lt (t .state .field) last y1) first1 e1 (ws2 .1 .0) e2); good-field = (refl, (facts.fits-2 code cells records here last pre (t .state) (ltb→lt (t .state .field) last y1) first1 e1)) }) (facts.less code cells records here last pre (t .state) (ltb→lt (t .state .field) last y1) first1 e1 (ws2 .1 .0) e2)))))
           (λ y1. exec ! (𝓣 .C) (𝓣 .Λ) E# mir′.t-4 (atRet E# Post) $
           puts ! 3 0 refl (of-opd ! (unit-lit !)) tt (tt, tt) $
-          ends ! 3 refl refl tt $ move ! (1 ∷ []) $ gives ! (mutRef (Array i32 tt 8224)) h-words (t .state .cells) $ move ! (1 ∷ 0 ∷ 2 ∷ []) $ by ! (exits (t .state .cells) (facts.says code cells records here last pre (t .state) (not-below (t .state .field) last y1))))
+          ends ! 3 refl refl tt $ move ! (1 ∷ []) $ gives ! (mutRef (Array i32 tt 8224)) h-cells (t .state .cells) $ move ! (1 ∷ 0 ∷ 2 ∷ []) $ by ! (exits (t .state .cells) (facts.says code cells records here last pre (t .state) (not-below (t .state .field) last y1))))
 
     walk : ent 𝓤 (onEntry 𝓤 H A f.signature (lfts ps) (shares ps) (denots 0 ps) (valss 0 ps)) (WpFn 𝓤 H (𝓣 .C) (𝓣 .Λ) mine.function (vals ps) Post)
     walk = via 𝓤 (⋆ 𝓤 H A (ins 𝓤 ps)) (arrives 𝓤 H A W 0 ps) (qed W (ins 𝓤 ps) ∵

@@ -103,8 +103,8 @@ module _ {M : Type 1} (𝓤 : URA M) (H : Heap 𝓤) (A : Atoms 𝓤) (W : Given
   abbrev code : List ℕ
   code = code# .now
 
-  abbrev h-words : Loan
-  h-words = loanRef κ1 q1 cells#
+  abbrev h-cells : Loan
+  h-cells = loanRef κ1 q1 cells#
 
   abbrev cells : List ℤ
   cells = cells# .now
@@ -116,7 +116,7 @@ module _ {M : Type 1} (𝓤 : URA M) (H : Heap 𝓤) (A : Atoms 𝓤) (W : Given
   records = records# .now
 
   abbrev ps : List Par
-  ps = brw (shrRef (Array u32 tt 4096)) h-code code ∷ brw (shrRef (Array i32 tt 8224)) h-words cells ∷ brw (mutSlice (recs .type)) h-records records ∷ dat registers here ∷ dat turns turn₀ ∷ dat words32 allowance ∷ dat words32 left ∷ []
+  ps = brw (shrRef (Array u32 tt 4096)) h-code code ∷ brw (shrRef (Array i32 tt 8224)) h-cells cells ∷ brw (mutSlice (recs .type)) h-records records ∷ dat registers here ∷ dat turns turn₀ ∷ dat words32 allowance ∷ dat words32 left ∷ []
 
   abbrev bound : walkOf 𝓤 H A f.ended stayed (f.clauses 𝓤 H A mem run) .Ghost
   bound = ((lfts ps, shares ps, tt, denots 0 ps, valss 0 ps), tt)
@@ -151,7 +151,7 @@ module _ {M : Type 1} (𝓤 : URA M) (H : Heap 𝓤) (A : Atoms 𝓤) (W : Given
         (λ y1.
         puts ! 3 10 refl (lent-ptr ! 3 3 refl refl tt refl refl) tt (tt, tt) $
         puts ! 3 11 refl (lent-slice ! 3 3 10 refl refl refl tt tt refl refl) tt (tt, (tt, (record { fits = room-records .0 }, tt))) $
-        calls-by ! fm (Calls-settle 𝓤 H A mem run) known-settle (to (for-settle h-code code h-words cells h-records records here)) (for-settle h-code code h-words cells h-records records here) refl (g-here, tt) _ (facts.asks-settle code cells records here turn₀ allowance left pre is-finished1 e1 (untold is-finished1 y1)) (id⊢ 𝓤 _) founds _ (λ v. id⊢ 𝓤 _)
+        calls-by ! fm (Calls-settle 𝓤 H A mem run) known-settle (to (for-settle h-code code h-cells cells h-records records here)) (for-settle h-code code h-cells cells h-records records here) refl (g-here, tt) _ (facts.asks-settle code cells records here turn₀ allowance left pre is-finished1 e1 (untold is-finished1 y1)) (id⊢ 𝓤 _) founds _ (λ v. id⊢ 𝓤 _)
         (and-then ! (var ! 3 1 refl refl tt) (and-then ! (var ! 3 2 refl refl tt) (and-then ! (var ! 3 11 refl refl tt) (and-then ! (var ! 3 4 refl refl tt) (no-more !))))) (λ found3 ws3 g-found3 e3 same3.
         lands-in ! 3 8 refl tt (typed 𝓤 H A W founds found3 g-found3) $
         calls-by ! fm (Calls-halted 𝓤 H A mem run) known-halted (to (for-halted here turn₀ found3 allowance left)) (for-halted here turn₀ found3 allowance left) refl (g-here, (g-turn₀, (g-found3, (g-allowance, (g-left, tt))))) _ (facts.asks-halted code cells records here turn₀ allowance left pre is-finished1 e1 (untold is-finished1 y1)) (id⊢ 𝓤 _) halts _ (λ v. id⊢ 𝓤 _)

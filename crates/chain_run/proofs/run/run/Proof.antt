@@ -119,7 +119,7 @@ module _ (code : List ℕ) (cells : List ℤ) (records : List (recs .type .Denot
 
 module _ {M : Type 1} (𝓤 : URA M) (H : Heap 𝓤) (A : Atoms 𝓤) (W : Given 𝓤 H A) (mem : Memory → SProp 𝓤) (run : Routine → Fun 𝓤) (κ0 κ1 κ2 κ3 : Lft) (q0 q1 q2 q3 : Share)
     (code# : RefT (List ℕ)) (cells# : RefT (List ℤ)) (records# : RefT (List (recs .type .Denot))) (table# : RefT (List ℤ)) (limit : ℕ) (activations : ℕ) (allowance : ℕ) (start : registers .type .Denot)
-    (room-records : Room (recs .type) (length (records# .now))) (room-table : Room i32 (length (table# .now))) (g-group : Good words32 limit) (g-limit : Good usizes activations) (g-allowance : Good words32 allowance) (g-start : Good registers start)
+    (room-records : Room (recs .type) (length (records# .now))) (room-table : Room i32 (length (table# .now))) (g-limit : Good words32 limit) (g-activations : Good usizes activations) (g-allowance : Good words32 allowance) (g-start : Good registers start)
     (pre : said.Pre (code# .now) (cells# .now) (records# .now) (table# .now) limit activations start) where
   abbrev h-code : Loan
   h-code = loanRef κ0 q0 code#
@@ -127,8 +127,8 @@ module _ {M : Type 1} (𝓤 : URA M) (H : Heap 𝓤) (A : Atoms 𝓤) (W : Given
   abbrev code : List ℕ
   code = code# .now
 
-  abbrev h-words : Loan
-  h-words = loanRef κ1 q1 cells#
+  abbrev h-cells : Loan
+  h-cells = loanRef κ1 q1 cells#
 
   abbrev cells : List ℤ
   cells = cells# .now
@@ -146,7 +146,7 @@ module _ {M : Type 1} (𝓤 : URA M) (H : Heap 𝓤) (A : Atoms 𝓤) (W : Given
   table = table# .now
 
   abbrev ps : List Par
-  ps = brw (shrRef (Array u32 tt 4096)) h-code code ∷ brw (mutRef (Array i32 tt 8224)) h-words cells ∷ brw (mutSlice (recs .type)) h-records records ∷ brw (mutSlice i32) h-table table ∷ dat words32 limit ∷ dat usizes activations ∷ dat words32 allowance ∷ dat registers start ∷ []
+  ps = brw (shrRef (Array u32 tt 4096)) h-code code ∷ brw (mutRef (Array i32 tt 8224)) h-cells cells ∷ brw (mutSlice (recs .type)) h-records records ∷ brw (mutSlice i32) h-table table ∷ dat words32 limit ∷ dat usizes activations ∷ dat words32 allowance ∷ dat registers start ∷ []
 
   abbrev bound : walkOf 𝓤 H A f.ended stayed (f.clauses 𝓤 H A mem run) .Ghost
   bound = ((lfts ps, shares ps, tt, denots 0 ps, valss 0 ps), tt)
@@ -155,7 +155,7 @@ module _ {M : Type 1} (𝓤 : URA M) (H : Heap 𝓤) (A : Atoms 𝓤) (W : Given
   Post = walkOf 𝓤 H A f.ended stayed (f.clauses 𝓤 H A mem run) .post bound
 
   exits : (r : halts .type .Denot) (cells′ : List ℤ) (records′ : List (recs .type .Denot)) (table′ : List ℤ) → length records′ ≡ length records → length table′ ≡ length table → Good halts r → said.Said code cells records table limit activations allowance start r cells′ records′ table′ → ent 𝓤 (⋆ 𝓤 H A (outs 𝓤 0 ps (tt, (cells′, (records′, (table′, (tt, (tt, (tt, (tt, tt)))))))))) (Post (halts .val r))
-  exits r cells′ records′ table′ same-records same-table good says = via 𝓤 _ (leaves-with 𝓤 H A W ps (tt, (cells′, (records′, (table′, (tt, (tt, (tt, (tt, tt)))))))) (g-group, (g-limit, (g-allowance, (g-start, tt)))) halts r good (said.Said code cells records table limit activations allowance start r cells′ records′ table′) says)
+  exits r cells′ records′ table′ same-records same-table good says = via 𝓤 _ (leaves-with 𝓤 H A W ps (tt, (cells′, (records′, (table′, (tt, (tt, (tt, (tt, tt)))))))) (g-limit, (g-activations, (g-allowance, (g-start, tt)))) halts r good (said.Said code cells records table limit activations allowance start r cells′ records′ table′) says)
       (ends-at 𝓤 H A f.ended stayed (f.clauses 𝓤 H A mem run) W bound (halts .val r) r (tt, (cells′, (records′, (table′, (tt, (tt, (tt, (tt, tt)))))))) (tt, (tt, (same-records, (same-table, (tt, (tt, (tt, (tt, tt)))))))))
 
   abbrev St : Type 0
@@ -178,7 +178,7 @@ module _ {M : Type 1} (𝓤 : URA M) (H : Heap 𝓤) (A : Atoms 𝓤) (W : Given
       E# = envAt (tysOf (mine.function .locals)) β
 
       abbrev Inv : St → List (Item 𝓤)
-      Inv t = ‵ (In (shrRef (Array u32 tt 4096)) h-code code) ∷ ‵ (In (mutRef (Array i32 tt 8224)) h-words (t .state .cells)) ∷ ‵ (In (mutSlice (recs .type)) h-records (t .state .records)) ∷ ‵ (In (mutSlice i32) h-table (t .state .table)) ∷ fr 𝓤 H (tysOf (mine.function .locals)) β (none ∷ some (h-code .val) ∷ some (h-words .val) ∷ some (h-records .val) ∷ some (h-table .val) ∷ some (words32 .val limit) ∷ some (usizes .val activations) ∷ some (words32 .val allowance) ∷ some (registers .val start) ∷ some (registers .val (t .state .here)) ∷ some (turns .val (t .state .turn)) ∷ some (words32 .val (t .state .left)) ∷ none ∷ none ∷ none ∷ none ∷ none ∷ none ∷ none ∷ none ∷ none ∷ none ∷ []) ∷ []
+      Inv t = ‵ (In (shrRef (Array u32 tt 4096)) h-code code) ∷ ‵ (In (mutRef (Array i32 tt 8224)) h-cells (t .state .cells)) ∷ ‵ (In (mutSlice (recs .type)) h-records (t .state .records)) ∷ ‵ (In (mutSlice i32) h-table (t .state .table)) ∷ fr 𝓤 H (tysOf (mine.function .locals)) β (none ∷ some (h-code .val) ∷ some (h-cells .val) ∷ some (h-records .val) ∷ some (h-table .val) ∷ some (words32 .val limit) ∷ some (usizes .val activations) ∷ some (words32 .val allowance) ∷ some (registers .val start) ∷ some (registers .val (t .state .here)) ∷ some (turns .val (t .state .turn)) ∷ some (words32 .val (t .state .left)) ∷ none ∷ none ∷ none ∷ none ∷ none ∷ none ∷ none ∷ none ∷ none ∷ none ∷ []) ∷ []
 
       turn : (t : St) → Sq W (Inv t) (runs (𝓣 .C) (𝓣 .Λ) E# mir′.turn-1 (anyQ (afterTurn 𝓤 H (Below 𝓤 H A (by-size size) Inv t)
           (afterBlock 𝓤 H (afterSeq 𝓤 H (Wp 𝓤 H (𝓣 .C) (𝓣 .Λ) E# mir′.t-5 (atReturn 𝓤 H E# Post)) (atReturn 𝓤 H E# Post))))))
@@ -192,13 +192,13 @@ module _ {M : Type 1} (𝓤 : URA M) (H : Heap 𝓤) (A : Atoms 𝓤) (W : Given
           puts ! 4 15 refl (lent-slice ! 4 3 14 refl refl refl tt tt refl refl) tt (tt, (tt, (record { fits = room-records .0 }, tt))) $
           puts ! 4 16 refl (lent-ptr ! 4 4 refl refl tt refl refl) tt (tt, tt) $
           puts ! 4 17 refl (lent-slice ! 4 4 16 refl refl refl tt tt refl refl) tt (tt, (tt, (record { fits = room-table .0 }, tt))) $
-          move ! (1 ∷ []) $ lends-ref ! tt (Array i32 tt 8224) h-words (t .state .cells) (λ p2-words ν2-words δ2-words.
+          move ! (1 ∷ []) $ lends-ref ! tt (Array i32 tt 8224) h-cells (t .state .cells) (λ p2-cells ν2-cells δ2-cells.
           move ! (3 ∷ []) $ lends-slice ! tt (recs .type) h-records (t .state .records) (λ ν2-records δ2-records.
           move ! (5 ∷ []) $ lends-slice ! tt i32 h-table (t .state .table) (λ ν2-table δ2-table.
-          move ! (6 ∷ 4 ∷ 2 ∷ 0 ∷ []) $ calls-by ! fm (Calls-step 𝓤 H A mem run) known-step (to (for-step h-code code (relent h-words ν2-words δ2-words) (t .state .cells) (relent h-records ν2-records δ2-records) (t .state .records) (relent h-table ν2-table δ2-table) (t .state .table) limit activations (t .state .here))) (for-step h-code code (relent h-words ν2-words δ2-words) (t .state .cells) (relent h-records ν2-records δ2-records) (t .state .records) (relent h-table ν2-table δ2-table) (t .state .table) limit activations (t .state .here)) refl (g-group, (g-limit, ((t .good-here), tt))) _ (facts.asks-step code cells records table limit activations allowance start pre (t .state) (ltb→lt 0 (t .state .left) y1)) (id⊢ 𝓤 _) turns _ (λ v. id⊢ 𝓤 _)
+          move ! (6 ∷ 4 ∷ 2 ∷ 0 ∷ []) $ calls-by ! fm (Calls-step 𝓤 H A mem run) known-step (to (for-step h-code code (relent h-cells ν2-cells δ2-cells) (t .state .cells) (relent h-records ν2-records δ2-records) (t .state .records) (relent h-table ν2-table δ2-table) (t .state .table) limit activations (t .state .here))) (for-step h-code code (relent h-cells ν2-cells δ2-cells) (t .state .cells) (relent h-records ν2-records δ2-records) (t .state .records) (relent h-table ν2-table δ2-table) (t .state .table) limit activations (t .state .here)) refl (g-limit, (g-activations, ((t .good-here), tt))) _ (facts.asks-step code cells records table limit activations allowance start pre (t .state) (ltb→lt 0 (t .state .left) y1)) (id⊢ 𝓤 _) turns _ (λ v. id⊢ 𝓤 _)
           (and-then ! (var ! 7 1 refl refl tt) (and-then ! (var ! 7 13 refl refl tt) (and-then ! (var ! 7 15 refl refl tt) (and-then ! (var ! 7 17 refl refl tt) (and-then ! (var ! 7 5 refl refl tt) (and-then ! (var ! 7 6 refl refl tt) (and-then ! (var ! 7 9 refl refl tt) (no-more !)))))))) (λ turn2 ws2 g-turn2 e2 same2.
           lands-in ! 7 10 refl tt (typed 𝓤 H A W turns turn2 g-turn2) $
-          move ! (1 ∷ 6 ∷ []) $ back-ref ! tt (Array i32 tt 8224) h-words (t .state .cells) (ws2 .1 .0) ν2-words δ2-words p2-words $
+          move ! (1 ∷ 6 ∷ []) $ back-ref ! tt (Array i32 tt 8224) h-cells (t .state .cells) (ws2 .1 .0) ν2-cells δ2-cells p2-cells $
           move ! (2 ∷ 5 ∷ []) $ back-slice ! tt (recs .type) h-records (t .state .records) (ws2 .1 .1 .0) ν2-records δ2-records (same2 .1 .1 .0) $
           move ! (3 ∷ 4 ∷ []) $ back-slice ! tt i32 h-table (t .state .table) (ws2 .1 .1 .1 .0) ν2-table δ2-table (same2 .1 .1 .1 .0) $
           calls-by ! fm (Calls-halts 𝓤 H A mem run) known-halts (to (for-halts turn2)) (for-halts turn2) refl (g-turn2, tt) (Unit {0}) tt (asks-all 𝓤 H A (for-halts turn2) []) bools _ (λ v. id⊢ 𝓤 _)
@@ -209,12 +209,12 @@ module _ {M : Type 1} (𝓤 : URA M) (H : Heap 𝓤) (A : Atoms 𝓤) (W : Given
           puts ! 4 19 refl (lent ! 4 2 refl refl tt) tt (tt, tt) $
           puts ! 4 20 refl (lent-ptr ! 4 3 refl refl tt refl refl) tt (tt, tt) $
           puts ! 4 21 refl (lent-slice ! 4 3 20 refl refl refl tt tt refl refl) tt (tt, (tt, (record { fits = room-records .0 }, tt))) $
-          move ! (2 ∷ []) $ shares-ref ! tt (Array i32 tt 8224) h-words (ws2 .1 .0) (λ p4-words ν4-words δ4-words.
-          move ! (4 ∷ 0 ∷ 3 ∷ []) $ calls-by ! fm (Calls-ended 𝓤 H A mem run) known-ended (to (for-ended h-code code (relent h-words ν4-words δ4-words) (ws2 .1 .0) h-records (ws2 .1 .1 .0) (t .state .here) turn2 allowance (t .state .left))) (for-ended h-code code (relent h-words ν4-words δ4-words) (ws2 .1 .0) h-records (ws2 .1 .1 .0) (t .state .here) turn2 allowance (t .state .left)) refl ((t .good-here), (g-turn2, (g-allowance, ((t .good-left), tt)))) _ (facts.asks-ended code cells records table limit activations allowance start pre (t .state) (ltb→lt 0 (t .state .left) y1) turn2 (ws2 .1 .0) (ws2 .1 .1 .0) (ws2 .1 .1 .1 .0) e2 (same2 .1 .1 .0) (same2 .1 .1 .1 .0) halts3 e3 (told halts3 y2)) (id⊢ 𝓤 _) halts _ (λ v. id⊢ 𝓤 _)
+          move ! (2 ∷ []) $ shares-ref ! tt (Array i32 tt 8224) h-cells (ws2 .1 .0) (λ p4-cells ν4-cells δ4-cells.
+          move ! (4 ∷ 0 ∷ 3 ∷ []) $ calls-by ! fm (Calls-ended 𝓤 H A mem run) known-ended (to (for-ended h-code code (relent h-cells ν4-cells δ4-cells) (ws2 .1 .0) h-records (ws2 .1 .1 .0) (t .state .here) turn2 allowance (t .state .left))) (for-ended h-code code (relent h-cells ν4-cells δ4-cells) (ws2 .1 .0) h-records (ws2 .1 .1 .0) (t .state .here) turn2 allowance (t .state .left)) refl ((t .good-here), (g-turn2, (g-allowance, ((t .good-left), tt)))) _ (facts.asks-ended code cells records table limit activations allowance start pre (t .state) (ltb→lt 0 (t .state .left) y1) turn2 (ws2 .1 .0) (ws2 .1 .1 .0) (ws2 .1 .1 .1 .0) e2 (same2 .1 .1 .0) (same2 .1 .1 .1 .0) halts3 e3 (told halts3 y2)) (id⊢ 𝓤 _) halts _ (λ v. id⊢ 𝓤 _)
           (and-then ! (var ! 5 1 refl refl tt) (and-then ! (var ! 5 19 refl refl tt) (and-then ! (var ! 5 21 refl refl tt) (and-then ! (var ! 5 9 refl refl tt) (and-then ! (var ! 5 10 refl refl tt) (and-then ! (var ! 5 7 refl refl tt) (and-then ! (var ! 5 11 refl refl tt) (no-more !)))))))) (λ ended4 ws4 g-ended4 e4 same4.
           lands-in ! 5 0 refl tt (typed 𝓤 H A W halts ended4 g-ended4) $
-          move ! (1 ∷ 3 ∷ []) $ unshares-ref ! tt (Array i32 tt 8224) h-words (ws2 .1 .0) ν4-words δ4-words p4-words $
-          ends ! 4 refl refl tt $ gives ! (mutRef (Array i32 tt 8224)) h-words (ws2 .1 .0) $ move ! (3 ∷ []) $ gives ! (mutSlice i32) h-table (ws2 .1 .1 .1 .0) $ move ! (2 ∷ 1 ∷ 3 ∷ 0 ∷ []) $ by ! (exits ended4 (ws2 .1 .0) (ws4 .1 .1 .0) (ws2 .1 .1 .1 .0) ((same4 .1 .1 .0) ∙ ((same2 .1 .1 .0) ∙ (t .long-records))) ((same2 .1 .1 .1 .0) ∙ (t .long-table)) g-ended4 (facts.says-1 code cells records table limit activations allowance start pre (t .state) (ltb→lt 0 (t .state .left) y1) turn2 (ws2 .1 .0) (ws2 .1 .1 .0) (ws2 .1 .1 .1 .0) e2 (same2 .1 .1 .0) (same2 .1 .1 .1 .0) halts3 e3 (told halts3 y2) ended4 (ws4 .1 .1 .0) e4)))))
+          move ! (1 ∷ 3 ∷ []) $ unshares-ref ! tt (Array i32 tt 8224) h-cells (ws2 .1 .0) ν4-cells δ4-cells p4-cells $
+          ends ! 4 refl refl tt $ gives ! (mutRef (Array i32 tt 8224)) h-cells (ws2 .1 .0) $ move ! (3 ∷ []) $ gives ! (mutSlice i32) h-table (ws2 .1 .1 .1 .0) $ move ! (2 ∷ 1 ∷ 3 ∷ 0 ∷ []) $ by ! (exits ended4 (ws2 .1 .0) (ws4 .1 .1 .0) (ws2 .1 .1 .1 .0) ((same4 .1 .1 .0) ∙ ((same2 .1 .1 .0) ∙ (t .long-records))) ((same2 .1 .1 .1 .0) ∙ (t .long-table)) g-ended4 (facts.says-1 code cells records table limit activations allowance start pre (t .state) (ltb→lt 0 (t .state .left) y1) turn2 (ws2 .1 .0) (ws2 .1 .1 .0) (ws2 .1 .1 .1 .0) e2 (same2 .1 .1 .0) (same2 .1 .1 .1 .0) halts3 e3 (told halts3 y2) ended4 (ws4 .1 .1 .0) e4)))))
           (λ y2.
           calls-by ! fm (Calls-next-of 𝓤 H A mem run) known-next-of (to (for-next-of (t .state .here) turn2)) (for-next-of (t .state .here) turn2) refl ((t .good-here), (g-turn2, tt)) (Unit {0}) tt (asks-all 𝓤 H A (for-next-of (t .state .here) turn2) []) registers _ (λ v. id⊢ 𝓤 _)
           (and-then ! (var ! 4 9 refl refl tt) (and-then ! (var ! 4 10 refl refl tt) (no-more !))) (λ here5 _ g-here5 e5 _.
@@ -225,16 +225,16 @@ module _ {M : Type 1} (𝓤 : URA M) (H : Heap 𝓤) (A : Atoms 𝓤) (W : Given
           puts ! 4 19 refl (lent ! 4 2 refl refl tt) tt (tt, tt) $
           puts ! 4 20 refl (lent-ptr ! 4 3 refl refl tt refl refl) tt (tt, tt) $
           puts ! 4 21 refl (lent-slice ! 4 3 20 refl refl refl tt tt refl refl) tt (tt, (tt, (record { fits = room-records .0 }, tt))) $
-          move ! (1 ∷ []) $ shares-ref ! tt (Array i32 tt 8224) h-words (t .state .cells) (λ p6-words ν6-words δ6-words.
-          move ! (2 ∷ 0 ∷ 3 ∷ []) $ calls-by ! fm (Calls-ended 𝓤 H A mem run) known-ended (to (for-ended h-code code (relent h-words ν6-words δ6-words) (t .state .cells) h-records (t .state .records) (t .state .here) (t .state .turn) allowance (t .state .left))) (for-ended h-code code (relent h-words ν6-words δ6-words) (t .state .cells) h-records (t .state .records) (t .state .here) (t .state .turn) allowance (t .state .left)) refl ((t .good-here), ((t .good-turn), (g-allowance, ((t .good-left), tt)))) _ (facts.asks-ended-2 code cells records table limit activations allowance start pre (t .state) (not-below 0 (t .state .left) y1)) (id⊢ 𝓤 _) halts _ (λ v. id⊢ 𝓤 _)
+          move ! (1 ∷ []) $ shares-ref ! tt (Array i32 tt 8224) h-cells (t .state .cells) (λ p6-cells ν6-cells δ6-cells.
+          move ! (2 ∷ 0 ∷ 3 ∷ []) $ calls-by ! fm (Calls-ended 𝓤 H A mem run) known-ended (to (for-ended h-code code (relent h-cells ν6-cells δ6-cells) (t .state .cells) h-records (t .state .records) (t .state .here) (t .state .turn) allowance (t .state .left))) (for-ended h-code code (relent h-cells ν6-cells δ6-cells) (t .state .cells) h-records (t .state .records) (t .state .here) (t .state .turn) allowance (t .state .left)) refl ((t .good-here), ((t .good-turn), (g-allowance, ((t .good-left), tt)))) _ (facts.asks-ended-2 code cells records table limit activations allowance start pre (t .state) (not-below 0 (t .state .left) y1)) (id⊢ 𝓤 _) halts _ (λ v. id⊢ 𝓤 _)
           (and-then ! (var ! 5 1 refl refl tt) (and-then ! (var ! 5 19 refl refl tt) (and-then ! (var ! 5 21 refl refl tt) (and-then ! (var ! 5 9 refl refl tt) (and-then ! (var ! 5 10 refl refl tt) (and-then ! (var ! 5 7 refl refl tt) (and-then ! (var ! 5 11 refl refl tt) (no-more !)))))))) (λ ended6 ws6 g-ended6 e6 same6.
           lands-in ! 5 0 refl tt (typed 𝓤 H A W halts ended6 g-ended6) $
-          move ! (1 ∷ 3 ∷ []) $ unshares-ref ! tt (Array i32 tt 8224) h-words (t .state .cells) ν6-words δ6-words p6-words $
-          ends ! 4 refl refl tt $ gives ! (mutRef (Array i32 tt 8224)) h-words (t .state .cells) $ move ! (3 ∷ []) $ gives ! (mutSlice i32) h-table (t .state .table) $ move ! (2 ∷ 1 ∷ 3 ∷ 0 ∷ []) $ by ! (exits ended6 (t .state .cells) (ws6 .1 .1 .0) (t .state .table) ((same6 .1 .1 .0) ∙ (t .long-records)) (t .long-table) g-ended6 (facts.says-2 code cells records table limit activations allowance start pre (t .state) (not-below 0 (t .state .left) y1) ended6 (ws6 .1 .1 .0) e6)))))
+          move ! (1 ∷ 3 ∷ []) $ unshares-ref ! tt (Array i32 tt 8224) h-cells (t .state .cells) ν6-cells δ6-cells p6-cells $
+          ends ! 4 refl refl tt $ gives ! (mutRef (Array i32 tt 8224)) h-cells (t .state .cells) $ move ! (3 ∷ []) $ gives ! (mutSlice i32) h-table (t .state .table) $ move ! (2 ∷ 1 ∷ 3 ∷ 0 ∷ []) $ by ! (exits ended6 (t .state .cells) (ws6 .1 .1 .0) (t .state .table) ((same6 .1 .1 .0) ∙ (t .long-records)) (t .long-table) g-ended6 (facts.says-2 code cells records table limit activations allowance start pre (t .state) (not-below 0 (t .state .left) y1) ended6 (ws6 .1 .1 .0) e6)))))
 
     walk : ent 𝓤 (onEntry 𝓤 H A f.signature (lfts ps) (shares ps) (denots 0 ps) (valss 0 ps)) (WpFn 𝓤 H (𝓣 .C) (𝓣 .Λ) mine.function (vals ps) Post)
     walk = via 𝓤 (⋆ 𝓤 H A (ins 𝓤 ps)) (arrives 𝓤 H A W 0 ps) (qed W (ins 𝓤 ps) ∵
-        begins ! (𝓣 .C) (𝓣 .Λ) mine.function (vals ps) Post ((tt, tt), ((tt, tt), ((tt, (tt, (record { fits = room-records .0 }, tt))), ((tt, (tt, (record { fits = room-table .0 }, tt))), (typed 𝓤 H A W words32 limit g-group, (typed 𝓤 H A W usizes activations g-limit, (typed 𝓤 H A W words32 allowance g-allowance, (typed 𝓤 H A W registers start g-start, tt)))))))) (λ β. move ! (1 ∷ 2 ∷ 3 ∷ 4 ∷ []) $
+        begins ! (𝓣 .C) (𝓣 .Λ) mine.function (vals ps) Post ((tt, tt), ((tt, tt), ((tt, (tt, (record { fits = room-records .0 }, tt))), ((tt, (tt, (record { fits = room-table .0 }, tt))), (typed 𝓤 H A W words32 limit g-limit, (typed 𝓤 H A W usizes activations g-activations, (typed 𝓤 H A W words32 allowance g-allowance, (typed 𝓤 H A W registers start g-start, tt)))))))) (λ β. move ! (1 ∷ 2 ∷ 3 ∷ 4 ∷ []) $
         puts ! 4 9 refl (of-opd ! (var ! 4 8 refl refl tt)) tt (typed 𝓤 H A W registers start g-start) $
         calls-by ! fm (Calls-went 𝓤 H A mem run) known-went (to (for-went start)) (for-went start) refl (g-start, tt) (Unit {0}) tt (asks-all 𝓤 H A (for-went start) []) turns _ (λ v. id⊢ 𝓤 _)
         (and-then ! (var ! 4 8 refl refl tt) (no-more !)) (λ turn1 _ g-turn1 e1 _.

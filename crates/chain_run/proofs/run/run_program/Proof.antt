@@ -95,7 +95,7 @@ stayed = (stay-none-ref (0 ∷ []) tt (arrayOf (plain (λ _. u32)) 4096) yes, (g
 
 module _ {M : Type 1} (𝓤 : URA M) (H : Heap 𝓤) (A : Atoms 𝓤) (W : Given 𝓤 H A) (mem : Memory → SProp 𝓤) (run : Routine → Fun 𝓤) (κ0 κ1 κ2 κ3 : Lft) (q0 q1 q2 q3 : Share)
     (code# : RefT (List ℕ)) (cells# : RefT (List ℤ)) (records# : RefT (List (recs .type .Denot))) (table# : RefT (List ℤ)) (pairs : ℕ) (limit : ℕ) (activations : ℕ) (allowance : ℕ)
-    (room-records : Room (recs .type) (length (records# .now))) (room-table : Room i32 (length (table# .now))) (g-pairs : Good usizes pairs) (g-group : Good words32 limit) (g-limit : Good usizes activations) (g-allowance : Good words32 allowance)
+    (room-records : Room (recs .type) (length (records# .now))) (room-table : Room i32 (length (table# .now))) (g-pairs : Good usizes pairs) (g-limit : Good words32 limit) (g-activations : Good usizes activations) (g-allowance : Good words32 allowance)
     (pre : said.Pre (code# .now) (cells# .now) (records# .now) (table# .now) pairs limit activations) where
   abbrev h-code : Loan
   h-code = loanRef κ0 q0 code#
@@ -103,8 +103,8 @@ module _ {M : Type 1} (𝓤 : URA M) (H : Heap 𝓤) (A : Atoms 𝓤) (W : Given
   abbrev code : List ℕ
   code = code# .now
 
-  abbrev h-words : Loan
-  h-words = loanRef κ1 q1 cells#
+  abbrev h-cells : Loan
+  h-cells = loanRef κ1 q1 cells#
 
   abbrev cells : List ℤ
   cells = cells# .now
@@ -122,7 +122,7 @@ module _ {M : Type 1} (𝓤 : URA M) (H : Heap 𝓤) (A : Atoms 𝓤) (W : Given
   table = table# .now
 
   abbrev ps : List Par
-  ps = brw (shrRef (Array u32 tt 4096)) h-code code ∷ brw (mutRef (Array i32 tt 8224)) h-words cells ∷ brw (mutSlice (recs .type)) h-records records ∷ brw (mutSlice i32) h-table table ∷ dat usizes pairs ∷ dat words32 limit ∷ dat usizes activations ∷ dat words32 allowance ∷ []
+  ps = brw (shrRef (Array u32 tt 4096)) h-code code ∷ brw (mutRef (Array i32 tt 8224)) h-cells cells ∷ brw (mutSlice (recs .type)) h-records records ∷ brw (mutSlice i32) h-table table ∷ dat usizes pairs ∷ dat words32 limit ∷ dat usizes activations ∷ dat words32 allowance ∷ []
 
   abbrev bound : walkOf 𝓤 H A f.ended stayed (f.clauses 𝓤 H A mem run) .Ghost
   bound = ((lfts ps, shares ps, tt, denots 0 ps, valss 0 ps), tt)
@@ -131,7 +131,7 @@ module _ {M : Type 1} (𝓤 : URA M) (H : Heap 𝓤) (A : Atoms 𝓤) (W : Given
   Post = walkOf 𝓤 H A f.ended stayed (f.clauses 𝓤 H A mem run) .post bound
 
   exits : (r : halts .type .Denot) (cells′ : List ℤ) (records′ : List (recs .type .Denot)) (table′ : List ℤ) → length records′ ≡ length records → length table′ ≡ length table → Good halts r → said.Said code cells records table pairs limit activations allowance r cells′ records′ table′ → ent 𝓤 (⋆ 𝓤 H A (outs 𝓤 0 ps (tt, (cells′, (records′, (table′, (tt, (tt, (tt, (tt, tt)))))))))) (Post (halts .val r))
-  exits r cells′ records′ table′ same-records same-table good says = via 𝓤 _ (leaves-with 𝓤 H A W ps (tt, (cells′, (records′, (table′, (tt, (tt, (tt, (tt, tt)))))))) (g-pairs, (g-group, (g-limit, (g-allowance, tt)))) halts r good (said.Said code cells records table pairs limit activations allowance r cells′ records′ table′) says)
+  exits r cells′ records′ table′ same-records same-table good says = via 𝓤 _ (leaves-with 𝓤 H A W ps (tt, (cells′, (records′, (table′, (tt, (tt, (tt, (tt, tt)))))))) (g-pairs, (g-limit, (g-activations, (g-allowance, tt)))) halts r good (said.Said code cells records table pairs limit activations allowance r cells′ records′ table′) says)
       (ends-at 𝓤 H A f.ended stayed (f.clauses 𝓤 H A mem run) W bound (halts .val r) r (tt, (cells′, (records′, (table′, (tt, (tt, (tt, (tt, tt)))))))) (tt, (tt, (same-records, (same-table, (tt, (tt, (tt, (tt, tt)))))))))
 
   module _ (𝓣 : Tables 𝓤 H)
@@ -144,7 +144,7 @@ module _ {M : Type 1} (𝓤 : URA M) (H : Heap 𝓤) (A : Atoms 𝓤) (W : Given
 
     walk : ent 𝓤 (onEntry 𝓤 H A f.signature (lfts ps) (shares ps) (denots 0 ps) (valss 0 ps)) (WpFn 𝓤 H (𝓣 .C) (𝓣 .Λ) mine.function (vals ps) Post)
     walk = via 𝓤 (⋆ 𝓤 H A (ins 𝓤 ps)) (arrives 𝓤 H A W 0 ps) (qed W (ins 𝓤 ps) ∵
-        begins ! (𝓣 .C) (𝓣 .Λ) mine.function (vals ps) Post ((tt, tt), ((tt, tt), ((tt, (tt, (record { fits = room-records .0 }, tt))), ((tt, (tt, (record { fits = room-table .0 }, tt))), (typed 𝓤 H A W usizes pairs g-pairs, (typed 𝓤 H A W words32 limit g-group, (typed 𝓤 H A W usizes activations g-limit, (typed 𝓤 H A W words32 allowance g-allowance, tt)))))))) (λ β. move ! (1 ∷ 2 ∷ 3 ∷ 4 ∷ []) $
+        begins ! (𝓣 .C) (𝓣 .Λ) mine.function (vals ps) Post ((tt, tt), ((tt, tt), ((tt, (tt, (record { fits = room-records .0 }, tt))), ((tt, (tt, (record { fits = room-table .0 }, tt))), (typed 𝓤 H A W usizes pairs g-pairs, (typed 𝓤 H A W words32 limit g-limit, (typed 𝓤 H A W usizes activations g-activations, (typed 𝓤 H A W words32 allowance g-allowance, tt)))))))) (λ β. move ! (1 ∷ 2 ∷ 3 ∷ 4 ∷ []) $
         puts ! 4 11 refl (lent-ptr ! 4 3 refl refl tt refl refl) tt (tt, tt) $
         puts ! 4 12 refl (lent-slice ! 4 3 11 refl refl refl tt tt refl refl) tt (tt, (tt, (record { fits = room-records .0 }, tt))) $
         calls-by ! fm (Calls-program-record 𝓤 H A mem run) known-program-record (to (for-program-record h-code code)) (for-program-record h-code code) refl tt (Unit {0}) tt (asks-all 𝓤 H A (for-program-record h-code code) []) recs _ (λ v. id⊢ 𝓤 _)
@@ -163,7 +163,7 @@ module _ {M : Type 1} (𝓤 : URA M) (H : Heap 𝓤) (A : Atoms 𝓤) (W : Given
         puts ! 4 16 refl (lent-slice ! 4 3 15 refl refl refl tt tt refl refl) tt (tt, (tt, (record { fits = room-records .0 }, tt))) $
         puts ! 4 17 refl (lent-ptr ! 4 4 refl refl tt refl refl) tt (tt, tt) $
         puts ! 4 18 refl (lent-slice ! 4 4 17 refl refl refl tt tt refl refl) tt (tt, (tt, (record { fits = room-table .0 }, tt))) $
-        move ! (0 ∷ 2 ∷ 1 ∷ 3 ∷ []) $ calls-by ! fm (Calls-run′ 𝓤 H A mem run) known-run′ (to (for-run′ h-code code h-words cells h-records (ws2 .0) h-table table limit activations allowance start3)) (for-run′ h-code code h-words cells h-records (ws2 .0) h-table table limit activations allowance start3) refl (g-group, (g-limit, (g-allowance, (g-start3, tt)))) _ (facts.asks-run code cells records table pairs limit activations allowance pre program-record1 e1 (ws2 .0) e2 (same2 .0) start3 e3) (id⊢ 𝓤 _) halts _ (λ v. id⊢ 𝓤 _)
+        move ! (0 ∷ 2 ∷ 1 ∷ 3 ∷ []) $ calls-by ! fm (Calls-run′ 𝓤 H A mem run) known-run′ (to (for-run′ h-code code h-cells cells h-records (ws2 .0) h-table table limit activations allowance start3)) (for-run′ h-code code h-cells cells h-records (ws2 .0) h-table table limit activations allowance start3) refl (g-limit, (g-activations, (g-allowance, (g-start3, tt)))) _ (facts.asks-run code cells records table pairs limit activations allowance pre program-record1 e1 (ws2 .0) e2 (same2 .0) start3 e3) (id⊢ 𝓤 _) halts _ (λ v. id⊢ 𝓤 _)
         (and-then ! (var ! 4 1 refl refl tt) (and-then ! (var ! 4 14 refl refl tt) (and-then ! (var ! 4 16 refl refl tt) (and-then ! (var ! 4 18 refl refl tt) (and-then ! (var ! 4 6 refl refl tt) (and-then ! (var ! 4 7 refl refl tt) (and-then ! (var ! 4 8 refl refl tt) (and-then ! (var ! 4 9 refl refl tt) (no-more !))))))))) (λ run4 ws4 g-run4 e4 same4.
         lands-in ! 4 0 refl tt (typed 𝓤 H A W halts run4 g-run4) $
         ends ! 4 refl refl tt $ by ! (exits run4 (ws4 .1 .0) (ws4 .1 .1 .0) (ws4 .1 .1 .1 .0) ((same4 .1 .1 .0) ∙ (same2 .0)) (same4 .1 .1 .1 .0) g-run4 (facts.says code cells records table pairs limit activations allowance pre program-record1 e1 (ws2 .0) e2 (same2 .0) start3 e3 run4 (ws4 .1 .0) (ws4 .1 .1 .0) (ws4 .1 .1 .1 .0) e4)))))))))

@@ -93,8 +93,8 @@ module _ {M : Type 1} (𝓤 : URA M) (H : Heap 𝓤) (A : Atoms 𝓤) (W : Given
   abbrev code : List ℕ
   code = code# .now
 
-  abbrev h-words : Loan
-  h-words = loanRef κ1 q1 cells#
+  abbrev h-cells : Loan
+  h-cells = loanRef κ1 q1 cells#
 
   abbrev cells : List ℤ
   cells = cells# .now
@@ -112,7 +112,7 @@ module _ {M : Type 1} (𝓤 : URA M) (H : Heap 𝓤) (A : Atoms 𝓤) (W : Given
   sheet = sheet# .now
 
   abbrev ps : List Par
-  ps = brw (shrRef (Array u32 tt 4096)) h-code code ∷ brw (shrRef (Array i32 tt 8224)) h-words cells ∷ brw (shrSlice (recs .type)) h-records records ∷ dat usizes live ∷ brw (mutSlice i32) h-sheet sheet ∷ []
+  ps = brw (shrRef (Array u32 tt 4096)) h-code code ∷ brw (shrRef (Array i32 tt 8224)) h-cells cells ∷ brw (shrSlice (recs .type)) h-records records ∷ dat usizes live ∷ brw (mutSlice i32) h-sheet sheet ∷ []
 
   abbrev bound : walkOf 𝓤 H A f.ended stayed (f.clauses 𝓤 H A mem run) .Ghost
   bound = ((lfts ps, shares ps, tt, denots 0 ps, valss 0 ps), tt)
@@ -141,7 +141,7 @@ module _ {M : Type 1} (𝓤 : URA M) (H : Heap 𝓤) (A : Atoms 𝓤) (W : Given
       E# = envAt (tysOf (mine.function .locals)) β
 
       abbrev Inv : St → List (Item 𝓤)
-      Inv t = ‵ (In (shrRef (Array u32 tt 4096)) h-code code) ∷ ‵ (In (shrRef (Array i32 tt 8224)) h-words cells) ∷ ‵ (In (shrSlice (recs .type)) h-records records) ∷ ‵ (In (mutSlice i32) h-sheet (t .state .sheet)) ∷ fr 𝓤 H (tysOf (mine.function .locals)) β (none ∷ some (h-code .val) ∷ some (h-words .val) ∷ some (h-records .val) ∷ some (usizes .val live) ∷ some (h-sheet .val) ∷ some (usizes .val (t .state .at)) ∷ some (usizes .val (t .state .k)) ∷ none ∷ none ∷ none ∷ none ∷ []) ∷ []
+      Inv t = ‵ (In (shrRef (Array u32 tt 4096)) h-code code) ∷ ‵ (In (shrRef (Array i32 tt 8224)) h-cells cells) ∷ ‵ (In (shrSlice (recs .type)) h-records records) ∷ ‵ (In (mutSlice i32) h-sheet (t .state .sheet)) ∷ fr 𝓤 H (tysOf (mine.function .locals)) β (none ∷ some (h-code .val) ∷ some (h-cells .val) ∷ some (h-records .val) ∷ some (usizes .val live) ∷ some (h-sheet .val) ∷ some (usizes .val (t .state .at)) ∷ some (usizes .val (t .state .k)) ∷ none ∷ none ∷ none ∷ none ∷ []) ∷ []
 
       turn : (t : St) → Sq W (Inv t) (runs (𝓣 .C) (𝓣 .Λ) E# mir′.turn-1 (anyQ (afterTurn 𝓤 H (Below 𝓤 H A (by-size size) Inv t)
           (afterBlock 𝓤 H (afterSeq 𝓤 H (Wp 𝓤 H (𝓣 .C) (𝓣 .Λ) E# mir′.t-4 (atReturn 𝓤 H E# Post)) (atReturn 𝓤 H E# Post))))))
@@ -156,7 +156,7 @@ module _ {M : Type 1} (𝓤 : URA M) (H : Heap 𝓤) (A : Atoms 𝓤) (W : Given
           puts ! 4 10 refl (lent-ptr ! 4 5 refl refl tt refl refl) tt (tt, tt) $
           puts ! 4 11 refl (lent-slice ! 4 5 10 refl refl refl tt tt refl refl) tt (tt, (tt, (record { fits = room-sheet .0 }, tt))) $
           move ! (3 ∷ []) $ lends-slice ! tt i32 h-sheet (t .state .sheet) (λ ν2-sheet δ2-sheet.
-          move ! (3 ∷ 4 ∷ 0 ∷ []) $ calls-by ! fm (Calls-write-record 𝓤 H A mem run) known-write-record (to (for-write-record h-code code h-words cells activation1 (t .state .k) (relent h-sheet ν2-sheet δ2-sheet) (t .state .sheet) (t .state .at))) (for-write-record h-code code h-words cells activation1 (t .state .k) (relent h-sheet ν2-sheet δ2-sheet) (t .state .sheet) (t .state .at)) refl (g-activation1, ((t .good-k), ((t .good-at), tt))) _ (facts.asks-write-record code cells records live sheet pre (t .state) (ltb→lt (t .state .k) live y1) activation1 e1) (id⊢ 𝓤 _) usizes _ (said-together 𝓤 H A W (for-write-record h-code code h-words cells activation1 (t .state .k) (relent h-sheet ν2-sheet δ2-sheet) (t .state .sheet) (t .state .at)) (usizes .type) (_ ∷ _ ∷ []))
+          move ! (3 ∷ 4 ∷ 0 ∷ []) $ calls-by ! fm (Calls-write-record 𝓤 H A mem run) known-write-record (to (for-write-record h-code code h-cells cells activation1 (t .state .k) (relent h-sheet ν2-sheet δ2-sheet) (t .state .sheet) (t .state .at))) (for-write-record h-code code h-cells cells activation1 (t .state .k) (relent h-sheet ν2-sheet δ2-sheet) (t .state .sheet) (t .state .at)) refl (g-activation1, ((t .good-k), ((t .good-at), tt))) _ (facts.asks-write-record code cells records live sheet pre (t .state) (ltb→lt (t .state .k) live y1) activation1 e1) (id⊢ 𝓤 _) usizes _ (said-together 𝓤 H A W (for-write-record h-code code h-cells cells activation1 (t .state .k) (relent h-sheet ν2-sheet δ2-sheet) (t .state .sheet) (t .state .at)) (usizes .type) (_ ∷ _ ∷ []))
           (and-then ! (var ! 5 1 refl refl tt) (and-then ! (var ! 5 2 refl refl tt) (and-then ! (var ! 5 8 refl refl tt) (and-then ! (var ! 5 7 refl refl tt) (and-then ! (var ! 5 11 refl refl tt) (and-then ! (var ! 5 6 refl refl tt) (no-more !))))))) (λ at2 ws2 g-at2 e2 same2.
           lands-in ! 5 6 refl tt (typed 𝓤 H A W usizes at2 g-at2) $
           move ! (2 ∷ 3 ∷ []) $ back-slice ! tt i32 h-sheet (t .state .sheet) (ws2 .1 .1 .1 .1 .0) ν2-sheet δ2-sheet (same2 .1 .1 .0) $

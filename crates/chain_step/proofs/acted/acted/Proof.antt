@@ -160,7 +160,7 @@ stayed = (stay-none-ref (0 ∷ []) tt (arrayOf (plain (λ _. u32)) 4096) yes, (g
 
 module _ {M : Type 1} (𝓤 : URA M) (H : Heap 𝓤) (A : Atoms 𝓤) (W : Given 𝓤 H A) (mem : Memory → SProp 𝓤) (run : Routine → Fun 𝓤) (κ0 κ1 κ2 : Lft) (q0 q1 q2 : Share)
     (code# : RefT (List ℕ)) (cells# : RefT (List ℤ)) (records# : RefT (List (recs .type .Denot))) (activations : ℕ) (here : registers .type .Denot)
-    (room-records : Room (recs .type) (length (records# .now))) (g-limit : Good usizes activations) (g-here : Good registers here)
+    (room-records : Room (recs .type) (length (records# .now))) (g-activations : Good usizes activations) (g-here : Good registers here)
     (pre : said.Pre (code# .now) (cells# .now) (records# .now) activations here) where
   abbrev h-code : Loan
   h-code = loanRef κ0 q0 code#
@@ -168,8 +168,8 @@ module _ {M : Type 1} (𝓤 : URA M) (H : Heap 𝓤) (A : Atoms 𝓤) (W : Given
   abbrev code : List ℕ
   code = code# .now
 
-  abbrev h-words : Loan
-  h-words = loanRef κ1 q1 cells#
+  abbrev h-cells : Loan
+  h-cells = loanRef κ1 q1 cells#
 
   abbrev cells : List ℤ
   cells = cells# .now
@@ -181,7 +181,7 @@ module _ {M : Type 1} (𝓤 : URA M) (H : Heap 𝓤) (A : Atoms 𝓤) (W : Given
   records = records# .now
 
   abbrev ps : List Par
-  ps = brw (shrRef (Array u32 tt 4096)) h-code code ∷ brw (mutRef (Array i32 tt 8224)) h-words cells ∷ brw (shrSlice (recs .type)) h-records records ∷ dat usizes activations ∷ dat registers here ∷ []
+  ps = brw (shrRef (Array u32 tt 4096)) h-code code ∷ brw (mutRef (Array i32 tt 8224)) h-cells cells ∷ brw (shrSlice (recs .type)) h-records records ∷ dat usizes activations ∷ dat registers here ∷ []
 
   abbrev bound : walkOf 𝓤 H A f.ended stayed (f.clauses 𝓤 H A mem run) .Ghost
   bound = ((lfts ps, shares ps, tt, denots 0 ps, valss 0 ps), tt)
@@ -190,7 +190,7 @@ module _ {M : Type 1} (𝓤 : URA M) (H : Heap 𝓤) (A : Atoms 𝓤) (W : Given
   Post = walkOf 𝓤 H A f.ended stayed (f.clauses 𝓤 H A mem run) .post bound
 
   exits : (r : moveds .type .Denot) (cells′ : List ℤ) → Good moveds r → said.Said code cells records activations here r cells′ → ent 𝓤 (⋆ 𝓤 H A (outs 𝓤 0 ps (tt, (cells′, (tt, (tt, (tt, tt))))))) (Post (moveds .val r))
-  exits r cells′ good says = via 𝓤 _ (leaves-with 𝓤 H A W ps (tt, (cells′, (tt, (tt, (tt, tt))))) (g-limit, (g-here, tt)) moveds r good (said.Said code cells records activations here r cells′) says)
+  exits r cells′ good says = via 𝓤 _ (leaves-with 𝓤 H A W ps (tt, (cells′, (tt, (tt, (tt, tt))))) (g-activations, (g-here, tt)) moveds r good (said.Said code cells records activations here r cells′) says)
       (ends-at 𝓤 H A f.ended stayed (f.clauses 𝓤 H A mem run) W bound (moveds .val r) r (tt, (cells′, (tt, (tt, (tt, tt))))) (tt, (tt, (tt, (tt, (tt, tt))))))
 
   module _ (𝓣 : Tables 𝓤 H)
@@ -209,7 +209,7 @@ module _ {M : Type 1} (𝓤 : URA M) (H : Heap 𝓤) (A : Atoms 𝓤) (W : Given
 
     walk : ent 𝓤 (onEntry 𝓤 H A f.signature (lfts ps) (shares ps) (denots 0 ps) (valss 0 ps)) (WpFn 𝓤 H (𝓣 .C) (𝓣 .Λ) mine.function (vals ps) Post)
     walk = via 𝓤 (⋆ 𝓤 H A (ins 𝓤 ps)) (arrives 𝓤 H A W 0 ps) (qed W (ins 𝓤 ps) ∵
-        begins ! (𝓣 .C) (𝓣 .Λ) mine.function (vals ps) Post ((tt, tt), ((tt, tt), ((tt, (tt, (record { fits = room-records .0 }, tt))), (typed 𝓤 H A W usizes activations g-limit, (typed 𝓤 H A W registers here g-here, tt))))) (λ β. move ! (1 ∷ 2 ∷ 3 ∷ []) $
+        begins ! (𝓣 .C) (𝓣 .Λ) mine.function (vals ps) Post ((tt, tt), ((tt, tt), ((tt, (tt, (record { fits = room-records .0 }, tt))), (typed 𝓤 H A W usizes activations g-activations, (typed 𝓤 H A W registers here g-here, tt))))) (λ β. move ! (1 ∷ 2 ∷ 3 ∷ []) $
         calls-by ! fm (Calls-class-of 𝓤 H A mem run) known-class-of (to (for-class-of h-code code (here .at))) (for-class-of h-code code (here .at)) refl ((owed Registers#.the-type Registers′.the-laws here _ g-here .1 .0), tt) _ (facts.asks-class-of code cells records activations here pre) (id⊢ 𝓤 _) usizes _ (λ v. id⊢ 𝓤 _)
         (and-then ! (var ! 3 1 refl refl tt) (and-then ! (part ! 3 5 1 refl refl tt refl refl refl) (no-more !))) (λ class1 _ g-class1 e1 _.
         lands-in ! 3 6 refl tt (typed 𝓤 H A W usizes class1 g-class1) $
@@ -225,7 +225,7 @@ module _ {M : Type 1} (𝓤 : URA M) (H : Heap 𝓤) (A : Atoms 𝓤) (W : Given
         lands-in ! 3 16 refl tt (typed 𝓤 H A W usizes follow3 g-follow3) $
         puts ! 3 8 refl (bin ! (lit ! tt) (var ! 3 16 refl refl tt) (record { fits = (facts.fits-2 code cells records activations here pre class1 e1 (eqb→eq class1 0 y1) only-hops2 e2 follow3 e3) })) tt (tt, record { fits = (facts.fits-2 code cells records activations here pre class1 e1 (eqb→eq class1 0 y1) only-hops2 e2 follow3 e3) }) $
         puts ! 3 18 refl (lent ! 3 2 refl refl tt) tt (tt, tt) $
-        move ! (1 ∷ 2 ∷ []) $ calls-by ! fm (Calls-act-one 𝓤 H A mem run) known-act-one (to (for-act-one h-code code h-words cells activations (here .live) (here .at) (32 * follow3))) (for-act-one h-code code h-words cells activations (here .live) (here .at) (32 * follow3)) refl (g-limit, ((owed Registers#.the-type Registers′.the-laws here _ g-here .0), ((owed Registers#.the-type Registers′.the-laws here _ g-here .1 .0), ((refl, (facts.fits-2 code cells records activations here pre class1 e1 (eqb→eq class1 0 y1) only-hops2 e2 follow3 e3)), tt)))) _ (facts.asks-act-one code cells records activations here pre class1 e1 (eqb→eq class1 0 y1) only-hops2 e2 follow3 e3) (id⊢ 𝓤 _) moves _ (λ v. id⊢ 𝓤 _)
+        move ! (1 ∷ 2 ∷ []) $ calls-by ! fm (Calls-act-one 𝓤 H A mem run) known-act-one (to (for-act-one h-code code h-cells cells activations (here .live) (here .at) (32 * follow3))) (for-act-one h-code code h-cells cells activations (here .live) (here .at) (32 * follow3)) refl (g-activations, ((owed Registers#.the-type Registers′.the-laws here _ g-here .0), ((owed Registers#.the-type Registers′.the-laws here _ g-here .1 .0), ((refl, (facts.fits-2 code cells records activations here pre class1 e1 (eqb→eq class1 0 y1) only-hops2 e2 follow3 e3)), tt)))) _ (facts.asks-act-one code cells records activations here pre class1 e1 (eqb→eq class1 0 y1) only-hops2 e2 follow3 e3) (id⊢ 𝓤 _) moves _ (λ v. id⊢ 𝓤 _)
         (and-then ! (var ! 3 1 refl refl tt) (and-then ! (var ! 3 18 refl refl tt) (and-then ! (var ! 3 4 refl refl tt) (and-then ! (part ! 3 5 0 refl refl tt refl refl refl) (and-then ! (part ! 3 5 1 refl refl tt refl refl refl) (and-then ! (var ! 3 8 refl refl tt) (no-more !))))))) (λ done4 ws4 g-done4 e4 _.
         lands-in ! 3 9 refl tt (typed 𝓤 H A W moves done4 g-done4) $
         calls-by ! fm (Calls-came-to 𝓤 H A mem run) known-came-to (to (for-came-to here done4)) (for-came-to here done4) refl (g-here, (g-done4, tt)) (Unit {0}) tt (asks-all 𝓤 H A (for-came-to here done4) []) moveds _ (λ v. id⊢ 𝓤 _)
@@ -243,15 +243,15 @@ module _ {M : Type 1} (𝓤 : URA M) (H : Heap 𝓤) (A : Atoms 𝓤) (W : Given
         (and-then ! (var ! 3 1 refl refl tt) (and-then ! (var ! 3 3 refl refl tt) (and-then ! (var ! 3 5 refl refl tt) (and-then ! (var ! 3 7 refl refl tt) (and-then ! (lit ! tt) (no-more !)))))) (λ second7 _ g-second7 e7 _.
         lands-in ! 3 11 refl tt (typed 𝓤 H A W usizes second7 g-second7) $
         puts ! 3 19 refl (lent ! 3 2 refl refl tt) tt (tt, tt) $
-        move ! (2 ∷ []) $ shares-ref ! tt (Array i32 tt 8224) h-words cells (λ p8-words ν8-words δ8-words.
-        move ! (2 ∷ 0 ∷ []) $ calls-by ! fm (Calls-act-branch 𝓤 H A mem run) known-act-branch (to (for-act-branch h-code code (relent h-words ν8-words δ8-words) cells (here .at) first6 second7)) (for-act-branch h-code code (relent h-words ν8-words δ8-words) cells (here .at) first6 second7) refl ((owed Registers#.the-type Registers′.the-laws here _ g-here .1 .0), (g-first6, (g-second7, tt))) _ (facts.asks-act-branch code cells records activations here pre class1 e1 (not-equal class1 0 y1) (eqb→eq class1 5 y2) first6 e6 second7 e7) (id⊢ 𝓤 _) moves _ (λ v. id⊢ 𝓤 _)
+        move ! (2 ∷ []) $ shares-ref ! tt (Array i32 tt 8224) h-cells cells (λ p8-cells ν8-cells δ8-cells.
+        move ! (2 ∷ 0 ∷ []) $ calls-by ! fm (Calls-act-branch 𝓤 H A mem run) known-act-branch (to (for-act-branch h-code code (relent h-cells ν8-cells δ8-cells) cells (here .at) first6 second7)) (for-act-branch h-code code (relent h-cells ν8-cells δ8-cells) cells (here .at) first6 second7) refl ((owed Registers#.the-type Registers′.the-laws here _ g-here .1 .0), (g-first6, (g-second7, tt))) _ (facts.asks-act-branch code cells records activations here pre class1 e1 (not-equal class1 0 y1) (eqb→eq class1 5 y2) first6 e6 second7 e7) (id⊢ 𝓤 _) moves _ (λ v. id⊢ 𝓤 _)
         (and-then ! (var ! 4 1 refl refl tt) (and-then ! (var ! 4 19 refl refl tt) (and-then ! (part ! 4 5 1 refl refl tt refl refl refl) (and-then ! (var ! 4 10 refl refl tt) (and-then ! (var ! 4 11 refl refl tt) (no-more !)))))) (λ done8 _ g-done8 e8 _.
         lands-in ! 4 12 refl tt (typed 𝓤 H A W moves done8 g-done8) $
-        move ! (1 ∷ 2 ∷ []) $ unshares-ref ! tt (Array i32 tt 8224) h-words cells ν8-words δ8-words p8-words $
+        move ! (1 ∷ 2 ∷ []) $ unshares-ref ! tt (Array i32 tt 8224) h-cells cells ν8-cells δ8-cells p8-cells $
         calls-by ! fm (Calls-came-to 𝓤 H A mem run) known-came-to (to (for-came-to here done8)) (for-came-to here done8) refl (g-here, (g-done8, tt)) (Unit {0}) tt (asks-all 𝓤 H A (for-came-to here done8) []) moveds _ (λ v. id⊢ 𝓤 _)
         (and-then ! (var ! 3 5 refl refl tt) (and-then ! (var ! 3 12 refl refl tt) (no-more !))) (λ came-to9 _ g-came-to9 e9 _.
         lands-in ! 3 0 refl tt (typed 𝓤 H A W moveds came-to9 g-came-to9) $
-        ends-early ! 3 Post refl refl refl tt $ gives ! (mutRef (Array i32 tt 8224)) h-words cells $ move ! (1 ∷ 0 ∷ 2 ∷ []) $ by ! (exits came-to9 cells g-came-to9 (facts.says-2 code cells records activations here pre class1 e1 (not-equal class1 0 y1) (eqb→eq class1 5 y2) first6 e6 second7 e7 done8 e8 came-to9 e9))))))))
+        ends-early ! 3 Post refl refl refl tt $ gives ! (mutRef (Array i32 tt 8224)) h-cells cells $ move ! (1 ∷ 0 ∷ 2 ∷ []) $ by ! (exits came-to9 cells g-came-to9 (facts.says-2 code cells records activations here pre class1 e1 (not-equal class1 0 y1) (eqb→eq class1 5 y2) first6 e6 second7 e7 done8 e8 came-to9 e9))))))))
         (λ y2.
         puts ! 3 15 refl (bin ! (var ! 3 6 refl refl tt) (lit ! tt) tt) tt (tt, tt) $
         if-then ! (var ! 3 15 refl refl tt)
@@ -260,7 +260,7 @@ module _ {M : Type 1} (𝓤 : URA M) (H : Heap 𝓤) (A : Atoms 𝓤) (W : Given
         (and-then ! (var ! 3 1 refl refl tt) (and-then ! (var ! 3 3 refl refl tt) (and-then ! (var ! 3 5 refl refl tt) (and-then ! (var ! 3 7 refl refl tt) (and-then ! (lit ! tt) (no-more !)))))) (λ first10 _ g-first10 e10 _.
         lands-in ! 3 13 refl tt (typed 𝓤 H A W usizes first10 g-first10) $
         puts ! 3 20 refl (lent ! 3 2 refl refl tt) tt (tt, tt) $
-        move ! (0 ∷ 2 ∷ []) $ calls-by ! fm (Calls-do-constant 𝓤 H A mem run) known-do-constant (to (for-do-constant h-code code h-words cells (here .at) first10)) (for-do-constant h-code code h-words cells (here .at) first10) refl ((owed Registers#.the-type Registers′.the-laws here _ g-here .1 .0), (g-first10, tt)) _ (facts.asks-do-constant code cells records activations here pre class1 e1 (not-equal class1 0 y1) (not-equal class1 5 y2) (eqb→eq class1 8 y3) first10 e10) (id⊢ 𝓤 _) moves _ (λ v. id⊢ 𝓤 _)
+        move ! (0 ∷ 2 ∷ []) $ calls-by ! fm (Calls-do-constant 𝓤 H A mem run) known-do-constant (to (for-do-constant h-code code h-cells cells (here .at) first10)) (for-do-constant h-code code h-cells cells (here .at) first10) refl ((owed Registers#.the-type Registers′.the-laws here _ g-here .1 .0), (g-first10, tt)) _ (facts.asks-do-constant code cells records activations here pre class1 e1 (not-equal class1 0 y1) (not-equal class1 5 y2) (eqb→eq class1 8 y3) first10 e10) (id⊢ 𝓤 _) moves _ (λ v. id⊢ 𝓤 _)
         (and-then ! (var ! 3 1 refl refl tt) (and-then ! (var ! 3 20 refl refl tt) (and-then ! (part ! 3 5 1 refl refl tt refl refl refl) (and-then ! (var ! 3 13 refl refl tt) (no-more !))))) (λ done11 ws11 g-done11 e11 _.
         lands-in ! 3 14 refl tt (typed 𝓤 H A W moves done11 g-done11) $
         calls-by ! fm (Calls-came-to 𝓤 H A mem run) known-came-to (to (for-came-to here done11)) (for-came-to here done11) refl (g-here, (g-done11, tt)) (Unit {0}) tt (asks-all 𝓤 H A (for-came-to here done11) []) moveds _ (λ v. id⊢ 𝓤 _)
@@ -272,15 +272,15 @@ module _ {M : Type 1} (𝓤 : URA M) (H : Heap 𝓤) (A : Atoms 𝓤) (W : Given
         if-then ! (var ! 3 15 refl refl tt)
         (λ y4.
         puts ! 3 21 refl (lent ! 3 2 refl refl tt) tt (tt, tt) $
-        move ! (1 ∷ []) $ shares-ref ! tt (Array i32 tt 8224) h-words cells (λ p13-words ν13-words δ13-words.
-        move ! (2 ∷ 0 ∷ 3 ∷ []) $ calls-by ! fm (Calls-tabled 𝓤 H A mem run) known-tabled (to (for-tabled h-code code (relent h-words ν13-words δ13-words) cells h-records records here (32 * (here .live)) class1)) (for-tabled h-code code (relent h-words ν13-words δ13-words) cells h-records records here (32 * (here .live)) class1) refl (g-here, ((refl, (facts.fits-1 code cells records activations here pre)), (g-class1, tt))) _ (facts.asks-tabled code cells records activations here pre class1 e1 (not-equal class1 0 y1) (not-equal class1 5 y2) (not-equal class1 8 y3) (ltb→lt 5 class1 y4)) (id⊢ 𝓤 _) moveds _ (λ v. id⊢ 𝓤 _)
+        move ! (1 ∷ []) $ shares-ref ! tt (Array i32 tt 8224) h-cells cells (λ p13-words ν13-words δ13-words.
+        move ! (2 ∷ 0 ∷ 3 ∷ []) $ calls-by ! fm (Calls-tabled 𝓤 H A mem run) known-tabled (to (for-tabled h-code code (relent h-cells ν13-words δ13-words) cells h-records records here (32 * (here .live)) class1)) (for-tabled h-code code (relent h-cells ν13-words δ13-words) cells h-records records here (32 * (here .live)) class1) refl (g-here, ((refl, (facts.fits-1 code cells records activations here pre)), (g-class1, tt))) _ (facts.asks-tabled code cells records activations here pre class1 e1 (not-equal class1 0 y1) (not-equal class1 5 y2) (not-equal class1 8 y3) (ltb→lt 5 class1 y4)) (id⊢ 𝓤 _) moveds _ (λ v. id⊢ 𝓤 _)
         (and-then ! (var ! 4 1 refl refl tt) (and-then ! (var ! 4 21 refl refl tt) (and-then ! (var ! 4 3 refl refl tt) (and-then ! (var ! 4 5 refl refl tt) (and-then ! (var ! 4 7 refl refl tt) (and-then ! (var ! 4 6 refl refl tt) (no-more !))))))) (λ tabled13 _ g-tabled13 e13 _.
         lands-in ! 4 0 refl tt (typed 𝓤 H A W moveds tabled13 g-tabled13) $
-        move ! (1 ∷ 3 ∷ []) $ unshares-ref ! tt (Array i32 tt 8224) h-words cells ν13-words δ13-words p13-words $
-        ends-early ! 3 Post refl refl refl tt $ gives ! (mutRef (Array i32 tt 8224)) h-words cells $ move ! (1 ∷ 0 ∷ 2 ∷ []) $ by ! (exits tabled13 cells g-tabled13 (facts.says-4 code cells records activations here pre class1 e1 (not-equal class1 0 y1) (not-equal class1 5 y2) (not-equal class1 8 y3) (ltb→lt 5 class1 y4) tabled13 e13)))))
+        move ! (1 ∷ 3 ∷ []) $ unshares-ref ! tt (Array i32 tt 8224) h-cells cells ν13-words δ13-words p13-words $
+        ends-early ! 3 Post refl refl refl tt $ gives ! (mutRef (Array i32 tt 8224)) h-cells cells $ move ! (1 ∷ 0 ∷ 2 ∷ []) $ by ! (exits tabled13 cells g-tabled13 (facts.says-4 code cells records activations here pre class1 e1 (not-equal class1 0 y1) (not-equal class1 5 y2) (not-equal class1 8 y3) (ltb→lt 5 class1 y4) tabled13 e13)))))
         (λ y4.
         puts ! 3 22 refl (lent ! 3 2 refl refl tt) tt (tt, tt) $
-        calls-by ! fm (Calls-summed 𝓤 H A mem run) known-summed (to (for-summed h-code code h-words cells h-records records here (32 * (here .live)) class1)) (for-summed h-code code h-words cells h-records records here (32 * (here .live)) class1) refl (g-here, ((refl, (facts.fits-1 code cells records activations here pre)), (g-class1, tt))) _ (facts.asks-summed code cells records activations here pre class1 e1 (not-equal class1 0 y1) (not-equal class1 5 y2) (not-equal class1 8 y3) (not-below 5 class1 y4)) (id⊢ 𝓤 _) moveds _ (λ v. id⊢ 𝓤 _)
+        calls-by ! fm (Calls-summed 𝓤 H A mem run) known-summed (to (for-summed h-code code h-cells cells h-records records here (32 * (here .live)) class1)) (for-summed h-code code h-cells cells h-records records here (32 * (here .live)) class1) refl (g-here, ((refl, (facts.fits-1 code cells records activations here pre)), (g-class1, tt))) _ (facts.asks-summed code cells records activations here pre class1 e1 (not-equal class1 0 y1) (not-equal class1 5 y2) (not-equal class1 8 y3) (not-below 5 class1 y4)) (id⊢ 𝓤 _) moveds _ (λ v. id⊢ 𝓤 _)
         (and-then ! (var ! 3 1 refl refl tt) (and-then ! (var ! 3 22 refl refl tt) (and-then ! (var ! 3 3 refl refl tt) (and-then ! (var ! 3 5 refl refl tt) (and-then ! (var ! 3 7 refl refl tt) (and-then ! (var ! 3 6 refl refl tt) (no-more !))))))) (λ summed14 ws14 g-summed14 e14 _.
         lands-in ! 3 0 refl tt (typed 𝓤 H A W moveds summed14 g-summed14) $
         ends ! 3 refl refl tt $ by ! (exits summed14 (ws14 .1 .0) g-summed14 (facts.says-5 code cells records activations here pre class1 e1 (not-equal class1 0 y1) (not-equal class1 5 y2) (not-equal class1 8 y3) (not-below 5 class1 y4) summed14 (ws14 .1 .0) e14))))))))))

@@ -188,7 +188,7 @@ stayed = (stay-none-ref (0 ∷ []) tt (arrayOf (plain (λ _. u32)) 4096) yes, (g
 
 module _ {M : Type 1} (𝓤 : URA M) (H : Heap 𝓤) (A : Atoms 𝓤) (W : Given 𝓤 H A) (mem : Memory → SProp 𝓤) (run : Routine → Fun 𝓤) (κ0 κ1 κ2 κ3 : Lft) (q0 q1 q2 q3 : Share)
     (code# : RefT (List ℕ)) (cells# : RefT (List ℤ)) (records# : RefT (List (recs .type .Denot))) (table# : RefT (List ℤ)) (limit : ℕ) (activations : ℕ) (here : registers .type .Denot)
-    (room-records : Room (recs .type) (length (records# .now))) (room-table : Room i32 (length (table# .now))) (g-group : Good words32 limit) (g-limit : Good usizes activations) (g-here : Good registers here)
+    (room-records : Room (recs .type) (length (records# .now))) (room-table : Room i32 (length (table# .now))) (g-limit : Good words32 limit) (g-activations : Good usizes activations) (g-here : Good registers here)
     (pre : said.Pre (code# .now) (cells# .now) (records# .now) (table# .now) limit activations here) where
   abbrev h-code : Loan
   h-code = loanRef κ0 q0 code#
@@ -196,8 +196,8 @@ module _ {M : Type 1} (𝓤 : URA M) (H : Heap 𝓤) (A : Atoms 𝓤) (W : Given
   abbrev code : List ℕ
   code = code# .now
 
-  abbrev h-words : Loan
-  h-words = loanRef κ1 q1 cells#
+  abbrev h-cells : Loan
+  h-cells = loanRef κ1 q1 cells#
 
   abbrev cells : List ℤ
   cells = cells# .now
@@ -215,7 +215,7 @@ module _ {M : Type 1} (𝓤 : URA M) (H : Heap 𝓤) (A : Atoms 𝓤) (W : Given
   table = table# .now
 
   abbrev ps : List Par
-  ps = brw (shrRef (Array u32 tt 4096)) h-code code ∷ brw (mutRef (Array i32 tt 8224)) h-words cells ∷ brw (mutSlice (recs .type)) h-records records ∷ brw (mutSlice i32) h-table table ∷ dat words32 limit ∷ dat usizes activations ∷ dat registers here ∷ []
+  ps = brw (shrRef (Array u32 tt 4096)) h-code code ∷ brw (mutRef (Array i32 tt 8224)) h-cells cells ∷ brw (mutSlice (recs .type)) h-records records ∷ brw (mutSlice i32) h-table table ∷ dat words32 limit ∷ dat usizes activations ∷ dat registers here ∷ []
 
   abbrev bound : walkOf 𝓤 H A f.ended stayed (f.clauses 𝓤 H A mem run) .Ghost
   bound = ((lfts ps, shares ps, tt, denots 0 ps, valss 0 ps), tt)
@@ -224,7 +224,7 @@ module _ {M : Type 1} (𝓤 : URA M) (H : Heap 𝓤) (A : Atoms 𝓤) (W : Given
   Post = walkOf 𝓤 H A f.ended stayed (f.clauses 𝓤 H A mem run) .post bound
 
   exits : (r : turns .type .Denot) (cells′ : List ℤ) (records′ : List (recs .type .Denot)) (table′ : List ℤ) → length records′ ≡ length records → length table′ ≡ length table → Good turns r → said.Said code cells records table limit activations here r cells′ records′ table′ → ent 𝓤 (⋆ 𝓤 H A (outs 𝓤 0 ps (tt, (cells′, (records′, (table′, (tt, (tt, (tt, tt))))))))) (Post (turns .val r))
-  exits r cells′ records′ table′ same-records same-table good says = via 𝓤 _ (leaves-with 𝓤 H A W ps (tt, (cells′, (records′, (table′, (tt, (tt, (tt, tt))))))) (g-group, (g-limit, (g-here, tt))) turns r good (said.Said code cells records table limit activations here r cells′ records′ table′) says)
+  exits r cells′ records′ table′ same-records same-table good says = via 𝓤 _ (leaves-with 𝓤 H A W ps (tt, (cells′, (records′, (table′, (tt, (tt, (tt, tt))))))) (g-limit, (g-activations, (g-here, tt))) turns r good (said.Said code cells records table limit activations here r cells′ records′ table′) says)
       (ends-at 𝓤 H A f.ended stayed (f.clauses 𝓤 H A mem run) W bound (turns .val r) r (tt, (cells′, (records′, (table′, (tt, (tt, (tt, tt))))))) (tt, (tt, (same-records, (same-table, (tt, (tt, (tt, tt))))))))
 
   module _ (𝓣 : Tables 𝓤 H)
@@ -246,7 +246,7 @@ module _ {M : Type 1} (𝓤 : URA M) (H : Heap 𝓤) (A : Atoms 𝓤) (W : Given
 
     walk : ent 𝓤 (onEntry 𝓤 H A f.signature (lfts ps) (shares ps) (denots 0 ps) (valss 0 ps)) (WpFn 𝓤 H (𝓣 .C) (𝓣 .Λ) mine.function (vals ps) Post)
     walk = via 𝓤 (⋆ 𝓤 H A (ins 𝓤 ps)) (arrives 𝓤 H A W 0 ps) (qed W (ins 𝓤 ps) ∵
-        begins ! (𝓣 .C) (𝓣 .Λ) mine.function (vals ps) Post ((tt, tt), ((tt, tt), ((tt, (tt, (record { fits = room-records .0 }, tt))), ((tt, (tt, (record { fits = room-table .0 }, tt))), (typed 𝓤 H A W words32 limit g-group, (typed 𝓤 H A W usizes activations g-limit, (typed 𝓤 H A W registers here g-here, tt))))))) (λ β. move ! (1 ∷ 2 ∷ 3 ∷ 4 ∷ []) $
+        begins ! (𝓣 .C) (𝓣 .Λ) mine.function (vals ps) Post ((tt, tt), ((tt, tt), ((tt, (tt, (record { fits = room-records .0 }, tt))), ((tt, (tt, (record { fits = room-table .0 }, tt))), (typed 𝓤 H A W words32 limit g-limit, (typed 𝓤 H A W usizes activations g-activations, (typed 𝓤 H A W registers here g-here, tt))))))) (λ β. move ! (1 ∷ 2 ∷ 3 ∷ 4 ∷ []) $
         puts ! 4 10 refl (bin ! (part ! 4 7 1 refl refl tt refl refl refl) (part ! 4 7 2 refl refl tt refl refl refl) tt) tt (tt, tt) $
         if-then ! (var ! 4 10 refl refl tt)
         (λ y1.
@@ -257,17 +257,17 @@ module _ {M : Type 1} (𝓤 : URA M) (H : Heap 𝓤) (A : Atoms 𝓤) (W : Given
         (and-then ! (var ! 5 1 refl refl tt) (and-then ! (var ! 5 12 refl refl tt) (and-then ! (var ! 5 7 refl refl tt) (no-more !)))) (λ leave1 _ g-leave1 e1 _.
         lands-in ! 5 0 refl tt (typed 𝓤 H A W turns leave1 g-leave1) $
         move ! (1 ∷ 2 ∷ []) $ unshares-slice ! tt (recs .type) h-records records ν1-records δ1-records $
-        ends-early ! 4 Post refl refl refl tt $ move ! (2 ∷ []) $ gives ! (mutRef (Array i32 tt 8224)) h-words cells $ move ! (1 ∷ []) $ gives ! (mutSlice (recs .type)) h-records records $ move ! (3 ∷ []) $ gives ! (mutSlice i32) h-table table $ move ! (3 ∷ 2 ∷ 1 ∷ 0 ∷ []) $ by ! (exits leave1 cells records table refl refl g-leave1 (facts.says-1 code cells records table limit activations here pre (eqb→eq (here .at) (here .end) y1) leave1 e1)))))
+        ends-early ! 4 Post refl refl refl tt $ move ! (2 ∷ []) $ gives ! (mutRef (Array i32 tt 8224)) h-cells cells $ move ! (1 ∷ []) $ gives ! (mutSlice (recs .type)) h-records records $ move ! (3 ∷ []) $ gives ! (mutSlice i32) h-table table $ move ! (3 ∷ 2 ∷ 1 ∷ 0 ∷ []) $ by ! (exits leave1 cells records table refl refl g-leave1 (facts.says-1 code cells records table limit activations here pre (eqb→eq (here .at) (here .end) y1) leave1 e1)))))
         (λ y1.
         puts ! 4 13 refl (lent ! 4 2 refl refl tt) tt (tt, tt) $
         puts ! 4 14 refl (lent-ptr ! 4 3 refl refl tt refl refl) tt (tt, tt) $
         puts ! 4 15 refl (lent-slice ! 4 3 14 refl refl refl tt tt refl refl) tt (tt, (tt, (record { fits = room-records .0 }, tt))) $
-        move ! (1 ∷ []) $ lends-ref ! tt (Array i32 tt 8224) h-words cells (λ p2-words ν2-words δ2-words.
+        move ! (1 ∷ []) $ lends-ref ! tt (Array i32 tt 8224) h-cells cells (λ p2-cells ν2-cells δ2-cells.
         move ! (3 ∷ []) $ shares-slice ! tt (recs .type) h-records records (λ ν2-records δ2-records.
-        move ! (4 ∷ 2 ∷ 0 ∷ []) $ calls-by ! fm (Calls-acted 𝓤 H A mem run) known-acted (to (for-acted h-code code (relent h-words ν2-words δ2-words) cells (relent h-records ν2-records δ2-records) records activations here)) (for-acted h-code code (relent h-words ν2-words δ2-words) cells (relent h-records ν2-records δ2-records) records activations here) refl (g-limit, (g-here, tt)) _ (facts.asks-acted code cells records table limit activations here pre (not-equal (here .at) (here .end) y1)) (id⊢ 𝓤 _) moveds _ (λ v. id⊢ 𝓤 _)
+        move ! (4 ∷ 2 ∷ 0 ∷ []) $ calls-by ! fm (Calls-acted 𝓤 H A mem run) known-acted (to (for-acted h-code code (relent h-cells ν2-cells δ2-cells) cells (relent h-records ν2-records δ2-records) records activations here)) (for-acted h-code code (relent h-cells ν2-cells δ2-cells) cells (relent h-records ν2-records δ2-records) records activations here) refl (g-activations, (g-here, tt)) _ (facts.asks-acted code cells records table limit activations here pre (not-equal (here .at) (here .end) y1)) (id⊢ 𝓤 _) moveds _ (λ v. id⊢ 𝓤 _)
         (and-then ! (var ! 6 1 refl refl tt) (and-then ! (var ! 6 13 refl refl tt) (and-then ! (var ! 6 15 refl refl tt) (and-then ! (var ! 6 6 refl refl tt) (and-then ! (var ! 6 7 refl refl tt) (no-more !)))))) (λ done2 ws2 g-done2 e2 _.
         lands-in ! 6 8 refl tt (typed 𝓤 H A W moveds done2 g-done2) $
-        move ! (1 ∷ 4 ∷ []) $ back-ref ! tt (Array i32 tt 8224) h-words cells (ws2 .1 .0) ν2-words δ2-words p2-words $
+        move ! (1 ∷ 4 ∷ []) $ back-ref ! tt (Array i32 tt 8224) h-cells cells (ws2 .1 .0) ν2-cells δ2-cells p2-cells $
         move ! (2 ∷ 3 ∷ []) $ unshares-slice ! tt (recs .type) h-records records ν2-records δ2-records $
         calls-by ! fm (Calls-is-done 𝓤 H A mem run) known-is-done (to (for-is-done done2)) (for-is-done done2) refl (g-done2, tt) (Unit {0}) tt (asks-all 𝓤 H A (for-is-done done2) []) bools _ (λ v. id⊢ 𝓤 _)
         (and-then ! (var ! 4 8 refl refl tt) (no-more !)) (λ is-done3 _ g-is-done3 e3 _.
@@ -277,7 +277,7 @@ module _ {M : Type 1} (𝓤 : URA M) (H : Heap 𝓤) (A : Atoms 𝓤) (W : Given
         calls-by ! fm (Calls-turn-of 𝓤 H A mem run) known-turn-of (to (for-turn-of done2)) (for-turn-of done2) refl (g-done2, tt) (Unit {0}) tt (asks-all 𝓤 H A (for-turn-of done2) []) turns _ (λ v. id⊢ 𝓤 _)
         (and-then ! (var ! 4 8 refl refl tt) (no-more !)) (λ turn-of4 _ g-turn-of4 e4 _.
         lands-in ! 4 0 refl tt (typed 𝓤 H A W turns turn-of4 g-turn-of4) $
-        ends-early ! 4 Post refl refl refl tt $ move ! (1 ∷ []) $ gives ! (mutRef (Array i32 tt 8224)) h-words (ws2 .1 .0) $ move ! (1 ∷ []) $ gives ! (mutSlice (recs .type)) h-records records $ move ! (3 ∷ []) $ gives ! (mutSlice i32) h-table table $ move ! (3 ∷ 2 ∷ 1 ∷ 0 ∷ []) $ by ! (exits turn-of4 (ws2 .1 .0) records table refl refl g-turn-of4 (facts.says-2 code cells records table limit activations here pre (not-equal (here .at) (here .end) y1) done2 (ws2 .1 .0) e2 is-done3 e3 (told is-done3 y2) turn-of4 e4))))
+        ends-early ! 4 Post refl refl refl tt $ move ! (1 ∷ []) $ gives ! (mutRef (Array i32 tt 8224)) h-cells (ws2 .1 .0) $ move ! (1 ∷ []) $ gives ! (mutSlice (recs .type)) h-records records $ move ! (3 ∷ []) $ gives ! (mutSlice i32) h-table table $ move ! (3 ∷ 2 ∷ 1 ∷ 0 ∷ []) $ by ! (exits turn-of4 (ws2 .1 .0) records table refl refl g-turn-of4 (facts.says-2 code cells records table limit activations here pre (not-equal (here .at) (here .end) y1) done2 (ws2 .1 .0) e2 is-done3 e3 (told is-done3 y2) turn-of4 e4))))
         (λ y2.
         calls-by ! fm (Calls-asks 𝓤 H A mem run) known-asks (to (for-asks done2)) (for-asks done2) refl (g-done2, tt) (Unit {0}) tt (asks-all 𝓤 H A (for-asks done2) []) bools _ (λ v. id⊢ 𝓤 _)
         (and-then ! (var ! 4 8 refl refl tt) (no-more !)) (λ asks5 _ g-asks5 e5 _.
@@ -287,7 +287,7 @@ module _ {M : Type 1} (𝓤 : URA M) (H : Heap 𝓤) (A : Atoms 𝓤) (W : Given
         puts ! 4 18 refl (lent-ptr ! 4 4 refl refl tt refl refl) tt (tt, tt) $
         puts ! 4 19 refl (lent-slice ! 4 4 18 refl refl refl tt tt refl refl) tt (tt, (tt, (record { fits = room-table .0 }, tt))) $
         puts ! 4 20 refl (lent ! 4 2 refl refl tt) tt (tt, tt) $
-        move ! (3 ∷ 1 ∷ []) $ calls-by ! fm (Calls-answered 𝓤 H A mem run) known-answered (to (for-answered h-table table h-words (ws2 .1 .0) limit here done2)) (for-answered h-table table h-words (ws2 .1 .0) limit here done2) refl (g-group, (g-here, (g-done2, tt))) _ (facts.asks-answered code cells records table limit activations here pre (not-equal (here .at) (here .end) y1) done2 (ws2 .1 .0) e2 is-done3 e3 (untold is-done3 y2) asks5 e5 (told asks5 y3)) (id⊢ 𝓤 _) turns _ (λ v. id⊢ 𝓤 _)
+        move ! (3 ∷ 1 ∷ []) $ calls-by ! fm (Calls-answered 𝓤 H A mem run) known-answered (to (for-answered h-table table h-cells (ws2 .1 .0) limit here done2)) (for-answered h-table table h-cells (ws2 .1 .0) limit here done2) refl (g-limit, (g-here, (g-done2, tt))) _ (facts.asks-answered code cells records table limit activations here pre (not-equal (here .at) (here .end) y1) done2 (ws2 .1 .0) e2 is-done3 e3 (untold is-done3 y2) asks5 e5 (told asks5 y3)) (id⊢ 𝓤 _) turns _ (λ v. id⊢ 𝓤 _)
         (and-then ! (var ! 4 19 refl refl tt) (and-then ! (var ! 4 20 refl refl tt) (and-then ! (var ! 4 5 refl refl tt) (and-then ! (var ! 4 7 refl refl tt) (and-then ! (var ! 4 8 refl refl tt) (no-more !)))))) (λ answered6 ws6 g-answered6 e6 same6.
         lands-in ! 4 0 refl tt (typed 𝓤 H A W turns answered6 g-answered6) $
         ends-early ! 4 Post refl refl refl tt $ move ! (2 ∷ []) $ gives ! (mutSlice (recs .type)) h-records records $ move ! (3 ∷ 2 ∷ 0 ∷ 1 ∷ []) $ by ! (exits answered6 (ws6 .1 .0) records (ws6 .0) refl (same6 .0) g-answered6 (facts.says-3 code cells records table limit activations here pre (not-equal (here .at) (here .end) y1) done2 (ws2 .1 .0) e2 is-done3 e3 (untold is-done3 y2) asks5 e5 (told asks5 y3) answered6 (ws6 .0) (ws6 .1 .0) e6 (same6 .0)))))
@@ -303,7 +303,7 @@ module _ {M : Type 1} (𝓤 : URA M) (H : Heap 𝓤) (A : Atoms 𝓤) (W : Given
         calls-by ! fm (Calls-entry-of 𝓤 H A mem run) known-entry-of (to (for-entry-of done2)) (for-entry-of done2) refl (g-done2, tt) (Unit {0}) tt (asks-all 𝓤 H A (for-entry-of done2) []) entries _ (λ v. id⊢ 𝓤 _)
         (and-then ! (var ! 4 8 refl refl tt) (no-more !)) (λ entry-of8 _ g-entry-of8 e8 _.
         lands-in ! 4 26 refl tt (typed 𝓤 H A W entries entry-of8 g-entry-of8) $
-        move ! (2 ∷ 1 ∷ 0 ∷ []) $ calls-by ! fm (Calls-enter 𝓤 H A mem run) known-enter (to (for-enter h-code code h-words (ws2 .1 .0) h-records records here entry-of8)) (for-enter h-code code h-words (ws2 .1 .0) h-records records here entry-of8) refl (g-here, (g-entry-of8, tt)) _ (facts.asks-enter code cells records table limit activations here pre (not-equal (here .at) (here .end) y1) done2 (ws2 .1 .0) e2 is-done3 e3 (untold is-done3 y2) asks5 e5 (untold asks5 y3) enters7 e7 (told enters7 y4) entry-of8 e8) (id⊢ 𝓤 _) registers _ (λ v. id⊢ 𝓤 _)
+        move ! (2 ∷ 1 ∷ 0 ∷ []) $ calls-by ! fm (Calls-enter 𝓤 H A mem run) known-enter (to (for-enter h-code code h-cells (ws2 .1 .0) h-records records here entry-of8)) (for-enter h-code code h-cells (ws2 .1 .0) h-records records here entry-of8) refl (g-here, (g-entry-of8, tt)) _ (facts.asks-enter code cells records table limit activations here pre (not-equal (here .at) (here .end) y1) done2 (ws2 .1 .0) e2 is-done3 e3 (untold is-done3 y2) asks5 e5 (untold asks5 y3) enters7 e7 (told enters7 y4) entry-of8 e8) (id⊢ 𝓤 _) registers _ (λ v. id⊢ 𝓤 _)
         (and-then ! (var ! 4 1 refl refl tt) (and-then ! (var ! 4 23 refl refl tt) (and-then ! (var ! 4 25 refl refl tt) (and-then ! (var ! 4 7 refl refl tt) (and-then ! (var ! 4 26 refl refl tt) (no-more !)))))) (λ enter9 ws9 g-enter9 e9 same9.
         lands-in ! 4 22 refl tt (typed 𝓤 H A W registers enter9 g-enter9) $
         calls-by ! fm (Calls-went 𝓤 H A mem run) known-went (to (for-went enter9)) (for-went enter9) refl (g-enter9, tt) (Unit {0}) tt (asks-all 𝓤 H A (for-went enter9) []) turns _ (λ v. id⊢ 𝓤 _)
@@ -324,7 +324,7 @@ module _ {M : Type 1} (𝓤 : URA M) (H : Heap 𝓤) (A : Atoms 𝓤) (W : Given
         move ! (2 ∷ []) $ calls-by ! fm (Calls-resumed 𝓤 H A mem run) known-resumed (to (for-resumed h-code code here done2 activation12)) (for-resumed h-code code here done2 activation12) refl (g-here, (g-done2, (g-activation12, tt))) _ (facts.asks-resumed code cells records table limit activations here pre (not-equal (here .at) (here .end) y1) done2 (ws2 .1 .0) e2 is-done3 e3 (untold is-done3 y2) asks5 e5 (untold asks5 y3) enters7 e7 (untold enters7 y4) home-of11 e11 activation12 e12) (id⊢ 𝓤 _) turns _ (λ v. id⊢ 𝓤 _)
         (and-then ! (var ! 4 1 refl refl tt) (and-then ! (var ! 4 7 refl refl tt) (and-then ! (var ! 4 8 refl refl tt) (and-then ! (var ! 4 9 refl refl tt) (no-more !))))) (λ resumed13 _ g-resumed13 e13 _.
         lands-in ! 4 0 refl tt (typed 𝓤 H A W turns resumed13 g-resumed13) $
-        ends ! 4 refl refl tt $ move ! (2 ∷ []) $ gives ! (mutRef (Array i32 tt 8224)) h-words (ws2 .1 .0) $ move ! (2 ∷ []) $ gives ! (mutSlice (recs .type)) h-records records $ move ! (3 ∷ []) $ gives ! (mutSlice i32) h-table table $ move ! (3 ∷ 2 ∷ 1 ∷ 0 ∷ []) $ by ! (exits resumed13 (ws2 .1 .0) records table refl refl g-resumed13 (facts.says-5 code cells records table limit activations here pre (not-equal (here .at) (here .end) y1) done2 (ws2 .1 .0) e2 is-done3 e3 (untold is-done3 y2) asks5 e5 (untold asks5 y3) enters7 e7 (untold enters7 y4) home-of11 e11 activation12 e12 resumed13 e13))))))))))))))))))
+        ends ! 4 refl refl tt $ move ! (2 ∷ []) $ gives ! (mutRef (Array i32 tt 8224)) h-cells (ws2 .1 .0) $ move ! (2 ∷ []) $ gives ! (mutSlice (recs .type)) h-records records $ move ! (3 ∷ []) $ gives ! (mutSlice i32) h-table table $ move ! (3 ∷ 2 ∷ 1 ∷ 0 ∷ []) $ by ! (exits resumed13 (ws2 .1 .0) records table refl refl g-resumed13 (facts.says-5 code cells records table limit activations here pre (not-equal (here .at) (here .end) y1) done2 (ws2 .1 .0) e2 is-done3 e3 (untold is-done3 y2) asks5 e5 (untold asks5 y3) enters7 e7 (untold enters7 y4) home-of11 e11 activation12 e12 resumed13 e13))))))))))))))))))
 
 module _ {M : Type 1} (𝓤 : URA M) (H : Heap 𝓤) (A : Atoms 𝓤) (W : Given 𝓤 H A) (mem : Memory → SProp 𝓤) (run : Routine → Fun 𝓤) (𝓣 : Tables 𝓤 H)
     (known-leave : Triple 𝓤 (𝓣 .C #leave) (Calls-leave 𝓤 H A mem run))

@@ -127,8 +127,8 @@ module _ {M : Type 1} (𝓤 : URA M) (H : Heap 𝓤) (A : Atoms 𝓤) (W : Given
   abbrev code : List ℕ
   code = code# .now
 
-  abbrev h-words : Loan
-  h-words = loanRef κ1 q1 cells#
+  abbrev h-cells : Loan
+  h-cells = loanRef κ1 q1 cells#
 
   abbrev cells : List ℤ
   cells = cells# .now
@@ -140,7 +140,7 @@ module _ {M : Type 1} (𝓤 : URA M) (H : Heap 𝓤) (A : Atoms 𝓤) (W : Given
   records = records# .now
 
   abbrev ps : List Par
-  ps = brw (shrRef (Array u32 tt 4096)) h-code code ∷ brw (mutRef (Array i32 tt 8224)) h-words cells ∷ brw (shrSlice (recs .type)) h-records records ∷ dat registers here ∷ dat usizes own ∷ dat usizes class ∷ []
+  ps = brw (shrRef (Array u32 tt 4096)) h-code code ∷ brw (mutRef (Array i32 tt 8224)) h-cells cells ∷ brw (shrSlice (recs .type)) h-records records ∷ dat registers here ∷ dat usizes own ∷ dat usizes class ∷ []
 
   abbrev bound : walkOf 𝓤 H A f.ended stayed (f.clauses 𝓤 H A mem run) .Ghost
   bound = ((lfts ps, shares ps, tt, denots 0 ps, valss 0 ps), tt)
@@ -178,7 +178,7 @@ module _ {M : Type 1} (𝓤 : URA M) (H : Heap 𝓤) (A : Atoms 𝓤) (W : Given
         (and-then ! (var ! 3 1 refl refl tt) (and-then ! (var ! 3 3 refl refl tt) (and-then ! (var ! 3 4 refl refl tt) (and-then ! (var ! 3 5 refl refl tt) (and-then ! (lit ! tt) (no-more !)))))) (λ first3 _ g-first3 e3 _.
         lands-in ! 3 9 refl tt (typed 𝓤 H A W usizes first3 g-first3) $
         puts ! 3 24 refl (lent ! 3 2 refl refl tt) tt (tt, tt) $
-        move ! (0 ∷ 2 ∷ []) $ calls-by ! fm (Calls-do-add 𝓤 H A mem run) known-do-add (to (for-do-add h-code code h-words cells (here .at) first3 second1 third2)) (for-do-add h-code code h-words cells (here .at) first3 second1 third2) refl ((owed Registers#.the-type Registers′.the-laws here _ g-here .1 .0), (g-first3, (g-second1, (g-third2, tt)))) _ (facts.asks-do-add code cells records here own class pre (eqb→eq class 1 y1) second1 e1 third2 e2 first3 e3) (id⊢ 𝓤 _) moves _ (λ v. id⊢ 𝓤 _)
+        move ! (0 ∷ 2 ∷ []) $ calls-by ! fm (Calls-do-add 𝓤 H A mem run) known-do-add (to (for-do-add h-code code h-cells cells (here .at) first3 second1 third2)) (for-do-add h-code code h-cells cells (here .at) first3 second1 third2) refl ((owed Registers#.the-type Registers′.the-laws here _ g-here .1 .0), (g-first3, (g-second1, (g-third2, tt)))) _ (facts.asks-do-add code cells records here own class pre (eqb→eq class 1 y1) second1 e1 third2 e2 first3 e3) (id⊢ 𝓤 _) moves _ (λ v. id⊢ 𝓤 _)
         (and-then ! (var ! 3 1 refl refl tt) (and-then ! (var ! 3 24 refl refl tt) (and-then ! (part ! 3 4 1 refl refl tt refl refl refl) (and-then ! (var ! 3 9 refl refl tt) (and-then ! (var ! 3 7 refl refl tt) (and-then ! (var ! 3 8 refl refl tt) (no-more !))))))) (λ done4 ws4 g-done4 e4 _.
         lands-in ! 3 10 refl tt (typed 𝓤 H A W moves done4 g-done4) $
         calls-by ! fm (Calls-came-to 𝓤 H A mem run) known-came-to (to (for-came-to here done4)) (for-came-to here done4) refl (g-here, (g-done4, tt)) (Unit {0}) tt (asks-all 𝓤 H A (for-came-to here done4) []) moveds _ (λ v. id⊢ 𝓤 _)
@@ -199,7 +199,7 @@ module _ {M : Type 1} (𝓤 : URA M) (H : Heap 𝓤) (A : Atoms 𝓤) (W : Given
         (and-then ! (var ! 3 1 refl refl tt) (and-then ! (var ! 3 3 refl refl tt) (and-then ! (var ! 3 4 refl refl tt) (and-then ! (var ! 3 5 refl refl tt) (and-then ! (lit ! tt) (no-more !)))))) (λ first8 _ g-first8 e8 _.
         lands-in ! 3 13 refl tt (typed 𝓤 H A W usizes first8 g-first8) $
         puts ! 3 25 refl (lent ! 3 2 refl refl tt) tt (tt, tt) $
-        move ! (0 ∷ 2 ∷ []) $ calls-by ! fm (Calls-do-compare 𝓤 H A mem run) known-do-compare (to (for-do-compare h-code code h-words cells (here .at) first8 second6 third7)) (for-do-compare h-code code h-words cells (here .at) first8 second6 third7) refl ((owed Registers#.the-type Registers′.the-laws here _ g-here .1 .0), (g-first8, (g-second6, (g-third7, tt)))) _ (facts.asks-do-compare code cells records here own class pre (not-equal class 1 y1) (eqb→eq class 3 y2) second6 e6 third7 e7 first8 e8) (id⊢ 𝓤 _) moves _ (λ v. id⊢ 𝓤 _)
+        move ! (0 ∷ 2 ∷ []) $ calls-by ! fm (Calls-do-compare 𝓤 H A mem run) known-do-compare (to (for-do-compare h-code code h-cells cells (here .at) first8 second6 third7)) (for-do-compare h-code code h-cells cells (here .at) first8 second6 third7) refl ((owed Registers#.the-type Registers′.the-laws here _ g-here .1 .0), (g-first8, (g-second6, (g-third7, tt)))) _ (facts.asks-do-compare code cells records here own class pre (not-equal class 1 y1) (eqb→eq class 3 y2) second6 e6 third7 e7 first8 e8) (id⊢ 𝓤 _) moves _ (λ v. id⊢ 𝓤 _)
         (and-then ! (var ! 3 1 refl refl tt) (and-then ! (var ! 3 25 refl refl tt) (and-then ! (part ! 3 4 1 refl refl tt refl refl refl) (and-then ! (var ! 3 13 refl refl tt) (and-then ! (var ! 3 11 refl refl tt) (and-then ! (var ! 3 12 refl refl tt) (no-more !))))))) (λ done9 ws9 g-done9 e9 _.
         lands-in ! 3 14 refl tt (typed 𝓤 H A W moves done9 g-done9) $
         calls-by ! fm (Calls-came-to 𝓤 H A mem run) known-came-to (to (for-came-to here done9)) (for-came-to here done9) refl (g-here, (g-done9, tt)) (Unit {0}) tt (asks-all 𝓤 H A (for-came-to here done9) []) moveds _ (λ v. id⊢ 𝓤 _)
@@ -220,7 +220,7 @@ module _ {M : Type 1} (𝓤 : URA M) (H : Heap 𝓤) (A : Atoms 𝓤) (W : Given
         (and-then ! (var ! 3 1 refl refl tt) (and-then ! (var ! 3 3 refl refl tt) (and-then ! (var ! 3 4 refl refl tt) (and-then ! (var ! 3 5 refl refl tt) (and-then ! (lit ! tt) (no-more !)))))) (λ first13 _ g-first13 e13 _.
         lands-in ! 3 17 refl tt (typed 𝓤 H A W usizes first13 g-first13) $
         puts ! 3 26 refl (lent ! 3 2 refl refl tt) tt (tt, tt) $
-        move ! (0 ∷ 2 ∷ []) $ calls-by ! fm (Calls-do-subtract 𝓤 H A mem run) known-do-subtract (to (for-do-subtract h-code code h-words cells (here .at) first13 second11 third12)) (for-do-subtract h-code code h-words cells (here .at) first13 second11 third12) refl ((owed Registers#.the-type Registers′.the-laws here _ g-here .1 .0), (g-first13, (g-second11, (g-third12, tt)))) _ (facts.asks-do-subtract code cells records here own class pre (not-equal class 1 y1) (not-equal class 3 y2) (eqb→eq class 2 y3) second11 e11 third12 e12 first13 e13) (id⊢ 𝓤 _) moves _ (λ v. id⊢ 𝓤 _)
+        move ! (0 ∷ 2 ∷ []) $ calls-by ! fm (Calls-do-subtract 𝓤 H A mem run) known-do-subtract (to (for-do-subtract h-code code h-cells cells (here .at) first13 second11 third12)) (for-do-subtract h-code code h-cells cells (here .at) first13 second11 third12) refl ((owed Registers#.the-type Registers′.the-laws here _ g-here .1 .0), (g-first13, (g-second11, (g-third12, tt)))) _ (facts.asks-do-subtract code cells records here own class pre (not-equal class 1 y1) (not-equal class 3 y2) (eqb→eq class 2 y3) second11 e11 third12 e12 first13 e13) (id⊢ 𝓤 _) moves _ (λ v. id⊢ 𝓤 _)
         (and-then ! (var ! 3 1 refl refl tt) (and-then ! (var ! 3 26 refl refl tt) (and-then ! (part ! 3 4 1 refl refl tt refl refl refl) (and-then ! (var ! 3 17 refl refl tt) (and-then ! (var ! 3 15 refl refl tt) (and-then ! (var ! 3 16 refl refl tt) (no-more !))))))) (λ done14 ws14 g-done14 e14 _.
         lands-in ! 3 18 refl tt (typed 𝓤 H A W moves done14 g-done14) $
         calls-by ! fm (Calls-came-to 𝓤 H A mem run) known-came-to (to (for-came-to here done14)) (for-came-to here done14) refl (g-here, (g-done14, tt)) (Unit {0}) tt (asks-all 𝓤 H A (for-came-to here done14) []) moveds _ (λ v. id⊢ 𝓤 _)
@@ -238,7 +238,7 @@ module _ {M : Type 1} (𝓤 : URA M) (H : Heap 𝓤) (A : Atoms 𝓤) (W : Given
         (and-then ! (var ! 3 1 refl refl tt) (and-then ! (var ! 3 3 refl refl tt) (and-then ! (var ! 3 4 refl refl tt) (and-then ! (var ! 3 5 refl refl tt) (and-then ! (lit ! tt) (no-more !)))))) (λ first18 _ g-first18 e18 _.
         lands-in ! 3 21 refl tt (typed 𝓤 H A W usizes first18 g-first18) $
         puts ! 3 27 refl (lent ! 3 2 refl refl tt) tt (tt, tt) $
-        move ! (0 ∷ 2 ∷ []) $ calls-by ! fm (Calls-do-arithmetic-formal 𝓤 H A mem run) known-do-arithmetic-formal (to (for-do-arithmetic-formal h-code code h-words cells (here .at) first18 second16 third17)) (for-do-arithmetic-formal h-code code h-words cells (here .at) first18 second16 third17) refl ((owed Registers#.the-type Registers′.the-laws here _ g-here .1 .0), (g-first18, (g-second16, (g-third17, tt)))) _ (facts.asks-do-arithmetic-formal code cells records here own class pre (not-equal class 1 y1) (not-equal class 3 y2) (not-equal class 2 y3) second16 e16 third17 e17 first18 e18) (id⊢ 𝓤 _) moves _ (λ v. id⊢ 𝓤 _)
+        move ! (0 ∷ 2 ∷ []) $ calls-by ! fm (Calls-do-arithmetic-formal 𝓤 H A mem run) known-do-arithmetic-formal (to (for-do-arithmetic-formal h-code code h-cells cells (here .at) first18 second16 third17)) (for-do-arithmetic-formal h-code code h-cells cells (here .at) first18 second16 third17) refl ((owed Registers#.the-type Registers′.the-laws here _ g-here .1 .0), (g-first18, (g-second16, (g-third17, tt)))) _ (facts.asks-do-arithmetic-formal code cells records here own class pre (not-equal class 1 y1) (not-equal class 3 y2) (not-equal class 2 y3) second16 e16 third17 e17 first18 e18) (id⊢ 𝓤 _) moves _ (λ v. id⊢ 𝓤 _)
         (and-then ! (var ! 3 1 refl refl tt) (and-then ! (var ! 3 27 refl refl tt) (and-then ! (part ! 3 4 1 refl refl tt refl refl refl) (and-then ! (var ! 3 21 refl refl tt) (and-then ! (var ! 3 19 refl refl tt) (and-then ! (var ! 3 20 refl refl tt) (no-more !))))))) (λ done19 ws19 g-done19 e19 _.
         lands-in ! 3 22 refl tt (typed 𝓤 H A W moves done19 g-done19) $
         calls-by ! fm (Calls-came-to 𝓤 H A mem run) known-came-to (to (for-came-to here done19)) (for-came-to here done19) refl (g-here, (g-done19, tt)) (Unit {0}) tt (asks-all 𝓤 H A (for-came-to here done19) []) moveds _ (λ v. id⊢ 𝓤 _)

@@ -107,8 +107,8 @@ module _ {M : Type 1} (𝓤 : URA M) (H : Heap 𝓤) (A : Atoms 𝓤) (W : Given
   abbrev code : List ℕ
   code = code# .now
 
-  abbrev h-words : Loan
-  h-words = loanRef κ1 q1 cells#
+  abbrev h-cells : Loan
+  h-cells = loanRef κ1 q1 cells#
 
   abbrev cells : List ℤ
   cells = cells# .now
@@ -120,7 +120,7 @@ module _ {M : Type 1} (𝓤 : URA M) (H : Heap 𝓤) (A : Atoms 𝓤) (W : Given
   records = records# .now
 
   abbrev ps : List Par
-  ps = brw (shrRef (Array u32 tt 4096)) h-code code ∷ brw (shrRef (Array i32 tt 8224)) h-words cells ∷ brw (shrSlice (recs .type)) h-records records ∷ dat registers here ∷ dat usizes own ∷ dat usizes class ∷ []
+  ps = brw (shrRef (Array u32 tt 4096)) h-code code ∷ brw (shrRef (Array i32 tt 8224)) h-cells cells ∷ brw (shrSlice (recs .type)) h-records records ∷ dat registers here ∷ dat usizes own ∷ dat usizes class ∷ []
 
   abbrev bound : walkOf 𝓤 H A f.ended stayed (f.clauses 𝓤 H A mem run) .Ghost
   bound = ((lfts ps, shares ps, tt, denots 0 ps, valss 0 ps), tt)
@@ -152,7 +152,7 @@ module _ {M : Type 1} (𝓤 : URA M) (H : Heap 𝓤) (A : Atoms 𝓤) (W : Given
         calls-by ! fm (Calls-first-cell 𝓤 H A mem run) known-first-cell (to (for-first-cell h-code code h-records records here own 2)) (for-first-cell h-code code h-records records here own 2) refl (g-here, (g-own, ((refl, omega arith), tt))) _ (facts.asks-first-cell-2 code cells records here own class pre (eqb→eq class 6 y1)) (id⊢ 𝓤 _) usizes _ (λ v. id⊢ 𝓤 _)
         (and-then ! (var ! 3 1 refl refl tt) (and-then ! (var ! 3 3 refl refl tt) (and-then ! (var ! 3 4 refl refl tt) (and-then ! (var ! 3 5 refl refl tt) (and-then ! (lit ! tt) (no-more !)))))) (λ second2 _ g-second2 e2 _.
         lands-in ! 3 8 refl tt (typed 𝓤 H A W usizes second2 g-second2) $
-        move ! (0 ∷ 2 ∷ []) $ calls-by ! fm (Calls-act-pair 𝓤 H A mem run) known-act-pair (to (for-act-pair h-code code h-words cells (here .at) first1 second2)) (for-act-pair h-code code h-words cells (here .at) first1 second2) refl ((owed Registers#.the-type Registers′.the-laws here _ g-here .1 .0), (g-first1, (g-second2, tt))) _ (facts.asks-act-pair code cells records here own class pre (eqb→eq class 6 y1) first1 e1 second2 e2) (id⊢ 𝓤 _) moves _ (λ v. id⊢ 𝓤 _)
+        move ! (0 ∷ 2 ∷ []) $ calls-by ! fm (Calls-act-pair 𝓤 H A mem run) known-act-pair (to (for-act-pair h-code code h-cells cells (here .at) first1 second2)) (for-act-pair h-code code h-cells cells (here .at) first1 second2) refl ((owed Registers#.the-type Registers′.the-laws here _ g-here .1 .0), (g-first1, (g-second2, tt))) _ (facts.asks-act-pair code cells records here own class pre (eqb→eq class 6 y1) first1 e1 second2 e2) (id⊢ 𝓤 _) moves _ (λ v. id⊢ 𝓤 _)
         (and-then ! (var ! 3 1 refl refl tt) (and-then ! (var ! 3 2 refl refl tt) (and-then ! (part ! 3 4 1 refl refl tt refl refl refl) (and-then ! (var ! 3 7 refl refl tt) (and-then ! (var ! 3 8 refl refl tt) (no-more !)))))) (λ done3 _ g-done3 e3 _.
         lands-in ! 3 9 refl tt (typed 𝓤 H A W moves done3 g-done3) $
         calls-by ! fm (Calls-came-to 𝓤 H A mem run) known-came-to (to (for-came-to here done3)) (for-came-to here done3) refl (g-here, (g-done3, tt)) (Unit {0}) tt (asks-all 𝓤 H A (for-came-to here done3) []) moveds _ (λ v. id⊢ 𝓤 _)
@@ -169,7 +169,7 @@ module _ {M : Type 1} (𝓤 : URA M) (H : Heap 𝓤) (A : Atoms 𝓤) (W : Given
         calls-by ! fm (Calls-first-cell 𝓤 H A mem run) known-first-cell (to (for-first-cell h-code code h-records records here own 3)) (for-first-cell h-code code h-records records here own 3) refl (g-here, (g-own, ((refl, omega arith), tt))) _ (facts.asks-first-cell-5 code cells records here own class pre (not-equal class 6 y1)) (id⊢ 𝓤 _) usizes _ (λ v. id⊢ 𝓤 _)
         (and-then ! (var ! 3 1 refl refl tt) (and-then ! (var ! 3 3 refl refl tt) (and-then ! (var ! 3 4 refl refl tt) (and-then ! (var ! 3 5 refl refl tt) (and-then ! (lit ! tt) (no-more !)))))) (λ third7 _ g-third7 e7 _.
         lands-in ! 3 12 refl tt (typed 𝓤 H A W usizes third7 g-third7) $
-        move ! (0 ∷ 2 ∷ []) $ calls-by ! fm (Calls-do-query 𝓤 H A mem run) known-do-query (to (for-do-query h-code code h-words cells (here .at) first5 second6 third7)) (for-do-query h-code code h-words cells (here .at) first5 second6 third7) refl ((owed Registers#.the-type Registers′.the-laws here _ g-here .1 .0), (g-first5, (g-second6, (g-third7, tt)))) _ (facts.asks-do-query code cells records here own class pre (not-equal class 6 y1) first5 e5 second6 e6 third7 e7) (id⊢ 𝓤 _) moves _ (λ v. id⊢ 𝓤 _)
+        move ! (0 ∷ 2 ∷ []) $ calls-by ! fm (Calls-do-query 𝓤 H A mem run) known-do-query (to (for-do-query h-code code h-cells cells (here .at) first5 second6 third7)) (for-do-query h-code code h-cells cells (here .at) first5 second6 third7) refl ((owed Registers#.the-type Registers′.the-laws here _ g-here .1 .0), (g-first5, (g-second6, (g-third7, tt)))) _ (facts.asks-do-query code cells records here own class pre (not-equal class 6 y1) first5 e5 second6 e6 third7 e7) (id⊢ 𝓤 _) moves _ (λ v. id⊢ 𝓤 _)
         (and-then ! (var ! 3 1 refl refl tt) (and-then ! (var ! 3 2 refl refl tt) (and-then ! (part ! 3 4 1 refl refl tt refl refl refl) (and-then ! (var ! 3 10 refl refl tt) (and-then ! (var ! 3 11 refl refl tt) (and-then ! (var ! 3 12 refl refl tt) (no-more !))))))) (λ done8 _ g-done8 e8 _.
         lands-in ! 3 13 refl tt (typed 𝓤 H A W moves done8 g-done8) $
         calls-by ! fm (Calls-came-to 𝓤 H A mem run) known-came-to (to (for-came-to here done8)) (for-came-to here done8) refl (g-here, (g-done8, tt)) (Unit {0}) tt (asks-all 𝓤 H A (for-came-to here done8) []) moveds _ (λ v. id⊢ 𝓤 _)

@@ -1,5 +1,5 @@
 -- `do_change` meets its contract.
-use Rattle.run_statements.specs.Pieces.{only-words}
+use Rattle.run_statements.specs.Pieces.{only-cells}
 use Rattle.run_statements.specs.Doing.{change-done}
 use Rattle.steps.specs.Finding.{byFirst}
 use Rattle.run_cells.specs.Asking.{wordAfter}
@@ -14,7 +14,7 @@ returns c =
     let a = c .before .before .args in
     let ws = a .cells .now in
     let name = wordAfter (a .code .now) (a .at) in
-    change-done (byFirst ws firstOf) (only-words (a .code .now) ws (a .at)) (a .ask) (cell-by ws firstOf (name 1) p (c .before .cell .ensures .0))
+    change-done (byFirst ws firstOf) (only-cells (a .code .now) ws (a .at)) (a .ask) (cell-by ws firstOf (name 1) p (c .before .cell .ensures .0))
     (cell-by ws firstOf (name 2) q (c .cell2 .ensures .0))
 
 pub do-change-spec : {M : Type 1} → statement M

@@ -1,5 +1,5 @@
 -- `do_query` meets its contract.
-use Rattle.run_statements.specs.Pieces.{only-words}
+use Rattle.run_statements.specs.Pieces.{only-cells}
 use Rattle.run_statements.specs.Doing.{query-done}
 use Rattle.steps.specs.Finding.{byFirst}
 use Rattle.run_cells.specs.Asking.{wordAfter}
@@ -14,7 +14,7 @@ returns c =
     let a = c .before .before .before .args in
     let ws = a .cells .now in
     let name = wordAfter (a .code .now) (a .at) in
-    query-done (byFirst ws firstOf) (only-words (a .code .now) ws (a .at)) (cell-by ws firstOf (name 1) p (c .before .before .cell .ensures .0))
+    query-done (byFirst ws firstOf) (only-cells (a .code .now) ws (a .at)) (cell-by ws firstOf (name 1) p (c .before .before .cell .ensures .0))
     (cell-by ws firstOf (name 2) q (c .before .cell2 .ensures .0)) (cell-by ws firstOf (name 3) u (c .cell3 .ensures .0))
 
 pub do-query-spec : {M : Type 1} → statement M

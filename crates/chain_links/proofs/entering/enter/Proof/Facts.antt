@@ -10,7 +10,7 @@ use Rattle.chain_records.specs.declared.Activation.{Activation}
 use Rattle.resolved.specs.Layout.{cellFrom, formalsIn, namesIn}
 use Rattle.run_moves.specs.Acting.{argumentsFrom, setAll}
 use Rattle.run_moves.specs.Effects.{Cleared}
-use Rattle.run_statements.specs.Pieces.{only-words}
+use Rattle.run_statements.specs.Pieces.{only-cells}
 use Rattle.run_state.specs.declared.Registers.{Registers}
 use Rattle.chain_links.specs.declared.Entry.{Entry}
 use Rattle.chain_links.specs.Records as rec
@@ -91,7 +91,7 @@ module _ (code : List ℕ) (cells : List ℤ) (records : List Activation) (here 
 
           handed-on : cells₁ ≡ handed
           handed-on = said ∙ ap (λ (n : ℕ). setAll cells (32 * live + 32) (argumentsFrom (byChain cells records live (here .level))
-              (only-words code cells (here .at)) (here .at + 3) (n - 3))) last-is
+              (only-cells code cells (here .at)) (here .at + 3) (n - 3))) last-is
 
           cleared-there : Clears (entry .body) handed cells₂
           cleared-there = subst (λ (T : Type 0). T) (λ i. Clears (new-is i .block) (handed-on i) cells₂) (came .1)

@@ -9,7 +9,7 @@ use Rattle.chain_records.specs.Records.{at}
 use Rattle.resolved.specs.Layout.{formalsIn, namesIn, cellFrom}
 use Rattle.run_moves.specs.Acting.{argumentsFrom, setAll}
 use Rattle.run_moves.specs.Effects.{Cleared}
-use Rattle.run_statements.specs.Pieces.{only-words}
+use Rattle.run_statements.specs.Pieces.{only-cells}
 use lib.IntN.{ℤ}
 use lib.ListN.{length, set, getD}
 use mathlib.Core.List.{List}
@@ -31,7 +31,7 @@ abbrev pub hand-asks : List ℕ → List (recs .type .Denot) → registers .type
 hand-asks code records here last = Handing code records here last
 
 abbrev pub hand-says : List ℕ → List ℤ → List (recs .type .Denot) → registers .type .Denot → ℕ → List ℤ → Type 0
-hand-says code cells records here last cells′ = cells′ ≡ setAll cells (32 * here .live + 32) (argumentsFrom (byChain cells records (here .live) (here .level)) (only-words code cells (here .at)) (here .at + 3) (last - 3))
+hand-says code cells records here last cells′ = cells′ ≡ setAll cells (32 * here .live + 32) (argumentsFrom (byChain cells records (here .live) (here .level)) (only-cells code cells (here .at)) (here .at + 3) (last - 3))
 
 abbrev pub read-asks : List (recs .type .Denot) → ℕ → Type 0
 read-asks records k = k < length records

@@ -9,7 +9,7 @@ use Rattle.resolved.specs.Resolved.{positionIn}
 use Rattle.chain_records.specs.declared.Activation.{Activation}
 use Rattle.run_moves.specs.Effects.{handedWord}
 use Rattle.run_moves.specs.Acting.{Finding, Scene, argumentsFrom, setAll}
-use Rattle.run_statements.specs.Pieces.{only-words}
+use Rattle.run_statements.specs.Pieces.{only-cells}
 use Rattle.run_statements.specs.Words.{handed-is}
 use Rattle.run_statements.specs.Doing.{arguments-end, arguments-next, kept-below}
 use Rattle.run_state.specs.declared.Registers.{Registers}
@@ -21,7 +21,7 @@ module _ (code : List ℕ) (cells₀ : List ℤ) (records : List Activation) (he
   way = byChain cells₀ records (here .live) (here .level)
 
   abbrev scene : Scene
-  scene = only-words code cells₀ (here .at)
+  scene = only-cells code cells₀ (here .at)
 
   abbrev low# : ℕ
   low# = 32 * here .live + 32

@@ -6,7 +6,7 @@ use Rattle.chain_links.specs.Finding.{Handing, byChain, Named, firstCell
 use Rattle.resolved.specs.Resolved.{positionIn}
 use Rattle.run_moves.specs.Acting.{argumentsFrom, setAll}
 use Rattle.run_moves.specs.Effects.{handedWord}
-use Rattle.run_statements.specs.Pieces.{only-words}
+use Rattle.run_statements.specs.Pieces.{only-cells}
 use lib.IntN.{ℤ}
 use lib.ListN.{getD, set}
 use mathlib.Core.List.{List}
@@ -16,7 +16,7 @@ abbrev pub Pre : List ℕ → List (recs .type .Denot) → registers .type .Deno
 Pre code records here last = Handing code records here last
 
 abbrev pub Said : List ℕ → List ℤ → List (recs .type .Denot) → registers .type .Denot → ℕ → List ℤ → Type 0
-Said code cells records here last cells′ = cells′ ≡ setAll cells (32 * here .live + 32) (argumentsFrom (byChain cells records (here .live) (here .level)) (only-words code cells (here .at)) (here .at + 3) (last - 3))
+Said code cells records here last cells′ = cells′ ≡ setAll cells (32 * here .live + 32) (argumentsFrom (byChain cells records (here .live) (here .level)) (only-cells code cells (here .at)) (here .at + 3) (last - 3))
 
 abbrev pub first-cell-asks : List ℕ → List (recs .type .Denot) → registers .type .Denot → ℕ → ℕ → Type 0
 first-cell-asks code records here own field = Named code records here field × (own ≡ 32 * here .live)

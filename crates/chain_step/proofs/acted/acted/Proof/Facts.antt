@@ -59,7 +59,7 @@ module _ (code : List ℕ) (cells : List ℤ) (records : List Activation) (activ
 
         pub asks-act-one : act-one-asks code cells activations (here .live) (here .at) (32 * k)
         asks-act-one =
-            (acts.at-there pre, sym is ∙ e, acts.ready pre activations (here .live) (acts.limit-high pre) (acts.live-low pre) (32 * k) 0 0 led)
+            (acts.at-there pre, sym is ∙ e, acts.ready pre activations (here .live) (acts.activations-high pre) (acts.live-low pre) (32 * k) 0 0 led)
 
         module _ (r : Move) (cells′ : List ℤ) (did : act-one-says code cells activations (here .live) (here .at) (32 * k) r cells′) (m : Moved) (m-is : came-to-says here r m) where
           pub says-1 : Said code cells records activations here m cells′

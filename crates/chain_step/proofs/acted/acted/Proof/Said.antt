@@ -12,7 +12,7 @@ use Rattle.resolved.specs.Resolved.{levelIn}
 use Rattle.run_cells.specs.Asking.{classOf, Ready, oneClass, Did, Leads, branchClass, wordAfter}
 use Rattle.run_cells.specs.Finding.{Direct}
 use Rattle.run_moves.specs.Acting.{opOf, acting, sceneBy, doConstant}
-use Rattle.run_statements.specs.Pieces.{only-words}
+use Rattle.run_statements.specs.Pieces.{only-cells}
 use Rattle.steps.specs.Finding.{byFirst}
 use lib.IntN.{ℤ}
 use lib.ListN.{getD}
@@ -68,7 +68,7 @@ abbrev pub do-constant-asks : List ℕ → List ℤ → ℕ → ℕ → Type 0
 do-constant-asks code cells at first = (at + 4 ≤ 4096) × Direct cells first (wordAfter code at 1)
 
 abbrev pub do-constant-says : List ℕ → List ℤ → ℕ → ℕ → moves .type .Denot → List ℤ → Type 0
-do-constant-says code cells at first r cells′ = ((firstOf : ℕ → ℕ) → first ≡ firstOf (wordAfter code at 1) → (r ≡ doConstant (byFirst cells firstOf) (only-words code cells at) .move) × (cells′ ≡ doConstant (byFirst cells firstOf) (only-words code cells at) .cells))
+do-constant-says code cells at first r cells′ = ((firstOf : ℕ → ℕ) → first ≡ firstOf (wordAfter code at 1) → (r ≡ doConstant (byFirst cells firstOf) (only-cells code cells at) .move) × (cells′ ≡ doConstant (byFirst cells firstOf) (only-cells code cells at) .cells))
 
 abbrev pub tabled-asks : List ℕ → List ℤ → List (recs .type .Denot) → registers .type .Denot → ℕ → ℕ → Type 0
 tabled-asks code cells records here own class = Tabling code cells records here own class

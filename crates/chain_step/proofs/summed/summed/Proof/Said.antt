@@ -10,7 +10,7 @@ use Rattle.language.specs.Text.{plus, less, minus}
 use Rattle.run_cells.specs.Asking.{wordAfter}
 use Rattle.run_cells.specs.Finding.{Direct, Reachable}
 use Rattle.run_moves.specs.Acting.{doArithmetic, operationOf}
-use Rattle.run_statements.specs.Pieces.{only-words}
+use Rattle.run_statements.specs.Pieces.{only-cells}
 use Rattle.steps.specs.Finding.{byFirst}
 use lib.IntN.{ℤ}
 use lib.ListN.{getD}
@@ -33,7 +33,7 @@ abbrev pub do-add-asks : List ℕ → List ℤ → ℕ → ℕ → ℕ → ℕ �
 do-add-asks code cells at first second third = (at + 5 ≤ 4096) × Direct cells first (wordAfter code at 1) × Direct cells second (wordAfter code at 3) × Direct cells third (wordAfter code at 4)
 
 abbrev pub do-add-says : List ℕ → List ℤ → ℕ → ℕ → ℕ → ℕ → moves .type .Denot → List ℤ → Type 0
-do-add-says code cells at first second third r cells′ = ((firstOf : ℕ → ℕ) → first ≡ firstOf (wordAfter code at 1) → second ≡ firstOf (wordAfter code at 3) → third ≡ firstOf (wordAfter code at 4) → (r ≡ doArithmetic (byFirst cells firstOf) (only-words code cells at) plus .move) × (cells′ ≡ doArithmetic (byFirst cells firstOf) (only-words code cells at) plus .cells))
+do-add-says code cells at first second third r cells′ = ((firstOf : ℕ → ℕ) → first ≡ firstOf (wordAfter code at 1) → second ≡ firstOf (wordAfter code at 3) → third ≡ firstOf (wordAfter code at 4) → (r ≡ doArithmetic (byFirst cells firstOf) (only-cells code cells at) plus .move) × (cells′ ≡ doArithmetic (byFirst cells firstOf) (only-cells code cells at) plus .cells))
 
 abbrev pub came-to-says : registers .type .Denot → moves .type .Denot → moveds .type .Denot → Type 0
 came-to-says here done r = r ≡ movedBy here done
@@ -42,16 +42,16 @@ abbrev pub do-compare-asks : List ℕ → List ℤ → ℕ → ℕ → ℕ → �
 do-compare-asks code cells at first second third = (at + 5 ≤ 4096) × Direct cells first (wordAfter code at 1) × Direct cells second (wordAfter code at 3) × Direct cells third (wordAfter code at 4)
 
 abbrev pub do-compare-says : List ℕ → List ℤ → ℕ → ℕ → ℕ → ℕ → moves .type .Denot → List ℤ → Type 0
-do-compare-says code cells at first second third r cells′ = ((firstOf : ℕ → ℕ) → first ≡ firstOf (wordAfter code at 1) → second ≡ firstOf (wordAfter code at 3) → third ≡ firstOf (wordAfter code at 4) → (r ≡ doArithmetic (byFirst cells firstOf) (only-words code cells at) less .move) × (cells′ ≡ doArithmetic (byFirst cells firstOf) (only-words code cells at) less .cells))
+do-compare-says code cells at first second third r cells′ = ((firstOf : ℕ → ℕ) → first ≡ firstOf (wordAfter code at 1) → second ≡ firstOf (wordAfter code at 3) → third ≡ firstOf (wordAfter code at 4) → (r ≡ doArithmetic (byFirst cells firstOf) (only-cells code cells at) less .move) × (cells′ ≡ doArithmetic (byFirst cells firstOf) (only-cells code cells at) less .cells))
 
 abbrev pub do-subtract-asks : List ℕ → List ℤ → ℕ → ℕ → ℕ → ℕ → Type 0
 do-subtract-asks code cells at first second third = (at + 5 ≤ 4096) × Direct cells first (wordAfter code at 1) × Direct cells second (wordAfter code at 3) × Direct cells third (wordAfter code at 4)
 
 abbrev pub do-subtract-says : List ℕ → List ℤ → ℕ → ℕ → ℕ → ℕ → moves .type .Denot → List ℤ → Type 0
-do-subtract-says code cells at first second third r cells′ = ((firstOf : ℕ → ℕ) → first ≡ firstOf (wordAfter code at 1) → second ≡ firstOf (wordAfter code at 3) → third ≡ firstOf (wordAfter code at 4) → (r ≡ doArithmetic (byFirst cells firstOf) (only-words code cells at) minus .move) × (cells′ ≡ doArithmetic (byFirst cells firstOf) (only-words code cells at) minus .cells))
+do-subtract-says code cells at first second third r cells′ = ((firstOf : ℕ → ℕ) → first ≡ firstOf (wordAfter code at 1) → second ≡ firstOf (wordAfter code at 3) → third ≡ firstOf (wordAfter code at 4) → (r ≡ doArithmetic (byFirst cells firstOf) (only-cells code cells at) minus .move) × (cells′ ≡ doArithmetic (byFirst cells firstOf) (only-cells code cells at) minus .cells))
 
 abbrev pub do-arithmetic-formal-asks : List ℕ → List ℤ → ℕ → ℕ → ℕ → ℕ → Type 0
 do-arithmetic-formal-asks code cells at first second third = (at + 5 ≤ 4096) × Reachable cells first (wordAfter code at 1) × Reachable cells second (wordAfter code at 3) × Reachable cells third (wordAfter code at 4)
 
 abbrev pub do-arithmetic-formal-says : List ℕ → List ℤ → ℕ → ℕ → ℕ → ℕ → moves .type .Denot → List ℤ → Type 0
-do-arithmetic-formal-says code cells at first second third r cells′ = ((firstOf : ℕ → ℕ) → first ≡ firstOf (wordAfter code at 1) → second ≡ firstOf (wordAfter code at 3) → third ≡ firstOf (wordAfter code at 4) → (r ≡ doArithmetic (byFirst cells firstOf) (only-words code cells at) (operationOf (wordAfter code at 2)) .move) × (cells′ ≡ doArithmetic (byFirst cells firstOf) (only-words code cells at) (operationOf (wordAfter code at 2)) .cells))
+do-arithmetic-formal-says code cells at first second third r cells′ = ((firstOf : ℕ → ℕ) → first ≡ firstOf (wordAfter code at 1) → second ≡ firstOf (wordAfter code at 3) → third ≡ firstOf (wordAfter code at 4) → (r ≡ doArithmetic (byFirst cells firstOf) (only-cells code cells at) (operationOf (wordAfter code at 2)) .move) × (cells′ ≡ doArithmetic (byFirst cells firstOf) (only-cells code cells at) (operationOf (wordAfter code at 2)) .cells))

@@ -9,7 +9,7 @@ use Rattle.chain_step.specs.Moved.{movedBy}
 use Rattle.run_cells.specs.Asking.{Ready, classOf, pairClass, Did, Leads, wordAfter}
 use Rattle.run_cells.specs.Finding.{Reachable}
 use Rattle.run_moves.specs.Acting.{opOf, acting, sceneBy, doQuery}
-use Rattle.run_statements.specs.Pieces.{only-words}
+use Rattle.run_statements.specs.Pieces.{only-cells}
 use Rattle.steps.specs.Finding.{byFirst}
 use lib.IntN.{ℤ}
 use lib.ListN.{getD}
@@ -41,4 +41,4 @@ abbrev pub do-query-asks : List ℕ → List ℤ → ℕ → ℕ → ℕ → ℕ
 do-query-asks code cells at first second third = (at + 4 ≤ 4096) × Reachable cells first (wordAfter code at 1) × Reachable cells second (wordAfter code at 2) × Reachable cells third (wordAfter code at 3)
 
 abbrev pub do-query-says : List ℕ → List ℤ → ℕ → ℕ → ℕ → ℕ → moves .type .Denot → Type 0
-do-query-says code cells at first second third r = ((firstOf : ℕ → ℕ) → first ≡ firstOf (wordAfter code at 1) → second ≡ firstOf (wordAfter code at 2) → third ≡ firstOf (wordAfter code at 3) → r ≡ doQuery (byFirst cells firstOf) (only-words code cells at) .move)
+do-query-says code cells at first second third r = ((firstOf : ℕ → ℕ) → first ≡ firstOf (wordAfter code at 1) → second ≡ firstOf (wordAfter code at 2) → third ≡ firstOf (wordAfter code at 3) → r ≡ doQuery (byFirst cells firstOf) (only-cells code cells at) .move)
