@@ -134,10 +134,14 @@ class Source:
                         out["%s.%s" % (name, v)] = (base + ".the-variants", v)
         return out
 
+    def listed(self):
+        """for each crate those that its line in crates.txt names"""
+        text = open(os.path.join(self.root, "crates.txt"), encoding="utf-8").read()
+        return {n: d.split() for n, d in re.findall(r"^(\w+):(.*)$", text, re.M)}
+
     def standing(self, crate):
         """the crates that a crate stands on"""
-        text = open(os.path.join(self.root, "crates.txt"), encoding="utf-8").read()
-        below = {n: d.split() for n, d in re.findall(r"^(\w+):(.*)$", text, re.M)}
+        below = self.listed()
         out, todo = set(), [crate]
         while todo:
             for x in below.get(todo.pop(), []):

@@ -53,9 +53,10 @@ class Kind:
 class Types:
     def __init__(self, root, crate, source):
         self.crate, self.source, self.used, self.rows = crate, source, {}, {}
-        below = source.standing(crate) | {crate}
-        for path in sorted(glob.glob(os.path.join(root, "crates/*/proofs/*.antt"))):
-            owner = path.split(os.sep)[-3]
+        below, listed = source.standing(crate) | {crate}, source.listed()[crate]
+        paths = [(p.split(os.sep)[-3], p) for p in glob.glob(os.path.join(root, "crates/*/proofs/*.antt"))]
+        # what the crate names itself goes before what stands further down
+        for owner, path in sorted(paths, key=lambda x: (x[0] not in listed, x)):
             if owner in below:
                 self.declare(owner, os.path.basename(path)[:-5], open(path, encoding="utf-8").read())
 

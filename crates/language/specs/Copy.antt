@@ -14,7 +14,7 @@ Replacement = List (ℕ × ℕ)
 unfoldable pub renamed : Replacement → ℕ → ℕ
 renamed σ n = elim (lookup n σ) [ none ↦ n | some x ↦ x ]
 
--- a name declared again nearer is not governed
+-- a name declared again nearer is not replaced
 unfoldable pub without : List ℕ → Replacement → Replacement
 without ns [] = []
 without ns (p ∷ σ) = elim (among (p .0) ns) [ true ↦ without ns σ | false ↦ p ∷ without ns σ ]

@@ -136,7 +136,7 @@ module _ {M : Type 1} (𝓤 : URA M) (H : Heap 𝓤) (A : Atoms 𝓤) (W : Given
         move ! (2 ∷ 0 ∷ 4 ∷ 5 ∷ 6 ∷ 7 ∷ 8 ∷ []) $ calls-by ! fm (Calls-ran-on 𝓤 H A mem run) known-ran-on (to (for-ran-on (loanAt (β 7) ν1-own-code δ1-own-code) own-code (loanAt (β 8) ν1-own-cells δ1-own-cells) own-cells h-script script numbers h-table table h-sheet sheet h-records records h-answer answer)) (for-ran-on (loanAt (β 7) ν1-own-code δ1-own-code) own-code (loanAt (β 8) ν1-own-cells δ1-own-cells) own-cells h-script script numbers h-table table h-sheet sheet h-records records h-answer answer) refl (g-numbers, tt) _ (facts.asks-ran-on script numbers table sheet records answer pre own-code own-code-is own-cells own-cells-is) (id⊢ 𝓤 _) units _ (λ v. id⊢ 𝓤 _)
         (and-then ! (var-in ! 9 10 refl refl tt) (and-then ! (var-in ! 9 11 refl refl tt) (and-then ! (var-in ! 9 1 refl refl tt) (and-then ! (var-in ! 9 2 refl refl tt) (and-then ! (var-in ! 9 13 refl refl tt) (and-then ! (var-in ! 9 15 refl refl tt) (and-then ! (var-in ! 9 17 refl refl tt) (and-then ! (var-in ! 9 18 refl refl tt) (no-more !))))))))) (λ _ ws1 _ e1 same1.
         move ! (0 ∷ 8 ∷ []) $ back-local ! tt (arrays words32 4096) 7 7 (β 7) (ws1 .0) ν1-own-code δ1-own-code refl refl tt refl refl (λ g1-own-code.
-        move ! (0 ∷ 6 ∷ []) $ back-local ! tt (arrays ints32 8224) 5 8 (β 8) (ws1 .1 .0) ν1-own-cells δ1-own-cells refl refl tt refl refl (λ g1-own-words.
+        move ! (0 ∷ 6 ∷ []) $ back-local ! tt (arrays ints32 8224) 5 8 (β 8) (ws1 .1 .0) ν1-own-cells δ1-own-cells refl refl tt refl refl (λ g1-own-cells.
         whole-again ! 5 refl tt $ lands-in ! 5 9 refl tt (tt, tt) $
         puts ! 5 0 refl (of-opd ! (unit-lit !)) tt (tt, tt) $
         ends ! 5 refl refl tt $ by ! (exits (ws1 .1 .1 .1 .1 .0) (ws1 .1 .1 .1 .1 .1 .0) (ws1 .1 .1 .1 .1 .1 .1 .0) (ws1 .1 .1 .1 .1 .1 .1 .1 .0) (same1 .1 .1 .1 .0) (same1 .1 .1 .1 .1 .0) (same1 .1 .1 .1 .1 .1 .0) (facts.says script numbers table sheet records answer pre own-code own-code-is own-cells own-cells-is (ws1 .0) (ws1 .1 .0) (ws1 .1 .1 .1 .1 .0) (ws1 .1 .1 .1 .1 .1 .0) (ws1 .1 .1 .1 .1 .1 .1 .0) (ws1 .1 .1 .1 .1 .1 .1 .1 .0) e1)))))))))

@@ -44,10 +44,10 @@ use Rattle.walks.specs.Lends.{relent, lends-ref, back-ref, lends-slice, back-sl
 use Rattle.chain_call.proofs.Rows.{numberss}
 use Rattle.chain_links.proofs.Rows.{recs}
 use Rattle.chain_run.proofs.Rows.{halts}
-use Rattle.run_state.proofs.Halt as Halt#
-use Rattle.run_state.proofs.Halt.Laws as Halt′
 use Rattle.call_admission.proofs.CallNumbers as CallNumbers#
 use Rattle.call_admission.proofs.CallNumbers.Laws as CallNumbers′
+use Rattle.run_state.proofs.Halt as Halt#
+use Rattle.run_state.proofs.Halt.Laws as Halt′
 use Rattle.chain_call.proofs.resolved as resolved
 use Rattle.chain_call.proofs.resolved.Symbol as resolved-def
 use Rattle.chain_call.proofs.resolved.Symbol.{name as #resolved}

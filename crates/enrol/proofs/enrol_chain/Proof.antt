@@ -40,8 +40,8 @@ use Rattle.walks.specs.Calls.{to, calls-by}
 use Rattle.walks.specs.Clauses.{asks-all}
 use Rattle.walks.specs.Frames.{begins}
 use Rattle.walks.specs.Locals.{var, lent, lent-ptr, lent-slice, puts, lands-in, ends}
-use Rattle.chain_records.proofs.Elem.{recs}
 use Rattle.chain_call.proofs.Rows.{numberss}
+use Rattle.chain_records.proofs.Elem.{recs}
 use denote.Struct.Laws as laws
 use Rattle.call_admission.proofs.CallNumbers as CallNumbers#
 use Rattle.call_admission.proofs.CallNumbers.Laws as CallNumbers′

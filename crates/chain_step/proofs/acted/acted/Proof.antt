@@ -272,11 +272,11 @@ module _ {M : Type 1} (𝓤 : URA M) (H : Heap 𝓤) (A : Atoms 𝓤) (W : Given
         if-then ! (var ! 3 15 refl refl tt)
         (λ y4.
         puts ! 3 21 refl (lent ! 3 2 refl refl tt) tt (tt, tt) $
-        move ! (1 ∷ []) $ shares-ref ! tt (Array i32 tt 8224) h-cells cells (λ p13-words ν13-words δ13-words.
-        move ! (2 ∷ 0 ∷ 3 ∷ []) $ calls-by ! fm (Calls-tabled 𝓤 H A mem run) known-tabled (to (for-tabled h-code code (relent h-cells ν13-words δ13-words) cells h-records records here (32 * (here .live)) class1)) (for-tabled h-code code (relent h-cells ν13-words δ13-words) cells h-records records here (32 * (here .live)) class1) refl (g-here, ((refl, (facts.fits-1 code cells records activations here pre)), (g-class1, tt))) _ (facts.asks-tabled code cells records activations here pre class1 e1 (not-equal class1 0 y1) (not-equal class1 5 y2) (not-equal class1 8 y3) (ltb→lt 5 class1 y4)) (id⊢ 𝓤 _) moveds _ (λ v. id⊢ 𝓤 _)
+        move ! (1 ∷ []) $ shares-ref ! tt (Array i32 tt 8224) h-cells cells (λ p13-cells ν13-cells δ13-cells.
+        move ! (2 ∷ 0 ∷ 3 ∷ []) $ calls-by ! fm (Calls-tabled 𝓤 H A mem run) known-tabled (to (for-tabled h-code code (relent h-cells ν13-cells δ13-cells) cells h-records records here (32 * (here .live)) class1)) (for-tabled h-code code (relent h-cells ν13-cells δ13-cells) cells h-records records here (32 * (here .live)) class1) refl (g-here, ((refl, (facts.fits-1 code cells records activations here pre)), (g-class1, tt))) _ (facts.asks-tabled code cells records activations here pre class1 e1 (not-equal class1 0 y1) (not-equal class1 5 y2) (not-equal class1 8 y3) (ltb→lt 5 class1 y4)) (id⊢ 𝓤 _) moveds _ (λ v. id⊢ 𝓤 _)
         (and-then ! (var ! 4 1 refl refl tt) (and-then ! (var ! 4 21 refl refl tt) (and-then ! (var ! 4 3 refl refl tt) (and-then ! (var ! 4 5 refl refl tt) (and-then ! (var ! 4 7 refl refl tt) (and-then ! (var ! 4 6 refl refl tt) (no-more !))))))) (λ tabled13 _ g-tabled13 e13 _.
         lands-in ! 4 0 refl tt (typed 𝓤 H A W moveds tabled13 g-tabled13) $
-        move ! (1 ∷ 3 ∷ []) $ unshares-ref ! tt (Array i32 tt 8224) h-cells cells ν13-words δ13-words p13-words $
+        move ! (1 ∷ 3 ∷ []) $ unshares-ref ! tt (Array i32 tt 8224) h-cells cells ν13-cells δ13-cells p13-cells $
         ends-early ! 3 Post refl refl refl tt $ gives ! (mutRef (Array i32 tt 8224)) h-cells cells $ move ! (1 ∷ 0 ∷ 2 ∷ []) $ by ! (exits tabled13 cells g-tabled13 (facts.says-4 code cells records activations here pre class1 e1 (not-equal class1 0 y1) (not-equal class1 5 y2) (not-equal class1 8 y3) (ltb→lt 5 class1 y4) tabled13 e13)))))
         (λ y4.
         puts ! 3 22 refl (lent ! 3 2 refl refl tt) tt (tt, tt) $

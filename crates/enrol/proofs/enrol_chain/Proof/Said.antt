@@ -1,10 +1,10 @@
 -- What `enrol::enrol_chain` and the functions that it calls ask and say, in lists and numbers: x is behind a reference at first, x′ at last.
 -- Written by `tools/walk enrol enrol_chain`.
 use Prim.Native.Nat.{ℕ}
-use Rattle.chain_records.proofs.Elem.{recs}
 use Rattle.call_admission.specs.Lent.{fedOf}
 use Rattle.call_answers.specs.Replies.{RepliesLeaving}
 use Rattle.chain_call.proofs.Rows.{numberss}
+use Rattle.chain_records.proofs.Elem.{recs}
 use Rattle.language.specs.Call.{chain}
 use lib.IntN.{ℤ}
 use lib.ListN.{length}

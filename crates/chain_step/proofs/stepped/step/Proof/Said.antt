@@ -51,7 +51,7 @@ abbrev pub answered-asks : moveds .type .Denot → Type 0
 answered-asks moved = ((k : Asked) → moved ≡ Table k → (k .group < 8192) × ((k .member < 8192) × (k .target < 8192)))
 
 abbrev pub answered-says : List ℤ → List ℤ → ℕ → registers .type .Denot → moveds .type .Denot → turns .type .Denot → List ℤ → List ℤ → Type 0
-answered-says table cells activations here moved r table′ cells′ = ((k : Asked) → moved ≡ Table k → (c : Changed) × (r ≡ turnAfter here (k .place) c) × Answered (answerTo activations cells (tableOf table (here .pairs)) k) table c cells′ table′)
+answered-says table cells limit here moved r table′ cells′ = ((k : Asked) → moved ≡ Table k → (c : Changed) × (r ≡ turnAfter here (k .place) c) × Answered (answerTo limit cells (tableOf table (here .pairs)) k) table c cells′ table′)
 
 abbrev pub enters-says : moveds .type .Denot → Bool → Type 0
 enters-says moved r = r ≡ isEnter moved
