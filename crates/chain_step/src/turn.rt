@@ -151,12 +151,7 @@ fn asked(
 {
     match ask {
         Ask::Add => run_statements::add(table, cells, pairs, limit, group, member),
-        Ask::Remove => {
-            // Not `run_statements::remove`, which is a call: with one more of them in the step the others take longer.
-            let of = cells[group];
-            let who = cells[member];
-            table_pairs::remove_pair(table, pairs, of, who)
-        }
+        Ask::Remove => run_statements::remove(table, cells, pairs, group, member),
         Ask::Query => run_statements::query(table, cells, pairs, group, member, target),
     }
 }
