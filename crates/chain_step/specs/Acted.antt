@@ -170,7 +170,7 @@ module _ {code : List ℕ} {cells : List ℤ} {records : List Activation} {activ
       (subst (FormalsBefore code) (formal-target cells (firstCell records (here .live) (here .level) (word 1)) (word 1) (f .1))
       (record { there = h .0; before = h .1 }))
 
-  -- What its function may rely on, whatever its class is told of the limit and of the innermost activation
+  -- What its function may rely on, whatever its class is told of D and of the innermost activation
 
   module _ (activations′ live′ : ℕ) (low : activations′ ≤ 256) (few : live′ ≤ 255) (first second third : ℕ) where
     calling : fields.Arguments st → Calling code activations′ live′ (here .at)
