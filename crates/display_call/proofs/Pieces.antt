@@ -13,7 +13,7 @@ use Rattle.frames.specs.Frame.{frameRunOf}
 use Rattle.coordinates.specs.Sound.{accepted-keeps-rules}
 use Rattle.resolved.specs.Resolved.{resolvedOf, Covers}
 use Rattle.resolve_script.specs.Resolving.{Resolved, resolved-covers}
-use Rattle.display_run.specs.Turning.{Beginning, Ended}
+use Rattle.display_run.specs.Program.{Beginning, Ended}
 use Rattle.display_run.specs.Ending.{resultFrom}
 use Rattle.run_state.specs.declared.Halt.{Halt}
 

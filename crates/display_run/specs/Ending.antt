@@ -24,7 +24,8 @@ use Rattle.run_state.specs.Limits.{limitsBy, goesTo}
 use Rattle.run_state.specs.Halts.{finishedAfter, spentAfter, stoppedAfter, namedBy}
 use Rattle.run_state.specs.Ended.{RunFrom, from-start, finished-end, spent-end, stopped-end}
 use Rattle.display_moves.specs.Running.{Running, Looking, Placed}
-use Rattle.display_run.specs.Turning.{Arrays, arraysOf, Turned, TurnsTo, Beginning, Ended, startBy}
+use Rattle.display_step.specs.Turning.{Arrays, arraysOf, Turned, TurnsTo}
+use Rattle.display_run.specs.Program.{Beginning, Ended, startBy}
 
 module _ {code : List ℕ} {activations limit : ℕ} {cells : List ℤ} {blocks nexts links display : List ℕ} {table : List ℤ} {start : Registers}
     (w : Running code activations limit cells blocks nexts links display table start) (allowance : ℕ) where

@@ -1,7 +1,4 @@
--- The display engine, in reading order.
-pub mod Finding
-pub mod Ready
-pub mod Turning
-pub mod Turns
+-- The display engine's run, in reading order.
+pub mod Program
 pub mod Looked
 pub mod Ending

@@ -11,7 +11,7 @@ use Rattle.arrays.specs.Found.{cellBy}
 use Rattle.steps.specs.Here.{here, live-few}
 use Rattle.steps.specs.Reads.{block-within, looked-up-here}
 use Rattle.steps.specs.Finding.{Reaches, wordOf, unseen-word, seen-by-display}
-use Rattle.display_run.specs.Finding.{firstCell, Reachable}
+use Rattle.display_step.specs.Finding.{firstCell, Reachable}
 use Rattle.display_moves.specs.Running.{Looking}
 
 module _ {code : List ℕ} {cells : List ℤ} {blocks display : List ℕ} {live : ℕ} (w : Looking code cells blocks display live) where

@@ -1,7 +1,4 @@
-// The display engine: a name is found by its level and position, the activation of each enclosing level in the display.
+// The display engine's run.
 pub use run::run_program;
 
-mod act;
-mod arms;
-mod names;
 pub mod run;

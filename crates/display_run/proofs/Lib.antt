@@ -1,2 +1,0 @@
--- What the proofs of the display engine share.
-pub mod Statements

@@ -1,9 +1,0 @@
--- `do_goto` meets its contract.
-use borrow.Author.Needs.{needs}
-use Rattle.display_run.proofs.arms.do_goto.Statement.{statement}
-use Rattle.display_run.proofs.arms.do_goto.Tie as tie
-
-pub do-goto-spec : {M : Type 1} → statement M
-do-goto-spec =
-    tie.close (tie.spec (λ c. search needs) (λ c κs. search needs) (λ c κs. search needs) (λ c κs. search needs) (λ c κs. search needs)
-    (λ c. cc))
