@@ -26,10 +26,11 @@ use Rattle.resolved.specs.Layout.{operationIn, leadIn}
 use Rattle.run_statements.specs.Pieces.{FormalsBefore, only-cells}
 use Rattle.run_statements.specs.Numbers.{op-of}
 use Rattle.run_cells.specs.Finding.{Reachable, Direct, ThroughFormal}
-use Rattle.run_cells.specs.Asking.{wordAfter, Calling, Ready, Leads, Did, classOf}
-use Rattle.run_cells.specs.Asking.{oneClass, addClass, subtractClass, compareClass, arithmeticFormalClass, branchClass, pairClass, queryClass, constantClass}
-use Rattle.run_cells.specs.Moves as moves
-use Rattle.run_cells.specs.Classes.{add-only, subtract-only, compare-only, arithmetic-only, query-only, constant-only}
+use Rattle.run_cells.specs.Calling.{wordAfter, Calling}
+use Rattle.run_classes.specs.Asking.{Ready, Leads, Did, classOf}
+use Rattle.run_classes.specs.Asking.{oneClass, addClass, subtractClass, compareClass, arithmeticFormalClass, branchClass, pairClass, queryClass, constantClass}
+use Rattle.run_classes.specs.Moves as moves
+use Rattle.run_classes.specs.Classes.{add-only, subtract-only, compare-only, arithmetic-only, query-only, constant-only}
 use Rattle.chain_records.specs.declared.Activation.{Activation}
 use Rattle.run_state.specs.declared.Registers.{Registers}
 use Rattle.chain_links.specs.Records.{blocksIn, nextsIn, linksIn}

@@ -21,7 +21,7 @@ use Rattle.steps.specs.Means.{GoesOn, EntersAt, AnswerMeans, MoveMeans}
 use Rattle.steps.specs.Acts.{acting-means}
 use Rattle.chain_records.specs.declared.Activation.{Activation}
 use Rattle.chain_records.specs.Records.{at as record-at}
-use Rattle.run_cells.specs.Asking.{Did, unhanded}
+use Rattle.run_classes.specs.Asking.{Did, unhanded}
 use Rattle.run_state.specs.declared.Registers.{Registers}
 use Rattle.chain_links.specs.Records.{blocksIn, nextsIn, linksIn}
 use Rattle.chain_links.specs.Finding.{byChain, Handing, argumentsEnd, handedOn}

@@ -3,13 +3,13 @@ use super::turn::Moved;
 use super::turn::came_to;
 use chain_links::first_cell;
 use chain_records::Activation;
-use run_cells::CLASS_ADD;
-use run_cells::CLASS_COMPARE;
-use run_cells::CLASS_SUBTRACT;
 use run_cells::do_add;
 use run_cells::do_arithmetic_formal;
 use run_cells::do_compare;
 use run_cells::do_subtract;
+use run_classes::CLASS_ADD;
+use run_classes::CLASS_COMPARE;
+use run_classes::CLASS_SUBTRACT;
 use run_state::Registers;
 ghost use Rattle.chain_step.specs.Acted.{Summing, Does, happening};
 

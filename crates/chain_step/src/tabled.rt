@@ -3,9 +3,9 @@ use super::turn::Moved;
 use super::turn::came_to;
 use chain_links::first_cell;
 use chain_records::Activation;
-use run_cells::CLASS_PAIR;
-use run_cells::act_pair;
 use run_cells::do_query;
+use run_classes::CLASS_PAIR;
+use run_classes::act_pair;
 use run_state::Registers;
 ghost use Rattle.chain_step.specs.Acted.{Tabling, Does, happening};
 

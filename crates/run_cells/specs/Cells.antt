@@ -24,7 +24,7 @@ use Rattle.run_statements.specs.Words.{cell-formal, home-direct, target-direct,
 use Rattle.run_statements.specs.Doing.{direct-cell, constant-done, arithmetic-done, compare-done, goto-done, branch-not, branch-goes}
 use Rattle.steps.specs.Finding.{byFirst}
 use Rattle.run_cells.specs.Finding.{Direct}
-use Rattle.run_cells.specs.Asking.{wordAfter}
+use Rattle.run_cells.specs.Calling.{wordAfter}
 
 -- the cell of a name that is no formal
 pub own-cell : {cells : List ℤ} {first w c : ℕ} → Direct cells first w → c ≡ first + positionIn w → c ≡ cellBy cells first w

@@ -26,7 +26,7 @@ ghost use Rattle.run_moves.specs.Acting.{sceneBy};
 ghost use Rattle.run_statements.specs.Pieces.{only-cells, FormalsBefore};
 ghost use Rattle.steps.specs.Finding.{byFirst};
 ghost use Rattle.run_cells.specs.Finding.{Reachable, Direct, ThroughFormal};
-ghost use Rattle.run_cells.specs.Asking.{wordAfter, Calling, callMove};
+ghost use Rattle.run_cells.specs.Calling.{wordAfter, Calling, callMove};
 
 pub fn do_constant(code: &[u32; 4096], cells: &mut [i32; 8224], at: usize, first: usize) -> Move
     requires { ⌜ (at + 4 ≤ 4096) × Direct (now cells) first (wordAfter (now code) at 1) ⌝ }

@@ -48,10 +48,10 @@ use Rattle.chain_links.proofs.Rows.{recs, registers}
 use Rattle.chain_step.proofs.Rows.{moveds, moves}
 use Rattle.run_state.proofs.Registers as Registers#
 use Rattle.run_state.proofs.Registers.Laws as Registers′
-use Rattle.run_cells.proofs.class_of as class-of
-use Rattle.run_cells.proofs.class_of.Symbol as class-of-def
-use Rattle.run_cells.proofs.class_of.Symbol.{name as #class-of}
-use Rattle.run_cells.proofs.class_of.Met as class-of-thm
+use Rattle.run_classes.proofs.class_of as class-of
+use Rattle.run_classes.proofs.class_of.Symbol as class-of-def
+use Rattle.run_classes.proofs.class_of.Symbol.{name as #class-of}
+use Rattle.run_classes.proofs.class_of.Met as class-of-thm
 use Rattle.chain_step.proofs.acted.only_hops as only-hops
 use Rattle.chain_step.proofs.acted.only_hops.Symbol as only-hops-def
 use Rattle.chain_step.proofs.acted.only_hops.Symbol.{name as #only-hops}
@@ -60,10 +60,10 @@ use Rattle.chain_records.proofs.follow as follow
 use Rattle.chain_records.proofs.follow.Symbol as follow-def
 use Rattle.chain_records.proofs.follow.Symbol.{name as #follow}
 use Rattle.chain_records.proofs.follow.Met as follow-thm
-use Rattle.run_cells.proofs.act_one as act-one
-use Rattle.run_cells.proofs.act_one.Symbol as act-one-def
-use Rattle.run_cells.proofs.act_one.Symbol.{name as #act-one}
-use Rattle.run_cells.proofs.act_one.Met as act-one-thm
+use Rattle.run_classes.proofs.act_one as act-one
+use Rattle.run_classes.proofs.act_one.Symbol as act-one-def
+use Rattle.run_classes.proofs.act_one.Symbol.{name as #act-one}
+use Rattle.run_classes.proofs.act_one.Met as act-one-thm
 use Rattle.chain_step.proofs.turn.came_to as came-to
 use Rattle.chain_step.proofs.turn.came_to.Symbol as came-to-def
 use Rattle.chain_step.proofs.turn.came_to.Symbol.{name as #came-to}
@@ -72,10 +72,10 @@ use Rattle.chain_links.proofs.first_cell as first-cell
 use Rattle.chain_links.proofs.first_cell.Symbol as first-cell-def
 use Rattle.chain_links.proofs.first_cell.Symbol.{name as #first-cell}
 use Rattle.chain_links.proofs.first_cell.Met as first-cell-thm
-use Rattle.run_cells.proofs.act_branch as act-branch
-use Rattle.run_cells.proofs.act_branch.Symbol as act-branch-def
-use Rattle.run_cells.proofs.act_branch.Symbol.{name as #act-branch}
-use Rattle.run_cells.proofs.act_branch.Met as act-branch-thm
+use Rattle.run_classes.proofs.act_branch as act-branch
+use Rattle.run_classes.proofs.act_branch.Symbol as act-branch-def
+use Rattle.run_classes.proofs.act_branch.Symbol.{name as #act-branch}
+use Rattle.run_classes.proofs.act_branch.Met as act-branch-thm
 use Rattle.run_cells.proofs.do_constant as do-constant
 use Rattle.run_cells.proofs.do_constant.Symbol as do-constant-def
 use Rattle.run_cells.proofs.do_constant.Symbol.{name as #do-constant}
@@ -312,13 +312,13 @@ acted-spec 𝓤 H 𝓜 𝓖 𝓡 =
     entered 𝓤 H (tripleOf 𝓤 H (𝓖 .A) f.signature (f.spec 𝓤 H (𝓖 .A) (𝓜 .mem) (𝓡 .run)))
     (tables 𝓤 H 𝓜 𝓡 mine.env .C) (tables 𝓤 H 𝓜 𝓡 mine.env .Λ) #me mine.function (mine.unfolded 𝓤 H 𝓜 𝓡)
     (meets 𝓤 H (𝓖 .A) (givenOf 𝓤 H 𝓜 𝓖) (𝓜 .mem) (𝓡 .run) (tablesOf 𝓤 H 𝓜 (tables 𝓤 H 𝓜 𝓡 mine.env))
-    (cited 𝓤 H (Calls-class-of 𝓤 H (𝓖 .A) (𝓜 .mem) (𝓡 .run)) 𝓜 𝓡 mine.env #class-of class-of-def.routine mine.calls-run-cells·class-of (class-of-thm.met 𝓤 H 𝓜 𝓖 𝓡))
+    (cited 𝓤 H (Calls-class-of 𝓤 H (𝓖 .A) (𝓜 .mem) (𝓡 .run)) 𝓜 𝓡 mine.env #class-of class-of-def.routine mine.calls-run-classes·class-of (class-of-thm.met 𝓤 H 𝓜 𝓖 𝓡))
     (cited 𝓤 H (Calls-only-hops 𝓤 H (𝓖 .A) (𝓜 .mem) (𝓡 .run)) 𝓜 𝓡 mine.env #only-hops only-hops-def.routine mine.calls-chain-step·acted·only-hops (only-hops-thm.met 𝓤 H 𝓜 𝓖 𝓡))
     (cited 𝓤 H (Calls-follow 𝓤 H (𝓖 .A) (𝓜 .mem) (𝓡 .run)) 𝓜 𝓡 mine.env #follow follow-def.routine mine.calls-chain-records·follow (follow-thm.met 𝓤 H 𝓜 𝓖 𝓡))
-    (cited 𝓤 H (Calls-act-one 𝓤 H (𝓖 .A) (𝓜 .mem) (𝓡 .run)) 𝓜 𝓡 mine.env #act-one act-one-def.routine mine.calls-run-cells·act-one (act-one-thm.met 𝓤 H 𝓜 𝓖 𝓡))
+    (cited 𝓤 H (Calls-act-one 𝓤 H (𝓖 .A) (𝓜 .mem) (𝓡 .run)) 𝓜 𝓡 mine.env #act-one act-one-def.routine mine.calls-run-classes·act-one (act-one-thm.met 𝓤 H 𝓜 𝓖 𝓡))
     (cited 𝓤 H (Calls-came-to 𝓤 H (𝓖 .A) (𝓜 .mem) (𝓡 .run)) 𝓜 𝓡 mine.env #came-to came-to-def.routine mine.calls-chain-step·turn·came-to (came-to-thm.met 𝓤 H 𝓜 𝓖 𝓡))
     (cited 𝓤 H (Calls-first-cell 𝓤 H (𝓖 .A) (𝓜 .mem) (𝓡 .run)) 𝓜 𝓡 mine.env #first-cell first-cell-def.routine mine.calls-chain-links·first-cell (first-cell-thm.met 𝓤 H 𝓜 𝓖 𝓡))
-    (cited 𝓤 H (Calls-act-branch 𝓤 H (𝓖 .A) (𝓜 .mem) (𝓡 .run)) 𝓜 𝓡 mine.env #act-branch act-branch-def.routine mine.calls-run-cells·act-branch (act-branch-thm.met 𝓤 H 𝓜 𝓖 𝓡))
+    (cited 𝓤 H (Calls-act-branch 𝓤 H (𝓖 .A) (𝓜 .mem) (𝓡 .run)) 𝓜 𝓡 mine.env #act-branch act-branch-def.routine mine.calls-run-classes·act-branch (act-branch-thm.met 𝓤 H 𝓜 𝓖 𝓡))
     (cited 𝓤 H (Calls-do-constant 𝓤 H (𝓖 .A) (𝓜 .mem) (𝓡 .run)) 𝓜 𝓡 mine.env #do-constant do-constant-def.routine mine.calls-run-cells·do-constant (do-constant-thm.met 𝓤 H 𝓜 𝓖 𝓡))
     (cited 𝓤 H (Calls-tabled 𝓤 H (𝓖 .A) (𝓜 .mem) (𝓡 .run)) 𝓜 𝓡 mine.env #tabled tabled-def.routine mine.calls-chain-step·tabled·tabled (tabled-thm.met 𝓤 H 𝓜 𝓖 𝓡))
     (cited 𝓤 H (Calls-summed 𝓤 H (𝓖 .A) (𝓜 .mem) (𝓡 .run)) 𝓜 𝓡 mine.env #summed summed-def.routine mine.calls-chain-step·summed·summed (summed-thm.met 𝓤 H 𝓜 𝓖 𝓡)))

@@ -51,10 +51,10 @@ use Rattle.chain_links.proofs.first_cell as first-cell
 use Rattle.chain_links.proofs.first_cell.Symbol as first-cell-def
 use Rattle.chain_links.proofs.first_cell.Symbol.{name as #first-cell}
 use Rattle.chain_links.proofs.first_cell.Met as first-cell-thm
-use Rattle.run_cells.proofs.act_pair as act-pair
-use Rattle.run_cells.proofs.act_pair.Symbol as act-pair-def
-use Rattle.run_cells.proofs.act_pair.Symbol.{name as #act-pair}
-use Rattle.run_cells.proofs.act_pair.Met as act-pair-thm
+use Rattle.run_classes.proofs.act_pair as act-pair
+use Rattle.run_classes.proofs.act_pair.Symbol as act-pair-def
+use Rattle.run_classes.proofs.act_pair.Symbol.{name as #act-pair}
+use Rattle.run_classes.proofs.act_pair.Met as act-pair-thm
 use Rattle.chain_step.proofs.turn.came_to as came-to
 use Rattle.chain_step.proofs.turn.came_to.Symbol as came-to-def
 use Rattle.chain_step.proofs.turn.came_to.Symbol.{name as #came-to}
@@ -199,6 +199,6 @@ tabled-spec 𝓤 H 𝓜 𝓖 𝓡 =
     (tables 𝓤 H 𝓜 𝓡 mine.env .C) (tables 𝓤 H 𝓜 𝓡 mine.env .Λ) #me mine.function (mine.unfolded 𝓤 H 𝓜 𝓡)
     (meets 𝓤 H (𝓖 .A) (givenOf 𝓤 H 𝓜 𝓖) (𝓜 .mem) (𝓡 .run) (tablesOf 𝓤 H 𝓜 (tables 𝓤 H 𝓜 𝓡 mine.env))
     (cited 𝓤 H (Calls-first-cell 𝓤 H (𝓖 .A) (𝓜 .mem) (𝓡 .run)) 𝓜 𝓡 mine.env #first-cell first-cell-def.routine mine.calls-chain-links·first-cell (first-cell-thm.met 𝓤 H 𝓜 𝓖 𝓡))
-    (cited 𝓤 H (Calls-act-pair 𝓤 H (𝓖 .A) (𝓜 .mem) (𝓡 .run)) 𝓜 𝓡 mine.env #act-pair act-pair-def.routine mine.calls-run-cells·act-pair (act-pair-thm.met 𝓤 H 𝓜 𝓖 𝓡))
+    (cited 𝓤 H (Calls-act-pair 𝓤 H (𝓖 .A) (𝓜 .mem) (𝓡 .run)) 𝓜 𝓡 mine.env #act-pair act-pair-def.routine mine.calls-run-classes·act-pair (act-pair-thm.met 𝓤 H 𝓜 𝓖 𝓡))
     (cited 𝓤 H (Calls-came-to 𝓤 H (𝓖 .A) (𝓜 .mem) (𝓡 .run)) 𝓜 𝓡 mine.env #came-to came-to-def.routine mine.calls-chain-step·turn·came-to (came-to-thm.met 𝓤 H 𝓜 𝓖 𝓡))
     (cited 𝓤 H (Calls-do-query 𝓤 H (𝓖 .A) (𝓜 .mem) (𝓡 .run)) 𝓜 𝓡 mine.env #do-query do-query-def.routine mine.calls-run-cells·do-query (do-query-thm.met 𝓤 H 𝓜 𝓖 𝓡)))

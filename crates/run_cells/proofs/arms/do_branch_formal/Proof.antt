@@ -4,7 +4,7 @@ use mathlib.Core.Path.{_≡_, sym, ap, _∙_}
 use native.Mathlib.Omega.{arith}
 use Rattle.resolved.specs.Resolved.{direct}
 use Rattle.run_statements.specs.Words.{is-zero, not-zero, is-direct, is-formal}
-use Rattle.run_cells.specs.Asking.{wordAfter}
+use Rattle.run_cells.specs.Calling.{wordAfter}
 use Rattle.run_cells.specs.Cells.{goto-own, stays-at, goes-at}
 use borrow.Author.Needs.{needs}
 use Rattle.run_cells.proofs.arms.do_branch_formal.Statement.{statement}

@@ -10,9 +10,9 @@ use Rattle.run_moves.specs.Acting.{sceneBy}
 use Rattle.resolved.specs.Layout.{formalsIn, activationIn, cellIn, leadIn}
 use Rattle.run_statements.specs.Doing.{number-differs, number-same, call-refused}
 use Rattle.steps.specs.Finding.{byFirst}
-use Rattle.run_cells.specs.Asking.{wordAfter}
+use Rattle.run_cells.specs.Calling.{wordAfter}
 use Rattle.run_cells.specs.Cells.{home-held, target-held}
-use Rattle.run_cells.specs.Moves.{call-formal-move}
+use Rattle.run_cells.specs.Calling.{call-formal-move}
 use borrow.Author.Needs.{needs}
 use Rattle.run_cells.proofs.arms.do_call_formal.Statement.{statement}
 use Rattle.run_cells.proofs.arms.do_call_formal.Tie as tie

@@ -1,5 +1,5 @@
 -- `enter_body` meets its contract.
-use Rattle.run_cells.specs.Moves.{call-stops, call-enters}
+use Rattle.run_cells.specs.Calling.{call-stops, call-enters}
 use borrow.Author.Needs.{needs}
 use Rattle.run_cells.proofs.arms.enter_body.Statement.{statement}
 use Rattle.run_cells.proofs.arms.enter_body.Tie as tie

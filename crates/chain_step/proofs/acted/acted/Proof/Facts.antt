@@ -9,7 +9,7 @@ use Rattle.arrays.specs.Names.{follow as follows}
 use Rattle.chain_records.specs.declared.Activation.{Activation}
 use Rattle.run_moves.specs.declared.Move.{Move}
 use Rattle.run_moves.specs.Acting.{opOf}
-use Rattle.run_cells.specs.Asking.{Leads, Did, classOf, oneClass, branchClass, constantClass}
+use Rattle.run_classes.specs.Asking.{Leads, Did, classOf, oneClass, branchClass, constantClass}
 use Rattle.run_state.specs.declared.Registers.{Registers}
 use Rattle.chain_links.specs.Records.{linksIn, as-linked, hop-follows}
 use Rattle.chain_links.specs.Finding.{firstCell}

@@ -9,8 +9,9 @@ use Rattle.chain_step.specs.Acted.{Stating, Does, happening, onlyHops, T
 use Rattle.chain_step.specs.Moved.{movedBy}
 use Rattle.resolved.specs.Layout.{operationIn}
 use Rattle.resolved.specs.Resolved.{levelIn}
-use Rattle.run_cells.specs.Asking.{classOf, Ready, oneClass, Did, Leads, branchClass, wordAfter}
+use Rattle.run_cells.specs.Calling.{wordAfter}
 use Rattle.run_cells.specs.Finding.{Direct}
+use Rattle.run_classes.specs.Asking.{classOf, Ready, oneClass, Did, Leads, branchClass}
 use Rattle.run_moves.specs.Acting.{opOf, acting, sceneBy, doConstant}
 use Rattle.run_statements.specs.Pieces.{only-cells}
 use Rattle.steps.specs.Finding.{byFirst}

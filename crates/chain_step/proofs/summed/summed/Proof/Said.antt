@@ -7,7 +7,7 @@ use Rattle.chain_step.proofs.Rows.{moveds, moves}
 use Rattle.chain_step.specs.Acted.{Summing, Does, happening}
 use Rattle.chain_step.specs.Moved.{movedBy}
 use Rattle.language.specs.Text.{plus, less, minus}
-use Rattle.run_cells.specs.Asking.{wordAfter}
+use Rattle.run_cells.specs.Calling.{wordAfter}
 use Rattle.run_cells.specs.Finding.{Direct, Reachable}
 use Rattle.run_moves.specs.Acting.{doArithmetic, operationOf}
 use Rattle.run_statements.specs.Pieces.{only-cells}

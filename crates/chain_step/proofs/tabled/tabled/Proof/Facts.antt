@@ -8,7 +8,7 @@ use lib.ListN.{getD}
 use Rattle.chain_records.specs.declared.Activation.{Activation}
 use Rattle.run_moves.specs.declared.Move.{Move}
 use Rattle.run_moves.specs.Acting.{opOf}
-use Rattle.run_cells.specs.Asking.{Leads, Did, classOf, pairClass}
+use Rattle.run_classes.specs.Asking.{Leads, Did, classOf, pairClass}
 use Rattle.run_state.specs.declared.Registers.{Registers}
 use Rattle.chain_links.specs.Finding.{firstCell}
 use Rattle.chain_step.specs.declared.turn.Moved.{Moved}

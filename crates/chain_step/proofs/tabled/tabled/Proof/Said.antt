@@ -6,8 +6,9 @@ use Rattle.chain_links.specs.Finding.{Named, firstCell}
 use Rattle.chain_step.proofs.Rows.{moveds, moves}
 use Rattle.chain_step.specs.Acted.{Tabling, Does, happening}
 use Rattle.chain_step.specs.Moved.{movedBy}
-use Rattle.run_cells.specs.Asking.{Ready, classOf, pairClass, Did, Leads, wordAfter}
+use Rattle.run_cells.specs.Calling.{wordAfter}
 use Rattle.run_cells.specs.Finding.{Reachable}
+use Rattle.run_classes.specs.Asking.{Ready, classOf, pairClass, Did, Leads}
 use Rattle.run_moves.specs.Acting.{opOf, acting, sceneBy, doQuery}
 use Rattle.run_statements.specs.Pieces.{only-cells}
 use Rattle.steps.specs.Finding.{byFirst}

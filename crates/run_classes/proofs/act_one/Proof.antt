@@ -5,13 +5,14 @@ use lib.ListN.{getD}
 use Rattle.run_moves.specs.Acting.{Finding, Scene, sceneBy, Op, goto-op, block-op, call-op, constant-formal-op, goto-formal-op, call-formal-op}
 use Rattle.run_moves.specs.Acting.{operations, opOf, happens}
 use Rattle.steps.specs.Finding.{byFirst}
-use Rattle.run_cells.specs.Asking.{wordAfter, Ready, Leads}
+use Rattle.run_cells.specs.Calling.{wordAfter}
+use Rattle.run_classes.specs.Asking.{Ready, Leads}
 use Rattle.run_cells.specs.Cells.{home-own, target-own, goto-own}
-use Rattle.run_cells.specs.Moves.{did, constant-did, goto-did, block-did, call-did, call-formal-did}
-use Rattle.run_cells.specs.Classes.{numbered, op-at, call-left}
+use Rattle.run_classes.specs.Moves.{did, constant-did, goto-did, block-did, call-did, call-formal-did}
+use Rattle.run_classes.specs.Classes.{numbered, op-at, call-left}
 use borrow.Author.Needs.{needs}
-use Rattle.run_cells.proofs.classes.act_one.Statement.{statement}
-use Rattle.run_cells.proofs.classes.act_one.Tie as tie
+use Rattle.run_classes.proofs.act_one.Statement.{statement}
+use Rattle.run_classes.proofs.act_one.Tie as tie
 
 abbrev way : tie.Start → (ℕ → ℕ) → Finding
 way s firstOf = byFirst (s .args .cells .now) firstOf

@@ -1,16 +1,6 @@
 // The statements in classes: those of a class have as many names, and a function of their own that is handed the first cells of the activations that
 // declare these. The statement at a place is done as far as cells go; where the run goes on is the answer. A call's arguments are not handed on
 // yet.
-use super::CLASS_ADD;
-use super::CLASS_ARITHMETIC_FORMAL;
-use super::CLASS_BRANCH;
-use super::CLASS_COMPARE;
-use super::CLASS_CONSTANT;
-use super::CLASS_ONE;
-use super::CLASS_PAIR;
-use super::CLASS_QUERY;
-use super::CLASS_SUBTRACT;
-use super::arms;
 use layout::operation_of;
 use run_moves::Ask;
 use run_moves::Move;
@@ -20,7 +10,27 @@ ghost use Prim.Native.Nat.{ℕ, _<_};
 ghost use lib.ListN.{getD};
 ghost use Rattle.run_moves.specs.Acting.{sceneBy, acting, opOf};
 ghost use Rattle.steps.specs.Finding.{byFirst};
-ghost use Rattle.run_cells.specs.Asking.{Ready, Leads, Did, oneClass, branchClass, pairClass, classOf};
+ghost use Rattle.run_classes.specs.Asking.{Ready, Leads, Did, oneClass, branchClass, pairClass, classOf};
+
+// The classes of statements: GO, BK, CL, and KN of a formal; AR where no name is a formal, by its operation, and AR where one is; IF; AD and RM; QY; KN of
+// no formal. What is done most has a class of its own, so that one jump leads to it.
+pub const CLASS_ONE: usize = 0;
+
+pub const CLASS_ADD: usize = 1;
+
+pub const CLASS_SUBTRACT: usize = 2;
+
+pub const CLASS_COMPARE: usize = 3;
+
+pub const CLASS_ARITHMETIC_FORMAL: usize = 4;
+
+pub const CLASS_BRANCH: usize = 5;
+
+pub const CLASS_PAIR: usize = 6;
+
+pub const CLASS_QUERY: usize = 7;
+
+pub const CLASS_CONSTANT: usize = 8;
 
 // The class of the statement at a place. Each operation is named but CALL_FORMAL, which is what is left of sixteen: a range needs no test then.
 pub fn class_of(code: &[u32; 4096], at: usize) -> usize
@@ -63,12 +73,12 @@ pub fn act_one(
         (now (cells .entry)) r (now (cells .exit))) ⌝ }
 {
     match operation_of(code_at(code, at)) {
-        layout::GOTO => arms::do_goto(code, at, first),
+        layout::GOTO => run_cells::do_goto(code, at, first),
         layout::BLOCK => run_statements::do_block(code, activations, live, at),
-        layout::CALL => arms::do_call(code, activations, live, at, first),
-        layout::CONSTANT_FORMAL => arms::do_constant_formal(code, cells, at, first),
-        layout::GOTO_FORMAL => arms::do_goto_formal(code, cells, at, first),
-        _ => arms::do_call_formal(code, cells, activations, live, at, first),
+        layout::CALL => run_cells::do_call(code, activations, live, at, first),
+        layout::CONSTANT_FORMAL => run_cells::do_constant_formal(code, cells, at, first),
+        layout::GOTO_FORMAL => run_cells::do_goto_formal(code, cells, at, first),
+        _ => run_cells::do_call_formal(code, cells, activations, live, at, first),
     }
 }
 
@@ -87,8 +97,8 @@ pub fn act_branch(
         (now (cells .entry)) r (now (cells .entry))) ⌝ }
 {
     match operation_of(code_at(code, at)) {
-        layout::BRANCH => arms::do_branch(code, cells, at, first, second),
-        _ => arms::do_branch_formal(code, cells, at, first, second),
+        layout::BRANCH => run_cells::do_branch(code, cells, at, first, second),
+        _ => run_cells::do_branch_formal(code, cells, at, first, second),
     }
 }
 
@@ -107,7 +117,7 @@ pub fn act_pair(
         (now (cells .entry)) r (now (cells .entry))) ⌝ }
 {
     match operation_of(code_at(code, at)) {
-        layout::ADD_PAIR => arms::do_change(code, cells, at, first, second, Ask::Add),
-        _ => arms::do_change(code, cells, at, first, second, Ask::Remove),
+        layout::ADD_PAIR => run_cells::do_change(code, cells, at, first, second, Ask::Add),
+        _ => run_cells::do_change(code, cells, at, first, second, Ask::Remove),
     }
 }

@@ -1,17 +1,14 @@
 -- What a statement's function says of its move and words is what the statement does, but for a call's arguments, which are not handed on yet:
 -- the laws that end in `-did`, one for each function.
-use Prim.Native.Nat.{ℕ, _+_, _≤_, _<_}
-use native.Mathlib.Omega.{arith}
+use Prim.Native.Nat.{ℕ, _+_}
 use mathlib.Core.Bool.{Bool, true, false}
 use mathlib.Core.List.{List}
-use mathlib.Core.Path.{_≡_, refl, ap, ap₂, _∙_, subst}
-use borrow.Author.Tests.{le-leb, lt-leb}
+use mathlib.Core.Path.{_≡_, refl, ap, _∙_, subst}
 use lib.Dec.{leb}
 use lib.IntN.{ℤ}
 use lib.ListN.{getD}
 use Rattle.language.specs.Machine.{compute}
 use Rattle.language.specs.Text.{Operation}
-use Rattle.language.specs.declared.Stop.the-variants.{NoActivationLeft}
 use Rattle.run_moves.specs.declared.Effect.{Effect}
 use Rattle.run_moves.specs.declared.Effect.the-variants.{Done as Stored, Stopped as Refused}
 use Rattle.run_moves.specs.declared.Ask.{Ask}
@@ -23,20 +20,10 @@ use Rattle.run_moves.specs.Acting.{noRoom, doBlock, doCall, argumentsAgree, doC
 use Rattle.run_moves.specs.Acting.{happens, acting}
 use Rattle.run_moves.specs.Acting.{sceneBy}
 use Rattle.run_statements.specs.Pieces.{only-cells, blockMove}
-use Rattle.run_statements.specs.Doing.{call-agreed}
 use Rattle.run_statements.specs.Scenes.{Done, constant-same, arithmetic-same, goto-same, branch-same, block-same, call-formal-same, change-same}
 use Rattle.run_statements.specs.Scenes.{query-same, acts}
-use Rattle.run_cells.specs.Asking.{wordAfter, unhanded, Did, callMove}
-
--- 22, or the procedure is entered
-module _ (code : List ℕ) (activations live at home body : ℕ) where
-  pub call-stops : activations ≤ live + 1 → Stop NoActivationLeft ≡ callMove code activations live at home body
-  unfolding callMove
-  call-stops h = let e = le-leb activations (live + 1) h in rw (callMove, e)
-
-  pub call-enters : live + 1 < activations → {count : ℕ} → count ≡ wordAfter code at 2 → Enter body home (at + 3 + count) ≡ callMove code activations live at home body
-  unfolding callMove
-  call-enters h c = let e = lt-leb activations (live + 1) h in rw (callMove, e, c)
+use Rattle.run_cells.specs.Calling.{callMove, call-move}
+use Rattle.run_classes.specs.Asking.{unhanded, Did}
 
 -- where the words stay there is nothing to hand on
 unhanded-same : (m : Move) (cells : List ℤ) → cells ≡ unhanded m cells cells
@@ -106,22 +93,6 @@ module _ (F : Finding) (s : Scene) where
   abbrev full : Bool
   full = leb (s .activations) (s .live + 1)
 
-  call-is : moveTo (F .home (field s 1)) (F .target (field s 1)) ≡ doCall F s .move
-  unfolding doCall noRoom rewrites moves callMove
-  call-is = go full refl
-    where
-      go : (b : Bool) → full ≡ b → moveTo (F .home (field s 1)) (F .target (field s 1)) ≡ doCall F s .move
-      go true e = rw (e, callMove, doCall)
-      go false e = rw (e, callMove, doCall)
-
-  pub call-move : {home body : ℕ} {r : Move} → home ≡ F .home (field s 1) → body ≡ F .target (field s 1) → r ≡ moveTo home body → r ≡ doCall F s .move
-  call-move p q e = e ∙ ap₂ moveTo p q ∙ call-is
-
-  pub call-formal-move :
-      {home body : ℕ} {r : Move} → home ≡ F .home (field s 1) → body ≡ F .target (field s 1) → argumentsAgree F s body ≡ true → r ≡ moveTo home body →
-      r ≡ doCallFormal F s .move
-  call-formal-move p q a e = call-move p q e ∙ ap (λ (x : Happened). x .move) (call-agreed F s q a)
-
   abbrev Waits : Happened → Type 0
   Waits h = s .cells ≡ unhanded (h .move) (s .cells) (h .cells)
 
@@ -144,7 +115,7 @@ module _ (F : Finding) (s : Scene) where
   pub call-did :
       {home body : ℕ} {r : Move} → home ≡ F .home (field s 1) → body ≡ F .target (field s 1) → r ≡ moveTo home body →
       Did (doCall F s) (s .cells) r (s .cells)
-  call-did p q e = (call-move p q e, call-waits)
+  call-did p q e = (call-move F s p q e, call-waits)
 
   pub call-formal-did : {r : Move} → r ≡ doCallFormal F t .move → Did (doCallFormal F s) (s .cells) r (s .cells)
   call-formal-did {r} e = (call-formal-same F s r (doCallFormal F t .cells) e refl .0, call-formal-waits)

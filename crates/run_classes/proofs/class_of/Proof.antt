@@ -3,11 +3,11 @@ use Prim.Native.Nat.{ℕ}
 use mathlib.Core.Path.{_≡_}
 use lib.ListN.{getD}
 use Rattle.run_moves.specs.Acting.{operations, opOf}
-use Rattle.run_cells.specs.Asking.{classOf}
-use Rattle.run_cells.specs.Classes.{numbered, class-at, one-left}
+use Rattle.run_classes.specs.Asking.{classOf}
+use Rattle.run_classes.specs.Classes.{numbered, class-at, one-left}
 use borrow.Author.Needs.{needs}
-use Rattle.run_cells.proofs.classes.class_of.Statement.{statement}
-use Rattle.run_cells.proofs.classes.class_of.Tie as tie
+use Rattle.run_classes.proofs.class_of.Statement.{statement}
+use Rattle.run_classes.proofs.class_of.Tie as tie
 
 abbrev classAt : tie.After-operation-of → ℕ
 classAt o = let s = o .before .before .args in classOf (opOf (getD (s .code .now) (s .at) 0))

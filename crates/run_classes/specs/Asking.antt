@@ -2,13 +2,9 @@
 -- operation (`Ready`), when a way of finding names is the one by which the cells were found (`Leads`), and what it has then done (`Did`). A call's arguments
 -- are not handed on yet.
 use Prim.Native.Nat.{ℕ, _+_, _≤_}
-use mathlib.Core.Bool.{true, false}
 use mathlib.Core.List.{List}
 use mathlib.Core.Path.{_≡_}
-use lib.Dec.{leb}
 use lib.IntN.{ℤ}
-use lib.ListN.{getD}
-use Rattle.language.specs.declared.Stop.the-variants.{NoActivationLeft}
 use Rattle.arrays.specs.Found.{heldBy}
 use Rattle.run_moves.specs.declared.Move.{Move}
 use Rattle.run_moves.specs.declared.Move.the-variants.{On, Table as Asks, Jump, Enter, Stop}
@@ -17,18 +13,8 @@ use Rattle.run_moves.specs.Acting.{Op, constant-op, add-op, subtract-op, compar
 use Rattle.run_moves.specs.Acting.{constant-formal-op, arithmetic-formal-op, branch-formal-op, goto-formal-op, call-formal-op}
 use Rattle.resolved.specs.Layout.{leadIn}
 use Rattle.run_statements.specs.Pieces.{FormalsBefore}
 use Rattle.run_cells.specs.Finding.{Reachable, Direct, ThroughFormal}
-
--- the word so many fields after the operation
-abbrev pub wordAfter : List ℕ → ℕ → ℕ → ℕ
-wordAfter code at i = getD code (at + i) 0
-
--- room for one activation more is tested as it is used, and the arguments stand in the script
-pub record Calling (code : List ℕ) (activations live at : ℕ) : Type 0 where
-  pub activations-high : activations ≤ 256
-  pub live-few : live ≤ 255
-  pub few : wordAfter code at 2 ≤ 32
-  pub there : at + 3 + wordAfter code at 2 ≤ 4096
+use Rattle.run_cells.specs.Calling.{wordAfter, Calling}
 
 module _ (code : List ℕ) (cells : List ℤ) (activations live at first second third : ℕ) where
   abbrev pub Ready : Op → Type 0
@@ -94,11 +80,6 @@ unhanded (Stop c) cells cells′ = cells′
 
 abbrev pub Did : Happened → List ℤ → Move → List ℤ → Type 0
 Did h cells r cells′ = (r ≡ h .move) × (cells′ ≡ unhanded (h .move) cells (h .cells))
-
--- a call of the procedure that activation `home` declares and whose body stands at a place: 22, or it is entered
-unfoldable pub callMove : List ℕ → ℕ → ℕ → ℕ → ℕ → ℕ → Move
-callMove code activations live at home body =
-    elim (leb activations (live + 1)) [ true ↦ Stop NoActivationLeft | false ↦ Enter body home (at + 3 + wordAfter code at 2) ]
 
 -- The classes: GO, BK, CL, and KN of a formal; AR of which none is a formal, by its operation, and AR of which one is; IF; AD and RM; QY; KN of no formal.
 abbrev pub oneClass : ℕ

@@ -12,7 +12,7 @@ use Rattle.laws.specs.Tests.{split, both}
 use Rattle.run_moves.specs.Acting.{Op, constant-op, unpair-op, branch-formal-op, call-formal-op, operations, opOf}
 use Rattle.resolved.specs.Layout.{operationIn}
 use Rattle.run_statements.specs.Numbers.{op-of}
-use Rattle.run_cells.specs.Asking.{oneClass, addClass, subtractClass, compareClass, arithmeticFormalClass, branchClass, pairClass, queryClass, constantClass, classOf}
+use Rattle.run_classes.specs.Asking.{oneClass, addClass, subtractClass, compareClass, arithmeticFormalClass, branchClass, pairClass, queryClass, constantClass, classOf}
 
 -- none of these numbers: those that a match names, its last one first
 abbrev pub NoneOf : List ℕ → ℕ → Type 0
