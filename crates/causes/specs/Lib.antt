@@ -1,1 +1,4 @@
 pub mod Sites
+pub mod FormalSites
+pub mod FormalStops
+pub mod FormalCalls
