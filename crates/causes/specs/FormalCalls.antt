@@ -30,6 +30,7 @@ use Rattle.coordinates.specs.Sound.{Sound, accepted-keeps-rules, call-sound}
 use Rattle.coordinates.specs.Called.{differing-formal}
 use Rattle.causes.specs.Sites.{Sees}
 use Rattle.causes.specs.FormalSites.{StandsAt, stands-sees, NearestFormal, formal-nearest}
+use Rattle.causes.specs.FormalSettled.{sees-once}
 use Rattle.causes.specs.FormalStops.{run-stopped, CallDiffers, step-differs}
 
 -- The CL at offset o of the program t calls a formal: what is called means a procedure there and does not say what it takes; and of the blocks around
@@ -39,6 +40,8 @@ pub record CallsFormal (t : Block) (o : ℕ) : Type 0 where
   pub arguments : List ℕ
   pub scope : Scope
   pub seen : Sees t [] [] o (CL called arguments) scope
+  -- no other action stands at o
+  pub alone : (a : Action) (sc : Scope) → Sees t [] [] o a sc → (CL called arguments ≡ a) × (scope ≡ sc)
   pub meaning : Meaning
   pub means : lookup called scope ≡ some meaning
   pub kind : meaning .kind ≡ procedure
@@ -64,12 +67,14 @@ module _ (l : Limits) (t : Block) (keeps : Keeps t) (s : Stack) (sound : Sound l
       let is = (statement-scoped t keeps (s .frames) (sound .chained) (c .caller) (c .at) action (c .innermost) (c .statement)) .called in
       let takes = differing-formal l t keeps s sound (c .caller) (c .innermost) (c .at) (c .called) (c .arguments) (c .statement) (c .procedure) (c .designated) (c .differ) (is .0) (is .1) in
       let stands = next-stands t (s .frames) (sound .chained) (c .caller) (c .at) action (c .innermost) (c .statement) in
+      let seen = stands-sees t around (c .at) action stands in
       let f = formal-nearest around (c .called) (is .0) (is .1) (is .2) takes in
       record {
         called = c .called;
         arguments = c .arguments;
         scope = scopeOf around;
-        seen = stands-sees t around (c .at) action stands;
+        seen = seen;
+        alone = λ a sc h. sees-once t keeps (c .at) action a (scopeOf around) sc seen h;
         meaning = is .0;
         means = is .1;
         kind = is .2;
@@ -81,6 +86,7 @@ module _ (l : Limits) (t : Block) (keeps : Keeps t) (s : Stack) (sound : Sound l
         gives = f .gives;
       }
 
+-- what is to be shown of a reply
 abbrev Told : Fed → Reply → Type 0
 Told f r = r .answer .end ≡ Stopped ArgumentsDiffer → (t : Block) × (check (f .script) ≡ accepted t) × CallsFormal t (r .answer .offset)
 

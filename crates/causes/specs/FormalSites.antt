@@ -31,7 +31,7 @@ pub data NearestFormal (p : ℕ) (f : Formal) : Enclosure → Type 0 where
 
 -- From the innermost block out to the program
 
-inside-meanings : (fs : List Formal) (at : ℕ) (ds : Decls) (ss : Stmts) (around : Scope) → meaningsOf (enclosed fs (block at ds ss)) ++ around ≡ inside fs ds around
+pub inside-meanings : (fs : List Formal) (at : ℕ) (ds : Decls) (ss : Stmts) (around : Scope) → meaningsOf (enclosed fs (block at ds ss)) ++ around ≡ inside fs ds around
 unfolding inside meaningsOf blockDecls
 inside-meanings fs at ds ss around = append-assoc (map formalMeaning fs) (map declMeaning (decls ds)) around
 

@@ -56,7 +56,8 @@ acts-not e q = let z : _≡_ {A = ℕ} 0 1 = cc in absurd (omega arith)
 cause-not : {X : Type 0} {r : Acted} (c : Stop) → stopNumber c ≢ 26 → r ≡ halted c → r ≡ halted ArgumentsDiffer → X
 cause-not c h e q = let same : c ≡ ArgumentsDiffer = cc in absurd (h (ap stopNumber same))
 
-abbrev pub Differing : Stack → Action → Type 0
+-- a CL, its names found, whose arguments differ
+abbrev Differing : Stack → Action → Type 0
 Differing s (CL p xs) = (d : Decl) × (declOf (s .frames) p ≡ some d) × (agree (formalKinds (declFormals d)) (map (kindOf (s .frames)) xs) ≡ false)
 Differing s (GO x) = ⊥
 Differing s (IF v x) = ⊥
