@@ -1,1 +1,5 @@
 pub mod Sites
+pub mod FormalSites
+pub mod FormalStops
+pub mod FormalSettled
+pub mod FormalCalls
