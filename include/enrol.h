@@ -12,10 +12,10 @@
  * holds nothing between calls, so calls on different threads do not disturb each other. A call needs less than 512 KiB
  * of stack.
  *
- * A lent slice is a pointer and a length. The pointer is not null, even where the length is 0; nothing else writes to
- * the slice during the call; what a call may write to (table, sheet, area, records, answer) overlaps nothing else that
- * it is lent. Beyond that nothing is asked: any bytes, words and numbers may be handed in, and what does not fit is
- * refused.
+ * A lent slice is a pointer and a length. No pointer is null: a slice's is not, even where the length is 0, and an
+ * answer's is not either. Nothing else writes to what is lent during the call; what a call may write to (table, sheet,
+ * area, records, answer) overlaps nothing else that it is lent. Beyond that nothing is asked: any bytes, words and
+ * numbers may be handed in, and what does not fit is refused.
  */
 #ifndef ENROL_H
 #define ENROL_H

@@ -1,8 +1,6 @@
 //! Runs a reported case again, a call as one line or a script in hex, and prints what each
 //! implementation makes of it.
 
-#[cfg(feature = "enrol")]
-use differential::call::Engine;
 use differential::call::{Call, Verdict};
 use differential::listing::listing;
 use differential::parties::{copy_rule, fast};
@@ -34,7 +32,7 @@ fn checks(script: &[u8]) {
 
 fn runs(call: &Call) {
     #[cfg(feature = "enrol")]
-    let library = (call.engine == Engine::Display).then(differential::parties::library);
+    let library = Some(differential::parties::library());
     #[cfg(not(feature = "enrol"))]
     let library = None;
     for party in [copy_rule(), fast()].into_iter().chain(library) {
