@@ -1,1 +1,4 @@
 pub mod Sites
+pub mod Places
+pub mod Faults
+pub mod Blaming
