@@ -28,7 +28,7 @@ unfoldable pub table : {M : Type 0} → List (Row M) → List (ℕ × ℕ)
 table [] = []
 table (r ∷ rs) = (r .letters, r .count) ∷ table rs
 
-yields-any : {A : Type 0} (x : Reading A) → Yields (λ a o ws. Unit {0}) x
+pub yields-any : {A : Type 0} (x : Reading A) → Yields (λ a o ws. Unit {0}) x
 yields-any (read a o ws) = tt
 yields-any (refuse c o) = tt
 

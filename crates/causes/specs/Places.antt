@@ -57,17 +57,17 @@ pub record Heads (fs : List Formal) (ds : List Decl) (n p : ℕ) (here : ℕ) (g
   pub formed : FormedFormals gs (here + 6)
 
 pub data Before : List ℕ → Place → Type 0 where
-  start : Before [] (block-due 1 [])
-  declaration : {ws : List ℕ} {place : Place} {level : ℕ} {fs : List Formal} (d s : ℕ) (ds : Decls) → Before ws place → opens place ≡ some (level, fs)
+  at-start : Before [] (block-due 1 [])
+  at-declaration : {ws : List ℕ} {place : Place} {level : ℕ} {fs : List Formal} (d s : ℕ) (ds : Decls) → Before ws place → opens place ≡ some (level, fs)
       → Opened level d s fs (2 * length ws) ds → length (decls ds) < d
       → Before (ws ++ (BK-mark ∷ d ∷ s ∷ declsFields ds)) (decl-due level s fs (decls ds))
-  statement : {ws : List ℕ} {place : Place} {level : ℕ} {fs : List Formal} (d s : ℕ) (ds : Decls) (ss : Stmts) → Before ws place → opens place ≡ some (level, fs)
+  at-statement : {ws : List ℕ} {place : Place} {level : ℕ} {fs : List Formal} (d s : ℕ) (ds : Decls) (ss : Stmts) → Before ws place → opens place ≡ some (level, fs)
       → Opened level d s fs (2 * length ws) ds → length (decls ds) ≡ d
       → FormedStmts ss level (2 * length ws + 6 + 2 * length (declsFields ds)) → length (stmts ss) < s
       → Before (ws ++ (BK-mark ∷ d ∷ s ∷ (declsFields ds ++ stmtsFields ss))) (stmt-due level)
-  formal : {ws : List ℕ} {level s : ℕ} {fs : List Formal} {ds : List Decl} (n p : ℕ) (gs : List Formal) → Before ws (decl-due level s fs ds)
+  at-formal : {ws : List ℕ} {level s : ℕ} {fs : List Formal} {ds : List Decl} (n p : ℕ) (gs : List Formal) → Before ws (decl-due level s fs ds)
       → Heads fs ds n p (2 * length ws) gs → length gs < p
       → Before (ws ++ (PR-mark ∷ n ∷ p ∷ formalsFields gs)) (formal-due gs)
-  body : {ws : List ℕ} {level s : ℕ} {fs : List Formal} {ds : List Decl} (n p : ℕ) (gs : List Formal) → Before ws (decl-due level s fs ds)
+  at-body : {ws : List ℕ} {level s : ℕ} {fs : List Formal} {ds : List Decl} (n p : ℕ) (gs : List Formal) → Before ws (decl-due level s fs ds)
       → Heads fs ds n p (2 * length ws) gs → length gs ≡ p
       → Before (ws ++ (PR-mark ∷ n ∷ p ∷ formalsFields gs)) (block-due (suc level) gs)
