@@ -5,3 +5,6 @@ pub mod Blaming
 pub mod Growing
 pub mod Records
 pub mod Blamed
+pub mod Seeing
+pub mod Misusing
+pub mod Judging
