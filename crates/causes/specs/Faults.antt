@@ -1,6 +1,6 @@
 -- Causes and numbers: what must hold of a script, at the offset that is reported, for each of the refusals 1 to 11. No reader is in these definitions.
 -- For 2 to 8 the script's fields lead up to a record that is due (Places.antt), and `rest` are its fields from the record's mark on; where document 01
--- judges two causes of one record one after the other, the later one has that the earlier does not hold. Refusing.antt has the theorem.
+-- judges two causes of one record one after the other, the later one has that the earlier does not hold. Exact.antt has the theorem.
 use Prim.Native.Nat.{ℕ, _+_, _*_, _%_, _≤_, _<_}
 use mathlib.Core.Bool.{true, false}
 use mathlib.Core.List.{List, [], _∷_, _++_, map}

@@ -88,12 +88,12 @@ more-names fs ds d = ap (formalNames fs ++_) (map-snoc declName ds d) ∙ sym (a
 abbrev pub Alike : List ℕ → List ℕ → Type 0
 Alike xs ys = (m : ℕ) → among m xs ≡ among m ys
 
-among-snoc : (m n : ℕ) (ns : List ℕ) → among m (n ∷ ns) ≡ among m (ns ++ (n ∷ []))
+among-middle : (m n : ℕ) (xs ys : List ℕ) → among m (n ∷ (xs ++ ys)) ≡ among m (xs ++ (n ∷ ys))
 unfolding among
-among-snoc m n [] = refl
-among-snoc m n (x ∷ ns) = go (eqb m n) refl (eqb m x) refl (among-snoc m n ns)
+among-middle m n [] ys = refl
+among-middle m n (x ∷ xs) ys = go (eqb m n) refl (eqb m x) refl (among-middle m n xs ys)
   where
-    go : (a : Bool) → eqb m n ≡ a → (b : Bool) → eqb m x ≡ b → among m (n ∷ ns) ≡ among m (ns ++ (n ∷ [])) → among m (n ∷ x ∷ ns) ≡ among m ((x ∷ ns) ++ (n ∷ []))
+    go : (a : Bool) → eqb m n ≡ a → (b : Bool) → eqb m x ≡ b → among m (n ∷ (xs ++ ys)) ≡ among m (xs ++ (n ∷ ys)) → among m (n ∷ x ∷ (xs ++ ys)) ≡ among m ((x ∷ xs) ++ (n ∷ ys))
     go true e true f h = rw (e, f, among)
     go true e false f h = rw (e, f, among) (rw (e, among) at h)
     go false e true f h = rw (e, f, among)
@@ -103,8 +103,14 @@ among-cons : (m n : ℕ) (xs ys : List ℕ) → among m xs ≡ among m ys → am
 unfolding among
 among-cons m n xs ys e = ap (λ (t : Bool). elim (eqb m n) as (λ y. Bool) [ true ↦ true | false ↦ t ]) e
 
+pub alike-middle : (n : ℕ) (xs ys : List ℕ) → Alike (n ∷ (xs ++ ys)) (xs ++ (n ∷ ys))
+alike-middle n xs ys m = among-middle m n xs ys
+
+pub alike-end : (xs : List ℕ) → Alike xs (xs ++ [])
+alike-end xs m = ap (among m) (sym (append-nil xs))
+
 pub alike-more : (n : ℕ) (xs ys : List ℕ) → Alike xs ys → Alike (n ∷ xs) (ys ++ (n ∷ []))
-alike-more n xs ys h m = among-cons m n xs ys (h m) ∙ among-snoc m n ys
+alike-more n xs ys h m = among-cons m n xs (ys ++ []) (h m ∙ alike-end ys m) ∙ among-middle m n ys []
 
 pub distinct-more : (ns : List ℕ) (n : ℕ) → Distinct ns → among n ns ≡ false → Distinct (ns ++ (n ∷ []))
 distinct-more ns n d e = fresh-distinct ns (n ∷ []) d (e, tt)

@@ -8,3 +8,6 @@ pub mod Blamed
 pub mod Seeing
 pub mod Misusing
 pub mod Judging
+pub mod Leading
+pub mod Breaking
+pub mod Exact

@@ -69,15 +69,15 @@ write-formals (f ∷ fs) seen at ws h n =
     ∙ ap (λ (p : ℕ). read (record { at = p; name = f .name; kind = f .kind } ∷ fs) (at + 2 * length (formalsFields (f ∷ fs))) ws) (sym (h .stands))
 
 -- a block's fields after its BK
-abbrev within : Block → List ℕ
+abbrev pub within : Block → List ℕ
 within (block at ds ss) = declsFields ds ++ stmtsFields ss
 
-within-is : (b : Block) → blockFields b ≡ BK-mark ∷ length (blockDecls b) ∷ length (blockStmts b) ∷ within b
+pub within-is : (b : Block) → blockFields b ≡ BK-mark ∷ length (blockDecls b) ∷ length (blockStmts b) ∷ within b
 unfolding blockFields blockDecls blockStmts
 within-is (block at ds ss) = refl
 
 -- what is asked of a block: the reader of its level reads it
-abbrev Reads : ℕ → Block → List Formal → ℕ → Type 0
+abbrev pub Reads : ℕ → Block → List Formal → ℕ → Type 0
 Reads k b fs at =
     (ws : List ℕ) → blockWith k at (length (blockDecls b)) (length (blockStmts b)) (formalNames fs) (at + 6) (within b ++ ws)
     ≡ read b (at + 2 * length (blockFields b)) ws
@@ -215,7 +215,7 @@ formals-once (block at ds ss) level fs o h = distinct-first (formalNames fs) (ma
 mutual
   unfolding FormedBlock blockFields blockDecls blockStmts decls stmts declarations statements declName give
 
-  write-block : (t : Block) (k level : ℕ) (fs : List Formal) (at : ℕ) → level + k ≡ 17 → FormedBlock t level fs at → Reads k t fs at
+  pub write-block : (t : Block) (k level : ℕ) (fs : List Formal) (at : ℕ) → level + k ≡ 17 → FormedBlock t level fs at → Reads k t fs at
   write-block (block at ds ss) zero level fs o e h ws = absurd (omega (arith, h .nesting))
   write-block (block at ds ss) (suc k) level fs o e h ws =
       whole-block k o ds ss (formalNames fs) ws (few-names fs (length (decls ds)) (h .few))
