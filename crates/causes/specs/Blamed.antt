@@ -1,7 +1,7 @@
 -- Whatever the reader refuses, 2 to 8, is at fault where it says: each reader, where the place that it reads is due.
 use Prim.Native.Nat.{ℕ, zero, suc, _+_, _*_, _≤_, _<_}
 use native.Mathlib.Omega.{arith}
-use mathlib.Core.Bool.{Bool, true, false, not, _&&_, and-eq-true-iff}
+use mathlib.Core.Bool.{true, false, not, _&&_, and-eq-true-iff}
 use mathlib.Core.List.{List, [], _∷_, _++_, map, append-assoc, append-nil}
 use mathlib.Core.Logic.{_⊎_, inl, inr}
 use mathlib.Core.Option.{some}
@@ -10,22 +10,20 @@ use borrow.Author.Tests.{leb-true, leb-false, not-true, not-false}
 use lib.Dec.{leb}
 use lib.ListN.{length, getD, length-append, length-map}
 use Rattle.language.specs.Basics.{among}
-use Rattle.language.specs.Text.{Kind, variable, label, procedure, Formal, Block, Decl, Stmt, Decls, no-decl, decl, Stmts, no-stmt, stmt, decls, stmts, declName, formalNames}
+use Rattle.language.specs.Text.{Kind, variable, label, procedure, Formal, Block, Decl, Stmt, Decls, no-decl, Stmts, no-stmt, decls, stmts, declName, formalNames}
 use Rattle.language.specs.Encoding.{kindField, BK-mark, VR-mark, LB-mark, PR-mark, FM-mark, CL-mark, AR-mark, formalsFields, declFields, stmtFields, declsFields, stmtsFields}
 use Rattle.language.specs.Structure.{Reader, _>>=_, give, fields, isVR, isLB, isPR, isBK, isCL, isAR, blockMarks, formalMarks, declMarks, stmtMarks, take-record, formals, BlockReader, declared, declarations, action, stated, statements, blockWith, program}
-use Rattle.language.specs.declared.Refusal.{Refusal}
 use Rattle.language.specs.declared.Refusal.the-variants.{PastTheEnd, FieldRange, NestingDepth, TooManyNames, NameTwice}
 use Rattle.laws.specs.Tests.{split, never}
-use Rattle.laws.specs.Each.{Each, each-second}
+use Rattle.laws.specs.Each.{Each}
 use Rattle.laws.specs.Distinct.{Distinct, fresh-distinct}
 use Rattle.grammar.specs.Rules.{Name, FormedFormals, FormedDecl, FormedDecls, FormedStmt, FormedStmts}
-use Rattle.grammar.specs.Readers.{Yields}
 use Rattle.grammar.specs.Reading.{GotFormals, GotDecl, GotDecls, GotStmt, ReadsBlocks, read-formals, read-decl, read-decls, read-stmt, read-blocks}
 use Rattle.causes.specs.Places.{Place, block-due, formal-due, decl-due, stmt-due, opens, marksAt, names, Opened, Heads, Before, at-start, at-declaration, at-statement, at-formal, at-body}
 use Rattle.causes.specs.Faults.{no-arguments, kind-range, index-range, operation-range, arguments-range, deep-block, many-formals, many-names, formal-twice, variable-twice, label-twice, procedure-twice}
 use Rattle.causes.specs.Blaming.{Blames, table, yields-any, blames-bind, blames-part, blames-require, blames-fields, blames-kind, blames-operation}
 use Rattle.causes.specs.Growing.{moreDecls, moreStmts, more-decls, more-decls-fields, more-decls-formed, more-stmts, more-stmts-fields, more-stmts-formed, more-formals-fields, more-formals-formed, more-formals-names, more-names, Alike, alike-more, distinct-more}
-use Rattle.causes.specs.Records.{Broken, Reached, Told, due, due-as, reached-as, names-left, blames-due, reached-on}
+use Rattle.causes.specs.Records.{Reached, Told, due, due-as, reached-as, names-left, blames-due, reached-on}
 
 small : (k : Kind) (f : ℕ) → f ≡ kindField k → f ≤ 2
 unfolding kindField

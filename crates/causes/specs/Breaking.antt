@@ -1,27 +1,26 @@
 -- Where a record is at fault (Faults.antt), the reader of its place refuses it with that cause and with the record's offset.
-use Prim.Native.Nat.{ℕ, zero, suc, _+_, _*_, _≤_, _<_}
+use Prim.Native.Nat.{ℕ, zero, suc, _+_, _≤_, _<_}
 use native.Mathlib.Omega.{arith}
 use mathlib.Core.Bool.{Bool, true, false, not, _&&_, and-eq-true-iff}
-use mathlib.Core.List.{List, [], _∷_, _++_}
+use mathlib.Core.List.{List, [], _∷_}
 use mathlib.Core.Logic.{_⊎_, inl, inr}
-use mathlib.Core.Option.{Option, none, some}
-use mathlib.Core.Path.{_≡_, refl, sym, ap, _∙_, subst}
+use mathlib.Core.Option.{none, some}
+use mathlib.Core.Path.{_≡_, refl, sym, ap, _∙_}
 use borrow.Author.Tests.{le-leb, lt-leb, ne-eqb}
 use lib.Dec.{eqb, leb}
-use lib.ListN.{length, getD, take, length-take, length-map}
+use lib.ListN.{length, take, length-take, length-map}
 use Rattle.language.specs.Basics.{among, lookup}
-use Rattle.language.specs.Text.{Kind, variable, label, procedure, Operation, Formal, Decl, Stmt, formalNames}
-use Rattle.language.specs.Encoding.{BK-mark, VR-mark, LB-mark, PR-mark, FM-mark, CL-mark, AR-mark}
-use Rattle.language.specs.Structure.{Reading, read, refuse, Reader, _>>=_, _>>_, give, here, require, fields, Row, isVR, isLB, isPR, isCL, isAR, blockMarks, formalMarks, declMarks, stmtMarks, fit, take-record, kind, operation, formals, declared, declarations, action, stated, statements, blockWith}
+use Rattle.language.specs.Text.{Kind, variable, label, procedure, Formal, formalNames}
+use Rattle.language.specs.Encoding.{VR-mark, LB-mark, PR-mark, FM-mark, CL-mark, AR-mark}
+use Rattle.language.specs.Structure.{refuse, Reader, _>>=_, _>>_, give, here, require, fields, Row, isVR, isLB, isPR, isCL, isAR, blockMarks, formalMarks, declMarks, stmtMarks, fit, take-record, kind, operation, formals, declared, declarations, stated, statements, blockWith}
 use Rattle.language.specs.declared.Refusal.{Refusal}
 use Rattle.language.specs.declared.Refusal.the-variants.{ScriptLength, PastTheEnd, MarkMisplaced, FieldRange, BytesAfter, NestingDepth, TooManyNames, NameTwice, NotVisible, WrongKind, CallMismatch, LimitRange, AreaTooShort, TableNotRight}
-use Rattle.laws.specs.Tests.{none≢some, some-inj, never}
+use Rattle.laws.specs.Tests.{none≢some, some-inj}
 use Rattle.laws.specs.Readers.{bind-refuse, passes, fails, filled}
-use Rattle.grammar.specs.Writing.{row, marked, new}
-use Rattle.causes.specs.Places.{Place, block-due, formal-due, decl-due, stmt-due, opens, marksAt, names}
+use Rattle.grammar.specs.Writing.{row, marked}
+use Rattle.causes.specs.Places.{Place, block-due, formal-due, decl-due, stmt-due, marksAt}
 use Rattle.causes.specs.Faults.{PastEnd, no-mark, no-fields, no-arguments, Misplaced, no-row, OutOfRange, kind-range, index-range, operation-range, arguments-range, TooDeep, deep-block, TooMany, many-formals, many-names, Twice, formal-twice, variable-twice, label-twice, procedure-twice}
 use Rattle.causes.specs.Blaming.{table}
-use Rattle.causes.specs.Growing.{Alike}
 use Rattle.causes.specs.Records.{Broken}
 use Rattle.causes.specs.Leading.{Stops, opens-stops}
 

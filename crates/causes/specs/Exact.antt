@@ -1,15 +1,15 @@
 -- The script check refuses each of 1 to 11 on its cause and on no other, with the offset of the record at fault: `refuses-exactly`. `Fault` is in
 -- Faults.antt; `check` is the paper's definition, in the crate `language`.
-use Prim.Native.Nat.{ℕ, _+_, _*_, _%_, _≤_, _<_}
+use Prim.Native.Nat.{ℕ, _+_, _*_, _%_, _≤_}
 use native.Mathlib.Omega.{arith}
 use mathlib.Core.Bool.{Bool, true, false, _&&_, and-eq-true-iff}
 use mathlib.Core.List.{List, [], _∷_, _++_, append-nil}
-use mathlib.Core.Logic.{_⊎_, inl, inr, _↔_}
+use mathlib.Core.Logic.{inl, inr, _↔_}
 use mathlib.Core.Path.{_≡_, refl, sym, ap, _∙_, subst}
-use borrow.Author.Tests.{leb-true, leb-false, le-leb, lt-leb, eqb-true, eqb-false, eq-eqb, ne-eqb}
+use borrow.Author.Tests.{leb-true, leb-false, le-leb, eqb-true, eqb-false, eq-eqb}
 use lib.Dec.{eqb, leb}
 use lib.ListN.{length}
-use Rattle.language.specs.Text.{Block, block, blockDecls, blockStmts, formalNames}
+use Rattle.language.specs.Text.{Block, blockDecls, blockStmts, formalNames}
 use Rattle.language.specs.Encoding.{BK-mark, blockFields, fieldsOf}
 use Rattle.language.specs.Structure.{Reading, read, refuse, give, blockMarks, fit, program}
 use Rattle.language.specs.Scope.{Judgement, fine, wrong, judgeBlock}
@@ -23,9 +23,9 @@ use Rattle.grammar.specs.Words.{fields-are-names}
 use Rattle.grammar.specs.Reading.{GotBlock, read-program}
 use Rattle.grammar.specs.Writing.{row, marked, within, within-is, write-block}
 use Rattle.causes.specs.Sites.{Sees}
-use Rattle.causes.specs.Faults.{At, Followed, Used, LengthWrong, Within, Fault}
+use Rattle.causes.specs.Faults.{Followed, Used, LengthWrong, Fault}
 use Rattle.causes.specs.Blaming.{Blames}
-use Rattle.causes.specs.Records.{Broken, Told}
+use Rattle.causes.specs.Records.{Told}
 use Rattle.causes.specs.Blamed.{blames-program}
 use Rattle.causes.specs.Misusing.{Misuse}
 use Rattle.causes.specs.Judging.{FirstWrong, judges-block}
@@ -201,3 +201,14 @@ refuses-exactly bs h c o = (faulted bs h c o, fault-refused bs c o)
 -- so that no two of them hold of one script
 pub one-fault : (bs : List ℕ) (c d : Refusal) (o p : ℕ) → Fault bs c o → Fault bs d p → (c ≡ d) × (o ≡ p)
 one-fault bs c d o p f g = let a = fault-refused bs c o f in let b = fault-refused bs d p g in (cc, cc)
+
+-- It accepts where none of them holds, and only there.
+pub accepts-unless : (bs : List ℕ) → Bytes bs → ((t : Block) × (check bs ≡ accepted t)) ↔ ((c : Refusal) (o : ℕ) → Fault bs c o → ⊥)
+accepts-unless bs h = (λ a c o f. clash (a .0) c o (sym (a .1) ∙ fault-refused bs c o f), λ n. go n (check bs) refl)
+  where
+    clash : (t : Block) (c : Refusal) (o : ℕ) → accepted t ≡ refused c o → ⊥
+    clash t c o e = let z : _≡_ {A = ℕ} 0 1 = cc in omega arith
+
+    go : ((c : Refusal) (o : ℕ) → Fault bs c o → ⊥) → (k : Checked) → check bs ≡ k → (t : Block) × (check bs ≡ accepted t)
+    go n (accepted t) e = (t, e)
+    go n (refused c o) e = absurd (n c o (faulted bs h c o e))

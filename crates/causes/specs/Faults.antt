@@ -4,12 +4,12 @@
 use Prim.Native.Nat.{ℕ, _+_, _*_, _%_, _≤_, _<_}
 use mathlib.Core.Bool.{true, false}
 use mathlib.Core.List.{List, [], _∷_, _++_, map}
-use mathlib.Core.Logic.{_⊎_}
+use mathlib.Core.Logic.{_⊎_, _≢_}
 use mathlib.Core.Option.{Option, none, some}
 use mathlib.Core.Path.{_≡_}
 use lib.ListN.{length}
 use Rattle.language.specs.Basics.{among, lookup}
-use Rattle.language.specs.Text.{Kind, variable, label, procedure, sameKind, Formal, Action, CL, GO, IF, KN, AR, AD, RM, QY, Block, Decl, formalNames}
+use Rattle.language.specs.Text.{Kind, variable, label, procedure, Formal, Action, CL, GO, IF, KN, AR, AD, RM, QY, Block, Decl, formalNames}
 use Rattle.language.specs.Encoding.{BK-mark, VR-mark, LB-mark, PR-mark, FM-mark, CL-mark, AR-mark, blockFields, fieldsOf}
 use Rattle.language.specs.Scope.{Meaning, Scope, kindIn, agree}
 use Rattle.language.specs.declared.Refusal.{Refusal}
@@ -17,7 +17,7 @@ use Rattle.language.specs.declared.Refusal.the-variants.{ScriptLength, PastTheE
 use Rattle.laws.specs.Each.{Each}
 use Rattle.grammar.specs.Rules.{FormedBlock, Visible, Is, ScopedAction}
 use Rattle.causes.specs.Sites.{Sees}
-use Rattle.causes.specs.Places.{Place, block-due, formal-due, decl-due, stmt-due, opens, marksAt, names, Before}
+use Rattle.causes.specs.Places.{Place, formal-due, decl-due, stmt-due, opens, marksAt, names, Before}
 
 -- 2: no mark is left, or too few fields after a mark that may stand there, or too few names after a CL
 pub data PastEnd : Place → List ℕ → Type 0 where
@@ -112,7 +112,7 @@ pub record OtherKind (a : Action) (sc : Scope) : Type 0 where
   pub meaning : Meaning
   pub uses : Uses sc a name (some want)
   pub seen : lookup name sc ≡ some meaning
-  pub other : sameKind want (meaning .kind) ≡ false
+  pub other : meaning .kind ≢ want
 
 -- 11: it is a call whose names are all fine, of a declared procedure whose formals differ from the arguments in number or kind
 pub record Mismatch (a : Action) (sc : Scope) : Type 0 where

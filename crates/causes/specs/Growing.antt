@@ -1,5 +1,5 @@
 -- One more declaration, statement or formal after those that are there: its fields, its names and what is formed.
-use Prim.Native.Nat.{ℕ, suc, _+_, _*_}
+use Prim.Native.Nat.{ℕ, _+_, _*_}
 use native.Mathlib.Omega.{arith}
 use mathlib.Core.Bool.{Bool, true, false}
 use mathlib.Core.List.{List, [], _∷_, _++_, map, append-assoc, append-nil}
@@ -9,8 +9,7 @@ use lib.ListN.{length, length-append}
 use Rattle.language.specs.Basics.{among}
 use Rattle.language.specs.Text.{Formal, Decl, Stmt, Decls, no-decl, decl, Stmts, no-stmt, stmt, decls, stmts, declName, formalNames}
 use Rattle.language.specs.Encoding.{FM-mark, kindField, formalsFields, declFields, stmtFields, declsFields, stmtsFields}
-use Rattle.laws.specs.Each.{Each}
-use Rattle.laws.specs.Distinct.{Distinct, among-apart, fresh-distinct}
+use Rattle.laws.specs.Distinct.{Distinct, fresh-distinct}
 use Rattle.grammar.specs.Rules.{Name, FormedFormals, FormedDecl, FormedStmt, FormedDecls, FormedStmts}
 use Rattle.causes.specs.Places.{names}
 

@@ -1,9 +1,9 @@
 -- A text is judged fine exactly where every action seen in it keeps the rules of Scope, and wrong exactly where the first that does not is at fault.
 use Prim.Native.Nat.{ℕ, suc, _+_, _*_, _≤_, _<_}
 use native.Mathlib.Omega.{arith}
-use mathlib.Core.List.{List, [], _∷_, _++_}
+use mathlib.Core.List.{List, []}
 use mathlib.Core.Logic.{_⊎_, inl, inr, _↔_}
-use mathlib.Core.Path.{_≡_, refl, sym, ap, _∙_, subst}
+use mathlib.Core.Path.{_≡_, refl, sym, _∙_, subst}
 use lib.ListN.{length}
 use Rattle.language.specs.Text.{Formal, Action, Block, block, Decl, VR, LB, PR, Stmt, BK, DO, Decls, no-decl, decl, Stmts, no-stmt, stmt, stmts}
 use Rattle.language.specs.Encoding.{formalsFields, declFields, stmtFields, declsFields}
@@ -13,7 +13,7 @@ use Rattle.grammar.specs.Rules.{FormedBlock, FormedDecl, FormedStmt, FormedDecl
 use Rattle.grammar.specs.Scoped.{then-first, then-second, then-both, action-scoped}
 use Rattle.causes.specs.Sites.{Sees, SeesDecl, SeesStmt, SeesDecls, SeesStmts}
 use Rattle.causes.specs.Seeing.{decl-lies, stmt-lies, decls-lie, stmts-lie}
-use Rattle.causes.specs.Misusing.{Misuse, Judged, judged-wrong, wrong-then, fine-then, action-misused, misuse-wrong}
+use Rattle.causes.specs.Misusing.{Misuse, judged-wrong, wrong-then, fine-then, action-misused, misuse-wrong}
 
 -- where actions stand, and which
 abbrev Site : Type 1

@@ -2,20 +2,20 @@
 -- script in the same way (`leads`).
 use Prim.Native.Nat.{ℕ, zero, suc, _+_, _-_, _*_, _≤_, _<_}
 use native.Mathlib.Omega.{arith}
-use mathlib.Core.Bool.{Bool, true, false, not}
+use mathlib.Core.Bool.{true, false}
 use mathlib.Core.List.{List, [], _∷_, _++_, map, append-assoc}
-use mathlib.Core.Option.{Option, none, some}
+use mathlib.Core.Option.{some}
 use mathlib.Core.Path.{_≡_, refl, sym, ap, _∙_, subst}
 use borrow.Author.Tests.{le-leb}
 use lib.Dec.{leb}
 use lib.ListN.{length, getD, length-append, length-map}
 use Rattle.language.specs.Basics.{among}
-use Rattle.language.specs.Text.{Formal, Block, Decl, PR, Stmt, Decls, no-decl, decl, Stmts, no-stmt, stmt, decls, stmts, declName, formalNames}
+use Rattle.language.specs.Text.{Formal, Block, Decl, PR, Decls, no-decl, decl, Stmts, no-stmt, stmt, decls, stmts, declName, formalNames}
 use Rattle.language.specs.Encoding.{kindField, BK-mark, PR-mark, FM-mark, formalsFields, declFields, stmtFields, declsFields, stmtsFields}
-use Rattle.language.specs.Structure.{Reading, read, refuse, Reader, _>>=_, _>>_, give, isPR, isBK, blockMarks, formalMarks, declMarks, stmtMarks, fit, take-record, formals, declared, declarations, stated, statements, blockWith, program}
+use Rattle.language.specs.Structure.{refuse, Reader, _>>=_, give, isPR, isBK, blockMarks, formalMarks, declMarks, stmtMarks, fit, take-record, formals, declared, declarations, stated, statements, blockWith, program}
 use Rattle.language.specs.declared.Refusal.{Refusal}
 use Rattle.laws.specs.Tests.{none≢some, some-inj}
-use Rattle.laws.specs.Distinct.{Distinct, Fresh, distinct-fresh}
+use Rattle.laws.specs.Distinct.{Fresh, distinct-fresh}
 use Rattle.laws.specs.Readers.{bind-read, bind-refuse, passes}
 use Rattle.grammar.specs.Rules.{FormedFormals, FormedDecls, FormedStmts}
 use Rattle.grammar.specs.Readers.{bind-assoc}

@@ -1,8 +1,8 @@
 -- One action in a scope: it is judged wrong exactly where a name that it uses, or the call as a whole, is at fault (9 to 11), and with its own offset.
 use Prim.Native.Nat.{ℕ}
-use native.Mathlib.Omega.{arith}
 use mathlib.Core.Bool.{Bool, true, false}
 use mathlib.Core.List.{List, [], _∷_, _++_, map}
+use mathlib.Core.Logic.{_≢_}
 use mathlib.Core.Option.{Option, none, some}
 use mathlib.Core.Path.{_≡_, refl, sym, ap, _∙_, subst}
 use Rattle.language.specs.Basics.{lookup}
@@ -10,10 +10,10 @@ use Rattle.language.specs.Text.{Kind, variable, label, procedure, sameKind, Act
 use Rattle.language.specs.Scope.{Meaning, Scope, Judgement, fine, wrong, _then_, ofKind, uses, visible, allVisible, kindIn, agree, agrees, judgeAction}
 use Rattle.language.specs.declared.Refusal.{Refusal}
 use Rattle.language.specs.declared.Refusal.the-variants.{ScriptLength, PastTheEnd, MarkMisplaced, FieldRange, BytesAfter, NestingDepth, TooManyNames, NameTwice, NotVisible, WrongKind, CallMismatch, LimitRange, AreaTooShort, TableNotRight}
-use Rattle.laws.specs.Tests.{split, none≢some}
+use Rattle.laws.specs.Tests.{split, never}
 use Rattle.laws.specs.Each.{Each}
-use Rattle.grammar.specs.Rules.{Visible, Is}
-use Rattle.grammar.specs.Scoped.{Fine, nothing, both, then-both}
+use Rattle.laws.specs.Kinds.{same-kind}
+use Rattle.grammar.specs.Scoped.{Fine, nothing, both}
 use Rattle.grammar.specs.Scoped.{used as of-kind, seen as of-any}
 use Rattle.causes.specs.Faults.{used, Suits, Uses, Unseen, OtherKind, Mismatch}
 
@@ -121,10 +121,23 @@ unfolding judgeUses
 uses-fine sc o [] = nothing
 uses-fine sc o (u ∷ us) = both (use-fine sc o u) (uses-fine sc o us)
 
+-- two kinds
+same-as : (k l : Kind) → l ≡ k → sameKind k l ≡ true
+unfolding sameKind
+same-as k l e = rw e (itself k)
+  where
+    itself : (j : Kind) → sameKind j j ≡ true
+    itself variable = refl
+    itself label = refl
+    itself procedure = refl
+
+differs : (k l : Kind) → l ≢ k → sameKind k l ≡ false
+differs k l h = split (sameKind k l) (λ e. absurd (h (sym (same-kind k l e)))) (λ e. e)
+
 -- what is wrong with one name
 data Bad (sc : Scope) (n : ℕ) : Option Kind → Refusal → Type 0 where
   bad-unseen : {want : Option Kind} → lookup n sc ≡ none → Bad sc n want NotVisible
-  bad-kind : {k : Kind} (m : Meaning) → lookup n sc ≡ some m → sameKind k (m .kind) ≡ false → Bad sc n (some k) WrongKind
+  bad-kind : {k : Kind} (m : Meaning) → lookup n sc ≡ some m → m .kind ≢ k → Bad sc n (some k) WrongKind
 
 -- the first of the names with which something is wrong
 record FirstBad (sc : Scope) (us : List (ℕ × Option Kind)) (c : Refusal) : Type 0 where
@@ -152,7 +165,7 @@ kind-bad sc o n k = go (lookup n sc) refl
   where
     same : (m : Meaning) → lookup n sc ≡ some m → (t : Bool) → sameKind k (m .kind) ≡ t → Judged (λ c p. (p ≡ o) × Bad sc n (some k) c) (elim t [ true ↦ fine | false ↦ wrong WrongKind o ])
     same m e true q = tt
-    same m e false q = (refl, bad-kind m e q)
+    same m e false q = (refl, bad-kind m e (λ t. never (same-as k (m .kind) t) q))
 
     go : (v : Option Meaning) → lookup n sc ≡ v → Judged (λ c p. (p ≡ o) × Bad sc n (some k) c) (ofKind k o v)
     go none e = (refl, bad-unseen e)
@@ -232,7 +245,7 @@ bad-use : (sc : Scope) (o n : ℕ) (want : Option Kind) (c : Refusal) → Bad sc
 unfolding judgeUse visible uses ofKind
 bad-use sc o n none c (bad-unseen e) = rw (e, visible)
 bad-use sc o n (some k) c (bad-unseen e) = rw (e, ofKind)
-bad-use sc o n (some k) c (bad-kind m e q) = rw (e, q, ofKind)
+bad-use sc o n (some k) c (bad-kind m e q) = rw (e, differs k (m .kind) q, ofKind)
 
 bad-uses : (sc : Scope) (o n : ℕ) (want : Option Kind) (c : Refusal) (left right : List (ℕ × Option Kind)) → Each (Suits sc) left → Bad sc n want c
     → judgeUses sc o (left ++ ((n, want) ∷ right)) ≡ wrong c o

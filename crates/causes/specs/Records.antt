@@ -1,10 +1,10 @@
 -- A record that is due and what is at fault there, for the proofs: `Broken` has the causes judged in file order by their refusals, `Reached` says that
 -- the fields us are what is left of a script where a place is due, and `blames-due` is the law of a reader that takes the record there.
-use Prim.Native.Nat.{ℕ, _+_, _*_, _<_}
+use Prim.Native.Nat.{ℕ, _+_, _*_}
 use native.Mathlib.Omega.{arith}
-use mathlib.Core.List.{List, [], _∷_, _++_, append-assoc}
+use mathlib.Core.List.{List, _++_, append-assoc}
 use mathlib.Core.Option.{none, some}
-use mathlib.Core.Path.{_≡_, refl, sym, ap, _∙_, subst}
+use mathlib.Core.Path.{_≡_, sym, ap, _∙_, subst}
 use lib.ListN.{length, length-append}
 use Rattle.language.specs.Basics.{lookup}
 use Rattle.language.specs.Structure.{Reader, _>>=_, Row, Record, take-record}

@@ -278,7 +278,7 @@ unfolding stmtsFields stmts FormedStmts
 got-stmt level s at us x o vs g xs o′ ws k =
     record { step = join (g .step) (k .step); count = omega (arith, k .count); formed = (g .formed, rw (g .step .next) at (k .formed)) }
 
-pub read-stmts : (body : BlockReader) (level : ℕ) → ReadsBlocks body (suc level) → (s : ℕ) (at : ℕ) (us : List ℕ) → Each Name us
+read-stmts : (body : BlockReader) (level : ℕ) → ReadsBlocks body (suc level) → (s : ℕ) (at : ℕ) (us : List ℕ) → Each Name us
     → Yields (GotStmts level s at us) (statements body s at us)
 unfolding statements give stmtsFields stmts FormedStmts
 read-stmts body level below zero at us h = record { step = record { text = refl; next = omega arith }; count = refl; formed = tt }

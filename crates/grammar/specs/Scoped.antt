@@ -144,19 +144,19 @@ mutual
   pub block-scoped : (t : Block) (fs : List Formal) (sc : Scope) → Fine (judgeBlock t fs sc) (ScopedBlock t fs sc)
   block-scoped (block at ds ss) fs sc = both (decls-scoped ds (inside fs ds sc)) (stmts-scoped ss (inside fs ds sc))
 
-  pub decl-scoped : (d : Decl) (sc : Scope) → Fine (judgeDecl d sc) (ScopedDecl d sc)
+  decl-scoped : (d : Decl) (sc : Scope) → Fine (judgeDecl d sc) (ScopedDecl d sc)
   decl-scoped (VR at n) sc = nothing
   decl-scoped (LB at n i) sc = nothing
   decl-scoped (PR at n fs b) sc = block-scoped b fs sc
 
-  pub stmt-scoped : (s : Stmt) (sc : Scope) → Fine (judgeStmt s sc) (ScopedStmt s sc)
+  stmt-scoped : (s : Stmt) (sc : Scope) → Fine (judgeStmt s sc) (ScopedStmt s sc)
   stmt-scoped (BK b) sc = block-scoped b [] sc
   stmt-scoped (DO at a) sc = action-scoped a sc at
 
-  pub decls-scoped : (ds : Decls) (sc : Scope) → Fine (judgeDecls ds sc) (ScopedDecls ds sc)
+  decls-scoped : (ds : Decls) (sc : Scope) → Fine (judgeDecls ds sc) (ScopedDecls ds sc)
   decls-scoped no-decl sc = nothing
   decls-scoped (decl d ds) sc = both (decl-scoped d sc) (decls-scoped ds sc)
 
-  pub stmts-scoped : (ss : Stmts) (sc : Scope) → Fine (judgeStmts ss sc) (ScopedStmts ss sc)
+  stmts-scoped : (ss : Stmts) (sc : Scope) → Fine (judgeStmts ss sc) (ScopedStmts ss sc)
   stmts-scoped no-stmt sc = nothing
   stmts-scoped (stmt s ss) sc = both (stmt-scoped s sc) (stmts-scoped ss sc)

@@ -45,7 +45,7 @@ kind-read r variable f at ws = refl
 kind-read r label f at ws = refl
 kind-read r procedure f at ws = refl
 
-pub operation-read : {B : Type 0} (r : ℕ) (o : Operation) (f : Operation → Reader B) (at : ℕ) (ws : List ℕ) → (operation r (operationField o) >>= f) at ws ≡ f o at ws
+operation-read : {B : Type 0} (r : ℕ) (o : Operation) (f : Operation → Reader B) (at : ℕ) (ws : List ℕ) → (operation r (operationField o) >>= f) at ws ≡ f o at ws
 unfolding operation operationField give _>>=_
 operation-read r plus f at ws = refl
 operation-read r minus f at ws = refl
@@ -248,7 +248,7 @@ mutual
       add-decl k s (length (decls ds)) seen at d ds ws (write-decl d k level s seen at (declsFields ds ++ ws) e (h .0) (n .0))
       (write-decls ds k level s (declName d ∷ seen) (at + 2 * length (declFields d)) ws e (h .1) (n .1))
 
-  pub write-stmts : (ss : Stmts) (k level : ℕ) (at : ℕ) (ws : List ℕ) → suc level + k ≡ 17 → FormedStmts ss level at
+  write-stmts : (ss : Stmts) (k level : ℕ) (at : ℕ) (ws : List ℕ) → suc level + k ≡ 17 → FormedStmts ss level at
       → statements (blockWith k) (length (stmts ss)) at (stmtsFields ss ++ ws) ≡ read ss (at + 2 * length (stmtsFields ss)) ws
   write-stmts no-stmt k level at ws e h = moved no-stmt ws (omega arith)
   write-stmts (stmt s ss) k level at ws e h =
