@@ -88,8 +88,8 @@ operation-stops r (suc (suc zero)) at ws h = absurd (omega arith)
 operation-stops r (suc (suc (suc n))) at ws h = refl
 
 index-fails : (i s : ℕ) → (i < 1) ⊎ (s < i) → leb 1 i && leb i s ≡ false
-index-fails i s (inl h) = rw (lt-leb 1 i h)
-index-fails i s (inr h) = rw (lt-leb i s h) (and-false (leb 1 i))
+index-fails i s (inl h) = rw (lt-leb 1 i (omega arith))
+index-fails i s (inr h) = rw (lt-leb i s (omega arith)) (and-false (leb 1 i))
   where
     and-false : (b : Bool) → b && false ≡ false
     and-false true = refl
@@ -193,29 +193,29 @@ module _ (at : ℕ) where
   past-end : (p : Place) (us : List ℕ) → PastEnd p us → Stops p at us PastTheEnd at
   past-end p us no-mark = taking-stops p at [] PastTheEnd (λ M rows e. take-none rows at)
   past-end p us (no-fields w k ws e l) = taking-stops p at (w ∷ ws) PastTheEnd (λ M rows q. take-short rows at w k ws (ap (lookup w) q ∙ e) l)
-  past-end p us (no-arguments n a ws l h) = λ k m e. call-short k m n a ws l h
+  past-end p us (no-arguments n a ws l h) = λ k m e. call-short k m n a ws (omega arith) (omega arith)
 
   misplaced : (p : Place) (us : List ℕ) → Misplaced p us → Stops p at us MarkMisplaced at
   misplaced p us (no-row w ws e) = taking-stops p at (w ∷ ws) MarkMisplaced (λ M rows q. take-misplaced rows at w ws (ap (lookup w) q ∙ e))
 
   out-of-range : (p : Place) (us : List ℕ) → OutOfRange p us → Stops p at us FieldRange at
-  out-of-range p us (kind-range {fs = fs} n k ws h) = λ m seen a. formal-kind fs n k ws m seen h
+  out-of-range p us (kind-range {fs = fs} n k ws h) = λ m seen a. formal-kind fs n k ws m seen (omega arith)
   out-of-range p us (index-range {s = s} n i ws h) = λ k m seen e a. label-index k s m seen n i ws h
-  out-of-range p us (operation-range t o l r ws h) = λ k m e. sum-operation k m t o l r ws h
-  out-of-range p us (arguments-range n a ws h) = λ k m e. call-many k m n a ws h
+  out-of-range p us (operation-range t o l r ws h) = λ k m e. sum-operation k m t o l r ws (omega arith)
+  out-of-range p us (arguments-range n a ws h) = λ k m e. call-many k m n a ws (omega arith)
 
   too-deep : (p : Place) (us : List ℕ) → TooDeep p us → Stops p at us NestingDepth at
-  too-deep p us (deep-block level fs d s ws e h) = opens-stops p level fs at d s ws e (block-deep d s fs ws level h)
+  too-deep p us (deep-block level fs d s ws e h) = opens-stops p level fs at d s ws e (block-deep d s fs ws level (omega arith))
 
   too-many : (p : Place) (us : List ℕ) → TooMany p us → Stops p at us TooManyNames at
-  too-many p us (many-formals {s = s} n q ws h) = λ k m seen e a. procedure-many k s m seen n q ws h
-  too-many p us (many-names level fs d s ws e l h) = opens-stops p level fs at d s ws e (block-many d s fs ws level l h)
+  too-many p us (many-formals {s = s} n q ws h) = λ k m seen e a. procedure-many k s m seen n q ws (omega arith)
+  too-many p us (many-names level fs d s ws e l h) = opens-stops p level fs at d s ws e (block-many d s fs ws level (omega arith) (omega arith))
 
   twice : (p : Place) (us : List ℕ) → Twice p us → Stops p at us NameTwice at
-  twice p us (formal-twice {fs = fs} n k ws l h) = λ m seen a. formal-again fs n k ws m seen l (a n ∙ h)
+  twice p us (formal-twice {fs = fs} n k ws l h) = λ m seen a. formal-again fs n k ws m seen (omega arith) (a n ∙ h)
   twice p us (variable-twice {s = s} n ws h) = λ k m seen e a. variable-again k s m seen n ws (a n ∙ h)
-  twice p us (label-twice {s = s} n i ws q r h) = λ k m seen e a. label-again k s m seen n i ws q r (a n ∙ h)
-  twice p us (procedure-twice {s = s} n q ws l h) = λ k m seen e a. procedure-again k s m seen n q ws l (a n ∙ h)
+  twice p us (label-twice {s = s} n i ws q r h) = λ k m seen e a. label-again k s m seen n i ws (omega arith) (omega arith) (a n ∙ h)
+  twice p us (procedure-twice {s = s} n q ws l h) = λ k m seen e a. procedure-again k s m seen n q ws (omega arith) (a n ∙ h)
 
   pub broken-stops : (c : Refusal) (p : Place) (us : List ℕ) → Broken c p us → Stops p at us c at
   broken-stops ScriptLength p us b = absurd b

@@ -11,3 +11,4 @@ pub mod Judging
 pub mod Leading
 pub mod Breaking
 pub mod Exact
+pub mod Examples
