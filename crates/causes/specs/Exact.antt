@@ -91,7 +91,7 @@ module _ (bs : List ℕ) (f : Fits bs) where
   module _ (t : Block) (w : FormedBlock t 1 [] 0) (e : fieldsOf bs ≡ blockFields t) where
     used-by : (c : Refusal) (o : ℕ) → FirstWrong (Sees t [] []) c o → Used (fieldsOf bs) o (Misuse c)
     used-by c o h =
-        record { program = t; formed = w; text = e; action = h .action; scope = h .scope; sees = h .sees; earlier = h .earlier; fault = h .fault }
+        record { program = t; formed = w; text = e; action = h .action; scope = h .scope; sees = h .sees; earlier = λ p a sc k l. h .earlier p a sc k (omega arith); fault = h .fault }
 
     used-fault : (c : Refusal) (o : ℕ) → FirstWrong (Sees t [] []) c o → Fault bs c o
     used-fault ScriptLength o h = absurd (h .fault)
@@ -168,7 +168,7 @@ module _ (bs : List ℕ) (f : Fits bs) where
   use-refused : (c : Refusal) (o : ℕ) → Used (fieldsOf bs) o (Misuse c) → check bs ≡ refused c o
   unfolding ended judged
   use-refused c o h =
-      let k = ((judges-block (h .program) 1 0 [] [] (h .formed)) .first c o) .1 (record { action = h .action; scope = h .scope; sees = h .sees; earlier = h .earlier; fault = h .fault }) in
+      let k = ((judges-block (h .program) 1 0 [] [] (h .formed)) .first c o) .1 (record { action = h .action; scope = h .scope; sees = h .sees; earlier = λ p a sc k l. h .earlier p a sc k (omega arith); fault = h .fault }) in
       check-is bs f
       ∙ ap ended (ap (program 0) (h .text ∙ sym (append-nil (blockFields (h .program)))) ∙ program-read (h .program) [] (h .formed))
       ∙ ap (judged (h .program)) k

@@ -1,3 +1,4 @@
+-- Each refusal of the script check, 1 to 11, on its cause and on no other: Places and Faults have the causes, Exact the theorems.
 pub mod Sites
 pub mod Places
 pub mod Faults
