@@ -69,7 +69,7 @@ module _ (p : ℕ) (seen : List ℕ) (at : ℕ) (us : List ℕ) (h : Each Name u
         fresh = (a, g .fresh);
       }
 
-read-formals : (p : ℕ) (seen : List ℕ) (at : ℕ) (us : List ℕ) → Each Name us → Yields (GotFormals p seen at us) (formals p seen at us)
+pub read-formals : (p : ℕ) (seen : List ℕ) (at : ℕ) (us : List ℕ) → Each Name us → Yields (GotFormals p seen at us) (formals p seen at us)
 unfolding formals give formalMarks formalsFields FormedFormals formalNames
 read-formals zero seen at us h = record { step = record { text = refl; next = omega arith }; count = refl; formed = tt; fresh = tt }
 read-formals (suc p) seen at us h =
@@ -89,7 +89,7 @@ pub record GotBlock (level : ℕ) (fs : List Formal) (at : ℕ) (us : List ℕ) 
   pub formed : FormedBlock t level fs at
 
 -- what is asked of the reader of the blocks one level below
-abbrev ReadsBlocks : BlockReader → ℕ → Type 0
+abbrev pub ReadsBlocks : BlockReader → ℕ → Type 0
 ReadsBlocks body level =
     (at d s : ℕ) (fs : List Formal) (us : List ℕ) → Each Name us → Distinct (formalNames fs)
     → Yields (GotBlock level fs at (BK-mark ∷ d ∷ s ∷ us)) (body at d s (formalNames fs) (at + 6) us)
@@ -158,7 +158,7 @@ module _ (body : BlockReader) (level : ℕ) (below : ReadsBlocks body (suc level
       Q : Decl → ℕ → List ℕ → Type 0
       Q = GotDecl level s seen at us
 
-  read-decl : Yields (GotDecl level s seen at us) ((take-record declMarks >>= λ r. declared body s seen (r .mark) (r .at) (r .fields)) at us)
+  pub read-decl : Yields (GotDecl level s seen at us) ((take-record declMarks >>= λ r. declared body s seen (r .mark) (r .at) (r .fields)) at us)
   unfolding declMarks
   read-decl = yields-marks declMarks _ _ at us (read-VR, (read-LB, (read-PR, tt)))
 
@@ -180,7 +180,7 @@ got-decl level s d seen at us x o vs g xs o′ ws k =
       fresh = (g .fresh, k .fresh);
     }
 
-read-decls : (body : BlockReader) (level : ℕ) → ReadsBlocks body (suc level) → (s d : ℕ) (seen : List ℕ) (at : ℕ) (us : List ℕ) → Each Name us
+pub read-decls : (body : BlockReader) (level : ℕ) → ReadsBlocks body (suc level) → (s d : ℕ) (seen : List ℕ) (at : ℕ) (us : List ℕ) → Each Name us
     → Yields (GotDecls level s d seen at us) (declarations body s d seen at us)
 unfolding declarations give declsFields decls FormedDecls
 read-decls body level below s zero seen at us h = record { step = record { text = refl; next = omega arith }; count = refl; formed = tt; fresh = tt }
@@ -261,7 +261,7 @@ module _ (body : BlockReader) (level : ℕ) (below : ReadsBlocks body (suc level
   unfolding stated actionFields FormedAction
   read-QY t g m vs e = let k = subst (Each Name) e h in got-action (QY t g m) (at + 8) vs e refl (k .1 .0, k .1 .1 .0, k .1 .1 .1 .0)
 
-  read-stmt : Yields (GotStmt level at us) ((take-record stmtMarks >>= λ r. stated body (r .mark) (r .at) (r .fields)) at us)
+  pub read-stmt : Yields (GotStmt level at us) ((take-record stmtMarks >>= λ r. stated body (r .mark) (r .at) (r .fields)) at us)
   unfolding stmtMarks
   read-stmt =
       yields-marks stmtMarks _ _ at us
@@ -325,7 +325,7 @@ module _ (level k : ℕ) (below : ReadsBlocks (blockWith k) (suc level)) (deep :
       Q : Block → ℕ → List ℕ → Type 0
       Q = GotBlock level fs at (BK-mark ∷ d ∷ s ∷ us)
 
-read-blocks : (k level : ℕ) → level + k ≡ 17 → ReadsBlocks (blockWith k) level
+pub read-blocks : (k level : ℕ) → level + k ≡ 17 → ReadsBlocks (blockWith k) level
 unfolding blockWith
 read-blocks zero level e at d s fs us h once = tt
 read-blocks (suc k) level e at d s fs us h once = read-block level k (read-blocks k (suc level) (omega arith)) (omega arith) at d s fs us h once

@@ -15,27 +15,27 @@ use Rattle.laws.specs.Kinds.{same-kind}
 use Rattle.laws.specs.Each.{Each}
 use Rattle.grammar.specs.Rules.{Visible, Is, ScopedAction, ScopedBlock, ScopedDecl, ScopedStmt, ScopedDecls, ScopedStmts}
 
-abbrev Fine : Judgement → Type 0 → Type 0
+abbrev pub Fine : Judgement → Type 0 → Type 0
 Fine v A = (v ≡ fine) ↔ A
 
-nothing : Fine fine (Unit {0})
+pub nothing : Fine fine (Unit {0})
 nothing = (λ e. tt, λ u. refl)
 
-then-first : (v w : Judgement) → _then_ v w ≡ fine → v ≡ fine
+pub then-first : (v w : Judgement) → _then_ v w ≡ fine → v ≡ fine
 unfolding _then_
 then-first fine w e = refl
 then-first (wrong c o) w e = e
 
-then-second : (v w : Judgement) → _then_ v w ≡ fine → w ≡ fine
+pub then-second : (v w : Judgement) → _then_ v w ≡ fine → w ≡ fine
 unfolding _then_
 then-second fine w e = e
 then-second (wrong c o) w e = cc
 
-then-both : (v w : Judgement) → v ≡ fine → w ≡ fine → _then_ v w ≡ fine
+pub then-both : (v w : Judgement) → v ≡ fine → w ≡ fine → _then_ v w ≡ fine
 unfolding _then_
 then-both v w e f = rw (e, _then_) f
 
-both : {A B : Type 0} {v w : Judgement} → Fine v A → Fine w B → Fine (_then_ v w) (A × B)
+pub both : {A B : Type 0} {v w : Judgement} → Fine v A → Fine w B → Fine (_then_ v w) (A × B)
 both {v = v} {w = w} a b =
     (λ e. (a .0 (then-first v w e), b .0 (then-second v w e)), λ k. then-both v w (a .1 k.0) (b .1 k.1))
 
@@ -73,7 +73,7 @@ kind-of : (k : Kind) (o : ℕ) (v : Option Meaning) (m : Meaning) → v ≡ some
 unfolding ofKind
 kind-of k o v m e f = rw (e, ofKind, kind-same-as k (m .kind) f)
 
-used : (sc : Scope) (o : ℕ) (k : Kind) (n : ℕ) → Fine (uses sc o k n) (Is k sc n)
+pub used : (sc : Scope) (o : ℕ) (k : Kind) (n : ℕ) → Fine (uses sc o k n) (Is k sc n)
 unfolding uses
 used sc o k n = (λ e. of-kind k o (lookup n sc) e, λ h. kind-of k o (lookup n sc) h.0 h.1 h.2)
 
@@ -87,7 +87,7 @@ some-visible : (o : ℕ) (v : Option Meaning) (m : Meaning) → v ≡ some m →
 unfolding visible
 some-visible o v m e = rw (e, visible)
 
-seen : (sc : Scope) (o : ℕ) (n : ℕ) → Fine (visible o (lookup n sc)) (Visible sc n)
+pub seen : (sc : Scope) (o : ℕ) (n : ℕ) → Fine (visible o (lookup n sc)) (Visible sc n)
 seen sc o n = (λ e. visible-some o (lookup n sc) e, λ h. some-visible o (lookup n sc) h.0 h.1)
 
 all-seen : (sc : Scope) (o : ℕ) (ns : List ℕ) → Fine (allVisible sc o ns) (Each (Visible sc) ns)
@@ -125,7 +125,7 @@ agreeing : (sc : Scope) (o : ℕ) (p : ℕ) (xs : List ℕ) → Fine (agrees o (
 agreeing sc o p xs = (λ e. agrees-agreed o (lookup p sc) (map (kindIn sc) xs) e, λ a. agreed-agrees o (lookup p sc) (map (kindIn sc) xs) a)
 
 -- statements and declarations
-action-scoped : (a : Action) (sc : Scope) (o : ℕ) → Fine (judgeAction sc o a) (ScopedAction a sc)
+pub action-scoped : (a : Action) (sc : Scope) (o : ℕ) → Fine (judgeAction sc o a) (ScopedAction a sc)
 unfolding judgeAction ScopedAction
 action-scoped (CL p xs) sc o =
     let k = three (used sc o procedure p) (all-seen sc o xs) (agreeing sc o p xs) in

@@ -28,18 +28,18 @@ both-end o xs ys = omega (arith, length-append xs ys)
 marked-end : (o : ℕ) (xs ys : List ℕ) → o + 6 + 2 * length xs + 2 * length ys ≡ o + 2 * suc (suc (suc (length (xs ++ ys))))
 marked-end o xs ys = omega (arith, length-append xs ys)
 
-abbrev row : {M : Type 0} → ℕ → ℕ → M → Row M
+abbrev pub row : {M : Type 0} → ℕ → ℕ → M → Row M
 row l c m = record { letters = l; count = c; mark = m }
 
 -- a mark that may stand there, with its fields
-marked : {M B : Type 0} (rows : List (Row M)) (f : Record M → Reader B) (x : Row M) (at : ℕ) (fs ws : List ℕ) → length fs ≡ x .count
+pub marked : {M B : Type 0} (rows : List (Row M)) (f : Record M → Reader B) (x : Row M) (at : ℕ) (fs ws : List ℕ) → length fs ≡ x .count
     → fit at (x .letters) rows ≡ give x
     → (take-record rows >>= f) at (x .letters ∷ (fs ++ ws)) ≡ f (record { at = at; mark = x .mark; fields = fs }) (at + 2 * suc (x .count)) ws
 marked rows f x at fs ws l e =
     bind-read (take-record rows) f at _ (take-read rows x at fs ws l e)
 
 -- formals
-kind-read : {B : Type 0} (r : ℕ) (k : Kind) (f : Kind → Reader B) (at : ℕ) (ws : List ℕ) → (kind r (kindField k) >>= f) at ws ≡ f k at ws
+pub kind-read : {B : Type 0} (r : ℕ) (k : Kind) (f : Kind → Reader B) (at : ℕ) (ws : List ℕ) → (kind r (kindField k) >>= f) at ws ≡ f k at ws
 unfolding kind kindField give _>>=_
 kind-read r variable f at ws = refl
 kind-read r label f at ws = refl
@@ -52,10 +52,10 @@ operation-read r minus f at ws = refl
 operation-read r less f at ws = refl
 
 -- a name that is new passes
-new : (n : ℕ) (seen : List ℕ) → among n seen ≡ false → not (among n seen) ≡ true
+pub new : (n : ℕ) (seen : List ℕ) → among n seen ≡ false → not (among n seen) ≡ true
 new n seen e = rw e
 
-write-formals : (fs : List Formal) (seen : List ℕ) (at : ℕ) (ws : List ℕ) → FormedFormals fs at → Fresh seen (formalNames fs)
+pub write-formals : (fs : List Formal) (seen : List ℕ) (at : ℕ) (ws : List ℕ) → FormedFormals fs at → Fresh seen (formalNames fs)
     → formals (length fs) seen at (formalsFields fs ++ ws) ≡ read fs (at + 2 * length (formalsFields fs)) ws
 unfolding formals formalsFields FormedFormals formalNames give fit formalMarks
 write-formals [] seen at ws h n = moved [] ws (omega arith)
@@ -69,15 +69,15 @@ write-formals (f ∷ fs) seen at ws h n =
     ∙ ap (λ (p : ℕ). read (record { at = p; name = f .name; kind = f .kind } ∷ fs) (at + 2 * length (formalsFields (f ∷ fs))) ws) (sym (h .stands))
 
 -- a block's fields after its BK
-abbrev within : Block → List ℕ
+abbrev pub within : Block → List ℕ
 within (block at ds ss) = declsFields ds ++ stmtsFields ss
 
-within-is : (b : Block) → blockFields b ≡ BK-mark ∷ length (blockDecls b) ∷ length (blockStmts b) ∷ within b
+pub within-is : (b : Block) → blockFields b ≡ BK-mark ∷ length (blockDecls b) ∷ length (blockStmts b) ∷ within b
 unfolding blockFields blockDecls blockStmts
 within-is (block at ds ss) = refl
 
 -- what is asked of a block: the reader of its level reads it
-abbrev Reads : ℕ → Block → List Formal → ℕ → Type 0
+abbrev pub Reads : ℕ → Block → List Formal → ℕ → Type 0
 Reads k b fs at =
     (ws : List ℕ) → blockWith k at (length (blockDecls b)) (length (blockStmts b)) (formalNames fs) (at + 6) (within b ++ ws)
     ≡ read b (at + 2 * length (blockFields b)) ws
@@ -95,7 +95,7 @@ taken-block k b fs at h f ws =
     ∙ bind-read (blockWith k at (length (blockDecls b)) (length (blockStmts b)) (formalNames fs)) f (at + 6) _ (h ws)
 
 -- declarations
-abbrev one-decl : ℕ → ℕ → List ℕ → Reader Decl
+abbrev pub one-decl : ℕ → ℕ → List ℕ → Reader Decl
 one-decl k s seen = take-record declMarks >>= λ r. declared (blockWith k) s seen (r .mark) (r .at) (r .fields)
 
 module _ (k s : ℕ) (seen : List ℕ) (at n : ℕ) (ws : List ℕ) (new-name : among n seen ≡ false) where
@@ -126,7 +126,7 @@ module _ (k s : ℕ) (seen : List ℕ) (at n : ℕ) (ws : List ℕ) (new-name : 
       ∙ moved _ ws (marked-end at (formalsFields fs) (blockFields b))
 
 -- statements
-abbrev one-stmt : ℕ → Reader Stmt
+abbrev pub one-stmt : ℕ → Reader Stmt
 one-stmt k = take-record stmtMarks >>= λ r. stated (blockWith k) (r .mark) (r .at) (r .fields)
 
 write-BK : (k : ℕ) (b : Block) (at : ℕ) (ws : List ℕ) → Reads k b [] at → one-stmt k at (blockFields b ++ ws) ≡ read (BK b) (at + 2 * length (blockFields b)) ws
@@ -215,7 +215,7 @@ formals-once (block at ds ss) level fs o h = distinct-first (formalNames fs) (ma
 mutual
   unfolding FormedBlock blockFields blockDecls blockStmts decls stmts declarations statements declName give
 
-  write-block : (t : Block) (k level : ℕ) (fs : List Formal) (at : ℕ) → level + k ≡ 17 → FormedBlock t level fs at → Reads k t fs at
+  pub write-block : (t : Block) (k level : ℕ) (fs : List Formal) (at : ℕ) → level + k ≡ 17 → FormedBlock t level fs at → Reads k t fs at
   write-block (block at ds ss) zero level fs o e h ws = absurd (omega (arith, h .nesting))
   write-block (block at ds ss) (suc k) level fs o e h ws =
       whole-block k o ds ss (formalNames fs) ws (few-names fs (length (decls ds)) (h .few))
@@ -224,7 +224,7 @@ mutual
       (write-stmts ss k level (o + 6 + 2 * length (declsFields ds)) ws (omega arith) (h .statements))
       ∙ ap (λ (p : ℕ). read (block p ds ss) (o + 2 * length (blockFields (block at ds ss))) ws) (sym (h .stands))
 
-  write-decl : (d : Decl) (k level s : ℕ) (seen : List ℕ) (at : ℕ) (ws : List ℕ) → suc level + k ≡ 17 → FormedDecl d level s at
+  pub write-decl : (d : Decl) (k level s : ℕ) (seen : List ℕ) (at : ℕ) (ws : List ℕ) → suc level + k ≡ 17 → FormedDecl d level s at
       → among (declName d) seen ≡ false → one-decl k s seen at (declFields d ++ ws) ≡ read d (at + 2 * length (declFields d)) ws
   write-decl (VR at n) k level s seen o ws e h q =
       write-VR k s seen o n ws q ∙ ap (λ (p : ℕ). read (VR p n) (o + 4) ws) (sym (h .stands))
@@ -235,13 +235,13 @@ mutual
       (λ vs. write-block b k (suc level) fs (o + 6 + 2 * length (formalsFields fs)) e (h .body) vs)
       ∙ ap (λ (p : ℕ). read (PR p n fs b) (o + 2 * length (declFields (PR at n fs b))) ws) (sym (h .stands))
 
-  write-stmt : (s : Stmt) (k level : ℕ) (at : ℕ) (ws : List ℕ) → suc level + k ≡ 17 → FormedStmt s level at
+  pub write-stmt : (s : Stmt) (k level : ℕ) (at : ℕ) (ws : List ℕ) → suc level + k ≡ 17 → FormedStmt s level at
       → one-stmt k at (stmtFields s ++ ws) ≡ read s (at + 2 * length (stmtFields s)) ws
   write-stmt (BK b) k level o ws e h = write-BK k b o ws (λ vs. write-block b k (suc level) [] o e h vs)
   write-stmt (DO at a) k level o ws e h =
       write-action k a o ws (h .action) ∙ ap (λ (p : ℕ). read (DO p a) (o + 2 * length (actionFields a)) ws) (sym (h .stands))
 
-  write-decls : (ds : Decls) (k level s : ℕ) (seen : List ℕ) (at : ℕ) (ws : List ℕ) → suc level + k ≡ 17 → FormedDecls ds level s at
+  pub write-decls : (ds : Decls) (k level s : ℕ) (seen : List ℕ) (at : ℕ) (ws : List ℕ) → suc level + k ≡ 17 → FormedDecls ds level s at
       → Fresh seen (map declName (decls ds)) → declarations (blockWith k) s (length (decls ds)) seen at (declsFields ds ++ ws) ≡ read ds (at + 2 * length (declsFields ds)) ws
   write-decls no-decl k level s seen at ws e h n = moved no-decl ws (omega arith)
   write-decls (decl d ds) k level s seen at ws e h n =
