@@ -1,8 +1,8 @@
 -- Causes and numbers: what must hold of a script, at the offset that is reported, for each of the refusals 1 to 11. No reader is in these definitions.
--- For 2 to 8 the script's fields lead up to a record that is due (Places.antt), and `rest` are its fields from the record's mark on; where document 01
+-- For 2 to 4 and 6 to 8 the script's fields lead up to a record that is due (Places.antt), and `rest` are its fields from the record's mark on; where document 01
 -- judges two causes of one record one after the other, the later one has that the earlier does not hold. Exact.antt has the theorem.
 use Prim.Native.Nat.{ℕ, _+_, _*_, _%_, _≤_, _<_}
-use mathlib.Core.Bool.{true, false}
+use mathlib.Core.Bool.{true}
 use mathlib.Core.List.{List, [], _∷_, _++_, map}
 use mathlib.Core.Logic.{_⊎_, _≢_}
 use mathlib.Core.Option.{Option, none, some}
@@ -11,10 +11,11 @@ use lib.ListN.{length}
 use Rattle.language.specs.Basics.{among, lookup}
 use Rattle.language.specs.Text.{Kind, variable, label, procedure, Formal, Action, CL, GO, IF, KN, AR, AD, RM, QY, Block, Decl, formalNames}
 use Rattle.language.specs.Encoding.{BK-mark, VR-mark, LB-mark, PR-mark, FM-mark, CL-mark, AR-mark, blockFields, fieldsOf}
-use Rattle.language.specs.Scope.{Meaning, Scope, kindIn, agree}
+use Rattle.language.specs.Scope.{Meaning, Scope, kindIn}
 use Rattle.language.specs.declared.Refusal.{Refusal}
 use Rattle.language.specs.declared.Refusal.the-variants.{ScriptLength, PastTheEnd, MarkMisplaced, FieldRange, BytesAfter, NestingDepth, TooManyNames, NameTwice, NotVisible, WrongKind, CallMismatch, LimitRange, AreaTooShort, TableNotRight}
 use Rattle.laws.specs.Each.{Each}
+use Rattle.laws.specs.Kinds.{Differs}
 use Rattle.grammar.specs.Rules.{FormedBlock, Visible, Is, ScopedAction}
 use Rattle.causes.specs.Sites.{Sees}
 use Rattle.causes.specs.Places.{Place, formal-due, decl-due, stmt-due, opens, marksAt, names, Before}
@@ -124,7 +125,7 @@ pub record Mismatch (a : Action) (sc : Scope) : Type 0 where
   pub fine : Each (Suits sc) (used a)
   pub seen : lookup called sc ≡ some meaning
   pub declared : meaning .takes ≡ some takes
-  pub differ : agree takes (map (kindIn sc) arguments) ≡ false
+  pub differ : Differs takes (map (kindIn sc) arguments)
 
 -- The cause P holds of the action at the offset o of a whole program, in the scope there; every action before it keeps the rules of Scope.
 pub record Used (all : List ℕ) (o : ℕ) (P : Action → Scope → Type 0) : Type 0 where

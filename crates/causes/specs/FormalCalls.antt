@@ -1,5 +1,5 @@
--- 26 is given only to a call through a formal. `only-through-formals`: where a reply says stopped with 26, the check accepts the script as a program t,
--- and the statement at the reply's offset is a CL of t that calls a formal, as written. No machine's state is in `CallsFormal`: it is said of the text.
+-- 26 is given only to a call through a formal. `only-through-formals`: where a reply says stopped with 26, the script is the encoding of a program t that keeps the
+-- rules, and the statement at the reply's offset is a CL of t that calls a formal, as written. No machine's state is in `CallsFormal`: it is said of the text.
 use Prim.Native.Nat.{ℕ, pred}
 use native.Mathlib.Omega.{arith}
 use mathlib.Core.List.{List, []}
@@ -8,14 +8,15 @@ use mathlib.Core.Path.{_≡_, sym, _∙_, subst}
 use lib.ListN.{length}
 use Rattle.language.specs.Basics.{last?, lookup}
 use Rattle.language.specs.Text.{procedure, Formal, Action, CL, Block, DO}
+use Rattle.language.specs.Encoding.{encode}
 use Rattle.language.specs.Scope.{Meaning, Scope, formalMeaning}
-use Rattle.language.specs.Check.{accepted, check}
 use Rattle.language.specs.Machine.{Limits}
 use Rattle.language.specs.Call.{Engine, Fed, Reply, limitsOf, turnedAway, reply}
 use Rattle.language.specs.declared.Stop.the-variants.{ArgumentsDiffer}
 use Rattle.language.specs.declared.Refusal.{Refusal}
 use Rattle.language.specs.declared.End.the-variants.{Stopped, Refused}
 use Rattle.grammar.specs.Rules.{Bytes, ScopedAction, Keeps}
+use Rattle.grammar.specs.Exact.{accepts-exactly}
 use Rattle.runs.specs.Admission.{Admitted}
 use Rattle.runs.specs.Reasons.{clash}
 use Rattle.runs.specs.Calls.{reply-cases}
@@ -26,7 +27,7 @@ use Rattle.coordinates.specs.Chain.{enclosing, enclosureOf, Chained}
 use Rattle.coordinates.specs.Levels.{in-innermost}
 use Rattle.coordinates.specs.Visible.{scopeOf}
 use Rattle.coordinates.specs.Designated.{statement-scoped}
-use Rattle.coordinates.specs.Sound.{Sound, accepted-keeps-rules, call-sound}
+use Rattle.coordinates.specs.Sound.{Sound, call-sound}
 use Rattle.coordinates.specs.Called.{differing-formal}
 use Rattle.causes.specs.Sites.{Sees}
 use Rattle.causes.specs.FormalSites.{StandsAt, stands-sees, NearestFormal, formal-nearest}
@@ -86,9 +87,9 @@ module _ (l : Limits) (t : Block) (keeps : Keeps t) (s : Stack) (sound : Sound l
         gives = f .gives;
       }
 
--- what is to be shown of a reply
+-- what is to be shown of a reply: the script is that of a program, whose offsets are those of the bytes
 abbrev Told : Fed → Reply → Type 0
-Told f r = r .answer .end ≡ Stopped ArgumentsDiffer → (t : Block) × (check (f .script) ≡ accepted t) × CallsFormal t (r .answer .offset)
+Told f r = r .answer .end ≡ Stopped ArgumentsDiffer → (t : Block) × (f .script ≡ encode t) × Keeps t × CallsFormal t (r .answer .offset)
 
 away-told : (f : Fed) (c : Refusal) (o : ℕ) → Told f (turnedAway f c o)
 unfolding turnedAway
@@ -100,11 +101,12 @@ ran-told e f bytes t h q =
     let r = frameRunOf f t in
     let w = run-stopped (limitsOf f) (f .allowance) (frameStart t (f .lent .table)) ArgumentsDiffer q in
     let c = step-differs (limitsOf f) (r .final) (w .live) (w .cause) in
-    let calls = calls-formal (limitsOf f) t (accepted-keeps-rules (f .script) bytes t (h .script)) (r .final) (call-sound e f t bytes h) c in
-    (t, h .script, subst (CallsFormal t) (sym (w .offset ∙ c .offset)) calls)
+    let k = (accepts-exactly (f .script) bytes t) .0 (h .script) in
+    let calls = calls-formal (limitsOf f) t (k .1) (r .final) (call-sound e f t bytes h) c in
+    (t, k .0, k .1, subst (CallsFormal t) (sym (w .offset ∙ c .offset)) calls)
 
 -- whatever engine is called on whatever it is fed
 pub only-through-formals : (e : Engine) (f : Fed) → Bytes (f .script) → (reply e f) .answer .end ≡ Stopped ArgumentsDiffer
-    → (t : Block) × (check (f .script) ≡ accepted t) × CallsFormal t ((reply e f) .answer .offset)
+    → (t : Block) × (f .script ≡ encode t) × Keeps t × CallsFormal t ((reply e f) .answer .offset)
 only-through-formals e f bytes =
     reply-cases (Told f) e f (λ c o h. away-told f c o) (λ t h. subst (Told f) (runs-replied e f bytes t (h .script)) (ran-told e f bytes t h))

@@ -96,16 +96,18 @@ pub record FormalFor (p : ℕ) (m : Meaning) (es : Enclosure) : Type 0 where
   pub nearest : NearestFormal p formal es
   pub gives : formalMeaning formal ≡ (p, m)
 
-among-formals : (fs : List Formal) (p : ℕ) (m : Meaning) → lookup p (map formalMeaning fs) ≡ some m → (i : ℕ) × (f : Formal) × (getElem? fs i ≡ some f) × (formalMeaning f ≡ (p, m))
-among-formals [] p m q = lookup-nil p m q
-among-formals (f ∷ fs) p m q =
-    let x = formalMeaning f in
-    split (eqb p (x .0))
-    (λ t.
-    let name : x .0 ≡ p = sym (eqb-true p (x .0) t) in
-    let means : x .1 ≡ m = some-inj (sym (lookup-here p x (map formalMeaning fs) t) ∙ q) in
-    (0, f, refl, λ i. (name i, means i)))
-    (λ t. let r = among-formals fs p m (sym (lookup-there p x (map formalMeaning fs) t) ∙ q) in (suc (r .0), r .1, r .2, r .3))
+-- a name found among meanings is that of one of the things that have them
+module _ {A : Type 0} (meaning : A → ℕ × Meaning) where
+  pub found-among : (xs : List A) (p : ℕ) (m : Meaning) → lookup p (map meaning xs) ≡ some m → (i : ℕ) × (x : A) × (getElem? xs i ≡ some x) × (meaning x ≡ (p, m))
+  found-among [] p m q = lookup-nil p m q
+  found-among (a ∷ xs) p m q =
+      let x = meaning a in
+      split (eqb p (x .0))
+      (λ t.
+      let name : x .0 ≡ p = sym (eqb-true p (x .0) t) in
+      let means : x .1 ≡ m = some-inj (sym (lookup-here p x (map meaning xs) t) ∙ q) in
+      (0, a, refl, λ i. (name i, means i)))
+      (λ t. let r = found-among xs p m (sym (lookup-there p x (map meaning xs) t) ∙ q) in (suc (r .0), r .1, r .2, r .3))
 
 formal-named : (f : Formal) → (formalMeaning f) .0 ≡ f .name
 unfolding formalMeaning
@@ -117,7 +119,7 @@ formal-nearest [] p m q k n = lookup-nil p m q
 formal-nearest (e ∷ es) p m q k n =
     either p (meaningsOf e) (scopeOf es) m q
     (λ r. either p (map formalMeaning (e .formals)) (map declMeaning (blockDecls (e .text))) m r
-    (λ s. let f = among-formals (e .formals) p m s in
+    (λ s. let f = found-among formalMeaning (e .formals) p m s in
     record { formal = f .1; nearest = here (f .0) (f .2) (sym (formal-named (f .1)) ∙ ap (λ (x : ℕ × Meaning). x .0) (f .3)); gives = f .3 })
     (λ no s. absurd (each-found Says p m (map declMeaning (blockDecls (e .text))) (decls-say (blockDecls (e .text))) s k n)))
     (λ no r. let f = formal-nearest es p m r k n in

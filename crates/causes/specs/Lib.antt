@@ -13,9 +13,10 @@ pub mod Judging
 pub mod Leading
 pub mod Breaking
 pub mod Exact
-pub mod Examples
 pub mod Calls
 pub mod FormalSites
 pub mod FormalStops
 pub mod FormalSettled
+pub mod Blocks
 pub mod FormalCalls
+pub mod Examples

@@ -12,7 +12,7 @@ use Rattle.language.specs.declared.Refusal.{Refusal}
 use Rattle.language.specs.declared.Refusal.the-variants.{ScriptLength, PastTheEnd, MarkMisplaced, FieldRange, BytesAfter, NestingDepth, TooManyNames, NameTwice, NotVisible, WrongKind, CallMismatch, LimitRange, AreaTooShort, TableNotRight}
 use Rattle.laws.specs.Tests.{split, never}
 use Rattle.laws.specs.Each.{Each}
-use Rattle.laws.specs.Kinds.{same-kind}
+use Rattle.laws.specs.Kinds.{same-kind, agree-false, differs-false}
 use Rattle.grammar.specs.Scoped.{Fine, nothing, both}
 use Rattle.grammar.specs.Scoped.{used as of-kind, seen as of-any}
 use Rattle.causes.specs.Faults.{used, Suits, Uses, Unseen, OtherKind, Mismatch}
@@ -214,7 +214,7 @@ module _ (sc : Scope) (o p : ℕ) (xs : List ℕ) (h : Each (Suits sc) (used (CL
       differ : (ks : List Kind) → m .takes ≡ some ks → (t : Bool) → agree ks (map (kindIn sc) xs) ≡ t
           → Judged (λ c q. (q ≡ o) × Misuse c (CL p xs) sc) (elim t [ true ↦ fine | false ↦ wrong CallMismatch o ])
       differ ks e′ true q = tt
-      differ ks e′ false q = (refl, record { called = p; arguments = xs; meaning = m; takes = ks; call = refl; fine = h; seen = e; declared = e′; differ = q })
+      differ ks e′ false q = (refl, record { called = p; arguments = xs; meaning = m; takes = ks; call = refl; fine = h; seen = e; declared = e′; differ = agree-false ks (map (kindIn sc) xs) q })
 
       takes : (t : Option (List Kind)) → m .takes ≡ t
           → Judged (λ c q. (q ≡ o) × Misuse c (CL p xs) sc) (elim t [ none ↦ fine | some ks ↦ elim (agree ks (map (kindIn sc) xs)) [ true ↦ fine | false ↦ wrong CallMismatch o ] ])
@@ -262,7 +262,7 @@ mismatch-wrong : (sc : Scope) (o : ℕ) (a : Action) → Mismatch a sc → judge
 unfolding agreement agrees
 mismatch-wrong sc o a h =
     by-uses sc o a ∙ fine-then (judgeUses sc o (used a)) _ ((uses-fine sc o (used a)) .1 (h .fine)) ∙ ap (agreement sc o) (h .call)
-    ∙ rw (h .seen, agrees, h .declared, h .differ)
+    ∙ rw (h .seen, agrees, h .declared, differs-false (h .takes) (map (kindIn sc) (h .arguments)) (h .differ))
 
 pub misuse-wrong : (c : Refusal) (sc : Scope) (o : ℕ) (a : Action) → Misuse c a sc → judgeAction sc o a ≡ wrong c o
 misuse-wrong ScriptLength sc o a h = absurd h

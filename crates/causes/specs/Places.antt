@@ -1,5 +1,5 @@
 -- Encoding: where in a script a record is due, and what the fields before it must be. `Before ws p`: the fields ws, from the script's start on, lead
--- up to a record that is due at the place p, and no rule that is judged in file order (2 to 8) is broken in them. Of the blocks that are still open
+-- up to a record that is due at the place p, and no rule that is judged in file order (2 to 4 and 6 to 8) is broken in them. Of the blocks that are still open
 -- there, each holds whole declarations and statements, which keep the rules of `grammar`'s Rules.antt.
 use Prim.Native.Nat.{ℕ, suc, _+_, _*_, _≤_, _<_}
 use mathlib.Core.Bool.{false}

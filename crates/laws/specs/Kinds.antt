@@ -1,14 +1,16 @@
 -- Laws of kinds: two of them compared, and arguments that agree with formals.
 use Prim.Native.Nat.{ℕ, zero, suc, _<_}
 use native.Mathlib.Nat.{not-suc-le-zero, le-of-suc-le-suc}
-use mathlib.Core.Bool.{true, and-eq-true-iff, false≢true}
+use native.Mathlib.Omega.{arith}
+use mathlib.Core.Bool.{true, false, and-eq-true-iff, false≢true}
 use mathlib.Core.List.{List, [], _∷_, map}
+use mathlib.Core.Logic.{_⊎_, inl, inr, _≢_}
 use mathlib.Core.Option.{Option, none, some}
 use mathlib.Core.Path.{_≡_, refl, sym, ap, _∙_}
 use lib.ListN.{length, getD, getElem?, length-map}
 use Rattle.language.specs.Text.{Kind, variable, label, procedure, Formal, formalKinds, sameKind}
 use Rattle.language.specs.Scope.{agree}
-use Rattle.laws.specs.Tests.{none≢some}
+use Rattle.laws.specs.Tests.{split, none≢some, some-inj}
 
 pub same-kind : (k l : Kind) → sameKind k l ≡ true → k ≡ l
 unfolding sameKind
@@ -43,6 +45,41 @@ agree-at [] os e i k q = none≢some q
 agree-at (x ∷ ks) [] e i k q = absurd (false≢true e)
 agree-at (x ∷ ks) (o ∷ os) e zero k q = ap {B = Option (Option Kind)} some (agree-first x ks o os e .0 ∙ q)
 agree-at (x ∷ ks) (o ∷ os) e (suc i) k q = agree-at ks os (agree-first x ks o os e .1) i k q
+
+-- Arguments that differ from the formals in number or kind: not as many, or one of another kind than the formal at its place. `agree` is false exactly there.
+abbrev pub OtherAt : List Kind → List (Option Kind) → Type 0
+OtherAt ks os = (i : ℕ) × (k : Kind) × (o : Option Kind) × (getElem? ks i ≡ some k) × (getElem? os i ≡ some o) × (o ≢ some k)
+
+abbrev pub Differs : List Kind → List (Option Kind) → Type 0
+Differs ks os = (length os ≢ length ks) ⊎ OtherAt ks os
+
+differs-later : (k : Kind) (ks : List Kind) (o : Option Kind) (os : List (Option Kind)) → Differs ks os → Differs (k ∷ ks) (o ∷ os)
+differs-later k ks o os (inl h) = inl (λ q. h (omega (arith, q)))
+differs-later k ks o os (inr (i, l, p, a, b, c)) = inr (suc i, l, p, a, b, c)
+
+same-itself : (k : Kind) → sameKind k k ≡ true
+unfolding sameKind
+same-itself variable = refl
+same-itself label = refl
+same-itself procedure = refl
+
+agree-both : (k j : Kind) (ks : List Kind) (os : List (Option Kind)) → j ≡ k → agree (k ∷ ks) (some j ∷ os) ≡ agree ks os
+unfolding agree
+agree-both k j ks os e = rw (e, same-itself k)
+
+pub agree-false : (ks : List Kind) (os : List (Option Kind)) → agree ks os ≡ false → Differs ks os
+unfolding agree
+agree-false [] [] e = absurd (false≢true (sym e))
+agree-false [] (o ∷ os) e = inl (λ q. omega (arith, q))
+agree-false (k ∷ ks) [] e = inl (λ q. omega (arith, q))
+agree-false (k ∷ ks) (none ∷ os) e = inr (0, k, none, refl, refl, λ q. none≢some q)
+agree-false (k ∷ ks) (some j ∷ os) e =
+    split (sameKind k j) (λ t. differs-later k ks (some j) os (agree-false ks os (sym (agree-both k j ks os (sym (same-kind k j t))) ∙ e)))
+    (λ t. inr (0, k, some j, refl, refl, λ q. false≢true (sym t ∙ ap (sameKind k) (some-inj q) ∙ same-itself k)))
+
+pub differs-false : (ks : List Kind) (os : List (Option Kind)) → Differs ks os → agree ks os ≡ false
+differs-false ks os (inl h) = split (agree ks os) (λ t. absurd (h (agree-length ks os t))) (λ t. t)
+differs-false ks os (inr (i, k, o, a, b, c)) = split (agree ks os) (λ t. absurd (c (some-inj (sym b ∙ agree-at ks os t i k a)))) (λ t. t)
 
 -- arguments whose kinds are looked up
 module _ {A : Type 0} (r : A → Option Kind) where

@@ -96,7 +96,7 @@ start-table : (t : Block) (tb : Table) → (start t tb) .table ≡ tb
 unfolding start enter
 start-table t tb = refl
 
-start-steps : (t : Block) (tb : Table) → (start t tb) .steps ≡ 0
+pub start-steps : (t : Block) (tb : Table) → (start t tb) .steps ≡ 0
 unfolding start enter
 start-steps t tb = refl
 

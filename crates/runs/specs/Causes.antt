@@ -11,11 +11,11 @@ use lib.ListN.{length}
 use lib.Signed.{mag}
 use Rattle.language.specs.Basics.{last?}
 use Rattle.language.specs.Text.{Operation, Action, CL, GO, IF, KN, AR, AD, RM, QY, Block, Decl, Stmt, BK, DO, declFormals, formalKinds}
-use Rattle.language.specs.Scope.{agree}
 use Rattle.language.specs.Table.{holds, size, atLeastOne, full}
 use Rattle.language.specs.Machine.{Activation, State, Limits, Instance, value, instance, kindAt, compute, nextStmt}
 use Rattle.language.specs.declared.Stop.{Stop}
 use Rattle.language.specs.declared.Stop.the-variants.{ResultTooLarge, NoActivationLeft, NumberBelowOne, GroupFull, TableFull, ArgumentsDiffer}
+use Rattle.laws.specs.Kinds.{Differs}
 
 -- x is the next statement of the innermost activation
 pub record Next (s : State) (x : Stmt) : Type 0 where
@@ -88,7 +88,7 @@ pub record Differ (s : State) : Type 0 where
   pub procedure : Decl
   pub next : Next s (DO at (CL called arguments))
   pub stands : declared s called ≡ some procedure
-  pub differ : agree (formalKinds (declFormals procedure)) (map (kindAt s) arguments) ≡ false
+  pub differ : Differs (formalKinds (declFormals procedure)) (map (kindAt s) arguments)
 
 -- In a step: 23, 24, 25; and 26 before 22.
 abbrev pub StopDue : Limits → State → Stop → Type 0

@@ -20,3 +20,4 @@ pub mod Admission
 pub mod Calls
 pub mod Causes
 pub mod Stopping
+pub mod CallStops

@@ -23,6 +23,7 @@ use Rattle.language.specs.declared.Stop.the-variants.{ResultTooLarge, NoActivat
 use Rattle.language.specs.declared.End.the-variants.{Stopped}
 use Rattle.laws.specs.Tests.{split, never, some-inj}
 use Rattle.laws.specs.Lists.{last-split}
+use Rattle.laws.specs.Kinds.{agree-false, differs-false}
 use Rattle.runs.specs.Bounds.{advance-length}
 use Rattle.runs.specs.Steps.{stopped-exactly}
 use Rattle.runs.specs.Causes.{Next, declared, pairOf, TooLarge, Enters, enters-block, enters-body, NoRoom, BelowOne, Adds, NoMember, NoPlace, Differ, StopDue}
@@ -115,7 +116,7 @@ not-differ s at p xs d n q h w =
     let name : p ≡ w .called = cc in
     let arguments : xs ≡ w .arguments = cc in
     let decl : d ≡ w .procedure = some-inj (sym q ∙ ap (declared s) name ∙ w .stands) in
-    never h (ap (λ (c : Decl). agree (formalKinds (declFormals c)) (map (kindAt s) xs)) decl ∙ ap (λ (ys : List ℕ). agree (formalKinds (declFormals (w .procedure))) (map (kindAt s) ys)) arguments ∙ w .differ)
+    never h (ap (λ (c : Decl). agree (formalKinds (declFormals c)) (map (kindAt s) xs)) decl ∙ ap (λ (ys : List ℕ). agree (formalKinds (declFormals (w .procedure))) (map (kindAt s) ys)) arguments ∙ differs-false _ _ (w .differ))
 
 block-differs : (s : State) (b : Block) → Next s (BK b) → Differ s → ⊥
 block-differs s b n w =
@@ -155,7 +156,7 @@ module _ (l : Limits) (s : State) (a : Activation) (e : last? (s .live) ≡ some
           let d = declared-found p i q in
           enter-judged _ xs (declBody (i .decl)) (i .home .reads) (enters-body at p xs (i .decl) (next-is _ n) d) (not-differ s at p xs (i .decl) (next-is _ n) d (agreed i true r))
       on i q false r =
-          record { at = at; called = p; arguments = xs; procedure = i .decl; next = next-is _ n; stands = declared-found p i q; differ = agreed i false r }
+          record { at = at; called = p; arguments = xs; procedure = i .decl; next = next-is _ n; stands = declared-found p i q; differ = agree-false _ _ (agreed i false r) }
 
       go : (o : Option Instance) → instance u p ≡ o → Judged l s (elim o [ none ↦ did u | some i ↦ elim (agree (formalKinds (declFormals (i .decl))) (map (kindAt u) xs)) [ true ↦ enterIfRoom l u (formalNames (declFormals (i .decl))) xs (declBody (i .decl)) (i .home .reads) | false ↦ stop ArgumentsDiffer ] ])
       go none q = tt
@@ -293,7 +294,7 @@ module _ (l : Limits) (s : State) where
         (ap (λ (c : Decl). agree (formalKinds (declFormals c)) (map (kindAt called-in) xs)) (found .2) ∙ ap (agree (formalKinds (declFormals d))) (kinds-advanced s (n .innermost) (n .last) xs) ∙ r)
 
   due-26 : Differ s → step l s ≡ stop ArgumentsDiffer
-  due-26 w = call-is (w .at) (w .called) (w .arguments) (w .procedure) (w .next) (w .stands) false (w .differ)
+  due-26 w = call-is (w .at) (w .called) (w .arguments) (w .procedure) (w .next) (w .stands) false (differs-false _ _ (w .differ))
 
   full-now : (a : Activation) → last? (s .live) ≡ some a → l .activations ≤ length (s .live) → l .activations ≤ length ((advance s a) .live)
   full-now a e h = omega (arith, advance-length s a e)
@@ -307,7 +308,7 @@ module _ (l : Limits) (s : State) where
       go (enters-body at p xs d n q) =
           split (agree (formalKinds (declFormals d)) (map (kindAt s) xs))
           (λ t. call-is at p xs d n q true t ∙ no-room l _ _ xs _ _ (full-now (n .innermost) (n .last) (w .1)))
-          (λ t. absurd (not (record { at = at; called = p; arguments = xs; procedure = d; next = n; stands = q; differ = t })))
+          (λ t. absurd (not (record { at = at; called = p; arguments = xs; procedure = d; next = n; stands = q; differ = agree-false _ _ t })))
 
 -- AD, RM and QY by what they find
 module _ (l : Limits) (u : State) (g m : ℤ) where

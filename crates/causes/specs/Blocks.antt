@@ -1,0 +1,88 @@
+-- 9 to 11 by the blocks around the action, with no list of visible names: where the check says 9, no block around the action at the offset declares a name
+-- that it uses (`nowhere-declared`); where it says 10, the nearest block that has the name has it with another kind (`nearest-of-another-kind`); where it
+-- says 11, the nearest has it as a procedure whose formals the arguments differ from in number or kind (`nearest-differs`).
+use Prim.Native.Nat.{ℕ}
+use mathlib.Core.Bool.{false}
+use mathlib.Core.List.{List, [], _∷_, _++_, map}
+use mathlib.Core.Logic.{_≢_}
+use mathlib.Core.Option.{Option, none, some}
+use mathlib.Core.Path.{_≡_, refl, sym, ap, _∙_, subst}
+use lib.ListN.{getElem?}
+use Rattle.language.specs.Basics.{among, lookup}
+use Rattle.language.specs.Text.{Kind, Formal, Action, CL, Block, Decl, blockDecls}
+use Rattle.language.specs.Encoding.{blockFields, fieldsOf}
+use Rattle.language.specs.Scope.{Meaning, Scope, formalMeaning, declMeaning, kindIn}
+use Rattle.language.specs.Check.{refused, check}
+use Rattle.language.specs.declared.Refusal.the-variants.{NotVisible, WrongKind, CallMismatch}
+use Rattle.laws.specs.Each.{Each}
+use Rattle.laws.specs.Kinds.{Differs}
+use Rattle.laws.specs.Lookup.{lookup-nil, either, lookup-absent, lookup-left, lookup-right}
+use Rattle.laws.specs.Tests.{by-lookup, none≢some}
+use Rattle.grammar.specs.Rules.{Bytes, FormedBlock}
+use Rattle.coordinates.specs.Enclosure.{Enclosing, Enclosure, namesOf}
+use Rattle.coordinates.specs.Visible.{meaningsOf, scopeOf, meanings-named}
+use Rattle.causes.specs.Faults.{Uses, Used, Unseen, OtherKind, Mismatch}
+use Rattle.causes.specs.Exact.{faulted}
+use Rattle.causes.specs.FormalSites.{StandsAt, found-among}
+use Rattle.causes.specs.FormalSettled.{sees-stands}
+
+-- An action of the whole program that the bytes are, at the offset o, and the blocks around it, innermost first.
+pub record ActionAt (bs : List ℕ) (o : ℕ) : Type 0 where
+  pub program : Block
+  pub formed : FormedBlock program 1 [] 0
+  pub text : fieldsOf bs ≡ blockFields program
+  pub action : Action
+  pub blocks : Enclosure
+  pub stands : StandsAt program blocks o action
+
+-- the nearest block that has the name n has it as a formal, or a declaration, that gives it the meaning m
+pub data Nearest (n : ℕ) (m : Meaning) : Enclosure → Type 0 where
+  as-formal : {e : Enclosing} {es : Enclosure} (i : ℕ) (f : Formal) → getElem? (e .formals) i ≡ some f → formalMeaning f ≡ (n, m) → Nearest n m (e ∷ es)
+  as-declared : {e : Enclosing} {es : Enclosure} (i : ℕ) (d : Decl) → getElem? (blockDecls (e .text)) i ≡ some d → declMeaning d ≡ (n, m) → Nearest n m (e ∷ es)
+  further : {e : Enclosing} {es : Enclosure} → among n (namesOf e) ≡ false → Nearest n m es → Nearest n m (e ∷ es)
+
+not-named : (e : Enclosing) (n : ℕ) → lookup n (meaningsOf e) ≡ none → among n (namesOf e) ≡ false
+not-named e n h = ap (among n) (sym (meanings-named e)) ∙ lookup-absent n (meaningsOf e) h
+
+nearest : (es : Enclosure) (n : ℕ) (m : Meaning) → lookup n (scopeOf es) ≡ some m → Nearest n m es
+unfolding scopeOf meaningsOf
+nearest [] n m q = lookup-nil n m q
+nearest (e ∷ es) n m q =
+    either n (meaningsOf e) (scopeOf es) m q
+    (λ r. either n (map formalMeaning (e .formals)) (map declMeaning (blockDecls (e .text))) m r
+    (λ s. let f = found-among formalMeaning (e .formals) n m s in as-formal (f .0) (f .1) (f .2) (f .3))
+    (λ no s. let d = found-among declMeaning (blockDecls (e .text)) n m s in as-declared (d .0) (d .1) (d .2) (d .3)))
+    (λ no r. further (not-named e n no) (nearest es n m r))
+
+nowhere : (es : Enclosure) (n : ℕ) → lookup n (scopeOf es) ≡ none → Each (λ (e : Enclosing). among n (namesOf e) ≡ false) es
+unfolding scopeOf
+nowhere [] n q = tt
+nowhere (e ∷ es) n q =
+    by-lookup (lookup n (meaningsOf e)) (λ no. (not-named e n no, nowhere es n (sym (lookup-right n (meaningsOf e) (scopeOf es) no) ∙ q)))
+    (λ m h. none≢some (sym q ∙ lookup-left n (meaningsOf e) (scopeOf es) m h))
+
+-- the action at fault, and what it sees
+action-at : (bs : List ℕ) (o : ℕ) (P : Action → Scope → Type 0) → Used (fieldsOf bs) o P → (w : ActionAt bs o) × P (w .action) (scopeOf (w .blocks))
+action-at bs o P u =
+    let s = sees-stands (u .program) o (u .action) (u .scope) (u .sees) in
+    (record { program = u .program; formed = u .formed; text = u .text; action = u .action; blocks = s .blocks; stands = s .stands }, subst (P (u .action)) (sym (s .visible)) (u .fault))
+
+module _ (bs : List ℕ) (bytes : Bytes bs) (o : ℕ) where
+  pub nowhere-declared : check bs ≡ refused NotVisible o
+      → (w : ActionAt bs o) × (n : ℕ) × (want : Option Kind) × Uses (scopeOf (w .blocks)) (w .action) n want × Each (λ (e : Enclosing). among n (namesOf e) ≡ false) (w .blocks)
+  nowhere-declared q =
+      let a = action-at bs o Unseen ((faulted bs bytes NotVisible o q) .3) in
+      (a .0, a .1 .name, a .1 .want, a .1 .uses, nowhere (a .0 .blocks) (a .1 .name) (a .1 .unseen))
+
+  pub nearest-of-another-kind : check bs ≡ refused WrongKind o
+      → (w : ActionAt bs o) × (n : ℕ) × (want : Kind) × (m : Meaning) × Uses (scopeOf (w .blocks)) (w .action) n (some want) × Nearest n m (w .blocks) × (m .kind ≢ want)
+  nearest-of-another-kind q =
+      let a = action-at bs o OtherKind ((faulted bs bytes WrongKind o q) .3) in
+      (a .0, a .1 .name, a .1 .want, a .1 .meaning, a .1 .uses, nearest (a .0 .blocks) (a .1 .name) (a .1 .meaning) (a .1 .seen), a .1 .other)
+
+  pub nearest-differs : check bs ≡ refused CallMismatch o
+      → (w : ActionAt bs o) × (p : ℕ) × (xs : List ℕ) × (m : Meaning) × (ks : List Kind) × (w .action ≡ CL p xs) × Nearest p m (w .blocks) × (m .takes ≡ some ks) × Differs ks (map (kindIn (scopeOf (w .blocks))) xs)
+  nearest-differs q =
+      let a = action-at bs o Mismatch ((faulted bs bytes CallMismatch o q) .3) in
+      let f = a .1 in
+      (a .0, f .called, f .arguments, f .meaning, f .takes, f .call, nearest (a .0 .blocks) (f .called) (f .meaning) (f .seen), f .declared, f .differ)
