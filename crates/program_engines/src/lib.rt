@@ -1,5 +1,9 @@
 // The engines by name, for programs: a call of each, with an area of its own where it needs one, and its answer in print.
 use chain_records::Activation;
+ghost use Rattle.language.specs.Call.{chain};
+ghost use Rattle.call_admission.specs.Lent.{fedOf};
+ghost use Rattle.call_answers.specs.Replies.{Replies};
+ghost use Rattle.program_engines.specs.Engines.{engineNamed};
 
 mod printing;
 
@@ -26,7 +30,11 @@ fn by_chain(
     name: u16,
     sheet: &mut [i32],
     answer: &mut [u64; 9],
-) {
+)
+    ensures { λ _. ⌜ Replies (chain 256) (fedOf (record { d = d; n = n; g = g; tally = 0; count = count; name = name })
+        (now (script .entry)) (now (table .entry)) (now (sheet .entry)))
+        (now (answer .exit)) (now (sheet .exit)) (now (table .exit)) ⌝ }
+{
     let mut records = [Activation {
         block: 0,
         next: 0,
@@ -47,7 +55,8 @@ fn by_chain(
     );
 }
 
-// A call of an engine, as C makes it. The copying area has 65,536 words, the records are for 256 activations.
+// A call of an engine, as C makes it, with the tally at 0: the answer's words, and what becomes of table and sheet. The copying area has 65,536 words, the
+// records are for 256 activations.
 pub fn call(
     engine: Engine,
     script: &[u8],
@@ -58,7 +67,10 @@ pub fn call(
     count: usize,
     name: u16,
     sheet: &mut [i32],
-) -> [u64; 9] {
+) -> [u64; 9]
+    ensures { λ r. ⌜ Replies (engineNamed engine) (fedOf (record { d = d; n = n; g = g; tally = 0; count = count; name = name })
+        (now (script .entry)) (now (table .entry)) (now (sheet .entry))) r (now (sheet .exit)) (now (table .exit)) ⌝ }
+{
     let mut answer = [0u64; 9];
     match engine {
         Engine::Copy => {

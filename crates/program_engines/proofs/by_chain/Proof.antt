@@ -1,4 +1,6 @@
 -- `program_engines::by_chain` meets its contract: a walk of its MIR, written by `tools/walk program_engines by_chain`. By hand is Proof/Facts.antt alone.
+mod Facts
+mod Said
 use mathlib.Core.Path.{_≡_, refl}
 use Prim.Native.Nat.{ℕ}
 use native.Mathlib.Omega.{arith}
@@ -34,12 +36,12 @@ use denote.Exit.{yes}
 use Rattle.walks.specs.Data.{Good, typed, usizes, words32, words16, units}
 use Rattle.walks.specs.Loans.{Loan, loanSlice, loanRef, shrSlice, mutRef, mutSlice}
 use Rattle.walks.specs.Params.{Par, dat, brw, denots, valss, vals, lfts, shares, ins, outs}
-use Rattle.walks.specs.Functions.{arrives}
+use Rattle.walks.specs.Functions.{arrives, leaves-with}
 use Rattle.walks.specs.Calls.{to, calls-by}
 use Rattle.walks.specs.Clauses.{asks-all}
 use Rattle.walks.specs.Frames.{begins, tysOf, blockOf}
 use Rattle.walks.specs.Holes.{lends-out, whole-again, var-in, arrays, repeats, repeats-good}
-use Rattle.walks.specs.Arrays.{spanAt, lends-span, back-span, leaves-unsaid}
+use Rattle.walks.specs.Arrays.{spanAt, lends-span, back-span}
 use Rattle.walks.specs.Locals.{var, lent, lent-ptr, lent-slice, puts, lands-in, ends}
 use Rattle.chain_records.proofs.Elem.{recs}
 use denote.Struct.Laws as laws
@@ -53,6 +55,8 @@ use Rattle.program_engines.proofs.by_chain.Key.{name as #me}
 use Rattle.program_engines.proofs.by_chain as f
 use Rattle.program_engines.proofs.by_chain.Statement as stated
 use Rattle.program_engines.proofs.by_chain.Code as mine
+use Rattle.program_engines.proofs.by_chain.Proof.Facts as facts
+use Rattle.program_engines.proofs.by_chain.Proof.Said as said
 
 abbrev Calls-enrol-chain : {M : Type 1} (𝓤 : URA M) (H : Heap 𝓤) (A : Atoms 𝓤) → (Memory → SProp 𝓤) → (Routine → Fun 𝓤) → Contract 𝓤
 Calls-enrol-chain 𝓤 H A mem run = tripleOf 𝓤 H A enrol-chain.signature (enrol-chain.spec 𝓤 H A mem run)
@@ -100,8 +104,8 @@ module _ {M : Type 1} (𝓤 : URA M) (H : Heap 𝓤) (A : Atoms 𝓤) (W : Given
   abbrev Post : Val → SProp 𝓤
   Post = walkOf 𝓤 H A f.ended stayed (f.clauses 𝓤 H A mem run) .post bound
 
-  exits : (table′ : List ℤ) (sheet′ : List ℤ) (answer′ : List ℕ) → length table′ ≡ length table → length sheet′ ≡ length sheet → ent 𝓤 (⋆ 𝓤 H A (outs 𝓤 0 ps (tt, (tt, (tt, (tt, (table′, (tt, (tt, (sheet′, (answer′, tt))))))))))) (Post vunit)
-  exits table′ sheet′ answer′ same-table same-sheet = via 𝓤 _ (leaves-unsaid 𝓤 H A W ps (tt, (tt, (tt, (tt, (table′, (tt, (tt, (sheet′, (answer′, tt))))))))) (g-d, (g-n, (g-g, (g-count, (g-name, tt))))) units tt refl)
+  exits : (table′ : List ℤ) (sheet′ : List ℤ) (answer′ : List ℕ) → length table′ ≡ length table → length sheet′ ≡ length sheet → said.Said script d n g table count name sheet table′ sheet′ answer′ → ent 𝓤 (⋆ 𝓤 H A (outs 𝓤 0 ps (tt, (tt, (tt, (tt, (table′, (tt, (tt, (sheet′, (answer′, tt))))))))))) (Post vunit)
+  exits table′ sheet′ answer′ same-table same-sheet says = via 𝓤 _ (leaves-with 𝓤 H A W ps (tt, (tt, (tt, (tt, (table′, (tt, (tt, (sheet′, (answer′, tt))))))))) (g-d, (g-n, (g-g, (g-count, (g-name, tt))))) units tt refl (said.Said script d n g table count name sheet table′ sheet′ answer′) says)
       (ends-at 𝓤 H A f.ended stayed (f.clauses 𝓤 H A mem run) W bound vunit tt (tt, (tt, (tt, (tt, (table′, (tt, (tt, (sheet′, (answer′, tt))))))))) (tt, (tt, (tt, (tt, (same-table, (tt, (tt, (same-sheet, (tt, tt))))))))))
 
   module _ (𝓣 : Tables 𝓤 H)
@@ -128,7 +132,7 @@ module _ {M : Type 1} (𝓤 : URA M) (H : Heap 𝓤) (A : Atoms 𝓤) (W : Given
         move ! (3 ∷ 5 ∷ []) $ back-span ! tt recs 256 4 10 (blockOf 𝓤 H (tysOf (mine.function .locals)) β 10) own-records (ws1 .1 .1 .1 .1 .1 .1 .1 .1 .1 .0) s1-own-records refl refl tt refl refl (λ g1-own-records.
         whole-again ! 4 refl tt $ lands-in ! 4 12 refl tt (tt, tt) $
         puts ! 4 0 refl (of-opd ! (unit-lit !)) tt (tt, tt) $
-        ends ! 4 refl refl tt $ by ! (exits (ws1 .1 .1 .1 .1 .1 .0) (ws1 .1 .1 .1 .1 .1 .1 .1 .1 .0) (ws1 .1 .1 .1 .1 .1 .1 .1 .1 .1 .1 .0) (same1 .1 .0) (same1 .1 .1 .0)))))))
+        ends ! 4 refl refl tt $ by ! (exits (ws1 .1 .1 .1 .1 .1 .0) (ws1 .1 .1 .1 .1 .1 .1 .1 .1 .0) (ws1 .1 .1 .1 .1 .1 .1 .1 .1 .1 .1 .0) (same1 .1 .0) (same1 .1 .1 .0) (facts.says script d n g table count name sheet answer own-records own-records-is (ws1 .1 .1 .1 .1 .1 .0) (ws1 .1 .1 .1 .1 .1 .1 .1 .1 .0) (ws1 .1 .1 .1 .1 .1 .1 .1 .1 .1 .0) (ws1 .1 .1 .1 .1 .1 .1 .1 .1 .1 .1 .0) e1)))))))
 
 module _ {M : Type 1} (𝓤 : URA M) (H : Heap 𝓤) (A : Atoms 𝓤) (W : Given 𝓤 H A) (mem : Memory → SProp 𝓤) (run : Routine → Fun 𝓤) (𝓣 : Tables 𝓤 H)
     (known-enrol-chain : Triple 𝓤 (𝓣 .C #enrol-chain) (Calls-enrol-chain 𝓤 H A mem run)) where
