@@ -20,7 +20,7 @@ use Rattle.laws.specs.Distinct.{Distinct, fresh-distinct}
 use Rattle.grammar.specs.Rules.{Name, FormedFormals, FormedDecl, FormedDecls, FormedStmt, FormedStmts}
 use Rattle.grammar.specs.Reading.{GotFormals, GotDecl, GotDecls, GotStmt, ReadsBlocks, read-formals, read-decl, read-decls, read-stmt, read-blocks}
 use Rattle.causes.specs.Places.{Place, block-due, formal-due, decl-due, stmt-due, opens, marksAt, names, Opened, Heads, Before, at-start, at-declaration, at-statement, at-formal, at-body}
-use Rattle.causes.specs.Faults.{no-arguments, kind-range, index-range, operation-range, arguments-range, deep-block, many-formals, many-names, formal-twice, variable-twice, label-twice, procedure-twice}
+use Rattle.causes.specs.Faults.{no-arguments, kind-range, index-range, operation-range, arguments-range, deep-block, many-formals, many-names, formal-twice, variable-twice, label-twice, procedure-twice, past-end, out-of-range, too-deep, too-many, twice}
 use Rattle.causes.specs.Blaming.{Blames, table, yields-any, blames-bind, blames-part, blames-require, blames-fields, blames-kind, blames-operation}
 use Rattle.causes.specs.Growing.{moreDecls, moreStmts, more-decls, more-decls-fields, more-decls-formed, more-stmts, more-stmts-fields, more-stmts-formed, more-formals-fields, more-formals-formed, more-formals-names, more-names, Alike, alike-more, distinct-more}
 use Rattle.causes.specs.Records.{Reached, Told, due, due-as, reached-as, names-left, blames-due, reached-on}
@@ -107,8 +107,8 @@ module _ (all : List ℕ) (named : Each Name all) where
         let r = formal-reached h (omega arith) in
         blames-due r formalMarks _ refl (
           (λ x f vs e.
-              blames-kind (Told all) at f (at + 6) vs _ (λ big. due-as r FieldRange e (kind-range x f vs (omega arith))) (λ k q.
-              blames-require (Told all) _ _ _ _ (at + 6) vs (λ t. due-as r NameTwice e (formal-twice x f vs (omega (arith, small k f q)) (sym (same x) ∙ not-false (among x seen) t))) (λ t.
+              blames-kind (Told all) at f (at + 6) vs _ (λ big. due-as r FieldRange e (out-of-range (kind-range x f vs (omega arith)))) (λ k q.
+              blames-require (Told all) _ _ _ _ (at + 6) vs (λ t. due-as r NameTwice e (twice (formal-twice x f vs (omega (arith, small k f q)) (sym (same x) ∙ not-false (among x seen) t)))) (λ t.
               let u = not-true (among x seen) t in
               blames-bind (Told all) (formals m (x ∷ seen)) _ (λ a o ws. Unit {0}) (at + 6) vs
               (blames-formals m (x ∷ seen) (at + 6) vs (gs ++ (record { at = at; name = x; kind = k } ∷ []))
@@ -133,15 +133,15 @@ module _ (all : List ℕ) (named : Each Name all) where
 
       blames-VR : (n : ℕ) (vs : List ℕ) → us ≡ VR-mark ∷ n ∷ vs → Blames (Told all) (declared body s seen isVR at (n ∷ []) (at + 4) vs)
       unfolding declared give
-      blames-VR n vs e = blames-require (Told all) _ _ _ _ (at + 4) vs (λ t. due-as r NameTwice e (variable-twice n vs (seen-before n t))) (λ t. tt)
+      blames-VR n vs e = blames-require (Told all) _ _ _ _ (at + 4) vs (λ t. due-as r NameTwice e (twice (variable-twice n vs (seen-before n t)))) (λ t. tt)
 
       blames-LB : (n i : ℕ) (vs : List ℕ) → us ≡ LB-mark ∷ n ∷ i ∷ vs → Blames (Told all) (declared body s seen isLB at (n ∷ i ∷ []) (at + 6) vs)
       unfolding declared give
       blames-LB n i vs e =
-          blames-require (Told all) _ _ _ _ (at + 6) vs (λ t. due-as r FieldRange e (index-range n i vs (outside i s t))) (λ t.
+          blames-require (Told all) _ _ _ _ (at + 6) vs (λ t. due-as r FieldRange e (out-of-range (index-range n i vs (outside i s t)))) (λ t.
           let q = (and-eq-true-iff (leb 1 i) (leb i s)) .0 t in
           blames-require (Told all) _ _ _ _ (at + 6) vs
-          (λ u. due-as r NameTwice e (label-twice n i vs (omega (arith, leb-true 1 i (q .0))) (omega (arith, leb-true i s (q .1))) (seen-before n u))) (λ u. tt))
+          (λ u. due-as r NameTwice e (twice (label-twice n i vs (omega (arith, leb-true 1 i (q .0))) (omega (arith, leb-true i s (q .1))) (seen-before n u)))) (λ u. tt))
 
       heading : (n p : ℕ) (vs : List ℕ) → us ≡ PR-mark ∷ n ∷ p ∷ vs → p ≤ 32 → among n seen ≡ false → Heading all level s fs ds n p (at + 6) vs []
       unfolding formalsFields FormedFormals formalNames
@@ -183,9 +183,9 @@ module _ (all : List ℕ) (named : Each Name all) where
       blames-PR : (n p : ℕ) (vs : List ℕ) → us ≡ PR-mark ∷ n ∷ p ∷ vs → Blames (Told all) (declared body s seen isPR at (n ∷ p ∷ []) (at + 6) vs)
       unfolding declared give formalNames
       blames-PR n p vs e =
-          blames-require (Told all) _ _ _ _ (at + 6) vs (λ t. due-as r TooManyNames e (many-formals n p vs (omega (arith, leb-false p 32 t)))) (λ t.
+          blames-require (Told all) _ _ _ _ (at + 6) vs (λ t. due-as r TooManyNames e (too-many (many-formals n p vs (omega (arith, leb-false p 32 t))))) (λ t.
           let few = leb-true p 32 t in
-          blames-require (Told all) _ _ _ _ (at + 6) vs (λ u. due-as r NameTwice e (procedure-twice n p vs (omega arith) (seen-before n u))) (λ u.
+          blames-require (Told all) _ _ _ _ (at + 6) vs (λ u. due-as r NameTwice e (twice (procedure-twice n p vs (omega arith) (seen-before n u)))) (λ u.
           let new = not-true (among n seen) u in
           blames-bind (Told all) (formals p []) _ (GotFormals p [] (at + 6) vs) (at + 6) vs
           (blames-formals p [] (at + 6) vs [] (heading n p vs e few new) (omega arith) (λ m. refl))
@@ -247,14 +247,14 @@ module _ (all : List ℕ) (named : Each Name all) where
       blames-CL : (n a : ℕ) (vs : List ℕ) → us ≡ CL-mark ∷ n ∷ a ∷ vs → Blames (Told all) (stated body isCL at (n ∷ a ∷ []) (at + 6) vs)
       unfolding stated action give
       blames-CL n a vs e =
-          blames-require (Told all) _ _ _ _ (at + 6) vs (λ t. due-as r FieldRange e (arguments-range n a vs (omega (arith, leb-false a 32 t)))) (λ t.
+          blames-require (Told all) _ _ _ _ (at + 6) vs (λ t. due-as r FieldRange e (out-of-range (arguments-range n a vs (omega (arith, leb-false a 32 t))))) (λ t.
           blames-bind (Told all) (fields at a) _ (λ xs o zs. Unit {0}) (at + 6) vs
-          (blames-fields (Told all) at a (at + 6) vs (λ l. due-as r PastTheEnd e (no-arguments n a vs (omega (arith, leb-true a 32 t)) (omega arith))))
+          (blames-fields (Told all) at a (at + 6) vs (λ l. due-as r PastTheEnd e (past-end (no-arguments n a vs (omega (arith, leb-true a 32 t)) (omega arith)))))
           (yields-any (fields at a (at + 6) vs)) (λ xs o zs y. tt))
 
       blames-AR : (t o l x : ℕ) (vs : List ℕ) → us ≡ AR-mark ∷ t ∷ o ∷ l ∷ x ∷ vs → Blames (Told all) (stated body isAR at (t ∷ o ∷ l ∷ x ∷ []) (at + 10) vs)
       unfolding stated action give
-      blames-AR t o l x vs e = blames-operation (Told all) at o (at + 10) vs _ (λ big. due-as r FieldRange e (operation-range t o l x vs (omega arith))) (λ k q. tt)
+      blames-AR t o l x vs e = blames-operation (Told all) at o (at + 10) vs _ (λ big. due-as r FieldRange e (out-of-range (operation-range t o l x vs (omega arith)))) (λ k q. tt)
 
       blames-stmt : Blames (Told all) ((take-record stmtMarks >>= λ x. stated body (x .mark) (x .at) (x .fields)) at us)
       unfolding stmtMarks table marksAt stated action give
@@ -339,7 +339,7 @@ module _ (all : List ℕ) (named : Each Name all) where
     blames-block =
         let size = length-map fs (λ (f : Formal). f .name) in
         blames-require (Told all) _ _ _ _ (at + 6) us
-        (λ t. due r TooManyNames (many-names level fs d s us o (omega arith) (omega (arith, leb-false (length (formalNames fs) + d) 32 t, size)))) (λ t.
+        (λ t. due r TooManyNames (too-many (many-names level fs d s us o (omega arith) (omega (arith, leb-false (length (formalNames fs) + d) 32 t, size))))) (λ t.
         let few : length fs + d ≤ 32 = omega (arith, leb-true (length (formalNames fs) + d) 32 t, size) in
         let left = (names-left r named) .1 .1 .1 in
         blames-bind (Told all) (declarations (blockWith k) s d (formalNames fs)) _ (GotDecls level s d (formalNames fs) (at + 6) us) (at + 6) us
@@ -352,7 +352,7 @@ module _ (all : List ℕ) (named : Each Name all) where
 
   blames-blocks : (k level : ℕ) → level + k ≡ 17 → BlamesBlocks (blockWith k) level
   unfolding blockWith
-  blames-blocks zero level e p fs at d s us o once r = due r NestingDepth (deep-block level fs d s us o (omega arith))
+  blames-blocks zero level e p fs at d s us o once r = due r NestingDepth (too-deep (deep-block level fs d s us o (omega arith)))
   blames-blocks (suc k) level e p fs at d s us o once r =
       blames-block level k (read-blocks k (suc level) (omega arith)) (blames-blocks k (suc level) (omega arith)) (omega arith) p fs at d s us o once r
 

@@ -14,14 +14,13 @@ use Rattle.language.specs.Text.{Kind, variable, label, procedure, Formal, forma
 use Rattle.language.specs.Encoding.{VR-mark, LB-mark, PR-mark, FM-mark, CL-mark, AR-mark}
 use Rattle.language.specs.Structure.{refuse, Reader, _>>=_, _>>_, give, here, require, fields, Row, isVR, isLB, isPR, isCL, isAR, blockMarks, formalMarks, declMarks, stmtMarks, fit, take-record, kind, operation, formals, declared, declarations, stated, statements, blockWith}
 use Rattle.language.specs.declared.Refusal.{Refusal}
-use Rattle.language.specs.declared.Refusal.the-variants.{ScriptLength, PastTheEnd, MarkMisplaced, FieldRange, BytesAfter, NestingDepth, TooManyNames, NameTwice, NotVisible, WrongKind, CallMismatch, LimitRange, AreaTooShort, TableNotRight}
+use Rattle.language.specs.declared.Refusal.the-variants.{PastTheEnd, MarkMisplaced, FieldRange, NestingDepth, TooManyNames, NameTwice}
 use Rattle.laws.specs.Tests.{none≢some, some-inj}
 use Rattle.laws.specs.Readers.{bind-refuse, passes, fails, filled}
 use Rattle.grammar.specs.Writing.{row, marked}
 use Rattle.causes.specs.Places.{Place, block-due, formal-due, decl-due, stmt-due, marksAt}
-use Rattle.causes.specs.Faults.{PastEnd, no-mark, no-fields, no-arguments, Misplaced, no-row, OutOfRange, kind-range, index-range, operation-range, arguments-range, TooDeep, deep-block, TooMany, many-formals, many-names, Twice, formal-twice, variable-twice, label-twice, procedure-twice}
+use Rattle.causes.specs.Faults.{PastEnd, no-mark, no-fields, no-arguments, Misplaced, no-row, OutOfRange, kind-range, index-range, operation-range, arguments-range, TooDeep, deep-block, TooMany, many-formals, many-names, Twice, formal-twice, variable-twice, label-twice, procedure-twice, Broken, past-end, misplaced, out-of-range, too-deep, too-many, twice}
 use Rattle.causes.specs.Blaming.{table}
-use Rattle.causes.specs.Records.{Broken}
 use Rattle.causes.specs.Leading.{Stops, opens-stops}
 
 -- fields that are too few
@@ -190,45 +189,37 @@ module _ (at : ℕ) where
         fails _ _ at _ (at + 6) vs (lt-leb (length (formalNames fs) + d) 32 (omega (arith, length-map fs (λ (f : Formal). f .name))))
 
   -- each cause
-  past-end : (p : Place) (us : List ℕ) → PastEnd p us → Stops p at us PastTheEnd at
-  past-end p us no-mark = taking-stops p at [] PastTheEnd (λ M rows e. take-none rows at)
-  past-end p us (no-fields w k ws e l) = taking-stops p at (w ∷ ws) PastTheEnd (λ M rows q. take-short rows at w k ws (ap (lookup w) q ∙ e) l)
-  past-end p us (no-arguments n a ws l h) = λ k m e. call-short k m n a ws (omega arith) (omega arith)
+  end-stops : (p : Place) (us : List ℕ) → PastEnd p us → Stops p at us PastTheEnd at
+  end-stops p us no-mark = taking-stops p at [] PastTheEnd (λ M rows e. take-none rows at)
+  end-stops p us (no-fields w k ws e l) = taking-stops p at (w ∷ ws) PastTheEnd (λ M rows q. take-short rows at w k ws (ap (lookup w) q ∙ e) l)
+  end-stops p us (no-arguments n a ws l h) = λ k m e. call-short k m n a ws (omega arith) (omega arith)
 
-  misplaced : (p : Place) (us : List ℕ) → Misplaced p us → Stops p at us MarkMisplaced at
-  misplaced p us (no-row w ws e) = taking-stops p at (w ∷ ws) MarkMisplaced (λ M rows q. take-misplaced rows at w ws (ap (lookup w) q ∙ e))
+  mark-stops : (p : Place) (us : List ℕ) → Misplaced p us → Stops p at us MarkMisplaced at
+  mark-stops p us (no-row w ws e) = taking-stops p at (w ∷ ws) MarkMisplaced (λ M rows q. take-misplaced rows at w ws (ap (lookup w) q ∙ e))
 
-  out-of-range : (p : Place) (us : List ℕ) → OutOfRange p us → Stops p at us FieldRange at
-  out-of-range p us (kind-range {fs = fs} n k ws h) = λ m seen a. formal-kind fs n k ws m seen (omega arith)
-  out-of-range p us (index-range {s = s} n i ws h) = λ k m seen e a. label-index k s m seen n i ws h
-  out-of-range p us (operation-range t o l r ws h) = λ k m e. sum-operation k m t o l r ws (omega arith)
-  out-of-range p us (arguments-range n a ws h) = λ k m e. call-many k m n a ws (omega arith)
+  range-stops : (p : Place) (us : List ℕ) → OutOfRange p us → Stops p at us FieldRange at
+  range-stops p us (kind-range {fs = fs} n k ws h) = λ m seen a. formal-kind fs n k ws m seen (omega arith)
+  range-stops p us (index-range {s = s} n i ws h) = λ k m seen e a. label-index k s m seen n i ws h
+  range-stops p us (operation-range t o l r ws h) = λ k m e. sum-operation k m t o l r ws (omega arith)
+  range-stops p us (arguments-range n a ws h) = λ k m e. call-many k m n a ws (omega arith)
 
-  too-deep : (p : Place) (us : List ℕ) → TooDeep p us → Stops p at us NestingDepth at
-  too-deep p us (deep-block level fs d s ws e h) = opens-stops p level fs at d s ws e (block-deep d s fs ws level (omega arith))
+  depth-stops : (p : Place) (us : List ℕ) → TooDeep p us → Stops p at us NestingDepth at
+  depth-stops p us (deep-block level fs d s ws e h) = opens-stops p level fs at d s ws e (block-deep d s fs ws level (omega arith))
 
-  too-many : (p : Place) (us : List ℕ) → TooMany p us → Stops p at us TooManyNames at
-  too-many p us (many-formals {s = s} n q ws h) = λ k m seen e a. procedure-many k s m seen n q ws (omega arith)
-  too-many p us (many-names level fs d s ws e l h) = opens-stops p level fs at d s ws e (block-many d s fs ws level (omega arith) (omega arith))
+  many-stops : (p : Place) (us : List ℕ) → TooMany p us → Stops p at us TooManyNames at
+  many-stops p us (many-formals {s = s} n q ws h) = λ k m seen e a. procedure-many k s m seen n q ws (omega arith)
+  many-stops p us (many-names level fs d s ws e l h) = opens-stops p level fs at d s ws e (block-many d s fs ws level (omega arith) (omega arith))
 
-  twice : (p : Place) (us : List ℕ) → Twice p us → Stops p at us NameTwice at
-  twice p us (formal-twice {fs = fs} n k ws l h) = λ m seen a. formal-again fs n k ws m seen (omega arith) (a n ∙ h)
-  twice p us (variable-twice {s = s} n ws h) = λ k m seen e a. variable-again k s m seen n ws (a n ∙ h)
-  twice p us (label-twice {s = s} n i ws q r h) = λ k m seen e a. label-again k s m seen n i ws (omega arith) (omega arith) (a n ∙ h)
-  twice p us (procedure-twice {s = s} n q ws l h) = λ k m seen e a. procedure-again k s m seen n q ws (omega arith) (a n ∙ h)
+  twice-stops : (p : Place) (us : List ℕ) → Twice p us → Stops p at us NameTwice at
+  twice-stops p us (formal-twice {fs = fs} n k ws l h) = λ m seen a. formal-again fs n k ws m seen (omega arith) (a n ∙ h)
+  twice-stops p us (variable-twice {s = s} n ws h) = λ k m seen e a. variable-again k s m seen n ws (a n ∙ h)
+  twice-stops p us (label-twice {s = s} n i ws q r h) = λ k m seen e a. label-again k s m seen n i ws (omega arith) (omega arith) (a n ∙ h)
+  twice-stops p us (procedure-twice {s = s} n q ws l h) = λ k m seen e a. procedure-again k s m seen n q ws (omega arith) (a n ∙ h)
 
   pub broken-stops : (c : Refusal) (p : Place) (us : List ℕ) → Broken c p us → Stops p at us c at
-  broken-stops ScriptLength p us b = absurd b
-  broken-stops PastTheEnd p us b = past-end p us b
-  broken-stops MarkMisplaced p us b = misplaced p us b
-  broken-stops FieldRange p us b = out-of-range p us b
-  broken-stops BytesAfter p us b = absurd b
-  broken-stops NestingDepth p us b = too-deep p us b
-  broken-stops TooManyNames p us b = too-many p us b
-  broken-stops NameTwice p us b = twice p us b
-  broken-stops NotVisible p us b = absurd b
-  broken-stops WrongKind p us b = absurd b
-  broken-stops CallMismatch p us b = absurd b
-  broken-stops LimitRange p us b = absurd b
-  broken-stops AreaTooShort p us b = absurd b
-  broken-stops TableNotRight p us b = absurd b
+  broken-stops c p us (past-end b) = end-stops p us b
+  broken-stops c p us (misplaced b) = mark-stops p us b
+  broken-stops c p us (out-of-range b) = range-stops p us b
+  broken-stops c p us (too-deep b) = depth-stops p us b
+  broken-stops c p us (too-many b) = many-stops p us b
+  broken-stops c p us (twice b) = twice-stops p us b

@@ -15,7 +15,7 @@ use Rattle.language.specs.Structure.{Reading, read, refuse, give, blockMarks, f
 use Rattle.language.specs.Scope.{Judgement, fine, wrong, judgeBlock}
 use Rattle.language.specs.Check.{Checked, accepted, refused, lengthFits, judged, ended, check}
 use Rattle.language.specs.declared.Refusal.{Refusal}
-use Rattle.language.specs.declared.Refusal.the-variants.{ScriptLength, PastTheEnd, MarkMisplaced, FieldRange, BytesAfter, NestingDepth, TooManyNames, NameTwice, NotVisible, WrongKind, CallMismatch, LimitRange, AreaTooShort, TableNotRight}
+use Rattle.language.specs.declared.Refusal.the-variants.{ScriptLength, BytesAfter}
 use Rattle.laws.specs.Tests.{split, never}
 use Rattle.grammar.specs.Rules.{Bytes, FormedBlock}
 use Rattle.grammar.specs.Readers.{Yields}
@@ -23,44 +23,39 @@ use Rattle.grammar.specs.Words.{fields-are-names}
 use Rattle.grammar.specs.Reading.{GotBlock, read-program}
 use Rattle.grammar.specs.Writing.{row, marked, within, within-is, write-block}
 use Rattle.causes.specs.Sites.{Sees}
-use Rattle.causes.specs.Faults.{Followed, Used, LengthWrong, Fault}
+use Rattle.causes.specs.Faults.{Followed, Used, LengthWrong, LengthFits, Misuse, Fault, of-length, of-record, of-end, of-use}
 use Rattle.causes.specs.Blaming.{Blames}
 use Rattle.causes.specs.Records.{Told}
 use Rattle.causes.specs.Blamed.{blames-program}
-use Rattle.causes.specs.Misusing.{Misuse}
 use Rattle.causes.specs.Judging.{FirstWrong, judges-block}
 use Rattle.causes.specs.Leading.{leads}
 use Rattle.causes.specs.Breaking.{broken-stops}
 
--- the length
-abbrev Fits : List ℕ → Type 0
-Fits bs = (1 ≤ length bs) × (length bs ≤ 8192) × (length bs % 2 ≡ 0)
-
-fits : (bs : List ℕ) → lengthFits bs ≡ true → Fits bs
+fits : (bs : List ℕ) → lengthFits bs ≡ true → LengthFits bs
 unfolding lengthFits
 fits bs e =
     let f = (and-eq-true-iff (leb 1 (length bs) && leb (length bs) 8192) (eqb (length bs % 2) 0)) .0 e in
     let g = (and-eq-true-iff (leb 1 (length bs)) (leb (length bs) 8192)) .0 (f .0) in
-    (leb-true 1 (length bs) (g .0), leb-true (length bs) 8192 (g .1), eqb-true (length bs % 2) 0 (f .1))
+    record { some-bytes = leb-true 1 (length bs) (g .0); most = leb-true (length bs) 8192 (g .1); even = eqb-true (length bs % 2) 0 (f .1) }
 
-fits-true : (bs : List ℕ) → Fits bs → lengthFits bs ≡ true
+fits-true : (bs : List ℕ) → LengthFits bs → lengthFits bs ≡ true
 unfolding lengthFits
-fits-true bs h = rw (le-leb 1 (length bs) (h .0), le-leb (length bs) 8192 (h .1), eq-eqb (length bs % 2) 0 (h .2))
+fits-true bs h = rw (le-leb 1 (length bs) (h .some-bytes), le-leb (length bs) 8192 (h .most), eq-eqb (length bs % 2) 0 (h .even))
 
 unfit : (bs : List ℕ) → lengthFits bs ≡ false → LengthWrong bs
 unfit bs e =
     split (leb 1 (length bs))
     (λ a. split (leb (length bs) 8192)
     (λ b. split (eqb (length bs % 2) 0)
-    (λ c. never (fits-true bs (leb-true 1 (length bs) a, leb-true (length bs) 8192 b, eqb-true (length bs % 2) 0 c)) e)
+    (λ c. never (fits-true bs (record { some-bytes = leb-true 1 (length bs) a; most = leb-true (length bs) 8192 b; even = eqb-true (length bs % 2) 0 c })) e)
     (λ c. inr (inr (omega (arith, eqb-false (length bs % 2) 0 c)))))
     (λ b. inr (inl (leb-false (length bs) 8192 b))))
     (λ a. inl (omega (arith, leb-false 1 (length bs) a)))
 
-fits-not : (bs : List ℕ) → LengthWrong bs → Fits bs → ⊥
-fits-not bs (inl h) f = omega arith
-fits-not bs (inr (inl h)) f = omega arith
-fits-not bs (inr (inr h)) f = omega arith
+fits-not : (bs : List ℕ) → LengthWrong bs → LengthFits bs → ⊥
+fits-not bs (inl h) f = omega (arith, f .some-bytes)
+fits-not bs (inr (inl h)) f = omega (arith, f .most)
+fits-not bs (inr (inr h)) f = omega (arith, f .even)
 
 not-fits : (bs : List ℕ) → LengthWrong bs → lengthFits bs ≡ false
 not-fits bs h = split (lengthFits bs) (λ e. absurd (fits-not bs h (fits bs e))) (λ e. e)
@@ -71,55 +66,23 @@ abbrev Says : List ℕ → Checked → Type 0
 Says bs (accepted t) = Unit {0}
 Says bs (refused c o) = Fault bs c o
 
-module _ (bs : List ℕ) (f : Fits bs) where
-  told-fault : (c : Refusal) (o : ℕ) → Told (fieldsOf bs) c o → Fault bs c o
-  told-fault ScriptLength o h = absurd (h .fault)
-  told-fault PastTheEnd o h = (f .0, f .1, f .2, h)
-  told-fault MarkMisplaced o h = (f .0, f .1, f .2, h)
-  told-fault FieldRange o h = (f .0, f .1, f .2, h)
-  told-fault BytesAfter o h = absurd (h .fault)
-  told-fault NestingDepth o h = (f .0, f .1, f .2, h)
-  told-fault TooManyNames o h = (f .0, f .1, f .2, h)
-  told-fault NameTwice o h = (f .0, f .1, f .2, h)
-  told-fault NotVisible o h = absurd (h .fault)
-  told-fault WrongKind o h = absurd (h .fault)
-  told-fault CallMismatch o h = absurd (h .fault)
-  told-fault LimitRange o h = absurd (h .fault)
-  told-fault AreaTooShort o h = absurd (h .fault)
-  told-fault TableNotRight o h = absurd (h .fault)
-
+module _ (bs : List ℕ) (f : LengthFits bs) where
   module _ (t : Block) (w : FormedBlock t 1 [] 0) (e : fieldsOf bs ≡ blockFields t) where
     used-by : (c : Refusal) (o : ℕ) → FirstWrong (Sees t [] []) c o → Used (fieldsOf bs) o (Misuse c)
     used-by c o h =
         record { program = t; formed = w; text = e; action = h .action; scope = h .scope; sees = h .sees; earlier = λ p a sc k l. h .earlier p a sc k (omega arith); fault = h .fault }
 
-    used-fault : (c : Refusal) (o : ℕ) → FirstWrong (Sees t [] []) c o → Fault bs c o
-    used-fault ScriptLength o h = absurd (h .fault)
-    used-fault PastTheEnd o h = absurd (h .fault)
-    used-fault MarkMisplaced o h = absurd (h .fault)
-    used-fault FieldRange o h = absurd (h .fault)
-    used-fault BytesAfter o h = absurd (h .fault)
-    used-fault NestingDepth o h = absurd (h .fault)
-    used-fault TooManyNames o h = absurd (h .fault)
-    used-fault NameTwice o h = absurd (h .fault)
-    used-fault NotVisible o h = (f .0, f .1, f .2, used-by NotVisible o h)
-    used-fault WrongKind o h = (f .0, f .1, f .2, used-by WrongKind o h)
-    used-fault CallMismatch o h = (f .0, f .1, f .2, used-by CallMismatch o h)
-    used-fault LimitRange o h = absurd (h .fault)
-    used-fault AreaTooShort o h = absurd (h .fault)
-    used-fault TableNotRight o h = absurd (h .fault)
-
     judged-says : (v : Judgement) → judgeBlock t [] [] ≡ v → Says bs (judged t v)
     unfolding judged
     judged-says fine q = tt
-    judged-says (wrong c o) q = used-fault c o (((judges-block t 1 0 [] [] w) .first c o) .0 q)
+    judged-says (wrong c o) q = of-use f (used-by c o (((judges-block t 1 0 [] [] w) .first c o) .0 q))
 
   ended-says : (x : Reading Block) → Blames (Told (fieldsOf bs)) x → Yields (GotBlock 1 [] 0 (fieldsOf bs)) x → Says bs (ended x)
   unfolding ended
   ended-says (read t o []) b y = judged-says t (y .formed) (y .step .text ∙ append-nil (blockFields t)) (judgeBlock t [] []) refl
   ended-says (read t o (w ∷ ws)) b y =
-      (f .0, f .1, f .2, record { program = t; next = w; later = ws; formed = y .formed; text = y .step .text; stands = omega (arith, y .step .next) })
-  ended-says (refuse c o) b y = told-fault c o b
+      of-end {o = o} f (record { program = t; next = w; later = ws; formed = y .formed; text = y .step .text; stands = omega (arith, y .step .next) })
+  ended-says (refuse c o) b y = of-record f b
 
 check-says : (bs : List ℕ) → Bytes bs → Says bs (check bs)
 unfolding check
@@ -128,7 +91,7 @@ check-says bs h = go (lengthFits bs) refl
     go : (b : Bool) → lengthFits bs ≡ b → Says bs (elim b [ true ↦ ended (program 0 (fieldsOf bs)) | false ↦ refused ScriptLength 0 ])
     go true e =
         ended-says bs (fits bs e) (program 0 (fieldsOf bs)) (blames-program (fieldsOf bs) (fields-are-names bs h)) (read-program (fieldsOf bs) (fields-are-names bs h))
-    go false e = (unfit bs e, refl)
+    go false e = of-length (unfit bs e)
 
 -- whatever the check refuses has its cause
 pub faulted : (bs : List ℕ) → Bytes bs → (c : Refusal) (o : ℕ) → check bs ≡ refused c o → Fault bs c o
@@ -136,7 +99,7 @@ faulted bs h c o e = subst (Says bs) e (check-says bs h)
 
 -- From the cause to the check
 
-module _ (bs : List ℕ) (f : Fits bs) where
+module _ (bs : List ℕ) (f : LengthFits bs) where
   check-is : check bs ≡ ended (program 0 (fieldsOf bs))
   unfolding check
   check-is = rw (fits-true bs f, check)
@@ -157,7 +120,7 @@ program-read t ws h =
     ∙ write-block t 16 1 [] 0 refl h ws
     ∙ ap (λ (o : ℕ). read t o ws) z
 
-module _ (bs : List ℕ) (f : Fits bs) where
+module _ (bs : List ℕ) (f : LengthFits bs) where
   after-refused : (o : ℕ) → Followed (fieldsOf bs) o → check bs ≡ refused BytesAfter o
   unfolding ended
   after-refused o h =
@@ -173,26 +136,16 @@ module _ (bs : List ℕ) (f : Fits bs) where
       ∙ ap ended (ap (program 0) (h .text ∙ sym (append-nil (blockFields (h .program)))) ∙ program-read (h .program) [] (h .formed))
       ∙ ap (judged (h .program)) k
 
-length-refused : (bs : List ℕ) (o : ℕ) → LengthWrong bs → o ≡ 0 → check bs ≡ refused ScriptLength o
+length-refused : (bs : List ℕ) → LengthWrong bs → check bs ≡ refused ScriptLength 0
 unfolding check
-length-refused bs o h e = rw (not-fits bs h, check) (ap (refused ScriptLength) (sym e))
+length-refused bs h = rw (not-fits bs h, check)
 
 -- where a cause holds, the check refuses with it
 pub fault-refused : (bs : List ℕ) (c : Refusal) (o : ℕ) → Fault bs c o → check bs ≡ refused c o
-fault-refused bs ScriptLength o h = length-refused bs o (h .0) (h .1)
-fault-refused bs PastTheEnd o h = record-refused bs (h .0, h .1, h .2) PastTheEnd o (h .3)
-fault-refused bs MarkMisplaced o h = record-refused bs (h .0, h .1, h .2) MarkMisplaced o (h .3)
-fault-refused bs FieldRange o h = record-refused bs (h .0, h .1, h .2) FieldRange o (h .3)
-fault-refused bs BytesAfter o h = after-refused bs (h .0, h .1, h .2) o (h .3)
-fault-refused bs NestingDepth o h = record-refused bs (h .0, h .1, h .2) NestingDepth o (h .3)
-fault-refused bs TooManyNames o h = record-refused bs (h .0, h .1, h .2) TooManyNames o (h .3)
-fault-refused bs NameTwice o h = record-refused bs (h .0, h .1, h .2) NameTwice o (h .3)
-fault-refused bs NotVisible o h = use-refused bs (h .0, h .1, h .2) NotVisible o (h .3)
-fault-refused bs WrongKind o h = use-refused bs (h .0, h .1, h .2) WrongKind o (h .3)
-fault-refused bs CallMismatch o h = use-refused bs (h .0, h .1, h .2) CallMismatch o (h .3)
-fault-refused bs LimitRange o h = absurd h
-fault-refused bs AreaTooShort o h = absurd h
-fault-refused bs TableNotRight o h = absurd h
+fault-refused bs c o (of-length h) = length-refused bs h
+fault-refused bs c o (of-record f h) = record-refused bs f c o h
+fault-refused bs c o (of-end f h) = after-refused bs f o h
+fault-refused bs c o (of-use f h) = use-refused bs f c o h
 
 -- Each of 1 to 11 exactly on its cause, and no other refusal.
 pub refuses-exactly : (bs : List ℕ) → Bytes bs → (c : Refusal) (o : ℕ) → (check bs ≡ refused c o) ↔ Fault bs c o

@@ -13,7 +13,7 @@ use Rattle.language.specs.Text.{Kind, variable, label, procedure, Formal, Actio
 use Rattle.language.specs.Encoding.{BK-mark, VR-mark, LB-mark, PR-mark, FM-mark, CL-mark, AR-mark, blockFields, fieldsOf}
 use Rattle.language.specs.Scope.{Meaning, Scope, kindIn}
 use Rattle.language.specs.declared.Refusal.{Refusal}
-use Rattle.language.specs.declared.Refusal.the-variants.{ScriptLength, PastTheEnd, MarkMisplaced, FieldRange, BytesAfter, NestingDepth, TooManyNames, NameTwice, NotVisible, WrongKind, CallMismatch, LimitRange, AreaTooShort, TableNotRight}
+use Rattle.language.specs.declared.Refusal.the-variants.{ScriptLength, PastTheEnd, MarkMisplaced, FieldRange, BytesAfter, NestingDepth, TooManyNames, NameTwice, NotVisible, WrongKind, CallMismatch}
 use Rattle.laws.specs.Each.{Each}
 use Rattle.laws.specs.Kinds.{Differs}
 use Rattle.grammar.specs.Rules.{FormedBlock, Visible, Is, ScopedAction}
@@ -142,22 +142,28 @@ pub record Used (all : List ℕ) (o : ℕ) (P : Action → Scope → Type 0) : T
 abbrev pub LengthWrong : List ℕ → Type 0
 LengthWrong bs = (length bs ≡ 0) ⊎ (8192 < length bs) ⊎ (length bs % 2 ≡ 1)
 
--- the length is right, and then a cause among the fields
-abbrev pub Within : List ℕ → (List ℕ → Type 0) → Type 0
-Within bs P = (1 ≤ length bs) × (length bs ≤ 8192) × (length bs % 2 ≡ 0) × P (fieldsOf bs)
+-- the length is right, which the others take for granted
+pub record LengthFits (bs : List ℕ) : Type 0 where
+  pub some-bytes : 1 ≤ length bs
+  pub most : length bs ≤ 8192
+  pub even : length bs % 2 ≡ 0
 
-abbrev pub Fault : List ℕ → Refusal → ℕ → Type 0
-Fault bs ScriptLength o = LengthWrong bs × (o ≡ 0)
-Fault bs PastTheEnd o = Within bs (λ all. At all o PastEnd)
-Fault bs MarkMisplaced o = Within bs (λ all. At all o Misplaced)
-Fault bs FieldRange o = Within bs (λ all. At all o OutOfRange)
-Fault bs BytesAfter o = Within bs (λ all. Followed all o)
-Fault bs NestingDepth o = Within bs (λ all. At all o TooDeep)
-Fault bs TooManyNames o = Within bs (λ all. At all o TooMany)
-Fault bs NameTwice o = Within bs (λ all. At all o Twice)
-Fault bs NotVisible o = Within bs (λ all. Used all o Unseen)
-Fault bs WrongKind o = Within bs (λ all. Used all o OtherKind)
-Fault bs CallMismatch o = Within bs (λ all. Used all o Mismatch)
-Fault bs LimitRange o = ⊥
-Fault bs AreaTooShort o = ⊥
-Fault bs TableNotRight o = ⊥
+-- Which cause has which refusal: those judged in file order, those judged in the scope, and all.
+pub data Broken : Refusal → Place → List ℕ → Type 0 where
+  past-end : {p : Place} {us : List ℕ} → PastEnd p us → Broken PastTheEnd p us
+  misplaced : {p : Place} {us : List ℕ} → Misplaced p us → Broken MarkMisplaced p us
+  out-of-range : {p : Place} {us : List ℕ} → OutOfRange p us → Broken FieldRange p us
+  too-deep : {p : Place} {us : List ℕ} → TooDeep p us → Broken NestingDepth p us
+  too-many : {p : Place} {us : List ℕ} → TooMany p us → Broken TooManyNames p us
+  twice : {p : Place} {us : List ℕ} → Twice p us → Broken NameTwice p us
+
+pub data Misuse : Refusal → Action → Scope → Type 0 where
+  not-seen : {a : Action} {sc : Scope} → Unseen a sc → Misuse NotVisible a sc
+  of-another-kind : {a : Action} {sc : Scope} → OtherKind a sc → Misuse WrongKind a sc
+  not-matched : {a : Action} {sc : Scope} → Mismatch a sc → Misuse CallMismatch a sc
+
+pub data Fault (bs : List ℕ) : Refusal → ℕ → Type 0 where
+  of-length : LengthWrong bs → Fault bs ScriptLength 0
+  of-record : {c : Refusal} {o : ℕ} → LengthFits bs → At (fieldsOf bs) o (Broken c) → Fault bs c o
+  of-end : {o : ℕ} → LengthFits bs → Followed (fieldsOf bs) o → Fault bs BytesAfter o
+  of-use : {c : Refusal} {o : ℕ} → LengthFits bs → Used (fieldsOf bs) o (Misuse c) → Fault bs c o

@@ -13,7 +13,8 @@ use Rattle.grammar.specs.Rules.{FormedBlock, FormedDecl, FormedStmt, FormedDecl
 use Rattle.grammar.specs.Scoped.{then-first, then-second, then-both, action-scoped}
 use Rattle.causes.specs.Sites.{Sees, SeesDecl, SeesStmt, SeesDecls, SeesStmts}
 use Rattle.causes.specs.Seeing.{decl-lies, stmt-lies, decls-lie, stmts-lie}
-use Rattle.causes.specs.Misusing.{Misuse, judged-wrong, wrong-then, fine-then, action-misused, misuse-wrong}
+use Rattle.causes.specs.Faults.{Misuse}
+use Rattle.causes.specs.Misusing.{judged-wrong, wrong-then, fine-then, action-misused, misuse-wrong}
 
 -- where actions stand, and which
 abbrev Site : Type 1

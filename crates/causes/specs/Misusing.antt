@@ -9,30 +9,13 @@ use Rattle.language.specs.Basics.{lookup}
 use Rattle.language.specs.Text.{Kind, variable, label, procedure, sameKind, Action, CL, GO, IF, KN, AR, AD, RM, QY}
 use Rattle.language.specs.Scope.{Meaning, Scope, Judgement, fine, wrong, _then_, ofKind, uses, visible, allVisible, kindIn, agree, agrees, judgeAction}
 use Rattle.language.specs.declared.Refusal.{Refusal}
-use Rattle.language.specs.declared.Refusal.the-variants.{ScriptLength, PastTheEnd, MarkMisplaced, FieldRange, BytesAfter, NestingDepth, TooManyNames, NameTwice, NotVisible, WrongKind, CallMismatch, LimitRange, AreaTooShort, TableNotRight}
+use Rattle.language.specs.declared.Refusal.the-variants.{NotVisible, WrongKind, CallMismatch}
 use Rattle.laws.specs.Tests.{split, never}
 use Rattle.laws.specs.Each.{Each}
 use Rattle.laws.specs.Kinds.{same-kind, agree-false, differs-false}
 use Rattle.grammar.specs.Scoped.{Fine, nothing, both}
 use Rattle.grammar.specs.Scoped.{used as of-kind, seen as of-any}
-use Rattle.causes.specs.Faults.{used, Suits, Uses, Unseen, OtherKind, Mismatch}
-
--- the causes judged in the scope, by their refusal
-abbrev pub Misuse : Refusal → Action → Scope → Type 0
-Misuse ScriptLength a sc = ⊥
-Misuse PastTheEnd a sc = ⊥
-Misuse MarkMisplaced a sc = ⊥
-Misuse FieldRange a sc = ⊥
-Misuse BytesAfter a sc = ⊥
-Misuse NestingDepth a sc = ⊥
-Misuse TooManyNames a sc = ⊥
-Misuse NameTwice a sc = ⊥
-Misuse NotVisible a sc = Unseen a sc
-Misuse WrongKind a sc = OtherKind a sc
-Misuse CallMismatch a sc = Mismatch a sc
-Misuse LimitRange a sc = ⊥
-Misuse AreaTooShort a sc = ⊥
-Misuse TableNotRight a sc = ⊥
+use Rattle.causes.specs.Faults.{used, Suits, Uses, Mismatch, Misuse, not-seen, of-another-kind, not-matched}
 
 -- what holds of a refusal and its offset, if there is one
 abbrev pub Judged : (Refusal → ℕ → Type 0) → Judgement → Type 0
@@ -199,8 +182,8 @@ uses-bad sc o ((n, want) ∷ us) =
     )) (uses-bad sc o us))
 
 bad-misuse : (sc : Scope) (a : Action) (c : Refusal) (n : ℕ) (want : Option Kind) → Uses sc a n want → Bad sc n want c → Misuse c a sc
-bad-misuse sc a c n want u (bad-unseen e) = record { name = n; want = want; uses = u; unseen = e }
-bad-misuse sc a c n want u (bad-kind {k = k} m e q) = record { name = n; want = k; meaning = m; uses = u; seen = e; other = q }
+bad-misuse sc a c n want u (bad-unseen e) = not-seen (record { name = n; want = want; uses = u; unseen = e })
+bad-misuse sc a c n want u (bad-kind {k = k} m e q) = of-another-kind (record { name = n; want = k; meaning = m; uses = u; seen = e; other = q })
 
 first-misuse : (sc : Scope) (a : Action) (c : Refusal) → FirstBad sc (used a) c → Misuse c a sc
 first-misuse sc a c h = bad-misuse sc a c (h .name) (h .want) (record { left = h .left; right = h .right; order = h .order; fine = h .fine }) (h .bad)
@@ -214,7 +197,7 @@ module _ (sc : Scope) (o p : ℕ) (xs : List ℕ) (h : Each (Suits sc) (used (CL
       differ : (ks : List Kind) → m .takes ≡ some ks → (t : Bool) → agree ks (map (kindIn sc) xs) ≡ t
           → Judged (λ c q. (q ≡ o) × Misuse c (CL p xs) sc) (elim t [ true ↦ fine | false ↦ wrong CallMismatch o ])
       differ ks e′ true q = tt
-      differ ks e′ false q = (refl, record { called = p; arguments = xs; meaning = m; takes = ks; call = refl; fine = h; seen = e; declared = e′; differ = agree-false ks (map (kindIn sc) xs) q })
+      differ ks e′ false q = (refl, not-matched (record { called = p; arguments = xs; meaning = m; takes = ks; call = refl; fine = h; seen = e; declared = e′; differ = agree-false ks (map (kindIn sc) xs) q }))
 
       takes : (t : Option (List Kind)) → m .takes ≡ t
           → Judged (λ c q. (q ≡ o) × Misuse c (CL p xs) sc) (elim t [ none ↦ fine | some ks ↦ elim (agree ks (map (kindIn sc) xs)) [ true ↦ fine | false ↦ wrong CallMismatch o ] ])
@@ -265,17 +248,6 @@ mismatch-wrong sc o a h =
     ∙ rw (h .seen, agrees, h .declared, differs-false (h .takes) (map (kindIn sc) (h .arguments)) (h .differ))
 
 pub misuse-wrong : (c : Refusal) (sc : Scope) (o : ℕ) (a : Action) → Misuse c a sc → judgeAction sc o a ≡ wrong c o
-misuse-wrong ScriptLength sc o a h = absurd h
-misuse-wrong PastTheEnd sc o a h = absurd h
-misuse-wrong MarkMisplaced sc o a h = absurd h
-misuse-wrong FieldRange sc o a h = absurd h
-misuse-wrong BytesAfter sc o a h = absurd h
-misuse-wrong NestingDepth sc o a h = absurd h
-misuse-wrong TooManyNames sc o a h = absurd h
-misuse-wrong NameTwice sc o a h = absurd h
-misuse-wrong NotVisible sc o a h = bad-action sc o a (h .name) (h .want) NotVisible (h .uses) (bad-unseen (h .unseen))
-misuse-wrong WrongKind sc o a h = bad-action sc o a (h .name) (some (h .want)) WrongKind (h .uses) (bad-kind (h .meaning) (h .seen) (h .other))
-misuse-wrong CallMismatch sc o a h = mismatch-wrong sc o a h
-misuse-wrong LimitRange sc o a h = absurd h
-misuse-wrong AreaTooShort sc o a h = absurd h
-misuse-wrong TableNotRight sc o a h = absurd h
+misuse-wrong c sc o a (not-seen h) = bad-action sc o a (h .name) (h .want) NotVisible (h .uses) (bad-unseen (h .unseen))
+misuse-wrong c sc o a (of-another-kind h) = bad-action sc o a (h .name) (some (h .want)) WrongKind (h .uses) (bad-kind (h .meaning) (h .seen) (h .other))
+misuse-wrong c sc o a (not-matched h) = mismatch-wrong sc o a h

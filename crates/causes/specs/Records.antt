@@ -1,5 +1,4 @@
--- A record that is due and what is at fault there, for the proofs: `Broken` has the causes judged in file order by their refusals, `Reached` says that
--- the fields us are what is left of a script where a place is due, and `blames-due` is the law of a reader that takes the record there.
+-- A record that is due and what is at fault there, for the proofs: `Reached` says that the fields us are what is left of a script where a place is due, and `blames-due` is the law of a reader that takes the record there.
 use Prim.Native.Nat.{ℕ, _+_, _*_}
 use native.Mathlib.Omega.{arith}
 use mathlib.Core.List.{List, _++_, append-assoc}
@@ -9,29 +8,13 @@ use lib.ListN.{length, length-append}
 use Rattle.language.specs.Basics.{lookup}
 use Rattle.language.specs.Structure.{Reader, _>>=_, Row, Record, take-record}
 use Rattle.language.specs.declared.Refusal.{Refusal}
-use Rattle.language.specs.declared.Refusal.the-variants.{ScriptLength, PastTheEnd, MarkMisplaced, FieldRange, BytesAfter, NestingDepth, TooManyNames, NameTwice, NotVisible, WrongKind, CallMismatch, LimitRange, AreaTooShort, TableNotRight}
+use Rattle.language.specs.declared.Refusal.the-variants.{PastTheEnd, MarkMisplaced}
 use Rattle.laws.specs.Each.{Each, each-second}
 use Rattle.grammar.specs.Rules.{Name}
 use Rattle.grammar.specs.Readers.{Marked}
 use Rattle.causes.specs.Places.{Place, marksAt, Before}
-use Rattle.causes.specs.Faults.{PastEnd, no-mark, no-fields, Misplaced, no-row, OutOfRange, TooDeep, TooMany, Twice, At}
+use Rattle.causes.specs.Faults.{no-mark, no-fields, no-row, At, Broken, past-end, misplaced}
 use Rattle.causes.specs.Blaming.{Blames, table, blames-marks}
-
-abbrev pub Broken : Refusal → Place → List ℕ → Type 0
-Broken ScriptLength p us = ⊥
-Broken PastTheEnd p us = PastEnd p us
-Broken MarkMisplaced p us = Misplaced p us
-Broken FieldRange p us = OutOfRange p us
-Broken BytesAfter p us = ⊥
-Broken NestingDepth p us = TooDeep p us
-Broken TooManyNames p us = TooMany p us
-Broken NameTwice p us = Twice p us
-Broken NotVisible p us = ⊥
-Broken WrongKind p us = ⊥
-Broken CallMismatch p us = ⊥
-Broken LimitRange p us = ⊥
-Broken AreaTooShort p us = ⊥
-Broken TableNotRight p us = ⊥
 
 pub record Reached (all : List ℕ) (p : Place) (at : ℕ) (us : List ℕ) : Type 0 where
   pub before : List ℕ
@@ -59,9 +42,9 @@ module _ {all : List ℕ} {p : Place} {at : ℕ} {us : List ℕ} (r : Reached al
   pub blames-due : {M B : Type 0} (rows : List (Row M)) (f : Record M → Reader B) → table rows ≡ marksAt p
       → Each (Marked at us (λ x o vs. Blames (Told all) (f x o vs))) rows → Blames (Told all) ((take-record rows >>= f) at us)
   blames-due rows f e h =
-      blames-marks (Told all) rows f at us (λ q. due-as PastTheEnd q no-mark)
-      (λ w vs q l. due-as MarkMisplaced q (no-row w vs (subst (λ (t : List (ℕ × ℕ)). lookup w t ≡ none) e l)))
-      (λ w k vs q l s. due-as PastTheEnd q (no-fields w k vs (subst (λ (t : List (ℕ × ℕ)). lookup w t ≡ some k) e l) s)) h
+      blames-marks (Told all) rows f at us (λ q. due-as PastTheEnd q (past-end no-mark))
+      (λ w vs q l. due-as MarkMisplaced q (misplaced (no-row w vs (subst (λ (t : List (ℕ × ℕ)). lookup w t ≡ none) e l))))
+      (λ w k vs q l s. due-as PastTheEnd q (past-end (no-fields w k vs (subst (λ (t : List (ℕ × ℕ)). lookup w t ≡ some k) e l) s))) h
 
 -- fields that lead to a place, and more of them up to another place
 pub reached-on : {all : List ℕ} (ws xs : List ℕ) {at : ℕ} {us : List ℕ} {p : Place} → all ≡ ws ++ (xs ++ us) → at ≡ 2 * length ws + 2 * length xs → Before (ws ++ xs) p
