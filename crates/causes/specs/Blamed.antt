@@ -19,7 +19,7 @@ use Rattle.laws.specs.Each.{Each}
 use Rattle.laws.specs.Distinct.{Distinct, fresh-distinct}
 use Rattle.grammar.specs.Rules.{Name, FormedFormals, FormedDecl, FormedDecls, FormedStmt, FormedStmts}
 use Rattle.grammar.specs.Reading.{GotFormals, GotDecl, GotDecls, GotStmt, ReadsBlocks, read-formals, read-decl, read-decls, read-stmt, read-blocks}
-use Rattle.causes.specs.Places.{Place, block-due, formal-due, decl-due, stmt-due, opens, marksAt, names, Opened, Heads, Before, at-start, at-declaration, at-statement, at-formal, at-body}
+use Rattle.causes.specs.Places.{Place, block-due, formal-due, decl-due, stmt-due, opens, marksAt, names, Opened, Heads, LeadsUp, at-start, at-declaration, at-statement, at-formal, at-body}
 use Rattle.causes.specs.Faults.{no-arguments, kind-range, index-range, operation-range, arguments-range, deep-block, many-formals, many-names, formal-twice, variable-twice, label-twice, procedure-twice, past-end, out-of-range, too-deep, too-many, twice}
 use Rattle.causes.specs.Blaming.{Blames, table, yields-any, blames-bind, blames-part, blames-require, blames-fields, blames-kind, blames-operation}
 use Rattle.causes.specs.Growing.{moreDecls, moreStmts, more-decls, more-decls-fields, more-decls-formed, more-stmts, more-stmts-fields, more-stmts-formed, more-formals-fields, more-formals-formed, more-formals-names, more-names, Alike, alike-more, distinct-more}
@@ -39,7 +39,7 @@ outside i s t =
 -- the formals gs of a PR are there, and the fields us are left
 record Heading (all : List ℕ) (level s : ℕ) (fs : List Formal) (ds : List Decl) (n p at : ℕ) (us : List ℕ) (gs : List Formal) : Type 0 where
   before : List ℕ
-  led : Before before (decl-due level s fs ds)
+  led : LeadsUp before (decl-due level s fs ds)
   text : all ≡ before ++ (PR-mark ∷ n ∷ p ∷ (formalsFields gs ++ us))
   stands : at ≡ 2 * length before + 6 + 2 * length (formalsFields gs)
   heads : Heads fs ds n p (2 * length before) gs
@@ -48,7 +48,7 @@ record Heading (all : List ℕ) (level s : ℕ) (fs : List Formal) (ds : List De
 record Opening (all : List ℕ) (level d s : ℕ) (fs : List Formal) (at : ℕ) (us : List ℕ) (ds : Decls) : Type 0 where
   before : List ℕ
   place : Place
-  led : Before before place
+  led : LeadsUp before place
   opened : opens place ≡ some (level, fs)
   text : all ≡ before ++ (BK-mark ∷ d ∷ s ∷ (declsFields ds ++ us))
   stands : at ≡ 2 * length before + 6 + 2 * length (declsFields ds)
@@ -58,7 +58,7 @@ record Opening (all : List ℕ) (level d s : ℕ) (fs : List Formal) (at : ℕ) 
 record Listing (all : List ℕ) (level d s : ℕ) (fs : List Formal) (at : ℕ) (us : List ℕ) (ds : Decls) (ss : Stmts) : Type 0 where
   before : List ℕ
   place : Place
-  led : Before before place
+  led : LeadsUp before place
   opened : opens place ≡ some (level, fs)
   text : all ≡ before ++ (BK-mark ∷ d ∷ s ∷ ((declsFields ds ++ stmtsFields ss) ++ us))
   stands : at ≡ 2 * length before + 6 + 2 * length (declsFields ds ++ stmtsFields ss)

@@ -27,7 +27,7 @@ use Rattle.coordinates.specs.Visible.{meaningsOf, scopeOf, meanings-named}
 use Rattle.causes.specs.Places.{Place}
 use Rattle.causes.specs.Faults.{Uses, Used, Unseen, OtherKind, Mismatch, Broken, past-end, misplaced, out-of-range, too-deep, too-many, twice, Misuse, not-seen, of-another-kind, not-matched, Fault, of-length, of-record, of-end, of-use}
 use Rattle.causes.specs.Exact.{faulted}
-use Rattle.causes.specs.FormalSites.{StandsAt, found-among}
+use Rattle.causes.specs.FormalSites.{StandsAmong, found-among}
 use Rattle.causes.specs.FormalSettled.{sees-stands}
 
 -- An action of the whole program that the bytes are, at the offset o, and the blocks around it, innermost first.
@@ -37,7 +37,7 @@ pub record ActionAt (bs : List ℕ) (o : ℕ) : Type 0 where
   pub text : fieldsOf bs ≡ blockFields program
   pub action : Action
   pub blocks : Enclosure
-  pub stands : StandsAt program blocks o action
+  pub stands : StandsAmong program blocks o action
 
 -- the nearest block that has the name n has it as a formal, or a declaration, that gives it the meaning m
 pub data Nearest (n : ℕ) (m : Meaning) : Enclosure → Type 0 where

@@ -18,7 +18,7 @@ use Rattle.laws.specs.Each.{Each}
 use Rattle.laws.specs.Kinds.{Differs}
 use Rattle.grammar.specs.Rules.{FormedBlock, Visible, Is, ScopedAction}
 use Rattle.causes.specs.Sites.{Sees}
-use Rattle.causes.specs.Places.{Place, formal-due, decl-due, stmt-due, opens, marksAt, names, Before}
+use Rattle.causes.specs.Places.{Place, formal-due, decl-due, stmt-due, opens, marksAt, names, LeadsUp}
 
 -- 2: no mark is left, or too few fields after a mark that may stand there, or too few names after a CL
 pub data PastEnd : Place → List ℕ → Type 0 where
@@ -64,7 +64,7 @@ pub record At (all : List ℕ) (o : ℕ) (P : Place → List ℕ → Type 0) : T
   pub place : Place
   pub text : all ≡ before ++ rest
   pub stands : o ≡ 2 * length before
-  pub led : Before before place
+  pub led : LeadsUp before place
   pub fault : P place rest
 
 -- 5: the fields of a whole program, and at the offset at least one more

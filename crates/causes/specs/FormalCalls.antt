@@ -30,7 +30,7 @@ use Rattle.coordinates.specs.Designated.{statement-scoped}
 use Rattle.coordinates.specs.Sound.{Sound, call-sound}
 use Rattle.coordinates.specs.Called.{differing-formal}
 use Rattle.causes.specs.Sites.{Sees}
-use Rattle.causes.specs.FormalSites.{StandsAt, stands-sees, NearestFormal, formal-nearest}
+use Rattle.causes.specs.FormalSites.{StandsAmong, stands-sees, NearestFormal, formal-nearest}
 use Rattle.causes.specs.FormalSettled.{sees-once}
 use Rattle.causes.specs.FormalStops.{run-stopped, CallDiffers, step-differs}
 
@@ -48,16 +48,16 @@ pub record CallsFormal (t : Block) (o : ℕ) : Type 0 where
   pub kind : meaning .kind ≡ procedure
   pub takes : meaning .takes ≡ none
   pub around : Enclosure
-  pub stands : StandsAt t around o (CL called arguments)
+  pub stands : StandsAmong t around o (CL called arguments)
   pub formal : Formal
   pub nearest : NearestFormal called formal around
   pub gives : formalMeaning formal ≡ (called, meaning)
 
 -- the next statement, among the blocks of the innermost frame's chain
 next-stands : (t : Block) (fs : List Frame) → Chained t fs → (f : Frame) (at : ℕ) (a : Action) → last? fs ≡ some f → frameStmt f ≡ some (DO at a)
-    → StandsAt t (enclosureOf fs (length fs)) at a
+    → StandsAmong t (enclosureOf fs (length fs)) at a
 unfolding frameStmt enclosing
-next-stands t fs chain f at a e q = in-innermost t fs chain f e (λ es. StandsAt t es at a) (λ es w. (w, pred (f .next), q))
+next-stands t fs chain f at a e q = in-innermost t fs chain f e (λ es. StandsAmong t es at a) (λ es w. (w, pred (f .next), q))
 
 module _ (l : Limits) (t : Block) (keeps : Keeps t) (s : Stack) (sound : Sound l t s) where
   calls-formal : (c : CallDiffers s) → CallsFormal t (c .at)

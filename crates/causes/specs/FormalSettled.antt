@@ -13,12 +13,12 @@ use Rattle.coordinates.specs.Enclosure.{Enclosing, enclosed, Enclosure, as-bloc
 use Rattle.coordinates.specs.Index.{action-settled}
 use Rattle.coordinates.specs.Visible.{scopeOf}
 use Rattle.causes.specs.Sites.{Sees, SeesDecl, SeesStmt, SeesDecls, SeesStmts}
-use Rattle.causes.specs.FormalSites.{StandsAt, inside-meanings}
+use Rattle.causes.specs.FormalSites.{StandsAmong, inside-meanings}
 
 module _ (t : Block) (o : ℕ) (a : Action) (sc : Scope) where
   pub record Around : Type 0 where
     pub blocks : Enclosure
-    pub stands : StandsAt t blocks o a
+    pub stands : StandsAmong t blocks o a
     pub visible : scopeOf blocks ≡ sc
 
   -- these declarations, or statements, are some of a block's
@@ -64,7 +64,7 @@ module _ (t : Block) (o : ℕ) (a : Action) (sc : Scope) where
   unfolding whole scopeOf
   sees-stands h = from-block t [] [] refl h
 
-stands-once : (t : Block) → Keeps t → (o : ℕ) (a b : Action) (es ds : Enclosure) → StandsAt t es o a → StandsAt t ds o b → (a ≡ b) × (es ≡ ds)
+stands-once : (t : Block) → Keeps t → (o : ℕ) (a b : Action) (es ds : Enclosure) → StandsAmong t es o a → StandsAmong t ds o b → (a ≡ b) × (es ≡ ds)
 stands-once t keeps o a b [] ds h k = absurd h
 stands-once t keeps o a b (e ∷ es) [] h k = absurd k
 stands-once t keeps o a b (e ∷ es) (d ∷ ds) h k = action-settled t keeps e d es ds (h .0) (k .0) (h .1) (k .1) o a b (h .2) (k .2)

@@ -1,4 +1,4 @@
--- Where an action stands, by the blocks around it. `StandsAt t es o a`: the action a is the statement at offset o of the innermost of the blocks es,
+-- Where an action stands, by the blocks around it. `StandsAmong t es o a`: the action a is the statement at offset o of the innermost of the blocks es,
 -- which enclose one another in the program t. `stands-sees`: what such an action sees is the scope of es. `NearestFormal p f es`: the nearest of these
 -- blocks that has the name p has it as the formal f. `formal-nearest`: so it is for a visible name that means a procedure and does not say what it takes.
 use Prim.Native.Nat.{ℕ, zero, suc}
@@ -21,9 +21,9 @@ use Rattle.coordinates.specs.Enclosure.{Enclosing, enclosed, Enclosure, namesOf
 use Rattle.coordinates.specs.Visible.{meaningsOf, scopeOf, meanings-named}
 use Rattle.causes.specs.Sites.{Sees, SeesDecl, SeesStmt, SeesDecls, SeesStmts}
 
-abbrev pub StandsAt : Block → Enclosure → ℕ → Action → Type 0
-StandsAt t [] o a = ⊥
-StandsAt t (e ∷ es) o a = Encloses t (e ∷ es) × (i : ℕ) × (getElem? (blockStmts (e .text)) i ≡ some (DO o a))
+abbrev pub StandsAmong : Block → Enclosure → ℕ → Action → Type 0
+StandsAmong t [] o a = ⊥
+StandsAmong t (e ∷ es) o a = Encloses t (e ∷ es) × (i : ℕ) × (getElem? (blockStmts (e .text)) i ≡ some (DO o a))
 
 pub data NearestFormal (p : ℕ) (f : Formal) : Enclosure → Type 0 where
   here : {e : Enclosing} {es : Enclosure} (i : ℕ) → getElem? (e .formals) i ≡ some f → f .name ≡ p → NearestFormal p f (e ∷ es)
@@ -69,7 +69,7 @@ module _ (o : ℕ) (a : Action) (sc : Scope) where
   sees-from t e [] w h = subst (λ (x : Enclosing). Sees (x .text) (x .formals) [] o a sc) w h
   sees-from t e (u ∷ es) w h = sees-from t u es (w .1) (outward e u (scopeOf es) (w .0) h)
 
-pub stands-sees : (t : Block) (es : Enclosure) (o : ℕ) (a : Action) → StandsAt t es o a → Sees t [] [] o a (scopeOf es)
+pub stands-sees : (t : Block) (es : Enclosure) (o : ℕ) (a : Action) → StandsAmong t es o a → Sees t [] [] o a (scopeOf es)
 unfolding Sees scopeOf
 stands-sees t [] o a h = absurd h
 stands-sees t (e ∷ es) o a h =

@@ -20,7 +20,7 @@ use Rattle.laws.specs.Readers.{bind-read, bind-refuse, passes}
 use Rattle.grammar.specs.Rules.{FormedFormals, FormedDecls, FormedStmts}
 use Rattle.grammar.specs.Readers.{bind-assoc}
 use Rattle.grammar.specs.Writing.{row, marked, kind-read, new, write-formals, one-decl, one-stmt, write-decl, write-stmt, write-decls}
-use Rattle.causes.specs.Places.{Place, block-due, formal-due, decl-due, stmt-due, opens, names, Opened, Heads, Before, at-start, at-declaration, at-statement, at-formal, at-body}
+use Rattle.causes.specs.Places.{Place, block-due, formal-due, decl-due, stmt-due, opens, names, Opened, Heads, LeadsUp, at-start, at-declaration, at-statement, at-formal, at-body}
 use Rattle.causes.specs.Growing.{Alike, alike-middle, alike-end}
 
 -- the reader of a block with its BK, where so many levels are left
@@ -182,7 +182,7 @@ module _ {c : Refusal} {o : ℕ} where
         ∙ bind-assoc (take-record blockMarks) (λ b. blockWith k (b .at) (getD (b .fields) 0 0) (getD (b .fields) 1 0) (formalNames gs)) _ _ _
         ∙ bind-refuse (whole k gs) _ _ _ (h k e))
 
-  pub leads : {ws : List ℕ} {p : Place} → Before ws p → (us : List ℕ) → Stops p (2 * length ws) us c o → program 0 (ws ++ us) ≡ refuse c o
+  pub leads : {ws : List ℕ} {p : Place} → LeadsUp ws p → (us : List ℕ) → Stops p (2 * length ws) us c o → program 0 (ws ++ us) ≡ refuse c o
   unfolding program formalNames
   leads at-start us h = h 16 refl
   leads (at-declaration {ws} {place} {level} {fs} d s ds b e w l) us h =

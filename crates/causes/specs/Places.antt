@@ -1,4 +1,4 @@
--- Encoding: where in a script a record is due, and what the fields before it must be. `Before ws p`: the fields ws, from the script's start on, lead
+-- Encoding: where in a script a record is due, and what the fields before it must be. `LeadsUp ws p`: the fields ws, from the script's start on, lead
 -- up to a record that is due at the place p, and no rule that is judged in file order (2 to 4 and 6 to 8) is broken in them. Of the blocks that are still open
 -- there, each holds whole declarations and statements, which keep the rules of `grammar`'s Rules.antt.
 use Prim.Native.Nat.{ℕ, suc, _+_, _*_, _≤_, _<_}
@@ -56,18 +56,18 @@ pub record Heads (fs : List Formal) (ds : List Decl) (n p : ℕ) (here : ℕ) (g
   pub once : Distinct (formalNames gs)
   pub formed : FormedFormals gs (here + 6)
 
-pub data Before : List ℕ → Place → Type 0 where
-  at-start : Before [] (block-due 1 [])
-  at-declaration : {ws : List ℕ} {place : Place} {level : ℕ} {fs : List Formal} (d s : ℕ) (ds : Decls) → Before ws place → opens place ≡ some (level, fs)
+pub data LeadsUp : List ℕ → Place → Type 0 where
+  at-start : LeadsUp [] (block-due 1 [])
+  at-declaration : {ws : List ℕ} {place : Place} {level : ℕ} {fs : List Formal} (d s : ℕ) (ds : Decls) → LeadsUp ws place → opens place ≡ some (level, fs)
       → Opened level d s fs (2 * length ws) ds → length (decls ds) < d
-      → Before (ws ++ (BK-mark ∷ d ∷ s ∷ declsFields ds)) (decl-due level s fs (decls ds))
-  at-statement : {ws : List ℕ} {place : Place} {level : ℕ} {fs : List Formal} (d s : ℕ) (ds : Decls) (ss : Stmts) → Before ws place → opens place ≡ some (level, fs)
+      → LeadsUp (ws ++ (BK-mark ∷ d ∷ s ∷ declsFields ds)) (decl-due level s fs (decls ds))
+  at-statement : {ws : List ℕ} {place : Place} {level : ℕ} {fs : List Formal} (d s : ℕ) (ds : Decls) (ss : Stmts) → LeadsUp ws place → opens place ≡ some (level, fs)
       → Opened level d s fs (2 * length ws) ds → length (decls ds) ≡ d
       → FormedStmts ss level (2 * length ws + 6 + 2 * length (declsFields ds)) → length (stmts ss) < s
-      → Before (ws ++ (BK-mark ∷ d ∷ s ∷ (declsFields ds ++ stmtsFields ss))) (stmt-due level)
-  at-formal : {ws : List ℕ} {level s : ℕ} {fs : List Formal} {ds : List Decl} (n p : ℕ) (gs : List Formal) → Before ws (decl-due level s fs ds)
+      → LeadsUp (ws ++ (BK-mark ∷ d ∷ s ∷ (declsFields ds ++ stmtsFields ss))) (stmt-due level)
+  at-formal : {ws : List ℕ} {level s : ℕ} {fs : List Formal} {ds : List Decl} (n p : ℕ) (gs : List Formal) → LeadsUp ws (decl-due level s fs ds)
       → Heads fs ds n p (2 * length ws) gs → length gs < p
-      → Before (ws ++ (PR-mark ∷ n ∷ p ∷ formalsFields gs)) (formal-due gs)
-  at-body : {ws : List ℕ} {level s : ℕ} {fs : List Formal} {ds : List Decl} (n p : ℕ) (gs : List Formal) → Before ws (decl-due level s fs ds)
+      → LeadsUp (ws ++ (PR-mark ∷ n ∷ p ∷ formalsFields gs)) (formal-due gs)
+  at-body : {ws : List ℕ} {level s : ℕ} {fs : List Formal} {ds : List Decl} (n p : ℕ) (gs : List Formal) → LeadsUp ws (decl-due level s fs ds)
       → Heads fs ds n p (2 * length ws) gs → length gs ≡ p
-      → Before (ws ++ (PR-mark ∷ n ∷ p ∷ formalsFields gs)) (block-due (suc level) gs)
+      → LeadsUp (ws ++ (PR-mark ∷ n ∷ p ∷ formalsFields gs)) (block-due (suc level) gs)

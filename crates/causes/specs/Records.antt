@@ -12,7 +12,7 @@ use Rattle.language.specs.declared.Refusal.the-variants.{PastTheEnd, MarkMispla
 use Rattle.laws.specs.Each.{Each, each-second}
 use Rattle.grammar.specs.Rules.{Name}
 use Rattle.grammar.specs.Readers.{Marked}
-use Rattle.causes.specs.Places.{Place, marksAt, Before}
+use Rattle.causes.specs.Places.{Place, marksAt, LeadsUp}
 use Rattle.causes.specs.Faults.{no-mark, no-fields, no-row, At, Broken, past-end, misplaced}
 use Rattle.causes.specs.Blaming.{Blames, table, blames-marks}
 
@@ -20,7 +20,7 @@ pub record Reached (all : List ℕ) (p : Place) (at : ℕ) (us : List ℕ) : Typ
   pub before : List ℕ
   pub text : all ≡ before ++ us
   pub stands : at ≡ 2 * length before
-  pub led : Before before p
+  pub led : LeadsUp before p
 
 abbrev pub Told : List ℕ → Refusal → ℕ → Type 0
 Told all c o = At all o (Broken c)
@@ -47,6 +47,6 @@ module _ {all : List ℕ} {p : Place} {at : ℕ} {us : List ℕ} (r : Reached al
       (λ w k vs q l s. due-as PastTheEnd q (past-end (no-fields w k vs (subst (λ (t : List (ℕ × ℕ)). lookup w t ≡ some k) e l) s))) h
 
 -- fields that lead to a place, and more of them up to another place
-pub reached-on : {all : List ℕ} (ws xs : List ℕ) {at : ℕ} {us : List ℕ} {p : Place} → all ≡ ws ++ (xs ++ us) → at ≡ 2 * length ws + 2 * length xs → Before (ws ++ xs) p
+pub reached-on : {all : List ℕ} (ws xs : List ℕ) {at : ℕ} {us : List ℕ} {p : Place} → all ≡ ws ++ (xs ++ us) → at ≡ 2 * length ws + 2 * length xs → LeadsUp (ws ++ xs) p
     → Reached all p at us
 reached-on ws xs {us = us} e n b = record { before = ws ++ xs; text = e ∙ sym (append-assoc ws xs us); stands = omega (arith, length-append ws xs); led = b }
