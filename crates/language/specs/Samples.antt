@@ -9,6 +9,7 @@ use mathlib.Core.Path.{_≡_, refl}
 use mathlib.Core.List.{List, [], _∷_, _++_, map, head-eq-of-cons-eq, tail-eq-of-cons-eq}
 use lib.IntN.{ℤ, pos, negsuc}
 use lib.ListN.{length, getD, replicate}
+use Rattle.language.specs.Basics.{upFrom}
 use Rattle.language.specs.Encoding.{bytesOf, BK-mark, VR-mark, LB-mark, PR-mark, FM-mark, CL-mark, GO-mark, IF-mark, KN-mark, AR-mark, AD-mark, RM-mark, QY-mark}
 use Rattle.language.specs.Table.{Table}
 use Rattle.language.specs.Call.{Fed, Reply, Engine, copying, chain, display, reply}
@@ -46,12 +47,12 @@ pub record Sample : Type 0 where
   pub sheet : List ℤ
   pub words : List ℤ
 
--- the tally handed in, and what the lent sheet holds before
+-- the tally handed in, and what k words of the lent sheet hold before, from word i on: no two are alike
 unfoldable pub lentTally : ℕ
 lentTally = 100
 
-unfoldable pub lentWord : ℤ
-lentWord = pos 7
+unfoldable pub lentWords : ℕ → ℕ → List ℤ
+lentWords i k = map pos (upFrom (i + 7) k)
 
 -- 34 is written out here, so that the rows judge `sheetShare`
 unfoldable pub lentSheet : Sample → ℕ
@@ -59,7 +60,7 @@ lentSheet r = r .activations * 34 - r .short
 
 unfoldable pub fed : Sample → Fed
 fed r =
-    record { script = r .script; activations = r .activations; allowance = r .allowance; limit = r .limit; tally = lentTally; name = r .name; lent = record { sheet = replicate (lentSheet r) lentWord; table = r .table } }
+    record { script = r .script; activations = r .activations; allowance = r .allowance; limit = r .limit; tally = lentTally; name = r .name; lent = record { sheet = lentWords 0 (lentSheet r); table = r .table } }
 
 -- An engine of a row, with the links that it must give.
 pub record Party : Type 0 where
@@ -81,7 +82,7 @@ got r p = reply (p .engine) (fed r)
 
 unfoldable pub wanted : Sample → Party → Reply
 wanted r p =
-    record { answer = record { end = r .end; steps = r .steps; offset = r .offset; pairs = r .pairs; sheet = length (r .sheet); tally = lentTally + r .steps; designator = r .designator; links = p .links }; lent = record { sheet = r .sheet ++ replicate (lentSheet r - length (r .sheet)) lentWord; table = record { words = r .words; used = r .pairs } } }
+    record { answer = record { end = r .end; steps = r .steps; offset = r .offset; pairs = r .pairs; sheet = length (r .sheet); tally = lentTally + r .steps; designator = r .designator; links = p .links }; lent = record { sheet = r .sheet ++ lentWords (length (r .sheet)) (lentSheet r - length (r .sheet)); table = record { words = r .words; used = r .pairs } } }
 
 unfoldable pub noPairs : ℕ → List ℤ
 noPairs n = replicate (n * 2) (pos 0)
@@ -263,7 +264,7 @@ replies f r = map (f r) (parties r)
 
 -- The definitions of this table, to be computed with those of `computed`.
 unfoldable pub tabled : Unit {0}
-unfolding lentTally lentWord lentSheet fed parties got wanted replies noPairs script-empty script-null script-A script-B script-arithmetic script-nested script-order script-goto script-crossed script-procedure inside-blocks script-use script-pair script-formal script-highest ends-within ends-with of-A A-stopped B-spent spent-at refused-with all-wrong pair-taken-out samples
+unfolding lentTally lentWords lentSheet fed parties got wanted replies noPairs script-empty script-null script-A script-B script-arithmetic script-nested script-order script-goto script-crossed script-procedure inside-blocks script-use script-pair script-formal script-highest ends-within ends-with of-A A-stopped B-spent spent-at refused-with all-wrong pair-taken-out samples
 tabled = tt
 
 computed-once : map (replies got) samples ≡ map (replies wanted) samples
