@@ -100,7 +100,8 @@ def loop(w):
     values = []
     for i in range(len(w.mir.locals(w.path))):
         v = l["start"].locals.get(i)
-        values.append("none" if v is None else "some (h-%s .val)" % v.of if v.of else "some (%s .val %s)" % (v.datum.name, atom(v.term)))
+        one = "none" if v is None else "some (h-%s .val)" % v.of if v.of else "some (%s .val %s)" % (v.datum.name, atom(v.term))
+        values.append("some (vstruct (vcons (h-%s .val) (vcons (usizes .val %s) vnil)))" % (v.holds, atom(v.term)) if v and v.holds else one)
     context = ["‵ (%s (%s %s) h-%s %s)" % (e.what.capitalize(), w.kind(e.of).kind, w.kind(e.of).row.type, e.of, atom(e.value)) for e in l["start"].entries]
     context.append("fr 𝓤 H (tysOf (mine.function .locals)) β (%s)" % " ∷ ".join(values + ["[]"]))
     turn = ("    module _ (β : ℕ → ℕ) where\n      abbrev E# : List (Ty × ℕ)\n      E# = envAt (tysOf (mine.function .locals)) β\n\n"

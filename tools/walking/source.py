@@ -36,7 +36,7 @@ def tokens(text):
 
 
 class Clause:
-    """a clause in lists and numbers: x for what is behind a reference at first, x′ at last"""
+    """a clause in lists and numbers: x for what is behind a reference at first, x′ at last; r-script and r-at of a reader r"""
 
     def __init__(self, text):
         m = re.match(r"\s*(?:λ\s*(\S+?)\.\s*)?⌜(.*)⌝\s*$", text, re.S)
@@ -44,6 +44,7 @@ class Clause:
             raise SystemExit("walk: a clause that is not one fact: " + text)
         self.result = m.group(1)
         text = " ".join(m.group(2).split())
+        text = re.sub(r"\(now \((\w+) \.entry \.script\)\)", r"\1-script", re.sub(r"\((\w+) \.entry \.at\)", r"\1-at", text))
         text = re.sub(r"\(now \((\w+) \.entry\)\)|now \((\w+) \.entry\)", lambda x: x.group(1) or x.group(2), text)
         text = re.sub(r"\(now \((\w+) \.exit\)\)|now \((\w+) \.exit\)", lambda x: (x.group(1) or x.group(2)) + "′", text)
         self.text = re.sub(r"\(now (\w+)\)|now (\w+)", lambda x: x.group(1) or x.group(2), text)
@@ -77,10 +78,10 @@ class Source:
         return m
 
     def signature(self, path):
-        m = self.find(path, r'^(?:pub )?(?:extern "C" )?fn %s\s*\((.*?)\)\s*(?:->\s*([^\n{]+?))?\s*((?:\n|\{).*?)^\}')
+        m = self.find(path, r'^(?:pub )?(?:extern "C" )?fn %s(?:<[^>(]*>)?\s*\((.*?)\)\s*(?:->\s*([^\n{]+?))?\s*((?:\n|\{).*?)^\}')
         params = [tuple(x.strip() for x in p.replace("mut ", "", p.startswith("mut ")).split(":", 1)) for p in split(m.group(1))]
         clauses, _, body = ("\n" + m.group(3)).partition("\n{")
-        texts = re.findall(r"^\s*(requires|ensures) \{(.*?)\}\s*?$(?=\n\s*(?:requires|ensures) \{|\s*\Z)", clauses, re.S | re.M)
+        texts = re.findall(r"^\s*(requires|ensures)(?: \w+)? \{(.*?)\}\s*?$(?=\n\s*(?:requires|ensures)(?: \w+)? \{|\s*\Z)", clauses, re.S | re.M)
         return Signature(params, m.group(2) or "()", [Clause(t) for k, t in texts if k == "requires"], [Clause(t) for k, t in texts if k == "ensures"],
                          re.findall(r"\blet (?:mut )?(\w+)", body))
 

@@ -92,6 +92,10 @@ class Types:
             return self.declared(mir[1][1])
         raise SystemExit("walk: no data type for " + text)
 
+    def reader(self, name):
+        """a reader: the slice that it holds, and its position"""
+        return [Kind(name + "-script", name + "-script", "shrSlice", row=self.element("u8", None)), Kind(name + "-at", name + "-at", "dat", datum=Datum("usizes"))]
+
     def element(self, text, mir):
         if isinstance(mir, list) and mir[0] == "tyNamed":
             d = self.declared(mir[1][1])
@@ -117,7 +121,9 @@ class Function:
         self.path = path
         self.signature = s = types.source.signature(path)
         tys = mir.locals(path)
-        self.kinds = [types.kind(n, t, tys[i + 1]) for i, (n, t) in enumerate(s.params)]
+        # a function of a reader has no other parameter
+        self.held = [t for _, t in s.params] == ["Reader<'a>"]
+        self.kinds = types.reader(s.params[0][0]) if self.held else [types.kind(n, t, tys[i + 1]) for i, (n, t) in enumerate(s.params)]
         self.borrows = [k for k in self.kinds if k.borrow]
         self.muts = [k for k in self.kinds if k.mut]
         self.result = types.datum(s.result, tys[0])

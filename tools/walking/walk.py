@@ -31,11 +31,16 @@ def closed(x):
     return False
 
 
-class Value:
-    """what a local holds: data, with why it is good; or a borrow, and whose; and what a test of it says"""
+# the struct that holds a slice and a position
+READER = "check_fields::reader::Reader"
 
-    def __init__(self, datum=None, term=None, good=None, of=None, told=None):
-        self.datum, self.term, self.good, self.of, self.told = datum, term, good, of, told
+
+class Value:
+    """what a local holds: data, with why it is good; or a borrow, and whose; and what a test of it says. A reader is the number that is its
+    position, with whose slice it `holds`"""
+
+    def __init__(self, datum=None, term=None, good=None, of=None, told=None, holds=None):
+        self.datum, self.term, self.good, self.of, self.told, self.holds = datum, term, good, of, told, holds
 
 
 class Happening:
@@ -167,12 +172,16 @@ class Walk:
         rule = "part%s ! %d %d %d refl refl tt refl refl refl" % (within, n, i, k)
         if v.of:
             return rule, Value(Datum("usizes"), "length " + v.of, "(refl, room-%s .0)" % v.of)
+        if v.holds:
+            return rule, Value(of=v.holds) if k == 0 else Value(v.datum, v.term, v.good)
         return rule, self.field(v, k)
 
     def typed(self, v):
         """that the value can be stored"""
         if v.of:
             return "(tt, (tt, (record { fits = room-%s .0 }, tt)))" % v.of if self.kind(v.of).slice else "(tt, tt)"
+        if v.holds:
+            return "(tt, ((tt, (record { fits = room-%s .0 }, tt)), (record { fits = %s .1 }, tt)))" % (v.holds, atom(v.good))
         if v.datum.name in ("units", "bools"):
             return "(tt, tt)"
         return "(typed 𝓤 H A W %s %s %s)" % (v.datum.name, atom(v.term), atom(v.good))
@@ -236,6 +245,10 @@ class Walk:
     def aggregate(self, xs, local, st):
         """a slice, lent on or of an array of one's own; or a struct"""
         of = st.locals[int(xs[0][1][1])].of if xs[0][0] == "copy" else None
+        if self.mir.locals(self.path)[local][1][0] == "pair" and self.mir.locals(self.path)[local][1][1] == READER:
+            (slice_, _), (rule, at) = self.operand(xs[0], st), self.operand(xs[1], st)
+            v = Value(at.datum, at.term, at.good, holds=of)
+            return "agg ! " + self.operands([slice_, rule]), self.typed(v), v
         if of and of not in self.arrays:
             p, j = int(xs[0][1][1]), int(xs[1][1][1])
             return "lent-slice ! %d %d %d refl refl refl tt tt refl refl" % (st.at(), j, p), self.typed(Value(of=of)), Value(of=of)
@@ -283,9 +296,17 @@ class Walk:
             dom = self.fact("fits", st, "%s ≤ %s" % (b.term, a.term))
             bound = "omega (arith, %s .1)" % a.good
         else:
-            bound = self.fact("fits", st, "%s < 2 ^ %d" % (term, WIDTH[a.datum.name]))
+            bound = self.one_more(op, a, b, st) or self.fact("fits", st, "%s < 2 ^ %d" % (term, WIDTH[a.datum.name]))
             dom = "(record { fits = %s })" % bound
         return "bin ! (%s) (%s) %s" % (ra, rb, dom), "(tt, record { fits = %s })" % bound, Value(a.datum, term, "(refl, %s)" % bound)
+
+    def one_more(self, op, a, b, st):
+        """x + 1 fits where x was found to be below a parameter, unless Facts.antt says why"""
+        if op != "add" or b.term != "1" or "fits" in (self.facts or {}) or "fits-1" in (self.facts or {}):
+            return None
+        below = ((h, k) for h in st.way for k in self.f.kinds if not k.borrow and h.type == "%s < %s" % (a.term, k.name))
+        h, k = next(below, (None, None))
+        return "(omega (arith, %s, g-%s .1))" % (h.term, k.name) if h else None
 
     def branch(self, s, rest, st, ind):
         pad = "\n" + " " * ind
@@ -364,6 +385,8 @@ class Walk:
     def call(self, s, rest, st, pad):
         f, dest = self.callee(s[1][1][1]), int(s[3][1])
         self.calls += 1
+        if f.held:
+            return self.call_held(f, s, st, pad)
         args = list(zip(items(s[2]), f.kinds))
         owners = [(st.locals[int(x[1][1])].of, k) for x, k in args if k.borrow]
         lends, text = self.lends(owners, rest, st, pad)
@@ -376,9 +399,25 @@ class Walk:
         goods = pairs([p.good for p, k in zip(passed, f.kinds) if not k.borrow])
         text += "calls-by ! fm (Calls-%s 𝓤 H A mem run) known-%s (to %s) %s refl %s %s %s _ %s" % (
             f.alias, f.alias, ps, ps, goods, self.asks(f, passed, ps, st), f.result.name, self.back(f, ps)) + pad
-        text += self.operands([r for r, _ in rules]) + self.returned(f, dest, passed, st) + pad
+        part = items(s[3][2])
+        text += self.operands([r for r, _ in rules]) + self.returned(f, dest, passed, st, part) + pad
         self.open += 1
-        return text + self.lands(f, dest, own, lends, passed, st, pad)
+        return text + self.lands(f, dest, own, lends, passed, st, pad, part)
+
+    def call_held(self, f, s, st, pad):
+        """a function of a reader is called: the slice that the reader holds is in hand"""
+        rule, v = self.operand(items(s[2])[0], st)
+        text = st.move([st.index(v.holds, "in")])
+        rule, _ = self.operand(items(s[2])[0], st)
+        e, j, at = st.entry(v.holds, "in"), self.f.borrows.index(self.kind(v.holds)), atom(v.term)
+        reader = "κ%d q%d %s# %s" % (j, j, v.holds, at)
+        ps = "(for-%s h-%s %s %s)" % (f.alias, v.holds, atom(e.value), at)
+        text += "calls-by ! fm (Calls-%s 𝓤 H A mem run) known-%s (to-reader %s) %s refl %s (Unit {0}) tt (asks-reader %s 𝓤 H A W) %s _ (says-reader %s 𝓤 H A W (%s .type) _)" % (
+            f.alias, f.alias, reader, ps, pairs([v.good]), reader, f.result.name, reader, f.result.name) + pad
+        dest, passed = int(s[3][1]), [e, Value(v.datum, v.term, v.good)]
+        text += self.operands([rule]) + self.returned(f, dest, passed, st) + pad
+        self.open += 1
+        return text + self.lands(f, dest, [], [], passed, st, pad)
 
     def lends(self, owners, rest, st, pad):
         """what is used again is lent, and what is mine to write and only read there is shared"""
@@ -430,10 +469,10 @@ class Walk:
             return "(λ v. id⊢ 𝓤 _)"
         return "(said-together 𝓤 H A W %s (%s .type) %s)" % (ps, f.result.name, conses(["_"] * f.ensures))
 
-    def returned(self, f, dest, passed, st):
+    def returned(self, f, dest, passed, st, part=()):
         """what a call hands over: its result, new values, what it says, and that slices are as long"""
         c, n = self.calls, dest - len(self.f.kinds) - 1
-        base = self.f.lets[n].replace("_", "-") if 0 <= n < len(self.f.lets) else f.name
+        base = self.f.lets[n].replace("_", "-") if 0 <= n < len(self.f.lets) and not part else f.name
         r = "%s%d" % (base, c)
         news = {k.name: ("(%s)" % proj("ws%d" % c, i), "%s%d" % (p.of, c)) for i, (k, p) in enumerate(zip(f.kinds, passed)) if k.mut}
         told, _, lasts = f.told()
@@ -444,7 +483,7 @@ class Walk:
         st.way += [Happening(news[k.name][0], k.denot, news[k.name][1]) for k in f.muts]
         if f.ensures:
             st.way.append(Happening("e%d" % c, " ".join([f.name + "-says"] + says), "e%d" % c))
-        st.locals[dest] = Value(Datum("units"), "tt", "refl") if f.unit else Value(f.result, r, "g-" + r)
+        st.locals[dest] = Value(Datum("units"), "tt", "refl") if f.unit else Value(f.result, r, "g-" + r, holds=st.locals[dest].holds if part else None)
         self.news = {}
         for k, p in zip(f.kinds, passed):
             if k.mut:
@@ -456,14 +495,19 @@ class Walk:
         return " (λ %s %s %s %s %s." % ("_" if f.unit else r, "ws%d" % c if f.muts else "_", "_" if f.unit else "g-" + r,
                                        "e%d" % c if f.ensures else "_", "same%d" % c if slices else "_")
 
-    def lands(self, f, dest, own, lends, passed, st, pad):
+    def lands(self, f, dest, own, lends, passed, st, pad, part=()):
         """the result is stored, and what was lent comes back"""
         text = ""
         for name, k, c in own:
             text += self.back_own(name, k, c, st, pad)
         if own:
             text, st.holes = text + "whole-again ! %d refl tt $ " % st.at(), False
-        text += "lands-in ! %d %d refl tt %s $" % (st.at(), dest, self.typed(st.locals[dest]))
+        v = st.locals[dest]
+        if part:
+            # a reader's position
+            text += "lands-field ! %d %d %s refl refl tt refl refl refl %s $" % (st.at(), dest, part[0][1], self.typed(Value(v.datum, v.term, v.good)))
+        else:
+            text += "lands-in ! %d %d refl tt %s $" % (st.at(), dest, self.typed(v))
         for k, e in zip(f.kinds, passed):
             if k.mut and e.of not in self.arrays:
                 new, _, long = self.news[e.of]
@@ -526,7 +570,7 @@ class Walk:
                 fixed = i not in written(body) and all(w in {h.term for h in turn.way} or not w[0].isalpha() for w in v.term.replace("(", " ").replace(")", " ").split())
                 if not fixed:
                     fields.append((i, name, v))
-                turn.locals[i] = v if fixed else Value(v.datum, "t .state ." + name, "(t .good-%s)" % name)
+                turn.locals[i] = v if fixed else Value(v.datum, "t .state ." + name, "(t .good-%s)" % name, holds=v.holds)
         changed = {st.locals[i].of for i in lent(body) if i in st.locals}
         for e in st.entries:
             e = e.copy()

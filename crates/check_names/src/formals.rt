@@ -1,48 +1,84 @@
 // A procedure's formals: 4 for a kind that there is not, then 8 for a name that stands twice.
 use super::seen;
+use check_fields::Reader;
+use check_readers::formal;
 use check_records::Progress;
 use check_records::Reading;
 use language::Refusal;
 ghost use mathlib.Core.Path.{_≡_};
 ghost use mathlib.Core.List.{[]};
-ghost use Prim.Native.Nat.{_+_, _≤_};
+ghost use Prim.Native.Nat.{_+_, _≤_, _<_};
 ghost use lib.ListN.{length, take};
-ghost use Rattle.language.specs.Structure as definitions;
+ghost use Rattle.language.specs.Structure.{formals};
 ghost use Rattle.check_records.specs.Taking.{unread, forget};
 ghost use Rattle.check_names.specs.Naming.{namesAt, NamesOf};
+ghost use Rattle.check_names.specs.Holding.{heldOf, namesWith, stopped, placeOf};
 
 // Kinds are numbered from 0.
 const LAST_KIND: u32 = 2;
 
-// p formals, read one after the other. Their names are put from a base on.
-pub fn read_formals(
-    script: &[u8],
-    names: &mut [u32],
-    start: usize,
-    p: usize,
-    base: usize,
-) -> Progress
+// A formal whose record was read at an offset: its name is put after the count names from a base on.
+fn hold(names: &mut [u32], base: usize, count: usize, at: usize, reading: Reading) -> Progress
+    requires { ⌜ base + count < length (now names) ⌝ }
+    ensures judged { λ r. ⌜ r ≡ heldOf reading at (namesAt (now (names .entry)) base count) ⌝ }
+    ensures held { λ r. ⌜ now (names .exit) ≡ namesWith r reading (now (names .entry)) (base + count) ⌝ }
+{
+    let Reading::Taken { next, f0, f1, .. } = reading else {
+        return check_records::onward(reading);
+    };
+    if LAST_KIND < f1 {
+        return Progress::Refused(Refusal::FieldRange, at);
+    }
+    if seen(names, base, count, f0) {
+        return Progress::Refused(Refusal::NameTwice, at);
+    }
+    names[base + count] = f0;
+    Progress::At(next)
+}
+
+// What the walk of `read_formals` asks of a progress.
+fn is_refused(p: Progress) -> bool
+    ensures { λ r. ⌜ r ≡ stopped p ⌝ }
+{
+    match p {
+        Progress::At(_) => false,
+        Progress::Refused(_, _) => true,
+    }
+}
+
+fn place_of(p: Progress) -> usize
+    ensures { λ r. ⌜ r ≡ placeOf p ⌝ }
+{
+    match p {
+        Progress::At(at) => at,
+        Progress::Refused(_, at) => at,
+    }
+}
+
+fn arrived(at: usize) -> Progress
+    ensures { λ r. ⌜ r ≡ Progress.At at ⌝ }
+{
+    Progress::At(at)
+}
+
+// p formals, handed out one after the other by one reader, which moves on. Their names are put from a base on. The borrow checker covers
+// no function that has a reader: this one is walked by hand, and what is decided stands in the functions above.
+pub fn read_formals(script: &[u8], names: &mut [u32], at: usize, p: usize, base: usize) -> Progress
     requires { ⌜ base + p ≤ length (now names) ⌝ }
-    ensures reads { λ r. ⌜ r ≡ forget (definitions.formals p [] start (unread (now (script .entry)) start)) ⌝ }
-    ensures named { λ r. ⌜ NamesOf (definitions.formals p [] start (unread (now (script .entry)) start)) (namesAt (now (names .exit)) base p) ⌝ }
+    ensures reads { λ r. ⌜ r ≡ forget (formals p [] at (unread (now (script .entry)) at)) ⌝ }
+    ensures named { λ r. ⌜ NamesOf (formals p [] at (unread (now (script .entry)) at)) (namesAt (now (names .exit)) base p) ⌝ }
     ensures keeps { λ r. ⌜ take base (now (names .exit)) ≡ take base (now (names .entry)) ⌝ }
 {
-    let mut at = start;
+    let mut reader = Reader { script, at };
     let mut i = 0;
     while i < p {
-        let reading = check_readers::read_formal(script, at);
-        let Reading::Taken { next, f0, f1, .. } = reading else {
-            return check_records::onward(reading);
-        };
-        if LAST_KIND < f1 {
-            return Progress::Refused(Refusal::FieldRange, at);
+        let reading = formal(reader);
+        let after = hold(names, base, i, reader.at, reading);
+        if is_refused(after) {
+            return after;
         }
-        if seen(names, base, i, f0) {
-            return Progress::Refused(Refusal::NameTwice, at);
-        }
-        names[base + i] = f0;
-        at = next;
+        reader.at = place_of(after);
         i += 1;
     }
-    Progress::At(at)
+    arrived(reader.at)
 }

@@ -24,7 +24,7 @@ fn block<'a>(r: Reader<'a>) -> Reading
     block_at(r.script, r.at)
 }
 
-fn formal<'a>(r: Reader<'a>) -> Reading
+pub fn formal<'a>(r: Reader<'a>) -> Reading
     ensures { λ o. ⌜ (o ≡ recordAt Place.Formal (now (r .entry .script)) (r .entry .at)) × Within (length (now (r .entry .script))) (r .entry .at) o ⌝ }
 {
     formal_at(r.script, r.at)
@@ -54,12 +54,6 @@ pub fn read_block(script: &[u8], at: usize) -> Reading
     ensures { λ r. ⌜ (r ≡ recordAt Place.Block (now (script .entry)) at) × Within (length (now (script .entry))) at r ⌝ }
 {
     block(reader_at(script, at))
-}
-
-pub fn read_formal(script: &[u8], at: usize) -> Reading
-    ensures { λ r. ⌜ (r ≡ recordAt Place.Formal (now (script .entry)) at) × Within (length (now (script .entry))) at r ⌝ }
-{
-    formal(reader_at(script, at))
 }
 
 pub fn read_declaration(script: &[u8], at: usize) -> Reading
