@@ -189,7 +189,10 @@ def proof(w):
     for module in sorted(set(w.types.used.values())):
         names = sorted(n for n, m in w.types.used.items() if m == module and n in words)
         lines += ["use %s.{%s}" % (module, ", ".join(names))] if names else []
-    lines += ["use denote.Struct.Laws as laws"] if "laws." in body else []
+    lines += ["use denote.Struct.Laws as laws"] if "(laws." in body else []
+    lines += ["use denote.Enum.Laws as enum-laws"] if "enum-laws." in body else []
+    for name, module in sorted(w.enums.items()):
+        lines += ["use %s as %s·" % (module, name)] if name + "·." in body else []
     for name, module in sorted(w.structs.items()):
         lines += ["use %s as %s#" % (module, name), "use %s.Laws as %s′" % (module, name)]
     for g in used:

@@ -33,6 +33,23 @@ def statements(body):
     return out + [body]
 
 
+def arms(x):
+    """the arms of a `switch`, each with its keys and statements"""
+    out = []
+    while isinstance(x, list) and x[0] == "arm":
+        out.append((keys(x[1]), statements(x[2])))
+        x = x[3]
+    return out
+
+
+def keys(x):
+    out = []
+    while isinstance(x, list):
+        out.append(x[1])
+        x = x[2]
+    return out
+
+
 def mentions(x, number):
     """whether a local is used"""
     if not isinstance(x, list):
@@ -50,6 +67,8 @@ def written(body):
             out.add(int(s[3][1]))
         elif s[0] == "if":
             out |= written(statements(s[2])) | written(statements(s[3]))
+        elif s[0] == "switch":
+            out |= {i for _, a in arms(s[2]) for i in written(a)}
     return out
 
 

@@ -89,6 +89,14 @@ class Source:
         m = self.find(path, r"^(?:pub )?struct %s \{(.*?)^\}")
         return [(n, t.strip()) for n, t in re.findall(r"^\s*(?:pub )?(\w+): ([^\n]+?),?$", m.group(1), re.M)]
 
+    def variants(self, path):
+        """an enum's variants with the number of fields of each; none of a struct"""
+        m = re.search(r"^(?:pub )?enum %s \{(.*?)^\}" % path.rsplit("::", 1)[1], self.module(path), re.S | re.M)
+        out = []
+        for name, fields in re.findall(r"^    (\w+)\s*(\(.*?\)|\{.*?\n    \})?,?\s*$", m.group(1), re.S | re.M) if m else []:
+            out.append((name, len(split(fields[1:-1]))))
+        return out
+
     def repeated(self, path, name):
         """the type of 0 in a function's `let name = [0u32; n]`"""
         m = self.find(path, r'^(?:pub )?(?:extern "C" )?fn %s\s*\(.*?^\}')

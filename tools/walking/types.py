@@ -85,6 +85,16 @@ class Types:
                 return Datum(name, path)
         raise SystemExit("walk: no data type for %s; make one with `structs` or `enums` in proofs/Rows.antt" % path)
 
+    def variants(self, path):
+        """the module of an enum's variants"""
+        return self.source.declared(path, self.crate)[path.split("::")[-1]][0] + ".the-variants"
+
+    def cases(self, datum):
+        """the law that goes by cases on an enum, beside its data type"""
+        name = "by-" + datum.path.split("::")[-1].lower()
+        self.used[name] = self.used[datum.name]
+        return name
+
     def datum(self, text, mir):
         if text in BUILTIN:
             return Datum(BUILTIN[text])

@@ -1,6 +1,6 @@
 """A function's MIR, walked statement by statement. What is in hand is followed: the locals, the borrows and where they stand in the context, and
 what has happened, which the facts of Facts.antt are given."""
-from walking.mir import is_element, items, lent, mentions, statements, written
+from walking.mir import arms, is_element, items, lent, mentions, statements, written
 from walking.types import BUILTIN, OF_WIDTH, WIDTH, Datum, Function
 
 
@@ -41,6 +41,7 @@ class Value:
 
     def __init__(self, datum=None, term=None, good=None, of=None, told=None, holds=None):
         self.datum, self.term, self.good, self.of, self.told, self.holds = datum, term, good, of, told, holds
+        self.parts = None
 
 
 class Happening:
@@ -64,10 +65,11 @@ class State:
     def __init__(self, locals_, entries, way):
         self.locals, self.entries, self.way = locals_, entries, way
         self.early = self.looping = self.holes = False
+        self.then = None
 
     def copy(self):
         other = State(dict(self.locals), [e.copy() for e in self.entries], list(self.way))
-        other.early, other.looping, other.holes = self.early, self.looping, self.holes
+        other.early, other.looping, other.holes, other.then = self.early, self.looping, self.holes, self.then
         return other
 
     def at(self):
@@ -91,7 +93,7 @@ class Walk:
     def __init__(self, path, mir, types, facts):
         self.path, self.mir, self.types, self.facts = path, mir, types, facts
         self.f = Function(path, mir, types)
-        self.callees, self.structs, self.elements, self.arrays = {}, {}, {}, {}
+        self.callees, self.structs, self.enums, self.elements, self.arrays = {}, {}, {}, {}, {}
         self.needed, self.numbers, self.total = [], {}, {}
         self.calls = self.tests = self.open = 0
         self.loop = None
@@ -113,6 +115,9 @@ class Walk:
             elif s[0] == "if":
                 self.count(statements(s[2]), rest)
                 self.count(statements(s[3]), rest)
+            elif s[0] == "switch":
+                for _, a in arms(s[2]):
+                    self.count(a, rest)
             elif s[0] == "exit":
                 self.count(rest, [])
             elif s[0] == "block":
@@ -161,9 +166,14 @@ class Walk:
         if x == "unit":
             return "unit-lit !", Value(Datum("units"), "tt", "refl")
         if x[0] == "int":
-            return "lit ! tt", Value(Datum(OF_WIDTH[x[1]]), x[2], "(refl, omega arith)")
+            return "lit ! tt", Value(Datum(OF_WIDTH.get(x[1])), x[2], "(refl, omega arith)")
         i, steps = int(x[1][1]), items(x[1][2])
         v, within = st.locals[i], "-in" if st.holes else ""
+        if steps and steps[0][0] == "variant":
+            # a field of an enum that is known at a variant
+            j = int(steps[1][1]) - 1
+            rule = "held-part ! %d %d %s %d refl refl tt refl refl refl refl refl" % (n, i, steps[0][1], j)
+            return rule, v.parts[j]
         if not steps:
             return "var%s ! %d %d refl refl tt" % (within, n, i), v
         if len(steps) > 1 or steps[0][0] != "field":
@@ -204,8 +214,13 @@ class Walk:
             if is_element(body):
                 out, body = out + pad + self.element(body, st, pad), body[3:]
                 continue
+            if not rest and st.then:
+                (then, falls), st.then = st.then, None
+                return out + pad + (self.assign(s, st, "-last") if s != "skip" else "skips ! $") + pad + "%s _ $" % falls + self.go(then, st, ind)
             if st.looping and not rest:
                 return out + pad + self.assign(s, st, "-last") + pad + self.again(st)
+            if s[0] == "switch":
+                return out + pad + self.takes_apart(s, rest, st, ind)
             if s[0] == "if":
                 return out + pad + self.branch(s, rest, st, ind)
             if s[0] == "block":
@@ -217,6 +232,7 @@ class Walk:
         i, rv, n = int(s[1][1]), s[2], st.at()
         if rv[0] == "rvOpd":
             rule, v = self.operand(rv[1], st)
+            v = self.named(v, i)
             rule, typed = "of-opd ! (%s)" % rule, self.typed(v)
         elif rv[0] == "addrOf":
             rule, typed, v = self.address(rv, st)
@@ -233,8 +249,19 @@ class Walk:
             v = Value(Datum("usizes"), v.term, "(refl, %s)" % bound)
         else:
             raise SystemExit("walk: right side %s" % rv)
+        if items(s[1][2]):
+            # a reader moves on
+            st.locals[i] = Value(v.datum, v.term, v.good, holds=st.locals[i].holds)
+            return "puts-field ! %d %d %s refl (%s) refl tt refl refl refl %s $" % (n, i, items(s[1][2])[0][1], rule, typed)
         st.locals[i] = v
         return "puts%s ! %d %d refl (%s) tt %s $" % (last, n, i, rule, typed)
+
+    def named(self, v, local):
+        """a field of an enum has the type of the local that it is put into"""
+        if v.datum or v.of:
+            return v
+        mir = self.mir.locals(self.path)[local]
+        return Value(Datum(OF_WIDTH[mir[1]]) if mir[0] == "tyInt" else self.types.declared(mir[1][1]), v.term, v.good)
 
     def address(self, rv, st):
         j, steps = int(rv[1][1]), items(rv[1][2])
@@ -254,6 +281,13 @@ class Walk:
             return "lent-slice ! %d %d %d refl refl refl tt tt refl refl" % (st.at(), j, p), self.typed(Value(of=of)), Value(of=of)
         rules = [self.operand(x, st) for x in xs]
         rule = "agg ! " + self.operands([r for r, _ in rules])
+        mir = self.mir.locals(self.path)[local]
+        variants = self.types.source.variants(mir[1][1]) if mir[0] == "tyNamed" else []
+        if variants:
+            d, (name, owes) = self.types.declared(mir[1][1]), self.enum(mir[1][1])
+            term = "(%s)" % " ".join(["%s·.%s" % (name, variants[int(xs[0][2])][0])] + [atom(v.term) for _, v in rules[1:]])
+            v = Value(d, term, "(enum-laws.%s %s %s)" % (owes % "owes", term, pairs([v.good for _, v in rules[1:]])))
+            return rule, self.typed(v), v
         if of:
             return rule, "(tt, (tt, (record { fits = omega arith }, tt)))", Value(of=of)
         d = self.types.declared(self.mir.locals(self.path)[local][1][1])
@@ -332,6 +366,38 @@ class Walk:
         arm = "(λ %s." % y + self.walk(statements(s[2]), ways[0], ind) + ")"
         return "if-then ! (%s)" % rule + pad + arm + pad + "(λ %s." % y + self.walk(rest, st, ind) + ")"
 
+    # ---- a `let .. else`
+
+    def enum(self, path):
+        """an enum's name, and the law of what a value of it owes"""
+        name = path.split("::")[-1]
+        self.enums[name] = self.types.variants(path)
+        return name, "%s %s" % ("%s", self.struct(path))
+
+    def takes_apart(self, s, rest, st, ind):
+        pad = "\n" + " " * ind
+        i, n = int(s[1][1][1]), st.at()
+        v = st.locals[i]
+        (keys, taken), (_, other) = arms(s[2])
+        name, owed = self.enum(v.datum.path)
+        self.tests += 1
+        c, out = self.tests, "%s %s" % (self.types.cases(v.datum), atom(v.term))
+        for k, (variant, count) in enumerate(self.types.source.variants(v.datum.path)):
+            w, xs, y = st.copy(), ["x%d-%d" % (c, j) for j in range(count)], "y%d" % c
+            term = " ".join(["%s·.%s" % (name, variant)] + xs)
+            good = "subst (Good %s) %s %s" % (v.datum.name, y, v.good)
+            w.locals[i] = Value(v.datum, atom(term), "(%s)" % good)
+            w.locals[i].parts = [Value(None, x, "(%s)" % proj("enum-laws.%s %s _ (%s)" % (owed % "owed", atom(term), good), j)) for j, x in enumerate(xs)]
+            w.way += [Happening(x, "?", x) for x in xs] + [Happening(y, "%s ≡ %s" % (v.term, term.replace("·.", ".")), y)]
+            known = "as-held ! %d %d refl refl (ap (%s .val) %s) $" % (n, i, v.datum.name, y)
+            read = "(tag ! %d %d refl refl tt refl refl refl)" % (n, i)
+            if str(k) in keys:
+                w.then, body, rule = (rest, "falls%d" % c), taken, "hits ! %s tt tt (λ falls%d." % (read, c)
+            else:
+                w.early, body, rule = True, other, "misses ! %s tt tt (" % read
+            out += pad + "(λ %s. %s %s" % (" ".join(xs + [y]), known, rule) + self.walk(body, w, ind) + "))"
+        return out
+
     # ---- one element of a slice
 
     def element(self, body, st, pad):
@@ -399,10 +465,9 @@ class Walk:
         goods = pairs([p.good for p, k in zip(passed, f.kinds) if not k.borrow])
         text += "calls-by ! fm (Calls-%s 𝓤 H A mem run) known-%s (to %s) %s refl %s %s %s _ %s" % (
             f.alias, f.alias, ps, ps, goods, self.asks(f, passed, ps, st), f.result.name, self.back(f, ps)) + pad
-        part = items(s[3][2])
-        text += self.operands([r for r, _ in rules]) + self.returned(f, dest, passed, st, part) + pad
+        text += self.operands([r for r, _ in rules]) + self.returned(f, dest, passed, st) + pad
         self.open += 1
-        return text + self.lands(f, dest, own, lends, passed, st, pad, part)
+        return text + self.lands(f, dest, own, lends, passed, st, pad)
 
     def call_held(self, f, s, st, pad):
         """a function of a reader is called: the slice that the reader holds is in hand"""
@@ -469,10 +534,10 @@ class Walk:
             return "(λ v. id⊢ 𝓤 _)"
         return "(said-together 𝓤 H A W %s (%s .type) %s)" % (ps, f.result.name, conses(["_"] * f.ensures))
 
-    def returned(self, f, dest, passed, st, part=()):
+    def returned(self, f, dest, passed, st):
         """what a call hands over: its result, new values, what it says, and that slices are as long"""
         c, n = self.calls, dest - len(self.f.kinds) - 1
-        base = self.f.lets[n].replace("_", "-") if 0 <= n < len(self.f.lets) and not part else f.name
+        base = self.f.lets[n].replace("_", "-") if 0 <= n < len(self.f.lets) else f.name
         r = "%s%d" % (base, c)
         news = {k.name: ("(%s)" % proj("ws%d" % c, i), "%s%d" % (p.of, c)) for i, (k, p) in enumerate(zip(f.kinds, passed)) if k.mut}
         told, _, lasts = f.told()
@@ -483,7 +548,7 @@ class Walk:
         st.way += [Happening(news[k.name][0], k.denot, news[k.name][1]) for k in f.muts]
         if f.ensures:
             st.way.append(Happening("e%d" % c, " ".join([f.name + "-says"] + says), "e%d" % c))
-        st.locals[dest] = Value(Datum("units"), "tt", "refl") if f.unit else Value(f.result, r, "g-" + r, holds=st.locals[dest].holds if part else None)
+        st.locals[dest] = Value(Datum("units"), "tt", "refl") if f.unit else Value(f.result, r, "g-" + r)
         self.news = {}
         for k, p in zip(f.kinds, passed):
             if k.mut:
@@ -495,19 +560,14 @@ class Walk:
         return " (λ %s %s %s %s %s." % ("_" if f.unit else r, "ws%d" % c if f.muts else "_", "_" if f.unit else "g-" + r,
                                        "e%d" % c if f.ensures else "_", "same%d" % c if slices else "_")
 
-    def lands(self, f, dest, own, lends, passed, st, pad, part=()):
+    def lands(self, f, dest, own, lends, passed, st, pad):
         """the result is stored, and what was lent comes back"""
         text = ""
         for name, k, c in own:
             text += self.back_own(name, k, c, st, pad)
         if own:
             text, st.holes = text + "whole-again ! %d refl tt $ " % st.at(), False
-        v = st.locals[dest]
-        if part:
-            # a reader's position
-            text += "lands-field ! %d %d %s refl refl tt refl refl refl %s $" % (st.at(), dest, part[0][1], self.typed(Value(v.datum, v.term, v.good)))
-        else:
-            text += "lands-in ! %d %d refl tt %s $" % (st.at(), dest, self.typed(v))
+        text += "lands-in ! %d %d refl tt %s $" % (st.at(), dest, self.typed(st.locals[dest]))
         for k, e in zip(f.kinds, passed):
             if k.mut and e.of not in self.arrays:
                 new, _, long = self.news[e.of]

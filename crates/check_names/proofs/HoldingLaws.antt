@@ -19,7 +19,7 @@ use Rattle.check_records.specs.declared.Progress.{Progress}
 use Rattle.check_records.specs.declared.Progress.the-variants.{At, Refused as Stopped}
 use Rattle.check_records.specs.Taking.{unread, recordAt, forget}
 use Rattle.check_names.specs.Naming.{namesAt, NamesOf}
-use Rattle.check_names.specs.Holding.{heldOf, namesWith, stopped, placeOf}
+use Rattle.check_names.specs.Holding.{heldOf, namesWith}
 use Rattle.check_names.proofs.Names.{front-set}
 use Rattle.check_names.proofs.FormalLaws.{SoFar, refused-there, wrong-kind, named-twice, one-more, post-refused}
 
@@ -91,16 +91,9 @@ module _ {bs : List ℕ} {p start base : ℕ} {names : List ℕ} {at i : ℕ} (s
         go (At n) (Refused c o) = refl
         go (Stopped c o) y = refl
 
-    pub goes-on : stopped r ≡ false → SoFar bs p start base names′ (placeOf r) (i + 1)
-    goes-on = go r after
-      where
-        go : (q : Progress) → After q names′ → stopped q ≡ false → SoFar bs p start base names′ (placeOf q) (i + 1)
-        go (At n) a e = a
-        go (Stopped c o) a e = absurd (let z : _≡_ {A = ℕ} 0 1 = cc in let w : ⊥ = omega (arith, z) in w)
+    pub goes-on : {next : ℕ} → r ≡ At next → SoFar bs p start base names′ next (i + 1)
+    goes-on e = subst (λ (q : Progress). After q names′) e after
 
-    pub ends-there : stopped r ≡ true → (r ≡ forget (formals p [] start (unread bs start))) × NamesOf (formals p [] start (unread bs start)) (namesAt names′ base p)
-    ends-there = go r after
-      where
-        go : (q : Progress) → After q names′ → stopped q ≡ true → (q ≡ forget (formals p [] start (unread bs start))) × NamesOf (formals p [] start (unread bs start)) (namesAt names′ base p)
-        go (At n) a e = absurd (let z : _≡_ {A = ℕ} 0 1 = cc in let w : ⊥ = omega (arith, z) in w)
-        go (Stopped c o) a e = post-refused _ (namesAt names′ base p) a
+    pub ends-there : {c : Refusal} {o : ℕ} → r ≡ Stopped c o
+        → (Stopped c o ≡ forget (formals p [] start (unread bs start))) × NamesOf (formals p [] start (unread bs start)) (namesAt names′ base p)
+    ends-there e = post-refused _ (namesAt names′ base p) (subst (λ (q : Progress). After q names′) e after)

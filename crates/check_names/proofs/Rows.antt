@@ -1,4 +1,9 @@
--- The enums of `check_records` as data, for proofs by hand.
+-- The enums of `check_records` as data, for proofs by hand; and by cases on one.
+use Prim.Native.Nat.{ℕ}
+use mathlib.Core.Path.{_≡_, refl}
+use Rattle.language.specs.declared.Refusal.{Refusal}
+use Rattle.check_records.specs.declared.Progress.{Progress}
+use Rattle.check_records.specs.declared.Progress.the-variants.{At, Refused}
 use Rattle.walks.specs.Data.{Datum, enums}
 use Rattle.check_records.proofs.Reading as R
 use Rattle.check_records.proofs.Reading.Laws as R′
@@ -10,3 +15,7 @@ readings = enums R.the-type R′.the-laws R′.the-plain tt
 
 abbrev pub progresses : Datum
 progresses = enums P.the-type P′.the-laws P′.the-plain tt
+
+pub by-progress : {X : Type 1} (r : Progress) → ((at : ℕ) → r ≡ At at → X) → ((c : Refusal) (o : ℕ) → r ≡ Refused c o → X) → X
+by-progress (At at) f g = f at refl
+by-progress (Refused c o) f g = g c o refl

@@ -24,12 +24,3 @@ unfoldable pub namesWith : Progress → Reading → List ℕ → ℕ → List �
 namesWith (At next) (Taken m n f0 f1 f2 f3) ns k = set ns k f0
 namesWith (At next) (Refused c o) ns k = ns
 namesWith (Stopped c o) x ns k = ns
-
-abbrev pub stopped : Progress → Bool
-stopped (At at) = false
-stopped (Stopped c o) = true
-
--- where reading goes on, or the offset of the refusal
-abbrev pub placeOf : Progress → ℕ
-placeOf (At at) = at
-placeOf (Stopped c o) = o

@@ -12,7 +12,7 @@ ghost use lib.ListN.{length, take};
 ghost use Rattle.language.specs.Structure.{formals};
 ghost use Rattle.check_records.specs.Taking.{unread, forget};
 ghost use Rattle.check_names.specs.Naming.{namesAt, NamesOf};
-ghost use Rattle.check_names.specs.Holding.{heldOf, namesWith, stopped, placeOf};
+ghost use Rattle.check_names.specs.Holding.{heldOf, namesWith};
 
 // Kinds are numbered from 0.
 const LAST_KIND: u32 = 2;
@@ -36,31 +36,6 @@ fn hold(names: &mut [u32], base: usize, count: usize, at: usize, reading: Readin
     Progress::At(next)
 }
 
-// What the walk of `read_formals` asks of a progress.
-fn is_refused(p: Progress) -> bool
-    ensures { λ r. ⌜ r ≡ stopped p ⌝ }
-{
-    match p {
-        Progress::At(_) => false,
-        Progress::Refused(_, _) => true,
-    }
-}
-
-fn place_of(p: Progress) -> usize
-    ensures { λ r. ⌜ r ≡ placeOf p ⌝ }
-{
-    match p {
-        Progress::At(at) => at,
-        Progress::Refused(_, at) => at,
-    }
-}
-
-fn arrived(at: usize) -> Progress
-    ensures { λ r. ⌜ r ≡ Progress.At at ⌝ }
-{
-    Progress::At(at)
-}
-
 // p formals, handed out one after the other by one reader, which moves on. Their names are put from a base on. The borrow checker covers
 // no function that has a reader: this one is walked by hand, and what is decided stands in the functions above.
 pub fn read_formals(script: &[u8], names: &mut [u32], at: usize, p: usize, base: usize) -> Progress
@@ -74,11 +49,11 @@ pub fn read_formals(script: &[u8], names: &mut [u32], at: usize, p: usize, base:
     while i < p {
         let reading = formal(reader);
         let after = hold(names, base, i, reader.at, reading);
-        if is_refused(after) {
+        let Progress::At(next) = after else {
             return after;
-        }
-        reader.at = place_of(after);
+        };
+        reader.at = next;
         i += 1;
     }
-    arrived(reader.at)
+    Progress::At(reader.at)
 }

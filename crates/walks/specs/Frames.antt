@@ -3,7 +3,7 @@
 --     Frame τs β vs    their memory, of which local i holds `get vs i`
 --     cell-of          local i, which holds something, can be taken out of the frame and put back with another value: a `Part` (`Types/Part.antt`)
 --     writes-local     local i can be written, whatever it holds
---     forgets          what some locals hold is forgotten
+--     forgets          what some locals hold is forgotten.        as-held      what one holds is written another way
 --     begins           a function's locals are made and its arguments stored.        frees-all        all are freed
 -- Assumes `Given`.
 use mathlib.Core.Path.{_≡_, refl, sym, _∙_, ap, subst}
@@ -249,6 +249,16 @@ module _ {M : Type 1} {𝓤 : URA M} {H : Heap 𝓤} {A : Atoms 𝓤} {K : Type 
     where
       R : SProp 𝓤
       R = ⋆ 𝓤 H A (del 𝓤 H A n Γ)
+
+  -- what a local holds, written another way
+  pub as-held : K → (n i : ℕ) {τs : List Ty} {β : ℕ → ℕ} {vs : List (Option Val)} {v v′ : Val} {G : Goal 𝓤 H} → nth 𝓤 H A n Γ ≡ fr 𝓤 H τs β vs
+      → get vs i ≡ some v → v ≡ v′ → Step K W (put 𝓤 H A n (fr 𝓤 H τs β (replace vs i (some v′))) Γ) G Γ G
+  as-held t n i {τs} {β} {vs} {v} {v′} e g q = step (λ s. record {
+    prf = via 𝓤 (sep 𝓤 (mean 𝓤 H A (fr 𝓤 H τs β (replace vs i (some v′)))) (⋆ 𝓤 H A (del 𝓤 H A n Γ)))
+        (subst (λ (j : Item 𝓤). ent 𝓤 (⋆ 𝓤 H A Γ) (sep 𝓤 (mean 𝓤 H A j) (⋆ 𝓤 H A (del 𝓤 H A n Γ))))
+        (e ∙ ap (fr 𝓤 H τs β) (sym (replace-same vs i v g) ∙ ap (λ (u : Val). replace vs i (some u)) q)) (pull 𝓤 H A n Γ))
+        (via 𝓤 (⋆ 𝓤 H A (put 𝓤 H A n (fr 𝓤 H τs β (replace vs i (some v′))) Γ)) (fill 𝓤 H A n (fr 𝓤 H τs β (replace vs i (some v′))) Γ) (s .prf));
+  })
 
   pub writes-local : K → (n i : ℕ) {τs : List Ty} {β : ℕ → ℕ} {vs : List (Option Val)} {v : Val} → nth 𝓤 H A n Γ ≡ fr 𝓤 H τs β vs → Among τs i
       → T (hasTy (typeOf 𝓤 H τs β i) v) × WT v

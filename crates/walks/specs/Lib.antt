@@ -11,3 +11,4 @@ pub mod Holes
 pub mod Clauses
 pub mod Early
 pub mod Arrays
+pub mod Matches

@@ -2,8 +2,8 @@
 --     var, part        the operands `x` and `x.k`.        lent, lent-slice, lent-count     the right sides of `&*x` and `&mut *x`: of a reference; of a slice
 --         its pointer, and then the pointer with the count
 --     at-local         local i as a place to follow.        as-value     a right side's value written another way
---     puts, puts-last  an assignment to a whole local, with code after it and as the last statement of its part.        lands    a call's result; lands-field     the
---         same in a field of a local
+--     puts, puts-last  an assignment to a whole local, with code after it and as the last statement of its part.        lands    a call's result
+--     puts-field       an assignment to a field of a local that is a struct
 --     ends             the function returns: its result is local 0, and its locals are freed
 --     forgets          what a local holds is forgotten
 --     if-then          an `if` with no `else`
@@ -42,7 +42,7 @@ module _ {X : Type 0} (size : X → ℕ) where
 
 module _ {M : Type 1} {𝓤 : URA M} {H : Heap 𝓤} {A : Atoms 𝓤} {K : Type 0} {W : Given 𝓤 H A} (Γ : List (Item 𝓤)) {τs : List Ty} {β : ℕ
     → ℕ} {vs : List (Option Val)} where
-  there : K → (n i : ℕ) {v : Val} → nth 𝓤 H A n Γ ≡ fr 𝓤 H τs β vs → get vs i ≡ some v → Among τs i
+  pub there : K → (n i : ℕ) {v : Val} → nth 𝓤 H A n Γ ≡ fr 𝓤 H τs β vs → get vs i ≡ some v → Among τs i
       → Part K W (nth 𝓤 H A n Γ) fullShare (typeOf 𝓤 H τs β i) (blockOf 𝓤 H τs β i) zero v (λ u. fr 𝓤 H τs β (replace vs i (some u)))
   there t n i {v} e g a = subst (λ (j : Item 𝓤). Part K W j fullShare (typeOf 𝓤 H τs β i) (blockOf 𝓤 H τs β i) zero v (λ u. fr 𝓤 H τs β (replace vs i (some u))))
       (sym e) (cell-of t i g a)
@@ -93,6 +93,13 @@ module _ {M : Type 1} {𝓤 : URA M} {H : Heap 𝓤} {A : Atoms 𝓤} {K : Type 
         (runs C Λ (envAt τs β) (seq (assign (place i []) rv) rest) q)
     puts t n i e r a wt = assigns t r (from t (stop t)) (writes-local t n i e a wt)
 
+    pub puts-field : K → (n i k : ℕ) {rv : RValue} {rest : Body} {v : Val} {ν : Sym} {ρs : Tys} {us : Vals} {ρ : Ty} {d : ℕ} → nth 𝓤 H A n Γ ≡ fr 𝓤 H τs β vs
+        → Rv K W Γ (envAt τs β) rv v → get vs i ≡ some (vstruct us) → Among τs i → typeOf 𝓤 H τs β i ≡ tyStruct ν ρs → fieldAt zero ρs k ≡ some (ρ, d)
+        → fieldOf (typeOf 𝓤 H τs β i) k ≡ some (ρ, d) → T (hasTy ρ v) × WT v
+        → Step K W (put 𝓤 H A n (fr 𝓤 H τs β (replace vs i (some (vstruct (setV us k v))))) Γ) (runs C Λ (envAt τs β) rest q) Γ
+        (runs C Λ (envAt τs β) (seq (assign (place i (field k ∷ [])) rv) rest) q)
+    puts-field t n i k e r g a q f f′ wt = assigns t r (from t (fld t f′ (stop t))) (store-in t n (there-in Γ t n i k e g a q f) wt)
+
     pub puts-last : K → (n i : ℕ) {rv : RValue} {v : Val} → nth 𝓤 H A n Γ ≡ fr 𝓤 H τs β vs → Rv K W Γ (envAt τs β) rv v → Among τs i
         → T (hasTy (typeOf 𝓤 H τs β i) v) × WT v
         → Step K W (put 𝓤 H A n (fr 𝓤 H τs β (replace vs i (some v))) Γ) (prop (post 𝓤 H q next)) Γ (runs C Λ (envAt τs β) (assign (place i []) rv) q)
@@ -101,13 +108,6 @@ module _ {M : Type 1} {𝓤 : URA M} {H : Heap 𝓤} {A : Atoms 𝓤} {K : Type 
     pub lands-in : K → (n i : ℕ) {rest : Body} {v : Val} → nth 𝓤 H A n Γ ≡ fr 𝓤 H τs β vs → Among τs i → T (hasTy (typeOf 𝓤 H τs β i) v) × WT v
         → Step K W (put 𝓤 H A n (fr 𝓤 H τs β (replace vs i (some v))) Γ) (runs C Λ (envAt τs β) rest q) Γ (lands C Λ (envAt τs β) (place i []) v rest q)
     lands-in t n i e a wt = land t (from t (stop t)) (writes-local t n i e a wt)
-
-    pub lands-field : K → (n i k : ℕ) {rest : Body} {v : Val} {ν : Sym} {ρs : Tys} {us : Vals} {ρ : Ty} {d : ℕ} → nth 𝓤 H A n Γ ≡ fr 𝓤 H τs β vs
-        → get vs i ≡ some (vstruct us) → Among τs i → typeOf 𝓤 H τs β i ≡ tyStruct ν ρs → fieldAt zero ρs k ≡ some (ρ, d)
-        → fieldOf (typeOf 𝓤 H τs β i) k ≡ some (ρ, d) → T (hasTy ρ v) × WT v
-        → Step K W (put 𝓤 H A n (fr 𝓤 H τs β (replace vs i (some (vstruct (setV us k v))))) Γ) (runs C Λ (envAt τs β) rest q) Γ
-        (lands C Λ (envAt τs β) (place i (field k ∷ [])) v rest q)
-    lands-field t n i k e g a q f f′ wt = land t (from t (fld t f′ (stop t))) (store-in t n (there-in Γ t n i k e g a q f) wt)
 
   pub ends : K → (n : ℕ) {C : Calls 𝓤 H} {Λ : Loops 𝓤 H} {Kf : Val → SProp 𝓤} {r : Val} → nth 𝓤 H A n Γ ≡ fr 𝓤 H τs β vs → get vs 0 ≡ some r → Among τs 0
       → Step K W (del 𝓤 H A n Γ) (prop (Kf r)) Γ (runs C Λ (envAt τs β) return (atRet (envAt τs β) Kf))

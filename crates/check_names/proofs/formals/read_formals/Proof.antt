@@ -1,7 +1,7 @@
 -- `check_names::formals::read_formals` meets its contract: a walk of its MIR, written by `tools/walk check_names formals::read_formals`. By hand is Proof/Facts.antt alone.
 mod Facts
 mod Said
-use mathlib.Core.Path.{_≡_, refl, _∙_}
+use mathlib.Core.Path.{_≡_, refl, _∙_, ap, subst}
 use Prim.Native.Nat.{ℕ}
 use native.Mathlib.Omega.{arith}
 use mathlib.Core.List.{List, [], _∷_}
@@ -33,18 +33,23 @@ use denote.Triple.Statement.{Contract, Triple}
 use denote.Triple.Table.{entered, cited}
 use denote.Triple.Walked.{needs, Stays, stay-none-slice, stay-none, gave-slice, walkOf, Walks, ends-at, walked, goes-none-slice, goes-none, goes-gave-slice, walk-meets}
 use denote.Exit.{yes}
-use Rattle.walks.specs.Data.{Good, typed, usizes, bools}
+use Rattle.walks.specs.Data.{Good, typed, usizes}
 use Rattle.walks.specs.Loans.{Loan, loanSlice, shrSlice, mutSlice, In, gives}
 use Rattle.walks.specs.Params.{Par, dat, brw, denots, valss, vals, lfts, shares, ins, outs}
 use Rattle.walks.specs.Functions.{arrives}
 use Rattle.walks.specs.Calls.{to, calls-by}
-use Rattle.walks.specs.Clauses.{asks-all, said-together, leaves-saying}
-use Rattle.walks.specs.Frames.{begins, tysOf, envAt, fr, forgets}
-use Rattle.walks.specs.Locals.{var, part, lent-ptr, lent-slice, puts, puts-last, lands-in, lands-field, ends, if-then, tests, by-size, by-size-wf}
-use Rattle.walks.specs.Early.{ends-early, told, untold, not-below}
+use Rattle.walks.specs.Clauses.{said-together, leaves-saying}
+use Rattle.walks.specs.Frames.{begins, tysOf, envAt, fr, forgets, as-held}
+use Rattle.walks.specs.Locals.{var, part, lent-ptr, lent-slice, puts, puts-last, puts-field, lands-in, ends, tests, by-size, by-size-wf}
+use Rattle.walks.specs.Matches.{tag, held-part, hits, misses}
+use Rattle.walks.specs.Early.{ends-early, not-below}
 use Rattle.walks.specs.Lends.{relent, lends-slice, back-slice}
 use Rattle.check_readers.proofs.Passing.{to-reader, asks-reader, says-reader}
-use Rattle.check_names.proofs.Rows.{progresses, readings}
+use Rattle.check_names.proofs.Rows.{by-progress, progresses, readings}
+use denote.Enum.Laws as enum-laws
+use Rattle.check_records.specs.declared.Progress.the-variants as Progress·
+use Rattle.check_records.proofs.Progress as Progress#
+use Rattle.check_records.proofs.Progress.Laws as Progress′
 use Rattle.check_readers.proofs.formal as formal
 use Rattle.check_readers.proofs.formal.Symbol as formal-def
 use Rattle.check_readers.proofs.formal.Symbol.{name as #formal}
@@ -53,18 +58,6 @@ use Rattle.check_names.proofs.formals.hold as hold
 use Rattle.check_names.proofs.formals.hold.Symbol as hold-def
 use Rattle.check_names.proofs.formals.hold.Symbol.{name as #hold}
 use Rattle.check_names.proofs.formals.hold.Met as hold-thm
-use Rattle.check_names.proofs.formals.is_refused as is-refused
-use Rattle.check_names.proofs.formals.is_refused.Symbol as is-refused-def
-use Rattle.check_names.proofs.formals.is_refused.Symbol.{name as #is-refused}
-use Rattle.check_names.proofs.formals.is_refused.Met as is-refused-thm
-use Rattle.check_names.proofs.formals.place_of as place-of
-use Rattle.check_names.proofs.formals.place_of.Symbol as place-of-def
-use Rattle.check_names.proofs.formals.place_of.Symbol.{name as #place-of}
-use Rattle.check_names.proofs.formals.place_of.Met as place-of-thm
-use Rattle.check_names.proofs.formals.arrived as arrived
-use Rattle.check_names.proofs.formals.arrived.Symbol as arrived-def
-use Rattle.check_names.proofs.formals.arrived.Symbol.{name as #arrived}
-use Rattle.check_names.proofs.formals.arrived.Met as arrived-thm
 use Rattle.check_names.proofs.formals.read_formals.Key.{name as #me}
 use Rattle.check_names.proofs.formals.read_formals as f
 use Rattle.check_names.proofs.formals.read_formals.Statement as stated
@@ -84,24 +77,6 @@ Calls-hold 𝓤 H A mem run = tripleOf 𝓤 H A hold.signature (hold.spec 𝓤 H
 
 abbrev for-hold : Loan → List ℕ → ℕ → ℕ → ℕ → readings .type .Denot → List Par
 for-hold h0 x0 x1 x2 x3 x4 = brw (mutSlice u32) h0 x0 ∷ dat usizes x1 ∷ dat usizes x2 ∷ dat usizes x3 ∷ dat readings x4 ∷ []
-
-abbrev Calls-is-refused : {M : Type 1} (𝓤 : URA M) (H : Heap 𝓤) (A : Atoms 𝓤) → (Memory → SProp 𝓤) → (Routine → Fun 𝓤) → Contract 𝓤
-Calls-is-refused 𝓤 H A mem run = tripleOf 𝓤 H A is-refused.signature (is-refused.spec 𝓤 H A mem run)
-
-abbrev for-is-refused : progresses .type .Denot → List Par
-for-is-refused x0 = dat progresses x0 ∷ []
-
-abbrev Calls-place-of : {M : Type 1} (𝓤 : URA M) (H : Heap 𝓤) (A : Atoms 𝓤) → (Memory → SProp 𝓤) → (Routine → Fun 𝓤) → Contract 𝓤
-Calls-place-of 𝓤 H A mem run = tripleOf 𝓤 H A place-of.signature (place-of.spec 𝓤 H A mem run)
-
-abbrev for-place-of : progresses .type .Denot → List Par
-for-place-of x0 = dat progresses x0 ∷ []
-
-abbrev Calls-arrived : {M : Type 1} (𝓤 : URA M) (H : Heap 𝓤) (A : Atoms 𝓤) → (Memory → SProp 𝓤) → (Routine → Fun 𝓤) → Contract 𝓤
-Calls-arrived 𝓤 H A mem run = tripleOf 𝓤 H A arrived.signature (arrived.spec 𝓤 H A mem run)
-
-abbrev for-arrived : ℕ → List Par
-for-arrived x0 = dat usizes x0 ∷ []
 
 abbrev stayed : Stays (f.ended .signature .params) (f.ended .kept)
 stayed = (stay-none-slice (0 ∷ []) tt (plain (λ _. u8)) yes, (gave-slice (1 ∷ []) tt (plain (λ _. u32)), (stay-none (λ _. usizes .type) yes, (stay-none (λ _. usizes .type) yes, (stay-none (λ _. usizes .type) yes, tt)))))
@@ -150,10 +125,7 @@ module _ {M : Type 1} (𝓤 : URA M) (H : Heap 𝓤) (A : Atoms 𝓤) (W : Given
 
   module _ (𝓣 : Tables 𝓤 H)
       (known-formal : Triple 𝓤 (𝓣 .C #formal) (Calls-formal 𝓤 H A mem run))
-      (known-hold : Triple 𝓤 (𝓣 .C #hold) (Calls-hold 𝓤 H A mem run))
-      (known-is-refused : Triple 𝓤 (𝓣 .C #is-refused) (Calls-is-refused 𝓤 H A mem run))
-      (known-place-of : Triple 𝓤 (𝓣 .C #place-of) (Calls-place-of 𝓤 H A mem run))
-      (known-arrived : Triple 𝓤 (𝓣 .C #arrived) (Calls-arrived 𝓤 H A mem run)) where
+      (known-hold : Triple 𝓤 (𝓣 .C #hold) (Calls-hold 𝓤 H A mem run)) where
     fm : FmC 𝓤 H (W .laws) (𝓣 .C)
     fm = fmOf 𝓤 H (W .laws) 𝓣
 
@@ -168,40 +140,35 @@ module _ {M : Type 1} (𝓤 : URA M) (H : Heap 𝓤) (A : Atoms 𝓤) (W : Given
           (afterBlock 𝓤 H (afterSeq 𝓤 H (Wp 𝓤 H (𝓣 .C) (𝓣 .Λ) E# mir′.t-4 (atReturn 𝓤 H E# Post)) (atReturn 𝓤 H E# Post))))))
       unfolding afterTurn
       turn t =
-          puts ! 2 10 refl (bin ! (var ! 2 7 refl refl tt) (var ! 2 4 refl refl tt) tt) tt (tt, tt) $
-          tests ! (var ! 2 10 refl refl tt)
+          puts ! 2 11 refl (bin ! (var ! 2 7 refl refl tt) (var ! 2 4 refl refl tt) tt) tt (tt, tt) $
+          tests ! (var ! 2 11 refl refl tt)
           (λ y1.
-          puts ! 2 11 refl (of-opd ! (var ! 2 6 refl refl tt)) tt (tt, ((tt, (record { fits = room-script .0 }, tt)), (record { fits = (t .good-reader) .1 }, tt))) $
+          puts ! 2 12 refl (of-opd ! (var ! 2 6 refl refl tt)) tt (tt, ((tt, (record { fits = room-script .0 }, tt)), (record { fits = (t .good-reader) .1 }, tt))) $
           calls-by ! fm (Calls-formal 𝓤 H A mem run) known-formal (to-reader κ0 q0 script# (t .state .reader)) (for-formal h-script script (t .state .reader)) refl ((t .good-reader), tt) (Unit {0}) tt (asks-reader κ0 q0 script# (t .state .reader) 𝓤 H A W) readings _ (says-reader κ0 q0 script# (t .state .reader) 𝓤 H A W (readings .type) _)
-          (and-then ! (var ! 2 11 refl refl tt) (no-more !)) (λ reading1 _ g-reading1 e1 _.
+          (and-then ! (var ! 2 12 refl refl tt) (no-more !)) (λ reading1 _ g-reading1 e1 _.
           lands-in ! 2 8 refl tt (typed 𝓤 H A W readings reading1 g-reading1) $
-          puts ! 2 12 refl (lent-ptr ! 2 2 refl refl tt refl refl) tt (tt, tt) $
-          puts ! 2 13 refl (lent-slice ! 2 2 12 refl refl refl tt tt refl refl) tt (tt, (tt, (record { fits = room-names .0 }, tt))) $
-          puts ! 2 14 refl (of-opd ! (part ! 2 6 1 refl refl tt refl refl refl)) tt (typed 𝓤 H A W usizes (t .state .reader) (t .good-reader)) $
+          puts ! 2 13 refl (lent-ptr ! 2 2 refl refl tt refl refl) tt (tt, tt) $
+          puts ! 2 14 refl (lent-slice ! 2 2 13 refl refl refl tt tt refl refl) tt (tt, (tt, (record { fits = room-names .0 }, tt))) $
+          puts ! 2 15 refl (of-opd ! (part ! 2 6 1 refl refl tt refl refl refl)) tt (typed 𝓤 H A W usizes (t .state .reader) (t .good-reader)) $
           move ! (1 ∷ []) $ lends-slice ! tt u32 h-names (t .state .names) (λ ν2-names δ2-names.
           calls-by ! fm (Calls-hold 𝓤 H A mem run) known-hold (to (for-hold (relent h-names ν2-names δ2-names) (t .state .names) base (t .state .i) (t .state .reader) reading1)) (for-hold (relent h-names ν2-names δ2-names) (t .state .names) base (t .state .i) (t .state .reader) reading1) refl (g-base, ((t .good-i), ((t .good-reader), (g-reading1, tt)))) _ (facts.asks-hold script names at p base pre (t .state) (ltb→lt (t .state .i) p y1) reading1 e1) (id⊢ 𝓤 _) progresses _ (said-together 𝓤 H A W (for-hold (relent h-names ν2-names δ2-names) (t .state .names) base (t .state .i) (t .state .reader) reading1) (progresses .type) (_ ∷ _ ∷ []))
-          (and-then ! (var ! 3 13 refl refl tt) (and-then ! (var ! 3 5 refl refl tt) (and-then ! (var ! 3 7 refl refl tt) (and-then ! (var ! 3 14 refl refl tt) (and-then ! (var ! 3 8 refl refl tt) (no-more !)))))) (λ after2 ws2 g-after2 e2 same2.
+          (and-then ! (var ! 3 14 refl refl tt) (and-then ! (var ! 3 5 refl refl tt) (and-then ! (var ! 3 7 refl refl tt) (and-then ! (var ! 3 15 refl refl tt) (and-then ! (var ! 3 8 refl refl tt) (no-more !)))))) (λ after2 ws2 g-after2 e2 same2.
           lands-in ! 3 9 refl tt (typed 𝓤 H A W progresses after2 g-after2) $
           back-slice ! tt u32 h-names (t .state .names) (ws2 .0) ν2-names δ2-names (same2 .0) $
-          calls-by ! fm (Calls-is-refused 𝓤 H A mem run) known-is-refused (to (for-is-refused after2)) (for-is-refused after2) refl (g-after2, tt) (Unit {0}) tt (asks-all 𝓤 H A (for-is-refused after2) []) bools _ (λ v. id⊢ 𝓤 _)
-          (and-then ! (var ! 2 9 refl refl tt) (no-more !)) (λ is-refused3 _ g-is-refused3 e3 _.
-          lands-in ! 2 15 refl tt (tt, tt) $
-          if-then ! (var ! 2 15 refl refl tt)
-          (λ y2.
-          puts ! 2 0 refl (of-opd ! (var ! 2 9 refl refl tt)) tt (typed 𝓤 H A W progresses after2 g-after2) $
-          ends-early ! 2 Post refl refl refl tt $ gives ! (mutSlice u32) h-names (ws2 .0) $ move ! (1 ∷ 0 ∷ []) $ by ! (exits after2 (ws2 .0) ((same2 .0) ∙ (t .long-names)) g-after2 (facts.says-1 script names at p base pre (t .state) (ltb→lt (t .state .i) p y1) reading1 e1 after2 (ws2 .0) e2 (same2 .0) is-refused3 e3 (told is-refused3 y2))))
-          (λ y2.
-          calls-by ! fm (Calls-place-of 𝓤 H A mem run) known-place-of (to (for-place-of after2)) (for-place-of after2) refl (g-after2, tt) (Unit {0}) tt (asks-all 𝓤 H A (for-place-of after2) []) usizes _ (λ v. id⊢ 𝓤 _)
-          (and-then ! (var ! 2 9 refl refl tt) (no-more !)) (λ place-of4 _ g-place-of4 e4 _.
-          lands-field ! 2 6 1 refl refl tt refl refl refl (typed 𝓤 H A W usizes place-of4 g-place-of4) $
+          by-progress after2
+          (λ x2-0 y2. as-held ! 2 9 refl refl (ap (progresses .val) y2) $ hits ! (tag ! 2 9 refl refl tt refl refl refl) tt tt (λ falls2.
+          puts-last ! 2 10 refl (of-opd ! (held-part ! 2 9 0 0 refl refl tt refl refl refl refl refl)) tt (typed 𝓤 H A W usizes x2-0 (enum-laws.owed Progress#.the-type Progress′.the-laws (Progress·.At x2-0) _ (subst (Good progresses) y2 g-after2) .0)) $
+          falls2 _ $
+          puts-field ! 2 6 1 refl (of-opd ! (var ! 2 10 refl refl tt)) refl tt refl refl refl (typed 𝓤 H A W usizes x2-0 (enum-laws.owed Progress#.the-type Progress′.the-laws (Progress·.At x2-0) _ (subst (Good progresses) y2 g-after2) .0)) $
           puts-last ! 2 7 refl (bin ! (var ! 2 7 refl refl tt) (lit ! tt) (record { fits = (omega (arith, ltb→lt (t .state .i) p y1, g-p .1)) })) tt (tt, record { fits = (omega (arith, ltb→lt (t .state .i) p y1, g-p .1)) }) $
-          forgets ! 2 (8 ∷ 9 ∷ 10 ∷ 11 ∷ 12 ∷ 13 ∷ 14 ∷ 15 ∷ 16 ∷ []) refl tt $ move ! (1 ∷ 0 ∷ []) $ again ! (by-size size) Inv t (record { state = (facts.next script names at p base pre (t .state) (ltb→lt (t .state .i) p y1) reading1 e1 after2 (ws2 .0) e2 (same2 .0) is-refused3 e3 (untold is-refused3 y2) place-of4 e4); good-reader = g-place-of4; good-i = (refl, (omega (arith, ltb→lt (t .state .i) p y1, g-p .1))); long-names = ((same2 .0) ∙ (t .long-names)) }) (facts.less script names at p base pre (t .state) (ltb→lt (t .state .i) p y1) reading1 e1 after2 (ws2 .0) e2 (same2 .0) is-refused3 e3 (untold is-refused3 y2) place-of4 e4))))))))
+          forgets ! 2 (8 ∷ 9 ∷ 10 ∷ 11 ∷ 12 ∷ 13 ∷ 14 ∷ 15 ∷ 16 ∷ []) refl tt $ move ! (1 ∷ 0 ∷ []) $ again ! (by-size size) Inv t (record { state = (facts.next script names at p base pre (t .state) (ltb→lt (t .state .i) p y1) reading1 e1 after2 (ws2 .0) e2 (same2 .0) x2-0 y2); good-reader = (enum-laws.owed Progress#.the-type Progress′.the-laws (Progress·.At x2-0) _ (subst (Good progresses) y2 g-after2) .0); good-i = (refl, (omega (arith, ltb→lt (t .state .i) p y1, g-p .1))); long-names = ((same2 .0) ∙ (t .long-names)) }) (facts.less script names at p base pre (t .state) (ltb→lt (t .state .i) p y1) reading1 e1 after2 (ws2 .0) e2 (same2 .0) x2-0 y2)))
+          (λ x2-0 x2-1 y2. as-held ! 2 9 refl refl (ap (progresses .val) y2) $ misses ! (tag ! 2 9 refl refl tt refl refl refl) tt tt (
+          puts ! 2 0 refl (of-opd ! (var ! 2 9 refl refl tt)) tt (typed 𝓤 H A W progresses (Progress·.Refused x2-0 x2-1) (subst (Good progresses) y2 g-after2)) $
+          ends-early ! 2 Post refl refl refl tt $ gives ! (mutSlice u32) h-names (ws2 .0) $ move ! (1 ∷ 0 ∷ []) $ by ! (exits (Progress·.Refused x2-0 x2-1) (ws2 .0) ((same2 .0) ∙ (t .long-names)) (subst (Good progresses) y2 g-after2) (facts.says-1 script names at p base pre (t .state) (ltb→lt (t .state .i) p y1) reading1 e1 after2 (ws2 .0) e2 (same2 .0) x2-0 x2-1 y2))))))))
           (λ y1. exec ! (𝓣 .C) (𝓣 .Λ) E# mir′.t-4 (atRet E# Post) $
           puts ! 2 16 refl (of-opd ! (part ! 2 6 1 refl refl tt refl refl refl)) tt (typed 𝓤 H A W usizes (t .state .reader) (t .good-reader)) $
-          calls-by ! fm (Calls-arrived 𝓤 H A mem run) known-arrived (to (for-arrived (t .state .reader))) (for-arrived (t .state .reader)) refl ((t .good-reader), tt) (Unit {0}) tt (asks-all 𝓤 H A (for-arrived (t .state .reader)) []) progresses _ (λ v. id⊢ 𝓤 _)
-          (and-then ! (var ! 2 16 refl refl tt) (no-more !)) (λ arrived5 _ g-arrived5 e5 _.
-          lands-in ! 2 0 refl tt (typed 𝓤 H A W progresses arrived5 g-arrived5) $
-          ends ! 2 refl refl tt $ move ! (1 ∷ []) $ gives ! (mutSlice u32) h-names (t .state .names) $ move ! (1 ∷ 0 ∷ []) $ by ! (exits arrived5 (t .state .names) (t .long-names) g-arrived5 (facts.says-2 script names at p base pre (t .state) (not-below (t .state .i) p y1) arrived5 e5))))
+          puts ! 2 0 refl (agg ! (and-then ! (lit ! tt) (and-then ! (var ! 2 16 refl refl tt) (no-more !)))) tt (typed 𝓤 H A W progresses (Progress·.At (t .state .reader)) (enum-laws.owes Progress#.the-type Progress′.the-laws (Progress·.At (t .state .reader)) ((t .good-reader), tt))) $
+          ends ! 2 refl refl tt $ move ! (1 ∷ []) $ gives ! (mutSlice u32) h-names (t .state .names) $ move ! (1 ∷ 0 ∷ []) $ by ! (exits (Progress·.At (t .state .reader)) (t .state .names) (t .long-names) (enum-laws.owes Progress#.the-type Progress′.the-laws (Progress·.At (t .state .reader)) ((t .good-reader), tt)) (facts.says-2 script names at p base pre (t .state) (not-below (t .state .i) p y1))))
 
     walk : ent 𝓤 (onEntry 𝓤 H A f.signature (lfts ps) (shares ps) (denots 0 ps) (valss 0 ps)) (WpFn 𝓤 H (𝓣 .C) (𝓣 .Λ) mine.function (vals ps) Post)
     walk = via 𝓤 (⋆ 𝓤 H A (ins 𝓤 ps)) (arrives 𝓤 H A W 0 ps) (qed W (ins 𝓤 ps) ∵
@@ -212,15 +179,12 @@ module _ {M : Type 1} (𝓤 : URA M) (H : Heap 𝓤) (A : Atoms 𝓤) (W : Given
 
 module _ {M : Type 1} (𝓤 : URA M) (H : Heap 𝓤) (A : Atoms 𝓤) (W : Given 𝓤 H A) (mem : Memory → SProp 𝓤) (run : Routine → Fun 𝓤) (𝓣 : Tables 𝓤 H)
     (known-formal : Triple 𝓤 (𝓣 .C #formal) (Calls-formal 𝓤 H A mem run))
-    (known-hold : Triple 𝓤 (𝓣 .C #hold) (Calls-hold 𝓤 H A mem run))
-    (known-is-refused : Triple 𝓤 (𝓣 .C #is-refused) (Calls-is-refused 𝓤 H A mem run))
-    (known-place-of : Triple 𝓤 (𝓣 .C #place-of) (Calls-place-of 𝓤 H A mem run))
-    (known-arrived : Triple 𝓤 (𝓣 .C #arrived) (Calls-arrived 𝓤 H A mem run)) where
+    (known-hold : Triple 𝓤 (𝓣 .C #hold) (Calls-hold 𝓤 H A mem run)) where
   walks : Walks 𝓤 H A f.ended stayed (WpFn 𝓤 H (𝓣 .C) (𝓣 .Λ) mine.function) (f.clauses 𝓤 H A mem run)
   walks = walked 𝓤 H A f.ended stayed (f.clauses 𝓤 H A mem run) (WpFn 𝓤 H (𝓣 .C) (𝓣 .Λ) mine.function)
       (λ κs. (slice-vals, (slice-vals, ((λ (x : ℕ). usizes .val x ∷ []), ((λ (x : ℕ). usizes .val x ∷ []), ((λ (x : ℕ). usizes .val x ∷ []), tt))))))
       (λ κs. (shr-slice-tells (named 0) (κs .0) u8, (mut-slice-tells (named 1) (κs .1 .0) u32, (usizes .tells, (usizes .tells, (usizes .tells, tt))))))
-      (λ κs qs bounds a g are. needs 𝓤 (said.Pre ((a .1 .0) .now) (a .1 .1 .1 .0) (a .1 .1 .1 .1 .0)) _ (λ pre. walk 𝓤 H A W mem run (κs .0) (κs .1 .0) (qs .0) (qs .1 .0) (a .0) (a .1 .0) (a .1 .1 .0) (a .1 .1 .1 .0) (a .1 .1 .1 .1 .0) (are .0 .0 .1) (are .1 .0 .0 .1) (are .1 .1 .0) (are .1 .1 .1 .0) (are .1 .1 .1 .1 .0) pre 𝓣 known-formal known-hold known-is-refused known-place-of known-arrived))
+      (λ κs qs bounds a g are. needs 𝓤 (said.Pre ((a .1 .0) .now) (a .1 .1 .1 .0) (a .1 .1 .1 .1 .0)) _ (λ pre. walk 𝓤 H A W mem run (κs .0) (κs .1 .0) (qs .0) (qs .1 .0) (a .0) (a .1 .0) (a .1 .1 .0) (a .1 .1 .1 .0) (a .1 .1 .1 .1 .0) (are .0 .0 .1) (are .1 .0 .0 .1) (are .1 .1 .0) (are .1 .1 .1 .0) (are .1 .1 .1 .1 .0) pre 𝓣 known-formal known-hold))
 
   meets : Meets 𝓤 H A f.signature (WpFn 𝓤 H (𝓣 .C) (𝓣 .Λ) mine.function) (f.spec 𝓤 H A mem run)
   meets = walk-meets 𝓤 H A f.ended stayed W (goes-none-slice 𝓤 H A W 2 (0 ∷ []) tt (plain (λ _. u8)) yes, (goes-gave-slice 𝓤 H A W 2 1 tt (plain (λ _. u32)), (goes-none 𝓤 H A W 2 (λ _. usizes .type) yes (λ κs x f. refl), (goes-none 𝓤 H A W 2 (λ _. usizes .type) yes (λ κs x f. refl), (goes-none 𝓤 H A W 2 (λ _. usizes .type) yes (λ κs x f. refl), tt)))))
@@ -233,7 +197,4 @@ read-formals-spec 𝓤 H 𝓜 𝓖 𝓡 =
     (tables 𝓤 H 𝓜 𝓡 mine.env .C) (tables 𝓤 H 𝓜 𝓡 mine.env .Λ) #me mine.function (mine.unfolded 𝓤 H 𝓜 𝓡)
     (meets 𝓤 H (𝓖 .A) (givenOf 𝓤 H 𝓜 𝓖) (𝓜 .mem) (𝓡 .run) (tablesOf 𝓤 H 𝓜 (tables 𝓤 H 𝓜 𝓡 mine.env))
     (cited 𝓤 H (Calls-formal 𝓤 H (𝓖 .A) (𝓜 .mem) (𝓡 .run)) 𝓜 𝓡 mine.env #formal formal-def.routine mine.calls-check-readers·formal (formal-thm.met 𝓤 H 𝓜 𝓖 𝓡))
-    (cited 𝓤 H (Calls-hold 𝓤 H (𝓖 .A) (𝓜 .mem) (𝓡 .run)) 𝓜 𝓡 mine.env #hold hold-def.routine mine.calls-check-names·formals·hold (hold-thm.met 𝓤 H 𝓜 𝓖 𝓡))
-    (cited 𝓤 H (Calls-is-refused 𝓤 H (𝓖 .A) (𝓜 .mem) (𝓡 .run)) 𝓜 𝓡 mine.env #is-refused is-refused-def.routine mine.calls-check-names·formals·is-refused (is-refused-thm.met 𝓤 H 𝓜 𝓖 𝓡))
-    (cited 𝓤 H (Calls-place-of 𝓤 H (𝓖 .A) (𝓜 .mem) (𝓡 .run)) 𝓜 𝓡 mine.env #place-of place-of-def.routine mine.calls-check-names·formals·place-of (place-of-thm.met 𝓤 H 𝓜 𝓖 𝓡))
-    (cited 𝓤 H (Calls-arrived 𝓤 H (𝓖 .A) (𝓜 .mem) (𝓡 .run)) 𝓜 𝓡 mine.env #arrived arrived-def.routine mine.calls-check-names·formals·arrived (arrived-thm.met 𝓤 H 𝓜 𝓖 𝓡)))
+    (cited 𝓤 H (Calls-hold 𝓤 H (𝓖 .A) (𝓜 .mem) (𝓡 .run)) 𝓜 𝓡 mine.env #hold hold-def.routine mine.calls-check-names·formals·hold (hold-thm.met 𝓤 H 𝓜 𝓖 𝓡)))

@@ -1,6 +1,6 @@
 -- What the walk of `read_formals` shows: the formals done, whose names are held, come before those that are left.
-use mathlib.Core.Path.{_≡_, refl, sym, _∙_}
-use mathlib.Core.Bool.{Bool, true, false}
+use mathlib.Core.Path.{_≡_, refl, _∙_}
+use Rattle.language.specs.declared.Refusal.{Refusal}
 use mathlib.Core.List.{List}
 use Prim.Native.Nat.{ℕ, _+_, _-_, _<_, _≤_}
 use native.Mathlib.Omega.{arith}
@@ -9,7 +9,7 @@ use Rattle.check_records.specs.declared.Reading.{Reading}
 use Rattle.check_records.specs.declared.Progress.{Progress}
 use Rattle.check_names.proofs.FormalLaws.{SoFar, at-start, all-post}
 use Rattle.check_names.proofs.HoldingLaws.{front-kept-by, goes-on, ends-there}
-use Rattle.check_names.proofs.formals.read_formals.Proof.Said.{Pre, Said, formal-says, hold-asks, hold-says, is-refused-says, place-of-says, arrived-says}
+use Rattle.check_names.proofs.formals.read_formals.Proof.Said.{Pre, Said, formal-says, hold-asks, hold-says}
 
 module _ (script names₀ : List ℕ) (at p base : ℕ) where
   -- a state of the loop; `reader` is where the reader stands
@@ -34,17 +34,13 @@ module _ (script names₀ : List ℕ) (at p base : ℕ) where
         pub asks-hold : hold-asks (t .names) base (t .i)
         asks-hold = omega (arith, pre, t .long)
 
-        module _ (after : Progress) (names′ : List ℕ) (held : hold-says (t .names) base (t .i) (t .reader) reading after names′) (long : length names′ ≡ length (t .names)) (is : Bool) (told : is-refused-says after is) where
+        module _ (after : Progress) (names′ : List ℕ) (held : hold-says (t .names) base (t .i) (t .reader) reading after names′) (long : length names′ ≡ length (t .names)) where
           pub kept-on : take base names′ ≡ take base names₀
           kept-on = front-kept-by (t .so-far) more asks-hold (read .0) (held .0) (held .1) ∙ t .kept
 
-          module _ (yes : is ≡ true) where
-            pub says-1 : Said script names₀ at p base after names′
-            says-1 = let q = ends-there (t .so-far) more asks-hold (read .0) (held .0) (held .1) (sym told ∙ yes) in (q .0, (q .1, kept-on))
-
-          module _ (no : is ≡ false) (next-at : ℕ) (placed : place-of-says after next-at) where
+          module _ (next-at : ℕ) (goes : after ≡ Progress.At next-at) where
             pub so-on : SoFar script p at base names′ next-at (t .i + 1)
-            so-on = rw placed (goes-on (t .so-far) more asks-hold (read .0) (held .0) (held .1) (sym told ∙ no))
+            so-on = goes-on (t .so-far) more asks-hold (read .0) (held .0) (held .1) goes
 
             abbrev pub next : State
             next = record { reader = next-at; i = t .i + 1; names = names′; few = omega (arith, more); long = long ∙ t .long; kept = kept-on; so-far = so-on }
@@ -52,6 +48,10 @@ module _ (script names₀ : List ℕ) (at p base : ℕ) where
             pub less : p - (t .i + 1) < p - t .i
             less = omega (arith, more)
 
-      module _ (none : t .i < p → ⊥) (done : Progress) (is : arrived-says (t .reader) done) where
-        pub says-2 : Said script names₀ at p base done (t .names)
-        says-2 = let q = all-post (t .so-far) (omega (arith, none, t .few)) in (is ∙ q .0, (q .1, t .kept))
+          module _ (c : Refusal) (o : ℕ) (stops : after ≡ Progress.Refused c o) where
+            pub says-1 : Said script names₀ at p base (Progress.Refused c o) names′
+            says-1 = let q = ends-there (t .so-far) more asks-hold (read .0) (held .0) (held .1) stops in (q .0, (q .1, kept-on))
+
+      module _ (none : t .i < p → ⊥) where
+        pub says-2 : Said script names₀ at p base (Progress.At (t .reader)) (t .names)
+        says-2 = let q = all-post (t .so-far) (omega (arith, none, t .few)) in (q .0, (q .1, t .kept))

@@ -3,13 +3,11 @@
 use Prim.Native.Nat.{_+_, _≤_, _<_, ℕ}
 use Rattle.check_marks.specs.declared.Place.the-variants.{Formal}
 use Rattle.check_names.proofs.Rows.{progresses, readings}
-use Rattle.check_names.specs.Holding.{heldOf, namesWith, stopped, placeOf}
+use Rattle.check_names.specs.Holding.{heldOf, namesWith}
 use Rattle.check_names.specs.Naming.{NamesOf, namesAt}
 use Rattle.check_records.specs.Taking.{forget, unread, Within, recordAt}
-use Rattle.check_records.specs.declared.Progress.the-variants.{At}
 use Rattle.language.specs.Structure.{formals}
 use lib.ListN.{length, take}
-use mathlib.Core.Bool.{Bool}
 use mathlib.Core.List.{[], List}
 use mathlib.Core.Path.{_≡_}
 
@@ -27,12 +25,3 @@ hold-asks names base count = base + count < length names
 
 abbrev pub hold-says : List ℕ → ℕ → ℕ → ℕ → readings .type .Denot → progresses .type .Denot → List ℕ → Type 0
 hold-says names base count at reading r names′ = (r ≡ heldOf reading at (namesAt names base count)) × (names′ ≡ namesWith r reading names (base + count))
-
-abbrev pub is-refused-says : progresses .type .Denot → Bool → Type 0
-is-refused-says p r = r ≡ stopped p
-
-abbrev pub place-of-says : progresses .type .Denot → ℕ → Type 0
-place-of-says p r = r ≡ placeOf p
-
-abbrev pub arrived-says : ℕ → progresses .type .Denot → Type 0
-arrived-says at r = r ≡ At at
