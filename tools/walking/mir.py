@@ -37,16 +37,8 @@ def arms(x):
     """the arms of a `switch`, each with its keys and statements"""
     out = []
     while isinstance(x, list) and x[0] == "arm":
-        out.append((keys(x[1]), statements(x[2])))
+        out.append((items(x[1]), statements(x[2])))
         x = x[3]
-    return out
-
-
-def keys(x):
-    out = []
-    while isinstance(x, list):
-        out.append(x[1])
-        x = x[2]
     return out
 
 

@@ -22,7 +22,7 @@ NAMES = [
     ("contract.Running", ["givenOf", "tables", "tablesOf"]),
     ("types.Kit", ["Given", "Item", "‵", "⋆", "Sq", "runs", "anyQ", "atRet", "_$_", "_∵_", "!", "qed", "by", "move"]),
     ("types.Run", ["and-then", "no-more", "lit", "unit-lit", "bin", "of-opd", "first", "blocks", "loops", "exec", "again", "Below", "un", "load", "addr",
-                   "from", "hop", "fld", "stop", "look-raw", "store-raw", "assigns", "skips"]),
+                   "from", "hop", "fld", "stop", "look-raw", "store-raw", "assigns"]),
     ("types.Part", ["look-in", "sub", "whole", "agg"]),
     ("sound.WpLaws", ["WpFn-mono", "FmC", "fmOf"]),
     ("denote.Builtin", ["Array", "u8", "u16", "u32", "u64", "i32"]),

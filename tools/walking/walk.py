@@ -216,7 +216,7 @@ class Walk:
                 continue
             if not rest and st.then:
                 (then, falls), st.then = st.then, None
-                return out + pad + (self.assign(s, st, "-last") if s != "skip" else "skips ! $") + pad + "%s _ $" % falls + self.go(then, st, ind)
+                return out + pad + self.assign(s, st, "-last") + pad + "%s _ $" % falls + self.go(then, st, ind)
             if st.looping and not rest:
                 return out + pad + self.assign(s, st, "-last") + pad + self.again(st)
             if s[0] == "switch":
