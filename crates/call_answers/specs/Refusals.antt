@@ -1,8 +1,8 @@
--- What a verdict comes to in the answer's words.
+-- What a verdict comes to in an answer.
 use Prim.Native.Nat.{ℕ}
 use mathlib.Core.Bool.{Bool, true, false}
-use mathlib.Core.List.{List}
-use Rattle.language.specs.Numbers.{answerWords}
+use mathlib.Core.Path.{_≡_}
+use Rattle.language.specs.declared.Answer.{Answer}
 use Rattle.language.specs.declared.Verdict.{Verdict}
 use Rattle.language.specs.declared.Verdict.the-variants.{Fit, Refused}
 use Rattle.call_answers.specs.Answers.{refusedAnswer}
@@ -11,7 +11,7 @@ unfoldable pub isRefused : Verdict → Bool
 isRefused (Refused c o) = true
 isRefused Fit = false
 
--- a verdict that refuses nothing leaves the words as they were
-unfoldable pub refusedWords : Verdict → ℕ → ℕ → List ℕ → List ℕ
-refusedWords (Refused c o) count tally before = answerWords (refusedAnswer c o count tally)
-refusedWords Fit count tally before = before
+-- the answer of a verdict that refuses
+unfoldable pub RefusedBy : Verdict → ℕ → ℕ → Answer → Type 0
+RefusedBy (Refused c o) count tally answer = answer ≡ refusedAnswer c o count tally
+RefusedBy Fit count tally answer = Unit {0}

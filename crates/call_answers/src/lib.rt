@@ -1,4 +1,4 @@
-// An answer as the C interface writes it.
+// An answer as its struct, in runs and refusals alike, and its words for the C interface.
 use language::Answer;
 use language::End;
 use language::Refusal;
@@ -12,42 +12,24 @@ mod refusals;
 pub use refusals::refused;
 pub use refusals::refuses;
 
-pub fn answer_words(a: Answer) -> [u64; 9]
-    ensures { λ r. ⌜ r ≡ answerWords a ⌝ }
+// The answer of a call that is refused.
+pub fn refused_answer(cause: Refusal, offset: usize, pairs: usize, tally: u64) -> Answer
+    ensures { λ r. ⌜ r ≡ refusedAnswer cause offset pairs tally ⌝ }
 {
-    let end = a.end;
-    [
-        language::end_number(end) as u64,
-        language::cause_number(end) as u64,
-        a.steps as u64,
-        a.offset as u64,
-        a.pairs as u64,
-        a.sheet as u64,
-        a.tally,
-        a.designator as u64,
-        a.links as u64,
-    ]
-}
-
-// The words of a call that is refused.
-pub fn refusal_words(cause: Refusal, offset: usize, pairs: usize, tally: u64) -> [u64; 9]
-    ensures { λ r. ⌜ r ≡ answerWords (refusedAnswer cause offset pairs tally) ⌝ }
-{
-    [
-        3,
-        language::refusal_number(cause) as u64,
-        0,
-        offset as u64,
-        pairs as u64,
-        0,
+    Answer {
+        end: End::Refused(cause),
+        steps: 0,
+        offset,
+        pairs,
+        sheet: 0,
         tally,
-        0,
-        0,
-    ]
+        designator: 0,
+        links: 0,
+    }
 }
 
-// The words of a call that has run.
-pub fn ran_words(
+// The answer of a call that has run.
+pub fn ran_answer(
     end: End,
     steps: u32,
     offset: usize,
@@ -56,19 +38,36 @@ pub fn ran_words(
     tally: u64,
     designator: u32,
     links: u32,
-) -> [u64; 9]
+) -> Answer
     requires { ⌜ tally ≤ 1000000000000 ⌝ }
-    ensures { λ r. ⌜ r ≡ answerWords (ranAnswer end steps offset pairs sheet tally designator links) ⌝ }
+    ensures { λ r. ⌜ r ≡ ranAnswer end steps offset pairs sheet tally designator links ⌝ }
 {
-    [
+    Answer {
+        end,
+        steps,
+        offset,
+        pairs,
+        sheet,
+        tally: tally + steps as u64,
+        designator,
+        links,
+    }
+}
+
+// The one place where an answer becomes words.
+pub fn write_answer(answer: Answer, words: &mut [u64; 9])
+    ensures { λ _. ⌜ now (words .exit) ≡ answerWords answer ⌝ }
+{
+    let end = answer.end;
+    *words = [
         language::end_number(end) as u64,
         language::cause_number(end) as u64,
-        steps as u64,
-        offset as u64,
-        pairs as u64,
-        sheet as u64,
-        tally + steps as u64,
-        designator as u64,
-        links as u64,
-    ]
+        answer.steps as u64,
+        answer.offset as u64,
+        answer.pairs as u64,
+        answer.sheet as u64,
+        answer.tally,
+        answer.designator as u64,
+        answer.links as u64,
+    ];
 }

@@ -1,8 +1,10 @@
-// What a verdict comes to in the answer's words.
-use super::refusal_words;
+// What a verdict comes to in an answer, for code that cannot take the verdict apart itself.
+use super::refused_answer;
+use language::Answer;
+use language::End;
 use language::Verdict;
 ghost use mathlib.Core.Path.{_≡_};
-ghost use Rattle.call_answers.specs.Refusals.{isRefused, refusedWords};
+ghost use Rattle.call_answers.specs.Refusals.{isRefused, RefusedBy};
 
 pub fn refuses(verdict: Verdict) -> bool
     ensures { λ r. ⌜ r ≡ isRefused verdict ⌝ }
@@ -13,10 +15,21 @@ pub fn refuses(verdict: Verdict) -> bool
     }
 }
 
-pub fn refused(verdict: Verdict, count: usize, tally: u64, answer: &mut [u64; 9])
-    ensures { λ _. ⌜ now (answer .exit) ≡ refusedWords verdict count tally (now (answer .entry)) ⌝ }
+// Of a verdict that refuses nothing, nothing is asked.
+pub fn refused(verdict: Verdict, count: usize, tally: u64) -> Answer
+    ensures { λ r. ⌜ RefusedBy verdict count tally r ⌝ }
 {
-    if let Verdict::Refused(cause, offset) = verdict {
-        *answer = refusal_words(cause, offset, count, tally);
+    match verdict {
+        Verdict::Refused(cause, offset) => refused_answer(cause, offset, count, tally),
+        Verdict::Fit => Answer {
+            end: End::Spent,
+            steps: 0,
+            offset: 0,
+            pairs: count,
+            sheet: 0,
+            tally,
+            designator: 0,
+            links: 0,
+        },
     }
 }

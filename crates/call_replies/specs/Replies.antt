@@ -17,10 +17,10 @@ use Rattle.language.specs.Sheet.{sheetShare}
 use Rattle.language.specs.Text.{Block}
 use Rattle.language.specs.Check.{Checked, accepted, refused}
 use Rattle.language.specs.Machine.{Limits}
-use Rattle.language.specs.Numbers.{answerWords}
 use Rattle.language.specs.Call.{Engine, Lent, Fed, Reply, limitsOf, limitsFit, admission, turnedAway, linksOf, written, reply}
 use Rattle.language.specs.declared.Refusal.{Refusal}
 use Rattle.language.specs.declared.End.{End}
+use Rattle.language.specs.declared.Answer.{Answer}
 use Rattle.language.specs.declared.Verdict.{Verdict}
 use Rattle.language.specs.declared.Verdict.the-variants.{Fit, Refused}
 use Rattle.laws.specs.Tests.{both}
@@ -34,8 +34,8 @@ use Rattle.resolved.specs.Resolved.{resolvedOf, Covers}
 use Rattle.arrays.specs.Holds.{Holds}
 use Rattle.check_script.specs.Verdicts.{verdictOf}
 use Rattle.call_answers.specs.Answers.{refusedAnswer, ranAnswer}
-use Rattle.call_answers.specs.Refusals.{isRefused, refusedWords}
-use Rattle.call_answers.specs.Replies.{Replies, RepliesLeaving}
+use Rattle.call_answers.specs.Refusals.{isRefused, RefusedBy}
+use Rattle.call_answers.specs.Replies.{Answers, AnswersLeaving}
 use Rattle.run_sheet.specs.Held.{Held}
 
 -- The verdict of admission
@@ -64,16 +64,16 @@ module _ (e : Engine) (f : Fed) where
   pub fit-admitted : verdictOf (admission e f) ≡ Fit → (t : Block) × Admitted e f t
   fit-admitted q = let r = verdict-fit (admission e f) q in (r .0, (accepted-exactly e f (r .0)) .0 (r .1))
 
-  -- as an engine's call has them: the verdict, and the words of its answer
+  -- as an engine's call has them: the verdict, and its answer
   module _ (v : Verdict) (verdict : v ≡ verdictOf (admission e f)) where
     pub admitted-call : v ≡ Fit → (t : Block) × Admitted e f t
     admitted-call q = fit-admitted (sym verdict ∙ q)
 
-    pub refused-call : (c : Refusal) (o : ℕ) → v ≡ Refused c o → {words : List ℕ} → words ≡ answerWords (refusedAnswer c o (f .lent .table .used) (f .tally))
-        → Replies e f words (f .lent .sheet) (f .lent .table .words)
-    refused-call c o q w =
+    pub refused-call : (c : Refusal) (o : ℕ) → v ≡ Refused c o → {answer : Answer} → answer ≡ refusedAnswer c o (f .lent .table .used) (f .tally)
+        → Answers e f answer (f .lent .sheet) (f .lent .table .words)
+    refused-call c o q a =
         let r = refused-reply c o (sym verdict ∙ q) in
-        record { answer-is = w ∙ ap answerWords (sym (r .0)); sheet-is = ap (λ (l : Lent). l .sheet) (sym (r .1)); table-is = ap (λ (l : Lent). l .table .words) (sym (r .1)) }
+        record { answer-is = a ∙ sym (r .0); sheet-is = ap (λ (l : Lent). l .sheet) (sym (r .1)); table-is = ap (λ (l : Lent). l .table .words) (sym (r .1)) }
 
   -- the same where the verdict is read by functions (crate call_answers)
   pub read-admitted : (v : Verdict) → v ≡ verdictOf (admission e f) → T (not (isRefused v)) → (t : Block) × Admitted e f t
@@ -81,19 +81,19 @@ module _ (e : Engine) (f : Fed) where
   read-admitted (Refused c o) q y = absurd y
   read-admitted Fit q y = admitted-call Fit q refl
 
-  pub read-refused : (v : Verdict) → v ≡ verdictOf (admission e f) → T (isRefused v) → (before : List ℕ) {words : List ℕ} → words ≡ refusedWords v (f .lent .table .used) (f .tally) before
-      → Replies e f words (f .lent .sheet) (f .lent .table .words)
-  unfolding isRefused refusedWords
-  read-refused (Refused c o) q y before w = refused-call (Refused c o) q c o refl w
-  read-refused Fit q y before w = absurd y
+  pub read-refused : (v : Verdict) → v ≡ verdictOf (admission e f) → T (isRefused v) → {answer : Answer} → RefusedBy v (f .lent .table .used) (f .tally) answer
+      → Answers e f answer (f .lent .sheet) (f .lent .table .words)
+  unfolding isRefused RefusedBy
+  read-refused (Refused c o) q y a = refused-call (Refused c o) q c o refl a
+  read-refused Fit q y a = absurd y
 
   -- An engine's own area is not written where the call is refused, and of the same length where the program is admitted
-  module _ {A : Type 0} {answer : List ℕ} {sheet table : List ℤ} (r : Replies e f answer sheet table) where
-    pub leaving-all : (area : List A) → RepliesLeaving e f answer sheet table area area
-    leaving-all area = record { replies = r; leaves = leaves-all e f area }
+  module _ {A : Type 0} {answer : Answer} {sheet table : List ℤ} (r : Answers e f answer sheet table) where
+    pub leaving-all : (area : List A) → AnswersLeaving e f answer sheet table area area
+    leaving-all area = record { answers = r; leaves = leaves-all e f area }
 
-    pub leaving-length : {t : Block} → Admitted e f t → {before after : List A} → length after ≡ length before → RepliesLeaving e f answer sheet table before after
-    leaving-length h q = record { replies = r; leaves = leaves-length e f (admitted-accepted e f h) q }
+    pub leaving-length : {t : Block} → Admitted e f t → {before after : List A} → length after ≡ length before → AnswersLeaving e f answer sheet table before after
+    leaving-length h q = record { answers = r; leaves = leaves-length e f (admitted-accepted e f h) q }
 
   -- A program that is admitted runs as the frame machine runs it
   module _ (bytes : Bytes (f .script)) (t : Block) (h : Admitted e f t) where

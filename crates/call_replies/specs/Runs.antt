@@ -8,9 +8,9 @@ use lib.IntN.{ℤ}
 use lib.ListN.{length}
 use Rattle.language.specs.Text.{Block}
 use Rattle.language.specs.Sheet.{sheetShare}
-use Rattle.language.specs.Numbers.{answerWords}
 use Rattle.language.specs.Call.{Engine, Fed, Lent, limitsOf, written}
 use Rattle.language.specs.declared.End.{End}
+use Rattle.language.specs.declared.Answer.{Answer}
 use Rattle.grammar.specs.Rules.{Bytes}
 use Rattle.runs.specs.Admission.{Admitted}
 use Rattle.frames.specs.Frame.{Frame, frameReplied, frameRunOf, frameSheet}
@@ -18,7 +18,7 @@ use Rattle.coordinates.specs.Sound.{accepted-keeps-rules}
 use Rattle.resolved.specs.Resolved.{resolvedOf, Covers}
 use Rattle.steps.specs.Underway.{Ended}
 use Rattle.call_answers.specs.Answers.{ranAnswer}
-use Rattle.call_answers.specs.Replies.{Replies}
+use Rattle.call_answers.specs.Replies.{Answers}
 use Rattle.run_sheet.specs.Held.{Held}
 use Rattle.call_replies.specs.Replies.{ran-answer, ran-lent, result-held, room-for-sheet}
 
@@ -36,11 +36,11 @@ module _ {e : Engine} {f : Fed} (bytes : Bytes (f .script)) {t : Block} (h : Adm
     subst (λ k. sheetShare * k ≤ length (f .lent .sheet)) (sym (ended .live-is)) (room-for-sheet h ((frameRunOf f t) .final) (ended .sound)),
   )
 
-  -- from the sheet that is written, the links that are reported, and the answer's words
+  -- from the sheet that is written, the links that are reported, and the answer
   pub run-replies : {sheet : List ℤ} {count followed : ℕ}
       → ((fs : List Frame) → Held code cells blocks nexts fs → length fs ≡ live → (sheet ≡ written (frameSheet fs) (f .lent .sheet)) × (count ≡ length (frameSheet fs)))
       → followed ≡ (frameReplied e f (frameRunOf f t)) .answer .links
-      → {answer : List ℕ} → answer ≡ answerWords (ranAnswer end steps offset pairs count (f .tally) designator followed) → Replies e f answer sheet table
+      → {answer : Answer} → answer ≡ ranAnswer end steps offset pairs count (f .tally) designator followed → Answers e f answer sheet table
   run-replies is l a =
       let w = is ((frameRunOf f t) .final .frames) held (sym (ended .live-is)) in
       let lent = ran-lent e f bytes t h in
@@ -56,7 +56,7 @@ module _ {e : Engine} {f : Fed} (bytes : Bytes (f .script)) {t : Block} (h : Adm
         links-are = l;
       }) in
       record {
-        answer-is = a ∙ ap answerWords q;
+        answer-is = a ∙ q;
         sheet-is = w .0 ∙ sym (ap (λ (x : Lent). x .sheet) lent);
         table-is = ended .table-is ∙ sym (ap (λ (x : Lent). x .table .words) lent);
       }

@@ -10,6 +10,7 @@ use lib.ListN.{length, getD, replicate, length-replicate, getD-replicate}
 use Rattle.language.specs.Text.{Block}
 use Rattle.language.specs.Sheet.{sheetShare}
 use Rattle.language.specs.Call.{Fed, chain, recordsFit, holdsAtLeast, written}
+use Rattle.language.specs.declared.Answer.{Answer}
 use Rattle.grammar.specs.Rules.{Bytes}
 use Rattle.runs.specs.Admission.{Admitted, limits-fit, records-fit, table-right, activations-fit}
 use Rattle.frames.specs.Frame.{Frame, frameRun, frameStart, frameRunOf, frameSheet}
@@ -17,7 +18,7 @@ use Rattle.coordinates.specs.Sound.{accepted-keeps-rules}
 use Rattle.resolved.specs.Resolved.{resolvedOf, Covers}
 use Rattle.resolve_script.specs.Resolving.{Resolved, resolved-covers}
 use Rattle.run_sheet.specs.Held.{Held}
-use Rattle.call_answers.specs.Replies.{Replies}
+use Rattle.call_answers.specs.Replies.{Answers}
 use Rattle.call_replies.specs.Replies.{with-links}
 use Rattle.call_replies.specs.Runs.{sheet-needs, run-replies}
 use Rattle.chain_records.specs.declared.Activation.{Activation}
@@ -25,7 +26,7 @@ use Rattle.chain_links.specs.Records.{blocksIn, nextsIn}
 use Rattle.run_state.specs.Limits.{limitsBy}
 use Rattle.chain_run.specs.Running.{Beginning, Ended}
 use Rattle.run_state.specs.declared.Halt.{Halt}
-use Rattle.chain_call.specs.Calls.{haltWords}
+use Rattle.chain_call.specs.Calls.{haltAnswer}
 
 module _ (records : List Activation) (f : Fed) (bytes : Bytes (f .script)) (t : Block) (h : Admitted (chain (length records)) f t) (code : List ℕ)
     (resolved : Resolved (f .script) (f .name) code) (cells : List ℤ) (zero : cells ≡ replicate 8224 (pos 0)) where
@@ -82,5 +83,5 @@ module _ (records : List Activation) (f : Fed) (bytes : Bytes (f .script)) (t : 
     pub replied : {sheet : List ℤ} {count : ℕ}
         → ((fs : List Frame) → Held code cells′ (blocksIn records′) (nextsIn records′) fs → length fs ≡ r .live
         → (sheet ≡ written (frameSheet fs) (f .lent .sheet)) × (count ≡ length (frameSheet fs)))
-        → {answer : List ℕ} → answer ≡ haltWords r count (f .tally) → Replies (chain (length records)) f answer sheet table′
+        → {answer : Answer} → answer ≡ haltAnswer r count (f .tally) → Answers (chain (length records)) f answer sheet table′
     replied is a = run-replies bytes h covers (ended .ended) is (ended .links-are ∙ with-links (chain (length records)) f (frameRunOf f t) refl) a

@@ -1,4 +1,4 @@
--- The arrays of this crate, a verdict and a call's numbers (`numberss`; `fitting` and `made` are to and from its fields) as data, for proofs by hand.
+-- The arrays of this crate, a verdict, an answer and a call's numbers (`numberss`; `fitting` and `made` are to and from its fields) as data, for proofs by hand.
 use denote.Struct.Laws.{owes, owed}
 use Rattle.walks.specs.Data.{Datum, Good, enums, structs, words32, words16, usizes, ints32}
 use Rattle.walks.specs.Holes.{arrays}
@@ -7,6 +7,8 @@ use Rattle.call_admission.proofs.CallNumbers as N
 use Rattle.call_admission.proofs.CallNumbers.Laws as N′
 use Rattle.language.proofs.Verdict as D
 use Rattle.language.proofs.Verdict.Laws as D′
+use Rattle.language.proofs.Answer as A
+use Rattle.language.proofs.Answer.Laws as A′
 
 abbrev pub codes : Datum
 codes = arrays words32 4096
@@ -14,11 +16,11 @@ codes = arrays words32 4096
 abbrev pub cellss : Datum
 cellss = arrays ints32 8224
 
-abbrev pub answerss : Datum
-answerss = arrays usizes 9
-
 abbrev pub verdicts : Datum
 verdicts = enums D.the-type D′.the-laws D′.the-plain tt
+
+abbrev pub answers : Datum
+answers = structs A.the-type A′.the-laws A′.the-plain
 
 abbrev pub numberss : Datum
 numberss = structs N.the-type N′.the-laws N′.the-plain

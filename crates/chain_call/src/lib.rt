@@ -4,6 +4,7 @@ use call_admission::CallNumbers;
 use call_answers::refused;
 use call_answers::refuses;
 use chain_records::Activation;
+use language::Answer;
 use language::Verdict;
 use run_state::Halt;
 ghost use mathlib.Core.Path.{_≡_};
@@ -14,10 +15,10 @@ ghost use Rattle.language.specs.Call.{admission, chain};
 ghost use Rattle.runs.specs.Admission.{Admitted};
 ghost use Rattle.check_script.specs.Verdicts.{verdictOf};
 ghost use Rattle.call_admission.specs.Lent.{fedOf};
-ghost use Rattle.call_answers.specs.Replies.{Replies, RepliesLeaving};
+ghost use Rattle.call_answers.specs.Replies.{Answers, AnswersLeaving};
 ghost use Rattle.grammar.specs.Rules.{Bytes};
 ghost use Rattle.resolve_script.specs.Resolving.{Resolved};
-ghost use Rattle.chain_call.specs.Calls.{haltWords, AdmittedOn};
+ghost use Rattle.chain_call.specs.Calls.{haltAnswer, AdmittedOn};
 
 // What is due to a call that is lent so many records.
 fn judged(script: &[u8], numbers: CallNumbers, table: &[i32], sheet: &[i32], held: usize) -> Verdict
@@ -32,12 +33,12 @@ fn activations_of(numbers: CallNumbers) -> usize
     numbers.d as usize
 }
 
-fn answered(halt: Halt, written: usize, numbers: CallNumbers, answer: &mut [u64; 9])
+fn answered(halt: Halt, written: usize, numbers: CallNumbers) -> Answer
     requires { ⌜ numbers .tally ≤ 1000000000000 ⌝ }
-    ensures { λ _. ⌜ now (answer .exit) ≡ haltWords halt written (numbers .tally) ⌝ }
+    ensures { λ r. ⌜ r ≡ haltAnswer halt written (numbers .tally) ⌝ }
 {
     let end = halt.end;
-    *answer = call_answers::ran_words(
+    call_answers::ran_answer(
         end,
         halt.steps,
         halt.offset,
@@ -46,7 +47,7 @@ fn answered(halt: Halt, written: usize, numbers: CallNumbers, answer: &mut [u64;
         numbers.tally,
         halt.designator,
         halt.links,
-    );
+    )
 }
 
 // The resolved script, in words that are 0.
@@ -66,11 +67,10 @@ fn ran_on(
     table: &mut [i32],
     sheet: &mut [i32],
     records: &mut [Activation],
-    answer: &mut [u64; 9],
-)
+) -> Answer
     requires { ⌜ AdmittedOn (now code) (now cells) (chain (length (now records))) (fedOf numbers (now script) (now table) (now sheet)) ⌝ }
-    ensures { λ _. ⌜ Replies (chain (length (now (records .entry)))) (fedOf numbers (now (script .entry)) (now (table .entry)) (now (sheet .entry)))
-        (now (answer .exit)) (now (sheet .exit)) (now (table .exit)) ⌝ }
+    ensures { λ r. ⌜ Answers (chain (length (now (records .entry)))) (fedOf numbers (now (script .entry)) (now (table .entry)) (now (sheet .entry)))
+        r (now (sheet .exit)) (now (table .exit)) ⌝ }
 {
     resolved(script, numbers, code);
     let halt = chain_run::run_program(
@@ -84,7 +84,7 @@ fn ran_on(
         numbers.n,
     );
     let written = chain_run::write_sheet(code, cells, records, halt.live, sheet);
-    answered(halt, written, numbers, answer);
+    answered(halt, written, numbers)
 }
 
 // What comes of a call that is admitted.
@@ -94,11 +94,10 @@ fn ran(
     table: &mut [i32],
     sheet: &mut [i32],
     records: &mut [Activation],
-    answer: &mut [u64; 9],
-)
+) -> Answer
     requires { ⌜ ((t : Block) × Admitted (chain (length (now records))) (fedOf numbers (now script) (now table) (now sheet)) t) ⌝ }
-    ensures { λ _. ⌜ Replies (chain (length (now (records .entry)))) (fedOf numbers (now (script .entry)) (now (table .entry)) (now (sheet .entry)))
-        (now (answer .exit)) (now (sheet .exit)) (now (table .exit)) ⌝ }
+    ensures { λ r. ⌜ Answers (chain (length (now (records .entry)))) (fedOf numbers (now (script .entry)) (now (table .entry)) (now (sheet .entry)))
+        r (now (sheet .exit)) (now (table .exit)) ⌝ }
 {
     let mut code = [0u32; 4096];
     let mut cells = [0i32; 8224];
@@ -110,8 +109,7 @@ fn ran(
         table,
         sheet,
         records,
-        answer,
-    );
+    )
 }
 
 pub fn call(
@@ -120,15 +118,13 @@ pub fn call(
     table: &mut [i32],
     sheet: &mut [i32],
     records: &mut [Activation],
-    answer: &mut [u64; 9],
-)
-    ensures { λ _. ⌜ RepliesLeaving (chain (length (now (records .entry)))) (fedOf numbers (now (script .entry)) (now (table .entry)) (now (sheet .entry)))
-        (now (answer .exit)) (now (sheet .exit)) (now (table .exit)) (now (records .entry)) (now (records .exit)) ⌝ }
+) -> Answer
+    ensures { λ r. ⌜ AnswersLeaving (chain (length (now (records .entry)))) (fedOf numbers (now (script .entry)) (now (table .entry)) (now (sheet .entry)))
+        r (now (sheet .exit)) (now (table .exit)) (now (records .entry)) (now (records .exit)) ⌝ }
 {
     let verdict = judged(script, numbers, table, sheet, records.len());
     if refuses(verdict) {
-        refused(verdict, numbers.count, numbers.tally, answer);
-        return;
+        return refused(verdict, numbers.count, numbers.tally);
     }
-    ran(script, numbers, table, sheet, records, answer);
+    ran(script, numbers, table, sheet, records)
 }

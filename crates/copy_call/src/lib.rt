@@ -1,13 +1,14 @@
 // The copying engine's call: admission, the resolved script and the words of its names, the run on the lent area, the sheet, the answer.
 use call_admission::Area;
 use call_admission::CallNumbers;
+use language::Answer;
 use language::Verdict;
 ghost use lib.ListN.{length};
 ghost use Rattle.language.specs.Text.{Block};
 ghost use Rattle.language.specs.Call.{copying};
 ghost use Rattle.runs.specs.Admission.{Admitted};
 ghost use Rattle.call_admission.specs.Lent.{fedOf};
-ghost use Rattle.call_answers.specs.Replies.{Replies, RepliesLeaving};
+ghost use Rattle.call_answers.specs.Replies.{Answers, AnswersLeaving};
 
 // What comes of a call that is admitted.
 fn ran(
@@ -16,9 +17,9 @@ fn ran(
     table: &mut [i32],
     sheet: &mut [i32],
     area: &mut [u32],
-) -> [u64; 9]
+) -> Answer
     requires { ⌜ ((t : Block) × Admitted (copying (length (now area))) (fedOf numbers (now script) (now table) (now sheet)) t) ⌝ }
-    ensures { λ r. ⌜ Replies (copying (length (now (area .entry)))) (fedOf numbers (now (script .entry)) (now (table .entry)) (now (sheet .entry)))
+    ensures { λ r. ⌜ Answers (copying (length (now (area .entry)))) (fedOf numbers (now (script .entry)) (now (table .entry)) (now (sheet .entry)))
         r (now (sheet .exit)) (now (table .exit)) ⌝ }
 {
     let mut code = [0u32; 4096];
@@ -45,7 +46,7 @@ fn ran(
     let live = halt.live;
     let written = run_sheet::write_sheet(&code, &cells, &blocks, &nexts, live, sheet);
     let end = halt.end;
-    call_answers::ran_words(
+    call_answers::ran_answer(
         end,
         halt.steps,
         halt.offset,
@@ -63,14 +64,14 @@ pub fn call(
     table: &mut [i32],
     sheet: &mut [i32],
     area: &mut [u32],
-) -> [u64; 9]
-    ensures { λ r. ⌜ RepliesLeaving (copying (length (now (area .entry)))) (fedOf numbers (now (script .entry)) (now (table .entry)) (now (sheet .entry)))
+) -> Answer
+    ensures { λ r. ⌜ AnswersLeaving (copying (length (now (area .entry)))) (fedOf numbers (now (script .entry)) (now (table .entry)) (now (sheet .entry)))
         r (now (sheet .exit)) (now (table .exit)) (now (area .entry)) (now (area .exit)) ⌝ }
 {
     let held = area.len();
     match call_admission::admit(script, numbers, table, sheet, Area::Unused, Area::Of(held)) {
         Verdict::Refused(cause, offset) => {
-            call_answers::refusal_words(cause, offset, numbers.count, numbers.tally)
+            call_answers::refused_answer(cause, offset, numbers.count, numbers.tally)
         }
         Verdict::Fit => ran(script, numbers, table, sheet, area),
     }

@@ -1,17 +1,18 @@
 // The display engine's call: admission, the resolved script, the run, the sheet, the answer.
 use call_admission::Area;
 use call_admission::CallNumbers;
+use language::Answer;
 use language::Verdict;
 ghost use Rattle.language.specs.Text.{Block};
 ghost use Rattle.language.specs.Call.{display};
 ghost use Rattle.runs.specs.Admission.{Admitted};
 ghost use Rattle.call_admission.specs.Lent.{fedOf};
-ghost use Rattle.call_answers.specs.Replies.{Replies};
+ghost use Rattle.call_answers.specs.Replies.{Answers};
 
 // What comes of a call that is admitted.
-fn ran(script: &[u8], numbers: CallNumbers, table: &mut [i32], sheet: &mut [i32]) -> [u64; 9]
+fn ran(script: &[u8], numbers: CallNumbers, table: &mut [i32], sheet: &mut [i32]) -> Answer
     requires { ⌜ ((t : Block) × Admitted display (fedOf numbers (now script) (now table) (now sheet)) t) ⌝ }
-    ensures { λ r. ⌜ Replies display (fedOf numbers (now (script .entry)) (now (table .entry)) (now (sheet .entry))) r (now (sheet .exit)) (now (table .exit)) ⌝ }
+    ensures { λ r. ⌜ Answers display (fedOf numbers (now (script .entry)) (now (table .entry)) (now (sheet .entry))) r (now (sheet .exit)) (now (table .exit)) ⌝ }
 {
     let mut code = [0u32; 4096];
     resolve_script::resolve(script, numbers.name as usize, &mut code);
@@ -34,7 +35,7 @@ fn ran(script: &[u8], numbers: CallNumbers, table: &mut [i32], sheet: &mut [i32]
     let live = halt.live;
     let written = run_sheet::write_sheet(&code, &cells, &blocks, &nexts, live, sheet);
     let end = halt.end;
-    call_answers::ran_words(
+    call_answers::ran_answer(
         end,
         halt.steps,
         halt.offset,
@@ -46,12 +47,12 @@ fn ran(script: &[u8], numbers: CallNumbers, table: &mut [i32], sheet: &mut [i32]
     )
 }
 
-pub fn call(script: &[u8], numbers: CallNumbers, table: &mut [i32], sheet: &mut [i32]) -> [u64; 9]
-    ensures { λ r. ⌜ Replies display (fedOf numbers (now (script .entry)) (now (table .entry)) (now (sheet .entry))) r (now (sheet .exit)) (now (table .exit)) ⌝ }
+pub fn call(script: &[u8], numbers: CallNumbers, table: &mut [i32], sheet: &mut [i32]) -> Answer
+    ensures { λ r. ⌜ Answers display (fedOf numbers (now (script .entry)) (now (table .entry)) (now (sheet .entry))) r (now (sheet .exit)) (now (table .exit)) ⌝ }
 {
     match call_admission::admit(script, numbers, table, sheet, Area::Unused, Area::Unused) {
         Verdict::Refused(cause, offset) => {
-            call_answers::refusal_words(cause, offset, numbers.count, numbers.tally)
+            call_answers::refused_answer(cause, offset, numbers.count, numbers.tally)
         }
         Verdict::Fit => ran(script, numbers, table, sheet),
     }

@@ -1,5 +1,6 @@
 // What the server's C programs call. Each function is total: it requires nothing, and its contract fixes every word that it writes.
 use call_admission::CallNumbers;
+use call_answers::write_answer;
 use chain_records::Activation;
 ghost use mathlib.Core.Path.{_≡_};
 ghost use Rattle.language.specs.Check.{check};
@@ -45,7 +46,7 @@ pub extern "C" fn enrol_copy(
         count,
         name,
     };
-    *answer = copy_call::call(script, numbers, table, sheet, area);
+    write_answer(copy_call::call(script, numbers, table, sheet, area), answer);
 }
 
 // A run by the display engine: the answer's words, and what becomes of table and sheet.
@@ -74,7 +75,7 @@ pub extern "C" fn enrol_display(
         count,
         name,
     };
-    *answer = display_call::call(script, numbers, table, sheet);
+    write_answer(display_call::call(script, numbers, table, sheet), answer);
 }
 
 // A run by the chain engine, on activation records in a lent slice: the same, and the records as they were where the call is refused.
@@ -104,5 +105,8 @@ pub extern "C" fn enrol_chain(
         count,
         name,
     };
-    chain_call::call(script, numbers, table, sheet, records, answer);
+    write_answer(
+        chain_call::call(script, numbers, table, sheet, records),
+        answer,
+    );
 }

@@ -47,9 +47,9 @@ pub enum End {
 pub struct Answer {
     pub end: End,
     pub steps: u32,
-    pub offset: u32,
+    pub offset: usize,
     pub pairs: usize,
-    pub sheet: u32,
+    pub sheet: usize,
     pub tally: u64,
     pub designator: u32,
     pub links: u32,

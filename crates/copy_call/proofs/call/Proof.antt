@@ -38,7 +38,7 @@ returns : tie.Need-returns
 returns c =
     let k = c .before .before in
     let a = k .before .before in
-    let r = refused-call (engineAt a) (fedAt a) _ (a .admit .ensures false) _ _ (k .cause .given .1) (c .refusal-words .ensures) in
+    let r = refused-call (engineAt a) (fedAt a) _ (a .admit .ensures false) _ _ (k .cause .given .1) (c .refused-answer .ensures) in
     leaving-all (engineAt a) (fedAt a) r ((startAt a) .args .area .now)
 
 returns-2 : tie.Need-returns-2

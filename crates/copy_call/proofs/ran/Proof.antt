@@ -33,7 +33,7 @@ startAt c = knownAt c .before
 abbrev ranAt : tie.After-write-sheet-arg → tie.After-run-program
 ranAt c = c .before .before .before .before .before .before .before .before
 
-abbrev writtenAt : tie.After-ran-words → tie.After-write-sheet
+abbrev writtenAt : tie.After-ran-answer → tie.After-write-sheet
 writtenAt c = c .before .before
 
 -- what the call is fed, and the area
@@ -67,8 +67,8 @@ write-sheet-requires c κs =
     sheet-needs (bytesAt z) (p .1) (resolved-covers _ _ _ (z .resolve .ensures) _ (p .1 .script))
     (ended (areaAt z) (bytesAt z) (nameAt z .fits) (p .1) (z .resolve .ensures) _ (g .name-fields .ensures .0) (u .run-program .ensures) .ended)
 
-ran-words-requires : tie.Need-ran-words-requires
-ran-words-requires c κs = tally-fits ((startAt (resolvedAt (namesAt (ranAt (c .before .before) .before)))) .pre .1)
+ran-answer-requires : tie.Need-ran-answer-requires
+ran-answer-requires c κs = tally-fits ((startAt (resolvedAt (namesAt (ranAt (c .before .before) .before)))) .pre .1)
 
 returns : tie.Need-returns
 returns c =
@@ -79,10 +79,10 @@ returns c =
     let p = (startAt z) .pre in
     run-replies (bytesAt z) (p .1) (resolved-covers _ _ _ (z .resolve .ensures) _ (p .1 .script))
     (ended (areaAt z) (bytesAt z) (nameAt z .fits) (p .1) (z .resolve .ensures) _ (g .name-fields .ensures .0) (u .run-program .ensures) .ended)
-    (v .write-sheet .ensures) (no-links (copying (length (areaAt z))) (fedAt z) _ refl) (c .ran-words .ensures)
+    (v .write-sheet .ensures) (no-links (copying (length (areaAt z))) (fedAt z) _ refl) (c .ran-answer .ensures)
 
 pub ran-spec : {M : Type 1} → statement M
 ran-spec =
     tie.close
     (tie.spec (λ c. search needs) (λ c. search needs) (λ c κs. search needs) (λ c κs. search needs) (λ c. search needs) run-program-requires
-    write-sheet-requires ran-words-requires (λ c. search needs) (λ c. search needs) (λ c. search needs) returns)
+    write-sheet-requires ran-answer-requires (λ c. search needs) (λ c. search needs) (λ c. search needs) returns)

@@ -7,11 +7,11 @@ use Rattle.call_replies.specs.Replies.{admitted-call, refused-call}
 use Rattle.display_call.proofs.call.Statement.{statement}
 use Rattle.display_call.proofs.call.Tie as tie
 
--- the places: where admission has answered, before what is run and before a refusal's words, and the start; what the call is fed
+-- the places: where admission has answered, before what is run and before a refusal's answer, and the start; what the call is fed
 abbrev fitOf : tie.After-ran-arg2 → tie.After-admit
 fitOf c = c .before .before .before .before
 
-abbrev refusedOf : tie.After-refusal-words → tie.After-admit
+abbrev refusedOf : tie.After-refused-answer → tie.After-admit
 refusedOf c = c .before .before .before .before
 
 abbrev startAt : tie.After-admit → tie.Start
@@ -30,7 +30,7 @@ ran-requires c κs =
 returns : tie.Need-returns
 returns c =
     let a = refusedOf c in
-    refused-call display (fedAt a) (a .admit .result) (a .admit .ensures false) _ _ (c .before .before .cause .given .1) (c .refusal-words .ensures)
+    refused-call display (fedAt a) (a .admit .result) (a .admit .ensures false) _ _ (c .before .before .cause .given .1) (c .refused-answer .ensures)
 
 pub call-spec : {M : Type 1} → statement M
 call-spec =

@@ -22,7 +22,7 @@ startAt c = c .before .before .before .before
 abbrev ranAt : tie.After-write-sheet-arg → tie.After-run-program
 ranAt c = c .before .before .before .before .before .before
 
-abbrev writtenAt : tie.After-ran-words → tie.After-write-sheet
+abbrev writtenAt : tie.After-ran-answer → tie.After-write-sheet
 writtenAt c = c .before .before
 
 -- what the call is fed
@@ -48,8 +48,8 @@ write-sheet-requires c κs =
     sheet-needs (bytesAt z) (p .1) (resolved-covers _ _ _ (z .resolve .ensures) _ (p .1 .script))
     (ended (fedAt z) (bytesAt z) (p .0) (p .1) _ (z .resolve .ensures) (u .run-program .result) (u .run-program .ensures))
 
-ran-words-requires : tie.Need-ran-words-requires
-ran-words-requires c κs = tally-fits ((startAt (resolvedAt (ranAt (c .before .before) .before))) .pre .1)
+ran-answer-requires : tie.Need-ran-answer-requires
+ran-answer-requires c κs = tally-fits ((startAt (resolvedAt (ranAt (c .before .before) .before))) .pre .1)
 
 returns : tie.Need-returns
 returns c =
@@ -59,9 +59,9 @@ returns c =
     let p = (startAt z) .pre in
     run-replies (bytesAt z) (p .1) (resolved-covers _ _ _ (z .resolve .ensures) _ (p .1 .script))
     (ended (fedAt z) (bytesAt z) (p .0) (p .1) _ (z .resolve .ensures) (u .run-program .result) (u .run-program .ensures))
-    (v .write-sheet .ensures) (no-links display (fedAt z) _ refl) (c .ran-words .ensures)
+    (v .write-sheet .ensures) (no-links display (fedAt z) _ refl) (c .ran-answer .ensures)
 
 pub ran-spec : {M : Type 1} → statement M
 ran-spec =
     tie.close (tie.spec (λ c. search needs) (λ c. search needs) (λ c κs. search needs) (λ c. search needs) run-program-requires
-    write-sheet-requires ran-words-requires (λ c. search needs) (λ c. search needs) returns)
+    write-sheet-requires ran-answer-requires (λ c. search needs) (λ c. search needs) returns)

@@ -40,7 +40,7 @@ use Rattle.walks.specs.Calls.{to, calls-by}
 use Rattle.walks.specs.Clauses.{asks-all}
 use Rattle.walks.specs.Frames.{begins}
 use Rattle.walks.specs.Locals.{var, lent, lent-ptr, lent-slice, puts, lands-in, ends}
-use Rattle.chain_call.proofs.Rows.{numberss}
+use Rattle.chain_call.proofs.Rows.{answers, numberss}
 use Rattle.chain_records.proofs.Elem.{recs}
 use denote.Struct.Laws as laws
 use Rattle.call_admission.proofs.CallNumbers as CallNumbers#
@@ -49,6 +49,10 @@ use Rattle.chain_call.proofs.call as call
 use Rattle.chain_call.proofs.call.Symbol as call-def
 use Rattle.chain_call.proofs.call.Symbol.{name as #call}
 use Rattle.chain_call.proofs.call.Met as call-thm
+use Rattle.call_answers.proofs.write_answer as write-answer
+use Rattle.call_answers.proofs.write_answer.Symbol as write-answer-def
+use Rattle.call_answers.proofs.write_answer.Symbol.{name as #write-answer}
+use Rattle.call_answers.proofs.write_answer.Met as write-answer-thm
 use Rattle.enrol.proofs.enrol_chain.Key.{name as #me}
 use Rattle.enrol.proofs.enrol_chain as f
 use Rattle.enrol.proofs.enrol_chain.Statement as stated
@@ -59,8 +63,14 @@ use Rattle.enrol.proofs.enrol_chain.Proof.Said as said
 abbrev Calls-call : {M : Type 1} (𝓤 : URA M) (H : Heap 𝓤) (A : Atoms 𝓤) → (Memory → SProp 𝓤) → (Routine → Fun 𝓤) → Contract 𝓤
 Calls-call 𝓤 H A mem run = tripleOf 𝓤 H A call.signature (call.spec 𝓤 H A mem run)
 
-abbrev for-call : Loan → List ℕ → numberss .type .Denot → Loan → List ℤ → Loan → List ℤ → Loan → List (recs .type .Denot) → Loan → List ℕ → List Par
-for-call h0 x0 x1 h2 x2 h3 x3 h4 x4 h5 x5 = brw (shrSlice u8) h0 x0 ∷ dat numberss x1 ∷ brw (mutSlice i32) h2 x2 ∷ brw (mutSlice i32) h3 x3 ∷ brw (mutSlice (recs .type)) h4 x4 ∷ brw (mutRef (Array u64 tt 9)) h5 x5 ∷ []
+abbrev for-call : Loan → List ℕ → numberss .type .Denot → Loan → List ℤ → Loan → List ℤ → Loan → List (recs .type .Denot) → List Par
+for-call h0 x0 x1 h2 x2 h3 x3 h4 x4 = brw (shrSlice u8) h0 x0 ∷ dat numberss x1 ∷ brw (mutSlice i32) h2 x2 ∷ brw (mutSlice i32) h3 x3 ∷ brw (mutSlice (recs .type)) h4 x4 ∷ []
+
+abbrev Calls-write-answer : {M : Type 1} (𝓤 : URA M) (H : Heap 𝓤) (A : Atoms 𝓤) → (Memory → SProp 𝓤) → (Routine → Fun 𝓤) → Contract 𝓤
+Calls-write-answer 𝓤 H A mem run = tripleOf 𝓤 H A write-answer.signature (write-answer.spec 𝓤 H A mem run)
+
+abbrev for-write-answer : answers .type .Denot → Loan → List ℕ → List Par
+for-write-answer x0 h1 x1 = dat answers x0 ∷ brw (mutRef (Array u64 tt 9)) h1 x1 ∷ []
 
 abbrev stayed : Stays (f.ended .signature .params) (f.ended .kept)
 stayed = (stay-none-slice (0 ∷ []) tt (plain (λ _. u8)) yes, (stay-none (λ _. words32 .type) yes, (stay-none (λ _. words32 .type) yes, (stay-none (λ _. words32 .type) yes, (stay-none (λ _. usizes .type) yes, (gave-slice (1 ∷ []) tt (plain (λ _. i32)), (stay-none (λ _. usizes .type) yes, (stay-none (λ _. words16 .type) yes, (gave-slice (2 ∷ []) tt (plain (λ _. i32)), (gave-slice (3 ∷ []) tt (plain (λ _. recs .type)), (gave-ref (4 ∷ []) tt (arrayOf (plain (λ _. u64)) 9), tt)))))))))))
@@ -112,7 +122,8 @@ module _ {M : Type 1} (𝓤 : URA M) (H : Heap 𝓤) (A : Atoms 𝓤) (W : Given
       (ends-at 𝓤 H A f.ended stayed (f.clauses 𝓤 H A mem run) W bound vunit tt (tt, (tt, (tt, (tt, (tt, (table′, (tt, (tt, (sheet′, (records′, (answer′, tt))))))))))) (tt, (tt, (tt, (tt, (tt, (same-table, (tt, (tt, (same-sheet, (same-records, (tt, tt))))))))))))
 
   module _ (𝓣 : Tables 𝓤 H)
-      (known-call : Triple 𝓤 (𝓣 .C #call) (Calls-call 𝓤 H A mem run)) where
+      (known-call : Triple 𝓤 (𝓣 .C #call) (Calls-call 𝓤 H A mem run))
+      (known-write-answer : Triple 𝓤 (𝓣 .C #write-answer) (Calls-write-answer 𝓤 H A mem run)) where
     fm : FmC 𝓤 H (W .laws) (𝓣 .C)
     fm = fmOf 𝓤 H (W .laws) 𝓣
 
@@ -120,26 +131,30 @@ module _ {M : Type 1} (𝓤 : URA M) (H : Heap 𝓤) (A : Atoms 𝓤) (W : Given
     walk = via 𝓤 (⋆ 𝓤 H A (ins 𝓤 ps)) (arrives 𝓤 H A W 0 ps) (qed W (ins 𝓤 ps) ∵
         begins ! (𝓣 .C) (𝓣 .Λ) mine.function (vals ps) Post ((tt, (tt, (record { fits = room-script .0 }, tt))), (typed 𝓤 H A W words32 d g-d, (typed 𝓤 H A W words32 n g-n, (typed 𝓤 H A W words32 g g-g, (typed 𝓤 H A W usizes tally g-tally, ((tt, (tt, (record { fits = room-table .0 }, tt))), (typed 𝓤 H A W usizes count g-count, (typed 𝓤 H A W words16 name g-name, ((tt, (tt, (record { fits = room-sheet .0 }, tt))), ((tt, (tt, (record { fits = room-records .0 }, tt))), ((tt, tt), tt))))))))))) (λ β. move ! (1 ∷ 2 ∷ 3 ∷ 4 ∷ 5 ∷ []) $
         puts ! 5 12 refl (agg ! (and-then ! (var ! 5 2 refl refl tt) (and-then ! (var ! 5 3 refl refl tt) (and-then ! (var ! 5 4 refl refl tt) (and-then ! (var ! 5 5 refl refl tt) (and-then ! (var ! 5 7 refl refl tt) (and-then ! (var ! 5 8 refl refl tt) (no-more !)))))))) tt (typed 𝓤 H A W numberss (record { d = d; n = n; g = g; tally = tally; count = count; name = name }) (laws.owes CallNumbers#.the-type CallNumbers′.the-laws (record { d = d; n = n; g = g; tally = tally; count = count; name = name }) (g-d, (g-n, (g-g, (g-tally, (g-count, (g-name, tt)))))))) $
-        puts ! 5 14 refl (lent-ptr ! 5 6 refl refl tt refl refl) tt (tt, tt) $
-        puts ! 5 15 refl (lent-slice ! 5 6 14 refl refl refl tt tt refl refl) tt (tt, (tt, (record { fits = room-table .0 }, tt))) $
-        puts ! 5 16 refl (lent-ptr ! 5 9 refl refl tt refl refl) tt (tt, tt) $
-        puts ! 5 17 refl (lent-slice ! 5 9 16 refl refl refl tt tt refl refl) tt (tt, (tt, (record { fits = room-sheet .0 }, tt))) $
-        puts ! 5 18 refl (lent-ptr ! 5 10 refl refl tt refl refl) tt (tt, tt) $
-        puts ! 5 19 refl (lent-slice ! 5 10 18 refl refl refl tt tt refl refl) tt (tt, (tt, (record { fits = room-records .0 }, tt))) $
-        puts ! 5 20 refl (lent ! 5 11 refl refl tt) tt (tt, tt) $
-        calls-by ! fm (Calls-call 𝓤 H A mem run) known-call (to (for-call h-script script (record { d = d; n = n; g = g; tally = tally; count = count; name = name }) h-table table h-sheet sheet h-records records h-answer answer)) (for-call h-script script (record { d = d; n = n; g = g; tally = tally; count = count; name = name }) h-table table h-sheet sheet h-records records h-answer answer) refl ((laws.owes CallNumbers#.the-type CallNumbers′.the-laws (record { d = d; n = n; g = g; tally = tally; count = count; name = name }) (g-d, (g-n, (g-g, (g-tally, (g-count, (g-name, tt))))))), tt) (Unit {0}) tt (asks-all 𝓤 H A (for-call h-script script (record { d = d; n = n; g = g; tally = tally; count = count; name = name }) h-table table h-sheet sheet h-records records h-answer answer) []) units _ (λ v. id⊢ 𝓤 _)
-        (and-then ! (var ! 5 1 refl refl tt) (and-then ! (var ! 5 12 refl refl tt) (and-then ! (var ! 5 15 refl refl tt) (and-then ! (var ! 5 17 refl refl tt) (and-then ! (var ! 5 19 refl refl tt) (and-then ! (var ! 5 20 refl refl tt) (no-more !))))))) (λ _ ws1 _ e1 same1.
+        puts ! 5 15 refl (lent-ptr ! 5 6 refl refl tt refl refl) tt (tt, tt) $
+        puts ! 5 16 refl (lent-slice ! 5 6 15 refl refl refl tt tt refl refl) tt (tt, (tt, (record { fits = room-table .0 }, tt))) $
+        puts ! 5 17 refl (lent-ptr ! 5 9 refl refl tt refl refl) tt (tt, tt) $
+        puts ! 5 18 refl (lent-slice ! 5 9 17 refl refl refl tt tt refl refl) tt (tt, (tt, (record { fits = room-sheet .0 }, tt))) $
+        puts ! 5 19 refl (lent-ptr ! 5 10 refl refl tt refl refl) tt (tt, tt) $
+        puts ! 5 20 refl (lent-slice ! 5 10 19 refl refl refl tt tt refl refl) tt (tt, (tt, (record { fits = room-records .0 }, tt))) $
+        calls-by ! fm (Calls-call 𝓤 H A mem run) known-call (to (for-call h-script script (record { d = d; n = n; g = g; tally = tally; count = count; name = name }) h-table table h-sheet sheet h-records records)) (for-call h-script script (record { d = d; n = n; g = g; tally = tally; count = count; name = name }) h-table table h-sheet sheet h-records records) refl ((laws.owes CallNumbers#.the-type CallNumbers′.the-laws (record { d = d; n = n; g = g; tally = tally; count = count; name = name }) (g-d, (g-n, (g-g, (g-tally, (g-count, (g-name, tt))))))), tt) (Unit {0}) tt (asks-all 𝓤 H A (for-call h-script script (record { d = d; n = n; g = g; tally = tally; count = count; name = name }) h-table table h-sheet sheet h-records records) []) answers _ (λ v. id⊢ 𝓤 _)
+        (and-then ! (var ! 5 1 refl refl tt) (and-then ! (var ! 5 12 refl refl tt) (and-then ! (var ! 5 16 refl refl tt) (and-then ! (var ! 5 18 refl refl tt) (and-then ! (var ! 5 20 refl refl tt) (no-more !)))))) (λ call1 ws1 g-call1 e1 same1.
+        lands-in ! 5 14 refl tt (typed 𝓤 H A W answers call1 g-call1) $
+        puts ! 5 21 refl (lent ! 5 11 refl refl tt) tt (tt, tt) $
+        move ! (4 ∷ []) $ calls-by ! fm (Calls-write-answer 𝓤 H A mem run) known-write-answer (to (for-write-answer call1 h-answer answer)) (for-write-answer call1 h-answer answer) refl (g-call1, tt) (Unit {0}) tt (asks-all 𝓤 H A (for-write-answer call1 h-answer answer) []) units _ (λ v. id⊢ 𝓤 _)
+        (and-then ! (var ! 5 14 refl refl tt) (and-then ! (var ! 5 21 refl refl tt) (no-more !))) (λ _ ws2 _ e2 _.
         lands-in ! 5 13 refl tt (tt, tt) $
         puts ! 5 0 refl (of-opd ! (unit-lit !)) tt (tt, tt) $
-        ends ! 5 refl refl tt $ by ! (exits (ws1 .1 .1 .0) (ws1 .1 .1 .1 .0) (ws1 .1 .1 .1 .1 .0) (ws1 .1 .1 .1 .1 .1 .0) (same1 .1 .0) (same1 .1 .1 .0) (same1 .1 .1 .1 .0) (facts.says script d n g tally table count name sheet records answer (ws1 .1 .1 .0) (ws1 .1 .1 .1 .0) (ws1 .1 .1 .1 .1 .0) (ws1 .1 .1 .1 .1 .1 .0) e1)))))
+        ends ! 5 refl refl tt $ move ! (1 ∷ 2 ∷ 3 ∷ 4 ∷ 0 ∷ []) $ by ! (exits (ws1 .1 .1 .0) (ws1 .1 .1 .1 .0) (ws1 .1 .1 .1 .1 .0) (ws2 .1 .0) (same1 .1 .0) (same1 .1 .1 .0) (same1 .1 .1 .1 .0) (facts.says script d n g tally table count name sheet records answer call1 (ws1 .1 .1 .0) (ws1 .1 .1 .1 .0) (ws1 .1 .1 .1 .1 .0) e1 (same1 .1 .0) (same1 .1 .1 .0) (same1 .1 .1 .1 .0) (ws2 .1 .0) e2))))))
 
 module _ {M : Type 1} (𝓤 : URA M) (H : Heap 𝓤) (A : Atoms 𝓤) (W : Given 𝓤 H A) (mem : Memory → SProp 𝓤) (run : Routine → Fun 𝓤) (𝓣 : Tables 𝓤 H)
-    (known-call : Triple 𝓤 (𝓣 .C #call) (Calls-call 𝓤 H A mem run)) where
+    (known-call : Triple 𝓤 (𝓣 .C #call) (Calls-call 𝓤 H A mem run))
+    (known-write-answer : Triple 𝓤 (𝓣 .C #write-answer) (Calls-write-answer 𝓤 H A mem run)) where
   walks : Walks 𝓤 H A f.ended stayed (WpFn 𝓤 H (𝓣 .C) (𝓣 .Λ) mine.function) (f.clauses 𝓤 H A mem run)
   walks = walked 𝓤 H A f.ended stayed (f.clauses 𝓤 H A mem run) (WpFn 𝓤 H (𝓣 .C) (𝓣 .Λ) mine.function)
       (λ κs. (slice-vals, ((λ (x : ℕ). words32 .val x ∷ []), ((λ (x : ℕ). words32 .val x ∷ []), ((λ (x : ℕ). words32 .val x ∷ []), ((λ (x : ℕ). usizes .val x ∷ []), (slice-vals, ((λ (x : ℕ). usizes .val x ∷ []), ((λ (x : ℕ). words16 .val x ∷ []), (slice-vals, (slice-vals, (ptr-vals, tt))))))))))))
       (λ κs. (shr-slice-tells (named 0) (κs .0) u8, (words32 .tells, (words32 .tells, (words32 .tells, (usizes .tells, (mut-slice-tells (named 1) (κs .1 .0) i32, (usizes .tells, (words16 .tells, (mut-slice-tells (named 2) (κs .1 .1 .0) i32, (mut-slice-tells (named 3) (κs .1 .1 .1 .0) (recs .type), (mut-tells (named 4) (κs .1 .1 .1 .1 .0) (Array u64 tt 9), tt))))))))))))
-      (λ κs qs bounds a g are. via 𝓤 _ (fst∗ 𝓤 _ (f.clauses 𝓤 H A mem run κs a .requires g)) (walk 𝓤 H A W mem run (κs .0) (κs .1 .0) (κs .1 .1 .0) (κs .1 .1 .1 .0) (κs .1 .1 .1 .1 .0) (qs .0) (qs .1 .0) (qs .1 .1 .0) (qs .1 .1 .1 .0) (qs .1 .1 .1 .1 .0) (a .0) (a .1 .0) (a .1 .1 .0) (a .1 .1 .1 .0) (a .1 .1 .1 .1 .0) (a .1 .1 .1 .1 .1 .0) (a .1 .1 .1 .1 .1 .1 .0) (a .1 .1 .1 .1 .1 .1 .1 .0) (a .1 .1 .1 .1 .1 .1 .1 .1 .0) (a .1 .1 .1 .1 .1 .1 .1 .1 .1 .0) (a .1 .1 .1 .1 .1 .1 .1 .1 .1 .1 .0) (are .0 .0 .1) (are .1 .1 .1 .1 .1 .0 .0 .1) (are .1 .1 .1 .1 .1 .1 .1 .1 .0 .0 .1) (are .1 .1 .1 .1 .1 .1 .1 .1 .1 .0 .0 .1) (are .1 .0) (are .1 .1 .0) (are .1 .1 .1 .0) (are .1 .1 .1 .1 .0) (are .1 .1 .1 .1 .1 .1 .0) (are .1 .1 .1 .1 .1 .1 .1 .0) 𝓣 known-call))
+      (λ κs qs bounds a g are. via 𝓤 _ (fst∗ 𝓤 _ (f.clauses 𝓤 H A mem run κs a .requires g)) (walk 𝓤 H A W mem run (κs .0) (κs .1 .0) (κs .1 .1 .0) (κs .1 .1 .1 .0) (κs .1 .1 .1 .1 .0) (qs .0) (qs .1 .0) (qs .1 .1 .0) (qs .1 .1 .1 .0) (qs .1 .1 .1 .1 .0) (a .0) (a .1 .0) (a .1 .1 .0) (a .1 .1 .1 .0) (a .1 .1 .1 .1 .0) (a .1 .1 .1 .1 .1 .0) (a .1 .1 .1 .1 .1 .1 .0) (a .1 .1 .1 .1 .1 .1 .1 .0) (a .1 .1 .1 .1 .1 .1 .1 .1 .0) (a .1 .1 .1 .1 .1 .1 .1 .1 .1 .0) (a .1 .1 .1 .1 .1 .1 .1 .1 .1 .1 .0) (are .0 .0 .1) (are .1 .1 .1 .1 .1 .0 .0 .1) (are .1 .1 .1 .1 .1 .1 .1 .1 .0 .0 .1) (are .1 .1 .1 .1 .1 .1 .1 .1 .1 .0 .0 .1) (are .1 .0) (are .1 .1 .0) (are .1 .1 .1 .0) (are .1 .1 .1 .1 .0) (are .1 .1 .1 .1 .1 .1 .0) (are .1 .1 .1 .1 .1 .1 .1 .0) 𝓣 known-call known-write-answer))
 
   meets : Meets 𝓤 H A f.signature (WpFn 𝓤 H (𝓣 .C) (𝓣 .Λ) mine.function) (f.spec 𝓤 H A mem run)
   meets = walk-meets 𝓤 H A f.ended stayed W (goes-none-slice 𝓤 H A W 5 (0 ∷ []) tt (plain (λ _. u8)) yes, (goes-none 𝓤 H A W 5 (λ _. words32 .type) yes (λ κs x f. refl), (goes-none 𝓤 H A W 5 (λ _. words32 .type) yes (λ κs x f. refl), (goes-none 𝓤 H A W 5 (λ _. words32 .type) yes (λ κs x f. refl), (goes-none 𝓤 H A W 5 (λ _. usizes .type) yes (λ κs x f. refl), (goes-gave-slice 𝓤 H A W 5 1 tt (plain (λ _. i32)), (goes-none 𝓤 H A W 5 (λ _. usizes .type) yes (λ κs x f. refl), (goes-none 𝓤 H A W 5 (λ _. words16 .type) yes (λ κs x f. refl), (goes-gave-slice 𝓤 H A W 5 2 tt (plain (λ _. i32)), (goes-gave-slice 𝓤 H A W 5 3 tt (plain (λ _. recs .type)), (goes-gave-ref 𝓤 H A W 5 4 tt (arrayOf (plain (λ _. u64)) 9), tt)))))))))))
@@ -151,4 +166,5 @@ enrol-chain-spec 𝓤 H 𝓜 𝓖 𝓡 =
     entered 𝓤 H (tripleOf 𝓤 H (𝓖 .A) f.signature (f.spec 𝓤 H (𝓖 .A) (𝓜 .mem) (𝓡 .run)))
     (tables 𝓤 H 𝓜 𝓡 mine.env .C) (tables 𝓤 H 𝓜 𝓡 mine.env .Λ) #me mine.function (mine.unfolded 𝓤 H 𝓜 𝓡)
     (meets 𝓤 H (𝓖 .A) (givenOf 𝓤 H 𝓜 𝓖) (𝓜 .mem) (𝓡 .run) (tablesOf 𝓤 H 𝓜 (tables 𝓤 H 𝓜 𝓡 mine.env))
-    (cited 𝓤 H (Calls-call 𝓤 H (𝓖 .A) (𝓜 .mem) (𝓡 .run)) 𝓜 𝓡 mine.env #call call-def.routine mine.calls-chain-call·call (call-thm.met 𝓤 H 𝓜 𝓖 𝓡)))
+    (cited 𝓤 H (Calls-call 𝓤 H (𝓖 .A) (𝓜 .mem) (𝓡 .run)) 𝓜 𝓡 mine.env #call call-def.routine mine.calls-chain-call·call (call-thm.met 𝓤 H 𝓜 𝓖 𝓡))
+    (cited 𝓤 H (Calls-write-answer 𝓤 H (𝓖 .A) (𝓜 .mem) (𝓡 .run)) 𝓜 𝓡 mine.env #write-answer write-answer-def.routine mine.calls-call-answers·write-answer (write-answer-thm.met 𝓤 H 𝓜 𝓖 𝓡)))

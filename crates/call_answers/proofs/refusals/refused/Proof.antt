@@ -1,27 +1,30 @@
 -- `call_answers::refusals::refused` meets its contract. Assumes nothing.
 use borrow.Author.Needs.{needs}
-use mathlib.Core.Path.{_≡_, sym, _∙_, ap}
-use mathlib.Core.List.{List}
+use mathlib.Core.Path.{_≡_, sym, subst}
 use Prim.Native.Nat.{ℕ}
-use Rattle.language.specs.Numbers.{answerWords}
 use Rattle.language.specs.declared.Refusal.{Refusal}
+use Rattle.language.specs.declared.Answer.{Answer}
 use Rattle.language.specs.declared.Verdict.{Verdict}
-use Rattle.language.specs.declared.Verdict.the-variants.{Refused}
+use Rattle.language.specs.declared.Verdict.the-variants.{Fit, Refused}
 use Rattle.call_answers.specs.Answers.{refusedAnswer}
-use Rattle.call_answers.specs.Refusals.{refusedWords}
+use Rattle.call_answers.specs.Refusals.{RefusedBy}
 use Rattle.call_answers.proofs.refusals.refused.Statement.{statement}
 use Rattle.call_answers.proofs.refusals.refused.Tie as tie
 
-refused-words : {v : Verdict} (c : Refusal) (o count tally : ℕ) (before : List ℕ) {words : List ℕ} → v ≡ Refused c o
-    → words ≡ answerWords (refusedAnswer c o count tally) → words ≡ refusedWords v count tally before
-unfolding refusedWords
-refused-words c o count tally before q w = w ∙ ap (λ (v : Verdict). refusedWords v count tally before) (sym q)
+module _ {v : Verdict} (count tally : ℕ) (answer : Answer) where
+  by-refusal : {c : Refusal} {o : ℕ} → v ≡ Refused c o → answer ≡ refusedAnswer c o count tally → RefusedBy v count tally answer
+  unfolding RefusedBy
+  by-refusal q a = subst (λ (x : Verdict). RefusedBy x count tally answer) (sym q) a
+
+  by-fit : v ≡ Fit → RefusedBy v count tally answer
+  unfolding RefusedBy
+  by-fit q = subst (λ (x : Verdict). RefusedBy x count tally answer) (sym q) tt
 
 returns : tie.Need-returns
-returns c =
-    let told = c .before .before .verdict .given in
-    refused-words (told .0 .0) (told .0 .1 .0) _ _ _ (told .1) (c .refusal-words .ensures)
+returns c = by-refusal _ _ _ (c .before .before .verdict .given .1) (c .refused-answer .ensures)
+
+returns-2 : tie.Need-returns-2
+returns-2 c = by-fit _ _ _ (c .enum-told .given .1)
 
 pub refused-spec : {M : Type 1} → statement M
-unfolding refusedWords
-refused-spec = tie.close (tie.spec (λ c. search needs) (λ c κs. search needs) (λ c. search needs) returns (λ c. search needs))
+refused-spec = tie.close (tie.spec (λ c. search needs) (λ c κs. search needs) (λ c. search needs) returns returns-2)

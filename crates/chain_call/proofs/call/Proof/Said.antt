@@ -2,9 +2,9 @@
 -- Written by `tools/walk chain_call call`.
 use Prim.Native.Nat.{ℕ}
 use Rattle.call_admission.specs.Lent.{fedOf}
-use Rattle.call_answers.specs.Refusals.{isRefused, refusedWords}
-use Rattle.call_answers.specs.Replies.{RepliesLeaving, Replies}
-use Rattle.chain_call.proofs.Rows.{numberss, verdicts}
+use Rattle.call_answers.specs.Refusals.{isRefused, RefusedBy}
+use Rattle.call_answers.specs.Replies.{AnswersLeaving, Answers}
+use Rattle.chain_call.proofs.Rows.{numberss, answers, verdicts}
 use Rattle.chain_links.proofs.Rows.{recs}
 use Rattle.check_script.specs.Verdicts.{verdictOf}
 use Rattle.language.specs.Call.{chain, admission}
@@ -16,8 +16,8 @@ use mathlib.Core.Bool.{Bool}
 use mathlib.Core.List.{List}
 use mathlib.Core.Path.{_≡_}
 
-abbrev pub Said : List ℕ → numberss .type .Denot → List ℤ → List ℤ → List (recs .type .Denot) → List ℤ → List ℤ → List (recs .type .Denot) → List ℕ → Type 0
-Said script numbers table sheet records table′ sheet′ records′ answer′ = RepliesLeaving (chain (length records)) (fedOf numbers script table sheet) answer′ sheet′ table′ records records′
+abbrev pub Said : List ℕ → numberss .type .Denot → List ℤ → List ℤ → List (recs .type .Denot) → answers .type .Denot → List ℤ → List ℤ → List (recs .type .Denot) → Type 0
+Said script numbers table sheet records r table′ sheet′ records′ = AnswersLeaving (chain (length records)) (fedOf numbers script table sheet) r sheet′ table′ records records′
 
 abbrev pub judged-says : List ℕ → numberss .type .Denot → List ℤ → List ℤ → ℕ → verdicts .type .Denot → Type 0
 judged-says script numbers table sheet held r = r ≡ verdictOf (admission (chain held) (fedOf numbers script table sheet))
@@ -25,11 +25,11 @@ judged-says script numbers table sheet held r = r ≡ verdictOf (admission (chai
 abbrev pub refuses-says : verdicts .type .Denot → Bool → Type 0
 refuses-says verdict r = r ≡ isRefused verdict
 
-abbrev pub refused-says : verdicts .type .Denot → ℕ → ℕ → List ℕ → List ℕ → Type 0
-refused-says verdict count tally answer answer′ = answer′ ≡ refusedWords verdict count tally answer
+abbrev pub refused-says : verdicts .type .Denot → ℕ → ℕ → answers .type .Denot → Type 0
+refused-says verdict count tally r = RefusedBy verdict count tally r
 
 abbrev pub ran-asks : List ℕ → numberss .type .Denot → List ℤ → List ℤ → List (recs .type .Denot) → Type 0
 ran-asks script numbers table sheet records = ((t : Block) × Admitted (chain (length records)) (fedOf numbers script table sheet) t)
 
-abbrev pub ran-says : List ℕ → numberss .type .Denot → List ℤ → List ℤ → List (recs .type .Denot) → List ℤ → List ℤ → List ℕ → Type 0
-ran-says script numbers table sheet records table′ sheet′ answer′ = Replies (chain (length records)) (fedOf numbers script table sheet) answer′ sheet′ table′
+abbrev pub ran-says : List ℕ → numberss .type .Denot → List ℤ → List ℤ → List (recs .type .Denot) → answers .type .Denot → List ℤ → List ℤ → Type 0
+ran-says script numbers table sheet records r table′ sheet′ = Answers (chain (length records)) (fedOf numbers script table sheet) r sheet′ table′

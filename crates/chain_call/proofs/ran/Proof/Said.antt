@@ -2,8 +2,8 @@
 -- Written by `tools/walk chain_call ran`.
 use Prim.Native.Nat.{ℕ}
 use Rattle.call_admission.specs.Lent.{fedOf}
-use Rattle.call_answers.specs.Replies.{Replies}
-use Rattle.chain_call.proofs.Rows.{numberss}
+use Rattle.call_answers.specs.Replies.{Answers}
+use Rattle.chain_call.proofs.Rows.{numberss, answers}
 use Rattle.chain_call.specs.Calls.{AdmittedOn}
 use Rattle.chain_links.proofs.Rows.{recs}
 use Rattle.language.specs.Call.{chain}
@@ -16,11 +16,11 @@ use mathlib.Core.List.{List}
 abbrev pub Pre : List ℕ → numberss .type .Denot → List ℤ → List ℤ → List (recs .type .Denot) → Type 0
 Pre script numbers table sheet records = ((t : Block) × Admitted (chain (length records)) (fedOf numbers script table sheet) t)
 
-abbrev pub Said : List ℕ → numberss .type .Denot → List ℤ → List ℤ → List (recs .type .Denot) → List ℤ → List ℤ → List ℕ → Type 0
-Said script numbers table sheet records table′ sheet′ answer′ = Replies (chain (length records)) (fedOf numbers script table sheet) answer′ sheet′ table′
+abbrev pub Said : List ℕ → numberss .type .Denot → List ℤ → List ℤ → List (recs .type .Denot) → answers .type .Denot → List ℤ → List ℤ → Type 0
+Said script numbers table sheet records r table′ sheet′ = Answers (chain (length records)) (fedOf numbers script table sheet) r sheet′ table′
 
 abbrev pub ran-on-asks : List ℕ → List ℤ → List ℕ → numberss .type .Denot → List ℤ → List ℤ → List (recs .type .Denot) → Type 0
 ran-on-asks code cells script numbers table sheet records = AdmittedOn code cells (chain (length records)) (fedOf numbers script table sheet)
 
-abbrev pub ran-on-says : List ℕ → numberss .type .Denot → List ℤ → List ℤ → List (recs .type .Denot) → List ℤ → List ℤ → List ℕ → Type 0
-ran-on-says script numbers table sheet records table′ sheet′ answer′ = Replies (chain (length records)) (fedOf numbers script table sheet) answer′ sheet′ table′
+abbrev pub ran-on-says : List ℕ → numberss .type .Denot → List ℤ → List ℤ → List (recs .type .Denot) → answers .type .Denot → List ℤ → List ℤ → Type 0
+ran-on-says script numbers table sheet records r table′ sheet′ = Answers (chain (length records)) (fedOf numbers script table sheet) r sheet′ table′

@@ -5,6 +5,7 @@ use mathlib.Core.List.{List}
 use lib.IntN.{ℤ}
 use lib.ListN.{length}
 use Rattle.language.specs.Call.{Fed}
+use Rattle.language.specs.declared.Answer.{Answer}
 use Rattle.call_replies.specs.Replies.{tally-fits}
 use Rattle.call_admission.specs.Lent.{fedOf}
 use Rattle.call_admission.specs.declared.CallNumbers.{CallNumbers}
@@ -13,7 +14,7 @@ use Rattle.run_state.specs.declared.Halt.{Halt}
 use Rattle.chain_call.proofs.Pieces.{begins-at, sheet-ready, replied}
 use Rattle.chain_call.proofs.ran_on.Proof.Said.{Pre, Said, resolved-asks, resolved-says, activations-of-says, run-program-asks, run-program-says, write-sheet-asks, write-sheet-says, answered-asks, answered-says}
 
-module _ (code : List ℕ) (cells : List ℤ) (script : List ℕ) (numbers : CallNumbers) (table sheet : List ℤ) (records : List Activation) (answer : List ℕ)
+module _ (code : List ℕ) (cells : List ℤ) (script : List ℕ) (numbers : CallNumbers) (table sheet : List ℤ) (records : List Activation)
     (pre : Pre code cells script numbers table sheet records) where
   abbrev fed : Fed
   fed = fedOf numbers script table sheet
@@ -35,6 +36,6 @@ module _ (code : List ℕ) (cells : List ℤ) (script : List ℕ) (numbers : Cal
       asks-write-sheet = sheet-ready records fed (said .1) (pre .program) (pre .admitted) code′ (said .0) cells (pre .cells-zero) halt activations activations-is ran long
 
       module _ (written : ℕ) (sheet′ : List ℤ) (wrote : write-sheet-says code′ cells′ records′ (halt .live) sheet written sheet′)
-          (sheet-long : length sheet′ ≡ length sheet) (answer′ : List ℕ) (answers : answered-says halt written numbers answer′) where
-        pub says : Said script numbers table sheet records table′ sheet′ answer′
+          (sheet-long : length sheet′ ≡ length sheet) (answer : Answer) (answers : answered-says halt written numbers answer) where
+        pub says : Said script numbers table sheet records answer table′ sheet′
         says = replied records fed (said .1) (pre .program) (pre .admitted) code′ (said .0) cells (pre .cells-zero) halt activations activations-is ran wrote answers

@@ -2,9 +2,9 @@
 -- Written by `tools/walk chain_call ran_on`.
 use Prim.Native.Nat.{_*_, _≤_, ℕ}
 use Rattle.call_admission.specs.Lent.{fedOf}
-use Rattle.call_answers.specs.Replies.{Replies}
-use Rattle.chain_call.proofs.Rows.{numberss}
-use Rattle.chain_call.specs.Calls.{AdmittedOn, haltWords}
+use Rattle.call_answers.specs.Replies.{Answers}
+use Rattle.chain_call.proofs.Rows.{numberss, answers}
+use Rattle.chain_call.specs.Calls.{AdmittedOn, haltAnswer}
 use Rattle.chain_links.proofs.Rows.{recs}
 use Rattle.chain_links.specs.Records.{blocksIn, nextsIn}
 use Rattle.chain_run.proofs.Rows.{halts}
@@ -24,8 +24,8 @@ use mathlib.Core.Path.{_≡_}
 abbrev pub Pre : List ℕ → List ℤ → List ℕ → numberss .type .Denot → List ℤ → List ℤ → List (recs .type .Denot) → Type 0
 Pre code cells script numbers table sheet records = AdmittedOn code cells (chain (length records)) (fedOf numbers script table sheet)
 
-abbrev pub Said : List ℕ → numberss .type .Denot → List ℤ → List ℤ → List (recs .type .Denot) → List ℤ → List ℤ → List ℕ → Type 0
-Said script numbers table sheet records table′ sheet′ answer′ = Replies (chain (length records)) (fedOf numbers script table sheet) answer′ sheet′ table′
+abbrev pub Said : List ℕ → numberss .type .Denot → List ℤ → List ℤ → List (recs .type .Denot) → answers .type .Denot → List ℤ → List ℤ → Type 0
+Said script numbers table sheet records r table′ sheet′ = Answers (chain (length records)) (fedOf numbers script table sheet) r sheet′ table′
 
 abbrev pub resolved-asks : List ℕ → Type 0
 resolved-asks code = code ≡ replicate 4096 0
@@ -51,5 +51,5 @@ write-sheet-says code cells records live sheet r sheet′ = ((fs : List Frame) �
 abbrev pub answered-asks : numberss .type .Denot → Type 0
 answered-asks numbers = numbers .tally ≤ 1000000000000
 
-abbrev pub answered-says : halts .type .Denot → ℕ → numberss .type .Denot → List ℕ → Type 0
-answered-says halt written numbers answer′ = answer′ ≡ haltWords halt written (numbers .tally)
+abbrev pub answered-says : halts .type .Denot → ℕ → numberss .type .Denot → answers .type .Denot → Type 0
+answered-says halt written numbers r = r ≡ haltAnswer halt written (numbers .tally)

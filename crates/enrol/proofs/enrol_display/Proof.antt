@@ -1,0 +1,9 @@
+-- `enrol::enrol_display` meets its contract: the engine's answer in words. Assumes nothing.
+use borrow.Author.Needs.{needs}
+use Rattle.call_answers.specs.Replies.{in-words}
+use Rattle.enrol.proofs.enrol_display.Statement.{statement}
+use Rattle.enrol.proofs.enrol_display.Tie as tie
+
+pub enrol-display-spec : {M : Type 1} → statement M
+enrol-display-spec =
+    tie.close (tie.spec (λ c κs. search needs) (λ c κs. search needs) (λ c. search needs) (λ c. search needs) (λ c. search (needs, in-words)))
