@@ -2,9 +2,9 @@
 use Prim.Native.Nat.{ℕ}
 use native.Mathlib.Omega.{arith}
 use mathlib.Core.List.{List}
-use mathlib.Core.Path.{refl}
+use mathlib.Core.Path.{_≡_, ap, _∙_}
 use lib.IntN.{ℤ, pos}
-use lib.ListN.{replicate, length-replicate, getD-replicate}
+use lib.ListN.{length, getD, replicate, length-replicate, getD-replicate}
 use Rattle.language.specs.Text.{Block}
 use Rattle.language.specs.Call.{Fed, display}
 use Rattle.grammar.specs.Rules.{Bytes}
@@ -13,16 +13,18 @@ use Rattle.frames.specs.Frame.{frameRunOf}
 use Rattle.coordinates.specs.Sound.{accepted-keeps-rules}
 use Rattle.resolved.specs.Resolved.{resolvedOf, Covers}
 use Rattle.resolve_script.specs.Resolving.{Resolved, resolved-covers}
-use Rattle.display_run.specs.Program.{Beginning, Ended}
+use Rattle.display_run.specs.Program.{Beginning, Ended, startState}
 use Rattle.display_run.specs.Ending.{resultFrom}
+use Rattle.display_run.specs.declared.state.State.{State}
 use Rattle.run_state.specs.declared.Halt.{Halt}
 
-module _ (f : Fed) (bytes : Bytes (f .script)) (t : Block) (h : Admitted display f t) (code : List ℕ) (resolved : Resolved (f .script) (f .name) code) where
+module _ (f : Fed) (bytes : Bytes (f .script)) (t : Block) (h : Admitted display f t) (code : List ℕ) (resolved : Resolved (f .script) (f .name) code)
+    (state : State) (begun : state ≡ startState) where
   covers : Covers code 0 (resolvedOf (f .name) t)
   covers = resolved-covers (f .script) (f .name) code resolved t (h .script)
 
   abbrev Begins : Type 0
-  Begins = Beginning code (replicate 8224 (pos 0)) (replicate 256 0) (replicate 256 0) (replicate 256 0) (f .lent .table .words) (f .lent .table .used) (f .limit) (f .activations)
+  Begins = Beginning code (replicate 8224 (pos 0)) (state .blocks) (state .nexts) (state .links) (state .display) (f .lent .table .words) (f .lent .table .used) (f .limit) (f .activations)
 
   pub beginning : Begins
   beginning =
@@ -36,12 +38,14 @@ module _ (f : Fed) (bytes : Bytes (f .script)) (t : Block) (h : Admitted display
         few-live = few .1;
         table-right = table-right h;
         cells-long = length-replicate 8224 (pos 0);
-        blocks-long = length-replicate {A = ℕ} 256 0;
-        nexts-long = length-replicate {A = ℕ} 256 0;
-        links-long = length-replicate {A = ℕ} 256 0;
+        blocks-long = ap (λ (s : State). length (s .blocks)) begun ∙ length-replicate {A = ℕ} 256 0;
+        nexts-long = ap (λ (s : State). length (s .nexts)) begun ∙ length-replicate {A = ℕ} 256 0;
+        links-long = ap (λ (s : State). length (s .links)) begun ∙ length-replicate {A = ℕ} 256 0;
+        display-long = ap (λ (s : State). length (s .display)) begun ∙ length-replicate {A = ℕ} 256 0;
         zeros = λ i p. getD-replicate 8224 i (pos 0) (pos 0) (omega arith);
-        no-block = refl;
-        no-link = refl;
+        no-block = ap (λ (s : State). getD (s .blocks) 0 0) begun;
+        no-link = ap (λ (s : State). getD (s .links) 0 0) begun;
+        no-entry = ap (λ (s : State). getD (s .display) 1 0) begun;
       }
 
   module _ (r : Halt) {cells : List ℤ} {blocks nexts links : List ℕ} {table : List ℤ}

@@ -17,15 +17,18 @@ fn ran(script: &[u8], numbers: CallNumbers, table: &mut [i32], sheet: &mut [i32]
     let mut code = [0u32; 4096];
     resolve_script::resolve(script, numbers.name as usize, &mut code);
     let mut cells = [0i32; 8224];
-    let mut blocks = [0u16; 256];
-    let mut nexts = [0u16; 256];
-    let mut links = [0u16; 256];
+    let state = display_run::start_state();
+    let mut blocks = state.blocks;
+    let mut nexts = state.nexts;
+    let mut links = state.links;
+    let mut display = state.display;
     let halt = display_run::run_program(
         &code,
         &mut cells,
         &mut blocks,
         &mut nexts,
         &mut links,
+        &mut display,
         table,
         numbers.count,
         numbers.g,

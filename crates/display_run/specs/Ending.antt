@@ -154,31 +154,31 @@ module _ {code : List ℕ} {activations limit : ℕ} {cells : List ℤ} {blocks 
 
 -- The start of a program
 
-module _ {code : List ℕ} {cells : List ℤ} {blocks nexts links : List ℕ} {table : List ℤ} {pairs limit activations : ℕ}
-    (b : Beginning code cells blocks nexts links table pairs limit activations) where
+module _ {code : List ℕ} {cells : List ℤ} {blocks nexts links display : List ℕ} {table : List ℤ} {pairs limit activations : ℕ}
+    (b : Beginning code cells blocks nexts links display table pairs limit activations) where
   -- where a run of the program goes to
   abbrev pub resultFrom : ℕ → Result
   resultFrom allowance = frameRun (limitsBy activations limit) allowance (frameStart (b .program) (record { words = table; used = pairs }))
 
   -- the engine stands at the program's start
-  record Starts (display : List ℕ) (start : Registers) : Type 0 where
+  record Starts (start : Registers) : Type 0 where
     running : Running code activations limit cells blocks nexts links display table start
     stack-is : running .standing .stack ≡ frameStart (b .program) (record { words = table; used = pairs })
     program-is : running .standing .program ≡ b .program
     name-is : running .standing .name ≡ b .name
 
-  module _ (display : List ℕ) (long : length display ≡ 256) (zero′ : getD display 1 0 ≡ 0) (start : Registers) (is : start ≡ startBy code pairs) where
-    begins-there : Starts display start
+  module _ (start : Registers) (is : start ≡ startBy code pairs) where
+    begins-there : Starts start
     begins-there =
         let t = b .program in
         let s = begins code (limitsBy activations limit) t (b .name) cells blocks nexts links table pairs (b .keeps) (b .covers) (b .some-live) (b .few-live)
         (b .table-right) (b .cells-long) (b .blocks-long) (b .nexts-long) (b .links-long) (b .zeros) (b .no-block) (b .no-link) in
         let reads = begin-reads code t (b .name) (b .keeps) (b .covers) in
         let shows : Shows (s .0 .stack .frames) display = subst (λ (v : Stack). Shows (v .frames) display) (sym (s .1))
-        (shows-begun t (record { words = table; used = pairs }) display (omega arith) zero′) in
-        subst (Starts display) (sym is)
-        (subst (Starts display) (λ i. goesTo (startBy code pairs) 0 (sym (reads .0) i) (sym (reads .1) i) pairs)
-        (record { running = record { standing = s .0; shows = shows; display-long = long }; stack-is = s .1; program-is = s .2; name-is = s .3 }))
+        (shows-begun t (record { words = table; used = pairs }) display (omega (arith, b .display-long)) (b .no-entry)) in
+        subst Starts (sym is)
+        (subst Starts (λ i. goesTo (startBy code pairs) 0 (sym (reads .0) i) (sym (reads .1) i) pairs)
+        (record { running = record { standing = s .0; shows = shows; display-long = b .display-long }; stack-is = s .1; program-is = s .2; name-is = s .3 }))
 
     pub starts : Running code activations limit cells blocks nexts links display table start
     starts = begins-there .running

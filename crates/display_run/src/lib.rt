@@ -1,4 +1,6 @@
 // The display engine's run.
 pub use run::run_program;
+pub use state::start_state;
 
 pub mod run;
+pub mod state;

@@ -128,20 +128,20 @@ pub fn run_program(
     blocks: &mut [u16; 256],
     nexts: &mut [u16; 256],
     links: &mut [u16; 256],
+    display: &mut [u16; 256],
     table: &mut [i32],
     pairs: usize,
     limit: u32,
     activations: usize,
     allowance: u32,
 ) -> Halt
-    requires { ⌜ Beginning (now code) (now cells) (now blocks) (now nexts) (now links) (now table) pairs limit activations ⌝ }
+    requires { ⌜ Beginning (now code) (now cells) (now blocks) (now nexts) (now links) (now display) (now table) pairs limit activations ⌝ }
     ensures { λ r.
-        ⌜ ((b : Beginning (now (code .entry)) (now (cells .entry)) (now (blocks .entry)) (now (nexts .entry)) (now (links .entry)) (now (table .entry)) pairs limit activations)
+        ⌜ ((b : Beginning (now (code .entry)) (now (cells .entry)) (now (blocks .entry)) (now (nexts .entry)) (now (links .entry)) (now (display .entry)) (now (table .entry)) pairs limit activations)
         → Ended (b .program) (b .name) activations limit
         (frameRun (limitsBy activations limit) allowance (frameStart (b .program) (record { words = now (table .entry); used = pairs })))
         r (now (cells .exit)) (now (blocks .exit)) (now (nexts .exit)) (now (links .exit)) (now (table .exit))) ⌝ }
 {
-    let mut display = [0u16; 256];
     let start = begin(code, pairs);
     run(
         code,
@@ -149,7 +149,7 @@ pub fn run_program(
         blocks,
         nexts,
         links,
-        &mut display,
+        display,
         table,
         limit,
         activations,

@@ -12,9 +12,12 @@ use Rattle.display_call.proofs.Pieces.{beginning, ended}
 use Rattle.display_call.proofs.ran.Statement.{statement}
 use Rattle.display_call.proofs.ran.Tie as tie
 
--- the places: where the script is resolved, where the run returns, where the sheet is written
-abbrev resolvedAt : tie.After-struct-known2 → tie.After-resolve
-resolvedAt c = c .before .before .before .before .before .before .before .before
+-- the places: where the state is made, where the script is resolved, where the run returns, where the sheet is written
+abbrev stateAt : tie.After-struct-known2 → tie.After-start-state
+stateAt c = c .before .before .before .before .before .before .before .before .before .before .before .before
+
+abbrev resolvedAt : tie.After-start-state → tie.After-resolve
+resolvedAt c = c .before .before
 
 abbrev startAt : tie.After-resolve → tie.Start
 startAt c = c .before .before .before .before
@@ -36,32 +39,36 @@ bytesAt z = bytes-are ((fedAt z) .script) (λ i. z .before .before .before .shar
 
 run-program-requires : tie.Need-run-program-requires
 run-program-requires c κs =
-    let z = resolvedAt c in
+    let s = stateAt c in
+    let z = resolvedAt s in
     let p = (startAt z) .pre in
-    beginning (fedAt z) (bytesAt z) (p .0) (p .1) _ (z .resolve .ensures)
+    beginning (fedAt z) (bytesAt z) (p .0) (p .1) _ (z .resolve .ensures) _ (s .start-state .ensures)
 
 write-sheet-requires : tie.Need-write-sheet-requires
 write-sheet-requires c κs =
     let u = ranAt c in
-    let z = resolvedAt (u .before) in
+    let s = stateAt (u .before) in
+    let z = resolvedAt s in
     let p = (startAt z) .pre in
     sheet-needs (bytesAt z) (p .1) (resolved-covers _ _ _ (z .resolve .ensures) _ (p .1 .script))
-    (ended (fedAt z) (bytesAt z) (p .0) (p .1) _ (z .resolve .ensures) (u .run-program .result) (u .run-program .ensures))
+    (ended (fedAt z) (bytesAt z) (p .0) (p .1) _ (z .resolve .ensures) _ (s .start-state .ensures) (u .run-program .result) (u .run-program .ensures))
 
 ran-answer-requires : tie.Need-ran-answer-requires
-ran-answer-requires c κs = tally-fits ((startAt (resolvedAt (ranAt (c .before .before) .before))) .pre .1)
+ran-answer-requires c κs = tally-fits ((startAt (resolvedAt (stateAt (ranAt (c .before .before) .before)))) .pre .1)
 
 returns : tie.Need-returns
 returns c =
     let v = writtenAt c in
     let u = ranAt (v .before) in
-    let z = resolvedAt (u .before) in
+    let s = stateAt (u .before) in
+    let z = resolvedAt s in
     let p = (startAt z) .pre in
     run-replies (bytesAt z) (p .1) (resolved-covers _ _ _ (z .resolve .ensures) _ (p .1 .script))
-    (ended (fedAt z) (bytesAt z) (p .0) (p .1) _ (z .resolve .ensures) (u .run-program .result) (u .run-program .ensures))
+    (ended (fedAt z) (bytesAt z) (p .0) (p .1) _ (z .resolve .ensures) _ (s .start-state .ensures) (u .run-program .result) (u .run-program .ensures))
     (v .write-sheet .ensures) (no-links display (fedAt z) _ refl) (c .ran-answer .ensures)
 
 pub ran-spec : {M : Type 1} → statement M
 ran-spec =
-    tie.close (tie.spec (λ c. search needs) (λ c. search needs) (λ c κs. search needs) (λ c. search needs) run-program-requires
+    tie.close
+    (tie.spec (λ c. search needs) (λ c. search needs) (λ c κs. search needs) (λ c κs. search needs) (λ c. search needs) run-program-requires
     write-sheet-requires ran-answer-requires (λ c. search needs) (λ c. search needs) returns)
