@@ -7,11 +7,6 @@ ghost use Prim.Native.Nat.{_≤_};
 ghost use Rattle.language.specs.Numbers.{answerWords};
 ghost use Rattle.call_answers.specs.Answers.{refusedAnswer, ranAnswer};
 
-mod refusals;
-
-pub use refusals::refused;
-pub use refusals::refuses;
-
 // The answer of a call that is refused.
 pub fn refused_answer(cause: Refusal, offset: usize, pairs: usize, tally: u64) -> Answer
     ensures { λ r. ⌜ r ≡ refusedAnswer cause offset pairs tally ⌝ }

@@ -1,16 +1,16 @@
 -- What an engine that runs as the frame machine replies is the copy rule's reply. By the verdict of admission: `refused-reply`, what a refusal
--- answers and leaves; `fit-admitted`: no refusal is due, and there is a program; `refused-call`, `admitted-call`: the same as an engine's call has them,
--- `read-refused`, `read-admitted`: where functions read the verdict. `leaving-all`, `leaving-length`: with an area of the engine's own.
+-- answers and leaves; `fit-admitted`: no refusal is due, and there is a program; `refused-call`, `admitted-call`: the same as an engine's call has them.
+-- `leaving-all`, `leaving-length`: with an area of the engine's own.
 -- Of its run: `ran-answer` and `ran-lent`, where the engine has of it what the frame machine's result has (`Ran`). `result-held`: arrays that hold the
 -- result's frames can be written as its sheet (crate run_sheet); `room-for-sheet`, `tally-fits`, `steps-fit`: there is room for it, the tally can be added
 -- to, and N is in range.
 use Prim.Native.Nat.{ℕ, _*_, _≤_}
 use native.Mathlib.Omega.{arith}
-use mathlib.Core.Bool.{Bool, true, false, not, _&&_}
+use mathlib.Core.Bool.{Bool, true, false, _&&_}
 use mathlib.Core.List.{List}
 use mathlib.Core.Path.{_≡_, refl, sym, ap, _∙_}
 use borrow.Author.Tests.{leb-true}
-use lib.Dec.{T, leb}
+use lib.Dec.{leb}
 use lib.IntN.{ℤ}
 use lib.ListN.{length}
 use Rattle.language.specs.Sheet.{sheetShare}
@@ -34,7 +34,6 @@ use Rattle.resolved.specs.Resolved.{resolvedOf, Covers}
 use Rattle.arrays.specs.Holds.{Holds}
 use Rattle.check_script.specs.Verdicts.{verdictOf}
 use Rattle.call_answers.specs.Answers.{refusedAnswer, ranAnswer}
-use Rattle.call_answers.specs.Refusals.{isRefused, RefusedBy}
 use Rattle.call_answers.specs.Replies.{Answers, AnswersLeaving}
 use Rattle.run_sheet.specs.Held.{Held}
 
@@ -74,18 +73,6 @@ module _ (e : Engine) (f : Fed) where
     refused-call c o q a =
         let r = refused-reply c o (sym verdict ∙ q) in
         record { answer-is = a ∙ sym (r .0); sheet-is = ap (λ (l : Lent). l .sheet) (sym (r .1)); table-is = ap (λ (l : Lent). l .table .words) (sym (r .1)) }
-
-  -- the same where the verdict is read by functions (crate call_answers)
-  pub read-admitted : (v : Verdict) → v ≡ verdictOf (admission e f) → T (not (isRefused v)) → (t : Block) × Admitted e f t
-  unfolding isRefused
-  read-admitted (Refused c o) q y = absurd y
-  read-admitted Fit q y = admitted-call Fit q refl
-
-  pub read-refused : (v : Verdict) → v ≡ verdictOf (admission e f) → T (isRefused v) → {answer : Answer} → RefusedBy v (f .lent .table .used) (f .tally) answer
-      → Answers e f answer (f .lent .sheet) (f .lent .table .words)
-  unfolding isRefused RefusedBy
-  read-refused (Refused c o) q y a = refused-call (Refused c o) q c o refl a
-  read-refused Fit q y a = absurd y
 
   -- An engine's own area is not written where the call is refused, and of the same length where the program is admitted
   module _ {A : Type 0} {answer : Answer} {sheet table : List ℤ} (r : Answers e f answer sheet table) where

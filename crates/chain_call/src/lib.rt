@@ -1,8 +1,7 @@
 // The static-chain engine's call: admission, the resolved script, the run on the lent records, the sheet, the answer.
 use call_admission::Area;
 use call_admission::CallNumbers;
-use call_answers::refused;
-use call_answers::refuses;
+use call_answers::refused_answer;
 use chain_records::Activation;
 use language::Answer;
 use language::Verdict;
@@ -123,8 +122,8 @@ pub fn call(
         r (now (sheet .exit)) (now (table .exit)) (now (records .entry)) (now (records .exit)) ⌝ }
 {
     let verdict = judged(script, numbers, table, sheet, records.len());
-    if refuses(verdict) {
-        return refused(verdict, numbers.count, numbers.tally);
-    }
-    ran(script, numbers, table, sheet, records)
+    let Verdict::Refused(cause, offset) = verdict else {
+        return ran(script, numbers, table, sheet, records);
+    };
+    refused_answer(cause, offset, numbers.count, numbers.tally)
 }

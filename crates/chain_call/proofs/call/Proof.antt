@@ -1,7 +1,7 @@
 -- `chain_call::call` meets its contract: a walk of its MIR, written by `tools/walk chain_call call`. By hand is Proof/Facts.antt alone.
 mod Facts
 mod Said
-use mathlib.Core.Path.{_≡_, refl}
+use mathlib.Core.Path.{_≡_, refl, ap, subst}
 use Prim.Native.Nat.{ℕ}
 use mathlib.Core.List.{List, [], _∷_}
 use lib.IntN.{ℤ}
@@ -31,36 +31,37 @@ use denote.Triple.Statement.{Contract, Triple}
 use denote.Triple.Table.{entered, cited}
 use denote.Triple.Walked.{Stays, stay-none-slice, stay-none, gave-slice, walkOf, Walks, ends-at, walked, goes-none-slice, goes-none, goes-gave-slice, walk-meets}
 use denote.Exit.{yes}
-use Rattle.walks.specs.Data.{Good, typed, usizes, bools}
+use Rattle.walks.specs.Data.{Good, typed, usizes}
 use Rattle.walks.specs.Loans.{Loan, loanSlice, shrSlice, mutSlice, gives}
 use Rattle.walks.specs.Params.{Par, dat, brw, denots, valss, vals, lfts, shares, ins, outs}
 use Rattle.walks.specs.Functions.{arrives, leaves-with}
 use Rattle.walks.specs.Calls.{to, calls-by}
 use Rattle.walks.specs.Clauses.{asks-all}
-use Rattle.walks.specs.Frames.{begins}
-use Rattle.walks.specs.Locals.{var, part, lent-ptr, lent-slice, puts, lands-in, ends, if-then}
-use Rattle.walks.specs.Early.{ends-early, told, untold}
+use Rattle.walks.specs.Frames.{begins, as-held}
+use Rattle.walks.specs.Locals.{var, part, lent-ptr, lent-slice, puts, puts-last, lands-in, ends}
+use Rattle.walks.specs.Matches.{tag, held-part, hits, misses}
+use Rattle.walks.specs.Early.{ends-early}
 use Rattle.walks.specs.Lends.{relent, shares-slice, unshares-slice}
-use Rattle.chain_call.proofs.Rows.{answers, numberss, verdicts}
+use Rattle.chain_call.proofs.Rows.{answers, by-verdict, numberss, refusals, verdicts}
 use Rattle.chain_links.proofs.Rows.{recs}
+use denote.Enum.Laws as enum-laws
+use Rattle.language.specs.declared.Verdict.the-variants as Verdict·
 use Rattle.call_admission.proofs.CallNumbers as CallNumbers#
 use Rattle.call_admission.proofs.CallNumbers.Laws as CallNumbers′
+use Rattle.language.proofs.Verdict as Verdict#
+use Rattle.language.proofs.Verdict.Laws as Verdict′
 use Rattle.chain_call.proofs.judged as judged
 use Rattle.chain_call.proofs.judged.Symbol as judged-def
 use Rattle.chain_call.proofs.judged.Symbol.{name as #judged}
 use Rattle.chain_call.proofs.judged.Met as judged-thm
-use Rattle.call_answers.proofs.refuses as refuses
-use Rattle.call_answers.proofs.refuses.Symbol as refuses-def
-use Rattle.call_answers.proofs.refuses.Symbol.{name as #refuses}
-use Rattle.call_answers.proofs.refuses.Met as refuses-thm
-use Rattle.call_answers.proofs.refused as refused
-use Rattle.call_answers.proofs.refused.Symbol as refused-def
-use Rattle.call_answers.proofs.refused.Symbol.{name as #refused}
-use Rattle.call_answers.proofs.refused.Met as refused-thm
 use Rattle.chain_call.proofs.ran as ran
 use Rattle.chain_call.proofs.ran.Symbol as ran-def
 use Rattle.chain_call.proofs.ran.Symbol.{name as #ran}
 use Rattle.chain_call.proofs.ran.Met as ran-thm
+use Rattle.call_answers.proofs.refused_answer as refused-answer
+use Rattle.call_answers.proofs.refused_answer.Symbol as refused-answer-def
+use Rattle.call_answers.proofs.refused_answer.Symbol.{name as #refused-answer}
+use Rattle.call_answers.proofs.refused_answer.Met as refused-answer-thm
 use Rattle.chain_call.proofs.call.Key.{name as #me}
 use Rattle.chain_call.proofs.call as f
 use Rattle.chain_call.proofs.call.Statement as stated
@@ -74,23 +75,17 @@ Calls-judged 𝓤 H A mem run = tripleOf 𝓤 H A judged.signature (judged.spec 
 abbrev for-judged : Loan → List ℕ → numberss .type .Denot → Loan → List ℤ → Loan → List ℤ → ℕ → List Par
 for-judged h0 x0 x1 h2 x2 h3 x3 x4 = brw (shrSlice u8) h0 x0 ∷ dat numberss x1 ∷ brw (shrSlice i32) h2 x2 ∷ brw (shrSlice i32) h3 x3 ∷ dat usizes x4 ∷ []
 
-abbrev Calls-refuses : {M : Type 1} (𝓤 : URA M) (H : Heap 𝓤) (A : Atoms 𝓤) → (Memory → SProp 𝓤) → (Routine → Fun 𝓤) → Contract 𝓤
-Calls-refuses 𝓤 H A mem run = tripleOf 𝓤 H A refuses.signature (refuses.spec 𝓤 H A mem run)
-
-abbrev for-refuses : verdicts .type .Denot → List Par
-for-refuses x0 = dat verdicts x0 ∷ []
-
-abbrev Calls-refused : {M : Type 1} (𝓤 : URA M) (H : Heap 𝓤) (A : Atoms 𝓤) → (Memory → SProp 𝓤) → (Routine → Fun 𝓤) → Contract 𝓤
-Calls-refused 𝓤 H A mem run = tripleOf 𝓤 H A refused.signature (refused.spec 𝓤 H A mem run)
-
-abbrev for-refused : verdicts .type .Denot → ℕ → ℕ → List Par
-for-refused x0 x1 x2 = dat verdicts x0 ∷ dat usizes x1 ∷ dat usizes x2 ∷ []
-
 abbrev Calls-ran : {M : Type 1} (𝓤 : URA M) (H : Heap 𝓤) (A : Atoms 𝓤) → (Memory → SProp 𝓤) → (Routine → Fun 𝓤) → Contract 𝓤
 Calls-ran 𝓤 H A mem run = tripleOf 𝓤 H A ran.signature (ran.spec 𝓤 H A mem run)
 
 abbrev for-ran : Loan → List ℕ → numberss .type .Denot → Loan → List ℤ → Loan → List ℤ → Loan → List (recs .type .Denot) → List Par
 for-ran h0 x0 x1 h2 x2 h3 x3 h4 x4 = brw (shrSlice u8) h0 x0 ∷ dat numberss x1 ∷ brw (mutSlice i32) h2 x2 ∷ brw (mutSlice i32) h3 x3 ∷ brw (mutSlice (recs .type)) h4 x4 ∷ []
+
+abbrev Calls-refused-answer : {M : Type 1} (𝓤 : URA M) (H : Heap 𝓤) (A : Atoms 𝓤) → (Memory → SProp 𝓤) → (Routine → Fun 𝓤) → Contract 𝓤
+Calls-refused-answer 𝓤 H A mem run = tripleOf 𝓤 H A refused-answer.signature (refused-answer.spec 𝓤 H A mem run)
+
+abbrev for-refused-answer : refusals .type .Denot → ℕ → ℕ → ℕ → List Par
+for-refused-answer x0 x1 x2 x3 = dat refusals x0 ∷ dat usizes x1 ∷ dat usizes x2 ∷ dat usizes x3 ∷ []
 
 abbrev stayed : Stays (f.ended .signature .params) (f.ended .kept)
 stayed = (stay-none-slice (0 ∷ []) tt (plain (λ _. u8)) yes, (stay-none (λ _. numberss .type) yes, (gave-slice (1 ∷ []) tt (plain (λ _. i32)), (gave-slice (2 ∷ []) tt (plain (λ _. i32)), (gave-slice (3 ∷ []) tt (plain (λ _. recs .type)), tt)))))
@@ -137,58 +132,56 @@ module _ {M : Type 1} (𝓤 : URA M) (H : Heap 𝓤) (A : Atoms 𝓤) (W : Given
 
   module _ (𝓣 : Tables 𝓤 H)
       (known-judged : Triple 𝓤 (𝓣 .C #judged) (Calls-judged 𝓤 H A mem run))
-      (known-refuses : Triple 𝓤 (𝓣 .C #refuses) (Calls-refuses 𝓤 H A mem run))
-      (known-refused : Triple 𝓤 (𝓣 .C #refused) (Calls-refused 𝓤 H A mem run))
-      (known-ran : Triple 𝓤 (𝓣 .C #ran) (Calls-ran 𝓤 H A mem run)) where
+      (known-ran : Triple 𝓤 (𝓣 .C #ran) (Calls-ran 𝓤 H A mem run))
+      (known-refused-answer : Triple 𝓤 (𝓣 .C #refused-answer) (Calls-refused-answer 𝓤 H A mem run)) where
     fm : FmC 𝓤 H (W .laws) (𝓣 .C)
     fm = fmOf 𝓤 H (W .laws) 𝓣
 
     walk : ent 𝓤 (onEntry 𝓤 H A f.signature (lfts ps) (shares ps) (denots 0 ps) (valss 0 ps)) (WpFn 𝓤 H (𝓣 .C) (𝓣 .Λ) mine.function (vals ps) Post)
     walk = via 𝓤 (⋆ 𝓤 H A (ins 𝓤 ps)) (arrives 𝓤 H A W 0 ps) (qed W (ins 𝓤 ps) ∵
         begins ! (𝓣 .C) (𝓣 .Λ) mine.function (vals ps) Post ((tt, (tt, (record { fits = room-script .0 }, tt))), (typed 𝓤 H A W numberss numbers g-numbers, ((tt, (tt, (record { fits = room-table .0 }, tt))), ((tt, (tt, (record { fits = room-sheet .0 }, tt))), ((tt, (tt, (record { fits = room-records .0 }, tt))), tt))))) (λ β. move ! (1 ∷ 2 ∷ 3 ∷ 4 ∷ []) $
-        puts ! 4 7 refl (lent-ptr ! 4 3 refl refl tt refl refl) tt (tt, tt) $
-        puts ! 4 8 refl (lent-slice ! 4 3 7 refl refl refl tt tt refl refl) tt (tt, (tt, (record { fits = room-table .0 }, tt))) $
-        puts ! 4 9 refl (lent-ptr ! 4 4 refl refl tt refl refl) tt (tt, tt) $
-        puts ! 4 10 refl (lent-slice ! 4 4 9 refl refl refl tt tt refl refl) tt (tt, (tt, (record { fits = room-sheet .0 }, tt))) $
-        puts ! 4 11 refl (of-opd ! (part ! 4 5 1 refl refl tt refl refl refl)) tt (typed 𝓤 H A W usizes (length records) (refl, room-records .0)) $
+        puts ! 4 9 refl (lent-ptr ! 4 3 refl refl tt refl refl) tt (tt, tt) $
+        puts ! 4 10 refl (lent-slice ! 4 3 9 refl refl refl tt tt refl refl) tt (tt, (tt, (record { fits = room-table .0 }, tt))) $
+        puts ! 4 11 refl (lent-ptr ! 4 4 refl refl tt refl refl) tt (tt, tt) $
+        puts ! 4 12 refl (lent-slice ! 4 4 11 refl refl refl tt tt refl refl) tt (tt, (tt, (record { fits = room-sheet .0 }, tt))) $
+        puts ! 4 13 refl (of-opd ! (part ! 4 5 1 refl refl tt refl refl refl)) tt (typed 𝓤 H A W usizes (length records) (refl, room-records .0)) $
         move ! (1 ∷ []) $ shares-slice ! tt i32 h-table table (λ ν1-table δ1-table.
         move ! (3 ∷ []) $ shares-slice ! tt i32 h-sheet sheet (λ ν1-sheet δ1-sheet.
         move ! (4 ∷ 2 ∷ 0 ∷ []) $ calls-by ! fm (Calls-judged 𝓤 H A mem run) known-judged (to (for-judged h-script script numbers (relent h-table ν1-table δ1-table) table (relent h-sheet ν1-sheet δ1-sheet) sheet (length records))) (for-judged h-script script numbers (relent h-table ν1-table δ1-table) table (relent h-sheet ν1-sheet δ1-sheet) sheet (length records)) refl (g-numbers, ((refl, room-records .0), tt)) (Unit {0}) tt (asks-all 𝓤 H A (for-judged h-script script numbers (relent h-table ν1-table δ1-table) table (relent h-sheet ν1-sheet δ1-sheet) sheet (length records)) []) verdicts _ (λ v. id⊢ 𝓤 _)
-        (and-then ! (var ! 6 1 refl refl tt) (and-then ! (var ! 6 2 refl refl tt) (and-then ! (var ! 6 8 refl refl tt) (and-then ! (var ! 6 10 refl refl tt) (and-then ! (var ! 6 11 refl refl tt) (no-more !)))))) (λ verdict1 _ g-verdict1 e1 _.
+        (and-then ! (var ! 6 1 refl refl tt) (and-then ! (var ! 6 2 refl refl tt) (and-then ! (var ! 6 10 refl refl tt) (and-then ! (var ! 6 12 refl refl tt) (and-then ! (var ! 6 13 refl refl tt) (no-more !)))))) (λ verdict1 _ g-verdict1 e1 _.
         lands-in ! 6 6 refl tt (typed 𝓤 H A W verdicts verdict1 g-verdict1) $
         move ! (1 ∷ 4 ∷ []) $ unshares-slice ! tt i32 h-table table ν1-table δ1-table $
         move ! (2 ∷ 3 ∷ []) $ unshares-slice ! tt i32 h-sheet sheet ν1-sheet δ1-sheet $
-        calls-by ! fm (Calls-refuses 𝓤 H A mem run) known-refuses (to (for-refuses verdict1)) (for-refuses verdict1) refl (g-verdict1, tt) (Unit {0}) tt (asks-all 𝓤 H A (for-refuses verdict1) []) bools _ (λ v. id⊢ 𝓤 _)
-        (and-then ! (var ! 4 6 refl refl tt) (no-more !)) (λ refuses2 _ g-refuses2 e2 _.
-        lands-in ! 4 12 refl tt (tt, tt) $
-        if-then ! (var ! 4 12 refl refl tt)
-        (λ y1.
-        calls-by ! fm (Calls-refused 𝓤 H A mem run) known-refused (to (for-refused verdict1 (numbers .count) (numbers .tally))) (for-refused verdict1 (numbers .count) (numbers .tally)) refl (g-verdict1, ((owed CallNumbers#.the-type CallNumbers′.the-laws numbers _ g-numbers .1 .1 .1 .1 .0), ((owed CallNumbers#.the-type CallNumbers′.the-laws numbers _ g-numbers .1 .1 .1 .0), tt))) (Unit {0}) tt (asks-all 𝓤 H A (for-refused verdict1 (numbers .count) (numbers .tally)) []) answers _ (λ v. id⊢ 𝓤 _)
-        (and-then ! (var ! 4 6 refl refl tt) (and-then ! (part ! 4 2 4 refl refl tt refl refl refl) (and-then ! (part ! 4 2 3 refl refl tt refl refl refl) (no-more !)))) (λ refused3 _ g-refused3 e3 _.
-        lands-in ! 4 0 refl tt (typed 𝓤 H A W answers refused3 g-refused3) $
-        ends-early ! 4 Post refl refl refl tt $ move ! (1 ∷ []) $ gives ! (mutSlice i32) h-table table $ move ! (1 ∷ []) $ gives ! (mutSlice i32) h-sheet sheet $ move ! (3 ∷ []) $ gives ! (mutSlice (recs .type)) h-records records $ move ! (3 ∷ 2 ∷ 1 ∷ 0 ∷ []) $ by ! (exits refused3 table sheet records refl refl refl g-refused3 (facts.says-1 script numbers table sheet records verdict1 e1 refuses2 e2 (told refuses2 y1) refused3 e3))))
-        (λ y1.
-        puts ! 4 13 refl (lent-ptr ! 4 3 refl refl tt refl refl) tt (tt, tt) $
-        puts ! 4 14 refl (lent-slice ! 4 3 13 refl refl refl tt tt refl refl) tt (tt, (tt, (record { fits = room-table .0 }, tt))) $
-        puts ! 4 15 refl (lent-ptr ! 4 4 refl refl tt refl refl) tt (tt, tt) $
-        puts ! 4 16 refl (lent-slice ! 4 4 15 refl refl refl tt tt refl refl) tt (tt, (tt, (record { fits = room-sheet .0 }, tt))) $
-        puts ! 4 17 refl (lent-ptr ! 4 5 refl refl tt refl refl) tt (tt, tt) $
-        puts ! 4 18 refl (lent-slice ! 4 5 17 refl refl refl tt tt refl refl) tt (tt, (tt, (record { fits = room-records .0 }, tt))) $
-        move ! (2 ∷ 1 ∷ 0 ∷ 3 ∷ []) $ calls-by ! fm (Calls-ran 𝓤 H A mem run) known-ran (to (for-ran h-script script numbers h-table table h-sheet sheet h-records records)) (for-ran h-script script numbers h-table table h-sheet sheet h-records records) refl (g-numbers, tt) _ (facts.asks-ran script numbers table sheet records verdict1 e1 refuses2 e2 (untold refuses2 y1)) (id⊢ 𝓤 _) answers _ (λ v. id⊢ 𝓤 _)
-        (and-then ! (var ! 4 1 refl refl tt) (and-then ! (var ! 4 2 refl refl tt) (and-then ! (var ! 4 14 refl refl tt) (and-then ! (var ! 4 16 refl refl tt) (and-then ! (var ! 4 18 refl refl tt) (no-more !)))))) (λ ran4 ws4 g-ran4 e4 same4.
-        lands-in ! 4 0 refl tt (typed 𝓤 H A W answers ran4 g-ran4) $
-        ends ! 4 refl refl tt $ by ! (exits ran4 (ws4 .1 .1 .0) (ws4 .1 .1 .1 .0) (ws4 .1 .1 .1 .1 .0) (same4 .1 .0) (same4 .1 .1 .0) (same4 .1 .1 .1 .0) g-ran4 (facts.says-2 script numbers table sheet records verdict1 e1 refuses2 e2 (untold refuses2 y1) ran4 (ws4 .1 .1 .0) (ws4 .1 .1 .1 .0) (ws4 .1 .1 .1 .1 .0) e4 (same4 .1 .0) (same4 .1 .1 .0) (same4 .1 .1 .1 .0)))))))))))
+        by-verdict verdict1
+        (λ y1. as-held ! 4 6 refl refl (ap (verdicts .val) y1) $ misses ! (tag ! 4 6 refl refl tt refl refl refl) tt tt (
+        puts ! 4 14 refl (lent-ptr ! 4 3 refl refl tt refl refl) tt (tt, tt) $
+        puts ! 4 15 refl (lent-slice ! 4 3 14 refl refl refl tt tt refl refl) tt (tt, (tt, (record { fits = room-table .0 }, tt))) $
+        puts ! 4 16 refl (lent-ptr ! 4 4 refl refl tt refl refl) tt (tt, tt) $
+        puts ! 4 17 refl (lent-slice ! 4 4 16 refl refl refl tt tt refl refl) tt (tt, (tt, (record { fits = room-sheet .0 }, tt))) $
+        puts ! 4 18 refl (lent-ptr ! 4 5 refl refl tt refl refl) tt (tt, tt) $
+        puts ! 4 19 refl (lent-slice ! 4 5 18 refl refl refl tt tt refl refl) tt (tt, (tt, (record { fits = room-records .0 }, tt))) $
+        move ! (2 ∷ 1 ∷ 0 ∷ 3 ∷ []) $ calls-by ! fm (Calls-ran 𝓤 H A mem run) known-ran (to (for-ran h-script script numbers h-table table h-sheet sheet h-records records)) (for-ran h-script script numbers h-table table h-sheet sheet h-records records) refl (g-numbers, tt) _ (facts.asks-ran script numbers table sheet records verdict1 e1 y1) (id⊢ 𝓤 _) answers _ (λ v. id⊢ 𝓤 _)
+        (and-then ! (var ! 4 1 refl refl tt) (and-then ! (var ! 4 2 refl refl tt) (and-then ! (var ! 4 15 refl refl tt) (and-then ! (var ! 4 17 refl refl tt) (and-then ! (var ! 4 19 refl refl tt) (no-more !)))))) (λ ran2 ws2 g-ran2 e2 same2.
+        lands-in ! 4 0 refl tt (typed 𝓤 H A W answers ran2 g-ran2) $
+        ends-early ! 4 Post refl refl refl tt $ by ! (exits ran2 (ws2 .1 .1 .0) (ws2 .1 .1 .1 .0) (ws2 .1 .1 .1 .1 .0) (same2 .1 .0) (same2 .1 .1 .0) (same2 .1 .1 .1 .0) g-ran2 (facts.says-1 script numbers table sheet records verdict1 e1 y1 ran2 (ws2 .1 .1 .0) (ws2 .1 .1 .1 .0) (ws2 .1 .1 .1 .1 .0) e2 (same2 .1 .0) (same2 .1 .1 .0) (same2 .1 .1 .1 .0))))))
+        (λ x1-0 x1-1 y1. as-held ! 4 6 refl refl (ap (verdicts .val) y1) $ hits ! (tag ! 4 6 refl refl tt refl refl refl) tt tt (λ falls1.
+        puts ! 4 7 refl (of-opd ! (held-part ! 4 6 1 0 refl refl tt refl refl refl refl refl)) tt (typed 𝓤 H A W refusals x1-0 (enum-laws.owed Verdict#.the-type Verdict′.the-laws (Verdict·.Refused x1-0 x1-1) _ (subst (Good verdicts) y1 g-verdict1) .0)) $
+        puts-last ! 4 8 refl (of-opd ! (held-part ! 4 6 1 1 refl refl tt refl refl refl refl refl)) tt (typed 𝓤 H A W usizes x1-1 (enum-laws.owed Verdict#.the-type Verdict′.the-laws (Verdict·.Refused x1-0 x1-1) _ (subst (Good verdicts) y1 g-verdict1) .1 .0)) $
+        falls1 _ $
+        calls-by ! fm (Calls-refused-answer 𝓤 H A mem run) known-refused-answer (to (for-refused-answer x1-0 x1-1 (numbers .count) (numbers .tally))) (for-refused-answer x1-0 x1-1 (numbers .count) (numbers .tally)) refl ((enum-laws.owed Verdict#.the-type Verdict′.the-laws (Verdict·.Refused x1-0 x1-1) _ (subst (Good verdicts) y1 g-verdict1) .0), ((enum-laws.owed Verdict#.the-type Verdict′.the-laws (Verdict·.Refused x1-0 x1-1) _ (subst (Good verdicts) y1 g-verdict1) .1 .0), ((owed CallNumbers#.the-type CallNumbers′.the-laws numbers _ g-numbers .1 .1 .1 .1 .0), ((owed CallNumbers#.the-type CallNumbers′.the-laws numbers _ g-numbers .1 .1 .1 .0), tt)))) (Unit {0}) tt (asks-all 𝓤 H A (for-refused-answer x1-0 x1-1 (numbers .count) (numbers .tally)) []) answers _ (λ v. id⊢ 𝓤 _)
+        (and-then ! (var ! 4 7 refl refl tt) (and-then ! (var ! 4 8 refl refl tt) (and-then ! (part ! 4 2 4 refl refl tt refl refl refl) (and-then ! (part ! 4 2 3 refl refl tt refl refl refl) (no-more !))))) (λ refused-answer3 _ g-refused-answer3 e3 _.
+        lands-in ! 4 0 refl tt (typed 𝓤 H A W answers refused-answer3 g-refused-answer3) $
+        ends ! 4 refl refl tt $ move ! (1 ∷ []) $ gives ! (mutSlice i32) h-table table $ move ! (1 ∷ []) $ gives ! (mutSlice i32) h-sheet sheet $ move ! (3 ∷ []) $ gives ! (mutSlice (recs .type)) h-records records $ move ! (3 ∷ 2 ∷ 1 ∷ 0 ∷ []) $ by ! (exits refused-answer3 table sheet records refl refl refl g-refused-answer3 (facts.says-2 script numbers table sheet records verdict1 e1 x1-0 x1-1 y1 refused-answer3 e3))))))))))
 
 module _ {M : Type 1} (𝓤 : URA M) (H : Heap 𝓤) (A : Atoms 𝓤) (W : Given 𝓤 H A) (mem : Memory → SProp 𝓤) (run : Routine → Fun 𝓤) (𝓣 : Tables 𝓤 H)
     (known-judged : Triple 𝓤 (𝓣 .C #judged) (Calls-judged 𝓤 H A mem run))
-    (known-refuses : Triple 𝓤 (𝓣 .C #refuses) (Calls-refuses 𝓤 H A mem run))
-    (known-refused : Triple 𝓤 (𝓣 .C #refused) (Calls-refused 𝓤 H A mem run))
-    (known-ran : Triple 𝓤 (𝓣 .C #ran) (Calls-ran 𝓤 H A mem run)) where
+    (known-ran : Triple 𝓤 (𝓣 .C #ran) (Calls-ran 𝓤 H A mem run))
+    (known-refused-answer : Triple 𝓤 (𝓣 .C #refused-answer) (Calls-refused-answer 𝓤 H A mem run)) where
   walks : Walks 𝓤 H A f.ended stayed (WpFn 𝓤 H (𝓣 .C) (𝓣 .Λ) mine.function) (f.clauses 𝓤 H A mem run)
   walks = walked 𝓤 H A f.ended stayed (f.clauses 𝓤 H A mem run) (WpFn 𝓤 H (𝓣 .C) (𝓣 .Λ) mine.function)
       (λ κs. (slice-vals, ((λ (x : numberss .type .Denot). numberss .val x ∷ []), (slice-vals, (slice-vals, (slice-vals, tt))))))
       (λ κs. (shr-slice-tells (named 0) (κs .0) u8, (numberss .tells, (mut-slice-tells (named 1) (κs .1 .0) i32, (mut-slice-tells (named 2) (κs .1 .1 .0) i32, (mut-slice-tells (named 3) (κs .1 .1 .1 .0) (recs .type), tt))))))
-      (λ κs qs bounds a g are. via 𝓤 _ (fst∗ 𝓤 _ (f.clauses 𝓤 H A mem run κs a .requires g)) (walk 𝓤 H A W mem run (κs .0) (κs .1 .0) (κs .1 .1 .0) (κs .1 .1 .1 .0) (qs .0) (qs .1 .0) (qs .1 .1 .0) (qs .1 .1 .1 .0) (a .0) (a .1 .0) (a .1 .1 .0) (a .1 .1 .1 .0) (a .1 .1 .1 .1 .0) (are .0 .0 .1) (are .1 .1 .0 .0 .1) (are .1 .1 .1 .0 .0 .1) (are .1 .1 .1 .1 .0 .0 .1) (are .1 .0) 𝓣 known-judged known-refuses known-refused known-ran))
+      (λ κs qs bounds a g are. via 𝓤 _ (fst∗ 𝓤 _ (f.clauses 𝓤 H A mem run κs a .requires g)) (walk 𝓤 H A W mem run (κs .0) (κs .1 .0) (κs .1 .1 .0) (κs .1 .1 .1 .0) (qs .0) (qs .1 .0) (qs .1 .1 .0) (qs .1 .1 .1 .0) (a .0) (a .1 .0) (a .1 .1 .0) (a .1 .1 .1 .0) (a .1 .1 .1 .1 .0) (are .0 .0 .1) (are .1 .1 .0 .0 .1) (are .1 .1 .1 .0 .0 .1) (are .1 .1 .1 .1 .0 .0 .1) (are .1 .0) 𝓣 known-judged known-ran known-refused-answer))
 
   meets : Meets 𝓤 H A f.signature (WpFn 𝓤 H (𝓣 .C) (𝓣 .Λ) mine.function) (f.spec 𝓤 H A mem run)
   meets = walk-meets 𝓤 H A f.ended stayed W (goes-none-slice 𝓤 H A W 4 (0 ∷ []) tt (plain (λ _. u8)) yes, (goes-none 𝓤 H A W 4 (λ _. numberss .type) yes (λ κs x f. refl), (goes-gave-slice 𝓤 H A W 4 1 tt (plain (λ _. i32)), (goes-gave-slice 𝓤 H A W 4 2 tt (plain (λ _. i32)), (goes-gave-slice 𝓤 H A W 4 3 tt (plain (λ _. recs .type)), tt)))))
@@ -201,6 +194,5 @@ call-spec 𝓤 H 𝓜 𝓖 𝓡 =
     (tables 𝓤 H 𝓜 𝓡 mine.env .C) (tables 𝓤 H 𝓜 𝓡 mine.env .Λ) #me mine.function (mine.unfolded 𝓤 H 𝓜 𝓡)
     (meets 𝓤 H (𝓖 .A) (givenOf 𝓤 H 𝓜 𝓖) (𝓜 .mem) (𝓡 .run) (tablesOf 𝓤 H 𝓜 (tables 𝓤 H 𝓜 𝓡 mine.env))
     (cited 𝓤 H (Calls-judged 𝓤 H (𝓖 .A) (𝓜 .mem) (𝓡 .run)) 𝓜 𝓡 mine.env #judged judged-def.routine mine.calls-chain-call·judged (judged-thm.met 𝓤 H 𝓜 𝓖 𝓡))
-    (cited 𝓤 H (Calls-refuses 𝓤 H (𝓖 .A) (𝓜 .mem) (𝓡 .run)) 𝓜 𝓡 mine.env #refuses refuses-def.routine mine.calls-call-answers·refuses (refuses-thm.met 𝓤 H 𝓜 𝓖 𝓡))
-    (cited 𝓤 H (Calls-refused 𝓤 H (𝓖 .A) (𝓜 .mem) (𝓡 .run)) 𝓜 𝓡 mine.env #refused refused-def.routine mine.calls-call-answers·refused (refused-thm.met 𝓤 H 𝓜 𝓖 𝓡))
-    (cited 𝓤 H (Calls-ran 𝓤 H (𝓖 .A) (𝓜 .mem) (𝓡 .run)) 𝓜 𝓡 mine.env #ran ran-def.routine mine.calls-chain-call·ran (ran-thm.met 𝓤 H 𝓜 𝓖 𝓡)))
+    (cited 𝓤 H (Calls-ran 𝓤 H (𝓖 .A) (𝓜 .mem) (𝓡 .run)) 𝓜 𝓡 mine.env #ran ran-def.routine mine.calls-chain-call·ran (ran-thm.met 𝓤 H 𝓜 𝓖 𝓡))
+    (cited 𝓤 H (Calls-refused-answer 𝓤 H (𝓖 .A) (𝓜 .mem) (𝓡 .run)) 𝓜 𝓡 mine.env #refused-answer refused-answer-def.routine mine.calls-call-answers·refused-answer (refused-answer-thm.met 𝓤 H 𝓜 𝓖 𝓡)))

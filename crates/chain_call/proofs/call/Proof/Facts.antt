@@ -1,37 +1,36 @@
 -- What the walk of `call` shows.
-use mathlib.Core.Path.{_≡_, sym, _∙_, subst}
-use mathlib.Core.Bool.{Bool, true, false, not}
+use mathlib.Core.Path.{_≡_}
 use Prim.Native.Nat.{ℕ}
 use mathlib.Core.List.{List}
-use lib.Dec.{T}
 use lib.IntN.{ℤ}
 use lib.ListN.{length}
 use Rattle.language.specs.Call.{Engine, Fed, chain}
 use Rattle.language.specs.declared.Answer.{Answer}
+use Rattle.language.specs.declared.Refusal.{Refusal}
 use Rattle.language.specs.declared.Verdict.{Verdict}
 use Rattle.call_admission.specs.Lent.{fedOf}
 use Rattle.call_admission.specs.declared.CallNumbers.{CallNumbers}
 use Rattle.chain_records.specs.declared.Activation.{Activation}
-use Rattle.call_replies.specs.Replies.{read-admitted, read-refused, leaving-all, leaving-length}
-use Rattle.chain_call.proofs.call.Proof.Said.{Said, judged-says, refuses-says, refused-says, ran-asks, ran-says}
+use Rattle.call_replies.specs.Replies.{admitted-call, refused-call, leaving-all, leaving-length}
+use Rattle.chain_call.proofs.call.Proof.Said.{Said, judged-says, ran-asks, ran-says, refused-answer-says}
 
 module _ (script : List ℕ) (numbers : CallNumbers) (table sheet : List ℤ) (records : List Activation) (verdict : Verdict)
-    (judges : judged-says script numbers table sheet (length records) verdict) (refuses : Bool) (refuses-is : refuses-says verdict refuses) where
+    (judges : judged-says script numbers table sheet (length records) verdict) where
   abbrev fed : Fed
   fed = fedOf numbers script table sheet
 
   abbrev engine : Engine
   engine = chain (length records)
 
-  module _ (y : refuses ≡ true) (answer : Answer) (refusal : refused-says verdict (numbers .count) (numbers .tally) answer) where
-    pub says-1 : Said script numbers table sheet records answer table sheet records
-    says-1 = leaving-all engine fed (read-refused engine fed verdict judges (subst T (sym (sym refuses-is ∙ y)) tt) refusal) records
-
-  module _ (n : refuses ≡ false) where
+  module _ (fits : verdict ≡ Verdict.Fit) where
     pub asks-ran : ran-asks script numbers table sheet records
-    asks-ran = read-admitted engine fed verdict judges (subst (λ (b : Bool). T (not b)) (sym (sym refuses-is ∙ n)) tt)
+    asks-ran = admitted-call engine fed verdict judges fits
 
     module _ (answer : Answer) (table′ sheet′ : List ℤ) (records′ : List Activation) (said : ran-says script numbers table sheet records answer table′ sheet′)
         (wide : length table′ ≡ length table) (sheet-long : length sheet′ ≡ length sheet) (long : length records′ ≡ length records) where
-      pub says-2 : Said script numbers table sheet records answer table′ sheet′ records′
-      says-2 = leaving-length engine fed said (asks-ran .1) long
+      pub says-1 : Said script numbers table sheet records answer table′ sheet′ records′
+      says-1 = leaving-length engine fed said (asks-ran .1) long
+
+  module _ (c : Refusal) (o : ℕ) (turns : verdict ≡ Verdict.Refused c o) (answer : Answer) (refusal : refused-answer-says c o (numbers .count) (numbers .tally) answer) where
+    pub says-2 : Said script numbers table sheet records answer table sheet records
+    says-2 = leaving-all engine fed (refused-call engine fed verdict judges c o turns refusal) records

@@ -2,9 +2,9 @@
 -- Written by `tools/walk chain_call call`.
 use Prim.Native.Nat.{ℕ}
 use Rattle.call_admission.specs.Lent.{fedOf}
-use Rattle.call_answers.specs.Refusals.{isRefused, RefusedBy}
+use Rattle.call_answers.specs.Answers.{refusedAnswer}
 use Rattle.call_answers.specs.Replies.{AnswersLeaving, Answers}
-use Rattle.chain_call.proofs.Rows.{numberss, answers, verdicts}
+use Rattle.chain_call.proofs.Rows.{numberss, answers, verdicts, refusals}
 use Rattle.chain_links.proofs.Rows.{recs}
 use Rattle.check_script.specs.Verdicts.{verdictOf}
 use Rattle.language.specs.Call.{chain, admission}
@@ -12,7 +12,6 @@ use Rattle.language.specs.Text.{Block}
 use Rattle.runs.specs.Admission.{Admitted}
 use lib.IntN.{ℤ}
 use lib.ListN.{length}
-use mathlib.Core.Bool.{Bool}
 use mathlib.Core.List.{List}
 use mathlib.Core.Path.{_≡_}
 
@@ -22,14 +21,11 @@ Said script numbers table sheet records r table′ sheet′ records′ = Answers
 abbrev pub judged-says : List ℕ → numberss .type .Denot → List ℤ → List ℤ → ℕ → verdicts .type .Denot → Type 0
 judged-says script numbers table sheet held r = r ≡ verdictOf (admission (chain held) (fedOf numbers script table sheet))
 
-abbrev pub refuses-says : verdicts .type .Denot → Bool → Type 0
-refuses-says verdict r = r ≡ isRefused verdict
-
-abbrev pub refused-says : verdicts .type .Denot → ℕ → ℕ → answers .type .Denot → Type 0
-refused-says verdict count tally r = RefusedBy verdict count tally r
-
 abbrev pub ran-asks : List ℕ → numberss .type .Denot → List ℤ → List ℤ → List (recs .type .Denot) → Type 0
 ran-asks script numbers table sheet records = ((t : Block) × Admitted (chain (length records)) (fedOf numbers script table sheet) t)
 
 abbrev pub ran-says : List ℕ → numberss .type .Denot → List ℤ → List ℤ → List (recs .type .Denot) → answers .type .Denot → List ℤ → List ℤ → Type 0
 ran-says script numbers table sheet records r table′ sheet′ = Answers (chain (length records)) (fedOf numbers script table sheet) r sheet′ table′
+
+abbrev pub refused-answer-says : refusals .type .Denot → ℕ → ℕ → ℕ → answers .type .Denot → Type 0
+refused-answer-says cause offset pairs tally r = r ≡ refusedAnswer cause offset pairs tally
