@@ -1,6 +1,7 @@
--- 9 to 11 by the blocks around the action, with no list of visible names: where the check says 9, no block around the action at the offset declares a name
+-- 9 to 11 by the blocks around the action: where the check says 9, no block around the action at the offset declares a name
 -- that it uses (`nowhere-declared`); where it says 10, the nearest block that has the name has it with another kind (`nearest-of-another-kind`); where it
--- says 11, the nearest has it as a procedure whose formals the arguments differ from in number or kind (`nearest-differs`).
+-- says 11, the nearest has it as a procedure whose formals the arguments differ from in number or kind (`nearest-differs`). The arguments' kinds, and the names
+-- to the left that are fine, are said of the names visible there; `kind-by-blocks` and `fine-by-blocks` say what that is in the blocks.
 use Prim.Native.Nat.{ℕ, _≤_}
 use native.Mathlib.Omega.{arith}
 use mathlib.Core.Bool.{false}
@@ -20,12 +21,12 @@ use Rattle.language.specs.declared.Refusal.the-variants.{NotVisible, WrongKind,
 use Rattle.laws.specs.Each.{Each}
 use Rattle.laws.specs.Kinds.{Differs}
 use Rattle.laws.specs.Lookup.{lookup-nil, either, lookup-absent, lookup-left, lookup-right}
-use Rattle.laws.specs.Tests.{by-lookup, none≢some}
+use Rattle.laws.specs.Tests.{by-lookup, none≢some, some-inj}
 use Rattle.grammar.specs.Rules.{Bytes, FormedBlock}
 use Rattle.coordinates.specs.Enclosure.{Enclosing, Enclosure, namesOf}
 use Rattle.coordinates.specs.Visible.{meaningsOf, scopeOf, meanings-named}
 use Rattle.causes.specs.Places.{Place}
-use Rattle.causes.specs.Faults.{Uses, Used, Unseen, OtherKind, Mismatch, Broken, past-end, misplaced, out-of-range, too-deep, too-many, twice, Misuse, not-seen, of-another-kind, not-matched, Fault, of-length, of-record, of-end, of-use}
+use Rattle.causes.specs.Faults.{Suits, Uses, Used, Unseen, OtherKind, Mismatch, Broken, past-end, misplaced, out-of-range, too-deep, too-many, twice, Misuse, not-seen, of-another-kind, not-matched, Fault, of-length, of-record, of-end, of-use}
 use Rattle.causes.specs.Exact.{faulted}
 use Rattle.causes.specs.FormalSites.{StandsAmong, found-among}
 use Rattle.causes.specs.FormalSettled.{sees-stands}
@@ -64,6 +65,18 @@ nowhere [] n q = tt
 nowhere (e ∷ es) n q =
     by-lookup (lookup n (meaningsOf e)) (λ no. (not-named e n no, nowhere es n (sym (lookup-right n (meaningsOf e) (scopeOf es) no) ∙ q)))
     (λ m h. none≢some (sym q ∙ lookup-left n (meaningsOf e) (scopeOf es) m h))
+
+-- what the names that are fine, and a call's arguments, are in the blocks
+pub kind-by-blocks : (es : Enclosure) (n : ℕ) (k : Kind) → kindIn (scopeOf es) n ≡ some k → (m : Meaning) × Nearest n m es × (m .kind ≡ k)
+unfolding kindIn
+kind-by-blocks es n k q = go (lookup n (scopeOf es)) refl q
+  where
+    go : (v : Option Meaning) → lookup n (scopeOf es) ≡ v → elim v as (λ x. Option Kind) [ none ↦ none | some m ↦ some (m .kind) ] ≡ some k → (m : Meaning) × Nearest n m es × (m .kind ≡ k)
+    go none e h = none≢some h
+    go (some m) e h = (m, nearest es n m e, some-inj h)
+
+pub fine-by-blocks : (es : Enclosure) (n : ℕ) (k : Kind) → Suits (scopeOf es) (n, some k) → (m : Meaning) × Nearest n m es × (m .kind ≡ k)
+fine-by-blocks es n k h = (h .0, nearest es n (h .0) (h .1), h .2)
 
 -- the causes judged in file order have numbers up to 8, those judged in the scope higher ones
 broken-number : {c : Refusal} {p : Place} {us : List ℕ} → Broken c p us → refusalNumber c ≤ 8

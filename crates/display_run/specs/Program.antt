@@ -1,5 +1,5 @@
--- The run of a program: the engine's state as it begins (`startState`), what the run begins with (`Beginning`), and what it ends with (`Ended`), the frame machine's result with the arrays that hold its
--- stack.
+-- The run of a program: the engine's state as it begins (`startState`), what the run begins with (`Beginning`), and what it ends with (`Ended`), the frame
+-- machine's result with the arrays that hold its stack.
 use Prim.Native.Nat.{ℕ, _≤_, _<_}
 use mathlib.Core.Bool.{true}
 use mathlib.Core.List.{List}
@@ -26,7 +26,7 @@ startState = record { blocks = replicate 256 0; nexts = replicate 256 0; links =
 abbrev pub startBy : List ℕ → ℕ → Registers
 startBy code pairs = record { live = 0; at = firstIn (getD code 1 0); end = endIn (getD code 1 0); pairs = pairs; level = 0; fresh = 0 }
 
--- what it begins with: the resolved script of a program that keeps the rules, arrays of zeros, limits in range and a right table
+-- what it begins with: the resolved script of a program that keeps the rules, arrays with zeros for the first activation, limits in range and a right table
 pub record Beginning (code : List ℕ) (cells : List ℤ) (blocks nexts links display : List ℕ) (table : List ℤ) (pairs limit activations : ℕ) : Type 0 where
   pub program : Block
   pub name : ℕ

@@ -58,7 +58,7 @@ fn settle(
     looked_up(code, cells, blocks, display, here.live)
 }
 
-// From any state in which the engine can stand.
+// From any state in which the engine can stand. What the display holds afterwards is the engine's own and is not said.
 pub fn run(
     code: &[u32; 4096],
     cells: &mut [i32; 8224],

@@ -1,5 +1,5 @@
-// The statements in classes: those of a class have as many names, and a function of their own that is handed the first cells of the activations that
-// declare these. The statement at a place is done as far as cells go; where the run goes on is the answer. A call's arguments are not handed on
+// The statements in classes: those of a class have as many names at most, and a function of their own that is handed the first cells of the activations
+// that declare these. The statement at a place is done as far as cells go; where the run goes on is the answer. A call's arguments are not handed on
 // yet.
 use layout::operation_of;
 use run_moves::Ask;
