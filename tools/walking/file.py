@@ -112,8 +112,21 @@ def loop(w):
     return "\n".join(record), state, turn
 
 
+def of_ghost(f, y):
+    """a function's parameters in lists and numbers, from what its triple binds"""
+    return [atom("%s%s" % (atom(proj(y + " .0 .3", i)), " .now" if k.borrow else "")) for i, k in enumerate(f.kinds)]
+
+
+def knows(w, g, size):
+    """what is known of a callee: its contract, or where it is a member of the same cycle its contract at smaller sizes"""
+    if not w.within(g):
+        return "Triple 𝓤 (𝓣 .C #%s) (Calls-%s 𝓤 H A mem run)" % (g.alias, g.alias)
+    c = "Calls-%s 𝓤 H A mem run" % g.alias
+    return "(y : %s .Ghost) → %s < %s → ent 𝓤 (%s .pre y) (𝓣 .C #%s (%s .args y) (%s .post y))" % (c, w.size(g, of_ghost(g, "y")), size, c, g.alias, c, c)
+
+
 def walk(w, used, typed, turn):
-    known = "".join("\n      (known-%s : Triple 𝓤 (𝓣 .C #%s) (Calls-%s 𝓤 H A mem run))" % (g.alias, g.alias, g.alias) for g in used)
+    known = "".join("\n      (known-%s : %s)" % (g.alias, knows(w, g, w.size(w.f, [k.name for k in w.f.kinds]))) for g in used)
     fm = "    fm : FmC 𝓤 H (W .laws) (𝓣 .C)\n    fm = fmOf 𝓤 H (W .laws) 𝓣\n\n" if used else ""
     order = " move ! %s $" % conses(range(1, len(w.f.borrows) + 1)) if w.f.borrows else ""
     return ("  module _ (𝓣 : Tables 𝓤 H)%s where\n%s%s"
@@ -137,12 +150,28 @@ def meets(w, used, vals, tells, go):
         enters = "needs 𝓤 (%s) _ (λ pre. %s)" % (" ".join(["said.Pre"] + asked), call)
     else:
         enters = "needs-all 𝓤 %s _ (λ pre. %s)" % (conses(["_"] * f.requires), call)
+    if w.knot:
+        return at_size(w, used, vals, tells, go, enters)
     known = "".join("\n    (known-%s : Triple 𝓤 (𝓣 .C #%s) (Calls-%s 𝓤 H A mem run))" % (g.alias, g.alias, g.alias) for g in used)
     return ("module _ %s (𝓣 : Tables 𝓤 H)%s where\n  walks : Walks 𝓤 H A f.ended stayed %s %s\n  walks = walked 𝓤 H A f.ended stayed %s %s\n"
             "      (λ κs. %s)\n      (λ κs. %s)\n      (λ κs qs bounds a g are. %s)\n\n"
             "  meets : Meets 𝓤 H A f.signature %s (f.spec 𝓤 H A mem run)\n"
             "  meets = walk-meets 𝓤 H A f.ended stayed W %s\n      %s %s (WpFn-mono 𝓤 H (W .laws) 𝓣 mine.function) walks" %
             (HEAD, known, RUN, CLAUSES, CLAUSES, RUN, pairs(vals), pairs(tells), enters, RUN, pairs(go), CLAUSES, RUN))
+
+
+def at_size(w, used, vals, tells, go, enters):
+    """a member of a cycle: its contract at one choice of what its triple binds, from those of members at smaller sizes"""
+    size = w.size(w.f, of_ghost(w.f, "z"))
+    known = "".join("\n    (known-%s : %s)" % (g.alias, knows(w, g, "")) for g in used if not w.within(g))
+    inner = [g for g in used if w.within(g)]
+    c = "tripleOf 𝓤 H A f.signature (f.spec 𝓤 H A mem run)"
+    return ("module _ %s (𝓣 : Tables 𝓤 H)%s where\n  pub at-size : (z : %s .Ghost) → %sent 𝓤 (%s .pre z) (WpFn 𝓤 H (𝓣 .C) (𝓣 .Λ) mine.function (%s .args z) (%s .post z))\n"
+            "  at-size z %s = let κs = z .0 .0 in let qs = z .0 .1 in let a = z .0 .3 in let g = z .1 in\n"
+            "      walk-meets-at 𝓤 H A f.ended stayed W %s\n      %s %s (WpFn-mono 𝓤 H (W .laws) 𝓣 mine.function) z\n"
+            "      (walked-at 𝓤 H A f.ended stayed %s %s z\n      %s\n      %s\n      (λ are. %s))" %
+            (HEAD, known, c, "".join("(%s) → " % knows(w, g, size) for g in inner), c, c, c, " ".join("known-" + g.alias for g in inner),
+             pairs(go), CLAUSES, RUN, CLAUSES, RUN, pairs(vals), pairs(tells), enters))
 
 
 def spec(w, used):
@@ -177,8 +206,11 @@ def proof(w):
     record, state, turn = loop(w) if w.loop else ("", "", "")
     out += [record] if record else []
     out.append("\n\n".join([parameters(w)] + ([state] if state else []) + [walk(w, used, typed, turn)]))
-    out += [meets(w, used, vals, tells, go), spec(w, used)]
+    out += [meets(w, used, vals, tells, go)] + ([] if w.knot else [spec(w, used)])
     body = "\n\n".join(out) + "\n"
+    base = w.types.own(w.path.split("::")[0], w.knot) if w.knot else None
+    if w.knot:
+        body = body.replace("mine.function", "mine.%s-function" % w.f.name)
     words = tokens(body)
     lines = ["-- `%s` meets its contract: a walk of its MIR, written by `%s`. By hand is Proof/Facts.antt alone." % (w.path, made_by(w))]
     mine = w.types.module(w.path)[1]
@@ -197,11 +229,20 @@ def proof(w):
         lines += ["use %s as %s#" % (module, name), "use %s.Laws as %s′" % (module, name)]
     for g in used:
         m = w.types.module(g.path, w.path)[1]
+        if w.knot:
+            lines += ["use %s as %s" % (m, g.alias), "use %s.%s.{name as #%s}" % (m, "Key" if w.within(g) else "Symbol", g.alias)]
+            continue
         lines += ["use %s as %s" % (m, g.alias), "use %s.Symbol as %s-def" % (m, g.alias), "use %s.Symbol.{name as #%s}" % (m, g.alias),
                   "use %s.Met as %s-thm" % (m, g.alias)]
-    lines += ["use %s.Key.{name as #me}" % mine, "use %s as f" % mine, "use %s.Statement as stated" % mine, "use %s.Code as mine" % mine]
-    lines += ["use %s.Code.Mir as mir′" % mine] if w.loop else []
-    lines += ["use %s.Proof.%s as %s" % (mine, x, x.lower()) for x in ("Facts", "Said") if x.lower() + "." in body]
+    if w.knot:
+        lines += ["use %s as f" % mine, "use %s.Code as mine" % base, "use %s.Proof.Sizes as sizes" % base]
+        lines += ["use %s.Code.%s as mir′" % (base, w.f.name.replace("-", "_"))] if w.loop else []
+        inner = "%s.Proof.%s" % (base, w.f.name.replace("-", "_"))
+    else:
+        lines += ["use %s.Key.{name as #me}" % mine, "use %s as f" % mine, "use %s.Statement as stated" % mine, "use %s.Code as mine" % mine]
+        lines += ["use %s.Code.Mir as mir′" % mine] if w.loop else []
+        inner = mine + ".Proof"
+    lines += ["use %s.%s as %s" % (inner, x, x.lower()) for x in ("Facts", "Said") if x.lower() + "." in body]
     return "\n".join(lines) + "\n\n" + body
 
 

@@ -31,6 +31,14 @@ def groups(text):
     return out
 
 
+def bound(body):
+    """the names that a function's `let`s bind, in their order"""
+    out = []
+    for m in re.finditer(r"\blet (?:mut )?(?:([a-z_]\w*)|[A-Z][\w:]*\s*[({]([^)}]*)[)}])", body):
+        out += [m.group(1)] if m.group(1) else [x.strip() for x in m.group(2).split(",") if x.strip() not in ("", "_", "..")]
+    return out
+
+
 def tokens(text):
     return set(re.split(r"[\s(),{};]+", text))
 
@@ -83,7 +91,7 @@ class Source:
         clauses, _, body = ("\n" + m.group(3)).partition("\n{")
         texts = re.findall(r"^\s*(requires|ensures)(?: \w+)? \{(.*?)\}\s*?$(?=\n\s*(?:requires|ensures)(?: \w+)? \{|\s*\Z)", clauses, re.S | re.M)
         return Signature(params, m.group(2) or "()", [Clause(t) for k, t in texts if k == "requires"], [Clause(t) for k, t in texts if k == "ensures"],
-                         re.findall(r"\blet (?:mut )?(\w+)", body))
+                         bound(body))
 
     def fields(self, path):
         m = self.find(path, r"^(?:pub )?struct %s \{(.*?)^\}")
@@ -142,6 +150,14 @@ class Source:
                     for v in re.findall(r"^    ([A-Z]\w*)", m.group(1), re.M):
                         out["%s.%s" % (name, v)] = (base + ".the-variants", v)
         return out
+
+    def cycle(self, crate, name):
+        """the folder of the cycle of calls that a function is a member of, where its proof is by hand"""
+        for path in glob.glob(os.path.join(self.root, "crates", crate, "proofs", "+*")):
+            knot = os.path.basename(path)
+            if name in knot.split("+") and os.path.exists(os.path.join(path, "Proof", "Sizes.antt")):
+                return knot
+        return None
 
     def listed(self):
         """for each crate those that its line in crates.txt names"""

@@ -110,7 +110,7 @@ class Types:
         if isinstance(mir, list) and mir[0] == "tyNamed":
             d = self.declared(mir[1][1])
             return Row("(%s .type)" % d.name, "List (%s)" % d.denot, "plain (λ _. %s .type)" % d.name, d)
-        return Row(text, "List " + ("ℤ" if text[0] == "i" else "ℕ"), "plain (λ _. %s)" % text)
+        return Row(text, "List " + ("ℤ" if text[0] == "i" else "ℕ"), "plain (λ _. %s)" % text, Datum(BUILTIN[text]) if text in BUILTIN else None)
 
     def kind(self, name, text, mir):
         m = re.match(r"&(mut )?\[(.*)\]$", text)

@@ -90,8 +90,8 @@ class State:
 
 
 class Walk:
-    def __init__(self, path, mir, types, facts):
-        self.path, self.mir, self.types, self.facts = path, mir, types, facts
+    def __init__(self, path, mir, types, facts, knot=None):
+        self.path, self.mir, self.types, self.facts, self.knot = path, mir, types, facts, knot
         self.f = Function(path, mir, types)
         self.callees, self.structs, self.enums, self.elements, self.arrays = {}, {}, {}, {}, {}
         self.needed, self.numbers, self.total = [], {}, {}
@@ -142,6 +142,13 @@ class Walk:
         if path not in self.callees:
             self.callees[path] = Function(path, self.mir, self.types)
         return self.callees[path]
+
+    def within(self, g):
+        """whether a callee is a member of the same cycle"""
+        return bool(self.knot) and g.path.split("::")[-1] in self.knot.split("+")
+
+    def size(self, g, terms):
+        return " ".join(["sizes.%s-size" % g.name] + terms)
 
     def kind(self, name):
         return next(k for k in self.f.kinds if k.name == name)
@@ -216,7 +223,7 @@ class Walk:
                 continue
             if not rest and st.then:
                 (then, falls), st.then = st.then, None
-                return out + pad + self.assign(s, st, "-last") + pad + "%s _ $" % falls + self.go(then, st, ind)
+                return out + pad + ("skips ! $" if s == "skip" else self.assign(s, st, "-last")) + pad + "%s _ $" % falls + self.go(then, st, ind)
             if st.looping and not rest:
                 return out + pad + self.assign(s, st, "-last") + pad + self.again(st)
             if s[0] == "switch":
@@ -328,7 +335,7 @@ class Walk:
         term = "%s %s %s" % (x, {"add": "+", "mul": "*", "sub": "-"}[op], y)
         if op == "sub":
             dom = self.fact("fits", st, "%s ≤ %s" % (b.term, a.term))
-            bound = "omega (arith, %s .1)" % a.good
+            bound = "omega arith" if a.term.isdigit() else "omega (arith, %s .1)" % a.good
         else:
             bound = self.one_more(op, a, b, st) or self.fact("fits", st, "%s < 2 ^ %d" % (term, WIDTH[a.datum.name]))
             dom = "(record { fits = %s })" % bound
@@ -409,7 +416,7 @@ class Walk:
         e = st.entry(name, "in")
         ys, within = atom(e.value), self.fact("within", st, "%s < length %s" % (index.term, e.value))
         self.elements[name] = (row.type, size)
-        bound = "bytes-%s room-%s %s" % (name, name, within)
+        bound = "bytes-%s room-%s %s" % (name, name, "(omega (arith, %s, %s))" % (within, e.long) if e.long else within)
         text = "puts ! %d %d refl (bin ! (%s) (lit ! tt) (record { fits = %s })) tt (tt, record { fits = %s }) $" % (n, first, rule, bound, bound) + pad
         text += "puts ! %d %d refl (as-value ! (bin ! (part ! %d %s 0 refl refl tt refl refl refl) (var ! %d %d refl refl tt) tt)" % (
             n, place, n, offset[2][2][1][1], n, first) + pad
@@ -463,8 +470,13 @@ class Walk:
         terms = [t for p, k in zip(passed, f.kinds) for t in ([p.loan or "h-" + p.of, atom(p.value)] if k.borrow else [atom(p.term)])]
         ps = "(%s)" % " ".join(["for-" + f.alias] + terms) if terms else "for-" + f.alias
         goods = pairs([p.good for p, k in zip(passed, f.kinds) if not k.borrow])
-        text += "calls-by ! fm (Calls-%s 𝓤 H A mem run) known-%s (to %s) %s refl %s %s %s _ %s" % (
-            f.alias, f.alias, ps, ps, goods, self.asks(f, passed, ps, st), f.result.name, self.back(f, ps)) + pad
+        if self.within(f):
+            smaller = self.size(f, [atom(p.value if k.borrow else p.term) for p, k in zip(passed, f.kinds)])
+            less = self.fact("less-" + f.name, st, "%s < %s" % (smaller, self.size(self.f, [k.name for k in self.f.kinds])))
+            text += "calls-one ! fm (Calls-%s 𝓤 H A mem run) (to %s) (known-%s (to %s) %s) %s" % (f.alias, ps, f.alias, ps, less, ps)
+        else:
+            text += "calls-by ! fm (Calls-%s 𝓤 H A mem run) known-%s (to %s) %s" % (f.alias, f.alias, ps, ps)
+        text += " refl %s %s %s _ %s" % (goods, self.asks(f, passed, ps, st), f.result.name, self.back(f, ps)) + pad
         text += self.operands([r for r, _ in rules]) + self.returned(f, dest, passed, st) + pad
         self.open += 1
         return text + self.lands(f, dest, own, lends, passed, st, pad)

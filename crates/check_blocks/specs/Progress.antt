@@ -1,5 +1,6 @@
 -- The definitions' readers of a block with the tree forgotten, as the code's enums have it.
 use Prim.Native.Nat.{ℕ, _*_, _-_}
+use mathlib.Core.Bool.{Bool, true, false}
 use mathlib.Core.List.{List, []}
 use lib.ListN.{getD}
 use Rattle.language.specs.Text.{Block, formalNames}
@@ -36,3 +37,20 @@ statedOf body isAR o f0 f1 at ws = actionOf isAR o f1 at ws
 statedOf body isAD o f0 f1 at ws = actionOf isAD o f1 at ws
 statedOf body isRM o f0 f1 at ws = actionOf isRM o f1 at ws
 statedOf body isQY o f0 f1 at ws = actionOf isQY o f1 at ws
+
+-- a declaration that is no procedure; a statement that is no block
+abbrev pub plainOf : DeclMark → Bool
+plainOf isVR = true
+plainOf isLB = true
+plainOf isPR = false
+
+abbrev pub actionMark : StmtMark → Bool
+actionMark isBK = false
+actionMark isCL = true
+actionMark isGO = true
+actionMark isIF = true
+actionMark isKN = true
+actionMark isAR = true
+actionMark isAD = true
+actionMark isRM = true
+actionMark isQY = true

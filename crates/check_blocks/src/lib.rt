@@ -3,24 +3,45 @@
 // has not been read. The names of each level stand in one array, outermost first; one level more than may be nested is for the formals
 // of a procedure whose body is then refused as too deep.
 use check_bounds::MOST_NAMES;
+use check_fields::Reader;
 use check_marks::Mark;
 use check_records::Progress;
 use check_records::Reading;
 ghost use mathlib.Core.Path.{_≡_};
 ghost use Prim.Native.Nat.{_+_, _≤_};
 ghost use lib.ListN.{length, take};
-ghost use Rattle.language.specs.Structure as definitions;
+ghost use Rattle.language.specs.Structure.{blockWith, declarations as allDeclared, statements as allStated};
 ghost use Rattle.check_records.specs.Taking.{unread, forget};
 ghost use Rattle.check_names.specs.Naming.{namesAt};
 ghost use Rattle.check_bounds.specs.Marks.{declMarkOf, stmtMarkOf};
 ghost use Rattle.check_bounds.specs.Judging.{FewFormals};
-ghost use Rattle.check_blocks.specs.Progress.{baseOf, belowOf, statedOf};
+ghost use Rattle.check_blocks.specs.Progress.{baseOf, belowOf, statedOf, plainOf, actionMark};
 
 // Blocks inside each other, the program's own among them.
 pub const LEVELS: usize = 16;
 
 // The names of all levels: those of a block that has `left` levels left, its own included, from MOST_NAMES * (LEVELS - left) on.
 pub const PLACES: usize = MOST_NAMES * (LEVELS + 1);
+
+// Whether a declaration is no procedure.
+fn bodiless(mark: Mark) -> bool
+    ensures { λ r. ⌜ r ≡ plainOf (declMarkOf mark) ⌝ }
+{
+    match mark {
+        Mark::PR => false,
+        _ => true,
+    }
+}
+
+// Whether a statement is no block.
+fn is_action(mark: Mark) -> bool
+    ensures { λ r. ⌜ r ≡ actionMark (stmtMarkOf mark) ⌝ }
+{
+    match mark {
+        Mark::BK => false,
+        _ => true,
+    }
+}
 
 // A block whose BK has been taken, with so many names held for its formals and so many levels left.
 pub fn block(
@@ -34,7 +55,7 @@ pub fn block(
     left: usize,
 ) -> Progress
     requires { ⌜ (left ≤ 16) × (held ≤ 32) × (length (now names) ≡ 544) ⌝ }
-    ensures reads { λ r. ⌜ r ≡ forget (definitions.blockWith left at d s (namesAt (now (names .entry)) (baseOf left) held) next (unread (now (script .entry)) next)) ⌝ }
+    ensures reads { λ r. ⌜ r ≡ forget (blockWith left at d s (namesAt (now (names .entry)) (baseOf left) held) next (unread (now (script .entry)) next)) ⌝ }
     ensures keeps { λ r. ⌜ take (baseOf left) (now (names .exit)) ≡ take (baseOf left) (now (names .entry)) ⌝ }
 {
     let opened = check_bounds::block::opened(at, next, d, held, left);
@@ -52,22 +73,22 @@ pub fn block(
 fn declarations(
     script: &[u8],
     names: &mut [u32],
-    start: usize,
+    at: usize,
     d: usize,
     s: usize,
     held: usize,
     below: usize,
 ) -> Progress
     requires { ⌜ (below ≤ 15) × (held + d ≤ 32) × (length (now names) ≡ 544) ⌝ }
-    ensures reads { λ r. ⌜ r ≡ forget (definitions.declarations (definitions.blockWith below) s d (namesAt (now (names .entry)) (baseOf (below + 1)) held) start (unread (now (script .entry)) start)) ⌝ }
+    ensures reads { λ r. ⌜ r ≡ forget (allDeclared (blockWith below) s d (namesAt (now (names .entry)) (baseOf (below + 1)) held) at (unread (now (script .entry)) at)) ⌝ }
     ensures keeps { λ r. ⌜ take (baseOf (below + 1)) (now (names .exit)) ≡ take (baseOf (below + 1)) (now (names .entry)) ⌝ }
 {
     let base = MOST_NAMES * (LEVELS - (below + 1));
-    let mut at = start;
+    let mut reader = Reader { script, at };
     let mut i = 0;
     while i < d {
         let count = held + i;
-        let reading = check_bounds::declaration::heading(script, names, at, s, base, count);
+        let reading = check_readers::declaration_here(reader);
         let Reading::Taken {
             mark,
             next,
@@ -78,15 +99,29 @@ fn declarations(
         else {
             return check_records::onward(reading);
         };
+        let fit = check_bounds::declaration::fit(
+            names,
+            mark,
+            reader.at,
+            next,
+            f0,
+            f1,
+            s,
+            base,
+            count,
+        );
+        let Progress::At(_) = fit else {
+            return fit;
+        };
         let after = body(script, names, mark, next, f1 as usize, below);
         let Progress::At(end) = after else {
             return after;
         };
         names[base + count] = f0;
-        at = end;
+        reader.at = end;
         i += 1;
     }
-    Progress::At(at)
+    Progress::At(reader.at)
 }
 
 // What comes after a declaration's own record: a procedure's formals and body, and nothing after another's.
@@ -99,12 +134,12 @@ fn body(
     below: usize,
 ) -> Progress
     requires { ⌜ (below ≤ 15) × FewFormals (declMarkOf mark) p × (length (now names) ≡ 544) ⌝ }
-    ensures reads { λ r. ⌜ r ≡ belowOf (definitions.blockWith below) (declMarkOf mark) p start (unread (now (script .entry)) start) ⌝ }
+    ensures reads { λ r. ⌜ r ≡ belowOf (blockWith below) (declMarkOf mark) p start (unread (now (script .entry)) start) ⌝ }
     ensures keeps { λ r. ⌜ take (baseOf below) (now (names .exit)) ≡ take (baseOf below) (now (names .entry)) ⌝ }
 {
-    let Mark::PR = mark else {
+    if bodiless(mark) {
         return Progress::At(start);
-    };
+    }
     let base = MOST_NAMES * (LEVELS - below);
     let formals = check_names::formals::read_formals(script, names, start, p, base);
     let Progress::At(at) = formals else {
@@ -117,15 +152,15 @@ fn body(
     block(script, names, at, next, f0 as usize, f1 as usize, p, below)
 }
 
-fn statements(script: &[u8], names: &mut [u32], start: usize, s: usize, below: usize) -> Progress
+fn statements(script: &[u8], names: &mut [u32], at: usize, s: usize, below: usize) -> Progress
     requires { ⌜ (below ≤ 15) × (length (now names) ≡ 544) ⌝ }
-    ensures reads { λ r. ⌜ r ≡ forget (definitions.statements (definitions.blockWith below) s start (unread (now (script .entry)) start)) ⌝ }
+    ensures reads { λ r. ⌜ r ≡ forget (allStated (blockWith below) s at (unread (now (script .entry)) at)) ⌝ }
     ensures keeps { λ r. ⌜ take (baseOf below) (now (names .exit)) ≡ take (baseOf below) (now (names .entry)) ⌝ }
 {
-    let mut at = start;
+    let mut reader = Reader { script, at };
     let mut i = 0;
     while i < s {
-        let reading = check_readers::read_statement(script, at);
+        let reading = check_readers::statement_here(reader);
         let Reading::Taken {
             mark,
             next,
@@ -140,7 +175,7 @@ fn statements(script: &[u8], names: &mut [u32], start: usize, s: usize, below: u
             script,
             names,
             mark,
-            at,
+            reader.at,
             next,
             f0 as usize,
             f1 as usize,
@@ -149,10 +184,10 @@ fn statements(script: &[u8], names: &mut [u32], start: usize, s: usize, below: u
         let Progress::At(end) = after else {
             return after;
         };
-        at = end;
+        reader.at = end;
         i += 1;
     }
-    Progress::At(at)
+    Progress::At(reader.at)
 }
 
 // A statement whose record has been taken: a block inside, or an action.
@@ -167,11 +202,11 @@ fn statement(
     below: usize,
 ) -> Progress
     requires { ⌜ (below ≤ 15) × (next ≤ length (now script)) × (length (now names) ≡ 544) ⌝ }
-    ensures reads { λ r. ⌜ r ≡ statedOf (definitions.blockWith below) (stmtMarkOf mark) at f0 f1 next (unread (now (script .entry)) next) ⌝ }
+    ensures reads { λ r. ⌜ r ≡ statedOf (blockWith below) (stmtMarkOf mark) at f0 f1 next (unread (now (script .entry)) next) ⌝ }
     ensures keeps { λ r. ⌜ take (baseOf below) (now (names .exit)) ≡ take (baseOf below) (now (names .entry)) ⌝ }
 {
-    let Mark::BK = mark else {
+    if is_action(mark) {
         return check_bounds::statement::action(script, mark, at, next, f1);
-    };
+    }
     block(script, names, at, next, f0, f1, 0, below)
 }

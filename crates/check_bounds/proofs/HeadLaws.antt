@@ -15,8 +15,10 @@ use Rattle.check_records.specs.declared.Progress.{Progress}
 use Rattle.check_records.specs.declared.Progress.the-variants.{At, Refused}
 use Rattle.check_records.specs.declared.Reading.{Reading}
 use Rattle.check_records.specs.declared.Reading.the-variants.{Taken, Refused as Untaken}
+use Rattle.check_marks.specs.declared.Place.the-variants.{Declaration}
+use Rattle.check_records.specs.Taking.{recordAt}
 use Rattle.check_bounds.specs.Marks.{declMarkOf}
-use Rattle.check_bounds.specs.Judging.{rangedOf, onceAt, judged, headed, FewFormals}
+use Rattle.check_bounds.specs.Judging.{rangedOf, onceAt, judged, headed, headingAt, FewFormals}
 use Rattle.check_bounds.proofs.Marks.{ranged-label, ranged-no-label, ranged-few, ranged-many}
 
 once-at : (p : Progress) (b : Bool) (at from : ℕ) → onceAt p b at ≡ At from → p ≡ At from
@@ -45,31 +47,36 @@ module _ (at next f1 s from : ℕ) where
 pub own-at : (m : DeclMark) (at next f1 s from : ℕ) (b : Bool) → onceAt (rangedOf m at next f1 s) b at ≡ At from → (from ≡ next) × FewFormals m f1
 own-at m at next f1 s from b e = ranged-at at next f1 s from m (once-at (rangedOf m at next f1 s) b at from e)
 
--- as the code finds them, at a record x that reading gave as r
-module _ (at s : ℕ) (ns : List ℕ) {r x : Reading} (same : r ≡ x) where
-  pub head-untaken : {c : Refusal} {o : ℕ} → r ≡ Untaken c o → r ≡ headed x at s ns
+-- as the code finds them: p is what the second field comes to, b whether the name is held
+module _ (at : ℕ) {p w : Progress} (is : p ≡ w) where
+  pub once-unfit : (c : Bool) {k : Refusal} {o : ℕ} → p ≡ Refused k o → p ≡ onceAt w c at
+  unfolding onceAt
+  once-unfit c e = e ∙ sym (ap (λ y. onceAt y c at) (sym is ∙ e))
+
+  module _ {b c : Bool} {n : ℕ} (e : p ≡ At n) (held : b ≡ c) where
+    pub once-twice : b ≡ true → Refused NameTwice at ≡ onceAt w c at
+    unfolding onceAt
+    once-twice t = sym (ap₂ (λ y z. onceAt y z at) (sym is ∙ e) (sym held ∙ t))
+
+    pub once-new : b ≡ false → p ≡ onceAt w c at
+    unfolding onceAt
+    once-new t = e ∙ sym (ap₂ (λ y z. onceAt y z at) (sym is ∙ e) (sym held ∙ t))
+
+-- the record read there, by what it comes to
+module _ (bs : List ℕ) (at s : ℕ) (ns : List ℕ) {x : Reading} (f : x ≡ recordAt Declaration bs at) where
+  pub heading-none : {k : Refusal} {o : ℕ} → x ≡ Untaken k o → headingAt bs at s ns ≡ Untaken k o
   unfolding headed
-  head-untaken e = e ∙ sym (ap (λ y. headed y at s ns) (sym same ∙ e))
+  heading-none g = ap (λ z. headed z at s ns) (sym f ∙ g)
 
-  module _ {m : Mark} {next f0 f1 f2 f3 : ℕ} {p : Progress} (e : r ≡ Taken m next f0 f1 f2 f3) (q : p ≡ rangedOf (declMarkOf m) at next f1 s) where
-    tested : (y : Progress) (b : Bool) → p ≡ y → among f0 ns ≡ b → headed x at s ns ≡ judged (onceAt y b at) (Taken m next f0 f1 f2 f3)
-    unfolding headed
-    tested y b w v = ap (λ z. headed z at s ns) (sym same ∙ e) ∙ ap₂ (λ y z. judged (onceAt y z at) (Taken m next f0 f1 f2 f3)) (sym q ∙ w) v
+  module _ {m : Mark} {next f0 f1 f2 f3 : ℕ} (g : x ≡ Taken m next f0 f1 f2 f3) {p : Progress} (e : p ≡ onceAt (rangedOf (declMarkOf m) at next f1 s) (among f0 ns) at) where
+    pub heading-unfit : {k : Refusal} {o : ℕ} → p ≡ Refused k o → headingAt bs at s ns ≡ Untaken k o
+    unfolding headed judged
+    heading-unfit q = ap (λ z. headed z at s ns) (sym f ∙ g) ∙ ap (λ y. judged y (Taken m next f0 f1 f2 f3)) (sym e ∙ q)
 
-    pub head-unfit : {c : Refusal} {o : ℕ} → p ≡ Refused c o → Untaken c o ≡ headed x at s ns
-    unfolding judged onceAt
-    head-unfit {c} {o} w = sym (tested (Refused c o) (among f0 ns) w refl)
+    pub heading-taken : {n : ℕ} → p ≡ At n → headingAt bs at s ns ≡ Taken m next f0 f1 f2 f3
+    unfolding headed judged
+    heading-taken q = ap (λ z. headed z at s ns) (sym f ∙ g) ∙ ap (λ y. judged y (Taken m next f0 f1 f2 f3)) (sym e ∙ q)
 
-    module _ {from : ℕ} {b : Bool} (w : p ≡ At from) (v : b ≡ among f0 ns) where
-      pub head-twice : b ≡ true → Untaken NameTwice at ≡ headed x at s ns
-      unfolding judged onceAt
-      head-twice t = sym (tested (At from) true w (sym v ∙ t))
-
-      pub head-new : b ≡ false → Taken m next f0 f1 f2 f3 ≡ headed x at s ns
-      unfolding judged onceAt
-      head-new t = sym (tested (At from) false w (sym v ∙ t))
-
--- what they say of the record and of its tests
 pub judged-refused : (p : Progress) (m : Mark) (next f0 f1 f2 f3 : ℕ) {c : Refusal} {o : ℕ} → judged p (Taken m next f0 f1 f2 f3) ≡ Untaken c o → p ≡ Refused c o
 unfolding judged
 judged-refused (At from) m next f0 f1 f2 f3 e = let z : _≡_ {A = ℕ} 0 1 = cc in absurd (omega arith)

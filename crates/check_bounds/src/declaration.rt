@@ -2,15 +2,14 @@
 use super::MOST_NAMES;
 use check_marks::Mark;
 use check_records::Progress;
-use check_records::Reading;
 use language::Refusal;
 ghost use mathlib.Core.Path.{_≡_};
 ghost use Prim.Native.Nat.{_+_, _≤_};
 ghost use lib.ListN.{length};
-ghost use Rattle.check_records.specs.Taking.{Within};
+ghost use Rattle.language.specs.Basics.{among};
 ghost use Rattle.check_names.specs.Naming.{namesAt};
 ghost use Rattle.check_bounds.specs.Marks.{declMarkOf};
-ghost use Rattle.check_bounds.specs.Judging.{rangedOf, headingAt};
+ghost use Rattle.check_bounds.specs.Judging.{rangedOf, onceAt};
 
 // The second field: 4 for a label's index, 7 for a procedure's p.
 fn ranged(mark: Mark, at: usize, next: usize, f1: usize, s: usize) -> Progress
@@ -37,36 +36,26 @@ fn ranged(mark: Mark, at: usize, next: usize, f1: usize, s: usize) -> Progress
 }
 
 // The record at an offset, in a block of s statements that has count names from a base on.
-pub fn heading(
-    script: &[u8],
+pub fn fit(
     names: &[u32],
+    mark: Mark,
     at: usize,
+    next: usize,
+    f0: u32,
+    f1: u32,
     s: usize,
     base: usize,
     count: usize,
-) -> Reading
+) -> Progress
     requires { ⌜ base + count ≤ length (now names) ⌝ }
-    ensures { λ r. ⌜ (r ≡ headingAt (now (script .entry)) at s (namesAt (now (names .entry)) base count)) × Within (length (now (script .entry))) at r ⌝ }
+    ensures { λ r. ⌜ r ≡ onceAt (rangedOf (declMarkOf mark) at next f1 s) (among f0 (namesAt (now (names .entry)) base count)) at ⌝ }
 {
-    let reading = check_readers::read_declaration(script, at);
-    let Reading::Taken {
-        mark,
-        next,
-        f0,
-        f1,
-        ..
-    } = reading
-    else {
-        return reading;
+    let ranged = ranged(mark, at, next, f1 as usize, s);
+    let Progress::At(_) = ranged else {
+        return ranged;
     };
-    let fit = ranged(mark, at, next, f1 as usize, s);
-    match fit {
-        Progress::At(_) => {
-            if check_names::seen(names, base, count, f0) {
-                return Reading::Refused(Refusal::NameTwice, at);
-            }
-            reading
-        }
-        Progress::Refused(c, o) => Reading::Refused(c, o),
+    if check_names::seen(names, base, count, f0) {
+        return Progress::Refused(Refusal::NameTwice, at);
     }
+    ranged
 }

@@ -1,7 +1,7 @@
 // A procedure's formals: 4 for a kind that there is not, then 8 for a name that stands twice.
 use super::seen;
 use check_fields::Reader;
-use check_readers::formal;
+use check_readers::formal_here;
 use check_records::Progress;
 use check_records::Reading;
 use language::Refusal;
@@ -47,7 +47,7 @@ pub fn read_formals(script: &[u8], names: &mut [u32], at: usize, p: usize, base:
     let mut reader = Reader { script, at };
     let mut i = 0;
     while i < p {
-        let reading = formal(reader);
+        let reading = formal_here(reader);
         let after = hold(names, base, i, reader.at, reading);
         let Progress::At(next) = after else {
             return after;

@@ -18,25 +18,25 @@ ghost use Rattle.language.specs.Structure as definitions;
 ghost use Rattle.check_records.specs.Taking.{unread, forget, recordAt, Within};
 
 // The record at the reader's position, by the place where it stands.
-fn block<'a>(r: Reader<'a>) -> Reading
+fn block_here<'a>(r: Reader<'a>) -> Reading
     ensures { λ o. ⌜ (o ≡ recordAt Place.Block (now (r .entry .script)) (r .entry .at)) × Within (length (now (r .entry .script))) (r .entry .at) o ⌝ }
 {
     block_at(r.script, r.at)
 }
 
-pub fn formal<'a>(r: Reader<'a>) -> Reading
+pub fn formal_here<'a>(r: Reader<'a>) -> Reading
     ensures { λ o. ⌜ (o ≡ recordAt Place.Formal (now (r .entry .script)) (r .entry .at)) × Within (length (now (r .entry .script))) (r .entry .at) o ⌝ }
 {
     formal_at(r.script, r.at)
 }
 
-fn declaration<'a>(r: Reader<'a>) -> Reading
+pub fn declaration_here<'a>(r: Reader<'a>) -> Reading
     ensures { λ o. ⌜ (o ≡ recordAt Place.Declaration (now (r .entry .script)) (r .entry .at)) × Within (length (now (r .entry .script))) (r .entry .at) o ⌝ }
 {
     declaration_at(r.script, r.at)
 }
 
-fn statement<'a>(r: Reader<'a>) -> Reading
+pub fn statement_here<'a>(r: Reader<'a>) -> Reading
     ensures { λ o. ⌜ (o ≡ recordAt Place.Statement (now (r .entry .script)) (r .entry .at)) × Within (length (now (r .entry .script))) (r .entry .at) o ⌝ }
 {
     statement_at(r.script, r.at)
@@ -53,19 +53,7 @@ fn fields_left<'a>(r: Reader<'a>) -> usize
 pub fn read_block(script: &[u8], at: usize) -> Reading
     ensures { λ r. ⌜ (r ≡ recordAt Place.Block (now (script .entry)) at) × Within (length (now (script .entry))) at r ⌝ }
 {
-    block(reader_at(script, at))
-}
-
-pub fn read_declaration(script: &[u8], at: usize) -> Reading
-    ensures { λ r. ⌜ (r ≡ recordAt Place.Declaration (now (script .entry)) at) × Within (length (now (script .entry))) at r ⌝ }
-{
-    declaration(reader_at(script, at))
-}
-
-pub fn read_statement(script: &[u8], at: usize) -> Reading
-    ensures { λ r. ⌜ (r ≡ recordAt Place.Statement (now (script .entry)) at) × Within (length (now (script .entry))) at r ⌝ }
-{
-    statement(reader_at(script, at))
+    block_here(reader_at(script, at))
 }
 
 fn left(script: &[u8], at: usize) -> usize

@@ -83,7 +83,9 @@ module _ {M : Type 1} {𝓤 : URA M} {H : Heap 𝓤} {A : Atoms 𝓤} {K : Type 
 
 module _ {M : Type 1} {𝓤 : URA M} {H : Heap 𝓤} {A : Atoms 𝓤} {K : Type 0} {W : Given 𝓤 H A} {Γ : List
     (Item 𝓤)} {E : Env 𝓤 H} {C : Calls 𝓤 H} {Λ : Loops 𝓤 H} {q : Post 𝓤 H} {d : Place} {rest : Body} where
-  pub calls-by : K → {f : Name} {xs : List Operand} → FmC 𝓤 H (W .laws) C → (c : Contract 𝓤) → Triple 𝓤 (C f) c → (x : c .Ghost) (ps : List Par)
+  -- by one instance of the callee's contract, as a member of a cycle has it
+  pub calls-one : K → {f : Name} {xs : List Operand} → FmC 𝓤 H (W .laws) C → (c : Contract 𝓤) (x : c .Ghost) → ent 𝓤 (c .pre x) (C f (c .args x) (c .post x))
+      → (ps : List Par)
       → head (count ps) Γ ≡ ins 𝓤 ps → Goods ps → (φ : Type 0) → φ
       → ent 𝓤 (sep 𝓤 (sep 𝓤 (alive 𝓤 H A ps) (owning 𝓤 H A 0 ps)) (fact 𝓤 φ)) (c .pre x)
       → (D : Datum) (ψ : D .type .Denot → Bounds 0 ps → Type 0) → ((v : Val) → ent 𝓤 (c .post x v) (Given-back 𝓤 H A ps (D .type) ψ v))
@@ -91,13 +93,13 @@ module _ {M : Type 1} {𝓤 : URA M} {H : Heap 𝓤} {A : Atoms 𝓤} {K : Type 
       → ((r : D .type .Denot) (ws : Bounds 0 ps) → Good D r → ψ r ws → Sames 0 ps ws → Seq K W (outs 𝓤 0 ps ws ++ tail (count ps) Γ)
       (lands C Λ E d (D .val r) rest q))
       → Seq K W Γ (runs C Λ E (seq (call f xs d) rest) q)
-  calls-by t {f} {xs} fm c known x ps stand goods φ p pre D ψ post os k = record {
+  calls-one t {f} {xs} fm c x known ps stand goods φ p pre D ψ post os k = record {
     prf = via 𝓤 (evalOpds 𝓤 H E xs (λ us. C f us onward)) (os .go (λ us. C f us onward)
         (via 𝓤 (sep 𝓤 (⋆ 𝓤 H A (ins 𝓤 ps)) Rest) (subst (λ (Δ : List (Item 𝓤)). ent 𝓤 (⋆ 𝓤 H A Γ) (sep 𝓤 (⋆ 𝓤 H A Δ) Rest)) stand (cut-at 𝓤 H A (count ps) Γ))
         (via 𝓤 (sep 𝓤 (sep 𝓤 asks Kp) Rest) (monoL 𝓤 Rest (passes 𝓤 H A W 0 ps goods))
         (via 𝓤 (sep 𝓤 asks (sep 𝓤 Kp Rest)) (assoc∗ 𝓤 asks Kp Rest)
         (via 𝓤 (sep 𝓤 (C f (c .args x) (c .post x)) (sep 𝓤 Kp Rest)) (monoL 𝓤 (sep 𝓤 Kp Rest) (via 𝓤 (c .pre x) (via 𝓤 (sep 𝓤 asks (fact 𝓤 φ)) with-fact pre)
-        (known x)))
+        known))
         (fm f (c .args x) (c .post x) onward (sep 𝓤 Kp Rest) (λ v.
         via 𝓤 (sep 𝓤 (Given-back 𝓤 H A ps (D .type) ψ v) (sep 𝓤 Kp Rest)) (monoL 𝓤 (sep 𝓤 Kp Rest) (post v))
         (via 𝓤 (⋆ 𝓤 H A (back 𝓤 H A ps (D .type) ψ v ∷ ‵ (kepts ps) ∷ tail (count ps) Γ)) (monoR 𝓤 (Given-back 𝓤 H A ps (D .type) ψ v)
@@ -120,3 +122,13 @@ module _ {M : Type 1} {𝓤 : URA M} {H : Heap 𝓤} {A : Atoms 𝓤} {K : Type 
 
       with-fact : ent 𝓤 asks (sep 𝓤 asks (fact 𝓤 φ))
       with-fact = via 𝓤 (sep 𝓤 (emp 𝓤) asks) (emp∗ 𝓤 asks) (via 𝓤 (sep 𝓤 (fact 𝓤 φ) asks) (monoL 𝓤 asks (factI 𝓤 φ (emp 𝓤) p)) (comm∗ 𝓤 (fact 𝓤 φ) asks))
+
+  pub calls-by : K → {f : Name} {xs : List Operand} → FmC 𝓤 H (W .laws) C → (c : Contract 𝓤) → Triple 𝓤 (C f) c → (x : c .Ghost) (ps : List Par)
+      → head (count ps) Γ ≡ ins 𝓤 ps → Goods ps → (φ : Type 0) → φ
+      → ent 𝓤 (sep 𝓤 (sep 𝓤 (alive 𝓤 H A ps) (owning 𝓤 H A 0 ps)) (fact 𝓤 φ)) (c .pre x)
+      → (D : Datum) (ψ : D .type .Denot → Bounds 0 ps → Type 0) → ((v : Val) → ent 𝓤 (c .post x v) (Given-back 𝓤 H A ps (D .type) ψ v))
+      → Opds K W Γ E xs (c .args x)
+      → ((r : D .type .Denot) (ws : Bounds 0 ps) → Good D r → ψ r ws → Sames 0 ps ws → Seq K W (outs 𝓤 0 ps ws ++ tail (count ps) Γ)
+      (lands C Λ E d (D .val r) rest q))
+      → Seq K W Γ (runs C Λ E (seq (call f xs d) rest) q)
+  calls-by t fm c known x = calls-one t fm c x (known x)

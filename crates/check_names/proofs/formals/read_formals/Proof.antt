@@ -50,10 +50,10 @@ use denote.Enum.Laws as enum-laws
 use Rattle.check_records.specs.declared.Progress.the-variants as Progress·
 use Rattle.check_records.proofs.Progress as Progress#
 use Rattle.check_records.proofs.Progress.Laws as Progress′
-use Rattle.check_readers.proofs.formal as formal
-use Rattle.check_readers.proofs.formal.Symbol as formal-def
-use Rattle.check_readers.proofs.formal.Symbol.{name as #formal}
-use Rattle.check_readers.proofs.formal.Met as formal-thm
+use Rattle.check_readers.proofs.formal_here as formal-here
+use Rattle.check_readers.proofs.formal_here.Symbol as formal-here-def
+use Rattle.check_readers.proofs.formal_here.Symbol.{name as #formal-here}
+use Rattle.check_readers.proofs.formal_here.Met as formal-here-thm
 use Rattle.check_names.proofs.formals.hold as hold
 use Rattle.check_names.proofs.formals.hold.Symbol as hold-def
 use Rattle.check_names.proofs.formals.hold.Symbol.{name as #hold}
@@ -66,11 +66,11 @@ use Rattle.check_names.proofs.formals.read_formals.Code.Mir as mir′
 use Rattle.check_names.proofs.formals.read_formals.Proof.Facts as facts
 use Rattle.check_names.proofs.formals.read_formals.Proof.Said as said
 
-abbrev Calls-formal : {M : Type 1} (𝓤 : URA M) (H : Heap 𝓤) (A : Atoms 𝓤) → (Memory → SProp 𝓤) → (Routine → Fun 𝓤) → Contract 𝓤
-Calls-formal 𝓤 H A mem run = tripleOf 𝓤 H A formal.signature (formal.spec 𝓤 H A mem run)
+abbrev Calls-formal-here : {M : Type 1} (𝓤 : URA M) (H : Heap 𝓤) (A : Atoms 𝓤) → (Memory → SProp 𝓤) → (Routine → Fun 𝓤) → Contract 𝓤
+Calls-formal-here 𝓤 H A mem run = tripleOf 𝓤 H A formal-here.signature (formal-here.spec 𝓤 H A mem run)
 
-abbrev for-formal : Loan → List ℕ → ℕ → List Par
-for-formal h0 x0 x1 = brw (shrSlice u8) h0 x0 ∷ dat usizes x1 ∷ []
+abbrev for-formal-here : Loan → List ℕ → ℕ → List Par
+for-formal-here h0 x0 x1 = brw (shrSlice u8) h0 x0 ∷ dat usizes x1 ∷ []
 
 abbrev Calls-hold : {M : Type 1} (𝓤 : URA M) (H : Heap 𝓤) (A : Atoms 𝓤) → (Memory → SProp 𝓤) → (Routine → Fun 𝓤) → Contract 𝓤
 Calls-hold 𝓤 H A mem run = tripleOf 𝓤 H A hold.signature (hold.spec 𝓤 H A mem run)
@@ -124,7 +124,7 @@ module _ {M : Type 1} (𝓤 : URA M) (H : Heap 𝓤) (A : Atoms 𝓤) (W : Given
   size t = facts.size script names at p base pre (t .state)
 
   module _ (𝓣 : Tables 𝓤 H)
-      (known-formal : Triple 𝓤 (𝓣 .C #formal) (Calls-formal 𝓤 H A mem run))
+      (known-formal-here : Triple 𝓤 (𝓣 .C #formal-here) (Calls-formal-here 𝓤 H A mem run))
       (known-hold : Triple 𝓤 (𝓣 .C #hold) (Calls-hold 𝓤 H A mem run)) where
     fm : FmC 𝓤 H (W .laws) (𝓣 .C)
     fm = fmOf 𝓤 H (W .laws) 𝓣
@@ -144,7 +144,7 @@ module _ {M : Type 1} (𝓤 : URA M) (H : Heap 𝓤) (A : Atoms 𝓤) (W : Given
           tests ! (var ! 2 11 refl refl tt)
           (λ y1.
           puts ! 2 12 refl (of-opd ! (var ! 2 6 refl refl tt)) tt (tt, ((tt, (record { fits = room-script .0 }, tt)), (record { fits = (t .good-reader) .1 }, tt))) $
-          calls-by ! fm (Calls-formal 𝓤 H A mem run) known-formal (to-reader κ0 q0 script# (t .state .reader)) (for-formal h-script script (t .state .reader)) refl ((t .good-reader), tt) (Unit {0}) tt (asks-reader κ0 q0 script# (t .state .reader) 𝓤 H A W) readings _ (says-reader κ0 q0 script# (t .state .reader) 𝓤 H A W (readings .type) _)
+          calls-by ! fm (Calls-formal-here 𝓤 H A mem run) known-formal-here (to-reader κ0 q0 script# (t .state .reader)) (for-formal-here h-script script (t .state .reader)) refl ((t .good-reader), tt) (Unit {0}) tt (asks-reader κ0 q0 script# (t .state .reader) 𝓤 H A W) readings _ (says-reader κ0 q0 script# (t .state .reader) 𝓤 H A W (readings .type) _)
           (and-then ! (var ! 2 12 refl refl tt) (no-more !)) (λ reading1 _ g-reading1 e1 _.
           lands-in ! 2 8 refl tt (typed 𝓤 H A W readings reading1 g-reading1) $
           puts ! 2 13 refl (lent-ptr ! 2 2 refl refl tt refl refl) tt (tt, tt) $
@@ -178,13 +178,13 @@ module _ {M : Type 1} (𝓤 : URA M) (H : Heap 𝓤) (A : Atoms 𝓤) (W : Given
         forgets ! 2 (8 ∷ 9 ∷ 10 ∷ 11 ∷ 12 ∷ 13 ∷ 14 ∷ 15 ∷ 16 ∷ []) refl tt $ first ! $ blocks ! $ loops ! 𝓣 (by-size size) (by-size-wf size) (Inv β) (turn β) (record { state = (facts.start script names at p base pre); good-reader = g-at; good-i = (refl, omega arith); long-names = refl })))
 
 module _ {M : Type 1} (𝓤 : URA M) (H : Heap 𝓤) (A : Atoms 𝓤) (W : Given 𝓤 H A) (mem : Memory → SProp 𝓤) (run : Routine → Fun 𝓤) (𝓣 : Tables 𝓤 H)
-    (known-formal : Triple 𝓤 (𝓣 .C #formal) (Calls-formal 𝓤 H A mem run))
+    (known-formal-here : Triple 𝓤 (𝓣 .C #formal-here) (Calls-formal-here 𝓤 H A mem run))
     (known-hold : Triple 𝓤 (𝓣 .C #hold) (Calls-hold 𝓤 H A mem run)) where
   walks : Walks 𝓤 H A f.ended stayed (WpFn 𝓤 H (𝓣 .C) (𝓣 .Λ) mine.function) (f.clauses 𝓤 H A mem run)
   walks = walked 𝓤 H A f.ended stayed (f.clauses 𝓤 H A mem run) (WpFn 𝓤 H (𝓣 .C) (𝓣 .Λ) mine.function)
       (λ κs. (slice-vals, (slice-vals, ((λ (x : ℕ). usizes .val x ∷ []), ((λ (x : ℕ). usizes .val x ∷ []), ((λ (x : ℕ). usizes .val x ∷ []), tt))))))
       (λ κs. (shr-slice-tells (named 0) (κs .0) u8, (mut-slice-tells (named 1) (κs .1 .0) u32, (usizes .tells, (usizes .tells, (usizes .tells, tt))))))
-      (λ κs qs bounds a g are. needs 𝓤 (said.Pre ((a .1 .0) .now) (a .1 .1 .1 .0) (a .1 .1 .1 .1 .0)) _ (λ pre. walk 𝓤 H A W mem run (κs .0) (κs .1 .0) (qs .0) (qs .1 .0) (a .0) (a .1 .0) (a .1 .1 .0) (a .1 .1 .1 .0) (a .1 .1 .1 .1 .0) (are .0 .0 .1) (are .1 .0 .0 .1) (are .1 .1 .0) (are .1 .1 .1 .0) (are .1 .1 .1 .1 .0) pre 𝓣 known-formal known-hold))
+      (λ κs qs bounds a g are. needs 𝓤 (said.Pre ((a .1 .0) .now) (a .1 .1 .1 .0) (a .1 .1 .1 .1 .0)) _ (λ pre. walk 𝓤 H A W mem run (κs .0) (κs .1 .0) (qs .0) (qs .1 .0) (a .0) (a .1 .0) (a .1 .1 .0) (a .1 .1 .1 .0) (a .1 .1 .1 .1 .0) (are .0 .0 .1) (are .1 .0 .0 .1) (are .1 .1 .0) (are .1 .1 .1 .0) (are .1 .1 .1 .1 .0) pre 𝓣 known-formal-here known-hold))
 
   meets : Meets 𝓤 H A f.signature (WpFn 𝓤 H (𝓣 .C) (𝓣 .Λ) mine.function) (f.spec 𝓤 H A mem run)
   meets = walk-meets 𝓤 H A f.ended stayed W (goes-none-slice 𝓤 H A W 2 (0 ∷ []) tt (plain (λ _. u8)) yes, (goes-gave-slice 𝓤 H A W 2 1 tt (plain (λ _. u32)), (goes-none 𝓤 H A W 2 (λ _. usizes .type) yes (λ κs x f. refl), (goes-none 𝓤 H A W 2 (λ _. usizes .type) yes (λ κs x f. refl), (goes-none 𝓤 H A W 2 (λ _. usizes .type) yes (λ κs x f. refl), tt)))))
@@ -196,5 +196,5 @@ read-formals-spec 𝓤 H 𝓜 𝓖 𝓡 =
     entered 𝓤 H (tripleOf 𝓤 H (𝓖 .A) f.signature (f.spec 𝓤 H (𝓖 .A) (𝓜 .mem) (𝓡 .run)))
     (tables 𝓤 H 𝓜 𝓡 mine.env .C) (tables 𝓤 H 𝓜 𝓡 mine.env .Λ) #me mine.function (mine.unfolded 𝓤 H 𝓜 𝓡)
     (meets 𝓤 H (𝓖 .A) (givenOf 𝓤 H 𝓜 𝓖) (𝓜 .mem) (𝓡 .run) (tablesOf 𝓤 H 𝓜 (tables 𝓤 H 𝓜 𝓡 mine.env))
-    (cited 𝓤 H (Calls-formal 𝓤 H (𝓖 .A) (𝓜 .mem) (𝓡 .run)) 𝓜 𝓡 mine.env #formal formal-def.routine mine.calls-check-readers·formal (formal-thm.met 𝓤 H 𝓜 𝓖 𝓡))
+    (cited 𝓤 H (Calls-formal-here 𝓤 H (𝓖 .A) (𝓜 .mem) (𝓡 .run)) 𝓜 𝓡 mine.env #formal-here formal-here-def.routine mine.calls-check-readers·formal-here (formal-here-thm.met 𝓤 H 𝓜 𝓖 𝓡))
     (cited 𝓤 H (Calls-hold 𝓤 H (𝓖 .A) (𝓜 .mem) (𝓡 .run)) 𝓜 𝓡 mine.env #hold hold-def.routine mine.calls-check-names·formals·hold (hold-thm.met 𝓤 H 𝓜 𝓖 𝓡)))

@@ -17,8 +17,8 @@ Pre names p base = base + p ≤ length names
 abbrev pub Said : List ℕ → List ℕ → ℕ → ℕ → ℕ → progresses .type .Denot → List ℕ → Type 0
 Said script names at p base r names′ = (r ≡ forget (formals p [] at (unread script at))) × ((NamesOf (formals p [] at (unread script at)) (namesAt names′ base p)) × (take base names′ ≡ take base names))
 
-abbrev pub formal-says : List ℕ → ℕ → readings .type .Denot → Type 0
-formal-says r-script r-at o = (o ≡ recordAt Formal r-script r-at) × Within (length r-script) r-at o
+abbrev pub formal-here-says : List ℕ → ℕ → readings .type .Denot → Type 0
+formal-here-says r-script r-at o = (o ≡ recordAt Formal r-script r-at) × Within (length r-script) r-at o
 
 abbrev pub hold-asks : List ℕ → ℕ → ℕ → Type 0
 hold-asks names base count = base + count < length names

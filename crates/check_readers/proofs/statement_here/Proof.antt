@@ -1,4 +1,4 @@
--- `check_readers::statement` meets its contract: a reader is taken apart, and `statement_at` is called on its fields.
+-- `check_readers::statement_here` meets its contract: a reader is taken apart, and `statement_at` is called on its fields.
 -- Assumes nothing.
 use mathlib.Core.Path.{refl}
 use base.Logic.{id⊢}
@@ -9,14 +9,14 @@ use Rattle.check_records.proofs.Reading.Laws as R′
 use Rattle.check_records.proofs.statement_at as g
 use Rattle.check_records.proofs.statement_at.Symbol as g-def
 use Rattle.check_records.proofs.statement_at.Met as g-thm
-use Rattle.check_readers.proofs.statement as f
-use Rattle.check_readers.proofs.statement.Key as key
-use Rattle.check_readers.proofs.statement.Statement.{statement}
-use Rattle.check_readers.proofs.statement.Code as code
+use Rattle.check_readers.proofs.statement_here as f
+use Rattle.check_readers.proofs.statement_here.Key as key
+use Rattle.check_readers.proofs.statement_here.Statement.{statement}
+use Rattle.check_readers.proofs.statement_here.Code as code
 
-pub statement-spec : {M : Type 1} → statement M
+pub statement-here-spec : {M : Type 1} → statement M
 unfolding code.routine
-statement-spec 𝓤 H 𝓜 𝓖 𝓡 =
+statement-here-spec 𝓤 H 𝓜 𝓖 𝓡 =
     apart-meets 𝓤 H 𝓜 𝓖 𝓡 code.env R.the-row R′.mir (reading-typed 𝓤 H 𝓜 𝓖) g-def.name g-def.routine code.calls-check-records·statement-at key.name
     (f.clauses 𝓤 H (𝓖 .A) (𝓜 .mem) (𝓡 .run)) (g.clauses 𝓤 H (𝓖 .A) (𝓜 .mem) (𝓡 .run))
     (λ κs d _. tt) (λ κs d _. id⊢ 𝓤 _) _ (λ κs d _ o z. refl) _ (λ κs d _ o z. refl) (λ κs d o said. said) (g-thm.met 𝓤 H 𝓜 𝓖 𝓡) (code.unfolded 𝓤 H 𝓜 𝓡)
