@@ -1,8 +1,10 @@
 // A block of a script: its declarations with their bodies, and its statements. A block stands in a body and in a statement again, so
 // the functions call each other in a cycle; each call has fewer bytes to read. No count is trusted: room is taken for no record that
 // has not been read. The names of each level stand in one array, outermost first; one level more than may be nested is for the formals
-// of a procedure whose body is then refused as too deep.
+// of a procedure whose body is then refused as too deep. The borrow checker covers no function that has a reader, and no member of a cycle that has
+// such a member, so the five are walked by hand and leave the judging to functions that have none.
 use check_bounds::MOST_NAMES;
+use check_bounds::declaration::fit;
 use check_fields::Reader;
 use check_marks::Mark;
 use check_records::Progress;
@@ -69,7 +71,7 @@ pub fn block(
     statements(script, names, rest, s, left - 1)
 }
 
-// d declarations of a block with s statements. Their names are put after those held, at the block's own level.
+// d declarations of a block with s statements, handed out by one reader. Their names are put after those held, at the block's own level.
 fn declarations(
     script: &[u8],
     names: &mut [u32],
@@ -99,19 +101,9 @@ fn declarations(
         else {
             return check_records::onward(reading);
         };
-        let fit = check_bounds::declaration::fit(
-            names,
-            mark,
-            reader.at,
-            next,
-            f0,
-            f1,
-            s,
-            base,
-            count,
-        );
-        let Progress::At(_) = fit else {
-            return fit;
+        let judged = fit(names, mark, reader.at, next, f0, f1, s, base, count);
+        let Progress::At(_) = judged else {
+            return judged;
         };
         let after = body(script, names, mark, next, f1 as usize, below);
         let Progress::At(end) = after else {
@@ -152,6 +144,7 @@ fn body(
     block(script, names, at, next, f0 as usize, f1 as usize, p, below)
 }
 
+// s statements, handed out by one reader.
 fn statements(script: &[u8], names: &mut [u32], at: usize, s: usize, below: usize) -> Progress
     requires { ⌜ (below ≤ 15) × (length (now names) ≡ 544) ⌝ }
     ensures reads { λ r. ⌜ r ≡ forget (allStated (blockWith below) s at (unread (now (script .entry)) at)) ⌝ }

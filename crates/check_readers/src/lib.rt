@@ -49,7 +49,7 @@ fn fields_left<'a>(r: Reader<'a>) -> usize
     fields_from(r.script, r.at)
 }
 
-// The same at an offset: a reader is made there. A reading tells where the next record begins, and there the next reader is made.
+// The same at an offset, where a reader is made.
 pub fn read_block(script: &[u8], at: usize) -> Reading
     ensures { λ r. ⌜ (r ≡ recordAt Place.Block (now (script .entry)) at) × Within (length (now (script .entry))) at r ⌝ }
 {

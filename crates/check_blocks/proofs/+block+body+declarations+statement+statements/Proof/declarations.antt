@@ -180,10 +180,10 @@ module _ {M : Type 1} (𝓤 : URA M) (H : Heap 𝓤) (A : Atoms 𝓤) (W : Given
           puts ! 2 26 refl (of-opd ! (part ! 2 9 1 refl refl tt refl refl refl)) tt (typed 𝓤 H A W usizes (t .state .reader) (t .good-reader)) $
           move ! (1 ∷ []) $ shares-slice ! tt u32 h-names (t .state .names) (λ ν2-names δ2-names.
           calls-by ! fm (Calls-fit 𝓤 H A mem run) known-fit (to (for-fit (relent h-names ν2-names δ2-names) (t .state .names) x2-0 (t .state .reader) x2-1 x2-2 x2-3 s (32 * (16 - (below + 1))) (held + (t .state .i)))) (for-fit (relent h-names ν2-names δ2-names) (t .state .names) x2-0 (t .state .reader) x2-1 x2-2 x2-3 s (32 * (16 - (below + 1))) (held + (t .state .i))) refl ((enum-laws.owed Reading#.the-type Reading′.the-laws (Reading·.Taken x2-0 x2-1 x2-2 x2-3 x2-4 x2-5) _ (subst (Good readings) y2 g-reading1) .0), ((t .good-reader), ((enum-laws.owed Reading#.the-type Reading′.the-laws (Reading·.Taken x2-0 x2-1 x2-2 x2-3 x2-4 x2-5) _ (subst (Good readings) y2 g-reading1) .1 .0), ((enum-laws.owed Reading#.the-type Reading′.the-laws (Reading·.Taken x2-0 x2-1 x2-2 x2-3 x2-4 x2-5) _ (subst (Good readings) y2 g-reading1) .1 .1 .0), ((enum-laws.owed Reading#.the-type Reading′.the-laws (Reading·.Taken x2-0 x2-1 x2-2 x2-3 x2-4 x2-5) _ (subst (Good readings) y2 g-reading1) .1 .1 .1 .0), (g-s, ((refl, (facts.fits-3 script names at d s held below pre)), ((refl, (facts.fits-4 script names at d s held below pre (t .state) (ltb→lt (t .state .i) d y1))), tt)))))))) _ (facts.asks-fit script names at d s held below pre (t .state) (ltb→lt (t .state .i) d y1) reading1 e1 x2-0 x2-1 x2-2 x2-3 x2-4 x2-5 y2) (id⊢ 𝓤 _) progresses _ (λ v. id⊢ 𝓤 _)
-          (and-then ! (var ! 3 25 refl refl tt) (and-then ! (var ! 3 13 refl refl tt) (and-then ! (var ! 3 26 refl refl tt) (and-then ! (var ! 3 14 refl refl tt) (and-then ! (var ! 3 15 refl refl tt) (and-then ! (var ! 3 16 refl refl tt) (and-then ! (var ! 3 5 refl refl tt) (and-then ! (var ! 3 8 refl refl tt) (and-then ! (var ! 3 11 refl refl tt) (no-more !)))))))))) (λ fit2 _ g-fit2 e2 _.
-          lands-in ! 3 17 refl tt (typed 𝓤 H A W progresses fit2 g-fit2) $
+          (and-then ! (var ! 3 25 refl refl tt) (and-then ! (var ! 3 13 refl refl tt) (and-then ! (var ! 3 26 refl refl tt) (and-then ! (var ! 3 14 refl refl tt) (and-then ! (var ! 3 15 refl refl tt) (and-then ! (var ! 3 16 refl refl tt) (and-then ! (var ! 3 5 refl refl tt) (and-then ! (var ! 3 8 refl refl tt) (and-then ! (var ! 3 11 refl refl tt) (no-more !)))))))))) (λ judged2 _ g-judged2 e2 _.
+          lands-in ! 3 17 refl tt (typed 𝓤 H A W progresses judged2 g-judged2) $
           unshares-slice ! tt u32 h-names (t .state .names) ν2-names δ2-names $
-          by-progress fit2
+          by-progress judged2
           (λ x3-0 y3. as-held ! 2 17 refl refl (ap (progresses .val) y3) $ hits ! (tag ! 2 17 refl refl tt refl refl refl) tt tt (λ falls3.
           skips ! $
           falls3 _ $
@@ -191,7 +191,7 @@ module _ {M : Type 1} (𝓤 : URA M) (H : Heap 𝓤) (A : Atoms 𝓤) (W : Given
           puts ! 2 28 refl (lent-slice ! 2 2 27 refl refl refl tt tt refl refl) tt (tt, (tt, (record { fits = room-names .0 }, tt))) $
           puts ! 2 29 refl (un ! (var ! 2 16 refl refl tt) (record { fits = omega (arith, (enum-laws.owed Reading#.the-type Reading′.the-laws (Reading·.Taken x2-0 x2-1 x2-2 x2-3 x2-4 x2-5) _ (subst (Good readings) y2 g-reading1) .1 .1 .1 .0) .1) })) tt (tt, record { fits = omega (arith, (enum-laws.owed Reading#.the-type Reading′.the-laws (Reading·.Taken x2-0 x2-1 x2-2 x2-3 x2-4 x2-5) _ (subst (Good readings) y2 g-reading1) .1 .1 .1 .0) .1) }) $
           lends-slice ! tt u32 h-names (t .state .names) (λ ν3-names δ3-names.
-          move ! (2 ∷ 0 ∷ []) $ calls-one ! fm (Calls-body 𝓤 H A mem run) (to (for-body h-script script (relent h-names ν3-names δ3-names) (t .state .names) x2-0 x2-1 x2-3 below)) (known-body (to (for-body h-script script (relent h-names ν3-names δ3-names) (t .state .names) x2-0 x2-1 x2-3 below)) (facts.less-body script names at d s held below pre (t .state) (ltb→lt (t .state .i) d y1) reading1 e1 x2-0 x2-1 x2-2 x2-3 x2-4 x2-5 y2 fit2 e2 x3-0 y3)) (for-body h-script script (relent h-names ν3-names δ3-names) (t .state .names) x2-0 x2-1 x2-3 below) refl ((enum-laws.owed Reading#.the-type Reading′.the-laws (Reading·.Taken x2-0 x2-1 x2-2 x2-3 x2-4 x2-5) _ (subst (Good readings) y2 g-reading1) .0), ((enum-laws.owed Reading#.the-type Reading′.the-laws (Reading·.Taken x2-0 x2-1 x2-2 x2-3 x2-4 x2-5) _ (subst (Good readings) y2 g-reading1) .1 .0), ((refl, omega (arith, (enum-laws.owed Reading#.the-type Reading′.the-laws (Reading·.Taken x2-0 x2-1 x2-2 x2-3 x2-4 x2-5) _ (subst (Good readings) y2 g-reading1) .1 .1 .1 .0) .1)), (g-below, tt)))) _ (facts.asks-body script names at d s held below pre (t .state) (ltb→lt (t .state .i) d y1) reading1 e1 x2-0 x2-1 x2-2 x2-3 x2-4 x2-5 y2 fit2 e2 x3-0 y3) (id⊢ 𝓤 _) progresses _ (said-together 𝓤 H A W (for-body h-script script (relent h-names ν3-names δ3-names) (t .state .names) x2-0 x2-1 x2-3 below) (progresses .type) (_ ∷ _ ∷ []))
+          move ! (2 ∷ 0 ∷ []) $ calls-one ! fm (Calls-body 𝓤 H A mem run) (to (for-body h-script script (relent h-names ν3-names δ3-names) (t .state .names) x2-0 x2-1 x2-3 below)) (known-body (to (for-body h-script script (relent h-names ν3-names δ3-names) (t .state .names) x2-0 x2-1 x2-3 below)) (facts.less-body script names at d s held below pre (t .state) (ltb→lt (t .state .i) d y1) reading1 e1 x2-0 x2-1 x2-2 x2-3 x2-4 x2-5 y2 judged2 e2 x3-0 y3)) (for-body h-script script (relent h-names ν3-names δ3-names) (t .state .names) x2-0 x2-1 x2-3 below) refl ((enum-laws.owed Reading#.the-type Reading′.the-laws (Reading·.Taken x2-0 x2-1 x2-2 x2-3 x2-4 x2-5) _ (subst (Good readings) y2 g-reading1) .0), ((enum-laws.owed Reading#.the-type Reading′.the-laws (Reading·.Taken x2-0 x2-1 x2-2 x2-3 x2-4 x2-5) _ (subst (Good readings) y2 g-reading1) .1 .0), ((refl, omega (arith, (enum-laws.owed Reading#.the-type Reading′.the-laws (Reading·.Taken x2-0 x2-1 x2-2 x2-3 x2-4 x2-5) _ (subst (Good readings) y2 g-reading1) .1 .1 .1 .0) .1)), (g-below, tt)))) _ (facts.asks-body script names at d s held below pre (t .state) (ltb→lt (t .state .i) d y1) reading1 e1 x2-0 x2-1 x2-2 x2-3 x2-4 x2-5 y2 judged2 e2 x3-0 y3) (id⊢ 𝓤 _) progresses _ (said-together 𝓤 H A W (for-body h-script script (relent h-names ν3-names δ3-names) (t .state .names) x2-0 x2-1 x2-3 below) (progresses .type) (_ ∷ _ ∷ []))
           (and-then ! (var ! 3 1 refl refl tt) (and-then ! (var ! 3 28 refl refl tt) (and-then ! (var ! 3 13 refl refl tt) (and-then ! (var ! 3 14 refl refl tt) (and-then ! (var ! 3 29 refl refl tt) (and-then ! (var ! 3 7 refl refl tt) (no-more !))))))) (λ after3 ws3 g-after3 e3 same3.
           lands-in ! 3 18 refl tt (typed 𝓤 H A W progresses after3 g-after3) $
           move ! (1 ∷ 2 ∷ []) $ back-slice ! tt u32 h-names (t .state .names) (ws3 .1 .0) ν3-names δ3-names (same3 .1 .0) $
@@ -199,22 +199,22 @@ module _ {M : Type 1} (𝓤 : URA M) (H : Heap 𝓤) (A : Atoms 𝓤) (W : Given
           (λ x4-0 y4. as-held ! 2 18 refl refl (ap (progresses .val) y4) $ hits ! (tag ! 2 18 refl refl tt refl refl refl) tt tt (λ falls4.
           puts-last ! 2 19 refl (of-opd ! (held-part ! 2 18 0 0 refl refl tt refl refl refl refl refl)) tt (typed 𝓤 H A W usizes x4-0 (enum-laws.owed Progress#.the-type Progress′.the-laws (Progress·.At x4-0) _ (subst (Good progresses) y4 g-after3) .0)) $
           falls4 _ $
-          puts ! 2 29 refl (bin ! (var ! 2 8 refl refl tt) (var ! 2 11 refl refl tt) (record { fits = (facts.fits-5 script names at d s held below pre (t .state) (ltb→lt (t .state .i) d y1) reading1 e1 x2-0 x2-1 x2-2 x2-3 x2-4 x2-5 y2 fit2 e2 x3-0 y3 after3 (ws3 .1 .0) e3 (same3 .1 .0) x4-0 y4) })) tt (tt, record { fits = (facts.fits-5 script names at d s held below pre (t .state) (ltb→lt (t .state .i) d y1) reading1 e1 x2-0 x2-1 x2-2 x2-3 x2-4 x2-5 y2 fit2 e2 x3-0 y3 after3 (ws3 .1 .0) e3 (same3 .1 .0) x4-0 y4) }) $
-          puts ! 2 30 refl (bin ! (var ! 2 29 refl refl tt) (lit ! tt) (record { fits = bytes-names room-names (omega (arith, (facts.within script names at d s held below pre (t .state) (ltb→lt (t .state .i) d y1) reading1 e1 x2-0 x2-1 x2-2 x2-3 x2-4 x2-5 y2 fit2 e2 x3-0 y3 after3 (ws3 .1 .0) e3 (same3 .1 .0) x4-0 y4), ((same3 .1 .0) ∙ (t .long-names)))) })) tt (tt, record { fits = bytes-names room-names (omega (arith, (facts.within script names at d s held below pre (t .state) (ltb→lt (t .state .i) d y1) reading1 e1 x2-0 x2-1 x2-2 x2-3 x2-4 x2-5 y2 fit2 e2 x3-0 y3 after3 (ws3 .1 .0) e3 (same3 .1 .0) x4-0 y4), ((same3 .1 .0) ∙ (t .long-names)))) }) $
+          puts ! 2 29 refl (bin ! (var ! 2 8 refl refl tt) (var ! 2 11 refl refl tt) (record { fits = (facts.fits-5 script names at d s held below pre (t .state) (ltb→lt (t .state .i) d y1) reading1 e1 x2-0 x2-1 x2-2 x2-3 x2-4 x2-5 y2 judged2 e2 x3-0 y3 after3 (ws3 .1 .0) e3 (same3 .1 .0) x4-0 y4) })) tt (tt, record { fits = (facts.fits-5 script names at d s held below pre (t .state) (ltb→lt (t .state .i) d y1) reading1 e1 x2-0 x2-1 x2-2 x2-3 x2-4 x2-5 y2 judged2 e2 x3-0 y3 after3 (ws3 .1 .0) e3 (same3 .1 .0) x4-0 y4) }) $
+          puts ! 2 30 refl (bin ! (var ! 2 29 refl refl tt) (lit ! tt) (record { fits = bytes-names room-names (omega (arith, (facts.within script names at d s held below pre (t .state) (ltb→lt (t .state .i) d y1) reading1 e1 x2-0 x2-1 x2-2 x2-3 x2-4 x2-5 y2 judged2 e2 x3-0 y3 after3 (ws3 .1 .0) e3 (same3 .1 .0) x4-0 y4), ((same3 .1 .0) ∙ (t .long-names)))) })) tt (tt, record { fits = bytes-names room-names (omega (arith, (facts.within script names at d s held below pre (t .state) (ltb→lt (t .state .i) d y1) reading1 e1 x2-0 x2-1 x2-2 x2-3 x2-4 x2-5 y2 judged2 e2 x3-0 y3 after3 (ws3 .1 .0) e3 (same3 .1 .0) x4-0 y4), ((same3 .1 .0) ∙ (t .long-names)))) }) $
           puts ! 2 31 refl (as-value ! (bin ! (part ! 2 2 0 refl refl tt refl refl refl) (var ! 2 30 refl refl tt) tt)
           (ap (vptr (h-names .block)) (sym (place-is 4 (h-names .off) ((32 * (16 - (below + 1))) + (held + (t .state .i))))))) tt (tt, tt) $
-          opens-at ! tt u32 (λ (x : ℕ). words32 .val x ∷ []) (words32 .tells) h-names (ws3 .1 .0) ((32 * (16 - (below + 1))) + (held + (t .state .i))) facts.blank (facts.within script names at d s held below pre (t .state) (ltb→lt (t .state .i) d y1) reading1 e1 x2-0 x2-1 x2-2 x2-3 x2-4 x2-5 y2 fit2 e2 x3-0 y3 after3 (ws3 .1 .0) e3 (same3 .1 .0) x4-0 y4) (λ _.
+          opens-at ! tt u32 (λ (x : ℕ). words32 .val x ∷ []) (words32 .tells) h-names (ws3 .1 .0) ((32 * (16 - (below + 1))) + (held + (t .state .i))) facts.blank (facts.within script names at d s held below pre (t .state) (ltb→lt (t .state .i) d y1) reading1 e1 x2-0 x2-1 x2-2 x2-3 x2-4 x2-5 y2 judged2 e2 x3-0 y3 after3 (ws3 .1 .0) e3 (same3 .1 .0) x4-0 y4) (λ _.
           assigns ! (of-opd ! (var ! 3 15 refl refl tt)) (from ! (hop ! (at-local ! 3 31 refl refl tt) (stop !))) (store-raw ! 0 refl (typed 𝓤 H A W words32 x2-2 (enum-laws.owed Reading#.the-type Reading′.the-laws (Reading·.Taken x2-0 x2-1 x2-2 x2-3 x2-4 x2-5) _ (subst (Good readings) y2 g-reading1) .1 .1 .0))) $
-          closes-at ! tt u32 (words32 .makes 𝓤 H A W) h-names (ws3 .1 .0) ((32 * (16 - (below + 1))) + (held + (t .state .i))) x2-2 (words32 .val x2-2 ∷ []) (facts.within script names at d s held below pre (t .state) (ltb→lt (t .state .i) d y1) reading1 e1 x2-0 x2-1 x2-2 x2-3 x2-4 x2-5 y2 fit2 e2 x3-0 y3 after3 (ws3 .1 .0) e3 (same3 .1 .0) x4-0 y4) (enum-laws.owed Reading#.the-type Reading′.the-laws (Reading·.Taken x2-0 x2-1 x2-2 x2-3 x2-4 x2-5) _ (subst (Good readings) y2 g-reading1) .1 .1 .0) $
+          closes-at ! tt u32 (words32 .makes 𝓤 H A W) h-names (ws3 .1 .0) ((32 * (16 - (below + 1))) + (held + (t .state .i))) x2-2 (words32 .val x2-2 ∷ []) (facts.within script names at d s held below pre (t .state) (ltb→lt (t .state .i) d y1) reading1 e1 x2-0 x2-1 x2-2 x2-3 x2-4 x2-5 y2 judged2 e2 x3-0 y3 after3 (ws3 .1 .0) e3 (same3 .1 .0) x4-0 y4) (enum-laws.owed Reading#.the-type Reading′.the-laws (Reading·.Taken x2-0 x2-1 x2-2 x2-3 x2-4 x2-5) _ (subst (Good readings) y2 g-reading1) .1 .1 .0) $
           puts-field ! 2 9 1 refl (of-opd ! (var ! 2 19 refl refl tt)) refl tt refl refl refl (typed 𝓤 H A W usizes x4-0 (enum-laws.owed Progress#.the-type Progress′.the-laws (Progress·.At x4-0) _ (subst (Good progresses) y4 g-after3) .0)) $
-          puts-last ! 2 10 refl (bin ! (var ! 2 10 refl refl tt) (lit ! tt) (record { fits = (facts.fits-6 script names at d s held below pre (t .state) (ltb→lt (t .state .i) d y1) reading1 e1 x2-0 x2-1 x2-2 x2-3 x2-4 x2-5 y2 fit2 e2 x3-0 y3 after3 (ws3 .1 .0) e3 (same3 .1 .0) x4-0 y4) })) tt (tt, record { fits = (facts.fits-6 script names at d s held below pre (t .state) (ltb→lt (t .state .i) d y1) reading1 e1 x2-0 x2-1 x2-2 x2-3 x2-4 x2-5 y2 fit2 e2 x3-0 y3 after3 (ws3 .1 .0) e3 (same3 .1 .0) x4-0 y4) }) $
-          forgets ! 2 (11 ∷ 12 ∷ 13 ∷ 14 ∷ 15 ∷ 16 ∷ 17 ∷ 18 ∷ 19 ∷ 20 ∷ 21 ∷ 22 ∷ 23 ∷ 24 ∷ 25 ∷ 26 ∷ 27 ∷ 28 ∷ 29 ∷ 30 ∷ 31 ∷ 32 ∷ []) refl tt $ move ! (1 ∷ 0 ∷ []) $ again ! (by-size size) Inv t (record { state = (facts.next script names at d s held below pre (t .state) (ltb→lt (t .state .i) d y1) reading1 e1 x2-0 x2-1 x2-2 x2-3 x2-4 x2-5 y2 fit2 e2 x3-0 y3 after3 (ws3 .1 .0) e3 (same3 .1 .0) x4-0 y4); good-reader = (enum-laws.owed Progress#.the-type Progress′.the-laws (Progress·.At x4-0) _ (subst (Good progresses) y4 g-after3) .0); good-i = (refl, (facts.fits-6 script names at d s held below pre (t .state) (ltb→lt (t .state .i) d y1) reading1 e1 x2-0 x2-1 x2-2 x2-3 x2-4 x2-5 y2 fit2 e2 x3-0 y3 after3 (ws3 .1 .0) e3 (same3 .1 .0) x4-0 y4)); long-names = (length-set (ws3 .1 .0) ((32 * (16 - (below + 1))) + (held + (t .state .i))) x2-2 ∙ ((same3 .1 .0) ∙ (t .long-names))) }) (facts.less script names at d s held below pre (t .state) (ltb→lt (t .state .i) d y1) reading1 e1 x2-0 x2-1 x2-2 x2-3 x2-4 x2-5 y2 fit2 e2 x3-0 y3 after3 (ws3 .1 .0) e3 (same3 .1 .0) x4-0 y4))))
+          puts-last ! 2 10 refl (bin ! (var ! 2 10 refl refl tt) (lit ! tt) (record { fits = (facts.fits-6 script names at d s held below pre (t .state) (ltb→lt (t .state .i) d y1) reading1 e1 x2-0 x2-1 x2-2 x2-3 x2-4 x2-5 y2 judged2 e2 x3-0 y3 after3 (ws3 .1 .0) e3 (same3 .1 .0) x4-0 y4) })) tt (tt, record { fits = (facts.fits-6 script names at d s held below pre (t .state) (ltb→lt (t .state .i) d y1) reading1 e1 x2-0 x2-1 x2-2 x2-3 x2-4 x2-5 y2 judged2 e2 x3-0 y3 after3 (ws3 .1 .0) e3 (same3 .1 .0) x4-0 y4) }) $
+          forgets ! 2 (11 ∷ 12 ∷ 13 ∷ 14 ∷ 15 ∷ 16 ∷ 17 ∷ 18 ∷ 19 ∷ 20 ∷ 21 ∷ 22 ∷ 23 ∷ 24 ∷ 25 ∷ 26 ∷ 27 ∷ 28 ∷ 29 ∷ 30 ∷ 31 ∷ 32 ∷ []) refl tt $ move ! (1 ∷ 0 ∷ []) $ again ! (by-size size) Inv t (record { state = (facts.next script names at d s held below pre (t .state) (ltb→lt (t .state .i) d y1) reading1 e1 x2-0 x2-1 x2-2 x2-3 x2-4 x2-5 y2 judged2 e2 x3-0 y3 after3 (ws3 .1 .0) e3 (same3 .1 .0) x4-0 y4); good-reader = (enum-laws.owed Progress#.the-type Progress′.the-laws (Progress·.At x4-0) _ (subst (Good progresses) y4 g-after3) .0); good-i = (refl, (facts.fits-6 script names at d s held below pre (t .state) (ltb→lt (t .state .i) d y1) reading1 e1 x2-0 x2-1 x2-2 x2-3 x2-4 x2-5 y2 judged2 e2 x3-0 y3 after3 (ws3 .1 .0) e3 (same3 .1 .0) x4-0 y4)); long-names = (length-set (ws3 .1 .0) ((32 * (16 - (below + 1))) + (held + (t .state .i))) x2-2 ∙ ((same3 .1 .0) ∙ (t .long-names))) }) (facts.less script names at d s held below pre (t .state) (ltb→lt (t .state .i) d y1) reading1 e1 x2-0 x2-1 x2-2 x2-3 x2-4 x2-5 y2 judged2 e2 x3-0 y3 after3 (ws3 .1 .0) e3 (same3 .1 .0) x4-0 y4))))
           (λ x4-0 x4-1 y4. as-held ! 2 18 refl refl (ap (progresses .val) y4) $ misses ! (tag ! 2 18 refl refl tt refl refl refl) tt tt (
           puts ! 2 0 refl (of-opd ! (var ! 2 18 refl refl tt)) tt (typed 𝓤 H A W progresses (Progress·.Refused x4-0 x4-1) (subst (Good progresses) y4 g-after3)) $
-          ends-early ! 2 Post refl refl refl tt $ gives ! (mutSlice u32) h-names (ws3 .1 .0) $ move ! (1 ∷ 0 ∷ []) $ by ! (exits (Progress·.Refused x4-0 x4-1) (ws3 .1 .0) ((same3 .1 .0) ∙ (t .long-names)) (subst (Good progresses) y4 g-after3) (facts.says-1 script names at d s held below pre (t .state) (ltb→lt (t .state .i) d y1) reading1 e1 x2-0 x2-1 x2-2 x2-3 x2-4 x2-5 y2 fit2 e2 x3-0 y3 after3 (ws3 .1 .0) e3 (same3 .1 .0) x4-0 x4-1 y4))))))))
+          ends-early ! 2 Post refl refl refl tt $ gives ! (mutSlice u32) h-names (ws3 .1 .0) $ move ! (1 ∷ 0 ∷ []) $ by ! (exits (Progress·.Refused x4-0 x4-1) (ws3 .1 .0) ((same3 .1 .0) ∙ (t .long-names)) (subst (Good progresses) y4 g-after3) (facts.says-1 script names at d s held below pre (t .state) (ltb→lt (t .state .i) d y1) reading1 e1 x2-0 x2-1 x2-2 x2-3 x2-4 x2-5 y2 judged2 e2 x3-0 y3 after3 (ws3 .1 .0) e3 (same3 .1 .0) x4-0 x4-1 y4))))))))
           (λ x3-0 x3-1 y3. as-held ! 2 17 refl refl (ap (progresses .val) y3) $ misses ! (tag ! 2 17 refl refl tt refl refl refl) tt tt (
-          puts ! 2 0 refl (of-opd ! (var ! 2 17 refl refl tt)) tt (typed 𝓤 H A W progresses (Progress·.Refused x3-0 x3-1) (subst (Good progresses) y3 g-fit2)) $
-          ends-early ! 2 Post refl refl refl tt $ gives ! (mutSlice u32) h-names (t .state .names) $ move ! (1 ∷ 0 ∷ []) $ by ! (exits (Progress·.Refused x3-0 x3-1) (t .state .names) (t .long-names) (subst (Good progresses) y3 g-fit2) (facts.says-2 script names at d s held below pre (t .state) (ltb→lt (t .state .i) d y1) reading1 e1 x2-0 x2-1 x2-2 x2-3 x2-4 x2-5 y2 fit2 e2 x3-0 x3-1 y3))))))))
+          puts ! 2 0 refl (of-opd ! (var ! 2 17 refl refl tt)) tt (typed 𝓤 H A W progresses (Progress·.Refused x3-0 x3-1) (subst (Good progresses) y3 g-judged2)) $
+          ends-early ! 2 Post refl refl refl tt $ gives ! (mutSlice u32) h-names (t .state .names) $ move ! (1 ∷ 0 ∷ []) $ by ! (exits (Progress·.Refused x3-0 x3-1) (t .state .names) (t .long-names) (subst (Good progresses) y3 g-judged2) (facts.says-2 script names at d s held below pre (t .state) (ltb→lt (t .state .i) d y1) reading1 e1 x2-0 x2-1 x2-2 x2-3 x2-4 x2-5 y2 judged2 e2 x3-0 x3-1 y3))))))))
           (λ x2-0 x2-1 y2. as-held ! 2 12 refl refl (ap (readings .val) y2) $ misses ! (tag ! 2 12 refl refl tt refl refl refl) tt tt (
           calls-by ! fm (Calls-onward 𝓤 H A mem run) known-onward (to (for-onward (Reading·.Refused x2-0 x2-1))) (for-onward (Reading·.Refused x2-0 x2-1)) refl ((subst (Good readings) y2 g-reading1), tt) (Unit {0}) tt (asks-all 𝓤 H A (for-onward (Reading·.Refused x2-0 x2-1)) []) progresses _ (λ v. id⊢ 𝓤 _)
           (and-then ! (var ! 2 12 refl refl tt) (no-more !)) (λ onward4 _ g-onward4 e4 _.
