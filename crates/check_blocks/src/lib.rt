@@ -91,18 +91,11 @@ fn declarations(
     while i < d {
         let count = held + i;
         let reading = check_readers::declaration_here(reader);
-        let Reading::Taken {
-            mark,
-            next,
-            f0,
-            f1,
-            ..
-        } = reading
-        else {
+        let Reading::Taken { mark, f0, f1, .. } = reading else {
             return check_records::onward(reading);
         };
-        let judged = fit(names, mark, reader.at, next, f0, f1, s, base, count);
-        let Progress::At(_) = judged else {
+        let judged = fit(names, reader.at, reading, s, base, count);
+        let Progress::At(next) = judged else {
             return judged;
         };
         let after = body(script, names, mark, next, f1 as usize, below);

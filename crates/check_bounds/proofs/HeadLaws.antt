@@ -1,10 +1,10 @@
 -- A declaration's own record, read and judged: the cases of `headed`. Assumes nothing.
-use mathlib.Core.Path.{_≡_, refl, sym, _∙_, ap, ap₂}
+use mathlib.Core.Path.{_≡_, refl, sym, _∙_, ap, ap₂, subst}
 use mathlib.Core.Bool.{Bool, true, false, _&&_}
 use mathlib.Core.List.{List}
 use Prim.Native.Nat.{ℕ, _≤_}
 use native.Mathlib.Omega.{arith}
-use lib.Dec.{leb}
+use lib.Dec.{leb, T}
 use borrow.Author.Tests.{leb-true, leb-false}
 use Rattle.language.specs.Basics.{among}
 use Rattle.language.specs.Structure.{DeclMark, isVR, isLB, isPR}
@@ -15,10 +15,9 @@ use Rattle.check_records.specs.declared.Progress.{Progress}
 use Rattle.check_records.specs.declared.Progress.the-variants.{At, Refused}
 use Rattle.check_records.specs.declared.Reading.{Reading}
 use Rattle.check_records.specs.declared.Reading.the-variants.{Taken, Refused as Untaken}
-use Rattle.check_marks.specs.declared.Place.the-variants.{Declaration}
-use Rattle.check_records.specs.Taking.{recordAt}
+use Rattle.check_records.specs.Taking.{progressOf}
 use Rattle.check_bounds.specs.Marks.{declMarkOf}
-use Rattle.check_bounds.specs.Judging.{rangedOf, onceAt, judged, headed, headingAt, FewFormals}
+use Rattle.check_bounds.specs.Judging.{rangedOf, onceAt, judged, headed, FewFormals}
 use Rattle.check_bounds.proofs.Marks.{ranged-label, ranged-no-label, ranged-few, ranged-many}
 
 once-at : (p : Progress) (b : Bool) (at from : ℕ) → onceAt p b at ≡ At from → p ≡ At from
@@ -47,36 +46,34 @@ module _ (at next f1 s from : ℕ) where
 pub own-at : (m : DeclMark) (at next f1 s from : ℕ) (b : Bool) → onceAt (rangedOf m at next f1 s) b at ≡ At from → (from ≡ next) × FewFormals m f1
 own-at m at next f1 s from b e = ranged-at at next f1 s from m (once-at (rangedOf m at next f1 s) b at from e)
 
--- as the code finds them: p is what the second field comes to, b whether the name is held
-module _ (at : ℕ) {p w : Progress} (is : p ≡ w) where
-  pub once-unfit : (c : Bool) {k : Refusal} {o : ℕ} → p ≡ Refused k o → p ≡ onceAt w c at
-  unfolding onceAt
-  once-unfit c e = e ∙ sym (ap (λ y. onceAt y c at) (sym is ∙ e))
-
-  module _ {b c : Bool} {n : ℕ} (e : p ≡ At n) (held : b ≡ c) where
-    pub once-twice : b ≡ true → Refused NameTwice at ≡ onceAt w c at
-    unfolding onceAt
-    once-twice t = sym (ap₂ (λ y z. onceAt y z at) (sym is ∙ e) (sym held ∙ t))
-
-    pub once-new : b ≡ false → p ≡ onceAt w c at
-    unfolding onceAt
-    once-new t = e ∙ sym (ap₂ (λ y z. onceAt y z at) (sym is ∙ e) (sym held ∙ t))
-
--- the record read there, by what it comes to
-module _ (bs : List ℕ) (at s : ℕ) (ns : List ℕ) {x : Reading} (f : x ≡ recordAt Declaration bs at) where
-  pub heading-none : {k : Refusal} {o : ℕ} → x ≡ Untaken k o → headingAt bs at s ns ≡ Untaken k o
+-- as the code finds them, at a record x
+module _ (at s : ℕ) (ns : List ℕ) {x : Reading} where
+  pub headed-none : {c : Refusal} {o : ℕ} → x ≡ Untaken c o → headed x at s ns ≡ Untaken c o
   unfolding headed
-  heading-none g = ap (λ z. headed z at s ns) (sym f ∙ g)
+  headed-none e = ap (λ y. headed y at s ns) e
 
-  module _ {m : Mark} {next f0 f1 f2 f3 : ℕ} (g : x ≡ Taken m next f0 f1 f2 f3) {p : Progress} (e : p ≡ onceAt (rangedOf (declMarkOf m) at next f1 s) (among f0 ns) at) where
-    pub heading-unfit : {k : Refusal} {o : ℕ} → p ≡ Refused k o → headingAt bs at s ns ≡ Untaken k o
-    unfolding headed judged
-    heading-unfit q = ap (λ z. headed z at s ns) (sym f ∙ g) ∙ ap (λ y. judged y (Taken m next f0 f1 f2 f3)) (sym e ∙ q)
+  pub fit-untaken : {y : Progress} {c : Refusal} {o : ℕ} → x ≡ Untaken c o → y ≡ progressOf x → y ≡ progressOf (headed x at s ns)
+  fit-untaken e f = f ∙ ap progressOf (e ∙ sym (headed-none e))
 
-    pub heading-taken : {n : ℕ} → p ≡ At n → headingAt bs at s ns ≡ Taken m next f0 f1 f2 f3
-    unfolding headed judged
-    heading-taken q = ap (λ z. headed z at s ns) (sym f ∙ g) ∙ ap (λ y. judged y (Taken m next f0 f1 f2 f3)) (sym e ∙ q)
+  module _ {m : Mark} {next f0 f1 f2 f3 : ℕ} {p : Progress} (e : x ≡ Taken m next f0 f1 f2 f3) (q : p ≡ rangedOf (declMarkOf m) at next f1 s) where
+    tested : (y : Progress) (b : Bool) → p ≡ y → among f0 ns ≡ b → headed x at s ns ≡ judged (onceAt y b at) (Taken m next f0 f1 f2 f3)
+    unfolding headed
+    tested y b w v = ap (λ z. headed z at s ns) e ∙ ap₂ (λ y z. judged (onceAt y z at) (Taken m next f0 f1 f2 f3)) (sym q ∙ w) v
 
+    pub fit-unfit : {c : Refusal} {o : ℕ} → p ≡ Refused c o → p ≡ progressOf (headed x at s ns)
+    unfolding judged onceAt
+    fit-unfit {c} {o} w = w ∙ sym (ap progressOf (tested (Refused c o) (among f0 ns) w refl))
+
+    module _ {from : ℕ} {b : Bool} (w : p ≡ At from) (v : b ≡ among f0 ns) where
+      pub fit-twice : b ≡ true → Refused NameTwice at ≡ progressOf (headed x at s ns)
+      unfolding judged onceAt
+      fit-twice t = sym (ap progressOf (tested (At from) true w (sym v ∙ t)))
+
+      pub fit-new : b ≡ false → p ≡ progressOf (headed x at s ns)
+      unfolding judged onceAt
+      fit-new t = w ∙ ap (λ n. At n) (ranged-at at next f1 s from (declMarkOf m) (sym q ∙ w) .0) ∙ sym (ap progressOf (tested (At from) false w (sym v ∙ t)))
+
+-- what they say of the record and of its tests
 pub judged-refused : (p : Progress) (m : Mark) (next f0 f1 f2 f3 : ℕ) {c : Refusal} {o : ℕ} → judged p (Taken m next f0 f1 f2 f3) ≡ Untaken c o → p ≡ Refused c o
 unfolding judged
 judged-refused (At from) m next f0 f1 f2 f3 e = let z : _≡_ {A = ℕ} 0 1 = cc in absurd (omega arith)
@@ -92,3 +89,37 @@ module _ (at s : ℕ) (ns : List ℕ) {m : Mark} {next f0 f1 f2 f3 : ℕ} where
   unfolding headed
   head-taken (Taken m′ n′ a b c d) q = judged-taken _ m′ n′ a b c d refl q
   head-taken (Untaken c o) q = let z : _≡_ {A = ℕ} 0 1 = cc in absurd (omega arith)
+
+-- what it comes to says of the record
+abbrev nextOf : Reading → ℕ
+nextOf (Taken m next f0 f1 f2 f3) = next
+nextOf (Untaken c o) = 0
+
+abbrev untakenOf : Progress → Reading
+untakenOf (Refused c o) = Untaken c o
+untakenOf (At n) = Untaken NameTwice n
+
+abbrev placeOf : Progress → ℕ
+placeOf (At n) = n
+placeOf (Refused c o) = 0
+
+abbrev goesOn : Progress → Bool
+goesOn (At n) = true
+goesOn (Refused c o) = false
+
+module _ (at s : ℕ) (ns : List ℕ) (x : Reading) {r : Progress} (e : r ≡ progressOf (headed x at s ns)) where
+  pub fit-stops : {k : Refusal} {o : ℕ} → r ≡ Refused k o → headed x at s ns ≡ Untaken k o
+  fit-stops {k} {o} q = go (headed x at s ns) refl
+    where
+      go : (y : Reading) → headed x at s ns ≡ y → headed x at s ns ≡ Untaken k o
+      go (Taken m next f0 f1 f2 f3) h = absurd (subst T (ap goesOn (sym (e ∙ ap progressOf h) ∙ q)) tt)
+      go (Untaken c p) h = h ∙ ap untakenOf (sym (e ∙ ap progressOf h) ∙ q)
+
+  pub fit-goes : {m : Mark} {next f0 f1 f2 f3 from : ℕ} → x ≡ Taken m next f0 f1 f2 f3 → r ≡ At from → (next ≡ from) × (headed x at s ns ≡ Taken m next f0 f1 f2 f3)
+  fit-goes {m} {next} {f0} {f1} {f2} {f3} {from} g q = go (headed x at s ns) refl
+    where
+      go : (y : Reading) → headed x at s ns ≡ y → (next ≡ from) × (headed x at s ns ≡ Taken m next f0 f1 f2 f3)
+      go (Taken m′ n′ a b c d) h =
+          let same = sym g ∙ head-taken at s ns x h .0 in
+          (ap nextOf same ∙ ap placeOf (sym (e ∙ ap progressOf h) ∙ q), h ∙ sym same)
+      go (Untaken c o) h = absurd (subst T (ap goesOn (sym q ∙ (e ∙ ap progressOf h))) tt)

@@ -2,14 +2,15 @@
 use super::MOST_NAMES;
 use check_marks::Mark;
 use check_records::Progress;
+use check_records::Reading;
 use language::Refusal;
 ghost use mathlib.Core.Path.{_≡_};
 ghost use Prim.Native.Nat.{_+_, _≤_};
 ghost use lib.ListN.{length};
-ghost use Rattle.language.specs.Basics.{among};
+ghost use Rattle.check_records.specs.Taking.{progressOf};
 ghost use Rattle.check_names.specs.Naming.{namesAt};
 ghost use Rattle.check_bounds.specs.Marks.{declMarkOf};
-ghost use Rattle.check_bounds.specs.Judging.{rangedOf, onceAt};
+ghost use Rattle.check_bounds.specs.Judging.{rangedOf, headed};
 
 // The second field: 4 for a label's index, 7 for a procedure's p.
 fn ranged(mark: Mark, at: usize, next: usize, f1: usize, s: usize) -> Progress
@@ -35,21 +36,28 @@ fn ranged(mark: Mark, at: usize, next: usize, f1: usize, s: usize) -> Progress
     }
 }
 
-// The record at an offset, in a block of s statements that has count names from a base on.
+// The record read at an offset, in a block of s statements that has count names from a base on.
 pub fn fit(
     names: &[u32],
-    mark: Mark,
     at: usize,
-    next: usize,
-    f0: u32,
-    f1: u32,
+    reading: Reading,
     s: usize,
     base: usize,
     count: usize,
 ) -> Progress
     requires { ⌜ base + count ≤ length (now names) ⌝ }
-    ensures { λ r. ⌜ r ≡ onceAt (rangedOf (declMarkOf mark) at next f1 s) (among f0 (namesAt (now (names .entry)) base count)) at ⌝ }
+    ensures { λ r. ⌜ r ≡ progressOf (headed reading at s (namesAt (now (names .entry)) base count)) ⌝ }
 {
+    let Reading::Taken {
+        mark,
+        next,
+        f0,
+        f1,
+        ..
+    } = reading
+    else {
+        return check_records::onward(reading);
+    };
     let ranged = ranged(mark, at, next, f1 as usize, s);
     let Progress::At(_) = ranged else {
         return ranged;

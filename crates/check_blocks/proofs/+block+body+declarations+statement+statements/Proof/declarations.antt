@@ -19,7 +19,7 @@ use prog.Wp.{Heap, WpFn, Tables, Wp, atReturn, afterTurn, afterBlock, afterSeq}
 use ghost.Atoms.{Atoms}
 use contract.Monad.{Fun}
 use types.Kit.{Given, Item, ‵, ⋆, Sq, runs, anyQ, atRet, _$_, _∵_, !, qed, by, move}
-use types.Run.{and-then, no-more, lit, bin, of-opd, first, blocks, loops, exec, again, Below, un, from, hop, stop, store-raw, assigns, skips}
+use types.Run.{and-then, no-more, lit, bin, of-opd, first, blocks, loops, exec, again, Below, un, from, hop, stop, store-raw, assigns}
 use types.Part.{agg}
 use sound.WpLaws.{WpFn-mono, FmC, fmOf}
 use denote.Builtin.{u8, u32}
@@ -78,8 +78,8 @@ for-declaration-here h0 x0 x1 = brw (shrSlice u8) h0 x0 ∷ dat usizes x1 ∷ []
 abbrev Calls-fit : {M : Type 1} (𝓤 : URA M) (H : Heap 𝓤) (A : Atoms 𝓤) → (Memory → SProp 𝓤) → (Routine → Fun 𝓤) → Contract 𝓤
 Calls-fit 𝓤 H A mem run = tripleOf 𝓤 H A fit.signature (fit.spec 𝓤 H A mem run)
 
-abbrev for-fit : Loan → List ℕ → marks .type .Denot → ℕ → ℕ → ℕ → ℕ → ℕ → ℕ → ℕ → List Par
-for-fit h0 x0 x1 x2 x3 x4 x5 x6 x7 x8 = brw (shrSlice u32) h0 x0 ∷ dat marks x1 ∷ dat usizes x2 ∷ dat usizes x3 ∷ dat words32 x4 ∷ dat words32 x5 ∷ dat usizes x6 ∷ dat usizes x7 ∷ dat usizes x8 ∷ []
+abbrev for-fit : Loan → List ℕ → ℕ → readings .type .Denot → ℕ → ℕ → ℕ → List Par
+for-fit h0 x0 x1 x2 x3 x4 x5 = brw (shrSlice u32) h0 x0 ∷ dat usizes x1 ∷ dat readings x2 ∷ dat usizes x3 ∷ dat usizes x4 ∷ dat usizes x5 ∷ []
 
 abbrev Calls-body : {M : Type 1} (𝓤 : URA M) (H : Heap 𝓤) (A : Atoms 𝓤) → (Memory → SProp 𝓤) → (Routine → Fun 𝓤) → Contract 𝓤
 Calls-body 𝓤 H A mem run = tripleOf 𝓤 H A body.signature (body.spec 𝓤 H A mem run)
@@ -171,28 +171,27 @@ module _ {M : Type 1} (𝓤 : URA M) (H : Heap 𝓤) (A : Atoms 𝓤) (W : Given
           by-reading reading1
           (λ x2-0 x2-1 x2-2 x2-3 x2-4 x2-5 y2. as-held ! 2 12 refl refl (ap (readings .val) y2) $ hits ! (tag ! 2 12 refl refl tt refl refl refl) tt tt (λ falls2.
           puts ! 2 13 refl (of-opd ! (held-part ! 2 12 0 0 refl refl tt refl refl refl refl refl)) tt (typed 𝓤 H A W marks x2-0 (enum-laws.owed Reading#.the-type Reading′.the-laws (Reading·.Taken x2-0 x2-1 x2-2 x2-3 x2-4 x2-5) _ (subst (Good readings) y2 g-reading1) .0)) $
-          puts ! 2 14 refl (of-opd ! (held-part ! 2 12 0 1 refl refl tt refl refl refl refl refl)) tt (typed 𝓤 H A W usizes x2-1 (enum-laws.owed Reading#.the-type Reading′.the-laws (Reading·.Taken x2-0 x2-1 x2-2 x2-3 x2-4 x2-5) _ (subst (Good readings) y2 g-reading1) .1 .0)) $
-          puts ! 2 15 refl (of-opd ! (held-part ! 2 12 0 2 refl refl tt refl refl refl refl refl)) tt (typed 𝓤 H A W words32 x2-2 (enum-laws.owed Reading#.the-type Reading′.the-laws (Reading·.Taken x2-0 x2-1 x2-2 x2-3 x2-4 x2-5) _ (subst (Good readings) y2 g-reading1) .1 .1 .0)) $
-          puts-last ! 2 16 refl (of-opd ! (held-part ! 2 12 0 3 refl refl tt refl refl refl refl refl)) tt (typed 𝓤 H A W words32 x2-3 (enum-laws.owed Reading#.the-type Reading′.the-laws (Reading·.Taken x2-0 x2-1 x2-2 x2-3 x2-4 x2-5) _ (subst (Good readings) y2 g-reading1) .1 .1 .1 .0)) $
+          puts ! 2 14 refl (of-opd ! (held-part ! 2 12 0 2 refl refl tt refl refl refl refl refl)) tt (typed 𝓤 H A W words32 x2-2 (enum-laws.owed Reading#.the-type Reading′.the-laws (Reading·.Taken x2-0 x2-1 x2-2 x2-3 x2-4 x2-5) _ (subst (Good readings) y2 g-reading1) .1 .1 .0)) $
+          puts-last ! 2 15 refl (of-opd ! (held-part ! 2 12 0 3 refl refl tt refl refl refl refl refl)) tt (typed 𝓤 H A W words32 x2-3 (enum-laws.owed Reading#.the-type Reading′.the-laws (Reading·.Taken x2-0 x2-1 x2-2 x2-3 x2-4 x2-5) _ (subst (Good readings) y2 g-reading1) .1 .1 .1 .0)) $
           falls2 _ $
           puts ! 2 24 refl (lent-ptr ! 2 2 refl refl tt refl refl) tt (tt, tt) $
           puts ! 2 25 refl (lent-slice ! 2 2 24 refl refl refl tt tt refl refl) tt (tt, (tt, (record { fits = room-names .0 }, tt))) $
           puts ! 2 26 refl (of-opd ! (part ! 2 9 1 refl refl tt refl refl refl)) tt (typed 𝓤 H A W usizes (t .state .reader) (t .good-reader)) $
           move ! (1 ∷ []) $ shares-slice ! tt u32 h-names (t .state .names) (λ ν2-names δ2-names.
-          calls-by ! fm (Calls-fit 𝓤 H A mem run) known-fit (to (for-fit (relent h-names ν2-names δ2-names) (t .state .names) x2-0 (t .state .reader) x2-1 x2-2 x2-3 s (32 * (16 - (below + 1))) (held + (t .state .i)))) (for-fit (relent h-names ν2-names δ2-names) (t .state .names) x2-0 (t .state .reader) x2-1 x2-2 x2-3 s (32 * (16 - (below + 1))) (held + (t .state .i))) refl ((enum-laws.owed Reading#.the-type Reading′.the-laws (Reading·.Taken x2-0 x2-1 x2-2 x2-3 x2-4 x2-5) _ (subst (Good readings) y2 g-reading1) .0), ((t .good-reader), ((enum-laws.owed Reading#.the-type Reading′.the-laws (Reading·.Taken x2-0 x2-1 x2-2 x2-3 x2-4 x2-5) _ (subst (Good readings) y2 g-reading1) .1 .0), ((enum-laws.owed Reading#.the-type Reading′.the-laws (Reading·.Taken x2-0 x2-1 x2-2 x2-3 x2-4 x2-5) _ (subst (Good readings) y2 g-reading1) .1 .1 .0), ((enum-laws.owed Reading#.the-type Reading′.the-laws (Reading·.Taken x2-0 x2-1 x2-2 x2-3 x2-4 x2-5) _ (subst (Good readings) y2 g-reading1) .1 .1 .1 .0), (g-s, ((refl, (facts.fits-3 script names at d s held below pre)), ((refl, (facts.fits-4 script names at d s held below pre (t .state) (ltb→lt (t .state .i) d y1))), tt)))))))) _ (facts.asks-fit script names at d s held below pre (t .state) (ltb→lt (t .state .i) d y1) reading1 e1 x2-0 x2-1 x2-2 x2-3 x2-4 x2-5 y2) (id⊢ 𝓤 _) progresses _ (λ v. id⊢ 𝓤 _)
-          (and-then ! (var ! 3 25 refl refl tt) (and-then ! (var ! 3 13 refl refl tt) (and-then ! (var ! 3 26 refl refl tt) (and-then ! (var ! 3 14 refl refl tt) (and-then ! (var ! 3 15 refl refl tt) (and-then ! (var ! 3 16 refl refl tt) (and-then ! (var ! 3 5 refl refl tt) (and-then ! (var ! 3 8 refl refl tt) (and-then ! (var ! 3 11 refl refl tt) (no-more !)))))))))) (λ judged2 _ g-judged2 e2 _.
-          lands-in ! 3 17 refl tt (typed 𝓤 H A W progresses judged2 g-judged2) $
+          calls-by ! fm (Calls-fit 𝓤 H A mem run) known-fit (to (for-fit (relent h-names ν2-names δ2-names) (t .state .names) (t .state .reader) (Reading·.Taken x2-0 x2-1 x2-2 x2-3 x2-4 x2-5) s (32 * (16 - (below + 1))) (held + (t .state .i)))) (for-fit (relent h-names ν2-names δ2-names) (t .state .names) (t .state .reader) (Reading·.Taken x2-0 x2-1 x2-2 x2-3 x2-4 x2-5) s (32 * (16 - (below + 1))) (held + (t .state .i))) refl ((t .good-reader), ((subst (Good readings) y2 g-reading1), (g-s, ((refl, (facts.fits-3 script names at d s held below pre)), ((refl, (facts.fits-4 script names at d s held below pre (t .state) (ltb→lt (t .state .i) d y1))), tt))))) _ (facts.asks-fit script names at d s held below pre (t .state) (ltb→lt (t .state .i) d y1) reading1 e1 x2-0 x2-1 x2-2 x2-3 x2-4 x2-5 y2) (id⊢ 𝓤 _) progresses _ (λ v. id⊢ 𝓤 _)
+          (and-then ! (var ! 3 25 refl refl tt) (and-then ! (var ! 3 26 refl refl tt) (and-then ! (var ! 3 12 refl refl tt) (and-then ! (var ! 3 5 refl refl tt) (and-then ! (var ! 3 8 refl refl tt) (and-then ! (var ! 3 11 refl refl tt) (no-more !))))))) (λ judged2 _ g-judged2 e2 _.
+          lands-in ! 3 16 refl tt (typed 𝓤 H A W progresses judged2 g-judged2) $
           unshares-slice ! tt u32 h-names (t .state .names) ν2-names δ2-names $
           by-progress judged2
-          (λ x3-0 y3. as-held ! 2 17 refl refl (ap (progresses .val) y3) $ hits ! (tag ! 2 17 refl refl tt refl refl refl) tt tt (λ falls3.
-          skips ! $
+          (λ x3-0 y3. as-held ! 2 16 refl refl (ap (progresses .val) y3) $ hits ! (tag ! 2 16 refl refl tt refl refl refl) tt tt (λ falls3.
+          puts-last ! 2 17 refl (of-opd ! (held-part ! 2 16 0 0 refl refl tt refl refl refl refl refl)) tt (typed 𝓤 H A W usizes x3-0 (enum-laws.owed Progress#.the-type Progress′.the-laws (Progress·.At x3-0) _ (subst (Good progresses) y3 g-judged2) .0)) $
           falls3 _ $
           puts ! 2 27 refl (lent-ptr ! 2 2 refl refl tt refl refl) tt (tt, tt) $
           puts ! 2 28 refl (lent-slice ! 2 2 27 refl refl refl tt tt refl refl) tt (tt, (tt, (record { fits = room-names .0 }, tt))) $
-          puts ! 2 29 refl (un ! (var ! 2 16 refl refl tt) (record { fits = omega (arith, (enum-laws.owed Reading#.the-type Reading′.the-laws (Reading·.Taken x2-0 x2-1 x2-2 x2-3 x2-4 x2-5) _ (subst (Good readings) y2 g-reading1) .1 .1 .1 .0) .1) })) tt (tt, record { fits = omega (arith, (enum-laws.owed Reading#.the-type Reading′.the-laws (Reading·.Taken x2-0 x2-1 x2-2 x2-3 x2-4 x2-5) _ (subst (Good readings) y2 g-reading1) .1 .1 .1 .0) .1) }) $
+          puts ! 2 29 refl (un ! (var ! 2 15 refl refl tt) (record { fits = omega (arith, (enum-laws.owed Reading#.the-type Reading′.the-laws (Reading·.Taken x2-0 x2-1 x2-2 x2-3 x2-4 x2-5) _ (subst (Good readings) y2 g-reading1) .1 .1 .1 .0) .1) })) tt (tt, record { fits = omega (arith, (enum-laws.owed Reading#.the-type Reading′.the-laws (Reading·.Taken x2-0 x2-1 x2-2 x2-3 x2-4 x2-5) _ (subst (Good readings) y2 g-reading1) .1 .1 .1 .0) .1) }) $
           lends-slice ! tt u32 h-names (t .state .names) (λ ν3-names δ3-names.
-          move ! (2 ∷ 0 ∷ []) $ calls-one ! fm (Calls-body 𝓤 H A mem run) (to (for-body h-script script (relent h-names ν3-names δ3-names) (t .state .names) x2-0 x2-1 x2-3 below)) (known-body (to (for-body h-script script (relent h-names ν3-names δ3-names) (t .state .names) x2-0 x2-1 x2-3 below)) (facts.less-body script names at d s held below pre (t .state) (ltb→lt (t .state .i) d y1) reading1 e1 x2-0 x2-1 x2-2 x2-3 x2-4 x2-5 y2 judged2 e2 x3-0 y3)) (for-body h-script script (relent h-names ν3-names δ3-names) (t .state .names) x2-0 x2-1 x2-3 below) refl ((enum-laws.owed Reading#.the-type Reading′.the-laws (Reading·.Taken x2-0 x2-1 x2-2 x2-3 x2-4 x2-5) _ (subst (Good readings) y2 g-reading1) .0), ((enum-laws.owed Reading#.the-type Reading′.the-laws (Reading·.Taken x2-0 x2-1 x2-2 x2-3 x2-4 x2-5) _ (subst (Good readings) y2 g-reading1) .1 .0), ((refl, omega (arith, (enum-laws.owed Reading#.the-type Reading′.the-laws (Reading·.Taken x2-0 x2-1 x2-2 x2-3 x2-4 x2-5) _ (subst (Good readings) y2 g-reading1) .1 .1 .1 .0) .1)), (g-below, tt)))) _ (facts.asks-body script names at d s held below pre (t .state) (ltb→lt (t .state .i) d y1) reading1 e1 x2-0 x2-1 x2-2 x2-3 x2-4 x2-5 y2 judged2 e2 x3-0 y3) (id⊢ 𝓤 _) progresses _ (said-together 𝓤 H A W (for-body h-script script (relent h-names ν3-names δ3-names) (t .state .names) x2-0 x2-1 x2-3 below) (progresses .type) (_ ∷ _ ∷ []))
-          (and-then ! (var ! 3 1 refl refl tt) (and-then ! (var ! 3 28 refl refl tt) (and-then ! (var ! 3 13 refl refl tt) (and-then ! (var ! 3 14 refl refl tt) (and-then ! (var ! 3 29 refl refl tt) (and-then ! (var ! 3 7 refl refl tt) (no-more !))))))) (λ after3 ws3 g-after3 e3 same3.
+          move ! (2 ∷ 0 ∷ []) $ calls-one ! fm (Calls-body 𝓤 H A mem run) (to (for-body h-script script (relent h-names ν3-names δ3-names) (t .state .names) x2-0 x3-0 x2-3 below)) (known-body (to (for-body h-script script (relent h-names ν3-names δ3-names) (t .state .names) x2-0 x3-0 x2-3 below)) (facts.less-body script names at d s held below pre (t .state) (ltb→lt (t .state .i) d y1) reading1 e1 x2-0 x2-1 x2-2 x2-3 x2-4 x2-5 y2 judged2 e2 x3-0 y3)) (for-body h-script script (relent h-names ν3-names δ3-names) (t .state .names) x2-0 x3-0 x2-3 below) refl ((enum-laws.owed Reading#.the-type Reading′.the-laws (Reading·.Taken x2-0 x2-1 x2-2 x2-3 x2-4 x2-5) _ (subst (Good readings) y2 g-reading1) .0), ((enum-laws.owed Progress#.the-type Progress′.the-laws (Progress·.At x3-0) _ (subst (Good progresses) y3 g-judged2) .0), ((refl, omega (arith, (enum-laws.owed Reading#.the-type Reading′.the-laws (Reading·.Taken x2-0 x2-1 x2-2 x2-3 x2-4 x2-5) _ (subst (Good readings) y2 g-reading1) .1 .1 .1 .0) .1)), (g-below, tt)))) _ (facts.asks-body script names at d s held below pre (t .state) (ltb→lt (t .state .i) d y1) reading1 e1 x2-0 x2-1 x2-2 x2-3 x2-4 x2-5 y2 judged2 e2 x3-0 y3) (id⊢ 𝓤 _) progresses _ (said-together 𝓤 H A W (for-body h-script script (relent h-names ν3-names δ3-names) (t .state .names) x2-0 x3-0 x2-3 below) (progresses .type) (_ ∷ _ ∷ []))
+          (and-then ! (var ! 3 1 refl refl tt) (and-then ! (var ! 3 28 refl refl tt) (and-then ! (var ! 3 13 refl refl tt) (and-then ! (var ! 3 17 refl refl tt) (and-then ! (var ! 3 29 refl refl tt) (and-then ! (var ! 3 7 refl refl tt) (no-more !))))))) (λ after3 ws3 g-after3 e3 same3.
           lands-in ! 3 18 refl tt (typed 𝓤 H A W progresses after3 g-after3) $
           move ! (1 ∷ 2 ∷ []) $ back-slice ! tt u32 h-names (t .state .names) (ws3 .1 .0) ν3-names δ3-names (same3 .1 .0) $
           by-progress after3
@@ -204,7 +203,7 @@ module _ {M : Type 1} (𝓤 : URA M) (H : Heap 𝓤) (A : Atoms 𝓤) (W : Given
           puts ! 2 31 refl (as-value ! (bin ! (part ! 2 2 0 refl refl tt refl refl refl) (var ! 2 30 refl refl tt) tt)
           (ap (vptr (h-names .block)) (sym (place-is 4 (h-names .off) ((32 * (16 - (below + 1))) + (held + (t .state .i))))))) tt (tt, tt) $
           opens-at ! tt u32 (λ (x : ℕ). words32 .val x ∷ []) (words32 .tells) h-names (ws3 .1 .0) ((32 * (16 - (below + 1))) + (held + (t .state .i))) facts.blank (facts.within script names at d s held below pre (t .state) (ltb→lt (t .state .i) d y1) reading1 e1 x2-0 x2-1 x2-2 x2-3 x2-4 x2-5 y2 judged2 e2 x3-0 y3 after3 (ws3 .1 .0) e3 (same3 .1 .0) x4-0 y4) (λ _.
-          assigns ! (of-opd ! (var ! 3 15 refl refl tt)) (from ! (hop ! (at-local ! 3 31 refl refl tt) (stop !))) (store-raw ! 0 refl (typed 𝓤 H A W words32 x2-2 (enum-laws.owed Reading#.the-type Reading′.the-laws (Reading·.Taken x2-0 x2-1 x2-2 x2-3 x2-4 x2-5) _ (subst (Good readings) y2 g-reading1) .1 .1 .0))) $
+          assigns ! (of-opd ! (var ! 3 14 refl refl tt)) (from ! (hop ! (at-local ! 3 31 refl refl tt) (stop !))) (store-raw ! 0 refl (typed 𝓤 H A W words32 x2-2 (enum-laws.owed Reading#.the-type Reading′.the-laws (Reading·.Taken x2-0 x2-1 x2-2 x2-3 x2-4 x2-5) _ (subst (Good readings) y2 g-reading1) .1 .1 .0))) $
           closes-at ! tt u32 (words32 .makes 𝓤 H A W) h-names (ws3 .1 .0) ((32 * (16 - (below + 1))) + (held + (t .state .i))) x2-2 (words32 .val x2-2 ∷ []) (facts.within script names at d s held below pre (t .state) (ltb→lt (t .state .i) d y1) reading1 e1 x2-0 x2-1 x2-2 x2-3 x2-4 x2-5 y2 judged2 e2 x3-0 y3 after3 (ws3 .1 .0) e3 (same3 .1 .0) x4-0 y4) (enum-laws.owed Reading#.the-type Reading′.the-laws (Reading·.Taken x2-0 x2-1 x2-2 x2-3 x2-4 x2-5) _ (subst (Good readings) y2 g-reading1) .1 .1 .0) $
           puts-field ! 2 9 1 refl (of-opd ! (var ! 2 19 refl refl tt)) refl tt refl refl refl (typed 𝓤 H A W usizes x4-0 (enum-laws.owed Progress#.the-type Progress′.the-laws (Progress·.At x4-0) _ (subst (Good progresses) y4 g-after3) .0)) $
           puts-last ! 2 10 refl (bin ! (var ! 2 10 refl refl tt) (lit ! tt) (record { fits = (facts.fits-6 script names at d s held below pre (t .state) (ltb→lt (t .state .i) d y1) reading1 e1 x2-0 x2-1 x2-2 x2-3 x2-4 x2-5 y2 judged2 e2 x3-0 y3 after3 (ws3 .1 .0) e3 (same3 .1 .0) x4-0 y4) })) tt (tt, record { fits = (facts.fits-6 script names at d s held below pre (t .state) (ltb→lt (t .state .i) d y1) reading1 e1 x2-0 x2-1 x2-2 x2-3 x2-4 x2-5 y2 judged2 e2 x3-0 y3 after3 (ws3 .1 .0) e3 (same3 .1 .0) x4-0 y4) }) $
@@ -212,8 +211,8 @@ module _ {M : Type 1} (𝓤 : URA M) (H : Heap 𝓤) (A : Atoms 𝓤) (W : Given
           (λ x4-0 x4-1 y4. as-held ! 2 18 refl refl (ap (progresses .val) y4) $ misses ! (tag ! 2 18 refl refl tt refl refl refl) tt tt (
           puts ! 2 0 refl (of-opd ! (var ! 2 18 refl refl tt)) tt (typed 𝓤 H A W progresses (Progress·.Refused x4-0 x4-1) (subst (Good progresses) y4 g-after3)) $
           ends-early ! 2 Post refl refl refl tt $ gives ! (mutSlice u32) h-names (ws3 .1 .0) $ move ! (1 ∷ 0 ∷ []) $ by ! (exits (Progress·.Refused x4-0 x4-1) (ws3 .1 .0) ((same3 .1 .0) ∙ (t .long-names)) (subst (Good progresses) y4 g-after3) (facts.says-1 script names at d s held below pre (t .state) (ltb→lt (t .state .i) d y1) reading1 e1 x2-0 x2-1 x2-2 x2-3 x2-4 x2-5 y2 judged2 e2 x3-0 y3 after3 (ws3 .1 .0) e3 (same3 .1 .0) x4-0 x4-1 y4))))))))
-          (λ x3-0 x3-1 y3. as-held ! 2 17 refl refl (ap (progresses .val) y3) $ misses ! (tag ! 2 17 refl refl tt refl refl refl) tt tt (
-          puts ! 2 0 refl (of-opd ! (var ! 2 17 refl refl tt)) tt (typed 𝓤 H A W progresses (Progress·.Refused x3-0 x3-1) (subst (Good progresses) y3 g-judged2)) $
+          (λ x3-0 x3-1 y3. as-held ! 2 16 refl refl (ap (progresses .val) y3) $ misses ! (tag ! 2 16 refl refl tt refl refl refl) tt tt (
+          puts ! 2 0 refl (of-opd ! (var ! 2 16 refl refl tt)) tt (typed 𝓤 H A W progresses (Progress·.Refused x3-0 x3-1) (subst (Good progresses) y3 g-judged2)) $
           ends-early ! 2 Post refl refl refl tt $ gives ! (mutSlice u32) h-names (t .state .names) $ move ! (1 ∷ 0 ∷ []) $ by ! (exits (Progress·.Refused x3-0 x3-1) (t .state .names) (t .long-names) (subst (Good progresses) y3 g-judged2) (facts.says-2 script names at d s held below pre (t .state) (ltb→lt (t .state .i) d y1) reading1 e1 x2-0 x2-1 x2-2 x2-3 x2-4 x2-5 y2 judged2 e2 x3-0 x3-1 y3))))))))
           (λ x2-0 x2-1 y2. as-held ! 2 12 refl refl (ap (readings .val) y2) $ misses ! (tag ! 2 12 refl refl tt refl refl refl) tt tt (
           calls-by ! fm (Calls-onward 𝓤 H A mem run) known-onward (to (for-onward (Reading·.Refused x2-0 x2-1))) (for-onward (Reading·.Refused x2-0 x2-1)) refl ((subst (Good readings) y2 g-reading1), tt) (Unit {0}) tt (asks-all 𝓤 H A (for-onward (Reading·.Refused x2-0 x2-1)) []) progresses _ (λ v. id⊢ 𝓤 _)

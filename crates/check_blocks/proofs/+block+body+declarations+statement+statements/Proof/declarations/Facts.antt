@@ -11,8 +11,8 @@ use Rattle.check_records.specs.Taking.{Within, progressOf}
 use Rattle.check_records.specs.declared.Reading.{Reading}
 use Rattle.check_records.specs.declared.Progress.{Progress}
 use Rattle.check_names.specs.Naming.{namesAt}
-use Rattle.check_bounds.specs.Judging.{headingAt}
-use Rattle.check_bounds.proofs.HeadLaws.{heading-none, heading-unfit, heading-taken}
+use Rattle.check_bounds.specs.Judging.{headed, headingAt}
+use Rattle.check_bounds.proofs.HeadLaws.{headed-none, fit-stops, fit-goes}
 use Rattle.check_names.proofs.Names.{names-kept, front-kept, front-set}
 use Rattle.check_blocks.specs.Progress.{baseOf}
 use Rattle.check_blocks.proofs.Lands.{tracks-block}
@@ -56,6 +56,9 @@ module _ (script names₀ : List ℕ) (at d s held below : ℕ) where
       size = d - t .i
 
       module _ (more : t .i < d) where
+        abbrev ns : List ℕ
+        ns = namesAt (t .names) base (held + t .i)
+
         pub fits-4 : held + t .i < 2 ^ 64
         fits-4 = omega (arith, pre, more)
 
@@ -64,21 +67,25 @@ module _ (script names₀ : List ℕ) (at d s held below : ℕ) where
             pub asks-fit : fit-asks (t .names) base (held + t .i)
             asks-fit = let l = t .long in omega (arith, pre, more, l)
 
-            module _ (fit : Progress) (judged : fit-says (t .names) mark (t .reader) next-at f0 f1 s base (held + t .i) fit) where
+            module _ (fit : Progress) (judged : fit-says (t .names) (t .reader) (Reading.Taken mark next-at f0 f1 f2 f3) s base (held + t .i) fit) where
               module _ (from : ℕ) (fits : fit ≡ Progress.At from) where
-                pub headed : headingAt script (t .reader) s (namesAt (t .names) base (held + t .i)) ≡ Reading.Taken mark next-at f0 f1 f2 f3
-                headed = heading-taken script (t .reader) s _ (read .0) taken judged fits
+                -- the record ends where the reading says
+                pub ends : reading ≡ Reading.Taken mark from f0 f1 f2 f3
+                ends = taken ∙ ap (λ n. Reading.Taken mark n f0 f1 f2 f3) (fit-goes (t .reader) s ns _ judged refl fits .0)
 
-                pub inside : Within (length script) (t .reader) (Reading.Taken mark next-at f0 f1 f2 f3)
-                inside = subst (Within (length script) (t .reader)) taken (read .1)
+                pub headed-is : headingAt script (t .reader) s ns ≡ Reading.Taken mark from f0 f1 f2 f3
+                headed-is = ap (λ x. headed x (t .reader) s ns) (sym (read .0) ∙ taken) ∙ fit-goes (t .reader) s ns _ judged refl fits .1 ∙ sym taken ∙ ends
 
-                pub less-body : body-size script (t .names) mark next-at f1 below < declarations-size script names₀ at d s held below
+                pub inside : Within (length script) (t .reader) (Reading.Taken mark from f0 f1 f2 f3)
+                inside = subst (Within (length script) (t .reader)) ends (read .1)
+
+                pub less-body : body-size script (t .names) mark from f1 below < declarations-size script names₀ at d s held below
                 less-body = let w = inside in omega (arith, w, t .left .onward)
 
                 pub asks-body : body-asks (t .names) mark f1 below
-                asks-body = (pre .0, few-formals (tracks-block _ _) (t .left) more refl headed, t .long)
+                asks-body = (pre .0, few-formals (tracks-block _ _) (t .left) more refl headed-is, t .long)
 
-                module _ (after : Progress) (names2 : List ℕ) (said : body-says script (t .names) mark next-at f1 below after names2) (long2 : length names2 ≡ length (t .names)) where
+                module _ (after : Progress) (names2 : List ℕ) (said : body-says script (t .names) mark from f1 below after names2) (long2 : length names2 ≡ length (t .names)) where
                   pub kept-on : take base names2 ≡ take base names₀
                   kept-on = front-kept (t .names) names2 base (baseOf below) (omega (arith, pre)) (said .1) ∙ t .kept
 
@@ -102,7 +109,7 @@ module _ (script names₀ : List ℕ) (at d s held below : ℕ) where
                         (subst (λ k. take k names2 ≡ take k (t .names)) next-level (said .1))
 
                     pub left-on : DeclsLeft (blockWith below) s d (namesAt names₀ base held) script at (set names2 (base + (held + t .i)) f0) base held end (t .i + 1)
-                    left-on = let w = inside in decls-again (tracks-block script below) (t .left) more refl headed (said .0) names2 goes (omega (arith, w)) same within
+                    left-on = let w = inside in decls-again (tracks-block script below) (t .left) more refl headed-is (said .0) names2 goes (omega (arith, w)) same within
 
                     abbrev pub next : State
                     next = record {
@@ -120,18 +127,18 @@ module _ (script names₀ : List ℕ) (at d s held below : ℕ) where
 
                   module _ (c : Refusal) (o : ℕ) (stops : after ≡ Progress.Refused c o) where
                     pub says-1 : Said script names₀ at d s held below (Progress.Refused c o) names2
-                    says-1 = (sym stops ∙ below-refused (tracks-block _ _) (t .left) more refl headed (said .0) stops, kept-on)
+                    says-1 = (sym stops ∙ below-refused (tracks-block _ _) (t .left) more refl headed-is (said .0) stops, kept-on)
 
               module _ (c : Refusal) (o : ℕ) (unfit : fit ≡ Progress.Refused c o) where
                 pub says-2 : Said script names₀ at d s held below (Progress.Refused c o) (t .names)
                 says-2 =
-                    let h = heading-unfit script (t .reader) s (namesAt (t .names) base (held + t .i)) (read .0) taken judged unfit in
+                    let h = ap (λ x. headed x (t .reader) s ns) (sym (read .0) ∙ taken) ∙ fit-stops (t .reader) s ns _ judged unfit in
                     (head-refused (tracks-block _ _) (t .left) more refl h (ap progressOf (sym h)), t .kept)
 
           module _ (c : Refusal) (o : ℕ) (untaken : reading ≡ Reading.Refused c o) (gone : Progress) (on : onward-says (Reading.Refused c o) gone) where
             pub says-3 : Said script names₀ at d s held below gone (t .names)
             says-3 =
-                let h = heading-none script (t .reader) s (namesAt (t .names) base (held + t .i)) (read .0) untaken in
+                let h = ap (λ x. headed x (t .reader) s ns) (sym (read .0)) ∙ headed-none (t .reader) s ns untaken in
                 (head-refused (tracks-block _ _) (t .left) more refl h (on ∙ ap progressOf (sym h)), t .kept)
 
       module _ (none : t .i < d → ⊥) where

@@ -3,13 +3,12 @@
 use Prim.Native.Nat.{_+_, _≤_, ℕ}
 use Rattle.check_blocks.proofs.Rows.{marks}
 use Rattle.check_blocks.specs.Progress.{baseOf, belowOf}
-use Rattle.check_bounds.specs.Judging.{onceAt, rangedOf, FewFormals}
+use Rattle.check_bounds.specs.Judging.{headed, FewFormals}
 use Rattle.check_bounds.specs.Marks.{declMarkOf}
 use Rattle.check_marks.specs.declared.Place.the-variants.{Declaration}
 use Rattle.check_names.proofs.Rows.{progresses, readings}
 use Rattle.check_names.specs.Naming.{namesAt}
 use Rattle.check_records.specs.Taking.{forget, unread, Within, recordAt, progressOf}
-use Rattle.language.specs.Basics.{among}
 use Rattle.language.specs.Structure.{declarations as allDeclared, blockWith}
 use lib.ListN.{length, take}
 use mathlib.Core.List.{List}
@@ -27,8 +26,8 @@ declaration-here-says r-script r-at o = (o ≡ recordAt Declaration r-script r-a
 abbrev pub fit-asks : List ℕ → ℕ → ℕ → Type 0
 fit-asks names base count = base + count ≤ length names
 
-abbrev pub fit-says : List ℕ → marks .type .Denot → ℕ → ℕ → ℕ → ℕ → ℕ → ℕ → ℕ → progresses .type .Denot → Type 0
-fit-says names mark at next f0 f1 s base count r = r ≡ onceAt (rangedOf (declMarkOf mark) at next f1 s) (among f0 (namesAt names base count)) at
+abbrev pub fit-says : List ℕ → ℕ → readings .type .Denot → ℕ → ℕ → ℕ → progresses .type .Denot → Type 0
+fit-says names at reading s base count r = r ≡ progressOf (headed reading at s (namesAt names base count))
 
 abbrev pub body-asks : List ℕ → marks .type .Denot → ℕ → ℕ → Type 0
 body-asks names mark p below = (below ≤ 15) × FewFormals (declMarkOf mark) p × (length names ≡ 544)
