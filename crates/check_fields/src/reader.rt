@@ -1,6 +1,6 @@
 // The reader over the bytes of a script that is lent (document 01, "Code places and their forms"): it hands out what stands at its
 // position. The borrow checker covers no function that has one, so each is proved by hand: those here and in check_readers leave the work to a function
-// of the slice and the number, and the loop over formals in check_names moves one on.
+// of the slice and the number, and the loops over formals, declarations and statements (check_names, check_blocks) move one on.
 use super::bytes::word_at;
 ghost use mathlib.Core.Path.{_≡_};
 ghost use Prim.Native.Nat.{_^_, _<_};
