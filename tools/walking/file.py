@@ -212,7 +212,7 @@ def proof(w):
     if w.knot:
         body = body.replace("mine.function", "mine.%s-function" % w.f.name)
     words = tokens(body)
-    lines = ["-- `%s` meets its contract: a walk of its MIR, written by `%s`. By hand is Proof/Facts.antt alone." % (w.path, made_by(w))]
+    lines = ["-- `%s` meets its contract: a walk of its MIR, written by `%s`. By hand is Proof/%sFacts.antt alone." % (w.path, made_by(w), w.f.name + "/" if w.knot else "")]
     mine = w.types.module(w.path)[1]
     lines += (["mod Facts"] if w.needed else []) + (["mod Said"] if says(w) else [])
     for module, names in NAMES:

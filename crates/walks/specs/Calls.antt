@@ -5,6 +5,7 @@
 --     to ps            what its triple binds.
 --     calls-by         the call. The caller shows that the callee's `pre` is what it is passed beside a fact, and that its `post` is `Given-back`, both by
 --         computation (`id⊢`)
+--     calls-one        the same, of a callee whose triple is known at one choice of arguments alone, as that of a member of a cycle is
 -- Assumes `Given`, and that the table of calls is monotone under a frame.
 use mathlib.Core.Path.{_≡_, refl, ap, subst}
 use Prim.Native.Nat.{ℕ, zero, suc}

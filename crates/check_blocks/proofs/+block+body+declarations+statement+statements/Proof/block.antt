@@ -1,4 +1,4 @@
--- `check_blocks::block` meets its contract: a walk of its MIR, written by `tools/walk check_blocks block`. By hand is Proof/Facts.antt alone.
+-- `check_blocks::block` meets its contract: a walk of its MIR, written by `tools/walk check_blocks block`. By hand is Proof/block/Facts.antt alone.
 mod Facts
 mod Said
 use mathlib.Core.Path.{_≡_, refl, _∙_, ap, subst}

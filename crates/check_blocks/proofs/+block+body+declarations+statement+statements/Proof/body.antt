@@ -1,4 +1,4 @@
--- `check_blocks::body` meets its contract: a walk of its MIR, written by `tools/walk check_blocks body`. By hand is Proof/Facts.antt alone.
+-- `check_blocks::body` meets its contract: a walk of its MIR, written by `tools/walk check_blocks body`. By hand is Proof/body/Facts.antt alone.
 mod Facts
 mod Said
 use mathlib.Core.Path.{_≡_, refl, _∙_, ap, subst}

@@ -1,4 +1,4 @@
--- `check_blocks::declarations` meets its contract: a walk of its MIR, written by `tools/walk check_blocks declarations`. By hand is Proof/Facts.antt alone.
+-- `check_blocks::declarations` meets its contract: a walk of its MIR, written by `tools/walk check_blocks declarations`. By hand is Proof/declarations/Facts.antt alone.
 mod Facts
 mod Said
 use mathlib.Core.Path.{_≡_, refl, sym, _∙_, ap, subst}

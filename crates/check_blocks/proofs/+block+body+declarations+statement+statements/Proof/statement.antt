@@ -1,4 +1,4 @@
--- `check_blocks::statement` meets its contract: a walk of its MIR, written by `tools/walk check_blocks statement`. By hand is Proof/Facts.antt alone.
+-- `check_blocks::statement` meets its contract: a walk of its MIR, written by `tools/walk check_blocks statement`. By hand is Proof/statement/Facts.antt alone.
 mod Facts
 mod Said
 use mathlib.Core.Path.{_≡_, refl}

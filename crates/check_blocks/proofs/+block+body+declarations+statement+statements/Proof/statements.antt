@@ -1,4 +1,4 @@
--- `check_blocks::statements` meets its contract: a walk of its MIR, written by `tools/walk check_blocks statements`. By hand is Proof/Facts.antt alone.
+-- `check_blocks::statements` meets its contract: a walk of its MIR, written by `tools/walk check_blocks statements`. By hand is Proof/statements/Facts.antt alone.
 mod Facts
 mod Said
 use mathlib.Core.Path.{_≡_, refl, _∙_, ap, subst}
