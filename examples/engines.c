@@ -41,10 +41,17 @@ static void run_display(struct call *call, uint64_t answer[ENROL_ANSWER_WORDS])
                   call->count, call->name, call->sheet, call->sheet_len, answer);
 }
 
+static void run_search(struct call *call, uint64_t answer[ENROL_ANSWER_WORDS])
+{
+    enrol_search(call->script, call->script_len, call->d, call->n, call->g, call->tally, call->table, 2 * call->places,
+                 call->count, call->name, call->sheet, call->sheet_len, answer);
+}
+
 const struct engine engines[] = {
     {"copy", area_words, run_copy},
     {"chain", record_words, run_chain},
     {"display", no_words, run_display},
+    {"search", no_words, run_search},
 };
 const size_t engine_count = sizeof engines / sizeof engines[0];
 

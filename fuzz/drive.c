@@ -41,6 +41,9 @@ void reference_chain(const uint8_t *script, size_t script_len, uint32_t d, uint3
 void reference_display(const uint8_t *script, size_t script_len, uint32_t d, uint32_t n, uint32_t g, uint64_t tally,
                        int32_t *table, size_t table_len, size_t count, uint16_t name, int32_t *sheet, size_t sheet_len,
                        uint64_t answer[ENROL_ANSWER_WORDS]);
+void reference_search(const uint8_t *script, size_t script_len, uint32_t d, uint32_t n, uint32_t g, uint64_t tally,
+                      int32_t *table, size_t table_len, size_t count, uint16_t name, int32_t *sheet, size_t sheet_len,
+                      uint64_t answer[ENROL_ANSWER_WORDS]);
 
 static size_t least(size_t one, size_t other)
 {
@@ -132,6 +135,19 @@ static void right_display(const struct call *call, struct lent *lent)
                       lent->answer + GUARD);
 }
 
+static void search(const struct call *call, struct lent *lent)
+{
+    enrol_search(call->script, call->script_len, call->d, call->n, call->g, call->tally, lent->table + GUARD,
+                 call->table_len, call->count, call->name, lent->sheet + GUARD, call->sheet_len, lent->answer + GUARD);
+}
+
+static void right_search(const struct call *call, struct lent *lent)
+{
+    reference_search(call->script, call->script_len, call->d, call->n, call->g, call->tally, lent->table + GUARD,
+                     call->table_len, call->count, call->name, lent->sheet + GUARD, call->sheet_len,
+                     lent->answer + GUARD);
+}
+
 /* An export, the word of its answer that has the cause's number, and how many words it alone is lent. */
 struct export {
     const char *name;
@@ -146,6 +162,7 @@ static const struct export exports[] = {
     {"copy", copy, right_copy, ENROL_ANSWER_NUMBER, area_len},
     {"chain", chain, right_chain, ENROL_ANSWER_NUMBER, record_words},
     {"display", display, right_display, ENROL_ANSWER_NUMBER, no_len},
+    {"search", search, right_search, ENROL_ANSWER_NUMBER, no_len},
 };
 enum { EXPORTS = sizeof exports / sizeof exports[0] };
 

@@ -4,9 +4,22 @@
  *     enrol_copy       run it: by the copy rule, on copies of the script's text in an area that the caller lends
  *     enrol_chain      run it: names by static links in activation records that the caller lends
  *     enrol_display    run it: names by a display
+ *     enrol_search     run it: names by a search back along the callers
  *
  * The engines differ in how they find a name and in what they are lent for it. Handed the same call, all give the same
  * but for the links, which only the chain engine counts.
+ *
+ * Which engine to call:
+ *
+ *     display    for any script: what a name costs does not depend on where it is declared.
+ *     chain      where the activation records shall stand in the caller's memory, or where it is asked how many links
+ *                lead to the looked-up name.
+ *     copy       for the copy rule itself, on real copies of the text. It is lent room for D copies of the script.
+ *     search     where no static links and no display shall be kept: for shallow scripts, whose names are declared few
+ *                activations away. A name declared far down the callers' chain, as from deep recursion or in a block
+ *                15 levels out, costs time for each activation that the search passes, though no step of n.
+ *
+ * `make bench' prints the times of all four on the same scripts.
  *
  * The library needs nothing but the C library. It allocates nothing, keeps no pointer after a call has returned and
  * holds nothing between calls, so calls on different threads do not disturb each other. A call needs less than 512 KiB
@@ -259,6 +272,14 @@ void enrol_chain(const uint8_t *script, size_t script_len, uint32_t d, uint32_t 
 void enrol_display(const uint8_t *script, size_t script_len, uint32_t d, uint32_t n, uint32_t g, uint64_t tally,
                    int32_t *table, size_t table_len, size_t count, uint16_t name, int32_t *sheet, size_t sheet_len,
                    uint64_t answer[ENROL_ANSWER_WORDS]);
+
+/* Runs a script on the search engine, which seeks a name in the innermost activation, then in the one that called or
+ * entered it, and so on outwards. Only from an activation that was entered through a procedure formal it goes on at
+ * another one: at the activation whose call first passed the declared procedure on its way to that formal. It is lent
+ * nothing beside what every engine is, and gives 0 links. */
+void enrol_search(const uint8_t *script, size_t script_len, uint32_t d, uint32_t n, uint32_t g, uint64_t tally,
+                  int32_t *table, size_t table_len, size_t count, uint16_t name, int32_t *sheet, size_t sheet_len,
+                  uint64_t answer[ENROL_ANSWER_WORDS]);
 
 #ifdef __cplusplus
 }

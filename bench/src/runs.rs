@@ -39,6 +39,7 @@ pub fn rows() -> Vec<Row> {
     let mut rows: Vec<Row> =
         [Engine::Display, Engine::Chain, Engine::Copy].into_iter().flat_map(rows_of).collect();
     rows.push(entering());
+    rows.extend(rows_of(Engine::Search));
     rows
 }
 
@@ -47,6 +48,7 @@ enum Engine {
     Display,
     Chain,
     Copy,
+    Search,
 }
 
 fn rows_of(engine: Engine) -> Vec<Row> {
@@ -119,13 +121,14 @@ fn library(
         Engine::Display => enrol::display(script, asked, table, sheet),
         Engine::Chain => enrol::chain(script, asked, table, sheet, own),
         Engine::Copy => enrol::copy(script, asked, table, sheet, own),
+        Engine::Search => enrol::search(script, asked, table, sheet),
     }
 }
 
 /// What only this engine is lent.
 fn own_words(engine: Engine, script: &[u8]) -> Vec<u32> {
     match engine {
-        Engine::Display => Vec::new(),
+        Engine::Display | Engine::Search => Vec::new(),
         Engine::Chain => vec![0; 3 * D as usize],
         Engine::Copy => vec![0; D as usize * script.len() / 2],
     }
@@ -160,6 +163,7 @@ fn request<'a>(engine: Engine, script: &'a [u8], asked: &Asked) -> Request<'a> {
         Engine::Display => reference::Engine::Display,
         Engine::Chain => reference::Engine::Chain { records: D as usize },
         Engine::Copy => reference::Engine::Copying { area: D as usize * script.len() / 2 },
+        Engine::Search => reference::Engine::Search,
     };
     Request { engine, script, d, n, g, tally, count, name }
 }
@@ -169,5 +173,6 @@ fn named(engine: Engine, workload: &str) -> String {
         Engine::Display => format!("display, {workload}"),
         Engine::Chain => format!("chain, {workload}"),
         Engine::Copy => format!("copy, {workload}"),
+        Engine::Search => format!("search, {workload}"),
     }
 }

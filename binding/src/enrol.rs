@@ -53,6 +53,21 @@ extern "C" {
         records_len: usize,
         answer: *mut u64,
     );
+    fn enrol_search(
+        script: *const u8,
+        script_len: usize,
+        d: u32,
+        n: u32,
+        g: u32,
+        tally: u64,
+        table: *mut i32,
+        table_len: usize,
+        count: usize,
+        name: u16,
+        sheet: *mut i32,
+        sheet_len: usize,
+        answer: *mut u64,
+    );
 }
 
 /// An activation record of the chain engine.
@@ -62,6 +77,23 @@ struct Activation {
     next: u32,
     link: u32,
 }
+
+/// The function of an engine that is lent nothing of its own.
+type OnNothing = unsafe extern "C" fn(
+    *const u8,
+    usize,
+    u32,
+    u32,
+    u32,
+    u64,
+    *mut i32,
+    usize,
+    usize,
+    u16,
+    *mut i32,
+    usize,
+    *mut u64,
+);
 
 /// An engine's function that is lent elements of its own.
 type OnElements<T> = unsafe extern "C" fn(
@@ -145,11 +177,25 @@ pub fn guarded_check(script: &[u8]) -> Result<Checked, Strayed> {
 }
 
 pub fn display(script: &[u8], asked: &Asked, table: &mut [i32], sheet: &mut [i32]) -> Answer {
+    on_nothing(enrol_display, script, asked, table, sheet)
+}
+
+pub fn search(script: &[u8], asked: &Asked, table: &mut [i32], sheet: &mut [i32]) -> Answer {
+    on_nothing(enrol_search, script, asked, table, sheet)
+}
+
+fn on_nothing(
+    engine: OnNothing,
+    script: &[u8],
+    asked: &Asked,
+    table: &mut [i32],
+    sheet: &mut [i32],
+) -> Answer {
     let mut answer = [0; 9];
     let Asked { d, n, g, tally, count, name } = *asked;
     // SAFETY: the pointers are those of slices and an array, with the slices' lengths.
     unsafe {
-        enrol_display(
+        engine(
             script.as_ptr(),
             script.len(),
             d,
@@ -174,6 +220,25 @@ pub fn guarded_display(
     table: &[i32],
     sheet: &[i32],
 ) -> Result<Ran, Strayed> {
+    guarded_on_nothing(enrol_display, script, asked, table, sheet)
+}
+
+pub fn guarded_search(
+    script: &[u8],
+    asked: &Asked,
+    table: &[i32],
+    sheet: &[i32],
+) -> Result<Ran, Strayed> {
+    guarded_on_nothing(enrol_search, script, asked, table, sheet)
+}
+
+fn guarded_on_nothing(
+    engine: OnNothing,
+    script: &[u8],
+    asked: &Asked,
+    table: &[i32],
+    sheet: &[i32],
+) -> Result<Ran, Strayed> {
     let mut script = Lent::new("script", script, 0x5a);
     let mut table = Lent::new("table", table, GUARD);
     let mut sheet = Lent::new("sheet", sheet, GUARD);
@@ -181,7 +246,7 @@ pub fn guarded_display(
     let Asked { d, n, g, tally, count, name } = *asked;
     // SAFETY: all pointers are to as many words as the call is told of.
     unsafe {
-        enrol_display(
+        engine(
             script.pointer(),
             script.length(),
             d,

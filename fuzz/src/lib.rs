@@ -6,6 +6,8 @@ use reference::{Engine, Request};
 
 /// Runs up to this many steps are made by the copy rule, longer ones by the fast implementation.
 const COPIED_STEPS: u32 = 100;
+/// Those up to this many by search as well, where that engine is called.
+const SEARCHED_STEPS: u32 = 1_000;
 
 /// As enrol_check of include/enrol.h.
 ///
@@ -106,6 +108,48 @@ pub unsafe extern "C" fn reference_display(
     let sheet = unsafe { slice::from_raw_parts_mut(sheet, sheet_len) };
     let request = Request { engine: Engine::Display, script, d, n, g, tally, count, name };
     unsafe { *answer = run(&request, table, sheet) };
+}
+
+/// As enrol_search; a run by search must come to the same.
+///
+/// # Safety
+/// Each pointer is to as many elements as the length beside it says, `answer` to nine words; none overlap.
+#[no_mangle]
+pub unsafe extern "C" fn reference_search(
+    script: *const u8,
+    script_len: usize,
+    d: u32,
+    n: u32,
+    g: u32,
+    tally: u64,
+    table: *mut i32,
+    table_len: usize,
+    count: usize,
+    name: u16,
+    sheet: *mut i32,
+    sheet_len: usize,
+    answer: *mut [u64; 9],
+) {
+    let script = unsafe { slice::from_raw_parts(script, script_len) };
+    let table = unsafe { slice::from_raw_parts_mut(table, table_len) };
+    let sheet = unsafe { slice::from_raw_parts_mut(sheet, sheet_len) };
+    let request = Request { engine: Engine::Search, script, d, n, g, tally, count, name };
+    let searched =
+        (n <= SEARCHED_STEPS).then(|| by_search(&request, table.to_vec(), sheet.to_vec()));
+    let words = run(&request, table, sheet);
+    if let Some(searched) = searched {
+        assert!(searched == (words, table.to_vec(), sheet.to_vec()), "search differs: {request:?}");
+    }
+    unsafe { *answer = words };
+}
+
+fn by_search(
+    request: &Request,
+    mut table: Vec<i32>,
+    mut sheet: Vec<i32>,
+) -> ([u64; 9], Vec<i32>, Vec<i32>) {
+    let answer = reference::search::run(request, &mut table, &mut sheet);
+    (answer.words(), table, sheet)
 }
 
 fn run(request: &Request, table: &mut [i32], sheet: &mut [i32]) -> [u64; 9] {

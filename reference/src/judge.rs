@@ -36,7 +36,7 @@ pub fn lent(request: &Request, sheet: usize) -> Result<(), Refused> {
     let d = request.d as usize;
     let records_fit = match request.engine {
         Engine::Chain { records } => records >= d,
-        Engine::Copying { .. } | Engine::Display => true,
+        Engine::Copying { .. } | Engine::Display | Engine::Search => true,
     };
     if sheet >= d * SHEET_WORDS && records_fit {
         Ok(())

@@ -12,6 +12,7 @@ pub enum Engine {
         records: usize,
     },
     Display,
+    Search,
 }
 
 #[derive(Clone, Copy, Debug)]

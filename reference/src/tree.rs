@@ -1,6 +1,6 @@
 //! Encoding: the text as a tree, each record with its byte offset.
 
-/// 16 bits in a script; the copy rule's new names lie above them.
+/// 16 bits in a script; the copy rule's new names lie above them. The search has numbers instead.
 pub type Name = u32;
 
 #[derive(Clone, Copy, Debug, PartialEq, Eq)]
@@ -77,6 +77,41 @@ impl Declaration {
             Declared::Variable => Kind::Variable,
             Declared::Label(_) => Kind::Label,
             Declared::Procedure(_) => Kind::Procedure,
+        }
+    }
+}
+
+impl Action {
+    /// The same on other names; a block is changed as a whole.
+    pub fn renamed(
+        &self,
+        now: impl Fn(Name) -> Name,
+        block: impl FnOnce(&Block) -> Block,
+    ) -> Action {
+        match *self {
+            Action::Block(ref inner) => Action::Block(block(inner)),
+            Action::Call { procedure, ref arguments } => Action::Call {
+                procedure: now(procedure),
+                arguments: arguments.iter().map(|&name| now(name)).collect(),
+            },
+            Action::Go { label } => Action::Go { label: now(label) },
+            Action::If { variable, label } => {
+                Action::If { variable: now(variable), label: now(label) }
+            }
+            Action::Constant { target, value } => Action::Constant { target: now(target), value },
+            Action::Arithmetic { target, operation, left, right } => Action::Arithmetic {
+                target: now(target),
+                operation,
+                left: now(left),
+                right: now(right),
+            },
+            Action::Add { group, member } => Action::Add { group: now(group), member: now(member) },
+            Action::Remove { group, member } => {
+                Action::Remove { group: now(group), member: now(member) }
+            }
+            Action::Query { target, group, member } => {
+                Action::Query { target: now(target), group: now(group), member: now(member) }
+            }
         }
     }
 }

@@ -21,29 +21,32 @@ fn number(call: &Call, engine: Engine) -> u64 {
     reply.answer.number()
 }
 
-fn on_display(call: Call) -> u64 {
-    number(&call, Engine::Display)
+/// By an engine that is lent nothing of its own.
+fn plain(call: Call) -> u64 {
+    let number_of = |engine| number(&call, engine);
+    assert_eq!(number_of(Engine::Display), number_of(Engine::Search));
+    number_of(Engine::Display)
 }
 
 #[test]
 fn limits_at_their_bounds() {
     let sheet = 256 * 34;
     for (d, expected) in [(0, 12), (1, 0), (256, 0), (257, 12), (u32::MAX, 12)] {
-        assert_eq!(on_display(Call { d, sheet, ..small() }), expected, "D {d}");
+        assert_eq!(plain(Call { d, sheet, ..small() }), expected, "D {d}");
     }
     for (g, expected) in [(0, 12), (1, 14), (2, 0), (65_535, 0), (65_536, 12)] {
-        assert_eq!(on_display(Call { g, ..small() }), expected, "G {g}");
+        assert_eq!(plain(Call { g, ..small() }), expected, "G {g}");
     }
     for (tally, expected) in [(1_000_000_000_000, 0), (1_000_000_000_001, 12), (u64::MAX, 12)] {
-        assert_eq!(on_display(Call { tally, ..small() }), expected, "tally {tally}");
+        assert_eq!(plain(Call { tally, ..small() }), expected, "tally {tally}");
     }
 }
 
 #[test]
 fn lent_areas_at_their_bounds() {
-    assert_eq!(on_display(Call { sheet: 16 * 34 - 1, ..small() }), 13);
-    assert_eq!(on_display(Call { sheet: 16 * 34, ..small() }), 0);
-    assert_eq!(on_display(Call { sheet: 16 * 34 + 7, ..small() }), 0);
+    assert_eq!(plain(Call { sheet: 16 * 34 - 1, ..small() }), 13);
+    assert_eq!(plain(Call { sheet: 16 * 34, ..small() }), 0);
+    assert_eq!(plain(Call { sheet: 16 * 34 + 7, ..small() }), 0);
     assert_eq!(number(&small(), Engine::Chain { records: 15 }), 13);
     assert_eq!(number(&small(), Engine::Chain { records: 16 }), 0);
     let area = small().lent_area();
@@ -54,7 +57,7 @@ fn lent_areas_at_their_bounds() {
 #[test]
 fn table_right_or_not() {
     let table =
-        |table: &[i32], count| on_display(Call { g: 2, table: table.to_vec(), count, ..small() });
+        |table: &[i32], count| plain(Call { g: 2, table: table.to_vec(), count, ..small() });
     assert_eq!(table(&[], 0), 0);
     assert_eq!(table(&[0], 0), 14);
     assert_eq!(table(&[1, 1, 2], 1), 14);
@@ -79,9 +82,9 @@ fn table_with_many_pairs() {
         (0..pairs - 1).flat_map(pair).chain(last).collect()
     };
     let many = |last| Call { g: 60_000, table: words(last), count: 300_000, ..small() };
-    assert_eq!(on_display(many([5, pairs])), 0);
-    assert_eq!(on_display(many([5, 5])), 14);
-    assert_eq!(on_display(many([4, pairs])), 14);
+    assert_eq!(plain(many([5, pairs])), 0);
+    assert_eq!(plain(many([5, 5])), 14);
+    assert_eq!(plain(many([4, pairs])), 14);
 }
 
 /// Each call has the fault named and all those that come after it.

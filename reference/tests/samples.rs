@@ -4,13 +4,9 @@ mod support;
 
 use reference::fast::{run_flawed, Flaw};
 use reference::{End, Engine, Refusal, Stop};
-use support::{assemble, checked, Call, Reply, Run};
+use support::{assemble, checked, Call, Reply, Run, B};
 
 const A: &str = "BK 2 3, VR 1, VR 2, KN 1 5, KN 2 7, AD 1 2";
-
-const B: &str =
-    "BK 3 1, VR 1, PR 2 0, BK 0 0, PR 3 1, FM 4 2, BK 3 6, VR 5, PR 6 0, BK 0 1, KN 5 9, \
-                 LB 7 5, IF 1 7, KN 1 1, KN 5 1, CL 3 1 6, KN 5 2, CL 4 0, CL 3 1 2";
 
 fn call(text: &str) -> Call {
     Call::new(assemble(text))
@@ -186,9 +182,9 @@ fn allowance_at_its_bound() {
 
 #[test]
 fn the_run_program_on_a() {
-    for engine in
-        [Engine::Copying { area: 16 * 18 }, Engine::Chain { records: 16 }, Engine::Display]
-    {
+    let copying = Engine::Copying { area: 16 * 18 };
+    let chain = Engine::Chain { records: 16 };
+    for engine in [copying, chain, Engine::Display, Engine::Search] {
         let reply = call(A).on(engine);
         assert_eq!(reply.answer.words(), [0, 0, 4, 0, 1, 0, 4, 0, 0]);
         assert_eq!(reply.table[..2], [5, 7]);

@@ -1,4 +1,4 @@
-//! Every line of the repository's tests/vectors: both checks, both runs, all three engines.
+//! Every line of the repository's tests/vectors: both checks, all runs, all engines.
 
 mod support;
 

@@ -5,7 +5,10 @@ pub enum Engine {
     Copying,
     Chain,
     Display,
+    Search,
 }
+
+pub const ENGINES: [Engine; 4] = [Engine::Copying, Engine::Chain, Engine::Display, Engine::Search];
 
 #[derive(Clone, Debug, PartialEq, Eq)]
 pub struct Call {
@@ -19,7 +22,7 @@ pub struct Call {
     pub name: u16,
     pub table: Vec<i32>,
     pub sheet: Vec<i32>,
-    /// The copying area, or the chain's records with three words each; empty for the display.
+    /// The copying area, or the chain's records with three words each; empty for the others.
     pub working: Vec<u32>,
 }
 

@@ -16,6 +16,15 @@ pub fn encode(program: &Block) -> Script {
     script
 }
 
+/// A script in words: a mark's letters, or a field; KN's value is two fields.
+pub fn written(text: &str) -> Vec<u8> {
+    let field = |word: &str| match word.parse::<u16>() {
+        Ok(field) => field.to_le_bytes().to_vec(),
+        Err(_) => word.as_bytes().to_vec(),
+    };
+    text.split_whitespace().flat_map(field).collect()
+}
+
 impl Script {
     fn record(&mut self, mark: &[u8; 2], fields: &[usize]) {
         self.records.push(self.bytes.len());

@@ -1,12 +1,13 @@
 //! A whole call: a script with limits, a table and a looked-up name.
 
-use crate::call::{Call, Engine};
+use crate::call::{Call, ENGINES};
 use crate::damage::damage;
 use crate::edges;
 use crate::encode::encode;
 use crate::generate::program;
 use crate::lent;
 use crate::parties::fast;
+use crate::passing;
 use crate::random::Random;
 use crate::shapes::at_a_bound;
 
@@ -18,10 +19,10 @@ pub fn case(seed: u64, number: u64) -> Call {
 }
 
 pub fn script(random: &mut Random) -> Vec<u8> {
-    if random.chance(78) {
-        encode(&program(random)).bytes
-    } else {
-        unfit_script(random)
+    match random.below(100) {
+        0..=74 => encode(&program(random)).bytes,
+        75..=77 => passing::script(random),
+        _ => unfit_script(random),
     }
 }
 
@@ -38,7 +39,7 @@ pub fn unfit_script(random: &mut Random) -> Vec<u8> {
 }
 
 pub fn call(random: &mut Random, script: Vec<u8>) -> Call {
-    let engine = random.pick(&[Engine::Copying, Engine::Chain, Engine::Display]);
+    let engine = random.pick(&ENGINES);
     let d = activations(random);
     let g = group_limit(random);
     let (table, count) = table(random, g);

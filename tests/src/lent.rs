@@ -1,7 +1,7 @@
 //! Lent slices: filled with a pattern and mostly longer than asked, so that a word written
 //! where none may be is seen.
 
-use crate::call::Engine;
+use crate::call::{Call, Engine};
 use crate::random::Random;
 
 /// Beyond it D is refused anyway.
@@ -20,9 +20,24 @@ pub fn working(random: &mut Random, engine: Engine, d: u32, script: usize) -> Ve
     let length = match engine {
         Engine::Copying => about(random, activations(d) * (script / 2)),
         Engine::Chain => 3 * about(random, activations(d)),
-        Engine::Display => 0,
+        Engine::Display | Engine::Search => 0,
     };
     (0..length).map(pattern).collect()
+}
+
+/// The call to an engine. Where it was made for another one, the engine is lent just what it asks for.
+pub fn to(engine: Engine, call: &Call) -> Call {
+    let working = if engine == call.engine { call.working.clone() } else { own(engine, call) };
+    Call { engine, working, ..call.clone() }
+}
+
+fn own(engine: Engine, call: &Call) -> Vec<u32> {
+    let words = match engine {
+        Engine::Copying => activations(call.d) * (call.script.len() / 2),
+        Engine::Chain => 3 * activations(call.d),
+        Engine::Display | Engine::Search => 0,
+    };
+    (0..words).map(pattern).collect()
 }
 
 fn activations(d: u32) -> usize {

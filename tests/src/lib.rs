@@ -11,6 +11,7 @@ pub mod lent;
 pub mod listing;
 pub mod names;
 pub mod parties;
+pub mod passing;
 pub mod quiet;
 pub mod random;
 pub mod reduce;

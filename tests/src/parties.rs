@@ -33,6 +33,15 @@ pub fn fast() -> Party {
     }
 }
 
+/// By search, for calls to that engine.
+pub fn search() -> Party {
+    Party {
+        name: "search",
+        run: Box::new(|call| reply(call, reference::search::run)),
+        check: copy_rule().check,
+    }
+}
+
 /// The proved library's script check, through its C interface.
 #[cfg(feature = "enrol")]
 pub fn library_check() -> Check {
@@ -70,6 +79,9 @@ fn library_reply(call: &Call) -> Reply {
             &call.sheet,
             &call.working,
         ),
+        Engine::Search => {
+            binding::enrol::guarded_search(&call.script, &asked, &call.table, &call.sheet)
+        }
     };
     match ran {
         Ok(ran) => {
@@ -112,6 +124,7 @@ fn request(call: &Call) -> Request<'_> {
         Engine::Copying => reference::Engine::Copying { area: call.working.len() },
         Engine::Chain => reference::Engine::Chain { records: call.working.len() / 3 },
         Engine::Display => reference::Engine::Display,
+        Engine::Search => reference::Engine::Search,
     };
     Request {
         engine,

@@ -25,6 +25,7 @@ pub fn line(call: &Call) -> String {
         Engine::Copying => String::from("copy"),
         Engine::Chain => String::from("chain"),
         Engine::Display => String::from("display"),
+        Engine::Search => String::from("search"),
     };
     let Call { d, n, g, tally, count, name, .. } = call;
     let (script, table) = (hex(&call.script), list(&call.table));
@@ -45,6 +46,7 @@ pub fn parse(line: &str) -> Option<Call> {
             "copy" => Engine::Copying,
             "chain" => Engine::Chain,
             "display" => Engine::Display,
+            "search" => Engine::Search,
             _ => return None,
         },
         script: bytes(script)?,

@@ -1,20 +1,16 @@
 //! All implementations against the copy rule.
 
-use differential::call::Call;
+use differential::call::{Call, Engine};
 use differential::compare::{assert_agree, assert_same_verdict};
-use differential::parties::{copy_rule, fast, Party};
+use differential::lent::to;
+use differential::parties::{copy_rule, fast, search};
 use differential::random::Random;
 use differential::{inputs, table_work};
 
-/// Held against the copy rule; a further implementation is added here.
-fn parties() -> Vec<Party> {
-    vec![fast()]
-}
-
+/// Each on the call as it takes it; a further implementation is added here.
 fn hold(origin: &str, call: &Call) {
-    for party in parties() {
-        assert_agree(&copy_rule(), &party, origin, call);
-    }
+    assert_agree(&copy_rule(), &fast(), origin, call);
+    assert_agree(&copy_rule(), &search(), origin, &to(Engine::Search, call));
 }
 
 #[test]
@@ -30,10 +26,8 @@ fn generated_calls() {
 fn unfit_scripts() {
     for number in 0..100_000 {
         let script = inputs::unfit_script(&mut Random::new(10, number));
-        for party in parties() {
-            let origin = format!("seed 10, case {number}");
-            assert_same_verdict(&copy_rule(), party.name, &party.check, &origin, &script);
-        }
+        let origin = format!("seed 10, case {number}");
+        assert_same_verdict(&copy_rule(), "fast", &fast().check, &origin, &script);
     }
 }
 

@@ -1,29 +1,12 @@
 //! The proved library's engines through the C interface, with guards around all that is lent.
 
-use differential::call::{Call, Engine};
+use differential::call::{Call, Engine, ENGINES};
 use differential::compare::assert_agree;
-use differential::lent::pattern;
+use differential::encode::written;
+use differential::lent::{pattern, to};
 use differential::parties::{copy_rule, fast, library, Party};
 use differential::report::{bytes, words};
 use differential::{inputs, table_work};
-
-const ENGINES: [Engine; 3] = [Engine::Copying, Engine::Chain, Engine::Display];
-
-/// The call to an engine. Where it was made for another one, the engine is lent just what it asks for.
-fn to(engine: Engine, call: &Call) -> Call {
-    let working = if engine == call.engine { call.working.clone() } else { own(engine, call) };
-    Call { engine, working, ..call.clone() }
-}
-
-fn own(engine: Engine, call: &Call) -> Vec<u32> {
-    let activations = call.d.min(257) as usize;
-    let words = match engine {
-        Engine::Copying => activations * (call.script.len() / 2),
-        Engine::Chain => 3 * activations,
-        Engine::Display => 0,
-    };
-    (0..words).map(pattern).collect()
-}
 
 fn hold(judge: &Party, origin: &str, call: &Call) {
     for engine in ENGINES {
@@ -145,24 +128,36 @@ fn plain() -> Call {
     }
 }
 
-/// A script in words: a mark's letters, or a field; KN's value is two fields.
-fn script(text: &str) -> Vec<u8> {
-    let field = |word: &str| match word.parse::<u16>() {
-        Ok(field) => field.to_le_bytes().to_vec(),
-        Err(_) => word.as_bytes().to_vec(),
-    };
-    text.split_whitespace().flat_map(field).collect()
-}
-
 /// The argument 1 is called as a local of the body is: the formal 3 stands for the outer 1, and the body's own 1 is another.
 #[test]
 fn an_argument_called_as_a_local_of_the_body() {
-    let script = script("BK 2 1 VR 1 PR 2 1 FM 3 0 BK 1 2 VR 1 KN 1 7 0 KN 3 9 0 CL 2 1 1");
+    let script = written("BK 2 1 VR 1 PR 2 1 FM 3 0 BK 1 2 VR 1 KN 1 7 0 KN 3 9 0 CL 2 1 1");
     let call = Call { script, n: 3, name: 1, ..plain() };
     for engine in ENGINES {
         let reply = (library().run)(&to(engine, &call));
         assert_eq!(reply.answer[..8], [1, 0, 3, 0, 0, 8, 3, 130], "{engine:?}");
         assert_eq!(reply.sheet[..8], [0, 2, 9, 0, 22, 3, 65, 7], "{engine:?}");
+    }
+}
+
+/// The first activation of 1 hands its procedure 5 to the second, that one hands its formal on to the third, and the third calls it.
+#[test]
+fn a_procedure_handed_on_twice() {
+    let script = written(
+        "BK 4 1 VR 8 VR 9 PR 7 0 BK 0 0 PR 1 1 FM 2 2
+         BK 4 7 VR 4 PR 5 0 BK 0 1 KN 4 6 0 LB 10 7 LB 11 5
+         IF 9 10 IF 8 11 KN 8 1 0 CL 1 1 5 KN 9 1 0 CL 1 1 2 CL 2 0
+         CL 1 1 7",
+    );
+    let call = Call { script, d: 5, n: 12, name: 4, sheet: sheet(5 * 34), ..plain() };
+    let program = [0, 2, 1, 1, 0, 0];
+    let (first, second) = ([38, 5, 67, 6, 0, 0, 0], [38, 7, 131, 0, 0, 0, 0]);
+    let (third, called) = ([38, 8, 131, 0, 0, 0, 0], [54, 2]);
+    let words = [&program[..], &first, &second, &third, &called].concat();
+    for engine in ENGINES {
+        let reply = (library().run)(&to(engine, &call));
+        assert_eq!(reply.answer[..8], [1, 0, 12, 0, 0, 29, 12, 130], "{engine:?}");
+        assert_eq!(reply.sheet[..29], words, "{engine:?}");
     }
 }
 

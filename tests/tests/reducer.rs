@@ -11,7 +11,7 @@ use reference::fast::Flaw;
 fn small_case(flaw: Flaw) -> Call {
     let (judge, party) = (copy_rule(), flawed(flaw));
     let fails = |call: &Call| !agree(&judge, &party, call);
-    let call = (0..).map(|number| case(31, number)).find(&fails).expect("cases do not end");
+    let call = (0..).map(|number| case(34, number)).find(&fails).expect("cases do not end");
     let small = reduce(&call, &fails);
     assert!(fails(&small));
     assert!(small.script.len() <= call.script.len());

@@ -12,7 +12,6 @@ use borrow.Author.Tests.{leb-true, leb-false, le-leb, lt-leb}
 use lib.Dec.{leb}
 use lib.IntN.{ℤ, pos}
 use lib.ListN.{length, getD, getElem?}
-use lib.Seq.{length-take-le}
 use Rattle.language.specs.Text.{Kind, Block, Decl, VR, LB, PR, blockDecls, declKind}
 use Rattle.language.specs.Encoding.{kindField}
 use Rattle.laws.specs.Tests.{split, by-lookup, some-inj}
@@ -25,16 +24,16 @@ use Rattle.frame_laws.specs.Bounds.{Points, BoundedFrames}
 use Rattle.frame_laws.specs.BoundedFrames.{points-weaker}
 use Rattle.frame_laws.specs.Names.{numbered-bounded, points-declared}
 use Rattle.coordinates.specs.Enclosure.{Coordinate, coordinateOf, Encloses}
-use Rattle.coordinates.specs.Chain.{enclosing, enclosureOf, levelOf, climb, displayFrom, Downward, Chained}
+use Rattle.coordinates.specs.Chain.{enclosing, enclosureOf, levelOf, climb, Downward, Chained}
 use Rattle.coordinates.specs.Along.{climb-zero, climb-some}
 use Rattle.coordinates.specs.Declared.{coordinate-declares}
 use Rattle.coordinates.specs.Coordinates.{level-of-text, frame-of-level, instanceAt, DeclaringFrame, declaring-frame, designates-by-links, links-counted, hidden}
 use Rattle.coordinates.specs.Kept.{chained-downward}
 use Rattle.coordinates.specs.Levels.{enclosure-of-text}
-use Rattle.coordinates.specs.Display.{display-length, display-prefix, level-step}
+use Rattle.coordinates.specs.Display.{level-step, level-outward}
 use Rattle.coordinates.specs.Designated.{Designated, Wired, number-of, place-of}
 use Rattle.resolved.specs.Resolved.{positionIn, formalIn, kindIn, levelIn, targetIn, declKindField, nameWord}
-use Rattle.resolved.specs.NameWords.{NameIs, name-is, formal-there, decl-there, position-few, position-bounds, word-none-iff}
+use Rattle.resolved.specs.NameWords.{Narrow, narrow-of-text, NameIs, name-is, formal-there, decl-there, position-few, position-bounds, word-none-iff}
 use Rattle.arrays.specs.Holds.{cellOf, targetOf, formalWord, Holds, Shows}
 use Rattle.arrays.specs.Cells.{target-found}
 use Rattle.arrays.specs.Displays.{ShowsFrom, LinksOf, holds-links, shows-innermost, shows-entry, shows-outer}
@@ -48,11 +47,6 @@ pub record NameAt (fs : List Frame) (cells : List ℤ) (n w first : ℕ) : Type 
   pub direct-target : formalIn w ≡ 0 → targetIn w ≡ targetOf fs (designates fs n)
   pub formal-word : formalIn w ≡ 1 → getD cells (first + positionIn w) (pos 0) ≡ pos (formalWord fs (designates fs n))
   pub kind : (k : Kind) → Designated fs (designates fs n) k → kindIn w ≡ kindField k
-
--- the frame of a level on a chain has that level
-pub level-outward : (fs : List Frame) → Downward fs → (k j : ℕ) → j ≤ levelOf fs k → levelOf fs (climb fs k (levelOf fs k - j)) ≡ j
-level-outward fs down k j h =
-    sym (display-length fs (climb fs k (levelOf fs k - j))) ∙ ap length (display-prefix fs down k j h) ∙ length-take-le j (displayFrom fs k) (omega (arith, display-length fs k))
 
 -- a frame's level is one more than the blocks around its own
 pub frame-level : (fs : List Frame) → Downward fs → (k : ℕ) (f : Frame) → numbered fs k ≡ some f → levelOf fs k ≡ suc (length (enclosureOf fs (f .link)))
@@ -107,9 +101,12 @@ module _ (t : Block) (keeps : Keeps t) (fs : List Frame) (chain : Chained t fs) 
       let f = numbered-exists fs (length fs) (omega (arith, holder-bounds .0, holder-bounds .1)) (omega arith) in
       enclosure-of-text t fs chain (length fs) (f .0) (f .1)
 
+  narrow : Narrow (enclosureOf fs (length fs))
+  narrow = narrow-of-text t keeps (enclosureOf fs (length fs)) within-text
+
   word-is : NameIs w c (enclosing (home .frame))
   unfolding w
-  word-is = name-is t keeps (enclosureOf fs (length fs)) within-text n c found (enclosing (home .frame)) (home .block)
+  word-is = name-is (enclosureOf fs (length fs)) narrow n c found (enclosing (home .frame)) (home .block)
 
   level-bounds : (1 ≤ c .level) × (c .level ≤ levelOf fs (length fs))
   level-bounds =
@@ -118,7 +115,7 @@ module _ (t : Block) (keeps : Keeps t) (fs : List Frame) (chain : Chained t fs) 
 
   position-range : (1 ≤ c .position) × (c .position ≤ 32)
   position-range =
-      ((position-bounds (enclosureOf fs (length fs)) n c found (enclosing (home .frame)) (home .block)) .0, position-few t keeps (enclosureOf fs (length fs)) within-text n c found (enclosing (home .frame)) (home .block))
+      ((position-bounds (enclosureOf fs (length fs)) n c found (enclosing (home .frame)) (home .block)) .0, position-few (enclosureOf fs (length fs)) narrow n c found (enclosing (home .frame)) (home .block))
 
   abbrev up : ℕ
   up = levelOf fs (length fs) - c .level

@@ -91,7 +91,7 @@ place-of k p h =
     ap pred e ∙ i
 
 -- the declaration there, and what it means
-own-declared : (fs : List Frame) (k p : ℕ) (g : Frame) (n : ℕ) (m : Meaning) → numbered fs k ≡ some g → numbered (meaningsOf (enclosing g)) p ≡ some (n, m) → length (g .formals) < p → p < 64 → (d : Decl) × (declOf fs (k * 64 + p) ≡ some d) × (declMeaning d ≡ (n, m))
+pub own-declared : (fs : List Frame) (k p : ℕ) (g : Frame) (n : ℕ) (m : Meaning) → numbered fs k ≡ some g → numbered (meaningsOf (enclosing g)) p ≡ some (n, m) → length (g .formals) < p → p < 64 → (d : Decl) × (declOf fs (k * 64 + p) ≡ some d) × (declMeaning d ≡ (n, m))
 unfolding enclosing
 own-declared fs k p g n m e q h s =
     let d = meaning-of-decl (enclosing g) p (n, m) q h in
@@ -105,7 +105,7 @@ own-designated fs k p g n m e q h s =
 
 -- a formal's word, and a declared name
 
-formal-designates : (fs : List Frame) (k p j : ℕ) (g : Frame) (x : ℕ) → numbered fs k ≡ some g → leb p (length (g .formals)) ≡ true → getElem? (g .words) (p - 1) ≡ some (pos x) → finally fs (instanceAt k p j) ≡ x
+pub formal-designates : (fs : List Frame) (k p j : ℕ) (g : Frame) (x : ℕ) → numbered fs k ≡ some g → leb p (length (g .formals)) ≡ true → getElem? (g .words) (p - 1) ≡ some (pos x) → finally fs (instanceAt k p j) ≡ x
 unfolding designatorIn
 formal-designates fs k p j g x e l w =
     let i : pred p ≡ p - 1 = omega arith in

@@ -105,6 +105,11 @@ module _ (fs : List Frame) (down : Downward fs) where
       let e : length c - (length c - j) ≡ j = omega arith in
       ap reverse (along-climb (λ i e. i) fs down k (length c - j)) ∙ reverse-drop c (length c - j) (omega arith) ∙ ap (λ n. take n (reverse c)) e
 
+  -- so the frame of a level on a chain has that level
+  pub level-outward : (k j : ℕ) → j ≤ levelOf fs k → levelOf fs (climb fs k (levelOf fs k - j)) ≡ j
+  level-outward k j h =
+      sym (display-length fs (climb fs k (levelOf fs k - j))) ∙ ap length (display-prefix k j h) ∙ length-take-le j (displayFrom fs k) (omega (arith, display-length fs k))
+
   -- entry by entry: an entry puts its number at its own level, and what lies further out is its link's
   pub entry-new : (f : Frame) → f .link ≤ length fs → numbered (displayOf (fs ++ (f ∷ []))) (suc (levelOf fs (f .link))) ≡ some (suc (length fs))
   entry-new f h =

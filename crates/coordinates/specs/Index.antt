@@ -103,13 +103,13 @@ own-listed : (b : Block) (fs : List Formal) (es : Enclosure) → List·Memᴰ (b
 unfolding indexBlock blockAt
 own-listed (block at ds ss) fs es = List·Memᴰ·head refl
 
-block-listed : (t : Block) (e : Enclosing) (es : Enclosure) → Encloses t (e ∷ es) → List·Memᴰ (blockAt (e .text), is-block (e ∷ es)) (indexOf t)
+pub block-listed : (t : Block) (e : Enclosing) (es : Enclosure) → Encloses t (e ∷ es) → List·Memᴰ (blockAt (e .text), is-block (e ∷ es)) (indexOf t)
 block-listed t e es w = enclosed-listed t e es (blockAt (e .text), is-block (e ∷ es)) w (own-listed (e .text) (e .formals) es)
 
 -- Offsets rise, so that none stands twice
 
 -- entries in rising order, from lo on and before hi
-abbrev Span : ℕ → ℕ → List Entry → Type 0
+abbrev pub Span : ℕ → ℕ → List Entry → Type 0
 Span lo hi [] = lo ≤ hi
 Span lo hi (x ∷ xs) = (lo ≤ x .0) × Span (suc (x .0)) hi xs
 
@@ -199,7 +199,7 @@ mutual
 
 -- The theorems
 
-index-rises : (t : Block) → Keeps t → Span 0 (0 + 2 * length (blockFields t)) (indexOf t)
+pub index-rises : (t : Block) → Keeps t → Span 0 (0 + 2 * length (blockFields t)) (indexOf t)
 unfolding indexOf
 index-rises t h = span-block t 1 [] 0 [] (h .formed)
 

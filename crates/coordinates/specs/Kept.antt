@@ -65,7 +65,7 @@ module _ (fs gs : List Frame) (f : Frame) (a : SameOutlines (length fs) fs gs) (
 
 -- links go down
 
-downward-alike : (fs gs : List Frame) (b : ℕ) → SameOutlines b fs gs → Downward fs → (k : ℕ) (g : Frame) → k ≤ b → numbered gs k ≡ some g → g .link < k
+pub downward-alike : (fs gs : List Frame) (b : ℕ) → SameOutlines b fs gs → Downward fs → (k : ℕ) (g : Frame) → k ≤ b → numbered gs k ≡ some g → g .link < k
 unfolding outline
 downward-alike fs gs b a down k g h n =
     let f = alike-some gs fs b (back fs gs b a) k g h n in
@@ -77,7 +77,7 @@ downward-entered fs gs f a c n l down = by-frame fs gs f a c n (λ k g. g .link 
 
 -- each block stands in its link's
 
-chained-alike : (t : Block) (fs gs : List Frame) (b : ℕ) → SameOutlines b fs gs → Chained t fs → (k : ℕ) (g : Frame) → k ≤ b → numbered gs k ≡ some g → Linked t gs k g
+pub chained-alike : (t : Block) (fs gs : List Frame) (b : ℕ) → SameOutlines b fs gs → Chained t fs → (k : ℕ) (g : Frame) → k ≤ b → numbered gs k ≡ some g → Linked t gs k g
 chained-alike t fs gs b a chain k g h n =
     let f = alike-some gs fs b (back fs gs b a) k g h n in
     linked-alike t fs gs b a k (f .0) g h (sym (f .2)) (chain k (f .0) (f .1))

@@ -14,7 +14,9 @@ pub mod Levels
 pub mod Visible
 pub mod Statement
 pub mod Designated
+pub mod Made
 pub mod Wiring
+pub mod Making
 pub mod Sound
 pub mod Own
 pub mod Index

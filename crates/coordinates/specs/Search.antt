@@ -1,5 +1,5 @@
 -- The search along the links and the coordinate: `sought` says that searching for n from frame k finds what the coordinate of n in k's
--- enclosure says, and nothing where it has none. It asks of the frames only that links go down.
+-- enclosure says, and nothing where it has none. It asks of the frames only that links go down. `seek-alike`: it looks at blocks and links alone.
 use Prim.Native.Nat.{ℕ, zero, suc, _+_, _-_, _≤_, _<_}
 use native.Mathlib.Omega.{arith}
 use mathlib.Core.List.{List, [], _∷_}
@@ -8,10 +8,10 @@ use mathlib.Core.Path.{_≡_, refl, sym, ap, _∙_}
 use lib.ListN.{length}
 use Rattle.frames.specs.Frame.{Frame, NamePlace, numbered, frameNames, positionFrom, seekFrom}
 use Rattle.frames.specs.Numbered.{numbered-zero}
-use Rattle.frame_laws.specs.Finding.{seek-none, seek-here, seek-on}
+use Rattle.frame_laws.specs.Finding.{seek-none, seek-here, seek-on, seek-same}
 use Rattle.coordinates.specs.Enclosure.{Enclosing, Enclosure, Coordinate, namesOf, coordinateOf, outward}
-use Rattle.coordinates.specs.Chain.{enclosing, enclosureOf, climb, Downward}
-use Rattle.coordinates.specs.Along.{along-none, along-step, climb-zero, climb-some}
+use Rattle.coordinates.specs.Chain.{enclosing, enclosureOf, climb, Downward, outline, SameOutlines}
+use Rattle.coordinates.specs.Along.{along-none, along-step, climb-zero, climb-some, alike-none, alike-some}
 
 -- what a coordinate says of a search from frame k that has followed j links
 unfoldable pub placeFrom : List Frame → ℕ → ℕ → Option Coordinate → Option NamePlace
@@ -97,3 +97,15 @@ module _ (fs : List Frame) (down : Downward fs) where
       go : ((i : ℕ) → i ≤ m → seekFrom m fs i n (suc j) ≡ placeFrom fs i (suc j) (coordinateOf (enclosureOf fs i) n)) → (o : Option Frame) → numbered fs k ≡ o → seekFrom (suc m) fs k n j ≡ placeFrom fs k j (coordinateOf (enclosureOf fs k) n)
       go r none e = sought-none (suc m) k n j e
       go r (some f) e = let l : f .link < k = down k f e in sought-in m k f n j e (r (f .link) (omega arith)) (positionFrom n 1 (frameNames f)) refl
+
+pub seek-alike : (fs gs : List Frame) (b : ℕ) → SameOutlines b fs gs → Downward fs → (m k n j : ℕ) → k ≤ b → seekFrom m gs k n j ≡ seekFrom m fs k n j
+unfolding outline enclosing frameNames namesOf
+seek-alike fs gs b same down =
+    seek-same (λ i. i ≤ b) fs gs
+    (record {
+      absent = alike-none fs gs b same;
+      present = λ i f h e.
+          let g = alike-some fs gs b same i f h e in
+          let l : f .link < i = down i f e in
+          (g .0, g .1, ap (λ (o : Enclosing × ℕ). namesOf (o .0)) (g .2), ap (λ (o : Enclosing × ℕ). o .1) (g .2), omega arith);
+    })

@@ -25,15 +25,18 @@ use Rattle.coordinates.specs.Chain.{enclosureOf, Chained}
 use Rattle.coordinates.specs.Kept.{start-chained}
 use Rattle.coordinates.specs.Visible.{scopeOf}
 use Rattle.coordinates.specs.Designated.{Wired, statement-scoped, designates-a, declared-kind}
+use Rattle.coordinates.specs.Made.{Made}
 use Rattle.coordinates.specs.Wiring.{step-wired, step-linked, start-wired}
+use Rattle.coordinates.specs.Making.{start-made, step-made}
 
 -- D is at most 256; the frames keep the bounds; they are linked as the text says; every formal's word designates an instance of its kind;
--- and the table is right for G.
+-- each frame is what the statement passed last in the one below makes; and the table is right for G.
 pub record Sound (l : Limits) (t : Block) (s : Stack) : Type 0 where
   pub few : l .activations ≤ 256
   pub bounded : Bounded l s
   pub chained : Chained t (s .frames)
   pub wired : Wired (s .frames)
+  pub made : Made (s .frames)
   pub table : right (l .limit) (s .table) ≡ true
 
 -- A goto lands on a label
@@ -62,12 +65,12 @@ landing t keeps s chain wired pre f at a e q =
 pub start-sound : (l : Limits) (t : Block) (tab : Table) → 1 ≤ l .activations → l .activations ≤ 256 → right (l .limit) tab ≡ true → Keeps t → Sound l t (frameStart t tab)
 unfolding frameStart
 start-sound l t tab one most r keeps =
-    record { few = most; bounded = start-bounded l t tab one keeps; chained = start-chained t tab; wired = start-wired t tab; table = r }
+    record { few = most; bounded = start-bounded l t tab one keeps; chained = start-chained t tab; wired = start-wired t tab; made = start-made t tab; table = r }
 
 -- the steps done count for nothing
 sound-stepped : (l : Limits) (t : Block) (s s′ : Stack) → Sound l t s′ → Sound l t (stepped s s′)
 unfolding stepped
-sound-stepped l t s s′ h = record { few = h .few; bounded = bounded-stepped l s s′ (h .bounded); chained = h .chained; wired = h .wired; table = h .table }
+sound-stepped l t s s′ h = record { few = h .few; bounded = bounded-stepped l s s′ (h .bounded); chained = h .chained; wired = h .wired; made = h .made; table = h .table }
 
 pub step-sound : (t : Block) → Keeps t → (l : Limits) (s s′ : Stack) → Sound l t s → frameStep l s ≡ acted s′ → Sound l t (stepped s s′)
 unfolding stepped
@@ -85,6 +88,7 @@ step-sound t keeps l s s′ h e = by-elements (s .frames) none live
           bounded = subst (After (λ u. Bounded l (stepped s u))) e (step-bounded l (h .few) s n (h .bounded) (landing t keeps s (h .chained) (h .wired)));
           chained = step-linked t keeps l s s′ e (h .chained) (h .wired);
           wired = step-wired t keeps l s s′ e (h .chained) (h .wired);
+          made = step-made t keeps l s s′ e (h .chained) (h .wired) (h .made);
           table = subst (After (λ u. right (l .limit) ((stepped s u) .table) ≡ true)) e (step-right l s n (h .table));
         }
 

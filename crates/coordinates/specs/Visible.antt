@@ -83,7 +83,7 @@ unfolding formalMeaning formalNames
 formals-named [] = refl
 formals-named (f ∷ fs) = ap (λ (l : List ℕ). f .name ∷ l) (formals-named fs)
 
-decl-named : (d : Decl) → (declMeaning d) .0 ≡ declName d
+pub decl-named : (d : Decl) → (declMeaning d) .0 ≡ declName d
 unfolding declMeaning declName
 decl-named (VR at n) = refl
 decl-named (LB at n i) = refl

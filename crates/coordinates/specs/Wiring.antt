@@ -31,12 +31,10 @@ use Rattle.coordinates.specs.Kept.{by-frame, step-chained}
 use Rattle.coordinates.specs.Visible.{scopeOf}
 use Rattle.coordinates.specs.Statement.{advanced, advanced-at, advanced-length, declared-alike, designates-advanced}
 use Rattle.coordinates.specs.Designated.{Designated, Wire, Wired, statement-scoped, name-designated, calls-procedures}
+use Rattle.coordinates.specs.Made.{wiring}
 
--- what wiring reads of a frame: block, link, and the words of its formals
-wiring : Frame → (Enclosing × ℕ) × List ℤ
-wiring f = (outline f, take (length (f .formals)) (f .words))
-
-abbrev Rewired : ℕ → List Frame → List Frame → Type 0
+-- frames that agree so far in what a frame was made with
+abbrev pub Rewired : ℕ → List Frame → List Frame → Type 0
 Rewired b fs gs = (i : ℕ) → i ≤ b → Option·map wiring (numbered fs i) ≡ Option·map wiring (numbered gs i)
 
 rewired-alike : (fs gs : List Frame) (b : ℕ) → Rewired b fs gs → SameOutlines b fs gs
@@ -70,7 +68,7 @@ wire-kept fs gs b a wired k g h n i m q =
       instance = designated-alike fs gs b (rewired-alike fs gs b a) (w .designator) (m .kind) (omega arith) (w .instance);
     }
 
-wired-kept : (fs gs : List Frame) → Rewired (length gs) fs gs → Wired fs → Wired gs
+pub wired-kept : (fs gs : List Frame) → Rewired (length gs) fs gs → Wired fs → Wired gs
 wired-kept fs gs a wired k g n = wire-kept fs gs (length gs) a wired k g (numbered-high gs k g n) n
 
 wired-entered : (fs : List Frame) (f : Frame) → Wired fs → ((i : ℕ) (m : Formal) → getElem? (f .formals) i ≡ some m → Wire (fs ++ (f ∷ [])) (suc (length fs)) f i m) → Wired (fs ++ (f ∷ []))
@@ -82,7 +80,7 @@ wired-entered fs f wired new =
 
 -- A store goes past the formals
 
-wiring-rewritten : (f : Frame) (i : ℕ) (z : ℤ) → length (f .formals) ≤ i → wiring (rewritten f (set (f .words) i z)) ≡ wiring f
+pub wiring-rewritten : (f : Frame) (i : ℕ) (z : ℤ) → length (f .formals) ≤ i → wiring (rewritten f (set (f .words) i z)) ≡ wiring f
 unfolding wiring rewritten outline enclosing
 wiring-rewritten f i z h = ap (λ (l : List ℤ). (outline f, l)) (take-set-le (length (f .formals)) (f .words) i z h)
 
@@ -138,7 +136,7 @@ module _ (fs : List Frame) (sc : Scope) (r : ℕ → ℕ) (found : (n : ℕ) (m 
   all-found [] h = tt
   all-found (n ∷ ns) h = ((h .0 .0 .kind, found n (h .0 .0) (h .0 .1)), all-found ns (h .1))
 
-  target-found : (a : Action) → ScopedAction a sc → (x : ℕ) → targetOf (mapAction r a) ≡ some x → Designated fs x variable
+  pub target-found : (a : Action) → ScopedAction a sc → (x : ℕ) → targetOf (mapAction r a) ≡ some x → Designated fs x variable
   unfolding targetOf mapAction ScopedAction
   target-found (CL p xs) h x e = absurd (Option·none-ne-some x e)
   target-found (GO l) h x e = absurd (Option·none-ne-some x e)
@@ -196,7 +194,7 @@ module _ (t : Block) (keeps : Keeps t) (s : Stack) (chain : Chained t (s .frames
         let l = advanced-length (s .frames) f i e in
         wired-kept (s .frames) (advanced (s .frames) f i) (λ j h. rewired j (omega arith)) wired
 
-    advanced-found : (n : ℕ) (m : Meaning) → lookup n (scopeOf (enclosureOf (s .frames) (length (s .frames)))) ≡ some m → let fs = advanced (s .frames) f i in Designated fs (designates fs n) (m .kind)
+    pub advanced-found : (n : ℕ) (m : Meaning) → lookup n (scopeOf (enclosureOf (s .frames) (length (s .frames)))) ≡ some m → let fs = advanced (s .frames) f i in Designated fs (designates fs n) (m .kind)
     advanced-found n m q =
         let d = name-designated t keeps (s .frames) chain wired n m q in
         let fs = advanced (s .frames) f i in

@@ -1,4 +1,3 @@
-pub mod Marks
-pub mod Taking
+pub mod Crossing
 pub mod Records
 pub mod Sweeping

@@ -11,26 +11,18 @@ use Rattle.language.specs.Text.{Formal, Action, CL, GO, IF, KN, AR, AD, RM, QY,
 use Rattle.language.specs.Encoding.{actionFields, formalsFields, blockFields, declFields, stmtFields, declsFields, stmtsFields}
 use Rattle.laws.specs.Each.{Each}
 use Rattle.grammar.specs.Rules.{Name, FormedAction, FormedBlock, FormedDecl, FormedStmt, FormedDecls, FormedStmts, Keeps}
-use Rattle.coordinates.specs.Enclosure.{Enclosing, enclosed, Enclosure, namesOf, Encloses}
-use Rattle.coordinates.specs.Levels.{formed-names, enclosure-level, enclosure-names}
+use Rattle.coordinates.specs.Enclosure.{Enclosing, enclosed, Enclosure, Encloses}
 use Rattle.resolved.specs.Resolved.{placeOf, endPlace, levelIn, nameWord, Covers}
 use Rattle.resolved.specs.Lengths.{covers-at}
 use Rattle.resolved.specs.Places.{enclosed-formed}
+use Rattle.resolved.specs.NameWords.{Narrow, narrow-of-text, narrow-inner}
 use Rattle.copy_fields.specs.NameFields.{namedAction, namedFormals, namedBlock, namedDecl, namedStmt, namedDecls, namedStmts, namedOf}
 use Rattle.copy_fields.specs.Lengths.{block-length}
 use Rattle.copy_fields.specs.Standing.{block-fields-stand, block-fields-named}
 
--- no deeper and with no more names than the rules allow
-abbrev pub Fit : Enclosure → Type 0
-Fit es = (length es ≤ 16) × Each (λ (x : Enclosing). length (namesOf x) ≤ 32) es
-
-own-few : (b : Block) (level : ℕ) (fs : List Formal) (here : ℕ) → FormedBlock b level fs here → length (namesOf (enclosed fs b)) ≤ 32
-unfolding namesOf
-own-few b level fs here h = formed-names b level fs here h
-
 -- a word w and a field n
 abbrev pub Named : Enclosure → ℕ → ℕ → Type 0
-Named os w n = (levelIn w ≡ 0) ⊎ ((inner : Enclosure) × (w ≡ nameWord (inner ++ os) n) × (n < 65536) × Fit (inner ++ os))
+Named os w n = (levelIn w ≡ 0) ⊎ ((inner : Enclosure) × (w ≡ nameWord (inner ++ os) n) × (n < 65536) × Narrow (inner ++ os))
 
 -- words and fields side by side
 abbrev AllNamed : Enclosure → List ℕ → List ℕ → Type 0
@@ -55,9 +47,9 @@ module _ (os : Enclosure) where
   nameless : (n : ℕ) → Named os 0 n
   nameless n = inl refl
 
-  module _ (inner : Enclosure) (fit : Fit (inner ++ os)) where
+  module _ (inner : Enclosure) (narrow : Narrow (inner ++ os)) where
     a-name : (n : ℕ) → Name n → Named os (nameWord (inner ++ os) n) n
-    a-name n h = inr (inner, refl, h, fit)
+    a-name n h = inr (inner, refl, h, narrow)
 
     names-named : (ns : List ℕ) → Each Name ns → AllNamed os (map (nameWord (inner ++ os)) ns) ns
     names-named [] h = tt
@@ -82,52 +74,44 @@ module _ (os : Enclosure) where
   mutual
     unfolding namedBlock blockFields FormedBlock
 
-    inner-named : (b : Block) (fs : List Formal) (inner : Enclosure) (level here : ℕ) → Fit (inner ++ os) → length (inner ++ os) ≡ level → FormedBlock b (suc level) fs here
+    inner-named : (b : Block) (fs : List Formal) (inner : Enclosure) (level here : ℕ) → Narrow (inner ++ os) → length (inner ++ os) ≡ level → FormedBlock b (suc level) fs here
         → AllNamed os (namedBlock b fs (inner ++ os)) (blockFields b)
-    inner-named (block at ds ss) fs inner level here fit deep h =
+    inner-named (block at ds ss) fs inner level here narrow deep h =
         let more = enclosed fs (block at ds ss) ∷ inner in
-        let more-fit : Fit (more ++ os) = (omega (arith, h .nesting), (own-few (block at ds ss) (suc level) fs here h, fit .1)) in
         let deeper : length (more ++ os) ≡ suc level = ap suc deep in
-        let d = decls-named ds more (suc level) (length (stmts ss)) (here + 6) more-fit deeper (h .declarations) in
-        let s = stmts-named ss more (suc level) (here + 6 + 2 * length (declsFields ds)) more-fit deeper (h .statements) in
+        let more-narrow = narrow-inner (block at ds ss) fs (inner ++ os) here narrow (subst (λ (k : ℕ). FormedBlock (block at ds ss) (suc k) fs here) (sym deep) h) in
+        let d = decls-named ds more (suc level) (length (stmts ss)) (here + 6) more-narrow deeper (h .declarations) in
+        let s = stmts-named ss more (suc level) (here + 6 + 2 * length (declsFields ds)) more-narrow deeper (h .statements) in
         (nameless _, (nameless _, (nameless _, named-append (namedDecls ds (more ++ os)) (namedStmts ss (more ++ os)) (declsFields ds) (stmtsFields ss) d s)))
 
-    decl-named : (d : Decl) (inner : Enclosure) (level s here : ℕ) → Fit (inner ++ os) → length (inner ++ os) ≡ level → FormedDecl d level s here → AllNamed os (namedDecl d (inner ++ os)) (declFields d)
-    decl-named (VR at n) inner level s here fit deep h = (nameless _, (a-name inner fit n (h .name), tt))
-    decl-named (LB at n i) inner level s here fit deep h = (nameless _, (a-name inner fit n (h .name), (nameless _, tt)))
-    decl-named (PR at n fs b) inner level s here fit deep h =
-        (nameless _, (a-name inner fit n (h .name), (nameless _, named-append (namedFormals fs) (namedBlock b fs (inner ++ os)) (formalsFields fs) (blockFields b) (formals-named fs) (inner-named b fs inner level (here + 6 + 2 * length (formalsFields fs)) fit deep (h .body)))))
+    decl-named : (d : Decl) (inner : Enclosure) (level s here : ℕ) → Narrow (inner ++ os) → length (inner ++ os) ≡ level → FormedDecl d level s here → AllNamed os (namedDecl d (inner ++ os)) (declFields d)
+    decl-named (VR at n) inner level s here narrow deep h = (nameless _, (a-name inner narrow n (h .name), tt))
+    decl-named (LB at n i) inner level s here narrow deep h = (nameless _, (a-name inner narrow n (h .name), (nameless _, tt)))
+    decl-named (PR at n fs b) inner level s here narrow deep h =
+        (nameless _, (a-name inner narrow n (h .name), (nameless _, named-append (namedFormals fs) (namedBlock b fs (inner ++ os)) (formalsFields fs) (blockFields b) (formals-named fs) (inner-named b fs inner level (here + 6 + 2 * length (formalsFields fs)) narrow deep (h .body)))))
 
-    stmt-named : (x : Stmt) (inner : Enclosure) (level here : ℕ) → Fit (inner ++ os) → length (inner ++ os) ≡ level → FormedStmt x level here → AllNamed os (namedStmt x (inner ++ os)) (stmtFields x)
-    stmt-named (BK b) inner level here fit deep h = inner-named b [] inner level here fit deep h
-    stmt-named (DO at a) inner level here fit deep h = action-named inner fit a (h .action)
+    stmt-named : (x : Stmt) (inner : Enclosure) (level here : ℕ) → Narrow (inner ++ os) → length (inner ++ os) ≡ level → FormedStmt x level here → AllNamed os (namedStmt x (inner ++ os)) (stmtFields x)
+    stmt-named (BK b) inner level here narrow deep h = inner-named b [] inner level here narrow deep h
+    stmt-named (DO at a) inner level here narrow deep h = action-named inner narrow a (h .action)
 
-    decls-named : (ds : Decls) (inner : Enclosure) (level s here : ℕ) → Fit (inner ++ os) → length (inner ++ os) ≡ level → FormedDecls ds level s here → AllNamed os (namedDecls ds (inner ++ os)) (declsFields ds)
-    decls-named no-decl inner level s here fit deep h = tt
-    decls-named (decl d ds) inner level s here fit deep h =
-        named-append (namedDecl d (inner ++ os)) (namedDecls ds (inner ++ os)) (declFields d) (declsFields ds) (decl-named d inner level s here fit deep (h .0)) (decls-named ds inner level s (here + 2 * length (declFields d)) fit deep (h .1))
+    decls-named : (ds : Decls) (inner : Enclosure) (level s here : ℕ) → Narrow (inner ++ os) → length (inner ++ os) ≡ level → FormedDecls ds level s here → AllNamed os (namedDecls ds (inner ++ os)) (declsFields ds)
+    decls-named no-decl inner level s here narrow deep h = tt
+    decls-named (decl d ds) inner level s here narrow deep h =
+        named-append (namedDecl d (inner ++ os)) (namedDecls ds (inner ++ os)) (declFields d) (declsFields ds) (decl-named d inner level s here narrow deep (h .0)) (decls-named ds inner level s (here + 2 * length (declFields d)) narrow deep (h .1))
 
-    stmts-named : (ss : Stmts) (inner : Enclosure) (level here : ℕ) → Fit (inner ++ os) → length (inner ++ os) ≡ level → FormedStmts ss level here → AllNamed os (namedStmts ss (inner ++ os)) (stmtsFields ss)
-    stmts-named no-stmt inner level here fit deep h = tt
-    stmts-named (stmt x ss) inner level here fit deep h =
-        named-append (namedStmt x (inner ++ os)) (namedStmts ss (inner ++ os)) (stmtFields x) (stmtsFields ss) (stmt-named x inner level here fit deep (h .0)) (stmts-named ss inner level (here + 2 * length (stmtFields x)) fit deep (h .1))
+    stmts-named : (ss : Stmts) (inner : Enclosure) (level here : ℕ) → Narrow (inner ++ os) → length (inner ++ os) ≡ level → FormedStmts ss level here → AllNamed os (namedStmts ss (inner ++ os)) (stmtsFields ss)
+    stmts-named no-stmt inner level here narrow deep h = tt
+    stmts-named (stmt x ss) inner level here narrow deep h =
+        named-append (namedStmt x (inner ++ os)) (namedStmts ss (inner ++ os)) (stmtFields x) (stmtsFields ss) (stmt-named x inner level here narrow deep (h .0)) (stmts-named ss inner level (here + 2 * length (stmtFields x)) narrow deep (h .1))
 
-block-named : (b : Block) (fs : List Formal) (es : Enclosure) (here : ℕ) → Fit (enclosed fs b ∷ es) → FormedBlock b (suc (length es)) fs here
+block-named : (b : Block) (fs : List Formal) (es : Enclosure) (here : ℕ) → Narrow (enclosed fs b ∷ es) → FormedBlock b (suc (length es)) fs here
     → AllNamed (enclosed fs b ∷ es) (namedBlock b fs es) (blockFields b)
 unfolding namedBlock blockFields FormedBlock
-block-named (block at ds ss) fs es here fit h =
+block-named (block at ds ss) fs es here narrow h =
     let os = enclosed fs (block at ds ss) ∷ es in
-    let d = decls-named os ds [] (suc (length es)) (length (stmts ss)) (here + 6) fit refl (h .declarations) in
-    let s = stmts-named os ss [] (suc (length es)) (here + 6 + 2 * length (declsFields ds)) fit refl (h .statements) in
+    let d = decls-named os ds [] (suc (length es)) (length (stmts ss)) (here + 6) narrow refl (h .declarations) in
+    let s = stmts-named os ss [] (suc (length es)) (here + 6 + 2 * length (declsFields ds)) narrow refl (h .statements) in
     (nameless os _, (nameless os _, (nameless os _, named-append os (namedDecls ds os) (namedStmts ss os) (declsFields ds) (stmtsFields ss) d s)))
-
-pub fit-of-text : (t : Block) → Keeps t → (es : Enclosure) → Encloses t es → Fit es
-fit-of-text t keeps es w = ((enclosure-level t keeps es w) .1, few es w)
-  where
-    few : (l : Enclosure) → Encloses t l → Each (λ (x : Enclosing). length (namesOf x) ≤ 32) l
-    few [] h = absurd h
-    few (e ∷ []) h = (enclosure-names t keeps e [] h, tt)
-    few (e ∷ o ∷ os) h = (enclosure-names t keeps e (o ∷ os) h, few (o ∷ os) (h .1))
 
 pub named-inside : (names : List ℕ) (t : Block) → Keeps t → Covers names 0 (namedOf t) → (e : Enclosing) (es : Enclosure) → Encloses t (e ∷ es)
     → (q : ℕ) → placeOf (blockAt (e .text)) ≤ q → q < endPlace (e .text) → Named (e ∷ es) (getD names q 0) (getD (blockFields t) q 0)
@@ -141,5 +125,5 @@ named-inside names t keeps covered e es within q low high =
     let word : getD names (p + i) 0 ≡ getD (namedBlock b (e .formals) es) i 0 = covers-at names p (namedBlock b (e .formals) es) (block-fields-named names t keeps covered e es within) i (omega arith) in
     let field : getD (blockFields t) (p + i) 0 ≡ getD (blockFields b) i 0 = covers-at (blockFields t) p (blockFields b) (block-fields-stand t keeps e es within) i (omega arith) in
     let h : Named (e ∷ es) (getD (namedBlock b (e .formals) es) i 0) (getD (blockFields b) i 0) =
-    named-at (e ∷ es) (namedBlock b (e .formals) es) (blockFields b) (block-named b (e .formals) es (2 * p) (fit-of-text t keeps (e ∷ es) within) (enclosed-formed t keeps e es within)) i (omega arith) in
+    named-at (e ∷ es) (namedBlock b (e .formals) es) (blockFields b) (block-named b (e .formals) es (2 * p) (narrow-of-text t keeps (e ∷ es) within) (enclosed-formed t keeps e es within)) i (omega arith) in
     subst (λ k. Named (e ∷ es) (getD names k 0) (getD (blockFields t) k 0)) z (subst (λ (c : ℕ × ℕ). Named (e ∷ es) (c .0) (c .1)) (λ j. (sym word j, sym field j)) h)

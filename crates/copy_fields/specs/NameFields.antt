@@ -1,5 +1,5 @@
 -- The word of the name in each field of a script, used or declared; 0 in every other field. A word's level says which block of the text around it
--- names-stand the name.
+-- declares the name.
 use Prim.Native.Nat.{ℕ}
 use mathlib.Core.List.{List, [], _∷_, _++_, map}
 use Rattle.language.specs.Text.{Formal, Action, CL, GO, IF, KN, AR, AD, RM, QY, Block, block, Decl, VR, LB, PR, Stmt, BK, DO, Decls, no-decl, decl, Stmts, no-stmt, stmt}

@@ -15,9 +15,10 @@ use Rattle.coordinates.specs.Enclosure.{Enclosing, Enclosure, Encloses}
 use Rattle.resolved.specs.Resolved.{placeOf, endPlace, nameWord, Covers}
 use Rattle.resolved.specs.Lengths.{covers-self}
 use Rattle.resolved.specs.Places.{declsBefore}
+use Rattle.resolve_fields.specs.Layout.{beforeDecl, block-laid, stmt-laid, decl-laid}
+use Rattle.resolve_fields.specs.Layouts.{fieldsLayout}
 use Rattle.copy_fields.specs.NameFields.{namedAction, namedBlock, namedDecl, namedStmt, namedOf}
-use Rattle.copy_fields.specs.Layout.{beforeDecl, block-laid, stmt-laid, decl-laid}
-use Rattle.copy_fields.specs.Layouts.{fieldsLayout, namedLayout}
+use Rattle.copy_fields.specs.Layouts.{namedLayout}
 
 -- The script's own fields
 

@@ -2,23 +2,20 @@
 // safe on any bytes.
 use check_extents::pass;
 use check_fields::word;
-use check_marks::AD;
-use check_marks::AR;
-use check_marks::BK;
-use check_marks::CL;
 use check_marks::IF;
-use check_marks::QY;
-use check_marks::RM;
+use resolve_fields::leading;
+use resolve_fields::trailing;
 ghost use mathlib.Core.Path.{_≡_};
-ghost use Prim.Native.Nat.{_+_, _<_, _≤_};
+ghost use Prim.Native.Nat.{_+_, _<_};
 ghost use lib.ListN.{length, replicate};
 ghost use Rattle.laws.specs.Fields.{fieldAt};
+ghost use Rattle.resolve_fields.specs.Taking.{wordThere, taken};
 ghost use Rattle.copy_fields.specs.Naming as naming;
 
 // So many words from a place on. Past the end nothing is written.
 fn take(code: &[u32; 4096], names: &mut [u32; 4096], from: usize, count: usize)
     requires { ⌜ (length (now names) ≡ 4096) × (from < 5000) × (count < 65536) ⌝ }
-    ensures taken { λ _. ⌜ now (names .exit) ≡ naming.taken (now (code .entry)) (now (names .entry)) from count ⌝ }
+    ensures taken { λ _. ⌜ now (names .exit) ≡ taken (wordThere (now (code .entry))) (now (names .entry)) from count ⌝ }
     ensures long { λ _. ⌜ length (now (names .exit)) ≡ 4096 ⌝ }
 {
     let mut i = 0;
@@ -41,39 +38,6 @@ fn cross(code: &[u32; 4096], names: &mut [u32; 4096], from: usize)
         names[from] = code[from + 1];
         names[from + 1] = code[from];
     }
-}
-
-// How many names stand right after a record's mark. A formal's word is 0 in the resolved script.
-fn leading(mark: usize) -> usize
-    ensures { λ r. ⌜ (r ≡ naming.leading mark) × (r ≤ 3) ⌝ }
-{
-    if mark == BK {
-        return 0;
-    }
-    if mark == QY {
-        return 3;
-    }
-    if mark == AD {
-        return 2;
-    }
-    if mark == RM {
-        return 2;
-    }
-    1
-}
-
-// How many names stand after a record's second field.
-fn trailing(script: &[u8], at: usize, mark: usize) -> usize
-    requires { ⌜ at < 8192 ⌝ }
-    ensures { λ r. ⌜ (r ≡ naming.trailing mark (fieldAt (now (script .entry)) (at + 4))) × (r < 65536) ⌝ }
-{
-    if mark == AR {
-        return 2;
-    }
-    if mark == CL {
-        return word(script, at + 4);
-    }
-    0
 }
 
 // The words of one record. IF's label comes first in the resolved script.

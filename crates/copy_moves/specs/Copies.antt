@@ -29,14 +29,14 @@ use Rattle.coordinates.specs.Search.{coordinate-here, coordinate-further, enclo
 use Rattle.coordinates.specs.Declared.{coordinate-declares}
 use Rattle.coordinates.specs.Levels.{enclosure-of-text}
 use Rattle.resolved.specs.Resolved.{placeOf, endPlace, levelIn, nameWord, Covers}
-use Rattle.resolved.specs.NameWords.{word-none}
+use Rattle.resolved.specs.NameWords.{word-none, Narrow, narrow-of-text, name-is}
 use Rattle.resolved.specs.Lengths.{covers-at}
 use Rattle.resolved.specs.Places.{enclosed-formed}
 use Rattle.copy_fields.specs.NameFields.{namedBlock, namedOf}
 use Rattle.copy_fields.specs.Lengths.{block-length}
 use Rattle.copy_fields.specs.Standing.{block-fields-stand, block-fields-named}
 use Rattle.copy_texts.specs.Texts.{reading, Texts}
-use Rattle.copy_texts.specs.Readings.{Narrow, narrow-of-text, word-says, zip-missing}
+use Rattle.copy_texts.specs.Readings.{zip-missing}
 use Rattle.copy_texts.specs.Renewing.{valuesOf, reading-plain, reading-in}
 use Rattle.run_state.specs.declared.Registers.{Registers}
 use Rattle.copy_moves.specs.Running.{Running}
@@ -80,7 +80,7 @@ parts-replace es σs narrow h =
           (λ q. renamed-none (joined σs) n (parts-missing es σs n h q) ∙ sym (reading-plain σs (nameWord es n) n (ap levelIn (word-none es n q))))
           (λ c q.
           let d = coordinate-declares es n c q in
-          let says = word-says es narrow n c q (d .block) (d .stands) in
+          let says = name-is es narrow n c q (d .block) (d .stands) in
           sym (reading-in σs (nameWord es n) n (omega (arith, says .level, d .low)) (omega (arith, says .level, d .high, parts-many es σs h))));
     }
 

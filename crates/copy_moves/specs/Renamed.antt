@@ -22,12 +22,12 @@ use Rattle.frames.specs.Positions.{position-miss, position-none}
 use Rattle.coordinates.specs.Enclosure.{Enclosing, enclosed, Enclosure, Coordinate, namesOf}
 use Rattle.coordinates.specs.Search.{coordinate-here}
 use Rattle.coordinates.specs.Declared.{level-here}
-use Rattle.coordinates.specs.Levels.{formed-names}
 use Rattle.resolved.specs.Resolved.{visibleWords, nameWord}
+use Rattle.resolved.specs.NameWords.{Narrow, narrow-inner, name-is}
 use Rattle.copy_fields.specs.NameFields.{namedAction, namedFormals, namedBlock, namedDecl, namedStmt, namedDecls, namedStmts}
 use Rattle.copy_fields.specs.Lengths as lengths
 use Rattle.copy_texts.specs.Texts.{reading}
-use Rattle.copy_texts.specs.Readings.{Narrow, word-says, zip-missing}
+use Rattle.copy_texts.specs.Readings.{zip-missing}
 use Rattle.copy_texts.specs.Renewing.{reading-plain, reading-above}
 
 -- fields, each read by the word beside it
@@ -54,11 +54,6 @@ word-further : (e : Enclosing) (es : Enclosure) (n : ℕ) → positionFrom n 1 (
 unfolding nameWord visibleWords
 word-further e es n q = rw (lookup-right n (zip (namesOf e) _) (visibleWords es) (zip-missing n 1 (namesOf e) _ q), nameWord)
 
-narrow-inner : (b : Block) (fs : List Formal) (es : Enclosure) (here : ℕ) → Narrow es → FormedBlock b (suc (length es)) fs here → Narrow (enclosed fs b ∷ es)
-unfolding FormedBlock namesOf
-narrow-inner (block at ds ss) fs es here narrow h =
-    record { shallow = h .nesting; few = (formed-names (block at ds ss) (suc (length es)) fs here h, narrow .few) }
-
 -- the names of the block stay as they are, since its level is above all parts', and all others are as they were
 pub replaces-inner : (b : Block) (fs : List Formal) (es : Enclosure) (here : ℕ) → FormedBlock b (suc (length es)) fs here
     → (τ : Replacement) (σs : List Replacement) → Replaces es τ σs → Replaces (enclosed fs b ∷ es) (without (namesOf (enclosed fs b)) τ) σs
@@ -76,7 +71,7 @@ replaces-inner b fs es here h τ σs r = record { narrow = narrow; shallow = ome
         (λ q. renamed-other n (namesOf e) τ (position-none n 1 (namesOf e) q) ∙ r .same n ∙ ap (λ w. reading σs w n) (sym (word-further e es n q)))
         (λ p q.
         let c : Coordinate = record { level = suc (length es); position = p } in
-        let says = word-says (e ∷ es) narrow n c (coordinate-here e es n p q) e (level-here e es) in
+        let says = name-is (e ∷ es) narrow n c (coordinate-here e es n p q) e (level-here e es) in
         renamed-own n (namesOf e) τ (position-among n 1 (namesOf e) p q)
         ∙ sym (reading-above σs (nameWord (e ∷ es) n) n (omega (arith, says .level, r .shallow))))
 

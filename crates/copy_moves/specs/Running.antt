@@ -5,7 +5,7 @@ use Prim.Native.Nat.{ℕ, _+_, _*_, _≤_, _<_}
 use mathlib.Core.List.{List}
 use mathlib.Core.Path.{_≡_}
 use lib.IntN.{ℤ}
-use lib.ListN.{length, getD}
+use lib.ListN.{length}
 use Rattle.language.specs.Encoding.{blockFields}
 use Rattle.language.specs.Machine.{State}
 use Rattle.instances.specs.Invariant.{Invariant}
@@ -13,12 +13,11 @@ use Rattle.frames.specs.Related.{Related}
 use Rattle.resolved.specs.Resolved.{Covers}
 use Rattle.steps.specs.Standing.{Standing}
 use Rattle.steps.specs.Means.{Follows}
-use Rattle.resolved.specs.Layout.{endIn}
 use Rattle.copy_fields.specs.NameFields.{namedOf}
 use Rattle.copy_names.specs.Owner.{NewNames}
 use Rattle.copy_texts.specs.Texts.{Texts, Aims, Looks}
 use Rattle.run_state.specs.declared.Registers.{Registers}
-use Rattle.run_state.specs.Limits.{limitsBy, goesTo}
+use Rattle.run_state.specs.Limits.{limitsBy}
 
 pub record Running (code names : List ℕ) (activations limit : ℕ) (cells : List ℤ) (area : List ℕ) (width : ℕ) (blocks nexts firsts starts targets looked : List ℕ) (table : List ℤ) (here : Registers) : Type 0 where
   pub links : List ℕ
@@ -40,11 +39,6 @@ pub record Running (code names : List ℕ) (activations limit : ℕ) (cells : Li
   pub starts-long : length starts ≡ 256
   pub targets-long : length targets ≡ 8224
   pub looked-long : length looked ≡ 256
-
--- where an activation of the stack goes on as the innermost one
-abbrev pub nowAt : List ℕ → List ℕ → Registers → ℕ → ℕ → Registers
-nowAt code blocks here home at =
-    goesTo here home at (endIn (getD code (getD blocks home 0 + 1) 0)) (here .pairs)
 
 -- the state of the arrays one step later
 pub record Succeeds {code names : List ℕ} {activations limit : ℕ} {cells : List ℤ} {area : List ℕ} {width : ℕ} {blocks nexts firsts starts targets looked : List ℕ} {table : List ℤ} {here : Registers}

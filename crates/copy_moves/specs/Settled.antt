@@ -1,5 +1,5 @@
 -- Frames of two stacks whose blocks stand at one place are alike: the place of a BK settles its block, its formals and what encloses it.
-use Prim.Native.Nat.{ℕ, zero, suc, pred, _*_, _≤_, _<_}
+use Prim.Native.Nat.{ℕ, zero, suc, pred, _≤_, _<_}
 use native.Mathlib.Omega.{arith}
 use mathlib.Core.List.{List, _∷_, head-eq-of-cons-eq}
 use mathlib.Core.Option.{Option, some, Option·map}
@@ -18,15 +18,8 @@ use Rattle.coordinates.specs.Chain.{enclosing, enclosureOf, Linked, outermost, 
 use Rattle.coordinates.specs.Kept.{chained-downward}
 use Rattle.coordinates.specs.Search.{enclosure-step}
 use Rattle.coordinates.specs.Levels.{frame-encloses}
-use Rattle.coordinates.specs.Index.{block-settled}
 use Rattle.resolved.specs.Resolved.{placeOf}
-use Rattle.resolved.specs.Places.{even-block}
-
--- two enclosures whose innermost blocks stand at one place
-pub place-settled : (t : Block) → Keeps t → (e : Enclosing) (es : Enclosure) → Encloses t (e ∷ es) → (e′ : Enclosing) (es′ : Enclosure) → Encloses t (e′ ∷ es′)
-    → placeOf (blockAt (e .text)) ≡ placeOf (blockAt (e′ .text)) → _≡_ {A = Enclosure} (e ∷ es) (e′ ∷ es′)
-place-settled t keeps e es h e′ es′ h′ q =
-    block-settled t keeps e e′ es es′ h h′ (sym (even-block t keeps e es h) ∙ ap (λ p. 2 * p) q ∙ even-block t keeps e′ es′ h′)
+use Rattle.resolved.specs.Places.{place-settled}
 
 pub own-enclosure : (t : Block) (fs : List Frame) → Chained t fs → (k : ℕ) (f : Frame) → getElem? fs k ≡ some f → enclosureOf fs (suc k) ≡ enclosing f ∷ enclosureOf fs (f .link)
 own-enclosure t fs chain k f e = enclosure-step fs (chained-downward t fs chain) (suc k) f (numbered-suc fs k ∙ e)

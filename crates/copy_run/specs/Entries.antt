@@ -29,15 +29,15 @@ use Rattle.coordinates.specs.Chain.{enclosureOf}
 use Rattle.coordinates.specs.Coordinates.{level-of-text}
 use Rattle.resolved.specs.Resolved.{placeOf}
 use Rattle.resolved.specs.Places.{enclosed-formed}
-use Rattle.copy_fields.specs.Inside.{Named, named-inside}
+use Rattle.resolved.specs.NameWords.{Narrow, narrow-of-text}
+use Rattle.copy_fields.specs.Inside.{named-inside}
 use Rattle.copy_fields.specs.Standing.{declared-fields-named}
 use Rattle.steps.specs.Means.{EntersAt}
 use Rattle.steps.specs.Here.{many, here as last-here, downward}
 use Rattle.copy_machine.specs.Moved.{Hands, EntersAnew}
 use Rattle.frames.specs.Runs.{CopiesStep, copies-step}
 use Rattle.copy_machine.specs.Together.{copies-entered}
-use Rattle.copy_texts.specs.Readings.{Narrow, narrow-of-text}
-use Rattle.copy_texts.specs.Renewing.{NamesStand, Inside, Declared, Enters}
+use Rattle.copy_texts.specs.Renewing.{Inside, Declared, Enters}
 use Rattle.copy_statements.specs.Doing.{text}
 use Rattle.run_state.specs.declared.Registers.{Registers}
 use Rattle.run_state.specs.Limits.{limitsBy}
@@ -234,11 +234,7 @@ module _ {code names : List ℕ} {activations limit : ℕ} {cells : List ℤ} {a
   -- the words of names in the text
 
   pub inside-here : Inside names (blockFields t) e es
-  inside-here q low high = by (named-inside names t (w .standing .keeps) (w .names-stand) e es (j .encloses) q low high)
-    where
-      by : Named (e ∷ es) (getD names q 0) (getD (blockFields t) q 0) → NamesStand e es (getD names q 0) (getD (blockFields t) q 0)
-      by (inl z) = inl z
-      by (inr k) = inr (k .0, k .1, k .2, record { shallow = k .3 .0; few = k .3 .1 })
+  inside-here = named-inside names t (w .standing .keeps) (w .names-stand) e es (j .encloses)
 
   pub declared-here : Declared names e es
   declared-here = declared-fields-named names t (w .standing .keeps) (w .names-stand) e es (j .encloses)

@@ -17,7 +17,7 @@ use Rattle.coordinates.specs.Chain.{enclosing, levelOf}
 use Rattle.coordinates.specs.Levels.{enclosure-of-text}
 use Rattle.coordinates.specs.Next.{Resolved}
 use Rattle.resolved.specs.Resolved.{nameWord}
-use Rattle.resolved.specs.NameWords.{name-is}
+use Rattle.resolved.specs.NameWords.{narrow-of-text, name-is}
 use Rattle.arrays.specs.Holds.{cellOf, targetOf, formalWord}
 use Rattle.arrays.specs.Cells.{Celled, cell-bound, cell-activation, target-found}
 use Rattle.arrays.specs.Found.{named-celled}
@@ -60,7 +60,7 @@ module _ {code names : List ℕ} {activations limit : ℕ} {cells : List ℤ} {a
     reads-name =
         let v = w .standing in
         let within = enclosure-of-text (v .program) fs (v .sound .chained) (length fs) (v .frame) (ap (numbered fs) (many v) ∙ numbered-here v) in
-        let level = (name-is (v .program) (v .keeps) (around w) within n (r .coordinate) (r .here) (enclosing (r .declarer .frame)) (r .declarer .block)) .level in
+        let level = (name-is (around w) (narrow-of-text (v .program) (v .keeps) (around w) within) n (r .coordinate) (r .here) (enclosing (r .declarer .frame)) (r .declarer .block)) .level in
         let deep = reads-deep (w .copies) (v .stack) (w .related) (downward v) (here .live) a innermost ∙ ap (levelOf fs) (sym (many v)) in
         reading-named (a .reads) (nameWord (around w) n) n (omega (arith, r .level-low)) (omega (arith, r .level-high))
 

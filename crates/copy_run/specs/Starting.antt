@@ -32,8 +32,9 @@ use Rattle.resolved.specs.Resolved.{placeOf, endPlace, stmtPlace, levelIn, posi
 use Rattle.resolved.specs.Places.{block-at, block-place, end-bound, end-is}
 use Rattle.resolved.specs.Standing.{head-stands, looked-up-stands}
 use Rattle.resolved.specs.Words.{head-names}
+use Rattle.resolved.specs.NameWords.{Narrow, narrow-of-text}
 use Rattle.copy_fields.specs.NameFields.{namedOf}
-use Rattle.copy_fields.specs.Inside.{Named, named-inside}
+use Rattle.copy_fields.specs.Inside.{named-inside}
 use Rattle.copy_fields.specs.Standing.{declared-fields-named}
 use Rattle.steps.specs.Standing.{Standing}
 use Rattle.steps.specs.Reads.{begin-reads}
@@ -43,7 +44,7 @@ use Rattle.copy_machine.specs.Start.{StartsAnew, starts-anew, start-invariant}
 use Rattle.copy_names.specs.Owner.{NewNames}
 use Rattle.copy_names.specs.Finding.{new-names-start}
 use Rattle.copy_texts.specs.Texts.{renewed, Copied, notedFrom, Texts, Aims, Looks}
-use Rattle.copy_texts.specs.Readings.{Narrow, narrow-of-text, own-formal}
+use Rattle.copy_texts.specs.Readings.{own-formal}
 use Rattle.copy_texts.specs.Renewing.{NamesStand, Inside, Declared, Enters}
 use Rattle.copy_texts.specs.Entering.{texts-start}
 use Rattle.copy_texts.specs.Noting.{noted-long}
@@ -118,11 +119,7 @@ module _ {script code names : List ℕ} {activations limit : ℕ} {cells : List 
   narrow = narrow-of-text t keeps (e ∷ []) encloses
 
   inside : Inside names (blockFields t) e []
-  inside q low high = by (named-inside names t keeps (b .names-stand) e [] encloses q low high)
-    where
-      by : Named (e ∷ []) (getD names q 0) (getD (blockFields t) q 0) → NamesStand e [] (getD names q 0) (getD (blockFields t) q 0)
-      by (inl z) = inl z
-      by (inr k) = inr (k .0, k .1, k .2, record { shallow = k .3 .0; few = k .3 .1 })
+  inside = named-inside names t keeps (b .names-stand) e [] encloses
 
   -- the program has no formals
   no-formal : (v n : ℕ) → NamesStand e [] v n → levelIn v ≡ 1 → direct v ≡ true

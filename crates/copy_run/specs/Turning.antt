@@ -56,10 +56,8 @@ module _ {code names : List ℕ} {activations limit : ℕ} {cells : List ℤ} {a
       (arraysOf cells′ area′ blocks′ nexts′ firsts′ starts′ targets′ looked′ table′)
 
 -- from a stack at which so many steps are done; the engine keeps no links
-pub record EndedFrom (done : ℕ) (program : Block) (name activations limit : ℕ) (result : Result) (r : Halt) (cells : List ℤ) (blocks nexts : List ℕ)
-    (table : List ℤ) : Type 0 where
-  pub links : List ℕ
-  pub ended : state.EndedFrom done program name (limitsBy activations limit) result r cells blocks nexts links table
+abbrev pub EndedFrom : ℕ → Block → ℕ → ℕ → ℕ → Result → Halt → List ℤ → List ℕ → List ℕ → List ℤ → Type 0
+EndedFrom done program name activations limit = state.EndedUnlinked done program name (limitsBy activations limit)
 
 abbrev pub Ended : Block → ℕ → ℕ → ℕ → Result → Halt → List ℤ → List ℕ → List ℕ → List ℤ → Type 0
 Ended = EndedFrom 0

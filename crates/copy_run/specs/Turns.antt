@@ -4,15 +4,11 @@ use Prim.Native.Nat.{ℕ, suc, _+_, _-_, _*_, _≤_, _<_}
 use native.Mathlib.Omega.{arith}
 use native.Mathlib.Nat.{mul-le-mul-right}
 use mathlib.Core.List.{List}
-use mathlib.Core.Option.{some}
 use mathlib.Core.Path.{_≡_, refl, sym, ap, _∙_, subst}
 use lib.IntN.{ℤ}
-use lib.ListN.{length, getD, getElem?}
+use lib.ListN.{length, getD}
 use Rattle.language.specs.declared.Stop.{Stop as Cause}
-use Rattle.laws.specs.Lists.{getElem-in}
 use Rattle.frames.specs.Frame.{Frame, numbered, halted, frameStep}
-use Rattle.frames.specs.Numbered.{numbered-index}
-use Rattle.resolved.specs.Resolved.{endPlace}
 use Rattle.run_moves.specs.declared.Move.{Move}
 use Rattle.run_moves.specs.declared.Move.the-variants.{On, Table as Asks, Jump, Enter, Stop}
 use Rattle.run_moves.specs.declared.Ask.{Ask}
@@ -22,8 +18,7 @@ use Rattle.table_pairs.specs.declared.Change.the-variants.{Done as Count, Stopp
 use Rattle.resolved.specs.Layout.{endIn}
 use Rattle.run_statements.specs.Answers.{Answered, turnAfter, done-goes, stopped-halts}
 use Rattle.steps.specs.Means.{GoesOn, JumpsTo, EntersAt, AnswerMeans, MoveMeans}
-use Rattle.steps.specs.Here.{many, within-activations, live-few}
-use Rattle.steps.specs.Reads.{block-within, end-there, end-here}
+use Rattle.steps.specs.Here.{within-activations}
 use Rattle.steps.specs.Loop.{leaves, jumped}
 use Rattle.copy_statements.specs.declared.moved.Moved.{Moved}
 use Rattle.copy_statements.specs.declared.moved.Moved.the-variants.{Went, Jump as JumpTo, Enter as EnterBy, Stop as StopFor, Table as AskBy}
@@ -32,7 +27,9 @@ use Rattle.copy_statements.specs.Moved.{movedBy, Came}
 use Rattle.run_state.specs.declared.Registers.{Registers}
 use Rattle.run_state.specs.declared.Turn.{Turn}
 use Rattle.run_state.specs.Limits.{limitsBy, goesTo}
-use Rattle.copy_moves.specs.Running.{Running, nowAt, Succeeds}
+use Rattle.run_records.specs.Resumed.{nowAt}
+use Rattle.run_records.specs.Ready as ready
+use Rattle.copy_moves.specs.Running.{Running, Succeeds}
 use Rattle.copy_entry.specs.Anew.{Enterable, AnewIn}
 use Rattle.copy_moves.specs.Going.{goes-on}
 use Rattle.run_state.specs.Turns.{Stops}
@@ -46,29 +43,17 @@ module _ {code names : List ℕ} {activations limit : ℕ} {cells : List ℤ} {a
   abbrev fs : List Frame
   fs = w .standing .stack .frames
 
-  -- an activation that is live
-  live-frame : (k : ℕ) → k ≤ here .live → (f : Frame) × (getElem? fs k ≡ some f)
-  live-frame k h = getElem-in fs k (omega (arith, many (w .standing)))
-
-  within : (k : ℕ) → k ≤ here .live → getD blocks k 0 + 1 < 4096
-  within k h =
-      let f = live-frame k h in
-      omega (arith, block-within (w .standing) k (f .0) (f .1))
-
-  end-of : (k : ℕ) (f : Frame) → numbered fs (suc k) ≡ some f → endIn (getD code (getD blocks k 0 + 1) 0) ≡ endPlace (f .text)
-  end-of k f e = end-there (w .standing) k f (numbered-index fs (suc k) f e)
-
   -- The end of the text
 
   pub leave-ready : 1 ≤ here .live → (1 ≤ here .live) × (here .live ≤ 256) × (getD blocks (here .live - 1) 0 + 1 < 4096)
-  leave-ready h = (h, omega (arith, live-few (w .standing)), within (here .live - 1) (omega arith))
+  leave-ready h = ready.leave-ready (w .standing) h
 
   pub left-on : here .at ≡ here .end → 1 ≤ here .live → (r : Registers) → r ≡ nowAt code blocks here (here .live - 1) (getD nexts (here .live - 1) 0)
       → Succeeds w cells area blocks nexts firsts starts targets looked table r
   left-on e h r is =
       let l = leaves (w .standing) e h in
       let one : suc (here .live - 1) ≡ here .live = omega arith in
-      let ends = end-of (here .live - 1) (l .frame) (ap (numbered fs) one ∙ l .stands) in
+      let ends = ready.end-found (w .standing) (here .live - 1) (l .frame) (ap (numbered fs) one ∙ l .stands) in
       subst (λ (n : Registers). Succeeds w cells area blocks nexts firsts starts targets looked table n)
       ((λ i. goesTo here (here .live - 1) (getD nexts (here .live - 1) 0) (sym ends i) (here .pairs)) ∙ sym is)
       (goes-on w (l .standing) (l .follows) (omega arith) (λ k p. (refl, refl)))
@@ -151,19 +136,14 @@ module _ {code names : List ℕ} {activations limit : ℕ} {cells : List ℤ} {a
 
     pub jump-ready : {home p : ℕ} → r ≡ JumpTo p home
         → (home < 256) × (getD blocks home 0 + 1 < 4096) × (home ≡ here .live → here .end ≡ endIn (getD code (getD blocks home 0 + 1) 0))
-    jump-ready {home} {p} e =
-        let high = (jumped (w .standing) home p (jumps e)) .home-high in (
-          omega (arith, live-few (w .standing)),
-          within home high,
-          λ q. sym (ap (λ k. endIn (getD code (getD blocks k 0 + 1) 0)) q ∙ end-here (w .standing)),
-        )
+    jump-ready {home} {p} e = ready.jump-ready (w .standing) home ((jumped (w .standing) home p (jumps e)) .home-high)
 
     pub jumped-on : {home p : ℕ} → r ≡ JumpTo p home → {n : Registers} → n ≡ nowAt code blocks here home p
         → Succeeds w cells′ area blocks nexts firsts starts targets looked table n
     jumped-on {home} {p} e {n} is =
         let m = means-as e in
         let l = jumped (w .standing) home p (m .0) in
-        let ends = end-of home (l .frame) (l .stands) in
+        let ends = ready.end-found (w .standing) home (l .frame) (l .stands) in
         subst (λ (v : List ℤ). Succeeds w v area blocks nexts firsts starts targets looked table n) (sym (m .1))
         (subst (λ (v : Registers). Succeeds w cells area blocks nexts firsts starts targets looked table v)
         ((λ i. goesTo here home p (sym ends i) (here .pairs)) ∙ sym is)

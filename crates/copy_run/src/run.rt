@@ -1,13 +1,13 @@
 // The run: steps until the program is left, a statement has a cause to stop, or the allowance is spent.
 use copy_entry::enter;
 use copy_moves::begin;
-use copy_moves::jump;
-use copy_moves::leave;
 use copy_moves::looked_up;
-use copy_moves::set_next;
 use copy_statements::Moved;
 use copy_statements::act;
 use run_moves::Ask;
+use run_records::jump;
+use run_records::leave;
+use run_records::set_next;
 use run_state::Halt;
 use run_state::Registers;
 use run_state::Turn;

@@ -23,7 +23,8 @@ use Rattle.coordinates.specs.Declared.{level-here}
 use Rattle.resolved.specs.Resolved.{placeOf, endPlace, positionIn, levelIn, targetIn, direct, declTarget, nameWord}
 use Rattle.resolved.specs.Layout.{cellFrom}
 use Rattle.copy_texts.specs.Texts.{Aims, notedFrom}
-use Rattle.copy_texts.specs.Readings.{Narrow, word-says, position-here, position-there, owned}
+use Rattle.resolved.specs.NameWords.{Narrow, name-is}
+use Rattle.copy_texts.specs.Readings.{position-here, position-there, owned}
 use Rattle.copy_texts.specs.Renewing.{NamesStand, Inside, Declared}
 use Rattle.copy_texts.specs.Stacks.{OneMore, frame-before, by-index}
 use Rattle.copy_texts.specs.Noting.{Leads, from-below, from-reached}
@@ -63,7 +64,7 @@ word-declared e es narrow once j d q =
     let z : 1 + p ≡ suc p = omega arith in
     let named = position-of (namesOf e) 1 p (declName d) once (declared-at e j d q) ∙ ap {B = Option ℕ} some z in
     let found = coordinate-here e es (declName d) (suc p) named in
-    let says = word-says (e ∷ es) narrow (declName d) c found e (level-here e es) in
+    let says = name-is (e ∷ es) narrow (declName d) c found e (level-here e es) in
     record { level = says .level; position = says .position; is-direct = eq-eqb _ 0 (says .declared (omega arith)) }
 
 -- The cells of one block

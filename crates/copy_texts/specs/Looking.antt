@@ -23,9 +23,9 @@ use Rattle.coordinates.specs.Search.{coordinate-here, coordinate-further, enclo
 use Rattle.coordinates.specs.Declared.{coordinate-declares}
 use Rattle.coordinates.specs.Statement.{enclosure-alike}
 use Rattle.resolved.specs.Resolved.{positionIn, levelIn, nameWord}
-use Rattle.resolved.specs.NameWords.{word-none, word-none-iff}
+use Rattle.resolved.specs.NameWords.{word-none, word-none-iff, Narrow, name-is}
 use Rattle.copy_texts.specs.Texts.{readAs, Looks, renewed}
-use Rattle.copy_texts.specs.Readings.{Narrow, word-says, coordinate-hidden, owned, own-within, own-reads, own-hidden}
+use Rattle.copy_texts.specs.Readings.{coordinate-hidden, owned, own-within, own-reads, own-hidden}
 use Rattle.copy_texts.specs.Renewing.{Enters, renewed-other, renamed-near, renamed-far, valuesOf, values-many, reads-own, renewed-own}
 use Rattle.copy_texts.specs.Stacks.{SameActivations, OneMore, activation-before, by-index}
 
@@ -84,7 +84,7 @@ module _ {area : List ℕ} {given fresh : ℕ} {e : Enclosing} {es : Enclosure} 
   somewhere : (c : Coordinate) → coordinateOf (e ∷ es) n ≡ some c → taken (readAs outer (nameWord es n) n) ≡ readAs (own ∷ outer) w n
   somewhere c q =
       let d = coordinate-declares (e ∷ es) n c q in
-      let l : levelIn w ≡ c .level = (word-says (e ∷ es) narrow n c q (d .block) (d .stands)) .level in
+      let l : levelIn w ≡ c .level = (name-is (e ∷ es) narrow n c q (d .block) (d .stands)) .level in
       split (eqb (levelIn w) (suc (length es))) (λ t. here (readAs outer (nameWord es n) n) c q (eqb-true (levelIn w) (suc (length es)) t))
       (λ f. further c q (omega (arith, d .low)) (omega (arith, d .high, eqb-false (levelIn w) (suc (length es)) f)) l)
 

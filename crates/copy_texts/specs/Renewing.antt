@@ -24,8 +24,9 @@ use Rattle.laws.specs.Renaming.{renamed-some, renamed-same}
 use Rattle.frames.specs.Related.{joined}
 use Rattle.coordinates.specs.Enclosure.{Enclosing, Enclosure, namesOf}
 use Rattle.resolved.specs.Resolved.{placeOf, endPlace, positionIn, levelIn, direct, nameWord}
+use Rattle.resolved.specs.NameWords.{Narrow}
 use Rattle.copy_texts.specs.Texts.{reading, renewed}
-use Rattle.copy_texts.specs.Readings.{Narrow, Owned, owned, own-within, own-reads, own-hidden}
+use Rattle.copy_texts.specs.Readings.{Owned, owned, own-within, own-reads, own-hidden}
 
 -- the word of a field with what is written there, n, in the text of block e: of level 0, or that of the name n at some place in the text
 abbrev pub NamesStand : Enclosing → Enclosure → ℕ → ℕ → Type 0

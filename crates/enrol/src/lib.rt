@@ -5,7 +5,7 @@ use chain_records::Activation;
 ghost use mathlib.Core.Path.{_≡_};
 ghost use Rattle.language.specs.Check.{check};
 ghost use lib.ListN.{length};
-ghost use Rattle.language.specs.Call.{copying, display, chain};
+ghost use Rattle.language.specs.Call.{copying, display, chain, search};
 ghost use Rattle.call_admission.specs.Lent.{fedOf};
 ghost use Rattle.call_answers.specs.Replies.{Replies, RepliesLeaving};
 ghost use Rattle.check_call.specs.Answers.{checkWords};
@@ -109,4 +109,33 @@ pub extern "C" fn enrol_chain(
         chain_call::call(script, numbers, table, sheet, records),
         answer,
     );
+}
+
+// A run by the search engine: the answer's words, and what becomes of table and sheet.
+#[no_mangle]
+pub extern "C" fn enrol_search(
+    script: &[u8],
+    d: u32,
+    n: u32,
+    g: u32,
+    tally: u64,
+    table: &mut [i32],
+    count: usize,
+    name: u16,
+    sheet: &mut [i32],
+    answer: &mut [u64; 9],
+)
+    ensures { λ _. ⌜ Replies search (fedOf (record { d = d; n = n; g = g; tally = tally; count = count; name = name })
+        (now (script .entry)) (now (table .entry)) (now (sheet .entry)))
+        (now (answer .exit)) (now (sheet .exit)) (now (table .exit)) ⌝ }
+{
+    let numbers = CallNumbers {
+        d,
+        n,
+        g,
+        tally,
+        count,
+        name,
+    };
+    write_answer(search_call::call(script, numbers, table, sheet), answer);
 }

@@ -2,14 +2,14 @@
 -- a frame just entered is one of its own, or is looked up from its link in the frames below (`entered-own`, `entered-around`).
 use Prim.Native.Nat.{ℕ, zero, suc, _+_, _≤_, _<_}
 use native.Mathlib.Omega.{arith}
-use mathlib.Core.Path.{_≡_, sym, ap, _∙_}
+use mathlib.Core.Path.{_≡_, refl, sym, ap, _∙_}
 use mathlib.Core.List.{List, [], _∷_, _++_}
 use mathlib.Core.Option.{none, some, Option·none-ne-some, Option·some-injective}
 use lib.ListN.{length}
 use Rattle.laws.specs.Tests.{by-lookup}
 use Rattle.frames.specs.Frame.{Frame, NamePlace, numbered, frameNames, positionFrom, seekFrom, seekName, linksFollowed, frameNumber, declOf, kindOf, wordAt}
 use Rattle.laws.specs.Lists.{snoc-length}
-use Rattle.frame_laws.specs.Finding.{declOf-found, declOf-none, kindOf-found, kindOf-none, wordAt-found, wordAt-none, seekName-starts, seek-spent, seek-none, seek-here, seek-on, links-found, links-none}
+use Rattle.frame_laws.specs.Finding.{declOf-found, declOf-none, kindOf-found, kindOf-none, wordAt-found, wordAt-none, seekName-starts, seek-spent, seek-none, seek-here, seek-on, seek-same, links-found, links-none}
 use Rattle.frames.specs.Numbered.{numbered-append, numbered-seam}
 use Rattle.frame_laws.specs.Bounds.{BoundedFrames}
 use Rattle.frame_laws.specs.Names.{numbered-bounded}
@@ -31,13 +31,12 @@ module _ (pre rest : List Frame) where
       by-lookup (numbered pre (frameNumber x)) (λ e. wordAt-none (pre ++ rest) x (b ∙ e) ∙ sym (wordAt-none pre x e)) (λ f e. wordAt-found (pre ++ rest) x f (b ∙ e) ∙ sym (wordAt-found pre x f e))
 
   pub seek-below : BoundedFrames pre → (m k n j : ℕ) → k ≤ length pre → seekFrom m (pre ++ rest) k n j ≡ seekFrom m pre k n j
-  seek-below h zero k n j l = seek-spent (pre ++ rest) k n j ∙ sym (seek-spent pre k n j)
-  seek-below h (suc m) k n j l =
-      let b = numbered-append pre rest k l in
-      by-lookup (numbered pre k) (λ e. seek-none (suc m) (pre ++ rest) k n j (b ∙ e) ∙ sym (seek-none (suc m) pre k n j e))
-      (λ f e. by-lookup (positionFrom n 1 (frameNames f))
-      (λ p. seek-on m (pre ++ rest) k n j f (b ∙ e) p ∙ seek-below h m (f .link) n (suc j) (omega (arith, (numbered-bounded pre k f h e) .link-last)) ∙ sym (seek-on m pre k n j f e p))
-      (λ i p. seek-here m (pre ++ rest) k n j f i (b ∙ e) p ∙ sym (seek-here m pre k n j f i e p)))
+  seek-below h =
+      seek-same (λ i. i ≤ length pre) pre (pre ++ rest)
+      (record {
+        absent = λ i l e. numbered-append pre rest i l ∙ e;
+        present = λ i f l e. (f, numbered-append pre rest i l ∙ e, refl, refl, omega (arith, (numbered-bounded pre i f h e) .link-last));
+      })
 
 -- a name in the frame g, innermost above fs
 module _ (fs : List Frame) (g : Frame) (n : ℕ) where

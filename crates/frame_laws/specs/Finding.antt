@@ -1,7 +1,7 @@
 -- Finding: what a designator gives, its frame's number and its name's place there; and what a name designates, looked up along the
 -- links. Read each law as: where the frame or the name is found so, the lookup comes out so.
 use Prim.Native.Nat.{ℕ, zero, suc, pred, _+_, _-_, _*_}
-use mathlib.Core.Path.{_≡_, refl, sym, _∙_}
+use mathlib.Core.Path.{_≡_, refl, sym, ap, _∙_}
 use mathlib.Core.Bool.{true, false}
 use mathlib.Core.List.{List}
 use mathlib.Core.Option.{Option, none, some, Option·none-ne-some}
@@ -9,6 +9,7 @@ use lib.Dec.{leb}
 use lib.IntN.{ℤ, pos}
 use lib.ListN.{length, getD, set, getElem?}
 use Rattle.language.specs.Text.{Decl, blockDecls, declKind}
+use Rattle.laws.specs.Tests.{by-lookup}
 use Rattle.frames.specs.Frame.{Frame, NamePlace, rewritten, numbered, frameNames, positionFrom, seekFrom, seekName, designatorIn, finally, designates, linksFollowed, frameNumber, place, declOf, kindOf, wordAt, putWord}
 
 pub declOf-found : (fs : List Frame) (x : ℕ) (f : Frame) → numbered fs (frameNumber x) ≡ some f → declOf fs x ≡ getElem? (blockDecls (f .text)) (place x - length (f .formals))
@@ -72,6 +73,21 @@ module _ (m : ℕ) (fs : List Frame) (k n j : ℕ) where
   pub seek-on : (f : Frame) → numbered fs k ≡ some f → positionFrom n 1 (frameNames f) ≡ none → seekFrom (suc m) fs k n j ≡ seekFrom m fs (f .link) n (suc j)
   unfolding seekFrom
   seek-on f e q = rw (seekFrom, e, q)
+
+-- Stacks whose frames have the same names and links, so far as the chain of links goes: P holds of a frame's link where it holds of the frame.
+pub record SameNames (P : ℕ → Type 0) (fs gs : List Frame) : Type 0 where
+  pub absent : (k : ℕ) → P k → numbered fs k ≡ none → numbered gs k ≡ none
+  pub present : (k : ℕ) (f : Frame) → P k → numbered fs k ≡ some f → (g : Frame) × (numbered gs k ≡ some g) × (frameNames g ≡ frameNames f) × (g .link ≡ f .link) × P (f .link)
+
+pub seek-same : (P : ℕ → Type 0) (fs gs : List Frame) → SameNames P fs gs → (m k n j : ℕ) → P k → seekFrom m gs k n j ≡ seekFrom m fs k n j
+seek-same P fs gs same zero k n j h = seek-spent gs k n j ∙ sym (seek-spent fs k n j)
+seek-same P fs gs same (suc m) k n j h =
+    by-lookup (numbered fs k) (λ e. seek-none (suc m) gs k n j (same .absent k h e) ∙ sym (seek-none (suc m) fs k n j e))
+    (λ f e. let q = same .present k f h e in
+    let names = ap (positionFrom n 1) (q .2) in
+    by-lookup (positionFrom n 1 (frameNames f))
+    (λ p. seek-on m gs k n j (q .0) (q .1) (names ∙ p) ∙ ap (λ x. seekFrom m gs x n (suc j)) (q .3) ∙ seek-same P fs gs same m (f .link) n (suc j) (q .4) ∙ sym (seek-on m fs k n j f e p))
+    (λ i p. seek-here m gs k n j (q .0) i (q .1) (names ∙ p) ∙ sym (seek-here m fs k n j f i e p)))
 
 -- a name of the text: what it designates, and the links followed to it
 pub designates-found : (fs : List Frame) (n : ℕ) (p : NamePlace) → seekName fs n ≡ some p → designates fs n ≡ finally fs p

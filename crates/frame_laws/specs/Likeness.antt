@@ -11,9 +11,9 @@ use lib.ListN.{length, getD, getElem?}
 use borrow.Author.Tests.{leb-true}
 use Rattle.language.specs.Text.{Action, blockDecls, formalNames, declaredNames}
 use Rattle.laws.specs.Tests.{split, by-lookup}
-use Rattle.frames.specs.Frame.{Frame, NamePlace, numbered, frameNames, positionFrom, seekFrom, seekName, designatorIn, finally, designates, linksFollowed, frameNumber, place, declOf, kindOf, mapAction}
+use Rattle.frames.specs.Frame.{Frame, NamePlace, numbered, frameNames, seekFrom, seekName, designatorIn, finally, designates, linksFollowed, frameNumber, place, declOf, kindOf, mapAction}
 use Rattle.laws.specs.Lists.{getElem-past, getElem-none}
-use Rattle.frame_laws.specs.Finding.{declOf-found, declOf-none, kindOf-found, kindOf-none, seekName-starts, seek-spent, seek-none, seek-here, seek-on, designates-found, designates-none, links-found, links-none, finally-formal, finally-declared}
+use Rattle.frame_laws.specs.Finding.{declOf-found, declOf-none, kindOf-found, kindOf-none, seekName-starts, seek-same, designates-found, designates-none, links-found, links-none, finally-formal, finally-declared}
 use Rattle.frames.specs.Positions.{position-range}
 use Rattle.frame_laws.specs.Names.{NameFound, seekName-found}
 
@@ -46,14 +46,9 @@ module _ (fs gs : List Frame) (like : LikeFrames fs gs) where
   numbered-like (suc k) f e = like .each k f e
 
   seek-like : (m k n j : ℕ) → seekFrom m gs k n j ≡ seekFrom m fs k n j
-  seek-like zero k n j = seek-spent gs k n j ∙ sym (seek-spent fs k n j)
-  seek-like (suc m) k n j =
-      by-lookup (numbered fs k) (λ e. seek-none (suc m) gs k n j (numbered-none k e) ∙ sym (seek-none (suc m) fs k n j e))
-      (λ f e. let q = numbered-like k f e in
-      let names = ap (positionFrom n 1) (names-like f (q .0) (q .2)) in
-      by-lookup (positionFrom n 1 (frameNames f))
-      (λ p. seek-on m gs k n j (q .0) (q .1) (names ∙ p) ∙ ap (λ x. seekFrom m gs x n (suc j)) (q .2 .link) ∙ seek-like m (f .link) n (suc j) ∙ sym (seek-on m fs k n j f e p))
-      (λ i p. seek-here m gs k n j (q .0) i (q .1) (names ∙ p) ∙ sym (seek-here m fs k n j f i e p)))
+  seek-like m k n j =
+      seek-same (λ i. Unit {0}) fs gs
+      (record { absent = λ i h e. numbered-none i e; present = λ i f h e. let q = numbered-like i f e in (q .0, q .1, names-like f (q .0) (q .2), q .2 .link, tt) }) m k n j tt
 
   pub seekName-like : (n : ℕ) → seekName gs n ≡ seekName fs n
   seekName-like n =

@@ -39,6 +39,10 @@ chain activations = record { records = some activations; area = none; links = tr
 abbrev pub display : Engine
 display = record { records = none; area = none; links = false }
 
+-- of request 1
+abbrev pub search : Engine
+search = record { records = none; area = none; links = false }
+
 -- What a call is fed; D, N and G are `activations`, `allowance` and `limit`.
 pub record Fed : Type 0 where
   pub script : List ℕ

@@ -12,7 +12,7 @@ use lib.ListN.{length, getD, replicate}
 use Rattle.language.specs.Basics.{upFrom}
 use Rattle.language.specs.Encoding.{bytesOf, BK-mark, VR-mark, LB-mark, PR-mark, FM-mark, CL-mark, GO-mark, IF-mark, KN-mark, AR-mark, AD-mark, RM-mark, QY-mark}
 use Rattle.language.specs.Table.{Table}
-use Rattle.language.specs.Call.{Fed, Reply, Engine, copying, chain, display, reply}
+use Rattle.language.specs.Call.{Fed, Reply, Engine, copying, chain, display, search, reply}
 use Rattle.language.specs.Evaluation.{computed}
 use Rattle.language.specs.declared.Stop.the-variants.{ResultTooLarge, NoActivationLeft, NumberBelowOne, GroupFull, TableFull, ArgumentsDiffer}
 use Rattle.language.specs.declared.Refusal.{Refusal}
@@ -21,7 +21,7 @@ use Rattle.language.specs.declared.End.{End}
 use Rattle.language.specs.declared.End.the-variants.{Finished, Spent, Stopped, Refused}
 use Rattle.language.specs.declared.Answer.{Answer}
 
--- Which engines a row is about: all three, each lent what it is due of its own, or one with so much of its own.
+-- Which engines a row is about: all, each lent what it is due of its own, or one with so much of its own.
 pub data About : Type 0 where
   all : About
   only : Engine → About
@@ -73,7 +73,8 @@ parties r =
       | all ↦
           record { engine = copying (r .activations * (length (r .script) / 2)); links = 0 } ∷
           record { engine = chain (r .activations); links = r .links } ∷
-          record { engine = display; links = 0 } ∷ []
+          record { engine = display; links = 0 } ∷
+          record { engine = search; links = 0 } ∷ []
       | only e ↦ record { engine = e; links = r .links } ∷ []
     ]
 

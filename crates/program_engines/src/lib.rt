@@ -17,6 +17,7 @@ pub enum Engine {
     Copy,
     Chain,
     Display,
+    Search,
 }
 
 // The chain engine's call, on records of its own.
@@ -94,6 +95,9 @@ pub fn call(
         }
         Engine::Display => {
             enrol::enrol_display(script, d, n, g, 0, table, count, name, sheet, &mut answer);
+        }
+        Engine::Search => {
+            enrol::enrol_search(script, d, n, g, 0, table, count, name, sheet, &mut answer);
         }
     }
     answer

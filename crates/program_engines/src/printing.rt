@@ -46,6 +46,7 @@ fn name(engine: Engine) {
         Engine::Copy => say(b"copy"),
         Engine::Chain => say(b"chain"),
         Engine::Display => say(b"display"),
+        Engine::Search => say(b"search"),
     }
 }
 

@@ -66,4 +66,5 @@ fn main() {
     run(Engine::Copy, &room[..length]);
     run(Engine::Chain, &room[..length]);
     run(Engine::Display, &room[..length]);
+    run(Engine::Search, &room[..length]);
 }

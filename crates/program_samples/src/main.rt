@@ -134,6 +134,7 @@ fn run_all(script: &[u8], fed: [u32; 128]) {
     run(Engine::Copy, script, fed);
     run(Engine::Chain, script, fed);
     run(Engine::Display, script, fed);
+    run(Engine::Search, script, fed);
 }
 
 fn all_rows(text: &[u8], script: &mut [u8]) {

@@ -1,6 +1,6 @@
--- What a name's word says. `name-is`: where a name has a coordinate in an enclosure of a script that keeps the rules, its word has the level
--- and the position of the coordinate, says whether it is a formal, its kind and what it leads to (`NameIs`). `word-none-iff`: the word is 0
--- exactly where the name has no coordinate. `formal-word`, `declared-word`: the words themselves, with no condition on the script.
+-- What a name's word says. `name-is`: where a name has a coordinate in an enclosure that is not too deep and has not too many names (`Narrow`), its
+-- word has the level and the position of the coordinate, says whether it is a formal, its kind and what it leads to (`NameIs`). `word-none-iff`:
+-- the word is 0 exactly where the name has no coordinate. `formal-word`, `declared-word`: the words themselves, with no condition on the script.
 use Prim.Native.Nat.{ℕ, zero, suc, pred, _+_, _*_, _-_, _≤_, _<_}
 use native.Mathlib.Omega.{arith}
 use native.Mathlib.Nat.{zero-add}
@@ -13,18 +13,19 @@ use borrow.Author.Tests.{eqb-true, eqb-false, ltb-true, ltb-false}
 use lib.Dec.{eqb, ltb}
 use lib.ListN.{length, getElem?, length-append, length-map}
 use Rattle.language.specs.Basics.{lookup, zip}
-use Rattle.language.specs.Text.{Kind, variable, label, procedure, Formal, Block, Decl, VR, LB, PR, blockDecls, declName, formalNames, declaredNames}
+use Rattle.language.specs.Text.{Kind, variable, label, procedure, Formal, Block, block, Decl, VR, LB, PR, blockDecls, declName, formalNames, declaredNames}
 use Rattle.language.specs.Encoding.{kindField}
 use Rattle.laws.specs.Tests.{none≢some, some-inj}
+use Rattle.laws.specs.Each.{Each, each-at}
 use Rattle.laws.specs.Lists.{getElem-in, getElem-bound, getElem-append, getElem-after}
 use Rattle.laws.specs.Lookup.{lookup-here, lookup-there, lookup-left, lookup-right}
-use Rattle.grammar.specs.Rules.{Keeps}
+use Rattle.grammar.specs.Rules.{FormedBlock, Keeps}
 use Rattle.frames.specs.Frame.{numbered, positionFrom}
 use Rattle.frames.specs.Numbered.{numbered-bounds}
-use Rattle.coordinates.specs.Enclosure.{Enclosing, Enclosure, Coordinate, namesOf, coordinateOf, atLevel, Encloses}
+use Rattle.coordinates.specs.Enclosure.{Enclosing, enclosed, Enclosure, Coordinate, namesOf, coordinateOf, atLevel, Encloses}
 use Rattle.coordinates.specs.Search.{coordinate-here, coordinate-further}
-use Rattle.coordinates.specs.Declared.{coordinate-declares, position-named, level-here, level-further}
-use Rattle.coordinates.specs.Levels.{enclosure-level, enclosure-names}
+use Rattle.coordinates.specs.Declared.{coordinate-declares, position-named, level-at, level-here, level-further}
+use Rattle.coordinates.specs.Levels.{formed-names, enclosure-level, enclosure-names}
 use Rattle.resolved.specs.Resolved.{packed, positionIn, formalIn, kindIn, levelIn, targetIn, declTarget, declKindField, formalWords, declWords, ownWords, visibleWords, nameWord}
 
 -- A packed word taken apart
@@ -280,6 +281,24 @@ enclosed-at t (e ∷ o ∷ es) w j y l h a = go (enclosed-at t (o ∷ es) (w .1)
         let k : j ≤ suc (length es) = omega (arith, eqb-false j (suc (suc (length es))) q) in
         r k (sym (level-further e (o ∷ es) j l k) ∙ a)
 
+-- The bounds under which the parts of a word can be told apart; the enclosures of a script that keeps the rules have them.
+pub record Narrow (es : Enclosure) : Type 0 where
+  pub shallow : length es ≤ 16
+  pub few : Each (λ (x : Enclosing). length (namesOf x) ≤ 32) es
+
+few-names : (t : Block) → Keeps t → (es : Enclosure) → Encloses t es → Each (λ (x : Enclosing). length (namesOf x) ≤ 32) es
+few-names t keeps [] w = absurd w
+few-names t keeps (e ∷ []) w = (enclosure-names t keeps e [] w, tt)
+few-names t keeps (e ∷ o ∷ es) w = (enclosure-names t keeps e (o ∷ es) w, few-names t keeps (o ∷ es) (w .1))
+
+pub narrow-of-text : (t : Block) → Keeps t → (es : Enclosure) → Encloses t es → Narrow es
+narrow-of-text t keeps es w = record { shallow = (enclosure-level t keeps es w) .1; few = few-names t keeps es w }
+
+pub narrow-inner : (b : Block) (fs : List Formal) (es : Enclosure) (here : ℕ) → Narrow es → FormedBlock b (suc (length es)) fs here → Narrow (enclosed fs b ∷ es)
+unfolding FormedBlock namesOf
+narrow-inner (block at ds ss) fs es here narrow h =
+    record { shallow = h .nesting; few = (formed-names (block at ds ss) (suc (length es)) fs here h, narrow .few) }
+
 -- What the word of a name says, where its coordinate is c and the block there e.
 pub record NameIs (w : ℕ) (c : Coordinate) (e : Enclosing) : Type 0 where
   pub position : positionIn w ≡ pred (c .position)
@@ -293,17 +312,18 @@ pub record NameIs (w : ℕ) (c : Coordinate) (e : Enclosing) : Type 0 where
   pub declared-target : (d : Decl) → length (e .formals) < c .position
       → getElem? (blockDecls (e .text)) (pred (c .position) - length (e .formals)) ≡ some d → targetIn w ≡ declTarget (e .text) d
 
-module _ (t : Block) (keeps : Keeps t) (es : Enclosure) (within : Encloses t es) (n : ℕ) (c : Coordinate) (found : coordinateOf es n ≡ some c) (e : Enclosing) (stands : atLevel es (c .level) ≡ some e) where
+module _ (es : Enclosure) (narrow : Narrow es) (n : ℕ) (c : Coordinate) (found : coordinateOf es n ≡ some c) (e : Enclosing) (stands : atLevel es (c .level) ≡ some e) where
   pub position-few : c .position ≤ 32
   position-few =
       let d = coordinate-declares es n c found in
-      let o = enclosed-at t es within (c .level) e (d .low) (d .high) stands in
-      omega (arith, (position-bounds es n c found e stands) .1, names-many e, enclosure-names t keeps e (o .0) (o .1))
+      let there = sym (level-at es (c .level) (d .low) (d .high)) ∙ stands in
+      let few : length (namesOf e) ≤ 32 = each-at (λ (x : Enclosing). length (namesOf x) ≤ 32) es (length es - c .level) e there (narrow .few) in
+      omega (arith, (position-bounds es n c found e stands) .1, names-many e)
 
   pub level-few : (1 ≤ c .level) × (c .level ≤ 16)
   level-few =
       let d = coordinate-declares es n c found in
-      (d .low, omega (arith, d .high, (enclosure-level t keeps es within) .1))
+      (d .low, omega (arith, d .high, narrow .shallow))
 
   Parts : ℕ → ℕ → ℕ → Type 0
   Parts formal kind target =

@@ -3,7 +3,8 @@
 -- of a statement and of a body that it declares; `stmt-place`, `end-place`: what stmtPlace is; `next-place`: after a statement stands the
 -- next one, or the end; `place-rises`, `stmt-before-end`, `end-iff`: a statement number's place is the end exactly after the last one.
 -- Of an enclosed block (`enclosed-placed`): it is formed at its place and ends within the script's at most 4,096 fields (`end-bound`); the laws
--- on statements are `enclosed-next`, `enclosed-after-block`, `enclosed-before-end`, `enclosed-end-iff`.
+-- on statements are `enclosed-next`, `enclosed-after-block`, `enclosed-before-end`, `enclosed-end-iff`; `place-settled`: two of them at one
+-- place are one.
 use Prim.Native.Nat.{ℕ, zero, suc, _+_, _*_, _≤_, _<_}
 use native.Mathlib.Omega.{arith}
 use mathlib.Core.List.{List, [], _∷_}
@@ -12,7 +13,7 @@ use mathlib.Core.Logic.{_↔_}
 use borrow.Author.Tests.{ltb-true, ltb-false}
 use lib.Dec.{ltb}
 use mathlib.Core.Option.{Option, none, some}
-use mathlib.Core.Path.{_≡_, refl, sym, ap, subst}
+use mathlib.Core.Path.{_≡_, refl, sym, ap, _∙_, subst}
 use lib.ListN.{length, getElem?, length-append}
 use Rattle.language.specs.Text.{Formal, Action, CL, GO, IF, KN, AR, AD, RM, QY, Block, block, Decl, PR, Stmt, BK, DO, Decls, no-decl, decl, Stmts, no-stmt, stmt, decls, stmts, blockAt, blockDecls, blockStmts, stmtAt}
 use Rattle.language.specs.Encoding.{actionFields, formalsFields, blockFields, declFields, stmtFields, declsFields, stmtsFields, encode}
@@ -21,6 +22,7 @@ use Rattle.laws.specs.Lists.{getElem-none, getElem-in, getElem-past}
 use Rattle.grammar.specs.Rules.{FormedBlock, FormedDecl, FormedStmt, FormedDecls, FormedStmts, Keeps}
 use Rattle.grammar.specs.Words.{length-bytes}
 use Rattle.coordinates.specs.Enclosure.{Enclosing, Enclosure, StandsIn, as-block, as-body, whole, Encloses}
+use Rattle.coordinates.specs.Index.{block-settled}
 use Rattle.resolved.specs.Resolved.{placeOf, endPlace, stmtPlace}
 
 -- Every statement has a field
@@ -311,3 +313,9 @@ module _ (t : Block) (keeps : Keeps t) (e : Enclosing) (es : Enclosure) (within 
 
   pub place-bound : (i : ℕ) → 1 ≤ i → stmtPlace (e .text) i ≤ 4096
   place-bound i l = omega (arith, place-within (e .text) (suc (length es)) (e .formals) (placed .place) (placed .formed) i l, end-bound)
+
+-- The place of a BK settles its block, its formals and what encloses it.
+pub place-settled : (t : Block) → Keeps t → (e : Enclosing) (es : Enclosure) → Encloses t (e ∷ es) → (e′ : Enclosing) (es′ : Enclosure) → Encloses t (e′ ∷ es′)
+    → placeOf (blockAt (e .text)) ≡ placeOf (blockAt (e′ .text)) → _≡_ {A = Enclosure} (e ∷ es) (e′ ∷ es′)
+place-settled t keeps e es h e′ es′ h′ q =
+    block-settled t keeps e e′ es es′ h h′ (sym (even-block t keeps e es h) ∙ ap (λ p. 2 * p) q ∙ even-block t keeps e′ es′ h′)

@@ -19,15 +19,19 @@ use Rattle.grammar.specs.Formed.{block-few}
 use Rattle.coordinates.specs.Enclosure.{Enclosing, enclosed, Enclosure, Coordinate, coordinateOf, as-block, as-body, whole, Encloses}
 use Rattle.coordinates.specs.Declared.{Declares, coordinate-declares}
 use Rattle.coordinates.specs.Levels.{enclosure-level}
-use Rattle.resolved.specs.Resolved.{placeOf, endPlace, stmtPlace, packed, declTarget, nameWord, chosen, resolvedAction, headWord, boundsWord, header, resolvedFormals, resolvedBlock, resolvedDecl, resolvedStmt, resolvedDecls, resolvedStmts, resolvedOf}
+use Rattle.resolved.specs.Resolved.{placeOf, endPlace, stmtPlace, packed, levelIn, declTarget, nameWord, chosen, resolvedAction, headWord, boundsWord, header, resolvedFormals, resolvedBlock, resolvedDecl, resolvedStmt, resolvedDecls, resolvedStmts, resolvedOf}
 use Rattle.resolved.specs.Places.{stmt-formed, body-stands, body-within, end-is, enclosed-formed, end-bound, place-bound}
-use Rattle.resolved.specs.NameWords.{kind-small, decl-kind-small, word-none, formal-there, decl-there, formal-word, declared-word, position-few, level-few, enclosed-at}
+use Rattle.resolved.specs.NameWords.{kind-small, decl-kind-small, word-none, formal-there, decl-there, formal-word, declared-word, narrow-of-text, position-few, level-few, enclosed-at}
 
 -- A block's first words
 
 place-zero : (b : Block) → stmtPlace b 0 ≡ stmtPlace b 1
 unfolding stmtPlace
 place-zero b = refl
+
+pub level-in-head : (e : Enclosing) (level : ℕ) → level ≤ 16 → levelIn (headWord e level) ≡ level
+unfolding headWord
+level-in-head e level low = omega arith
 
 module _ (t : Block) (keeps : Keeps t) (e : Enclosing) (es : Enclosure) (within : Encloses t (e ∷ es)) where
   abbrev Level : ℕ
@@ -44,8 +48,7 @@ module _ (t : Block) (keeps : Keeps t) (e : Enclosing) (es : Enclosure) (within 
   head-operation = omega (arith, names-few, level-low)
 
   pub head-level : headWord e Level / 256 % 256 ≡ Level
-  unfolding headWord
-  head-level = omega (arith, names-few, level-low)
+  head-level = level-in-head e Level level-low
 
   pub head-formals : headWord e Level / 65536 % 256 ≡ length (e .formals)
   unfolding headWord
@@ -94,8 +97,9 @@ module _ (t : Block) (keeps : Keeps t) (es : Enclosure) (within : Encloses t es)
       let d = coordinate-declares es n c found in
       let e = d .block in
       let stands = d .stands in
-      let p = position-few t keeps es within n c found e stands in
-      let l = (level-few t keeps es within n c found e stands) .1 in
+      let narrow = narrow-of-text t keeps es within in
+      let p = position-few es narrow n c found e stands in
+      let l = (level-few es narrow n c found e stands) .1 in
       go d p l (ltb (length (d .block .formals)) (c .position)) refl
     where
       go : (d : Declares es n c) → c .position ≤ 32 → c .level ≤ 16 → (b : Bool) → ltb (length (d .block .formals)) (c .position) ≡ b → nameWord es n < 4294967296

@@ -33,7 +33,7 @@ use Rattle.coordinates.specs.Visible.{meaningsOf, scopeOf, visible-coordinate}
 use Rattle.coordinates.specs.Designated.{Designated, Wired, number-of, place-of}
 use Rattle.coordinates.specs.Next.{Resolved}
 use Rattle.resolved.specs.Resolved.{kindIn, direct, nameWord, resolvedFormals, Covers}
-use Rattle.resolved.specs.NameWords.{name-is}
+use Rattle.resolved.specs.NameWords.{narrow-of-text, name-is}
 use Rattle.arrays.specs.Holds.{Holds}
 use Rattle.arrays.specs.Names.{named-by-links}
 use Rattle.arrays.specs.Found.{direct-is}
@@ -165,7 +165,7 @@ module _ (t : Block) (keeps : Keeps t) (fs : List Frame) (chain : Chained t fs) 
       let holder = climb fs (length fs) up in
       let same : v .block ≡ enclosing f = some-inj (sym (v .stands) ∙ g .block) in
       let means = subst (λ (x : Enclosing). numbered (meaningsOf x) (c .position) ≡ some (p, m)) same (v .means) in
-      let word = name-is t keeps es within p c (v .found) (enclosing f) (g .block) in
+      let word = name-is es (narrow-of-text t keeps es within) p c (v .found) (enclosing f) (g .block) in
       let past : length (f .formals) < c .position = split (leb (c .position) (length (f .formals)))
       (λ q. absurd (omega (arith, direct-is (wordOf p) dir, word .formal (leb-true (c .position) (length (f .formals)) q))))
       (λ q. leb-false (c .position) (length (f .formals)) q) in

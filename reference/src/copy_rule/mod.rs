@@ -37,7 +37,7 @@ fn accepted(request: &Request, program: &Block, table: &mut [i32], sheet: &mut [
         designator: machine.looked_up(request.name.into()) as u64,
         links: match request.engine {
             Engine::Chain { .. } => links_followed(&machine, program, request) as u64,
-            Engine::Copying { .. } | Engine::Display => 0,
+            Engine::Copying { .. } | Engine::Display | Engine::Search => 0,
         },
     }
 }

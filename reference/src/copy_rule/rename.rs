@@ -2,7 +2,7 @@
 
 use std::collections::BTreeMap;
 
-use crate::tree::{Action, Block, Declaration, Declared, Name, Procedure, Statement};
+use crate::tree::{Block, Declaration, Declared, Name, Procedure, Statement};
 
 /// What names read as. A name without an entry reads as itself.
 pub type Readings = BTreeMap<Name, Name>;
@@ -47,34 +47,7 @@ fn procedure(procedure: &Procedure, readings: &Readings) -> Procedure {
 }
 
 fn statement(statement: &Statement, readings: &Readings) -> Statement {
-    Statement { offset: statement.offset, action: action(&statement.action, readings) }
-}
-
-fn action(action: &Action, readings: &Readings) -> Action {
-    let now = |it: &Name| name(*it, readings);
-    match action {
-        Action::Block(block) => Action::Block(inner_block(block, readings)),
-        Action::Call { procedure, arguments } => Action::Call {
-            procedure: now(procedure),
-            arguments: arguments.iter().map(now).collect(),
-        },
-        Action::Go { label } => Action::Go { label: now(label) },
-        Action::If { variable, label } => Action::If { variable: now(variable), label: now(label) },
-        Action::Constant { target, value } => {
-            Action::Constant { target: now(target), value: *value }
-        }
-        Action::Arithmetic { target, operation, left, right } => Action::Arithmetic {
-            target: now(target),
-            operation: *operation,
-            left: now(left),
-            right: now(right),
-        },
-        Action::Add { group, member } => Action::Add { group: now(group), member: now(member) },
-        Action::Remove { group, member } => {
-            Action::Remove { group: now(group), member: now(member) }
-        }
-        Action::Query { target, group, member } => {
-            Action::Query { target: now(target), group: now(group), member: now(member) }
-        }
-    }
+    let now = |it| name(it, readings);
+    let action = statement.action.renamed(now, |block| inner_block(block, readings));
+    Statement { offset: statement.offset, action }
 }

@@ -38,6 +38,10 @@ fn verdict(result: Result<(), Refused>) -> (u64, usize) {
     }
 }
 
+/// Sample B of the paper.
+pub const B: &str = "BK 3 1, VR 1, PR 2 0, BK 0 0, PR 3 1, FM 4 2, BK 3 6, VR 5, PR 6 0, BK 0 1, \
+                     KN 5 9, LB 7 5, IF 1 7, KN 1 1, KN 5 1, CL 3 1 6, KN 5 2, CL 4 0, CL 3 1 2";
+
 pub const UNTOUCHED: i32 = 0x5a5a_5a5a;
 
 /// A call with the paper's run program's values, to be changed where a test needs it.
@@ -99,21 +103,26 @@ impl Call {
         Reply { answer, sheet, table }
     }
 
-    /// Both runs must agree.
+    /// All runs must agree; that by search is for its engine alone.
     pub fn on(&self, engine: Engine) -> Reply {
         let slow = self.by(reference::run, engine);
         let fast = self.by(reference::fast::run, engine);
         assert_eq!(slow, fast, "slow and fast run of {:02x?}", self.script);
+        if engine == Engine::Search {
+            let search = self.by(reference::search::run, engine);
+            assert_eq!(slow, search, "slow run and run by search of {:02x?}", self.script);
+        }
         slow
     }
 
-    /// All three engines must agree but for the links; the chain's reply.
+    /// All engines must agree but for the links; the chain's reply.
     pub fn run(&self) -> Reply {
         let chain = self.on(Engine::Chain { records: self.d as usize });
         let mut without_links = chain.clone();
         without_links.answer.links = 0;
         assert_eq!(self.on(Engine::Display), without_links);
         assert_eq!(self.on(Engine::Copying { area: self.lent_area() }), without_links);
+        assert_eq!(self.on(Engine::Search), without_links);
         chain
     }
 }

@@ -1,9 +1,9 @@
 //! Runs a reported case again, a call as one line or a script in hex, and prints what each
 //! implementation makes of it.
 
-use differential::call::{Call, Verdict};
+use differential::call::{Call, Engine, Verdict};
 use differential::listing::listing;
-use differential::parties::{copy_rule, fast};
+use differential::parties::{copy_rule, fast, search};
 use differential::report::{bytes, parse};
 
 fn main() {
@@ -35,7 +35,8 @@ fn runs(call: &Call) {
     let library = Some(differential::parties::library());
     #[cfg(not(feature = "enrol"))]
     let library = None;
-    for party in [copy_rule(), fast()].into_iter().chain(library) {
+    let by_search = (call.engine == Engine::Search).then(search);
+    for party in [copy_rule(), fast()].into_iter().chain(by_search).chain(library) {
         let reply = (party.run)(call);
         let sheet = &reply.sheet[..reply.answer[5] as usize];
         println!("{}: answer {:?}", party.name, reply.answer);

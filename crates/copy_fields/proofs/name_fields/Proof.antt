@@ -5,7 +5,8 @@ use native.Mathlib.Omega.{arith}
 use lib.ListN.{length, length-replicate}
 use borrow.Author.Needs.{needs}
 use Rattle.grammar.specs.Words.{bytes-are}
-use Rattle.copy_fields.proofs.Sweeping.{Sweeps, accepted-short, swept-start, swept-step, swept-end}
+use Rattle.resolve_fields.proofs.Sweeping.{accepted-short}
+use Rattle.copy_fields.proofs.Sweeping.{Sweeps, swept-start, swept-step, swept-end}
 use Rattle.copy_fields.proofs.name_fields.Statement.{statement}
 use Rattle.copy_fields.proofs.name_fields.Tie as tie
 

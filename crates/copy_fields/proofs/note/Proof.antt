@@ -3,7 +3,7 @@ use mathlib.Core.Path.{_∙_, ap}
 use Prim.Native.Nat.{ℕ, _+_}
 use native.Mathlib.Omega.{arith}
 use Rattle.laws.specs.Fields.{fieldAt}
-use Rattle.copy_fields.specs.Naming.{leading, trailing}
+use Rattle.resolve_fields.specs.Taking.{leading, trailing}
 use Rattle.copy_fields.proofs.Records.{other-noted, if-noted}
 use borrow.Author.Needs.{needs}
 use Rattle.copy_fields.proofs.note.Statement.{statement}

@@ -5,13 +5,13 @@ use Prim.Native.Nat.{_+_, _-_, _≤_}
 use native.Mathlib.Omega.{arith}
 use lib.ListN.{length, getD, set, length-set}
 use borrow.Author.Needs.{needs}
-use Rattle.copy_fields.specs.Naming.{taken}
-use Rattle.copy_fields.proofs.Taking.{taken-next, taken-all, past-end}
+use Rattle.resolve_fields.specs.Taking.{wordThere, taken}
+use Rattle.resolve_fields.proofs.Taking.{taken-next, taken-all, past-end}
 use Rattle.copy_fields.proofs.take.Statement.{statement}
 use Rattle.copy_fields.proofs.take.Tie as tie
 
 abbrev Inv-loop : tie.InvT-loop
-Inv-loop code names₀ from count i₀ names i = (i ≤ count) × (length names ≡ 4096) × (taken code names (from + i) (count - i) ≡ taken code names₀ from count)
+Inv-loop code names₀ from count i₀ names i = (i ≤ count) × (length names ≡ 4096) × (taken (wordThere code) names (from + i) (count - i) ≡ taken (wordThere code) names₀ from count)
 
 abbrev μ-loop : tie.MeasureT-loop
 μ-loop code names₀ from count i₀ names i = count - i
@@ -21,7 +21,7 @@ loop-holds c =
     let a = c .args in
     let f : a .from + 0 ≡ a .from = omega arith in
     let k : a .count - 0 ≡ a .count = omega arith in
-    (omega arith, c .pre .0, λ j. taken (a .code .now) (a .names .now) (f j) (k j))
+    (omega arith, c .pre .0, λ j. taken (wordThere (a .code .now)) (a .names .now) (f j) (k j))
 
 loop-again : tie.Need-loop-again Inv-loop μ-loop
 loop-again c =

@@ -18,9 +18,14 @@ returns-3 c =
     let called = c .before .before in
     rw (called .before .before .before .before .enum-told3 .given .1) (called .enrol-display .ensures)
 
+returns-4 : tie.Need-returns-4
+returns-4 c =
+    let called = c .before .before in
+    rw (called .before .before .before .before .enum-told4 .given .1) (called .enrol-search .ensures)
+
 pub call-spec : {M : Type 1} → statement M
 call-spec =
     tie.close
     (tie.spec (λ c. search needs) (λ c. search needs) (λ c κs. search needs) (λ c. search needs) (λ c κs. search needs) (λ c. search needs)
-    (λ c κs. search needs) (λ c. search needs) (λ c. search needs) returns (λ c. search needs) (λ c. search needs) returns-2 (λ c. search needs)
-    (λ c. search needs) returns-3)
+    (λ c κs. search needs) (λ c. search needs) (λ c κs. search needs) (λ c. search needs) (λ c. search needs) returns (λ c. search needs)
+    (λ c. search needs) returns-2 (λ c. search needs) (λ c. search needs) returns-3 (λ c. search needs) (λ c. search needs) returns-4)

@@ -1,0 +1,2 @@
+-- What the call's proofs share.
+pub mod Pieces

@@ -1,0 +1,4 @@
+pub mod Words
+pub mod Ahead
+pub mod Records
+pub mod Sweeping

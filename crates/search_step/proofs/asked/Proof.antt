@@ -1,0 +1,13 @@
+-- `asked` meets its contract: each question has its function.
+use Rattle.table_pairs.specs.Outcomes.{tableOf}
+use Rattle.run_statements.specs.Answers.{add-answered, remove-answered, query-answered}
+use borrow.Author.Needs.{needs}
+use Rattle.search_step.proofs.asked.Statement.{statement}
+use Rattle.search_step.proofs.asked.Tie as tie
+
+pub asked-spec : {M : Type 1} → statement M
+asked-spec =
+    tie.close (tie.spec (λ c. search needs) (λ c κs. search needs) (λ c. search needs) (λ c κs. search needs) (λ c. search needs)
+    (λ c κs. search needs) (λ c. search needs) (λ c. add-answered _ _ (tableOf _ _) _ _ _ (search needs) (search needs))
+    (λ c. search needs) (λ c. remove-answered _ _ (tableOf _ _) _ _ _ (search needs) (search needs)) (λ c. search needs)
+    (λ c. query-answered _ _ (tableOf _ _) _ _ _ (search needs) (search needs)))
