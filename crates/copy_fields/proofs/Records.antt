@@ -18,7 +18,8 @@ use Rattle.resolve_fields.specs.Parts.{ownWords}
 use Rattle.resolve_fields.specs.Taking.{wordThere, taken, leading, trailing}
 use Rattle.resolve_fields.proofs.Taking.{covers-gives}
 use Rattle.resolve_fields.proofs.Records as records
-use Rattle.copy_fields.specs.NameFields.{namedAction, namedFormals, namedBlock}
+use Rattle.resolve_fields.specs.Walk.{formalsWords, blockWords, wordsLayout}
+use Rattle.copy_fields.specs.NameFields.{namedAction}
 use Rattle.copy_fields.specs.Layouts.{namedLayout}
 use Rattle.copy_fields.specs.Naming.{crossed, Noted}
 use Rattle.copy_fields.proofs.Crossing.{cross-grows}
@@ -51,7 +52,7 @@ module _ (bs code c c1 c2 : List ℕ) (at k m : ℕ) (first : c1 ≡ taken (word
   action-noted other es (QY t g m) s h = few _ (nameWord es t ∷ nameWord es g ∷ nameWord es m ∷ []) 0 (s .0) refl refl (h .1)
 
   pub other-noted : (fieldAt bs at ≡ IF-mark → ⊥) → Noted bs code at c c2
-  unfolding headFields ownWords resolvedLayout namedLayout namedBlock namedFormals resolvedBlock resolvedFormals blockFields formalsFields leading trailing
+  unfolding headFields ownWords resolvedLayout wordsLayout blockWords formalsWords resolvedBlock resolvedFormals blockFields formalsFields leading trailing
   other-noted other name (formal f) fs es s h = few _ (0 ∷ []) 1 (s .0) refl refl (h .1 .0, tt)
   other-noted other name (body b) fs es s h = block-noted b s
   other-noted other name (declared (VR o n)) fs es s h = few _ (nameWord es n ∷ []) 0 (s .0) refl refl (h .1)
@@ -78,7 +79,7 @@ module _ (bs code c c′ : List ℕ) (at : ℕ) (long : length c ≡ 4096) (done
   if-action es (QY t g m) s h = absurd (omega (arith, if, s .0))
 
   pub if-noted : Noted bs code at c c′
-  unfolding headFields ownWords resolvedLayout namedLayout namedBlock resolvedBlock blockFields formalsFields
+  unfolding headFields ownWords resolvedLayout wordsLayout blockWords resolvedBlock blockFields formalsFields
   if-noted name (formal f) fs es s h = absurd (omega (arith, if, s .0))
   if-noted name (body b) fs es s h = absurd (no-block b s)
   if-noted name (declared (VR o n)) fs es s h = absurd (omega (arith, if, s .0))

@@ -10,6 +10,7 @@ use Rattle.check_extents.specs.declared.passing.Step.{Step}
 use Rattle.resolve_fields.specs.Layout.{Layout}
 use Rattle.resolve_fields.specs.Parts.{Part}
 use Rattle.resolve_fields.proofs.Sweeping as sweeping
+use Rattle.resolve_fields.specs.Walk.{wordsLayout}
 use Rattle.copy_fields.specs.NameFields.{namedOf}
 use Rattle.copy_fields.specs.Layouts.{namedLayout}
 use Rattle.copy_fields.specs.Naming.{Noted, NamesStand}
@@ -31,5 +32,5 @@ module _ (bs code names : List ℕ) where
   swept-step names′ here l noted s p w = sweeping.swept-step named bs code Ahead Ahead names names′ here l (λ name x fs es ps known stand words. (noted name x fs es stand words, tt)) s p w
 
   pub swept-end : (here : ℕ) → length bs ≤ here → Sweeps bs code names here → NamesStand bs code names
-  unfolding namedLayout namedOf
+  unfolding wordsLayout namedOf
   swept-end here out w = sweeping.swept-end named bs code Ahead names here out w

@@ -17,7 +17,8 @@ use Rattle.resolved.specs.Lengths.{covers-self}
 use Rattle.resolved.specs.Places.{declsBefore}
 use Rattle.resolve_fields.specs.Layout.{beforeDecl, block-laid, stmt-laid, decl-laid}
 use Rattle.resolve_fields.specs.Layouts.{fieldsLayout}
-use Rattle.copy_fields.specs.NameFields.{namedAction, namedBlock, namedDecl, namedStmt, namedOf}
+use Rattle.resolve_fields.specs.Walk.{blockWords, declWords, stmtWords, wordsLayout}
+use Rattle.copy_fields.specs.NameFields.{namedAction, nameWords, namedOf}
 use Rattle.copy_fields.specs.Layouts.{namedLayout}
 
 -- The script's own fields
@@ -38,26 +39,26 @@ module _ (t : Block) (keeps : Keeps t) (e : Enclosing) (es : Enclosure) (within 
 -- The words of the names
 
 module _ (names : List ℕ) (t : Block) (keeps : Keeps t) (covered : Covers names 0 (namedOf t)) (e : Enclosing) (es : Enclosure) (within : Encloses t (e ∷ es)) where
-  pub block-fields-named : Covers names (placeOf (blockAt (e .text))) (namedBlock (e .text) (e .formals) es)
-  unfolding namedLayout namedOf
+  pub block-fields-named : Covers names (placeOf (blockAt (e .text))) (blockWords nameWords (e .text) (e .formals) es)
+  unfolding wordsLayout namedOf
   block-fields-named = block-laid namedLayout names t keeps covered e es within
 
-  pub stmt-fields-named : (i : ℕ) (x : Stmt) → getElem? (blockStmts (e .text)) i ≡ some x → Covers names (placeOf (stmtAt x)) (namedStmt x (e ∷ es))
-  unfolding namedLayout namedOf
+  pub stmt-fields-named : (i : ℕ) (x : Stmt) → getElem? (blockStmts (e .text)) i ≡ some x → Covers names (placeOf (stmtAt x)) (stmtWords nameWords x (e ∷ es))
+  unfolding wordsLayout namedOf
   stmt-fields-named i x q = stmt-laid namedLayout names t keeps covered e es within i x q
 
   pub action-fields-named : (i at : ℕ) (a : Action) → getElem? (blockStmts (e .text)) i ≡ some (DO at a) → Covers names (placeOf at) (namedAction (e ∷ es) a)
-  unfolding stmtAt namedBlock
+  unfolding stmtAt blockWords
   action-fields-named i at a q = stmt-fields-named i (DO at a) q
 
-  decl-fields-named : (j : ℕ) (d : Decl) → getElem? (blockDecls (e .text)) j ≡ some d → Covers names (placeOf (blockAt (e .text)) + beforeDecl (e .text) j) (namedDecl d (e ∷ es))
-  unfolding namedLayout namedOf
+  decl-fields-named : (j : ℕ) (d : Decl) → getElem? (blockDecls (e .text)) j ≡ some d → Covers names (placeOf (blockAt (e .text)) + beforeDecl (e .text) j) (declWords nameWords d (e ∷ es))
+  unfolding wordsLayout namedOf
   decl-fields-named j d q = decl-laid namedLayout names t keeps covered e es within j d q
 
 -- A declaration's name
 
-name-there : (names : List ℕ) (p : ℕ) (d : Decl) (es : Enclosure) → Covers names p (namedDecl d es) → getD names (p + 1) 0 ≡ nameWord es (declName d)
-unfolding namedBlock declName
+name-there : (names : List ℕ) (p : ℕ) (d : Decl) (es : Enclosure) → Covers names p (declWords nameWords d es) → getD names (p + 1) 0 ≡ nameWord es (declName d)
+unfolding blockWords declName
 name-there names p (VR at n) es h = h .1 .0
 name-there names p (LB at n i) es h = h .1 .0
 name-there names p (PR at n fs b) es h = h .1 .0

@@ -32,7 +32,8 @@ use Rattle.resolved.specs.Resolved.{placeOf, endPlace, levelIn, nameWord, Cover
 use Rattle.resolved.specs.NameWords.{word-none, Narrow, narrow-of-text, name-is}
 use Rattle.resolved.specs.Lengths.{covers-at}
 use Rattle.resolved.specs.Places.{enclosed-formed}
-use Rattle.copy_fields.specs.NameFields.{namedBlock, namedOf}
+use Rattle.resolve_fields.specs.Walk.{blockWords}
+use Rattle.copy_fields.specs.NameFields.{nameWords, namedOf}
 use Rattle.copy_fields.specs.Lengths.{block-length}
 use Rattle.copy_fields.specs.Standing.{block-fields-stand, block-fields-named}
 use Rattle.copy_texts.specs.Texts.{reading, Texts}
@@ -129,7 +130,7 @@ module _ (program : Block) (s : State) (t : Stack) (related : Related s t) (chai
   -- the fields of a copy
   pub copy-read : Keeps program → (k : ℕ) (a : Activation) (f : Frame) → getElem? (s .live) k ≡ some a → getElem? (t .frames) k ≡ some f
       → Twin (s .live) (s .values) k a f
-      → blockFields (a .text) ≡ readings (a .reads) (namedBlock (f .text) (f .formals) (enclosureOf (t .frames) (f .link))) (blockFields (f .text))
+      → blockFields (a .text) ≡ readings (a .reads) (blockWords nameWords (f .text) (f .formals) (enclosureOf (t .frames) (f .link))) (blockFields (f .text))
   unfolding enclosing
   copy-read keeps k a f e q twin =
       let es = enclosureOf (t .frames) (f .link) in
@@ -166,11 +167,11 @@ module _ (program : Block) (keeps : Keeps program) (s : State) (t : Stack) (rela
     around = encloses-at program (t .frames) chained k f q
 
     field-read : (i : ℕ) → i < length (blockFields (f .text))
-        → getD area (k * width + place + i) 0 ≡ reading (a .reads) (getD (namedBlock (f .text) (f .formals) es) i 0) (getD (blockFields (f .text)) i 0)
+        → getD area (k * width + place + i) 0 ≡ reading (a .reads) (getD (blockWords nameWords (f .text) (f .formals) es) i 0) (getD (blockFields (f .text)) i 0)
     unfolding endPlace enclosing
     field-read i l =
         let z : k * width + place + i ≡ k * width + (place + i) = omega arith in
-        let ws = namedBlock (f .text) (f .formals) es in
+        let ws = blockWords nameWords (f .text) (f .formals) es in
         let fields-named = block-fields-named names program keeps names-stand (enclosing f) es around in
         let word = covers-at names place ws fields-named i (omega (arith, block-length (f .text) (f .formals) es)) in
         let field = covers-at (blockFields program) place (blockFields (f .text)) (block-fields-stand program keeps (enclosing f) es around) i l in
@@ -184,7 +185,7 @@ module _ (program : Block) (keeps : Keeps program) (s : State) (t : Stack) (rela
       let at : blockAt (a .text) ≡ blockAt (f .text) = ap blockAt (twin .2 .text-is) ∙ blockAt-renamed (f .text) (joined (a .reads)) in
       let fields = copy-read program s t related chained keeps k a f e (twin .1) (twin .2) in
       subst₂ (λ (o : ℕ) (xs : List ℕ). Covers area (k * width + placeOf o) xs) (sym at) (sym fields)
-      (readings-covered area (a .reads) (k * width + placeOf (blockAt (f .text))) (namedBlock (f .text) (f .formals) os) (blockFields (f .text))
+      (readings-covered area (a .reads) (k * width + placeOf (blockAt (f .text))) (blockWords nameWords (f .text) (f .formals) os) (blockFields (f .text))
       (field-read k a e f (twin .1)))
 
 module _ {code names : List ℕ} {activations limit : ℕ} {cells : List ℤ} {area : List ℕ} {width : ℕ} {blocks nexts firsts starts targets looked : List ℕ} {table : List ℤ} {here : Registers}

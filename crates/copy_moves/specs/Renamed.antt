@@ -24,7 +24,8 @@ use Rattle.coordinates.specs.Search.{coordinate-here}
 use Rattle.coordinates.specs.Declared.{level-here}
 use Rattle.resolved.specs.Resolved.{visibleWords, nameWord}
 use Rattle.resolved.specs.NameWords.{Narrow, narrow-inner, name-is}
-use Rattle.copy_fields.specs.NameFields.{namedAction, namedFormals, namedBlock, namedDecl, namedStmt, namedDecls, namedStmts}
+use Rattle.resolve_fields.specs.Walk.{formalsWords, blockWords, declWords, stmtWords, declsWords, stmtsWords}
+use Rattle.copy_fields.specs.NameFields.{namedAction, nameWords}
 use Rattle.copy_fields.specs.Lengths as lengths
 use Rattle.copy_texts.specs.Texts.{reading}
 use Rattle.copy_texts.specs.Readings.{zip-missing}
@@ -112,48 +113,48 @@ module _ (σs : List Replacement) where
     action-read (RM g m) = plain _ _ _ (named g _ _ (named m _ _ refl))
     action-read (QY t g m) = plain _ _ _ (named t _ _ (named g _ _ (named m _ _ refl)))
 
-  formals-read : (fs : List Formal) → formalsFields fs ≡ readings σs (namedFormals fs) (formalsFields fs)
-  unfolding formalsFields namedFormals
+  formals-read : (fs : List Formal) → formalsFields fs ≡ readings σs (formalsWords fs) (formalsFields fs)
+  unfolding formalsFields formalsWords
   formals-read [] = refl
   formals-read (f ∷ fs) = plain _ _ _ (plain _ _ _ (plain _ _ _ (formals-read fs)))
 
   mutual
-    unfolding blockFields namedBlock renameBlock FormedBlock namesOf formalNames
+    unfolding blockFields blockWords renameBlock FormedBlock namesOf formalNames
 
     pub block-read : (b : Block) (fs : List Formal) (es : Enclosure) (τ : Replacement) (here : ℕ) → FormedBlock b (suc (length es)) fs here
-        → Replaces (enclosed fs b ∷ es) τ σs → blockFields (renameBlock b τ) ≡ readings σs (namedBlock b fs es) (blockFields b)
+        → Replaces (enclosed fs b ∷ es) τ σs → blockFields (renameBlock b τ) ≡ readings σs (blockWords nameWords b fs es) (blockFields b)
     block-read (block at ds ss) fs es τ here h r =
         let os = enclosed fs (block at ds ss) ∷ es in
         let d = decls-read ds os τ (length (stmts ss)) (here + 6) (h .declarations) r in
         let s = stmts-read ss os τ (here + 6 + 2 * length (declsFields ds)) (h .statements) r in
         plain _ _ _ (ap₂ (λ k l. k ∷ l ∷ (declsFields (renameDecls ds τ) ++ stmtsFields (renameStmts ss τ))) (decls-length ds τ) (stmts-length ss τ)
-        ∙ plain _ _ _ (plain _ _ _ (two-parts _ _ (namedDecls ds os) (namedStmts ss os) (declsFields ds) (stmtsFields ss) (lengths.decls-length ds os) d s)))
+        ∙ plain _ _ _ (plain _ _ _ (two-parts _ _ (declsWords nameWords ds os) (stmtsWords nameWords ss os) (declsFields ds) (stmtsFields ss) (lengths.decls-length ds os) d s)))
 
     decl-read : (d : Decl) (es : Enclosure) (τ : Replacement) (s here : ℕ) → FormedDecl d (length es) s here → Replaces es τ σs
-        → declFields (renameDecl d τ) ≡ readings σs (namedDecl d es) (declFields d)
+        → declFields (renameDecl d τ) ≡ readings σs (declWords nameWords d es) (declFields d)
     decl-read (VR at n) es τ s here h r = plain _ _ _ (named es τ r n _ _ refl)
     decl-read (LB at n i) es τ s here h r = plain _ _ _ (named es τ r n _ _ (plain _ _ _ refl))
     decl-read (PR at n fs b) es τ s here h r =
         let there = here + 6 + 2 * length (formalsFields fs) in
         let body = block-read b fs es (without (namesOf (enclosed fs b)) τ) there (h .body) (replaces-inner b fs es there (h .body) τ σs r) in
         plain _ _ _ (named es τ r n _ _ (plain _ _ _
-        (two-parts _ _ (namedFormals fs) (namedBlock b fs es) (formalsFields fs) (blockFields b) (lengths.formals-length fs) (formals-read fs) body)))
+        (two-parts _ _ (formalsWords fs) (blockWords nameWords b fs es) (formalsFields fs) (blockFields b) (lengths.formals-length fs) (formals-read fs) body)))
 
     stmt-read : (x : Stmt) (es : Enclosure) (τ : Replacement) (here : ℕ) → FormedStmt x (length es) here → Replaces es τ σs
-        → stmtFields (renameStmt x τ) ≡ readings σs (namedStmt x es) (stmtFields x)
+        → stmtFields (renameStmt x τ) ≡ readings σs (stmtWords nameWords x es) (stmtFields x)
     stmt-read (BK b) es τ here h r = block-read b [] es (without (namesOf (enclosed [] b)) τ) here h (replaces-inner b [] es here h τ σs r)
     stmt-read (DO at a) es τ here h r = action-read es τ r a
 
     decls-read : (ds : Decls) (es : Enclosure) (τ : Replacement) (s here : ℕ) → FormedDecls ds (length es) s here → Replaces es τ σs
-        → declsFields (renameDecls ds τ) ≡ readings σs (namedDecls ds es) (declsFields ds)
+        → declsFields (renameDecls ds τ) ≡ readings σs (declsWords nameWords ds es) (declsFields ds)
     decls-read no-decl es τ s here h r = refl
     decls-read (decl d ds) es τ s here h r =
-        two-parts _ _ (namedDecl d es) (namedDecls ds es) (declFields d) (declsFields ds) (lengths.decl-length d es)
+        two-parts _ _ (declWords nameWords d es) (declsWords nameWords ds es) (declFields d) (declsFields ds) (lengths.decl-length d es)
         (decl-read d es τ s here (h .0) r) (decls-read ds es τ s (here + 2 * length (declFields d)) (h .1) r)
 
     stmts-read : (ss : Stmts) (es : Enclosure) (τ : Replacement) (here : ℕ) → FormedStmts ss (length es) here → Replaces es τ σs
-        → stmtsFields (renameStmts ss τ) ≡ readings σs (namedStmts ss es) (stmtsFields ss)
+        → stmtsFields (renameStmts ss τ) ≡ readings σs (stmtsWords nameWords ss es) (stmtsFields ss)
     stmts-read no-stmt es τ here h r = refl
     stmts-read (stmt x ss) es τ here h r =
-        two-parts _ _ (namedStmt x es) (namedStmts ss es) (stmtFields x) (stmtsFields ss) (lengths.stmt-length x es)
+        two-parts _ _ (stmtWords nameWords x es) (stmtsWords nameWords ss es) (stmtFields x) (stmtsFields ss) (lengths.stmt-length x es)
         (stmt-read x es τ here (h .0) r) (stmts-read ss es τ (here + 2 * length (stmtFields x)) (h .1) r)

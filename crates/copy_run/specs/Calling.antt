@@ -25,7 +25,8 @@ use Rattle.steps.specs.Finding.{finds-by-links}
 use Rattle.steps.specs.Calls.{body-bounds}
 use Rattle.resolved.specs.Layout.{operationIn}
 use Rattle.run_statements.specs.Pieces.{FormalsBefore}
-use Rattle.copy_fields.specs.NameFields.{namedAction, namedStmt}
+use Rattle.resolve_fields.specs.Walk.{stmtWords}
+use Rattle.copy_fields.specs.NameFields.{namedAction, nameWords}
 use Rattle.copy_texts.specs.Texts.{reading}
 use Rattle.copy_statements.specs.Doing.{Copy, text, target, call, markOf, happens, doCall}
 use Rattle.copy_statements.specs.Ready.{Named}
@@ -57,8 +58,8 @@ module _ {code names : List ℕ} {activations limit : ℕ} {cells : List ℤ} {a
   wordOf n = nameWord (around w) n
 
   -- the words of the copy and of the resolved script
-  read : (i : ℕ) → i < 3 + length xs → text c s i ≡ reading (a .reads) (getD (namedStmt (DO o (CL p xs)) (around w)) i 0) (getD (stmtFields (DO o (CL p xs))) i 0)
-  unfolding namedStmt namedAction stmtFields actionFields
+  read : (i : ℕ) → i < 3 + length xs → text c s i ≡ reading (a .reads) (getD (stmtWords nameWords (DO o (CL p xs)) (around w)) i 0) (getD (stmtFields (DO o (CL p xs))) i 0)
+  unfolding stmtWords namedAction stmtFields actionFields
   read i h = word-read w (DO o (CL p xs)) q a innermost fields-named written i (omega arith) (omega (arith, length-map xs wordOf))
 
   resolved : (i : ℕ) → i < 3 + length xs → field s i ≡ getD (resolvedStmt (w .standing .name) (DO o (CL p xs)) (around w)) i 0
@@ -66,13 +67,13 @@ module _ {code names : List ℕ} {activations limit : ℕ} {cells : List ℤ} {a
   resolved i h = resolved-word w (DO o (CL p xs)) q i (omega (arith, length-map xs wordOf))
 
   procedure : Agrees c s F 1 1 × Named c s 1
-  unfolding namedStmt namedAction stmtFields actionFields resolvedStmt resolvedAction actionNames FormedAction
+  unfolding stmtWords namedAction stmtFields actionFields resolvedStmt resolvedAction actionNames FormedAction
   procedure =
       let n = next-known w o (CL p xs) q in
       named w a innermost p (n .names .0) (n .formed .called) cell-of-name 1 (read 1 (omega arith)) 1 (resolved 1 (omega arith))
 
   many : text c s 2 ≡ length xs
-  unfolding namedStmt namedAction stmtFields actionFields
+  unfolding stmtWords namedAction stmtFields actionFields
   many = plain w a 2 (length xs) (read 2 (omega arith))
 
   count : text c s 2 ≡ field s 2
@@ -81,7 +82,7 @@ module _ {code names : List ℕ} {activations limit : ℕ} {cells : List ℤ} {a
 
   -- what an argument's name reads as
   pub argument-reads : (i y : ℕ) → getElem? xs i ≡ some y → text c s (3 + i) ≡ renamed (joined (a .reads)) y
-  unfolding namedStmt namedAction stmtFields actionFields actionNames
+  unfolding stmtWords namedAction stmtFields actionFields actionNames
   argument-reads i y e =
       let n = next-known w o (CL p xs) q in
       let k = getElem-bound xs i y e in
@@ -93,7 +94,7 @@ module _ {code names : List ℕ} {activations limit : ℕ} {cells : List ℤ} {a
       (read j (omega arith) ∙ (λ k. reading (a .reads) (word k) (own k)) ∙ reads-name w a innermost y (each-at (Resolved fs) xs i y e (n .names .1)))
 
   argument : (i : ℕ) → i < text c s 2 → Agrees c s F (3 + i) (3 + i) × Named c s (3 + i)
-  unfolding namedStmt namedAction stmtFields actionFields resolvedStmt resolvedAction actionNames FormedAction
+  unfolding stmtWords namedAction stmtFields actionFields resolvedStmt resolvedAction actionNames FormedAction
   argument i h =
       let n = next-known w o (CL p xs) q in
       let k : i < length xs = omega (arith, many) in
@@ -124,7 +125,7 @@ module _ {code names : List ℕ} {activations limit : ℕ} {cells : List ℤ} {a
       subst (FormalsBefore code) (sym (procedure .0 .target-is)) (record { there = b .0; before = b .1 })
 
   pub call-comes : Comes c s F
-  unfolding namedStmt namedAction stmtFields actionFields resolvedStmt resolvedAction FormedAction markOf happens
+  unfolding stmtWords namedAction stmtFields actionFields resolvedStmt resolvedAction FormedAction markOf happens
   call-comes =
       let x = DO o (CL p xs) in
       let n = next-known w o (CL p xs) q in

@@ -14,7 +14,8 @@ use Rattle.frames.specs.Related.{as-deep}
 use Rattle.coordinates.specs.Chain.{enclosing, enclosureOf}
 use Rattle.coordinates.specs.Levels.{in-innermost}
 use Rattle.resolved.specs.Resolved.{placeOf, Covers}
-use Rattle.copy_fields.specs.NameFields.{namedStmt}
+use Rattle.resolve_fields.specs.Walk.{stmtWords}
+use Rattle.copy_fields.specs.NameFields.{nameWords}
 use Rattle.copy_fields.specs.Standing.{stmt-fields-named, stmt-fields-stand}
 use Rattle.copy_names.specs.Owner.{Sorted}
 use Rattle.copy_names.specs.Finding.{sorted, cell-of-name}
@@ -34,8 +35,8 @@ module _ {code names : List ℕ} {activations limit : ℕ} {cells : List ℤ} {a
   unfolding frameStmt enclosing
   named-here x q =
       let s = w .standing in
-      subst (λ i. Covers names i (namedStmt x (around w))) (sym (stands-at s x q))
-      (in-innermost (s .program) (s .stack .frames) (s .sound .chained) (s .frame) (last-is s) (λ es. Covers names (placeOf (stmtAt x)) (namedStmt x es))
+      subst (λ i. Covers names i (stmtWords nameWords x (around w))) (sym (stands-at s x q))
+      (in-innermost (s .program) (s .stack .frames) (s .sound .chained) (s .frame) (last-is s) (λ es. Covers names (placeOf (stmtAt x)) (stmtWords nameWords x es))
       (λ es h. stmt-fields-named names (s .program) (s .keeps) (w .names-stand) (enclosing (s .frame)) es h (pred (s .frame .next)) x q))
 
   pub written-here : WrittenHere w

@@ -22,7 +22,8 @@ use Rattle.run_moves.specs.declared.Ask.the-variants.{Add, Remove}
 use Rattle.run_moves.specs.Acting.{Finding, Scene, Happened, field, operations, operationOf, constant-op, block-op, opOf, acting, happens as acts, doArithmetic as actArithmetic}
 use Rattle.steps.specs.Values.{operation-of}
 use Rattle.resolved.specs.Layout.{operationIn}
-use Rattle.copy_fields.specs.NameFields.{namedAction, namedStmt}
+use Rattle.resolve_fields.specs.Walk.{stmtWords}
+use Rattle.copy_fields.specs.NameFields.{namedAction, nameWords}
 use Rattle.copy_texts.specs.Texts.{reading}
 use Rattle.copy_statements.specs.Doing.{Copy, text, target, Mark, arithmetic, branch, constant, goto, block, pair, unpair, query, markOf, happens, doing}
 use Rattle.copy_statements.specs.Ready.{Named, By}
@@ -81,8 +82,8 @@ module _ {code names : List ℕ} {activations limit : ℕ} {cells : List ℤ} {a
 
   -- the words of the copy and of the resolved script
   module _ (x : Stmt) (q : frameStmt (w .standing .frame) ≡ some x) where
-    read : (i : ℕ) → i < length (stmtFields x) → i < length (namedStmt x (around w))
-        → text c s i ≡ reading (a .reads) (getD (namedStmt x (around w)) i 0) (getD (stmtFields x) i 0)
+    read : (i : ℕ) → i < length (stmtFields x) → i < length (stmtWords nameWords x (around w))
+        → text c s i ≡ reading (a .reads) (getD (stmtWords nameWords x (around w)) i 0) (getD (stmtFields x) i 0)
     read = word-read w x q a innermost fields-named written
 
     resolved : (i : ℕ) → i < length (resolvedStmt (w .standing .name) x (around w)) → field s i ≡ getD (resolvedStmt (w .standing .name) x (around w)) i 0
@@ -91,7 +92,7 @@ module _ {code names : List ℕ} {activations limit : ℕ} {cells : List ℤ} {a
   -- KN
 
   pub constant-comes : (o t : ℕ) (z : ℤ) → frameStmt (w .standing .frame) ≡ some (DO o (KN t z)) → Comes c s F
-  unfolding namedStmt namedAction stmtFields actionFields resolvedStmt resolvedAction actionNames FormedAction markOf happens acts opOf operations
+  unfolding stmtWords namedAction stmtFields actionFields resolvedStmt resolvedAction actionNames FormedAction markOf happens acts opOf operations
   constant-comes o t z q =
       let x = DO o (KN t z) in
       let n = next-known w o (KN t z) q in
@@ -113,7 +114,7 @@ module _ {code names : List ℕ} {activations limit : ℕ} {cells : List ℤ} {a
   by-operation less = refl
 
   pub arithmetic-comes : (o t : ℕ) (p : Operation) (l r : ℕ) → frameStmt (w .standing .frame) ≡ some (DO o (AR t p l r)) → Comes c s F
-  unfolding namedStmt namedAction stmtFields actionFields resolvedStmt resolvedAction actionNames FormedAction markOf happens acts opOf operations
+  unfolding stmtWords namedAction stmtFields actionFields resolvedStmt resolvedAction actionNames FormedAction markOf happens acts opOf operations
   arithmetic-comes o t p l r q =
       let x = DO o (AR t p l r) in
       let n = next-known w o (AR t p l r) q in
@@ -132,7 +133,7 @@ module _ {code names : List ℕ} {activations limit : ℕ} {cells : List ℤ} {a
   -- IF and GO
 
   pub branch-comes : (o v l : ℕ) → frameStmt (w .standing .frame) ≡ some (DO o (IF v l)) → Comes c s F
-  unfolding namedStmt namedAction stmtFields actionFields resolvedStmt resolvedAction actionNames FormedAction markOf happens acts opOf operations
+  unfolding stmtWords namedAction stmtFields actionFields resolvedStmt resolvedAction actionNames FormedAction markOf happens acts opOf operations
   branch-comes o v l q =
       let x = DO o (IF v l) in
       let n = next-known w o (IF v l) q in
@@ -144,7 +145,7 @@ module _ {code names : List ℕ} {activations limit : ℕ} {cells : List ℤ} {a
       (fields-there w x q 3 (omega arith), f .1, g .1)
 
   pub goto-comes : (o l : ℕ) → frameStmt (w .standing .frame) ≡ some (DO o (GO l)) → Comes c s F
-  unfolding namedStmt namedAction stmtFields actionFields resolvedStmt resolvedAction actionNames FormedAction markOf happens acts opOf operations
+  unfolding stmtWords namedAction stmtFields actionFields resolvedStmt resolvedAction actionNames FormedAction markOf happens acts opOf operations
   goto-comes o l q =
       let x = DO o (GO l) in
       let n = next-known w o (GO l) q in
@@ -157,7 +158,7 @@ module _ {code names : List ℕ} {activations limit : ℕ} {cells : List ℤ} {a
   -- AD, RM and QY
 
   pub add-comes : (o g m : ℕ) → frameStmt (w .standing .frame) ≡ some (DO o (AD g m)) → Comes c s F
-  unfolding namedStmt namedAction stmtFields actionFields resolvedStmt resolvedAction actionNames FormedAction markOf happens acts opOf operations
+  unfolding stmtWords namedAction stmtFields actionFields resolvedStmt resolvedAction actionNames FormedAction markOf happens acts opOf operations
   add-comes o g m q =
       let x = DO o (AD g m) in
       let n = next-known w o (AD g m) q in
@@ -168,7 +169,7 @@ module _ {code names : List ℕ} {activations limit : ℕ} {cells : List ℤ} {a
       (fields-there w x q 3 (omega arith), f .1, h .1)
 
   pub remove-comes : (o g m : ℕ) → frameStmt (w .standing .frame) ≡ some (DO o (RM g m)) → Comes c s F
-  unfolding namedStmt namedAction stmtFields actionFields resolvedStmt resolvedAction actionNames FormedAction markOf happens acts opOf operations
+  unfolding stmtWords namedAction stmtFields actionFields resolvedStmt resolvedAction actionNames FormedAction markOf happens acts opOf operations
   remove-comes o g m q =
       let x = DO o (RM g m) in
       let n = next-known w o (RM g m) q in
@@ -179,7 +180,7 @@ module _ {code names : List ℕ} {activations limit : ℕ} {cells : List ℤ} {a
       (fields-there w x q 3 (omega arith), f .1, h .1)
 
   pub query-comes : (o t g m : ℕ) → frameStmt (w .standing .frame) ≡ some (DO o (QY t g m)) → Comes c s F
-  unfolding namedStmt namedAction stmtFields actionFields resolvedStmt resolvedAction actionNames FormedAction markOf happens acts opOf operations
+  unfolding stmtWords namedAction stmtFields actionFields resolvedStmt resolvedAction actionNames FormedAction markOf happens acts opOf operations
   query-comes o t g m q =
       let x = DO o (QY t g m) in
       let n = next-known w o (QY t g m) q in
@@ -199,7 +200,7 @@ module _ {code names : List ℕ} {activations limit : ℕ} {cells : List ℤ} {a
       ap (λ i. getD operations i constant-op) m
 
   pub block-comes : (b : Block) → frameStmt (w .standing .frame) ≡ some (BK b) → Comes c s F
-  unfolding namedStmt stmtFields resolvedStmt header markOf happens acts acting
+  unfolding stmtWords stmtFields resolvedStmt header markOf happens acts acting
   block-comes (make at ds ss) q =
       let x = BK (make at ds ss) in
       comes c s F block (ap markOf (plain w a 0 BK-mark (read x q 0 (omega arith) (omega arith))))

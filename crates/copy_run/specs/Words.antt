@@ -30,7 +30,8 @@ use Rattle.run_moves.specs.Acting.{Scene, field}
 use Rattle.steps.specs.Here.{many, last-is, here as last-here, covered, at-is, here-bounded, encloses-here, within-activations, goes-on-at}
 use Rattle.steps.specs.Reads.{fields-within}
 use Rattle.steps.specs.Going.{sceneOf}
-use Rattle.copy_fields.specs.NameFields.{namedStmt}
+use Rattle.resolve_fields.specs.Walk.{stmtWords}
+use Rattle.copy_fields.specs.NameFields.{nameWords}
 use Rattle.copy_texts.specs.Texts.{reading}
 use Rattle.copy_statements.specs.Doing.{Copy, text}
 use Rattle.copy_statements.specs.Ready.{Fields}
@@ -65,7 +66,7 @@ module _ {code names : List ℕ} {activations limit : ℕ} {cells : List ℤ} {a
 
   -- the names' words and the script's fields, at the next statement
   abbrev pub NamedHere : Type 0
-  NamedHere = (x : Stmt) → frameStmt (w .standing .frame) ≡ some x → Covers names (here .at) (namedStmt x around)
+  NamedHere = (x : Stmt) → frameStmt (w .standing .frame) ≡ some x → Covers names (here .at) (stmtWords nameWords x around)
 
   abbrev pub WrittenHere : Type 0
   WrittenHere = (x : Stmt) → frameStmt (w .standing .frame) ≡ some x → Covers (blockFields (w .standing .program)) (here .at) (stmtFields x)
@@ -120,11 +121,11 @@ module _ {code names : List ℕ} {activations limit : ℕ} {cells : List ℤ} {a
         record { within = omega (arith, fields-within (w .standing) x q); there = omega (arith, ends, end-within-script, w .wide, w .room, rooms) }
 
     module _ (a : Activation) (innermost : getElem? (w .copies .live) (here .live) ≡ some a) (fields-named : NamedHere) (written : WrittenHere) where
-      pub word-read : (i : ℕ) → i < length (stmtFields x) → i < length (namedStmt x around)
-          → text copyOf sceneIn i ≡ reading (a .reads) (getD (namedStmt x around) i 0) (getD (stmtFields x) i 0)
+      pub word-read : (i : ℕ) → i < length (stmtFields x) → i < length (stmtWords nameWords x around)
+          → text copyOf sceneIn i ≡ reading (a .reads) (getD (stmtWords nameWords x around) i 0) (getD (stmtFields x) i 0)
       word-read i h k =
           let after : here .live * width + here .at + i ≡ here .live * width + (here .at + i) = omega arith in
-          let name = covers-at names (here .at) (namedStmt x around) (fields-named x q) i k in
+          let name = covers-at names (here .at) (stmtWords nameWords x around) (fields-named x q) i k in
           let own = covers-at (blockFields (w .standing .program)) (here .at) (stmtFields x) (written x q) i h in
           ap (λ p. getD area p 0) after
           ∙ w .texts .each (here .live) a (w .standing .frame) innermost (last-here (w .standing)) (here .at + i) (omega (arith, begins)) (omega (arith, ends))

@@ -22,7 +22,8 @@ use Rattle.resolve_fields.specs.Parts.{Part, placed, ownWords, inside}
 use Rattle.resolve_fields.specs.Taking.{taken, leading, trailing}
 use Rattle.resolve_fields.proofs.Taking.{take-grows}
 use Rattle.resolve_fields.proofs.Records as records
-use Rattle.search_numbers.specs.NumberFields.{numberedAction, numberedFormals, numberedBlock}
+use Rattle.resolve_fields.specs.Walk.{formalsWords, blockWords, wordsLayout}
+use Rattle.search_numbers.specs.NumberFields.{numberedAction}
 use Rattle.search_numbers.specs.Layouts.{numberedLayout}
 use Rattle.search_numbers.specs.Around.{numberAt, Around, Ahead}
 use Rattle.search_numbers.specs.Numbering.{Noted}
@@ -63,7 +64,7 @@ module _ (bs code around c c1 c2 : List ℕ) (at k m : ℕ) (first : c1 ≡ take
   no-block (block o ds ss) other s = other (s .0)
 
   pub other-noted : (fieldAt bs at ≡ BK-mark → ⊥) → Noted bs code at around around c c2
-  unfolding headFields ownWords resolvedLayout numberedLayout numberedBlock numberedFormals resolvedBlock resolvedFormals blockFields formalsFields leading trailing
+  unfolding headFields ownWords resolvedLayout wordsLayout blockWords formalsWords resolvedBlock resolvedFormals blockFields formalsFields leading trailing
   other-noted other name (formal f) fs es ps a s h = (
     records.few bs (numberAt code around) c c1 c2 at k m first second k-is m-is _ (0 ∷ []) 1 (s .0) refl refl (number-nowhere around code es (a .0 .noted) _ (h .1 .0), tt),
     past-formal around fs es at ps f a,
@@ -107,7 +108,7 @@ module _ (bs code around around′ c c′ : List ℕ) (at : ℕ) (long : length 
   no-action (QY t g m) s = omega (arith, s .0)
 
   pub block-noted : Noted bs code at around around′ c c′
-  unfolding headFields ownWords inside itemFields resolvedLayout numberedLayout numberedBlock resolvedBlock blockFields formalsFields FormedBlock
+  unfolding headFields ownWords inside itemFields resolvedLayout wordsLayout blockWords resolvedBlock blockFields formalsFields FormedBlock
   block-noted name (formal f) fs es ps a s h = absurd (omega (arith, s .0))
   block-noted name (body b) fs es ps a s h = block-opened name fs b es ps (a .0 .formed) (a .0 .narrow) (a .0 .noted) (a .1) h
   block-noted name (declared (VR o n)) fs es ps a s h = absurd (omega (arith, s .0))

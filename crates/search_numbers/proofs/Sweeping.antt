@@ -9,6 +9,7 @@ use Rattle.check_extents.specs.Passing.{Passed}
 use Rattle.check_extents.specs.declared.passing.Step.{Step}
 use Rattle.resolve_fields.proofs.Sweeping as sweeping
 use Rattle.search_numbers.specs.NumberFields.{numberedOf}
+use Rattle.resolve_fields.specs.Walk.{wordsLayout}
 use Rattle.search_numbers.specs.Layouts.{numberedLayout}
 use Rattle.search_numbers.specs.Around.{Ahead}
 use Rattle.search_numbers.specs.Numbering.{Noted, NumbersStand}
@@ -26,5 +27,5 @@ module _ (bs code around numbers : List ℕ) where
   swept-step around′ numbers′ here l noted s p w = sweeping.swept-step numberedLayout bs code (Ahead around 16) (Ahead around′ 16) numbers numbers′ here l noted s p w
 
   pub swept-end : (here : ℕ) → length bs ≤ here → Sweeps bs code around numbers here → NumbersStand bs code numbers
-  unfolding numberedLayout numberedOf
+  unfolding wordsLayout numberedOf
   swept-end here out w = sweeping.swept-end numberedLayout bs code (Ahead around 16) numbers here out w

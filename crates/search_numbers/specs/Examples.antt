@@ -9,7 +9,8 @@ use Rattle.language.specs.Evaluation.{computed}
 use Rattle.frames.specs.Frame.{positionFrom}
 use Rattle.coordinates.specs.Enclosure.{namesOf}
 use Rattle.f_search.specs.Numbers.{firstNumber, numberOf}
-use Rattle.search_numbers.specs.NumberFields.{numberedAction, numberedFormals, numberedBlock, numberedOf}
+use Rattle.resolve_fields.specs.Walk.{formalsWords, blockWords}
+use Rattle.search_numbers.specs.NumberFields.{numberedAction, numberedOf}
 
 unfoldable each-statement : List ℕ
 each-statement =
@@ -41,5 +42,5 @@ fields-numbered : fieldsNumbered 2 (check each-statement)
     0 ∷ 1 ∷ 2 ∷
     0 ∷ 2 ∷ 3 ∷
     0 ∷ 3 ∷ 1 ∷ 2 ∷ []
-unfolding computed each-statement fieldsNumbered positionFrom namesOf firstNumber numberOf numberedAction numberedFormals numberedBlock numberedOf
+unfolding computed each-statement fieldsNumbered positionFrom namesOf firstNumber numberOf numberedAction formalsWords blockWords numberedOf
 fields-numbered = refl
