@@ -3,7 +3,7 @@ import re
 
 from walking.names import NAMES
 from walking.source import tokens
-from walking.walk import Value, atom, conses, pairs, proj
+from walking.walk import Value, atom, conses, contract, pairs, proj
 
 HEAD = "{M : Type 1} (𝓤 : URA M) (H : Heap 𝓤) (A : Atoms 𝓤) (W : Given 𝓤 H A) (mem : Memory → SProp 𝓤) (run : Routine → Fun 𝓤)"
 RUN = "(WpFn 𝓤 H (𝓣 .C) (𝓣 .Λ) mine.function)"
@@ -33,16 +33,23 @@ def by_parameter(w):
 
 
 def called(g):
-    """a callee's triple, and what it is passed"""
+    """what a callee is passed"""
     types, names, pars = [], [], []
     for i, k in enumerate(g.kinds):
         types += ["Loan", k.denot] if k.borrow else [k.denot]
         names += ["h%d" % i, "x%d" % i] if k.borrow else ["x%d" % i]
         pars.append("brw (%s %s) h%d x%d" % (k.kind, k.row.type, i, i) if k.borrow else "dat %s x%d" % (k.datum.name, i))
     a = g.alias
-    return ["abbrev Calls-%s : {M : Type 1} (𝓤 : URA M) (H : Heap 𝓤) (A : Atoms 𝓤) → (Memory → SProp 𝓤) → (Routine → Fun 𝓤) → Contract 𝓤\n"
-            "Calls-%s 𝓤 H A mem run = tripleOf 𝓤 H A %s.signature (%s.spec 𝓤 H A mem run)" % (a, a, a, a),
-            "abbrev for-%s : %s\n%s = %s" % (a, " → ".join(types + ["List Par"]), " ".join(["for-" + a] + names), " ∷ ".join(pars + ["[]"]))]
+    return "abbrev for-%s : %s\n%s = %s" % (a, " → ".join(types + ["List Par"]), " ".join(["for-" + a] + names), " ∷ ".join(pars + ["[]"]))
+
+
+def lent(w, text):
+    """a walk's text, with a borrow's loan and its list in place of their names"""
+    for j, k in enumerate(w.f.borrows):
+        loan = "(loan%s κ%d q%d %s#)" % ("Slice" if k.slice else "Ref", j, j, k.name)
+        text = re.sub(r"(?<![\w.#′-])h-%s(?![\w#′-])" % re.escape(k.name), loan, text)
+        text = re.sub(r"(?<![\w.#′-])%s(?![\w#′-])" % re.escape(k.name), "(%s# .now)" % k.name, text)
+    return text
 
 
 def parameters(w):
@@ -56,14 +63,11 @@ def parameters(w):
     if f.requires:
         lines.append("(pre : %s)" % " ".join(["said.Pre"] + ["(%s# .now)" % k.name if k.borrow else k.name for k in f.asked()]))
     out = []
-    for j, k in enumerate(f.borrows):
-        out.append("  abbrev h-%s : Loan\n  h-%s = loan%s κ%d q%d %s#" % (k.name, k.name, "Slice" if k.slice else "Ref", j, j, k.name))
-        out.append("  abbrev %s : %s\n  %s = %s# .now" % (k.name, k.denot, k.name, k.name))
     pars = ["brw (%s %s) h-%s %s" % (k.kind, k.row.type, k.name, k.name) if k.borrow else "dat %s %s" % (k.datum.name, k.name) for k in f.kinds]
     out.append("  abbrev ps : List Par\n  ps = %s" % " ∷ ".join(pars + ["[]"]))
     out.append("  abbrev bound : walkOf 𝓤 H A f.ended stayed %s .Ghost\n  bound = ((lfts ps, shares ps, tt, denots 0 ps, valss 0 ps), tt)" % CLAUSES)
     out.append("  abbrev Post : Val → SProp 𝓤\n  Post = walkOf 𝓤 H A f.ended stayed %s .post bound" % CLAUSES)
-    return "\n    ".join(lines) + " where\n" + "\n\n".join(out + [exits(f)])
+    return "\n    ".join(lines) + " where\n" + lent(w, "\n\n".join(out + [exits(f)]))
 
 
 def exits(f):
@@ -120,19 +124,18 @@ def of_ghost(f, y):
 def knows(w, g, size):
     """what is known of a callee: its contract, or where it is a member of the same cycle its contract at smaller sizes"""
     if not w.within(g):
-        return "Triple 𝓤 (𝓣 .C #%s) (Calls-%s 𝓤 H A mem run)" % (g.alias, g.alias)
-    c = "Calls-%s 𝓤 H A mem run" % g.alias
+        return "Triple 𝓤 (𝓣 .C #%s) %s" % (g.alias, contract(g))
+    c = contract(g)
     return "(y : %s .Ghost) → %s < %s → ent 𝓤 (%s .pre y) (𝓣 .C #%s (%s .args y) (%s .post y))" % (c, w.size(g, of_ghost(g, "y")), size, c, g.alias, c, c)
 
 
 def walk(w, used, typed, turn):
     known = "".join("\n      (known-%s : %s)" % (g.alias, knows(w, g, w.size(w.f, [k.name for k in w.f.kinds]))) for g in used)
-    fm = "    fm : FmC 𝓤 H (W .laws) (𝓣 .C)\n    fm = fmOf 𝓤 H (W .laws) 𝓣\n\n" if used else ""
     order = " move ! %s $" % conses(range(1, len(w.f.borrows) + 1)) if w.f.borrows else ""
-    return ("  module _ (𝓣 : Tables 𝓤 H)%s where\n%s%s"
+    return ("  module _ (𝓣 : Tables 𝓤 H)%s where\n%s"
             "    walk : ent 𝓤 (onEntry 𝓤 H A f.signature (lfts ps) (shares ps) (denots 0 ps) (valss 0 ps)) (WpFn 𝓤 H (𝓣 .C) (𝓣 .Λ) mine.function (vals ps) Post)\n"
             "    walk = via 𝓤 (⋆ 𝓤 H A (ins 𝓤 ps)) (arrives 𝓤 H A W 0 ps) (qed W (ins 𝓤 ps) ∵\n"
-            "        begins ! (𝓣 .C) (𝓣 .Λ) mine.function (vals ps) Post %s (λ β.%s%s))" % (known, fm, turn, pairs(typed), order, w.steps))
+            "        begins ! (𝓣 .C) (𝓣 .Λ) mine.function (vals ps) Post %s (λ β.%s%s))" % (known, turn, pairs(typed), order, w.steps))
 
 
 def meets(w, used, vals, tells, go):
@@ -152,12 +155,11 @@ def meets(w, used, vals, tells, go):
         enters = "needs-all 𝓤 %s _ (λ pre. %s)" % (conses(["_"] * f.requires), call)
     if w.knot:
         return at_size(w, used, vals, tells, go, enters)
-    known = "".join("\n    (known-%s : Triple 𝓤 (𝓣 .C #%s) (Calls-%s 𝓤 H A mem run))" % (g.alias, g.alias, g.alias) for g in used)
-    return ("module _ %s (𝓣 : Tables 𝓤 H)%s where\n  walks : Walks 𝓤 H A f.ended stayed %s %s\n  walks = walked 𝓤 H A f.ended stayed %s %s\n"
-            "      (λ κs. %s)\n      (λ κs. %s)\n      (λ κs qs bounds a g are. %s)\n\n"
-            "  meets : Meets 𝓤 H A f.signature %s (f.spec 𝓤 H A mem run)\n"
-            "  meets = walk-meets 𝓤 H A f.ended stayed W %s\n      %s %s (WpFn-mono 𝓤 H (W .laws) 𝓣 mine.function) walks" %
-            (HEAD, known, RUN, CLAUSES, CLAUSES, RUN, pairs(vals), pairs(tells), enters, RUN, pairs(go), CLAUSES, RUN))
+    known = "".join("\n    (known-%s : %s)" % (g.alias, knows(w, g, "")) for g in used)
+    return ("module _ %s (𝓣 : Tables 𝓤 H)%s where\n  meets : Meets 𝓤 H A f.signature %s (f.spec 𝓤 H A mem run)\n"
+            "  meets = walk-meets 𝓤 H A f.ended stayed W %s\n      %s %s (WpFn-mono 𝓤 H (W .laws) 𝓣 mine.function)\n"
+            "      (walked 𝓤 H A f.ended stayed %s %s\n      (λ κs. %s)\n      (λ κs. %s)\n      (λ κs qs bounds a g are. %s))" %
+            (HEAD, known, RUN, pairs(go), CLAUSES, RUN, CLAUSES, RUN, pairs(vals), pairs(tells), enters))
 
 
 def at_size(w, used, vals, tells, go, enters):
@@ -176,13 +178,12 @@ def at_size(w, used, vals, tells, go, enters):
 
 def spec(w, used):
     out = ("pub %s-spec : {M : Type 1} → stated.statement M\nunfolding mine.routine tablesOf\n%s-spec 𝓤 H 𝓜 𝓖 𝓡 =\n"
-           "    entered 𝓤 H (tripleOf 𝓤 H (𝓖 .A) f.signature (f.spec 𝓤 H (𝓖 .A) (𝓜 .mem) (𝓡 .run)))\n"
-           "    (tables 𝓤 H 𝓜 𝓡 mine.env .C) (tables 𝓤 H 𝓜 𝓡 mine.env .Λ) #me mine.function (mine.unfolded 𝓤 H 𝓜 𝓡)\n"
+           "    by-walk 𝓤 H 𝓜 𝓡 mine.env #me mine.function (tripleOf 𝓤 H (𝓖 .A) f.signature (f.spec 𝓤 H (𝓖 .A) (𝓜 .mem) (𝓡 .run))) (mine.unfolded 𝓤 H 𝓜 𝓡)\n"
            "    (meets 𝓤 H (𝓖 .A) (givenOf 𝓤 H 𝓜 𝓖) (𝓜 .mem) (𝓡 .run) (tablesOf 𝓤 H 𝓜 (tables 𝓤 H 𝓜 𝓡 mine.env))" % (w.f.name, w.f.name))
     for g in used:
         p, _ = w.types.module(g.path, w.path)
-        out += ("\n    (cited 𝓤 H (Calls-%s 𝓤 H (𝓖 .A) (𝓜 .mem) (𝓡 .run)) 𝓜 𝓡 mine.env #%s %s-def.routine mine.calls-%s (%s-thm.met 𝓤 H 𝓜 𝓖 𝓡))" %
-                (g.alias, g.alias, g.alias, p.replace("::", "·").replace("_", "-"), g.alias))
+        out += ("\n    (cited 𝓤 H %s 𝓜 𝓡 mine.env #%s %s-def.routine mine.calls-%s (%s-thm.met 𝓤 H 𝓜 𝓖 𝓡))" %
+                (contract(g, "(𝓖 .A)", "(𝓜 .mem)", "(𝓡 .run)"), g.alias, g.alias, p.replace("::", "·").replace("_", "-"), g.alias))
     return out + ")"
 
 
@@ -199,13 +200,13 @@ def made_by(w):
 def proof(w):
     used = list(w.callees.values())
     stay, go, vals, tells, typed = by_parameter(w)
-    out = [x for g in used for x in called(g)]
+    out = [called(g) for g in used]
     out += ["bytes-%s : {n i : ℕ} → Room %s n → i < n → i * %s < 2 ^ 64\nbytes-%s {n} {i} room l = let h : n * %s < 2 ^ 63 = room .1 in omega (arith, h)" % (
         name, R, size, name, size) for name, (R, size) in w.elements.items()]
     out.append("abbrev stayed : Stays (f.ended .signature .params) (f.ended .kept)\nstayed = %s" % pairs(stay))
     record, state, turn = loop(w) if w.loop else ("", "", "")
     out += [record] if record else []
-    out.append("\n\n".join([parameters(w)] + ([state] if state else []) + [walk(w, used, typed, turn)]))
+    out.append("\n\n".join([parameters(w)] + [lent(w, x) for x in ([state] if state else []) + [walk(w, used, typed, turn)]]))
     out += [meets(w, used, vals, tells, go)] + ([] if w.knot else [spec(w, used)])
     body = "\n\n".join(out) + "\n"
     base = w.types.own(w.path.split("::")[0], w.knot) if w.knot else None

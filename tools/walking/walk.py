@@ -31,6 +31,11 @@ def closed(x):
     return False
 
 
+def contract(g, atoms="A", mem="mem", run="run"):
+    """a callee's triple"""
+    return "(tripleOf 𝓤 H %s %s.signature (%s.spec 𝓤 H %s %s %s))" % (atoms, g.alias, g.alias, atoms, mem, run)
+
+
 # the struct that holds a slice and a position
 READER = "check_fields::reader::Reader"
 
@@ -473,9 +478,9 @@ class Walk:
         if self.within(f):
             smaller = self.size(f, [atom(p.value if k.borrow else p.term) for p, k in zip(passed, f.kinds)])
             less = self.fact("less-" + f.name, st, "%s < %s" % (smaller, self.size(self.f, [k.name for k in self.f.kinds])))
-            text += "calls-one ! fm (Calls-%s 𝓤 H A mem run) (to %s) (known-%s (to %s) %s) %s" % (f.alias, ps, f.alias, ps, less, ps)
+            text += "calls-one ! (fmOf 𝓤 H (W .laws) 𝓣) %s (to %s) (known-%s (to %s) %s) %s" % (contract(f), ps, f.alias, ps, less, ps)
         else:
-            text += "calls-by ! fm (Calls-%s 𝓤 H A mem run) known-%s (to %s) %s" % (f.alias, f.alias, ps, ps)
+            text += "calls-by ! (fmOf 𝓤 H (W .laws) 𝓣) %s known-%s (to %s) %s" % (contract(f), f.alias, ps, ps)
         text += " refl %s %s %s _ %s" % (goods, self.asks(f, passed, ps, st), f.result.name, self.back(f, ps)) + pad
         text += self.operands([r for r, _ in rules]) + self.returned(f, dest, passed, st) + pad
         self.open += 1
@@ -489,8 +494,8 @@ class Walk:
         e, j, at = st.entry(v.holds, "in"), self.f.borrows.index(self.kind(v.holds)), atom(v.term)
         reader = "κ%d q%d %s# %s" % (j, j, v.holds, at)
         ps = "(for-%s h-%s %s %s)" % (f.alias, v.holds, atom(e.value), at)
-        text += "calls-by ! fm (Calls-%s 𝓤 H A mem run) known-%s (to-reader %s) %s refl %s (Unit {0}) tt (asks-reader %s 𝓤 H A W) %s _ (says-reader %s 𝓤 H A W (%s .type) _)" % (
-            f.alias, f.alias, reader, ps, pairs([v.good]), reader, f.result.name, reader, f.result.name) + pad
+        text += "calls-by ! (fmOf 𝓤 H (W .laws) 𝓣) %s known-%s (to-reader %s) %s refl %s (Unit {0}) tt (asks-reader %s 𝓤 H A W) %s _ (says-reader %s 𝓤 H A W (%s .type) _)" % (
+            contract(f), f.alias, reader, ps, pairs([v.good]), reader, f.result.name, reader, f.result.name) + pad
         dest, passed = int(s[3][1]), [e, Value(v.datum, v.term, v.good)]
         text += self.operands([rule]) + self.returned(f, dest, passed, st) + pad
         self.open += 1

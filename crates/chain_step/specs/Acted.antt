@@ -124,25 +124,7 @@ module _ {code : List ℕ} {cells : List ℤ} {records : List Activation} {activ
 
   -- a statement stands there, of two words at least
   pub next-there : here .at + 1 < 4096
-  next-there = below op stand
-    where
-      below : (o : Op) → fields.Fields st o → here .at + 1 < 4096
-      below constant-op f = omega (arith, f .0)
-      below add-op f = omega (arith, f .0)
-      below subtract-op f = omega (arith, f .0)
-      below compare-op f = omega (arith, f .0)
-      below branch-op f = omega (arith, f .0)
-      below goto-op f = omega (arith, f .0)
-      below block-op f = omega arith
-      below call-op f = omega (arith, f .0 .there)
-      below pair-op f = omega (arith, f .0)
-      below unpair-op f = omega (arith, f .0)
-      below query-op f = omega (arith, f .0)
-      below constant-formal-op f = omega (arith, f .0)
-      below arithmetic-formal-op f = omega (arith, f .0)
-      below branch-formal-op f = omega (arith, f .0)
-      below goto-formal-op f = omega (arith, f .0)
-      below call-formal-op f = omega (arith, f .0 .there)
+  next-there = fields.two-words st op stand
 
   pub at-there : here .at < 4096
   at-there = omega (arith, next-there)

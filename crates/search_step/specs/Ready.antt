@@ -141,22 +141,4 @@ module _ {code numbers : List ℕ} {cells : List ℤ} {passers blocks froms : Li
 
   -- a statement stands there
   pub at-there : at < 4096
-  at-there = below (opOf (getD code at 0)) (fields.fields-stand st (d .before))
-    where
-      below : (o : Op) → fields.Fields st o → at < 4096
-      below constant-op f = omega (arith, f .0)
-      below add-op f = omega (arith, f .0)
-      below subtract-op f = omega (arith, f .0)
-      below compare-op f = omega (arith, f .0)
-      below branch-op f = omega (arith, f .0)
-      below goto-op f = omega (arith, f .0)
-      below block-op f = omega arith
-      below call-op f = omega (arith, f .0 .there)
-      below pair-op f = omega (arith, f .0)
-      below unpair-op f = omega (arith, f .0)
-      below query-op f = omega (arith, f .0)
-      below constant-formal-op f = omega (arith, f .0)
-      below arithmetic-formal-op f = omega (arith, f .0)
-      below branch-formal-op f = omega (arith, f .0)
-      below goto-formal-op f = omega (arith, f .0)
-      below call-formal-op f = omega (arith, f .0 .there)
+  at-there = omega (arith, fields.two-words st (opOf (getD code at 0)) (fields.fields-stand st (d .before)))

@@ -70,6 +70,25 @@ module _ {code : List ℕ} {l : Limits} {cells : List ℤ} {blocks nexts links :
   Fields goto-formal-op = Within 2 × ThroughFormal 1
   Fields call-formal-op = Arguments × ThroughFormal 1 × BodyStands
 
+  -- a statement has two words at least
+  pub two-words : (o : Op) → Fields o → at + 1 < 4096
+  two-words constant-op f = omega (arith, f .0)
+  two-words add-op f = omega (arith, f .0)
+  two-words subtract-op f = omega (arith, f .0)
+  two-words compare-op f = omega (arith, f .0)
+  two-words branch-op f = omega (arith, f .0)
+  two-words goto-op f = omega (arith, f .0)
+  two-words block-op f = omega (arith, f)
+  two-words call-op f = omega (arith, f .0 .there)
+  two-words pair-op f = omega (arith, f .0)
+  two-words unpair-op f = omega (arith, f .0)
+  two-words query-op f = omega (arith, f .0)
+  two-words constant-formal-op f = omega (arith, f .0)
+  two-words arithmetic-formal-op f = omega (arith, f .0)
+  two-words branch-formal-op f = omega (arith, f .0)
+  two-words goto-formal-op f = omega (arith, f .0)
+  two-words call-formal-op f = omega (arith, f .0 .there)
+
   abbrev names-of : (o : ℕ) (a : Action) → frameStmt (w .frame) ≡ some (DO o a) → NextAction (w .program) (w .stack .frames) (w .frame) o a
   names-of o a q = next-action l (w .program) (w .keeps) (w .stack) (w .sound) (w .frame) (last-is w) o a q
 

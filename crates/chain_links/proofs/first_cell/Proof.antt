@@ -19,7 +19,7 @@ use contract.Monad.{Fun}
 use contract.Running.{givenOf, tables, tablesOf}
 use types.Kit.{Given, ⋆, _$_, _∵_, !, qed, by, move}
 use types.Run.{and-then, no-more, lit, bin, of-opd}
-use sound.WpLaws.{WpFn-mono, FmC, fmOf}
+use sound.WpLaws.{WpFn-mono, fmOf}
 use denote.Builtin.{Array, u32}
 use denote.Ref.{RefT, ptr-vals, shr-tells}
 use denote.Slice.{Room, slice-vals, shr-slice-tells}
@@ -28,14 +28,14 @@ use denote.Signature.Array.{arrayOf}
 use denote.Struct.Laws.{owed}
 use denote.Triple.Entry.{onEntry}
 use denote.Triple.Spec.{Meets, tripleOf}
-use denote.Triple.Statement.{Contract, Triple}
-use denote.Triple.Table.{entered, cited}
-use denote.Triple.Walked.{needs, Stays, stay-none-ref, stay-none-slice, stay-none, walkOf, Walks, ends-at, walked, goes-none-ref, goes-none-slice, goes-none, walk-meets}
+use denote.Triple.Statement.{Triple}
+use denote.Triple.Table.{cited}
+use denote.Triple.Walked.{needs, Stays, stay-none-ref, stay-none-slice, stay-none, walkOf, ends-at, walked, goes-none-ref, goes-none-slice, goes-none, walk-meets}
 use denote.Exit.{yes}
 use Rattle.walks.specs.Data.{Good, typed, usizes}
 use Rattle.walks.specs.Loans.{Loan, loanSlice, loanRef, shrRef, shrSlice}
 use Rattle.walks.specs.Params.{Par, dat, brw, denots, valss, vals, lfts, shares, ins, outs}
-use Rattle.walks.specs.Functions.{arrives, leaves-with}
+use Rattle.walks.specs.Functions.{arrives, leaves-with, by-walk}
 use Rattle.walks.specs.Calls.{to, calls-by}
 use Rattle.walks.specs.Frames.{begins}
 use Rattle.walks.specs.Locals.{var, part, puts, lands-in, ends, if-then}
@@ -58,14 +58,8 @@ use Rattle.chain_links.proofs.first_cell.Code as mine
 use Rattle.chain_links.proofs.first_cell.Proof.Facts as facts
 use Rattle.chain_links.proofs.first_cell.Proof.Said as said
 
-abbrev Calls-hops : {M : Type 1} (𝓤 : URA M) (H : Heap 𝓤) (A : Atoms 𝓤) → (Memory → SProp 𝓤) → (Routine → Fun 𝓤) → Contract 𝓤
-Calls-hops 𝓤 H A mem run = tripleOf 𝓤 H A hops.signature (hops.spec 𝓤 H A mem run)
-
 abbrev for-hops : Loan → List ℕ → registers .type .Denot → ℕ → List Par
 for-hops h0 x0 x1 x2 = brw (shrRef (Array u32 tt 4096)) h0 x0 ∷ dat registers x1 ∷ dat usizes x2 ∷ []
-
-abbrev Calls-follow : {M : Type 1} (𝓤 : URA M) (H : Heap 𝓤) (A : Atoms 𝓤) → (Memory → SProp 𝓤) → (Routine → Fun 𝓤) → Contract 𝓤
-Calls-follow 𝓤 H A mem run = tripleOf 𝓤 H A follow.signature (follow.spec 𝓤 H A mem run)
 
 abbrev for-follow : Loan → List (recs .type .Denot) → ℕ → ℕ → List Par
 for-follow h0 x0 x1 x2 = brw (shrSlice (recs .type)) h0 x0 ∷ dat usizes x1 ∷ dat usizes x2 ∷ []
@@ -77,20 +71,8 @@ module _ {M : Type 1} (𝓤 : URA M) (H : Heap 𝓤) (A : Atoms 𝓤) (W : Given
     (code# : RefT (List ℕ)) (records# : RefT (List (recs .type .Denot))) (here : registers .type .Denot) (own : ℕ) (field : ℕ)
     (room-records : Room (recs .type) (length (records# .now))) (g-here : Good registers here) (g-own : Good usizes own) (g-field : Good usizes field)
     (pre : said.Pre (code# .now) (records# .now) here own field) where
-  abbrev h-code : Loan
-  h-code = loanRef κ0 q0 code#
-
-  abbrev code : List ℕ
-  code = code# .now
-
-  abbrev h-records : Loan
-  h-records = loanSlice κ1 q1 records#
-
-  abbrev records : List (recs .type .Denot)
-  records = records# .now
-
   abbrev ps : List Par
-  ps = brw (shrRef (Array u32 tt 4096)) h-code code ∷ brw (shrSlice (recs .type)) h-records records ∷ dat registers here ∷ dat usizes own ∷ dat usizes field ∷ []
+  ps = brw (shrRef (Array u32 tt 4096)) (loanRef κ0 q0 code#) (code# .now) ∷ brw (shrSlice (recs .type)) (loanSlice κ1 q1 records#) (records# .now) ∷ dat registers here ∷ dat usizes own ∷ dat usizes field ∷ []
 
   abbrev bound : walkOf 𝓤 H A f.ended stayed (f.clauses 𝓤 H A mem run) .Ghost
   bound = ((lfts ps, shares ps, tt, denots 0 ps, valss 0 ps), tt)
@@ -98,52 +80,46 @@ module _ {M : Type 1} (𝓤 : URA M) (H : Heap 𝓤) (A : Atoms 𝓤) (W : Given
   abbrev Post : Val → SProp 𝓤
   Post = walkOf 𝓤 H A f.ended stayed (f.clauses 𝓤 H A mem run) .post bound
 
-  exits : (r : ℕ) → Good usizes r → said.Said code records here field r → ent 𝓤 (⋆ 𝓤 H A (outs 𝓤 0 ps (tt, (tt, (tt, (tt, (tt, tt))))))) (Post (usizes .val r))
-  exits r good says = via 𝓤 _ (leaves-with 𝓤 H A W ps (tt, (tt, (tt, (tt, (tt, tt))))) (g-here, (g-own, (g-field, tt))) usizes r good (said.Said code records here field r) says)
+  exits : (r : ℕ) → Good usizes r → said.Said (code# .now) (records# .now) here field r → ent 𝓤 (⋆ 𝓤 H A (outs 𝓤 0 ps (tt, (tt, (tt, (tt, (tt, tt))))))) (Post (usizes .val r))
+  exits r good says = via 𝓤 _ (leaves-with 𝓤 H A W ps (tt, (tt, (tt, (tt, (tt, tt))))) (g-here, (g-own, (g-field, tt))) usizes r good (said.Said (code# .now) (records# .now) here field r) says)
       (ends-at 𝓤 H A f.ended stayed (f.clauses 𝓤 H A mem run) W bound (usizes .val r) r (tt, (tt, (tt, (tt, (tt, tt))))) (tt, (tt, (tt, (tt, (tt, tt))))))
 
   module _ (𝓣 : Tables 𝓤 H)
-      (known-hops : Triple 𝓤 (𝓣 .C #hops) (Calls-hops 𝓤 H A mem run))
-      (known-follow : Triple 𝓤 (𝓣 .C #follow) (Calls-follow 𝓤 H A mem run)) where
-    fm : FmC 𝓤 H (W .laws) (𝓣 .C)
-    fm = fmOf 𝓤 H (W .laws) 𝓣
-
+      (known-hops : Triple 𝓤 (𝓣 .C #hops) (tripleOf 𝓤 H A hops.signature (hops.spec 𝓤 H A mem run)))
+      (known-follow : Triple 𝓤 (𝓣 .C #follow) (tripleOf 𝓤 H A follow.signature (follow.spec 𝓤 H A mem run))) where
     walk : ent 𝓤 (onEntry 𝓤 H A f.signature (lfts ps) (shares ps) (denots 0 ps) (valss 0 ps)) (WpFn 𝓤 H (𝓣 .C) (𝓣 .Λ) mine.function (vals ps) Post)
     walk = via 𝓤 (⋆ 𝓤 H A (ins 𝓤 ps)) (arrives 𝓤 H A W 0 ps) (qed W (ins 𝓤 ps) ∵
         begins ! (𝓣 .C) (𝓣 .Λ) mine.function (vals ps) Post ((tt, tt), ((tt, (tt, (record { fits = room-records .0 }, tt))), (typed 𝓤 H A W registers here g-here, (typed 𝓤 H A W usizes own g-own, (typed 𝓤 H A W usizes field g-field, tt))))) (λ β. move ! (1 ∷ 2 ∷ []) $
-        calls-by ! fm (Calls-hops 𝓤 H A mem run) known-hops (to (for-hops h-code code here field)) (for-hops h-code code here field) refl (g-here, (g-field, tt)) _ (facts.asks-hops code records here own field pre) (id⊢ 𝓤 _) usizes _ (λ v. id⊢ 𝓤 _)
+        calls-by ! (fmOf 𝓤 H (W .laws) 𝓣) (tripleOf 𝓤 H A hops.signature (hops.spec 𝓤 H A mem run)) known-hops (to (for-hops (loanRef κ0 q0 code#) (code# .now) here field)) (for-hops (loanRef κ0 q0 code#) (code# .now) here field) refl (g-here, (g-field, tt)) _ (facts.asks-hops (code# .now) (records# .now) here own field pre) (id⊢ 𝓤 _) usizes _ (λ v. id⊢ 𝓤 _)
         (and-then ! (var ! 2 1 refl refl tt) (and-then ! (var ! 2 3 refl refl tt) (and-then ! (var ! 2 5 refl refl tt) (no-more !)))) (λ count1 _ g-count1 e1 _.
         lands-in ! 2 6 refl tt (typed 𝓤 H A W usizes count1 g-count1) $
         puts ! 2 7 refl (bin ! (var ! 2 6 refl refl tt) (lit ! tt) tt) tt (tt, tt) $
         if-then ! (var ! 2 7 refl refl tt)
         (λ y1.
         puts ! 2 0 refl (of-opd ! (var ! 2 4 refl refl tt)) tt (typed 𝓤 H A W usizes own g-own) $
-        ends-early ! 2 Post refl refl refl tt $ by ! (exits own g-own (facts.says-1 code records here own field pre count1 e1 (eqb→eq count1 0 y1))))
+        ends-early ! 2 Post refl refl refl tt $ by ! (exits own g-own (facts.says-1 (code# .now) (records# .now) here own field pre count1 e1 (eqb→eq count1 0 y1))))
         (λ y1.
-        move ! (1 ∷ []) $ calls-by ! fm (Calls-follow 𝓤 H A mem run) known-follow (to (for-follow h-records records (here .live) count1)) (for-follow h-records records (here .live) count1) refl ((owed Registers#.the-type Registers′.the-laws here _ g-here .0), (g-count1, tt)) _ (facts.asks-follow code records here own field pre) (id⊢ 𝓤 _) usizes _ (λ v. id⊢ 𝓤 _)
+        move ! (1 ∷ []) $ calls-by ! (fmOf 𝓤 H (W .laws) 𝓣) (tripleOf 𝓤 H A follow.signature (follow.spec 𝓤 H A mem run)) known-follow (to (for-follow (loanSlice κ1 q1 records#) (records# .now) (here .live) count1)) (for-follow (loanSlice κ1 q1 records#) (records# .now) (here .live) count1) refl ((owed Registers#.the-type Registers′.the-laws here _ g-here .0), (g-count1, tt)) _ (facts.asks-follow (code# .now) (records# .now) here own field pre) (id⊢ 𝓤 _) usizes _ (λ v. id⊢ 𝓤 _)
         (and-then ! (var ! 2 2 refl refl tt) (and-then ! (part ! 2 3 0 refl refl tt refl refl refl) (and-then ! (var ! 2 6 refl refl tt) (no-more !)))) (λ follow2 _ g-follow2 e2 _.
         lands-in ! 2 8 refl tt (typed 𝓤 H A W usizes follow2 g-follow2) $
-        puts ! 2 0 refl (bin ! (lit ! tt) (var ! 2 8 refl refl tt) (record { fits = (facts.fits code records here own field pre count1 e1 (not-equal count1 0 y1) follow2 e2) })) tt (tt, record { fits = (facts.fits code records here own field pre count1 e1 (not-equal count1 0 y1) follow2 e2) }) $
-        ends ! 2 refl refl tt $ move ! (1 ∷ 0 ∷ []) $ by ! (exits (32 * follow2) (refl, (facts.fits code records here own field pre count1 e1 (not-equal count1 0 y1) follow2 e2)) (facts.says-2 code records here own field pre count1 e1 (not-equal count1 0 y1) follow2 e2)))))))
+        puts ! 2 0 refl (bin ! (lit ! tt) (var ! 2 8 refl refl tt) (record { fits = (facts.fits (code# .now) (records# .now) here own field pre count1 e1 (not-equal count1 0 y1) follow2 e2) })) tt (tt, record { fits = (facts.fits (code# .now) (records# .now) here own field pre count1 e1 (not-equal count1 0 y1) follow2 e2) }) $
+        ends ! 2 refl refl tt $ move ! (1 ∷ 0 ∷ []) $ by ! (exits (32 * follow2) (refl, (facts.fits (code# .now) (records# .now) here own field pre count1 e1 (not-equal count1 0 y1) follow2 e2)) (facts.says-2 (code# .now) (records# .now) here own field pre count1 e1 (not-equal count1 0 y1) follow2 e2)))))))
 
 module _ {M : Type 1} (𝓤 : URA M) (H : Heap 𝓤) (A : Atoms 𝓤) (W : Given 𝓤 H A) (mem : Memory → SProp 𝓤) (run : Routine → Fun 𝓤) (𝓣 : Tables 𝓤 H)
-    (known-hops : Triple 𝓤 (𝓣 .C #hops) (Calls-hops 𝓤 H A mem run))
-    (known-follow : Triple 𝓤 (𝓣 .C #follow) (Calls-follow 𝓤 H A mem run)) where
-  walks : Walks 𝓤 H A f.ended stayed (WpFn 𝓤 H (𝓣 .C) (𝓣 .Λ) mine.function) (f.clauses 𝓤 H A mem run)
-  walks = walked 𝓤 H A f.ended stayed (f.clauses 𝓤 H A mem run) (WpFn 𝓤 H (𝓣 .C) (𝓣 .Λ) mine.function)
-      (λ κs. (ptr-vals, (slice-vals, ((λ (x : registers .type .Denot). registers .val x ∷ []), ((λ (x : ℕ). usizes .val x ∷ []), ((λ (x : ℕ). usizes .val x ∷ []), tt))))))
-      (λ κs. (shr-tells (named 0) (κs .0) (Array u32 tt 4096), (shr-slice-tells (named 1) (κs .1 .0) (recs .type), (registers .tells, (usizes .tells, (usizes .tells, tt))))))
-      (λ κs qs bounds a g are. needs 𝓤 (said.Pre ((a .0) .now) ((a .1 .0) .now) (a .1 .1 .0) (a .1 .1 .1 .0) (a .1 .1 .1 .1 .0)) _ (λ pre. walk 𝓤 H A W mem run (κs .0) (κs .1 .0) (qs .0) (qs .1 .0) (a .0) (a .1 .0) (a .1 .1 .0) (a .1 .1 .1 .0) (a .1 .1 .1 .1 .0) (are .1 .0 .0 .1) (are .1 .1 .0) (are .1 .1 .1 .0) (are .1 .1 .1 .1 .0) pre 𝓣 known-hops known-follow))
-
+    (known-hops : Triple 𝓤 (𝓣 .C #hops) (tripleOf 𝓤 H A hops.signature (hops.spec 𝓤 H A mem run)))
+    (known-follow : Triple 𝓤 (𝓣 .C #follow) (tripleOf 𝓤 H A follow.signature (follow.spec 𝓤 H A mem run))) where
   meets : Meets 𝓤 H A f.signature (WpFn 𝓤 H (𝓣 .C) (𝓣 .Λ) mine.function) (f.spec 𝓤 H A mem run)
   meets = walk-meets 𝓤 H A f.ended stayed W (goes-none-ref 𝓤 H A W 2 (0 ∷ []) tt (arrayOf (plain (λ _. u32)) 4096) yes, (goes-none-slice 𝓤 H A W 2 (1 ∷ []) tt (plain (λ _. recs .type)) yes, (goes-none 𝓤 H A W 2 (λ _. registers .type) yes (λ κs x f. refl), (goes-none 𝓤 H A W 2 (λ _. usizes .type) yes (λ κs x f. refl), (goes-none 𝓤 H A W 2 (λ _. usizes .type) yes (λ κs x f. refl), tt)))))
-      (f.clauses 𝓤 H A mem run) (WpFn 𝓤 H (𝓣 .C) (𝓣 .Λ) mine.function) (WpFn-mono 𝓤 H (W .laws) 𝓣 mine.function) walks
+      (f.clauses 𝓤 H A mem run) (WpFn 𝓤 H (𝓣 .C) (𝓣 .Λ) mine.function) (WpFn-mono 𝓤 H (W .laws) 𝓣 mine.function)
+      (walked 𝓤 H A f.ended stayed (f.clauses 𝓤 H A mem run) (WpFn 𝓤 H (𝓣 .C) (𝓣 .Λ) mine.function)
+      (λ κs. (ptr-vals, (slice-vals, ((λ (x : registers .type .Denot). registers .val x ∷ []), ((λ (x : ℕ). usizes .val x ∷ []), ((λ (x : ℕ). usizes .val x ∷ []), tt))))))
+      (λ κs. (shr-tells (named 0) (κs .0) (Array u32 tt 4096), (shr-slice-tells (named 1) (κs .1 .0) (recs .type), (registers .tells, (usizes .tells, (usizes .tells, tt))))))
+      (λ κs qs bounds a g are. needs 𝓤 (said.Pre ((a .0) .now) ((a .1 .0) .now) (a .1 .1 .0) (a .1 .1 .1 .0) (a .1 .1 .1 .1 .0)) _ (λ pre. walk 𝓤 H A W mem run (κs .0) (κs .1 .0) (qs .0) (qs .1 .0) (a .0) (a .1 .0) (a .1 .1 .0) (a .1 .1 .1 .0) (a .1 .1 .1 .1 .0) (are .1 .0 .0 .1) (are .1 .1 .0) (are .1 .1 .1 .0) (are .1 .1 .1 .1 .0) pre 𝓣 known-hops known-follow)))
 
 pub first-cell-spec : {M : Type 1} → stated.statement M
 unfolding mine.routine tablesOf
 first-cell-spec 𝓤 H 𝓜 𝓖 𝓡 =
-    entered 𝓤 H (tripleOf 𝓤 H (𝓖 .A) f.signature (f.spec 𝓤 H (𝓖 .A) (𝓜 .mem) (𝓡 .run)))
-    (tables 𝓤 H 𝓜 𝓡 mine.env .C) (tables 𝓤 H 𝓜 𝓡 mine.env .Λ) #me mine.function (mine.unfolded 𝓤 H 𝓜 𝓡)
+    by-walk 𝓤 H 𝓜 𝓡 mine.env #me mine.function (tripleOf 𝓤 H (𝓖 .A) f.signature (f.spec 𝓤 H (𝓖 .A) (𝓜 .mem) (𝓡 .run))) (mine.unfolded 𝓤 H 𝓜 𝓡)
     (meets 𝓤 H (𝓖 .A) (givenOf 𝓤 H 𝓜 𝓖) (𝓜 .mem) (𝓡 .run) (tablesOf 𝓤 H 𝓜 (tables 𝓤 H 𝓜 𝓡 mine.env))
-    (cited 𝓤 H (Calls-hops 𝓤 H (𝓖 .A) (𝓜 .mem) (𝓡 .run)) 𝓜 𝓡 mine.env #hops hops-def.routine mine.calls-chain-links·hops (hops-thm.met 𝓤 H 𝓜 𝓖 𝓡))
-    (cited 𝓤 H (Calls-follow 𝓤 H (𝓖 .A) (𝓜 .mem) (𝓡 .run)) 𝓜 𝓡 mine.env #follow follow-def.routine mine.calls-chain-records·follow (follow-thm.met 𝓤 H 𝓜 𝓖 𝓡)))
+    (cited 𝓤 H (tripleOf 𝓤 H (𝓖 .A) hops.signature (hops.spec 𝓤 H (𝓖 .A) (𝓜 .mem) (𝓡 .run))) 𝓜 𝓡 mine.env #hops hops-def.routine mine.calls-chain-links·hops (hops-thm.met 𝓤 H 𝓜 𝓖 𝓡))
+    (cited 𝓤 H (tripleOf 𝓤 H (𝓖 .A) follow.signature (follow.spec 𝓤 H (𝓖 .A) (𝓜 .mem) (𝓡 .run))) 𝓜 𝓡 mine.env #follow follow-def.routine mine.calls-chain-records·follow (follow-thm.met 𝓤 H 𝓜 𝓖 𝓡)))

@@ -22,7 +22,7 @@ use contract.Monad.{Fun}
 use contract.Running.{givenOf, tables, tablesOf}
 use types.Kit.{Given, Item, ‵, ⋆, Sq, runs, anyQ, atRet, _$_, _∵_, !, qed, by, move}
 use types.Run.{and-then, no-more, lit, bin, of-opd, first, blocks, loops, exec, again, Below}
-use sound.WpLaws.{WpFn-mono, FmC, fmOf}
+use sound.WpLaws.{WpFn-mono, fmOf}
 use denote.Builtin.{Array, u32, i32}
 use denote.Ref.{RefT, ptr-vals, shr-tells, mut-tells}
 use denote.Slice.{Room, slice-vals, mut-slice-tells}
@@ -30,14 +30,14 @@ use denote.Signature.{plain}
 use denote.Signature.Array.{arrayOf}
 use denote.Triple.Entry.{onEntry}
 use denote.Triple.Spec.{Meets, tripleOf}
-use denote.Triple.Statement.{Contract, Triple}
-use denote.Triple.Table.{entered, cited}
-use denote.Triple.Walked.{needs, Stays, stay-none-ref, stay-none, gave-ref, gave-slice, walkOf, Walks, ends-at, walked, goes-none-ref, goes-none, goes-gave-ref, goes-gave-slice, walk-meets}
+use denote.Triple.Statement.{Triple}
+use denote.Triple.Table.{cited}
+use denote.Triple.Walked.{needs, Stays, stay-none-ref, stay-none, gave-ref, gave-slice, walkOf, ends-at, walked, goes-none-ref, goes-none, goes-gave-ref, goes-gave-slice, walk-meets}
 use denote.Exit.{yes}
 use Rattle.walks.specs.Data.{Good, typed, usizes, words32, bools}
 use Rattle.walks.specs.Loans.{Loan, loanSlice, loanRef, shrRef, mutRef, mutSlice, In, gives}
 use Rattle.walks.specs.Params.{Par, dat, brw, denots, valss, vals, lfts, shares, ins, outs}
-use Rattle.walks.specs.Functions.{arrives, leaves-with}
+use Rattle.walks.specs.Functions.{arrives, leaves-with, by-walk}
 use Rattle.walks.specs.Calls.{to, calls-by}
 use Rattle.walks.specs.Clauses.{asks-all}
 use Rattle.walks.specs.Frames.{begins, tysOf, envAt, fr, forgets}
@@ -75,32 +75,17 @@ use Rattle.chain_run.proofs.run.run.Code.Mir as mir′
 use Rattle.chain_run.proofs.run.run.Proof.Facts as facts
 use Rattle.chain_run.proofs.run.run.Proof.Said as said
 
-abbrev Calls-went : {M : Type 1} (𝓤 : URA M) (H : Heap 𝓤) (A : Atoms 𝓤) → (Memory → SProp 𝓤) → (Routine → Fun 𝓤) → Contract 𝓤
-Calls-went 𝓤 H A mem run = tripleOf 𝓤 H A went.signature (went.spec 𝓤 H A mem run)
-
 abbrev for-went : registers .type .Denot → List Par
 for-went x0 = dat registers x0 ∷ []
-
-abbrev Calls-step : {M : Type 1} (𝓤 : URA M) (H : Heap 𝓤) (A : Atoms 𝓤) → (Memory → SProp 𝓤) → (Routine → Fun 𝓤) → Contract 𝓤
-Calls-step 𝓤 H A mem run = tripleOf 𝓤 H A step.signature (step.spec 𝓤 H A mem run)
 
 abbrev for-step : Loan → List ℕ → Loan → List ℤ → Loan → List (recs .type .Denot) → Loan → List ℤ → ℕ → ℕ → registers .type .Denot → List Par
 for-step h0 x0 h1 x1 h2 x2 h3 x3 x4 x5 x6 = brw (shrRef (Array u32 tt 4096)) h0 x0 ∷ brw (mutRef (Array i32 tt 8224)) h1 x1 ∷ brw (mutSlice (recs .type)) h2 x2 ∷ brw (mutSlice i32) h3 x3 ∷ dat words32 x4 ∷ dat usizes x5 ∷ dat registers x6 ∷ []
 
-abbrev Calls-halts : {M : Type 1} (𝓤 : URA M) (H : Heap 𝓤) (A : Atoms 𝓤) → (Memory → SProp 𝓤) → (Routine → Fun 𝓤) → Contract 𝓤
-Calls-halts 𝓤 H A mem run = tripleOf 𝓤 H A halts.signature (halts.spec 𝓤 H A mem run)
-
 abbrev for-halts : turns .type .Denot → List Par
 for-halts x0 = dat turns x0 ∷ []
 
-abbrev Calls-ended : {M : Type 1} (𝓤 : URA M) (H : Heap 𝓤) (A : Atoms 𝓤) → (Memory → SProp 𝓤) → (Routine → Fun 𝓤) → Contract 𝓤
-Calls-ended 𝓤 H A mem run = tripleOf 𝓤 H A ended.signature (ended.spec 𝓤 H A mem run)
-
 abbrev for-ended : Loan → List ℕ → Loan → List ℤ → Loan → List (recs .type .Denot) → registers .type .Denot → turns .type .Denot → ℕ → ℕ → List Par
 for-ended h0 x0 h1 x1 h2 x2 x3 x4 x5 x6 = brw (shrRef (Array u32 tt 4096)) h0 x0 ∷ brw (shrRef (Array i32 tt 8224)) h1 x1 ∷ brw (mutSlice (recs .type)) h2 x2 ∷ dat registers x3 ∷ dat turns x4 ∷ dat words32 x5 ∷ dat words32 x6 ∷ []
-
-abbrev Calls-next-of : {M : Type 1} (𝓤 : URA M) (H : Heap 𝓤) (A : Atoms 𝓤) → (Memory → SProp 𝓤) → (Routine → Fun 𝓤) → Contract 𝓤
-Calls-next-of 𝓤 H A mem run = tripleOf 𝓤 H A next-of.signature (next-of.spec 𝓤 H A mem run)
 
 abbrev for-next-of : registers .type .Denot → turns .type .Denot → List Par
 for-next-of x0 x1 = dat registers x0 ∷ dat turns x1 ∷ []
@@ -121,32 +106,8 @@ module _ {M : Type 1} (𝓤 : URA M) (H : Heap 𝓤) (A : Atoms 𝓤) (W : Given
     (code# : RefT (List ℕ)) (cells# : RefT (List ℤ)) (records# : RefT (List (recs .type .Denot))) (table# : RefT (List ℤ)) (limit : ℕ) (activations : ℕ) (allowance : ℕ) (start : registers .type .Denot)
     (room-records : Room (recs .type) (length (records# .now))) (room-table : Room i32 (length (table# .now))) (g-limit : Good words32 limit) (g-activations : Good usizes activations) (g-allowance : Good words32 allowance) (g-start : Good registers start)
     (pre : said.Pre (code# .now) (cells# .now) (records# .now) (table# .now) limit activations start) where
-  abbrev h-code : Loan
-  h-code = loanRef κ0 q0 code#
-
-  abbrev code : List ℕ
-  code = code# .now
-
-  abbrev h-cells : Loan
-  h-cells = loanRef κ1 q1 cells#
-
-  abbrev cells : List ℤ
-  cells = cells# .now
-
-  abbrev h-records : Loan
-  h-records = loanSlice κ2 q2 records#
-
-  abbrev records : List (recs .type .Denot)
-  records = records# .now
-
-  abbrev h-table : Loan
-  h-table = loanSlice κ3 q3 table#
-
-  abbrev table : List ℤ
-  table = table# .now
-
   abbrev ps : List Par
-  ps = brw (shrRef (Array u32 tt 4096)) h-code code ∷ brw (mutRef (Array i32 tt 8224)) h-cells cells ∷ brw (mutSlice (recs .type)) h-records records ∷ brw (mutSlice i32) h-table table ∷ dat words32 limit ∷ dat usizes activations ∷ dat words32 allowance ∷ dat registers start ∷ []
+  ps = brw (shrRef (Array u32 tt 4096)) (loanRef κ0 q0 code#) (code# .now) ∷ brw (mutRef (Array i32 tt 8224)) (loanRef κ1 q1 cells#) (cells# .now) ∷ brw (mutSlice (recs .type)) (loanSlice κ2 q2 records#) (records# .now) ∷ brw (mutSlice i32) (loanSlice κ3 q3 table#) (table# .now) ∷ dat words32 limit ∷ dat usizes activations ∷ dat words32 allowance ∷ dat registers start ∷ []
 
   abbrev bound : walkOf 𝓤 H A f.ended stayed (f.clauses 𝓤 H A mem run) .Ghost
   bound = ((lfts ps, shares ps, tt, denots 0 ps, valss 0 ps), tt)
@@ -154,31 +115,28 @@ module _ {M : Type 1} (𝓤 : URA M) (H : Heap 𝓤) (A : Atoms 𝓤) (W : Given
   abbrev Post : Val → SProp 𝓤
   Post = walkOf 𝓤 H A f.ended stayed (f.clauses 𝓤 H A mem run) .post bound
 
-  exits : (r : halts .type .Denot) (cells′ : List ℤ) (records′ : List (recs .type .Denot)) (table′ : List ℤ) → length records′ ≡ length records → length table′ ≡ length table → Good halts r → said.Said code cells records table limit activations allowance start r cells′ records′ table′ → ent 𝓤 (⋆ 𝓤 H A (outs 𝓤 0 ps (tt, (cells′, (records′, (table′, (tt, (tt, (tt, (tt, tt)))))))))) (Post (halts .val r))
-  exits r cells′ records′ table′ same-records same-table good says = via 𝓤 _ (leaves-with 𝓤 H A W ps (tt, (cells′, (records′, (table′, (tt, (tt, (tt, (tt, tt)))))))) (g-limit, (g-activations, (g-allowance, (g-start, tt)))) halts r good (said.Said code cells records table limit activations allowance start r cells′ records′ table′) says)
+  exits : (r : halts .type .Denot) (cells′ : List ℤ) (records′ : List (recs .type .Denot)) (table′ : List ℤ) → length records′ ≡ length (records# .now) → length table′ ≡ length (table# .now) → Good halts r → said.Said (code# .now) (cells# .now) (records# .now) (table# .now) limit activations allowance start r cells′ records′ table′ → ent 𝓤 (⋆ 𝓤 H A (outs 𝓤 0 ps (tt, (cells′, (records′, (table′, (tt, (tt, (tt, (tt, tt)))))))))) (Post (halts .val r))
+  exits r cells′ records′ table′ same-records same-table good says = via 𝓤 _ (leaves-with 𝓤 H A W ps (tt, (cells′, (records′, (table′, (tt, (tt, (tt, (tt, tt)))))))) (g-limit, (g-activations, (g-allowance, (g-start, tt)))) halts r good (said.Said (code# .now) (cells# .now) (records# .now) (table# .now) limit activations allowance start r cells′ records′ table′) says)
       (ends-at 𝓤 H A f.ended stayed (f.clauses 𝓤 H A mem run) W bound (halts .val r) r (tt, (cells′, (records′, (table′, (tt, (tt, (tt, (tt, tt)))))))) (tt, (tt, (same-records, (same-table, (tt, (tt, (tt, (tt, tt)))))))))
 
   abbrev St : Type 0
-  St = Loop code cells records table limit activations allowance start pre
+  St = Loop (code# .now) (cells# .now) (records# .now) (table# .now) limit activations allowance start pre
 
   abbrev size : St → ℕ
-  size t = facts.size code cells records table limit activations allowance start pre (t .state)
+  size t = facts.size (code# .now) (cells# .now) (records# .now) (table# .now) limit activations allowance start pre (t .state)
 
   module _ (𝓣 : Tables 𝓤 H)
-      (known-went : Triple 𝓤 (𝓣 .C #went) (Calls-went 𝓤 H A mem run))
-      (known-step : Triple 𝓤 (𝓣 .C #step) (Calls-step 𝓤 H A mem run))
-      (known-halts : Triple 𝓤 (𝓣 .C #halts) (Calls-halts 𝓤 H A mem run))
-      (known-ended : Triple 𝓤 (𝓣 .C #ended) (Calls-ended 𝓤 H A mem run))
-      (known-next-of : Triple 𝓤 (𝓣 .C #next-of) (Calls-next-of 𝓤 H A mem run)) where
-    fm : FmC 𝓤 H (W .laws) (𝓣 .C)
-    fm = fmOf 𝓤 H (W .laws) 𝓣
-
+      (known-went : Triple 𝓤 (𝓣 .C #went) (tripleOf 𝓤 H A went.signature (went.spec 𝓤 H A mem run)))
+      (known-step : Triple 𝓤 (𝓣 .C #step) (tripleOf 𝓤 H A step.signature (step.spec 𝓤 H A mem run)))
+      (known-halts : Triple 𝓤 (𝓣 .C #halts) (tripleOf 𝓤 H A halts.signature (halts.spec 𝓤 H A mem run)))
+      (known-ended : Triple 𝓤 (𝓣 .C #ended) (tripleOf 𝓤 H A ended.signature (ended.spec 𝓤 H A mem run)))
+      (known-next-of : Triple 𝓤 (𝓣 .C #next-of) (tripleOf 𝓤 H A next-of.signature (next-of.spec 𝓤 H A mem run))) where
     module _ (β : ℕ → ℕ) where
       abbrev E# : List (Ty × ℕ)
       E# = envAt (tysOf (mine.function .locals)) β
 
       abbrev Inv : St → List (Item 𝓤)
-      Inv t = ‵ (In (shrRef (Array u32 tt 4096)) h-code code) ∷ ‵ (In (mutRef (Array i32 tt 8224)) h-cells (t .state .cells)) ∷ ‵ (In (mutSlice (recs .type)) h-records (t .state .records)) ∷ ‵ (In (mutSlice i32) h-table (t .state .table)) ∷ fr 𝓤 H (tysOf (mine.function .locals)) β (none ∷ some (h-code .val) ∷ some (h-cells .val) ∷ some (h-records .val) ∷ some (h-table .val) ∷ some (words32 .val limit) ∷ some (usizes .val activations) ∷ some (words32 .val allowance) ∷ some (registers .val start) ∷ some (registers .val (t .state .here)) ∷ some (turns .val (t .state .turn)) ∷ some (words32 .val (t .state .left)) ∷ none ∷ none ∷ none ∷ none ∷ none ∷ none ∷ none ∷ none ∷ none ∷ none ∷ []) ∷ []
+      Inv t = ‵ (In (shrRef (Array u32 tt 4096)) (loanRef κ0 q0 code#) (code# .now)) ∷ ‵ (In (mutRef (Array i32 tt 8224)) (loanRef κ1 q1 cells#) (t .state .cells)) ∷ ‵ (In (mutSlice (recs .type)) (loanSlice κ2 q2 records#) (t .state .records)) ∷ ‵ (In (mutSlice i32) (loanSlice κ3 q3 table#) (t .state .table)) ∷ fr 𝓤 H (tysOf (mine.function .locals)) β (none ∷ some ((loanRef κ0 q0 code#) .val) ∷ some ((loanRef κ1 q1 cells#) .val) ∷ some ((loanSlice κ2 q2 records#) .val) ∷ some ((loanSlice κ3 q3 table#) .val) ∷ some (words32 .val limit) ∷ some (usizes .val activations) ∷ some (words32 .val allowance) ∷ some (registers .val start) ∷ some (registers .val (t .state .here)) ∷ some (turns .val (t .state .turn)) ∷ some (words32 .val (t .state .left)) ∷ none ∷ none ∷ none ∷ none ∷ none ∷ none ∷ none ∷ none ∷ none ∷ none ∷ []) ∷ []
 
       turn : (t : St) → Sq W (Inv t) (runs (𝓣 .C) (𝓣 .Λ) E# mir′.turn-1 (anyQ (afterTurn 𝓤 H (Below 𝓤 H A (by-size size) Inv t)
           (afterBlock 𝓤 H (afterSeq 𝓤 H (Wp 𝓤 H (𝓣 .C) (𝓣 .Λ) E# mir′.t-5 (atReturn 𝓤 H E# Post)) (atReturn 𝓤 H E# Post))))))
@@ -192,16 +150,16 @@ module _ {M : Type 1} (𝓤 : URA M) (H : Heap 𝓤) (A : Atoms 𝓤) (W : Given
           puts ! 4 15 refl (lent-slice ! 4 3 14 refl refl refl tt tt refl refl) tt (tt, (tt, (record { fits = room-records .0 }, tt))) $
           puts ! 4 16 refl (lent-ptr ! 4 4 refl refl tt refl refl) tt (tt, tt) $
           puts ! 4 17 refl (lent-slice ! 4 4 16 refl refl refl tt tt refl refl) tt (tt, (tt, (record { fits = room-table .0 }, tt))) $
-          move ! (1 ∷ []) $ lends-ref ! tt (Array i32 tt 8224) h-cells (t .state .cells) (λ p2-cells ν2-cells δ2-cells.
-          move ! (3 ∷ []) $ lends-slice ! tt (recs .type) h-records (t .state .records) (λ ν2-records δ2-records.
-          move ! (5 ∷ []) $ lends-slice ! tt i32 h-table (t .state .table) (λ ν2-table δ2-table.
-          move ! (6 ∷ 4 ∷ 2 ∷ 0 ∷ []) $ calls-by ! fm (Calls-step 𝓤 H A mem run) known-step (to (for-step h-code code (relent h-cells ν2-cells δ2-cells) (t .state .cells) (relent h-records ν2-records δ2-records) (t .state .records) (relent h-table ν2-table δ2-table) (t .state .table) limit activations (t .state .here))) (for-step h-code code (relent h-cells ν2-cells δ2-cells) (t .state .cells) (relent h-records ν2-records δ2-records) (t .state .records) (relent h-table ν2-table δ2-table) (t .state .table) limit activations (t .state .here)) refl (g-limit, (g-activations, ((t .good-here), tt))) _ (facts.asks-step code cells records table limit activations allowance start pre (t .state) (ltb→lt 0 (t .state .left) y1)) (id⊢ 𝓤 _) turns _ (λ v. id⊢ 𝓤 _)
+          move ! (1 ∷ []) $ lends-ref ! tt (Array i32 tt 8224) (loanRef κ1 q1 cells#) (t .state .cells) (λ p2-cells ν2-cells δ2-cells.
+          move ! (3 ∷ []) $ lends-slice ! tt (recs .type) (loanSlice κ2 q2 records#) (t .state .records) (λ ν2-records δ2-records.
+          move ! (5 ∷ []) $ lends-slice ! tt i32 (loanSlice κ3 q3 table#) (t .state .table) (λ ν2-table δ2-table.
+          move ! (6 ∷ 4 ∷ 2 ∷ 0 ∷ []) $ calls-by ! (fmOf 𝓤 H (W .laws) 𝓣) (tripleOf 𝓤 H A step.signature (step.spec 𝓤 H A mem run)) known-step (to (for-step (loanRef κ0 q0 code#) (code# .now) (relent (loanRef κ1 q1 cells#) ν2-cells δ2-cells) (t .state .cells) (relent (loanSlice κ2 q2 records#) ν2-records δ2-records) (t .state .records) (relent (loanSlice κ3 q3 table#) ν2-table δ2-table) (t .state .table) limit activations (t .state .here))) (for-step (loanRef κ0 q0 code#) (code# .now) (relent (loanRef κ1 q1 cells#) ν2-cells δ2-cells) (t .state .cells) (relent (loanSlice κ2 q2 records#) ν2-records δ2-records) (t .state .records) (relent (loanSlice κ3 q3 table#) ν2-table δ2-table) (t .state .table) limit activations (t .state .here)) refl (g-limit, (g-activations, ((t .good-here), tt))) _ (facts.asks-step (code# .now) (cells# .now) (records# .now) (table# .now) limit activations allowance start pre (t .state) (ltb→lt 0 (t .state .left) y1)) (id⊢ 𝓤 _) turns _ (λ v. id⊢ 𝓤 _)
           (and-then ! (var ! 7 1 refl refl tt) (and-then ! (var ! 7 13 refl refl tt) (and-then ! (var ! 7 15 refl refl tt) (and-then ! (var ! 7 17 refl refl tt) (and-then ! (var ! 7 5 refl refl tt) (and-then ! (var ! 7 6 refl refl tt) (and-then ! (var ! 7 9 refl refl tt) (no-more !)))))))) (λ turn2 ws2 g-turn2 e2 same2.
           lands-in ! 7 10 refl tt (typed 𝓤 H A W turns turn2 g-turn2) $
-          move ! (1 ∷ 6 ∷ []) $ back-ref ! tt (Array i32 tt 8224) h-cells (t .state .cells) (ws2 .1 .0) ν2-cells δ2-cells p2-cells $
-          move ! (2 ∷ 5 ∷ []) $ back-slice ! tt (recs .type) h-records (t .state .records) (ws2 .1 .1 .0) ν2-records δ2-records (same2 .1 .1 .0) $
-          move ! (3 ∷ 4 ∷ []) $ back-slice ! tt i32 h-table (t .state .table) (ws2 .1 .1 .1 .0) ν2-table δ2-table (same2 .1 .1 .1 .0) $
-          calls-by ! fm (Calls-halts 𝓤 H A mem run) known-halts (to (for-halts turn2)) (for-halts turn2) refl (g-turn2, tt) (Unit {0}) tt (asks-all 𝓤 H A (for-halts turn2) []) bools _ (λ v. id⊢ 𝓤 _)
+          move ! (1 ∷ 6 ∷ []) $ back-ref ! tt (Array i32 tt 8224) (loanRef κ1 q1 cells#) (t .state .cells) (ws2 .1 .0) ν2-cells δ2-cells p2-cells $
+          move ! (2 ∷ 5 ∷ []) $ back-slice ! tt (recs .type) (loanSlice κ2 q2 records#) (t .state .records) (ws2 .1 .1 .0) ν2-records δ2-records (same2 .1 .1 .0) $
+          move ! (3 ∷ 4 ∷ []) $ back-slice ! tt i32 (loanSlice κ3 q3 table#) (t .state .table) (ws2 .1 .1 .1 .0) ν2-table δ2-table (same2 .1 .1 .1 .0) $
+          calls-by ! (fmOf 𝓤 H (W .laws) 𝓣) (tripleOf 𝓤 H A halts.signature (halts.spec 𝓤 H A mem run)) known-halts (to (for-halts turn2)) (for-halts turn2) refl (g-turn2, tt) (Unit {0}) tt (asks-all 𝓤 H A (for-halts turn2) []) bools _ (λ v. id⊢ 𝓤 _)
           (and-then ! (var ! 4 10 refl refl tt) (no-more !)) (λ halts3 _ g-halts3 e3 _.
           lands-in ! 4 18 refl tt (tt, tt) $
           breaks ! (var ! 4 18 refl refl tt)
@@ -209,63 +167,60 @@ module _ {M : Type 1} (𝓤 : URA M) (H : Heap 𝓤) (A : Atoms 𝓤) (W : Given
           puts ! 4 19 refl (lent ! 4 2 refl refl tt) tt (tt, tt) $
           puts ! 4 20 refl (lent-ptr ! 4 3 refl refl tt refl refl) tt (tt, tt) $
           puts ! 4 21 refl (lent-slice ! 4 3 20 refl refl refl tt tt refl refl) tt (tt, (tt, (record { fits = room-records .0 }, tt))) $
-          move ! (2 ∷ []) $ shares-ref ! tt (Array i32 tt 8224) h-cells (ws2 .1 .0) (λ p4-cells ν4-cells δ4-cells.
-          move ! (4 ∷ 0 ∷ 3 ∷ []) $ calls-by ! fm (Calls-ended 𝓤 H A mem run) known-ended (to (for-ended h-code code (relent h-cells ν4-cells δ4-cells) (ws2 .1 .0) h-records (ws2 .1 .1 .0) (t .state .here) turn2 allowance (t .state .left))) (for-ended h-code code (relent h-cells ν4-cells δ4-cells) (ws2 .1 .0) h-records (ws2 .1 .1 .0) (t .state .here) turn2 allowance (t .state .left)) refl ((t .good-here), (g-turn2, (g-allowance, ((t .good-left), tt)))) _ (facts.asks-ended code cells records table limit activations allowance start pre (t .state) (ltb→lt 0 (t .state .left) y1) turn2 (ws2 .1 .0) (ws2 .1 .1 .0) (ws2 .1 .1 .1 .0) e2 (same2 .1 .1 .0) (same2 .1 .1 .1 .0) halts3 e3 (told halts3 y2)) (id⊢ 𝓤 _) halts _ (λ v. id⊢ 𝓤 _)
+          move ! (2 ∷ []) $ shares-ref ! tt (Array i32 tt 8224) (loanRef κ1 q1 cells#) (ws2 .1 .0) (λ p4-cells ν4-cells δ4-cells.
+          move ! (4 ∷ 0 ∷ 3 ∷ []) $ calls-by ! (fmOf 𝓤 H (W .laws) 𝓣) (tripleOf 𝓤 H A ended.signature (ended.spec 𝓤 H A mem run)) known-ended (to (for-ended (loanRef κ0 q0 code#) (code# .now) (relent (loanRef κ1 q1 cells#) ν4-cells δ4-cells) (ws2 .1 .0) (loanSlice κ2 q2 records#) (ws2 .1 .1 .0) (t .state .here) turn2 allowance (t .state .left))) (for-ended (loanRef κ0 q0 code#) (code# .now) (relent (loanRef κ1 q1 cells#) ν4-cells δ4-cells) (ws2 .1 .0) (loanSlice κ2 q2 records#) (ws2 .1 .1 .0) (t .state .here) turn2 allowance (t .state .left)) refl ((t .good-here), (g-turn2, (g-allowance, ((t .good-left), tt)))) _ (facts.asks-ended (code# .now) (cells# .now) (records# .now) (table# .now) limit activations allowance start pre (t .state) (ltb→lt 0 (t .state .left) y1) turn2 (ws2 .1 .0) (ws2 .1 .1 .0) (ws2 .1 .1 .1 .0) e2 (same2 .1 .1 .0) (same2 .1 .1 .1 .0) halts3 e3 (told halts3 y2)) (id⊢ 𝓤 _) halts _ (λ v. id⊢ 𝓤 _)
           (and-then ! (var ! 5 1 refl refl tt) (and-then ! (var ! 5 19 refl refl tt) (and-then ! (var ! 5 21 refl refl tt) (and-then ! (var ! 5 9 refl refl tt) (and-then ! (var ! 5 10 refl refl tt) (and-then ! (var ! 5 7 refl refl tt) (and-then ! (var ! 5 11 refl refl tt) (no-more !)))))))) (λ ended4 ws4 g-ended4 e4 same4.
           lands-in ! 5 0 refl tt (typed 𝓤 H A W halts ended4 g-ended4) $
-          move ! (1 ∷ 3 ∷ []) $ unshares-ref ! tt (Array i32 tt 8224) h-cells (ws2 .1 .0) ν4-cells δ4-cells p4-cells $
-          ends ! 4 refl refl tt $ gives ! (mutRef (Array i32 tt 8224)) h-cells (ws2 .1 .0) $ move ! (3 ∷ []) $ gives ! (mutSlice i32) h-table (ws2 .1 .1 .1 .0) $ move ! (2 ∷ 1 ∷ 3 ∷ 0 ∷ []) $ by ! (exits ended4 (ws2 .1 .0) (ws4 .1 .1 .0) (ws2 .1 .1 .1 .0) ((same4 .1 .1 .0) ∙ ((same2 .1 .1 .0) ∙ (t .long-records))) ((same2 .1 .1 .1 .0) ∙ (t .long-table)) g-ended4 (facts.says-1 code cells records table limit activations allowance start pre (t .state) (ltb→lt 0 (t .state .left) y1) turn2 (ws2 .1 .0) (ws2 .1 .1 .0) (ws2 .1 .1 .1 .0) e2 (same2 .1 .1 .0) (same2 .1 .1 .1 .0) halts3 e3 (told halts3 y2) ended4 (ws4 .1 .1 .0) e4)))))
+          move ! (1 ∷ 3 ∷ []) $ unshares-ref ! tt (Array i32 tt 8224) (loanRef κ1 q1 cells#) (ws2 .1 .0) ν4-cells δ4-cells p4-cells $
+          ends ! 4 refl refl tt $ gives ! (mutRef (Array i32 tt 8224)) (loanRef κ1 q1 cells#) (ws2 .1 .0) $ move ! (3 ∷ []) $ gives ! (mutSlice i32) (loanSlice κ3 q3 table#) (ws2 .1 .1 .1 .0) $ move ! (2 ∷ 1 ∷ 3 ∷ 0 ∷ []) $ by ! (exits ended4 (ws2 .1 .0) (ws4 .1 .1 .0) (ws2 .1 .1 .1 .0) ((same4 .1 .1 .0) ∙ ((same2 .1 .1 .0) ∙ (t .long-records))) ((same2 .1 .1 .1 .0) ∙ (t .long-table)) g-ended4 (facts.says-1 (code# .now) (cells# .now) (records# .now) (table# .now) limit activations allowance start pre (t .state) (ltb→lt 0 (t .state .left) y1) turn2 (ws2 .1 .0) (ws2 .1 .1 .0) (ws2 .1 .1 .1 .0) e2 (same2 .1 .1 .0) (same2 .1 .1 .1 .0) halts3 e3 (told halts3 y2) ended4 (ws4 .1 .1 .0) e4)))))
           (λ y2.
-          calls-by ! fm (Calls-next-of 𝓤 H A mem run) known-next-of (to (for-next-of (t .state .here) turn2)) (for-next-of (t .state .here) turn2) refl ((t .good-here), (g-turn2, tt)) (Unit {0}) tt (asks-all 𝓤 H A (for-next-of (t .state .here) turn2) []) registers _ (λ v. id⊢ 𝓤 _)
+          calls-by ! (fmOf 𝓤 H (W .laws) 𝓣) (tripleOf 𝓤 H A next-of.signature (next-of.spec 𝓤 H A mem run)) known-next-of (to (for-next-of (t .state .here) turn2)) (for-next-of (t .state .here) turn2) refl ((t .good-here), (g-turn2, tt)) (Unit {0}) tt (asks-all 𝓤 H A (for-next-of (t .state .here) turn2) []) registers _ (λ v. id⊢ 𝓤 _)
           (and-then ! (var ! 4 9 refl refl tt) (and-then ! (var ! 4 10 refl refl tt) (no-more !))) (λ here5 _ g-here5 e5 _.
           lands-in ! 4 9 refl tt (typed 𝓤 H A W registers here5 g-here5) $
-          puts-last ! 4 11 refl (bin ! (var ! 4 11 refl refl tt) (lit ! tt) (facts.fits code cells records table limit activations allowance start pre (t .state) (ltb→lt 0 (t .state .left) y1))) tt (tt, record { fits = omega (arith, (t .good-left) .1) }) $
-          forgets ! 4 (12 ∷ 13 ∷ 14 ∷ 15 ∷ 16 ∷ 17 ∷ 18 ∷ 19 ∷ 20 ∷ 21 ∷ []) refl tt $ move ! (3 ∷ 2 ∷ 1 ∷ 0 ∷ []) $ again ! (by-size size) Inv t (record { state = (facts.next code cells records table limit activations allowance start pre (t .state) (ltb→lt 0 (t .state .left) y1) turn2 (ws2 .1 .0) (ws2 .1 .1 .0) (ws2 .1 .1 .1 .0) e2 (same2 .1 .1 .0) (same2 .1 .1 .1 .0) halts3 e3 (untold halts3 y2) here5 e5); good-here = g-here5; good-turn = g-turn2; good-left = (refl, omega (arith, (t .good-left) .1)); long-records = ((same2 .1 .1 .0) ∙ (t .long-records)); long-table = ((same2 .1 .1 .1 .0) ∙ (t .long-table)) }) (facts.less code cells records table limit activations allowance start pre (t .state) (ltb→lt 0 (t .state .left) y1))))))))))
+          puts-last ! 4 11 refl (bin ! (var ! 4 11 refl refl tt) (lit ! tt) (facts.fits (code# .now) (cells# .now) (records# .now) (table# .now) limit activations allowance start pre (t .state) (ltb→lt 0 (t .state .left) y1))) tt (tt, record { fits = omega (arith, (t .good-left) .1) }) $
+          forgets ! 4 (12 ∷ 13 ∷ 14 ∷ 15 ∷ 16 ∷ 17 ∷ 18 ∷ 19 ∷ 20 ∷ 21 ∷ []) refl tt $ move ! (3 ∷ 2 ∷ 1 ∷ 0 ∷ []) $ again ! (by-size size) Inv t (record { state = (facts.next (code# .now) (cells# .now) (records# .now) (table# .now) limit activations allowance start pre (t .state) (ltb→lt 0 (t .state .left) y1) turn2 (ws2 .1 .0) (ws2 .1 .1 .0) (ws2 .1 .1 .1 .0) e2 (same2 .1 .1 .0) (same2 .1 .1 .1 .0) halts3 e3 (untold halts3 y2) here5 e5); good-here = g-here5; good-turn = g-turn2; good-left = (refl, omega (arith, (t .good-left) .1)); long-records = ((same2 .1 .1 .0) ∙ (t .long-records)); long-table = ((same2 .1 .1 .1 .0) ∙ (t .long-table)) }) (facts.less (code# .now) (cells# .now) (records# .now) (table# .now) limit activations allowance start pre (t .state) (ltb→lt 0 (t .state .left) y1))))))))))
           (λ y1. exec ! (𝓣 .C) (𝓣 .Λ) E# mir′.t-5 (atRet E# Post) $
           puts ! 4 19 refl (lent ! 4 2 refl refl tt) tt (tt, tt) $
           puts ! 4 20 refl (lent-ptr ! 4 3 refl refl tt refl refl) tt (tt, tt) $
           puts ! 4 21 refl (lent-slice ! 4 3 20 refl refl refl tt tt refl refl) tt (tt, (tt, (record { fits = room-records .0 }, tt))) $
-          move ! (1 ∷ []) $ shares-ref ! tt (Array i32 tt 8224) h-cells (t .state .cells) (λ p6-cells ν6-cells δ6-cells.
-          move ! (2 ∷ 0 ∷ 3 ∷ []) $ calls-by ! fm (Calls-ended 𝓤 H A mem run) known-ended (to (for-ended h-code code (relent h-cells ν6-cells δ6-cells) (t .state .cells) h-records (t .state .records) (t .state .here) (t .state .turn) allowance (t .state .left))) (for-ended h-code code (relent h-cells ν6-cells δ6-cells) (t .state .cells) h-records (t .state .records) (t .state .here) (t .state .turn) allowance (t .state .left)) refl ((t .good-here), ((t .good-turn), (g-allowance, ((t .good-left), tt)))) _ (facts.asks-ended-2 code cells records table limit activations allowance start pre (t .state) (not-below 0 (t .state .left) y1)) (id⊢ 𝓤 _) halts _ (λ v. id⊢ 𝓤 _)
+          move ! (1 ∷ []) $ shares-ref ! tt (Array i32 tt 8224) (loanRef κ1 q1 cells#) (t .state .cells) (λ p6-cells ν6-cells δ6-cells.
+          move ! (2 ∷ 0 ∷ 3 ∷ []) $ calls-by ! (fmOf 𝓤 H (W .laws) 𝓣) (tripleOf 𝓤 H A ended.signature (ended.spec 𝓤 H A mem run)) known-ended (to (for-ended (loanRef κ0 q0 code#) (code# .now) (relent (loanRef κ1 q1 cells#) ν6-cells δ6-cells) (t .state .cells) (loanSlice κ2 q2 records#) (t .state .records) (t .state .here) (t .state .turn) allowance (t .state .left))) (for-ended (loanRef κ0 q0 code#) (code# .now) (relent (loanRef κ1 q1 cells#) ν6-cells δ6-cells) (t .state .cells) (loanSlice κ2 q2 records#) (t .state .records) (t .state .here) (t .state .turn) allowance (t .state .left)) refl ((t .good-here), ((t .good-turn), (g-allowance, ((t .good-left), tt)))) _ (facts.asks-ended-2 (code# .now) (cells# .now) (records# .now) (table# .now) limit activations allowance start pre (t .state) (not-below 0 (t .state .left) y1)) (id⊢ 𝓤 _) halts _ (λ v. id⊢ 𝓤 _)
           (and-then ! (var ! 5 1 refl refl tt) (and-then ! (var ! 5 19 refl refl tt) (and-then ! (var ! 5 21 refl refl tt) (and-then ! (var ! 5 9 refl refl tt) (and-then ! (var ! 5 10 refl refl tt) (and-then ! (var ! 5 7 refl refl tt) (and-then ! (var ! 5 11 refl refl tt) (no-more !)))))))) (λ ended6 ws6 g-ended6 e6 same6.
           lands-in ! 5 0 refl tt (typed 𝓤 H A W halts ended6 g-ended6) $
-          move ! (1 ∷ 3 ∷ []) $ unshares-ref ! tt (Array i32 tt 8224) h-cells (t .state .cells) ν6-cells δ6-cells p6-cells $
-          ends ! 4 refl refl tt $ gives ! (mutRef (Array i32 tt 8224)) h-cells (t .state .cells) $ move ! (3 ∷ []) $ gives ! (mutSlice i32) h-table (t .state .table) $ move ! (2 ∷ 1 ∷ 3 ∷ 0 ∷ []) $ by ! (exits ended6 (t .state .cells) (ws6 .1 .1 .0) (t .state .table) ((same6 .1 .1 .0) ∙ (t .long-records)) (t .long-table) g-ended6 (facts.says-2 code cells records table limit activations allowance start pre (t .state) (not-below 0 (t .state .left) y1) ended6 (ws6 .1 .1 .0) e6)))))
+          move ! (1 ∷ 3 ∷ []) $ unshares-ref ! tt (Array i32 tt 8224) (loanRef κ1 q1 cells#) (t .state .cells) ν6-cells δ6-cells p6-cells $
+          ends ! 4 refl refl tt $ gives ! (mutRef (Array i32 tt 8224)) (loanRef κ1 q1 cells#) (t .state .cells) $ move ! (3 ∷ []) $ gives ! (mutSlice i32) (loanSlice κ3 q3 table#) (t .state .table) $ move ! (2 ∷ 1 ∷ 3 ∷ 0 ∷ []) $ by ! (exits ended6 (t .state .cells) (ws6 .1 .1 .0) (t .state .table) ((same6 .1 .1 .0) ∙ (t .long-records)) (t .long-table) g-ended6 (facts.says-2 (code# .now) (cells# .now) (records# .now) (table# .now) limit activations allowance start pre (t .state) (not-below 0 (t .state .left) y1) ended6 (ws6 .1 .1 .0) e6)))))
 
     walk : ent 𝓤 (onEntry 𝓤 H A f.signature (lfts ps) (shares ps) (denots 0 ps) (valss 0 ps)) (WpFn 𝓤 H (𝓣 .C) (𝓣 .Λ) mine.function (vals ps) Post)
     walk = via 𝓤 (⋆ 𝓤 H A (ins 𝓤 ps)) (arrives 𝓤 H A W 0 ps) (qed W (ins 𝓤 ps) ∵
         begins ! (𝓣 .C) (𝓣 .Λ) mine.function (vals ps) Post ((tt, tt), ((tt, tt), ((tt, (tt, (record { fits = room-records .0 }, tt))), ((tt, (tt, (record { fits = room-table .0 }, tt))), (typed 𝓤 H A W words32 limit g-limit, (typed 𝓤 H A W usizes activations g-activations, (typed 𝓤 H A W words32 allowance g-allowance, (typed 𝓤 H A W registers start g-start, tt)))))))) (λ β. move ! (1 ∷ 2 ∷ 3 ∷ 4 ∷ []) $
         puts ! 4 9 refl (of-opd ! (var ! 4 8 refl refl tt)) tt (typed 𝓤 H A W registers start g-start) $
-        calls-by ! fm (Calls-went 𝓤 H A mem run) known-went (to (for-went start)) (for-went start) refl (g-start, tt) (Unit {0}) tt (asks-all 𝓤 H A (for-went start) []) turns _ (λ v. id⊢ 𝓤 _)
+        calls-by ! (fmOf 𝓤 H (W .laws) 𝓣) (tripleOf 𝓤 H A went.signature (went.spec 𝓤 H A mem run)) known-went (to (for-went start)) (for-went start) refl (g-start, tt) (Unit {0}) tt (asks-all 𝓤 H A (for-went start) []) turns _ (λ v. id⊢ 𝓤 _)
         (and-then ! (var ! 4 8 refl refl tt) (no-more !)) (λ turn1 _ g-turn1 e1 _.
         lands-in ! 4 10 refl tt (typed 𝓤 H A W turns turn1 g-turn1) $
         puts ! 4 11 refl (of-opd ! (var ! 4 7 refl refl tt)) tt (typed 𝓤 H A W words32 allowance g-allowance) $
-        forgets ! 4 (12 ∷ 13 ∷ 14 ∷ 15 ∷ 16 ∷ 17 ∷ 18 ∷ 19 ∷ 20 ∷ 21 ∷ []) refl tt $ first ! $ blocks ! $ loops ! 𝓣 (by-size size) (by-size-wf size) (Inv β) (turn β) (record { state = (facts.start code cells records table limit activations allowance start pre turn1 e1); good-here = g-start; good-turn = g-turn1; good-left = g-allowance; long-records = refl; long-table = refl }))))
+        forgets ! 4 (12 ∷ 13 ∷ 14 ∷ 15 ∷ 16 ∷ 17 ∷ 18 ∷ 19 ∷ 20 ∷ 21 ∷ []) refl tt $ first ! $ blocks ! $ loops ! 𝓣 (by-size size) (by-size-wf size) (Inv β) (turn β) (record { state = (facts.start (code# .now) (cells# .now) (records# .now) (table# .now) limit activations allowance start pre turn1 e1); good-here = g-start; good-turn = g-turn1; good-left = g-allowance; long-records = refl; long-table = refl }))))
 
 module _ {M : Type 1} (𝓤 : URA M) (H : Heap 𝓤) (A : Atoms 𝓤) (W : Given 𝓤 H A) (mem : Memory → SProp 𝓤) (run : Routine → Fun 𝓤) (𝓣 : Tables 𝓤 H)
-    (known-went : Triple 𝓤 (𝓣 .C #went) (Calls-went 𝓤 H A mem run))
-    (known-step : Triple 𝓤 (𝓣 .C #step) (Calls-step 𝓤 H A mem run))
-    (known-halts : Triple 𝓤 (𝓣 .C #halts) (Calls-halts 𝓤 H A mem run))
-    (known-ended : Triple 𝓤 (𝓣 .C #ended) (Calls-ended 𝓤 H A mem run))
-    (known-next-of : Triple 𝓤 (𝓣 .C #next-of) (Calls-next-of 𝓤 H A mem run)) where
-  walks : Walks 𝓤 H A f.ended stayed (WpFn 𝓤 H (𝓣 .C) (𝓣 .Λ) mine.function) (f.clauses 𝓤 H A mem run)
-  walks = walked 𝓤 H A f.ended stayed (f.clauses 𝓤 H A mem run) (WpFn 𝓤 H (𝓣 .C) (𝓣 .Λ) mine.function)
-      (λ κs. (ptr-vals, (ptr-vals, (slice-vals, (slice-vals, ((λ (x : ℕ). words32 .val x ∷ []), ((λ (x : ℕ). usizes .val x ∷ []), ((λ (x : ℕ). words32 .val x ∷ []), ((λ (x : registers .type .Denot). registers .val x ∷ []), tt)))))))))
-      (λ κs. (shr-tells (named 0) (κs .0) (Array u32 tt 4096), (mut-tells (named 1) (κs .1 .0) (Array i32 tt 8224), (mut-slice-tells (named 2) (κs .1 .1 .0) (recs .type), (mut-slice-tells (named 3) (κs .1 .1 .1 .0) i32, (words32 .tells, (usizes .tells, (words32 .tells, (registers .tells, tt)))))))))
-      (λ κs qs bounds a g are. needs 𝓤 (said.Pre ((a .0) .now) ((a .1 .0) .now) ((a .1 .1 .0) .now) ((a .1 .1 .1 .0) .now) (a .1 .1 .1 .1 .0) (a .1 .1 .1 .1 .1 .0) (a .1 .1 .1 .1 .1 .1 .1 .0)) _ (λ pre. walk 𝓤 H A W mem run (κs .0) (κs .1 .0) (κs .1 .1 .0) (κs .1 .1 .1 .0) (qs .0) (qs .1 .0) (qs .1 .1 .0) (qs .1 .1 .1 .0) (a .0) (a .1 .0) (a .1 .1 .0) (a .1 .1 .1 .0) (a .1 .1 .1 .1 .0) (a .1 .1 .1 .1 .1 .0) (a .1 .1 .1 .1 .1 .1 .0) (a .1 .1 .1 .1 .1 .1 .1 .0) (are .1 .1 .0 .0 .1) (are .1 .1 .1 .0 .0 .1) (are .1 .1 .1 .1 .0) (are .1 .1 .1 .1 .1 .0) (are .1 .1 .1 .1 .1 .1 .0) (are .1 .1 .1 .1 .1 .1 .1 .0) pre 𝓣 known-went known-step known-halts known-ended known-next-of))
-
+    (known-went : Triple 𝓤 (𝓣 .C #went) (tripleOf 𝓤 H A went.signature (went.spec 𝓤 H A mem run)))
+    (known-step : Triple 𝓤 (𝓣 .C #step) (tripleOf 𝓤 H A step.signature (step.spec 𝓤 H A mem run)))
+    (known-halts : Triple 𝓤 (𝓣 .C #halts) (tripleOf 𝓤 H A halts.signature (halts.spec 𝓤 H A mem run)))
+    (known-ended : Triple 𝓤 (𝓣 .C #ended) (tripleOf 𝓤 H A ended.signature (ended.spec 𝓤 H A mem run)))
+    (known-next-of : Triple 𝓤 (𝓣 .C #next-of) (tripleOf 𝓤 H A next-of.signature (next-of.spec 𝓤 H A mem run))) where
   meets : Meets 𝓤 H A f.signature (WpFn 𝓤 H (𝓣 .C) (𝓣 .Λ) mine.function) (f.spec 𝓤 H A mem run)
   meets = walk-meets 𝓤 H A f.ended stayed W (goes-none-ref 𝓤 H A W 4 (0 ∷ []) tt (arrayOf (plain (λ _. u32)) 4096) yes, (goes-gave-ref 𝓤 H A W 4 1 tt (arrayOf (plain (λ _. i32)) 8224), (goes-gave-slice 𝓤 H A W 4 2 tt (plain (λ _. recs .type)), (goes-gave-slice 𝓤 H A W 4 3 tt (plain (λ _. i32)), (goes-none 𝓤 H A W 4 (λ _. words32 .type) yes (λ κs x f. refl), (goes-none 𝓤 H A W 4 (λ _. usizes .type) yes (λ κs x f. refl), (goes-none 𝓤 H A W 4 (λ _. words32 .type) yes (λ κs x f. refl), (goes-none 𝓤 H A W 4 (λ _. registers .type) yes (λ κs x f. refl), tt))))))))
-      (f.clauses 𝓤 H A mem run) (WpFn 𝓤 H (𝓣 .C) (𝓣 .Λ) mine.function) (WpFn-mono 𝓤 H (W .laws) 𝓣 mine.function) walks
+      (f.clauses 𝓤 H A mem run) (WpFn 𝓤 H (𝓣 .C) (𝓣 .Λ) mine.function) (WpFn-mono 𝓤 H (W .laws) 𝓣 mine.function)
+      (walked 𝓤 H A f.ended stayed (f.clauses 𝓤 H A mem run) (WpFn 𝓤 H (𝓣 .C) (𝓣 .Λ) mine.function)
+      (λ κs. (ptr-vals, (ptr-vals, (slice-vals, (slice-vals, ((λ (x : ℕ). words32 .val x ∷ []), ((λ (x : ℕ). usizes .val x ∷ []), ((λ (x : ℕ). words32 .val x ∷ []), ((λ (x : registers .type .Denot). registers .val x ∷ []), tt)))))))))
+      (λ κs. (shr-tells (named 0) (κs .0) (Array u32 tt 4096), (mut-tells (named 1) (κs .1 .0) (Array i32 tt 8224), (mut-slice-tells (named 2) (κs .1 .1 .0) (recs .type), (mut-slice-tells (named 3) (κs .1 .1 .1 .0) i32, (words32 .tells, (usizes .tells, (words32 .tells, (registers .tells, tt)))))))))
+      (λ κs qs bounds a g are. needs 𝓤 (said.Pre ((a .0) .now) ((a .1 .0) .now) ((a .1 .1 .0) .now) ((a .1 .1 .1 .0) .now) (a .1 .1 .1 .1 .0) (a .1 .1 .1 .1 .1 .0) (a .1 .1 .1 .1 .1 .1 .1 .0)) _ (λ pre. walk 𝓤 H A W mem run (κs .0) (κs .1 .0) (κs .1 .1 .0) (κs .1 .1 .1 .0) (qs .0) (qs .1 .0) (qs .1 .1 .0) (qs .1 .1 .1 .0) (a .0) (a .1 .0) (a .1 .1 .0) (a .1 .1 .1 .0) (a .1 .1 .1 .1 .0) (a .1 .1 .1 .1 .1 .0) (a .1 .1 .1 .1 .1 .1 .0) (a .1 .1 .1 .1 .1 .1 .1 .0) (are .1 .1 .0 .0 .1) (are .1 .1 .1 .0 .0 .1) (are .1 .1 .1 .1 .0) (are .1 .1 .1 .1 .1 .0) (are .1 .1 .1 .1 .1 .1 .0) (are .1 .1 .1 .1 .1 .1 .1 .0) pre 𝓣 known-went known-step known-halts known-ended known-next-of)))
 
 pub run-spec : {M : Type 1} → stated.statement M
 unfolding mine.routine tablesOf
 run-spec 𝓤 H 𝓜 𝓖 𝓡 =
-    entered 𝓤 H (tripleOf 𝓤 H (𝓖 .A) f.signature (f.spec 𝓤 H (𝓖 .A) (𝓜 .mem) (𝓡 .run)))
-    (tables 𝓤 H 𝓜 𝓡 mine.env .C) (tables 𝓤 H 𝓜 𝓡 mine.env .Λ) #me mine.function (mine.unfolded 𝓤 H 𝓜 𝓡)
+    by-walk 𝓤 H 𝓜 𝓡 mine.env #me mine.function (tripleOf 𝓤 H (𝓖 .A) f.signature (f.spec 𝓤 H (𝓖 .A) (𝓜 .mem) (𝓡 .run))) (mine.unfolded 𝓤 H 𝓜 𝓡)
     (meets 𝓤 H (𝓖 .A) (givenOf 𝓤 H 𝓜 𝓖) (𝓜 .mem) (𝓡 .run) (tablesOf 𝓤 H 𝓜 (tables 𝓤 H 𝓜 𝓡 mine.env))
-    (cited 𝓤 H (Calls-went 𝓤 H (𝓖 .A) (𝓜 .mem) (𝓡 .run)) 𝓜 𝓡 mine.env #went went-def.routine mine.calls-chain-step·went (went-thm.met 𝓤 H 𝓜 𝓖 𝓡))
-    (cited 𝓤 H (Calls-step 𝓤 H (𝓖 .A) (𝓜 .mem) (𝓡 .run)) 𝓜 𝓡 mine.env #step step-def.routine mine.calls-chain-step·step (step-thm.met 𝓤 H 𝓜 𝓖 𝓡))
-    (cited 𝓤 H (Calls-halts 𝓤 H (𝓖 .A) (𝓜 .mem) (𝓡 .run)) 𝓜 𝓡 mine.env #halts halts-def.routine mine.calls-chain-run·ending·halts (halts-thm.met 𝓤 H 𝓜 𝓖 𝓡))
-    (cited 𝓤 H (Calls-ended 𝓤 H (𝓖 .A) (𝓜 .mem) (𝓡 .run)) 𝓜 𝓡 mine.env #ended ended-def.routine mine.calls-chain-run·ending·ended (ended-thm.met 𝓤 H 𝓜 𝓖 𝓡))
-    (cited 𝓤 H (Calls-next-of 𝓤 H (𝓖 .A) (𝓜 .mem) (𝓡 .run)) 𝓜 𝓡 mine.env #next-of next-of-def.routine mine.calls-chain-run·ending·next-of (next-of-thm.met 𝓤 H 𝓜 𝓖 𝓡)))
+    (cited 𝓤 H (tripleOf 𝓤 H (𝓖 .A) went.signature (went.spec 𝓤 H (𝓖 .A) (𝓜 .mem) (𝓡 .run))) 𝓜 𝓡 mine.env #went went-def.routine mine.calls-chain-step·went (went-thm.met 𝓤 H 𝓜 𝓖 𝓡))
+    (cited 𝓤 H (tripleOf 𝓤 H (𝓖 .A) step.signature (step.spec 𝓤 H (𝓖 .A) (𝓜 .mem) (𝓡 .run))) 𝓜 𝓡 mine.env #step step-def.routine mine.calls-chain-step·step (step-thm.met 𝓤 H 𝓜 𝓖 𝓡))
+    (cited 𝓤 H (tripleOf 𝓤 H (𝓖 .A) halts.signature (halts.spec 𝓤 H (𝓖 .A) (𝓜 .mem) (𝓡 .run))) 𝓜 𝓡 mine.env #halts halts-def.routine mine.calls-chain-run·ending·halts (halts-thm.met 𝓤 H 𝓜 𝓖 𝓡))
+    (cited 𝓤 H (tripleOf 𝓤 H (𝓖 .A) ended.signature (ended.spec 𝓤 H (𝓖 .A) (𝓜 .mem) (𝓡 .run))) 𝓜 𝓡 mine.env #ended ended-def.routine mine.calls-chain-run·ending·ended (ended-thm.met 𝓤 H 𝓜 𝓖 𝓡))
+    (cited 𝓤 H (tripleOf 𝓤 H (𝓖 .A) next-of.signature (next-of.spec 𝓤 H (𝓖 .A) (𝓜 .mem) (𝓡 .run))) 𝓜 𝓡 mine.env #next-of next-of-def.routine mine.calls-chain-run·ending·next-of (next-of-thm.met 𝓤 H 𝓜 𝓖 𝓡)))

@@ -20,7 +20,7 @@ use contract.Monad.{Fun}
 use contract.Running.{givenOf, tables, tablesOf}
 use types.Kit.{Given, ⋆, _$_, _∵_, !, qed, by, move}
 use types.Run.{and-then, no-more, bin}
-use sound.WpLaws.{WpFn-mono, FmC, fmOf}
+use sound.WpLaws.{WpFn-mono, fmOf}
 use denote.Builtin.{Array, u32, i32}
 use denote.Ref.{RefT, ptr-vals, shr-tells, mut-tells}
 use denote.Slice.{Room, slice-vals, mut-slice-tells}
@@ -28,14 +28,14 @@ use denote.Signature.{plain}
 use denote.Signature.Array.{arrayOf}
 use denote.Triple.Entry.{onEntry}
 use denote.Triple.Spec.{Meets, tripleOf}
-use denote.Triple.Statement.{Contract, Triple}
-use denote.Triple.Table.{entered, cited}
-use denote.Triple.Walked.{needs, Stays, stay-none-ref, stay-none, gave-ref, gave-slice, walkOf, Walks, ends-at, walked, goes-none-ref, goes-none, goes-gave-ref, goes-gave-slice, walk-meets}
+use denote.Triple.Statement.{Triple}
+use denote.Triple.Table.{cited}
+use denote.Triple.Walked.{needs, Stays, stay-none-ref, stay-none, gave-ref, gave-slice, walkOf, ends-at, walked, goes-none-ref, goes-none, goes-gave-ref, goes-gave-slice, walk-meets}
 use denote.Exit.{yes}
 use Rattle.walks.specs.Data.{Good, typed, usizes, words32, bools}
 use Rattle.walks.specs.Loans.{Loan, loanSlice, loanRef, shrRef, shrSlice, mutRef, mutSlice, gives}
 use Rattle.walks.specs.Params.{Par, dat, brw, denots, valss, vals, lfts, shares, ins, outs}
-use Rattle.walks.specs.Functions.{arrives, leaves-with}
+use Rattle.walks.specs.Functions.{arrives, leaves-with, by-walk}
 use Rattle.walks.specs.Calls.{to, calls-by}
 use Rattle.walks.specs.Clauses.{asks-all}
 use Rattle.walks.specs.Frames.{begins}
@@ -105,80 +105,41 @@ use Rattle.chain_step.proofs.stepped.step.Code as mine
 use Rattle.chain_step.proofs.stepped.step.Proof.Facts as facts
 use Rattle.chain_step.proofs.stepped.step.Proof.Said as said
 
-abbrev Calls-leave : {M : Type 1} (𝓤 : URA M) (H : Heap 𝓤) (A : Atoms 𝓤) → (Memory → SProp 𝓤) → (Routine → Fun 𝓤) → Contract 𝓤
-Calls-leave 𝓤 H A mem run = tripleOf 𝓤 H A leave.signature (leave.spec 𝓤 H A mem run)
-
 abbrev for-leave : Loan → List ℕ → Loan → List (recs .type .Denot) → registers .type .Denot → List Par
 for-leave h0 x0 h1 x1 x2 = brw (shrRef (Array u32 tt 4096)) h0 x0 ∷ brw (shrSlice (recs .type)) h1 x1 ∷ dat registers x2 ∷ []
-
-abbrev Calls-acted : {M : Type 1} (𝓤 : URA M) (H : Heap 𝓤) (A : Atoms 𝓤) → (Memory → SProp 𝓤) → (Routine → Fun 𝓤) → Contract 𝓤
-Calls-acted 𝓤 H A mem run = tripleOf 𝓤 H A acted.signature (acted.spec 𝓤 H A mem run)
 
 abbrev for-acted : Loan → List ℕ → Loan → List ℤ → Loan → List (recs .type .Denot) → ℕ → registers .type .Denot → List Par
 for-acted h0 x0 h1 x1 h2 x2 x3 x4 = brw (shrRef (Array u32 tt 4096)) h0 x0 ∷ brw (mutRef (Array i32 tt 8224)) h1 x1 ∷ brw (shrSlice (recs .type)) h2 x2 ∷ dat usizes x3 ∷ dat registers x4 ∷ []
 
-abbrev Calls-is-done : {M : Type 1} (𝓤 : URA M) (H : Heap 𝓤) (A : Atoms 𝓤) → (Memory → SProp 𝓤) → (Routine → Fun 𝓤) → Contract 𝓤
-Calls-is-done 𝓤 H A mem run = tripleOf 𝓤 H A is-done.signature (is-done.spec 𝓤 H A mem run)
-
 abbrev for-is-done : moveds .type .Denot → List Par
 for-is-done x0 = dat moveds x0 ∷ []
-
-abbrev Calls-turn-of : {M : Type 1} (𝓤 : URA M) (H : Heap 𝓤) (A : Atoms 𝓤) → (Memory → SProp 𝓤) → (Routine → Fun 𝓤) → Contract 𝓤
-Calls-turn-of 𝓤 H A mem run = tripleOf 𝓤 H A turn-of.signature (turn-of.spec 𝓤 H A mem run)
 
 abbrev for-turn-of : moveds .type .Denot → List Par
 for-turn-of x0 = dat moveds x0 ∷ []
 
-abbrev Calls-asks : {M : Type 1} (𝓤 : URA M) (H : Heap 𝓤) (A : Atoms 𝓤) → (Memory → SProp 𝓤) → (Routine → Fun 𝓤) → Contract 𝓤
-Calls-asks 𝓤 H A mem run = tripleOf 𝓤 H A asks.signature (asks.spec 𝓤 H A mem run)
-
 abbrev for-asks : moveds .type .Denot → List Par
 for-asks x0 = dat moveds x0 ∷ []
-
-abbrev Calls-answered : {M : Type 1} (𝓤 : URA M) (H : Heap 𝓤) (A : Atoms 𝓤) → (Memory → SProp 𝓤) → (Routine → Fun 𝓤) → Contract 𝓤
-Calls-answered 𝓤 H A mem run = tripleOf 𝓤 H A answered.signature (answered.spec 𝓤 H A mem run)
 
 abbrev for-answered : Loan → List ℤ → Loan → List ℤ → ℕ → registers .type .Denot → moveds .type .Denot → List Par
 for-answered h0 x0 h1 x1 x2 x3 x4 = brw (mutSlice i32) h0 x0 ∷ brw (mutRef (Array i32 tt 8224)) h1 x1 ∷ dat words32 x2 ∷ dat registers x3 ∷ dat moveds x4 ∷ []
 
-abbrev Calls-enters : {M : Type 1} (𝓤 : URA M) (H : Heap 𝓤) (A : Atoms 𝓤) → (Memory → SProp 𝓤) → (Routine → Fun 𝓤) → Contract 𝓤
-Calls-enters 𝓤 H A mem run = tripleOf 𝓤 H A enters.signature (enters.spec 𝓤 H A mem run)
-
 abbrev for-enters : moveds .type .Denot → List Par
 for-enters x0 = dat moveds x0 ∷ []
-
-abbrev Calls-entry-of : {M : Type 1} (𝓤 : URA M) (H : Heap 𝓤) (A : Atoms 𝓤) → (Memory → SProp 𝓤) → (Routine → Fun 𝓤) → Contract 𝓤
-Calls-entry-of 𝓤 H A mem run = tripleOf 𝓤 H A entry-of.signature (entry-of.spec 𝓤 H A mem run)
 
 abbrev for-entry-of : moveds .type .Denot → List Par
 for-entry-of x0 = dat moveds x0 ∷ []
 
-abbrev Calls-enter : {M : Type 1} (𝓤 : URA M) (H : Heap 𝓤) (A : Atoms 𝓤) → (Memory → SProp 𝓤) → (Routine → Fun 𝓤) → Contract 𝓤
-Calls-enter 𝓤 H A mem run = tripleOf 𝓤 H A enter.signature (enter.spec 𝓤 H A mem run)
-
 abbrev for-enter : Loan → List ℕ → Loan → List ℤ → Loan → List (recs .type .Denot) → registers .type .Denot → entries .type .Denot → List Par
 for-enter h0 x0 h1 x1 h2 x2 x3 x4 = brw (shrRef (Array u32 tt 4096)) h0 x0 ∷ brw (mutRef (Array i32 tt 8224)) h1 x1 ∷ brw (mutSlice (recs .type)) h2 x2 ∷ dat registers x3 ∷ dat entries x4 ∷ []
-
-abbrev Calls-went : {M : Type 1} (𝓤 : URA M) (H : Heap 𝓤) (A : Atoms 𝓤) → (Memory → SProp 𝓤) → (Routine → Fun 𝓤) → Contract 𝓤
-Calls-went 𝓤 H A mem run = tripleOf 𝓤 H A went.signature (went.spec 𝓤 H A mem run)
 
 abbrev for-went : registers .type .Denot → List Par
 for-went x0 = dat registers x0 ∷ []
 
-abbrev Calls-home-of : {M : Type 1} (𝓤 : URA M) (H : Heap 𝓤) (A : Atoms 𝓤) → (Memory → SProp 𝓤) → (Routine → Fun 𝓤) → Contract 𝓤
-Calls-home-of 𝓤 H A mem run = tripleOf 𝓤 H A home-of.signature (home-of.spec 𝓤 H A mem run)
-
 abbrev for-home-of : moveds .type .Denot → List Par
 for-home-of x0 = dat moveds x0 ∷ []
 
-abbrev Calls-read : {M : Type 1} (𝓤 : URA M) (H : Heap 𝓤) (A : Atoms 𝓤) → (Memory → SProp 𝓤) → (Routine → Fun 𝓤) → Contract 𝓤
-Calls-read 𝓤 H A mem run = tripleOf 𝓤 H A read.signature (read.spec 𝓤 H A mem run)
-
 abbrev for-read : Loan → List (recs .type .Denot) → ℕ → List Par
 for-read h0 x0 x1 = brw (shrSlice (recs .type)) h0 x0 ∷ dat usizes x1 ∷ []
-
-abbrev Calls-resumed : {M : Type 1} (𝓤 : URA M) (H : Heap 𝓤) (A : Atoms 𝓤) → (Memory → SProp 𝓤) → (Routine → Fun 𝓤) → Contract 𝓤
-Calls-resumed 𝓤 H A mem run = tripleOf 𝓤 H A resumed.signature (resumed.spec 𝓤 H A mem run)
 
 abbrev for-resumed : Loan → List ℕ → registers .type .Denot → moveds .type .Denot → recs .type .Denot → List Par
 for-resumed h0 x0 x1 x2 x3 = brw (shrRef (Array u32 tt 4096)) h0 x0 ∷ dat registers x1 ∷ dat moveds x2 ∷ dat recs x3 ∷ []
@@ -190,32 +151,8 @@ module _ {M : Type 1} (𝓤 : URA M) (H : Heap 𝓤) (A : Atoms 𝓤) (W : Given
     (code# : RefT (List ℕ)) (cells# : RefT (List ℤ)) (records# : RefT (List (recs .type .Denot))) (table# : RefT (List ℤ)) (limit : ℕ) (activations : ℕ) (here : registers .type .Denot)
     (room-records : Room (recs .type) (length (records# .now))) (room-table : Room i32 (length (table# .now))) (g-limit : Good words32 limit) (g-activations : Good usizes activations) (g-here : Good registers here)
     (pre : said.Pre (code# .now) (cells# .now) (records# .now) (table# .now) limit activations here) where
-  abbrev h-code : Loan
-  h-code = loanRef κ0 q0 code#
-
-  abbrev code : List ℕ
-  code = code# .now
-
-  abbrev h-cells : Loan
-  h-cells = loanRef κ1 q1 cells#
-
-  abbrev cells : List ℤ
-  cells = cells# .now
-
-  abbrev h-records : Loan
-  h-records = loanSlice κ2 q2 records#
-
-  abbrev records : List (recs .type .Denot)
-  records = records# .now
-
-  abbrev h-table : Loan
-  h-table = loanSlice κ3 q3 table#
-
-  abbrev table : List ℤ
-  table = table# .now
-
   abbrev ps : List Par
-  ps = brw (shrRef (Array u32 tt 4096)) h-code code ∷ brw (mutRef (Array i32 tt 8224)) h-cells cells ∷ brw (mutSlice (recs .type)) h-records records ∷ brw (mutSlice i32) h-table table ∷ dat words32 limit ∷ dat usizes activations ∷ dat registers here ∷ []
+  ps = brw (shrRef (Array u32 tt 4096)) (loanRef κ0 q0 code#) (code# .now) ∷ brw (mutRef (Array i32 tt 8224)) (loanRef κ1 q1 cells#) (cells# .now) ∷ brw (mutSlice (recs .type)) (loanSlice κ2 q2 records#) (records# .now) ∷ brw (mutSlice i32) (loanSlice κ3 q3 table#) (table# .now) ∷ dat words32 limit ∷ dat usizes activations ∷ dat registers here ∷ []
 
   abbrev bound : walkOf 𝓤 H A f.ended stayed (f.clauses 𝓤 H A mem run) .Ghost
   bound = ((lfts ps, shares ps, tt, denots 0 ps, valss 0 ps), tt)
@@ -223,27 +160,24 @@ module _ {M : Type 1} (𝓤 : URA M) (H : Heap 𝓤) (A : Atoms 𝓤) (W : Given
   abbrev Post : Val → SProp 𝓤
   Post = walkOf 𝓤 H A f.ended stayed (f.clauses 𝓤 H A mem run) .post bound
 
-  exits : (r : turns .type .Denot) (cells′ : List ℤ) (records′ : List (recs .type .Denot)) (table′ : List ℤ) → length records′ ≡ length records → length table′ ≡ length table → Good turns r → said.Said code cells records table limit activations here r cells′ records′ table′ → ent 𝓤 (⋆ 𝓤 H A (outs 𝓤 0 ps (tt, (cells′, (records′, (table′, (tt, (tt, (tt, tt))))))))) (Post (turns .val r))
-  exits r cells′ records′ table′ same-records same-table good says = via 𝓤 _ (leaves-with 𝓤 H A W ps (tt, (cells′, (records′, (table′, (tt, (tt, (tt, tt))))))) (g-limit, (g-activations, (g-here, tt))) turns r good (said.Said code cells records table limit activations here r cells′ records′ table′) says)
+  exits : (r : turns .type .Denot) (cells′ : List ℤ) (records′ : List (recs .type .Denot)) (table′ : List ℤ) → length records′ ≡ length (records# .now) → length table′ ≡ length (table# .now) → Good turns r → said.Said (code# .now) (cells# .now) (records# .now) (table# .now) limit activations here r cells′ records′ table′ → ent 𝓤 (⋆ 𝓤 H A (outs 𝓤 0 ps (tt, (cells′, (records′, (table′, (tt, (tt, (tt, tt))))))))) (Post (turns .val r))
+  exits r cells′ records′ table′ same-records same-table good says = via 𝓤 _ (leaves-with 𝓤 H A W ps (tt, (cells′, (records′, (table′, (tt, (tt, (tt, tt))))))) (g-limit, (g-activations, (g-here, tt))) turns r good (said.Said (code# .now) (cells# .now) (records# .now) (table# .now) limit activations here r cells′ records′ table′) says)
       (ends-at 𝓤 H A f.ended stayed (f.clauses 𝓤 H A mem run) W bound (turns .val r) r (tt, (cells′, (records′, (table′, (tt, (tt, (tt, tt))))))) (tt, (tt, (same-records, (same-table, (tt, (tt, (tt, tt))))))))
 
   module _ (𝓣 : Tables 𝓤 H)
-      (known-leave : Triple 𝓤 (𝓣 .C #leave) (Calls-leave 𝓤 H A mem run))
-      (known-acted : Triple 𝓤 (𝓣 .C #acted) (Calls-acted 𝓤 H A mem run))
-      (known-is-done : Triple 𝓤 (𝓣 .C #is-done) (Calls-is-done 𝓤 H A mem run))
-      (known-turn-of : Triple 𝓤 (𝓣 .C #turn-of) (Calls-turn-of 𝓤 H A mem run))
-      (known-asks : Triple 𝓤 (𝓣 .C #asks) (Calls-asks 𝓤 H A mem run))
-      (known-answered : Triple 𝓤 (𝓣 .C #answered) (Calls-answered 𝓤 H A mem run))
-      (known-enters : Triple 𝓤 (𝓣 .C #enters) (Calls-enters 𝓤 H A mem run))
-      (known-entry-of : Triple 𝓤 (𝓣 .C #entry-of) (Calls-entry-of 𝓤 H A mem run))
-      (known-enter : Triple 𝓤 (𝓣 .C #enter) (Calls-enter 𝓤 H A mem run))
-      (known-went : Triple 𝓤 (𝓣 .C #went) (Calls-went 𝓤 H A mem run))
-      (known-home-of : Triple 𝓤 (𝓣 .C #home-of) (Calls-home-of 𝓤 H A mem run))
-      (known-read : Triple 𝓤 (𝓣 .C #read) (Calls-read 𝓤 H A mem run))
-      (known-resumed : Triple 𝓤 (𝓣 .C #resumed) (Calls-resumed 𝓤 H A mem run)) where
-    fm : FmC 𝓤 H (W .laws) (𝓣 .C)
-    fm = fmOf 𝓤 H (W .laws) 𝓣
-
+      (known-leave : Triple 𝓤 (𝓣 .C #leave) (tripleOf 𝓤 H A leave.signature (leave.spec 𝓤 H A mem run)))
+      (known-acted : Triple 𝓤 (𝓣 .C #acted) (tripleOf 𝓤 H A acted.signature (acted.spec 𝓤 H A mem run)))
+      (known-is-done : Triple 𝓤 (𝓣 .C #is-done) (tripleOf 𝓤 H A is-done.signature (is-done.spec 𝓤 H A mem run)))
+      (known-turn-of : Triple 𝓤 (𝓣 .C #turn-of) (tripleOf 𝓤 H A turn-of.signature (turn-of.spec 𝓤 H A mem run)))
+      (known-asks : Triple 𝓤 (𝓣 .C #asks) (tripleOf 𝓤 H A asks.signature (asks.spec 𝓤 H A mem run)))
+      (known-answered : Triple 𝓤 (𝓣 .C #answered) (tripleOf 𝓤 H A answered.signature (answered.spec 𝓤 H A mem run)))
+      (known-enters : Triple 𝓤 (𝓣 .C #enters) (tripleOf 𝓤 H A enters.signature (enters.spec 𝓤 H A mem run)))
+      (known-entry-of : Triple 𝓤 (𝓣 .C #entry-of) (tripleOf 𝓤 H A entry-of.signature (entry-of.spec 𝓤 H A mem run)))
+      (known-enter : Triple 𝓤 (𝓣 .C #enter) (tripleOf 𝓤 H A enter.signature (enter.spec 𝓤 H A mem run)))
+      (known-went : Triple 𝓤 (𝓣 .C #went) (tripleOf 𝓤 H A went.signature (went.spec 𝓤 H A mem run)))
+      (known-home-of : Triple 𝓤 (𝓣 .C #home-of) (tripleOf 𝓤 H A home-of.signature (home-of.spec 𝓤 H A mem run)))
+      (known-read : Triple 𝓤 (𝓣 .C #read) (tripleOf 𝓤 H A read.signature (read.spec 𝓤 H A mem run)))
+      (known-resumed : Triple 𝓤 (𝓣 .C #resumed) (tripleOf 𝓤 H A resumed.signature (resumed.spec 𝓤 H A mem run))) where
     walk : ent 𝓤 (onEntry 𝓤 H A f.signature (lfts ps) (shares ps) (denots 0 ps) (valss 0 ps)) (WpFn 𝓤 H (𝓣 .C) (𝓣 .Λ) mine.function (vals ps) Post)
     walk = via 𝓤 (⋆ 𝓤 H A (ins 𝓤 ps)) (arrives 𝓤 H A W 0 ps) (qed W (ins 𝓤 ps) ∵
         begins ! (𝓣 .C) (𝓣 .Λ) mine.function (vals ps) Post ((tt, tt), ((tt, tt), ((tt, (tt, (record { fits = room-records .0 }, tt))), ((tt, (tt, (record { fits = room-table .0 }, tt))), (typed 𝓤 H A W words32 limit g-limit, (typed 𝓤 H A W usizes activations g-activations, (typed 𝓤 H A W registers here g-here, tt))))))) (λ β. move ! (1 ∷ 2 ∷ 3 ∷ 4 ∷ []) $
@@ -252,34 +186,34 @@ module _ {M : Type 1} (𝓤 : URA M) (H : Heap 𝓤) (A : Atoms 𝓤) (W : Given
         (λ y1.
         puts ! 4 11 refl (lent-ptr ! 4 3 refl refl tt refl refl) tt (tt, tt) $
         puts ! 4 12 refl (lent-slice ! 4 3 11 refl refl refl tt tt refl refl) tt (tt, (tt, (record { fits = room-records .0 }, tt))) $
-        move ! (2 ∷ []) $ shares-slice ! tt (recs .type) h-records records (λ ν1-records δ1-records.
-        move ! (2 ∷ 0 ∷ []) $ calls-by ! fm (Calls-leave 𝓤 H A mem run) known-leave (to (for-leave h-code code (relent h-records ν1-records δ1-records) records here)) (for-leave h-code code (relent h-records ν1-records δ1-records) records here) refl (g-here, tt) _ (facts.asks-leave code cells records table limit activations here pre (eqb→eq (here .at) (here .end) y1)) (id⊢ 𝓤 _) turns _ (λ v. id⊢ 𝓤 _)
+        move ! (2 ∷ []) $ shares-slice ! tt (recs .type) (loanSlice κ2 q2 records#) (records# .now) (λ ν1-records δ1-records.
+        move ! (2 ∷ 0 ∷ []) $ calls-by ! (fmOf 𝓤 H (W .laws) 𝓣) (tripleOf 𝓤 H A leave.signature (leave.spec 𝓤 H A mem run)) known-leave (to (for-leave (loanRef κ0 q0 code#) (code# .now) (relent (loanSlice κ2 q2 records#) ν1-records δ1-records) (records# .now) here)) (for-leave (loanRef κ0 q0 code#) (code# .now) (relent (loanSlice κ2 q2 records#) ν1-records δ1-records) (records# .now) here) refl (g-here, tt) _ (facts.asks-leave (code# .now) (cells# .now) (records# .now) (table# .now) limit activations here pre (eqb→eq (here .at) (here .end) y1)) (id⊢ 𝓤 _) turns _ (λ v. id⊢ 𝓤 _)
         (and-then ! (var ! 5 1 refl refl tt) (and-then ! (var ! 5 12 refl refl tt) (and-then ! (var ! 5 7 refl refl tt) (no-more !)))) (λ leave1 _ g-leave1 e1 _.
         lands-in ! 5 0 refl tt (typed 𝓤 H A W turns leave1 g-leave1) $
-        move ! (1 ∷ 2 ∷ []) $ unshares-slice ! tt (recs .type) h-records records ν1-records δ1-records $
-        ends-early ! 4 Post refl refl refl tt $ move ! (2 ∷ []) $ gives ! (mutRef (Array i32 tt 8224)) h-cells cells $ move ! (1 ∷ []) $ gives ! (mutSlice (recs .type)) h-records records $ move ! (3 ∷ []) $ gives ! (mutSlice i32) h-table table $ move ! (3 ∷ 2 ∷ 1 ∷ 0 ∷ []) $ by ! (exits leave1 cells records table refl refl g-leave1 (facts.says-1 code cells records table limit activations here pre (eqb→eq (here .at) (here .end) y1) leave1 e1)))))
+        move ! (1 ∷ 2 ∷ []) $ unshares-slice ! tt (recs .type) (loanSlice κ2 q2 records#) (records# .now) ν1-records δ1-records $
+        ends-early ! 4 Post refl refl refl tt $ move ! (2 ∷ []) $ gives ! (mutRef (Array i32 tt 8224)) (loanRef κ1 q1 cells#) (cells# .now) $ move ! (1 ∷ []) $ gives ! (mutSlice (recs .type)) (loanSlice κ2 q2 records#) (records# .now) $ move ! (3 ∷ []) $ gives ! (mutSlice i32) (loanSlice κ3 q3 table#) (table# .now) $ move ! (3 ∷ 2 ∷ 1 ∷ 0 ∷ []) $ by ! (exits leave1 (cells# .now) (records# .now) (table# .now) refl refl g-leave1 (facts.says-1 (code# .now) (cells# .now) (records# .now) (table# .now) limit activations here pre (eqb→eq (here .at) (here .end) y1) leave1 e1)))))
         (λ y1.
         puts ! 4 13 refl (lent ! 4 2 refl refl tt) tt (tt, tt) $
         puts ! 4 14 refl (lent-ptr ! 4 3 refl refl tt refl refl) tt (tt, tt) $
         puts ! 4 15 refl (lent-slice ! 4 3 14 refl refl refl tt tt refl refl) tt (tt, (tt, (record { fits = room-records .0 }, tt))) $
-        move ! (1 ∷ []) $ lends-ref ! tt (Array i32 tt 8224) h-cells cells (λ p2-cells ν2-cells δ2-cells.
-        move ! (3 ∷ []) $ shares-slice ! tt (recs .type) h-records records (λ ν2-records δ2-records.
-        move ! (4 ∷ 2 ∷ 0 ∷ []) $ calls-by ! fm (Calls-acted 𝓤 H A mem run) known-acted (to (for-acted h-code code (relent h-cells ν2-cells δ2-cells) cells (relent h-records ν2-records δ2-records) records activations here)) (for-acted h-code code (relent h-cells ν2-cells δ2-cells) cells (relent h-records ν2-records δ2-records) records activations here) refl (g-activations, (g-here, tt)) _ (facts.asks-acted code cells records table limit activations here pre (not-equal (here .at) (here .end) y1)) (id⊢ 𝓤 _) moveds _ (λ v. id⊢ 𝓤 _)
+        move ! (1 ∷ []) $ lends-ref ! tt (Array i32 tt 8224) (loanRef κ1 q1 cells#) (cells# .now) (λ p2-cells ν2-cells δ2-cells.
+        move ! (3 ∷ []) $ shares-slice ! tt (recs .type) (loanSlice κ2 q2 records#) (records# .now) (λ ν2-records δ2-records.
+        move ! (4 ∷ 2 ∷ 0 ∷ []) $ calls-by ! (fmOf 𝓤 H (W .laws) 𝓣) (tripleOf 𝓤 H A acted.signature (acted.spec 𝓤 H A mem run)) known-acted (to (for-acted (loanRef κ0 q0 code#) (code# .now) (relent (loanRef κ1 q1 cells#) ν2-cells δ2-cells) (cells# .now) (relent (loanSlice κ2 q2 records#) ν2-records δ2-records) (records# .now) activations here)) (for-acted (loanRef κ0 q0 code#) (code# .now) (relent (loanRef κ1 q1 cells#) ν2-cells δ2-cells) (cells# .now) (relent (loanSlice κ2 q2 records#) ν2-records δ2-records) (records# .now) activations here) refl (g-activations, (g-here, tt)) _ (facts.asks-acted (code# .now) (cells# .now) (records# .now) (table# .now) limit activations here pre (not-equal (here .at) (here .end) y1)) (id⊢ 𝓤 _) moveds _ (λ v. id⊢ 𝓤 _)
         (and-then ! (var ! 6 1 refl refl tt) (and-then ! (var ! 6 13 refl refl tt) (and-then ! (var ! 6 15 refl refl tt) (and-then ! (var ! 6 6 refl refl tt) (and-then ! (var ! 6 7 refl refl tt) (no-more !)))))) (λ done2 ws2 g-done2 e2 _.
         lands-in ! 6 8 refl tt (typed 𝓤 H A W moveds done2 g-done2) $
-        move ! (1 ∷ 4 ∷ []) $ back-ref ! tt (Array i32 tt 8224) h-cells cells (ws2 .1 .0) ν2-cells δ2-cells p2-cells $
-        move ! (2 ∷ 3 ∷ []) $ unshares-slice ! tt (recs .type) h-records records ν2-records δ2-records $
-        calls-by ! fm (Calls-is-done 𝓤 H A mem run) known-is-done (to (for-is-done done2)) (for-is-done done2) refl (g-done2, tt) (Unit {0}) tt (asks-all 𝓤 H A (for-is-done done2) []) bools _ (λ v. id⊢ 𝓤 _)
+        move ! (1 ∷ 4 ∷ []) $ back-ref ! tt (Array i32 tt 8224) (loanRef κ1 q1 cells#) (cells# .now) (ws2 .1 .0) ν2-cells δ2-cells p2-cells $
+        move ! (2 ∷ 3 ∷ []) $ unshares-slice ! tt (recs .type) (loanSlice κ2 q2 records#) (records# .now) ν2-records δ2-records $
+        calls-by ! (fmOf 𝓤 H (W .laws) 𝓣) (tripleOf 𝓤 H A is-done.signature (is-done.spec 𝓤 H A mem run)) known-is-done (to (for-is-done done2)) (for-is-done done2) refl (g-done2, tt) (Unit {0}) tt (asks-all 𝓤 H A (for-is-done done2) []) bools _ (λ v. id⊢ 𝓤 _)
         (and-then ! (var ! 4 8 refl refl tt) (no-more !)) (λ is-done3 _ g-is-done3 e3 _.
         lands-in ! 4 16 refl tt (tt, tt) $
         if-then ! (var ! 4 16 refl refl tt)
         (λ y2.
-        calls-by ! fm (Calls-turn-of 𝓤 H A mem run) known-turn-of (to (for-turn-of done2)) (for-turn-of done2) refl (g-done2, tt) (Unit {0}) tt (asks-all 𝓤 H A (for-turn-of done2) []) turns _ (λ v. id⊢ 𝓤 _)
+        calls-by ! (fmOf 𝓤 H (W .laws) 𝓣) (tripleOf 𝓤 H A turn-of.signature (turn-of.spec 𝓤 H A mem run)) known-turn-of (to (for-turn-of done2)) (for-turn-of done2) refl (g-done2, tt) (Unit {0}) tt (asks-all 𝓤 H A (for-turn-of done2) []) turns _ (λ v. id⊢ 𝓤 _)
         (and-then ! (var ! 4 8 refl refl tt) (no-more !)) (λ turn-of4 _ g-turn-of4 e4 _.
         lands-in ! 4 0 refl tt (typed 𝓤 H A W turns turn-of4 g-turn-of4) $
-        ends-early ! 4 Post refl refl refl tt $ move ! (1 ∷ []) $ gives ! (mutRef (Array i32 tt 8224)) h-cells (ws2 .1 .0) $ move ! (1 ∷ []) $ gives ! (mutSlice (recs .type)) h-records records $ move ! (3 ∷ []) $ gives ! (mutSlice i32) h-table table $ move ! (3 ∷ 2 ∷ 1 ∷ 0 ∷ []) $ by ! (exits turn-of4 (ws2 .1 .0) records table refl refl g-turn-of4 (facts.says-2 code cells records table limit activations here pre (not-equal (here .at) (here .end) y1) done2 (ws2 .1 .0) e2 is-done3 e3 (told is-done3 y2) turn-of4 e4))))
+        ends-early ! 4 Post refl refl refl tt $ move ! (1 ∷ []) $ gives ! (mutRef (Array i32 tt 8224)) (loanRef κ1 q1 cells#) (ws2 .1 .0) $ move ! (1 ∷ []) $ gives ! (mutSlice (recs .type)) (loanSlice κ2 q2 records#) (records# .now) $ move ! (3 ∷ []) $ gives ! (mutSlice i32) (loanSlice κ3 q3 table#) (table# .now) $ move ! (3 ∷ 2 ∷ 1 ∷ 0 ∷ []) $ by ! (exits turn-of4 (ws2 .1 .0) (records# .now) (table# .now) refl refl g-turn-of4 (facts.says-2 (code# .now) (cells# .now) (records# .now) (table# .now) limit activations here pre (not-equal (here .at) (here .end) y1) done2 (ws2 .1 .0) e2 is-done3 e3 (told is-done3 y2) turn-of4 e4))))
         (λ y2.
-        calls-by ! fm (Calls-asks 𝓤 H A mem run) known-asks (to (for-asks done2)) (for-asks done2) refl (g-done2, tt) (Unit {0}) tt (asks-all 𝓤 H A (for-asks done2) []) bools _ (λ v. id⊢ 𝓤 _)
+        calls-by ! (fmOf 𝓤 H (W .laws) 𝓣) (tripleOf 𝓤 H A asks.signature (asks.spec 𝓤 H A mem run)) known-asks (to (for-asks done2)) (for-asks done2) refl (g-done2, tt) (Unit {0}) tt (asks-all 𝓤 H A (for-asks done2) []) bools _ (λ v. id⊢ 𝓤 _)
         (and-then ! (var ! 4 8 refl refl tt) (no-more !)) (λ asks5 _ g-asks5 e5 _.
         lands-in ! 4 17 refl tt (tt, tt) $
         if-then ! (var ! 4 17 refl refl tt)
@@ -287,12 +221,12 @@ module _ {M : Type 1} (𝓤 : URA M) (H : Heap 𝓤) (A : Atoms 𝓤) (W : Given
         puts ! 4 18 refl (lent-ptr ! 4 4 refl refl tt refl refl) tt (tt, tt) $
         puts ! 4 19 refl (lent-slice ! 4 4 18 refl refl refl tt tt refl refl) tt (tt, (tt, (record { fits = room-table .0 }, tt))) $
         puts ! 4 20 refl (lent ! 4 2 refl refl tt) tt (tt, tt) $
-        move ! (3 ∷ 1 ∷ []) $ calls-by ! fm (Calls-answered 𝓤 H A mem run) known-answered (to (for-answered h-table table h-cells (ws2 .1 .0) limit here done2)) (for-answered h-table table h-cells (ws2 .1 .0) limit here done2) refl (g-limit, (g-here, (g-done2, tt))) _ (facts.asks-answered code cells records table limit activations here pre (not-equal (here .at) (here .end) y1) done2 (ws2 .1 .0) e2 is-done3 e3 (untold is-done3 y2) asks5 e5 (told asks5 y3)) (id⊢ 𝓤 _) turns _ (λ v. id⊢ 𝓤 _)
+        move ! (3 ∷ 1 ∷ []) $ calls-by ! (fmOf 𝓤 H (W .laws) 𝓣) (tripleOf 𝓤 H A answered.signature (answered.spec 𝓤 H A mem run)) known-answered (to (for-answered (loanSlice κ3 q3 table#) (table# .now) (loanRef κ1 q1 cells#) (ws2 .1 .0) limit here done2)) (for-answered (loanSlice κ3 q3 table#) (table# .now) (loanRef κ1 q1 cells#) (ws2 .1 .0) limit here done2) refl (g-limit, (g-here, (g-done2, tt))) _ (facts.asks-answered (code# .now) (cells# .now) (records# .now) (table# .now) limit activations here pre (not-equal (here .at) (here .end) y1) done2 (ws2 .1 .0) e2 is-done3 e3 (untold is-done3 y2) asks5 e5 (told asks5 y3)) (id⊢ 𝓤 _) turns _ (λ v. id⊢ 𝓤 _)
         (and-then ! (var ! 4 19 refl refl tt) (and-then ! (var ! 4 20 refl refl tt) (and-then ! (var ! 4 5 refl refl tt) (and-then ! (var ! 4 7 refl refl tt) (and-then ! (var ! 4 8 refl refl tt) (no-more !)))))) (λ answered6 ws6 g-answered6 e6 same6.
         lands-in ! 4 0 refl tt (typed 𝓤 H A W turns answered6 g-answered6) $
-        ends-early ! 4 Post refl refl refl tt $ move ! (2 ∷ []) $ gives ! (mutSlice (recs .type)) h-records records $ move ! (3 ∷ 2 ∷ 0 ∷ 1 ∷ []) $ by ! (exits answered6 (ws6 .1 .0) records (ws6 .0) refl (same6 .0) g-answered6 (facts.says-3 code cells records table limit activations here pre (not-equal (here .at) (here .end) y1) done2 (ws2 .1 .0) e2 is-done3 e3 (untold is-done3 y2) asks5 e5 (told asks5 y3) answered6 (ws6 .0) (ws6 .1 .0) e6 (same6 .0)))))
+        ends-early ! 4 Post refl refl refl tt $ move ! (2 ∷ []) $ gives ! (mutSlice (recs .type)) (loanSlice κ2 q2 records#) (records# .now) $ move ! (3 ∷ 2 ∷ 0 ∷ 1 ∷ []) $ by ! (exits answered6 (ws6 .1 .0) (records# .now) (ws6 .0) refl (same6 .0) g-answered6 (facts.says-3 (code# .now) (cells# .now) (records# .now) (table# .now) limit activations here pre (not-equal (here .at) (here .end) y1) done2 (ws2 .1 .0) e2 is-done3 e3 (untold is-done3 y2) asks5 e5 (told asks5 y3) answered6 (ws6 .0) (ws6 .1 .0) e6 (same6 .0)))))
         (λ y3.
-        calls-by ! fm (Calls-enters 𝓤 H A mem run) known-enters (to (for-enters done2)) (for-enters done2) refl (g-done2, tt) (Unit {0}) tt (asks-all 𝓤 H A (for-enters done2) []) bools _ (λ v. id⊢ 𝓤 _)
+        calls-by ! (fmOf 𝓤 H (W .laws) 𝓣) (tripleOf 𝓤 H A enters.signature (enters.spec 𝓤 H A mem run)) known-enters (to (for-enters done2)) (for-enters done2) refl (g-done2, tt) (Unit {0}) tt (asks-all 𝓤 H A (for-enters done2) []) bools _ (λ v. id⊢ 𝓤 _)
         (and-then ! (var ! 4 8 refl refl tt) (no-more !)) (λ enters7 _ g-enters7 e7 _.
         lands-in ! 4 21 refl tt (tt, tt) $
         if-then ! (var ! 4 21 refl refl tt)
@@ -300,72 +234,69 @@ module _ {M : Type 1} (𝓤 : URA M) (H : Heap 𝓤) (A : Atoms 𝓤) (W : Given
         puts ! 4 23 refl (lent ! 4 2 refl refl tt) tt (tt, tt) $
         puts ! 4 24 refl (lent-ptr ! 4 3 refl refl tt refl refl) tt (tt, tt) $
         puts ! 4 25 refl (lent-slice ! 4 3 24 refl refl refl tt tt refl refl) tt (tt, (tt, (record { fits = room-records .0 }, tt))) $
-        calls-by ! fm (Calls-entry-of 𝓤 H A mem run) known-entry-of (to (for-entry-of done2)) (for-entry-of done2) refl (g-done2, tt) (Unit {0}) tt (asks-all 𝓤 H A (for-entry-of done2) []) entries _ (λ v. id⊢ 𝓤 _)
+        calls-by ! (fmOf 𝓤 H (W .laws) 𝓣) (tripleOf 𝓤 H A entry-of.signature (entry-of.spec 𝓤 H A mem run)) known-entry-of (to (for-entry-of done2)) (for-entry-of done2) refl (g-done2, tt) (Unit {0}) tt (asks-all 𝓤 H A (for-entry-of done2) []) entries _ (λ v. id⊢ 𝓤 _)
         (and-then ! (var ! 4 8 refl refl tt) (no-more !)) (λ entry-of8 _ g-entry-of8 e8 _.
         lands-in ! 4 26 refl tt (typed 𝓤 H A W entries entry-of8 g-entry-of8) $
-        move ! (2 ∷ 1 ∷ 0 ∷ []) $ calls-by ! fm (Calls-enter 𝓤 H A mem run) known-enter (to (for-enter h-code code h-cells (ws2 .1 .0) h-records records here entry-of8)) (for-enter h-code code h-cells (ws2 .1 .0) h-records records here entry-of8) refl (g-here, (g-entry-of8, tt)) _ (facts.asks-enter code cells records table limit activations here pre (not-equal (here .at) (here .end) y1) done2 (ws2 .1 .0) e2 is-done3 e3 (untold is-done3 y2) asks5 e5 (untold asks5 y3) enters7 e7 (told enters7 y4) entry-of8 e8) (id⊢ 𝓤 _) registers _ (λ v. id⊢ 𝓤 _)
+        move ! (2 ∷ 1 ∷ 0 ∷ []) $ calls-by ! (fmOf 𝓤 H (W .laws) 𝓣) (tripleOf 𝓤 H A enter.signature (enter.spec 𝓤 H A mem run)) known-enter (to (for-enter (loanRef κ0 q0 code#) (code# .now) (loanRef κ1 q1 cells#) (ws2 .1 .0) (loanSlice κ2 q2 records#) (records# .now) here entry-of8)) (for-enter (loanRef κ0 q0 code#) (code# .now) (loanRef κ1 q1 cells#) (ws2 .1 .0) (loanSlice κ2 q2 records#) (records# .now) here entry-of8) refl (g-here, (g-entry-of8, tt)) _ (facts.asks-enter (code# .now) (cells# .now) (records# .now) (table# .now) limit activations here pre (not-equal (here .at) (here .end) y1) done2 (ws2 .1 .0) e2 is-done3 e3 (untold is-done3 y2) asks5 e5 (untold asks5 y3) enters7 e7 (told enters7 y4) entry-of8 e8) (id⊢ 𝓤 _) registers _ (λ v. id⊢ 𝓤 _)
         (and-then ! (var ! 4 1 refl refl tt) (and-then ! (var ! 4 23 refl refl tt) (and-then ! (var ! 4 25 refl refl tt) (and-then ! (var ! 4 7 refl refl tt) (and-then ! (var ! 4 26 refl refl tt) (no-more !)))))) (λ enter9 ws9 g-enter9 e9 same9.
         lands-in ! 4 22 refl tt (typed 𝓤 H A W registers enter9 g-enter9) $
-        calls-by ! fm (Calls-went 𝓤 H A mem run) known-went (to (for-went enter9)) (for-went enter9) refl (g-enter9, tt) (Unit {0}) tt (asks-all 𝓤 H A (for-went enter9) []) turns _ (λ v. id⊢ 𝓤 _)
+        calls-by ! (fmOf 𝓤 H (W .laws) 𝓣) (tripleOf 𝓤 H A went.signature (went.spec 𝓤 H A mem run)) known-went (to (for-went enter9)) (for-went enter9) refl (g-enter9, tt) (Unit {0}) tt (asks-all 𝓤 H A (for-went enter9) []) turns _ (λ v. id⊢ 𝓤 _)
         (and-then ! (var ! 4 22 refl refl tt) (no-more !)) (λ went10 _ g-went10 e10 _.
         lands-in ! 4 0 refl tt (typed 𝓤 H A W turns went10 g-went10) $
-        ends-early ! 4 Post refl refl refl tt $ move ! (3 ∷ []) $ gives ! (mutSlice i32) h-table table $ move ! (1 ∷ 2 ∷ 3 ∷ 0 ∷ []) $ by ! (exits went10 (ws9 .1 .0) (ws9 .1 .1 .0) table (same9 .1 .1 .0) refl g-went10 (facts.says-4 code cells records table limit activations here pre (not-equal (here .at) (here .end) y1) done2 (ws2 .1 .0) e2 is-done3 e3 (untold is-done3 y2) asks5 e5 (untold asks5 y3) enters7 e7 (told enters7 y4) entry-of8 e8 enter9 (ws9 .1 .0) (ws9 .1 .1 .0) e9 (same9 .1 .1 .0) went10 e10))))))
+        ends-early ! 4 Post refl refl refl tt $ move ! (3 ∷ []) $ gives ! (mutSlice i32) (loanSlice κ3 q3 table#) (table# .now) $ move ! (1 ∷ 2 ∷ 3 ∷ 0 ∷ []) $ by ! (exits went10 (ws9 .1 .0) (ws9 .1 .1 .0) (table# .now) (same9 .1 .1 .0) refl g-went10 (facts.says-4 (code# .now) (cells# .now) (records# .now) (table# .now) limit activations here pre (not-equal (here .at) (here .end) y1) done2 (ws2 .1 .0) e2 is-done3 e3 (untold is-done3 y2) asks5 e5 (untold asks5 y3) enters7 e7 (told enters7 y4) entry-of8 e8 enter9 (ws9 .1 .0) (ws9 .1 .1 .0) e9 (same9 .1 .1 .0) went10 e10))))))
         (λ y4.
         puts ! 4 27 refl (lent-ptr ! 4 3 refl refl tt refl refl) tt (tt, tt) $
         puts ! 4 28 refl (lent-slice ! 4 3 27 refl refl refl tt tt refl refl) tt (tt, (tt, (record { fits = room-records .0 }, tt))) $
-        calls-by ! fm (Calls-home-of 𝓤 H A mem run) known-home-of (to (for-home-of done2)) (for-home-of done2) refl (g-done2, tt) (Unit {0}) tt (asks-all 𝓤 H A (for-home-of done2) []) usizes _ (λ v. id⊢ 𝓤 _)
+        calls-by ! (fmOf 𝓤 H (W .laws) 𝓣) (tripleOf 𝓤 H A home-of.signature (home-of.spec 𝓤 H A mem run)) known-home-of (to (for-home-of done2)) (for-home-of done2) refl (g-done2, tt) (Unit {0}) tt (asks-all 𝓤 H A (for-home-of done2) []) usizes _ (λ v. id⊢ 𝓤 _)
         (and-then ! (var ! 4 8 refl refl tt) (no-more !)) (λ home-of11 _ g-home-of11 e11 _.
         lands-in ! 4 29 refl tt (typed 𝓤 H A W usizes home-of11 g-home-of11) $
-        shares-slice ! tt (recs .type) h-records records (λ ν12-records δ12-records.
-        calls-by ! fm (Calls-read 𝓤 H A mem run) known-read (to (for-read (relent h-records ν12-records δ12-records) records home-of11)) (for-read (relent h-records ν12-records δ12-records) records home-of11) refl (g-home-of11, tt) _ (facts.asks-read code cells records table limit activations here pre (not-equal (here .at) (here .end) y1) done2 (ws2 .1 .0) e2 is-done3 e3 (untold is-done3 y2) asks5 e5 (untold asks5 y3) enters7 e7 (untold enters7 y4) home-of11 e11) (id⊢ 𝓤 _) recs _ (λ v. id⊢ 𝓤 _)
+        shares-slice ! tt (recs .type) (loanSlice κ2 q2 records#) (records# .now) (λ ν12-records δ12-records.
+        calls-by ! (fmOf 𝓤 H (W .laws) 𝓣) (tripleOf 𝓤 H A read.signature (read.spec 𝓤 H A mem run)) known-read (to (for-read (relent (loanSlice κ2 q2 records#) ν12-records δ12-records) (records# .now) home-of11)) (for-read (relent (loanSlice κ2 q2 records#) ν12-records δ12-records) (records# .now) home-of11) refl (g-home-of11, tt) _ (facts.asks-read (code# .now) (cells# .now) (records# .now) (table# .now) limit activations here pre (not-equal (here .at) (here .end) y1) done2 (ws2 .1 .0) e2 is-done3 e3 (untold is-done3 y2) asks5 e5 (untold asks5 y3) enters7 e7 (untold enters7 y4) home-of11 e11) (id⊢ 𝓤 _) recs _ (λ v. id⊢ 𝓤 _)
         (and-then ! (var ! 5 28 refl refl tt) (and-then ! (var ! 5 29 refl refl tt) (no-more !))) (λ activation12 _ g-activation12 e12 _.
         lands-in ! 5 9 refl tt (typed 𝓤 H A W recs activation12 g-activation12) $
-        unshares-slice ! tt (recs .type) h-records records ν12-records δ12-records $
-        move ! (2 ∷ []) $ calls-by ! fm (Calls-resumed 𝓤 H A mem run) known-resumed (to (for-resumed h-code code here done2 activation12)) (for-resumed h-code code here done2 activation12) refl (g-here, (g-done2, (g-activation12, tt))) _ (facts.asks-resumed code cells records table limit activations here pre (not-equal (here .at) (here .end) y1) done2 (ws2 .1 .0) e2 is-done3 e3 (untold is-done3 y2) asks5 e5 (untold asks5 y3) enters7 e7 (untold enters7 y4) home-of11 e11 activation12 e12) (id⊢ 𝓤 _) turns _ (λ v. id⊢ 𝓤 _)
+        unshares-slice ! tt (recs .type) (loanSlice κ2 q2 records#) (records# .now) ν12-records δ12-records $
+        move ! (2 ∷ []) $ calls-by ! (fmOf 𝓤 H (W .laws) 𝓣) (tripleOf 𝓤 H A resumed.signature (resumed.spec 𝓤 H A mem run)) known-resumed (to (for-resumed (loanRef κ0 q0 code#) (code# .now) here done2 activation12)) (for-resumed (loanRef κ0 q0 code#) (code# .now) here done2 activation12) refl (g-here, (g-done2, (g-activation12, tt))) _ (facts.asks-resumed (code# .now) (cells# .now) (records# .now) (table# .now) limit activations here pre (not-equal (here .at) (here .end) y1) done2 (ws2 .1 .0) e2 is-done3 e3 (untold is-done3 y2) asks5 e5 (untold asks5 y3) enters7 e7 (untold enters7 y4) home-of11 e11 activation12 e12) (id⊢ 𝓤 _) turns _ (λ v. id⊢ 𝓤 _)
         (and-then ! (var ! 4 1 refl refl tt) (and-then ! (var ! 4 7 refl refl tt) (and-then ! (var ! 4 8 refl refl tt) (and-then ! (var ! 4 9 refl refl tt) (no-more !))))) (λ resumed13 _ g-resumed13 e13 _.
         lands-in ! 4 0 refl tt (typed 𝓤 H A W turns resumed13 g-resumed13) $
-        ends ! 4 refl refl tt $ move ! (2 ∷ []) $ gives ! (mutRef (Array i32 tt 8224)) h-cells (ws2 .1 .0) $ move ! (2 ∷ []) $ gives ! (mutSlice (recs .type)) h-records records $ move ! (3 ∷ []) $ gives ! (mutSlice i32) h-table table $ move ! (3 ∷ 2 ∷ 1 ∷ 0 ∷ []) $ by ! (exits resumed13 (ws2 .1 .0) records table refl refl g-resumed13 (facts.says-5 code cells records table limit activations here pre (not-equal (here .at) (here .end) y1) done2 (ws2 .1 .0) e2 is-done3 e3 (untold is-done3 y2) asks5 e5 (untold asks5 y3) enters7 e7 (untold enters7 y4) home-of11 e11 activation12 e12 resumed13 e13))))))))))))))))))
+        ends ! 4 refl refl tt $ move ! (2 ∷ []) $ gives ! (mutRef (Array i32 tt 8224)) (loanRef κ1 q1 cells#) (ws2 .1 .0) $ move ! (2 ∷ []) $ gives ! (mutSlice (recs .type)) (loanSlice κ2 q2 records#) (records# .now) $ move ! (3 ∷ []) $ gives ! (mutSlice i32) (loanSlice κ3 q3 table#) (table# .now) $ move ! (3 ∷ 2 ∷ 1 ∷ 0 ∷ []) $ by ! (exits resumed13 (ws2 .1 .0) (records# .now) (table# .now) refl refl g-resumed13 (facts.says-5 (code# .now) (cells# .now) (records# .now) (table# .now) limit activations here pre (not-equal (here .at) (here .end) y1) done2 (ws2 .1 .0) e2 is-done3 e3 (untold is-done3 y2) asks5 e5 (untold asks5 y3) enters7 e7 (untold enters7 y4) home-of11 e11 activation12 e12 resumed13 e13))))))))))))))))))
 
 module _ {M : Type 1} (𝓤 : URA M) (H : Heap 𝓤) (A : Atoms 𝓤) (W : Given 𝓤 H A) (mem : Memory → SProp 𝓤) (run : Routine → Fun 𝓤) (𝓣 : Tables 𝓤 H)
-    (known-leave : Triple 𝓤 (𝓣 .C #leave) (Calls-leave 𝓤 H A mem run))
-    (known-acted : Triple 𝓤 (𝓣 .C #acted) (Calls-acted 𝓤 H A mem run))
-    (known-is-done : Triple 𝓤 (𝓣 .C #is-done) (Calls-is-done 𝓤 H A mem run))
-    (known-turn-of : Triple 𝓤 (𝓣 .C #turn-of) (Calls-turn-of 𝓤 H A mem run))
-    (known-asks : Triple 𝓤 (𝓣 .C #asks) (Calls-asks 𝓤 H A mem run))
-    (known-answered : Triple 𝓤 (𝓣 .C #answered) (Calls-answered 𝓤 H A mem run))
-    (known-enters : Triple 𝓤 (𝓣 .C #enters) (Calls-enters 𝓤 H A mem run))
-    (known-entry-of : Triple 𝓤 (𝓣 .C #entry-of) (Calls-entry-of 𝓤 H A mem run))
-    (known-enter : Triple 𝓤 (𝓣 .C #enter) (Calls-enter 𝓤 H A mem run))
-    (known-went : Triple 𝓤 (𝓣 .C #went) (Calls-went 𝓤 H A mem run))
-    (known-home-of : Triple 𝓤 (𝓣 .C #home-of) (Calls-home-of 𝓤 H A mem run))
-    (known-read : Triple 𝓤 (𝓣 .C #read) (Calls-read 𝓤 H A mem run))
-    (known-resumed : Triple 𝓤 (𝓣 .C #resumed) (Calls-resumed 𝓤 H A mem run)) where
-  walks : Walks 𝓤 H A f.ended stayed (WpFn 𝓤 H (𝓣 .C) (𝓣 .Λ) mine.function) (f.clauses 𝓤 H A mem run)
-  walks = walked 𝓤 H A f.ended stayed (f.clauses 𝓤 H A mem run) (WpFn 𝓤 H (𝓣 .C) (𝓣 .Λ) mine.function)
-      (λ κs. (ptr-vals, (ptr-vals, (slice-vals, (slice-vals, ((λ (x : ℕ). words32 .val x ∷ []), ((λ (x : ℕ). usizes .val x ∷ []), ((λ (x : registers .type .Denot). registers .val x ∷ []), tt))))))))
-      (λ κs. (shr-tells (named 0) (κs .0) (Array u32 tt 4096), (mut-tells (named 1) (κs .1 .0) (Array i32 tt 8224), (mut-slice-tells (named 2) (κs .1 .1 .0) (recs .type), (mut-slice-tells (named 3) (κs .1 .1 .1 .0) i32, (words32 .tells, (usizes .tells, (registers .tells, tt))))))))
-      (λ κs qs bounds a g are. needs 𝓤 (said.Pre ((a .0) .now) ((a .1 .0) .now) ((a .1 .1 .0) .now) ((a .1 .1 .1 .0) .now) (a .1 .1 .1 .1 .0) (a .1 .1 .1 .1 .1 .0) (a .1 .1 .1 .1 .1 .1 .0)) _ (λ pre. walk 𝓤 H A W mem run (κs .0) (κs .1 .0) (κs .1 .1 .0) (κs .1 .1 .1 .0) (qs .0) (qs .1 .0) (qs .1 .1 .0) (qs .1 .1 .1 .0) (a .0) (a .1 .0) (a .1 .1 .0) (a .1 .1 .1 .0) (a .1 .1 .1 .1 .0) (a .1 .1 .1 .1 .1 .0) (a .1 .1 .1 .1 .1 .1 .0) (are .1 .1 .0 .0 .1) (are .1 .1 .1 .0 .0 .1) (are .1 .1 .1 .1 .0) (are .1 .1 .1 .1 .1 .0) (are .1 .1 .1 .1 .1 .1 .0) pre 𝓣 known-leave known-acted known-is-done known-turn-of known-asks known-answered known-enters known-entry-of known-enter known-went known-home-of known-read known-resumed))
-
+    (known-leave : Triple 𝓤 (𝓣 .C #leave) (tripleOf 𝓤 H A leave.signature (leave.spec 𝓤 H A mem run)))
+    (known-acted : Triple 𝓤 (𝓣 .C #acted) (tripleOf 𝓤 H A acted.signature (acted.spec 𝓤 H A mem run)))
+    (known-is-done : Triple 𝓤 (𝓣 .C #is-done) (tripleOf 𝓤 H A is-done.signature (is-done.spec 𝓤 H A mem run)))
+    (known-turn-of : Triple 𝓤 (𝓣 .C #turn-of) (tripleOf 𝓤 H A turn-of.signature (turn-of.spec 𝓤 H A mem run)))
+    (known-asks : Triple 𝓤 (𝓣 .C #asks) (tripleOf 𝓤 H A asks.signature (asks.spec 𝓤 H A mem run)))
+    (known-answered : Triple 𝓤 (𝓣 .C #answered) (tripleOf 𝓤 H A answered.signature (answered.spec 𝓤 H A mem run)))
+    (known-enters : Triple 𝓤 (𝓣 .C #enters) (tripleOf 𝓤 H A enters.signature (enters.spec 𝓤 H A mem run)))
+    (known-entry-of : Triple 𝓤 (𝓣 .C #entry-of) (tripleOf 𝓤 H A entry-of.signature (entry-of.spec 𝓤 H A mem run)))
+    (known-enter : Triple 𝓤 (𝓣 .C #enter) (tripleOf 𝓤 H A enter.signature (enter.spec 𝓤 H A mem run)))
+    (known-went : Triple 𝓤 (𝓣 .C #went) (tripleOf 𝓤 H A went.signature (went.spec 𝓤 H A mem run)))
+    (known-home-of : Triple 𝓤 (𝓣 .C #home-of) (tripleOf 𝓤 H A home-of.signature (home-of.spec 𝓤 H A mem run)))
+    (known-read : Triple 𝓤 (𝓣 .C #read) (tripleOf 𝓤 H A read.signature (read.spec 𝓤 H A mem run)))
+    (known-resumed : Triple 𝓤 (𝓣 .C #resumed) (tripleOf 𝓤 H A resumed.signature (resumed.spec 𝓤 H A mem run))) where
   meets : Meets 𝓤 H A f.signature (WpFn 𝓤 H (𝓣 .C) (𝓣 .Λ) mine.function) (f.spec 𝓤 H A mem run)
   meets = walk-meets 𝓤 H A f.ended stayed W (goes-none-ref 𝓤 H A W 4 (0 ∷ []) tt (arrayOf (plain (λ _. u32)) 4096) yes, (goes-gave-ref 𝓤 H A W 4 1 tt (arrayOf (plain (λ _. i32)) 8224), (goes-gave-slice 𝓤 H A W 4 2 tt (plain (λ _. recs .type)), (goes-gave-slice 𝓤 H A W 4 3 tt (plain (λ _. i32)), (goes-none 𝓤 H A W 4 (λ _. words32 .type) yes (λ κs x f. refl), (goes-none 𝓤 H A W 4 (λ _. usizes .type) yes (λ κs x f. refl), (goes-none 𝓤 H A W 4 (λ _. registers .type) yes (λ κs x f. refl), tt)))))))
-      (f.clauses 𝓤 H A mem run) (WpFn 𝓤 H (𝓣 .C) (𝓣 .Λ) mine.function) (WpFn-mono 𝓤 H (W .laws) 𝓣 mine.function) walks
+      (f.clauses 𝓤 H A mem run) (WpFn 𝓤 H (𝓣 .C) (𝓣 .Λ) mine.function) (WpFn-mono 𝓤 H (W .laws) 𝓣 mine.function)
+      (walked 𝓤 H A f.ended stayed (f.clauses 𝓤 H A mem run) (WpFn 𝓤 H (𝓣 .C) (𝓣 .Λ) mine.function)
+      (λ κs. (ptr-vals, (ptr-vals, (slice-vals, (slice-vals, ((λ (x : ℕ). words32 .val x ∷ []), ((λ (x : ℕ). usizes .val x ∷ []), ((λ (x : registers .type .Denot). registers .val x ∷ []), tt))))))))
+      (λ κs. (shr-tells (named 0) (κs .0) (Array u32 tt 4096), (mut-tells (named 1) (κs .1 .0) (Array i32 tt 8224), (mut-slice-tells (named 2) (κs .1 .1 .0) (recs .type), (mut-slice-tells (named 3) (κs .1 .1 .1 .0) i32, (words32 .tells, (usizes .tells, (registers .tells, tt))))))))
+      (λ κs qs bounds a g are. needs 𝓤 (said.Pre ((a .0) .now) ((a .1 .0) .now) ((a .1 .1 .0) .now) ((a .1 .1 .1 .0) .now) (a .1 .1 .1 .1 .0) (a .1 .1 .1 .1 .1 .0) (a .1 .1 .1 .1 .1 .1 .0)) _ (λ pre. walk 𝓤 H A W mem run (κs .0) (κs .1 .0) (κs .1 .1 .0) (κs .1 .1 .1 .0) (qs .0) (qs .1 .0) (qs .1 .1 .0) (qs .1 .1 .1 .0) (a .0) (a .1 .0) (a .1 .1 .0) (a .1 .1 .1 .0) (a .1 .1 .1 .1 .0) (a .1 .1 .1 .1 .1 .0) (a .1 .1 .1 .1 .1 .1 .0) (are .1 .1 .0 .0 .1) (are .1 .1 .1 .0 .0 .1) (are .1 .1 .1 .1 .0) (are .1 .1 .1 .1 .1 .0) (are .1 .1 .1 .1 .1 .1 .0) pre 𝓣 known-leave known-acted known-is-done known-turn-of known-asks known-answered known-enters known-entry-of known-enter known-went known-home-of known-read known-resumed)))
 
 pub step-spec : {M : Type 1} → stated.statement M
 unfolding mine.routine tablesOf
 step-spec 𝓤 H 𝓜 𝓖 𝓡 =
-    entered 𝓤 H (tripleOf 𝓤 H (𝓖 .A) f.signature (f.spec 𝓤 H (𝓖 .A) (𝓜 .mem) (𝓡 .run)))
-    (tables 𝓤 H 𝓜 𝓡 mine.env .C) (tables 𝓤 H 𝓜 𝓡 mine.env .Λ) #me mine.function (mine.unfolded 𝓤 H 𝓜 𝓡)
+    by-walk 𝓤 H 𝓜 𝓡 mine.env #me mine.function (tripleOf 𝓤 H (𝓖 .A) f.signature (f.spec 𝓤 H (𝓖 .A) (𝓜 .mem) (𝓡 .run))) (mine.unfolded 𝓤 H 𝓜 𝓡)
     (meets 𝓤 H (𝓖 .A) (givenOf 𝓤 H 𝓜 𝓖) (𝓜 .mem) (𝓡 .run) (tablesOf 𝓤 H 𝓜 (tables 𝓤 H 𝓜 𝓡 mine.env))
-    (cited 𝓤 H (Calls-leave 𝓤 H (𝓖 .A) (𝓜 .mem) (𝓡 .run)) 𝓜 𝓡 mine.env #leave leave-def.routine mine.calls-chain-step·stepped·leave (leave-thm.met 𝓤 H 𝓜 𝓖 𝓡))
-    (cited 𝓤 H (Calls-acted 𝓤 H (𝓖 .A) (𝓜 .mem) (𝓡 .run)) 𝓜 𝓡 mine.env #acted acted-def.routine mine.calls-chain-step·acted·acted (acted-thm.met 𝓤 H 𝓜 𝓖 𝓡))
-    (cited 𝓤 H (Calls-is-done 𝓤 H (𝓖 .A) (𝓜 .mem) (𝓡 .run)) 𝓜 𝓡 mine.env #is-done is-done-def.routine mine.calls-chain-step·turn·is-done (is-done-thm.met 𝓤 H 𝓜 𝓖 𝓡))
-    (cited 𝓤 H (Calls-turn-of 𝓤 H (𝓖 .A) (𝓜 .mem) (𝓡 .run)) 𝓜 𝓡 mine.env #turn-of turn-of-def.routine mine.calls-chain-step·turn·turn-of (turn-of-thm.met 𝓤 H 𝓜 𝓖 𝓡))
-    (cited 𝓤 H (Calls-asks 𝓤 H (𝓖 .A) (𝓜 .mem) (𝓡 .run)) 𝓜 𝓡 mine.env #asks asks-def.routine mine.calls-chain-step·turn·asks (asks-thm.met 𝓤 H 𝓜 𝓖 𝓡))
-    (cited 𝓤 H (Calls-answered 𝓤 H (𝓖 .A) (𝓜 .mem) (𝓡 .run)) 𝓜 𝓡 mine.env #answered answered-def.routine mine.calls-chain-step·turn·answered (answered-thm.met 𝓤 H 𝓜 𝓖 𝓡))
-    (cited 𝓤 H (Calls-enters 𝓤 H (𝓖 .A) (𝓜 .mem) (𝓡 .run)) 𝓜 𝓡 mine.env #enters enters-def.routine mine.calls-chain-step·turn·enters (enters-thm.met 𝓤 H 𝓜 𝓖 𝓡))
-    (cited 𝓤 H (Calls-entry-of 𝓤 H (𝓖 .A) (𝓜 .mem) (𝓡 .run)) 𝓜 𝓡 mine.env #entry-of entry-of-def.routine mine.calls-chain-step·turn·entry-of (entry-of-thm.met 𝓤 H 𝓜 𝓖 𝓡))
-    (cited 𝓤 H (Calls-enter 𝓤 H (𝓖 .A) (𝓜 .mem) (𝓡 .run)) 𝓜 𝓡 mine.env #enter enter-def.routine mine.calls-chain-links·enter (enter-thm.met 𝓤 H 𝓜 𝓖 𝓡))
-    (cited 𝓤 H (Calls-went 𝓤 H (𝓖 .A) (𝓜 .mem) (𝓡 .run)) 𝓜 𝓡 mine.env #went went-def.routine mine.calls-chain-step·turn·went (went-thm.met 𝓤 H 𝓜 𝓖 𝓡))
-    (cited 𝓤 H (Calls-home-of 𝓤 H (𝓖 .A) (𝓜 .mem) (𝓡 .run)) 𝓜 𝓡 mine.env #home-of home-of-def.routine mine.calls-chain-step·turn·home-of (home-of-thm.met 𝓤 H 𝓜 𝓖 𝓡))
-    (cited 𝓤 H (Calls-read 𝓤 H (𝓖 .A) (𝓜 .mem) (𝓡 .run)) 𝓜 𝓡 mine.env #read read-def.routine mine.calls-chain-records·read (read-thm.met 𝓤 H 𝓜 𝓖 𝓡))
-    (cited 𝓤 H (Calls-resumed 𝓤 H (𝓖 .A) (𝓜 .mem) (𝓡 .run)) 𝓜 𝓡 mine.env #resumed resumed-def.routine mine.calls-chain-step·turn·resumed (resumed-thm.met 𝓤 H 𝓜 𝓖 𝓡)))
+    (cited 𝓤 H (tripleOf 𝓤 H (𝓖 .A) leave.signature (leave.spec 𝓤 H (𝓖 .A) (𝓜 .mem) (𝓡 .run))) 𝓜 𝓡 mine.env #leave leave-def.routine mine.calls-chain-step·stepped·leave (leave-thm.met 𝓤 H 𝓜 𝓖 𝓡))
+    (cited 𝓤 H (tripleOf 𝓤 H (𝓖 .A) acted.signature (acted.spec 𝓤 H (𝓖 .A) (𝓜 .mem) (𝓡 .run))) 𝓜 𝓡 mine.env #acted acted-def.routine mine.calls-chain-step·acted·acted (acted-thm.met 𝓤 H 𝓜 𝓖 𝓡))
+    (cited 𝓤 H (tripleOf 𝓤 H (𝓖 .A) is-done.signature (is-done.spec 𝓤 H (𝓖 .A) (𝓜 .mem) (𝓡 .run))) 𝓜 𝓡 mine.env #is-done is-done-def.routine mine.calls-chain-step·turn·is-done (is-done-thm.met 𝓤 H 𝓜 𝓖 𝓡))
+    (cited 𝓤 H (tripleOf 𝓤 H (𝓖 .A) turn-of.signature (turn-of.spec 𝓤 H (𝓖 .A) (𝓜 .mem) (𝓡 .run))) 𝓜 𝓡 mine.env #turn-of turn-of-def.routine mine.calls-chain-step·turn·turn-of (turn-of-thm.met 𝓤 H 𝓜 𝓖 𝓡))
+    (cited 𝓤 H (tripleOf 𝓤 H (𝓖 .A) asks.signature (asks.spec 𝓤 H (𝓖 .A) (𝓜 .mem) (𝓡 .run))) 𝓜 𝓡 mine.env #asks asks-def.routine mine.calls-chain-step·turn·asks (asks-thm.met 𝓤 H 𝓜 𝓖 𝓡))
+    (cited 𝓤 H (tripleOf 𝓤 H (𝓖 .A) answered.signature (answered.spec 𝓤 H (𝓖 .A) (𝓜 .mem) (𝓡 .run))) 𝓜 𝓡 mine.env #answered answered-def.routine mine.calls-chain-step·turn·answered (answered-thm.met 𝓤 H 𝓜 𝓖 𝓡))
+    (cited 𝓤 H (tripleOf 𝓤 H (𝓖 .A) enters.signature (enters.spec 𝓤 H (𝓖 .A) (𝓜 .mem) (𝓡 .run))) 𝓜 𝓡 mine.env #enters enters-def.routine mine.calls-chain-step·turn·enters (enters-thm.met 𝓤 H 𝓜 𝓖 𝓡))
+    (cited 𝓤 H (tripleOf 𝓤 H (𝓖 .A) entry-of.signature (entry-of.spec 𝓤 H (𝓖 .A) (𝓜 .mem) (𝓡 .run))) 𝓜 𝓡 mine.env #entry-of entry-of-def.routine mine.calls-chain-step·turn·entry-of (entry-of-thm.met 𝓤 H 𝓜 𝓖 𝓡))
+    (cited 𝓤 H (tripleOf 𝓤 H (𝓖 .A) enter.signature (enter.spec 𝓤 H (𝓖 .A) (𝓜 .mem) (𝓡 .run))) 𝓜 𝓡 mine.env #enter enter-def.routine mine.calls-chain-links·enter (enter-thm.met 𝓤 H 𝓜 𝓖 𝓡))
+    (cited 𝓤 H (tripleOf 𝓤 H (𝓖 .A) went.signature (went.spec 𝓤 H (𝓖 .A) (𝓜 .mem) (𝓡 .run))) 𝓜 𝓡 mine.env #went went-def.routine mine.calls-chain-step·turn·went (went-thm.met 𝓤 H 𝓜 𝓖 𝓡))
+    (cited 𝓤 H (tripleOf 𝓤 H (𝓖 .A) home-of.signature (home-of.spec 𝓤 H (𝓖 .A) (𝓜 .mem) (𝓡 .run))) 𝓜 𝓡 mine.env #home-of home-of-def.routine mine.calls-chain-step·turn·home-of (home-of-thm.met 𝓤 H 𝓜 𝓖 𝓡))
+    (cited 𝓤 H (tripleOf 𝓤 H (𝓖 .A) read.signature (read.spec 𝓤 H (𝓖 .A) (𝓜 .mem) (𝓡 .run))) 𝓜 𝓡 mine.env #read read-def.routine mine.calls-chain-records·read (read-thm.met 𝓤 H 𝓜 𝓖 𝓡))
+    (cited 𝓤 H (tripleOf 𝓤 H (𝓖 .A) resumed.signature (resumed.spec 𝓤 H (𝓖 .A) (𝓜 .mem) (𝓡 .run))) 𝓜 𝓡 mine.env #resumed resumed-def.routine mine.calls-chain-step·turn·resumed (resumed-thm.met 𝓤 H 𝓜 𝓖 𝓡)))

@@ -18,14 +18,14 @@ use ghost.Atoms.{Atoms}
 use contract.Monad.{Fun}
 use types.Kit.{Given, ⋆, _$_, _∵_, !, qed, by, move}
 use types.Run.{and-then, no-more, lit, bin, of-opd}
-use sound.WpLaws.{WpFn-mono, FmC, fmOf}
+use sound.WpLaws.{WpFn-mono, fmOf}
 use denote.Builtin.{u8, u32}
 use denote.Ref.{RefT}
 use denote.Slice.{Room, slice-vals, shr-slice-tells, mut-slice-tells}
 use denote.Signature.{plain}
 use denote.Triple.Entry.{onEntry}
 use denote.Triple.Spec.{tripleOf}
-use denote.Triple.Statement.{Contract, Triple}
+use denote.Triple.Statement.{Triple}
 use denote.Triple.Walked.{needs, Stays, stay-none-slice, stay-none, gave-slice, walkOf, ends-at, goes-none-slice, goes-none, goes-gave-slice, walk-meets-at, walked-at}
 use denote.Exit.{yes}
 use Rattle.walks.specs.Data.{Good, typed, usizes}
@@ -56,20 +56,11 @@ use Rattle.check_blocks.proofs.+block+body+declarations+statement+state
 use Rattle.check_blocks.proofs.+block+body+declarations+statement+statements.Proof.block.Facts as facts
 use Rattle.check_blocks.proofs.+block+body+declarations+statement+statements.Proof.block.Said as said
 
-abbrev Calls-opened : {M : Type 1} (𝓤 : URA M) (H : Heap 𝓤) (A : Atoms 𝓤) → (Memory → SProp 𝓤) → (Routine → Fun 𝓤) → Contract 𝓤
-Calls-opened 𝓤 H A mem run = tripleOf 𝓤 H A opened.signature (opened.spec 𝓤 H A mem run)
-
 abbrev for-opened : ℕ → ℕ → ℕ → ℕ → ℕ → List Par
 for-opened x0 x1 x2 x3 x4 = dat usizes x0 ∷ dat usizes x1 ∷ dat usizes x2 ∷ dat usizes x3 ∷ dat usizes x4 ∷ []
 
-abbrev Calls-declarations : {M : Type 1} (𝓤 : URA M) (H : Heap 𝓤) (A : Atoms 𝓤) → (Memory → SProp 𝓤) → (Routine → Fun 𝓤) → Contract 𝓤
-Calls-declarations 𝓤 H A mem run = tripleOf 𝓤 H A declarations.signature (declarations.spec 𝓤 H A mem run)
-
 abbrev for-declarations : Loan → List ℕ → Loan → List ℕ → ℕ → ℕ → ℕ → ℕ → ℕ → List Par
 for-declarations h0 x0 h1 x1 x2 x3 x4 x5 x6 = brw (shrSlice u8) h0 x0 ∷ brw (mutSlice u32) h1 x1 ∷ dat usizes x2 ∷ dat usizes x3 ∷ dat usizes x4 ∷ dat usizes x5 ∷ dat usizes x6 ∷ []
-
-abbrev Calls-statements : {M : Type 1} (𝓤 : URA M) (H : Heap 𝓤) (A : Atoms 𝓤) → (Memory → SProp 𝓤) → (Routine → Fun 𝓤) → Contract 𝓤
-Calls-statements 𝓤 H A mem run = tripleOf 𝓤 H A statements.signature (statements.spec 𝓤 H A mem run)
 
 abbrev for-statements : Loan → List ℕ → Loan → List ℕ → ℕ → ℕ → ℕ → List Par
 for-statements h0 x0 h1 x1 x2 x3 x4 = brw (shrSlice u8) h0 x0 ∷ brw (mutSlice u32) h1 x1 ∷ dat usizes x2 ∷ dat usizes x3 ∷ dat usizes x4 ∷ []
@@ -81,20 +72,8 @@ module _ {M : Type 1} (𝓤 : URA M) (H : Heap 𝓤) (A : Atoms 𝓤) (W : Given
     (script# : RefT (List ℕ)) (names# : RefT (List ℕ)) (at : ℕ) (next : ℕ) (d : ℕ) (s : ℕ) (held : ℕ) (left : ℕ)
     (room-script : Room u8 (length (script# .now))) (room-names : Room u32 (length (names# .now))) (g-at : Good usizes at) (g-next : Good usizes next) (g-d : Good usizes d) (g-s : Good usizes s) (g-held : Good usizes held) (g-left : Good usizes left)
     (pre : said.Pre (names# .now) held left) where
-  abbrev h-script : Loan
-  h-script = loanSlice κ0 q0 script#
-
-  abbrev script : List ℕ
-  script = script# .now
-
-  abbrev h-names : Loan
-  h-names = loanSlice κ1 q1 names#
-
-  abbrev names : List ℕ
-  names = names# .now
-
   abbrev ps : List Par
-  ps = brw (shrSlice u8) h-script script ∷ brw (mutSlice u32) h-names names ∷ dat usizes at ∷ dat usizes next ∷ dat usizes d ∷ dat usizes s ∷ dat usizes held ∷ dat usizes left ∷ []
+  ps = brw (shrSlice u8) (loanSlice κ0 q0 script#) (script# .now) ∷ brw (mutSlice u32) (loanSlice κ1 q1 names#) (names# .now) ∷ dat usizes at ∷ dat usizes next ∷ dat usizes d ∷ dat usizes s ∷ dat usizes held ∷ dat usizes left ∷ []
 
   abbrev bound : walkOf 𝓤 H A f.ended stayed (f.clauses 𝓤 H A mem run) .Ghost
   bound = ((lfts ps, shares ps, tt, denots 0 ps, valss 0 ps), tt)
@@ -102,21 +81,18 @@ module _ {M : Type 1} (𝓤 : URA M) (H : Heap 𝓤) (A : Atoms 𝓤) (W : Given
   abbrev Post : Val → SProp 𝓤
   Post = walkOf 𝓤 H A f.ended stayed (f.clauses 𝓤 H A mem run) .post bound
 
-  exits : (r : progresses .type .Denot) (names′ : List ℕ) → length names′ ≡ length names → Good progresses r → said.Said script names at next d s held left r names′ → ent 𝓤 (⋆ 𝓤 H A (outs 𝓤 0 ps (tt, (names′, (tt, (tt, (tt, (tt, (tt, (tt, tt)))))))))) (Post (progresses .val r))
+  exits : (r : progresses .type .Denot) (names′ : List ℕ) → length names′ ≡ length (names# .now) → Good progresses r → said.Said (script# .now) (names# .now) at next d s held left r names′ → ent 𝓤 (⋆ 𝓤 H A (outs 𝓤 0 ps (tt, (names′, (tt, (tt, (tt, (tt, (tt, (tt, tt)))))))))) (Post (progresses .val r))
   exits r names′ same-names good says = via 𝓤 _ (leaves-saying 𝓤 H A W ps (tt, (names′, (tt, (tt, (tt, (tt, (tt, (tt, tt)))))))) (g-at, (g-next, (g-d, (g-s, (g-held, (g-left, tt)))))) progresses r good (_ ∷ _ ∷ []) says)
       (ends-at 𝓤 H A f.ended stayed (f.clauses 𝓤 H A mem run) W bound (progresses .val r) r (tt, (names′, (tt, (tt, (tt, (tt, (tt, (tt, tt)))))))) (tt, (same-names, (tt, (tt, (tt, (tt, (tt, (tt, tt)))))))))
 
   module _ (𝓣 : Tables 𝓤 H)
-      (known-opened : Triple 𝓤 (𝓣 .C #opened) (Calls-opened 𝓤 H A mem run))
-      (known-declarations : (y : Calls-declarations 𝓤 H A mem run .Ghost) → sizes.declarations-size ((y .0 .3 .0) .now) ((y .0 .3 .1 .0) .now) (y .0 .3 .1 .1 .0) (y .0 .3 .1 .1 .1 .0) (y .0 .3 .1 .1 .1 .1 .0) (y .0 .3 .1 .1 .1 .1 .1 .0) (y .0 .3 .1 .1 .1 .1 .1 .1 .0) < sizes.block-size script names at next d s held left → ent 𝓤 (Calls-declarations 𝓤 H A mem run .pre y) (𝓣 .C #declarations (Calls-declarations 𝓤 H A mem run .args y) (Calls-declarations 𝓤 H A mem run .post y)))
-      (known-statements : (y : Calls-statements 𝓤 H A mem run .Ghost) → sizes.statements-size ((y .0 .3 .0) .now) ((y .0 .3 .1 .0) .now) (y .0 .3 .1 .1 .0) (y .0 .3 .1 .1 .1 .0) (y .0 .3 .1 .1 .1 .1 .0) < sizes.block-size script names at next d s held left → ent 𝓤 (Calls-statements 𝓤 H A mem run .pre y) (𝓣 .C #statements (Calls-statements 𝓤 H A mem run .args y) (Calls-statements 𝓤 H A mem run .post y))) where
-    fm : FmC 𝓤 H (W .laws) (𝓣 .C)
-    fm = fmOf 𝓤 H (W .laws) 𝓣
-
+      (known-opened : Triple 𝓤 (𝓣 .C #opened) (tripleOf 𝓤 H A opened.signature (opened.spec 𝓤 H A mem run)))
+      (known-declarations : (y : (tripleOf 𝓤 H A declarations.signature (declarations.spec 𝓤 H A mem run)) .Ghost) → sizes.declarations-size ((y .0 .3 .0) .now) ((y .0 .3 .1 .0) .now) (y .0 .3 .1 .1 .0) (y .0 .3 .1 .1 .1 .0) (y .0 .3 .1 .1 .1 .1 .0) (y .0 .3 .1 .1 .1 .1 .1 .0) (y .0 .3 .1 .1 .1 .1 .1 .1 .0) < sizes.block-size (script# .now) (names# .now) at next d s held left → ent 𝓤 ((tripleOf 𝓤 H A declarations.signature (declarations.spec 𝓤 H A mem run)) .pre y) (𝓣 .C #declarations ((tripleOf 𝓤 H A declarations.signature (declarations.spec 𝓤 H A mem run)) .args y) ((tripleOf 𝓤 H A declarations.signature (declarations.spec 𝓤 H A mem run)) .post y)))
+      (known-statements : (y : (tripleOf 𝓤 H A statements.signature (statements.spec 𝓤 H A mem run)) .Ghost) → sizes.statements-size ((y .0 .3 .0) .now) ((y .0 .3 .1 .0) .now) (y .0 .3 .1 .1 .0) (y .0 .3 .1 .1 .1 .0) (y .0 .3 .1 .1 .1 .1 .0) < sizes.block-size (script# .now) (names# .now) at next d s held left → ent 𝓤 ((tripleOf 𝓤 H A statements.signature (statements.spec 𝓤 H A mem run)) .pre y) (𝓣 .C #statements ((tripleOf 𝓤 H A statements.signature (statements.spec 𝓤 H A mem run)) .args y) ((tripleOf 𝓤 H A statements.signature (statements.spec 𝓤 H A mem run)) .post y))) where
     walk : ent 𝓤 (onEntry 𝓤 H A f.signature (lfts ps) (shares ps) (denots 0 ps) (valss 0 ps)) (WpFn 𝓤 H (𝓣 .C) (𝓣 .Λ) mine.block-function (vals ps) Post)
     walk = via 𝓤 (⋆ 𝓤 H A (ins 𝓤 ps)) (arrives 𝓤 H A W 0 ps) (qed W (ins 𝓤 ps) ∵
         begins ! (𝓣 .C) (𝓣 .Λ) mine.block-function (vals ps) Post ((tt, (tt, (record { fits = room-script .0 }, tt))), ((tt, (tt, (record { fits = room-names .0 }, tt))), (typed 𝓤 H A W usizes at g-at, (typed 𝓤 H A W usizes next g-next, (typed 𝓤 H A W usizes d g-d, (typed 𝓤 H A W usizes s g-s, (typed 𝓤 H A W usizes held g-held, (typed 𝓤 H A W usizes left g-left, tt)))))))) (λ β. move ! (1 ∷ 2 ∷ []) $
-        calls-by ! fm (Calls-opened 𝓤 H A mem run) known-opened (to (for-opened at next d held left)) (for-opened at next d held left) refl (g-at, (g-next, (g-d, (g-held, (g-left, tt))))) (Unit {0}) tt (asks-all 𝓤 H A (for-opened at next d held left) []) progresses _ (λ v. id⊢ 𝓤 _)
+        calls-by ! (fmOf 𝓤 H (W .laws) 𝓣) (tripleOf 𝓤 H A opened.signature (opened.spec 𝓤 H A mem run)) known-opened (to (for-opened at next d held left)) (for-opened at next d held left) refl (g-at, (g-next, (g-d, (g-held, (g-left, tt))))) (Unit {0}) tt (asks-all 𝓤 H A (for-opened at next d held left) []) progresses _ (λ v. id⊢ 𝓤 _)
         (and-then ! (var ! 2 3 refl refl tt) (and-then ! (var ! 2 4 refl refl tt) (and-then ! (var ! 2 5 refl refl tt) (and-then ! (var ! 2 7 refl refl tt) (and-then ! (var ! 2 8 refl refl tt) (no-more !)))))) (λ opened1 _ g-opened1 e1 _.
         lands-in ! 2 9 refl tt (typed 𝓤 H A W progresses opened1 g-opened1) $
         by-progress opened1
@@ -125,33 +101,33 @@ module _ {M : Type 1} (𝓤 : URA M) (H : Heap 𝓤) (A : Atoms 𝓤) (W : Given
         falls1 _ $
         puts ! 2 13 refl (lent-ptr ! 2 2 refl refl tt refl refl) tt (tt, tt) $
         puts ! 2 14 refl (lent-slice ! 2 2 13 refl refl refl tt tt refl refl) tt (tt, (tt, (record { fits = room-names .0 }, tt))) $
-        puts ! 2 15 refl (bin ! (var ! 2 8 refl refl tt) (lit ! tt) (facts.fits-1 script names at next d s held left pre opened1 e1 x1-0 y1)) tt (tt, record { fits = omega (arith, g-left .1) }) $
-        move ! (1 ∷ []) $ lends-slice ! tt u32 h-names names (λ ν2-names δ2-names.
-        move ! (2 ∷ 0 ∷ []) $ calls-one ! fm (Calls-declarations 𝓤 H A mem run) (to (for-declarations h-script script (relent h-names ν2-names δ2-names) names x1-0 d s held (left - 1))) (known-declarations (to (for-declarations h-script script (relent h-names ν2-names δ2-names) names x1-0 d s held (left - 1))) (facts.less-declarations script names at next d s held left pre opened1 e1 x1-0 y1)) (for-declarations h-script script (relent h-names ν2-names δ2-names) names x1-0 d s held (left - 1)) refl ((enum-laws.owed Progress#.the-type Progress′.the-laws (Progress·.At x1-0) _ (subst (Good progresses) y1 g-opened1) .0), (g-d, (g-s, (g-held, ((refl, omega (arith, g-left .1)), tt))))) _ (facts.asks-declarations script names at next d s held left pre opened1 e1 x1-0 y1) (id⊢ 𝓤 _) progresses _ (said-together 𝓤 H A W (for-declarations h-script script (relent h-names ν2-names δ2-names) names x1-0 d s held (left - 1)) (progresses .type) (_ ∷ _ ∷ []))
+        puts ! 2 15 refl (bin ! (var ! 2 8 refl refl tt) (lit ! tt) (facts.fits-1 (script# .now) (names# .now) at next d s held left pre opened1 e1 x1-0 y1)) tt (tt, record { fits = omega (arith, g-left .1) }) $
+        move ! (1 ∷ []) $ lends-slice ! tt u32 (loanSlice κ1 q1 names#) (names# .now) (λ ν2-names δ2-names.
+        move ! (2 ∷ 0 ∷ []) $ calls-one ! (fmOf 𝓤 H (W .laws) 𝓣) (tripleOf 𝓤 H A declarations.signature (declarations.spec 𝓤 H A mem run)) (to (for-declarations (loanSlice κ0 q0 script#) (script# .now) (relent (loanSlice κ1 q1 names#) ν2-names δ2-names) (names# .now) x1-0 d s held (left - 1))) (known-declarations (to (for-declarations (loanSlice κ0 q0 script#) (script# .now) (relent (loanSlice κ1 q1 names#) ν2-names δ2-names) (names# .now) x1-0 d s held (left - 1))) (facts.less-declarations (script# .now) (names# .now) at next d s held left pre opened1 e1 x1-0 y1)) (for-declarations (loanSlice κ0 q0 script#) (script# .now) (relent (loanSlice κ1 q1 names#) ν2-names δ2-names) (names# .now) x1-0 d s held (left - 1)) refl ((enum-laws.owed Progress#.the-type Progress′.the-laws (Progress·.At x1-0) _ (subst (Good progresses) y1 g-opened1) .0), (g-d, (g-s, (g-held, ((refl, omega (arith, g-left .1)), tt))))) _ (facts.asks-declarations (script# .now) (names# .now) at next d s held left pre opened1 e1 x1-0 y1) (id⊢ 𝓤 _) progresses _ (said-together 𝓤 H A W (for-declarations (loanSlice κ0 q0 script#) (script# .now) (relent (loanSlice κ1 q1 names#) ν2-names δ2-names) (names# .now) x1-0 d s held (left - 1)) (progresses .type) (_ ∷ _ ∷ []))
         (and-then ! (var ! 3 1 refl refl tt) (and-then ! (var ! 3 14 refl refl tt) (and-then ! (var ! 3 10 refl refl tt) (and-then ! (var ! 3 5 refl refl tt) (and-then ! (var ! 3 6 refl refl tt) (and-then ! (var ! 3 7 refl refl tt) (and-then ! (var ! 3 15 refl refl tt) (no-more !)))))))) (λ declared2 ws2 g-declared2 e2 same2.
         lands-in ! 3 11 refl tt (typed 𝓤 H A W progresses declared2 g-declared2) $
-        move ! (1 ∷ 2 ∷ []) $ back-slice ! tt u32 h-names names (ws2 .1 .0) ν2-names δ2-names (same2 .1 .0) $
+        move ! (1 ∷ 2 ∷ []) $ back-slice ! tt u32 (loanSlice κ1 q1 names#) (names# .now) (ws2 .1 .0) ν2-names δ2-names (same2 .1 .0) $
         by-progress declared2
         (λ x2-0 y2. as-held ! 2 11 refl refl (ap (progresses .val) y2) $ hits ! (tag ! 2 11 refl refl tt refl refl refl) tt tt (λ falls2.
         puts-last ! 2 12 refl (of-opd ! (held-part ! 2 11 0 0 refl refl tt refl refl refl refl refl)) tt (typed 𝓤 H A W usizes x2-0 (enum-laws.owed Progress#.the-type Progress′.the-laws (Progress·.At x2-0) _ (subst (Good progresses) y2 g-declared2) .0)) $
         falls2 _ $
         puts ! 2 16 refl (lent-ptr ! 2 2 refl refl tt refl refl) tt (tt, tt) $
         puts ! 2 17 refl (lent-slice ! 2 2 16 refl refl refl tt tt refl refl) tt (tt, (tt, (record { fits = room-names .0 }, tt))) $
-        puts ! 2 15 refl (bin ! (var ! 2 8 refl refl tt) (lit ! tt) (facts.fits-2 script names at next d s held left pre opened1 e1 x1-0 y1 declared2 (ws2 .1 .0) e2 (same2 .1 .0) x2-0 y2)) tt (tt, record { fits = omega (arith, g-left .1) }) $
-        move ! (1 ∷ 0 ∷ []) $ calls-one ! fm (Calls-statements 𝓤 H A mem run) (to (for-statements h-script script h-names (ws2 .1 .0) x2-0 s (left - 1))) (known-statements (to (for-statements h-script script h-names (ws2 .1 .0) x2-0 s (left - 1))) (facts.less-statements script names at next d s held left pre opened1 e1 x1-0 y1 declared2 (ws2 .1 .0) e2 (same2 .1 .0) x2-0 y2)) (for-statements h-script script h-names (ws2 .1 .0) x2-0 s (left - 1)) refl ((enum-laws.owed Progress#.the-type Progress′.the-laws (Progress·.At x2-0) _ (subst (Good progresses) y2 g-declared2) .0), (g-s, ((refl, omega (arith, g-left .1)), tt))) _ (facts.asks-statements script names at next d s held left pre opened1 e1 x1-0 y1 declared2 (ws2 .1 .0) e2 (same2 .1 .0) x2-0 y2) (id⊢ 𝓤 _) progresses _ (said-together 𝓤 H A W (for-statements h-script script h-names (ws2 .1 .0) x2-0 s (left - 1)) (progresses .type) (_ ∷ _ ∷ []))
+        puts ! 2 15 refl (bin ! (var ! 2 8 refl refl tt) (lit ! tt) (facts.fits-2 (script# .now) (names# .now) at next d s held left pre opened1 e1 x1-0 y1 declared2 (ws2 .1 .0) e2 (same2 .1 .0) x2-0 y2)) tt (tt, record { fits = omega (arith, g-left .1) }) $
+        move ! (1 ∷ 0 ∷ []) $ calls-one ! (fmOf 𝓤 H (W .laws) 𝓣) (tripleOf 𝓤 H A statements.signature (statements.spec 𝓤 H A mem run)) (to (for-statements (loanSlice κ0 q0 script#) (script# .now) (loanSlice κ1 q1 names#) (ws2 .1 .0) x2-0 s (left - 1))) (known-statements (to (for-statements (loanSlice κ0 q0 script#) (script# .now) (loanSlice κ1 q1 names#) (ws2 .1 .0) x2-0 s (left - 1))) (facts.less-statements (script# .now) (names# .now) at next d s held left pre opened1 e1 x1-0 y1 declared2 (ws2 .1 .0) e2 (same2 .1 .0) x2-0 y2)) (for-statements (loanSlice κ0 q0 script#) (script# .now) (loanSlice κ1 q1 names#) (ws2 .1 .0) x2-0 s (left - 1)) refl ((enum-laws.owed Progress#.the-type Progress′.the-laws (Progress·.At x2-0) _ (subst (Good progresses) y2 g-declared2) .0), (g-s, ((refl, omega (arith, g-left .1)), tt))) _ (facts.asks-statements (script# .now) (names# .now) at next d s held left pre opened1 e1 x1-0 y1 declared2 (ws2 .1 .0) e2 (same2 .1 .0) x2-0 y2) (id⊢ 𝓤 _) progresses _ (said-together 𝓤 H A W (for-statements (loanSlice κ0 q0 script#) (script# .now) (loanSlice κ1 q1 names#) (ws2 .1 .0) x2-0 s (left - 1)) (progresses .type) (_ ∷ _ ∷ []))
         (and-then ! (var ! 2 1 refl refl tt) (and-then ! (var ! 2 17 refl refl tt) (and-then ! (var ! 2 12 refl refl tt) (and-then ! (var ! 2 6 refl refl tt) (and-then ! (var ! 2 15 refl refl tt) (no-more !)))))) (λ statements3 ws3 g-statements3 e3 same3.
         lands-in ! 2 0 refl tt (typed 𝓤 H A W progresses statements3 g-statements3) $
-        ends ! 2 refl refl tt $ by ! (exits statements3 (ws3 .1 .0) ((same3 .1 .0) ∙ (same2 .1 .0)) g-statements3 (facts.says-1 script names at next d s held left pre opened1 e1 x1-0 y1 declared2 (ws2 .1 .0) e2 (same2 .1 .0) x2-0 y2 statements3 (ws3 .1 .0) e3 (same3 .1 .0))))))
+        ends ! 2 refl refl tt $ by ! (exits statements3 (ws3 .1 .0) ((same3 .1 .0) ∙ (same2 .1 .0)) g-statements3 (facts.says-1 (script# .now) (names# .now) at next d s held left pre opened1 e1 x1-0 y1 declared2 (ws2 .1 .0) e2 (same2 .1 .0) x2-0 y2 statements3 (ws3 .1 .0) e3 (same3 .1 .0))))))
         (λ x2-0 x2-1 y2. as-held ! 2 11 refl refl (ap (progresses .val) y2) $ misses ! (tag ! 2 11 refl refl tt refl refl refl) tt tt (
         puts ! 2 0 refl (of-opd ! (var ! 2 11 refl refl tt)) tt (typed 𝓤 H A W progresses (Progress·.Refused x2-0 x2-1) (subst (Good progresses) y2 g-declared2)) $
-        ends-early ! 2 Post refl refl refl tt $ gives ! (mutSlice u32) h-names (ws2 .1 .0) $ move ! (1 ∷ 0 ∷ []) $ by ! (exits (Progress·.Refused x2-0 x2-1) (ws2 .1 .0) (same2 .1 .0) (subst (Good progresses) y2 g-declared2) (facts.says-2 script names at next d s held left pre opened1 e1 x1-0 y1 declared2 (ws2 .1 .0) e2 (same2 .1 .0) x2-0 x2-1 y2))))))))
+        ends-early ! 2 Post refl refl refl tt $ gives ! (mutSlice u32) (loanSlice κ1 q1 names#) (ws2 .1 .0) $ move ! (1 ∷ 0 ∷ []) $ by ! (exits (Progress·.Refused x2-0 x2-1) (ws2 .1 .0) (same2 .1 .0) (subst (Good progresses) y2 g-declared2) (facts.says-2 (script# .now) (names# .now) at next d s held left pre opened1 e1 x1-0 y1 declared2 (ws2 .1 .0) e2 (same2 .1 .0) x2-0 x2-1 y2))))))))
         (λ x1-0 x1-1 y1. as-held ! 2 9 refl refl (ap (progresses .val) y1) $ misses ! (tag ! 2 9 refl refl tt refl refl refl) tt tt (
         puts ! 2 0 refl (of-opd ! (var ! 2 9 refl refl tt)) tt (typed 𝓤 H A W progresses (Progress·.Refused x1-0 x1-1) (subst (Good progresses) y1 g-opened1)) $
-        ends-early ! 2 Post refl refl refl tt $ move ! (1 ∷ []) $ gives ! (mutSlice u32) h-names names $ move ! (1 ∷ 0 ∷ []) $ by ! (exits (Progress·.Refused x1-0 x1-1) names refl (subst (Good progresses) y1 g-opened1) (facts.says-3 script names at next d s held left pre opened1 e1 x1-0 x1-1 y1)))))))
+        ends-early ! 2 Post refl refl refl tt $ move ! (1 ∷ []) $ gives ! (mutSlice u32) (loanSlice κ1 q1 names#) (names# .now) $ move ! (1 ∷ 0 ∷ []) $ by ! (exits (Progress·.Refused x1-0 x1-1) (names# .now) refl (subst (Good progresses) y1 g-opened1) (facts.says-3 (script# .now) (names# .now) at next d s held left pre opened1 e1 x1-0 x1-1 y1)))))))
 
 module _ {M : Type 1} (𝓤 : URA M) (H : Heap 𝓤) (A : Atoms 𝓤) (W : Given 𝓤 H A) (mem : Memory → SProp 𝓤) (run : Routine → Fun 𝓤) (𝓣 : Tables 𝓤 H)
-    (known-opened : Triple 𝓤 (𝓣 .C #opened) (Calls-opened 𝓤 H A mem run)) where
-  pub at-size : (z : tripleOf 𝓤 H A f.signature (f.spec 𝓤 H A mem run) .Ghost) → ((y : Calls-declarations 𝓤 H A mem run .Ghost) → sizes.declarations-size ((y .0 .3 .0) .now) ((y .0 .3 .1 .0) .now) (y .0 .3 .1 .1 .0) (y .0 .3 .1 .1 .1 .0) (y .0 .3 .1 .1 .1 .1 .0) (y .0 .3 .1 .1 .1 .1 .1 .0) (y .0 .3 .1 .1 .1 .1 .1 .1 .0) < sizes.block-size ((z .0 .3 .0) .now) ((z .0 .3 .1 .0) .now) (z .0 .3 .1 .1 .0) (z .0 .3 .1 .1 .1 .0) (z .0 .3 .1 .1 .1 .1 .0) (z .0 .3 .1 .1 .1 .1 .1 .0) (z .0 .3 .1 .1 .1 .1 .1 .1 .0) (z .0 .3 .1 .1 .1 .1 .1 .1 .1 .0) → ent 𝓤 (Calls-declarations 𝓤 H A mem run .pre y) (𝓣 .C #declarations (Calls-declarations 𝓤 H A mem run .args y) (Calls-declarations 𝓤 H A mem run .post y))) → ((y : Calls-statements 𝓤 H A mem run .Ghost) → sizes.statements-size ((y .0 .3 .0) .now) ((y .0 .3 .1 .0) .now) (y .0 .3 .1 .1 .0) (y .0 .3 .1 .1 .1 .0) (y .0 .3 .1 .1 .1 .1 .0) < sizes.block-size ((z .0 .3 .0) .now) ((z .0 .3 .1 .0) .now) (z .0 .3 .1 .1 .0) (z .0 .3 .1 .1 .1 .0) (z .0 .3 .1 .1 .1 .1 .0) (z .0 .3 .1 .1 .1 .1 .1 .0) (z .0 .3 .1 .1 .1 .1 .1 .1 .0) (z .0 .3 .1 .1 .1 .1 .1 .1 .1 .0) → ent 𝓤 (Calls-statements 𝓤 H A mem run .pre y) (𝓣 .C #statements (Calls-statements 𝓤 H A mem run .args y) (Calls-statements 𝓤 H A mem run .post y))) → ent 𝓤 (tripleOf 𝓤 H A f.signature (f.spec 𝓤 H A mem run) .pre z) (WpFn 𝓤 H (𝓣 .C) (𝓣 .Λ) mine.block-function (tripleOf 𝓤 H A f.signature (f.spec 𝓤 H A mem run) .args z) (tripleOf 𝓤 H A f.signature (f.spec 𝓤 H A mem run) .post z))
+    (known-opened : Triple 𝓤 (𝓣 .C #opened) (tripleOf 𝓤 H A opened.signature (opened.spec 𝓤 H A mem run))) where
+  pub at-size : (z : tripleOf 𝓤 H A f.signature (f.spec 𝓤 H A mem run) .Ghost) → ((y : (tripleOf 𝓤 H A declarations.signature (declarations.spec 𝓤 H A mem run)) .Ghost) → sizes.declarations-size ((y .0 .3 .0) .now) ((y .0 .3 .1 .0) .now) (y .0 .3 .1 .1 .0) (y .0 .3 .1 .1 .1 .0) (y .0 .3 .1 .1 .1 .1 .0) (y .0 .3 .1 .1 .1 .1 .1 .0) (y .0 .3 .1 .1 .1 .1 .1 .1 .0) < sizes.block-size ((z .0 .3 .0) .now) ((z .0 .3 .1 .0) .now) (z .0 .3 .1 .1 .0) (z .0 .3 .1 .1 .1 .0) (z .0 .3 .1 .1 .1 .1 .0) (z .0 .3 .1 .1 .1 .1 .1 .0) (z .0 .3 .1 .1 .1 .1 .1 .1 .0) (z .0 .3 .1 .1 .1 .1 .1 .1 .1 .0) → ent 𝓤 ((tripleOf 𝓤 H A declarations.signature (declarations.spec 𝓤 H A mem run)) .pre y) (𝓣 .C #declarations ((tripleOf 𝓤 H A declarations.signature (declarations.spec 𝓤 H A mem run)) .args y) ((tripleOf 𝓤 H A declarations.signature (declarations.spec 𝓤 H A mem run)) .post y))) → ((y : (tripleOf 𝓤 H A statements.signature (statements.spec 𝓤 H A mem run)) .Ghost) → sizes.statements-size ((y .0 .3 .0) .now) ((y .0 .3 .1 .0) .now) (y .0 .3 .1 .1 .0) (y .0 .3 .1 .1 .1 .0) (y .0 .3 .1 .1 .1 .1 .0) < sizes.block-size ((z .0 .3 .0) .now) ((z .0 .3 .1 .0) .now) (z .0 .3 .1 .1 .0) (z .0 .3 .1 .1 .1 .0) (z .0 .3 .1 .1 .1 .1 .0) (z .0 .3 .1 .1 .1 .1 .1 .0) (z .0 .3 .1 .1 .1 .1 .1 .1 .0) (z .0 .3 .1 .1 .1 .1 .1 .1 .1 .0) → ent 𝓤 ((tripleOf 𝓤 H A statements.signature (statements.spec 𝓤 H A mem run)) .pre y) (𝓣 .C #statements ((tripleOf 𝓤 H A statements.signature (statements.spec 𝓤 H A mem run)) .args y) ((tripleOf 𝓤 H A statements.signature (statements.spec 𝓤 H A mem run)) .post y))) → ent 𝓤 (tripleOf 𝓤 H A f.signature (f.spec 𝓤 H A mem run) .pre z) (WpFn 𝓤 H (𝓣 .C) (𝓣 .Λ) mine.block-function (tripleOf 𝓤 H A f.signature (f.spec 𝓤 H A mem run) .args z) (tripleOf 𝓤 H A f.signature (f.spec 𝓤 H A mem run) .post z))
   at-size z known-declarations known-statements = let κs = z .0 .0 in let qs = z .0 .1 in let a = z .0 .3 in let g = z .1 in
       walk-meets-at 𝓤 H A f.ended stayed W (goes-none-slice 𝓤 H A W 2 (0 ∷ []) tt (plain (λ _. u8)) yes, (goes-gave-slice 𝓤 H A W 2 1 tt (plain (λ _. u32)), (goes-none 𝓤 H A W 2 (λ _. usizes .type) yes (λ κs x f. refl), (goes-none 𝓤 H A W 2 (λ _. usizes .type) yes (λ κs x f. refl), (goes-none 𝓤 H A W 2 (λ _. usizes .type) yes (λ κs x f. refl), (goes-none 𝓤 H A W 2 (λ _. usizes .type) yes (λ κs x f. refl), (goes-none 𝓤 H A W 2 (λ _. usizes .type) yes (λ κs x f. refl), (goes-none 𝓤 H A W 2 (λ _. usizes .type) yes (λ κs x f. refl), tt))))))))
       (f.clauses 𝓤 H A mem run) (WpFn 𝓤 H (𝓣 .C) (𝓣 .Λ) mine.block-function) (WpFn-mono 𝓤 H (W .laws) 𝓣 mine.block-function) z
