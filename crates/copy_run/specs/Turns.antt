@@ -20,10 +20,11 @@ use Rattle.run_statements.specs.Answers.{Answered, turnAfter, done-goes, stoppe
 use Rattle.steps.specs.Means.{GoesOn, JumpsTo, EntersAt, AnswerMeans, MoveMeans}
 use Rattle.steps.specs.Here.{within-activations}
 use Rattle.steps.specs.Loop.{leaves, jumped}
-use Rattle.copy_statements.specs.declared.moved.Moved.{Moved}
-use Rattle.copy_statements.specs.declared.moved.Moved.the-variants.{Went, Jump as JumpTo, Enter as EnterBy, Stop as StopFor, Table as AskBy}
+use Rattle.run_statements.specs.declared.moved.Moved.{Moved}
+use Rattle.run_statements.specs.declared.moved.Moved.the-variants.{Went, Jump as JumpTo, Enter as EnterBy, Stop as StopFor, Table as AskBy}
 use Rattle.copy_statements.specs.Doing.{doing}
-use Rattle.copy_statements.specs.Moved.{movedBy, Came}
+use Rattle.run_statements.specs.Moved.{movedBy}
+use Rattle.copy_statements.specs.Moved.{Came}
 use Rattle.run_state.specs.declared.Registers.{Registers}
 use Rattle.run_state.specs.declared.Turn.{Turn}
 use Rattle.run_state.specs.Limits.{limitsBy, goesTo}
@@ -67,7 +68,7 @@ module _ {code names : List ℕ} {activations limit : ℕ} {cells : List ℤ} {a
   abbrev MovedMeans : Moved → List ℤ → Type 0
   MovedMeans (Went p) cells′ = MoveMeans (w .standing) (On p) cells′
   MovedMeans (JumpTo p home) cells′ = MoveMeans (w .standing) (Jump home p) cells′
-  MovedMeans (EnterBy back link body) cells′ = MoveMeans (w .standing) (Enter body link back) cells′
+  MovedMeans (EnterBy body link back) cells′ = MoveMeans (w .standing) (Enter body link back) cells′
   MovedMeans (StopFor c) cells′ = MoveMeans (w .standing) (Stop c) cells′
   MovedMeans (AskBy p g m t a) cells′ = MoveMeans (w .standing) (Asks p g m t a) cells′
 
@@ -151,13 +152,13 @@ module _ {code names : List ℕ} {activations limit : ℕ} {cells : List ℤ} {a
 
     -- An entry
 
-    enters : {body link back : ℕ} → r ≡ EnterBy back link body → EntersAt (w .standing) body link back cells′
+    enters : {body link back : ℕ} → r ≡ EnterBy body link back → EntersAt (w .standing) body link back cells′
     enters e = means-as e
 
-    pub enter-ready : here .fresh + 32 * 1 + 32 ≤ 4294967296 → {body link back : ℕ} → r ≡ EnterBy back link body → Enterable code names area width here body link back
+    pub enter-ready : here .fresh + 32 * 1 + 32 ≤ 4294967296 → {body link back : ℕ} → r ≡ EnterBy body link back → Enterable code names area width here body link back
     enter-ready few {body} {link} {back} e = enterable w body link back cells′ (enters e) (omega arith)
 
-    pub entered-on : {body link back : ℕ} → r ≡ EnterBy back link body → {cells″ : List ℤ} {area′ blocks′ nexts′ firsts′ starts′ targets′ looked′ : List ℕ} {n : Registers}
+    pub entered-on : {body link back : ℕ} → r ≡ EnterBy body link back → {cells″ : List ℤ} {area′ blocks′ nexts′ firsts′ starts′ targets′ looked′ : List ℕ} {n : Registers}
         → AnewIn code names width here body link back cells′ area blocks nexts firsts starts targets looked cells″ area′ blocks′ nexts′ firsts′ starts′ targets′ looked′ n
         → Succeeds w cells″ area′ blocks′ nexts′ firsts′ starts′ targets′ looked′ table n
     entered-on {body} {link} {back} e {cells″} {area′} {blocks′} {nexts′} {firsts′} {starts′} {targets′} {looked′} {n} k =

@@ -2,7 +2,6 @@
 use copy_entry::enter;
 use copy_moves::begin;
 use copy_moves::looked_up;
-use copy_statements::Moved;
 use copy_statements::act;
 use run_moves::Ask;
 use run_records::jump;
@@ -15,6 +14,7 @@ use run_state::finished;
 use run_state::named;
 use run_state::spent;
 use run_state::stopped;
+use run_statements::Moved;
 use run_statements::after;
 use table_pairs::Change;
 ghost use mathlib.Core.Path.{_≡_};
@@ -100,7 +100,7 @@ pub fn step(
     ) {
         Moved::Went(place) => Turn::Went(Registers { at: place, ..here }),
         Moved::Jump(place, home) => Turn::Went(jump(code, blocks, here, home, place)),
-        Moved::Enter(back, link, body) => Turn::Went(enter(
+        Moved::Enter(body, link, back) => Turn::Went(enter(
             code,
             names,
             cells,

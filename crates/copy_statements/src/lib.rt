@@ -16,19 +16,17 @@ use copy_arms::field;
 use membership::do_add_pair;
 use membership::do_query;
 use membership::do_remove_pair;
-use moved::came_to;
+use run_statements::Moved;
+use run_statements::came_to;
 use run_statements::do_block;
 ghost use mathlib.Core.Path.{_≡_};
 ghost use Rattle.run_moves.specs.Acting.{sceneBy};
 ghost use Rattle.copy_statements.specs.Doing.{doing};
-ghost use Rattle.copy_statements.specs.Moved.{movedBy};
+ghost use Rattle.run_statements.specs.Moved.{movedBy};
 ghost use Rattle.copy_statements.specs.Ready.{Ready};
 ghost use Rattle.copy_statements.specs.Scenes.{copyBy};
 
 mod membership;
-mod moved;
-
-pub use moved::Moved;
 
 pub fn act(
     code: &[u32; 4096],

@@ -10,11 +10,12 @@ use Rattle.coordinates.specs.Search.{coordinate-here, coordinate-further}
 use Rattle.coordinates.specs.Declared.{coordinate-declares, level-here, level-further}
 use Rattle.f_search.specs.Numbers.{firstNumber, numberOf}
 
-number-here : (e : Enclosing) (es : Enclosure) (n p : ℕ) → positionFrom n 1 (namesOf e) ≡ some p → numberOf (e ∷ es) n ≡ firstNumber e + pred p
+-- by where the block has it
+pub number-here : (e : Enclosing) (es : Enclosure) (n p : ℕ) → positionFrom n 1 (namesOf e) ≡ some p → numberOf (e ∷ es) n ≡ firstNumber e + pred p
 unfolding numberOf
 number-here e es n p q = rw (q, numberOf)
 
-number-further : (e : Enclosing) (es : Enclosure) (n : ℕ) → positionFrom n 1 (namesOf e) ≡ none → numberOf (e ∷ es) n ≡ numberOf es n
+pub number-further : (e : Enclosing) (es : Enclosure) (n : ℕ) → positionFrom n 1 (namesOf e) ≡ none → numberOf (e ∷ es) n ≡ numberOf es n
 unfolding numberOf
 number-further e es n q = rw (q, numberOf)
 

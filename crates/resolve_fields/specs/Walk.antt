@@ -1,10 +1,11 @@
 -- Words for the names of a script, one for each of its fields: where a declaration has its name, that name's word; in a statement, the words that `action`
 -- gives; in a BK, the looked-up name's; 0 in every other field, and in a formal's own record. `wordsLayout`: they are laid out as the fields are.
 use Prim.Native.Nat.{ℕ}
-use mathlib.Core.List.{List, [], _∷_, _++_}
+use native.Mathlib.Omega.{arith}
+use mathlib.Core.List.{List, [], _∷_, _++_, map}
 use mathlib.Core.Path.{_≡_, refl}
-use lib.ListN.{length}
-use Rattle.language.specs.Text.{Formal, Action, Block, block, Decl, VR, LB, PR, Stmt, BK, DO, Decls, no-decl, decl, Stmts, no-stmt, stmt}
+use lib.ListN.{length, length-map}
+use Rattle.language.specs.Text.{Formal, Action, CL, GO, IF, KN, AR, AD, RM, QY, Block, block, Decl, VR, LB, PR, Stmt, BK, DO, Decls, no-decl, decl, Stmts, no-stmt, stmt}
 use Rattle.language.specs.Encoding.{actionFields}
 use Rattle.coordinates.specs.Enclosure.{enclosed, Enclosure}
 use Rattle.resolve_fields.specs.Layout.{Layout}
@@ -15,6 +16,28 @@ pub record Words : Type 0 where
   pub action : Enclosure → Action → List ℕ
   -- in the enclosure that begins with the block
   pub looked-up : Enclosure → ℕ
+
+-- the words of a statement's names, each in its field; of an IF's two, in the order that `two` gives them
+abbrev pub actionWords : (ℕ → ℕ → ℕ × ℕ) → (ℕ → ℕ) → Action → List ℕ
+actionWords two word (KN t z) = 0 ∷ word t ∷ 0 ∷ 0 ∷ []
+actionWords two word (AR t o l r) = 0 ∷ word t ∷ 0 ∷ word l ∷ word r ∷ []
+actionWords two word (IF v l) = 0 ∷ two (word v) (word l) .0 ∷ two (word v) (word l) .1 ∷ []
+actionWords two word (GO l) = 0 ∷ word l ∷ []
+actionWords two word (CL p xs) = 0 ∷ word p ∷ 0 ∷ map word xs
+actionWords two word (AD g m) = 0 ∷ word g ∷ word m ∷ []
+actionWords two word (RM g m) = 0 ∷ word g ∷ word m ∷ []
+actionWords two word (QY t g m) = 0 ∷ word t ∷ word g ∷ word m ∷ []
+
+pub action-words-length : (two : ℕ → ℕ → ℕ × ℕ) (word : ℕ → ℕ) (a : Action) → length (actionWords two word a) ≡ length (actionFields a)
+unfolding actionFields
+action-words-length two word (CL p xs) = let h = length-map xs word in omega arith
+action-words-length two word (GO l) = refl
+action-words-length two word (IF v l) = refl
+action-words-length two word (KN t z) = refl
+action-words-length two word (AR t o l r) = refl
+action-words-length two word (AD g m) = refl
+action-words-length two word (RM g m) = refl
+action-words-length two word (QY t g m) = refl
 
 unfoldable pub formalsWords : List Formal → List ℕ
 formalsWords [] = []

@@ -1,5 +1,6 @@
 -- What the engines' functions for statements have in common, in reading order.
 pub mod Words
+pub mod Moved
 pub mod Pieces
 pub mod Doing
 pub mod Scenes

@@ -11,11 +11,14 @@ ghost use Rattle.language.specs.Encoding.{signed};
 ghost use Rattle.run_statements.specs.Pieces.{blockMove, moveAfter};
 
 mod membership;
+mod moved;
 
 pub use membership::add;
 pub use membership::after;
 pub use membership::query;
 pub use membership::remove;
+pub use moved::Moved;
+pub use moved::came_to;
 
 // KN, with its target's cell.
 pub fn constant(code: &[u32; 4096], cells: &mut [i32; 8224], target: usize, at: usize) -> Move

@@ -8,12 +8,13 @@ use mathlib.Core.Path.{_≡_, refl, sym, ap, _∙_}
 use lib.ListN.{getD}
 use Rattle.laws.specs.Tests.{by-lookup}
 use Rattle.frames.specs.Frame.{positionFrom}
-use Rattle.coordinates.specs.Enclosure.{Enclosing, Enclosure, Coordinate, namesOf, coordinateOf}
+use Rattle.coordinates.specs.Enclosure.{Enclosure, Coordinate, namesOf, coordinateOf}
 use Rattle.coordinates.specs.Search.{coordinate-here, coordinate-further}
 use Rattle.coordinates.specs.Declared.{coordinate-declares}
 use Rattle.resolved.specs.Resolved.{levelIn, positionIn, nameWord, Covers}
 use Rattle.resolved.specs.NameWords.{word-none, Narrow, name-is}
 use Rattle.f_search.specs.Numbers.{firstNumber, numberOf}
+use Rattle.f_search.specs.Numbered.{number-here, number-further}
 use Rattle.resolve_fields.specs.Taking.{Gives}
 use Rattle.search_numbers.specs.Around.{numberAt, Around}
 
@@ -24,14 +25,6 @@ pub number-from :
 unfolding numberAt
 number-from code around p w level place position a b c d =
     (λ i. 32 * c i + d i) ∙ (λ i. 32 * getD around (b i) 0 + positionIn w) ∙ (λ i. 32 * getD around (levelIn (a i)) 0 + positionIn (a i))
-
-number-here : (e : Enclosing) (es : Enclosure) (n p : ℕ) → positionFrom n 1 (namesOf e) ≡ some p → numberOf (e ∷ es) n ≡ firstNumber e + pred p
-unfolding numberOf
-number-here e es n p q = rw (q, numberOf)
-
-number-further : (e : Enclosing) (es : Enclosure) (n : ℕ) → positionFrom n 1 (namesOf e) ≡ none → numberOf (e ∷ es) n ≡ numberOf es n
-unfolding numberOf
-number-further e es n q = rw (q, numberOf)
 
 module _ (around : List ℕ) where
   -- the number at a coordinate

@@ -28,8 +28,8 @@ use Rattle.run_cells.specs.Calling.{wordAfter, call-move}
 use Rattle.run_cells.specs.Cells.{target-own, goto-own}
 use Rattle.search_names.specs.Seeking.{firstAt}
 use Rattle.search_calls.specs.Passing.{handedOn, passersBy, steered, steered-call, Called, CalledFormal}
-use Rattle.search_step.specs.declared.moved.Moved.{Moved}
-use Rattle.search_step.specs.Moved.{movedBy}
+use Rattle.run_statements.specs.declared.moved.Moved.{Moved}
+use Rattle.run_statements.specs.Moved.{movedBy}
 use Rattle.search_step.specs.Asked.{ByOne, ByTwo, ByThree, ByOperands}
 use Rattle.search_step.specs.Acted.{Doing, Acts, fromBy, enteredPassers, passersAfter}
 use Rattle.search_step.specs.Ready.{firstOf, led, ready, arguments-led}

@@ -14,8 +14,8 @@ use Rattle.run_state.specs.declared.Registers.{Registers}
 use Rattle.run_state.specs.Limits.{goesTo}
 use Rattle.search_calls.specs.Passing.{ownAt, handedOn, steered}
 use Rattle.search_moves.specs.Running.{Running}
-use Rattle.search_step.specs.declared.moved.Moved.{Moved}
-use Rattle.search_step.specs.Moved.{movedBy}
+use Rattle.run_statements.specs.declared.moved.Moved.{Moved}
+use Rattle.run_statements.specs.Moved.{movedBy}
 
 -- what the statement at a place asks: an engine that runs stands there, before the end of its text
 pub record Doing (code numbers : List ℕ) (cells : List ℤ) (passers blocks froms : List ℕ) (activations live at : ℕ) : Type 0 where

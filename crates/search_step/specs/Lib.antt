@@ -1,4 +1,3 @@
-pub mod Moved
 pub mod Asked
 pub mod Acted
 pub mod Ready

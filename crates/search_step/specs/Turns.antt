@@ -35,9 +35,9 @@ use Rattle.search_moves.specs.Steering.{framesAfter}
 use Rattle.search_moves.specs.Going as going
 use Rattle.search_moves.specs.Entry.{Enterable, EnteredIn}
 use Rattle.search_moves.specs.Entering.{enterable, entered-to}
-use Rattle.search_step.specs.declared.moved.Moved.{Moved}
-use Rattle.search_step.specs.declared.moved.Moved.the-variants.{Went, Table, Jump, Enter, Stop}
-use Rattle.search_step.specs.Moved.{movedBy}
+use Rattle.run_statements.specs.declared.moved.Moved.{Moved}
+use Rattle.run_statements.specs.declared.moved.Moved.the-variants.{Went, Table, Jump, Enter, Stop}
+use Rattle.run_statements.specs.Moved.{movedBy}
 use Rattle.search_step.specs.Acted.{Doing, fromBy, enteredPassers, passersAfter, happening, Acts}
 use Rattle.search_step.specs.Turning.{arraysOf, Turned}
 use Rattle.search_step.specs.Entries.{enters-by, Steered, steered-entry}

@@ -1,11 +1,11 @@
 // A step of the search engine: a name is found by its number, along the callers' chain and, after an entry through a formal, from that formal's passer on.
 use act::act;
-use moved::Moved;
 use run_moves::Ask;
 use run_records::jump;
 use run_records::leave;
 use run_state::Registers;
 use run_state::Turn;
+use run_statements::Moved;
 use run_statements::after;
 use search_moves::enter;
 use table_pairs::Change;
@@ -18,7 +18,6 @@ ghost use Rattle.search_step.specs.Turning.{arraysOf, TurnsTo};
 
 mod act;
 mod arms;
-mod moved;
 
 // What the table answers.
 fn asked(

@@ -31,7 +31,7 @@ halfOf c = c .before .before .before .before
 abbrev toldOf : tie.After-enter-arg4 → tie.After-known-told3
 toldOf c = c .before .before .before .before
 
-abbrev bodyOf : tie.After-enter-arg8 → tie.After-back
+abbrev bodyOf : tie.After-enter-arg8 → tie.After-body
 bodyOf c = (toldOf (halfOf c)) .before
 
 abbrev askedOf : tie.After-asked-arg2 → tie.After-place3
@@ -67,7 +67,7 @@ enter-requires c κs =
     let b = bodyOf c in
     let a = b .before .before in
     let p = (startOf a) .pre in
-    enter-ready (p .running) ((elseOf a) .if1 .left) (a .act .ensures) (p .names-left) (b .back .given .1)
+    enter-ready (p .running) ((elseOf a) .if1 .left) (a .act .ensures) (p .names-left) (b .body .given .1)
 
 asked-requires : tie.Need-asked-requires
 asked-requires c κs =
@@ -92,7 +92,7 @@ returns-5 c =
     let e = c .before .before in
     let b = bodyOf (e .before) in
     let a = b .before .before in
-    λ w. entered-on w ((elseOf a) .if1 .left) (a .act .ensures) (b .back .given .1) (e .enter .ensures)
+    λ w. entered-on w ((elseOf a) .if1 .left) (a .act .ensures) (b .body .given .1) (e .enter .ensures)
 
 returns-6 : tie.Need-returns-6
 returns-6 c =

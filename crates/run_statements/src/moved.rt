@@ -1,12 +1,11 @@
-// What a statement comes to in the search engine.
+// What a statement has come to, as a run goes on by it.
 use language::Stop;
 use run_moves::Ask;
 use run_moves::Move;
 ghost use mathlib.Core.Path.{_≡_};
-ghost use Rattle.search_step.specs.Moved.{movedBy};
+ghost use Rattle.run_statements.specs.Moved.{movedBy};
 
-// As `Move`, with the place to go on at first in a jump: where it stands differently in each, the compiler keeps it in memory. An activation that is entered
-// has where the search goes on from it in the place of its link.
+// As `Move`, with the place to go on at first in a jump: where it stands differently in each, the compiler keeps it in memory.
 pub enum Moved {
     Went(usize),
     Table(usize, usize, usize, usize, Ask),
@@ -24,7 +23,7 @@ pub fn came_to(done: Move) -> Moved
             Moved::Table(place, group, member, target, ask)
         }
         Move::Jump(home, place) => Moved::Jump(place, home),
-        Move::Enter(body, from, back) => Moved::Enter(body, from, back),
+        Move::Enter(body, link, back) => Moved::Enter(body, link, back),
         Move::Stop(cause) => Moved::Stop(cause),
     }
 }

@@ -1,8 +1,8 @@
 -- `came_to` meets its contract.
 use borrow.Author.Needs.{needs}
-use Rattle.copy_statements.specs.Moved.{movedBy}
-use Rattle.copy_statements.proofs.moved.came_to.Statement.{statement}
-use Rattle.copy_statements.proofs.moved.came_to.Tie as tie
+use Rattle.run_statements.specs.Moved.{movedBy}
+use Rattle.run_statements.proofs.moved.came_to.Statement.{statement}
+use Rattle.run_statements.proofs.moved.came_to.Tie as tie
 
 pub came-to-spec : {M : Type 1} → statement M
 unfolding movedBy
