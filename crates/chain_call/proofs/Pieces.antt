@@ -3,24 +3,23 @@
 use Prim.Native.Nat.{ℕ, _*_, _≤_}
 use native.Mathlib.Omega.{arith}
 use mathlib.Core.List.{List}
-use mathlib.Core.Path.{_≡_, refl, sym, ap, _∙_, subst}
+use mathlib.Core.Path.{_≡_, refl, sym, _∙_, subst}
 use borrow.Author.Tests.{leb-true}
 use lib.IntN.{ℤ, pos}
-use lib.ListN.{length, getD, replicate, length-replicate, getD-replicate}
+use lib.ListN.{length, replicate}
 use Rattle.language.specs.Text.{Block}
 use Rattle.language.specs.Sheet.{sheetShare}
 use Rattle.language.specs.Call.{Fed, chain, recordsFit, holdsAtLeast, written}
 use Rattle.language.specs.declared.Answer.{Answer}
 use Rattle.grammar.specs.Rules.{Bytes}
-use Rattle.runs.specs.Admission.{Admitted, limits-fit, records-fit, table-right, activations-fit}
+use Rattle.runs.specs.Admission.{Admitted, records-fit}
 use Rattle.frames.specs.Frame.{Frame, frameRun, frameStart, frameRunOf, frameSheet}
-use Rattle.coordinates.specs.Sound.{accepted-keeps-rules}
 use Rattle.resolved.specs.Resolved.{resolvedOf, Covers}
 use Rattle.resolve_script.specs.Resolving.{Resolved, resolved-covers}
 use Rattle.run_sheet.specs.Held.{Held}
 use Rattle.call_answers.specs.Replies.{Answers}
 use Rattle.call_replies.specs.Replies.{with-links}
-use Rattle.call_replies.specs.Runs.{sheet-needs, run-replies}
+use Rattle.call_replies.specs.Runs.{call-begins, sheet-needs, run-replies}
 use Rattle.chain_records.specs.declared.Activation.{Activation}
 use Rattle.chain_links.specs.Records.{blocksIn, nextsIn}
 use Rattle.run_state.specs.Limits.{limitsBy}
@@ -37,42 +36,26 @@ module _ (records : List Activation) (f : Fed) (bytes : Bytes (f .script)) (t : 
   unfolding recordsFit holdsAtLeast
   records-room = leb-true (f .activations) (length records) (records-fit h)
 
-  abbrev Begins : Type 0
-  Begins = Beginning code cells records (f .lent .table .words) (f .lent .table .used) (f .limit) (f .activations)
+  abbrev Begins : ℕ → Type 0
+  Begins = Beginning code cells records (f .lent .table .words) (f .lent .table .used) (f .limit)
 
-  beginning : Begins
-  beginning =
-      let few = activations-fit f (limits-fit h) in
-      record {
-        program = t;
-        name = f .name;
-        keeps = accepted-keeps-rules (f .script) bytes t (h .script);
-        covers = covers;
-        some-live = few .0;
-        few-live = few .1;
-        table-right = table-right h;
-        cells-long = ap length zero ∙ length-replicate 8224 (pos 0);
-        zeros = λ i p. ap (λ (ws : List ℤ). getD ws i (pos 0)) zero ∙ getD-replicate 8224 i (pos 0) (pos 0) (omega arith);
-        room = records-room;
-      }
+  abbrev beginning : Begins (f .activations)
+  beginning = record { begun = call-begins bytes h covers zero; room = records-room }
 
   -- the same of what the code has as the limit
-  pub begins-at : (activations : ℕ) → activations ≡ f .activations → Beginning code cells records (f .lent .table .words) (f .lent .table .used) (f .limit) activations
-  begins-at activations q = subst (λ (k : ℕ). Beginning code cells records (f .lent .table .words) (f .lent .table .used) (f .limit) k) (sym q) beginning
+  pub begins-at : (activations : ℕ) → activations ≡ f .activations → Begins activations
+  begins-at activations q = subst Begins (sym q) beginning
+
+  -- what a run from there ends with
+  abbrev Ends : {activations : ℕ} → Begins activations → Halt → List ℤ → List Activation → List ℤ → Type 0
+  Ends {activations} b =
+      Ended (b .begun .program) (b .begun .name) activations (f .limit) (frameRun (limitsBy activations (f .limit)) (f .allowance) (frameStart (b .begun .program) (f .lent .table)))
 
   module _ (r : Halt) {cells′ : List ℤ} {records′ : List Activation} {table′ : List ℤ} (activations : ℕ) (q : activations ≡ f .activations)
-      (run : (b : Beginning code cells records (f .lent .table .words) (f .lent .table .used) (f .limit) activations) → Ended (b .program) (b .name) activations (f
-      .limit)
-      (frameRun (limitsBy activations (f .limit)) (f .allowance) (frameStart (b .program) (f .lent .table))) r cells′ records′ table′) where
-    run-ends : (b : Begins) → Ended (b .program) (b .name) (f .activations) (f .limit)
-        (frameRun (limitsBy (f .activations) (f .limit)) (f .allowance) (frameStart (b .program) (f .lent .table))) r cells′ records′ table′
-    run-ends = subst (λ (k : ℕ). (b : Beginning code cells records (f .lent .table .words) (f .lent .table .used) (f .limit) k) → Ended (b .program) (b .name) k
-        (f .limit)
-        (frameRun (limitsBy k (f .limit)) (f .allowance) (frameStart (b .program) (f .lent .table))) r cells′ records′ table′) q run
-
+      (run : (b : Begins activations) → Ends b r cells′ records′ table′) where
     ended : Ended t (f .name) (f .activations) (f .limit) (frameRunOf f t) r cells′ records′ table′
-    unfolding frameRunOf beginning
-    ended = run-ends beginning
+    unfolding frameRunOf
+    ended = subst (λ (k : ℕ). (b : Begins k) → Ends b r cells′ records′ table′) q run beginning
 
     pub sheet-ready : length records′ ≡ length records → ((fs : List Frame) × Held code cells′ (blocksIn records′) (nextsIn records′) fs × (length fs ≡ r .live)) ×
         ((r .live ≤ length records′) × (sheetShare * r .live ≤ length (f .lent .sheet)))

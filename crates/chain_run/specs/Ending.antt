@@ -18,6 +18,7 @@ use Rattle.resolved.specs.Resolved.{levelIn}
 use Rattle.arrays.specs.Names.{nothing-live}
 use Rattle.steps.specs.Here.{live-few}
 use Rattle.steps.specs.Reads.{at-within, begin-reads}
+use Rattle.steps.specs.Begun.{AtStart, resultFrom}
 use Rattle.steps.specs.Loop.{begins, spent as spends, stops}
 use Rattle.steps.specs.Underway as steps
 use Rattle.resolved.specs.Layout.{endIn, firstIn}
@@ -268,28 +269,24 @@ module _ {code : List ℕ} {cells : List ℤ} {records : List Activation} {here 
 module _ {code : List ℕ} {cells : List ℤ} {records : List Activation} {table : List ℤ} {pairs limit activations : ℕ}
     (b : Beginning code cells records table pairs limit activations) where
   pub room-first : Room records 0
-  room-first = record { few = omega arith; there = omega (arith, b .room, b .some-live) }
+  room-first = record { few = omega arith; there = omega (arith, b .room, b .begun .some-live) }
 
   -- the engine stands at the program's start, once the program's record is written
   record Starts (rs : List Activation) (start : Registers) : Type 0 where
     running : Running code activations limit cells rs table start
-    stack-is : running .standing .stack ≡ frameStart (b .program) (record { words = table; used = pairs })
-    program-is : running .standing .program ≡ b .program
-    name-is : running .standing .name ≡ b .name
+    at-start : AtStart (b .begun) (running .standing)
 
   begins-there : Starts (set records 0 (activationOf code 0 0)) (startBy code pairs)
   begins-there =
-      let t = b .program in
       let rs : List Activation = set records 0 (activationOf code 0 0) in
       let p = pushed records 0 (activationOf code 0 0) room-first in
       let block : getD (blocksIn rs) 0 0 ≡ 0 = ap (λ (xs : List ℕ). getD xs 0 0) (p .blocks) ∙ getD-set-same (blocksIn records) 0 0 0
       (omega (arith, column-length (λ a. a .block) records 0 256)) in
       let link : getD (linksIn rs) 0 0 ≡ 0 = ap (λ (xs : List ℕ). getD xs 0 0) (p .links) ∙ getD-set-same (linksIn records) 0 0 0
       (omega (arith, column-length (λ a. a .link) records 0 256)) in
-      let s = begins code (limitsBy activations limit) t (b .name) cells (blocksIn rs) (nextsIn rs) (linksIn rs) table pairs (b .keeps) (b .covers)
-      (b .some-live) (b .few-live) (b .table-right) (b .cells-long) (column-length (λ a. a .block) rs 0 256) (column-length (λ a. a .next) rs 0 256)
-      (column-length (λ a. a .link) rs 0 256) (b .zeros) block link in
-      let reads = begin-reads code t (b .name) (b .keeps) (b .covers) in
+      let s = begins (b .begun) (blocksIn rs) (nextsIn rs) (linksIn rs) (column-length (λ a. a .block) rs 0 256) (column-length (λ a. a .next) rs 0 256)
+      (column-length (λ a. a .link) rs 0 256) block link in
+      let reads = begin-reads (b .begun) in
       subst (Starts rs)
       (λ i. record { live = 0; at = sym (reads .0) i; end = sym (reads .1) i; pairs = pairs; level = levelIn (getD code 0 0); fresh = 0 })
       (record {
@@ -298,9 +295,7 @@ module _ {code : List ℕ} {cells : List ℤ} {records : List Activation} {table
           level-is = ap (λ k. levelIn (getD code k 0)) (sym block);
           room = omega (arith, b .room, p .long);
         };
-        stack-is = s .1;
-        program-is = s .2;
-        name-is = s .3;
+        at-start = s .1;
       })
 
   module _ (rs : List Activation) (written : rs ≡ set records 0 (activationOf code 0 0)) (start : Registers) (is : start ≡ startBy code pairs) where
@@ -312,11 +307,11 @@ module _ {code : List ℕ} {cells : List ℤ} {records : List Activation} {table
 
     pub program-run : (allowance : ℕ) (r : Halt) (cells′ : List ℤ) (records′ : List Activation) (table′ : List ℤ)
         → ((w : Running code activations limit cells rs table start) → RunFrom w allowance r cells′ records′ table′)
-        → Ended (b .program) (b .name) activations limit
-        (frameRun (limitsBy activations limit) allowance (frameStart (b .program) (record { words = table; used = pairs }))) r cells′ records′ table′
+        → Ended (b .begun .program) (b .begun .name) activations limit (resultFrom (b .begun) allowance) r cells′ records′ table′
     unfolding frameStart
     program-run allowance r cells′ records′ table′ k =
+        let s = there .at-start in
         subst (λ (T : Type 0). T)
-        (λ i. EndedFrom (there .stack-is i .steps) (there .program-is i) (there .name-is i) activations limit
-        (frameRun (limitsBy activations limit) allowance (there .stack-is i)) r cells′ records′ table′)
+        (λ i. EndedFrom (s .stack-is i .steps) (s .program-is i) (s .name-is i) activations limit
+        (frameRun (limitsBy activations limit) allowance (s .stack-is i)) r cells′ records′ table′)
         (k (there .running))

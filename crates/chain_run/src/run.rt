@@ -90,8 +90,8 @@ pub fn run_program(
     requires { ⌜ Beginning (now code) (now cells) (now records) (now table) pairs limit activations ⌝ }
     ensures { λ r.
         ⌜ ((b : Beginning (now (code .entry)) (now (cells .entry)) (now (records .entry)) (now (table .entry)) pairs limit activations)
-        → Ended (b .program) (b .name) activations limit
-        (frameRun (limitsBy activations limit) allowance (frameStart (b .program) (record { words = now (table .entry); used = pairs })))
+        → Ended (b .begun .program) (b .begun .name) activations limit
+        (frameRun (limitsBy activations limit) allowance (frameStart (b .begun .program) (record { words = now (table .entry); used = pairs })))
         r (now (cells .exit)) (now (records .exit)) (now (table .exit))) ⌝ }
 {
     push(records, 0, program_record(code));

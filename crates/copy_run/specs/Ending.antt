@@ -8,8 +8,9 @@ use mathlib.Core.Path.{_≡_, sym, _∙_, subst}
 use lib.IntN.{ℤ}
 use lib.ListN.{length, getD, set}
 use Rattle.language.specs.declared.Stop.{Stop}
-use Rattle.frames.specs.Frame.{halted, frameStep, frameRun, frameStart}
+use Rattle.frames.specs.Frame.{halted, frameStep, frameRun}
 use Rattle.steps.specs.Here.{live-few}
+use Rattle.steps.specs.Begun.{resultFrom}
 use Rattle.steps.specs.Reads.{at-within}
 use Rattle.steps.specs.Underway as steps
 use Rattle.run_state.specs.declared.Registers.{Registers}
@@ -124,8 +125,8 @@ module _ {script code names : List ℕ} {cells : List ℤ} {area blocks nexts : 
     (b : Beginning script code names cells area blocks nexts table pairs limit activations allowance) {firsts starts targets looked area′ firsts′ targets′ looked′ : List ℕ}
     {r : Registers} (k : BegunIn script code names area firsts targets looked pairs area′ firsts′ targets′ looked′ r) (long-firsts : length firsts ≡ 256)
     (long-starts : length starts ≡ 256) (long-targets : length targets ≡ 8224) (long-looked : length looked ≡ 256) (no-start : getD starts 0 0 ≡ 0) where
-  abbrev there : start.Begun b firsts starts targets looked area′ firsts′ targets′ looked′ r k long-firsts long-starts long-targets long-looked no-start r
-  there = start.begun b firsts starts targets looked area′ firsts′ targets′ looked′ r k long-firsts long-starts long-targets long-looked no-start
+  abbrev there : start.Starts b firsts starts targets looked area′ firsts′ targets′ looked′ r k long-firsts long-starts long-targets long-looked no-start r
+  there = start.starts-there b firsts starts targets looked area′ firsts′ targets′ looked′ r k long-firsts long-starts long-targets long-looked no-start
 
   pub begin-ready : Ready code names activations limit cells area′ (length script / 2) blocks nexts firsts′ starts targets′ looked′ table r allowance
   begin-ready =
@@ -135,11 +136,10 @@ module _ {script code names : List ℕ} {cells : List ℤ} {area blocks nexts : 
   pub program-run : {h : Halt} {cells′ : List ℤ} {blocks′ nexts′ : List ℕ} {table′ : List ℤ}
       → ((w : Running code names activations limit cells area′ (length script / 2) blocks nexts firsts′ starts targets′ looked′ table r)
       → RunFrom w allowance h cells′ blocks′ nexts′ table′)
-      → Ended (b .program) (b .name) activations limit
-      (frameRun (limitsBy activations limit) allowance (frameStart (b .program) (record { words = table; used = pairs }))) h cells′ blocks′ nexts′ table′
+      → Ended (b .begun .program) (b .begun .name) activations limit (resultFrom (b .begun) allowance) h cells′ blocks′ nexts′ table′
   program-run {h} f =
       let e = f (there .running) in
       record {
         links = e .links;
-        ended = from-start (there .running .standing) (b .program) (b .name) _ (there .stack-is) (there .program-is) (there .name-is) allowance h (e .ended);
+        ended = from-start (there .running .standing) (there .at-start) allowance h (e .ended);
       }

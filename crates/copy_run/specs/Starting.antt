@@ -1,4 +1,4 @@
--- The program's start. `beginnable`: what the code asks holds; `begun`: what it makes of the arrays is an engine that runs, at the program's first
+-- The program's start. `beginnable`: what the code asks holds; `starts-there`: what it makes of the arrays is an engine that runs, at the program's first
 -- statement.
 use Prim.Native.Nat.{ℕ, zero, suc, _+_, _*_, _-_, _/_, _≤_, _<_}
 use native.Mathlib.Omega.{arith}
@@ -37,6 +37,7 @@ use Rattle.copy_fields.specs.NameFields.{namedOf}
 use Rattle.copy_fields.specs.Inside.{named-inside}
 use Rattle.copy_fields.specs.Standing.{declared-fields-named}
 use Rattle.steps.specs.Standing.{Standing}
+use Rattle.steps.specs.Begun.{AtStart}
 use Rattle.steps.specs.Reads.{begin-reads}
 use Rattle.steps.specs.Loop.{begins}
 use Rattle.resolved.specs.Layout.{namesIn, endIn, firstIn}
@@ -64,16 +65,16 @@ long (suc n) = ap suc (long n)
 module _ {script code names : List ℕ} {activations limit : ℕ} {cells : List ℤ} {area blocks nexts : List ℕ} {table : List ℤ} {pairs allowance : ℕ}
     (b : Beginning script code names cells area blocks nexts table pairs limit activations allowance) where
   abbrev t : Block
-  t = b .program
+  t = b .begun .program
 
   abbrev name : ℕ
-  name = b .name
+  name = b .begun .name
 
-  abbrev keeps : Keeps (b .program)
-  keeps = b .keeps
+  abbrev keeps : Keeps t
+  keeps = b .begun .keeps
 
-  abbrev covers : Covers code 0 (resolvedOf (b .name) (b .program))
-  covers = b .covers
+  abbrev covers : Covers code 0 (resolvedOf name t)
+  covers = b .begun .covers
 
   abbrev e : Enclosing
   e = enclosed [] t
@@ -100,13 +101,13 @@ module _ {script code names : List ℕ} {activations limit : ℕ} {cells : List 
   end-here = omega (arith, end-is t 1 [] 0 (keeps .formed))
 
   reads : (firstIn (getD code 1 0) ≡ stmtPlace t 1) × (endIn (getD code 1 0) ≡ endPlace t)
-  reads = begin-reads code t name keeps covers
+  reads = begin-reads (b .begun)
 
   text-long : endPlace t ≤ 4096
   text-long = end-bound t keeps e [] encloses
 
   area-room : width ≤ length area
-  area-room = let h = mul-le-mul-right width (b .some-live) in omega (arith, b .room)
+  area-room = let h = mul-le-mul-right width (b .begun .some-live) in omega (arith, b .room)
 
   names-are : namesAt code 0 ≡ length (blockDecls t)
   names-are =
@@ -195,10 +196,8 @@ module _ {script code names : List ℕ} {activations limit : ℕ} {cells : List 
     links = replicate 256 0
 
     -- the frame machine's arrays
-    stands : (w : Standing code (limitsBy activations limit) cells blocks nexts links table pairs 0 (stmtPlace t 1) (endPlace t)) × (w .stack ≡ frameStart t tab) × (w .program ≡ t) × (w .name ≡ name)
-    stands =
-        begins code (limitsBy activations limit) t name cells blocks nexts links table pairs keeps covers (b .some-live) (b .few-live) (b .table-right) (b .cells-long) (b .blocks-long) (b .nexts-long)
-        (long 256) (b .zeros) (b .no-block) refl
+    stands : (w : Standing code (limitsBy activations limit) cells blocks nexts links table pairs 0 (stmtPlace t 1) (endPlace t)) × AtStart (b .begun) w
+    stands = begins (b .begun) blocks nexts links (b .blocks-long) (b .nexts-long) (long 256) (b .no-block) refl
 
     copied : Copied (n .filled) area′ names 0 0 0 1 65536 (placeOf (blockAt t)) (endPlace t)
     copied = subst (λ (T : Type 0). T) (λ i. Copied (n .filled) area′ names 0 0 0 1 65536 (sym program-place i) (reads .1 i)) (n .copied)
@@ -247,32 +246,30 @@ module _ {script code names : List ℕ} {activations limit : ℕ} {cells : List 
 
     frames-are : (stands .0 .stack) .frames ≡ f ∷ []
     unfolding frameStart
-    frames-are = ap (λ (s : Stack). s .frames) (stands .1)
+    frames-are = ap (λ (s : Stack). s .frames) (stands .1 .stack-is)
 
-    pub record Begun (here : Registers) : Type 0 where
+    pub record Starts (here : Registers) : Type 0 where
       pub running : Running code names activations limit cells area′ width blocks nexts firsts′ starts targets′ looked′ table here
-      pub stack-is : running .standing .stack ≡ frameStart t tab
-      pub program-is : running .standing .program ≡ t
-      pub name-is : running .standing .name ≡ name
+      pub at-start : AtStart (b .begun) (running .standing)
 
-    begun-there : Begun here
-    begun-there =
-        let s = stands in
+    begins-there : Starts here
+    begins-there =
+        let s = stands .1 in
         record {
           running = record {
             links = links;
-            standing = s .0;
+            standing = stands .0;
             copies = start t tab;
-            related = subst (Related (start t tab)) (sym (s .1)) (start-related t keeps tab);
+            related = subst (Related (start t tab)) (sym (s .stack-is)) (start-related t keeps tab);
             invariant = start-invariant t keeps tab;
-            names-stand = subst (λ (p : Block). Covers names 0 (namedOf p)) (sym (s .2)) (b .names-stand);
-            texts = subst (λ (T : Type 0). T) (λ i. Texts area′ width names (blockFields (sym (s .2) i)) (sym (anew .live-is) i) (sym frames-are i)) texts;
+            names-stand = subst (λ (p : Block). Covers names 0 (namedOf p)) (sym (s .program-is)) (b .names-stand);
+            texts = subst (λ (T : Type 0). T) (λ i. Texts area′ width names (blockFields (sym (s .program-is) i)) (sym (anew .live-is) i) (sym frames-are i)) texts;
             new-names = subst (λ (T : Type 0). T) (λ i. NewNames (sym (anew .live-is) i) (sym (anew .fresh-is) i) firsts′ starts) new-names;
             aims = subst (Aims targets′) (sym frames-are) aims;
-            looks = subst (λ (T : Type 0). T) (λ i. Looks looked′ (sym (anew .live-is) i) (sym frames-are i) (sym (s .3) i)) looks;
-            name-small = subst (λ k. k < 65536) (sym (s .3)) (b .name-small);
+            looks = subst (λ (T : Type 0). T) (λ i. Looks looked′ (sym (anew .live-is) i) (sym frames-are i) (sym (s .name-is) i)) looks;
+            name-small = subst (λ k. k < 65536) (sym (s .name-is)) (b .name-small);
             fresh-is = ap (λ k. 65536 + k) (sym declared-many) ∙ sym (anew .fresh-is);
-            wide = subst (λ (p : Block). length (blockFields p) ≤ width) (sym (s .2)) (omega (arith, fields-many));
+            wide = subst (λ (p : Block). length (blockFields p) ≤ width) (sym (s .program-is)) (omega (arith, fields-many));
             small = omega (arith, fields-many, end-here, text-long);
             room = subst (λ k. activations * width ≤ k) (sym (n .copied .as-long ∙ n .as-long)) (b .room);
             firsts-long = ap length (n .firsts-are) ∙ length-set firsts 0 65536 ∙ firsts-long;
@@ -280,15 +277,13 @@ module _ {script code names : List ℕ} {activations limit : ℕ} {cells : List 
             targets-long = ap length (n .targets-are) ∙ noted-long names 0 1 targets 0 (endAt code 0) ∙ targets-long;
             looked-long = ap length (n .looked-is) ∙ length-set looked 0 _ ∙ looked-long;
           };
-          stack-is = s .1;
-          program-is = s .2;
-          name-is = s .3;
+          at-start = s;
         }
 
-    pub begun : Begun r
-    begun =
-        subst Begun
-        ((λ i. record { live = 0; at = sym (reads .0) i; end = sym (reads .1) i; pairs = pairs; level = 0; fresh = 65536 + sym names-are i }) ∙ sym (n .registers-are)) begun-there
+    pub starts-there : Starts r
+    starts-there =
+        subst Starts
+        ((λ i. record { live = 0; at = sym (reads .0) i; end = sym (reads .1) i; pairs = pairs; level = 0; fresh = 65536 + sym names-are i }) ∙ sym (n .registers-are)) begins-there
 
     pub begun-few : r .fresh ≤ 65568
     begun-few = omega (arith, ap (λ (k : Registers). k .fresh) (n .registers-are), names-are, few-names)

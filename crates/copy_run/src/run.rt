@@ -223,8 +223,8 @@ pub fn run_program(
     ensures { λ r.
         ⌜ ((b : Beginning (now (script .entry)) (now (code .entry)) (now (names .entry)) (now (cells .entry)) (now (area .entry)) (now (blocks .entry)) (now (nexts .entry))
         (now (table .entry)) pairs limit activations allowance)
-        → Ended (b .program) (b .name) activations limit
-        (frameRun (limitsBy activations limit) allowance (frameStart (b .program) (record { words = now (table .entry); used = pairs })))
+        → Ended (b .begun .program) (b .begun .name) activations limit
+        (frameRun (limitsBy activations limit) allowance (frameStart (b .begun .program) (record { words = now (table .entry); used = pairs })))
         r (now (cells .exit)) (now (blocks .exit)) (now (nexts .exit)) (now (table .exit))) ⌝ }
 {
     let width = script.len() / 2;

@@ -1,55 +1,29 @@
--- What the pieces of the display engine's call come to: `beginning` is what its run begins with once the script is resolved, and `ended` what it ends with.
+-- What the display engine's run begins with, once a call is admitted and its script resolved (`beginning`).
 use Prim.Native.Nat.{ℕ}
-use native.Mathlib.Omega.{arith}
 use mathlib.Core.List.{List}
-use mathlib.Core.Path.{_≡_, ap, _∙_}
-use lib.IntN.{ℤ, pos}
-use lib.ListN.{length, getD, replicate, length-replicate, getD-replicate}
+use mathlib.Core.Path.{_≡_, refl, ap, _∙_}
+use lib.IntN.{pos}
+use lib.ListN.{length, getD, replicate, length-replicate}
 use Rattle.language.specs.Text.{Block}
 use Rattle.language.specs.Call.{Fed, display}
 use Rattle.grammar.specs.Rules.{Bytes}
-use Rattle.runs.specs.Admission.{Admitted, limits-fit, table-right, activations-fit}
-use Rattle.frames.specs.Frame.{frameRunOf}
-use Rattle.coordinates.specs.Sound.{accepted-keeps-rules}
+use Rattle.runs.specs.Admission.{Admitted}
 use Rattle.resolved.specs.Resolved.{resolvedOf, Covers}
-use Rattle.resolve_script.specs.Resolving.{Resolved, resolved-covers}
-use Rattle.display_run.specs.Program.{Beginning, Ended, startState}
-use Rattle.display_run.specs.Ending.{resultFrom}
+use Rattle.call_replies.specs.Runs.{call-begins}
+use Rattle.display_run.specs.Program.{Beginning, startState}
 use Rattle.display_run.specs.declared.state.State.{State}
-use Rattle.run_state.specs.declared.Halt.{Halt}
 
-module _ (f : Fed) (bytes : Bytes (f .script)) (t : Block) (h : Admitted display f t) (code : List ℕ) (resolved : Resolved (f .script) (f .name) code)
-    (state : State) (begun : state ≡ startState) where
-  covers : Covers code 0 (resolvedOf (f .name) t)
-  covers = resolved-covers (f .script) (f .name) code resolved t (h .script)
-
-  abbrev Begins : Type 0
-  Begins = Beginning code (replicate 8224 (pos 0)) (state .blocks) (state .nexts) (state .links) (state .display) (f .lent .table .words) (f .lent .table .used) (f .limit) (f .activations)
-
-  pub beginning : Begins
-  beginning =
-      let few = activations-fit f (limits-fit h) in
-      record {
-        program = t;
-        name = f .name;
-        keeps = accepted-keeps-rules (f .script) bytes t (h .script);
-        covers = covers;
-        some-live = few .0;
-        few-live = few .1;
-        table-right = table-right h;
-        cells-long = length-replicate 8224 (pos 0);
-        blocks-long = ap (λ (s : State). length (s .blocks)) begun ∙ length-replicate {A = ℕ} 256 0;
-        nexts-long = ap (λ (s : State). length (s .nexts)) begun ∙ length-replicate {A = ℕ} 256 0;
-        links-long = ap (λ (s : State). length (s .links)) begun ∙ length-replicate {A = ℕ} 256 0;
-        display-long = ap (λ (s : State). length (s .display)) begun ∙ length-replicate {A = ℕ} 256 0;
-        zeros = λ i p. getD-replicate 8224 i (pos 0) (pos 0) (omega arith);
-        no-block = ap (λ (s : State). getD (s .blocks) 0 0) begun;
-        no-link = ap (λ (s : State). getD (s .links) 0 0) begun;
-        no-entry = ap (λ (s : State). getD (s .display) 1 0) begun;
-      }
-
-  module _ (r : Halt) {cells : List ℤ} {blocks nexts links : List ℕ} {table : List ℤ}
-      (run : (b : Begins) → Ended (b .program) (b .name) (f .activations) (f .limit) (resultFrom b (f .allowance)) r cells blocks nexts links table) where
-    pub ended : Ended t (f .name) (f .activations) (f .limit) (frameRunOf f t) r cells blocks nexts links table
-    unfolding frameRunOf beginning
-    ended = run beginning
+abbrev pub beginning : {f : Fed} → Bytes (f .script) → {t : Block} → Admitted display f t → {code : List ℕ} → Covers code 0 (resolvedOf (f .name) t)
+    → {state : State} → state ≡ startState
+    → Beginning code (replicate 8224 (pos 0)) (state .blocks) (state .nexts) (state .links) (state .display) (f .lent .table .words) (f .lent .table .used) (f .limit) (f .activations)
+beginning bytes h covers made =
+    record {
+      begun = call-begins bytes h covers refl;
+      blocks-long = ap (λ (s : State). length (s .blocks)) made ∙ length-replicate {A = ℕ} 256 0;
+      nexts-long = ap (λ (s : State). length (s .nexts)) made ∙ length-replicate {A = ℕ} 256 0;
+      links-long = ap (λ (s : State). length (s .links)) made ∙ length-replicate {A = ℕ} 256 0;
+      display-long = ap (λ (s : State). length (s .display)) made ∙ length-replicate {A = ℕ} 256 0;
+      no-block = ap (λ (s : State). getD (s .blocks) 0 0) made;
+      no-link = ap (λ (s : State). getD (s .links) 0 0) made;
+      no-entry = ap (λ (s : State). getD (s .display) 1 0) made;
+    }

@@ -9,11 +9,12 @@ use mathlib.Core.Path.{_≡_, refl, sym, _∙_, subst}
 use lib.IntN.{ℤ}
 use lib.ListN.{length, getD, set}
 use Rattle.language.specs.declared.Stop.{Stop}
-use Rattle.frames.specs.Frame.{Stack, Result, designates, halted, frameStep, frameRun, frameStart}
+use Rattle.frames.specs.Frame.{Stack, designates, halted, frameStep, frameRun}
 use Rattle.arrays.specs.Holds.{Shows}
 use Rattle.steps.specs.Standing.{Standing}
 use Rattle.steps.specs.Here.{live-few}
 use Rattle.steps.specs.Reads.{at-within, end-within, begin-reads}
+use Rattle.steps.specs.Begun.{AtStart, resultFrom}
 use Rattle.steps.specs.Loop.{begins, shows-begun}
 use Rattle.steps.specs.Underway as steps
 use Rattle.run_state.specs.declared.Registers.{Registers}
@@ -156,29 +157,21 @@ module _ {code : List ℕ} {activations limit : ℕ} {cells : List ℤ} {blocks 
 
 module _ {code : List ℕ} {cells : List ℤ} {blocks nexts links display : List ℕ} {table : List ℤ} {pairs limit activations : ℕ}
     (b : Beginning code cells blocks nexts links display table pairs limit activations) where
-  -- where a run of the program goes to
-  abbrev pub resultFrom : ℕ → Result
-  resultFrom allowance = frameRun (limitsBy activations limit) allowance (frameStart (b .program) (record { words = table; used = pairs }))
-
   -- the engine stands at the program's start
   record Starts (start : Registers) : Type 0 where
     running : Running code activations limit cells blocks nexts links display table start
-    stack-is : running .standing .stack ≡ frameStart (b .program) (record { words = table; used = pairs })
-    program-is : running .standing .program ≡ b .program
-    name-is : running .standing .name ≡ b .name
+    at-start : AtStart (b .begun) (running .standing)
 
   module _ (start : Registers) (is : start ≡ startBy code pairs) where
     begins-there : Starts start
     begins-there =
-        let t = b .program in
-        let s = begins code (limitsBy activations limit) t (b .name) cells blocks nexts links table pairs (b .keeps) (b .covers) (b .some-live) (b .few-live)
-        (b .table-right) (b .cells-long) (b .blocks-long) (b .nexts-long) (b .links-long) (b .zeros) (b .no-block) (b .no-link) in
-        let reads = begin-reads code t (b .name) (b .keeps) (b .covers) in
-        let shows : Shows (s .0 .stack .frames) display = subst (λ (v : Stack). Shows (v .frames) display) (sym (s .1))
-        (shows-begun t (record { words = table; used = pairs }) display (omega (arith, b .display-long)) (b .no-entry)) in
+        let s = begins (b .begun) blocks nexts links (b .blocks-long) (b .nexts-long) (b .links-long) (b .no-block) (b .no-link) in
+        let reads = begin-reads (b .begun) in
+        let shows : Shows (s .0 .stack .frames) display = subst (λ (v : Stack). Shows (v .frames) display) (sym (s .1 .stack-is))
+        (shows-begun (b .begun .program) (record { words = table; used = pairs }) display (omega (arith, b .display-long)) (b .no-entry)) in
         subst Starts (sym is)
         (subst Starts (λ i. goesTo (startBy code pairs) 0 (sym (reads .0) i) (sym (reads .1) i) pairs)
-        (record { running = record { standing = s .0; shows = shows; display-long = b .display-long }; stack-is = s .1; program-is = s .2; name-is = s .3 }))
+        (record { running = record { standing = s .0; shows = shows; display-long = b .display-long }; at-start = s .1 }))
 
     pub starts : Running code activations limit cells blocks nexts links display table start
     starts = begins-there .running
@@ -186,7 +179,7 @@ module _ {code : List ℕ} {cells : List ℤ} {blocks nexts links display : List
     pub program-run : (allowance : ℕ) (r : Halt) (cells′ : List ℤ) (blocks′ nexts′ links′ : List ℕ) (table′ : List ℤ)
         → ((w : Running code activations limit cells blocks nexts links display table start)
         → RunFrom (w .standing) allowance r cells′ blocks′ nexts′ links′ table′)
-        → Ended (b .program) (b .name) activations limit (resultFrom allowance) r cells′ blocks′ nexts′ links′ table′
+        → Ended (b .begun .program) (b .begun .name) activations limit (resultFrom (b .begun) allowance) r cells′ blocks′ nexts′ links′ table′
     program-run allowance r cells′ blocks′ nexts′ links′ table′ k =
         let s = begins-there in
-        from-start (s .running .standing) (b .program) (b .name) _ (s .stack-is) (s .program-is) (s .name-is) allowance r (k (s .running))
+        from-start (s .running .standing) (s .at-start) allowance r (k (s .running))

@@ -138,8 +138,8 @@ pub fn run_program(
     requires { ⌜ Beginning (now code) (now cells) (now blocks) (now nexts) (now links) (now display) (now table) pairs limit activations ⌝ }
     ensures { λ r.
         ⌜ ((b : Beginning (now (code .entry)) (now (cells .entry)) (now (blocks .entry)) (now (nexts .entry)) (now (links .entry)) (now (display .entry)) (now (table .entry)) pairs limit activations)
-        → Ended (b .program) (b .name) activations limit
-        (frameRun (limitsBy activations limit) allowance (frameStart (b .program) (record { words = now (table .entry); used = pairs })))
+        → Ended (b .begun .program) (b .begun .name) activations limit
+        (frameRun (limitsBy activations limit) allowance (frameStart (b .begun .program) (record { words = now (table .entry); used = pairs })))
         r (now (cells .exit)) (now (blocks .exit)) (now (nexts .exit)) (now (links .exit)) (now (table .exit))) ⌝ }
 {
     let start = begin(code, pairs);

@@ -7,12 +7,12 @@ use mathlib.Core.Path.{_≡_, sym, ap, _∙_, subst}
 use lib.IntN.{ℤ}
 use lib.ListN.{length, set}
 use Rattle.language.specs.Text.{Block}
-use Rattle.language.specs.Table.{Table}
 use Rattle.language.specs.Machine.{Limits}
 use Rattle.language.specs.declared.Stop.{Stop}
 use Rattle.frames.specs.Frame.{Result, halted, designates, frameStep, frameRun, frameStart}
 use Rattle.coordinates.specs.Sound.{Sound}
 use Rattle.steps.specs.Standing.{Standing}
+use Rattle.steps.specs.Begun.{Begun, AtStart}
 use Rattle.steps.specs.Underway as steps
 use Rattle.run_state.specs.declared.Registers.{Registers}
 use Rattle.run_state.specs.declared.Halt.{Halt}
@@ -32,16 +32,15 @@ abbrev pub RunFrom : {code : List ℕ} {l : Limits} {cells : List ℤ} {blocks n
 RunFrom {l = l} w allowance r cells′ blocks′ nexts′ links′ table′ =
     EndedFrom (w .stack .steps) (w .program) (w .name) l (frameRun l allowance (w .stack)) r cells′ blocks′ nexts′ links′ table′
 
-pub from-start : {code : List ℕ} {l : Limits} {cells : List ℤ} {blocks nexts links : List ℕ} {table : List ℤ} {pairs live at end : ℕ}
-    (w : Standing code l cells blocks nexts links table pairs live at end) (program : Block) (name : ℕ) (before : Table)
-    → w .stack ≡ frameStart program before → w .program ≡ program → w .name ≡ name
+pub from-start : {code : List ℕ} {l : Limits} {cells : List ℤ} {blocks nexts links : List ℕ} {table : List ℤ} {pairs limit activations used live at end : ℕ}
+    {b : Begun code cells table pairs limit activations} (w : Standing code l cells blocks nexts links table used live at end) → AtStart b w
     → (allowance : ℕ) (r : Halt) {cells′ : List ℤ} {blocks′ nexts′ links′ : List ℕ} {table′ : List ℤ}
     → RunFrom w allowance r cells′ blocks′ nexts′ links′ table′
-    → EndedFrom 0 program name l (frameRun l allowance (frameStart program before)) r cells′ blocks′ nexts′ links′ table′
+    → EndedFrom 0 (b .program) (b .name) l (frameRun l allowance (frameStart (b .program) (record { words = table; used = pairs }))) r cells′ blocks′ nexts′ links′ table′
 unfolding frameStart
-from-start {l = l} w program name before stack-is program-is name-is allowance r {cells′} {blocks′} {nexts′} {links′} {table′} =
+from-start {l = l} w s allowance r {cells′} {blocks′} {nexts′} {links′} {table′} =
     subst (λ (T : Type 0). T)
-    (λ i. EndedFrom (stack-is i .steps) (program-is i) (name-is i) l (frameRun l allowance (stack-is i)) r cells′ blocks′ nexts′ links′ table′)
+    (λ i. EndedFrom (s .stack-is i .steps) (s .program-is i) (s .name-is i) l (frameRun l allowance (s .stack-is i)) r cells′ blocks′ nexts′ links′ table′)
 
 module _ {done : ℕ} {program : Block} {name allowance : ℕ} {result : Result} {code : List ℕ} {l : Limits} {cells : List ℤ} {blocks nexts links : List ℕ}
     {table : List ℤ} {left : ℕ} (here : Registers) (w : Standing code l cells blocks nexts links table (here .pairs) (here .live) (here .at) (here .end))

@@ -13,13 +13,14 @@ use Rattle.language.specs.Text.{procedure, Formal, Block}
 use Rattle.language.specs.Table.{Table}
 use Rattle.language.specs.declared.Stop.{Stop}
 use Rattle.laws.specs.Tests.{none≢some, some-inj}
-use Rattle.frames.specs.Frame.{Frame, Stack, Result, designates, halted, frameStep, frameRun, frameStart, newFrame}
+use Rattle.frames.specs.Frame.{Frame, Stack, designates, halted, frameStep, frameRun, frameStart, newFrame}
 use Rattle.f_search.specs.Passers.{passer}
 use Rattle.f_search.specs.Search.{onward}
 use Rattle.f_search.specs.Kept.{call-program, through-none, passerOf-none, onward-none}
 use Rattle.steps.specs.Standing.{Standing}
 use Rattle.steps.specs.Here.{live-few, downward}
 use Rattle.steps.specs.Reads.{at-within, begin-reads}
+use Rattle.steps.specs.Begun.{AtStart, resultFrom}
 use Rattle.steps.specs.Loop.{begins}
 use Rattle.steps.specs.Underway as steps
 use Rattle.resolved.specs.Resolved.{Covers}
@@ -172,41 +173,32 @@ alone-passers t tab passers (suc k) i f m e q p = none≢some e
 
 module _ {code numbers : List ℕ} {cells : List ℤ} {passers blocks nexts froms : List ℕ} {table : List ℤ} {pairs limit activations : ℕ}
     (b : Beginning code numbers cells passers blocks nexts froms table pairs limit activations) where
-  -- where a run of the program goes to
-  abbrev pub resultFrom : ℕ → Result
-  resultFrom allowance = frameRun (limitsBy activations limit) allowance (frameStart (b .program) (record { words = table; used = pairs }))
-
   -- the engine stands at the program's start
   record Starts (start : Registers) : Type 0 where
     running : Running code numbers activations limit cells passers blocks nexts froms table start
-    stack-is : running .standing .stack ≡ frameStart (b .program) (record { words = table; used = pairs })
-    program-is : running .standing .program ≡ b .program
-    name-is : running .standing .name ≡ b .name
+    at-start : AtStart (b .begun) (running .standing)
 
   module _ (start : Registers) (is : start ≡ startBy code pairs) where
     begins-there : Starts start
     begins-there =
-        let t = b .program in
+        let t = b .begun .program in
         let tab : Table = record { words = table; used = pairs } in
         let links : List ℕ = replicate 256 0 in
-        let s = begins code (limitsBy activations limit) t (b .name) cells blocks nexts links table pairs (b .keeps) (b .covers) (b .some-live) (b .few-live)
-        (b .table-right) (b .cells-long) (b .blocks-long) (b .nexts-long) refl (b .zeros) (b .no-block) refl in
-        let reads = begin-reads code t (b .name) (b .keeps) (b .covers) in
+        let s = begins (b .begun) blocks nexts links (b .blocks-long) (b .nexts-long) refl (b .no-block) refl in
+        let reads = begin-reads (b .begun) in
         subst Starts (sym is)
         (subst Starts (λ i. goesTo (startBy code pairs) 0 (sym (reads .0) i) (sym (reads .1) i) pairs)
         (record {
           running = record {
             links = links;
             standing = s .0;
-            numbers-stand = subst (λ (T : Type 0). T) (λ i. Covers numbers 0 (numberedOf (sym (s .3) i) (sym (s .2) i))) (b .numbers-stand);
-            froms-are = subst (λ (v : Stack). Froms (v .frames) froms) (sym (s .1)) (alone-froms t tab froms (b .no-from));
-            passers-are = subst (λ (v : Stack). Passers (v .frames) passers) (sym (s .1)) (alone-passers t tab passers);
+            numbers-stand = subst (λ (T : Type 0). T) (λ i. Covers numbers 0 (numberedOf (sym (s .1 .name-is) i) (sym (s .1 .program-is) i))) (b .numbers-stand);
+            froms-are = subst (λ (v : Stack). Froms (v .frames) froms) (sym (s .1 .stack-is)) (alone-froms t tab froms (b .no-from));
+            passers-are = subst (λ (v : Stack). Passers (v .frames) passers) (sym (s .1 .stack-is)) (alone-passers t tab passers);
             froms-long = b .froms-long;
             passers-long = b .passers-long;
           };
-          stack-is = s .1;
-          program-is = s .2;
-          name-is = s .3;
+          at-start = s .1;
         }))
 
     pub starts : Running code numbers activations limit cells passers blocks nexts froms table start
@@ -214,8 +206,8 @@ module _ {code numbers : List ℕ} {cells : List ℤ} {passers blocks nexts from
 
     pub program-run : (allowance : ℕ) (r : Halt) (cells′ : List ℤ) (blocks′ nexts′ : List ℕ) (table′ : List ℤ)
         → ((w : Running code numbers activations limit cells passers blocks nexts froms table start) → RunFrom w allowance r cells′ blocks′ nexts′ table′)
-        → Ended (b .program) (b .name) activations limit (resultFrom allowance) r cells′ blocks′ nexts′ table′
+        → Ended (b .begun .program) (b .begun .name) activations limit (resultFrom (b .begun) allowance) r cells′ blocks′ nexts′ table′
     program-run allowance r cells′ blocks′ nexts′ table′ k =
         let s = begins-there in
         let e = k (s .running) in
-        record { links = e .links; ended = from-start (s .running .standing) (b .program) (b .name) _ (s .stack-is) (s .program-is) (s .name-is) allowance r (e .ended) }
+        record { links = e .links; ended = from-start (s .running .standing) (s .at-start) allowance r (e .ended) }

@@ -151,8 +151,8 @@ pub fn run_program(
     requires { ⌜ Beginning (now code) (now numbers) (now cells) (now passers) (now blocks) (now nexts) (now froms) (now table) pairs limit activations ⌝ }
     ensures { λ r.
         ⌜ ((b : Beginning (now (code .entry)) (now (numbers .entry)) (now (cells .entry)) (now (passers .entry)) (now (blocks .entry)) (now (nexts .entry)) (now (froms .entry)) (now (table .entry)) pairs limit activations)
-        → Ended (b .program) (b .name) activations limit
-        (frameRun (limitsBy activations limit) allowance (frameStart (b .program) (record { words = now (table .entry); used = pairs })))
+        → Ended (b .begun .program) (b .begun .name) activations limit
+        (frameRun (limitsBy activations limit) allowance (frameStart (b .begun .program) (record { words = now (table .entry); used = pairs })))
         r (now (cells .exit)) (now (blocks .exit)) (now (nexts .exit)) (now (table .exit))) ⌝ }
 {
     let start = begin(code, pairs);

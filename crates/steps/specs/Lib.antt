@@ -4,6 +4,7 @@ pub mod Means
 pub mod Here
 pub mod Ops
 pub mod Counts
+pub mod Begun
 pub mod Loop
 pub mod Going
 pub mod Values

@@ -4,22 +4,20 @@
 -- starts, and `shows-begun`: so is the display.
 use Prim.Native.Nat.{ℕ, suc, pred, _+_, _-_, _*_, _≤_, _<_}
 use native.Mathlib.Omega.{arith}
-use mathlib.Core.Bool.{true}
 use mathlib.Core.List.{List, [], _∷_, _++_}
 use mathlib.Core.Option.{some}
 use mathlib.Core.Path.{_≡_, refl, sym, ap, _∙_, subst}
-use lib.IntN.{ℤ, pos}
+use lib.IntN.{ℤ}
 use lib.ListN.{length, take, getD, set, getElem?}
 use lib.Seq.{set-getD, getD-set-same, length-take-le}
 use Rattle.language.specs.Basics.{butLast}
 use Rattle.language.specs.Text.{Block}
-use Rattle.language.specs.Table.{Table, right}
+use Rattle.language.specs.Table.{Table}
 use Rattle.language.specs.Machine.{Limits}
 use Rattle.language.specs.declared.Stop.{Stop}
 use Rattle.language.specs.declared.End.the-variants.{Finished, Spent, Stopped}
 use Rattle.laws.specs.Tests.{by-lookup}
 use Rattle.laws.specs.Lists.{some-last, last-split, snoc-length, getElem-append, getElem-seam, butLast-snoc}
-use Rattle.grammar.specs.Rules.{Keeps}
 use Rattle.frames.specs.Frame.{Frame, Stack, acted, halted, numbered, continue, withFrames, frameCost, stepped, newFrame, frameStmt, frameStep, results, frameRun, frameStart}
 use Rattle.frames.specs.Numbered.{numbered-suc, numbered-low, numbered-high}
 use Rattle.frames.specs.Running.{run-finished, run-spent, run-steps, run-stops}
@@ -27,7 +25,7 @@ use Rattle.frame_laws.specs.Innermost.{step-leaves, offset-does}
 use Rattle.coordinates.specs.Chain.{along, chainOf, levelOf, displayFrom, displayOf, Downward}
 use Rattle.coordinates.specs.Display.{display-after-return, display-after-goto, display-length}
 use Rattle.coordinates.specs.Sound.{Sound, start-sound, step-sound}
-use Rattle.resolved.specs.Resolved.{endPlace, stmtPlace, resolvedOf, Covers}
+use Rattle.resolved.specs.Resolved.{endPlace, stmtPlace}
 use Rattle.resolved.specs.Places.{block-place}
 use Rattle.arrays.specs.Holds.{Holds, Shows}
 use Rattle.arrays.specs.Moves.{holds-started}
@@ -37,6 +35,7 @@ use Rattle.steps.specs.Standing.{Standing}
 use Rattle.steps.specs.Means.{Follows, JumpsTo}
 use Rattle.steps.specs.Counts.{costs-one, step-counts}
 use Rattle.steps.specs.Here.{many, live-few, downward, ended, even-at}
+use Rattle.steps.specs.Begun.{Begun, AtStart}
 
 -- the display of one frame is that of other frames' innermost one
 pub shows-by : (fs gs : List Frame) (k : ℕ) (display : List ℕ) → displayOf gs ≡ displayFrom fs k → ShowsFrom fs k display → Shows gs display
@@ -198,22 +197,21 @@ module _ {code : List ℕ} {l : Limits} {cells : List ℤ} {blocks nexts links :
 
 -- The start
 
-pub begins : (code : List ℕ) (l : Limits) (t : Block) (name : ℕ) (cells : List ℤ) (blocks nexts links : List ℕ) (table : List ℤ) (pairs : ℕ)
-    → Keeps t → Covers code 0 (resolvedOf name t) → 1 ≤ l .activations → l .activations ≤ 256 → right (l .limit) (record { words = table; used = pairs }) ≡ true
-    → length cells ≡ 8224 → length blocks ≡ 256 → length nexts ≡ 256 → length links ≡ 256
-    → ((i : ℕ) → i < 32 → getD cells i (pos 0) ≡ pos 0) → getD blocks 0 0 ≡ 0 → getD links 0 0 ≡ 0
-    → (w : Standing code l cells blocks nexts links table pairs 0 (stmtPlace t 1) (endPlace t)) × (w .stack ≡ frameStart t (record { words = table; used = pairs })) × (w .program ≡ t) × (w .name ≡ name)
+pub begins : {code : List ℕ} {cells : List ℤ} {table : List ℤ} {pairs limit activations : ℕ} (b : Begun code cells table pairs limit activations) (blocks nexts links : List ℕ)
+    → length blocks ≡ 256 → length nexts ≡ 256 → length links ≡ 256 → getD blocks 0 0 ≡ 0 → getD links 0 0 ≡ 0
+    → (w : Standing code (record { activations = activations; limit = limit }) cells blocks nexts links table pairs 0 (stmtPlace (b .program) 1) (endPlace (b .program))) × AtStart b w
 unfolding frameStart newFrame
-begins code l t name cells blocks nexts links table pairs keeps covers one most ok wl bl nl ll zeros b0 k0 =
+begins {cells = cells} {table = table} {pairs = pairs} b blocks nexts links blocks-long nexts-long links-long no-block no-link =
+    let t = b .program in
     let tab : Table = record { words = table; used = pairs } in
-    let sound = start-sound l t tab one most ok keeps in
+    let sound = start-sound _ t tab (b .some-live) (b .few-live) (b .table-right) (b .keeps) in
     let few = (sound .bounded .each 0 (newFrame [] [] t 0) refl) .few in
     let count = (sound .bounded .each 0 (newFrame [] [] t 0) refl) .count in (
       record {
-        name = name;
+        name = b .name;
         program = t;
-        keeps = keeps;
-        covers = covers;
+        keeps = b .keeps;
+        covers = b .covers;
         stack = frameStart t tab;
         sound = sound;
         below = [];
@@ -221,17 +219,15 @@ begins code l t name cells blocks nexts links table pairs keeps covers one most 
         frames-are = refl;
         depth = refl;
         table-is = refl;
-        holds = holds-started t blocks (set nexts 0 (stmtPlace t 1)) links cells (b0 ∙ sym (block-place t 1 [] 0 (keeps .formed)))
-            (getD-set-same nexts 0 (stmtPlace t 1) 0 (omega arith)) k0 (λ i h. zeros i (omega arith));
+        holds = holds-started t blocks (set nexts 0 (stmtPlace t 1)) links cells (no-block ∙ sym (block-place t 1 [] 0 (b .keeps .formed)))
+            (getD-set-same nexts 0 (stmtPlace t 1) 0 (omega arith)) no-link (λ i h. b .zeros i (omega arith));
         end-is = refl;
-        cells-long = wl;
-        blocks-long = bl;
-        nexts-long = nl;
-        links-long = ll;
+        cells-long = b .cells-long;
+        blocks-long = blocks-long;
+        nexts-long = nexts-long;
+        links-long = links-long;
       },
-      refl,
-      refl,
-      refl,
+      record { stack-is = refl; program-is = refl; name-is = refl },
     )
 
 none-level : levelOf [] 0 ≡ 0

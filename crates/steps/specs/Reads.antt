@@ -8,16 +8,15 @@ use mathlib.Core.Option.{some}
 use mathlib.Core.Path.{_≡_, refl, sym, ap, _∙_}
 use lib.IntN.{ℤ}
 use lib.ListN.{length, getD, set, getElem?}
-use Rattle.language.specs.Text.{Stmt, Block, blockAt}
+use Rattle.language.specs.Text.{Stmt, blockAt}
 use Rattle.language.specs.Encoding.{stmtFields}
 use Rattle.language.specs.Machine.{Limits}
-use Rattle.grammar.specs.Rules.{Keeps}
 use Rattle.frames.specs.Frame.{Frame, frameStmt}
 use Rattle.frames.specs.Numbered.{numbered-suc}
 use Rattle.coordinates.specs.Enclosure.{whole}
 use Rattle.coordinates.specs.Levels.{frame-encloses, level-bound}
 use Rattle.coordinates.specs.Chain.{enclosing, enclosureOf, levelOf}
-use Rattle.resolved.specs.Resolved.{placeOf, endPlace, stmtPlace, nameWord, boundsWord, resolvedOf, Covers, levelIn}
+use Rattle.resolved.specs.Resolved.{placeOf, endPlace, stmtPlace, nameWord, boundsWord, levelIn}
 use Rattle.resolved.specs.Standing.{bounds-stands}
 use Rattle.resolved.specs.Words.{bounds-end, bounds-first}
 use Rattle.resolved.specs.Places.{block-fields, block-place, end-bound, place-bound}
@@ -26,6 +25,7 @@ use Rattle.arrays.specs.Displays.{LinksOf, holds-links}
 use Rattle.arrays.specs.Reading.{level-read, end-read, looked-up-read}
 use Rattle.steps.specs.Standing.{Standing}
 use Rattle.steps.specs.Here.{many, here, at-is, here-bounded, encloses-here, goes-on-at}
+use Rattle.steps.specs.Begun.{Begun}
 
 module _ {code : List ℕ} {l : Limits} {cells : List ℤ} {blocks nexts links : List ℕ} {table : List ℤ} {pairs live at end : ℕ} (w : Standing code l cells blocks nexts links table pairs live at end) where
   -- of any activation
@@ -72,10 +72,12 @@ module _ {code : List ℕ} {l : Limits} {cells : List ℤ} {blocks nexts links :
       omega (arith, goes-on-at w x q, place-bound (w .program) (w .keeps) (enclosing (w .frame)) (enclosureOf (w .stack .frames) (w .frame .link)) (encloses-here w) (suc (w .frame .next)) (omega arith))
 
 -- the program's second word
-pub begin-reads : (code : List ℕ) (t : Block) (name : ℕ) → Keeps t → Covers code 0 (resolvedOf name t) → (firstIn (getD code 1 0) ≡ stmtPlace t 1) × (endIn (getD code 1 0) ≡ endPlace t)
+pub begin-reads : {code : List ℕ} {cells : List ℤ} {table : List ℤ} {pairs limit activations : ℕ} (b : Begun code cells table pairs limit activations)
+    → (firstIn (getD code 1 0) ≡ stmtPlace (b .program) 1) × (endIn (getD code 1 0) ≡ endPlace (b .program))
 unfolding whole
-begin-reads code t name keeps covers =
-    let first : placeOf (blockAt t) ≡ 0 = block-place t 1 [] 0 (keeps .formed) in
+begin-reads {code} b =
+    let t = b .program in
+    let first : placeOf (blockAt t) ≡ 0 = block-place t 1 [] 0 (b .keeps .formed) in
     let one : 1 ≡ placeOf (blockAt t) + 1 = omega arith in
-    let bounds : getD code 1 0 ≡ boundsWord t = ap (λ i. getD code i 0) one ∙ bounds-stands code name t keeps covers (whole t) [] refl in
-    (ap firstIn bounds ∙ bounds-first t keeps (whole t) [] refl, ap endIn bounds ∙ bounds-end t keeps (whole t) [] refl)
+    let bounds : getD code 1 0 ≡ boundsWord t = ap (λ i. getD code i 0) one ∙ bounds-stands code (b .name) t (b .keeps) (b .covers) (whole t) [] refl in
+    (ap firstIn bounds ∙ bounds-first t (b .keeps) (whole t) [] refl, ap endIn bounds ∙ bounds-end t (b .keeps) (whole t) [] refl)

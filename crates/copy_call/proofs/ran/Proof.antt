@@ -9,11 +9,12 @@ use lib.ListN.{length}
 use Rattle.language.specs.Call.{Fed, copying}
 use Rattle.grammar.specs.Rules.{Bytes}
 use Rattle.grammar.specs.Words.{bytes-are}
+use Rattle.frames.specs.Frame.{frameRunOf}
 use Rattle.resolve_script.specs.Resolving.{resolved-covers}
 use Rattle.call_admission.specs.Lent.{fedOf}
 use Rattle.call_replies.specs.Replies.{no-links, tally-fits}
 use Rattle.call_replies.specs.Runs.{sheet-needs, run-replies}
-use Rattle.copy_call.proofs.Pieces.{beginning, ended}
+use Rattle.copy_call.proofs.Pieces.{beginning}
 use Rattle.copy_call.proofs.ran.Statement.{statement}
 use Rattle.copy_call.proofs.ran.Tie as tie
 
@@ -56,29 +57,31 @@ run-program-requires c κs =
     let g = namesAt c in
     let z = resolvedAt g in
     let p = (startAt z) .pre in
-    beginning (areaAt z) (bytesAt z) (nameAt z .fits) (p .1) (z .resolve .ensures) _ (g .name-fields .ensures .0)
+    beginning (areaAt z) (bytesAt z) (nameAt z .fits) (p .1) (resolved-covers _ _ _ (z .resolve .ensures) _ (p .1 .script)) (g .name-fields .ensures .0)
 
 write-sheet-requires : tie.Need-write-sheet-requires
+unfolding frameRunOf
 write-sheet-requires c κs =
     let u = ranAt c in
     let g = namesAt (u .before) in
     let z = resolvedAt g in
     let p = (startAt z) .pre in
-    sheet-needs (bytesAt z) (p .1) (resolved-covers _ _ _ (z .resolve .ensures) _ (p .1 .script))
-    (ended (areaAt z) (bytesAt z) (nameAt z .fits) (p .1) (z .resolve .ensures) _ (g .name-fields .ensures .0) (u .run-program .ensures) .ended)
+    let covers = resolved-covers _ _ _ (z .resolve .ensures) _ (p .1 .script) in
+    sheet-needs (bytesAt z) (p .1) covers (u .run-program .ensures (beginning (areaAt z) (bytesAt z) (nameAt z .fits) (p .1) covers (g .name-fields .ensures .0)) .ended)
 
 ran-answer-requires : tie.Need-ran-answer-requires
 ran-answer-requires c κs = tally-fits ((startAt (resolvedAt (namesAt (ranAt (c .before .before) .before)))) .pre .1)
 
 returns : tie.Need-returns
+unfolding frameRunOf
 returns c =
     let v = writtenAt c in
     let u = ranAt (v .before) in
     let g = namesAt (u .before) in
     let z = resolvedAt g in
     let p = (startAt z) .pre in
-    run-replies (bytesAt z) (p .1) (resolved-covers _ _ _ (z .resolve .ensures) _ (p .1 .script))
-    (ended (areaAt z) (bytesAt z) (nameAt z .fits) (p .1) (z .resolve .ensures) _ (g .name-fields .ensures .0) (u .run-program .ensures) .ended)
+    let covers = resolved-covers _ _ _ (z .resolve .ensures) _ (p .1 .script) in
+    run-replies (bytesAt z) (p .1) covers (u .run-program .ensures (beginning (areaAt z) (bytesAt z) (nameAt z .fits) (p .1) covers (g .name-fields .ensures .0)) .ended)
     (v .write-sheet .ensures) (no-links (copying (length (areaAt z))) (fedAt z) _ refl) (c .ran-answer .ensures)
 
 pub ran-spec : {M : Type 1} → statement M

@@ -4,11 +4,12 @@ use mathlib.Core.Path.{refl}
 use Rattle.language.specs.Call.{Fed, display}
 use Rattle.grammar.specs.Rules.{Bytes}
 use Rattle.grammar.specs.Words.{bytes-are}
+use Rattle.frames.specs.Frame.{frameRunOf}
 use Rattle.resolve_script.specs.Resolving.{resolved-covers}
 use Rattle.call_admission.specs.Lent.{fedOf}
 use Rattle.call_replies.specs.Replies.{no-links, tally-fits}
 use Rattle.call_replies.specs.Runs.{sheet-needs, run-replies}
-use Rattle.display_call.proofs.Pieces.{beginning, ended}
+use Rattle.display_call.proofs.Pieces.{beginning}
 use Rattle.display_call.proofs.ran.Statement.{statement}
 use Rattle.display_call.proofs.ran.Tie as tie
 
@@ -42,29 +43,31 @@ run-program-requires c κs =
     let s = stateAt c in
     let z = resolvedAt s in
     let p = (startAt z) .pre in
-    beginning (fedAt z) (bytesAt z) (p .0) (p .1) _ (z .resolve .ensures) _ (s .start-state .ensures)
+    beginning (bytesAt z) (p .1) (resolved-covers _ _ _ (z .resolve .ensures) _ (p .1 .script)) (s .start-state .ensures)
 
 write-sheet-requires : tie.Need-write-sheet-requires
+unfolding frameRunOf
 write-sheet-requires c κs =
     let u = ranAt c in
     let s = stateAt (u .before) in
     let z = resolvedAt s in
     let p = (startAt z) .pre in
-    sheet-needs (bytesAt z) (p .1) (resolved-covers _ _ _ (z .resolve .ensures) _ (p .1 .script))
-    (ended (fedAt z) (bytesAt z) (p .0) (p .1) _ (z .resolve .ensures) _ (s .start-state .ensures) (u .run-program .result) (u .run-program .ensures))
+    let covers = resolved-covers _ _ _ (z .resolve .ensures) _ (p .1 .script) in
+    sheet-needs (bytesAt z) (p .1) covers (u .run-program .ensures (beginning (bytesAt z) (p .1) covers (s .start-state .ensures)))
 
 ran-answer-requires : tie.Need-ran-answer-requires
 ran-answer-requires c κs = tally-fits ((startAt (resolvedAt (stateAt (ranAt (c .before .before) .before)))) .pre .1)
 
 returns : tie.Need-returns
+unfolding frameRunOf
 returns c =
     let v = writtenAt c in
     let u = ranAt (v .before) in
     let s = stateAt (u .before) in
     let z = resolvedAt s in
     let p = (startAt z) .pre in
-    run-replies (bytesAt z) (p .1) (resolved-covers _ _ _ (z .resolve .ensures) _ (p .1 .script))
-    (ended (fedAt z) (bytesAt z) (p .0) (p .1) _ (z .resolve .ensures) _ (s .start-state .ensures) (u .run-program .result) (u .run-program .ensures))
+    let covers = resolved-covers _ _ _ (z .resolve .ensures) _ (p .1 .script) in
+    run-replies (bytesAt z) (p .1) covers (u .run-program .ensures (beginning (bytesAt z) (p .1) covers (s .start-state .ensures)))
     (v .write-sheet .ensures) (no-links display (fedAt z) _ refl) (c .ran-answer .ensures)
 
 pub ran-spec : {M : Type 1} → statement M

@@ -40,7 +40,7 @@ abbrev pub run-program-asks : List ℕ → List ℤ → List (recs .type .Denot)
 run-program-asks code cells records table pairs limit activations = Beginning code cells records table pairs limit activations
 
 abbrev pub run-program-says : List ℕ → List ℤ → List (recs .type .Denot) → List ℤ → ℕ → ℕ → ℕ → ℕ → halts .type .Denot → List ℤ → List (recs .type .Denot) → List ℤ → Type 0
-run-program-says code cells records table pairs limit activations allowance r cells′ records′ table′ = ((b : Beginning code cells records table pairs limit activations) → Ended (b .program) (b .name) activations limit (frameRun (limitsBy activations limit) allowance (frameStart (b .program) (record { words = table; used = pairs }))) r cells′ records′ table′)
+run-program-says code cells records table pairs limit activations allowance r cells′ records′ table′ = ((b : Beginning code cells records table pairs limit activations) → Ended (b .begun .program) (b .begun .name) activations limit (frameRun (limitsBy activations limit) allowance (frameStart (b .begun .program) (record { words = table; used = pairs }))) r cells′ records′ table′)
 
 abbrev pub write-sheet-asks : List ℕ → List ℤ → List (recs .type .Denot) → ℕ → List ℤ → Type 0
 write-sheet-asks code cells records live sheet = (((fs : List Frame) × Held code cells (blocksIn records) (nextsIn records) fs × (length fs ≡ live))) × ((live ≤ length records) × (sheetShare * live ≤ length sheet))

@@ -17,7 +17,7 @@ abbrev pub Pre : List ℕ → List ℤ → List (recs .type .Denot) → List ℤ
 Pre code cells records table pairs limit activations = Beginning code cells records table pairs limit activations
 
 abbrev pub Said : List ℕ → List ℤ → List (recs .type .Denot) → List ℤ → ℕ → ℕ → ℕ → ℕ → halts .type .Denot → List ℤ → List (recs .type .Denot) → List ℤ → Type 0
-Said code cells records table pairs limit activations allowance r cells′ records′ table′ = ((b : Beginning code cells records table pairs limit activations) → Ended (b .program) (b .name) activations limit (frameRun (limitsBy activations limit) allowance (frameStart (b .program) (record { words = table; used = pairs }))) r cells′ records′ table′)
+Said code cells records table pairs limit activations allowance r cells′ records′ table′ = ((b : Beginning code cells records table pairs limit activations) → Ended (b .begun .program) (b .begun .name) activations limit (frameRun (limitsBy activations limit) allowance (frameStart (b .begun .program) (record { words = table; used = pairs }))) r cells′ records′ table′)
 
 abbrev pub program-record-says : List ℕ → recs .type .Denot → Type 0
 program-record-says code r = r ≡ activationOf code 0 0
