@@ -275,8 +275,8 @@ void enrol_display(const uint8_t *script, size_t script_len, uint32_t d, uint32_
 
 /* Runs a script on the search engine, which seeks a name in the innermost activation, then in the one that called or
  * entered it, and so on outwards. Only from an activation that was entered through a procedure formal it goes on at
- * another one: at the activation whose call first passed the declared procedure on its way to that formal. It is lent
- * nothing beside what every engine is, and gives 0 links. */
+ * another one: at the activation in whose text the procedure stood under its own name when it was handed over. It is
+ * lent nothing beside what every engine is, and gives 0 links. */
 void enrol_search(const uint8_t *script, size_t script_len, uint32_t d, uint32_t n, uint32_t g, uint64_t tally,
                   int32_t *table, size_t table_len, size_t count, uint16_t name, int32_t *sheet, size_t sheet_len,
                   uint64_t answer[ENROL_ANSWER_WORDS]);

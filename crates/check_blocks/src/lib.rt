@@ -2,7 +2,7 @@
 // the functions call each other in a cycle, in which the unread bytes fall. No count is trusted: room is taken for no record that has
 // not been read. The names of each level stand in one array, outermost first; one level more than may be nested is for the formals of
 // a procedure whose body is then refused as too deep. The borrow checker covers no function that has a reader, and no member of a cycle
-// that has such a member, so the five are walked by hand and leave the judging to functions that have none.
+// that has such a member, so the proofs of the five are walks, and they leave the judging to functions that have none.
 use check_bounds::MOST_NAMES;
 use check_bounds::declaration::fit;
 use check_fields::Reader;

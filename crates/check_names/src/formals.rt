@@ -37,7 +37,7 @@ fn hold(names: &mut [u32], base: usize, count: usize, at: usize, reading: Readin
 }
 
 // p formals, handed out one after the other by one reader, which moves on. Their names are put from a base on. The borrow checker covers
-// no function that has a reader, so this one is walked by hand and leaves the judging to `hold`.
+// no function that has a reader, so the proof of this one is a walk, and it leaves the judging to `hold`.
 pub fn read_formals(script: &[u8], names: &mut [u32], at: usize, p: usize, base: usize) -> Progress
     requires { ⌜ base + p ≤ length (now names) ⌝ }
     ensures reads { λ r. ⌜ r ≡ forget (formals p [] at (unread (now (script .entry)) at)) ⌝ }

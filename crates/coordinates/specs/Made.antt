@@ -1,6 +1,6 @@
 -- Each frame is what the statement that the frame below has passed last makes: a block's, or that of a called procedure's body. `Made fs`; what is read of
 -- a frame is its block, its formals, its link and its formals' words (`wiring`), which no later step changes.
-use Prim.Native.Nat.{ℕ, suc, pred, _≤_}
+use Prim.Native.Nat.{ℕ, zero, suc, pred, _≤_}
 use mathlib.Core.List.{List, [], map}
 use mathlib.Core.Option.{Option, none, some, Option·map}
 use mathlib.Core.Path.{_≡_}
@@ -16,9 +16,9 @@ use Rattle.coordinates.specs.Chain.{outline}
 unfoldable pub wiring : Frame → (Enclosing × ℕ) × List ℤ
 wiring f = (outline f, take (length (f .formals)) (f .words))
 
--- the statement that a frame has passed last; of one that has passed none, its first: in a run no frame stands above such a one
+-- the statement that a frame has passed last; none where its first is still to come
 unfoldable pub passed : Frame → Option Stmt
-passed f = getElem? (blockStmts (f .text)) (pred (pred (f .next)))
+passed f = elim (pred (f .next)) [ zero ↦ none | suc i ↦ getElem? (blockStmts (f .text)) i ]
 
 -- a call's frame: the body, linked to the frame that declares the procedure, with what the arguments designate
 unfoldable pub bodyOf : List Frame → ℕ → List ℕ → Option Frame

@@ -1,7 +1,7 @@
 -- Frames stay as made. `Made` reads of each frame how it is wired and which statement it has passed last, and no step changes either in a frame that
 -- is left below the innermost one. So a step keeps it (`step-made`): a frame just entered is what the statement done makes. A run begins so
 -- (`start-made`).
-use Prim.Native.Nat.{ℕ, suc, pred, _≤_, _<_}
+use Prim.Native.Nat.{ℕ, zero, suc, pred, _≤_, _<_}
 use native.Mathlib.Omega.{arith}
 use mathlib.Core.List.{List, [], _∷_, _++_, map}
 use mathlib.Core.Option.{Option, none, some, Option·map, map-eq-none-iff, map-eq-some-iff, Option·some-injective}
@@ -9,18 +9,19 @@ use mathlib.Core.Path.{_≡_, refl, sym, ap, ap₂, _∙_, subst, fun-ext}
 use borrow.Author.Tests.{leb-true, leb-false}
 use lib.Dec.{leb}
 use lib.IntN.{ℤ, pos}
-use lib.ListN.{length, take, set, getD}
+use lib.ListN.{length, take, set, getD, getElem?}
 use lib.Seq.{length-take-le, getD-take, take-append-le, take-append-seam}
 use Rattle.language.specs.Basics.{last?, butLast}
-use Rattle.language.specs.Text.{Kind, variable, Action, CL, GO, IF, KN, AR, AD, RM, QY, Block, Decl, Stmt, BK, DO, declFormals, declBody, labelIndex}
+use Rattle.language.specs.Text.{Kind, variable, Action, CL, GO, IF, KN, AR, AD, RM, QY, Block, Decl, Stmt, BK, DO, blockStmts, declFormals, declBody, labelIndex}
 use Rattle.language.specs.Table.{Table}
 use Rattle.language.specs.Machine.{Limits}
-use Rattle.laws.specs.Tests.{split, by-lookup}
+use Rattle.laws.specs.Tests.{split, by-lookup, none≢some}
 use Rattle.laws.specs.Lists.{last-snoc, snoc-length, butLast-take}
 use Rattle.grammar.specs.Rules.{Keeps}
 use Rattle.frames.specs.Frame.{Frame, Stack, acted, numbered, designates, declOf, frameNumber, place, continue, rewritten, putWord, put, newFrame, withFrames, tableChanged, mapAction, advanceFrame, frameStmt, frameStep, frameStart}
-use Rattle.frames.specs.Numbered.{numbered-suc, numbered-high, numbered-append, numbered-seam, numbered-take, last-numbered}
+use Rattle.frames.specs.Numbered.{numbered-suc, numbered-high, numbered-append, numbered-seam, numbered-take, numbered-index, last-numbered}
 use Rattle.frames.specs.Running.{After}
+use Rattle.frame_laws.specs.Bounds.{BoundedFrames}
 use Rattle.frame_laws.specs.Finding.{putWord-found, putWord-none}
 use Rattle.frame_laws.specs.Likeness.{Like, LikeFrames, designates-like, declOf-like}
 use Rattle.coordinates.specs.Enclosure.{Enclosing}
@@ -188,17 +189,29 @@ put-made u x z k d made =
 
 -- The step: the frame entered is what the statement just passed makes
 
-passed-next : (f : Frame) → passed (continue f (suc (f .next))) ≡ frameStmt f
+pub passed-next : (f : Frame) → 1 ≤ f .next → passed (continue f (suc (f .next))) ≡ frameStmt f
 unfolding passed continue frameStmt
-passed-next f = refl
+passed-next f low = go (f .next) low
+  where
+    go : (n : ℕ) → 1 ≤ n → elim n [ zero ↦ none | suc i ↦ getElem? (blockStmts (f .text)) i ] ≡ getElem? (blockStmts (f .text)) (pred n)
+    go zero h = absurd (omega arith)
+    go (suc n) h = refl
 
-module _ (fs : List Frame) (f : Frame) (x : Stmt) (e : last? fs ≡ some f) (q : frameStmt f ≡ some x) (made : Made fs) where
+pub passed-there : (f : Frame) (x : Stmt) → passed f ≡ some x → getElem? (blockStmts (f .text)) (pred (pred (f .next))) ≡ some x
+unfolding passed
+passed-there f x q = go (pred (f .next)) q
+  where
+    go : (n : ℕ) → elim n [ zero ↦ none | suc i ↦ getElem? (blockStmts (f .text)) i ] ≡ some x → getElem? (blockStmts (f .text)) (pred n) ≡ some x
+    go zero h = none≢some h
+    go (suc n) h = h
+
+module _ (fs : List Frame) (f : Frame) (x : Stmt) (e : last? fs ≡ some f) (low : 1 ≤ f .next) (q : frameStmt f ≡ some x) (made : Made fs) where
   abbrev on : List Frame
   on = advanced fs f (suc (f .next))
 
   entered-made : (g : Frame) → stmtMakes on x ≡ some g → Made (on ++ (g ∷ []))
   entered-made g m =
-      made-entered on g (ap (Option·map wiring) (makes-by on (continue f (suc (f .next))) x (last-snoc (butLast fs) (continue f (suc (f .next)))) (passed-next f ∙ q) ∙ m)) (advanced-made fs f (suc (f .next)) e made)
+      made-entered on g (ap (Option·map wiring) (makes-by on (continue f (suc (f .next))) x (last-snoc (butLast fs) (continue f (suc (f .next)))) (passed-next f low ∙ q) ∙ m)) (advanced-made fs f (suc (f .next)) e made)
 
 makes-body : (fs : List Frame) (at : ℕ) (a : Action) (p : ℕ) (xs : List ℕ) (d : Decl) → mapAction (designates fs) a ≡ CL p xs → declOf fs p ≡ some d → stmtMakes fs (DO at a) ≡ some (newFrame (declFormals d) xs (declBody d) (frameNumber p))
 unfolding mapAction stmtMakes actionMakes bodyOf
@@ -214,7 +227,10 @@ makes-body fs at (AD g m) p xs d r w = absurd (no-call r)
 makes-body fs at (RM g m) p xs d r w = absurd (no-call r)
 makes-body fs at (QY t g m) p xs d r w = absurd (no-call r)
 
-module _ (t : Block) (keeps : Keeps t) (s : Stack) (chain : Chained t (s .frames)) (wired : Wired (s .frames)) (made : Made (s .frames)) where
+module _ (t : Block) (keeps : Keeps t) (s : Stack) (chain : Chained t (s .frames)) (wired : Wired (s .frames)) (each : BoundedFrames (s .frames)) (made : Made (s .frames)) where
+  low : (f : Frame) → last? (s .frames) ≡ some f → 1 ≤ f .next
+  low f e = each (pred (length (s .frames))) f (numbered-index (s .frames) (length (s .frames)) f (sym (last-numbered (s .frames)) ∙ e)) .next-first
+
   action-made : (f : Frame) (at : ℕ) (a : Action) → last? (s .frames) ≡ some f → frameStmt f ≡ some (DO at a) → let u = advanceFrame s f in Moves (λ v. Made (v .frames)) u (mapAction (designates (u .frames)) a)
   unfolding advanceFrame withFrames tableChanged
   action-made f at a e q =
@@ -229,7 +245,7 @@ module _ (t : Block) (keeps : Keeps t) (s : Stack) (chain : Chained t (s .frames
         tabled = λ tab. m;
         stored = λ x z r. put-made u x z variable (target-found fs sc (designates fs) (advanced-found t keeps s chain wired f e i) a scoped x r) m;
         jumped = λ x g d n c. jumped-made fs (frameNumber x) g (labelIndex d) n m;
-        called = λ p xs d r n c. entered-made (s .frames) f (DO at a) e q made (newFrame (declFormals d) xs (declBody d) (frameNumber p)) (makes-body fs at a p xs d r n);
+        called = λ p xs d r n c. entered-made (s .frames) f (DO at a) e (low f e) q made (newFrame (declFormals d) xs (declBody d) (frameNumber p)) (makes-body fs at a p xs d r n);
       }
 
   step-makes : Steps (λ v. Made (v .frames)) s
@@ -238,9 +254,9 @@ module _ (t : Block) (keeps : Keeps t) (s : Stack) (chain : Chained t (s .frames
       record {
         over = λ e. made;
         returned = λ f e q. left-made (s .frames) made;
-        opened = λ f b e q. entered-made (s .frames) f (BK b) e q made (newFrame [] [] b _) refl;
+        opened = λ f b e q. entered-made (s .frames) f (BK b) e (low f e) q made (newFrame [] [] b _) refl;
         done = action-made;
       }
 
-pub step-made : (t : Block) → Keeps t → (l : Limits) (s s′ : Stack) → frameStep l s ≡ acted s′ → Chained t (s .frames) → Wired (s .frames) → Made (s .frames) → Made (s′ .frames)
-step-made t keeps l s s′ e chain wired made = subst (After (λ v. Made (v .frames))) e (step-by (λ v. Made (v .frames)) s l (step-makes t keeps s chain wired made))
+pub step-made : (t : Block) → Keeps t → (l : Limits) (s s′ : Stack) → frameStep l s ≡ acted s′ → Chained t (s .frames) → Wired (s .frames) → BoundedFrames (s .frames) → Made (s .frames) → Made (s′ .frames)
+step-made t keeps l s s′ e chain wired each made = subst (After (λ v. Made (v .frames))) e (step-by (λ v. Made (v .frames)) s l (step-makes t keeps s chain wired each made))

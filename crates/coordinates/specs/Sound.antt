@@ -88,7 +88,7 @@ step-sound t keeps l s s′ h e = by-elements (s .frames) none live
           bounded = subst (After (λ u. Bounded l (stepped s u))) e (step-bounded l (h .few) s n (h .bounded) (landing t keeps s (h .chained) (h .wired)));
           chained = step-linked t keeps l s s′ e (h .chained) (h .wired);
           wired = step-wired t keeps l s s′ e (h .chained) (h .wired);
-          made = step-made t keeps l s s′ e (h .chained) (h .wired) (h .made);
+          made = step-made t keeps l s s′ e (h .chained) (h .wired) (h .bounded .each) (h .made);
           table = subst (After (λ u. right (l .limit) ((stepped s u) .table) ≡ true)) e (step-right l s n (h .table));
         }
 

@@ -37,7 +37,7 @@ use Rattle.coordinates.specs.Statement.{enclosure-alike, level-alike}
 use Rattle.coordinates.specs.Designated.{Designated, Wire, Wired, number-of, own-declared, formal-designates, designates-a, declared-kind}
 use Rattle.coordinates.specs.Wiring.{wired-kept}
 use Rattle.coordinates.specs.Made.{wiring, passed, bodyOf, actionMakes, stmtMakes, makes, Made}
-use Rattle.coordinates.specs.Making.{makes-nothing, makes-by}
+use Rattle.coordinates.specs.Making.{passed-there, makes-nothing, makes-by}
 use Rattle.f_search.specs.Passers.{callIn, callOf, FormalAt, formalAt, formalOf, argumentFor}
 use Rattle.f_search.specs.Kept.{call-at, formal-sought, argument-of, calls-take, calls-downward}
 use Rattle.f_search.specs.OnChain.{OnChain, climb-on-chain}
@@ -180,20 +180,20 @@ module _ (t : Block) (keeps : Keeps t) (fs : List Frame) (chain : Chained t fs) 
 
   -- the names of the call that a frame has passed last
   pub call-names : (k : ℕ) (g : Frame) (at p : ℕ) (xs : List ℕ) → numbered fs k ≡ some g → passed g ≡ some (DO at (CL p xs)) → Each (Means fs k) (p ∷ xs)
-  unfolding passed enclosing actionNames
+  unfolding enclosing actionNames
   call-names k g at p xs e q =
-      let named = names-have-coordinates t keeps (enclosing g) (enclosureOf fs (g .link)) (frame-encloses t fs chain k g e) (pred (pred (g .next))) at (CL p xs) q in
+      let named = names-have-coordinates t keeps (enclosing g) (enclosureOf fs (g .link)) (frame-encloses t fs chain k g e) (pred (pred (g .next))) at (CL p xs) (passed-there g (DO at (CL p xs)) q) in
       each-map (λ n. (m : Meaning) × Located (enclosing g ∷ enclosureOf fs (g .link)) n m) (Means fs k) (p ∷ xs)
       (λ n v. meaning k n (v .0) (numbered-high fs k g e) (subst (λ (es : Enclosure). Located es n (v .0)) (sym (enclosure-step fs down k g e)) (v .1))) named
 
   pub called-kind : Wired fs → (k : ℕ) (g : Frame) (at p : ℕ) (xs : List ℕ) (d : Decl) → numbered fs k ≡ some g → passed g ≡ some (DO at (CL p xs)) → declOf (take k fs) (designates (take k fs) p) ≡ some d → declKind d ≡ procedure
-  unfolding passed enclosing ScopedAction
+  unfolding enclosing ScopedAction
   called-kind wired k g at p xs d e q z =
       let gs = take k fs in
       let l : length gs ≡ k = length-take-le k fs (numbered-high fs k g e) in
       let chained : Chained t gs = λ i f n. chained-alike t fs gs k (alike-take k fs) chain i f (omega (arith, numbered-high gs i f n, l)) n in
       let wires : Wired gs = wired-kept fs gs (λ i h. sym (ap (Option·map wiring) (numbered-take k fs i (omega (arith, h, l))))) wired in
-      let scoped = in-innermost t gs chained g (last-taken fs k g e) (λ es. ScopedAction (CL p xs) (scopeOf es)) (λ es w. scoped-action t keeps (enclosing g) es w (pred (pred (g .next))) at (CL p xs) q) in
+      let scoped = in-innermost t gs chained g (last-taken fs k g e) (λ es. ScopedAction (CL p xs) (scopeOf es)) (λ es w. scoped-action t keeps (enclosing g) es w (pred (pred (g .next))) at (CL p xs) (passed-there g (DO at (CL p xs)) q)) in
       declared-kind gs (designates gs p) procedure d (designates-a t keeps gs chained wires procedure p (scoped .called)) z
 
 -- What stood for a formal

@@ -1,6 +1,6 @@
 -- The F-chain (source 001, section 5), from the stack and its texts alone. Frame k was entered by the statement that frame k - 1 has passed last. Where
--- that is a CL through a procedure formal, F(k) is the frame whose CL wrote the declared procedure's name and so first passed it on its way to that
--- formal; every other frame has none. What a name means in a frame's text is what the static chain says.
+-- that is a CL through a procedure formal, F(k) is the frame in whose text the procedure stood under its own name when it was first handed over; from
+-- there it came to that formal as it was. Every other frame has none. What a name means in a frame's text is what the static chain says.
 use Prim.Native.Nat.{ℕ, zero, suc, pred}
 use mathlib.Core.Bool.{Bool, true, false}
 use mathlib.Core.List.{List}

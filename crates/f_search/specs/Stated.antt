@@ -1,8 +1,8 @@
 -- The theorems of an accepted script (`accepted-distinct`: no two of its declarations and formals share a number) and of any sound stack of a script that keeps the rules, as
--- every accepted one does. `call-searched` and `call-passer` say them of the stack that a call's run comes to. Of each live frame k:
+-- every accepted one does. `call-searched`, `call-passer` and `call-no-passer` say them of the stack that a call's run comes to. Of each live frame k:
 -- `sound-searched`: the number of a name visible in its block, sought from k, leads to the instance that the static chain gives (theorem 5-8);
--- `sound-passer`: where k was entered through a formal, F(k) is the frame whose CL wrote the declared procedure's name and so first passed it on its way to
--- that formal; `sound-no-passer`: there is none exactly where k is the program's, or was entered by a BK or under a declared name.
+-- `sound-passer`: where k was entered through a formal, F(k) is the frame in whose text the procedure stood under its own name when it was first handed
+-- over; `sound-no-passer`: there is none exactly where k is the program's, or was entered by a BK or under a declared name.
 use Prim.Native.Nat.{ℕ, _-_}
 use mathlib.Core.List.{List}
 use mathlib.Core.Logic.{_↔_}
@@ -56,3 +56,6 @@ module _ (e : Engine) (fed : Fed) (t : Block) (bytes : Bytes (fed .script)) (h :
 
   pub call-passer : (x : FormalAt) → through (final .frames) k ≡ some x → FirstPasser (final .frames) k f x
   call-passer = sound-passer (limitsOf fed) t (accepted-keeps-rules (fed .script) bytes t (h .script)) final (call-sound e fed t bytes h) k f live
+
+  pub call-no-passer : (passerOf (final .frames) k ≡ none) ↔ Direct (final .frames) k
+  call-no-passer = sound-no-passer (limitsOf fed) t (accepted-keeps-rules (fed .script) bytes t (h .script)) final (call-sound e fed t bytes h) k f live

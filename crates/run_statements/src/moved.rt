@@ -5,7 +5,8 @@ use run_moves::Move;
 ghost use mathlib.Core.Path.{_≡_};
 ghost use Rattle.run_statements.specs.Moved.{movedBy};
 
-// As `Move`, with the place to go on at first in a jump: where it stands differently in each, the compiler keeps it in memory.
+// As `Move`, with the place to go on at first in a jump: where it stands differently in each, the compiler keeps it in memory. For an entry the search
+// engine, which has no links, has where the search goes on from the new activation in the place of its link.
 pub enum Moved {
     Went(usize),
     Table(usize, usize, usize, usize, Ask),

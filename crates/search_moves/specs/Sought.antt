@@ -1,5 +1,5 @@
 -- The search in the engine's arrays finds what the stack's links lead to. `falls-of`: it ends. `sought-frame`: sought from a live activation, the number of a
--- name that it sees leads to the activation that declares the name on its static chain. So the first cell found is the one found by links:
+-- name that it sees leads to the activation that declares the name on its static chain; `sought-is-search`: as the F-search does. So the first cell found is the one found by links:
 -- `found-by-search` of a name, `led` of each name field of the next statement, by its operation, and `looked-by-search` of the looked-up name.
 use Prim.Native.Nat.{ℕ, zero, suc, pred, _+_, _*_, _-_, _≤_, _<_}
 use native.Mathlib.Omega.{arith}
@@ -127,6 +127,16 @@ module _ {code numbers : List ℕ} {activations limit : ℕ} {cells : List ℤ} 
   pub sought-frame : (k : ℕ) (f : Frame) → getElem? fs k ≡ some f → (n : ℕ) (c : Coordinate) → coordinateOf (enclosureOf fs (suc k)) n ≡ some c
       → sought blocks froms k (numberOf (enclosureOf fs (suc k)) n) ≡ pred (climb fs (suc k) (levelOf fs (suc k) - c .level))
   sought-frame k f e n c found = sought-numbered (suc k) f (numbered-suc fs k ∙ e) n c found
+
+  -- the engine's search is the F-search of the definitions, from every live activation: a frame's number is one more than its activation's
+  pub sought-is-search : (k : ℕ) (f : Frame) → getElem? fs k ≡ some f → (n : ℕ) (c : Coordinate) → coordinateOf (enclosureOf fs (suc k)) n ≡ some c
+      → search fs (suc k) (numberOf (enclosureOf fs (suc k)) n) ≡ some (suc (sought blocks froms k (numberOf (enclosureOf fs (suc k)) n)))
+  sought-is-search k f e n c found =
+      let s = w .standing in
+      let g = declaring-frame fs (chained-downward t fs (s .sound .chained)) (suc k) n c found in
+      let low = numbered-low fs (climb fs (suc k) (levelOf fs (suc k) - c .level)) (g .frame) (g .stands) in
+      let same : climb fs (suc k) (levelOf fs (suc k) - c .level) ≡ suc (sought blocks froms k (numberOf (enclosureOf fs (suc k)) n)) = omega (arith, low, sought-frame k f e n c found) in
+      search-climbs t (s .keeps) fs (s .sound .chained) (s .sound .wired) (s .sound .made) (suc k) f (numbered-suc fs k ∙ e) n c found ∙ ap some same
 
   -- A name seen by the innermost activation
 

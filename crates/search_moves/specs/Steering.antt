@@ -27,6 +27,7 @@ use Rattle.coordinates.specs.Kept.{chained-downward}
 use Rattle.coordinates.specs.Statement.{declared-alike}
 use Rattle.coordinates.specs.Designated.{Designated, Wire, formal-designates, declared-kind}
 use Rattle.coordinates.specs.Made.{passed}
+use Rattle.coordinates.specs.Making.{passed-next}
 use Rattle.coordinates.specs.Sound.{Sound}
 use Rattle.coordinates.specs.Visible.{actionNames}
 use Rattle.coordinates.specs.Next.{Resolved, NextAction, next-action}
@@ -36,7 +37,7 @@ use Rattle.f_search.specs.Kept.{SameCalls, call-at, argument-none, argument-of,
 use Rattle.f_search.specs.Entered.{Stood, argument}
 use Rattle.resolved.specs.Resolved.{positionIn, kindIn, direct, nameWord, resolvedAction, resolvedStmt}
 use Rattle.steps.specs.Means.{EntersAt}
-use Rattle.steps.specs.Here.{many, last-is, downward, covered}
+use Rattle.steps.specs.Here.{many, last-is, downward, covered, here-bounded}
 use Rattle.steps.specs.Going.{ahead, ahead-like, ahead-many}
 use Rattle.steps.specs.Loop.{sound-after}
 use Rattle.steps.specs.Calls.{count-is, argument-is}
@@ -46,11 +47,6 @@ use Rattle.run_state.specs.Limits.{limitsBy}
 use Rattle.search_moves.specs.Running.{formalIn, Passers, Running}
 use Rattle.search_moves.specs.Keeping.{passers-at}
 use Rattle.search_moves.specs.Formals.{no-formal, as-procedure, holderBy, a-formal, passer-there}
-
--- the statement done is the one passed last
-now-passed : (f : Frame) (x : Stmt) → frameStmt f ≡ some x → passed (continue f (suc (f .next))) ≡ some x
-unfolding passed continue frameStmt
-now-passed f x q = q
 
 module _ {code numbers : List ℕ} {activations limit : ℕ} {cells : List ℤ} {passers blocks nexts froms : List ℕ} {table : List ℤ} {here : Registers}
     (w : Running code numbers activations limit cells passers blocks nexts froms table here) where
@@ -122,6 +118,10 @@ module _ {code numbers : List ℕ} {activations limit : ℕ} {cells : List ℤ} 
   top-numbered =
       numbered-append on (new ∷ []) (suc live) (omega (arith, ahead-many (w .standing))) ∙ ap (numbered on) (sym (ahead-many (w .standing))) ∙ sym (last-numbered on) ∙ last-on
 
+  -- the statement done is the one passed last
+  now-passed : (x : Stmt) → frameStmt (w .standing .frame) ≡ some x → passed top ≡ some x
+  now-passed x q = passed-next (w .standing .frame) (here-bounded (w .standing) .next-first) ∙ q
+
   -- Where the search goes on
 
   at-depth : (m : ℕ) → onward framesAfter (suc (length on)) ≡ m → pred (onward framesAfter (suc (suc live))) ≡ pred m
@@ -131,7 +131,7 @@ module _ {code numbers : List ℕ} {activations limit : ℕ} {cells : List ℤ} 
   innermost = ap pred (ahead-many (w .standing))
 
   pub steer-block : (b : Block) → frameStmt (w .standing .frame) ≡ some (BK b) → pred (onward framesAfter (suc (suc live))) ≡ live
-  steer-block b q = at-depth (length on) (entered-block on top new last-on down-on b (now-passed (w .standing .frame) (BK b) q)) ∙ innermost
+  steer-block b q = at-depth (length on) (entered-block on top new last-on down-on b (now-passed (BK b) q)) ∙ innermost
 
   formal-on : (n : ℕ) → formalOf on (length on) n ≡ formalOf fs (length fs) n
   formal-on n =
@@ -184,7 +184,7 @@ module _ {code numbers : List ℕ} {activations limit : ℕ} {cells : List ℤ} 
   unfolding callOf
   passed-block b q =
       passers-more passers (λ c h. refl)
-      (λ i m e p. none≢some (sym (argument-none framesAfter (formalIn (suc live) i) (call-at framesAfter (suc (suc live)) top (BK b) top-numbered (now-passed (w .standing .frame) (BK b) q))) ∙ (stood i m e) .given))
+      (λ i m e p. none≢some (sym (argument-none framesAfter (formalIn (suc live) i) (call-at framesAfter (suc (suc live)) top (BK b) top-numbered (now-passed (BK b) q))) ∙ (stood i m e) .given))
 
   -- A call
 
@@ -205,7 +205,7 @@ module _ {code numbers : List ℕ} {activations limit : ℕ} {cells : List ℤ} 
     word-is = (covered (w .standing) (DO o (CL p xs)) q) .1 .0
 
     by-call : passed top ≡ some (DO o (CL p xs))
-    by-call = now-passed (w .standing .frame) (DO o (CL p xs)) q
+    by-call = now-passed (DO o (CL p xs)) q
 
     pub steer-call : direct (getD code (here .at + 1) 0) ≡ true → pred (onward framesAfter (suc (suc live))) ≡ live
     steer-call d =

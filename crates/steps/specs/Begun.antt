@@ -1,5 +1,5 @@
--- What every engine's run begins with (`Begun`): an accepted program, resolved; limits that fit; a table that is right; the cells of the program's own
--- block at 0. `resultFrom`: what the frame machine comes to from there; `AtStart`: an engine that stands there.
+-- What every engine's run begins with (`Begun`): a program that keeps the rules, resolved; 1 to 256 activations; a table that is right by the limit of a
+-- group; the cells of the program's own block at 0. `resultFrom`: what the frame machine comes to from there; `AtStart`: an engine that stands there.
 use Prim.Native.Nat.{ℕ, _≤_, _<_}
 use mathlib.Core.Bool.{true}
 use mathlib.Core.List.{List}

@@ -1,4 +1,4 @@
--- The cycle of the check: a block, its declarations and their bodies, its statements, each walked by hand. The unread bytes fall. Assumes nothing.
+-- The cycle of the check: a block, its declarations and their bodies, its statements, each by a walk. The unread bytes fall. Assumes nothing.
 mod Sizes
 mod block
 mod body
