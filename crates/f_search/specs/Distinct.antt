@@ -7,6 +7,7 @@ use mathlib.Core.Logic.{_⊎_, inl, inr, _≢_}
 use mathlib.Core.Option.{some}
 use mathlib.Core.Path.{_≡_, refl, subst}
 use lib.ListN.{length, getElem?}
+use Rattle.language.specs.Basics.{upFrom}
 use Rattle.language.specs.Text.{Formal, Block, block, Decl, VR, LB, PR, Stmt, BK, DO, Decls, no-decl, decl, Stmts, no-stmt, stmt, decls, stmts, blockAt, blockDecls, blockStmts}
 use Rattle.language.specs.Encoding.{blockFields}
 use Rattle.laws.specs.Each.{Each, each-map, each-append}
@@ -16,7 +17,7 @@ use Rattle.coordinates.specs.Enclosure.{Enclosing, enclosed, Enclosure, as-bloc
 use Rattle.coordinates.specs.Levels.{enclosure-names}
 use Rattle.coordinates.specs.Index.{is-block, is-action, Entry, indexBlock, indexDecl, indexStmt, indexDecls, indexStmts, indexOf, block-listed, Span, index-rises}
 use Rattle.resolved.specs.Places.{even-block, place-settled}
-use Rattle.f_search.specs.Numbers.{firstNumber, numbersFrom, entryNumbers, indexNumbers, numbersOf}
+use Rattle.f_search.specs.Numbers.{firstNumber, entryNumbers, indexNumbers, numbersOf}
 
 -- The index lists only blocks that the script has, each at its offset
 
@@ -88,12 +89,12 @@ rises-distinct : (lo hi : ℕ) (xs : List ℕ) → Rises lo hi xs → Distinct x
 rises-distinct lo hi [] s = tt
 rises-distinct lo hi (x ∷ xs) s = (each-map (λ y. suc x ≤ y) (λ y. x ≢ y) xs (λ y h e. omega arith) (rises-above (suc x) hi xs (s .1)), rises-distinct (suc x) hi xs (s .1))
 
-from-rises : (x m : ℕ) → Rises x (x + m) (numbersFrom x m)
-unfolding numbersFrom
+from-rises : (x m : ℕ) → Rises x (x + m) (upFrom x m)
+unfolding upFrom
 from-rises x zero = omega arith
 from-rises x (suc m) =
     let e : suc x + m ≡ x + suc m = omega arith in
-    (omega arith, subst (λ h. Rises (suc x) h (numbersFrom (suc x) m)) e (from-rises (suc x) m))
+    (omega arith, subst (λ h. Rises (suc x) h (upFrom (suc x) m)) e (from-rises (suc x) m))
 
 -- The numbers of an entry lie between its offset and the next even one, 16 to a byte
 
@@ -108,7 +109,7 @@ entry-rises t keeps (at, is-block (e ∷ es)) h lo l =
     let few = enclosure-names t keeps e es (h .1) in
     let even = even-block t keeps e es (h .1) in
     let n = length (namesOf e) in
-    rises-within (firstFrom lo) (firstNumber e) (firstFrom (suc at)) (firstNumber e + n) (numbersFrom (firstNumber e) n) (omega (arith, h .0)) (omega (arith, h .0)) (from-rises (firstNumber e) n)
+    rises-within (firstFrom lo) (firstNumber e) (firstFrom (suc at)) (firstNumber e + n) (upFrom (firstNumber e) n) (omega (arith, h .0)) (omega (arith, h .0)) (from-rises (firstNumber e) n)
 entry-rises t keeps (at, is-action es a) h lo l = omega arith
 
 index-numbers-rise : (t : Block) → Keeps t → (lo hi : ℕ) (xs : List Entry) → Span lo hi xs → Each (Listed t) xs → Rises (firstFrom lo) (firstFrom hi) (indexNumbers xs)
@@ -125,13 +126,13 @@ numbers-distinct t keeps =
     let hi = 0 + 2 * length (blockFields t) in
     rises-distinct (firstFrom 0) (firstFrom hi) (numbersOf t) (index-numbers-rise t keeps 0 hi (indexOf t) (index-rises t keeps) (listed-all t))
 
-from-listed : (x m i : ℕ) → i < m → List·Memᴰ (x + i) (numbersFrom x m)
-unfolding numbersFrom
+from-listed : (x m i : ℕ) → i < m → List·Memᴰ (x + i) (upFrom x m)
+unfolding upFrom
 from-listed x zero i h = absurd (omega arith)
 from-listed x (suc m) zero h = let e : x + 0 ≡ x = omega arith in List·Memᴰ·head e
 from-listed x (suc m) (suc i) h =
     let e : suc x + i ≡ x + suc i = omega arith in
-    List·Memᴰ·tail (subst (λ y. List·Memᴰ y (numbersFrom (suc x) m)) e (from-listed (suc x) m i (omega arith)))
+    List·Memᴰ·tail (subst (λ y. List·Memᴰ y (upFrom (suc x) m)) e (from-listed (suc x) m i (omega arith)))
 
 entry-listed : (x : Entry) (n : ℕ) (xs : List Entry) → List·Memᴰ x xs → List·Memᴰ n (entryNumbers x) → List·Memᴰ n (indexNumbers xs)
 unfolding indexNumbers

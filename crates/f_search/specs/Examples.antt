@@ -16,7 +16,7 @@ use Rattle.coordinates.specs.Chain.{enclosureOf}
 use Rattle.coordinates.specs.Index.{indexOf, indexBlock}
 use Rattle.coordinates.specs.Made.{passed}
 use Rattle.coordinates.specs.Examples.{framesAfter, framed}
-use Rattle.f_search.specs.Numbers.{firstNumber, introduces, numberOf, numbersFrom, entryNumbers, indexNumbers, numbersOf}
+use Rattle.f_search.specs.Numbers.{firstNumber, introduces, numberOf, entryNumbers, indexNumbers, numbersOf}
 use Rattle.f_search.specs.Passers.{callIn, callOf, callFor, formalAt, formalOf, argumentFor, passerWithin, passer, through, passerOf}
 use Rattle.f_search.specs.Search.{onward, searchWithin, search, searched}
 
@@ -65,7 +65,7 @@ look k ns fs =
     record { passers = map (passerOf fs) ks; onwards = map (onward fs) ks; found = map (find fs k) ns }
 
 unfoldable seen : Unit {0}
-unfolding computed framed script-B script-crossed two-formals three-of-one numbersIn introducedIn find look indexOf indexBlock passed firstNumber introduces numberOf numbersFrom entryNumbers indexNumbers numbersOf callIn callOf callFor formalAt formalOf argumentFor passerWithin passer through passerOf onward searchWithin search searched
+unfolding computed framed script-B script-crossed two-formals three-of-one numbersIn introducedIn find look indexOf indexBlock passed firstNumber introduces numberOf upFrom entryNumbers indexNumbers numbersOf callIn callOf callFor formalAt formalOf argumentFor passerWithin passer through passerOf onward searchWithin search searched
 seen = tt
 
 -- the program's three names; a formal and three declarations of procedure 3, whose BK is word 17

@@ -1,12 +1,13 @@
 -- Numbers of names (source 001, section 5: the prepass, axiom 5-1). Every declaration and every formal of a script has a number of its own: 32 for
 -- each word of the script before its block's BK, and its position in the block. So a block's own numbers are consecutive, and whether it introduces
 -- one is two comparisons.
-use Prim.Native.Nat.{ℕ, zero, suc, pred, _+_, _*_}
+use Prim.Native.Nat.{ℕ, pred, _+_, _*_}
 use mathlib.Core.Bool.{Bool, _&&_}
 use mathlib.Core.List.{List, [], _∷_, _++_}
 use mathlib.Core.Option.{none, some}
 use lib.Dec.{leb, ltb}
 use lib.ListN.{length}
+use Rattle.language.specs.Basics.{upFrom}
 use Rattle.language.specs.Text.{Block, blockAt}
 use Rattle.frames.specs.Frame.{positionFrom}
 use Rattle.coordinates.specs.Enclosure.{Enclosing, Enclosure, namesOf}
@@ -26,15 +27,10 @@ unfoldable pub numberOf : Enclosure → ℕ → ℕ
 numberOf [] n = 0
 numberOf (e ∷ es) n = elim (positionFrom n 1 (namesOf e)) [ some p ↦ firstNumber e + pred p | none ↦ numberOf es n ]
 
--- so many numbers from one on
-unfoldable pub numbersFrom : ℕ → ℕ → List ℕ
-numbersFrom x zero = []
-numbersFrom x (suc m) = x ∷ numbersFrom (suc x) m
-
 -- the numbers that an entry of a script's index introduces
 unfoldable pub entryNumbers : Entry → List ℕ
 entryNumbers (at, is-block []) = []
-entryNumbers (at, is-block (e ∷ es)) = numbersFrom (firstNumber e) (length (namesOf e))
+entryNumbers (at, is-block (e ∷ es)) = upFrom (firstNumber e) (length (namesOf e))
 entryNumbers (at, is-action es a) = []
 
 unfoldable pub indexNumbers : List Entry → List ℕ
