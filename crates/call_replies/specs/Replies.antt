@@ -122,7 +122,7 @@ with-links e f r q = rw q
 
 -- Arrays that hold the frames of a sound stack can be written as a sheet
 pub result-held : (code : List ℕ) (cells : List ℤ) (blocks nexts links : List ℕ) (name : ℕ) (t : Block) (l : Limits) (s : Stack) → Keeps t → Covers code 0 (resolvedOf name t) → Sound l t s
-    → Holds (s .frames) blocks nexts links cells → Held code cells blocks nexts (s .frames)
+    → Holds (s .frames) blocks nexts links cells → Held code cells blocks nexts links (s .frames)
 result-held code cells blocks nexts links name t l s keeps covers sound holds =
     record {
       name = name;
@@ -132,7 +132,6 @@ result-held code cells blocks nexts links name t l s keeps covers sound holds =
       chained = sound .chained;
       bounded = sound .bounded .each;
       most = omega (arith, sound .bounded .live, sound .few);
-      links = links;
       holds = holds;
     }
 

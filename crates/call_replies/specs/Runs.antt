@@ -43,11 +43,11 @@ module _ {e : Engine} {f : Fed} (bytes : Bytes (f .script)) {t : Block} (h : Adm
     {code : List ℕ} {cells : List ℤ} {blocks nexts links : List ℕ} {table : List ℤ} (covers : Covers code 0 (resolvedOf (f .name) t))
     {end : End} {steps offset pairs live designator : ℕ}
     (ended : Ended t (f .name) (limitsOf f) (frameRunOf f t) end steps offset pairs live designator cells blocks nexts links table) where
-  held : Held code cells blocks nexts ((frameRunOf f t) .final .frames)
+  held : Held code cells blocks nexts links ((frameRunOf f t) .final .frames)
   held =
       result-held code cells blocks nexts links (f .name) t (limitsOf f) ((frameRunOf f t) .final) (accepted-keeps-rules (f .script) bytes t (h .script)) covers (ended .sound) (ended .holds)
 
-  pub sheet-needs : ((fs : List Frame) × Held code cells blocks nexts fs × (length fs ≡ live)) × (sheetShare * live ≤ length (f .lent .sheet))
+  pub sheet-needs : ((fs : List Frame) × Held code cells blocks nexts links fs × (length fs ≡ live)) × (sheetShare * live ≤ length (f .lent .sheet))
   sheet-needs = (
     (_, held, sym (ended .live-is)),
     subst (λ k. sheetShare * k ≤ length (f .lent .sheet)) (sym (ended .live-is)) (room-for-sheet h ((frameRunOf f t) .final) (ended .sound)),
@@ -55,7 +55,7 @@ module _ {e : Engine} {f : Fed} (bytes : Bytes (f .script)) {t : Block} (h : Adm
 
   -- from the sheet that is written, the links that are reported, and the answer
   pub run-replies : {sheet : List ℤ} {count followed : ℕ}
-      → ((fs : List Frame) → Held code cells blocks nexts fs → length fs ≡ live → (sheet ≡ written (frameSheet fs) (f .lent .sheet)) × (count ≡ length (frameSheet fs)))
+      → ((fs : List Frame) → Held code cells blocks nexts links fs → length fs ≡ live → (sheet ≡ written (frameSheet fs) (f .lent .sheet)) × (count ≡ length (frameSheet fs)))
       → followed ≡ (frameReplied e f (frameRunOf f t)) .answer .links
       → {answer : Answer} → answer ≡ ranAnswer end steps offset pairs count (f .tally) designator followed → Answers e f answer sheet table
   run-replies is l a =

@@ -17,9 +17,9 @@ pub names-once : (b : Block) (fs : List Formal) (K : Kinds) → InBlock b fs K �
 unfolding InBlock declaredNames blockDecls
 names-once (block at ds ss) fs K h = h .0 .once
 
-module _ (formals arguments : List ℕ) (new : ℕ) (b : Block) (around : List Replacement) (as-many : length formals ≡ length arguments) (once : Distinct (formals ++ declaredNames b)) where
+module _ (formals arguments : List ℕ) (new : ℕ) (b : Block) (encloser : ℕ) (around : List Replacement) (as-many : length formals ≡ length arguments) (once : Distinct (formals ++ declaredNames b)) where
   abbrev text : Block
-  text = (activation formals arguments new b around) .text
+  text = (activation formals arguments new b encloser around) .text
 
   given-out : declaredNames text ≡ upFrom new (length (declaredNames b))
   unfolding activation

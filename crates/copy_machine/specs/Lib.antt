@@ -3,4 +3,5 @@ pub mod Kept
 pub mod Anew
 pub mod Moved
 pub mod Start
+pub mod Enclosers
 pub mod Together

@@ -122,49 +122,49 @@ module _ (l : Limits) (s : State) (a : Activation) (inv : Invariant s) (last : l
 
   -- An activation is entered
 
-  entered : (formals xs : List ℕ) (b : Block) (around : List Replacement) → length formals ≡ length xs → Distinct (formals ++ declaredNames b) → Hands a xs
-      → EntersAnew s (enter ahead formals xs b around) a
+  entered : (formals xs : List ℕ) (b : Block) (encloser : ℕ) (around : List Replacement) → length formals ≡ length xs → Distinct (formals ++ declaredNames b) → Hands a xs
+      → EntersAnew s (enter ahead formals xs b encloser around) a
   unfolding enter activation advance withLive
-  entered formals xs b around as-many once hands =
-      let new = activation formals xs (s .fresh) b around in
+  entered formals xs b encloser around as-many once hands =
+      let new = activation formals xs (s .fresh) b encloser around in
       record {
         kept = λ k c h e. kept-ahead k c (sym (getElem-append (ahead .live) (new ∷ []) k (omega (arith, deep-ahead))) ∙ e);
         deep = snoc-length (ahead .live) new ∙ ap suc deep-ahead;
         new = new;
         there = ap (getElem? (ahead .live ++ (new ∷ []))) (sym deep-ahead) ∙ getElem-seam (ahead .live) new [];
-        names-are = new-names formals xs (s .fresh) b around as-many once;
-        fresh-is = ap (λ n. s .fresh + n) (new-many formals xs (s .fresh) b around as-many once);
+        names-are = new-names formals xs (s .fresh) b encloser around as-many once;
+        fresh-is = ap (λ n. s .fresh + n) (new-many formals xs (s .fresh) b encloser around as-many once);
         arguments-are = hands;
       }
 
-  room-moved : (formals xs : List ℕ) (b : Block) (around : List Replacement) → length formals ≡ length xs → Distinct (formals ++ declaredNames b) → Hands a xs
-      → After Moved (enterIfRoom l ahead formals xs b around)
+  room-moved : (formals xs : List ℕ) (b : Block) (encloser : ℕ) (around : List Replacement) → length formals ≡ length xs → Distinct (formals ++ declaredNames b) → Hands a xs
+      → After Moved (enterIfRoom l ahead formals xs b encloser around)
   unfolding enterIfRoom
-  room-moved formals xs b around as-many once hands = go (ltb (length (ahead .live)) (l .activations))
+  room-moved formals xs b encloser around as-many once hands = go (ltb (length (ahead .live)) (l .activations))
     where
-      go : (t : Bool) → After Moved (elim t [ true ↦ did (enter ahead formals xs b around) | false ↦ stop NoActivationLeft ])
-      go true = inr (entered formals xs b around as-many once hands)
+      go : (t : Bool) → After Moved (elim t [ true ↦ did (enter ahead formals xs b encloser around) | false ↦ stop NoActivationLeft ])
+      go true = inr (entered formals xs b encloser around as-many once hands)
       go false = tt
 
-  block-moved : (b : Block) → nextStmt a ≡ some (BK b) → After Moved (enterIfRoom l ahead [] [] b (a .reads))
+  block-moved : (b : Block) → nextStmt a ≡ some (BK b) → After Moved (enterIfRoom l ahead [] [] b (length (ahead .live)) (a .reads))
   unfolding InStmt formalNames
-  block-moved b n = room-moved [] [] b (a .reads) refl (names-once b [] (liveKinds (s .live)) (next-closed s a (BK b) inv last n)) (inr (b, n, refl))
+  block-moved b n = room-moved [] [] b (length (ahead .live)) (a .reads) refl (names-once b [] (liveKinds (s .live)) (next-closed s a (BK b) inv last n)) (inr (b, n, refl))
 
   call-moved : (at p : ℕ) (xs : List ℕ) → nextStmt a ≡ some (DO at (CL p xs)) → After Moved (call l ahead p xs)
   unfolding call formalNames
   call-moved at p xs n = go (instance ahead p) refl
     where
       on : (i : Instance) → instance ahead p ≡ some i → (t : Bool) → agree (formalKinds (declFormals (i .decl))) (map (kindAt ahead) xs) ≡ t
-          → After Moved (elim t [ true ↦ enterIfRoom l ahead (formalNames (declFormals (i .decl))) xs (declBody (i .decl)) (i .home .reads) | false ↦ stop ArgumentsDiffer ])
+          → After Moved (elim t [ true ↦ enterIfRoom l ahead (formalNames (declFormals (i .decl))) xs (declBody (i .decl)) (i .number) (i .home .reads) | false ↦ stop ArgumentsDiffer ])
       on i e true r =
           let as-many = length-map (declFormals (i .decl)) (λ (f : Formal). f .name) ∙ sym (agree-many (kindAt ahead) (declFormals (i .decl)) xs r) in
           let h = home-of ahead p i (advanced s a (DO at (CL p xs)) inv last n) (found-at ahead p i e) in
-          room-moved (formalNames (declFormals (i .decl))) xs (declBody (i .decl)) (i .home .reads) as-many
+          room-moved (formalNames (declFormals (i .decl))) xs (declBody (i .decl)) (i .number) (i .home .reads) as-many
           (names-once (declBody (i .decl)) (declFormals (i .decl)) (h .around) (body-in (i .decl) (h .around) (h .declaration))) (inl (at, p, xs, n, refl))
       on i e false r = tt
 
       go : (o : Option Instance) → instance ahead p ≡ o
-          → After Moved (elim o [ none ↦ did ahead | some i ↦ elim (agree (formalKinds (declFormals (i .decl))) (map (kindAt ahead) xs)) [ true ↦ enterIfRoom l ahead (formalNames (declFormals (i .decl))) xs (declBody (i .decl)) (i .home .reads) | false ↦ stop ArgumentsDiffer ] ])
+          → After Moved (elim o [ none ↦ did ahead | some i ↦ elim (agree (formalKinds (declFormals (i .decl))) (map (kindAt ahead) xs)) [ true ↦ enterIfRoom l ahead (formalNames (declFormals (i .decl))) xs (declBody (i .decl)) (i .number) (i .home .reads) | false ↦ stop ArgumentsDiffer ] ])
       go none e = stays-moved
       go (some i) e = on i e (agree (formalKinds (declFormals (i .decl))) (map (kindAt ahead) xs)) refl
 

@@ -33,9 +33,9 @@ pub starts-anew : (t : Block) → Keeps t → (u : Table) → StartsAnew t u
 unfolding start enter activation
 starts-anew t k u =
     record {
-      new = activation [] [] 65536 t [];
+      new = activation [] [] 65536 t 0 [];
       live-is = refl;
-      names-are = new-names [] [] 65536 t [] refl (own-once t k);
-      fresh-is = ap (λ n. 65536 + n) (new-many [] [] 65536 t [] refl (own-once t k));
+      names-are = new-names [] [] 65536 t 0 [] refl (own-once t k);
+      fresh-is = ap (λ n. 65536 + n) (new-many [] [] 65536 t 0 [] refl (own-once t k));
       arguments-are = refl;
     }

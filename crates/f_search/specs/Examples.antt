@@ -12,13 +12,13 @@ use Rattle.language.specs.Samples.{script-B, script-crossed}
 use Rattle.language.specs.Evaluation.{computed}
 use Rattle.frames.specs.Frame.{Frame}
 use Rattle.coordinates.specs.Enclosure.{Enclosure}
-use Rattle.coordinates.specs.Chain.{enclosureOf}
+use Rattle.coordinates.specs.Chain.{enclosureOf, levelOf}
 use Rattle.coordinates.specs.Index.{indexOf, indexBlock}
 use Rattle.coordinates.specs.Made.{passed}
 use Rattle.coordinates.specs.Examples.{framesAfter, framed}
 use Rattle.f_search.specs.Numbers.{firstNumber, introduces, numberOf, entryNumbers, indexNumbers, numbersOf}
 use Rattle.f_search.specs.Passers.{callIn, callOf, callFor, formalAt, formalOf, argumentFor, passerWithin, passer, through, passerOf}
-use Rattle.f_search.specs.Search.{onward, searchWithin, search, searched}
+use Rattle.f_search.specs.Search.{onward, searchWithin, search, searched, shallower, encloserSought}
 
 -- procedure 2 is declared in the program, written as an argument in 3's body, handed on in 4's and called in 5's
 unfoldable two-formals : List ℕ
@@ -53,19 +53,20 @@ pub record Found : Type 0 where
 unfoldable find : List Frame → ℕ → ℕ → Found
 find fs k n = let x = numberOf (enclosureOf fs k) n in record { number = x; frame = search fs k x; designator = searched fs k x }
 
--- F of each frame, where the search goes on after each, and some names sought from frame k.
+-- F of each frame, where the search goes on after each, the encloser sought for each, and some names sought from frame k.
 pub record Seen : Type 0 where
   pub passers : List (Option ℕ)
   pub onwards : List ℕ
+  pub enclosers : List ℕ
   pub found : List Found
 
 unfoldable look : ℕ → List ℕ → List Frame → Seen
 look k ns fs =
     let ks = upFrom 1 (length fs) in
-    record { passers = map (passerOf fs) ks; onwards = map (onward fs) ks; found = map (find fs k) ns }
+    record { passers = map (passerOf fs) ks; onwards = map (onward fs) ks; enclosers = map (encloserSought fs) ks; found = map (find fs k) ns }
 
 unfoldable seen : Unit {0}
-unfolding computed framed script-B script-crossed two-formals three-of-one numbersIn introducedIn find look indexOf indexBlock passed firstNumber introduces numberOf upFrom entryNumbers indexNumbers numbersOf callIn callOf callFor formalAt formalOf argumentFor passerWithin passer through passerOf onward searchWithin search searched
+unfolding computed framed script-B script-crossed two-formals three-of-one numbersIn introducedIn find look indexOf indexBlock passed firstNumber introduces numberOf upFrom entryNumbers indexNumbers numbersOf callIn callOf callFor formalAt formalOf argumentFor passerWithin passer through passerOf onward searchWithin search searched shallower levelOf encloserSought
 seen = tt
 
 -- the program's three names; a formal and three declarations of procedure 3, whose BK is word 17
@@ -79,7 +80,7 @@ introduced-B = refl
 
 -- the formals 1 and 2 hide the program's variables, and stand for them crossed
 search-crossed : look 2 (1 ∷ 2 ∷ 3 ∷ []) (framesAfter 1 (check script-crossed))
-    ≡ record { passers = none ∷ none ∷ []; onwards = 0 ∷ 1 ∷ []; found = record { number = 512; frame = some 2; designator = 66 } ∷ record { number = 513; frame = some 2; designator = 65 } ∷ record { number = 2; frame = some 1; designator = 67 } ∷ [] }
+    ≡ record { passers = none ∷ none ∷ []; onwards = 0 ∷ 1 ∷ []; enclosers = 0 ∷ 1 ∷ []; found = record { number = 512; frame = some 2; designator = 66 } ∷ record { number = 513; frame = some 2; designator = 65 } ∷ record { number = 2; frame = some 1; designator = 67 } ∷ [] }
 unfolding seen
 search-crossed = refl
 
@@ -87,18 +88,18 @@ search-crossed = refl
 
 -- procedure 6 of frame 2, handed to frame 3 and called there; 4 is frame 2's formal, 5 its variable
 search-B : look 4 (4 ∷ 5 ∷ []) (framesAfter 9 (check script-B))
-    ≡ record { passers = none ∷ none ∷ none ∷ some 2 ∷ []; onwards = 0 ∷ 1 ∷ 2 ∷ 2 ∷ []; found = record { number = 544; frame = some 2; designator = 66 } ∷ record { number = 545; frame = some 2; designator = 130 } ∷ [] }
+    ≡ record { passers = none ∷ none ∷ none ∷ some 2 ∷ []; onwards = 0 ∷ 1 ∷ 2 ∷ 2 ∷ []; enclosers = 0 ∷ 1 ∷ 1 ∷ 2 ∷ []; found = record { number = 544; frame = some 2; designator = 66 } ∷ record { number = 545; frame = some 2; designator = 130 } ∷ [] }
 unfolding seen
 search-B = refl
 
 -- frame 5 goes on from frame 2: neither where the procedure is declared (1), nor the last passer (3), nor the caller (4)
 search-two-formals : look 5 (1 ∷ []) (framesAfter 4 (check two-formals))
-    ≡ record { passers = none ∷ none ∷ none ∷ none ∷ some 2 ∷ []; onwards = 0 ∷ 1 ∷ 2 ∷ 3 ∷ 2 ∷ []; found = record { number = 0; frame = some 1; designator = 65 } ∷ [] }
+    ≡ record { passers = none ∷ none ∷ none ∷ none ∷ some 2 ∷ []; onwards = 0 ∷ 1 ∷ 2 ∷ 3 ∷ 2 ∷ []; enclosers = 0 ∷ 1 ∷ 1 ∷ 1 ∷ 1 ∷ []; found = record { number = 0; frame = some 1; designator = 65 } ∷ [] }
 unfolding seen
 search-two-formals = refl
 
--- frames 2 to 4 run one body: from frame 5 names lead to the first of them, and so does 2, by which frame 6 was entered: the program passed 7
+-- frames 2 to 4 run one body: from frame 5 names lead to the first of them, which encloses it and is not the newest; so does 2, by which frame 6 was entered: the program passed 7
 search-three-of-one : look 5 (4 ∷ 2 ∷ []) (framesAfter 13 (check three-of-one))
-    ≡ record { passers = none ∷ none ∷ none ∷ none ∷ some 2 ∷ some 1 ∷ []; onwards = 0 ∷ 1 ∷ 2 ∷ 3 ∷ 2 ∷ 1 ∷ []; found = record { number = 609; frame = some 2; designator = 130 } ∷ record { number = 608; frame = some 2; designator = 67 } ∷ [] }
+    ≡ record { passers = none ∷ none ∷ none ∷ none ∷ some 2 ∷ some 1 ∷ []; onwards = 0 ∷ 1 ∷ 2 ∷ 3 ∷ 2 ∷ 1 ∷ []; enclosers = 0 ∷ 1 ∷ 1 ∷ 1 ∷ 2 ∷ 1 ∷ []; found = record { number = 609; frame = some 2; designator = 130 } ∷ record { number = 608; frame = some 2; designator = 67 } ∷ [] }
 unfolding seen
 search-three-of-one = refl

@@ -1,5 +1,5 @@
 -- The search of source 001, section 5, on the frame machine's stack: names by number, sought along the F-chain. In reading order; the definitions are
--- in Numbers, Passers and Search, with Examples, and a reader who wants the theorems alone reads Distinct, FirstPassed, Theorem and Stated.
+-- in Numbers, Passers and Search, with Examples, and a reader who wants the theorems alone reads Distinct, FirstPassed, Theorem, Enclosers and Stated.
 pub mod Numbers
 pub mod Passers
 pub mod Search
@@ -12,4 +12,5 @@ pub mod OnChain
 pub mod Entered
 pub mod FirstPassed
 pub mod Theorem
+pub mod Enclosers
 pub mod Stated

@@ -1,11 +1,12 @@
 -- The search (source 001, F16): number x sought from frame k is there if its block introduces x, and else it is sought from F(k), or from k - 1 where
--- there is no F(k).
+-- there is no F(k). Along the same way lies the frame that encloses frame k: the first of a lower level.
 use Prim.Native.Nat.{ℕ, zero, suc, pred, _-_}
 use mathlib.Core.Bool.{true, false}
 use mathlib.Core.List.{List}
 use mathlib.Core.Option.{Option, none, some}
+use lib.Dec.{ltb}
 use Rattle.frames.specs.Frame.{Frame, numbered, finally}
-use Rattle.coordinates.specs.Chain.{enclosing}
+use Rattle.coordinates.specs.Chain.{enclosing, levelOf}
 use Rattle.coordinates.specs.Coordinates.{instanceAt}
 use Rattle.f_search.specs.Numbers.{firstNumber, introduces}
 use Rattle.f_search.specs.Passers.{passerOf}
@@ -34,3 +35,14 @@ searched fs k x =
       | none ↦ 0
       | some j ↦ elim (numbered fs j) [ none ↦ 0 | some f ↦ finally fs (instanceAt j (suc (x - firstNumber (enclosing f))) 0) ]
     ]
+
+-- Enclosers
+
+-- from frame j on the first frame whose level is below v, m frames at most being asked
+unfoldable pub shallower : ℕ → List Frame → ℕ → ℕ → ℕ
+shallower zero fs v j = 0
+shallower (suc m) fs v j = elim (ltb (levelOf fs j) v) [ true ↦ j | false ↦ shallower m fs v (onward fs j) ]
+
+-- the frame that encloses frame k, 0 for the program. Levels are counted along the links here; an engine has them from the script, and needs no link.
+unfoldable pub encloserSought : List Frame → ℕ → ℕ
+encloserSought fs k = shallower k fs (levelOf fs k) (onward fs k)

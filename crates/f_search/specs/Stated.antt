@@ -1,7 +1,7 @@
 -- The theorems of an accepted script (`accepted-distinct`: no two of its declarations and formals share a number) and of any sound stack of a script that keeps the rules, as
--- every accepted one does. `call-searched`, `call-passer` and `call-no-passer` say them of the stack that a call's run comes to. Of each live frame k:
+-- every accepted one does. `call-searched`, `call-encloser`, `call-passer` and `call-no-passer` say them of the stack that a call's run comes to. Of each live frame k:
 -- `sound-searched`: the number of a name visible in its block, sought from k, leads to the instance that the static chain gives (theorem 5-8);
--- `sound-passer`: where k was entered through a formal, F(k) is the frame in whose text the procedure stood under its own name when it was first handed
+-- `sound-encloser`: the encloser that is sought from k is its link; `sound-passer`: where k was entered through a formal, F(k) is the frame in whose text the procedure stood under its own name when it was first handed
 -- over; `sound-no-passer`: there is none exactly where k is the program's, or was entered by a BK or under a declared name.
 use Prim.Native.Nat.{ℕ, _-_}
 use mathlib.Core.List.{List}
@@ -23,9 +23,10 @@ use Rattle.coordinates.specs.Sound.{Sound, accepted-keeps-rules, call-sound}
 use Rattle.f_search.specs.Numbers.{numberOf, numbersOf}
 use Rattle.f_search.specs.Distinct.{numbers-distinct}
 use Rattle.f_search.specs.Passers.{FormalAt, through, passerOf}
-use Rattle.f_search.specs.Search.{search, searched}
+use Rattle.f_search.specs.Search.{search, searched, encloserSought}
 use Rattle.f_search.specs.FirstPassed.{FirstPasser, first-passer, Direct, no-passer}
 use Rattle.f_search.specs.Theorem.{search-climbs, searched-as-sought}
+use Rattle.f_search.specs.Enclosers.{encloser-is-link}
 
 module _ (l : Limits) (t : Block) (keeps : Keeps t) (s : Stack) (sound : Sound l t s) (k : ℕ) (f : Frame) (live : numbered (s .frames) k ≡ some f) where
   module _ (n : ℕ) (c : Coordinate) (visible : coordinateOf (enclosureOf (s .frames) k) n ≡ some c) where
@@ -34,6 +35,9 @@ module _ (l : Limits) (t : Block) (keeps : Keeps t) (s : Stack) (sound : Sound l
 
     pub sound-searched : searched (s .frames) k (numberOf (enclosureOf (s .frames) k) n) ≡ designates (take k (s .frames)) n
     sound-searched = searched-as-sought t keeps (s .frames) (sound .chained) (sound .wired) (sound .made) k f live n c visible
+
+  pub sound-encloser : encloserSought (s .frames) k ≡ f .link
+  sound-encloser = encloser-is-link t keeps (s .frames) (sound .chained) (sound .wired) (sound .made) k f live
 
   pub sound-passer : (x : FormalAt) → through (s .frames) k ≡ some x → FirstPasser (s .frames) k f x
   sound-passer x e = first-passer t keeps (s .frames) (sound .chained) (sound .wired) (sound .made) k f x live e
@@ -53,6 +57,9 @@ module _ (e : Engine) (fed : Fed) (t : Block) (bytes : Bytes (fed .script)) (h :
 
   pub call-searched : (n : ℕ) (c : Coordinate) → coordinateOf (enclosureOf (final .frames) k) n ≡ some c → searched (final .frames) k (numberOf (enclosureOf (final .frames) k) n) ≡ designates (take k (final .frames)) n
   call-searched = sound-searched (limitsOf fed) t (accepted-keeps-rules (fed .script) bytes t (h .script)) final (call-sound e fed t bytes h) k f live
+
+  pub call-encloser : encloserSought (final .frames) k ≡ f .link
+  call-encloser = sound-encloser (limitsOf fed) t (accepted-keeps-rules (fed .script) bytes t (h .script)) final (call-sound e fed t bytes h) k f live
 
   pub call-passer : (x : FormalAt) → through (final .frames) k ≡ some x → FirstPasser (final .frames) k f x
   call-passer = sound-passer (limitsOf fed) t (accepted-keeps-rules (fed .script) bytes t (h .script)) final (call-sound e fed t bytes h) k f live

@@ -57,7 +57,7 @@ offset-does s pre f x e n = rw (frameOffset, last-innermost s pre f e, n)
 
 -- The sheet
 
-pub frameWords-length : (f : Frame) → length (frameWords f) ≡ 2 + length (f .words)
+pub frameWords-length : (f : Frame) → length (frameWords f) ≡ 3 + length (f .words)
 unfolding frameWords
 frameWords-length f = omega arith
 

@@ -50,7 +50,7 @@ module _ {l l′ : List Activation} {k : ℕ} (h : SameBelow l l′ k) where
   -- the twin at index k, where its variables keep their values
   pub twin-same : (vs vs′ : List (ℕ × ℤ)) (a : Activation) (f : Frame) → map (wordIn vs′) (blockDecls (a .text)) ≡ map (wordIn vs) (blockDecls (a .text)) → Twin l vs k a f → Twin l′ vs′ k a f
   twin-same vs vs′ a f w t =
-      record { fine = t .fine; as-many = t .as-many; reads-are = t .reads-are ∙ ap (λ (r : List Replacement). ownOf f a ∷ r) (sym (h .same-reads (f .link) (t .link-below))); text-is = t .text-is; next-is = t .next-is; link-below = t .link-below; live-arguments = all-live-same (a .arguments) (t .live-arguments); words-are = t .words-are ∙ sym (ap₂ _++_ (designators-same (a .arguments) (t .live-arguments)) w) }
+      record { fine = t .fine; as-many = t .as-many; reads-are = t .reads-are ∙ ap (λ (r : List Replacement). ownOf f a ∷ r) (sym (h .same-reads (f .link) (t .link-below))); text-is = t .text-is; next-is = t .next-is; encloser-is = t .encloser-is; link-below = t .link-below; live-arguments = all-live-same (a .arguments) (t .live-arguments); words-are = t .words-are ∙ sym (ap₂ _++_ (designators-same (a .arguments) (t .live-arguments)) w) }
 
 -- dropping the activations above number m
 readsAt-take : (l : List Activation) (m k : ℕ) → k ≤ m → readsAt (take m l) k ≡ readsAt l k
@@ -110,7 +110,7 @@ module _ (a : Activation) (n : ℕ) where
   twin-resume : (l : List Activation) (vs : List (ℕ × ℤ)) (k : ℕ) (f : Frame) → Twin l vs k a f → Twin l vs k (resume a n) (continue f n)
   unfolding resume continue ownOf
   twin-resume l vs k f t =
-      record { fine = t .fine; as-many = t .as-many; reads-are = t .reads-are; text-is = t .text-is; next-is = refl; link-below = t .link-below; live-arguments = t .live-arguments; words-are = t .words-are }
+      record { fine = t .fine; as-many = t .as-many; reads-are = t .reads-are; text-is = t .text-is; next-is = refl; encloser-is = t .encloser-is; link-below = t .link-below; live-arguments = t .live-arguments; words-are = t .words-are }
 
 -- The innermost activation and its frame, with those below: what a step begins from.
 pub record Top (s : State) (t : Stack) : Type 0 where

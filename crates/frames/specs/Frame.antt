@@ -280,7 +280,7 @@ frameStart program t = record { frames = newFrame [] [] program 0 ∷ []; table 
 
 -- The sheet is read off the frames.
 unfoldable pub frameWords : Frame → List ℤ
-frameWords f = pos (blockAt (f .text)) ∷ pos (f .next) ∷ f .words
+frameWords f = pos (blockAt (f .text)) ∷ pos (f .next) ∷ pos (f .link) ∷ f .words
 
 unfoldable pub frameSheet : List Frame → List ℤ
 frameSheet [] = []

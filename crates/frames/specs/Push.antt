@@ -158,7 +158,7 @@ module _ (s : State) (t : Stack) (r : Related s t) (fs : List Formal) (b : Block
   copied = renameBlock b (without (names ++ declaredNames b) σ)
 
   abbrev a : Activation
-  a = activation names xs (s .fresh) copied (readsAt l m)
+  a = activation names xs (s .fresh) copied m (readsAt l m)
 
   abbrev f : Frame
   f = newFrame fs (map (designatorAt l) xs) b m
@@ -174,7 +174,7 @@ module _ (s : State) (t : Stack) (r : Related s t) (fs : List Formal) (b : Block
   many-names = length-map fs (λ (x : Formal). x .name) ∙ sym many
 
   text-is : a .text ≡ renameBlock b (own ++ σ)
-  text-is = entered-text names xs (s .fresh) b σ (readsAt l m) (fine .level) fs (fine .here) (fine .formed) (fine .small-formals) many-names (reads-big s t r m deep)
+  text-is = entered-text names xs (s .fresh) b σ m (readsAt l m) (fine .level) fs (fine .here) (fine .formed) (fine .small-formals) many-names (reads-big s t r m deep)
 
   reads-are : a .reads ≡ own ∷ readsAt l m
   unfolding activation
@@ -218,14 +218,14 @@ module _ (s : State) (t : Stack) (r : Related s t) (fs : List Formal) (b : Block
   twin : Twin (l ++ (a ∷ [])) vs (length l) a f
   unfolding activation newFrame joined
   twin =
-      record { fine = fine; as-many = many; reads-are = reads-are ∙ ap₂ _∷_ (sym own-are) (sym (same (length l) (omega arith) .same-reads m deep)); text-is = text-is ∙ ap (λ (σs : List Replacement). renameBlock b (joined σs)) (sym reads-are); next-is = refl; link-below = deep; live-arguments = all-live-same (same (length l) (omega arith)) xs live; words-are = words-are }
+      record { fine = fine; as-many = many; reads-are = reads-are ∙ ap₂ _∷_ (sym own-are) (sym (same (length l) (omega arith) .same-reads m deep)); text-is = text-is ∙ ap (λ (σs : List Replacement). renameBlock b (joined σs)) (sym reads-are); next-is = refl; encloser-is = refl; link-below = deep; live-arguments = all-live-same (same (length l) (omega arith)) xs live; words-are = words-are }
 
   fresh-is : s .fresh + length (blockDecls (a .text)) ≡ s .fresh + length (declaredNames copied)
   fresh-is =
       let τ = without (names ++ declaredNames b) σ in
       ap (s .fresh +_) (as-many-decls ∙ sym (ap length (declaredNames-renamed b τ) ∙ length-map (declaredNames b) (renamed τ)))
 
-  pub related-push : Related (enter s names xs copied (readsAt l m)) (withFrames t (t .frames ++ (f ∷ [])))
+  pub related-push : Related (enter s names xs copied m (readsAt l m)) (withFrames t (t .frames ++ (f ∷ [])))
   unfolding enter withFrames
   related-push =
       record { twins = both-snoc (Twin (l ++ (a ∷ [])) vs) 0 l (t .frames) a f (both-map (Twin l (s .values)) (Twin (l ++ (a ∷ [])) vs) 0 l (t .frames) (λ k c g h e e′ w. below k c g h e w) (r .twins)) (rw zero-add twin); rising = subst (Rising 65536 (l ++ (a ∷ []))) fresh-is (rising-more 65536 l (s .fresh) a (r .rising) names-rise); table-is = r .table-is; steps-are = r .steps-are }

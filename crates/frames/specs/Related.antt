@@ -63,14 +63,15 @@ unfoldable pub ownOf : Frame → Activation → Replacement
 ownOf f a = zip (formalNames (f .formals)) (a .arguments) ++ zip (declaredNames (f .text)) (declaredNames (a .text))
 
 -- An activation and its frame, at index k: the copy is the original block renamed by what names read as there; what names read
--- as is the enclosing activation's reading with the own names over it; a variable's value is the frame's word, a formal's word
--- the designator of the name that it reads as.
+-- as is the enclosing activation's reading with the own names over it, and the link is its number; a variable's value is the frame's
+-- word, a formal's word the designator of the name that it reads as.
 pub record Twin (l : List Activation) (vs : List (ℕ × ℤ)) (k : ℕ) (a : Activation) (f : Frame) : Type 0 where
   pub fine : Fine (f .formals) (f .text)
   pub as-many : length (a .arguments) ≡ length (f .formals)
   pub reads-are : a .reads ≡ ownOf f a ∷ readsAt l (f .link)
   pub text-is : a .text ≡ renameBlock (f .text) (joined (a .reads))
   pub next-is : a .next ≡ f .next
+  pub encloser-is : a .encloser ≡ f .link
   pub link-below : f .link ≤ k
   pub live-arguments : AllLive l k (a .arguments)
   pub words-are : f .words ≡ map (λ (x : ℕ). pos (designatorAt l x)) (a .arguments) ++ map (wordIn vs) (blockDecls (a .text))

@@ -151,11 +151,11 @@ module _ (formals arguments : List ℕ) (new : ℕ) (b : Block) where
   unfolding ownNames
   own-kept σ = rw (declared-kept b (formals ++ declaredNames b) σ (λ n h. among-right n formals (declaredNames b) h))
 
-  pub entered-text : (σ : Replacement) (around : List Replacement) (level : ℕ) (fs : List Formal) (here : ℕ) → FormedBlock b level fs here → AllBelow formals → length formals ≡ length arguments → Big σ
-      → (activation formals arguments new (renameBlock b (without (formals ++ declaredNames b) σ)) around) .text
+  pub entered-text : (σ : Replacement) (encloser : ℕ) (around : List Replacement) (level : ℕ) (fs : List Formal) (here : ℕ) → FormedBlock b level fs here → AllBelow formals → length formals ≡ length arguments → Big σ
+      → (activation formals arguments new (renameBlock b (without (formals ++ declaredNames b) σ)) encloser around) .text
       ≡ renameBlock b (ownNames formals arguments new b ++ σ)
   unfolding activation
-  entered-text σ around level fs here formed below l big =
+  entered-text σ encloser around level fs here formed below l big =
       rw (own-kept σ)
       (enter-renamed b level fs here formed (formals ++ declaredNames b) σ (ownNames formals arguments new b) (each-append (λ n. n < 65536) formals (declaredNames b) below (block-names level fs here b formed)) (own-keys l) big)
 

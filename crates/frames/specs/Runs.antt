@@ -114,7 +114,7 @@ pub start-related : (p : Block) → Keeps p → (u : Table) → Related (start p
 unfolding start frameStart nothing no-frames withFrames formalNames readsAt readsIn joined without Both Rising numbered
 start-related p k u =
     let r : Related (nothing u) (no-frames u) = record { twins = tt; rising = omega arith; table-is = refl; steps-are = refl } in
-    subst (λ (b : Block). Related (enter (nothing u) [] [] b []) (frameStart p u)) (rename-nothing p)
+    subst (λ (b : Block). Related (enter (nothing u) [] [] b 0 []) (frameStart p u)) (rename-nothing p)
     (related-push (nothing u) (no-frames u) r [] p (fine-program p k) [] refl tt 0 (omega arith))
 
 -- The sheets are one.
@@ -136,7 +136,7 @@ declWord-is s (PR at n fs b) = refl
 words-same : (s : State) (k : ℕ) (a : Activation) (f : Frame) → Twin (s .live) (s .values) k a f → activationWords s a ≡ frameWords f
 unfolding activationWords frameWords
 words-same s k a f w =
-    λ i. pos ((ap blockAt (w .text-is) ∙ blockAt-renamed (f .text) (joined (a .reads))) i) ∷ pos (w .next-is i) ∷ (ap₂ _++_ (map-alike (λ (x : ℕ). pos (designator s x)) (λ (x : ℕ). pos (designatorAt (s .live) x)) (a .arguments) (λ j x e. ap pos (designator-is s x))) (map-alike (declWord s) (wordIn (s .values)) (blockDecls (a .text)) (λ j d e. declWord-is s d)) ∙ sym (w .words-are)) i
+    λ i. pos ((ap blockAt (w .text-is) ∙ blockAt-renamed (f .text) (joined (a .reads))) i) ∷ pos (w .next-is i) ∷ pos (w .encloser-is i) ∷ (ap₂ _++_ (map-alike (λ (x : ℕ). pos (designator s x)) (λ (x : ℕ). pos (designatorAt (s .live) x)) (a .arguments) (λ j x e. ap pos (designator-is s x))) (map-alike (declWord s) (wordIn (s .values)) (blockDecls (a .text)) (λ j d e. declWord-is s d)) ∙ sym (w .words-are)) i
 
 sheets-same : (s : State) (k : ℕ) (l : List Activation) (fs : List Frame) → Both (Twin (s .live) (s .values)) k l fs → wordsOf s l ≡ frameSheet fs
 unfolding Both wordsOf frameSheet

@@ -153,8 +153,8 @@ module _ (l : Limits) (s : State) (t : Stack) (r : Related s t) (inv : Invariant
   unfolding stepIn actIn Alike doStmt actStmt frameStmt renameStmt formalNames
   block-alike b e =
       rw (next-stmt ∙ ap (Option·map (λ (x : Stmt). renameStmt x (joined (a .reads)))) e, e, stepIn, actIn)
-      (subst₂ (λ (rs : List Replacement) (n : ℕ). Alike (enterIfRoom l (advance s a) [] [] (renameBlock b (without (declaredNames b) (joined rs))) rs) (pushFrame l (advanceFrame t f) [] [] b n))
-      reads₁ (sym frames₁)
+      (let deep = sym deep₁ in let frames = sym frames₁ in
+      subst (λ (T : Type 0). T) (λ i. Alike (enterIfRoom l (advance s a) [] [] (renameBlock b (without (declaredNames b) (joined (reads₁ i)))) (deep i) (reads₁ i)) (pushFrame l (advanceFrame t f) [] [] b (frames i)))
       (enter-alike (advance s a) (advanceFrame t f) related₁ l [] b (fine-block (f .formals) (f .text) (pred (f .next)) b fine-top e) [] refl tt (suc k) (omega (arith, deep₁))))
 
   -- an action

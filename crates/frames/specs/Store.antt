@@ -39,7 +39,7 @@ module _ (s : State) (t : Stack) (r : Related s t) (x : ℕ) (z : ℤ) (i : Inst
   others : (k : ℕ) (a : Activation) (f : Frame) → (k ≡ d .depth → ⊥) → getElem? (s .live) k ≡ some a → Twin (s .live) (s .values) (0 + k) a f → Twin (s .live) ((x, z) ∷ s .values) (0 + k) a f
   others k a f apart q w =
       let same = map-alike (wordIn ((x, z) ∷ s .values)) (wordIn (s .values)) (blockDecls (a .text)) (λ j c g. word-other (s .values) x z c (λ n. apart (same-declaration 65536 (s .live) (s .fresh) k j (d .depth) (d .index) a (i .home) c (i .decl) (r .rising) q g (d .home-at) (d .decl-at) (n ∙ sym (d .name-is)) .0))) in
-      record { fine = w .fine; as-many = w .as-many; reads-are = w .reads-are; text-is = w .text-is; next-is = w .next-is; link-below = w .link-below; live-arguments = w .live-arguments; words-are = w .words-are ∙ ap (map (λ (y : ℕ). pos (designatorAt (s .live) y)) (a .arguments) ++_) (sym same) }
+      record { fine = w .fine; as-many = w .as-many; reads-are = w .reads-are; text-is = w .text-is; next-is = w .next-is; encloser-is = w .encloser-is; link-below = w .link-below; live-arguments = w .live-arguments; words-are = w .words-are ∙ ap (map (λ (y : ℕ). pos (designatorAt (s .live) y)) (a .arguments) ++_) (sym same) }
 
   this-words : map (wordIn ((x, z) ∷ s .values)) (blockDecls (i .home .text)) ≡ set (map (wordIn (s .values)) (blockDecls (i .home .text))) (d .index) z
   this-words =
@@ -60,7 +60,7 @@ module _ (s : State) (t : Stack) (r : Related s t) (x : ℕ) (z : ℤ) (i : Inst
   unfolding rewritten ownOf
   this a q w =
       let p : i .home ≡ a = some-inj (sym (d .home-at) ∙ q) in
-      record { fine = w .fine; as-many = w .as-many; reads-are = w .reads-are; text-is = w .text-is; next-is = w .next-is; link-below = w .link-below; live-arguments = w .live-arguments; words-are = subst (λ (b : Activation). set (d .frame .words) (place (designatorAt (s .live) x)) z ≡ map (λ (y : ℕ). pos (designatorAt (s .live) y)) (b .arguments) ++ map (wordIn ((x, z) ∷ s .values)) (blockDecls (b .text))) p new-words }
+      record { fine = w .fine; as-many = w .as-many; reads-are = w .reads-are; text-is = w .text-is; next-is = w .next-is; encloser-is = w .encloser-is; link-below = w .link-below; live-arguments = w .live-arguments; words-are = subst (λ (b : Activation). set (d .frame .words) (place (designatorAt (s .live) x)) z ≡ map (λ (y : ℕ). pos (designatorAt (s .live) y)) (b .arguments) ++ map (wordIn ((x, z) ∷ s .values)) (blockDecls (b .text))) p new-words }
 
   put-is : putWord (t .frames) (designatorAt (s .live) x) z ≡ set (t .frames) (d .depth) (rewritten (d .frame) (set (d .frame .words) (place (designatorAt (s .live) x)) z))
   unfolding putWord numbered

@@ -81,11 +81,11 @@ module _ (s : State) (t : Stack) (r : Related s t) where
       kind-is x i e = rw (e, kindAt)
 
   -- a block entered, or no activation left
-  pub enter-alike : (l : Limits) (fs : List Formal) (b : Block) → Fine fs b → (xs : List ℕ) → length xs ≡ length fs → AllStand s xs → (m : ℕ) → m ≤ length (s .live) → Alike (enterIfRoom l s (formalNames fs) xs (renameBlock b (without (formalNames fs ++ declaredNames b) (joined (readsAt (s .live) m)))) (readsAt (s .live) m)) (pushFrame l t fs (map (designatorAt (s .live)) xs) b m)
+  pub enter-alike : (l : Limits) (fs : List Formal) (b : Block) → Fine fs b → (xs : List ℕ) → length xs ≡ length fs → AllStand s xs → (m : ℕ) → m ≤ length (s .live) → Alike (enterIfRoom l s (formalNames fs) xs (renameBlock b (without (formalNames fs ++ declaredNames b) (joined (readsAt (s .live) m)))) m (readsAt (s .live) m)) (pushFrame l t fs (map (designatorAt (s .live)) xs) b m)
   unfolding enterIfRoom pushFrame Alike
   enter-alike l fs b fine xs many v m deep = go (ltb (length (s .live)) (l .activations)) refl
     where
-      go : (c : Bool) → ltb (length (s .live)) (l .activations) ≡ c → Alike (enterIfRoom l s (formalNames fs) xs (renameBlock b (without (formalNames fs ++ declaredNames b) (joined (readsAt (s .live) m)))) (readsAt (s .live) m)) (pushFrame l t fs (map (designatorAt (s .live)) xs) b m)
+      go : (c : Bool) → ltb (length (s .live)) (l .activations) ≡ c → Alike (enterIfRoom l s (formalNames fs) xs (renameBlock b (without (formalNames fs ++ declaredNames b) (joined (readsAt (s .live) m)))) m (readsAt (s .live) m)) (pushFrame l t fs (map (designatorAt (s .live)) xs) b m)
       go true e = rw (e, subst (λ (n : ℕ). ltb n (l .activations) ≡ true) (as-deep s t r) e, enterIfRoom, pushFrame) (related-push s t r fs b fine xs many (all-live xs v) m deep)
       go false e = rw (e, subst (λ (n : ℕ). ltb n (l .activations) ≡ false) (as-deep s t r) e, enterIfRoom, pushFrame)
 
@@ -125,10 +125,10 @@ module _ (s : State) (t : Stack) (r : Related s t) where
       many : agree (formalKinds (declFormals (i .decl))) (map (kindAt s) xs) ≡ true → length xs ≡ length fs
       many e = agree-many (kindAt s) (declFormals (i .decl)) xs e ∙ ap length formals-same
 
-      entered : length xs ≡ length fs → Alike (enterIfRoom l s (formalNames (declFormals (i .decl))) xs (declBody (i .decl)) (i .home .reads)) (pushFrame l t fs (map (designatorAt (s .live)) xs) b (frameNumber (designatorAt (s .live) p)))
+      entered : length xs ≡ length fs → Alike (enterIfRoom l s (formalNames (declFormals (i .decl))) xs (declBody (i .decl)) (i .number) (i .home .reads)) (pushFrame l t fs (map (designatorAt (s .live)) xs) b (frameNumber (designatorAt (s .live) p)))
       entered n =
           subst₂ Alike
-          (ap (λ (rs : List Replacement). enterIfRoom l s (formalNames fs) xs (renameBlock b (without (formalNames fs ++ declaredNames b) (joined rs))) rs) (reads-of (d .depth) (i .home) (d .home-at)) ∙ sym (ap₂ (λ (ns : List ℕ) (c : Block). enterIfRoom l s ns xs c (i .home .reads)) (ap formalNames formals-same) body-same))
+          (ap₂ (λ (m : ℕ) (rs : List Replacement). enterIfRoom l s (formalNames fs) xs (renameBlock b (without (formalNames fs ++ declaredNames b) (joined rs))) m rs) (sym (d .number-is)) (reads-of (d .depth) (i .home) (d .home-at)) ∙ sym (ap₂ (λ (ns : List ℕ) (c : Block). enterIfRoom l s ns xs c (i .number) (i .home .reads)) (ap formalNames formals-same) body-same))
           (ap (pushFrame l t fs (map (designatorAt (s .live)) xs) b) (sym (d .by-number)))
           (enter-alike l fs b (fine-body (d .frame .formals) (d .frame .text) (d .index) (d .original) (d .twin .fine) (d .original-at)) xs n vs (suc (d .depth)) (getElem-bound (s .live) (d .depth) (i .home) (d .home-at)))
 

@@ -149,10 +149,10 @@ module _ (top : Kinds) (fs : List Formal) (xs : List ℕ) (new : ℕ) (ds : Decl
   copy-length : length (map declName (decls (renameDecls ds (replaced fs xs new ds)))) ≡ length (map declName (decls ds))
   copy-length = ap length copy-names ∙ length-upFrom new (length (map declName (decls ds)))
 
-  entry-placed : (at : ℕ) (around : List Replacement) → InDecls ds (ownKinds fs ds ++ K) → InStmts ss (ownKinds fs ds ++ K) →
-      Placed top (activation (formalNames fs) xs new (block at ds ss) around)
+  entry-placed : (at encloser : ℕ) (around : List Replacement) → InDecls ds (ownKinds fs ds ++ K) → InStmts ss (ownKinds fs ds ++ K) →
+      Placed top (activation (formalNames fs) xs new (block at ds ss) encloser around)
   unfolding activation ownNames renameBlock declaredNames blockDecls blockStmts kindsIn CopyIn
-  entry-placed at around hd hs =
+  entry-placed at encloser around hd hs =
       record {
         closed = (
           renamed-labels ds ss (replaced fs xs new ds) (replaced fs xs new ds) (E .written .labels),
@@ -164,22 +164,22 @@ module _ (top : Kinds) (fs : List Formal) (xs : List ℕ) (new : ℕ) (ds : Decl
         within = omega arith;
       }
 
-  entry-length : (at : ℕ) (around : List Replacement) →
-      length (blockDecls (activation (formalNames fs) xs new (block at ds ss) around .text)) ≡ length (declaredNames (block at ds ss))
+  entry-length : (at encloser : ℕ) (around : List Replacement) →
+      length (blockDecls (activation (formalNames fs) xs new (block at ds ss) encloser around .text)) ≡ length (declaredNames (block at ds ss))
   unfolding activation ownNames renameBlock declaredNames blockDecls
-  entry-length at around = sym (length-map (decls (renameDecls ds (replaced fs xs new ds))) declName) ∙ copy-length
+  entry-length at encloser around = sym (length-map (decls (renameDecls ds (replaced fs xs new ds))) declName) ∙ copy-length
 
-  entry-names : (at : ℕ) (around : List Replacement) →
-      declaredNames (activation (formalNames fs) xs new (block at ds ss) around .text) ≡ upFrom new (length (blockDecls (activation (formalNames fs) xs new (block at ds ss) around .text)))
+  entry-names : (at encloser : ℕ) (around : List Replacement) →
+      declaredNames (activation (formalNames fs) xs new (block at ds ss) encloser around .text) ≡ upFrom new (length (blockDecls (activation (formalNames fs) xs new (block at ds ss) encloser around .text)))
   unfolding activation ownNames renameBlock declaredNames blockDecls
-  entry-names at around = copy-names ∙ ap (upFrom new) (sym (entry-length at around))
+  entry-names at encloser around = copy-names ∙ ap (upFrom new) (sym (entry-length at encloser around))
 
 -- A block whose text is closed where the names of K are visible, entered with arguments of its formals' kinds.
-pub entered : (s : State) (fs : List Formal) (xs : List ℕ) (b : Block) (around : List Replacement) (K more : Kinds) → Invariant s →
+pub entered : (s : State) (fs : List Formal) (xs : List ℕ) (b : Block) (encloser : ℕ) (around : List Replacement) (K more : Kinds) → Invariant s →
     liveKinds (s .live) ≡ K ++ more → AllSeen (liveKinds (s .live)) xs →
-    agree (formalKinds fs) (map (λ (x : ℕ). lookup x (liveKinds (s .live))) xs) ≡ true → InBlock b fs K → Invariant (enter s (formalNames fs) xs b around)
+    agree (formalKinds fs) (map (λ (x : ℕ). lookup x (liveKinds (s .live))) xs) ≡ true → InBlock b fs K → Invariant (enter s (formalNames fs) xs b encloser around)
 unfolding enter InBlock
-entered s fs xs (block at ds ss) around K more inv part seen agrees h =
+entered s fs xs (block at ds ss) encloser around K more inv part seen agrees h =
     let top : Kinds = liveKinds (s .live) in
     let E : Enters top fs xs (s .fresh) ds ss K more =
     record {
@@ -190,10 +190,10 @@ entered s fs xs (block at ds ss) around K more inv part seen agrees h =
       agrees = agrees;
       written = h .0;
     } in
-    let a = activation (formalNames fs) xs (s .fresh) (block at ds ss) around in
+    let a = activation (formalNames fs) xs (s .fresh) (block at ds ss) encloser around in
     record {
       rising =
-          rw (entry-length top fs xs (s .fresh) ds ss K more E at around) at
-          (rising-more 65536 (s .live) (s .fresh) a (inv .rising) (entry-names top fs xs (s .fresh) ds ss K more E at around));
-      stacked = stacked-more [] (s .live) a (inv .stacked) (entry-placed top fs xs (s .fresh) ds ss K more E at around (h .1) (h .2));
+          rw (entry-length top fs xs (s .fresh) ds ss K more E at encloser around) at
+          (rising-more 65536 (s .live) (s .fresh) a (inv .rising) (entry-names top fs xs (s .fresh) ds ss K more E at encloser around));
+      stacked = stacked-more [] (s .live) a (inv .stacked) (entry-placed top fs xs (s .fresh) ds ss K more E at encloser around (h .1) (h .2));
     }

@@ -27,7 +27,7 @@ use Rattle.instances.specs.Entering.{entered}
 -- the start
 pub started : (t : Block) (table : Table) → InBlock t [] [] → Invariant (start t table)
 unfolding start formalNames formalKinds agree liveKinds Stacked Rising
-started t table h = entered (record { live = []; values = []; fresh = 65536; table = table; steps = 0 }) [] [] t [] [] [] (record { rising = omega arith; stacked = tt }) refl tt refl h
+started t table h = entered (record { live = []; values = []; fresh = 65536; table = table; steps = 0 }) [] [] t 0 [] [] [] (record { rising = omega arith; stacked = tt }) refl tt refl h
 
 -- what changes neither the live activations nor the next new name
 pub stored : (s : State) (x : ℕ) (z : ℤ) → Invariant s → Invariant (store s x z)
@@ -85,11 +85,11 @@ advanced-kinds s a e =
     sym (last-kinds (s .live) a e)
 
 -- entering a block of the text
-entered-block : (s : State) (a : Activation) (b : Block) → Invariant s → last? (s .live) ≡ some a → nextStmt a ≡ some (BK b) → Invariant (enter (advance s a) [] [] b (a .reads))
+entered-block : (s : State) (a : Activation) (b : Block) → Invariant s → last? (s .live) ≡ some a → nextStmt a ≡ some (BK b) → Invariant (enter (advance s a) [] [] b (length (advance s a .live)) (a .reads))
 unfolding InBlock formalNames formalKinds agree
 entered-block s a b inv e n =
     let K = liveKinds (advance s a .live) in
-    entered (advance s a) [] [] b (a .reads) K [] (advanced s a (BK b) inv e n) (sym (append-nil K)) tt refl (rw (advanced-kinds s a e) (next-closed s a (BK b) inv e n))
+    entered (advance s a) [] [] b (length (advance s a .live)) (a .reads) K [] (advanced s a (BK b) inv e n) (sym (append-nil K)) tt refl (rw (advanced-kinds s a e) (next-closed s a (BK b) inv e n))
 
 -- the declaration of a name's instance, in the copy that has it
 pub record Home (s : State) (i : Instance) : Type 0 where
@@ -140,10 +140,10 @@ kinds-of-arguments s (x ∷ xs) =
     cc
 
 called : (s : State) (p : ℕ) (xs : List ℕ) (i : Instance) → Invariant s → AllSeen (liveKinds (s .live)) xs → instance s p ≡ some i →
-    agree (formalKinds (declFormals (i .decl))) (map (kindAt s) xs) ≡ true → Invariant (enter s (formalNames (declFormals (i .decl))) xs (declBody (i .decl)) (i .home .reads))
+    agree (formalKinds (declFormals (i .decl))) (map (kindAt s) xs) ≡ true → Invariant (enter s (formalNames (declFormals (i .decl))) xs (declBody (i .decl)) (i .number) (i .home .reads))
 called s p xs i inv seen e agrees =
     let h = home-of s p i inv (found-at s p i e) in
-    entered s (declFormals (i .decl)) xs (declBody (i .decl)) (i .home .reads) (h .around) (h .above) inv (h .part) seen
+    entered s (declFormals (i .decl)) xs (declBody (i .decl)) (i .number) (i .home .reads) (h .around) (h .above) inv (h .part) seen
     (rw (kinds-of-arguments s xs) at agrees) (body-in (i .decl) (h .around) (h .declaration))
 
 -- a jump

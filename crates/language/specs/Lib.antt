@@ -1,4 +1,4 @@
--- The definitions of document 01, in reading order.
+-- The definitions of document 01, with requests 1 and 2 of document 02, in reading order.
 pub mod Numbers
 pub mod Basics
 pub mod Text

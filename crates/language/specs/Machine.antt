@@ -17,12 +17,14 @@ use Rattle.language.specs.declared.Stop.the-variants.{ResultTooLarge, No
 use Rattle.language.specs.declared.End.{End}
 use Rattle.language.specs.declared.End.the-variants.{Finished, Spent, Stopped, Refused}
 
--- An activation. No other shares its text; `arguments` are the names put for its formals; `reads` says how the names in sight of the
--- text now read, in one part for each block around it, its own part first.
+-- An activation. No other shares its text; `arguments` are the names put for its formals; `encloser` is the number of the activation
+-- from whose copy the text was taken, 0 for the program, which stands in none; `reads` says how the names in sight of the text now
+-- read, in one part for each block around it, its own part first.
 pub record Activation : Type 0 where
   pub text : Block
   pub arguments : List ℕ
   pub next : ℕ
+  pub encloser : ℕ
   pub reads : List Replacement
 
 -- All that the machine holds: activations outermost first, values newest first, and `fresh`, the name to be given out next.
@@ -45,7 +47,7 @@ unfoldable pub withTable : State → Table → State
 withTable s t = record { live = s .live; values = s .values; fresh = s .fresh; table = t; steps = s .steps }
 
 unfoldable pub resume : Activation → ℕ → Activation
-resume a n = record { text = a .text; arguments = a .arguments; next = n; reads = a .reads }
+resume a n = record { text = a .text; arguments = a .arguments; next = n; encloser = a .encloser; reads = a .reads }
 
 -- The newest value of a name is its value; a variable has one, 0, from its activation's entry on.
 unfoldable pub store : State → ℕ → ℤ → State
@@ -64,15 +66,15 @@ zeros (PR at n fs b ∷ ds) = zeros ds
 unfoldable pub ownNames : List ℕ → List ℕ → ℕ → Block → Replacement
 ownNames formals arguments new b = zip formals arguments ++ zip (declaredNames b) (upFrom new (length (declaredNames b)))
 
--- a block entered, out of a text in which names read as `around`; no copy is used twice
-unfoldable pub activation : List ℕ → List ℕ → ℕ → Block → List Replacement → Activation
-activation formals arguments new b around =
+-- a block entered, out of the text of activation `encloser`, in which names read as `around`; no copy is used twice
+unfoldable pub activation : List ℕ → List ℕ → ℕ → Block → ℕ → List Replacement → Activation
+activation formals arguments new b encloser around =
     let own = ownNames formals arguments new b in
-    record { text = renameBlock b own; arguments = arguments; next = 1; reads = own ∷ around }
+    record { text = renameBlock b own; arguments = arguments; next = 1; encloser = encloser; reads = own ∷ around }
 
-unfoldable pub enter : State → List ℕ → List ℕ → Block → List Replacement → State
-enter s formals arguments b around =
-    let a = activation formals arguments (s .fresh) b around in
+unfoldable pub enter : State → List ℕ → List ℕ → Block → ℕ → List Replacement → State
+enter s formals arguments b encloser around =
+    let a = activation formals arguments (s .fresh) b encloser around in
     record { live = s .live ++ (a ∷ []); values = zeros (blockDecls (a .text)) ++ s .values; fresh = s .fresh + length (declaredNames b); table = s .table; steps = s .steps }
 
 -- The declared instance of a new name: where among the live activations it is declared, and the declaration as that copy has it.
@@ -108,18 +110,18 @@ pub data Done : Type 0 where
   stop : Stop → Done
 
 -- 22 where D activations are live
-unfoldable pub enterIfRoom : Limits → State → List ℕ → List ℕ → Block → List Replacement → Done
-enterIfRoom l s formals arguments b around =
-    elim (ltb (length (s .live)) (l .activations)) [ true ↦ did (enter s formals arguments b around) | false ↦ stop NoActivationLeft ]
+unfoldable pub enterIfRoom : Limits → State → List ℕ → List ℕ → Block → ℕ → List Replacement → Done
+enterIfRoom l s formals arguments b encloser around =
+    elim (ltb (length (s .live)) (l .activations)) [ true ↦ did (enter s formals arguments b encloser around) | false ↦ stop NoActivationLeft ]
 
--- CL: the text of the body is its declaring activation's; 26 is tested before 22. (A name of no instance
+-- CL: the text of the body is its declaring activation's, wherever the call comes from; 26 is tested before 22. (A name of no instance
 -- calls nothing: no accepted script comes there.)
 unfoldable pub call : Limits → State → ℕ → List ℕ → Done
 call l s p xs =
     elim (instance s p) [
       | none ↦ did s
       | some i ↦ elim (agree (formalKinds (declFormals (i .decl))) (map (kindAt s) xs)) [
-        | true ↦ enterIfRoom l s (formalNames (declFormals (i .decl))) xs (declBody (i .decl)) (i .home .reads)
+        | true ↦ enterIfRoom l s (formalNames (declFormals (i .decl))) xs (declBody (i .decl)) (i .number) (i .home .reads)
         | false ↦ stop ArgumentsDiffer
       ]
     ]
@@ -169,9 +171,9 @@ doAction l s (AD g m) = addPair l s (value s g) (value s m)
 doAction l s (RM g m) = removePair s (value s g) (value s m)
 doAction l s (QY t g m) = queryPair s t (value s g) (value s m)
 
--- a statement of the innermost activation a; a BK's text is taken from a's copy
+-- a statement of the innermost activation a, whose number is that of the live ones; a BK's text is taken from a's copy
 unfoldable pub doStmt : Limits → State → Activation → Stmt → Done
-doStmt l s a (BK b) = enterIfRoom l s [] [] b (a .reads)
+doStmt l s a (BK b) = enterIfRoom l s [] [] b (length (s .live)) (a .reads)
 doStmt l s a (DO at x) = doAction l s x
 
 -- the innermost activation's next statement, where there is one
@@ -234,4 +236,4 @@ run l allowance s = runWithin (suc allowance) l allowance s
 
 -- The program is entered before the first step. Names as written have 16 bits, so new ones begin at 65,536.
 unfoldable pub start : Block → Table → State
-start program t = enter (record { live = []; values = []; fresh = 65536; table = t; steps = 0 }) [] [] program []
+start program t = enter (record { live = []; values = []; fresh = 65536; table = t; steps = 0 }) [] [] program 0 []

@@ -1,4 +1,4 @@
--- Sample scripts: those that document 01 marks *, and rows for readings that nothing else rules out, in one table.
+-- Sample scripts: those that document 01 marks *, with the sheet of request 2, and rows for readings that nothing else rules out, in one table.
 -- docs/READINGS.md has the wrong readings that the rows rule out.
 -- A row compares whole replies: end with cause, steps, offset, pairs in use, count of sheet words, tally, designator and links of the answer,
 -- and every word of sheet and table. `samples-hold` is the claim about all rows, each for every engine that it is about and no other;
@@ -16,7 +16,7 @@ use Rattle.language.specs.Call.{Fed, Reply, Engine, copying, chain, disp
 use Rattle.language.specs.Evaluation.{computed}
 use Rattle.language.specs.declared.Stop.the-variants.{ResultTooLarge, NoActivationLeft, NumberBelowOne, GroupFull, TableFull, ArgumentsDiffer}
 use Rattle.language.specs.declared.Refusal.{Refusal}
-use Rattle.language.specs.declared.Refusal.the-variants.{ScriptLength, FieldRange, NestingDepth, TooManyNames, NameTwice, NotVisible, WrongKind, LimitRange, AreaTooShort, TableNotRight}
+use Rattle.language.specs.declared.Refusal.the-variants.{ScriptLength, FieldRange, BytesAfter, NestingDepth, TooManyNames, NameTwice, NotVisible, WrongKind, LimitRange, AreaTooShort, TableNotRight}
 use Rattle.language.specs.declared.End.{End}
 use Rattle.language.specs.declared.End.the-variants.{Finished, Spent, Stopped, Refused}
 use Rattle.language.specs.declared.Answer.{Answer}
@@ -54,9 +54,9 @@ lentTally = 100
 unfoldable pub lentWords : ℕ → ℕ → List ℤ
 lentWords i k = map pos (upFrom (i + 7) k)
 
--- 34 is written out here, so that the rows judge `sheetShare`
+-- 35 is written out here, so that the rows judge `sheetShare`
 unfoldable pub lentSheet : Sample → ℕ
-lentSheet r = r .activations * 34 - r .short
+lentSheet r = r .activations * 35 - r .short
 
 unfoldable pub fed : Sample → Fed
 fed r =
@@ -160,6 +160,27 @@ script-highest =
     bytesOf
     (BK-mark ∷ 1 ∷ 1 ∷ VR-mark ∷ 1 ∷ BK-mark ∷ 1 ∷ 2 ∷ VR-mark ∷ 65535 ∷ KN-mark ∷ 1 ∷ 65535 ∷ 65535 ∷ AR-mark ∷ 1 ∷ 2 ∷ 1 ∷ 65535 ∷ [])
 
+-- variable 1 := −1; IF 1 goes back to the first statement
+unfoldable pub script-negative : List ℕ
+script-negative =
+    bytesOf (BK-mark ∷ 2 ∷ 2 ∷ VR-mark ∷ 1 ∷ LB-mark ∷ 2 ∷ 1 ∷ KN-mark ∷ 1 ∷ 65535 ∷ 65535 ∷ IF-mark ∷ 1 ∷ 2 ∷ [])
+
+-- the empty program and so many fields after it
+unfoldable pub script-padded : ℕ → List ℕ
+script-padded k = bytesOf (BK-mark ∷ 0 ∷ 0 ∷ replicate k 0)
+
+-- procedure 2 declares procedure 4 and calls itself once; the second time it calls its own 4
+unfoldable pub script-own : List ℕ
+script-own =
+    bytesOf
+    (BK-mark ∷ 2 ∷ 1 ∷ VR-mark ∷ 1 ∷ PR-mark ∷ 2 ∷ 0 ∷ BK-mark ∷ 2 ∷ 4 ∷ LB-mark ∷ 3 ∷ 4 ∷ PR-mark ∷ 4 ∷ 0 ∷ BK-mark ∷ 0 ∷ 0 ∷ IF-mark ∷ 1 ∷ 3 ∷ KN-mark ∷ 1 ∷ 1 ∷ 0 ∷ CL-mark ∷ 2 ∷ 0 ∷ CL-mark ∷ 4 ∷ 0 ∷ CL-mark ∷ 2 ∷ 0 ∷ [])
+
+-- procedure 4 hands the program's procedure 1 to procedure 2, which calls it
+unfoldable pub script-handed : List ℕ
+script-handed =
+    bytesOf
+    (BK-mark ∷ 3 ∷ 1 ∷ PR-mark ∷ 1 ∷ 0 ∷ BK-mark ∷ 0 ∷ 0 ∷ PR-mark ∷ 2 ∷ 1 ∷ FM-mark ∷ 3 ∷ 2 ∷ BK-mark ∷ 0 ∷ 1 ∷ CL-mark ∷ 3 ∷ 0 ∷ PR-mark ∷ 4 ∷ 0 ∷ BK-mark ∷ 0 ∷ 1 ∷ CL-mark ∷ 2 ∷ 1 ∷ 1 ∷ CL-mark ∷ 4 ∷ 0 ∷ [])
+
 -- a call that runs to its end, stops or is refused, with N, from an empty table of eight pairs
 unfoldable pub ends-within : ℕ → List ℕ → ℕ → End → ℕ → ℕ → List ℤ → Sample
 ends-within allowance script d e n o ws =
@@ -175,12 +196,12 @@ of-A g table used e n o pairs ws table′ =
 
 -- script A stopped at its AD, which stands at offset 30
 unfoldable pub A-stopped : List ℤ
-A-stopped = pos 0 ∷ pos 3 ∷ pos 5 ∷ pos 7 ∷ []
+A-stopped = pos 0 ∷ pos 3 ∷ pos 0 ∷ pos 5 ∷ pos 7 ∷ []
 
 -- script B after nine steps
 unfoldable pub B-spent : List ℤ
 B-spent =
-    pos 0 ∷ pos 2 ∷ pos 1 ∷ pos 0 ∷ pos 0 ∷ pos 34 ∷ pos 5 ∷ pos 66 ∷ pos 9 ∷ pos 0 ∷ pos 0 ∷ pos 34 ∷ pos 7 ∷ pos 131 ∷ pos 2 ∷ pos 0 ∷ pos 0 ∷ pos 50 ∷ pos 2 ∷ []
+    pos 0 ∷ pos 2 ∷ pos 0 ∷ pos 1 ∷ pos 0 ∷ pos 0 ∷ pos 34 ∷ pos 5 ∷ pos 1 ∷ pos 66 ∷ pos 9 ∷ pos 0 ∷ pos 0 ∷ pos 34 ∷ pos 7 ∷ pos 1 ∷ pos 131 ∷ pos 2 ∷ pos 0 ∷ pos 0 ∷ pos 50 ∷ pos 2 ∷ pos 2 ∷ []
 
 -- a spent run, with the looked-up name
 unfoldable pub spent-at : List ℕ → ℕ → ℕ → ℕ → ℕ → List ℤ → Sample
@@ -199,7 +220,7 @@ all-wrong g about short c = refused-with script-empty g about short (record { wo
 -- the first of three pairs in use taken out of four places
 unfoldable pub pair-taken-out : Sample
 pair-taken-out =
-    record { script = script-pair; activations = 16; allowance = 4; limit = 3; about = all; short = 0; table = record { words = pos 5 ∷ pos 7 ∷ pos 6 ∷ pos 1 ∷ pos 6 ∷ pos 2 ∷ pos 8 ∷ pos 9 ∷ []; used = 3 }; name = 3; end = Spent; steps = 4; offset = 0; pairs = 2; designator = 67; links = 0; sheet = pos 0 ∷ pos 5 ∷ pos 5 ∷ pos 7 ∷ pos 1 ∷ []; words = pos 6 ∷ pos 1 ∷ pos 6 ∷ pos 2 ∷ pos 0 ∷ pos 0 ∷ pos 8 ∷ pos 9 ∷ [] }
+    record { script = script-pair; activations = 16; allowance = 4; limit = 3; about = all; short = 0; table = record { words = pos 5 ∷ pos 7 ∷ pos 6 ∷ pos 1 ∷ pos 6 ∷ pos 2 ∷ pos 8 ∷ pos 9 ∷ []; used = 3 }; name = 3; end = Spent; steps = 4; offset = 0; pairs = 2; designator = 67; links = 0; sheet = pos 0 ∷ pos 5 ∷ pos 0 ∷ pos 5 ∷ pos 7 ∷ pos 1 ∷ []; words = pos 6 ∷ pos 1 ∷ pos 6 ∷ pos 2 ∷ pos 0 ∷ pos 0 ∷ pos 8 ∷ pos 9 ∷ [] }
 
 unfoldable pub samples : List Sample
 samples =
@@ -207,7 +228,7 @@ samples =
     ends-with script-null 16 Finished 1 0 [] ∷
     -- finished goes before spent
     ends-within 1 script-null 16 Finished 1 0 [] ∷
-    spent-at script-null 0 9 0 0 (pos 0 ∷ pos 1 ∷ []) ∷
+    spent-at script-null 0 9 0 0 (pos 0 ∷ pos 1 ∷ pos 0 ∷ []) ∷
     of-A 3 (noPairs 8) 0 Finished 4 0 1 [] (pos 5 ∷ pos 7 ∷ noPairs 7) ∷
     of-A 1 (pos 5 ∷ pos 8 ∷ noPairs 7) 1 (Stopped GroupFull) 2 30 1 A-stopped (pos 5 ∷ pos 8 ∷ noPairs 7) ∷
     of-A 2 (pos 5 ∷ pos 8 ∷ noPairs 7) 1 Finished 4 0 2 [] (pos 5 ∷ pos 8 ∷ pos 5 ∷ pos 7 ∷ noPairs 6) ∷
@@ -231,11 +252,11 @@ samples =
     refused-with script-A 65535 (only (copying 287)) 0 (record { words = []; used = 0 }) AreaTooShort 0 ∷
     refused-with (script-use (GO-mark ∷ 9 ∷ [])) 65535 (only (copying 0)) 0 (record { words = []; used = 0 }) NotVisible 12 ∷
     spent-at script-B 9 5 130 1 B-spent ∷
-    ends-with (script-arithmetic 65535 32767 1 0 0) 16 (Stopped ResultTooLarge) 2 30 (pos 0 ∷ pos 3 ∷ pos 2147483647 ∷ pos 1 ∷ []) ∷
-    ends-with (script-arithmetic 0 32768 1 0 1) 16 (Stopped ResultTooLarge) 2 30 (pos 0 ∷ pos 3 ∷ negsuc 2147483647 ∷ pos 1 ∷ []) ∷
+    ends-with (script-arithmetic 65535 32767 1 0 0) 16 (Stopped ResultTooLarge) 2 30 (pos 0 ∷ pos 3 ∷ pos 0 ∷ pos 2147483647 ∷ pos 1 ∷ []) ∷
+    ends-with (script-arithmetic 0 32768 1 0 1) 16 (Stopped ResultTooLarge) 2 30 (pos 0 ∷ pos 3 ∷ pos 0 ∷ negsuc 2147483647 ∷ pos 1 ∷ []) ∷
     ends-with (script-arithmetic 65535 32767 0 0 0) 16 Finished 4 0 [] ∷
     ends-with (script-arithmetic 0 32768 0 0 1) 16 Finished 4 0 [] ∷
-    ends-with script-nested 1 (Stopped NoActivationLeft) 0 6 (pos 0 ∷ pos 1 ∷ []) ∷
+    ends-with script-nested 1 (Stopped NoActivationLeft) 0 6 (pos 0 ∷ pos 1 ∷ pos 0 ∷ []) ∷
     ends-with script-nested 2 Finished 3 0 [] ∷
     ends-with script-order 16 (Refused FieldRange) 0 10 [] ∷
     -- PR: 7 before 8, and both before its formals; FM: 4 before 8; 6 before 7
@@ -247,13 +268,24 @@ samples =
     ends-with (script-use (IF-mark ∷ 2 ∷ 9 ∷ [])) 16 (Refused WrongKind) 0 12 [] ∷
     ends-with (script-use (CL-mark ∷ 2 ∷ 1 ∷ 9 ∷ [])) 16 (Refused WrongKind) 0 12 [] ∷
     -- 26 before 22
-    ends-with script-formal 2 (Stopped ArgumentsDiffer) 1 24 (pos 0 ∷ pos 2 ∷ pos 0 ∷ pos 0 ∷ pos 18 ∷ pos 1 ∷ pos 66 ∷ []) ∷
-    spent-at script-goto 3 2 66 0 (pos 0 ∷ pos 2 ∷ pos 0 ∷ pos 0 ∷ []) ∷
-    spent-at script-crossed 2 1 66 0 (pos 0 ∷ pos 2 ∷ pos 0 ∷ pos 6 ∷ pos 0 ∷ pos 32 ∷ pos 2 ∷ pos 66 ∷ pos 65 ∷ []) ∷
+    ends-with script-formal 2 (Stopped ArgumentsDiffer) 1 24 (pos 0 ∷ pos 2 ∷ pos 0 ∷ pos 0 ∷ pos 0 ∷ pos 18 ∷ pos 1 ∷ pos 1 ∷ pos 66 ∷ []) ∷
+    spent-at script-goto 3 2 66 0 (pos 0 ∷ pos 2 ∷ pos 0 ∷ pos 0 ∷ pos 0 ∷ []) ∷
+    spent-at script-crossed 2 1 66 0 (pos 0 ∷ pos 2 ∷ pos 0 ∷ pos 0 ∷ pos 6 ∷ pos 0 ∷ pos 32 ∷ pos 2 ∷ pos 1 ∷ pos 66 ∷ pos 65 ∷ []) ∷
     -- new names lie above 65,535; less goes by sign
-    spent-at script-highest 3 65535 129 0 (pos 0 ∷ pos 2 ∷ pos 1 ∷ pos 10 ∷ pos 3 ∷ pos 0 ∷ []) ∷
+    spent-at script-highest 3 65535 129 0 (pos 0 ∷ pos 2 ∷ pos 0 ∷ pos 1 ∷ pos 10 ∷ pos 3 ∷ pos 1 ∷ pos 0 ∷ []) ∷
     -- a name is looked up as written: 65,536 is the new name of the program's variable, and none of the script's
-    spent-at script-B 9 65536 0 0 B-spent ∷ []
+    spent-at script-B 9 65536 0 0 B-spent ∷
+    -- what encloses what: block in block; a procedure of the newer of two activations; one handed over by another activation than the declaring one
+    spent-at script-goto 2 2 66 2 (pos 0 ∷ pos 2 ∷ pos 0 ∷ pos 0 ∷ pos 0 ∷ pos 16 ∷ pos 2 ∷ pos 1 ∷ pos 22 ∷ pos 1 ∷ pos 2 ∷ []) ∷
+    spent-at script-own 6 3 193 1 (pos 0 ∷ pos 2 ∷ pos 0 ∷ pos 1 ∷ pos 0 ∷ pos 16 ∷ pos 4 ∷ pos 1 ∷ pos 0 ∷ pos 0 ∷ pos 16 ∷ pos 5 ∷ pos 1 ∷ pos 0 ∷ pos 0 ∷ pos 34 ∷ pos 1 ∷ pos 3 ∷ []) ∷
+    spent-at script-handed 3 1 65 1 (pos 0 ∷ pos 2 ∷ pos 0 ∷ pos 0 ∷ pos 0 ∷ pos 0 ∷ pos 48 ∷ pos 2 ∷ pos 1 ∷ pos 30 ∷ pos 2 ∷ pos 1 ∷ pos 65 ∷ pos 12 ∷ pos 1 ∷ pos 1 ∷ []) ∷
+    -- IF goes where the variable is below 0
+    spent-at script-negative 2 1 65 0 (pos 0 ∷ pos 1 ∷ pos 0 ∷ negsuc 0 ∷ pos 0 ∷ []) ∷
+    -- a pair past the count is neither found nor of its group
+    of-A 2 (pos 5 ∷ pos 8 ∷ pos 5 ∷ pos 7 ∷ []) 1 Finished 4 0 2 [] (pos 5 ∷ pos 8 ∷ pos 5 ∷ pos 7 ∷ []) ∷
+    -- 8,192 bytes are read, 8,194 are not
+    refused-with (script-padded 4093) 65535 all 0 (record { words = []; used = 0 }) BytesAfter 6 ∷
+    refused-with (script-padded 4094) 65535 all 0 (record { words = []; used = 0 }) ScriptLength 0 ∷ []
 
 -- the first row stands for what lies past the end
 unfoldable pub row : ℕ → Sample
@@ -265,7 +297,7 @@ replies f r = map (f r) (parties r)
 
 -- The definitions of this table, to be computed with those of `computed`.
 unfoldable pub tabled : Unit {0}
-unfolding lentTally lentWords lentSheet fed parties got wanted replies noPairs script-empty script-null script-A script-B script-arithmetic script-nested script-order script-goto script-crossed script-procedure inside-blocks script-use script-pair script-formal script-highest ends-within ends-with of-A A-stopped B-spent spent-at refused-with all-wrong pair-taken-out samples
+unfolding lentTally lentWords lentSheet fed parties got wanted replies noPairs script-empty script-null script-A script-B script-arithmetic script-nested script-order script-goto script-crossed script-procedure inside-blocks script-use script-pair script-formal script-highest script-own script-handed script-negative script-padded ends-within ends-with of-A A-stopped B-spent spent-at refused-with all-wrong pair-taken-out samples
 tabled = tt
 
 computed-once : map (replies got) samples ≡ map (replies wanted) samples

@@ -19,14 +19,15 @@ declWord s (VR at n) = value s n
 declWord s (LB at n i) = pos 0
 declWord s (PR at n fs b) = pos 0
 
--- the words of sheet lent for each activation: two, and one for each of 32 names
+-- the words of sheet lent for each activation: three, and one for each of 32 names
 abbrev pub sheetShare : ℕ
-sheetShare = 34
+sheetShare = 35
 
--- where its block stands, where it goes on, and its names, formals first; a formal shows the instance of the name that it reads as
+-- where its block stands, where it goes on, what encloses its text, and its names, formals first; a formal shows the instance of the name that it
+-- reads as
 unfoldable pub activationWords : State → Activation → List ℤ
 activationWords s a =
-    pos (blockAt (a .text)) ∷ pos (a .next) ∷
+    pos (blockAt (a .text)) ∷ pos (a .next) ∷ pos (a .encloser) ∷
     (map (λ (x : ℕ). pos (designator s x)) (a .arguments) ++ map (declWord s) (blockDecls (a .text)))
 
 unfoldable pub wordsOf : State → List Activation → List ℤ

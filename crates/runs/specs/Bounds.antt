@@ -30,9 +30,9 @@ pub advance-length : (s : State) (a : Activation) → last? (s .live) ≡ some a
 unfolding advance withLive
 advance-length s a e = replaced-length (s .live) a (resume a (suc (a .next))) e
 
-pub enter-length : (s : State) (formals arguments : List ℕ) (b : Block) (around : List Replacement) → length ((enter s formals arguments b around) .live) ≡ suc (length (s .live))
+pub enter-length : (s : State) (formals arguments : List ℕ) (b : Block) (encloser : ℕ) (around : List Replacement) → length ((enter s formals arguments b encloser around) .live) ≡ suc (length (s .live))
 unfolding enter
-enter-length s formals arguments b around = length-append (s .live) (activation formals arguments (s .fresh) b around ∷ []) ∙ omega arith
+enter-length s formals arguments b encloser around = length-append (s .live) (activation formals arguments (s .fresh) b encloser around ∷ []) ∙ omega arith
 
 -- a jump drops what is above the label's instance, and that is live
 pub jump-length : (s : State) (x : ℕ) (i : Instance) (a : Activation) → instance s x ≡ some i → length (take (pred (i .number)) (s .live) ++ (a ∷ [])) ≤ length (s .live)
@@ -45,7 +45,7 @@ jump-length s x i a e =
 live-stays : (l : Limits) → Kept l (λ s. length (s .live) ≤ l .activations)
 unfolding withLive withTable store
 live-stays l =
-    record { left = λ s h. omega (arith, butLast-length (s .live)); advanced = λ s a e h. omega (arith, advance-length s a e); stored = λ s x z h. h; entered = λ s a b e n r h. omega (arith, enter-length (advance s a) [] [] b (a .reads)); called = λ s p xs i e g r h. omega (arith, enter-length s (formalNames (declFormals (i .decl))) xs (declBody (i .decl)) (i .home .reads)); jumped = λ s x i e h. omega (arith, jump-length s x i (resume (i .home) (labelIndex (i .decl))) e); added = λ s g m n a z f h. h; removed = λ s g m h. h }
+    record { left = λ s h. omega (arith, butLast-length (s .live)); advanced = λ s a e h. omega (arith, advance-length s a e); stored = λ s x z h. h; entered = λ s a b e n r h. omega (arith, enter-length (advance s a) [] [] b (length (advance s a .live)) (a .reads)); called = λ s p xs i e g r h. omega (arith, enter-length s (formalNames (declFormals (i .decl))) xs (declBody (i .decl)) (i .number) (i .home .reads)); jumped = λ s x i e h. omega (arith, jump-length s x i (resume (i .home) (labelIndex (i .decl))) e); added = λ s g m n a z f h. h; removed = λ s g m h. h }
 
 pub live-bound : (l : Limits) (n : ℕ) (s : State) → length (s .live) ≤ l .activations → length ((run l n s) .final .live) ≤ l .activations
 unfolding counted

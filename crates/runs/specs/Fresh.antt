@@ -18,9 +18,9 @@ use Rattle.runs.specs.Names.{FitsBlock, FitsState, block-names, fits-kep
 use Rattle.runs.specs.Accepted.{accepted-fits}
 
 -- entering takes a new name for each declaration
-enter-fresh : (s : State) (formals arguments : List ℕ) (b : Block) (around : List Replacement) (p m : ℕ) → FitsBlock b p → s .fresh ≤ m → (enter s formals arguments b around) .fresh ≤ m + 32
+enter-fresh : (s : State) (formals arguments : List ℕ) (b : Block) (encloser : ℕ) (around : List Replacement) (p m : ℕ) → FitsBlock b p → s .fresh ≤ m → (enter s formals arguments b encloser around) .fresh ≤ m + 32
 unfolding enter declaredNames
-enter-fresh s formals arguments b around p m h q = omega (arith, block-names b p h, length-map (blockDecls b) declName)
+enter-fresh s formals arguments b encloser around p m h q = omega (arith, block-names b p h, length-map (blockDecls b) declName)
 
 -- the names taken before a step, and after it
 abbrev Taken : ℕ → State → Type 0
@@ -37,8 +37,8 @@ taking l m =
       advanced = λ s a at x e n h. ((advance-fits s a e (h .0), h .1), tt);
       stays = λ s h. omega (arith, h .1);
       stored = λ s x z h. omega (arith, h .1);
-      entered = λ s a b e n r h. enter-fresh (advance s a) [] [] b (a .reads) 0 m (entered-fits s a b e n (h .0)) (h .1);
-      called = λ s p xs i u e g r h. enter-fresh s _ xs _ (i .home .reads) (length xs) m (called-fits s p xs i e g (h .0)) (h .1);
+      entered = λ s a b e n r h. enter-fresh (advance s a) [] [] b (length (advance s a .live)) (a .reads) 0 m (entered-fits s a b e n (h .0)) (h .1);
+      called = λ s p xs i u e g r h. enter-fresh s _ xs _ (i .number) (i .home .reads) (length xs) m (called-fits s p xs i e g (h .0)) (h .1);
       jumped = λ s x i u e h. omega (arith, h .1);
       branched = λ s v x u. tt;
       added = λ s g n p q r f h. omega (arith, h .1);

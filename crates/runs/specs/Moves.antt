@@ -26,8 +26,8 @@ pub record Kept (l : Limits) (P : State → Type 0) : Type 0 where
   pub advanced : (s : State) (a : Activation) → last? (s .live) ≡ some a → P s → P (advance s a)
   pub stored : (s : State) (x : ℕ) (z : ℤ) → P s → P (store s x z)
   -- a block of the text of the innermost activation, which has been advanced
-  pub entered : (s : State) (a : Activation) (b : Block) → last? (s .live) ≡ some a → nextStmt a ≡ some (BK b) → length ((advance s a) .live) < l .activations → P s → P (enter (advance s a) [] [] b (a .reads))
-  pub called : (s : State) (p : ℕ) (xs : List ℕ) (i : Instance) → instance s p ≡ some i → agree (formalKinds (declFormals (i .decl))) (map (kindAt s) xs) ≡ true → length (s .live) < l .activations → P s → P (enter s (formalNames (declFormals (i .decl))) xs (declBody (i .decl)) (i .home .reads))
+  pub entered : (s : State) (a : Activation) (b : Block) → last? (s .live) ≡ some a → nextStmt a ≡ some (BK b) → length ((advance s a) .live) < l .activations → P s → P (enter (advance s a) [] [] b (length (advance s a .live)) (a .reads))
+  pub called : (s : State) (p : ℕ) (xs : List ℕ) (i : Instance) → instance s p ≡ some i → agree (formalKinds (declFormals (i .decl))) (map (kindAt s) xs) ≡ true → length (s .live) < l .activations → P s → P (enter s (formalNames (declFormals (i .decl))) xs (declBody (i .decl)) (i .number) (i .home .reads))
   pub jumped : (s : State) (x : ℕ) (i : Instance) → instance s x ≡ some i → P s → P (withLive s (take (pred (i .number)) (s .live) ++ (resume (i .home) (labelIndex (i .decl)) ∷ [])))
   pub added : (s : State) (g m : ℤ) → atLeastOne g && atLeastOne m ≡ true → holds g m (s .table) ≡ false → size g (s .table) < l .limit → full (s .table) ≡ false → P s → P (withTable s (add g m (s .table)))
   pub removed : (s : State) (g m : ℤ) → P s → P (withTable s (remove g m (s .table)))
@@ -36,8 +36,8 @@ pub record Known (l : Limits) (P : State → Type 0) (U : State → Action → T
   pub left : (s : State) (a : Activation) → last? (s .live) ≡ some a → P s → P (withLive s (butLast (s .live)))
   pub advanced : (s : State) (a : Activation) (at : ℕ) (x : Action) → last? (s .live) ≡ some a → nextStmt a ≡ some (DO at x) → P s → P (advance s a) × U (advance s a) x
   pub stored : (s : State) (x : ℕ) (z : ℤ) → P s → P (store s x z)
-  pub entered : (s : State) (a : Activation) (b : Block) → last? (s .live) ≡ some a → nextStmt a ≡ some (BK b) → length ((advance s a) .live) < l .activations → P s → P (enter (advance s a) [] [] b (a .reads))
-  pub called : (s : State) (p : ℕ) (xs : List ℕ) (i : Instance) → U s (CL p xs) → instance s p ≡ some i → agree (formalKinds (declFormals (i .decl))) (map (kindAt s) xs) ≡ true → length (s .live) < l .activations → P s → P (enter s (formalNames (declFormals (i .decl))) xs (declBody (i .decl)) (i .home .reads))
+  pub entered : (s : State) (a : Activation) (b : Block) → last? (s .live) ≡ some a → nextStmt a ≡ some (BK b) → length ((advance s a) .live) < l .activations → P s → P (enter (advance s a) [] [] b (length (advance s a .live)) (a .reads))
+  pub called : (s : State) (p : ℕ) (xs : List ℕ) (i : Instance) → U s (CL p xs) → instance s p ≡ some i → agree (formalKinds (declFormals (i .decl))) (map (kindAt s) xs) ≡ true → length (s .live) < l .activations → P s → P (enter s (formalNames (declFormals (i .decl))) xs (declBody (i .decl)) (i .number) (i .home .reads))
   pub jumped : (s : State) (x : ℕ) (i : Instance) → U s (GO x) → instance s x ≡ some i → P s → P (withLive s (take (pred (i .number)) (s .live) ++ (resume (i .home) (labelIndex (i .decl)) ∷ [])))
   -- an IF asks of its label what a GO does
   pub branched : (s : State) (v x : ℕ) → U s (IF v x) → U s (GO x)
@@ -50,8 +50,8 @@ pub record Leads (l : Limits) (P Q : State → Type 0) (U : State → Action →
   pub advanced : (s : State) (a : Activation) (at : ℕ) (x : Action) → last? (s .live) ≡ some a → nextStmt a ≡ some (DO at x) → P s → P (advance s a) × U (advance s a) x
   pub stays : (s : State) → P s → Q s
   pub stored : (s : State) (x : ℕ) (z : ℤ) → P s → Q (store s x z)
-  pub entered : (s : State) (a : Activation) (b : Block) → last? (s .live) ≡ some a → nextStmt a ≡ some (BK b) → length ((advance s a) .live) < l .activations → P s → Q (enter (advance s a) [] [] b (a .reads))
-  pub called : (s : State) (p : ℕ) (xs : List ℕ) (i : Instance) → U s (CL p xs) → instance s p ≡ some i → agree (formalKinds (declFormals (i .decl))) (map (kindAt s) xs) ≡ true → length (s .live) < l .activations → P s → Q (enter s (formalNames (declFormals (i .decl))) xs (declBody (i .decl)) (i .home .reads))
+  pub entered : (s : State) (a : Activation) (b : Block) → last? (s .live) ≡ some a → nextStmt a ≡ some (BK b) → length ((advance s a) .live) < l .activations → P s → Q (enter (advance s a) [] [] b (length (advance s a .live)) (a .reads))
+  pub called : (s : State) (p : ℕ) (xs : List ℕ) (i : Instance) → U s (CL p xs) → instance s p ≡ some i → agree (formalKinds (declFormals (i .decl))) (map (kindAt s) xs) ≡ true → length (s .live) < l .activations → P s → Q (enter s (formalNames (declFormals (i .decl))) xs (declBody (i .decl)) (i .number) (i .home .reads))
   pub jumped : (s : State) (x : ℕ) (i : Instance) → U s (GO x) → instance s x ≡ some i → P s → Q (withLive s (take (pred (i .number)) (s .live) ++ (resume (i .home) (labelIndex (i .decl)) ∷ [])))
   -- an IF asks of its label what a GO does
   pub branched : (s : State) (v x : ℕ) → U s (IF v x) → U s (GO x)
@@ -78,11 +78,11 @@ module _ (l : Limits) (P Q : State → Type 0) (U : State → Action → Type 0)
       go none e = k .stays s h
       go (some i) e = k .jumped s x i u e h
 
-  call-enters : (s : State) (p : ℕ) (xs : List ℕ) (i : Instance) → U s (CL p xs) → instance s p ≡ some i → agree (formalKinds (declFormals (i .decl))) (map (kindAt s) xs) ≡ true → P s → After Q (enterIfRoom l s (formalNames (declFormals (i .decl))) xs (declBody (i .decl)) (i .home .reads))
+  call-enters : (s : State) (p : ℕ) (xs : List ℕ) (i : Instance) → U s (CL p xs) → instance s p ≡ some i → agree (formalKinds (declFormals (i .decl))) (map (kindAt s) xs) ≡ true → P s → After Q (enterIfRoom l s (formalNames (declFormals (i .decl))) xs (declBody (i .decl)) (i .number) (i .home .reads))
   unfolding enterIfRoom
   call-enters s p xs i u e a h = go (ltb (length (s .live)) (l .activations)) refl
     where
-      go : (t : Bool) → ltb (length (s .live)) (l .activations) ≡ t → After Q (elim t [ true ↦ did (enter s (formalNames (declFormals (i .decl))) xs (declBody (i .decl)) (i .home .reads)) | false ↦ stop NoActivationLeft ])
+      go : (t : Bool) → ltb (length (s .live)) (l .activations) ≡ t → After Q (elim t [ true ↦ did (enter s (formalNames (declFormals (i .decl))) xs (declBody (i .decl)) (i .number) (i .home .reads)) | false ↦ stop NoActivationLeft ])
       go true r = k .called s p xs i u e a (ltb-true _ _ r) h
       go false r = tt
 
@@ -90,11 +90,11 @@ module _ (l : Limits) (P Q : State → Type 0) (U : State → Action → Type 0)
   unfolding call
   call-keeps s p xs u h = go (instance s p) refl
     where
-      on : (i : Instance) → instance s p ≡ some i → (t : Bool) → agree (formalKinds (declFormals (i .decl))) (map (kindAt s) xs) ≡ t → After Q (elim t [ true ↦ enterIfRoom l s (formalNames (declFormals (i .decl))) xs (declBody (i .decl)) (i .home .reads) | false ↦ stop ArgumentsDiffer ])
+      on : (i : Instance) → instance s p ≡ some i → (t : Bool) → agree (formalKinds (declFormals (i .decl))) (map (kindAt s) xs) ≡ t → After Q (elim t [ true ↦ enterIfRoom l s (formalNames (declFormals (i .decl))) xs (declBody (i .decl)) (i .number) (i .home .reads) | false ↦ stop ArgumentsDiffer ])
       on i e true r = call-enters s p xs i u e r h
       on i e false r = tt
 
-      go : (o : Option Instance) → instance s p ≡ o → After Q (elim o [ none ↦ did s | some i ↦ elim (agree (formalKinds (declFormals (i .decl))) (map (kindAt s) xs)) [ true ↦ enterIfRoom l s (formalNames (declFormals (i .decl))) xs (declBody (i .decl)) (i .home .reads) | false ↦ stop ArgumentsDiffer ] ])
+      go : (o : Option Instance) → instance s p ≡ o → After Q (elim o [ none ↦ did s | some i ↦ elim (agree (formalKinds (declFormals (i .decl))) (map (kindAt s) xs)) [ true ↦ enterIfRoom l s (formalNames (declFormals (i .decl))) xs (declBody (i .decl)) (i .number) (i .home .reads) | false ↦ stop ArgumentsDiffer ] ])
       go none e = k .stays s h
       go (some i) e = on i e (agree (formalKinds (declFormals (i .decl))) (map (kindAt s) xs)) refl
 
@@ -152,7 +152,7 @@ module _ (l : Limits) (P Q : State → Type 0) (U : State → Action → Type 0)
   unfolding doStmt enterIfRoom
   doStmt-keeps s a (BK b) e n h = go (ltb (length ((advance s a) .live)) (l .activations)) refl
     where
-      go : (t : Bool) → ltb (length ((advance s a) .live)) (l .activations) ≡ t → After Q (elim t [ true ↦ did (enter (advance s a) [] [] b (a .reads)) | false ↦ stop NoActivationLeft ])
+      go : (t : Bool) → ltb (length ((advance s a) .live)) (l .activations) ≡ t → After Q (elim t [ true ↦ did (enter (advance s a) [] [] b (length (advance s a .live)) (a .reads)) | false ↦ stop NoActivationLeft ])
       go true r = k .entered s a b e n (ltb-true _ _ r) h
       go false r = tt
   doStmt-keeps s a (DO at x) e n h = let r = k .advanced s a at x e n h in doAction-keeps (advance s a) x (r .1) (r .0)

@@ -110,10 +110,10 @@ instance-decl s x i e h =
     let f = found-at s x i e in
     each-at FitsDecl (blockDecls (i .home .text)) (f .index) (i .decl) (f .decl-at) (block-decls (i .home .text) (length (i .home .arguments)) (instance-home s x i e h))
 
-pub enter-fits : (s : State) (formals arguments : List ℕ) (b : Block) (around : List Replacement) → FitsBlock b (length arguments) → FitsState s → FitsState (enter s formals arguments b around)
+pub enter-fits : (s : State) (formals arguments : List ℕ) (b : Block) (encloser : ℕ) (around : List Replacement) → FitsBlock b (length arguments) → FitsState s → FitsState (enter s formals arguments b encloser around)
 unfolding enter activation
-enter-fits s formals arguments b around h k =
-    each-append FitsActivation (s .live) (activation formals arguments (s .fresh) b around ∷ []) k (renamed-fits b (ownNames formals arguments (s .fresh) b) (length arguments) h, tt)
+enter-fits s formals arguments b encloser around h k =
+    each-append FitsActivation (s .live) (activation formals arguments (s .fresh) b encloser around ∷ []) k (renamed-fits b (ownNames formals arguments (s .fresh) b) (length arguments) h, tt)
 
 pub advance-fits : (s : State) (a : Activation) → last? (s .live) ≡ some a → FitsState s → FitsState (advance s a)
 unfolding advance withLive resume
@@ -142,7 +142,7 @@ called-fits s p xs i e g h =
 pub fits-kept : (l : Limits) → Kept l FitsState
 unfolding withLive withTable store
 fits-kept l =
-    record { left = λ s h. each-butLast FitsActivation (s .live) h; advanced = advance-fits; stored = λ s x z h. h; entered = λ s a b e n r h. enter-fits (advance s a) [] [] b (a .reads) (entered-fits s a b e n h) (advance-fits s a e h); called = λ s p xs i e g r h. enter-fits s (formalNames (declFormals (i .decl))) xs (declBody (i .decl)) (i .home .reads) (called-fits s p xs i e g h) h; jumped = jump-fits; added = λ s g m n a z f h. h; removed = λ s g m h. h }
+    record { left = λ s h. each-butLast FitsActivation (s .live) h; advanced = advance-fits; stored = λ s x z h. h; entered = λ s a b e n r h. enter-fits (advance s a) [] [] b (length (advance s a .live)) (a .reads) (entered-fits s a b e n h) (advance-fits s a e h); called = λ s p xs i e g r h. enter-fits s (formalNames (declFormals (i .decl))) xs (declBody (i .decl)) (i .number) (i .home .reads) (called-fits s p xs i e g h) h; jumped = jump-fits; added = λ s g m n a z f h. h; removed = λ s g m h. h }
 
 pub run-fits : (l : Limits) (n : ℕ) (s : State) → FitsState s → FitsState ((run l n s) .final)
 unfolding counted
@@ -150,4 +150,4 @@ run-fits l n s h = run-keeps l FitsState (fits-kept l) (λ x y q. q) n s h
 
 pub start-fits : (program : Block) (t : Table) → FitsBlock program 0 → FitsState (start program t)
 unfolding start
-start-fits program t h = enter-fits (record { live = []; values = []; fresh = 65536; table = t; steps = 0 }) [] [] program [] h tt
+start-fits program t h = enter-fits (record { live = []; values = []; fresh = 65536; table = t; steps = 0 }) [] [] program 0 [] h tt

@@ -11,8 +11,8 @@ use Rattle.language.specs.Sheet.{sheetShare, designator, declWord, activationWo
 use Rattle.laws.specs.Each.{Each}
 use Rattle.runs.specs.Names.{FitsActivation, FitsState, block-names}
 
--- two words, and one for each name
-pub activation-words : (s : State) (a : Activation) → length (activationWords s a) ≡ 2 + (length (a .arguments) + length (blockDecls (a .text)))
+-- three words, and one for each name
+pub activation-words : (s : State) (a : Activation) → length (activationWords s a) ≡ 3 + (length (a .arguments) + length (blockDecls (a .text)))
 unfolding activationWords
 activation-words s a =
     let xs : List ℤ = map (λ (x : ℕ). pos (designator s x)) (a .arguments) in

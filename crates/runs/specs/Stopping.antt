@@ -131,11 +131,11 @@ module _ (l : Limits) (s : State) (a : Activation) (e : last? (s .live) ≡ some
   next-is : (x : Stmt) → nextStmt a ≡ some x → Next s x
   next-is x n = record { innermost = a; last = e; next = n }
 
-  enter-judged : (formals arguments : List ℕ) (b : Block) (around : List Replacement) → Enters s → (Differ s → ⊥) → Judged l s (enterIfRoom l u formals arguments b around)
+  enter-judged : (formals arguments : List ℕ) (b : Block) (encloser : ℕ) (around : List Replacement) → Enters s → (Differ s → ⊥) → Judged l s (enterIfRoom l u formals arguments b encloser around)
   unfolding enterIfRoom
-  enter-judged formals arguments b around h not = go (ltb (length (u .live)) (l .activations)) refl
+  enter-judged formals arguments b encloser around h not = go (ltb (length (u .live)) (l .activations)) refl
     where
-      go : (t : Bool) → ltb (length (u .live)) (l .activations) ≡ t → Judged l s (elim t [ true ↦ did (enter u formals arguments b around) | false ↦ stop NoActivationLeft ])
+      go : (t : Bool) → ltb (length (u .live)) (l .activations) ≡ t → Judged l s (elim t [ true ↦ did (enter u formals arguments b encloser around) | false ↦ stop NoActivationLeft ])
       go true r = tt
       go false r = ((h, omega (arith, ltb-false (length (u .live)) (l .activations) r, advance-length s a e)), not)
 
@@ -151,14 +151,14 @@ module _ (l : Limits) (s : State) (a : Activation) (e : last? (s .live) ≡ some
       agreed i t r = ap (agree (formalKinds (declFormals (i .decl)))) (sym (kinds-advanced s a e xs)) ∙ r
 
       on : (i : Instance) → instance u p ≡ some i → (t : Bool) → agree (formalKinds (declFormals (i .decl))) (map (kindAt u) xs) ≡ t
-          → Judged l s (elim t [ true ↦ enterIfRoom l u (formalNames (declFormals (i .decl))) xs (declBody (i .decl)) (i .home .reads) | false ↦ stop ArgumentsDiffer ])
+          → Judged l s (elim t [ true ↦ enterIfRoom l u (formalNames (declFormals (i .decl))) xs (declBody (i .decl)) (i .number) (i .home .reads) | false ↦ stop ArgumentsDiffer ])
       on i q true r =
           let d = declared-found p i q in
-          enter-judged _ xs (declBody (i .decl)) (i .home .reads) (enters-body at p xs (i .decl) (next-is _ n) d) (not-differ s at p xs (i .decl) (next-is _ n) d (agreed i true r))
+          enter-judged _ xs (declBody (i .decl)) (i .number) (i .home .reads) (enters-body at p xs (i .decl) (next-is _ n) d) (not-differ s at p xs (i .decl) (next-is _ n) d (agreed i true r))
       on i q false r =
           record { at = at; called = p; arguments = xs; procedure = i .decl; next = next-is _ n; stands = declared-found p i q; differ = agree-false _ _ (agreed i false r) }
 
-      go : (o : Option Instance) → instance u p ≡ o → Judged l s (elim o [ none ↦ did u | some i ↦ elim (agree (formalKinds (declFormals (i .decl))) (map (kindAt u) xs)) [ true ↦ enterIfRoom l u (formalNames (declFormals (i .decl))) xs (declBody (i .decl)) (i .home .reads) | false ↦ stop ArgumentsDiffer ] ])
+      go : (o : Option Instance) → instance u p ≡ o → Judged l s (elim o [ none ↦ did u | some i ↦ elim (agree (formalKinds (declFormals (i .decl))) (map (kindAt u) xs)) [ true ↦ enterIfRoom l u (formalNames (declFormals (i .decl))) xs (declBody (i .decl)) (i .number) (i .home .reads) | false ↦ stop ArgumentsDiffer ] ])
       go none q = tt
       go (some i) q = on i q (agree (formalKinds (declFormals (i .decl))) (map (kindAt u) xs)) refl
 
@@ -227,7 +227,7 @@ module _ (l : Limits) (s : State) (a : Activation) (e : last? (s .live) ≡ some
 
   stmt-judged : (x : Stmt) → nextStmt a ≡ some x → Judged l s (doStmt l u a x)
   unfolding doStmt
-  stmt-judged (BK b) n = enter-judged [] [] b (a .reads) (enters-block b (next-is _ n)) (block-differs s b (next-is _ n))
+  stmt-judged (BK b) n = enter-judged [] [] b _ (a .reads) (enters-block b (next-is _ n)) (block-differs s b (next-is _ n))
   stmt-judged (DO at x) n = action-judged at x n
 
   in-judged : Judged l s (stepIn l s a)
@@ -256,9 +256,9 @@ does-action : (l : Limits) (s : State) (at : ℕ) (x : Action) (n : Next s (DO a
 unfolding doStmt
 does-action l s at x n = step-does l s (DO at x) n
 
-no-room : (l : Limits) (u : State) (formals arguments : List ℕ) (b : Block) (around : List Replacement) → l .activations ≤ length (u .live) → enterIfRoom l u formals arguments b around ≡ stop NoActivationLeft
+no-room : (l : Limits) (u : State) (formals arguments : List ℕ) (b : Block) (encloser : ℕ) (around : List Replacement) → l .activations ≤ length (u .live) → enterIfRoom l u formals arguments b encloser around ≡ stop NoActivationLeft
 unfolding enterIfRoom
-no-room l u formals arguments b around h = rw (le-ltb (length (u .live)) (l .activations) h, enterIfRoom)
+no-room l u formals arguments b encloser around h = rw (le-ltb (length (u .live)) (l .activations) h, enterIfRoom)
 
 module _ (l : Limits) (s : State) where
   due-21 : TooLarge s → step l s ≡ stop ResultTooLarge
@@ -273,7 +273,7 @@ module _ (l : Limits) (s : State) where
 
   -- a call by the instance of its name
   call-found : (u : State) (p : ℕ) (xs : List ℕ) (i : Instance) (t : Bool) → instance u p ≡ some i → agree (formalKinds (declFormals (i .decl))) (map (kindAt u) xs) ≡ t
-      → call l u p xs ≡ elim t as (λ x. Done) [ true ↦ enterIfRoom l u (formalNames (declFormals (i .decl))) xs (declBody (i .decl)) (i .home .reads) | false ↦ stop ArgumentsDiffer ]
+      → call l u p xs ≡ elim t as (λ x. Done) [ true ↦ enterIfRoom l u (formalNames (declFormals (i .decl))) xs (declBody (i .decl)) (i .number) (i .home .reads) | false ↦ stop ArgumentsDiffer ]
   unfolding call
   call-found u p xs i t q r = rw (q, call) (rw r)
 
@@ -286,7 +286,7 @@ module _ (l : Limits) (s : State) where
     found = (map-eq-some-iff (λ (i : Instance). i .decl) (instance called-in p)) .0 (declared-advanced s (n .innermost) (n .last) p ∙ q)
 
     call-is : (t : Bool) → agree (formalKinds (declFormals d)) (map (kindAt s) xs) ≡ t
-        → step l s ≡ elim t as (λ x. Done) [ true ↦ enterIfRoom l called-in (formalNames (declFormals (found .0 .decl))) xs (declBody (found .0 .decl)) (found .0 .home .reads) | false ↦ stop ArgumentsDiffer ]
+        → step l s ≡ elim t as (λ x. Done) [ true ↦ enterIfRoom l called-in (formalNames (declFormals (found .0 .decl))) xs (declBody (found .0 .decl)) (found .0 .number) (found .0 .home .reads) | false ↦ stop ArgumentsDiffer ]
     unfolding doAction
     call-is t r =
         does-action l s at (CL p xs) n
@@ -304,10 +304,10 @@ module _ (l : Limits) (s : State) where
   due-22 w not = go (w .0)
     where
       go : Enters s → step l s ≡ stop NoActivationLeft
-      go (enters-block b n) = step-does l s (BK b) n ∙ no-room l _ [] [] b _ (full-now (n .innermost) (n .last) (w .1))
+      go (enters-block b n) = step-does l s (BK b) n ∙ no-room l _ [] [] b _ _ (full-now (n .innermost) (n .last) (w .1))
       go (enters-body at p xs d n q) =
           split (agree (formalKinds (declFormals d)) (map (kindAt s) xs))
-          (λ t. call-is at p xs d n q true t ∙ no-room l _ _ xs _ _ (full-now (n .innermost) (n .last) (w .1)))
+          (λ t. call-is at p xs d n q true t ∙ no-room l _ _ xs _ _ _ (full-now (n .innermost) (n .last) (w .1)))
           (λ t. absurd (not (record { at = at; called = p; arguments = xs; procedure = d; next = n; stands = q; differ = agree-false _ _ t })))
 
 -- AD, RM and QY by what they find
