@@ -21,7 +21,7 @@ use Rattle.call_answers.specs.Replies.{Answers}
 use Rattle.call_replies.specs.Replies.{with-links}
 use Rattle.call_replies.specs.Runs.{call-begins, sheet-needs, run-replies}
 use Rattle.chain_records.specs.declared.Activation.{Activation}
-use Rattle.chain_links.specs.Records.{blocksIn, nextsIn}
+use Rattle.chain_links.specs.Records.{blocksIn, nextsIn, linksIn}
 use Rattle.run_state.specs.Limits.{limitsBy}
 use Rattle.chain_run.specs.Running.{Beginning, Ended}
 use Rattle.run_state.specs.declared.Halt.{Halt}
@@ -57,14 +57,14 @@ module _ (records : List Activation) (f : Fed) (bytes : Bytes (f .script)) (t : 
     unfolding frameRunOf
     ended = subst (λ (k : ℕ). (b : Begins k) → Ends b r cells′ records′ table′) q run beginning
 
-    pub sheet-ready : length records′ ≡ length records → ((fs : List Frame) × Held code cells′ (blocksIn records′) (nextsIn records′) fs × (length fs ≡ r .live)) ×
+    pub sheet-ready : length records′ ≡ length records → ((fs : List Frame) × Held code cells′ (blocksIn records′) (nextsIn records′) (linksIn records′) fs × (length fs ≡ r .live)) ×
         ((r .live ≤ length records′) × (sheetShare * r .live ≤ length (f .lent .sheet)))
     sheet-ready e =
         let s = sheet-needs bytes h covers (ended .ended) in
         (s .0, (omega (arith, records-room, ended .ended .live-is, ended .ended .sound .bounded .live), s .1))
 
     pub replied : {sheet : List ℤ} {count : ℕ}
-        → ((fs : List Frame) → Held code cells′ (blocksIn records′) (nextsIn records′) fs → length fs ≡ r .live
+        → ((fs : List Frame) → Held code cells′ (blocksIn records′) (nextsIn records′) (linksIn records′) fs → length fs ≡ r .live
         → (sheet ≡ written (frameSheet fs) (f .lent .sheet)) × (count ≡ length (frameSheet fs)))
         → {answer : Answer} → answer ≡ haltAnswer r count (f .tally) → Answers (chain (length records)) f answer sheet table′
     replied is a = run-replies bytes h covers (ended .ended) is (ended .links-are ∙ with-links (chain (length records)) f (frameRunOf f t) refl) a

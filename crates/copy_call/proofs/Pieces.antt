@@ -22,8 +22,8 @@ module _ (area : List ℕ) {f : Fed} (bytes : Bytes (f .script)) (small : f .nam
   area-room = leb-true (f .activations * (length (f .script) / 2)) (length area) (area-fits h)
 
   abbrev pub beginning : {code : List ℕ} → Covers code 0 (resolvedOf (f .name) t) → {names : List ℕ} → NamesStand (f .script) code names
-      → Beginning (f .script) code names (replicate 8224 (pos 0)) area (replicate 256 0) (replicate 256 0) (f .lent .table .words) (f .lent .table .used) (f .limit) (f .activations)
-      (f .allowance)
+      → Beginning (f .script) code names (replicate 8224 (pos 0)) area (replicate 256 0) (replicate 256 0) (replicate 256 0) (f .lent .table .words) (f .lent .table .used)
+      (f .limit) (f .activations) (f .allowance)
   beginning covers named =
       record {
         begun = call-begins bytes h covers refl;
@@ -34,5 +34,7 @@ module _ (area : List ℕ) {f : Fed} (bytes : Bytes (f .script)) (small : f .nam
         room = area-room;
         blocks-long = length-replicate {A = ℕ} 256 0;
         nexts-long = length-replicate {A = ℕ} 256 0;
+        links-long = length-replicate {A = ℕ} 256 0;
         no-block = refl;
+        no-link = refl;
       }

@@ -29,6 +29,7 @@ fn ran(
     let mut cells = [0i32; 8224];
     let mut blocks = [0u16; 256];
     let mut nexts = [0u16; 256];
+    let mut links = [0u16; 256];
     let halt = copy_run::run_program(
         script,
         &code,
@@ -37,6 +38,7 @@ fn ran(
         area,
         &mut blocks,
         &mut nexts,
+        &mut links,
         table,
         numbers.count,
         numbers.g,
@@ -44,7 +46,7 @@ fn ran(
         numbers.n,
     );
     let live = halt.live;
-    let written = run_sheet::write_sheet(&code, &cells, &blocks, &nexts, live, sheet);
+    let written = run_sheet::write_sheet(&code, &cells, &blocks, &nexts, &links, live, sheet);
     let end = halt.end;
     call_answers::ran_answer(
         end,

@@ -13,7 +13,7 @@ use Rattle.resolved.specs.Layout.{firstIn}
 use Rattle.copy_texts.specs.Texts.{renewed, Copied, notedFrom}
 use Rattle.copy_texts.specs.Copying.{Renewable, Copyable}
 use Rattle.run_state.specs.declared.Registers.{Registers}
-use Rattle.copy_entry.specs.Anew.{formalsAt, namesAt, levelAt, endAt, givenAt, Enterable, Noted, AnewIn}
+use Rattle.copy_entry.specs.Anew.{formalsAt, namesAt, levelAt, endAt, givenAt, Enterable, Noted, NamesNoted, AnewIn}
 
 -- Rooms of the area, one after the other
 
@@ -89,18 +89,20 @@ module _ {code names area : List ℕ} {width : ℕ} {here : Registers} {body lin
 
     -- what the functions have made
     pub entered : {at new : ℕ} → at ≡ firstIn (getD code (body + 1) 0)
-        → {cells : List ℤ} {blocks nexts firsts starts targets looked : List ℕ} {cells′ : List ℤ} {area′ blocks′ nexts′ firsts′ starts′ targets′ : List ℕ}
-        → Noted blocks nexts firsts starts here body formals back blocks′ nexts′ firsts′ starts′
+        → {cells : List ℤ} {blocks nexts links firsts starts targets looked : List ℕ} {cells′ : List ℤ} {area′ blocks′ nexts′ links′ firsts′ starts′ targets′ : List ℕ}
+        → Noted blocks nexts links here body link back blocks′ nexts′ links′
+        → NamesNoted firsts starts here formals firsts′ starts′
         → new ≡ renewed area given level first word (getD looked link 0)
         → Copied area area′ names (link * width) to given level first body end
         → targets′ ≡ notedFrom targets names lowest level body (end - body)
         → Cleared cells (lowest + formals) (lowest + count) cells′
-        → AnewIn code names width here body link back cells area blocks nexts firsts starts targets looked cells′ area′ blocks′ nexts′ firsts′ starts′
+        → AnewIn code names width here body link back cells area blocks nexts links firsts starts targets looked cells′ area′ blocks′ nexts′ links′ firsts′ starts′
         targets′ (set looked (here .live + 1) new)
         (record { live = here .live + 1; at = at; end = end; pairs = here .pairs; level = here .level; fresh = first + count })
-    entered at-is {cells} {blocks} {nexts} {firsts} {starts} {targets} {looked} {cells′} {area′} {blocks′} {nexts′} {firsts′} {starts′} n r k t z =
+    entered at-is {cells} {firsts} {starts} {targets} {looked} {cells′} {area′} {firsts′} {starts′} n m r k t z =
         record {
-          noted = subst (λ (f : ℕ). Noted blocks nexts firsts starts here body f back blocks′ nexts′ firsts′ starts′) (h .formals-is) n;
+          noted = n;
+          named = subst (λ (f : ℕ). NamesNoted firsts starts here f firsts′ starts′) (h .formals-is) m;
           copied = subst (λ (T : Type 0). T)
               (λ i. Copied area area′ names (link * width) to given (h .level-is i) (here .fresh - h .formals-is i) body (end-is i)) k;
           targets-are = t ∙ (λ i. notedFrom targets names lowest (h .level-is i) body (end-is i - body));

@@ -49,16 +49,20 @@ pub record Enterable (code names area : List ℕ) (width : ℕ) (here : Register
   pub given-looked : levelIn (getD code (body + 2) 0) ≡ levelAt code body → direct (getD code (body + 2) 0) ≡ false
       → here .at + 3 + positionIn (getD code (body + 2) 0) < width
 
-pub record Noted (blocks nexts firsts starts : List ℕ) (here : Registers) (body formals back : ℕ) (blocks′ nexts′ firsts′ starts′ : List ℕ) : Type 0 where
+pub record Noted (blocks nexts links : List ℕ) (here : Registers) (body link back : ℕ) (blocks′ nexts′ links′ : List ℕ) : Type 0 where
   pub nexts-are : nexts′ ≡ set nexts (here .live) back
   pub blocks-are : blocks′ ≡ set blocks (here .live + 1) body
+  pub links-are : links′ ≡ set links (here .live + 1) link
+
+pub record NamesNoted (firsts starts : List ℕ) (here : Registers) (formals : ℕ) (firsts′ starts′ : List ℕ) : Type 0 where
   pub firsts-are : firsts′ ≡ set firsts (here .live + 1) (here .fresh)
   pub starts-are : starts′ ≡ set starts (here .live + 1) (cellFrom (here .live + 1) formals)
 
 pub record AnewIn (code names : List ℕ) (width : ℕ) (here : Registers) (body link back : ℕ)
-    (cells : List ℤ) (area blocks nexts firsts starts targets looked : List ℕ)
-    (cells′ : List ℤ) (area′ blocks′ nexts′ firsts′ starts′ targets′ looked′ : List ℕ) (r : Registers) : Type 0 where
-  pub noted : Noted blocks nexts firsts starts here body (formalsAt code body) back blocks′ nexts′ firsts′ starts′
+    (cells : List ℤ) (area blocks nexts links firsts starts targets looked : List ℕ)
+    (cells′ : List ℤ) (area′ blocks′ nexts′ links′ firsts′ starts′ targets′ looked′ : List ℕ) (r : Registers) : Type 0 where
+  pub noted : Noted blocks nexts links here body link back blocks′ nexts′ links′
+  pub named : NamesNoted firsts starts here (formalsAt code body) firsts′ starts′
   pub copied : Copied area area′ names (link * width) ((here .live + 1) * width) (givenAt width here) (levelAt code body) (here .fresh - formalsAt code body) body (endAt code body)
   pub targets-are : targets′ ≡ notedFrom targets names (32 * (here .live + 1)) (levelAt code body) body (endAt code body - body)
   pub looked-is : looked′ ≡ set looked (here .live + 1) (renewed area (givenAt width here) (levelAt code body) (here .fresh - formalsAt code body) (getD code (body + 2) 0) (getD looked link 0))

@@ -188,8 +188,8 @@ module _ (program : Block) (keeps : Keeps program) (s : State) (t : Stack) (rela
       (readings-covered area (a .reads) (k * width + placeOf (blockAt (f .text))) (blockWords nameWords (f .text) (f .formals) os) (blockFields (f .text))
       (field-read k a e f (twin .1)))
 
-module _ {code names : List ℕ} {activations limit : ℕ} {cells : List ℤ} {area : List ℕ} {width : ℕ} {blocks nexts firsts starts targets looked : List ℕ} {table : List ℤ} {here : Registers}
-    (w : Running code names activations limit cells area width blocks nexts firsts starts targets looked table here) where
+module _ {code names : List ℕ} {activations limit : ℕ} {cells : List ℤ} {area : List ℕ} {width : ℕ} {blocks nexts links firsts starts targets looked : List ℕ} {table : List ℤ} {here : Registers}
+    (w : Running code names activations limit cells area width blocks nexts links firsts starts targets looked table here) where
   pub running-copies : (k : ℕ) (a : Activation) → getElem? (w .copies .live) k ≡ some a
       → Covers area (k * width + placeOf (blockAt (a .text))) (blockFields (a .text))
   running-copies =

@@ -37,8 +37,8 @@ use Rattle.run_state.specs.Limits.{limitsBy, goesTo}
 use Rattle.copy_moves.specs.Running.{Running, Succeeds}
 use Rattle.copy_moves.specs.Settled.{same-outline, outlines}
 
-module _ {code names : List ℕ} {activations limit : ℕ} {cells : List ℤ} {area : List ℕ} {width : ℕ} {blocks nexts firsts starts targets looked : List ℕ} {table : List ℤ} {here : Registers}
-    (w : Running code names activations limit cells area width blocks nexts firsts starts targets looked table here)
+module _ {code names : List ℕ} {activations limit : ℕ} {cells : List ℤ} {area : List ℕ} {width : ℕ} {blocks nexts links firsts starts targets looked : List ℕ} {table : List ℤ} {here : Registers}
+    (w : Running code names activations limit cells area width blocks nexts links firsts starts targets looked table here)
     {cells′ : List ℤ} {blocks′ nexts′ links′ : List ℕ} {table′ : List ℤ} {pairs′ live′ at′ end′ : ℕ}
     (st : Standing code (limitsBy activations limit) cells′ blocks′ nexts′ links′ table′ pairs′ live′ at′ end′)
     (follows : Follows (w .standing) (st .stack) (st .program) (st .name)) where
@@ -96,7 +96,7 @@ module _ {code names : List ℕ} {activations limit : ℕ} {cells : List ℤ} {a
 
   -- up to a number the arrays have the same blocks and links
   abbrev pub SameArrays : ℕ → Type 0
-  SameArrays n = (k : ℕ) → k < n → (getD blocks′ k 0 ≡ getD blocks k 0) × (getD links′ k 0 ≡ getD (w .links) k 0)
+  SameArrays n = (k : ℕ) → k < n → (getD blocks′ k 0 ≡ getD blocks k 0) × (getD links′ k 0 ≡ getD links k 0)
 
   pub same-outlines : (n : ℕ) → n ≤ suc (here .live) → n ≤ suc live′ → SameArrays n → SameOutlines n fs gs
   same-outlines n p q same =
@@ -127,10 +127,9 @@ module _ {code names : List ℕ} {activations limit : ℕ} {cells : List ℤ} {a
     outlines-live : SameOutlines (length (after .live)) fs gs
     outlines-live = subst (λ n. SameOutlines n fs gs) (sym deep) alike
 
-    pub runs-on : Running code names activations limit cells′ area width blocks′ nexts′ firsts starts targets looked table′ (goesTo here live′ at′ end′ pairs′)
+    pub runs-on : Running code names activations limit cells′ area width blocks′ nexts′ links′ firsts starts targets looked table′ (goesTo here live′ at′ end′ pairs′)
     runs-on =
         record {
-          links = links′;
           standing = st;
           copies = after;
           related = related-after;
@@ -151,6 +150,6 @@ module _ {code names : List ℕ} {activations limit : ℕ} {cells : List ℤ} {a
           looked-long = w .looked-long;
         }
 
-    pub goes-on : Succeeds w cells′ area blocks′ nexts′ firsts starts targets looked table′ (goesTo here live′ at′ end′ pairs′)
+    pub goes-on : Succeeds w cells′ area blocks′ nexts′ links′ firsts starts targets looked table′ (goesTo here live′ at′ end′ pairs′)
     unfolding runs-on
     goes-on = record { running = runs-on; follows = follows; few-more = omega arith }

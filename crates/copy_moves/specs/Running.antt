@@ -1,6 +1,7 @@
 -- The copying engine between two steps: `Running` says that its arrays hold a sound stack of frames and, beside it, the state of the copy-rule
 -- machine that runs with it: the area its texts, `firsts`, `starts` its new names, `targets` what its labels and procedures lead to, `looked` what
--- the looked-up name reads as. `Succeeds` says that another state of the arrays is the one a step later.
+-- the looked-up name reads as. `links` is kept for the sheet alone: no name is found by it. `Succeeds` says that another state of the arrays is the
+-- one a step later.
 use Prim.Native.Nat.{ℕ, _+_, _*_, _≤_, _<_}
 use mathlib.Core.List.{List}
 use mathlib.Core.Path.{_≡_}
@@ -19,8 +20,7 @@ use Rattle.copy_texts.specs.Texts.{Texts, Aims, Looks}
 use Rattle.run_state.specs.declared.Registers.{Registers}
 use Rattle.run_state.specs.Limits.{limitsBy}
 
-pub record Running (code names : List ℕ) (activations limit : ℕ) (cells : List ℤ) (area : List ℕ) (width : ℕ) (blocks nexts firsts starts targets looked : List ℕ) (table : List ℤ) (here : Registers) : Type 0 where
-  pub links : List ℕ
+pub record Running (code names : List ℕ) (activations limit : ℕ) (cells : List ℤ) (area : List ℕ) (width : ℕ) (blocks nexts links firsts starts targets looked : List ℕ) (table : List ℤ) (here : Registers) : Type 0 where
   pub standing : Standing code (limitsBy activations limit) cells blocks nexts links table (here .pairs) (here .live) (here .at) (here .end)
   pub copies : State
   pub related : Related copies (standing .stack)
@@ -41,9 +41,9 @@ pub record Running (code names : List ℕ) (activations limit : ℕ) (cells : Li
   pub looked-long : length looked ≡ 256
 
 -- the state of the arrays one step later
-pub record Succeeds {code names : List ℕ} {activations limit : ℕ} {cells : List ℤ} {area : List ℕ} {width : ℕ} {blocks nexts firsts starts targets looked : List ℕ} {table : List ℤ} {here : Registers}
-    (w : Running code names activations limit cells area width blocks nexts firsts starts targets looked table here)
-    (cells′ : List ℤ) (area′ blocks′ nexts′ firsts′ starts′ targets′ looked′ : List ℕ) (table′ : List ℤ) (here′ : Registers) : Type 0 where
-  pub running : Running code names activations limit cells′ area′ width blocks′ nexts′ firsts′ starts′ targets′ looked′ table′ here′
+pub record Succeeds {code names : List ℕ} {activations limit : ℕ} {cells : List ℤ} {area : List ℕ} {width : ℕ} {blocks nexts links firsts starts targets looked : List ℕ} {table : List ℤ} {here : Registers}
+    (w : Running code names activations limit cells area width blocks nexts links firsts starts targets looked table here)
+    (cells′ : List ℤ) (area′ blocks′ nexts′ links′ firsts′ starts′ targets′ looked′ : List ℕ) (table′ : List ℤ) (here′ : Registers) : Type 0 where
+  pub running : Running code names activations limit cells′ area′ width blocks′ nexts′ links′ firsts′ starts′ targets′ looked′ table′ here′
   pub follows : Follows (w .standing) (running .standing .stack) (running .standing .program) (running .standing .name)
   pub few-more : here′ .fresh ≤ here .fresh + 32

@@ -11,7 +11,7 @@ use Rattle.steps.specs.Begun.{Begun}
 
 -- what every engine's run begins with (`Begun`), the script itself and the words of its names, room for D copies, and arrays of its own with zeros for the
 -- first activation
-pub record Beginning (script code names : List ℕ) (cells : List ℤ) (area blocks nexts : List ℕ) (table : List ℤ) (pairs limit activations allowance : ℕ) : Type 0 where
+pub record Beginning (script code names : List ℕ) (cells : List ℤ) (area blocks nexts links : List ℕ) (table : List ℤ) (pairs limit activations allowance : ℕ) : Type 0 where
   pub begun : Begun code cells table pairs limit activations
   pub written : script ≡ encode (begun .program)
   pub names-stand : Covers names 0 (namedOf (begun .program))
@@ -20,4 +20,6 @@ pub record Beginning (script code names : List ℕ) (cells : List ℤ) (area blo
   pub room : activations * (length script / 2) ≤ length area
   pub blocks-long : length blocks ≡ 256
   pub nexts-long : length nexts ≡ 256
+  pub links-long : length links ≡ 256
   pub no-block : getD blocks 0 0 ≡ 0
+  pub no-link : getD links 0 0 ≡ 0

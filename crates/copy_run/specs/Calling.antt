@@ -37,8 +37,8 @@ use Rattle.copy_run.specs.Words.{copyOf, sceneIn, around, NamedHere, Wri
 use Rattle.copy_run.specs.Names.{byLinks, CellOfName, reads-name, named}
 use Rattle.copy_run.specs.Statements.{Comes, comes, acts-by}
 
-module _ {code names : List ℕ} {activations limit : ℕ} {cells : List ℤ} {area : List ℕ} {width : ℕ} {blocks nexts firsts starts targets looked : List ℕ} {table : List ℤ} {here : Registers}
-    (w : Running code names activations limit cells area width blocks nexts firsts starts targets looked table here)
+module _ {code names : List ℕ} {activations limit : ℕ} {cells : List ℤ} {area : List ℕ} {width : ℕ} {blocks nexts links firsts starts targets looked : List ℕ} {table : List ℤ} {here : Registers}
+    (w : Running code names activations limit cells area width blocks nexts links firsts starts targets looked table here)
     (a : Activation) (innermost : getElem? (w .copies .live) (here .live) ≡ some a)
     (fields-named : NamedHere w) (written : WrittenHere w) (cell-of-name : CellOfName w a)
     (o p : ℕ) (xs : List ℕ) (q : frameStmt (w .standing .frame) ≡ some (DO o (CL p xs))) where

@@ -51,8 +51,8 @@ use Rattle.copy_moves.specs.Going.{same-outlines, chained}
 use Rattle.copy_run.specs.Within.{text-within, within-outer}
 use Rattle.copy_run.specs.Entries as entry
 
-module _ {code names : List ℕ} {activations limit : ℕ} {cells : List ℤ} {area : List ℕ} {width : ℕ} {blocks nexts firsts starts targets looked : List ℕ} {table : List ℤ} {here : Registers}
-    (w : Running code names activations limit cells area width blocks nexts firsts starts targets looked table here)
+module _ {code names : List ℕ} {activations limit : ℕ} {cells : List ℤ} {area : List ℕ} {width : ℕ} {blocks nexts links firsts starts targets looked : List ℕ} {table : List ℤ} {here : Registers}
+    (w : Running code names activations limit cells area width blocks nexts links firsts starts targets looked table here)
     (body link back : ℕ) (cells₁ : List ℤ) (j : EntersAt (w .standing) body link back cells₁) where
   abbrev fs : List Frame
   fs = w .standing .stack .frames
@@ -128,8 +128,8 @@ module _ {code names : List ℕ} {activations limit : ℕ} {cells : List ℤ} {a
 
   -- What the code makes of the arrays
 
-  module _ (cells′ : List ℤ) (area′ blocks′ nexts′ firsts′ starts′ targets′ looked′ : List ℕ) (r : Registers)
-      (n : AnewIn code names width here body link back cells₁ area blocks nexts firsts starts targets looked cells′ area′ blocks′ nexts′ firsts′ starts′ targets′ looked′ r) where
+  module _ (cells′ : List ℤ) (area′ blocks′ nexts′ links′ firsts′ starts′ targets′ looked′ : List ℕ) (r : Registers)
+      (n : AnewIn code names width here body link back cells₁ area blocks nexts links firsts starts targets looked cells′ area′ blocks′ nexts′ links′ firsts′ starts′ targets′ looked′ r) where
     abbrev live : ℕ
     live = here .live
 
@@ -151,7 +151,7 @@ module _ {code names : List ℕ} {activations limit : ℕ} {cells : List ℤ} {a
         (λ i. Copied area area′ names (link * width) ((live + 1) * width) (givenAt width here) (level-is i) (here .fresh - head .formals i) (j .body-is i) (head .ends i)) (n .copied)
 
     -- the frame machine's arrays after the step
-    abbrev st : Standing code (limitsBy activations limit) cells′ (set blocks (live + 1) body) (set nexts live back) (set (w .links) (live + 1) link) table (here .pairs) (live + 1) (stmtPlace (j .text) 1) (endPlace (j .text))
+    abbrev st : Standing code (limitsBy activations limit) cells′ (set blocks (live + 1) body) (set nexts live back) (set links (live + 1) link) table (here .pairs) (live + 1) (stmtPlace (j .text) 1) (endPlace (j .text))
     st = (entered (w .standing) body link back cells₁ j cells′ cleared) .standing
 
     abbrev follows : Follows (w .standing) (st .stack) (st .program) (st .name)
@@ -172,8 +172,8 @@ module _ {code names : List ℕ} {activations limit : ℕ} {cells : List ℤ} {a
     many-before : length (w .copies .live) ≡ live + 1
     many-before = as-deep (w .copies) (w .standing .stack) (w .related) ∙ many (w .standing) ∙ one
 
-    blocks-same : (k : ℕ) → k < live + 1 → (getD (set blocks (live + 1) body) k 0 ≡ getD blocks k 0) × (getD (set (w .links) (live + 1) link) k 0 ≡ getD (w .links) k 0)
-    blocks-same k h = (getD-set-other blocks (live + 1) k body 0 (λ z. omega arith), getD-set-other (w .links) (live + 1) k link 0 (λ z. omega arith))
+    blocks-same : (k : ℕ) → k < live + 1 → (getD (set blocks (live + 1) body) k 0 ≡ getD blocks k 0) × (getD (set links (live + 1) link) k 0 ≡ getD links k 0)
+    blocks-same k h = (getD-set-other blocks (live + 1) k body 0 (λ z. omega arith), getD-set-other links (live + 1) k link 0 (λ z. omega arith))
 
     more : OneMore live (w .copies .live) (later .live) fs gs new f
     more =
@@ -289,11 +289,10 @@ module _ {code names : List ℕ} {activations limit : ℕ} {cells : List ℤ} {a
     abbrev after : Registers
     after = record { live = live + 1; at = stmtPlace (j .text) 1; end = endPlace (j .text); pairs = here .pairs; level = here .level; fresh = here .fresh + names-many }
 
-    entered-there : Succeeds w cells′ area′ (set blocks (live + 1) body) (set nexts live back) (set firsts (live + 1) (here .fresh)) (set starts (live + 1) (cellFrom (live + 1) (formalsAt code body))) targets′ looked′ table after
+    entered-there : Succeeds w cells′ area′ (set blocks (live + 1) body) (set nexts live back) (set links (live + 1) link) (set firsts (live + 1) (here .fresh)) (set starts (live + 1) (cellFrom (live + 1) (formalsAt code body))) targets′ looked′ table after
     entered-there =
         record {
           running = record {
-            links = set (w .links) (live + 1) link;
             standing = st;
             copies = later;
             related = related;
@@ -322,7 +321,7 @@ module _ {code names : List ℕ} {activations limit : ℕ} {cells : List ℤ} {a
         let h : here .fresh + names-many ≡ here .fresh - formalsAt code body + namesAt code body = omega (arith, head .formals, head .names, entry.fresh-high w body link back cells₁ j, entry.few-names w body link back cells₁ j) in
         (λ i. record { live = live + 1; at = sym (head .first) i; end = sym (head .ends) i; pairs = here .pairs; level = here .level; fresh = h i }) ∙ sym (n .registers-are)
 
-    pub enters-on : Succeeds w cells′ area′ blocks′ nexts′ firsts′ starts′ targets′ looked′ table r
+    pub enters-on : Succeeds w cells′ area′ blocks′ nexts′ links′ firsts′ starts′ targets′ looked′ table r
     enters-on =
         subst (λ (T : Type 0). T)
-        (λ i. Succeeds w cells′ area′ (sym (n .noted .blocks-are) i) (sym (n .noted .nexts-are) i) (sym (n .noted .firsts-are) i) (sym (n .noted .starts-are) i) targets′ looked′ table (registers-are i)) entered-there
+        (λ i. Succeeds w cells′ area′ (sym (n .noted .blocks-are) i) (sym (n .noted .nexts-are) i) (sym (n .noted .links-are) i) (sym (n .named .firsts-are) i) (sym (n .named .starts-are) i) targets′ looked′ table (registers-are i)) entered-there

@@ -62,8 +62,8 @@ called-written σ (some (DO o′ (AD g m))) o p xs q = let z : _≡_ {A = ℕ} 0
 called-written σ (some (DO o′ (RM g m))) o p xs q = let z : _≡_ {A = ℕ} 0 1 = cc in absurd (omega arith)
 called-written σ (some (DO o′ (QY t g m))) o p xs q = let z : _≡_ {A = ℕ} 0 1 = cc in absurd (omega arith)
 
-module _ {code names : List ℕ} {activations limit : ℕ} {cells : List ℤ} {area : List ℕ} {width : ℕ} {blocks nexts firsts starts targets looked : List ℕ} {table : List ℤ} {here : Registers}
-    (w : Running code names activations limit cells area width blocks nexts firsts starts targets looked table here)
+module _ {code names : List ℕ} {activations limit : ℕ} {cells : List ℤ} {area : List ℕ} {width : ℕ} {blocks nexts links firsts starts targets looked : List ℕ} {table : List ℤ} {here : Registers}
+    (w : Running code names activations limit cells area width blocks nexts links firsts starts targets looked table here)
     (body link back : ℕ) (cells₁ : List ℤ) (j : EntersAt (w .standing) body link back cells₁) where
   abbrev pub l : Limits
   l = limitsBy activations limit

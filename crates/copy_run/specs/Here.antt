@@ -29,8 +29,8 @@ use Rattle.copy_run.specs.Words.{copyOf, sceneIn, around, NamedHere, Wri
 use Rattle.copy_run.specs.Names.{CellOfName}
 use Rattle.copy_run.specs.Meaning.{ready, means}
 
-module _ {code names : List ℕ} {activations limit : ℕ} {cells : List ℤ} {area : List ℕ} {width : ℕ} {blocks nexts firsts starts targets looked : List ℕ} {table : List ℤ} {here : Registers}
-    (w : Running code names activations limit cells area width blocks nexts firsts starts targets looked table here) where
+module _ {code names : List ℕ} {activations limit : ℕ} {cells : List ℤ} {area : List ℕ} {width : ℕ} {blocks nexts links firsts starts targets looked : List ℕ} {table : List ℤ} {here : Registers}
+    (w : Running code names activations limit cells area width blocks nexts links firsts starts targets looked table here) where
   pub named-here : NamedHere w
   unfolding frameStmt enclosing
   named-here x q =

@@ -34,8 +34,8 @@ use Rattle.copy_moves.specs.Looked.{Lookable, lookedUp}
 use Rattle.copy_run.specs.Words.{innermost-activation}
 use Rattle.copy_run.specs.Here.{many-copies, sorted-here}
 
-module _ {code names : List ℕ} {activations limit : ℕ} {cells : List ℤ} {area : List ℕ} {width : ℕ} {blocks nexts firsts starts targets looked : List ℕ} {table : List ℤ} {here : Registers}
-    (w : Running code names activations limit cells area width blocks nexts firsts starts targets looked table here) where
+module _ {code names : List ℕ} {activations limit : ℕ} {cells : List ℤ} {area : List ℕ} {width : ℕ} {blocks nexts links firsts starts targets looked : List ℕ} {table : List ℤ} {here : Registers}
+    (w : Running code names activations limit cells area width blocks nexts links firsts starts targets looked table here) where
   abbrev a : Activation
   a = (innermost-activation w) .0
 
@@ -66,7 +66,7 @@ module _ {code names : List ℕ} {activations limit : ℕ} {cells : List ℤ} {a
 
     celled : Celled (designates (w .standing .stack .frames) name)
     celled =
-        named-celled (limitsBy activations limit) (w .standing .program) (w .standing .keeps) (w .standing .stack) (w .standing .sound) blocks (set nexts (here .live) (here .at)) (w .links) cells
+        named-celled (limitsBy activations limit) (w .standing .program) (w .standing .keeps) (w .standing .stack) (w .standing .sound) blocks (set nexts (here .live) (here .at)) links cells
         (w .standing .holds) name (coordinate .0) (coordinate .1)
 
     designates-some : designates (w .standing .stack .frames) name ≡ 0 → ⊥

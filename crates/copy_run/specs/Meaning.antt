@@ -26,8 +26,8 @@ use Rattle.copy_run.specs.Names.{byLinks, CellOfName}
 use Rattle.copy_run.specs.Statements.{Comes, constant-comes, arithmetic-comes, branch-comes, goto-comes, block-comes, add-comes, remove-comes, query-comes}
 use Rattle.copy_run.specs.Calling.{call-comes}
 
-module _ {code names : List ℕ} {activations limit : ℕ} {cells : List ℤ} {area : List ℕ} {width : ℕ} {blocks nexts firsts starts targets looked : List ℕ} {table : List ℤ} {here : Registers}
-    (w : Running code names activations limit cells area width blocks nexts firsts starts targets looked table here)
+module _ {code names : List ℕ} {activations limit : ℕ} {cells : List ℤ} {area : List ℕ} {width : ℕ} {blocks nexts links firsts starts targets looked : List ℕ} {table : List ℤ} {here : Registers}
+    (w : Running code names activations limit cells area width blocks nexts links firsts starts targets looked table here)
     (a : Activation) (innermost : getElem? (w .copies .live) (here .live) ≡ some a)
     (fields-named : NamedHere w) (written : WrittenHere w) (cell-of-name : CellOfName w a) where
   by-statement : (x : Stmt) → frameStmt (w .standing .frame) ≡ some x → Comes (copyOf w) (sceneIn w) (byLinks w)

@@ -35,8 +35,8 @@ use Rattle.copy_run.specs.Agreeing.{Agrees}
 use Rattle.copy_run.specs.Depth.{reads-deep}
 use Rattle.copy_run.specs.Words.{reading-named, copyOf, sceneIn, around}
 
-module _ {code names : List ℕ} {activations limit : ℕ} {cells : List ℤ} {area : List ℕ} {width : ℕ} {blocks nexts firsts starts targets looked : List ℕ} {table : List ℤ} {here : Registers}
-    (w : Running code names activations limit cells area width blocks nexts firsts starts targets looked table here) where
+module _ {code names : List ℕ} {activations limit : ℕ} {cells : List ℤ} {area : List ℕ} {width : ℕ} {blocks nexts links firsts starts targets looked : List ℕ} {table : List ℤ} {here : Registers}
+    (w : Running code names activations limit cells area width blocks nexts links firsts starts targets looked table here) where
   abbrev fs : List Frame
   fs = w .standing .stack .frames
 
@@ -53,7 +53,7 @@ module _ {code names : List ℕ} {activations limit : ℕ} {cells : List ℤ} {a
   module _ (a : Activation) (innermost : getElem? (w .copies .live) (here .live) ≡ some a) (n : ℕ) (r : Resolved fs n) where
     celled : Celled (designates fs n)
     celled =
-        named-celled _ (w .standing .program) (w .standing .keeps) (w .standing .stack) (w .standing .sound) blocks (set nexts (here .live) (here .at)) (w .links) cells
+        named-celled _ (w .standing .program) (w .standing .keeps) (w .standing .stack) (w .standing .sound) blocks (set nexts (here .live) (here .at)) links cells
         (w .standing .holds) n (r .coordinate) (r .here)
 
     pub reads-name : reading (a .reads) (nameWord (around w) n) n ≡ renamed (joined (a .reads)) n

@@ -1,6 +1,6 @@
 -- The program's start. `beginnable`: what the code asks holds; `starts-there`: what it makes of the arrays is an engine that runs, at the program's first
 -- statement.
-use Prim.Native.Nat.{ℕ, zero, suc, _+_, _*_, _-_, _/_, _≤_, _<_}
+use Prim.Native.Nat.{ℕ, _+_, _*_, _-_, _/_, _≤_, _<_}
 use native.Mathlib.Omega.{arith}
 use native.Mathlib.Nat.{mul-le-mul-right, zero-add}
 use mathlib.Core.Bool.{Bool, true, false}
@@ -9,7 +9,7 @@ use mathlib.Core.Logic.{inl, inr}
 use mathlib.Core.Option.{some}
 use mathlib.Core.Path.{_≡_, refl, sym, ap, _∙_, subst}
 use lib.IntN.{ℤ}
-use lib.ListN.{length, getD, getElem?, length-set, length-map, replicate}
+use lib.ListN.{length, getD, getElem?, length-set, length-map}
 use lib.Seq.{getD-set-same}
 use Rattle.language.specs.Basics.{upFrom}
 use Rattle.language.specs.Text.{Block, blockAt, blockDecls, declName, declaredNames}
@@ -58,12 +58,8 @@ use Rattle.copy_entry.specs.Anew.{namesAt, endAt}
 use Rattle.copy_moves.specs.Begun.{Beginnable, BegunIn}
 use Rattle.copy_run.specs.Beginning.{Beginning}
 
-long : (n : ℕ) → length {A = ℕ} (replicate n 0) ≡ n
-long zero = refl
-long (suc n) = ap suc (long n)
-
-module _ {script code names : List ℕ} {activations limit : ℕ} {cells : List ℤ} {area blocks nexts : List ℕ} {table : List ℤ} {pairs allowance : ℕ}
-    (b : Beginning script code names cells area blocks nexts table pairs limit activations allowance) where
+module _ {script code names : List ℕ} {activations limit : ℕ} {cells : List ℤ} {area blocks nexts links : List ℕ} {table : List ℤ} {pairs allowance : ℕ}
+    (b : Beginning script code names cells area blocks nexts links table pairs limit activations allowance) where
   abbrev t : Block
   t = b .begun .program
 
@@ -192,12 +188,9 @@ module _ {script code names : List ℕ} {activations limit : ℕ} {cells : List 
 
   module _ (firsts starts targets looked area′ firsts′ targets′ looked′ : List ℕ) (r : Registers) (n : BegunIn script code names area firsts targets looked pairs area′ firsts′ targets′ looked′ r)
       (firsts-long : length firsts ≡ 256) (starts-long : length starts ≡ 256) (targets-long : length targets ≡ 8224) (looked-long : length looked ≡ 256) (no-start : getD starts 0 0 ≡ 0) where
-    abbrev links : List ℕ
-    links = replicate 256 0
-
     -- the frame machine's arrays
     stands : (w : Standing code (limitsBy activations limit) cells blocks nexts links table pairs 0 (stmtPlace t 1) (endPlace t)) × AtStart (b .begun) w
-    stands = begins (b .begun) blocks nexts links (b .blocks-long) (b .nexts-long) (long 256) (b .no-block) refl
+    stands = begins (b .begun) blocks nexts links (b .blocks-long) (b .nexts-long) (b .links-long) (b .no-block) (b .no-link)
 
     copied : Copied (n .filled) area′ names 0 0 0 1 65536 (placeOf (blockAt t)) (endPlace t)
     copied = subst (λ (T : Type 0). T) (λ i. Copied (n .filled) area′ names 0 0 0 1 65536 (sym program-place i) (reads .1 i)) (n .copied)
@@ -249,7 +242,7 @@ module _ {script code names : List ℕ} {activations limit : ℕ} {cells : List 
     frames-are = ap (λ (s : Stack). s .frames) (stands .1 .stack-is)
 
     pub record Starts (here : Registers) : Type 0 where
-      pub running : Running code names activations limit cells area′ width blocks nexts firsts′ starts targets′ looked′ table here
+      pub running : Running code names activations limit cells area′ width blocks nexts links firsts′ starts targets′ looked′ table here
       pub at-start : AtStart (b .begun) (running .standing)
 
     begins-there : Starts here
@@ -257,7 +250,6 @@ module _ {script code names : List ℕ} {activations limit : ℕ} {cells : List 
         let s = stands .1 in
         record {
           running = record {
-            links = links;
             standing = stands .0;
             copies = start t tab;
             related = subst (Related (start t tab)) (sym (s .stack-is)) (start-related t keeps tab);

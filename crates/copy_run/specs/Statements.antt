@@ -59,8 +59,8 @@ unfolding unsigned
 unsigned-small (pos n) h = omega arith
 unsigned-small (negsuc n) h = omega arith
 
-module _ {code names : List ℕ} {activations limit : ℕ} {cells : List ℤ} {area : List ℕ} {width : ℕ} {blocks nexts firsts starts targets looked : List ℕ} {table : List ℤ} {here : Registers}
-    (w : Running code names activations limit cells area width blocks nexts firsts starts targets looked table here)
+module _ {code names : List ℕ} {activations limit : ℕ} {cells : List ℤ} {area : List ℕ} {width : ℕ} {blocks nexts links firsts starts targets looked : List ℕ} {table : List ℤ} {here : Registers}
+    (w : Running code names activations limit cells area width blocks nexts links firsts starts targets looked table here)
     (a : Activation) (innermost : getElem? (w .copies .live) (here .live) ≡ some a)
     (fields-named : NamedHere w) (written : WrittenHere w) (cell-of-name : CellOfName w a) where
   abbrev fs : List Frame

@@ -39,8 +39,8 @@ use Rattle.copy_run.specs.Words.{copyOf, sceneIn}
 use Rattle.copy_run.specs.Here.{means-here}
 use Rattle.copy_run.specs.Entering.{enterable, enters-on}
 
-module _ {code names : List ℕ} {activations limit : ℕ} {cells : List ℤ} {area : List ℕ} {width : ℕ} {blocks nexts firsts starts targets looked : List ℕ} {table : List ℤ} {here : Registers}
-    (w : Running code names activations limit cells area width blocks nexts firsts starts targets looked table here) where
+module _ {code names : List ℕ} {activations limit : ℕ} {cells : List ℤ} {area : List ℕ} {width : ℕ} {blocks nexts links firsts starts targets looked : List ℕ} {table : List ℤ} {here : Registers}
+    (w : Running code names activations limit cells area width blocks nexts links firsts starts targets looked table here) where
   abbrev fs : List Frame
   fs = w .standing .stack .frames
 
@@ -50,12 +50,12 @@ module _ {code names : List ℕ} {activations limit : ℕ} {cells : List ℤ} {a
   leave-ready h = ready.leave-ready (w .standing) h
 
   pub left-on : here .at ≡ here .end → 1 ≤ here .live → (r : Registers) → r ≡ nowAt code blocks here (here .live - 1) (getD nexts (here .live - 1) 0)
-      → Succeeds w cells area blocks nexts firsts starts targets looked table r
+      → Succeeds w cells area blocks nexts links firsts starts targets looked table r
   left-on e h r is =
       let l = leaves (w .standing) e h in
       let one : suc (here .live - 1) ≡ here .live = omega arith in
       let ends = ready.end-found (w .standing) (here .live - 1) (l .frame) (ap (numbered fs) one ∙ l .stands) in
-      subst (λ (n : Registers). Succeeds w cells area blocks nexts firsts starts targets looked table n)
+      subst (λ (n : Registers). Succeeds w cells area blocks nexts links firsts starts targets looked table n)
       ((λ i. goesTo here (here .live - 1) (getD nexts (here .live - 1) 0) (sym ends i) (here .pairs)) ∙ sym is)
       (goes-on w (l .standing) (l .follows) (omega arith) (λ k p. (refl, refl)))
 
@@ -81,13 +81,13 @@ module _ {code names : List ℕ} {activations limit : ℕ} {cells : List ℤ} {a
   moved-means (Stop c) cells′ z = z
 
   goes : (p n : ℕ) (cells′ table′ : List ℤ) → GoesOn (w .standing) cells′ table′ n p
-      → Succeeds w cells′ area blocks nexts firsts starts targets looked table′ (goesTo here (here .live) p (here .end) n)
+      → Succeeds w cells′ area blocks nexts links firsts starts targets looked table′ (goesTo here (here .live) p (here .end) n)
   goes p n cells′ table′ g = goes-on w (g .standing) (g .follows) (omega arith) (λ k q. (refl, refl))
 
   stops : (c : Cause) (cells′ table′ : List ℤ) → (frameStep (limitsBy activations limit) (w .standing .stack) ≡ halted c) × (cells′ ≡ cells) × (table′ ≡ table)
-      → Stops (limitsBy activations limit) (w .standing .stack) c (arraysOf cells area blocks nexts firsts starts targets looked table)
-      (arraysOf cells′ area blocks nexts firsts starts targets looked table′)
-  stops c cells′ table′ m = record { stops = m .0; same = λ i. arraysOf (m .1 i) area blocks nexts firsts starts targets looked (m .2 i) }
+      → Stops (limitsBy activations limit) (w .standing .stack) c (arraysOf cells area blocks nexts links firsts starts targets looked table)
+      (arraysOf cells′ area blocks nexts links firsts starts targets looked table′)
+  stops c cells′ table′ m = record { stops = m .0; same = λ i. arraysOf (m .1 i) area blocks nexts links firsts starts targets looked (m .2 i) }
 
   module _ (before : here .at ≡ here .end → ⊥) {r : Moved} {cells′ : List ℤ} (h : Came (doing (copyOf w) (sceneIn w)) r cells′) where
     abbrev result : Happened
@@ -101,7 +101,7 @@ module _ {code names : List ℕ} {activations limit : ℕ} {cells : List ℤ} {a
     means-as e = subst (λ (x : Moved). MovedMeans x cells′) e means
 
     pub went-on : {p : ℕ} → r ≡ Went p
-        → Succeeds w cells′ area blocks nexts firsts starts targets looked table
+        → Succeeds w cells′ area blocks nexts links firsts starts targets looked table
         (goesTo here (here .live) p (here .end) (here .pairs))
     went-on {p} e = goes p (here .pairs) cells′ table (means-as e)
 
@@ -120,15 +120,15 @@ module _ {code names : List ℕ} {activations limit : ℕ} {cells : List ℤ} {a
           subst (λ (v : List ℤ). AnswerMeans (w .standing) p (answer limit v (record { words = table; used = here .pairs }) g m t a)) (sym (k .1)) (k .0)
 
       by-change : (c : Change) (cells″ table″ : List ℤ) → Told c cells″ table″
-          → Turned w (turnAfter here p c) cells″ area blocks nexts firsts starts targets looked table″
+          → Turned w (turnAfter here p c) cells″ area blocks nexts links firsts starts targets looked table″
       unfolding turnAfter
       by-change (Count n) cells″ table″ k = goes p n cells″ table″ (done-goes (w .standing) p _ answered (Count n) cells″ table″ k n refl)
       by-change (Halted c) cells″ table″ k = stops c cells″ table″ (stopped-halts (w .standing) p _ answered (Halted c) cells″ table″ k c refl)
 
       pub answered-on : {c : Change} {cells″ table″ : List ℤ} → Told c cells″ table″ → {n : Turn} → n ≡ turnAfter here p c
-          → Turned w n cells″ area blocks nexts firsts starts targets looked table″
+          → Turned w n cells″ area blocks nexts links firsts starts targets looked table″
       answered-on {c} {cells″} {table″} k q =
-          subst (λ (x : Turn). Turned w x cells″ area blocks nexts firsts starts targets looked table″) (sym q) (by-change c cells″ table″ k)
+          subst (λ (x : Turn). Turned w x cells″ area blocks nexts links firsts starts targets looked table″) (sym q) (by-change c cells″ table″ k)
 
     -- A jump
 
@@ -140,13 +140,13 @@ module _ {code names : List ℕ} {activations limit : ℕ} {cells : List ℤ} {a
     jump-ready {home} {p} e = ready.jump-ready (w .standing) home ((jumped (w .standing) home p (jumps e)) .home-high)
 
     pub jumped-on : {home p : ℕ} → r ≡ JumpTo p home → {n : Registers} → n ≡ nowAt code blocks here home p
-        → Succeeds w cells′ area blocks nexts firsts starts targets looked table n
+        → Succeeds w cells′ area blocks nexts links firsts starts targets looked table n
     jumped-on {home} {p} e {n} is =
         let m = means-as e in
         let l = jumped (w .standing) home p (m .0) in
         let ends = ready.end-found (w .standing) home (l .frame) (l .stands) in
-        subst (λ (v : List ℤ). Succeeds w v area blocks nexts firsts starts targets looked table n) (sym (m .1))
-        (subst (λ (v : Registers). Succeeds w cells area blocks nexts firsts starts targets looked table v)
+        subst (λ (v : List ℤ). Succeeds w v area blocks nexts links firsts starts targets looked table n) (sym (m .1))
+        (subst (λ (v : Registers). Succeeds w cells area blocks nexts links firsts starts targets looked table v)
         ((λ i. goesTo here home p (sym ends i) (here .pairs)) ∙ sym is)
         (goes-on w (l .standing) (l .follows) (l .home-high) (λ k q. (refl, refl))))
 
@@ -158,15 +158,15 @@ module _ {code names : List ℕ} {activations limit : ℕ} {cells : List ℤ} {a
     pub enter-ready : here .fresh + 32 * 1 + 32 ≤ 4294967296 → {body link back : ℕ} → r ≡ EnterBy body link back → Enterable code names area width here body link back
     enter-ready few {body} {link} {back} e = enterable w body link back cells′ (enters e) (omega arith)
 
-    pub entered-on : {body link back : ℕ} → r ≡ EnterBy body link back → {cells″ : List ℤ} {area′ blocks′ nexts′ firsts′ starts′ targets′ looked′ : List ℕ} {n : Registers}
-        → AnewIn code names width here body link back cells′ area blocks nexts firsts starts targets looked cells″ area′ blocks′ nexts′ firsts′ starts′ targets′ looked′ n
-        → Succeeds w cells″ area′ blocks′ nexts′ firsts′ starts′ targets′ looked′ table n
-    entered-on {body} {link} {back} e {cells″} {area′} {blocks′} {nexts′} {firsts′} {starts′} {targets′} {looked′} {n} k =
-        enters-on w body link back cells′ (enters e) cells″ area′ blocks′ nexts′ firsts′ starts′ targets′ looked′ n k
+    pub entered-on : {body link back : ℕ} → r ≡ EnterBy body link back → {cells″ : List ℤ} {area′ blocks′ nexts′ links′ firsts′ starts′ targets′ looked′ : List ℕ} {n : Registers}
+        → AnewIn code names width here body link back cells′ area blocks nexts links firsts starts targets looked cells″ area′ blocks′ nexts′ links′ firsts′ starts′ targets′ looked′ n
+        → Succeeds w cells″ area′ blocks′ nexts′ links′ firsts′ starts′ targets′ looked′ table n
+    entered-on {body} {link} {back} e {cells″} {area′} {blocks′} {nexts′} {links′} {firsts′} {starts′} {targets′} {looked′} {n} k =
+        enters-on w body link back cells′ (enters e) cells″ area′ blocks′ nexts′ links′ firsts′ starts′ targets′ looked′ n k
 
     -- A cause to stop
 
     pub stopped-at : {c : Cause} → r ≡ StopFor c
-        → Stops (limitsBy activations limit) (w .standing .stack) c (arraysOf cells area blocks nexts firsts starts targets looked table)
-        (arraysOf cells′ area blocks nexts firsts starts targets looked table)
+        → Stops (limitsBy activations limit) (w .standing .stack) c (arraysOf cells area blocks nexts links firsts starts targets looked table)
+        (arraysOf cells′ area blocks nexts links firsts starts targets looked table)
     stopped-at {c} e = let m = means-as e in stops c cells′ table (m .0, m .1, refl)

@@ -52,8 +52,8 @@ module _ (σs : List Replacement) (v n : ℕ) where
       let u : leb (levelIn v) (length σs) ≡ true = le-leb (levelIn v) (length σs) h in
       rw (reading, t, u)
 
-module _ {code names : List ℕ} {activations limit : ℕ} {cells : List ℤ} {area : List ℕ} {width : ℕ} {blocks nexts firsts starts targets looked : List ℕ} {table : List ℤ} {here : Registers}
-    (w : Running code names activations limit cells area width blocks nexts firsts starts targets looked table here) where
+module _ {code names : List ℕ} {activations limit : ℕ} {cells : List ℤ} {area : List ℕ} {width : ℕ} {blocks nexts links firsts starts targets looked : List ℕ} {table : List ℤ} {here : Registers}
+    (w : Running code names activations limit cells area width blocks nexts links firsts starts targets looked table here) where
   -- what the next statement is read from, and what it finds
   abbrev pub copyOf : Copy
   copyOf = record { area = area; base = here .live * width; firsts = firsts; starts = starts; targets = targets }

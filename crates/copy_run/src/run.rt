@@ -60,6 +60,7 @@ pub fn step(
     width: usize,
     blocks: &mut [u16; 256],
     nexts: &mut [u16; 256],
+    links: &mut [u16; 256],
     firsts: &mut [u32; 256],
     starts: &mut [u16; 256],
     targets: &mut [u16; 8224],
@@ -69,12 +70,12 @@ pub fn step(
     activations: usize,
     here: Registers,
 ) -> Turn
-    requires { ⌜ Ready (now code) (now names) activations limit (now cells) (now area) width (now blocks) (now nexts) (now firsts) (now starts)
+    requires { ⌜ Ready (now code) (now names) activations limit (now cells) (now area) width (now blocks) (now nexts) (now links) (now firsts) (now starts)
         (now targets) (now looked) (now table) here 1 ⌝ }
     ensures { λ r.
         ⌜ ((w : Running (now (code .entry)) (now (names .entry)) activations limit (now (cells .entry)) (now (area .entry)) width (now (blocks .entry)) (now (nexts .entry))
-        (now (firsts .entry)) (now (starts .entry)) (now (targets .entry)) (now (looked .entry)) (now (table .entry)) here)
-        → Turned w r (now (cells .exit)) (now (area .exit)) (now (blocks .exit)) (now (nexts .exit)) (now (firsts .exit)) (now (starts .exit))
+        (now (links .entry)) (now (firsts .entry)) (now (starts .entry)) (now (targets .entry)) (now (looked .entry)) (now (table .entry)) here)
+        → Turned w r (now (cells .exit)) (now (area .exit)) (now (blocks .exit)) (now (nexts .exit)) (now (links .exit)) (now (firsts .exit)) (now (starts .exit))
         (now (targets .exit)) (now (looked .exit)) (now (table .exit))) ⌝ }
 {
     let live = here.live;
@@ -108,6 +109,7 @@ pub fn step(
             width,
             blocks,
             nexts,
+            links,
             firsts,
             starts,
             targets,
@@ -143,7 +145,8 @@ fn settle(
     designator
 }
 
-// From any state in which the engine can stand, with new names for so many steps.
+// From any state in which the engine can stand, with new names for so many steps. What the copies and their names are afterwards is the engine's own and is
+// not said; the area keeps its length.
 pub fn run(
     code: &[u32; 4096],
     names: &[u32; 4096],
@@ -152,6 +155,7 @@ pub fn run(
     width: usize,
     blocks: &mut [u16; 256],
     nexts: &mut [u16; 256],
+    links: &mut [u16; 256],
     firsts: &mut [u32; 256],
     starts: &mut [u16; 256],
     targets: &mut [u16; 8224],
@@ -162,12 +166,12 @@ pub fn run(
     allowance: u32,
     start: Registers,
 ) -> Halt
-    requires { ⌜ Ready (now code) (now names) activations limit (now cells) (now area) width (now blocks) (now nexts) (now firsts) (now starts)
+    requires { ⌜ Ready (now code) (now names) activations limit (now cells) (now area) width (now blocks) (now nexts) (now links) (now firsts) (now starts)
         (now targets) (now looked) (now table) start allowance ⌝ }
     ensures { λ r.
         ⌜ ((w : Running (now (code .entry)) (now (names .entry)) activations limit (now (cells .entry)) (now (area .entry)) width (now (blocks .entry)) (now (nexts .entry))
-        (now (firsts .entry)) (now (starts .entry)) (now (targets .entry)) (now (looked .entry)) (now (table .entry)) start)
-        → RunFrom w allowance r (now (cells .exit)) (now (blocks .exit)) (now (nexts .exit)) (now (table .exit))) ⌝ }
+        (now (links .entry)) (now (firsts .entry)) (now (starts .entry)) (now (targets .entry)) (now (looked .entry)) (now (table .entry)) start)
+        → RunFrom w allowance r (now (cells .exit)) (now (blocks .exit)) (now (nexts .exit)) (now (links .exit)) (now (table .exit))) ⌝ }
 {
     let mut here = start;
     let mut left = allowance;
@@ -180,6 +184,7 @@ pub fn run(
             width,
             blocks,
             nexts,
+            links,
             firsts,
             starts,
             targets,
@@ -213,19 +218,20 @@ pub fn run_program(
     area: &mut [u32],
     blocks: &mut [u16; 256],
     nexts: &mut [u16; 256],
+    links: &mut [u16; 256],
     table: &mut [i32],
     pairs: usize,
     limit: u32,
     activations: usize,
     allowance: u32,
 ) -> Halt
-    requires { ⌜ Beginning (now script) (now code) (now names) (now cells) (now area) (now blocks) (now nexts) (now table) pairs limit activations allowance ⌝ }
+    requires { ⌜ Beginning (now script) (now code) (now names) (now cells) (now area) (now blocks) (now nexts) (now links) (now table) pairs limit activations allowance ⌝ }
     ensures { λ r.
         ⌜ ((b : Beginning (now (script .entry)) (now (code .entry)) (now (names .entry)) (now (cells .entry)) (now (area .entry)) (now (blocks .entry)) (now (nexts .entry))
-        (now (table .entry)) pairs limit activations allowance)
+        (now (links .entry)) (now (table .entry)) pairs limit activations allowance)
         → Ended (b .begun .program) (b .begun .name) activations limit
         (frameRun (limitsBy activations limit) allowance (frameStart (b .begun .program) (record { words = now (table .entry); used = pairs })))
-        r (now (cells .exit)) (now (blocks .exit)) (now (nexts .exit)) (now (table .exit))) ⌝ }
+        r (now (cells .exit)) (now (blocks .exit)) (now (nexts .exit)) (now (links .exit)) (now (table .exit))) ⌝ }
 {
     let width = script.len() / 2;
     let mut firsts = [0u32; 256];
@@ -250,6 +256,7 @@ pub fn run_program(
         width,
         blocks,
         nexts,
+        links,
         &mut firsts,
         &mut starts,
         &mut targets,

@@ -36,7 +36,7 @@ fn ran(script: &[u8], numbers: CallNumbers, table: &mut [i32], sheet: &mut [i32]
         numbers.n,
     );
     let live = halt.live;
-    let written = run_sheet::write_sheet(&code, &cells, &blocks, &nexts, live, sheet);
+    let written = run_sheet::write_sheet(&code, &cells, &blocks, &nexts, &links, live, sheet);
     let end = halt.end;
     call_answers::ran_answer(
         end,

@@ -54,7 +54,7 @@ pub const SHARE: usize = 32;
 
 pub const CELLS: usize = 8192;
 
-pub const SHEET_SHARE: usize = 34;
+pub const SHEET_SHARE: usize = 35;
 
 // A name's position in its block.
 pub fn position_of(word: usize) -> usize

@@ -95,7 +95,7 @@ fn read(row: Row, letter: u8, script: &mut [u8], fed: &mut [u32; 128]) -> Row {
 
 // A line each: the whole answer, the sheet, the table.
 fn report(engine: Engine, script: &[u8], fed: [u32; 128], table: &mut [i32]) {
-    let mut sheet = [0i32; 8704];
+    let mut sheet = [0i32; 8960];
     let count = (fed[COUNT] % 9) as usize;
     let name = (fed[NAME] % 65536) as u16;
     let answer = call(

@@ -109,12 +109,16 @@ module _ (own ws base before sheet : List ℤ) (at i : ℕ) (z : ℤ) (n : lengt
       (λ j. set (q j) (a j) (v j)) ∙ written-more (ws ++ take i own) base (getD own i (pos 0)) (omega arith)
       ∙ ap (λ (x : List ℤ). written x base) (append-assoc ws (take i own) (getD own i (pos 0) ∷ []) ∙ ap (λ (x : List ℤ). ws ++ x) (sym (take-suc own i (pos 0) l) ∙ ap (λ k. take k own) (sym (add-one i))))
 
--- two words before them
-pub heads : (ws base sheet : List ℤ) (at : ℕ) (a b : ℤ) → sheet ≡ written ws base → length ws ≡ at → at + 2 ≤ length sheet → set (set sheet at a) (at + 1) b ≡ written (ws ++ (a ∷ b ∷ [])) base
+-- three words before them
+pub heads : (ws base sheet : List ℤ) (at : ℕ) (a b c : ℤ) → sheet ≡ written ws base → length ws ≡ at → at + 3 ≤ length sheet
+    → set (set (set sheet at a) (at + 1) b) (at + 2) c ≡ written (ws ++ (a ∷ b ∷ c ∷ [])) base
 unfolding written
-heads ws base sheet at a b e n room =
+heads ws base sheet at a b c e n room =
     let l : length sheet ≡ length ws + (length base - length ws) = ap length e ∙ length-append ws (drop (length ws) base) ∙ ap (λ m. length ws + m) (length-drop (length ws) base) in
     let k : at ≡ length ws = sym n in
     let p : set sheet at a ≡ written (ws ++ (a ∷ [])) base = (λ j. set (e j) (k j) a) ∙ written-more ws base a (omega arith) in
     let m : at + 1 ≡ length (ws ++ (a ∷ [])) = omega (arith, length-append ws (a ∷ [])) in
-    (λ j. set (p j) (m j) b) ∙ written-more (ws ++ (a ∷ [])) base b (omega (arith, length-append ws (a ∷ []))) ∙ ap (λ (x : List ℤ). written x base) (append-assoc ws (a ∷ []) (b ∷ []))
+    let q : set (set sheet at a) (at + 1) b ≡ written (ws ++ (a ∷ b ∷ [])) base =
+    (λ j. set (p j) (m j) b) ∙ written-more (ws ++ (a ∷ [])) base b (omega (arith, length-append ws (a ∷ []))) ∙ ap (λ (x : List ℤ). written x base) (append-assoc ws (a ∷ []) (b ∷ [])) in
+    let o : at + 2 ≡ length (ws ++ (a ∷ b ∷ [])) = omega (arith, length-append ws (a ∷ b ∷ [])) in
+    (λ j. set (q j) (o j) c) ∙ written-more (ws ++ (a ∷ b ∷ [])) base c (omega (arith, length-append ws (a ∷ b ∷ []))) ∙ ap (λ (x : List ℤ). written x base) (append-assoc ws (a ∷ b ∷ []) (c ∷ []))

@@ -1,4 +1,4 @@
-// The sheet, written from an engine's arrays: the resolved script, 32 words for each activation, the place of its block and of its next statement.
+// The sheet, written from an engine's arrays: the resolved script, 32 words for each activation, the place of its block and of its next statement, its link.
 use layout::BLOCK;
 use layout::CALL;
 use layout::SHARE;
@@ -27,7 +27,7 @@ ghost use Rattle.arrays.specs.Holds.{designatorOf};
 ghost use Rattle.resolved.specs.Layout.{cellIn};
 ghost use Rattle.run_sheet.specs.Sizes.{plainSize, sizeAt, Readable};
 ghost use Rattle.run_sheet.specs.Shown.{Counts, Countable, Owned, Shown};
-ghost use Rattle.run_sheet.specs.Held.{Held};
+ghost use Rattle.run_sheet.specs.Held.{encloserBy, Held};
 ghost use Rattle.run_sheet.specs.Named.{lookedUpBy, Nameable};
 
 // Four bits for each operation, from CONSTANT on: how many words its statement takes.
@@ -132,26 +132,39 @@ fn write_names(
     }
 }
 
+// The number of the activation that encloses activation k, by k's link; the program's link is none.
+pub fn encloser_of(k: usize, link: usize) -> usize
+    requires { ⌜ link < 4294967296 ⌝ }
+    ensures { λ r. ⌜ r ≡ encloserBy k link ⌝ }
+{
+    if k == 0 {
+        return 0;
+    }
+    link + 1
+}
+
 // One activation from `at` on; what comes after it.
 pub fn write_activation(
     code: &[u32; 4096],
     cells: &[i32; 8224],
     block: usize,
     next: usize,
+    encloser: usize,
     first: usize,
     sheet: &mut [i32],
     at: usize,
 ) -> usize
-    requires { ⌜ ((number : ℕ) × (own : List ℤ) × Shown (now code) (now cells) block next first number own × (at + 2 + length own ≤ length (now sheet))) ⌝ }
-    ensures { λ r. ⌜ ((number : ℕ) (own ws base : List ℤ) → Shown (now (code .entry)) (now (cells .entry)) block next first number own → now (sheet .entry) ≡ written ws base → length ws ≡ at → (now (sheet .exit) ≡ written (ws ++ (pos (2 * block) ∷ pos number ∷ own)) base) × (r ≡ at + 2 + length own)) ⌝ }
+    requires { ⌜ ((number : ℕ) × (own : List ℤ) × Shown (now code) (now cells) block next first number own × (at + 3 + length own ≤ length (now sheet)) × (encloser < 2147483648)) ⌝ }
+    ensures { λ r. ⌜ ((number : ℕ) (own ws base : List ℤ) → Shown (now (code .entry)) (now (cells .entry)) block next first number own → now (sheet .entry) ≡ written ws base → length ws ≡ at → (now (sheet .exit) ≡ written (ws ++ (pos (2 * block) ∷ pos number ∷ pos encloser ∷ own)) base) × (r ≡ at + 3 + length own)) ⌝ }
     ensures { λ _. ⌜ length (now (sheet .exit)) ≡ length (now (sheet .entry)) ⌝ }
 {
     let head = code_at(code, block);
     let names = names_of(head);
     sheet[at] = word_of(2 * block);
     sheet[at + 1] = word_of(number_of(code, block, next));
-    write_names(cells, first, formals_of(head), names, sheet, at + 2);
-    at + 2 + names
+    sheet[at + 2] = word_of(encloser);
+    write_names(cells, first, formals_of(head), names, sheet, at + 3);
+    at + 3 + names
 }
 
 // The sheet of `live` activations, outermost first; how many words it takes.
@@ -160,12 +173,13 @@ pub fn write_sheet(
     cells: &[i32; 8224],
     blocks: &[u16; 256],
     nexts: &[u16; 256],
+    links: &[u16; 256],
     live: usize,
     sheet: &mut [i32],
 ) -> usize
-    requires { ⌜ ((fs : List Frame) × Held (now code) (now cells) (now blocks) (now nexts) fs × (length fs ≡ live)) ⌝ }
+    requires { ⌜ ((fs : List Frame) × Held (now code) (now cells) (now blocks) (now nexts) (now links) fs × (length fs ≡ live)) ⌝ }
     requires { ⌜ sheetShare * live ≤ length (now sheet) ⌝ }
-    ensures { λ r. ⌜ ((fs : List Frame) → Held (now (code .entry)) (now (cells .entry)) (now (blocks .entry)) (now (nexts .entry)) fs → length fs ≡ live → (now (sheet .exit) ≡ written (frameSheet fs) (now (sheet .entry))) × (r ≡ length (frameSheet fs))) ⌝ }
+    ensures { λ r. ⌜ ((fs : List Frame) → Held (now (code .entry)) (now (cells .entry)) (now (blocks .entry)) (now (nexts .entry)) (now (links .entry)) fs → length fs ≡ live → (now (sheet .exit) ≡ written (frameSheet fs) (now (sheet .entry))) × (r ≡ length (frameSheet fs))) ⌝ }
 {
     let mut at = 0;
     let mut k = 0;
@@ -175,6 +189,7 @@ pub fn write_sheet(
             cells,
             from_u16(blocks[k]),
             from_u16(nexts[k]),
+            encloser_of(k, from_u16(links[k])),
             SHARE * k,
             sheet,
             at,

@@ -22,11 +22,6 @@ abbrev pub EndedFrom : ℕ → Block → ℕ → Limits → Result → Halt → 
 EndedFrom done program name l result r cells blocks nexts links table =
     steps.EndedFrom done program name l result (r .end) (r .steps) (r .offset) (r .pairs) (r .live) (r .designator) cells blocks nexts links table
 
--- of an engine that keeps no links
-pub record EndedUnlinked (done : ℕ) (program : Block) (name : ℕ) (l : Limits) (result : Result) (r : Halt) (cells : List ℤ) (blocks nexts : List ℕ) (table : List ℤ) : Type 0 where
-  pub links : List ℕ
-  pub ended : EndedFrom done program name l result r cells blocks nexts links table
-
 abbrev pub RunFrom : {code : List ℕ} {l : Limits} {cells : List ℤ} {blocks nexts links : List ℕ} {table : List ℤ} {pairs live at end : ℕ}
     → Standing code l cells blocks nexts links table pairs live at end → ℕ → Halt → List ℤ → List ℕ → List ℕ → List ℕ → List ℤ → Type 0
 RunFrom {l = l} w allowance r cells′ blocks′ nexts′ links′ table′ =

@@ -1,4 +1,4 @@
-// The search engine's call: admission, the resolved script, its names' numbers, the run, the sheet, the answer.
+// The search engine's call: admission, the resolved script, its names' numbers, the run, the links of what it leaves, the sheet, the answer.
 use call_admission::Area;
 use call_admission::CallNumbers;
 use language::Answer;
@@ -39,7 +39,9 @@ fn ran(script: &[u8], numbers: CallNumbers, table: &mut [i32], sheet: &mut [i32]
         numbers.n,
     );
     let live = halt.live;
-    let written = run_sheet::write_sheet(&code, &cells, &blocks, &nexts, live, sheet);
+    let mut links = [0u16; 256];
+    search_links::find_links(&code, &blocks, &froms, live, &mut links);
+    let written = run_sheet::write_sheet(&code, &cells, &blocks, &nexts, &links, live, sheet);
     let end = halt.end;
     call_answers::ran_answer(
         end,

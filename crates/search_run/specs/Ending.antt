@@ -12,8 +12,11 @@ use lib.ListN.{length, getD, set, getElem?, replicate}
 use Rattle.language.specs.Text.{procedure, Formal, Block}
 use Rattle.language.specs.Table.{Table}
 use Rattle.language.specs.declared.Stop.{Stop}
+use Rattle.language.specs.declared.End.{End}
+use Rattle.language.specs.declared.End.the-variants.{Spent}
+use Rattle.language.specs.declared.End.the-variants as End
 use Rattle.laws.specs.Tests.{none≢some, some-inj}
-use Rattle.frames.specs.Frame.{Frame, Stack, designates, halted, frameStep, frameRun, frameStart, newFrame}
+use Rattle.frames.specs.Frame.{Frame, Stack, Result, results, designates, halted, frameStep, frameRun, frameStart, newFrame}
 use Rattle.f_search.specs.Passers.{passer}
 use Rattle.f_search.specs.Search.{onward}
 use Rattle.f_search.specs.Kept.{call-program, through-none, passerOf-none, onward-none}
@@ -22,6 +25,7 @@ use Rattle.steps.specs.Here.{live-few, downward}
 use Rattle.steps.specs.Reads.{at-within, begin-reads}
 use Rattle.steps.specs.Begun.{AtStart, resultFrom}
 use Rattle.steps.specs.Loop.{begins}
+use Rattle.steps.specs.Loop as loop
 use Rattle.steps.specs.Underway as steps
 use Rattle.resolved.specs.Resolved.{Covers}
 use Rattle.search_numbers.specs.NumberFields.{numberedOf}
@@ -31,17 +35,17 @@ use Rattle.run_state.specs.declared.Turn.the-variants.{Went, Finished, Stopped}
 use Rattle.run_state.specs.declared.Halt.{Halt}
 use Rattle.run_state.specs.Limits.{limitsBy, goesTo}
 use Rattle.run_state.specs.Halts.{finishedAfter, spentAfter, stoppedAfter, namedBy}
-use Rattle.run_state.specs.Ended.{EndedUnlinked, from-start, finished-end, spent-end, stopped-end}
+use Rattle.run_state.specs.Ended.{from-start, finished-end, spent-end, stopped-end}
 use Rattle.search_moves.specs.Running.{Froms, Passers, Running}
 use Rattle.search_step.specs.Turning.{Arrays, arraysOf, Turned, TurnsTo}
-use Rattle.search_run.specs.Program.{Beginning, Ended, startBy}
+use Rattle.search_run.specs.Program.{Beginning, EndedIn, Ended, startBy}
 use Rattle.search_run.specs.Looked.{Looking}
 
 abbrev pub RunFrom : {code numbers : List ℕ} {activations limit : ℕ} {cells : List ℤ} {passers blocks nexts froms : List ℕ} {table : List ℤ} {start : Registers}
-    → Running code numbers activations limit cells passers blocks nexts froms table start → ℕ → Halt → List ℤ → List ℕ → List ℕ → List ℤ → Type 0
-RunFrom {activations = activations} {limit = limit} w allowance r cells′ blocks′ nexts′ table′ =
+    → Running code numbers activations limit cells passers blocks nexts froms table start → ℕ → Halt → List ℤ → List ℕ → List ℕ → List ℕ → List ℤ → Type 0
+RunFrom {activations = activations} {limit = limit} w allowance r cells′ blocks′ nexts′ froms′ table′ =
     let s = w .standing in
-    EndedUnlinked (s .stack .steps) (s .program) (s .name) (limitsBy activations limit) (frameRun (limitsBy activations limit) allowance (s .stack)) r cells′ blocks′ nexts′ table′
+    EndedIn (s .stack .steps) (s .program) (s .name) (limitsBy activations limit) (frameRun (limitsBy activations limit) allowance (s .stack)) r cells′ blocks′ nexts′ froms′ table′
 
 abbrev pub RunsIn : List ℕ → List ℕ → ℕ → ℕ → Arrays → Registers → Type 0
 RunsIn code numbers activations limit a here = Running code numbers activations limit (a .cells) (a .passers) (a .blocks) (a .nexts) (a .froms) (a .table) here
@@ -61,23 +65,48 @@ module _ {code numbers : List ℕ} {activations limit : ℕ} {before : Arrays} {
   looks : Looking code numbers (a .cells) (a .blocks) (a .froms) (here .live)
   looks = record { passers = a .passers; nexts = a .nexts; activations = activations; limit = limit; table = a .table; registers = here; running = u .running }
 
+  -- the frames that are left, where activations are left live
+  froms-left : (e : End) (offset : ℕ) → frameRun (limitsBy activations limit) allowance (w .standing .stack) ≡ results e offset (u .running .standing .stack)
+      → Froms ((frameRun (limitsBy activations limit) allowance (w .standing .stack)) .final .frames) (a .froms)
+  unfolding results
+  froms-left e offset q = subst (λ (x : Result). Froms (x .final .frames) (a .froms)) (sym q) (u .running .froms-are)
+
   -- the ends that leave activations live
   module _ (nexts″ : List ℕ) (noted : nexts″ ≡ set (a .nexts) (here .live) (here .at)) (designator : ℕ)
       (found : (v : Looking code numbers (a .cells) (a .blocks) (a .froms) (here .live))
       → designator ≡ designates (v .running .standing .stack .frames) (v .running .standing .name)) (halt r : Halt)
       (named : r ≡ namedBy halt designator 0) where
     abbrev Ends : Type 0
-    Ends = RunFrom w allowance r (a .cells) (a .blocks) nexts″ (a .table)
+    Ends = RunFrom w allowance r (a .cells) (a .blocks) nexts″ (a .froms) (a .table)
 
     spends : left ≡ 0 → halt ≡ spentAfter here allowance → Ends
     unfolding looks
-    spends z is = record { links = u .running .links; ended = spent-end here (u .running .standing) (u .underway) nexts″ noted designator (found looks) 0 halt r named z is }
+    spends z is =
+        record {
+          links = u .running .links;
+          ended = spent-end here (u .running .standing) (u .underway) nexts″ noted designator (found looks) 0 halt r named z is;
+          froms-are = froms-left Spent 0 (u .underway .runs ∙ ap (λ n. frameRun (limitsBy activations limit) n (u .running .standing .stack)) z ∙ loop.spent (u .running .standing));
+        }
 
     stops : (c : Stop) → frameStep (limitsBy activations limit) (u .running .standing .stack) ≡ halted c → 1 ≤ left
         → halt ≡ stoppedAfter here c (allowance - left) → Ends
     unfolding looks
     stops c stop more is =
-        record { links = u .running .links; ended = stopped-end here (u .running .standing) (u .underway) nexts″ noted designator (found looks) 0 halt r named c stop more is }
+        let one : left ≡ suc (left - 1) = omega arith in
+        record {
+          links = u .running .links;
+          ended = stopped-end here (u .running .standing) (u .underway) nexts″ noted designator (found looks) 0 halt r named c stop more is;
+          froms-are = froms-left (End.Stopped c) (2 * here .at)
+              (u .underway .runs ∙ ap (λ n. frameRun (limitsBy activations limit) n (u .running .standing .stack)) one ∙ loop.stops (u .running .standing) (left - 1) c stop);
+        }
+
+  -- none are left where the program has ended
+  none-left : here .at ≡ here .end → here .live ≡ 0 → 1 ≤ left → (froms′ : List ℕ) → Froms ((frameRun (limitsBy activations limit) allowance (w .standing .stack)) .final .frames) froms′
+  unfolding results
+  none-left ended alone more froms′ =
+      let one : left ≡ suc (left - 1) = omega arith in
+      let q = u .underway .runs ∙ ap (λ n. frameRun (limitsBy activations limit) n (u .running .standing .stack)) one ∙ loop.finishes (u .running .standing) ended alone (left - 1) in
+      λ k f e. none≢some (sym (ap (λ (x : Result). getElem? (x .final .frames) k) q) ∙ e)
 
 -- so it is from whichever state it began, and the table is as long as it was
 pub record Goes (code numbers : List ℕ) (activations limit : ℕ) (before : Arrays) (start : Registers) (allowance : ℕ) (a : Arrays) (here : Registers) (left : ℕ) : Type 0 where
@@ -109,7 +138,7 @@ module _ {code numbers : List ℕ} {activations limit : ℕ} {before : Arrays} {
   pub spent : {nexts″ : List ℕ} → nexts″ ≡ set (a .nexts) (here .live) (here .at) → {designator : ℕ}
       → ((v : Looking code numbers (a .cells) (a .blocks) (a .froms) (here .live)) → designator ≡ designates (v .running .standing .stack .frames) (v .running .standing .name))
       → {halt r : Halt} → r ≡ namedBy halt designator 0 → left ≤ 0 → halt ≡ spentAfter here allowance
-      → RunFrom w allowance r (a .cells) (a .blocks) nexts″ (a .table)
+      → RunFrom w allowance r (a .cells) (a .blocks) nexts″ (a .froms) (a .table)
   spent noted found named none is = spends (goes .going w) _ noted _ found _ _ named (omega arith) is
 
   module _ {t : Turn} {after : Arrays} (turns : TurnsTo code numbers activations limit a here t after) where
@@ -123,13 +152,14 @@ module _ {code numbers : List ℕ} {activations limit : ℕ} {before : Arrays} {
         record { running = m .running; underway = steps.went (goes .going w .running .standing) (goes .going w .underway) (m .running .standing) (m .follows) h }
 
     pub finished-as : t ≡ Finished → 1 ≤ left → {r : Halt} → r ≡ finishedAfter here (allowance - left + 1)
-        → RunFrom w allowance r (after .cells) (after .blocks) (after .nexts) (after .table)
+        → RunFrom w allowance r (after .cells) (after .blocks) (after .nexts) (after .froms) (after .table)
     finished-as e h {r} is =
         let m = turned-as Finished e in
         record {
           links = [];
           ended = finished-end here (goes .going w .running .standing) (goes .going w .underway) (m .ended) (m .alone) h (after .cells) (after .blocks) (after .nexts) [] (after .table)
               (m .same-cells) (m .same-table) r is;
+          froms-are = none-left (goes .going w) (m .ended) (m .alone) h (after .froms);
         }
 
     -- a statement that stops leaves all as it was
@@ -149,7 +179,7 @@ module _ {code numbers : List ℕ} {activations limit : ℕ} {before : Arrays} {
       pub stopped : {nexts‴ : List ℕ} → nexts‴ ≡ set (after .nexts) (here .live) (here .at) → {designator : ℕ}
           → ((v : Looking code numbers (after .cells) (after .blocks) (after .froms) (here .live)) → designator ≡ designates (v .running .standing .stack .frames) (v .running .standing .name))
           → {halt r : Halt} → r ≡ namedBy halt designator 0 → 1 ≤ left → halt ≡ stoppedAfter here c (allowance - left)
-          → RunFrom w allowance r (after .cells) (after .blocks) nexts‴ (after .table)
+          → RunFrom w allowance r (after .cells) (after .blocks) nexts‴ (after .froms) (after .table)
       stopped noted found named more is = stops (stays .0) _ noted _ found _ _ named c (stays .1) more is
 
 module _ {code numbers : List ℕ} {activations limit : ℕ} {before : Arrays} {start : Registers} {allowance : ℕ} {a : Arrays} {here : Registers} {left : ℕ} where
@@ -204,10 +234,14 @@ module _ {code numbers : List ℕ} {cells : List ℤ} {passers blocks nexts from
     pub starts : Running code numbers activations limit cells passers blocks nexts froms table start
     starts = begins-there .running
 
-    pub program-run : (allowance : ℕ) (r : Halt) (cells′ : List ℤ) (blocks′ nexts′ : List ℕ) (table′ : List ℤ)
-        → ((w : Running code numbers activations limit cells passers blocks nexts froms table start) → RunFrom w allowance r cells′ blocks′ nexts′ table′)
-        → Ended (b .begun .program) (b .begun .name) activations limit (resultFrom (b .begun) allowance) r cells′ blocks′ nexts′ table′
-    program-run allowance r cells′ blocks′ nexts′ table′ k =
+    pub program-run : (allowance : ℕ) (r : Halt) (cells′ : List ℤ) (blocks′ nexts′ froms′ : List ℕ) (table′ : List ℤ)
+        → ((w : Running code numbers activations limit cells passers blocks nexts froms table start) → RunFrom w allowance r cells′ blocks′ nexts′ froms′ table′)
+        → Ended (b .begun .program) (b .begun .name) activations limit (resultFrom (b .begun) allowance) r cells′ blocks′ nexts′ froms′ table′
+    program-run allowance r cells′ blocks′ nexts′ froms′ table′ k =
         let s = begins-there in
         let e = k (s .running) in
-        record { links = e .links; ended = from-start (s .running .standing) (s .at-start) allowance r (e .ended) }
+        record {
+          links = e .links;
+          ended = from-start (s .running .standing) (s .at-start) allowance r (e .ended);
+          froms-are = subst (λ (v : Stack). Froms ((frameRun (limitsBy activations limit) allowance v) .final .frames) froms′) (s .at-start .stack-is) (e .froms-are);
+        }

@@ -1,3 +1,4 @@
 pub mod Program
 pub mod Looked
 pub mod Ending
+pub mod Linked

@@ -60,7 +60,7 @@ fn settle(
     looked_up(code, numbers, cells, blocks, froms, here.live)
 }
 
-// From any state in which the engine can stand. What the passers and the search's records are afterwards is the engine's own and is not said.
+// From any state in which the engine can stand. What the passers are afterwards is the engine's own and is not said.
 pub fn run(
     code: &[u32; 4096],
     numbers: &[u32; 4096],
@@ -78,7 +78,7 @@ pub fn run(
     requires { ⌜ Running (now code) (now numbers) activations limit (now cells) (now passers) (now blocks) (now nexts) (now froms) (now table) start ⌝ }
     ensures { λ r.
         ⌜ ((w : Running (now (code .entry)) (now (numbers .entry)) activations limit (now (cells .entry)) (now (passers .entry)) (now (blocks .entry)) (now (nexts .entry)) (now (froms .entry)) (now (table .entry)) start)
-        → RunFrom w allowance r (now (cells .exit)) (now (blocks .exit)) (now (nexts .exit)) (now (table .exit))) ⌝ }
+        → RunFrom w allowance r (now (cells .exit)) (now (blocks .exit)) (now (nexts .exit)) (now (froms .exit)) (now (table .exit))) ⌝ }
 {
     let mut here = start;
     let mut left = allowance;
@@ -153,7 +153,7 @@ pub fn run_program(
         ⌜ ((b : Beginning (now (code .entry)) (now (numbers .entry)) (now (cells .entry)) (now (passers .entry)) (now (blocks .entry)) (now (nexts .entry)) (now (froms .entry)) (now (table .entry)) pairs limit activations)
         → Ended (b .begun .program) (b .begun .name) activations limit
         (frameRun (limitsBy activations limit) allowance (frameStart (b .begun .program) (record { words = now (table .entry); used = pairs })))
-        r (now (cells .exit)) (now (blocks .exit)) (now (nexts .exit)) (now (table .exit))) ⌝ }
+        r (now (cells .exit)) (now (blocks .exit)) (now (nexts .exit)) (now (froms .exit)) (now (table .exit))) ⌝ }
 {
     let start = begin(code, pairs);
     run(

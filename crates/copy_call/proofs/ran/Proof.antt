@@ -20,7 +20,7 @@ use Rattle.copy_call.proofs.ran.Tie as tie
 
 -- the places: where the words of names are found, where the script is resolved, its bytes, where the run returns, where the sheet is written
 abbrev namesAt : tie.After-struct-known2 → tie.After-name-fields
-namesAt c = c .before .before .before .before .before .before .before .before
+namesAt c = c .before .before .before .before .before .before .before .before .before
 
 abbrev resolvedAt : tie.After-name-fields → tie.After-resolve
 resolvedAt c = c .before .before .before .before
@@ -32,7 +32,7 @@ abbrev startAt : tie.After-resolve → tie.Start
 startAt c = knownAt c .before
 
 abbrev ranAt : tie.After-write-sheet-arg → tie.After-run-program
-ranAt c = c .before .before .before .before .before .before .before .before
+ranAt c = c .before .before .before .before .before .before .before .before .before
 
 abbrev writtenAt : tie.After-ran-answer → tie.After-write-sheet
 writtenAt c = c .before .before
@@ -67,7 +67,7 @@ write-sheet-requires c κs =
     let z = resolvedAt g in
     let p = (startAt z) .pre in
     let covers = resolved-covers _ _ _ (z .resolve .ensures) _ (p .1 .script) in
-    sheet-needs (bytesAt z) (p .1) covers (u .run-program .ensures (beginning (areaAt z) (bytesAt z) (nameAt z .fits) (p .1) covers (g .name-fields .ensures .0)) .ended)
+    sheet-needs (bytesAt z) (p .1) covers (u .run-program .ensures (beginning (areaAt z) (bytesAt z) (nameAt z .fits) (p .1) covers (g .name-fields .ensures .0)))
 
 ran-answer-requires : tie.Need-ran-answer-requires
 ran-answer-requires c κs = tally-fits ((startAt (resolvedAt (namesAt (ranAt (c .before .before) .before)))) .pre .1)
@@ -81,7 +81,7 @@ returns c =
     let z = resolvedAt g in
     let p = (startAt z) .pre in
     let covers = resolved-covers _ _ _ (z .resolve .ensures) _ (p .1 .script) in
-    run-replies (bytesAt z) (p .1) covers (u .run-program .ensures (beginning (areaAt z) (bytesAt z) (nameAt z .fits) (p .1) covers (g .name-fields .ensures .0)) .ended)
+    run-replies (bytesAt z) (p .1) covers (u .run-program .ensures (beginning (areaAt z) (bytesAt z) (nameAt z .fits) (p .1) covers (g .name-fields .ensures .0)))
     (v .write-sheet .ensures) (no-links (copying (length (areaAt z))) (fedAt z) _ refl) (c .ran-answer .ensures)
 
 pub ran-spec : {M : Type 1} → statement M

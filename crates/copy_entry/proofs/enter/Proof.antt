@@ -10,18 +10,21 @@ use borrow.Author.Needs.{needs}
 use Rattle.copy_entry.proofs.enter.Statement.{statement}
 use Rattle.copy_entry.proofs.enter.Tie as tie
 
--- the places, from the end: the text is copied, its end is known, the activation is noted, the block's parts are known, its words are read
+-- the places, from the end: the text is copied, its end is known, the activation and its names are noted, the block's parts are known, its words are read
 abbrev copiedOf : tie.After-clear-arg → tie.After-copy-text
 copiedOf c = c .before .before .before
 
 abbrev endOf : tie.After-copy-text-arg2 → tie.After-end-of
 endOf c = c .before .before
 
-abbrev notedOf : tie.After-renew → tie.After-note
+abbrev namedOf : tie.After-renew → tie.After-note-names
+namedOf c = c .before .before .before
+
+abbrev notedOf : tie.After-note-names → tie.After-note
 notedOf c = c .before .before .before
 
-abbrev partsOf : tie.After-note → tie.After-level-of
-partsOf c = c .before .before .before .before .before .before .before
+abbrev partsOf : tie.After-note-names → tie.After-level-of
+partsOf c = let n = notedOf c in n .before .before .before .before .before .before
 
 abbrev wordsOf : tie.After-level-of → tie.After-code-at3
 wordsOf c = c .before .before .before
@@ -30,7 +33,7 @@ abbrev startOf : tie.After-level-of → tie.Start
 startOf c = let h = wordsOf c .before .before in h .before .before
 
 abbrev fromEnd : tie.After-end-of → tie.After-level-of
-fromEnd c = partsOf (notedOf (c .before))
+fromEnd c = partsOf (namedOf (c .before))
 
 abbrev fromText : tie.After-copy-text → tie.After-level-of
 fromText c = fromEnd (endOf (c .before))
@@ -53,6 +56,9 @@ end-is c = c .end-of .ensures .0 ∙ ap endIn (wordsOf (fromEnd c) .before .code
 
 renew-requires : tie.Need-renew-requires
 renew-requires c κs = let p = partsOf (c .before .before) in renewable (startOf p .pre) (head p)
+
+room : (c : tie.After-renew) → startOf (partsOf (namedOf c)) .args .here .live + 1 < 256
+room c = startOf (partsOf (namedOf c)) .pre .room
 
 mul-copy-text : tie.Need-mul-copy-text
 mul-copy-text c =
@@ -80,16 +86,16 @@ returns c =
     let k = copiedOf (z .before) in
     let e = endOf (k .before) in
     let r = e .before in
-    let o = notedOf r in
-    let p = partsOf o in
-    entered (startOf p .pre) (head p) (end-is e) (c .first-of .ensures ∙ ap firstIn (wordsOf p .before .code-at2 .ensures .0)) (o .note .ensures) (r .renew .ensures)
-    (k .copy-text .ensures .0) (k .copy-text .ensures .1) (z .clear .ensures)
+    let m = namedOf r in
+    let p = partsOf m in
+    entered (startOf p .pre) (head p) (end-is e) (c .first-of .ensures ∙ ap firstIn (wordsOf p .before .code-at2 .ensures .0)) (notedOf m .note .ensures)
+    (m .note-names .ensures) (r .renew .ensures) (k .copy-text .ensures .0) (k .copy-text .ensures .1) (z .clear .ensures)
 
 pub enter-spec : {M : Type 1} → statement M
 enter-spec =
     tie.close
     (tie.spec (λ c κs. search needs) (λ c. search needs) (λ c κs. search needs) (λ c. search needs) (λ c κs. search needs) (λ c κs. search needs)
     (λ c κs. search needs) (λ c κs. search needs) (λ c. search needs) (λ c. search needs) (λ c. search needs) (λ c. search needs) (λ c. search needs)
-    (λ c. search needs) (λ c κs. search needs) (λ c. search needs) (λ c. search needs) renew-requires (λ c. search needs) (λ c. search needs)
-    (λ c. search needs) (λ c κs. search needs) mul-copy-text mul-copy-text-2 copy-text-requires (λ c. search (needs, few c)) (λ c. search (needs, few c))
+    (λ c. search needs) (λ c κs. search needs) (λ c κs. search needs) (λ c. search needs) (λ c. search needs) renew-requires (λ c. search (needs, room c)) (λ c. search (needs, room c))
+    (λ c. search (needs, room c)) (λ c κs. search needs) mul-copy-text mul-copy-text-2 copy-text-requires (λ c. search (needs, few c)) (λ c. search (needs, few c))
     (λ c κs. search (needs, few c)) (λ c κs. search needs) (λ c. search needs) returns)

@@ -24,7 +24,7 @@ abbrev startAt : tie.After-resolve → tie.Start
 startAt c = c .before .before .before .before
 
 abbrev ranAt : tie.After-write-sheet-arg → tie.After-run-program
-ranAt c = c .before .before .before .before .before .before
+ranAt c = c .before .before .before .before .before .before .before
 
 abbrev writtenAt : tie.After-ran-answer → tie.After-write-sheet
 writtenAt c = c .before .before

@@ -6,7 +6,7 @@ use Rattle.call_answers.specs.Replies.{Answers}
 use Rattle.chain_call.proofs.Rows.{numberss, answers}
 use Rattle.chain_call.specs.Calls.{AdmittedOn, haltAnswer}
 use Rattle.chain_links.proofs.Rows.{recs}
-use Rattle.chain_links.specs.Records.{blocksIn, nextsIn}
+use Rattle.chain_links.specs.Records.{blocksIn, linksIn, nextsIn}
 use Rattle.chain_run.proofs.Rows.{halts}
 use Rattle.chain_run.specs.Running.{Beginning, Ended}
 use Rattle.frames.specs.Frame.{frameRun, frameStart, Frame, frameSheet}
@@ -43,10 +43,10 @@ abbrev pub run-program-says : List ℕ → List ℤ → List (recs .type .Denot)
 run-program-says code cells records table pairs limit activations allowance r cells′ records′ table′ = ((b : Beginning code cells records table pairs limit activations) → Ended (b .begun .program) (b .begun .name) activations limit (frameRun (limitsBy activations limit) allowance (frameStart (b .begun .program) (record { words = table; used = pairs }))) r cells′ records′ table′)
 
 abbrev pub write-sheet-asks : List ℕ → List ℤ → List (recs .type .Denot) → ℕ → List ℤ → Type 0
-write-sheet-asks code cells records live sheet = (((fs : List Frame) × Held code cells (blocksIn records) (nextsIn records) fs × (length fs ≡ live))) × ((live ≤ length records) × (sheetShare * live ≤ length sheet))
+write-sheet-asks code cells records live sheet = (((fs : List Frame) × Held code cells (blocksIn records) (nextsIn records) (linksIn records) fs × (length fs ≡ live))) × ((live ≤ length records) × (sheetShare * live ≤ length sheet))
 
 abbrev pub write-sheet-says : List ℕ → List ℤ → List (recs .type .Denot) → ℕ → List ℤ → ℕ → List ℤ → Type 0
-write-sheet-says code cells records live sheet r sheet′ = ((fs : List Frame) → Held code cells (blocksIn records) (nextsIn records) fs → length fs ≡ live → (sheet′ ≡ written (frameSheet fs) sheet) × (r ≡ length (frameSheet fs)))
+write-sheet-says code cells records live sheet r sheet′ = ((fs : List Frame) → Held code cells (blocksIn records) (nextsIn records) (linksIn records) fs → length fs ≡ live → (sheet′ ≡ written (frameSheet fs) sheet) × (r ≡ length (frameSheet fs)))
 
 abbrev pub answered-asks : numberss .type .Denot → Type 0
 answered-asks numbers = numbers .tally ≤ 1000000000000

@@ -10,24 +10,24 @@ use Rattle.copy_run.proofs.run.run.Statement.{statement}
 use Rattle.copy_run.proofs.run.run.Tie as tie
 
 abbrev Inv-loop : tie.InvT-loop
-Inv-loop code names cells₀ area₀ width blocks₀ nexts₀ firsts₀ starts₀ targets₀ looked₀ table₀ limit activations allowance here₀ left₀ cells area blocks nexts firsts starts targets looked table here left =
-    ((w : Running code names activations limit cells₀ area₀ width blocks₀ nexts₀ firsts₀ starts₀ targets₀ looked₀ table₀ here₀)
-    → Going w allowance (arraysOf cells area blocks nexts firsts starts targets looked table) here left)
+Inv-loop code names cells₀ area₀ width blocks₀ nexts₀ links₀ firsts₀ starts₀ targets₀ looked₀ table₀ limit activations allowance here₀ left₀ cells area blocks nexts links firsts starts targets looked table here left =
+    ((w : Running code names activations limit cells₀ area₀ width blocks₀ nexts₀ links₀ firsts₀ starts₀ targets₀ looked₀ table₀ here₀)
+    → Going w allowance (arraysOf cells area blocks nexts links firsts starts targets looked table) here left)
     × (length area ≡ length area₀) × (length table ≡ length table₀)
 
 abbrev μ-loop : tie.MeasureT-loop
-μ-loop code names cells₀ area₀ width blocks₀ nexts₀ firsts₀ starts₀ targets₀ looked₀ table₀ limit activations allowance here₀ left₀ cells area blocks nexts firsts starts targets looked table here left =
+μ-loop code names cells₀ area₀ width blocks₀ nexts₀ links₀ firsts₀ starts₀ targets₀ looked₀ table₀ limit activations allowance here₀ left₀ cells area blocks nexts links firsts starts targets looked table here left =
     left
 
 -- the places: a turn from where its step is called and from after the step, the loop, and the start
-abbrev sixthOf : tie.After-step-arg9 Inv-loop μ-loop → tie.After-step-arg6 Inv-loop μ-loop
-sixthOf c = c .before .before .before
+abbrev seventhOf : tie.After-step-arg10 Inv-loop μ-loop → tie.After-step-arg7 Inv-loop μ-loop
+seventhOf c = c .before .before .before
 
-abbrev thirdOf : tie.After-step-arg6 Inv-loop μ-loop → tie.After-step-arg3 Inv-loop μ-loop
-thirdOf c = c .before .before .before
+abbrev fourthOf : tie.After-step-arg7 Inv-loop μ-loop → tie.After-step-arg4 Inv-loop μ-loop
+fourthOf c = c .before .before .before
 
-abbrev turnAt : tie.After-step-arg9 Inv-loop μ-loop → tie.In-loop Inv-loop μ-loop
-turnAt c = (thirdOf (sixthOf c)) .before .before .before
+abbrev turnAt : tie.After-step-arg10 Inv-loop μ-loop → tie.In-loop Inv-loop μ-loop
+turnAt c = (fourthOf (seventhOf c)) .before .before .before .before
 
 abbrev turnOf : tie.After-step Inv-loop μ-loop → tie.In-loop Inv-loop μ-loop
 turnOf c = turnAt (c .before)
@@ -69,7 +69,7 @@ abbrev leftBy : tie.After-step Inv-loop μ-loop → Arrays
 leftBy o =
     let d = o .step .last .1 .1 in
     let e = d .1 .1 .1 in
-    arraysOf (d .0) (d .1 .0) (e .0) (e .1 .0) (e .1 .1 .0) (e .1 .1 .1 .0) (e .1 .1 .1 .1 .0) (e .1 .1 .1 .1 .1 .0) (e .1 .1 .1 .1 .1 .1 .0)
+    arraysOf (d .0) (d .1 .0) (e .0) (e .1 .0) (e .1 .1 .0) (e .1 .1 .1 .0) (e .1 .1 .1 .1 .0) (e .1 .1 .1 .1 .1 .0) (e .1 .1 .1 .1 .1 .1 .0) (e .1 .1 .1 .1 .1 .1 .1 .0)
 
 -- area and table keep their lengths
 area-kept : (o : tie.After-step Inv-loop μ-loop) → length ((leftBy o) .area) ≡ length ((startOf (loopAt o)) .args .area .now)
@@ -82,7 +82,7 @@ table-kept o = cc ((loopAt o) .loop .inv .2)
 abbrev foundBy : tie.At-loop Inv-loop μ-loop → Arrays
 foundBy l =
     let v = l .loop in
-    arraysOf (v .cells) (v .area) (v .blocks) (v .nexts) (v .firsts) (v .starts) (v .targets) (v .looked) (v .table)
+    arraysOf (v .cells) (v .area) (v .blocks) (v .nexts) (v .links) (v .firsts) (v .starts) (v .targets) (v .looked) (v .table)
 
 going : (l : tie.At-loop Inv-loop μ-loop)
     → Going ((startOf l) .pre .running) ((startOf l) .args .allowance) (foundBy l) (l .loop .here) (l .loop .left)

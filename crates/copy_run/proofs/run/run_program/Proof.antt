@@ -13,13 +13,13 @@ madeOf c = c .before .before .before
 abbrev startAt : tie.After-looked → tie.Start
 startAt c = (madeOf c) .before .before .before
 
-abbrev ownOf : tie.After-run-arg5 → tie.After-run-arg4
+abbrev ownOf : tie.After-run-arg6 → tie.After-run-arg5
 ownOf c = let second = c .before .before in second .before .before .before
 
-abbrev firstOf : tie.After-run-arg4 → tie.After-run-arg
-firstOf c = c .before .before .before
+abbrev firstOf : tie.After-run-arg5 → tie.After-run-arg
+firstOf c = c .before .before .before .before
 
-abbrev beginOf : tie.After-run-arg5 → tie.After-begin
+abbrev beginOf : tie.After-run-arg6 → tie.After-begin
 beginOf c = (firstOf (ownOf c)) .before .before .before
 
 begin-requires : tie.Need-begin-requires
@@ -40,7 +40,7 @@ same-length c =
 returns : tie.Need-returns
 returns c =
     let r = c .before .before .before in
-    λ b. program-run b (beginOf (r .before) .begin .ensures) refl refl refl refl refl (r .run .ensures)
+    λ b. program-run b (beginOf (r .before) .begin .ensures) refl refl refl refl refl (r .run .result) (r .run .ensures)
 
 pub run-program-spec : {M : Type 1} → statement M
 run-program-spec = tie.close (tie.spec begin-requires run-requires same-length (λ c. search needs) returns)

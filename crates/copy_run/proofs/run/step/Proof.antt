@@ -25,13 +25,13 @@ abbrev startAt : tie.Else2 → tie.Start
 startAt e = let first = e .before .before in first .before .before
 
 -- the block to enter, from what entering is lent
-abbrev halfOf : tie.After-enter-arg8 → tie.After-enter-arg4
+abbrev halfOf : tie.After-enter-arg9 → tie.After-enter-arg5
 halfOf c = c .before .before .before .before
 
-abbrev toldOf : tie.After-enter-arg4 → tie.After-known-told3
-toldOf c = c .before .before .before .before
+abbrev toldOf : tie.After-enter-arg5 → tie.After-known-told3
+toldOf c = c .before .before .before .before .before
 
-abbrev bodyOf : tie.After-enter-arg8 → tie.After-body
+abbrev bodyOf : tie.After-enter-arg9 → tie.After-body
 bodyOf c = (toldOf (halfOf c)) .before
 
 abbrev askedOf : tie.After-asked-arg2 → tie.After-place3

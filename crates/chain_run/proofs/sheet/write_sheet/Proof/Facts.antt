@@ -9,14 +9,14 @@ use lib.Seq.{take-all}
 use Rattle.language.specs.Call.{written}
 use Rattle.laws.specs.Lists.{getElem-in}
 use Rattle.frames.specs.Frame.{Frame, frameSheet}
-use Rattle.run_sheet.specs.Held.{Held, shown-at, sheet-room, none-written, sheet-on, sheet-on-length}
+use Rattle.run_sheet.specs.Held.{encloserBy, Held, shown-at, encloser-few, sheet-room, none-written, sheet-on, sheet-on-length}
 use Rattle.chain_records.specs.declared.Activation.{Activation}
-use Rattle.chain_links.specs.Records.{blocksIn, nextsIn, column-read}
+use Rattle.chain_links.specs.Records.{blocksIn, nextsIn, linksIn, column-read}
 use Rattle.chain_run.proofs.sheet.write_sheet.Proof.Said.{Pre, Said, read-asks, read-says, write-record-asks, write-record-says}
 
 module _ (code : List ℕ) (cells : List ℤ) (records : List Activation) (live : ℕ) (sheet₀ : List ℤ) where
   abbrev Holds : List Frame → Type 0
-  Holds fs = Held code cells (blocksIn records) (nextsIn records) fs
+  Holds fs = Held code cells (blocksIn records) (nextsIn records) (linksIn records) fs
 
   -- of the first so many activations
   abbrev Shows : ℕ → ℕ → List ℤ → Type 0
@@ -76,6 +76,9 @@ module _ (code : List ℕ) (cells : List ℤ) (records : List Activation) (live 
           next-is : own .next ≡ getD (nextsIn records) (t .k) 0
           next-is = ap (λ (a : Activation). a .next) is ∙ sym (column-read (λ a. a .next) records (t .k) (omega (arith, few)))
 
+          encloser-is : encloserBy (t .k) (own .link) ≡ encloserBy (t .k) (getD (linksIn records) (t .k) 0)
+          encloser-is = ap (λ (a : Activation). encloserBy (t .k) (a .link)) is ∙ sym (ap (encloserBy (t .k)) (column-read (λ a. a .link) records (t .k) (omega (arith, few))))
+
           pub asks-write-record : write-record-asks code cells own (t .k) (t .sheet) (t .at)
           asks-write-record =
               let w = getElem-in frames (t .k) (omega (arith, as-many)) in
@@ -86,6 +89,7 @@ module _ (code : List ℕ) (cells : List ℤ) (records : List Activation) (live 
                   w .0 .words,
                   shown-at held (t .k) (w .0) (w .1) (own .block) (own .next) block-is next-is,
                   omega (arith, f .few, t .as-long, t .shows frames held as-many .1, sheet-room held (t .k) (omega arith), pre .1 .1, as-many),
+                  encloser-few held (t .k) (w .0) (w .1) encloser-is,
                 ),
               )
 
@@ -98,7 +102,7 @@ module _ (code : List ℕ) (cells : List ℤ) (records : List Activation) (live 
                 let i = t .shows fs h l in
                 let q = said .0 (f .next) (f .words) (frameSheet (take (t .k) fs)) sheet₀
                 (shown-at h (t .k) f (w .1) (own .block) (own .next) block-is next-is) (i .0) (sym (i .1)) in (
-                  q .0 ∙ ap (λ (x : List ℤ). written x sheet₀) (sheet-on h (t .k) f (w .1) (own .block) block-is),
+                  q .0 ∙ ap (λ (x : List ℤ). written x sheet₀) (sheet-on h (t .k) f (w .1) (own .block) (encloserBy (t .k) (own .link)) block-is encloser-is),
                   q .1 ∙ sheet-on-length h (t .k) f (w .1) (t .at) (i .1),
                 )
 
