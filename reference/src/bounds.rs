@@ -9,5 +9,5 @@ pub const ALLOWANCE: u32 = 1_000_000;
 pub const GROUP_LIMIT: u32 = 65_535;
 pub const TALLY: u64 = 1_000_000_000_000;
 
-/// Sheet words of one activation: block offset, next statement, and its names.
-pub const SHEET_WORDS: usize = 2 + NAMES;
+/// Sheet words of one activation: block offset, next statement, encloser, and its names.
+pub const SHEET_WORDS: usize = 3 + NAMES;

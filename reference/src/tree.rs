@@ -120,6 +120,19 @@ impl Block {
     pub fn declared_names(&self) -> impl Iterator<Item = Name> + '_ {
         self.declarations.iter().map(|declaration| declaration.name)
     }
+
+    /// Whether a block is a statement of this one, or the body of a procedure that it declares.
+    pub fn directly_encloses(&self, inner: &Block) -> bool {
+        let stated = self.statements.iter().filter_map(|it| match &it.action {
+            Action::Block(block) => Some(block),
+            _ => None,
+        });
+        let declared = self.declarations.iter().filter_map(|it| match &it.declared {
+            Declared::Procedure(procedure) => Some(&procedure.body),
+            _ => None,
+        });
+        stated.chain(declared).any(|it| it.offset == inner.offset)
+    }
 }
 
 impl Procedure {

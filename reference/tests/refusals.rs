@@ -30,7 +30,7 @@ fn plain(call: Call) -> u64 {
 
 #[test]
 fn limits_at_their_bounds() {
-    let sheet = 256 * 34;
+    let sheet = 256 * 35;
     for (d, expected) in [(0, 12), (1, 0), (256, 0), (257, 12), (u32::MAX, 12)] {
         assert_eq!(plain(Call { d, sheet, ..small() }), expected, "D {d}");
     }
@@ -44,9 +44,10 @@ fn limits_at_their_bounds() {
 
 #[test]
 fn lent_areas_at_their_bounds() {
-    assert_eq!(plain(Call { sheet: 16 * 34 - 1, ..small() }), 13);
-    assert_eq!(plain(Call { sheet: 16 * 34, ..small() }), 0);
-    assert_eq!(plain(Call { sheet: 16 * 34 + 7, ..small() }), 0);
+    assert_eq!(plain(Call { sheet: 16 * 34, ..small() }), 13);
+    assert_eq!(plain(Call { sheet: 16 * 35 - 1, ..small() }), 13);
+    assert_eq!(plain(Call { sheet: 16 * 35, ..small() }), 0);
+    assert_eq!(plain(Call { sheet: 16 * 35 + 7, ..small() }), 0);
     assert_eq!(number(&small(), Engine::Chain { records: 15 }), 13);
     assert_eq!(number(&small(), Engine::Chain { records: 16 }), 0);
     let area = small().lent_area();
@@ -96,7 +97,7 @@ fn causes_in_their_order() {
     assert_eq!(number(&all, area), 12);
     let sheet = Call { d: 16, ..all };
     assert_eq!(number(&sheet, area), 13);
-    let records = Call { sheet: 16 * 34, ..sheet };
+    let records = Call { sheet: 16 * 35, ..sheet };
     assert_eq!(number(&records, Engine::Chain { records: 15 }), 13);
     assert_eq!(number(&records, area), 14);
     let length = Call { count: 2, ..records };
@@ -127,8 +128,8 @@ fn a_refusal_by_each_limit_is_its_own() {
         Request { tally: 1_000_000_000_001, ..request },
     ];
     for request in faulty {
-        let answer = reference::run(&request, &mut [], &mut [0; 34]);
+        let answer = reference::run(&request, &mut [], &mut [0; 35]);
         assert_eq!(answer.end, End::Refused(Refusal::Limits));
     }
-    assert_eq!(reference::run(&request, &mut [], &mut [0; 34]).end, End::Spent);
+    assert_eq!(reference::run(&request, &mut [], &mut [0; 35]).end, End::Spent);
 }

@@ -35,7 +35,7 @@ fn empty_program() {
     assert!(reply.sheet_words().is_empty());
     let reply = Call { n: 0, ..call("BK 0 0") }.run();
     ends(&reply, End::Spent, 0, 0);
-    assert_eq!(reply.sheet_words(), [0, 1]);
+    assert_eq!(reply.sheet_words(), [0, 1, 0]);
 }
 
 #[test]
@@ -69,17 +69,33 @@ fn b_keeps_each_activation_s_own_variable() {
     assert_eq!(assemble(B).len(), 122);
     let reply = Call { n: 9, name: 5, ..call(B) }.run();
     ends(&reply, End::Spent, 9, 0);
-    let sheet = [0, 2, 1, 0, 0, 34, 5, 66, 9, 0, 0, 34, 7, 131, 2, 0, 0, 50, 2];
-    assert_eq!(reply.sheet_words(), sheet);
+    let (program, body_of_6) = ([0, 2, 0, 1, 0, 0], [50, 2, 2]);
+    let (first, second) = ([34, 5, 1, 66, 9, 0, 0], [34, 7, 1, 131, 2, 0, 0]);
+    assert_eq!(reply.sheet_words(), [&program[..], &first, &second, &body_of_6].concat());
     // The innermost block is procedure 6's, the variable that of the first activation of 3.
     assert_eq!((reply.answer.designator, reply.answer.links), (130, 1));
 }
 
+fn b_by(flawed: Run) -> Vec<i32> {
+    Call { n: 9, ..call(B) }.by(flawed, Engine::Display).sheet_words().to_vec()
+}
+
 #[test]
 fn b_tells_the_newest_link() {
-    let newest: Run = |request, table, sheet| run_flawed(Flaw::NewestLink, request, table, sheet);
-    let reply = Call { n: 9, ..call(B) }.by(newest, Engine::Display);
-    assert_eq!(reply.sheet_words()[5..17], [34, 5, 66, 1, 0, 0, 34, 7, 131, 9, 0, 0]);
+    let sheet = b_by(|request, table, sheet| run_flawed(Flaw::NewestLink, request, table, sheet));
+    assert_eq!(sheet[6..], [34, 5, 1, 66, 1, 0, 0, 34, 7, 1, 131, 9, 0, 0, 50, 2, 3]);
+}
+
+#[test]
+fn b_tells_the_caller_shown() {
+    let sheet = b_by(|request, table, sheet| run_flawed(Flaw::CallerShown, request, table, sheet));
+    assert_eq!(sheet[6..], [34, 5, 1, 66, 9, 0, 0, 34, 7, 2, 131, 2, 0, 0, 50, 2, 3]);
+}
+
+#[test]
+fn b_tells_the_newest_shown() {
+    let sheet = b_by(|request, table, sheet| run_flawed(Flaw::NewestShown, request, table, sheet));
+    assert_eq!(sheet[6..], [34, 5, 1, 66, 9, 0, 0, 34, 7, 1, 131, 2, 0, 0, 50, 2, 3]);
 }
 
 fn arithmetic(left: i32, operation: u16, right: i32) -> Reply {

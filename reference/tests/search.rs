@@ -50,7 +50,7 @@ fn the_first_passer_goes_through_two_formals() {
     assert_eq!(passers(TWO_FORMALS, 4), [None, None, None, None, Some(2)]);
     assert_eq!(
         Call { n: 5, ..Call::new(assemble(TWO_FORMALS)) }.run().sheet_words(),
-        [0, 2, 8, 0, 0, 0, 0, 36, 2, 62, 2, 66, 88, 2, 66, 16, 2]
+        [0, 2, 0, 8, 0, 0, 0, 0, 36, 2, 1, 62, 2, 1, 66, 88, 2, 1, 66, 16, 2, 1]
     );
 }
 
@@ -74,10 +74,10 @@ const THREE_OF_ONE: &str = "BK 4 1, VR 8, VR 9, PR 7 0, BK 0 0, PR 1 1, FM 2 2, 
 fn the_first_passer_s_own_variable_is_set() {
     assert_eq!(passers(THREE_OF_ONE, 12), [None, None, None, None, Some(2)]);
     let reply = Call { n: 12, name: 4, ..Call::new(assemble(THREE_OF_ONE)) }.run();
-    let (program, body_of_5) = ([0, 2, 1, 1, 0, 0], [54, 2]);
-    let first = [38, 5, 67, 6, 0, 0, 0];
-    let second = [38, 7, 131, 0, 0, 0, 0];
-    let third = [38, 8, 131, 0, 0, 0, 0];
+    let (program, body_of_5) = ([0, 2, 0, 1, 1, 0, 0], [54, 2, 2]);
+    let first = [38, 5, 1, 67, 6, 0, 0, 0];
+    let second = [38, 7, 1, 131, 0, 0, 0, 0];
+    let third = [38, 8, 1, 131, 0, 0, 0, 0];
     let sheet = [&program[..], &first, &second, &third, &body_of_5].concat();
     assert_eq!(reply.sheet_words(), sheet);
     assert_eq!(reply.answer.designator, 130);

@@ -52,7 +52,7 @@ fn query_stores_presence() {
             count: 1,
             ..Call::new(assemble(&with_pair(4, member, "QY 3 1 2")))
         };
-        call.run().sheet_words()[4]
+        call.run().sheet_words()[5]
     };
     assert_eq!((queried(5), queried(6)), (1, 0));
 }
@@ -105,10 +105,10 @@ fn a_goto_out_of_calls_is_one_step() {
     let text = "BK 4 3, PR 1 1, FM 2 1, BK 0 1, GO 2, PR 3 1, FM 4 1, BK 0 1, CL 1 1 4, \
                 LB 5 3, VR 6, CL 3 1 5, KN 6 9, KN 6 7";
     let at = |n| Call { n, name: 6, ..Call::new(assemble(text)) }.run();
-    assert_eq!(at(2).sheet_words(), [0, 2, 0, 0, 0, 0, 40, 2, 67, 18, 1, 67]);
-    assert_eq!(at(3).sheet_words(), [0, 3, 0, 0, 0, 0]);
+    assert_eq!(at(2).sheet_words(), [0, 2, 0, 0, 0, 0, 0, 40, 2, 1, 67, 18, 1, 1, 67]);
+    assert_eq!(at(3).sheet_words(), [0, 3, 0, 0, 0, 0, 0]);
     assert_eq!((at(2).answer.designator, at(2).answer.links), (68, 1));
-    assert_eq!(at(4).sheet_words(), [0, 4, 0, 0, 0, 7]);
+    assert_eq!(at(4).sheet_words(), [0, 4, 0, 0, 0, 0, 7]);
     assert_eq!((at(5).answer.end, at(5).answer.steps), (End::Finished, 5));
 }
 
@@ -117,7 +117,7 @@ fn a_formal_hides_an_outer_name() {
     // Inside procedure 1 name 9 is its formal and stands for variable 8.
     let text = "BK 3 2, VR 8, VR 9, PR 1 1, FM 9 0, BK 0 1, KN 9 5, CL 1 1 8, KN 9 3";
     let reply = Call { n: 2, name: 9, ..Call::new(assemble(text)) }.run();
-    assert_eq!(reply.sheet_words(), [0, 2, 5, 0, 0, 26, 2, 65]);
+    assert_eq!(reply.sheet_words(), [0, 2, 0, 5, 0, 0, 26, 2, 1, 65]);
     assert_eq!((reply.answer.designator, reply.answer.links), (65, 0));
 }
 
@@ -126,6 +126,6 @@ fn arguments_are_read_where_the_call_stands() {
     // Procedure 1 hands its formals 2 and 3 on to itself in the other order.
     let text = "BK 3 1, VR 8, VR 9, PR 1 2, FM 2 0, FM 3 0, BK 0 1, CL 1 2 3 2, CL 1 2 8 9";
     let reply = Call { n: 3, d: 4, ..Call::new(assemble(text)) }.run();
-    let sheet = [0, 2, 0, 0, 0, 32, 2, 65, 66, 32, 2, 66, 65, 32, 1, 65, 66];
+    let sheet = [0, 2, 0, 0, 0, 0, 32, 2, 1, 65, 66, 32, 2, 1, 66, 65, 32, 1, 1, 65, 66];
     assert_eq!(reply.sheet_words(), sheet);
 }

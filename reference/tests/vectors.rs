@@ -17,7 +17,7 @@ fn bytes(hex: &str) -> Vec<u8> {
 }
 
 fn words(list: &str) -> Vec<i32> {
-    let list = if list == "-" { "" } else { list };
+    let list = if list == "." { "" } else { list };
     list.split(',').filter(|word| !word.is_empty()).map(|word| word.parse().unwrap()).collect()
 }
 
@@ -41,7 +41,7 @@ fn runs_agree() {
         assert_eq!(given, replied(fed), "run {}", number + 1);
     }
     println!("{} runs agree", lines.len());
-    assert_eq!(lines.len(), 994);
+    assert_eq!(lines.len(), 450);
 }
 
 fn replied(fed: &str) -> String {
@@ -55,7 +55,7 @@ fn replied(fed: &str) -> String {
         count: fed[5].parse().unwrap(),
         name: fed[6].parse().unwrap(),
         table: words(fed[7]),
-        sheet: 34 * fed[1].parse::<usize>().unwrap().min(256),
+        sheet: 35 * fed[1].parse::<usize>().unwrap().min(256),
     };
     let reply = call.run();
     let answer = reply.answer;
@@ -76,7 +76,7 @@ fn replied(fed: &str) -> String {
 
 fn list(words: &[i32]) -> String {
     if words.is_empty() {
-        return "-".into();
+        return ".".into();
     }
     words.iter().map(i32::to_string).collect::<Vec<_>>().join(",")
 }

@@ -4,6 +4,9 @@
 use crate::call::{Call, Engine};
 use crate::random::Random;
 
+/// Sheet words of one activation: offset, next statement, encloser, and at most 32 names.
+pub const SHEET_WORDS: usize = 35;
+
 /// Beyond it D is refused anyway.
 const MOST_ACTIVATIONS: usize = 257;
 
@@ -12,7 +15,7 @@ pub fn pattern(index: usize) -> u32 {
 }
 
 pub fn sheet(random: &mut Random, d: u32) -> Vec<i32> {
-    let length = about(random, activations(d) * 34);
+    let length = about(random, activations(d) * SHEET_WORDS);
     (0..length).map(|index| pattern(index) as i32).collect()
 }
 

@@ -14,7 +14,7 @@ pub fn hex(bytes: &[u8]) -> String {
 
 fn list(words: &[i32]) -> String {
     if words.is_empty() {
-        return "-".into();
+        return ".".into();
     }
     words.iter().map(i32::to_string).collect::<Vec<_>>().join(",")
 }
@@ -69,6 +69,6 @@ pub fn bytes(hex: &str) -> Option<Vec<u8>> {
 }
 
 pub fn words(list: &str) -> Option<Vec<i32>> {
-    let list = if list == "-" { "" } else { list };
+    let list = if list == "." { "" } else { list };
     list.split(',').filter(|word| !word.is_empty()).map(|word| word.parse().ok()).collect()
 }

@@ -3,7 +3,7 @@
 use differential::call::{Call, Engine, ENGINES};
 use differential::compare::assert_agree;
 use differential::encode::written;
-use differential::lent::{pattern, to};
+use differential::lent::{pattern, to, SHEET_WORDS};
 use differential::parties::{copy_rule, fast, library, Party};
 use differential::report::{bytes, words};
 use differential::{inputs, table_work};
@@ -123,7 +123,7 @@ fn plain() -> Call {
         count: 0,
         name: 2,
         table: vec![0; 16],
-        sheet: (0..2 * 34).map(|index| pattern(index) as i32).collect(),
+        sheet: sheet(2 * SHEET_WORDS),
         working: Vec::new(),
     }
 }
@@ -135,8 +135,8 @@ fn an_argument_called_as_a_local_of_the_body() {
     let call = Call { script, n: 3, name: 1, ..plain() };
     for engine in ENGINES {
         let reply = (library().run)(&to(engine, &call));
-        assert_eq!(reply.answer[..8], [1, 0, 3, 0, 0, 8, 3, 130], "{engine:?}");
-        assert_eq!(reply.sheet[..8], [0, 2, 9, 0, 22, 3, 65, 7], "{engine:?}");
+        assert_eq!(reply.answer[..8], [1, 0, 3, 0, 0, 10, 3, 130], "{engine:?}");
+        assert_eq!(reply.sheet[..10], [0, 2, 0, 9, 0, 22, 3, 1, 65, 7], "{engine:?}");
     }
 }
 
@@ -149,15 +149,15 @@ fn a_procedure_handed_on_twice() {
          IF 9 10 IF 8 11 KN 8 1 0 CL 1 1 5 KN 9 1 0 CL 1 1 2 CL 2 0
          CL 1 1 7",
     );
-    let call = Call { script, d: 5, n: 12, name: 4, sheet: sheet(5 * 34), ..plain() };
-    let program = [0, 2, 1, 1, 0, 0];
-    let (first, second) = ([38, 5, 67, 6, 0, 0, 0], [38, 7, 131, 0, 0, 0, 0]);
-    let (third, called) = ([38, 8, 131, 0, 0, 0, 0], [54, 2]);
+    let call = Call { script, d: 5, n: 12, name: 4, sheet: sheet(5 * SHEET_WORDS), ..plain() };
+    let program = [0, 2, 0, 1, 1, 0, 0];
+    let (first, second) = ([38, 5, 1, 67, 6, 0, 0, 0], [38, 7, 1, 131, 0, 0, 0, 0]);
+    let (third, called) = ([38, 8, 1, 131, 0, 0, 0, 0], [54, 2, 2]);
     let words = [&program[..], &first, &second, &third, &called].concat();
     for engine in ENGINES {
         let reply = (library().run)(&to(engine, &call));
-        assert_eq!(reply.answer[..8], [1, 0, 12, 0, 0, 29, 12, 130], "{engine:?}");
-        assert_eq!(reply.sheet[..29], words, "{engine:?}");
+        assert_eq!(reply.answer[..8], [1, 0, 12, 0, 0, 34, 12, 130], "{engine:?}");
+        assert_eq!(reply.sheet[..34], words, "{engine:?}");
     }
 }
 
@@ -170,8 +170,11 @@ fn limits_on_both_sides_of_their_bounds() {
     let judge = copy_rule();
     let mut calls = Vec::new();
     for d in [0, 1, 2, 255, 256, 257, u32::MAX] {
-        let asked = 34 * (d as usize).min(257);
-        for length in [0, asked.saturating_sub(1), asked, asked + 1] {
+        let activations = (d as usize).min(257);
+        let asked = SHEET_WORDS * activations;
+        // A word too few for each activation, and for all of them together.
+        let short = [asked - activations, asked.saturating_sub(1)];
+        for length in [0, short[0], short[1], asked, asked + 1] {
             calls.push(Call { d, sheet: sheet(length), ..plain() });
         }
     }
@@ -194,7 +197,7 @@ fn limits_on_both_sides_of_their_bounds() {
 
 fn list(words: &[i32]) -> String {
     if words.is_empty() {
-        return "-".into();
+        return ".".into();
     }
     words.iter().map(i32::to_string).collect::<Vec<_>>().join(",")
 }
@@ -212,7 +215,7 @@ fn call_of(fed: &str) -> Option<Call> {
         count: fed[5].parse().ok()?,
         name: fed[6].parse().ok()?,
         table: words(fed[7])?,
-        sheet: sheet(34 * d.min(256) as usize),
+        sheet: sheet(SHEET_WORDS * d.min(256) as usize),
         working: Vec::new(),
     })
 }
@@ -243,7 +246,7 @@ fn every_vector() {
             assert_eq!(rest, &call.sheet[written as usize..], "run {}: past the sheet", number + 1);
         }
     }
-    assert_eq!(lines.len(), 994);
+    assert_eq!(lines.len(), 450);
 }
 
 /// Every way through a call on little stack: the deepest script, a large table, a stop, a refusal.

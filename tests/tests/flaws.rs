@@ -41,6 +41,16 @@ fn late_group_limit() {
     told(Flaw::LateGroupLimit);
 }
 
+#[test]
+fn caller_shown() {
+    told(Flaw::CallerShown);
+}
+
+#[test]
+fn newest_shown() {
+    told(Flaw::NewestShown);
+}
+
 /// The sheet where a run by search ends whose state is spoiled after each step; none if it panics.
 fn sheet(program: &Block, call: &Call, spoil: fn(&mut State)) -> Option<Vec<i32>> {
     quietly(|| {

@@ -14,6 +14,8 @@ pub struct Activation {
     pub offset: usize,
     /// Next statement number, from 1.
     pub next: usize,
+    /// The number of the activation from whose copy its text was taken, from 1; 0 for the program.
+    pub encloser: usize,
     /// Its own copy of the block's text.
     pub text: Block,
     /// What the formals read as, in order; none for a block that is no body.
@@ -51,26 +53,24 @@ impl<'a> Machine<'a> {
             d,
             g,
         };
-        machine.enter(program, &[], &[], Readings::new());
+        machine.enter(program, &[], &[], 0);
         machine
     }
 
     /// A BK of the innermost activation's copy.
     pub fn enter_block(&mut self, block: &Block) {
-        let outer = self.innermost().readings.clone();
-        self.enter(block, &[], &[], outer);
+        self.enter(block, &[], &[], self.activations.len());
     }
 
     /// A body, from the copy of the activation that declared the called name.
     pub fn enter_body(&mut self, called: Name, arguments: &[Name]) {
-        let declaring = self.instance(called).activation;
-        let outer = self.activations[declaring].readings.clone();
+        let declaring = self.instance(called).activation + 1;
         let Procedure { formals, body } = self.procedure(called).clone();
-        self.enter(&body, &formals, arguments, outer);
+        self.enter(&body, &formals, arguments, declaring);
     }
 
-    /// Outer names have been replaced in `block` already, so only its own ones are now.
-    fn enter(&mut self, block: &Block, formals: &[Formal], arguments: &[Name], outer: Readings) {
+    /// A block of the encloser's copy: outer names have been replaced there, so only its own are now.
+    fn enter(&mut self, block: &Block, formals: &[Formal], arguments: &[Name], encloser: usize) {
         let mut own = Readings::new();
         for (formal, argument) in formals.iter().zip(arguments) {
             own.insert(formal.name, *argument);
@@ -79,16 +79,25 @@ impl<'a> Machine<'a> {
             own.insert(declaration.name, self.new_name(declaration));
         }
         let text = entered(block, &own);
-        let mut readings = outer;
+        let mut readings = self.read_in(encloser);
         readings.extend(own);
         let formals = arguments.to_vec();
         self.activations.push(Activation {
             offset: block.offset,
             next: 1,
+            encloser,
             text,
             formals,
             readings,
         });
+    }
+
+    /// What names read as in the copy of the activation of a number; in the script, as written.
+    fn read_in(&self, number: usize) -> Readings {
+        match number {
+            0 => Readings::new(),
+            _ => self.activations[number - 1].readings.clone(),
+        }
     }
 
     fn new_name(&mut self, declaration: &Declaration) -> Name {

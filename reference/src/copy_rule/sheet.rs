@@ -9,7 +9,8 @@ impl Machine<'_> {
     }
 
     fn part(&self, activation: &Activation) -> Vec<i32> {
-        let mut words = vec![activation.offset as i32, activation.next as i32];
+        let Activation { offset, next, encloser, .. } = activation;
+        let mut words = [offset, next, encloser].map(|&word| word as i32).to_vec();
         words.extend(activation.formals.iter().map(|&name| self.designator(name) as i32));
         words.extend(activation.text.declared_names().map(|name| self.value_or_zero(name)));
         words

@@ -8,6 +8,10 @@ pub enum Flaw {
     StaleDisplay,
     /// The group limit is tested after the pair is written.
     LateGroupLimit,
+    /// The sheet has each activation's caller for its encloser; the run is right.
+    CallerShown,
+    /// The sheet has the newest activation of the enclosing block below; the run is right.
+    NewestShown,
 }
 
 /// A type for each engine, so that the right one pays nothing for the others.
@@ -19,6 +23,8 @@ pub struct Right;
 pub struct NewestLink;
 pub struct StaleDisplay;
 pub struct LateGroupLimit;
+pub struct CallerShown;
+pub struct NewestShown;
 
 impl Variant for Right {
     const FLAW: Option<Flaw> = None;
@@ -34,4 +40,12 @@ impl Variant for StaleDisplay {
 
 impl Variant for LateGroupLimit {
     const FLAW: Option<Flaw> = Some(Flaw::LateGroupLimit);
+}
+
+impl Variant for CallerShown {
+    const FLAW: Option<Flaw> = Some(Flaw::CallerShown);
+}
+
+impl Variant for NewestShown {
+    const FLAW: Option<Flaw> = Some(Flaw::NewestShown);
 }

@@ -237,8 +237,13 @@ impl<'a> Machine<'a> {
         if V::FLAW != Some(Flaw::NewestLink) {
             return link;
         }
+        self.newest(link, self.live)
+    }
+
+    /// Among the first `live`, the newest activation of the block that a link's activation has.
+    pub fn newest(&self, link: usize, live: usize) -> usize {
         let block = self.activations[link].block;
-        (1..=self.live).rfind(|&newest| self.activations[newest].block == block).unwrap_or(link)
+        (1..=live).rfind(|&newest| self.activations[newest].block == block).unwrap_or(link)
     }
 
     fn call_formal<V: Variant>(

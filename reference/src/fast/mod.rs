@@ -22,7 +22,7 @@ use crate::cause::{Refusal, Refused};
 use crate::check::length_fits;
 use crate::judge::{copying_area, lent, limits};
 use crate::request::{Engine, Request};
-use flaw::{LateGroupLimit, NewestLink, Right, StaleDisplay, Variant};
+use flaw::{CallerShown, LateGroupLimit, NewestLink, NewestShown, Right, StaleDisplay, Variant};
 use machine::Machine;
 use members::Members;
 use program::Program;
@@ -43,6 +43,8 @@ pub fn run_flawed(flaw: Flaw, request: &Request, table: &mut [i32], sheet: &mut 
         Flaw::NewestLink => run_variant::<NewestLink>(request, table, sheet),
         Flaw::StaleDisplay => run_variant::<StaleDisplay>(request, table, sheet),
         Flaw::LateGroupLimit => run_variant::<LateGroupLimit>(request, table, sheet),
+        Flaw::CallerShown => run_variant::<CallerShown>(request, table, sheet),
+        Flaw::NewestShown => run_variant::<NewestShown>(request, table, sheet),
     }
 }
 
@@ -86,7 +88,7 @@ fn accepted<V: Variant>(
         steps: steps.into(),
         offset: if matches!(end, End::Stopped(_)) { machine.offset() } else { 0 },
         pairs: machine.members.count() as u64,
-        sheet: machine.write(sheet) as u64,
+        sheet: machine.write::<V>(sheet) as u64,
         tally: request.tally + u64::from(steps),
         designator,
         links: if matches!(request.engine, Engine::Chain { .. }) { links } else { 0 },

@@ -1,5 +1,6 @@
 //! State sheet.
 
+use super::flaw::{Flaw, Variant};
 use super::machine::{Activation, Machine};
 use super::program::{Block, Place, Program};
 use crate::bounds::NAMES;
@@ -10,29 +11,39 @@ fn designator(address: usize) -> usize {
 
 impl Machine<'_> {
     /// Writes the sheet and gives the count of its words.
-    pub fn write(&mut self, sheet: &mut [i32]) -> usize {
+    pub fn write<V: Variant>(&mut self, sheet: &mut [i32]) -> usize {
         self.activations[self.live].next = self.next as u16;
         let mut at = 0;
         for number in 1..=self.live {
-            at += self.part(number, &mut sheet[at..]);
+            at += self.part::<V>(number, &mut sheet[at..]);
         }
         at
     }
 
-    fn part(&self, number: usize, sheet: &mut [i32]) -> usize {
+    fn part<V: Variant>(&self, number: usize, sheet: &mut [i32]) -> usize {
         let Activation { block, next, .. } = self.activations[number];
         let Block { offset, first_operation, names, formals, .. } =
             self.program.blocks[usize::from(block)];
         let (names, formals) = (usize::from(names), usize::from(formals));
         sheet[0] = offset.into();
         sheet[1] = i32::from(next - first_operation) + 1;
+        sheet[2] = self.encloser::<V>(number) as i32;
         let words = &self.words[number * NAMES..][..names];
-        let sheet = &mut sheet[2..2 + names];
+        let sheet = &mut sheet[3..3 + names];
         sheet.copy_from_slice(words);
         for word in &mut sheet[..formals] {
             *word = designator(*word as usize) as i32;
         }
-        2 + names
+        3 + names
+    }
+
+    fn encloser<V: Variant>(&self, number: usize) -> usize {
+        let link = self.activations[number].link.into();
+        match V::FLAW {
+            Some(Flaw::CallerShown) => number - 1,
+            Some(Flaw::NewestShown) => self.newest(link, number - 1),
+            _ => link,
+        }
     }
 
     /// The looked-up name's designator and the links followed for it.

@@ -9,14 +9,29 @@ impl State<'_> {
         if from == 0 {
             return None;
         }
-        let activation = self.numbered(from);
-        match activation.denotation(name) {
+        match self.numbered(from).denotation(name) {
             Some(Denotation::Parameter(found)) => Some(found),
             Some(Denotation::Declared(declaration)) => {
                 Some(Found { activation: from, declaration, passer: None })
             }
-            None => self.find(name, activation.passer.unwrap_or(from - 1)),
+            None => self.find(name, self.onward(from)),
         }
+    }
+
+    /// Where the search goes on from an activation that does not have the name: 0 from the program's.
+    fn onward(&self, from: usize) -> usize {
+        self.numbered(from).passer.unwrap_or(from - 1)
+    }
+
+    /// The activation in whose block that of another stands, 0 for the program's: the first such along
+    /// the search, so the one at which a search for a name of that block ends.
+    pub fn encloser(&self, number: usize) -> usize {
+        let inner = self.numbered(number).block;
+        let mut at = self.onward(number);
+        while at > 0 && !self.numbered(at).block.directly_encloses(inner) {
+            at = self.onward(at);
+        }
+        at
     }
 
     /// What a name of the innermost text means.

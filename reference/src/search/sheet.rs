@@ -1,16 +1,19 @@
 //! State sheet.
 
 use super::prepass::Numbered;
-use super::state::{Activation, Found, State};
+use super::state::{Found, State};
 use crate::tree::Name;
 
 impl State<'_> {
     pub fn sheet(&self) -> Vec<i32> {
-        self.activations.iter().flat_map(|it| self.part(it)).collect()
+        (1..=self.activations.len()).flat_map(|number| self.part(number)).collect()
     }
 
-    fn part(&self, it: &Activation) -> Vec<i32> {
-        let mut words = vec![it.block.offset as i32, it.next as i32];
+    /// No link is kept, so the encloser is sought here.
+    fn part(&self, number: usize) -> Vec<i32> {
+        let it = self.numbered(number);
+        let head = [it.block.offset, it.next, self.encloser(number)];
+        let mut words = head.map(|word| word as i32).to_vec();
         words.extend(it.parameters.iter().map(|&found| self.designator(found) as i32));
         words.extend(&it.values);
         words

@@ -78,7 +78,7 @@ impl Call {
             table: vec![0; 16],
             count: 0,
             name: 0,
-            sheet: 16 * 34,
+            sheet: 16 * 35,
         }
     }
 
