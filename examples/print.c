@@ -51,17 +51,27 @@ static void print_word(const struct name *name, unsigned position, int32_t word)
     }
 }
 
-/* One activation, from its first word; gives the word after it. */
-static size_t print_activation(const struct call *call, unsigned number, size_t at)
+static void print_encloser(int32_t encloser)
+{
+    if (encloser == 0) {
+        puts(", the program");
+    } else {
+        printf(", enclosed by activation %" PRId32 "\n", encloser);
+    }
+}
+
+/* One activation, from its first word; gives the number of its words. */
+static size_t print_activation(const uint8_t *script, unsigned number, const int32_t *words)
 {
     struct outline outline;
-    outline_of(call->script, (size_t)call->sheet[at], &outline);
-    printf("    activation %u: block at byte %" PRId32 ", next statement %" PRId32 "\n", number, call->sheet[at],
-           call->sheet[at + 1]);
-    for (unsigned position = 1; position <= outline.names; position++) {
-        print_word(&outline.name[position - 1], position, call->sheet[at + 1 + position]);
+    outline_of(script, (size_t)words[ENROL_SHEET_BLOCK], &outline);
+    printf("    activation %u: block at byte %" PRId32 ", next statement %" PRId32, number, words[ENROL_SHEET_BLOCK],
+           words[ENROL_SHEET_NEXT]);
+    print_encloser(words[ENROL_SHEET_ENCLOSER]);
+    for (unsigned name = 0; name < outline.names; name++) {
+        print_word(&outline.name[name], name + 1, words[ENROL_SHEET_NAMES + name]);
     }
-    return at + 2 + outline.names;
+    return ENROL_SHEET_NAMES + outline.names;
 }
 
 static void print_sheet(const struct call *call, size_t words)
@@ -69,7 +79,7 @@ static void print_sheet(const struct call *call, size_t words)
     printf("  sheet: %zu words\n", words);
     unsigned number = 1;
     for (size_t at = 0; at < words; number++) {
-        at = print_activation(call, number, at);
+        at += print_activation(call->script, number, call->sheet + at);
     }
 }
 

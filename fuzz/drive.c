@@ -234,7 +234,7 @@ static void print_call(const struct export *export, const struct call *call)
     for (size_t at = 0; at < call->table_len; at++) {
         fprintf(stderr, "%s%" PRId32, at ? "," : "", call->table[at]);
     }
-    fprintf(stderr, "%s %zu %zu\n", call->table_len ? "" : "-", call->sheet_len, export->own_len(call));
+    fprintf(stderr, "%s %zu %zu\n", call->table_len ? "" : ".", call->sheet_len, export->own_len(call));
 }
 
 static void fail(const char *what, size_t length, size_t at, int64_t right, int64_t got)

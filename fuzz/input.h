@@ -8,7 +8,7 @@ enum {
     HEADER = 64,        /* bytes before the script; those that are missing count as 0 */
     GIVEN_WORDS = 48,   /* of the table, a byte of the header for each; further ones are a right table's */
     MOST_WORDS = 255,   /* of the table */
-    MOST_SHEET = 257 * (2 + ENROL_MOST_NAMES) + 240
+    MOST_SHEET = 257 * (ENROL_SHEET_NAMES + ENROL_MOST_NAMES) + 240
 };
 
 struct call {

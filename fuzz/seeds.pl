@@ -22,12 +22,13 @@ sub allowance {
 
 sub seed { # FILE SCRIPT D N G TALLY COUNT NAME TABLE
     my ($file, $script, $d, $n, $g, $tally, $count, $name, $table) = @_;
-    my @words = $table eq '-' ? () : split /,/, $table;
+    my @words = $table eq '.' ? () : split /,/, $table;
     my $places = int(@words / 2);
     my $header = pack 'CCvCCCCv', edge($d, 255, 256, 257, 4294967295), edge($g, 65534, 65535, 65536, 4294967295), allowance($n),
         edge($tally > 1e12 ? 1e12 + 1 : $tally, 1e12 - 1, 1e12, 1e12 + 1), $count <= $places ? $count : 240, scalar @words, 0, $name;
     my @given = map { $_ < 0 ? 240 : edge($_, -1) } @words;
-    $header .= pack 'x6 C48', @given, (0) x (48 - @given);
+    push @given, 0 while @given < 48;
+    $header .= pack 'x6 C48', @given[0 .. 47];
     open my $out, '>:raw', "$folder/$file" or die "$folder/$file: $!";
     print $out $header, $script eq '-' ? '' : pack 'H*', $script;
 }

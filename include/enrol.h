@@ -56,9 +56,9 @@ extern "C" {
 #define ENROL_CHECK_WORDS 2
 #define ENROL_ANSWER_WORDS 9
 
-/* Words that must be lent for d activations: the sheet's, and the copying engine's area for a script of script_len
- * bytes. The chain engine is lent d records. */
-#define ENROL_SHEET_WORDS(d) ((size_t)(d) * (2 + ENROL_MOST_NAMES))
+/* Words that must be lent for d activations: the sheet's, 35 for each, and the copying engine's area for a script of
+ * script_len bytes. The chain engine is lent d records. */
+#define ENROL_SHEET_WORDS(d) ((size_t)(d) * (ENROL_SHEET_NAMES + ENROL_MOST_NAMES))
 #define ENROL_AREA_WORDS(d, script_len) ((size_t)(d) * ((size_t)(script_len) / 2))
 
 /* A designator names one declared name of a live activation: the activation's number, counted from 1 at the outermost,
@@ -167,6 +167,14 @@ enum enrol_end {
     ENROL_REFUSED = 3   /* for a cause from 1 to 14; nothing was run */
 };
 
+/* What stands in the words of one activation on a sheet; `how a sheet is read' below. */
+enum enrol_sheet {
+    ENROL_SHEET_BLOCK = 0,    /* byte offset of its block's BK */
+    ENROL_SHEET_NEXT = 1,     /* number of its next statement */
+    ENROL_SHEET_ENCLOSER = 2, /* number of the activation that encloses its text, 0 for the program's */
+    ENROL_SHEET_NAMES = 3     /* from here on a word for each name */
+};
+
 /* Running a script. Every engine takes and gives the following; what one takes beside it stands at its function.
  *
  * Taken:
@@ -196,11 +204,17 @@ enum enrol_end {
  * next one on the sheet.
  *
  * How a sheet is read. The live activations follow each other from the outermost, numbered from 1. Each has the byte
- * offset of its block's BK, the number of its next statement (one more than the block has where none is left), and a
- * word for each name of the block: the formals first, then the declarations in the order written. A variable's word is
- * its value, a label's or procedure's is 0, a formal's is the designator of the declared name that it finally stands
- * for. How many names an activation has, and of which kinds, is read from the script at its BK (and from the PR before
- * it, where it is a body).
+ * offset of its block's BK, the number of its next statement (one more than the block has where none is left), the
+ * number of its encloser, and a word for each name of the block: the formals first, then the declarations in the order
+ * written. A variable's word is its value, a label's or procedure's is 0, a formal's is the designator of the declared
+ * name that it finally stands for. How many names an activation has, and of which kinds, is read from the script at its
+ * BK (and from the PR before it, where it is a body).
+ *
+ * The encloser of an activation is the one that encloses its text. A block's is the one in which the block stands. A
+ * body's is the one that declares the procedure, whoever has called it and under whatever name: where a block is live
+ * more than once, each time has procedures of its own, and the encloser says whose was called. The program has none, so
+ * its word is 0. Who called or entered an activation is the one before it on the sheet. A name that an activation uses
+ * and does not declare is its encloser's, or that one's encloser's, and so on.
  *
  * Sample B, with the offsets of its records:
  *
@@ -224,17 +238,21 @@ enum enrol_end {
  *   108        CL 4 0
  *   114    CL 3 1 2
  *
- * After 9 steps (n = 9, spent) it has written 19 words:
+ * After 9 steps (n = 9, spent) it has written 23 words:
  *
- *     0 2  1 0 0         activation 1: the program; its one statement is begun, so 2 is next; variable 1 holds 1
- *    34 5  66 9 0 0      activation 2: 3's body, statement 5 is next; formal 4 stands for 66 = 1 * 64 + 2, procedure 2
- *                        of activation 1; variable 5 holds 9; procedure 6 and label 7 have 0
- *    34 7  131 2 0 0     activation 3: 3's body again, no statement left; formal 4 stands for 131 = 2 * 64 + 3,
- *                        procedure 6 of activation 2; its own variable 5 holds 2
- *    50 2                activation 4: 6's body, which has no names
+ *     0 2 0  1 0 0       activation 1: the program; its one statement is begun, so 2 is next; nothing encloses it;
+ *                        variable 1 holds 1
+ *    34 5 1  66 9 0 0    activation 2: 3's body, statement 5 is next; activation 1 declares 3; formal 4 stands for
+ *                        66 = 1 * 64 + 2, procedure 2 of activation 1; variable 5 holds 9; procedure 6 and label 7
+ *                        have 0
+ *    34 7 1  131 2 0 0   activation 3: 3's body again, no statement left; activation 2 has called it, and it is
+ *                        activation 1's 3 as before; formal 4 stands for 131 = 2 * 64 + 3, procedure 6 of activation 2;
+ *                        its own variable 5 holds 2
+ *    50 2 2              activation 4: 6's body, which has no names; activation 3 has called it by its formal, and it
+ *                        is activation 2's 6
  *
- * The looked-up name 5 gives 130 = 2 * 64 + 2: what activation 4 calls 5 is the variable of activation 2, whose
- * procedure 6 was handed on and called, and not that of activation 3.
+ * The looked-up name 5 gives 130 = 2 * 64 + 2: what activation 4 calls 5 is the variable of its encloser, activation 2,
+ * whose procedure 6 was handed on and called, and not that of activation 3.
  */
 
 /* Runs a script on the copying engine, which enters a block by copying its text with a new name for each name that it

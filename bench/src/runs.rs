@@ -11,6 +11,8 @@ use crate::row::Row;
 use crate::scripts;
 
 const D: u32 = 256;
+/// What D activations ask for.
+const SHEET_WORDS: usize = 35 * D as usize;
 const STEPS: u32 = 100_000;
 
 struct Work {
@@ -75,7 +77,7 @@ fn row(engine: Engine, work: Work) -> Row {
     let Work { workload, script, n, table, count, g } = work;
     let size = if n == 0 { format!("{} bytes", script.len()) } else { format!("{n} steps") };
     let asked = Asked { d: D, n, g, tally: 0, count, name: 1 };
-    let sheet = vec![0; 34 * D as usize];
+    let sheet = vec![0; SHEET_WORDS];
     let (mut own_table, mut own_sheet) = (table.clone(), sheet.clone());
     let mut own = own_words(engine, &script);
     let (mut table, mut sheet) = (table, sheet);
@@ -140,7 +142,7 @@ fn entering() -> Row {
     let words = 4_000;
     let entries = 1_000;
     let asked = Asked { d: D, n: 2 * entries, g: 3, tally: 0, count: 0, name: 1 };
-    let (mut table, mut sheet) = (vec![0; 16], vec![0; 34 * D as usize]);
+    let (mut table, mut sheet) = (vec![0; 16], vec![0; SHEET_WORDS]);
     let mut own = own_words(Engine::Copy, &script);
     let (from, mut to) = (vec![7u32; words], vec![0u32; words]);
     Row {
