@@ -133,7 +133,7 @@ faults = go rows refused-all bytes-all
 -- a procedure that takes nothing is handed to one that calls its formal with an argument
 unfoldable pub formal-called : Fed
 formal-called =
-    record { script = script-formal; activations = 3; allowance = 9; limit = 1; tally = 0; name = 0; lent = record { sheet = replicate 105 (pos 0); table = record { words = []; used = 0 } } }
+    record { script = script-formal; activations = 3; allowance = 9; limit = 1; tally = 0; name = 0; lent = record { sheet = replicate 105 (pos 0); table = record { words = []; used = 0 }; groups = [] } }
 
 stops-there : ((reply display formal-called) .answer .end ≡ Stopped ArgumentsDiffer) × ((reply display formal-called) .answer .offset ≡ 24) × (small (formal-called .script) ≡ true)
 unfolding computed tabled formal-called small

@@ -9,7 +9,7 @@ use Rattle.language.specs.Text.{Action, CL, GO, IF, KN, AR, AD, RM, QY, Stmt, B
 use Rattle.language.specs.Table.{Table, holds, size, atLeastOne, full, add, remove, right}
 use Rattle.language.specs.Machine.{Limits}
 use Rattle.laws.specs.Tables.{add-length}
-use Rattle.runs.specs.TableLaws.{add-right, remove-length, remove-right}
+use Rattle.table_laws.specs.Changes.{add-right, remove-length, remove-right}
 use Rattle.frames.specs.Frame.{Stack, withFrames, tableChanged, stepped, designates, mapAction, act, actStmt, frameStep, frameRun}
 use Rattle.frame_laws.specs.Actions.{does, stores}
 use Rattle.frames.specs.Running.{After, run-keeps}

@@ -13,6 +13,7 @@ use Rattle.language.specs.Text.{Kind, Formal, Action, CL, GO, IF, KN, AR, AD, R
 use Rattle.language.specs.Scope.{agree}
 use Rattle.language.specs.Check.{accepted, refused}
 use Rattle.language.specs.Table.{Table, Effect, leaves, halts, Asked, gives, refuses, added, removed, queried}
+use Rattle.language.specs.Groups.{relisted}
 use Rattle.language.specs.Machine.{Limits, compute}
 use Rattle.language.specs.Call.{Engine, Fed, Reply, limitsOf, admission, turnedAway, linksOf, written}
 use Rattle.language.specs.declared.Stop.{Stop}
@@ -289,7 +290,7 @@ frameSheet (f ∷ fs) = frameWords f ++ frameSheet fs
 unfoldable pub frameReplied : Engine → Fed → Result → Reply
 frameReplied e f r =
     let s = r .final in let ws = frameSheet (s .frames) in
-    record { answer = record { end = r .end; steps = s .steps; offset = r .offset; pairs = s .table .used; sheet = length ws; tally = f .tally + s .steps; designator = designates (s .frames) (f .name); links = linksOf e (linksFollowed (s .frames) (f .name)) }; lent = record { sheet = written ws (f .lent .sheet); table = s .table } }
+    record { answer = record { end = r .end; steps = s .steps; offset = r .offset; pairs = s .table .used; sheet = length ws; tally = f .tally + s .steps; designator = designates (s .frames) (f .name); links = linksOf e (linksFollowed (s .frames) (f .name)) }; lent = record { sheet = written ws (f .lent .sheet); table = s .table; groups = relisted (s .table) (f .lent .groups) } }
 
 unfoldable pub frameRunOf : Fed → Block → Result
 frameRunOf f t = frameRun (limitsOf f) (f .allowance) (frameStart t (f .lent .table))

@@ -12,6 +12,7 @@ use Rattle.language.specs.Text.{Block, Decl, VR, LB, PR, blockAt, blockDecls, f
 use Rattle.language.specs.Check.{accepted, check}
 use Rattle.language.specs.Table.{Table}
 use Rattle.language.specs.Copy.{without}
+use Rattle.language.specs.Groups.{relisted}
 use Rattle.language.specs.Machine.{Activation, State, Limits, Done, did, stop, cost, counted, enter, step, Outcome, ends, run, start, Instance, instance, instanceFrom}
 use Rattle.language.specs.Sheet.{LookedUp, seek, designator, declWord, activationWords, wordsOf, sheetWords, lookedUp, lookedUpDesignator, lookedUpLinks}
 use Rattle.language.specs.Call.{Engine, Fed, limitsOf, linksOf, written, replied, runOf}
@@ -199,7 +200,7 @@ replied-same e f o q h =
     let k : linksFollowed (t .frames) (f .name) ≡ lookedUpLinks s (f .name) = sym (looked s t r (f .name) (last? (s .live)) refl .1) in
     let x : q .end ≡ o .end = sym (h .end-is) in
     let y : q .offset ≡ o .offset = sym (h .offset-is) in
-    λ i. record { answer = record { end = x i; steps = n i; offset = y i; pairs = u i .used; sheet = length (ws i); tally = f .tally + n i; designator = d i; links = linksOf e (k i) }; lent = record { sheet = written (ws i) (f .lent .sheet); table = u i } }
+    λ i. record { answer = record { end = x i; steps = n i; offset = y i; pairs = u i .used; sheet = length (ws i); tally = f .tally + n i; designator = d i; links = linksOf e (k i) }; lent = record { sheet = written (ws i) (f .lent .sheet); table = u i; groups = relisted (u i) (f .lent .groups) } }
 
 pub runs-replied : (e : Engine) (f : Fed) → Bytes (f .script) → (t : Block) → check (f .script) ≡ accepted t → frameReplied e f (frameRunOf f t) ≡ replied e f (runOf f t)
 unfolding runOf frameRunOf

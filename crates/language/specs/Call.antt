@@ -10,6 +10,7 @@ use lib.ListN.{length, drop}
 use Rattle.language.specs.Text.{Block}
 use Rattle.language.specs.Check.{Checked, accepted, refused, check}
 use Rattle.language.specs.Table.{Table, right}
+use Rattle.language.specs.Groups.{listFits, listRight, relisted}
 use Rattle.language.specs.Machine.{State, Limits, Outcome, run, start}
 use Rattle.language.specs.Sheet.{sheetShare, sheetWords, lookedUpDesignator, lookedUpLinks}
 use Rattle.language.specs.declared.Refusal.{Refusal}
@@ -22,6 +23,7 @@ use Rattle.language.specs.declared.Answer.{Answer}
 pub record Lent : Type 0 where
   pub sheet : List ℤ
   pub table : Table
+  pub groups : List ℤ
 
 -- An engine: how many activation records and how many words of copying area it is lent beside that (`none`: it uses no such area), and
 -- whether it reports links.
@@ -97,7 +99,9 @@ testsBefore e f =
     record { holds = limitsFit f; otherwise = LimitRange } ∷
     record { holds = sheetFits f; otherwise = AreaTooShort } ∷
     record { holds = recordsFit e f; otherwise = AreaTooShort } ∷
-    record { holds = right (f .limit) (f .lent .table); otherwise = TableNotRight } ∷ []
+    record { holds = listFits (f .lent .table) (f .lent .groups); otherwise = AreaTooShort } ∷
+    record { holds = right (f .limit) (f .lent .table); otherwise = TableNotRight } ∷
+    record { holds = listRight (f .lent .table) (f .lent .groups); otherwise = TableNotRight } ∷ []
 
 unfoldable pub testsAfter : Engine → Fed → List Test
 testsAfter e f = record { holds = areaFits e f; otherwise = AreaTooShort } ∷ []
@@ -130,7 +134,7 @@ written ws sheet = ws ++ drop (length ws) sheet
 unfoldable pub replied : Engine → Fed → Outcome → Reply
 replied e f r =
     let s = r .final in let ws = sheetWords s in
-    record { answer = record { end = r .end; steps = s .steps; offset = r .offset; pairs = s .table .used; sheet = length ws; tally = f .tally + s .steps; designator = lookedUpDesignator s (f .name); links = linksOf e (lookedUpLinks s (f .name)) }; lent = record { sheet = written ws (f .lent .sheet); table = s .table } }
+    record { answer = record { end = r .end; steps = s .steps; offset = r .offset; pairs = s .table .used; sheet = length ws; tally = f .tally + s .steps; designator = lookedUpDesignator s (f .name); links = linksOf e (lookedUpLinks s (f .name)) }; lent = record { sheet = written ws (f .lent .sheet); table = s .table; groups = relisted (s .table) (f .lent .groups) } }
 
 unfoldable pub runOf : Fed → Block → Outcome
 runOf f t = run (limitsOf f) (f .allowance) (start t (f .lent .table))

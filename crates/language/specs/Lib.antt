@@ -1,4 +1,4 @@
--- The definitions of document 01, with requests 1 and 2 of document 02, in reading order.
+-- The definitions of document 01, with requests 1 to 3 of document 02, in reading order.
 pub mod Numbers
 pub mod Basics
 pub mod Text
@@ -7,6 +7,7 @@ pub mod Structure
 pub mod Scope
 pub mod Check
 pub mod Table
+pub mod Groups
 pub mod Copy
 pub mod Machine
 pub mod Sheet

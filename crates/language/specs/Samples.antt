@@ -1,7 +1,8 @@
--- Sample scripts: those that document 01 marks *, with the sheet of request 2, and rows for readings that nothing else rules out, in one table.
+-- Sample scripts: those that document 01 marks *, with the sheet of request 2 and the list of request 3, and rows for readings that nothing else
+-- rules out, in one table.
 -- docs/READINGS.md has the wrong readings that the rows rule out.
 -- A row compares whole replies: end with cause, steps, offset, pairs in use, count of sheet words, tally, designator and links of the answer,
--- and every word of sheet and table. `samples-hold` is the claim about all rows, each for every engine that it is about and no other;
+-- and every word of sheet, table and list. `samples-hold` is the claim about all rows, each for every engine that it is about and no other;
 -- `computed-once` is the test that is computed. A script's length is stated where document 01 gives it (`bytes-A`, `bytes-B`).
 use Prim.Native.Nat.{ℕ, zero, suc, _+_, _-_, _*_, _/_, _<_}
 use native.Mathlib.Nat.{not-suc-le-zero, le-of-suc-le-suc}
@@ -27,7 +28,7 @@ pub data About : Type 0 where
   only : Engine → About
 
 -- A row: what is fed (`short`: how many words of sheet are lent too few), and from `end` on what must come back. `links` are those of the
--- engine that reports them, `sheet` has the words written. The rest of a reply follows: the count of these words, the tally handed in and
+-- engine that reports them, `sheet` has the words written, `words` and `listed` are the table's and the list's, all of them. The rest of a reply follows: the count of these words, the tally handed in and
 -- the steps together, and past the words written what was there.
 pub record Sample : Type 0 where
   pub script : List ℕ
@@ -37,6 +38,7 @@ pub record Sample : Type 0 where
   pub about : About
   pub short : ℕ
   pub table : Table
+  pub groups : List ℤ
   pub name : ℕ
   pub end : End
   pub steps : ℕ
@@ -46,6 +48,7 @@ pub record Sample : Type 0 where
   pub links : ℕ
   pub sheet : List ℤ
   pub words : List ℤ
+  pub listed : List ℤ
 
 -- the tally handed in, and what k words of the lent sheet hold before, from word i on: no two are alike
 unfoldable pub lentTally : ℕ
@@ -60,7 +63,7 @@ lentSheet r = r .activations * 35 - r .short
 
 unfoldable pub fed : Sample → Fed
 fed r =
-    record { script = r .script; activations = r .activations; allowance = r .allowance; limit = r .limit; tally = lentTally; name = r .name; lent = record { sheet = lentWords 0 (lentSheet r); table = r .table } }
+    record { script = r .script; activations = r .activations; allowance = r .allowance; limit = r .limit; tally = lentTally; name = r .name; lent = record { sheet = lentWords 0 (lentSheet r); table = r .table; groups = r .groups } }
 
 -- An engine of a row, with the links that it must give.
 pub record Party : Type 0 where
@@ -83,7 +86,7 @@ got r p = reply (p .engine) (fed r)
 
 unfoldable pub wanted : Sample → Party → Reply
 wanted r p =
-    record { answer = record { end = r .end; steps = r .steps; offset = r .offset; pairs = r .pairs; sheet = length (r .sheet); tally = lentTally + r .steps; designator = r .designator; links = p .links }; lent = record { sheet = r .sheet ++ lentWords (length (r .sheet)) (lentSheet r - length (r .sheet)); table = record { words = r .words; used = r .pairs } } }
+    record { answer = record { end = r .end; steps = r .steps; offset = r .offset; pairs = r .pairs; sheet = length (r .sheet); tally = lentTally + r .steps; designator = r .designator; links = p .links }; lent = record { sheet = r .sheet ++ lentWords (length (r .sheet)) (lentSheet r - length (r .sheet)); table = record { words = r .words; used = r .pairs }; groups = r .listed } }
 
 unfoldable pub noPairs : ℕ → List ℤ
 noPairs n = replicate (n * 2) (pos 0)
@@ -184,15 +187,15 @@ script-handed =
 -- a call that runs to its end, stops or is refused, with N, from an empty table of eight pairs
 unfoldable pub ends-within : ℕ → List ℕ → ℕ → End → ℕ → ℕ → List ℤ → Sample
 ends-within allowance script d e n o ws =
-    record { script = script; activations = d; allowance = allowance; limit = 3; about = all; short = 0; table = record { words = noPairs 8; used = 0 }; name = 9; end = e; steps = n; offset = o; pairs = 0; designator = 0; links = 0; sheet = ws; words = noPairs 8 }
+    record { script = script; activations = d; allowance = allowance; limit = 3; about = all; short = 0; table = record { words = noPairs 8; used = 0 }; groups = noPairs 8; name = 9; end = e; steps = n; offset = o; pairs = 0; designator = 0; links = 0; sheet = ws; words = noPairs 8; listed = noPairs 8 }
 
 unfoldable pub ends-with : List ℕ → ℕ → End → ℕ → ℕ → List ℤ → Sample
 ends-with script d e n o ws = ends-within 1000 script d e n o ws
 
--- script A with group limit, table and its count; what comes of it
-unfoldable pub of-A : ℕ → List ℤ → ℕ → End → ℕ → ℕ → ℕ → List ℤ → List ℤ → Sample
-of-A g table used e n o pairs ws table′ =
-    record { script = script-A; activations = 16; allowance = 1000; limit = g; about = all; short = 0; table = record { words = table; used = used }; name = 9; end = e; steps = n; offset = o; pairs = pairs; designator = 0; links = 0; sheet = ws; words = table′ }
+-- script A with group limit, table, its count and list; what comes of it
+unfoldable pub of-A : ℕ → List ℤ → ℕ → List ℤ → End → ℕ → ℕ → ℕ → List ℤ → List ℤ → List ℤ → Sample
+of-A g table used groups e n o pairs ws table′ groups′ =
+    record { script = script-A; activations = 16; allowance = 1000; limit = g; about = all; short = 0; table = record { words = table; used = used }; groups = groups; name = 9; end = e; steps = n; offset = o; pairs = pairs; designator = 0; links = 0; sheet = ws; words = table′; listed = groups′ }
 
 -- script A stopped at its AD, which stands at offset 30
 unfoldable pub A-stopped : List ℤ
@@ -206,21 +209,29 @@ B-spent =
 -- a spent run, with the looked-up name
 unfoldable pub spent-at : List ℕ → ℕ → ℕ → ℕ → ℕ → List ℤ → Sample
 spent-at script n name designator links ws =
-    record { script = script; activations = 16; allowance = n; limit = 3; about = all; short = 0; table = record { words = noPairs 8; used = 0 }; name = name; end = Spent; steps = n; offset = 0; pairs = 0; designator = designator; links = links; sheet = ws; words = noPairs 8 }
+    record { script = script; activations = 16; allowance = n; limit = 3; about = all; short = 0; table = record { words = noPairs 8; used = 0 }; groups = noPairs 8; name = name; end = Spent; steps = n; offset = 0; pairs = 0; designator = designator; links = links; sheet = ws; words = noPairs 8; listed = noPairs 8 }
 
--- a refused call with N at its highest: script, G, engines, words short, table; cause and offset
-unfoldable pub refused-with : List ℕ → ℕ → About → ℕ → Table → Refusal → ℕ → Sample
-refused-with script g about short t c o =
-    record { script = script; activations = 16; allowance = 1000000; limit = g; about = about; short = short; table = t; name = 9; end = Refused c; steps = 0; offset = o; pairs = t .used; designator = 0; links = 0; sheet = []; words = t .words }
+-- a refused call with N at its highest: script, G, engines, words short, table and list; cause and offset
+unfoldable pub refused-with : List ℕ → ℕ → About → ℕ → Table → List ℤ → Refusal → ℕ → Sample
+refused-with script g about short t groups c o =
+    record { script = script; activations = 16; allowance = 1000000; limit = g; about = about; short = short; table = t; groups = groups; name = 9; end = Refused c; steps = 0; offset = o; pairs = t .used; designator = 0; links = 0; sheet = []; words = t .words; listed = groups }
 
--- the script is empty and a number of the table is 0; G, engines and words short vary
-unfoldable pub all-wrong : ℕ → About → ℕ → Refusal → Sample
-all-wrong g about short c = refused-with script-empty g about short (record { words = pos 6 ∷ pos 0 ∷ []; used = 1 }) c 0
+-- the script is empty, a number of the table is 0, and the list has another group; G, engines and words short vary, and the list's length
+unfoldable pub all-wrong : ℕ → About → ℕ → List ℤ → Refusal → Sample
+all-wrong g about short groups c = refused-with script-empty g about short (record { words = pos 6 ∷ pos 0 ∷ []; used = 1 }) groups c 0
+
+unfoldable pub wrong-list : List ℤ
+wrong-list = pos 7 ∷ pos 1 ∷ []
+
+-- a list that is not right, beside a table of three places; script A would run with a right one
+unfoldable pub not-listed : List ℤ → ℕ → List ℤ → Sample
+not-listed table used groups =
+    refused-with script-A 3 all 0 (record { words = table; used = used }) groups TableNotRight 0
 
 -- the first of three pairs in use taken out of four places
 unfoldable pub pair-taken-out : Sample
 pair-taken-out =
-    record { script = script-pair; activations = 16; allowance = 4; limit = 3; about = all; short = 0; table = record { words = pos 5 ∷ pos 7 ∷ pos 6 ∷ pos 1 ∷ pos 6 ∷ pos 2 ∷ pos 8 ∷ pos 9 ∷ []; used = 3 }; name = 3; end = Spent; steps = 4; offset = 0; pairs = 2; designator = 67; links = 0; sheet = pos 0 ∷ pos 5 ∷ pos 0 ∷ pos 5 ∷ pos 7 ∷ pos 1 ∷ []; words = pos 6 ∷ pos 1 ∷ pos 6 ∷ pos 2 ∷ pos 0 ∷ pos 0 ∷ pos 8 ∷ pos 9 ∷ [] }
+    record { script = script-pair; activations = 16; allowance = 4; limit = 3; about = all; short = 0; table = record { words = pos 5 ∷ pos 7 ∷ pos 6 ∷ pos 1 ∷ pos 6 ∷ pos 2 ∷ pos 8 ∷ pos 9 ∷ []; used = 3 }; groups = pos 5 ∷ pos 1 ∷ pos 6 ∷ pos 2 ∷ noPairs 2; name = 3; end = Spent; steps = 4; offset = 0; pairs = 2; designator = 67; links = 0; sheet = pos 0 ∷ pos 5 ∷ pos 0 ∷ pos 5 ∷ pos 7 ∷ pos 1 ∷ []; words = pos 6 ∷ pos 1 ∷ pos 6 ∷ pos 2 ∷ pos 0 ∷ pos 0 ∷ pos 8 ∷ pos 9 ∷ []; listed = pos 6 ∷ pos 2 ∷ noPairs 3 }
 
 unfoldable pub samples : List Sample
 samples =
@@ -229,28 +240,28 @@ samples =
     -- finished goes before spent
     ends-within 1 script-null 16 Finished 1 0 [] ∷
     spent-at script-null 0 9 0 0 (pos 0 ∷ pos 1 ∷ pos 0 ∷ []) ∷
-    of-A 3 (noPairs 8) 0 Finished 4 0 1 [] (pos 5 ∷ pos 7 ∷ noPairs 7) ∷
-    of-A 1 (pos 5 ∷ pos 8 ∷ noPairs 7) 1 (Stopped GroupFull) 2 30 1 A-stopped (pos 5 ∷ pos 8 ∷ noPairs 7) ∷
-    of-A 2 (pos 5 ∷ pos 8 ∷ noPairs 7) 1 Finished 4 0 2 [] (pos 5 ∷ pos 8 ∷ pos 5 ∷ pos 7 ∷ noPairs 6) ∷
-    of-A 1 (pos 5 ∷ pos 7 ∷ noPairs 7) 1 Finished 4 0 1 [] (pos 5 ∷ pos 7 ∷ noPairs 7) ∷
-    of-A 1 (noPairs 8) 0 Finished 4 0 1 [] (pos 5 ∷ pos 7 ∷ noPairs 7) ∷
-    of-A 3 (pos 6 ∷ pos 1 ∷ []) 1 (Stopped TableFull) 2 30 1 A-stopped (pos 6 ∷ pos 1 ∷ []) ∷
-    of-A 3 (pos 6 ∷ pos 1 ∷ noPairs 1) 1 Finished 4 0 2 [] (pos 6 ∷ pos 1 ∷ pos 5 ∷ pos 7 ∷ []) ∷
-    of-A 3 (pos 6 ∷ pos 0 ∷ []) 1 (Refused TableNotRight) 0 0 1 [] (pos 6 ∷ pos 0 ∷ []) ∷
+    of-A 3 (noPairs 8) 0 (noPairs 8) Finished 4 0 1 [] (pos 5 ∷ pos 7 ∷ noPairs 7) (pos 5 ∷ pos 1 ∷ noPairs 7) ∷
+    of-A 1 (pos 5 ∷ pos 8 ∷ noPairs 7) 1 (pos 5 ∷ pos 1 ∷ noPairs 7) (Stopped GroupFull) 2 30 1 A-stopped (pos 5 ∷ pos 8 ∷ noPairs 7) (pos 5 ∷ pos 1 ∷ noPairs 7) ∷
+    of-A 2 (pos 5 ∷ pos 8 ∷ noPairs 7) 1 (pos 5 ∷ pos 1 ∷ noPairs 7) Finished 4 0 2 [] (pos 5 ∷ pos 8 ∷ pos 5 ∷ pos 7 ∷ noPairs 6) (pos 5 ∷ pos 2 ∷ noPairs 7) ∷
+    of-A 1 (pos 5 ∷ pos 7 ∷ noPairs 7) 1 (pos 5 ∷ pos 1 ∷ noPairs 7) Finished 4 0 1 [] (pos 5 ∷ pos 7 ∷ noPairs 7) (pos 5 ∷ pos 1 ∷ noPairs 7) ∷
+    of-A 1 (noPairs 8) 0 (noPairs 8) Finished 4 0 1 [] (pos 5 ∷ pos 7 ∷ noPairs 7) (pos 5 ∷ pos 1 ∷ noPairs 7) ∷
+    of-A 3 (pos 6 ∷ pos 1 ∷ []) 1 (pos 6 ∷ pos 1 ∷ []) (Stopped TableFull) 2 30 1 A-stopped (pos 6 ∷ pos 1 ∷ []) (pos 6 ∷ pos 1 ∷ []) ∷
+    of-A 3 (pos 6 ∷ pos 1 ∷ noPairs 1) 1 (pos 6 ∷ pos 1 ∷ noPairs 1) Finished 4 0 2 [] (pos 6 ∷ pos 1 ∷ pos 5 ∷ pos 7 ∷ []) (pos 5 ∷ pos 1 ∷ pos 6 ∷ pos 1 ∷ []) ∷
+    of-A 3 (pos 6 ∷ pos 0 ∷ []) 1 (pos 6 ∷ pos 1 ∷ []) (Refused TableNotRight) 0 0 1 [] (pos 6 ∷ pos 0 ∷ []) (pos 6 ∷ pos 1 ∷ []) ∷
     -- 14 for a pair that stands twice, and for a group above G
-    of-A 3 (pos 5 ∷ pos 7 ∷ pos 5 ∷ pos 7 ∷ []) 2 (Refused TableNotRight) 0 0 2 [] (pos 5 ∷ pos 7 ∷ pos 5 ∷ pos 7 ∷ []) ∷
-    of-A 1 (pos 6 ∷ pos 1 ∷ pos 6 ∷ pos 2 ∷ []) 2 (Refused TableNotRight) 0 0 2 [] (pos 6 ∷ pos 1 ∷ pos 6 ∷ pos 2 ∷ []) ∷
+    of-A 3 (pos 5 ∷ pos 7 ∷ pos 5 ∷ pos 7 ∷ []) 2 (pos 5 ∷ pos 2 ∷ noPairs 1) (Refused TableNotRight) 0 0 2 [] (pos 5 ∷ pos 7 ∷ pos 5 ∷ pos 7 ∷ []) (pos 5 ∷ pos 2 ∷ noPairs 1) ∷
+    of-A 1 (pos 6 ∷ pos 1 ∷ pos 6 ∷ pos 2 ∷ []) 2 (pos 6 ∷ pos 2 ∷ noPairs 1) (Refused TableNotRight) 0 0 2 [] (pos 6 ∷ pos 1 ∷ pos 6 ∷ pos 2 ∷ []) (pos 6 ∷ pos 2 ∷ noPairs 1) ∷
     -- 24 before 25
-    of-A 1 (pos 5 ∷ pos 8 ∷ []) 1 (Stopped GroupFull) 2 30 1 A-stopped (pos 5 ∷ pos 8 ∷ []) ∷
+    of-A 1 (pos 5 ∷ pos 8 ∷ []) 1 (pos 5 ∷ pos 1 ∷ []) (Stopped GroupFull) 2 30 1 A-stopped (pos 5 ∷ pos 8 ∷ []) (pos 5 ∷ pos 1 ∷ []) ∷
     -- group before member; later pairs keep their order, words past the count their places
     pair-taken-out ∷
     -- 12 before 13; 13 for one word of sheet or one record too few, before 14 and 1
-    all-wrong 0 (only (chain 15)) 1 LimitRange ∷
-    all-wrong 65535 all 1 AreaTooShort ∷
-    all-wrong 65535 (only (chain 15)) 0 AreaTooShort ∷
+    all-wrong 0 (only (chain 15)) 1 [] LimitRange ∷
+    all-wrong 65535 all 1 wrong-list AreaTooShort ∷
+    all-wrong 65535 (only (chain 15)) 0 wrong-list AreaTooShort ∷
     -- 13 for a copying area one word too short; 9 before it
-    refused-with script-A 65535 (only (copying 287)) 0 (record { words = []; used = 0 }) AreaTooShort 0 ∷
-    refused-with (script-use (GO-mark ∷ 9 ∷ [])) 65535 (only (copying 0)) 0 (record { words = []; used = 0 }) NotVisible 12 ∷
+    refused-with script-A 65535 (only (copying 287)) 0 (record { words = []; used = 0 }) [] AreaTooShort 0 ∷
+    refused-with (script-use (GO-mark ∷ 9 ∷ [])) 65535 (only (copying 0)) 0 (record { words = []; used = 0 }) [] NotVisible 12 ∷
     spent-at script-B 9 5 130 1 B-spent ∷
     ends-with (script-arithmetic 65535 32767 1 0 0) 16 (Stopped ResultTooLarge) 2 30 (pos 0 ∷ pos 3 ∷ pos 0 ∷ pos 2147483647 ∷ pos 1 ∷ []) ∷
     ends-with (script-arithmetic 0 32768 1 0 1) 16 (Stopped ResultTooLarge) 2 30 (pos 0 ∷ pos 3 ∷ pos 0 ∷ negsuc 2147483647 ∷ pos 1 ∷ []) ∷
@@ -282,10 +293,32 @@ samples =
     -- IF goes where the variable is below 0
     spent-at script-negative 2 1 65 0 (pos 0 ∷ pos 1 ∷ pos 0 ∷ negsuc 0 ∷ pos 0 ∷ []) ∷
     -- a pair past the count is neither found nor of its group
-    of-A 2 (pos 5 ∷ pos 8 ∷ pos 5 ∷ pos 7 ∷ []) 1 Finished 4 0 2 [] (pos 5 ∷ pos 8 ∷ pos 5 ∷ pos 7 ∷ []) ∷
+    of-A 2 (pos 5 ∷ pos 8 ∷ pos 5 ∷ pos 7 ∷ []) 1 (pos 5 ∷ pos 1 ∷ noPairs 1) Finished 4 0 2 [] (pos 5 ∷ pos 8 ∷ pos 5 ∷ pos 7 ∷ []) (pos 5 ∷ pos 2 ∷ noPairs 1) ∷
     -- 8,192 bytes are read, 8,194 are not
-    refused-with (script-padded 4093) 65535 all 0 (record { words = []; used = 0 }) BytesAfter 6 ∷
-    refused-with (script-padded 4094) 65535 all 0 (record { words = []; used = 0 }) ScriptLength 0 ∷ []
+    refused-with (script-padded 4093) 65535 all 0 (record { words = []; used = 0 }) [] BytesAfter 6 ∷
+    refused-with (script-padded 4094) 65535 all 0 (record { words = []; used = 0 }) [] ScriptLength 0 ∷
+    -- 13 for a list one word too short, before 14 and 1; of a table of three words two are needed, and the table itself gets 14
+    all-wrong 65535 all 0 (pos 6 ∷ []) AreaTooShort ∷
+    refused-with script-A 3 all 0 (record { words = pos 6 ∷ pos 1 ∷ pos 6 ∷ []; used = 1 }) (pos 6 ∷ []) AreaTooShort 0 ∷
+    refused-with script-A 3 all 0 (record { words = pos 6 ∷ pos 1 ∷ pos 6 ∷ []; used = 1 }) (pos 6 ∷ pos 1 ∷ []) TableNotRight 0 ∷
+    -- 14 for a list that is not right, before 1: another group; groups that do not rise, or stand twice
+    refused-with script-empty 3 all 0 (record { words = pos 6 ∷ pos 1 ∷ []; used = 1 }) wrong-list TableNotRight 0 ∷
+    not-listed (pos 6 ∷ pos 1 ∷ pos 5 ∷ pos 1 ∷ noPairs 1) 2 (pos 6 ∷ pos 1 ∷ pos 5 ∷ pos 1 ∷ noPairs 1) ∷
+    not-listed (pos 6 ∷ pos 1 ∷ noPairs 2) 1 (pos 6 ∷ pos 1 ∷ pos 6 ∷ pos 1 ∷ noPairs 1) ∷
+    -- a group of no members, a place that is not in use before one that is, a number in a place with no group
+    not-listed (pos 6 ∷ pos 1 ∷ noPairs 2) 1 (pos 6 ∷ pos 1 ∷ pos 7 ∷ pos 0 ∷ noPairs 1) ∷
+    not-listed (pos 6 ∷ pos 1 ∷ noPairs 2) 1 (pos 0 ∷ pos 0 ∷ pos 6 ∷ pos 1 ∷ noPairs 1) ∷
+    not-listed (pos 6 ∷ pos 1 ∷ noPairs 2) 1 (pos 6 ∷ pos 1 ∷ pos 0 ∷ pos 1 ∷ noPairs 1) ∷
+    -- a number that is no full count, a group of the table that is not there; a pair past the count is not counted
+    not-listed (pos 6 ∷ pos 1 ∷ pos 6 ∷ pos 2 ∷ noPairs 1) 2 (pos 6 ∷ pos 1 ∷ noPairs 2) ∷
+    not-listed (pos 6 ∷ pos 1 ∷ pos 7 ∷ pos 1 ∷ noPairs 1) 2 (pos 6 ∷ pos 1 ∷ noPairs 2) ∷
+    not-listed (pos 6 ∷ pos 1 ∷ pos 6 ∷ pos 2 ∷ noPairs 1) 1 (pos 6 ∷ pos 2 ∷ noPairs 2) ∷
+    -- a new group between two others; whatever stands after the words needed
+    of-A 3 (pos 6 ∷ pos 1 ∷ pos 4 ∷ pos 7 ∷ pos 6 ∷ pos 2 ∷ noPairs 1) 3 (pos 4 ∷ pos 1 ∷ pos 6 ∷ pos 2 ∷ noPairs 2 ++ (pos 3 ∷ pos 8 ∷ pos 1 ∷ [])) Finished 4 0 4 [] (pos 6 ∷ pos 1 ∷ pos 4 ∷ pos 7 ∷ pos 6 ∷ pos 2 ∷ pos 5 ∷ pos 7 ∷ []) (pos 4 ∷ pos 1 ∷ pos 5 ∷ pos 1 ∷ pos 6 ∷ pos 2 ∷ noPairs 1 ++ (pos 3 ∷ pos 8 ∷ pos 1 ∷ [])) ∷
+    -- numbers that are no full counts though their sum is right, a group that has no pair, a number with no group in front
+    not-listed (pos 6 ∷ pos 1 ∷ pos 6 ∷ pos 2 ∷ pos 7 ∷ pos 1 ∷ []) 3 (pos 6 ∷ pos 1 ∷ pos 7 ∷ pos 2 ∷ noPairs 1) ∷
+    not-listed (pos 6 ∷ pos 1 ∷ noPairs 2) 1 (pos 6 ∷ pos 1 ∷ pos 7 ∷ pos 1 ∷ noPairs 1) ∷
+    not-listed (pos 6 ∷ pos 1 ∷ noPairs 2) 1 (pos 0 ∷ pos 1 ∷ pos 6 ∷ pos 1 ∷ noPairs 1) ∷ []
 
 -- the first row stands for what lies past the end
 unfoldable pub row : ℕ → Sample
@@ -297,7 +330,7 @@ replies f r = map (f r) (parties r)
 
 -- The definitions of this table, to be computed with those of `computed`.
 unfoldable pub tabled : Unit {0}
-unfolding lentTally lentWords lentSheet fed parties got wanted replies noPairs script-empty script-null script-A script-B script-arithmetic script-nested script-order script-goto script-crossed script-procedure inside-blocks script-use script-pair script-formal script-highest script-own script-handed script-negative script-padded ends-within ends-with of-A A-stopped B-spent spent-at refused-with all-wrong pair-taken-out samples
+unfolding lentTally lentWords lentSheet fed parties got wanted replies noPairs script-empty script-null script-A script-B script-arithmetic script-nested script-order script-goto script-crossed script-procedure inside-blocks script-use script-pair script-formal script-highest script-own script-handed script-negative script-padded ends-within ends-with of-A A-stopped B-spent spent-at refused-with all-wrong wrong-list not-listed pair-taken-out samples
 tabled = tt
 
 computed-once : map (replies got) samples ≡ map (replies wanted) samples

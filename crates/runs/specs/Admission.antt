@@ -8,11 +8,13 @@ use mathlib.Core.Logic.{_↔_}
 use mathlib.Core.Option.{Option, none, some}
 use mathlib.Core.Path.{_≡_, refl, sym, ap, _∙_, subst}
 use lib.Dec.{leb}
+use lib.IntN.{ℤ}
 use lib.ListN.{length}
 use borrow.Author.Tests.{leb-true}
 use Rattle.language.specs.Text.{Block}
 use Rattle.language.specs.Check.{Checked, accepted, refused, check}
-use Rattle.language.specs.Table.{right}
+use Rattle.language.specs.Table.{Table, right}
+use Rattle.language.specs.Groups.{listWords, listFits, listRight}
 use Rattle.language.specs.Sheet.{sheetShare}
 use Rattle.language.specs.Call.{Engine, Fed, limitsFit, sheetFits, recordsFit, areaFits, firstFailing, testsBefore, testsAfter, admission, Leaves}
 use Rattle.language.specs.declared.Refusal.{Refusal}
@@ -120,9 +122,17 @@ module _ {e : Engine} {f : Fed} {t : Block} (h : Admitted e f t) where
   unfolding testsBefore
   records-fit = h .before .1 .1 .0
 
+  pub list-fits : listFits (f .lent .table) (f .lent .groups) ≡ true
+  unfolding testsBefore
+  list-fits = h .before .1 .1 .1 .0
+
   pub table-right : right (f .limit) (f .lent .table) ≡ true
   unfolding testsBefore
-  table-right = h .before .1 .1 .1 .0
+  table-right = h .before .1 .1 .1 .1 .0
+
+  pub list-right : listRight (f .lent .table) (f .lent .groups) ≡ true
+  unfolding testsBefore
+  list-right = h .before .1 .1 .1 .1 .1 .0
 
   pub area-fits : areaFits e f ≡ true
   unfolding testsAfter
@@ -136,6 +146,16 @@ unfolding limitsFit
 activations-fit f e =
     let q = (and-eq-true-iff (leb 1 (f .activations)) (leb (f .activations) 256)) .0 (first _ (leb (f .allowance) 1000000) (first _ (leb 1 (f .limit)) (first _ (leb (f .limit) 65535) (first _ (leb (f .tally) 1000000000000) e)))) in
     (leb-true 1 (f .activations) (q .0), leb-true (f .activations) 256 (q .1))
+
+pub limit-fits : (f : Fed) → limitsFit f ≡ true → f .limit ≤ 65535
+unfolding limitsFit
+limit-fits f e =
+    let before = leb 1 (f .activations) && leb (f .activations) 256 && leb (f .allowance) 1000000 && leb 1 (f .limit) in
+    leb-true (f .limit) 65535 (((and-eq-true-iff before (leb (f .limit) 65535)) .0 (first (before && leb (f .limit) 65535) (leb (f .tally) 1000000000000) e)) .1)
+
+pub list-lent : (t : Table) (ws : List ℤ) → listFits t ws ≡ true → listWords t ≤ length ws
+unfolding listFits
+list-lent t ws q = leb-true (listWords t) (length ws) q
 
 pub sheet-lent : (f : Fed) → sheetFits f ≡ true → f .activations * sheetShare ≤ length (f .lent .sheet)
 unfolding sheetFits

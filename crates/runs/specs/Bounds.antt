@@ -15,7 +15,7 @@ use Rattle.laws.specs.Lists.{butLast-length, replaced-length, getElem-bound}
 use Rattle.laws.specs.Tables.{add-length}
 use Rattle.laws.specs.Instances.{found-at}
 use Rattle.runs.specs.Moves.{Kept, run-keeps}
-use Rattle.runs.specs.TableLaws.{remove-length}
+use Rattle.table_laws.specs.Changes.{remove-length}
 
 words-stay : (l : Limits) (w : ℕ) → Kept l (λ s. length (s .table .words) ≡ w)
 unfolding withLive withTable store enter advance

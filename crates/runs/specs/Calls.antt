@@ -1,7 +1,7 @@
--- The whole call `reply e f`: what a refusal leaves, and that sheet and table keep their lengths in every case. The theorems: `due-reply`,
--- `admitted-reply`, `refused-due`, `refused-untouched`, `table-length`, `sheet-length` and `reported`; `answered-same` is for another
+-- The whole call `reply e f`: what a refusal leaves, and that sheet, table and list keep their lengths in every case. The theorems: `due-reply`,
+-- `admitted-reply`, `refused-due`, `refused-untouched`, `table-length`, `sheet-length`, `list-length` and `reported`; `answered-same` is for another
 -- machine's whole call.
-use Prim.Native.Nat.{ℕ, _+_, _*_, _≤_, zero-le}
+use Prim.Native.Nat.{ℕ, _+_, _*_, _/_, _≤_, zero-le}
 use native.Mathlib.Nat.{add-zero}
 use native.Mathlib.Omega.{arith}
 use mathlib.Core.Logic.{_≢_}
@@ -12,19 +12,22 @@ use lib.Seq.{drop-append-seam}
 use Rattle.language.specs.Text.{Block}
 use Rattle.language.specs.Check.{Checked, accepted, refused, check}
 use Rattle.language.specs.Table.{Table, right}
+use Rattle.language.specs.Groups.{listWords, listFits, listRight, relisted}
+use Rattle.table_laws.specs.Rightness.{right-means, right-numbers}
+use Rattle.table_laws.specs.RightLists.{relisted-right, relisted-past, relisted-length}
 use Rattle.language.specs.Machine.{run, start, enter}
 use Rattle.language.specs.Sheet.{sheetShare, sheetWords, lookedUpDesignator}
 use Rattle.language.specs.Call.{Engine, Fed, Reply, limitsOf, admission, turnedAway, written, replied, runOf, reply}
 use Rattle.language.specs.declared.Refusal.{Refusal}
 use Rattle.language.specs.declared.End.the-variants.{Refused}
 use Rattle.runs.specs.Steps.{steps-at-most, never-refused}
-use Rattle.runs.specs.TableLaws.{run-right}
+use Rattle.runs.specs.Tables.{run-right}
 use Rattle.runs.specs.Bounds.{words-kept, start-bound}
 use Rattle.runs.specs.Names.{FitsState, run-fits, start-fits}
 use Rattle.runs.specs.Accepted.{accepted-fits}
 use Rattle.runs.specs.Designators.{lookedUp-most}
 use Rattle.runs.specs.SheetWords.{sheet-words-most}
-use Rattle.runs.specs.Admission.{Due, Admitted, admission-cases, due-refused, admitted-accepted, limits-fit, sheet-fits, activations-fit, sheet-lent}
+use Rattle.runs.specs.Admission.{Due, Admitted, admission-cases, due-refused, admitted-accepted, limits-fit, sheet-fits, list-fits, table-right, activations-fit, sheet-lent, list-lent}
 
 -- what a call answers that runs an admitted program by `ran`
 abbrev pub answered : Fed → (Block → Reply) → Checked → Reply
@@ -129,6 +132,44 @@ ran-sheet e f t h =
 pub sheet-length : (e : Engine) (f : Fed) → length ((reply e f) .lent .sheet) ≡ length (f .lent .sheet)
 sheet-length e f = reply-cases (λ r. length (r .lent .sheet) ≡ length (f .lent .sheet)) e f (λ c o h. ap (λ l. length (l .sheet)) ((away-untouched f c o) .lent)) (λ t h. ran-sheet e f t h)
 
+-- the table that a run leaves, and its list
+module _ {e : Engine} {f : Fed} (t : Block) (h : Admitted e f t) where
+  left : Table
+  left = (run (limitsOf f) (f .allowance) (start t (f .lent .table))) .final .table
+
+  left-right : right (f .limit) left ≡ true
+  unfolding left
+  left-right = run-right (limitsOf f) (f .allowance) (start t (f .lent .table)) (ap (right (f .limit)) (start-table t (f .lent .table)) ∙ table-right h)
+
+  left-long : length (left .words) ≡ length (f .lent .table .words)
+  unfolding left
+  left-long = words-kept (limitsOf f) (f .allowance) (start t (f .lent .table)) ∙ ap (λ x. length (x .words)) (start-table t (f .lent .table))
+
+  words-needed : listWords left ≡ listWords (f .lent .table)
+  unfolding listWords
+  words-needed = ap (λ n. 2 * (n / 2)) left-long
+
+  list-long : listWords left ≤ length (f .lent .groups)
+  list-long = omega (arith, words-needed, list-lent (f .lent .table) (f .lent .groups) (list-fits h))
+
+  left-listed : listRight left (relisted left (f .lent .groups)) ≡ true
+  left-listed = relisted-right left ((right-means (f .limit) left left-right) .fits) (right-numbers (f .limit) left left-right) (f .lent .groups) list-long
+
+  left-past : drop (listWords (f .lent .table)) (relisted left (f .lent .groups)) ≡ drop (listWords (f .lent .table)) (f .lent .groups)
+  left-past =
+      subst (λ n. drop n (relisted left (f .lent .groups)) ≡ drop n (f .lent .groups)) words-needed
+      (relisted-past left ((right-means (f .limit) left left-right) .fits) (right-numbers (f .limit) left left-right) (f .lent .groups) list-long)
+
+  left-list-length : length (relisted left (f .lent .groups)) ≡ length (f .lent .groups)
+  left-list-length = relisted-length left ((right-means (f .limit) left left-right) .fits) (right-numbers (f .limit) left left-right) (f .lent .groups) list-long
+
+ran-list : (e : Engine) (f : Fed) (t : Block) → Admitted e f t → length ((replied e f (runOf f t)) .lent .groups) ≡ length (f .lent .groups)
+unfolding replied runOf left
+ran-list e f t h = left-list-length t h
+
+pub list-length : (e : Engine) (f : Fed) → length ((reply e f) .lent .groups) ≡ length (f .lent .groups)
+list-length e f = reply-cases (λ r. length (r .lent .groups) ≡ length (f .lent .groups)) e f (λ c o h. ap (λ l. length (l .groups)) ((away-untouched f c o) .lent)) (λ t h. ran-list e f t h)
+
 -- What the answer reports, in every case. (The links are at most 15 where the script is of bytes: `links-most` of coordinates.)
 pub record Reported (f : Fed) (r : Reply) : Type 0 where
   pub steps : r .answer .steps ≤ f .allowance
@@ -140,19 +181,22 @@ pub record Reported (f : Fed) (r : Reply) : Type 0 where
   pub past : drop (r .answer .sheet) (r .lent .sheet) ≡ drop (r .answer .sheet) (f .lent .sheet)
   -- a right table comes back right
   pub table : right (f .limit) (f .lent .table) ≡ true → right (f .limit) (r .lent .table) ≡ true
+  -- where table and list are right, the list that comes back is that of the table that comes back; past it all is as it was
+  pub list : right (f .limit) (f .lent .table) ≡ true → listFits (f .lent .table) (f .lent .groups) ≡ true → listRight (f .lent .table) (f .lent .groups) ≡ true → listRight (r .lent .table) (r .lent .groups) ≡ true
+  pub past-list : drop (listWords (f .lent .table)) (r .lent .groups) ≡ drop (listWords (f .lent .table)) (f .lent .groups)
 
 away-reported : (f : Fed) (c : Refusal) (o : ℕ) → Reported f (turnedAway f c o)
 unfolding turnedAway
-away-reported f c o = record { steps = zero-le; tally = sym (add-zero (f .tally)); pairs = refl; words = zero-le; designator = zero-le; past = refl; table = λ h. h }
+away-reported f c o = record { steps = zero-le; tally = sym (add-zero (f .tally)); pairs = refl; words = zero-le; designator = zero-le; past = refl; table = λ h. h; list = λ a b c. c; past-list = refl }
 
 ran-reported : (e : Engine) (f : Fed) (t : Block) → Admitted e f t → Reported f (replied e f (runOf f t))
-unfolding replied written runOf
+unfolding replied written runOf left
 ran-reported e f t h =
     let n = f .allowance in
     let u = f .lent .table in
     let s = start t u in
     let ws = sheetWords ((run (limitsOf f) n s) .final) in
-    record { steps = omega (arith, steps-at-most (limitsOf f) n s, start-steps t u); tally = refl; pairs = refl; words = words-fit t h; designator = designator-fits t h; past = drop-append-seam ws (drop (length ws) (f .lent .sheet)); table = λ r. run-right (limitsOf f) n s (ap (right (f .limit)) (start-table t u) ∙ r) }
+    record { steps = omega (arith, steps-at-most (limitsOf f) n s, start-steps t u); tally = refl; pairs = refl; words = words-fit t h; designator = designator-fits t h; past = drop-append-seam ws (drop (length ws) (f .lent .sheet)); table = λ r. run-right (limitsOf f) n s (ap (right (f .limit)) (start-table t u) ∙ r); list = λ a b c. left-listed t h; past-list = left-past t h }
 
 pub reported : (e : Engine) (f : Fed) → Reported f (reply e f)
 reported e f = reply-cases (Reported f) e f (λ c o h. away-reported f c o) (λ t h. ran-reported e f t h)

@@ -6,10 +6,7 @@ pub mod Reasons
 pub mod Steps
 pub mod Onward
 pub mod Stops
-pub mod Pairs
-pub mod TakingOut
-pub mod Rightness
-pub mod TableLaws
+pub mod Tables
 pub mod Bounds
 pub mod Names
 pub mod Accepted

@@ -1,5 +1,4 @@
 -- Adding and removing a pair: what the words then hold, how many members a group then has, and that a right table stays right.
--- `run-right` is the theorem about runs; `add-right` and `remove-right` are its two cases.
 use Prim.Native.Nat.{ℕ, zero, suc, _+_, _*_, _%_, _≤_, _<_}
 use native.Mathlib.Nat.{not-suc-le-zero, add-zero}
 use native.Mathlib.Omega.{arith}
@@ -13,13 +12,11 @@ use lib.ListN.{length, getD, set, length-set}
 use lib.Seq.{getD-set-same, getD-set-other}
 use Rattle.language.specs.Basics.{eqZ}
 use Rattle.language.specs.Table.{Table, find, isSome, holds, members, size, atLeastOne, right, full, add, takeOut, fewer, remove}
-use Rattle.language.specs.Machine.{State, Limits, withLive, withTable, counted, store, enter, advance, run}
 use Rattle.laws.specs.Tests.{eqZ-true}
 use Rattle.laws.specs.Tables.{groupAt, memberAt, orElse, find-next, members-next, full-room, add-length, add-used, takeOut-length}
-use Rattle.runs.specs.Pairs.{At, below-or, find-some, find-same, find-absent, find-present, absent, members-same}
-use Rattle.runs.specs.TakingOut.{takeOut-place-before, takeOut-place-after, takeOut-members}
-use Rattle.runs.specs.Rightness.{Right, right-means, right-holds}
-use Rattle.runs.specs.Moves.{Kept, run-keeps}
+use Rattle.table_laws.specs.Pairs.{At, below-or, find-some, find-same, find-absent, find-present, absent, members-same}
+use Rattle.table_laws.specs.TakingOut.{takeOut-place-before, takeOut-place-after, takeOut-members}
+use Rattle.table_laws.specs.Rightness.{Right, right-means, right-holds}
 
 -- Adding.
 -- the words before the new pair stay, and so do those after it
@@ -242,14 +239,3 @@ remove-size h g m t f = go (find g m (t .used) (t .words)) refl
     go (some i) e =
         let p = find-some g m (t .used) (t .words) i f e in
         takeOut-members h i (t .used) (t .words) f (p .0) ∙ ap₂ (λ x a. members h (x .used) (x .words) + cond (eqZ a h) 1 0) (sym (remove-present g m t i e)) (p .1 .0)
-
--- Running.
-right-kept : (l : Limits) → Kept l (λ s. right (l .limit) (s .table) ≡ true)
-unfolding withLive withTable store enter advance
-right-kept l =
-    record { left = λ s h. h; advanced = λ s a e h. h; stored = λ s x z h. h; entered = λ s a b e n r h. h; called = λ s p xs i e g r h. h; jumped = λ s x i e h. h; added = λ s g m n a z f h. add-right (l .limit) g m (s .table) h n a z f; removed = λ s g m h. remove-right (l .limit) g m (s .table) h }
-
--- a table that is right at first is right when the run ends
-pub run-right : (l : Limits) (n : ℕ) (s : State) → right (l .limit) (s .table) ≡ true → right (l .limit) ((run l n s) .final .table) ≡ true
-unfolding counted
-run-right l n s h = run-keeps l (λ x. right (l .limit) (x .table) ≡ true) (right-kept l) (λ x y q. q) n s h

@@ -13,7 +13,7 @@ use borrow.Author.Tests.{eqb-true, eq-eqb, leb-true, le-leb, not-true}
 use Rattle.language.specs.Table.{Table, find, isSome, members, size, atLeastOne, numbersRight, noneTwice, groupsWithin, right}
 use Rattle.laws.specs.Tests.{both}
 use Rattle.laws.specs.Tables.{groupAt, memberAt, groupAt-suc, memberAt-suc}
-use Rattle.runs.specs.Pairs.{At, below-or, absent, find-absent, members-where}
+use Rattle.table_laws.specs.Pairs.{At, below-or, absent, find-absent, members-where}
 
 -- Of the pairs in use: both numbers are at least 1, equal pairs are at the same place, and each group has at most limit members.
 pub record Right (limit : ℕ) (t : Table) : Type 0 where
@@ -26,10 +26,10 @@ pub record Right (limit : ℕ) (t : Table) : Type 0 where
 and : (a b : Bool) → a ≡ true → b ≡ true → a && b ≡ true
 and a b p q = (and-eq-true-iff a b) .1 (p, q)
 
-abbrev Numbers : ℕ → List ℤ → Type 0
+abbrev pub Numbers : ℕ → List ℤ → Type 0
 Numbers k ws = (i : ℕ) → i < k → (atLeastOne (groupAt i ws) ≡ true) × (atLeastOne (memberAt i ws) ≡ true)
 
-numbers-means : (k : ℕ) (ws : List ℤ) → 2 * k ≤ length ws → numbersRight k ws ≡ true → Numbers k ws
+pub numbers-means : (k : ℕ) (ws : List ℤ) → 2 * k ≤ length ws → numbersRight k ws ≡ true → Numbers k ws
 unfolding numbersRight
 numbers-means zero ws f e i l = absurd (not-suc-le-zero l)
 numbers-means (suc k) [] f e i l = absurd (omega arith)
@@ -74,7 +74,7 @@ once-hold (suc k) (a ∷ b ∷ ws) f h =
 abbrev Within : ℕ → Table → ℕ → List ℤ → Type 0
 Within limit t k ws = (i : ℕ) → i < k → size (groupAt i ws) t ≤ limit
 
-within-means : (limit : ℕ) (t : Table) (k : ℕ) (ws : List ℤ) → 2 * k ≤ length ws → groupsWithin limit t k ws ≡ true → Within limit t k ws
+pub within-means : (limit : ℕ) (t : Table) (k : ℕ) (ws : List ℤ) → 2 * k ≤ length ws → groupsWithin limit t k ws ≡ true → Within limit t k ws
 unfolding groupsWithin
 within-means limit t zero ws f e i l = absurd (not-suc-le-zero l)
 within-means limit t (suc k) [] f e i l = absurd (omega arith)
@@ -83,7 +83,7 @@ within-means limit t (suc k) (a ∷ b ∷ ws) f e zero l = leb-true (size a t) l
 within-means limit t (suc k) (a ∷ b ∷ ws) f e (suc i) l =
     rw (groupAt-suc i a b ws) (within-means limit t k ws (omega arith) ((both (leb (size a t) limit) (groupsWithin limit t k ws) e) .1) i (le-of-suc-le-suc l))
 
-within-hold : (limit : ℕ) (t : Table) (k : ℕ) (ws : List ℤ) → ((g : ℤ) → size g t ≤ limit) → groupsWithin limit t k ws ≡ true
+pub within-hold : (limit : ℕ) (t : Table) (k : ℕ) (ws : List ℤ) → ((g : ℤ) → size g t ≤ limit) → groupsWithin limit t k ws ≡ true
 unfolding groupsWithin
 within-hold limit t zero ws h = refl
 within-hold limit t (suc k) [] h = refl
@@ -91,7 +91,7 @@ within-hold limit t (suc k) (a ∷ []) h = refl
 within-hold limit t (suc k) (a ∷ b ∷ ws) h = and (leb (size a t) limit) (groupsWithin limit t k ws) (le-leb (size a t) limit (h a)) (within-hold limit t k ws h)
 
 -- a group without a place in use has no members
-within-all : (limit : ℕ) (t : Table) → 2 * t .used ≤ length (t .words) → Within limit t (t .used) (t .words) → (g : ℤ) → size g t ≤ limit
+pub within-all : (limit : ℕ) (t : Table) → 2 * t .used ≤ length (t .words) → Within limit t (t .used) (t .words) → (g : ℤ) → size g t ≤ limit
 unfolding size
 within-all limit t f h g = go (members-where g (t .used) (t .words) f)
   where
@@ -130,3 +130,7 @@ right-holds limit t r =
     (and (eqb (length ws % 2) 0) (leb (2 * k) (length ws)) (eq-eqb (length ws % 2) 0 (r .even)) (le-leb (2 * k) (length ws) (r .fits))) (numbers-hold k ws (r .numbers)))
     (once-hold k ws (r .fits) (λ i j l m p. let e : j ≡ i = r .once j i m (omega arith) p in omega arith)))
     (within-hold limit t k ws (r .within))
+
+-- the numbers' test by itself
+pub right-numbers : (limit : ℕ) (t : Table) → right limit t ≡ true → numbersRight (t .used) (t .words) ≡ true
+right-numbers limit t e = numbers-hold (t .used) (t .words) ((right-means limit t e) .numbers)

@@ -12,7 +12,7 @@ use Rattle.language.specs.Basics.{eqZ}
 use Rattle.language.specs.Table.{members, takeOut, fewer}
 use Rattle.laws.specs.Lists.{twice-suc, twice-suc-one}
 use Rattle.laws.specs.Tables.{groupAt, memberAt, groupAt-suc, counts, takeOut-length}
-use Rattle.runs.specs.Pairs.{At, members-same}
+use Rattle.table_laws.specs.Pairs.{At, members-same}
 
 -- the words before the place stay
 pub takeOut-before : (i k : ℕ) (ws : List ℤ) (n : ℕ) (d : ℤ) → n < 2 * i → getD (takeOut i k ws) n d ≡ getD ws n d
