@@ -1,3 +1,3 @@
 -- Laws that the proofs of several functions cite.
-pub mod TakeOut
 pub mod Statements
+pub mod Listed

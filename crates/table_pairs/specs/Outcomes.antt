@@ -1,11 +1,8 @@
 -- AD, RM and QY as the code answers: what the definitions of the table come to, in the code's enums and words.
 use Prim.Native.Nat.{ℕ}
-use mathlib.Core.Bool.{true, false}
 use mathlib.Core.List.{List}
-use lib.Dec.{leb}
 use lib.IntN.{ℤ}
-use Rattle.language.specs.Table.{Table, size, full, add, Effect, leaves, halts, Asked, gives, refuses}
-use Rattle.language.specs.declared.Stop.the-variants.{GroupFull, TableFull}
+use Rattle.language.specs.Table.{Table, Effect, leaves, halts, Asked, gives, refuses}
 use Rattle.table_pairs.specs.declared.Change.{Change}
 use Rattle.table_pairs.specs.declared.Change.the-variants.{Done as Count, Stopped}
 use Rattle.table_pairs.specs.declared.Query.{Query}
@@ -14,17 +11,14 @@ use Rattle.table_pairs.specs.declared.Query.the-variants.{Value, Stopped
 abbrev pub tableOf : List ℤ → ℕ → Table
 tableOf ws k = record { words = ws; used = k }
 
--- AD of a pair that is absent, with numbers of at least 1
-unfoldable pub addedAbsent : ℕ → ℤ → ℤ → Table → Effect
-addedAbsent limit g m t =
-    elim (leb limit (size g t)) [
-      | true ↦ halts GroupFull
-      | false ↦ elim (full t) [ true ↦ halts TableFull | false ↦ leaves (add g m t) ]
-    ]
-
 unfoldable pub changeOf : Effect → Change
 changeOf (leaves t) = Count (t .used)
 changeOf (halts c) = Stopped c
+
+-- the count of pairs after it
+unfoldable pub countAfter : ℕ → Change → ℕ
+countAfter k (Count n) = n
+countAfter k (Stopped c) = k
 
 -- a cause leaves the words as they were
 unfoldable pub wordsAfter : List ℤ → Effect → List ℤ

@@ -1,23 +1,19 @@
-// Pairs of the membership table added and taken out, and AD, RM and QY.
+// AD, RM and QY. AD and RM keep the list of groups beside the table as the table has it.
 ghost use mathlib.Core.Path.{_≡_};
-ghost use Prim.Native.Nat.{_*_, min};
-ghost use lib.ListN.{set};
-ghost use Rattle.language.specs.Table.{add, takeOut, added, removed, queried};
-ghost use Rattle.table_pairs.specs.Searches.{searchOf};
-ghost use Rattle.table_pairs.specs.Outcomes.{tableOf, addedAbsent, changeOf, valueOf, wordsAfter};
+ghost use Prim.Native.Nat.{ℕ, _*_, _≤_};
+ghost use lib.ListN.{length, set};
+ghost use Rattle.language.specs.Table.{size, holds, add, added, removed, queried};
+ghost use Rattle.table_laws.specs.Listing.{HasList, KeepsList};
+ghost use Rattle.table_pairs.specs.Outcomes.{tableOf, changeOf, countAfter, valueOf, wordsAfter};
 use language::Stop;
+use table_groups::find_group;
+use table_groups::lower;
+use table_groups::raise;
+use table_moves::take_out;
 use table_search::PairPlace;
-use table_search::crowded;
 use table_search::numbers_fit;
 use table_search::place_of;
 use table_search::present;
-
-// Where RM's pair stands: its numbers are judged before it is looked for.
-enum Search {
-    BelowOne,
-    Absent,
-    At(usize),
-}
 
 // What AD or RM comes to: the count of pairs after it, or the cause to stop.
 pub enum Change {
@@ -29,13 +25,6 @@ pub enum Change {
 pub enum Query {
     Value(i32),
     Stopped(Stop),
-}
-
-// How many words `count` pairs take, of `len`.
-fn words_in(len: usize, count: usize) -> usize
-    ensures { λ r. ⌜ r ≡ min (2 * count) len ⌝ }
-{
-    if count <= len / 2 { 2 * count } else { len }
 }
 
 // The word at `i` is written, if the table has one there.
@@ -57,79 +46,79 @@ pub fn append(table: &mut [i32], count: usize, group: i32, member: i32)
     }
 }
 
-// The pair at `place` is taken out. The words after it move down one by one, and not two by two, since a table of odd length may end with
-// half a pair, which moves too.
-pub fn take_out(table: &mut [i32], count: usize, place: usize)
-    ensures { λ _. ⌜ now (table .exit) ≡ takeOut place count (now (table .entry)) ⌝ }
+// Whether the table has the pair. Where the group has no members no pair is looked at.
+fn held(table: &[i32], count: usize, group: i32, member: i32, members: u32) -> bool
+    requires { ⌜ members ≡ size group (tableOf (now table) count) ⌝ }
+    requires { ⌜ 2 * count ≤ length (now table) ⌝ }
+    ensures { λ r. ⌜ r ≡ holds group member (tableOf (now (table .entry)) count) ⌝ }
 {
-    let end = words_in(table.len(), count);
-    if end / 2 <= place {
-        return;
+    if members == 0 {
+        return false;
     }
-    let mut i = 2 * place;
-    while i + 2 < end {
-        table[i] = table[i + 2];
-        i += 1;
-    }
-    table[i] = 0;
-    table[i + 1] = 0;
+    present(table, count, group, member)
 }
 
-// The pair of RM.
-fn searched(table: &[i32], count: usize, group: i32, member: i32) -> Search
-    ensures { λ r. ⌜ r ≡ searchOf group member count (now (table .entry)) ⌝ }
+// AD. The group is judged by the list and before the table, and both before anything is written.
+pub fn add_pair(
+    table: &mut [i32],
+    groups: &mut [i32],
+    count: usize,
+    limit: u32,
+    group: i32,
+    member: i32,
+) -> Change
+    requires { ⌜ HasList limit (now table) count (now groups) ⌝ }
+    ensures { λ r. ⌜ r ≡ changeOf (added limit group member (tableOf (now (table .entry)) count)) ⌝ }
+    ensures { λ _. ⌜ now (table .exit) ≡ wordsAfter (now (table .entry)) (added limit group member (tableOf (now (table .entry)) count)) ⌝ }
+    ensures { λ r. ⌜ KeepsList limit (now (table .entry)) count (now (groups .entry)) (now (table .exit)) (countAfter count r) (now (groups .exit)) ⌝ }
 {
     if !numbers_fit(group, member) {
-        return Search::BelowOne;
+        return Change::Stopped(Stop::NumberBelowOne);
     }
-    let found = place_of(table, count, group, member);
-    match found {
-        PairPlace::At(place) => Search::At(place),
-        PairPlace::Absent => Search::Absent,
+    let found = find_group(groups, count, group);
+    let number = found.number;
+    if held(table, count, group, member, number) {
+        return Change::Done(count);
     }
-}
-
-// A pair that is absent is added, or stops the run: the group is judged before the table, and both before anything is written.
-fn add_absent(table: &mut [i32], count: usize, limit: u32, group: i32, member: i32) -> Change
-    ensures { λ r. ⌜ r ≡ changeOf (addedAbsent limit group member (tableOf (now (table .entry)) count)) ⌝ }
-    ensures { λ _. ⌜ now (table .exit) ≡ wordsAfter (now (table .entry)) (addedAbsent limit group member (tableOf (now (table .entry)) count)) ⌝ }
-{
-    if crowded(table, count, limit, group) {
+    if limit <= number {
         return Change::Stopped(Stop::GroupFull);
     }
     if table.len() / 2 <= count {
         return Change::Stopped(Stop::TableFull);
     }
     append(table, count, group, member);
+    raise(groups, count + 1, found, group);
     Change::Done(count + 1)
 }
 
-// AD
-pub fn add_pair(table: &mut [i32], count: usize, limit: u32, group: i32, member: i32) -> Change
-    ensures { λ r. ⌜ r ≡ changeOf (added limit group member (tableOf (now (table .entry)) count)) ⌝ }
-    ensures { λ _. ⌜ now (table .exit) ≡ wordsAfter (now (table .entry)) (added limit group member (tableOf (now (table .entry)) count)) ⌝ }
+// RM. An absent pair changes nothing, and is not looked for where its group is not in the list.
+pub fn remove_pair(
+    table: &mut [i32],
+    groups: &mut [i32],
+    count: usize,
+    group: i32,
+    member: i32,
+) -> Change
+    requires { ⌜ ((limit : ℕ) × HasList limit (now table) count (now groups)) ⌝ }
+    ensures { λ r. ⌜ r ≡ changeOf (removed group member (tableOf (now (table .entry)) count)) ⌝ }
+    ensures { λ _. ⌜ now (table .exit) ≡ wordsAfter (now (table .entry)) (removed group member (tableOf (now (table .entry)) count)) ⌝ }
+    ensures { λ r. ⌜ ((limit : ℕ) → KeepsList limit (now (table .entry)) count (now (groups .entry)) (now (table .exit)) (countAfter count r) (now (groups .exit))) ⌝ }
 {
     if !numbers_fit(group, member) {
         return Change::Stopped(Stop::NumberBelowOne);
     }
-    if present(table, count, group, member) {
+    let found = find_group(groups, count, group);
+    let number = found.number;
+    if number == 0 {
         return Change::Done(count);
     }
-    add_absent(table, count, limit, group, member)
-}
-
-// RM. An absent pair changes nothing.
-pub fn remove_pair(table: &mut [i32], count: usize, group: i32, member: i32) -> Change
-    ensures { λ r. ⌜ r ≡ changeOf (removed group member (tableOf (now (table .entry)) count)) ⌝ }
-    ensures { λ _. ⌜ now (table .exit) ≡ wordsAfter (now (table .entry)) (removed group member (tableOf (now (table .entry)) count)) ⌝ }
-{
-    let found = searched(table, count, group, member);
-    match found {
-        Search::BelowOne => Change::Stopped(Stop::NumberBelowOne),
-        Search::Absent => Change::Done(count),
-        Search::At(place) => {
+    let there = place_of(table, count, group, member);
+    match there {
+        PairPlace::Absent => Change::Done(count),
+        PairPlace::At(place) => {
             // No other place than `place`: so that the compiler does not carry what `take_out` needs of it through the search.
             take_out(table, count, place % 9223372036854775808);
+            lower(groups, count, found);
             Change::Done(count - 1)
         }
     }

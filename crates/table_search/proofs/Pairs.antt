@@ -1,7 +1,7 @@
 -- The definitions go through a table from its first pair. These laws say them of one pair more at the end, as a loop reads them.
 use Prim.Native.Nat.{ℕ, zero, suc, _+_, _*_, _/_, _<_, _≤_, min}
 use mathlib.Core.Path.{_≡_, refl, sym, _∙_, ap}
-use mathlib.Core.Bool.{Bool, true, false, _&&_, _||_, cond}
+use mathlib.Core.Bool.{Bool, true, false, _&&_, _||_}
 use mathlib.Core.List.{List, [], _∷_}
 use mathlib.Core.Option.{Option, none, some}
 use native.Mathlib.Omega.{arith}
@@ -10,8 +10,8 @@ use lib.Dec.{ltb}
 use lib.IntN.{ℤ}
 use lib.ListN.{length}
 use Rattle.language.specs.Basics.{eqZ}
-use Rattle.language.specs.Table.{find, isSome, members}
-use Rattle.laws.specs.Tables.{groupAt, pairIs, front, orElse, find-front, find-next, members-front, members-next}
+use Rattle.language.specs.Table.{find, isSome}
+use Rattle.laws.specs.Tables.{pairIs, front, orElse, find-front, find-next}
 use Rattle.table_search.specs.Places.{amongPairs}
 
 -- The list has a pair at place i.
@@ -131,25 +131,6 @@ find-clamped g m (suc k) [] = rw (none-fit (suc k) 0 (omega arith))
 find-clamped g m (suc k) (a ∷ []) = rw (none-fit (suc k) 1 (omega arith))
 find-clamped g m (suc k) (a ∷ b ∷ ws) =
     rw (fewer-pairs k (length ws)) (find-front g m (min k (length ws / 2)) a b ws ∙ ap (front (eqZ a g && eqZ b m)) (find-clamped g m k ws) ∙ sym (find-front g m k a b ws))
-
--- ---- members
-
-pub members-clamped : (g : ℤ) (k : ℕ) (ws : List ℤ) → members g (min k (length ws / 2)) ws ≡ members g k ws
-unfolding members
-members-clamped g zero ws = rw (zero-fit (length ws / 2))
-  where
-    zero-fit : (l : ℕ) → min 0 l ≡ 0
-    zero-fit l = omega arith
-members-clamped g (suc k) [] = rw (none-fit (suc k) 0 (omega arith))
-members-clamped g (suc k) (a ∷ []) = rw (none-fit (suc k) 1 (omega arith))
-members-clamped g (suc k) (a ∷ b ∷ ws) =
-    rw (fewer-pairs k (length ws)) (members-front g (min k (length ws / 2)) a b ws ∙ ap (λ (n : ℕ). n + cond (eqZ a g) 1 0) (members-clamped g k ws) ∙ sym (members-front g k a b ws))
-
-pub members-hit : (g : ℤ) {i : ℕ} {ws : List ℤ} → Room i ws → eqZ (groupAt i ws) g ≡ true → members g (suc i) ws ≡ suc (members g i ws)
-members-hit g {i} {ws} r e = members-next g i ws (room-fits r) ∙ rw e (omega arith)
-
-pub members-miss : (g : ℤ) {i : ℕ} {ws : List ℤ} → Room i ws → eqZ (groupAt i ws) g ≡ false → members g (suc i) ws ≡ members g i ws
-members-miss g {i} {ws} r e = members-next g i ws (room-fits r) ∙ rw e (omega arith)
 
 front-below : (t : Bool) (r : Option ℕ) (k : ℕ) → ((j : ℕ) → r ≡ some j → j < k) → (j : ℕ) → front t r ≡ some j → j < suc k
 front-below true r k h j e = let z : 0 ≡ j = cc in omega arith

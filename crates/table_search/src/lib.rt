@@ -1,13 +1,12 @@
-// The words of the membership table as pairs: read, compared, found and counted. The words 2 i and 2 i + 1 of the slice are the group and
-// the member of the pair at place i.
+// The words of the membership table as pairs: read, compared and found. The words 2 i and 2 i + 1 of the slice are the group and the member of
+// the pair at place i.
 ghost use mathlib.Core.Path.{_≡_};
 ghost use mathlib.Core.Bool.{_&&_};
 ghost use mathlib.Core.Option.{none};
 ghost use Prim.Native.Nat.{_+_, _*_, _/_, _<_, _≤_, min};
-ghost use lib.Dec.{leb};
 ghost use lib.ListN.{length};
 ghost use Rattle.language.specs.Basics.{eqZ};
-ghost use Rattle.language.specs.Table.{find, isSome, members, atLeastOne};
+ghost use Rattle.language.specs.Table.{find, isSome, atLeastOne};
 ghost use Rattle.laws.specs.Tables.{groupAt, memberAt};
 ghost use Rattle.table_search.specs.Places.{placed, amongPairs};
 
@@ -134,30 +133,4 @@ pub fn present(table: &[i32], count: usize, group: i32, member: i32) -> bool
         PairPlace::At(_) => true,
         PairPlace::Absent => false,
     }
-}
-
-// How many of the first `count` pairs are of the group.
-pub fn group_size(table: &[i32], count: usize, group: i32) -> usize
-    ensures { λ r. ⌜ r ≡ members group count (now (table .entry)) ⌝ }
-{
-    let n = pairs_in(table.len(), count);
-    let mut found: usize = 0;
-    let mut i = 0;
-    while i < n {
-        if same_number(group_at(table, i), group) {
-            found += 1;
-        }
-        i += 1;
-    }
-    found
-}
-
-// Whether the group has `limit` members. Fewer pairs are not counted.
-pub fn crowded(table: &[i32], count: usize, limit: u32, group: i32) -> bool
-    ensures { λ r. ⌜ r ≡ leb limit (members group count (now (table .entry))) ⌝ }
-{
-    if count < limit as usize {
-        return false;
-    }
-    limit as usize <= group_size(table, count, group)
 }

@@ -6,9 +6,9 @@ use native.Mathlib.Omega.{arith}
 use lib.ListN.{length, length-set}
 use Rattle.language.specs.Table.{takeOut}
 use Rattle.table_search.proofs.Signed.{back}
-use Rattle.table_pairs.proofs.TakeOut.{cut, cut-step, cut-last, takeOut-cut, takeOut-past}
-use Rattle.table_pairs.proofs.take_out.Statement.{statement}
-use Rattle.table_pairs.proofs.take_out.Tie as tie
+use Rattle.table_moves.proofs.TakeOut.{cut, cut-step, cut-last, takeOut-cut, takeOut-past}
+use Rattle.table_moves.proofs.take_out.Statement.{statement}
+use Rattle.table_moves.proofs.take_out.Tie as tie
 
 abbrev Inv-loop : tie.InvT-loop
 Inv-loop table₀ count place end i₀ table i =

@@ -1,0 +1,3 @@
+-- Laws that the proofs cite, in this crate and above.
+pub mod TakeOut
+pub mod PutIn
