@@ -1,0 +1,1 @@
+// The laws of sums over the places of a list, with no code.
