@@ -14,6 +14,7 @@ use lib.ListN.{length}
 use borrow.Author.Tests.{leb-true}
 use Rattle.language.specs.Text.{Block}
 use Rattle.language.specs.Table.{right}
+use Rattle.language.specs.Groups.{listFits, listRight}
 use Rattle.language.specs.Check.{Checked, accepted, refused, lengthFits, check}
 use Rattle.language.specs.Call.{Engine, Fed, limitsFit, holdsAtLeast, sheetFits, recordsFit, areaFits, firstFailing, testsBefore, testsAfter, admission}
 use Rattle.language.specs.declared.Refusal.{Refusal}
@@ -40,6 +41,10 @@ module _ (e : Engine) (f : Fed) where
   unfolding testsAfter
   fails h = (due-exactly (testsAfter e f) AreaTooShort) .0 (fails-here _ _ h)
 
+second : (a b : Bool) → a && b ≡ false → a ≡ true → b ≡ false
+second true b e p = e
+second false b e p = let z : _≡_ {A = ℕ} 0 1 = cc in absurd (omega arith)
+
 module _ (e : Engine) (f : Fed) where
   pub limits-due : limitsFit f ≡ false → Refused LimitRange 0 ≡ dueOf (firstFailing (testsBefore e f))
   unfolding testsBefore dueOf
@@ -53,13 +58,23 @@ module _ (e : Engine) (f : Fed) where
   unfolding testsBefore dueOf
   records-due p q r = ap dueOf (sym (holds-here _ _ p ∙ holds-here _ _ q ∙ fails-here _ _ r))
 
-  pub table-due : limitsFit f ≡ true → sheetFits f ≡ true → recordsFit e f ≡ true → right (f .limit) (f .lent .table) ≡ false → Refused TableNotRight 0 ≡ dueOf (firstFailing (testsBefore e f))
-  unfolding testsBefore dueOf
-  table-due p q r x = ap dueOf (sym (holds-here _ _ p ∙ holds-here _ _ q ∙ holds-here _ _ r ∙ fails-here _ _ x))
+  module _ (p : limitsFit f ≡ true) (q : sheetFits f ≡ true) (r : recordsFit e f ≡ true) where
+    pub list-due : listFits (f .lent .table) (f .lent .groups) ≡ false → Refused AreaTooShort 0 ≡ dueOf (firstFailing (testsBefore e f))
+    unfolding testsBefore dueOf
+    list-due x = ap dueOf (sym (holds-here _ _ p ∙ holds-here _ _ q ∙ holds-here _ _ r ∙ fails-here _ _ x))
 
-  pub none-due : limitsFit f ≡ true → sheetFits f ≡ true → recordsFit e f ≡ true → right (f .limit) (f .lent .table) ≡ true → Fit ≡ dueOf (firstFailing (testsBefore e f))
-  unfolding testsBefore dueOf
-  none-due p q r x = ap dueOf (sym (all-hold _ (p, (q, (r, (x, tt))))))
+    -- table and list are tested together: their refusals are one
+    module _ (s : listFits (f .lent .table) (f .lent .groups) ≡ true) where
+      pub table-due : right (f .limit) (f .lent .table) && listRight (f .lent .table) (f .lent .groups) ≡ false → Refused TableNotRight 0 ≡ dueOf (firstFailing (testsBefore e f))
+      unfolding testsBefore dueOf
+      table-due x =
+          split (right (f .limit) (f .lent .table))
+          (λ y. ap dueOf (sym (holds-here _ _ p ∙ holds-here _ _ q ∙ holds-here _ _ r ∙ holds-here _ _ s ∙ holds-here _ _ y ∙ fails-here _ _ (second (right (f .limit) (f .lent .table)) (listRight (f .lent .table) (f .lent .groups)) x y))))
+          (λ y. ap dueOf (sym (holds-here _ _ p ∙ holds-here _ _ q ∙ holds-here _ _ r ∙ holds-here _ _ s ∙ fails-here _ _ y)))
+
+      pub none-due : right (f .limit) (f .lent .table) && listRight (f .lent .table) (f .lent .groups) ≡ true → Fit ≡ dueOf (firstFailing (testsBefore e f))
+      unfolding testsBefore dueOf
+      none-due x = let y = both (right (f .limit) (f .lent .table)) (listRight (f .lent .table) (f .lent .groups)) x in ap dueOf (sym (all-hold _ (p, (q, (r, (s, (y .0, (y .1, tt))))))))
 
 -- the check, and then the copying area
 module _ (script : List ℕ) (d : ℕ) (area : Option ℕ) where

@@ -23,8 +23,8 @@ heldIn (Of held) = some held
 abbrev pub engineOf : Area → Area → Bool → Engine
 engineOf records area links = record { records = heldIn records; area = heldIn area; links = links }
 
-abbrev pub fedOf : CallNumbers → List ℕ → List ℤ → List ℤ → Fed
-fedOf k script table sheet =
+abbrev pub fedOf : CallNumbers → List ℕ → List ℤ → List ℤ → List ℤ → Fed
+fedOf k script table groups sheet =
     record {
       script = script;
       activations = k .d;
@@ -32,7 +32,7 @@ fedOf k script table sheet =
       limit = k .g;
       tally = k .tally;
       name = k .name;
-      lent = record { sheet = sheet; table = tableOf table (k .count) };
+      lent = record { sheet = sheet; table = tableOf table (k .count); groups = groups };
     }
 
 -- what the tests before the script check look at

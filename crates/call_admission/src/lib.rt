@@ -1,4 +1,4 @@
-// Which refusal is due to a call, for all engines (document 01, "Causes and numbers"): the tests in the list's order, each refusal straight out.
+// Which refusal is due to a call, for all engines (document 01, "Causes and numbers"): the tests in the order given there, each refusal straight out.
 use language::Refusal;
 use language::Verdict;
 use layout::SHEET_SHARE;
@@ -26,7 +26,7 @@ pub struct CallNumbers {
 }
 
 fn limits_fit(numbers: CallNumbers) -> bool
-    ensures { λ r. ⌜ r ≡ limitsFit (fedOf numbers [] [] []) ⌝ }
+    ensures { λ r. ⌜ r ≡ limitsFit (fedOf numbers [] [] [] []) ⌝ }
 {
     if numbers.d < 1 {
         return false;
@@ -56,8 +56,14 @@ fn holds_at_least(asked: usize, area: Area) -> bool
 }
 
 // The tests before the script check.
-fn before_check(numbers: CallNumbers, table: &[i32], sheet: &[i32], records: Area) -> Verdict
-    ensures { λ r. ⌜ r ≡ dueOf (firstFailing (testsBefore (withRecords records) (fedOf numbers [] (now (table .entry)) (now (sheet .entry))))) ⌝ }
+fn before_check(
+    numbers: CallNumbers,
+    table: &[i32],
+    groups: &[i32],
+    sheet: &[i32],
+    records: Area,
+) -> Verdict
+    ensures { λ r. ⌜ r ≡ dueOf (firstFailing (testsBefore (withRecords records) (fedOf numbers [] (now (table .entry)) (now (groups .entry)) (now (sheet .entry))))) ⌝ }
 {
     if !limits_fit(numbers) {
         return Verdict::Refused(Refusal::LimitRange, 0);
@@ -68,7 +74,10 @@ fn before_check(numbers: CallNumbers, table: &[i32], sheet: &[i32], records: Are
     if !holds_at_least(numbers.d as usize, records) {
         return Verdict::Refused(Refusal::AreaTooShort, 0);
     }
-    if !table_test::table_right(table, numbers.count, numbers.g) {
+    if groups.len() < 2 * (table.len() / 2) {
+        return Verdict::Refused(Refusal::AreaTooShort, 0);
+    }
+    if !table_test::table_and_list_right(table, numbers.count, numbers.g, groups) {
         return Verdict::Refused(Refusal::TableNotRight, 0);
     }
     Verdict::Fit
@@ -92,13 +101,14 @@ pub fn admit(
     script: &[u8],
     numbers: CallNumbers,
     table: &[i32],
+    groups: &[i32],
     sheet: &[i32],
     records: Area,
     area: Area,
 ) -> Verdict
-    ensures { λ r. ⌜ ((links : Bool) → r ≡ verdictOf (admission (engineOf records area links) (fedOf numbers (now (script .entry)) (now (table .entry)) (now (sheet .entry))))) ⌝ }
+    ensures { λ r. ⌜ ((links : Bool) → r ≡ verdictOf (admission (engineOf records area links) (fedOf numbers (now (script .entry)) (now (table .entry)) (now (groups .entry)) (now (sheet .entry))))) ⌝ }
 {
-    let before = before_check(numbers, table, sheet, records);
+    let before = before_check(numbers, table, groups, sheet, records);
     let Verdict::Fit = before else {
         return before;
     };

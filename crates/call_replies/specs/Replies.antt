@@ -16,6 +16,7 @@ use lib.ListN.{length}
 use Rattle.language.specs.Sheet.{sheetShare}
 use Rattle.language.specs.Text.{Block}
 use Rattle.language.specs.Check.{Checked, accepted, refused}
+use Rattle.language.specs.Groups.{relisted}
 use Rattle.language.specs.Machine.{Limits}
 use Rattle.language.specs.Call.{Engine, Lent, Fed, Reply, limitsOf, limitsFit, admission, turnedAway, linksOf, written, reply}
 use Rattle.language.specs.declared.Refusal.{Refusal}
@@ -69,17 +70,17 @@ module _ (e : Engine) (f : Fed) where
     admitted-call q = fit-admitted (sym verdict ∙ q)
 
     pub refused-call : (c : Refusal) (o : ℕ) → v ≡ Refused c o → {answer : Answer} → answer ≡ refusedAnswer c o (f .lent .table .used) (f .tally)
-        → Answers e f answer (f .lent .sheet) (f .lent .table .words)
+        → Answers e f answer (f .lent .sheet) (f .lent .table .words) (f .lent .groups)
     refused-call c o q a =
         let r = refused-reply c o (sym verdict ∙ q) in
-        record { answer-is = a ∙ sym (r .0); sheet-is = ap (λ (l : Lent). l .sheet) (sym (r .1)); table-is = ap (λ (l : Lent). l .table .words) (sym (r .1)) }
+        record { answer-is = a ∙ sym (r .0); sheet-is = ap (λ (l : Lent). l .sheet) (sym (r .1)); table-is = ap (λ (l : Lent). l .table .words) (sym (r .1)); groups-are = ap (λ (l : Lent). l .groups) (sym (r .1)) }
 
   -- An engine's own area is not written where the call is refused, and of the same length where the program is admitted
-  module _ {A : Type 0} {answer : Answer} {sheet table : List ℤ} (r : Answers e f answer sheet table) where
-    pub leaving-all : (area : List A) → AnswersLeaving e f answer sheet table area area
+  module _ {A : Type 0} {answer : Answer} {sheet table groups : List ℤ} (r : Answers e f answer sheet table groups) where
+    pub leaving-all : (area : List A) → AnswersLeaving e f answer sheet table groups area area
     leaving-all area = record { answers = r; leaves = leaves-all e f area }
 
-    pub leaving-length : {t : Block} → Admitted e f t → {before after : List A} → length after ≡ length before → AnswersLeaving e f answer sheet table before after
+    pub leaving-length : {t : Block} → Admitted e f t → {before after : List A} → length after ≡ length before → AnswersLeaving e f answer sheet table groups before after
     leaving-length h q = record { answers = r; leaves = leaves-length e f (admitted-accepted e f h) q }
 
   -- A program that is admitted runs as the frame machine runs it
@@ -106,7 +107,7 @@ module _ (e : Engine) (f : Fed) (bytes : Bytes (f .script)) (t : Block) (h : Adm
       (λ i. ranAnswer (r .end-is i) (r .steps-are i) (r .offset-is i) (r .pairs-are i) (r .sheet-is i) (f .tally) (r .designator-is i) (r .links-are i))
       ∙ sym (ap (λ (x : Reply). x .answer) (frames-reply e f bytes t h))
 
-  pub ran-lent : (reply e f) .lent ≡ record { sheet = written (frameSheet ((frameRunOf f t) .final .frames)) (f .lent .sheet); table = (frameRunOf f t) .final .table }
+  pub ran-lent : (reply e f) .lent ≡ record { sheet = written (frameSheet ((frameRunOf f t) .final .frames)) (f .lent .sheet); table = (frameRunOf f t) .final .table; groups = relisted ((frameRunOf f t) .final .table) (f .lent .groups) }
   unfolding frameReplied
   ran-lent = ap (λ (x : Reply). x .lent) (frames-reply e f bytes t h)
 

@@ -12,6 +12,7 @@ use Rattle.language.specs.Sheet.{sheetShare}
 use Rattle.language.specs.Call.{Fed, chain, recordsFit, holdsAtLeast, written}
 use Rattle.language.specs.declared.Answer.{Answer}
 use Rattle.grammar.specs.Rules.{Bytes}
+use Rattle.table_laws.specs.Listing.{KeepsList}
 use Rattle.runs.specs.Admission.{Admitted, records-fit}
 use Rattle.frames.specs.Frame.{Frame, frameRun, frameStart, frameRunOf, frameSheet}
 use Rattle.resolved.specs.Resolved.{resolvedOf, Covers}
@@ -63,8 +64,9 @@ module _ (records : List Activation) (f : Fed) (bytes : Bytes (f .script)) (t : 
         let s = sheet-needs bytes h covers (ended .ended) in
         (s .0, (omega (arith, records-room, ended .ended .live-is, ended .ended .sound .bounded .live), s .1))
 
-    pub replied : {sheet : List ℤ} {count : ℕ}
+    pub replied : {sheet groups : List ℤ} {count : ℕ}
         → ((fs : List Frame) → Held code cells′ (blocksIn records′) (nextsIn records′) (linksIn records′) fs → length fs ≡ r .live
         → (sheet ≡ written (frameSheet fs) (f .lent .sheet)) × (count ≡ length (frameSheet fs)))
-        → {answer : Answer} → answer ≡ haltAnswer r count (f .tally) → Answers (chain (length records)) f answer sheet table′
-    replied is a = run-replies bytes h covers (ended .ended) is (ended .links-are ∙ with-links (chain (length records)) f (frameRunOf f t) refl) a
+        → KeepsList (f .limit) (f .lent .table .words) (f .lent .table .used) (f .lent .groups) table′ (r .pairs) groups
+        → {answer : Answer} → answer ≡ haltAnswer r count (f .tally) → Answers (chain (length records)) f answer sheet table′ groups
+    replied is keeps a = run-replies bytes h covers (ended .ended) is keeps (ended .links-are ∙ with-links (chain (length records)) f (frameRunOf f t) refl) a

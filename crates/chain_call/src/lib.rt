@@ -20,10 +20,25 @@ ghost use Rattle.resolve_script.specs.Resolving.{Resolved};
 ghost use Rattle.chain_call.specs.Calls.{haltAnswer, AdmittedOn};
 
 // What is due to a call that is lent so many records.
-fn judged(script: &[u8], numbers: CallNumbers, table: &[i32], sheet: &[i32], held: usize) -> Verdict
-    ensures { λ r. ⌜ r ≡ verdictOf (admission (chain held) (fedOf numbers (now (script .entry)) (now (table .entry)) (now (sheet .entry)))) ⌝ }
+fn judged(
+    script: &[u8],
+    numbers: CallNumbers,
+    table: &[i32],
+    groups: &[i32],
+    sheet: &[i32],
+    held: usize,
+) -> Verdict
+    ensures { λ r. ⌜ r ≡ verdictOf (admission (chain held) (fedOf numbers (now (script .entry)) (now (table .entry)) (now (groups .entry)) (now (sheet .entry)))) ⌝ }
 {
-    call_admission::admit(script, numbers, table, sheet, Area::Of(held), Area::Unused)
+    call_admission::admit(
+        script,
+        numbers,
+        table,
+        groups,
+        sheet,
+        Area::Of(held),
+        Area::Unused,
+    )
 }
 
 fn activations_of(numbers: CallNumbers) -> usize
@@ -64,12 +79,13 @@ fn ran_on(
     script: &[u8],
     numbers: CallNumbers,
     table: &mut [i32],
+    groups: &mut [i32],
     sheet: &mut [i32],
     records: &mut [Activation],
 ) -> Answer
-    requires { ⌜ AdmittedOn (now code) (now cells) (chain (length (now records))) (fedOf numbers (now script) (now table) (now sheet)) ⌝ }
-    ensures { λ r. ⌜ Answers (chain (length (now (records .entry)))) (fedOf numbers (now (script .entry)) (now (table .entry)) (now (sheet .entry)))
-        r (now (sheet .exit)) (now (table .exit)) ⌝ }
+    requires { ⌜ AdmittedOn (now code) (now cells) (chain (length (now records))) (fedOf numbers (now script) (now table) (now groups) (now sheet)) ⌝ }
+    ensures { λ r. ⌜ Answers (chain (length (now (records .entry)))) (fedOf numbers (now (script .entry)) (now (table .entry)) (now (groups .entry)) (now (sheet .entry)))
+        r (now (sheet .exit)) (now (table .exit)) (now (groups .exit)) ⌝ }
 {
     resolved(script, numbers, code);
     let halt = chain_run::run_program(
@@ -77,6 +93,7 @@ fn ran_on(
         cells,
         records,
         table,
+        groups,
         numbers.count,
         numbers.g,
         activations_of(numbers),
@@ -91,12 +108,13 @@ fn ran(
     script: &[u8],
     numbers: CallNumbers,
     table: &mut [i32],
+    groups: &mut [i32],
     sheet: &mut [i32],
     records: &mut [Activation],
 ) -> Answer
-    requires { ⌜ ((t : Block) × Admitted (chain (length (now records))) (fedOf numbers (now script) (now table) (now sheet)) t) ⌝ }
-    ensures { λ r. ⌜ Answers (chain (length (now (records .entry)))) (fedOf numbers (now (script .entry)) (now (table .entry)) (now (sheet .entry)))
-        r (now (sheet .exit)) (now (table .exit)) ⌝ }
+    requires { ⌜ ((t : Block) × Admitted (chain (length (now records))) (fedOf numbers (now script) (now table) (now groups) (now sheet)) t) ⌝ }
+    ensures { λ r. ⌜ Answers (chain (length (now (records .entry)))) (fedOf numbers (now (script .entry)) (now (table .entry)) (now (groups .entry)) (now (sheet .entry)))
+        r (now (sheet .exit)) (now (table .exit)) (now (groups .exit)) ⌝ }
 {
     let mut code = [0u32; 4096];
     let mut cells = [0i32; 8224];
@@ -106,6 +124,7 @@ fn ran(
         script,
         numbers,
         table,
+        groups,
         sheet,
         records,
     )
@@ -115,15 +134,16 @@ pub fn call(
     script: &[u8],
     numbers: CallNumbers,
     table: &mut [i32],
+    groups: &mut [i32],
     sheet: &mut [i32],
     records: &mut [Activation],
 ) -> Answer
-    ensures { λ r. ⌜ AnswersLeaving (chain (length (now (records .entry)))) (fedOf numbers (now (script .entry)) (now (table .entry)) (now (sheet .entry)))
-        r (now (sheet .exit)) (now (table .exit)) (now (records .entry)) (now (records .exit)) ⌝ }
+    ensures { λ r. ⌜ AnswersLeaving (chain (length (now (records .entry)))) (fedOf numbers (now (script .entry)) (now (table .entry)) (now (groups .entry)) (now (sheet .entry)))
+        r (now (sheet .exit)) (now (table .exit)) (now (groups .exit)) (now (records .entry)) (now (records .exit)) ⌝ }
 {
-    let verdict = judged(script, numbers, table, sheet, records.len());
+    let verdict = judged(script, numbers, table, groups, sheet, records.len());
     let Verdict::Refused(cause, offset) = verdict else {
-        return ran(script, numbers, table, sheet, records);
+        return ran(script, numbers, table, groups, sheet, records);
     };
     refused_answer(cause, offset, numbers.count, numbers.tally)
 }

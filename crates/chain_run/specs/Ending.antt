@@ -51,6 +51,12 @@ haltBy here (Went n) found allowance left = namedBy (spentAfter here (allowance 
 haltBy here Finished found allowance left = namedBy (spentAfter here (allowance - left)) (found .designator) (found .links)
 haltBy here (Stopped c) found allowance left = namedBy (stoppedAfter here c (allowance - left)) (found .designator) (found .links)
 
+pub halted-pairs : (here : Registers) (turn : Turn) (found : Found) (allowance left : ℕ) → haltBy here turn found allowance left .pairs ≡ here .pairs
+unfolding haltBy
+halted-pairs here (Went n) found allowance left = refl
+halted-pairs here Finished found allowance left = refl
+halted-pairs here (Stopped c) found allowance left = refl
+
 -- the records once the place of the innermost activation's next statement is put with the others'
 abbrev pub settled : List Activation → Registers → List Activation
 settled records here = set records (here .live) (withNext (record-at records (here .live)) (here .at))

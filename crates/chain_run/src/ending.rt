@@ -83,6 +83,7 @@ pub fn ended(
     ensures { λ r.
         ⌜ ((e : Ending (now (code .entry)) (now (cells .entry)) (now (records .entry)) here turn allowance left)
         → RunFrom (e .from) allowance r (now (cells .entry)) (now (records .exit)) (e .table)) ⌝ }
+    ensures { λ r. ⌜ r .pairs ≡ here .pairs ⌝ }
 {
     if is_finished(turn) {
         return finished_halt(here, allowance, left);

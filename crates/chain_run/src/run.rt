@@ -15,6 +15,7 @@ use run_state::narrow_u32;
 use run_words::code_at;
 ghost use mathlib.Core.Path.{_≡_};
 ghost use Rattle.frames.specs.Frame.{frameRun, frameStart};
+ghost use Rattle.table_laws.specs.Listing.{HasList, KeepsList};
 ghost use Rattle.run_state.specs.Limits.{limitsBy};
 ghost use Rattle.chain_links.specs.Running.{activationOf, Running};
 ghost use Rattle.chain_run.specs.Running.{Beginning, Ended, RunFrom};
@@ -26,21 +27,33 @@ pub fn run(
     cells: &mut [i32; 8224],
     records: &mut [Activation],
     table: &mut [i32],
+    groups: &mut [i32],
     limit: u32,
     activations: usize,
     allowance: u32,
     start: Registers,
 ) -> Halt
     requires { ⌜ Running (now code) activations limit (now cells) (now records) (now table) start ⌝ }
+    requires { ⌜ HasList limit (now table) (start .pairs) (now groups) ⌝ }
     ensures { λ r.
         ⌜ ((w : Running (now (code .entry)) activations limit (now (cells .entry)) (now (records .entry)) (now (table .entry)) start)
         → RunFrom w allowance r (now (cells .exit)) (now (records .exit)) (now (table .exit))) ⌝ }
+    ensures { λ r. ⌜ KeepsList limit (now (table .entry)) (start .pairs) (now (groups .entry)) (now (table .exit)) (r .pairs) (now (groups .exit)) ⌝ }
 {
     let mut here = start;
     let mut turn = went(start);
     let mut left = allowance;
     while 0 < left {
-        turn = step(code, cells, records, table, limit, activations, here);
+        turn = step(
+            code,
+            cells,
+            records,
+            table,
+            groups,
+            limit,
+            activations,
+            here,
+        );
         if halts(turn) {
             break;
         }
@@ -82,17 +95,20 @@ pub fn run_program(
     cells: &mut [i32; 8224],
     records: &mut [Activation],
     table: &mut [i32],
+    groups: &mut [i32],
     pairs: usize,
     limit: u32,
     activations: usize,
     allowance: u32,
 ) -> Halt
     requires { ⌜ Beginning (now code) (now cells) (now records) (now table) pairs limit activations ⌝ }
+    requires { ⌜ HasList limit (now table) pairs (now groups) ⌝ }
     ensures { λ r.
         ⌜ ((b : Beginning (now (code .entry)) (now (cells .entry)) (now (records .entry)) (now (table .entry)) pairs limit activations)
         → Ended (b .begun .program) (b .begun .name) activations limit
         (frameRun (limitsBy activations limit) allowance (frameStart (b .begun .program) (record { words = now (table .entry); used = pairs })))
         r (now (cells .exit)) (now (records .exit)) (now (table .exit))) ⌝ }
+    ensures { λ r. ⌜ KeepsList limit (now (table .entry)) pairs (now (groups .entry)) (now (table .exit)) (r .pairs) (now (groups .exit)) ⌝ }
 {
     push(records, 0, program_record(code));
     let start = begin(code, pairs);
@@ -101,6 +117,7 @@ pub fn run_program(
         cells,
         records,
         table,
+        groups,
         limit,
         activations,
         allowance,

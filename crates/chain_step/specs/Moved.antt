@@ -156,8 +156,12 @@ ask-is here (Stop c) = refl
 
 -- What is asked
 
-pub not-asked : {x : Moved} (y : Moved) → x ≡ y → isAsk y ≡ false → {k : Asking} → x ≡ AskBy k → ⊥
+not-asked : {x : Moved} (y : Moved) → x ≡ y → isAsk y ≡ false → {k : Asking} → x ≡ AskBy k → ⊥
 not-asked y q z e = true≢false (sym (ap isAsk e) ∙ ap isAsk q ∙ z)
+
+-- where nothing is asked, whatever is said of what is
+pub unasked : {A B : Asking → Type 0} {x : Moved} (y : Moved) → x ≡ y → isAsk y ≡ false → ((k : Asking) → x ≡ AskBy k → A k) × ((k : Asking) → x ≡ AskBy k → B k)
+unasked y q z = (λ k e. absurd (not-asked y q z e), λ k e. absurd (not-asked y q z e))
 
 -- what the table answers
 abbrev pub answerTo : ℕ → List ℤ → Table → Asking → Answer

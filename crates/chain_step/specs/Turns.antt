@@ -1,11 +1,11 @@
 -- A step of the static-chain engine, by what the statement comes to (`Did`): the innermost activation stays so (`stays`), a block is entered (`enter-ready`,
 -- `entered-on`), or another activation goes on (`home-below`, `resumed-on`). At the end of its text it is left (`leave-ready`, `left-on`): the run is over
--- (`finishes`), or the activation below goes on (`leaves-on`).
+-- (`finishes`), or the activation below goes on (`leaves-on`). The list stays beside the table (`left-keeps`, `stays-keeps`, `entered-keeps`, `resumed-keeps`).
 use Prim.Native.Nat.{ℕ, _-_, _≤_, _<_}
 use native.Mathlib.Omega.{arith}
 use mathlib.Core.Bool.{true, false, false≢true, true≢false}
 use mathlib.Core.List.{List}
-use mathlib.Core.Path.{_≡_, refl, sym, ap, subst}
+use mathlib.Core.Path.{_≡_, refl, sym, ap, _∙_, subst}
 use borrow.Author.Tests.{eqb-true}
 use lib.IntN.{ℤ}
 use Rattle.run_moves.specs.declared.Move.{Move}
@@ -19,6 +19,8 @@ use Rattle.run_statements.specs.Answers.{Answered, turnAfter, done-goes, stoppe
 use Rattle.steps.specs.Standing.{Standing}
 use Rattle.steps.specs.Means.{GoesOn, EntersAt, AnswerMeans, MoveMeans}
 use Rattle.steps.specs.Acts.{acting-means}
+use Rattle.steps.specs.Listed.{left-lists, entered-lists}
+use Rattle.table_laws.specs.Listing.{Beside, KeepsList}
 use Rattle.chain_records.specs.declared.Activation.{Activation}
 use Rattle.chain_records.specs.Records.{at as record-at}
 use Rattle.run_classes.specs.Asking.{Did, unhanded}
@@ -26,7 +28,7 @@ use Rattle.run_state.specs.declared.Registers.{Registers}
 use Rattle.chain_links.specs.Records.{blocksIn, nextsIn, linksIn}
 use Rattle.chain_links.specs.Finding.{byChain, Handing, argumentsEnd, handedOn}
 use Rattle.run_state.specs.Limits.{limitsBy}
-use Rattle.run_state.specs.Turns.{above-zero}
+use Rattle.run_state.specs.Turns.{above-zero, pairsAfter}
 use Rattle.chain_links.specs.Running.{nowBy, Running, Succeeds, EnterReady}
 use Rattle.chain_links.specs.Moving.{home-live, jumps-here, jumps-by, leaves-by}
 use Rattle.chain_links.specs.Names.{finds-by-chain}
@@ -37,6 +39,29 @@ use Rattle.chain_step.specs.Moves.{staysIn, placed, stayedBy, isAsked, i
 use Rattle.chain_step.specs.Moved.{answerTo, asksBy}
 use Rattle.chain_step.specs.Entries.{enters-handing}
 use Rattle.chain_step.specs.Turning.{listsOf, Turned, LeaveReady}
+
+-- The list, where the pairs in use stay as they were
+
+module _ (limit : ℕ) (table : List ℤ) (here : Registers) (groups : List ℤ) where
+  abbrev Keeps : Turn → Type 0
+  Keeps r = KeepsList limit table (here .pairs) groups table (pairsAfter here r) groups
+
+  same-keeps : (r : Turn) → here .pairs ≡ pairsAfter here r → Keeps r
+  same-keeps r e past = subst (λ (n : ℕ). Beside limit past (record { words = table; used = n }) groups) e
+
+  stayed-pairs : (m : Move) → here .pairs ≡ pairsAfter here (stayedBy here m)
+  unfolding stayedBy
+  stayed-pairs (On p) = refl
+  stayed-pairs (Asks p g m t a) = refl
+  stayed-pairs (Jump home p) = refl
+  stayed-pairs (Enter b l q) = refl
+  stayed-pairs (Stop c) = refl
+
+  pub stays-keeps : (m : Move) (r : Turn) → r ≡ stayedBy here m → Keeps r
+  stays-keeps m r e = same-keeps r (stayed-pairs m ∙ sym (ap (pairsAfter here) e))
+
+  pub resumed-keeps : {n : Registers} (r : Turn) → r ≡ Went n → here .pairs ≡ n .pairs → Keeps r
+  resumed-keeps r e same = same-keeps r (same ∙ sym (ap (pairsAfter here) e))
 
 module _ {code : List ℕ} {activations limit : ℕ} {cells : List ℤ} {records : List Activation} {table : List ℤ} {here : Registers}
     (w : Running code activations limit cells records table here) where
@@ -61,6 +86,16 @@ module _ {code : List ℕ} {activations limit : ℕ} {cells : List ℤ} {records
       → Turned w r cells records table
   unfolding leave-ready
   left-on e r k = k (leave-ready e)
+
+  left-lists-by : here .at ≡ here .end → (r : Turn) → Turned w r cells records table → (groups : List ℤ)
+      → KeepsList limit table (here .pairs) groups table (pairsAfter here r) groups
+  left-lists-by e (Went n) s groups = left-lists st (s .running .standing) (s .follows) groups e
+  left-lists-by e Finished s groups = λ past b. b
+  left-lists-by e (Stopped c) s groups = λ past b. b
+
+  pub left-keeps : here .at ≡ here .end → (r : Turn) → ((v : LeaveReady code records here) → Turned (v .running) r (v .cells) records (v .table))
+      → (groups : List ℤ) → KeepsList limit table (here .pairs) groups table (pairsAfter here r) groups
+  left-keeps e r k = left-lists-by e r (left-on e r k)
 
   -- By the move
 
@@ -109,6 +144,15 @@ module _ {code : List ℕ} {activations limit : ℕ} {cells : List ℤ} {records
     entered-by (Jump home p) k z e h cells″ records″ n f = absurd (false≢true z)
     entered-by (Enter b l q) k z e h cells″ records″ n f = f (enters-by (Enter b l q) k z e h)
     entered-by (Stop c) k z e h cells″ records″ n f = absurd (false≢true z)
+
+    entered-lists-by : (m : Move) → MoveMeans st m cells₁ → isEntry m ≡ true → (cells″ : List ℤ) (records″ : List Activation) (n : Registers)
+        → Succeeds w cells″ records″ table n → (groups : List ℤ) → KeepsList limit table (here .pairs) groups table (n .pairs) groups
+    unfolding isEntry
+    entered-lists-by (On p) k z cells″ records″ n s groups = absurd (false≢true z)
+    entered-lists-by (Asks p g m t a) k z cells″ records″ n s groups = absurd (false≢true z)
+    entered-lists-by (Jump home p) k z cells″ records″ n s groups = absurd (false≢true z)
+    entered-lists-by (Enter b l q) k z cells″ records″ n s groups = entered-lists st (s .running .standing) (s .follows) groups k
+    entered-lists-by (Stop c) k z cells″ records″ n s groups = absurd (false≢true z)
 
     abbrev Resumes : Move → List ℤ → Type 0
     Resumes m cells′ = (homeAt m ≤ here .live) × Succeeds w cells′ records table
@@ -187,6 +231,12 @@ module _ {code : List ℕ} {activations limit : ℕ} {cells : List ℤ} {records
         → ((v : EnterReady code ws records here (entryOf m)) → Succeeds (v .running) cells″ records″ (v .table) n)
         → Succeeds w cells″ records″ table n)
         (λ y. entered-by (result .cells) (result .move) (means before) y (hands y .0) (hands y .1) cells″ records″ n) z
+
+    pub entered-keeps : isEntry r ≡ true → (cells″ : List ℤ) (records″ : List Activation) (n : Registers)
+        → ((v : EnterReady code cells′ records here (entryOf r)) → Succeeds (v .running) cells″ records″ (v .table) n)
+        → (groups : List ℤ) → KeepsList limit table (here .pairs) groups table (n .pairs) groups
+    entered-keeps z cells″ records″ n k =
+        entered-lists-by (result .cells) (result .move) (means before) (ap isEntry (sym (did .0)) ∙ z) cells″ records″ n (entered-on z cells″ records″ n k)
 
     pub resumes : staysIn here r ≡ false → isAsked r ≡ false → isEntry r ≡ false → Resumes (result .cells) r cells′
     resumes = at-move (λ m ws. staysIn here m ≡ false → isAsked m ≡ false → isEntry m ≡ false → Resumes (result .cells) m ws)

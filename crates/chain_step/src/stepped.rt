@@ -18,6 +18,8 @@ use chain_records::Activation;
 use chain_records::read;
 use run_state::Registers;
 use run_state::Turn;
+ghost use Rattle.table_laws.specs.Listing.{HasList, KeepsList};
+ghost use Rattle.run_state.specs.Turns.{pairsAfter};
 ghost use Rattle.chain_links.specs.Running.{Running};
 ghost use Rattle.chain_step.specs.Turning.{Turned, LeaveReady};
 
@@ -38,14 +40,17 @@ pub fn step(
     cells: &mut [i32; 8224],
     records: &mut [Activation],
     table: &mut [i32],
+    groups: &mut [i32],
     limit: u32,
     activations: usize,
     here: Registers,
 ) -> Turn
     requires { ⌜ Running (now code) activations limit (now cells) (now records) (now table) here ⌝ }
+    requires { ⌜ HasList limit (now table) (here .pairs) (now groups) ⌝ }
     ensures { λ r.
         ⌜ ((w : Running (now (code .entry)) activations limit (now (cells .entry)) (now (records .entry)) (now (table .entry)) here)
         → Turned w r (now (cells .exit)) (now (records .exit)) (now (table .exit))) ⌝ }
+    ensures { λ r. ⌜ KeepsList limit (now (table .entry)) (here .pairs) (now (groups .entry)) (now (table .exit)) (pairsAfter here r) (now (groups .exit)) ⌝ }
 {
     if here.at == here.end {
         return leave(code, records, here);
@@ -55,7 +60,7 @@ pub fn step(
         return turn_of(done);
     }
     if asks(done) {
-        return answered(table, cells, limit, here, done);
+        return answered(table, groups, cells, limit, here, done);
     }
     if enters(done) {
         return went(enter(code, cells, records, here, entry_of(done)));

@@ -13,7 +13,9 @@ ghost use mathlib.Core.Path.{_≡_};
 ghost use Prim.Native.Nat.{_+_, _-_, _≤_, _<_};
 ghost use Rattle.run_moves.specs.Acting.{answer};
 ghost use Rattle.table_pairs.specs.declared.Change.{Change as Changed};
-ghost use Rattle.table_pairs.specs.Outcomes.{tableOf, changeOf, wordsAfter};
+ghost use Rattle.table_laws.specs.Listing.{HasList, KeepsList};
+ghost use Rattle.table_pairs.specs.Outcomes.{tableOf, changeOf, countAfter, wordsAfter};
+ghost use Rattle.run_state.specs.Turns.{pairsAfter};
 ghost use Rattle.run_statements.specs.Answers.{Answered, turnAfter};
 ghost use Rattle.chain_links.specs.Running.{nowBy};
 ghost use Rattle.chain_step.specs.declared.turn.Asking.{Asking as Asked};
@@ -136,6 +138,7 @@ pub fn asks(moved: Moved) -> bool
 // What the table answers.
 fn asked(
     table: &mut [i32],
+    groups: &mut [i32],
     cells: &mut [i32; 8224],
     pairs: usize,
     limit: u32,
@@ -145,28 +148,34 @@ fn asked(
     ask: Ask,
 ) -> Change
     requires { ⌜ (group < 8192) × ((member < 8192) × (target < 8192)) ⌝ }
+    requires { ⌜ HasList limit (now table) pairs (now groups) ⌝ }
     ensures { λ r. ⌜ r ≡ changeOf (answer limit (now (cells .entry)) (tableOf (now (table .entry)) pairs) group member target ask .effect) ⌝ }
     ensures { λ _. ⌜ now (cells .exit) ≡ answer limit (now (cells .entry)) (tableOf (now (table .entry)) pairs) group member target ask .cells ⌝ }
     ensures { λ _. ⌜ now (table .exit) ≡ wordsAfter (now (table .entry)) (answer limit (now (cells .entry)) (tableOf (now (table .entry)) pairs) group member target ask .effect) ⌝ }
+    ensures { λ r. ⌜ KeepsList limit (now (table .entry)) pairs (now (groups .entry)) (now (table .exit)) (countAfter pairs r) (now (groups .exit)) ⌝ }
 {
     match ask {
-        Ask::Add => run_statements::add(table, cells, pairs, limit, group, member),
-        Ask::Remove => run_statements::remove(table, cells, pairs, group, member),
+        Ask::Add => run_statements::add(table, groups, cells, pairs, limit, group, member),
+        Ask::Remove => run_statements::remove(table, groups, cells, pairs, group, member),
         Ask::Query => run_statements::query(table, cells, pairs, group, member, target),
     }
 }
 
 pub fn answered(
     table: &mut [i32],
+    groups: &mut [i32],
     cells: &mut [i32; 8224],
     limit: u32,
     here: Registers,
     moved: Moved,
 ) -> Turn
     requires { ⌜ ((k : Asked) → moved ≡ Moved.Table k → (k .group < 8192) × ((k .member < 8192) × (k .target < 8192))) ⌝ }
+    requires { ⌜ HasList limit (now table) (here .pairs) (now groups) ⌝ }
     ensures { λ r. ⌜ ((k : Asked) → moved ≡ Moved.Table k
         → (c : Changed) × (r ≡ turnAfter here (k .place) c) × Answered (answerTo limit (now (cells .entry)) (tableOf (now (table .entry)) (here .pairs)) k)
         (now (table .entry)) c (now (cells .exit)) (now (table .exit))) ⌝ }
+    ensures { λ r. ⌜ ((k : Asked) → moved ≡ Moved.Table k
+        → KeepsList limit (now (table .entry)) (here .pairs) (now (groups .entry)) (now (table .exit)) (pairsAfter here r) (now (groups .exit))) ⌝ }
 {
     match moved {
         Moved::Went(next) => Turn::Went(next),
@@ -184,7 +193,17 @@ pub fn answered(
             after(
                 here,
                 place,
-                asked(table, cells, here.pairs, limit, group, member, target, ask),
+                asked(
+                    table,
+                    groups,
+                    cells,
+                    here.pairs,
+                    limit,
+                    group,
+                    member,
+                    target,
+                    ask,
+                ),
             )
         }
     }

@@ -15,12 +15,13 @@ fn ran(
     script: &[u8],
     numbers: CallNumbers,
     table: &mut [i32],
+    groups: &mut [i32],
     sheet: &mut [i32],
     area: &mut [u32],
 ) -> Answer
-    requires { ⌜ ((t : Block) × Admitted (copying (length (now area))) (fedOf numbers (now script) (now table) (now sheet)) t) ⌝ }
-    ensures { λ r. ⌜ Answers (copying (length (now (area .entry)))) (fedOf numbers (now (script .entry)) (now (table .entry)) (now (sheet .entry)))
-        r (now (sheet .exit)) (now (table .exit)) ⌝ }
+    requires { ⌜ ((t : Block) × Admitted (copying (length (now area))) (fedOf numbers (now script) (now table) (now groups) (now sheet)) t) ⌝ }
+    ensures { λ r. ⌜ Answers (copying (length (now (area .entry)))) (fedOf numbers (now (script .entry)) (now (table .entry)) (now (groups .entry)) (now (sheet .entry)))
+        r (now (sheet .exit)) (now (table .exit)) (now (groups .exit)) ⌝ }
 {
     let mut code = [0u32; 4096];
     resolve_script::resolve(script, numbers.name as usize, &mut code);
@@ -40,6 +41,7 @@ fn ran(
         &mut nexts,
         &mut links,
         table,
+        groups,
         numbers.count,
         numbers.g,
         numbers.d as usize,
@@ -64,17 +66,26 @@ pub fn call(
     script: &[u8],
     numbers: CallNumbers,
     table: &mut [i32],
+    groups: &mut [i32],
     sheet: &mut [i32],
     area: &mut [u32],
 ) -> Answer
-    ensures { λ r. ⌜ AnswersLeaving (copying (length (now (area .entry)))) (fedOf numbers (now (script .entry)) (now (table .entry)) (now (sheet .entry)))
-        r (now (sheet .exit)) (now (table .exit)) (now (area .entry)) (now (area .exit)) ⌝ }
+    ensures { λ r. ⌜ AnswersLeaving (copying (length (now (area .entry)))) (fedOf numbers (now (script .entry)) (now (table .entry)) (now (groups .entry)) (now (sheet .entry)))
+        r (now (sheet .exit)) (now (table .exit)) (now (groups .exit)) (now (area .entry)) (now (area .exit)) ⌝ }
 {
     let held = area.len();
-    match call_admission::admit(script, numbers, table, sheet, Area::Unused, Area::Of(held)) {
+    match call_admission::admit(
+        script,
+        numbers,
+        table,
+        groups,
+        sheet,
+        Area::Unused,
+        Area::Of(held),
+    ) {
         Verdict::Refused(cause, offset) => {
             call_answers::refused_answer(cause, offset, numbers.count, numbers.tally)
         }
-        Verdict::Fit => ran(script, numbers, table, sheet, area),
+        Verdict::Fit => ran(script, numbers, table, groups, sheet, area),
     }
 }

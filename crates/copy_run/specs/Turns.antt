@@ -1,5 +1,6 @@
 -- A step of the copying engine, by what the statement comes to (`Came`). For each move: the engine goes on (`went-on`, `answered-on`), or may leave, jump or
--- enter (`leave-ready`, `jump-ready`, `enter-ready`) and stands after the step once it has (`left-on`, `jumped-on`, `entered-on`), or stops (`stopped-at`).
+-- enter (`leave-ready`, `jump-ready`, `enter-ready`) and stands after the step once it has (`left-on`, `jumped-on`, `entered-on`), or stops (`stopped-at`);
+-- the list stays beside the table (`left-keeps`, `jumped-keeps`, `entered-keeps`).
 use Prim.Native.Nat.{ℕ, suc, _+_, _-_, _*_, _≤_, _<_}
 use native.Mathlib.Omega.{arith}
 use native.Mathlib.Nat.{mul-le-mul-right}
@@ -20,6 +21,8 @@ use Rattle.run_statements.specs.Answers.{Answered, turnAfter, done-goes, stoppe
 use Rattle.steps.specs.Means.{GoesOn, JumpsTo, EntersAt, AnswerMeans, MoveMeans}
 use Rattle.steps.specs.Here.{within-activations}
 use Rattle.steps.specs.Loop.{leaves, jumped}
+use Rattle.steps.specs.Listed.{left-lists, jumped-lists, entered-lists}
+use Rattle.table_laws.specs.Listing.{KeepsList}
 use Rattle.run_statements.specs.declared.moved.Moved.{Moved}
 use Rattle.run_statements.specs.declared.moved.Moved.the-variants.{Went, Jump as JumpTo, Enter as EnterBy, Stop as StopFor, Table as AskBy}
 use Rattle.copy_statements.specs.Doing.{doing}
@@ -58,6 +61,10 @@ module _ {code names : List ℕ} {activations limit : ℕ} {cells : List ℤ} {a
       subst (λ (n : Registers). Succeeds w cells area blocks nexts links firsts starts targets looked table n)
       ((λ i. goesTo here (here .live - 1) (getD nexts (here .live - 1) 0) (sym ends i) (here .pairs)) ∙ sym is)
       (goes-on w (l .standing) (l .follows) (omega arith) (λ k p. (refl, refl)))
+
+  pub left-keeps : here .at ≡ here .end → 1 ≤ here .live → (r : Registers) → r ≡ nowAt code blocks here (here .live - 1) (getD nexts (here .live - 1) 0)
+      → (groups : List ℤ) → KeepsList limit table (here .pairs) groups table (r .pairs) groups
+  left-keeps e h r is groups = let s = left-on e h r is in left-lists (w .standing) (s .running .standing) (s .follows) groups e
 
   -- The next statement
 
@@ -150,6 +157,10 @@ module _ {code names : List ℕ} {activations limit : ℕ} {cells : List ℤ} {a
         ((λ i. goesTo here home p (sym ends i) (here .pairs)) ∙ sym is)
         (goes-on w (l .standing) (l .follows) (l .home-high) (λ k q. (refl, refl))))
 
+    pub jumped-keeps : {home p : ℕ} → r ≡ JumpTo p home → {n : Registers} → n ≡ nowAt code blocks here home p
+        → (groups : List ℤ) → KeepsList limit table (here .pairs) groups table (n .pairs) groups
+    jumped-keeps e is groups = let s = jumped-on e is in jumped-lists (w .standing) (s .running .standing) (s .follows) groups (jumps e)
+
     -- An entry
 
     enters : {body link back : ℕ} → r ≡ EnterBy body link back → EntersAt (w .standing) body link back cells′
@@ -163,6 +174,11 @@ module _ {code names : List ℕ} {activations limit : ℕ} {cells : List ℤ} {a
         → Succeeds w cells″ area′ blocks′ nexts′ links′ firsts′ starts′ targets′ looked′ table n
     entered-on {body} {link} {back} e {cells″} {area′} {blocks′} {nexts′} {links′} {firsts′} {starts′} {targets′} {looked′} {n} k =
         enters-on w body link back cells′ (enters e) cells″ area′ blocks′ nexts′ links′ firsts′ starts′ targets′ looked′ n k
+
+    pub entered-keeps : {body link back : ℕ} → r ≡ EnterBy body link back → {cells″ : List ℤ} {area′ blocks′ nexts′ links′ firsts′ starts′ targets′ looked′ : List ℕ} {n : Registers}
+        → AnewIn code names width here body link back cells′ area blocks nexts links firsts starts targets looked cells″ area′ blocks′ nexts′ links′ firsts′ starts′ targets′ looked′ n
+        → (groups : List ℤ) → KeepsList limit table (here .pairs) groups table (n .pairs) groups
+    entered-keeps e k groups = let s = entered-on e k in entered-lists (w .standing) (s .running .standing) (s .follows) groups (enters e)
 
     -- A cause to stop
 

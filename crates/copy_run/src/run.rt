@@ -22,8 +22,10 @@ ghost use Prim.Native.Nat.{_<_};
 ghost use lib.ListN.{set};
 ghost use Rattle.frames.specs.Frame.{frameRun, frameStart};
 ghost use Rattle.run_moves.specs.Acting.{answer};
-ghost use Rattle.table_pairs.specs.Outcomes.{tableOf, changeOf, wordsAfter};
+ghost use Rattle.table_laws.specs.Listing.{HasList, KeepsList};
+ghost use Rattle.table_pairs.specs.Outcomes.{tableOf, changeOf, countAfter, wordsAfter};
 ghost use Rattle.run_state.specs.Limits.{limitsBy};
+ghost use Rattle.run_state.specs.Turns.{pairsAfter};
 ghost use Rattle.copy_moves.specs.Running.{Running};
 ghost use Rattle.copy_moves.specs.Looked.{Lookable, lookedUp};
 ghost use Rattle.copy_run.specs.Beginning.{Beginning};
@@ -32,6 +34,7 @@ ghost use Rattle.copy_run.specs.Turning.{Ready, Turned, Ended, RunFrom};
 // What the table answers.
 fn asked(
     table: &mut [i32],
+    groups: &mut [i32],
     cells: &mut [i32; 8224],
     pairs: usize,
     limit: u32,
@@ -41,13 +44,15 @@ fn asked(
     ask: Ask,
 ) -> Change
     requires { ⌜ (group < 8192) × ((member < 8192) × (target < 8192)) ⌝ }
+    requires { ⌜ HasList limit (now table) pairs (now groups) ⌝ }
     ensures { λ r. ⌜ r ≡ changeOf (answer limit (now (cells .entry)) (tableOf (now (table .entry)) pairs) group member target ask .effect) ⌝ }
     ensures { λ _. ⌜ now (cells .exit) ≡ answer limit (now (cells .entry)) (tableOf (now (table .entry)) pairs) group member target ask .cells ⌝ }
     ensures { λ _. ⌜ now (table .exit) ≡ wordsAfter (now (table .entry)) (answer limit (now (cells .entry)) (tableOf (now (table .entry)) pairs) group member target ask .effect) ⌝ }
+    ensures { λ r. ⌜ KeepsList limit (now (table .entry)) pairs (now (groups .entry)) (now (table .exit)) (countAfter pairs r) (now (groups .exit)) ⌝ }
 {
     match ask {
-        Ask::Add => run_statements::add(table, cells, pairs, limit, group, member),
-        Ask::Remove => run_statements::remove(table, cells, pairs, group, member),
+        Ask::Add => run_statements::add(table, groups, cells, pairs, limit, group, member),
+        Ask::Remove => run_statements::remove(table, groups, cells, pairs, group, member),
         Ask::Query => run_statements::query(table, cells, pairs, group, member, target),
     }
 }
@@ -66,17 +71,20 @@ pub fn step(
     targets: &mut [u16; 8224],
     looked: &mut [u32; 256],
     table: &mut [i32],
+    groups: &mut [i32],
     limit: u32,
     activations: usize,
     here: Registers,
 ) -> Turn
     requires { ⌜ Ready (now code) (now names) activations limit (now cells) (now area) width (now blocks) (now nexts) (now links) (now firsts) (now starts)
         (now targets) (now looked) (now table) here 1 ⌝ }
+    requires { ⌜ HasList limit (now table) (here .pairs) (now groups) ⌝ }
     ensures { λ r.
         ⌜ ((w : Running (now (code .entry)) (now (names .entry)) activations limit (now (cells .entry)) (now (area .entry)) width (now (blocks .entry)) (now (nexts .entry))
         (now (links .entry)) (now (firsts .entry)) (now (starts .entry)) (now (targets .entry)) (now (looked .entry)) (now (table .entry)) here)
         → Turned w r (now (cells .exit)) (now (area .exit)) (now (blocks .exit)) (now (nexts .exit)) (now (links .exit)) (now (firsts .exit)) (now (starts .exit))
         (now (targets .exit)) (now (looked .exit)) (now (table .exit))) ⌝ }
+    ensures { λ r. ⌜ KeepsList limit (now (table .entry)) (here .pairs) (now (groups .entry)) (now (table .exit)) (pairsAfter here r) (now (groups .exit)) ⌝ }
 {
     let live = here.live;
     let at = here.at;
@@ -123,7 +131,17 @@ pub fn step(
         Moved::Table(place, group, member, target, ask) => after(
             here,
             place,
-            asked(table, cells, here.pairs, limit, group, member, target, ask),
+            asked(
+                table,
+                groups,
+                cells,
+                here.pairs,
+                limit,
+                group,
+                member,
+                target,
+                ask,
+            ),
         ),
     }
 }
@@ -161,6 +179,7 @@ pub fn run(
     targets: &mut [u16; 8224],
     looked: &mut [u32; 256],
     table: &mut [i32],
+    groups: &mut [i32],
     limit: u32,
     activations: usize,
     allowance: u32,
@@ -168,10 +187,12 @@ pub fn run(
 ) -> Halt
     requires { ⌜ Ready (now code) (now names) activations limit (now cells) (now area) width (now blocks) (now nexts) (now links) (now firsts) (now starts)
         (now targets) (now looked) (now table) start allowance ⌝ }
+    requires { ⌜ HasList limit (now table) (start .pairs) (now groups) ⌝ }
     ensures { λ r.
         ⌜ ((w : Running (now (code .entry)) (now (names .entry)) activations limit (now (cells .entry)) (now (area .entry)) width (now (blocks .entry)) (now (nexts .entry))
         (now (links .entry)) (now (firsts .entry)) (now (starts .entry)) (now (targets .entry)) (now (looked .entry)) (now (table .entry)) start)
         → RunFrom w allowance r (now (cells .exit)) (now (blocks .exit)) (now (nexts .exit)) (now (links .exit)) (now (table .exit))) ⌝ }
+    ensures { λ r. ⌜ KeepsList limit (now (table .entry)) (start .pairs) (now (groups .entry)) (now (table .exit)) (r .pairs) (now (groups .exit)) ⌝ }
 {
     let mut here = start;
     let mut left = allowance;
@@ -190,6 +211,7 @@ pub fn run(
             targets,
             looked,
             table,
+            groups,
             limit,
             activations,
             here,
@@ -220,18 +242,21 @@ pub fn run_program(
     nexts: &mut [u16; 256],
     links: &mut [u16; 256],
     table: &mut [i32],
+    groups: &mut [i32],
     pairs: usize,
     limit: u32,
     activations: usize,
     allowance: u32,
 ) -> Halt
     requires { ⌜ Beginning (now script) (now code) (now names) (now cells) (now area) (now blocks) (now nexts) (now links) (now table) pairs limit activations allowance ⌝ }
+    requires { ⌜ HasList limit (now table) pairs (now groups) ⌝ }
     ensures { λ r.
         ⌜ ((b : Beginning (now (script .entry)) (now (code .entry)) (now (names .entry)) (now (cells .entry)) (now (area .entry)) (now (blocks .entry)) (now (nexts .entry))
         (now (links .entry)) (now (table .entry)) pairs limit activations allowance)
         → Ended (b .begun .program) (b .begun .name) activations limit
         (frameRun (limitsBy activations limit) allowance (frameStart (b .begun .program) (record { words = now (table .entry); used = pairs })))
         r (now (cells .exit)) (now (blocks .exit)) (now (nexts .exit)) (now (links .exit)) (now (table .exit))) ⌝ }
+    ensures { λ r. ⌜ KeepsList limit (now (table .entry)) pairs (now (groups .entry)) (now (table .exit)) (r .pairs) (now (groups .exit)) ⌝ }
 {
     let width = script.len() / 2;
     let mut firsts = [0u32; 256];
@@ -262,6 +287,7 @@ pub fn run_program(
         &mut targets,
         &mut looked,
         table,
+        groups,
         limit,
         activations,
         allowance,

@@ -17,6 +17,7 @@ use run_words::code_at;
 ghost use mathlib.Core.Path.{_≡_};
 ghost use Prim.Native.Nat.{_<_};
 ghost use lib.ListN.{set};
+ghost use Rattle.table_laws.specs.Listing.{HasList, KeepsList};
 ghost use Rattle.frames.specs.Frame.{designates, frameRun, frameStart};
 ghost use Rattle.run_state.specs.Limits.{limitsBy};
 ghost use Rattle.run_state.specs.Ended.{RunFrom};
@@ -67,15 +68,18 @@ pub fn run(
     links: &mut [u16; 256],
     display: &mut [u16; 256],
     table: &mut [i32],
+    groups: &mut [i32],
     limit: u32,
     activations: usize,
     allowance: u32,
     start: Registers,
 ) -> Halt
     requires { ⌜ Running (now code) activations limit (now cells) (now blocks) (now nexts) (now links) (now display) (now table) start ⌝ }
+    requires { ⌜ HasList limit (now table) (start .pairs) (now groups) ⌝ }
     ensures { λ r.
         ⌜ ((w : Running (now (code .entry)) activations limit (now (cells .entry)) (now (blocks .entry)) (now (nexts .entry)) (now (links .entry)) (now (display .entry)) (now (table .entry)) start)
         → RunFrom (w .standing) allowance r (now (cells .exit)) (now (blocks .exit)) (now (nexts .exit)) (now (links .exit)) (now (table .exit))) ⌝ }
+    ensures { λ r. ⌜ KeepsList limit (now (table .entry)) (start .pairs) (now (groups .entry)) (now (table .exit)) (r .pairs) (now (groups .exit)) ⌝ }
 {
     let mut here = start;
     let mut left = allowance;
@@ -88,6 +92,7 @@ pub fn run(
             links,
             display,
             table,
+            groups,
             limit,
             activations,
             here,
@@ -130,17 +135,20 @@ pub fn run_program(
     links: &mut [u16; 256],
     display: &mut [u16; 256],
     table: &mut [i32],
+    groups: &mut [i32],
     pairs: usize,
     limit: u32,
     activations: usize,
     allowance: u32,
 ) -> Halt
     requires { ⌜ Beginning (now code) (now cells) (now blocks) (now nexts) (now links) (now display) (now table) pairs limit activations ⌝ }
+    requires { ⌜ HasList limit (now table) pairs (now groups) ⌝ }
     ensures { λ r.
         ⌜ ((b : Beginning (now (code .entry)) (now (cells .entry)) (now (blocks .entry)) (now (nexts .entry)) (now (links .entry)) (now (display .entry)) (now (table .entry)) pairs limit activations)
         → Ended (b .begun .program) (b .begun .name) activations limit
         (frameRun (limitsBy activations limit) allowance (frameStart (b .begun .program) (record { words = now (table .entry); used = pairs })))
         r (now (cells .exit)) (now (blocks .exit)) (now (nexts .exit)) (now (links .exit)) (now (table .exit))) ⌝ }
+    ensures { λ r. ⌜ KeepsList limit (now (table .entry)) pairs (now (groups .entry)) (now (table .exit)) (r .pairs) (now (groups .exit)) ⌝ }
 {
     let start = begin(code, pairs);
     run(
@@ -151,6 +159,7 @@ pub fn run_program(
         links,
         display,
         table,
+        groups,
         limit,
         activations,
         allowance,

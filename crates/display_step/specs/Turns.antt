@@ -1,5 +1,6 @@
 -- A step of the display engine, by what the statement comes to (`Done`): `act-means`. For each move: the engine goes on (`went-on`, `answered-on`), or
--- is ready to jump or to enter (`jump-ready`, `enter-ready`), and stands after the step once it has (`jumped-on`, `entered-on`).
+-- is ready to jump or to enter (`jump-ready`, `enter-ready`), and stands after the step once it has (`jumped-on`, `entered-on`);
+-- the list stays beside the table (`left-keeps`, `jumped-keeps`, `entered-keeps`).
 use Prim.Native.Nat.{ℕ, _≤_, _<_}
 use mathlib.Core.List.{List}
 use mathlib.Core.Path.{_≡_, refl, sym, ap, _∙_, subst}
@@ -14,6 +15,8 @@ use Rattle.table_pairs.specs.declared.Change.the-variants.{Done as Count, Stopp
 use Rattle.steps.specs.Means.{GoesOn, AnswerMeans, MoveMeans}
 use Rattle.steps.specs.Finding.{finds-by-display}
 use Rattle.steps.specs.Acts.{acting-means}
+use Rattle.steps.specs.Listed.{left-lists, jumped-lists, entered-lists}
+use Rattle.table_laws.specs.Listing.{KeepsList}
 use Rattle.language.specs.declared.Stop.{Stop as Cause}
 use Rattle.run_state.specs.declared.Registers.{Registers}
 use Rattle.run_state.specs.declared.Turn.{Turn}
@@ -35,6 +38,11 @@ module _ {code : List ℕ} {activations limit : ℕ} {cells : List ℤ} {blocks 
       → Succeeds w cells blocks nexts links display′ table r
   unfolding leave-ready
   left-on e h display′ r k = k (leave-ready e h)
+
+  pub left-keeps : (e : here .at ≡ here .end) (h : 1 ≤ here .live) (display′ : List ℕ) (r : Registers)
+      → ((v : LeaveReady code blocks nexts links display here) → Succeeds (v .running) (v .cells) blocks nexts links display′ (v .table) r)
+      → (groups : List ℤ) → KeepsList limit table (here .pairs) groups table (r .pairs) groups
+  left-keeps e h display′ r k groups = let s = left-on e h display′ r k in left-lists (w .standing) (s .running .standing) (s .follows) groups e
 
   pub doing : (here .at ≡ here .end → ⊥) → Doing code cells display activations (here .live) (here .at)
   doing d =
@@ -108,6 +116,13 @@ module _ {code : List ℕ} {activations limit : ℕ} {cells : List ℤ} {blocks 
     jumped-on home p e display′ n k =
         subst (λ (v : List ℤ). Succeeds w v blocks nexts links display′ table n) (sym ((means-as (Jump home p) e) .1)) (k (jump-ready home p e))
 
+    pub jumped-keeps : (home p : ℕ) → r ≡ Jump home p → (display′ : List ℕ) (n : Registers)
+        → ((v : JumpReady code blocks links display here home p) → Succeeds (v .running) (v .cells) blocks (v .nexts) links display′ (v .table) n)
+        → (groups : List ℤ) → KeepsList limit table (here .pairs) groups table (n .pairs) groups
+    jumped-keeps home p e display′ n k groups =
+        let s = jumped-on home p e display′ n k in
+        jumped-lists (w .standing) (s .running .standing) (s .follows) groups ((means-as (Jump home p) e) .0)
+
     -- An entry
 
     pub enter-ready : (body link back : ℕ) → r ≡ Enter body link back → EnterReady code cells′ blocks nexts links display here body link back
@@ -119,6 +134,13 @@ module _ {code : List ℕ} {activations limit : ℕ} {cells : List ℤ} {blocks 
         (v .table) n) → Succeeds w cells″ blocks′ nexts′ links′ display′ table n
     unfolding enter-ready
     entered-on body link back e cells″ blocks′ nexts′ links′ display′ n k = k (enter-ready body link back e)
+
+    pub entered-keeps : (body link back : ℕ) → r ≡ Enter body link back → (cells″ : List ℤ) (blocks′ nexts′ links′ display′ : List ℕ) (n : Registers)
+        → ((v : EnterReady code cells′ blocks nexts links display here body link back) → Succeeds (v .running) cells″ blocks′ nexts′ links′ display′
+        (v .table) n) → (groups : List ℤ) → KeepsList limit table (here .pairs) groups table (n .pairs) groups
+    entered-keeps body link back e cells″ blocks′ nexts′ links′ display′ n k groups =
+        let s = entered-on body link back e cells″ blocks′ nexts′ links′ display′ n k in
+        entered-lists (w .standing) (s .running .standing) (s .follows) groups (means-as (Enter body link back) e)
 
     -- A cause to stop
 

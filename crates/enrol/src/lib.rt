@@ -18,7 +18,7 @@ pub extern "C" fn enrol_check(script: &[u8], answer: &mut [u64; 2])
     *answer = check_call::call(script);
 }
 
-// A run by the copying engine, on texts in a lent area: the answer's words, what becomes of table and sheet, and the area as it was where the call
+// A run by the copying engine, on texts in a lent area: the answer's words, what becomes of table, list of groups and sheet, and the area as it was where the call
 // is refused.
 #[no_mangle]
 pub extern "C" fn enrol_copy(
@@ -29,14 +29,15 @@ pub extern "C" fn enrol_copy(
     tally: u64,
     table: &mut [i32],
     count: usize,
+    groups: &mut [i32],
     name: u16,
     sheet: &mut [i32],
     area: &mut [u32],
     answer: &mut [u64; 9],
 )
     ensures { λ _. ⌜ RepliesLeaving (copying (length (now (area .entry)))) (fedOf (record { d = d; n = n; g = g; tally = tally; count = count; name = name })
-        (now (script .entry)) (now (table .entry)) (now (sheet .entry)))
-        (now (answer .exit)) (now (sheet .exit)) (now (table .exit)) (now (area .entry)) (now (area .exit)) ⌝ }
+        (now (script .entry)) (now (table .entry)) (now (groups .entry)) (now (sheet .entry)))
+        (now (answer .exit)) (now (sheet .exit)) (now (table .exit)) (now (groups .exit)) (now (area .entry)) (now (area .exit)) ⌝ }
 {
     let numbers = CallNumbers {
         d,
@@ -46,10 +47,13 @@ pub extern "C" fn enrol_copy(
         count,
         name,
     };
-    write_answer(copy_call::call(script, numbers, table, sheet, area), answer);
+    write_answer(
+        copy_call::call(script, numbers, table, groups, sheet, area),
+        answer,
+    );
 }
 
-// A run by the display engine: the answer's words, and what becomes of table and sheet.
+// A run by the display engine: the answer's words, and what becomes of table, list of groups and sheet.
 #[no_mangle]
 pub extern "C" fn enrol_display(
     script: &[u8],
@@ -59,13 +63,14 @@ pub extern "C" fn enrol_display(
     tally: u64,
     table: &mut [i32],
     count: usize,
+    groups: &mut [i32],
     name: u16,
     sheet: &mut [i32],
     answer: &mut [u64; 9],
 )
     ensures { λ _. ⌜ Replies display (fedOf (record { d = d; n = n; g = g; tally = tally; count = count; name = name })
-        (now (script .entry)) (now (table .entry)) (now (sheet .entry)))
-        (now (answer .exit)) (now (sheet .exit)) (now (table .exit)) ⌝ }
+        (now (script .entry)) (now (table .entry)) (now (groups .entry)) (now (sheet .entry)))
+        (now (answer .exit)) (now (sheet .exit)) (now (table .exit)) (now (groups .exit)) ⌝ }
 {
     let numbers = CallNumbers {
         d,
@@ -75,7 +80,10 @@ pub extern "C" fn enrol_display(
         count,
         name,
     };
-    write_answer(display_call::call(script, numbers, table, sheet), answer);
+    write_answer(
+        display_call::call(script, numbers, table, groups, sheet),
+        answer,
+    );
 }
 
 // A run by the chain engine, on activation records in a lent slice: the same, and the records as they were where the call is refused.
@@ -88,14 +96,15 @@ pub extern "C" fn enrol_chain(
     tally: u64,
     table: &mut [i32],
     count: usize,
+    groups: &mut [i32],
     name: u16,
     sheet: &mut [i32],
     records: &mut [Activation],
     answer: &mut [u64; 9],
 )
     ensures { λ _. ⌜ RepliesLeaving (chain (length (now (records .entry)))) (fedOf (record { d = d; n = n; g = g; tally = tally; count = count; name = name })
-        (now (script .entry)) (now (table .entry)) (now (sheet .entry)))
-        (now (answer .exit)) (now (sheet .exit)) (now (table .exit)) (now (records .entry)) (now (records .exit)) ⌝ }
+        (now (script .entry)) (now (table .entry)) (now (groups .entry)) (now (sheet .entry)))
+        (now (answer .exit)) (now (sheet .exit)) (now (table .exit)) (now (groups .exit)) (now (records .entry)) (now (records .exit)) ⌝ }
 {
     let numbers = CallNumbers {
         d,
@@ -106,12 +115,12 @@ pub extern "C" fn enrol_chain(
         name,
     };
     write_answer(
-        chain_call::call(script, numbers, table, sheet, records),
+        chain_call::call(script, numbers, table, groups, sheet, records),
         answer,
     );
 }
 
-// A run by the search engine: the answer's words, and what becomes of table and sheet.
+// A run by the search engine: the answer's words, and what becomes of table, list of groups and sheet.
 #[no_mangle]
 pub extern "C" fn enrol_search(
     script: &[u8],
@@ -121,13 +130,14 @@ pub extern "C" fn enrol_search(
     tally: u64,
     table: &mut [i32],
     count: usize,
+    groups: &mut [i32],
     name: u16,
     sheet: &mut [i32],
     answer: &mut [u64; 9],
 )
     ensures { λ _. ⌜ Replies search (fedOf (record { d = d; n = n; g = g; tally = tally; count = count; name = name })
-        (now (script .entry)) (now (table .entry)) (now (sheet .entry)))
-        (now (answer .exit)) (now (sheet .exit)) (now (table .exit)) ⌝ }
+        (now (script .entry)) (now (table .entry)) (now (groups .entry)) (now (sheet .entry)))
+        (now (answer .exit)) (now (sheet .exit)) (now (table .exit)) (now (groups .exit)) ⌝ }
 {
     let numbers = CallNumbers {
         d,
@@ -137,5 +147,8 @@ pub extern "C" fn enrol_search(
         count,
         name,
     };
-    write_answer(search_call::call(script, numbers, table, sheet), answer);
+    write_answer(
+        search_call::call(script, numbers, table, groups, sheet),
+        answer,
+    );
 }

@@ -28,13 +28,14 @@ fn by_chain(
     g: u32,
     table: &mut [i32],
     count: usize,
+    groups: &mut [i32],
     name: u16,
     sheet: &mut [i32],
     answer: &mut [u64; 9],
 )
     ensures { λ _. ⌜ Replies (chain 256) (fedOf (record { d = d; n = n; g = g; tally = 0; count = count; name = name })
-        (now (script .entry)) (now (table .entry)) (now (sheet .entry)))
-        (now (answer .exit)) (now (sheet .exit)) (now (table .exit)) ⌝ }
+        (now (script .entry)) (now (table .entry)) (now (groups .entry)) (now (sheet .entry)))
+        (now (answer .exit)) (now (sheet .exit)) (now (table .exit)) (now (groups .exit)) ⌝ }
 {
     let mut records = [Activation {
         block: 0,
@@ -49,6 +50,7 @@ fn by_chain(
         0,
         table,
         count,
+        groups,
         name,
         sheet,
         &mut records,
@@ -56,7 +58,7 @@ fn by_chain(
     );
 }
 
-// A call of an engine, as C makes it, with the tally at 0: the answer's words, and what becomes of table and sheet. The copying area has 65,536 words, the
+// A call of an engine, as C makes it, with the tally at 0: the answer's words, and what becomes of table, list of groups and sheet. The copying area has 65,536 words, the
 // records are for 256 activations.
 pub fn call(
     engine: Engine,
@@ -66,11 +68,12 @@ pub fn call(
     g: u32,
     table: &mut [i32],
     count: usize,
+    groups: &mut [i32],
     name: u16,
     sheet: &mut [i32],
 ) -> [u64; 9]
     ensures { λ r. ⌜ Replies (engineNamed engine) (fedOf (record { d = d; n = n; g = g; tally = 0; count = count; name = name })
-        (now (script .entry)) (now (table .entry)) (now (sheet .entry))) r (now (sheet .exit)) (now (table .exit)) ⌝ }
+        (now (script .entry)) (now (table .entry)) (now (groups .entry)) (now (sheet .entry))) r (now (sheet .exit)) (now (table .exit)) (now (groups .exit)) ⌝ }
 {
     let mut answer = [0u64; 9];
     match engine {
@@ -84,6 +87,7 @@ pub fn call(
                 0,
                 table,
                 count,
+                groups,
                 name,
                 sheet,
                 &mut area,
@@ -91,13 +95,48 @@ pub fn call(
             );
         }
         Engine::Chain => {
-            by_chain(script, d, n, g, table, count, name, sheet, &mut answer);
+            by_chain(
+                script,
+                d,
+                n,
+                g,
+                table,
+                count,
+                groups,
+                name,
+                sheet,
+                &mut answer,
+            );
         }
         Engine::Display => {
-            enrol::enrol_display(script, d, n, g, 0, table, count, name, sheet, &mut answer);
+            enrol::enrol_display(
+                script,
+                d,
+                n,
+                g,
+                0,
+                table,
+                count,
+                groups,
+                name,
+                sheet,
+                &mut answer,
+            );
         }
         Engine::Search => {
-            enrol::enrol_search(script, d, n, g, 0, table, count, name, sheet, &mut answer);
+            enrol::enrol_search(
+                script,
+                d,
+                n,
+                g,
+                0,
+                table,
+                count,
+                groups,
+                name,
+                sheet,
+                &mut answer,
+            );
         }
     }
     answer

@@ -49,11 +49,23 @@ fn print_pairs(table: &[i32], pairs: u64) {
     }
 }
 
-// An engine on an empty table of 8 pairs.
+// An engine on an empty table of 8 pairs, and its list.
 fn run(engine: Engine, script: &[u8]) {
     let mut table = [0i32; 16];
+    let mut groups = [0i32; 16];
     let mut sheet = [0i32; 560];
-    let answer = call(engine, script, D, N, G, &mut table, 0, 0, &mut sheet);
+    let answer = call(
+        engine,
+        script,
+        D,
+        N,
+        G,
+        &mut table,
+        0,
+        &mut groups,
+        0,
+        &mut sheet,
+    );
     print_answer(engine, answer, 6);
     say(b"\n");
     print_pairs(&table, answer[4]);

@@ -1,6 +1,7 @@
 // Document 01's samples, and more, on each engine: the rows of the standard input. A row is a line: what it shows, a colon, and the script as
 // text. Capital letters are bytes of the script and numbers its fields, KN's value two of them, the low half first; commas are for the
 // eye. A number after another word is what the call is fed, and is kept under the word's last letter.
+ghost use Prim.Native.Nat.{_≤_};
 use program_engines::Engine;
 use program_engines::call;
 use program_engines::print_answer;
@@ -8,7 +9,8 @@ use program_engines::print_number;
 use program_engines::print_words;
 use program_engines::say;
 
-// The words: d, n, g, name, places (of the table), and the count, group and member of a pair in use.
+// The words: d, n, g, name, places (of the table), the count, group and member of a pair in use, how far the list's number is off, and how many
+// words the list lacks.
 const D: usize = b'd' as usize;
 
 const N: usize = b'n' as usize;
@@ -24,6 +26,10 @@ const COUNT: usize = b't' as usize;
 const GROUP: usize = b'p' as usize;
 
 const MEMBER: usize = b'r' as usize;
+
+const OFF: usize = b'f' as usize;
+
+const LACK: usize = b'k' as usize;
 
 // How far a row is read: the bytes of its script, the number that is open, and the letter under which it is kept, 0 for a field and a
 // colon before the row's own colon.
@@ -93,8 +99,8 @@ fn read(row: Row, letter: u8, script: &mut [u8], fed: &mut [u32; 128]) -> Row {
     r
 }
 
-// A line each: the whole answer, the sheet, the table.
-fn report(engine: Engine, script: &[u8], fed: [u32; 128], table: &mut [i32]) {
+// A line each: the whole answer, the sheet, the table, the list.
+fn report(engine: Engine, script: &[u8], fed: [u32; 128], table: &mut [i32], groups: &mut [i32]) {
     let mut sheet = [0i32; 8960];
     let count = (fed[COUNT] % 9) as usize;
     let name = (fed[NAME] % 65536) as u16;
@@ -106,6 +112,7 @@ fn report(engine: Engine, script: &[u8], fed: [u32; 128], table: &mut [i32]) {
         fed[G],
         table,
         count,
+        groups,
         name,
         &mut sheet,
     );
@@ -113,15 +120,44 @@ fn report(engine: Engine, script: &[u8], fed: [u32; 128], table: &mut [i32]) {
     say(b"\n");
     print_words(&sheet, 0, answer[5] as usize);
     print_words(table, 0, table.len());
+    print_words(groups, 0, groups.len());
 }
 
-// An engine on a table of its own.
+// The list of a table with one pair in use, or none.
+fn list_of(fed: [u32; 128]) -> [i32; 16] {
+    let mut groups = [0i32; 16];
+    if 0 < fed[COUNT] {
+        groups[0] = (fed[GROUP] % 2147483648) as i32;
+        groups[1] = (fed[OFF] % 1000 + 1) as i32;
+    }
+    groups
+}
+
+// So many words but for those that are lacking.
+fn lent(words: usize, lack: u32) -> usize
+    ensures { λ r. ⌜ r ≤ words ⌝ }
+{
+    if words < lack as usize {
+        return 0;
+    }
+    words - lack as usize
+}
+
+// An engine on a table and a list of its own.
 fn run(engine: Engine, script: &[u8], fed: [u32; 128]) {
     let mut table = [0i32; 16];
+    let mut groups = list_of(fed);
     table[0] = (fed[GROUP] % 2147483648) as i32;
     table[1] = (fed[MEMBER] % 2147483648) as i32;
     let words = (fed[PLACES] % 9 * 2) as usize;
-    report(engine, script, fed, &mut table[..words]);
+    let listed = lent(words, fed[LACK] % 16);
+    report(
+        engine,
+        script,
+        fed,
+        &mut table[..words],
+        &mut groups[..listed],
+    );
 }
 
 fn run_all(script: &[u8], fed: [u32; 128]) {

@@ -3,3 +3,4 @@ pub mod Limits
 pub mod Turns
 pub mod Halts
 pub mod Ended
+pub mod Listed

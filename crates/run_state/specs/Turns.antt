@@ -1,4 +1,5 @@
 -- What a step says where a run ends with it: the program is left (`LeavesProgram`), or the statement has a cause to stop and nothing is written (`Stops`).
+-- `pairsAfter`: the pairs in use once it is done.
 use Prim.Native.Nat.{ℕ, zero, suc, _≤_}
 use native.Mathlib.Omega.{arith}
 use mathlib.Core.List.{List}
@@ -8,6 +9,13 @@ use Rattle.language.specs.Machine.{Limits}
 use Rattle.language.specs.declared.Stop.{Stop}
 use Rattle.frames.specs.Frame.{Stack, halted, frameStep}
 use Rattle.run_state.specs.declared.Registers.{Registers}
+use Rattle.run_state.specs.declared.Turn.{Turn}
+use Rattle.run_state.specs.declared.Turn.the-variants.{Went, Finished, Stopped}
+
+abbrev pub pairsAfter : Registers → Turn → ℕ
+pairsAfter here (Went next) = next .pairs
+pairsAfter here Finished = here .pairs
+pairsAfter here (Stopped c) = here .pairs
 
 pub record LeavesProgram (here : Registers) (cells table cells′ table′ : List ℤ) : Type 0 where
   pub ended : here .at ≡ here .end

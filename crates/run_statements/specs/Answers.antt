@@ -13,21 +13,34 @@ use Rattle.frames.specs.Frame.{frameStep, halted}
 use Rattle.run_moves.specs.declared.Ask.{Ask}
 use Rattle.run_moves.specs.declared.Ask.the-variants.{Add, Remove, Query as Queried}
 use Rattle.run_moves.specs.Acting.{Answer, stored, answer}
+use Rattle.table_laws.specs.Listing.{Beside, KeepsList}
 use Rattle.table_pairs.specs.declared.Change.{Change}
 use Rattle.table_pairs.specs.declared.Change.the-variants.{Done as Count, Stopped as Halted}
 use Rattle.table_pairs.specs.declared.Query.{Query}
 use Rattle.table_pairs.specs.declared.Query.the-variants.{Value, Stopped as Refused}
-use Rattle.table_pairs.specs.Outcomes.{changeOf, wordsAfter, valueOf}
+use Rattle.table_pairs.specs.Outcomes.{changeOf, countAfter, wordsAfter, valueOf}
 use Rattle.steps.specs.Standing.{Standing}
 use Rattle.steps.specs.Means.{GoesOn, EffectMeans, AnswerMeans}
 use Rattle.run_state.specs.declared.Registers.{Registers}
 use Rattle.run_state.specs.declared.Turn.{Turn}
 use Rattle.run_state.specs.declared.Turn.the-variants.{Went, Stopped}
 use Rattle.run_state.specs.Limits.{goesTo}
+use Rattle.run_state.specs.Turns.{pairsAfter}
 
 unfoldable pub turnAfter : Registers → ℕ → Change → Turn
 turnAfter here place (Count n) = Went (goesTo here (here .live) place (here .end) n)
 turnAfter here place (Halted c) = Stopped c
+
+pairs-after : (here : Registers) (place : ℕ) (c : Change) → countAfter (here .pairs) c ≡ pairsAfter here (turnAfter here place c)
+unfolding turnAfter countAfter
+pairs-after here place (Count n) = refl
+pairs-after here place (Halted c) = refl
+
+-- the list is kept by a step, once it is kept by the function that was asked
+pub answered-lists : {limit : ℕ} {table groups table′ groups′ : List ℤ} (here : Registers) (place : ℕ) (c : Change) {n : Turn} → n ≡ turnAfter here place c
+    → KeepsList limit table (here .pairs) groups table′ (countAfter (here .pairs) c) groups′ → KeepsList limit table (here .pairs) groups table′ (pairsAfter here n) groups′
+answered-lists {limit} {table′ = table′} {groups′ = groups′} here place c e k past b =
+    subst (λ (m : ℕ). Beside limit past (record { words = table′; used = m }) groups′) (pairs-after here place c ∙ sym (ap (pairsAfter here) e)) (k past b)
 
 abbrev pub Answered : Answer → List ℤ → Change → List ℤ → List ℤ → Type 0
 Answered x table r cells′ table′ = (r ≡ changeOf (x .effect)) × ((cells′ ≡ x .cells) × (table′ ≡ wordsAfter table (x .effect)))
@@ -71,7 +84,9 @@ module _ (cells : List ℤ) (t : Table) (group member target : ℕ) {a b : ℤ} 
       let g : asked ≡ refuses c = asked-refused asked c (sym read ∙ f) in
       (sym (ap (λ (x : Asked). changeOf (stored 0 cells t group member target x .effect)) g), sym (ap (λ (x : Asked). stored 0 cells t group member target x .cells) g))
 
--- an engine's choice among the three functions, by what was asked
+-- an engine's choice among the three functions, by what was asked; and the list beside what they answer
+pub with-list : {A B C D : Type 0} → A × (B × C) → D → A × (B × (C × D))
+with-list a d = (a .0, (a .1 .0, (a .1 .1, d)))
 
 module _ (limit : ℕ) (cells : List ℤ) (t : Table) (group member target : ℕ) where
   abbrev Is : Ask → Change → List ℤ → List ℤ → Type 0
@@ -99,6 +114,20 @@ module _ (limit : ℕ) (cells : List ℤ) (t : Table) (group member target : ℕ
   unfolding answer
   query-answered {c = c} {cells′ = cells′} e h =
       subst (λ (x : Ask). Is x c cells′ (t .words)) (sym e) (told-by (queried (getD cells group (pos 0)) (getD cells member (pos 0)) t) h)
+
+  -- QY leaves the pairs in use as they were
+  asked-pairs : (x : Asked) → countAfter (t .used) (changeOf (stored 0 cells t group member target x .effect)) ≡ t .used
+  unfolding stored changeOf countAfter
+  asked-pairs (gives z) = refl
+  asked-pairs (refuses c) = refl
+
+  query-pairs : {c : Change} → c ≡ changeOf (answer 0 cells t group member target Queried .effect) → t .used ≡ countAfter (t .used) c
+  unfolding answer
+  query-pairs e = sym (ap (countAfter (t .used)) e ∙ asked-pairs (queried (getD cells group (pos 0)) (getD cells member (pos 0)) t))
+
+  pub query-lists : {c : Change} → c ≡ changeOf (answer 0 cells t group member target Queried .effect)
+      → (groups : List ℤ) → KeepsList limit (t .words) (t .used) groups (t .words) (countAfter (t .used) c) groups
+  query-lists e groups past b = subst (λ (m : ℕ). Beside limit past (record { words = t .words; used = m }) groups) (query-pairs e) b
 
 module _ {code : List ℕ} {l : Limits} {cells : List ℤ} {blocks nexts links : List ℕ} {table : List ℤ} {pairs live at end : ℕ} (w : Standing code l cells blocks nexts links table pairs live at end) where
   goes-by : (p n : ℕ) (cells′ : List ℤ) (e : Effect) → EffectMeans w p cells′ e → changeOf e ≡ Count n → GoesOn w cells′ (wordsAfter table e) n p

@@ -5,14 +5,16 @@ use run_state::Turn;
 use table_pairs::Change;
 use table_pairs::Query;
 ghost use mathlib.Core.Path.{_≡_};
-ghost use Prim.Native.Nat.{_<_};
+ghost use Prim.Native.Nat.{ℕ, _<_};
 ghost use Rattle.run_moves.specs.Acting.{answer};
 ghost use Rattle.run_moves.specs.declared.Ask.the-variants.{Add, Remove, Query as Queried};
-ghost use Rattle.table_pairs.specs.Outcomes.{tableOf, changeOf, wordsAfter};
+ghost use Rattle.table_laws.specs.Listing.{HasList, KeepsList};
+ghost use Rattle.table_pairs.specs.Outcomes.{tableOf, changeOf, countAfter, wordsAfter};
 ghost use Rattle.run_statements.specs.Answers.{turnAfter};
 
 pub fn add(
     table: &mut [i32],
+    groups: &mut [i32],
     cells: &[i32; 8224],
     pairs: usize,
     limit: u32,
@@ -20,28 +22,33 @@ pub fn add(
     member: usize,
 ) -> Change
     requires { ⌜ (group < 8192) × (member < 8192) ⌝ }
+    requires { ⌜ HasList limit (now table) pairs (now groups) ⌝ }
     ensures { λ r. ⌜ r ≡ changeOf (answer limit (now (cells .entry)) (tableOf (now (table .entry)) pairs) group member 0 Add .effect) ⌝ }
     ensures { λ _. ⌜ now (table .exit) ≡ wordsAfter (now (table .entry)) (answer limit (now (cells .entry)) (tableOf (now (table .entry)) pairs) group member 0 Add .effect) ⌝ }
+    ensures { λ r. ⌜ KeepsList limit (now (table .entry)) pairs (now (groups .entry)) (now (table .exit)) (countAfter pairs r) (now (groups .exit)) ⌝ }
 {
     let of = cells[group];
     let who = cells[member];
-    table_pairs::add_pair(table, pairs, limit, of, who)
+    table_pairs::add_pair(table, groups, pairs, limit, of, who)
 }
 
 pub fn remove(
     table: &mut [i32],
+    groups: &mut [i32],
     cells: &[i32; 8224],
     pairs: usize,
     group: usize,
     member: usize,
 ) -> Change
     requires { ⌜ (group < 8192) × (member < 8192) ⌝ }
+    requires { ⌜ ((limit : ℕ) × HasList limit (now table) pairs (now groups)) ⌝ }
     ensures { λ r. ⌜ r ≡ changeOf (answer 0 (now (cells .entry)) (tableOf (now (table .entry)) pairs) group member 0 Remove .effect) ⌝ }
     ensures { λ _. ⌜ now (table .exit) ≡ wordsAfter (now (table .entry)) (answer 0 (now (cells .entry)) (tableOf (now (table .entry)) pairs) group member 0 Remove .effect) ⌝ }
+    ensures { λ r. ⌜ ((limit : ℕ) → KeepsList limit (now (table .entry)) pairs (now (groups .entry)) (now (table .exit)) (countAfter pairs r) (now (groups .exit))) ⌝ }
 {
     let of = cells[group];
     let who = cells[member];
-    table_pairs::remove_pair(table, pairs, of, who)
+    table_pairs::remove_pair(table, groups, pairs, of, who)
 }
 
 pub fn query(

@@ -17,6 +17,7 @@ use search_step::step;
 ghost use mathlib.Core.Path.{_≡_};
 ghost use Prim.Native.Nat.{_<_};
 ghost use lib.ListN.{set};
+ghost use Rattle.table_laws.specs.Listing.{HasList, KeepsList};
 ghost use Rattle.frames.specs.Frame.{designates, frameRun, frameStart};
 ghost use Rattle.run_state.specs.Limits.{limitsBy};
 ghost use Rattle.search_moves.specs.Running.{Running};
@@ -70,15 +71,18 @@ pub fn run(
     nexts: &mut [u16; 256],
     froms: &mut [u16; 256],
     table: &mut [i32],
+    groups: &mut [i32],
     limit: u32,
     activations: usize,
     allowance: u32,
     start: Registers,
 ) -> Halt
     requires { ⌜ Running (now code) (now numbers) activations limit (now cells) (now passers) (now blocks) (now nexts) (now froms) (now table) start ⌝ }
+    requires { ⌜ HasList limit (now table) (start .pairs) (now groups) ⌝ }
     ensures { λ r.
         ⌜ ((w : Running (now (code .entry)) (now (numbers .entry)) activations limit (now (cells .entry)) (now (passers .entry)) (now (blocks .entry)) (now (nexts .entry)) (now (froms .entry)) (now (table .entry)) start)
         → RunFrom w allowance r (now (cells .exit)) (now (blocks .exit)) (now (nexts .exit)) (now (froms .exit)) (now (table .exit))) ⌝ }
+    ensures { λ r. ⌜ KeepsList limit (now (table .entry)) (start .pairs) (now (groups .entry)) (now (table .exit)) (r .pairs) (now (groups .exit)) ⌝ }
 {
     let mut here = start;
     let mut left = allowance;
@@ -92,6 +96,7 @@ pub fn run(
             nexts,
             froms,
             table,
+            groups,
             limit,
             activations,
             here,
@@ -143,17 +148,20 @@ pub fn run_program(
     nexts: &mut [u16; 256],
     froms: &mut [u16; 256],
     table: &mut [i32],
+    groups: &mut [i32],
     pairs: usize,
     limit: u32,
     activations: usize,
     allowance: u32,
 ) -> Halt
     requires { ⌜ Beginning (now code) (now numbers) (now cells) (now passers) (now blocks) (now nexts) (now froms) (now table) pairs limit activations ⌝ }
+    requires { ⌜ HasList limit (now table) pairs (now groups) ⌝ }
     ensures { λ r.
         ⌜ ((b : Beginning (now (code .entry)) (now (numbers .entry)) (now (cells .entry)) (now (passers .entry)) (now (blocks .entry)) (now (nexts .entry)) (now (froms .entry)) (now (table .entry)) pairs limit activations)
         → Ended (b .begun .program) (b .begun .name) activations limit
         (frameRun (limitsBy activations limit) allowance (frameStart (b .begun .program) (record { words = now (table .entry); used = pairs })))
         r (now (cells .exit)) (now (blocks .exit)) (now (nexts .exit)) (now (froms .exit)) (now (table .exit))) ⌝ }
+    ensures { λ r. ⌜ KeepsList limit (now (table .entry)) pairs (now (groups .entry)) (now (table .exit)) (r .pairs) (now (groups .exit)) ⌝ }
 {
     let start = begin(code, pairs);
     run(
@@ -165,6 +173,7 @@ pub fn run_program(
         nexts,
         froms,
         table,
+        groups,
         limit,
         activations,
         allowance,

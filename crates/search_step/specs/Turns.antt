@@ -1,6 +1,6 @@
 -- A step of the search engine, by what the statement comes to (`Acts`). For each move: the engine goes on (`went-on`, `answered-on`), or is ready to jump or
 -- to enter (`jump-ready`, `enter-ready`), and stands after the step once it has (`jumped-on`, `entered-on`); a statement that stops leaves all as it was
--- (`stopped-at`). At the end of a text: `leave-ready`, `left-on`.
+-- (`stopped-at`). At the end of a text: `leave-ready`, `left-on`. The list stays beside the table (`left-keeps`, `jumped-keeps`, `entered-keeps`).
 use Prim.Native.Nat.{ℕ, suc, pred, _+_, _-_, _≤_, _<_}
 use native.Mathlib.Omega.{arith}
 use mathlib.Core.List.{List}
@@ -21,6 +21,8 @@ use Rattle.steps.specs.Standing.{Standing}
 use Rattle.steps.specs.Means.{GoesOn, EntersAt, AnswerMeans, MoveMeans}
 use Rattle.steps.specs.Finding.{byFirst, firstByLinks, finds-by-links}
 use Rattle.steps.specs.Acts.{acting-means}
+use Rattle.steps.specs.Listed.{left-lists, jumped-lists, entered-lists}
+use Rattle.table_laws.specs.Listing.{KeepsList}
 use Rattle.run_state.specs.declared.Registers.{Registers}
 use Rattle.run_state.specs.declared.Turn.{Turn}
 use Rattle.run_state.specs.Limits.{limitsBy, goesTo}
@@ -99,6 +101,10 @@ module _ {code numbers : List ℕ} {activations limit : ℕ} {cells : List ℤ} 
   pub left-on : here .at ≡ here .end → 1 ≤ here .live → {r : Registers} → r ≡ nowAt code blocks here (here .live - 1) (getD nexts (here .live - 1) 0)
       → Succeeds w cells passers blocks nexts froms table r
   left-on e h q = subst (Succeeds w cells passers blocks nexts froms table) (sym q) (going.left-to w e h)
+
+  pub left-keeps : here .at ≡ here .end → 1 ≤ here .live → {r : Registers} → r ≡ nowAt code blocks here (here .live - 1) (getD nexts (here .live - 1) 0)
+      → (groups : List ℤ) → KeepsList limit table (here .pairs) groups table (r .pairs) groups
+  left-keeps e h q groups = let s = left-on e h q in left-lists st (s .running .standing) (s .follows) groups e
 
   pub leave-ready : 1 ≤ here .live → (1 ≤ here .live) × (here .live ≤ 256) × (getD blocks (here .live - 1) 0 + 1 < 4096)
   leave-ready = ready.leave-ready st
@@ -184,6 +190,9 @@ module _ {code numbers : List ℕ} {activations limit : ℕ} {cells : List ℤ} 
           let m = means-as (Leap home p) leaps in
           subst (λ (T : Type 0). T) (λ i. Succeeds w (sym (m .1) i) (sym (passers-as (Leap home p) leaps) i) blocks nexts froms table (sym q i)) (going.jumped-to w (m .0))
 
+      pub jumped-keeps : {n : Registers} → n ≡ nowAt code blocks here home p → (groups : List ℤ) → KeepsList limit table (here .pairs) groups table (n .pairs) groups
+      jumped-keeps q groups = let s = jumped-on q in jumped-lists st (s .running .standing) (s .follows) groups (means-as (Leap home p) leaps .0)
+
     -- An entry
 
     module _ {body k back : ℕ} (e : r ≡ Enter body k back) where
@@ -206,6 +215,10 @@ module _ {code numbers : List ℕ} {activations limit : ℕ} {cells : List ℤ} 
       entered-on i =
           let q = passers-as (Opens body (found .0) back) (found .1) in
           entered-to w opens (found .2 ∙ steering .from) i (subst (Passers (framesAfter w opens)) (sym q) (steering .passed)) (ap length q ∙ steering .as-long)
+
+      pub entered-keeps : {cells″ : List ℤ} {blocks′ nexts′ froms′ : List ℕ} {n : Registers} → EnteredIn code here body k back cells′ blocks nexts froms cells″ blocks′ nexts′ froms′ n
+          → (groups : List ℤ) → KeepsList limit table (here .pairs) groups table (n .pairs) groups
+      entered-keeps i groups = let s = entered-on i in entered-lists st (s .running .standing) (s .follows) groups opens
 
     pub stopped-at : {c : Cause} → r ≡ Stop c → Stops (limitsBy activations limit) (st .stack) c (arraysOf cells passers blocks nexts froms table) (arraysOf cells′ passers′ blocks nexts froms table)
     unfolding passersAfter

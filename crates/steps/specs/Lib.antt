@@ -19,3 +19,4 @@ pub mod Reads
 pub mod Finding
 pub mod Fields
 pub mod Underway
+pub mod Listed

@@ -50,7 +50,7 @@ module _ {code : List ℕ} {l : Limits} {cells : List ℤ} {blocks nexts links :
   pub spent : frameRun l 0 (w .stack) ≡ results Spent 0 (w .stack)
   spent = run-spent l (w .stack) some-live
 
-  leaving : at ≡ end → frameStep l (w .stack) ≡ acted (withFrames (w .stack) (w .below))
+  pub leaving : at ≡ end → frameStep l (w .stack) ≡ acted (withFrames (w .stack) (w .below))
   leaving e = step-leaves l (w .stack) (w .below) (w .frame) (w .frames-are) (ended w e)
 
   pub stops : (n : ℕ) (c : Stop) → frameStep l (w .stack) ≡ halted c → frameRun l (suc n) (w .stack) ≡ results (Stopped c) (2 * at) (w .stack)

@@ -37,7 +37,7 @@ use Rattle.walks.specs.Loans.{Loan, loanSlice, loanRef, shrRef, shrSlice, mutRe
 use Rattle.walks.specs.Params.{Par, dat, brw, denots, valss, vals, lfts, shares, ins, outs}
 use Rattle.walks.specs.Functions.{arrives, leaves-with, by-walk}
 use Rattle.walks.specs.Calls.{to, calls-by}
-use Rattle.walks.specs.Clauses.{asks-all}
+use Rattle.walks.specs.Clauses.{asks-all, said-together}
 use Rattle.walks.specs.Frames.{begins}
 use Rattle.walks.specs.Locals.{var, part, lent, lent-ptr, lent-slice, puts, lands-in, ends}
 use Rattle.walks.specs.Lends.{relent, lends-ref, back-ref, lends-slice, back-slice, shares-ref, unshares-ref, shares-slice, unshares-slice}
@@ -81,8 +81,8 @@ for-resolved h0 x0 x1 h2 x2 = brw (shrSlice u8) h0 x0 ∷ dat numberss x1 ∷ br
 abbrev for-activations-of : numberss .type .Denot → List Par
 for-activations-of x0 = dat numberss x0 ∷ []
 
-abbrev for-run-program : Loan → List ℕ → Loan → List ℤ → Loan → List (recs .type .Denot) → Loan → List ℤ → ℕ → ℕ → ℕ → ℕ → List Par
-for-run-program h0 x0 h1 x1 h2 x2 h3 x3 x4 x5 x6 x7 = brw (shrRef (Array u32 tt 4096)) h0 x0 ∷ brw (mutRef (Array i32 tt 8224)) h1 x1 ∷ brw (mutSlice (recs .type)) h2 x2 ∷ brw (mutSlice i32) h3 x3 ∷ dat usizes x4 ∷ dat words32 x5 ∷ dat usizes x6 ∷ dat words32 x7 ∷ []
+abbrev for-run-program : Loan → List ℕ → Loan → List ℤ → Loan → List (recs .type .Denot) → Loan → List ℤ → Loan → List ℤ → ℕ → ℕ → ℕ → ℕ → List Par
+for-run-program h0 x0 h1 x1 h2 x2 h3 x3 h4 x4 x5 x6 x7 x8 = brw (shrRef (Array u32 tt 4096)) h0 x0 ∷ brw (mutRef (Array i32 tt 8224)) h1 x1 ∷ brw (mutSlice (recs .type)) h2 x2 ∷ brw (mutSlice i32) h3 x3 ∷ brw (mutSlice i32) h4 x4 ∷ dat usizes x5 ∷ dat words32 x6 ∷ dat usizes x7 ∷ dat words32 x8 ∷ []
 
 abbrev for-write-sheet : Loan → List ℕ → Loan → List ℤ → Loan → List (recs .type .Denot) → ℕ → Loan → List ℤ → List Par
 for-write-sheet h0 x0 h1 x1 h2 x2 x3 h4 x4 = brw (shrRef (Array u32 tt 4096)) h0 x0 ∷ brw (shrRef (Array i32 tt 8224)) h1 x1 ∷ brw (shrSlice (recs .type)) h2 x2 ∷ dat usizes x3 ∷ brw (mutSlice i32) h4 x4 ∷ []
@@ -91,14 +91,14 @@ abbrev for-answered : halts .type .Denot → ℕ → numberss .type .Denot → L
 for-answered x0 x1 x2 = dat halts x0 ∷ dat usizes x1 ∷ dat numberss x2 ∷ []
 
 abbrev stayed : Stays (f.ended .signature .params) (f.ended .kept)
-stayed = (gave-ref (0 ∷ []) tt (arrayOf (plain (λ _. u32)) 4096), (gave-ref (1 ∷ []) tt (arrayOf (plain (λ _. i32)) 8224), (stay-none-slice (2 ∷ []) tt (plain (λ _. u8)) yes, (stay-none (λ _. numberss .type) yes, (gave-slice (3 ∷ []) tt (plain (λ _. i32)), (gave-slice (4 ∷ []) tt (plain (λ _. i32)), (gave-slice (5 ∷ []) tt (plain (λ _. recs .type)), tt)))))))
+stayed = (gave-ref (0 ∷ []) tt (arrayOf (plain (λ _. u32)) 4096), (gave-ref (1 ∷ []) tt (arrayOf (plain (λ _. i32)) 8224), (stay-none-slice (2 ∷ []) tt (plain (λ _. u8)) yes, (stay-none (λ _. numberss .type) yes, (gave-slice (3 ∷ []) tt (plain (λ _. i32)), (gave-slice (4 ∷ []) tt (plain (λ _. i32)), (gave-slice (5 ∷ []) tt (plain (λ _. i32)), (gave-slice (6 ∷ []) tt (plain (λ _. recs .type)), tt))))))))
 
-module _ {M : Type 1} (𝓤 : URA M) (H : Heap 𝓤) (A : Atoms 𝓤) (W : Given 𝓤 H A) (mem : Memory → SProp 𝓤) (run : Routine → Fun 𝓤) (κ0 κ1 κ2 κ3 κ4 κ5 : Lft) (q0 q1 q2 q3 q4 q5 : Share)
-    (code# : RefT (List ℕ)) (cells# : RefT (List ℤ)) (script# : RefT (List ℕ)) (numbers : numberss .type .Denot) (table# : RefT (List ℤ)) (sheet# : RefT (List ℤ)) (records# : RefT (List (recs .type .Denot)))
-    (room-script : Room u8 (length (script# .now))) (room-table : Room i32 (length (table# .now))) (room-sheet : Room i32 (length (sheet# .now))) (room-records : Room (recs .type) (length (records# .now))) (g-numbers : Good numberss numbers)
-    (pre : said.Pre (code# .now) (cells# .now) (script# .now) numbers (table# .now) (sheet# .now) (records# .now)) where
+module _ {M : Type 1} (𝓤 : URA M) (H : Heap 𝓤) (A : Atoms 𝓤) (W : Given 𝓤 H A) (mem : Memory → SProp 𝓤) (run : Routine → Fun 𝓤) (κ0 κ1 κ2 κ3 κ4 κ5 κ6 : Lft) (q0 q1 q2 q3 q4 q5 q6 : Share)
+    (code# : RefT (List ℕ)) (cells# : RefT (List ℤ)) (script# : RefT (List ℕ)) (numbers : numberss .type .Denot) (table# : RefT (List ℤ)) (groups# : RefT (List ℤ)) (sheet# : RefT (List ℤ)) (records# : RefT (List (recs .type .Denot)))
+    (room-script : Room u8 (length (script# .now))) (room-table : Room i32 (length (table# .now))) (room-groups : Room i32 (length (groups# .now))) (room-sheet : Room i32 (length (sheet# .now))) (room-records : Room (recs .type) (length (records# .now))) (g-numbers : Good numberss numbers)
+    (pre : said.Pre (code# .now) (cells# .now) (script# .now) numbers (table# .now) (groups# .now) (sheet# .now) (records# .now)) where
   abbrev ps : List Par
-  ps = brw (mutRef (Array u32 tt 4096)) (loanRef κ0 q0 code#) (code# .now) ∷ brw (mutRef (Array i32 tt 8224)) (loanRef κ1 q1 cells#) (cells# .now) ∷ brw (shrSlice u8) (loanSlice κ2 q2 script#) (script# .now) ∷ dat numberss numbers ∷ brw (mutSlice i32) (loanSlice κ3 q3 table#) (table# .now) ∷ brw (mutSlice i32) (loanSlice κ4 q4 sheet#) (sheet# .now) ∷ brw (mutSlice (recs .type)) (loanSlice κ5 q5 records#) (records# .now) ∷ []
+  ps = brw (mutRef (Array u32 tt 4096)) (loanRef κ0 q0 code#) (code# .now) ∷ brw (mutRef (Array i32 tt 8224)) (loanRef κ1 q1 cells#) (cells# .now) ∷ brw (shrSlice u8) (loanSlice κ2 q2 script#) (script# .now) ∷ dat numberss numbers ∷ brw (mutSlice i32) (loanSlice κ3 q3 table#) (table# .now) ∷ brw (mutSlice i32) (loanSlice κ4 q4 groups#) (groups# .now) ∷ brw (mutSlice i32) (loanSlice κ5 q5 sheet#) (sheet# .now) ∷ brw (mutSlice (recs .type)) (loanSlice κ6 q6 records#) (records# .now) ∷ []
 
   abbrev bound : walkOf 𝓤 H A f.ended stayed (f.clauses 𝓤 H A mem run) .Ghost
   bound = ((lfts ps, shares ps, tt, denots 0 ps, valss 0 ps), tt)
@@ -106,9 +106,9 @@ module _ {M : Type 1} (𝓤 : URA M) (H : Heap 𝓤) (A : Atoms 𝓤) (W : Given
   abbrev Post : Val → SProp 𝓤
   Post = walkOf 𝓤 H A f.ended stayed (f.clauses 𝓤 H A mem run) .post bound
 
-  exits : (r : answers .type .Denot) (code′ : List ℕ) (cells′ : List ℤ) (table′ : List ℤ) (sheet′ : List ℤ) (records′ : List (recs .type .Denot)) → length table′ ≡ length (table# .now) → length sheet′ ≡ length (sheet# .now) → length records′ ≡ length (records# .now) → Good answers r → said.Said (script# .now) numbers (table# .now) (sheet# .now) (records# .now) r table′ sheet′ → ent 𝓤 (⋆ 𝓤 H A (outs 𝓤 0 ps (code′, (cells′, (tt, (tt, (table′, (sheet′, (records′, tt))))))))) (Post (answers .val r))
-  exits r code′ cells′ table′ sheet′ records′ same-table same-sheet same-records good says = via 𝓤 _ (leaves-with 𝓤 H A W ps (code′, (cells′, (tt, (tt, (table′, (sheet′, (records′, tt))))))) (g-numbers, tt) answers r good (said.Said (script# .now) numbers (table# .now) (sheet# .now) (records# .now) r table′ sheet′) says)
-      (ends-at 𝓤 H A f.ended stayed (f.clauses 𝓤 H A mem run) W bound (answers .val r) r (code′, (cells′, (tt, (tt, (table′, (sheet′, (records′, tt))))))) (tt, (tt, (tt, (tt, (same-table, (same-sheet, (same-records, tt))))))))
+  exits : (r : answers .type .Denot) (code′ : List ℕ) (cells′ : List ℤ) (table′ : List ℤ) (groups′ : List ℤ) (sheet′ : List ℤ) (records′ : List (recs .type .Denot)) → length table′ ≡ length (table# .now) → length groups′ ≡ length (groups# .now) → length sheet′ ≡ length (sheet# .now) → length records′ ≡ length (records# .now) → Good answers r → said.Said (script# .now) numbers (table# .now) (groups# .now) (sheet# .now) (records# .now) r table′ groups′ sheet′ → ent 𝓤 (⋆ 𝓤 H A (outs 𝓤 0 ps (code′, (cells′, (tt, (tt, (table′, (groups′, (sheet′, (records′, tt)))))))))) (Post (answers .val r))
+  exits r code′ cells′ table′ groups′ sheet′ records′ same-table same-groups same-sheet same-records good says = via 𝓤 _ (leaves-with 𝓤 H A W ps (code′, (cells′, (tt, (tt, (table′, (groups′, (sheet′, (records′, tt)))))))) (g-numbers, tt) answers r good (said.Said (script# .now) numbers (table# .now) (groups# .now) (sheet# .now) (records# .now) r table′ groups′ sheet′) says)
+      (ends-at 𝓤 H A f.ended stayed (f.clauses 𝓤 H A mem run) W bound (answers .val r) r (code′, (cells′, (tt, (tt, (table′, (groups′, (sheet′, (records′, tt)))))))) (tt, (tt, (tt, (tt, (same-table, (same-groups, (same-sheet, (same-records, tt)))))))))
 
   module _ (𝓣 : Tables 𝓤 H)
       (known-resolved : Triple 𝓤 (𝓣 .C #resolved) (tripleOf 𝓤 H A resolved.signature (resolved.spec 𝓤 H A mem run)))
@@ -118,50 +118,52 @@ module _ {M : Type 1} (𝓤 : URA M) (H : Heap 𝓤) (A : Atoms 𝓤) (W : Given
       (known-answered : Triple 𝓤 (𝓣 .C #answered) (tripleOf 𝓤 H A answered.signature (answered.spec 𝓤 H A mem run))) where
     walk : ent 𝓤 (onEntry 𝓤 H A f.signature (lfts ps) (shares ps) (denots 0 ps) (valss 0 ps)) (WpFn 𝓤 H (𝓣 .C) (𝓣 .Λ) mine.function (vals ps) Post)
     walk = via 𝓤 (⋆ 𝓤 H A (ins 𝓤 ps)) (arrives 𝓤 H A W 0 ps) (qed W (ins 𝓤 ps) ∵
-        begins ! (𝓣 .C) (𝓣 .Λ) mine.function (vals ps) Post ((tt, tt), ((tt, tt), ((tt, (tt, (record { fits = room-script .0 }, tt))), (typed 𝓤 H A W numberss numbers g-numbers, ((tt, (tt, (record { fits = room-table .0 }, tt))), ((tt, (tt, (record { fits = room-sheet .0 }, tt))), ((tt, (tt, (record { fits = room-records .0 }, tt))), tt))))))) (λ β. move ! (1 ∷ 2 ∷ 3 ∷ 4 ∷ 5 ∷ 6 ∷ []) $
-        puts ! 6 11 refl (lent ! 6 1 refl refl tt) tt (tt, tt) $
+        begins ! (𝓣 .C) (𝓣 .Λ) mine.function (vals ps) Post ((tt, tt), ((tt, tt), ((tt, (tt, (record { fits = room-script .0 }, tt))), (typed 𝓤 H A W numberss numbers g-numbers, ((tt, (tt, (record { fits = room-table .0 }, tt))), ((tt, (tt, (record { fits = room-groups .0 }, tt))), ((tt, (tt, (record { fits = room-sheet .0 }, tt))), ((tt, (tt, (record { fits = room-records .0 }, tt))), tt)))))))) (λ β. move ! (1 ∷ 2 ∷ 3 ∷ 4 ∷ 5 ∷ 6 ∷ 7 ∷ []) $
+        puts ! 7 12 refl (lent ! 7 1 refl refl tt) tt (tt, tt) $
         lends-ref ! tt (Array u32 tt 4096) (loanRef κ0 q0 code#) (code# .now) (λ p1-code ν1-code δ1-code.
-        move ! (3 ∷ 0 ∷ []) $ calls-by ! (fmOf 𝓤 H (W .laws) 𝓣) (tripleOf 𝓤 H A resolved.signature (resolved.spec 𝓤 H A mem run)) known-resolved (to (for-resolved (loanSlice κ2 q2 script#) (script# .now) numbers (relent (loanRef κ0 q0 code#) ν1-code δ1-code) (code# .now))) (for-resolved (loanSlice κ2 q2 script#) (script# .now) numbers (relent (loanRef κ0 q0 code#) ν1-code δ1-code) (code# .now)) refl (g-numbers, tt) _ (facts.asks-resolved (code# .now) (cells# .now) (script# .now) numbers (table# .now) (sheet# .now) (records# .now) pre) (id⊢ 𝓤 _) units _ (λ v. id⊢ 𝓤 _)
-        (and-then ! (var ! 7 3 refl refl tt) (and-then ! (var ! 7 4 refl refl tt) (and-then ! (var ! 7 11 refl refl tt) (no-more !)))) (λ _ ws1 _ e1 _.
-        lands-in ! 7 10 refl tt (tt, tt) $
+        move ! (3 ∷ 0 ∷ []) $ calls-by ! (fmOf 𝓤 H (W .laws) 𝓣) (tripleOf 𝓤 H A resolved.signature (resolved.spec 𝓤 H A mem run)) known-resolved (to (for-resolved (loanSlice κ2 q2 script#) (script# .now) numbers (relent (loanRef κ0 q0 code#) ν1-code δ1-code) (code# .now))) (for-resolved (loanSlice κ2 q2 script#) (script# .now) numbers (relent (loanRef κ0 q0 code#) ν1-code δ1-code) (code# .now)) refl (g-numbers, tt) _ (facts.asks-resolved (code# .now) (cells# .now) (script# .now) numbers (table# .now) (groups# .now) (sheet# .now) (records# .now) pre) (id⊢ 𝓤 _) units _ (λ v. id⊢ 𝓤 _)
+        (and-then ! (var ! 8 3 refl refl tt) (and-then ! (var ! 8 4 refl refl tt) (and-then ! (var ! 8 12 refl refl tt) (no-more !)))) (λ _ ws1 _ e1 _.
+        lands-in ! 8 11 refl tt (tt, tt) $
         move ! (1 ∷ 2 ∷ []) $ back-ref ! tt (Array u32 tt 4096) (loanRef κ0 q0 code#) (code# .now) (ws1 .1 .1 .0) ν1-code δ1-code p1-code $
-        puts ! 6 12 refl (lent ! 6 1 refl refl tt) tt (tt, tt) $
-        puts ! 6 13 refl (lent ! 6 2 refl refl tt) tt (tt, tt) $
-        puts ! 6 14 refl (lent-ptr ! 6 7 refl refl tt refl refl) tt (tt, tt) $
-        puts ! 6 15 refl (lent-slice ! 6 7 14 refl refl refl tt tt refl refl) tt (tt, (tt, (record { fits = room-records .0 }, tt))) $
-        puts ! 6 16 refl (lent-ptr ! 6 5 refl refl tt refl refl) tt (tt, tt) $
-        puts ! 6 17 refl (lent-slice ! 6 5 16 refl refl refl tt tt refl refl) tt (tt, (tt, (record { fits = room-table .0 }, tt))) $
+        puts ! 7 13 refl (lent ! 7 1 refl refl tt) tt (tt, tt) $
+        puts ! 7 14 refl (lent ! 7 2 refl refl tt) tt (tt, tt) $
+        puts ! 7 15 refl (lent-ptr ! 7 8 refl refl tt refl refl) tt (tt, tt) $
+        puts ! 7 16 refl (lent-slice ! 7 8 15 refl refl refl tt tt refl refl) tt (tt, (tt, (record { fits = room-records .0 }, tt))) $
+        puts ! 7 17 refl (lent-ptr ! 7 5 refl refl tt refl refl) tt (tt, tt) $
+        puts ! 7 18 refl (lent-slice ! 7 5 17 refl refl refl tt tt refl refl) tt (tt, (tt, (record { fits = room-table .0 }, tt))) $
+        puts ! 7 19 refl (lent-ptr ! 7 6 refl refl tt refl refl) tt (tt, tt) $
+        puts ! 7 20 refl (lent-slice ! 7 6 19 refl refl refl tt tt refl refl) tt (tt, (tt, (record { fits = room-groups .0 }, tt))) $
         calls-by ! (fmOf 𝓤 H (W .laws) 𝓣) (tripleOf 𝓤 H A activations-of.signature (activations-of.spec 𝓤 H A mem run)) known-activations-of (to (for-activations-of numbers)) (for-activations-of numbers) refl (g-numbers, tt) (Unit {0}) tt (asks-all 𝓤 H A (for-activations-of numbers) []) usizes _ (λ v. id⊢ 𝓤 _)
-        (and-then ! (var ! 6 4 refl refl tt) (no-more !)) (λ activations-of2 _ g-activations-of2 e2 _.
-        lands-in ! 6 18 refl tt (typed 𝓤 H A W usizes activations-of2 g-activations-of2) $
+        (and-then ! (var ! 7 4 refl refl tt) (no-more !)) (λ activations-of2 _ g-activations-of2 e2 _.
+        lands-in ! 7 21 refl tt (typed 𝓤 H A W usizes activations-of2 g-activations-of2) $
         shares-ref ! tt (Array u32 tt 4096) (loanRef κ0 q0 code#) (ws1 .1 .1 .0) (λ p3-code ν3-code δ3-code.
         move ! (3 ∷ []) $ lends-ref ! tt (Array i32 tt 8224) (loanRef κ1 q1 cells#) (cells# .now) (λ p3-cells ν3-cells δ3-cells.
-        move ! (7 ∷ []) $ lends-slice ! tt (recs .type) (loanSlice κ5 q5 records#) (records# .now) (λ ν3-records δ3-records.
-        move ! (4 ∷ 2 ∷ 0 ∷ 7 ∷ []) $ calls-by ! (fmOf 𝓤 H (W .laws) 𝓣) (tripleOf 𝓤 H A run-program.signature (run-program.spec 𝓤 H A mem run)) known-run-program (to (for-run-program (relent (loanRef κ0 q0 code#) ν3-code δ3-code) (ws1 .1 .1 .0) (relent (loanRef κ1 q1 cells#) ν3-cells δ3-cells) (cells# .now) (relent (loanSlice κ5 q5 records#) ν3-records δ3-records) (records# .now) (loanSlice κ3 q3 table#) (table# .now) (numbers .count) (numbers .g) activations-of2 (numbers .n))) (for-run-program (relent (loanRef κ0 q0 code#) ν3-code δ3-code) (ws1 .1 .1 .0) (relent (loanRef κ1 q1 cells#) ν3-cells δ3-cells) (cells# .now) (relent (loanSlice κ5 q5 records#) ν3-records δ3-records) (records# .now) (loanSlice κ3 q3 table#) (table# .now) (numbers .count) (numbers .g) activations-of2 (numbers .n)) refl ((owed CallNumbers#.the-type CallNumbers′.the-laws numbers _ g-numbers .1 .1 .1 .1 .0), ((owed CallNumbers#.the-type CallNumbers′.the-laws numbers _ g-numbers .1 .1 .0), (g-activations-of2, ((owed CallNumbers#.the-type CallNumbers′.the-laws numbers _ g-numbers .1 .0), tt)))) _ (facts.asks-run-program (code# .now) (cells# .now) (script# .now) numbers (table# .now) (sheet# .now) (records# .now) pre (ws1 .1 .1 .0) e1 activations-of2 e2) (id⊢ 𝓤 _) halts _ (λ v. id⊢ 𝓤 _)
-        (and-then ! (var ! 9 12 refl refl tt) (and-then ! (var ! 9 13 refl refl tt) (and-then ! (var ! 9 15 refl refl tt) (and-then ! (var ! 9 17 refl refl tt) (and-then ! (part ! 9 4 4 refl refl tt refl refl refl) (and-then ! (part ! 9 4 2 refl refl tt refl refl refl) (and-then ! (var ! 9 18 refl refl tt) (and-then ! (part ! 9 4 1 refl refl tt refl refl refl) (no-more !))))))))) (λ halt3 ws3 g-halt3 e3 same3.
-        lands-in ! 9 8 refl tt (typed 𝓤 H A W halts halt3 g-halt3) $
-        move ! (0 ∷ 6 ∷ []) $ unshares-ref ! tt (Array u32 tt 4096) (loanRef κ0 q0 code#) (ws1 .1 .1 .0) ν3-code δ3-code p3-code $
-        move ! (1 ∷ 5 ∷ []) $ back-ref ! tt (Array i32 tt 8224) (loanRef κ1 q1 cells#) (cells# .now) (ws3 .1 .0) ν3-cells δ3-cells p3-cells $
-        move ! (2 ∷ 4 ∷ []) $ back-slice ! tt (recs .type) (loanSlice κ5 q5 records#) (records# .now) (ws3 .1 .1 .0) ν3-records δ3-records (same3 .1 .1 .0) $
-        puts ! 6 19 refl (lent ! 6 1 refl refl tt) tt (tt, tt) $
-        puts ! 6 20 refl (lent ! 6 2 refl refl tt) tt (tt, tt) $
-        puts ! 6 21 refl (lent-ptr ! 6 7 refl refl tt refl refl) tt (tt, tt) $
-        puts ! 6 22 refl (lent-slice ! 6 7 21 refl refl refl tt tt refl refl) tt (tt, (tt, (record { fits = room-records .0 }, tt))) $
-        puts ! 6 23 refl (lent-ptr ! 6 6 refl refl tt refl refl) tt (tt, tt) $
-        puts ! 6 24 refl (lent-slice ! 6 6 23 refl refl refl tt tt refl refl) tt (tt, (tt, (record { fits = room-sheet .0 }, tt))) $
+        move ! (8 ∷ []) $ lends-slice ! tt (recs .type) (loanSlice κ6 q6 records#) (records# .now) (λ ν3-records δ3-records.
+        move ! (4 ∷ 2 ∷ 0 ∷ 7 ∷ 8 ∷ []) $ calls-by ! (fmOf 𝓤 H (W .laws) 𝓣) (tripleOf 𝓤 H A run-program.signature (run-program.spec 𝓤 H A mem run)) known-run-program (to (for-run-program (relent (loanRef κ0 q0 code#) ν3-code δ3-code) (ws1 .1 .1 .0) (relent (loanRef κ1 q1 cells#) ν3-cells δ3-cells) (cells# .now) (relent (loanSlice κ6 q6 records#) ν3-records δ3-records) (records# .now) (loanSlice κ3 q3 table#) (table# .now) (loanSlice κ4 q4 groups#) (groups# .now) (numbers .count) (numbers .g) activations-of2 (numbers .n))) (for-run-program (relent (loanRef κ0 q0 code#) ν3-code δ3-code) (ws1 .1 .1 .0) (relent (loanRef κ1 q1 cells#) ν3-cells δ3-cells) (cells# .now) (relent (loanSlice κ6 q6 records#) ν3-records δ3-records) (records# .now) (loanSlice κ3 q3 table#) (table# .now) (loanSlice κ4 q4 groups#) (groups# .now) (numbers .count) (numbers .g) activations-of2 (numbers .n)) refl ((owed CallNumbers#.the-type CallNumbers′.the-laws numbers _ g-numbers .1 .1 .1 .1 .0), ((owed CallNumbers#.the-type CallNumbers′.the-laws numbers _ g-numbers .1 .1 .0), (g-activations-of2, ((owed CallNumbers#.the-type CallNumbers′.the-laws numbers _ g-numbers .1 .0), tt)))) _ (facts.asks-run-program (code# .now) (cells# .now) (script# .now) numbers (table# .now) (groups# .now) (sheet# .now) (records# .now) pre (ws1 .1 .1 .0) e1 activations-of2 e2) (asks-all 𝓤 H A (for-run-program (relent (loanRef κ0 q0 code#) ν3-code δ3-code) (ws1 .1 .1 .0) (relent (loanRef κ1 q1 cells#) ν3-cells δ3-cells) (cells# .now) (relent (loanSlice κ6 q6 records#) ν3-records δ3-records) (records# .now) (loanSlice κ3 q3 table#) (table# .now) (loanSlice κ4 q4 groups#) (groups# .now) (numbers .count) (numbers .g) activations-of2 (numbers .n)) (_ ∷ _ ∷ [])) halts _ (said-together 𝓤 H A W (for-run-program (relent (loanRef κ0 q0 code#) ν3-code δ3-code) (ws1 .1 .1 .0) (relent (loanRef κ1 q1 cells#) ν3-cells δ3-cells) (cells# .now) (relent (loanSlice κ6 q6 records#) ν3-records δ3-records) (records# .now) (loanSlice κ3 q3 table#) (table# .now) (loanSlice κ4 q4 groups#) (groups# .now) (numbers .count) (numbers .g) activations-of2 (numbers .n)) (halts .type) (_ ∷ _ ∷ []))
+        (and-then ! (var ! 10 13 refl refl tt) (and-then ! (var ! 10 14 refl refl tt) (and-then ! (var ! 10 16 refl refl tt) (and-then ! (var ! 10 18 refl refl tt) (and-then ! (var ! 10 20 refl refl tt) (and-then ! (part ! 10 4 4 refl refl tt refl refl refl) (and-then ! (part ! 10 4 2 refl refl tt refl refl refl) (and-then ! (var ! 10 21 refl refl tt) (and-then ! (part ! 10 4 1 refl refl tt refl refl refl) (no-more !)))))))))) (λ halt3 ws3 g-halt3 e3 same3.
+        lands-in ! 10 9 refl tt (typed 𝓤 H A W halts halt3 g-halt3) $
+        move ! (0 ∷ 7 ∷ []) $ unshares-ref ! tt (Array u32 tt 4096) (loanRef κ0 q0 code#) (ws1 .1 .1 .0) ν3-code δ3-code p3-code $
+        move ! (1 ∷ 6 ∷ []) $ back-ref ! tt (Array i32 tt 8224) (loanRef κ1 q1 cells#) (cells# .now) (ws3 .1 .0) ν3-cells δ3-cells p3-cells $
+        move ! (2 ∷ 5 ∷ []) $ back-slice ! tt (recs .type) (loanSlice κ6 q6 records#) (records# .now) (ws3 .1 .1 .0) ν3-records δ3-records (same3 .1 .1 .0) $
+        puts ! 7 22 refl (lent ! 7 1 refl refl tt) tt (tt, tt) $
+        puts ! 7 23 refl (lent ! 7 2 refl refl tt) tt (tt, tt) $
+        puts ! 7 24 refl (lent-ptr ! 7 8 refl refl tt refl refl) tt (tt, tt) $
+        puts ! 7 25 refl (lent-slice ! 7 8 24 refl refl refl tt tt refl refl) tt (tt, (tt, (record { fits = room-records .0 }, tt))) $
+        puts ! 7 26 refl (lent-ptr ! 7 7 refl refl tt refl refl) tt (tt, tt) $
+        puts ! 7 27 refl (lent-slice ! 7 7 26 refl refl refl tt tt refl refl) tt (tt, (tt, (record { fits = room-sheet .0 }, tt))) $
         move ! (2 ∷ []) $ shares-ref ! tt (Array u32 tt 4096) (loanRef κ0 q0 code#) (ws1 .1 .1 .0) (λ p4-code ν4-code δ4-code.
         move ! (3 ∷ []) $ shares-ref ! tt (Array i32 tt 8224) (loanRef κ1 q1 cells#) (ws3 .1 .0) (λ p4-cells ν4-cells δ4-cells.
-        move ! (4 ∷ []) $ shares-slice ! tt (recs .type) (loanSlice κ5 q5 records#) (ws3 .1 .1 .0) (λ ν4-records δ4-records.
-        move ! (4 ∷ 2 ∷ 0 ∷ 8 ∷ []) $ calls-by ! (fmOf 𝓤 H (W .laws) 𝓣) (tripleOf 𝓤 H A write-sheet.signature (write-sheet.spec 𝓤 H A mem run)) known-write-sheet (to (for-write-sheet (relent (loanRef κ0 q0 code#) ν4-code δ4-code) (ws1 .1 .1 .0) (relent (loanRef κ1 q1 cells#) ν4-cells δ4-cells) (ws3 .1 .0) (relent (loanSlice κ5 q5 records#) ν4-records δ4-records) (ws3 .1 .1 .0) (halt3 .live) (loanSlice κ4 q4 sheet#) (sheet# .now))) (for-write-sheet (relent (loanRef κ0 q0 code#) ν4-code δ4-code) (ws1 .1 .1 .0) (relent (loanRef κ1 q1 cells#) ν4-cells δ4-cells) (ws3 .1 .0) (relent (loanSlice κ5 q5 records#) ν4-records δ4-records) (ws3 .1 .1 .0) (halt3 .live) (loanSlice κ4 q4 sheet#) (sheet# .now)) refl ((owed Halt#.the-type Halt′.the-laws halt3 _ g-halt3 .1 .1 .1 .0), tt) _ (facts.asks-write-sheet (code# .now) (cells# .now) (script# .now) numbers (table# .now) (sheet# .now) (records# .now) pre (ws1 .1 .1 .0) e1 activations-of2 e2 halt3 (ws3 .1 .0) (ws3 .1 .1 .0) (ws3 .1 .1 .1 .0) e3 (same3 .1 .1 .0) (same3 .1 .1 .1 .0)) (asks-all 𝓤 H A (for-write-sheet (relent (loanRef κ0 q0 code#) ν4-code δ4-code) (ws1 .1 .1 .0) (relent (loanRef κ1 q1 cells#) ν4-cells δ4-cells) (ws3 .1 .0) (relent (loanSlice κ5 q5 records#) ν4-records δ4-records) (ws3 .1 .1 .0) (halt3 .live) (loanSlice κ4 q4 sheet#) (sheet# .now)) (_ ∷ _ ∷ _ ∷ [])) usizes _ (λ v. id⊢ 𝓤 _)
-        (and-then ! (var ! 9 19 refl refl tt) (and-then ! (var ! 9 20 refl refl tt) (and-then ! (var ! 9 22 refl refl tt) (and-then ! (part ! 9 8 3 refl refl tt refl refl refl) (and-then ! (var ! 9 24 refl refl tt) (no-more !)))))) (λ written4 ws4 g-written4 e4 same4.
-        lands-in ! 9 9 refl tt (typed 𝓤 H A W usizes written4 g-written4) $
+        move ! (4 ∷ []) $ shares-slice ! tt (recs .type) (loanSlice κ6 q6 records#) (ws3 .1 .1 .0) (λ ν4-records δ4-records.
+        move ! (4 ∷ 2 ∷ 0 ∷ 9 ∷ []) $ calls-by ! (fmOf 𝓤 H (W .laws) 𝓣) (tripleOf 𝓤 H A write-sheet.signature (write-sheet.spec 𝓤 H A mem run)) known-write-sheet (to (for-write-sheet (relent (loanRef κ0 q0 code#) ν4-code δ4-code) (ws1 .1 .1 .0) (relent (loanRef κ1 q1 cells#) ν4-cells δ4-cells) (ws3 .1 .0) (relent (loanSlice κ6 q6 records#) ν4-records δ4-records) (ws3 .1 .1 .0) (halt3 .live) (loanSlice κ5 q5 sheet#) (sheet# .now))) (for-write-sheet (relent (loanRef κ0 q0 code#) ν4-code δ4-code) (ws1 .1 .1 .0) (relent (loanRef κ1 q1 cells#) ν4-cells δ4-cells) (ws3 .1 .0) (relent (loanSlice κ6 q6 records#) ν4-records δ4-records) (ws3 .1 .1 .0) (halt3 .live) (loanSlice κ5 q5 sheet#) (sheet# .now)) refl ((owed Halt#.the-type Halt′.the-laws halt3 _ g-halt3 .1 .1 .1 .0), tt) _ (facts.asks-write-sheet (code# .now) (cells# .now) (script# .now) numbers (table# .now) (groups# .now) (sheet# .now) (records# .now) pre (ws1 .1 .1 .0) e1 activations-of2 e2 halt3 (ws3 .1 .0) (ws3 .1 .1 .0) (ws3 .1 .1 .1 .0) (ws3 .1 .1 .1 .1 .0) e3 (same3 .1 .1 .0) (same3 .1 .1 .1 .0) (same3 .1 .1 .1 .1 .0)) (asks-all 𝓤 H A (for-write-sheet (relent (loanRef κ0 q0 code#) ν4-code δ4-code) (ws1 .1 .1 .0) (relent (loanRef κ1 q1 cells#) ν4-cells δ4-cells) (ws3 .1 .0) (relent (loanSlice κ6 q6 records#) ν4-records δ4-records) (ws3 .1 .1 .0) (halt3 .live) (loanSlice κ5 q5 sheet#) (sheet# .now)) (_ ∷ _ ∷ _ ∷ [])) usizes _ (λ v. id⊢ 𝓤 _)
+        (and-then ! (var ! 10 22 refl refl tt) (and-then ! (var ! 10 23 refl refl tt) (and-then ! (var ! 10 25 refl refl tt) (and-then ! (part ! 10 9 3 refl refl tt refl refl refl) (and-then ! (var ! 10 27 refl refl tt) (no-more !)))))) (λ written4 ws4 g-written4 e4 same4.
+        lands-in ! 10 10 refl tt (typed 𝓤 H A W usizes written4 g-written4) $
         move ! (0 ∷ 6 ∷ []) $ unshares-ref ! tt (Array u32 tt 4096) (loanRef κ0 q0 code#) (ws1 .1 .1 .0) ν4-code δ4-code p4-code $
         move ! (1 ∷ 5 ∷ []) $ unshares-ref ! tt (Array i32 tt 8224) (loanRef κ1 q1 cells#) (ws3 .1 .0) ν4-cells δ4-cells p4-cells $
-        move ! (2 ∷ 4 ∷ []) $ unshares-slice ! tt (recs .type) (loanSlice κ5 q5 records#) (ws3 .1 .1 .0) ν4-records δ4-records $
-        calls-by ! (fmOf 𝓤 H (W .laws) 𝓣) (tripleOf 𝓤 H A answered.signature (answered.spec 𝓤 H A mem run)) known-answered (to (for-answered halt3 written4 numbers)) (for-answered halt3 written4 numbers) refl (g-halt3, (g-written4, (g-numbers, tt))) _ (facts.asks-answered (code# .now) (cells# .now) (script# .now) numbers (table# .now) (sheet# .now) (records# .now) pre) (id⊢ 𝓤 _) answers _ (λ v. id⊢ 𝓤 _)
-        (and-then ! (var ! 6 8 refl refl tt) (and-then ! (var ! 6 9 refl refl tt) (and-then ! (var ! 6 4 refl refl tt) (no-more !)))) (λ answered5 _ g-answered5 e5 _.
-        lands-in ! 6 0 refl tt (typed 𝓤 H A W answers answered5 g-answered5) $
-        ends ! 6 refl refl tt $ move ! (2 ∷ []) $ gives ! (mutRef (Array u32 tt 4096)) (loanRef κ0 q0 code#) (ws1 .1 .1 .0) $ move ! (2 ∷ []) $ gives ! (mutRef (Array i32 tt 8224)) (loanRef κ1 q1 cells#) (ws3 .1 .0) $ move ! (2 ∷ []) $ gives ! (mutSlice (recs .type)) (loanSlice κ5 q5 records#) (ws3 .1 .1 .0) $ move ! (2 ∷ 1 ∷ 5 ∷ 4 ∷ 3 ∷ 0 ∷ []) $ by ! (exits answered5 (ws1 .1 .1 .0) (ws3 .1 .0) (ws3 .1 .1 .1 .0) (ws4 .1 .1 .1 .1 .0) (ws3 .1 .1 .0) (same3 .1 .1 .1 .0) (same4 .1 .1 .1 .0) (same3 .1 .1 .0) g-answered5 (facts.says (code# .now) (cells# .now) (script# .now) numbers (table# .now) (sheet# .now) (records# .now) pre (ws1 .1 .1 .0) e1 activations-of2 e2 halt3 (ws3 .1 .0) (ws3 .1 .1 .0) (ws3 .1 .1 .1 .0) e3 (same3 .1 .1 .0) (same3 .1 .1 .1 .0) written4 (ws4 .1 .1 .1 .1 .0) e4 (same4 .1 .1 .1 .0) answered5 e5))))))))))))))))
+        move ! (2 ∷ 4 ∷ []) $ unshares-slice ! tt (recs .type) (loanSlice κ6 q6 records#) (ws3 .1 .1 .0) ν4-records δ4-records $
+        calls-by ! (fmOf 𝓤 H (W .laws) 𝓣) (tripleOf 𝓤 H A answered.signature (answered.spec 𝓤 H A mem run)) known-answered (to (for-answered halt3 written4 numbers)) (for-answered halt3 written4 numbers) refl (g-halt3, (g-written4, (g-numbers, tt))) _ (facts.asks-answered (code# .now) (cells# .now) (script# .now) numbers (table# .now) (groups# .now) (sheet# .now) (records# .now) pre) (id⊢ 𝓤 _) answers _ (λ v. id⊢ 𝓤 _)
+        (and-then ! (var ! 7 9 refl refl tt) (and-then ! (var ! 7 10 refl refl tt) (and-then ! (var ! 7 4 refl refl tt) (no-more !)))) (λ answered5 _ g-answered5 e5 _.
+        lands-in ! 7 0 refl tt (typed 𝓤 H A W answers answered5 g-answered5) $
+        ends ! 7 refl refl tt $ move ! (2 ∷ []) $ gives ! (mutRef (Array u32 tt 4096)) (loanRef κ0 q0 code#) (ws1 .1 .1 .0) $ move ! (2 ∷ []) $ gives ! (mutRef (Array i32 tt 8224)) (loanRef κ1 q1 cells#) (ws3 .1 .0) $ move ! (2 ∷ []) $ gives ! (mutSlice (recs .type)) (loanSlice κ6 q6 records#) (ws3 .1 .1 .0) $ move ! (2 ∷ 1 ∷ 6 ∷ 4 ∷ 5 ∷ 3 ∷ 0 ∷ []) $ by ! (exits answered5 (ws1 .1 .1 .0) (ws3 .1 .0) (ws3 .1 .1 .1 .0) (ws3 .1 .1 .1 .1 .0) (ws4 .1 .1 .1 .1 .0) (ws3 .1 .1 .0) (same3 .1 .1 .1 .0) (same3 .1 .1 .1 .1 .0) (same4 .1 .1 .1 .0) (same3 .1 .1 .0) g-answered5 (facts.says (code# .now) (cells# .now) (script# .now) numbers (table# .now) (groups# .now) (sheet# .now) (records# .now) pre (ws1 .1 .1 .0) e1 activations-of2 e2 halt3 (ws3 .1 .0) (ws3 .1 .1 .0) (ws3 .1 .1 .1 .0) (ws3 .1 .1 .1 .1 .0) e3 (same3 .1 .1 .0) (same3 .1 .1 .1 .0) (same3 .1 .1 .1 .1 .0) written4 (ws4 .1 .1 .1 .1 .0) e4 (same4 .1 .1 .1 .0) answered5 e5))))))))))))))))
 
 module _ {M : Type 1} (𝓤 : URA M) (H : Heap 𝓤) (A : Atoms 𝓤) (W : Given 𝓤 H A) (mem : Memory → SProp 𝓤) (run : Routine → Fun 𝓤) (𝓣 : Tables 𝓤 H)
     (known-resolved : Triple 𝓤 (𝓣 .C #resolved) (tripleOf 𝓤 H A resolved.signature (resolved.spec 𝓤 H A mem run)))
@@ -170,12 +172,12 @@ module _ {M : Type 1} (𝓤 : URA M) (H : Heap 𝓤) (A : Atoms 𝓤) (W : Given
     (known-write-sheet : Triple 𝓤 (𝓣 .C #write-sheet) (tripleOf 𝓤 H A write-sheet.signature (write-sheet.spec 𝓤 H A mem run)))
     (known-answered : Triple 𝓤 (𝓣 .C #answered) (tripleOf 𝓤 H A answered.signature (answered.spec 𝓤 H A mem run))) where
   meets : Meets 𝓤 H A f.signature (WpFn 𝓤 H (𝓣 .C) (𝓣 .Λ) mine.function) (f.spec 𝓤 H A mem run)
-  meets = walk-meets 𝓤 H A f.ended stayed W (goes-gave-ref 𝓤 H A W 6 0 tt (arrayOf (plain (λ _. u32)) 4096), (goes-gave-ref 𝓤 H A W 6 1 tt (arrayOf (plain (λ _. i32)) 8224), (goes-none-slice 𝓤 H A W 6 (2 ∷ []) tt (plain (λ _. u8)) yes, (goes-none 𝓤 H A W 6 (λ _. numberss .type) yes (λ κs x f. refl), (goes-gave-slice 𝓤 H A W 6 3 tt (plain (λ _. i32)), (goes-gave-slice 𝓤 H A W 6 4 tt (plain (λ _. i32)), (goes-gave-slice 𝓤 H A W 6 5 tt (plain (λ _. recs .type)), tt)))))))
+  meets = walk-meets 𝓤 H A f.ended stayed W (goes-gave-ref 𝓤 H A W 7 0 tt (arrayOf (plain (λ _. u32)) 4096), (goes-gave-ref 𝓤 H A W 7 1 tt (arrayOf (plain (λ _. i32)) 8224), (goes-none-slice 𝓤 H A W 7 (2 ∷ []) tt (plain (λ _. u8)) yes, (goes-none 𝓤 H A W 7 (λ _. numberss .type) yes (λ κs x f. refl), (goes-gave-slice 𝓤 H A W 7 3 tt (plain (λ _. i32)), (goes-gave-slice 𝓤 H A W 7 4 tt (plain (λ _. i32)), (goes-gave-slice 𝓤 H A W 7 5 tt (plain (λ _. i32)), (goes-gave-slice 𝓤 H A W 7 6 tt (plain (λ _. recs .type)), tt))))))))
       (f.clauses 𝓤 H A mem run) (WpFn 𝓤 H (𝓣 .C) (𝓣 .Λ) mine.function) (WpFn-mono 𝓤 H (W .laws) 𝓣 mine.function)
       (walked 𝓤 H A f.ended stayed (f.clauses 𝓤 H A mem run) (WpFn 𝓤 H (𝓣 .C) (𝓣 .Λ) mine.function)
-      (λ κs. (ptr-vals, (ptr-vals, (slice-vals, ((λ (x : numberss .type .Denot). numberss .val x ∷ []), (slice-vals, (slice-vals, (slice-vals, tt))))))))
-      (λ κs. (mut-tells (named 0) (κs .0) (Array u32 tt 4096), (mut-tells (named 1) (κs .1 .0) (Array i32 tt 8224), (shr-slice-tells (named 2) (κs .1 .1 .0) u8, (numberss .tells, (mut-slice-tells (named 3) (κs .1 .1 .1 .0) i32, (mut-slice-tells (named 4) (κs .1 .1 .1 .1 .0) i32, (mut-slice-tells (named 5) (κs .1 .1 .1 .1 .1 .0) (recs .type), tt))))))))
-      (λ κs qs bounds a g are. needs 𝓤 (said.Pre ((a .0) .now) ((a .1 .0) .now) ((a .1 .1 .0) .now) (a .1 .1 .1 .0) ((a .1 .1 .1 .1 .0) .now) ((a .1 .1 .1 .1 .1 .0) .now) ((a .1 .1 .1 .1 .1 .1 .0) .now)) _ (λ pre. walk 𝓤 H A W mem run (κs .0) (κs .1 .0) (κs .1 .1 .0) (κs .1 .1 .1 .0) (κs .1 .1 .1 .1 .0) (κs .1 .1 .1 .1 .1 .0) (qs .0) (qs .1 .0) (qs .1 .1 .0) (qs .1 .1 .1 .0) (qs .1 .1 .1 .1 .0) (qs .1 .1 .1 .1 .1 .0) (a .0) (a .1 .0) (a .1 .1 .0) (a .1 .1 .1 .0) (a .1 .1 .1 .1 .0) (a .1 .1 .1 .1 .1 .0) (a .1 .1 .1 .1 .1 .1 .0) (are .1 .1 .0 .0 .1) (are .1 .1 .1 .1 .0 .0 .1) (are .1 .1 .1 .1 .1 .0 .0 .1) (are .1 .1 .1 .1 .1 .1 .0 .0 .1) (are .1 .1 .1 .0) pre 𝓣 known-resolved known-activations-of known-run-program known-write-sheet known-answered)))
+      (λ κs. (ptr-vals, (ptr-vals, (slice-vals, ((λ (x : numberss .type .Denot). numberss .val x ∷ []), (slice-vals, (slice-vals, (slice-vals, (slice-vals, tt)))))))))
+      (λ κs. (mut-tells (named 0) (κs .0) (Array u32 tt 4096), (mut-tells (named 1) (κs .1 .0) (Array i32 tt 8224), (shr-slice-tells (named 2) (κs .1 .1 .0) u8, (numberss .tells, (mut-slice-tells (named 3) (κs .1 .1 .1 .0) i32, (mut-slice-tells (named 4) (κs .1 .1 .1 .1 .0) i32, (mut-slice-tells (named 5) (κs .1 .1 .1 .1 .1 .0) i32, (mut-slice-tells (named 6) (κs .1 .1 .1 .1 .1 .1 .0) (recs .type), tt)))))))))
+      (λ κs qs bounds a g are. needs 𝓤 (said.Pre ((a .0) .now) ((a .1 .0) .now) ((a .1 .1 .0) .now) (a .1 .1 .1 .0) ((a .1 .1 .1 .1 .0) .now) ((a .1 .1 .1 .1 .1 .0) .now) ((a .1 .1 .1 .1 .1 .1 .0) .now) ((a .1 .1 .1 .1 .1 .1 .1 .0) .now)) _ (λ pre. walk 𝓤 H A W mem run (κs .0) (κs .1 .0) (κs .1 .1 .0) (κs .1 .1 .1 .0) (κs .1 .1 .1 .1 .0) (κs .1 .1 .1 .1 .1 .0) (κs .1 .1 .1 .1 .1 .1 .0) (qs .0) (qs .1 .0) (qs .1 .1 .0) (qs .1 .1 .1 .0) (qs .1 .1 .1 .1 .0) (qs .1 .1 .1 .1 .1 .0) (qs .1 .1 .1 .1 .1 .1 .0) (a .0) (a .1 .0) (a .1 .1 .0) (a .1 .1 .1 .0) (a .1 .1 .1 .1 .0) (a .1 .1 .1 .1 .1 .0) (a .1 .1 .1 .1 .1 .1 .0) (a .1 .1 .1 .1 .1 .1 .1 .0) (are .1 .1 .0 .0 .1) (are .1 .1 .1 .1 .0 .0 .1) (are .1 .1 .1 .1 .1 .0 .0 .1) (are .1 .1 .1 .1 .1 .1 .0 .0 .1) (are .1 .1 .1 .1 .1 .1 .1 .0 .0 .1) (are .1 .1 .1 .0) pre 𝓣 known-resolved known-activations-of known-run-program known-write-sheet known-answered)))
 
 pub ran-on-spec : {M : Type 1} → stated.statement M
 unfolding mine.routine tablesOf

@@ -13,14 +13,14 @@ use Rattle.frames.specs.Frame.{frameRunOf}
 use Rattle.resolve_script.specs.Resolving.{resolved-covers}
 use Rattle.call_admission.specs.Lent.{fedOf}
 use Rattle.call_replies.specs.Replies.{no-links, tally-fits}
-use Rattle.call_replies.specs.Runs.{sheet-needs, run-replies}
+use Rattle.call_replies.specs.Runs.{call-lists, sheet-needs, run-replies}
 use Rattle.copy_call.proofs.Pieces.{beginning}
 use Rattle.copy_call.proofs.ran.Statement.{statement}
 use Rattle.copy_call.proofs.ran.Tie as tie
 
 -- the places: where the words of names are found, where the script is resolved, its bytes, where the run returns, where the sheet is written
 abbrev namesAt : tie.After-struct-known2 → tie.After-name-fields
-namesAt c = c .before .before .before .before .before .before .before .before .before
+namesAt c = c .before .before .before .before .before .before .before .before .before .before
 
 abbrev resolvedAt : tie.After-name-fields → tie.After-resolve
 resolvedAt c = c .before .before .before .before
@@ -32,7 +32,7 @@ abbrev startAt : tie.After-resolve → tie.Start
 startAt c = knownAt c .before
 
 abbrev ranAt : tie.After-write-sheet-arg → tie.After-run-program
-ranAt c = c .before .before .before .before .before .before .before .before .before
+ranAt c = c .before .before .before .before .before .before .before .before .before .before
 
 abbrev writtenAt : tie.After-ran-answer → tie.After-write-sheet
 writtenAt c = c .before .before
@@ -41,7 +41,7 @@ writtenAt c = c .before .before
 abbrev fedAt : tie.After-resolve → Fed
 fedAt z =
     let s = (startAt z) .args in
-    fedOf (s .numbers) (s .script .now) (s .table .now) (s .sheet .now)
+    fedOf (s .numbers) (s .script .now) (s .table .now) (s .groups .now) (s .sheet .now)
 
 abbrev areaAt : tie.After-resolve → List ℕ
 areaAt z = (startAt z) .args .area .now
@@ -57,7 +57,7 @@ run-program-requires c κs =
     let g = namesAt c in
     let z = resolvedAt g in
     let p = (startAt z) .pre in
-    beginning (areaAt z) (bytesAt z) (nameAt z .fits) (p .1) (resolved-covers _ _ _ (z .resolve .ensures) _ (p .1 .script)) (g .name-fields .ensures .0)
+    (beginning (areaAt z) (bytesAt z) (nameAt z .fits) (p .1) (resolved-covers _ _ _ (z .resolve .ensures) _ (p .1 .script)) (g .name-fields .ensures .0), (_, call-lists (p .1)))
 
 write-sheet-requires : tie.Need-write-sheet-requires
 unfolding frameRunOf
@@ -67,7 +67,7 @@ write-sheet-requires c κs =
     let z = resolvedAt g in
     let p = (startAt z) .pre in
     let covers = resolved-covers _ _ _ (z .resolve .ensures) _ (p .1 .script) in
-    sheet-needs (bytesAt z) (p .1) covers (u .run-program .ensures (beginning (areaAt z) (bytesAt z) (nameAt z .fits) (p .1) covers (g .name-fields .ensures .0)))
+    sheet-needs (bytesAt z) (p .1) covers (u .run-program .ensures .0 (beginning (areaAt z) (bytesAt z) (nameAt z .fits) (p .1) covers (g .name-fields .ensures .0)))
 
 ran-answer-requires : tie.Need-ran-answer-requires
 ran-answer-requires c κs = tally-fits ((startAt (resolvedAt (namesAt (ranAt (c .before .before) .before)))) .pre .1)
@@ -81,11 +81,11 @@ returns c =
     let z = resolvedAt g in
     let p = (startAt z) .pre in
     let covers = resolved-covers _ _ _ (z .resolve .ensures) _ (p .1 .script) in
-    run-replies (bytesAt z) (p .1) covers (u .run-program .ensures (beginning (areaAt z) (bytesAt z) (nameAt z .fits) (p .1) covers (g .name-fields .ensures .0)))
-    (v .write-sheet .ensures) (no-links (copying (length (areaAt z))) (fedAt z) _ refl) (c .ran-answer .ensures)
+    run-replies (bytesAt z) (p .1) covers (u .run-program .ensures .0 (beginning (areaAt z) (bytesAt z) (nameAt z .fits) (p .1) covers (g .name-fields .ensures .0)))
+    (v .write-sheet .ensures) (u .run-program .ensures .1) (no-links (copying (length (areaAt z))) (fedAt z) _ refl) (c .ran-answer .ensures)
 
 pub ran-spec : {M : Type 1} → statement M
 ran-spec =
     tie.close
     (tie.spec (λ c. search needs) (λ c. search needs) (λ c κs. search needs) (λ c κs. search needs) (λ c. search needs) run-program-requires
-    write-sheet-requires ran-answer-requires (λ c. search needs) (λ c. search needs) (λ c. search needs) returns)
+    write-sheet-requires ran-answer-requires (λ c. search needs) (λ c. search needs) (λ c. search needs) (λ c. search needs) returns)

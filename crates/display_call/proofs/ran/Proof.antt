@@ -8,14 +8,14 @@ use Rattle.frames.specs.Frame.{frameRunOf}
 use Rattle.resolve_script.specs.Resolving.{resolved-covers}
 use Rattle.call_admission.specs.Lent.{fedOf}
 use Rattle.call_replies.specs.Replies.{no-links, tally-fits}
-use Rattle.call_replies.specs.Runs.{sheet-needs, run-replies}
+use Rattle.call_replies.specs.Runs.{call-lists, sheet-needs, run-replies}
 use Rattle.display_call.proofs.Pieces.{beginning}
 use Rattle.display_call.proofs.ran.Statement.{statement}
 use Rattle.display_call.proofs.ran.Tie as tie
 
 -- the places: where the state is made, where the script is resolved, where the run returns, where the sheet is written
 abbrev stateAt : tie.After-struct-known2 → tie.After-start-state
-stateAt c = c .before .before .before .before .before .before .before .before .before .before .before .before
+stateAt c = c .before .before .before .before .before .before .before .before .before .before .before .before .before
 
 abbrev resolvedAt : tie.After-start-state → tie.After-resolve
 resolvedAt c = c .before .before
@@ -24,7 +24,7 @@ abbrev startAt : tie.After-resolve → tie.Start
 startAt c = c .before .before .before .before
 
 abbrev ranAt : tie.After-write-sheet-arg → tie.After-run-program
-ranAt c = c .before .before .before .before .before .before .before
+ranAt c = c .before .before .before .before .before .before .before .before
 
 abbrev writtenAt : tie.After-ran-answer → tie.After-write-sheet
 writtenAt c = c .before .before
@@ -33,7 +33,7 @@ writtenAt c = c .before .before
 abbrev fedAt : tie.After-resolve → Fed
 fedAt z =
     let s = (startAt z) .args in
-    fedOf (s .numbers) (s .script .now) (s .table .now) (s .sheet .now)
+    fedOf (s .numbers) (s .script .now) (s .table .now) (s .groups .now) (s .sheet .now)
 
 bytesAt : (z : tie.After-resolve) → Bytes ((fedAt z) .script)
 bytesAt z = bytes-are ((fedAt z) .script) (λ i. z .before .before .before .shared-slice-known .given i .fits)
@@ -43,7 +43,7 @@ run-program-requires c κs =
     let s = stateAt c in
     let z = resolvedAt s in
     let p = (startAt z) .pre in
-    beginning (bytesAt z) (p .1) (resolved-covers _ _ _ (z .resolve .ensures) _ (p .1 .script)) (s .start-state .ensures)
+    (beginning (bytesAt z) (p .1) (resolved-covers _ _ _ (z .resolve .ensures) _ (p .1 .script)) (s .start-state .ensures), (_, call-lists (p .1)))
 
 write-sheet-requires : tie.Need-write-sheet-requires
 unfolding frameRunOf
@@ -53,7 +53,7 @@ write-sheet-requires c κs =
     let z = resolvedAt s in
     let p = (startAt z) .pre in
     let covers = resolved-covers _ _ _ (z .resolve .ensures) _ (p .1 .script) in
-    sheet-needs (bytesAt z) (p .1) covers (u .run-program .ensures (beginning (bytesAt z) (p .1) covers (s .start-state .ensures)))
+    sheet-needs (bytesAt z) (p .1) covers (u .run-program .ensures .0 (beginning (bytesAt z) (p .1) covers (s .start-state .ensures)))
 
 ran-answer-requires : tie.Need-ran-answer-requires
 ran-answer-requires c κs = tally-fits ((startAt (resolvedAt (stateAt (ranAt (c .before .before) .before)))) .pre .1)
@@ -67,11 +67,11 @@ returns c =
     let z = resolvedAt s in
     let p = (startAt z) .pre in
     let covers = resolved-covers _ _ _ (z .resolve .ensures) _ (p .1 .script) in
-    run-replies (bytesAt z) (p .1) covers (u .run-program .ensures (beginning (bytesAt z) (p .1) covers (s .start-state .ensures)))
-    (v .write-sheet .ensures) (no-links display (fedAt z) _ refl) (c .ran-answer .ensures)
+    run-replies (bytesAt z) (p .1) covers (u .run-program .ensures .0 (beginning (bytesAt z) (p .1) covers (s .start-state .ensures)))
+    (v .write-sheet .ensures) (u .run-program .ensures .1) (no-links display (fedAt z) _ refl) (c .ran-answer .ensures)
 
 pub ran-spec : {M : Type 1} → statement M
 ran-spec =
     tie.close
     (tie.spec (λ c. search needs) (λ c. search needs) (λ c κs. search needs) (λ c κs. search needs) (λ c. search needs) run-program-requires
-    write-sheet-requires ran-answer-requires (λ c. search needs) (λ c. search needs) returns)
+    write-sheet-requires ran-answer-requires (λ c. search needs) (λ c. search needs) (λ c. search needs) returns)

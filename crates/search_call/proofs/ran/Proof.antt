@@ -11,7 +11,7 @@ use Rattle.frames.specs.Frame.{frameRunOf}
 use Rattle.resolve_script.specs.Resolving.{resolved-covers}
 use Rattle.call_admission.specs.Lent.{fedOf}
 use Rattle.call_replies.specs.Replies.{no-links, tally-fits}
-use Rattle.call_replies.specs.Runs.{sheet-needs, run-replies}
+use Rattle.call_replies.specs.Runs.{call-lists, sheet-needs, run-replies}
 use Rattle.search_run.specs.Linked.{end-linkable, end-linked}
 use Rattle.search_call.proofs.Pieces.{beginning}
 use Rattle.search_call.proofs.ran.Statement.{statement}
@@ -20,7 +20,7 @@ use Rattle.search_call.proofs.ran.Tie as tie
 -- the places: where the state is made, where the names are numbered, where the script is resolved, where the run returns, where the links are found,
 -- where the sheet is written
 abbrev stateAt : tie.After-struct-known2 → tie.After-start-state
-stateAt c = c .before .before .before .before .before .before .before .before .before .before .before .before .before
+stateAt c = c .before .before .before .before .before .before .before .before .before .before .before .before .before .before
 
 abbrev numberedAt : tie.After-start-state → tie.After-number-names
 numberedAt c = c .before
@@ -32,7 +32,7 @@ abbrev startAt : tie.After-resolve → tie.Start
 startAt c = c .before .before .before .before
 
 abbrev ranAt : tie.After-links → tie.After-run-program
-ranAt c = c .before .before .before .before .before
+ranAt c = c .before .before .before .before .before .before
 
 abbrev linkedAt : tie.After-write-sheet-arg → tie.After-find-links
 linkedAt c = c .before .before .before .before .before .before
@@ -44,7 +44,7 @@ writtenAt c = c .before .before
 abbrev fedAt : tie.After-resolve → Fed
 fedAt z =
     let s = (startAt z) .args in
-    fedOf (s .numbers) (s .script .now) (s .table .now) (s .sheet .now)
+    fedOf (s .numbers) (s .script .now) (s .table .now) (s .groups .now) (s .sheet .now)
 
 bytesAt : (z : tie.After-resolve) → Bytes ((fedAt z) .script)
 bytesAt z = bytes-are ((fedAt z) .script) (λ i. z .before .before .before .shared-slice-known .given i .fits)
@@ -55,7 +55,7 @@ run-program-requires c κs =
     let g = numberedAt s in
     let z = resolvedAt g in
     let p = (startAt z) .pre in
-    beginning (bytesAt z) (p .1) (resolved-covers _ _ _ (z .resolve .ensures) _ (p .1 .script)) (g .number-names .ensures .0) (s .start-state .ensures)
+    (beginning (bytesAt z) (p .1) (resolved-covers _ _ _ (z .resolve .ensures) _ (p .1 .script)) (g .number-names .ensures .0) (s .start-state .ensures), (_, call-lists (p .1)))
 
 find-links-requires : tie.Need-find-links-requires
 find-links-requires c κs =
@@ -65,7 +65,7 @@ find-links-requires c κs =
     let z = resolvedAt g in
     let p = (startAt z) .pre in
     let b = beginning (bytesAt z) (p .1) (resolved-covers _ _ _ (z .resolve .ensures) _ (p .1 .script)) (g .number-names .ensures .0) (s .start-state .ensures) in
-    (end-linkable b (u .run-program .ensures b), length-replicate {A = ℕ} 256 0)
+    (end-linkable b (u .run-program .ensures .0 b), length-replicate {A = ℕ} 256 0)
 
 write-sheet-requires : tie.Need-write-sheet-requires
 unfolding frameRunOf
@@ -78,7 +78,7 @@ write-sheet-requires c κs =
     let p = (startAt z) .pre in
     let covers = resolved-covers _ _ _ (z .resolve .ensures) _ (p .1 .script) in
     let b = beginning (bytesAt z) (p .1) covers (g .number-names .ensures .0) (s .start-state .ensures) in
-    sheet-needs (bytesAt z) (p .1) covers (end-linked b (u .run-program .ensures b) refl (n .find-links .ensures))
+    sheet-needs (bytesAt z) (p .1) covers (end-linked b (u .run-program .ensures .0 b) refl (n .find-links .ensures))
 
 ran-answer-requires : tie.Need-ran-answer-requires
 ran-answer-requires c κs = tally-fits ((startAt (resolvedAt (numberedAt (stateAt (ranAt (linkedAt (c .before .before) .before) .before))))) .pre .1)
@@ -95,11 +95,11 @@ returns c =
     let p = (startAt z) .pre in
     let covers = resolved-covers _ _ _ (z .resolve .ensures) _ (p .1 .script) in
     let b = beginning (bytesAt z) (p .1) covers (g .number-names .ensures .0) (s .start-state .ensures) in
-    run-replies (bytesAt z) (p .1) covers (end-linked b (u .run-program .ensures b) refl (n .find-links .ensures)) (v .write-sheet .ensures)
-    (no-links Call.search (fedAt z) _ refl) (c .ran-answer .ensures)
+    run-replies (bytesAt z) (p .1) covers (end-linked b (u .run-program .ensures .0 b) refl (n .find-links .ensures)) (v .write-sheet .ensures)
+    (u .run-program .ensures .1) (no-links Call.search (fedAt z) _ refl) (c .ran-answer .ensures)
 
 pub ran-spec : {M : Type 1} → statement M
 ran-spec =
     tie.close
     (tie.spec (λ c. search needs) (λ c. search needs) (λ c κs. search needs) (λ c κs. search needs) (λ c κs. search needs) (λ c. search needs) run-program-requires
-    find-links-requires write-sheet-requires ran-answer-requires (λ c. search needs) (λ c. search needs) returns)
+    find-links-requires write-sheet-requires ran-answer-requires (λ c. search needs) (λ c. search needs) (λ c. search needs) returns)

@@ -15,17 +15,17 @@ use lib.ListN.{length}
 use mathlib.Core.List.{List}
 use mathlib.Core.Path.{_≡_}
 
-abbrev pub Said : List ℕ → numberss .type .Denot → List ℤ → List ℤ → List (recs .type .Denot) → answers .type .Denot → List ℤ → List ℤ → List (recs .type .Denot) → Type 0
-Said script numbers table sheet records r table′ sheet′ records′ = AnswersLeaving (chain (length records)) (fedOf numbers script table sheet) r sheet′ table′ records records′
+abbrev pub Said : List ℕ → numberss .type .Denot → List ℤ → List ℤ → List ℤ → List (recs .type .Denot) → answers .type .Denot → List ℤ → List ℤ → List ℤ → List (recs .type .Denot) → Type 0
+Said script numbers table groups sheet records r table′ groups′ sheet′ records′ = AnswersLeaving (chain (length records)) (fedOf numbers script table groups sheet) r sheet′ table′ groups′ records records′
 
-abbrev pub judged-says : List ℕ → numberss .type .Denot → List ℤ → List ℤ → ℕ → verdicts .type .Denot → Type 0
-judged-says script numbers table sheet held r = r ≡ verdictOf (admission (chain held) (fedOf numbers script table sheet))
+abbrev pub judged-says : List ℕ → numberss .type .Denot → List ℤ → List ℤ → List ℤ → ℕ → verdicts .type .Denot → Type 0
+judged-says script numbers table groups sheet held r = r ≡ verdictOf (admission (chain held) (fedOf numbers script table groups sheet))
 
-abbrev pub ran-asks : List ℕ → numberss .type .Denot → List ℤ → List ℤ → List (recs .type .Denot) → Type 0
-ran-asks script numbers table sheet records = ((t : Block) × Admitted (chain (length records)) (fedOf numbers script table sheet) t)
+abbrev pub ran-asks : List ℕ → numberss .type .Denot → List ℤ → List ℤ → List ℤ → List (recs .type .Denot) → Type 0
+ran-asks script numbers table groups sheet records = ((t : Block) × Admitted (chain (length records)) (fedOf numbers script table groups sheet) t)
 
-abbrev pub ran-says : List ℕ → numberss .type .Denot → List ℤ → List ℤ → List (recs .type .Denot) → answers .type .Denot → List ℤ → List ℤ → Type 0
-ran-says script numbers table sheet records r table′ sheet′ = Answers (chain (length records)) (fedOf numbers script table sheet) r sheet′ table′
+abbrev pub ran-says : List ℕ → numberss .type .Denot → List ℤ → List ℤ → List ℤ → List (recs .type .Denot) → answers .type .Denot → List ℤ → List ℤ → List ℤ → Type 0
+ran-says script numbers table groups sheet records r table′ groups′ sheet′ = Answers (chain (length records)) (fedOf numbers script table groups sheet) r sheet′ table′ groups′
 
 abbrev pub refused-answer-says : refusals .type .Denot → ℕ → ℕ → ℕ → answers .type .Denot → Type 0
 refused-answer-says cause offset pairs tally r = r ≡ refusedAnswer cause offset pairs tally

@@ -13,14 +13,14 @@ use lib.IntN.{ℤ}
 use lib.ListN.{length}
 use mathlib.Core.List.{List}
 
-abbrev pub Pre : List ℕ → numberss .type .Denot → List ℤ → List ℤ → List (recs .type .Denot) → Type 0
-Pre script numbers table sheet records = ((t : Block) × Admitted (chain (length records)) (fedOf numbers script table sheet) t)
+abbrev pub Pre : List ℕ → numberss .type .Denot → List ℤ → List ℤ → List ℤ → List (recs .type .Denot) → Type 0
+Pre script numbers table groups sheet records = ((t : Block) × Admitted (chain (length records)) (fedOf numbers script table groups sheet) t)
 
-abbrev pub Said : List ℕ → numberss .type .Denot → List ℤ → List ℤ → List (recs .type .Denot) → answers .type .Denot → List ℤ → List ℤ → Type 0
-Said script numbers table sheet records r table′ sheet′ = Answers (chain (length records)) (fedOf numbers script table sheet) r sheet′ table′
+abbrev pub Said : List ℕ → numberss .type .Denot → List ℤ → List ℤ → List ℤ → List (recs .type .Denot) → answers .type .Denot → List ℤ → List ℤ → List ℤ → Type 0
+Said script numbers table groups sheet records r table′ groups′ sheet′ = Answers (chain (length records)) (fedOf numbers script table groups sheet) r sheet′ table′ groups′
 
-abbrev pub ran-on-asks : List ℕ → List ℤ → List ℕ → numberss .type .Denot → List ℤ → List ℤ → List (recs .type .Denot) → Type 0
-ran-on-asks code cells script numbers table sheet records = AdmittedOn code cells (chain (length records)) (fedOf numbers script table sheet)
+abbrev pub ran-on-asks : List ℕ → List ℤ → List ℕ → numberss .type .Denot → List ℤ → List ℤ → List ℤ → List (recs .type .Denot) → Type 0
+ran-on-asks code cells script numbers table groups sheet records = AdmittedOn code cells (chain (length records)) (fedOf numbers script table groups sheet)
 
-abbrev pub ran-on-says : List ℕ → numberss .type .Denot → List ℤ → List ℤ → List (recs .type .Denot) → answers .type .Denot → List ℤ → List ℤ → Type 0
-ran-on-says script numbers table sheet records r table′ sheet′ = Answers (chain (length records)) (fedOf numbers script table sheet) r sheet′ table′
+abbrev pub ran-on-says : List ℕ → numberss .type .Denot → List ℤ → List ℤ → List ℤ → List (recs .type .Denot) → answers .type .Denot → List ℤ → List ℤ → List ℤ → Type 0
+ran-on-says script numbers table groups sheet records r table′ groups′ sheet′ = Answers (chain (length records)) (fedOf numbers script table groups sheet) r sheet′ table′ groups′

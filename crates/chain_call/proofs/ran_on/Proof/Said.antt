@@ -16,16 +16,17 @@ use Rattle.language.specs.Sheet.{sheetShare}
 use Rattle.resolve_script.specs.Resolving.{Resolved}
 use Rattle.run_sheet.specs.Held.{Held}
 use Rattle.run_state.specs.Limits.{limitsBy}
+use Rattle.table_laws.specs.Listing.{HasList, KeepsList}
 use lib.IntN.{ℤ}
 use lib.ListN.{length, replicate}
 use mathlib.Core.List.{List}
 use mathlib.Core.Path.{_≡_}
 
-abbrev pub Pre : List ℕ → List ℤ → List ℕ → numberss .type .Denot → List ℤ → List ℤ → List (recs .type .Denot) → Type 0
-Pre code cells script numbers table sheet records = AdmittedOn code cells (chain (length records)) (fedOf numbers script table sheet)
+abbrev pub Pre : List ℕ → List ℤ → List ℕ → numberss .type .Denot → List ℤ → List ℤ → List ℤ → List (recs .type .Denot) → Type 0
+Pre code cells script numbers table groups sheet records = AdmittedOn code cells (chain (length records)) (fedOf numbers script table groups sheet)
 
-abbrev pub Said : List ℕ → numberss .type .Denot → List ℤ → List ℤ → List (recs .type .Denot) → answers .type .Denot → List ℤ → List ℤ → Type 0
-Said script numbers table sheet records r table′ sheet′ = Answers (chain (length records)) (fedOf numbers script table sheet) r sheet′ table′
+abbrev pub Said : List ℕ → numberss .type .Denot → List ℤ → List ℤ → List ℤ → List (recs .type .Denot) → answers .type .Denot → List ℤ → List ℤ → List ℤ → Type 0
+Said script numbers table groups sheet records r table′ groups′ sheet′ = Answers (chain (length records)) (fedOf numbers script table groups sheet) r sheet′ table′ groups′
 
 abbrev pub resolved-asks : List ℕ → Type 0
 resolved-asks code = code ≡ replicate 4096 0
@@ -36,11 +37,11 @@ resolved-says script numbers code′ = Resolved script (numbers .name) code′ �
 abbrev pub activations-of-says : numberss .type .Denot → ℕ → Type 0
 activations-of-says numbers r = r ≡ numbers .d
 
-abbrev pub run-program-asks : List ℕ → List ℤ → List (recs .type .Denot) → List ℤ → ℕ → ℕ → ℕ → Type 0
-run-program-asks code cells records table pairs limit activations = Beginning code cells records table pairs limit activations
+abbrev pub run-program-asks : List ℕ → List ℤ → List (recs .type .Denot) → List ℤ → List ℤ → ℕ → ℕ → ℕ → Type 0
+run-program-asks code cells records table groups pairs limit activations = (Beginning code cells records table pairs limit activations) × (HasList limit table pairs groups)
 
-abbrev pub run-program-says : List ℕ → List ℤ → List (recs .type .Denot) → List ℤ → ℕ → ℕ → ℕ → ℕ → halts .type .Denot → List ℤ → List (recs .type .Denot) → List ℤ → Type 0
-run-program-says code cells records table pairs limit activations allowance r cells′ records′ table′ = ((b : Beginning code cells records table pairs limit activations) → Ended (b .begun .program) (b .begun .name) activations limit (frameRun (limitsBy activations limit) allowance (frameStart (b .begun .program) (record { words = table; used = pairs }))) r cells′ records′ table′)
+abbrev pub run-program-says : List ℕ → List ℤ → List (recs .type .Denot) → List ℤ → List ℤ → ℕ → ℕ → ℕ → ℕ → halts .type .Denot → List ℤ → List (recs .type .Denot) → List ℤ → List ℤ → Type 0
+run-program-says code cells records table groups pairs limit activations allowance r cells′ records′ table′ groups′ = (((b : Beginning code cells records table pairs limit activations) → Ended (b .begun .program) (b .begun .name) activations limit (frameRun (limitsBy activations limit) allowance (frameStart (b .begun .program) (record { words = table; used = pairs }))) r cells′ records′ table′)) × (KeepsList limit table pairs groups table′ (r .pairs) groups′)
 
 abbrev pub write-sheet-asks : List ℕ → List ℤ → List (recs .type .Denot) → ℕ → List ℤ → Type 0
 write-sheet-asks code cells records live sheet = (((fs : List Frame) × Held code cells (blocksIn records) (nextsIn records) (linksIn records) fs × (length fs ≡ live))) × ((live ≤ length records) × (sheetShare * live ≤ length sheet))

@@ -34,9 +34,9 @@ use denote.Exit.{yes}
 use Rattle.walks.specs.Data.{Good, typed, words32, bools}
 use Rattle.walks.specs.Loans.{Loan, loanSlice, loanRef, shrRef, mutSlice, gives}
 use Rattle.walks.specs.Params.{Par, dat, brw, denots, valss, vals, lfts, shares, ins, outs}
-use Rattle.walks.specs.Functions.{arrives, leaves-with, by-walk}
+use Rattle.walks.specs.Functions.{arrives, by-walk}
 use Rattle.walks.specs.Calls.{to, calls-by}
-use Rattle.walks.specs.Clauses.{asks-all}
+use Rattle.walks.specs.Clauses.{asks-all, leaves-saying}
 use Rattle.walks.specs.Frames.{begins}
 use Rattle.walks.specs.Locals.{var, lent-ptr, lent-slice, puts, lands-in, ends, if-then}
 use Rattle.walks.specs.Early.{ends-early, told, untold}
@@ -95,7 +95,7 @@ module _ {M : Type 1} (𝓤 : URA M) (H : Heap 𝓤) (A : Atoms 𝓤) (W : Given
   Post = walkOf 𝓤 H A f.ended stayed (f.clauses 𝓤 H A mem run) .post bound
 
   exits : (r : halts .type .Denot) (records′ : List (recs .type .Denot)) → length records′ ≡ length (records# .now) → Good halts r → said.Said (code# .now) (cells# .now) (records# .now) here turn₀ allowance left r records′ → ent 𝓤 (⋆ 𝓤 H A (outs 𝓤 0 ps (tt, (tt, (records′, (tt, (tt, (tt, (tt, tt))))))))) (Post (halts .val r))
-  exits r records′ same-records good says = via 𝓤 _ (leaves-with 𝓤 H A W ps (tt, (tt, (records′, (tt, (tt, (tt, (tt, tt))))))) (g-here, (g-turn₀, (g-allowance, (g-left, tt)))) halts r good (said.Said (code# .now) (cells# .now) (records# .now) here turn₀ allowance left r records′) says)
+  exits r records′ same-records good says = via 𝓤 _ (leaves-saying 𝓤 H A W ps (tt, (tt, (records′, (tt, (tt, (tt, (tt, tt))))))) (g-here, (g-turn₀, (g-allowance, (g-left, tt)))) halts r good (_ ∷ _ ∷ []) says)
       (ends-at 𝓤 H A f.ended stayed (f.clauses 𝓤 H A mem run) W bound (halts .val r) r (tt, (tt, (records′, (tt, (tt, (tt, (tt, tt))))))) (tt, (tt, (same-records, (tt, (tt, (tt, (tt, tt))))))))
 
   module _ (𝓣 : Tables 𝓤 H)

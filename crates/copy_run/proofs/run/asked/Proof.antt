@@ -1,24 +1,13 @@
 -- `asked` meets its contract: each question has its function.
-use Rattle.run_statements.specs.Answers.{add-answered, remove-answered, query-answered}
+use Rattle.table_pairs.specs.Outcomes.{tableOf}
+use Rattle.run_statements.specs.Answers.{with-list, add-answered, remove-answered, query-answered, query-lists}
 use borrow.Author.Needs.{needs}
 use Rattle.copy_run.proofs.run.asked.Statement.{statement}
 use Rattle.copy_run.proofs.run.asked.Tie as tie
 
-returns : tie.Need-returns
-returns c =
-    let d = c .before in
-    add-answered _ _ _ _ _ _ (d .before .before .before .enum-told .given .1) (d .add .ensures)
-
-returns-2 : tie.Need-returns-2
-returns-2 c =
-    let d = c .before in
-    remove-answered _ _ _ _ _ _ (d .before .before .before .enum-told2 .given .1) (d .remove .ensures)
-
-returns-3 : tie.Need-returns-3
-returns-3 c = query-answered _ _ _ _ _ _ (c .before .before .before .enum-told3 .given .1) (c .query .ensures)
-
 pub asked-spec : {M : Type 1} → statement M
 asked-spec =
-    tie.close
-    (tie.spec (λ c. search needs) (λ c κs. search needs) (λ c. search needs) (λ c κs. search needs) (λ c. search needs) (λ c κs. search needs)
-    (λ c. search needs) returns (λ c. search needs) returns-2 (λ c. search needs) returns-3)
+    tie.close (tie.spec (λ c. search needs) (λ c κs. search needs) (λ c. search needs) (λ c κs. search needs) (λ c. search needs)
+    (λ c κs. search needs) (λ c. search needs) (λ c. search needs) (λ c. with-list (add-answered _ _ (tableOf _ _) _ _ _ (search needs) (search needs)) (search needs))
+    (λ c. search needs) (λ c. search needs) (λ c. with-list (remove-answered _ _ (tableOf _ _) _ _ _ (search needs) (search needs)) (c .before .before .remove .ensures .1 .1 _)) (λ c. search needs)
+    (λ c. with-list (query-answered _ _ (tableOf _ _) _ _ _ (search needs) (search needs)) (query-lists _ _ (tableOf _ _) _ _ _ (c .query .ensures .0) _)))

@@ -2,7 +2,8 @@
 use mathlib.Core.Path.{refl}
 use Rattle.copy_run.specs.Here.{ready-here}
 use Rattle.run_state.specs.Turns.{above-zero}
-use Rattle.copy_run.specs.Turns.{leave-ready, left-on, base-within, went-on, asked-there, answered-on, jump-ready, jumped-on, enter-ready, entered-on, stopped-at}
+use Rattle.run_statements.specs.Answers.{answered-lists}
+use Rattle.copy_run.specs.Turns.{leave-ready, left-on, left-keeps, base-within, went-on, asked-there, answered-on, jump-ready, jumped-on, jumped-keeps, enter-ready, entered-on, entered-keeps, stopped-at}
 use borrow.Author.Needs.{needs}
 use Rattle.copy_run.proofs.run.step.Statement.{statement}
 use Rattle.copy_run.proofs.run.step.Tie as tie
@@ -34,83 +35,95 @@ toldOf c = c .before .before .before .before .before
 abbrev bodyOf : tie.After-enter-arg9 → tie.After-body
 bodyOf c = (toldOf (halfOf c)) .before
 
-abbrev askedOf : tie.After-asked-arg2 → tie.After-place3
-askedOf c = c .before .before .before
+abbrev askedOf : tie.After-asked-arg3 → tie.After-place3
+askedOf c = c .before .before .before .before
 
 returns : tie.Need-returns
-returns c = λ w. record { ended = c .before .if1 .taken; alone = c .if2 .taken; same-cells = refl; same-table = refl }
+returns c = (λ w. record { ended = c .before .if1 .taken; alone = c .if2 .taken; same-cells = refl; same-table = refl }, λ past b. b)
 
 leave-requires : tie.Need-leave-requires
 leave-requires c κs =
     let e = c .before .before in
     let s = startAt e in
-    leave-ready (s .pre .running) (above-zero (s .args .here .live) (e .if2 .left))
+    leave-ready (s .pre .0 .running) (above-zero (s .args .here .live) (e .if2 .left))
 
 returns-2 : tie.Need-returns-2
 returns-2 c =
     let e = c .before .before .before in
-    λ w. left-on w (e .before .if1 .taken) (above-zero ((startAt e) .args .here .live) (e .if2 .left)) (c .leave .result) (c .leave .ensures)
+    let s = startAt e in
+    let ended = e .before .if1 .taken in
+    let below = above-zero (s .args .here .live) (e .if2 .left) in (
+      λ w. left-on w ended below (c .leave .result) (c .leave .ensures),
+      left-keeps (s .pre .0 .running) ended below (c .leave .result) (c .leave .ensures) _,
+    )
 
 act-requires : tie.Need-act-requires
 act-requires c κs =
     let e = elseAt c in
-    ready-here ((entryOf e) .pre .running) (e .if1 .left)
+    ready-here ((entryOf e) .pre .0 .running) (e .if1 .left)
 
 jump-requires : tie.Need-jump-requires
 jump-requires c κs =
     let h = c .before .before in
     let a = h .before .before in
-    jump-ready ((startOf a) .pre .running) ((elseOf a) .if1 .left) (a .act .ensures) (h .place2 .given .1)
+    jump-ready ((startOf a) .pre .0 .running) ((elseOf a) .if1 .left) (a .act .ensures) (h .place2 .given .1)
 
 enter-requires : tie.Need-enter-requires
 enter-requires c κs =
     let b = bodyOf c in
     let a = b .before .before in
-    let p = (startOf a) .pre in
+    let p = (startOf a) .pre .0 in
     enter-ready (p .running) ((elseOf a) .if1 .left) (a .act .ensures) (p .names-left) (b .body .given .1)
 
 asked-requires : tie.Need-asked-requires
 asked-requires c κs =
     let p = askedOf c in
     let a = p .before .before in
-    asked-there ((startOf a) .pre .running) ((elseOf a) .if1 .left) (a .act .ensures) (p .place3 .given .1)
+    (asked-there ((startOf a) .pre .0 .running) ((elseOf a) .if1 .left) (a .act .ensures) (p .place3 .given .1), (startOf a) .pre .1)
 
 returns-3 : tie.Need-returns-3
 returns-3 c =
     let p = c .before in
     let a = p .before .before in
-    λ w. went-on w ((elseOf a) .if1 .left) (a .act .ensures) (p .place .given .1)
+    (λ w. went-on w ((elseOf a) .if1 .left) (a .act .ensures) (p .place .given .1), λ past b. b)
 
 returns-4 : tie.Need-returns-4
 returns-4 c =
     let h = c .before .before .before in
-    let a = h .before .before in
-    λ w. jumped-on w ((elseOf a) .if1 .left) (a .act .ensures) (h .place2 .given .1) (c .jump .ensures)
+    let a = h .before .before in (
+      λ w. jumped-on w ((elseOf a) .if1 .left) (a .act .ensures) (h .place2 .given .1) (c .jump .ensures),
+      jumped-keeps ((startOf a) .pre .0 .running) ((elseOf a) .if1 .left) (a .act .ensures) (h .place2 .given .1) (c .jump .ensures) _,
+    )
 
 returns-5 : tie.Need-returns-5
 returns-5 c =
     let e = c .before .before in
     let b = bodyOf (e .before) in
-    let a = b .before .before in
-    λ w. entered-on w ((elseOf a) .if1 .left) (a .act .ensures) (b .body .given .1) (e .enter .ensures)
+    let a = b .before .before in (
+      λ w. entered-on w ((elseOf a) .if1 .left) (a .act .ensures) (b .body .given .1) (e .enter .ensures),
+      entered-keeps ((startOf a) .pre .0 .running) ((elseOf a) .if1 .left) (a .act .ensures) (b .body .given .1) (e .enter .ensures) _,
+    )
 
 returns-6 : tie.Need-returns-6
 returns-6 c =
     let k = c .before in
     let a = k .before .before in
-    λ w. stopped-at w ((elseOf a) .if1 .left) (a .act .ensures) (k .cause .given .1)
+    (λ w. stopped-at w ((elseOf a) .if1 .left) (a .act .ensures) (k .cause .given .1), λ past b. b)
 
 returns-7 : tie.Need-returns-7
 returns-7 c =
-    let k = c .before .before in
+    let k = c .before .before .before in
     let p = askedOf (k .before) in
     let a = p .before .before in
-    λ w. answered-on w ((elseOf a) .if1 .left) (a .act .ensures) (p .place3 .given .1) (k .asked .ensures) (c .after .ensures)
+    let d = k .asked .ensures in (
+      λ w. answered-on w ((elseOf a) .if1 .left) (a .act .ensures) (p .place3 .given .1) (d .0, (d .1 .0, d .1 .1 .0)) (c .after .ensures),
+      answered-lists _ _ _ (c .after .ensures) (d .1 .1 .1),
+    )
 
 pub step-spec : {M : Type 1} → statement M
 step-spec =
     tie.close
-    (tie.spec returns leave-requires returns-2 (λ c. search (needs, base-within ((entryOf c) .pre .running))) act-requires (λ c. search needs)
+    (tie.spec returns leave-requires returns-2 (λ c. search (needs, base-within ((entryOf c) .pre .0 .running))) act-requires (λ c. search needs)
     (λ c. search needs) jump-requires (λ c. search needs) enter-requires (λ c. search needs) (λ c. search needs) asked-requires (λ c κs. search needs)
     (λ c. search needs) returns-3 (λ c. search needs) returns-4 (λ c. search needs) returns-5 (λ c. search needs) returns-6 (λ c. search needs)
-    (λ c. search needs) returns-7)
+    (λ c. search needs) (λ c. search needs) returns-7)

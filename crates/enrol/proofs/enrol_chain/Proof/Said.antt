@@ -12,11 +12,11 @@ use lib.ListN.{length}
 use mathlib.Core.List.{List}
 use mathlib.Core.Path.{_≡_}
 
-abbrev pub Said : List ℕ → ℕ → ℕ → ℕ → ℕ → List ℤ → ℕ → ℕ → List ℤ → List (recs .type .Denot) → List ℤ → List ℤ → List (recs .type .Denot) → List ℕ → Type 0
-Said script d n g tally table count name sheet records table′ sheet′ records′ answer′ = RepliesLeaving (chain (length records)) (fedOf (record { d = d; n = n; g = g; tally = tally; count = count; name = name }) script table sheet) answer′ sheet′ table′ records records′
+abbrev pub Said : List ℕ → ℕ → ℕ → ℕ → ℕ → List ℤ → ℕ → List ℤ → ℕ → List ℤ → List (recs .type .Denot) → List ℤ → List ℤ → List ℤ → List (recs .type .Denot) → List ℕ → Type 0
+Said script d n g tally table count groups name sheet records table′ groups′ sheet′ records′ answer′ = RepliesLeaving (chain (length records)) (fedOf (record { d = d; n = n; g = g; tally = tally; count = count; name = name }) script table groups sheet) answer′ sheet′ table′ groups′ records records′
 
-abbrev pub call-says : List ℕ → numberss .type .Denot → List ℤ → List ℤ → List (recs .type .Denot) → answers .type .Denot → List ℤ → List ℤ → List (recs .type .Denot) → Type 0
-call-says script numbers table sheet records r table′ sheet′ records′ = AnswersLeaving (chain (length records)) (fedOf numbers script table sheet) r sheet′ table′ records records′
+abbrev pub call-says : List ℕ → numberss .type .Denot → List ℤ → List ℤ → List ℤ → List (recs .type .Denot) → answers .type .Denot → List ℤ → List ℤ → List ℤ → List (recs .type .Denot) → Type 0
+call-says script numbers table groups sheet records r table′ groups′ sheet′ records′ = AnswersLeaving (chain (length records)) (fedOf numbers script table groups sheet) r sheet′ table′ groups′ records records′
 
 abbrev pub write-answer-says : answers .type .Denot → List ℕ → Type 0
 write-answer-says answer words′ = words′ ≡ answerWords answer

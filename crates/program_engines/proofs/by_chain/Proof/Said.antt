@@ -9,8 +9,8 @@ use lib.IntN.{ℤ}
 use lib.ListN.{length}
 use mathlib.Core.List.{List}
 
-abbrev pub Said : List ℕ → ℕ → ℕ → ℕ → List ℤ → ℕ → ℕ → List ℤ → List ℤ → List ℤ → List ℕ → Type 0
-Said script d n g table count name sheet table′ sheet′ answer′ = Replies (chain 256) (fedOf (record { d = d; n = n; g = g; tally = 0; count = count; name = name }) script table sheet) answer′ sheet′ table′
+abbrev pub Said : List ℕ → ℕ → ℕ → ℕ → List ℤ → ℕ → List ℤ → ℕ → List ℤ → List ℤ → List ℤ → List ℤ → List ℕ → Type 0
+Said script d n g table count groups name sheet table′ groups′ sheet′ answer′ = Replies (chain 256) (fedOf (record { d = d; n = n; g = g; tally = 0; count = count; name = name }) script table groups sheet) answer′ sheet′ table′ groups′
 
-abbrev pub enrol-chain-says : List ℕ → ℕ → ℕ → ℕ → ℕ → List ℤ → ℕ → ℕ → List ℤ → List (recs .type .Denot) → List ℤ → List ℤ → List (recs .type .Denot) → List ℕ → Type 0
-enrol-chain-says script d n g tally table count name sheet records table′ sheet′ records′ answer′ = RepliesLeaving (chain (length records)) (fedOf (record { d = d; n = n; g = g; tally = tally; count = count; name = name }) script table sheet) answer′ sheet′ table′ records records′
+abbrev pub enrol-chain-says : List ℕ → ℕ → ℕ → ℕ → ℕ → List ℤ → ℕ → List ℤ → ℕ → List ℤ → List (recs .type .Denot) → List ℤ → List ℤ → List ℤ → List (recs .type .Denot) → List ℕ → Type 0
+enrol-chain-says script d n g tally table count groups name sheet records table′ groups′ sheet′ records′ answer′ = RepliesLeaving (chain (length records)) (fedOf (record { d = d; n = n; g = g; tally = tally; count = count; name = name }) script table groups sheet) answer′ sheet′ table′ groups′ records records′

@@ -1,5 +1,5 @@
 -- What the walk of `ended` shows.
-use mathlib.Core.Path.{_≡_, sym, _∙_, subst}
+use mathlib.Core.Path.{_≡_, sym, _∙_, ap, subst}
 use mathlib.Core.Bool.{Bool, true, false}
 use Prim.Native.Nat.{ℕ}
 use native.Mathlib.Omega.{arith}
@@ -13,7 +13,7 @@ use Rattle.run_state.specs.declared.Halt.{Halt}
 use Rattle.chain_links.specs.declared.Found.{Found}
 use Rattle.chain_step.specs.Moves.{isFinished}
 use Rattle.chain_run.specs.Running.{RunFrom}
-use Rattle.chain_run.specs.Ending.{left-within, at-within-script, live-within, one-left, looks, finished-end, halted-end}
+use Rattle.chain_run.specs.Ending.{left-within, at-within-script, live-within, one-left, looks, finished-end, halted-end, halted-pairs}
 use Rattle.chain_run.proofs.ending.ended.Proof.Said.{Pre, Said, is-finished-says, finished-halt-asks, finished-halt-says, settle-asks, settle-says, halted-asks, halted-says}
 
 module _ (code : List ℕ) (cells : List ℤ) (records : List Activation) (here : Registers) (turn : Turn) (allowance left : ℕ)
@@ -27,7 +27,10 @@ module _ (code : List ℕ) (cells : List ℤ) (records : List Activation) (here 
 
     module _ (r : Halt) (r-is : finished-halt-says here allowance left r) where
       pub says-1 : Said code cells records here turn allowance left r records
-      says-1 e = subst (λ (h : Halt). RunFrom (e .from) allowance h cells records (e .table)) (sym r-is) (finished-end turn e finished records)
+      says-1 = (
+        λ e. subst (λ (h : Halt). RunFrom (e .from) allowance h cells records (e .table)) (sym r-is) (finished-end turn e finished records),
+        ap (λ (h : Halt). h .pairs) r-is,
+      )
 
   module _ (n : over ≡ false) where
     going : isFinished turn ≡ false
@@ -42,6 +45,8 @@ module _ (code : List ℕ) (cells : List ℤ) (records : List Activation) (here 
     module _ (found : Found) (records′ : List Activation) (looked : settle-says code cells records here found records′)
         (long : length records′ ≡ length records) (r : Halt) (r-is : halted-says here turn found allowance left r) where
       pub says-2 : Said code cells records here turn allowance left r records′
-      says-2 e =
-          subst (λ (T : Type 0). T) (λ i. RunFrom (e .from) allowance (sym r-is i) cells (sym (looked .1) i) (e .table))
-          (halted-end turn e going found (looked .0))
+      says-2 = (
+        λ e. subst (λ (T : Type 0). T) (λ i. RunFrom (e .from) allowance (sym r-is i) cells (sym (looked .1) i) (e .table))
+            (halted-end turn e going found (looked .0)),
+        ap (λ (h : Halt). h .pairs) r-is ∙ halted-pairs here turn found allowance left,
+      )

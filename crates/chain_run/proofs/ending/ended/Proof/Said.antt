@@ -22,7 +22,7 @@ abbrev pub Pre : List ℕ → List ℤ → List (recs .type .Denot) → register
 Pre code cells records here turn allowance left = Ending code cells records here turn allowance left
 
 abbrev pub Said : List ℕ → List ℤ → List (recs .type .Denot) → registers .type .Denot → turns .type .Denot → ℕ → ℕ → halts .type .Denot → List (recs .type .Denot) → Type 0
-Said code cells records here turn allowance left r records′ = ((e : Ending code cells records here turn allowance left) → RunFrom (e .from) allowance r cells records′ (e .table))
+Said code cells records here turn allowance left r records′ = (((e : Ending code cells records here turn allowance left) → RunFrom (e .from) allowance r cells records′ (e .table))) × (r .pairs ≡ here .pairs)
 
 abbrev pub is-finished-says : turns .type .Denot → Bool → Type 0
 is-finished-says turn r = r ≡ isFinished turn

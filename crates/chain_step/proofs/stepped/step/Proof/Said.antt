@@ -10,8 +10,10 @@ use Rattle.chain_step.specs.Moved.{isDone, turnOf, isAsk, answerTo, isEn
 use Rattle.chain_step.specs.Turning.{Turned, LeaveReady}
 use Rattle.chain_step.specs.declared.turn.Asking.{Asking as Asked}
 use Rattle.chain_step.specs.declared.turn.Moved.the-variants.{Table}
+use Rattle.run_state.specs.Turns.{pairsAfter}
 use Rattle.run_state.specs.declared.Turn.the-variants.{Went}
 use Rattle.run_statements.specs.Answers.{Answered, turnAfter}
+use Rattle.table_laws.specs.Listing.{HasList, KeepsList}
 use Rattle.table_pairs.specs.Outcomes.{tableOf}
 use Rattle.table_pairs.specs.declared.Change.{Change as Changed}
 use lib.IntN.{ℤ}
@@ -20,11 +22,11 @@ use mathlib.Core.Bool.{Bool}
 use mathlib.Core.List.{List}
 use mathlib.Core.Path.{_≡_}
 
-abbrev pub Pre : List ℕ → List ℤ → List (recs .type .Denot) → List ℤ → ℕ → ℕ → registers .type .Denot → Type 0
-Pre code cells records table limit activations here = Running code activations limit cells records table here
+abbrev pub Pre : List ℕ → List ℤ → List (recs .type .Denot) → List ℤ → List ℤ → ℕ → ℕ → registers .type .Denot → Type 0
+Pre code cells records table groups limit activations here = (Running code activations limit cells records table here) × (HasList limit table (here .pairs) groups)
 
-abbrev pub Said : List ℕ → List ℤ → List (recs .type .Denot) → List ℤ → ℕ → ℕ → registers .type .Denot → turns .type .Denot → List ℤ → List (recs .type .Denot) → List ℤ → Type 0
-Said code cells records table limit activations here r cells′ records′ table′ = ((w : Running code activations limit cells records table here) → Turned w r cells′ records′ table′)
+abbrev pub Said : List ℕ → List ℤ → List (recs .type .Denot) → List ℤ → List ℤ → ℕ → ℕ → registers .type .Denot → turns .type .Denot → List ℤ → List (recs .type .Denot) → List ℤ → List ℤ → Type 0
+Said code cells records table groups limit activations here r cells′ records′ table′ groups′ = (((w : Running code activations limit cells records table here) → Turned w r cells′ records′ table′)) × (KeepsList limit table (here .pairs) groups table′ (pairsAfter here r) groups′)
 
 abbrev pub leave-asks : List ℕ → List (recs .type .Denot) → registers .type .Denot → Type 0
 leave-asks code records here = LeaveReady code records here
@@ -47,11 +49,11 @@ turn-of-says moved r = r ≡ turnOf moved
 abbrev pub asks-says : moveds .type .Denot → Bool → Type 0
 asks-says moved r = r ≡ isAsk moved
 
-abbrev pub answered-asks : moveds .type .Denot → Type 0
-answered-asks moved = ((k : Asked) → moved ≡ Table k → (k .group < 8192) × ((k .member < 8192) × (k .target < 8192)))
+abbrev pub answered-asks : List ℤ → List ℤ → ℕ → registers .type .Denot → moveds .type .Denot → Type 0
+answered-asks table groups limit here moved = (((k : Asked) → moved ≡ Table k → (k .group < 8192) × ((k .member < 8192) × (k .target < 8192)))) × (HasList limit table (here .pairs) groups)
 
-abbrev pub answered-says : List ℤ → List ℤ → ℕ → registers .type .Denot → moveds .type .Denot → turns .type .Denot → List ℤ → List ℤ → Type 0
-answered-says table cells limit here moved r table′ cells′ = ((k : Asked) → moved ≡ Table k → (c : Changed) × (r ≡ turnAfter here (k .place) c) × Answered (answerTo limit cells (tableOf table (here .pairs)) k) table c cells′ table′)
+abbrev pub answered-says : List ℤ → List ℤ → List ℤ → ℕ → registers .type .Denot → moveds .type .Denot → turns .type .Denot → List ℤ → List ℤ → List ℤ → Type 0
+answered-says table groups cells limit here moved r table′ groups′ cells′ = (((k : Asked) → moved ≡ Table k → (c : Changed) × (r ≡ turnAfter here (k .place) c) × Answered (answerTo limit cells (tableOf table (here .pairs)) k) table c cells′ table′)) × (((k : Asked) → moved ≡ Table k → KeepsList limit table (here .pairs) groups table′ (pairsAfter here r) groups′))
 
 abbrev pub enters-says : moveds .type .Denot → Bool → Type 0
 enters-says moved r = r ≡ isEnter moved
