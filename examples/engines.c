@@ -25,26 +25,27 @@ static size_t record_words(uint32_t d, size_t script_len)
 static void run_copy(struct call *call, uint64_t answer[ENROL_ANSWER_WORDS])
 {
     enrol_copy(call->script, call->script_len, call->d, call->n, call->g, call->tally, call->table, 2 * call->places,
-               call->count, call->name, call->sheet, call->sheet_len, call->own, call->own_len, answer);
+               call->count, call->groups, call->groups_len, call->name, call->sheet, call->sheet_len, call->own,
+               call->own_len, answer);
 }
 
 static void run_chain(struct call *call, uint64_t answer[ENROL_ANSWER_WORDS])
 {
     enrol_chain(call->script, call->script_len, call->d, call->n, call->g, call->tally, call->table, 2 * call->places,
-                call->count, call->name, call->sheet, call->sheet_len, (struct enrol_activation *)call->own,
-                call->own_len / RECORD_WORDS, answer);
+                call->count, call->groups, call->groups_len, call->name, call->sheet, call->sheet_len,
+                (struct enrol_activation *)call->own, call->own_len / RECORD_WORDS, answer);
 }
 
 static void run_display(struct call *call, uint64_t answer[ENROL_ANSWER_WORDS])
 {
     enrol_display(call->script, call->script_len, call->d, call->n, call->g, call->tally, call->table, 2 * call->places,
-                  call->count, call->name, call->sheet, call->sheet_len, answer);
+                  call->count, call->groups, call->groups_len, call->name, call->sheet, call->sheet_len, answer);
 }
 
 static void run_search(struct call *call, uint64_t answer[ENROL_ANSWER_WORDS])
 {
     enrol_search(call->script, call->script_len, call->d, call->n, call->g, call->tally, call->table, 2 * call->places,
-                 call->count, call->name, call->sheet, call->sheet_len, answer);
+                 call->count, call->groups, call->groups_len, call->name, call->sheet, call->sheet_len, answer);
 }
 
 const struct engine engines[] = {

@@ -17,8 +17,8 @@ struct call {
     uint64_t tally;
     size_t places, count;
     uint16_t name;
-    size_t sheet_len;
-    int32_t table[2 * MOST_PLACES];
+    size_t groups_len, sheet_len;
+    int32_t table[2 * MOST_PLACES], groups[2 * MOST_PLACES];
     int32_t sheet[ENROL_SHEET_WORDS(ENROL_MOST_ACTIVATIONS)];
     uint32_t *own; /* what only one engine is lent */
     size_t own_len;

@@ -1,6 +1,7 @@
 /* Runs a script on each engine and says what came of it: `enrol FILE [WORD=NUMBER]...`. The words are d, n, g, tally,
- * name (the name to look up), places (of the table, in pairs) and pair=GROUP,MEMBER for a pair in use.
- * `enrol` alone makes three calls of sample A: one that finishes, one that is spent and one that is refused.
+ * name (the name to look up), places (of the table, in pairs), list (words of the list of groups that are lent; behind
+ * places) and pair=GROUP,MEMBER for a pair in use. The list of groups is made from the pairs.
+ * `enrol` alone makes four calls of sample A: one that finishes, one that is spent and two that are refused.
  * Status 0: finished or spent; 1: stopped or refused; 2: the file or a word cannot be read. */
 #include <errno.h>
 #include <stdio.h>
@@ -11,7 +12,7 @@
 #include "print.h"
 #include "support.h"
 
-/* Each engine is lent a table, a sheet and an area of its own. */
+/* Each engine is lent a table, a list, a sheet and an area of its own. */
 static int run(const struct call *asked)
 {
     static struct call call;
@@ -43,6 +44,7 @@ static void prepare(struct call *call, const uint8_t *script, size_t length)
     call->tally = 0;
     call->places = MOST_PLACES;
     call->count = 0;
+    call->groups_len = ENROL_LIST_WORDS(2 * MOST_PLACES);
     call->name = 1;
     call->sheet_len = ENROL_SHEET_WORDS(ENROL_MOST_ACTIVATIONS);
 }
@@ -50,6 +52,7 @@ static void prepare(struct call *call, const uint8_t *script, size_t length)
 static void run_sample(struct call *call)
 {
     prepare(call, sample_a, sizeof sample_a);
+    list_groups(call->table, 2 * call->places, call->count, call->groups);
     puts("Sample A, with 1,000 steps to spend:");
     run(call);
     puts("Sample A, with 2 steps to spend:");
@@ -57,6 +60,11 @@ static void run_sample(struct call *call)
     run(call);
     puts("Sample A, with a sheet one word too short for 16 activations:");
     call->sheet_len = ENROL_SHEET_WORDS(call->d) - 1;
+    run(call);
+    puts("Sample A, with a list that has the pair before the table does:");
+    call->sheet_len = ENROL_SHEET_WORDS(call->d);
+    call->groups[0] = 5;
+    call->groups[1] = 1;
     run(call);
 }
 
@@ -114,6 +122,9 @@ static int takes(struct call *call, const char *word)
         call->name = (uint16_t)number;
     } else if (reads(word, "places=", MOST_PLACES, &number)) {
         call->places = (size_t)number;
+        call->groups_len = ENROL_LIST_WORDS(2 * call->places);
+    } else if (reads(word, "list=", 2 * MOST_PLACES, &number)) {
+        call->groups_len = (size_t)number;
     } else {
         return takes_pair(call, word);
     }
@@ -140,5 +151,6 @@ int main(int count, char **words)
             return 2;
         }
     }
+    list_groups(call.table, 2 * call.places, call.count, call.groups);
     return run(&call);
 }

@@ -91,10 +91,24 @@ static void print_pairs(const struct call *call, size_t pairs)
     }
 }
 
+static void print_groups(const struct call *call)
+{
+    size_t used = 0;
+    while (used < call->places && call->groups[2 * used] != 0) {
+        used++;
+    }
+    printf("  groups: %zu\n", used);
+    for (size_t place = 0; place < used; place++) {
+        int32_t members = call->groups[2 * place + 1];
+        printf("    %" PRId32 ": %" PRId32 " %s\n", call->groups[2 * place], members, members == 1 ? "member" : "members");
+    }
+}
+
 /* After a refusal all that was lent must be as it was. */
 static void print_unchanged(const struct call *call, const struct call *before)
 {
     int same = memcmp(call->table, before->table, sizeof call->table) == 0 &&
+               memcmp(call->groups, before->groups, sizeof call->groups) == 0 &&
                memcmp(call->sheet, before->sheet, sizeof call->sheet) == 0;
     for (size_t at = 0; at < call->own_len; at++) {
         same = same && call->own[at] == UNWRITTEN;
@@ -113,4 +127,5 @@ void print_outcome(const char *engine, const struct call *call, const struct cal
     print_name(call->name, answer);
     print_sheet(call, (size_t)answer[ENROL_ANSWER_SHEET]);
     print_pairs(call, (size_t)answer[ENROL_ANSWER_PAIRS]);
+    print_groups(call);
 }

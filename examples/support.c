@@ -1,6 +1,7 @@
 #include "support.h"
 
 #include <stdio.h>
+#include <string.h>
 
 /* The last 0 is the one that ends the text. */
 const uint8_t sample_a[36] = "BK\2\0\3\0"
@@ -22,6 +23,34 @@ long read_script(const char *name, uint8_t script[ENROL_LONGEST_SCRIPT + 1])
     return failed ? -1 : (long)length;
 }
 
+/* The first place whose group is not below this one. */
+static size_t place_of(int32_t group, const int32_t *groups, size_t used)
+{
+    size_t place = 0;
+    while (place < used && groups[2 * place] < group) {
+        place++;
+    }
+    return place;
+}
+
+void list_groups(const int32_t *table, size_t table_len, size_t count, int32_t *groups)
+{
+    size_t used = 0;
+    memset(groups, 0, ENROL_LIST_WORDS(table_len) * sizeof *groups);
+    for (size_t pair = 0; pair < count && pair < table_len / 2; pair++) {
+        int32_t group = table[2 * pair];
+        size_t place = place_of(group, groups, used);
+        int32_t *words = groups + 2 * place;
+        if (place == used || words[0] != group) {
+            memmove(words + 2, words, 2 * (used - place) * sizeof *words);
+            words[0] = group;
+            words[1] = 0;
+            used++;
+        }
+        words[1]++;
+    }
+}
+
 static const char *const causes[] = {
     [ENROL_NO_CAUSE] = "no cause",
     [ENROL_LENGTH] = "the length is odd, 0 or above 8,192",
@@ -37,7 +66,7 @@ static const char *const causes[] = {
     [ENROL_ARGUMENTS] = "arguments that differ from those of the declared procedure",
     [ENROL_LIMITS] = "d, n, g or the tally out of range",
     [ENROL_AREA_TOO_SHORT] = "a lent area too short",
-    [ENROL_TABLE_NOT_RIGHT] = "a table that is not right",
+    [ENROL_TABLE_NOT_RIGHT] = "a table that is not right, or a list of groups that is not the table's",
     [ENROL_OVERFLOW] = "a result that does not fit into signed 32 bits",
     [ENROL_TOO_MANY_ACTIVATIONS] = "d activations are live and one more is needed",
     [ENROL_NUMBER_BELOW_ONE] = "a group or member number below 1",

@@ -22,6 +22,7 @@ enum {
 struct lent {
     uint64_t answer[GUARD + ENROL_ANSWER_WORDS + GUARD];
     int32_t table[GUARD + MOST_WORDS + GUARD];
+    int32_t groups[GUARD + MOST_LIST + GUARD];
     int32_t sheet[GUARD + MOST_SHEET + GUARD];
 };
 
@@ -33,17 +34,19 @@ static uint32_t own[GUARD + MOST_OWN + PAST_OWN], rubbish[GUARD + MOST_OWN + PAS
 /* As the functions of the library. */
 void reference_check(const uint8_t *script, size_t script_len, uint64_t answer[ENROL_CHECK_WORDS]);
 void reference_copy(const uint8_t *script, size_t script_len, uint32_t d, uint32_t n, uint32_t g, uint64_t tally,
-                    int32_t *table, size_t table_len, size_t count, uint16_t name, int32_t *sheet, size_t sheet_len,
-                    uint32_t *area, size_t area_len, uint64_t answer[ENROL_ANSWER_WORDS]);
+                    int32_t *table, size_t table_len, size_t count, int32_t *groups, size_t groups_len, uint16_t name,
+                    int32_t *sheet, size_t sheet_len, uint32_t *area, size_t area_len,
+                    uint64_t answer[ENROL_ANSWER_WORDS]);
 void reference_chain(const uint8_t *script, size_t script_len, uint32_t d, uint32_t n, uint32_t g, uint64_t tally,
-                     int32_t *table, size_t table_len, size_t count, uint16_t name, int32_t *sheet, size_t sheet_len,
-                     struct enrol_activation *records, size_t records_len, uint64_t answer[ENROL_ANSWER_WORDS]);
+                     int32_t *table, size_t table_len, size_t count, int32_t *groups, size_t groups_len, uint16_t name,
+                     int32_t *sheet, size_t sheet_len, struct enrol_activation *records, size_t records_len,
+                     uint64_t answer[ENROL_ANSWER_WORDS]);
 void reference_display(const uint8_t *script, size_t script_len, uint32_t d, uint32_t n, uint32_t g, uint64_t tally,
-                       int32_t *table, size_t table_len, size_t count, uint16_t name, int32_t *sheet, size_t sheet_len,
-                       uint64_t answer[ENROL_ANSWER_WORDS]);
+                       int32_t *table, size_t table_len, size_t count, int32_t *groups, size_t groups_len, uint16_t name,
+                       int32_t *sheet, size_t sheet_len, uint64_t answer[ENROL_ANSWER_WORDS]);
 void reference_search(const uint8_t *script, size_t script_len, uint32_t d, uint32_t n, uint32_t g, uint64_t tally,
-                      int32_t *table, size_t table_len, size_t count, uint16_t name, int32_t *sheet, size_t sheet_len,
-                      uint64_t answer[ENROL_ANSWER_WORDS]);
+                      int32_t *table, size_t table_len, size_t count, int32_t *groups, size_t groups_len, uint16_t name,
+                      int32_t *sheet, size_t sheet_len, uint64_t answer[ENROL_ANSWER_WORDS]);
 
 static size_t least(size_t one, size_t other)
 {
@@ -96,56 +99,58 @@ static void right_check(const struct call *call, struct lent *lent)
 
 static void copy(const struct call *call, struct lent *lent)
 {
-    enrol_copy(call->script, call->script_len, call->d, call->n, call->g, call->tally, lent->table + GUARD, call->table_len,
-               call->count, call->name, lent->sheet + GUARD, call->sheet_len, own + GUARD, area_len(call),
-               lent->answer + GUARD);
+    enrol_copy(call->script, call->script_len, call->d, call->n, call->g, call->tally, lent->table + GUARD,
+               call->table_len, call->count, lent->groups + GUARD, call->groups_len, call->name, lent->sheet + GUARD,
+               call->sheet_len, own + GUARD, area_len(call), lent->answer + GUARD);
 }
 
 static void right_copy(const struct call *call, struct lent *lent)
 {
     reference_copy(call->script, call->script_len, call->d, call->n, call->g, call->tally, lent->table + GUARD,
-                   call->table_len, call->count, call->name, lent->sheet + GUARD, call->sheet_len, own + GUARD,
-                   area_len(call), lent->answer + GUARD);
+                   call->table_len, call->count, lent->groups + GUARD, call->groups_len, call->name,
+                   lent->sheet + GUARD, call->sheet_len, own + GUARD, area_len(call), lent->answer + GUARD);
 }
 
 static void chain(const struct call *call, struct lent *lent)
 {
     enrol_chain(call->script, call->script_len, call->d, call->n, call->g, call->tally, lent->table + GUARD,
-                call->table_len, call->count, call->name, lent->sheet + GUARD, call->sheet_len, records(),
-                records_len(call), lent->answer + GUARD);
+                call->table_len, call->count, lent->groups + GUARD, call->groups_len, call->name, lent->sheet + GUARD,
+                call->sheet_len, records(), records_len(call), lent->answer + GUARD);
 }
 
 static void right_chain(const struct call *call, struct lent *lent)
 {
     reference_chain(call->script, call->script_len, call->d, call->n, call->g, call->tally, lent->table + GUARD,
-                    call->table_len, call->count, call->name, lent->sheet + GUARD, call->sheet_len, records(),
-                    records_len(call), lent->answer + GUARD);
+                    call->table_len, call->count, lent->groups + GUARD, call->groups_len, call->name,
+                    lent->sheet + GUARD, call->sheet_len, records(), records_len(call), lent->answer + GUARD);
 }
 
 static void display(const struct call *call, struct lent *lent)
 {
     enrol_display(call->script, call->script_len, call->d, call->n, call->g, call->tally, lent->table + GUARD,
-                  call->table_len, call->count, call->name, lent->sheet + GUARD, call->sheet_len, lent->answer + GUARD);
+                  call->table_len, call->count, lent->groups + GUARD, call->groups_len, call->name, lent->sheet + GUARD,
+                  call->sheet_len, lent->answer + GUARD);
 }
 
 static void right_display(const struct call *call, struct lent *lent)
 {
     reference_display(call->script, call->script_len, call->d, call->n, call->g, call->tally, lent->table + GUARD,
-                      call->table_len, call->count, call->name, lent->sheet + GUARD, call->sheet_len,
-                      lent->answer + GUARD);
+                      call->table_len, call->count, lent->groups + GUARD, call->groups_len, call->name,
+                      lent->sheet + GUARD, call->sheet_len, lent->answer + GUARD);
 }
 
 static void search(const struct call *call, struct lent *lent)
 {
     enrol_search(call->script, call->script_len, call->d, call->n, call->g, call->tally, lent->table + GUARD,
-                 call->table_len, call->count, call->name, lent->sheet + GUARD, call->sheet_len, lent->answer + GUARD);
+                 call->table_len, call->count, lent->groups + GUARD, call->groups_len, call->name, lent->sheet + GUARD,
+                 call->sheet_len, lent->answer + GUARD);
 }
 
 static void right_search(const struct call *call, struct lent *lent)
 {
     reference_search(call->script, call->script_len, call->d, call->n, call->g, call->tally, lent->table + GUARD,
-                     call->table_len, call->count, call->name, lent->sheet + GUARD, call->sheet_len,
-                     lent->answer + GUARD);
+                     call->table_len, call->count, lent->groups + GUARD, call->groups_len, call->name,
+                     lent->sheet + GUARD, call->sheet_len, lent->answer + GUARD);
 }
 
 /* An export, the word of its answer that has the cause's number, and how many words it alone is lent. */
@@ -209,7 +214,7 @@ static uint8_t *room_end(void)
     return end;
 }
 
-/* Rubbish everywhere, and the table. */
+/* Rubbish everywhere, the table and its list. */
 static void prepare(const struct call *call, struct lent *lent)
 {
     for (size_t at = 0; at < sizeof lent->answer / sizeof lent->answer[0]; at++) {
@@ -217,9 +222,19 @@ static void prepare(const struct call *call, struct lent *lent)
     }
     memset(lent->table, 0x5a, sizeof lent->table);
     memcpy(lent->table + GUARD, call->table, call->table_len * sizeof call->table[0]);
+    memset(lent->groups, 0xa5, sizeof lent->groups);
+    memcpy(lent->groups + GUARD, call->groups, call->groups_len * sizeof call->groups[0]);
     for (size_t at = 0; at < GUARD + call->sheet_len + GUARD; at++) {
         lent->sheet[at] = (int32_t)(at * UINT32_C(0x9e3779b1) ^ UINT32_C(0xa5a50000));
     }
+}
+
+static void print_list(const int32_t *words, size_t length)
+{
+    for (size_t at = 0; at < length; at++) {
+        fprintf(stderr, "%s%" PRId32, at ? "," : "", words[at]);
+    }
+    fprintf(stderr, "%s ", length ? "" : ".");
 }
 
 /* The call in the form that the differential tests' `again` takes: it says what the check gives as well. */
@@ -231,10 +246,9 @@ static void print_call(const struct export *export, const struct call *call)
     }
     fprintf(stderr, "%s %" PRIu32 " %" PRIu32 " %" PRIu32 " %" PRIu64 " %zu %u ", call->script_len ? "" : "-", call->d,
             call->n, call->g, call->tally, call->count, call->name);
-    for (size_t at = 0; at < call->table_len; at++) {
-        fprintf(stderr, "%s%" PRId32, at ? "," : "", call->table[at]);
-    }
-    fprintf(stderr, "%s %zu %zu\n", call->table_len ? "" : ".", call->sheet_len, export->own_len(call));
+    print_list(call->table, call->table_len);
+    print_list(call->groups, call->groups_len);
+    fprintf(stderr, "%zu %zu\n", call->sheet_len, export->own_len(call));
 }
 
 static void fail(const char *what, size_t length, size_t at, int64_t right, int64_t got)
@@ -287,6 +301,7 @@ static void compare(const struct export *export, const struct call *call, const 
 {
     compare_answers(export, call, right->answer, got->answer);
     compare_words(export, call, "table", call->table_len, right->table, got->table);
+    compare_words(export, call, "list of groups", call->groups_len, right->groups, got->groups);
     compare_words(export, call, "sheet", call->sheet_len, right->sheet, got->sheet);
     if (export->own_len != no_len) {
         compare_own(export, call, right->answer[GUARD + ENROL_ANSWER_END]);

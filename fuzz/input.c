@@ -2,7 +2,7 @@
 
 #include <string.h>
 
-enum { FIRST_EDGE = 240 };
+enum { FIRST_EDGE = 240, FIRST_CHANGED = 192, ONE_MORE = 238, ONE_FEWER = 239 };
 
 #define EDGE(edges, byte) ((edges)[((byte) - FIRST_EDGE) % (sizeof(edges) / sizeof *(edges))])
 
@@ -44,14 +44,75 @@ static int32_t word(uint8_t byte)
 }
 
 /* Too short by a word and more, or as long as asked and more. */
-static size_t sheet_words(uint8_t byte, uint32_t d)
+static size_t about(uint8_t byte, size_t asked, size_t past)
 {
-    size_t asked = ENROL_SHEET_WORDS(d < 257 ? d : 257);
     if (byte < FIRST_EDGE) {
-        return asked + byte;
+        return asked + past;
     }
     size_t missing = byte - FIRST_EDGE + 1u;
     return asked < missing ? 0 : asked - missing;
+}
+
+static size_t sheet_words(uint8_t byte, uint32_t d)
+{
+    return about(byte, ENROL_SHEET_WORDS(d < 257 ? d : 257), byte);
+}
+
+/* Sought from the last place, since the groups of a table often rise. */
+static size_t place_of(int32_t group, const int32_t *groups, size_t used)
+{
+    while (used > 0 && groups[2 * used - 2] >= group) {
+        used--;
+    }
+    return used;
+}
+
+/* The list of the table's groups, and rubbish past it. */
+static void list_groups(struct call *call)
+{
+    size_t needed = ENROL_LIST_WORDS(call->table_len), used = 0;
+    memset(call->groups, 0, needed * sizeof call->groups[0]);
+    memset(call->groups + needed, 0x5a, (MOST_LIST - needed) * sizeof call->groups[0]);
+    for (size_t pair = 0; pair < call->count && 2 * pair < needed; pair++) {
+        int32_t group = call->table[2 * pair];
+        size_t place = place_of(group, call->groups, used);
+        int32_t *words = call->groups + 2 * place;
+        if (place == used || words[0] != group) {
+            memmove(words + 2, words, 2 * (used - place) * sizeof *words);
+            words[0] = group;
+            words[1] = 0;
+            used++;
+        }
+        words[1]++;
+    }
+}
+
+/* Mostly no word. */
+static void change_list(struct call *call, uint8_t which, uint8_t what)
+{
+    size_t needed = ENROL_LIST_WORDS(call->table_len);
+    if (which < FIRST_CHANGED || needed == 0) {
+        return;
+    }
+    size_t at = (which - FIRST_CHANGED) % needed;
+    if (what == ONE_MORE || what == ONE_FEWER) {
+        call->groups[at] = (int32_t)((uint32_t)call->groups[at] + (what == ONE_MORE ? 1u : UINT32_MAX));
+    } else {
+        call->groups[at] = word(what);
+    }
+}
+
+/* Mostly none. */
+static void exchange_places(struct call *call, uint8_t which)
+{
+    size_t needed = ENROL_LIST_WORDS(call->table_len);
+    if (which < FIRST_CHANGED || needed < 4) {
+        return;
+    }
+    size_t at = 2u * (which - FIRST_CHANGED) % (needed - 2);
+    int32_t place[2] = {call->groups[at], call->groups[at + 1]};
+    memcpy(call->groups + at, call->groups + at + 2, sizeof place);
+    memcpy(call->groups + at + 2, place, sizeof place);
 }
 
 void call_of(const uint8_t *bytes, size_t length, struct call *call)
@@ -72,4 +133,9 @@ void call_of(const uint8_t *bytes, size_t length, struct call *call)
     for (size_t at = 0; at < MOST_WORDS; at++) {
         call->table[at] = at < GIVEN_WORDS ? word(header[HEADER - GIVEN_WORDS + at]) : at % 2 ? 1 : 1000 + (int32_t)at;
     }
+    call->groups_len = about(header[10], ENROL_LIST_WORDS(call->table_len), header[10] % (MOST_PAST + 1));
+    list_groups(call);
+    change_list(call, header[11], header[12]);
+    change_list(call, header[13], header[14]);
+    exchange_places(call, header[15]);
 }

@@ -21,7 +21,7 @@ static size_t below(size_t most)
 /* Half of the time a number at a bound. */
 static void change_header(uint8_t *header)
 {
-    size_t at = below(2) ? below(10) : below(HEADER);
+    size_t at = below(2) ? below(16) : below(HEADER);
     header[at] = (uint8_t)(below(2) ? below(256) : below(2) ? below(8) : 240 + below(16));
 }
 

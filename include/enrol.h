@@ -26,9 +26,9 @@
  * of stack.
  *
  * A lent slice is a pointer and a length. No pointer is null: a slice's is not, even where the length is 0, and an
- * answer's is not either. Nothing else writes to what is lent during the call; what a call may write to (table, sheet,
- * area, records, answer) overlaps nothing else that it is lent. Beyond that nothing is asked: any bytes, words and
- * numbers may be handed in, and what does not fit is refused.
+ * answer's is not either. Nothing else writes to what is lent during the call; what a call may write to (table, groups,
+ * sheet, area, records, answer) overlaps nothing else that it is lent. Beyond that nothing is asked: any bytes, words
+ * and numbers may be handed in, and what does not fit is refused.
  */
 #ifndef ENROL_H
 #define ENROL_H
@@ -57,9 +57,11 @@ extern "C" {
 #define ENROL_ANSWER_WORDS 9
 
 /* Words that must be lent for d activations: the sheet's, 35 for each, and the copying engine's area for a script of
- * script_len bytes. The chain engine is lent d records. */
+ * script_len bytes. The chain engine is lent d records. Words of the list of groups beside a table of table_len words:
+ * a place of two for each pair that the table can hold. */
 #define ENROL_SHEET_WORDS(d) ((size_t)(d) * (ENROL_SHEET_NAMES + ENROL_MOST_NAMES))
 #define ENROL_AREA_WORDS(d, script_len) ((size_t)(d) * ((size_t)(script_len) / 2))
+#define ENROL_LIST_WORDS(table_len) ((size_t)(table_len) / 2 * 2)
 
 /* A designator names one declared name of a live activation: the activation's number, counted from 1 at the outermost,
  * times 64, plus the name's position among the activation's names, from 1. 0 names none. */
@@ -89,7 +91,8 @@ extern "C" {
  *       The rest of a call, refused by every run:
  *      12  D, N, G or the tally out of range                           0
  *      13  a lent area too short                                       0
- *      14  a table that is not right                                   0
+ *      14  a table that is not right, or a list of groups that is not  0
+ *          the table's
  *
  *       A run, stopped before the statement:
  *      21  the result of AR does not fit into signed 32 bits           the AR
@@ -101,11 +104,12 @@ extern "C" {
  *          number or kind from those of the procedure that it
  *          finally stands for
  *
- * Order of refusals: 12; 13 for the sheet and the records; 14; then the script's; last of all 13 for the copying area.
- * Of the script's 1; then record by record in file order 2 to 4 and 6 to 8; then 5; then 9 to 11, record by record in
- * file order. Of one record: its mark is there (2), may stand there (3), its fields are there (2), then 4, 6, 7, 8. The
- * argument count of a CL is judged (4) before its argument names are looked for (2). The names of a record are judged
- * from left to right, each by 9 and then 10; of a CL the called name by 9 and 10, its arguments by 9, then 11.
+ * Order of refusals: 12; 13 for the sheet, the records and the list; 14 for the table, then for the list; then the
+ * script's; last of all 13 for the copying area. Of the script's 1; then record by record in file order 2 to 4 and 6 to
+ * 8; then 5; then 9 to 11, record by record in file order. Of one record: its mark is there (2), may stand there (3),
+ * its fields are there (2), then 4, 6, 7, 8. The argument count of a CL is judged (4) before its argument names are
+ * looked for (2). The names of a record are judged from left to right, each by 9 and then 10; of a CL the called name
+ * by 9 and 10, its arguments by 9, then 11.
  *
  * Order of stops of one statement: 23, 24, 25; and 26 before 22.
  *
@@ -187,6 +191,8 @@ enum enrol_sheet {
  * table      table_len words, two for each pair (group, member), of which the first `count' pairs are in use.
  *            It is right when table_len is even, the count fits, all numbers in use are at least 1, no pair in use
  *            stands twice and no group has more than g of them. What lies past the pairs in use may be anything.
+ * groups     groups_len words, at least ENROL_LIST_WORDS(table_len): the list of the table's groups, `how the list is
+ *            kept' below. What lies past these words may be anything.
  * name       a name to look up where the run ends, in the innermost live block
  * sheet      sheet_len words, at least ENROL_SHEET_WORDS(d), whatever they hold
  *
@@ -194,14 +200,28 @@ enum enrol_sheet {
  * answer     all nine words, always
  * table      with the pairs that AD has added at the end and without those that RM has taken out: later pairs have
  *            moved down by one and the place freed last holds 0, 0
+ * groups     the list of the table as it now is
  * sheet      the state where the run ended, in the first answer[ENROL_ANSWER_SHEET] words
  *
- * Left alone: the script; the table past all places that were ever in use; the sheet past the words written. Where the
- * call is refused, only the answer is written: all else that is lent keeps every word, and the answer has 0 steps, the
- * count and the tally as they were given, 0 sheet words, designator 0 and 0 links.
+ * Left alone: the script; the table past all places that were ever in use; the list past the words that it needs; the
+ * sheet past the words written. Where the call is refused, only the answer is written: all else that is lent keeps
+ * every word, and the answer has 0 steps, the count and the tally as they were given, 0 sheet words, designator 0 and 0
+ * links.
  *
  * Where a run is stopped, all is as it was before the statement at fault: the number of that statement is still the
  * next one on the sheet.
+ *
+ * How the list is kept. Two words make a place: a group and its number of members in the table. It is the table's when
+ * each group of a pair in use has one place and no other group has any, the groups rise from place to place, each
+ * number is the count of the group's pairs in use, and every place after the last of them is 0, 0. Each table has one
+ * such list. An empty table's
+ * has 0 in every word; beside (7,1), (5,7), (5,9) and two free places it is
+ *
+ *     5 2  7 1  0 0  0 0  0 0
+ *
+ * A call tests the list that it is handed, and leaves it as the table's, whether it has finished, was spent or stopped:
+ * with the table and the pairs of the answer it goes into the next call as it is. A caller that changes the table
+ * itself changes the list too. AD reads from it how many members its group has.
  *
  * How a sheet is read. The live activations follow each other from the outermost, numbered from 1. Each has the byte
  * offset of its block's BK, the number of its next statement (one more than the block has where none is left), the
@@ -264,8 +284,8 @@ enum enrol_sheet {
  * answer     0 links
  */
 void enrol_copy(const uint8_t *script, size_t script_len, uint32_t d, uint32_t n, uint32_t g, uint64_t tally,
-                int32_t *table, size_t table_len, size_t count, uint16_t name, int32_t *sheet, size_t sheet_len,
-                uint32_t *area, size_t area_len, uint64_t answer[ENROL_ANSWER_WORDS]);
+                int32_t *table, size_t table_len, size_t count, int32_t *groups, size_t groups_len, uint16_t name,
+                int32_t *sheet, size_t sheet_len, uint32_t *area, size_t area_len, uint64_t answer[ENROL_ANSWER_WORDS]);
 
 /* An activation record of the chain engine: where the activation's block stands, its next statement, and the record that
  * its static link leads to. */
@@ -282,22 +302,23 @@ struct enrol_activation {
  *            looked-up name as written, 0 to 15; 0 where the name is not visible or no block is live
  */
 void enrol_chain(const uint8_t *script, size_t script_len, uint32_t d, uint32_t n, uint32_t g, uint64_t tally,
-                 int32_t *table, size_t table_len, size_t count, uint16_t name, int32_t *sheet, size_t sheet_len,
-                 struct enrol_activation *records, size_t records_len, uint64_t answer[ENROL_ANSWER_WORDS]);
+                 int32_t *table, size_t table_len, size_t count, int32_t *groups, size_t groups_len, uint16_t name,
+                 int32_t *sheet, size_t sheet_len, struct enrol_activation *records, size_t records_len,
+                 uint64_t answer[ENROL_ANSWER_WORDS]);
 
 /* Runs a script on the display engine, which finds a name in an array of the activations around the innermost block's
  * text. It is lent nothing beside what every engine is, and gives 0 links. */
 void enrol_display(const uint8_t *script, size_t script_len, uint32_t d, uint32_t n, uint32_t g, uint64_t tally,
-                   int32_t *table, size_t table_len, size_t count, uint16_t name, int32_t *sheet, size_t sheet_len,
-                   uint64_t answer[ENROL_ANSWER_WORDS]);
+                   int32_t *table, size_t table_len, size_t count, int32_t *groups, size_t groups_len, uint16_t name,
+                   int32_t *sheet, size_t sheet_len, uint64_t answer[ENROL_ANSWER_WORDS]);
 
 /* Runs a script on the search engine, which seeks a name in the innermost activation, then in the one that called or
  * entered it, and so on outwards. Only from an activation that was entered through a procedure formal it goes on at
  * another one: at the activation in whose text the procedure stood under its own name when it was handed over. It is
  * lent nothing beside what every engine is, and gives 0 links. */
 void enrol_search(const uint8_t *script, size_t script_len, uint32_t d, uint32_t n, uint32_t g, uint64_t tally,
-                  int32_t *table, size_t table_len, size_t count, uint16_t name, int32_t *sheet, size_t sheet_len,
-                  uint64_t answer[ENROL_ANSWER_WORDS]);
+                  int32_t *table, size_t table_len, size_t count, int32_t *groups, size_t groups_len, uint16_t name,
+                  int32_t *sheet, size_t sheet_len, uint64_t answer[ENROL_ANSWER_WORDS]);
 
 #ifdef __cplusplus
 }

@@ -130,20 +130,50 @@ pub fn many_arguments() -> Vec<u8> {
     )
 }
 
+const GROUP: Name = 40;
+const MEMBER: Name = 41;
+
+/// A program that begins with a pair and goes through its turn without end; four steps come before the first turn.
+fn on_table(pair: [i32; 2], turn: Vec<Action>) -> Vec<u8> {
+    let asked: Name = 42;
+    let mut declarations = variables([COUNTER, ONE, MOST, TEST, GROUP, MEMBER, asked].into_iter());
+    declarations.push(declaration(AGAIN, Declared::Label(5)));
+    let mut actions =
+        vec![set(ONE, 1), set(MOST, i32::MAX), set(GROUP, pair[0]), set(MEMBER, pair[1])];
+    actions.extend(turn);
+    encode(&block(declarations, actions)).bytes
+}
+
 /// In each turn a pair is added, asked for and taken out again.
 pub fn table_work() -> Vec<u8> {
-    let (group, member, asked) = (40, 41, 42);
+    let (group, member) = (GROUP, MEMBER);
     let turn = vec![
         Action::Add { group, member },
-        Action::Query { target: asked, group, member },
+        Action::Query { target: 42, group, member },
         Action::Remove { group, member },
+        plus(COUNTER, COUNTER, ONE),
+        less(TEST, COUNTER, MOST),
+        jump_if(TEST, AGAIN),
     ];
-    let mut declarations = variables([COUNTER, ONE, MOST, TEST, group, member, asked].into_iter());
-    declarations.push(declaration(AGAIN, Declared::Label(5)));
-    let mut actions = vec![set(ONE, 1), set(MOST, i32::MAX), set(group, 1_000_000), set(member, 1)];
-    actions.extend(turn);
-    actions.extend([plus(COUNTER, COUNTER, ONE), less(TEST, COUNTER, MOST), jump_if(TEST, AGAIN)]);
-    encode(&block(declarations, actions)).bytes
+    on_table([1_000_000, 1], turn)
+}
+
+/// In each turn group 1 gets another member.
+pub fn members_added() -> Vec<u8> {
+    let add = Action::Add { group: GROUP, member: MEMBER };
+    on_table([1, 1_000_000], vec![add, plus(MEMBER, MEMBER, ONE), Action::Go { label: AGAIN }])
+}
+
+/// In each turn the next group gets a member.
+pub fn groups_added() -> Vec<u8> {
+    let add = Action::Add { group: GROUP, member: MEMBER };
+    on_table([1, 1], vec![add, plus(GROUP, GROUP, ONE), Action::Go { label: AGAIN }])
+}
+
+/// In each turn member 1 leaves the next group.
+pub fn groups_emptied() -> Vec<u8> {
+    let remove = Action::Remove { group: GROUP, member: MEMBER };
+    on_table([1, 1], vec![remove, plus(GROUP, GROUP, ONE), Action::Go { label: AGAIN }])
 }
 
 /// The counting loop sixteen levels deep, its variables and its label fifteen levels away or none.

@@ -84,5 +84,5 @@ fn microseconds(time: Duration) -> String {
 }
 
 fn print_line(workload: &str, size: &str, library: &str, reference: &str, ratio: &str) {
-    println!("{workload:<36} {size:>14} {library:>14} {reference:>14} {ratio:>7}");
+    println!("{workload:<44} {size:>14} {library:>14} {reference:>14} {ratio:>7}");
 }

@@ -14,6 +14,8 @@ extern "C" {
         table: *mut i32,
         table_len: usize,
         count: usize,
+        groups: *mut i32,
+        groups_len: usize,
         name: u16,
         sheet: *mut i32,
         sheet_len: usize,
@@ -29,6 +31,8 @@ extern "C" {
         table: *mut i32,
         table_len: usize,
         count: usize,
+        groups: *mut i32,
+        groups_len: usize,
         name: u16,
         sheet: *mut i32,
         sheet_len: usize,
@@ -46,6 +50,8 @@ extern "C" {
         table: *mut i32,
         table_len: usize,
         count: usize,
+        groups: *mut i32,
+        groups_len: usize,
         name: u16,
         sheet: *mut i32,
         sheet_len: usize,
@@ -63,6 +69,8 @@ extern "C" {
         table: *mut i32,
         table_len: usize,
         count: usize,
+        groups: *mut i32,
+        groups_len: usize,
         name: u16,
         sheet: *mut i32,
         sheet_len: usize,
@@ -89,6 +97,8 @@ type OnNothing = unsafe extern "C" fn(
     *mut i32,
     usize,
     usize,
+    *mut i32,
+    usize,
     u16,
     *mut i32,
     usize,
@@ -105,6 +115,8 @@ type OnElements<T> = unsafe extern "C" fn(
     u64,
     *mut i32,
     usize,
+    usize,
+    *mut i32,
     usize,
     u16,
     *mut i32,
@@ -149,6 +161,7 @@ pub struct Asked {
 pub struct Ran {
     pub answer: Answer,
     pub table: Vec<i32>,
+    pub groups: Vec<i32>,
     pub sheet: Vec<i32>,
     /// What only one engine is lent.
     pub working: Vec<u32>,
@@ -176,12 +189,24 @@ pub fn guarded_check(script: &[u8]) -> Result<Checked, Strayed> {
     Ok([answer[0], answer[1]])
 }
 
-pub fn display(script: &[u8], asked: &Asked, table: &mut [i32], sheet: &mut [i32]) -> Answer {
-    on_nothing(enrol_display, script, asked, table, sheet)
+pub fn display(
+    script: &[u8],
+    asked: &Asked,
+    table: &mut [i32],
+    groups: &mut [i32],
+    sheet: &mut [i32],
+) -> Answer {
+    on_nothing(enrol_display, script, asked, table, groups, sheet)
 }
 
-pub fn search(script: &[u8], asked: &Asked, table: &mut [i32], sheet: &mut [i32]) -> Answer {
-    on_nothing(enrol_search, script, asked, table, sheet)
+pub fn search(
+    script: &[u8],
+    asked: &Asked,
+    table: &mut [i32],
+    groups: &mut [i32],
+    sheet: &mut [i32],
+) -> Answer {
+    on_nothing(enrol_search, script, asked, table, groups, sheet)
 }
 
 fn on_nothing(
@@ -189,6 +214,7 @@ fn on_nothing(
     script: &[u8],
     asked: &Asked,
     table: &mut [i32],
+    groups: &mut [i32],
     sheet: &mut [i32],
 ) -> Answer {
     let mut answer = [0; 9];
@@ -205,6 +231,8 @@ fn on_nothing(
             table.as_mut_ptr(),
             table.len(),
             count,
+            groups.as_mut_ptr(),
+            groups.len(),
             name,
             sheet.as_mut_ptr(),
             sheet.len(),
@@ -218,18 +246,57 @@ pub fn guarded_display(
     script: &[u8],
     asked: &Asked,
     table: &[i32],
+    groups: &[i32],
     sheet: &[i32],
 ) -> Result<Ran, Strayed> {
-    guarded_on_nothing(enrol_display, script, asked, table, sheet)
+    guarded_on_nothing(enrol_display, script, asked, table, groups, sheet)
 }
 
 pub fn guarded_search(
     script: &[u8],
     asked: &Asked,
     table: &[i32],
+    groups: &[i32],
     sheet: &[i32],
 ) -> Result<Ran, Strayed> {
-    guarded_on_nothing(enrol_search, script, asked, table, sheet)
+    guarded_on_nothing(enrol_search, script, asked, table, groups, sheet)
+}
+
+/// What every engine is lent, between guards.
+struct Guarded {
+    script: Lent<u8>,
+    table: Lent<i32>,
+    groups: Lent<i32>,
+    sheet: Lent<i32>,
+    answer: Lent<u64>,
+}
+
+impl Guarded {
+    fn new(script: &[u8], table: &[i32], groups: &[i32], sheet: &[i32]) -> Self {
+        Guarded {
+            script: Lent::new("script", script, 0x5a),
+            table: Lent::new("table", table, GUARD),
+            groups: Lent::new("list of groups", groups, GUARD),
+            sheet: Lent::new("sheet", sheet, GUARD),
+            answer: Lent::new("answer", &[UNWRITTEN; 9], !UNWRITTEN),
+        }
+    }
+
+    /// What has become of it, where nothing else has changed.
+    fn ran(&self, working: Vec<u32>) -> Result<Ran, Strayed> {
+        self.script.all_holds()?;
+        self.table.guards_hold()?;
+        self.groups.guards_hold()?;
+        self.sheet.guards_hold()?;
+        self.answer.guards_hold()?;
+        Ok(Ran {
+            answer: self.answer.contents().try_into().expect("there are nine words"),
+            table: self.table.contents().to_vec(),
+            groups: self.groups.contents().to_vec(),
+            sheet: self.sheet.contents().to_vec(),
+            working,
+        })
+    }
 }
 
 fn guarded_on_nothing(
@@ -237,38 +304,32 @@ fn guarded_on_nothing(
     script: &[u8],
     asked: &Asked,
     table: &[i32],
+    groups: &[i32],
     sheet: &[i32],
 ) -> Result<Ran, Strayed> {
-    let mut script = Lent::new("script", script, 0x5a);
-    let mut table = Lent::new("table", table, GUARD);
-    let mut sheet = Lent::new("sheet", sheet, GUARD);
-    let mut answer = Lent::new("answer", &[UNWRITTEN; 9], !UNWRITTEN);
+    let mut lent = Guarded::new(script, table, groups, sheet);
     let Asked { d, n, g, tally, count, name } = *asked;
     // SAFETY: all pointers are to as many words as the call is told of.
     unsafe {
         engine(
-            script.pointer(),
-            script.length(),
+            lent.script.pointer(),
+            lent.script.length(),
             d,
             n,
             g,
             tally,
-            table.pointer(),
-            table.length(),
+            lent.table.pointer(),
+            lent.table.length(),
             count,
+            lent.groups.pointer(),
+            lent.groups.length(),
             name,
-            sheet.pointer(),
-            sheet.length(),
-            answer.pointer(),
+            lent.sheet.pointer(),
+            lent.sheet.length(),
+            lent.answer.pointer(),
         )
     };
-    script.all_holds()?;
-    table.guards_hold()?;
-    sheet.guards_hold()?;
-    answer.guards_hold()?;
-    let answer = answer.contents().try_into().expect("there are nine words");
-    let (table, sheet) = (table.contents().to_vec(), sheet.contents().to_vec());
-    Ok(Ran { answer, table, sheet, working: Vec::new() })
+    lent.ran(Vec::new())
 }
 
 /// `area` has room for the script's words for each activation.
@@ -276,10 +337,11 @@ pub fn copy(
     script: &[u8],
     asked: &Asked,
     table: &mut [i32],
+    groups: &mut [i32],
     sheet: &mut [i32],
     area: &mut [u32],
 ) -> Answer {
-    on_words(&COPY, script, asked, table, sheet, area)
+    on_words(&COPY, script, asked, table, groups, sheet, area)
 }
 
 /// `records` has three words for each activation's record.
@@ -287,10 +349,11 @@ pub fn chain(
     script: &[u8],
     asked: &Asked,
     table: &mut [i32],
+    groups: &mut [i32],
     sheet: &mut [i32],
     records: &mut [u32],
 ) -> Answer {
-    on_words(&CHAIN, script, asked, table, sheet, records)
+    on_words(&CHAIN, script, asked, table, groups, sheet, records)
 }
 
 fn on_words(
@@ -298,6 +361,7 @@ fn on_words(
     script: &[u8],
     asked: &Asked,
     table: &mut [i32],
+    groups: &mut [i32],
     sheet: &mut [i32],
     own: &mut [u32],
 ) -> Answer {
@@ -315,6 +379,8 @@ fn on_words(
             table.as_mut_ptr(),
             table.len(),
             count,
+            groups.as_mut_ptr(),
+            groups.len(),
             name,
             sheet.as_mut_ptr(),
             sheet.len(),
@@ -330,20 +396,22 @@ pub fn guarded_copy(
     script: &[u8],
     asked: &Asked,
     table: &[i32],
+    groups: &[i32],
     sheet: &[i32],
     area: &[u32],
 ) -> Result<Ran, Strayed> {
-    guarded_on_words(&COPY, script, asked, table, sheet, area)
+    guarded_on_words(&COPY, script, asked, table, groups, sheet, area)
 }
 
 pub fn guarded_chain(
     script: &[u8],
     asked: &Asked,
     table: &[i32],
+    groups: &[i32],
     sheet: &[i32],
     records: &[u32],
 ) -> Result<Ran, Strayed> {
-    guarded_on_words(&CHAIN, script, asked, table, sheet, records)
+    guarded_on_words(&CHAIN, script, asked, table, groups, sheet, records)
 }
 
 fn guarded_on_words(
@@ -351,41 +419,35 @@ fn guarded_on_words(
     script: &[u8],
     asked: &Asked,
     table: &[i32],
+    groups: &[i32],
     sheet: &[i32],
     own: &[u32],
 ) -> Result<Ran, Strayed> {
-    let mut script = Lent::new("script", script, 0x5a);
-    let mut table = Lent::new("table", table, GUARD);
-    let mut sheet = Lent::new("sheet", sheet, GUARD);
+    let mut lent = Guarded::new(script, table, groups, sheet);
     let mut own = Lent::new("the engine's own words", own, GUARD as u32);
-    let mut answer = Lent::new("answer", &[UNWRITTEN; 9], !UNWRITTEN);
     let Asked { d, n, g, tally, count, name } = *asked;
     // SAFETY: all pointers are to as many words as the call is told of.
     unsafe {
         (engine.call)(
-            script.pointer(),
-            script.length(),
+            lent.script.pointer(),
+            lent.script.length(),
             d,
             n,
             g,
             tally,
-            table.pointer(),
-            table.length(),
+            lent.table.pointer(),
+            lent.table.length(),
             count,
+            lent.groups.pointer(),
+            lent.groups.length(),
             name,
-            sheet.pointer(),
-            sheet.length(),
+            lent.sheet.pointer(),
+            lent.sheet.length(),
             own.pointer(),
             own.length() / engine.unit,
-            answer.pointer(),
+            lent.answer.pointer(),
         )
     };
-    script.all_holds()?;
-    table.guards_hold()?;
-    sheet.guards_hold()?;
     own.guards_hold()?;
-    answer.guards_hold()?;
-    let answer = answer.contents().try_into().expect("there are nine words");
-    let (table, sheet) = (table.contents().to_vec(), sheet.contents().to_vec());
-    Ok(Ran { answer, table, sheet, working: own.contents().to_vec() })
+    lent.ran(own.contents().to_vec())
 }

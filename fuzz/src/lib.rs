@@ -2,7 +2,7 @@
 
 use std::slice;
 
-use reference::{Engine, Request};
+use reference::{Engine, Lent, Request};
 
 /// Runs up to this many steps are made by the copy rule, longer ones by the fast implementation.
 const COPIED_STEPS: u32 = 100;
@@ -38,6 +38,8 @@ pub unsafe extern "C" fn reference_copy(
     table: *mut i32,
     table_len: usize,
     count: usize,
+    groups: *mut i32,
+    groups_len: usize,
     name: u16,
     sheet: *mut i32,
     sheet_len: usize,
@@ -47,10 +49,11 @@ pub unsafe extern "C" fn reference_copy(
 ) {
     let script = unsafe { slice::from_raw_parts(script, script_len) };
     let table = unsafe { slice::from_raw_parts_mut(table, table_len) };
+    let groups = unsafe { slice::from_raw_parts_mut(groups, groups_len) };
     let sheet = unsafe { slice::from_raw_parts_mut(sheet, sheet_len) };
     let engine = Engine::Copying { area: area_len };
     let request = Request { engine, script, d, n, g, tally, count, name };
-    unsafe { *answer = run(&request, table, sheet) };
+    unsafe { *answer = run(&request, Lent { table, groups, sheet }) };
 }
 
 /// As enrol_chain.
@@ -68,6 +71,8 @@ pub unsafe extern "C" fn reference_chain(
     table: *mut i32,
     table_len: usize,
     count: usize,
+    groups: *mut i32,
+    groups_len: usize,
     name: u16,
     sheet: *mut i32,
     sheet_len: usize,
@@ -77,10 +82,11 @@ pub unsafe extern "C" fn reference_chain(
 ) {
     let script = unsafe { slice::from_raw_parts(script, script_len) };
     let table = unsafe { slice::from_raw_parts_mut(table, table_len) };
+    let groups = unsafe { slice::from_raw_parts_mut(groups, groups_len) };
     let sheet = unsafe { slice::from_raw_parts_mut(sheet, sheet_len) };
     let engine = Engine::Chain { records: records_len };
     let request = Request { engine, script, d, n, g, tally, count, name };
-    unsafe { *answer = run(&request, table, sheet) };
+    unsafe { *answer = run(&request, Lent { table, groups, sheet }) };
 }
 
 /// As enrol_display.
@@ -98,6 +104,8 @@ pub unsafe extern "C" fn reference_display(
     table: *mut i32,
     table_len: usize,
     count: usize,
+    groups: *mut i32,
+    groups_len: usize,
     name: u16,
     sheet: *mut i32,
     sheet_len: usize,
@@ -105,9 +113,10 @@ pub unsafe extern "C" fn reference_display(
 ) {
     let script = unsafe { slice::from_raw_parts(script, script_len) };
     let table = unsafe { slice::from_raw_parts_mut(table, table_len) };
+    let groups = unsafe { slice::from_raw_parts_mut(groups, groups_len) };
     let sheet = unsafe { slice::from_raw_parts_mut(sheet, sheet_len) };
     let request = Request { engine: Engine::Display, script, d, n, g, tally, count, name };
-    unsafe { *answer = run(&request, table, sheet) };
+    unsafe { *answer = run(&request, Lent { table, groups, sheet }) };
 }
 
 /// As enrol_search; a run by search must come to the same.
@@ -125,6 +134,8 @@ pub unsafe extern "C" fn reference_search(
     table: *mut i32,
     table_len: usize,
     count: usize,
+    groups: *mut i32,
+    groups_len: usize,
     name: u16,
     sheet: *mut i32,
     sheet_len: usize,
@@ -132,27 +143,27 @@ pub unsafe extern "C" fn reference_search(
 ) {
     let script = unsafe { slice::from_raw_parts(script, script_len) };
     let table = unsafe { slice::from_raw_parts_mut(table, table_len) };
+    let groups = unsafe { slice::from_raw_parts_mut(groups, groups_len) };
     let sheet = unsafe { slice::from_raw_parts_mut(sheet, sheet_len) };
     let request = Request { engine: Engine::Search, script, d, n, g, tally, count, name };
-    let searched =
-        (n <= SEARCHED_STEPS).then(|| by_search(&request, table.to_vec(), sheet.to_vec()));
-    let words = run(&request, table, sheet);
+    let searched = (n <= SEARCHED_STEPS)
+        .then(|| by_search(&request, [table.to_vec(), groups.to_vec(), sheet.to_vec()]));
+    let words = run(&request, Lent { table, groups, sheet });
     if let Some(searched) = searched {
-        assert!(searched == (words, table.to_vec(), sheet.to_vec()), "search differs: {request:?}");
+        let copied = (words, [table.to_vec(), groups.to_vec(), sheet.to_vec()]);
+        assert!(searched == copied, "search differs: {request:?}");
     }
     unsafe { *answer = words };
 }
 
-fn by_search(
-    request: &Request,
-    mut table: Vec<i32>,
-    mut sheet: Vec<i32>,
-) -> ([u64; 9], Vec<i32>, Vec<i32>) {
-    let answer = reference::search::run(request, &mut table, &mut sheet);
-    (answer.words(), table, sheet)
+/// The answer, and what has become of table, list and sheet.
+fn by_search(request: &Request, mut lent: [Vec<i32>; 3]) -> ([u64; 9], [Vec<i32>; 3]) {
+    let [table, groups, sheet] = &mut lent;
+    let answer = reference::search::run(request, Lent { table, groups, sheet });
+    (answer.words(), lent)
 }
 
-fn run(request: &Request, table: &mut [i32], sheet: &mut [i32]) -> [u64; 9] {
+fn run(request: &Request, lent: Lent) -> [u64; 9] {
     let run = if request.n <= COPIED_STEPS { reference::run } else { reference::fast::run };
-    run(request, table, sheet).words()
+    run(request, lent).words()
 }

@@ -3,15 +3,18 @@
 use crate::bounds::{ACTIVATIONS, ALLOWANCE, GROUP_LIMIT, SHEET_WORDS, TALLY};
 use crate::cause::{Refusal, Refused};
 use crate::check::check;
-use crate::request::{Engine, Request};
-use crate::table;
+use crate::request::{Engine, Lent, Request};
+use crate::table::{is_right, list_is_right, list_words};
 use crate::tree::Block;
 
 /// The tree of a script that is to be run.
-pub fn judge(request: &Request, words: &[i32], sheet: usize) -> Result<Block, Refused> {
+pub fn judge(request: &Request, lent: &Lent) -> Result<Block, Refused> {
     limits(request)?;
-    lent(request, sheet)?;
-    if !table::is_right(words, request.count, request.g) {
+    sheet_and_records(request, lent)?;
+    list_length(lent)?;
+    let right = is_right(lent.table, request.count, request.g)
+        && list_is_right(lent.groups, lent.table, request.count);
+    if !right {
         return Err(Refusal::Table.at(0));
     }
     let program = check(request.script)?;
@@ -31,14 +34,22 @@ pub fn limits(request: &Request) -> Result<(), Refused> {
     }
 }
 
-/// The sheet, and the chain engine's records.
-pub fn lent(request: &Request, sheet: usize) -> Result<(), Refused> {
+pub fn sheet_and_records(request: &Request, lent: &Lent) -> Result<(), Refused> {
     let d = request.d as usize;
     let records_fit = match request.engine {
         Engine::Chain { records } => records >= d,
         Engine::Copying { .. } | Engine::Display | Engine::Search => true,
     };
-    if sheet >= d * SHEET_WORDS && records_fit {
+    if lent.sheet.len() >= d * SHEET_WORDS && records_fit {
+        Ok(())
+    } else {
+        Err(Refusal::TooShort.at(0))
+    }
+}
+
+/// Beside a table of odd length too, which is refused after it.
+pub fn list_length(lent: &Lent) -> Result<(), Refused> {
+    if lent.groups.len() >= list_words(lent.table.len()) {
         Ok(())
     } else {
         Err(Refusal::TooShort.at(0))

@@ -22,4 +22,4 @@ pub use answer::{Answer, End};
 pub use cause::{Refusal, Refused, Stop};
 pub use check::check;
 pub use copy_rule::run;
-pub use request::{Engine, Request};
+pub use request::{Engine, Lent, Request};

@@ -1,4 +1,4 @@
-//! What a run is fed besides the table and the sheet.
+//! What a run is fed, and what it is lent.
 
 /// The engine called, with the length of what only it is lent.
 #[derive(Clone, Copy, Debug, PartialEq, Eq)]
@@ -25,4 +25,12 @@ pub struct Request<'a> {
     pub tally: u64,
     pub count: usize,
     pub name: u16,
+}
+
+/// What every run is lent and leaves as the engine must leave it.
+pub struct Lent<'a> {
+    pub table: &'a mut [i32],
+    /// The list of groups: two words a place, a group and its number of members.
+    pub groups: &'a mut [i32],
+    pub sheet: &'a mut [i32],
 }

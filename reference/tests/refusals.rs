@@ -2,7 +2,7 @@
 
 mod support;
 
-use reference::{End, Engine, Refusal, Request};
+use reference::{End, Engine, Lent, Refusal, Request};
 use support::{assemble, Call, UNTOUCHED};
 
 fn small() -> Call {
@@ -15,7 +15,7 @@ fn number(call: &Call, engine: Engine) -> u64 {
         let count = call.count as u64;
         let words = [3, reply.answer.number(), 0, reply.answer.offset, count, 0, call.tally, 0, 0];
         assert_eq!(reply.answer.words(), words);
-        assert_eq!(reply.table, call.table);
+        assert_eq!((reply.table, reply.groups), (call.table.clone(), call.lent_groups()));
         assert!(reply.sheet.iter().all(|&word| word == UNTOUCHED));
     }
     reply.answer.number()
@@ -127,9 +127,12 @@ fn a_refusal_by_each_limit_is_its_own() {
         Request { g: 0, ..request },
         Request { tally: 1_000_000_000_001, ..request },
     ];
+    let end = |request: &Request| {
+        let lent = Lent { table: &mut [], groups: &mut [], sheet: &mut [0; 35] };
+        reference::run(request, lent).end
+    };
     for request in faulty {
-        let answer = reference::run(&request, &mut [], &mut [0; 35]);
-        assert_eq!(answer.end, End::Refused(Refusal::Limits));
+        assert_eq!(end(&request), End::Refused(Refusal::Limits));
     }
-    assert_eq!(reference::run(&request, &mut [], &mut [0; 35]).end, End::Spent);
+    assert_eq!(end(&request), End::Spent);
 }

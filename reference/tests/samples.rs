@@ -45,6 +45,7 @@ fn a_adds_its_pair() {
     ends(&reply, End::Finished, 4, 0);
     assert_eq!(reply.answer.pairs, 1);
     assert_eq!(reply.table[..4], [5, 7, 0, 0]);
+    assert_eq!(reply.groups, [&[5, 1][..], &[0; 14]].concat());
 }
 
 #[test]
@@ -82,19 +83,19 @@ fn b_by(flawed: Run) -> Vec<i32> {
 
 #[test]
 fn b_tells_the_newest_link() {
-    let sheet = b_by(|request, table, sheet| run_flawed(Flaw::NewestLink, request, table, sheet));
+    let sheet = b_by(|request, lent| run_flawed(Flaw::NewestLink, request, lent));
     assert_eq!(sheet[6..], [34, 5, 1, 66, 1, 0, 0, 34, 7, 1, 131, 9, 0, 0, 50, 2, 3]);
 }
 
 #[test]
 fn b_tells_the_caller_shown() {
-    let sheet = b_by(|request, table, sheet| run_flawed(Flaw::CallerShown, request, table, sheet));
+    let sheet = b_by(|request, lent| run_flawed(Flaw::CallerShown, request, lent));
     assert_eq!(sheet[6..], [34, 5, 1, 66, 9, 0, 0, 34, 7, 2, 131, 2, 0, 0, 50, 2, 3]);
 }
 
 #[test]
 fn b_tells_the_newest_shown() {
-    let sheet = b_by(|request, table, sheet| run_flawed(Flaw::NewestShown, request, table, sheet));
+    let sheet = b_by(|request, lent| run_flawed(Flaw::NewestShown, request, lent));
     assert_eq!(sheet[6..], [34, 5, 1, 66, 9, 0, 0, 34, 7, 1, 131, 2, 0, 0, 50, 2, 3]);
 }
 
@@ -203,6 +204,6 @@ fn the_run_program_on_a() {
     for engine in [copying, chain, Engine::Display, Engine::Search] {
         let reply = call(A).on(engine);
         assert_eq!(reply.answer.words(), [0, 0, 4, 0, 1, 0, 4, 0, 0]);
-        assert_eq!(reply.table[..2], [5, 7]);
+        assert_eq!((&reply.table[..2], &reply.groups[..2]), (&[5, 7][..], &[5, 1][..]));
     }
 }

@@ -13,7 +13,7 @@ use support::{assemble, Call, B};
 fn after<T>(text: &str, steps: usize, asked: impl Fn(&State) -> T) -> T {
     let program = reference::check(&assemble(text)).expect("a fit script");
     let numbered = numbered(&program);
-    let mut state = State::new(&numbered.program, 16, 3, Table::new(&mut [], 0));
+    let mut state = State::new(&numbered.program, 16, 3, Table::new(&mut [], 0, &mut []));
     for _ in 0..steps {
         state.step().expect("it does not stop");
     }

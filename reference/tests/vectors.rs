@@ -41,7 +41,7 @@ fn runs_agree() {
         assert_eq!(given, replied(fed), "run {}", number + 1);
     }
     println!("{} runs agree", lines.len());
-    assert_eq!(lines.len(), 450);
+    assert_eq!(lines.len(), 530);
 }
 
 fn replied(fed: &str) -> String {
@@ -55,13 +55,14 @@ fn replied(fed: &str) -> String {
         count: fed[5].parse().unwrap(),
         name: fed[6].parse().unwrap(),
         table: words(fed[7]),
+        groups: Some(words(fed[8])),
         sheet: 35 * fed[1].parse::<usize>().unwrap().min(256),
     };
     let reply = call.run();
     let answer = reply.answer;
     let end = ["finished", "spent", "stopped", "refused"][answer.words()[0] as usize];
     format!(
-        "{end} {} {} {} {} {} {} {} {} {}",
+        "{end} {} {} {} {} {} {} {} {} {} {}",
         answer.number(),
         answer.steps,
         answer.offset,
@@ -71,6 +72,7 @@ fn replied(fed: &str) -> String {
         answer.links,
         list(reply.sheet_words()),
         list(&reply.table),
+        list(&reply.groups),
     )
 }
 

@@ -21,6 +21,8 @@ pub struct Call {
     pub count: usize,
     pub name: u16,
     pub table: Vec<i32>,
+    /// The list of the table's groups, each with its number of members.
+    pub groups: Vec<i32>,
     pub sheet: Vec<i32>,
     /// The copying area, or the chain's records with three words each; empty for the others.
     pub working: Vec<u32>,
@@ -31,6 +33,7 @@ pub struct Call {
 pub struct Reply {
     pub answer: [u64; 9],
     pub table: Vec<i32>,
+    pub groups: Vec<i32>,
     pub sheet: Vec<i32>,
     pub working: Vec<u32>,
 }
@@ -54,6 +57,7 @@ impl Reply {
         };
         self.answer == other.answer
             && self.table == other.table
+            && self.groups == other.groups
             && self.sheet == other.sheet
             && working
     }

@@ -19,11 +19,12 @@ pub fn difference(judge: &Party, party: &Party, call: &Call) -> Option<String> {
         return None;
     }
     Some(format!(
-        "run\n{}: {}\n{}: {}\nsheet {}, working area {}",
+        "run\n{}: {}\n{}: {}\nlist {}, sheet {}, working area {}",
         judge.name,
         brief(&right),
         party.name,
         brief(&other),
+        first_difference(&right.groups, &other.groups),
         first_difference(&right.sheet, &other.sheet),
         first_difference(&right.working, &other.working),
     ))
@@ -32,8 +33,9 @@ pub fn difference(judge: &Party, party: &Party, call: &Call) -> Option<String> {
 /// Without the pattern that lies past the sheet.
 fn brief(reply: &Reply) -> String {
     let written = reply.sheet.len().min(reply.answer[5] as usize);
-    let (answer, sheet, table) = (&reply.answer, &reply.sheet[..written], &reply.table);
-    format!("answer {answer:?}, sheet {sheet:?}, table {table:?}")
+    let Reply { answer, table, groups, .. } = reply;
+    let sheet = &reply.sheet[..written];
+    format!("answer {answer:?}, sheet {sheet:?}, table {table:?}, list {groups:?}")
 }
 
 fn first_difference<T: Copy + PartialEq + Display>(right: &[T], other: &[T]) -> String {

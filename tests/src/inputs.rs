@@ -6,6 +6,7 @@ use crate::edges;
 use crate::encode::encode;
 use crate::generate::program;
 use crate::lent;
+use crate::lists;
 use crate::parties::fast;
 use crate::passing;
 use crate::random::Random;
@@ -42,18 +43,20 @@ pub fn call(random: &mut Random, script: Vec<u8>) -> Call {
     let engine = random.pick(&ENGINES);
     let d = activations(random);
     let g = group_limit(random);
-    let (table, count) = table(random, g);
+    let (table, groups, count) = table(random, g);
     let length = script.len();
     let mut call = Call {
         engine,
         script,
         d,
         n: allowance(random),
-        g,
+        // Now and then a group that was just full is too large.
+        g: if g > 1 && random.chance(3) { g - 1 } else { g },
         tally: tally(random),
         count,
         name: name(random),
         table,
+        groups,
         sheet: lent::sheet(random, d),
         working: lent::working(random, engine, d, length),
     };
@@ -114,26 +117,39 @@ fn name(random: &mut Random) -> u16 {
     random.between(1, 15) as u16
 }
 
-/// Mostly right; past the pairs in use anything may stand.
-fn table(random: &mut Random, g: u32) -> (Vec<i32>, usize) {
+/// Mostly right, with its list; past the pairs in use anything may stand.
+fn table(random: &mut Random, g: u32) -> (Vec<i32>, Vec<i32>, usize) {
     let places = random.between(0, 8);
-    let mut pairs: Vec<(i32, i32)> = Vec::new();
-    for _ in 0..random.between(0, places) {
-        let pair = (random.between(1, 4) as i32, random.between(1, 5) as i32);
-        let members = pairs.iter().filter(|other| other.0 == pair.0).count();
-        if !pairs.contains(&pair) && members < g as usize {
-            pairs.push(pair);
-        }
-    }
+    let pairs = pairs(random, places, g as usize);
     let mut count = pairs.len();
-    let mut words: Vec<i32> = pairs.iter().flat_map(|pair| [pair.0, pair.1]).collect();
+    let mut words = pairs.concat();
     while words.len() < 2 * places {
         words.push(random.between(0, 8) as i32 - 2);
     }
-    if random.chance(3) {
+    let spoiled = random.chance(3);
+    if spoiled {
         spoil(random, &mut words, &mut count);
     }
-    (words, count)
+    let groups = lists::lent(random, &words, count, if spoiled { 25 } else { 1 });
+    (words, groups, count)
+}
+
+/// Few groups, or one, or each pair its own; the last group and member may have the highest number.
+fn pairs(random: &mut Random, places: usize, g: usize) -> Vec<[i32; 2]> {
+    let (groups, members) = random.pick(&[(4, 5), (4, 5), (4, 5), (1, 8), (8, 1)]);
+    let highest = random.chance(15);
+    let number = |it: usize, last: usize| if highest && it == last { i32::MAX } else { it as i32 };
+    let tries = if random.chance(20) { 8 * places } else { random.between(0, places) };
+    let mut pairs: Vec<[i32; 2]> = Vec::new();
+    for _ in 0..tries {
+        let (group, member) = (random.between(1, groups), random.between(1, members));
+        let pair = [number(group, groups), number(member, members)];
+        let size = pairs.iter().filter(|other| other[0] == pair[0]).count();
+        if pairs.len() < places && !pairs.contains(&pair) && size < g {
+            pairs.push(pair);
+        }
+    }
+    pairs
 }
 
 fn spoil(random: &mut Random, words: &mut Vec<i32>, count: &mut usize) {

@@ -9,6 +9,7 @@ pub mod generate;
 pub mod inputs;
 pub mod lent;
 pub mod listing;
+pub mod lists;
 pub mod names;
 pub mod parties;
 pub mod passing;

@@ -2,7 +2,7 @@
 //! from a script to a verdict.
 
 use reference::fast::{run_flawed, Flaw};
-use reference::{Answer, Refused, Request};
+use reference::{Answer, Lent, Refused, Request};
 
 use crate::call::{Call, Engine, Reply, Verdict};
 use crate::quiet::quietly;
@@ -59,36 +59,20 @@ pub fn library() -> Party {
 
 #[cfg(feature = "enrol")]
 fn library_reply(call: &Call) -> Reply {
-    let Call { d, n, g, tally, count, name, .. } = *call;
-    let asked = binding::enrol::Asked { d, n, g, tally, count, name };
-    let ran = match call.engine {
-        Engine::Display => {
-            binding::enrol::guarded_display(&call.script, &asked, &call.table, &call.sheet)
-        }
-        Engine::Chain => binding::enrol::guarded_chain(
-            &call.script,
-            &asked,
-            &call.table,
-            &call.sheet,
-            &call.working,
-        ),
-        Engine::Copying => binding::enrol::guarded_copy(
-            &call.script,
-            &asked,
-            &call.table,
-            &call.sheet,
-            &call.working,
-        ),
-        Engine::Search => {
-            binding::enrol::guarded_search(&call.script, &asked, &call.table, &call.sheet)
-        }
+    use binding::enrol::{
+        guarded_chain, guarded_copy, guarded_display, guarded_search, Asked, Ran,
     };
-    match ran {
-        Ok(ran) => {
-            Reply { answer: ran.answer, table: ran.table, sheet: ran.sheet, working: ran.working }
-        }
-        Err(strayed) => panic!("{strayed}"),
-    }
+    let Call { d, n, g, tally, count, name, .. } = *call;
+    let asked = Asked { d, n, g, tally, count, name };
+    let Call { script, table, groups, sheet, working, .. } = call;
+    let ran = match call.engine {
+        Engine::Display => guarded_display(script, &asked, table, groups, sheet),
+        Engine::Chain => guarded_chain(script, &asked, table, groups, sheet, working),
+        Engine::Copying => guarded_copy(script, &asked, table, groups, sheet, working),
+        Engine::Search => guarded_search(script, &asked, table, groups, sheet),
+    };
+    let Ran { answer, table, groups, sheet, working } = ran.unwrap_or_else(|it| panic!("{it}"));
+    Reply { answer, table, groups, sheet, working }
 }
 
 /// Wrong on purpose; going astray so far that it panics counts as a wrong reply.
@@ -96,24 +80,26 @@ pub fn flawed(flaw: Flaw) -> Party {
     Party {
         name: "flawed",
         run: Box::new(move |call| {
-            let run =
-                || reply(call, |request, table, sheet| run_flawed(flaw, request, table, sheet));
+            let run = || reply(call, |request, lent| run_flawed(flaw, request, lent));
             quietly(run).unwrap_or_else(|| no_reply(call))
         }),
         check: fast().check,
     }
 }
 
-fn reply(call: &Call, run: impl Fn(&Request, &mut [i32], &mut [i32]) -> Answer) -> Reply {
-    let (mut table, mut sheet) = (call.table.clone(), call.sheet.clone());
-    let answer = run(&request(call), &mut table, &mut sheet).words();
-    Reply { answer, table, sheet, working: call.working.clone() }
+fn reply(call: &Call, run: impl Fn(&Request, Lent) -> Answer) -> Reply {
+    let mut reply = no_reply(call);
+    let Reply { table, groups, sheet, .. } = &mut reply;
+    reply.answer = run(&request(call), Lent { table, groups, sheet }).words();
+    reply
 }
 
+/// All that was lent as it was.
 fn no_reply(call: &Call) -> Reply {
     Reply {
         answer: [u64::MAX; 9],
         table: call.table.clone(),
+        groups: call.groups.clone(),
         sheet: call.sheet.clone(),
         working: call.working.clone(),
     }

@@ -5,6 +5,7 @@ use reference::tree::{Action, Block, Declared};
 
 use crate::call::Call;
 use crate::encode::encode;
+use crate::lists;
 
 type Candidates<'a, T> = Box<dyn Iterator<Item = T> + 'a>;
 
@@ -32,13 +33,14 @@ fn cut<T>(
     }
 }
 
-/// Each candidate has a shorter script, a shorter table or a lower number.
+/// Each candidate has a shorter script, a shorter table, a shorter list, a list put right or a lower number.
 fn smaller(call: &Call) -> Candidates<'_, Call> {
     let with = |script| Call { script, ..call.clone() };
     let candidates = without_parts(&call.script)
         .chain(without_words(&call.script))
         .map(with)
         .chain(without_pairs(call))
+        .chain(simpler_lists(call))
         .chain(lower_numbers(call))
         .chain(without_two_parts(&call.script).map(with));
     Box::new(candidates)
@@ -143,13 +145,58 @@ fn without_words(script: &[u8]) -> impl Iterator<Item = Vec<u8>> + '_ {
     })
 }
 
+/// The list becomes the right one, or stays wrong as it is but for the pair that is gone.
 fn without_pairs(call: &Call) -> impl Iterator<Item = Call> + '_ {
-    (0..call.table.len() / 2).rev().map(move |place| {
+    let places = call.table.len() / 2;
+    let needed = (2 * places).min(call.groups.len());
+    let (listed, past) = call.groups.split_at(needed);
+    (0..places).rev().flat_map(move |place| {
         let mut table = call.table.clone();
-        table.drain(2 * place..2 * place + 2);
+        let pair: Vec<i32> = table.drain(2 * place..2 * place + 2).collect();
         let used = place < call.count;
-        Call { table, count: call.count - usize::from(used), ..call.clone() }
+        let count = call.count - usize::from(used);
+        let mut lists = vec![lists::right(&table, count)];
+        if used {
+            lists.push(counted_down(listed, pair[0]));
+        } else if place + 1 == places {
+            lists.extend((0..needed / 2).map(|at| without_place(listed, at)));
+        }
+        lists.into_iter().map(move |list| {
+            let groups = [&list[..], past].concat();
+            Call { table: table.clone(), groups, count, ..call.clone() }
+        })
     })
+}
+
+fn without_place(listed: &[i32], at: usize) -> Vec<i32> {
+    let mut listed = listed.to_vec();
+    listed.drain((2 * at).min(listed.len())..(2 * at + 2).min(listed.len()));
+    listed
+}
+
+/// A place shorter: the group's own where it had one member, else the last.
+fn counted_down(listed: &[i32], group: i32) -> Vec<i32> {
+    let mut counted = listed.to_vec();
+    match listed.chunks_exact(2).position(|place| place[0] == group) {
+        Some(at) if listed[2 * at + 1] != 1 => {
+            counted[2 * at + 1] = listed[2 * at + 1].wrapping_sub(1)
+        }
+        Some(at) => return without_place(listed, at),
+        None => {}
+    }
+    without_place(&counted, (listed.len() / 2).saturating_sub(1))
+}
+
+/// The right list, or a word fewer past the part needed.
+fn simpler_lists(call: &Call) -> impl Iterator<Item = Call> + '_ {
+    let right = lists::right(&call.table, call.count);
+    let shorter = (call.groups.len() > right.len()).then(|| {
+        let groups = call.groups[..call.groups.len() - 1].to_vec();
+        Call { groups, ..call.clone() }
+    });
+    let wrong = call.groups.get(..right.len()) != Some(&right[..]);
+    let righted = wrong.then(|| Call { groups: right, ..call.clone() });
+    shorter.into_iter().chain(righted)
 }
 
 fn lower_numbers(call: &Call) -> impl Iterator<Item = Call> + '_ {

@@ -28,9 +28,9 @@ pub fn line(call: &Call) -> String {
         Engine::Search => String::from("search"),
     };
     let Call { d, n, g, tally, count, name, .. } = call;
-    let (script, table) = (hex(&call.script), list(&call.table));
+    let (script, table, groups) = (hex(&call.script), list(&call.table), list(&call.groups));
     let (sheet, working) = (call.sheet.len(), call.working.len());
-    write!(line, " {script} {d} {n} {g} {tally} {count} {name} {table} {sheet} {working}")
+    write!(line, " {script} {d} {n} {g} {tally} {count} {name} {table} {groups} {sheet} {working}")
         .expect("a string takes all that is written");
     line
 }
@@ -38,7 +38,8 @@ pub fn line(call: &Call) -> String {
 /// The call of a line.
 pub fn parse(line: &str) -> Option<Call> {
     let fields: Vec<&str> = line.split_whitespace().collect();
-    let [engine, script, d, n, g, tally, count, name, table, sheet, working] = fields[..] else {
+    let [engine, script, d, n, g, tally, count, name, table, groups, sheet, working] = fields[..]
+    else {
         return None;
     };
     Some(Call {
@@ -57,6 +58,7 @@ pub fn parse(line: &str) -> Option<Call> {
         count: count.parse().ok()?,
         name: name.parse().ok()?,
         table: words(table)?,
+        groups: words(groups)?,
         sheet: (0..sheet.parse().ok()?).map(|index| pattern(index) as i32).collect(),
         working: (0..working.parse().ok()?).map(pattern).collect(),
     })

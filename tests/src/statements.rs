@@ -188,16 +188,25 @@ impl Generator<'_> {
         Action::Constant { target: self.variable(), value }
     }
 
-    /// Mostly with numbers set just before, from a range near the limits.
+    /// Mostly with numbers set just before, from a range near the limits. Some pairs are taken out that were added just before,
+    /// so that groups come and go.
     fn table_work(&mut self, statements: &mut Vec<Statement>) -> Action {
         let (group, member) = (self.variable(), self.variable());
         if self.random.chance(95) {
-            statements.push(constant(group, self.random.between(1, 3) as i32));
-            statements.push(constant(member, self.random.between(1, 4) as i32));
+            let mut number = |most| match self.random.below(12) {
+                0 => i32::MAX,
+                _ => self.random.between(1, most) as i32,
+            };
+            statements.push(constant(group, number(3)));
+            statements.push(constant(member, number(4)));
         }
-        match self.random.below(6) {
+        match self.random.below(7) {
             0 => Action::Query { target: self.variable(), group, member },
             1 => Action::Remove { group, member },
+            2 => {
+                statements.push(statement(Action::Add { group, member }));
+                Action::Remove { group, member }
+            }
             _ => Action::Add { group, member },
         }
     }

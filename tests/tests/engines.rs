@@ -6,7 +6,7 @@ use differential::encode::written;
 use differential::lent::{pattern, to, SHEET_WORDS};
 use differential::parties::{copy_rule, fast, library, Party};
 use differential::report::{bytes, words};
-use differential::{inputs, table_work};
+use differential::{inputs, lists, table_work};
 
 fn hold(judge: &Party, origin: &str, call: &Call) {
     for engine in ENGINES {
@@ -80,8 +80,8 @@ fn whole_runs_at_every_allowance() {
                     assert_eq!(reply.answer[..8], right.answer[..8], "{origin}");
                     assert_eq!(reply.answer[8], links, "{origin}");
                     assert_eq!(
-                        (&reply.sheet, &reply.table),
-                        (&right.sheet, &right.table),
+                        (&reply.sheet, &reply.table, &reply.groups),
+                        (&right.sheet, &right.table, &right.groups),
                         "{origin}"
                     );
                 }
@@ -123,6 +123,7 @@ fn plain() -> Call {
         count: 0,
         name: 2,
         table: vec![0; 16],
+        groups: vec![0; 16],
         sheet: sheet(2 * SHEET_WORDS),
         working: Vec::new(),
     }
@@ -195,6 +196,108 @@ fn limits_on_both_sides_of_their_bounds() {
     }
 }
 
+/// A word too few, just enough and more, for tables of even and odd length; before the table's own refusal and after a sheet that
+/// fits.
+#[test]
+fn lists_on_both_sides_of_their_bound() {
+    let judge = copy_rule();
+    for length in 0..=9 {
+        for count in [0, length / 2, length / 2 + 1] {
+            let table: Vec<i32> = (1..=length as i32).collect();
+            let needed = lists::right(&table, count);
+            for short in [&needed[..], &needed[..needed.len().saturating_sub(1)], &[]] {
+                for past in [&[][..], &[0], &[-1, 5, 7]] {
+                    let groups = [short, past].concat();
+                    let call = Call { table: table.clone(), count, groups, ..plain() };
+                    hold(&judge, &format!("a table of {length} words, count {count}"), &call);
+                }
+            }
+        }
+    }
+}
+
+/// KN 1, KN 2 and a statement on the pair, for each.
+fn on_pairs(statements: &[(&str, i32, i32)]) -> Vec<u8> {
+    let mut script = written(&format!("BK 2 {} VR 1 VR 2", 3 * statements.len()));
+    for (mark, group, member) in statements {
+        for (name, number) in [(1, group), (2, member)] {
+            script.extend(written(&format!("KN {name}")));
+            script.extend(number.to_le_bytes());
+        }
+        script.extend(written(&format!("{mark} 1 2")));
+    }
+    script
+}
+
+/// A table at an edge of what a list can be, with room for one more pair or none.
+fn at_an_edge(what: usize, pairs: i32, room: bool) -> Call {
+    let pair = |number: i32| match what {
+        0 => [i32::MAX, number + 1],
+        1 => [1, i32::MAX - number],
+        2 => [2 * number + 2, i32::MAX],
+        3 => [i32::MAX - 2 * number - 1, 1],
+        _ => [number / 3 * 2 + 2, number % 3 + 1],
+    };
+    let mut table: Vec<i32> = (0..pairs).flat_map(pair).collect();
+    if room {
+        table.extend([0, 0]);
+    }
+    let groups = lists::right(&table, pairs as usize);
+    Call { d: 1, n: 1_000, g: 65_535, count: pairs as usize, table, groups, ..plain() }
+}
+
+/// A new group before, between and after the others, a member more and one fewer, the last of a group.
+fn edge_statements(call: &Call) -> Vec<(&'static str, i32, i32)> {
+    let (first, last) = (&call.table[..2], &call.table[2 * call.count - 2..2 * call.count]);
+    let between = call.groups[0].saturating_add(1);
+    vec![
+        ("RM", last[0], last[1]),
+        ("AD", 1, 1),
+        ("RM", 1, 1),
+        ("AD", between, 77),
+        ("RM", between, 77),
+        ("AD", i32::MAX, i32::MAX),
+        ("RM", i32::MAX, i32::MAX),
+        ("RM", first[0], first[1]),
+        ("AD", first[0], 99_999),
+        ("AD", last[0], last[1]),
+        ("AD", i32::MAX - 1, 5),
+    ]
+}
+
+/// One group, each pair its own, groups of three; after every statement.
+#[test]
+fn large_lists_at_their_edges() {
+    let judge = fast();
+    for (what, pairs) in (0..5).flat_map(|what| [(what, 1), (what, 70), (what, 3_000)]) {
+        for room in [false, true] {
+            let call = at_an_edge(what, pairs, room);
+            let statements = edge_statements(&call);
+            for done in 1..=statements.len() {
+                let call = Call { script: on_pairs(&statements[..done]), ..call.clone() };
+                hold(&judge, &format!("edge {what}, {pairs} pairs, {done} done"), &call);
+            }
+        }
+    }
+}
+
+/// Group 1 has as many members as G lets it; the list alone says so.
+#[test]
+fn a_group_at_the_limit() {
+    let judge = copy_rule();
+    for g in [1, 2, 300, 65_535] {
+        for missing in [0, 1] {
+            let pairs = g as i32 - missing;
+            let mut table: Vec<i32> = (0..pairs).flat_map(|member| [1, member + 1]).collect();
+            table.extend([0; 4]);
+            let groups = lists::right(&table, pairs as usize);
+            let script = on_pairs(&[("AD", 1, 70_000), ("AD", 1, 70_001)]);
+            let call = Call { script, n: 9, g, count: pairs as usize, table, groups, ..plain() };
+            hold(&judge, &format!("G {g}, {missing} missing"), &call);
+        }
+    }
+}
+
 fn list(words: &[i32]) -> String {
     if words.is_empty() {
         return ".".into();
@@ -215,6 +318,7 @@ fn call_of(fed: &str) -> Option<Call> {
         count: fed[5].parse().ok()?,
         name: fed[6].parse().ok()?,
         table: words(fed[7])?,
+        groups: words(fed[8])?,
         sheet: sheet(SHEET_WORDS * d.min(256) as usize),
         working: Vec::new(),
     })
@@ -238,15 +342,16 @@ fn every_vector() {
             let end = ["finished", "spent", "stopped", "refused"][end as usize];
             let (sheet, rest) = reply.sheet.split_at(written as usize);
             let got = format!(
-                "{end} {number_of} {steps} {offset} {pairs} {tally} {designator} {links} {} {}",
+                "{end} {number_of} {steps} {offset} {pairs} {tally} {designator} {links} {} {} {}",
                 list(sheet),
                 list(&reply.table),
+                list(&reply.groups),
             );
             assert_eq!(got, given.join(" "), "run {}", number + 1);
             assert_eq!(rest, &call.sheet[written as usize..], "run {}: past the sheet", number + 1);
         }
     }
-    assert_eq!(lines.len(), 450);
+    assert_eq!(lines.len(), 530);
 }
 
 /// Every way through a call on little stack: the deepest script, a large table, a stop, a refusal.
@@ -259,7 +364,8 @@ fn a_small_stack() {
         }
         let table: Vec<i32> =
             (0..100_000).flat_map(|pair| [1 + pair / 50, 1 + pair % 50]).collect();
-        let large = Call { g: 50, count: 100_000, table, ..plain() };
+        let groups = lists::right(&table, 100_000);
+        let large = Call { g: 50, count: 100_000, table, groups, ..plain() };
         hold(&judge, "a large table", &large);
     };
     std::thread::Builder::new()

@@ -51,11 +51,44 @@ fn newest_shown() {
     told(Flaw::NewestShown);
 }
 
+#[test]
+fn number_not_lowered() {
+    told(Flaw::NumberNotLowered);
+}
+
+#[test]
+fn empty_group_kept() {
+    told(Flaw::EmptyGroupKept);
+}
+
+#[test]
+fn freed_place_kept() {
+    told(Flaw::FreedPlaceKept);
+}
+
+#[test]
+fn new_group_last() {
+    told(Flaw::NewGroupLast);
+}
+
+/// One rule of the list after the other.
+#[test]
+fn lists_misjudged() {
+    told(Flaw::ListUnjudged);
+    told(Flaw::OrderUnjudged);
+    told(Flaw::EmptyPlacesPassed);
+    told(Flaw::UnusedUnjudged);
+    told(Flaw::SumAlone);
+    told(Flaw::LimitUnjudged);
+    told(Flaw::WholeListJudged);
+    told(Flaw::ListLengthLate);
+}
+
 /// The sheet where a run by search ends whose state is spoiled after each step; none if it panics.
 fn sheet(program: &Block, call: &Call, spoil: fn(&mut State)) -> Option<Vec<i32>> {
     quietly(|| {
-        let mut words = call.table.clone();
-        let table = Table::new(&mut words, call.count);
+        let (mut words, mut groups) = (call.table.clone(), call.groups.clone());
+        let table = Table::new(&mut words, call.count, &mut groups);
         let mut state = State::new(program, call.d as usize, call.g as usize, table);
         for _ in 0..call.n {
             if state.activations.is_empty() || state.step().is_err() {

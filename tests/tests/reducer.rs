@@ -21,11 +21,30 @@ fn small_case(flaw: Flaw) -> Call {
 
 #[test]
 fn wrong_engines_show_in_short_scripts() {
-    for flaw in [Flaw::NewestLink, Flaw::StaleDisplay, Flaw::LateGroupLimit] {
+    let flaws = [
+        Flaw::NewestLink,
+        Flaw::StaleDisplay,
+        Flaw::LateGroupLimit,
+        Flaw::NumberNotLowered,
+        Flaw::NewGroupLast,
+    ];
+    for flaw in flaws {
         let small = small_case(flaw);
         assert!(small.script.len() <= 240, "{flaw:?}: {}", line(&small));
         assert!(small.n <= 60, "{flaw:?}: {}", line(&small));
     }
+}
+
+/// With the words past the part needed alone where they matter.
+#[test]
+fn wrong_lists_show_beside_small_tables() {
+    for flaw in [Flaw::EmptyPlacesPassed, Flaw::UnusedUnjudged, Flaw::SumAlone] {
+        let small = small_case(flaw);
+        assert!(small.table.len() <= 6, "{flaw:?}: {}", line(&small));
+        assert_eq!(small.groups.len(), small.table.len(), "{flaw:?}: {}", line(&small));
+    }
+    let small = small_case(Flaw::WholeListJudged);
+    assert_eq!((small.table.len(), small.groups.len()), (0, 1), "{}", line(&small));
 }
 
 #[test]

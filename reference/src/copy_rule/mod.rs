@@ -8,25 +8,25 @@ mod step;
 
 use crate::answer::{Answer, End};
 use crate::judge::judge;
-use crate::request::{Engine, Request};
+use crate::request::{Engine, Lent, Request};
 use crate::table::Table;
 use crate::tree::Block;
 use machine::Machine;
 
-/// The whole call. The table and the sheet are left as the engine must leave them.
-pub fn run(request: &Request, table: &mut [i32], sheet: &mut [i32]) -> Answer {
-    match judge(request, table, sheet.len()) {
+/// The whole call.
+pub fn run(request: &Request, lent: Lent) -> Answer {
+    match judge(request, &lent) {
         Err(refused) => Answer::refused(request, refused),
-        Ok(program) => accepted(request, &program, table, sheet),
+        Ok(program) => accepted(request, &program, lent),
     }
 }
 
-fn accepted(request: &Request, program: &Block, table: &mut [i32], sheet: &mut [i32]) -> Answer {
-    let table = Table::new(table, request.count);
+fn accepted(request: &Request, program: &Block, lent: Lent) -> Answer {
+    let table = Table::new(lent.table, request.count, lent.groups);
     let mut machine = Machine::new(program, request.d as usize, request.g as usize, table);
     let (end, steps, offset) = until_end(&mut machine, u64::from(request.n));
     let words = machine.sheet();
-    sheet[..words.len()].copy_from_slice(&words);
+    lent.sheet[..words.len()].copy_from_slice(&words);
     Answer {
         end,
         steps,

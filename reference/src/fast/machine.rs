@@ -100,7 +100,7 @@ impl<'a> Machine<'a> {
                 self.store(target, i32::from(self.value(left) < self.value(right)));
             }
             Operation::Add { group, member } => self.add::<V>(group, member)?,
-            Operation::Remove { group, member } => self.remove(group, member)?,
+            Operation::Remove { group, member } => self.remove::<V>(group, member)?,
             Operation::Query { target, group, member } => self.query(target, group, member)?,
         }
         self.next += 1;
@@ -281,41 +281,32 @@ impl<'a> Machine<'a> {
         }
     }
 
-    fn pair(&self, group: Place, member: Place) -> Result<(i32, i32), Stop> {
+    #[inline(always)]
+    fn pair(&self, group: Place, member: Place) -> Result<[i32; 2], Stop> {
         let (group, member) = (self.value(group), self.value(member));
         if group < 1 || member < 1 {
             Err(Stop::BelowOne)
         } else {
-            Ok((group, member))
+            Ok([group, member])
         }
     }
 
     fn add<V: Variant>(&mut self, group: Place, member: Place) -> Result<(), Stop> {
-        let (group, member) = self.pair(group, member)?;
-        let standing = self.members.standing(group, member);
-        if standing.present {
-            return Ok(());
-        }
-        let no_room = self.members.no_room(standing);
-        let late = V::FLAW == Some(Flaw::LateGroupLimit) && !self.members.is_full();
-        if no_room.is_none() || late {
-            self.members.add(group, member);
-        }
-        no_room.map_or(Ok(()), Err)
+        let pair = self.pair(group, member)?;
+        self.members.add::<V>(pair)
     }
 
     #[inline(always)]
-    fn remove(&mut self, group: Place, member: Place) -> Result<(), Stop> {
-        let (group, member) = self.pair(group, member)?;
-        self.members.remove(group, member);
+    fn remove<V: Variant>(&mut self, group: Place, member: Place) -> Result<(), Stop> {
+        let pair = self.pair(group, member)?;
+        self.members.remove::<V>(pair);
         Ok(())
     }
 
     #[inline(always)]
     fn query(&mut self, target: Place, group: Place, member: Place) -> Result<(), Stop> {
-        let (group, member) = self.pair(group, member)?;
-        let present = self.members.standing(group, member).present;
-        self.store(target, i32::from(present));
+        let pair = self.pair(group, member)?;
+        self.store(target, i32::from(self.members.holds(pair)));
         Ok(())
     }
 }

@@ -2,30 +2,32 @@
 //! before the run, to the level and position that declare it.
 
 mod flaw;
-mod index;
 mod machine;
 mod marks;
 mod members;
+mod misjudged;
 mod outline;
 mod program;
 mod resolve;
 mod right;
 mod scope;
+mod set;
 mod sheet;
-mod slots;
 
-pub use flaw::Flaw;
+pub use flaw::{run_flawed, Flaw};
 pub use right::is_right;
 
 use crate::answer::{Answer, End};
 use crate::cause::{Refusal, Refused};
 use crate::check::length_fits;
-use crate::judge::{copying_area, lent, limits};
-use crate::request::{Engine, Request};
-use flaw::{CallerShown, LateGroupLimit, NewestLink, NewestShown, Right, StaleDisplay, Variant};
+use crate::judge::{copying_area, limits, list_length, sheet_and_records};
+use crate::request::{Engine, Lent, Request};
+use flaw::{Right, Variant};
 use machine::Machine;
 use members::Members;
 use program::Program;
+use right::{is_right_in, ROOM};
+use set::Set;
 
 /// The script check.
 pub fn check(script: &[u8]) -> Result<(), Refused> {
@@ -33,19 +35,8 @@ pub fn check(script: &[u8]) -> Result<(), Refused> {
 }
 
 /// The whole call.
-pub fn run(request: &Request, table: &mut [i32], sheet: &mut [i32]) -> Answer {
-    run_variant::<Right>(request, table, sheet)
-}
-
-/// The whole call by an engine that is wrong on purpose; it may panic where it goes astray.
-pub fn run_flawed(flaw: Flaw, request: &Request, table: &mut [i32], sheet: &mut [i32]) -> Answer {
-    match flaw {
-        Flaw::NewestLink => run_variant::<NewestLink>(request, table, sheet),
-        Flaw::StaleDisplay => run_variant::<StaleDisplay>(request, table, sheet),
-        Flaw::LateGroupLimit => run_variant::<LateGroupLimit>(request, table, sheet),
-        Flaw::CallerShown => run_variant::<CallerShown>(request, table, sheet),
-        Flaw::NewestShown => run_variant::<NewestShown>(request, table, sheet),
-    }
+pub fn run(request: &Request, lent: Lent) -> Answer {
+    run_variant::<Right>(request, lent)
 }
 
 fn prepare(script: &[u8]) -> Result<Program, Refused> {
@@ -55,17 +46,25 @@ fn prepare(script: &[u8]) -> Result<Program, Refused> {
     resolve::resolve(script, outline::outline(script)?)
 }
 
-fn run_variant<V: Variant>(request: &Request, table: &mut [i32], sheet: &mut [i32]) -> Answer {
-    match judge(request, table, sheet.len()) {
+fn run_variant<V: Variant>(request: &Request, lent: Lent) -> Answer {
+    ROOM.with_borrow_mut(|room| match judge::<V>(request, &lent, room) {
         Err(refused) => Answer::refused(request, refused),
-        Ok(program) => accepted::<V>(request, &program, table, sheet),
-    }
+        Ok(program) => accepted::<V>(request, &program, lent, room),
+    })
 }
 
-fn judge(request: &Request, table: &[i32], sheet: usize) -> Result<Program, Refused> {
+fn judge<V: Variant>(request: &Request, lent: &Lent, room: &mut Set) -> Result<Program, Refused> {
     limits(request)?;
-    lent(request, sheet)?;
-    if !right::is_right(table, request.count, request.g) {
+    sheet_and_records(request, lent)?;
+    misjudged::too_soon::<V>(request, lent)?;
+    list_length(lent)?;
+    let g = if V::FLAW == Some(Flaw::LimitUnjudged) { u32::MAX } else { request.g };
+    let mut right = |groups| is_right_in(room, lent.table, request.count, g, groups);
+    let right = match V::FLAW {
+        None => right(lent.groups),
+        Some(_) => right(&misjudged::taken::<V>(request, lent)),
+    };
+    if !right {
         return Err(Refusal::Table.at(0));
     }
     let program = prepare(request.script)?;
@@ -76,10 +75,10 @@ fn judge(request: &Request, table: &[i32], sheet: usize) -> Result<Program, Refu
 fn accepted<V: Variant>(
     request: &Request,
     program: &Program,
-    table: &mut [i32],
-    sheet: &mut [i32],
+    lent: Lent,
+    room: &mut Set,
 ) -> Answer {
-    let members = Members::new(table, request.count, request.g);
+    let members = Members::new(lent.table, request.count, lent.groups, request.g, room);
     let mut machine = Machine::new(program, members, request.d);
     let (end, steps) = machine.run::<V>(request.n);
     let (designator, links) = machine.looked_up(request.name);
@@ -88,7 +87,7 @@ fn accepted<V: Variant>(
         steps: steps.into(),
         offset: if matches!(end, End::Stopped(_)) { machine.offset() } else { 0 },
         pairs: machine.members.count() as u64,
-        sheet: machine.write::<V>(sheet) as u64,
+        sheet: machine.write::<V>(lent.sheet) as u64,
         tally: request.tally + u64::from(steps),
         designator,
         links: if matches!(request.engine, Engine::Chain { .. }) { links } else { 0 },

@@ -12,29 +12,24 @@ pub use state::{Activation, Found, State};
 
 use crate::answer::{Answer, End};
 use crate::judge::judge;
-use crate::request::Request;
+use crate::request::{Lent, Request};
 use crate::table::Table;
 
 /// The whole call, for `Engine::Search`: it follows no links and reports none.
-pub fn run(request: &Request, table: &mut [i32], sheet: &mut [i32]) -> Answer {
-    match judge(request, table, sheet.len()) {
+pub fn run(request: &Request, lent: Lent) -> Answer {
+    match judge(request, &lent) {
         Err(refused) => Answer::refused(request, refused),
-        Ok(program) => accepted(request, &numbered(&program), table, sheet),
+        Ok(program) => accepted(request, &numbered(&program), lent),
     }
 }
 
-fn accepted(
-    request: &Request,
-    numbered: &Numbered,
-    table: &mut [i32],
-    sheet: &mut [i32],
-) -> Answer {
-    let table = Table::new(table, request.count);
+fn accepted(request: &Request, numbered: &Numbered, lent: Lent) -> Answer {
+    let table = Table::new(lent.table, request.count, lent.groups);
     let (d, g) = (request.d as usize, request.g as usize);
     let mut state = State::new(&numbered.program, d, g, table);
     let (end, steps) = until_end(&mut state, request.n.into());
     let words = state.sheet();
-    sheet[..words.len()].copy_from_slice(&words);
+    lent.sheet[..words.len()].copy_from_slice(&words);
     Answer {
         end,
         steps,

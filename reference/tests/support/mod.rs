@@ -1,7 +1,9 @@
 //! What the tests share: scripts written as text, and calls with all that is lent.
 #![allow(dead_code)]
 
-use reference::{Answer, Engine, Refused, Request};
+use std::collections::BTreeMap;
+
+use reference::{Answer, Engine, Lent, Refused, Request};
 
 /// Bytes of a script written as marks and numbers; commas may stand between records.
 pub fn assemble(text: &str) -> Vec<u8> {
@@ -55,6 +57,8 @@ pub struct Call {
     pub table: Vec<i32>,
     pub count: usize,
     pub name: u16,
+    /// None is the right list of the table, just as long as asked.
+    pub groups: Option<Vec<i32>>,
     pub sheet: usize,
 }
 
@@ -63,9 +67,21 @@ pub struct Reply {
     pub answer: Answer,
     pub sheet: Vec<i32>,
     pub table: Vec<i32>,
+    pub groups: Vec<i32>,
 }
 
-pub type Run = fn(&Request, &mut [i32], &mut [i32]) -> Answer;
+pub type Run = fn(&Request, Lent) -> Answer;
+
+/// The list of a table.
+pub fn list(table: &[i32], count: usize) -> Vec<i32> {
+    let mut members = BTreeMap::new();
+    for pair in table.chunks_exact(2).take(count) {
+        *members.entry(pair[0]).or_insert(0) += 1;
+    }
+    let mut places: Vec<[i32; 2]> = members.into_iter().map(<[i32; 2]>::from).collect();
+    places.resize(table.len() / 2, [0, 0]);
+    places.concat()
+}
 
 impl Call {
     pub fn new(script: Vec<u8>) -> Call {
@@ -78,6 +94,7 @@ impl Call {
             table: vec![0; 16],
             count: 0,
             name: 0,
+            groups: None,
             sheet: 16 * 35,
         }
     }
@@ -87,8 +104,13 @@ impl Call {
         self.d as usize * (self.script.len() / 2)
     }
 
+    pub fn lent_groups(&self) -> Vec<i32> {
+        self.groups.clone().unwrap_or_else(|| list(&self.table, self.count))
+    }
+
     pub fn by(&self, run: Run, engine: Engine) -> Reply {
         let (mut table, mut sheet) = (self.table.clone(), vec![UNTOUCHED; self.sheet]);
+        let mut groups = self.lent_groups();
         let request = Request {
             engine,
             script: &self.script,
@@ -99,8 +121,9 @@ impl Call {
             count: self.count,
             name: self.name,
         };
-        let answer = run(&request, &mut table, &mut sheet);
-        Reply { answer, sheet, table }
+        let lent = Lent { table: &mut table, groups: &mut groups, sheet: &mut sheet };
+        let answer = run(&request, lent);
+        Reply { answer, sheet, table, groups }
     }
 
     /// All runs must agree; that by search is for its engine alone.

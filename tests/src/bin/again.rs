@@ -14,7 +14,7 @@ fn main() {
     } else if let Some(script) = bytes(line.trim()) {
         checks(&script);
     } else {
-        eprintln!("engine script d n g tally count name table sheet-length working-length");
+        eprintln!("engine script d n g tally count name table groups sheet-length working-length");
         eprintln!("or: script");
         std::process::exit(2);
     }
@@ -40,6 +40,6 @@ fn runs(call: &Call) {
         let reply = (party.run)(call);
         let sheet = &reply.sheet[..reply.answer[5] as usize];
         println!("{}: answer {:?}", party.name, reply.answer);
-        println!("  sheet {sheet:?}\n  table {:?}", reply.table);
+        println!("  sheet {sheet:?}\n  table {:?}\n  groups {:?}", reply.table, reply.groups);
     }
 }

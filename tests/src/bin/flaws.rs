@@ -10,14 +10,7 @@ fn main() {
     let mut arguments = std::env::args().skip(1).map(|it| it.parse().expect("a number"));
     let cases = arguments.next().unwrap_or(10_000);
     let seed = arguments.next().unwrap_or(1);
-    let flaws = [
-        Flaw::NewestLink,
-        Flaw::StaleDisplay,
-        Flaw::LateGroupLimit,
-        Flaw::CallerShown,
-        Flaw::NewestShown,
-    ];
-    for flaw in flaws {
+    for &flaw in Flaw::ALL {
         let calls = (0..cases).map(|number| case(seed, number));
         let wrong = wrong(&copy_rule(), &flawed(flaw), calls);
         println!("{flaw:?}: {wrong} of {cases} wrong");
