@@ -58,7 +58,7 @@ extern "C" {
 
 /* Words that must be lent for d activations: the sheet's, 35 for each, and the copying engine's area for a script of
  * script_len bytes. The chain engine is lent d records. Words of the list of groups beside a table of table_len words:
- * a place of two for each pair that the table can hold. */
+ * two for every two of the table's. */
 #define ENROL_SHEET_WORDS(d) ((size_t)(d) * (ENROL_SHEET_NAMES + ENROL_MOST_NAMES))
 #define ENROL_AREA_WORDS(d, script_len) ((size_t)(d) * ((size_t)(script_len) / 2))
 #define ENROL_LIST_WORDS(table_len) ((size_t)(table_len) / 2 * 2)
@@ -214,8 +214,7 @@ enum enrol_sheet {
  * How the list is kept. Two words make a place: a group and its number of members in the table. It is the table's when
  * each group of a pair in use has one place and no other group has any, the groups rise from place to place, each
  * number is the count of the group's pairs in use, and every place after the last of them is 0, 0. Each table has one
- * such list. An empty table's
- * has 0 in every word; beside (7,1), (5,7), (5,9) and two free places it is
+ * such list. An empty table's has 0 in every word; beside (7,1), (5,7), (5,9) and two free places it is
  *
  *     5 2  7 1  0 0  0 0  0 0
  *
