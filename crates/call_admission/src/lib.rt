@@ -9,14 +9,14 @@ use language::{Refusal, Verdict};
 use layout::SHEET_SHARE;
 
 // What one engine alone is lent: so many activation records, or so many words of copying area.
-#[derive(Drop)]
+#[derive(Clone, Copy)]
 pub enum Area {
     Unused,
     Of(usize),
 }
 
 // A call's numbers: D, N, G, the caller's tally, the pairs in use in the table, and the name looked up.
-#[derive(Drop)]
+#[derive(Clone, Copy)]
 pub struct CallNumbers {
     pub d: u32,
     pub n: u32,

@@ -19,7 +19,7 @@ mod entering;
 mod handing;
 
 // A block that is entered: the place of its BK, the activation that its new one is linked to, and the place to come back to.
-#[derive(Drop)]
+#[derive(Clone, Copy)]
 pub struct Entry {
     pub body: usize,
     pub link: usize,
@@ -100,7 +100,7 @@ pub fn left(code: &[u32; 4096], here: Registers, activation: Activation) -> Regi
 }
 
 // The looked-up name: its designator, and the links that lead to where it is declared; both 0 where it is not visible.
-#[derive(Drop)]
+#[derive(Clone, Copy)]
 pub struct Found {
     pub designator: u32,
     pub links: u32,

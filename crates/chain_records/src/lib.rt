@@ -4,7 +4,7 @@ ghost use Rattle.chain_records.specs.Records.{at, hop, Linked};
 
 // The place of an activation's BK, the place of its next statement, and its link.
 #[repr(C)]
-#[derive(Drop)]
+#[derive(Clone, Copy)]
 pub struct Activation {
     pub block: u32,
     pub next: u32,

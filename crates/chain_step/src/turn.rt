@@ -20,7 +20,7 @@ use run_statements::after;
 use table_pairs::Change;
 
 // The table is asked: where the run goes on, the cells of a group and a member, the one for the answer, and the question.
-#[derive(Drop)]
+#[derive(Clone, Copy)]
 pub struct Asking {
     pub place: usize,
     pub group: usize,
@@ -30,7 +30,7 @@ pub struct Asking {
 }
 
 // What a statement has come to: the innermost activation goes on, another one does, at a place, a block is entered, the run ends, or the table is asked.
-#[derive(Drop)]
+#[derive(Clone, Copy)]
 pub enum Moved {
     Went(Registers),
     Resume(usize, usize),

@@ -8,7 +8,7 @@ use check_fields::word;
 use check_marks::{AD, BK, BK_BYTES, CL, PR, PR_BYTES, field_count};
 
 // A record passed: where the next one begins, and how many records stand inside this one.
-#[derive(Drop)]
+#[derive(Clone, Copy)]
 pub struct Step {
     pub next: usize,
     pub more: usize,

@@ -6,7 +6,7 @@ ghost use Rattle.laws.specs.Fields.{field_at};
 
 use super::bytes::word_at;
 
-#[derive(Drop)]
+#[derive(Clone, Copy)]
 pub struct Reader<'a> {
     pub script: &'a [u8],
     pub at: usize,

@@ -5,7 +5,7 @@ ghost use Rattle.check_marks.specs.Counts.{field_count};
 
 use numbers::from_u8;
 
-#[derive(Drop)]
+#[derive(Clone, Copy)]
 pub enum Mark {
     BK,
     VR,
@@ -23,7 +23,7 @@ pub enum Mark {
 }
 
 // Where a record may stand.
-#[derive(Drop)]
+#[derive(Clone, Copy)]
 pub enum Place {
     Block,
     Formal,
@@ -90,7 +90,7 @@ const STATEMENT: u8 = 8;
 
 // A mark, how many fields come after it, and the bits of the places where it may stand: eight bytes, so that the compiler reads an entry
 // of the table at once.
-#[derive(Drop)]
+#[derive(Clone, Copy)]
 pub struct Entry {
     pub letters: u32,
     pub count: u8,
@@ -179,7 +179,7 @@ const MARKS: [Entry; 13] = [
     },
 ];
 
-#[derive(Drop)]
+#[derive(Clone, Copy)]
 pub enum Fit {
     Matched { count: u8, mark: Mark },
     Nothing,

@@ -12,7 +12,7 @@ pub use fields::fields_from;
 pub use record::{block_at, declaration_at, formal_at, statement_at};
 
 // A record with its fields, 0 past its count, and where the next one begins; or the refusal with its offset.
-#[derive(Drop)]
+#[derive(Clone, Copy)]
 pub enum Reading {
     Taken {
         mark: Mark,
@@ -26,7 +26,7 @@ pub enum Reading {
 }
 
 // Where the next record begins, or the refusal with its offset.
-#[derive(Drop)]
+#[derive(Clone, Copy)]
 pub enum Progress {
     At(usize),
     Refused(Refusal, usize),

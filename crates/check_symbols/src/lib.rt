@@ -6,7 +6,7 @@ ghost use Rattle.check_symbols.specs.Entries.{found_in, Near, Seeking, entry_fro
 ghost use Rattle.check_symbols.specs.Chains.{Chained, Rechained};
 
 // What is kept of a name.
-#[derive(Drop)]
+#[derive(Clone, Copy)]
 pub enum Binding {
     At(usize),
     Nothing,

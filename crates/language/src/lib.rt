@@ -3,7 +3,7 @@ ghost use Rattle.std.specs.Prelude.{◌≡◌};
 ghost use Rattle.language.specs.Numbers.{stop_number, refusal_number, end_number, cause_number};
 
 // Why a run stopped: causes 21 to 26, in that order.
-#[derive(Drop)]
+#[derive(Clone, Copy)]
 pub enum Stop {
     ResultTooLarge,
     NoActivationLeft,
@@ -14,7 +14,7 @@ pub enum Stop {
 }
 
 // Why a call was refused: causes 1 to 14, in that order.
-#[derive(Drop)]
+#[derive(Clone, Copy)]
 pub enum Refusal {
     ScriptLength,
     PastTheEnd,
@@ -34,13 +34,13 @@ pub enum Refusal {
 }
 
 // What the script check says: fit to run, or refused with the cause and the offset to report.
-#[derive(Drop)]
+#[derive(Clone, Copy)]
 pub enum Verdict {
     Fit,
     Refused(Refusal, usize),
 }
 
-#[derive(Drop)]
+#[derive(Clone, Copy)]
 pub enum End {
     Finished,
     Spent,
@@ -49,7 +49,7 @@ pub enum End {
 }
 
 // A run's answer. `links` is the chain engine's; the other engines give 0.
-#[derive(Drop)]
+#[derive(Clone, Copy)]
 pub struct Answer {
     pub end: End,
     pub steps: u32,

@@ -11,7 +11,7 @@ mod printing;
 pub use printing::{print_answer, print_number, print_words, say};
 
 // In the order in which programs name them.
-#[derive(Drop)]
+#[derive(Clone, Copy)]
 pub enum Engine {
     Copy,
     Chain,

@@ -29,7 +29,7 @@ const LACK: usize = b'k' as usize;
 
 // How far a row is read: the bytes of its script, the number that is open, and the letter under which it is kept, 0 for a field and a
 // colon before the row's own colon.
-#[derive(Drop)]
+#[derive(Clone, Copy)]
 struct Row {
     bytes: usize,
     number: u32,

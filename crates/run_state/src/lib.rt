@@ -6,7 +6,7 @@ use language::{End, Stop};
 
 // The innermost activation, the place of its next statement, where its text ends, the pairs in use. The level of the innermost block is kept by
 // the static-chain engine, and the new name to be given out next by the copying one; the others leave them at 0.
-#[derive(Drop)]
+#[derive(Clone, Copy)]
 pub struct Registers {
     pub live: usize,
     pub at: usize,
@@ -17,7 +17,7 @@ pub struct Registers {
 }
 
 // What a step comes to.
-#[derive(Drop)]
+#[derive(Clone, Copy)]
 pub enum Turn {
     Went(Registers),
     Finished,
@@ -25,7 +25,7 @@ pub enum Turn {
 }
 
 // How a run has ended: how many activations are live, the looked-up name's designator, and the links that lead to it where an engine counts them.
-#[derive(Drop)]
+#[derive(Clone, Copy)]
 pub struct Halt {
     pub end: End,
     pub steps: u32,

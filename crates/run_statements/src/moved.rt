@@ -7,7 +7,7 @@ use run_moves::{Ask, Move};
 
 // As `Move`, with the place to go on at first in a jump: where it stands differently in each, the compiler keeps it in memory. For an entry the search
 // engine, which has no links, has where the search goes on from the new activation in the place of its link.
-#[derive(Drop)]
+#[derive(Clone, Copy)]
 pub enum Moved {
     Went(usize),
     Table(usize, usize, usize, usize, Ask),

@@ -9,7 +9,7 @@ ghost use Rattle.table_groups.specs.Standing.{place_in, Found};
 use table_moves::{put_in, take_out};
 
 // What the list says of a group: its place, or the place where it is to stand, and the number of its members, 0 where it is not in the list.
-#[derive(Drop)]
+#[derive(Clone, Copy)]
 pub struct GroupPlace {
     pub place: usize,
     pub number: u32,

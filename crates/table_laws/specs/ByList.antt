@@ -1,13 +1,13 @@
 -- AD and RM as they go by the list of groups: how large a group is the list says, and where it says 0 no pair is looked at. No member is counted,
 -- and beside a right list both come to what the definitions come to (`added-by-list`, `removed-by-list`; between two steps `added-beside`,
 -- `removed-beside`). `list-added`, `list-removed`: what a right table's list becomes, said of the list.
-use Rattle.std.specs.Prelude.{ℕ, zero, suc, ◌*◌, ◌/◌, ◌≤◌, ◌<◌, Bool, true, false, ◌&&◌, List, [], ◌∷◌, map, ◌≡◌, refl, eqb, ℤ, pos, ◌-ℤ◌, length, take}
+use Rattle.std.specs.Prelude.{ℕ, zero, suc, ◌*◌, ◌/◌, ◌≤◌, ◌<◌, Bool, true, false, ◌&&◌, List, [], ◌∷◌, map, ◌≡◌, refl, eqb, pos, ◌-ℤ◌, length, take}
 use Rattle.std.proofs.Common.{arith, sym, ◌∙◌, subst, eqb-true, ne_eqb}
 use Rattle.std.proofs.Math.Bool.{not}
 use Rattle.std.proofs.Math.Option.{none}
 use Rattle.std.proofs.Math.Path.{ap}
 use Rattle.std.proofs.lemmas.Bool.{eqb-false}
-use Rattle.std.proofs.Math.IntN.{-ℤ_one}
+use Rattle.std.proofs.Math.IntN.{ℤ, -ℤ_one}
 use Rattle.std.specs.Int.Signed.{le_z}
 use Rattle.language.specs.Basics.{eq_z}
 use Rattle.language.specs.Table.{Table, Effect, leaves, halts, find, is_some, holds, size, at_least_one, numbers_right, right, full, add, remove, added, removed}

@@ -11,14 +11,14 @@ use table_moves::take_out;
 use table_search::{PairPlace, numbers_fit, place_of, present};
 
 // What AD or RM comes to: the count of pairs after it, or the cause to stop.
-#[derive(Drop)]
+#[derive(Clone, Copy)]
 pub enum Change {
     Done(usize),
     Stopped(Stop),
 }
 
 // What QY comes to: the value that it stores, or the cause to stop.
-#[derive(Drop)]
+#[derive(Clone, Copy)]
 pub enum Query {
     Value(i32),
     Stopped(Stop),

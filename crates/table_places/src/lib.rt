@@ -6,7 +6,7 @@ ghost use Rattle.table_places.specs.Places.{Natural, stands_at, place_fits, all_
 use table_search::{group_at, member_at, numbers_fit, same_number};
 
 // How many places are in use, or that the list is wrong whatever the table holds.
-#[derive(Drop)]
+#[derive(Clone, Copy)]
 pub enum Places {
     Used(usize),
     Wrong,

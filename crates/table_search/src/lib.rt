@@ -8,7 +8,7 @@ ghost use Rattle.laws.specs.Tables.{group_at, member_at};
 ghost use Rattle.table_search.specs.Places.{placed, among_pairs};
 
 // Where a pair stands, counted in pairs from 0.
-#[derive(Drop)]
+#[derive(Clone, Copy)]
 pub enum PairPlace {
     At(usize),
     Absent,

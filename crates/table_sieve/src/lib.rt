@@ -9,7 +9,7 @@ ghost use Rattle.table_sieve.specs.Sieve.{cell_of, mask_of, mark_of, bit_of, set
 use table_distinct::{hash_at, home_of, store, word_at};
 
 // What was found of the pairs: nothing, where the slots had no room.
-#[derive(Drop)]
+#[derive(Clone, Copy)]
 pub enum Found {
     Differ,
     Twice,

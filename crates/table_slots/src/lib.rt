@@ -10,7 +10,7 @@ use table_hash::{bucket_of, class_of, hash};
 use table_keys::{rank, same_key};
 
 // Where a search for a key among the slots ends: at an empty slot, at the key's own, or nowhere in the window.
-#[derive(Drop)]
+#[derive(Clone, Copy)]
 pub enum Slot {
     Empty(usize),
     Held(usize),
