@@ -122,11 +122,11 @@ module _ {M : Type 1} {𝓤 : Ura M} (𝓛 : Logic 𝓤) (mem : Memory → SProp
     is-passed d u e is = sym (λ i. (is_made d e i, ap only (tells κ d (u ∷ []) is ∙ ap (vals κ) (is_made d e)) i))
 
     module _ {K : Type 0} {Γ : List (Item 𝓤)} {E : Env 𝓤 H} {C : Calls 𝓤 H} {xs : List Operand} {Λ : Loops 𝓤 H} {z : Post 𝓤 H} {p : Place} {rest : Body} where
-      pub calls-reader-at : K → FmC 𝓤 H 𝓛.laws C → Maker C → Opds K 𝓛 (raw Asked ∷ Γ) E xs (value_of s ∷ vint w64 n ∷ [])
+      pub calls-reader_at : K → FmC 𝓤 H 𝓛.laws C → Maker C → Opds K 𝓛 (raw Asked ∷ Γ) E xs (value_of s ∷ vint w64 n ∷ [])
           → (Is (Row κ) made (T'.lowered made ∷ [])
           → Seq K 𝓛 (‵ ((Row κ).own made (T'.lowered made ∷ [])) ∷ (‵ (flft κ q) ⊛ ‵ ftrue) ∷ Γ) (lands C Λ E p (T'.lowered made) rest z))
           → Seq K 𝓛 (raw Asked ∷ Γ) (runs C Λ E (seq (call #m xs p) rest) z)
-      calls-reader-at t fm known os k = calls-fn t fm m.ended (m.clauses 𝓛 mem run) known to Said (λ d ws. refl) os (λ u d e is.
+      calls-reader_at t fm known os k = calls-fn t fm m.ended (m.clauses 𝓛 mem run) known to Said (λ d ws. refl) os (λ u d e is.
           move t (1 ∷ []) $ use1 𝓛 (‵ (flft κ q) ⊛ ‵ ftrue) (id⊢ 𝓤 _) $ move t (1 ∷ []) $
           subst (λ (x : Reader × Val). Is (Row κ) x.0 (x.1 ∷ [])
           → Seq K 𝓛 (‵ ((Row κ).own x.0 (x.1 ∷ [])) ∷ (‵ (flft κ q) ⊛ ‵ ftrue) ∷ Γ) (lands C Λ E p x.1 rest z)) (is-passed d u e is) k is)

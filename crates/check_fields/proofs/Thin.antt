@@ -40,7 +40,7 @@ use denote.Triple.Entry.{on_entry}
 use denote.Triple.Statement.{Contract, Triple}
 use Rattle.check_fields.specs.declared.reader.Reader.{Reader}
 use Rattle.check_fields.proofs.Walk.{loc, var, part, into, lands-in, gone, contract_of, calls-fn, ends-fn, calls_of, loops_of, framed, known, proved-by}
-use Rattle.check_fields.proofs.Held.{Row, Slice, Number, value_of, vals, tells, typed, typed-local, opens, Maker, known-maker, Asked, asks, calls-reader-at}
+use Rattle.check_fields.proofs.Held.{Row, Slice, Number, value_of, vals, tells, typed, typed-local, opens, Maker, known-maker, Asked, asks, calls-reader_at}
 use Rattle.check_fields.specs.contracts.reader.Reader as T
 use Rattle.check_fields.proofs.reader.Reader.TheLaws as T'
 use Rattle.check_fields.proofs.reader.reader_at.Symbol as m-def
@@ -178,7 +178,7 @@ module _ {M : Type 1} {𝓤 : Ura M} (𝓛 : Logic 𝓤) (R : RattleType) (τ : 
           alloc1 ! (λ l₀. alloc1 ! (λ l₁. alloc1 ! (λ l₂. alloc1 ! (λ l₃. alloc0 ! $ params1 ! $
           pass1 ! (init ! (loc 3 0 1) refl ((shr_slice_Lawful 𝓛 (named 0) κ u8).typed s (value_of s ∷ []) is).0) $
           pass1 ! (init ! (loc 3 0 2) refl (tt, record { fits = fits })) $ pass0 ! $ move ! (8 ∷ 9 ∷ []) $
-          calls-reader-at 𝓛 mem run κ q s n ! fm maker (and_then ! (var ! (loc 3 2 1) refl) (and_then ! (var ! (loc 3 2 2) refl) (no_more !))) (λ made.
+          calls-reader_at 𝓛 mem run κ q s n ! fm maker (and_then ! (var ! (loc 3 2 1) refl) (and_then ! (var ! (loc 3 2 2) refl) (no_more !))) (λ made.
           lands-in ! (loc 3 3 3) refl (typed-local 𝓛 κ d made) $ use3 𝓛 (raw (G₂.pre to₂)) goes₂ $
           calls-fn ! fm (held-ended R) e known to₂ φ (λ r ws. says gg r _) (and_then ! (var ! (loc 3 1 3) refl) (no_more !)) (λ u r x is'.
           lands-in ! (loc 3 2 0) refl (ok r u is') $ returns ! (look ! (loc 3 2 0) refl) $

@@ -6,26 +6,26 @@ use borrow.Author.Rules.{rules}
 use Rattle.call_admission.proofs.check_and_after.Statement.{statement}
 use Rattle.call_admission.proofs.check_and_after.Tie as tie
 
-returns : tie.Need-returns
-returns c = refusal-stands _ _ _ _ c.before.before.check-script.ensures _ _ c.enum-told2.given.1
+returns : tie.Need-returns-in_default
+returns c = refusal-stands _ _ _ _ c.before.before.check_script-verdict.ensures _ _ c.enum_told-in_default-1.given.1
 
-mul-holds-at-least : tie.Need-overflow-mul-holds-at-least
-mul-holds-at-least c =
+mul-holds_at_least : tie.Need-overflow_mul-holds_at_least
+mul-holds_at_least c =
     let k = c.before.before in
     let s = k.before.before in
-    small s.args.d _ s.ranges.d (fit_length _ _ k.check-script.ensures c.enum_told.given.1)
+    small s.args.d _ s.ranges.d (fit_length _ _ k.check_script-verdict.ensures c.enum_told-1.given.1)
 
-returns-2 : tie.Need-returns-2
+returns-2 : tie.Need-returns-then-not-holds_at_least
 returns-2 c =
     let u = c.before.before in
-    short-after _ _ _ _ u.before.before.check-script.ensures u.enum_told.given.1 (sym c.before.holds-at-least.ensures ∙ not-true _ c.if1.true)
+    short-after _ _ _ _ u.before.before.check_script-verdict.ensures u.enum_told-1.given.1 (sym c.before.holds_at_least.ensures ∙ not-true _ c.if-not-holds_at_least.true)
 
-returns-3 : tie.Need-returns-3
+returns-3 : tie.Need-returns
 returns-3 c =
     let u = c.before.before in
-    held_after _ _ _ _ u.before.before.check-script.ensures u.enum_told.given.1 (sym c.before.holds-at-least.ensures ∙ not-false _ c.if1.false)
+    held_after _ _ _ _ u.before.before.check_script-verdict.ensures u.enum_told-1.given.1 (sym c.before.holds_at_least.ensures ∙ not-false _ c.if-not-holds_at_least.false)
 
-pub check-and-after-spec : {M : Type 1} → statement M
-check-and-after-spec =
-    tie.close (tie.spec (λ c κs. search rules) (λ c. search rules) (λ c. search rules) returns mul-holds-at-least (λ c κs. search rules) returns-2
+pub check_and_after_spec : {M : Type 1} → statement M
+check_and_after_spec =
+    tie.close (tie.spec (λ c κs. search rules) (λ c. search rules) (λ c. search rules) returns mul-holds_at_least (λ c κs. search rules) returns-2
     returns-3)

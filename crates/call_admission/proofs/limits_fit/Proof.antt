@@ -4,8 +4,8 @@ use Rattle.call_admission.proofs.Limits.{none-live, many-live, many-steps, no-gr
 use Rattle.call_admission.proofs.limits_fit.Statement.{statement}
 use Rattle.call_admission.proofs.limits_fit.Tie as tie
 
-pub limits-fit-spec : {M : Type 1} → statement M
-limits-fit-spec =
+pub limits_fit_spec : {M : Type 1} → statement M
+limits_fit_spec =
     tie.close (tie.spec (λ c. none-live _ (omega arith)) (λ c. many-live _ (omega arith) (omega arith))
     (λ c. many-steps _ (omega arith) (omega arith) (omega arith)) (λ c. no-group _ (omega arith) (omega arith) (omega arith) (omega arith))
     (λ c. large-group _ (omega arith) (omega arith) (omega arith) (omega arith) (omega arith))

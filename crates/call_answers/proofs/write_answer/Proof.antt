@@ -11,9 +11,9 @@ returns c =
     let cause = c.before.before.before.before in
     let end = cause.before in
     let a = end.before.args.answer in
-    λ i. end.end-number.ensures i ∷ cause.cause-number.ensures i ∷ a.steps ∷ a.offset ∷ a.pairs ∷ a.sheet ∷ a.tally ∷ a.designator ∷ a.links ∷ []
+    λ i. end.end_number.ensures i ∷ cause.cause_number.ensures i ∷ a.steps ∷ a.offset ∷ a.pairs ∷ a.sheet ∷ a.tally ∷ a.designator ∷ a.links ∷ []
 
-pub write-answer-spec : {M : Type 1} → statement M
-write-answer-spec =
+pub write_answer_spec : {M : Type 1} → statement M
+write_answer_spec =
     tie.close (tie.spec (λ c κs. search rules) (λ c. search rules) (λ c κs. search rules) (λ c. search rules) (λ c. search rules) (λ c. search rules)
     (λ c. search rules) returns)

@@ -159,11 +159,11 @@ module _ {M : Type 1} {𝓤 : Ura M} (𝓛 : Logic 𝓤) (mem : Memory → SProp
       (λ κs. (shr_slice_Tells (named 0) κs.0 u8, (numberss.tells, (mut_slice_Tells (named 1) κs.1.0 i32, (mut_slice_Tells (named 2) κs.1.1.0 i32, (mut_slice_Tells (named 3) κs.1.1.1.0 i32, (mut_slice_Tells (named 4) κs.1.1.1.1.0 recs.type, tt)))))))
       (λ κs qs bounds a g are. via 𝓤 _ (fst∗ 𝓤 _ ((f.clauses 𝓛 mem run κs a).requires g)) (walk 𝓛 mem run κs.0 κs.1.0 κs.1.1.0 κs.1.1.1.0 κs.1.1.1.1.0 qs.0 qs.1.0 qs.1.1.0 qs.1.1.1.0 qs.1.1.1.1.0 a.0 a.1.0 a.1.1.0 a.1.1.1.0 a.1.1.1.1.0 a.1.1.1.1.1.0 are.0.0.1 are.1.1.0.0.1 are.1.1.1.0.0.1 are.1.1.1.1.0.0.1 are.1.1.1.1.1.0.0.1 are.1.0 𝓣 known-judged known-ran known-refused-answer)))
 
-pub call-spec : {M : Type 1} → stated.statement M
+pub call_spec : {M : Type 1} → stated.statement M
 unfolding mine.routine tables_of
-call-spec 𝓤 𝓛 𝓜 𝓡 =
+call_spec 𝓤 𝓛 𝓜 𝓡 =
     by-walk 𝓤 𝓛.H 𝓜 𝓡 mine.env #me mine.function (triple_of 𝓛 f.signature (f.spec 𝓛 𝓜.mem 𝓡.run)) (mine.unfolded 𝓤 𝓛.H 𝓜 𝓡)
     (meets 𝓛 𝓜.mem 𝓡.run (tables_of 𝓤 𝓛.H 𝓜 (tables 𝓤 𝓛.H 𝓜 𝓡 mine.env))
-    (cited 𝓤 𝓛.H (triple_of 𝓛 judged.signature (judged.spec 𝓛 𝓜.mem 𝓡.run)) 𝓜 𝓡 mine.env #judged judged-def.routine mine.calls-chain-call::judged (judged-thm.met 𝓤 𝓛 𝓜 𝓡))
-    (cited 𝓤 𝓛.H (triple_of 𝓛 ran.signature (ran.spec 𝓛 𝓜.mem 𝓡.run)) 𝓜 𝓡 mine.env #ran ran-def.routine mine.calls-chain-call::ran (ran-thm.met 𝓤 𝓛 𝓜 𝓡))
-    (cited 𝓤 𝓛.H (triple_of 𝓛 refused-answer.signature (refused-answer.spec 𝓛 𝓜.mem 𝓡.run)) 𝓜 𝓡 mine.env #refused-answer refused-answer-def.routine mine.calls-call-answers::refused-answer (refused-answer-thm.met 𝓤 𝓛 𝓜 𝓡)))
+    (cited 𝓤 𝓛.H (triple_of 𝓛 judged.signature (judged.spec 𝓛 𝓜.mem 𝓡.run)) 𝓜 𝓡 mine.env #judged judged-def.routine mine.calls-chain_call::judged (judged-thm.met 𝓤 𝓛 𝓜 𝓡))
+    (cited 𝓤 𝓛.H (triple_of 𝓛 ran.signature (ran.spec 𝓛 𝓜.mem 𝓡.run)) 𝓜 𝓡 mine.env #ran ran-def.routine mine.calls-chain_call::ran (ran-thm.met 𝓤 𝓛 𝓜 𝓡))
+    (cited 𝓤 𝓛.H (triple_of 𝓛 refused-answer.signature (refused-answer.spec 𝓛 𝓜.mem 𝓡.run)) 𝓜 𝓡 mine.env #refused-answer refused-answer-def.routine mine.calls-call_answers::refused_answer (refused-answer-thm.met 𝓤 𝓛 𝓜 𝓡)))

@@ -7,5 +7,5 @@ use Rattle.chain_call.proofs.judged.Tie as tie
 returns : tie.Need-returns
 returns c = c.admit.ensures true
 
-pub judged-spec : {M : Type 1} → statement M
-judged-spec = tie.close (tie.spec (λ c κs. search rules) returns)
+pub judged_spec : {M : Type 1} → statement M
+judged_spec = tie.close (tie.spec (λ c κs. search rules) returns)

@@ -99,7 +99,7 @@ module _ {M : Type 1} {𝓤 : Ura M} (𝓛 : Logic 𝓤) (mem : Memory → SProp
         lends_out ! 5 refl $
         lends_local ! tt (arrays words32 4096) 5 7 own_code (repeats-good words32 4096 0 own-code-is (refl, omega arith)) refl refl tt refl (λ ν1-own-code δ1-own-code.
         lends_local ! tt (arrays ints32 8224) 7 8 own-cells (repeats-good ints32 8224 (pos 0) own-cells-is (refl, omega arith)) refl refl tt refl (λ ν1-own-cells δ1-own-cells.
-        move ! (2 ∷ 0 ∷ 4 ∷ 5 ∷ 6 ∷ 7 ∷ 8 ∷ []) $ calls_by ! (fm_of 𝓤 H 𝓛.laws 𝓣) (triple_of 𝓛 ran_on.signature (ran_on.spec 𝓛 mem run)) known-ran-on (to (for-ran-on (loan_at (β 7) ν1-own-code δ1-own-code) own_code (loan_at (β 8) ν1-own-cells δ1-own-cells) own-cells (loan_slice κ0 q0 script#) script#.now numbers (loan_slice κ1 q1 table#) table#.now (loan_slice κ2 q2 groups#) groups#.now (loan_slice κ3 q3 sheet#) sheet#.now (loan_slice κ4 q4 records#) records#.now)) (for-ran-on (loan_at (β 7) ν1-own-code δ1-own-code) own_code (loan_at (β 8) ν1-own-cells δ1-own-cells) own-cells (loan_slice κ0 q0 script#) script#.now numbers (loan_slice κ1 q1 table#) table#.now (loan_slice κ2 q2 groups#) groups#.now (loan_slice κ3 q3 sheet#) sheet#.now (loan_slice κ4 q4 records#) records#.now) refl (g-numbers, tt) _ (facts.asks-ran-on script#.now numbers table#.now groups#.now sheet#.now records#.now pre own_code own-code-is own-cells own-cells-is) (id⊢ 𝓤 _) answers _ (λ v. id⊢ 𝓤 _)
+        move ! (2 ∷ 0 ∷ 4 ∷ 5 ∷ 6 ∷ 7 ∷ 8 ∷ []) $ calls_by ! (fm_of 𝓤 H 𝓛.laws 𝓣) (triple_of 𝓛 ran_on.signature (ran_on.spec 𝓛 mem run)) known-ran-on (to (for-ran-on (loan_at (β 7) ν1-own-code δ1-own-code) own_code (loan_at (β 8) ν1-own-cells δ1-own-cells) own-cells (loan_slice κ0 q0 script#) script#.now numbers (loan_slice κ1 q1 table#) table#.now (loan_slice κ2 q2 groups#) groups#.now (loan_slice κ3 q3 sheet#) sheet#.now (loan_slice κ4 q4 records#) records#.now)) (for-ran-on (loan_at (β 7) ν1-own-code δ1-own-code) own_code (loan_at (β 8) ν1-own-cells δ1-own-cells) own-cells (loan_slice κ0 q0 script#) script#.now numbers (loan_slice κ1 q1 table#) table#.now (loan_slice κ2 q2 groups#) groups#.now (loan_slice κ3 q3 sheet#) sheet#.now (loan_slice κ4 q4 records#) records#.now) refl (g-numbers, tt) _ (facts.asks-ran_on script#.now numbers table#.now groups#.now sheet#.now records#.now pre own_code own-code-is own-cells own-cells-is) (id⊢ 𝓤 _) answers _ (λ v. id⊢ 𝓤 _)
         (and_then ! (var-in ! 9 9 refl refl tt) (and_then ! (var-in ! 9 10 refl refl tt) (and_then ! (var-in ! 9 1 refl refl tt) (and_then ! (var-in ! 9 2 refl refl tt) (and_then ! (var-in ! 9 12 refl refl tt) (and_then ! (var-in ! 9 14 refl refl tt) (and_then ! (var-in ! 9 16 refl refl tt) (and_then ! (var-in ! 9 18 refl refl tt) (no_more !))))))))) (λ ran-on1 ws1 g-ran-on1 e1 same1.
         move ! (0 ∷ 8 ∷ []) $ back-local ! tt (arrays words32 4096) 7 7 (β 7) ws1.0 ν1-own-code δ1-own-code refl refl tt refl refl (λ g1-own-code.
         move ! (0 ∷ 6 ∷ []) $ back-local ! tt (arrays ints32 8224) 5 8 (β 8) ws1.1.0 ν1-own-cells δ1-own-cells refl refl tt refl refl (λ g1-own-cells.
@@ -118,9 +118,9 @@ module _ {M : Type 1} {𝓤 : Ura M} (𝓛 : Logic 𝓤) (mem : Memory → SProp
       (λ κs. (shr_slice_Tells (named 0) κs.0 u8, (numberss.tells, (mut_slice_Tells (named 1) κs.1.0 i32, (mut_slice_Tells (named 2) κs.1.1.0 i32, (mut_slice_Tells (named 3) κs.1.1.1.0 i32, (mut_slice_Tells (named 4) κs.1.1.1.1.0 recs.type, tt)))))))
       (λ κs qs bounds a g are. needs 𝓤 (said.Pre a.0.now a.1.0 a.1.1.0.now a.1.1.1.0.now a.1.1.1.1.0.now a.1.1.1.1.1.0.now) _ (λ pre. walk 𝓛 mem run κs.0 κs.1.0 κs.1.1.0 κs.1.1.1.0 κs.1.1.1.1.0 qs.0 qs.1.0 qs.1.1.0 qs.1.1.1.0 qs.1.1.1.1.0 a.0 a.1.0 a.1.1.0 a.1.1.1.0 a.1.1.1.1.0 a.1.1.1.1.1.0 are.0.0.1 are.1.1.0.0.1 are.1.1.1.0.0.1 are.1.1.1.1.0.0.1 are.1.1.1.1.1.0.0.1 are.1.0 (replicate 4096 0) refl (replicate 8224 (pos 0)) refl pre 𝓣 known-ran-on)))
 
-pub ran-spec : {M : Type 1} → stated.statement M
+pub ran_spec : {M : Type 1} → stated.statement M
 unfolding mine.routine tables_of
-ran-spec 𝓤 𝓛 𝓜 𝓡 =
+ran_spec 𝓤 𝓛 𝓜 𝓡 =
     by-walk 𝓤 𝓛.H 𝓜 𝓡 mine.env #me mine.function (triple_of 𝓛 f.signature (f.spec 𝓛 𝓜.mem 𝓡.run)) (mine.unfolded 𝓤 𝓛.H 𝓜 𝓡)
     (meets 𝓛 𝓜.mem 𝓡.run (tables_of 𝓤 𝓛.H 𝓜 (tables 𝓤 𝓛.H 𝓜 𝓡 mine.env))
-    (cited 𝓤 𝓛.H (triple_of 𝓛 ran_on.signature (ran_on.spec 𝓛 𝓜.mem 𝓡.run)) 𝓜 𝓡 mine.env #ran-on ran-on-def.routine mine.calls-chain-call::ran-on (ran-on-thm.met 𝓤 𝓛 𝓜 𝓡)))
+    (cited 𝓤 𝓛.H (triple_of 𝓛 ran_on.signature (ran_on.spec 𝓛 𝓜.mem 𝓡.run)) 𝓜 𝓡 mine.env #ran-on ran-on-def.routine mine.calls-chain_call::ran_on (ran-on-thm.met 𝓤 𝓛 𝓜 𝓡)))

@@ -141,7 +141,7 @@ module _ {M : Type 1} {𝓤 : Ura M} (𝓛 : Logic 𝓤) (mem : Memory → SProp
         shares-ref ! tt (Array u32 tt 4096) (loan_ref κ0 q0 code#) ws1.1.1.0 (λ p3-code ν3-code δ3-code.
         move ! (3 ∷ []) $ lends_ref ! tt (Array i32 tt 8224) (loan_ref κ1 q1 cells#) cells#.now (λ p3-cells ν3-cells δ3-cells.
         move ! (8 ∷ []) $ lends_slice ! tt recs.type (loan_slice κ6 q6 records#) records#.now (λ ν3-records δ3-records.
-        move ! (4 ∷ 2 ∷ 0 ∷ 7 ∷ 8 ∷ []) $ calls_by ! (fm_of 𝓤 H 𝓛.laws 𝓣) (triple_of 𝓛 run-program.signature (run-program.spec 𝓛 mem run)) known-run-program (to (for-run-program (relent (loan_ref κ0 q0 code#) ν3-code δ3-code) ws1.1.1.0 (relent (loan_ref κ1 q1 cells#) ν3-cells δ3-cells) cells#.now (relent (loan_slice κ6 q6 records#) ν3-records δ3-records) records#.now (loan_slice κ3 q3 table#) table#.now (loan_slice κ4 q4 groups#) groups#.now numbers.count numbers.g activations-of2 numbers.n)) (for-run-program (relent (loan_ref κ0 q0 code#) ν3-code δ3-code) ws1.1.1.0 (relent (loan_ref κ1 q1 cells#) ν3-cells δ3-cells) cells#.now (relent (loan_slice κ6 q6 records#) ν3-records δ3-records) records#.now (loan_slice κ3 q3 table#) table#.now (loan_slice κ4 q4 groups#) groups#.now numbers.count numbers.g activations-of2 numbers.n) refl ((owed CallNumbers#.the_type CallNumbers'.the_laws numbers _ g-numbers).1.1.1.1.0, ((owed CallNumbers#.the_type CallNumbers'.the_laws numbers _ g-numbers).1.1.0, (g-activations-of2, ((owed CallNumbers#.the_type CallNumbers'.the_laws numbers _ g-numbers).1.0, tt)))) _ (facts.asks-run-program code#.now cells#.now script#.now numbers table#.now groups#.now sheet#.now records#.now pre ws1.1.1.0 e1 activations-of2 e2) (asks-all 𝓤 𝓛 (for-run-program (relent (loan_ref κ0 q0 code#) ν3-code δ3-code) ws1.1.1.0 (relent (loan_ref κ1 q1 cells#) ν3-cells δ3-cells) cells#.now (relent (loan_slice κ6 q6 records#) ν3-records δ3-records) records#.now (loan_slice κ3 q3 table#) table#.now (loan_slice κ4 q4 groups#) groups#.now numbers.count numbers.g activations-of2 numbers.n) (_ ∷ _ ∷ [])) halts _ (said-together 𝓛 (for-run-program (relent (loan_ref κ0 q0 code#) ν3-code δ3-code) ws1.1.1.0 (relent (loan_ref κ1 q1 cells#) ν3-cells δ3-cells) cells#.now (relent (loan_slice κ6 q6 records#) ν3-records δ3-records) records#.now (loan_slice κ3 q3 table#) table#.now (loan_slice κ4 q4 groups#) groups#.now numbers.count numbers.g activations-of2 numbers.n) halts.type (_ ∷ _ ∷ []))
+        move ! (4 ∷ 2 ∷ 0 ∷ 7 ∷ 8 ∷ []) $ calls_by ! (fm_of 𝓤 H 𝓛.laws 𝓣) (triple_of 𝓛 run-program.signature (run-program.spec 𝓛 mem run)) known-run-program (to (for-run-program (relent (loan_ref κ0 q0 code#) ν3-code δ3-code) ws1.1.1.0 (relent (loan_ref κ1 q1 cells#) ν3-cells δ3-cells) cells#.now (relent (loan_slice κ6 q6 records#) ν3-records δ3-records) records#.now (loan_slice κ3 q3 table#) table#.now (loan_slice κ4 q4 groups#) groups#.now numbers.count numbers.g activations-of2 numbers.n)) (for-run-program (relent (loan_ref κ0 q0 code#) ν3-code δ3-code) ws1.1.1.0 (relent (loan_ref κ1 q1 cells#) ν3-cells δ3-cells) cells#.now (relent (loan_slice κ6 q6 records#) ν3-records δ3-records) records#.now (loan_slice κ3 q3 table#) table#.now (loan_slice κ4 q4 groups#) groups#.now numbers.count numbers.g activations-of2 numbers.n) refl ((owed CallNumbers#.the_type CallNumbers'.the_laws numbers _ g-numbers).1.1.1.1.0, ((owed CallNumbers#.the_type CallNumbers'.the_laws numbers _ g-numbers).1.1.0, (g-activations-of2, ((owed CallNumbers#.the_type CallNumbers'.the_laws numbers _ g-numbers).1.0, tt)))) _ (facts.asks-run_program code#.now cells#.now script#.now numbers table#.now groups#.now sheet#.now records#.now pre ws1.1.1.0 e1 activations-of2 e2) (asks-all 𝓤 𝓛 (for-run-program (relent (loan_ref κ0 q0 code#) ν3-code δ3-code) ws1.1.1.0 (relent (loan_ref κ1 q1 cells#) ν3-cells δ3-cells) cells#.now (relent (loan_slice κ6 q6 records#) ν3-records δ3-records) records#.now (loan_slice κ3 q3 table#) table#.now (loan_slice κ4 q4 groups#) groups#.now numbers.count numbers.g activations-of2 numbers.n) (_ ∷ _ ∷ [])) halts _ (said-together 𝓛 (for-run-program (relent (loan_ref κ0 q0 code#) ν3-code δ3-code) ws1.1.1.0 (relent (loan_ref κ1 q1 cells#) ν3-cells δ3-cells) cells#.now (relent (loan_slice κ6 q6 records#) ν3-records δ3-records) records#.now (loan_slice κ3 q3 table#) table#.now (loan_slice κ4 q4 groups#) groups#.now numbers.count numbers.g activations-of2 numbers.n) halts.type (_ ∷ _ ∷ []))
         (and_then ! (var ! 10 13 refl refl tt) (and_then ! (var ! 10 14 refl refl tt) (and_then ! (var ! 10 16 refl refl tt) (and_then ! (var ! 10 18 refl refl tt) (and_then ! (var ! 10 20 refl refl tt) (and_then ! (part ! 10 4 4 refl refl tt refl refl refl) (and_then ! (part ! 10 4 2 refl refl tt refl refl refl) (and_then ! (var ! 10 21 refl refl tt) (and_then ! (part ! 10 4 1 refl refl tt refl refl refl) (no_more !)))))))))) (λ halt3 ws3 g-halt3 e3 same3.
         lands-in ! 10 9 refl tt (typed 𝓛 halts halt3 g-halt3) $
         move ! (0 ∷ 7 ∷ []) $ unshares-ref ! tt (Array u32 tt 4096) (loan_ref κ0 q0 code#) ws1.1.1.0 ν3-code δ3-code p3-code $
@@ -156,7 +156,7 @@ module _ {M : Type 1} {𝓤 : Ura M} (𝓛 : Logic 𝓤) (mem : Memory → SProp
         move ! (2 ∷ []) $ shares-ref ! tt (Array u32 tt 4096) (loan_ref κ0 q0 code#) ws1.1.1.0 (λ p4-code ν4-code δ4-code.
         move ! (3 ∷ []) $ shares-ref ! tt (Array i32 tt 8224) (loan_ref κ1 q1 cells#) ws3.1.0 (λ p4-cells ν4-cells δ4-cells.
         move ! (4 ∷ []) $ shares-slice ! tt recs.type (loan_slice κ6 q6 records#) ws3.1.1.0 (λ ν4-records δ4-records.
-        move ! (4 ∷ 2 ∷ 0 ∷ 9 ∷ []) $ calls_by ! (fm_of 𝓤 H 𝓛.laws 𝓣) (triple_of 𝓛 write-sheet.signature (write-sheet.spec 𝓛 mem run)) known-write-sheet (to (for-write-sheet (relent (loan_ref κ0 q0 code#) ν4-code δ4-code) ws1.1.1.0 (relent (loan_ref κ1 q1 cells#) ν4-cells δ4-cells) ws3.1.0 (relent (loan_slice κ6 q6 records#) ν4-records δ4-records) ws3.1.1.0 halt3.live (loan_slice κ5 q5 sheet#) sheet#.now)) (for-write-sheet (relent (loan_ref κ0 q0 code#) ν4-code δ4-code) ws1.1.1.0 (relent (loan_ref κ1 q1 cells#) ν4-cells δ4-cells) ws3.1.0 (relent (loan_slice κ6 q6 records#) ν4-records δ4-records) ws3.1.1.0 halt3.live (loan_slice κ5 q5 sheet#) sheet#.now) refl ((owed Halt#.the_type Halt'.the_laws halt3 _ g-halt3).1.1.1.0, tt) _ (facts.asks-write-sheet code#.now cells#.now script#.now numbers table#.now groups#.now sheet#.now records#.now pre ws1.1.1.0 e1 activations-of2 e2 halt3 ws3.1.0 ws3.1.1.0 ws3.1.1.1.0 ws3.1.1.1.1.0 e3 same3.1.1.0 same3.1.1.1.0 same3.1.1.1.1.0) (asks-all 𝓤 𝓛 (for-write-sheet (relent (loan_ref κ0 q0 code#) ν4-code δ4-code) ws1.1.1.0 (relent (loan_ref κ1 q1 cells#) ν4-cells δ4-cells) ws3.1.0 (relent (loan_slice κ6 q6 records#) ν4-records δ4-records) ws3.1.1.0 halt3.live (loan_slice κ5 q5 sheet#) sheet#.now) (_ ∷ _ ∷ _ ∷ [])) usizes _ (λ v. id⊢ 𝓤 _)
+        move ! (4 ∷ 2 ∷ 0 ∷ 9 ∷ []) $ calls_by ! (fm_of 𝓤 H 𝓛.laws 𝓣) (triple_of 𝓛 write-sheet.signature (write-sheet.spec 𝓛 mem run)) known-write-sheet (to (for-write-sheet (relent (loan_ref κ0 q0 code#) ν4-code δ4-code) ws1.1.1.0 (relent (loan_ref κ1 q1 cells#) ν4-cells δ4-cells) ws3.1.0 (relent (loan_slice κ6 q6 records#) ν4-records δ4-records) ws3.1.1.0 halt3.live (loan_slice κ5 q5 sheet#) sheet#.now)) (for-write-sheet (relent (loan_ref κ0 q0 code#) ν4-code δ4-code) ws1.1.1.0 (relent (loan_ref κ1 q1 cells#) ν4-cells δ4-cells) ws3.1.0 (relent (loan_slice κ6 q6 records#) ν4-records δ4-records) ws3.1.1.0 halt3.live (loan_slice κ5 q5 sheet#) sheet#.now) refl ((owed Halt#.the_type Halt'.the_laws halt3 _ g-halt3).1.1.1.0, tt) _ (facts.asks-write_sheet code#.now cells#.now script#.now numbers table#.now groups#.now sheet#.now records#.now pre ws1.1.1.0 e1 activations-of2 e2 halt3 ws3.1.0 ws3.1.1.0 ws3.1.1.1.0 ws3.1.1.1.1.0 e3 same3.1.1.0 same3.1.1.1.0 same3.1.1.1.1.0) (asks-all 𝓤 𝓛 (for-write-sheet (relent (loan_ref κ0 q0 code#) ν4-code δ4-code) ws1.1.1.0 (relent (loan_ref κ1 q1 cells#) ν4-cells δ4-cells) ws3.1.0 (relent (loan_slice κ6 q6 records#) ν4-records δ4-records) ws3.1.1.0 halt3.live (loan_slice κ5 q5 sheet#) sheet#.now) (_ ∷ _ ∷ _ ∷ [])) usizes _ (λ v. id⊢ 𝓤 _)
         (and_then ! (var ! 10 22 refl refl tt) (and_then ! (var ! 10 23 refl refl tt) (and_then ! (var ! 10 25 refl refl tt) (and_then ! (part ! 10 9 3 refl refl tt refl refl refl) (and_then ! (var ! 10 27 refl refl tt) (no_more !)))))) (λ written4 ws4 g-written4 e4 same4.
         lands-in ! 10 10 refl tt (typed 𝓛 usizes written4 g-written4) $
         move ! (0 ∷ 6 ∷ []) $ unshares-ref ! tt (Array u32 tt 4096) (loan_ref κ0 q0 code#) ws1.1.1.0 ν4-code δ4-code p4-code $
@@ -183,13 +183,13 @@ module _ {M : Type 1} {𝓤 : Ura M} (𝓛 : Logic 𝓤) (mem : Memory → SProp
       (λ κs. (mut_Tells (named 0) κs.0 (Array u32 tt 4096), (mut_Tells (named 1) κs.1.0 (Array i32 tt 8224), (shr_slice_Tells (named 2) κs.1.1.0 u8, (numberss.tells, (mut_slice_Tells (named 3) κs.1.1.1.0 i32, (mut_slice_Tells (named 4) κs.1.1.1.1.0 i32, (mut_slice_Tells (named 5) κs.1.1.1.1.1.0 i32, (mut_slice_Tells (named 6) κs.1.1.1.1.1.1.0 recs.type, tt)))))))))
       (λ κs qs bounds a g are. needs 𝓤 (said.Pre a.0.now a.1.0.now a.1.1.0.now a.1.1.1.0 a.1.1.1.1.0.now a.1.1.1.1.1.0.now a.1.1.1.1.1.1.0.now a.1.1.1.1.1.1.1.0.now) _ (λ pre. walk 𝓛 mem run κs.0 κs.1.0 κs.1.1.0 κs.1.1.1.0 κs.1.1.1.1.0 κs.1.1.1.1.1.0 κs.1.1.1.1.1.1.0 qs.0 qs.1.0 qs.1.1.0 qs.1.1.1.0 qs.1.1.1.1.0 qs.1.1.1.1.1.0 qs.1.1.1.1.1.1.0 a.0 a.1.0 a.1.1.0 a.1.1.1.0 a.1.1.1.1.0 a.1.1.1.1.1.0 a.1.1.1.1.1.1.0 a.1.1.1.1.1.1.1.0 are.1.1.0.0.1 are.1.1.1.1.0.0.1 are.1.1.1.1.1.0.0.1 are.1.1.1.1.1.1.0.0.1 are.1.1.1.1.1.1.1.0.0.1 are.1.1.1.0 pre 𝓣 known-resolved known-activations-of known-run-program known-write-sheet known-answered)))
 
-pub ran-on-spec : {M : Type 1} → stated.statement M
+pub ran_on_spec : {M : Type 1} → stated.statement M
 unfolding mine.routine tables_of
-ran-on-spec 𝓤 𝓛 𝓜 𝓡 =
+ran_on_spec 𝓤 𝓛 𝓜 𝓡 =
     by-walk 𝓤 𝓛.H 𝓜 𝓡 mine.env #me mine.function (triple_of 𝓛 f.signature (f.spec 𝓛 𝓜.mem 𝓡.run)) (mine.unfolded 𝓤 𝓛.H 𝓜 𝓡)
     (meets 𝓛 𝓜.mem 𝓡.run (tables_of 𝓤 𝓛.H 𝓜 (tables 𝓤 𝓛.H 𝓜 𝓡 mine.env))
-    (cited 𝓤 𝓛.H (triple_of 𝓛 resolved.signature (resolved.spec 𝓛 𝓜.mem 𝓡.run)) 𝓜 𝓡 mine.env #resolved resolved-def.routine mine.calls-chain-call::resolved (resolved-thm.met 𝓤 𝓛 𝓜 𝓡))
-    (cited 𝓤 𝓛.H (triple_of 𝓛 activations-of.signature (activations-of.spec 𝓛 𝓜.mem 𝓡.run)) 𝓜 𝓡 mine.env #activations-of activations-of-def.routine mine.calls-chain-call::activations-of (activations-of-thm.met 𝓤 𝓛 𝓜 𝓡))
-    (cited 𝓤 𝓛.H (triple_of 𝓛 run-program.signature (run-program.spec 𝓛 𝓜.mem 𝓡.run)) 𝓜 𝓡 mine.env #run-program run-program-def.routine mine.calls-chain-run::run::run-program (run-program-thm.met 𝓤 𝓛 𝓜 𝓡))
-    (cited 𝓤 𝓛.H (triple_of 𝓛 write-sheet.signature (write-sheet.spec 𝓛 𝓜.mem 𝓡.run)) 𝓜 𝓡 mine.env #write-sheet write-sheet-def.routine mine.calls-chain-run::sheet::write-sheet (write-sheet-thm.met 𝓤 𝓛 𝓜 𝓡))
-    (cited 𝓤 𝓛.H (triple_of 𝓛 answered.signature (answered.spec 𝓛 𝓜.mem 𝓡.run)) 𝓜 𝓡 mine.env #answered answered-def.routine mine.calls-chain-call::answered (answered-thm.met 𝓤 𝓛 𝓜 𝓡)))
+    (cited 𝓤 𝓛.H (triple_of 𝓛 resolved.signature (resolved.spec 𝓛 𝓜.mem 𝓡.run)) 𝓜 𝓡 mine.env #resolved resolved-def.routine mine.calls-chain_call::resolved (resolved-thm.met 𝓤 𝓛 𝓜 𝓡))
+    (cited 𝓤 𝓛.H (triple_of 𝓛 activations-of.signature (activations-of.spec 𝓛 𝓜.mem 𝓡.run)) 𝓜 𝓡 mine.env #activations-of activations-of-def.routine mine.calls-chain_call::activations_of (activations-of-thm.met 𝓤 𝓛 𝓜 𝓡))
+    (cited 𝓤 𝓛.H (triple_of 𝓛 run-program.signature (run-program.spec 𝓛 𝓜.mem 𝓡.run)) 𝓜 𝓡 mine.env #run-program run-program-def.routine mine.calls-chain_run::run::run_program (run-program-thm.met 𝓤 𝓛 𝓜 𝓡))
+    (cited 𝓤 𝓛.H (triple_of 𝓛 write-sheet.signature (write-sheet.spec 𝓛 𝓜.mem 𝓡.run)) 𝓜 𝓡 mine.env #write-sheet write-sheet-def.routine mine.calls-chain_run::sheet::write_sheet (write-sheet-thm.met 𝓤 𝓛 𝓜 𝓡))
+    (cited 𝓤 𝓛.H (triple_of 𝓛 answered.signature (answered.spec 𝓛 𝓜.mem 𝓡.run)) 𝓜 𝓡 mine.env #answered answered-def.routine mine.calls-chain_call::answered (answered-thm.met 𝓤 𝓛 𝓜 𝓡)))

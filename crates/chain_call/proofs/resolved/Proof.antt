@@ -7,7 +7,7 @@ use Rattle.chain_call.proofs.resolved.Tie as tie
 returns : tie.Need-returns
 returns c =
     let z = c.before.before.before in
-    (c.resolve.ensures, bytes-are z.before.args.script.now (λ i. (z.shared-slice-known.given i).fits))
+    (c.resolve.ensures, bytes-are z.before.args.script.now (λ i. (z.shared_slice_known-1.given i).fits))
 
-pub resolved-spec : {M : Type 1} → statement M
-resolved-spec = tie.close (tie.spec (λ c. search rules) (λ c κs. search rules) returns)
+pub resolved_spec : {M : Type 1} → statement M
+resolved_spec = tie.close (tie.spec (λ c. search rules) (λ c κs. search rules) returns)

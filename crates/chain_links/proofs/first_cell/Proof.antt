@@ -120,10 +120,10 @@ module _ {M : Type 1} {𝓤 : Ura M} (𝓛 : Logic 𝓤) (mem : Memory → SProp
       (λ κs. (shr_Tells (named 0) κs.0 (Array u32 tt 4096), (shr_slice_Tells (named 1) κs.1.0 recs.type, (registers.tells, (usizes.tells, (usizes.tells, tt))))))
       (λ κs qs bounds a g are. needs 𝓤 (said.Pre a.0.now a.1.0.now a.1.1.0 a.1.1.1.0 a.1.1.1.1.0) _ (λ pre. walk 𝓛 mem run κs.0 κs.1.0 qs.0 qs.1.0 a.0 a.1.0 a.1.1.0 a.1.1.1.0 a.1.1.1.1.0 are.1.0.0.1 are.1.1.0 are.1.1.1.0 are.1.1.1.1.0 pre 𝓣 known-hops known-follow)))
 
-pub first-cell-spec : {M : Type 1} → stated.statement M
+pub first_cell_spec : {M : Type 1} → stated.statement M
 unfolding mine.routine tables_of
-first-cell-spec 𝓤 𝓛 𝓜 𝓡 =
+first_cell_spec 𝓤 𝓛 𝓜 𝓡 =
     by-walk 𝓤 𝓛.H 𝓜 𝓡 mine.env #me mine.function (triple_of 𝓛 f.signature (f.spec 𝓛 𝓜.mem 𝓡.run)) (mine.unfolded 𝓤 𝓛.H 𝓜 𝓡)
     (meets 𝓛 𝓜.mem 𝓡.run (tables_of 𝓤 𝓛.H 𝓜 (tables 𝓤 𝓛.H 𝓜 𝓡 mine.env))
-    (cited 𝓤 𝓛.H (triple_of 𝓛 hops.signature (hops.spec 𝓛 𝓜.mem 𝓡.run)) 𝓜 𝓡 mine.env #hops hops-def.routine mine.calls-chain-links::hops (hops-thm.met 𝓤 𝓛 𝓜 𝓡))
-    (cited 𝓤 𝓛.H (triple_of 𝓛 follow.signature (follow.spec 𝓛 𝓜.mem 𝓡.run)) 𝓜 𝓡 mine.env #follow follow-def.routine mine.calls-chain-records::follow (follow-thm.met 𝓤 𝓛 𝓜 𝓡)))
+    (cited 𝓤 𝓛.H (triple_of 𝓛 hops.signature (hops.spec 𝓛 𝓜.mem 𝓡.run)) 𝓜 𝓡 mine.env #hops hops-def.routine mine.calls-chain_links::hops (hops-thm.met 𝓤 𝓛 𝓜 𝓡))
+    (cited 𝓤 𝓛.H (triple_of 𝓛 follow.signature (follow.spec 𝓛 𝓜.mem 𝓡.run)) 𝓜 𝓡 mine.env #follow follow-def.routine mine.calls-chain_records::follow (follow-thm.met 𝓤 𝓛 𝓜 𝓡)))

@@ -139,12 +139,12 @@ module _ {M : Type 1} {𝓤 : Ura M} (𝓛 : Logic 𝓤) (mem : Memory → SProp
         (and_then ! (var ! 4 9 refl refl tt) (and_then ! (part ! 4 4 0 refl refl tt refl refl refl) (no_more !))) (λ own1 _ g-own1 e1 _.
         lands-in ! 4 5 refl tt (typed 𝓛 recs own1 g-own1) $
         unshares-slice ! tt recs.type (loan_slice κ2 q2 records#) records#.now ν1-records δ1-records $
-        move ! (1 ∷ []) $ calls_by ! (fm_of 𝓤 H 𝓛.laws 𝓣) (triple_of 𝓛 looked-up.signature (looked-up.spec 𝓛 mem run)) known-looked-up (to (for-looked-up (loan_ref κ0 q0 code#) code#.now own1)) (for-looked-up (loan_ref κ0 q0 code#) code#.now own1) refl (g-own1, tt) _ (facts.asks-looked-up code#.now cells#.now records#.now here pre own1 e1) (id⊢ 𝓤 _) usizes _ (λ v. id⊢ 𝓤 _)
+        move ! (1 ∷ []) $ calls_by ! (fm_of 𝓤 H 𝓛.laws 𝓣) (triple_of 𝓛 looked-up.signature (looked-up.spec 𝓛 mem run)) known-looked-up (to (for-looked-up (loan_ref κ0 q0 code#) code#.now own1)) (for-looked-up (loan_ref κ0 q0 code#) code#.now own1) refl (g-own1, tt) _ (facts.asks-looked_up code#.now cells#.now records#.now here pre own1 e1) (id⊢ 𝓤 _) usizes _ (λ v. id⊢ 𝓤 _)
         (and_then ! (var ! 3 1 refl refl tt) (and_then ! (var ! 3 5 refl refl tt) (no_more !))) (λ word2 _ g-word2 e2 _.
         lands-in ! 3 6 refl tt (typed 𝓛 usizes word2 g-word2) $
         puts ! 3 10 refl (lent-ptr ! 3 3 refl refl tt refl refl) tt (tt, tt) $
         puts ! 3 11 refl (lent_slice ! 3 3 10 refl refl refl tt tt refl refl) tt (tt, (tt, (record { fits = room-records.0 }, tt))) $
-        calls_by ! (fm_of 𝓤 H 𝓛.laws 𝓣) (triple_of 𝓛 links-to.signature (links-to.spec 𝓛 mem run)) known-links-to (to (for-links-to here word2)) (for-links-to here word2) refl (g-here, (g-word2, tt)) _ (facts.asks-links-to code#.now cells#.now records#.now here pre own1 e1 word2 e2) (id⊢ 𝓤 _) usizes _ (λ v. id⊢ 𝓤 _)
+        calls_by ! (fm_of 𝓤 H 𝓛.laws 𝓣) (triple_of 𝓛 links-to.signature (links-to.spec 𝓛 mem run)) known-links-to (to (for-links-to here word2)) (for-links-to here word2) refl (g-here, (g-word2, tt)) _ (facts.asks-links_to code#.now cells#.now records#.now here pre own1 e1 word2 e2) (id⊢ 𝓤 _) usizes _ (λ v. id⊢ 𝓤 _)
         (and_then ! (var ! 3 4 refl refl tt) (and_then ! (var ! 3 6 refl refl tt) (no_more !))) (λ links-to3 _ g-links-to3 e3 _.
         lands-in ! 3 12 refl tt (typed 𝓛 usizes links-to3 g-links-to3) $
         move ! (1 ∷ []) $ shares-slice ! tt recs.type (loan_slice κ2 q2 records#) records#.now (λ ν4-records δ4-records.
@@ -154,13 +154,13 @@ module _ {M : Type 1} {𝓤 : Ura M} (𝓛 : Logic 𝓤) (mem : Memory → SProp
         unshares-slice ! tt recs.type (loan_slice κ2 q2 records#) records#.now ν4-records δ4-records $
         puts ! 3 14 refl (lent-ptr ! 3 3 refl refl tt refl refl) tt (tt, tt) $
         puts ! 3 15 refl (lent_slice ! 3 3 14 refl refl refl tt tt refl refl) tt (tt, (tt, (record { fits = room-records.0 }, tt))) $
-        calls_by ! (fm_of 𝓤 H 𝓛.laws 𝓣) (triple_of 𝓛 with-next.signature (with-next.spec 𝓛 mem run)) known-with-next (to (for-with-next own1 here.at)) (for-with-next own1 here.at) refl (g-own1, ((owed Registers#.the_type Registers'.the_laws here _ g-here).1.0, tt)) _ (facts.asks-with-next code#.now cells#.now records#.now here pre) (id⊢ 𝓤 _) recs _ (λ v. id⊢ 𝓤 _)
+        calls_by ! (fm_of 𝓤 H 𝓛.laws 𝓣) (triple_of 𝓛 with-next.signature (with-next.spec 𝓛 mem run)) known-with-next (to (for-with-next own1 here.at)) (for-with-next own1 here.at) refl (g-own1, ((owed Registers#.the_type Registers'.the_laws here _ g-here).1.0, tt)) _ (facts.asks-with_next code#.now cells#.now records#.now here pre) (id⊢ 𝓤 _) recs _ (λ v. id⊢ 𝓤 _)
         (and_then ! (var ! 3 5 refl refl tt) (and_then ! (part ! 3 4 1 refl refl tt refl refl refl) (no_more !))) (λ with-next5 _ g-with-next5 e5 _.
         lands-in ! 3 16 refl tt (typed 𝓛 recs with-next5 g-with-next5) $
         calls_by ! (fm_of 𝓤 H 𝓛.laws 𝓣) (triple_of 𝓛 push.signature (push.spec 𝓛 mem run)) known-push (to (for-push (loan_slice κ2 q2 records#) records#.now here.live with-next5)) (for-push (loan_slice κ2 q2 records#) records#.now here.live with-next5) refl ((owed Registers#.the_type Registers'.the_laws here _ g-here).0, (g-with-next5, tt)) _ (facts.asks-push code#.now cells#.now records#.now here pre) (id⊢ 𝓤 _) units _ (λ v. id⊢ 𝓤 _)
         (and_then ! (var ! 3 15 refl refl tt) (and_then ! (part ! 3 4 0 refl refl tt refl refl refl) (and_then ! (var ! 3 16 refl refl tt) (no_more !)))) (λ _ ws6 _ e6 same6.
         lands-in ! 3 13 refl tt (tt, tt) $
-        move ! (2 ∷ []) $ calls_by ! (fm_of 𝓤 H 𝓛.laws 𝓣) (triple_of 𝓛 found-by.signature (found-by.spec 𝓛 mem run)) known-found-by (to (for-found-by (loan_ref κ1 q1 cells#) cells#.now here word2 there4)) (for-found-by (loan_ref κ1 q1 cells#) cells#.now here word2 there4) refl (g-here, (g-word2, (g-there4, tt))) _ (facts.asks-found-by code#.now cells#.now records#.now here pre own1 e1 word2 e2 links-to3 e3 there4 e4) (id⊢ 𝓤 _) founds _ (λ v. id⊢ 𝓤 _)
+        move ! (2 ∷ []) $ calls_by ! (fm_of 𝓤 H 𝓛.laws 𝓣) (triple_of 𝓛 found-by.signature (found-by.spec 𝓛 mem run)) known-found-by (to (for-found-by (loan_ref κ1 q1 cells#) cells#.now here word2 there4)) (for-found-by (loan_ref κ1 q1 cells#) cells#.now here word2 there4) refl (g-here, (g-word2, (g-there4, tt))) _ (facts.asks-found_by code#.now cells#.now records#.now here pre own1 e1 word2 e2 links-to3 e3 there4 e4) (id⊢ 𝓤 _) founds _ (λ v. id⊢ 𝓤 _)
         (and_then ! (var ! 3 2 refl refl tt) (and_then ! (var ! 3 4 refl refl tt) (and_then ! (var ! 3 6 refl refl tt) (and_then ! (var ! 3 7 refl refl tt) (no_more !))))) (λ found-by7 _ g-found-by7 e7 _.
         lands-in ! 3 0 refl tt (typed 𝓛 founds found-by7 g-found-by7) $
         ends ! 3 refl refl tt $ move ! (2 ∷ 0 ∷ 1 ∷ []) $ by ! (exits found-by7 ws6.0 same6.0 g-found-by7 (facts.says code#.now cells#.now records#.now here pre own1 e1 word2 e2 links-to3 e3 there4 e4 with-next5 e5 ws6.0 e6 same6.0 found-by7 e7)))))))))))))
@@ -183,15 +183,15 @@ module _ {M : Type 1} {𝓤 : Ura M} (𝓛 : Logic 𝓤) (mem : Memory → SProp
       (λ κs. (shr_Tells (named 0) κs.0 (Array u32 tt 4096), (shr_Tells (named 1) κs.1.0 (Array i32 tt 8224), (mut_slice_Tells (named 2) κs.1.1.0 recs.type, (registers.tells, tt)))))
       (λ κs qs bounds a g are. needs 𝓤 (said.Pre a.0.now a.1.0.now a.1.1.0.now a.1.1.1.0) _ (λ pre. walk 𝓛 mem run κs.0 κs.1.0 κs.1.1.0 qs.0 qs.1.0 qs.1.1.0 a.0 a.1.0 a.1.1.0 a.1.1.1.0 are.1.1.0.0.1 are.1.1.1.0 pre 𝓣 known_read known-looked-up known-links-to known-follow known-with-next known-push known-found-by)))
 
-pub settle-spec : {M : Type 1} → stated.statement M
+pub settle_spec : {M : Type 1} → stated.statement M
 unfolding mine.routine tables_of
-settle-spec 𝓤 𝓛 𝓜 𝓡 =
+settle_spec 𝓤 𝓛 𝓜 𝓡 =
     by-walk 𝓤 𝓛.H 𝓜 𝓡 mine.env #me mine.function (triple_of 𝓛 f.signature (f.spec 𝓛 𝓜.mem 𝓡.run)) (mine.unfolded 𝓤 𝓛.H 𝓜 𝓡)
     (meets 𝓛 𝓜.mem 𝓡.run (tables_of 𝓤 𝓛.H 𝓜 (tables 𝓤 𝓛.H 𝓜 𝓡 mine.env))
-    (cited 𝓤 𝓛.H (triple_of 𝓛 read.signature (read.spec 𝓛 𝓜.mem 𝓡.run)) 𝓜 𝓡 mine.env #read read-def.routine mine.calls-chain-records::read (read-thm.met 𝓤 𝓛 𝓜 𝓡))
-    (cited 𝓤 𝓛.H (triple_of 𝓛 looked-up.signature (looked-up.spec 𝓛 𝓜.mem 𝓡.run)) 𝓜 𝓡 mine.env #looked-up looked-up-def.routine mine.calls-chain-links::looked-up (looked-up-thm.met 𝓤 𝓛 𝓜 𝓡))
-    (cited 𝓤 𝓛.H (triple_of 𝓛 links-to.signature (links-to.spec 𝓛 𝓜.mem 𝓡.run)) 𝓜 𝓡 mine.env #links-to links-to-def.routine mine.calls-chain-links::links-to (links-to-thm.met 𝓤 𝓛 𝓜 𝓡))
-    (cited 𝓤 𝓛.H (triple_of 𝓛 follow.signature (follow.spec 𝓛 𝓜.mem 𝓡.run)) 𝓜 𝓡 mine.env #follow follow-def.routine mine.calls-chain-records::follow (follow-thm.met 𝓤 𝓛 𝓜 𝓡))
-    (cited 𝓤 𝓛.H (triple_of 𝓛 with-next.signature (with-next.spec 𝓛 𝓜.mem 𝓡.run)) 𝓜 𝓡 mine.env #with-next with-next-def.routine mine.calls-chain-links::with-next (with-next-thm.met 𝓤 𝓛 𝓜 𝓡))
-    (cited 𝓤 𝓛.H (triple_of 𝓛 push.signature (push.spec 𝓛 𝓜.mem 𝓡.run)) 𝓜 𝓡 mine.env #push push-def.routine mine.calls-chain-records::push (push-thm.met 𝓤 𝓛 𝓜 𝓡))
-    (cited 𝓤 𝓛.H (triple_of 𝓛 found-by.signature (found-by.spec 𝓛 𝓜.mem 𝓡.run)) 𝓜 𝓡 mine.env #found-by found-by-def.routine mine.calls-chain-links::found-by (found-by-thm.met 𝓤 𝓛 𝓜 𝓡)))
+    (cited 𝓤 𝓛.H (triple_of 𝓛 read.signature (read.spec 𝓛 𝓜.mem 𝓡.run)) 𝓜 𝓡 mine.env #read read-def.routine mine.calls-chain_records::read (read-thm.met 𝓤 𝓛 𝓜 𝓡))
+    (cited 𝓤 𝓛.H (triple_of 𝓛 looked-up.signature (looked-up.spec 𝓛 𝓜.mem 𝓡.run)) 𝓜 𝓡 mine.env #looked-up looked-up-def.routine mine.calls-chain_links::looked_up (looked-up-thm.met 𝓤 𝓛 𝓜 𝓡))
+    (cited 𝓤 𝓛.H (triple_of 𝓛 links-to.signature (links-to.spec 𝓛 𝓜.mem 𝓡.run)) 𝓜 𝓡 mine.env #links-to links-to-def.routine mine.calls-chain_links::links_to (links-to-thm.met 𝓤 𝓛 𝓜 𝓡))
+    (cited 𝓤 𝓛.H (triple_of 𝓛 follow.signature (follow.spec 𝓛 𝓜.mem 𝓡.run)) 𝓜 𝓡 mine.env #follow follow-def.routine mine.calls-chain_records::follow (follow-thm.met 𝓤 𝓛 𝓜 𝓡))
+    (cited 𝓤 𝓛.H (triple_of 𝓛 with-next.signature (with-next.spec 𝓛 𝓜.mem 𝓡.run)) 𝓜 𝓡 mine.env #with-next with-next-def.routine mine.calls-chain_links::with_next (with-next-thm.met 𝓤 𝓛 𝓜 𝓡))
+    (cited 𝓤 𝓛.H (triple_of 𝓛 push.signature (push.spec 𝓛 𝓜.mem 𝓡.run)) 𝓜 𝓡 mine.env #push push-def.routine mine.calls-chain_records::push (push-thm.met 𝓤 𝓛 𝓜 𝓡))
+    (cited 𝓤 𝓛.H (triple_of 𝓛 found-by.signature (found-by.spec 𝓛 𝓜.mem 𝓡.run)) 𝓜 𝓡 mine.env #found-by found-by-def.routine mine.calls-chain_links::found_by (found-by-thm.met 𝓤 𝓛 𝓜 𝓡)))

@@ -147,8 +147,8 @@ module _ {M : Type 1} {𝓤 : Ura M} (𝓛 : Logic 𝓤) (mem : Memory → SProp
       (λ κs. (shr_slice_Tells (named 0) κs.0 recs.type, (usizes.tells, (usizes.tells, tt))))
       (λ κs qs bounds a g are. needs 𝓤 (said.Pre a.0.now a.1.0) _ (λ pre. walk 𝓛 mem run κs.0 qs.0 a.0 a.1.0 a.1.1.0 are.0.0.1 are.1.0 are.1.1.0 pre 𝓣)))
 
-pub follow-spec : {M : Type 1} → stated.statement M
+pub follow_spec : {M : Type 1} → stated.statement M
 unfolding mine.routine tables_of
-follow-spec 𝓤 𝓛 𝓜 𝓡 =
+follow_spec 𝓤 𝓛 𝓜 𝓡 =
     by-walk 𝓤 𝓛.H 𝓜 𝓡 mine.env #me mine.function (triple_of 𝓛 f.signature (f.spec 𝓛 𝓜.mem 𝓡.run)) (mine.unfolded 𝓤 𝓛.H 𝓜 𝓡)
     (meets 𝓛 𝓜.mem 𝓡.run (tables_of 𝓤 𝓛.H 𝓜 (tables 𝓤 𝓛.H 𝓜 𝓡 mine.env)))

@@ -93,36 +93,36 @@ module _ {M : Type 1} {𝓤 : Ura M} (𝓛 : Logic 𝓤) (mem : Memory → SProp
   abbrev statements-measure : Measure 𝓛 ℕ statements-stated
   statements-measure y = statements-size y.0.3.0.now y.0.3.1.0.now y.0.3.1.1.0 y.0.3.1.1.1.0 y.0.3.1.1.1.1.0
 
-pub +block-body-declarations-statement-statements-spec : {M : Type 1} → cycle.statement M
+pub +block_body_declarations_statement_statements_spec : {M : Type 1} → cycle.statement M
 unfolding code.block-routine code.body-routine code.declarations-routine code.statement-routine code.statements-routine tables_of
-+block-body-declarations-statement-statements-spec 𝓤 𝓛 𝓜 𝓡 =
++block_body_declarations_statement_statements_spec 𝓤 𝓛 𝓜 𝓡 =
     mutual_elim 𝓛 (cycle.functions 𝓛 𝓜.mem 𝓡.run) ◌<◌ lt-wf_rel.wf
     (measured 𝓛 (block-stated 𝓛 𝓜.mem 𝓡.run) (block-measure 𝓛 𝓜.mem 𝓡.run), (measured 𝓛 (body-stated 𝓛 𝓜.mem 𝓡.run) (body-measure 𝓛 𝓜.mem 𝓡.run), (measured 𝓛 (declarations-stated 𝓛 𝓜.mem 𝓡.run) (declarations-measure 𝓛 𝓜.mem 𝓡.run), (measured 𝓛 (statement-stated 𝓛 𝓜.mem 𝓡.run) (statement-measure 𝓛 𝓜.mem 𝓡.run), (measured 𝓛 (statements-stated 𝓛 𝓜.mem 𝓡.run) (statements-measure 𝓛 𝓜.mem 𝓡.run))))))
     (λ t smaller. at_on 𝓛 block'.signature (block'.spec 𝓛 𝓜.mem 𝓡.run) _ (𝓡.run code.block-routine) (code.block-unfolded 𝓤 𝓛.H 𝓜 𝓡) (block-measure 𝓛 𝓜.mem 𝓡.run) t (λ z e.
     of-block.at_size 𝓛 𝓜.mem 𝓡.run (tables_of 𝓤 𝓛.H 𝓜 (tables 𝓤 𝓛.H 𝓜 𝓡 code.env))
-    (cited 𝓤 𝓛.H (triple_of 𝓛 opened.signature (opened.spec 𝓛 𝓜.mem 𝓡.run)) 𝓜 𝓡 code.env opened-def.name opened-def.routine code.calls-check-bounds::block::opened (opened-thm.met 𝓤 𝓛 𝓜 𝓡))
+    (cited 𝓤 𝓛.H (triple_of 𝓛 opened.signature (opened.spec 𝓛 𝓜.mem 𝓡.run)) 𝓜 𝓡 code.env opened-def.name opened-def.routine code.calls-check_bounds::block::opened (opened-thm.met 𝓤 𝓛 𝓜 𝓡))
     z (λ y l. smaller.1.1.0 ((declarations-measure 𝓛 𝓜.mem 𝓡.run) y) (subst (λ (n : ℕ). (declarations-measure 𝓛 𝓜.mem 𝓡.run) y < n) e l) y refl)
     (λ y l. smaller.1.1.1.1 ((statements-measure 𝓛 𝓜.mem 𝓡.run) y) (subst (λ (n : ℕ). (statements-measure 𝓛 𝓜.mem 𝓡.run) y < n) e l) y refl)))
     (λ t smaller. at_on 𝓛 body'.signature (body'.spec 𝓛 𝓜.mem 𝓡.run) _ (𝓡.run code.body-routine) (code.body-unfolded 𝓤 𝓛.H 𝓜 𝓡) (body-measure 𝓛 𝓜.mem 𝓡.run) t (λ z e.
     of-body.at_size 𝓛 𝓜.mem 𝓡.run (tables_of 𝓤 𝓛.H 𝓜 (tables 𝓤 𝓛.H 𝓜 𝓡 code.env))
-    (cited 𝓤 𝓛.H (triple_of 𝓛 bodiless.signature (bodiless.spec 𝓛 𝓜.mem 𝓡.run)) 𝓜 𝓡 code.env bodiless-def.name bodiless-def.routine code.calls-check-blocks::bodiless (bodiless-thm.met 𝓤 𝓛 𝓜 𝓡))
-    (cited 𝓤 𝓛.H (triple_of 𝓛 read-formals.signature (read-formals.spec 𝓛 𝓜.mem 𝓡.run)) 𝓜 𝓡 code.env read-formals-def.name read-formals-def.routine code.calls-check-names::formals::read-formals (read-formals-thm.met 𝓤 𝓛 𝓜 𝓡))
-    (cited 𝓤 𝓛.H (triple_of 𝓛 read-block.signature (read-block.spec 𝓛 𝓜.mem 𝓡.run)) 𝓜 𝓡 code.env read-block-def.name read-block-def.routine code.calls-check-readers::read-block (read-block-thm.met 𝓤 𝓛 𝓜 𝓡))
-    (cited 𝓤 𝓛.H (triple_of 𝓛 onward.signature (onward.spec 𝓛 𝓜.mem 𝓡.run)) 𝓜 𝓡 code.env onward-def.name onward-def.routine code.calls-check-records::onward (onward-thm.met 𝓤 𝓛 𝓜 𝓡))
+    (cited 𝓤 𝓛.H (triple_of 𝓛 bodiless.signature (bodiless.spec 𝓛 𝓜.mem 𝓡.run)) 𝓜 𝓡 code.env bodiless-def.name bodiless-def.routine code.calls-check_blocks::bodiless (bodiless-thm.met 𝓤 𝓛 𝓜 𝓡))
+    (cited 𝓤 𝓛.H (triple_of 𝓛 read-formals.signature (read-formals.spec 𝓛 𝓜.mem 𝓡.run)) 𝓜 𝓡 code.env read-formals-def.name read-formals-def.routine code.calls-check_names::formals::read_formals (read-formals-thm.met 𝓤 𝓛 𝓜 𝓡))
+    (cited 𝓤 𝓛.H (triple_of 𝓛 read-block.signature (read-block.spec 𝓛 𝓜.mem 𝓡.run)) 𝓜 𝓡 code.env read-block-def.name read-block-def.routine code.calls-check_readers::read_block (read-block-thm.met 𝓤 𝓛 𝓜 𝓡))
+    (cited 𝓤 𝓛.H (triple_of 𝓛 onward.signature (onward.spec 𝓛 𝓜.mem 𝓡.run)) 𝓜 𝓡 code.env onward-def.name onward-def.routine code.calls-check_records::onward (onward-thm.met 𝓤 𝓛 𝓜 𝓡))
     z (λ y l. smaller.0 ((block-measure 𝓛 𝓜.mem 𝓡.run) y) (subst (λ (n : ℕ). (block-measure 𝓛 𝓜.mem 𝓡.run) y < n) e l) y refl)))
     (λ t smaller. at_on 𝓛 declarations'.signature (declarations'.spec 𝓛 𝓜.mem 𝓡.run) _ (𝓡.run code.declarations-routine) (code.declarations-unfolded 𝓤 𝓛.H 𝓜 𝓡) (declarations-measure 𝓛 𝓜.mem 𝓡.run) t (λ z e.
     of-declarations.at_size 𝓛 𝓜.mem 𝓡.run (tables_of 𝓤 𝓛.H 𝓜 (tables 𝓤 𝓛.H 𝓜 𝓡 code.env))
-    (cited 𝓤 𝓛.H (triple_of 𝓛 declaration-here.signature (declaration-here.spec 𝓛 𝓜.mem 𝓡.run)) 𝓜 𝓡 code.env declaration-here-def.name declaration-here-def.routine code.calls-check-readers::declaration-here (declaration-here-thm.met 𝓤 𝓛 𝓜 𝓡))
-    (cited 𝓤 𝓛.H (triple_of 𝓛 fit.signature (fit.spec 𝓛 𝓜.mem 𝓡.run)) 𝓜 𝓡 code.env fit-def.name fit-def.routine code.calls-check-bounds::declaration::fit (fit-thm.met 𝓤 𝓛 𝓜 𝓡))
-    (cited 𝓤 𝓛.H (triple_of 𝓛 onward.signature (onward.spec 𝓛 𝓜.mem 𝓡.run)) 𝓜 𝓡 code.env onward-def.name onward-def.routine code.calls-check-records::onward (onward-thm.met 𝓤 𝓛 𝓜 𝓡))
+    (cited 𝓤 𝓛.H (triple_of 𝓛 declaration-here.signature (declaration-here.spec 𝓛 𝓜.mem 𝓡.run)) 𝓜 𝓡 code.env declaration-here-def.name declaration-here-def.routine code.calls-check_readers::declaration_here (declaration-here-thm.met 𝓤 𝓛 𝓜 𝓡))
+    (cited 𝓤 𝓛.H (triple_of 𝓛 fit.signature (fit.spec 𝓛 𝓜.mem 𝓡.run)) 𝓜 𝓡 code.env fit-def.name fit-def.routine code.calls-check_bounds::declaration::fit (fit-thm.met 𝓤 𝓛 𝓜 𝓡))
+    (cited 𝓤 𝓛.H (triple_of 𝓛 onward.signature (onward.spec 𝓛 𝓜.mem 𝓡.run)) 𝓜 𝓡 code.env onward-def.name onward-def.routine code.calls-check_records::onward (onward-thm.met 𝓤 𝓛 𝓜 𝓡))
     z (λ y l. smaller.1.0 ((body-measure 𝓛 𝓜.mem 𝓡.run) y) (subst (λ (n : ℕ). (body-measure 𝓛 𝓜.mem 𝓡.run) y < n) e l) y refl)))
     (λ t smaller. at_on 𝓛 statement'.signature (statement'.spec 𝓛 𝓜.mem 𝓡.run) _ (𝓡.run code.statement-routine) (code.statement-unfolded 𝓤 𝓛.H 𝓜 𝓡) (statement-measure 𝓛 𝓜.mem 𝓡.run) t (λ z e.
     of-statement.at_size 𝓛 𝓜.mem 𝓡.run (tables_of 𝓤 𝓛.H 𝓜 (tables 𝓤 𝓛.H 𝓜 𝓡 code.env))
-    (cited 𝓤 𝓛.H (triple_of 𝓛 is-action.signature (is-action.spec 𝓛 𝓜.mem 𝓡.run)) 𝓜 𝓡 code.env is-action-def.name is-action-def.routine code.calls-check-blocks::is-action (is-action-thm.met 𝓤 𝓛 𝓜 𝓡))
-    (cited 𝓤 𝓛.H (triple_of 𝓛 action.signature (action.spec 𝓛 𝓜.mem 𝓡.run)) 𝓜 𝓡 code.env action-def.name action-def.routine code.calls-check-bounds::statement::action (action-thm.met 𝓤 𝓛 𝓜 𝓡))
+    (cited 𝓤 𝓛.H (triple_of 𝓛 is-action.signature (is-action.spec 𝓛 𝓜.mem 𝓡.run)) 𝓜 𝓡 code.env is-action-def.name is-action-def.routine code.calls-check_blocks::is_action (is-action-thm.met 𝓤 𝓛 𝓜 𝓡))
+    (cited 𝓤 𝓛.H (triple_of 𝓛 action.signature (action.spec 𝓛 𝓜.mem 𝓡.run)) 𝓜 𝓡 code.env action-def.name action-def.routine code.calls-check_bounds::statement::action (action-thm.met 𝓤 𝓛 𝓜 𝓡))
     z (λ y l. smaller.0 ((block-measure 𝓛 𝓜.mem 𝓡.run) y) (subst (λ (n : ℕ). (block-measure 𝓛 𝓜.mem 𝓡.run) y < n) e l) y refl)))
     (λ t smaller. at_on 𝓛 statements'.signature (statements'.spec 𝓛 𝓜.mem 𝓡.run) _ (𝓡.run code.statements-routine) (code.statements-unfolded 𝓤 𝓛.H 𝓜 𝓡) (statements-measure 𝓛 𝓜.mem 𝓡.run) t (λ z e.
     of-statements.at_size 𝓛 𝓜.mem 𝓡.run (tables_of 𝓤 𝓛.H 𝓜 (tables 𝓤 𝓛.H 𝓜 𝓡 code.env))
-    (cited 𝓤 𝓛.H (triple_of 𝓛 statement-here.signature (statement-here.spec 𝓛 𝓜.mem 𝓡.run)) 𝓜 𝓡 code.env statement-here-def.name statement-here-def.routine code.calls-check-readers::statement-here (statement-here-thm.met 𝓤 𝓛 𝓜 𝓡))
-    (cited 𝓤 𝓛.H (triple_of 𝓛 onward.signature (onward.spec 𝓛 𝓜.mem 𝓡.run)) 𝓜 𝓡 code.env onward-def.name onward-def.routine code.calls-check-records::onward (onward-thm.met 𝓤 𝓛 𝓜 𝓡))
+    (cited 𝓤 𝓛.H (triple_of 𝓛 statement-here.signature (statement-here.spec 𝓛 𝓜.mem 𝓡.run)) 𝓜 𝓡 code.env statement-here-def.name statement-here-def.routine code.calls-check_readers::statement_here (statement-here-thm.met 𝓤 𝓛 𝓜 𝓡))
+    (cited 𝓤 𝓛.H (triple_of 𝓛 onward.signature (onward.spec 𝓛 𝓜.mem 𝓡.run)) 𝓜 𝓡 code.env onward-def.name onward-def.routine code.calls-check_records::onward (onward-thm.met 𝓤 𝓛 𝓜 𝓡))
     z (λ y l. smaller.1.1.1.0 ((statement-measure 𝓛 𝓜.mem 𝓡.run) y) (subst (λ (n : ℕ). (statement-measure 𝓛 𝓜.mem 𝓡.run) y < n) e l) y refl)))

@@ -4,8 +4,8 @@ use borrow.Author.Rules.{rules}
 use Rattle.check_calls.proofs.agrees.Statement.{statement}
 use Rattle.check_calls.proofs.agrees.Tie as tie
 
-pub agrees-spec : {M : Type 1} → statement M
-agrees-spec =
+pub agrees_spec : {M : Type 1} → statement M
+agrees_spec =
     tie.close (tie.spec (λ c κs. search rules) (λ c. search (rules, agrees-free)) (λ c. search rules) (λ c κs. search rules)
     (λ c. search (rules, agrees-count)) (λ c. search rules) (λ c κs. search rules) (λ c. search (rules, agrees-right))
     (λ c. search (rules, agrees-wrong)))

@@ -5,8 +5,8 @@ use borrow.Author.Rules.{rules}
 use Rattle.check_calls.proofs.judge_call.Statement.{statement}
 use Rattle.check_calls.proofs.judge_call.Tie as tie
 
-pub judge-call-spec : {M : Type 1} → statement M
-judge-call-spec =
+pub judge_call_spec : {M : Type 1} → statement M
+judge_call_spec =
     tie.close (tie.spec (λ c. search rules) (λ c κs. search rules) (λ c. search rules) (λ c κs. search rules) (λ c κs. search rules)
     (λ c. search rules) (λ c. search rules) (λ c. search (rules, call-stops)) (λ c κs. search rules) (λ c. search rules)
     (λ c. search rules) (λ c. search (rules, call-hides)) (λ c κs. search rules) (λ c. search rules) (λ c. search rules)

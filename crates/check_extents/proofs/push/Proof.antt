@@ -5,10 +5,10 @@ use borrow.Author.Rules.{rules}
 use Rattle.check_extents.proofs.push.Statement.{statement}
 use Rattle.check_extents.proofs.push.Tie as tie
 
-abbrev invariant-loop : tie.invariant-loop
+abbrev invariant-loop : tie.invariant-loop-i
 invariant-loop script entries₀ ends₀ at count base here₀ i₀ entries ends here i = Pushing script entries₀ entries ends at here i count base
 
-abbrev decreases-loop : tie.decreases-loop
+abbrev decreases-loop : tie.decreases-loop-i
 decreases-loop script entries₀ ends₀ at count base here₀ i₀ entries ends here i = count - i
 
 pub push_spec : {M : Type 1} → statement M

@@ -15,10 +15,10 @@ use Rattle.check_fields.specs.contracts.word.Key as key
 use Rattle.check_fields.proofs.word.Statement.{statement}
 use Rattle.check_fields.proofs.word.Code as code
 
-pub word-spec : {M : Type 1} → statement M
+pub word_spec : {M : Type 1} → statement M
 unfolding code.routine
-word-spec 𝓤 𝓛 𝓜 𝓡 =
+word_spec 𝓤 𝓛 𝓜 𝓡 =
     onward-meets 𝓛 𝓜 𝓡 code.env usize (ty_int w64) (λ n v is. ((uint_Lawful 𝓛 w64).typed n (v ∷ []) is).0)
-    g-def.name g-def.routine code.calls-check-fields::reader::field key.name (f.clauses 𝓛 𝓜.mem 𝓡.run) (g.clauses 𝓛 𝓜.mem 𝓡.run)
+    g-def.name g-def.routine code.calls-check_fields::reader::field key.name (f.clauses 𝓛 𝓜.mem 𝓡.run) (g.clauses 𝓛 𝓜.mem 𝓡.run)
     (λ κs s at _. tt) (λ κs s at _. id⊢ 𝓤 _) _ (λ κs s at _ n z. refl) _ (λ κs s at _ n z. refl) (λ κs s at n said. said)
-    code.calls-check-fields::reader::reader-at (g-thm.met 𝓤 𝓛 𝓜 𝓡) (code.unfolded 𝓤 𝓛.H 𝓜 𝓡)
+    code.calls-check_fields::reader::reader_at (g-thm.met 𝓤 𝓛 𝓜 𝓡) (code.unfolded 𝓤 𝓛.H 𝓜 𝓡)

@@ -35,28 +35,28 @@ missed f {z = z} p q r = p ∙ ap (either f) q ∙ sym (ap (λ (g : Bool). eithe
 done : (f : Bool) {x y : Bool} → x ≡ either f y → y ≡ false → f ≡ x
 done f p q = sym (p ∙ ap (either f) q ∙ either-false f)
 
-abbrev invariant-loop : tie.invariant-loop
+abbrev invariant-loop : tie.invariant-loop-i
 invariant-loop names base count n found₀ i₀ found i =
     (i ≤ count) × (among n (names_at names base count) ≡ either found (among n (take (count - i) (drop (base + i) names))))
 
-abbrev decreases-loop : tie.decreases-loop
+abbrev decreases-loop : tie.decreases-loop-i
 decreases-loop names base count n found₀ i₀ found i = count - i
 
-loop-again : tie.Need-loop-preserved invariant-loop decreases-loop
+loop-again : tie.Need-loop-i-preserved invariant-loop decreases-loop
 loop-again c =
     let at = c.before.before.before in
     let a = at.before.args in
-    let l = at.loop in (
+    let l = at.loop-i in (
       search rules,
       ⊎_elim
           (λ w. hit l.found _ l.invariant.1
           (seen-hit a.names.now a.n a.base a.count l.i (omega arith) (omega arith) w.0.taken) w.1)
           (λ w. missed l.found l.invariant.1
           (seen-miss a.names.now a.n a.base a.count l.i (omega arith) (omega arith) w.0.left) w.1)
-          c.if1.branch,
+          c.if-names-base.branch,
     )
 
-pub seen-spec : {M : Type 1} → statement M
-seen-spec =
+pub seen_spec : {M : Type 1} → statement M
+seen_spec =
     tie.close (tie.spec invariant-loop decreases-loop (λ c. search (rules, seen_start)) (λ c. search rules) (λ c. search rules)
     (λ c. search rules) (λ c. search rules) (λ c. search rules) loop-again (λ c. search (rules, done, seen_none)))

@@ -22,15 +22,15 @@ module _ (bs : List ℕ) (at from count : ℕ) where
   unfolding forget
   all_there fits = sym (ap forget (fields-all at count from (unread bs from) fits))
 
-returns : tie.Need-returns
+returns : tie.Need-returns-then-left-count
 returns c =
     let a = c.before.before.before.args in
     cut_off a.script.now a.at a.from a.count (omega (arith, c.before.left.ensures.0))
 
-returns-2 : tie.Need-returns-2
+returns-2 : tie.Need-returns
 returns-2 c =
     let a = c.before.before.before.args in
     all_there a.script.now a.at a.from a.count (omega (arith, c.before.left.ensures.0))
 
-pub pass-fields-spec : {M : Type 1} → statement M
-pass-fields-spec = tie.close (tie.spec (λ c κs. search rules) returns (λ c. search rules) (λ c. search rules) returns-2)
+pub pass_fields_spec : {M : Type 1} → statement M
+pass_fields_spec = tie.close (tie.spec (λ c κs. search rules) returns (λ c. search rules) (λ c. search rules) returns-2)

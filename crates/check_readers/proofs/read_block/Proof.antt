@@ -14,10 +14,10 @@ use Rattle.check_readers.specs.contracts.read_block.Key as key
 use Rattle.check_readers.proofs.read_block.Statement.{statement}
 use Rattle.check_readers.proofs.read_block.Code as code
 
-pub read-block-spec : {M : Type 1} → statement M
+pub read_block_spec : {M : Type 1} → statement M
 unfolding code.routine
-read-block-spec 𝓤 𝓛 𝓜 𝓡 =
-    onward-meets 𝓛 𝓜 𝓡 code.env R.the_row R'.mir (reading-typed 𝓛 𝓜) g-def.name g-def.routine code.calls-check-readers::block-here key.name
+read_block_spec 𝓤 𝓛 𝓜 𝓡 =
+    onward-meets 𝓛 𝓜 𝓡 code.env R.the_row R'.mir (reading-typed 𝓛 𝓜) g-def.name g-def.routine code.calls-check_readers::block_here key.name
     (f.clauses 𝓛 𝓜.mem 𝓡.run) (g.clauses 𝓛 𝓜.mem 𝓡.run)
     (λ κs s at _. tt) (λ κs s at _. id⊢ 𝓤 _) _ (λ κs s at _ o z. refl) _ (λ κs s at _ o z. refl) (λ κs s at o said. said)
-    code.calls-check-fields::reader-at (g-thm.met 𝓤 𝓛 𝓜 𝓡) (code.unfolded 𝓤 𝓛.H 𝓜 𝓡)
+    code.calls-check_fields::reader_at (g-thm.met 𝓤 𝓛 𝓜 𝓡) (code.unfolded 𝓤 𝓛.H 𝓜 𝓡)

@@ -5,8 +5,8 @@ use Rattle.check_structure.proofs.Whole.{empty, too_long, odd, program-refused, 
 use Rattle.check_structure.proofs.structure.Statement.{statement}
 use Rattle.check_structure.proofs.structure.Tie as tie
 
-pub structure-spec : {M : Type 1} → statement M
-structure-spec =
+pub structure_spec : {M : Type 1} → statement M
+structure_spec =
     tie.close (tie.spec (λ c. search (rules, empty)) (λ c. search (rules, too_long)) (λ c. search (rules, odd))
     (λ c κs. search rules) (λ c. search rules) (λ c. search rules) (λ c κs. search rules) (λ c κs. search rules)
     (λ c. search (rules, program-refused)) (λ c. search rules) (λ c. search rules) (λ c. search rules) (λ c κs. search rules)

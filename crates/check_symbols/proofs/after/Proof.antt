@@ -4,7 +4,7 @@ use borrow.Author.Rules.{rules}
 use Rattle.check_symbols.proofs.after.Statement.{statement}
 use Rattle.check_symbols.proofs.after.Tie as tie
 
-pub after-spec : {M : Type 1} → statement M
-after-spec =
+pub after_spec : {M : Type 1} → statement M
+after_spec =
     tie.close (tie.spec (λ c. search rules) (λ c. search rules) (λ c. search rules) (λ c. search rules) (λ c. search rules)
     (λ c. search (rules, linked, along)) (λ c. search rules) (λ c. search (rules, one)))

@@ -4,7 +4,7 @@ use borrow.Author.Rules.{rules}
 use Rattle.check_symbols.proofs.remove_one.Statement.{statement}
 use Rattle.check_symbols.proofs.remove_one.Tie as tie
 
-pub remove-one-spec : {M : Type 1} → statement M
-remove-one-spec =
+pub remove_one_spec : {M : Type 1} → statement M
+remove_one_spec =
     tie.close (tie.spec (λ c. search rules) (λ c. search rules) (λ c. search rules) (λ c. search rules) (λ c. search rules)
     (λ c. search rules) (λ c. search rules) (λ c. search rules) (λ c. search (rules, removed-one, removed-kept)))

@@ -4,8 +4,8 @@ use borrow.Author.Rules.{rules}
 use Rattle.check_uses.proofs.both.Statement.{statement}
 use Rattle.check_uses.proofs.both.Tie as tie
 
-pub both-spec : {M : Type 1} → statement M
-both-spec =
+pub both_spec : {M : Type 1} → statement M
+both_spec =
     tie.close (tie.spec (λ c κs. search rules) (λ c κs. search rules) (λ c. search rules) (λ c. search rules)
     (λ c. search (rules, then-stop, judged-at)) (λ c κs. search rules) (λ c κs. search rules)
     (λ c. search (rules, then-go, judged-at)))

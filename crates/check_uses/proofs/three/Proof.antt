@@ -4,7 +4,7 @@ use borrow.Author.Rules.{rules}
 use Rattle.check_uses.proofs.three.Statement.{statement}
 use Rattle.check_uses.proofs.three.Tie as tie
 
-pub three-spec : {M : Type 1} → statement M
-three-spec =
+pub three_spec : {M : Type 1} → statement M
+three_spec =
     tie.close (tie.spec (λ c κs. search rules) (λ c κs. search rules) (λ c. search rules) (λ c. search rules)
     (λ c. search (rules, then-stop, judged-at)) (λ c κs. search rules) (λ c. search (rules, then-go, judged-at)))

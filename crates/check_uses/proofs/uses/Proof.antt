@@ -6,10 +6,10 @@ use borrow.Author.Rules.{rules}
 use Rattle.check_uses.proofs.uses.Statement.{statement}
 use Rattle.check_uses.proofs.uses.Tie as tie
 
-kind-at-requires : tie.Need-kind-at-requires
-kind-at-requires c κs = let f = c.before.before.before.find in omega (arith, near-place f.result _ c.before.place.given.1 f.ensures.1)
+kind_at-requires : tie.Need-kind_at-requires
+kind_at-requires c κs = let f = c.before.before.before.find in omega (arith, near-place f.result _ c.before.place-1.given.1 f.ensures.1)
 
-pub uses-spec : {M : Type 1} → statement M
-uses-spec =
-    tie.close (tie.spec (λ c κs. search rules) (λ c. search rules) (λ c. search rules) (λ c. search (rules, used-none)) kind-at-requires
+pub uses_spec : {M : Type 1} → statement M
+uses_spec =
+    tie.close (tie.spec (λ c κs. search rules) (λ c. search rules) (λ c. search rules) (λ c. search (rules, used-none)) kind_at-requires
     (λ c. search (rules, used-right)) (λ c. search (rules, used-wrong)))

@@ -11,48 +11,48 @@ use Rattle.copy_entry.proofs.enter.Statement.{statement}
 use Rattle.copy_entry.proofs.enter.Tie as tie
 
 -- the places, from the end: the text is copied, its end is known, the activation and its names are noted, the block's parts are known, its words are read
-abbrev copied_of : tie.After-clear-arg → tie.After-copy-text
+abbrev copied_of : tie.After-clear-arg-1 → tie.After-copy_text
 copied_of c = c.before.before.before
 
-abbrev end_of : tie.After-copy-text-arg2 → tie.After-end-of
+abbrev end_of : tie.After-copy_text-arg-2-1 → tie.After-end_of-end
 end_of c = c.before.before
 
-abbrev named_of : tie.After-renew → tie.After-note-names
+abbrev named_of : tie.After-renew → tie.After-note_names
 named_of c = c.before.before.before
 
-abbrev noted_of : tie.After-note-names → tie.After-note
+abbrev noted_of : tie.After-note_names → tie.After-note
 noted_of c = c.before.before.before
 
-abbrev parts_of : tie.After-note-names → tie.After-level-of
+abbrev parts_of : tie.After-note_names → tie.After-level_of-level
 parts_of c = let n = noted_of c in n.before.before.before.before.before.before
 
-abbrev words_of : tie.After-level-of → tie.After-code-at3
+abbrev words_of : tie.After-level_of-level → tie.After-code_at-word
 words_of c = c.before.before.before
 
-abbrev start_of : tie.After-level-of → tie.Start
+abbrev start_of : tie.After-level_of-level → tie.Start
 start_of c = let h = (words_of c).before.before in h.before.before
 
-abbrev from_end : tie.After-end-of → tie.After-level-of
+abbrev from_end : tie.After-end_of-end → tie.After-level_of-level
 from_end c = parts_of (named_of c.before)
 
-abbrev from_text : tie.After-copy-text → tie.After-level-of
+abbrev from_text : tie.After-copy_text → tie.After-level_of-level
 from_text c = from_end (end_of c.before)
 
-head : (c : tie.After-level-of) → let a = (start_of c).args in
-    Head a.code.now a.body c.level-of.result c.before.formals-of.result c.before.before.names-of.result (words_of c).code-at3.result
+head : (c : tie.After-level_of-level) → let a = (start_of c).args in
+    Head a.code.now a.body c.level_of-level.result c.before.formals_of-formals.result c.before.before.names_of-count.result (words_of c).code_at-word.result
 head c =
     let f = c.before in
     let w = words_of c in
-    let e = w.before.before.code_at.ensures.0 in
+    let e = w.before.before.code_at-head.ensures.0 in
     record {
-      level-is = c.level-of.ensures.0 ∙ ap level_in e;
-      formals-is = f.formals-of.ensures.0 ∙ ap formals_in e;
-      count-is = f.before.names-of.ensures ∙ ap names_in e;
-      word-is = w.code-at3.ensures.0;
+      level-is = c.level_of-level.ensures.0 ∙ ap level_in e;
+      formals-is = f.formals_of-formals.ensures.0 ∙ ap formals_in e;
+      count-is = f.before.names_of-count.ensures ∙ ap names_in e;
+      word-is = w.code_at-word.ensures.0;
     }
 
-end_is : (c : tie.After-end-of) → let a = (start_of (from_end c)).args in c.end_of_lem.result ≡ end_at a.code.now a.body
-end_is c = c.end_of_lem.ensures.0 ∙ ap end_in (words_of (from_end c)).before.code-at2.ensures.0
+end_is : (c : tie.After-end_of-end) → let a = (start_of (from_end c)).args in c.end_of_lem.result ≡ end_at a.code.now a.body
+end_is c = c.end_of_lem.ensures.0 ∙ ap end_in (words_of (from_end c)).before.code_at-bounds.ensures.0
 
 renew-requires : tie.Need-renew-requires
 renew-requires c κs = let p = parts_of c.before.before in renewable (start_of p).pre (head p)
@@ -60,24 +60,24 @@ renew-requires c κs = let p = parts_of c.before.before in renewable (start_of p
 room : (c : tie.After-renew) → (start_of (parts_of (named_of c))).args.here.live + 1 < 256
 room c = (start_of (parts_of (named_of c))).requires.room
 
-mul-copy-text : tie.Need-overflow-mul-copy-text
-mul-copy-text c =
+mul-copy_text : tie.Need-overflow_mul-copy_text
+mul-copy_text c =
     let s = start_of (from_end (end_of c)) in
     search (rules, room_small s.pre s.args.link (omega (arith, s.pre.link-high)))
 
-mul-copy-text-2 : tie.Need-overflow-mul-copy-text-2
-mul-copy-text-2 c =
+mul-copy_text-2 : tie.Need-overflow_mul-copy_text-2
+mul-copy_text-2 c =
     let s = start_of (from_end (end_of c)) in
     search (rules, room_small s.pre (s.args.here.live + 1) (omega arith))
 
-copy-text-requires : tie.Need-copy-text-requires
-copy-text-requires c κs =
+copy_text-requires : tie.Need-copy_text-requires
+copy_text-requires c κs =
     let e = end_of c in
     let p = from_end e in
     copyable (start_of p).pre (head p) (end_is e)
 
-few : (c : tie.After-clear-arg) → let p = from_text (copied_of c) in
-    (p.before.formals-of.result ≤ 32) × (p.before.before.names-of.result ≤ 32) × ((start_of p).args.here.live + 1 < 256)
+few : (c : tie.After-clear-arg-1) → let p = from_text (copied_of c) in
+    (p.before.formals_of-formals.result ≤ 32) × (p.before.before.names_of-count.result ≤ 32) × ((start_of p).args.here.live + 1 < 256)
 few c = let p = from_text (copied_of c) in few-names (start_of p).pre (head p)
 
 returns : tie.Need-returns
@@ -88,8 +88,8 @@ returns c =
     let r = e.before in
     let m = named_of r in
     let p = parts_of m in
-    entered (start_of p).pre (head p) (end_is e) (c.first_of.ensures ∙ ap first_in (words_of p).before.code-at2.ensures.0) (noted_of m).note.ensures
-    m.note-names.ensures r.renew.ensures k.copy-text.ensures.0 k.copy-text.ensures.1 z.clear.ensures
+    entered (start_of p).pre (head p) (end_is e) (c.first_of.ensures ∙ ap first_in (words_of p).before.code_at-bounds.ensures.0) (noted_of m).note.ensures
+    m.note_names.ensures r.renew.ensures k.copy_text.ensures.0 k.copy_text.ensures.1 z.clear.ensures
 
 pub enter_spec : {M : Type 1} → statement M
 enter_spec =
@@ -97,5 +97,5 @@ enter_spec =
     (tie.spec (λ c κs. search rules) (λ c. search rules) (λ c κs. search rules) (λ c. search rules) (λ c κs. search rules) (λ c κs. search rules)
     (λ c κs. search rules) (λ c κs. search rules) (λ c. search rules) (λ c. search rules) (λ c. search rules) (λ c. search rules) (λ c. search rules)
     (λ c. search rules) (λ c κs. search rules) (λ c κs. search rules) (λ c. search rules) (λ c. search rules) renew-requires (λ c. search (rules, room c)) (λ c. search (rules, room c))
-    (λ c. search (rules, room c)) (λ c κs. search rules) mul-copy-text mul-copy-text-2 copy-text-requires (λ c. search (rules, few c)) (λ c. search (rules, few c))
+    (λ c. search (rules, room c)) (λ c κs. search rules) mul-copy_text mul-copy_text-2 copy_text-requires (λ c. search (rules, few c)) (λ c. search (rules, few c))
     (λ c κs. search (rules, few c)) (λ c κs. search rules) (λ c. search rules) returns)

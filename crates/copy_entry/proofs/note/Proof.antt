@@ -14,12 +14,12 @@ returns c =
     let live = s.here.live + 1 in
     record {
       nexts-are = ap (set s.nexts.now s.here.live) n.narrow.ensures;
-      blocks-are = ap (set s.blocks.now live) b.narrow2.ensures;
-      links-are = ap (set s.links.now live) c.narrow3.ensures;
+      blocks-are = ap (set s.blocks.now live) b.narrow-2.ensures;
+      links-are = ap (set s.links.now live) c.narrow-3.ensures;
     }
 
-pub note-spec : {M : Type 1} → statement M
-note-spec =
+pub note_spec : {M : Type 1} → statement M
+note_spec =
     tie.close
     (tie.spec (λ c. search rules) (λ c κs. search rules) (λ c. search rules) (λ c. search rules) (λ c κs. search rules) (λ c. search rules)
     (λ c. search rules) (λ c κs. search rules) (λ c. search rules) (λ c. search rules) returns)

@@ -13,12 +13,12 @@ returns c =
     let s = f.before.before.args in
     let live = s.here.live + 1 in
     record {
-      firsts-are = ap (set s.firsts.now live) f.narrow-u32.ensures;
+      firsts-are = ap (set s.firsts.now live) f.narrow_u32.ensures;
       starts-are = ap (set s.starts.now live) (c.narrow.ensures ∙ p.Cell-at.ensures);
     }
 
-pub note-names-spec : {M : Type 1} → statement M
-note-names-spec =
+pub note_names_spec : {M : Type 1} → statement M
+note_names_spec =
     tie.close
     (tie.spec (λ c. search rules) (λ c κs. search rules) (λ c. search rules) (λ c. search rules) (λ c κs. search rules) (λ c κs. search rules)
     (λ c. search rules) (λ c. search rules) returns)

@@ -10,28 +10,28 @@ use Rattle.resolve_fields.proofs.Taking.{taken_next, taken-all, past_end}
 use Rattle.copy_fields.proofs.take.Statement.{statement}
 use Rattle.copy_fields.proofs.take.Tie as tie
 
-abbrev invariant-loop : tie.invariant-loop
+abbrev invariant-loop : tie.invariant-loop-i
 invariant-loop code names₀ from count i₀ names i = (i ≤ count) × (length names ≡ 4096) × (taken (word_there code) names (from + i) (count - i) ≡ taken (word_there code) names₀ from count)
 
-abbrev decreases-loop : tie.decreases-loop
+abbrev decreases-loop : tie.decreases-loop-i
 decreases-loop code names₀ from count i₀ names i = count - i
 
-loop-holds : tie.Need-loop-init invariant-loop decreases-loop
+loop-holds : tie.Need-loop-i-init invariant-loop decreases-loop
 loop-holds c =
     let a = c.args in
     let f : a.from + 0 ≡ a.from = omega arith in
     let k : a.count - 0 ≡ a.count = omega arith in
-    (omega arith, c.requires.0, λ j. taken (word_there a.code.now) a.names.now (f j) (k j))
+    (omega arith, c.requires.0, λ j. taken (word_there a.code.now) a.names-1.now (f j) (k j))
 
-loop-again : tie.Need-loop-preserved invariant-loop decreases-loop
+loop-again : tie.Need-loop-i-preserved invariant-loop decreases-loop
 loop-again c =
-    let l = c.before.before.loop in
+    let l = c.before.before.loop-i in
     let a = c.before.before.before.args in
     let place = a.from + l.i in
     let w = get_or a.code.now place 0 in
-    let put : c.if1.names ≡ set l.names place w = ⊎_elim (λ x. x.2) (λ x. x.1 ∙ past_end l.names place w l.invariant.1 (omega (arith, x.0.left))) c.if1.branch in (
+    let put : c.if-place-lt4096.names-1 ≡ set l.names-1 place w = ⊎_elim (λ x. x.2) (λ x. x.1 ∙ past_end l.names-1 place w l.invariant.1 (omega (arith, x.0.left))) c.if-place-lt4096.branch in (
       omega arith,
-      ap length put ∙ length-set l.names place w ∙ l.invariant.1,
+      ap length put ∙ length-set l.names-1 place w ∙ l.invariant.1,
       search (rules, taken_next),
     )
 

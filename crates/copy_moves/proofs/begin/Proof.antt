@@ -8,31 +8,31 @@ use Rattle.copy_moves.proofs.begin.Statement.{statement}
 use Rattle.copy_moves.proofs.begin.Tie as tie
 
 -- the places, from the end: the text is copied, the looked-up name's word is read, the script stands in the area, the text's end is known
-abbrev copied_of : tie.After-first-of → tie.After-copy-text
+abbrev copied_of : tie.After-first_of → tie.After-copy_text
 copied_of c = c.before.before.before
 
-abbrev word_of : tie.After-copy-text-arg2 → tie.After-code-at3
+abbrev word_of : tie.After-copy_text-arg-2-1 → tie.After-code_at
 word_of c = c.before.before.before
 
-abbrev fill_of : tie.After-code-at3 → tie.After-fill
+abbrev fill_of : tie.After-code_at → tie.After-fill
 fill_of c = c.before.before.before.before
 
-abbrev end_of : tie.After-fill → tie.After-end-of
+abbrev end_of : tie.After-fill → tie.After-end_of-end
 end_of c = c.before.before
 
-abbrev start_of : tie.After-end-of → tie.Start
+abbrev start_of : tie.After-end_of-end → tie.Start
 start_of c = let h = c.before.before in h.before.before.before
 
-end_is : (c : tie.After-end-of) → c.end_of_lem.result ≡ end_at (start_of c).args.code.now 0
-end_is c = c.end_of_lem.ensures.0 ∙ ap end_in c.before.code-at2.ensures.0
+end_is : (c : tie.After-end_of-end) → c.end_of_lem.result ≡ end_at (start_of c).args.code.now 0
+end_is c = c.end_of_lem.ensures.0 ∙ ap end_in c.before.code_at-bounds.ensures.0
 
 renew-requires : tie.Need-renew-requires
 renew-requires c κs =
     let f = fill_of c in
-    start-renewable (start_of (end_of f)).requires f.fill.ensures.1 c.code-at3.ensures.0
+    start-renewable (start_of (end_of f)).requires f.fill.ensures.1 c.code_at.ensures.0
 
-copy-text-requires : tie.Need-copy-text-requires
-copy-text-requires c κs =
+copy_text-requires : tie.Need-copy_text-requires
+copy_text-requires c κs =
     let f = fill_of (word_of c) in
     let e = end_of f in
     start-copyable (start_of e).pre f.fill.ensures.1 (end_is e)
@@ -45,12 +45,12 @@ returns c =
     let f = fill_of w in
     let e = end_of f in
     let n = e.before in
-    begun (start_of e).pre f.fill.ensures.1 (end_is e) (a.first_of.ensures ∙ ap first_in n.code-at2.ensures.0)
-    (c.names-of.ensures ∙ ap names_in n.before.code_at.ensures.0) w.code-at3.ensures.0 f.fill.ensures.0 k.before.before.before.renew.ensures
-    k.copy-text.ensures.0 k.copy-text.ensures.1
+    begun (start_of e).pre f.fill.ensures.1 (end_is e) (a.first_of.ensures ∙ ap first_in n.code_at-bounds.ensures.0)
+    (c.names_of.ensures ∙ ap names_in n.before.code_at-head.ensures.0) w.code_at.ensures.0 f.fill.ensures.0 k.before.before.before.renew.ensures
+    k.copy_text.ensures.0 k.copy_text.ensures.1
 
-pub begin-spec : {M : Type 1} → statement M
-begin-spec =
+pub begin_spec : {M : Type 1} → statement M
+begin_spec =
     tie.close
     (tie.spec (λ c κs. search rules) (λ c κs. search rules) (λ c κs. search rules) (λ c κs. search rules) (λ c. search rules) (λ c κs. search rules)
-    renew-requires (λ c. search rules) copy-text-requires (λ c κs. search rules) (λ c κs. search rules) (λ c. search rules) (λ c. search rules) returns)
+    renew-requires (λ c. search rules) copy_text-requires (λ c κs. search rules) (λ c κs. search rules) (λ c. search rules) (λ c. search rules) returns)

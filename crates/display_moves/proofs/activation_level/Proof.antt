@@ -4,8 +4,8 @@ use Rattle.display_moves.proofs.activation_level.Statement.{statement}
 use Rattle.display_moves.proofs.activation_level.Tie as tie
 
 returns : tie.Need-returns
-returns c = (rw (c.level-at.ensures.0, c.before.from-u16.ensures.0), c.level-at.ensures.1)
+returns c = (rw (c.level_at.ensures.0, c.before.from_u16.ensures.0), c.level_at.ensures.1)
 
-pub activation-level-spec : {M : Type 1} → statement M
-activation-level-spec =
+pub activation_level_spec : {M : Type 1} → statement M
+activation_level_spec =
     tie.close (tie.spec (λ c. search rules) (λ c. search rules) (λ c κs. search rules) (λ c κs. search rules) returns)

@@ -10,5 +10,5 @@ returns c =
     let s = c.before.args in
     ap (set s.nexts.now s.here.live) c.narrow.ensures
 
-pub note-place-spec : {M : Type 1} → statement M
-note-place-spec = tie.close (tie.spec (λ c κs. search rules) (λ c. search rules) (λ c. search rules) returns)
+pub note_place_spec : {M : Type 1} → statement M
+note_place_spec = tie.close (tie.spec (λ c κs. search rules) (λ c. search rules) (λ c. search rules) returns)

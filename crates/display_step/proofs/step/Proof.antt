@@ -8,45 +8,45 @@ use Rattle.display_step.proofs.step.Statement.{statement}
 use Rattle.display_step.proofs.step.Tie as tie
 
 -- the places: a statement is done, and before it the end of the text not reached; what it asks for, and where it enters
-abbrev inside : tie.After-act → tie.Else1
+abbrev inside : tie.After-act → tie.Else-at-here
 inside c = c.before.before.before
 
 abbrev start_of : tie.After-act → tie.Start
 start_of c = (inside c).before.before
 
-abbrev asked_of : tie.After-asked-arg3 → tie.After-place2
+abbrev asked_of : tie.After-asked-arg-in-Table-2-1 → tie.In-Table-2
 asked_of c = c.before.before.before.before
 
-abbrev entered_of : tie.After-enter-arg5 → tie.After-body
+abbrev entered_of : tie.After-enter-arg-in-Enter-4-1 → tie.In-Enter-2
 entered_of c = c.before.before.before.before.before.before
 
-abbrev jumped_of : tie.After-jump → tie.After-home
+abbrev jumped_of : tie.After-jump → tie.In-Jump-2
 jumped_of c = c.before.before.before.before.before
 
 asked-requires : tie.Need-asked-requires
 asked-requires c κs =
     let p = asked_of c in
     let a = p.before.before in
-    (asked-there (start_of a).pre.0 (inside a).if1.left _ _ a.act.ensures _ _ _ _ _ p.place2.given.1, (start_of a).pre.1)
+    (asked-there (start_of a).pre.0 (inside a).if-at-here.left _ _ a.act.ensures _ _ _ _ _ p.place-in-Table-1.given.1, (start_of a).pre.1)
 
 enter-requires : tie.Need-enter-requires
 enter-requires c κs =
     let b = entered_of c in
     let a = b.before.before in
-    enter-ready (start_of a).pre.0 (inside a).if1.left _ _ a.act.ensures _ _ _ b.body.given.1
+    enter-ready (start_of a).pre.0 (inside a).if-at-here.left _ _ a.act.ensures _ _ _ b.body-1.given.1
 
 -- the list stays where it was, and the table too
-abbrev jumped-lists : (c : tie.After-jump) → let s = start_of (jumped_of c).before.before in KeepsList s.args.limit s.args.table.now s.args.here.pairs s.args.groups.now s.args.table.now c.jump.result.pairs s.args.groups.now
+abbrev jumped-lists : (c : tie.After-jump) → let s = start_of (jumped_of c).before.before in KeepsList s.args.limit s.args.table-1.now s.args.here.pairs s.args.groups-1.now s.args.table-1.now c.jump.result.pairs s.args.groups-1.now
 jumped-lists c =
     let h = jumped_of c in
     let a = h.before.before in
-    jumped-keeps (start_of a).pre.0 (inside a).if1.left _ _ a.act.ensures _ _ h.home.given.1 _ _ c.jump.ensures _
+    jumped-keeps (start_of a).pre.0 (inside a).if-at-here.left _ _ a.act.ensures _ _ h.home-1.given.1 _ _ c.jump.ensures _
 
-abbrev entered-lists : (c : tie.After-enter) → let s = start_of (entered_of c.before).before.before in KeepsList s.args.limit s.args.table.now s.args.here.pairs s.args.groups.now s.args.table.now c.enter.result.pairs s.args.groups.now
+abbrev entered-lists : (c : tie.After-enter) → let s = start_of (entered_of c.before).before.before in KeepsList s.args.limit s.args.table-1.now s.args.here.pairs s.args.groups-1.now s.args.table-1.now c.enter.result.pairs s.args.groups-1.now
 entered-lists c =
     let b = entered_of c.before in
     let a = b.before.before in
-    entered-keeps (start_of a).pre.0 (inside a).if1.left _ _ a.act.ensures _ _ _ b.body.given.1 _ _ _ _ _ _ c.enter.ensures _
+    entered-keeps (start_of a).pre.0 (inside a).if-at-here.left _ _ a.act.ensures _ _ _ b.body-1.given.1 _ _ _ _ _ _ c.enter.ensures _
 
 pub step_spec : {M : Type 1} → statement M
 step_spec =

@@ -5,7 +5,7 @@ use Rattle.enrol.proofs.enrol_copy.Statement.{statement}
 use Rattle.enrol.proofs.enrol_copy.Tie as tie
 
 returns : tie.Need-returns
-returns c = in-words-leaving c.write-answer.ensures c.before.before.before.before.before.before.before.call.ensures
+returns c = in-words-leaving c.write_answer.ensures c.before.before.before.before.before.before.before.call.ensures
 
 pub enrol-copy-spec : {M : Type 1} → statement M
 enrol-copy-spec =

@@ -5,7 +5,7 @@ use Rattle.enrol.proofs.enrol_display.Statement.{statement}
 use Rattle.enrol.proofs.enrol_display.Tie as tie
 
 returns : tie.Need-returns
-returns c = in_words c.write-answer.ensures c.before.before.before.before.before.call.ensures
+returns c = in_words c.write_answer.ensures c.before.before.before.before.before.call.ensures
 
 pub enrol-display-spec : {M : Type 1} → statement M
 enrol-display-spec = tie.close (tie.spec (λ c κs. search rules) (λ c κs. search rules) (λ c. search rules) (λ c. search rules) (λ c. search rules) returns)

@@ -8,7 +8,7 @@ returns : tie.Need-returns
 unfolding packed
 returns c = search rules
 
-pub name-word-spec : {M : Type 1} → statement M
-name-word-spec =
+pub name_word_spec : {M : Type 1} → statement M
+name_word_spec =
     tie.close (tie.spec (λ c. search rules) (λ c. search rules) (λ c. search rules) (λ c. search rules) (λ c. search rules)
     (λ c. search rules) (λ c. search rules) (λ c. search rules) returns)

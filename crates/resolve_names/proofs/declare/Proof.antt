@@ -5,13 +5,13 @@ use Rattle.resolve_names.proofs.declare.Statement.{statement}
 use Rattle.resolve_names.proofs.declare.Tie as tie
 
 -- the places: the statements noted, the names placed, and the start
-abbrev noted_of : tie.After-push-own → tie.After-note-statements
+abbrev noted_of : tie.After-push_own → tie.After-note_statements
 noted_of c = c.before.before.before.before.before
 
-abbrev placed_of : tie.After-note-statements → tie.After-places
+abbrev placed_of : tie.After-note_statements → tie.After-places-first
 placed_of c = c.before.before.before.before.before
 
-abbrev start_of : tie.After-places → tie.Start
+abbrev start_of : tie.After-places-first → tie.Start
 start_of c = c.before.before.before.before.before.before
 
 returns : tie.Need-returns
@@ -20,10 +20,10 @@ returns c =
     let noted = noted_of put in
     let placed = placed_of noted in
     let p = (start_of placed).pre in
-    declares _ _ _ _ _ _ _ _ _ _ _ _ _ _ _ p.d-read p.s_read p.starts placed.places.kept.1.1.0 noted.note-statements.kept.1.1.0 p.room
-    placed.places.ensures noted.note-statements.ensures put.push-own.ensures
+    declares _ _ _ _ _ _ _ _ _ _ _ _ _ _ _ p.d-read p.s_read p.starts-1 placed.places-first.kept.1.1.0 noted.note_statements.kept.1.1.0 p.room
+    placed.places-first.ensures noted.note_statements.ensures put.push_own.ensures
 
-pub declare-spec : {M : Type 1} → statement M
-declare-spec =
+pub declare_spec : {M : Type 1} → statement M
+declare_spec =
     tie.close (tie.spec (λ c. search rules) (λ c. search rules) (λ c. search rules) (λ c κs. search rules) (λ c κs. search rules)
     (λ c κs. search rules) (λ c. search rules) (λ c. search rules) returns)

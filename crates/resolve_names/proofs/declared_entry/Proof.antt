@@ -4,7 +4,7 @@ use borrow.Author.Rules.{rules}
 use Rattle.resolve_names.proofs.declared_entry.Statement.{statement}
 use Rattle.resolve_names.proofs.declared_entry.Tie as tie
 
-pub declared-entry-spec : {M : Type 1} → statement M
-declared-entry-spec =
+pub declared_entry_spec : {M : Type 1} → statement M
+declared_entry_spec =
     tie.close (tie.spec (λ c κs. search rules) (λ c. search rules) (λ c κs. search rules) (λ c κs. search rules)
     (λ c. search (rules, declared-by)))

@@ -4,8 +4,8 @@ use borrow.Author.Rules.{rules}
 use Rattle.resolve_names.proofs.declared_word.Statement.{statement}
 use Rattle.resolve_names.proofs.declared_word.Tie as tie
 
-pub declared-word-spec : {M : Type 1} → statement M
-declared-word-spec =
+pub declared_word_spec : {M : Type 1} → statement M
+declared_word_spec =
     tie.close (tie.spec (λ c κs. search rules) (λ c. search rules) (λ c. search rules) (λ c κs. search rules) (λ c. search rules)
     (λ c. search rules) (λ c κs. search rules) (λ c. search (rules, worded-PR)) (λ c. search rules) (λ c. search rules)
     (λ c κs. search rules) (λ c. search rules) (λ c κs. search rules) (λ c κs. search rules) (λ c. search (rules, worded-LB))

@@ -4,7 +4,7 @@ use borrow.Author.Rules.{rules}
 use Rattle.resolve_names.proofs.formal_entry.Statement.{statement}
 use Rattle.resolve_names.proofs.formal_entry.Tie as tie
 
-pub formal-entry-spec : {M : Type 1} → statement M
-formal-entry-spec =
+pub formal_entry_spec : {M : Type 1} → statement M
+formal_entry_spec =
     tie.close (tie.spec (λ c. search rules) (λ c κs. search rules) (λ c κs. search rules) (λ c. search rules) (λ c κs. search rules)
     (λ c κs. search rules) (λ c. search (rules, formal-by)))

@@ -4,7 +4,7 @@ use borrow.Author.Rules.{rules}
 use Rattle.resolve_names.proofs.note_statements.Statement.{statement}
 use Rattle.resolve_names.proofs.note_statements.Tie as tie
 
-pub note-statements-spec : {M : Type 1} → statement M
-note-statements-spec =
+pub note_statements_spec : {M : Type 1} → statement M
+note_statements_spec =
     tie.close (tie.spec (λ c κs. search rules) (λ c κs. search rules) (λ c. search rules) (λ c. search (rules, labelled-noted))
     (λ c. search rules) (λ c. search (rules, unlabelled-noted)))

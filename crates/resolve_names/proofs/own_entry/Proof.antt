@@ -4,7 +4,7 @@ use borrow.Author.Rules.{rules}
 use Rattle.resolve_names.proofs.own_entry.Statement.{statement}
 use Rattle.resolve_names.proofs.own_entry.Tie as tie
 
-pub own-entry-spec : {M : Type 1} → statement M
-own-entry-spec =
+pub own_entry_spec : {M : Type 1} → statement M
+own_entry_spec =
     tie.close (tie.spec (λ c. search rules) (λ c. search rules) (λ c κs. search rules) (λ c. search (rules, own-formal))
     (λ c κs. search rules) (λ c κs. search rules) (λ c. search (rules, own-declared)))

@@ -4,8 +4,8 @@ use borrow.Author.Rules.{rules}
 use Rattle.resolve_statements.proofs.emit.Statement.{statement}
 use Rattle.resolve_statements.proofs.emit.Tie as tie
 
-pub emit-spec : {M : Type 1} → statement M
-emit-spec =
+pub emit_spec : {M : Type 1} → statement M
+emit_spec =
     tie.close (tie.spec (λ c κs. search rules) (λ c. search rules) (λ c. search (rules, emit-by)) (λ c κs. search rules)
     (λ c. search rules) (λ c. search (rules, emit-by)) (λ c κs. search rules) (λ c. search rules) (λ c. search (rules, emit-by))
     (λ c κs. search rules) (λ c. search rules) (λ c. search (rules, emit-by)) (λ c κs. search rules) (λ c. search rules)

@@ -4,8 +4,8 @@ use borrow.Author.Rules.{rules}
 use Rattle.resolve_statements.proofs.emit_ar.Statement.{statement}
 use Rattle.resolve_statements.proofs.emit_ar.Tie as tie
 
-pub emit-ar-spec : {M : Type 1} → statement M
-emit-ar-spec =
+pub emit_ar_spec : {M : Type 1} → statement M
+emit_ar_spec =
     tie.close (tie.spec (λ c. search rules) (λ c κs. search rules) (λ c. search rules) (λ c κs. search rules) (λ c. search rules)
     (λ c κs. search rules) (λ c. search rules) (λ c κs. search rules) (λ c κs. search rules) (λ c κs. search rules)
     (λ c κs. search rules) (λ c. search rules) (λ c. search rules) (λ c. search rules) (λ c κs. search rules) (λ c κs. search rules)

@@ -4,7 +4,7 @@ use borrow.Author.Rules.{rules}
 use Rattle.resolve_statements.proofs.emit_go.Statement.{statement}
 use Rattle.resolve_statements.proofs.emit_go.Tie as tie
 
-pub emit-go-spec : {M : Type 1} → statement M
-emit-go-spec =
+pub emit_go_spec : {M : Type 1} → statement M
+emit_go_spec =
     tie.close (tie.spec (λ c. search rules) (λ c κs. search rules) (λ c κs. search rules) (λ c κs. search rules)
     (λ c κs. search rules) (λ c. search rules) (λ c. search (rules, go-written)))

@@ -4,8 +4,8 @@ use borrow.Author.Rules.{rules}
 use Rattle.resolve_statements.proofs.emit_kn.Statement.{statement}
 use Rattle.resolve_statements.proofs.emit_kn.Tie as tie
 
-pub emit-kn-spec : {M : Type 1} → statement M
-emit-kn-spec =
+pub emit_kn_spec : {M : Type 1} → statement M
+emit_kn_spec =
     tie.close (tie.spec (λ c. search rules) (λ c κs. search rules) (λ c. search rules) (λ c κs. search rules) (λ c. search rules)
     (λ c κs. search rules) (λ c. search rules) (λ c. search rules) (λ c κs. search rules) (λ c κs. search rules)
     (λ c κs. search rules) (λ c. search rules) (λ c. search (rules, kn-written)))

@@ -4,7 +4,7 @@ use borrow.Author.Rules.{rules}
 use Rattle.resolve_statements.proofs.emit_qy.Statement.{statement}
 use Rattle.resolve_statements.proofs.emit_qy.Tie as tie
 
-pub emit-qy-spec : {M : Type 1} → statement M
-emit-qy-spec =
+pub emit_qy_spec : {M : Type 1} → statement M
+emit_qy_spec =
     tie.close (tie.spec (λ c. search rules) (λ c κs. search rules) (λ c. search rules) (λ c κs. search rules) (λ c. search rules)
     (λ c κs. search rules) (λ c κs. search rules) (λ c. search rules) (λ c. search (rules, qy-written)))

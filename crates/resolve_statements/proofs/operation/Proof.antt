@@ -4,13 +4,13 @@ use Rattle.resolved.specs.Resolved.{chosen}
 use Rattle.resolve_statements.proofs.operation.Statement.{statement}
 use Rattle.resolve_statements.proofs.operation.Tie as tie
 
-returns : tie.Need-returns
+returns : tie.Need-returns-then-formals-eq0
 unfolding chosen
-returns c = rw (eq-eqb c.before.args.formals 0 c.if1.true, chosen)
+returns c = rw (eq-eqb c.before.args.formals 0 c.if-formals-eq0.true, chosen)
 
-returns-2 : tie.Need-returns-2
+returns-2 : tie.Need-returns
 unfolding chosen
-returns-2 c = rw (ne_eqb c.before.args.formals 0 c.if1.false, chosen)
+returns-2 c = rw (ne_eqb c.before.args.formals 0 c.if-formals-eq0.false, chosen)
 
-pub operation-spec : {M : Type 1} → statement M
-operation-spec = tie.close (tie.spec returns returns-2)
+pub operation_spec : {M : Type 1} → statement M
+operation_spec = tie.close (tie.spec returns returns-2)

@@ -4,7 +4,7 @@ use borrow.Author.Rules.{rules}
 use Rattle.resolve_words.proofs.emit_name.Statement.{statement}
 use Rattle.resolve_words.proofs.emit_name.Tie as tie
 
-pub emit-name-spec : {M : Type 1} → statement M
-emit-name-spec =
+pub emit_name_spec : {M : Type 1} → statement M
+emit_name_spec =
     tie.close (tie.spec (λ c. search rules) (λ c. search rules) (λ c κs. search rules) (λ c κs. search rules) (λ c. search rules)
     (λ c. search (rules, name-grown)))

@@ -6,11 +6,11 @@ use Rattle.resolve_words.proofs.put_two.Statement.{statement}
 use Rattle.resolve_words.proofs.put_two.Tie as tie
 
 -- the places: the first word written
-abbrev first_of : tie.After-put2 → tie.After-put
+abbrev first_of : tie.After-put-2 → tie.After-put
 first_of c = c.before.before.before.before
 
 returns : tie.Need-returns
-returns c = λ sa sb. grown-more refl (put-grows (first_of c.before.before).put.ensures sa) (put-grows c.before.before.put2.ensures sb)
+returns c = λ sa sb. grown-more refl (put-grows (first_of c.before.before).put.ensures sa) (put-grows c.before.before.put-2.ensures sb)
 
-pub put-two-spec : {M : Type 1} → statement M
-put-two-spec = tie.close (tie.spec (λ c κs. search rules) (λ c. search rules) (λ c κs. search rules) (λ c. search rules) returns)
+pub put_two_spec : {M : Type 1} → statement M
+put_two_spec = tie.close (tie.spec (λ c κs. search rules) (λ c. search rules) (λ c κs. search rules) (λ c. search rules) returns)

@@ -14,5 +14,5 @@ returns c =
     let a = read.before.before.before.args in
     (c.named.ensures.0 ∙ ap (λ (n : ℕ). word_in n (drop a.top a.entries.now)) read.word.ensures.0, c.named.ensures.1)
 
-pub used-spec : {M : Type 1} → statement M
-used-spec = tie.close (tie.spec (λ c κs. search rules) (λ c κs. search rules) returns)
+pub used_spec : {M : Type 1} → statement M
+used_spec = tie.close (tie.spec (λ c κs. search rules) (λ c κs. search rules) returns)

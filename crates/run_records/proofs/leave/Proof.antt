@@ -10,7 +10,7 @@ returns : tie.Need-returns
 returns c =
     let w = c.before in
     let s = w.before.before.before.args in
-    c.resume.ensures ∙ ap (now_at s.code.now s.blocks.now s.here (s.here.live - 1)) w.from-u16.ensures.0
+    c.resume.ensures ∙ ap (now_at s.code.now s.blocks.now s.here (s.here.live - 1)) w.from_u16.ensures.0
 
 pub leave_spec : {M : Type 1} → statement M
 leave_spec =

@@ -9,7 +9,7 @@ returns : tie.Need-returns
 unfolding designator_of
 returns c = (omega arith, omega arith)
 
-pub designator-of-spec : {M : Type 1} → statement M
-designator-of-spec =
+pub designator_of_spec : {M : Type 1} → statement M
+designator_of_spec =
     tie.close (tie.spec (λ c κs. search rules) (λ c. search rules) (λ c. search rules) (λ c. search rules) (λ c. search rules) (λ c. search rules)
     returns)

@@ -4,5 +4,5 @@ use borrow.Author.Rules.{rules}
 use Rattle.run_sheet.proofs.encloser_of.Statement.{statement}
 use Rattle.run_sheet.proofs.encloser_of.Tie as tie
 
-pub encloser-of-spec : {M : Type 1} → statement M
-encloser-of-spec = tie.close (tie.spec (λ c. search (rules, encloser-none)) (λ c. search rules) (λ c. search (rules, encloser-some)))
+pub encloser_of_spec : {M : Type 1} → statement M
+encloser_of_spec = tie.close (tie.spec (λ c. search (rules, encloser-none)) (λ c. search rules) (λ c. search (rules, encloser-some)))

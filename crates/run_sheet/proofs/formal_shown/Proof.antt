@@ -18,9 +18,9 @@ returns : tie.Need-returns
 returns c x e =
     let k = c.before in
     let w = k.before in
-    let r = c.designator-of.ensures in
+    let r = c.designator_of.ensures in
     let n = ap nat_abs (sym w.whole.ensures.0 ∙ to_z-of_z w.before.ranges.word ∙ e) in
-    to_z_pos w32 (omega (arith, r.1)) ∙ ap pos (r.0 ∙ ap designator_of (k.cell-of.ensures.0 ∙ ap cell_in n))
+    to_z_pos w32 (omega (arith, r.1)) ∙ ap pos (r.0 ∙ ap designator_of (k.cell_of.ensures.0 ∙ ap cell_in n))
 
-pub formal-shown-spec : {M : Type 1} → statement M
-formal-shown-spec = tie.close (tie.spec whole-requires (λ c κs. search rules) (λ c κs. search rules) (λ c. search rules) returns)
+pub formal_shown_spec : {M : Type 1} → statement M
+formal_shown_spec = tie.close (tie.spec whole-requires (λ c κs. search rules) (λ c κs. search rules) (λ c. search rules) returns)

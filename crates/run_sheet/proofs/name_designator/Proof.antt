@@ -8,41 +8,41 @@ use Rattle.run_sheet.proofs.name_designator.Statement.{statement}
 use Rattle.run_sheet.proofs.name_designator.Tie as tie
 
 -- the name has a word
-nameable : (f : tie.After-formal-of) → let s = f.before.before.args in Nameable s.cells.now s.first s.word
-nameable f = f.before.before.requires f.before.if1.false
+nameable : (f : tie.After-formal_of) → let s = f.before.before.args in Nameable s.cells.now s.first s.word
+nameable f = f.before.before.requires f.before.if-word-eq0.false
 
 -- and is a formal
-abbrev formal_of : tie.After-whole-arg → tie.Else2
+abbrev formal_of : tie.After-whole-arg-1 → tie.Else-formal_of-eq0
 formal_of a = a.before.before
 
-returns : tie.Need-returns
-returns c = sym (looked-up-none _ _ _ c.if1.true)
+returns : tie.Need-returns-then-word-eq0
+returns c = sym (looked-up-none _ _ _ c.if-word-eq0.true)
 
-returns-2 : tie.Need-returns-2
+returns-2 : tie.Need-returns-then-formal_of-eq0
 returns-2 c =
     let p = c.before in
     let f = p.before.before in
-    designator-direct _ _ _ f.before.if1.false f.formal-of.ensures.0 p.position-of.ensures.0 (omega arith) c.designator-of.ensures.0
+    designator-direct _ _ _ f.before.if-word-eq0.false f.formal_of.ensures.0 p.position_of.ensures.0 (omega arith) c.designator_of.ensures.0
 
 whole-requires : tie.Need-whole-requires
 whole-requires c κs =
     let u = formal_of c in
     let f = u.before in
-    held_whole _ _ _ f.before.if1.left f.formal-of.ensures.0 c.before.position-of2.ensures.0 u.if2.left (nameable f)
-    (read_back _ c.whole-arg.given)
+    held_whole _ _ _ f.before.if-word-eq0.left f.formal_of.ensures.0 c.before.position_of-2.ensures.0 u.if-formal_of-eq0.left (nameable f)
+    (read_back _ c.whole-arg-1.given)
 
-returns-3 : tie.Need-returns-3
+returns-3 : tie.Need-returns
 returns-3 c =
     let k = c.before in
     let w = k.before in
     let a = w.before in
     let u = formal_of a in
     let f = u.before in
-    designator-formal _ _ _ f.before.if1.left f.formal-of.ensures.0 a.before.position-of2.ensures.0 u.if2.left
-    (sym (read_back _ a.whole-arg.given) ∙ w.whole.ensures.0) k.cell-of.ensures.0 c.designator-of2.ensures.0
+    designator-formal _ _ _ f.before.if-word-eq0.left f.formal_of.ensures.0 a.before.position_of-2.ensures.0 u.if-formal_of-eq0.left
+    (sym (read_back _ a.whole-arg-1.given) ∙ w.whole.ensures.0) k.cell_of.ensures.0 c.designator_of-2.ensures.0
 
-pub name-designator-spec : {M : Type 1} → statement M
-name-designator-spec =
+pub name_designator_spec : {M : Type 1} → statement M
+name_designator_spec =
     tie.close (tie.spec returns (λ c κs. search rules) (λ c κs. search rules) (λ c. omega (arith, (nameable c.before.before).own))
     (λ c κs. omega (arith, (nameable c.before.before).own)) returns-2 (λ c κs. search rules)
     (λ c. omega (arith, (nameable c.before.before).own)) (λ c. omega (arith, (nameable c.before.before).own))

@@ -6,6 +6,6 @@ use borrow.Author.Rules.{rules}
 use Rattle.run_sheet.proofs.plain_size.Statement.{statement}
 use Rattle.run_sheet.proofs.plain_size.Tie as tie
 
-pub plain-size-spec : {M : Type 1} → statement M
+pub plain_size_spec : {M : Type 1} → statement M
 unfolding plain_size
-plain-size-spec = tie.close (tie.spec (λ c. search rules) (λ c. search rules) (λ c. (refl, omega arith)))
+plain_size_spec = tie.close (tie.spec (λ c. search rules) (λ c. search rules) (λ c. (refl, omega arith)))

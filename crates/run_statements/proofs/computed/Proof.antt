@@ -4,6 +4,6 @@ use borrow.Author.Rules.{rules}
 use Rattle.run_statements.proofs.computed.Statement.{statement}
 use Rattle.run_statements.proofs.computed.Tie as tie
 
-pub computed-spec : {M : Type 1} → statement M
+pub computed_spec : {M : Type 1} → statement M
 unfolding move_after
-computed-spec = tie.close (tie.spec (λ c. search rules) (λ c. search rules) (λ c. search rules) (λ c. rw c.enum_told.given.1) (λ c. rw c.before.effect.given.1))
+computed_spec = tie.close (tie.spec (λ c. search rules) (λ c. search rules) (λ c. search rules) (λ c. rw c.enum_told-1.given.1) (λ c. rw c.before.effect-1.given.1))

@@ -12,8 +12,8 @@ unfolding compute
 returns c =
     let s = c.before.before in
     let a = s.before.before.before.args in
-    rw (sum-of-words (get_or a.cells.now a.left (pos 0)) (get_or a.cells.now a.right (pos 0)) s.sum.ensures s.sum.type-inv
-    s.before.before.sum-arg.given s.before.sum-arg2.given) at c.keep.ensures
+    rw (sum-of-words (get_or a.cells.now a.left (pos 0)) (get_or a.cells.now a.right (pos 0)) s.sum-value.ensures s.sum-value.type_inv
+    s.before.before.sum-arg-1.given s.before.sum-arg-2-1.given) at c.keep.ensures
 
 pub add_spec : {M : Type 1} → statement M
 add_spec =

@@ -6,13 +6,13 @@ use borrow.Author.Rules.{rules}
 use Rattle.run_words.proofs.clear.Statement.{statement}
 use Rattle.run_words.proofs.clear.Tie as tie
 
-returns : tie.Need-returns
+returns : tie.Need-returns-then-from-to
 returns c =
     let s = c.before.before.before.args in
     let ws = s.cells.now in
-    cleared-join ws (four ws s.from) c.clear-more.new.0 s.from (s.from + 4) s.to (omega arith) (cleared-four ws s.from) c.clear-more.ensures
+    cleared-join ws (four ws s.from) c.clear_more.new.0 s.from (s.from + 4) s.to (omega arith) (cleared-four ws s.from) c.clear_more.ensures
 
-returns-2 : tie.Need-returns-2
+returns-2 : tie.Need-returns-else-from-to
 returns-2 c =
     let s = c.before.args in
     let ws = s.cells.now in

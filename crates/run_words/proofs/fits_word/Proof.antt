@@ -6,11 +6,11 @@ use borrow.Author.Rules.{rules}
 use Rattle.run_words.proofs.fits_word.Statement.{statement}
 use Rattle.run_words.proofs.fits_word.Tie as tie
 
-returns : tie.Need-returns
-returns c = sym (too-low c.before.args.v (rw (to_z-of_z c.before.ranges.v) at c.if1.true))
+returns : tie.Need-returns-then-v
+returns c = sym (too-low c.before.args.v (rw (to_z-of_z c.before.ranges.v) at c.if-v.true))
 
-returns-2 : tie.Need-returns-2
-returns-2 c = rw (to_z-of_z c.before.ranges.v) (not-too-low c.before.args.v (rw (to_z-of_z c.before.ranges.v) at c.if1.false))
+returns-2 : tie.Need-returns
+returns-2 c = rw (to_z-of_z c.before.ranges.v) (not-too-low c.before.args.v (rw (to_z-of_z c.before.ranges.v) at c.if-v.false))
 
-pub fits-word-spec : {M : Type 1} → statement M
-fits-word-spec = tie.close (tie.spec (λ c. search rules) returns returns-2)
+pub fits_word_spec : {M : Type 1} → statement M
+fits_word_spec = tie.close (tie.spec (λ c. search rules) returns returns-2)

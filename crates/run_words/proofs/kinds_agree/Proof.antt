@@ -10,14 +10,14 @@ use Rattle.run_words.proofs.Kept.{kinds-done, kinds-differ, kinds-same}
 use Rattle.run_words.proofs.kinds_agree.Statement.{statement}
 use Rattle.run_words.proofs.kinds_agree.Tie as tie
 
-abbrev invariant-loop : tie.invariant-loop
+abbrev invariant-loop : tie.invariant-loop-i
 invariant-loop code arguments formals count i₀ i =
     (i ≤ count) × (same_kinds code (arguments + i) (formals + 3 * i) (count - i) ≡ same_kinds code arguments formals count)
 
-abbrev decreases-loop : tie.decreases-loop
+abbrev decreases-loop : tie.decreases-loop-i
 decreases-loop code arguments formals count i₀ i = count - i
 
-loop-holds : tie.Need-loop-init invariant-loop decreases-loop
+loop-holds : tie.Need-loop-i-init invariant-loop decreases-loop
 loop-holds c =
     let s = c.args in
     let a : s.arguments + 0 ≡ s.arguments = omega arith in
@@ -26,38 +26,38 @@ loop-holds c =
     (omega arith, rw (a, f, n))
 
 -- the kind of an argument is read in the loop
-abbrev loop_of : tie.After-kind-of invariant-loop decreases-loop → tie.At-loop invariant-loop decreases-loop
+abbrev loop_of : tie.After-kind_of invariant-loop decreases-loop → tie.At-loop-i invariant-loop decreases-loop
 loop_of k = k.before.before.before
 
 read :
-    (k : tie.After-kind-of invariant-loop decreases-loop) → let l = loop_of k in let s = l.before.args in
-    k.kind-of.result ≡ kind_in (get_or s.code.now (s.arguments + l.loop.i) 0)
-read k = k.kind-of.ensures.0 ∙ ap kind_in k.before.code_at.ensures.0
+    (k : tie.After-kind_of invariant-loop decreases-loop) → let l = loop_of k in let s = l.before.args in
+    k.kind_of.result ≡ kind_in (get_or s.code.now (s.arguments + l.loop-i.i) 0)
+read k = k.kind_of.ensures.0 ∙ ap kind_in k.before.code_at.ensures.0
 
-returns : tie.Need-returns invariant-loop decreases-loop
+returns : tie.Need-returns-then-kind_of-code_at invariant-loop decreases-loop
 returns c =
     let k = c.before.before in
     let l = loop_of k in
     let s = l.before.args in
-    kinds-differ s.code.now s.arguments s.formals s.count l.loop.i k.before.before.loop-test.true
-    (λ e. c.if1.true (read k ∙ e ∙ sym c.before.code-at2.ensures.0)) ∙ l.loop.inv.1
+    kinds-differ s.code.now s.arguments s.formals s.count l.loop-i.i k.before.before.loop-i-test.true
+    (λ e. c.if-kind_of-code_at.true (read k ∙ e ∙ sym c.before.code_at-in-loop-i.ensures.0)) ∙ l.loop-i.inv.1
 
-loop-again : tie.Need-loop-preserved invariant-loop decreases-loop
+loop-again : tie.Need-loop-i-preserved invariant-loop decreases-loop
 loop-again c =
     let k = c.before.before in
     let l = loop_of k in
     let s = l.before.args in (
       omega arith,
-      kinds-same s.code.now s.arguments s.formals s.count l.loop.i k.before.before.loop-test.true
-          (sym (read k) ∙ c.if1.false ∙ c.before.code-at2.ensures.0) ∙ l.loop.inv.1,
+      kinds-same s.code.now s.arguments s.formals s.count l.loop-i.i k.before.before.loop-i-test.true
+          (sym (read k) ∙ c.if-kind_of-code_at.false ∙ c.before.code_at-in-loop-i.ensures.0) ∙ l.loop-i.inv.1,
     )
 
-returns-2 : tie.Need-returns-2 invariant-loop decreases-loop
+returns-2 : tie.Need-returns invariant-loop decreases-loop
 returns-2 c =
     let s = c.before.before.args in
-    kinds-done s.code.now s.arguments s.formals s.count c.before.loop.i c.loop-test.false ∙ c.before.loop.invariant.1
+    kinds-done s.code.now s.arguments s.formals s.count c.before.loop-i.i c.loop-i-test.false ∙ c.before.loop-i.invariant.1
 
-pub kinds-agree-spec : {M : Type 1} → statement M
-kinds-agree-spec =
+pub kinds_agree_spec : {M : Type 1} → statement M
+kinds_agree_spec =
     tie.close (tie.spec invariant-loop decreases-loop loop-holds (λ c. search rules) (λ c κs. search rules) (λ c κs. search rules) (λ c. search rules)
     (λ c. search rules) (λ c. search rules) (λ c κs. search rules) returns (λ c. search rules) (λ c. search rules) loop-again returns-2)

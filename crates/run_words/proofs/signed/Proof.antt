@@ -4,7 +4,7 @@ use borrow.Author.Rules.{rules}
 use Rattle.run_words.proofs.signed.Statement.{statement}
 use Rattle.run_words.proofs.signed.Tie as tie
 
-pub signed-spec : {M : Type 1} → statement M
-signed-spec =
+pub signed_spec : {M : Type 1} → statement M
+signed_spec =
     tie.close (tie.spec (λ c. search rules) (λ c. search (rules, signed_low)) (λ c. search rules) (λ c. search (rules, high-wide))
     (λ c. search (rules, high_fits)) (λ c. search (rules, signed_high)))

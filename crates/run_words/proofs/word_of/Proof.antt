@@ -5,5 +5,5 @@ use borrow.Author.Rules.{rules}
 use Rattle.run_words.proofs.word_of.Statement.{statement}
 use Rattle.run_words.proofs.word_of.Tie as tie
 
-pub word-of-spec : {M : Type 1} → statement M
-word-of-spec = tie.close (tie.spec (λ c. search rules) (λ c. to_z_pos w32 c.requires))
+pub word_of_spec : {M : Type 1} → statement M
+word_of_spec = tie.close (tie.spec (λ c. search rules) (λ c. to_z_pos w32 c.requires))

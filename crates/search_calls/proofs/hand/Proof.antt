@@ -4,8 +4,8 @@ use Rattle.search_calls.proofs.Handing.{handed-none, handed-declared, handed-for
 use Rattle.search_calls.proofs.hand.Statement.{statement}
 use Rattle.search_calls.proofs.hand.Tie as tie
 
-pub hand-spec : {M : Type 1} → statement M
-hand-spec =
+pub hand_spec : {M : Type 1} → statement M
+hand_spec =
     tie.close (tie.spec (λ c κs. search rules) (λ c κs. search rules) (λ c κs. search rules) (λ c. search rules) (λ c κs. search rules)
     (λ c. search rules) (λ c. search rules) (λ c κs. search rules) (λ c κs. search rules) (λ c κs. search rules)
     (λ c. search rules) (λ c. search rules) (λ c. search rules) (λ c. search rules) (λ c. search rules) (λ c. search rules)

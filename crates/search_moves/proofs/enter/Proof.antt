@@ -15,10 +15,10 @@ cleared-between : {before after : List ℤ} {a b c d : ℕ} → a ≡ c → b �
 cleared-between {before} {after} p q = subst (λ (T : Type 0). T) (λ i. Cleared before (p i) (q i) after)
 
 -- the places, from the end: the cells are cleared, the records are written, the block's words are read
-abbrev written_of : tie.After-cell-at2 → tie.After-narrow3
+abbrev written_of : tie.After-cell_at-2 → tie.After-narrow-3
 written_of c = c.before.before.before.before.before
 
-abbrev read_of : tie.After-narrow3 → tie.After-code-at2
+abbrev read_of : tie.After-narrow-3 → tie.After-code_at-bounds
 read_of c = c.before.before.before
 
 returns : tie.Need-returns
@@ -29,18 +29,18 @@ returns c =
     let x = y.before in
     let k = written_of y in
     let b = read_of k in
-    let h = b.before.code_at.ensures.0 in
+    let h = b.before.code_at-head.ensures.0 in
     let s = b.before.before.args in
     let live = s.here.live + 1 in
     let from : x.before.Cell-at.result ≡ cell_from live (formals_in (get_or s.code.now s.body 0)) =
-    x.before.Cell-at.ensures ∙ ap (cell_from live) (x.before.before.formals-of.ensures.0 ∙ ap formals_in h) in
-    let to : y.cell-at2.result ≡ cell_from live (names_in (get_or s.code.now s.body 0)) = y.cell-at2.ensures ∙ ap (cell_from live) (x.names-of.ensures ∙ ap names_in h) in
-    let first : f.first_of.result ≡ first_in (get_or s.code.now (s.body + 1) 0) = f.first_of.ensures ∙ ap first_in b.code-at2.ensures.0 in
-    let end : c.end_of_lem.result ≡ end_in (get_or s.code.now (s.body + 1) 0) = c.end_of_lem.ensures.0 ∙ ap end_in b.code-at2.ensures.0 in
+    x.before.Cell-at.ensures ∙ ap (cell_from live) (x.before.before.formals_of.ensures.0 ∙ ap formals_in h) in
+    let to : y.cell_at-2.result ≡ cell_from live (names_in (get_or s.code.now s.body 0)) = y.cell_at-2.ensures ∙ ap (cell_from live) (x.names_of.ensures ∙ ap names_in h) in
+    let first : f.first_of.result ≡ first_in (get_or s.code.now (s.body + 1) 0) = f.first_of.ensures ∙ ap first_in b.code_at-bounds.ensures.0 in
+    let end : c.end_of_lem.result ≡ end_in (get_or s.code.now (s.body + 1) 0) = c.end_of_lem.ensures.0 ∙ ap end_in b.code_at-bounds.ensures.0 in
     record {
-      blocks-are = ap (set s.blocks.now live) k.before.narrow2.ensures;
+      blocks-are = ap (set s.blocks.now live) k.before.narrow-2.ensures;
       nexts-are = ap (set s.nexts.now s.here.live) k.before.before.narrow.ensures;
-      froms-are = ap (set s.froms.now live) k.narrow3.ensures;
+      froms-are = ap (set s.froms.now live) k.narrow-3.ensures;
       cleared = cleared-between from to z.clear.ensures;
       registers-are = λ i. goes_to s.here live (first i) (end i) s.here.pairs;
     }

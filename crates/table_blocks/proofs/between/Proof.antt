@@ -5,7 +5,7 @@ use Rattle.table_blocks.proofs.between.Statement.{statement}
 use Rattle.table_blocks.proofs.between.Tie as tie
 
 returns : tie.Need-returns
-returns c = λ e. outside _ _ _ _ c.before.requires c.before.ranges.group.fits c.wrapping-sub-u32.type-inv c.wrapping-sub-u32.ensures (omega (arith, leb-false, ltb-false))
+returns c = λ e. outside _ _ _ _ c.before.requires c.before.ranges.group.fits c.wrapping_sub_u32.type_inv c.wrapping_sub_u32.ensures (omega (arith, leb-false, ltb-false))
 
-pub between-spec : {M : Type 1} → statement M
-between-spec = tie.close (tie.spec (λ c κs. search rules) returns)
+pub between_spec : {M : Type 1} → statement M
+between_spec = tie.close (tie.spec (λ c κs. search rules) returns)

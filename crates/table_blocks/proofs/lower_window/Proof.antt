@@ -9,20 +9,20 @@ use Rattle.table_blocks.proofs.Blocks.{first-last, lefts-block, overdrawn-wrong}
 use Rattle.table_blocks.proofs.lower_window.Statement.{statement}
 use Rattle.table_blocks.proofs.lower_window.Tie as tie
 
-abbrev invariant-loop : tie.invariant-loop
+abbrev invariant-loop : tie.invariant-loop-i
 invariant-loop table count places slots lefts₀ first last span block₀ i₀ lefts block i =
     (i ≤ count) × (length lefts ≡ length lefts₀) × (length block ≡ 1024) × LeftsAre table i places lefts
 
-abbrev decreases-loop : tie.decreases-loop
+abbrev decreases-loop : tie.decreases-loop-i
 decreases-loop table count places slots lefts₀ first last span block₀ i₀ lefts block i = count - i
 
-abbrev start_of : tie.After-natural-at2 invariant-loop decreases-loop → tie.Start invariant-loop decreases-loop
+abbrev start_of : tie.After-natural_at-last invariant-loop decreases-loop → tie.Start invariant-loop decreases-loop
 start_of c = c.before.before.before.before
 
-abbrev loop_of : tie.After-gather invariant-loop decreases-loop → tie.At-loop invariant-loop decreases-loop
+abbrev loop_of : tie.After-gather-n invariant-loop decreases-loop → tie.At-loop-i invariant-loop decreases-loop
 loop_of c = c.before.before.before.before
 
-abbrev gather_of : tie.After-lower-block invariant-loop decreases-loop → tie.After-gather invariant-loop decreases-loop
+abbrev gather_of : tie.After-lower_block invariant-loop decreases-loop → tie.After-gather-n invariant-loop decreases-loop
 gather_of c = c.before.before.before.before
 
 abbrev rising : (s : tie.Start invariant-loop decreases-loop) → Rising (places_in s.args.places.now) s.args.places.now
@@ -32,33 +32,33 @@ abbrev some : (s : tie.Start invariant-loop decreases-loop) → 0 < places_in s.
 some s = let (words, (right, (rises, (least, more)))) = s.requires in least
 
 -- the window's last group is no smaller than its first
-span_fits : (c : tie.After-natural-at2 invariant-loop decreases-loop) → c.before.natural-at.result ≤ c.natural-at2.result
-span_fits c = omega (arith, c.before.natural-at.ensures.0, c.natural-at2.ensures.0, first-last (start_of c).args.places.now (rising (start_of c)) (some (start_of c)))
+span_fits : (c : tie.After-natural_at-last invariant-loop decreases-loop) → c.before.natural_at-first.result ≤ c.natural_at-last.result
+span_fits c = omega (arith, c.before.natural_at-first.ensures.0, c.natural_at-last.ensures.0, first-last (start_of c).args.places.now (rising (start_of c)) (some (start_of c)))
 
-gather-requires : tie.Need-gather-requires invariant-loop decreases-loop
+gather-requires : tie.Need-gather-n-requires invariant-loop decreases-loop
 gather-requires c κs =
     let b = c.before in
     let l = b.before.before in
     let s = start_of l.before in
     let (words, (right, more)) = s.pre in
-    let (later, (most, few)) = b.block-end.ensures in
-    (omega arith, (λ j k. group-natural s.args.count s.args.table.now words right j (omega arith), (omega arith, (omega (arith, l.loop.invariant.2), omega (arith, span_fits l.before, l.before.natural-at2.ensures.1)))))
+    let (later, (most, few)) = b.block_end-to.ensures in
+    (omega arith, (λ j k. group-natural s.args.count s.args.table.now words right j (omega arith), (omega arith, (omega (arith, l.loop-i.invariant.2), omega (arith, span_fits l.before, l.before.natural_at-last.ensures.1)))))
 
-lower-block-requires : tie.Need-lower-block-requires invariant-loop decreases-loop
-lower-block-requires c κs =
+lower_block-requires : tie.Need-lower_block-requires invariant-loop decreases-loop
+lower_block-requires c κs =
     let g = c.before.before.before in
     let l = loop_of g in
     let (words, (right, (rises, (least, (wide, (index, (long, are))))))) = (start_of l.before).pre in
-    (g.gather.ensures.0, (rises, (wide, (index, omega (arith, l.loop.inv.1)))))
+    (g.gather-n.ensures.0, (rises, (wide, (index, omega (arith, l.loop-i.inv.1)))))
 
 -- the block, and where it ends
-abbrev to_of : tie.After-gather invariant-loop decreases-loop → ℕ
-to_of c = c.before.before.block-end.result
+abbrev to_of : tie.After-gather-n invariant-loop decreases-loop → ℕ
+to_of c = c.before.before.block_end-to.result
 
-abbrev block_of : tie.After-gather invariant-loop decreases-loop → List ℕ
-block_of c = take c.gather.result c.gather.new.1.1.1.1.1.0
+abbrev block_of : tie.After-gather-n invariant-loop decreases-loop → List ℕ
+block_of c = take c.gather-n.result c.gather-n.new.1.1.1.1.1.0
 
-returns : tie.Need-returns invariant-loop decreases-loop
+returns : tie.Need-returns-then-not-lower_block invariant-loop decreases-loop
 returns c =
     let k = c.before.before.before in
     let g = gather_of k in
@@ -66,46 +66,46 @@ returns c =
     let v = l.before in
     let s = start_of v in
     let (words, (right, more)) = s.pre in
-    let (later, (most, few)) = g.before.before.block-end.ensures in (
+    let (later, (most, few)) = g.before.before.block_end-to.ensures in (
       λ e. never e refl,
-      λ e. overdrawn-wrong s.args.table.now s.args.places.now (rising s) (some s) v.before.natural-at.result (v.natural-at2.result - v.before.natural-at.result)
-          v.before.natural-at.ensures.0 (omega (arith, span_fits v, v.natural-at2.ensures.0)) l.loop.i (to_of g) (block_of g) l.loop.lefts g.gather.ensures.1 l.loop.inv.3
-          s.args.count most words (k.lower_block.ensures.1 (not-true _ c.if1.true)),
+      λ e. overdrawn-wrong s.args.table.now s.args.places.now (rising s) (some s) v.before.natural_at-first.result (v.natural_at-last.result - v.before.natural_at-first.result)
+          v.before.natural_at-first.ensures.0 (omega (arith, span_fits v, v.natural_at-last.ensures.0)) l.loop-i.i (to_of g) (block_of g) l.loop-i.lefts-1 g.gather-n.ensures.1 l.loop-i.inv.3
+          s.args.count most words (k.lower_block.ensures.1 (not-true _ c.if-not-lower_block.true)),
     )
 
-loop-again : tie.Need-loop-preserved invariant-loop decreases-loop
+loop-again : tie.Need-loop-i-preserved invariant-loop decreases-loop
 loop-again c =
     let k = c.before.before.before in
     let g = gather_of k in
     let l = loop_of g in
     let v = l.before in
     let s = start_of v in
-    let (later, (most, few)) = g.before.before.block-end.ensures in (
+    let (later, (most, few)) = g.before.before.block_end-to.ensures in (
       most,
-      k.lower_block.auto.1.1.1.1.0 ∙ l.loop.inv.1,
-      g.gather.kept.1.1.1.1.1.0 ∙ l.loop.inv.2,
-      lefts-block s.args.table.now s.args.places.now (rising s) (some s) v.before.natural-at.result (v.natural-at2.result - v.before.natural-at.result)
-          v.before.natural-at.ensures.0 (omega (arith, span_fits v, v.natural-at2.ensures.0)) l.loop.i (to_of g) (block_of g) l.loop.lefts g.gather.ensures.1 l.loop.inv.3
-          k.lower_block.new.1.1.1.1.0 (k.lower_block.ensures.0 (not-false _ c.if1.false)),
+      k.lower_block.auto.1.1.1.1.0 ∙ l.loop-i.inv.1,
+      g.gather-n.kept.1.1.1.1.1.0 ∙ l.loop-i.inv.2,
+      lefts-block s.args.table.now s.args.places.now (rising s) (some s) v.before.natural_at-first.result (v.natural_at-last.result - v.before.natural_at-first.result)
+          v.before.natural_at-first.ensures.0 (omega (arith, span_fits v, v.natural_at-last.ensures.0)) l.loop-i.i (to_of g) (block_of g) l.loop-i.lefts-1 g.gather-n.ensures.1 l.loop-i.inv.3
+          k.lower_block.new.1.1.1.1.0 (k.lower_block.ensures.0 (not-false _ c.if-not-lower_block.false)),
     )
 
-counted : tie.Need-slice-aggregate-lower-block invariant-loop decreases-loop
+counted : tie.Need-slice_bounds-lower_block-end invariant-loop decreases-loop
 counted c =
     let g = c.before.before in
-    sym (g.gather.auto.1.1.1.1.1.0 ∙ (loop_of g).loop.invariant.2)
+    sym (g.gather-n.auto.1.1.1.1.1.0 ∙ (loop_of g).loop-i.invariant.2)
 
-returns-2 : tie.Need-returns-2 invariant-loop decreases-loop
+returns-2 : tie.Need-returns invariant-loop decreases-loop
 returns-2 c =
     let l = c.before in
-    let e : l.loop.i ≡ (start_of l.before).args.count = omega arith in
-    (λ t. rw (sym e) l.loop.invariant.3, λ t. never refl t)
+    let e : l.loop-i.i ≡ (start_of l.before).args.count = omega arith in
+    (λ t. rw (sym e) l.loop-i.invariant.3, λ t. never refl t)
 
-pub lower-window-spec : {M : Type 1} → statement M
-lower-window-spec =
+pub lower_window_spec : {M : Type 1} → statement M
+lower_window_spec =
     tie.close (tie.spec invariant-loop decreases-loop (λ c κs. (omega arith, (rising c.before.before).groups 0 (some c.before.before)))
-    (λ c. omega (arith, c.natural-at.ensures.1)) (λ c. omega arith) (λ c. omega arith)
+    (λ c. omega (arith, c.natural_at-first.ensures.1)) (λ c. omega arith) (λ c. omega arith)
     (λ c κs. (omega arith, (rising c.before.before.before).groups (places_in c.before.before.before.args.places.now - 1) (omega arith)))
-    (λ c. omega (arith, c.natural-at2.ensures.1)) span_fits
+    (λ c. omega (arith, c.natural_at-last.ensures.1)) span_fits
     (λ c. (omega arith, refl, refl, let (words, (right, (rises, (least, (wide, (index, (long, are))))))) = (start_of c).requires in are))
-    (λ c κs. omega arith) (λ c. sym c.before.before.before.loop.invariant.2) gather-requires counted lower-block-requires (λ c. search rules) returns (λ c. omega arith) loop-again
+    (λ c κs. omega arith) (λ c. sym c.before.before.before.loop-i.invariant.2) gather-requires counted lower_block-requires (λ c. search rules) returns (λ c. omega arith) loop-again
     (λ c. search rules) returns-2)

@@ -20,102 +20,102 @@ use Rattle.table_distinct.proofs.Filling.{filled_none, stored-first, filled_more
 use Rattle.table_distinct.proofs.differ_in.Statement.{statement}
 use Rattle.table_distinct.proofs.differ_in.Tie as tie
 
-abbrev invariant-loop : tie.invariant-loop
+abbrev invariant-loop : tie.invariant-loop-i
 invariant-loop table count slots₀ i₀ slots i =
     (i ≤ count) × (length slots ≡ length slots₀) × Filled whole table every i i slots × ((j : ℕ) → j < i → rank_at true j table ≤ 1)
 
-abbrev decreases-loop : tie.decreases-loop
+abbrev decreases-loop : tie.decreases-loop-i
 decreases-loop table count slots₀ i₀ slots i = count - i
 
-abbrev loop_of : tie.After-home-of invariant-loop decreases-loop → tie.At-loop invariant-loop decreases-loop
+abbrev loop_of : tie.After-home_of-home invariant-loop decreases-loop → tie.At-loop-i invariant-loop decreases-loop
 loop_of c = c.before.before.before
 
-abbrev start_of : tie.After-home-of invariant-loop decreases-loop → tie.Start invariant-loop decreases-loop
+abbrev start_of : tie.After-home_of-home invariant-loop decreases-loop → tie.Start invariant-loop decreases-loop
 start_of c = (loop_of c).before.before
 
-abbrev home_at : tie.After-store invariant-loop decreases-loop → tie.After-home-of invariant-loop decreases-loop
+abbrev home_at : tie.After-store invariant-loop decreases-loop → tie.After-home_of-home invariant-loop decreases-loop
 home_at c = c.before.before.before
 
-cleared : (s : tie.Start invariant-loop decreases-loop) → Cleared s.args.count s.args.slots.now
+cleared : (s : tie.Start invariant-loop decreases-loop) → Cleared s.args.count s.args.slots-1.now
 cleared s = let (words, (numbers, clear)) = s.requires in clear
 
-size : (s : tie.Start invariant-loop decreases-loop) → length s.args.slots.now ≡ (cleared s).size
+size : (s : tie.Start invariant-loop decreases-loop) → length s.args.slots-1.now ≡ (cleared s).size
 size s = ap length (cleared s).clear ∙ length-replicate {A = ℕ} (cleared s).size 0
 
 numbers : (s : tie.Start invariant-loop decreases-loop) (j : ℕ) → j < s.args.count → numbers_at s.args.table.now j ≡ true
 numbers s j l = let (words, (right, clear)) = s.requires in numbers-at s.args.table.now s.args.count j words right l
 
-loop-holds : tie.Need-loop-init invariant-loop decreases-loop
+loop-holds : tie.Need-loop-i-init invariant-loop decreases-loop
 loop-holds c =
     let s = c.before in
     (omega arith, refl, subst (Filled whole s.args.table.now every 0 0) (sym (cleared s).clear) (filled_none whole s.args.table.now every (cleared s).size), λ j l. absurd (omega arith))
 
-hash-at-requires : tie.Need-hash-at-requires invariant-loop decreases-loop
-hash-at-requires c κs =
+hash_at-requires : tie.Need-hash_at-requires invariant-loop decreases-loop
+hash_at-requires c κs =
     let l = c.before in
     let s = l.before.before in
-    (omega (arith, s.requires.0), numbers s l.loop.i (omega arith))
+    (omega (arith, s.requires.0), numbers s l.loop-i.i (omega arith))
 
-home-of-requires : tie.Need-home-of-requires invariant-loop decreases-loop
-home-of-requires c κs =
+home_of-requires : tie.Need-home_of-home-requires invariant-loop decreases-loop
+home_of-requires c κs =
     let l = c.before.before in
     let s = l.before.before in
-    (omega (arith, l.loop.invariant.1, size s, (cleared s).more), omega (arith, l.loop.invariant.1, size s, (cleared s).few))
+    (omega (arith, l.loop-i.invariant.1, size s, (cleared s).more), omega (arith, l.loop-i.invariant.1, size s, (cleared s).few))
 
-word-at-requires : tie.Need-word-at-requires invariant-loop decreases-loop
-word-at-requires c κs =
+word_at-requires : tie.Need-word_at-requires invariant-loop decreases-loop
+word_at-requires c κs =
     let l = loop_of c.before in
     let s = start_of c.before in
-    (omega (arith, s.pre.0), numbers s l.loop.i (omega arith))
+    (omega (arith, s.pre.0), numbers s l.loop-i.i (omega arith))
 
-homed : (c : tie.After-home-of invariant-loop decreases-loop) → c.home-of.result ≡ home_of (length (loop_of c).loop.slots) (word_at (start_of c).args.table.now (loop_of c).loop.i)
-homed c = c.home-of.ensures.0 ∙ ap (slot_of (length (loop_of c).loop.slots)) c.before.hash_at.ensures.0
+homed : (c : tie.After-home_of-home invariant-loop decreases-loop) → c.home_of-home.result ≡ home_of (length (loop_of c).loop-i.slots-1) (word_at (start_of c).args.table.now (loop_of c).loop-i.i)
+homed c = c.home_of-home.ensures.0 ∙ ap (slot_of (length (loop_of c).loop-i.slots-1)) c.before.hash_at.ensures.0
 
 store-requires : tie.Need-store-requires invariant-loop decreases-loop
 store-requires c κs =
     let h = c.before.before in
     let l = loop_of h in
     let s = start_of h in
-    (h.home-of.ensures.1, omega (arith, l.loop.inv.2.left, l.loop.inv.1, size s, (cleared s).more))
+    (h.home_of-home.ensures.1, omega (arith, l.loop-i.inv.2.left, l.loop-i.inv.1, size s, (cleared s).more))
 
-stored : (c : tie.After-store invariant-loop decreases-loop) → c.store.result ≡ true → let h = home_at c in let w = word_at (start_of h).args.table.now (loop_of h).loop.i in
-    Stored whole w (home_of (length (loop_of h).loop.slots) w) w (loop_of h).loop.slots c.store.new.0
+stored : (c : tie.After-store invariant-loop decreases-loop) → c.store.result ≡ true → let h = home_at c in let w = word_at (start_of h).args.table.now (loop_of h).loop-i.i in
+    Stored whole w (home_of (length (loop_of h).loop-i.slots-1) w) w (loop_of h).loop-i.slots-1 c.store.new.0
 stored c e =
     let word = c.before.word_at.ensures.0 in
-    subst (λ (T : Type 0). T) (λ i. Stored whole (word i) (homed (home_at c) i) (word i) (loop_of (home_at c)).loop.slots c.store.new.0) (c.store.ensures.0 e)
+    subst (λ (T : Type 0). T) (λ i. Stored whole (word i) (homed (home_at c) i) (word i) (loop_of (home_at c)).loop-i.slots-1 c.store.new.0) (c.store.ensures.0 e)
 
-returns : tie.Need-returns invariant-loop decreases-loop
+returns : tie.Need-returns-then-not-store invariant-loop decreases-loop
 unfolding within
 returns c =
     let t = c.before.before.before in
     let l = loop_of (home_at t) in
     let s = start_of (home_at t) in
     let (word, member) = t.before.word_at.ensures in
-    let held = subst (Holds whole l.loop.slots) word (t.store.ensures.1 (not-true _ c.if1.true)) in
-    let twice = held-twice l.loop.inv.2 (λ j h. numbers s j (omega arith)) member held in
-    sym (each-false (rank_fits true 1 s.args.table.now) s.args.count l.loop.i (omega arith) (lt-leb _ _ twice))
+    let held = subst (Holds whole l.loop-i.slots-1) word (t.store.ensures.1 (not-true _ c.if-not-store.true)) in
+    let twice = held-twice l.loop-i.inv.2 (λ j h. numbers s j (omega arith)) member held in
+    sym (each-false (rank_fits true 1 s.args.table.now) s.args.count l.loop-i.i (omega arith) (lt-leb _ _ twice))
 
-loop-again : tie.Need-loop-preserved invariant-loop decreases-loop
+loop-again : tie.Need-loop-i-preserved invariant-loop decreases-loop
 loop-again c =
     let t = c.before.before.before in
     let l = loop_of (home_at t) in
     let s = start_of (home_at t) in
     let (word, member) = t.before.word_at.ensures in
-    let new = stored t (not-false _ c.if1.false) in (
+    let new = stored t (not-false _ c.if-not-store.false) in (
       omega arith,
       search rules,
-      filled_more l.loop.inv.2 new (not-empty s.args.table.now l.loop.i (numbers s l.loop.i (omega arith))) refl member,
-      below_more _ _ l.loop.inv.3 (stored-first l.loop.inv.2 new (λ x y z. refl) refl),
+      filled_more l.loop-i.inv.2 new (not-empty s.args.table.now l.loop-i.i (numbers s l.loop-i.i (omega arith))) refl member,
+      below_more _ _ l.loop-i.inv.3 (stored-first l.loop-i.inv.2 new (λ x y z. refl) refl),
     )
 
-returns-2 : tie.Need-returns-2 invariant-loop decreases-loop
+returns-2 : tie.Need-returns invariant-loop decreases-loop
 unfolding within
 returns-2 c =
     let l = c.before in
     let s = l.before.before in
-    sym (each-true (rank_fits true 1 s.args.table.now) s.args.count (λ j h. le-leb _ _ (l.loop.invariant.3 j (omega arith))))
+    sym (each-true (rank_fits true 1 s.args.table.now) s.args.count (λ j h. le-leb _ _ (l.loop-i.invariant.3 j (omega arith))))
 
-pub differ-in-spec : {M : Type 1} → statement M
-differ-in-spec =
-    tie.close (tie.spec invariant-loop decreases-loop loop-holds hash-at-requires home-of-requires word-at-requires store-requires (λ c. search rules) returns
+pub differ_in_spec : {M : Type 1} → statement M
+differ_in_spec =
+    tie.close (tie.spec invariant-loop decreases-loop loop-holds hash_at-requires home_of-requires word_at-requires store-requires (λ c. search rules) returns
     (λ c. omega arith) (λ c. omega arith) loop-again (λ c. search rules) returns-2)

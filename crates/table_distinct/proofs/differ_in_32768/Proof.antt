@@ -5,10 +5,10 @@ use Rattle.table_distinct.proofs.Filling.{cleared-new}
 use Rattle.table_distinct.proofs.differ_in_32768.Statement.{statement}
 use Rattle.table_distinct.proofs.differ_in_32768.Tie as tie
 
-differ-in-requires : tie.Need-differ-in-requires
-differ-in-requires c κs =
+differ_in-requires : tie.Need-differ_in-requires
+differ_in-requires c κs =
     let (words, (numbers, few)) = c.before.requires in
     (words, (numbers, cleared-new c.before.args.count 32768 few (omega arith)))
 
-pub differ-in-32768-spec : {M : Type 1} → statement M
-differ-in-32768-spec = tie.close (tie.spec (λ c. search rules) differ-in-requires (λ c. search rules))
+pub differ_in_32768_spec : {M : Type 1} → statement M
+differ_in_32768_spec = tie.close (tie.spec (λ c. search rules) differ_in-requires (λ c. search rules))

@@ -12,21 +12,21 @@ use Rattle.table_distinct.proofs.Words.{group-least, member-least, hash-parts}
 use Rattle.table_distinct.proofs.hash_at.Statement.{statement}
 use Rattle.table_distinct.proofs.hash_at.Tie as tie
 
-word-requires : tie.Need-word-requires
+word-requires : tie.Need-word-group-requires
 word-requires c κs =
     let s = c.before in
-    ap at_least_one (back _ c.group_at.type-inv ∙ c.group_at.ensures) ∙ group-least s.args.table.now s.args.i s.requires.1
+    ap at_least_one (back _ c.group_at.type_inv ∙ c.group_at.ensures) ∙ group-least s.args.table.now s.args.i s.requires.1
 
-word-requires-2 : tie.Need-word-requires-2
+word-requires-2 : tie.Need-word-member-requires
 word-requires-2 c κs =
     let s = c.before.before.before in
-    ap at_least_one (back _ c.member-at.type-inv ∙ c.member-at.ensures) ∙ member-least s.args.table.now s.args.i s.requires.1
+    ap at_least_one (back _ c.member_at.type_inv ∙ c.member_at.ensures) ∙ member-least s.args.table.now s.args.i s.requires.1
 
 sum_fits : (g m : ℕ) → g < 2147483648 → m < 2147483648 → g * 1886004147 + m * 3726408501 < 18446744073709551616
 sum_fits g m h k = omega arith
 
-add-result : tie.Need-overflow-add-result
-add-result c = record { fits = sum_fits _ _ c.before.before.word.ensures.1 c.word2.ensures.1 }
+add-result : tie.Need-overflow_add-result
+add-result c = record { fits = sum_fits _ _ c.before.before.word-group.ensures.1 c.word-member.ensures.1 }
 
 returns : tie.Need-returns
 unfolding word_at
@@ -35,11 +35,11 @@ returns c =
     let w = m.before in
     let g = w.before in
     let s = g.before in
-    let group : w.word.result ≡ nat_abs (group_at s.args.i s.args.table.now) = w.word.ensures.0 ∙ ap nat_abs (back _ g.group_at.type-inv ∙ g.group_at.ensures) in
-    let member : c.word2.result ≡ nat_abs (member_at s.args.i s.args.table.now) = c.word2.ensures.0 ∙ ap nat_abs (back _ m.member-at.type-inv ∙ m.member-at.ensures) in
-    let low : nat_abs (member_at s.args.i s.args.table.now) < 4294967296 = omega (arith, member, c.word2.ensures.1) in
+    let group : w.word-group.result ≡ nat_abs (group_at s.args.i s.args.table.now) = w.word-group.ensures.0 ∙ ap nat_abs (back _ g.group_at.type_inv ∙ g.group_at.ensures) in
+    let member : c.word-member.result ≡ nat_abs (member_at s.args.i s.args.table.now) = c.word-member.ensures.0 ∙ ap nat_abs (back _ m.member_at.type_inv ∙ m.member_at.ensures) in
+    let low : nat_abs (member_at s.args.i s.args.table.now) < 4294967296 = omega (arith, member, c.word-member.ensures.1) in
     (ap₂ (λ (x y : ℕ). x * 1886004147 + y * 3726408501) group member ∙ sym (hash-parts _ _ low), low)
 
-pub hash-at-spec : {M : Type 1} → statement M
-hash-at-spec =
+pub hash_at_spec : {M : Type 1} → statement M
+hash_at_spec =
     tie.close (tie.spec (λ c κs. search rules) word-requires (λ c κs. search rules) word-requires-2 (λ c. search rules) (λ c. search rules) add-result returns)

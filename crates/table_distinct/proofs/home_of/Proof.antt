@@ -8,7 +8,7 @@ use Rattle.table_distinct.proofs.Filling.{slot-below}
 use Rattle.table_distinct.proofs.home_of.Statement.{statement}
 use Rattle.table_distinct.proofs.home_of.Tie as tie
 
-mul-result : tie.Need-overflow-mul-result
+mul-result : tie.Need-overflow_mul-result
 mul-result c =
     let l : c.args.hash % 4294967296 < 4294967296 = mod-lt _ (omega arith) in
     omega (arith, c.requires.1, mul-lt-mul_of_pos_right {k = c.args.size} l c.requires.0)
@@ -17,5 +17,5 @@ returns : tie.Need-returns
 unfolding slot_of
 returns c = search (rules, slot-below)
 
-pub home-of-spec : {M : Type 1} → statement M
-home-of-spec = tie.close (tie.spec mul-result returns)
+pub home_of_spec : {M : Type 1} → statement M
+home_of_spec = tie.close (tie.spec mul-result returns)

@@ -14,9 +14,9 @@ returns c =
     let m = c.before in
     let k = m.before.before in
     let s = k.before.before in
-    c.is-covered.ensures ∙ ap₂ (λ (q n : ℕ). covers (get_or s.args.marks.now q 0) n) (k.mark_of.ensures.0 ∙ ap mark_of s.requires.0) (m.mask-of.ensures ∙ ap mask_of s.requires.0)
+    c.is_covered.ensures ∙ ap₂ (λ (q n : ℕ). covers (get_or s.args.marks.now q 0) n) (k.mark_of.ensures.0 ∙ ap mark_of s.requires.0) (m.mask_of.ensures ∙ ap mask_of s.requires.0)
 
-pub is-suspected-spec : {M : Type 1} → statement M
-is-suspected-spec =
+pub is_suspected_spec : {M : Type 1} → statement M
+is_suspected_spec =
     tie.close (tie.spec (λ c κs. search rules) (λ c. search rules) (λ c. search rules) (λ c κs. search rules) (λ c κs. search rules)
     returns)

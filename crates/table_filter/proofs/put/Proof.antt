@@ -9,7 +9,7 @@ use Rattle.table_filter.proofs.put.Tie as tie
 returns : tie.Need-returns
 returns c =
     let s = c.before.before.before in
-    ap (λ (w : ℕ). set s.args.bits.now s.args.q w) c.joined.ensures
+    ap (λ (w : ℕ). set s.args.bits.now s.args.q w) c.joined-word.ensures
 
 pub put_spec : {M : Type 1} → statement M
 put_spec =

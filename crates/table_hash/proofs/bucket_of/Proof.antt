@@ -8,7 +8,7 @@ use Rattle.table_hash.proofs.Hashing.{bucket-below}
 use Rattle.table_hash.proofs.bucket_of.Statement.{statement}
 use Rattle.table_hash.proofs.bucket_of.Tie as tie
 
-mul-result : tie.Need-overflow-mul-result
+mul-result : tie.Need-overflow_mul-result
 mul-result c =
     let buckets = c.args.buckets in
     let l : c.args.hash / 1048576 % 4294967296 < 4294967296 = mod-lt _ (omega arith) in
@@ -18,5 +18,5 @@ returns : tie.Need-returns
 unfolding bucket
 returns c = search (rules, bucket-below)
 
-pub bucket-of-spec : {M : Type 1} → statement M
-bucket-of-spec = tie.close (tie.spec mul-result returns)
+pub bucket_of_spec : {M : Type 1} → statement M
+bucket_of_spec = tie.close (tie.spec mul-result returns)

@@ -11,20 +11,20 @@ use Rattle.table_keys.proofs.Keys.{alike-none, alike-hit, alike-miss, alike-with
 use Rattle.table_keys.proofs.rank.Statement.{statement}
 use Rattle.table_keys.proofs.rank.Tie as tie
 
-abbrev invariant-loop : tie.invariant-loop
+abbrev invariant-loop : tie.invariant-loop-j
 invariant-loop table whole i found₀ j₀ found j = (j ≤ suc i) × (found ≡ alike whole (group_at i table) (member_at i table) j table)
 
-abbrev decreases-loop : tie.decreases-loop
+abbrev decreases-loop : tie.decreases-loop-j
 decreases-loop table whole i found₀ j₀ found j = suc i - j
 
-add-found : tie.Need-overflow-add-found invariant-loop decreases-loop
+add-found : tie.Need-overflow_add-found invariant-loop decreases-loop
 add-found c =
     let l = c.before.before.before in
     let s = l.before in
     let ws = s.args.table.now in
-    omega (arith, alike-within s.args.whole (group_at s.args.i ws) (member_at s.args.i ws) l.loop.j ws)
+    omega (arith, alike-within s.args.whole (group_at s.args.i ws) (member_at s.args.i ws) l.loop-j.j ws)
 
-loop-again : tie.Need-loop-preserved invariant-loop decreases-loop
+loop-again : tie.Need-loop-j-preserved invariant-loop decreases-loop
 unfolding same_at
 loop-again c =
     let k = c.before in
@@ -32,22 +32,22 @@ loop-again c =
     let s = l.before in
     let ws = s.args.table.now in (
       omega arith,
-      rw (add-one l.loop.j) (⊎_elim
-          (λ w. w.1 ∙ add-one l.loop.found ∙ ap suc l.loop.invariant.1
-          ∙ sym (alike-hit s.args.whole (group_at s.args.i ws) (member_at s.args.i ws) l.loop.j ws (sym k.same_key.ensures ∙ w.0.taken)))
-          (λ w. w.1 ∙ l.loop.invariant.1
-          ∙ sym (alike-miss s.args.whole (group_at s.args.i ws) (member_at s.args.i ws) l.loop.j ws (sym k.same_key.ensures ∙ w.0.left)))
-          c.if1.branch),
+      rw (add-one l.loop-j.j) (⊎_elim
+          (λ w. w.1 ∙ add-one l.loop-j.found ∙ ap suc l.loop-j.invariant.1
+          ∙ sym (alike-hit s.args.whole (group_at s.args.i ws) (member_at s.args.i ws) l.loop-j.j ws (sym k.same_key.ensures ∙ w.0.taken)))
+          (λ w. w.1 ∙ l.loop-j.invariant.1
+          ∙ sym (alike-miss s.args.whole (group_at s.args.i ws) (member_at s.args.i ws) l.loop-j.j ws (sym k.same_key.ensures ∙ w.0.left)))
+          c.if-same_key.branch),
     )
 
 returns : tie.Need-returns invariant-loop decreases-loop
 unfolding rank_at
 returns c =
     let l = c.before in
-    let e : l.loop.j ≡ suc l.before.args.i = omega arith in
-    rw e at l.loop.invariant.1
+    let e : l.loop-j.j ≡ suc l.before.args.i = omega arith in
+    rw e at l.loop-j.invariant.1
 
-pub rank-spec : {M : Type 1} → statement M
-rank-spec =
+pub rank_spec : {M : Type 1} → statement M
+rank_spec =
     tie.close (tie.spec invariant-loop decreases-loop (λ c. search (rules, alike-none)) (λ c κs. omega arith) add-found (λ c. omega arith)
     (λ c. omega arith) loop-again returns)

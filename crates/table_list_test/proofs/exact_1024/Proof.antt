@@ -5,6 +5,6 @@ use Rattle.table_lefts.proofs.Lowering.{fresh_in}
 use Rattle.table_list_test.proofs.exact_1024.Statement.{statement}
 use Rattle.table_list_test.proofs.exact_1024.Tie as tie
 
-pub exact-1024-spec : {M : Type 1} → statement M
-exact-1024-spec =
+pub exact_1024_spec : {M : Type 1} → statement M
+exact_1024_spec =
     tie.close (tie.spec (λ c. search rules) (λ c. search rules) (λ c κs. fresh_in {size = 4096} {long = 1024} (omega arith) (omega arith) (omega arith) c.before.before.requires) (λ c. search rules))

@@ -5,6 +5,6 @@ use Rattle.table_lefts.proofs.Lowering.{fresh_in}
 use Rattle.table_list_test.proofs.exact_256.Statement.{statement}
 use Rattle.table_list_test.proofs.exact_256.Tie as tie
 
-pub exact-256-spec : {M : Type 1} → statement M
-exact-256-spec =
+pub exact_256_spec : {M : Type 1} → statement M
+exact_256_spec =
     tie.close (tie.spec (λ c. search rules) (λ c. search rules) (λ c κs. fresh_in {size = 1024} {long = 256} (omega arith) (omega arith) (omega arith) c.before.before.requires) (λ c. search rules))

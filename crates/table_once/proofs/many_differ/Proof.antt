@@ -10,23 +10,23 @@ use Rattle.table_once.proofs.many_differ.Statement.{statement}
 use Rattle.table_once.proofs.many_differ.Tie as tie
 
 -- what is found is what is said of the pairs
-first_says : (k : tie.After-tested) {v : Found} → k.tested.result ≡ v → Says k.before.args.count k.before.args.table.now v
-first_says k e = subst (Says k.before.args.count k.before.args.table.now) e k.tested.ensures.0
+first_says : (k : tie.After-tested-first) {v : Found} → k.tested-first.result ≡ v → Says k.before.args.count k.before.args.table.now v
+first_says k e = subst (Says k.before.args.count k.before.args.table.now) e k.tested-first.ensures.0
 
-abbrev start_of : tie.After-tested2 → tie.Start
+abbrev start_of : tie.After-tested-last → tie.Start
 start_of k = k.before.before.before.before
 
-last_says : (k : tie.After-tested2) {v : Found} → k.tested2.result ≡ v → Says (start_of k).args.count (start_of k).args.table.now v
-last_says k e = subst (Says (start_of k).args.count (start_of k).args.table.now) e k.tested2.ensures.0
+last_says : (k : tie.After-tested-last) {v : Found} → k.tested-last.result ≡ v → Says (start_of k).args.count (start_of k).args.table.now v
+last_says k e = subst (Says (start_of k).args.count (start_of k).args.table.now) e k.tested-last.ensures.0
 
-returns-5 : tie.Need-returns-5
-returns-5 c = let k = c.before.before in something (within true 1 (start_of k).args.count (start_of k).args.table.now) (k.tested2.ensures.1 refl) c.enum-told6.given.1
+returns-5 : tie.Need-returns-in-Nothing-last
+returns-5 c = let k = c.before.before in something (within true 1 (start_of k).args.count (start_of k).args.table.now) (k.tested-last.ensures.1 refl) c.enum_told-in-Nothing-last-1.given.1
 
-pub many-differ-spec : {M : Type 1} → statement M
-many-differ-spec =
+pub many_differ_spec : {M : Type 1} → statement M
+many_differ_spec =
     tie.close (tie.spec (λ c κs. search rules) (λ c. search rules) (λ c. search rules) (λ c. search rules) (λ c κs. search rules) (λ c. search rules)
     (λ c. search rules) (λ c. search rules)
-    (λ c. sym (first_says c.before.before c.enum_told.given.1))
-    (λ c. sym (first_says c.before.before c.enum-told2.given.1))
-    (λ c. sym (last_says c.before.before c.enum-told4.given.1))
-    (λ c. sym (last_says c.before.before c.enum-told5.given.1)) returns-5)
+    (λ c. sym (first_says c.before.before c.enum_told-1.given.1))
+    (λ c. sym (first_says c.before.before c.enum_told-in-Twice-1.given.1))
+    (λ c. sym (last_says c.before.before c.enum_told-in-Differ-last-1.given.1))
+    (λ c. sym (last_says c.before.before c.enum_told-in-Twice-last-1.given.1)) returns-5)

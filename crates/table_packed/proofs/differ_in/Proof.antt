@@ -18,23 +18,23 @@ use Rattle.table_packed.proofs.Packing.{word_some, word-pair, placed-none, place
 use Rattle.table_packed.proofs.differ_in.Statement.{statement}
 use Rattle.table_packed.proofs.differ_in.Tie as tie
 
-abbrev invariant-loop : tie.invariant-loop
+abbrev invariant-loop : tie.invariant-loop-i
 invariant-loop table count slots₀ i₀ slots i =
     (i ≤ count) × (length slots ≡ length slots₀) × Filled (pair_in table) table every i i slots × Placed table i slots × ((j : ℕ) → j < i → rank_at true j table ≤ 1)
 
-abbrev decreases-loop : tie.decreases-loop
+abbrev decreases-loop : tie.decreases-loop-i
 decreases-loop table count slots₀ i₀ slots i = count - i
 
-cleared : (s : tie.Start invariant-loop decreases-loop) → Cleared s.args.count s.args.slots.now
+cleared : (s : tie.Start invariant-loop decreases-loop) → Cleared s.args.count s.args.slots-1.now
 cleared s = let (words, (right, (clear, few))) = s.requires in clear
 
-size : (s : tie.Start invariant-loop decreases-loop) → length s.args.slots.now ≡ (cleared s).size
+size : (s : tie.Start invariant-loop decreases-loop) → length s.args.slots-1.now ≡ (cleared s).size
 size s = ap length (cleared s).clear ∙ length-replicate {A = ℕ} (cleared s).size 0
 
 numbers : (s : tie.Start invariant-loop decreases-loop) (j : ℕ) → j < s.args.count → numbers_at s.args.table.now j ≡ true
 numbers s j l = let (words, (right, more)) = s.requires in numbers-at s.args.table.now s.args.count j words right l
 
-loop-holds : tie.Need-loop-init invariant-loop decreases-loop
+loop-holds : tie.Need-loop-i-init invariant-loop decreases-loop
 loop-holds c =
     let s = c.before in
     let ws = s.args.table.now in
@@ -46,11 +46,11 @@ loop-holds c =
       λ j l. absurd (omega arith),
     )
 
-hash-at-requires : tie.Need-hash-at-requires invariant-loop decreases-loop
-hash-at-requires c κs =
+hash_at-requires : tie.Need-hash_at-requires invariant-loop decreases-loop
+hash_at-requires c κs =
     let l = c.before in
     let s = l.before.before in
-    (omega (arith, s.requires.0), numbers s l.loop.i (omega arith))
+    (omega (arith, s.requires.0), numbers s l.loop-i.i (omega arith))
 
 store-requires : tie.Need-store-requires invariant-loop decreases-loop
 store-requires c κs =
@@ -66,57 +66,57 @@ store-requires c κs =
           (
             h.hash_at.ensures.0,
             (
-              l.loop.invariant.3,
-              (omega (arith, l.loop.invariant.1, size s, (cleared s).few), omega (arith, l.loop.invariant.2.left, l.loop.invariant.1, size s, (cleared s).more)),
+              l.loop-i.invariant.3,
+              (omega (arith, l.loop-i.invariant.1, size s, (cleared s).few), omega (arith, l.loop-i.invariant.2.left, l.loop-i.invariant.1, size s, (cleared s).more)),
             ),
           ),
         ),
       ),
     )
 
-abbrev hashed_at : tie.After-store invariant-loop decreases-loop → tie.After-hash-at invariant-loop decreases-loop
+abbrev hashed_at : tie.After-store invariant-loop decreases-loop → tie.After-hash_at invariant-loop decreases-loop
 hashed_at c = c.before.before
 
-abbrev loop_of : tie.After-store invariant-loop decreases-loop → tie.At-loop invariant-loop decreases-loop
+abbrev loop_of : tie.After-store invariant-loop decreases-loop → tie.At-loop-i invariant-loop decreases-loop
 loop_of c = (hashed_at c).before.before
 
 abbrev start_of : tie.After-store invariant-loop decreases-loop → tie.Start invariant-loop decreases-loop
 start_of c = (loop_of c).before.before
 
-returns : tie.Need-returns invariant-loop decreases-loop
+returns : tie.Need-returns-then-not-store invariant-loop decreases-loop
 unfolding within
 returns c =
     let t = c.before.before.before in
     let l = loop_of t in
     let s = start_of t in
-    let held = t.store.ensures.1 (not-true _ c.if1.true) in
-    let twice = held-twice l.loop.inv.2 (λ j h. numbers s j (omega arith)) (hashed_at t).hash_at.ensures.1 held in
-    sym (each-false (rank_fits true 1 s.args.table.now) s.args.count l.loop.i (omega arith) (lt-leb _ _ twice))
+    let held = t.store.ensures.1 (not-true _ c.if-not-store.true) in
+    let twice = held-twice l.loop-i.inv.2 (λ j h. numbers s j (omega arith)) (hashed_at t).hash_at.ensures.1 held in
+    sym (each-false (rank_fits true 1 s.args.table.now) s.args.count l.loop-i.i (omega arith) (lt-leb _ _ twice))
 
-loop-again : tie.Need-loop-preserved invariant-loop decreases-loop
+loop-again : tie.Need-loop-i-preserved invariant-loop decreases-loop
 loop-again c =
     let t = c.before.before.before in
     let l = loop_of t in
     let s = start_of t in
     let (words, (right, (clear, few))) = s.pre in
-    let low : l.loop.i < 65535 = omega arith in
-    let tag = tag_of (hash_of (word_at s.args.table.now l.loop.i)) in
-    let new = t.store.ensures.0 (not-false _ c.if1.false) in (
+    let low : l.loop-i.i < 65535 = omega arith in
+    let tag = tag_of (hash_of (word_at s.args.table.now l.loop-i.i)) in
+    let new = t.store.ensures.0 (not-false _ c.if-not-store.false) in (
       omega arith,
       search rules,
-      filled_more l.loop.inv.2 new (word_some l.loop.i low tag) (word-pair l.loop.i low tag s.args.table.now) (hashed_at t).hash_at.ensures.1,
-      placed-more low l.loop.inv.3 new,
-      below_more _ _ l.loop.inv.4 (stored-first l.loop.inv.2 new (λ x y z. refl) refl),
+      filled_more l.loop-i.inv.2 new (word_some l.loop-i.i low tag) (word-pair l.loop-i.i low tag s.args.table.now) (hashed_at t).hash_at.ensures.1,
+      placed-more low l.loop-i.inv.3 new,
+      below_more _ _ l.loop-i.inv.4 (stored-first l.loop-i.inv.2 new (λ x y z. refl) refl),
     )
 
-returns-2 : tie.Need-returns-2 invariant-loop decreases-loop
+returns-2 : tie.Need-returns invariant-loop decreases-loop
 unfolding within
 returns-2 c =
     let l = c.before in
     let s = l.before.before in
-    sym (each-true (rank_fits true 1 s.args.table.now) s.args.count (λ j h. le-leb _ _ (l.loop.invariant.4 j (omega arith))))
+    sym (each-true (rank_fits true 1 s.args.table.now) s.args.count (λ j h. le-leb _ _ (l.loop-i.invariant.4 j (omega arith))))
 
-pub differ-in-spec : {M : Type 1} → statement M
-differ-in-spec =
-    tie.close (tie.spec invariant-loop decreases-loop loop-holds hash-at-requires store-requires (λ c. search rules) returns
+pub differ_in_spec : {M : Type 1} → statement M
+differ_in_spec =
+    tie.close (tie.spec invariant-loop decreases-loop loop-holds hash_at-requires store-requires (λ c. search rules) returns
     (λ c. omega arith) (λ c. omega arith) loop-again (λ c. search rules) returns-2)

@@ -5,10 +5,10 @@ use Rattle.table_distinct.proofs.Filling.{cleared-new}
 use Rattle.table_packed.proofs.differ_in_65536.Statement.{statement}
 use Rattle.table_packed.proofs.differ_in_65536.Tie as tie
 
-differ-in-requires : tie.Need-differ-in-requires
-differ-in-requires c κs =
+differ_in-requires : tie.Need-differ_in-requires
+differ_in-requires c κs =
     let (words, (right, few)) = c.before.requires in
     (words, (right, (cleared-new c.before.args.count 65536 (omega arith) (omega arith), few)))
 
-pub differ-in-65536-spec : {M : Type 1} → statement M
-differ-in-65536-spec = tie.close (tie.spec (λ c. search rules) differ-in-requires (λ c. search rules))
+pub differ_in_65536_spec : {M : Type 1} → statement M
+differ_in_65536_spec = tie.close (tie.spec (λ c. search rules) differ_in-requires (λ c. search rules))

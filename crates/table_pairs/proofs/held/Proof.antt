@@ -8,13 +8,13 @@ use Rattle.table_pairs.proofs.Statements.{held-read}
 use Rattle.table_pairs.proofs.held.Statement.{statement}
 use Rattle.table_pairs.proofs.held.Tie as tie
 
-returns : tie.Need-returns
+returns : tie.Need-returns-then-members-eq0
 unfolding holds is_some size
 returns c =
     let s = c.before in
-    sym (ap is_some (group-none s.args.group s.args.member s.args.count s.args.table.now s.requires.1 (omega (arith, s.requires.0, c.if1.true))))
+    sym (ap is_some (group-none s.args.group s.args.member s.args.count s.args.table.now s.requires.1 (omega (arith, s.requires.0, c.if-members-eq0.true))))
 
-returns-2 : tie.Need-returns-2
+returns-2 : tie.Need-returns
 returns-2 c =
     let s = c.before.before in
     sym (held-read s.ranges.group s.ranges.member s.args.count s.args.table.now c.present.ensures refl)

@@ -12,29 +12,29 @@ use Rattle.table_pairs.proofs.query_pair.Tie as tie
 abbrev lent : tie.Start → Table
 lent s = table_of s.args.table.now s.args.count
 
-numbers : (c : tie.After-numbers-fit) {v : Bool} → c.numbers_fit.result ≡ v → (at_least_one c.before.args.group && at_least_one c.before.args.member) ≡ v
+numbers : (c : tie.After-numbers_fit) {v : Bool} → c.numbers_fit.result ≡ v → (at_least_one c.before.args.group && at_least_one c.before.args.member) ≡ v
 numbers c q = fits_read c.before.ranges.group c.before.ranges.member c.numbers_fit.ensures q
 
 abbrev start_of : tie.After-present → tie.Start
 start_of c = c.before.before.before
 
 fit : (c : tie.After-present) → (at_least_one (start_of c).args.group && at_least_one (start_of c).args.member) ≡ true
-fit c = numbers c.before.before (not-false _ c.before.if1.false)
+fit c = numbers c.before.before (not-false _ c.before.if-not-numbers_fit.false)
 
 known : (c : tie.After-present) {v : Bool} → c.present.result ≡ v → let s = start_of c in holds s.args.group s.args.member (lent s) ≡ v
 known c q = let s = start_of c in held-read s.fits.group s.fits.member s.args.count s.args.table.now c.present.ensures q
 
-returns : tie.Need-returns
+returns : tie.Need-returns-then-not-numbers_fit
 unfolding value_of
-returns c = sym (ap value_of (queried-below _ _ (lent c.before.before) (numbers c.before (not-true _ c.if1.true))))
+returns c = sym (ap value_of (queried-below _ _ (lent c.before.before) (numbers c.before (not-true _ c.if-not-numbers_fit.true))))
 
-returns-2 : tie.Need-returns-2
+returns-2 : tie.Need-returns-then-present
 unfolding value_of
-returns-2 c = let k = c.before in sym (ap value_of (queried-yes _ _ (lent (start_of k)) (fit k) (known k c.if2.true)))
+returns-2 c = let k = c.before in sym (ap value_of (queried-yes _ _ (lent (start_of k)) (fit k) (known k c.if-present.true)))
 
-returns-3 : tie.Need-returns-3
+returns-3 : tie.Need-returns
 unfolding value_of
-returns-3 c = let k = c.before in sym (ap value_of (queried-no _ _ (lent (start_of k)) (fit k) (known k c.if2.false)))
+returns-3 c = let k = c.before in sym (ap value_of (queried-no _ _ (lent (start_of k)) (fit k) (known k c.if-present.false)))
 
-pub query-pair-spec : {M : Type 1} → statement M
-query-pair-spec = tie.close (tie.spec (λ c κs. search rules) returns (λ c κs. search rules) returns-2 returns-3)
+pub query_pair_spec : {M : Type 1} → statement M
+query_pair_spec = tie.close (tie.spec (λ c κs. search rules) returns (λ c κs. search rules) returns-2 returns-3)

@@ -6,8 +6,8 @@ use lib.Seq.{set_out}
 use Rattle.table_pairs.proofs.write_word.Statement.{statement}
 use Rattle.table_pairs.proofs.write_word.Tie as tie
 
-returns-2 : tie.Need-returns-2
+returns-2 : tie.Need-returns-else-i-table
 returns-2 c = let s = c.before in sym (set_out s.args.table.now s.args.i s.args.word (omega arith))
 
-pub write-word-spec : {M : Type 1} → statement M
-write-word-spec = tie.close (tie.spec (λ c. search rules) (λ c. search rules) (λ c. search rules) (λ c. search rules) returns-2)
+pub write_word_spec : {M : Type 1} → statement M
+write_word_spec = tie.close (tie.spec (λ c. search rules) (λ c. search rules) (λ c. search rules) (λ c. search rules) returns-2)

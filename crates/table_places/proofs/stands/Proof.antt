@@ -12,19 +12,19 @@ use Rattle.table_places.specs.Places.{stands_at}
 use Rattle.table_places.proofs.stands.Statement.{statement}
 use Rattle.table_places.proofs.stands.Tie as tie
 
-returns : tie.Need-returns
+returns : tie.Need-returns-then-k-list
 unfolding stands_at
 returns c =
     let g = c.before in
     let s = g.before.before in
     rw (lt-ltb (2 * s.args.k + 1) (length s.args.list.now) (omega arith))
-    (ap not (same-cells {y = pos 0} c.same_number.ensures g.group_at.type-inv (omega arith) g.group_at.ensures refl))
+    (ap not (same-cells {y = pos 0} c.same_number.ensures g.group_at.type_inv (omega arith) g.group_at.ensures refl))
 
-returns-2 : tie.Need-returns-2
+returns-2 : tie.Need-returns
 unfolding stands_at
 returns-2 c =
     let s = c.before in
     rw (le-ltb (2 * s.args.k + 1) (length s.args.list.now) (omega arith))
 
-pub stands-spec : {M : Type 1} → statement M
-stands-spec = tie.close (tie.spec (λ c κs. search rules) (λ c κs. search rules) returns returns-2)
+pub stands_spec : {M : Type 1} → statement M
+stands_spec = tie.close (tie.spec (λ c κs. search rules) (λ c κs. search rules) returns returns-2)

@@ -14,40 +14,40 @@ use Rattle.table_search.proofs.Pairs.{hits_more, hits-same}
 use Rattle.table_search.proofs.block_holds.Statement.{statement}
 use Rattle.table_search.proofs.block_holds.Tie as tie
 
-abbrev invariant-loop : tie.invariant-loop
+abbrev invariant-loop : tie.invariant-loop-j
 invariant-loop table from group member hits₀ j₀ hits j = (j ≤ 32) × (hits ≤ j) × (ltb 0 hits ≡ among_pairs (to_z w32 group) (to_z w32 member) from j table)
 
-abbrev decreases-loop : tie.decreases-loop
+abbrev decreases-loop : tie.decreases-loop-j
 decreases-loop table from group member hits₀ j₀ hits j = 32 - j
 
-loop-holds : tie.Need-loop-init invariant-loop decreases-loop
+loop-holds : tie.Need-loop-j-init invariant-loop decreases-loop
 unfolding among_pairs
 loop-holds c = search rules
 
-abbrev loop_of : tie.After-pair-is invariant-loop decreases-loop → tie.At-loop invariant-loop decreases-loop
+abbrev loop_of : tie.After-pair_is invariant-loop decreases-loop → tie.At-loop-j invariant-loop decreases-loop
 loop_of c = c.before.before
 
-loop-again : tie.Need-loop-preserved invariant-loop decreases-loop
+loop-again : tie.Need-loop-j-preserved invariant-loop decreases-loop
 loop-again c =
     let k = loop_of c.before in
-    let l = k.loop in
-    let t = c.before.pair-is.ensures in (
+    let l = k.loop-j in
+    let t = c.before.pair_is.ensures in (
       omega arith,
-      ⊎_elim (λ w. let q = w.1 in omega arith) (λ w. let q = w.1 in omega arith) c.if1.branch,
+      ⊎_elim (λ w. let q = w.1 in omega arith) (λ w. let q = w.1 in omega arith) c.if-pair_is.branch,
       rw add-one (⊎_elim
           (λ w. hits_more _ _ _ l.j _ (sym t ∙ w.0.taken) (w.1 ∙ add-one l.hits))
           (λ w. hits-same _ _ _ l.j _ (sym t ∙ w.0.left) w.1 l.inv.2)
-          c.if1.branch),
+          c.if-pair_is.branch),
     )
 
 returns : tie.Need-returns invariant-loop decreases-loop
 returns c =
-    let l = c.before.loop in
+    let l = c.before.loop-j in
     let s = c.before.before in
     let e : l.j ≡ 32 = omega arith in
     (rw (e, to_z-of_z s.ranges.group, to_z-of_z s.ranges.member) at l.invariant.2)
 
-pub block-holds-spec : {M : Type 1} → statement M
-block-holds-spec =
+pub block_holds_spec : {M : Type 1} → statement M
+block_holds_spec =
     tie.close (tie.spec invariant-loop decreases-loop loop-holds (λ c. omega arith) (λ c κs. omega arith) (λ c. omega arith) (λ c. omega arith)
     (λ c. omega arith) loop-again returns)

@@ -17,42 +17,42 @@ use Rattle.table_search.proofs.place_of.Statement.{statement}
 use Rattle.table_search.proofs.place_of.Tie as tie
 use Rattle.table_search.proofs.Pairs.{room, find-fresh, find-hit, find-clamped}
 
-abbrev invariant-loop : tie.invariant-loop
+abbrev invariant-loop : tie.invariant-loop-i
 invariant-loop table count group member n i₀ i = (i ≤ n) × (find (to_z w32 group) (to_z w32 member) i table ≡ none)
 
-abbrev decreases-loop : tie.decreases-loop
+abbrev decreases-loop : tie.decreases-loop-i
 decreases-loop table count group member n i₀ i = n - i
 
-abbrev start_of : tie.At-loop invariant-loop decreases-loop → tie.Start invariant-loop decreases-loop
+abbrev start_of : tie.At-loop-i invariant-loop decreases-loop → tie.Start invariant-loop decreases-loop
 start_of c = c.before.before.before
 
-abbrev loop_of : tie.After-pair-is invariant-loop decreases-loop → tie.At-loop invariant-loop decreases-loop
+abbrev loop_of : tie.After-pair_is invariant-loop decreases-loop → tie.At-loop-i invariant-loop decreases-loop
 loop_of c = c.before.before
 
 answer : {g m : ℤ} → SFits w32 g → SFits w32 m → (count : ℕ) (ws : List ℤ) (i : ℕ) {n : ℕ} {r : Option ℕ} → i ≡ n → n ≡ min count (length ws / 2) → find (to_z w32 (of_z w32 g)) (to_z w32 (of_z w32 m)) i ws ≡ r → placed r ≡ placed (find g m count ws)
 answer {g} {m} fg fm count ws i h e q = ap placed (sym q ∙ rw (h, e, to_z-of_z fg, to_z-of_z fm) (find-clamped g m count ws))
 
-returns : tie.Need-returns invariant-loop decreases-loop
+returns : tie.Need-returns-then-pair_is invariant-loop decreases-loop
 unfolding placed
 returns c =
     let k = loop_of c.before in
     let s = start_of k in
-    let l = k.loop in
-    let n = k.before.before.pairs-in in
+    let l = k.loop-i in
+    let n = k.before.before.pairs_in-n in
     answer s.fits.group s.fits.member s.args.count s.args.table.now n.result refl n.ensures
-    (find-hit _ _ n.result (room l.i _ (omega arith)) l.inv.1 (sym c.before.pair-is.ensures ∙ c.if1.true) (omega arith))
+    (find-hit _ _ n.result (room l.i _ (omega arith)) l.inv.1 (sym c.before.pair_is.ensures ∙ c.if-pair_is.true) (omega arith))
 
-loop-again : tie.Need-loop-preserved invariant-loop decreases-loop
-loop-again c = (omega arith, rw add-one (find-fresh _ _ (room _ _ (omega arith)) (loop_of c.before).loop.inv.1 (sym c.before.pair-is.ensures ∙ c.if1.false)))
+loop-again : tie.Need-loop-i-preserved invariant-loop decreases-loop
+loop-again c = (omega arith, rw add-one (find-fresh _ _ (room _ _ (omega arith)) (loop_of c.before).loop-i.inv.1 (sym c.before.pair_is.ensures ∙ c.if-pair_is.false)))
 
-returns-2 : tie.Need-returns-2 invariant-loop decreases-loop
+returns-2 : tie.Need-returns invariant-loop decreases-loop
 unfolding placed
 returns-2 c =
     let s = start_of c.before in
-    let l = c.before.loop in
-    answer s.fits.group s.fits.member s.args.count s.args.table.now l.i (omega arith) c.before.before.before.pairs-in.ensures l.invariant.1
+    let l = c.before.loop-i in
+    answer s.fits.group s.fits.member s.args.count s.args.table.now l.i (omega arith) c.before.before.before.pairs_in-n.ensures l.invariant.1
 
-pub place-of-spec : {M : Type 1} → statement M
-place-of-spec =
+pub place_of_spec : {M : Type 1} → statement M
+place_of_spec =
     tie.close (tie.spec invariant-loop decreases-loop (λ c κs. tt) (λ c κs. search rules) (λ c. search rules) (λ c κs. omega arith) returns
     (λ c. omega arith) (λ c. omega arith) loop-again returns-2)

@@ -12,7 +12,7 @@ returns c =
     let m = c.before in
     let b = m.before in
     let s = b.before.before in
-    ap₂ (λ (q n : ℕ). covers (get_or s.args.marks.now q 0) n) m.mark_of.ensures.0 b.bit-of.ensures
+    ap₂ (λ (q n : ℕ). covers (get_or s.args.marks.now q 0) n) m.mark_of.ensures.0 b.bit_of-bit.ensures
 
-pub is-marked-spec : {M : Type 1} → statement M
-is-marked-spec = tie.close (tie.spec (λ c κs. search rules) (λ c κs. search rules) (λ c. search rules) (λ c. search rules) returns)
+pub is_marked_spec : {M : Type 1} → statement M
+is_marked_spec = tie.close (tie.spec (λ c κs. search rules) (λ c κs. search rules) (λ c. search rules) (λ c. search rules) returns)

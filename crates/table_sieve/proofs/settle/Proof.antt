@@ -22,70 +22,70 @@ use Rattle.table_sieve.proofs.Sieving.{marked-same}
 use Rattle.table_sieve.proofs.settle.Statement.{statement}
 use Rattle.table_sieve.proofs.settle.Tie as tie
 
-abbrev invariant-loop : tie.invariant-loop
+abbrev invariant-loop : tie.invariant-loop-i
 invariant-loop table count marks slots₀ kept₀ i₀ slots kept i =
     (i ≤ count) × (kept ≤ 28000) × (length slots ≡ 32768) × Filled whole table (marked table marks) i kept slots × ((j : ℕ) → j < i → rank_at true j table ≤ 1)
 
-abbrev decreases-loop : tie.decreases-loop
+abbrev decreases-loop : tie.decreases-loop-i
 decreases-loop table count marks slots₀ kept₀ i₀ slots kept i = count - i
 
-abbrev loop_of : tie.After-is-marked invariant-loop decreases-loop → tie.At-loop invariant-loop decreases-loop
+abbrev loop_of : tie.After-is_marked invariant-loop decreases-loop → tie.At-loop-i invariant-loop decreases-loop
 loop_of m = m.before.before.before
 
-abbrev start_of : tie.After-is-marked invariant-loop decreases-loop → tie.Start invariant-loop decreases-loop
+abbrev start_of : tie.After-is_marked invariant-loop decreases-loop → tie.Start invariant-loop decreases-loop
 start_of m = (loop_of m).before.before
 
 numbers : (s : tie.Start invariant-loop decreases-loop) (j : ℕ) → j < s.args.count → numbers_at s.args.table.now j ≡ true
 numbers s j l = let (words, (right, more)) = s.requires in numbers-at s.args.table.now s.args.count j words right l
 
-tested : (m : tie.After-is-marked invariant-loop decreases-loop) → m.is-marked.result ≡ marked (start_of m).args.table.now (start_of m).args.marks.now (loop_of m).loop.i
+tested : (m : tie.After-is_marked invariant-loop decreases-loop) → m.is_marked.result ≡ marked (start_of m).args.table.now (start_of m).args.marks.now (loop_of m).loop-i.i
 unfolding marked hash_at
 tested m =
-    m.is-marked.ensures ∙ ap (λ (h : ℕ). covers (get_or (start_of m).args.marks.now (mark_of h) 0) (bit_of h)) m.before.hash_at.ensures.0
+    m.is_marked.ensures ∙ ap (λ (h : ℕ). covers (get_or (start_of m).args.marks.now (mark_of h) 0) (bit_of h)) m.before.hash_at-hash.ensures.0
 
-loop-holds : tie.Need-loop-init invariant-loop decreases-loop
+loop-holds : tie.Need-loop-i-init invariant-loop decreases-loop
 loop-holds c =
     let s = c.before in
     (omega arith, omega arith, length-replicate {A = ℕ} 32768 0, filled_none whole s.args.table.now (marked s.args.table.now s.args.marks.now) 32768, λ j l. absurd (omega arith))
 
-hash-at-requires : tie.Need-hash-at-requires invariant-loop decreases-loop
-hash-at-requires c κs =
+hash_at-requires : tie.Need-hash_at-hash-requires invariant-loop decreases-loop
+hash_at-requires c κs =
     let l = c.before in
     let s = l.before.before in
-    (omega (arith, s.requires.0), numbers s l.loop.i (omega arith))
+    (omega (arith, s.requires.0), numbers s l.loop-i.i (omega arith))
 
-word-at-requires : tie.Need-word-at-requires invariant-loop decreases-loop
-word-at-requires c κs =
+word_at-requires : tie.Need-word_at-requires invariant-loop decreases-loop
+word_at-requires c κs =
     let m = c.before.before.before in
     let s = start_of m in
-    (omega (arith, s.pre.0), numbers s (loop_of m).loop.i (omega arith))
+    (omega (arith, s.pre.0), numbers s (loop_of m).loop-i.i (omega arith))
 
-abbrev key_of : tie.After-store invariant-loop decreases-loop → tie.After-word-at invariant-loop decreases-loop
+abbrev key_of : tie.After-store invariant-loop decreases-loop → tie.After-word_at invariant-loop decreases-loop
 key_of k = k.before.before
 
-abbrev marked_of : tie.After-store invariant-loop decreases-loop → tie.After-is-marked invariant-loop decreases-loop
+abbrev marked_of : tie.After-store invariant-loop decreases-loop → tie.After-is_marked invariant-loop decreases-loop
 marked_of k = (key_of k).before.before.before.before
 
 store-requires : tie.Need-store-requires invariant-loop decreases-loop
 store-requires c κs =
     let l = loop_of c.before.before.before.before.before in
-    (omega (arith, c.home-of.ensures.1, l.loop.inv.2), omega (arith, l.loop.inv.3.left, l.loop.inv.2))
+    (omega (arith, c.home_of.ensures.1, l.loop-i.inv.2), omega (arith, l.loop-i.inv.3.left, l.loop-i.inv.2))
 
 -- a marked pair is stored
 module _ (k : tie.After-store invariant-loop decreases-loop) where
-  homed : k.before.home-of.result ≡ home_of (length (loop_of (marked_of k)).loop.slots) (word_at (start_of (marked_of k)).args.table.now (loop_of (marked_of k)).loop.i)
+  homed : k.before.home_of.result ≡ home_of (length (loop_of (marked_of k)).loop-i.slots-1) (word_at (start_of (marked_of k)).args.table.now (loop_of (marked_of k)).loop-i.i)
   homed =
       let m = marked_of k in
-      k.before.home-of.ensures.0 ∙ ap (slot_of 32768) m.before.hash_at.ensures.0 ∙
-      ap (λ (size : ℕ). home_of size (word_at (start_of m).args.table.now (loop_of m).loop.i)) (sym (loop_of m).loop.inv.2)
+      k.before.home_of.ensures.0 ∙ ap (slot_of 32768) m.before.hash_at-hash.ensures.0 ∙
+      ap (λ (size : ℕ). home_of size (word_at (start_of m).args.table.now (loop_of m).loop-i.i)) (sym (loop_of m).loop-i.inv.2)
 
-  stored : k.store.result ≡ true → let m = marked_of k in let w = word_at (start_of m).args.table.now (loop_of m).loop.i in
-      Stored whole w (home_of (length (loop_of m).loop.slots) w) w (loop_of m).loop.slots k.store.last.0
+  stored : k.store.result ≡ true → let m = marked_of k in let w = word_at (start_of m).args.table.now (loop_of m).loop-i.i in
+      Stored whole w (home_of (length (loop_of m).loop-i.slots-1) w) w (loop_of m).loop-i.slots-1 k.store.last.0
   stored e =
       let m = marked_of k in
-      subst (λ (T : Type 0). T) (λ i. Stored whole ((key_of k).word_at.ensures.0 i) (homed i) ((key_of k).word_at.ensures.0 i) (loop_of m).loop.slots k.store.last.0) (k.store.ensures.0 e)
+      subst (λ (T : Type 0). T) (λ i. Stored whole ((key_of k).word_at.ensures.0 i) (homed i) ((key_of k).word_at.ensures.0 i) (loop_of m).loop-i.slots-1 k.store.last.0) (k.store.ensures.0 e)
 
-returns-2 : tie.Need-returns-2 invariant-loop decreases-loop
+returns-2 : tie.Need-returns-then-not-store invariant-loop decreases-loop
 unfolding within
 returns-2 c =
     let k = c.before.before in
@@ -93,17 +93,17 @@ returns-2 c =
     let l = loop_of m in
     let s = start_of m in
     let (word, member) = (key_of k).word_at.ensures in
-    let held = subst (Holds whole l.loop.slots) word (k.store.ensures.1 (not-true _ c.if3.true)) in
-    let twice = held-twice l.loop.inv.3 (λ j h. numbers s j (omega arith)) member held in
-    each-false (rank_fits true 1 s.args.table.now) s.args.count l.loop.i (omega arith) (lt-leb _ _ twice)
+    let held = subst (Holds whole l.loop-i.slots-1) word (k.store.ensures.1 (not-true _ c.if-not-store.true)) in
+    let twice = held-twice l.loop-i.inv.3 (λ j h. numbers s j (omega arith)) member held in
+    each-false (rank_fits true 1 s.args.table.now) s.args.count l.loop-i.i (omega arith) (lt-leb _ _ twice)
 
 -- a pair that is not marked stands nowhere before
-not-marked : (m : tie.After-is-marked invariant-loop decreases-loop) → m.is-marked.result ≡ false → rank_at true (loop_of m).loop.i (start_of m).args.table.now ≤ 1
+not-marked : (m : tie.After-is_marked invariant-loop decreases-loop) → m.is_marked.result ≡ false → rank_at true (loop_of m).loop-i.i (start_of m).args.table.now ≤ 1
 not-marked m e =
     let (words, (right, (mark-words, known))) = (start_of m).requires in
-    ⊎_elim (λ r. r) (λ t. never t (sym (tested m) ∙ e)) (known (loop_of m).loop.i (omega arith))
+    ⊎_elim (λ r. r) (λ t. never t (sym (tested m) ∙ e)) (known (loop_of m).loop-i.i (omega arith))
 
-loop-again : tie.Need-loop-preserved invariant-loop decreases-loop
+loop-again : tie.Need-loop-i-preserved invariant-loop decreases-loop
 loop-again c =
     let m = c.before in
     let l = loop_of m in
@@ -113,35 +113,35 @@ loop-again c =
     ⊎_elim
     (λ w.
     let k : tie.After-store invariant-loop decreases-loop = record {
-      before = record { before = record { before = record { before = record { before = record { before = m; if1 = w.0 }; if2 = w.1 }; slots = w.2 }; word_at = w.3 }; home-of = w.4 };
+      before = record { before = record { before = record { before = record { before = record { before = m; if1 = w.0 }; if2 = w.1 }; slots = w.2 }; word_at = w.3 }; home_of = w.4 };
       store = w.5;
     } in
     let new = stored k (not-false _ w.7.left) in
-    let first = stored-first l.loop.inv.3 new (marked-same ws s.args.marks.now) (sym (tested m) ∙ w.0.taken) in
-    let filled = filled_more l.loop.inv.3 new (not-empty ws l.loop.i (numbers s l.loop.i (omega arith))) refl w.3.ensures.1 in (
+    let first = stored-first l.loop-i.inv.3 new (marked-same ws s.args.marks.now) (sym (tested m) ∙ w.0.taken) in
+    let filled = filled_more l.loop-i.inv.3 new (not-empty ws l.loop-i.i (numbers s l.loop-i.i (omega arith))) refl w.3.ensures.1 in (
       omega arith,
       omega (arith, w.9, w.1.left),
-      ap length (w.8 ∙ new.stored) ∙ length-set l.loop.slots new.slot _ ∙ l.loop.inv.2,
-      subst (λ (T : Type 0). T) (λ i. Filled whole ws mine (l.loop.i + 1) (sym w.9 i) (sym w.8 i)) filled,
-      below_more _ _ l.loop.inv.4 first,
+      ap length (w.8 ∙ new.stored) ∙ length-set l.loop-i.slots-1 new.slot _ ∙ l.loop-i.inv.2,
+      subst (λ (T : Type 0). T) (λ i. Filled whole ws mine (l.loop-i.i + 1) (sym w.9 i) (sym w.8 i)) filled,
+      below_more _ _ l.loop-i.inv.4 first,
     ))
     (λ w. (
       omega arith,
       omega (arith, w.2),
-      ap length w.1 ∙ l.loop.inv.2,
-      subst (λ (T : Type 0). T) (λ i. Filled whole ws mine (l.loop.i + 1) (sym w.2 i) (sym w.1 i)) (filled-skip l.loop.inv.3 (sym (tested m) ∙ w.0.left)),
-      below_more _ _ l.loop.inv.4 (not-marked m w.0.left),
+      ap length w.1 ∙ l.loop-i.inv.2,
+      subst (λ (T : Type 0). T) (λ i. Filled whole ws mine (l.loop-i.i + 1) (sym w.2 i) (sym w.1 i)) (filled-skip l.loop-i.inv.3 (sym (tested m) ∙ w.0.left)),
+      below_more _ _ l.loop-i.inv.4 (not-marked m w.0.left),
     ))
-    c.if1.branch
+    c.if-is_marked.branch
 
-returns-3 : tie.Need-returns-3 invariant-loop decreases-loop
+returns-3 : tie.Need-returns invariant-loop decreases-loop
 unfolding within
 returns-3 c =
     let l = c.before in
     let s = l.before.before in
-    each-true (rank_fits true 1 s.args.table.now) s.args.count (λ j h. le-leb _ _ (l.loop.invariant.4 j (omega arith)))
+    each-true (rank_fits true 1 s.args.table.now) s.args.count (λ j h. le-leb _ _ (l.loop-i.invariant.4 j (omega arith)))
 
-pub settle-spec : {M : Type 1} → statement M
-settle-spec =
-    tie.close (tie.spec invariant-loop decreases-loop loop-holds hash-at-requires (λ c κs. search rules) (λ c. tt) (λ c. search rules) word-at-requires (λ c κs. search rules)
+pub settle_spec : {M : Type 1} → statement M
+settle_spec =
+    tie.close (tie.spec invariant-loop decreases-loop loop-holds hash_at-requires (λ c κs. search rules) (λ c. tt) (λ c. search rules) word_at-requires (λ c κs. search rules)
     store-requires returns-2 (λ c. omega arith) (λ c. omega arith) (λ c. omega arith) loop-again returns-3)

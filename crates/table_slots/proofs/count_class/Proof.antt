@@ -15,44 +15,44 @@ use Rattle.table_slots.proofs.Passes.{good_start}
 use Rattle.table_slots.proofs.count_class.Statement.{statement}
 use Rattle.table_slots.proofs.count_class.Tie as tie
 
-abbrev invariant-loop : tie.invariant-loop
+abbrev invariant-loop : tie.invariant-loop-i
 invariant-loop table count whole limit class classes marks slots₀ i₀ slots i =
     (i ≤ count) × Good whole table (wanted whole table classes class marks) i slots ×
     ((j : ℕ) → j < i → wanted whole table classes class marks j ≡ true → rank_at whole j table ≤ limit)
 
-abbrev decreases-loop : tie.decreases-loop
+abbrev decreases-loop : tie.decreases-loop-i
 decreases-loop table count whole limit class classes marks slots₀ i₀ slots i = count - i
 
-count-wanted-requires : tie.Need-count-wanted-requires invariant-loop decreases-loop
-count-wanted-requires c κs =
+count_wanted-requires : tie.Need-count_wanted-requires invariant-loop decreases-loop
+count_wanted-requires c κs =
     let l = c.before.before in
     let s = l.before.before in
     let (words, (near, (some, (classes, mark-words)))) = s.requires in
-    (omega arith, (omega arith, (some, (classes, (mark-words, l.loop.invariant.1)))))
+    (omega arith, (omega arith, (some, (classes, (mark-words, l.loop-i.invariant.1)))))
 
-returns : tie.Need-returns invariant-loop decreases-loop
+returns : tie.Need-returns-then-not-count_wanted invariant-loop decreases-loop
 unfolding within
 returns c =
     let k = c.before.before in
     let l = k.before.before.before in
     let s = l.before.before in
-    let (counted, (few, many)) = k.count-wanted.ensures in (
+    let (counted, (few, many)) = k.count_wanted.ensures in (
       λ e. never e refl,
-      λ e. each-false (rank_fits s.args.whole s.args.limit s.args.table.now) s.args.count l.loop.i (omega arith) (lt-leb _ _ (many (not-true _ c.if1.true))),
+      λ e. each-false (rank_fits s.args.whole s.args.limit s.args.table.now) s.args.count l.loop-i.i (omega arith) (lt-leb _ _ (many (not-true _ c.if-not-count_wanted.true))),
     )
 
-loop-again : tie.Need-loop-preserved invariant-loop decreases-loop
+loop-again : tie.Need-loop-i-preserved invariant-loop decreases-loop
 loop-again c =
     let k = c.before.before in
     let l = k.before.before.before in
-    let done = not-false _ c.if1.false in
-    let (counted, (few, many)) = k.count-wanted.ensures in
-    (omega arith, counted done, below_more _ _ l.loop.invariant.2 (few done))
+    let done = not-false _ c.if-not-count_wanted.false in
+    let (counted, (few, many)) = k.count_wanted.ensures in
+    (omega arith, counted done, below_more _ _ l.loop-i.invariant.2 (few done))
 
-returns-2 : tie.Need-returns-2 invariant-loop decreases-loop
-returns-2 c = (λ e j l m. c.before.loop.invariant.2 j (omega arith) m, λ e. never refl e)
+returns-2 : tie.Need-returns invariant-loop decreases-loop
+returns-2 c = (λ e j l m. c.before.loop-i.invariant.2 j (omega arith) m, λ e. never refl e)
 
-pub count-class-spec : {M : Type 1} → statement M
-count-class-spec =
-    tie.close (tie.spec invariant-loop decreases-loop (λ c. search (rules, good_start)) (λ c. search rules) count-wanted-requires returns
+pub count_class_spec : {M : Type 1} → statement M
+count_class_spec =
+    tie.close (tie.spec invariant-loop decreases-loop (λ c. search (rules, good_start)) (λ c. search rules) count_wanted-requires returns
     (λ c. omega arith) (λ c. omega arith) loop-again returns-2)

@@ -15,66 +15,66 @@ use borrow.Author.Rules.{rules}
 use Rattle.table_slots.proofs.count_pair.Statement.{statement}
 use Rattle.table_slots.proofs.count_pair.Tie as tie
 
-abbrev start_of : tie.After-probe → tie.Start
+abbrev start_of : tie.After-probe-found → tie.Start
 start_of c = c.before.before.before.before
 
-abbrev Ends : tie.After-probe → Slot → Type 0
+abbrev Ends : tie.After-probe-found → Slot → Type 0
 Ends c =
     let s = start_of c in
     Probed s.args.whole s.args.table.now s.args.i (firsts s.args.slots.now) (slot_at s.args.whole s.args.table.now s.args.i)
 
-sought : (c : tie.After-probe) → Ends c c.probe.result
+sought : (c : tie.After-probe-found) → Ends c c.probe-found.result
 sought c =
     let s = start_of c in
     let (words, (near, (some, (hashed, more)))) = s.pre in
-    subst (λ (q : ℕ). Probed s.args.whole s.args.table.now s.args.i (firsts s.args.slots.now) q c.probe.result)
-    (c.before.bucket-of.ensures.0 ∙ ap (bucket 27904) hashed) c.probe.ensures
+    subst (λ (q : ℕ). Probed s.args.whole s.args.table.now s.args.i (firsts s.args.slots.now) q c.probe-found.result)
+    (c.before.bucket_of.ensures.0 ∙ ap (bucket 27904) hashed) c.probe-found.ensures
 
-at-empty : (c : tie.After-found) → Ends c.before.before (Empty c.found.given.0.0)
-at-empty c = subst (Ends c.before.before) c.found.given.1 (sought c.before.before)
+at-empty : (c : tie.In-Empty-2) → Ends c.before.before (Empty c.found-1.given.0.0)
+at-empty c = subst (Ends c.before.before) c.found-1.given.1 (sought c.before.before)
 
-at_held : (c : tie.After-found2) → Ends c.before.before (Held c.found2.given.0.0)
-at_held c = subst (Ends c.before.before) c.found2.given.1 (sought c.before.before)
+at_held : (c : tie.In-Held-2) → Ends c.before.before (Held c.found-in-Held-1.given.0.0)
+at_held c = subst (Ends c.before.before) c.found-in-Held-1.given.1 (sought c.before.before)
 
-at-full : (c : tie.After-enum-told) → Ends c.before.before Full
-at-full c = subst (Ends c.before.before) c.enum_told.given.1 (sought c.before.before)
+at-full : (c : tie.In-Full) → Ends c.before.before Full
+at-full c = subst (Ends c.before.before) c.enum_told-1.given.1 (sought c.before.before)
 
-size : (c : tie.After-probe) → length (start_of c).args.slots.now ≡ 28160
+size : (c : tie.After-probe-found) → length (start_of c).args.slots.now ≡ 28160
 size c = let (words, (near, (some, (hashed, (slot-words, low))))) = (start_of c).requires in slot-words
 
-empty-fits : (c : tie.After-found) → c.found.given.0.0 < length (start_of c.before.before).args.slots.now
+empty-fits : (c : tie.In-Empty-2) → c.found-1.given.0.0 < length (start_of c.before.before).args.slots.now
 empty-fits c =
     let s = start_of c.before.before in
     omega (arith, empty-below s.args.whole s.args.table.now s.args.i (firsts s.args.slots.now) (at-empty c), size c.before.before)
 
-held_fits : (c : tie.After-found2) → c.found2.given.0.0 < length (start_of c.before.before).args.slots.now
+held_fits : (c : tie.In-Held-2) → c.found-in-Held-1.given.0.0 < length (start_of c.before.before).args.slots.now
 held_fits c =
     let s = start_of c.before.before in
     omega (arith, held_below s.args.whole s.args.table.now s.args.i (firsts s.args.slots.now) (at_held c), size c.before.before)
 
-abbrev held_of : tie.After-number-in → tie.After-found2
+abbrev held_of : tie.After-number_in → tie.In-Held-2
 held_of c = c.before.before.before
 
-probe-requires : tie.Need-probe-requires
+probe-requires : tie.Need-probe-found-requires
 probe-requires c κs =
     let (words, (near, (some, (hashed, (slot-words, low))))) = c.before.before.before.requires in
-    (words, (omega (arith, c.bucket-of.ensures.1), λ q. omega (arith, low q)))
+    (words, (omega (arith, c.bucket_of.ensures.1), λ q. omega (arith, low q)))
 
-returns : tie.Need-returns
+returns : tie.Need-returns-then-limit-number_in
 returns c =
     let f = held_of c.before in
     let s = start_of f.before.before in (
       λ e. never e refl,
-      λ e mine keyed m g. omega (arith, rank-counted s.args.whole s.args.table.now s.args.i, held-count keyed g m (at_held f), c.before.number_in.ensures, c.if1.true),
+      λ e mine keyed m g. omega (arith, rank-counted s.args.whole s.args.table.now s.args.i, held-count keyed g m (at_held f), c.before.number_in.ensures, c.if-limit-number_in.true),
     )
 
-add-slots-3 : tie.Need-overflow-add-slots-3
+add-slots-3 : tie.Need-overflow_add-slots-3
 add-slots-3 c =
     let f = held_of c.before in
     let s = start_of f.before.before in
-    omega (arith, number-room (get_or s.args.slots.now f.found2.given.0.0 0) s.args.limit (omega (arith, c.before.number_in.ensures, c.if1.false)) (omega (arith, s.fits.limit)))
+    omega (arith, number-room (get_or s.args.slots.now f.found-in-Held-1.given.0.0 0) s.args.limit (omega (arith, c.before.number_in.ensures, c.if-limit-number_in.false)) (omega (arith, s.fits.limit)))
 
-returns-2 : tie.Need-returns-2
+returns-2 : tie.Need-returns-in-Empty
 returns-2 c =
     let f = c.before in
     let s = start_of f.before.before in
@@ -86,18 +86,18 @@ returns-2 c =
       λ e. never refl e,
     )
 
-returns-3 : tie.Need-returns-3
+returns-3 : tie.Need-returns-else-limit-number_in
 returns-3 c =
     let f = held_of c.before in
     let s = start_of f.before.before in (
       λ e mine keyed m g. (
         good-held keyed g m (at_held f),
-        omega (arith, rank-counted s.args.whole s.args.table.now s.args.i, held-count keyed g m (at_held f), c.before.number_in.ensures, c.if1.false),
+        omega (arith, rank-counted s.args.whole s.args.table.now s.args.i, held-count keyed g m (at_held f), c.before.number_in.ensures, c.if-limit-number_in.false),
       ),
       λ e. never refl e,
     )
 
-returns-4 : tie.Need-returns-4
+returns-4 : tie.Need-returns-in-Full
 returns-4 c =
     let t = c.before in
     let s = start_of t.before.before in (
@@ -108,8 +108,8 @@ returns-4 c =
       λ e mine keyed m g. omega (arith, leb-false c.rank.result s.args.limit e, c.rank.ensures),
     )
 
-pub count-pair-spec : {M : Type 1} → statement M
-count-pair-spec =
+pub count_pair_spec : {M : Type 1} → statement M
+count_pair_spec =
     tie.close (tie.spec (λ c κs. search rules) probe-requires (λ c. search rules) (λ c. search rules) (λ c. search rules)
     (λ c. search (rules, empty-fits, size)) (λ c. search (rules, empty-fits)) (λ c. search rules)
     (λ c. search (rules, held_fits, size)) (λ c. search (rules, held_fits)) (λ c κs. search rules) (λ c. search rules) returns

@@ -13,42 +13,42 @@ use Rattle.table_test.proofs.Rules.{numbers_at, numbers-each}
 use Rattle.table_test.proofs.numbers_right.Statement.{statement}
 use Rattle.table_test.proofs.numbers_right.Tie as tie
 
-abbrev invariant-loop : tie.invariant-loop
+abbrev invariant-loop : tie.invariant-loop-i
 invariant-loop table count i₀ i = (i ≤ count) × (each (numbers_at table) i ≡ true)
 
-abbrev decreases-loop : tie.decreases-loop
+abbrev decreases-loop : tie.decreases-loop-i
 decreases-loop table count i₀ i = count - i
 
-abbrev loop_of : tie.After-numbers-fit invariant-loop decreases-loop → tie.At-loop invariant-loop decreases-loop
+abbrev loop_of : tie.After-numbers_fit invariant-loop decreases-loop → tie.At-loop-i invariant-loop decreases-loop
 loop_of c = c.before.before.before.before
 
 tested :
-    (c : tie.After-numbers-fit invariant-loop decreases-loop) → let l = loop_of c in
-    c.numbers_fit.result ≡ numbers_at l.before.args.table.now l.loop.i
+    (c : tie.After-numbers_fit invariant-loop decreases-loop) → let l = loop_of c in
+    c.numbers_fit.result ≡ numbers_at l.before.args.table.now l.loop-i.i
 tested c =
     let m = c.before in
-    number-words c.numbers_fit.ensures m.before.group_at.type-inv m.member-at.type-inv m.before.group_at.ensures m.member-at.ensures
+    number-words c.numbers_fit.ensures m.before.group_at.type_inv m.member_at.type_inv m.before.group_at.ensures m.member_at.ensures
 
-returns : tie.Need-returns invariant-loop decreases-loop
+returns : tie.Need-returns-then-not-numbers_fit invariant-loop decreases-loop
 returns c =
     let l = loop_of c.before in
     let s = l.before in
     sym (numbers-each s.args.table.now s.args.count s.pre
-    ∙ each-false (numbers_at s.args.table.now) s.args.count l.loop.i (omega arith) (sym (tested c.before) ∙ not-true _ c.if1.true))
+    ∙ each-false (numbers_at s.args.table.now) s.args.count l.loop-i.i (omega arith) (sym (tested c.before) ∙ not-true _ c.if-not-numbers_fit.true))
 
-loop-again : tie.Need-loop-preserved invariant-loop decreases-loop
+loop-again : tie.Need-loop-i-preserved invariant-loop decreases-loop
 loop-again c =
     let l = loop_of c.before in
-    (omega arith, rw add-one (each_next _ l.loop.i l.loop.inv.1 (sym (tested c.before) ∙ not-false _ c.if1.false)))
+    (omega arith, rw add-one (each_next _ l.loop-i.i l.loop-i.inv.1 (sym (tested c.before) ∙ not-false _ c.if-not-numbers_fit.false)))
 
-returns-2 : tie.Need-returns-2 invariant-loop decreases-loop
+returns-2 : tie.Need-returns invariant-loop decreases-loop
 returns-2 c =
     let l = c.before in
     let s = l.before in
-    let e : l.loop.i ≡ s.args.count = omega arith in
-    sym (numbers-each s.args.table.now s.args.count s.requires ∙ (rw e at l.loop.invariant.1))
+    let e : l.loop-i.i ≡ s.args.count = omega arith in
+    sym (numbers-each s.args.table.now s.args.count s.requires ∙ (rw e at l.loop-i.invariant.1))
 
-pub numbers-right-spec : {M : Type 1} → statement M
-numbers-right-spec =
+pub numbers_right_spec : {M : Type 1} → statement M
+numbers_right_spec =
     tie.close (tie.spec invariant-loop decreases-loop (λ c. search (rules, each_none)) (λ c κs. omega arith) (λ c κs. omega arith) (λ c κs. tt)
     returns (λ c. omega arith) (λ c. omega arith) loop-again returns-2)

@@ -7,5 +7,5 @@ use Rattle.table_windows.proofs.first_half.Tie as tie
 returns : tie.Need-returns
 returns c = (omega arith, omega arith)
 
-pub first-half-spec : {M : Type 1} → statement M
-first-half-spec = tie.close (tie.spec (λ c. search rules) (λ c. search rules) returns)
+pub first_half_spec : {M : Type 1} → statement M
+first_half_spec = tie.close (tie.spec (λ c. search rules) (λ c. search rules) returns)

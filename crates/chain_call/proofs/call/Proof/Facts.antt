@@ -12,7 +12,7 @@ use Rattle.call_admission.specs.Lent.{fed_of}
 use Rattle.call_admission.specs.declared.CallNumbers.{CallNumbers}
 use Rattle.chain_records.specs.declared.Activation.{Activation}
 use Rattle.call_replies.specs.Replies.{admitted-call, refused-call, leaving-all, leaving-length}
-use Rattle.chain_call.proofs.call.Proof.Said.{Said, judged-says, ran-asks, ran_says, refused-answer-says}
+use Rattle.chain_call.proofs.call.Proof.Said.{Said, judged-says, ran-asks, ran_says, refused_answer-says}
 
 module _ (script : List ℕ) (numbers : CallNumbers) (table groups sheet : List ℤ) (records : List Activation) (verdict : Verdict)
     (judges : judged-says script numbers table groups sheet (length records) verdict) where
@@ -31,6 +31,6 @@ module _ (script : List ℕ) (numbers : CallNumbers) (table groups sheet : List 
       pub says-1 : Said script numbers table groups sheet records answer table' groups' sheet' records'
       says-1 = leaving-length engine fed said asks-ran.1 long
 
-  module _ (c : Refusal) (o : ℕ) (turns : verdict ≡ Verdict.Refused c o) (answer : Answer) (refusal : refused-answer-says c o numbers.count numbers.tally answer) where
+  module _ (c : Refusal) (o : ℕ) (turns : verdict ≡ Verdict.Refused c o) (answer : Answer) (refusal : refused_answer-says c o numbers.count numbers.tally answer) where
     pub says-2 : Said script numbers table groups sheet records answer table groups sheet records
     says-2 = leaving-all engine fed (refused-call engine fed verdict judges c o turns refusal) records

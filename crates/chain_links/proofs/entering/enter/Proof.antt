@@ -137,7 +137,7 @@ module _ {M : Type 1} {𝓤 : Ura M} (𝓛 : Logic 𝓤) (mem : Memory → SProp
         puts ! 3 9 refl (lent ! 3 2 refl refl tt) tt (tt, tt) $
         puts ! 3 10 refl (lent-ptr ! 3 3 refl refl tt refl refl) tt (tt, tt) $
         puts ! 3 11 refl (lent_slice ! 3 3 10 refl refl refl tt tt refl refl) tt (tt, (tt, (record { fits = room-records.0 }, tt))) $
-        calls_by ! (fm_of 𝓤 H 𝓛.laws 𝓣) (triple_of 𝓛 arguments-end.signature (arguments-end.spec 𝓛 mem run)) known-arguments-end (to (for-arguments-end (loan_ref κ0 q0 code#) code#.now here)) (for-arguments-end (loan_ref κ0 q0 code#) code#.now here) refl (g-here, tt) _ (facts.asks-arguments-end code#.now cells#.now records#.now here entry pre) (id⊢ 𝓤 _) usizes _ (λ v. id⊢ 𝓤 _)
+        calls_by ! (fm_of 𝓤 H 𝓛.laws 𝓣) (triple_of 𝓛 arguments-end.signature (arguments-end.spec 𝓛 mem run)) known-arguments-end (to (for-arguments-end (loan_ref κ0 q0 code#) code#.now here)) (for-arguments-end (loan_ref κ0 q0 code#) code#.now here) refl (g-here, tt) _ (facts.asks-arguments_end code#.now cells#.now records#.now here entry pre) (id⊢ 𝓤 _) usizes _ (λ v. id⊢ 𝓤 _)
         (and_then ! (var ! 3 1 refl refl tt) (and_then ! (var ! 3 4 refl refl tt) (no_more !))) (λ arguments-end1 _ g-arguments-end1 e1 _.
         lands-in ! 3 12 refl tt (typed 𝓛 usizes arguments-end1 g-arguments-end1) $
         move ! (1 ∷ []) $ lends_ref ! tt (Array i32 tt 8224) (loan_ref κ1 q1 cells#) cells#.now (λ p2-cells ν2-cells δ2-cells.
@@ -156,7 +156,7 @@ module _ {M : Type 1} {𝓤 : Ura M} (𝓛 : Logic 𝓤) (mem : Memory → SProp
         unshares-slice ! tt recs.type (loan_slice κ2 q2 records#) records#.now ν3-records δ3-records $
         puts ! 3 15 refl (lent-ptr ! 3 3 refl refl tt refl refl) tt (tt, tt) $
         puts ! 3 16 refl (lent_slice ! 3 3 15 refl refl refl tt tt refl refl) tt (tt, (tt, (record { fits = room-records.0 }, tt))) $
-        calls_by ! (fm_of 𝓤 H 𝓛.laws 𝓣) (triple_of 𝓛 with-next.signature (with-next.spec 𝓛 mem run)) known-with-next (to (for-with-next own3 entry.back)) (for-with-next own3 entry.back) refl (g-own3, ((owed Entry#.the_type Entry'.the_laws entry _ g-entry).1.1.0, tt)) _ (facts.asks-with-next code#.now cells#.now records#.now here entry pre) (id⊢ 𝓤 _) recs _ (λ v. id⊢ 𝓤 _)
+        calls_by ! (fm_of 𝓤 H 𝓛.laws 𝓣) (triple_of 𝓛 with-next.signature (with-next.spec 𝓛 mem run)) known-with-next (to (for-with-next own3 entry.back)) (for-with-next own3 entry.back) refl (g-own3, ((owed Entry#.the_type Entry'.the_laws entry _ g-entry).1.1.0, tt)) _ (facts.asks-with_next code#.now cells#.now records#.now here entry pre) (id⊢ 𝓤 _) recs _ (λ v. id⊢ 𝓤 _)
         (and_then ! (var ! 3 6 refl refl tt) (and_then ! (part ! 3 5 2 refl refl tt refl refl refl) (no_more !))) (λ with-next4 _ g-with-next4 e4 _.
         lands-in ! 3 17 refl tt (typed 𝓛 recs with-next4 g-with-next4) $
         lends_slice ! tt recs.type (loan_slice κ2 q2 records#) records#.now (λ ν5-records δ5-records.
@@ -202,10 +202,10 @@ unfolding mine.routine tables_of
 enter_spec 𝓤 𝓛 𝓜 𝓡 =
     by-walk 𝓤 𝓛.H 𝓜 𝓡 mine.env #me mine.function (triple_of 𝓛 f.signature (f.spec 𝓛 𝓜.mem 𝓡.run)) (mine.unfolded 𝓤 𝓛.H 𝓜 𝓡)
     (meets 𝓛 𝓜.mem 𝓡.run (tables_of 𝓤 𝓛.H 𝓜 (tables 𝓤 𝓛.H 𝓜 𝓡 mine.env))
-    (cited 𝓤 𝓛.H (triple_of 𝓛 arguments-end.signature (arguments-end.spec 𝓛 𝓜.mem 𝓡.run)) 𝓜 𝓡 mine.env #arguments-end arguments-end-def.routine mine.calls-chain-links::handing::arguments-end (arguments-end-thm.met 𝓤 𝓛 𝓜 𝓡))
-    (cited 𝓤 𝓛.H (triple_of 𝓛 hand.signature (hand.spec 𝓛 𝓜.mem 𝓡.run)) 𝓜 𝓡 mine.env #hand hand-def.routine mine.calls-chain-links::handing::hand (hand-thm.met 𝓤 𝓛 𝓜 𝓡))
-    (cited 𝓤 𝓛.H (triple_of 𝓛 read.signature (read.spec 𝓛 𝓜.mem 𝓡.run)) 𝓜 𝓡 mine.env #read read-def.routine mine.calls-chain-records::read (read-thm.met 𝓤 𝓛 𝓜 𝓡))
-    (cited 𝓤 𝓛.H (triple_of 𝓛 with-next.signature (with-next.spec 𝓛 𝓜.mem 𝓡.run)) 𝓜 𝓡 mine.env #with-next with-next-def.routine mine.calls-chain-links::with-next (with-next-thm.met 𝓤 𝓛 𝓜 𝓡))
-    (cited 𝓤 𝓛.H (triple_of 𝓛 push.signature (push.spec 𝓛 𝓜.mem 𝓡.run)) 𝓜 𝓡 mine.env #push push-def.routine mine.calls-chain-records::push (push-thm.met 𝓤 𝓛 𝓜 𝓡))
-    (cited 𝓤 𝓛.H (triple_of 𝓛 begun.signature (begun.spec 𝓛 𝓜.mem 𝓡.run)) 𝓜 𝓡 mine.env #begun begun-def.routine mine.calls-chain-links::entering::begun (begun-thm.met 𝓤 𝓛 𝓜 𝓡))
-    (cited 𝓤 𝓛.H (triple_of 𝓛 entered.signature (entered.spec 𝓛 𝓜.mem 𝓡.run)) 𝓜 𝓡 mine.env #entered entered-def.routine mine.calls-chain-links::entering::entered (entered-thm.met 𝓤 𝓛 𝓜 𝓡)))
+    (cited 𝓤 𝓛.H (triple_of 𝓛 arguments-end.signature (arguments-end.spec 𝓛 𝓜.mem 𝓡.run)) 𝓜 𝓡 mine.env #arguments-end arguments-end-def.routine mine.calls-chain_links::handing::arguments_end (arguments-end-thm.met 𝓤 𝓛 𝓜 𝓡))
+    (cited 𝓤 𝓛.H (triple_of 𝓛 hand.signature (hand.spec 𝓛 𝓜.mem 𝓡.run)) 𝓜 𝓡 mine.env #hand hand-def.routine mine.calls-chain_links::handing::hand (hand-thm.met 𝓤 𝓛 𝓜 𝓡))
+    (cited 𝓤 𝓛.H (triple_of 𝓛 read.signature (read.spec 𝓛 𝓜.mem 𝓡.run)) 𝓜 𝓡 mine.env #read read-def.routine mine.calls-chain_records::read (read-thm.met 𝓤 𝓛 𝓜 𝓡))
+    (cited 𝓤 𝓛.H (triple_of 𝓛 with-next.signature (with-next.spec 𝓛 𝓜.mem 𝓡.run)) 𝓜 𝓡 mine.env #with-next with-next-def.routine mine.calls-chain_links::with_next (with-next-thm.met 𝓤 𝓛 𝓜 𝓡))
+    (cited 𝓤 𝓛.H (triple_of 𝓛 push.signature (push.spec 𝓛 𝓜.mem 𝓡.run)) 𝓜 𝓡 mine.env #push push-def.routine mine.calls-chain_records::push (push-thm.met 𝓤 𝓛 𝓜 𝓡))
+    (cited 𝓤 𝓛.H (triple_of 𝓛 begun.signature (begun.spec 𝓛 𝓜.mem 𝓡.run)) 𝓜 𝓡 mine.env #begun begun-def.routine mine.calls-chain_links::entering::begun (begun-thm.met 𝓤 𝓛 𝓜 𝓡))
+    (cited 𝓤 𝓛.H (triple_of 𝓛 entered.signature (entered.spec 𝓛 𝓜.mem 𝓡.run)) 𝓜 𝓡 mine.env #entered entered-def.routine mine.calls-chain_links::entering::entered (entered-thm.met 𝓤 𝓛 𝓜 𝓡)))

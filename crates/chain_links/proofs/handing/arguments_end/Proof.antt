@@ -21,7 +21,7 @@ unfolding arguments_end
 some-there code at w o n e p d m =
     rw (m, arguments_end, ne_eqb (operation_in (get_or code at 0)) 6 (λ q. d (p ∙ ap operation_in e ∙ q)))
 
-pub arguments-end-spec : {M : Type 1} → statement M
-arguments-end-spec =
+pub arguments_end_spec : {M : Type 1} → statement M
+arguments_end_spec =
     tie.close (tie.spec (λ c κs. search rules) (λ c κs. search rules) (λ c. search (rules, none-there)) (λ c. search rules) (λ c κs. search rules) (λ c. search rules)
     (λ c. search (rules, some-there)))

@@ -118,7 +118,7 @@ module _ {M : Type 1} {𝓤 : Ura M} (𝓛 : Logic 𝓤) (mem : Memory → SProp
           puts ! 3 9 refl (bin ! (var ! 3 7 refl refl tt) (var ! 3 5 refl refl tt) tt) tt (tt, tt) $
           tests ! (var ! 3 9 refl refl tt)
           (λ y1.
-          move ! (0 ∷ 2 ∷ []) $ calls_by ! (fm_of 𝓤 H 𝓛.laws 𝓣) (triple_of 𝓛 first_Cell.signature (first_Cell.spec 𝓛 mem run)) known-first-cell (to (for-first-cell (loan_ref κ0 q0 code#) code#.now (loan_slice κ2 q2 records#) records#.now here (32 * here.live) t.state.field)) (for-first-cell (loan_ref κ0 q0 code#) code#.now (loan_slice κ2 q2 records#) records#.now here (32 * here.live) t.state.field) refl (g-here, ((refl, (facts.fits-1 code#.now cells#.now records#.now here last pre)), (t.good-field, tt))) _ (facts.asks-first-cell code#.now cells#.now records#.now here last pre t.state (ltb→lt t.state.field last y1)) (id⊢ 𝓤 _) usizes _ (λ v. id⊢ 𝓤 _)
+          move ! (0 ∷ 2 ∷ []) $ calls_by ! (fm_of 𝓤 H 𝓛.laws 𝓣) (triple_of 𝓛 first_Cell.signature (first_Cell.spec 𝓛 mem run)) known-first-cell (to (for-first-cell (loan_ref κ0 q0 code#) code#.now (loan_slice κ2 q2 records#) records#.now here (32 * here.live) t.state.field)) (for-first-cell (loan_ref κ0 q0 code#) code#.now (loan_slice κ2 q2 records#) records#.now here (32 * here.live) t.state.field) refl (g-here, ((refl, (facts.fits-1 code#.now cells#.now records#.now here last pre)), (t.good-field, tt))) _ (facts.asks-first_cell code#.now cells#.now records#.now here last pre t.state (ltb→lt t.state.field last y1)) (id⊢ 𝓤 _) usizes _ (λ v. id⊢ 𝓤 _)
           (and_then ! (var ! 3 1 refl refl tt) (and_then ! (var ! 3 3 refl refl tt) (and_then ! (var ! 3 4 refl refl tt) (and_then ! (var ! 3 6 refl refl tt) (and_then ! (var ! 3 7 refl refl tt) (no_more !)))))) (λ first1 _ g-first1 e1 _.
           lands-in ! 3 8 refl tt (typed 𝓛 usizes first1 g-first1) $
           puts ! 3 11 refl (lent ! 3 2 refl refl tt) tt (tt, tt) $
@@ -153,10 +153,10 @@ module _ {M : Type 1} {𝓤 : Ura M} (𝓛 : Logic 𝓤) (mem : Memory → SProp
       (λ κs. (shr_Tells (named 0) κs.0 (Array u32 tt 4096), (mut_Tells (named 1) κs.1.0 (Array i32 tt 8224), (shr_slice_Tells (named 2) κs.1.1.0 recs.type, (registers.tells, (usizes.tells, tt))))))
       (λ κs qs bounds a g are. needs 𝓤 (said.Pre a.0.now a.1.1.0.now a.1.1.1.0 a.1.1.1.1.0) _ (λ pre. walk 𝓛 mem run κs.0 κs.1.0 κs.1.1.0 qs.0 qs.1.0 qs.1.1.0 a.0 a.1.0 a.1.1.0 a.1.1.1.0 a.1.1.1.1.0 are.1.1.0.0.1 are.1.1.1.0 are.1.1.1.1.0 pre 𝓣 known-first-cell known-pass)))
 
-pub hand-spec : {M : Type 1} → stated.statement M
+pub hand_spec : {M : Type 1} → stated.statement M
 unfolding mine.routine tables_of
-hand-spec 𝓤 𝓛 𝓜 𝓡 =
+hand_spec 𝓤 𝓛 𝓜 𝓡 =
     by-walk 𝓤 𝓛.H 𝓜 𝓡 mine.env #me mine.function (triple_of 𝓛 f.signature (f.spec 𝓛 𝓜.mem 𝓡.run)) (mine.unfolded 𝓤 𝓛.H 𝓜 𝓡)
     (meets 𝓛 𝓜.mem 𝓡.run (tables_of 𝓤 𝓛.H 𝓜 (tables 𝓤 𝓛.H 𝓜 𝓡 mine.env))
-    (cited 𝓤 𝓛.H (triple_of 𝓛 first_Cell.signature (first_Cell.spec 𝓛 𝓜.mem 𝓡.run)) 𝓜 𝓡 mine.env #first-cell first-cell-def.routine mine.calls-chain-links::first-cell (first-cell-thm.met 𝓤 𝓛 𝓜 𝓡))
-    (cited 𝓤 𝓛.H (triple_of 𝓛 pass.signature (pass.spec 𝓛 𝓜.mem 𝓡.run)) 𝓜 𝓡 mine.env #pass pass-def.routine mine.calls-chain-links::handing::pass (pass-thm.met 𝓤 𝓛 𝓜 𝓡)))
+    (cited 𝓤 𝓛.H (triple_of 𝓛 first_Cell.signature (first_Cell.spec 𝓛 𝓜.mem 𝓡.run)) 𝓜 𝓡 mine.env #first-cell first-cell-def.routine mine.calls-chain_links::first_cell (first-cell-thm.met 𝓤 𝓛 𝓜 𝓡))
+    (cited 𝓤 𝓛.H (triple_of 𝓛 pass.signature (pass.spec 𝓛 𝓜.mem 𝓡.run)) 𝓜 𝓡 mine.env #pass pass-def.routine mine.calls-chain_links::handing::pass (pass-thm.met 𝓤 𝓛 𝓜 𝓡)))

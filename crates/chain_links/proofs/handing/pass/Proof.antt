@@ -23,8 +23,8 @@ returns c =
     let o = c.before.before.before in
     let r = o.before.before.before in
     let s = r.before.before.args in
-    passed _ _ s.code.now (s.here.at + s.field) _ _ _ _ _ _ r.code_at.ensures.0 o.before.position-of.ensures.0 o.handed.ensures
-    (read_back o.handed.result o.handed.type-inv) c.store.ensures
+    passed _ _ s.code.now (s.here.at + s.field) _ _ _ _ _ _ r.code_at-word.ensures.0 o.before.position_of.ensures.0 o.handed-value.ensures
+    (read_back o.handed-value.result o.handed-value.type_inv) c.store.ensures
 
 pub pass_spec : {M : Type 1} → statement M
 pass_spec =

@@ -42,8 +42,8 @@ follow-asks records from = Linked records from
 abbrev pub follow-says : List recs.type.Denot → ℕ → ℕ → ℕ → Type 0
 follow-says records from count r = (r ≡ hop records from count) × (r ≤ from)
 
-abbrev pub with-next-asks : ℕ → Type 0
-with-next-asks place = place < 65536
+abbrev pub with_next-asks : ℕ → Type 0
+with_next-asks place = place < 65536
 
 abbrev pub with-next-says : recs.type.Denot → ℕ → recs.type.Denot → Type 0
 with-next-says activation place r = r ≡ with_next activation place

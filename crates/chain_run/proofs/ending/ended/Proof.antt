@@ -113,7 +113,7 @@ module _ {M : Type 1} {𝓤 : Ura M} (𝓛 : Logic 𝓤) (mem : Memory → SProp
         lands-in ! 3 9 refl tt (tt, tt) $
         if-then ! (var ! 3 9 refl refl tt)
         (λ y1.
-        calls_by ! (fm_of 𝓤 H 𝓛.laws 𝓣) (triple_of 𝓛 finished-halt.signature (finished-halt.spec 𝓛 mem run)) known-finished-halt (to (for-finished-halt here allowance left)) (for-finished-halt here allowance left) refl (g-here, (g-allowance, (g-left, tt))) _ (facts.asks-finished-halt code#.now cells#.now records#.now here turn₀ allowance left pre is-finished1 e1 (told is-finished1 y1)) (id⊢ 𝓤 _) halts _ (λ v. id⊢ 𝓤 _)
+        calls_by ! (fm_of 𝓤 H 𝓛.laws 𝓣) (triple_of 𝓛 finished-halt.signature (finished-halt.spec 𝓛 mem run)) known-finished-halt (to (for-finished-halt here allowance left)) (for-finished-halt here allowance left) refl (g-here, (g-allowance, (g-left, tt))) _ (facts.asks-finished_halt code#.now cells#.now records#.now here turn₀ allowance left pre is-finished1 e1 (told is-finished1 y1)) (id⊢ 𝓤 _) halts _ (λ v. id⊢ 𝓤 _)
         (and_then ! (var ! 3 4 refl refl tt) (and_then ! (var ! 3 6 refl refl tt) (and_then ! (var ! 3 7 refl refl tt) (no_more !)))) (λ finished-halt2 _ g-finished-halt2 e2 _.
         lands-in ! 3 0 refl tt (typed 𝓛 halts finished-halt2 g-finished-halt2) $
         ends-early ! 3 Post refl refl refl tt $ move ! (2 ∷ []) $ gives ! (mut_slice recs.type) (loan_slice κ2 q2 records#) records#.now $ move ! (1 ∷ 2 ∷ 0 ∷ []) $ by ! (exits finished-halt2 records#.now refl g-finished-halt2 (facts.says-1 code#.now cells#.now records#.now here turn₀ allowance left pre is-finished1 e1 (told is-finished1 y1) finished-halt2 e2))))
@@ -143,12 +143,12 @@ module _ {M : Type 1} {𝓤 : Ura M} (𝓛 : Logic 𝓤) (mem : Memory → SProp
       (λ κs. (shr_Tells (named 0) κs.0 (Array u32 tt 4096), (shr_Tells (named 1) κs.1.0 (Array i32 tt 8224), (mut_slice_Tells (named 2) κs.1.1.0 recs.type, (registers.tells, (turns.tells, (words32.tells, (words32.tells, tt))))))))
       (λ κs qs bounds a g are. needs 𝓤 (said.Pre a.0.now a.1.0.now a.1.1.0.now a.1.1.1.0 a.1.1.1.1.0 a.1.1.1.1.1.0 a.1.1.1.1.1.1.0) _ (λ pre. walk 𝓛 mem run κs.0 κs.1.0 κs.1.1.0 qs.0 qs.1.0 qs.1.1.0 a.0 a.1.0 a.1.1.0 a.1.1.1.0 a.1.1.1.1.0 a.1.1.1.1.1.0 a.1.1.1.1.1.1.0 are.1.1.0.0.1 are.1.1.1.0 are.1.1.1.1.0 are.1.1.1.1.1.0 are.1.1.1.1.1.1.0 pre 𝓣 known-is-finished known-finished-halt known-settle known-halted)))
 
-pub ended-spec : {M : Type 1} → stated.statement M
+pub ended_spec : {M : Type 1} → stated.statement M
 unfolding mine.routine tables_of
-ended-spec 𝓤 𝓛 𝓜 𝓡 =
+ended_spec 𝓤 𝓛 𝓜 𝓡 =
     by-walk 𝓤 𝓛.H 𝓜 𝓡 mine.env #me mine.function (triple_of 𝓛 f.signature (f.spec 𝓛 𝓜.mem 𝓡.run)) (mine.unfolded 𝓤 𝓛.H 𝓜 𝓡)
     (meets 𝓛 𝓜.mem 𝓡.run (tables_of 𝓤 𝓛.H 𝓜 (tables 𝓤 𝓛.H 𝓜 𝓡 mine.env))
-    (cited 𝓤 𝓛.H (triple_of 𝓛 is-finished.signature (is-finished.spec 𝓛 𝓜.mem 𝓡.run)) 𝓜 𝓡 mine.env #is-finished is-finished-def.routine mine.calls-chain-run::ending::is-finished (is-finished-thm.met 𝓤 𝓛 𝓜 𝓡))
-    (cited 𝓤 𝓛.H (triple_of 𝓛 finished-halt.signature (finished-halt.spec 𝓛 𝓜.mem 𝓡.run)) 𝓜 𝓡 mine.env #finished-halt finished-halt-def.routine mine.calls-chain-run::ending::finished-halt (finished-halt-thm.met 𝓤 𝓛 𝓜 𝓡))
-    (cited 𝓤 𝓛.H (triple_of 𝓛 settle.signature (settle.spec 𝓛 𝓜.mem 𝓡.run)) 𝓜 𝓡 mine.env #settle settle-def.routine mine.calls-chain-links::settle (settle-thm.met 𝓤 𝓛 𝓜 𝓡))
-    (cited 𝓤 𝓛.H (triple_of 𝓛 halted.signature (halted.spec 𝓛 𝓜.mem 𝓡.run)) 𝓜 𝓡 mine.env #halted halted-def.routine mine.calls-chain-run::ending::halted (halted-thm.met 𝓤 𝓛 𝓜 𝓡)))
+    (cited 𝓤 𝓛.H (triple_of 𝓛 is-finished.signature (is-finished.spec 𝓛 𝓜.mem 𝓡.run)) 𝓜 𝓡 mine.env #is-finished is-finished-def.routine mine.calls-chain_run::ending::is_finished (is-finished-thm.met 𝓤 𝓛 𝓜 𝓡))
+    (cited 𝓤 𝓛.H (triple_of 𝓛 finished-halt.signature (finished-halt.spec 𝓛 𝓜.mem 𝓡.run)) 𝓜 𝓡 mine.env #finished-halt finished-halt-def.routine mine.calls-chain_run::ending::finished_halt (finished-halt-thm.met 𝓤 𝓛 𝓜 𝓡))
+    (cited 𝓤 𝓛.H (triple_of 𝓛 settle.signature (settle.spec 𝓛 𝓜.mem 𝓡.run)) 𝓜 𝓡 mine.env #settle settle-def.routine mine.calls-chain_links::settle (settle-thm.met 𝓤 𝓛 𝓜 𝓡))
+    (cited 𝓤 𝓛.H (triple_of 𝓛 halted.signature (halted.spec 𝓛 𝓜.mem 𝓡.run)) 𝓜 𝓡 mine.env #halted halted-def.routine mine.calls-chain_run::ending::halted (halted-thm.met 𝓤 𝓛 𝓜 𝓡)))

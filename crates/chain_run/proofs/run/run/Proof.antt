@@ -228,8 +228,8 @@ unfolding mine.routine tables_of
 run_spec 𝓤 𝓛 𝓜 𝓡 =
     by-walk 𝓤 𝓛.H 𝓜 𝓡 mine.env #me mine.function (triple_of 𝓛 f.signature (f.spec 𝓛 𝓜.mem 𝓡.run)) (mine.unfolded 𝓤 𝓛.H 𝓜 𝓡)
     (meets 𝓛 𝓜.mem 𝓡.run (tables_of 𝓤 𝓛.H 𝓜 (tables 𝓤 𝓛.H 𝓜 𝓡 mine.env))
-    (cited 𝓤 𝓛.H (triple_of 𝓛 went.signature (went.spec 𝓛 𝓜.mem 𝓡.run)) 𝓜 𝓡 mine.env #went went-def.routine mine.calls-chain-step::went (went-thm.met 𝓤 𝓛 𝓜 𝓡))
-    (cited 𝓤 𝓛.H (triple_of 𝓛 step.signature (step.spec 𝓛 𝓜.mem 𝓡.run)) 𝓜 𝓡 mine.env #step step-def.routine mine.calls-chain-step::step (step_thm.met 𝓤 𝓛 𝓜 𝓡))
-    (cited 𝓤 𝓛.H (triple_of 𝓛 halts.signature (halts.spec 𝓤 𝓛 𝓜.mem 𝓡.run)) 𝓜 𝓡 mine.env #halts halts-def.routine mine.calls-chain-run::ending::halts (halts-thm.met 𝓤 𝓛 𝓜 𝓡))
-    (cited 𝓤 𝓛.H (triple_of 𝓛 ended.signature (ended.spec 𝓛 𝓜.mem 𝓡.run)) 𝓜 𝓡 mine.env #ended ended-def.routine mine.calls-chain-run::ending::ended (ended-thm.met 𝓤 𝓛 𝓜 𝓡))
-    (cited 𝓤 𝓛.H (triple_of 𝓛 next_of.signature (next_of.spec 𝓛 𝓜.mem 𝓡.run)) 𝓜 𝓡 mine.env #next-of next-of-def.routine mine.calls-chain-run::ending::next-of (next-of-thm.met 𝓤 𝓛 𝓜 𝓡)))
+    (cited 𝓤 𝓛.H (triple_of 𝓛 went.signature (went.spec 𝓛 𝓜.mem 𝓡.run)) 𝓜 𝓡 mine.env #went went-def.routine mine.calls-chain_step::went (went-thm.met 𝓤 𝓛 𝓜 𝓡))
+    (cited 𝓤 𝓛.H (triple_of 𝓛 step.signature (step.spec 𝓛 𝓜.mem 𝓡.run)) 𝓜 𝓡 mine.env #step step-def.routine mine.calls-chain_step::step (step_thm.met 𝓤 𝓛 𝓜 𝓡))
+    (cited 𝓤 𝓛.H (triple_of 𝓛 halts.signature (halts.spec 𝓤 𝓛 𝓜.mem 𝓡.run)) 𝓜 𝓡 mine.env #halts halts-def.routine mine.calls-chain_run::ending::halts (halts-thm.met 𝓤 𝓛 𝓜 𝓡))
+    (cited 𝓤 𝓛.H (triple_of 𝓛 ended.signature (ended.spec 𝓛 𝓜.mem 𝓡.run)) 𝓜 𝓡 mine.env #ended ended-def.routine mine.calls-chain_run::ending::ended (ended-thm.met 𝓤 𝓛 𝓜 𝓡))
+    (cited 𝓤 𝓛.H (triple_of 𝓛 next_of.signature (next_of.spec 𝓛 𝓜.mem 𝓡.run)) 𝓜 𝓡 mine.env #next-of next-of-def.routine mine.calls-chain_run::ending::next_of (next-of-thm.met 𝓤 𝓛 𝓜 𝓡)))

@@ -148,12 +148,12 @@ module _ {M : Type 1} {𝓤 : Ura M} (𝓛 : Logic 𝓤) (mem : Memory → SProp
       (λ κs. (shr_Tells (named 0) κs.0 (Array u32 tt 4096), (mut_Tells (named 1) κs.1.0 (Array i32 tt 8224), (mut_slice_Tells (named 2) κs.1.1.0 recs.type, (mut_slice_Tells (named 3) κs.1.1.1.0 i32, (mut_slice_Tells (named 4) κs.1.1.1.1.0 i32, (usizes.tells, (words32.tells, (usizes.tells, (words32.tells, tt))))))))))
       (λ κs qs bounds a g are. needs-all 𝓤 (_ ∷ _ ∷ []) _ (λ pre. walk 𝓛 mem run κs.0 κs.1.0 κs.1.1.0 κs.1.1.1.0 κs.1.1.1.1.0 qs.0 qs.1.0 qs.1.1.0 qs.1.1.1.0 qs.1.1.1.1.0 a.0 a.1.0 a.1.1.0 a.1.1.1.0 a.1.1.1.1.0 a.1.1.1.1.1.0 a.1.1.1.1.1.1.0 a.1.1.1.1.1.1.1.0 a.1.1.1.1.1.1.1.1.0 are.1.1.0.0.1 are.1.1.1.0.0.1 are.1.1.1.1.0.0.1 are.1.1.1.1.1.0 are.1.1.1.1.1.1.0 are.1.1.1.1.1.1.1.0 are.1.1.1.1.1.1.1.1.0 pre 𝓣 known-program-record known-push known-begin known-run')))
 
-pub run-program-spec : {M : Type 1} → stated.statement M
+pub run_program_spec : {M : Type 1} → stated.statement M
 unfolding mine.routine tables_of
-run-program-spec 𝓤 𝓛 𝓜 𝓡 =
+run_program_spec 𝓤 𝓛 𝓜 𝓡 =
     by-walk 𝓤 𝓛.H 𝓜 𝓡 mine.env #me mine.function (triple_of 𝓛 f.signature (f.spec 𝓛 𝓜.mem 𝓡.run)) (mine.unfolded 𝓤 𝓛.H 𝓜 𝓡)
     (meets 𝓛 𝓜.mem 𝓡.run (tables_of 𝓤 𝓛.H 𝓜 (tables 𝓤 𝓛.H 𝓜 𝓡 mine.env))
-    (cited 𝓤 𝓛.H (triple_of 𝓛 program-record.signature (program-record.spec 𝓛 𝓜.mem 𝓡.run)) 𝓜 𝓡 mine.env #program-record program-record-def.routine mine.calls-chain-run::run::program-record (program-record-thm.met 𝓤 𝓛 𝓜 𝓡))
-    (cited 𝓤 𝓛.H (triple_of 𝓛 push.signature (push.spec 𝓛 𝓜.mem 𝓡.run)) 𝓜 𝓡 mine.env #push push-def.routine mine.calls-chain-records::push (push-thm.met 𝓤 𝓛 𝓜 𝓡))
-    (cited 𝓤 𝓛.H (triple_of 𝓛 begin.signature (begin.spec 𝓛 𝓜.mem 𝓡.run)) 𝓜 𝓡 mine.env #begin begin-def.routine mine.calls-chain-run::run::begin (begin-thm.met 𝓤 𝓛 𝓜 𝓡))
-    (cited 𝓤 𝓛.H (triple_of 𝓛 run'.signature (run'.spec 𝓛 𝓜.mem 𝓡.run)) 𝓜 𝓡 mine.env #run' run'-def.routine mine.calls-chain-run::run::run (run'-thm.met 𝓤 𝓛 𝓜 𝓡)))
+    (cited 𝓤 𝓛.H (triple_of 𝓛 program-record.signature (program-record.spec 𝓛 𝓜.mem 𝓡.run)) 𝓜 𝓡 mine.env #program-record program-record-def.routine mine.calls-chain_run::run::program_record (program-record-thm.met 𝓤 𝓛 𝓜 𝓡))
+    (cited 𝓤 𝓛.H (triple_of 𝓛 push.signature (push.spec 𝓛 𝓜.mem 𝓡.run)) 𝓜 𝓡 mine.env #push push-def.routine mine.calls-chain_records::push (push-thm.met 𝓤 𝓛 𝓜 𝓡))
+    (cited 𝓤 𝓛.H (triple_of 𝓛 begin.signature (begin.spec 𝓛 𝓜.mem 𝓡.run)) 𝓜 𝓡 mine.env #begin begin-def.routine mine.calls-chain_run::run::begin (begin-thm.met 𝓤 𝓛 𝓜 𝓡))
+    (cited 𝓤 𝓛.H (triple_of 𝓛 run'.signature (run'.spec 𝓛 𝓜.mem 𝓡.run)) 𝓜 𝓡 mine.env #run' run'-def.routine mine.calls-chain_run::run::run (run'-thm.met 𝓤 𝓛 𝓜 𝓡)))

@@ -17,34 +17,34 @@ shown-as {code} {cells} {first} {number} {own} b b' n n' p q h =
     subst (λ (T : Type 0). T) (λ i. Shown code cells (sym p i) (sym q i) first number own) h
 
 -- the block's place is read, then the next statement's, then the link
-abbrev block_of : tie.After-from-u322 → tie.After-from-u32
+abbrev block_of : tie.After-from_u32-2 → tie.After-from_u32
 block_of n = n.before
 
-abbrev next_of : tie.After-encloser-of → tie.After-from-u322
+abbrev next_of : tie.After-encloser_of → tie.After-from_u32-2
 next_of n = n.before.before
 
-encloser-is : (v : tie.After-encloser-of) → let s = (block_of (next_of v)).before.args in v.encloser-of.result ≡ encloser_by s.k s.activation.link
-encloser-is v = let s = (block_of (next_of v)).before.args in v.encloser-of.ensures ∙ ap (encloser_by s.k) v.before.from-u323.ensures.0
+encloser-is : (v : tie.After-encloser_of) → let s = (block_of (next_of v)).before.args in v.encloser_of.result ≡ encloser_by s.k s.activation.link
+encloser-is v = let s = (block_of (next_of v)).before.args in v.encloser_of.ensures ∙ ap (encloser_by s.k) v.before.from_u32-3.ensures.0
 
-write-activation-requires : tie.Need-write-activation-requires
-write-activation-requires c κs =
+write_activation-requires : tie.Need-write_activation-requires
+write_activation-requires c κs =
     let v = c.before in
     let n = next_of v in
     let p = (block_of n).before.pre.1 in
-    (p.0, p.1, shown-as _ _ _ _ (block_of n).from-u32.ensures.0 n.from-u322.ensures.0 p.2, p.3, subst (λ (m : ℕ). m < 2147483648) (sym (encloser-is v)) p.4)
+    (p.0, p.1, shown-as _ _ _ _ (block_of n).from_u32.ensures.0 n.from_u32-2.ensures.0 p.2, p.3, subst (λ (m : ℕ). m < 2147483648) (sym (encloser-is v)) p.4)
 
 returns : tie.Need-returns
 returns c =
     let v = c.before.before.before in
     let n = next_of v in
     let w = block_of n in
-    let r = c.before.write-activation.ensures in (
+    let r = c.before.write_activation.ensures in (
       λ number own ws base shown e l.
-          let q = r.0 number own ws base (shown-as _ _ _ _ w.from-u32.ensures.0 n.from-u322.ensures.0 shown) e l in
-          (q.0 ∙ (let block = w.from-u32.ensures.0 in let encloser = encloser-is v in λ i. written (ws ++ (pos (2 * block i) ∷ pos number ∷ pos (encloser i) ∷ own)) base), q.1),
+          let q = r.0 number own ws base (shown-as _ _ _ _ w.from_u32.ensures.0 n.from_u32-2.ensures.0 shown) e l in
+          (q.0 ∙ (let block = w.from_u32.ensures.0 in let encloser = encloser-is v in λ i. written (ws ++ (pos (2 * block i) ∷ pos number ∷ pos (encloser i) ∷ own)) base), q.1),
       r.1,
     )
 
-pub write-record-spec : {M : Type 1} → statement M
-write-record-spec =
-    tie.close (tie.spec (λ c κs. search rules) (λ c κs. search rules) (λ c κs. search rules) (λ c κs. search rules) (λ c. search rules) write-activation-requires (λ c. search rules) returns)
+pub write_record_spec : {M : Type 1} → statement M
+write_record_spec =
+    tie.close (tie.spec (λ c κs. search rules) (λ c κs. search rules) (λ c κs. search rules) (λ c κs. search rules) (λ c. search rules) write_activation-requires (λ c. search rules) returns)

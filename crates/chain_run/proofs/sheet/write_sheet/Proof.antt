@@ -125,7 +125,7 @@ module _ {M : Type 1} {𝓤 : Ura M} (𝓛 : Logic 𝓤) (mem : Memory → SProp
           puts ! 4 10 refl (lent-ptr ! 4 5 refl refl tt refl refl) tt (tt, tt) $
           puts ! 4 11 refl (lent_slice ! 4 5 10 refl refl refl tt tt refl refl) tt (tt, (tt, (record { fits = room-sheet.0 }, tt))) $
           move ! (3 ∷ []) $ lends_slice ! tt i32 (loan_slice κ3 q3 sheet#) t.state.sheet (λ ν2-sheet δ2-sheet.
-          move ! (3 ∷ 4 ∷ 0 ∷ []) $ calls_by ! (fm_of 𝓤 H 𝓛.laws 𝓣) (triple_of 𝓛 write-record.signature (write-record.spec 𝓛 mem run)) known-write-record (to (for-write-record (loan_ref κ0 q0 code#) code#.now (loan_ref κ1 q1 cells#) cells#.now activation1 t.state.k (relent (loan_slice κ3 q3 sheet#) ν2-sheet δ2-sheet) t.state.sheet t.state.at)) (for-write-record (loan_ref κ0 q0 code#) code#.now (loan_ref κ1 q1 cells#) cells#.now activation1 t.state.k (relent (loan_slice κ3 q3 sheet#) ν2-sheet δ2-sheet) t.state.sheet t.state.at) refl (g-activation1, (t.good-k, (t.good-at, tt))) _ (facts.asks-write-record code#.now cells#.now records#.now live sheet#.now pre t.state (ltb→lt t.state.k live y1) activation1 e1) (id⊢ 𝓤 _) usizes _ (said-together 𝓛 (for-write-record (loan_ref κ0 q0 code#) code#.now (loan_ref κ1 q1 cells#) cells#.now activation1 t.state.k (relent (loan_slice κ3 q3 sheet#) ν2-sheet δ2-sheet) t.state.sheet t.state.at) usizes.type (_ ∷ _ ∷ []))
+          move ! (3 ∷ 4 ∷ 0 ∷ []) $ calls_by ! (fm_of 𝓤 H 𝓛.laws 𝓣) (triple_of 𝓛 write-record.signature (write-record.spec 𝓛 mem run)) known-write-record (to (for-write-record (loan_ref κ0 q0 code#) code#.now (loan_ref κ1 q1 cells#) cells#.now activation1 t.state.k (relent (loan_slice κ3 q3 sheet#) ν2-sheet δ2-sheet) t.state.sheet t.state.at)) (for-write-record (loan_ref κ0 q0 code#) code#.now (loan_ref κ1 q1 cells#) cells#.now activation1 t.state.k (relent (loan_slice κ3 q3 sheet#) ν2-sheet δ2-sheet) t.state.sheet t.state.at) refl (g-activation1, (t.good-k, (t.good-at, tt))) _ (facts.asks-write_record code#.now cells#.now records#.now live sheet#.now pre t.state (ltb→lt t.state.k live y1) activation1 e1) (id⊢ 𝓤 _) usizes _ (said-together 𝓛 (for-write-record (loan_ref κ0 q0 code#) code#.now (loan_ref κ1 q1 cells#) cells#.now activation1 t.state.k (relent (loan_slice κ3 q3 sheet#) ν2-sheet δ2-sheet) t.state.sheet t.state.at) usizes.type (_ ∷ _ ∷ []))
           (and_then ! (var ! 5 1 refl refl tt) (and_then ! (var ! 5 2 refl refl tt) (and_then ! (var ! 5 8 refl refl tt) (and_then ! (var ! 5 7 refl refl tt) (and_then ! (var ! 5 11 refl refl tt) (and_then ! (var ! 5 6 refl refl tt) (no_more !))))))) (λ at2 ws2 g-at2 e2 same2.
           lands-in ! 5 6 refl tt (typed 𝓛 usizes at2 g-at2) $
           move ! (2 ∷ 3 ∷ []) $ back-slice ! tt i32 (loan_slice κ3 q3 sheet#) t.state.sheet ws2.1.1.1.1.0 ν2-sheet δ2-sheet same2.1.1.0 $
@@ -155,10 +155,10 @@ module _ {M : Type 1} {𝓤 : Ura M} (𝓛 : Logic 𝓤) (mem : Memory → SProp
       (λ κs. (shr_Tells (named 0) κs.0 (Array u32 tt 4096), (shr_Tells (named 1) κs.1.0 (Array i32 tt 8224), (shr_slice_Tells (named 2) κs.1.1.0 recs.type, (usizes.tells, (mut_slice_Tells (named 3) κs.1.1.1.0 i32, tt))))))
       (λ κs qs bounds a g are. needs-all 𝓤 (_ ∷ _ ∷ _ ∷ []) _ (λ pre. walk 𝓛 mem run κs.0 κs.1.0 κs.1.1.0 κs.1.1.1.0 qs.0 qs.1.0 qs.1.1.0 qs.1.1.1.0 a.0 a.1.0 a.1.1.0 a.1.1.1.0 a.1.1.1.1.0 are.1.1.0.0.1 are.1.1.1.1.0.0.1 are.1.1.1.0 pre 𝓣 known_read known-write-record)))
 
-pub write-sheet-spec : {M : Type 1} → stated.statement M
+pub write_sheet_spec : {M : Type 1} → stated.statement M
 unfolding mine.routine tables_of
-write-sheet-spec 𝓤 𝓛 𝓜 𝓡 =
+write_sheet_spec 𝓤 𝓛 𝓜 𝓡 =
     by-walk 𝓤 𝓛.H 𝓜 𝓡 mine.env #me mine.function (triple_of 𝓛 f.signature (f.spec 𝓛 𝓜.mem 𝓡.run)) (mine.unfolded 𝓤 𝓛.H 𝓜 𝓡)
     (meets 𝓛 𝓜.mem 𝓡.run (tables_of 𝓤 𝓛.H 𝓜 (tables 𝓤 𝓛.H 𝓜 𝓡 mine.env))
-    (cited 𝓤 𝓛.H (triple_of 𝓛 read.signature (read.spec 𝓛 𝓜.mem 𝓡.run)) 𝓜 𝓡 mine.env #read read-def.routine mine.calls-chain-records::read (read-thm.met 𝓤 𝓛 𝓜 𝓡))
-    (cited 𝓤 𝓛.H (triple_of 𝓛 write-record.signature (write-record.spec 𝓛 𝓜.mem 𝓡.run)) 𝓜 𝓡 mine.env #write-record write-record-def.routine mine.calls-chain-run::sheet::write-record (write-record-thm.met 𝓤 𝓛 𝓜 𝓡)))
+    (cited 𝓤 𝓛.H (triple_of 𝓛 read.signature (read.spec 𝓛 𝓜.mem 𝓡.run)) 𝓜 𝓡 mine.env #read read-def.routine mine.calls-chain_records::read (read-thm.met 𝓤 𝓛 𝓜 𝓡))
+    (cited 𝓤 𝓛.H (triple_of 𝓛 write-record.signature (write-record.spec 𝓛 𝓜.mem 𝓡.run)) 𝓜 𝓡 mine.env #write-record write-record-def.routine mine.calls-chain_run::sheet::write_record (write-record-thm.met 𝓤 𝓛 𝓜 𝓡)))

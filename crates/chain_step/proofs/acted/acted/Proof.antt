@@ -161,14 +161,14 @@ module _ {M : Type 1} {𝓤 : Ura M} (𝓛 : Logic 𝓤) (mem : Memory → SProp
     walk : ent 𝓤 (on_entry 𝓛 f.signature (lfts ps) (shares ps) (denots 0 ps) (valss 0 ps)) (WpFn 𝓤 H 𝓣.C 𝓣.Λ mine.function (vals ps) Post)
     walk = via 𝓤 (⋆ 𝓛 (ins 𝓤 ps)) (arrives 𝓛 0 ps) (qed 𝓛 (ins 𝓤 ps) ∵
         begins ! 𝓣.C 𝓣.Λ mine.function (vals ps) Post ((tt, tt), ((tt, tt), ((tt, (tt, (record { fits = room-records.0 }, tt))), (typed 𝓛 usizes activations g-activations, (typed 𝓛 registers here g-here, tt))))) (λ β. move ! (1 ∷ 2 ∷ 3 ∷ []) $
-        calls_by ! (fm_of 𝓤 H 𝓛.laws 𝓣) (triple_of 𝓛 class_of.signature (class_of.spec 𝓛 mem run)) known-class-of (to (for-class-of (loan_ref κ0 q0 code#) code#.now here.at)) (for-class-of (loan_ref κ0 q0 code#) code#.now here.at) refl ((owed Registers#.the_type Registers'.the_laws here _ g-here).1.0, tt) _ (facts.asks-class-of code#.now cells#.now records#.now activations here pre) (id⊢ 𝓤 _) usizes _ (λ v. id⊢ 𝓤 _)
+        calls_by ! (fm_of 𝓤 H 𝓛.laws 𝓣) (triple_of 𝓛 class_of.signature (class_of.spec 𝓛 mem run)) known-class-of (to (for-class-of (loan_ref κ0 q0 code#) code#.now here.at)) (for-class-of (loan_ref κ0 q0 code#) code#.now here.at) refl ((owed Registers#.the_type Registers'.the_laws here _ g-here).1.0, tt) _ (facts.asks-class_of code#.now cells#.now records#.now activations here pre) (id⊢ 𝓤 _) usizes _ (λ v. id⊢ 𝓤 _)
         (and_then ! (var ! 3 1 refl refl tt) (and_then ! (part ! 3 5 1 refl refl tt refl refl refl) (no_more !))) (λ class1 _ g-class1 e1 _.
         lands-in ! 3 6 refl tt (typed 𝓛 usizes class1 g-class1) $
         puts ! 3 7 refl (bin ! (lit ! tt) (part ! 3 5 0 refl refl tt refl refl refl) (record { fits = (facts.fits-1 code#.now cells#.now records#.now activations here pre) })) tt (tt, record { fits = (facts.fits-1 code#.now cells#.now records#.now activations here pre) }) $
         puts ! 3 15 refl (bin ! (var ! 3 6 refl refl tt) (lit ! tt) tt) tt (tt, tt) $
         if-then ! (var ! 3 15 refl refl tt)
         (λ y1.
-        calls_by ! (fm_of 𝓤 H 𝓛.laws 𝓣) (triple_of 𝓛 only-hops.signature (only-hops.spec 𝓛 mem run)) known-only-hops (to (for-only-hops (loan_ref κ0 q0 code#) code#.now here)) (for-only-hops (loan_ref κ0 q0 code#) code#.now here) refl (g-here, tt) _ (facts.asks-only-hops code#.now cells#.now records#.now activations here pre class1 e1 (eqb→eq class1 0 y1)) (id⊢ 𝓤 _) usizes _ (λ v. id⊢ 𝓤 _)
+        calls_by ! (fm_of 𝓤 H 𝓛.laws 𝓣) (triple_of 𝓛 only-hops.signature (only-hops.spec 𝓛 mem run)) known-only-hops (to (for-only-hops (loan_ref κ0 q0 code#) code#.now here)) (for-only-hops (loan_ref κ0 q0 code#) code#.now here) refl (g-here, tt) _ (facts.asks-only_hops code#.now cells#.now records#.now activations here pre class1 e1 (eqb→eq class1 0 y1)) (id⊢ 𝓤 _) usizes _ (λ v. id⊢ 𝓤 _)
         (and_then ! (var ! 3 1 refl refl tt) (and_then ! (var ! 3 5 refl refl tt) (no_more !))) (λ only-hops2 _ g-only-hops2 e2 _.
         lands-in ! 3 17 refl tt (typed 𝓛 usizes only-hops2 g-only-hops2) $
         move ! (2 ∷ []) $ calls_by ! (fm_of 𝓤 H 𝓛.laws 𝓣) (triple_of 𝓛 follow.signature (follow.spec 𝓛 mem run)) known-follow (to (for-follow (loan_slice κ2 q2 records#) records#.now here.live only-hops2)) (for-follow (loan_slice κ2 q2 records#) records#.now here.live only-hops2) refl ((owed Registers#.the_type Registers'.the_laws here _ g-here).0, (g-only-hops2, tt)) _ (facts.asks-follow code#.now cells#.now records#.now activations here pre class1 e1 (eqb→eq class1 0 y1)) (id⊢ 𝓤 _) usizes _ (λ v. id⊢ 𝓤 _)
@@ -176,7 +176,7 @@ module _ {M : Type 1} {𝓤 : Ura M} (𝓛 : Logic 𝓤) (mem : Memory → SProp
         lands-in ! 3 16 refl tt (typed 𝓛 usizes follow3 g-follow3) $
         puts ! 3 8 refl (bin ! (lit ! tt) (var ! 3 16 refl refl tt) (record { fits = (facts.fits-2 code#.now cells#.now records#.now activations here pre class1 e1 (eqb→eq class1 0 y1) only-hops2 e2 follow3 e3) })) tt (tt, record { fits = (facts.fits-2 code#.now cells#.now records#.now activations here pre class1 e1 (eqb→eq class1 0 y1) only-hops2 e2 follow3 e3) }) $
         puts ! 3 18 refl (lent ! 3 2 refl refl tt) tt (tt, tt) $
-        move ! (1 ∷ 2 ∷ []) $ calls_by ! (fm_of 𝓤 H 𝓛.laws 𝓣) (triple_of 𝓛 act-one.signature (act-one.spec 𝓛 mem run)) known-act-one (to (for-act-one (loan_ref κ0 q0 code#) code#.now (loan_ref κ1 q1 cells#) cells#.now activations here.live here.at (32 * follow3))) (for-act-one (loan_ref κ0 q0 code#) code#.now (loan_ref κ1 q1 cells#) cells#.now activations here.live here.at (32 * follow3)) refl (g-activations, ((owed Registers#.the_type Registers'.the_laws here _ g-here).0, ((owed Registers#.the_type Registers'.the_laws here _ g-here).1.0, ((refl, (facts.fits-2 code#.now cells#.now records#.now activations here pre class1 e1 (eqb→eq class1 0 y1) only-hops2 e2 follow3 e3)), tt)))) _ (facts.asks-act-one code#.now cells#.now records#.now activations here pre class1 e1 (eqb→eq class1 0 y1) only-hops2 e2 follow3 e3) (id⊢ 𝓤 _) moves _ (λ v. id⊢ 𝓤 _)
+        move ! (1 ∷ 2 ∷ []) $ calls_by ! (fm_of 𝓤 H 𝓛.laws 𝓣) (triple_of 𝓛 act-one.signature (act-one.spec 𝓛 mem run)) known-act-one (to (for-act-one (loan_ref κ0 q0 code#) code#.now (loan_ref κ1 q1 cells#) cells#.now activations here.live here.at (32 * follow3))) (for-act-one (loan_ref κ0 q0 code#) code#.now (loan_ref κ1 q1 cells#) cells#.now activations here.live here.at (32 * follow3)) refl (g-activations, ((owed Registers#.the_type Registers'.the_laws here _ g-here).0, ((owed Registers#.the_type Registers'.the_laws here _ g-here).1.0, ((refl, (facts.fits-2 code#.now cells#.now records#.now activations here pre class1 e1 (eqb→eq class1 0 y1) only-hops2 e2 follow3 e3)), tt)))) _ (facts.asks-act_one code#.now cells#.now records#.now activations here pre class1 e1 (eqb→eq class1 0 y1) only-hops2 e2 follow3 e3) (id⊢ 𝓤 _) moves _ (λ v. id⊢ 𝓤 _)
         (and_then ! (var ! 3 1 refl refl tt) (and_then ! (var ! 3 18 refl refl tt) (and_then ! (var ! 3 4 refl refl tt) (and_then ! (part ! 3 5 0 refl refl tt refl refl refl) (and_then ! (part ! 3 5 1 refl refl tt refl refl refl) (and_then ! (var ! 3 8 refl refl tt) (no_more !))))))) (λ done4 ws4 g-done4 e4 _.
         lands-in ! 3 9 refl tt (typed 𝓛 moves done4 g-done4) $
         calls_by ! (fm_of 𝓤 H 𝓛.laws 𝓣) (triple_of 𝓛 came-to.signature (came-to.spec 𝓛 mem run)) known-came-to (to (for-came-to here done4)) (for-came-to here done4) refl (g-here, (g-done4, tt)) (Unit {0}) tt (asks-all 𝓤 𝓛 (for-came-to here done4) []) moveds _ (λ v. id⊢ 𝓤 _)
@@ -187,15 +187,15 @@ module _ {M : Type 1} {𝓤 : Ura M} (𝓛 : Logic 𝓤) (mem : Memory → SProp
         puts ! 3 15 refl (bin ! (var ! 3 6 refl refl tt) (lit ! tt) tt) tt (tt, tt) $
         if-then ! (var ! 3 15 refl refl tt)
         (λ y2.
-        move ! (0 ∷ 2 ∷ []) $ calls_by ! (fm_of 𝓤 H 𝓛.laws 𝓣) (triple_of 𝓛 first_Cell.signature (first_Cell.spec 𝓛 mem run)) known-first-cell (to (for-first-cell (loan_ref κ0 q0 code#) code#.now (loan_slice κ2 q2 records#) records#.now here (32 * here.live) 1)) (for-first-cell (loan_ref κ0 q0 code#) code#.now (loan_slice κ2 q2 records#) records#.now here (32 * here.live) 1) refl (g-here, ((refl, (facts.fits-1 code#.now cells#.now records#.now activations here pre)), ((refl, omega arith), tt))) _ (facts.asks-first-cell code#.now cells#.now records#.now activations here pre class1 e1 (not_equal class1 0 y1) (eqb→eq class1 5 y2)) (id⊢ 𝓤 _) usizes _ (λ v. id⊢ 𝓤 _)
+        move ! (0 ∷ 2 ∷ []) $ calls_by ! (fm_of 𝓤 H 𝓛.laws 𝓣) (triple_of 𝓛 first_Cell.signature (first_Cell.spec 𝓛 mem run)) known-first-cell (to (for-first-cell (loan_ref κ0 q0 code#) code#.now (loan_slice κ2 q2 records#) records#.now here (32 * here.live) 1)) (for-first-cell (loan_ref κ0 q0 code#) code#.now (loan_slice κ2 q2 records#) records#.now here (32 * here.live) 1) refl (g-here, ((refl, (facts.fits-1 code#.now cells#.now records#.now activations here pre)), ((refl, omega arith), tt))) _ (facts.asks-first_cell code#.now cells#.now records#.now activations here pre class1 e1 (not_equal class1 0 y1) (eqb→eq class1 5 y2)) (id⊢ 𝓤 _) usizes _ (λ v. id⊢ 𝓤 _)
         (and_then ! (var ! 3 1 refl refl tt) (and_then ! (var ! 3 3 refl refl tt) (and_then ! (var ! 3 5 refl refl tt) (and_then ! (var ! 3 7 refl refl tt) (and_then ! (lit ! tt) (no_more !)))))) (λ first6 _ g-first6 e6 _.
         lands-in ! 3 10 refl tt (typed 𝓛 usizes first6 g-first6) $
-        calls_by ! (fm_of 𝓤 H 𝓛.laws 𝓣) (triple_of 𝓛 first_Cell.signature (first_Cell.spec 𝓛 mem run)) known-first-cell (to (for-first-cell (loan_ref κ0 q0 code#) code#.now (loan_slice κ2 q2 records#) records#.now here (32 * here.live) 2)) (for-first-cell (loan_ref κ0 q0 code#) code#.now (loan_slice κ2 q2 records#) records#.now here (32 * here.live) 2) refl (g-here, ((refl, (facts.fits-1 code#.now cells#.now records#.now activations here pre)), ((refl, omega arith), tt))) _ (facts.asks-first-cell-2 code#.now cells#.now records#.now activations here pre class1 e1 (not_equal class1 0 y1) (eqb→eq class1 5 y2)) (id⊢ 𝓤 _) usizes _ (λ v. id⊢ 𝓤 _)
+        calls_by ! (fm_of 𝓤 H 𝓛.laws 𝓣) (triple_of 𝓛 first_Cell.signature (first_Cell.spec 𝓛 mem run)) known-first-cell (to (for-first-cell (loan_ref κ0 q0 code#) code#.now (loan_slice κ2 q2 records#) records#.now here (32 * here.live) 2)) (for-first-cell (loan_ref κ0 q0 code#) code#.now (loan_slice κ2 q2 records#) records#.now here (32 * here.live) 2) refl (g-here, ((refl, (facts.fits-1 code#.now cells#.now records#.now activations here pre)), ((refl, omega arith), tt))) _ (facts.asks-first_cell-2 code#.now cells#.now records#.now activations here pre class1 e1 (not_equal class1 0 y1) (eqb→eq class1 5 y2)) (id⊢ 𝓤 _) usizes _ (λ v. id⊢ 𝓤 _)
         (and_then ! (var ! 3 1 refl refl tt) (and_then ! (var ! 3 3 refl refl tt) (and_then ! (var ! 3 5 refl refl tt) (and_then ! (var ! 3 7 refl refl tt) (and_then ! (lit ! tt) (no_more !)))))) (λ second7 _ g-second7 e7 _.
         lands-in ! 3 11 refl tt (typed 𝓛 usizes second7 g-second7) $
         puts ! 3 19 refl (lent ! 3 2 refl refl tt) tt (tt, tt) $
         move ! (2 ∷ []) $ shares-ref ! tt (Array i32 tt 8224) (loan_ref κ1 q1 cells#) cells#.now (λ p8-cells ν8-cells δ8-cells.
-        move ! (2 ∷ 0 ∷ []) $ calls_by ! (fm_of 𝓤 H 𝓛.laws 𝓣) (triple_of 𝓛 act-branch.signature (act-branch.spec 𝓛 mem run)) known-act-branch (to (for-act-branch (loan_ref κ0 q0 code#) code#.now (relent (loan_ref κ1 q1 cells#) ν8-cells δ8-cells) cells#.now here.at first6 second7)) (for-act-branch (loan_ref κ0 q0 code#) code#.now (relent (loan_ref κ1 q1 cells#) ν8-cells δ8-cells) cells#.now here.at first6 second7) refl ((owed Registers#.the_type Registers'.the_laws here _ g-here).1.0, (g-first6, (g-second7, tt))) _ (facts.asks-act-branch code#.now cells#.now records#.now activations here pre class1 e1 (not_equal class1 0 y1) (eqb→eq class1 5 y2) first6 e6 second7 e7) (id⊢ 𝓤 _) moves _ (λ v. id⊢ 𝓤 _)
+        move ! (2 ∷ 0 ∷ []) $ calls_by ! (fm_of 𝓤 H 𝓛.laws 𝓣) (triple_of 𝓛 act-branch.signature (act-branch.spec 𝓛 mem run)) known-act-branch (to (for-act-branch (loan_ref κ0 q0 code#) code#.now (relent (loan_ref κ1 q1 cells#) ν8-cells δ8-cells) cells#.now here.at first6 second7)) (for-act-branch (loan_ref κ0 q0 code#) code#.now (relent (loan_ref κ1 q1 cells#) ν8-cells δ8-cells) cells#.now here.at first6 second7) refl ((owed Registers#.the_type Registers'.the_laws here _ g-here).1.0, (g-first6, (g-second7, tt))) _ (facts.asks-act_branch code#.now cells#.now records#.now activations here pre class1 e1 (not_equal class1 0 y1) (eqb→eq class1 5 y2) first6 e6 second7 e7) (id⊢ 𝓤 _) moves _ (λ v. id⊢ 𝓤 _)
         (and_then ! (var ! 4 1 refl refl tt) (and_then ! (var ! 4 19 refl refl tt) (and_then ! (part ! 4 5 1 refl refl tt refl refl refl) (and_then ! (var ! 4 10 refl refl tt) (and_then ! (var ! 4 11 refl refl tt) (no_more !)))))) (λ done8 _ g-done8 e8 _.
         lands-in ! 4 12 refl tt (typed 𝓛 moves done8 g-done8) $
         move ! (1 ∷ 2 ∷ []) $ unshares-ref ! tt (Array i32 tt 8224) (loan_ref κ1 q1 cells#) cells#.now ν8-cells δ8-cells p8-cells $
@@ -207,11 +207,11 @@ module _ {M : Type 1} {𝓤 : Ura M} (𝓛 : Logic 𝓤) (mem : Memory → SProp
         puts ! 3 15 refl (bin ! (var ! 3 6 refl refl tt) (lit ! tt) tt) tt (tt, tt) $
         if-then ! (var ! 3 15 refl refl tt)
         (λ y3.
-        move ! (0 ∷ 2 ∷ []) $ calls_by ! (fm_of 𝓤 H 𝓛.laws 𝓣) (triple_of 𝓛 first_Cell.signature (first_Cell.spec 𝓛 mem run)) known-first-cell (to (for-first-cell (loan_ref κ0 q0 code#) code#.now (loan_slice κ2 q2 records#) records#.now here (32 * here.live) 1)) (for-first-cell (loan_ref κ0 q0 code#) code#.now (loan_slice κ2 q2 records#) records#.now here (32 * here.live) 1) refl (g-here, ((refl, (facts.fits-1 code#.now cells#.now records#.now activations here pre)), ((refl, omega arith), tt))) _ (facts.asks-first-cell-3 code#.now cells#.now records#.now activations here pre class1 e1 (not_equal class1 0 y1) (not_equal class1 5 y2) (eqb→eq class1 8 y3)) (id⊢ 𝓤 _) usizes _ (λ v. id⊢ 𝓤 _)
+        move ! (0 ∷ 2 ∷ []) $ calls_by ! (fm_of 𝓤 H 𝓛.laws 𝓣) (triple_of 𝓛 first_Cell.signature (first_Cell.spec 𝓛 mem run)) known-first-cell (to (for-first-cell (loan_ref κ0 q0 code#) code#.now (loan_slice κ2 q2 records#) records#.now here (32 * here.live) 1)) (for-first-cell (loan_ref κ0 q0 code#) code#.now (loan_slice κ2 q2 records#) records#.now here (32 * here.live) 1) refl (g-here, ((refl, (facts.fits-1 code#.now cells#.now records#.now activations here pre)), ((refl, omega arith), tt))) _ (facts.asks-first_cell-3 code#.now cells#.now records#.now activations here pre class1 e1 (not_equal class1 0 y1) (not_equal class1 5 y2) (eqb→eq class1 8 y3)) (id⊢ 𝓤 _) usizes _ (λ v. id⊢ 𝓤 _)
         (and_then ! (var ! 3 1 refl refl tt) (and_then ! (var ! 3 3 refl refl tt) (and_then ! (var ! 3 5 refl refl tt) (and_then ! (var ! 3 7 refl refl tt) (and_then ! (lit ! tt) (no_more !)))))) (λ first10 _ g-first10 e10 _.
         lands-in ! 3 13 refl tt (typed 𝓛 usizes first10 g-first10) $
         puts ! 3 20 refl (lent ! 3 2 refl refl tt) tt (tt, tt) $
-        move ! (0 ∷ 2 ∷ []) $ calls_by ! (fm_of 𝓤 H 𝓛.laws 𝓣) (triple_of 𝓛 do-constant.signature (do-constant.spec 𝓛 mem run)) known-do-constant (to (for-do-constant (loan_ref κ0 q0 code#) code#.now (loan_ref κ1 q1 cells#) cells#.now here.at first10)) (for-do-constant (loan_ref κ0 q0 code#) code#.now (loan_ref κ1 q1 cells#) cells#.now here.at first10) refl ((owed Registers#.the_type Registers'.the_laws here _ g-here).1.0, (g-first10, tt)) _ (facts.asks-do-constant code#.now cells#.now records#.now activations here pre class1 e1 (not_equal class1 0 y1) (not_equal class1 5 y2) (eqb→eq class1 8 y3) first10 e10) (id⊢ 𝓤 _) moves _ (λ v. id⊢ 𝓤 _)
+        move ! (0 ∷ 2 ∷ []) $ calls_by ! (fm_of 𝓤 H 𝓛.laws 𝓣) (triple_of 𝓛 do-constant.signature (do-constant.spec 𝓛 mem run)) known-do-constant (to (for-do-constant (loan_ref κ0 q0 code#) code#.now (loan_ref κ1 q1 cells#) cells#.now here.at first10)) (for-do-constant (loan_ref κ0 q0 code#) code#.now (loan_ref κ1 q1 cells#) cells#.now here.at first10) refl ((owed Registers#.the_type Registers'.the_laws here _ g-here).1.0, (g-first10, tt)) _ (facts.asks-do_constant code#.now cells#.now records#.now activations here pre class1 e1 (not_equal class1 0 y1) (not_equal class1 5 y2) (eqb→eq class1 8 y3) first10 e10) (id⊢ 𝓤 _) moves _ (λ v. id⊢ 𝓤 _)
         (and_then ! (var ! 3 1 refl refl tt) (and_then ! (var ! 3 20 refl refl tt) (and_then ! (part ! 3 5 1 refl refl tt refl refl refl) (and_then ! (var ! 3 13 refl refl tt) (no_more !))))) (λ done11 ws11 g-done11 e11 _.
         lands-in ! 3 14 refl tt (typed 𝓛 moves done11 g-done11) $
         calls_by ! (fm_of 𝓤 H 𝓛.laws 𝓣) (triple_of 𝓛 came-to.signature (came-to.spec 𝓛 mem run)) known-came-to (to (for-came-to here done11)) (for-came-to here done11) refl (g-here, (g-done11, tt)) (Unit {0}) tt (asks-all 𝓤 𝓛 (for-came-to here done11) []) moveds _ (λ v. id⊢ 𝓤 _)
@@ -257,18 +257,18 @@ module _ {M : Type 1} {𝓤 : Ura M} (𝓛 : Logic 𝓤) (mem : Memory → SProp
       (λ κs. (shr_Tells (named 0) κs.0 (Array u32 tt 4096), (mut_Tells (named 1) κs.1.0 (Array i32 tt 8224), (shr_slice_Tells (named 2) κs.1.1.0 recs.type, (usizes.tells, (registers.tells, tt))))))
       (λ κs qs bounds a g are. needs 𝓤 (said.Pre a.0.now a.1.0.now a.1.1.0.now a.1.1.1.0 a.1.1.1.1.0) _ (λ pre. walk 𝓛 mem run κs.0 κs.1.0 κs.1.1.0 qs.0 qs.1.0 qs.1.1.0 a.0 a.1.0 a.1.1.0 a.1.1.1.0 a.1.1.1.1.0 are.1.1.0.0.1 are.1.1.1.0 are.1.1.1.1.0 pre 𝓣 known-class-of known-only-hops known-follow known-act-one known-came-to known-first-cell known-act-branch known-do-constant known-tabled known-summed)))
 
-pub acted-spec : {M : Type 1} → stated.statement M
+pub acted_spec : {M : Type 1} → stated.statement M
 unfolding mine.routine tables_of
-acted-spec 𝓤 𝓛 𝓜 𝓡 =
+acted_spec 𝓤 𝓛 𝓜 𝓡 =
     by-walk 𝓤 𝓛.H 𝓜 𝓡 mine.env #me mine.function (triple_of 𝓛 f.signature (f.spec 𝓛 𝓜.mem 𝓡.run)) (mine.unfolded 𝓤 𝓛.H 𝓜 𝓡)
     (meets 𝓛 𝓜.mem 𝓡.run (tables_of 𝓤 𝓛.H 𝓜 (tables 𝓤 𝓛.H 𝓜 𝓡 mine.env))
-    (cited 𝓤 𝓛.H (triple_of 𝓛 class_of.signature (class_of.spec 𝓛 𝓜.mem 𝓡.run)) 𝓜 𝓡 mine.env #class-of class-of-def.routine mine.calls-run-classes::class-of (class-of-thm.met 𝓤 𝓛 𝓜 𝓡))
-    (cited 𝓤 𝓛.H (triple_of 𝓛 only-hops.signature (only-hops.spec 𝓛 𝓜.mem 𝓡.run)) 𝓜 𝓡 mine.env #only-hops only-hops-def.routine mine.calls-chain-step::acted::only-hops (only-hops-thm.met 𝓤 𝓛 𝓜 𝓡))
-    (cited 𝓤 𝓛.H (triple_of 𝓛 follow.signature (follow.spec 𝓛 𝓜.mem 𝓡.run)) 𝓜 𝓡 mine.env #follow follow-def.routine mine.calls-chain-records::follow (follow-thm.met 𝓤 𝓛 𝓜 𝓡))
-    (cited 𝓤 𝓛.H (triple_of 𝓛 act-one.signature (act-one.spec 𝓛 𝓜.mem 𝓡.run)) 𝓜 𝓡 mine.env #act-one act-one-def.routine mine.calls-run-classes::act-one (act-one-thm.met 𝓤 𝓛 𝓜 𝓡))
-    (cited 𝓤 𝓛.H (triple_of 𝓛 came-to.signature (came-to.spec 𝓛 𝓜.mem 𝓡.run)) 𝓜 𝓡 mine.env #came-to came-to-def.routine mine.calls-chain-step::turn::came-to (came-to-thm.met 𝓤 𝓛 𝓜 𝓡))
-    (cited 𝓤 𝓛.H (triple_of 𝓛 first_Cell.signature (first_Cell.spec 𝓛 𝓜.mem 𝓡.run)) 𝓜 𝓡 mine.env #first-cell first-cell-def.routine mine.calls-chain-links::first-cell (first-cell-thm.met 𝓤 𝓛 𝓜 𝓡))
-    (cited 𝓤 𝓛.H (triple_of 𝓛 act-branch.signature (act-branch.spec 𝓛 𝓜.mem 𝓡.run)) 𝓜 𝓡 mine.env #act-branch act-branch-def.routine mine.calls-run-classes::act-branch (act-branch-thm.met 𝓤 𝓛 𝓜 𝓡))
-    (cited 𝓤 𝓛.H (triple_of 𝓛 do-constant.signature (do-constant.spec 𝓛 𝓜.mem 𝓡.run)) 𝓜 𝓡 mine.env #do-constant do-constant-def.routine mine.calls-run-cells::do-constant (do-constant-thm.met 𝓤 𝓛 𝓜 𝓡))
-    (cited 𝓤 𝓛.H (triple_of 𝓛 tabled.signature (tabled.spec 𝓛 𝓜.mem 𝓡.run)) 𝓜 𝓡 mine.env #tabled tabled-def.routine mine.calls-chain-step::tabled::tabled (tabled-thm.met 𝓤 𝓛 𝓜 𝓡))
-    (cited 𝓤 𝓛.H (triple_of 𝓛 summed.signature (summed.spec 𝓛 𝓜.mem 𝓡.run)) 𝓜 𝓡 mine.env #summed summed-def.routine mine.calls-chain-step::summed::summed (summed-thm.met 𝓤 𝓛 𝓜 𝓡)))
+    (cited 𝓤 𝓛.H (triple_of 𝓛 class_of.signature (class_of.spec 𝓛 𝓜.mem 𝓡.run)) 𝓜 𝓡 mine.env #class-of class-of-def.routine mine.calls-run_classes::class_of (class-of-thm.met 𝓤 𝓛 𝓜 𝓡))
+    (cited 𝓤 𝓛.H (triple_of 𝓛 only-hops.signature (only-hops.spec 𝓛 𝓜.mem 𝓡.run)) 𝓜 𝓡 mine.env #only-hops only-hops-def.routine mine.calls-chain_step::acted::only_hops (only-hops-thm.met 𝓤 𝓛 𝓜 𝓡))
+    (cited 𝓤 𝓛.H (triple_of 𝓛 follow.signature (follow.spec 𝓛 𝓜.mem 𝓡.run)) 𝓜 𝓡 mine.env #follow follow-def.routine mine.calls-chain_records::follow (follow-thm.met 𝓤 𝓛 𝓜 𝓡))
+    (cited 𝓤 𝓛.H (triple_of 𝓛 act-one.signature (act-one.spec 𝓛 𝓜.mem 𝓡.run)) 𝓜 𝓡 mine.env #act-one act-one-def.routine mine.calls-run_classes::act_one (act-one-thm.met 𝓤 𝓛 𝓜 𝓡))
+    (cited 𝓤 𝓛.H (triple_of 𝓛 came-to.signature (came-to.spec 𝓛 𝓜.mem 𝓡.run)) 𝓜 𝓡 mine.env #came-to came-to-def.routine mine.calls-chain_step::turn::came_to (came-to-thm.met 𝓤 𝓛 𝓜 𝓡))
+    (cited 𝓤 𝓛.H (triple_of 𝓛 first_Cell.signature (first_Cell.spec 𝓛 𝓜.mem 𝓡.run)) 𝓜 𝓡 mine.env #first-cell first-cell-def.routine mine.calls-chain_links::first_cell (first-cell-thm.met 𝓤 𝓛 𝓜 𝓡))
+    (cited 𝓤 𝓛.H (triple_of 𝓛 act-branch.signature (act-branch.spec 𝓛 𝓜.mem 𝓡.run)) 𝓜 𝓡 mine.env #act-branch act-branch-def.routine mine.calls-run_classes::act_branch (act-branch-thm.met 𝓤 𝓛 𝓜 𝓡))
+    (cited 𝓤 𝓛.H (triple_of 𝓛 do-constant.signature (do-constant.spec 𝓛 𝓜.mem 𝓡.run)) 𝓜 𝓡 mine.env #do-constant do-constant-def.routine mine.calls-run_cells::do_constant (do-constant-thm.met 𝓤 𝓛 𝓜 𝓡))
+    (cited 𝓤 𝓛.H (triple_of 𝓛 tabled.signature (tabled.spec 𝓛 𝓜.mem 𝓡.run)) 𝓜 𝓡 mine.env #tabled tabled-def.routine mine.calls-chain_step::tabled::tabled (tabled-thm.met 𝓤 𝓛 𝓜 𝓡))
+    (cited 𝓤 𝓛.H (triple_of 𝓛 summed.signature (summed.spec 𝓛 𝓜.mem 𝓡.run)) 𝓜 𝓡 mine.env #summed summed-def.routine mine.calls-chain_step::summed::summed (summed-thm.met 𝓤 𝓛 𝓜 𝓡)))

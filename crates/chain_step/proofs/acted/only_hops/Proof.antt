@@ -29,7 +29,7 @@ module _ (code : List ℕ) (here : Registers) (w o : ℕ) (head : w ≡ get_or c
     named : here.level - l ≡ only_hops code here
     named = ap (λ n. here.level - n) level-is ∙ some-hops code here no_block
 
-pub only-hops-spec : {M : Type 1} → statement M
-only-hops-spec =
+pub only_hops_spec : {M : Type 1} → statement M
+only_hops_spec =
     tie.close (tie.spec (λ c κs. search rules) (λ c κs. search rules) (λ c. search (rules, block)) (λ c. search rules) (λ c κs. search rules)
     (λ c κs. search rules) (λ c. search (rules, outer)) (λ c. search (rules, named)))

@@ -160,8 +160,8 @@ unfolding mine.routine tables_of
 leave_spec 𝓤 𝓛 𝓜 𝓡 =
     by-walk 𝓤 𝓛.H 𝓜 𝓡 mine.env #me mine.function (triple_of 𝓛 f.signature (f.spec 𝓛 𝓜.mem 𝓡.run)) (mine.unfolded 𝓤 𝓛.H 𝓜 𝓡)
     (meets 𝓛 𝓜.mem 𝓡.run (tables_of 𝓤 𝓛.H 𝓜 (tables 𝓤 𝓛.H 𝓜 𝓡 mine.env))
-    (cited 𝓤 𝓛.H (triple_of 𝓛 finished.signature (finished.spec 𝓛 𝓜.mem 𝓡.run)) 𝓜 𝓡 mine.env #finished finished-def.routine mine.calls-chain-step::turn::finished (finished-thm.met 𝓤 𝓛 𝓜 𝓡))
-    (cited 𝓤 𝓛.H (triple_of 𝓛 below.signature (below.spec 𝓛 𝓜.mem 𝓡.run)) 𝓜 𝓡 mine.env #below below-def.routine mine.calls-chain-step::turn::below (below-thm.met 𝓤 𝓛 𝓜 𝓡))
-    (cited 𝓤 𝓛.H (triple_of 𝓛 read.signature (read.spec 𝓛 𝓜.mem 𝓡.run)) 𝓜 𝓡 mine.env #read read-def.routine mine.calls-chain-records::read (read-thm.met 𝓤 𝓛 𝓜 𝓡))
-    (cited 𝓤 𝓛.H (triple_of 𝓛 left.signature (left.spec 𝓛 𝓜.mem 𝓡.run)) 𝓜 𝓡 mine.env #left left-def.routine mine.calls-chain-links::left (left-thm.met 𝓤 𝓛 𝓜 𝓡))
-    (cited 𝓤 𝓛.H (triple_of 𝓛 went.signature (went.spec 𝓛 𝓜.mem 𝓡.run)) 𝓜 𝓡 mine.env #went went-def.routine mine.calls-chain-step::turn::went (went-thm.met 𝓤 𝓛 𝓜 𝓡)))
+    (cited 𝓤 𝓛.H (triple_of 𝓛 finished.signature (finished.spec 𝓛 𝓜.mem 𝓡.run)) 𝓜 𝓡 mine.env #finished finished-def.routine mine.calls-chain_step::turn::finished (finished-thm.met 𝓤 𝓛 𝓜 𝓡))
+    (cited 𝓤 𝓛.H (triple_of 𝓛 below.signature (below.spec 𝓛 𝓜.mem 𝓡.run)) 𝓜 𝓡 mine.env #below below-def.routine mine.calls-chain_step::turn::below (below-thm.met 𝓤 𝓛 𝓜 𝓡))
+    (cited 𝓤 𝓛.H (triple_of 𝓛 read.signature (read.spec 𝓛 𝓜.mem 𝓡.run)) 𝓜 𝓡 mine.env #read read-def.routine mine.calls-chain_records::read (read-thm.met 𝓤 𝓛 𝓜 𝓡))
+    (cited 𝓤 𝓛.H (triple_of 𝓛 left.signature (left.spec 𝓛 𝓜.mem 𝓡.run)) 𝓜 𝓡 mine.env #left left-def.routine mine.calls-chain_links::left (left-thm.met 𝓤 𝓛 𝓜 𝓡))
+    (cited 𝓤 𝓛.H (triple_of 𝓛 went.signature (went.spec 𝓛 𝓜.mem 𝓡.run)) 𝓜 𝓡 mine.env #went went-def.routine mine.calls-chain_step::turn::went (went-thm.met 𝓤 𝓛 𝓜 𝓡)))

@@ -131,17 +131,17 @@ module _ {M : Type 1} {𝓤 : Ura M} (𝓛 : Logic 𝓤) (mem : Memory → SProp
         puts ! 3 23 refl (bin ! (var ! 3 6 refl refl tt) (lit ! tt) tt) tt (tt, tt) $
         if-then ! (var ! 3 23 refl refl tt)
         (λ y1.
-        move ! (0 ∷ 2 ∷ []) $ calls_by ! (fm_of 𝓤 H 𝓛.laws 𝓣) (triple_of 𝓛 first_Cell.signature (first_Cell.spec 𝓛 mem run)) known-first-cell (to (for-first-cell (loan_ref κ0 q0 code#) code#.now (loan_slice κ2 q2 records#) records#.now here own 3)) (for-first-cell (loan_ref κ0 q0 code#) code#.now (loan_slice κ2 q2 records#) records#.now here own 3) refl (g-here, (g-own, ((refl, omega arith), tt))) _ (facts.asks-first-cell code#.now cells#.now records#.now here own class pre (eqb→eq class 1 y1)) (id⊢ 𝓤 _) usizes _ (λ v. id⊢ 𝓤 _)
+        move ! (0 ∷ 2 ∷ []) $ calls_by ! (fm_of 𝓤 H 𝓛.laws 𝓣) (triple_of 𝓛 first_Cell.signature (first_Cell.spec 𝓛 mem run)) known-first-cell (to (for-first-cell (loan_ref κ0 q0 code#) code#.now (loan_slice κ2 q2 records#) records#.now here own 3)) (for-first-cell (loan_ref κ0 q0 code#) code#.now (loan_slice κ2 q2 records#) records#.now here own 3) refl (g-here, (g-own, ((refl, omega arith), tt))) _ (facts.asks-first_cell code#.now cells#.now records#.now here own class pre (eqb→eq class 1 y1)) (id⊢ 𝓤 _) usizes _ (λ v. id⊢ 𝓤 _)
         (and_then ! (var ! 3 1 refl refl tt) (and_then ! (var ! 3 3 refl refl tt) (and_then ! (var ! 3 4 refl refl tt) (and_then ! (var ! 3 5 refl refl tt) (and_then ! (lit ! tt) (no_more !)))))) (λ second1 _ g-second1 e1 _.
         lands-in ! 3 7 refl tt (typed 𝓛 usizes second1 g-second1) $
-        calls_by ! (fm_of 𝓤 H 𝓛.laws 𝓣) (triple_of 𝓛 first_Cell.signature (first_Cell.spec 𝓛 mem run)) known-first-cell (to (for-first-cell (loan_ref κ0 q0 code#) code#.now (loan_slice κ2 q2 records#) records#.now here own 4)) (for-first-cell (loan_ref κ0 q0 code#) code#.now (loan_slice κ2 q2 records#) records#.now here own 4) refl (g-here, (g-own, ((refl, omega arith), tt))) _ (facts.asks-first-cell-2 code#.now cells#.now records#.now here own class pre (eqb→eq class 1 y1)) (id⊢ 𝓤 _) usizes _ (λ v. id⊢ 𝓤 _)
+        calls_by ! (fm_of 𝓤 H 𝓛.laws 𝓣) (triple_of 𝓛 first_Cell.signature (first_Cell.spec 𝓛 mem run)) known-first-cell (to (for-first-cell (loan_ref κ0 q0 code#) code#.now (loan_slice κ2 q2 records#) records#.now here own 4)) (for-first-cell (loan_ref κ0 q0 code#) code#.now (loan_slice κ2 q2 records#) records#.now here own 4) refl (g-here, (g-own, ((refl, omega arith), tt))) _ (facts.asks-first_cell-2 code#.now cells#.now records#.now here own class pre (eqb→eq class 1 y1)) (id⊢ 𝓤 _) usizes _ (λ v. id⊢ 𝓤 _)
         (and_then ! (var ! 3 1 refl refl tt) (and_then ! (var ! 3 3 refl refl tt) (and_then ! (var ! 3 4 refl refl tt) (and_then ! (var ! 3 5 refl refl tt) (and_then ! (lit ! tt) (no_more !)))))) (λ third2 _ g-third2 e2 _.
         lands-in ! 3 8 refl tt (typed 𝓛 usizes third2 g-third2) $
-        calls_by ! (fm_of 𝓤 H 𝓛.laws 𝓣) (triple_of 𝓛 first_Cell.signature (first_Cell.spec 𝓛 mem run)) known-first-cell (to (for-first-cell (loan_ref κ0 q0 code#) code#.now (loan_slice κ2 q2 records#) records#.now here own 1)) (for-first-cell (loan_ref κ0 q0 code#) code#.now (loan_slice κ2 q2 records#) records#.now here own 1) refl (g-here, (g-own, ((refl, omega arith), tt))) _ (facts.asks-first-cell-3 code#.now cells#.now records#.now here own class pre (eqb→eq class 1 y1)) (id⊢ 𝓤 _) usizes _ (λ v. id⊢ 𝓤 _)
+        calls_by ! (fm_of 𝓤 H 𝓛.laws 𝓣) (triple_of 𝓛 first_Cell.signature (first_Cell.spec 𝓛 mem run)) known-first-cell (to (for-first-cell (loan_ref κ0 q0 code#) code#.now (loan_slice κ2 q2 records#) records#.now here own 1)) (for-first-cell (loan_ref κ0 q0 code#) code#.now (loan_slice κ2 q2 records#) records#.now here own 1) refl (g-here, (g-own, ((refl, omega arith), tt))) _ (facts.asks-first_cell-3 code#.now cells#.now records#.now here own class pre (eqb→eq class 1 y1)) (id⊢ 𝓤 _) usizes _ (λ v. id⊢ 𝓤 _)
         (and_then ! (var ! 3 1 refl refl tt) (and_then ! (var ! 3 3 refl refl tt) (and_then ! (var ! 3 4 refl refl tt) (and_then ! (var ! 3 5 refl refl tt) (and_then ! (lit ! tt) (no_more !)))))) (λ first3 _ g-first3 e3 _.
         lands-in ! 3 9 refl tt (typed 𝓛 usizes first3 g-first3) $
         puts ! 3 24 refl (lent ! 3 2 refl refl tt) tt (tt, tt) $
-        move ! (0 ∷ 2 ∷ []) $ calls_by ! (fm_of 𝓤 H 𝓛.laws 𝓣) (triple_of 𝓛 do-add.signature (do-add.spec 𝓛 mem run)) known-do-add (to (for-do-add (loan_ref κ0 q0 code#) code#.now (loan_ref κ1 q1 cells#) cells#.now here.at first3 second1 third2)) (for-do-add (loan_ref κ0 q0 code#) code#.now (loan_ref κ1 q1 cells#) cells#.now here.at first3 second1 third2) refl ((owed Registers#.the_type Registers'.the_laws here _ g-here).1.0, (g-first3, (g-second1, (g-third2, tt)))) _ (facts.asks-do-add code#.now cells#.now records#.now here own class pre (eqb→eq class 1 y1) second1 e1 third2 e2 first3 e3) (id⊢ 𝓤 _) moves _ (λ v. id⊢ 𝓤 _)
+        move ! (0 ∷ 2 ∷ []) $ calls_by ! (fm_of 𝓤 H 𝓛.laws 𝓣) (triple_of 𝓛 do-add.signature (do-add.spec 𝓛 mem run)) known-do-add (to (for-do-add (loan_ref κ0 q0 code#) code#.now (loan_ref κ1 q1 cells#) cells#.now here.at first3 second1 third2)) (for-do-add (loan_ref κ0 q0 code#) code#.now (loan_ref κ1 q1 cells#) cells#.now here.at first3 second1 third2) refl ((owed Registers#.the_type Registers'.the_laws here _ g-here).1.0, (g-first3, (g-second1, (g-third2, tt)))) _ (facts.asks-do_add code#.now cells#.now records#.now here own class pre (eqb→eq class 1 y1) second1 e1 third2 e2 first3 e3) (id⊢ 𝓤 _) moves _ (λ v. id⊢ 𝓤 _)
         (and_then ! (var ! 3 1 refl refl tt) (and_then ! (var ! 3 24 refl refl tt) (and_then ! (part ! 3 4 1 refl refl tt refl refl refl) (and_then ! (var ! 3 9 refl refl tt) (and_then ! (var ! 3 7 refl refl tt) (and_then ! (var ! 3 8 refl refl tt) (no_more !))))))) (λ done4 ws4 g-done4 e4 _.
         lands-in ! 3 10 refl tt (typed 𝓛 moves done4 g-done4) $
         calls_by ! (fm_of 𝓤 H 𝓛.laws 𝓣) (triple_of 𝓛 came-to.signature (came-to.spec 𝓛 mem run)) known-came-to (to (for-came-to here done4)) (for-came-to here done4) refl (g-here, (g-done4, tt)) (Unit {0}) tt (asks-all 𝓤 𝓛 (for-came-to here done4) []) moveds _ (λ v. id⊢ 𝓤 _)
@@ -152,17 +152,17 @@ module _ {M : Type 1} {𝓤 : Ura M} (𝓛 : Logic 𝓤) (mem : Memory → SProp
         puts ! 3 23 refl (bin ! (var ! 3 6 refl refl tt) (lit ! tt) tt) tt (tt, tt) $
         if-then ! (var ! 3 23 refl refl tt)
         (λ y2.
-        move ! (0 ∷ 2 ∷ []) $ calls_by ! (fm_of 𝓤 H 𝓛.laws 𝓣) (triple_of 𝓛 first_Cell.signature (first_Cell.spec 𝓛 mem run)) known-first-cell (to (for-first-cell (loan_ref κ0 q0 code#) code#.now (loan_slice κ2 q2 records#) records#.now here own 3)) (for-first-cell (loan_ref κ0 q0 code#) code#.now (loan_slice κ2 q2 records#) records#.now here own 3) refl (g-here, (g-own, ((refl, omega arith), tt))) _ (facts.asks-first-cell-4 code#.now cells#.now records#.now here own class pre (not_equal class 1 y1) (eqb→eq class 3 y2)) (id⊢ 𝓤 _) usizes _ (λ v. id⊢ 𝓤 _)
+        move ! (0 ∷ 2 ∷ []) $ calls_by ! (fm_of 𝓤 H 𝓛.laws 𝓣) (triple_of 𝓛 first_Cell.signature (first_Cell.spec 𝓛 mem run)) known-first-cell (to (for-first-cell (loan_ref κ0 q0 code#) code#.now (loan_slice κ2 q2 records#) records#.now here own 3)) (for-first-cell (loan_ref κ0 q0 code#) code#.now (loan_slice κ2 q2 records#) records#.now here own 3) refl (g-here, (g-own, ((refl, omega arith), tt))) _ (facts.asks-first_cell-4 code#.now cells#.now records#.now here own class pre (not_equal class 1 y1) (eqb→eq class 3 y2)) (id⊢ 𝓤 _) usizes _ (λ v. id⊢ 𝓤 _)
         (and_then ! (var ! 3 1 refl refl tt) (and_then ! (var ! 3 3 refl refl tt) (and_then ! (var ! 3 4 refl refl tt) (and_then ! (var ! 3 5 refl refl tt) (and_then ! (lit ! tt) (no_more !)))))) (λ second6 _ g-second6 e6 _.
         lands-in ! 3 11 refl tt (typed 𝓛 usizes second6 g-second6) $
-        calls_by ! (fm_of 𝓤 H 𝓛.laws 𝓣) (triple_of 𝓛 first_Cell.signature (first_Cell.spec 𝓛 mem run)) known-first-cell (to (for-first-cell (loan_ref κ0 q0 code#) code#.now (loan_slice κ2 q2 records#) records#.now here own 4)) (for-first-cell (loan_ref κ0 q0 code#) code#.now (loan_slice κ2 q2 records#) records#.now here own 4) refl (g-here, (g-own, ((refl, omega arith), tt))) _ (facts.asks-first-cell-5 code#.now cells#.now records#.now here own class pre (not_equal class 1 y1) (eqb→eq class 3 y2)) (id⊢ 𝓤 _) usizes _ (λ v. id⊢ 𝓤 _)
+        calls_by ! (fm_of 𝓤 H 𝓛.laws 𝓣) (triple_of 𝓛 first_Cell.signature (first_Cell.spec 𝓛 mem run)) known-first-cell (to (for-first-cell (loan_ref κ0 q0 code#) code#.now (loan_slice κ2 q2 records#) records#.now here own 4)) (for-first-cell (loan_ref κ0 q0 code#) code#.now (loan_slice κ2 q2 records#) records#.now here own 4) refl (g-here, (g-own, ((refl, omega arith), tt))) _ (facts.asks-first_cell-5 code#.now cells#.now records#.now here own class pre (not_equal class 1 y1) (eqb→eq class 3 y2)) (id⊢ 𝓤 _) usizes _ (λ v. id⊢ 𝓤 _)
         (and_then ! (var ! 3 1 refl refl tt) (and_then ! (var ! 3 3 refl refl tt) (and_then ! (var ! 3 4 refl refl tt) (and_then ! (var ! 3 5 refl refl tt) (and_then ! (lit ! tt) (no_more !)))))) (λ third7 _ g-third7 e7 _.
         lands-in ! 3 12 refl tt (typed 𝓛 usizes third7 g-third7) $
-        calls_by ! (fm_of 𝓤 H 𝓛.laws 𝓣) (triple_of 𝓛 first_Cell.signature (first_Cell.spec 𝓛 mem run)) known-first-cell (to (for-first-cell (loan_ref κ0 q0 code#) code#.now (loan_slice κ2 q2 records#) records#.now here own 1)) (for-first-cell (loan_ref κ0 q0 code#) code#.now (loan_slice κ2 q2 records#) records#.now here own 1) refl (g-here, (g-own, ((refl, omega arith), tt))) _ (facts.asks-first-cell-6 code#.now cells#.now records#.now here own class pre (not_equal class 1 y1) (eqb→eq class 3 y2)) (id⊢ 𝓤 _) usizes _ (λ v. id⊢ 𝓤 _)
+        calls_by ! (fm_of 𝓤 H 𝓛.laws 𝓣) (triple_of 𝓛 first_Cell.signature (first_Cell.spec 𝓛 mem run)) known-first-cell (to (for-first-cell (loan_ref κ0 q0 code#) code#.now (loan_slice κ2 q2 records#) records#.now here own 1)) (for-first-cell (loan_ref κ0 q0 code#) code#.now (loan_slice κ2 q2 records#) records#.now here own 1) refl (g-here, (g-own, ((refl, omega arith), tt))) _ (facts.asks-first_cell-6 code#.now cells#.now records#.now here own class pre (not_equal class 1 y1) (eqb→eq class 3 y2)) (id⊢ 𝓤 _) usizes _ (λ v. id⊢ 𝓤 _)
         (and_then ! (var ! 3 1 refl refl tt) (and_then ! (var ! 3 3 refl refl tt) (and_then ! (var ! 3 4 refl refl tt) (and_then ! (var ! 3 5 refl refl tt) (and_then ! (lit ! tt) (no_more !)))))) (λ first8 _ g-first8 e8 _.
         lands-in ! 3 13 refl tt (typed 𝓛 usizes first8 g-first8) $
         puts ! 3 25 refl (lent ! 3 2 refl refl tt) tt (tt, tt) $
-        move ! (0 ∷ 2 ∷ []) $ calls_by ! (fm_of 𝓤 H 𝓛.laws 𝓣) (triple_of 𝓛 do-compare.signature (do-compare.spec 𝓛 mem run)) known-do-compare (to (for-do-compare (loan_ref κ0 q0 code#) code#.now (loan_ref κ1 q1 cells#) cells#.now here.at first8 second6 third7)) (for-do-compare (loan_ref κ0 q0 code#) code#.now (loan_ref κ1 q1 cells#) cells#.now here.at first8 second6 third7) refl ((owed Registers#.the_type Registers'.the_laws here _ g-here).1.0, (g-first8, (g-second6, (g-third7, tt)))) _ (facts.asks-do-compare code#.now cells#.now records#.now here own class pre (not_equal class 1 y1) (eqb→eq class 3 y2) second6 e6 third7 e7 first8 e8) (id⊢ 𝓤 _) moves _ (λ v. id⊢ 𝓤 _)
+        move ! (0 ∷ 2 ∷ []) $ calls_by ! (fm_of 𝓤 H 𝓛.laws 𝓣) (triple_of 𝓛 do-compare.signature (do-compare.spec 𝓛 mem run)) known-do-compare (to (for-do-compare (loan_ref κ0 q0 code#) code#.now (loan_ref κ1 q1 cells#) cells#.now here.at first8 second6 third7)) (for-do-compare (loan_ref κ0 q0 code#) code#.now (loan_ref κ1 q1 cells#) cells#.now here.at first8 second6 third7) refl ((owed Registers#.the_type Registers'.the_laws here _ g-here).1.0, (g-first8, (g-second6, (g-third7, tt)))) _ (facts.asks-do_compare code#.now cells#.now records#.now here own class pre (not_equal class 1 y1) (eqb→eq class 3 y2) second6 e6 third7 e7 first8 e8) (id⊢ 𝓤 _) moves _ (λ v. id⊢ 𝓤 _)
         (and_then ! (var ! 3 1 refl refl tt) (and_then ! (var ! 3 25 refl refl tt) (and_then ! (part ! 3 4 1 refl refl tt refl refl refl) (and_then ! (var ! 3 13 refl refl tt) (and_then ! (var ! 3 11 refl refl tt) (and_then ! (var ! 3 12 refl refl tt) (no_more !))))))) (λ done9 ws9 g-done9 e9 _.
         lands-in ! 3 14 refl tt (typed 𝓛 moves done9 g-done9) $
         calls_by ! (fm_of 𝓤 H 𝓛.laws 𝓣) (triple_of 𝓛 came-to.signature (came-to.spec 𝓛 mem run)) known-came-to (to (for-came-to here done9)) (for-came-to here done9) refl (g-here, (g-done9, tt)) (Unit {0}) tt (asks-all 𝓤 𝓛 (for-came-to here done9) []) moveds _ (λ v. id⊢ 𝓤 _)
@@ -173,17 +173,17 @@ module _ {M : Type 1} {𝓤 : Ura M} (𝓛 : Logic 𝓤) (mem : Memory → SProp
         puts ! 3 23 refl (bin ! (var ! 3 6 refl refl tt) (lit ! tt) tt) tt (tt, tt) $
         if-then ! (var ! 3 23 refl refl tt)
         (λ y3.
-        move ! (0 ∷ 2 ∷ []) $ calls_by ! (fm_of 𝓤 H 𝓛.laws 𝓣) (triple_of 𝓛 first_Cell.signature (first_Cell.spec 𝓛 mem run)) known-first-cell (to (for-first-cell (loan_ref κ0 q0 code#) code#.now (loan_slice κ2 q2 records#) records#.now here own 3)) (for-first-cell (loan_ref κ0 q0 code#) code#.now (loan_slice κ2 q2 records#) records#.now here own 3) refl (g-here, (g-own, ((refl, omega arith), tt))) _ (facts.asks-first-cell-7 code#.now cells#.now records#.now here own class pre (not_equal class 1 y1) (not_equal class 3 y2) (eqb→eq class 2 y3)) (id⊢ 𝓤 _) usizes _ (λ v. id⊢ 𝓤 _)
+        move ! (0 ∷ 2 ∷ []) $ calls_by ! (fm_of 𝓤 H 𝓛.laws 𝓣) (triple_of 𝓛 first_Cell.signature (first_Cell.spec 𝓛 mem run)) known-first-cell (to (for-first-cell (loan_ref κ0 q0 code#) code#.now (loan_slice κ2 q2 records#) records#.now here own 3)) (for-first-cell (loan_ref κ0 q0 code#) code#.now (loan_slice κ2 q2 records#) records#.now here own 3) refl (g-here, (g-own, ((refl, omega arith), tt))) _ (facts.asks-first_cell-7 code#.now cells#.now records#.now here own class pre (not_equal class 1 y1) (not_equal class 3 y2) (eqb→eq class 2 y3)) (id⊢ 𝓤 _) usizes _ (λ v. id⊢ 𝓤 _)
         (and_then ! (var ! 3 1 refl refl tt) (and_then ! (var ! 3 3 refl refl tt) (and_then ! (var ! 3 4 refl refl tt) (and_then ! (var ! 3 5 refl refl tt) (and_then ! (lit ! tt) (no_more !)))))) (λ second11 _ g-second11 e11 _.
         lands-in ! 3 15 refl tt (typed 𝓛 usizes second11 g-second11) $
-        calls_by ! (fm_of 𝓤 H 𝓛.laws 𝓣) (triple_of 𝓛 first_Cell.signature (first_Cell.spec 𝓛 mem run)) known-first-cell (to (for-first-cell (loan_ref κ0 q0 code#) code#.now (loan_slice κ2 q2 records#) records#.now here own 4)) (for-first-cell (loan_ref κ0 q0 code#) code#.now (loan_slice κ2 q2 records#) records#.now here own 4) refl (g-here, (g-own, ((refl, omega arith), tt))) _ (facts.asks-first-cell-8 code#.now cells#.now records#.now here own class pre (not_equal class 1 y1) (not_equal class 3 y2) (eqb→eq class 2 y3)) (id⊢ 𝓤 _) usizes _ (λ v. id⊢ 𝓤 _)
+        calls_by ! (fm_of 𝓤 H 𝓛.laws 𝓣) (triple_of 𝓛 first_Cell.signature (first_Cell.spec 𝓛 mem run)) known-first-cell (to (for-first-cell (loan_ref κ0 q0 code#) code#.now (loan_slice κ2 q2 records#) records#.now here own 4)) (for-first-cell (loan_ref κ0 q0 code#) code#.now (loan_slice κ2 q2 records#) records#.now here own 4) refl (g-here, (g-own, ((refl, omega arith), tt))) _ (facts.asks-first_cell-8 code#.now cells#.now records#.now here own class pre (not_equal class 1 y1) (not_equal class 3 y2) (eqb→eq class 2 y3)) (id⊢ 𝓤 _) usizes _ (λ v. id⊢ 𝓤 _)
         (and_then ! (var ! 3 1 refl refl tt) (and_then ! (var ! 3 3 refl refl tt) (and_then ! (var ! 3 4 refl refl tt) (and_then ! (var ! 3 5 refl refl tt) (and_then ! (lit ! tt) (no_more !)))))) (λ third12 _ g-third12 e12 _.
         lands-in ! 3 16 refl tt (typed 𝓛 usizes third12 g-third12) $
-        calls_by ! (fm_of 𝓤 H 𝓛.laws 𝓣) (triple_of 𝓛 first_Cell.signature (first_Cell.spec 𝓛 mem run)) known-first-cell (to (for-first-cell (loan_ref κ0 q0 code#) code#.now (loan_slice κ2 q2 records#) records#.now here own 1)) (for-first-cell (loan_ref κ0 q0 code#) code#.now (loan_slice κ2 q2 records#) records#.now here own 1) refl (g-here, (g-own, ((refl, omega arith), tt))) _ (facts.asks-first-cell-9 code#.now cells#.now records#.now here own class pre (not_equal class 1 y1) (not_equal class 3 y2) (eqb→eq class 2 y3)) (id⊢ 𝓤 _) usizes _ (λ v. id⊢ 𝓤 _)
+        calls_by ! (fm_of 𝓤 H 𝓛.laws 𝓣) (triple_of 𝓛 first_Cell.signature (first_Cell.spec 𝓛 mem run)) known-first-cell (to (for-first-cell (loan_ref κ0 q0 code#) code#.now (loan_slice κ2 q2 records#) records#.now here own 1)) (for-first-cell (loan_ref κ0 q0 code#) code#.now (loan_slice κ2 q2 records#) records#.now here own 1) refl (g-here, (g-own, ((refl, omega arith), tt))) _ (facts.asks-first_cell-9 code#.now cells#.now records#.now here own class pre (not_equal class 1 y1) (not_equal class 3 y2) (eqb→eq class 2 y3)) (id⊢ 𝓤 _) usizes _ (λ v. id⊢ 𝓤 _)
         (and_then ! (var ! 3 1 refl refl tt) (and_then ! (var ! 3 3 refl refl tt) (and_then ! (var ! 3 4 refl refl tt) (and_then ! (var ! 3 5 refl refl tt) (and_then ! (lit ! tt) (no_more !)))))) (λ first13 _ g-first13 e13 _.
         lands-in ! 3 17 refl tt (typed 𝓛 usizes first13 g-first13) $
         puts ! 3 26 refl (lent ! 3 2 refl refl tt) tt (tt, tt) $
-        move ! (0 ∷ 2 ∷ []) $ calls_by ! (fm_of 𝓤 H 𝓛.laws 𝓣) (triple_of 𝓛 do-subtract.signature (do-subtract.spec 𝓛 mem run)) known-do-subtract (to (for-do-subtract (loan_ref κ0 q0 code#) code#.now (loan_ref κ1 q1 cells#) cells#.now here.at first13 second11 third12)) (for-do-subtract (loan_ref κ0 q0 code#) code#.now (loan_ref κ1 q1 cells#) cells#.now here.at first13 second11 third12) refl ((owed Registers#.the_type Registers'.the_laws here _ g-here).1.0, (g-first13, (g-second11, (g-third12, tt)))) _ (facts.asks-do-subtract code#.now cells#.now records#.now here own class pre (not_equal class 1 y1) (not_equal class 3 y2) (eqb→eq class 2 y3) second11 e11 third12 e12 first13 e13) (id⊢ 𝓤 _) moves _ (λ v. id⊢ 𝓤 _)
+        move ! (0 ∷ 2 ∷ []) $ calls_by ! (fm_of 𝓤 H 𝓛.laws 𝓣) (triple_of 𝓛 do-subtract.signature (do-subtract.spec 𝓛 mem run)) known-do-subtract (to (for-do-subtract (loan_ref κ0 q0 code#) code#.now (loan_ref κ1 q1 cells#) cells#.now here.at first13 second11 third12)) (for-do-subtract (loan_ref κ0 q0 code#) code#.now (loan_ref κ1 q1 cells#) cells#.now here.at first13 second11 third12) refl ((owed Registers#.the_type Registers'.the_laws here _ g-here).1.0, (g-first13, (g-second11, (g-third12, tt)))) _ (facts.asks-do_subtract code#.now cells#.now records#.now here own class pre (not_equal class 1 y1) (not_equal class 3 y2) (eqb→eq class 2 y3) second11 e11 third12 e12 first13 e13) (id⊢ 𝓤 _) moves _ (λ v. id⊢ 𝓤 _)
         (and_then ! (var ! 3 1 refl refl tt) (and_then ! (var ! 3 26 refl refl tt) (and_then ! (part ! 3 4 1 refl refl tt refl refl refl) (and_then ! (var ! 3 17 refl refl tt) (and_then ! (var ! 3 15 refl refl tt) (and_then ! (var ! 3 16 refl refl tt) (no_more !))))))) (λ done14 ws14 g-done14 e14 _.
         lands-in ! 3 18 refl tt (typed 𝓛 moves done14 g-done14) $
         calls_by ! (fm_of 𝓤 H 𝓛.laws 𝓣) (triple_of 𝓛 came-to.signature (came-to.spec 𝓛 mem run)) known-came-to (to (for-came-to here done14)) (for-came-to here done14) refl (g-here, (g-done14, tt)) (Unit {0}) tt (asks-all 𝓤 𝓛 (for-came-to here done14) []) moveds _ (λ v. id⊢ 𝓤 _)
@@ -191,17 +191,17 @@ module _ {M : Type 1} {𝓤 : Ura M} (𝓛 : Logic 𝓤) (mem : Memory → SProp
         lands-in ! 3 0 refl tt (typed 𝓛 moveds came-to15 g-came-to15) $
         ends-early ! 3 Post refl refl refl tt $ by ! (exits came-to15 ws14.1.0 g-came-to15 (facts.says-3 code#.now cells#.now records#.now here own class pre (not_equal class 1 y1) (not_equal class 3 y2) (eqb→eq class 2 y3) second11 e11 third12 e12 first13 e13 done14 ws14.1.0 e14 came-to15 e15))))))))
         (λ y3.
-        move ! (0 ∷ 2 ∷ []) $ calls_by ! (fm_of 𝓤 H 𝓛.laws 𝓣) (triple_of 𝓛 first_Cell.signature (first_Cell.spec 𝓛 mem run)) known-first-cell (to (for-first-cell (loan_ref κ0 q0 code#) code#.now (loan_slice κ2 q2 records#) records#.now here own 3)) (for-first-cell (loan_ref κ0 q0 code#) code#.now (loan_slice κ2 q2 records#) records#.now here own 3) refl (g-here, (g-own, ((refl, omega arith), tt))) _ (facts.asks-first-cell-10 code#.now cells#.now records#.now here own class pre (not_equal class 1 y1) (not_equal class 3 y2) (not_equal class 2 y3)) (id⊢ 𝓤 _) usizes _ (λ v. id⊢ 𝓤 _)
+        move ! (0 ∷ 2 ∷ []) $ calls_by ! (fm_of 𝓤 H 𝓛.laws 𝓣) (triple_of 𝓛 first_Cell.signature (first_Cell.spec 𝓛 mem run)) known-first-cell (to (for-first-cell (loan_ref κ0 q0 code#) code#.now (loan_slice κ2 q2 records#) records#.now here own 3)) (for-first-cell (loan_ref κ0 q0 code#) code#.now (loan_slice κ2 q2 records#) records#.now here own 3) refl (g-here, (g-own, ((refl, omega arith), tt))) _ (facts.asks-first_cell-10 code#.now cells#.now records#.now here own class pre (not_equal class 1 y1) (not_equal class 3 y2) (not_equal class 2 y3)) (id⊢ 𝓤 _) usizes _ (λ v. id⊢ 𝓤 _)
         (and_then ! (var ! 3 1 refl refl tt) (and_then ! (var ! 3 3 refl refl tt) (and_then ! (var ! 3 4 refl refl tt) (and_then ! (var ! 3 5 refl refl tt) (and_then ! (lit ! tt) (no_more !)))))) (λ second16 _ g-second16 e16 _.
         lands-in ! 3 19 refl tt (typed 𝓛 usizes second16 g-second16) $
-        calls_by ! (fm_of 𝓤 H 𝓛.laws 𝓣) (triple_of 𝓛 first_Cell.signature (first_Cell.spec 𝓛 mem run)) known-first-cell (to (for-first-cell (loan_ref κ0 q0 code#) code#.now (loan_slice κ2 q2 records#) records#.now here own 4)) (for-first-cell (loan_ref κ0 q0 code#) code#.now (loan_slice κ2 q2 records#) records#.now here own 4) refl (g-here, (g-own, ((refl, omega arith), tt))) _ (facts.asks-first-cell-11 code#.now cells#.now records#.now here own class pre (not_equal class 1 y1) (not_equal class 3 y2) (not_equal class 2 y3)) (id⊢ 𝓤 _) usizes _ (λ v. id⊢ 𝓤 _)
+        calls_by ! (fm_of 𝓤 H 𝓛.laws 𝓣) (triple_of 𝓛 first_Cell.signature (first_Cell.spec 𝓛 mem run)) known-first-cell (to (for-first-cell (loan_ref κ0 q0 code#) code#.now (loan_slice κ2 q2 records#) records#.now here own 4)) (for-first-cell (loan_ref κ0 q0 code#) code#.now (loan_slice κ2 q2 records#) records#.now here own 4) refl (g-here, (g-own, ((refl, omega arith), tt))) _ (facts.asks-first_cell-11 code#.now cells#.now records#.now here own class pre (not_equal class 1 y1) (not_equal class 3 y2) (not_equal class 2 y3)) (id⊢ 𝓤 _) usizes _ (λ v. id⊢ 𝓤 _)
         (and_then ! (var ! 3 1 refl refl tt) (and_then ! (var ! 3 3 refl refl tt) (and_then ! (var ! 3 4 refl refl tt) (and_then ! (var ! 3 5 refl refl tt) (and_then ! (lit ! tt) (no_more !)))))) (λ third17 _ g-third17 e17 _.
         lands-in ! 3 20 refl tt (typed 𝓛 usizes third17 g-third17) $
-        calls_by ! (fm_of 𝓤 H 𝓛.laws 𝓣) (triple_of 𝓛 first_Cell.signature (first_Cell.spec 𝓛 mem run)) known-first-cell (to (for-first-cell (loan_ref κ0 q0 code#) code#.now (loan_slice κ2 q2 records#) records#.now here own 1)) (for-first-cell (loan_ref κ0 q0 code#) code#.now (loan_slice κ2 q2 records#) records#.now here own 1) refl (g-here, (g-own, ((refl, omega arith), tt))) _ (facts.asks-first-cell-12 code#.now cells#.now records#.now here own class pre (not_equal class 1 y1) (not_equal class 3 y2) (not_equal class 2 y3)) (id⊢ 𝓤 _) usizes _ (λ v. id⊢ 𝓤 _)
+        calls_by ! (fm_of 𝓤 H 𝓛.laws 𝓣) (triple_of 𝓛 first_Cell.signature (first_Cell.spec 𝓛 mem run)) known-first-cell (to (for-first-cell (loan_ref κ0 q0 code#) code#.now (loan_slice κ2 q2 records#) records#.now here own 1)) (for-first-cell (loan_ref κ0 q0 code#) code#.now (loan_slice κ2 q2 records#) records#.now here own 1) refl (g-here, (g-own, ((refl, omega arith), tt))) _ (facts.asks-first_cell-12 code#.now cells#.now records#.now here own class pre (not_equal class 1 y1) (not_equal class 3 y2) (not_equal class 2 y3)) (id⊢ 𝓤 _) usizes _ (λ v. id⊢ 𝓤 _)
         (and_then ! (var ! 3 1 refl refl tt) (and_then ! (var ! 3 3 refl refl tt) (and_then ! (var ! 3 4 refl refl tt) (and_then ! (var ! 3 5 refl refl tt) (and_then ! (lit ! tt) (no_more !)))))) (λ first18 _ g-first18 e18 _.
         lands-in ! 3 21 refl tt (typed 𝓛 usizes first18 g-first18) $
         puts ! 3 27 refl (lent ! 3 2 refl refl tt) tt (tt, tt) $
-        move ! (0 ∷ 2 ∷ []) $ calls_by ! (fm_of 𝓤 H 𝓛.laws 𝓣) (triple_of 𝓛 do-arithmetic-formal.signature (do-arithmetic-formal.spec 𝓛 mem run)) known-do-arithmetic-formal (to (for-do-arithmetic-formal (loan_ref κ0 q0 code#) code#.now (loan_ref κ1 q1 cells#) cells#.now here.at first18 second16 third17)) (for-do-arithmetic-formal (loan_ref κ0 q0 code#) code#.now (loan_ref κ1 q1 cells#) cells#.now here.at first18 second16 third17) refl ((owed Registers#.the_type Registers'.the_laws here _ g-here).1.0, (g-first18, (g-second16, (g-third17, tt)))) _ (facts.asks-do-arithmetic-formal code#.now cells#.now records#.now here own class pre (not_equal class 1 y1) (not_equal class 3 y2) (not_equal class 2 y3) second16 e16 third17 e17 first18 e18) (id⊢ 𝓤 _) moves _ (λ v. id⊢ 𝓤 _)
+        move ! (0 ∷ 2 ∷ []) $ calls_by ! (fm_of 𝓤 H 𝓛.laws 𝓣) (triple_of 𝓛 do-arithmetic-formal.signature (do-arithmetic-formal.spec 𝓛 mem run)) known-do-arithmetic-formal (to (for-do-arithmetic-formal (loan_ref κ0 q0 code#) code#.now (loan_ref κ1 q1 cells#) cells#.now here.at first18 second16 third17)) (for-do-arithmetic-formal (loan_ref κ0 q0 code#) code#.now (loan_ref κ1 q1 cells#) cells#.now here.at first18 second16 third17) refl ((owed Registers#.the_type Registers'.the_laws here _ g-here).1.0, (g-first18, (g-second16, (g-third17, tt)))) _ (facts.asks-do_arithmetic_formal code#.now cells#.now records#.now here own class pre (not_equal class 1 y1) (not_equal class 3 y2) (not_equal class 2 y3) second16 e16 third17 e17 first18 e18) (id⊢ 𝓤 _) moves _ (λ v. id⊢ 𝓤 _)
         (and_then ! (var ! 3 1 refl refl tt) (and_then ! (var ! 3 27 refl refl tt) (and_then ! (part ! 3 4 1 refl refl tt refl refl refl) (and_then ! (var ! 3 21 refl refl tt) (and_then ! (var ! 3 19 refl refl tt) (and_then ! (var ! 3 20 refl refl tt) (no_more !))))))) (λ done19 ws19 g-done19 e19 _.
         lands-in ! 3 22 refl tt (typed 𝓛 moves done19 g-done19) $
         calls_by ! (fm_of 𝓤 H 𝓛.laws 𝓣) (triple_of 𝓛 came-to.signature (came-to.spec 𝓛 mem run)) known-came-to (to (for-came-to here done19)) (for-came-to here done19) refl (g-here, (g-done19, tt)) (Unit {0}) tt (asks-all 𝓤 𝓛 (for-came-to here done19) []) moveds _ (λ v. id⊢ 𝓤 _)
@@ -226,14 +226,14 @@ module _ {M : Type 1} {𝓤 : Ura M} (𝓛 : Logic 𝓤) (mem : Memory → SProp
       (λ κs. (shr_Tells (named 0) κs.0 (Array u32 tt 4096), (mut_Tells (named 1) κs.1.0 (Array i32 tt 8224), (shr_slice_Tells (named 2) κs.1.1.0 recs.type, (registers.tells, (usizes.tells, (usizes.tells, tt)))))))
       (λ κs qs bounds a g are. needs 𝓤 (said.Pre a.0.now a.1.0.now a.1.1.0.now a.1.1.1.0 a.1.1.1.1.0 a.1.1.1.1.1.0) _ (λ pre. walk 𝓛 mem run κs.0 κs.1.0 κs.1.1.0 qs.0 qs.1.0 qs.1.1.0 a.0 a.1.0 a.1.1.0 a.1.1.1.0 a.1.1.1.1.0 a.1.1.1.1.1.0 are.1.1.0.0.1 are.1.1.1.0 are.1.1.1.1.0 are.1.1.1.1.1.0 pre 𝓣 known-first-cell known-do-add known-came-to known-do-compare known-do-subtract known-do-arithmetic-formal)))
 
-pub summed-spec : {M : Type 1} → stated.statement M
+pub summed_spec : {M : Type 1} → stated.statement M
 unfolding mine.routine tables_of
-summed-spec 𝓤 𝓛 𝓜 𝓡 =
+summed_spec 𝓤 𝓛 𝓜 𝓡 =
     by-walk 𝓤 𝓛.H 𝓜 𝓡 mine.env #me mine.function (triple_of 𝓛 f.signature (f.spec 𝓛 𝓜.mem 𝓡.run)) (mine.unfolded 𝓤 𝓛.H 𝓜 𝓡)
     (meets 𝓛 𝓜.mem 𝓡.run (tables_of 𝓤 𝓛.H 𝓜 (tables 𝓤 𝓛.H 𝓜 𝓡 mine.env))
-    (cited 𝓤 𝓛.H (triple_of 𝓛 first_Cell.signature (first_Cell.spec 𝓛 𝓜.mem 𝓡.run)) 𝓜 𝓡 mine.env #first-cell first-cell-def.routine mine.calls-chain-links::first-cell (first-cell-thm.met 𝓤 𝓛 𝓜 𝓡))
-    (cited 𝓤 𝓛.H (triple_of 𝓛 do-add.signature (do-add.spec 𝓛 𝓜.mem 𝓡.run)) 𝓜 𝓡 mine.env #do-add do-add-def.routine mine.calls-run-cells::do-add (do-add-thm.met 𝓤 𝓛 𝓜 𝓡))
-    (cited 𝓤 𝓛.H (triple_of 𝓛 came-to.signature (came-to.spec 𝓛 𝓜.mem 𝓡.run)) 𝓜 𝓡 mine.env #came-to came-to-def.routine mine.calls-chain-step::turn::came-to (came-to-thm.met 𝓤 𝓛 𝓜 𝓡))
-    (cited 𝓤 𝓛.H (triple_of 𝓛 do-compare.signature (do-compare.spec 𝓛 𝓜.mem 𝓡.run)) 𝓜 𝓡 mine.env #do-compare do-compare-def.routine mine.calls-run-cells::do-compare (do-compare-thm.met 𝓤 𝓛 𝓜 𝓡))
-    (cited 𝓤 𝓛.H (triple_of 𝓛 do-subtract.signature (do-subtract.spec 𝓛 𝓜.mem 𝓡.run)) 𝓜 𝓡 mine.env #do-subtract do-subtract-def.routine mine.calls-run-cells::do-subtract (do-subtract-thm.met 𝓤 𝓛 𝓜 𝓡))
-    (cited 𝓤 𝓛.H (triple_of 𝓛 do-arithmetic-formal.signature (do-arithmetic-formal.spec 𝓛 𝓜.mem 𝓡.run)) 𝓜 𝓡 mine.env #do-arithmetic-formal do-arithmetic-formal-def.routine mine.calls-run-cells::do-arithmetic-formal (do-arithmetic-formal-thm.met 𝓤 𝓛 𝓜 𝓡)))
+    (cited 𝓤 𝓛.H (triple_of 𝓛 first_Cell.signature (first_Cell.spec 𝓛 𝓜.mem 𝓡.run)) 𝓜 𝓡 mine.env #first-cell first-cell-def.routine mine.calls-chain_links::first_cell (first-cell-thm.met 𝓤 𝓛 𝓜 𝓡))
+    (cited 𝓤 𝓛.H (triple_of 𝓛 do-add.signature (do-add.spec 𝓛 𝓜.mem 𝓡.run)) 𝓜 𝓡 mine.env #do-add do-add-def.routine mine.calls-run_cells::do_add (do-add-thm.met 𝓤 𝓛 𝓜 𝓡))
+    (cited 𝓤 𝓛.H (triple_of 𝓛 came-to.signature (came-to.spec 𝓛 𝓜.mem 𝓡.run)) 𝓜 𝓡 mine.env #came-to came-to-def.routine mine.calls-chain_step::turn::came_to (came-to-thm.met 𝓤 𝓛 𝓜 𝓡))
+    (cited 𝓤 𝓛.H (triple_of 𝓛 do-compare.signature (do-compare.spec 𝓛 𝓜.mem 𝓡.run)) 𝓜 𝓡 mine.env #do-compare do-compare-def.routine mine.calls-run_cells::do_compare (do-compare-thm.met 𝓤 𝓛 𝓜 𝓡))
+    (cited 𝓤 𝓛.H (triple_of 𝓛 do-subtract.signature (do-subtract.spec 𝓛 𝓜.mem 𝓡.run)) 𝓜 𝓡 mine.env #do-subtract do-subtract-def.routine mine.calls-run_cells::do_subtract (do-subtract-thm.met 𝓤 𝓛 𝓜 𝓡))
+    (cited 𝓤 𝓛.H (triple_of 𝓛 do-arithmetic-formal.signature (do-arithmetic-formal.spec 𝓛 𝓜.mem 𝓡.run)) 𝓜 𝓡 mine.env #do-arithmetic-formal do-arithmetic-formal-def.routine mine.calls-run_cells::do_arithmetic_formal (do-arithmetic-formal-thm.met 𝓤 𝓛 𝓜 𝓡)))

@@ -115,13 +115,13 @@ module _ {M : Type 1} {𝓤 : Ura M} (𝓛 : Logic 𝓤) (mem : Memory → SProp
         puts ! 3 14 refl (bin ! (var ! 3 6 refl refl tt) (lit ! tt) tt) tt (tt, tt) $
         if-then ! (var ! 3 14 refl refl tt)
         (λ y1.
-        move ! (0 ∷ 2 ∷ []) $ calls_by ! (fm_of 𝓤 H 𝓛.laws 𝓣) (triple_of 𝓛 first_Cell.signature (first_Cell.spec 𝓛 mem run)) known-first-cell (to (for-first-cell (loan_ref κ0 q0 code#) code#.now (loan_slice κ2 q2 records#) records#.now here own 1)) (for-first-cell (loan_ref κ0 q0 code#) code#.now (loan_slice κ2 q2 records#) records#.now here own 1) refl (g-here, (g-own, ((refl, omega arith), tt))) _ (facts.asks-first-cell code#.now cells#.now records#.now here own class pre (eqb→eq class 6 y1)) (id⊢ 𝓤 _) usizes _ (λ v. id⊢ 𝓤 _)
+        move ! (0 ∷ 2 ∷ []) $ calls_by ! (fm_of 𝓤 H 𝓛.laws 𝓣) (triple_of 𝓛 first_Cell.signature (first_Cell.spec 𝓛 mem run)) known-first-cell (to (for-first-cell (loan_ref κ0 q0 code#) code#.now (loan_slice κ2 q2 records#) records#.now here own 1)) (for-first-cell (loan_ref κ0 q0 code#) code#.now (loan_slice κ2 q2 records#) records#.now here own 1) refl (g-here, (g-own, ((refl, omega arith), tt))) _ (facts.asks-first_cell code#.now cells#.now records#.now here own class pre (eqb→eq class 6 y1)) (id⊢ 𝓤 _) usizes _ (λ v. id⊢ 𝓤 _)
         (and_then ! (var ! 3 1 refl refl tt) (and_then ! (var ! 3 3 refl refl tt) (and_then ! (var ! 3 4 refl refl tt) (and_then ! (var ! 3 5 refl refl tt) (and_then ! (lit ! tt) (no_more !)))))) (λ first1 _ g-first1 e1 _.
         lands-in ! 3 7 refl tt (typed 𝓛 usizes first1 g-first1) $
-        calls_by ! (fm_of 𝓤 H 𝓛.laws 𝓣) (triple_of 𝓛 first_Cell.signature (first_Cell.spec 𝓛 mem run)) known-first-cell (to (for-first-cell (loan_ref κ0 q0 code#) code#.now (loan_slice κ2 q2 records#) records#.now here own 2)) (for-first-cell (loan_ref κ0 q0 code#) code#.now (loan_slice κ2 q2 records#) records#.now here own 2) refl (g-here, (g-own, ((refl, omega arith), tt))) _ (facts.asks-first-cell-2 code#.now cells#.now records#.now here own class pre (eqb→eq class 6 y1)) (id⊢ 𝓤 _) usizes _ (λ v. id⊢ 𝓤 _)
+        calls_by ! (fm_of 𝓤 H 𝓛.laws 𝓣) (triple_of 𝓛 first_Cell.signature (first_Cell.spec 𝓛 mem run)) known-first-cell (to (for-first-cell (loan_ref κ0 q0 code#) code#.now (loan_slice κ2 q2 records#) records#.now here own 2)) (for-first-cell (loan_ref κ0 q0 code#) code#.now (loan_slice κ2 q2 records#) records#.now here own 2) refl (g-here, (g-own, ((refl, omega arith), tt))) _ (facts.asks-first_cell-2 code#.now cells#.now records#.now here own class pre (eqb→eq class 6 y1)) (id⊢ 𝓤 _) usizes _ (λ v. id⊢ 𝓤 _)
         (and_then ! (var ! 3 1 refl refl tt) (and_then ! (var ! 3 3 refl refl tt) (and_then ! (var ! 3 4 refl refl tt) (and_then ! (var ! 3 5 refl refl tt) (and_then ! (lit ! tt) (no_more !)))))) (λ second2 _ g-second2 e2 _.
         lands-in ! 3 8 refl tt (typed 𝓛 usizes second2 g-second2) $
-        move ! (0 ∷ 2 ∷ []) $ calls_by ! (fm_of 𝓤 H 𝓛.laws 𝓣) (triple_of 𝓛 act-pair.signature (act-pair.spec 𝓛 mem run)) known-act-pair (to (for-act-pair (loan_ref κ0 q0 code#) code#.now (loan_ref κ1 q1 cells#) cells#.now here.at first1 second2)) (for-act-pair (loan_ref κ0 q0 code#) code#.now (loan_ref κ1 q1 cells#) cells#.now here.at first1 second2) refl ((owed Registers#.the_type Registers'.the_laws here _ g-here).1.0, (g-first1, (g-second2, tt))) _ (facts.asks-act-pair code#.now cells#.now records#.now here own class pre (eqb→eq class 6 y1) first1 e1 second2 e2) (id⊢ 𝓤 _) moves _ (λ v. id⊢ 𝓤 _)
+        move ! (0 ∷ 2 ∷ []) $ calls_by ! (fm_of 𝓤 H 𝓛.laws 𝓣) (triple_of 𝓛 act-pair.signature (act-pair.spec 𝓛 mem run)) known-act-pair (to (for-act-pair (loan_ref κ0 q0 code#) code#.now (loan_ref κ1 q1 cells#) cells#.now here.at first1 second2)) (for-act-pair (loan_ref κ0 q0 code#) code#.now (loan_ref κ1 q1 cells#) cells#.now here.at first1 second2) refl ((owed Registers#.the_type Registers'.the_laws here _ g-here).1.0, (g-first1, (g-second2, tt))) _ (facts.asks-act_pair code#.now cells#.now records#.now here own class pre (eqb→eq class 6 y1) first1 e1 second2 e2) (id⊢ 𝓤 _) moves _ (λ v. id⊢ 𝓤 _)
         (and_then ! (var ! 3 1 refl refl tt) (and_then ! (var ! 3 2 refl refl tt) (and_then ! (part ! 3 4 1 refl refl tt refl refl refl) (and_then ! (var ! 3 7 refl refl tt) (and_then ! (var ! 3 8 refl refl tt) (no_more !)))))) (λ done3 _ g-done3 e3 _.
         lands-in ! 3 9 refl tt (typed 𝓛 moves done3 g-done3) $
         calls_by ! (fm_of 𝓤 H 𝓛.laws 𝓣) (triple_of 𝓛 came-to.signature (came-to.spec 𝓛 mem run)) known-came-to (to (for-came-to here done3)) (for-came-to here done3) refl (g-here, (g-done3, tt)) (Unit {0}) tt (asks-all 𝓤 𝓛 (for-came-to here done3) []) moveds _ (λ v. id⊢ 𝓤 _)
@@ -129,16 +129,16 @@ module _ {M : Type 1} {𝓤 : Ura M} (𝓛 : Logic 𝓤) (mem : Memory → SProp
         lands-in ! 3 0 refl tt (typed 𝓛 moveds came-to4 g-came-to4) $
         ends-early ! 3 Post refl refl refl tt $ by ! (exits came-to4 g-came-to4 (facts.says-1 code#.now cells#.now records#.now here own class pre (eqb→eq class 6 y1) first1 e1 second2 e2 done3 e3 came-to4 e4)))))))
         (λ y1.
-        move ! (0 ∷ 2 ∷ []) $ calls_by ! (fm_of 𝓤 H 𝓛.laws 𝓣) (triple_of 𝓛 first_Cell.signature (first_Cell.spec 𝓛 mem run)) known-first-cell (to (for-first-cell (loan_ref κ0 q0 code#) code#.now (loan_slice κ2 q2 records#) records#.now here own 1)) (for-first-cell (loan_ref κ0 q0 code#) code#.now (loan_slice κ2 q2 records#) records#.now here own 1) refl (g-here, (g-own, ((refl, omega arith), tt))) _ (facts.asks-first-cell-3 code#.now cells#.now records#.now here own class pre (not_equal class 6 y1)) (id⊢ 𝓤 _) usizes _ (λ v. id⊢ 𝓤 _)
+        move ! (0 ∷ 2 ∷ []) $ calls_by ! (fm_of 𝓤 H 𝓛.laws 𝓣) (triple_of 𝓛 first_Cell.signature (first_Cell.spec 𝓛 mem run)) known-first-cell (to (for-first-cell (loan_ref κ0 q0 code#) code#.now (loan_slice κ2 q2 records#) records#.now here own 1)) (for-first-cell (loan_ref κ0 q0 code#) code#.now (loan_slice κ2 q2 records#) records#.now here own 1) refl (g-here, (g-own, ((refl, omega arith), tt))) _ (facts.asks-first_cell-3 code#.now cells#.now records#.now here own class pre (not_equal class 6 y1)) (id⊢ 𝓤 _) usizes _ (λ v. id⊢ 𝓤 _)
         (and_then ! (var ! 3 1 refl refl tt) (and_then ! (var ! 3 3 refl refl tt) (and_then ! (var ! 3 4 refl refl tt) (and_then ! (var ! 3 5 refl refl tt) (and_then ! (lit ! tt) (no_more !)))))) (λ first5 _ g-first5 e5 _.
         lands-in ! 3 10 refl tt (typed 𝓛 usizes first5 g-first5) $
-        calls_by ! (fm_of 𝓤 H 𝓛.laws 𝓣) (triple_of 𝓛 first_Cell.signature (first_Cell.spec 𝓛 mem run)) known-first-cell (to (for-first-cell (loan_ref κ0 q0 code#) code#.now (loan_slice κ2 q2 records#) records#.now here own 2)) (for-first-cell (loan_ref κ0 q0 code#) code#.now (loan_slice κ2 q2 records#) records#.now here own 2) refl (g-here, (g-own, ((refl, omega arith), tt))) _ (facts.asks-first-cell-4 code#.now cells#.now records#.now here own class pre (not_equal class 6 y1)) (id⊢ 𝓤 _) usizes _ (λ v. id⊢ 𝓤 _)
+        calls_by ! (fm_of 𝓤 H 𝓛.laws 𝓣) (triple_of 𝓛 first_Cell.signature (first_Cell.spec 𝓛 mem run)) known-first-cell (to (for-first-cell (loan_ref κ0 q0 code#) code#.now (loan_slice κ2 q2 records#) records#.now here own 2)) (for-first-cell (loan_ref κ0 q0 code#) code#.now (loan_slice κ2 q2 records#) records#.now here own 2) refl (g-here, (g-own, ((refl, omega arith), tt))) _ (facts.asks-first_cell-4 code#.now cells#.now records#.now here own class pre (not_equal class 6 y1)) (id⊢ 𝓤 _) usizes _ (λ v. id⊢ 𝓤 _)
         (and_then ! (var ! 3 1 refl refl tt) (and_then ! (var ! 3 3 refl refl tt) (and_then ! (var ! 3 4 refl refl tt) (and_then ! (var ! 3 5 refl refl tt) (and_then ! (lit ! tt) (no_more !)))))) (λ second6 _ g-second6 e6 _.
         lands-in ! 3 11 refl tt (typed 𝓛 usizes second6 g-second6) $
-        calls_by ! (fm_of 𝓤 H 𝓛.laws 𝓣) (triple_of 𝓛 first_Cell.signature (first_Cell.spec 𝓛 mem run)) known-first-cell (to (for-first-cell (loan_ref κ0 q0 code#) code#.now (loan_slice κ2 q2 records#) records#.now here own 3)) (for-first-cell (loan_ref κ0 q0 code#) code#.now (loan_slice κ2 q2 records#) records#.now here own 3) refl (g-here, (g-own, ((refl, omega arith), tt))) _ (facts.asks-first-cell-5 code#.now cells#.now records#.now here own class pre (not_equal class 6 y1)) (id⊢ 𝓤 _) usizes _ (λ v. id⊢ 𝓤 _)
+        calls_by ! (fm_of 𝓤 H 𝓛.laws 𝓣) (triple_of 𝓛 first_Cell.signature (first_Cell.spec 𝓛 mem run)) known-first-cell (to (for-first-cell (loan_ref κ0 q0 code#) code#.now (loan_slice κ2 q2 records#) records#.now here own 3)) (for-first-cell (loan_ref κ0 q0 code#) code#.now (loan_slice κ2 q2 records#) records#.now here own 3) refl (g-here, (g-own, ((refl, omega arith), tt))) _ (facts.asks-first_cell-5 code#.now cells#.now records#.now here own class pre (not_equal class 6 y1)) (id⊢ 𝓤 _) usizes _ (λ v. id⊢ 𝓤 _)
         (and_then ! (var ! 3 1 refl refl tt) (and_then ! (var ! 3 3 refl refl tt) (and_then ! (var ! 3 4 refl refl tt) (and_then ! (var ! 3 5 refl refl tt) (and_then ! (lit ! tt) (no_more !)))))) (λ third7 _ g-third7 e7 _.
         lands-in ! 3 12 refl tt (typed 𝓛 usizes third7 g-third7) $
-        move ! (0 ∷ 2 ∷ []) $ calls_by ! (fm_of 𝓤 H 𝓛.laws 𝓣) (triple_of 𝓛 do-query.signature (do-query.spec 𝓛 mem run)) known-do-query (to (for-do-query (loan_ref κ0 q0 code#) code#.now (loan_ref κ1 q1 cells#) cells#.now here.at first5 second6 third7)) (for-do-query (loan_ref κ0 q0 code#) code#.now (loan_ref κ1 q1 cells#) cells#.now here.at first5 second6 third7) refl ((owed Registers#.the_type Registers'.the_laws here _ g-here).1.0, (g-first5, (g-second6, (g-third7, tt)))) _ (facts.asks-do-query code#.now cells#.now records#.now here own class pre (not_equal class 6 y1) first5 e5 second6 e6 third7 e7) (id⊢ 𝓤 _) moves _ (λ v. id⊢ 𝓤 _)
+        move ! (0 ∷ 2 ∷ []) $ calls_by ! (fm_of 𝓤 H 𝓛.laws 𝓣) (triple_of 𝓛 do-query.signature (do-query.spec 𝓛 mem run)) known-do-query (to (for-do-query (loan_ref κ0 q0 code#) code#.now (loan_ref κ1 q1 cells#) cells#.now here.at first5 second6 third7)) (for-do-query (loan_ref κ0 q0 code#) code#.now (loan_ref κ1 q1 cells#) cells#.now here.at first5 second6 third7) refl ((owed Registers#.the_type Registers'.the_laws here _ g-here).1.0, (g-first5, (g-second6, (g-third7, tt)))) _ (facts.asks-do_query code#.now cells#.now records#.now here own class pre (not_equal class 6 y1) first5 e5 second6 e6 third7 e7) (id⊢ 𝓤 _) moves _ (λ v. id⊢ 𝓤 _)
         (and_then ! (var ! 3 1 refl refl tt) (and_then ! (var ! 3 2 refl refl tt) (and_then ! (part ! 3 4 1 refl refl tt refl refl refl) (and_then ! (var ! 3 10 refl refl tt) (and_then ! (var ! 3 11 refl refl tt) (and_then ! (var ! 3 12 refl refl tt) (no_more !))))))) (λ done8 _ g-done8 e8 _.
         lands-in ! 3 13 refl tt (typed 𝓛 moves done8 g-done8) $
         calls_by ! (fm_of 𝓤 H 𝓛.laws 𝓣) (triple_of 𝓛 came-to.signature (came-to.spec 𝓛 mem run)) known-came-to (to (for-came-to here done8)) (for-came-to here done8) refl (g-here, (g-done8, tt)) (Unit {0}) tt (asks-all 𝓤 𝓛 (for-came-to here done8) []) moveds _ (λ v. id⊢ 𝓤 _)
@@ -161,12 +161,12 @@ module _ {M : Type 1} {𝓤 : Ura M} (𝓛 : Logic 𝓤) (mem : Memory → SProp
       (λ κs. (shr_Tells (named 0) κs.0 (Array u32 tt 4096), (shr_Tells (named 1) κs.1.0 (Array i32 tt 8224), (shr_slice_Tells (named 2) κs.1.1.0 recs.type, (registers.tells, (usizes.tells, (usizes.tells, tt)))))))
       (λ κs qs bounds a g are. needs 𝓤 (said.Pre a.0.now a.1.0.now a.1.1.0.now a.1.1.1.0 a.1.1.1.1.0 a.1.1.1.1.1.0) _ (λ pre. walk 𝓛 mem run κs.0 κs.1.0 κs.1.1.0 qs.0 qs.1.0 qs.1.1.0 a.0 a.1.0 a.1.1.0 a.1.1.1.0 a.1.1.1.1.0 a.1.1.1.1.1.0 are.1.1.0.0.1 are.1.1.1.0 are.1.1.1.1.0 are.1.1.1.1.1.0 pre 𝓣 known-first-cell known-act-pair known-came-to known-do-query)))
 
-pub tabled-spec : {M : Type 1} → stated.statement M
+pub tabled_spec : {M : Type 1} → stated.statement M
 unfolding mine.routine tables_of
-tabled-spec 𝓤 𝓛 𝓜 𝓡 =
+tabled_spec 𝓤 𝓛 𝓜 𝓡 =
     by-walk 𝓤 𝓛.H 𝓜 𝓡 mine.env #me mine.function (triple_of 𝓛 f.signature (f.spec 𝓛 𝓜.mem 𝓡.run)) (mine.unfolded 𝓤 𝓛.H 𝓜 𝓡)
     (meets 𝓛 𝓜.mem 𝓡.run (tables_of 𝓤 𝓛.H 𝓜 (tables 𝓤 𝓛.H 𝓜 𝓡 mine.env))
-    (cited 𝓤 𝓛.H (triple_of 𝓛 first_Cell.signature (first_Cell.spec 𝓛 𝓜.mem 𝓡.run)) 𝓜 𝓡 mine.env #first-cell first-cell-def.routine mine.calls-chain-links::first-cell (first-cell-thm.met 𝓤 𝓛 𝓜 𝓡))
-    (cited 𝓤 𝓛.H (triple_of 𝓛 act-pair.signature (act-pair.spec 𝓛 𝓜.mem 𝓡.run)) 𝓜 𝓡 mine.env #act-pair act-pair-def.routine mine.calls-run-classes::act-pair (act-pair-thm.met 𝓤 𝓛 𝓜 𝓡))
-    (cited 𝓤 𝓛.H (triple_of 𝓛 came-to.signature (came-to.spec 𝓛 𝓜.mem 𝓡.run)) 𝓜 𝓡 mine.env #came-to came-to-def.routine mine.calls-chain-step::turn::came-to (came-to-thm.met 𝓤 𝓛 𝓜 𝓡))
-    (cited 𝓤 𝓛.H (triple_of 𝓛 do-query.signature (do-query.spec 𝓛 𝓜.mem 𝓡.run)) 𝓜 𝓡 mine.env #do-query do-query-def.routine mine.calls-run-cells::do-query (do-query-thm.met 𝓤 𝓛 𝓜 𝓡)))
+    (cited 𝓤 𝓛.H (triple_of 𝓛 first_Cell.signature (first_Cell.spec 𝓛 𝓜.mem 𝓡.run)) 𝓜 𝓡 mine.env #first-cell first-cell-def.routine mine.calls-chain_links::first_cell (first-cell-thm.met 𝓤 𝓛 𝓜 𝓡))
+    (cited 𝓤 𝓛.H (triple_of 𝓛 act-pair.signature (act-pair.spec 𝓛 𝓜.mem 𝓡.run)) 𝓜 𝓡 mine.env #act-pair act-pair-def.routine mine.calls-run_classes::act_pair (act-pair-thm.met 𝓤 𝓛 𝓜 𝓡))
+    (cited 𝓤 𝓛.H (triple_of 𝓛 came-to.signature (came-to.spec 𝓛 𝓜.mem 𝓡.run)) 𝓜 𝓡 mine.env #came-to came-to-def.routine mine.calls-chain_step::turn::came_to (came-to-thm.met 𝓤 𝓛 𝓜 𝓡))
+    (cited 𝓤 𝓛.H (triple_of 𝓛 do-query.signature (do-query.spec 𝓛 𝓜.mem 𝓡.run)) 𝓜 𝓡 mine.env #do-query do-query-def.routine mine.calls-run_cells::do_query (do-query-thm.met 𝓤 𝓛 𝓜 𝓡)))

@@ -5,8 +5,8 @@ use borrow.Author.Rules.{rules}
 use Rattle.chain_step.proofs.turn.asked.Statement.{statement}
 use Rattle.chain_step.proofs.turn.asked.Tie as tie
 
-pub asked-spec : {M : Type 1} → statement M
-asked-spec =
+pub asked_spec : {M : Type 1} → statement M
+asked_spec =
     tie.close (tie.spec (λ c. search rules) (λ c κs. search rules) (λ c. search rules) (λ c κs. search rules) (λ c. search rules)
     (λ c κs. search rules) (λ c. search rules) (λ c. search rules) (λ c. with-list (add-answered _ _ (table_of _ _) _ _ _ (search rules) (search rules)) (search rules))
     (λ c. search rules) (λ c. search rules) (λ c. with-list (remove-answered _ _ (table_of _ _) _ _ _ (search rules) (search rules)) (c.before.before.remove.ensures.1.1 _)) (λ c. search rules)

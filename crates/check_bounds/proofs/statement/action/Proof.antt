@@ -6,8 +6,8 @@ use Rattle.check_bounds.proofs.Marks.{call_fits, call-many, operation-fits, oper
 use Rattle.check_bounds.proofs.statement.action.Statement.{statement}
 use Rattle.check_bounds.proofs.statement.action.Tie as tie
 
-returns-3 : tie.Need-returns-3
-returns-3 c = c.pass-fields.ensures ∙ call_fits _ _ _ _ c.before.before.enum_told.given.1 (omega arith)
+returns-3 : tie.Need-returns-else-f1-gt-MOST_NAMES
+returns-3 c = c.pass_fields.ensures ∙ call_fits _ _ _ _ c.before.before.enum_told-1.given.1 (omega arith)
 
 pub action_spec : {M : Type 1} → statement M
 action_spec =

@@ -132,8 +132,8 @@ over-returns t c =
       f.ensures.1,
     )
 
-pub +fill-over-spec : {M : Type 1} → statement M
-+fill-over-spec =
+pub +fill_over_spec : {M : Type 1} → statement M
++fill_over_spec =
     close μ-fill μ-over (λ t. fill-lts.spec (fill-claims t) (fill-at t) fill.Post fill-Inv-loop fill-μ-loop
     (λ c. search (rules, left-first)) (fill-returns t) (λ c κs. search rules) (λ c. search rules) (λ c. search rules)
     (λ c. search rules) (fill-loop-again t) (λ c κs. search rules) (fill-returns-2 t)) λ t. over-lts.spec (over-claims t)

@@ -6,13 +6,13 @@ use Rattle.check_extents.proofs.Noting.{ends-noted}
 use Rattle.check_extents.proofs.ends.note.Statement.{statement}
 use Rattle.check_extents.proofs.ends.note.Tie as tie
 
-returns-2 : tie.Need-returns-2
+returns-2 : tie.Need-returns
 returns-2 c =
     let st = c.before in
     let a = st.args in
-    λ bs s e. ends-noted bs a.ends.now a.at a.end (a.at / 12) (omega (arith, st.requires.1)) (omega (arith, c.if1.false)) s e
+    λ bs s e. ends-noted bs a.ends.now a.at a.end (a.at / 12) (omega (arith, st.requires.1)) (omega (arith, c.if-end-gt65535.false)) s e
 
-pub note-spec : {M : Type 1} → statement M
-note-spec =
+pub note_spec : {M : Type 1} → statement M
+note_spec =
     tie.close (tie.spec (λ c. search rules) (λ c. search rules) (λ c. search rules) (λ c. search rules) (λ c. search rules)
     (λ c. search rules) returns-2)

@@ -10,7 +10,7 @@ returns c =
     let st = c.before.before.before in
     passed-BK st.args.script.now st.args.at _ st.requires.1 (omega arith) (omega arith)
 
-pub block-head-spec : {M : Type 1} → statement M
-block-head-spec =
+pub block_head_spec : {M : Type 1} → statement M
+block_head_spec =
     tie.close (tie.spec (λ c. search rules) (λ c. search rules) (λ c κs. search rules) (λ c. search rules) (λ c κs. search rules)
     (λ c. search rules) returns)

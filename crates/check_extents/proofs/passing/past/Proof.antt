@@ -12,11 +12,11 @@ use borrow.Author.Rules.{rules}
 use Rattle.check_extents.proofs.passing.past.Statement.{statement}
 use Rattle.check_extents.proofs.passing.past.Tie as tie
 
-abbrev start_of : tie.After-field-count → tie.Start
+abbrev start_of : tie.After-field_count → tie.Start
 start_of c = c.before.before
 
 -- what is passed, by the bytes of the record
-module _ (c : tie.After-field-count) where
+module _ (c : tie.After-field_count) where
   abbrev bs : List ℕ
   bs = (start_of c).args.script.now
 
@@ -34,25 +34,25 @@ module _ (c : tie.After-field-count) where
         few = omega arith;
       }
 
-returns : tie.Need-returns
+returns : tie.Need-returns-then-mark-eq-CL
 returns c =
     let f = c.before.before in
     let st = start_of f in
-    let m = sym st.pre.2 ∙ c.before.if1.true in
+    let m = sym st.pre.2 ∙ c.before.if-mark-eq-CL.true in
     let e = size-CL (field_at (bs f) (at f)) (field_at (bs f) (at f + 4)) m in
     let two = count-CL (field_at (bs f) (at f)) m in
-    let n = f.field-count.ensures.0 ∙ ap field_count st.pre.2 in
+    let n = f.field_count.ensures.0 ∙ ap field_count st.pre.2 in
     alone f _ (omega arith) (omega arith) (omega arith)
 
-returns-2 : tie.Need-returns-2
+returns-2 : tie.Need-returns
 returns-2 c =
     let f = c.before in
     let st = start_of f in
-    let e = size-other (field_at (bs f) (at f)) (field_at (bs f) (at f + 4)) (λ p. c.if1.false (st.pre.2 ∙ p)) in
-    let n = f.field-count.ensures.0 ∙ ap field_count st.pre.2 in
+    let e = size-other (field_at (bs f) (at f)) (field_at (bs f) (at f + 4)) (λ p. c.if-mark-eq-CL.false (st.pre.2 ∙ p)) in
+    let n = f.field_count.ensures.0 ∙ ap field_count st.pre.2 in
     alone f _ (omega arith) (omega arith) (omega arith)
 
-pub past-spec : {M : Type 1} → statement M
-past-spec =
+pub past_spec : {M : Type 1} → statement M
+past_spec =
     tie.close (tie.spec (λ c. search rules) (λ c. search rules) (λ c κs. search rules) (λ c. search rules) (λ c. search rules)
     (λ c. search rules) (λ c κs. search rules) (λ c. search rules) (λ c. search rules) returns returns-2)

@@ -19,7 +19,7 @@ returns c =
     let a = st.args in
     let w = field_at a.script.now a.at in
     let two : TwoFields w = subst TwoFields st.requires.1 st.requires.2 in
-    let n : c.field-count.result ≡ 2 = c.field-count.ensures.0 in
+    let n : c.field_count.result ≡ 2 = c.field_count.ensures.0 in
     let k = count-two w two in
     let e = size-other w (field_at a.script.now (a.at + 4)) two.no-CL in
     record {
@@ -30,7 +30,7 @@ returns c =
       few = omega arith;
     }
 
-pub past-pair-spec : {M : Type 1} → statement M
-past-pair-spec =
+pub past_pair_spec : {M : Type 1} → statement M
+past_pair_spec =
     tie.close (tie.spec (λ c. search rules) (λ c. search rules) (λ c κs. search rules) (λ c. search rules) (λ c. search rules)
     returns)

@@ -10,6 +10,6 @@ returns c =
     let st = c.before.before in
     passed-PR st.args.script.now st.args.at _ st.requires.1 (omega arith) (omega arith)
 
-pub procedure-head-spec : {M : Type 1} → statement M
-procedure-head-spec =
+pub procedure_head_spec : {M : Type 1} → statement M
+procedure_head_spec =
     tie.close (tie.spec (λ c. search rules) (λ c. search rules) (λ c κs. search rules) (λ c. search rules) returns)

@@ -15,9 +15,9 @@ use Rattle.check_fields.specs.contracts.reader.field.Key as key
 use Rattle.check_fields.proofs.reader.field.Statement.{statement}
 use Rattle.check_fields.proofs.reader.field.Code as code
 
-pub field-spec : {M : Type 1} → statement M
+pub field_spec : {M : Type 1} → statement M
 unfolding code.routine
-field-spec 𝓤 𝓛 𝓜 𝓡 =
+field_spec 𝓤 𝓛 𝓜 𝓡 =
     apart-meets 𝓛 𝓜 𝓡 code.env usize (ty_int w64) (λ n v is. ((uint_Lawful 𝓛 w64).typed n (v ∷ []) is).0)
-    g-def.name g-def.routine code.calls-check-fields::bytes::word-at key.name (f.clauses 𝓛 𝓜.mem 𝓡.run) (g.clauses 𝓛 𝓜.mem 𝓡.run)
+    g-def.name g-def.routine code.calls-check_fields::bytes::word_at key.name (f.clauses 𝓛 𝓜.mem 𝓡.run) (g.clauses 𝓛 𝓜.mem 𝓡.run)
     (λ κs d _. tt) (λ κs d _. id⊢ 𝓤 _) _ (λ κs d _ n z. refl) _ (λ κs d _ n z. refl) (λ κs d n said. said) (g-thm.met 𝓤 𝓛 𝓜 𝓡) (code.unfolded 𝓤 𝓛.H 𝓜 𝓡)

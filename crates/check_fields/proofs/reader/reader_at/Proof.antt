@@ -75,9 +75,9 @@ module _ {M : Type 1} {𝓤 : Ura M} (𝓛 : Logic 𝓤) (mem : Memory → SProp
         (tt, (wt.1, (record { fits = fits }, tt))) $
         returns ! (look ! (loc 2 0 0) refl) $ gone ! (loc 2 0 0) refl refl $ gone ! (loc 2 0 1) refl refl $ gone ! (loc 2 0 2) refl refl $ free0 ! $ by ! exits)))
 
-pub reader-at-spec : {M : Type 1} → stated.statement M
+pub reader_at_spec : {M : Type 1} → stated.statement M
 unfolding code.routine
-reader-at-spec 𝓤 𝓛 𝓜 𝓡 =
+reader_at_spec 𝓤 𝓛 𝓜 𝓡 =
     proved-by 𝓛 𝓜 𝓡 code.env f.ended (f.clauses 𝓛 𝓜.mem 𝓡.run) #me code.function (code.unfolded 𝓤 𝓛.H 𝓜 𝓡)
     (λ κs. (shr_slice_vals, (uint_vals w64, tt))) (λ κs. (shr_slice_Tells (named 0) κs.0 u8, (uint_Tells w64, tt)))
     (λ κs qs bounds a _ are. via 𝓤 _ (fst∗ 𝓤 _ (emp 𝓤))

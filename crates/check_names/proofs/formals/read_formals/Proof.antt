@@ -171,10 +171,10 @@ module _ {M : Type 1} {𝓤 : Ura M} (𝓛 : Logic 𝓤) (mem : Memory → SProp
       (λ κs. (shr_slice_Tells (named 0) κs.0 u8, (mut_slice_Tells (named 1) κs.1.0 u32, (usizes.tells, (usizes.tells, (usizes.tells, tt))))))
       (λ κs qs bounds a g are. needs 𝓤 (said.Pre a.1.0.now a.1.1.1.0 a.1.1.1.1.0) _ (λ pre. walk 𝓛 mem run κs.0 κs.1.0 qs.0 qs.1.0 a.0 a.1.0 a.1.1.0 a.1.1.1.0 a.1.1.1.1.0 are.0.0.1 are.1.0.0.1 are.1.1.0 are.1.1.1.0 are.1.1.1.1.0 pre 𝓣 known-formal-here known-hold)))
 
-pub read-formals-spec : {M : Type 1} → stated.statement M
+pub read_formals_spec : {M : Type 1} → stated.statement M
 unfolding mine.routine tables_of
-read-formals-spec 𝓤 𝓛 𝓜 𝓡 =
+read_formals_spec 𝓤 𝓛 𝓜 𝓡 =
     by-walk 𝓤 𝓛.H 𝓜 𝓡 mine.env #me mine.function (triple_of 𝓛 f.signature (f.spec 𝓛 𝓜.mem 𝓡.run)) (mine.unfolded 𝓤 𝓛.H 𝓜 𝓡)
     (meets 𝓛 𝓜.mem 𝓡.run (tables_of 𝓤 𝓛.H 𝓜 (tables 𝓤 𝓛.H 𝓜 𝓡 mine.env))
-    (cited 𝓤 𝓛.H (triple_of 𝓛 formal-here.signature (formal-here.spec 𝓛 𝓜.mem 𝓡.run)) 𝓜 𝓡 mine.env #formal-here formal-here-def.routine mine.calls-check-readers::formal-here (formal-here-thm.met 𝓤 𝓛 𝓜 𝓡))
-    (cited 𝓤 𝓛.H (triple_of 𝓛 hold.signature (hold.spec 𝓛 𝓜.mem 𝓡.run)) 𝓜 𝓡 mine.env #hold hold-def.routine mine.calls-check-names::formals::hold (hold-thm.met 𝓤 𝓛 𝓜 𝓡)))
+    (cited 𝓤 𝓛.H (triple_of 𝓛 formal-here.signature (formal-here.spec 𝓛 𝓜.mem 𝓡.run)) 𝓜 𝓡 mine.env #formal-here formal-here-def.routine mine.calls-check_readers::formal_here (formal-here-thm.met 𝓤 𝓛 𝓜 𝓡))
+    (cited 𝓤 𝓛.H (triple_of 𝓛 hold.signature (hold.spec 𝓛 𝓜.mem 𝓡.run)) 𝓜 𝓡 mine.env #hold hold-def.routine mine.calls-check_names::formals::hold (hold-thm.met 𝓤 𝓛 𝓜 𝓡)))

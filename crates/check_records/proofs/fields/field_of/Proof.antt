@@ -10,7 +10,7 @@ use borrow.Author.Rules.{rules}
 use Rattle.check_records.proofs.fields.field_of.Statement.{statement}
 use Rattle.check_records.proofs.fields.field_of.Tie as tie
 
-returns : tie.Need-returns
+returns : tie.Need-returns-then-k-count
 returns c =
     let a = c.before.before.before.args in
     let h : a.k < a.count = omega arith in (
@@ -20,7 +20,7 @@ returns c =
       search rules,
     )
 
-returns-2 : tie.Need-returns-2
+returns-2 : tie.Need-returns
 returns-2 c =
     let a = c.before.before.args in (
       sym
@@ -29,5 +29,5 @@ returns-2 c =
       search rules,
     )
 
-pub field-of-spec : {M : Type 1} → statement M
-field-of-spec = tie.close (tie.spec (λ c. search rules) (λ c. search rules) (λ c κs. search rules) returns returns-2)
+pub field_of_spec : {M : Type 1} → statement M
+field_of_spec = tie.close (tie.spec (λ c. search rules) (λ c. search rules) (λ c κs. search rules) returns returns-2)

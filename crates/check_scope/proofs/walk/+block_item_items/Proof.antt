@@ -124,8 +124,8 @@ block-returns t c =
     block_walked _ _ _ _ _ _ _ _ _ _ formals.push2.ensures declared.push.ensures room.if2.left _ inserted.insert.ensures _ _ _ _ _
     room.before.before.word2.ensures.0 room.before.word3.ensures.0 judged.items.ensures removed.remove.ensures
 
-pub +block-item-items-spec : {M : Type 1} → statement M
-+block-item-items-spec =
+pub +block_item_items_spec : {M : Type 1} → statement M
++block_item_items_spec =
     close μ-block μ-item μ-items
     (λ t. block-lts.spec (block-claims t) (block-at t) block.Post (λ c. search rules) (λ c. search rules) (λ c κs. search rules)
     (λ c. search (rules, no_block)) (λ c. search rules) (λ c κs. search rules) (λ c. search rules) (λ c κs. search rules)

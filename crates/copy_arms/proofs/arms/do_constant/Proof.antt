@@ -10,11 +10,11 @@ returns c =
     let n = c.before.before.before in
     let h = n.before in
     let g = c.before in
-    let z = rw (h.field2.ensures.0, h.before.field.ensures.0) at (read_back g.signed.result g.signed.type-inv ∙ g.signed.ensures) in
-    (refl, rw (z, n.named.ensures) at c.store.ensures)
+    let z = rw (h.field-2.ensures.0, h.before.field.ensures.0) at (read_back g.signed.result g.signed.type_inv ∙ g.signed.ensures) in
+    (refl, rw (z, n.named-cell.ensures) at c.store.ensures)
 
-pub do-constant-spec : {M : Type 1} → statement M
-do-constant-spec =
+pub do_constant_spec : {M : Type 1} → statement M
+do_constant_spec =
     tie.close
     (tie.spec (λ c. search rules) (λ c κs. search rules) (λ c. search rules) (λ c κs. search rules) (λ c. search rules) (λ c. search rules)
     (λ c. search rules) (λ c κs. search rules) (λ c κs. search rules) (λ c κs. search rules) (λ c. search rules) returns)

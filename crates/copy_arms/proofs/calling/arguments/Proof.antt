@@ -10,20 +10,20 @@ use Rattle.copy_arms.proofs.Entered.{arguments-end, arguments-next}
 use Rattle.copy_arms.proofs.calling.arguments.Statement.{statement}
 use Rattle.copy_arms.proofs.calling.arguments.Tie as tie
 
-abbrev invariant-loop : tie.invariant-loop
+abbrev invariant-loop : tie.invariant-loop-i
 invariant-loop cells₀ area firsts starts targets live place count first start to i₀ cells i =
     (i ≤ count) ×
     (set_all cells (to + i) (handed_from area firsts starts targets live (place + i) (count - i))
     ≡ set_all cells₀ to (handed_from area firsts starts targets live place count))
 
-abbrev decreases-loop : tie.decreases-loop
+abbrev decreases-loop : tie.decreases-loop-i
 decreases-loop cells₀ area firsts starts targets live place count first start to i₀ cells i = count - i
 
 -- the start, from before the loop
-abbrev start_of : tie.After-cell-at invariant-loop decreases-loop → tie.Start invariant-loop decreases-loop
+abbrev start_of : tie.After-cell_at-to invariant-loop decreases-loop → tie.Start invariant-loop decreases-loop
 start_of c = c.before.before.before.before
 
-loop-holds : tie.Need-loop-init invariant-loop decreases-loop
+loop-holds : tie.Need-loop-i-init invariant-loop decreases-loop
 loop-holds c =
     let a = (start_of c).args in
     let f : c.Cell-at.result + 0 ≡ c.Cell-at.result = omega arith in
@@ -35,19 +35,19 @@ handed-requires : tie.Need-handed-requires invariant-loop decreases-loop
 handed-requires c κs =
     let l = c.before in
     let s = l.before.before in (
-      record { first-is = s.before.first_of.ensures.0; start_is = s.start_of_lem.ensures },
-      (start_of l.before).pre.1.named l.loop.i c.loop-test.true,
+      record { first-is = s.before.first_of-first.ensures.0; start_is = s.start_of_lem.ensures },
+      (start_of l.before).pre.1.named l.loop-i.i c.loop-i-test.true,
     )
 
-loop-again : tie.Need-loop-preserved invariant-loop decreases-loop
+loop-again : tie.Need-loop-i-preserved invariant-loop decreases-loop
 loop-again c =
     let l = c.before.before in
     let a = (start_of l.before).args in
-    let z = read_back c.handed.result c.handed.type-inv ∙ c.handed.ensures in
-    let t = c.before.loop-test.true in
-    let step = arguments-next a.area.now a.firsts.now a.starts.now a.targets.now a.live a.place a.count l.loop.i
-    l.loop.cells l.before.Cell-at.result t z in
-    (omega (arith, t), step ∙ l.loop.invariant.1)
+    let z = read_back c.handed.result c.handed.type_inv ∙ c.handed.ensures in
+    let t = c.before.loop-i-test.true in
+    let step = arguments-next a.area.now a.firsts.now a.starts.now a.targets.now a.live a.place a.count l.loop-i.i
+    l.loop-i.cells l.before.Cell-at.result t z in
+    (omega (arith, t), step ∙ l.loop-i.invariant.1)
 
 returns : tie.Need-returns invariant-loop decreases-loop
 returns c =
@@ -56,10 +56,10 @@ returns c =
     let a = (start_of f).args in
     let to = f.Cell-at.result in
     rw f.Cell-at.ensures at (arguments-end a.area.now a.firsts.now a.starts.now a.targets.now a.live a.place a.count
-    l.loop.i l.loop.cells to c.loop-test.false ∙ l.loop.invariant.1)
+    l.loop-i.i l.loop-i.cells to c.loop-i-test.false ∙ l.loop-i.invariant.1)
 
-pub arguments-spec : {M : Type 1} → statement M
-arguments-spec =
+pub arguments_spec : {M : Type 1} → statement M
+arguments_spec =
     tie.close
     (tie.spec invariant-loop decreases-loop (λ c κs. search rules) (λ c κs. search rules) (λ c κs. search rules) loop-holds (λ c. search rules) handed-requires
     (λ c. search rules) (λ c. search rules) (λ c. search rules) (λ c. search rules) (λ c. search rules) loop-again returns)

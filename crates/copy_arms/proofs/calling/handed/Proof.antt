@@ -9,8 +9,8 @@ returns : tie.Need-returns
 returns c =
     let h = c.before in
     let t = h.before in
-    rw (h.held_word.ensures, t.target.ensures.0, t.before.Named-by.ensures) at (read_back c.word_of.result c.word_of.type-inv ∙ c.word_of.ensures)
+    rw (h.held_word.ensures, t.target.ensures.0, t.before.Named-by.ensures) at (read_back c.word_of.result c.word_of.type_inv ∙ c.word_of.ensures)
 
-pub handed-spec : {M : Type 1} → statement M
-handed-spec =
+pub handed_spec : {M : Type 1} → statement M
+handed_spec =
     tie.close (tie.spec (λ c κs. search rules) (λ c κs. search rules) (λ c κs. search rules) (λ c κs. search rules) returns)

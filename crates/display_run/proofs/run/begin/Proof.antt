@@ -3,5 +3,5 @@ use borrow.Author.Rules.{rules}
 use Rattle.display_run.proofs.run.begin.Statement.{statement}
 use Rattle.display_run.proofs.run.begin.Tie as tie
 
-pub begin-spec : {M : Type 1} → statement M
-begin-spec = tie.close (tie.spec (λ c κs. search rules) (λ c κs. search rules) (λ c κs. search rules) (λ c. cc))
+pub begin_spec : {M : Type 1} → statement M
+begin_spec = tie.close (tie.spec (λ c κs. search rules) (λ c κs. search rules) (λ c κs. search rules) (λ c. cc))

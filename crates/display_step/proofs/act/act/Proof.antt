@@ -20,13 +20,13 @@ use Rattle.display_step.proofs.act.act.Tie as tie
 
 -- the place where the operation is read, and the start before it
 abbrev Read : Type 0
-Read = tie.After-operation-of
+Read = tie.After-operation_of-operation
 
 abbrev start_of : Read → tie.Start
 start_of c = c.before.before
 
 abbrev number : Read → ℕ
-number c = c.operation-of.result
+number c = c.operation_of-operation.result
 
 abbrev F : Read → Finding
 F c = by_display (start_of c).args.cells.now (start_of c).args.display.now
@@ -38,7 +38,7 @@ scene c = let a = (start_of c).args in scene_by a.code.now a.cells.now a.activat
 op : (c : Read) (k : ℕ) → number c ≡ k → op_of (get_or (scene c).code (scene c).at 0) ≡ get_or operations k constant-op
 op c k e =
     let r = ap (λ (n : ℕ). operation_in n) c.before.code_at.ensures.0 in
-    op-of (get_or (scene c).code (scene c).at 0) k (sym (c.operation-of.ensures.0 ∙ r) ∙ e)
+    op-of (get_or (scene c).code (scene c).at 0) k (sym (c.operation_of-operation.ensures.0 ∙ r) ∙ e)
 
 asks : (c : Read) (k : ℕ) → number c ≡ k → Ready (start_of c).requires (get_or operations k constant-op)
 asks c k e = ready (start_of c).requires (get_or operations k constant-op) (op c k e)
@@ -46,45 +46,45 @@ asks c k e = ready (start_of c).requires (get_or operations k constant-op) (op c
 acted : (c : Read) (k : ℕ) → number c ≡ k → {r : Move} {ws : List ℤ} → Done (happens (F c) (scene c) (get_or operations k constant-op)) r ws → Done (acting (F c) (scene c)) r ws
 acted c k e h = done (F c) (scene c) _ (op c k e) _ _ h
 
-other : (c : tie.At-match-rest) → number c.before ≡ 15
+other : (c : tie.In_default) → number c.before ≡ 15
 other c = search (rules, last-op)
 
 -- a goto's label is no formal
-jumped : tie.Need-returns-6
+jumped : tie.Need-returns-in-5
 unfolding operations happens
 jumped c =
     let r = c.before.before in
-    let e = c.before.match.keys6 in
+    let e = c.before.in-0.keys6 in
     let ws = (scene r).cells in
     let w = get_or (scene r).code ((scene r).at + 1) 0 in
     let first = first_cell (start_of r).args.display.now w in
     let d = (asks r 5 e).1.is in
-    acted r 5 e (goto-found (F r) (scene r) (sym (home-direct ws first w d)) (sym (target-direct ws first w d)) _ c.do-goto.ensures)
+    acted r 5 e (goto-found (F r) (scene r) (sym (home-direct ws first w d)) (sym (target-direct ws first w d)) _ c.do_goto.ensures)
 
-pub act-spec : {M : Type 1} → statement M
+pub act_spec : {M : Type 1} → statement M
 unfolding operations happens
-act-spec =
-    tie.close (tie.spec (λ c κs. at_there c.requires) (λ c κs. search rules) (λ c κs. asks c.before.before 0 c.before.match.keys1)
-    (λ c κs. asks c.before.before 1 c.before.match.keys2) (λ c κs. asks c.before.before 2 c.before.match.keys3)
-    (λ c κs. asks c.before.before 3 c.before.match.keys4) (λ c κs. asks c.before.before 4 c.before.match.keys5)
-    (λ c κs. (asks c.before 5 c.match.keys6).0) (λ c κs. asks c.before 6 c.match.keys7)
-    (λ c κs. asks c.before.before 7 c.before.match.keys8) (λ c κs. asks c.before.before 8 c.before.match.keys9)
-    (λ c κs. asks c.before.before 9 c.before.match.keys10) (λ c κs. asks c.before.before 10 c.before.match.keys11)
-    (λ c κs. asks c.before.before 11 c.before.match.keys12) (λ c κs. asks c.before.before 12 c.before.match.keys13)
-    (λ c κs. asks c.before.before 13 c.before.match.keys14) (λ c κs. asks c.before.before 14 c.before.match.keys15)
+act_spec =
+    tie.close (tie.spec (λ c κs. at_there c.requires) (λ c κs. search rules) (λ c κs. asks c.before.before 0 c.before.in-0.keys1)
+    (λ c κs. asks c.before.before 1 c.before.in-0.keys2) (λ c κs. asks c.before.before 2 c.before.in-0.keys3)
+    (λ c κs. asks c.before.before 3 c.before.in-0.keys4) (λ c κs. asks c.before.before 4 c.before.in-0.keys5)
+    (λ c κs. (asks c.before 5 c.in-0.keys6).0) (λ c κs. asks c.before 6 c.in-0.keys7)
+    (λ c κs. asks c.before.before 7 c.before.in-0.keys8) (λ c κs. asks c.before.before 8 c.before.in-0.keys9)
+    (λ c κs. asks c.before.before 9 c.before.in-0.keys10) (λ c κs. asks c.before.before 10 c.before.in-0.keys11)
+    (λ c κs. asks c.before.before 11 c.before.in-0.keys12) (λ c κs. asks c.before.before 12 c.before.in-0.keys13)
+    (λ c κs. asks c.before.before 13 c.before.in-0.keys14) (λ c κs. asks c.before.before 14 c.before.in-0.keys15)
     (λ c κs. asks c.before.before 15 (other c.before))
-    (λ c. acted c.before.before.before 0 c.before.before.match.keys1 (constant-same _ _ _ _ c.do-constant.ensures.0 c.do-constant.ensures.1))
-    (λ c. acted c.before.before.before 1 c.before.before.match.keys2 (arithmetic-same _ _ plus _ _ c.do-add.ensures.0 c.do-add.ensures.1))
-    (λ c. acted c.before.before.before 2 c.before.before.match.keys3 (arithmetic-same _ _ minus _ _ c.do-subtract.ensures.0 c.do-subtract.ensures.1))
-    (λ c. acted c.before.before.before 3 c.before.before.match.keys4 (arithmetic-same _ _ less _ _ c.do-compare.ensures.0 c.do-compare.ensures.1))
-    (λ c. acted c.before.before.before 4 c.before.before.match.keys5 (branch_same _ _ _ c.do-branch.ensures)) jumped
-    (λ c. acted c.before.before 6 c.before.match.keys7 (block_same _ _ _ c.do-block.ensures))
-    (λ c. acted c.before.before.before 7 c.before.before.match.keys8 (call_same _ _ _ _ c.do-call.ensures.0 c.do-call.ensures.1))
-    (λ c. acted c.before.before.before 8 c.before.before.match.keys9 (change-same _ _ Add _ c.do-change.ensures))
-    (λ c. acted c.before.before.before 9 c.before.before.match.keys10 (change-same _ _ Remove _ c.do-change2.ensures))
-    (λ c. acted c.before.before.before 10 c.before.before.match.keys11 (query-same _ _ _ c.do-query.ensures))
-    (λ c. acted c.before.before.before 11 c.before.before.match.keys12 (constant-same _ _ _ _ c.do-constant-formal.ensures.0 c.do-constant-formal.ensures.1))
-    (λ c. acted c.before.before.before 12 c.before.before.match.keys13 (arithmetic-same _ _ _ _ _ c.do-arithmetic-formal.ensures.0 c.do-arithmetic-formal.ensures.1))
-    (λ c. acted c.before.before.before 13 c.before.before.match.keys14 (branch_same _ _ _ c.do-branch-formal.ensures))
-    (λ c. acted c.before.before.before 14 c.before.before.match.keys15 (goto-same _ _ _ c.do-goto-formal.ensures))
-    (λ c. acted c.before.before.before 15 (other c.before.before) (call-formal-same _ _ _ _ c.do-call-formal.ensures.0 c.do-call-formal.ensures.1)))
+    (λ c. acted c.before.before.before 0 c.before.before.in-0.keys1 (constant-same _ _ _ _ c.do_constant.ensures.0 c.do_constant.ensures.1))
+    (λ c. acted c.before.before.before 1 c.before.before.in-0.keys2 (arithmetic-same _ _ plus _ _ c.do_add.ensures.0 c.do_add.ensures.1))
+    (λ c. acted c.before.before.before 2 c.before.before.in-0.keys3 (arithmetic-same _ _ minus _ _ c.do_subtract.ensures.0 c.do_subtract.ensures.1))
+    (λ c. acted c.before.before.before 3 c.before.before.in-0.keys4 (arithmetic-same _ _ less _ _ c.do_compare.ensures.0 c.do_compare.ensures.1))
+    (λ c. acted c.before.before.before 4 c.before.before.in-0.keys5 (branch_same _ _ _ c.do_branch.ensures)) jumped
+    (λ c. acted c.before.before 6 c.before.in-0.keys7 (block_same _ _ _ c.do_block.ensures))
+    (λ c. acted c.before.before.before 7 c.before.before.in-0.keys8 (call_same _ _ _ _ c.do_call.ensures.0 c.do_call.ensures.1))
+    (λ c. acted c.before.before.before 8 c.before.before.in-0.keys9 (change-same _ _ Add _ c.do_change.ensures))
+    (λ c. acted c.before.before.before 9 c.before.before.in-0.keys10 (change-same _ _ Remove _ c.do_change-in-9.ensures))
+    (λ c. acted c.before.before.before 10 c.before.before.in-0.keys11 (query-same _ _ _ c.do_query.ensures))
+    (λ c. acted c.before.before.before 11 c.before.before.in-0.keys12 (constant-same _ _ _ _ c.do_constant_formal.ensures.0 c.do_constant_formal.ensures.1))
+    (λ c. acted c.before.before.before 12 c.before.before.in-0.keys13 (arithmetic-same _ _ _ _ _ c.do_arithmetic_formal.ensures.0 c.do_arithmetic_formal.ensures.1))
+    (λ c. acted c.before.before.before 13 c.before.before.in-0.keys14 (branch_same _ _ _ c.do_branch_formal.ensures))
+    (λ c. acted c.before.before.before 14 c.before.before.in-0.keys15 (goto-same _ _ _ c.do_goto_formal.ensures))
+    (λ c. acted c.before.before.before 15 (other c.before.before) (call-formal-same _ _ _ _ c.do_call_formal.ensures.0 c.do_call_formal.ensures.1)))

@@ -4,7 +4,7 @@ use borrow.Author.Rules.{rules}
 use Rattle.display_step.proofs.arms.do_add.Statement.{statement}
 use Rattle.display_step.proofs.arms.do_add.Tie as tie
 
-pub do-add-spec : {M : Type 1} → statement M
-do-add-spec =
+pub do_add_spec : {M : Type 1} → statement M
+do_add_spec =
     tie.close (tie.spec (λ c. search rules) (λ c κs. search rules) (λ c. search rules) (λ c κs. search rules) (λ c. search rules)
     (λ c κs. search rules) (λ c κs. search rules) (λ c κs. search rules) (λ c. search (rules, sum-own)))

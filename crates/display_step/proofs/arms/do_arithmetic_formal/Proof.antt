@@ -4,8 +4,8 @@ use borrow.Author.Rules.{rules}
 use Rattle.display_step.proofs.arms.do_arithmetic_formal.Statement.{statement}
 use Rattle.display_step.proofs.arms.do_arithmetic_formal.Tie as tie
 
-pub do-arithmetic-formal-spec : {M : Type 1} → statement M
-do-arithmetic-formal-spec =
+pub do_arithmetic_formal_spec : {M : Type 1} → statement M
+do_arithmetic_formal_spec =
     tie.close (tie.spec (λ c. search rules) (λ c κs. search rules) (λ c. search rules) (λ c κs. search rules) (λ c. search rules)
     (λ c κs. search rules) (λ c. search rules) (λ c κs. search rules) (λ c κs. search rules) (λ c κs. search rules)
     (λ c. search (rules, sum-found)) (λ c κs. search rules) (λ c κs. search rules) (λ c. search (rules, difference-found))

@@ -4,8 +4,8 @@ use borrow.Author.Rules.{rules}
 use Rattle.display_step.proofs.arms.do_call_formal.Statement.{statement}
 use Rattle.display_step.proofs.arms.do_call_formal.Tie as tie
 
-pub do-call-formal-spec : {M : Type 1} → statement M
-do-call-formal-spec =
+pub do_call_formal_spec : {M : Type 1} → statement M
+do_call_formal_spec =
     tie.close (tie.spec (λ c. search rules) (λ c κs. search rules) (λ c κs. search (rules, formal-as)) (λ c κs. search rules)
     (λ c. search rules) (λ c κs. search rules) (λ c κs. search (rules, body-there)) (λ c κs. search rules)
     (λ c. search (rules, number-refused)) (λ c. search rules) (λ c. search rules) (λ c. search (rules, formals-there))

@@ -4,6 +4,6 @@ use borrow.Author.Rules.{rules}
 use Rattle.display_step.proofs.arms.do_constant.Statement.{statement}
 use Rattle.display_step.proofs.arms.do_constant.Tie as tie
 
-pub do-constant-spec : {M : Type 1} → statement M
-do-constant-spec =
+pub do_constant_spec : {M : Type 1} → statement M
+do_constant_spec =
     tie.close (tie.spec (λ c. search rules) (λ c κs. search rules) (λ c κs. search rules) (λ c. search (rules, constant-own)))

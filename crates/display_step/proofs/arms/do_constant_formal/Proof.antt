@@ -4,6 +4,6 @@ use borrow.Author.Rules.{rules}
 use Rattle.display_step.proofs.arms.do_constant_formal.Statement.{statement}
 use Rattle.display_step.proofs.arms.do_constant_formal.Tie as tie
 
-pub do-constant-formal-spec : {M : Type 1} → statement M
-do-constant-formal-spec =
+pub do_constant_formal_spec : {M : Type 1} → statement M
+do_constant_formal_spec =
     tie.close (tie.spec (λ c. search rules) (λ c κs. search rules) (λ c κs. search rules) (λ c. search (rules, constant-found)))

@@ -4,7 +4,7 @@ use borrow.Author.Rules.{rules}
 use Rattle.display_step.proofs.arms.do_query.Statement.{statement}
 use Rattle.display_step.proofs.arms.do_query.Tie as tie
 
-pub do-query-spec : {M : Type 1} → statement M
-do-query-spec =
+pub do_query_spec : {M : Type 1} → statement M
+do_query_spec =
     tie.close (tie.spec (λ c. search rules) (λ c κs. search rules) (λ c. search rules) (λ c κs. search rules) (λ c. search rules)
     (λ c κs. search rules) (λ c. search rules) (λ c. search (rules, query-found)))

@@ -4,7 +4,7 @@ use borrow.Author.Rules.{rules}
 use Rattle.display_step.proofs.arms.do_subtract.Statement.{statement}
 use Rattle.display_step.proofs.arms.do_subtract.Tie as tie
 
-pub do-subtract-spec : {M : Type 1} → statement M
-do-subtract-spec =
+pub do_subtract_spec : {M : Type 1} → statement M
+do_subtract_spec =
     tie.close (tie.spec (λ c. search rules) (λ c κs. search rules) (λ c. search rules) (λ c κs. search rules) (λ c. search rules)
     (λ c κs. search rules) (λ c κs. search rules) (λ c κs. search rules) (λ c. search (rules, sum-own)))

@@ -4,5 +4,5 @@ use borrow.Author.Rules.{rules}
 use Rattle.display_step.proofs.arms.found_at.Statement.{statement}
 use Rattle.display_step.proofs.arms.found_at.Tie as tie
 
-pub found-at-spec : {M : Type 1} → statement M
-found-at-spec = tie.close (tie.spec (λ c κs. search rules) (λ c κs. search (rules, reach-as)) (λ c. cc))
+pub found_at_spec : {M : Type 1} → statement M
+found_at_spec = tie.close (tie.spec (λ c κs. search rules) (λ c κs. search (rules, reach-as)) (λ c. cc))

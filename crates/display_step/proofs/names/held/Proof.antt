@@ -9,12 +9,12 @@ use Rattle.display_step.proofs.names.held.Tie as tie
 whole-requires : tie.Need-whole-requires
 whole-requires c κs =
     let s = c.before.before in
-    rw (read_back _ c.whole-arg.given, c.before.own-cell.ensures.0) (s.requires.reachable.whole s.requires.is)
+    rw (read_back _ c.whole-arg-1.given, c.before.own_cell.ensures.0) (s.requires.reachable.whole s.requires.is)
 
 returns : tie.Need-returns
 returns c =
     let a = c.before.before.before.args in
-    let e = rw (read_back _ c.before.whole-arg.given, c.before.before.own-cell.ensures.0) at c.whole.ensures.0 in
+    let e = rw (read_back _ c.before.whole-arg-1.given, c.before.before.own_cell.ensures.0) at c.whole.ensures.0 in
     (sym (held-is a.cells.now (first_cell a.display.now a.word) a.word e), c.whole.ensures.1)
 
 pub held_spec : {M : Type 1} → statement M

@@ -95,7 +95,7 @@ items-requires t c κs =
           room.before.before.word2.ensures room.before.word3.ensures (records-near _ _ _ read.word.ensures.0 marked 400000 (omega arith)),
     )
 
-bounds-word-requires : (t : ℕ) → block-lts.Need-bounds-word-requires (block-claims t) (block-at t) block.Post
+bounds-word-requires : (t : ℕ) → block-lts.Need-bounds_word-requires (block-claims t) (block-at t) block.Post
 bounds-word-requires t c κs =
     let walked = walked_of c in
     let entered = entered_of walked.before in
@@ -117,10 +117,10 @@ block-returns t c =
     let entered = entered_of walked.before in
     let room = room_of entered.before in
     block_walked _ _ _ _ _ _ _ _ _ _ _ _ _ entered.enter.ensures room.if2.left _ _ _ _ _ _ _ _ room.before.before.word2.ensures.0 room.before.word3.ensures.0
-    walked.items.ensures bounds.bounds-word.ensures put.put.ensures removed.remove.ensures
+    walked.items.ensures bounds.bounds_word.ensures put.put.ensures removed.remove.ensures
 
-pub +block-item-items-spec : {M : Type 1} → statement M
-+block-item-items-spec =
+pub +block_item_items_spec : {M : Type 1} → statement M
++block_item_items_spec =
     close μ-block μ-item μ-items
     (λ t. block-lts.spec (block-claims t) (block-at t) block.Post (λ c. search rules) (λ c. search rules) (λ c κs. search rules)
     (λ c. (search (rules, no_block), search (rules, onward-start, kept-all))) (λ c. search rules) (λ c κs. search rules)

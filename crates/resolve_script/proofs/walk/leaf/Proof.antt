@@ -4,8 +4,8 @@ use borrow.Author.Rules.{rules}
 use Rattle.resolve_script.proofs.walk.leaf.Statement.{statement}
 use Rattle.resolve_script.proofs.walk.leaf.Tie as tie
 
-pub leaf-spec : {M : Type 1} → statement M
-leaf-spec =
+pub leaf_spec : {M : Type 1} → statement M
+leaf_spec =
     tie.close (tie.spec (λ c κs. search rules) (λ c. search rules) (λ c. search rules)
     (λ c. (search (rules, variable-written), search rules)) (λ c κs. search rules) (λ c. search rules) (λ c. search rules)
     (λ c. (search (rules, label-written), search rules)) (λ c κs. search rules) (λ c κs. search rules) (λ c. search rules)

@@ -14,8 +14,8 @@ returns c =
     let a = c.before.before.args in
     let ws = a.cells.now in
     let name = word_after a.code.now a.at in
-    change-done (by_first ws first_of) (only-cells a.code.now ws a.at) a.ask (cell-by ws first_of (name 1) p c.before.cell.ensures.0)
-    (cell-by ws first_of (name 2) q c.cell2.ensures.0)
+    change-done (by_first ws first_of) (only-cells a.code.now ws a.at) a.ask (cell-by ws first_of (name 1) p c.before.cell-group.ensures.0)
+    (cell-by ws first_of (name 2) q c.cell-member.ensures.0)
 
-pub do-change-spec : {M : Type 1} → statement M
-do-change-spec = tie.close (tie.spec (λ c. search rules) (λ c κs. search rules) (λ c. search rules) (λ c κs. search rules) (λ c. search rules) returns)
+pub do_change_spec : {M : Type 1} → statement M
+do_change_spec = tie.close (tie.spec (λ c. search rules) (λ c κs. search rules) (λ c. search rules) (λ c κs. search rules) (λ c. search rules) returns)

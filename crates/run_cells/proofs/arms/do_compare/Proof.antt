@@ -8,10 +8,10 @@ returns : tie.Need-returns
 returns c =
     let n = c.before.before in
     let s = n.before.before.before in
-    compare-at s.args.code.now s.args.cells.now s.args.at (own-cell s.requires.1 n.before.before.own.ensures.0)
-    (own-cell s.requires.2 n.before.own2.ensures.0) (own-cell s.requires.3 n.own3.ensures.0) c.compare.ensures
+    compare-at s.args.code.now s.args.cells.now s.args.at (own-cell s.requires.1 n.before.before.own-target.ensures.0)
+    (own-cell s.requires.2 n.before.own-left.ensures.0) (own-cell s.requires.3 n.own-right.ensures.0) c.compare.ensures
 
-pub do-compare-spec : {M : Type 1} → statement M
-do-compare-spec =
+pub do_compare_spec : {M : Type 1} → statement M
+do_compare_spec =
     tie.close (tie.spec (λ c. search rules) (λ c κs. search rules) (λ c. search rules) (λ c κs. search rules) (λ c. search rules)
     (λ c κs. search rules) (λ c κs. search rules) (λ c. search rules) returns)

@@ -10,5 +10,5 @@ returns c =
     constant-at s.args.code.now s.args.cells.now s.args.at (own-cell s.requires.1 c.before.own.ensures.0) c.constant.ensures.0
     c.constant.ensures.1
 
-pub do-constant-spec : {M : Type 1} → statement M
-do-constant-spec = tie.close (tie.spec (λ c. search rules) (λ c κs. search rules) (λ c κs. search rules) returns)
+pub do_constant_spec : {M : Type 1} → statement M
+do_constant_spec = tie.close (tie.spec (λ c. search rules) (λ c κs. search rules) (λ c κs. search rules) returns)

@@ -10,5 +10,5 @@ returns c =
     let s = n.before.before.before in
     constant-at s.args.code.now s.args.cells.now s.args.at n.cell.ensures.0 c.constant.ensures.0 c.constant.ensures.1
 
-pub do-constant-formal-spec : {M : Type 1} → statement M
-do-constant-formal-spec = tie.close (tie.spec (λ c. search rules) (λ c κs. search rules) (λ c κs. search rules) returns)
+pub do_constant_formal_spec : {M : Type 1} → statement M
+do_constant_formal_spec = tie.close (tie.spec (λ c. search rules) (λ c κs. search rules) (λ c κs. search rules) returns)

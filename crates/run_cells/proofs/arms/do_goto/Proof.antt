@@ -7,7 +7,7 @@ use Rattle.run_cells.proofs.arms.do_goto.Statement.{statement}
 use Rattle.run_cells.proofs.arms.do_goto.Tie as tie
 
 returns : tie.Need-returns
-returns c = ap₂ Jump c.before.before.activation-of.ensures (c.target-of.ensures ∙ ap target_in c.before.code_at.ensures.0)
+returns c = ap₂ Jump c.before.before.activation_of.ensures (c.target_of.ensures ∙ ap target_in c.before.code_at.ensures.0)
 
-pub do-goto-spec : {M : Type 1} → statement M
-do-goto-spec = tie.close (tie.spec (λ c κs. search rules) (λ c. search rules) (λ c κs. search rules) (λ c κs. search rules) returns)
+pub do_goto_spec : {M : Type 1} → statement M
+do_goto_spec = tie.close (tie.spec (λ c κs. search rules) (λ c. search rules) (λ c κs. search rules) (λ c κs. search rules) returns)

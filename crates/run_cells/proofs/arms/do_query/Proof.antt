@@ -14,10 +14,10 @@ returns c =
     let a = c.before.before.before.args in
     let ws = a.cells.now in
     let name = word_after a.code.now a.at in
-    query-done (by_first ws first_of) (only-cells a.code.now ws a.at) (cell-by ws first_of (name 1) p c.before.before.cell.ensures.0)
-    (cell-by ws first_of (name 2) q c.before.cell2.ensures.0) (cell-by ws first_of (name 3) u c.cell3.ensures.0)
+    query-done (by_first ws first_of) (only-cells a.code.now ws a.at) (cell-by ws first_of (name 1) p c.before.before.cell-target.ensures.0)
+    (cell-by ws first_of (name 2) q c.before.cell-group.ensures.0) (cell-by ws first_of (name 3) u c.cell-member.ensures.0)
 
-pub do-query-spec : {M : Type 1} → statement M
-do-query-spec =
+pub do_query_spec : {M : Type 1} → statement M
+do_query_spec =
     tie.close (tie.spec (λ c. search rules) (λ c κs. search rules) (λ c. search rules) (λ c κs. search rules) (λ c. search rules)
     (λ c κs. search rules) (λ c. search rules) returns)

@@ -9,12 +9,12 @@ use Rattle.run_cells.proofs.names.held.Tie as tie
 whole-requires : tie.Need-whole-requires
 whole-requires c κs =
     let s = c.before.before in
-    rw (read_back _ c.whole-arg.given, c.before.own.ensures.0) (s.requires.1.reachable.whole s.requires.1.is)
+    rw (read_back _ c.whole-arg-1.given, c.before.own.ensures.0) (s.requires.1.reachable.whole s.requires.1.is)
 
 returns : tie.Need-returns
 returns c =
     let a = c.before.before.before.args in
-    let e = rw (read_back _ c.before.whole-arg.given, c.before.before.own.ensures.0) at c.whole.ensures.0 in
+    let e = rw (read_back _ c.before.whole-arg-1.given, c.before.before.own.ensures.0) at c.whole.ensures.0 in
     (sym (held-is a.cells.now a.first (get_or a.code.now a.place 0) e), c.whole.ensures.1)
 
 pub held_spec : {M : Type 1} → statement M

@@ -18,9 +18,9 @@ returns c =
     let g = m.before in
     let s = g.before in
     let ws = s.args.cells.now in
-    let d = changed-by (λ (a b : ℤ). added s.args.limit a b (table_of s.args.table.now s.args.pairs)) s.args.table.now (read-value ws g.of.given refl) (read-value ws m.who.given refl)
-    a.add-pair.ensures.0 a.add-pair.ensures.1.0 in
-    (d.0, (d.1, a.add-pair.ensures.1.1.0))
+    let d = changed-by (λ (a b : ℤ). added s.args.limit a b (table_of s.args.table-1.now s.args.pairs)) s.args.table-1.now (read-value ws g.of-1.given refl) (read-value ws m.who-1.given refl)
+    a.add_pair.ensures.0 a.add_pair.ensures.1.0 in
+    (d.0, (d.1, a.add_pair.ensures.1.1.0))
 
 pub add_spec : {M : Type 1} → statement M
 add_spec = tie.close (tie.spec (λ c. search rules) (λ c. search rules) (λ c. search rules) (λ c. search rules) (λ c κs. search rules) (λ c. search rules) (λ c. search rules) returns)

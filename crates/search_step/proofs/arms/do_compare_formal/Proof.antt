@@ -7,9 +7,9 @@ use Rattle.search_step.proofs.arms.do_compare_formal.Tie as tie
 returns : tie.Need-returns
 returns c =
     let n = c.before.before in
-    compare-at _ _ _ n.found3.ensures.0 n.before.before.before.before.found.ensures.0 n.before.before.found2.ensures.0 c.compare.ensures
+    compare-at _ _ _ n.found-target.ensures.0 n.before.before.before.before.found-left.ensures.0 n.before.before.found-right.ensures.0 c.compare.ensures
 
-pub do-compare-formal-spec : {M : Type 1} → statement M
-do-compare-formal-spec =
+pub do_compare_formal_spec : {M : Type 1} → statement M
+do_compare_formal_spec =
     tie.close (tie.spec (λ c. search rules) (λ c κs. search rules) (λ c. search rules) (λ c κs. search rules) (λ c. search rules) (λ c κs. search rules) (λ c κs. search rules)
     (λ c. search rules) returns)

@@ -4,8 +4,8 @@ use Rattle.search_step.proofs.Statements.{direct-as, led}
 use Rattle.search_step.proofs.arms.do_subtract.Statement.{statement}
 use Rattle.search_step.proofs.arms.do_subtract.Tie as tie
 
-pub do-subtract-spec : {M : Type 1} → statement M
-do-subtract-spec =
+pub do_subtract_spec : {M : Type 1} → statement M
+do_subtract_spec =
     tie.close (tie.spec (λ c. search rules) (λ c κs. search rules) (λ c. search rules) (λ c κs. search rules) (λ c. search rules) (λ c κs. search rules)
     (λ c κs. search (rules, direct-as))
-    (λ c. λ first_of p q u. c.do-subtract.ensures first_of (led p (search rules)) (led q (search rules)) (led u (search rules))))
+    (λ c. λ first_of p q u. c.do_subtract.ensures first_of (led p (search rules)) (led q (search rules)) (led u (search rules))))

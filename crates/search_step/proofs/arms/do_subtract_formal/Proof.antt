@@ -8,9 +8,9 @@ use Rattle.search_step.proofs.arms.do_subtract_formal.Tie as tie
 returns : tie.Need-returns
 returns c =
     let n = c.before.before.before in
-    arithmetic-at _ _ _ n.found3.ensures.0 n.before.before.before.before.found.ensures.0 n.before.before.found2.ensures.0 minus c.computed.ensures c.before.subtract.ensures.0 c.before.subtract.ensures.1
+    arithmetic-at _ _ _ n.found-target.ensures.0 n.before.before.before.before.found-left.ensures.0 n.before.before.found-right.ensures.0 minus c.computed.ensures c.before.subtract.ensures.0 c.before.subtract.ensures.1
 
-pub do-subtract-formal-spec : {M : Type 1} → statement M
-do-subtract-formal-spec =
+pub do_subtract_formal_spec : {M : Type 1} → statement M
+do_subtract_formal_spec =
     tie.close (tie.spec (λ c. search rules) (λ c κs. search rules) (λ c. search rules) (λ c κs. search rules) (λ c. search rules) (λ c κs. search rules) (λ c κs. search rules)
     (λ c κs. search rules) returns)

@@ -18,7 +18,7 @@ use Rattle.chain_links.specs.Records.{with_next, NextSet, next-set, Pushed, push
 use Rattle.chain_links.specs.Finding.{by_chain, handed_on}
 use Rattle.chain_links.specs.Running.{activation_of, entered_by, Succeeds}
 use Rattle.chain_links.specs.Moving.{Fits, entry-fits, enters-to}
-use Rattle.chain_links.proofs.entering.enter.Proof.Said.{Pre, Said, arguments-end-asks, arguments-end-says, hand-asks, hand-says, read-asks, read-says, with-next-asks, with-next-says, push-asks, push-says, begun-asks, begun-says, entered-asks, entered-says}
+use Rattle.chain_links.proofs.entering.enter.Proof.Said.{Pre, Said, arguments_end-asks, arguments_end-says, hand-asks, hand-says, read-asks, read-says, with_next-asks, with_next-says, push-asks, push-says, begun-asks, begun-says, entered-asks, entered-says}
 
 module _ (code : List ℕ) (cells : List ℤ) (records : List Activation) (here : Registers) (entry : Entry) where
   abbrev live : ℕ
@@ -41,7 +41,7 @@ module _ (code : List ℕ) (cells : List ℤ) (records : List Activation) (here 
     fitting : Fits pre.running entry.body entry.link entry.back handed pre.enters
     fitting = entry-fits pre.running entry.body entry.link entry.back handed pre.enters
 
-    pub asks-arguments-end : arguments-end-asks here
+    pub asks-arguments-end : arguments_end-asks here
     asks-arguments-end = omega (arith, pre.handing.there, pre.handing.low)
 
     pub asks_read : read-asks records live
@@ -50,7 +50,7 @@ module _ (code : List ℕ) (cells : List ℤ) (records : List Activation) (here 
     pub asks-push : push-asks records live
     asks-push = fitting.room-here.there
 
-    pub asks-with-next : with-next-asks entry.back
+    pub asks-with-next : with_next-asks entry.back
     asks-with-next = omega (arith, fitting.back-within)
 
     pub asks-begun : begun-asks entry
@@ -59,12 +59,12 @@ module _ (code : List ℕ) (cells : List ℤ) (records : List Activation) (here 
     pub fits : fresh < 2 ^ 64
     fits = omega (arith, fitting.room_next.few)
 
-    module _ (last : ℕ) (last-is : arguments-end-says code here last) where
+    module _ (last : ℕ) (last-is : arguments_end-says code here last) where
       pub asks-hand : hand-asks code records here last
       asks-hand = subst (hand-asks code records here) (sym last-is) pre.handing
 
       module _ (cells₁ : List ℤ) (said : hand-says code cells records here last cells₁) (own : Activation) (own_is : read-says records live own) (old : Activation)
-          (old-is : with-next-says own entry.back old) (records₁ : List Activation) (wrote : push-says records live old records₁)
+          (old-is : with_next-says own entry.back old) (records₁ : List Activation) (wrote : push-says records live old records₁)
           (long₁ : length records₁ ≡ length records) (new : Activation) (New-is : begun-says code entry new) where
         -- the caller's record keeps the place to come back to
         next-there : NextSet records records₁ live entry.back

@@ -21,8 +21,8 @@ Pre code cells records here entry = EnterReady code cells records here entry
 abbrev pub Said : List ℕ → List ℤ → List recs.type.Denot → registers.type.Denot → entries.type.Denot → registers.type.Denot → List ℤ → List recs.type.Denot → Type 0
 Said code cells records here entry r cells' records' = ((w : EnterReady code cells records here entry) → Succeeds w.running cells' records' w.table r)
 
-abbrev pub arguments-end-asks : registers.type.Denot → Type 0
-arguments-end-asks here = here.at + 3 ≤ 4096
+abbrev pub arguments_end-asks : registers.type.Denot → Type 0
+arguments_end-asks here = here.at + 3 ≤ 4096
 
 abbrev pub arguments-end-says : List ℕ → registers.type.Denot → ℕ → Type 0
 arguments-end-says code here r = r ≡ arguments_end code here.at
@@ -39,8 +39,8 @@ read-asks records k = k < length records
 abbrev pub read-says : List recs.type.Denot → ℕ → recs.type.Denot → Type 0
 read-says records k r = r ≡ at records k
 
-abbrev pub with-next-asks : ℕ → Type 0
-with-next-asks place = place < 65536
+abbrev pub with_next-asks : ℕ → Type 0
+with_next-asks place = place < 65536
 
 abbrev pub with-next-says : recs.type.Denot → ℕ → recs.type.Denot → Type 0
 with-next-says activation place r = r ≡ with_next activation place

@@ -14,7 +14,7 @@ use Rattle.run_statements.specs.Words.{handed-is}
 use Rattle.run_statements.specs.Doing.{arguments-end, arguments-next, kept-below}
 use Rattle.run_state.specs.declared.Registers.{Registers}
 use Rattle.chain_links.specs.Finding.{by_chain, first_cell}
-use Rattle.chain_links.proofs.handing.hand.Proof.Said.{Pre, Said, first-cell-asks, first-cell-says, pass-asks, pass-says}
+use Rattle.chain_links.proofs.handing.hand.Proof.Said.{Pre, Said, first_cell-asks, first_cell-says, pass-asks, pass-says}
 
 module _ (code : List ℕ) (cells₀ : List ℤ) (records : List Activation) (here : Registers) (last : ℕ) where
   abbrev way : Finding
@@ -74,10 +74,10 @@ module _ (code : List ℕ) (cells₀ : List ℤ) (records : List Activation) (he
         says = arguments-end way scene t.cells low# (here.at + 3) (last - 3) (t.field - 3) (omega (arith, none)) ∙ t.same
 
       module _ (more : t.field < last) where
-        pub asks-first-cell : first-cell-asks code records here (32 * here.live) t.field
+        pub asks-first-cell : first_cell-asks code records here (32 * here.live) t.field
         asks-first-cell = (pre.named t.field t.low more, refl)
 
-        module _ (from : ℕ) (e : first-cell-says code records here t.field from) where
+        module _ (from : ℕ) (e : first_cell-says code records here t.field from) where
           pub asks-pass : pass-asks code here t.field from
           asks-pass =
               record {

@@ -14,18 +14,18 @@ use Rattle.chain_links.specs.declared.Found.{Found}
 use Rattle.chain_step.specs.Moves.{is_finished}
 use Rattle.chain_run.specs.Running.{RunFrom}
 use Rattle.chain_run.specs.Ending.{left-within, at-within-script, live-within, one_left, looks, finished-end, halted-end, halted-pairs}
-use Rattle.chain_run.proofs.ending.ended.Proof.Said.{Pre, Said, is-finished-says, finished-halt-asks, finished-halt-says, settle-asks, settle-says, halted-asks, halted-says}
+use Rattle.chain_run.proofs.ending.ended.Proof.Said.{Pre, Said, is_finished-says, finished_halt-asks, finished_halt-says, settle-asks, settle-says, halted-asks, halted-says}
 
 module _ (code : List ℕ) (cells : List ℤ) (records : List Activation) (here : Registers) (turn : Turn) (allowance left : ℕ)
-    (pre : Pre code cells records here turn allowance left) (over : Bool) (over-is : is-finished-says turn over) where
+    (pre : Pre code cells records here turn allowance left) (over : Bool) (over-is : is_finished-says turn over) where
   module _ (y : over ≡ true) where
     finished : is_finished turn ≡ true
     finished = sym over-is ∙ y
 
-    pub asks-finished-halt : finished-halt-asks allowance left
+    pub asks-finished-halt : finished_halt-asks allowance left
     asks-finished-halt = (left-within pre, one_left turn pre finished)
 
-    module _ (r : Halt) (r-is : finished-halt-says here allowance left r) where
+    module _ (r : Halt) (r-is : finished_halt-says here allowance left r) where
       pub says-1 : Said code cells records here turn allowance left r records
       says-1 = (
         λ e. subst (λ (h : Halt). RunFrom e.from allowance h cells records e.table) (sym r-is) (finished-end turn e finished records),

@@ -16,7 +16,7 @@ use Rattle.chain_step.specs.Moves.{is_went}
 use Rattle.chain_run.specs.Ending.{Going, Last, Ending, begun, went-as, over-as, out-of-steps}
 use Rattle.run_state.specs.Listed.{list-has, list-kept}
 use Rattle.chain_run.specs.Listed.{list-went, list_over}
-use Rattle.chain_run.proofs.run.run.Proof.Said.{Pre, Said, went-says, step-asks, step-says, halts-says, next-of-says, ended-asks, ended-says}
+use Rattle.chain_run.proofs.run.run.Proof.Said.{Pre, Said, went-says, step-asks, step-says, halts-says, next_of-says, ended-asks, ended-says}
 
 is-not : (b c : Bool) → b ≡ not c → b ≡ true → c ≡ false
 is-not b true e y = absurd (false≢true (sym e ∙ y))
@@ -128,7 +128,7 @@ module _ (code : List ℕ) (cells₀ : List ℤ) (records₀ : List Activation) 
               pub says-1 : Said code cells₀ records₀ table₀ groups₀ limit activations allowance from r cells records' table groups
               says-1 = (λ w. said.0 (ending over w), list_over t.here t.lists turn turns.1 is-over r said.1)
 
-          module _ (n : halts ≡ false) (here : Registers) (here-is : next-of-says t.here turn here) where
+          module _ (n : halts ≡ false) (here : Registers) (here-is : next_of-says t.here turn here) where
             pub goes_on : Goes cells records table here (t.left - 1)
             goes_on w =
                 let g = t.goes w in

@@ -10,14 +10,14 @@ use Rattle.run_state.specs.declared.Halt.{Halt}
 use Rattle.table_laws.specs.Listing.{HasList, KeepsList}
 use Rattle.chain_links.specs.Running.{activation_of}
 use Rattle.chain_run.specs.Ending.{room-first, starts, program-run}
-use Rattle.chain_run.proofs.run.run_program.Proof.Said.{Pre, Said, program-record-says, push-asks, push-says, begin-says, run-asks, run-says}
+use Rattle.chain_run.proofs.run.run_program.Proof.Said.{Pre, Said, program_record-says, push-asks, push-says, begin-says, run-asks, run-says}
 
 module _ (code : List ℕ) (cells : List ℤ) (records : List Activation) (table groups : List ℤ) (pairs limit activations allowance : ℕ)
     (pre : Pre code cells records table groups pairs limit activations) where
   pub asks-push : push-asks records 0
   asks-push = (room-first pre.0).there
 
-  module _ (new : Activation) (New-is : program-record-says code new) (records' : List Activation) (pushed : push-says records 0 new records')
+  module _ (new : Activation) (New-is : program_record-says code new) (records' : List Activation) (pushed : push-says records 0 new records')
       (long : length records' ≡ length records) (start : Registers) (start_is : begin-says code pairs start) where
     written : records' ≡ set records 0 (activation_of code 0 0)
     written = pushed ∙ ap (set records 0) New-is

@@ -12,7 +12,7 @@ use Rattle.frames.specs.Frame.{Frame, frame_sheet}
 use Rattle.run_sheet.specs.Held.{encloser_by, Held, shown-at, encloser-few, sheet-room, none_written, sheet-on, sheet-on-length}
 use Rattle.chain_records.specs.declared.Activation.{Activation}
 use Rattle.chain_links.specs.Records.{blocks_in, nexts_in, links_in, column-read}
-use Rattle.chain_run.proofs.sheet.write_sheet.Proof.Said.{Pre, Said, read-asks, read-says, write-record-asks, write-record-says}
+use Rattle.chain_run.proofs.sheet.write_sheet.Proof.Said.{Pre, Said, read-asks, read-says, write_record-asks, write_record-says}
 
 module _ (code : List ℕ) (cells : List ℤ) (records : List Activation) (live : ℕ) (sheet₀ : List ℤ) where
   abbrev Holds : List Frame → Type 0
@@ -79,7 +79,7 @@ module _ (code : List ℕ) (cells : List ℤ) (records : List Activation) (live 
           encloser-is : encloser_by t.k own.link ≡ encloser_by t.k (get_or (links_in records) t.k 0)
           encloser-is = ap (λ (a : Activation). encloser_by t.k a.link) is ∙ sym (ap (encloser_by t.k) (column-read (λ a. a.link) records t.k (omega (arith, few))))
 
-          pub asks-write-record : write-record-asks code cells own t.k t.sheet t.at
+          pub asks-write-record : write_record-asks code cells own t.k t.sheet t.at
           asks-write-record =
               let w = get_elem-in frames t.k (omega (arith, as_many)) in
               let f = held.bounded t.k w.0 w.1 in (
@@ -94,7 +94,7 @@ module _ (code : List ℕ) (cells : List ℤ) (records : List Activation) (live 
               )
 
           module _ (r : ℕ) (sheet : List ℤ)
-              (said : write-record-says code cells own t.k t.sheet t.at r sheet) (long : length sheet ≡ length t.sheet) where
+              (said : write_record-says code cells own t.k t.sheet t.at r sheet) (long : length sheet ≡ length t.sheet) where
             pub shows-on : Shows (t.k + 1) r sheet
             shows-on fs h l =
                 let w = get_elem-in fs t.k (omega (arith, l)) in

@@ -26,8 +26,8 @@ Pre code cells records activations here = Stating code cells records activations
 abbrev pub Said : List ℕ → List ℤ → List recs.type.Denot → ℕ → registers.type.Denot → moveds.type.Denot → List ℤ → Type 0
 Said code cells records activations here r cells' = Does (happening code cells records activations here) cells here r cells'
 
-abbrev pub class-of-asks : ℕ → Type 0
-class-of-asks at = at < 4096
+abbrev pub class_of-asks : ℕ → Type 0
+class_of-asks at = at < 4096
 
 abbrev pub class-of-says : List ℕ → ℕ → ℕ → Type 0
 class-of-says code at r = r ≡ class_of (op_of (get_or code at 0))

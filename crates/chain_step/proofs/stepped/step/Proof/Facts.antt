@@ -22,7 +22,7 @@ use Rattle.chain_step.specs.Moved.{moved_by, is_done, turn_of, is_ask, is_enter,
 use Rattle.chain_step.specs.Moved as by_move
 use Rattle.chain_step.specs.Turning.{Turned}
 use Rattle.chain_step.specs.Turns as turned
-use Rattle.chain_step.proofs.stepped.step.Proof.Said.{Pre, Said, leave-asks, leave-says, acted-asks, acted-says, is-done-says, turn-of-says, asks-says, answered-asks, answered-says, enters-says, entry-of-says, enter-asks, enter-says, went-says, home-of-says, read-asks, read-says, resumed-asks, resumed-says}
+use Rattle.chain_step.proofs.stepped.step.Proof.Said.{Pre, Said, leave-asks, leave-says, acted-asks, acted-says, is_done-says, turn_of-says, asks-says, answered-asks, answered-says, enters-says, entry_of-says, enter-asks, enter-says, went-says, home_of-says, read-asks, read-says, resumed-asks, resumed-says}
 
 module _ (code : List ℕ) (cells : List ℤ) (records : List Activation) (table groups : List ℤ) (limit activations : ℕ) (here : Registers)
     (pre : Pre code cells records table groups limit activations here) where
@@ -41,11 +41,11 @@ module _ (code : List ℕ) (cells : List ℤ) (records : List Activation) (table
     pub asks-acted : acted-asks code cells records activations here
     asks-acted = record { limit = limit; table = table; running = pre.0; before = before }
 
-    module _ (moved : Moved) (cells' : List ℤ) (does : acted-says code cells records activations here moved cells') (done : Bool) (done-is : is-done-says moved done) where
+    module _ (moved : Moved) (cells' : List ℤ) (does : acted-says code cells records activations here moved cells') (done : Bool) (done-is : is_done-says moved done) where
       stays-is : done ≡ stays_in here does.move
       stays-is = done-is ∙ ap is_done does.is ∙ by_move.done-is here does.move
 
-      module _ (y : done ≡ true) (r : Turn) (e : turn-of-says moved r) where
+      module _ (y : done ≡ true) (r : Turn) (e : turn_of-says moved r) where
         pub says-2 : Ends r cells' records table groups
         says-2 =
             let z = sym stays-is ∙ y in
@@ -75,7 +75,7 @@ module _ (code : List ℕ) (cells : List ℤ) (records : List Activation) (table
           entry-is : entering ≡ is_entry does.move
           entry-is = entering-is ∙ ap is_enter does.is ∙ (by_move.entry-is here does.move).0
 
-          module _ (y : entering ≡ true) (entry : Entry) (entry-said : entry-of-says moved entry) where
+          module _ (y : entering ≡ true) (entry : Entry) (entry-said : entry_of-says moved entry) where
             entry-by : entry ≡ entry_of does.move
             entry-by = entry-said ∙ ap entry_in does.is ∙ (by_move.entry-is here does.move).1
 
@@ -95,7 +95,7 @@ module _ (code : List ℕ) (cells : List ℤ) (records : List Activation) (table
                         (turned.entered-keeps pre.0 before does.move cells' does.did z cells'' records'' now s groups),
                   )
 
-          module _ (no-entry : entering ≡ false) (home : ℕ) (home-is : home-of-says moved home) where
+          module _ (no-entry : entering ≡ false) (home : ℕ) (home-is : home_of-says moved home) where
             goes_on : stays_in here does.move ≡ false
             goes_on = sym stays-is ∙ n
 

@@ -15,7 +15,7 @@ use Rattle.chain_links.specs.Finding.{first_cell}
 use Rattle.chain_step.specs.declared.turn.Moved.{Moved}
 use Rattle.chain_step.specs.Acted as acts
 use Rattle.chain_step.specs.Acted.{Summing, happening}
-use Rattle.chain_step.proofs.summed.summed.Proof.Said.{Pre, Said, first-cell-asks, first-cell-says, do-add-asks, do-add-says, do-compare-asks, do-compare-says, do-subtract-asks, do-subtract-says, do-arithmetic-formal-asks, do-arithmetic-formal-says, came-to-says}
+use Rattle.chain_step.proofs.summed.summed.Proof.Said.{Pre, Said, first_cell-asks, first_cell-says, do_add-asks, do_add-says, do_compare-asks, do_compare-says, do_subtract-asks, do_subtract-says, do_arithmetic_formal-asks, do_arithmetic_formal-says, came_to-says}
 
 module _ (code : List ℕ) (cells : List ℤ) (records : List Activation) (here : Registers) (own class : ℕ) (pre : Pre code cells records here own class) where
   abbrev W : Type 0
@@ -25,15 +25,15 @@ module _ (code : List ℕ) (cells : List ℤ) (records : List Activation) (here 
   first_of = first_cell records here.live here.level
 
   abbrev At : ℕ → ℕ → Type 0
-  At field first = first-cell-says code records here field first
+  At field first = first_cell-says code records here field first
 
   abbrev Asks : ℕ → Type 0
-  Asks field = first-cell-asks code records here own field
+  Asks field = first_cell-asks code records here own field
 
   is-class : (w : W) (n : ℕ) → class ≡ n → class_of (op_of (get_or code here.at 0)) ≡ n
   is-class w n e = sym w.chosen.class-is ∙ e
 
-  so : {r : Move} {m : Moved} → came-to-says here r m → {cells' : List ℤ}
+  so : {r : Move} {m : Moved} → came_to-says here r m → {cells' : List ℤ}
       → ((w : W) → Did (happening code cells records w.activations here) cells r cells') → Said code cells records here own class m cells'
   so {r} e did w = record { move = r; did = did w; is = e }
 
@@ -51,10 +51,10 @@ module _ (code : List ℕ) (cells : List ℤ) (records : List Activation) (here 
     asks-first-cell-3 = ((adding pre).named.0, pre.chosen.own_is)
 
     module _ (b : ℕ) (b-is : At 3 b) (c : ℕ) (c-is : At 4 c) (a : ℕ) (a-is : At 1 a) where
-      pub asks-do-add : do-add-asks code cells here.at a b c
+      pub asks-do-add : do_add-asks code cells here.at a b c
       asks-do-add = (adding pre).asks a b c a-is b-is c-is
 
-      module _ (r : Move) (cells' : List ℤ) (did : do-add-says code cells here.at a b c r cells') (m : Moved) (m-is : came-to-says here r m) where
+      module _ (r : Move) (cells' : List ℤ) (did : do_add-says code cells here.at a b c r cells') (m : Moved) (m-is : came_to-says here r m) where
         pub says-1 : Said code cells records here own class m cells'
         says-1 = so m-is (λ w. (adding w).did (did first_of a-is b-is c-is))
 
@@ -73,10 +73,10 @@ module _ (code : List ℕ) (cells : List ℤ) (records : List Activation) (here 
       asks-first-cell-6 = ((comparing pre).named.0, pre.chosen.own_is)
 
       module _ (b : ℕ) (b-is : At 3 b) (c : ℕ) (c-is : At 4 c) (a : ℕ) (a-is : At 1 a) where
-        pub asks-do-compare : do-compare-asks code cells here.at a b c
+        pub asks-do-compare : do_compare-asks code cells here.at a b c
         asks-do-compare = (comparing pre).asks a b c a-is b-is c-is
 
-        module _ (r : Move) (cells' : List ℤ) (did : do-compare-says code cells here.at a b c r cells') (m : Moved) (m-is : came-to-says here r m) where
+        module _ (r : Move) (cells' : List ℤ) (did : do_compare-says code cells here.at a b c r cells') (m : Moved) (m-is : came_to-says here r m) where
           pub says-2 : Said code cells records here own class m cells'
           says-2 = so m-is (λ w. (comparing w).did (did first_of a-is b-is c-is))
 
@@ -95,10 +95,10 @@ module _ (code : List ℕ) (cells : List ℤ) (records : List Activation) (here 
         asks-first-cell-9 = ((subtracting pre).named.0, pre.chosen.own_is)
 
         module _ (b : ℕ) (b-is : At 3 b) (c : ℕ) (c-is : At 4 c) (a : ℕ) (a-is : At 1 a) where
-          pub asks-do-subtract : do-subtract-asks code cells here.at a b c
+          pub asks-do-subtract : do_subtract-asks code cells here.at a b c
           asks-do-subtract = (subtracting pre).asks a b c a-is b-is c-is
 
-          module _ (r : Move) (cells' : List ℤ) (did : do-subtract-says code cells here.at a b c r cells') (m : Moved) (m-is : came-to-says here r m) where
+          module _ (r : Move) (cells' : List ℤ) (did : do_subtract-says code cells here.at a b c r cells') (m : Moved) (m-is : came_to-says here r m) where
             pub says-3 : Said code cells records here own class m cells'
             says-3 = so m-is (λ w. (subtracting w).did (did first_of a-is b-is c-is))
 
@@ -116,9 +116,9 @@ module _ (code : List ℕ) (cells : List ℤ) (records : List Activation) (here 
         asks-first-cell-12 = ((by-formals pre).named.0, pre.chosen.own_is)
 
         module _ (b : ℕ) (b-is : At 3 b) (c : ℕ) (c-is : At 4 c) (a : ℕ) (a-is : At 1 a) where
-          pub asks-do-arithmetic-formal : do-arithmetic-formal-asks code cells here.at a b c
+          pub asks-do-arithmetic-formal : do_arithmetic_formal-asks code cells here.at a b c
           asks-do-arithmetic-formal = (by-formals pre).asks a b c a-is b-is c-is
 
-          module _ (r : Move) (cells' : List ℤ) (did : do-arithmetic-formal-says code cells here.at a b c r cells') (m : Moved) (m-is : came-to-says here r m) where
+          module _ (r : Move) (cells' : List ℤ) (did : do_arithmetic_formal-says code cells here.at a b c r cells') (m : Moved) (m-is : came_to-says here r m) where
             pub says-4 : Said code cells records here own class m cells'
             says-4 = so m-is (λ w. (by-formals w).did (did first_of a-is b-is c-is))

@@ -50,8 +50,8 @@ do-subtract-asks code cells at first second third = (at + 5 ≤ 4096) × Direct 
 abbrev pub do-subtract-says : List ℕ → List ℤ → ℕ → ℕ → ℕ → ℕ → moves.type.Denot → List ℤ → Type 0
 do-subtract-says code cells at first second third r cells' = ((first_of : ℕ → ℕ) → first ≡ first_of (word_after code at 1) → second ≡ first_of (word_after code at 3) → third ≡ first_of (word_after code at 4) → (r ≡ (do_arithmetic (by_first cells first_of) (only-cells code cells at) minus).move) × (cells' ≡ (do_arithmetic (by_first cells first_of) (only-cells code cells at) minus).cells))
 
-abbrev pub do-arithmetic-formal-asks : List ℕ → List ℤ → ℕ → ℕ → ℕ → ℕ → Type 0
-do-arithmetic-formal-asks code cells at first second third = (at + 5 ≤ 4096) × Reachable cells first (word_after code at 1) × Reachable cells second (word_after code at 3) × Reachable cells third (word_after code at 4)
+abbrev pub do_arithmetic-formal-asks : List ℕ → List ℤ → ℕ → ℕ → ℕ → ℕ → Type 0
+do_arithmetic-formal-asks code cells at first second third = (at + 5 ≤ 4096) × Reachable cells first (word_after code at 1) × Reachable cells second (word_after code at 3) × Reachable cells third (word_after code at 4)
 
 abbrev pub do-arithmetic-formal-says : List ℕ → List ℤ → ℕ → ℕ → ℕ → ℕ → moves.type.Denot → List ℤ → Type 0
 do-arithmetic-formal-says code cells at first second third r cells' = ((first_of : ℕ → ℕ) → first ≡ first_of (word_after code at 1) → second ≡ first_of (word_after code at 3) → third ≡ first_of (word_after code at 4) → (r ≡ (do_arithmetic (by_first cells first_of) (only-cells code cells at) (operation_of (word_after code at 2))).move) × (cells' ≡ (do_arithmetic (by_first cells first_of) (only-cells code cells at) (operation_of (word_after code at 2))).cells))

@@ -9,7 +9,7 @@ use Rattle.check_records.specs.declared.Reading.{Reading}
 use Rattle.check_records.specs.declared.Progress.{Progress}
 use Rattle.check_names.proofs.FormalLaws.{SoFar, at-start, all-post}
 use Rattle.check_names.proofs.HoldingLaws.{front-kept-by, goes_on, ends_there}
-use Rattle.check_names.proofs.formals.read_formals.Proof.Said.{Pre, Said, formal-here-says, hold-asks, hold-says}
+use Rattle.check_names.proofs.formals.read_formals.Proof.Said.{Pre, Said, formal_here-says, hold-asks, hold-says}
 
 module _ (script names₀ : List ℕ) (at p base : ℕ) where
   -- a state of the loop; `reader` is where the reader stands
@@ -30,7 +30,7 @@ module _ (script names₀ : List ℕ) (at p base : ℕ) where
       abbrev pub size : ℕ
       size = p - t.i
 
-      module _ (more : t.i < p) (reading : Reading) (read : formal-here-says script t.reader reading) where
+      module _ (more : t.i < p) (reading : Reading) (read : formal_here-says script t.reader reading) where
         pub asks-hold : hold-asks t.names base t.i
         asks-hold = omega (arith, pre, t.long)
 
